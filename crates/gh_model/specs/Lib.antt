@@ -1,0 +1,2 @@
+pub mod Ever
+pub mod Answers
