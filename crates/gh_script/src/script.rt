@@ -1,13 +1,14 @@
-//! A script that was taken.
+//! A script that was taken: its settings, its types, and its one goroutine with its statements.
 
 ghost use Rattle.std.specs.Prelude.{◌≡◌, ℕ, ◌<◌, ◌≤◌, length};
-ghost use Rattle.gh_script.specs.Program.{goroutine_at, statement_at, statements_of};
+ghost use Rattle.gh_script.specs.Program.{goroutine_at, statement_at, statements_of, one_goroutine, WellFormed};
 
 use crate::statement::{Settings, Stmt};
 use gh_base::Shapes;
 use std::marker::Model;
 
-/// What a script says: contracts see its settings, its shapes and its goroutines.
+/// What a script says: contracts see its settings, its shapes and its goroutines. Every script is
+/// well-formed: it names only registers, types, fields and globals that there are.
 #[derive(Debug, Drop)]
 pub struct Script {
     settings: Settings,
@@ -16,22 +17,41 @@ pub struct Script {
 }
 
 impl Model for Script {
-    ghost use Rattle.std.specs.Prelude.{[], ◌∷◌, ◌<◌, ◌^◌, vec_len};
-    ghost use Rattle.gh_script.specs.Program.{Program};
+    ghost use Rattle.gh_script.specs.Program.{Program, one_goroutine, WellFormed};
 
     ghost Value = { Program };
 
-    ghost invariant = { λ s. vec_len s.statements < 2 ^ 32 };
+    ghost view = { λ s. one_goroutine s.settings s.shapes s.statements.items };
 
-    ghost view = { λ s. record { settings = s.settings; shapes = s.shapes; goroutines = record { name = 97 ∷ []; statements = s.statements.items } ∷ [] } };
+    ghost invariant = { λ s. WellFormed (one_goroutine s.settings s.shapes s.statements.items) };
 }
 
 impl Script {
+    /// A script with one goroutine, named `a`.
+    pub(crate) fn new(settings: Settings, shapes: Shapes, statements: Vec<Stmt>) -> Script
+        requires { WellFormed (one_goroutine settings shapes statements.items) }
+        ensures { result ≡ one_goroutine settings shapes statements.items }
+    {
+        Script {
+            settings,
+            shapes,
+            statements,
+        }
+    }
+
     /// The settings.
     pub fn settings(&self) -> Settings
-        ensures { result ≡ self.now.settings }
+        ensures value { result ≡ self.now.settings }
+        ensures sound { WellFormed self.now }
     {
         self.settings
+    }
+
+    /// The shapes of the types, in the order of the text.
+    pub fn shapes(&self) -> &Shapes
+        ensures { result.now ≡ self.now.shapes }
+    {
+        &self.shapes
     }
 
     /// How many goroutines there are.
@@ -60,14 +80,8 @@ impl Script {
         self.statements.len() as u32
     }
 
-    /// The types' shapes.
-    pub fn shapes(&self) -> &Shapes
-        ensures { result.now ≡ self.now.shapes }
-    {
-        &self.shapes
-    }
-
-    /// The statement number `n` of goroutine `g`, counted from 1, repetitions written out.
+    /// The statement number `n` of goroutine `g`, counted from 1, repetitions written out: none
+    /// exactly where `n` is 0 or above their count.
     pub fn statement(&self, g: u32, n: u32) -> Option<Stmt>
         requires { g < length self.now.goroutines }
         ensures { result ≡ statement_at self.now g n }

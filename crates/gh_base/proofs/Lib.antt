@@ -1,0 +1,4 @@
+pub mod Apart
+pub mod Own
+pub mod Packing
+pub mod Showing

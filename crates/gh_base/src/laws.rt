@@ -1,0 +1,31 @@
+//! Laws of the definitions. The functions do nothing; what they ensure is proved.
+
+ghost use Rattle.std.specs.Prelude.{◌≡◌, List, ℕ};
+ghost use Rattle.gh_base.specs.declared.machine.Entry.{Entry};
+ghost use Rattle.gh_base.specs.Cells.{WordsAreApart, WordsAreBelow};
+ghost use Rattle.gh_base.specs.Lists.{by, Kind, state_of};
+ghost use Rattle.gh_base.specs.Steps.{ChangesOneCell, StepsAreShown};
+
+use crate::layout::Layout;
+
+/// Different cells of a layout have different words, and each is below its length.
+pub fn cells_have_words_of_their_own(layout: &Layout)
+    ensures apart { WordsAreApart layout.now }
+    ensures below { WordsAreBelow layout.now }
+{}
+
+/// Where a list of words shows cells, a request on it finds what the step on the cell finds, and
+/// afterwards the list shows the cells after the step.
+pub fn steps_are_shown(layout: &Layout)
+    ensures { StepsAreShown layout.now }
+{}
+
+/// A step leaves its cell as it says, and every other cell as it is.
+pub fn a_step_changes_one_cell()
+    ensures { ChangesOneCell }
+{}
+
+/// An actor's state after a list depends on its own entries alone.
+pub fn a_state_is_of_its_own_entries<M, O>()
+    ensures { (k : Kind M O) (a : ℕ) (es : List (Entry O)) → state_of k a es ≡ state_of k a (by a es) }
+{}

@@ -1,0 +1,14 @@
+//! The limits of a heap: how few and how many there may be of each thing that a script sets.
+
+/// The fewest pages of an arena.
+pub const LEAST_PAGES: u32 = 16;
+/// The most pages of an arena.
+pub const MOST_PAGES: u32 = 1024;
+/// The most globals; there is at least one.
+pub const MOST_GLOBALS: u32 = 256;
+/// The most processors; there is at least one.
+pub const MOST_PROCS: u32 = 8;
+/// The most workers; there is at least one.
+pub const MOST_WORKERS: u32 = 4;
+/// The most goroutines; there is at least one.
+pub const MOST_GOROUTINES: u32 = 32;

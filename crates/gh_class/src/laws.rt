@@ -1,0 +1,22 @@
+//! What holds of the whole table.
+ghost use Rattle.std.specs.Prelude.{◌≡◌, ℕ, ◌+◌, ◌*◌, ◌%◌, ◌<◌, ◌≤◌};
+ghost use Rattle.gh_class.specs.Classes.{slot_of, pages_of, slots_of, IsClassOf, class_number, slot_words};
+
+/// The laws of the table. The call does nothing: its contract is what a proof wants of it.
+pub fn size_class_laws()
+    // Slots rise with the class.
+    ensures rises { (c d : ℕ) → c < d → d < 25 → slot_of c < slot_of d }
+    // A span has as many slots as its pages hold.
+    ensures fit { (c : ℕ) → c < 25 → slots_of c * slot_of c ≤ 8192 * pages_of c }
+    ensures full { (c : ℕ) → c < 25 → 8192 * pages_of c < (slots_of c + 1) * slot_of c }
+    ensures whole_words { (c : ℕ) → c < 25 → slot_of c % 8 ≡ 0 }
+    ensures some_slot { (c : ℕ) → c < 25 → 1 ≤ slots_of c }
+    ensures few_slots { (c : ℕ) → c < 25 → slots_of c ≤ 1024 }
+    // The number that computes is that of the class, and an object has no other class.
+    ensures number { (bytes : ℕ) → bytes ≤ 32768 → IsClassOf bytes (class_number bytes) }
+    ensures only { (bytes c : ℕ) → IsClassOf bytes c → c ≡ class_number bytes }
+    ensures large { (bytes : ℕ) → 32768 < bytes → class_number bytes ≡ 31 }
+    // An object fits its slot.
+    ensures holds { (words : ℕ) → words ≤ slot_words words }
+    ensures bounded { (words : ℕ) → words ≤ 65536 → slot_words words ≤ 65536 }
+{}

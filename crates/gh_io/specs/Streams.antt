@@ -1,0 +1,62 @@
+-- What is known of a stream in memory, and what a write that failed in the middle has done.
+use Rattle.std.specs.Prelude.{ℕ, ◌-◌, ◌<◌, ◌≤◌, ◌⊎◌, min, List, [], ◌++◌, length, take, drop, Option, Contains}
+use Rattle.std.specs.Io.KnownBytes.{Appends}
+use Rattle.gh_io.specs.Counts.{one_more}
+
+-- the sink has taken the first bytes of the piece, from none to all of them, and nothing else
+pub record TookPart (before after : Option (List ℕ)) (piece : List ℕ) : Type 0 where
+  pub count : ℕ
+  pub within : count ≤ length piece
+  pub taken : Appends before after (take count piece)
+
+-- a source over bytes in memory
+pub record SourceState : Type 0 where
+  -- the bytes that no read has given yet
+  pub left : List ℕ
+  -- the numbers of the calls that fail, from 1
+  pub failing : List ℕ
+  pub calls : ℕ
+  pub faults : ℕ
+
+-- a source that no call was made of yet
+abbrev pub fresh_source : List ℕ → List ℕ → SourceState
+fresh_source bytes failing = record { left = bytes; failing = failing; calls = 0; faults = 0 }
+
+-- the source after a call that gave n bytes
+abbrev pub source_after : SourceState → ℕ → SourceState
+source_after source n = record source { left = drop n source.left; calls = one_more source.calls }
+
+-- the source after a call that failed
+abbrev pub source_after_fault : SourceState → SourceState
+source_after_fault source = record source { calls = one_more source.calls; faults = one_more source.faults }
+
+-- a sink that keeps its bytes in memory
+pub record SinkState : Type 0 where
+  pub taken : List ℕ
+  -- how many bytes it can hold
+  pub room : ℕ
+  -- the numbers of the calls that fail, from 1
+  pub failing : List ℕ
+  pub calls : ℕ
+  pub faults : ℕ
+
+-- an empty sink that no call was made of yet
+abbrev pub fresh_sink : ℕ → List ℕ → SinkState
+fresh_sink room failing = record { taken = []; room = room; failing = failing; calls = 0; faults = 0 }
+
+-- the sink after a call that took these bytes
+abbrev pub sink_after : SinkState → List ℕ → SinkState
+sink_after sink bytes = record sink { taken = sink.taken ++ bytes; calls = one_more sink.calls }
+
+-- the sink after a call that failed
+abbrev pub sink_after_fault : SinkState → SinkState
+sink_after_fault sink = record sink { calls = one_more sink.calls; faults = one_more sink.faults }
+
+-- how many bytes of the piece there is room for
+abbrev pub fitting : SinkState → List ℕ → ℕ
+fitting sink piece = min (length piece) (sink.room - length sink.taken)
+
+-- the sink's next call fails at this piece: by its number, or for want of room
+abbrev pub Refuses : SinkState → List ℕ → Type 0
+Refuses sink piece =
+    Contains sink.failing (one_more sink.calls) ⊎ ((0 < length piece) × (sink.room ≤ length sink.taken))

@@ -1,0 +1,54 @@
+-- The definitions of specs/Text.antt at texts that were written out by hand.
+use Rattle.std.proofs.Common.{◌≡◌, ◌-◌, ◌^◌, refl, List, [], ◌∷◌}
+use Rattle.std.specs.Prelude.{codes}
+use Rattle.std.specs.Fmt.{digits}
+use Rattle.gh_base.specs.declared.value.Answer.{Answer}
+use Rattle.gh_base.specs.declared.value.Answer.TheVariants.{Done, Nil, Int, Ref, Swept, Full, Fault}
+use Rattle.gh_base.specs.declared.value.Fault.TheVariants.{NilBase, Field, Kind}
+use Rattle.gh_script.specs.declared.statement.Settings.{Settings}
+use Rattle.gh_script.specs.declared.fault.Why.TheVariants.{Missing}
+use Rattle.gh_script.specs.Program.{Program}
+use Rattle.gh_lines.specs.Text.{answers_text, cycle_line, credit_line, live_line, turns_line, statements_line, refusal_line}
+
+-- goroutines `b` and `a`, in this order
+abbrev two_goroutines : Settings → Program
+two_goroutines settings = record {
+  settings = settings;
+  shapes = [];
+  goroutines = record { name = codes "b"; statements = [] } ∷ record { name = codes "a"; statements = [] } ∷ [];
+}
+
+abbrev answers_of_two : List (List Answer)
+answers_of_two =
+    (Fault NilBase ∷ Ref (record { g = 0; k = 0 }) ∷ Done ∷ Nil ∷ Full ∷ Swept ∷ Fault Field ∷ [])
+    ∷ (Done ∷ Ref (record { g = 0; k = 12 }) ∷ Int (2 ^ 64 - 1) ∷ Fault Kind ∷ Ref (record { g = 1; k = 3 }) ∷ [])
+    ∷ []
+
+-- statements without a line are counted, and each goroutine counts from 1
+answers_text-of_two : (settings : Settings) → answers_text (two_goroutines settings) answers_of_two ≡ codes "b 1 fault nil\nb 2 ref b.0\nb 4 nil\nb 5 full\nb 6 swept\nb 7 fault field\na 2 ref b.12\na 3 int 18446744073709551615\na 4 fault kind\na 5 ref a.3\n"
+unfolding digits
+answers_text-of_two settings = refl
+
+cycle_line-at : cycle_line 1 301 0 ≡ codes "cycle 1 marked 301 freed 0\n"
+unfolding digits
+cycle_line-at = refl
+
+credit_line-at : credit_line 8194 272 7922 ≡ codes "credit earned 8194 spent 272 lapsed 7922\n"
+unfolding digits
+credit_line-at = refl
+
+live_line-at : live_line 1 32768 ≡ codes "live 1 bytes 32768\n"
+unfolding digits
+live_line-at = refl
+
+turns_line-at : turns_line 1 ≡ codes "turns 1\n"
+unfolding digits
+turns_line-at = refl
+
+statements_line-at : statements_line 5000 ≡ codes "statements 5000\n"
+unfolding digits
+statements_line-at = refl
+
+refusal_line-at : refusal_line 0 Missing ≡ codes "line 0: missing\n"
+unfolding digits
+refusal_line-at = refl

@@ -1,0 +1,104 @@
+-- The bytes of the output: each line ends with LF, its words are parted by one space, and its numbers are in decimal digits.
+use Rattle.std.specs.Prelude.{ℕ, ◌+◌, ◌<◌, ⊤, Bool, true, false, if◌then◌else◌, List, [], ◌∷◌, ◌++◌, length, codes, decimal}
+use Rattle.gh_base.specs.declared.value.Answer.{Answer}
+use Rattle.gh_base.specs.declared.value.Answer.TheVariants.{Done, Nil, Int, Ref, Swept, Full, Fault}
+use Rattle.gh_base.specs.declared.value.Fault as faults
+use Rattle.gh_base.specs.declared.value.Fault.TheVariants.{NilBase, Field, Kind}
+use Rattle.gh_script.specs.Program.{Program, goroutine_at}
+use Rattle.gh_script.specs.declared.fault.Why.{Why}
+use Rattle.gh_script.specs.declared.fault.Why.TheVariants.{Size, Utf8, Word, Number, Limit, Twice, Unknown, Nesting, Missing}
+
+-- What a statement answered.
+
+abbrev pub fault_words : faults.Fault → List ℕ
+fault_words NilBase = codes "fault nil"
+fault_words Field = codes "fault field"
+fault_words Kind = codes "fault kind"
+
+-- an answer in words; `maker` is the name of the goroutine that made the object, where the answer is one
+abbrev pub answer_words_by : List ℕ → Answer → List ℕ
+answer_words_by maker Done = codes "done"
+answer_words_by maker Nil = codes "nil"
+answer_words_by maker (Int n) = codes "int " ++ decimal n
+answer_words_by maker (Ref name) = codes "ref " ++ maker ++ codes "." ++ decimal name.k
+answer_words_by maker Swept = codes "swept"
+answer_words_by maker Full = codes "full"
+answer_words_by maker (Fault fault) = fault_words fault
+
+-- the goroutine that made the object stands in the script
+abbrev pub MakerStands : Program → Answer → Type 0
+MakerStands p (Ref name) = name.g < length p.goroutines
+MakerStands p _ = ⊤
+
+abbrev pub maker_name : Program → Answer → List ℕ
+maker_name p (Ref name) = (goroutine_at p name.g).name
+maker_name p _ = []
+
+abbrev pub answer_words : Program → Answer → List ℕ
+answer_words p answer = answer_words_by (maker_name p answer) answer
+
+-- a line of the goroutine of this name: the n-th statement, and what it answered
+abbrev pub numbered_line : List ℕ → ℕ → List ℕ → List ℕ
+numbered_line name n words = name ++ codes " " ++ decimal n ++ codes " " ++ words ++ codes "\n"
+
+-- statement n of goroutine g, counted from 1, and what it answered
+abbrev pub answer_line : Program → ℕ → ℕ → Answer → List ℕ
+answer_line p g n answer = numbered_line (goroutine_at p g).name n (answer_words p answer)
+
+-- what has nothing to tell has no line in the output
+abbrev pub has_line : Answer → Bool
+has_line Done = false
+has_line _ = true
+
+-- the lines of goroutine g, whose statements from number n on answered so
+abbrev pub lines_from : Program → ℕ → ℕ → List Answer → List ℕ
+lines_from p g n [] = []
+lines_from p g n (answer ∷ more) = (if has_line answer then answer_line p g n answer else []) ++ lines_from p g (n + 1) more
+
+-- the lines of the goroutines from number g on, whose statements answered so
+abbrev pub answers_text_from : Program → ℕ → List (List Answer) → List ℕ
+answers_text_from p g [] = []
+answers_text_from p g (answers ∷ more) = lines_from p g 1 answers ++ answers_text_from p (g + 1) more
+
+-- goroutine by goroutine in script order, each by its own statements
+abbrev pub answers_text : Program → List (List Answer) → List ℕ
+answers_text p answers = answers_text_from p 0 answers
+
+-- What is told of a whole run.
+
+abbrev pub cycle_line : ℕ → ℕ → ℕ → List ℕ
+cycle_line k marked freed = codes "cycle " ++ decimal k ++ codes " marked " ++ decimal marked ++ codes " freed " ++ decimal freed ++ codes "\n"
+
+abbrev pub credit_line : ℕ → ℕ → ℕ → List ℕ
+credit_line earned spent lapsed = codes "credit earned " ++ decimal earned ++ codes " spent " ++ decimal spent ++ codes " lapsed " ++ decimal lapsed ++ codes "\n"
+
+abbrev pub live_line : ℕ → ℕ → List ℕ
+live_line objects bytes = codes "live " ++ decimal objects ++ codes " bytes " ++ decimal bytes ++ codes "\n"
+
+abbrev pub turns_line : ℕ → List ℕ
+turns_line n = codes "turns " ++ decimal n ++ codes "\n"
+
+abbrev pub statements_line : ℕ → List ℕ
+statements_line n = codes "statements " ++ decimal n ++ codes "\n"
+
+abbrev pub agrees_line : List ℕ
+agrees_line = codes "agrees\n"
+
+-- Refusals.
+
+abbrev pub why_word : Why → List ℕ
+why_word Size = codes "size"
+why_word Utf8 = codes "utf8"
+why_word Word = codes "word"
+why_word Number = codes "number"
+why_word Limit = codes "limit"
+why_word Twice = codes "twice"
+why_word Unknown = codes "unknown"
+why_word Nesting = codes "nesting"
+why_word Missing = codes "missing"
+
+abbrev pub refusal_line : ℕ → Why → List ℕ
+refusal_line line why = codes "line " ++ decimal line ++ codes ": " ++ why_word why ++ codes "\n"
+
+abbrev pub words_refused_line : List ℕ
+words_refused_line = codes "words refused\n"

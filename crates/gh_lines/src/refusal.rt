@@ -1,0 +1,73 @@
+//! What is told where nothing was run.
+
+ghost use Rattle.std.specs.Prelude.{◌≡◌, ◌≤◌, length};
+ghost use Rattle.gh_lines.specs.Text.{refusal_line, why_word, words_refused_line};
+
+use crate::LineBuf;
+use gh_script::Why;
+
+fn why_word(why: Why) -> &'static [u8]
+    ensures word { result.now ≡ why_word why }
+    ensures short { length result.now ≤ 7 }
+{
+    match why {
+        Why::Size => b"size",
+        Why::Utf8 => b"utf8",
+        Why::Word => b"word",
+        Why::Number => b"number",
+        Why::Limit => b"limit",
+        Why::Twice => b"twice",
+        Why::Unknown => b"unknown",
+        Why::Nesting => b"nesting",
+        Why::Missing => b"missing",
+    }
+}
+
+impl LineBuf {
+    /// `line n: why`: a text that is no script, by the first line that cannot be continued (0: no
+    /// line) and its first cause, one of `size`, `utf8`, `word`, `number`, `limit`, `twice`,
+    /// `unknown`, `nesting` and `missing`.
+    pub fn bad_script(&mut self, line: u32, why: Why)
+        ensures { self.new ≡ refusal_line line why }
+    {
+        self.begin(b"line ");
+        self.put_number(u64::from(line));
+        self.put(b": ");
+        self.put(why_word(why));
+        self.put(b"\n");
+    }
+
+    /// `words refused`: a command line that is none.
+    pub fn bad_words(&mut self)
+        ensures { self.new ≡ words_refused_line }
+    {
+        self.begin(b"words refused\n");
+    }
+}
+
+#[cfg(test)]
+mod tests {
+    use super::*;
+
+    #[test]
+    fn each_refusal_has_its_line(rt: HostRuntime) {
+        let rows = [
+            (0, Why::Size, "line 0: size\n"),
+            (0, Why::Utf8, "line 0: utf8\n"),
+            (2, Why::Word, "line 2: word\n"),
+            (1, Why::Number, "line 1: number\n"),
+            (6, Why::Limit, "line 6: limit\n"),
+            (2, Why::Twice, "line 2: twice\n"),
+            (2, Why::Unknown, "line 2: unknown\n"),
+            (3, Why::Nesting, "line 3: nesting\n"),
+            (0, Why::Missing, "line 0: missing\n"),
+        ];
+        let mut line = LineBuf::new();
+        for (number, why, text) in rows {
+            line.bad_script(number, why);
+            assert_eq!(rt; line.bytes(), text.as_bytes(), "{text}");
+        }
+        line.bad_words();
+        assert_eq!(rt; line.bytes(), b"words refused\n".as_slice());
+    }
+}

@@ -1,0 +1,4 @@
+pub mod Stands
+pub mod Words
+pub mod Outcome
+pub mod Found

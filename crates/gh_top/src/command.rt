@@ -1,0 +1,62 @@
+//! The call that the program makes.
+
+ghost use Rattle.std.specs.Prelude.{◌≡◌, ℕ, ◌≤◌, ◌⊎◌, List, [], Some};
+ghost use Rattle.gh_io.specs.Counts.{Rose};
+ghost use Rattle.gh_script.specs.declared.fault.Why.{Why};
+ghost use Rattle.gh_script.specs.Program.{Program};
+ghost use Rattle.gh_script.specs.Form.{Spells, Refused};
+ghost use Rattle.gh_top.specs.Outcome.{texts, IsReplay, IsTelling, Said, SaidPart};
+
+use crate::finding::find;
+use crate::saying::{ending, say};
+use crate::status::Status;
+use gh_io::{Sink, Source};
+use std::alloc::Global;
+
+/// Runs the command: `words` begins with the program's name, and the one command is `replay`. It reads
+/// a script from `src`, runs it, and writes the lines of its answers to `out`; a command line that is
+/// not taken and a text that is no script are told in one line. It reads at most 4,194,305 bytes, which
+/// is one more than a script may have. Nothing is written before the run has ended.
+pub fn top<S: Source, K: Sink>(alloc: Global, words: &[&str], src: &mut S, out: &mut K) -> Status
+    // What was written is all of what is to be said of the words and the text: with `Ok`, the lines of
+    // the answers that the heap that never frees gives to the script that the text spells.
+    ensures said { (text : List ℕ) → S.left src.old ≡ Some text → IsTelling result →
+        Said (texts words.now) text result (K.taken out.old) (K.taken out.new) }
+    // Of a source that does not tell its bytes, the same is known for some text.
+    ensures explained { IsTelling result → (text : List ℕ) ×
+        Said (texts words.now) text result (K.taken out.old) (K.taken out.new) }
+    ensures read_to_end { (text : List ℕ) → S.left src.old ≡ Some text → result ≡ Status.Ok →
+        S.left src.new ≡ Some [] }
+
+    // Each answer and its cause.
+    ensures bad_words { result ≡ Status.BadWords → ¬ IsReplay (texts words.now) }
+    ensures bad_words_exactly { ¬ IsReplay (texts words.now) →
+        ¬ Rose (K.faults out.old) (K.faults out.new) →
+        (result ≡ Status.BadWords) ⊎ (result ≡ Status.NoMemory) }
+    ensures bad_script_exactly { (text : List ℕ) (line : ℕ) (why : Why) →
+        S.left src.old ≡ Some text → IsReplay (texts words.now) → Refused text line why →
+        ¬ Rose (S.faults src.old) (S.faults src.new) → ¬ Rose (K.faults out.old) (K.faults out.new) →
+        (result ≡ Status.BadScript) ⊎ (result ≡ Status.NoMemory) }
+    ensures complete { (text : List ℕ) (p : Program) →
+        S.left src.old ≡ Some text → IsReplay (texts words.now) → Spells text p →
+        ¬ Rose (S.faults src.old) (S.faults src.new) → ¬ Rose (K.faults out.old) (K.faults out.new) →
+        (result ≡ Status.Ok) ⊎ (result ≡ Status.NoMemory) }
+    ensures read_fault { result ≡ Status.ReadFault →
+        IsReplay (texts words.now) × Rose (S.faults src.old) (S.faults src.new) × (K.taken out.new ≡ K.taken out.old) }
+    ensures write_fault { result ≡ Status.WriteFault → Rose (K.faults out.old) (K.faults out.new) }
+    // A sink that failed took the beginning of what was to be said.
+    ensures write_part { (text : List ℕ) → S.left src.old ≡ Some text → result ≡ Status.WriteFault →
+        SaidPart (texts words.now) text (K.taken out.old) (K.taken out.new) }
+    ensures explained_part { result ≡ Status.WriteFault → (text : List ℕ) ×
+        SaidPart (texts words.now) text (K.taken out.old) (K.taken out.new) }
+    ensures no_memory { result ≡ Status.NoMemory → K.taken out.new ≡ K.taken out.old }
+
+    ensures source_never_falls { S.faults src.old ≤ S.faults src.new }
+    ensures sink_never_falls { K.faults out.old ≤ K.faults out.new }
+{
+    let found = find(alloc, words, src);
+    match say(&found, out) {
+        Ok(()) => ending(&found),
+        Err(_) => Status::WriteFault,
+    }
+}

@@ -1,0 +1,86 @@
+//! Writing what was found. Nothing here takes memory, and each line goes out as one piece.
+
+ghost use Rattle.std.specs.Prelude.{◌≡◌, ◌+◌, ◌^◌, ◌<◌, ◌≤◌, [], ◌∷◌, All, IsOk, OnOk, OnErr, length};
+ghost use Rattle.std.specs.Io.KnownBytes.{Appends};
+ghost use Rattle.gh_io.specs.Counts.{Rose};
+ghost use Rattle.gh_io.specs.Streams.{TookPart};
+ghost use Rattle.gh_lines.specs.Text.{MakerStands, lines_from};
+ghost use Rattle.gh_top.specs.Found.{IsTellable, IsSilent, said_of, status_of};
+
+use crate::found::Found;
+use crate::status::Status;
+use gh_base::Answer;
+use gh_io::{Failed, Sink, write_all};
+use gh_lines::{LineBuf, has_line};
+use gh_script::Script;
+
+/// How the call ends once what was found is written.
+pub fn ending(found: &Found) -> Status
+    ensures { result ≡ status_of found.now }
+{
+    match found {
+        Found::BadWords => Status::BadWords,
+        Found::BadScript(_) => Status::BadScript,
+        Found::Ran(_, _) => Status::Ok,
+        Found::ReadFault => Status::ReadFault,
+        Found::NoMemory => Status::NoMemory,
+    }
+}
+
+/// Writes what there is to say of what was found.
+pub fn say<K: Sink>(found: &Found, out: &mut K) -> Result<(), Failed>
+    requires { IsTellable found.now }
+    ensures ok { OnOk result (Appends (K.taken out.old) (K.taken out.new) (said_of found.now)) }
+    ensures part { OnErr result (TookPart (K.taken out.old) (K.taken out.new) (said_of found.now)) }
+    ensures failed { OnErr result (Rose (K.faults out.old) (K.faults out.new)) }
+    ensures never_falls { K.faults out.old ≤ K.faults out.new }
+    ensures silent { IsSilent found.now → IsOk result × (out.new ≡ out.old) }
+{
+    match found {
+        Found::BadWords => {
+            let mut line = LineBuf::new();
+            line.bad_words();
+            write_all(out, line.bytes())
+        }
+        Found::BadScript(fault) => {
+            let mut line = LineBuf::new();
+            line.bad_script(fault.line, fault.why);
+            write_all(out, line.bytes())
+        }
+        Found::Ran(script, answers) => say_answers(out, script, answers),
+        Found::ReadFault | Found::NoMemory => Ok(()),
+    }
+}
+
+// The lines of the goroutine's answers, each as one piece.
+fn say_answers<K: Sink>(out: &mut K, script: &Script, answers: &[Answer]) -> Result<(), Failed>
+    requires goroutine { 0 < length script.now.goroutines }
+    requires makers { All (MakerStands script.now) answers.now }
+    requires few { length answers.now < 2 ^ 32 }
+    ensures ok { OnOk result (Appends (K.taken out.old) (K.taken out.new) (lines_from script.now 0 1 answers.now)) }
+    ensures part { OnErr result (TookPart (K.taken out.old) (K.taken out.new) (lines_from script.now 0 1 answers.now)) }
+    ensures failed { OnErr result (Rose (K.faults out.old) (K.faults out.new)) }
+    ensures never_falls { K.faults out.old ≤ K.faults out.new }
+{
+    for (i, answer) in answers.iter().enumerate() {
+        say_answer(out, script, i as u32 + 1, *answer)?;
+    }
+    Ok(())
+}
+
+// The line of what statement `n` answered, if it has one.
+fn say_answer<K: Sink>(out: &mut K, script: &Script, n: u32, answer: Answer) -> Result<(), Failed>
+    requires goroutine { 0 < length script.now.goroutines }
+    requires maker { MakerStands script.now answer }
+    ensures ok { OnOk result (Appends (K.taken out.old) (K.taken out.new) (lines_from script.now 0 n (answer ∷ []))) }
+    ensures part { OnErr result (TookPart (K.taken out.old) (K.taken out.new) (lines_from script.now 0 n (answer ∷ []))) }
+    ensures failed { OnErr result (Rose (K.faults out.old) (K.faults out.new)) }
+    ensures never_falls { K.faults out.old ≤ K.faults out.new }
+{
+    if !has_line(&answer) {
+        return Ok(());
+    }
+    let mut line = LineBuf::new();
+    line.answer(script, 0, n, answer);
+    write_all(out, line.bytes())
+}

@@ -1,0 +1,7 @@
+use Rattle.std.proofs.Common.{None, sym, ◌∙◌}
+use Rattle.gh_tri.specs.Shown.{picture_of}
+use Rattle.gh_tri.proofs.moves.Picture.register.Goals as goal
+
+pub returns-clause-made : goal.returns-clause-made
+unfolding picture_of
+returns-clause-made c = λ w e. c.args.self.now.registers_made c.args.stack c.args.reg w (sym (c.get.ensures None) ∙ e)

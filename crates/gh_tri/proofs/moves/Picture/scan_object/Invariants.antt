@@ -1,0 +1,12 @@
+use Rattle.gh_tri.specs.Shown.{picture_of}
+use Rattle.gh_tri.specs.Invariants.{Invariants, after}
+use Rattle.gh_tri.specs.Runs.{field_scans}
+use Rattle.std.proofs.Common.{◌≡◌}
+use Rattle.gh_tri.proofs.moves.Picture.scan_object.Given as goal
+
+-- so far, the fields below f were scanned
+abbrev pub invariant-loop-f : goal.invariant-loop-f
+invariant-loop-f l = record {
+  moves : picture_of l.self ≡ after (picture_of l.fn.self) (field_scans l.o l.f);
+  invariants : Invariants (picture_of l.fn.self) → Invariants (picture_of l.self);
+}

@@ -1,0 +1,12 @@
+use Rattle.gh_tri.specs.Shown.{picture_of}
+use Rattle.gh_tri.specs.Invariants.{Invariants, after}
+use Rattle.gh_tri.specs.Runs.{register_scans}
+use Rattle.std.proofs.Common.{◌≡◌}
+use Rattle.gh_tri.proofs.moves.Picture.scan_stack.Given as goal
+
+-- so far, the registers below reg were scanned
+abbrev pub invariant-loop-reg : goal.invariant-loop-reg
+invariant-loop-reg l = record {
+  moves : picture_of l.self ≡ after (picture_of l.fn.self) (register_scans l.stack l.reg);
+  invariants : Invariants (picture_of l.fn.self) → Invariants (picture_of l.self);
+}

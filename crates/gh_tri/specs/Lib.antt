@@ -1,0 +1,7 @@
+pub mod Tables
+pub mod Colours
+pub mod Tricolour
+pub mod Invariants
+pub mod Opening
+pub mod Runs
+pub mod Shown

@@ -1,0 +1,9 @@
+//! The words of a heap, and the step on one of them.
+//!
+//! Whoever runs machines has words of this kind: it takes what a machine asks for, makes the step,
+//! and tells the machine what the step found. [`Plain`] keeps them in a list, for one thread.
+#![tactic(auto)]
+
+mod plain;
+
+pub use plain::{Plain, Words};

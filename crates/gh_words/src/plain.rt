@@ -1,0 +1,143 @@
+//! Words in a plain list.
+
+ghost use Rattle.std.specs.Prelude.{◌≡◌, ◌<◌, IfOk, length, slice_index};
+ghost use Rattle.gh_base.specs.Cells.{length_of, opening_words, Shows};
+ghost use Rattle.gh_base.specs.Steps.{changed, leaves, target};
+
+use gh_base::{Cell, Layout, Req};
+use std::alloc::{AllocError, Global};
+use std::marker::Model;
+
+/// The words of a heap, by their numbers.
+pub trait Words {
+    ghost use Rattle.std.specs.Prelude.{List, ℕ, ◌≡◌, ◌<◌, length, slice_index};
+    ghost use Rattle.gh_base.specs.Steps.{changed, target};
+
+    // The words in the order of their numbers.
+    ghost list: { Self → List ℕ };
+
+    /// Makes one step, and answers the word that it found. The step's word alone is changed.
+    fn step(&mut self, request: Req) -> u64
+        requires { target request < length (list self.old) }
+        ensures found { result ≡ slice_index (list self.old) (target request) }
+        ensures left { list self.new ≡ changed request (list self.old) };
+}
+
+/// The words of a heap in a list.
+#[derive(Debug, Drop)]
+pub struct Plain {
+    words: Vec<u64>,
+}
+
+impl Model for Plain {
+    ghost use Rattle.std.specs.Prelude.{List, ℕ};
+
+    ghost Value = { List ℕ };
+
+    ghost view = { λ p. p.words.items };
+}
+
+impl Plain {
+    /// The words of a heap of this layout as it opens: 0 each, save the sweep generation 2, the
+    /// slack 1, and the trigger, in bytes. It takes all the memory that there is need for.
+    pub fn new(alloc: Global, layout: &Layout, trigger: u64) -> Result<Plain, AllocError>
+        ensures { IfOk result (λ words. Shows layout.now words (opening_words trigger)) }
+    {
+        let mut words = vec![in alloc; 0u64; layout.words() as usize]?;
+        words[layout.word(Cell::Gen) as usize] = 2;
+        words[layout.word(Cell::Slack) as usize] = 1;
+        words[layout.word(Cell::Trigger) as usize] = trigger;
+        Ok(Plain { words })
+    }
+}
+
+impl Words for Plain {
+    ghost list = { λ p. p };
+
+    fn step(&mut self, request: Req) -> u64 {
+        let at = number_of(request) as usize;
+        let found = self.words[at];
+        self.words[at] = left_by(request, found);
+        found
+    }
+}
+
+/// The number of the word that a request is on.
+fn number_of(request: Req) -> u32
+    ensures { result ≡ target request }
+{
+    match request {
+        Req::Load(word)
+        | Req::Store(word, _)
+        | Req::Or(word, _)
+        | Req::And(word, _)
+        | Req::Add(word, _)
+        | Req::Swap(word, _, _) => word,
+    }
+}
+
+/// What a request leaves where it finds this.
+fn left_by(request: Req, found: u64) -> u64
+    ensures { result ≡ leaves request found }
+{
+    match request {
+        Req::Load(_) => found,
+        Req::Store(_, value) => value,
+        Req::Or(_, bits) => found | bits,
+        Req::And(_, bits) => found & bits,
+        Req::Add(_, more) => found.wrapping_add(more),
+        Req::Swap(_, old, new) => { if found == old { new } else { found } }
+    }
+}
+
+#[cfg(test)]
+mod tests {
+    use super::*;
+    use std::test::Fail;
+
+    #[test]
+    fn a_heap_opens(rt: HostRuntime) -> Result<(), Fail> {
+        let layout = Layout::new(16, 1, 1, 1, 1)?;
+        let words = Plain::new(rt.alloc(), &layout, 77)?;
+        assert_eq!(rt; words.words.len(), 51097);
+        let mut others = 0;
+        for (i, word) in words.words.iter().enumerate() {
+            match i {
+                2 => assert_eq!(rt; *word, 2),
+                10 => assert_eq!(rt; *word, 77),
+                12 => assert_eq!(rt; *word, 1),
+                _ => others |= *word,
+            }
+        }
+        assert_eq!(rt; others, 0);
+        Ok(())
+    }
+
+    /// A step on words of any kind, if they have the word.
+    fn step_on<W: Words>(words: &mut W, request: Req) -> u64
+        requires { target request < length (W.list words.old) }
+    {
+        words.step(request)
+    }
+
+    #[test]
+    fn six_steps(rt: HostRuntime) -> Result<(), Fail> {
+        let layout = Layout::new(16, 1, 1, 1, 1)?;
+        let mut words = Plain::new(rt.alloc(), &layout, 0)?;
+        for (request, found) in [
+            (Req::Store(7, 12), 0),
+            (Req::Or(7, 3), 12),
+            (Req::And(7, 10), 15),
+            (Req::Add(7, u64::MAX), 10),
+            (Req::Swap(7, 8, 1), 9),
+            (Req::Swap(7, 9, 2), 9),
+            (Req::Load(7), 2),
+            (Req::Load(6), 0),
+            (Req::Load(8), 0),
+        ] {
+            assert!(rt; (number_of(request) as usize) < words.words.len());
+            assert_eq!(rt; step_on(&mut words, request), found, "{request:?}");
+        }
+        Ok(())
+    }
+}
