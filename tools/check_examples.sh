@@ -1,0 +1,16 @@
+#!/usr/bin/env bash
+# Runs the program on each script of examples/ and compares what it writes with the file beside it.
+set -u
+cd "$(dirname "$0")/.." || exit 1
+passed=0
+failed=0
+for script in examples/*.heap; do
+  if ./goheap.sh replay < "$script" 2>/dev/null | cmp -s - "${script%.heap}.out"; then
+    passed=$((passed + 1))
+  else
+    echo "check_examples: $script does not write ${script%.heap}.out"
+    failed=$((failed + 1))
+  fi
+done
+echo "examples: $passed passed, $failed failed"
+[ "$failed" -eq 0 ]
