@@ -27,8 +27,11 @@ impl Model for MemSource {
     ghost Value = { SourceState };
 
     ghost view = { λ s. record {
-        left = drop s.at s.bytes.items; failing = s.fails.items;
-        calls = s.calls; faults = s.faults } };
+      left = drop s.at s.bytes.items;
+      failing = s.fails.items;
+      calls = s.calls;
+      faults = s.faults;
+    } };
 
     ghost invariant = { λ s. s.at ≤ vec_len s.bytes };
 }
@@ -101,8 +104,12 @@ impl Model for MemSink {
     ghost Value = { SinkState };
 
     ghost view = { λ s. record {
-        taken = s.bytes.items; room = s.room; failing = s.fails.items;
-        calls = s.calls; faults = s.faults } };
+      taken = s.bytes.items;
+      room = s.room;
+      failing = s.fails.items;
+      calls = s.calls;
+      faults = s.faults;
+    } };
 
     ghost invariant = { λ s. (vec_len s.bytes ≤ s.room) × (s.room ≤ vec_capacity s.bytes) };
 }

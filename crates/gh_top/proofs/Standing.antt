@@ -7,7 +7,7 @@ use Rattle.gh_base.specs.declared.value.Answer.TheVariants as answers
 use Rattle.gh_base.specs.declared.value.Value.{Value}
 use Rattle.gh_base.specs.declared.value.Value.TheVariants.{Nil, Int, Ref}
 use Rattle.gh_base.specs.Shapes.{shape_at, is_pointer}
-use Rattle.gh_class.specs.Classes.{slot_words, slot_of, slot_sizes, class_number}
+use Rattle.gh_class.specs.Classes.{slot_words, slot_of, class_number, slot_sizes}
 use Rattle.gh_model.specs.declared.EverValue.TheVariants as values
 use Rattle.gh_model.specs.Ever as ever
 use Rattle.gh_model.specs.Ever.{Ever, answer_of, ever_after, stores_value, with_object, makes_object, told, fits, has_field, is_pointer_field, with_register, with_field, takes_answer}
@@ -21,7 +21,7 @@ use Rattle.gh_top.specs.Words.{IsSimple, place_of, value_of, word_of, told_by, f
 
 -- a node's slot has two words
 pub node_slot : slot_words 2 ≡ 2
-unfolding slot_words slot_of slot_sizes class_number
+unfolding slot_words slot_of class_number slot_sizes
 node_slot = refl
 
 -- an object of this heap has fields 0 and 1

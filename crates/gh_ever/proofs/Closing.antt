@@ -1,0 +1,73 @@
+-- What the code leaves in a `Kept` is sound.
+use Rattle.std.proofs.Common.{◌≡◌, ℕ, ◌+◌, ◌-◌, ◌<◌, ◌≤◌, List, [], ◌∷◌, ◌++◌, length, get_or, sym, ◌∙◌, ap, subst, arith, sum, vec_len, vec_capacity, Vec, Global}
+use Rattle.std.specs.Vec.{with_item}
+use Rattle.std.proofs.Math.ListN.{set}
+use Rattle.std.proofs.lemmas.List.{get_or_read}
+use Rattle.gh_base.specs.declared.value.Name.{Name}
+use Rattle.gh_model.specs.declared.EverValue.{EverValue}
+use Rattle.gh_model.specs.declared.EverValue.TheVariants as values
+use Rattle.gh_model.specs.Ever.{with_register, with_object, next_name}
+use Rattle.gh_ever.specs.declared.cell.Place.{Place}
+use Rattle.gh_ever.specs.declared.cell.Place.TheVariants.{Register}
+use Rattle.gh_ever.specs.declared.cell.Cell.{Cell}
+use Rattle.gh_ever.specs.declared.object.Object.{Object}
+use Rattle.gh_ever.specs.declared.kept.Kept.TheInside.{Inside}
+use Rattle.gh_ever.specs.Cells.{put}
+use Rattle.gh_ever.specs.Objects.{IsKnown, IsInKnown}
+use Rattle.gh_ever.specs.Lists.{Lists, ever_of}
+use Rattle.gh_ever.specs.Applied.{spent, with_value}
+use Rattle.gh_ever.specs.Sound.{Sound}
+use Rattle.gh_ever.specs.Inside.{lists_of, IsSound}
+use Rattle.gh_ever.proofs.Writing.{ever-with_cell, sound_put, sound_spend, sum-spent}
+use Rattle.gh_ever.proofs.Making.{fresh-next, ever-new, sound_new}
+
+-- a number that was read and set one lower
+lowered : (left : List ℕ) (g x : ℕ) → g < length left → x ≡ get_or left g x → set left g (x - 1) ≡ spent left g
+lowered left g x h e = ap (λ (y : ℕ). set left g (y - 1)) (get_or_read left g x h e 0)
+
+raised : (made : List ℕ) (g x : ℕ) → g < length made → x ≡ get_or made g x → set made g (x + 1) ≡ set made g (get_or made g 0 + 1)
+raised made g x h e = ap (λ (y : ℕ). set made g (y + 1)) (get_or_read made g x h e 0)
+
+pub write_after : (v : Lists) (cells : List Cell) (left : List ℕ) (p : Place) (x : EverValue) → cells ≡ put v.cells p x → ever_of (record v { cells = cells; left = left }) ≡ with_value (ever_of v) p x
+write_after v cells left p x e = ap (λ (cs : List Cell). ever_of (record v { cells = cs; left = left })) e ∙ ever-with_cell v p x left
+
+pub write_sound : (a : Inside) (cells : Vec Cell Global) (g n : ℕ) (p : Place) (x : EverValue) → IsSound a → g < length a.left.items → 0 < get_or a.left.items g 0 → n ≡ get_or a.left.items g n →
+    cells.items ≡ put a.cells.items p x → vec_capacity cells ≡ vec_capacity a.cells → vec_len cells ≤ vec_len a.cells + 1 → IsInKnown a.objects.items p → IsKnown a.objects.items x →
+    IsSound (record a { left = with_item a.left g (n - 1); cells = cells })
+write_sound a cells g n p x s h due e f room len inside known = record {
+  sound = subst (λ (l : List ℕ). Sound (record (lists_of a) { left = l; cells = cells.items })) (sym (lowered a.left.items g n h e))
+      (subst (λ (cs : List Cell). Sound (record (lists_of a) { left = spent a.left.items g; cells = cs })) (sym f)
+      (sound_put (record (lists_of a) { left = spent a.left.items g }) p x (sound_spend (lists_of a) g s.sound) inside known));
+  objects = omega (arith, fewer, s.objects);
+  cells = omega (arith, fewer, s.cells, len);
+} where
+  fewer : sum (set a.left.items g (n - 1)) + 1 ≡ sum a.left.items
+  fewer = ap (λ (l : List ℕ). sum l + 1) (lowered a.left.items g n h e) ∙ sum-spent a.left.items g h due
+
+pub make_after : (v : Lists) (cells : List Cell) (left : List ℕ) (objects : List Object) (m g d t : ℕ) (n : Name) → Sound v → g < length v.left → n ≡ next_name (ever_of v) g → m ≡ get_or v.made g m →
+    objects ≡ v.objects ++ record { name = n; kind = t } ∷ [] → cells ≡ put v.cells (Register g d) (values.Ref n) →
+    ever_of (record v { made = set v.made g (m + 1); objects = objects; cells = cells; left = left }) ≡ with_register (with_object v.shapes (ever_of v) g t) g d (values.Ref n)
+make_after v cells left objects m g d t n s h named e o c =
+    ap (λ (cs : List Cell). ever_of (record v { made = set v.made g (m + 1); objects = objects; cells = cs; left = left })) c
+    ∙ ap (λ (os : List Object). ever_of (record v { made = set v.made g (m + 1); objects = os; cells = put v.cells (Register g d) (values.Ref n); left = left })) o
+    ∙ ap (λ (ms : List ℕ). ever_of (record v { made = ms; objects = v.objects ++ record { name = n; kind = t } ∷ []; cells = put v.cells (Register g d) (values.Ref n); left = left })) (raised v.made g m within e)
+    ∙ subst (λ (x : Name). ever_of (record v { made = set v.made g (get_or v.made g 0 + 1); objects = v.objects ++ record { name = x; kind = t } ∷ []; cells = put v.cells (Register g d) (values.Ref x); left = left })
+    ≡ with_register (with_object v.shapes (ever_of v) g t) g d (values.Ref x)) (sym (named ∙ fresh-next v g)) (ever-new v g d t left s h ∙ ap (λ (x : Name). with_register (with_object v.shapes (ever_of v) g t) g d (values.Ref x)) (fresh-next v g)) where
+      within : g < length v.made
+      within = omega (arith, s.counted)
+
+pub make_sound : (a : Inside) (cells : Vec Cell Global) (objects : Vec Object Global) (m g i d t : ℕ) (n : Name) → IsSound a → g < length a.left.items → 0 < get_or a.left.items g 0 → t < length a.shapes → n ≡ next_name (ever_of (lists_of a)) g →
+    m ≡ get_or a.made.items g m → i ≡ get_or a.left.items g i →
+    objects.items ≡ a.objects.items ++ record { name = n; kind = t } ∷ [] → vec_capacity objects ≡ vec_capacity a.objects → vec_len objects ≡ vec_len a.objects + 1 →
+    cells.items ≡ put a.cells.items (Register g d) (values.Ref n) → vec_capacity cells ≡ vec_capacity a.cells → vec_len cells ≤ vec_len a.cells + 1 →
+    IsSound (record a { left = with_item a.left g (i - 1); made = with_item a.made g (m + 1); objects = objects; cells = cells })
+make_sound a cells objects m g i d t n s h due kind named e f o oroom olen c croom clen = record {
+  sound = rw (lowered a.left.items g i h f, raised a.made.items g m within e, o, c, named ∙ fresh-next (lists_of a) g) (sound_new (lists_of a) g d t s.sound h due kind);
+  objects = omega (arith, fewer, s.objects);
+  cells = omega (arith, fewer, s.cells);
+} where
+  within : g < length a.made.items
+  within = omega (arith, s.sound.counted)
+
+  fewer : sum (set a.left.items g (i - 1)) + 1 ≡ sum a.left.items
+  fewer = ap (λ (l : List ℕ). sum l + 1) (lowered a.left.items g i h f) ∙ sum-spent a.left.items g h due

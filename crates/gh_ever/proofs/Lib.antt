@@ -1,0 +1,12 @@
+pub mod Closing
+pub mod Ending
+pub mod Making
+pub mod Empty
+pub mod Marking
+pub mod Reaching
+pub mod Passing
+pub mod Places
+pub mod Putting
+pub mod Reading
+pub mod Same
+pub mod Writing

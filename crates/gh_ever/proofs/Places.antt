@@ -1,0 +1,80 @@
+-- What the tests of names and places tell, and what stands where after a value was stored.
+use Rattle.std.proofs.Common.{◌≡◌, Bool, true, false, cond, List, [], ◌∷◌, Some, refl, sym, ◌∙◌, ap, subst, arith, inl, inr}
+use Rattle.std.proofs.lemmas.Bool.{and_parts, eqb-true, cases_Bool, true≢false}
+use Rattle.std.proofs.lemmas.Bool.Decides.{nat_tests}
+use Rattle.gh_base.specs.declared.value.Name.{Name}
+use Rattle.gh_model.specs.declared.EverValue.{EverValue}
+use Rattle.gh_model.specs.Ever.{same_name}
+use Rattle.gh_ever.specs.declared.cell.Place.{Place}
+use Rattle.gh_ever.specs.declared.cell.Place.TheVariants.{Global, Register, Field}
+use Rattle.gh_ever.specs.declared.cell.Cell.{Cell}
+use Rattle.gh_ever.specs.Cells.{held, put, same_place, IsDistinct}
+
+pub name_tells : (n m : Name) → same_name n m ≡ true → n ≡ m
+name_tells n m h =
+    let p : n.g ≡ m.g = grind (arith, nat_tests) in
+    let q : n.k ≡ m.k = grind (arith, nat_tests) in
+    λ i. record { g = p i; k = q i }
+
+pub name_itself : (n : Name) → same_name n n ≡ true
+name_itself n = grind (arith, nat_tests)
+
+pub place_tells : (p q : Place) → same_place p q ≡ true → p ≡ q
+place_tells (Global j) (Global k) h = ap Global (eqb-true j k h)
+place_tells (Global j) (Register h d) e = cc
+place_tells (Global j) (Field n k) e = cc
+place_tells (Register g c) (Global k) e = cc
+place_tells (Register g c) (Register h d) e =
+    let both = and_parts _ _ e in
+    let p : g ≡ h = eqb-true g h both.0 in
+    let q : c ≡ d = eqb-true c d both.1 in
+    λ i. Register (p i) (q i)
+place_tells (Register g c) (Field n k) e = cc
+place_tells (Field n j) (Global k) e = cc
+place_tells (Field n j) (Register h d) e = cc
+place_tells (Field n j) (Field m k) e =
+    let both = and_parts _ _ e in
+    let p : n ≡ m = name_tells n m both.0 in
+    let q : j ≡ k = eqb-true j k both.1 in
+    λ i. Field (p i) (q i)
+
+pub place_itself : (p : Place) → same_place p p ≡ true
+place_itself (Global j) = grind (arith, nat_tests)
+place_itself (Register g c) = grind (arith, nat_tests)
+place_itself (Field n j) = grind (arith, nat_tests)
+
+-- places that are one place are not told apart
+pub place_not_apart : (p q : Place) → p ≡ q → same_place p q ≡ false → ⊥
+place_not_apart p q e h = true≢false (sym (subst (λ (x : Place). same_place p x ≡ true) e (place_itself p)) ∙ h)
+
+pub place_apart : (p q r : Place) → same_place p r ≡ false → same_place q r ≡ true → same_place q p ≡ false
+place_apart p q r h e = elim (cases_Bool (same_place q p)) [
+  | inl t ↦ absurd (place_not_apart p r (sym (place_tells q p t) ∙ place_tells q r e) h)
+  | inr f ↦ f
+]
+
+pub held-put : (cs : List Cell) (p : Place) (v : EverValue) (q : Place) → held (put cs p v) q ≡ cond (same_place q p) (Some v) (held cs q)
+held-put [] p v q = refl
+held-put (c ∷ cs) p v q = go (same_place p c.place) refl (held-put cs p v q) where
+  further : (b : Bool) → same_place q c.place ≡ b → same_place p c.place ≡ false → held (put cs p v) q ≡ cond (same_place q p) (Some v) (held cs q) →
+      cond b (Some c.value) (held (put cs p v) q) ≡ cond (same_place q p) (Some v) (cond b (Some c.value) (held cs q))
+  further true t f ih = rw (place_apart p q c.place f t) refl
+  further false n f ih = ih
+
+  go : (b : Bool) → same_place p c.place ≡ b → held (put cs p v) q ≡ cond (same_place q p) (Some v) (held cs q) →
+      held (cond b (record c { value = v } ∷ cs) (c ∷ put cs p v)) q ≡ cond (same_place q p) (Some v) (cond (same_place q c.place) (Some c.value) (held cs q))
+  go true t ih = subst (λ (x : Place). cond (same_place q c.place) (Some v) (held cs q) ≡ cond (same_place q x) (Some v) (cond (same_place q c.place) (Some c.value) (held cs q))) (sym (place_tells p c.place t)) (there (same_place q c.place)) where
+    there : (b : Bool) → cond b (Some v) (held cs q) ≡ cond b (Some v) (cond b (Some c.value) (held cs q))
+    there true = refl
+    there false = refl
+  go false f ih = further (same_place q c.place) refl f ih
+
+pub distinct-put : (cs : List Cell) (p : Place) (v : EverValue) → IsDistinct cs → IsDistinct (put cs p v)
+distinct-put [] p v d = (refl, tt)
+distinct-put (c ∷ cs) p v d = go (same_place p c.place) refl (distinct-put cs p v d.1) where
+  apart : same_place p c.place ≡ false → same_place c.place p ≡ false
+  apart f = place_apart p c.place c.place f (place_itself c.place)
+
+  go : (b : Bool) → same_place p c.place ≡ b → IsDistinct (put cs p v) → IsDistinct (cond b (record c { value = v } ∷ cs) (c ∷ put cs p v))
+  go true t ih = d
+  go false f ih = (held-put cs p v c.place ∙ rw (apart f) d.0, ih)

@@ -1,0 +1,28 @@
+-- What was stored, by its place.
+use Rattle.std.specs.Prelude.{◌≡◌, Bool, false, ◌==◌, ◌&&◌, if◌then◌else◌, List, [], ◌∷◌, Option, Some, None}
+use Rattle.gh_model.specs.declared.EverValue.{EverValue}
+use Rattle.gh_model.specs.Ever.{same_name}
+use Rattle.gh_ever.specs.declared.cell.Place.{Place}
+use Rattle.gh_ever.specs.declared.cell.Place.TheVariants.{Global, Register, Field}
+use Rattle.gh_ever.specs.declared.cell.Cell.{Cell}
+
+abbrev pub same_place : Place → Place → Bool
+same_place (Global j) (Global k) = j == k
+same_place (Register g c) (Register h d) = (g == h) && (c == d)
+same_place (Field n j) (Field m k) = same_name n m && (j == k)
+same_place _ _ = false
+
+-- the value at the place, if one was stored there
+abbrev pub held : List Cell → Place → Option EverValue
+held [] place = None
+held (c ∷ cs) place = if same_place place c.place then Some c.value else held cs place
+
+-- the cells with this value at the place
+abbrev pub put : List Cell → Place → EverValue → List Cell
+put [] place value = record { place = place; value = value } ∷ []
+put (c ∷ cs) place value = if same_place place c.place then record c { value = value } ∷ cs else c ∷ put cs place value
+
+-- no place has two cells
+abbrev pub IsDistinct : List Cell → Type 0
+IsDistinct [] = Unit {0}
+IsDistinct (c ∷ cs) = (held cs c.place ≡ None) × IsDistinct cs

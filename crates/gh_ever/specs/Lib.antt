@@ -1,0 +1,7 @@
+pub mod Cells
+pub mod Objects
+pub mod Lists
+pub mod Applied
+pub mod Sound
+pub mod Inside
+pub mod Marks
