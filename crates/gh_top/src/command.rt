@@ -16,7 +16,8 @@ use std::alloc::Global;
 /// Runs the command: `words` begins with the program's name, and the one command is `replay`. It reads
 /// a script from `src`, runs it, and writes the lines of its answers to `out`; a command line that is
 /// not taken and a text that is no script are told in one line. It reads at most 4,194,305 bytes, which
-/// is one more than a script may have. Nothing is written before the run has ended.
+/// is one more than a script may have. Nothing is written before the run has ended, and each line is
+/// written as one piece, the rest of it again until it is taken.
 pub fn top<S: Source, K: Sink>(alloc: Global, words: &[&str], src: &mut S, out: &mut K) -> Status
     // What was written is all of what is to be said of the words and the text: with `Ok`, the lines of
     // the answers that the heap that never frees gives to the script that the text spells.

@@ -40,8 +40,8 @@ fn is_replay(words: &[&str]) -> bool
     words.len() == 2 && words[1] == "replay"
 }
 
-#[tactic(auto, using(crate::proofs::Texts::texts_read))]
 // Parses the text, and runs its script.
+#[tactic(auto, using(crate::proofs::Texts::texts_read))]
 fn run(alloc: Global, text: &[u8]) -> Found
     ensures text { MatchesText text.now result }
     ensures read { IsRead result }

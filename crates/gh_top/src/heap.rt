@@ -94,6 +94,7 @@ impl Heap {
         Answer::Ref(Name { g: 0, k })
     }
 
+    // Register `d` takes field `k` of the object in register `b`.
     #[tactic(auto, using(crate::proofs::Sound::reading))]
     fn load(&mut self, d: u32, b: u32, k: u32) -> Answer
         requires target { d < 16 }
@@ -110,6 +111,7 @@ impl Heap {
         }
     }
 
+    // Field `k` of the object in register `b` takes the value in register `v`.
     fn store(&mut self, b: u32, k: u32, v: u32) -> Answer
         requires base { b < 16 }
         requires source { v < 16 }
@@ -127,6 +129,7 @@ impl Heap {
         Answer::Done
     }
 
+    // Register `d` takes the number.
     fn set_number(&mut self, d: u32, n: u64) -> Answer
         requires { d < 16 }
         ensures answered { result ≡ Answer.Done }
@@ -136,8 +139,8 @@ impl Heap {
         Answer::Done
     }
 
-    #[tactic(auto, using(crate::proofs::Sound::reading))]
     // What field `k` of the object in register `b` holds.
+    #[tactic(auto, using(crate::proofs::Sound::reading))]
     fn field(&self, b: u32, k: u32) -> Result<Value, Fault>
         requires { b < 16 }
         ensures found { result ≡ found_by self.now b k }

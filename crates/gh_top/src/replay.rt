@@ -28,8 +28,8 @@ pub fn answers(alloc: Global, script: &Script) -> Result<Vec<Answer>, AllocError
     Ok(told)
 }
 
-#[tactic(auto, using(crate::proofs::Midway::running))]
 // Does each statement on the heap, which is empty, and keeps what it answers.
+#[tactic(auto, using(crate::proofs::Midway::running))]
 fn run(script: &Script, heap: &mut Heap, told: &mut Vec<Answer>)
     requires supported { IsSupported script.now }
     requires opening { Stands heap.old opening_ever }

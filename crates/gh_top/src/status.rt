@@ -2,20 +2,22 @@
 
 ghost use Rattle.std.specs.Prelude.{◌≡◌};
 
-/// How a call ended.
+/// How a call ended. The first cause in the order bad words, read fault, bad script, write fault
+/// counts; want of memory may come before each of them but the last.
 #[derive(Clone, Copy, Debug, PartialEq, Eq)]
 pub enum Status {
-    /// The script was run, and its output written.
+    /// The source was read to its end, its script was run, and the lines of its answers were taken.
     Ok,
-    /// The command line is not taken.
+    /// The command line is not the program's name and `replay`. Nothing was read, and the line
+    /// `words refused` was taken.
     BadWords,
-    /// The text spells no script.
+    /// The text spells no script. Its line `line n: why` was taken.
     BadScript,
-    /// A read failed.
+    /// A read failed. Nothing was written.
     ReadFault,
-    /// A write failed.
+    /// A write failed. The sink has taken the beginning of what there was to say.
     WriteFault,
-    /// Memory ran out.
+    /// Memory ran out, before the first statement was run. Nothing was written.
     NoMemory,
 }
 

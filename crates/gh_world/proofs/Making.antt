@@ -1,0 +1,417 @@
+-- Own steps in which an object is made, and after.
+use Rattle.std.proofs.Common.{◌≡◌, ◌≢◌, ℕ, ◌+◌, ◌*◌, ◌/◌, ◌%◌, ◌-◌, ◌^◌, ◌<◌, ◌≤◌, ◌⊎◌, Bool, true, false, cond, eqb, List, [], ◌∷◌, length, Some, None, refl, sym, ap, subst, ◌∙◌, arith, inl, inr, lit<, get_or-set_same, get_or-set_other, length-set}
+use Rattle.std.specs.Prelude.{slice_index_or, slice_set, bit_or}
+use Rattle.std.proofs.lemmas.Bool.{eqb-true, eq-eqb, ne_eqb}
+use Rattle.std.proofs.lemmas.Bool.Decides.{nat_tests}
+use Rattle.gh_base.specs.declared.value.Name.{Name}
+use Rattle.gh_base.specs.declared.value.Value.{Value}
+use Rattle.gh_base.specs.declared.value.Value.TheVariants as value
+use Rattle.gh_base.specs.declared.value.Answer.TheVariants as answer
+use Rattle.gh_base.specs.declared.shape.Shape.{Shape}
+use Rattle.gh_base.specs.Shapes.{shape_at, is_pointer}
+use Rattle.gh_base.specs.declared.layout.Layout.{Layout}
+use Rattle.gh_base.specs.declared.pack.SpanHead.{SpanHead}
+use Rattle.gh_base.specs.declared.pack.SpanBody.{SpanBody}
+use Rattle.gh_base.specs.declared.pack.PageWord.TheVariants as page
+use Rattle.gh_base.specs.declared.pack.TheConstants.{LARGE}
+use Rattle.gh_base.specs.Packing.{IsClass, bit, page_of, birth_word, head_word}
+use Rattle.gh_class.specs.Classes.{pages_of}
+use Rattle.gh_base.specs.Cells.{Words, put}
+use Rattle.gh_base.specs.declared.cell.Cell.TheVariants as cell
+use Rattle.gh_model.specs.declared.EverValue.{EverValue}
+use Rattle.gh_model.specs.declared.EverValue.TheVariants as ever
+use Rattle.gh_model.specs.Ever.{Ever, same_name, next_name, first_value, with_object, with_register, shape_of, field_count}
+use Rattle.gh_world.specs.declared.point.Wanted.{Wanted}
+use Rattle.gh_world.specs.declared.point.Cached.{Cached}
+use Rattle.gh_world.specs.declared.point.Processor.{Processor}
+use Rattle.gh_world.specs.declared.point.Point.{Point}
+use Rattle.gh_world.specs.declared.point.Point.TheVariants.{Idle, Alloc, Disown, Count}
+use Rattle.gh_world.specs.Listing.{is_large, at_point, made_by, made_object, next_of, new_op, span_head}
+use Rattle.gh_world.specs.Order.{most_objects}
+use Rattle.gh_world.specs.Stands.{Row, row_bit, pages_row, alloc_row, bitmap_row, slot_count, slot_size, body_at, IsSpan, IsSlot, IsMade, size_of, Holds, Means}
+use Rattle.gh_world.specs.Points.{Good, WantsName, BitsBelow, Born, OwnSpan, Fresh, IsPending}
+use Rattle.gh_world.proofs.Step.{Keeps, StepAt}
+use Rattle.gh_world.proofs.Keeping.{fine_here, keeps_from, not_full, act_of, has_room}
+use Rattle.gh_world.proofs.Frames.{within_is, good_at, good_register, good_heap, same_name_is, same_name_here}
+use Rattle.gh_world.proofs.Spans.{slot_within, same_span}
+use Rattle.gh_world.proofs.BitRows.{set_one, set_one_other}
+use Rattle.gh_world.proofs.Laying.{with_page, written_page, other_page}
+use Rattle.gh_world.proofs.Wanting.{WantedGood}
+use Rattle.gh_world.proofs.Searching.{wanted_here}
+use Rattle.gh_world.proofs.Spanning.{head_says}
+
+-- the new object has its place
+abbrev placed_at : (Name → ℕ) → Name → ℕ → Name → ℕ
+placed_at place n a x = cond (same_name x n) a (place x)
+
+module _ (shapes : List Shape) (e : Ever) (g t : ℕ) where
+  -- which objects are made then
+  made_cases : (x : Name) → IsMade (with_object shapes e g t) x → (x ≡ next_name e g) ⊎ (IsMade e x × (same_name x (next_name e g) ≡ false))
+  made_cases x made = go (eqb x.g g) refl made where
+    go : (b : Bool) → eqb x.g g ≡ b → x.k < cond b (e.made g + 1) (e.made x.g) → (x ≡ next_name e g) ⊎ (IsMade e x × (same_name x (next_name e g) ≡ false))
+    go false t' lt = inr (lt, rw t' refl)
+    go true t' lt = by (eqb x.k (e.made g)) refl where
+      same : x.g ≡ g
+      same = eqb-true x.g g t'
+
+      by : (b : Bool) → eqb x.k (e.made g) ≡ b → (x ≡ next_name e g) ⊎ (IsMade e x × (same_name x (next_name e g) ≡ false))
+      by true s = inl (same_name_is x (next_name e g) same (eqb-true x.k (e.made g) s))
+      by false s =
+          let ne : x.k ≢ e.made g = grind (arith, nat_tests) in
+          let less : x.k < e.made g = omega arith in
+          inr (subst (λ (h : ℕ). x.k < e.made h) (sym same) less, rw (t', s) refl)
+
+  was_made : (x : Name) → IsMade e x → (same_name x (next_name e g) ≡ false) × IsMade (with_object shapes e g t) x
+  was_made x made = go (eqb x.g g) refl where
+    go : (b : Bool) → eqb x.g g ≡ b → (same_name x (next_name e g) ≡ false) × (x.k < cond (eqb x.g g) (e.made g + 1) (e.made x.g))
+    go false t' = (rw t' refl, rw t' made)
+    go true t' =
+        let same : x.g ≡ g = eqb-true x.g g t' in
+        let less : x.k < e.made g = subst (λ (h : ℕ). x.k < e.made h) same made in
+        (rw (t', ne_eqb x.k (e.made g) (λ q. omega arith)) refl, rw t' (omega arith))
+
+  new_made : IsMade (with_object shapes e g t) (next_name e g)
+  new_made = rw (eq-eqb g g refl) (omega arith)
+
+  shape_new : shape_of shapes (with_object shapes e g t) (next_name e g) ≡ shape_at shapes t
+  shape_new = ap (λ (b : Bool). shape_at shapes (cond b t (e.type_of (next_name e g)))) (same_name_here (next_name e g))
+
+  shape_old : (x : Name) → same_name x (next_name e g) ≡ false → shape_of shapes (with_object shapes e g t) x ≡ shape_of shapes e x
+  shape_old x f = ap (λ (b : Bool). shape_at shapes (cond b t (e.type_of x))) f
+
+  field_new : (k : ℕ) → (with_object shapes e g t).field (next_name e g) k ≡ first_value (is_pointer (shape_at shapes t) k)
+  field_new k = ap (λ (b : Bool). cond b (first_value (is_pointer (shape_at shapes t) k)) (e.field (next_name e g) k)) (same_name_here (next_name e g))
+
+  field_old : (x : Name) (k : ℕ) → same_name x (next_name e g) ≡ false → (with_object shapes e g t).field x k ≡ e.field x k
+  field_old x k f = ap (λ (b : Bool). cond b (first_value (is_pointer (shape_at shapes t) k)) (e.field x k)) f
+
+  module _ (place : Name → ℕ) (a : ℕ) where
+    at_new : placed_at place (next_name e g) a (next_name e g) ≡ a
+    at_new = ap (λ (b : Bool). cond b a (place (next_name e g))) (same_name_here (next_name e g))
+
+    at_old : (x : Name) → same_name x (next_name e g) ≡ false → placed_at place (next_name e g) a x ≡ place x
+    at_old x f = ap (λ (b : Bool). cond b a (place x)) f
+
+    holds_more : (p : Bool) (v : EverValue) (word : ℕ) → Holds place e p v word → Holds (placed_at place (next_name e g) a) (with_object shapes e g t) p v word
+    holds_more p ever.Nil word h = h
+    holds_more p (ever.Int x) word h = h
+    holds_more p (ever.Ref n) word h =
+        let w = was_made n h.2 in
+        (h.0, h.1 ∙ ap (λ (y : ℕ). y + 1) (sym (at_old n w.0)), w.1)
+
+    means_more : (v : EverValue) (x : Value) → Means place e v x → Means (placed_at place (next_name e g) a) (with_object shapes e g t) v x
+    means_more ever.Nil value.Nil h = tt
+    means_more (ever.Int v) (value.Int w) h = h
+    means_more (ever.Ref n) (value.Ref r) h =
+        let w = was_made n h.1 in
+        (h.0 ∙ ap (λ (y : ℕ). y + 1) (sym (at_old n w.0)), w.1)
+    means_more ever.Nil (value.Int b) h = absurd h
+    means_more ever.Nil (value.Ref r) h = absurd h
+    means_more (ever.Int v) value.Nil h = absurd h
+    means_more (ever.Int v) (value.Ref r) h = absurd h
+    means_more (ever.Ref n) value.Nil h = absurd h
+    means_more (ever.Ref n) (value.Int b) h = absurd h
+
+module _ (shapes : List Shape) (l : Layout) where
+  abbrev Fits : Words → (Name → ℕ) → Ever → Processor → Type 0
+  Fits words place e m = Good l.pages l.globals l.goroutines shapes words place e m
+
+  -- one more object was made
+  abbrev counted : Processor → ℕ → Processor
+  counted m g = record m { made = slice_set m.made g (made_by m g + 1) }
+
+  made_same : (m : Processor) (g : ℕ) → length m.made ≡ 32 → g < 32 → made_by (counted m g) g ≡ made_by m g + 1
+  made_same m g long lg = let lt : g < length m.made = omega (arith, long) in rw get_or-set_same
+
+  made_other : (m : Processor) (g h : ℕ) → h ≢ g → made_by (counted m g) h ≡ made_by m h
+  made_other m g h ne = rw get_or-set_other refl
+
+  -- the object is there once its alloc bit is set
+  good_made : (words : Words) (place : Name → ℕ) (e : Ever) (m : Processor) (w : Wanted) (a : ℕ) → WantedGood (shape_at shapes w.t) w → WantsName l.pages l.globals l.goroutines shapes m w → Born l.pages l.globals l.goroutines shapes words place e m w a → BitsBelow l.pages l.globals l.goroutines shapes (bitmap_row words) w a (a + w.slot) → Fits words place e m →
+      Fits (put words (cell.Alloc (a / 64)) (bit_or (words (cell.Alloc (a / 64))) (2 ^ (a % 64)))) (placed_at place (next_name e w.g) a) (with_object shapes e w.g w.t) (counted m w.g)
+  good_made words place e m w a wg wants born bits good =
+      let s = good.sizes in
+      record {
+        sizes = record { registers = s.registers; made = rw length-set s.made; cache = s.cache; arena = s.arena; some = s.some; most = s.most; few = s.few; seat = s.seat; generation = s.generation };
+        spans = good.spans;
+        slots = record { is_slot = λ x made. slot x (made_cases shapes e w.g w.t x made); is_set = λ x made. set x (made_cases shapes e w.g w.t x made) };
+        births = λ x made. birth x (made_cases shapes e w.g w.t x made);
+        bitmap = λ x k made lk. pointers x k (made_cases shapes e w.g w.t x made) lk;
+        fields = λ x k made lk. field x k (made_cases shapes e w.g w.t x made) lk;
+        globals_hold = λ k lk. holds_more shapes e w.g w.t place a true (e.global k) (words (cell.Global k)) (good.globals_hold k lk);
+        registers = λ g d lg ld. means_more shapes e w.g w.t place a (e.register g d) _ (good.registers g d lg ld);
+        made = λ g lg. counts g lg (eqb g w.g) refl;
+        few = λ g. few g (eqb g w.g) refl;
+        none = λ g le. none g le (eqb g w.g) refl;
+        cache = good.cache;
+        taken = λ p i h span ne inside. taken p i h (good.taken p i h span ne inside);
+      } where
+        slot : (x : Name) → (x ≡ next_name e w.g) ⊎ (IsMade e x × (same_name x (next_name e w.g) ≡ false)) → IsSlot l.pages (pages_row words) (placed_at place (next_name e w.g) a x) (size_of shapes (with_object shapes e w.g w.t) x)
+        slot x (inl q) =
+            let size : size_of shapes (with_object shapes e w.g w.t) (next_name e w.g) ≡ w.slot = ap field_count (shape_new shapes e w.g w.t) ∙ wg.count in
+            subst (λ (y : Name). IsSlot l.pages (pages_row words) (placed_at place (next_name e w.g) a y) (size_of shapes (with_object shapes e w.g w.t) y)) (sym q)
+            (rw (at_new shapes e w.g w.t place a, size) born.clearing.is_slot)
+        slot x (inr q) = rw (at_old shapes e w.g w.t place a x q.1, ap field_count (shape_old shapes e w.g w.t x q.1)) (good.slots.is_slot x q.0)
+
+        set : (x : Name) → (x ≡ next_name e w.g) ⊎ (IsMade e x × (same_name x (next_name e w.g) ≡ false)) → row_bit (alloc_row (put words (cell.Alloc (a / 64)) (bit_or (words (cell.Alloc (a / 64))) (2 ^ (a % 64))))) (placed_at place (next_name e w.g) a x) ≡ 1
+        set x (inl q) = subst (λ (y : Name). row_bit (alloc_row (put words (cell.Alloc (a / 64)) (bit_or (words (cell.Alloc (a / 64))) (2 ^ (a % 64))))) (placed_at place (next_name e w.g) a y) ≡ 1) (sym q) (rw (at_new shapes e w.g w.t place a) (set_one (alloc_row words) a))
+        set x (inr q) = rw (at_old shapes e w.g w.t place a x q.1) (set_one_other (alloc_row words) a (place x) (born.clearing.is_clear x q.0) ∙ good.slots.is_set x q.0)
+
+        birth : (x : Name) → (x ≡ next_name e w.g) ⊎ (IsMade e x × (same_name x (next_name e w.g) ≡ false)) → words (cell.Birth (placed_at place (next_name e w.g) a x)) ≡ birth_word x
+        birth x (inl q) =
+            let named : next_of m w ≡ next_name e w.g = same_name_is (next_of m w) (next_name e w.g) refl (good.made w.g wants.0.goroutine) in
+            subst (λ (y : Name). words (cell.Birth (placed_at place (next_name e w.g) a y)) ≡ birth_word y) (sym q) (rw (at_new shapes e w.g w.t place a) (born.birth ∙ ap birth_word named))
+        birth x (inr q) = rw (at_old shapes e w.g w.t place a x q.1) (good.births x q.0)
+
+        pointers : (x : Name) (k : ℕ) → (x ≡ next_name e w.g) ⊎ (IsMade e x × (same_name x (next_name e w.g) ≡ false)) → k < size_of shapes (with_object shapes e w.g w.t) x → row_bit (bitmap_row words) (placed_at place (next_name e w.g) a x + k) ≡ bit (is_pointer (shape_of shapes (with_object shapes e w.g w.t) x) k)
+        pointers x k (inl q) lk =
+            let size : size_of shapes (with_object shapes e w.g w.t) (next_name e w.g) ≡ w.slot = ap field_count (shape_new shapes e w.g w.t) ∙ wg.count in
+            let lk' : k < w.slot = rw (← size) (subst (λ (y : Name). k < size_of shapes (with_object shapes e w.g w.t) y) q lk) in
+            subst (λ (y : Name). row_bit (bitmap_row words) (placed_at place (next_name e w.g) a y + k) ≡ bit (is_pointer (shape_of shapes (with_object shapes e w.g w.t) y) k)) (sym q)
+            (rw (at_new shapes e w.g w.t place a, shape_new shapes e w.g w.t) (bits k lk' (omega arith)))
+        pointers x k (inr q) lk = rw (at_old shapes e w.g w.t place a x q.1, shape_old shapes e w.g w.t x q.1) (good.bitmap x k q.0 (rw (← ap field_count (shape_old shapes e w.g w.t x q.1)) lk))
+
+        first : (k : ℕ) → k < w.slot → (b : Bool) → is_pointer (shape_at shapes w.t) k ≡ b → Holds (placed_at place (next_name e w.g) a) (with_object shapes e w.g w.t) b (first_value b) (words (cell.Field (a + k)))
+        first k lk true p = (refl, born.fields k lk)
+        first k lk false p = (refl, born.fields k lk)
+
+        field : (x : Name) (k : ℕ) → (x ≡ next_name e w.g) ⊎ (IsMade e x × (same_name x (next_name e w.g) ≡ false)) → k < size_of shapes (with_object shapes e w.g w.t) x →
+            Holds (placed_at place (next_name e w.g) a) (with_object shapes e w.g w.t) (is_pointer (shape_of shapes (with_object shapes e w.g w.t) x) k) ((with_object shapes e w.g w.t).field x k) (words (cell.Field (placed_at place (next_name e w.g) a x + k)))
+        field x k (inl q) lk =
+            let size : size_of shapes (with_object shapes e w.g w.t) (next_name e w.g) ≡ w.slot = ap field_count (shape_new shapes e w.g w.t) ∙ wg.count in
+            let lk' : k < w.slot = rw (← size) (subst (λ (y : Name). k < size_of shapes (with_object shapes e w.g w.t) y) q lk) in
+            subst (λ (y : Name). Holds (placed_at place (next_name e w.g) a) (with_object shapes e w.g w.t) (is_pointer (shape_of shapes (with_object shapes e w.g w.t) y) k) ((with_object shapes e w.g w.t).field y k) (words (cell.Field (placed_at place (next_name e w.g) a y + k)))) (sym q)
+            (rw (at_new shapes e w.g w.t place a, shape_new shapes e w.g w.t, field_new shapes e w.g w.t k) (first k lk' (is_pointer (shape_at shapes w.t) k) refl))
+        field x k (inr q) lk =
+            rw (at_old shapes e w.g w.t place a x q.1, shape_old shapes e w.g w.t x q.1, field_old shapes e w.g w.t x k q.1)
+            (holds_more shapes e w.g w.t place a (is_pointer (shape_of shapes e x) k) (e.field x k) (words (cell.Field (place x + k))) (good.fields x k q.0 (rw (← ap field_count (shape_old shapes e w.g w.t x q.1)) lk)))
+
+        counts : (g : ℕ) → g < l.goroutines → (b : Bool) → eqb g w.g ≡ b → made_by (counted m w.g) g ≡ cond (eqb g w.g) (e.made w.g + 1) (e.made g)
+        counts g lg true t =
+            let same : g ≡ w.g = eqb-true g w.g t in
+            let few = good.sizes.few in
+            let lw = wants.0.goroutine in
+            rw t (ap (λ (x : ℕ). made_by (counted m w.g) x) same ∙ made_same m w.g good.sizes.made (omega arith) ∙ ap (λ (x : ℕ). x + 1) (good.made w.g lw))
+        counts g lg false t = rw t (made_other m w.g g (λ q. absurd (cc (t, eq-eqb g w.g q))) ∙ good.made g lg)
+
+        few : (g : ℕ) → (b : Bool) → eqb g w.g ≡ b → cond (eqb g w.g) (e.made w.g + 1) (e.made g) ≤ most_objects
+        few g true t = let lt = wants.1 in let is = good.made w.g wants.0.goroutine in rw t (omega (arith, lt, is))
+        few g false t = rw t (good.few g)
+
+        none : (g : ℕ) → l.goroutines ≤ g → (b : Bool) → eqb g w.g ≡ b → cond (eqb g w.g) (e.made w.g + 1) (e.made g) ≡ 0
+        none g le true t = let same : g ≡ w.g = eqb-true g w.g t in let lw = wants.0.goroutine in absurd (omega arith)
+        none g le false t = rw t (good.none g le)
+
+        taken : (p i : ℕ) (h : SpanHead) → (row_bit (alloc_row words) (1024 * p + i * slot_size h) ≡ 1) ⊎ ((c : Cached) × (slice_index_or m.cache (2 * h.class + bit h.noscan) None ≡ Some c) × (c.head ≡ p) × (c.cursor ≤ i)) →
+            (row_bit (alloc_row (put words (cell.Alloc (a / 64)) (bit_or (words (cell.Alloc (a / 64))) (2 ^ (a % 64))))) (1024 * p + i * slot_size h) ≡ 1) ⊎ ((c : Cached) × (slice_index_or m.cache (2 * h.class + bit h.noscan) None ≡ Some c) × (c.head ≡ p) × (c.cursor ≤ i))
+        taken p i h (inr x) = inr x
+        taken p i h (inl x) = inl (still (eqb a (1024 * p + i * slot_size h)) refl) where
+          still : (b : Bool) → eqb a (1024 * p + i * slot_size h) ≡ b → row_bit (alloc_row (put words (cell.Alloc (a / 64)) (bit_or (words (cell.Alloc (a / 64))) (2 ^ (a % 64))))) (1024 * p + i * slot_size h) ≡ 1
+          still true t = subst (λ (y : ℕ). row_bit (alloc_row (put words (cell.Alloc (a / 64)) (bit_or (words (cell.Alloc (a / 64))) (2 ^ (a % 64))))) y ≡ 1) (eqb-true _ _ t) (set_one (alloc_row words) a)
+          still false t = set_one_other (alloc_row words) a (1024 * p + i * slot_size h) (λ q. absurd (cc (t, eq-eqb a (1024 * p + i * slot_size h) q))) ∙ x
+
+  -- the register names the object
+  good_named : (words : Words) (place : Name → ℕ) (e : Ever) (m : Processor) (w : Wanted) (a : ℕ) (p : Point) → WantedGood (shape_at shapes w.t) w → WantsName l.pages l.globals l.goroutines shapes m w → Born l.pages l.globals l.goroutines shapes words place e m w a → BitsBelow l.pages l.globals l.goroutines shapes (bitmap_row words) w a (a + w.slot) → Fits words place e m →
+      Fits (put words (cell.Alloc (a / 64)) (bit_or (words (cell.Alloc (a / 64))) (2 ^ (a % 64)))) (placed_at place (next_name e w.g) a) (with_register (with_object shapes e w.g w.t) w.g w.d (ever.Ref (next_name e w.g))) (at_point (made_object m w a) p)
+  good_named words place e m w a p wg wants born bits good =
+      good_at l.pages l.globals l.goroutines shapes (put words (cell.Alloc (a / 64)) (bit_or (words (cell.Alloc (a / 64))) (2 ^ (a % 64)))) (placed_at place (next_name e w.g) a) (with_register (with_object shapes e w.g w.t) w.g w.d (ever.Ref (next_name e w.g))) (made_object m w a) p
+      (good_register l.pages l.globals l.goroutines shapes (put words (cell.Alloc (a / 64)) (bit_or (words (cell.Alloc (a / 64))) (2 ^ (a % 64)))) (placed_at place (next_name e w.g) a) (with_object shapes e w.g w.t) (counted m w.g) w.g w.d (ever.Ref (next_name e w.g)) (value.Ref (a + 1)) wants.0.goroutine wants.0.register
+      (ap (λ (y : ℕ). y + 1) (sym (at_new shapes e w.g w.t place a)), new_made shapes e w.g w.t) (good_made words place e m w a wg wants born bits good))
+
+  -- it was just made
+  fresh : (place : Name → ℕ) (e : Ever) (m : Processor) (w : Wanted) (a : ℕ) (p : Point) → WantedGood (shape_at shapes w.t) w → WantsName l.pages l.globals l.goroutines shapes m w → length m.made ≡ 32 → l.goroutines ≤ 32 → made_by m w.g ≡ e.made w.g →
+      Fresh l.pages l.globals l.goroutines shapes (placed_at place (next_name e w.g) a) (with_register (with_object shapes e w.g w.t) w.g w.d (ever.Ref (next_name e w.g))) (at_point (made_object m w a) p) w a (next_name e w.g)
+  fresh place e m w a p wg wants long few is = record {
+    wants = wants.0;
+    name = same_name_is (next_name e w.g) _ refl counted_is;
+    made = new_made shapes e w.g w.t;
+    at = sym (at_new shapes e w.g w.t place a);
+    size = ap field_count (shape_new shapes e w.g w.t) ∙ wg.count;
+  } where
+    counted_is : e.made w.g ≡ made_by (counted m w.g) w.g - 1
+    counted_is = let lw = wants.0.goroutine in let same = made_same m w.g long (omega arith) in omega (arith, same, is)
+
+  alloc_by : (words : Words) (place : Name → ℕ) (e : Ever) (m : Processor) (w : Wanted) (a found : ℕ) → WantedGood (shape_at shapes w.t) w → WantsName l.pages l.globals l.goroutines shapes m w → Born l.pages l.globals l.goroutines shapes words place e m w a → BitsBelow l.pages l.globals l.goroutines shapes (bitmap_row words) w a (a + w.slot) → Fits words place e m →
+      a / 64 % (16 * m.pages) ≡ a / 64 → (b : Bool) → is_large w ≡ b → Keeps shapes l words e m (Alloc w a) None found
+  alloc_by words place e m w a found wg wants born bits good index true large =
+      let f = fresh place e m w a (Disown w a) wg wants good.sizes.made good.sizes.few (good.made w.g wants.0.goroutine) in
+      let own = born.clearing.own large in
+      keeps_from shapes l words e m (Alloc w a) None found (put words (cell.Alloc (a / 64)) (bit_or (words (cell.Alloc (a / 64))) (2 ^ (a % 64)))) (at_point (made_object m w a) (Disown w a)) (Some (act_of (new_op w))) None (placed_at place (next_name e w.g) a) (Some (answer.Ref (next_name e w.g)))
+      (ap (λ (x : ℕ). put words (cell.Alloc x) (bit_or (words (cell.Alloc x)) (2 ^ (a % 64)))) index) (ap (λ (b : Bool). at_point (made_object m w a) (cond b (Disown w a) (Count w a))) large) refl refl
+      (record { good = good_named words place e m w a (Disown w a) wg wants born bits good; fine = (own, (next_name e w.g, f)); pends = f.name })
+      refl (has_room shapes l words (new_op w)) refl
+  alloc_by words place e m w a found wg wants born bits good index false large =
+      let f = fresh place e m w a (Count w a) wg wants good.sizes.made good.sizes.few (good.made w.g wants.0.goroutine) in
+      keeps_from shapes l words e m (Alloc w a) None found (put words (cell.Alloc (a / 64)) (bit_or (words (cell.Alloc (a / 64))) (2 ^ (a % 64)))) (at_point (made_object m w a) (Count w a)) (Some (act_of (new_op w))) None (placed_at place (next_name e w.g) a) (Some (answer.Ref (next_name e w.g)))
+      (ap (λ (x : ℕ). put words (cell.Alloc x) (bit_or (words (cell.Alloc x)) (2 ^ (a % 64)))) index) (ap (λ (b : Bool). at_point (made_object m w a) (cond b (Disown w a) (Count w a))) large) refl refl
+      (record { good = good_named words place e m w a (Count w a) wg wants born bits good; fine = (next_name e w.g, f); pends = f.name })
+      refl (has_room shapes l words (new_op w)) refl
+
+  pub step_alloc : (w : Wanted) (a : ℕ) → StepAt shapes l (Alloc w a)
+  step_alloc w a sg words place e m None at h =
+      let here = fine_here shapes l words place e m (Alloc w a) None at h in
+      let f = here.0 in
+      let wg = wanted_here shapes l w sg f.0.0 in
+      let slot = f.1.clearing.is_slot in
+      let within = slot_within l.pages (pages_row words) a w.slot slot in
+      let w0 = within.0 in
+      let some = wg.room in
+      let index : a / 64 % (16 * m.pages) ≡ a / 64 = within_is (a / 64) (16 * m.pages) (rw (h.good.sizes.arena) (omega arith)) in
+      alloc_by words place e m w a (words (cell.Alloc (a / 64 % (16 * m.pages)))) wg f.0 f.1 f.2 h.good index (is_large w) refl
+  step_alloc w a sg words place e m (Some x) at h = absurd (fine_here shapes l words place e m (Alloc w a) (Some x) at h).1
+
+  -- Nobody owns the span of a large object once it stands.
+
+  -- the head with another owner and number
+  owned_by : (h k : SpanHead) → k.class ≡ h.class → k.noscan ≡ h.noscan → k.pages ≡ h.pages → (slot_size k ≡ slot_size h) × (slot_count k ≡ slot_count h)
+  owned_by h k class noscan pages = (rw (class, pages) refl, rw class refl)
+
+  abbrev body_with : ℕ → Bool → ℕ → SpanBody
+  body_with class noscan d = record { class = class; noscan = noscan; distance = d }
+
+  body_same : (h k : SpanHead) (d : ℕ) → h.class ≡ k.class → h.noscan ≡ k.noscan → body_at h d ≡ body_at k d
+  body_same h k d class noscan = ap (λ (c : ℕ). body_with c h.noscan d) class ∙ ap (λ (n : Bool). body_with k.class n d) noscan
+
+  -- what a span looks like with another head
+  pub record SameSpan (row : Row) (q x p : ℕ) (h h' : SpanHead) : Type 0 where
+    pub span : IsSpan l.pages (with_page row q x) p h'
+    pub class : h'.class ≡ h.class
+    pub noscan : h'.noscan ≡ h.noscan
+    pub long : h'.pages ≡ h.pages
+
+  -- the span whose head is written
+  span_here : (row : Row) (p x : ℕ) (h k : SpanHead) → page_of x ≡ page.Head k → k.class ≡ h.class → k.noscan ≡ h.noscan → k.pages ≡ h.pages → IsSpan l.pages row p h → SameSpan row p x p h k
+  span_here row p x h k is class noscan long t =
+      let within = t.within in
+      let some = t.some in
+      record {
+        span = record {
+          head = ap page_of (written_page row p x) ∙ is;
+          body = λ d low high. ap page_of (other_page row p x (p + d) (λ f. omega arith)) ∙ t.body d low (omega arith) ∙ ap (λ (b : SpanBody). page.Body b) (body_same h k d (sym class) (sym noscan));
+          within = omega arith;
+          some = omega arith;
+          class = subst IsClass (sym class) t.class;
+          small = λ ne. long ∙ t.small (λ f. ne (class ∙ f)) ∙ ap (λ (y : ℕ). pages_of y) (sym class);
+        };
+        class = class;
+        noscan = noscan;
+        long = long;
+      }
+
+  -- any other span
+  span_there : (row : Row) (q x p : ℕ) (own h : SpanHead) → IsSpan l.pages row q own → q ≢ p → IsSpan l.pages row p h → SameSpan row q x p h h
+  span_there row q x p own h s ne t =
+      let some = t.some in
+      record {
+        span = record {
+          head = ap page_of (other_page row q x p ne) ∙ t.head;
+          body = λ d low high. ap page_of (other_page row q x (p + d) (apart d low high)) ∙ t.body d low high;
+          within = t.within;
+          some = t.some;
+          class = t.class;
+          small = t.small;
+        };
+        class = refl;
+        noscan = refl;
+        long = refl;
+      } where
+        apart : (d : ℕ) → 0 < d → d < h.pages → q ≢ p + d
+        apart d low high f =
+            let some = s.some in
+            ne (same_span l.pages row q own p h q s t (omega arith) (omega arith) (omega arith) (omega arith)).0
+
+  -- every span stays, that one with its new head
+  span_disowned : (row : Row) (q x : ℕ) (own k : SpanHead) → IsSpan l.pages row q own → page_of x ≡ page.Head k → k.class ≡ own.class → k.noscan ≡ own.noscan → k.pages ≡ own.pages → (p : ℕ) (h : SpanHead) → IsSpan l.pages row p h → (h' : SpanHead) × SameSpan row q x p h h'
+  span_disowned row q x own k s is class noscan long p h t = go (eqb q p) refl where
+    go : (b : Bool) → eqb q p ≡ b → (h' : SpanHead) × SameSpan row q x p h h'
+    go false e = (h, span_there row q x p own h s (λ f. absurd (cc (e, eq-eqb q p f))) t)
+    go true e =
+        let at : q ≡ p = eqb-true q p e in
+        let some = s.some in
+        let some' = t.some in
+        let one = same_span l.pages row q own p h q s t (omega arith) (omega arith) (omega arith) (omega arith) in
+        (k, subst (λ (y : ℕ). SameSpan row y x p h k) (sym at) (span_here row p x h k is (class ∙ ap (λ (y : SpanHead). y.class) one.1) (noscan ∙ ap (λ (y : SpanHead). y.noscan) one.1) (long ∙ ap (λ (y : SpanHead). y.pages) one.1) t))
+
+  -- a head that stands then is that one, or stood there before
+  head_disowned : (row : Row) (q x : ℕ) (k : SpanHead) → page_of x ≡ page.Head k → (p : ℕ) (h : SpanHead) → page_of (with_page row q x p) ≡ page.Head h → ((q ≡ p) × (k ≡ h)) ⊎ (page_of (row p) ≡ page.Head h)
+  head_disowned row q x k is p h e = go (eqb q p) refl e where
+    go : (b : Bool) → eqb q p ≡ b → page_of (cond b x (row p)) ≡ page.Head h → ((q ≡ p) × (k ≡ h)) ⊎ (page_of (row p) ≡ page.Head h)
+    go true t f = inl (eqb-true q p t, cc (is, f))
+    go false t f = inr f
+
+  sizes_same : (h h' : SpanHead) → h'.class ≡ h.class → h'.pages ≡ h.pages → (slot_size h' ≡ slot_size h) × (slot_count h' ≡ slot_count h)
+  sizes_same h h' class long = (rw (class, long) refl, rw class refl)
+
+  good_disowned : (words : Words) (place : Name → ℕ) (e : Ever) (m : Processor) (q x : ℕ) (own k : SpanHead) → IsSpan l.pages (pages_row words) q own → own.class ≡ LARGE → page_of x ≡ page.Head k → k.class ≡ own.class → k.noscan ≡ own.noscan → k.pages ≡ own.pages → Fits words place e m → Fits (put words (cell.Page q) x) place e m
+  good_disowned words place e m q x own k s large is class noscan long good = record {
+    sizes = good.sizes;
+    spans = λ p h lt f. spans p h lt (eqb q p) refl f;
+    slots = record { is_slot = λ n made. slot (place n) _ (good.slots.is_slot n made); is_set = good.slots.is_set };
+    births = good.births;
+    bitmap = good.bitmap;
+    fields = good.fields;
+    globals_hold = good.globals_hold;
+    registers = good.registers;
+    made = good.made;
+    few = good.few;
+    none = good.none;
+    cache = λ c noscan entry low eq. cache c noscan entry (good.cache c noscan entry low eq);
+    taken = λ p i h span ne inside. elim (head_disowned (pages_row words) q x k is p h span.head) [
+      | inl y ↦ absurd (ne (ap (λ (z : SpanHead). z.class) (sym y.1) ∙ class ∙ large))
+      | inr y ↦ let within = span.within in let some = span.some in good.taken p i h (good.spans p h (omega arith) y) ne inside
+    ];
+  } where
+    here : IsSpan l.pages (with_page (pages_row words) q x) q k
+    here = (span_here (pages_row words) q x own k is class noscan long s).span
+
+    spans : (p : ℕ) (h : SpanHead) → p < l.pages → (b : Bool) → eqb q p ≡ b → page_of (cond b x (words (cell.Page p))) ≡ page.Head h → IsSpan l.pages (with_page (pages_row words) q x) p h
+    spans p h lt false t f = (span_there (pages_row words) q x p own h s (λ g. absurd (cc (t, eq-eqb q p g))) (good.spans p h lt f)).span
+    spans p h lt true t f =
+        let one : k ≡ h = cc (is, f) in
+        subst (λ (z : SpanHead). IsSpan l.pages (with_page (pages_row words) q x) p z) one (subst (λ (z : ℕ). IsSpan l.pages (with_page (pages_row words) q x) z k) (eqb-true q p t) here)
+
+    slot : (a size : ℕ) → IsSlot l.pages (pages_row words) a size → IsSlot l.pages (with_page (pages_row words) q x) a size
+    slot a size t =
+        let d = span_disowned (pages_row words) q x own k s is class noscan long t.p t.h t.span in
+        let z = sizes_same t.h d.0 d.1.class d.1.long in
+        record { p = t.p; h = d.0; i = t.i; span = d.1.span; inside = rw (z.1) t.inside; size_is = t.size_is ∙ sym z.0; at = t.at }
+
+    cache : (c : ℕ) (n : Bool) (entry : Cached) → (h : SpanHead) × IsSpan l.pages (pages_row words) entry.head h × (h.class ≡ c) × (h.noscan ≡ n) → (h : SpanHead) × IsSpan l.pages (with_page (pages_row words) q x) entry.head h × (h.class ≡ c) × (h.noscan ≡ n)
+    cache c n entry t =
+        let d = span_disowned (pages_row words) q x own k s is class noscan long entry.head t.0 t.1 in
+        (d.0, d.1.span, d.1.class ∙ t.2, d.1.noscan ∙ t.3)
+
+  pub step_disown : (w : Wanted) (a : ℕ) → StepAt shapes l (Disown w a)
+  step_disown w a sg words place e m (Some (answer.Ref n)) at h =
+      let here = fine_here shapes l words place e m (Disown w a) (Some (answer.Ref n)) at h in
+      let own = here.0.0 in
+      let f = here.0.1.1 in
+      let wg = wanted_here shapes l w sg f.wants in
+      let within = own.span.within in
+      let some = own.span.some in
+      let index : a / 1024 % m.pages ≡ a / 1024 = within_is (a / 1024) m.pages (rw (h.good.sizes.arena) (omega arith)) in
+      let is = head_says shapes l (shape_at shapes w.t) w 0 m.generation wg (lit< tt) h.good.sizes.generation in
+      large_by own here.0.1.0 f here.1 wg index is (eqb own.h.class LARGE) refl h.good where
+        large_by : (own : OwnSpan l.pages l.globals l.goroutines shapes (pages_row words) w a) (x : Name) → Fresh l.pages l.globals l.goroutines shapes place e m w a x → IsPending place e m (Disown w a) (Some (answer.Ref n)) → WantedGood (shape_at shapes w.t) w → a / 1024 % m.pages ≡ a / 1024 → page_of (head_word (span_head w 0 m.generation)) ≡ page.Head (span_head w 0 m.generation) →
+            (b : Bool) → eqb own.h.class LARGE ≡ b → Fits words place e m → Keeps shapes l words e m (Disown w a) (Some (answer.Ref n)) (words (cell.Page (a / 1024 % m.pages)))
+        large_by own x f pends wg index is b t good =
+            keeps_from shapes l words e m (Disown w a) (Some (answer.Ref n)) (words (cell.Page (a / 1024 % m.pages))) (put words (cell.Page (a / 1024)) (head_word (span_head w 0 m.generation))) (at_point m (Count w a)) None None place (Some (answer.Ref n))
+            (ap (λ (y : ℕ). put words (cell.Page y) (head_word (span_head w 0 m.generation))) index) refl refl refl
+            (record {
+              good = good_at l.pages l.globals l.goroutines shapes (put words (cell.Page (a / 1024)) (head_word (span_head w 0 m.generation))) place e m (Count w a) (good_disowned words place e m (a / 1024) (head_word (span_head w 0 m.generation)) own.h (span_head w 0 m.generation) own.span large is (sym own.class) (sym own.noscan) (sym own.long) good);
+              fine = (x, record { wants = f.wants; name = f.name; made = f.made; at = f.at; size = f.size });
+              pends = pends;
+            })
+            refl (not_full shapes l words None refl) refl where
+              large : own.h.class ≡ LARGE
+              large = own.class ∙ own.large
+  step_disown w a sg words place e m pending at h = absurd (fine_here shapes l words place e m (Disown w a) pending at h).1
+
+  pub step_count : (w : Wanted) (a : ℕ) → StepAt shapes l (Count w a)
+  step_count w a sg words place e m (Some (answer.Ref n)) at h =
+      let here = fine_here shapes l words place e m (Count w a) (Some (answer.Ref n)) at h in
+      keeps_from shapes l words e m (Count w a) (Some (answer.Ref n)) (words cell.Heap) (put words cell.Heap ((words cell.Heap + 8 * w.slot) % 2 ^ 64)) (at_point m Idle) None (Some (answer.Ref (record { g = w.g; k = made_by m w.g - 1 }))) place None
+      refl refl refl refl
+      (record { good = good_at l.pages l.globals l.goroutines shapes (put words cell.Heap ((words cell.Heap + 8 * w.slot) % 2 ^ 64)) place e m Idle (good_heap l.pages l.globals l.goroutines shapes words place e m ((words cell.Heap + 8 * w.slot) % 2 ^ 64) h.good); fine = tt; pends = tt })
+      (ap (λ (x : Name). answer.Ref x ∷ []) here.1) (not_full shapes l words None refl) refl
+  step_count w a sg words place e m pending at h = absurd (fine_here shapes l words place e m (Count w a) pending at h).1

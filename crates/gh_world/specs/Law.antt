@@ -1,0 +1,47 @@
+-- What every legal list of the processor's steps keeps.
+use Rattle.std.specs.Prelude.{◌≡◌, ℕ, true, false, List, [], ◌∷◌, map, Some}
+use Rattle.gh_base.specs.declared.value.Name.{Name}
+use Rattle.gh_base.specs.declared.value.Answer.{Answer}
+use Rattle.gh_base.specs.declared.operation.Op.{Op}
+use Rattle.gh_base.specs.declared.operation.Op.TheVariants as op
+use Rattle.gh_base.specs.declared.shape.Shape.{Shape}
+use Rattle.gh_base.specs.declared.layout.Layout.{Layout}
+use Rattle.gh_base.specs.declared.machine.Entry.{Entry}
+use Rattle.gh_base.specs.Cells.{Words}
+use Rattle.gh_base.specs.Lists.{state_of, words_after, Legal}
+use Rattle.gh_world.specs.declared.point.Processor.{Processor}
+use Rattle.gh_world.specs.Order.{processor_kind, setting_of, is_busy_at, before_step, begun_in, ever_of, order_of, given_in, Answered}
+use Rattle.gh_world.specs.Listing.{acts, Act, wanted_of}
+use Rattle.gh_world.specs.Stands.{NoRoom, pages_row, alloc_row}
+use Rattle.gh_world.specs.Points.{Good}
+
+-- there is no room for the object that the operation is to make: each slot of its span class is taken, and no run of free pages fits
+abbrev pub FullAt : List Shape → Layout → Words → Op → Type 0
+FullAt shapes l words (op.New g d t) = let w = wanted_of shapes g d t in NoRoom l.pages (pages_row words) (alloc_row words) w.class w.noscan w.pages
+FullAt shapes l words _ = ⊥
+
+module _ (shapes : List Shape) (l : Layout) (opening : Words) where
+  abbrev pub processor_after : List (Entry Op) → Processor
+  processor_after es = state_of (processor_kind shapes l.pages) 0 es
+
+  abbrev pub answers_in : List (Entry Op) → List Answer
+  answers_in es = map (λ (a : Answered). a.answer) (order_of shapes l es)
+
+  abbrev pub ops_in : List (Entry Op) → List Op
+  ops_in es = map (λ (a : Answered). a.op) (order_of shapes l es)
+
+  -- `full` stands only where there was no room
+  abbrev pub FullOnly : List (Entry Op) → Type 0
+  FullOnly [] = Unit {0}
+  FullOnly (e ∷ es) = FullOnly es × ((a : Act) → acts (before_step shapes l es e) e.found ≡ Some a → a.full ≡ true → FullAt shapes l (words_after opening es) a.op)
+
+  -- the words stand for the heap that never frees, and where nothing is begun each operation begun has acted once, in order, and was answered as that heap answers it where it acted
+  pub record Stands (es : List (Entry Op)) : Type 0 where
+    pub place : Name → ℕ
+    pub good : Good l.pages l.globals l.goroutines shapes (words_after opening es) place (ever_of shapes l es) (processor_after es)
+    pub answers : is_busy_at (processor_after es).point ≡ false → answers_in es ≡ given_in shapes l es
+    pub full : FullOnly es
+    pub ops : is_busy_at (processor_after es).point ≡ false → ops_in es ≡ begun_in shapes l es
+
+  abbrev pub EveryListStands : Type 0
+  EveryListStands = (es : List (Entry Op)) → Legal (setting_of shapes l opening) es → Stands es

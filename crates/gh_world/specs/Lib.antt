@@ -1,0 +1,9 @@
+pub mod Listing
+pub mod Sound
+pub mod Turns
+pub mod Order
+pub mod Stands
+pub mod Points
+pub mod Law
+pub mod World
+pub mod Runs

@@ -1,0 +1,163 @@
+-- Lists of steps of the processor, the newest first: what was begun, where each statement acted, what was answered, and what the heap that never frees is after them.
+use Rattle.std.specs.Prelude.{ℕ, nat_lt, Bool, true, false, not, ◌==◌, ◌&&◌, ◌||◌, if◌then◌else◌, List, [], ◌∷◌, ◌++◌, length, replicate, Option, Some, None}
+use Rattle.std.specs.Option.{option_to_list}
+use Rattle.gh_base.specs.declared.value.Value.TheVariants as value
+use Rattle.gh_base.specs.declared.value.Answer.{Answer}
+use Rattle.gh_base.specs.declared.value.Answer.TheVariants as answer
+use Rattle.gh_base.specs.declared.operation.Op.{Op}
+use Rattle.gh_base.specs.declared.operation.Op.TheVariants as op
+use Rattle.gh_base.specs.declared.shape.Shape.{Shape}
+use Rattle.gh_base.specs.declared.layout.Layout.{Layout}
+use Rattle.gh_base.specs.declared.machine.Entry.{Entry}
+use Rattle.gh_base.specs.Cells.{Words}
+use Rattle.gh_base.specs.Lists.{Kind, Setting, state_of, started}
+use Rattle.gh_model.specs.Ever.{Ever, opening_ever, answer_of, ever_after}
+use Rattle.gh_world.specs.declared.point.Processor.{Processor}
+use Rattle.gh_world.specs.declared.point.Point.{Point}
+use Rattle.gh_world.specs.declared.point.Point.TheVariants.{Idle, Left}
+use Rattle.gh_world.specs.Listing.{asks, begins, takes, gives_at, acts, Act, made_by}
+
+-- the processor before its first step
+abbrev pub opening_processor : (pages seat : ℕ) → Processor
+opening_processor pages seat = record {
+  pages = pages;
+  seat = seat;
+  generation = 2;
+  registers = replicate 512 value.Nil;
+  made = replicate 32 0;
+  cache = replicate 50 None;
+  point = Idle;
+}
+
+abbrev pub is_busy_at : Point → Bool
+is_busy_at Idle = false
+is_busy_at Left = false
+is_busy_at _ = true
+
+-- the processor as a kind of actor
+abbrev pub processor_kind : List Shape → ℕ → Kind Processor Op
+processor_kind shapes pages = record {
+  start = λ seat. opening_processor pages seat;
+  begins = begins shapes;
+  asks = asks shapes;
+  takes = takes shapes;
+  busy = λ m. is_busy_at m.point;
+}
+
+-- What an operation needs: a goroutine that there is and that has not ended, registers, a global and a type in range; nothing after the processor has left.
+
+-- what was begun ends goroutine g
+abbrev pub ends : Option Op → ℕ → Bool
+ends (Some (op.End h)) g = h == g
+ends _ g = false
+
+abbrev pub ended_in : List (Entry Op) → ℕ → Bool
+ended_in [] g = false
+ended_in (e ∷ es) g = ends e.begun g || ended_in es g
+
+-- what was begun is the processor's leave
+abbrev pub leaves : Option Op → Bool
+leaves (Some op.Leave) = true
+leaves _ = false
+
+abbrev pub has_left : List (Entry Op) → Bool
+has_left [] = false
+has_left (e ∷ es) = leaves e.begun || has_left es
+
+module _ (goroutines globals types : ℕ) where
+  abbrev pub in_range : Op → Bool
+  in_range (op.New g d t) = nat_lt g goroutines && nat_lt d 16 && nat_lt t types
+  in_range (op.Load g d b k) = nat_lt g goroutines && nat_lt d 16 && nat_lt b 16
+  in_range (op.Store g b k v) = nat_lt g goroutines && nat_lt b 16 && nat_lt v 16
+  in_range (op.GetGlobal g d k) = nat_lt g goroutines && nat_lt d 16 && nat_lt k globals
+  in_range (op.SetGlobal g k v) = nat_lt g goroutines && nat_lt k globals && nat_lt v 16
+  in_range (op.Int g d n) = nat_lt g goroutines && nat_lt d 16
+  in_range (op.Move g d s) = nat_lt g goroutines && nat_lt d 16 && nat_lt s 16
+  in_range (op.Nil g d) = nat_lt g goroutines && nat_lt d 16
+  in_range (op.End g) = nat_lt g goroutines
+  in_range op.Leave = true
+  in_range _ = false
+
+abbrev pub goroutine_of : Op → Option ℕ
+goroutine_of (op.New g d t) = Some g
+goroutine_of (op.Load g d b k) = Some g
+goroutine_of (op.Store g b k v) = Some g
+goroutine_of (op.GetGlobal g d k) = Some g
+goroutine_of (op.SetGlobal g k v) = Some g
+goroutine_of (op.Int g d n) = Some g
+goroutine_of (op.Move g d s) = Some g
+goroutine_of (op.Nil g d) = Some g
+goroutine_of (op.Gc g) = Some g
+goroutine_of (op.End g) = Some g
+goroutine_of op.Poll = None
+goroutine_of op.Leave = None
+
+abbrev pub is_over : List (Entry Op) → Option ℕ → Bool
+is_over es None = false
+is_over es (Some g) = ended_in es g
+
+-- a goroutine makes fewer than so many objects
+abbrev pub most_objects : ℕ
+most_objects = 200000
+
+abbrev pub has_names : Processor → Op → Bool
+has_names m (op.New g d t) = nat_lt (made_by m g) most_objects
+has_names m _ = true
+
+-- in this private state, after these entries of its own
+abbrev pub may_begin : (goroutines globals types : ℕ) → Processor → List (Entry Op) → Op → Bool
+may_begin goroutines globals types m es o = in_range goroutines globals types o && has_names m o && not (has_left es) && not (is_over es (goroutine_of o))
+
+-- what a list is of: one processor over a heap of this layout
+abbrev pub setting_of : List Shape → Layout → Words → Setting Processor Op
+setting_of shapes l opening = record {
+  kind = processor_kind shapes l.pages;
+  layout = l;
+  actors = 1;
+  opening = opening;
+  may_begin = λ a es o. may_begin l.goroutines l.globals (length shapes) (state_of (processor_kind shapes l.pages) a es) es o;
+}
+
+-- What a list says.
+
+-- an operation, and its answer
+pub record Answered : Type 0 where
+  pub op : Op
+  pub answer : Answer
+
+module _ (shapes : List Shape) (l : Layout) where
+  -- the processor before the entry's step, its operation begun
+  abbrev pub before_step : List (Entry Op) → Entry Op → Processor
+  before_step es e = started (processor_kind shapes l.pages) e.begun (state_of (processor_kind shapes l.pages) 0 es)
+
+  -- the operations begun
+  abbrev pub begun_in : List (Entry Op) → List Op
+  begun_in [] = []
+  begun_in (e ∷ es) = option_to_list e.begun ++ begun_in es
+
+  -- what an operation is answered where it acts
+  abbrev pub answer_at : Ever → Act → Answer
+  answer_at e a = if a.full then answer.Full else answer_of shapes e a.op
+
+  abbrev pub acted : Ever → Option Act → Ever
+  acted e None = e
+  acted e (Some a) = ever_after shapes e a.op (answer_at e a)
+
+  -- the heap that never frees after the list
+  abbrev pub ever_of : List (Entry Op) → Ever
+  ever_of [] = opening_ever
+  ever_of (e ∷ es) = acted (ever_of es) (acts (before_step es e) e.found)
+
+  abbrev pub answered : Ever → Option Act → Option Answered
+  answered e None = None
+  answered e (Some a) = Some (record { op = a.op; answer = answer_at e a })
+
+  -- the operations in the order of their points, with the answers of the heap that never frees
+  abbrev pub order_of : List (Entry Op) → List Answered
+  order_of [] = []
+  order_of (e ∷ es) = option_to_list (answered (ever_of es) (acts (before_step es e) e.found)) ++ order_of es
+
+  -- what the processor answered
+  abbrev pub given_in : List (Entry Op) → List Answer
+  given_in [] = []
+  given_in (e ∷ es) = option_to_list (gives_at l.goroutines (before_step es e) (before_step es e).point e.found) ++ given_in es

@@ -1,0 +1,44 @@
+-- Whole runs: a list of the processor's steps in which its operations are the script's turns, and at whose end it is done; and what such a list says of a script's answers.
+use Rattle.std.specs.Prelude.{◌≡◌, ℕ, List, [], ◌∷◌, ◌++◌, map, reverse}
+use Rattle.std.specs.Option.{option_to_list}
+use Rattle.gh_base.specs.declared.value.Answer.{Answer}
+use Rattle.gh_base.specs.declared.operation.Op.{Op}
+use Rattle.gh_base.specs.declared.shape.Shape.{Shape}
+use Rattle.gh_base.specs.declared.layout.Layout.{Layout}
+use Rattle.gh_base.specs.declared.machine.Entry.{Entry}
+use Rattle.gh_base.specs.Cells.{opening_words}
+use Rattle.gh_base.specs.Lists.{Legal}
+use Rattle.gh_script.specs.Program.{Program, statements_of, op_of}
+use Rattle.gh_model.specs.Ever.{opening_ever}
+use Rattle.gh_model.specs.Answers.{AllAnswer}
+use Rattle.gh_world.specs.declared.point.Point.TheVariants.{Left}
+use Rattle.gh_world.specs.Order.{setting_of, begun_in}
+use Rattle.gh_world.specs.Law.{processor_after, EveryListStands, FullOnly}
+use Rattle.gh_world.specs.Points.{ShapesGood}
+use Rattle.gh_world.specs.World.{opening, turns_of, answer_in}
+
+-- the list is one whole run of the script
+pub record IsRun (p : Program) (l : Layout) (es : List (Entry Op)) : Type 0 where
+  pub legal : Legal (setting_of p.shapes l opening) es
+  pub turns : reverse (begun_in p.shapes l es) ≡ turns_of p 0
+  pub done : (processor_after p.shapes l opening es).point ≡ Left
+
+-- what the statements were answered, in order
+abbrev pub answers_given : Program → Layout → List (Entry Op) → List Answer
+answers_given p l [] = []
+answers_given p l (e ∷ es) = answers_given p l es ++ option_to_list (answer_in p.shapes l es e)
+
+-- The answers are exactly those of the heap that never frees, save `full`; and `full` stands only where each slot of the span class was taken and no run of free pages fitted.
+pub record IsExplained (p : Program) (l : Layout) (es : List (Entry Op)) (answers : List Answer) : Type 0 where
+  pub run : IsRun p l es
+  pub given : answers ≡ answers_given p l es
+  pub ever : AllAnswer p.shapes opening_ever (map (op_of 0) (statements_of p 0)) answers
+  pub full : FullOnly p.shapes l opening es
+
+-- Whatever the types' shapes, the heap's layout and its trigger as it opens: after every legal list of the processor's steps the words stand for the heap that never frees, and `full` was answered only where there was no room.
+abbrev pub EveryLegalListStands : Type 0
+EveryLegalListStands = (shapes : List Shape) (l : Layout) (trigger : ℕ) → ShapesGood shapes → EveryListStands shapes l (opening_words trigger)
+
+-- Whatever the script, and whatever run of it: its answers are explained.
+abbrev pub EveryRunIsExplained : Type 0
+EveryRunIsExplained = (p : Program) (l : Layout) (es : List (Entry Op)) → ShapesGood p.shapes → IsRun p l es → IsExplained p l es (answers_given p l es)

@@ -1,0 +1,17 @@
+//! Laws of the lists of the processor's steps, whatever the code does.
+
+ghost use Rattle.gh_world.specs.Runs.{EveryLegalListStands, EveryRunIsExplained};
+
+/// After every legal list of steps the words stand for the heap that never frees; each operation
+/// begun has acted once and in order, and was answered as that heap answers it where it acted, save
+/// `full`, which stands only where each slot of the span class was taken and no run of free pages
+/// fitted.
+pub fn every_legal_list_stands()
+    ensures { EveryLegalListStands }
+{}
+
+/// The answers of every whole run of a script are those of the heap that never frees, save `full`,
+/// which stands only where nothing fitted.
+pub fn every_run_is_explained()
+    ensures { EveryRunIsExplained }
+{}

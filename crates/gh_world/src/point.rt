@@ -1,0 +1,123 @@
+//! Where a processor stands: its private state, and the points of its listing.
+
+use gh_base::{Op, Value};
+
+/// An object that is to be made: of type `t`, for register `d` of goroutine `g`.
+#[derive(Clone, Copy, Debug, PartialEq, Eq)]
+pub struct Wanted {
+    pub g: u32,
+    pub d: u32,
+    pub t: u32,
+    /// Its size class, 0 to 24, or 31 for a large object.
+    pub class: u32,
+    /// That it has no pointer field.
+    pub noscan: bool,
+    /// The words of its slot.
+    pub slot: u32,
+    /// The pages of a span of its class, or of its own.
+    pub pages: u32,
+}
+
+/// A load that has begun.
+#[derive(Clone, Copy, Debug, PartialEq, Eq)]
+pub struct Loading {
+    pub g: u32,
+    pub d: u32,
+    pub b: u32,
+    pub k: u32,
+    /// The object's first heap word.
+    pub at: u32,
+}
+
+/// A store that has begun.
+#[derive(Clone, Copy, Debug, PartialEq, Eq)]
+pub struct Storing {
+    pub g: u32,
+    pub b: u32,
+    pub k: u32,
+    pub v: u32,
+    /// The object's first heap word.
+    pub at: u32,
+}
+
+/// A span that the processor has cached.
+#[derive(Clone, Copy, Debug, PartialEq, Eq)]
+pub struct Cached {
+    /// Its first page.
+    pub head: u32,
+    /// The slots before the cursor are taken.
+    pub cursor: u32,
+}
+
+/// Where the processor stands: what it asks next. `at` is an object's first heap word.
+#[derive(Clone, Copy, Debug, PartialEq, Eq)]
+pub enum Point {
+    /// Nothing is begun.
+    Idle,
+    /// It has left.
+    Left,
+    /// A statement that needs no word of the heap.
+    Touch(Op),
+    /// A load: the page word, for the words of the slot.
+    LoadPage(Loading),
+    /// The bit that tells whether the field is a pointer.
+    LoadBits(Loading),
+    /// The field.
+    LoadField(Loading, bool),
+    /// The name of the object that was found.
+    LoadBirth(u32),
+    /// A store: the page word, for the words of the slot.
+    StorePage(Storing),
+    /// The bit that tells whether the field is a pointer.
+    StoreBits(Storing),
+    /// The field.
+    StoreField(Storing),
+    /// A global that is loaded.
+    GlobalLoad(u32, u32, u32),
+    /// A global that is stored.
+    GlobalStore(u32, u32, u32),
+    /// A new object: the alloc bit of a slot of the cached span.
+    Slot(Wanted, Cached),
+    /// Whether a page is free; so many free pages stand before it.
+    Look(Wanted, u32, u32),
+    /// The body words of a fresh span, by its first page and the distance.
+    Body(Wanted, u32, u32),
+    /// The head word of a fresh span.
+    Head(Wanted, u32),
+    /// A field of the slot is cleared.
+    Clear(Wanted, u32, u32),
+    /// The object's name.
+    Birth(Wanted, u32),
+    /// A bitmap word that the slot touches: its bits are cleared.
+    ClearBits(Wanted, u32, u32),
+    /// The same word: its pointer bits are set.
+    SetBits(Wanted, u32, u32),
+    /// The alloc bit.
+    Alloc(Wanted, u32),
+    /// The head word of a large object's span, which nobody owns from now on.
+    Disown(Wanted, u32),
+    /// The heap's bytes.
+    Count(Wanted, u32),
+    /// A goroutine ends.
+    End(u32),
+    /// The processor leaves.
+    Leave,
+}
+
+/// A processor.
+#[derive(Clone, Copy, Debug)]
+pub struct Processor {
+    /// The pages of the arena.
+    pub pages: u32,
+    /// Its seat.
+    pub seat: u32,
+    /// Its copy of the sweep generation.
+    pub generation: u64,
+    /// The registers of the goroutines, 16 each.
+    pub registers: [Value; 512],
+    /// How many objects each goroutine has made.
+    pub made: [u32; 32],
+    /// The cached spans, by span class: twice the class, and 1 more for noscan.
+    pub cache: [Option<Cached>; 50],
+    pub point: Point,
+}

@@ -1,0 +1,85 @@
+//! Scripts on a world.
+
+use super::{Event, World, is_runnable};
+use gh_base::{Answer, Fault, Name};
+use gh_script::parse;
+use std::alloc::Global;
+use std::process::Abort;
+use std::test::Fail;
+
+const HEADER: &str = "procs 1\nworkers 1\narena 16\nglobals 1\ngogc 0\ntype node pn\ngo a\n";
+
+/// Runs the statements on a world, and looks at its answers.
+fn answers(rt: &impl Abort, alloc: Global, statements: &str, want: &[Answer]) -> Result<(), Fail> {
+    let text = format!(in alloc; "{HEADER}{statements}end\n")?;
+    let script = parse(alloc, text.as_bytes())?;
+    assert!(rt; is_runnable(&script));
+    let mut world = World::new(alloc, &script)?;
+    let mut answered: usize = 0;
+    let mut finished: usize = 0;
+    for steps in 0..10_000usize {
+        if world.done() {
+            break;
+        }
+        match world.step(0) {
+            Event::Moved => {}
+            Event::Answered { g, n, answer } => {
+                assert_eq!(rt; (g, n as usize), (0, answered + 1));
+                assert_eq!(rt;
+                    Some(answer),
+                    want.get(answered).copied(),
+                    "{n} of {statements}"
+                );
+                answered += 1;
+            }
+            Event::Finished => finished += 1,
+        }
+        assert_eq!(rt; world.marks(0), answered as u64);
+    }
+    assert!(rt; world.done() && world.is_done(0));
+    assert_eq!(rt; (answered, finished), (want.len(), 1));
+    assert_eq!(rt; world.points().len(), want.len());
+    for (i, point) in world.points().iter().enumerate() {
+        assert_eq!(rt; (point.0, point.1 as usize), (0, i + 1));
+    }
+    Ok(())
+}
+
+#[test]
+fn scripts_are_answered(rt: HostRuntime) -> Result<(), Fail> {
+    let first = Answer::Ref(Name { g: 0, k: 0 });
+    let second = Answer::Ref(Name { g: 0, k: 1 });
+    answers(
+        &rt,
+        rt.alloc(),
+        "new r0 node\nint r1 7\nstore r0 1 r1\nload r2 r0 1\n",
+        &[first, Answer::Done, Answer::Done, Answer::Int(7)],
+    )?;
+    answers(
+        &rt,
+        rt.alloc(),
+        "load r1 r0 0\nnew r0 node\nload r1 r0 2\nstore r0 1 r0\nstore r0 0 r0\nload r1 r0 1\n",
+        &[
+            Answer::Fault(Fault::NilBase),
+            first,
+            Answer::Fault(Fault::Field),
+            Answer::Fault(Fault::Kind),
+            Answer::Done,
+            Answer::Int(0),
+        ],
+    )?;
+    answers(
+        &rt,
+        rt.alloc(),
+        "new r0 node\nnew r1 node\nstore r0 0 r1\nload r2 r0 0\nload r3 r2 0\nload r4 r2 1\n",
+        &[
+            first,
+            second,
+            Answer::Done,
+            second,
+            Answer::Nil,
+            Answer::Int(0),
+        ],
+    )?;
+    answers(&rt, rt.alloc(), "", &[])
+}
