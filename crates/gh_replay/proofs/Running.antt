@@ -1,0 +1,213 @@
+-- What a run has so far, and what it has when the world is done.
+use Rattle.std.proofs.Common.{◌≡◌, ℕ, ◌+◌, ◌<◌, ◌≤◌, true, false, ◌==◌, List, [], ◌∷◌, ◌++◌, map, length, refl, sym, ◌∙◌, ap, subst, Option, Some, None, is_some, arith}
+use Rattle.std.specs.Option.{option_to_list}
+use Rattle.std.proofs.lemmas.List.{length-append, length-map, take_all}
+use Rattle.std.proofs.lemmas.Bool.{eqb-true}
+use Rattle.gh_base.specs.declared.value.Answer.{Answer}
+use Rattle.gh_base.specs.declared.operation.Op.{Op}
+use Rattle.gh_base.specs.declared.operation.Op.TheVariants as op
+use Rattle.gh_base.specs.declared.layout.Layout.{Layout}
+use Rattle.gh_base.specs.declared.machine.Entry.{Entry}
+use Rattle.gh_base.specs.Packing.{bit}
+use Rattle.gh_script.specs.Program.{Program, WellFormed, statements_of, op_of}
+use Rattle.gh_world.specs.declared.point.Point.{Point}
+use Rattle.gh_world.specs.declared.point.Point.TheVariants.{Idle, Left, Touch, LoadPage, LoadBits, LoadField, LoadBirth, StorePage, StoreBits, StoreField, GlobalLoad, GlobalStore, Slot, Look, Body, Head, Clear, Birth, ClearBits, SetBits, Alloc, Disown, Count, End, Leave}
+use Rattle.gh_world.specs.declared.world.World.{World}
+use Rattle.gh_world.specs.declared.world.Event.{Event}
+use Rattle.gh_world.specs.declared.world.Event.TheVariants as event
+use Rattle.gh_world.specs.Points.{ShapesGood}
+use Rattle.gh_world.specs.Runs.{IsRun, IsExplained, EveryRunIsExplained, answers_given}
+use Rattle.gh_world.specs.Turns.{answer_at, has_left_at, is_leaving}
+use Rattle.gh_world.specs.World.{Appends, IsAfter, SoundWorld, answer_in, count_of, event_at, event_of, is_done, layout_of, marks_in, marks_of, script_of, turns_of}
+use Rattle.gh_replay.specs.Replayed.{IsNarrow, IsReplayed, IsUnfinished, Ran}
+
+-- so far the world has taken turns of the budget and answered so
+pub record Midway (w : World) (budget left : ℕ) (answers : List Answer) : Type 0 where
+  pub turns : List (Entry Op)
+  pub after : IsAfter w turns
+  pub long : length turns + left ≡ budget
+  pub given : answers ≡ answers_given (script_of w) (layout_of w) turns
+
+-- what an event says that a statement was answered
+abbrev pub told : Event → List Answer
+told (event.Answered g n a) = a ∷ []
+told event.Moved = []
+told event.Finished = []
+
+told_at : (marks : ℕ) (p : Point) (a : Option Answer) → told (event_at marks p (answer_at p a)) ≡ option_to_list (answer_at p a)
+told_at marks Idle None = refl
+told_at marks Idle (Some a) = refl
+told_at marks Left None = refl
+told_at marks Left (Some a) = refl
+told_at marks (Touch o) None = refl
+told_at marks (Touch o) (Some a) = refl
+told_at marks (LoadPage x) None = refl
+told_at marks (LoadPage x) (Some a) = refl
+told_at marks (LoadBits x) None = refl
+told_at marks (LoadBits x) (Some a) = refl
+told_at marks (LoadField x q) None = refl
+told_at marks (LoadField x q) (Some a) = refl
+told_at marks (LoadBirth x) None = refl
+told_at marks (LoadBirth x) (Some a) = refl
+told_at marks (StorePage x) None = refl
+told_at marks (StorePage x) (Some a) = refl
+told_at marks (StoreBits x) None = refl
+told_at marks (StoreBits x) (Some a) = refl
+told_at marks (StoreField x) None = refl
+told_at marks (StoreField x) (Some a) = refl
+told_at marks (GlobalLoad x y z) None = refl
+told_at marks (GlobalLoad x y z) (Some a) = refl
+told_at marks (GlobalStore x y z) None = refl
+told_at marks (GlobalStore x y z) (Some a) = refl
+told_at marks (Slot x y) None = refl
+told_at marks (Slot x y) (Some a) = refl
+told_at marks (Look x y z) None = refl
+told_at marks (Look x y z) (Some a) = refl
+told_at marks (Body x y z) None = refl
+told_at marks (Body x y z) (Some a) = refl
+told_at marks (Head x y) None = refl
+told_at marks (Head x y) (Some a) = refl
+told_at marks (Clear x y z) None = refl
+told_at marks (Clear x y z) (Some a) = refl
+told_at marks (Birth x y) None = refl
+told_at marks (Birth x y) (Some a) = refl
+told_at marks (ClearBits x y z) None = refl
+told_at marks (ClearBits x y z) (Some a) = refl
+told_at marks (SetBits x y z) None = refl
+told_at marks (SetBits x y z) (Some a) = refl
+told_at marks (Alloc x y) None = refl
+told_at marks (Alloc x y) (Some a) = refl
+told_at marks (Disown x y) None = refl
+told_at marks (Disown x y) (Some a) = refl
+told_at marks (Count x y) None = refl
+told_at marks (Count x y) (Some a) = refl
+told_at marks (End x) a = refl
+told_at marks Leave a = refl
+
+left_is : (p : Point) → has_left_at p ≡ true → p ≡ Left
+left_is Idle e = absurd (cc)
+left_is Left e = refl
+left_is (Touch o) e = absurd (cc)
+left_is (LoadPage x) e = absurd (cc)
+left_is (LoadBits x) e = absurd (cc)
+left_is (LoadField x q) e = absurd (cc)
+left_is (LoadBirth x) e = absurd (cc)
+left_is (StorePage x) e = absurd (cc)
+left_is (StoreBits x) e = absurd (cc)
+left_is (StoreField x) e = absurd (cc)
+left_is (GlobalLoad x y z) e = absurd (cc)
+left_is (GlobalStore x y z) e = absurd (cc)
+left_is (Slot x y) e = absurd (cc)
+left_is (Look x y z) e = absurd (cc)
+left_is (Body x y z) e = absurd (cc)
+left_is (Head x y) e = absurd (cc)
+left_is (Clear x y z) e = absurd (cc)
+left_is (Birth x y) e = absurd (cc)
+left_is (ClearBits x y z) e = absurd (cc)
+left_is (SetBits x y z) e = absurd (cc)
+left_is (Alloc x y) e = absurd (cc)
+left_is (Disown x y) e = absurd (cc)
+left_is (Count x y) e = absurd (cc)
+left_is (End x) e = absurd (cc)
+left_is Leave e = absurd (cc)
+
+told_of : (p : Program) (l : Layout) (es : List (Entry Op)) (e : Entry Op) (happened : Event) → happened ≡ event_of p.shapes l es e → told happened ≡ option_to_list (answer_in p.shapes l es e)
+told_of p l es e happened says = ap told says ∙ told_at _ _ _
+
+given_more : (p q : Program) (l k : Layout) (es : List (Entry Op)) (e : Entry Op) (happened : Event) (answers : List Answer) → q ≡ p → k ≡ l → happened ≡ event_of q.shapes k es e → answers ≡ answers_given p l es →
+    answers ++ told happened ≡ answers_given q k (e ∷ es)
+given_more p q l k es e happened answers script layout says given =
+    let before = given ∙ ap (λ (r : Program). answers_given r l es) (sym script) ∙ ap (λ (j : Layout). answers_given q j es) (sym layout) in
+    ap (λ (xs : List Answer). xs ++ told happened) before ∙ ap (λ (xs : List Answer). answers_given q k es ++ xs) (told_of q k es e happened says)
+
+-- one turn more
+pub more : (w v : World) (happened : Event) (budget left rest : ℕ) (answers : List Answer) → Midway w budget left answers → left ≡ rest + 1 → ((es : List (Entry Op)) → IsAfter w es → Appends v 0 es happened) → script_of v ≡ script_of w → layout_of v ≡ layout_of w → Midway v budget rest (answers ++ told happened)
+more w v happened budget left rest answers m one appended script layout =
+    let a = appended m.turns m.after in
+    record {
+      turns = a.e ∷ m.turns;
+      after = a.after;
+      long = omega (arith, m.long);
+      given = given_more (script_of w) (script_of v) (layout_of w) (layout_of v) m.turns a.e happened answers script layout a.says m.given;
+    }
+
+-- as many answers as statements were answered
+answers_long : (p : Program) (l : Layout) (es : List (Entry Op)) → length (answers_given p l es) ≡ marks_in p.shapes l es
+answers_long p l [] = refl
+answers_long p l (e ∷ es) = length-append (answers_given p l es) (option_to_list (answer_in p.shapes l es e)) ∙ (rw (answers_long p l es) (one (answer_in p.shapes l es e))) where
+  one : (a : Option Answer) → marks_in p.shapes l es + length (option_to_list a) ≡ marks_in p.shapes l es + bit (is_some a)
+  one None = refl
+  one (Some a) = refl
+
+-- there is room for the answers of a sound world
+pub roomy : (w : World) (budget left : ℕ) (answers : List Answer) → SoundWorld w → Midway w budget left answers → length answers ≤ count_of (script_of w) + 2
+roomy w budget left answers sound m =
+    let many : length answers ≡ marks_of w = ap (λ (xs : List Answer). length xs) m.given ∙ answers_long (script_of w) (layout_of w) m.turns ∙ sym m.after.marked in
+    let few : w.turn ≤ count_of (script_of w) + 2 = sound.turns in
+    let marked = sound.marked in
+    omega (arith, many, few, marked)
+
+-- one answer more has room
+pub room_for : (w v : World) (happened : Event) (budget left rest : ℕ) (answers : List Answer) (room g n : ℕ) (a : Answer) → Midway w budget left answers → left ≡ rest + 1 → ((es : List (Entry Op)) → IsAfter w es → Appends v 0 es happened) → script_of v ≡ script_of w → layout_of v ≡ layout_of w → SoundWorld v → happened ≡ event.Answered g n a → count_of (script_of w) + 2 ≤ room → length answers < room
+room_for w v happened budget left rest answers room g n a m one appended script layout sound is few =
+    let within : length (answers ++ told happened) ≤ count_of (script_of v) + 2 = roomy v budget rest (answers ++ told happened) sound (more w v happened budget left rest answers m one appended script layout) in
+    let grown : length (answers ++ told happened) ≡ length answers + 1 = ap (λ (e : Event). length (answers ++ told e)) is ∙ length-append answers (a ∷ []) in
+    let same : count_of (script_of v) ≡ count_of (script_of w) = ap count_of script in
+    omega (arith, within, grown, same, few)
+
+pub opens : (w : World) (budget : ℕ) (answers : List Answer) → IsAfter w [] → answers ≡ [] → Midway w budget budget answers
+opens w budget answers after empty = record { turns = []; after = after; long = omega arith; given = empty }
+
+pub ran : (w : World) (budget left : ℕ) (answers : List Answer) → Midway w budget left answers → (is_done w ≡ false → left ≡ 0) → Ran w budget answers
+ran w budget left answers m none = record {
+  turns = m.turns;
+  after = m.after;
+  few = omega (arith, m.long);
+  all = λ going. let z = none going in omega (arith, m.long, z);
+  given = m.given;
+}
+
+-- shapes that a script has, in words
+pub good_shapes : (p : Program) → WellFormed p → IsNarrow p.shapes → ShapesGood p.shapes
+good_shapes p formed narrow = λ t lt. let s = formed.shapes t lt in record {
+  some = s.words.0;
+  most = s.words.1;
+  within = s.past;
+  narrow = λ i. narrow t i;
+}
+
+-- a world that is done has taken all turns
+whole : (w : World) (es : List (Entry Op)) → SoundWorld w → IsAfter w es → is_done w ≡ true → IsRun (script_of w) (layout_of w) es
+whole w es sound after done =
+    let p = script_of w in
+    let at : w.processor.point ≡ Left = left_is w.processor.point done in
+    let leaves : (w.turn == count_of p + 2) ≡ true = sym sound.leaves ∙ ap is_leaving at in
+    let turn : w.turn ≡ count_of p + 2 = eqb-true _ _ leaves in
+    let long : length (turns_of p 0) ≡ count_of p + 2 = length-append (map (op_of 0) (statements_of p 0)) (op.End 0 ∷ op.Leave ∷ []) ∙ ap (λ n. n + 2) (length-map (statements_of p 0) (op_of 0)) in
+    record {
+      legal = after.legal;
+      turns = after.begun ∙ take_all w.turn (turns_of p 0) (omega (arith, long, turn));
+      done = ap (λ m. m.point) (sym after.processor) ∙ at;
+    }
+
+pub finished : EveryRunIsExplained → (w : World) (p : Program) (budget : ℕ) (answers : List Answer) → SoundWorld w → IsNarrow p.shapes → script_of w ≡ p → Ran w budget answers → is_done w ≡ true → IsReplayed p budget answers
+finished law w p budget answers sound narrow script r done =
+    subst (λ (q : Program). IsReplayed q budget answers) script (record {
+      layout = layout_of w;
+      lays_out = sound.layout;
+      turns = r.turns;
+      few = r.few;
+      explained = subst (λ (xs : List Answer). IsExplained (script_of w) (layout_of w) r.turns xs) (sym r.given)
+          (law (script_of w) (layout_of w) r.turns (good_shapes (script_of w) sound.script.sound (subst (λ (q : Program). IsNarrow q.shapes) (sym script) narrow)) (whole w r.turns sound r.after done));
+    })
+
+pub unfinished : (w : World) (p : Program) (budget : ℕ) (answers : List Answer) → SoundWorld w → script_of w ≡ p → Ran w budget answers → is_done w ≡ false → IsUnfinished p budget
+unfinished w p budget answers sound script r going =
+    subst (λ (q : Program). IsUnfinished q budget) script (record {
+      layout = layout_of w;
+      lays_out = sound.layout;
+      turns = r.turns;
+      legal = r.after.legal;
+      long = r.all going;
+      going = ap (λ m. has_left_at m.point) (sym r.after.processor) ∙ going;
+    })

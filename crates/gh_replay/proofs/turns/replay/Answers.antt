@@ -1,0 +1,20 @@
+use Rattle.std.proofs.Common.{◌≡◌, ℕ, List, sym, ◌∙◌, subst}
+use Rattle.gh_base.specs.declared.shape.Shape.{Shape}
+use Rattle.gh_replay.specs.Replayed.{IsNarrow, IsUnfinished}
+use Rattle.gh_replay.proofs.Running.{finished, unfinished}
+use Rattle.gh_replay.proofs.turns.replay.Goals as goal
+
+pub returns-then-done-clause-explained : goal.returns-then-done-clause-explained
+returns-then-done-clause-explained c =
+    finished c.every_run_is_explained.ensures c.run.new.world c.args.script.now c.args.budget c.run.new.answers.items c.run.ensures.sound
+    (subst (λ (shapes : List Shape). IsNarrow shapes) c.shapes.ensures c.see_narrow.ensures)
+    (c.run.ensures.script ∙ c.in_ok-world.ensures.script) c.run.ensures.ran (sym c.done.ensures ∙ c.if-done.true)
+
+pub returns-clause-out_of_turns : goal.returns-clause-out_of_turns
+returns-clause-out_of_turns c = λ n e.
+    let same : c.args.budget ≡ n = cc in (
+      sym same,
+      subst (λ (k : ℕ). IsUnfinished c.args.script.now k) same
+          (unfinished c.run.new.world c.args.script.now c.args.budget c.run.new.answers.items c.run.ensures.sound
+          (c.run.ensures.script ∙ c.in_ok-world.ensures.script) c.run.ensures.ran (sym c.done.ensures ∙ c.if-done.false)),
+    )

@@ -1,0 +1,51 @@
+-- What a replay answers, and what stands where it ran out of turns.
+use Rattle.std.specs.Prelude.{◌≡◌, ℕ, ◌≤◌, ◌<◌, ◌^◌, false, List, length}
+use Rattle.gh_base.specs.declared.value.Answer.{Answer}
+use Rattle.gh_base.specs.declared.operation.Op.{Op}
+use Rattle.gh_base.specs.declared.shape.Shape.{Shape}
+use Rattle.gh_base.specs.declared.layout.Layout.{Layout}
+use Rattle.gh_base.specs.declared.machine.Entry.{Entry}
+use Rattle.gh_base.specs.Shapes.{bits_at, shape_at}
+use Rattle.gh_base.specs.Cells.{IsLayoutOf}
+use Rattle.gh_base.specs.Lists.{Legal}
+use Rattle.gh_script.specs.Program.{Program}
+use Rattle.gh_world.specs.declared.world.World.{World}
+use Rattle.gh_world.specs.Law.{processor_after}
+use Rattle.gh_world.specs.Order.{setting_of}
+use Rattle.gh_world.specs.Runs.{IsExplained, answers_given}
+use Rattle.gh_world.specs.Turns.{has_left_at}
+use Rattle.gh_world.specs.World.{opening, script_of, layout_of, is_done, IsAfter}
+
+-- the layout is that of the script's settings
+abbrev pub LaysOut : Program → Layout → Type 0
+LaysOut p l = IsLayoutOf p.settings.arena p.settings.globals p.settings.procs p.settings.workers (length p.goroutines) l
+
+-- the answers are those of a whole run of the script, of at most so many turns, and are explained: the heap that never frees answers so, save `full`, which stands only where nothing fitted
+pub record IsReplayed (p : Program) (budget : ℕ) (answers : List Answer) : Type 0 where
+  pub layout : Layout
+  pub lays_out : LaysOut p layout
+  pub turns : List (Entry Op)
+  pub few : length turns ≤ budget
+  pub explained : IsExplained p layout turns answers
+
+-- after so many turns of the script the processor is not done
+pub record IsUnfinished (p : Program) (n : ℕ) : Type 0 where
+  pub layout : Layout
+  pub lays_out : LaysOut p layout
+  pub turns : List (Entry Op)
+  pub legal : Legal (setting_of p.shapes layout opening) turns
+  pub long : length turns ≡ n
+  pub going : has_left_at (processor_after p.shapes layout opening turns).point ≡ false
+
+-- Of the code's own.
+
+abbrev pub IsNarrow : List Shape → Type 0
+IsNarrow shapes = (t i : ℕ) → bits_at (shape_at shapes t) i < 2 ^ 64
+
+-- the world has taken turns within the budget, all of it where it is not done, and has answered so
+pub record Ran (w : World) (budget : ℕ) (answers : List Answer) : Type 0 where
+  pub turns : List (Entry Op)
+  pub after : IsAfter w turns
+  pub few : length turns ≤ budget
+  pub all : is_done w ≡ false → length turns ≡ budget
+  pub given : answers ≡ answers_given (script_of w) (layout_of w) turns
