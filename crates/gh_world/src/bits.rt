@@ -35,8 +35,8 @@ pub(crate) fn slot_bits(at: u32, slot: u32, i: u32) -> u64
     bits_between(low, high)
 }
 
-#[tactic(auto, using(crate::proofs::Moved::moved_fits, crate::proofs::Moved::moved_none))]
 /// The pointer fields of type `t`, moved to where the object at heap word `at` stands, in word `i`.
+#[tactic(auto, using(crate::proofs::Moved::moved_fits, crate::proofs::Moved::moved_none))]
 pub(crate) fn pointer_bits(shapes: &Shapes, t: u32, at: u32, i: u32) -> u64
     requires there { t < length shapes.now }
     requires begins { at / 64 ≤ i }
