@@ -71,6 +71,8 @@ node_shape = record { words = 2; noscan = false; bits = 1 ∷ [] }
 abbrev pub program_of : List Stmt → Program
 program_of statements = one_goroutine form_settings (node_shape ∷ []) statements
 
+-- The form and `parse` agree both ways: what `parse` takes is spelled so; what is spelled so it takes, unless memory runs out; and what it refuses spells no script.
+
 -- the text spells the script
 pub record Spells (text : List ℕ) (p : Program) : Type 0 where
   pub lines : List (List ℕ)
