@@ -38,13 +38,11 @@ impl Model for Ever {
 impl Ever {
     /// The heap before any statement of the script: no object, and nil in each global and register.
     /// Takes room for all that the script's statements can make; fails only for want of memory.
-    ///
-    /// Condition: each of the script's types has 1 to 65,536 words.
     pub fn new(alloc: Global, script: &Script) -> Result<Ever, AllocError>
-        requires { AreSized script.now.shapes }
         ensures opening { IfOk result (λ ever. ever_of ever ≡ opening_ever) }
         ensures lists { IfOk result (λ ever. ever ≡ opening_lists script.now.shapes (counts_of script.now)) }
     {
+        script.is_well_formed();
         let shapes = copy_of(alloc, script.shapes())?;
         let left = counts_of(alloc, script)?;
         Ever::open(alloc, shapes, left)

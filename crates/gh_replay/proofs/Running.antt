@@ -1,7 +1,7 @@
 -- What a run has so far, and what it has when the world is done.
-use Rattle.std.proofs.Common.{◌≡◌, ℕ, ◌+◌, ◌<◌, ◌≤◌, true, false, ◌==◌, List, [], ◌∷◌, ◌++◌, map, length, refl, sym, ◌∙◌, ap, subst, Option, Some, None, is_some, arith}
+use Rattle.std.proofs.Common.{◌≡◌, ℕ, ◌+◌, ◌<◌, ◌≤◌, true, false, ◌==◌, List, [], ◌∷◌, ◌++◌, map, length, drop, refl, sym, ◌∙◌, ap, subst, Option, Some, None, is_some, arith}
 use Rattle.std.specs.Option.{option_to_list}
-use Rattle.std.proofs.lemmas.List.{length-append, length-map, take_all}
+use Rattle.std.proofs.lemmas.List.{length-append, length-map, take_all, take-append-drop}
 use Rattle.std.proofs.lemmas.Bool.{eqb-true}
 use Rattle.gh_base.specs.declared.value.Answer.{Answer}
 use Rattle.gh_base.specs.declared.operation.Op.{Op}
@@ -9,17 +9,16 @@ use Rattle.gh_base.specs.declared.operation.Op.TheVariants as op
 use Rattle.gh_base.specs.declared.layout.Layout.{Layout}
 use Rattle.gh_base.specs.declared.machine.Entry.{Entry}
 use Rattle.gh_base.specs.Packing.{bit}
-use Rattle.gh_script.specs.Program.{Program, WellFormed, statements_of, op_of}
+use Rattle.gh_script.specs.Program.{Program, statements_of, op_of}
 use Rattle.gh_world.specs.declared.point.Point.{Point}
 use Rattle.gh_world.specs.declared.point.Point.TheVariants.{Idle, Left, Touch, LoadPage, LoadBits, LoadField, LoadBirth, StorePage, StoreBits, StoreField, GlobalLoad, GlobalStore, Slot, Look, Body, Head, Clear, Birth, ClearBits, SetBits, Alloc, Disown, Count, End, Leave}
 use Rattle.gh_world.specs.declared.world.World.{World}
 use Rattle.gh_world.specs.declared.world.Event.{Event}
 use Rattle.gh_world.specs.declared.world.Event.TheVariants as event
-use Rattle.gh_world.specs.Points.{ShapesGood}
-use Rattle.gh_world.specs.Runs.{IsRun, IsExplained, EveryRunIsExplained, answers_given}
+use Rattle.gh_world.specs.Runs.{IsRun, IsRunSoFar, IsExplained, EveryRunIsExplained, answers_given}
 use Rattle.gh_world.specs.Turns.{answer_at, has_left_at, is_leaving}
 use Rattle.gh_world.specs.World.{Appends, IsAfter, SoundWorld, answer_in, count_of, event_at, event_of, is_done, layout_of, marks_in, marks_of, script_of, turns_of}
-use Rattle.gh_replay.specs.Replayed.{IsNarrow, IsReplayed, IsUnfinished, Ran}
+use Rattle.gh_replay.specs.Replayed.{IsReplayed, IsUnfinished, Ran}
 
 -- so far the world has taken turns of the budget and answered so
 pub record Midway (w : World) (budget left : ℕ) (answers : List Answer) : Type 0 where
@@ -167,15 +166,6 @@ ran w budget left answers m none = record {
   given = m.given;
 }
 
--- shapes that a script has, in words
-pub good_shapes : (p : Program) → WellFormed p → IsNarrow p.shapes → ShapesGood p.shapes
-good_shapes p formed narrow = λ t lt. let s = formed.shapes t lt in record {
-  some = s.words.0;
-  most = s.words.1;
-  within = s.past;
-  narrow = λ i. narrow t i;
-}
-
 -- a world that is done has taken all turns
 whole : (w : World) (es : List (Entry Op)) → SoundWorld w → IsAfter w es → is_done w ≡ true → IsRun (script_of w) (layout_of w) es
 whole w es sound after done =
@@ -190,16 +180,24 @@ whole w es sound after done =
       done = ap (λ m. m.point) (sym after.processor) ∙ at;
     }
 
-pub finished : EveryRunIsExplained → (w : World) (p : Program) (budget : ℕ) (answers : List Answer) → SoundWorld w → IsNarrow p.shapes → script_of w ≡ p → Ran w budget answers → is_done w ≡ true → IsReplayed p budget answers
-finished law w p budget answers sound narrow script r done =
+pub finished : EveryRunIsExplained → (w : World) (p : Program) (budget : ℕ) (answers : List Answer) → SoundWorld w → script_of w ≡ p → Ran w budget answers → is_done w ≡ true → IsReplayed p budget answers
+finished law w p budget answers sound script r done =
     subst (λ (q : Program). IsReplayed q budget answers) script (record {
       layout = layout_of w;
       lays_out = sound.layout;
       turns = r.turns;
       few = r.few;
       explained = subst (λ (xs : List Answer). IsExplained (script_of w) (layout_of w) r.turns xs) (sym r.given)
-          (law (script_of w) (layout_of w) r.turns (good_shapes (script_of w) sound.script.sound (subst (λ (q : Program). IsNarrow q.shapes) (sym script) narrow)) (whole w r.turns sound r.after done));
+          (law (script_of w) (layout_of w) r.turns sound.script (whole w r.turns sound r.after done));
     })
+
+-- what has begun is the first of the turns
+so_far : (w : World) (es : List (Entry Op)) → IsAfter w es → IsRunSoFar (script_of w) (layout_of w) es
+so_far w es after = record {
+  legal = after.legal;
+  to_come = drop w.turn (turns_of (script_of w) 0);
+  turns = sym (take-append-drop w.turn (turns_of (script_of w) 0)) ∙ ap (λ (xs : List Op). xs ++ drop w.turn (turns_of (script_of w) 0)) (sym after.begun);
+}
 
 pub unfinished : (w : World) (p : Program) (budget : ℕ) (answers : List Answer) → SoundWorld w → script_of w ≡ p → Ran w budget answers → is_done w ≡ false → IsUnfinished p budget
 unfinished w p budget answers sound script r going =
@@ -207,7 +205,7 @@ unfinished w p budget answers sound script r going =
       layout = layout_of w;
       lays_out = sound.layout;
       turns = r.turns;
-      legal = r.after.legal;
+      so_far = so_far w r.turns r.after;
       long = r.all going;
       going = ap (λ m. has_left_at m.point) (sym r.after.processor) ∙ going;
     })

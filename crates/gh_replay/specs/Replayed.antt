@@ -1,18 +1,14 @@
 -- What a replay answers, and what stands where it ran out of turns.
-use Rattle.std.specs.Prelude.{◌≡◌, ℕ, ◌≤◌, ◌<◌, ◌^◌, false, List, length}
+use Rattle.std.specs.Prelude.{◌≡◌, ℕ, ◌≤◌, false, List, length}
 use Rattle.gh_base.specs.declared.value.Answer.{Answer}
 use Rattle.gh_base.specs.declared.operation.Op.{Op}
-use Rattle.gh_base.specs.declared.shape.Shape.{Shape}
 use Rattle.gh_base.specs.declared.layout.Layout.{Layout}
 use Rattle.gh_base.specs.declared.machine.Entry.{Entry}
-use Rattle.gh_base.specs.Shapes.{bits_at, shape_at}
 use Rattle.gh_base.specs.Cells.{IsLayoutOf}
-use Rattle.gh_base.specs.Lists.{Legal}
 use Rattle.gh_script.specs.Program.{Program}
 use Rattle.gh_world.specs.declared.world.World.{World}
 use Rattle.gh_world.specs.Law.{processor_after}
-use Rattle.gh_world.specs.Order.{setting_of}
-use Rattle.gh_world.specs.Runs.{IsExplained, answers_given}
+use Rattle.gh_world.specs.Runs.{IsExplained, IsRunSoFar, answers_given}
 use Rattle.gh_world.specs.Turns.{has_left_at}
 use Rattle.gh_world.specs.World.{opening, script_of, layout_of, is_done, IsAfter}
 
@@ -28,19 +24,23 @@ pub record IsReplayed (p : Program) (budget : ℕ) (answers : List Answer) : Typ
   pub few : length turns ≤ budget
   pub explained : IsExplained p layout turns answers
 
--- after so many turns of the script the processor is not done
+-- so many turns of the script's run are taken, and the processor is not done
 pub record IsUnfinished (p : Program) (n : ℕ) : Type 0 where
   pub layout : Layout
   pub lays_out : LaysOut p layout
   pub turns : List (Entry Op)
-  pub legal : Legal (setting_of p.shapes layout opening) turns
+  pub so_far : IsRunSoFar p layout turns
   pub long : length turns ≡ n
   pub going : has_left_at (processor_after p.shapes layout opening turns).point ≡ false
 
--- Of the code's own.
+-- A script's run either ends within the budget or does not, and is answered in one way, whatever the budget.
+abbrev pub NotBoth : Type 0
+NotBoth = (p : Program) (budget : ℕ) (answers : List Answer) → IsReplayed p budget answers → IsUnfinished p budget → ⊥
 
-abbrev pub IsNarrow : List Shape → Type 0
-IsNarrow shapes = (t i : ℕ) → bits_at (shape_at shapes t) i < 2 ^ 64
+abbrev pub OneAnswer : Type 0
+OneAnswer = (p : Program) (m n : ℕ) (answers others : List Answer) → IsReplayed p m answers → IsReplayed p n others → answers ≡ others
+
+-- Of the code's own.
 
 -- the world has taken turns within the budget, all of it where it is not done, and has answered so
 pub record Ran (w : World) (budget : ℕ) (answers : List Answer) : Type 0 where

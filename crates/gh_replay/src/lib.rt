@@ -1,13 +1,16 @@
 //! Runs of scripts over a plain list of words, under a budget of turns.
 //!
 //! A turn is one step of one actor: one atomic operation on one word. What a run answers is explained
-//! by the list of its turns.
+//! by the list of its turns. With one processor a script has one such list, so that a run ends within
+//! the budget or runs out of turns, and never both ([`one_outcome`]).
 #![tactic(auto)]
 
 mod fault;
+mod laws;
 mod turns;
 
 pub use fault::ReplayFault;
+pub use laws::one_outcome;
 pub use turns::replay;
 
 #[cfg(test)]

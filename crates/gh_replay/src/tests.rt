@@ -3,7 +3,6 @@
 use super::{ReplayFault, replay};
 use gh_base::{Answer, Fault, Name};
 use gh_script::parse;
-use gh_world::is_runnable;
 use std::alloc::Global;
 use std::process::Abort;
 use std::test::Fail;
@@ -14,7 +13,6 @@ const HEADER: &str = "procs 1\nworkers 1\narena 16\nglobals 1\ngogc 0\ntype node
 fn answers(rt: &impl Abort, alloc: Global, statements: &str, want: &[Answer]) -> Result<(), Fail> {
     let text = format!(in alloc; "{HEADER}{statements}end\n")?;
     let script = parse(alloc, text.as_bytes())?;
-    assert!(rt; is_runnable(&script));
     let told = replay(alloc, &script, 10_000)?;
     assert_eq!(rt; &told[..], want, "{statements}");
     Ok(())
@@ -47,7 +45,6 @@ fn turns_run_out(rt: HostRuntime) -> Result<(), Fail> {
     let alloc = rt.alloc();
     let text = format!(in alloc; "{HEADER}int r1 7\nend\n")?;
     let script = parse(alloc, text.as_bytes())?;
-    assert!(&rt; is_runnable(&script));
     for budget in 0..4u64 {
         let outcome = replay(alloc, &script, budget);
         assert!(&rt; outcome.is_err() == (budget < 3));

@@ -1,111 +1,112 @@
--- Which text spells which script: the first form, with one goroutine of four kinds of statement.
-use Rattle.std.specs.Prelude.{◌≡◌, ℕ, ◌+◌, ◌*◌, ◌-◌, ◌^◌, ◌<◌, ◌≤◌, nat_lt, false, if◌then◌else◌, ◌⊎◌, List, [], ◌∷◌, ◌++◌, length, codes, Result, Ok, Err}
-use Rattle.std.specs.List.{fold, AllByRecursion, AllZip}
-use Rattle.std.specs.Char.{IsAsciiDigit}
+-- The form of a script, without the reading of it line by line: settings and types in any order, then one goroutine.
+use Rattle.std.specs.Prelude.{◌≡◌, ℕ, Bool, true, false, not, List, [], ◌∷◌, ◌++◌, map, filter, fold, Option, Some, None, All, ◌≢◌, AllPairs, ◌≤◌, length}
+use Rattle.std.specs.Option.{option_to_list}
+use Rattle.std.specs.List.{flat_map}
+use Rattle.std.specs.Str.{is_utf8}
 use Rattle.gh_base.specs.declared.shape.Shape.{Shape}
-use Rattle.gh_script.specs.declared.limits.TheConstants.{MAX_BYTES, MAX_STATEMENTS, MAX_DIGITS, MAX_FIELD, REGISTERS}
-use Rattle.gh_script.specs.declared.fault.Why.{Why}
-use Rattle.gh_script.specs.declared.fault.Why.TheVariants.{Word}
-use Rattle.gh_script.specs.declared.fault.ParseError.{ParseError}
-use Rattle.gh_script.specs.declared.fault.ParseError.TheVariants.{NoMemory, Script}
-use Rattle.gh_script.specs.declared.statement.Settings.{Settings}
+use Rattle.gh_script.specs.declared.given.Given.{Given}
+use Rattle.gh_script.specs.declared.key.Setting.{Setting}
+use Rattle.gh_script.specs.declared.key.Key.{Key}
+use Rattle.gh_script.specs.declared.key.Key.TheVariants as keys
 use Rattle.gh_script.specs.declared.statement.Stmt.{Stmt}
-use Rattle.gh_script.specs.declared.statement.Stmt.TheVariants.{New, Load, Store, Int}
-use Rattle.gh_script.specs.Program.{Program, one_goroutine}
+use Rattle.gh_script.specs.Limits.{most_bytes, most_types, most_statements}
+use Rattle.gh_script.specs.Program.{Program, no_goroutine}
+use Rattle.gh_script.specs.Text.{Sentence, sentence_of, lines_of, words_of}
+use Rattle.gh_script.specs.Words.{key_of}
+use Rattle.gh_script.specs.ShapeText.{fields_of, shape_with}
+use Rattle.gh_script.specs.Draft.{Draft, blank_draft, nothing_given, with_given, settings_in}
+use Rattle.gh_script.specs.Grammar.{cause_at, is_skipped, number_in, statement_of}
 
--- ---- words
+-- a line's words
+abbrev pub said_in : List ℕ → Sentence
+said_in line = sentence_of (words_of line)
 
--- what decimal digits are worth, leading zeros allowed
-abbrev pub value_of : List ℕ → ℕ
-value_of digits = fold (λ n d. 10 * n + (d - 48)) 0 digits
+-- the lines of a text that say something
+unfoldable pub sayings : List (List ℕ) → List Sentence
+sayings lines = filter (λ line. not (is_skipped line)) (map said_in lines)
 
--- 1 to 20 decimal digits, worth n, which 64 bits hold
-pub record IsNumber (digits : List ℕ) (n : ℕ) : Type 0 where
-  pub some : 0 < length digits
-  pub few : length digits ≤ MAX_DIGITS
-  pub each : AllByRecursion IsAsciiDigit digits
-  pub value : n ≡ value_of digits
-  pub fits : n < 2 ^ 64
+-- a setting or a type
+abbrev pub IsHeadKey : Option Key → Type 0
+IsHeadKey (Some (keys.Setting x)) = Unit {0}
+IsHeadKey (Some keys.Type) = Unit {0}
+IsHeadKey (Some key) = ⊥
+IsHeadKey None = ⊥
 
--- the one name of a register: r0 to r9, r10 to r15
-unfoldable pub register : ℕ → List ℕ
-register r = if nat_lt r 10 then codes "r" ++ (48 + r) ∷ [] else codes "r1" ++ (38 + r) ∷ []
+abbrev pub IsHead : Sentence → Type 0
+IsHead line = IsHeadKey (key_of line.first)
 
--- ---- lines
+abbrev pub is_type_key : Option Key → Bool
+is_type_key (Some keys.Type) = true
+is_type_key (Some key) = false
+is_type_key None = false
 
--- the line is this statement
-abbrev pub SpellsStatement : List ℕ → Stmt → Type 0
-SpellsStatement line (New d t) =
-    (d < REGISTERS) × (t ≡ 0) × (line ≡ codes "new " ++ register d ++ codes " node")
-SpellsStatement line (Load d b k) =
-    (d < REGISTERS) × (b < REGISTERS) × (k ≤ MAX_FIELD) × (digits : List ℕ) × IsNumber digits k
-    × (line ≡ codes "load " ++ register d ++ codes " " ++ register b ++ codes " " ++ digits)
-SpellsStatement line (Store b k v) =
-    (b < REGISTERS) × (v < REGISTERS) × (k ≤ MAX_FIELD) × (digits : List ℕ) × IsNumber digits k
-    × (line ≡ codes "store " ++ register b ++ codes " " ++ digits ++ codes " " ++ register v)
-SpellsStatement line (Int d n) =
-    (d < REGISTERS) × (digits : List ℕ) × IsNumber digits n
-    × (line ≡ codes "int " ++ register d ++ codes " " ++ digits)
-SpellsStatement line _ = ⊥
+-- the types among the lines
+abbrev pub types_in : List Sentence → List Sentence
+types_in lines = filter (λ line. is_type_key (key_of line.first)) lines
 
--- the lines, each with its LF
-abbrev pub text_of : List (List ℕ) → List ℕ
-text_of [] = []
-text_of (line ∷ lines) = line ++ (10 ∷ text_of lines)
+abbrev pub given_by_key : Given → Sentence → Option Key → Given
+given_by_key given line (Some (keys.Setting x)) = with_given given x (number_in line.second)
+given_by_key given line (Some key) = given
+given_by_key given line None = given
 
--- the lines that stand before the statements
-abbrev pub header : List (List ℕ)
-header = codes "procs 1" ∷ codes "workers 1" ∷ codes "arena 16" ∷ codes "globals 1" ∷ codes "gogc 0" ∷ codes "type node pn" ∷ codes "go a" ∷ []
+-- the settings that the lines give
+abbrev pub settings_by : List Sentence → Given
+settings_by lines = fold (λ given line. given_by_key given line (key_of line.first)) nothing_given lines
 
--- ---- scripts
+-- the types' names and shapes
+abbrev pub names_by : List Sentence → List (List ℕ)
+names_by lines = map (λ line. line.second) (types_in lines)
 
--- one processor, one worker, 16 pages, one global, no cycle of its own accord, and a least goal of a
--- quarter of the arena's bytes
-abbrev pub form_settings : Settings
-form_settings = record { procs = 1; workers = 1; arena = 16; globals = 1; gogc = 0; minheap = 32768 }
+abbrev pub shapes_by : List Sentence → List Shape
+shapes_by lines = map (λ line. shape_with (fields_of line.third)) (types_in lines)
 
--- a pointer field and a number field
-abbrev pub node_shape : Shape
-node_shape = record { words = 2; noscan = false; bits = 1 ∷ [] }
+abbrev pub statement_by_key : List (List ℕ) → Sentence → Option Key → Option Stmt
+statement_by_key names line (Some key) = statement_of names key line
+statement_by_key names line None = None
 
-abbrev pub program_of : List Stmt → Program
-program_of statements = one_goroutine form_settings (node_shape ∷ []) statements
+-- a draft with these settings and types' names, and a goroutine open
+abbrev pub inside : Given → List (List ℕ) → Draft
+inside given names = record { given = given; names = names; shapes = []; closed = []; current = Some no_goroutine }
 
--- The form and `parse` agree both ways: what `parse` takes is spelled so; what is spelled so it takes, unless memory runs out; and what it refuses spells no script.
+-- the line meets no cause after those of the draft
+abbrev pub IsTaken : Draft → Sentence → Type 0
+IsTaken draft line = (key : Key) → key_of line.first ≡ Some key → cause_at draft key line ≡ None
 
--- the text spells the script
-pub record Spells (text : List ℕ) (p : Program) : Type 0 where
-  pub lines : List (List ℕ)
-  pub statements : List Stmt
-  pub whole : text ≡ text_of (header ++ lines ++ codes "end" ∷ [])
-  pub each : AllZip SpellsStatement lines statements
-  pub few : length statements ≤ MAX_STATEMENTS
-  pub short : length text ≤ MAX_BYTES
-  pub says : p ≡ program_of statements
+-- two lines don't give the same setting
+abbrev pub AreApart : Sentence → Sentence → Type 0
+AreApart one other = (x : Setting) → key_of one.first ≡ Some (keys.Setting x) → key_of other.first ≡ Some (keys.Setting x) → ⊥
 
--- the text spells no script, for this cause at this line
-pub record Refused (text : List ℕ) (line : ℕ) (why : Why) : Type 0 where
-  pub at : line ≡ 0
-  pub cause : why ≡ Word
-  pub spells_none : (p : Program) → ¬ Spells text p
+-- a line is a statement
+abbrev pub IsSaying : List (List ℕ) → Sentence → Type 0
+IsSaying names line = (statement : Stmt) × (statement_by_key names line (key_of line.first) ≡ Some statement)
 
--- what parsing answers to a text that spells p: p, unless memory ran out
-abbrev pub Gives : Result Program ParseError → Program → Type 0
-Gives (Ok s) p = s ≡ p
-Gives (Err NoMemory) p = Unit {0}
-Gives (Err (Script f)) p = ⊥
+-- the statements of lines
+abbrev pub statements_by : List (List ℕ) → List Sentence → List Stmt
+statements_by names lines = flat_map (λ line. option_to_list (statement_by_key names line (key_of line.first))) lines
 
--- ---- laws
-
--- no text spells two scripts
-abbrev pub SpellsOneScript : Type 0
-SpellsOneScript = (text : List ℕ) (p q : Program) → Spells text p → Spells text q → p ≡ q
-
--- no text is both spelled and refused
-abbrev pub SpelledIsNotRefused : Type 0
-SpelledIsNotRefused =
-    (text : List ℕ) (p : Program) (line : ℕ) (why : Why) → Spells text p → ¬ Refused text line why
-
--- each text spells a script, or is refused
-abbrev pub SpelledOrRefused : Type 0
-SpelledOrRefused = (text : List ℕ) → ((p : Program) × Spells text p) ⊎ Refused text 0 Word
+-- The lines that say something are settings and types, then `go`, statements and `end`, and that is what the program says.
+-- Each setting, type and `go` would be taken as a text's first line, and each statement and `end` in a goroutine that opens
+-- behind the settings and types; no setting and no type's name stands twice, and the counts are within their limits.
+pub record HasForm (text : List ℕ) (p : Program) : Type 0 where
+  pub size : length text ≤ most_bytes
+  pub characters : is_utf8 text ≡ true
+  pub head : List Sentence
+  pub go : Sentence
+  pub body : List Sentence
+  pub last : Sentence
+  pub lines : sayings (lines_of text) ≡ head ++ go ∷ (body ++ last ∷ [])
+  pub heads : All IsHead head
+  pub heads_taken : All (IsTaken blank_draft) head
+  pub once : AllPairs AreApart head
+  pub names_apart : AllPairs (λ a b. a ≢ b) (names_by head)
+  pub few_types : length (names_by head) ≤ most_types
+  pub begins : key_of go.first ≡ Some keys.Go
+  pub go_taken : IsTaken blank_draft go
+  pub says : All (IsSaying (names_by head)) body
+  pub body_taken : All (IsTaken (inside (settings_by head) (names_by head))) body
+  pub few_statements : length (statements_by (names_by head) body) ≤ most_statements
+  pub ends : key_of last.first ≡ Some keys.End
+  pub last_taken : IsTaken (inside (settings_by head) (names_by head)) last
+  pub settings : p.settings ≡ settings_in (settings_by head)
+  pub shapes : p.shapes ≡ shapes_by head
+  pub goroutines : p.goroutines ≡ record { name = go.second; statements = statements_by (names_by head) body } ∷ []

@@ -1,3 +1,11 @@
+pub mod Limits
 pub mod Program
+pub mod Text
+pub mod Words
+pub mod Said
+pub mod ShapeText
+pub mod ShapeSaid
+pub mod Draft
+pub mod Grammar
+pub mod Outcome
 pub mod Form
-pub mod Reading

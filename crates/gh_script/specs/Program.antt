@@ -1,10 +1,12 @@
 -- What a script says, whichever text spells it.
-use Rattle.std.specs.Prelude.{◌≡◌, ℕ, ◌-◌, ◌<◌, ◌≤◌, ◌↔◌, ◌==◌, false, IsTrue, if◌then◌else◌, List, [], ◌∷◌, length, codes, slice_get, slice_index_or, Option, None, IfSome}
-use Rattle.gh_base.specs.Shapes.{is_pointer, shape_at}
+use Rattle.std.specs.Prelude.{◌≡◌, ℕ, ◌+◌, ◌-◌, ◌/◌, ◌^◌, ◌<◌, ◌≤◌, ◌==◌, ◌↔◌, true, false, if◌then◌else◌, List, [], length, slice_get, slice_index_or, Option, None, All, sum_by}
+use Rattle.gh_base.specs.Shapes.{bits_at, is_pointer}
 use Rattle.gh_base.specs.declared.shape.Shape.{Shape}
 use Rattle.gh_base.specs.declared.operation.Op.{Op}
 use Rattle.gh_base.specs.declared.operation.Op.TheVariants as ops
-use Rattle.gh_script.specs.declared.limits.TheConstants.{MAX_STATEMENTS, MAX_FIELD, REGISTERS}
+use Rattle.gh_script.specs.declared.key.Setting.TheVariants.{Procs, Workers, Arena, Globals, Gogc, Minheap}
+use Rattle.gh_script.specs.Limits.{least, most, most_types, most_goroutines, most_statements, most_field, most_words, registers}
+use Rattle.gh_script.specs.Words.{is_name}
 use Rattle.gh_script.specs.declared.statement.Settings.{Settings}
 use Rattle.gh_script.specs.declared.statement.Stmt.{Stmt}
 use Rattle.gh_script.specs.declared.statement.Stmt.TheVariants.{New, Load, Store, GetGlobal, SetGlobal, Int, Move, Nil, Gc}
@@ -47,41 +49,54 @@ op_of g (Move d s) = ops.Move g d s
 op_of g (Nil d) = ops.Nil g d
 op_of g Gc = ops.Gc g
 
--- a script with one goroutine, named a
-abbrev pub one_goroutine : Settings → List Shape → List Stmt → Program
-one_goroutine of_settings of_shapes of_statements = record { settings = of_settings; shapes = of_shapes; goroutines = record { name = codes "a"; statements = of_statements } ∷ [] }
+-- ---- what each script that is taken keeps
 
--- ---- what holds of every script that was taken
+-- each setting is within its limits
+pub record AreWithin (settings : Settings) : Type 0 where
+  pub procs : (least Procs ≤ settings.procs) × (settings.procs ≤ most Procs)
+  pub workers : (least Workers ≤ settings.workers) × (settings.workers ≤ most Workers)
+  pub arena : (least Arena ≤ settings.arena) × (settings.arena ≤ most Arena)
+  pub globals : (least Globals ≤ settings.globals) × (settings.globals ≤ most Globals)
+  pub gogc : (least Gogc ≤ settings.gogc) × (settings.gogc ≤ most Gogc)
+  pub minheap : (least Minheap ≤ settings.minheap) × (settings.minheap ≤ most Minheap)
 
--- each setting within its limits
-pub record IsSettings (s : Settings) : Type 0 where
-  pub procs : (1 ≤ s.procs) × (s.procs ≤ 8)
-  pub workers : (1 ≤ s.workers) × (s.workers ≤ 4)
-  pub arena : (16 ≤ s.arena) × (s.arena ≤ 1024)
-  pub globals : (1 ≤ s.globals) × (s.globals ≤ 256)
-  pub gogc : s.gogc ≤ 1000
-  pub minheap : s.minheap ≤ 8388608
-
--- 1 to 65,536 words; no pointer field past them; noscan exactly where there is no pointer field
+-- the bits are those of the fields alone, 64 a word; noscan says that none is set
 pub record IsShape (shape : Shape) : Type 0 where
-  pub words : (1 ≤ shape.words) × (shape.words ≤ 65536)
-  pub past : (k : ℕ) → shape.words ≤ k → is_pointer shape k ≡ false
-  pub noscan : IsTrue shape.noscan ↔ ((k : ℕ) → is_pointer shape k ≡ false)
+  pub some_word : 1 ≤ shape.words
+  pub few_words : shape.words ≤ most_words
+  pub packed : length shape.bits ≡ (shape.words + 63) / 64
+  pub narrow : (i : ℕ) → bits_at shape i < 2 ^ 64
+  pub none_beyond : (k : ℕ) → shape.words ≤ k → is_pointer shape k ≡ false
+  pub noscan : (shape.noscan ≡ true) ↔ ((k : ℕ) → is_pointer shape k ≡ false)
 
--- registers, types, fields and globals that there are
-abbrev pub IsStatement : Program → Stmt → Type 0
-IsStatement p (New d t) = (d < REGISTERS) × (t < length p.shapes)
-IsStatement p (Load d b k) = (d < REGISTERS) × (b < REGISTERS) × (k ≤ MAX_FIELD)
-IsStatement p (Store b k v) = (b < REGISTERS) × (k ≤ MAX_FIELD) × (v < REGISTERS)
-IsStatement p (GetGlobal d k) = (d < REGISTERS) × (k < p.settings.globals)
-IsStatement p (SetGlobal k v) = (k < p.settings.globals) × (v < REGISTERS)
-IsStatement p (Int d n) = d < REGISTERS
-IsStatement p (Move d s) = (d < REGISTERS) × (s < REGISTERS)
-IsStatement p (Nil d) = d < REGISTERS
-IsStatement p Gc = Unit {0}
+-- the numbers of a statement are within their limits; no statement asks for a cycle, until `gc` is taken
+abbrev pub IsStatement : ℕ → ℕ → Stmt → Type 0
+IsStatement globals types (New d t) = (d < registers) × (t < types)
+IsStatement globals types (Load d b k) = (d < registers) × (b < registers) × (k ≤ most_field)
+IsStatement globals types (Store b k v) = (b < registers) × (k ≤ most_field) × (v < registers)
+IsStatement globals types (GetGlobal d k) = (d < registers) × (k < globals)
+IsStatement globals types (SetGlobal k v) = (k < globals) × (v < registers)
+IsStatement globals types (Int d n) = (d < registers) × (n < 2 ^ 64)
+IsStatement globals types (Move d s) = (d < registers) × (s < registers)
+IsStatement globals types (Nil d) = d < registers
+IsStatement globals types Gc = ⊥
+
+abbrev pub AreStatements : ℕ → ℕ → Goroutine → Type 0
+AreStatements globals types g = All (IsStatement globals types) g.statements
+
+-- a goroutine's name is spelled as names are
+abbrev pub IsNamed : Goroutine → Type 0
+IsNamed g = is_name g.name ≡ true
+
+abbrev pub statements_in : Goroutine → ℕ
+statements_in g = length g.statements
 
 pub record WellFormed (p : Program) : Type 0 where
-  pub settings : IsSettings p.settings
-  pub shapes : (t : ℕ) → t < length p.shapes → IsShape (shape_at p.shapes t)
-  pub statements : (g n : ℕ) → IfSome (statement_at p g n) (IsStatement p)
-  pub few : (g : ℕ) → length (statements_of p g) ≤ MAX_STATEMENTS
+  pub settings : AreWithin p.settings
+  pub types : length p.shapes ≤ most_types
+  pub shapes : All IsShape p.shapes
+  pub some_goroutine : 1 ≤ length p.goroutines
+  pub few_goroutines : length p.goroutines ≤ most_goroutines
+  pub names : All IsNamed p.goroutines
+  pub statements : All (AreStatements p.settings.globals (length p.shapes)) p.goroutines
+  pub few_statements : sum_by statements_in p.goroutines ≤ most_statements

@@ -33,7 +33,9 @@ pub enum Why {
 #[derive(Clone, Copy, Debug, PartialEq, Eq, Error)]
 #[error("line {line}: {why:?}")]
 pub struct ScriptFault {
+    /// The line's number, from 1; 0 where the cause is no line's.
     pub line: u32,
+    /// The first cause of the table that it meets.
     pub why: Why,
 }
 

@@ -1,21 +1,34 @@
 //! Scripts of goroutines: what they say, and how a text spells them.
 //!
-//! [`Script`] is what a script says, whichever text spells it, and [`parse`] takes a text. This is the
-//! first form of a script: one goroutine, and four kinds of statement.
+//! A script gives settings and the shapes of types, and then the statements of a goroutine. The
+//! grammar stands in specs/Grammar.antt: a text is read line by line, and each line is refused for
+//! the first cause of a table that it meets. [`parse`] answers what that grammar says of a text,
+//! both ways: a script exactly where the text spells it, a fault exactly where it is refused so.
+//! [`script_form`] says the same without the reading line by line: which lines a script has, and
+//! what they say (specs/Form.antt).
+//! The heap has no use of the text once it is parsed, so a [`Script`] keeps only what was said.
+//!
+//! `repeat`, `gc`, a second goroutine and more than one processor or worker are refused for now.
 #![tactic(auto)]
 
+mod cause;
+mod draft;
 mod fault;
-mod laws;
-mod limits;
-mod parser;
+mod form;
+mod given;
+mod goroutine;
+mod key;
+mod line;
 mod reading;
+mod saying;
 mod script;
+mod shape_text;
 mod statement;
+mod word;
 
 pub use fault::{ParseError, ScriptFault, Why};
-pub use laws::{spelled_is_not_refused, spelled_or_refused, spells_one_script};
-pub use limits::{MAX_BYTES, MAX_DIGITS, MAX_FIELD, MAX_STATEMENTS, REGISTERS};
-pub use parser::parse;
+pub use form::script_form;
+pub use reading::{MOST_BYTES, one_reading, parse};
 pub use script::Script;
 pub use statement::{Settings, Stmt};
 

@@ -1,185 +1,162 @@
-//! The parser's readers: each takes what it reads from the front of the bytes, and gives what is left.
+//! A text is read line by line, up to the first line that can't be continued.
 
-ghost use Rattle.std.specs.Prelude.{◌≡◌, option_copied, SomeIff, ◌<◌, ◌^◌, length};
-ghost use Rattle.std.specs.List.{prefix_len};
-ghost use Rattle.std.specs.Char.{is_ascii_digit};
-ghost use Rattle.gh_script.specs.Form.{value_of};
-ghost use Rattle.gh_script.specs.Reading.{seen, after, ten_at, one_at, register_at, register_then, number_at, number_then, field_then, new_at, load_at, store_at, int_at, statement_at};
+ghost use Rattle.std.specs.Prelude.{◌≡◌, ◌+◌, ◌≤◌, ◌<◌, ℕ, ◌⊎◌, List, length, take, IfOk, OnOk, Ok, Err};
+ghost use Rattle.std.specs.Str.{is_utf8};
+ghost use Rattle.gh_script.specs.declared.fault.Why.{Why};
+ghost use Rattle.gh_script.specs.declared.fault.ScriptFault.{ScriptFault};
+ghost use Rattle.gh_script.specs.Limits.{most_bytes};
+ghost use Rattle.gh_script.specs.Program.{Program, WellFormed};
+ghost use Rattle.gh_script.specs.Text.{lines_of, sentence_of, words_of};
+ghost use Rattle.gh_script.specs.Said.{said};
+ghost use Rattle.gh_script.specs.Draft.{IsSound};
+ghost use Rattle.gh_script.specs.Grammar.{is_skipped, read_end, read_line, read_lines, reading_of, Refused, Spells};
+ghost use Rattle.gh_script.specs.Outcome.{Continues, Ends, Faults, ReadsAll, Takes};
 
-use crate::limits::{MAX_DIGITS, MAX_FIELD};
-use crate::statement::Stmt;
+use crate::cause::cause;
+use crate::draft::Draft;
+use crate::fault::{ParseError, ScriptFault, Why};
+use crate::given::settings;
+use crate::line::{Sentence, behind, feed_index, stripped, words};
+use crate::script::Script;
+use crate::word::key;
+use gh_base::Shapes;
+use std::alloc::Global;
 
-/// What follows `word`, where the bytes begin with it.
-pub(crate) fn after<'a>(bytes: &'a [u8], word: &[u8]) -> Option<&'a [u8]>
-    ensures { option_copied result ≡ after word.now bytes.now }
+/// The most bytes of a script.
+pub const MOST_BYTES: usize = 4_194_304;
+
+/// Whether a line is counted and no more.
+fn is_skipped(line: &Sentence) -> bool
+    ensures { result ≡ is_skipped (said line.now) }
 {
-    bytes.strip_prefix(word)
+    line.count == 0 || (!line.first.is_empty() && line.first[0] == b'#')
 }
 
-/// A register whose name begins with `r1`, from behind that on.
-#[tactic(auto, unfolding(crate::specs::Reading::ten_at))]
-fn ten(bytes: &[u8]) -> Option<(u32, &[u8])>
-    ensures { seen result ≡ ten_at bytes.now }
+/// Reads the words of line number `number`.
+#[tactic(auto, unfolding(crate::specs::Grammar::read_line))]
+fn say(alloc: Global, draft: &mut Draft, words: &Sentence, number: u32) -> Result<(), ParseError>
+    requires { IsSound draft.old }
+    ensures { Continues result draft.new number (read_line draft.old (said words.now)) }
 {
-    if let [d, rest @ ..] = bytes {
-        if b'0' <= *d && *d <= b'5' {
-            return Some((u32::from(*d) - 38, rest));
+    if is_skipped(words) {
+        return Ok(());
+    }
+    let Some(key) = key(words.first) else {
+        let why = Why::Word;
+        return Err(ParseError::Script(ScriptFault { line: number, why }));
+    };
+    if let Some(why) = cause(draft, key, words) {
+        return Err(ParseError::Script(ScriptFault { line: number, why }));
+    }
+    draft.go_on(alloc, key, words)?;
+    Ok(())
+}
+
+/// Reads line number `number`.
+fn line(alloc: Global, draft: &mut Draft, text: &[u8], number: u32) -> Result<(), ParseError>
+    requires { IsSound draft.old }
+    ensures { Continues result draft.new number (read_line draft.old (sentence_of (words_of text.now))) }
+{
+    say(alloc, draft, &words(text), number)
+}
+
+/// Reads the lines of a text, and says how many there are.
+fn lines(alloc: Global, draft: &mut Draft, text: &[u8]) -> Result<u32, ParseError>
+    requires sound { IsSound draft.old }
+    requires short { length text.now ≤ most_bytes }
+    ensures all { ReadsAll result draft.new (length (lines_of text.now)) (read_lines draft.old 0 (lines_of text.now)) }
+    ensures sound { OnOk result (IsSound draft.new) }
+{
+    let mut number = 0;
+    let mut rest = text;
+    'lines: while !rest.is_empty() {
+        let end = feed_index(rest);
+        number += 1;
+        if let Err(e) = line(alloc, draft, stripped(&rest[..end]), number) {
+            return Err(e);
         }
+        rest = behind(rest, end);
     }
-    Some((1, bytes))
+    Ok(number)
 }
 
-/// A register of one digit, from behind its `r` on.
-#[tactic(auto, unfolding(crate::specs::Reading::one_at))]
-fn one(bytes: &[u8]) -> Option<(u32, &[u8])>
-    ensures { seen result ≡ one_at bytes.now }
+/// The script of a draft at the end of the text, after so many lines.
+#[tactic(auto, unfolding(crate::specs::Grammar::read_end))]
+fn finish(draft: Draft, lines: u32) -> Result<Script, ParseError>
+    requires { IsSound draft }
+    ensures { Ends result (read_end lines draft) }
 {
-    if let [d, rest @ ..] = bytes {
-        if b'0' <= *d && *d <= b'9' {
-            return Some((u32::from(*d) - 48, rest));
-        }
+    let settings = settings(&draft.given);
+    let Draft {
+        given: _,
+        names: _,
+        shapes,
+        closed,
+        current,
+    } = draft;
+    if current.is_some() {
+        let why = Why::Nesting;
+        return Err(ParseError::Script(ScriptFault { line: lines, why }));
     }
-    None
-}
-
-/// A register.
-#[tactic(auto, unfolding(crate::specs::Reading::register_at))]
-fn register(bytes: &[u8]) -> Option<(u32, &[u8])>
-    ensures { seen result ≡ register_at bytes.now }
-{
-    if let Some(rest) = after(bytes, b"r1") {
-        return ten(rest);
+    if closed.is_empty() {
+        let why = Why::Missing;
+        return Err(ParseError::Script(ScriptFault { line: 0, why }));
     }
-    if let Some(rest) = after(bytes, b"r") {
-        return one(rest);
-    }
-    None
+    Ok(Script {
+        settings,
+        shapes: Shapes { rows: shapes },
+        goroutines: closed,
+    })
 }
 
-/// A register, and then the word.
-#[tactic(auto, unfolding(crate::specs::Reading::register_then))]
-fn register_before<'a>(bytes: &'a [u8], word: &[u8]) -> Option<(u32, &'a [u8])>
-    ensures { seen result ≡ register_then word.now bytes.now }
+fn is_text(bytes: &[u8]) -> bool
+    ensures { result ≡ is_utf8 bytes.now }
 {
-    let (r, rest) = register(bytes)?;
-    let rest = after(rest, word)?;
-    Some((r, rest))
-}
-
-/// How many digits the bytes begin with.
-fn digits(bytes: &[u8]) -> usize
-    ensures { result ≡ prefix_len is_ascii_digit bytes.now }
-{
-    bytes.iter().take_while(|b| b.is_ascii_digit()).count()
-}
-
-/// What digits are worth, if 64 bits hold it.
-fn value(digits: &[u8]) -> Option<u64>
-    ensures { SomeIff result (value_of digits.now < 2 ^ 64) (value_of digits.now) }
-{
-    let mut n: u64 = 0;
-    for d in digits {
-        n = n
-            .checked_mul(10)?
-            .checked_add(u64::from(d.saturating_sub(b'0')))?;
-    }
-    Some(n)
-}
-
-/// A number.
-#[tactic(auto, unfolding(crate::specs::Reading::number_at))]
-fn number(bytes: &[u8]) -> Option<(u64, &[u8])>
-    ensures { seen result ≡ number_at bytes.now }
-{
-    let len = digits(bytes);
-    if len == 0 || len > MAX_DIGITS {
-        return None;
-    }
-    let (front, rest) = bytes.split_at(len);
-    let n = value(front)?;
-    Some((n, rest))
-}
-
-/// A number, and then the word.
-#[tactic(auto, unfolding(crate::specs::Reading::number_then))]
-fn number_before<'a>(bytes: &'a [u8], word: &[u8]) -> Option<(u64, &'a [u8])>
-    ensures { seen result ≡ number_then word.now bytes.now }
-{
-    let (n, rest) = number(bytes)?;
-    let rest = after(rest, word)?;
-    Some((n, rest))
-}
-
-/// The number of a field, and then the word.
-#[tactic(auto, unfolding(crate::specs::Reading::field_then))]
-fn field_before<'a>(bytes: &'a [u8], word: &[u8]) -> Option<(u32, &'a [u8])>
-    ensures { seen result ≡ field_then word.now bytes.now }
-{
-    let (n, rest) = number_before(bytes, word)?;
-    if n <= u64::from(MAX_FIELD) {
-        Some((n as u32, rest))
-    } else {
-        None
+    match str::from_utf8(bytes) {
+        Ok(_) => true,
+        Err(_) => false,
     }
 }
 
-/// `new d node`, from behind its first word on.
-#[tactic(auto, unfolding(crate::specs::Reading::new_at))]
-fn new(bytes: &[u8]) -> Option<(Stmt, &[u8])>
-    ensures { seen result ≡ new_at bytes.now }
+fn read(alloc: Global, text: &[u8]) -> Result<Script, ParseError>
+    ensures { Ends result (reading_of text.now) }
 {
-    let (d, rest) = register_before(bytes, b" node\n")?;
-    Some((Stmt::New { d, t: 0 }, rest))
+    if text.len() > MOST_BYTES {
+        let why = Why::Size;
+        return Err(ParseError::Script(ScriptFault { line: 0, why }));
+    }
+    if !is_text(text) {
+        let why = Why::Utf8;
+        return Err(ParseError::Script(ScriptFault { line: 0, why }));
+    }
+    let mut draft = Draft::blank(alloc);
+    match lines(alloc, &mut draft, text) {
+        Ok(count) => finish(draft, count),
+        Err(e) => Err(e),
+    }
 }
 
-/// `load d b k`, from behind its first word on.
-#[tactic(auto, unfolding(crate::specs::Reading::load_at))]
-fn load(bytes: &[u8]) -> Option<(Stmt, &[u8])>
-    ensures { seen result ≡ load_at bytes.now }
+/// The script that a text spells, or the first line that can't be continued, from 1 (0: no line),
+/// and its first cause.
+///
+/// Every text of at most 4,194,304 bytes spells one script or is refused for one cause; a longer
+/// one is refused as `Size` whatever it holds, so at most 4,194,305 bytes of it are needed.
+pub fn parse(alloc: Global, text: &[u8]) -> Result<Script, ParseError>
+    ensures spelled { IfOk result (λ script. Spells text.now script) }
+    ensures refused { (fault : ScriptFault) → result ≡ Err (ParseError.Script fault) → Refused text.now fault.line fault.why }
+    ensures taken { (program : Program) → Spells text.now program → Takes result program }
+    ensures faulted { (line : ℕ) (why : Why) → Refused text.now line why → Faults result line why }
+    ensures formed { IfOk result WellFormed }
 {
-    let (d, rest) = register_before(bytes, b" ")?;
-    let (b, rest) = register_before(rest, b" ")?;
-    let (k, rest) = field_before(rest, b"\n")?;
-    Some((Stmt::Load { d, b, k }, rest))
+    read(alloc, text)
 }
 
-/// `store b k v`, from behind its first word on.
-#[tactic(auto, unfolding(crate::specs::Reading::store_at))]
-fn store(bytes: &[u8]) -> Option<(Stmt, &[u8])>
-    ensures { seen result ≡ store_at bytes.now }
-{
-    let (b, rest) = register_before(bytes, b" ")?;
-    let (k, rest) = field_before(rest, b" ")?;
-    let (v, rest) = register_before(rest, b"\n")?;
-    Some((Stmt::Store { b, k, v }, rest))
-}
-
-/// `int d n`, from behind its first word on.
-#[tactic(auto, unfolding(crate::specs::Reading::int_at))]
-fn int(bytes: &[u8]) -> Option<(Stmt, &[u8])>
-    ensures { seen result ≡ int_at bytes.now }
-{
-    let (d, rest) = register_before(bytes, b" ")?;
-    let (n, rest) = number_before(rest, b"\n")?;
-    Some((Stmt::Int { d, n }, rest))
-}
-
-/// The statement of the first line.
-#[tactic(auto, unfolding(crate::specs::Reading::statement_at))]
-pub(crate) fn statement(bytes: &[u8]) -> Option<(Stmt, &[u8])>
-    ensures { seen result ≡ statement_at bytes.now }
-{
-    if let Some(rest) = after(bytes, b"new ") {
-        return new(rest);
-    }
-    if let Some(rest) = after(bytes, b"load ") {
-        return load(rest);
-    }
-    if let Some(rest) = after(bytes, b"store ") {
-        return store(rest);
-    }
-    if let Some(rest) = after(bytes, b"int ") {
-        return int(rest);
-    }
-    None
-}
+/// Each text spells one script or is refused once, and never both. Of a text that is too long no byte
+/// counts behind the first that is too many.
+pub fn one_reading()
+    ensures some { (text : List ℕ) → ((program : Program) × Spells text program) ⊎ ((line : ℕ) × (why : Why) × Refused text line why) }
+    ensures not_both { (text : List ℕ) (program : Program) (line : ℕ) (why : Why) → Spells text program → Refused text line why → ⊥ }
+    ensures one_script { (text : List ℕ) (p q : Program) → Spells text p → Spells text q → p ≡ q }
+    ensures one_cause { (text : List ℕ) (m n : ℕ) (v w : Why) → Refused text m v → Refused text n w → (m ≡ n) × (v ≡ w) }
+    ensures cut { (text : List ℕ) → reading_of (take (most_bytes + 1) text) ≡ reading_of text }
+{}

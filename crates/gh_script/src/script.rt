@@ -1,53 +1,48 @@
-//! A script that was taken: its settings, its types, and its one goroutine with its statements.
+//! A script that was taken.
 
-ghost use Rattle.std.specs.Prelude.{◌≡◌, ℕ, ◌<◌, ◌≤◌, length};
-ghost use Rattle.gh_script.specs.Program.{goroutine_at, statement_at, statements_of, one_goroutine, WellFormed};
+ghost use Rattle.std.specs.Prelude.{◌≡◌, ◌<◌, ◌≤◌, length};
+ghost use Rattle.gh_script.specs.Program.{goroutine_at, statement_at, statements_of, WellFormed};
 
+use crate::goroutine::Goroutine;
 use crate::statement::{Settings, Stmt};
 use gh_base::Shapes;
 use std::marker::Model;
 
-/// What a script says: contracts see its settings, its shapes and its goroutines. Every script is
-/// well-formed: it names only registers, types, fields and globals that there are.
+/// What a script says: contracts see its settings, its shapes and its goroutines.
 #[derive(Debug, Drop)]
 pub struct Script {
-    settings: Settings,
-    shapes: Shapes,
-    statements: Vec<Stmt>,
+    pub(crate) settings: Settings,
+    pub(crate) shapes: Shapes,
+    pub(crate) goroutines: Vec<Goroutine>,
 }
 
 impl Model for Script {
-    ghost use Rattle.gh_script.specs.Program.{Program, one_goroutine, WellFormed};
+    ghost use Rattle.gh_script.specs.Program.{Program, WellFormed};
 
     ghost Value = { Program };
 
-    ghost view = { λ s. one_goroutine s.settings s.shapes s.statements.items };
+    ghost view = { λ s. record { settings = s.settings; shapes = s.shapes; goroutines = s.goroutines.items } };
 
-    ghost invariant = { λ s. WellFormed (one_goroutine s.settings s.shapes s.statements.items) };
+    ghost invariant = { λ s. WellFormed (record { settings = s.settings; shapes = s.shapes; goroutines = s.goroutines.items }) };
 }
 
 impl Script {
-    /// A script with one goroutine, named `a`.
-    pub(crate) fn new(settings: Settings, shapes: Shapes, statements: Vec<Stmt>) -> Script
-        requires { WellFormed (one_goroutine settings shapes statements.items) }
-        ensures { result ≡ one_goroutine settings shapes statements.items }
+    /// Each script is within the limits of the language: its settings, its types and their shapes,
+    /// its goroutines and their names, and the numbers of its statements.
+    pub fn is_well_formed(&self)
+        ensures { WellFormed self.now }
     {
-        Script {
-            settings,
-            shapes,
-            statements,
-        }
+        let _settings = self.settings;
     }
 
     /// The settings.
     pub fn settings(&self) -> Settings
-        ensures value { result ≡ self.now.settings }
-        ensures sound { WellFormed self.now }
+        ensures { result ≡ self.now.settings }
     {
         self.settings
     }
 
-    /// The shapes of the types, in the order of the text.
+    /// The shapes of its types, in the order in which it names them.
     pub fn shapes(&self) -> &Shapes
         ensures { result.now ≡ self.now.shapes }
     {
@@ -58,18 +53,16 @@ impl Script {
     pub fn goroutines(&self) -> u32
         ensures { result ≡ length self.now.goroutines }
     {
-        let _ = &self.statements;
-        1
+        self.goroutines.len() as u32
     }
 
-    /// The name of goroutine `g`.
+    /// The name of goroutine `g`, of 1 to 16 bytes.
     pub fn name(&self, g: u32) -> &str
         requires { g < length self.now.goroutines }
         ensures name { result.now ≡ (goroutine_at self.now g).name }
         ensures short { length result.now ≤ 16 }
     {
-        let _ = &self.statements;
-        "a"
+        self.goroutines[g as usize].name()
     }
 
     /// How many statements goroutine `g` has, repetitions written out.
@@ -77,11 +70,11 @@ impl Script {
         requires { g < length self.now.goroutines }
         ensures { result ≡ length (statements_of self.now g) }
     {
-        self.statements.len() as u32
+        self.goroutines[g as usize].len() as u32
     }
 
-    /// The statement number `n` of goroutine `g`, counted from 1, repetitions written out: none
-    /// exactly where `n` is 0 or above their count.
+    /// The statement number `n` of goroutine `g`, counted from 1, repetitions written out; `None`
+    /// exactly where `n` is 0 or above the count.
     pub fn statement(&self, g: u32, n: u32) -> Option<Stmt>
         requires { g < length self.now.goroutines }
         ensures { result ≡ statement_at self.now g n }
@@ -89,7 +82,7 @@ impl Script {
         if n == 0 {
             None
         } else {
-            self.statements.get((n - 1) as usize).copied()
+            self.goroutines[g as usize].statement(n - 1)
         }
     }
 }

@@ -1,142 +1,170 @@
-//! Texts of the form, and texts that are not of it.
+//! Whole texts, their lines parted by `|`, and what they spell or where they are refused.
 
-use crate::{ParseError, ScriptFault, Settings, Stmt, Why, parse};
-use std::alloc::{AllocError, Global};
+use super::*;
+use std::alloc::Global;
 use std::process::Abort;
 use std::test::Fail;
 
-const HEAD: &str = "procs 1\nworkers 1\narena 16\nglobals 1\ngogc 0\ntype node pn\ngo a\n";
-
-const WORD: ScriptFault = ScriptFault {
-    line: 0,
-    why: Why::Word,
-};
-
-fn whole(alloc: Global, body: &str) -> Result<String, AllocError> {
-    format!(in alloc; "{HEAD}{body}end\n")
+/// The text of a row: a line feed for each `|`.
+fn text_of(alloc: Global, row: &str) -> Result<Vec<u8>, Fail> {
+    let mut text = Vec::new(alloc);
+    for b in row.as_bytes() {
+        text.push(if *b == b'|' { b'\n' } else { *b })?;
+    }
+    Ok(text)
 }
 
-fn fault_of(alloc: Global, text: &str) -> Option<ScriptFault> {
-    match parse(alloc, text.as_bytes()) {
-        Err(ParseError::Script(fault)) => Some(fault),
-        _ => None,
+fn refuses(rt: &impl Abort, alloc: Global, text: &[u8], line: u32, why: Why, row: &str) {
+    match parse(alloc, text) {
+        Ok(_) => assert!(rt; false, "taken: {row}"),
+        Err(ParseError::NoMemory) => assert!(rt; false, "no memory: {row}"),
+        Err(ParseError::Script(fault)) => {
+            assert_eq!(rt; fault, ScriptFault { line, why }, "{row}");
+        }
     }
 }
 
-fn many(alloc: Global, count: u32) -> Result<String, AllocError> {
-    let mut body = String::new(alloc);
-    for _ in 0..count {
-        body.push_str("int r0 7\n")?;
+#[test]
+fn bad_scripts_have_their_line_and_cause(rt: HostRuntime) -> Result<(), Fail> {
+    let rows = [
+        ("", 0, Why::Missing),
+        ("# x", 0, Why::Missing),
+        ("procs", 1, Why::Word),
+        ("procs 0", 1, Why::Limit),
+        ("globals 257", 1, Why::Limit),
+        ("gogc 1001", 1, Why::Limit),
+        ("minheap 8388609", 1, Why::Limit),
+        ("arena 15", 1, Why::Limit),
+        ("procs x", 1, Why::Number),
+        ("procs 18446744073709551616", 1, Why::Number),
+        ("arena 000000000000000000100", 1, Why::Number),
+        ("procs 1|procs 99", 2, Why::Limit),
+        ("procs 1|procs 1", 2, Why::Twice),
+        ("type T p", 1, Why::Word),
+        ("type t px", 1, Why::Word),
+        ("type t p*xpq", 1, Why::Word),
+        ("type t *3", 1, Why::Word),
+        ("type a1234567890123456 p", 1, Why::Word),
+        ("type t p*x", 1, Why::Number),
+        ("type t p*", 1, Why::Number),
+        ("type t p*0", 1, Why::Limit),
+        ("type t p*65536n", 1, Why::Limit),
+        ("type t p|type t n", 2, Why::Twice),
+        ("go a", 1, Why::Nesting),
+        ("go a|nil r0|# open|", 3, Why::Nesting),
+        ("go a|new r0 node|end", 2, Why::Unknown),
+        ("go a|nil r16|end", 2, Why::Word),
+        ("go a|nil r00|end", 2, Why::Word),
+        ("go a|gload r0 1|end", 2, Why::Limit),
+        ("go a|store r0 x r16", 2, Why::Word),
+        ("go a|load r0 r1 65536", 2, Why::Limit),
+        ("go a|type t p", 2, Why::Nesting),
+        ("go a|end|procs 1", 3, Why::Nesting),
+        // one goroutine for now: a second `go` is Limit, wherever it stands
+        ("go a|end|go b", 3, Why::Limit),
+        ("go a|go b", 2, Why::Limit),
+        ("go a|go a", 2, Why::Limit),
+        ("end", 1, Why::Nesting),
+        ("nil r0", 1, Why::Nesting),
+        ("go a|gc|end", 2, Why::Word),
+        ("go a|repeat 2|nil r0", 2, Why::Word),
+        ("procs 2", 1, Why::Limit),
+        ("workers 2", 1, Why::Limit),
+        ("\r||# one|\t # two|procs 1\r|procs\t1", 6, Why::Twice),
+        ("go a|end|\r\r", 3, Why::Word),
+        ("go a|end x", 2, Why::Word),
+    ];
+    for (row, line, why) in rows {
+        let text = text_of(rt.alloc(), row)?;
+        refuses(&rt, rt.alloc(), &text, line, why, row);
     }
-    whole(alloc, &body)
-}
-
-fn check_says(
-    rt: &(impl Abort + Alloc<A = Global>),
-    body: &str,
-    want: &[Stmt],
-) -> Result<(), Fail> {
-    let text = whole(rt.alloc(), body)?;
-    let script = parse(rt.alloc(), text.as_bytes())?;
-    assert_eq!(rt; script.goroutines(), 1);
-    assert_eq!(rt; script.name(0), "a");
-    assert_eq!(rt; script.count(0) as usize, want.len(), "{body}");
-    for n in 0..6u32 {
-        let at = (n as usize).wrapping_sub(1);
-        assert_eq!(rt; script.statement(0, n), want.get(at).copied(), "{body}");
-    }
+    refuses(&rt, rt.alloc(), &[255], 0, Why::Utf8, "the byte FF");
     Ok(())
 }
 
 #[test]
-fn says_what_is_spelled(rt: HostRuntime) -> Result<(), Fail> {
-    check_says(
-        &rt,
-        "new r0 node\nint r1 7\nstore r0 1 r1\nload r2 r0 1\n",
-        &[
-            Stmt::New { d: 0, t: 0 },
-            Stmt::Int { d: 1, n: 7 },
-            Stmt::Store { b: 0, k: 1, v: 1 },
-            Stmt::Load { d: 2, b: 0, k: 1 },
-        ],
-    )?;
-    check_says(&rt, "", &[])?;
-    check_says(
-        &rt,
-        "int r0 18446744073709551615\nint r15 007\nload r9 r10 00000000000000065535\n",
-        &[
-            Stmt::Int {
-                d: 0,
-                n: 18_446_744_073_709_551_615,
-            },
-            Stmt::Int { d: 15, n: 7 },
-            Stmt::Load {
-                d: 9,
-                b: 10,
-                k: 65_535,
-            },
-        ],
-    )
-}
-
-#[test]
-fn says_its_settings_and_its_type(rt: HostRuntime) -> Result<(), Fail> {
-    let text = many(rt.alloc(), 1000)?;
-    let script = parse(rt.alloc(), text.as_bytes())?;
-    let want = Settings {
+fn a_script_says_its_settings_types_and_statements(rt: HostRuntime) -> Result<(), Fail> {
+    let row =
+        "  type wide p*2n*63p\r||# all|gogc 007|globals 3|arena 16|type t n|go a1\t|\tnew r15 t\r|load r0 r1 65535|store r2 3 r4|gload r5 2|gstore 0 r6|int r7 18446744073709551615|move r8 r9|nil r10|end";
+    let text = text_of(rt.alloc(), row)?;
+    let script = parse(rt.alloc(), &text).ok().ok_or("it is a script")?;
+    let settings = Settings {
         procs: 1,
         workers: 1,
         arena: 16,
-        globals: 1,
-        gogc: 0,
+        globals: 3,
+        gogc: 7,
         minheap: 32_768,
     };
-    assert_eq!(rt; script.settings(), want);
-    assert_eq!(rt; script.goroutines(), 1);
-    assert_eq!(rt; script.count(0), 1000);
+    assert_eq!(rt; script.settings(), settings);
     let shapes = script.shapes();
-    assert_eq!(rt; shapes.count(), 1);
-    assert_eq!(rt; shapes.words(0), 2);
-    assert_eq!(rt; shapes.noscan(0), false);
-    assert_eq!(rt; shapes.bits(0, 0), 1);
+    assert!(rt; shapes.count() == 2);
+    assert_eq!(rt; shapes.words(0), 66);
+    assert_eq!(rt; shapes.bits(0, 0), 3);
+    assert_eq!(rt; shapes.bits(0, 1), 2);
+    assert!(rt; !shapes.noscan(0) && shapes.noscan(1));
+    assert!(rt; script.goroutines() == 1);
+    assert_eq!(rt; script.name(0), "a1");
+    assert_eq!(rt; script.count(0), 8);
+    let statements = [
+        None,
+        Some(Stmt::New { d: 15, t: 1 }),
+        Some(Stmt::Load {
+            d: 0,
+            b: 1,
+            k: 65_535,
+        }),
+        Some(Stmt::Store { b: 2, k: 3, v: 4 }),
+        Some(Stmt::GetGlobal { d: 5, k: 2 }),
+        Some(Stmt::SetGlobal { k: 0, v: 6 }),
+        Some(Stmt::Int { d: 7, n: u64::MAX }),
+        Some(Stmt::Move { d: 8, s: 9 }),
+        Some(Stmt::Nil { d: 10 }),
+        None,
+    ];
+    for (n, statement) in (0..10).zip(statements) {
+        assert_eq!(rt; script.statement(0, n), statement, "statement {n}");
+    }
     Ok(())
 }
 
+/// A goroutine of so many lines `nil r0`, up to `end`.
+fn many(alloc: Global, lines: u32) -> Result<Vec<u8>, Fail> {
+    let mut text = Vec::new(alloc);
+    text.extend_from_slice(b"go a\n")?;
+    for _ in 0..lines {
+        text.extend_from_slice(b"nil r0\n")?;
+    }
+    text.extend_from_slice(b"end")?;
+    Ok(text)
+}
+
 #[test]
-fn refuses_what_is_not_spelled(rt: HostRuntime) -> Result<(), Fail> {
-    for body in [
-        "new r0 node\r\n",
-        "new  r0 node\n",
-        " new r0 node\n",
-        "new r0 node \n",
-        "new r0 box\n",
-        "int r16 7\n",
-        "int r00 7\n",
-        "int r01 7\n",
-        "int r 7\n",
-        "int r0 \n",
-        "int r0 7 7\n",
-        "int r0 18446744073709551616\n",
-        "int r0 000000000000000000007\n",
-        "load r0 r1 65536\n",
-        "load r0 1 r1\n",
-        "store r0 r1 1\n",
-        "gc\n",
-        "\n",
-        "end\n",
-        "int r0 7",
-    ] {
-        let text = whole(rt.alloc(), body)?;
-        assert_eq!(rt; fault_of(rt.alloc(), &text), Some(WORD), "{body}");
+fn limits_hold_to_the_last_byte(rt: HostRuntime) -> Result<(), Fail> {
+    let text = many(rt.alloc(), 200_000)?;
+    let script = parse(rt.alloc(), &text).ok().ok_or("200,000 statements")?;
+    assert!(rt; script.goroutines() == 1);
+    assert_eq!(rt; script.count(0), 200_000);
+    let text = many(rt.alloc(), 200_001)?;
+    refuses(
+        &rt,
+        rt.alloc(),
+        &text,
+        200_003,
+        Why::Limit,
+        "200,001 statements",
+    );
+
+    let mut text = vec![in rt.alloc(); b'#'; 4_194_304]?;
+    refuses(&rt, rt.alloc(), &text, 0, Why::Missing, "the longest text");
+    text.push(b'#')?;
+    refuses(&rt, rt.alloc(), &text, 0, Why::Size, "one byte more");
+
+    let mut text = Vec::new(rt.alloc());
+    for i in 0..65 {
+        let line = format!(in rt.alloc(); "type t{i} n*65536\n")?;
+        text.extend_from_slice(line.as_bytes())?;
     }
-    for text in ["", "end\n", HEAD] {
-        assert_eq!(rt; fault_of(rt.alloc(), text), Some(WORD), "{text}");
-    }
-    for tail in ["end", "end\r\n", "end\n\n", "end\ngo b\nend\n"] {
-        let text = format!(in rt.alloc(); "{HEAD}{tail}")?;
-        assert_eq!(rt; fault_of(rt.alloc(), &text), Some(WORD), "{tail}");
-    }
-    let text = many(rt.alloc(), 1001)?;
-    assert_eq!(rt; fault_of(rt.alloc(), &text), Some(WORD));
+    refuses(&rt, rt.alloc(), &text, 65, Why::Limit, "the 65th type");
     Ok(())
 }

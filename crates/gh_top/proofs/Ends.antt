@@ -1,26 +1,115 @@
 -- How a call ends, by what it found.
-use Rattle.std.proofs.Common.{◌≡◌, ℕ, ◌⊎◌, inl, inr, List, refl}
+use Rattle.std.proofs.Common.{◌≡◌, ℕ, ◌⊎◌, inl, inr, List, Some, refl, sym, subst, ◌∙◌}
+use Rattle.gh_base.specs.declared.value.Answer.{Answer}
+use Rattle.gh_replay.specs.Replayed.{IsReplayed, IsUnfinished, NotBoth}
 use Rattle.gh_script.specs.declared.fault.Why.{Why}
 use Rattle.gh_script.specs.Program.{Program}
-use Rattle.gh_script.specs.Form.{Spells, Refused}
+use Rattle.gh_script.specs.Grammar.{Spells, Refused}
+use Rattle.gh_top.specs.declared.line.Line.TheVariants.{Replay}
 use Rattle.gh_top.specs.declared.status.Status.TheVariants as statuses
 use Rattle.gh_top.specs.declared.found.Found.{Found}
-use Rattle.gh_top.specs.declared.found.Found.TheVariants.{BadWords, BadScript, Ran, ReadFault, NoMemory}
-use Rattle.gh_top.specs.Outcome.{IsReplay}
-use Rattle.gh_top.specs.Found.{MatchesWords, MatchesText, status_of}
+use Rattle.gh_top.specs.declared.found.Found.TheVariants.{BadWords, BadScript, Ran, OutOfTurns, ReadFault, NoMemory}
+use Rattle.gh_top.specs.Outcome.{AreRefused, IsReplay, IsTelling, Says}
+use Rattle.gh_top.specs.Found.{IsSilent, Matches, said_of, status_of}
 
--- a text that spells a script
-pub spelled-ends : (words : List (List ℕ)) (text : List ℕ) (p : Program) (f : Found) → MatchesWords words f → MatchesText text f → (f ≡ ReadFault → ⊥) → IsReplay words → Spells text p → (status_of f ≡ statuses.Ok) ⊎ (status_of f ≡ statuses.NoMemory)
-spelled-ends words text p BadWords w t read replay spelled = absurd (w replay)
-spelled-ends words text p (BadScript fault) w t read replay spelled = absurd (t.spells_none p spelled)
-spelled-ends words text p (Ran q answers) w t read replay spelled = inl refl
-spelled-ends words text p ReadFault w t read replay spelled = absurd (read refl)
-spelled-ends words text p NoMemory w t read replay spelled = inr refl
+taken-not-refused : (words : List (List ℕ)) (budget : ℕ) → IsReplay words budget → AreRefused words → ⊥
+taken-not-refused words budget w r = absurd (let e = sym w ∙ r in cc)
 
--- a text that spells none
-pub refused-ends : (words : List (List ℕ)) (text : List ℕ) (line : ℕ) (why : Why) (f : Found) → MatchesWords words f → MatchesText text f → (f ≡ ReadFault → ⊥) → IsReplay words → Refused text line why → (status_of f ≡ statuses.BadScript) ⊎ (status_of f ≡ statuses.NoMemory)
-refused-ends words text line why BadWords w t read replay refused = absurd (w replay)
-refused-ends words text line why (BadScript fault) w t read replay refused = inl refl
-refused-ends words text line why (Ran q answers) w t read replay refused = absurd (refused.spells_none q t.0)
-refused-ends words text line why ReadFault w t read replay refused = absurd (read refl)
-refused-ends words text line why NoMemory w t read replay refused = inr refl
+same-budget : (words : List (List ℕ)) (m n : ℕ) → IsReplay words m → IsReplay words n → m ≡ n
+same-budget words m n v w = let e : Some (Replay m) ≡ Some (Replay n) = sym v ∙ w in cc
+
+-- words that are not taken
+pub words-end : (words : List (List ℕ)) (text : List ℕ) (f : Found) → Matches words text f → AreRefused words → (status_of f ≡ statuses.BadWords) ⊎ (status_of f ≡ statuses.NoMemory)
+words-end words text BadWords m r = inl refl
+words-end words text (BadScript fault) m r = absurd (taken-not-refused words m.0 m.1 r)
+words-end words text (Ran p answers) m r = absurd (taken-not-refused words m.0 m.1 r)
+words-end words text (OutOfTurns n) m r = absurd (taken-not-refused words m.0 m.1 r)
+words-end words text ReadFault m r = absurd (taken-not-refused words m.0 m.1 r)
+words-end words text NoMemory m r = inr refl
+
+pub words-refused : (words : List (List ℕ)) (text : List ℕ) (f : Found) → Matches words text f → status_of f ≡ statuses.BadWords → AreRefused words
+words-refused words text BadWords m e = m
+words-refused words text (BadScript fault) m e = absurd cc
+words-refused words text (Ran p answers) m e = absurd cc
+words-refused words text (OutOfTurns n) m e = absurd cc
+words-refused words text ReadFault m e = absurd cc
+words-refused words text NoMemory m e = absurd cc
+
+-- a read follows words that are taken
+pub read-taken : (words : List (List ℕ)) (text : List ℕ) (f : Found) → Matches words text f → status_of f ≡ statuses.ReadFault → AreRefused words → ⊥
+read-taken words text BadWords m e r = absurd cc
+read-taken words text (BadScript fault) m e r = absurd cc
+read-taken words text (Ran p answers) m e r = absurd cc
+read-taken words text (OutOfTurns n) m e r = absurd cc
+read-taken words text ReadFault m e r = taken-not-refused words m.0 m.1 r
+read-taken words text NoMemory m e r = absurd cc
+
+pub is-read-fault : (f : Found) → status_of f ≡ statuses.ReadFault → f ≡ ReadFault
+is-read-fault BadWords e = absurd cc
+is-read-fault (BadScript fault) e = absurd cc
+is-read-fault (Ran p answers) e = absurd cc
+is-read-fault (OutOfTurns n) e = absurd cc
+is-read-fault ReadFault e = refl
+is-read-fault NoMemory e = absurd cc
+
+module _ (not_both : (text : List ℕ) (p : Program) (line : ℕ) (why : Why) → Spells text p → Refused text line why → ⊥) where
+  -- a text that spells a script
+  pub spelled-ends : (words : List (List ℕ)) (text : List ℕ) (budget : ℕ) (p : Program) (f : Found) → Matches words text f → (f ≡ ReadFault → ⊥) → IsReplay words budget → Spells text p
+      → (status_of f ≡ statuses.Ok) ⊎ (status_of f ≡ statuses.OutOfTurns) ⊎ (status_of f ≡ statuses.NoMemory)
+  spelled-ends words text budget p BadWords m read replay spelled = absurd (taken-not-refused words budget replay m)
+  spelled-ends words text budget p (BadScript fault) m read replay spelled = absurd (not_both text p fault.line fault.why spelled m.2)
+  spelled-ends words text budget p (Ran q answers) m read replay spelled = inl refl
+  spelled-ends words text budget p (OutOfTurns n) m read replay spelled = inr (inl refl)
+  spelled-ends words text budget p ReadFault m read replay spelled = absurd (read refl)
+  spelled-ends words text budget p NoMemory m read replay spelled = inr (inr refl)
+
+  -- a text that spells none
+  pub refused-ends : (words : List (List ℕ)) (text : List ℕ) (budget line : ℕ) (why : Why) (f : Found) → Matches words text f → (f ≡ ReadFault → ⊥) → IsReplay words budget → Refused text line why
+      → (status_of f ≡ statuses.BadScript) ⊎ (status_of f ≡ statuses.NoMemory)
+  refused-ends words text budget line why BadWords m read replay refused = absurd (taken-not-refused words budget replay m)
+  refused-ends words text budget line why (BadScript fault) m read replay refused = inl refl
+  refused-ends words text budget line why (Ran q answers) m read replay refused = absurd (not_both text q line why m.2.0 refused)
+  refused-ends words text budget line why (OutOfTurns n) m read replay refused = absurd (not_both text m.2.1 line why m.2.2 refused)
+  refused-ends words text budget line why ReadFault m read replay refused = absurd (read refl)
+  refused-ends words text budget line why NoMemory m read replay refused = inr refl
+
+module _ (one_script : (text : List ℕ) (p q : Program) → Spells text p → Spells text q → p ≡ q) (never : NotBoth) where
+  -- a run that ends within the budget is not out of turns
+  pub replayed-tells : (words : List (List ℕ)) (text : List ℕ) (budget : ℕ) (p : Program) (answers : List Answer) (f : Found) → Matches words text f → IsReplay words budget → Spells text p → IsReplayed p budget answers → status_of f ≡ statuses.OutOfTurns → ⊥
+  replayed-tells words text budget p answers BadWords m replay spelled r e = absurd cc
+  replayed-tells words text budget p answers (BadScript fault) m replay spelled r e = absurd cc
+  replayed-tells words text budget p answers (Ran q others) m replay spelled r e = absurd cc
+  replayed-tells words text budget p answers (OutOfTurns n) m replay spelled r e =
+      let u : IsUnfinished p m.0 = subst (λ (q : Program). IsUnfinished q m.0) (one_script text m.2.1 p m.2.2 spelled) m.2.3 in
+      never p budget answers r (subst (λ (n : ℕ). IsUnfinished p n) (same-budget words m.0 budget m.1 replay) u)
+  replayed-tells words text budget p answers ReadFault m replay spelled r e = absurd cc
+  replayed-tells words text budget p answers NoMemory m replay spelled r e = absurd cc
+
+  -- and one that does not is not told
+  pub unfinished-tells : (words : List (List ℕ)) (text : List ℕ) (budget : ℕ) (p : Program) (f : Found) → Matches words text f → IsReplay words budget → Spells text p → IsUnfinished p budget → status_of f ≡ statuses.Ok → ⊥
+  unfinished-tells words text budget p BadWords m replay spelled u e = absurd cc
+  unfinished-tells words text budget p (BadScript fault) m replay spelled u e = absurd cc
+  unfinished-tells words text budget p (Ran q answers) m replay spelled u e =
+      let r : IsReplayed p m.0 answers.items = subst (λ (x : Program). IsReplayed x m.0 answers.items) (one_script text q p m.2.0 spelled) m.2.1 in
+      never p budget answers.items (subst (λ (n : ℕ). IsReplayed p n answers.items) (same-budget words m.0 budget m.1 replay) r) u
+  unfinished-tells words text budget p (OutOfTurns n) m replay spelled u e = absurd cc
+  unfinished-tells words text budget p ReadFault m replay spelled u e = absurd cc
+  unfinished-tells words text budget p NoMemory m replay spelled u e = absurd cc
+
+-- what was found is what may be said
+pub says : (words : List (List ℕ)) (text : List ℕ) (f : Found) → Matches words text f → IsTelling (status_of f) → Says words text (status_of f) (said_of f)
+says words text BadWords m telling = (m, refl)
+says words text (BadScript fault) m telling = (m.0, m.1, fault.line, fault.why, m.2, refl)
+says words text (Ran p answers) m telling = (m.0, m.1, p, m.2.0, answers.items, m.2.1, refl)
+says words text (OutOfTurns n) m telling = (m.0, m.1, m.2.1, m.2.2, m.2.3, rw m.2.0 refl)
+says words text ReadFault m telling = absurd telling
+says words text NoMemory m telling = absurd telling
+
+-- what is not silent tells
+pub telling : (f : Found) → (IsSilent f → ⊥) → IsTelling (status_of f)
+telling BadWords loud = tt
+telling (BadScript fault) loud = tt
+telling (Ran p answers) loud = tt
+telling (OutOfTurns n) loud = tt
+telling ReadFault loud = absurd (loud tt)
+telling NoMemory loud = absurd (loud tt)

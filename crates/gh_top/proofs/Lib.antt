@@ -1,6 +1,5 @@
-pub mod Sound
-pub mod Standing
-pub mod Midway
+pub mod Owning
+pub mod Words
 pub mod Texts
 pub mod Lines
 pub mod Ends

@@ -1,78 +1,42 @@
 -- From a text to what it says.
-use Rattle.std.proofs.Common.{◌≡◌, ℕ, Bool, true, false, get_or, ◌+◌, ◌<◌, ◌≤◌, List, [], ◌∷◌, length, take, Option, Some, None, refl, sym, ap, subst, ◌∙◌, arith, length-take, lit<}
-use Rattle.std.specs.Prelude.{◌↔◌, IsTrue, codes}
-use Rattle.std.specs.Borrow.{Bor}
-use Rattle.std.specs.Str.{bytes_eq}
-use Rattle.std.proofs.lemmas.Bool.{false≢true}
-use Rattle.std.proofs.lemmas.Slice.Eq.{bytes_eq-Decides}
-use Rattle.std.specs.List.{AllByRecursion, AllZip}
+use Rattle.std.proofs.Common.{◌≡◌, ℕ, ◌+◌, ◌<◌, ◌≤◌, ◌^◌, List, [], length, map, Option, Some, None, sym, ap, subst, ◌∙◌, arith}
+use Rattle.std.specs.List.{All}
 use Rattle.std.specs.Io.KnownBytes.{Consumes, IsAtEnd}
-use Rattle.std.proofs.lemmas.List.{take_all}
-use Rattle.gh_script.specs.declared.limits.TheConstants.{MAX_BYTES}
-use Rattle.gh_script.specs.declared.statement.Stmt.{Stmt}
-use Rattle.gh_script.specs.declared.statement.Stmt.TheVariants as stmts
-use Rattle.gh_script.specs.Program.{Program}
-use Rattle.gh_script.specs.Form.{Spells, SpellsStatement}
+use Rattle.std.proofs.lemmas.List.{length-map}
+use Rattle.std.proofs.lemmas.List.Sums.{get_or-le-sum_by}
+use Rattle.gh_base.specs.declared.value.Answer.{Answer}
+use Rattle.gh_lines.specs.Text.{MakerStands}
+use Rattle.gh_model.specs.Ever.{opening_ever}
+use Rattle.gh_model.specs.Answers.{AllAnswer}
+use Rattle.gh_replay.specs.Replayed.{IsReplayed}
+use Rattle.gh_script.specs.declared.reading.TheConstants.{MOST_BYTES}
+use Rattle.gh_script.specs.Limits.{most_bytes}
+use Rattle.gh_script.specs.Program.{Program, WellFormed, no_goroutine, statements_in, statements_of, op_of}
+use Rattle.gh_script.specs.Grammar.{reading_of, Spells}
 use Rattle.gh_top.specs.declared.found.Found.{Found}
-use Rattle.gh_top.specs.declared.found.Found.TheVariants.{BadWords, BadScript, Ran, ReadFault, NoMemory}
-use Rattle.gh_top.specs.Words.{IsSimple}
-use Rattle.gh_top.specs.Outcome.{IsReplay, texts}
-use Rattle.gh_top.specs.Found.{IsSupported, MatchesText, IsRan}
+use Rattle.gh_top.specs.declared.found.Found.TheVariants.{BadWords, BadScript, Ran, OutOfTurns, ReadFault, NoMemory}
+use Rattle.gh_top.specs.Found.{Matches, MatchesText, IsRan}
+use Rattle.gh_top.specs.Outcome.{IsReplay}
+use Rattle.gh_top.proofs.Owning.{answers_long, answers_stand}
 
--- ---- a spelled script is one that the heap of words can run
-
-simple-line : (line : List ℕ) (s : Stmt) → SpellsStatement line s → IsSimple s
-simple-line line (stmts.New d t) h = (h.0, h.1)
-simple-line line (stmts.Load d b k) h = (h.0, h.1)
-simple-line line (stmts.Store b k v) h = (h.0, h.1)
-simple-line line (stmts.Int d n) h = h.0
-simple-line line (stmts.GetGlobal d k) h = absurd h
-simple-line line (stmts.SetGlobal k v) h = absurd h
-simple-line line (stmts.Move d s) h = absurd h
-simple-line line (stmts.Nil d) h = absurd h
-simple-line line stmts.Gc h = absurd h
-
-simple-lines : (lines : List (List ℕ)) (ss : List Stmt) → AllZip SpellsStatement lines ss → AllByRecursion IsSimple ss
-simple-lines [] [] h = tt
-simple-lines [] (s ∷ ss) h = absurd h
-simple-lines (line ∷ lines) [] h = absurd h
-simple-lines (line ∷ lines) (s ∷ ss) h = (simple-line line s h.0, simple-lines lines ss h.1)
-
-pub spells-supported : (text : List ℕ) (p : Program) → Spells text p → IsSupported p
-spells-supported text p s = subst IsSupported (sym s.says) (record {
-  goroutine = lit< tt;
-  shapes = refl;
-  statements = simple-lines s.lines s.statements s.each;
-})
+-- what the replay of a script answers can be told
+pub tellable : (p : Program) (budget : ℕ) (xs : List Answer) → WellFormed p → IsReplayed p budget xs → (0 < length p.goroutines) × All (MakerStands p) xs × (length xs < 2 ^ 32)
+tellable p budget xs formed r =
+    let all : AllAnswer p.shapes opening_ever (map (op_of 0) (statements_of p 0)) xs = r.explained.ever in
+    let few : length (statements_of p 0) ≤ 200000 = omega (arith, get_or-le-sum_by statements_in p.goroutines 0 no_goroutine formed.some_goroutine, formed.few_statements) in
+    let long : length xs ≡ length (statements_of p 0) = answers_long p.shapes opening_ever (map (op_of 0) (statements_of p 0)) xs all ∙ length-map (statements_of p 0) (op_of 0) in
+    (omega (arith, formed.some_goroutine), answers_stand p xs (omega (arith, formed.some_goroutine)) all, omega (arith, few, long))
 
 -- ---- a text that was read as far as a script may go is the whole text, or too long for a script
 
-short-whole : (text : List ℕ) → length text ≤ MAX_BYTES → take (MAX_BYTES + 1) text ≡ text
-short-whole text l = take_all (MAX_BYTES + 1) text (omega arith)
-
-spelled-whole : (text : List ℕ) (p : Program) → Spells (take (MAX_BYTES + 1) text) p → take (MAX_BYTES + 1) text ≡ text
-spelled-whole text p s = short-whole text (omega (arith, s.short, length-take (MAX_BYTES + 1) text))
-
-pub matches-whole : (text bytes : List ℕ) (f : Found) → bytes ≡ take (MAX_BYTES + 1) text → MatchesText bytes f → MatchesText text f
-matches-whole text bytes BadWords e h = tt
-matches-whole text bytes (BadScript f) e h = record {
-  at = h.at;
-  cause = h.cause;
-  spells_none = λ p s. h.spells_none p (subst (λ t. Spells t p) (sym (e ∙ short-whole text s.short)) s);
-}
-matches-whole text bytes (Ran p answers) e h =
-    let cut : Spells (take (MAX_BYTES + 1) text) p = subst (λ t. Spells t p) e h.0 in
-    (subst (λ t. Spells t p) (spelled-whole text p cut) cut, h.1)
-matches-whole text bytes ReadFault e h = tt
-matches-whole text bytes NoMemory e h = tt
-
--- a text that was run ended before the limit
-pub ran-short : (bytes : List ℕ) (f : Found) → MatchesText bytes f → IsRan f → length bytes < MAX_BYTES + 1
-ran-short bytes BadWords h r = absurd r
-ran-short bytes (BadScript f) h r = absurd r
-ran-short bytes (Ran p answers) h r = omega (arith, h.0.short)
-ran-short bytes ReadFault h r = absurd r
-ran-short bytes NoMemory h r = absurd r
+-- what is found of a text is found of any that is read the same
+pub matches-same : (budget : ℕ) (a b : List ℕ) (f : Found) → reading_of a ≡ reading_of b → MatchesText budget a f → MatchesText budget b f
+matches-same budget a b BadWords e h = h
+matches-same budget a b (BadScript f) e h = sym e ∙ h
+matches-same budget a b (Ran p answers) e h = (sym e ∙ h.0, h.1)
+matches-same budget a b (OutOfTurns n) e h = (h.0, h.1, sym e ∙ h.2, h.3)
+matches-same budget a b ReadFault e h = h
+matches-same budget a b NoMemory e h = h
 
 -- a source that told its bytes tells that none are left
 pub end-told : (before after : Option (List ℕ)) (text bytes : List ℕ) → before ≡ Some text → Consumes before after bytes → IsAtEnd after → after ≡ Some []
@@ -81,20 +45,20 @@ end-told before after text bytes told consumed end = go after (subst (λ o. Cons
   go None c e = absurd c
   go (Some rest) c e = ap Some e
 
-pub ruleset texts_read = (spells-supported, matches-whole, ran-short)
+-- a text that was run ended before the limit
+pub ran-short : (spelled-short : (text : List ℕ) (p : Program) → Spells text p → length text ≤ most_bytes) (budget : ℕ) (bytes : List ℕ) (f : Found) → MatchesText budget bytes f → IsRan f → length bytes < MOST_BYTES + 1
+ran-short short budget bytes BadWords h r = absurd r
+ran-short short budget bytes (BadScript f) h r = absurd r
+ran-short short budget bytes (Ran p answers) h r = omega (arith, short bytes p h.0)
+ran-short short budget bytes (OutOfTurns n) h r = omega (arith, short bytes h.1 h.2)
+ran-short short budget bytes ReadFault h r = absurd r
+ran-short short budget bytes NoMemory h r = absurd r
 
--- ---- the words
-
-pub replay-words : (words : List (Bor (List ℕ))) (r : Bool) (d : Bor (List ℕ)) → length words ≡ 2 → r ≡ bytes_eq (get_or words 1 d).now (codes "replay") → IsTrue r ↔ IsReplay (texts words)
-replay-words [] r d two e = absurd (omega arith)
-replay-words (a ∷ []) r d two e = absurd (omega arith)
-replay-words (a ∷ b ∷ []) r d two e = go r e where
-  word : List ℕ
-  word = codes "replay"
-
-  go : (r : Bool) → r ≡ bytes_eq b.now word → IsTrue r ↔ IsReplay (a.now ∷ b.now ∷ [])
-  go true e = (λ _. (refl, ap Some ((bytes_eq-Decides b.now word).0 (sym e))), λ _. refl)
-  go false e = (λ t. absurd (false≢true t), λ h. absurd (false≢true (e ∙ (bytes_eq-Decides b.now word).1 (same h.1)))) where
-    same : Some b.now ≡ Some word → b.now ≡ word
-    same q = cc
-replay-words (a ∷ b ∷ c ∷ ws) r d two e = absurd (omega arith)
+-- what is found of a text under the budget of the words is found for the words
+pub matches-words : (words : List (List ℕ)) (text : List ℕ) (budget : ℕ) (f : Found) → IsReplay words budget → MatchesText budget text f → Matches words text f
+matches-words words text budget BadWords w h = absurd h
+matches-words words text budget (BadScript f) w h = (budget, w, h)
+matches-words words text budget (Ran p answers) w h = (budget, w, h)
+matches-words words text budget (OutOfTurns n) w h = (budget, w, h)
+matches-words words text budget ReadFault w h = (budget, w, h)
+matches-words words text budget NoMemory w h = tt

@@ -1,44 +1,42 @@
 -- What a call has found before it writes anything.
 use Rattle.std.specs.Prelude.{◌≡◌, ℕ, ◌^◌, ◌<◌, List, [], ◌∷◌, length, All}
-use Rattle.std.specs.List.{AllByRecursion}
-use Rattle.gh_lines.specs.Text.{MakerStands, answers_text, refusal_line, words_refused_line}
-use Rattle.gh_script.specs.Program.{Program, statements_of}
-use Rattle.gh_script.specs.Form.{Spells, Refused}
+use Rattle.gh_lines.specs.Text.{MakerStands, answers_text, refusal_line, turns_line, words_refused_line}
+use Rattle.gh_replay.specs.Replayed.{IsReplayed, IsUnfinished}
+use Rattle.gh_script.specs.Program.{Program}
+use Rattle.gh_script.specs.Grammar.{Spells, Refused}
 use Rattle.gh_top.specs.declared.status.Status.{Status}
 use Rattle.gh_top.specs.declared.status.Status.TheVariants as statuses
 use Rattle.gh_top.specs.declared.found.Found.{Found}
-use Rattle.gh_top.specs.declared.found.Found.TheVariants.{BadWords, BadScript, Ran, ReadFault, NoMemory}
-use Rattle.gh_top.specs.Stands.{node_shapes}
-use Rattle.gh_top.specs.Words.{IsSimple}
-use Rattle.gh_top.specs.Outcome.{IsReplay, answers_of}
+use Rattle.gh_top.specs.declared.found.Found.TheVariants.{BadWords, BadScript, Ran, OutOfTurns, ReadFault, NoMemory}
+use Rattle.gh_top.specs.Outcome.{IsReplay, AreRefused}
 
--- a script that the heap of words can run: one type of two words, and the four statements in one goroutine
-pub record IsSupported (p : Program) : Type 0 where
-  pub goroutine : 0 < length p.goroutines
-  pub shapes : p.shapes ≡ node_shapes
-  pub statements : AllByRecursion IsSimple (statements_of p 0)
+-- a script that was run is the one that the text spells, run under this budget, and a text that was refused spells none
+abbrev pub MatchesText : ℕ → List ℕ → Found → Type 0
+MatchesText budget text (BadScript f) = Refused text f.line f.why
+MatchesText budget text (Ran p answers) = Spells text p × IsReplayed p budget answers.items
+MatchesText budget text (OutOfTurns n) = (n ≡ budget) × (p : Program) × Spells text p × IsUnfinished p budget
+MatchesText budget text BadWords = ⊥
+MatchesText budget text ReadFault = Unit {0}
+MatchesText budget text NoMemory = Unit {0}
 
--- the command line is taken unless its words are refused
-abbrev pub MatchesWords : List (List ℕ) → Found → Type 0
-MatchesWords words BadWords = ¬ IsReplay words
-MatchesWords words _ = IsReplay words
-
--- a script that was run is the one that the text spells, and a text that was refused spells none
-abbrev pub MatchesText : List ℕ → Found → Type 0
-MatchesText text (BadScript f) = Refused text f.line f.why
-MatchesText text (Ran p answers) = Spells text p × (answers.items ≡ answers_of p)
-MatchesText text _ = Unit {0}
+-- what was found is so for the words and the text
+abbrev pub Matches : List (List ℕ) → List ℕ → Found → Type 0
+Matches words text BadWords = AreRefused words
+Matches words text NoMemory = Unit {0}
+Matches words text found = (budget : ℕ) × IsReplay words budget × MatchesText budget text found
 
 -- a text was read to its end
 abbrev pub IsRead : Found → Type 0
 IsRead (BadScript f) = Unit {0}
 IsRead (Ran p answers) = Unit {0}
+IsRead (OutOfTurns n) = Unit {0}
 IsRead NoMemory = Unit {0}
 IsRead _ = ⊥
 
--- the script was run
+-- the script was run, as far as its turns went
 abbrev pub IsRan : Found → Type 0
 IsRan (Ran p answers) = Unit {0}
+IsRan (OutOfTurns n) = Unit {0}
 IsRan _ = ⊥
 
 -- there is a line for each answer, and its number fits
@@ -57,6 +55,7 @@ abbrev pub said_of : Found → List ℕ
 said_of BadWords = words_refused_line
 said_of (BadScript f) = refusal_line f.line f.why
 said_of (Ran p answers) = answers_text p (answers.items ∷ [])
+said_of (OutOfTurns n) = turns_line n
 said_of ReadFault = []
 said_of NoMemory = []
 
@@ -65,5 +64,6 @@ abbrev pub status_of : Found → Status
 status_of BadWords = statuses.BadWords
 status_of (BadScript f) = statuses.BadScript
 status_of (Ran p answers) = statuses.Ok
+status_of (OutOfTurns n) = statuses.OutOfTurns
 status_of ReadFault = statuses.ReadFault
 status_of NoMemory = statuses.NoMemory

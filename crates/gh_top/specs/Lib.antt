@@ -1,4 +1,3 @@
-pub mod Stands
-pub mod Words
+pub mod CommandLine
 pub mod Outcome
 pub mod Found

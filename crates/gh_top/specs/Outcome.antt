@@ -1,46 +1,45 @@
 -- What the program says: what it writes and how it ends, for the words that it is called with and the text that it reads.
-use Rattle.std.specs.Prelude.{◌≡◌, ℕ, List, [], ◌∷◌, length, map, codes, slice_get, Option, Some}
+use Rattle.std.specs.Prelude.{◌≡◌, ℕ, List, [], ◌∷◌, map, Option, Some, None}
 use Rattle.std.specs.Borrow.{Bor}
 use Rattle.std.specs.Io.KnownBytes.{Appends}
 use Rattle.gh_base.specs.declared.value.Answer.{Answer}
 use Rattle.gh_io.specs.Streams.{TookPart}
-use Rattle.gh_lines.specs.Text.{answers_text, refusal_line, words_refused_line}
-use Rattle.gh_model.specs.Ever.{opening_ever}
-use Rattle.gh_model.specs.Answers.{answers_from}
+use Rattle.gh_lines.specs.Text.{answers_text, refusal_line, turns_line, words_refused_line}
+use Rattle.gh_replay.specs.Replayed.{IsReplayed, IsUnfinished}
 use Rattle.gh_script.specs.declared.fault.Why.{Why}
-use Rattle.gh_script.specs.Program.{Program, statements_of, op_of}
-use Rattle.gh_script.specs.Form.{Spells, Refused}
+use Rattle.gh_script.specs.Program.{Program}
+use Rattle.gh_script.specs.Grammar.{Spells, Refused}
+use Rattle.gh_top.specs.declared.line.Line.TheVariants.{Replay}
 use Rattle.gh_top.specs.declared.status.Status.{Status}
-use Rattle.gh_top.specs.declared.status.Status.TheVariants.{Ok, BadWords, BadScript, ReadFault, WriteFault, NoMemory}
+use Rattle.gh_top.specs.declared.status.Status.TheVariants.{Ok, BadWords, BadScript, ReadFault, WriteFault, NoMemory, OutOfTurns}
+use Rattle.gh_top.specs.CommandLine.{command_line}
 
 -- the bytes of each word of the command line
 abbrev pub texts : List (Bor (List ℕ)) → List (List ℕ)
 texts words = map (λ w. w.now) words
 
--- the command line is the program's name and `replay`
-abbrev pub IsReplay : List (List ℕ) → Type 0
-IsReplay words = (length words ≡ 2) × (slice_get words 1 ≡ Some (codes "replay"))
+-- the command takes the words as a replay of at most so many turns
+abbrev pub IsReplay : List (List ℕ) → ℕ → Type 0
+IsReplay words budget = command_line words ≡ Some (Replay budget)
 
--- what the heap that never frees answers to the statements of the one goroutine, in order
-abbrev pub answers_of : Program → List Answer
-answers_of p = answers_from p.shapes opening_ever (map (op_of 0) (statements_of p 0))
-
--- the lines of these answers
-abbrev pub output_of : Program → List ℕ
-output_of p = answers_text p (answers_of p ∷ [])
+-- the command does not take the words
+abbrev pub AreRefused : List (List ℕ) → Type 0
+AreRefused words = command_line words ≡ None
 
 -- what a call may end with after it has written all that it has to say
 abbrev pub IsTelling : Status → Type 0
 IsTelling Ok = Unit {0}
 IsTelling BadWords = Unit {0}
 IsTelling BadScript = Unit {0}
+IsTelling OutOfTurns = Unit {0}
 IsTelling _ = ⊥
 
 -- a call with these words and this text may end so, having this to say
 abbrev pub Says : List (List ℕ) → List ℕ → Status → List ℕ → Type 0
-Says words text BadWords written = ¬ IsReplay words × (written ≡ words_refused_line)
-Says words text BadScript written = IsReplay words × (line : ℕ) × (why : Why) × Refused text line why × (written ≡ refusal_line line why)
-Says words text Ok written = IsReplay words × (p : Program) × Spells text p × (written ≡ output_of p)
+Says words text BadWords written = AreRefused words × (written ≡ words_refused_line)
+Says words text BadScript written = (budget : ℕ) × IsReplay words budget × (line : ℕ) × (why : Why) × Refused text line why × (written ≡ refusal_line line why)
+Says words text Ok written = (budget : ℕ) × IsReplay words budget × (p : Program) × Spells text p × (answers : List Answer) × IsReplayed p budget answers × (written ≡ answers_text p (answers ∷ []))
+Says words text OutOfTurns written = (budget : ℕ) × IsReplay words budget × (p : Program) × Spells text p × IsUnfinished p budget × (written ≡ turns_line budget)
 Says words text _ written = ⊥
 
 -- the sink took all that there was to say
@@ -59,3 +58,4 @@ code_of BadScript = 3
 code_of ReadFault = 4
 code_of WriteFault = 5
 code_of NoMemory = 6
+code_of OutOfTurns = 8

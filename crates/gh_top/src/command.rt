@@ -4,13 +4,17 @@ ghost use Rattle.std.specs.Prelude.{◌≡◌, ℕ, ◌≤◌, ◌⊎◌, List, 
 ghost use Rattle.gh_io.specs.Counts.{Rose};
 ghost use Rattle.gh_script.specs.declared.fault.Why.{Why};
 ghost use Rattle.gh_script.specs.Program.{Program};
-ghost use Rattle.gh_script.specs.Form.{Spells, Refused};
-ghost use Rattle.gh_top.specs.Outcome.{texts, IsReplay, IsTelling, Said, SaidPart};
+ghost use Rattle.gh_script.specs.Grammar.{Spells, Refused};
+ghost use Rattle.gh_base.specs.declared.value.Answer.{Answer};
+ghost use Rattle.gh_replay.specs.Replayed.{IsReplayed, IsUnfinished};
+ghost use Rattle.gh_top.specs.Outcome.{texts, AreRefused, IsReplay, IsTelling, Said, SaidPart};
 
 use crate::finding::find;
 use crate::saying::{ending, say};
 use crate::status::Status;
 use gh_io::{Sink, Source};
+use gh_replay::one_outcome;
+use gh_script::one_reading;
 use std::alloc::Global;
 
 /// Runs the command: `words` begins with the program's name, and the one command is `replay`. It reads
@@ -30,20 +34,27 @@ pub fn top<S: Source, K: Sink>(alloc: Global, words: &[&str], src: &mut S, out: 
         S.left src.new ≡ Some [] }
 
     // Each answer and its cause.
-    ensures bad_words { result ≡ Status.BadWords → ¬ IsReplay (texts words.now) }
-    ensures bad_words_exactly { ¬ IsReplay (texts words.now) →
+    ensures bad_words { result ≡ Status.BadWords → AreRefused (texts words.now) }
+    ensures bad_words_exactly { AreRefused (texts words.now) →
         ¬ Rose (K.faults out.old) (K.faults out.new) →
         (result ≡ Status.BadWords) ⊎ (result ≡ Status.NoMemory) }
-    ensures bad_script_exactly { (text : List ℕ) (line : ℕ) (why : Why) →
-        S.left src.old ≡ Some text → IsReplay (texts words.now) → Refused text line why →
+    ensures bad_script_exactly { (text : List ℕ) (budget : ℕ) (line : ℕ) (why : Why) →
+        S.left src.old ≡ Some text → IsReplay (texts words.now) budget → Refused text line why →
         ¬ Rose (S.faults src.old) (S.faults src.new) → ¬ Rose (K.faults out.old) (K.faults out.new) →
         (result ≡ Status.BadScript) ⊎ (result ≡ Status.NoMemory) }
-    ensures complete { (text : List ℕ) (p : Program) →
-        S.left src.old ≡ Some text → IsReplay (texts words.now) → Spells text p →
+    ensures complete { (text : List ℕ) (budget : ℕ) (p : Program) →
+        S.left src.old ≡ Some text → IsReplay (texts words.now) budget → Spells text p →
         ¬ Rose (S.faults src.old) (S.faults src.new) → ¬ Rose (K.faults out.old) (K.faults out.new) →
-        (result ≡ Status.Ok) ⊎ (result ≡ Status.NoMemory) }
+        (result ≡ Status.Ok) ⊎ (result ≡ Status.OutOfTurns) ⊎ (result ≡ Status.NoMemory) }
+    // A run that ends within the budget is told, and one that does not is out of turns.
+    ensures ok_exactly { (text : List ℕ) (budget : ℕ) (p : Program) (answers : List Answer) →
+        S.left src.old ≡ Some text → IsReplay (texts words.now) budget → Spells text p →
+        IsReplayed p budget answers → result ≡ Status.OutOfTurns → ⊥ }
+    ensures out_of_turns_exactly { (text : List ℕ) (budget : ℕ) (p : Program) →
+        S.left src.old ≡ Some text → IsReplay (texts words.now) budget → Spells text p →
+        IsUnfinished p budget → result ≡ Status.Ok → ⊥ }
     ensures read_fault { result ≡ Status.ReadFault →
-        IsReplay (texts words.now) × Rose (S.faults src.old) (S.faults src.new) × (K.taken out.new ≡ K.taken out.old) }
+        ¬ AreRefused (texts words.now) × Rose (S.faults src.old) (S.faults src.new) × (K.taken out.new ≡ K.taken out.old) }
     ensures write_fault { result ≡ Status.WriteFault → Rose (K.faults out.old) (K.faults out.new) }
     // A sink that failed took the beginning of what was to be said.
     ensures write_part { (text : List ℕ) → S.left src.old ≡ Some text → result ≡ Status.WriteFault →
@@ -55,6 +66,8 @@ pub fn top<S: Source, K: Sink>(alloc: Global, words: &[&str], src: &mut S, out: 
     ensures source_never_falls { S.faults src.old ≤ S.faults src.new }
     ensures sink_never_falls { K.faults out.old ≤ K.faults out.new }
 {
+    one_reading();
+    one_outcome();
     let found = find(alloc, words, src);
     match say(&found, out) {
         Ok(()) => ending(&found),

@@ -16,6 +16,8 @@ pub enum Found {
     BadScript(ScriptFault),
     /// The script was run, and its statements answered so.
     Ran(Script, Vec<Answer>),
+    /// The script's run took so many turns, which is the budget, and is not over.
+    OutOfTurns(u64),
     /// A read failed.
     ReadFault,
     /// Memory ran out.

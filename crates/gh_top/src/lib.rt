@@ -1,16 +1,14 @@
 //! The whole path of a script: its bytes are read, its statements run, and the lines of their
 //! answers written.
 //!
-//! What is written is stated by the heap that never frees. The heap here is a list of words, in which
-//! an object is two words and a reference an index; that the two cannot be told apart is proved
-//! statement by statement.
+//! What is written is stated by the heap that never frees. The script is replayed over a plain list of
+//! words: no clause here says how.
 #![tactic(auto)]
 
 mod command;
 mod finding;
 mod found;
-mod heap;
-mod replay;
+mod line;
 mod saying;
 mod status;
 #[cfg(test)]

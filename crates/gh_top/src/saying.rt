@@ -22,6 +22,7 @@ pub fn ending(found: &Found) -> Status
         Found::BadWords => Status::BadWords,
         Found::BadScript(_) => Status::BadScript,
         Found::Ran(_, _) => Status::Ok,
+        Found::OutOfTurns(_) => Status::OutOfTurns,
         Found::ReadFault => Status::ReadFault,
         Found::NoMemory => Status::NoMemory,
     }
@@ -48,6 +49,11 @@ pub fn say<K: Sink>(found: &Found, out: &mut K) -> Result<(), Failed>
             write_all(out, line.bytes())
         }
         Found::Ran(script, answers) => say_answers(out, script, answers),
+        Found::OutOfTurns(turns) => {
+            let mut line = LineBuf::new();
+            line.turns(*turns);
+            write_all(out, line.bytes())
+        }
         Found::ReadFault | Found::NoMemory => Ok(()),
     }
 }

@@ -19,13 +19,15 @@ pub enum Status {
     WriteFault,
     /// Memory ran out, before the first statement was run. Nothing was written.
     NoMemory,
+    /// So many turns as the budget has were taken, and the script's run is not over. `turns n` was taken.
+    OutOfTurns,
 }
 
 impl Status {
     ghost use Rattle.std.specs.Prelude.{◌≡◌};
     ghost use Rattle.gh_top.specs.Outcome.{code_of};
 
-    /// The status of the process: 0, 2, 3, 4, 5 or 6, in the order above.
+    /// The status of the process: 0, 2, 3, 4, 5, 6 or 8, in the order above.
     pub fn code(&self) -> u8
         ensures { result ≡ code_of self.now }
     {
@@ -36,6 +38,7 @@ impl Status {
             Status::ReadFault => 4,
             Status::WriteFault => 5,
             Status::NoMemory => 6,
+            Status::OutOfTurns => 8,
         }
     }
 }

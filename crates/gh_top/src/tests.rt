@@ -30,25 +30,60 @@ fn script(rt: &HostRuntime, statements: &str) -> Result<String, Fail> {
 
 const FIRST: &str = "new r0 node\nint r1 7\nstore r0 1 r1\nload r2 r0 1\n";
 
+/// Settings, types and statements, parted by `|`, as a text of one goroutine.
+fn text_of(rt: &HostRuntime, types: &str, statements: &str) -> Result<String, Fail> {
+    let mut text = String::from_str(
+        rt.alloc(),
+        "procs 1\nworkers 1\narena 16\nglobals 1\ngogc 0\ntype node pn\n",
+    )?;
+    for part in [types, "go a", statements, "end"] {
+        for line in part.split('|') {
+            text.push_str(line)?;
+            text.push_str("\n")?;
+        }
+    }
+    Ok(text)
+}
+
 #[test]
 fn each_script_has_its_lines(rt: HostRuntime) -> Result<(), Fail> {
-    let faults =
-        "load r1 r0 0\nnew r0 node\nload r1 r0 2\nstore r0 1 r0\nstore r0 0 r0\nload r1 r0 1\n";
     let rows = [
-        (FIRST, "a 1 ref a.0\na 4 int 7\n"),
         (
-            faults,
-            "a 1 fault nil\na 2 ref a.0\na 3 fault field\na 4 fault kind\na 6 int 0\n",
+            "",
+            "new r0 node|int r1 7|store r0 1 r1|load r2 r0 1",
+            "a 1 ref a.0|a 4 int 7|",
         ),
-        ("", ""),
         (
-            "new r3 node\nnew r15 node\nstore r3 0 r15\nload r15 r3 0\nload r0 r15 0\nload r0 r0 0\n",
-            "a 1 ref a.0\na 2 ref a.1\na 4 ref a.1\na 5 nil\na 6 fault nil\n",
+            "",
+            "load r1 r0 0|new r0 node|load r1 r0 2|store r0 1 r0|store r0 0 r0|load r1 r0 1|gstore 0 r1",
+            "a 1 fault nil|a 2 ref a.0|a 3 fault field|a 4 fault kind|a 6 int 0|a 7 fault kind|",
+        ),
+        ("", "", ""),
+        (
+            "",
+            "new r3 node|new r15 node|store r3 0 r15|load r15 r3 0|load r0 r15 0|load r0 r0 0",
+            "a 1 ref a.0|a 2 ref a.1|a 4 ref a.1|a 5 nil|a 6 fault nil|",
+        ),
+        (
+            "type big n*4096",
+            "new r0 big|new r1 big|new r2 big|new r3 big|new r4 big",
+            "a 1 ref a.0|a 2 ref a.1|a 3 ref a.2|a 4 ref a.3|a 5 full|",
+        ),
+        (
+            "type edge n*4097",
+            "new r0 edge|new r1 edge|new r2 edge|new r3 edge|load r4 r3 0|load r5 r2 5119|load r6 r2 5120",
+            "a 1 ref a.0|a 2 ref a.1|a 3 ref a.2|a 4 full|a 5 fault nil|a 6 int 0|a 7 fault field|",
+        ),
+        (
+            "",
+            "gload r0 0|new r1 node|gstore 0 r1|nil r1|gload r2 0|move r3 r2|load r4 r3 0|nil r2|gstore 0 r2|gload r0 0",
+            "a 1 nil|a 2 ref a.0|a 5 ref a.0|a 7 nil|a 10 nil|",
         ),
     ];
-    for (statements, lines) in rows {
-        let text = script(&rt, statements)?;
+    for (types, statements, lines) in rows {
+        let text = text_of(&rt, types, statements)?;
         let (status, taken) = outcome(&rt, &["goheap", "replay"], &text, &[], 1000, &[])?;
+        let lines = lines.replace(rt.alloc(), "|", "\n")?;
         assert_eq!(rt; status.code(), 0, "{statements}");
         assert_eq!(rt; taken.as_slice(), lines.as_bytes(), "{statements}");
     }
@@ -78,11 +113,6 @@ fn each_fault_of_the_outside_has_its_status(rt: HostRuntime) -> Result<(), Fail>
 #[test]
 fn each_refusal_has_its_line(rt: HostRuntime) -> Result<(), Fail> {
     let text = script(&rt, FIRST)?;
-    let mut long = String::from_str(rt.alloc(), HEADER)?;
-    for _ in 0..1001 {
-        long.push_str("int r0 1\n")?;
-    }
-    long.push_str("end\n")?;
     let words: [&[&str]; 6] = [
         &["goheap"],
         &[],
@@ -96,16 +126,24 @@ fn each_refusal_has_its_line(rt: HostRuntime) -> Result<(), Fail> {
         assert_eq!(rt; status.code(), 2, "{word:?}");
         assert_eq!(rt; taken.as_slice(), b"words refused\n".as_slice(), "{word:?}");
     }
-    let texts = ["", HEADER, "end\n", long.as_str()];
-    for text in texts {
-        let (status, taken) = outcome(&rt, &["goheap", "replay"], text, &[], 1000, &[])?;
-        let length = text.len();
-        assert_eq!(rt; status.code(), 3, "{length} bytes");
-        assert_eq!(rt;
-            taken.as_slice(),
-            b"line 0: word\n".as_slice(),
-            "{length} bytes"
-        );
+    // whole texts, their lines parted by `|`
+    let texts = [
+        ("", "line 0: missing\n"),
+        ("# x", "line 0: missing\n"),
+        (HEADER, "line 7: nesting\n"),
+        ("end", "line 1: nesting\n"),
+        ("go a|new r0 node|end", "line 2: unknown\n"),
+        ("go a|nil r16|end", "line 2: word\n"),
+        ("go a|gload r0 1|end", "line 2: limit\n"),
+        ("procs 1|procs 1", "line 2: twice\n"),
+        ("type t p*x", "line 1: number\n"),
+        ("# one\r||procs\t1|procs 1\r", "line 4: twice\n"),
+    ];
+    for (row, line) in texts {
+        let text = row.replace(rt.alloc(), "|", "\n")?;
+        let (status, taken) = outcome(&rt, &["goheap", "replay"], &text, &[], 1000, &[])?;
+        assert_eq!(rt; status.code(), 3, "{row}");
+        assert_eq!(rt; taken.as_slice(), line.as_bytes(), "{row}");
     }
     Ok(())
 }

@@ -21,4 +21,5 @@ pub mod StepFacts
 pub mod TurnFacts
 pub mod WorldFacts
 pub mod Running
+pub mod OneRun
 pub mod OneStep

@@ -1,13 +1,17 @@
 -- One step of a world is one entry more of a legal list.
-use Rattle.std.proofs.Common.{◌≡◌, ℕ, zero, suc, ◌+◌, ◌-◌, ◌<◌, ◌≤◌, Bool, true, false, cond, eqb, not, ◌&&◌, ◌||◌, List, [], ◌∷◌, ◌++◌, map, length, reverse, replicate, take, get_or, length-set, refl, sym, ◌∙◌, ap, subst, Option, Some, None, arith}
-use Rattle.std.specs.Prelude.{slice_get, is_some, IfSome}
+use Rattle.std.proofs.Common.{◌≡◌, ℕ, zero, suc, ◌+◌, ◌^◌, ◌<◌, ◌≤◌, Bool, true, false, cond, eqb, not, ◌&&◌, ◌||◌, List, [], ◌∷◌, ◌++◌, map, length, reverse, replicate, take, get_or, length-set, refl, sym, ◌∙◌, ap, subst, Option, Some, None, arith}
+use Rattle.std.specs.Prelude.{slice_get, is_some}
 use Rattle.std.specs.Option.{option_to_list}
 use Rattle.std.proofs.lemmas.Bool.Decides.{nat_tests}
 use Rattle.std.proofs.lemmas.Bool.{lt-ltb}
 use Rattle.std.proofs.lemmas.Grind.{reverse_onto}
+use Rattle.std.proofs.lemmas.List.Elements.{All-get_or}
+use Rattle.std.proofs.lemmas.Option.{get_or_from_slice_get}
+use Rattle.std.proofs.lemmas.List.Sums.{get_or-le-sum_by}
 use Rattle.gh_base.specs.declared.operation.Op.{Op}
 use Rattle.gh_base.specs.declared.operation.Op.TheVariants as op
 use Rattle.gh_base.specs.declared.shape.Shape.{Shape}
+use Rattle.gh_base.specs.Shapes.{no_shape}
 use Rattle.gh_base.specs.declared.layout.Layout.{Layout}
 use Rattle.gh_base.specs.declared.machine.Entry.{Entry}
 use Rattle.gh_base.specs.Cells.{Words, IsLayoutOf, InRange, Shows, length_of}
@@ -17,16 +21,16 @@ use Rattle.gh_base.specs.Packing.{bit}
 use Rattle.gh_base.proofs.Showing.{found-request, shows_effect}
 use Rattle.gh_script.specs.declared.statement.Stmt.{Stmt}
 use Rattle.gh_script.specs.declared.statement.Stmt.TheVariants.{New, Load, Store, GetGlobal, SetGlobal, Int, Move, Nil, Gc}
-use Rattle.gh_script.specs.Program.{Program, statements_of, statement_at, op_of, IsStatement}
+use Rattle.gh_script.specs.Program.{Program, goroutine_at, no_goroutine, statements_of, statements_in, op_of, IsStatement, AreStatements, IsShape, WellFormed}
 use Rattle.gh_world.specs.declared.point.Processor.{Processor}
 use Rattle.gh_world.specs.declared.point.Point.{Point}
 use Rattle.gh_world.specs.declared.point.Point.TheVariants.{Idle}
 use Rattle.gh_world.specs.Listing.{asks, takes, begins, begins_at, gives_at, acts, made_by}
 use Rattle.gh_world.specs.Order.{processor_kind, setting_of, is_busy_at, may_begin, most_objects, has_names, in_range, goroutine_of, ends, ended_in, leaves, has_left, begun_in, opening_processor}
-use Rattle.gh_world.specs.Points.{op_at}
+use Rattle.gh_world.specs.Points.{op_at, ShapesGood}
 use Rattle.gh_world.specs.Sound.{ShapesFit, SoundOp, MadeAtMost}
 use Rattle.gh_world.specs.Turns.{is_statement, is_point, is_unacted, statement_answer, is_leaving, has_left_at, next_point}
-use Rattle.gh_world.specs.World.{turns_of, count_of, is_gc, IsRunnable, opening, After, Fit, marks_in, event_at, event_of}
+use Rattle.gh_world.specs.World.{turns_of, count_of, opening, After, Fit, marks_in, event_at, event_of}
 use Rattle.gh_world.proofs.Soundness.{takes_sound, begins_sound, opening_sound, read_replicate}
 use Rattle.gh_world.proofs.StepFacts.{is_leave, step_facts, begin_facts, StepFacts, BeginFacts}
 
@@ -52,9 +56,6 @@ turn_is_at (y ∷ ys) (suc n) o e = later (turn_is_at ys n o e) where
 pub turn_is : (p : Program) (n : ℕ) (o : Op) → slice_get (turns_of p 0) n ≡ Some o → TurnIs (statements_of p 0) n o
 turn_is p n o e = turn_is_at (statements_of p 0) n o e
 
-statement_there : (p : Program) (n : ℕ) (s : Stmt) → slice_get (statements_of p 0) n ≡ Some s → statement_at p 0 (n + 1) ≡ Some s
-statement_there p n s e = let t : eqb (n + 1) 0 ≡ false = grind (arith, nat_tests) in let u : n + 1 - 1 ≡ n = omega arith in rw (t, u) e
-
 -- an operation that is in range of the layout
 pub record Runs (shapes : List Shape) (l : Layout) (o : Op) : Type 0 where
   pub sound : SoundOp shapes l o
@@ -65,31 +66,40 @@ both_true true true e f = refl
 both_true true false e f = f
 both_true false b e f = e
 
-statement_runs : (p : Program) (l : Layout) (s : Stmt) → IsStatement p s → is_gc s ≡ false → 0 < l.goroutines → l.globals ≡ p.settings.globals → Runs p.shapes l (op_of 0 s)
-statement_runs p l (New d t) h n g k = record { sound = ((omega arith, h.0), h.1); ranged = both_true _ _ (both_true _ _ (lt-ltb _ _ g) (lt-ltb _ _ h.0)) (lt-ltb _ _ h.1) }
-statement_runs p l (Load d b x) h n g k = record { sound = ((omega arith, h.0), h.1); ranged = both_true _ _ (both_true _ _ (lt-ltb _ _ g) (lt-ltb _ _ h.0)) (lt-ltb _ _ h.1) }
-statement_runs p l (Store b x v) h n g k = record { sound = ((omega arith, h.0), h.2); ranged = both_true _ _ (both_true _ _ (lt-ltb _ _ g) (lt-ltb _ _ h.0)) (lt-ltb _ _ h.2) }
-statement_runs p l (GetGlobal d x) h n g k = let there : x < l.globals = omega (arith, h.1) in record { sound = ((omega arith, h.0), there); ranged = both_true _ _ (both_true _ _ (lt-ltb _ _ g) (lt-ltb _ _ h.0)) (lt-ltb _ _ there) }
-statement_runs p l (SetGlobal x v) h n g k = let there : x < l.globals = omega (arith, h.0) in record { sound = ((omega arith, h.1), there); ranged = both_true _ _ (both_true _ _ (lt-ltb _ _ g) (lt-ltb _ _ there)) (lt-ltb _ _ h.1) }
-statement_runs p l (Int d x) h n g k = record { sound = (omega arith, h); ranged = both_true _ _ (lt-ltb _ _ g) (lt-ltb _ _ h) }
-statement_runs p l (Move d s) h n g k = record { sound = ((omega arith, h.0), h.1); ranged = both_true _ _ (both_true _ _ (lt-ltb _ _ g) (lt-ltb _ _ h.0)) (lt-ltb _ _ h.1) }
-statement_runs p l (Nil d) h n g k = record { sound = (omega arith, h); ranged = both_true _ _ (lt-ltb _ _ g) (lt-ltb _ _ h) }
-statement_runs p l Gc h n g k = absurd (cc)
+statement_runs : (p : Program) (l : Layout) (s : Stmt) → IsStatement p.settings.globals (length p.shapes) s → 0 < l.goroutines → l.globals ≡ p.settings.globals → Runs p.shapes l (op_of 0 s)
+statement_runs p l (New d t) h g k = record { sound = ((omega arith, h.0), h.1); ranged = both_true _ _ (both_true _ _ (lt-ltb _ _ g) (lt-ltb _ _ h.0)) (lt-ltb _ _ h.1) }
+statement_runs p l (Load d b x) h g k = record { sound = ((omega arith, h.0), h.1); ranged = both_true _ _ (both_true _ _ (lt-ltb _ _ g) (lt-ltb _ _ h.0)) (lt-ltb _ _ h.1) }
+statement_runs p l (Store b x v) h g k = record { sound = ((omega arith, h.0), h.2); ranged = both_true _ _ (both_true _ _ (lt-ltb _ _ g) (lt-ltb _ _ h.0)) (lt-ltb _ _ h.2) }
+statement_runs p l (GetGlobal d x) h g k = let there : x < l.globals = omega (arith, h.1) in record { sound = ((omega arith, h.0), there); ranged = both_true _ _ (both_true _ _ (lt-ltb _ _ g) (lt-ltb _ _ h.0)) (lt-ltb _ _ there) }
+statement_runs p l (SetGlobal x v) h g k = let there : x < l.globals = omega (arith, h.0) in record { sound = ((omega arith, h.1), there); ranged = both_true _ _ (both_true _ _ (lt-ltb _ _ g) (lt-ltb _ _ there)) (lt-ltb _ _ h.1) }
+statement_runs p l (Int d x) h g k = record { sound = (omega arith, h.0); ranged = both_true _ _ (lt-ltb _ _ g) (lt-ltb _ _ h.0) }
+statement_runs p l (Move d s) h g k = record { sound = ((omega arith, h.0), h.1); ranged = both_true _ _ (both_true _ _ (lt-ltb _ _ g) (lt-ltb _ _ h.0)) (lt-ltb _ _ h.1) }
+statement_runs p l (Nil d) h g k = record { sound = (omega arith, h); ranged = both_true _ _ (lt-ltb _ _ g) (lt-ltb _ _ h) }
+statement_runs p l Gc h g k = absurd h
 
-pub turn_runs : (p : Program) (l : Layout) (n : ℕ) (o : Op) → IsRunnable p → IsLayoutOf p.settings.arena p.settings.globals p.settings.procs p.settings.workers (length p.goroutines) l → slice_get (turns_of p 0) n ≡ Some o → Runs p.shapes l o
+-- the statements of the first goroutine are those of a script
+are_statements : (p : Program) → WellFormed p → AreStatements p.settings.globals (length p.shapes) (goroutine_at p 0)
+are_statements p r = All-get_or (AreStatements p.settings.globals (length p.shapes)) p.goroutines 0 no_goroutine r.some_goroutine r.statements
+
+-- and they are few
+pub few_statements : (p : Program) → WellFormed p → count_of p ≤ 200000
+few_statements p r = omega (arith, get_or-le-sum_by statements_in p.goroutines 0 no_goroutine r.some_goroutine, r.few_statements)
+
+pub turn_runs : (p : Program) (l : Layout) (n : ℕ) (o : Op) → WellFormed p → IsLayoutOf p.settings.arena p.settings.globals p.settings.procs p.settings.workers (length p.goroutines) l → slice_get (turns_of p 0) n ≡ Some o → Runs p.shapes l o
 turn_runs p l n o r lay e = go (turn_is p n o e) where
   some : 0 < l.goroutines
-  some = omega (arith, r.some, lay.goroutines_are)
+  some = omega (arith, r.some_goroutine, lay.goroutines_are)
 
   go : TurnIs (statements_of p 0) n o → Runs p.shapes l o
-  go (statement s h f k) =
-      let there = statement_there p n s f in
-      subst (Runs p.shapes l) (sym k) (statement_runs p l s (subst (λ x. IfSome x (IsStatement p)) there (r.sound.statements 0 (n + 1))) (subst (λ x. IfSome x (λ (t : Stmt). is_gc t ≡ false)) f (r.no_gc n)) some lay.globals_are)
+  go (statement s h f k) = subst (Runs p.shapes l) (sym k) (statement_runs p l s (subst (IsStatement p.settings.globals (length p.shapes)) (get_or_from_slice_get (statements_of p 0) n s s f) (All-get_or (IsStatement p.settings.globals (length p.shapes)) (statements_of p 0) n s h (are_statements p r))) some lay.globals_are)
   go (ending h k) = subst (Runs p.shapes l) (sym k) (record { sound = some; ranged = lt-ltb _ _ some })
   go (leaving h k) = subst (Runs p.shapes l) (sym k) (record { sound = tt; ranged = refl })
 
-pub shapes_fit : (p : Program) → IsRunnable p → ShapesFit p.shapes
-shapes_fit p r t h = (r.sound.shapes t h).words
+pub shapes_fit : (p : Program) → WellFormed p → ShapesFit p.shapes
+shapes_fit p r t h = let s = All-get_or IsShape p.shapes t no_shape h r.shapes in (s.some_word, s.few_words)
+
+pub shapes_good : (p : Program) → WellFormed p → ShapesGood p.shapes
+shapes_good p r t h = let s = All-get_or IsShape p.shapes t no_shape h r.shapes in record { some = s.some_word; most = s.few_words; within = s.none_beyond; narrow = s.narrow }
 
 -- What the world knows of its own state, after a beginning and after a step.
 
@@ -292,7 +302,7 @@ has_name_at m turn op.Poll made lt = refl
 has_name_at m turn (op.End g) made lt = refl
 has_name_at m turn op.Leave made lt = refl
 
-may_be_next : (p : Program) (l : Layout) (es : List (Entry Op)) (turn : ℕ) (o : Op) (m : Processor) → MadeAtMost turn m → IsRunnable p → IsLayoutOf p.settings.arena p.settings.globals p.settings.procs p.settings.workers (length p.goroutines) l →
+may_be_next : (p : Program) (l : Layout) (es : List (Entry Op)) (turn : ℕ) (o : Op) (m : Processor) → MadeAtMost turn m → WellFormed p → IsLayoutOf p.settings.arena p.settings.globals p.settings.procs p.settings.workers (length p.goroutines) l →
     reverse (begun_in p.shapes l es) ≡ take turn (turns_of p 0) → slice_get (turns_of p 0) turn ≡ Some o → may_begin l.goroutines l.globals (length p.shapes) m es o ≡ true
 may_be_next p l es turn o m made r lay begun e = go (turn_is p turn o e) where
   ranged : in_range l.goroutines l.globals (length p.shapes) o ≡ true
@@ -305,13 +315,13 @@ may_be_next p l es turn o m made r lay begun e = go (turn_is p turn o e) where
   not_ended h = ended_in-begun p.shapes l es ∙ sym (any_op-reverse is_end (begun_in p.shapes l es)) ∙ ap (any_op is_end) begun ∙ no_end_before (statements_of p 0) turn h
 
   go : TurnIs (statements_of p 0) turn o → may_begin l.goroutines l.globals (length p.shapes) m es o ≡ true
-  go (statement s h f k) = let few = r.sound.few 0 in no_false_more _ _ _ _ ranged (has_name_at m turn o made (omega arith)) (not_left (omega arith)) (rw (k, statement_of_0 s) (not_ended (omega arith)))
+  go (statement s h f k) = let few = few_statements p r in no_false_more _ _ _ _ ranged (has_name_at m turn o made (omega arith)) (not_left (omega arith)) (rw (k, statement_of_0 s) (not_ended (omega arith)))
   go (ending h k) = no_false_more _ _ _ _ ranged (rw k refl) (not_left (omega arith)) (rw k (not_ended (omega arith)))
   go (leaving h k) = no_false_more _ _ _ _ ranged (rw k refl) (not_left (omega arith)) (rw k refl)
 
 -- One step is one entry more.
 
-module _ (p : Program) (l : Layout) (runnable : IsRunnable p) (laid : IsLayoutOf p.settings.arena p.settings.globals p.settings.procs p.settings.workers (length p.goroutines) l) where
+module _ (p : Program) (l : Layout) (runnable : WellFormed p) (laid : IsLayoutOf p.settings.arena p.settings.globals p.settings.procs p.settings.workers (length p.goroutines) l) where
   abbrev pub begun : Processor → Option Op → Processor
   begun m b = started (processor_kind p.shapes l.pages) b m
 
@@ -400,11 +410,11 @@ module _ (p : Program) (l : Layout) (runnable : IsRunnable p) (laid : IsLayoutOf
 
 -- There is room for a point.
 
-pub points_few : (p : Program) (l : Layout) (list : List ℕ) (m : Processor) (turn marks points room : ℕ) → Fit p l list m turn marks points room → points ≤ 1000
-points_few p l list m turn marks points room f = omega (arith, f.few, f.script.sound.few 0)
+pub points_few : (p : Program) (l : Layout) (list : List ℕ) (m : Processor) (turn marks points room : ℕ) → Fit p l list m turn marks points room → points + 1 < 2 ^ 32
+points_few p l list m turn marks points room f = omega (arith, f.few, few_statements p f.script)
 
-pub turns_few : (p : Program) (l : Layout) (list : List ℕ) (m : Processor) (turn marks points room : ℕ) → Fit p l list m turn marks points room → turn ≤ 1002
-turns_few p l list m turn marks points room f = omega (arith, f.turns, f.script.sound.few 0)
+pub turns_few : (p : Program) (l : Layout) (list : List ℕ) (m : Processor) (turn marks points room : ℕ) → Fit p l list m turn marks points room → turn + 1 < 2 ^ 32
+turns_few p l list m turn marks points room f = omega (arith, f.turns, few_statements p f.script)
 
 pub point_room : (p : Program) (l : Layout) (list : List ℕ) (m : Processor) (turn marks points room found : ℕ) (b : Bool) → Fit p l list m turn marks points room → is_busy_at m.point ≡ true →
     b ≡ is_point (acts m found) → b ≡ true → points < room
@@ -415,7 +425,7 @@ point_room p l list m turn marks points room found b f busy is set =
 
 -- A world as it opens.
 
-pub fit_opens : (p : Program) (l : Layout) (list : List ℕ) (room : ℕ) → IsRunnable p → IsLayoutOf p.settings.arena p.settings.globals p.settings.procs p.settings.workers (length p.goroutines) l →
+pub fit_opens : (p : Program) (l : Layout) (list : List ℕ) (room : ℕ) → WellFormed p → IsLayoutOf p.settings.arena p.settings.globals p.settings.procs p.settings.workers (length p.goroutines) l →
     length list ≡ length_of l → count_of p ≤ room → Fit p l list (opening_processor l.pages 0) 0 0 0 room
 fit_opens p l list room r lay long reserved = record {
   script = r;

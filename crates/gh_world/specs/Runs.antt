@@ -1,5 +1,5 @@
 -- Whole runs: a list of the processor's steps in which its operations are the script's turns, and at whose end it is done; and what such a list says of a script's answers.
-use Rattle.std.specs.Prelude.{◌≡◌, ℕ, List, [], ◌∷◌, ◌++◌, map, reverse}
+use Rattle.std.specs.Prelude.{◌≡◌, ℕ, ◌≤◌, List, [], ◌∷◌, ◌++◌, map, length, reverse}
 use Rattle.std.specs.Option.{option_to_list}
 use Rattle.gh_base.specs.declared.value.Answer.{Answer}
 use Rattle.gh_base.specs.declared.operation.Op.{Op}
@@ -8,7 +8,7 @@ use Rattle.gh_base.specs.declared.layout.Layout.{Layout}
 use Rattle.gh_base.specs.declared.machine.Entry.{Entry}
 use Rattle.gh_base.specs.Cells.{opening_words}
 use Rattle.gh_base.specs.Lists.{Legal}
-use Rattle.gh_script.specs.Program.{Program, statements_of, op_of}
+use Rattle.gh_script.specs.Program.{Program, statements_of, op_of, WellFormed}
 use Rattle.gh_model.specs.Ever.{opening_ever}
 use Rattle.gh_model.specs.Answers.{AllAnswer}
 use Rattle.gh_world.specs.declared.point.Point.TheVariants.{Left}
@@ -22,6 +22,12 @@ pub record IsRun (p : Program) (l : Layout) (es : List (Entry Op)) : Type 0 wher
   pub legal : Legal (setting_of p.shapes l opening) es
   pub turns : reverse (begun_in p.shapes l es) ≡ turns_of p 0
   pub done : (processor_after p.shapes l opening es).point ≡ Left
+
+-- the list is a run of the script so far: what has begun is the first of its turns
+pub record IsRunSoFar (p : Program) (l : Layout) (es : List (Entry Op)) : Type 0 where
+  pub legal : Legal (setting_of p.shapes l opening) es
+  pub to_come : List Op
+  pub turns : turns_of p 0 ≡ reverse (begun_in p.shapes l es) ++ to_come
 
 -- what the statements were answered, in order
 abbrev pub answers_given : Program → Layout → List (Entry Op) → List Answer
@@ -41,4 +47,11 @@ EveryLegalListStands = (shapes : List Shape) (l : Layout) (trigger : ℕ) → Sh
 
 -- Whatever the script, and whatever run of it: its answers are explained.
 abbrev pub EveryRunIsExplained : Type 0
-EveryRunIsExplained = (p : Program) (l : Layout) (es : List (Entry Op)) → ShapesGood p.shapes → IsRun p l es → IsExplained p l es (answers_given p l es)
+EveryRunIsExplained = (p : Program) (l : Layout) (es : List (Entry Op)) → WellFormed p → IsRun p l es → IsExplained p l es (answers_given p l es)
+
+-- Over a plain list of words a script has one run: as many steps of it are the same steps, and none follows when it is over.
+abbrev pub EveryRunIsOne : Type 0
+EveryRunIsOne = (p : Program) (l : Layout) (es fs : List (Entry Op)) → IsRunSoFar p l es → IsRunSoFar p l fs → length es ≡ length fs → es ≡ fs
+
+abbrev pub NoneIsLonger : Type 0
+NoneIsLonger = (p : Program) (l : Layout) (es fs : List (Entry Op)) → IsRun p l es → IsRunSoFar p l fs → length fs ≤ length es

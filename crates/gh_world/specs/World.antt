@@ -1,5 +1,5 @@
 -- The world of one processor: its turns, what a list of its steps is answered, and that it is the state of such a list.
-use Rattle.std.specs.Prelude.{◌≡◌, ℕ, ◌+◌, ◌≤◌, ◌==◌, Bool, true, false, if◌then◌else◌, List, [], ◌∷◌, ◌++◌, map, length, take, reverse, slice_index, IfSome, slice_get, ◌^◌, ◌-◌, Option, Some, None, is_some, vec_len}
+use Rattle.std.specs.Prelude.{◌≡◌, ℕ, ◌+◌, ◌≤◌, ◌==◌, Bool, if◌then◌else◌, List, [], ◌∷◌, ◌++◌, map, length, take, reverse, slice_index, slice_get, ◌^◌, ◌-◌, Option, Some, None, is_some, vec_len}
 use Rattle.std.specs.Vec.{vec_capacity}
 use Rattle.std.specs.Option.{option_to_list}
 use Rattle.gh_base.specs.declared.value.Answer.{Answer}
@@ -12,8 +12,6 @@ use Rattle.gh_base.specs.Packing.{bit}
 use Rattle.gh_base.specs.Cells.{Words, InRange, IsLayoutOf, length_of, opening_words, Shows}
 use Rattle.gh_base.specs.Steps.{cell_of, changed, request, target}
 use Rattle.gh_base.specs.Lists.{state_of, started, words_after, Legal}
-use Rattle.gh_script.specs.declared.statement.Stmt.{Stmt}
-use Rattle.gh_script.specs.declared.statement.Stmt.TheVariants.{Gc}
 use Rattle.gh_script.specs.Program.{Program, statements_of, op_of, WellFormed}
 use Rattle.gh_world.specs.declared.point.Processor.{Processor}
 use Rattle.gh_world.specs.declared.point.Point.{Point}
@@ -34,21 +32,6 @@ turns_of p g = map (op_of g) (statements_of p g) ++ op.End g ∷ op.Leave ∷ []
 
 abbrev pub count_of : Program → ℕ
 count_of p = length (statements_of p 0)
-
-abbrev pub is_gc : Stmt → Bool
-is_gc Gc = true
-is_gc _ = false
-
--- no statement of the first goroutine asks for a cycle
-abbrev pub HasNoGc : Program → Type 0
-HasNoGc p = (n : ℕ) → IfSome (slice_get (statements_of p 0) n) (λ s. is_gc s ≡ false)
-
--- a script that one processor runs: its first goroutine's statements, none of which asks for a cycle
-pub record IsRunnable (p : Program) : Type 0 where
-  pub sound : WellFormed p
-  pub some : 1 ≤ length p.goroutines
-  pub few : length p.goroutines ≤ 32
-  pub no_gc : HasNoGc p
 
 -- what the step says, where so many statements were answered before
 abbrev pub event_at : ℕ → Point → Option Answer → Event
@@ -101,7 +84,7 @@ pub record Appends (w : World) (actor : ℕ) (es : List (Entry Op)) (happened : 
 
 -- what the world knows of its own state
 pub record Fit (p : Program) (l : Layout) (list : List ℕ) (m : Processor) (turn marks points room : ℕ) : Type 0 where
-  pub script : IsRunnable p
+  pub script : WellFormed p
   pub layout : IsLayoutOf p.settings.arena p.settings.globals p.settings.procs p.settings.workers (length p.goroutines) l
   pub long : length list ≡ length_of l
   pub sound : Sound p.shapes l m

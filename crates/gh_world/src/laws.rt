@@ -1,6 +1,6 @@
 //! Laws of the lists of the processor's steps, whatever the code does.
 
-ghost use Rattle.gh_world.specs.Runs.{EveryLegalListStands, EveryRunIsExplained};
+ghost use Rattle.gh_world.specs.Runs.{EveryLegalListStands, EveryRunIsExplained, EveryRunIsOne, NoneIsLonger};
 
 /// After every legal list of steps the words stand for the heap that never frees; each operation
 /// begun has acted once and in order, and was answered as that heap answers it where it acted, save
@@ -14,4 +14,10 @@ pub fn every_legal_list_stands()
 /// which stands only where nothing fitted.
 pub fn every_run_is_explained()
     ensures { EveryRunIsExplained }
+{}
+
+/// With one processor a script has one run: what it finds in the words settles each step.
+pub fn a_script_has_one_run()
+    ensures same { EveryRunIsOne }
+    ensures longest { NoneIsLonger }
 {}

@@ -39,9 +39,9 @@ mod sizes;
 mod takes;
 mod world;
 
-pub use laws::{every_legal_list_stands, every_run_is_explained};
+pub use laws::{a_script_has_one_run, every_legal_list_stands, every_run_is_explained};
 pub use point::{Cached, Loading, Point, Processor, Storing, Wanted};
-pub use world::{Event, World, is_runnable};
+pub use world::{Event, World};
 
 #[cfg(test)]
 mod tests;

@@ -11,7 +11,7 @@ ghost use Rattle.gh_base.specs.Packing.{bit};
 ghost use Rattle.gh_world.specs.Order.{is_busy_at};
 ghost use Rattle.gh_script.specs.Program.{op_of};
 ghost use Rattle.gh_world.specs.Turns.{answer_at, has_left_at, next_point};
-ghost use Rattle.gh_world.specs.World.{begun_world, event_at, is_done, layout_of, marks_of, next_op, points_of, script_of, turns_of, Advances, Appends, HasNoGc, IsAfter, IsRunnable, SoundWorld};
+ghost use Rattle.gh_world.specs.World.{begun_world, event_at, is_done, layout_of, marks_of, next_op, points_of, script_of, turns_of, Advances, Appends, IsAfter, SoundWorld};
 
 use crate::point::{Point, Processor};
 use gh_base::{Answer, Layout, Op};
@@ -43,29 +43,6 @@ pub struct World<'s> {
     points: Vec<(u32, u32)>,
     // How many statements were answered.
     marks: u32,
-}
-
-/// That no statement of the first goroutine asks for a cycle.
-fn has_no_gc(script: &Script) -> bool
-    requires { 0 < length script.now.goroutines }
-    ensures { IsTrue result ↔ HasNoGc script.now }
-{
-    for n in 0..script.count(0) {
-        if let Some(Stmt::Gc) = script.statement(0, n + 1) {
-            return false;
-        }
-    }
-    true
-}
-
-/// That a world can run the script: it has 1 to 32 goroutines, and no statement of the first asks
-/// for a cycle.
-pub fn is_runnable(script: &Script) -> bool
-    ensures { IsTrue result ↔ IsRunnable script.now }
-{
-    let _settings = script.settings();
-    let goroutines = script.goroutines();
-    1 <= goroutines && goroutines <= 32 && has_no_gc(script)
 }
 
 /// A statement as an operation of its goroutine.
@@ -138,11 +115,11 @@ impl<'s> World<'s> {
     /// A world over the script as it opens. All its memory is taken here: no step takes any.
     #[tactic(auto, using(crate::proofs::WorldFacts::fit_opens, crate::proofs::WorldFacts::after_opens))]
     pub fn new(alloc: Global, script: &'s Script) -> Result<World<'s>, AllocError>
-        requires { IsRunnable script.now }
         ensures sound { IfOk result SoundWorld }
         ensures opens { IfOk result (λ w. IsAfter w []) }
         ensures script { IfOk result (λ w. script_of w ≡ script.now) }
     {
+        script.is_well_formed();
         let settings = script.settings();
         let goroutines = script.goroutines();
         let layout = match Layout::new(
@@ -269,7 +246,7 @@ impl<'s> World<'s> {
     /// Notes that a statement has its point.
     fn note(&mut self, is_point: bool)
         requires room { IsTrue is_point → vec_len self.old.points < vec_capacity self.old.points }
-        requires few { vec_len self.old.points ≤ 1000 }
+        requires few { vec_len self.old.points + 1 < 2 ^ 32 }
         ensures points { self.new.points.items ≡ self.old.points.items ++ next_point is_point self.old.points.items }
         ensures count { vec_len self.new.points ≡ vec_len self.old.points + bit is_point }
         ensures reserved { vec_capacity self.new.points ≡ vec_capacity self.old.points }

@@ -1,5 +1,12 @@
-use Rattle.gh_top.proofs.Texts.{spells-supported}
+use Rattle.std.proofs.Common.{ℕ, Err, ap, subst, ◌∙◌}
+use Rattle.gh_replay.specs.Replayed.{IsUnfinished}
+use Rattle.gh_top.proofs.Texts.{tellable}
 use Rattle.gh_top.proofs.finding.run.Goals as goal
 
-pub answers-requires : goal.answers-requires
-answers-requires c = spells-supported _ _ c.in-Ok.ensures.spelled
+pub returns-in-Ok-replay-clause-tellable : goal.returns-in-Ok-replay-clause-tellable
+returns-in-Ok-replay-clause-tellable c = tellable c.in-Ok.script c.args.budget _ c.is_well_formed.ensures c.in-Ok-replay.ensures.explained
+
+pub returns-in-Err-OutOfTurns-clause-found : goal.returns-in-Err-OutOfTurns-clause-found
+returns-in-Err-OutOfTurns-clause-found c =
+    let left = c.replay.ensures.out_of_turns c.in-Err-OutOfTurns.turns (c.in-Err-OutOfTurns.is ∙ ap (λ x. Err x) c.in-Err-OutOfTurns.field-0-is) in
+    (left.0, c.in-Ok.script, c.in-Ok.ensures.spelled, subst (λ (n : ℕ). IsUnfinished c.in-Ok.script n) left.0 left.1)

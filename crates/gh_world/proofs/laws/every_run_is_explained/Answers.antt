@@ -1,7 +1,8 @@
 use Rattle.std.proofs.Common.{◌-◌, ◌^◌}
 use Rattle.gh_world.proofs.Every.{every_list}
 use Rattle.gh_world.proofs.Running.{run_explained}
+use Rattle.gh_world.proofs.WorldFacts.{shapes_good}
 use Rattle.gh_world.proofs.laws.every_run_is_explained.Goals as goal
 
 pub returns : goal.returns
-returns c = λ p l es good run. run_explained p l es run (every_list p.shapes l good (2 ^ 64 - 1) es run.legal)
+returns c = λ p l es formed run. run_explained p l es run (every_list p.shapes l (shapes_good p formed) (2 ^ 64 - 1) es run.legal)

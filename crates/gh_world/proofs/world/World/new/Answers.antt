@@ -13,7 +13,7 @@ returns-clause-sound c =
     let counted : IsLayoutOf c.settings-settings.result.arena c.settings-settings.result.globals c.settings-settings.result.procs c.settings-settings.result.workers (length p.goroutines) l =
     subst (λ (g : ℕ). IsLayoutOf c.settings-settings.result.arena c.settings-settings.result.globals c.settings-settings.result.procs c.settings-settings.result.workers g l) c.goroutines-goroutines.ensures c.in-Ok.ensures.numbers in
     let laid : IsLayoutOf p.settings.arena p.settings.globals p.settings.procs p.settings.workers (length p.goroutines) l =
-    subst (λ (s : Settings). IsLayoutOf s.arena s.globals s.procs s.workers (length p.goroutines) l) c.settings-settings.ensures.value counted in
+    subst (λ (s : Settings). IsLayoutOf s.arena s.globals s.procs s.workers (length p.goroutines) l) c.settings-settings.ensures counted in
     let reserved : count_of p ≤ vec_capacity c.in_ok-points.points = omega (arith, c.in_ok-points.ensures.capacity, c.count.ensures) in
     let empty : vec_len c.in_ok-points.points ≡ 0 = c.in_ok-points.ensures.len in
-    rw (c.opening.ensures, empty) (fit_opens p l c.in_ok-words.words (vec_capacity c.in_ok-points.points) c.requires laid c.in_ok-words.ensures.long reserved)
+    rw (c.opening.ensures, empty) (fit_opens p l c.in_ok-words.words (vec_capacity c.in_ok-points.points) c.is_well_formed.ensures laid c.in_ok-words.ensures.long reserved)

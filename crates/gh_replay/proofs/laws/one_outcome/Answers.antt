@@ -1,0 +1,8 @@
+use Rattle.gh_replay.proofs.OneOutcome.{not_both, one_answer}
+use Rattle.gh_replay.proofs.laws.one_outcome.Goals as goal
+
+pub returns-clause-not_both : goal.returns-clause-not_both
+returns-clause-not_both c = not_both c.a_script_has_one_run.ensures.same c.a_script_has_one_run.ensures.longest
+
+pub returns-clause-one_answer : goal.returns-clause-one_answer
+returns-clause-one_answer c = one_answer c.a_script_has_one_run.ensures.same c.a_script_has_one_run.ensures.longest

@@ -1,0 +1,12 @@
+use Rattle.gh_script.specs.Said.{said}
+use Rattle.gh_script.proofs.Allowed.{setting_fits, type_fits, name_fits}
+use Rattle.gh_script.proofs.draft.Draft.go_on.Goals as goal
+
+pub small_number-requires : goal.small_number-requires
+small_number-requires c = setting_fits c.args.self.now c.args.key (said c.args.line.now) c.in-Setting.x c.requires.allowed c.in-Setting.is
+
+pub add_type-requires : goal.add_type-requires
+add_type-requires c = type_fits c.args.self.now c.args.key (said c.args.line.now) c.requires.allowed c.in-Type.is
+
+pub begin-requires : goal.begin-requires
+begin-requires c = name_fits c.args.self.now c.args.key (said c.args.line.now) c.requires.allowed c.in-Go.is

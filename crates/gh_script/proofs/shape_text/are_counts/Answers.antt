@@ -1,0 +1,7 @@
+use Rattle.gh_script.specs.ShapeText.{has_count, are_counts}
+use Rattle.gh_script.proofs.Items.{all_end}
+use Rattle.gh_script.proofs.shape_text.are_counts.Goals as goal
+
+pub returns : goal.returns
+unfolding are_counts
+returns c = all_end has_count c.args.word.now c.loop-i.i _ c.loop-i-test.false c.loop-i.invariant

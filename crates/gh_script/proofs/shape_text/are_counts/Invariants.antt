@@ -1,0 +1,7 @@
+use Rattle.std.proofs.Common.{◌≡◌, drop}
+use Rattle.std.specs.List.{list_all}
+use Rattle.gh_script.specs.ShapeText.{items_of, has_count}
+use Rattle.gh_script.proofs.shape_text.are_counts.Given as goal
+
+abbrev pub invariant-loop-i : goal.invariant-loop-i
+invariant-loop-i l = list_all has_count (items_of (drop l.i l.word)) ≡ list_all has_count (items_of l.word)

@@ -1,0 +1,47 @@
+-- How much a script may have.
+use Rattle.std.specs.Prelude.{ℕ}
+use Rattle.gh_script.specs.declared.key.Setting.{Setting}
+use Rattle.gh_script.specs.declared.key.Setting.TheVariants as settings
+
+-- the most bytes of a script
+abbrev pub most_bytes : ℕ
+most_bytes = 4194304
+
+abbrev pub most_types : ℕ
+most_types = 64
+
+-- one goroutine, until several are taken
+abbrev pub most_goroutines : ℕ
+most_goroutines = 1
+
+abbrev pub most_statements : ℕ
+most_statements = 200000
+
+-- the greatest k of load and store
+abbrev pub most_field : ℕ
+most_field = 65535
+
+abbrev pub least : Setting → ℕ
+least settings.Procs = 1
+least settings.Workers = 1
+least settings.Arena = 16
+least settings.Globals = 1
+least settings.Gogc = 0
+least settings.Minheap = 0
+
+-- one processor and one worker, until several are taken
+abbrev pub most : Setting → ℕ
+most settings.Procs = 1
+most settings.Workers = 1
+most settings.Arena = 1024
+most settings.Globals = 256
+most settings.Gogc = 1000
+most settings.Minheap = 8388608
+
+-- the most words of a type
+abbrev pub most_words : ℕ
+most_words = 65536
+
+-- how many registers there are
+abbrev pub registers : ℕ
+registers = 16

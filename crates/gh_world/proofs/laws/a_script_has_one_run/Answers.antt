@@ -1,0 +1,8 @@
+use Rattle.gh_world.proofs.OneRun.{every_run_is_one, none_is_longer}
+use Rattle.gh_world.proofs.laws.a_script_has_one_run.Goals as goal
+
+pub returns-clause-same : goal.returns-clause-same
+returns-clause-same c = every_run_is_one
+
+pub returns-clause-longest : goal.returns-clause-longest
+returns-clause-longest c = none_is_longer
