@@ -1,5 +1,6 @@
 -- The bytes of the output: each line ends with LF, its words are parted by one space, and its numbers are in decimal digits.
-use Rattle.std.specs.Prelude.{ℕ, ◌+◌, ◌<◌, ⊤, Bool, true, false, if◌then◌else◌, List, [], ◌∷◌, ◌++◌, length, codes, decimal}
+use Rattle.std.specs.Prelude.{ℕ, ◌+◌, ◌<◌, ◌==◌, ⊤, Bool, true, false, if◌then◌else◌, List, [], ◌∷◌, ◌++◌, length, map, codes, decimal}
+use Rattle.std.specs.List.{range_with_len}
 use Rattle.gh_base.specs.declared.value.Answer.{Answer}
 use Rattle.gh_base.specs.declared.value.Answer.TheVariants.{Done, Nil, Int, Ref, Swept, Full, Fault}
 use Rattle.gh_base.specs.declared.value.Fault as faults
@@ -63,6 +64,15 @@ answers_text_from p g (answers ∷ more) = lines_from p g 1 answers ++ answers_t
 -- goroutine by goroutine in script order, each by its own statements
 abbrev pub answers_text : Program → List (List Answer) → List ℕ
 answers_text p answers = answers_text_from p 0 answers
+
+-- the answers of goroutine g, among answers each with its goroutine
+abbrev pub answers_by : ℕ → List (ℕ × Answer) → List Answer
+answers_by g [] = []
+answers_by g (x ∷ more) = (if x.0 == g then x.1 ∷ [] else []) ++ answers_by g more
+
+-- each goroutine's answers, in script order
+abbrev pub by_goroutine : Program → List (ℕ × Answer) → List (List Answer)
+by_goroutine p answers = map (λ g. answers_by g answers) (range_with_len 0 (length p.goroutines))
 
 -- What is told of a whole run.
 

@@ -1,45 +1,49 @@
 -- What a run has so far, and what it has when the world is done.
-use Rattle.std.proofs.Common.{◌≡◌, ℕ, ◌+◌, ◌<◌, ◌≤◌, true, false, ◌==◌, List, [], ◌∷◌, ◌++◌, map, length, drop, refl, sym, ◌∙◌, ap, subst, Option, Some, None, is_some, arith}
-use Rattle.std.specs.Option.{option_to_list}
-use Rattle.std.proofs.lemmas.List.{length-append, length-map, take_all, take-append-drop}
-use Rattle.std.proofs.lemmas.Bool.{eqb-true}
+use Rattle.std.proofs.Common.{◌≡◌, ℕ, ◌+◌, ◌<◌, ◌≤◌, Bool, true, false, cond, List, [], ◌∷◌, ◌++◌, length, reverse, refl, sym, ◌∙◌, ap, subst, Option, Some, None, is_some, arith}
+use Rattle.std.proofs.lemmas.List.{length-append, append-nil}
 use Rattle.gh_base.specs.declared.value.Answer.{Answer}
 use Rattle.gh_base.specs.declared.operation.Op.{Op}
-use Rattle.gh_base.specs.declared.operation.Op.TheVariants as op
 use Rattle.gh_base.specs.declared.layout.Layout.{Layout}
 use Rattle.gh_base.specs.declared.machine.Entry.{Entry}
 use Rattle.gh_base.specs.Packing.{bit}
-use Rattle.gh_script.specs.Program.{Program, statements_of, op_of}
+use Rattle.gh_script.specs.Program.{Program}
 use Rattle.gh_world.specs.declared.point.Point.{Point}
 use Rattle.gh_world.specs.declared.point.Point.TheVariants.{Idle, Left, Touch, LoadPage, LoadBits, LoadField, LoadBirth, StorePage, StoreBits, StoreField, GlobalLoad, GlobalStore, Slot, Look, Body, Head, Clear, Birth, ClearBits, SetBits, Alloc, Disown, Count, End, Leave}
 use Rattle.gh_world.specs.declared.world.World.{World}
 use Rattle.gh_world.specs.declared.world.Event.{Event}
 use Rattle.gh_world.specs.declared.world.Event.TheVariants as event
-use Rattle.gh_world.specs.Runs.{IsRun, IsRunSoFar, IsExplained, EveryRunIsExplained, answers_given}
-use Rattle.gh_world.specs.Turns.{answer_at, has_left_at, is_leaving}
-use Rattle.gh_world.specs.World.{Appends, IsAfter, SoundWorld, answer_in, count_of, event_at, event_of, is_done, layout_of, marks_in, marks_of, script_of, turns_of}
+use Rattle.gh_world.specs.Runs.{IsRun, IsRunSoFar, IsExplained, EveryRunIsExplained, answers_given, with_goroutine}
+use Rattle.gh_world.specs.declared.turns.Next.{Next}
+use Rattle.gh_world.specs.declared.turns.Next.TheVariants as next
+use Rattle.gh_world.specs.Order.{begun_in}
+use Rattle.gh_world.specs.Turns.{answer_at, has_left_at, is_leaving, is_over, is_statement, to_come, total_of}
+use Rattle.gh_world.specs.World.{Appends, IsAfter, SoundWorld, answer_in, event_at, event_of, is_done, layout_of, marks_in, marks_of, now_in, script_of}
 use Rattle.gh_replay.specs.Replayed.{IsReplayed, IsUnfinished, Ran}
 
 -- so far the world has taken turns of the budget and answered so
-pub record Midway (w : World) (budget left : ℕ) (answers : List Answer) : Type 0 where
+pub record Midway (w : World) (budget left : ℕ) (answers : List (ℕ × Answer)) : Type 0 where
   pub turns : List (Entry Op)
   pub after : IsAfter w turns
   pub long : length turns + left ≡ budget
   pub given : answers ≡ answers_given (script_of w) (layout_of w) turns
 
 -- what an event says that a statement was answered
-abbrev pub told : Event → List Answer
-told (event.Answered g n a) = a ∷ []
+abbrev pub told : Event → List (ℕ × Answer)
+told (event.Answered g n a) = (g, a) ∷ []
 told event.Moved = []
 told event.Finished = []
 
-told_at : (marks : ℕ) (p : Point) (a : Option Answer) → told (event_at marks p (answer_at p a)) ≡ option_to_list (answer_at p a)
+told_touch : (now : ℕ × ℕ) (o : Op) (b : Bool) (a : Option Answer) → told (event_at now (Touch o) (cond b a None)) ≡ with_goroutine now.0 (cond b a None)
+told_touch now o true None = refl
+told_touch now o true (Some a) = refl
+told_touch now o false a = refl
+
+told_at : (marks : ℕ × ℕ) (p : Point) (a : Option Answer) → told (event_at marks p (answer_at p a)) ≡ with_goroutine marks.0 (answer_at p a)
 told_at marks Idle None = refl
 told_at marks Idle (Some a) = refl
 told_at marks Left None = refl
 told_at marks Left (Some a) = refl
-told_at marks (Touch o) None = refl
-told_at marks (Touch o) (Some a) = refl
+told_at marks (Touch o) a = told_touch marks o (is_statement o) a
 told_at marks (LoadPage x) None = refl
 told_at marks (LoadPage x) (Some a) = refl
 told_at marks (LoadBits x) None = refl
@@ -110,17 +114,17 @@ left_is (Count x y) e = absurd (cc)
 left_is (End x) e = absurd (cc)
 left_is Leave e = absurd (cc)
 
-told_of : (p : Program) (l : Layout) (es : List (Entry Op)) (e : Entry Op) (happened : Event) → happened ≡ event_of p.shapes l es e → told happened ≡ option_to_list (answer_in p.shapes l es e)
+told_of : (p : Program) (l : Layout) (es : List (Entry Op)) (e : Entry Op) (happened : Event) → happened ≡ event_of p.shapes l es e → told happened ≡ with_goroutine (now_in p.shapes l (e ∷ es)).0 (answer_in p.shapes l es e)
 told_of p l es e happened says = ap told says ∙ told_at _ _ _
 
-given_more : (p q : Program) (l k : Layout) (es : List (Entry Op)) (e : Entry Op) (happened : Event) (answers : List Answer) → q ≡ p → k ≡ l → happened ≡ event_of q.shapes k es e → answers ≡ answers_given p l es →
+given_more : (p q : Program) (l k : Layout) (es : List (Entry Op)) (e : Entry Op) (happened : Event) (answers : List (ℕ × Answer)) → q ≡ p → k ≡ l → happened ≡ event_of q.shapes k es e → answers ≡ answers_given p l es →
     answers ++ told happened ≡ answers_given q k (e ∷ es)
 given_more p q l k es e happened answers script layout says given =
     let before = given ∙ ap (λ (r : Program). answers_given r l es) (sym script) ∙ ap (λ (j : Layout). answers_given q j es) (sym layout) in
-    ap (λ (xs : List Answer). xs ++ told happened) before ∙ ap (λ (xs : List Answer). answers_given q k es ++ xs) (told_of q k es e happened says)
+    ap (λ (xs : List (ℕ × Answer)). xs ++ told happened) before ∙ ap (λ (xs : List (ℕ × Answer)). answers_given q k es ++ xs) (told_of q k es e happened says)
 
 -- one turn more
-pub more : (w v : World) (happened : Event) (budget left rest : ℕ) (answers : List Answer) → Midway w budget left answers → left ≡ rest + 1 → ((es : List (Entry Op)) → IsAfter w es → Appends v 0 es happened) → script_of v ≡ script_of w → layout_of v ≡ layout_of w → Midway v budget rest (answers ++ told happened)
+pub more : (w v : World) (happened : Event) (budget left rest : ℕ) (answers : List (ℕ × Answer)) → Midway w budget left answers → left ≡ rest + 1 → ((es : List (Entry Op)) → IsAfter w es → Appends v 0 es happened) → script_of v ≡ script_of w → layout_of v ≡ layout_of w → Midway v budget rest (answers ++ told happened)
 more w v happened budget left rest answers m one appended script layout =
     let a = appended m.turns m.after in
     record {
@@ -133,31 +137,29 @@ more w v happened budget left rest answers m one appended script layout =
 -- as many answers as statements were answered
 answers_long : (p : Program) (l : Layout) (es : List (Entry Op)) → length (answers_given p l es) ≡ marks_in p.shapes l es
 answers_long p l [] = refl
-answers_long p l (e ∷ es) = length-append (answers_given p l es) (option_to_list (answer_in p.shapes l es e)) ∙ (rw (answers_long p l es) (one (answer_in p.shapes l es e))) where
-  one : (a : Option Answer) → marks_in p.shapes l es + length (option_to_list a) ≡ marks_in p.shapes l es + bit (is_some a)
+answers_long p l (e ∷ es) = length-append (answers_given p l es) (with_goroutine (now_in p.shapes l (e ∷ es)).0 (answer_in p.shapes l es e)) ∙ (rw (answers_long p l es) (one (answer_in p.shapes l es e))) where
+  one : (a : Option Answer) → marks_in p.shapes l es + length (with_goroutine (now_in p.shapes l (e ∷ es)).0 a) ≡ marks_in p.shapes l es + bit (is_some a)
   one None = refl
   one (Some a) = refl
 
 -- there is room for the answers of a sound world
-pub roomy : (w : World) (budget left : ℕ) (answers : List Answer) → SoundWorld w → Midway w budget left answers → length answers ≤ count_of (script_of w) + 2
+pub roomy : (w : World) (budget left : ℕ) (answers : List (ℕ × Answer)) → SoundWorld w → Midway w budget left answers → length answers ≤ total_of (script_of w)
 roomy w budget left answers sound m =
-    let many : length answers ≡ marks_of w = ap (λ (xs : List Answer). length xs) m.given ∙ answers_long (script_of w) (layout_of w) m.turns ∙ sym m.after.marked in
-    let few : w.turn ≤ count_of (script_of w) + 2 = sound.turns in
-    let marked = sound.marked in
-    omega (arith, many, few, marked)
+    let many : length answers ≡ marks_of w = ap (λ (xs : List (ℕ × Answer)). length xs) m.given ∙ answers_long (script_of w) (layout_of w) m.turns ∙ sym m.after.marked in
+    omega (arith, many, sound.all, sound.marked)
 
 -- one answer more has room
-pub room_for : (w v : World) (happened : Event) (budget left rest : ℕ) (answers : List Answer) (room g n : ℕ) (a : Answer) → Midway w budget left answers → left ≡ rest + 1 → ((es : List (Entry Op)) → IsAfter w es → Appends v 0 es happened) → script_of v ≡ script_of w → layout_of v ≡ layout_of w → SoundWorld v → happened ≡ event.Answered g n a → count_of (script_of w) + 2 ≤ room → length answers < room
+pub room_for : (w v : World) (happened : Event) (budget left rest : ℕ) (answers : List (ℕ × Answer)) (room g n : ℕ) (a : Answer) → Midway w budget left answers → left ≡ rest + 1 → ((es : List (Entry Op)) → IsAfter w es → Appends v 0 es happened) → script_of v ≡ script_of w → layout_of v ≡ layout_of w → SoundWorld v → happened ≡ event.Answered g n a → total_of (script_of w) ≤ room → length answers < room
 room_for w v happened budget left rest answers room g n a m one appended script layout sound is few =
-    let within : length (answers ++ told happened) ≤ count_of (script_of v) + 2 = roomy v budget rest (answers ++ told happened) sound (more w v happened budget left rest answers m one appended script layout) in
-    let grown : length (answers ++ told happened) ≡ length answers + 1 = ap (λ (e : Event). length (answers ++ told e)) is ∙ length-append answers (a ∷ []) in
-    let same : count_of (script_of v) ≡ count_of (script_of w) = ap count_of script in
+    let within : length (answers ++ told happened) ≤ total_of (script_of v) = roomy v budget rest (answers ++ told happened) sound (more w v happened budget left rest answers m one appended script layout) in
+    let grown : length (answers ++ told happened) ≡ length answers + 1 = ap (λ (e : Event). length (answers ++ told e)) is ∙ length-append answers ((g, a) ∷ []) in
+    let same : total_of (script_of v) ≡ total_of (script_of w) = ap total_of script in
     omega (arith, within, grown, same, few)
 
-pub opens : (w : World) (budget : ℕ) (answers : List Answer) → IsAfter w [] → answers ≡ [] → Midway w budget budget answers
+pub opens : (w : World) (budget : ℕ) (answers : List (ℕ × Answer)) → IsAfter w [] → answers ≡ [] → Midway w budget budget answers
 opens w budget answers after empty = record { turns = []; after = after; long = omega arith; given = empty }
 
-pub ran : (w : World) (budget left : ℕ) (answers : List Answer) → Midway w budget left answers → (is_done w ≡ false → left ≡ 0) → Ran w budget answers
+pub ran : (w : World) (budget left : ℕ) (answers : List (ℕ × Answer)) → Midway w budget left answers → (is_done w ≡ false → left ≡ 0) → Ran w budget answers
 ran w budget left answers m none = record {
   turns = m.turns;
   after = m.after;
@@ -166,28 +168,33 @@ ran w budget left answers m none = record {
   given = m.given;
 }
 
+over_is : (n : Next) → is_over n ≡ true → n ≡ next.Over
+over_is (next.Poll r g) e = absurd cc
+over_is (next.Run r g) e = absurd cc
+over_is next.Leave e = absurd cc
+over_is next.Over e = refl
+
 -- a world that is done has taken all turns
 whole : (w : World) (es : List (Entry Op)) → SoundWorld w → IsAfter w es → is_done w ≡ true → IsRun (script_of w) (layout_of w) es
 whole w es sound after done =
     let p = script_of w in
     let at : w.processor.point ≡ Left = left_is w.processor.point done in
-    let leaves : (w.turn == count_of p + 2) ≡ true = sym sound.leaves ∙ ap is_leaving at in
-    let turn : w.turn ≡ count_of p + 2 = eqb-true _ _ leaves in
-    let long : length (turns_of p 0) ≡ count_of p + 2 = length-append (map (op_of 0) (statements_of p 0)) (op.End 0 ∷ op.Leave ∷ []) ∙ ap (λ n. n + 2) (length-map (statements_of p 0) (op_of 0)) in
+    let over : w.next ≡ next.Over = over_is w.next (sym sound.leaves ∙ ap is_leaving at) in
+    let none : to_come p w.next ≡ [] = ap (to_come p) over in
     record {
       legal = after.legal;
-      turns = after.begun ∙ take_all w.turn (turns_of p 0) (omega (arith, long, turn));
+      turns = sym (after.turns ∙ ap (λ (xs : List Op). reverse (begun_in p.shapes (layout_of w) es) ++ xs) none ∙ append-nil (reverse (begun_in p.shapes (layout_of w) es)));
       done = ap (λ m. m.point) (sym after.processor) ∙ at;
     }
 
-pub finished : EveryRunIsExplained → (w : World) (p : Program) (budget : ℕ) (answers : List Answer) → SoundWorld w → script_of w ≡ p → Ran w budget answers → is_done w ≡ true → IsReplayed p budget answers
+pub finished : EveryRunIsExplained → (w : World) (p : Program) (budget : ℕ) (answers : List (ℕ × Answer)) → SoundWorld w → script_of w ≡ p → Ran w budget answers → is_done w ≡ true → IsReplayed p budget answers
 finished law w p budget answers sound script r done =
     subst (λ (q : Program). IsReplayed q budget answers) script (record {
       layout = layout_of w;
       lays_out = sound.layout;
       turns = r.turns;
       few = r.few;
-      explained = subst (λ (xs : List Answer). IsExplained (script_of w) (layout_of w) r.turns xs) (sym r.given)
+      explained = subst (λ (xs : List (ℕ × Answer)). IsExplained (script_of w) (layout_of w) r.turns xs) (sym r.given)
           (law (script_of w) (layout_of w) r.turns sound.script (whole w r.turns sound r.after done));
     })
 
@@ -195,11 +202,11 @@ finished law w p budget answers sound script r done =
 so_far : (w : World) (es : List (Entry Op)) → IsAfter w es → IsRunSoFar (script_of w) (layout_of w) es
 so_far w es after = record {
   legal = after.legal;
-  to_come = drop w.turn (turns_of (script_of w) 0);
-  turns = sym (take-append-drop w.turn (turns_of (script_of w) 0)) ∙ ap (λ (xs : List Op). xs ++ drop w.turn (turns_of (script_of w) 0)) (sym after.begun);
+  to_come = to_come (script_of w) w.next;
+  turns = after.turns;
 }
 
-pub unfinished : (w : World) (p : Program) (budget : ℕ) (answers : List Answer) → SoundWorld w → script_of w ≡ p → Ran w budget answers → is_done w ≡ false → IsUnfinished p budget
+pub unfinished : (w : World) (p : Program) (budget : ℕ) (answers : List (ℕ × Answer)) → SoundWorld w → script_of w ≡ p → Ran w budget answers → is_done w ≡ false → IsUnfinished p budget
 unfinished w p budget answers sound script r going =
     subst (λ (q : Program). IsUnfinished q budget) script (record {
       layout = layout_of w;
@@ -209,3 +216,10 @@ unfinished w p budget answers sound script r going =
       long = r.all going;
       going = ap (λ m. has_left_at m.point) (sym r.after.processor) ∙ going;
     })
+
+-- no more answers than statements
+pub few_answers : (w : World) (p : Program) (budget : ℕ) (answers : List (ℕ × Answer)) → SoundWorld w → script_of w ≡ p → Ran w budget answers → length answers ≤ total_of p
+few_answers w p budget answers sound script r =
+    let many : length answers ≡ marks_of w = ap (λ (xs : List (ℕ × Answer)). length xs) r.given ∙ answers_long (script_of w) (layout_of w) r.turns ∙ sym r.after.marked in
+    let within : length answers ≤ total_of (script_of w) = omega (arith, many, sound.all, sound.marked) in
+    subst (λ (q : Program). length answers ≤ total_of q) script within

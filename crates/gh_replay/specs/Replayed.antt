@@ -16,8 +16,8 @@ use Rattle.gh_world.specs.World.{opening, script_of, layout_of, is_done, IsAfter
 abbrev pub LaysOut : Program → Layout → Type 0
 LaysOut p l = IsLayoutOf p.settings.arena p.settings.globals p.settings.procs p.settings.workers (length p.goroutines) l
 
--- the answers are those of a whole run of the script, of at most so many turns, and are explained: the heap that never frees answers so, save `full`, which stands only where nothing fitted
-pub record IsReplayed (p : Program) (budget : ℕ) (answers : List Answer) : Type 0 where
+-- the answers, each with its goroutine, are those of a whole run of the script, of at most so many turns, and are explained: the heap that never frees answers so, save `full`, which stands only where nothing fitted
+pub record IsReplayed (p : Program) (budget : ℕ) (answers : List (ℕ × Answer)) : Type 0 where
   pub layout : Layout
   pub lays_out : LaysOut p layout
   pub turns : List (Entry Op)
@@ -35,15 +35,15 @@ pub record IsUnfinished (p : Program) (n : ℕ) : Type 0 where
 
 -- A script's run either ends within the budget or does not, and is answered in one way, whatever the budget.
 abbrev pub NotBoth : Type 0
-NotBoth = (p : Program) (budget : ℕ) (answers : List Answer) → IsReplayed p budget answers → IsUnfinished p budget → ⊥
+NotBoth = (p : Program) (budget : ℕ) (answers : List (ℕ × Answer)) → IsReplayed p budget answers → IsUnfinished p budget → ⊥
 
 abbrev pub OneAnswer : Type 0
-OneAnswer = (p : Program) (m n : ℕ) (answers others : List Answer) → IsReplayed p m answers → IsReplayed p n others → answers ≡ others
+OneAnswer = (p : Program) (m n : ℕ) (answers others : List (ℕ × Answer)) → IsReplayed p m answers → IsReplayed p n others → answers ≡ others
 
 -- Of the code's own.
 
 -- the world has taken turns within the budget, all of it where it is not done, and has answered so
-pub record Ran (w : World) (budget : ℕ) (answers : List Answer) : Type 0 where
+pub record Ran (w : World) (budget : ℕ) (answers : List (ℕ × Answer)) : Type 0 where
   pub turns : List (Entry Op)
   pub after : IsAfter w turns
   pub few : length turns ≤ budget

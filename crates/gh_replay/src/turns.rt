@@ -1,32 +1,39 @@
 //! A script's run.
 
-ghost use Rattle.std.specs.Prelude.{◌≡◌, ℕ, ◌+◌, ◌≤◌, List, [], IfOk, Err};
+ghost use Rattle.std.specs.Prelude.{◌≡◌, ℕ, ◌+◌, ◌≤◌, List, [], length, IfOk, Err};
 ghost use Rattle.std.specs.Vec.{vec_capacity};
 ghost use Rattle.gh_base.specs.declared.value.Answer.{Answer};
 ghost use Rattle.gh_replay.specs.declared.fault.ReplayFault.TheVariants.{OutOfTurns};
 ghost use Rattle.gh_replay.specs.Replayed.{IsReplayed, IsUnfinished, Ran};
-ghost use Rattle.gh_world.specs.World.{count_of, script_of, IsAfter, SoundWorld};
+ghost use Rattle.gh_world.specs.Turns.{total_of};
+ghost use Rattle.gh_world.specs.World.{script_of, IsAfter, SoundWorld};
 
 use crate::fault::ReplayFault;
 use crate::laws::one_outcome;
 use gh_base::Answer;
 use gh_script::Script;
-use gh_world::{Event, World, every_run_is_explained};
+use gh_world::{Event, World, every_run_is_explained, total_of};
 use std::alloc::Global;
 
-/// The answers to the script's statements, in order, where its run takes at most `budget` turns, and
+/// The answers to the script's statements, each with its goroutine, in the order of the statements'
+/// ends, where its run takes at most `budget` turns, and
 /// `OutOfTurns` where it takes more. All memory is taken before the first turn.
-pub fn replay(alloc: Global, script: &Script, budget: u64) -> Result<Vec<Answer>, ReplayFault>
+pub fn replay(
+    alloc: Global,
+    script: &Script,
+    budget: u64,
+) -> Result<Vec<(u32, Answer)>, ReplayFault>
     ensures explained { IfOk result (λ answers. IsReplayed script.now budget answers.items) }
     ensures out_of_turns { (n : ℕ) → result ≡ Err (OutOfTurns n) → (n ≡ budget) × IsUnfinished script.now n }
+    ensures few { IfOk result (λ answers. length answers.items ≤ total_of script.now) }
     ensures runs_out { IsUnfinished script.now budget → IfOk result (λ answers. ⊥) }
-    ensures ends { (answers : List Answer) (n : ℕ) → IsReplayed script.now budget answers → result ≡ Err (OutOfTurns n) → ⊥ }
+    ensures ends { (answers : List (ℕ × Answer)) (n : ℕ) → IsReplayed script.now budget answers → result ≡ Err (OutOfTurns n) → ⊥ }
 {
     every_run_is_explained();
     one_outcome();
     script.is_well_formed();
     let mut world = World::new(alloc, script)?;
-    let mut answers = Vec::with_capacity(alloc, script.count(0) as usize + 2)?;
+    let mut answers = Vec::with_capacity(alloc, total_of(script))?;
     run(&mut world, &mut answers, budget);
     if world.done() {
         Ok(answers)
@@ -36,11 +43,11 @@ pub fn replay(alloc: Global, script: &Script, budget: u64) -> Result<Vec<Answer>
 }
 
 /// Steps the world until it is done, or has taken so many turns.
-fn run(world: &mut World, answers: &mut Vec<Answer>, budget: u64)
+fn run(world: &mut World, answers: &mut Vec<(u32, Answer)>, budget: u64)
     requires sound { SoundWorld world.old }
     requires opens { IsAfter world.old [] }
     requires empty { answers.old.items ≡ [] }
-    requires room { count_of (script_of world.old) + 2 ≤ vec_capacity answers.old }
+    requires room { total_of (script_of world.old) ≤ vec_capacity answers.old }
     ensures sound { SoundWorld world.new }
     ensures script { script_of world.new ≡ script_of world.old }
     ensures ran { Ran world.new budget answers.new.items }
@@ -48,7 +55,7 @@ fn run(world: &mut World, answers: &mut Vec<Answer>, budget: u64)
     let mut left = budget;
     while left > 0 && !world.done() {
         match world.step(0) {
-            Event::Answered { answer, .. } => answers.push_reserved(answer),
+            Event::Answered { g, answer, .. } => answers.push_reserved((g, answer)),
             Event::Moved => {}
             Event::Finished => {}
         }

@@ -102,6 +102,11 @@ type_fits draft key line h e = let a = allowed draft keys.Type line (rw e at h) 
 pub type_few : (draft : Draft) (key : Key) (line : Sentence) → cause_at draft key line ≡ None → key ≡ keys.Type → length draft.names < 64
 type_few draft key line h e = let a = allowed draft keys.Type line (rw e at h) in leb-false 64 (length draft.names) (right_false (not (fits_limits line.third)) _ a.limit)
 
+pub times_fit : (draft : Draft) (key : Key) (line : Sentence) → cause_at draft key line ≡ None → key ≡ keys.Repeat → (1 ≤ number_in line.second) × (number_in line.second ≤ 200000)
+times_fit draft key line h e =
+    let a = allowed draft keys.Repeat line (rw e at h) in
+    (ltb-false (number_in line.second) 1 (left_false (ltb (number_in line.second) 1) (ltb 200000 (number_in line.second)) a.limit), ltb-false 200000 (number_in line.second) (right_false (ltb (number_in line.second) 1) (ltb 200000 (number_in line.second)) a.limit))
+
 pub name_fits : (draft : Draft) (key : Key) (line : Sentence) → cause_at draft key line ≡ None → key ≡ keys.Go → is_name line.second ≡ true
 name_fits draft key line h e =
     let a = allowed draft keys.Go line (rw e at h) in not_false (is_name line.second) (right_false (not (eqb line.count 2)) _ a.word)

@@ -1,31 +1,33 @@
 -- A text that has the form of a script spells it: each of its lines is taken in its turn.
-use Rattle.std.proofs.Common.{◌≡◌, ℕ, suc, ◌+◌, ◌<◌, ◌≤◌, Bool, true, false, not, cond, leb, List, [], ◌∷◌, ◌++◌, length, Option, Some, None, Result, Ok, refl, sym, ap, ◌∙◌, subst, append_assoc, arith, get_or}
-use Rattle.std.specs.Prelude.{All, is_some, is_none, fold, ◌≢◌, AllPairs}
+use Rattle.std.proofs.Common.{◌≡◌, ℕ, zero, suc, ◌+◌, ◌<◌, ◌≤◌, Bool, true, false, not, cond, eqb, leb, ◌&&◌, List, [], ◌∷◌, ◌++◌, length, map, Option, Some, None, Result, Ok, refl, sym, ap, ◌∙◌, subst, append_assoc, arith, get_or}
+use Rattle.std.specs.Prelude.{All, is_some, fold, ◌≢◌, AllPairs, sum_by}
 use Rattle.std.specs.Option.{option_map, option_to_list}
-use Rattle.std.specs.List.{position_or_len}
+use Rattle.std.specs.List.{flat_map, list_any, repeat, position_or_len}
 use Rattle.std.specs.Str.{bytes_eq}
 use Rattle.std.proofs.lemmas.Bool.{lt-leb, le-ltb}
-use Rattle.std.proofs.lemmas.List.{append-nil, length-append, get_or_at, get_or_append_left}
+use Rattle.std.proofs.lemmas.List.{append-nil, length-append, length-map, length_push, get_or_at, get_or_append_left}
 use Rattle.std.proofs.lemmas.List.Elements.{All-head, All-tail}
-use Rattle.std.proofs.lemmas.List.Sums.{position_or_len_is}
+use Rattle.std.proofs.lemmas.List.Sums.{position_or_len_is, sum_by-append}
 use Rattle.std.proofs.lemmas.Slice.Eq.{bytes_eq-Decides}
 use Rattle.gh_script.specs.declared.fault.ScriptFault.{ScriptFault}
 use Rattle.gh_base.specs.declared.shape.Shape.{Shape}
 use Rattle.gh_script.specs.declared.statement.Settings.{Settings}
 use Rattle.gh_script.specs.declared.given.Given.{Given}
+use Rattle.gh_script.specs.declared.goroutine.Repeat.{Repeat}
 use Rattle.gh_script.specs.declared.key.Setting.{Setting}
 use Rattle.gh_script.specs.declared.key.Setting.TheVariants.{Procs, Workers, Arena, Globals, Gogc, Minheap}
 use Rattle.gh_script.specs.declared.key.Key.{Key}
 use Rattle.gh_script.specs.declared.key.Key.TheVariants as keys
 use Rattle.gh_script.specs.declared.statement.Stmt.{Stmt}
-use Rattle.gh_script.specs.Program.{Program, Goroutine}
+use Rattle.gh_script.specs.Program.{Program, Goroutine, AreNamedApart, statements_in}
 use Rattle.gh_script.specs.Text.{Sentence, lines_of}
 use Rattle.gh_script.specs.Words.{key_of}
 use Rattle.gh_script.specs.ShapeText.{fits_limits, fields_of, shape_with}
-use Rattle.gh_script.specs.Draft.{Draft, blank_draft, with_given, given_at, type_of, has_goroutine, statements_so_far, goroutines_begun, program_in, settings_in, with_statement}
+use Rattle.gh_script.specs.Draft.{Draft, blank_draft, with_given, given_at, type_of, has_goroutine, goroutines_begun, program_in, settings_in, Open, kept, with_statement, written_out, are_too_many}
 use Rattle.gh_script.specs.Grammar.{cause_at, continued, number_in, is_skipped, statement_of, read_cause, read_key, read_line, read_lines, go_on, read_end, then_end, Spells}
-use Rattle.gh_script.specs.Form.{said_in, sayings, inside, IsTaken, IsHeadKey, IsHead, AreApart, given_by_key, settings_by, names_by, shapes_by, statement_by_key, IsSaying, statements_by, HasForm}
-use Rattle.gh_script.proofs.Allowed.{allowed, left_false}
+use Rattle.gh_script.specs.Form.{said_in, sayings, inside, IsTaken, IsHeadKey, IsHead, AreApart, given_by_key, settings_by, names_by, shapes_by, statement_by_key, IsTakenAs, Block, Nothing, Say, Repeated, lines_in, statements_by, IsBlock, Routine, routine_lines, IsRoutine, goroutine_by, HasForm}
+use Rattle.gh_script.proofs.Allowed.{allowed, left_false, times_fit}
+use Rattle.gh_script.proofs.Written.{kept_some, written_behind, not_zero, some_repeat, ended_repeat}
 use Rattle.gh_script.proofs.Readings.{reading_of-text}
 use Rattle.gh_script.proofs.FormLaw.{cause_none, or_false, none_given}
 
@@ -201,92 +203,183 @@ head_steps : (draft : Draft) (rest : List Sentence) → Ready draft rest → Ste
 head_steps draft [] r = made_same draft draft.given draft.given draft.names (draft.names ++ []) draft.shapes (draft.shapes ++ []) refl (sym (append-nil draft.names)) (sym (append-nil draft.shapes))
 head_steps draft (l ∷ ls) r = head_by_key draft l ls (key_of l.first) refl (All-head IsHead l ls r.heads) r (λ next ready. head_steps next ls ready)
 
--- ---- the goroutine
+-- ---- blocks
 
-abbrev with_more : Draft → Goroutine → List Stmt → Draft
-with_more draft g more = record draft { current = Some (record g { statements = g.statements ++ more }) }
+-- a goroutine is open, with these statements and these open `repeat`s
+abbrev at : Draft → List ℕ → List Stmt → List Repeat → Draft
+at draft name ss repeats = record draft { current = Some (record { name = name; statements = Some ss; repeats = repeats }) }
 
--- one statement, and then the others
-say_step : (draft : Draft) (g : Goroutine) (key : Key) (l : Sentence) (ls : List Sentence) → draft.current ≡ Some g → key_of l.first ≡ Some key → cause_at draft key l ≡ None
-    → continued draft key l ≡ record draft { current = option_map (with_statement (statement_of draft.names key l)) draft.current }
-    → ((next : Draft) (h : Goroutine) → next.given ≡ draft.given → next.names ≡ draft.names → next.current ≡ Some h → Steps next ls (with_more next h (statements_by draft.names ls)))
-    → Steps draft (l ∷ ls) (with_more draft g (statements_by draft.names (l ∷ ls)))
-say_step draft g key l ls cur e c next rest =
-    let said = option_to_list (statement_of draft.names key l) in
-    let h : Goroutine = record g { statements = g.statements ++ option_to_list (statement_of draft.names key l) } in
-    let d : Draft = record draft { current = option_map (with_statement (statement_of draft.names key l)) draft.current } in
-    let steps = rest (record draft { current = option_map (with_statement (statement_of draft.names key l)) draft.current }) (record g { statements = g.statements ++ option_to_list (statement_of draft.names key l) }) refl refl (ap (option_map (with_statement (statement_of draft.names key l))) cur) in
-    let all : (g.statements ++ option_to_list (statement_of draft.names key l)) ++ statements_by draft.names ls ≡ g.statements ++ statements_by draft.names (l ∷ ls) =
-    append_assoc g.statements (option_to_list (statement_of draft.names key l)) (statements_by draft.names ls)
-    ∙ ap (λ (ss : List Stmt). g.statements ++ (ss ++ statements_by draft.names ls)) (ap option_to_list (sym (ap (statement_by_key draft.names l) e))) in
-    let same = ap (λ (ss : List Stmt). record draft { current = Some (record g { statements = ss }) }) all in (
-      key,
-      e,
-      c,
-      subst (λ (z : Draft). Steps z ls (with_more draft g (statements_by draft.names (l ∷ ls)))) (sym next)
-          (subst (λ (z : Draft). Steps (record draft { current = option_map (with_statement (statement_of draft.names key l)) draft.current }) ls z) same steps),
+-- one statement
+say_step : (draft : Draft) (name : List ℕ) (ss : List Stmt) (repeats : List Repeat) (key : Key) (l : Sentence) → key_of l.first ≡ Some key → cause_at (at draft name ss repeats) key l ≡ None
+    → continued (at draft name ss repeats) key l ≡ record draft { current = option_map (with_statement (statement_of draft.names key l)) (at draft name ss repeats).current }
+    → length (ss ++ option_to_list (statement_by_key draft.names l (key_of l.first))) ≤ 200000
+    → Steps (at draft name ss repeats) (l ∷ []) (at draft name (ss ++ option_to_list (statement_by_key draft.names l (key_of l.first))) repeats)
+say_step draft name ss repeats key l e c next few =
+    let same : statement_by_key draft.names l (key_of l.first) ≡ statement_of draft.names key l = ap (statement_by_key draft.names l) e in
+    let all : kept (ss ++ option_to_list (statement_of draft.names key l)) ≡ Some (ss ++ option_to_list (statement_by_key draft.names l (key_of l.first))) =
+    ap (λ (o : Option Stmt). kept (ss ++ option_to_list o)) (sym same) ∙ kept_some (ss ++ option_to_list (statement_by_key draft.names l (key_of l.first))) few in
+    (key, e, c, next ∙ ap (λ (o : Option (List Stmt)). record draft { current = Some (record { name = name; statements = o; repeats = repeats }) }) all)
+
+say_by_key : (draft : Draft) (name : List ℕ) (ss : List Stmt) (repeats : List Repeat) (l : Sentence) (key : Option Key) (s : Stmt) → key_of l.first ≡ key → statement_by_key draft.names l key ≡ Some s → IsTaken (inside draft.given draft.names) l
+    → length (ss ++ option_to_list (statement_by_key draft.names l (key_of l.first))) ≤ 200000
+    → Steps (at draft name ss repeats) (l ∷ []) (at draft name (ss ++ option_to_list (statement_by_key draft.names l (key_of l.first))) repeats)
+unfolding continued
+say_by_key draft name ss repeats l None s e is t few = absurd cc
+say_by_key draft name ss repeats l (Some (keys.Setting x)) s e is t few = absurd cc
+say_by_key draft name ss repeats l (Some keys.Type) s e is t few = absurd cc
+say_by_key draft name ss repeats l (Some keys.Go) s e is t few = absurd cc
+say_by_key draft name ss repeats l (Some keys.Repeat) s e is t few = absurd cc
+say_by_key draft name ss repeats l (Some keys.End) s e is t few = absurd cc
+say_by_key draft name ss repeats l (Some keys.New) s e is t few =
+    let a = allowed (inside draft.given draft.names) keys.New l (t keys.New e) in
+    say_step draft name ss repeats keys.New l e (cause_none (at draft name ss repeats) keys.New l (record { word = a.word; number = a.number; limit = a.limit; twice = a.twice; unknown = a.unknown; nesting = refl })) refl few
+say_by_key draft name ss repeats l (Some keys.Load) s e is t few =
+    let a = allowed (inside draft.given draft.names) keys.Load l (t keys.Load e) in
+    say_step draft name ss repeats keys.Load l e (cause_none (at draft name ss repeats) keys.Load l (record { word = a.word; number = a.number; limit = a.limit; twice = a.twice; unknown = a.unknown; nesting = refl })) refl few
+say_by_key draft name ss repeats l (Some keys.Store) s e is t few =
+    let a = allowed (inside draft.given draft.names) keys.Store l (t keys.Store e) in
+    say_step draft name ss repeats keys.Store l e (cause_none (at draft name ss repeats) keys.Store l (record { word = a.word; number = a.number; limit = a.limit; twice = a.twice; unknown = a.unknown; nesting = refl })) refl few
+say_by_key draft name ss repeats l (Some keys.GetGlobal) s e is t few =
+    let a = allowed (inside draft.given draft.names) keys.GetGlobal l (t keys.GetGlobal e) in
+    say_step draft name ss repeats keys.GetGlobal l e (cause_none (at draft name ss repeats) keys.GetGlobal l (record { word = a.word; number = a.number; limit = a.limit; twice = a.twice; unknown = a.unknown; nesting = refl })) refl few
+say_by_key draft name ss repeats l (Some keys.SetGlobal) s e is t few =
+    let a = allowed (inside draft.given draft.names) keys.SetGlobal l (t keys.SetGlobal e) in
+    say_step draft name ss repeats keys.SetGlobal l e (cause_none (at draft name ss repeats) keys.SetGlobal l (record { word = a.word; number = a.number; limit = a.limit; twice = a.twice; unknown = a.unknown; nesting = refl })) refl few
+say_by_key draft name ss repeats l (Some keys.Int) s e is t few =
+    let a = allowed (inside draft.given draft.names) keys.Int l (t keys.Int e) in
+    say_step draft name ss repeats keys.Int l e (cause_none (at draft name ss repeats) keys.Int l (record { word = a.word; number = a.number; limit = a.limit; twice = a.twice; unknown = a.unknown; nesting = refl })) refl few
+say_by_key draft name ss repeats l (Some keys.Move) s e is t few =
+    let a = allowed (inside draft.given draft.names) keys.Move l (t keys.Move e) in
+    say_step draft name ss repeats keys.Move l e (cause_none (at draft name ss repeats) keys.Move l (record { word = a.word; number = a.number; limit = a.limit; twice = a.twice; unknown = a.unknown; nesting = refl })) refl few
+say_by_key draft name ss repeats l (Some keys.Nil) s e is t few =
+    let a = allowed (inside draft.given draft.names) keys.Nil l (t keys.Nil e) in
+    say_step draft name ss repeats keys.Nil l e (cause_none (at draft name ss repeats) keys.Nil l (record { word = a.word; number = a.number; limit = a.limit; twice = a.twice; unknown = a.unknown; nesting = refl })) refl few
+
+opens_none : (draft : Draft) (name : List ℕ) (ss : List Stmt) (repeats : List Repeat) (l : Sentence) → cause_at (inside draft.given draft.names) keys.Repeat l ≡ None → length repeats < 8 → cause_at (at draft name ss repeats) keys.Repeat l ≡ None
+opens_none draft name ss repeats l c few =
+    let a = allowed (inside draft.given draft.names) keys.Repeat l c in
+    cause_none (at draft name ss repeats) keys.Repeat l (record { word = a.word; number = a.number; limit = a.limit; twice = refl; unknown = refl; nesting = lt-leb 8 (length repeats) few })
+
+closes_none : (draft : Draft) (name : List ℕ) (ss : List Stmt) (innermost : Repeat) (others : List Repeat) (l : Sentence) → cause_at (inside draft.given draft.names) keys.End l ≡ None → cause_at (at draft name ss (innermost ∷ others)) keys.End l ≡ None
+closes_none draft name ss innermost others l c =
+    let a = allowed (inside draft.given draft.names) keys.End l c in
+    cause_none (at draft name ss (innermost ∷ others)) keys.End l (record { word = a.word; number = a.number; limit = ap (λ (b : Bool). b && are_too_many draft.closed (Some ss)) (some_repeat innermost others); twice = refl; unknown = refl; nesting = refl })
+
+closes_step : (draft : Draft) (name : List ℕ) (front body : List Stmt) (times : ℕ) (others : List Repeat) (l : Sentence) → IsTakenAs (inside draft.given draft.names) keys.End l → length (front ++ repeat times body) ≤ 200000
+    → Steps (at draft name (front ++ body) (record { start = length front; times = times } ∷ others)) (l ∷ []) (at draft name (front ++ repeat times body) others)
+unfolding continued
+closes_step draft name front body times others l t few =
+    let innermost : Repeat = record { start = length front; times = times } in
+    let g : Open = record { name = name; statements = Some (front ++ body); repeats = innermost ∷ others } in
+    let d : Draft = at draft name (front ++ body) (innermost ∷ others) in
+    let written : written_out innermost (front ++ body) ≡ Some (front ++ repeat times body) = written_behind front body times ∙ kept_some (front ++ repeat times body) few in (
+      keys.End,
+      t.0,
+      closes_none draft name (front ++ body) innermost others l t.1,
+      ended_repeat d g innermost others refl ∙ ap (λ (o : Option (List Stmt)). record draft { current = Some (record { name = name; statements = o; repeats = others }) }) written,
     )
 
-open_current : (o : Option Goroutine) (g : Goroutine) → o ≡ Some g → is_none o ≡ false
-open_current o g e = ap is_none e
+-- a body that stands at least once isn't longer than its repetitions
+repeat_longer : (times : ℕ) (body : List Stmt) → 1 ≤ times → length body ≤ length (repeat times body)
+repeat_longer zero body h = absurd (omega arith)
+repeat_longer (suc n) body h = omega (arith, length-append body (repeat n body))
 
-say_by_key : (draft : Draft) (g : Goroutine) (l : Sentence) (ls : List Sentence) (key : Option Key) (s : Stmt) → draft.current ≡ Some g → key_of l.first ≡ key → statement_by_key draft.names l key ≡ Some s
-    → IsTaken (inside draft.given draft.names) l
-    → ((next : Draft) (h : Goroutine) → next.given ≡ draft.given → next.names ≡ draft.names → next.current ≡ Some h → Steps next ls (with_more next h (statements_by draft.names ls)))
-    → Steps draft (l ∷ ls) (with_more draft g (statements_by draft.names (l ∷ ls)))
+block_steps : (draft : Draft) (name : List ℕ) (ss : List Stmt) (repeats : List Repeat) (around : ℕ) (block : Block) → around ≡ length repeats → IsBlock draft.given draft.names around block → length ss + length (statements_by draft.names block) ≤ 200000
+    → Steps (at draft name ss repeats) (lines_in block) (at draft name (ss ++ statements_by draft.names block) repeats)
 unfolding continued
-say_by_key draft g l ls None s cur e is t rest = absurd cc
-say_by_key draft g l ls (Some (keys.Setting x)) s cur e is t rest = absurd cc
-say_by_key draft g l ls (Some keys.Type) s cur e is t rest = absurd cc
-say_by_key draft g l ls (Some keys.Go) s cur e is t rest = absurd cc
-say_by_key draft g l ls (Some keys.End) s cur e is t rest = absurd cc
-say_by_key draft g l ls (Some keys.New) s cur e is t rest =
-    let a = allowed (inside draft.given draft.names) keys.New l (t keys.New e) in
-    say_step draft g keys.New l ls cur e (cause_none draft keys.New l (record { word = a.word; number = a.number; limit = a.limit; twice = a.twice; unknown = a.unknown; nesting = open_current draft.current g cur })) refl rest
-say_by_key draft g l ls (Some keys.Load) s cur e is t rest =
-    let a = allowed (inside draft.given draft.names) keys.Load l (t keys.Load e) in
-    say_step draft g keys.Load l ls cur e (cause_none draft keys.Load l (record { word = a.word; number = a.number; limit = a.limit; twice = a.twice; unknown = a.unknown; nesting = open_current draft.current g cur })) refl rest
-say_by_key draft g l ls (Some keys.Store) s cur e is t rest =
-    let a = allowed (inside draft.given draft.names) keys.Store l (t keys.Store e) in
-    say_step draft g keys.Store l ls cur e (cause_none draft keys.Store l (record { word = a.word; number = a.number; limit = a.limit; twice = a.twice; unknown = a.unknown; nesting = open_current draft.current g cur })) refl rest
-say_by_key draft g l ls (Some keys.GetGlobal) s cur e is t rest =
-    let a = allowed (inside draft.given draft.names) keys.GetGlobal l (t keys.GetGlobal e) in
-    say_step draft g keys.GetGlobal l ls cur e (cause_none draft keys.GetGlobal l (record { word = a.word; number = a.number; limit = a.limit; twice = a.twice; unknown = a.unknown; nesting = open_current draft.current g cur })) refl rest
-say_by_key draft g l ls (Some keys.SetGlobal) s cur e is t rest =
-    let a = allowed (inside draft.given draft.names) keys.SetGlobal l (t keys.SetGlobal e) in
-    say_step draft g keys.SetGlobal l ls cur e (cause_none draft keys.SetGlobal l (record { word = a.word; number = a.number; limit = a.limit; twice = a.twice; unknown = a.unknown; nesting = open_current draft.current g cur })) refl rest
-say_by_key draft g l ls (Some keys.Int) s cur e is t rest =
-    let a = allowed (inside draft.given draft.names) keys.Int l (t keys.Int e) in
-    say_step draft g keys.Int l ls cur e (cause_none draft keys.Int l (record { word = a.word; number = a.number; limit = a.limit; twice = a.twice; unknown = a.unknown; nesting = open_current draft.current g cur })) refl rest
-say_by_key draft g l ls (Some keys.Move) s cur e is t rest =
-    let a = allowed (inside draft.given draft.names) keys.Move l (t keys.Move e) in
-    say_step draft g keys.Move l ls cur e (cause_none draft keys.Move l (record { word = a.word; number = a.number; limit = a.limit; twice = a.twice; unknown = a.unknown; nesting = open_current draft.current g cur })) refl rest
-say_by_key draft g l ls (Some keys.Nil) s cur e is t rest =
-    let a = allowed (inside draft.given draft.names) keys.Nil l (t keys.Nil e) in
-    say_step draft g keys.Nil l ls cur e (cause_none draft keys.Nil l (record { word = a.word; number = a.number; limit = a.limit; twice = a.twice; unknown = a.unknown; nesting = open_current draft.current g cur })) refl rest
+block_steps draft name ss repeats around Nothing e h few = ap (λ (l : List Stmt). at draft name l repeats) (sym (append-nil ss))
+block_steps draft name ss repeats around (Say before line) e h few =
+    let more = length-append (statements_by draft.names before) (option_to_list (statement_by_key draft.names line (key_of line.first))) in
+    let all : (ss ++ statements_by draft.names before) ++ option_to_list (statement_by_key draft.names line (key_of line.first)) ≡ ss ++ statements_by draft.names (Say before line) =
+    append_assoc ss (statements_by draft.names before) (option_to_list (statement_by_key draft.names line (key_of line.first))) in
+    let count : length ((ss ++ statements_by draft.names before) ++ option_to_list (statement_by_key draft.names line (key_of line.first))) ≤ 200000 =
+    omega (arith, ap length all, length-append ss (statements_by draft.names (Say before line)), few) in
+    Steps-append (at draft name ss repeats) (at draft name (ss ++ statements_by draft.names before) repeats) (at draft name (ss ++ statements_by draft.names (Say before line)) repeats) (lines_in before) (line ∷ [])
+    (block_steps draft name ss repeats around before e h.0 (omega (arith, more, few)))
+    (subst (λ (l : List Stmt). Steps (at draft name (ss ++ statements_by draft.names before) repeats) (line ∷ []) (at draft name l repeats)) all
+    (say_by_key draft name (ss ++ statements_by draft.names before) repeats line (key_of line.first) h.1.0 refl h.1.1 h.2 count))
+block_steps draft name ss repeats around (Repeated before opens body closes) e h few =
+    let front : List Stmt = ss ++ statements_by draft.names before in
+    let innermost : Repeat = record { start = length front; times = number_in opens.second } in
+    let some = times_fit (inside draft.given draft.names) keys.Repeat opens h.1.1 refl in
+    let longer = repeat_longer (number_in opens.second) (statements_by draft.names body) some.0 in
+    let split = length-append (statements_by draft.names before) (repeat (number_in opens.second) (statements_by draft.names body)) in
+    let fronts = length-append ss (statements_by draft.names before) in
+    let all : front ++ repeat (number_in opens.second) (statements_by draft.names body) ≡ ss ++ statements_by draft.names (Repeated before opens body closes) =
+    append_assoc ss (statements_by draft.names before) (repeat (number_in opens.second) (statements_by draft.names body)) in
+    let whole = length-append front (repeat (number_in opens.second) (statements_by draft.names body)) in
+    let ends = closes_step draft name front (statements_by draft.names body) (number_in opens.second) repeats closes h.4 (omega (arith, whole, fronts, split, few)) in
+    Steps-append (at draft name ss repeats) (at draft name front repeats) (at draft name (ss ++ statements_by draft.names (Repeated before opens body closes)) repeats) (lines_in before) (opens ∷ (lines_in body ++ closes ∷ []))
+    (block_steps draft name ss repeats around before e h.0 (omega (arith, split, few))) (
+      keys.Repeat,
+      h.1.0,
+      opens_none draft name front repeats opens h.1.1 (omega (arith, h.2, e)),
+      Steps-append (at draft name front (innermost ∷ repeats)) (at draft name (front ++ statements_by draft.names body) (innermost ∷ repeats)) (at draft name (ss ++ statements_by draft.names (Repeated before opens body closes)) repeats) (lines_in body) (closes ∷ [])
+          (block_steps draft name front (innermost ∷ repeats) (around + 1) body (omega (arith, e)) h.3 (omega (arith, longer, fronts, split, few)))
+          (subst (λ (l : List Stmt). Steps (at draft name (front ++ statements_by draft.names body) (innermost ∷ repeats)) (closes ∷ []) (at draft name l repeats)) all ends),
+    )
 
-body_steps : (draft : Draft) (g : Goroutine) (names : List (List ℕ)) (given : Given) (body : List Sentence) → draft.given ≡ given → draft.names ≡ names → draft.current ≡ Some g
-    → All (IsSaying names) body → All (IsTaken (inside given names)) body → Steps draft body (with_more draft g (statements_by names body))
-body_steps draft g names given [] eg en cur says taken = ap (λ (o : Option Goroutine). record draft { current = o }) (cur ∙ ap (λ (ss : List Stmt). Some (record g { statements = ss })) (sym (append-nil g.statements)))
-body_steps draft g names given (l ∷ ls) eg en cur says taken =
-    let one = All-head (IsSaying names) l ls says in
-    let here : statement_by_key draft.names l (key_of l.first) ≡ Some one.0 = ap (λ (ns : List (List ℕ)). statement_by_key ns l (key_of l.first)) en ∙ one.1 in
-    let inner : IsTaken (inside draft.given draft.names) l =
-    λ k e. ap (λ (g : Given). cause_at (inside g draft.names) k l) eg ∙ ap (λ (ns : List (List ℕ)). cause_at (inside given ns) k l) en ∙ All-head (IsTaken (inside given names)) l ls taken k e in
-    let steps = say_by_key draft g l ls (key_of l.first) one.0 cur refl here inner
-    (λ next h fg fn c. subst (λ (ns : List (List ℕ)). Steps next ls (with_more next h (statements_by ns ls))) (sym en)
-    (body_steps next h names given ls (fg ∙ eg) (fn ∙ en) c (All-tail (IsSaying names) l ls says) (All-tail (IsTaken (inside given names)) l ls taken))) in
-    subst (λ (ns : List (List ℕ)). Steps draft (l ∷ ls) (with_more draft g (statements_by ns (l ∷ ls)))) en steps
+-- ---- goroutines
+
+-- a name that differs from those of the goroutines is none of theirs
+not_among : (closed : List Goroutine) (word : List ℕ) → All (λ g. g.name ≢ word) closed → list_any (λ g. bytes_eq g.name word) closed ≡ false
+not_among [] word h = refl
+not_among (g ∷ gs) word h =
+    or_false (bytes_eq g.name word) (list_any (λ g. bytes_eq g.name word) gs) (test_false g.name word (bytes_eq g.name word) refl (All-head (λ g. g.name ≢ word) g gs h)) (not_among gs word (All-tail (λ g. g.name ≢ word) g gs h))
+
+name_free : (draft : Draft) (word : List ℕ) → draft.current ≡ None → All (λ g. g.name ≢ word) draft.closed → has_goroutine draft word ≡ false
+unfolding has_goroutine
+name_free draft word e h = or_false (list_any (λ g. bytes_eq g.name word) draft.closed) (list_any (λ g. bytes_eq g.name word) (option_to_list draft.current)) (not_among draft.closed word h) (ap (λ (o : Option Open). list_any (λ g. bytes_eq g.name word) (option_to_list o)) e)
+
+-- each earlier goroutine has another name than this one
+earlier_apart : (before : List Goroutine) (g : Goroutine) (others : List Goroutine) → AllPairs AreNamedApart (before ++ g ∷ others) → All (λ h. h.name ≢ g.name) before
+earlier_apart before g others apart k d lt same =
+    let one : get_or (before ++ g ∷ others) k d ≡ get_or before k d = get_or_append_left before (g ∷ others) d k lt in
+    let two : get_or (before ++ g ∷ others) (length before) d ≡ g = get_or_at before g others d (length before) refl in
+    apart k (length before) d lt (omega (arith, length-append before (g ∷ others))) (ap (λ (x : Goroutine). x.name) one ∙ same ∙ sym (ap (λ (x : Goroutine). x.name) two))
+
+-- with one more goroutine
+abbrev with_routine : Draft → Goroutine → Draft
+with_routine draft g = record draft { closed = draft.closed ++ g ∷ []; current = None }
+
+routine_steps : (draft : Draft) (r : Routine) → draft.current ≡ None → IsRoutine draft.given draft.names r → length draft.closed < 32 → All (λ g. g.name ≢ r.go.second) draft.closed
+    → sum_by statements_in draft.closed + length (statements_by draft.names r.block) ≤ 200000 → Steps draft (routine_lines r) (with_routine draft (goroutine_by draft.names r))
+unfolding continued
+routine_steps draft r e h few apart total =
+    let a = allowed blank_draft keys.Go r.go h.begins.1 in
+    let begun : goroutines_begun draft < 32 = omega (arith, few, ap (λ (o : Option Open). length (option_to_list o)) e) in
+    let goes : cause_at draft keys.Go r.go ≡ None = cause_none draft keys.Go r.go (record { word = a.word; number = a.number; limit = lt-leb 32 (goroutines_begun draft) begun; twice = name_free draft r.go.second e apart; unknown = refl; nesting = ap is_some e }) in
+    let b = allowed (inside draft.given draft.names) keys.End r.last h.ends.1 in
+    let d : Draft = at draft r.go.second (statements_by draft.names r.block) [] in
+    let ends : cause_at d keys.End r.last ≡ None =
+    cause_none d keys.End r.last (record { word = b.word; number = b.number; limit = le-ltb 200000 (sum_by statements_in draft.closed + length (statements_by draft.names r.block)) total; twice = refl; unknown = refl; nesting = refl }) in (
+      keys.Go,
+      h.begins.0,
+      goes,
+      Steps-append (at draft r.go.second [] []) d (with_routine draft (goroutine_by draft.names r)) (lines_in r.block) (r.last ∷ [])
+          (block_steps draft r.go.second [] [] 0 r.block refl h.block (omega (arith, total)))
+          (keys.End, h.ends.0, ends, refl),
+    )
+
+routines_steps : (draft : Draft) (names : List (List ℕ)) (routines : List Routine) → draft.names ≡ names → draft.current ≡ None → All (IsRoutine draft.given draft.names) routines → length draft.closed + length routines ≤ 32
+    → AllPairs AreNamedApart (draft.closed ++ map (goroutine_by names) routines) → sum_by statements_in (draft.closed ++ map (goroutine_by names) routines) ≤ 200000
+    → Steps draft (flat_map routine_lines routines) (record draft { closed = draft.closed ++ map (goroutine_by names) routines; current = None })
+routines_steps draft names [] n e h few apart total = ap (λ (o : Option Open). record draft { current = o }) e ∙ ap (λ (l : List Goroutine). record draft { closed = l; current = None }) (sym (append-nil draft.closed))
+routines_steps draft names (r ∷ rs) n e h few apart total =
+    let same : goroutine_by draft.names r ≡ goroutine_by names r = ap (λ (l : List (List ℕ)). goroutine_by l r) n in
+    let all : (draft.closed ++ goroutine_by draft.names r ∷ []) ++ map (goroutine_by names) rs ≡ draft.closed ++ map (goroutine_by names) (r ∷ rs) =
+    append_assoc draft.closed (goroutine_by draft.names r ∷ []) (map (goroutine_by names) rs) ∙ ap (λ (x : Goroutine). draft.closed ++ x ∷ map (goroutine_by names) rs) same in
+    let first = sum_by-append statements_in draft.closed (map (goroutine_by names) (r ∷ rs)) in
+    let head : sum_by statements_in (map (goroutine_by names) (r ∷ rs)) ≡ length (statements_by names r.block) + sum_by statements_in (map (goroutine_by names) rs) =
+    sum_by-append statements_in (goroutine_by names r ∷ []) (map (goroutine_by names) rs) ∙ omega arith in
+    let size : length (statements_by draft.names r.block) ≡ length (statements_by names r.block) = ap (λ (l : List (List ℕ)). length (statements_by l r.block)) n in
+    let one = routine_steps draft r e (All-head (IsRoutine draft.given draft.names) r rs h) (omega (arith, few)) (earlier_apart draft.closed (goroutine_by names r) (map (goroutine_by names) rs) apart) (omega (arith, first, head, size, total)) in
+    let rest = routines_steps (with_routine draft (goroutine_by draft.names r)) names rs n refl (All-tail (IsRoutine draft.given draft.names) r rs h) (omega (arith, few, length_push draft.closed (goroutine_by draft.names r)))
+    (subst (AllPairs AreNamedApart) (sym all) apart) (subst (λ (l : List Goroutine). sum_by statements_in l ≤ 200000) (sym all) total) in
+    Steps-append draft (with_routine draft (goroutine_by draft.names r)) (record draft { closed = draft.closed ++ map (goroutine_by names) (r ∷ rs); current = None }) (routine_lines r) (flat_map routine_lines rs) one
+    (subst (λ (l : List Goroutine). Steps (with_routine draft (goroutine_by draft.names r)) (flat_map routine_lines rs) (record draft { closed = l; current = None })) all rest)
 
 -- ---- the whole text
-
-no_goroutine_yet : (head : List Sentence) (word : List ℕ) → has_goroutine (head_end blank_draft head) word ≡ false
-unfolding has_goroutine
-no_goroutine_yet head word = refl
-
-said_count : (draft : Draft) (g : Goroutine) → draft.closed ≡ [] → draft.current ≡ Some g → statements_so_far draft ≡ length g.statements
-unfolding statements_so_far
-said_count draft g e f = rw (e, f) (omega arith)
 
 ready_blank : (text : List ℕ) (p : Program) (f : HasForm text p) → Ready blank_draft f.head
 ready_blank text p f = record {
@@ -300,37 +393,27 @@ ready_blank text p f = record {
 }
 
 -- the draft when all is read
-abbrev at_end : List Sentence → Sentence → List Sentence → Draft
-at_end head go body = record {
+abbrev at_end : List Sentence → List Routine → Draft
+at_end head routines = record {
   given = settings_by head;
   names = names_by head;
   shapes = shapes_by head;
-  closed = record { name = go.second; statements = statements_by (names_by head) body } ∷ [];
+  closed = map (goroutine_by (names_by head)) routines;
   current = None;
 }
 
-all_steps : (text : List ℕ) (p : Program) (f : HasForm text p) → Steps blank_draft (f.head ++ f.go ∷ (f.body ++ f.last ∷ [])) (at_end f.head f.go f.body)
-unfolding continued
+all_steps : (text : List ℕ) (p : Program) (f : HasForm text p) → Steps blank_draft (f.head ++ flat_map routine_lines f.routines) (at_end f.head f.routines)
 all_steps text p f =
-    let dh : Draft = head_end blank_draft f.head in
-    let a = allowed blank_draft keys.Go f.go (f.go_taken keys.Go f.begins) in
-    let goes : cause_at (head_end blank_draft f.head) keys.Go f.go ≡ None = cause_none (head_end blank_draft f.head) keys.Go f.go (record { word = a.word; number = a.number; limit = refl; twice = no_goroutine_yet f.head f.go.second; unknown = refl; nesting = refl }) in
-    let g : Goroutine = record { name = f.go.second; statements = [] } in
-    let body = body_steps (continued (head_end blank_draft f.head) keys.Go f.go) (record { name = f.go.second; statements = [] }) (names_by f.head) (settings_by f.head) f.body refl refl refl f.says f.body_taken in
-    let db : Draft = with_more (continued (head_end blank_draft f.head) keys.Go f.go) (record { name = f.go.second; statements = [] }) (statements_by (names_by f.head) f.body) in
-    let b = allowed (inside (settings_by f.head) (names_by f.head)) keys.End f.last (f.last_taken keys.End f.ends) in
-    let count : statements_so_far db ≡ length (statements_by (names_by f.head) f.body) = said_count db (record { name = f.go.second; statements = statements_by (names_by f.head) f.body }) refl refl in
-    let ends : cause_at db keys.End f.last ≡ None = cause_none db keys.End f.last (record { word = b.word; number = b.number; limit = le-ltb 200000 (statements_so_far db) (omega (arith, f.few_statements)); twice = b.twice; unknown = b.unknown; nesting = refl }) in
-    Steps-append blank_draft (head_end blank_draft f.head) (at_end f.head f.go f.body) f.head (f.go ∷ (f.body ++ f.last ∷ [])) (head_steps blank_draft f.head (ready_blank text p f)) (
-      keys.Go,
-      f.begins,
-      goes,
-      Steps-append (continued (head_end blank_draft f.head) keys.Go f.go) db (at_end f.head f.go f.body) f.body (f.last ∷ []) body (keys.End, f.ends, ends, refl),
-    )
+    Steps-append blank_draft (head_end blank_draft f.head) (at_end f.head f.routines) f.head (flat_map routine_lines f.routines) (head_steps blank_draft f.head (ready_blank text p f))
+    (routines_steps (head_end blank_draft f.head) (names_by f.head) f.routines refl refl f.right (omega (arith, f.few_goroutines)) (subst (AllPairs AreNamedApart) f.goroutines f.goroutines_apart) (subst (λ (l : List Goroutine). sum_by statements_in l ≤ 200000) f.goroutines f.few_statements))
 
-ended : (n : ℕ) (head : List Sentence) (go : Sentence) (body : List Sentence) → read_end n (at_end head go body) ≡ Ok (program_in (at_end head go body))
+some_listed : (closed : List Goroutine) → 1 ≤ length closed → eqb (length closed) 0 ≡ false
+some_listed [] h = absurd (omega arith)
+some_listed (g ∷ gs) h = not_zero (length gs) (eqb (suc (length gs)) 0) refl
+
+ended_well : (n : ℕ) (head : List Sentence) (routines : List Routine) → 1 ≤ length routines → read_end n (at_end head routines) ≡ Ok (program_in (at_end head routines))
 unfolding read_end
-ended n head go body = refl
+ended_well n head routines some = rw (some_listed (map (goroutine_by (names_by head)) routines) (omega (arith, length-map routines (goroutine_by (names_by head)), some))) refl
 
 abbrev program : Settings → List Shape → List Goroutine → Program
 program settings shapes goroutines = record { settings = settings; shapes = shapes; goroutines = goroutines }
@@ -344,7 +427,7 @@ program_same p settings shapes goroutines a b c =
 
 pub Spells-HasForm : (text : List ℕ) (p : Program) → HasForm text p → Spells text p
 Spells-HasForm text p f =
-    let steps : Steps blank_draft (sayings (lines_of text)) (at_end f.head f.go f.body) = subst (λ (ls : List Sentence). Steps blank_draft ls (at_end f.head f.go f.body)) (sym f.lines) (all_steps text p f) in
-    let read = Steps-read blank_draft (at_end f.head f.go f.body) 0 (lines_of text) steps in
-    let same = program_same p (settings_in (settings_by f.head)) (shapes_by f.head) (record { name = f.go.second; statements = statements_by (names_by f.head) f.body } ∷ []) f.settings f.shapes f.goroutines in
-    reading_of-text text f.size f.characters ∙ ap (then_end (length (lines_of text))) read ∙ ended (length (lines_of text)) f.head f.go f.body ∙ ap ok_program same
+    let steps : Steps blank_draft (sayings (lines_of text)) (at_end f.head f.routines) = subst (λ (ls : List Sentence). Steps blank_draft ls (at_end f.head f.routines)) (sym f.lines) (all_steps text p f) in
+    let read = Steps-read blank_draft (at_end f.head f.routines) 0 (lines_of text) steps in
+    let same = program_same p (settings_in (settings_by f.head)) (shapes_by f.head) (map (goroutine_by (names_by f.head)) f.routines) f.settings f.shapes f.goroutines in
+    reading_of-text text f.size f.characters ∙ ap (then_end (length (lines_of text))) read ∙ ended_well (length (lines_of text)) f.head f.routines f.some_goroutine ∙ ap ok_program same

@@ -1,11 +1,11 @@
 -- A text that spells a program has the form of a script: what the lines so far say, as they are read.
-use Rattle.std.proofs.Common.{◌≡◌, ℕ, suc, ◌+◌, ◌<◌, ◌≤◌, Bool, true, false, not, cond, eqb, ltb, leb, ◌||◌, List, [], ◌∷◌, ◌++◌, length, map, Option, Some, None, Result, Ok, Err, refl, sym, ap, ◌∙◌, subst, append_assoc, arith, inl, inr, ◌⊎◌, get_or}
-use Rattle.std.specs.Prelude.{All, is_some, is_none, fold, ◌≢◌, AllPairs}
-use Rattle.std.specs.Option.{option_map, option_to_list}
-use Rattle.std.specs.List.{position_or_len}
+use Rattle.std.proofs.Common.{◌≡◌, ℕ, suc, ◌+◌, ◌<◌, ◌≤◌, Bool, true, false, not, cond, eqb, ltb, leb, ◌&&◌, ◌||◌, List, [], ◌∷◌, ◌++◌, length, map, Option, Some, None, Result, Ok, Err, refl, sym, ap, ◌∙◌, subst, append_assoc, arith, inl, inr, ◌⊎◌, get_or}
+use Rattle.std.specs.Prelude.{All, unwrap_or, is_some, is_none, fold, ◌≢◌, AllPairs}
+use Rattle.std.specs.Option.{option_map, option_and_then, option_to_list}
+use Rattle.std.specs.List.{flat_map, repeat, position_or_len}
 use Rattle.std.specs.Str.{bytes_eq, is_utf8}
-use Rattle.std.proofs.lemmas.Bool.{leb-false, ltb-false, cases_lt, lt-ltb}
-use Rattle.std.proofs.lemmas.List.{append-nil, map_push, flat_map_more, length_push}
+use Rattle.std.proofs.lemmas.Bool.{leb-false, cases_lt, lt-ltb}
+use Rattle.std.proofs.lemmas.List.{append-nil, map_push, flat_map_more, length_push, length-map}
 use Rattle.std.proofs.lemmas.List.Elements.{All-nil, All-push}
 use Rattle.std.proofs.lemmas.List.Quantifiers.{all_pairs_push}
 use Rattle.std.proofs.lemmas.List.Sums.{fails_before_first}
@@ -24,10 +24,13 @@ use Rattle.gh_script.specs.Program.{Program, Goroutine}
 use Rattle.gh_script.specs.Text.{Sentence, lines_of}
 use Rattle.gh_script.specs.Words.{key_of}
 use Rattle.gh_script.specs.ShapeText.{fits_limits, fields_of, shape_with}
-use Rattle.gh_script.specs.Draft.{Draft, blank_draft, nothing_given, with_given, given_at, type_of, has_goroutine, statements_so_far, goroutines_begun, program_in, settings_in, with_statement}
+use Rattle.gh_script.specs.Draft.{Draft, blank_draft, nothing_given, with_given, given_at, type_of, has_goroutine, goroutines_begun, repeats_open, program_in, settings_in, Open, begun, kept, with_statement, with_repeat, written_out, with_closed, ended, are_too_many, is_too_long}
 use Rattle.gh_script.specs.Grammar.{is_word_fault, is_number_fault, is_limit_fault, is_twice_fault, is_unknown_fault, is_nesting_fault, cause_at, continued, number_in, is_skipped, statement_of, read_cause, read_key, read_line, read_lines, go_on, read_end, then_end, reading_of, line_fault, Spells}
-use Rattle.gh_script.specs.Form.{said_in, sayings, inside, IsTaken, IsHeadKey, IsHead, AreApart, is_type_key, types_in, given_by_key, settings_by, names_by, shapes_by, statement_by_key, IsSaying, statements_by, HasForm}
-use Rattle.gh_script.proofs.Allowed.{Allowed, allowed, left_false, type_few}
+use Rattle.gh_script.specs.declared.goroutine.Repeat.{Repeat}
+use Rattle.gh_script.specs.Form.{said_in, sayings, inside, IsTaken, IsTakenAs, IsHeadKey, IsHead, AreApart, is_type_key, types_in, given_by_key, settings_by, names_by, shapes_by, statement_by_key, Block, Nothing, Say, Repeated, lines_in, statements_by, IsBlock, Routine, routine_lines, IsRoutine, goroutine_by, HasForm}
+use Rattle.gh_script.proofs.Allowed.{Allowed, allowed, left_false, right_false, type_few}
+use Rattle.gh_script.proofs.Written.{kept_none, kept_some, written_behind, ended_repeat}
+use Rattle.gh_script.proofs.Formed.{WellFormed-Spells}
 use Rattle.gh_script.proofs.Readings.{reading_of-long, reading_of-bytes}
 
 -- ---- lines taken alone
@@ -94,18 +97,15 @@ inside_none : (draft : Draft) (key : Key) (line : Sentence) → Allowed draft ke
     → is_unknown_fault (inside draft.given draft.names) key line ≡ false → is_nesting_fault (inside draft.given draft.names) key ≡ false → cause_at (inside draft.given draft.names) key line ≡ None
 inside_none draft key line a l t u n = cause_none (inside draft.given draft.names) key line (record { word = a.word; number = a.number; limit = l; twice = t; unknown = u; nesting = n })
 
-none_said : (given : Given) (names : List (List ℕ)) → statements_so_far (inside given names) ≡ 0
-unfolding statements_so_far
-none_said given names = refl
-
 inside_end : (draft : Draft) (line : Sentence) → cause_at draft keys.End line ≡ None → cause_at (inside draft.given draft.names) keys.End line ≡ None
 inside_end draft line c =
     let a = allowed draft keys.End line c in
-    inside_none draft keys.End line a (ap (ltb 200000) (none_said draft.given draft.names)) a.twice a.unknown refl
+    inside_none draft keys.End line a refl a.twice a.unknown refl
 
-few_said : (draft : Draft) (g : Goroutine) → draft.closed ≡ [] → draft.current ≡ Some g → statements_so_far draft ≤ 200000 → length g.statements ≤ 200000
-unfolding statements_so_far
-few_said draft g e f h = let q = rw (e, f) at h in omega arith
+inside_repeat : (draft : Draft) (line : Sentence) → cause_at draft keys.Repeat line ≡ None → cause_at (inside draft.given draft.names) keys.Repeat line ≡ None
+inside_repeat draft line c =
+    let a = allowed draft keys.Repeat line c in
+    inside_none draft keys.Repeat line a a.limit a.twice a.unknown refl
 
 -- ---- lists with one more line
 
@@ -151,49 +151,66 @@ inside_told : (draft : Draft) (head : List Sentence) (key : Key) (line : Sentenc
 inside_told draft head key line t c =
     sym (ap (λ (g : Given). cause_at (inside g draft.names) key line) t.given ∙ ap (λ (ns : List (List ℕ)). cause_at (inside (settings_by head) ns) key line) t.names) ∙ c
 
-abbrev routine : List Sentence → Sentence → List Sentence → Goroutine
-routine head go body = record { name = go.second; statements = statements_by (names_by head) body }
+-- a `repeat` that is open: the block before it, and its line
+record Frame : Type 0 where
+  before : Block
+  opens : Sentence
 
--- no goroutine has begun
-record Heading (said : List Sentence) (draft : Draft) : Type 0 where
-  told : Told draft said
-  closed : draft.closed ≡ []
+-- the lines of a goroutine so far, where these `repeat`s are open, innermost first, and the block stands in the innermost
+abbrev lines_within : List Frame → Block → List Sentence
+lines_within [] block = lines_in block
+lines_within (f ∷ fs) block = lines_within fs f.before ++ f.opens ∷ lines_in block
+
+-- its statements so far, the body of each open `repeat` once
+abbrev statements_within : List (List ℕ) → List Frame → Block → List Stmt
+statements_within names [] block = statements_by names block
+statements_within names (f ∷ fs) block = statements_within names fs f.before ++ statements_by names block
+
+abbrev repeats_by : List (List ℕ) → List Frame → List Repeat
+repeats_by names [] = []
+repeats_by names (f ∷ fs) = record { start = length (statements_within names fs f.before); times = number_in f.opens.second } ∷ repeats_by names fs
+
+abbrev AreFrames : Given → List (List ℕ) → List Frame → Type 0
+AreFrames given names [] = Unit {0}
+AreFrames given names (f ∷ fs) = IsBlock given names (length fs) f.before × IsTakenAs (inside given names) keys.Repeat f.opens × (length fs < 8) × AreFrames given names fs
+
+abbrev open_by : List (List ℕ) → Sentence → List Frame → Block → Open
+open_by names go frames block = record { name = go.second; statements = Some (statements_within names frames block); repeats = repeats_by names frames }
+
+-- no goroutine is open
+record Between (said : List Sentence) (draft : Draft) : Type 0 where
+  head : List Sentence
+  routines : List Routine
+  lines : said ≡ head ++ flat_map routine_lines routines
+  told : Told draft head
+  right : All (IsRoutine (settings_by head) (names_by head)) routines
+  closed : draft.closed ≡ map (goroutine_by (names_by head)) routines
   current : draft.current ≡ None
 
--- the goroutine is open
+-- a goroutine is open
 record Running (said : List Sentence) (draft : Draft) : Type 0 where
   head : List Sentence
+  routines : List Routine
   go : Sentence
-  body : List Sentence
-  lines : said ≡ head ++ go ∷ body
+  frames : List Frame
+  block : Block
+  lines : said ≡ head ++ (flat_map routine_lines routines ++ go ∷ lines_within frames block)
   told : Told draft head
-  begins : key_of go.first ≡ Some keys.Go
-  go_taken : IsTaken blank_draft go
-  says : All (IsSaying (names_by head)) body
-  body_taken : All (IsTaken (inside (settings_by head) (names_by head))) body
-  closed : draft.closed ≡ []
-  current : draft.current ≡ Some (routine head go body)
+  right : All (IsRoutine (settings_by head) (names_by head)) routines
+  begins : IsTakenAs blank_draft keys.Go go
+  outer : AreFrames (settings_by head) (names_by head) frames
+  inner : IsBlock (settings_by head) (names_by head) (length frames) block
+  closed : draft.closed ≡ map (goroutine_by (names_by head)) routines
+  current : draft.current ≡ Some (open_by (names_by head) go frames block)
 
--- the goroutine has ended
-record Over (said : List Sentence) (draft : Draft) : Type 0 where
-  head : List Sentence
-  go : Sentence
-  body : List Sentence
-  last : Sentence
-  lines : said ≡ head ++ go ∷ (body ++ last ∷ [])
-  told : Told draft head
-  begins : key_of go.first ≡ Some keys.Go
-  says : All (IsSaying (names_by head)) body
-  ends : key_of last.first ≡ Some keys.End
-  go_taken : IsTaken blank_draft go
-  body_taken : All (IsTaken (inside (settings_by head) (names_by head))) body
-  last_taken : IsTaken (inside (settings_by head) (names_by head)) last
-  few : length (statements_by (names_by head) body) ≤ 200000
-  closed : draft.closed ≡ routine head go body ∷ []
-  current : draft.current ≡ None
+-- a goroutine is open that has too many statements
+record Lost (draft : Draft) : Type 0 where
+  g : Open
+  current : draft.current ≡ Some g
+  none : g.statements ≡ None
 
 abbrev Story : List Sentence → Draft → Type 0
-Story said draft = Heading said draft ⊎ (Running said draft ⊎ Over said draft)
+Story said draft = Between said draft ⊎ (Running said draft ⊎ Lost draft)
 
 -- ---- a line in the head
 
@@ -238,167 +255,310 @@ same_setting x y e = cc
 no_type : (x : Setting) → some_key (keys.Setting x) ≡ some_key keys.Type → ⊥
 no_type x e = cc
 
-heading_set : (said : List Sentence) (draft : Draft) (x : Setting) (line : Sentence) → Heading said draft → cause_at draft (keys.Setting x) line ≡ None → key_of line.first ≡ Some (keys.Setting x) → Heading (said ++ line ∷ []) (continued draft (keys.Setting x) line)
+told_set : (head : List Sentence) (draft : Draft) (x : Setting) (line : Sentence) → Told draft head → cause_at draft (keys.Setting x) line ≡ None → key_of line.first ≡ Some (keys.Setting x) → Told (continued draft (keys.Setting x) line) (head ++ line ∷ [])
 unfolding continued
-heading_set said draft x line h c e =
+told_set head draft x line told c e =
     let fresh : is_some (given_at draft.given x) ≡ false = (allowed draft (keys.Setting x) line c).twice in
-    let other : types_in (said ++ line ∷ []) ≡ types_in said = types_push_other said line (ap is_type_key e) in
+    let other : types_in (head ++ line ∷ []) ≡ types_in head = types_push_other head line (ap is_type_key e) in
     record {
-      told = record {
-        heads = All-push IsHead said line h.told.heads (head_line line (keys.Setting x) e tt);
-        taken = All-push (IsTaken blank_draft) said line h.told.taken (taken_by blank_draft line (keys.Setting x) e (alone_set draft x line c));
-        few = subst (λ (ns : List (List ℕ)). length ns ≤ 64) (sym (ap (map (λ (l : Sentence). l.second)) other)) h.told.few;
-        once = all_pairs_push AreApart said line h.told.once (λ k d lt y f g.
-            let same : x ≡ y = same_setting x y (sym e ∙ g) in
-            let was : is_some (given_at draft.given y) ≡ true = h.told.seen k d lt y f in
-            let not : is_some (given_at draft.given y) ≡ false = subst (λ (z : Setting). is_some (given_at draft.given z) ≡ false) same fresh in
-            cc);
-        seen = All-push (IsSeen (with_given draft.given x (number_in line.second))) said line
-            (λ k d lt y f. keeps_seen draft.given x (number_in line.second) y (h.told.seen k d lt y f))
-            (λ y f. subst (λ (z : Setting). is_some (given_at (with_given draft.given x (number_in line.second)) z) ≡ true) (same_setting x y (sym e ∙ f)) (now_seen draft.given x (number_in line.second)));
-        apart = subst (λ (ns : List (List ℕ)). AllPairs (λ a b. a ≢ b) ns) (sym (ap (map (λ (l : Sentence). l.second)) other)) h.told.apart;
-        given = ap (λ (g : Given). with_given g x (number_in line.second)) h.told.given
-            ∙ sym (fold_push (λ (g : Given) (l : Sentence). given_by_key g l (key_of l.first)) nothing_given said line ∙ ap (given_by_key (settings_by said) line) e);
-        names = h.told.names ∙ sym (ap (map (λ (l : Sentence). l.second)) other);
-        shapes = h.told.shapes ∙ sym (ap (map (λ (l : Sentence). shape_with (fields_of l.third))) other);
-      };
-      closed = h.closed;
-      current = h.current;
+      heads = All-push IsHead head line told.heads (head_line line (keys.Setting x) e tt);
+      taken = All-push (IsTaken blank_draft) head line told.taken (taken_by blank_draft line (keys.Setting x) e (alone_set draft x line c));
+      few = subst (λ (ns : List (List ℕ)). length ns ≤ 64) (sym (ap (map (λ (l : Sentence). l.second)) other)) told.few;
+      once = all_pairs_push AreApart head line told.once (λ k d lt y f g.
+          let same : x ≡ y = same_setting x y (sym e ∙ g) in
+          let was : is_some (given_at draft.given y) ≡ true = told.seen k d lt y f in
+          let not : is_some (given_at draft.given y) ≡ false = subst (λ (z : Setting). is_some (given_at draft.given z) ≡ false) same fresh in
+          cc);
+      seen = All-push (IsSeen (with_given draft.given x (number_in line.second))) head line
+          (λ k d lt y f. keeps_seen draft.given x (number_in line.second) y (told.seen k d lt y f))
+          (λ y f. subst (λ (z : Setting). is_some (given_at (with_given draft.given x (number_in line.second)) z) ≡ true) (same_setting x y (sym e ∙ f)) (now_seen draft.given x (number_in line.second)));
+      apart = subst (λ (ns : List (List ℕ)). AllPairs (λ a b. a ≢ b) ns) (sym (ap (map (λ (l : Sentence). l.second)) other)) told.apart;
+      given = ap (λ (g : Given). with_given g x (number_in line.second)) told.given
+          ∙ sym (fold_push (λ (g : Given) (l : Sentence). given_by_key g l (key_of l.first)) nothing_given head line ∙ ap (given_by_key (settings_by head) line) e);
+      names = told.names ∙ sym (ap (map (λ (l : Sentence). l.second)) other);
+      shapes = told.shapes ∙ sym (ap (map (λ (l : Sentence). shape_with (fields_of l.third))) other);
     }
 
-heading_type : (said : List Sentence) (draft : Draft) (line : Sentence) → Heading said draft → cause_at draft keys.Type line ≡ None → key_of line.first ≡ Some keys.Type → Heading (said ++ line ∷ []) (continued draft keys.Type line)
+told_type : (head : List Sentence) (draft : Draft) (line : Sentence) → Told draft head → cause_at draft keys.Type line ≡ None → key_of line.first ≡ Some keys.Type → Told (continued draft keys.Type line) (head ++ line ∷ [])
 unfolding continued
-heading_type said draft line h c e =
+told_type head draft line told c e =
     let fresh : is_some (type_of draft.names line.second) ≡ false = (allowed draft keys.Type line c).twice in
-    let names : names_by (said ++ line ∷ []) ≡ names_by said ++ line.second ∷ [] = ap (map (λ (l : Sentence). l.second)) (types_push said line (ap is_type_key e)) ∙ map_push (λ (l : Sentence). l.second) (types_in said) line in
-    let fresh_by : is_some (type_of (names_by said) line.second) ≡ false = ap (λ (ns : List (List ℕ)). is_some (type_of ns line.second)) (sym h.told.names) ∙ fresh in
-    let more : types_in (said ++ line ∷ []) ≡ types_in said ++ line ∷ [] = types_push said line (ap is_type_key e) in
+    let names : names_by (head ++ line ∷ []) ≡ names_by head ++ line.second ∷ [] = ap (map (λ (l : Sentence). l.second)) (types_push head line (ap is_type_key e)) ∙ map_push (λ (l : Sentence). l.second) (types_in head) line in
+    let fresh_by : is_some (type_of (names_by head) line.second) ≡ false = ap (λ (ns : List (List ℕ)). is_some (type_of ns line.second)) (sym told.names) ∙ fresh in
+    let more : types_in (head ++ line ∷ []) ≡ types_in head ++ line ∷ [] = types_push head line (ap is_type_key e) in
     record {
-      told = record {
-        heads = All-push IsHead said line h.told.heads (head_line line keys.Type e tt);
-        taken = All-push (IsTaken blank_draft) said line h.told.taken (taken_by blank_draft line keys.Type e (alone_type draft line c));
-        few = omega (arith, ap length names, length_push (names_by said) line.second, type_few draft keys.Type line c refl, ap length h.told.names);
-        once = all_pairs_push AreApart said line h.told.once (λ k d lt y f g. no_type y (sym g ∙ e));
-        seen = All-push (IsSeen draft.given) said line h.told.seen (λ y f. absurd (no_type y (sym f ∙ e)));
-        apart = subst (λ (ns : List (List ℕ)). AllPairs (λ a b. a ≢ b) ns) (sym names)
-            (all_pairs_push (λ a b. a ≢ b) (names_by said) line.second h.told.apart (λ k d lt. name_fresh (names_by said) line.second k d lt fresh_by));
-        given = h.told.given ∙ sym (fold_push (λ (g : Given) (l : Sentence). given_by_key g l (key_of l.first)) nothing_given said line ∙ ap (given_by_key (settings_by said) line) e);
-        names = ap (λ (ns : List (List ℕ)). ns ++ line.second ∷ []) h.told.names ∙ sym (ap (map (λ (l : Sentence). l.second)) more ∙ map_push (λ (l : Sentence). l.second) (types_in said) line);
-        shapes = ap (λ ss. ss ++ shape_with (fields_of line.third) ∷ []) h.told.shapes
-            ∙ sym (ap (map (λ (l : Sentence). shape_with (fields_of l.third))) more ∙ map_push (λ (l : Sentence). shape_with (fields_of l.third)) (types_in said) line);
-      };
-      closed = h.closed;
-      current = h.current;
+      heads = All-push IsHead head line told.heads (head_line line keys.Type e tt);
+      taken = All-push (IsTaken blank_draft) head line told.taken (taken_by blank_draft line keys.Type e (alone_type draft line c));
+      few = omega (arith, ap length names, length_push (names_by head) line.second, type_few draft keys.Type line c refl, ap length told.names);
+      once = all_pairs_push AreApart head line told.once (λ k d lt y f g. no_type y (sym g ∙ e));
+      seen = All-push (IsSeen draft.given) head line told.seen (λ y f. absurd (no_type y (sym f ∙ e)));
+      apart = subst (λ (ns : List (List ℕ)). AllPairs (λ a b. a ≢ b) ns) (sym names)
+          (all_pairs_push (λ a b. a ≢ b) (names_by head) line.second told.apart (λ k d lt. name_fresh (names_by head) line.second k d lt fresh_by));
+      given = told.given ∙ sym (fold_push (λ (g : Given) (l : Sentence). given_by_key g l (key_of l.first)) nothing_given head line ∙ ap (given_by_key (settings_by head) line) e);
+      names = ap (λ (ns : List (List ℕ)). ns ++ line.second ∷ []) told.names ∙ sym (ap (map (λ (l : Sentence). l.second)) more ∙ map_push (λ (l : Sentence). l.second) (types_in head) line);
+      shapes = ap (λ ss. ss ++ shape_with (fields_of line.third) ∷ []) told.shapes
+          ∙ sym (ap (map (λ (l : Sentence). shape_with (fields_of l.third))) more ∙ map_push (λ (l : Sentence). shape_with (fields_of l.third)) (types_in head) line);
     }
 
-heading_go : (said : List Sentence) (draft : Draft) (line : Sentence) → Heading said draft → cause_at draft keys.Go line ≡ None → key_of line.first ≡ Some keys.Go → Running (said ++ line ∷ []) (continued draft keys.Go line)
-unfolding continued
-heading_go said draft line h c e = record {
-  head = said;
-  go = line;
-  body = [];
-  lines = refl;
-  told = record { heads = h.told.heads; taken = h.told.taken; few = h.told.few; once = h.told.once; seen = h.told.seen; apart = h.told.apart; given = h.told.given; names = h.told.names; shapes = h.told.shapes };
-  begins = e;
-  go_taken = taken_by blank_draft line keys.Go e (alone_go draft line c);
-  says = All-nil (IsSaying (names_by said));
-  body_taken = All-nil (IsTaken (inside (settings_by said) (names_by said)));
-  closed = h.closed;
-  current = refl;
+-- the same settings, types and shapes
+told_same : (draft new : Draft) (head : List Sentence) → Told draft head → new.given ≡ draft.given → new.names ≡ draft.names → new.shapes ≡ draft.shapes → Told new head
+told_same draft new head t g n s = record {
+  heads = t.heads;
+  taken = t.taken;
+  few = t.few;
+  once = t.once;
+  seen = subst (λ (given : Given). All (IsSeen given) head) (sym g) t.seen;
+  apart = t.apart;
+  given = g ∙ t.given;
+  names = n ∙ t.names;
+  shapes = s ∙ t.shapes;
 }
 
-none_open : (o : Option Goroutine) → o ≡ None → is_none o ≡ false → ⊥
-none_open o e h = let f : is_none o ≡ true = ap is_none e in cc
-
-heading_step : (said : List Sentence) (draft : Draft) (key : Key) (line : Sentence) → Heading said draft → cause_at draft key line ≡ None → key_of line.first ≡ Some key → Story (said ++ line ∷ []) (continued draft key line)
-heading_step said draft (keys.Setting x) line h c e = inl (heading_set said draft x line h c e)
-heading_step said draft keys.Type line h c e = inl (heading_type said draft line h c e)
-heading_step said draft keys.Go line h c e = inr (inl (heading_go said draft line h c e))
-heading_step said draft key line h c e = absurd (none_open draft.current h.current (allowed draft key line c).nesting)
-
--- ---- a line in the goroutine
+-- ---- no goroutine is open
 
 some_begun : (draft : Draft) (n : ℕ) → goroutines_begun draft ≡ suc n → leb 1 (goroutines_begun draft) ≡ false → ⊥
 some_begun draft n e h = let none : goroutines_begun draft < 1 = leb-false 1 (goroutines_begun draft) h in absurd (omega arith)
 
-one_begun : (said : List Sentence) (draft : Draft) → Running said draft → goroutines_begun draft ≡ 1
-one_begun said draft h = omega (arith, ap length h.closed, ap (λ (o : Option Goroutine). length (option_to_list o)) h.current)
+none_open : (o : Option Open) → o ≡ None → is_none o ≡ false → ⊥
+none_open o e h = let f : is_none o ≡ true = ap is_none e in cc
 
-one_open : (o : Option Goroutine) (g : Goroutine) → o ≡ Some g → is_some o ≡ false → ⊥
-one_open o g e h = let f : is_some o ≡ true = ap is_some e in cc
+none_open_repeat : (o : Option Open) (b : Bool) → o ≡ None → (is_none o || b) ≡ false → ⊥
+none_open_repeat o b e h = none_open o e (left_false (is_none o) b h)
 
-running_end : (said : List Sentence) (draft : Draft) (line : Sentence) → Running said draft → cause_at draft keys.End line ≡ None → key_of line.first ≡ Some keys.End → Over (said ++ line ∷ []) (continued draft keys.End line)
+-- before the first goroutine the head alone was said
+head_alone : (names : List (List ℕ)) (head said : List Sentence) (routines : List Routine) (closed : List Goroutine) (current : Option Open) → said ≡ head ++ flat_map routine_lines routines → closed ≡ map (goroutine_by names) routines
+    → leb 1 (length closed + length (option_to_list current)) ≡ false → (said ≡ head) × (closed ≡ [])
+head_alone names head said [] closed current e f h = (e ∙ append-nil head, f)
+head_alone names head said (r ∷ rs) closed current e f h = absurd (let some : length closed ≡ suc (length (map (goroutine_by names) rs)) = ap length f in let none = leb-false 1 (length closed + length (option_to_list current)) h in omega arith)
+
+between_head : (said head : List Sentence) (draft : Draft) (line : Sentence) → said ≡ head → Told draft (head ++ line ∷ []) → draft.closed ≡ [] → draft.current ≡ None → Story (said ++ line ∷ []) draft
+between_head said head draft line e t closed current = inl (record {
+  head = head ++ line ∷ [];
+  routines = [];
+  lines = ap (λ (l : List Sentence). l ++ line ∷ []) e ∙ sym (append-nil (head ++ line ∷ []));
+  told = told_same draft draft (head ++ line ∷ []) t refl refl refl;
+  right = All-nil (IsRoutine (settings_by (head ++ line ∷ [])) (names_by (head ++ line ∷ [])));
+  closed = closed;
+  current = current;
+})
+
+between_go : (said : List Sentence) (draft : Draft) (line : Sentence) → Between said draft → cause_at draft keys.Go line ≡ None → key_of line.first ≡ Some keys.Go → Running (said ++ line ∷ []) (continued draft keys.Go line)
 unfolding continued
-running_end said draft line h c e = record {
+between_go said draft line h c e = record {
   head = h.head;
-  go = h.go;
-  body = h.body;
-  last = line;
-  lines = ap (λ (l : List Sentence). l ++ line ∷ []) h.lines ∙ append_assoc h.head (h.go ∷ h.body) (line ∷ []);
-  told = record { heads = h.told.heads; taken = h.told.taken; few = h.told.few; once = h.told.once; seen = h.told.seen; apart = h.told.apart; given = h.told.given; names = h.told.names; shapes = h.told.shapes };
-  begins = h.begins;
-  says = h.says;
-  ends = e;
-  go_taken = h.go_taken;
-  body_taken = h.body_taken;
-  last_taken = taken_by (inside (settings_by h.head) (names_by h.head)) line keys.End e (inside_told draft h.head keys.End line h.told (inside_end draft line c));
-  few = few_said draft (routine h.head h.go h.body) h.closed h.current (ltb-false 200000 (statements_so_far draft) (allowed draft keys.End line c).limit);
-  closed = rw (h.closed, h.current) refl;
+  routines = h.routines;
+  go = line;
+  frames = [];
+  block = Nothing;
+  lines = ap (λ (l : List Sentence). l ++ line ∷ []) h.lines ∙ append_assoc h.head (flat_map routine_lines h.routines) (line ∷ []);
+  told = told_same draft (record draft { current = Some (begun line.second) }) h.head h.told refl refl refl;
+  right = h.right;
+  begins = (e, alone_go draft line c);
+  outer = tt;
+  inner = tt;
+  closed = h.closed;
   current = refl;
 }
 
+between_step : (said : List Sentence) (draft : Draft) (key : Key) (line : Sentence) → Between said draft → cause_at draft key line ≡ None → key_of line.first ≡ Some key → Story (said ++ line ∷ []) (continued draft key line)
+unfolding continued
+between_step said draft (keys.Setting x) line h c e =
+    let w = head_alone (names_by h.head) h.head said h.routines draft.closed draft.current h.lines h.closed (allowed draft (keys.Setting x) line c).nesting in
+    between_head said h.head (continued draft (keys.Setting x) line) line w.0 (told_set h.head draft x line h.told c e) w.1 h.current
+between_step said draft keys.Type line h c e =
+    let w = head_alone (names_by h.head) h.head said h.routines draft.closed draft.current h.lines h.closed (allowed draft keys.Type line c).nesting in
+    between_head said h.head (continued draft keys.Type line) line w.0 (told_type h.head draft line h.told c e) w.1 h.current
+between_step said draft keys.Go line h c e = inr (inl (between_go said draft line h c e))
+between_step said draft keys.Repeat line h c e = absurd (none_open_repeat draft.current _ h.current (allowed draft keys.Repeat line c).nesting)
+between_step said draft key line h c e = absurd (none_open draft.current h.current (allowed draft key line c).nesting)
+
+-- ---- a goroutine is open
+
+one_open : (o : Option Open) (g : Open) → o ≡ Some g → is_some o ≡ false → ⊥
+one_open o g e h = let f : is_some o ≡ true = ap is_some e in cc
+
+one_begun : (draft : Draft) (g : Open) → draft.current ≡ Some g → leb 1 (goroutines_begun draft) ≡ false → ⊥
+one_begun draft g e h = some_begun draft (length draft.closed) (omega (arith, ap (λ (o : Option Open). length (option_to_list o)) e)) h
+
+lines_within-more : (frames : List Frame) (block new : Block) (more : List Sentence) → lines_in new ≡ lines_in block ++ more → lines_within frames new ≡ lines_within frames block ++ more
+lines_within-more [] block new more e = e
+lines_within-more (f ∷ fs) block new more e = ap (λ (l : List Sentence). lines_within fs f.before ++ f.opens ∷ l) e ∙ sym (append_assoc (lines_within fs f.before) (f.opens ∷ lines_in block) more)
+
+statements_within-more : (names : List (List ℕ)) (frames : List Frame) (block new : Block) (more : List Stmt) → statements_by names new ≡ statements_by names block ++ more → statements_within names frames new ≡ statements_within names frames block ++ more
+statements_within-more names [] block new more e = e
+statements_within-more names (f ∷ fs) block new more e = ap (λ (l : List Stmt). statements_within names fs f.before ++ l) e ∙ sym (append_assoc (statements_within names fs f.before) (statements_by names block) more)
+
+-- the lines of all goroutines with some more of the last
+routine_more : (head before within more : List Sentence) (go : Sentence) (said : List Sentence) → said ≡ head ++ (before ++ go ∷ within) → said ++ more ≡ head ++ (before ++ go ∷ (within ++ more))
+routine_more head before within more go said e =
+    ap (λ (l : List Sentence). l ++ more) e ∙ append_assoc head (before ++ go ∷ within) more ∙ ap (λ (l : List Sentence). head ++ l) (append_assoc before (go ∷ within) more)
+
+kept_cases : (ss : List Stmt) → (kept ss ≡ None) ⊎ (kept ss ≡ Some ss)
+kept_cases ss = elim (cases_lt 200000 (length ss)) [
+  | inl lt ↦ inl (kept_none ss lt)
+  | inr le ↦ inr (kept_some ss le)
+]
+
+-- the goroutine goes on with another block, or has too many statements
+goes_on : (said : List Sentence) (draft new : Draft) (line : Sentence) (h : Running said draft) (frames : List Frame) (block : Block) (ss : List Stmt) → new.given ≡ draft.given → new.names ≡ draft.names → new.shapes ≡ draft.shapes → new.closed ≡ draft.closed
+    → new.current ≡ Some (record { name = h.go.second; statements = kept ss; repeats = repeats_by (names_by h.head) frames })
+    → ss ≡ statements_within (names_by h.head) frames block → lines_within frames block ≡ lines_within h.frames h.block ++ line ∷ []
+    → AreFrames (settings_by h.head) (names_by h.head) frames → IsBlock (settings_by h.head) (names_by h.head) (length frames) block → Story (said ++ line ∷ []) new
+goes_on said draft new line h frames block ss g n s c cur is lines outer inner = elim (kept_cases ss) [
+  | inl none ↦ inr (inr (record { g = record { name = h.go.second; statements = kept ss; repeats = repeats_by (names_by h.head) frames }; current = cur; none = none }))
+  | inr some ↦ inr (inl (record {
+    head = h.head;
+    routines = h.routines;
+    go = h.go;
+    frames = frames;
+    block = block;
+    lines = routine_more h.head (flat_map routine_lines h.routines) (lines_within h.frames h.block) (line ∷ []) h.go said h.lines ∙ ap (λ (l : List Sentence). h.head ++ (flat_map routine_lines h.routines ++ h.go ∷ l)) (sym lines);
+    told = told_same draft new h.head h.told g n s;
+    right = h.right;
+    begins = h.begins;
+    outer = outer;
+    inner = inner;
+    closed = c ∙ h.closed;
+    current = cur ∙ ap (λ (o : Option (List Stmt)). Some (record { name = h.go.second; statements = o; repeats = repeats_by (names_by h.head) frames })) (some ∙ ap (λ (l : List Stmt). Some l) is);
+  }))
+]
+
 running_say : (said : List Sentence) (draft : Draft) (key : Key) (line : Sentence) (s : Stmt) → Running said draft → cause_at (inside draft.given draft.names) key line ≡ None → key_of line.first ≡ Some key → statement_of draft.names key line ≡ Some s
-    → Running (said ++ line ∷ []) (record draft { current = option_map (with_statement (statement_of draft.names key line)) draft.current })
+    → Story (said ++ line ∷ []) (record draft { current = option_map (with_statement (statement_of draft.names key line)) draft.current })
 running_say said draft key line s h c e is =
     let told : statement_by_key (names_by h.head) line (key_of line.first) ≡ Some s = ap (statement_by_key (names_by h.head) line) e ∙ ap (λ (ns : List (List ℕ)). statement_of ns key line) (sym h.told.names) ∙ is in
-    let f : Sentence → List Stmt = λ (l : Sentence). option_to_list (statement_by_key (names_by h.head) l (key_of l.first)) in
-    let one : option_to_list (statement_of draft.names key line) ≡ f line = ap option_to_list (is ∙ sym told) in
-    let more : statements_by (names_by h.head) h.body ++ option_to_list (statement_of draft.names key line) ≡ statements_by (names_by h.head) (h.body ++ line ∷ []) =
-    ap (λ (ss : List Stmt). statements_by (names_by h.head) h.body ++ ss) one ∙ flat_map_more (λ (l : Sentence). option_to_list (statement_by_key (names_by h.head) l (key_of l.first))) [] h.body line in
-    record {
+    let one : option_to_list (statement_of draft.names key line) ≡ option_to_list (statement_by_key (names_by h.head) line (key_of line.first)) = ap option_to_list (is ∙ sym told) in
+    goes_on said draft (record draft { current = option_map (with_statement (statement_of draft.names key line)) draft.current }) line h h.frames (Say h.block line)
+    (statements_within (names_by h.head) h.frames h.block ++ option_to_list (statement_of draft.names key line)) refl refl refl refl
+    (ap (option_map (with_statement (statement_of draft.names key line))) h.current)
+    (ap (λ (l : List Stmt). statements_within (names_by h.head) h.frames h.block ++ l) one ∙ sym (statements_within-more (names_by h.head) h.frames h.block (Say h.block line) (option_to_list (statement_by_key (names_by h.head) line (key_of line.first))) refl))
+    (lines_within-more h.frames h.block (Say h.block line) (line ∷ []) refl)
+    h.outer
+    (h.inner, (s, told), taken_by (inside (settings_by h.head) (names_by h.head)) line key e (inside_told draft h.head key line h.told c))
+
+length-repeats_by : (names : List (List ℕ)) (frames : List Frame) → length (repeats_by names frames) ≡ length frames
+length-repeats_by names [] = refl
+length-repeats_by names (f ∷ fs) = ap suc (length-repeats_by names fs)
+
+few_open : (draft : Draft) (names : List (List ℕ)) (go : Sentence) (frames : List Frame) (block : Block) → draft.current ≡ Some (open_by names go frames block) → (is_none draft.current || leb 8 (length (repeats_open draft))) ≡ false → length frames < 8
+few_open draft names go frames block e h =
+    let few = leb-false 8 (length (repeats_open draft)) (right_false (is_none draft.current) (leb 8 (length (repeats_open draft))) h) in
+    let same : length (repeats_open draft) ≡ length (repeats_by names frames) = ap (λ (o : Option Open). length (unwrap_or (option_map (λ (g : Open). g.repeats) o) [])) e in
+    let count = length-repeats_by names frames in
+    omega arith
+
+running_repeat : (said : List Sentence) (draft : Draft) (line : Sentence) → Running said draft → cause_at draft keys.Repeat line ≡ None → key_of line.first ≡ Some keys.Repeat → Running (said ++ line ∷ []) (continued draft keys.Repeat line)
+unfolding continued
+running_repeat said draft line h c e = record {
+  head = h.head;
+  routines = h.routines;
+  go = h.go;
+  frames = record { before = h.block; opens = line } ∷ h.frames;
+  block = Nothing;
+  lines = routine_more h.head (flat_map routine_lines h.routines) (lines_within h.frames h.block) (line ∷ []) h.go said h.lines;
+  told = told_same draft (record draft { current = option_map (with_repeat (number_in line.second)) draft.current }) h.head h.told refl refl refl;
+  right = h.right;
+  begins = h.begins;
+  outer = (h.inner, (e, inside_told draft h.head keys.Repeat line h.told (inside_repeat draft line c)), few_open draft (names_by h.head) h.go h.frames h.block h.current (allowed draft keys.Repeat line c).nesting, h.outer);
+  inner = tt;
+  closed = h.closed;
+  current = ap (option_map (with_repeat (number_in line.second))) h.current
+      ∙ ap (λ (l : List Stmt). Some (record { name = h.go.second; statements = Some l; repeats = record { start = length (statements_within (names_by h.head) h.frames h.block); times = number_in line.second } ∷ repeats_by (names_by h.head) h.frames }))
+      (sym (append-nil (statements_within (names_by h.head) h.frames h.block)));
+}
+
+-- `end` closes the innermost `repeat`
+running_close : (said : List Sentence) (draft : Draft) (line : Sentence) (h : Running said draft) (f : Frame) (fs : List Frame) → h.frames ≡ f ∷ fs → cause_at draft keys.End line ≡ None → key_of line.first ≡ Some keys.End
+    → Story (said ++ line ∷ []) (ended draft (Some (open_by (names_by h.head) h.go (f ∷ fs) h.block)))
+running_close said draft line h f fs e c k =
+    let outer : AreFrames (settings_by h.head) (names_by h.head) (f ∷ fs) = subst (AreFrames (settings_by h.head) (names_by h.head)) e h.outer in
+    let inner : IsBlock (settings_by h.head) (names_by h.head) (length fs + 1) h.block =
+    subst (λ (n : ℕ). IsBlock (settings_by h.head) (names_by h.head) n h.block) (ap length e ∙ omega arith) h.inner in
+    let innermost : Repeat = record { start = length (statements_within (names_by h.head) fs f.before); times = number_in f.opens.second } in
+    subst (Story (said ++ line ∷ [])) (sym (ended_repeat draft (open_by (names_by h.head) h.go (f ∷ fs) h.block) innermost (repeats_by (names_by h.head) fs) refl)) (goes_on said draft (record draft { current = Some (with_closed (open_by (names_by h.head) h.go (f ∷ fs) h.block) (repeats_by (names_by h.head) (f ∷ fs))) }) line h fs (Repeated f.before f.opens h.block line)
+    (statements_within (names_by h.head) fs f.before ++ repeat (number_in f.opens.second) (statements_by (names_by h.head) h.block)) refl refl refl refl
+    (ap (λ (o : Option (List Stmt)). Some (record { name = h.go.second; statements = o; repeats = repeats_by (names_by h.head) fs }))
+    (written_behind (statements_within (names_by h.head) fs f.before) (statements_by (names_by h.head) h.block) (number_in f.opens.second)))
+    (sym (statements_within-more (names_by h.head) fs f.before (Repeated f.before f.opens h.block line) (repeat (number_in f.opens.second) (statements_by (names_by h.head) h.block)) refl))
+    (lines_within-more fs f.before (Repeated f.before f.opens h.block line) (f.opens ∷ (lines_in h.block ++ line ∷ [])) refl
+    ∙ sym (append_assoc (lines_within fs f.before) (f.opens ∷ lines_in h.block) (line ∷ []))
+    ∙ sym (ap (λ (l : List Frame). lines_within l h.block ++ line ∷ []) e))
+    outer.3
+    (outer.0, outer.1, outer.2, inner, (k, inside_told draft h.head keys.End line h.told (inside_end draft line c))))
+
+-- `end` closes the goroutine
+running_over : (said : List Sentence) (draft : Draft) (line : Sentence) (h : Running said draft) → h.frames ≡ [] → cause_at draft keys.End line ≡ None → key_of line.first ≡ Some keys.End
+    → Story (said ++ line ∷ []) (ended draft (Some (open_by (names_by h.head) h.go [] h.block)))
+running_over said draft line h e c k =
+    let inner : IsBlock (settings_by h.head) (names_by h.head) 0 h.block = subst (λ (n : ℕ). IsBlock (settings_by h.head) (names_by h.head) n h.block) (ap length e) h.inner in
+    let right : IsRoutine (settings_by h.head) (names_by h.head) (record { go = h.go; block = h.block; last = line }) =
+    record { begins = h.begins; block = inner; ends = (k, inside_told draft h.head keys.End line h.told (inside_end draft line c)) } in
+    inl (record {
       head = h.head;
-      go = h.go;
-      body = h.body ++ line ∷ [];
-      lines = ap (λ (l : List Sentence). l ++ line ∷ []) h.lines ∙ append_assoc h.head (h.go ∷ h.body) (line ∷ []);
-      told = record { heads = h.told.heads; taken = h.told.taken; few = h.told.few; once = h.told.once; seen = h.told.seen; apart = h.told.apart; given = h.told.given; names = h.told.names; shapes = h.told.shapes };
-      begins = h.begins;
-      go_taken = h.go_taken;
-      body_taken = All-push (IsTaken (inside (settings_by h.head) (names_by h.head))) h.body line h.body_taken (taken_by (inside (settings_by h.head) (names_by h.head)) line key e (inside_told draft h.head key line h.told c));
-      says = All-push (IsSaying (names_by h.head)) h.body line h.says (s, told);
-      closed = h.closed;
-      current = ap (option_map (with_statement (statement_of draft.names key line))) h.current ∙ ap (λ (ss : List Stmt). Some (record { name = h.go.second; statements = ss })) more;
-    }
+      routines = h.routines ++ record { go = h.go; block = h.block; last = line } ∷ [];
+      lines = routine_more h.head (flat_map routine_lines h.routines) (lines_within h.frames h.block) (line ∷ []) h.go said h.lines
+          ∙ ap (λ (l : List Frame). h.head ++ (flat_map routine_lines h.routines ++ h.go ∷ (lines_within l h.block ++ line ∷ []))) e
+          ∙ ap (λ (l : List Sentence). h.head ++ l) (flat_map_more routine_lines [] h.routines (record { go = h.go; block = h.block; last = line }));
+      told = told_same draft (ended draft (Some (open_by (names_by h.head) h.go [] h.block))) h.head h.told refl refl refl;
+      right = All-push (IsRoutine (settings_by h.head) (names_by h.head)) h.routines (record { go = h.go; block = h.block; last = line }) h.right right;
+      closed = ap (λ (l : List Goroutine). l ++ goroutine_by (names_by h.head) (record { go = h.go; block = h.block; last = line }) ∷ []) h.closed
+          ∙ sym (map_push (goroutine_by (names_by h.head)) h.routines (record { go = h.go; block = h.block; last = line }));
+      current = refl;
+    })
+
+running_end : (said : List Sentence) (draft : Draft) (line : Sentence) (h : Running said draft) (frames : List Frame) → h.frames ≡ frames → cause_at draft keys.End line ≡ None → key_of line.first ≡ Some keys.End
+    → Story (said ++ line ∷ []) (ended draft (Some (open_by (names_by h.head) h.go frames h.block)))
+running_end said draft line h [] e c k = running_over said draft line h e c k
+running_end said draft line h (f ∷ fs) e c k = running_close said draft line h f fs e c k
 
 running_step : (said : List Sentence) (draft : Draft) (key : Key) (line : Sentence) → Running said draft → cause_at draft key line ≡ None → key_of line.first ≡ Some key → Story (said ++ line ∷ []) (continued draft key line)
 unfolding continued
-running_step said draft (keys.Setting x) line h c e = absurd (some_begun draft 0 (one_begun said draft h) (allowed draft (keys.Setting x) line c).nesting)
-running_step said draft keys.Type line h c e = absurd (some_begun draft 0 (one_begun said draft h) (allowed draft keys.Type line c).nesting)
-running_step said draft keys.Go line h c e = absurd (some_begun draft 0 (one_begun said draft h) (allowed draft keys.Go line c).limit)
-running_step said draft keys.End line h c e = inr (inr (running_end said draft line h c e))
-running_step said draft keys.New line h c e = inr (inl (running_say said draft keys.New line _ h (let a = allowed draft keys.New line c in inside_none draft keys.New line a a.limit a.twice a.unknown refl) e refl))
-running_step said draft keys.Load line h c e = inr (inl (running_say said draft keys.Load line _ h (let a = allowed draft keys.Load line c in inside_none draft keys.Load line a a.limit a.twice a.unknown refl) e refl))
-running_step said draft keys.Store line h c e = inr (inl (running_say said draft keys.Store line _ h (let a = allowed draft keys.Store line c in inside_none draft keys.Store line a a.limit a.twice a.unknown refl) e refl))
-running_step said draft keys.GetGlobal line h c e = inr (inl (running_say said draft keys.GetGlobal line _ h (let a = allowed draft keys.GetGlobal line c in inside_none draft keys.GetGlobal line a a.limit a.twice a.unknown refl) e refl))
-running_step said draft keys.SetGlobal line h c e = inr (inl (running_say said draft keys.SetGlobal line _ h (let a = allowed draft keys.SetGlobal line c in inside_none draft keys.SetGlobal line a a.limit a.twice a.unknown refl) e refl))
-running_step said draft keys.Int line h c e = inr (inl (running_say said draft keys.Int line _ h (let a = allowed draft keys.Int line c in inside_none draft keys.Int line a a.limit a.twice a.unknown refl) e refl))
-running_step said draft keys.Move line h c e = inr (inl (running_say said draft keys.Move line _ h (let a = allowed draft keys.Move line c in inside_none draft keys.Move line a a.limit a.twice a.unknown refl) e refl))
-running_step said draft keys.Nil line h c e = inr (inl (running_say said draft keys.Nil line _ h (let a = allowed draft keys.Nil line c in inside_none draft keys.Nil line a a.limit a.twice a.unknown refl) e refl))
+running_step said draft (keys.Setting x) line h c e = absurd (one_begun draft _ h.current (allowed draft (keys.Setting x) line c).nesting)
+running_step said draft keys.Type line h c e = absurd (one_begun draft _ h.current (allowed draft keys.Type line c).nesting)
+running_step said draft keys.Go line h c e = absurd (one_open draft.current _ h.current (allowed draft keys.Go line c).nesting)
+running_step said draft keys.Repeat line h c e = inr (inl (running_repeat said draft line h c e))
+running_step said draft keys.End line h c e = subst (Story (said ++ line ∷ [])) (sym (ap (ended draft) h.current)) (running_end said draft line h h.frames refl c e)
+running_step said draft keys.New line h c e = running_say said draft keys.New line _ h (let a = allowed draft keys.New line c in inside_none draft keys.New line a a.limit a.twice a.unknown refl) e refl
+running_step said draft keys.Load line h c e = running_say said draft keys.Load line _ h (let a = allowed draft keys.Load line c in inside_none draft keys.Load line a a.limit a.twice a.unknown refl) e refl
+running_step said draft keys.Store line h c e = running_say said draft keys.Store line _ h (let a = allowed draft keys.Store line c in inside_none draft keys.Store line a a.limit a.twice a.unknown refl) e refl
+running_step said draft keys.GetGlobal line h c e = running_say said draft keys.GetGlobal line _ h (let a = allowed draft keys.GetGlobal line c in inside_none draft keys.GetGlobal line a a.limit a.twice a.unknown refl) e refl
+running_step said draft keys.SetGlobal line h c e = running_say said draft keys.SetGlobal line _ h (let a = allowed draft keys.SetGlobal line c in inside_none draft keys.SetGlobal line a a.limit a.twice a.unknown refl) e refl
+running_step said draft keys.Int line h c e = running_say said draft keys.Int line _ h (let a = allowed draft keys.Int line c in inside_none draft keys.Int line a a.limit a.twice a.unknown refl) e refl
+running_step said draft keys.Move line h c e = running_say said draft keys.Move line _ h (let a = allowed draft keys.Move line c in inside_none draft keys.Move line a a.limit a.twice a.unknown refl) e refl
+running_step said draft keys.Nil line h c e = running_say said draft keys.Nil line _ h (let a = allowed draft keys.Nil line c in inside_none draft keys.Nil line a a.limit a.twice a.unknown refl) e refl
 
--- ---- nothing may follow the goroutine
+-- ---- too many statements
 
-one_over : (said : List Sentence) (draft : Draft) → Over said draft → goroutines_begun draft ≡ 1
-one_over said draft h = omega (arith, ap length h.closed, ap (λ (o : Option Goroutine). length (option_to_list o)) h.current)
+lost_none : (closed : List Goroutine) (o : Option Open) (g : Open) → o ≡ Some g → g.statements ≡ None → g.repeats ≡ [] → is_too_long closed o ≡ false → ⊥
+lost_none closed o g e none f h =
+    let long : is_too_long closed o ≡ true = ap (is_too_long closed) e ∙ ap (λ (l : List Repeat). eqb (length l) 0 && are_too_many closed g.statements) f ∙ ap (are_too_many closed) none in
+    cc
 
-over_step : (said : List Sentence) (draft : Draft) (key : Key) (line : Sentence) → Over said draft → cause_at draft key line ≡ None → ⊥
-over_step said draft (keys.Setting x) line h c = some_begun draft 0 (one_over said draft h) (allowed draft (keys.Setting x) line c).nesting
-over_step said draft keys.Type line h c = some_begun draft 0 (one_over said draft h) (allowed draft keys.Type line c).nesting
-over_step said draft keys.Go line h c = some_begun draft 0 (one_over said draft h) (allowed draft keys.Go line c).limit
-over_step said draft key line h c = none_open draft.current h.current (allowed draft key line c).nesting
+lost_end : (draft : Draft) (g : Open) (repeats : List Repeat) → draft.current ≡ Some g → g.statements ≡ None → g.repeats ≡ repeats → is_too_long draft.closed draft.current ≡ false → Lost (ended draft draft.current)
+lost_end draft g [] e none f h = absurd (lost_none draft.closed draft.current g e none f h)
+lost_end draft g (innermost ∷ others) e none f h = record {
+  g = with_closed g (innermost ∷ others);
+  current = ap (λ (o : Option Open). (ended draft o).current) e ∙ ap (λ (d : Draft). d.current) (ended_repeat draft g innermost others f);
+  none = ap (option_and_then (written_out innermost)) none;
+}
+
+lost_step : (draft : Draft) (key : Key) (line : Sentence) → Lost draft → cause_at draft key line ≡ None → Lost (continued draft key line)
+unfolding continued
+lost_step draft (keys.Setting x) line h c = absurd (one_begun draft h.g h.current (allowed draft (keys.Setting x) line c).nesting)
+lost_step draft keys.Type line h c = absurd (one_begun draft h.g h.current (allowed draft keys.Type line c).nesting)
+lost_step draft keys.Go line h c = absurd (one_open draft.current h.g h.current (allowed draft keys.Go line c).nesting)
+lost_step draft keys.Repeat line h c = record { g = with_repeat (number_in line.second) h.g; current = ap (option_map (with_repeat (number_in line.second))) h.current; none = h.none }
+lost_step draft keys.End line h c = lost_end draft h.g h.g.repeats h.current h.none refl (allowed draft keys.End line c).limit
+lost_step draft key line h c = record {
+  g = with_statement (statement_of draft.names key line) h.g;
+  current = ap (option_map (with_statement (statement_of draft.names key line))) h.current;
+  none = ap (option_and_then (λ (ss : List Stmt). kept (ss ++ option_to_list (statement_of draft.names key line)))) h.none;
+}
 
 step : (said : List Sentence) (draft : Draft) (key : Key) (line : Sentence) → Story said draft → cause_at draft key line ≡ None → key_of line.first ≡ Some key → Story (said ++ line ∷ []) (continued draft key line)
-step said draft key line (inl h) c e = heading_step said draft key line h c e
+step said draft key line (inl h) c e = between_step said draft key line h c e
 step said draft key line (inr (inl h)) c e = running_step said draft key line h c e
-step said draft key line (inr (inr h)) c e = absurd (over_step said draft key line h c)
+step said draft key line (inr (inr h)) c e = inr (inr (lost_step draft key line h c))
 
 -- ---- lines
 
@@ -442,31 +602,26 @@ ends_open : (running none : Bool) (a b : ScriptFault) (q p : Program) → runnin
 ends_open true none a b q p e r = cc
 ends_open false none a b q p e r = cc
 
-ends_none : (running none : Bool) (a b : ScriptFault) (q p : Program) → none ≡ true → cond running (Err a) (cond none (Err b) (Ok q)) ≡ Ok p → ⊥
-ends_none true none a b q p e r = cc
-ends_none false true a b q p e r = cc
-ends_none false false a b q p e r = cc
-
 ends_same : (running none : Bool) (a b : ScriptFault) (q p : Program) → cond running (Err a) (cond none (Err b) (Ok q)) ≡ Ok p → q ≡ p
 ends_same true none a b q p r = absurd cc
 ends_same false true a b q p r = absurd cc
 ends_same false false a b q p r = cc
 
-closed_some : (said : List Sentence) (draft : Draft) (n : ℕ) (p : Program) → Story said draft
-    → cond (is_some draft.current) (Err (line_fault n Nesting)) (cond (eqb (length draft.closed) 0) (Err (line_fault 0 Missing)) (Ok (program_in draft))) ≡ Ok p → Over said draft × (program_in draft ≡ p)
-closed_some said draft n p (inl h) r = absurd (ends_none (is_some draft.current) (eqb (length draft.closed) 0) (line_fault n Nesting) (line_fault 0 Missing) (program_in draft) p (ap (λ (l : List Goroutine). eqb (length l) 0) h.closed) r)
-closed_some said draft n p (inr (inl h)) r = absurd (ends_open (is_some draft.current) (eqb (length draft.closed) 0) (line_fault n Nesting) (line_fault 0 Missing) (program_in draft) p (ap is_some h.current) r)
-closed_some said draft n p (inr (inr h)) r = (h, ends_same (is_some draft.current) (eqb (length draft.closed) 0) (line_fault n Nesting) (line_fault 0 Missing) (program_in draft) p r)
+ends_between : (said : List Sentence) (draft : Draft) (n : ℕ) (p : Program) → Story said draft
+    → cond (is_some draft.current) (Err (line_fault n Nesting)) (cond (eqb (length draft.closed) 0) (Err (line_fault 0 Missing)) (Ok (program_in draft))) ≡ Ok p → Between said draft × (program_in draft ≡ p)
+ends_between said draft n p (inl h) r = (h, ends_same (is_some draft.current) (eqb (length draft.closed) 0) (line_fault n Nesting) (line_fault 0 Missing) (program_in draft) p r)
+ends_between said draft n p (inr (inl h)) r = absurd (ends_open (is_some draft.current) (eqb (length draft.closed) 0) (line_fault n Nesting) (line_fault 0 Missing) (program_in draft) p (ap is_some h.current) r)
+ends_between said draft n p (inr (inr h)) r = absurd (ends_open (is_some draft.current) (eqb (length draft.closed) 0) (line_fault n Nesting) (line_fault 0 Missing) (program_in draft) p (ap is_some h.current) r)
 
--- the goroutine's end was the last that was said, and this is the program
+-- all goroutines have ended, and this is the program
 record Finished (lines : List Sentence) (p : Program) : Type 0 where
   draft : Draft
-  over : Over lines draft
+  over : Between lines draft
   same : program_in draft ≡ p
 
 end_told : (lines : List Sentence) (draft : Draft) (n : ℕ) (p : Program) → Story lines draft → read_end n draft ≡ Ok p → Finished lines p
 unfolding read_end
-end_told lines draft n p s h = let c = closed_some lines draft n p s h in record { draft = draft; over = c.0; same = c.1 }
+end_told lines draft n p s h = let c = ends_between lines draft n p s h in record { draft = draft; over = c.0; same = c.1 }
 
 then_told : (lines : List Sentence) (n : ℕ) (read : Result Draft ScriptFault) (p : Program) → ((draft : Draft) → read ≡ Ok draft → Story lines draft) → then_end n read ≡ Ok p → Finished lines p
 then_told lines n (Ok draft) p s h = end_told lines draft n p (s draft refl) h
@@ -479,7 +634,15 @@ text_told lines false true n read p s h = absurd cc
 text_told lines false false n read p s h = then_told lines n read p s h
 
 start : Story [] blank_draft
-start = inl (record { told = record { heads = All-nil IsHead; taken = All-nil (IsTaken blank_draft); few = omega arith; once = λ i j d lt below. absurd (omega arith); seen = All-nil (IsSeen nothing_given); apart = λ i j d lt below. absurd (omega arith); given = refl; names = refl; shapes = refl }; closed = refl; current = refl })
+start = inl (record {
+  head = [];
+  routines = [];
+  lines = refl;
+  told = record { heads = All-nil IsHead; taken = All-nil (IsTaken blank_draft); few = omega arith; once = λ i j d lt below. absurd (omega arith); seen = All-nil (IsSeen nothing_given); apart = λ i j d lt below. absurd (omega arith); given = refl; names = refl; shapes = refl };
+  right = All-nil (IsRoutine nothing_given []);
+  closed = refl;
+  current = refl;
+})
 
 told_of : (text : List ℕ) (p : Program) → Spells text p → Finished (sayings (lines_of text)) p
 unfolding reading_of
@@ -501,26 +664,25 @@ pub HasForm-Spells : (text : List ℕ) (p : Program) → Spells text p → HasFo
 HasForm-Spells text p h =
     let t = told_of text p h in
     let o = t.over in
+    let formed = WellFormed-Spells text p h in
+    let goroutines : p.goroutines ≡ map (goroutine_by (names_by o.head)) o.routines = ap (λ (q : Program). q.goroutines) (sym t.same) ∙ o.closed in
+    let count : length p.goroutines ≡ length o.routines = ap length goroutines ∙ length-map o.routines (goroutine_by (names_by o.head)) in
     record {
       size = size_of text p h;
       characters = characters_of text p (is_utf8 text) (size_of text p h) h refl;
       head = o.head;
-      go = o.go;
-      body = o.body;
-      last = o.last;
+      routines = o.routines;
       lines = o.lines;
       heads = o.told.heads;
       heads_taken = o.told.taken;
-      few_types = o.told.few;
-      go_taken = o.go_taken;
-      body_taken = o.body_taken;
-      last_taken = o.last_taken;
-      few_statements = o.few;
       once = o.told.once;
       names_apart = o.told.apart;
-      begins = o.begins;
-      says = o.says;
-      ends = o.ends;
+      few_types = o.told.few;
+      right = o.right;
+      some_goroutine = subst (λ (n : ℕ). 1 ≤ n) count formed.some_goroutine;
+      few_goroutines = subst (λ (n : ℕ). n ≤ 32) count formed.few_goroutines;
+      goroutines_apart = formed.names_apart;
+      few_statements = formed.few_statements;
       settings = ap (λ (q : Program). q.settings) (sym t.same) ∙ ap settings_in o.told.given;
       shapes = ap (λ (q : Program). q.shapes) (sym t.same) ∙ o.told.shapes;
       goroutines = ap (λ (q : Program). q.goroutines) (sym t.same) ∙ o.closed;

@@ -16,7 +16,7 @@ use Rattle.gh_script.specs.declared.statement.Settings.{Settings}
 use Rattle.gh_script.specs.Limits.{least, most, most_bytes}
 use Rattle.gh_script.specs.Program.{Program, AreWithin, AreStatements, IsNamed, IsShape, WellFormed}
 use Rattle.gh_script.specs.Text.{lines_of, words_of, sentence_of}
-use Rattle.gh_script.specs.Draft.{Draft, IsSound, blank_draft, nothing_given, given_at, globals_in, settings_in, program_in}
+use Rattle.gh_script.specs.Draft.{Draft, IsSound, IsOpenNamed, IsNewName, AreOpenStatements, blank_draft, nothing_given, given_at, globals_in, settings_in, program_in}
 use Rattle.gh_script.specs.Grammar.{read_line, read_lines, go_on, read_end, then_end, reading_of, line_fault, Spells, Refused}
 use Rattle.gh_script.specs.Outcome.{Ends}
 use Rattle.gh_script.proofs.Sound.{IsSound-read_line}
@@ -37,9 +37,11 @@ IsSound-blank = record {
   shapes = All-nil IsShape;
   goroutines = omega arith;
   closed_names = All-nil IsNamed;
-  open_names = All-nil IsNamed;
+  open_names = All-nil IsOpenNamed;
+  names_apart = λ i j d lt below. absurd (omega arith);
+  open_apart = All-nil (IsNewName []);
   statements = All-nil (AreStatements 1 0);
-  open_statements = All-nil (AreStatements 1 0);
+  open_statements = All-nil (AreOpenStatements 1 0);
   few_statements = omega arith;
 }
 
@@ -78,6 +80,7 @@ formed draft s some = record {
   some_goroutine = some;
   few_goroutines = omega (arith, s.goroutines);
   names = s.closed_names;
+  names_apart = s.names_apart;
   statements = subst (λ (n : ℕ). All (AreStatements (globals_in draft.given) n) draft.closed) (sym s.named) s.statements;
   few_statements = s.few_statements;
 }

@@ -1,3 +1,5 @@
+pub mod Repeated
+pub mod Written
 pub mod Pieces
 pub mod Numbers
 pub mod Items

@@ -1,27 +1,33 @@
 -- Each line that is read keeps the draft sound.
-use Rattle.std.proofs.Common.{◌≡◌, ℕ, ◌+◌, ◌-◌, ◌^◌, ◌<◌, ◌≤◌, Bool, true, false, not, cond, eqb, ltb, leb, ◌&&◌, ◌||◌, List, [], ◌∷◌, ◌++◌, length, Option, Some, None, Result, Ok, refl, sym, ap, ◌∙◌, subst, arith, inl, inr, ◌⊎◌}
-use Rattle.std.specs.Prelude.{unwrap_or, All}
-use Rattle.std.specs.Option.{option_map, option_to_list}
-use Rattle.std.specs.List.{list_all}
+use Rattle.std.proofs.Common.{◌≡◌, ℕ, ◌+◌, ◌-◌, ◌^◌, ◌<◌, ◌≤◌, Bool, true, false, not, cond, eqb, ltb, leb, ◌&&◌, ◌||◌, List, [], ◌∷◌, ◌++◌, length, take, drop, Option, Some, None, Result, Ok, refl, sym, ap, ◌∙◌, subst, arith, inl, inr, ◌⊎◌}
+use Rattle.std.specs.Prelude.{unwrap_or, is_some, All, ◌≢◌, sum_by}
+use Rattle.std.specs.Option.{option_map, option_and_then, option_to_list}
+use Rattle.std.specs.List.{list_all, list_any, repeat}
+use Rattle.std.specs.Str.{bytes_eq}
+use Rattle.std.proofs.lemmas.Slice.Eq.{bytes_eq-Decides}
+use Rattle.std.proofs.lemmas.List.Quantifiers.{all_pairs_push}
 use Rattle.std.proofs.lemmas.Bool.{leb-true, leb-false, ltb-false, ltb-true}
-use Rattle.std.proofs.lemmas.List.{length-append, length_push, nil_from_length}
-use Rattle.std.proofs.lemmas.List.Elements.{All-nil, All-cons, All-append, All-push}
+use Rattle.std.proofs.lemmas.List.{length_push, nil_from_length}
+use Rattle.std.proofs.lemmas.List.Elements.{All-nil, All-cons, All-append, All-push, All-head, All-take, All-drop}
 use Rattle.std.proofs.lemmas.List.Sums.{sum_by-append}
 use Rattle.gh_script.specs.declared.fault.Why.{Why}
 use Rattle.gh_script.specs.declared.given.Given.{Given}
+use Rattle.gh_script.specs.declared.goroutine.Repeat.{Repeat}
 use Rattle.gh_script.specs.declared.key.Setting.{Setting}
 use Rattle.gh_script.specs.declared.key.Setting.TheVariants.{Procs, Workers, Arena, Globals, Gogc, Minheap}
 use Rattle.gh_script.specs.declared.key.Key.{Key}
 use Rattle.gh_script.specs.declared.key.Key.TheVariants as keys
 use Rattle.gh_script.specs.declared.statement.Stmt.{Stmt}
-use Rattle.gh_script.specs.Program.{Goroutine, IsShape, IsStatement, AreStatements, IsNamed, statements_in}
+use Rattle.gh_script.specs.Program.{Goroutine, IsShape, IsStatement, AreStatements, AreNamedApart, IsNamed, statements_in}
 use Rattle.gh_script.specs.Text.{Sentence}
 use Rattle.gh_script.specs.Words.{is_digit, register_of, number_of, digits_value_of, value_from, key_of, is_name}
 use Rattle.gh_script.specs.ShapeText.{are_letters, fields_of, shape_with}
-use Rattle.gh_script.specs.Draft.{Draft, IsSound, given_at, with_given, globals_in, goroutines_begun, statements_so_far, with_statement}
+use Rattle.gh_script.specs.Draft.{Draft, IsSound, given_at, with_given, globals_in, goroutines_begun, Open, IsOpenNamed, IsNewName, AreOpenStatements, has_goroutine, begun, kept, with_statement, with_repeat, written_out, with_closed, goroutine_of, ended, are_too_many, is_too_long}
 use Rattle.gh_script.specs.Grammar.{number_in, register_in, cause_at, statement_of, continued, is_skipped, read_cause, read_key, read_line}
-use Rattle.gh_script.proofs.Allowed.{allowed, right_false, not_false, setting_small, load_small, store_small, get_small, set_small, type_fits, type_few, type_of-lt}
+use Rattle.gh_script.proofs.Allowed.{allowed, left_false, right_false, not_false, setting_small, load_small, store_small, get_small, set_small, type_fits, type_few, type_of-lt}
 use Rattle.gh_script.proofs.Names.{and_right}
+use Rattle.gh_script.proofs.Repeated.{All-repeat}
+use Rattle.gh_script.proofs.Written.{in_full}
 use Rattle.gh_script.proofs.ShapeLaws.{IsShape-text}
 
 -- ---- words
@@ -111,8 +117,10 @@ set_sound draft x line s h =
       goroutines = s.goroutines;
       closed_names = s.closed_names;
       open_names = s.open_names;
+      names_apart = s.names_apart;
+      open_apart = s.open_apart;
       statements = rw u.closed (All-nil (AreStatements (globals_in (with_given draft.given x (number_in line.second))) (length draft.names)));
-      open_statements = rw u.current (All-nil (AreStatements (globals_in (with_given draft.given x (number_in line.second))) (length draft.names)));
+      open_statements = rw u.current (All-nil (AreOpenStatements (globals_in (with_given draft.given x (number_in line.second))) (length draft.names)));
       few_statements = s.few_statements;
     }
 
@@ -132,16 +140,34 @@ type_sound draft line s h =
       goroutines = s.goroutines;
       closed_names = s.closed_names;
       open_names = s.open_names;
+      names_apart = s.names_apart;
+      open_apart = s.open_apart;
       statements = rw u.closed (All-nil (AreStatements (globals_in draft.given) (length (draft.names ++ line.second ∷ []))));
-      open_statements = rw u.current (All-nil (AreStatements (globals_in draft.given) (length (draft.names ++ line.second ∷ []))));
+      open_statements = rw u.current (All-nil (AreOpenStatements (globals_in draft.given) (length (draft.names ++ line.second ∷ []))));
       few_statements = s.few_statements;
     }
+
+-- a name that has not begun differs from those that have ended
+differs : (word : List ℕ) (closed : List Goroutine) → list_any (λ g. bytes_eq g.name word) closed ≡ false → All (λ other. other.name ≢ word) closed
+differs word [] h = All-nil (λ other. other.name ≢ word)
+differs word (g ∷ gs) h =
+    All-cons (λ other. other.name ≢ word) g gs (λ same. let is : bytes_eq g.name word ≡ true = (bytes_eq-Decides g.name word).1 same in let not : bytes_eq g.name word ≡ false = left_false (bytes_eq g.name word) (list_any (λ g. bytes_eq g.name word) gs) h in cc)
+    (differs word gs (right_false (bytes_eq g.name word) (list_any (λ g. bytes_eq g.name word) gs) h))
+
+new_name : (draft : Draft) (word : List ℕ) → has_goroutine draft word ≡ false → All (λ other. other.name ≢ word) draft.closed
+unfolding has_goroutine
+new_name draft word h = differs word draft.closed (left_false (list_any (λ g. bytes_eq g.name word) draft.closed) (list_any (λ g. bytes_eq g.name word) (option_to_list draft.current)) h)
+
+none_open : (o : Option Open) → is_some o ≡ false → length (option_to_list o) ≡ 0
+none_open None h = refl
+none_open (Some g) h = absurd cc
 
 begin_sound : (draft : Draft) (line : Sentence) → IsSound draft → cause_at draft keys.Go line ≡ None → IsSound (continued draft keys.Go line)
 unfolding continued
 begin_sound draft line s h =
     let a = allowed draft keys.Go line h in
-    let none : goroutines_begun draft < 1 = leb-false 1 (goroutines_begun draft) a.limit in
+    let few : goroutines_begun draft < 32 = leb-false 32 (goroutines_begun draft) a.limit in
+    let none = none_open draft.current a.nesting in
     let name = not_false (is_name line.second) (right_false (not (eqb line.count 2)) (not (is_name line.second)) a.word) in
     record {
       given = s.given;
@@ -150,66 +176,170 @@ begin_sound draft line s h =
       shapes = s.shapes;
       goroutines = omega arith;
       closed_names = s.closed_names;
-      open_names = All-cons IsNamed (record { name = line.second; statements = [] }) [] name (All-nil IsNamed);
+      open_names = All-cons IsOpenNamed (begun line.second) [] name (All-nil IsOpenNamed);
+      names_apart = s.names_apart;
+      open_apart = All-cons (IsNewName draft.closed) (begun line.second) [] (new_name draft line.second a.twice) (All-nil (IsNewName draft.closed));
       statements = s.statements;
-      open_statements = All-cons (AreStatements (globals_in draft.given) (length draft.names)) (record { name = line.second; statements = [] }) [] (All-nil (IsStatement (globals_in draft.given) (length draft.names))) (All-nil (AreStatements (globals_in draft.given) (length draft.names)));
+      open_statements = All-cons (AreOpenStatements (globals_in draft.given) (length draft.names)) (begun line.second) [] (All-nil (IsStatement (globals_in draft.given) (length draft.names))) (All-nil (AreOpenStatements (globals_in draft.given) (length draft.names)));
       few_statements = s.few_statements;
     }
 
-end_sound : (draft : Draft) (line : Sentence) → IsSound draft → cause_at draft keys.End line ≡ None → IsSound (continued draft keys.End line)
-unfolding continued statements_so_far
-end_sound draft line s h =
-    let a = allowed draft keys.End line h in
-    let few : statements_so_far draft ≤ 200000 = ltb-false 200000 (statements_so_far draft) a.limit in
-    let all = sum_by-append statements_in draft.closed (option_to_list draft.current) in
+-- ---- the open goroutine
+
+-- what the open goroutine keeps
+record Keeps (globals types : ℕ) (closed : List Goroutine) (g : Open) : Type 0 where
+  name : IsOpenNamed g
+  apart : IsNewName closed g
+  said : AreOpenStatements globals types g
+
+keeps : (draft : Draft) (g : Open) → IsSound draft → draft.current ≡ Some g → Keeps (globals_in draft.given) (length draft.names) draft.closed g
+keeps draft g s e =
+    let one : option_to_list draft.current ≡ g ∷ [] = ap option_to_list e in
+    record {
+      name = All-head IsOpenNamed g [] (subst (All IsOpenNamed) one s.open_names);
+      apart = All-head (IsNewName draft.closed) g [] (subst (All (IsNewName draft.closed)) one s.open_apart);
+      said = All-head (AreOpenStatements (globals_in draft.given) (length draft.names)) g [] (subst (All (AreOpenStatements (globals_in draft.given) (length draft.names))) one s.open_statements);
+    }
+
+-- the open goroutine is another, or still none
+changed : (draft : Draft) (current : Option Open) → IsSound draft → length (option_to_list current) ≡ length (option_to_list draft.current)
+    → ((g : Open) → current ≡ Some g → Keeps (globals_in draft.given) (length draft.names) draft.closed g) → IsSound (record draft { current = current })
+changed draft None s count k = record {
+  given = s.given;
+  types = s.types;
+  named = s.named;
+  shapes = s.shapes;
+  goroutines = omega (arith, count, s.goroutines);
+  closed_names = s.closed_names;
+  open_names = All-nil IsOpenNamed;
+  names_apart = s.names_apart;
+  open_apart = All-nil (IsNewName draft.closed);
+  statements = s.statements;
+  open_statements = All-nil (AreOpenStatements (globals_in draft.given) (length draft.names));
+  few_statements = s.few_statements;
+}
+changed draft (Some g) s count k =
+    let kept = k g refl in
     record {
       given = s.given;
       types = s.types;
       named = s.named;
       shapes = s.shapes;
-      goroutines = omega (arith, length-append draft.closed (option_to_list draft.current), s.goroutines);
-      closed_names = All-append IsNamed draft.closed (option_to_list draft.current) s.closed_names s.open_names;
-      open_names = All-nil IsNamed;
-      statements = All-append (AreStatements (globals_in draft.given) (length draft.names)) draft.closed (option_to_list draft.current) s.statements s.open_statements;
-      open_statements = All-nil (AreStatements (globals_in draft.given) (length draft.names));
-      few_statements = omega (arith, all, few);
+      goroutines = omega (arith, count, s.goroutines);
+      closed_names = s.closed_names;
+      open_names = All-cons IsOpenNamed g [] kept.name (All-nil IsOpenNamed);
+      names_apart = s.names_apart;
+      open_apart = All-cons (IsNewName draft.closed) g [] kept.apart (All-nil (IsNewName draft.closed));
+      statements = s.statements;
+      open_statements = All-cons (AreOpenStatements (globals_in draft.given) (length draft.names)) g [] kept.said (All-nil (AreOpenStatements (globals_in draft.given) (length draft.names)));
+      few_statements = s.few_statements;
     }
 
-adds : (globals types : ℕ) (current : Option Goroutine) (statement : Option Stmt) → All (AreStatements globals types) (option_to_list current) → All (IsStatement globals types) (option_to_list statement)
-    → All (AreStatements globals types) (option_to_list (option_map (with_statement statement) current))
-adds globals types None statement h new = h
-adds globals types (Some g) statement h new =
-    All-cons (AreStatements globals types) (with_statement statement g) [] (All-append (IsStatement globals types) g.statements (option_to_list statement) (h 0 g (omega arith)) new) (All-nil (AreStatements globals types))
+kept_all : (P : Stmt → Type 0) (ss : List Stmt) (b : Bool) → All P ss → All P (unwrap_or (cond b None (Some ss)) [])
+kept_all P ss true h = All-nil P
+kept_all P ss false h = h
 
-still_named : (current : Option Goroutine) (statement : Option Stmt) → All IsNamed (option_to_list current) → All IsNamed (option_to_list (option_map (with_statement statement) current))
-still_named None statement h = h
-still_named (Some g) statement h = All-cons IsNamed (with_statement statement g) [] (h 0 g (omega arith)) (All-nil IsNamed)
+All-kept : (P : Stmt → Type 0) (ss : List Stmt) → All P ss → All P (unwrap_or (kept ss) [])
+unfolding kept
+All-kept P ss h = kept_all P ss (ltb 200000 (length ss)) h
 
-same_count : (current : Option Goroutine) (statement : Option Stmt) → length (option_to_list (option_map (with_statement statement) current)) ≡ length (option_to_list current)
-same_count None statement = refl
-same_count (Some g) statement = refl
+said_all : (P : Stmt → Type 0) (o : Option (List Stmt)) (statement : Option Stmt) → All P (unwrap_or o []) → All P (option_to_list statement) → All P (unwrap_or (option_and_then (λ ss. kept (ss ++ option_to_list statement)) o) [])
+said_all P None statement h new = h
+said_all P (Some ss) statement h new = All-kept P (ss ++ option_to_list statement) (All-append P ss (option_to_list statement) h new)
+
+All-written_out : (P : Stmt → Type 0) (innermost : Repeat) (ss : List Stmt) → All P ss → All P (unwrap_or (written_out innermost ss) [])
+unfolding written_out
+All-written_out P innermost ss h =
+    All-kept P (in_full innermost ss) (All-append P (take innermost.start ss) (repeat innermost.times (drop innermost.start ss)) (All-take P innermost.start ss h) (All-repeat P innermost.times (drop innermost.start ss) (All-drop P innermost.start ss h)))
+
+closed_all : (P : Stmt → Type 0) (o : Option (List Stmt)) (innermost : Repeat) → All P (unwrap_or o []) → All P (unwrap_or (option_and_then (written_out innermost) o) [])
+closed_all P None innermost h = h
+closed_all P (Some ss) innermost h = All-written_out P innermost ss h
+
+closed_said : (P : Stmt → Type 0) (g : Open) (repeats : List Repeat) → All P (unwrap_or g.statements []) → All P (unwrap_or (with_closed g repeats).statements [])
+closed_said P g [] h = h
+closed_said P g (innermost ∷ others) h = closed_all P g.statements innermost h
+
+closed_name : (g : Open) (repeats : List Repeat) → (with_closed g repeats).name ≡ g.name
+closed_name g [] = refl
+closed_name g (innermost ∷ others) = refl
+
+same_count : (f : Open → Open) (o : Option Open) → length (option_to_list (option_map f o)) ≡ length (option_to_list o)
+same_count f None = refl
+same_count f (Some g) = refl
+
+mapped : (f : Open → Open) (o : Option Open) (g : Open) → option_map f o ≡ Some g → (h : Open) × (o ≡ Some h) × (f h ≡ g)
+mapped f None g e = absurd cc
+mapped f (Some h) g e = (h, refl, cc)
 
 say_sound : (draft : Draft) (key : Key) (line : Sentence) → IsSound draft → cause_at draft key line ≡ None
     → IsSound (record draft { current = option_map (with_statement (statement_of draft.names key line)) draft.current })
-say_sound draft key line s h = record {
-  given = s.given;
-  types = s.types;
-  named = s.named;
-  shapes = s.shapes;
-  goroutines = omega (arith, same_count draft.current (statement_of draft.names key line), s.goroutines);
-  closed_names = s.closed_names;
-  open_names = still_named draft.current (statement_of draft.names key line) s.open_names;
-  statements = s.statements;
-  open_statements = adds (globals_in draft.given) (length draft.names) draft.current (statement_of draft.names key line) s.open_statements (statement_keeps draft key line h);
-  few_statements = s.few_statements;
-}
+say_sound draft key line s h =
+    let P = IsStatement (globals_in draft.given) (length draft.names) in
+    let f = with_statement (statement_of draft.names key line) in
+    changed draft (option_map (with_statement (statement_of draft.names key line)) draft.current) s (same_count (with_statement (statement_of draft.names key line)) draft.current) (λ g e.
+    let w = mapped (with_statement (statement_of draft.names key line)) draft.current g e in
+    let k = keeps draft w.0 s w.1 in
+    subst (Keeps (globals_in draft.given) (length draft.names) draft.closed) w.2
+    (record { name = k.name; apart = k.apart; said = said_all (IsStatement (globals_in draft.given) (length draft.names)) w.0.statements (statement_of draft.names key line) k.said (statement_keeps draft key line h) }))
+
+repeat_sound : (draft : Draft) (times : ℕ) → IsSound draft → IsSound (record draft { current = option_map (with_repeat times) draft.current })
+repeat_sound draft times s =
+    changed draft (option_map (with_repeat times) draft.current) s (same_count (with_repeat times) draft.current) (λ g e.
+    let w = mapped (with_repeat times) draft.current g e in
+    let k = keeps draft w.0 s w.1 in
+    subst (Keeps (globals_in draft.given) (length draft.names) draft.closed) w.2 (record { name = k.name; apart = k.apart; said = k.said }))
+
+-- ---- `end`
+
+few_in : (closed : List Goroutine) (o : Option (List Stmt)) → are_too_many closed o ≡ false → sum_by statements_in closed + length (unwrap_or o []) ≤ 200000
+few_in closed None h = absurd cc
+few_in closed (Some ss) h = ltb-false 200000 (sum_by statements_in closed + length ss) h
+
+close_sound : (draft : Draft) (g : Open) → IsSound draft → draft.current ≡ Some g → are_too_many draft.closed g.statements ≡ false → IsSound (record draft { closed = draft.closed ++ goroutine_of g ∷ []; current = None })
+close_sound draft g s e few =
+    let k = keeps draft g s e in
+    let total = few_in draft.closed g.statements few in
+    let one : length (option_to_list draft.current) ≡ 1 = ap (λ (o : Option Open). length (option_to_list o)) e in
+    record {
+      given = s.given;
+      types = s.types;
+      named = s.named;
+      shapes = s.shapes;
+      goroutines = omega (arith, length_push draft.closed (goroutine_of g), s.goroutines, one);
+      closed_names = All-push IsNamed draft.closed (goroutine_of g) s.closed_names k.name;
+      open_names = All-nil IsOpenNamed;
+      names_apart = all_pairs_push AreNamedApart draft.closed (goroutine_of g) s.names_apart k.apart;
+      open_apart = All-nil (IsNewName (draft.closed ++ goroutine_of g ∷ []));
+      statements = All-push (AreStatements (globals_in draft.given) (length draft.names)) draft.closed (goroutine_of g) s.statements k.said;
+      open_statements = All-nil (AreOpenStatements (globals_in draft.given) (length draft.names));
+      few_statements = omega (arith, sum_by-append statements_in draft.closed (goroutine_of g ∷ []), total);
+    }
+
+end_by : (draft : Draft) (g : Open) (none : Bool) → IsSound draft → draft.current ≡ Some g → (none && are_too_many draft.closed g.statements) ≡ false
+    → IsSound (cond none (record draft { closed = draft.closed ++ goroutine_of g ∷ []; current = None }) (record draft { current = Some (with_closed g g.repeats) }))
+end_by draft g true s e h = close_sound draft g s e h
+end_by draft g false s e h =
+    let k = keeps draft g s e in
+    changed draft (Some (with_closed g g.repeats)) s (sym (ap (λ (o : Option Open). length (option_to_list o)) e)) (λ other same.
+    let is : with_closed g g.repeats ≡ other = cc in
+    subst (Keeps (globals_in draft.given) (length draft.names) draft.closed) is (record {
+      name = ap is_name (closed_name g g.repeats) ∙ k.name;
+      apart = subst (λ (n : List ℕ). All (λ other. other.name ≢ n) draft.closed) (sym (closed_name g g.repeats)) k.apart;
+      said = closed_said (IsStatement (globals_in draft.given) (length draft.names)) g g.repeats k.said;
+    }))
+
+end_sound : (draft : Draft) (current : Option Open) → IsSound draft → draft.current ≡ current → is_too_long draft.closed current ≡ false → IsSound (ended draft current)
+end_sound draft None s e h = s
+end_sound draft (Some g) s e h = end_by draft g (eqb (length g.repeats) 0) s e h
 
 IsSound-continued : (draft : Draft) (key : Key) (line : Sentence) → IsSound draft → cause_at draft key line ≡ None → IsSound (continued draft key line)
 unfolding continued
 IsSound-continued draft (keys.Setting x) line s h = set_sound draft x line s h
 IsSound-continued draft keys.Type line s h = type_sound draft line s h
 IsSound-continued draft keys.Go line s h = begin_sound draft line s h
-IsSound-continued draft keys.End line s h = end_sound draft line s h
+IsSound-continued draft keys.Repeat line s h = repeat_sound draft (number_in line.second) s
+IsSound-continued draft keys.End line s h = end_sound draft draft.current s refl (allowed draft keys.End line h).limit
 IsSound-continued draft key line s h = say_sound draft key line s h
 
 cause_sound : (draft new : Draft) (key : Key) (line : Sentence) (cause : Option Why) → IsSound draft → cause_at draft key line ≡ cause → read_cause draft key line cause ≡ Ok new → IsSound new

@@ -1,16 +1,25 @@
 -- What the lines so far say.
-use Rattle.std.specs.Prelude.{◌≡◌, ℕ, ◌+◌, ◌*◌, ◌≤◌, ◌||◌, Bool, List, [], ◌++◌, length, Option, Some, None, unwrap_or, position, sum_by, All}
-use Rattle.std.specs.Option.{option_to_list}
-use Rattle.std.specs.List.{list_any}
+use Rattle.std.specs.Prelude.{◌≡◌, ℕ, ◌+◌, ◌*◌, ◌≤◌, ◌≢◌, ◌==◌, ◌&&◌, ◌||◌, Bool, true, false, if◌then◌else◌, nat_lt, List, [], ◌∷◌, ◌++◌, length, take, drop, Option, Some, None, unwrap_or, position, sum_by, All, AllPairs}
+use Rattle.std.specs.Option.{option_map, option_and_then, option_to_list}
+use Rattle.std.specs.List.{list_any, repeat}
 use Rattle.std.specs.Str.{bytes_eq}
 use Rattle.gh_base.specs.declared.shape.Shape.{Shape}
 use Rattle.gh_script.specs.declared.given.Given.{Given}
+use Rattle.gh_script.specs.declared.goroutine.Repeat.{Repeat}
 use Rattle.gh_script.specs.declared.key.Setting.{Setting}
 use Rattle.gh_script.specs.declared.key.Setting.TheVariants.{Procs, Workers, Arena, Globals, Gogc, Minheap}
 use Rattle.gh_script.specs.declared.statement.Settings.{Settings}
 use Rattle.gh_script.specs.declared.statement.Stmt.{Stmt}
 use Rattle.gh_script.specs.Limits.{least, most, most_types, most_goroutines, most_statements}
-use Rattle.gh_script.specs.Program.{Goroutine, Program, statements_in, AreStatements, IsShape, IsNamed}
+use Rattle.gh_script.specs.Words.{is_name}
+use Rattle.gh_script.specs.Program.{Goroutine, Program, statements_in, AreStatements, AreNamedApart, IsShape, IsStatement, IsNamed}
+
+-- a goroutine that is open: its name; its statements so far, with the body of each open `repeat` once, none once they are
+-- more than a script may have (that many can never get fewer); and the open `repeat`s, innermost first
+pub record Open : Type 0 where
+  pub name : List ℕ
+  pub statements : Option (List Stmt)
+  pub repeats : List Repeat
 
 -- the settings given so far, the types with their names, the goroutines that have ended, and the one that is open
 pub record Draft : Type 0 where
@@ -18,7 +27,7 @@ pub record Draft : Type 0 where
   pub names : List (List ℕ)
   pub shapes : List Shape
   pub closed : List Goroutine
-  pub current : Option Goroutine
+  pub current : Option Open
 
 -- before the first line
 abbrev pub nothing_given : Given
@@ -71,17 +80,70 @@ has_goroutine draft word = list_any (λ g. bytes_eq g.name word) draft.closed ||
 abbrev pub goroutines_begun : Draft → ℕ
 goroutines_begun draft = length draft.closed + length (option_to_list draft.current)
 
--- how many statements stand so far
-unfoldable pub statements_so_far : Draft → ℕ
-statements_so_far draft = sum_by statements_in draft.closed + sum_by statements_in (option_to_list draft.current)
+-- the `repeat`s that are open, innermost first
+abbrev pub repeats_open : Draft → List Repeat
+repeats_open draft = unwrap_or (option_map (λ g. g.repeats) draft.current) []
+
+-- statements, none where a script may not have so many
+unfoldable pub kept : List Stmt → Option (List Stmt)
+kept statements = if nat_lt most_statements (length statements) then None else Some statements
+
+-- a goroutine that has just begun
+abbrev pub begun : List ℕ → Open
+begun name = record { name = name; statements = Some []; repeats = [] }
 
 -- a goroutine with one more statement
-abbrev pub with_statement : Option Stmt → Goroutine → Goroutine
-with_statement statement g = record g { statements = g.statements ++ option_to_list statement }
+abbrev pub with_statement : Option Stmt → Open → Open
+with_statement statement g = record g { statements = option_and_then (λ statements. kept (statements ++ option_to_list statement)) g.statements }
+
+-- a goroutine with one more open `repeat`, whose body begins behind the statements so far
+abbrev pub with_repeat : ℕ → Open → Open
+with_repeat times g = record g { repeats = record { start = length (unwrap_or g.statements []); times = times } ∷ g.repeats }
+
+-- the statements before the body of the `repeat`, and then the body as often as it stands
+unfoldable pub written_out : Repeat → List Stmt → Option (List Stmt)
+written_out innermost statements = kept (take innermost.start statements ++ repeat innermost.times (drop innermost.start statements))
+
+-- a goroutine with the innermost of its open `repeat`s closed, if there is one
+abbrev pub with_closed : Open → List Repeat → Open
+with_closed g [] = g
+with_closed g (innermost ∷ others) = record g { statements = option_and_then (written_out innermost) g.statements; repeats = others }
+
+-- a goroutine that ends
+abbrev pub goroutine_of : Open → Goroutine
+goroutine_of g = record { name = g.name; statements = unwrap_or g.statements [] }
+
+-- `end` closes the open goroutine where it has no open `repeat`, and its innermost `repeat` where it has one
+abbrev pub ended : Draft → Option Open → Draft
+ended draft None = draft
+ended draft (Some g) =
+    if length g.repeats == 0 then record draft { closed = draft.closed ++ goroutine_of g ∷ []; current = None }
+    else record draft { current = Some (with_closed g g.repeats) }
+
+-- with the statements of the closed goroutines these are more than a script may have
+abbrev pub are_too_many : List Goroutine → Option (List Stmt) → Bool
+are_too_many closed None = true
+are_too_many closed (Some statements) = nat_lt most_statements (sum_by statements_in closed + length statements)
+
+-- `end` would close the goroutine, and there are too many statements
+abbrev pub is_too_long : List Goroutine → Option Open → Bool
+is_too_long closed None = false
+is_too_long closed (Some g) = (length g.repeats == 0) && are_too_many closed g.statements
 
 -- what is said in all
 abbrev pub program_in : Draft → Program
 program_in draft = record { settings = settings_in draft.given; shapes = draft.shapes; goroutines = draft.closed }
+
+-- the name of the open goroutine is spelled as names are
+abbrev pub IsOpenNamed : Open → Type 0
+IsOpenNamed g = is_name g.name ≡ true
+
+-- no goroutine that has ended has the name of the open one
+abbrev pub IsNewName : List Goroutine → Open → Type 0
+IsNewName closed g = All (λ other. other.name ≢ g.name) closed
+
+abbrev pub AreOpenStatements : ℕ → ℕ → Open → Type 0
+AreOpenStatements globals types g = All (IsStatement globals types) (unwrap_or g.statements [])
 
 -- what the lines so far keep
 pub record IsSound (draft : Draft) : Type 0 where
@@ -91,7 +153,9 @@ pub record IsSound (draft : Draft) : Type 0 where
   pub shapes : All IsShape draft.shapes
   pub goroutines : goroutines_begun draft ≤ most_goroutines
   pub closed_names : All IsNamed draft.closed
-  pub open_names : All IsNamed (option_to_list draft.current)
+  pub open_names : All IsOpenNamed (option_to_list draft.current)
+  pub names_apart : AllPairs AreNamedApart draft.closed
+  pub open_apart : All (IsNewName draft.closed) (option_to_list draft.current)
   pub statements : All (AreStatements (globals_in draft.given) (length draft.names)) draft.closed
-  pub open_statements : All (AreStatements (globals_in draft.given) (length draft.names)) (option_to_list draft.current)
+  pub open_statements : All (AreOpenStatements (globals_in draft.given) (length draft.names)) (option_to_list draft.current)
   pub few_statements : sum_by statements_in draft.closed ≤ most_statements

@@ -1,7 +1,8 @@
--- The form of a script, without the reading of it line by line: settings and types in any order, then one goroutine.
-use Rattle.std.specs.Prelude.{◌≡◌, ℕ, Bool, true, false, not, List, [], ◌∷◌, ◌++◌, map, filter, fold, Option, Some, None, All, ◌≢◌, AllPairs, ◌≤◌, length}
+-- The form of a script, without the reading of it line by line: settings and types in any order, then goroutines, each
+-- of statements and repeated blocks.
+use Rattle.std.specs.Prelude.{◌≡◌, ℕ, Bool, true, false, not, List, [], ◌∷◌, ◌++◌, map, filter, fold, Option, Some, None, All, ◌≢◌, AllPairs, ◌+◌, ◌<◌, ◌≤◌, length, sum_by}
 use Rattle.std.specs.Option.{option_to_list}
-use Rattle.std.specs.List.{flat_map}
+use Rattle.std.specs.List.{flat_map, repeat}
 use Rattle.std.specs.Str.{is_utf8}
 use Rattle.gh_base.specs.declared.shape.Shape.{Shape}
 use Rattle.gh_script.specs.declared.given.Given.{Given}
@@ -9,12 +10,12 @@ use Rattle.gh_script.specs.declared.key.Setting.{Setting}
 use Rattle.gh_script.specs.declared.key.Key.{Key}
 use Rattle.gh_script.specs.declared.key.Key.TheVariants as keys
 use Rattle.gh_script.specs.declared.statement.Stmt.{Stmt}
-use Rattle.gh_script.specs.Limits.{most_bytes, most_types, most_statements}
-use Rattle.gh_script.specs.Program.{Program, no_goroutine}
+use Rattle.gh_script.specs.Limits.{most_bytes, most_types, most_goroutines, most_statements, most_repeats}
+use Rattle.gh_script.specs.Program.{Program, Goroutine, AreNamedApart, statements_in}
 use Rattle.gh_script.specs.Text.{Sentence, sentence_of, lines_of, words_of}
 use Rattle.gh_script.specs.Words.{key_of}
 use Rattle.gh_script.specs.ShapeText.{fields_of, shape_with}
-use Rattle.gh_script.specs.Draft.{Draft, blank_draft, nothing_given, with_given, settings_in}
+use Rattle.gh_script.specs.Draft.{Draft, blank_draft, nothing_given, begun, with_given, settings_in}
 use Rattle.gh_script.specs.Grammar.{cause_at, is_skipped, number_in, statement_of}
 
 -- a line's words
@@ -66,11 +67,15 @@ statement_by_key names line None = None
 
 -- a draft with these settings and types' names, and a goroutine open
 abbrev pub inside : Given → List (List ℕ) → Draft
-inside given names = record { given = given; names = names; shapes = []; closed = []; current = Some no_goroutine }
+inside given names = record { given = given; names = names; shapes = []; closed = []; current = Some (begun []) }
 
 -- the line meets no cause after those of the draft
 abbrev pub IsTaken : Draft → Sentence → Type 0
 IsTaken draft line = (key : Key) → key_of line.first ≡ Some key → cause_at draft key line ≡ None
+
+-- and this is its key
+abbrev pub IsTakenAs : Draft → Key → Sentence → Type 0
+IsTakenAs draft key line = (key_of line.first ≡ Some key) × (cause_at draft key line ≡ None)
 
 -- two lines don't give the same setting
 abbrev pub AreApart : Sentence → Sentence → Type 0
@@ -80,33 +85,74 @@ AreApart one other = (x : Setting) → key_of one.first ≡ Some (keys.Setting x
 abbrev pub IsSaying : List (List ℕ) → Sentence → Type 0
 IsSaying names line = (statement : Stmt) × (statement_by_key names line (key_of line.first) ≡ Some statement)
 
--- the statements of lines
-abbrev pub statements_by : List (List ℕ) → List Sentence → List Stmt
-statements_by names lines = flat_map (λ line. option_to_list (statement_by_key names line (key_of line.first))) lines
+-- ---- blocks
 
--- The lines that say something are settings and types, then `go`, statements and `end`, and that is what the program says.
--- Each setting, type and `go` would be taken as a text's first line, and each statement and `end` in a goroutine that opens
--- behind the settings and types; no setting and no type's name stands twice, and the counts are within their limits.
+-- a block of lines: nothing; a block and then a statement; or a block and then `repeat`, a block of its own, and `end`
+pub data Block : Type 0 where
+  Nothing : Block
+  Say : Block → Sentence → Block
+  Repeated : Block → Sentence → Block → Sentence → Block
+
+-- the lines of a block
+abbrev pub lines_in : Block → List Sentence
+lines_in Nothing = []
+lines_in (Say before line) = lines_in before ++ line ∷ []
+lines_in (Repeated before opens body closes) = lines_in before ++ opens ∷ (lines_in body ++ closes ∷ [])
+
+-- its statements, each repeated block written out
+abbrev pub statements_by : List (List ℕ) → Block → List Stmt
+statements_by names Nothing = []
+statements_by names (Say before line) = statements_by names before ++ option_to_list (statement_by_key names line (key_of line.first))
+statements_by names (Repeated before opens body closes) = statements_by names before ++ repeat (number_in opens.second) (statements_by names body)
+
+-- each line of the block would be taken in a goroutine that opens behind these settings and types, and with the
+-- `repeat`s that stand open around the block no more are ever open than may be
+abbrev pub IsBlock : Given → List (List ℕ) → ℕ → Block → Type 0
+IsBlock given names around Nothing = Unit {0}
+IsBlock given names around (Say before line) = IsBlock given names around before × IsSaying names line × IsTaken (inside given names) line
+IsBlock given names around (Repeated before opens body closes) =
+    IsBlock given names around before × IsTakenAs (inside given names) keys.Repeat opens × (around < most_repeats) × IsBlock given names (around + 1) body × IsTakenAs (inside given names) keys.End closes
+
+-- ---- goroutines
+
+-- the lines of a goroutine: `go`, a block and `end`
+pub record Routine : Type 0 where
+  pub go : Sentence
+  pub block : Block
+  pub last : Sentence
+
+abbrev pub routine_lines : Routine → List Sentence
+routine_lines r = r.go ∷ (lines_in r.block ++ r.last ∷ [])
+
+pub record IsRoutine (given : Given) (names : List (List ℕ)) (r : Routine) : Type 0 where
+  pub begins : IsTakenAs blank_draft keys.Go r.go
+  pub block : IsBlock given names 0 r.block
+  pub ends : IsTakenAs (inside given names) keys.End r.last
+
+-- what it says
+abbrev pub goroutine_by : List (List ℕ) → Routine → Goroutine
+goroutine_by names r = record { name = r.go.second; statements = statements_by names r.block }
+
+-- The lines that say something are settings and types, and then goroutines, and that is what the program says.
+-- Each setting, type and `go` would be taken as a text's first line, and each line of a goroutine in one that opens behind
+-- the settings and types; no setting, no type's name and no goroutine's name stands twice, and the counts are within their
+-- limits.
 pub record HasForm (text : List ℕ) (p : Program) : Type 0 where
   pub size : length text ≤ most_bytes
   pub characters : is_utf8 text ≡ true
   pub head : List Sentence
-  pub go : Sentence
-  pub body : List Sentence
-  pub last : Sentence
-  pub lines : sayings (lines_of text) ≡ head ++ go ∷ (body ++ last ∷ [])
+  pub routines : List Routine
+  pub lines : sayings (lines_of text) ≡ head ++ flat_map routine_lines routines
   pub heads : All IsHead head
   pub heads_taken : All (IsTaken blank_draft) head
   pub once : AllPairs AreApart head
   pub names_apart : AllPairs (λ a b. a ≢ b) (names_by head)
   pub few_types : length (names_by head) ≤ most_types
-  pub begins : key_of go.first ≡ Some keys.Go
-  pub go_taken : IsTaken blank_draft go
-  pub says : All (IsSaying (names_by head)) body
-  pub body_taken : All (IsTaken (inside (settings_by head) (names_by head))) body
-  pub few_statements : length (statements_by (names_by head) body) ≤ most_statements
-  pub ends : key_of last.first ≡ Some keys.End
-  pub last_taken : IsTaken (inside (settings_by head) (names_by head)) last
+  pub right : All (IsRoutine (settings_by head) (names_by head)) routines
+  pub some_goroutine : 1 ≤ length routines
+  pub few_goroutines : length routines ≤ most_goroutines
+  pub goroutines_apart : AllPairs AreNamedApart p.goroutines
+  pub few_statements : sum_by statements_in p.goroutines ≤ most_statements
   pub settings : p.settings ≡ settings_in (settings_by head)
   pub shapes : p.shapes ≡ shapes_by head
-  pub goroutines : p.goroutines ≡ record { name = go.second; statements = statements_by (names_by head) body } ∷ []
+  pub goroutines : p.goroutines ≡ map (goroutine_by (names_by head)) routines

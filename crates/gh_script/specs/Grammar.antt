@@ -3,7 +3,7 @@
 -- A text is read line by line. A line is refused by the first cause of the table that it meets, where the
 -- tests of the table stand below in its order; one that meets none is said, and the next is read.
 use Rattle.std.specs.Prelude.{◌≡◌, ℕ, ◌+◌, ◌==◌, ◌||◌, Bool, false, if◌then◌else◌, not, nat_lt, nat_le, List, [], ◌∷◌, ◌++◌, length, slice_index, Option, Some, None, Result, Ok, Err, is_some, is_none, unwrap_or}
-use Rattle.std.specs.Option.{option_map, option_to_list}
+use Rattle.std.specs.Option.{option_map}
 use Rattle.std.specs.Str.{is_utf8}
 use Rattle.gh_script.specs.declared.fault.Why.{Why}
 use Rattle.gh_script.specs.declared.fault.Why.TheVariants.{Size, Utf8, Word, Number, Limit, Twice, Unknown, Nesting, Missing}
@@ -12,12 +12,12 @@ use Rattle.gh_script.specs.declared.key.Key.{Key}
 use Rattle.gh_script.specs.declared.key.Key.TheVariants as keys
 use Rattle.gh_script.specs.declared.statement.Stmt.{Stmt}
 use Rattle.gh_script.specs.declared.statement.Stmt.TheVariants as statements
-use Rattle.gh_script.specs.Limits.{most_bytes, most_types, most_goroutines, most_statements, most_field, least, most}
+use Rattle.gh_script.specs.Limits.{most_bytes, most_types, most_goroutines, most_times, most_repeats, most_field, least, most}
 use Rattle.gh_script.specs.Program.{Program}
 use Rattle.gh_script.specs.Text.{Sentence, sentence_of, lines_of, words_of}
 use Rattle.gh_script.specs.Words.{key_of, register_of, number_of, is_name}
 use Rattle.gh_script.specs.ShapeText.{are_letters, are_counts, fits_limits, fields_of, shape_with}
-use Rattle.gh_script.specs.Draft.{Draft, blank_draft, given_at, with_given, globals_in, type_of, has_goroutine, goroutines_begun, statements_so_far, with_statement, program_in}
+use Rattle.gh_script.specs.Draft.{Draft, blank_draft, given_at, with_given, globals_in, type_of, has_goroutine, goroutines_begun, repeats_open, begun, with_statement, with_repeat, ended, is_too_long, program_in}
 
 -- ---- what a line's words say
 
@@ -33,6 +33,7 @@ abbrev pub words_in : Key → ℕ
 words_in (keys.Setting x) = 2
 words_in keys.Type = 3
 words_in keys.Go = 2
+words_in keys.Repeat = 2
 words_in keys.End = 1
 words_in keys.New = 3
 words_in keys.Load = 4
@@ -53,6 +54,7 @@ abbrev pub is_misspelt : Key → Sentence → Bool
 is_misspelt (keys.Setting x) line = false
 is_misspelt keys.Type line = not (is_name line.second) || not (are_letters line.third)
 is_misspelt keys.Go line = not (is_name line.second)
+is_misspelt keys.Repeat line = false
 is_misspelt keys.End line = false
 is_misspelt keys.New line = is_no_register line.second || not (is_name line.third)
 is_misspelt keys.Load line = is_no_register line.second || is_no_register line.third
@@ -74,6 +76,7 @@ abbrev pub is_number_fault : Key → Sentence → Bool
 is_number_fault (keys.Setting x) line = is_no_number line.second
 is_number_fault keys.Type line = not (are_counts line.third)
 is_number_fault keys.Go line = false
+is_number_fault keys.Repeat line = is_no_number line.second
 is_number_fault keys.End line = false
 is_number_fault keys.New line = false
 is_number_fault keys.Load line = is_no_number line.fourth
@@ -90,7 +93,8 @@ abbrev pub is_limit_fault : Draft → Key → Sentence → Bool
 is_limit_fault draft (keys.Setting x) line = nat_lt (number_in line.second) (least x) || nat_lt (most x) (number_in line.second)
 is_limit_fault draft keys.Type line = not (fits_limits line.third) || nat_le most_types (length draft.names)
 is_limit_fault draft keys.Go line = nat_le most_goroutines (goroutines_begun draft)
-is_limit_fault draft keys.End line = nat_lt most_statements (statements_so_far draft)
+is_limit_fault draft keys.Repeat line = nat_lt (number_in line.second) 1 || nat_lt most_times (number_in line.second)
+is_limit_fault draft keys.End line = is_too_long draft.closed draft.current
 is_limit_fault draft keys.New line = false
 is_limit_fault draft keys.Load line = nat_lt most_field (number_in line.fourth)
 is_limit_fault draft keys.Store line = nat_lt most_field (number_in line.third)
@@ -112,11 +116,13 @@ abbrev pub is_unknown_fault : Draft → Key → Sentence → Bool
 is_unknown_fault draft keys.New line = is_none (type_of draft.names line.third)
 is_unknown_fault draft key line = false
 
--- Nesting: a setting or a type once a goroutine has begun; `go` in a goroutine; a statement or `end` in none
+-- Nesting: a setting or a type once a goroutine has begun; `go` in a goroutine; a statement, `repeat` or `end` in none;
+-- one open `repeat` too many
 abbrev pub is_nesting_fault : Draft → Key → Bool
 is_nesting_fault draft (keys.Setting x) = nat_le 1 (goroutines_begun draft)
 is_nesting_fault draft keys.Type = nat_le 1 (goroutines_begun draft)
 is_nesting_fault draft keys.Go = is_some draft.current
+is_nesting_fault draft keys.Repeat = is_none draft.current || nat_le most_repeats (length (repeats_open draft))
 is_nesting_fault draft key = is_none draft.current
 
 -- the first cause of the table that the line meets
@@ -147,8 +153,9 @@ statement_of names key line = None
 unfoldable pub continued : Draft → Key → Sentence → Draft
 continued draft (keys.Setting x) line = record draft { given = with_given draft.given x (number_in line.second) }
 continued draft keys.Type line = record draft { names = draft.names ++ line.second ∷ []; shapes = draft.shapes ++ shape_with (fields_of line.third) ∷ [] }
-continued draft keys.Go line = record draft { current = Some (record { name = line.second; statements = [] }) }
-continued draft keys.End line = record draft { closed = draft.closed ++ option_to_list draft.current; current = None }
+continued draft keys.Go line = record draft { current = Some (begun line.second) }
+continued draft keys.Repeat line = record draft { current = option_map (with_repeat (number_in line.second)) draft.current }
+continued draft keys.End line = ended draft draft.current
 continued draft key line = record draft { current = option_map (with_statement (statement_of draft.names key line)) draft.current }
 
 -- ---- lines

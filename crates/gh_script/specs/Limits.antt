@@ -10,12 +10,20 @@ most_bytes = 4194304
 abbrev pub most_types : ℕ
 most_types = 64
 
--- one goroutine, until several are taken
 abbrev pub most_goroutines : ℕ
-most_goroutines = 1
+most_goroutines = 32
 
+-- the most statements of all goroutines, repetitions written out
 abbrev pub most_statements : ℕ
 most_statements = 200000
+
+-- the most times that a body of `repeat` stands
+abbrev pub most_times : ℕ
+most_times = 200000
+
+-- the most `repeat`s that are open at once
+abbrev pub most_repeats : ℕ
+most_repeats = 8
 
 -- the greatest k of load and store
 abbrev pub most_field : ℕ

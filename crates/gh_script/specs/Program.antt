@@ -1,5 +1,5 @@
 -- What a script says, whichever text spells it.
-use Rattle.std.specs.Prelude.{◌≡◌, ℕ, ◌+◌, ◌-◌, ◌/◌, ◌^◌, ◌<◌, ◌≤◌, ◌==◌, ◌↔◌, true, false, if◌then◌else◌, List, [], length, slice_get, slice_index_or, Option, None, All, sum_by}
+use Rattle.std.specs.Prelude.{◌≡◌, ℕ, ◌+◌, ◌-◌, ◌/◌, ◌^◌, ◌<◌, ◌≤◌, ◌==◌, ◌↔◌, true, false, if◌then◌else◌, List, [], length, slice_get, slice_index_or, Option, None, All, AllPairs, ◌≢◌, sum_by}
 use Rattle.gh_base.specs.Shapes.{bits_at, is_pointer}
 use Rattle.gh_base.specs.declared.shape.Shape.{Shape}
 use Rattle.gh_base.specs.declared.operation.Op.{Op}
@@ -88,6 +88,10 @@ AreStatements globals types g = All (IsStatement globals types) g.statements
 abbrev pub IsNamed : Goroutine → Type 0
 IsNamed g = is_name g.name ≡ true
 
+-- two goroutines have different names
+abbrev pub AreNamedApart : Goroutine → Goroutine → Type 0
+AreNamedApart g h = g.name ≢ h.name
+
 abbrev pub statements_in : Goroutine → ℕ
 statements_in g = length g.statements
 
@@ -98,5 +102,6 @@ pub record WellFormed (p : Program) : Type 0 where
   pub some_goroutine : 1 ≤ length p.goroutines
   pub few_goroutines : length p.goroutines ≤ most_goroutines
   pub names : All IsNamed p.goroutines
+  pub names_apart : AllPairs AreNamedApart p.goroutines
   pub statements : All (AreStatements p.settings.globals (length p.shapes)) p.goroutines
   pub few_statements : sum_by statements_in p.goroutines ≤ most_statements

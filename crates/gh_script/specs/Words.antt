@@ -18,12 +18,13 @@ setting_of word =
     (if bytes_eq word (codes "gogc") then Some settings.Gogc else
     (if bytes_eq word (codes "minheap") then Some settings.Minheap else None)))))
 
--- types, and where a goroutine begins and ends
+-- types, and where a goroutine or a repetition begins and ends
 unfoldable pub block_key_of : List ℕ → Option Key
 block_key_of word =
     if bytes_eq word (codes "type") then Some keys.Type else
     (if bytes_eq word (codes "go") then Some keys.Go else
-    (if bytes_eq word (codes "end") then Some keys.End else None))
+    (if bytes_eq word (codes "repeat") then Some keys.Repeat else
+    (if bytes_eq word (codes "end") then Some keys.End else None)))
 
 -- statements
 unfoldable pub statement_key_of : List ℕ → Option Key

@@ -29,7 +29,11 @@ use crate::word::{is_name, number, register};
 /// The most types of a script.
 const MOST_TYPES: usize = 64;
 /// The most goroutines of a script.
-const MOST_GOROUTINES: usize = 1;
+const MOST_GOROUTINES: usize = 32;
+/// The most times that a body of `repeat` stands.
+const MOST_TIMES: u64 = 200_000;
+/// The most `repeat`s that are open at once.
+const MOST_REPEATS: usize = 8;
 /// The greatest field that a statement names.
 const MOST_FIELD: u64 = 65_535;
 
@@ -40,6 +44,7 @@ fn words_in(key: Key) -> usize
         Key::Setting(_) => 2,
         Key::Type => 3,
         Key::Go => 2,
+        Key::Repeat => 2,
         Key::End => 1,
         Key::New => 3,
         Key::Load => 4,
@@ -66,7 +71,7 @@ fn is_misspelt(key: Key, line: &Sentence) -> bool
         Key::Setting(_) => false,
         Key::Type => !is_name(line.second) || !are_letters(line.third),
         Key::Go => !is_name(line.second),
-        Key::End => false,
+        Key::Repeat | Key::End => false,
         Key::New => is_no_register(line.second) || !is_name(line.third),
         Key::Load => is_no_register(line.second) || is_no_register(line.third),
         Key::Store => is_no_register(line.second) || is_no_register(line.fourth),
@@ -97,6 +102,7 @@ fn is_number_fault(key: Key, line: &Sentence) -> bool
     match key {
         Key::Setting(_) => is_no_number(line.second),
         Key::Type => !are_counts(line.third),
+        Key::Repeat => is_no_number(line.second),
         Key::Go | Key::End | Key::New => false,
         Key::Load => is_no_number(line.fourth),
         Key::Store => is_no_number(line.third),
@@ -147,7 +153,11 @@ fn is_limit_fault(draft: &Draft, key: Key, line: &Sentence) -> bool
         }
         Key::Type => !fits_limits(line.third) || draft.types() >= MOST_TYPES,
         Key::Go => draft.begun() >= MOST_GOROUTINES,
-        Key::End => draft.has_too_many_statements(),
+        Key::Repeat => {
+            let n = number_in(line.second);
+            n < 1 || n > MOST_TIMES
+        }
+        Key::End => draft.is_too_long(),
         Key::Load => number_in(line.fourth) > MOST_FIELD,
         Key::Store => number_in(line.third) > MOST_FIELD,
         Key::GetGlobal => number_in(line.third) >= u64::from(globals(&draft.given)),
@@ -186,6 +196,7 @@ fn is_nesting_fault(draft: &Draft, key: Key) -> bool
         Key::Setting(_) => draft.begun() >= 1,
         Key::Type => draft.begun() >= 1,
         Key::Go => draft.is_open(),
+        Key::Repeat => !draft.is_open() || draft.repeats_open() >= MOST_REPEATS,
         _ => !draft.is_open(),
     }
 }

@@ -1,19 +1,18 @@
 //! What the lines so far say.
 
-ghost use Rattle.std.specs.Prelude.{◌≡◌, ◌+◌, ◌<◌, MatchOption, is_some, sum_by, length, nat_lt};
+ghost use Rattle.std.specs.Prelude.{◌≡◌, ◌+◌, ◌<◌, MatchOption, is_some, sum_by, length};
+ghost use Rattle.std.specs.Option.{option_map};
 ghost use Rattle.std.specs.Str.{bytes_eq};
 ghost use Rattle.gh_script.specs.Limits.{most_statements};
 ghost use Rattle.gh_script.specs.Program.{statements_in};
-ghost use Rattle.gh_script.specs.Draft.{blank_draft, goroutines_begun, has_goroutine, statements_so_far, type_of};
+ghost use Rattle.gh_script.specs.Draft.{are_too_many, blank_draft, goroutines_begun, has_goroutine, is_too_long, repeats_open, type_of};
 
 use crate::given::{self, Given};
-use crate::goroutine::Goroutine;
+use crate::goroutine::{Goroutine, MOST_STATEMENTS, Open};
+use crate::statement::Stmt;
 use gh_base::Shape;
 use std::alloc::Global;
 use std::marker::Model;
-
-/// The most statements of a script.
-const MOST_STATEMENTS: usize = 200_000;
 
 /// The name of a type.
 #[derive(Debug, Drop)]
@@ -45,7 +44,7 @@ pub struct Draft {
     pub names: Vec<Name>,
     pub shapes: Vec<Shape>,
     pub closed: Vec<Goroutine>,
-    pub current: Option<Goroutine>,
+    pub current: Option<Open>,
 }
 
 impl Model for Draft {
@@ -97,7 +96,7 @@ impl Draft {
         }
         match &self.current {
             None => false,
-            Some(g) => g.name().as_bytes() == word,
+            Some(g) => g.name.as_bytes() == word,
         }
     }
 
@@ -119,18 +118,35 @@ impl Draft {
         self.current.is_some()
     }
 
-    /// Whether more statements stand so far than a script may have.
-    #[tactic(auto, unfolding(crate::specs::Draft::statements_so_far))]
-    pub fn has_too_many_statements(&self) -> bool
-        ensures { result ≡ nat_lt most_statements (statements_so_far self.now) }
+    /// How many `repeat`s are open.
+    pub fn repeats_open(&self) -> usize
+        ensures { result ≡ length (repeats_open self.now) }
     {
-        match statements_left(&self.closed) {
-            None => true,
-            Some(left) => match &self.current {
-                None => false,
-                Some(g) => g.len() > left,
-            },
+        match &self.current {
+            None => 0,
+            Some(g) => g.repeats.len(),
         }
+    }
+
+    /// Whether `end` would close a goroutine with which there are more statements than a script may
+    /// have.
+    pub fn is_too_long(&self) -> bool
+        ensures { result ≡ is_too_long self.now.closed self.now.current }
+    {
+        match &self.current {
+            None => false,
+            Some(g) => g.repeats.is_empty() && are_too_many(&self.closed, &g.statements),
+        }
+    }
+}
+
+/// Whether these are more than a script may have behind these goroutines.
+fn are_too_many(closed: &[Goroutine], statements: &Option<Vec<Stmt>>) -> bool
+    ensures { result ≡ are_too_many closed.now (option_map (λ v. v.items) statements.now) }
+{
+    match (statements_left(closed), statements) {
+        (Some(left), Some(statements)) => statements.len() > left,
+        _ => true,
     }
 }
 

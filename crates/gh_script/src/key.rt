@@ -17,6 +17,7 @@ pub enum Key {
     Setting(Setting),
     Type,
     Go,
+    Repeat,
     End,
     New,
     Load,

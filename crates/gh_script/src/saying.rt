@@ -1,17 +1,17 @@
 //! A line that meets no cause is said: what the lines so far say goes on.
 
 ghost use Rattle.std.specs.Prelude.{◌≡◌, ◌∷◌, ◌++◌, ◌≤◌, ◌<◌, ◌^◌, [], IsTrue, None, Some, OnOk, IfOk, string_bytes, unwrap_or};
-ghost use Rattle.std.specs.Option.{option_map, option_to_list};
+ghost use Rattle.std.specs.Option.{option_map};
 ghost use Rattle.gh_script.specs.Said.{said};
 ghost use Rattle.gh_script.specs.Words.{is_name};
 ghost use Rattle.gh_script.specs.ShapeText.{fields_of, fits_limits, shape_with};
-ghost use Rattle.gh_script.specs.Draft.{IsSound, with_given, with_statement};
+ghost use Rattle.gh_script.specs.Draft.{begun, ended, IsSound, with_given, with_repeat, with_statement};
 ghost use Rattle.gh_script.specs.Grammar.{cause_at, continued, number_in, register_in, statement_of};
 
 use crate::cause;
 use crate::draft::{Draft, Name};
 use crate::given::with_given;
-use crate::goroutine::Goroutine;
+use crate::goroutine::Open;
 use crate::key::{Key, Setting};
 use crate::line::Sentence;
 use crate::shape_text::shape;
@@ -109,21 +109,37 @@ impl Draft {
 
     fn begin(&mut self, alloc: Global, name: &[u8]) -> Result<(), AllocError>
         requires { IsTrue (is_name name.now) }
-        ensures { OnOk result (self.new ≡ record self.old { current = Some (record { name = name.now; statements = [] }) }) }
+        ensures { OnOk result (self.new ≡ record self.old { current = Some (begun name.now) }) }
     {
         let name = name_text(alloc, name)?;
-        self.current = Some(Goroutine {
+        self.current = Some(Open {
             name,
-            statements: Vec::new(alloc),
+            statements: Some(Vec::new(alloc)),
+            repeats: Vec::new(alloc),
         });
         Ok(())
     }
 
-    fn end(&mut self) -> Result<(), AllocError>
-        ensures { OnOk result (self.new ≡ record self.old { closed = self.old.closed ++ option_to_list self.old.current; current = None }) }
+    fn repeat(&mut self, times: u32) -> Result<(), AllocError>
+        ensures { OnOk result (self.new ≡ record self.old { current = option_map (with_repeat times) self.old.current }) }
     {
-        if let Some(g) = self.current.take() {
-            self.closed.push(g)?;
+        if let Some(mut g) = self.current.take() {
+            g.open_repeat(times)?;
+            self.current = Some(g);
+        }
+        Ok(())
+    }
+
+    fn end(&mut self, alloc: Global) -> Result<(), AllocError>
+        ensures { OnOk result (self.new ≡ ended self.old self.old.current) }
+    {
+        if let Some(mut g) = self.current.take() {
+            if g.repeats.is_empty() {
+                self.closed.push(g.into_goroutine(alloc))?;
+            } else {
+                g.close_repeat()?;
+                self.current = Some(g);
+            }
         }
         Ok(())
     }
@@ -132,7 +148,7 @@ impl Draft {
         ensures { OnOk result (self.new ≡ record self.old { current = option_map (with_statement (Some statement)) self.old.current }) }
     {
         if let Some(mut g) = self.current.take() {
-            g.statements.push(statement)?;
+            g.add(statement)?;
             self.current = Some(g);
         }
         Ok(())
@@ -152,7 +168,8 @@ impl Draft {
             }
             Key::Type => self.add_type(alloc, line.second, line.third),
             Key::Go => self.begin(alloc, line.second),
-            Key::End => self.end(),
+            Key::Repeat => self.repeat(small_number(line.second)),
+            Key::End => self.end(alloc),
             _ => match statement(self, key, line) {
                 Some(said) => self.add_statement(said),
                 None => Ok(()),

@@ -60,14 +60,49 @@ fn bad_scripts_have_their_line_and_cause(rt: HostRuntime) -> Result<(), Fail> {
         ("go a|load r0 r1 65536", 2, Why::Limit),
         ("go a|type t p", 2, Why::Nesting),
         ("go a|end|procs 1", 3, Why::Nesting),
-        // one goroutine for now: a second `go` is Limit, wherever it stands
-        ("go a|end|go b", 3, Why::Limit),
-        ("go a|go b", 2, Why::Limit),
-        ("go a|go a", 2, Why::Limit),
+        ("go a|go b", 2, Why::Nesting),
+        ("go a|go a", 2, Why::Twice),
+        ("go a|end|go a", 3, Why::Twice),
+        ("go a|end|go b|end|go a", 5, Why::Twice),
+        ("go a|end|go b|procs 1", 4, Why::Nesting),
+        ("go a|end|type t p", 3, Why::Nesting),
+        ("go a|end|nil r0", 3, Why::Nesting),
+        ("go a|end|repeat 2", 3, Why::Nesting),
+        ("go a|end|end", 3, Why::Nesting),
+        ("go a|end|go b|repeat 2|end", 5, Why::Nesting),
+        ("go a|repeat 2|nil r0|go b", 4, Why::Nesting),
         ("end", 1, Why::Nesting),
         ("nil r0", 1, Why::Nesting),
         ("go a|gc|end", 2, Why::Word),
-        ("go a|repeat 2|nil r0", 2, Why::Word),
+        ("go a|repeat 2|nil r0", 3, Why::Nesting),
+        ("repeat 1", 1, Why::Nesting),
+        ("go a|repeat 0", 2, Why::Limit),
+        ("go a|repeat 200001", 2, Why::Limit),
+        ("repeat 0", 1, Why::Limit),
+        ("go a|repeat x", 2, Why::Number),
+        ("go a|repeat", 2, Why::Word),
+        ("go a|repeat 1 2", 2, Why::Word),
+        ("go a|repeat 200000|nil r0|end|nil r0|end", 6, Why::Limit),
+        (
+            "go a|repeat 200000|nil r0|end|end|go b|nil r0|end",
+            8,
+            Why::Limit,
+        ),
+        (
+            "go a|repeat 200000|repeat 200000|nil r0|nil r1|end|end|end",
+            8,
+            Why::Limit,
+        ),
+        (
+            "go a|repeat 200000|repeat 200000|nil r0|nil r1|end|repeat 0",
+            7,
+            Why::Limit,
+        ),
+        (
+            "go a|repeat 1|repeat 1|repeat 1|repeat 1|repeat 1|repeat 1|repeat 1|repeat 1|repeat 1",
+            10,
+            Why::Nesting,
+        ),
         ("procs 2", 1, Why::Limit),
         ("workers 2", 1, Why::Limit),
         ("\r||# one|\t # two|procs 1\r|procs\t1", 6, Why::Twice),
@@ -128,6 +163,42 @@ fn a_script_says_its_settings_types_and_statements(rt: HostRuntime) -> Result<()
     Ok(())
 }
 
+#[test]
+fn repeats_are_written_out(rt: HostRuntime) -> Result<(), Fail> {
+    let row =
+        "go a|nil r0|repeat 2|nil r1|repeat 3|nil r2|end|nil r3|end|repeat 9|end|nil r4|end|go b|end";
+    let text = text_of(rt.alloc(), row)?;
+    let script = parse(rt.alloc(), &text).ok().ok_or("it is a script")?;
+    assert!(rt; script.goroutines() == 2);
+    assert_eq!(rt; script.count(0), 12);
+    assert_eq!(rt; script.count(1), 0);
+    let registers = [0, 1, 2, 2, 2, 3, 1, 2, 2, 2, 3, 4];
+    for (n, d) in (1..13).zip(registers) {
+        assert_eq!(rt;
+            script.statement(0, n),
+            Some(Stmt::Nil { d }),
+            "statement {n}"
+        );
+    }
+    Ok(())
+}
+
+#[test]
+fn repeats_may_fill_a_script(rt: HostRuntime) -> Result<(), Fail> {
+    let rows = [
+        "go a|repeat 200000|nil r0|end|end",
+        "go a|repeat 2|repeat 4|repeat 5|repeat 5|repeat 5|repeat 2|repeat 10|repeat 10|nil r7|end|end|end|end|end|end|end|end|end",
+        "go a|repeat 199999|nil r0|end|repeat 200000|end|repeat 1|nil r0|end|end",
+    ];
+    for row in rows {
+        let text = text_of(rt.alloc(), row)?;
+        let script = parse(rt.alloc(), &text).ok().ok_or("it is a script")?;
+        assert!(rt; script.goroutines() == 1);
+        assert_eq!(rt; script.count(0), 200_000, "{row}");
+    }
+    Ok(())
+}
+
 /// A goroutine of so many lines `nil r0`, up to `end`.
 fn many(alloc: Global, lines: u32) -> Result<Vec<u8>, Fail> {
     let mut text = Vec::new(alloc);
@@ -166,5 +237,24 @@ fn limits_hold_to_the_last_byte(rt: HostRuntime) -> Result<(), Fail> {
         text.extend_from_slice(line.as_bytes())?;
     }
     refuses(&rt, rt.alloc(), &text, 65, Why::Limit, "the 65th type");
+
+    let mut text = Vec::new(rt.alloc());
+    for i in 0..32 {
+        let lines = format!(in rt.alloc(); "go g{i}\nrepeat 6250\nnil r0\nend\nend\n")?;
+        text.extend_from_slice(lines.as_bytes())?;
+    }
+    let script = parse(rt.alloc(), &text).ok().ok_or("32 goroutines")?;
+    assert!(rt; script.goroutines() == 32);
+    assert_eq!(rt; script.count(31), 6_250);
+    assert_eq!(rt; script.name(31), "g31");
+    text.extend_from_slice(b"go g")?;
+    refuses(
+        &rt,
+        rt.alloc(),
+        &text,
+        161,
+        Why::Limit,
+        "the 33rd goroutine",
+    );
     Ok(())
 }

@@ -47,6 +47,8 @@ fn block_key(word: &[u8]) -> Option<Key>
         Some(Key::Type)
     } else if word == b"go".as_slice() {
         Some(Key::Go)
+    } else if word == b"repeat".as_slice() {
+        Some(Key::Repeat)
     } else if word == b"end".as_slice() {
         Some(Key::End)
     } else {

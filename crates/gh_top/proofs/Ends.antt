@@ -75,7 +75,7 @@ module _ (not_both : (text : List ℕ) (p : Program) (line : ℕ) (why : Why) �
 
 module _ (one_script : (text : List ℕ) (p q : Program) → Spells text p → Spells text q → p ≡ q) (never : NotBoth) where
   -- a run that ends within the budget is not out of turns
-  pub replayed-tells : (words : List (List ℕ)) (text : List ℕ) (budget : ℕ) (p : Program) (answers : List Answer) (f : Found) → Matches words text f → IsReplay words budget → Spells text p → IsReplayed p budget answers → status_of f ≡ statuses.OutOfTurns → ⊥
+  pub replayed-tells : (words : List (List ℕ)) (text : List ℕ) (budget : ℕ) (p : Program) (answers : List (ℕ × Answer)) (f : Found) → Matches words text f → IsReplay words budget → Spells text p → IsReplayed p budget answers → status_of f ≡ statuses.OutOfTurns → ⊥
   replayed-tells words text budget p answers BadWords m replay spelled r e = absurd cc
   replayed-tells words text budget p answers (BadScript fault) m replay spelled r e = absurd cc
   replayed-tells words text budget p answers (Ran q others) m replay spelled r e = absurd cc

@@ -1,5 +1,8 @@
 pub mod Owning
-pub mod Words
+pub mod CommandLineNumbers
+pub mod CommandLineWords
+pub mod CommandLineWalk
+pub mod CommandLineParsed
 pub mod Texts
 pub mod Lines
 pub mod Ends

@@ -1,6 +1,6 @@
 -- Each name that the heap that never frees answers is one that a goroutine of the script gave.
-use Rattle.std.proofs.Common.{◌≡◌, ℕ, ◌<◌, zero, suc, Bool, true, false, cond, ◌==◌, ◌&&◌, List, [], ◌∷◌, map, length, get_or, refl, sym, subst, inl, inr, arith}
-use Rattle.std.specs.List.{All, AllByRecursion}
+use Rattle.std.proofs.Common.{◌≡◌, ℕ, ◌+◌, ◌<◌, zero, suc, Bool, true, false, cond, ◌==◌, ◌&&◌, List, [], ◌∷◌, ◌++◌, length, Option, Some, None, sym, subst, inl, inr, arith}
+use Rattle.std.specs.List.{AllByRecursion}
 use Rattle.gh_base.specs.declared.value.Name.{Name}
 use Rattle.gh_base.specs.declared.value.Answer.{Answer}
 use Rattle.gh_base.specs.declared.value.Fault.TheVariants.{Field, Kind}
@@ -9,7 +9,11 @@ use Rattle.gh_base.specs.declared.operation.Op.{Op}
 use Rattle.gh_base.specs.declared.operation.Op.TheVariants as ops
 use Rattle.gh_base.specs.declared.shape.Shape.{Shape}
 use Rattle.gh_base.specs.Shapes.{shape_at, is_pointer}
+use Rattle.std.specs.List.{flat_map, range_with_len}
+use Rattle.std.specs.Prelude.{slice_get}
 use Rattle.gh_lines.specs.Text.{MakerStands}
+use Rattle.gh_world.specs.Turns.{total_of, has_turn, work_at, work_of, turn_of, round_of, turns_of, is_statement, goroutine_at, answers_to}
+use Rattle.gh_top.specs.Found.{AllStand}
 use Rattle.gh_script.specs.declared.statement.Stmt.{Stmt}
 use Rattle.gh_script.specs.declared.statement.Stmt.TheVariants as stmts
 use Rattle.gh_script.specs.Program.{Program, statements_of, op_of}
@@ -176,19 +180,47 @@ module _ (shapes : List Shape) (n : ℕ) where
   pub opening_own : AllOwn opening_ever
   opening_own = record { registers = λ g d. tt; fields = λ m k. tt; globals = λ k. tt }
 
-  statements_own : (ss : List Stmt) → 0 < n → AllByRecursion OwnOp (map (op_of 0) ss)
-  statements_own [] some = tt
-  statements_own (s ∷ ss) some = (one s, statements_own ss some) where
-    one : (s : Stmt) → OwnOp (op_of 0 s)
-    one (stmts.New d t) = some
-    one (stmts.Load d b k) = tt
-    one (stmts.Store b k v) = tt
-    one (stmts.GetGlobal d k) = tt
-    one (stmts.SetGlobal k v) = tt
-    one (stmts.Int d i) = tt
-    one (stmts.Move d s) = tt
-    one (stmts.Nil d) = tt
-    one stmts.Gc = tt
+  statement_own : (g : ℕ) (s : Stmt) → g < n → OwnOp (op_of g s)
+  statement_own g (stmts.New d t) some = some
+  statement_own g (stmts.Load d b k) some = tt
+  statement_own g (stmts.Store b k v) some = tt
+  statement_own g (stmts.GetGlobal d k) some = tt
+  statement_own g (stmts.SetGlobal k v) some = tt
+  statement_own g (stmts.Int d i) some = tt
+  statement_own g (stmts.Move d s) some = tt
+  statement_own g (stmts.Nil d) some = tt
+  statement_own g stmts.Gc some = tt
+
+  work_own : (g : ℕ) (s : Option Stmt) → g < n → OwnOp (work_at g s)
+  work_own g None some = tt
+  work_own g (Some s) some = statement_own g s some
+
+  own_append : (xs ys : List Op) → AllByRecursion OwnOp xs → AllByRecursion OwnOp ys → AllByRecursion OwnOp (xs ++ ys)
+  own_append [] ys own more = more
+  own_append (x ∷ xs) ys own more = (own.0, own_append xs ys own.1 more)
+
+-- the turns of a script are of goroutines that it has
+module _ (p : Program) where
+  abbrev own : List Op → Type 0
+  own os = AllByRecursion (OwnOp p.shapes (length p.goroutines)) os
+
+  turn_own : (r g : ℕ) → g < length p.goroutines → own (turn_of p r g)
+  turn_own r g lt = go (has_turn p r g) where
+    go : (b : Bool) → own (cond b (ops.Poll ∷ work_of p r g ∷ []) [])
+    go true = (tt, (work_own p.shapes (length p.goroutines) g (slice_get (statements_of p g) r) lt, tt))
+    go false = tt
+
+  round_own : (r n g : ℕ) → g + n ≡ length p.goroutines → own (flat_map (turn_of p r) (range_with_len g n))
+  round_own r zero g e = tt
+  round_own r (suc n) g e = own_append p.shapes (length p.goroutines) (turn_of p r g) (flat_map (turn_of p r) (range_with_len (g + 1) n)) (turn_own r g (omega arith)) (round_own r n (g + 1) (omega arith))
+
+  rounds_own : (n r : ℕ) → own (flat_map (round_of p) (range_with_len r n))
+  rounds_own zero r = tt
+  rounds_own (suc n) r = own_append p.shapes (length p.goroutines) (round_of p r) (flat_map (round_of p) (range_with_len (r + 1) n)) (round_own r (length p.goroutines) 0 (omega arith)) (rounds_own n (r + 1))
+
+  turns_own : own (turns_of p)
+  unfolding turns_of
+  turns_own = own_append p.shapes (length p.goroutines) (flat_map (round_of p) (range_with_len 0 (total_of p + 1))) (ops.Leave ∷ []) (rounds_own (total_of p + 1) 0) (tt, tt)
 
 -- each answer that names an object has a goroutine of the script that made it
 maker_stands : (p : Program) (b : Answer) → OwnAnswer p.shapes (length p.goroutines) b → MakerStands p b
@@ -200,20 +232,25 @@ maker_stands p answers.Swept o = tt
 maker_stands p answers.Full o = tt
 maker_stands p (answers.Fault f) o = tt
 
-makers_at : (p : Program) (xs : List Answer) → AllByRecursion (OwnAnswer p.shapes (length p.goroutines)) xs → (k : ℕ) (d : Answer) → k < length xs → MakerStands p (get_or xs k d)
-makers_at p [] h k d lt = absurd (omega arith)
-makers_at p (a ∷ more) h zero d lt = maker_stands p a h.0
-makers_at p (a ∷ more) h (suc k) d lt = makers_at p more h.1 k d (omega arith)
+-- among the answers of the turns are those of the statements
+stand_append : (p : Program) (xs ys : List (ℕ × Answer)) → AllByRecursion (λ (x : ℕ × Answer). MakerStands p x.1) xs → AllByRecursion (λ (x : ℕ × Answer). MakerStands p x.1) ys → AllByRecursion (λ (x : ℕ × Answer). MakerStands p x.1) (xs ++ ys)
+stand_append p [] ys h k = k
+stand_append p (x ∷ xs) ys h k = (h.0, stand_append p xs ys h.1 k)
 
-makers_stand : (p : Program) (xs : List Answer) → AllByRecursion (OwnAnswer p.shapes (length p.goroutines)) xs → All (MakerStands p) xs
-makers_stand p xs h = λ k d lt. makers_at p xs h k d lt
+statements_stand : (p : Program) (os : List Op) (told_so : List Answer) → AllByRecursion (OwnAnswer p.shapes (length p.goroutines)) told_so → AllByRecursion (λ (x : ℕ × Answer). MakerStands p x.1) (answers_to os told_so)
+statements_stand p [] told_so h = tt
+statements_stand p (o ∷ os) [] h = tt
+statements_stand p (o ∷ os) (a ∷ more) h = stand_append p (cond (is_statement o) ((goroutine_at o, a) ∷ []) []) (answers_to os more) (go (is_statement o)) (statements_stand p os more h.1) where
+  go : (b : Bool) → AllByRecursion (λ (x : ℕ × Answer). MakerStands p x.1) (cond b ((goroutine_at o, a) ∷ []) [])
+  go true = (maker_stands p a h.0, tt)
+  go false = tt
 
-pub answers_stand : (p : Program) (xs : List Answer) → 0 < length p.goroutines → AllAnswer p.shapes opening_ever (map (op_of 0) (statements_of p 0)) xs → All (MakerStands p) xs
-answers_stand p xs some all = makers_stand p xs (all_own p.shapes (length p.goroutines) opening_ever (map (op_of 0) (statements_of p 0)) xs (opening_own p.shapes (length p.goroutines)) (statements_own p.shapes (length p.goroutines) (statements_of p 0) some) all)
+stand_at : (p : Program) (xs : List (ℕ × Answer)) → AllByRecursion (λ (x : ℕ × Answer). MakerStands p x.1) xs → AllStand p xs
+stand_at p [] h k d lt = absurd (omega arith)
+stand_at p (x ∷ more) h zero d lt = h.0
+stand_at p (x ∷ more) h (suc k) d lt = stand_at p more h.1 k d (omega arith)
 
--- as many answers as statements
-pub answers_long : (shapes : List Shape) (e : Ever) (os : List Op) (xs : List Answer) → AllAnswer shapes e os xs → length xs ≡ length os
-answers_long shapes e [] [] q = refl
-answers_long shapes e [] (a ∷ more) q = absurd q
-answers_long shapes e (o ∷ rest) [] q = absurd q
-answers_long shapes e (o ∷ rest) (a ∷ more) q = let n = answers_long shapes (ever_after shapes e o a) rest more q.1 in omega (arith, n)
+pub answers_stand : (p : Program) (all : List Answer) (xs : List (ℕ × Answer)) → AllAnswer p.shapes opening_ever (turns_of p) all → xs ≡ answers_to (turns_of p) all → AllStand p xs
+answers_stand p all xs ever among =
+    subst (λ (ys : List (ℕ × Answer)). AllStand p ys) (sym among)
+    (stand_at p (answers_to (turns_of p) all) (statements_stand p (turns_of p) all (all_own p.shapes (length p.goroutines) opening_ever (turns_of p) all (opening_own p.shapes (length p.goroutines)) (turns_own p) ever)))

@@ -1,31 +1,22 @@
 -- From a text to what it says.
-use Rattle.std.proofs.Common.{◌≡◌, ℕ, ◌+◌, ◌<◌, ◌≤◌, ◌^◌, List, [], length, map, Option, Some, None, sym, ap, subst, ◌∙◌, arith}
-use Rattle.std.specs.List.{All}
+use Rattle.std.proofs.Common.{◌≡◌, ℕ, ◌+◌, ◌<◌, ◌≤◌, ◌^◌, List, [], length, Option, Some, None, sym, ap, subst, ◌∙◌, arith}
 use Rattle.std.specs.Io.KnownBytes.{Consumes, IsAtEnd}
-use Rattle.std.proofs.lemmas.List.{length-map}
-use Rattle.std.proofs.lemmas.List.Sums.{get_or-le-sum_by}
 use Rattle.gh_base.specs.declared.value.Answer.{Answer}
-use Rattle.gh_lines.specs.Text.{MakerStands}
-use Rattle.gh_model.specs.Ever.{opening_ever}
-use Rattle.gh_model.specs.Answers.{AllAnswer}
 use Rattle.gh_replay.specs.Replayed.{IsReplayed}
+use Rattle.gh_world.specs.Turns.{total_of}
 use Rattle.gh_script.specs.declared.reading.TheConstants.{MOST_BYTES}
 use Rattle.gh_script.specs.Limits.{most_bytes}
-use Rattle.gh_script.specs.Program.{Program, WellFormed, no_goroutine, statements_in, statements_of, op_of}
+use Rattle.gh_script.specs.Program.{Program, WellFormed}
 use Rattle.gh_script.specs.Grammar.{reading_of, Spells}
 use Rattle.gh_top.specs.declared.found.Found.{Found}
 use Rattle.gh_top.specs.declared.found.Found.TheVariants.{BadWords, BadScript, Ran, OutOfTurns, ReadFault, NoMemory}
-use Rattle.gh_top.specs.Found.{Matches, MatchesText, IsRan}
+use Rattle.gh_top.specs.Found.{AllStand, Matches, MatchesText, IsRan}
 use Rattle.gh_top.specs.Outcome.{IsReplay}
-use Rattle.gh_top.proofs.Owning.{answers_long, answers_stand}
+use Rattle.gh_top.proofs.Owning.{answers_stand}
 
 -- what the replay of a script answers can be told
-pub tellable : (p : Program) (budget : ℕ) (xs : List Answer) → WellFormed p → IsReplayed p budget xs → (0 < length p.goroutines) × All (MakerStands p) xs × (length xs < 2 ^ 32)
-tellable p budget xs formed r =
-    let all : AllAnswer p.shapes opening_ever (map (op_of 0) (statements_of p 0)) xs = r.explained.ever in
-    let few : length (statements_of p 0) ≤ 200000 = omega (arith, get_or-le-sum_by statements_in p.goroutines 0 no_goroutine formed.some_goroutine, formed.few_statements) in
-    let long : length xs ≡ length (statements_of p 0) = answers_long p.shapes opening_ever (map (op_of 0) (statements_of p 0)) xs all ∙ length-map (statements_of p 0) (op_of 0) in
-    (omega (arith, formed.some_goroutine), answers_stand p xs (omega (arith, formed.some_goroutine)) all, omega (arith, few, long))
+pub tellable : (p : Program) (budget : ℕ) (xs : List (ℕ × Answer)) → WellFormed p → IsReplayed p budget xs → length xs ≤ total_of p → AllStand p xs × (length xs < 2 ^ 32)
+tellable p budget xs formed r few = (answers_stand p r.explained.all xs r.explained.ever r.explained.among, omega (arith, few, formed.few_statements))
 
 -- ---- a text that was read as far as a script may go is the whole text, or too long for a script
 

@@ -1,6 +1,7 @@
 -- What a call has found before it writes anything.
-use Rattle.std.specs.Prelude.{◌≡◌, ℕ, ◌^◌, ◌<◌, List, [], ◌∷◌, length, All}
-use Rattle.gh_lines.specs.Text.{MakerStands, answers_text, refusal_line, turns_line, words_refused_line}
+use Rattle.std.specs.Prelude.{◌≡◌, ℕ, ◌^◌, ◌<◌, List, [], length, All}
+use Rattle.gh_base.specs.declared.value.Answer.{Answer}
+use Rattle.gh_lines.specs.Text.{MakerStands, answers_text, by_goroutine, refusal_line, turns_line, words_refused_line}
 use Rattle.gh_replay.specs.Replayed.{IsReplayed, IsUnfinished}
 use Rattle.gh_script.specs.Program.{Program}
 use Rattle.gh_script.specs.Grammar.{Spells, Refused}
@@ -39,9 +40,13 @@ IsRan (Ran p answers) = Unit {0}
 IsRan (OutOfTurns n) = Unit {0}
 IsRan _ = ⊥
 
+-- the makers of the objects that are answered stand in the script
+abbrev pub AllStand : Program → List (ℕ × Answer) → Type 0
+AllStand p answers = All (λ (x : ℕ × Answer). MakerStands p x.1) answers
+
 -- there is a line for each answer, and its number fits
 abbrev pub IsTellable : Found → Type 0
-IsTellable (Ran p answers) = (0 < length p.goroutines) × All (MakerStands p) answers.items × (length answers.items < 2 ^ 32)
+IsTellable (Ran p answers) = AllStand p answers.items × (length answers.items < 2 ^ 32)
 IsTellable _ = Unit {0}
 
 -- there is nothing to say
@@ -54,7 +59,7 @@ IsSilent _ = ⊥
 abbrev pub said_of : Found → List ℕ
 said_of BadWords = words_refused_line
 said_of (BadScript f) = refusal_line f.line f.why
-said_of (Ran p answers) = answers_text p (answers.items ∷ [])
+said_of (Ran p answers) = answers_text p (by_goroutine p answers.items)
 said_of (OutOfTurns n) = turns_line n
 said_of ReadFault = []
 said_of NoMemory = []

@@ -1,3 +1,5 @@
 pub mod CommandLine
+pub mod CommandLineParser
+pub mod CommandLineLaws
 pub mod Outcome
 pub mod Found

@@ -7,7 +7,8 @@ ghost use Rattle.gh_script.specs.Program.{Program};
 ghost use Rattle.gh_script.specs.Grammar.{Spells, Refused};
 ghost use Rattle.gh_base.specs.declared.value.Answer.{Answer};
 ghost use Rattle.gh_replay.specs.Replayed.{IsReplayed, IsUnfinished};
-ghost use Rattle.gh_top.specs.Outcome.{texts, AreRefused, IsReplay, IsTelling, Said, SaidPart};
+ghost use Rattle.gh_top.specs.CommandLine.{texts};
+ghost use Rattle.gh_top.specs.Outcome.{AreRefused, IsReplay, IsTelling, Said, SaidPart};
 
 use crate::finding::find;
 use crate::saying::{ending, say};
@@ -47,7 +48,7 @@ pub fn top<S: Source, K: Sink>(alloc: Global, words: &[&str], src: &mut S, out: 
         ¬ Rose (S.faults src.old) (S.faults src.new) → ¬ Rose (K.faults out.old) (K.faults out.new) →
         (result ≡ Status.Ok) ⊎ (result ≡ Status.OutOfTurns) ⊎ (result ≡ Status.NoMemory) }
     // A run that ends within the budget is told, and one that does not is out of turns.
-    ensures ok_exactly { (text : List ℕ) (budget : ℕ) (p : Program) (answers : List Answer) →
+    ensures ok_exactly { (text : List ℕ) (budget : ℕ) (p : Program) (answers : List (ℕ × Answer)) →
         S.left src.old ≡ Some text → IsReplay (texts words.now) budget → Spells text p →
         IsReplayed p budget answers → result ≡ Status.OutOfTurns → ⊥ }
     ensures out_of_turns_exactly { (text : List ℕ) (budget : ℕ) (p : Program) →

@@ -2,7 +2,8 @@
 
 ghost use Rattle.std.specs.Prelude.{◌≡◌, ℕ, ◌≤◌, List, [], Some};
 ghost use Rattle.gh_io.specs.Counts.{Rose};
-ghost use Rattle.gh_top.specs.Outcome.{texts, IsReplay};
+ghost use Rattle.gh_top.specs.CommandLine.{texts};
+ghost use Rattle.gh_top.specs.Outcome.{IsReplay};
 ghost use Rattle.gh_top.specs.Found.{Matches, MatchesText, IsRead, IsRan, IsTellable};
 
 use crate::found::Found;

@@ -14,8 +14,8 @@ pub enum Found {
     BadWords,
     /// The text spells no script.
     BadScript(ScriptFault),
-    /// The script was run, and its statements answered so.
-    Ran(Script, Vec<Answer>),
+    /// The script was run, and its statements answered so, each with its goroutine.
+    Ran(Script, Vec<(u32, Answer)>),
     /// The script's run took so many turns, which is the budget, and is not over.
     OutOfTurns(u64),
     /// A read failed.

@@ -9,10 +9,15 @@ mod command;
 mod finding;
 mod found;
 mod line;
+mod line_laws;
+#[cfg(test)]
+mod line_tests;
 mod saying;
 mod status;
 #[cfg(test)]
 mod tests;
 
 pub use command::top;
+pub use line::{Line, read_line};
+pub use line_laws::{budget_is_in_range, known_lines};
 pub use status::Status;

@@ -1,11 +1,11 @@
 //! Writing what was found. Nothing here takes memory, and each line goes out as one piece.
 
-ghost use Rattle.std.specs.Prelude.{◌≡◌, ◌+◌, ◌^◌, ◌<◌, ◌≤◌, [], ◌∷◌, All, IsOk, OnOk, OnErr, length};
+ghost use Rattle.std.specs.Prelude.{◌≡◌, ◌+◌, ◌^◌, ◌<◌, ◌≤◌, [], ◌∷◌, IsOk, OnOk, OnErr, length};
 ghost use Rattle.std.specs.Io.KnownBytes.{Appends};
 ghost use Rattle.gh_io.specs.Counts.{Rose};
 ghost use Rattle.gh_io.specs.Streams.{TookPart};
-ghost use Rattle.gh_lines.specs.Text.{MakerStands, lines_from};
-ghost use Rattle.gh_top.specs.Found.{IsTellable, IsSilent, said_of, status_of};
+ghost use Rattle.gh_lines.specs.Text.{MakerStands, answers_by, answers_text, by_goroutine, lines_from};
+ghost use Rattle.gh_top.specs.Found.{AllStand, IsTellable, IsSilent, said_of, status_of};
 
 use crate::found::Found;
 use crate::status::Status;
@@ -58,28 +58,62 @@ pub fn say<K: Sink>(found: &Found, out: &mut K) -> Result<(), Failed>
     }
 }
 
-// The lines of the goroutine's answers, each as one piece.
-fn say_answers<K: Sink>(out: &mut K, script: &Script, answers: &[Answer]) -> Result<(), Failed>
-    requires goroutine { 0 < length script.now.goroutines }
-    requires makers { All (MakerStands script.now) answers.now }
+// The lines of the answers, goroutine by goroutine, each as one piece.
+fn say_answers<K: Sink>(
+    out: &mut K,
+    script: &Script,
+    answers: &[(u32, Answer)],
+) -> Result<(), Failed>
+    requires makers { AllStand script.now answers.now }
     requires few { length answers.now < 2 ^ 32 }
-    ensures ok { OnOk result (Appends (K.taken out.old) (K.taken out.new) (lines_from script.now 0 1 answers.now)) }
-    ensures part { OnErr result (TookPart (K.taken out.old) (K.taken out.new) (lines_from script.now 0 1 answers.now)) }
+    ensures ok { OnOk result (Appends (K.taken out.old) (K.taken out.new) (answers_text script.now (by_goroutine script.now answers.now))) }
+    ensures part { OnErr result (TookPart (K.taken out.old) (K.taken out.new) (answers_text script.now (by_goroutine script.now answers.now))) }
     ensures failed { OnErr result (Rose (K.faults out.old) (K.faults out.new)) }
     ensures never_falls { K.faults out.old ≤ K.faults out.new }
 {
-    for (i, answer) in answers.iter().enumerate() {
-        say_answer(out, script, i as u32 + 1, *answer)?;
+    for g in 0..script.goroutines() {
+        say_goroutine(out, script, g, answers)?;
     }
     Ok(())
 }
 
-// The line of what statement `n` answered, if it has one.
-fn say_answer<K: Sink>(out: &mut K, script: &Script, n: u32, answer: Answer) -> Result<(), Failed>
-    requires goroutine { 0 < length script.now.goroutines }
+// The lines of one goroutine's answers.
+fn say_goroutine<K: Sink>(
+    out: &mut K,
+    script: &Script,
+    g: u32,
+    answers: &[(u32, Answer)],
+) -> Result<(), Failed>
+    requires goroutine { g < length script.now.goroutines }
+    requires makers { AllStand script.now answers.now }
+    requires few { length answers.now < 2 ^ 32 }
+    ensures ok { OnOk result (Appends (K.taken out.old) (K.taken out.new) (lines_from script.now g 1 (answers_by g answers.now))) }
+    ensures part { OnErr result (TookPart (K.taken out.old) (K.taken out.new) (lines_from script.now g 1 (answers_by g answers.now))) }
+    ensures failed { OnErr result (Rose (K.faults out.old) (K.faults out.new)) }
+    ensures never_falls { K.faults out.old ≤ K.faults out.new }
+{
+    let mut n = 0;
+    for (h, answer) in answers {
+        if *h == g {
+            n += 1;
+            say_answer(out, script, g, n, *answer)?;
+        }
+    }
+    Ok(())
+}
+
+// The line of what statement `n` of goroutine `g` answered, if it has one.
+fn say_answer<K: Sink>(
+    out: &mut K,
+    script: &Script,
+    g: u32,
+    n: u32,
+    answer: Answer,
+) -> Result<(), Failed>
+    requires goroutine { g < length script.now.goroutines }
     requires maker { MakerStands script.now answer }
-    ensures ok { OnOk result (Appends (K.taken out.old) (K.taken out.new) (lines_from script.now 0 n (answer ∷ []))) }
-    ensures part { OnErr result (TookPart (K.taken out.old) (K.taken out.new) (lines_from script.now 0 n (answer ∷ []))) }
+    ensures ok { OnOk result (Appends (K.taken out.old) (K.taken out.new) (lines_from script.now g n (answer ∷ []))) }
+    ensures part { OnErr result (TookPart (K.taken out.old) (K.taken out.new) (lines_from script.now g n (answer ∷ []))) }
     ensures failed { OnErr result (Rose (K.faults out.old) (K.faults out.new)) }
     ensures never_falls { K.faults out.old ≤ K.faults out.new }
 {
@@ -87,6 +121,6 @@ fn say_answer<K: Sink>(out: &mut K, script: &Script, n: u32, answer: Answer) -> 
         return Ok(());
     }
     let mut line = LineBuf::new();
-    line.answer(script, 0, n, answer);
+    line.answer(script, g, n, answer);
     write_all(out, line.bytes())
 }

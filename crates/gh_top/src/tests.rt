@@ -132,11 +132,17 @@ fn each_refusal_has_its_line(rt: HostRuntime) -> Result<(), Fail> {
         ("# x", "line 0: missing\n"),
         (HEADER, "line 7: nesting\n"),
         ("end", "line 1: nesting\n"),
+        ("go a|repeat 2|nil r0", "line 3: nesting\n"),
         ("go a|new r0 node|end", "line 2: unknown\n"),
         ("go a|nil r16|end", "line 2: word\n"),
         ("go a|gload r0 1|end", "line 2: limit\n"),
+        ("go a|go b", "line 2: nesting\n"),
         ("procs 1|procs 1", "line 2: twice\n"),
         ("type t p*x", "line 1: number\n"),
+        (
+            "go a|repeat 200000|nil r0|end|nil r0|end",
+            "line 6: limit\n",
+        ),
         ("# one\r||procs\t1|procs 1\r", "line 4: twice\n"),
     ];
     for (row, line) in texts {
@@ -145,5 +151,66 @@ fn each_refusal_has_its_line(rt: HostRuntime) -> Result<(), Fail> {
         assert_eq!(rt; status.code(), 3, "{row}");
         assert_eq!(rt; taken.as_slice(), line.as_bytes(), "{row}");
     }
+    Ok(())
+}
+
+#[test]
+fn goroutines_take_turns(rt: HostRuntime) -> Result<(), Fail> {
+    // settings and goroutines, their lines parted by `|`, and the lines of their answers
+    let rows = [
+        (
+            "go a|new r0 node|gstore 0 r0|int r1 5|store r0 1 r1|end|go b|gload r0 0|gload r0 0|load r1 r0 1|load r1 r0 1|load r1 r0 1|end",
+            "a 1 ref a.0|b 1 nil|b 2 ref a.0|b 3 int 0|b 4 int 5|b 5 int 5|",
+        ),
+        (
+            "go a|new r0 node|new r1 node|end|go z|end|go c|new r0 node|gstore 0 r0|gload r1 0|end",
+            "a 1 ref a.0|a 2 ref a.1|c 1 ref c.0|c 3 ref c.0|",
+        ),
+        (
+            "go a|nil r0|end|go b|new r0 node|gstore 0 r0|load r1 r0 0|end",
+            "b 1 ref b.0|b 3 nil|",
+        ),
+        (
+            "go a|repeat 3|new r0 node|end|gstore 0 r0|end|go b|repeat 2|gload r1 0|end|repeat 2|repeat 2|gload r1 0|end|end|end",
+            "a 1 ref a.0|a 2 ref a.1|a 3 ref a.2|b 1 nil|b 2 nil|b 3 nil|b 4 ref a.2|b 5 ref a.2|b 6 ref a.2|",
+        ),
+        ("go a|repeat 200000|nil r0|end|end", ""),
+    ];
+    for (goroutines, lines) in rows {
+        let text = format!(in rt.alloc(); "type node pn|{goroutines}")?;
+        let text = text.replace(rt.alloc(), "|", "\n")?;
+        let lines = lines.replace(rt.alloc(), "|", "\n")?;
+        let (status, taken) = outcome(&rt, &["goheap", "replay"], &text, &[], 1000, &[])?;
+        assert_eq!(rt; status.code(), 0, "{goroutines}");
+        assert_eq!(rt; taken.as_slice(), lines.as_bytes(), "{goroutines}");
+    }
+    Ok(())
+}
+
+#[test]
+fn a_second_span_follows_the_first(rt: HostRuntime) -> Result<(), Fail> {
+    let text = text_of(&rt, "type t n", "repeat 1025|new r0 t|end")?;
+    let (status, taken) = outcome(&rt, &["goheap", "replay"], &text, &[], 100_000, &[])?;
+    let mut lines = String::new(rt.alloc());
+    for k in 0..1025u32 {
+        let n = k + 1;
+        let line = format!(in rt.alloc(); "a {n} ref a.{k}\n")?;
+        lines.push_str(&line)?;
+    }
+    assert_eq!(rt; status.code(), 0);
+    assert_eq!(rt; taken.as_slice(), lines.as_bytes());
+    Ok(())
+}
+
+#[test]
+fn turns_run_out(rt: HostRuntime) -> Result<(), Fail> {
+    let text = script(&rt, FIRST)?;
+    let words = ["goheap", "replay", "--budget", "1"];
+    let (status, taken) = outcome(&rt, &words, &text, &[], 1000, &[])?;
+    assert_eq!(rt; status.code(), 8);
+    assert_eq!(rt; taken.as_slice(), b"turns 1\n".as_slice());
+    let (status, taken) = outcome(&rt, &words, &text, &[], 1000, &[1])?;
+    assert_eq!(rt; status.code(), 5);
+    assert_eq!(rt; taken.as_slice(), b"".as_slice());
     Ok(())
 }

@@ -130,7 +130,7 @@ module _ (shapes : List Shape) (l : Layout) where
   begins_at_point sg words place e m (op.End g) r f good = record { fine = ltb-true _ _ r; pends = tt; acts = refl; busy = refl }
   begins_at_point sg words place e m op.Leave r f good = record { fine = tt; pends = tt; acts = refl; busy = refl }
   begins_at_point sg words place e m (op.Gc g) r f good = absurd cc
-  begins_at_point sg words place e m op.Poll r f good = absurd cc
+  begins_at_point sg words place e m op.Poll r f good = record { fine = tt; pends = tt; acts = refl; busy = refl }
 
   pub begin_any : ShapesGood shapes → (words : Words) (place : Name → ℕ) (e : Ever) (m : Processor) (o : Op) (es : List (Entry Op)) → is_busy_at m.point ≡ false → may_begin l.goroutines l.globals (length shapes) m es o ≡ true →
       Holding shapes l words place e m None → Holding shapes l words place e (begins shapes m o) None × (option_to_list (op_at (begins shapes m o).point) ≡ o ∷ []) × (is_busy_at (begins shapes m o).point ≡ true)

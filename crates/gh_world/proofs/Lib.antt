@@ -18,8 +18,8 @@ pub mod ClassFacts
 pub mod Moved
 pub mod Soundness
 pub mod StepFacts
-pub mod TurnFacts
 pub mod WorldFacts
 pub mod Running
+pub mod Turning
 pub mod OneRun
 pub mod OneStep

@@ -10,7 +10,8 @@ use Rattle.gh_base.specs.Lists.{Setting, state_of, MayFollow, Begins}
 use Rattle.gh_script.specs.Program.{Program}
 use Rattle.gh_world.specs.declared.point.Processor.{Processor}
 use Rattle.gh_world.specs.Order.{processor_kind, setting_of, is_busy_at, begun_in}
-use Rattle.gh_world.specs.World.{opening, turns_of}
+use Rattle.gh_world.specs.Turns.{turns_of}
+use Rattle.gh_world.specs.World.{opening}
 use Rattle.gh_world.specs.Runs.{IsRun, IsRunSoFar, EveryRunIsOne, NoneIsLonger}
 
 abbrev at_setting : Program → Layout → Setting Processor Op
@@ -25,7 +26,7 @@ before_turns None bs to_come turns h = h
 before_turns (Some o) bs to_come turns h = h ∙ one_more o bs to_come
 
 before : (p : Program) (l : Layout) (e : Entry Op) (es : List (Entry Op)) → IsRunSoFar p l (e ∷ es) → IsRunSoFar p l es
-before p l e es r = record { legal = r.legal.0; to_come = option_to_list e.begun ++ r.to_come; turns = before_turns e.begun (begun_in p.shapes l es) r.to_come (turns_of p 0) r.turns }
+before p l e es r = record { legal = r.legal.0; to_come = option_to_list e.begun ++ r.to_come; turns = before_turns e.begun (begun_in p.shapes l es) r.to_come (turns_of p) r.turns }
 
 -- the same operations, where both begin one or neither does
 same_begun : (busy : Bool) (o q : Option Op) (bs xs ys turns : List Op) → (o ≡ None → busy ≡ true) → ((x : Op) → o ≡ Some x → busy ≡ false) → (q ≡ None → busy ≡ true) → ((x : Op) → q ≡ Some x → busy ≡ false)
@@ -57,13 +58,13 @@ module _ (p : Program) (l : Layout) where
 
   -- the entries that may follow a list, and continue the run, are one
   same_entry : (es : List (Entry Op)) (e f : Entry Op) (xs ys : List Op) → MayFollow (at_setting p l) es e → MayFollow (at_setting p l) es f
-      → turns_of p 0 ≡ reverse (begun_in p.shapes l (e ∷ es)) ++ xs → turns_of p 0 ≡ reverse (begun_in p.shapes l (f ∷ es)) ++ ys → e ≡ f
+      → turns_of p ≡ reverse (begun_in p.shapes l (e ∷ es)) ++ xs → turns_of p ≡ reverse (begun_in p.shapes l (f ∷ es)) ++ ys → e ≡ f
   same_entry es e f xs ys m n h k =
       let zero : e.actor ≡ 0 = omega (arith, m.actor) in
       let none : f.actor ≡ 0 = omega (arith, n.actor) in
       let begun : e.begun ≡ f.begun =
-      same_begun (busy_after es) e.begun f.begun (begun_in p.shapes l es) xs ys (turns_of p 0) (none_busy e.actor es e.begun zero m.begins) (some_idle e.actor es e.begun zero m.begins)
-      (none_busy f.actor es f.begun none n.begins) (some_idle f.actor es f.begun none n.begins) (before_turns e.begun (begun_in p.shapes l es) xs (turns_of p 0) h) (before_turns f.begun (begun_in p.shapes l es) ys (turns_of p 0) k) in
+      same_begun (busy_after es) e.begun f.begun (begun_in p.shapes l es) xs ys (turns_of p) (none_busy e.actor es e.begun zero m.begins) (some_idle e.actor es e.begun zero m.begins)
+      (none_busy f.actor es f.begun none n.begins) (some_idle f.actor es f.begun none n.begins) (before_turns e.begun (begun_in p.shapes l es) xs (turns_of p) h) (before_turns f.begun (begun_in p.shapes l es) ys (turns_of p) k) in
       same_step es e f (zero ∙ sym none) begun m n
 
   one_run : (es fs : List (Entry Op)) → IsRunSoFar p l es → IsRunSoFar p l fs → length es ≡ length fs → es ≡ fs
@@ -86,16 +87,16 @@ too_long o turns bs rest h k =
     omega (arith, e, d)
 
 none_follow : (p : Program) (l : Layout) (es : List (Entry Op)) (a : ℕ) (o : Option Op) (to_come : List Op) → a ≡ 0 → IsRun p l es → Begins (at_setting p l) a es o
-    → turns_of p 0 ≡ reverse (begun_in p.shapes l es) ++ (option_to_list o ++ to_come) → ⊥
+    → turns_of p ≡ reverse (begun_in p.shapes l es) ++ (option_to_list o ++ to_come) → ⊥
 none_follow p l es a None to_come zero run begins turns =
     let busy : is_busy_at (state_of (processor_kind p.shapes l.pages) 0 es).point ≡ true = subst (λ (n : ℕ). Begins (at_setting p l) n es None) zero begins in
     absurd (let e = ap is_busy_at run.done in cc)
-none_follow p l es a (Some o) to_come zero run begins turns = too_long o (turns_of p 0) (begun_in p.shapes l es) to_come run.turns turns
+none_follow p l es a (Some o) to_come zero run begins turns = too_long o (turns_of p) (begun_in p.shapes l es) to_come run.turns turns
 
 nothing_follows : (p : Program) (l : Layout) (e : Entry Op) (es : List (Entry Op)) → IsRun p l es → IsRunSoFar p l (e ∷ es) → ⊥
 nothing_follows p l e es run r =
     let m = r.legal.1 in
-    none_follow p l es e.actor e.begun r.to_come (omega (arith, m.actor)) run m.begins (before_turns e.begun (begun_in p.shapes l es) r.to_come (turns_of p 0) r.turns)
+    none_follow p l es e.actor e.begun r.to_come (omega (arith, m.actor)) run m.begins (before_turns e.begun (begun_in p.shapes l es) r.to_come (turns_of p) r.turns)
 
 is_so_far : (p : Program) (l : Layout) (es : List (Entry Op)) → IsRun p l es → IsRunSoFar p l es
 is_so_far p l es r = record { legal = r.legal; to_come = []; turns = sym (append-nil (reverse (begun_in p.shapes l es)) ∙ r.turns) }

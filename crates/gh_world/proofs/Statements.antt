@@ -479,6 +479,7 @@ module _ (shapes : List Shape) (l : Layout) where
   step_touch (op.New g d t) shapes_good words place e m None at h = absurd (fine_here shapes l words place e m (Touch (op.New g d t)) None at h).0
   step_touch (op.GetGlobal g d k) shapes_good words place e m None at h = absurd (fine_here shapes l words place e m (Touch (op.GetGlobal g d k)) None at h).0
   step_touch (op.Gc g) shapes_good words place e m None at h = absurd (fine_here shapes l words place e m (Touch (op.Gc g)) None at h).0
-  step_touch op.Poll shapes_good words place e m None at h = absurd (fine_here shapes l words place e m (Touch op.Poll) None at h).0
+  step_touch op.Poll shapes_good words place e m None at h =
+      faulted words place e m (Touch op.Poll) op.Poll answer.Done (words cell.Phase) h.good refl refl refl refl refl refl refl
   step_touch (op.End g) shapes_good words place e m None at h = absurd (fine_here shapes l words place e m (Touch (op.End g)) None at h).0
   step_touch op.Leave shapes_good words place e m None at h = absurd (fine_here shapes l words place e m (Touch op.Leave) None at h).0

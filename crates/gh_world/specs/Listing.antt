@@ -1,6 +1,7 @@
 -- The processor's listing: what each point asks, where it goes by what was found, what a statement answers at its end, and where it acts.
 use Rattle.std.specs.Prelude.{ℕ, ◌+◌, ◌-◌, ◌*◌, ◌/◌, ◌%◌, ◌^◌, Bool, true, false, not, nat_lt, nat_le, ◌==◌, ◌&&◌, if◌then◌else◌, List, slice_index, slice_index_or, slice_set, Option, Some, None, max, min}
 use Rattle.std.specs.Int.{bit_at}
+use Rattle.gh_base.specs.declared.cell.Cell.{Cell}
 use Rattle.gh_base.specs.declared.cell.Cell.TheVariants as cell
 use Rattle.gh_base.specs.declared.cell.Ask.{Ask}
 use Rattle.gh_base.specs.declared.cell.Ask.TheVariants as ask
@@ -117,6 +118,11 @@ pointer_bits shape a i =
 
 -- What is asked.
 
+-- what is loaded by an operation that needs no word of the heap: a poll loads the phase
+abbrev pub touch_cell : Op → Cell
+touch_cell op.Poll = cell.Phase
+touch_cell _ = cell.Touch
+
 module _ (shapes : List Shape) (m : Processor) where
   -- heap words, and the words that hold 64 bits of them
   abbrev pub heap_word : ℕ → ℕ
@@ -146,7 +152,7 @@ module _ (shapes : List Shape) (m : Processor) where
   abbrev pub asks_at : Point → Ask
   asks_at Idle = ask.Load cell.Touch
   asks_at Left = ask.Load cell.Touch
-  asks_at (Touch o) = ask.Load cell.Touch
+  asks_at (Touch o) = ask.Load (touch_cell o)
   asks_at (LoadPage l) = ask.Load (cell.Page (page_index (l.at / 1024)))
   asks_at (LoadBits l) = ask.Load (cell.Bitmap (bit_word ((l.at + l.k) / 64)))
   asks_at (LoadField l p) = ask.Load (cell.Field (heap_word (l.at + l.k)))

@@ -75,8 +75,9 @@ module _ (goroutines globals types : ℕ) where
   in_range (op.Move g d s) = nat_lt g goroutines && nat_lt d 16 && nat_lt s 16
   in_range (op.Nil g d) = nat_lt g goroutines && nat_lt d 16
   in_range (op.End g) = nat_lt g goroutines
+  in_range op.Poll = true
   in_range op.Leave = true
-  in_range _ = false
+  in_range (op.Gc g) = false
 
 abbrev pub goroutine_of : Op → Option ℕ
 goroutine_of (op.New g d t) = Some g

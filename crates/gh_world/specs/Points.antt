@@ -96,6 +96,7 @@ module _ (pages globals goroutines : ℕ) (shapes : List Shape) where
   FineTouch e (op.Int g d n) = (g < goroutines) × (d < 16)
   FineTouch e (op.Move g d s) = (g < goroutines) × (d < 16) × (s < 16)
   FineTouch e (op.Nil g d) = (g < goroutines) × (d < 16)
+  FineTouch e op.Poll = Unit {0}
   FineTouch e _ = ⊥
 
   -- so many free pages stand before page p

@@ -1,12 +1,53 @@
--- What a step is to a statement: its point, and its end.
-use Rattle.std.specs.Prelude.{ℕ, ◌+◌, Bool, true, false, List, [], ◌∷◌, length, Option, Some, None}
+-- The processor's turns, and what a step is to a statement.
+use Rattle.std.specs.Prelude.{◌≡◌, ℕ, ◌+◌, ◌-◌, ◌<◌, ◌≤◌, nat_le, nat_lt, ◌==◌, ◌&&◌, Bool, true, false, if◌then◌else◌, List, [], ◌∷◌, ◌++◌, length, slice_get, sum_by, Option, Some, None, unwrap_or}
+use Rattle.std.specs.List.{flat_map, range_with_len}
 use Rattle.gh_base.specs.declared.value.Answer.{Answer}
 use Rattle.gh_base.specs.declared.operation.Op.{Op}
 use Rattle.gh_base.specs.declared.operation.Op.TheVariants as op
+use Rattle.gh_base.specs.Packing.{bit}
+use Rattle.gh_script.specs.declared.statement.Stmt.{Stmt}
+use Rattle.gh_script.specs.Program.{Program, statements_of, statements_in, op_of}
 use Rattle.gh_world.specs.declared.point.Processor.{Processor}
 use Rattle.gh_world.specs.declared.point.Point.{Point}
-use Rattle.gh_world.specs.declared.point.Point.TheVariants.{Left, End, Leave}
+use Rattle.gh_world.specs.declared.point.Point.TheVariants.{Idle, Left, Touch, End, Leave}
+use Rattle.gh_world.specs.declared.turns.Next.{Next}
+use Rattle.gh_world.specs.declared.turns.Next.TheVariants as next
+use Rattle.gh_world.specs.Order.{goroutine_of}
 use Rattle.gh_world.specs.Listing.{gives_at, Act}
+
+-- ---- the turns
+
+-- how many statements goroutine g has, and how many all have
+abbrev pub count_of : Program → ℕ → ℕ
+count_of p g = length (statements_of p g)
+
+abbrev pub total_of : Program → ℕ
+total_of p = sum_by statements_in p.goroutines
+
+-- what goroutine g does in round r, from 0: its statement number r + 1, or it ends
+abbrev pub work_at : ℕ → Option Stmt → Op
+work_at g (Some s) = op_of g s
+work_at g None = op.End g
+
+abbrev pub work_of : Program → (r g : ℕ) → Op
+work_of p r g = work_at g (slice_get (statements_of p g) r)
+
+-- it has not ended before round r
+abbrev pub has_turn : Program → (r g : ℕ) → Bool
+has_turn p r g = nat_le r (count_of p g)
+
+-- a turn is a poll and a statement, or a poll and the goroutine's end
+abbrev pub turn_of : Program → (r g : ℕ) → List Op
+turn_of p r g = if has_turn p r g then op.Poll ∷ work_of p r g ∷ [] else []
+
+abbrev pub round_of : Program → ℕ → List Op
+round_of p r = flat_map (turn_of p r) (range_with_len 0 (length p.goroutines))
+
+-- Round after round each goroutine that has not ended has a turn, in ascending order; at last the processor leaves.
+unfoldable pub turns_of : Program → List Op
+turns_of p = flat_map (round_of p) (range_with_len 0 (total_of p + 1)) ++ op.Leave ∷ []
+
+-- ---- statements among operations
 
 -- a statement of a goroutine, and no step of the processor's own
 abbrev pub is_statement : Op → Bool
@@ -14,6 +55,32 @@ is_statement op.Poll = false
 is_statement (op.End g) = false
 is_statement op.Leave = false
 is_statement _ = true
+
+-- the goroutine of a statement
+abbrev pub goroutine_at : Op → ℕ
+goroutine_at o = unwrap_or (goroutine_of o) 0
+
+-- how many of the operations are statements, and how many of goroutine g
+abbrev pub statements_among : List Op → ℕ
+statements_among [] = 0
+statements_among (o ∷ os) = bit (is_statement o) + statements_among os
+
+abbrev pub statements_by : ℕ → List Op → ℕ
+statements_by g [] = 0
+statements_by g (o ∷ os) = bit (is_statement o && (goroutine_at o == g)) + statements_by g os
+
+-- the goroutine and the number of the statement begun last, the newest operation first
+abbrev pub statement_now : List Op → ℕ × ℕ
+statement_now [] = (0, 0)
+statement_now (o ∷ os) = if is_statement o then (goroutine_at o, statements_by (goroutine_at o) (o ∷ os)) else statement_now os
+
+-- the answers of the statements among the operations, each with its goroutine
+abbrev pub answers_to : List Op → List Answer → List (ℕ × Answer)
+answers_to [] answers = []
+answers_to (o ∷ os) [] = []
+answers_to (o ∷ os) (a ∷ answers) = (if is_statement o then (goroutine_at o, a) ∷ [] else []) ++ answers_to os answers
+
+-- ---- what a step is to a statement
 
 -- the step is the point of a statement
 abbrev pub is_point : Option Act → Bool
@@ -25,13 +92,19 @@ abbrev pub is_unacted : Option Op → Bool
 is_unacted None = false
 is_unacted (Some o) = is_statement o
 
--- the answer of the statement that ends with the operation: the processor's own steps end none
-abbrev pub answer_at : Point → Option Answer → Option Answer
-answer_at (End g) answer = None
-answer_at Leave answer = None
-answer_at p answer = answer
+-- the processor runs a statement
+abbrev pub is_serving : Point → Bool
+is_serving Idle = false
+is_serving Left = false
+is_serving (Touch o) = is_statement o
+is_serving (End g) = false
+is_serving Leave = false
+is_serving _ = true
 
--- the step ends a statement, which is answered so
+-- the step ends a statement, which is answered so: the processor's own steps end none
+abbrev pub answer_at : Point → Option Answer → Option Answer
+answer_at p answer = if is_serving p then answer else None
+
 abbrev pub statement_answer : ℕ → Processor → Point → ℕ → Option Answer
 statement_answer goroutines m p found = answer_at p (gives_at goroutines m p found)
 
@@ -45,7 +118,60 @@ abbrev pub has_left_at : Point → Bool
 has_left_at Left = true
 has_left_at _ = false
 
--- the point of the goroutine's next statement, where these were before
-abbrev pub next_point : Bool → List (ℕ × ℕ) → List (ℕ × ℕ)
-next_point true before = (0, length before + 1) ∷ []
-next_point false before = []
+-- the point of the statement begun last
+abbrev pub next_point : Bool → ℕ × ℕ → List (ℕ × ℕ)
+next_point true now = now ∷ []
+next_point false now = []
+
+-- ---- where the processor stands among its turns
+
+-- the turns of goroutines from g on in round r, and all that follow
+abbrev pub later : Program → (r g : ℕ) → List Op
+later p r g =
+    flat_map (turn_of p r) (range_with_len g (length p.goroutines - g)) ++ (flat_map (round_of p) (range_with_len (r + 1) (total_of p - r)) ++ op.Leave ∷ [])
+
+-- what is still to begin
+abbrev pub to_come : Program → Next → List Op
+to_come p (next.Poll r g) = op.Poll ∷ work_of p r g ∷ later p r (g + 1)
+to_come p (next.Run r g) = work_of p r g ∷ later p r (g + 1)
+to_come p next.Leave = op.Leave ∷ []
+to_come p next.Over = []
+
+-- the goroutine has the turn
+abbrev pub Stands : Program → Next → Type 0
+Stands p (next.Poll r g) = (g < length p.goroutines) × (r ≤ count_of p g)
+Stands p (next.Run r g) = (g < length p.goroutines) × (r ≤ count_of p g)
+Stands p _ = Unit {0}
+
+-- the goroutine's last turn is over, where the next turn is that of g in round r
+abbrev pub IsPast : Program → (r g h : ℕ) → Type 0
+IsPast p r g h = count_of p h < r + bit (nat_lt h g)
+
+abbrev pub MayBeOver : Program → Next → ℕ → Type 0
+MayBeOver p (next.Poll r g) h = IsPast p r g h
+MayBeOver p (next.Run r g) h = IsPast p r g h
+MayBeOver p _ h = Unit {0}
+
+-- the processor has begun its leave
+abbrev pub is_over : Next → Bool
+is_over next.Over = true
+is_over _ = false
+
+-- what the processor begins next
+abbrev pub op_due : Program → Next → Option Op
+op_due p (next.Poll r g) = Some op.Poll
+op_due p (next.Run r g) = Some (work_of p r g)
+op_due p next.Leave = Some op.Leave
+op_due p next.Over = None
+
+abbrev pub is_leave : Op → Bool
+is_leave op.Leave = true
+is_leave _ = false
+
+-- the turn behind the one that begins this operation
+pub record Follows (p : Program) (before : Next) (o : Op) (new : Next) : Type 0 where
+  pub come : to_come p before ≡ o ∷ to_come p new
+  pub stands : Stands p new
+  pub over : (g : ℕ) → MayBeOver p before g → MayBeOver p new g
+  pub ends : (g : ℕ) → o ≡ op.End g → MayBeOver p new g
+  pub leaves : is_over new ≡ is_leave o

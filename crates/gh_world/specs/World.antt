@@ -1,10 +1,8 @@
--- The world of one processor: its turns, what a list of its steps is answered, and that it is the state of such a list.
-use Rattle.std.specs.Prelude.{◌≡◌, ℕ, ◌+◌, ◌≤◌, ◌==◌, Bool, if◌then◌else◌, List, [], ◌∷◌, ◌++◌, map, length, take, reverse, slice_index, slice_get, ◌^◌, ◌-◌, Option, Some, None, is_some, vec_len}
+-- The world of one processor: what a list of its steps is answered, and that it is the state of such a list.
+use Rattle.std.specs.Prelude.{◌≡◌, ℕ, ◌+◌, ◌<◌, ◌≤◌, Bool, true, false, if◌then◌else◌, List, [], ◌∷◌, ◌++◌, length, reverse, slice_index, slice_set, ◌^◌, ◌-◌, Option, Some, None, is_some, vec_len}
 use Rattle.std.specs.Vec.{vec_capacity}
-use Rattle.std.specs.Option.{option_to_list}
 use Rattle.gh_base.specs.declared.value.Answer.{Answer}
 use Rattle.gh_base.specs.declared.operation.Op.{Op}
-use Rattle.gh_base.specs.declared.operation.Op.TheVariants as op
 use Rattle.gh_base.specs.declared.shape.Shape.{Shape}
 use Rattle.gh_base.specs.declared.layout.Layout.{Layout}
 use Rattle.gh_base.specs.declared.machine.Entry.{Entry}
@@ -12,42 +10,39 @@ use Rattle.gh_base.specs.Packing.{bit}
 use Rattle.gh_base.specs.Cells.{Words, InRange, IsLayoutOf, length_of, opening_words, Shows}
 use Rattle.gh_base.specs.Steps.{cell_of, changed, request, target}
 use Rattle.gh_base.specs.Lists.{state_of, started, words_after, Legal}
-use Rattle.gh_script.specs.Program.{Program, statements_of, op_of, WellFormed}
+use Rattle.gh_script.specs.Program.{Program, WellFormed}
 use Rattle.gh_world.specs.declared.point.Processor.{Processor}
 use Rattle.gh_world.specs.declared.point.Point.{Point}
 use Rattle.gh_world.specs.declared.point.Point.TheVariants.{Leave}
+use Rattle.gh_world.specs.declared.turns.Next.{Next}
 use Rattle.gh_world.specs.declared.world.World.{World}
 use Rattle.gh_world.specs.declared.world.Event.{Event}
 use Rattle.gh_world.specs.declared.world.Event.TheVariants as event
 use Rattle.gh_world.specs.Listing.{asks, takes, acts}
-use Rattle.gh_world.specs.Order.{processor_kind, setting_of, is_busy_at, before_step, begun_in}
+use Rattle.gh_world.specs.Order.{processor_kind, setting_of, is_busy_at, before_step, begun_in, ended_in, has_left}
 use Rattle.gh_world.specs.Points.{op_at}
-use Rattle.gh_world.specs.Turns.{is_point, is_unacted, statement_answer, is_leaving, has_left_at, next_point}
+use Rattle.gh_world.specs.Turns.{total_of, turns_of, to_come, Stands, MayBeOver, is_over, op_due, Follows, is_statement, goroutine_at, statements_among, statements_by, statement_now, is_point, is_unacted, is_serving, statement_answer, is_leaving, has_left_at, next_point}
 use Rattle.gh_world.specs.Sound.{Sound, MadeAtMost}
 
--- The turns of the processor: the statements of its goroutine in order, the goroutine's end, and its own leave.
-
-abbrev pub turns_of : Program → ℕ → List Op
-turns_of p g = map (op_of g) (statements_of p g) ++ op.End g ∷ op.Leave ∷ []
-
-abbrev pub count_of : Program → ℕ
-count_of p = length (statements_of p 0)
-
--- what the step says, where so many statements were answered before
-abbrev pub event_at : ℕ → Point → Option Answer → Event
-event_at marks Leave answer = event.Finished
-event_at marks p None = event.Moved
-event_at marks p (Some a) = event.Answered 0 (marks + 1) a
+-- what the step says, where this statement was begun last
+abbrev pub event_at : ℕ × ℕ → Point → Option Answer → Event
+event_at now Leave answer = event.Finished
+event_at now p None = event.Moved
+event_at now p (Some a) = event.Answered now.0 now.1 a
 
 module _ (shapes : List Shape) (l : Layout) where
   -- what the entry's step gives the statement
   abbrev pub answer_in : List (Entry Op) → Entry Op → Option Answer
   answer_in es e = statement_answer l.goroutines (before_step shapes l es e) (before_step shapes l es e).point e.found
 
+  -- the goroutine and the number of the statement begun last, before or with the entry
+  abbrev pub now_in : List (Entry Op) → ℕ × ℕ
+  now_in es = statement_now (begun_in shapes l es)
+
   -- the goroutine and the number of each statement, in the order of their points
   abbrev pub points_in : List (Entry Op) → List (ℕ × ℕ)
   points_in [] = []
-  points_in (e ∷ es) = points_in es ++ next_point (is_point (acts (before_step shapes l es e) e.found)) (points_in es)
+  points_in (e ∷ es) = points_in es ++ next_point (is_point (acts (before_step shapes l es e) e.found)) (now_in (e ∷ es))
 
   -- how many statements were answered
   abbrev pub marks_in : List (Entry Op) → ℕ
@@ -56,24 +51,38 @@ module _ (shapes : List Shape) (l : Layout) where
 
   -- what the entry's step says
   abbrev pub event_of : List (Entry Op) → Entry Op → Event
-  event_of es e = event_at (marks_in es) (before_step shapes l es e).point (answer_in es e)
+  event_of es e = event_at (now_in (e ∷ es)) (before_step shapes l es e).point (answer_in es e)
 
 -- the words of the heap as it opens: no cycle is asked for
 abbrev pub opening : Words
 opening = opening_words (2 ^ 64 - 1)
 
--- these are the words, the processor, the turns begun, the points and the statements answered after the list
-pub record After (p : Program) (l : Layout) (list : List ℕ) (m : Processor) (turn : ℕ) (points : List (ℕ × ℕ)) (marks : ℕ) (es : List (Entry Op)) : Type 0 where
+-- how far a world is among its turns: what it begins next, how many statements of each goroutine have begun, how many of all, and the goroutine of the last
+pub record Progress : Type 0 where
+  pub next : Next
+  pub begun : List ℕ
+  pub stated : ℕ
+  pub last : ℕ
+
+-- these are the words, the processor, the progress, the points and the statements answered after the list
+pub record After (p : Program) (l : Layout) (list : List ℕ) (m : Processor) (t : Progress) (points : List (ℕ × ℕ)) (marks : ℕ) (es : List (Entry Op)) : Type 0 where
   pub legal : Legal (setting_of p.shapes l opening) es
   pub words : Shows l list (words_after opening es)
   pub processor : m ≡ state_of (processor_kind p.shapes l.pages) 0 es
-  pub begun : reverse (begun_in p.shapes l es) ≡ take turn (turns_of p 0)
+  pub turns : turns_of p ≡ reverse (begun_in p.shapes l es) ++ to_come p t.next
+  pub counted : (g : ℕ) → g < 32 → slice_index t.begun g ≡ statements_by g (begun_in p.shapes l es)
+  pub now : (t.last, slice_index t.begun t.last) ≡ now_in p.shapes l es
+  pub ended : (g : ℕ) → ended_in es g ≡ true → MayBeOver p t.next g
+  pub left : has_left es ≡ true → is_over t.next ≡ true
   pub pointed : points ≡ points_in p.shapes l es
   pub marked : marks ≡ marks_in p.shapes l es
 
+abbrev pub progress_of : World → Progress
+progress_of w = record { next = w.next; begun = w.begun; stated = w.stated; last = w.last }
+
 -- the world is the state of the list
 abbrev pub IsAfter : World → List (Entry Op) → Type 0
-IsAfter w es = After w.script.now w.layout w.words w.processor w.turn w.points.items w.marks es
+IsAfter w es = After w.script.now w.layout w.words w.processor (progress_of w) w.points.items w.marks es
 
 -- the world is the state of the list with one entry more, of this actor, and the event is what that entry's step says
 pub record Appends (w : World) (actor : ℕ) (es : List (Entry Op)) (happened : Event) : Type 0 where
@@ -83,21 +92,24 @@ pub record Appends (w : World) (actor : ℕ) (es : List (Entry Op)) (happened : 
   pub says : happened ≡ event_of w.script.now.shapes w.layout es e
 
 -- what the world knows of its own state
-pub record Fit (p : Program) (l : Layout) (list : List ℕ) (m : Processor) (turn marks points room : ℕ) : Type 0 where
+pub record Fit (p : Program) (l : Layout) (list : List ℕ) (m : Processor) (t : Progress) (marks points room : ℕ) : Type 0 where
   pub script : WellFormed p
   pub layout : IsLayoutOf p.settings.arena p.settings.globals p.settings.procs p.settings.workers (length p.goroutines) l
   pub long : length list ≡ length_of l
   pub sound : Sound p.shapes l m
-  pub made : MadeAtMost turn m
-  pub turns : turn ≤ count_of p + 2
-  pub leaves : is_leaving m.point ≡ (turn == count_of p + 2)
-  pub marked : marks + bit (is_busy_at m.point) ≤ turn
-  pub pointed : points + bit (is_unacted (op_at m.point)) ≤ turn
-  pub few : points + bit (is_unacted (op_at m.point)) ≤ count_of p
-  pub reserved : count_of p ≤ room
+  pub made : MadeAtMost t.stated m
+  pub stands : Stands p t.next
+  pub all : t.stated + statements_among (to_come p t.next) ≡ total_of p
+  pub columns : length t.begun ≡ 32
+  pub few_begun : (g : ℕ) → slice_index t.begun g ≤ t.stated
+  pub last : t.last < 32
+  pub leaves : is_leaving m.point ≡ is_over t.next
+  pub marked : marks + bit (is_serving m.point) ≤ t.stated
+  pub pointed : points + bit (is_unacted (op_at m.point)) ≤ t.stated
+  pub reserved : total_of p ≤ room
 
 abbrev pub SoundWorld : World → Type 0
-SoundWorld w = Fit w.script.now w.layout w.words w.processor w.turn w.marks (vec_len w.points) (vec_capacity w.points)
+SoundWorld w = Fit w.script.now w.layout w.words w.processor (progress_of w) w.marks (vec_len w.points) (vec_capacity w.points)
 
 -- What a world shows.
 
@@ -121,20 +133,46 @@ points_of w = w.points.items
 
 -- How a step is made.
 
--- the operation that the next step begins
-abbrev pub next_op : World → Option Op
-next_op w = if is_busy_at w.processor.point then None else slice_get (turns_of w.script.now 0) w.turn
+-- the operation that the next step begins: none while one is begun
+abbrev pub op_at_turn : Program → Bool → Next → Option Op
+op_at_turn p true turn = None
+op_at_turn p false turn = op_due p turn
 
--- the world once it is begun
-abbrev pub begun_world : World → World
-begun_world w = record w {
-  processor = started (processor_kind w.script.now.shapes w.layout.pages) (next_op w) w.processor;
-  turn = w.turn + length (option_to_list (next_op w));
-}
+-- the progress once an operation is begun
+abbrev pub counts_after : Progress → Option Op → List ℕ
+counts_after t None = t.begun
+counts_after t (Some o) = if is_statement o then slice_set t.begun (goroutine_at o) (slice_index t.begun (goroutine_at o) + 1) else t.begun
+
+abbrev pub stated_after : Progress → Option Op → ℕ
+stated_after t None = t.stated
+stated_after t (Some o) = t.stated + bit (is_statement o)
+
+abbrev pub last_after : Progress → Option Op → ℕ
+last_after t None = t.last
+last_after t (Some o) = if is_statement o then goroutine_at o else t.last
+
+-- what comes next once it is begun
+abbrev pub GoesOn : Program → Next → Option Op → Next → Type 0
+GoesOn p before None new = new ≡ before
+GoesOn p before (Some o) new = Follows p before o new
+
+-- an operation is begun where none is
+pub record Begins (old new : World) : Type 0 where
+  pub o : Option Op
+  pub is : o ≡ op_at_turn old.script.now (is_busy_at old.processor.point) old.next
+  pub processor : new.processor ≡ started (processor_kind old.script.now.shapes old.layout.pages) o old.processor
+  pub next : GoesOn old.script.now old.next o new.next
+  pub begun : new.begun ≡ counts_after (progress_of old) o
+  pub stated : new.stated ≡ stated_after (progress_of old) o
+  pub last : new.last ≡ last_after (progress_of old) o
+  pub others : new ≡ record old { processor = new.processor; next = new.next; begun = new.begun; stated = new.stated; last = new.last }
 
 -- what the processor's step found in these words
 abbrev pub found_in : World → ℕ
 found_in w = slice_index w.words (target (request w.layout (asks w.script.now.shapes w.processor)))
+
+abbrev pub now_of : World → ℕ × ℕ
+now_of w = (w.last, slice_index w.begun w.last)
 
 -- one step of the processor
 pub record Advances (old new : World) (happened : Event) : Type 0 where
@@ -143,9 +181,9 @@ pub record Advances (old new : World) (happened : Event) : Type 0 where
   pub within : InRange old.layout (cell_of (asks old.script.now.shapes old.processor))
   pub words : new.words ≡ changed (request old.layout (asks old.script.now.shapes old.processor)) old.words
   pub processor : new.processor ≡ takes old.script.now.shapes old.processor (found_in old)
-  pub turn : new.turn ≡ old.turn
-  pub points : new.points.items ≡ old.points.items ++ next_point (is_point (acts old.processor (found_in old))) old.points.items
+  pub progress : progress_of new ≡ progress_of old
+  pub points : new.points.items ≡ old.points.items ++ next_point (is_point (acts old.processor (found_in old))) (now_of old)
   pub count : vec_len new.points ≡ vec_len old.points + bit (is_point (acts old.processor (found_in old)))
   pub room : vec_capacity new.points ≡ vec_capacity old.points
   pub marks : new.marks ≡ old.marks + bit (is_some (statement_answer old.layout.goroutines old.processor old.processor.point (found_in old)))
-  pub says : happened ≡ event_at old.marks old.processor.point (statement_answer old.layout.goroutines old.processor old.processor.point (found_in old))
+  pub says : happened ≡ event_at (now_of old) old.processor.point (statement_answer old.layout.goroutines old.processor old.processor.point (found_in old))

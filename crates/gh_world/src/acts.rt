@@ -11,7 +11,7 @@ use crate::takes::{kinds_differ, run_after};
 use gh_base::{Layout, Op, PageWord, Shapes};
 
 /// It is a statement of a goroutine, and no step of its processor's own.
-fn is_statement(op: Op) -> bool
+pub(crate) fn is_statement(op: Op) -> bool
     ensures { result ≡ is_statement op }
 {
     match op {

@@ -5,14 +5,15 @@
 
 ghost use Rattle.std.specs.Prelude.{◌≡◌, ◌*◌, ◌%◌, ◌<◌};
 ghost use Rattle.gh_base.specs.Cells.{InRange};
+ghost use Rattle.gh_base.specs.declared.layout.Layout.{Layout};
 ghost use Rattle.gh_base.specs.Steps.{cell_of};
-ghost use Rattle.gh_world.specs.Listing.{asks, asks_of_new};
+ghost use Rattle.gh_world.specs.Listing.{asks, asks_of_new, touch_cell};
 ghost use Rattle.gh_world.specs.Sound.{Sound};
 
 use crate::bits::{pointer_bits, slot_bits};
 use crate::point::{Point, Processor, Wanted};
 use crate::processor::word_of_value;
-use gh_base::{Ask, Cell, END, GONE, Layout, Name, PageWord, Shapes};
+use gh_base::{Ask, Cell, END, GONE, Layout, Name, Op, PageWord, Shapes};
 
 /// A heap word.
 fn heap_word(layout: &Layout, x: u32) -> u32
@@ -38,6 +39,17 @@ fn page_index(layout: &Layout, p: u32) -> u32
     p % layout.pages
 }
 
+/// What an operation loads that needs no word of the heap: a poll loads the phase.
+fn touch_cell(op: Op) -> Cell
+    ensures is { result ≡ touch_cell op }
+    ensures within { (l : Layout) → InRange l result }
+{
+    match op {
+        Op::Poll => Cell::Phase,
+        _ => Cell::Touch,
+    }
+}
+
 impl Processor {
     /// The step that it asks for.
     pub(crate) fn ask(&self, shapes: &Shapes, layout: &Layout) -> Ask
@@ -46,7 +58,8 @@ impl Processor {
         ensures within { InRange layout.now (cell_of result) }
     {
         match self.point {
-            Point::Idle | Point::Left | Point::Touch(_) => Ask::Load(Cell::Touch),
+            Point::Idle | Point::Left => Ask::Load(Cell::Touch),
+            Point::Touch(op) => Ask::Load(touch_cell(op)),
             Point::LoadPage(load) => Ask::Load(Cell::Page(page_index(layout, load.at / 1024))),
             Point::LoadBits(load) => {
                 Ask::Load(Cell::Bitmap(bit_word(layout, (load.at + load.k) / 64)))

@@ -22,8 +22,9 @@
 //! anywhere.
 //!
 //! [`every_legal_list_stands`] says this of every list of steps, [`every_run_is_explained`] of whole
-//! runs; [`World::step`] is one entry more of whatever list the world is the state of. The processor does
-//! not poll, and no other actor moves: nothing is marked, swept or freed yet.
+//! runs, [`a_script_has_one_run`] that there is one; [`World::step`] is one entry more of whatever list
+//! the world is the state of. The processor runs all goroutines in turns, round after round (`turns`), and
+//! polls before each statement. No other actor moves: nothing is marked, swept or freed yet.
 //!
 //! The words and the steps follow Go's `malloc.go`, `mcache.go`, `mheap.go` and `mbitmap.go`.
 #![tactic(auto)]
@@ -37,10 +38,12 @@ mod point;
 mod processor;
 mod sizes;
 mod takes;
+mod turns;
 mod world;
 
 pub use laws::{a_script_has_one_run, every_legal_list_stands, every_run_is_explained};
 pub use point::{Cached, Loading, Point, Processor, Storing, Wanted};
+pub use turns::{Next, total_of};
 pub use world::{Event, World};
 
 #[cfg(test)]

@@ -56,7 +56,7 @@ pub enum Point {
     Idle,
     /// It has left.
     Left,
-    /// A statement that needs no word of the heap.
+    /// An operation that needs no word of the heap: a statement, or a poll.
     Touch(Op),
     /// A load: the page word, for the words of the slot.
     LoadPage(Loading),

@@ -3,19 +3,20 @@
 //! The world keeps no list of its steps. What it promises is said of every list that it may be the
 //! state of: one step of it is one entry more of that list.
 
-ghost use Rattle.std.specs.Prelude.{◌≡◌, ◌+◌, ◌++◌, ◌^◌, ◌<◌, ◌≤◌, ◌↔◌, List, [], length, slice_get, true, false, vec_len, IfOk, IsTrue};
+ghost use Rattle.std.specs.Prelude.{◌≡◌, ◌+◌, ◌++◌, ◌^◌, ◌<◌, List, [], slice_index, true, false, vec_len, IfOk, IsTrue, Some, None, if◌then◌else◌};
 ghost use Rattle.gh_base.specs.declared.machine.Entry.{Entry};
 ghost use Rattle.gh_base.specs.declared.operation.Op.{Op};
 ghost use Rattle.std.specs.Vec.{vec_capacity};
 ghost use Rattle.gh_base.specs.Packing.{bit};
 ghost use Rattle.gh_world.specs.Order.{is_busy_at};
-ghost use Rattle.gh_script.specs.Program.{op_of};
-ghost use Rattle.gh_world.specs.Turns.{answer_at, has_left_at, next_point};
-ghost use Rattle.gh_world.specs.World.{begun_world, event_at, is_done, layout_of, marks_of, next_op, points_of, script_of, turns_of, Advances, Appends, IsAfter, SoundWorld};
+ghost use Rattle.gh_world.specs.Turns.{answer_at, goroutine_at, is_statement, next_point};
+ghost use Rattle.gh_world.specs.World.{counts_after, event_at, is_done, last_after, layout_of, marks_of, now_of, points_of, progress_of, script_of, stated_after, Advances, Appends, Begins, IsAfter, SoundWorld};
 
+use crate::acts::is_statement;
 use crate::point::{Point, Processor};
+use crate::turns::{Next, due, following, next_turn, total_of};
 use gh_base::{Answer, Layout, Op};
-use gh_script::{Script, Stmt};
+use gh_script::Script;
 use gh_words::{Plain, Words};
 use std::alloc::{AllocError, Global};
 
@@ -37,50 +38,17 @@ pub struct World<'s> {
     layout: Layout,
     words: Plain,
     processor: Processor,
-    // How many operations it has begun.
-    turn: u32,
+    // What it begins next.
+    next: Next,
+    // How many statements of each goroutine have begun, and how many of all.
+    begun: [u32; 32],
+    stated: u32,
+    // The goroutine of the statement begun last.
+    last: u32,
     // The goroutine and the number of each statement, in the order of their points.
     points: Vec<(u32, u32)>,
     // How many statements were answered.
     marks: u32,
-}
-
-/// A statement as an operation of its goroutine.
-fn op_of(g: u32, statement: Stmt) -> Op
-    ensures { result ≡ op_of g statement }
-{
-    match statement {
-        Stmt::New { d, t } => Op::New { g, d, t },
-        Stmt::Load { d, b, k } => Op::Load { g, d, b, k },
-        Stmt::Store { b, k, v } => Op::Store { g, b, k, v },
-        Stmt::GetGlobal { d, k } => Op::GetGlobal { g, d, k },
-        Stmt::SetGlobal { k, v } => Op::SetGlobal { g, k, v },
-        Stmt::Int { d, n } => Op::Int { g, d, n },
-        Stmt::Move { d, s } => Op::Move { g, d, s },
-        Stmt::Nil { d } => Op::Nil { g, d },
-        Stmt::Gc => Op::Gc { g },
-    }
-}
-
-/// The processor's operation number `turn`, counted from 0: the statements, the end of the
-/// goroutine, and its own leave.
-#[tactic(auto, using(crate::proofs::TurnFacts::get_statement, crate::proofs::TurnFacts::get_first, crate::proofs::TurnFacts::get_second, crate::proofs::TurnFacts::get_further))]
-fn turn_at(script: &Script, turn: u32) -> Option<Op>
-    requires some { 0 < length script.now.goroutines }
-    requires fits { turn + 1 < 2 ^ 32 }
-    ensures { result ≡ slice_get (turns_of script.now 0) turn }
-{
-    if let Some(statement) = script.statement(0, turn + 1) {
-        return Some(op_of(0, statement));
-    }
-    let count = script.count(0);
-    if turn == count {
-        Some(Op::End(0))
-    } else if turn == count + 1 {
-        Some(Op::Leave)
-    } else {
-        None
-    }
 }
 
 /// The answer of the statement that ends with a step at this point, where the operation ends so.
@@ -88,25 +56,39 @@ fn statement_answer(point: Point, answer: Option<Answer>) -> Option<Answer>
     ensures { result ≡ answer_at point answer }
 {
     match point {
-        Point::End(_) | Point::Leave => None,
+        Point::Touch(op) if !is_statement(op) => None,
+        Point::Idle | Point::Left | Point::End(_) | Point::Leave => None,
         _ => answer,
     }
 }
 
-/// What a step at this point says.
-fn event_at(marks: u32, point: Point, answer: Option<Answer>) -> Event
-    requires { marks + 1 < 2 ^ 32 }
-    ensures { result ≡ event_at marks point answer }
+/// The goroutine of a statement; none for a step of the processor's own.
+fn statement_goroutine(op: Op) -> Option<u32>
+    ensures { result ≡ (if is_statement op then Some (goroutine_at op) else None) }
+{
+    match op {
+        Op::New { g, .. }
+        | Op::Load { g, .. }
+        | Op::Store { g, .. }
+        | Op::GetGlobal { g, .. }
+        | Op::SetGlobal { g, .. }
+        | Op::Int { g, .. }
+        | Op::Move { g, .. }
+        | Op::Nil { g, .. }
+        | Op::Gc { g } => Some(g),
+        Op::Poll | Op::End(_) | Op::Leave => None,
+    }
+}
+
+/// What a step at this point says, where statement `n` of goroutine `g` was begun last.
+fn event_at(g: u32, n: u32, point: Point, answer: Option<Answer>) -> Event
+    ensures { result ≡ event_at (g, n) point answer }
 {
     if let Point::Leave = point {
         return Event::Finished;
     }
     match answer {
-        Some(answer) => Event::Answered {
-            g: 0,
-            n: marks + 1,
-            answer,
-        },
+        Some(answer) => Event::Answered { g, n, answer },
         None => Event::Moved,
     }
 }
@@ -133,13 +115,16 @@ impl<'s> World<'s> {
             Err(_) => unreachable!(),
         };
         let words = Plain::new(alloc, &layout, u64::MAX)?;
-        let points = Vec::with_capacity(alloc, script.count(0) as usize)?;
+        let points = Vec::with_capacity(alloc, total_of(script))?;
         Ok(World {
             script,
             layout,
             words,
             processor: Processor::opening(layout.pages, 0),
-            turn: 0,
+            next: next_turn(script, 0, 0),
+            begun: [0; 32],
+            stated: 0,
+            last: 0,
             points,
             marks: 0,
         })
@@ -198,26 +183,35 @@ impl<'s> World<'s> {
         &self.points
     }
 
-    /// The operation that the next step begins: none while one is begun.
-    fn next_op(&self) -> Option<Op>
-        requires { SoundWorld self.now }
-        ensures { result ≡ next_op self.now }
-    {
-        if self.processor.is_busy() {
-            return None;
-        }
-        turn_at(self.script, self.turn)
-    }
-
     /// Begins the next operation where none is begun.
-    #[tactic(auto, using(crate::proofs::WorldFacts::turn_runs, crate::proofs::WorldFacts::shapes_fit))]
     fn begin_next(&mut self)
         requires sound { SoundWorld self.old }
-        ensures { self.new ≡ begun_world self.old }
+        ensures { Begins self.old self.new }
     {
-        if let Some(op) = self.next_op() {
+        if self.processor.is_busy() {
+            return;
+        }
+        if let Some(op) = due(self.script, self.next) {
+            self.next = following(self.script, self.next);
             self.processor.begin(self.script.shapes(), &self.layout, op);
-            self.turn += 1;
+            self.count(op);
+        }
+    }
+
+    /// Counts an operation that has begun, where it is a statement.
+    fn count(&mut self, op: Op)
+        requires there { IsTrue (is_statement op) → goroutine_at op < 32 }
+        requires few { slice_index self.old.begun (goroutine_at op) + 1 < 2 ^ 32 }
+        requires fits { self.old.stated + 1 < 2 ^ 32 }
+        ensures begun { self.new.begun ≡ counts_after (progress_of self.old) (Some op) }
+        ensures stated { self.new.stated ≡ stated_after (progress_of self.old) (Some op) }
+        ensures last { self.new.last ≡ last_after (progress_of self.old) (Some op) }
+        ensures others { self.new ≡ record self.old { begun = self.new.begun; stated = self.new.stated; last = self.new.last } }
+    {
+        if let Some(g) = statement_goroutine(op) {
+            self.begun[g as usize] += 1;
+            self.stated += 1;
+            self.last = g;
         }
     }
 
@@ -236,24 +230,25 @@ impl<'s> World<'s> {
         let is_point = self.processor.is_point(shapes, &self.layout, found);
         let answer = statement_answer(point, self.processor.take(shapes, &self.layout, found));
         self.note(is_point);
-        let event = event_at(self.marks, point, answer);
+        let event = event_at(self.last, self.begun[self.last as usize], point, answer);
         if answer.is_some() {
             self.marks += 1;
         }
         event
     }
 
-    /// Notes that a statement has its point.
+    /// Notes that the statement begun last has its point.
     fn note(&mut self, is_point: bool)
         requires room { IsTrue is_point → vec_len self.old.points < vec_capacity self.old.points }
-        requires few { vec_len self.old.points + 1 < 2 ^ 32 }
-        ensures points { self.new.points.items ≡ self.old.points.items ++ next_point is_point self.old.points.items }
+        requires last { self.old.last < 32 }
+        ensures points { self.new.points.items ≡ self.old.points.items ++ next_point is_point (now_of self.old) }
         ensures count { vec_len self.new.points ≡ vec_len self.old.points + bit is_point }
         ensures reserved { vec_capacity self.new.points ≡ vec_capacity self.old.points }
         ensures others { self.new ≡ record self.old { points = self.new.points } }
     {
         if is_point {
-            self.points.push_reserved((0, self.points.len() as u32 + 1));
+            let n = self.begun[self.last as usize];
+            self.points.push_reserved((self.last, n));
         }
     }
 }

@@ -1,6 +1,6 @@
 use Rattle.std.proofs.Common.{◌≡◌, ℕ, sym, ◌∙◌, subst}
 use Rattle.gh_replay.specs.Replayed.{IsUnfinished}
-use Rattle.gh_replay.proofs.Running.{finished, unfinished}
+use Rattle.gh_replay.proofs.Running.{finished, unfinished, few_answers}
 use Rattle.gh_replay.proofs.turns.replay.Goals as goal
 
 pub returns-then-done-clause-explained : goal.returns-then-done-clause-explained
@@ -28,3 +28,6 @@ returns-clause-ends c = λ answers n r e.
     c.one_outcome.ensures.not_both c.args.script.now c.args.budget answers r
     (unfinished c.run.new.world c.args.script.now c.args.budget c.run.new.answers.items c.run.ensures.sound
     (c.run.ensures.script ∙ c.in_ok-world.ensures.script) c.run.ensures.ran (sym c.done.ensures ∙ c.if-done.false))
+
+pub returns-then-done-clause-few : goal.returns-then-done-clause-few
+returns-then-done-clause-few c = few_answers c.run.new.world c.args.script.now c.args.budget c.run.new.answers.items c.run.ensures.sound (c.run.ensures.script ∙ c.in_ok-world.ensures.script) c.run.ensures.ran

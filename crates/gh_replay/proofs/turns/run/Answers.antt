@@ -1,4 +1,4 @@
-use Rattle.std.proofs.Common.{◌≡◌, ◌+◌, ◌-◌, ◌++◌, ◌<◌, List, length, sym, ◌∙◌, ap, subst, arith}
+use Rattle.std.proofs.Common.{◌≡◌, ℕ, ◌+◌, ◌-◌, ◌++◌, ◌<◌, List, length, sym, ◌∙◌, ap, subst, arith}
 use Rattle.std.proofs.lemmas.List.{append-nil}
 use Rattle.gh_base.specs.declared.value.Answer.{Answer}
 use Rattle.gh_replay.proofs.Running.{Midway, more, room_for, told}
@@ -13,10 +13,10 @@ push_reserved-requires c =
     omega (arith, within, c.loop-left.answers.ok.0)
 
 -- the answers that the loop goes on with, and their room
-after : (c : goal.Joined-step) (items : List Answer) → items ≡ c.loop-left.answers.items ++ told c.step.result → Midway c.step.new.self c.args.budget (c.loop-left.left - 1) items
+after : (c : goal.Joined-step) (items : List (ℕ × Answer)) → items ≡ c.loop-left.answers.items ++ told c.step.result → Midway c.step.new.self c.args.budget (c.loop-left.left - 1) items
 after c items e =
     let few : c.loop-left.left ≡ c.loop-left.left - 1 + 1 = omega arith in
-    subst (λ (xs : List Answer). Midway c.step.new.self c.args.budget (c.loop-left.left - 1) xs) (sym e)
+    subst (λ (xs : List (ℕ × Answer)). Midway c.step.new.self c.args.budget (c.loop-left.left - 1) xs) (sym e)
     (more c.loop-left.world c.step.new.self c.step.result c.args.budget c.loop-left.left (c.loop-left.left - 1) c.loop-left.answers.items c.loop-left.invariant.midway few c.step.ensures.appended c.step.ensures.script c.step.ensures.layout)
 
 pub loop-left-preserved : goal.loop-left-preserved

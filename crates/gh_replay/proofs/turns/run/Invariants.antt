@@ -1,6 +1,7 @@
-use Rattle.std.proofs.Common.{◌≡◌, ◌+◌, ◌≤◌}
+use Rattle.std.proofs.Common.{◌≡◌, ◌≤◌}
 use Rattle.std.specs.Vec.{vec_capacity}
-use Rattle.gh_world.specs.World.{count_of, script_of, SoundWorld}
+use Rattle.gh_world.specs.Turns.{total_of}
+use Rattle.gh_world.specs.World.{script_of, SoundWorld}
 use Rattle.gh_replay.proofs.Running.{Midway}
 use Rattle.gh_replay.proofs.turns.run.Given as goal
 
@@ -9,7 +10,7 @@ invariant-loop-left l = record {
   sound : SoundWorld l.world;
   script : script_of l.world ≡ script_of l.initial.world;
   midway : Midway l.world l.budget l.left l.answers.items;
-  room : count_of (script_of l.world) + 2 ≤ vec_capacity l.answers;
+  room : total_of (script_of l.world) ≤ vec_capacity l.answers;
 }
 
 abbrev pub decreases-loop-left : goal.decreases-loop-left

@@ -2,7 +2,8 @@ use Rattle.std.proofs.Common.{◌≡◌, ◌⊎◌, ◌∙◌, subst, sym}
 use Rattle.std.proofs.lemmas.Bool.{false≢true}
 use Rattle.gh_top.specs.declared.status.Status.{Status}
 use Rattle.gh_top.specs.declared.status.Status.TheVariants.{Ok, BadScript, NoMemory, OutOfTurns}
-use Rattle.gh_top.specs.Outcome.{texts, IsTelling, Said}
+use Rattle.gh_top.specs.CommandLine.{texts}
+use Rattle.gh_top.specs.Outcome.{IsTelling, Said}
 use Rattle.gh_top.specs.Found.{said_of, status_of}
 use Rattle.gh_top.proofs.Ends.{spelled-ends, refused-ends, replayed-tells, unfinished-tells, says, telling}
 use Rattle.gh_top.proofs.command.top.Goals as goal
@@ -11,6 +12,13 @@ pub returns-in-Ok-clause-said : goal.returns-in-Ok-clause-said
 returns-in-Ok-clause-said g c = λ text told tells.
     subst (λ (s : Status). Said (texts c.args.words.now) text s (g.K.Sink.taken c.args.out.now) (g.K.Sink.taken c.say.new.out)) (sym c.ending.ensures)
     (said_of c.find-found.result, says (texts c.args.words.now) text c.find-found.result (c.find-found.ensures.found text told) (subst (λ (s : Status). IsTelling s) c.ending.ensures tells), c.in-Ok.ensures.ok)
+
+pub returns-in-Ok-clause-explained : goal.returns-in-Ok-clause-explained
+returns-in-Ok-clause-explained g c = λ tells. (
+  c.find-found.ensures.explained.0,
+  subst (λ (s : Status). Said (texts c.args.words.now) c.find-found.ensures.explained.0 s (g.K.Sink.taken c.args.out.now) (g.K.Sink.taken c.say.new.out)) (sym c.ending.ensures)
+      (said_of c.find-found.result, says (texts c.args.words.now) c.find-found.ensures.explained.0 c.find-found.result c.find-found.ensures.explained.1 (subst (λ (s : Status). IsTelling s) c.ending.ensures tells), c.in-Ok.ensures.ok),
+)
 
 pub returns-in-Ok-clause-bad_script_exactly : goal.returns-in-Ok-clause-bad_script_exactly
 returns-in-Ok-clause-bad_script_exactly g c = λ text budget line why told replay refused read wrote.

@@ -1,13 +1,18 @@
-use Rattle.std.proofs.Common.{sym, ◌∙◌, ap}
-use Rattle.gh_top.proofs.Words.{taken, two_words, other_words}
+use Rattle.std.proofs.Common.{◌∙◌, sym}
+use Rattle.clap.specs.Words.{app_of, kind_of, subcommand_rows_of}
+use Rattle.gh_top.specs.CommandLine.{texts}
+use Rattle.gh_top.proofs.CommandLineParsed.{not_taken, taken}
 use Rattle.gh_top.proofs.line.read_line.Goals as goal
-use Rattle.gh_top.proofs.line.read_line.Goals.{else-words-eq2-via-then-words-eq2+else-eq, else-words-eq2-via-else-words-eq2}
 
-pub returns-then-eq : goal.returns-then-eq
-returns-then-eq c = ap taken (sym c.if-eq.true) ∙ two_words c.args.words.now _ c.eq.result c.if-words-eq2.true c.eq.ensures
+-- src/line.rt:30:1
+pub returns-in-Ok : goal.returns-in-Ok
+returns-in-Ok c =
+    c.line_in.ensures
+    ∙ taken (app_of c.in_ok-command.command) (texts c.args.words.now) (subcommand_rows_of c.in-Ok.matches) c.in_ok-command.ensures
+    c.in-Ok.ensures.kinds (λ simple. (c.in-Ok.ensures.matches simple).1)
 
-pub returns-else-words-eq2 : goal.returns-else-words-eq2
-returns-else-words-eq2 c = elim c.else-words-eq2.branch [
-  | else-words-eq2-via-then-words-eq2+else-eq w ↦ ap taken (sym w.if-eq.false) ∙ two_words c.args.words.now _ w.eq.result w.if-words-eq2.true w.eq.ensures
-  | else-words-eq2-via-else-words-eq2 w ↦ other_words c.args.words.now w.if-words-eq2.false
-]
+-- src/line.rt:28:1
+pub returns : goal.returns
+returns c =
+    sym (not_taken (app_of c.in_ok-command.command) (texts c.args.words.now) (kind_of c.in-Err.error) c.in_ok-command.ensures
+    (λ memory. c.in_default.not-OutOfMemory (c.kind.ensures ∙ memory)) c.in-Err.ensures.kinds)

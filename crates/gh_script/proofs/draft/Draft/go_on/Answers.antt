@@ -1,5 +1,6 @@
+use Rattle.std.proofs.Common.{arith}
 use Rattle.gh_script.specs.Said.{said}
-use Rattle.gh_script.proofs.Allowed.{setting_fits, type_fits, name_fits}
+use Rattle.gh_script.proofs.Allowed.{setting_fits, times_fit, type_fits, name_fits}
 use Rattle.gh_script.proofs.draft.Draft.go_on.Goals as goal
 
 pub small_number-requires : goal.small_number-requires
@@ -10,3 +11,6 @@ add_type-requires c = type_fits c.args.self.now c.args.key (said c.args.line.now
 
 pub begin-requires : goal.begin-requires
 begin-requires c = name_fits c.args.self.now c.args.key (said c.args.line.now) c.requires.allowed c.in-Go.is
+
+pub small_number-requires-in-Repeat : goal.small_number-requires-in-Repeat
+small_number-requires-in-Repeat c = omega (arith, times_fit c.args.self.now c.args.key (said c.args.line.now) c.requires.allowed c.in-Repeat.is)

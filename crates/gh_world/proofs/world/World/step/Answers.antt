@@ -1,21 +1,20 @@
-use Rattle.std.proofs.Common.{◌≡◌, true, sym, subst}
-use Rattle.gh_world.specs.declared.world.World.{World}
+use Rattle.std.proofs.Common.{◌≡◌, true}
 use Rattle.gh_world.specs.Order.{is_busy_at}
 use Rattle.gh_world.specs.World.{SoundWorld}
 use Rattle.gh_world.proofs.OneStep.{ready_world, sound_after, appends}
 use Rattle.gh_world.proofs.world.World.step.Goals as goal
 
 pub advance-requires-clause-sound : goal.advance-requires-clause-sound
-advance-requires-clause-sound c = subst SoundWorld (sym c.begin_next.ensures) (ready_world c.args.self.now c.requires.sound c.requires.going).0
+advance-requires-clause-sound c = (ready_world c.args.self.now c.begin_next.new.self c.requires.sound c.requires.going c.begin_next.ensures).0
 
 pub advance-requires-clause-busy : goal.advance-requires-clause-busy
-advance-requires-clause-busy c = subst (λ (w : World). is_busy_at w.processor.point ≡ true) (sym c.begin_next.ensures) (ready_world c.args.self.now c.requires.sound c.requires.going).1
+advance-requires-clause-busy c = (ready_world c.args.self.now c.begin_next.new.self c.requires.sound c.requires.going c.begin_next.ensures).1
 
 pub returns-clause-appended : goal.returns-clause-appended
 returns-clause-appended c es after = appends c.args.self.now _ _ _ es _ c.requires.actor c.requires.sound c.requires.going c.begin_next.ensures c.advance.ensures after
 
 pub returns-clause-sound : goal.returns-clause-sound
 returns-clause-sound c =
-    let sound : SoundWorld c.begin_next.new.self = subst SoundWorld (sym c.begin_next.ensures) (ready_world c.args.self.now c.requires.sound c.requires.going).0 in
-    let busy : is_busy_at c.begin_next.new.self.processor.point ≡ true = subst (λ (w : World). is_busy_at w.processor.point ≡ true) (sym c.begin_next.ensures) (ready_world c.args.self.now c.requires.sound c.requires.going).1 in
+    let sound : SoundWorld c.begin_next.new.self = (ready_world c.args.self.now c.begin_next.new.self c.requires.sound c.requires.going c.begin_next.ensures).0 in
+    let busy : is_busy_at c.begin_next.new.self.processor.point ≡ true = (ready_world c.args.self.now c.begin_next.new.self c.requires.sound c.requires.going c.begin_next.ensures).1 in
     sound_after _ _ _ sound busy c.advance.ensures

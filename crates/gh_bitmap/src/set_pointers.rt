@@ -1,0 +1,147 @@
+//! The routine that writes the pointer bits of a new object's slot.
+
+ghost use Rattle.std.specs.Prelude.{◌≡◌, ◌+◌, ◌*◌, ◌^◌, ◌<◌, ◌≤◌};
+ghost use Rattle.gh_base.specs.Cells.{InRange};
+ghost use Rattle.gh_base.specs.Steps.{cell_of};
+ghost use Rattle.gh_bitmap.specs.Setting.{asks, goes_at, next_place, opening};
+
+use crate::bits::{pointer_bits, slot_bits};
+use gh_base::{Ask, Cell, Layout, Machine, Req, Shape};
+use std::marker::Model;
+
+/// Where the routine that sets pointer bits stands.
+#[derive(Clone, Copy, Debug, PartialEq, Eq)]
+pub enum SetPlace {
+    /// It clears the slot's bits in this word of the bitmap.
+    Clear(u32),
+    /// It sets the bits of the pointer fields in this word, of which there is one at least.
+    Set(u32),
+    /// It has ended.
+    Ended,
+}
+
+/// Writes the bits of an object's slot by the shape of its type (Go's `heapSetType`, mbitmap.go).
+///
+/// For each word of the bitmap that has bits of the slot, in ascending order, it clears the slot's
+/// bits, and then sets those of the pointer fields, if the word has any. Each is one atomic step that
+/// leaves the other bits of the word as they are: they are those of other slots, which other actors
+/// may write meanwhile.
+#[derive(Debug, Drop)]
+pub struct SetPointers<'s> {
+    layout: Layout,
+    shape: &'s Shape,
+    at: u32,
+    slot: u32,
+    place: SetPlace,
+}
+
+impl<'s> Model for SetPointers<'s> {
+    ghost use Rattle.gh_bitmap.specs.Setting.{Setting};
+    ghost use Rattle.gh_bitmap.specs.Sound.{Sound};
+
+    ghost Value = { Setting };
+
+    ghost view = { λ s. record { layout = s.layout; shape = s.shape.now; at = s.at; slot = s.slot; place = s.place } };
+
+    ghost invariant = { λ s. Sound (record { layout = s.layout; shape = s.shape.now; at = s.at; slot = s.slot; place = s.place }) };
+}
+
+impl<'s> SetPointers<'s> {
+    /// Writes the bits of an object of this shape whose first heap word is `at`, in a slot of `slot`
+    /// words, 1 to 65,536, which lies in the arena.
+    pub fn new(layout: &Layout, shape: &'s Shape, at: u32, slot: u32) -> SetPointers<'s>
+        requires some { 1 ≤ slot }
+        requires within { at + slot ≤ 1024 * layout.now.pages }
+        ensures { result ≡ opening layout.now shape.now at slot }
+    {
+        SetPointers {
+            layout: *layout,
+            shape,
+            at,
+            slot,
+            place: SetPlace::Clear(at / 64),
+        }
+    }
+
+    /// The step that it asks for.
+    fn ask(&self) -> Ask
+        ensures asks { result ≡ asks self.now }
+        ensures within { InRange self.now.layout (cell_of result) }
+    {
+        let row = 16 * self.layout.pages;
+        match self.place {
+            SetPlace::Clear(i) => {
+                let others = u64::MAX - slot_bits(self.at, self.slot, i);
+                Ask::And(Cell::Bitmap(i % row), others)
+            }
+            SetPlace::Set(i) => {
+                let pointers = pointer_bits(self.shape, self.at, i);
+                Ask::Or(Cell::Bitmap(i % row), pointers)
+            }
+            SetPlace::Ended => Ask::Load(Cell::Touch),
+        }
+    }
+
+    /// The next word of the bitmap that has bits of the slot, if there is one.
+    fn next_place(&self, i: u32) -> SetPlace
+        requires { i < 2 ^ 20 }
+        ensures { result ≡ next_place self.now i }
+    {
+        if 64 * (i + 1) < self.at + self.slot {
+            SetPlace::Clear(i + 1)
+        } else {
+            SetPlace::Ended
+        }
+    }
+
+    /// Where it stands after its step.
+    fn go(&self) -> SetPlace
+        ensures { result ≡ goes_at self.now self.now.place }
+    {
+        match self.place {
+            SetPlace::Clear(i) => {
+                if pointer_bits(self.shape, self.at, i) == 0 {
+                    self.next_place(i)
+                } else {
+                    SetPlace::Set(i)
+                }
+            }
+            SetPlace::Set(i) => self.next_place(i),
+            SetPlace::Ended => SetPlace::Ended,
+        }
+    }
+}
+
+impl<'s> Machine for SetPointers<'s> {
+    ghost use Rattle.std.specs.Prelude.{refl};
+    ghost use Rattle.gh_bitmap.specs.Setting.{asks, gives, goes, is_busy};
+    ghost use Rattle.gh_bitmap.specs.Ends as proved;
+
+    type Out = ();
+
+    ghost layout = { λ s. s.layout };
+
+    ghost busy = { λ s. is_busy s.place };
+
+    ghost asks = { asks };
+
+    ghost goes = { goes };
+
+    ghost gives = { gives };
+
+    fn next(&self) -> Req {
+        self.layout.request(self.ask())
+    }
+
+    fn take(&mut self, found: u64) -> Option<()> {
+        self.place = self.go();
+        match self.place {
+            SetPlace::Ended => Some(()),
+            _ => None,
+        }
+    }
+
+    ghost ends = { proved.setting_ends };
+
+    ghost stays = { λ _ _. refl };
+}

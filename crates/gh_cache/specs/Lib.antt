@@ -1,0 +1,4 @@
+pub mod Ends
+pub mod Listing
+pub mod NextClear
+pub mod Sound

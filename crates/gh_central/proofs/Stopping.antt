@@ -1,0 +1,100 @@
+-- The pass ends, whatever it is told.
+use Rattle.std.proofs.Common.{◌≡◌, ℕ, ◌+◌, ◌-◌, ◌*◌, ◌%◌, ◌^◌, ◌<◌, ◌≤◌, ◌⊎◌, inl, inr, Bool, true, false, cond, eqb, ltb, List, [], ◌∷◌, length, lit≤, refl, sym, ap, subst, ◌∙◌, arith}
+use Rattle.std.proofs.lemmas.Bool.Decides.{nat_tests}
+use Rattle.gh_base.specs.declared.pack.PageWord.{PageWord}
+use Rattle.gh_base.specs.declared.pack.PageWord.TheVariants.{Free, Head, Body}
+use Rattle.gh_base.specs.declared.pack.SpanHead.{SpanHead}
+use Rattle.gh_base.specs.Packing.{body_of, head_of, page_of}
+use Rattle.gh_central.specs.declared.pass.PassPlace.{PassPlace}
+use Rattle.gh_central.specs.declared.pass.PassPlace.TheVariants.{Look, Bits, Take, Ended}
+use Rattle.gh_central.specs.Listing.{Pass, after_bits, after_page, at_place, goes, goes_at, is_wanted, lacks_at, look_from}
+use Rattle.gh_central.specs.Passing.{told}
+
+abbrev HasPages : PageWord → Type 0
+HasPages Free = Unit {0}
+HasPages (Head h) = (1 ≤ h.pages) × (h.pages < 2 ^ 13)
+HasPages (Body b) = Unit {0}
+
+has_pages : (word : ℕ) → HasPages (page_of word)
+has_pages word = go (eqb (word % 4) 1) (eqb (word % 4) 2) where
+  go : (is_head is_body : Bool) → HasPages (cond is_head (Head (head_of word)) (cond is_body (Body (body_of word)) Free))
+  go true b = (omega arith, omega arith)
+  go false true = tt
+  go false false = tt
+
+module _ (m : Pass) where
+  -- a bound on the steps from a page on
+  abbrev behind : ℕ → ℕ
+  behind page = 19 * (m.layout.pages - page) + 2 ^ 18
+
+  abbrev left : PassPlace → ℕ
+  left (Look page) = behind page
+  left (Bits page h i) = 2 + (16 * h.pages - i) + cond (ltb (page + h.pages) m.layout.pages) (behind (page + h.pages)) 0
+  left (Take page h) = 1
+  left Ended = 0
+
+  left_from : (page : ℕ) → left (look_from m page) ≡ cond (ltb page m.layout.pages) (behind page) 0
+  left_from page = go (ltb page m.layout.pages) where
+    go : (b : Bool) → left (cond b (Look page) Ended) ≡ cond b (behind page) 0
+    go true = refl
+    go false = refl
+
+  from_less : (page n : ℕ) → 1 ≤ n → left (look_from m (page + n)) < behind page
+  from_less page n some = subst (λ (x : ℕ). x < behind page) (sym (left_from (page + n))) (go (ltb (page + n) m.layout.pages) refl) where
+    go : (b : Bool) → ltb (page + n) m.layout.pages ≡ b → cond b (behind (page + n)) 0 < behind page
+    go true e = let more : page + n < m.layout.pages = grind (arith, nat_tests) in omega arith
+    go false e = omega arith
+
+  look_less : (page : ℕ) (w : PageWord) → HasPages w → left (after_page m page w) < behind page
+  look_less page Free some = from_less page 1 (lit≤ tt)
+  look_less page (Body b) some = from_less page 1 (lit≤ tt)
+  look_less page (Head h) some = go (is_wanted m h) where
+    begins : (more : Bool) → ltb (page + h.pages) m.layout.pages ≡ more → 2 + (16 * h.pages - 0) + cond more (behind (page + h.pages)) 0 < behind page
+    begins true e = let more : page + h.pages < m.layout.pages = grind (arith, nat_tests) in let s = some.0 in omega arith
+    begins false e = let few = some.1 in omega arith
+
+    go : (b : Bool) → left (cond b (Bits page h 0) (look_from m (page + h.pages))) < behind page
+    go true = begins (ltb (page + h.pages) m.layout.pages) refl
+    go false = from_less page h.pages some.0
+
+  bits_less : (page : ℕ) (h : SpanHead) (i w : ℕ) → left (after_bits m page h i w) < left (Bits page h i)
+  bits_less page h i w = go (lacks_at m page i w) (ltb (i + 1) (16 * h.pages)) refl where
+    go : (b more : Bool) → ltb (i + 1) (16 * h.pages) ≡ more → left (cond b (Take page h) (cond more (Bits page h (i + 1)) (look_from m (page + h.pages)))) < left (Bits page h i)
+    go true more e = omega arith
+    go false true e = let more : i + 1 < 16 * h.pages = grind (arith, nat_tests) in omega arith
+    go false false e = subst (λ (x : ℕ). x < left (Bits page h i)) (sym (left_from (page + h.pages))) (omega arith)
+
+  shrinks : (p : PassPlace) (w : ℕ) → (p ≡ Ended) ⊎ (left (goes_at m p w) < left p)
+  shrinks (Look page) w = inr (look_less page (page_of w) (has_pages w))
+  shrinks (Bits page h i) w = inr (bits_less page h i w)
+  shrinks (Take page h) w = inr (omega arith)
+  shrinks Ended w = inl refl
+
+  stops_at : (p : PassPlace) → left p ≡ 0 → p ≡ Ended
+  stops_at (Look page) e = absurd (omega arith)
+  stops_at (Bits page h i) e = absurd (omega arith)
+  stops_at (Take page h) e = absurd (omega arith)
+  stops_at Ended e = refl
+
+  abbrev Shrunk : List ℕ → Type 0
+  Shrunk ws = (p : PassPlace) × (told m ws ≡ at_place m p) × ((p ≡ Ended) ⊎ (length ws + left p ≤ left m.place))
+
+  shrunk : (ws : List ℕ) → Shrunk ws
+  shrunk [] = (m.place, refl, inr (omega arith))
+  shrunk (w ∷ ws) = next (shrunk ws) where
+    next : Shrunk ws → Shrunk (w ∷ ws)
+    next (p, e, inl over) = (Ended, ap (λ (x : Pass). goes x w) e ∙ ap (λ (x : PassPlace). at_place m (goes_at m x w)) over, inl refl)
+    next (p, e, inr few) = (
+      goes_at m p w,
+      ap (λ (x : Pass). goes x w) e,
+      elim (shrinks p w) [
+        | inl over ↦ inl (ap (λ (x : PassPlace). goes_at m x w) over)
+        | inr less ↦ inr (omega arith)
+      ],
+    )
+
+  pub stops : (ws : List ℕ) → left m.place ≤ length ws → (told m ws).place ≡ Ended
+  stops ws enough = at_end (shrunk ws) where
+    at_end : Shrunk ws → (told m ws).place ≡ Ended
+    at_end (p, e, inl over) = ap (λ (x : Pass). x.place) e ∙ over
+    at_end (p, e, inr few) = ap (λ (x : Pass). x.place) e ∙ stops_at p (omega arith)

@@ -1,0 +1,5 @@
+use Rattle.gh_central.proofs.Owning.{giving_back}
+use Rattle.gh_central.proofs.laws.giving_changes_the_owner.Goals as goal
+
+pub returns : goal.returns
+returns c = giving_back

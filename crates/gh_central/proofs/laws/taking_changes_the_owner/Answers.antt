@@ -1,0 +1,5 @@
+use Rattle.gh_central.proofs.Owning.{taking}
+use Rattle.gh_central.proofs.laws.taking_changes_the_owner.Goals as goal
+
+pub returns : goal.returns
+returns c = taking

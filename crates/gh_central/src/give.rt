@@ -1,0 +1,109 @@
+//! Giving a cached span back.
+
+ghost use Rattle.std.specs.Prelude.{◌≡◌, ◌<◌};
+ghost use Rattle.gh_base.specs.Packing.{FitsHead, head_word};
+ghost use Rattle.gh_central.specs.Listing.{owned_by};
+ghost use Rattle.gh_central.specs.Giving.{giving};
+
+use gh_base::{Ask, Cell, Layout, Machine, PageWord, Req, SpanHead};
+use std::marker::Model;
+
+/// Where the routine stands that gives a span back.
+#[derive(Clone, Copy, Debug, PartialEq, Eq)]
+pub enum GivePlace {
+    /// It writes the head word.
+    Write,
+    /// It has ended.
+    Ended,
+}
+
+/// Gives a cached span back, so that any seat may take it (Go's `mcentral.uncacheSpan`, in
+/// mcentral.go). Whoever runs it has the heap's lock.
+///
+/// It writes the span's head word with nobody as its owner, and ends.
+#[derive(Clone, Copy)]
+pub struct GiveBack {
+    layout: Layout,
+    page: u32,
+    head: SpanHead,
+    place: GivePlace,
+}
+
+impl Model for GiveBack {
+    ghost use Rattle.gh_central.specs.Giving.{Giving, CanGive};
+
+    ghost Value = { Giving };
+
+    ghost view = { λ g. record { layout = g.layout; page = g.page; head = g.head; place = g.place } };
+
+    ghost invariant = { λ g. CanGive g.layout g.page g.head };
+
+    ghost inverse = { λ g. record { layout = g.layout; page = g.page; head = g.head; place = g.place } };
+}
+
+impl GiveBack {
+    /// Gives back the span whose first page this is, and whose head word says this.
+    pub fn new(layout: &Layout, page: u32, head: SpanHead) -> GiveBack
+        requires page { page < layout.now.pages }
+        requires head { FitsHead head }
+        ensures { result ≡ giving layout.now page head }
+    {
+        GiveBack {
+            layout: *layout,
+            page,
+            head,
+            place: GivePlace::Write,
+        }
+    }
+
+    /// The head word with nobody as its owner.
+    fn given_word(&self) -> u64
+        ensures { result ≡ head_word (owned_by 0 self.now.head) }
+    {
+        PageWord::Head(SpanHead {
+            owner: 0,
+            ..self.head
+        })
+        .pack()
+    }
+}
+
+impl Machine for GiveBack {
+    ghost use Rattle.std.specs.Prelude.{refl};
+    ghost use Rattle.gh_central.specs.Ends as proved;
+    ghost use Rattle.gh_central.specs.Giving.{giving_asks, giving_gives, giving_goes, is_writing};
+
+    type Out = ();
+
+    ghost layout = { λ g. g.layout };
+
+    ghost busy = { λ g. is_writing g.place };
+
+    ghost asks = { giving_asks };
+
+    ghost goes = { λ g _. giving_goes g };
+
+    ghost gives = { λ g _. giving_gives g };
+
+    fn next(&self) -> Req {
+        let ask = match self.place {
+            GivePlace::Write => Ask::Store(Cell::Page(self.page), self.given_word()),
+            GivePlace::Ended => Ask::Load(Cell::Touch),
+        };
+        self.layout.request(ask)
+    }
+
+    fn take(&mut self, _found: u64) -> Option<()> {
+        match self.place {
+            GivePlace::Write => {
+                self.place = GivePlace::Ended;
+                Some(())
+            }
+            GivePlace::Ended => None,
+        }
+    }
+
+    ghost ends = { proved.giving_ends };
+
+    ghost stays = { λ _ _. refl };
+}

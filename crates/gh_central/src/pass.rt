@@ -1,0 +1,266 @@
+//! The pass over the spans for one with a clear slot.
+
+ghost use Rattle.std.specs.Prelude.{◌≡◌, ◌+◌, ◌*◌, ◌^◌, ◌<◌, ◌≤◌};
+ghost use Rattle.gh_base.specs.Cells.{InRange, seats_of};
+ghost use Rattle.gh_base.specs.Steps.{cell_of};
+ghost use Rattle.gh_base.specs.Packing.{FitsHead, FitsPage, head_word};
+ghost use Rattle.gh_central.specs.Listing.{after_bits, after_page, alloc_word, asks, given, goes_at, is_wanted, lacks_at, look_from, opening, owned_by};
+
+use crate::slots::{lacks_slot, slot_words, slots_in};
+use gh_base::{Ask, Cell, Layout, Machine, PageWord, Req, SpanHead};
+use std::marker::Model;
+
+/// A span class (Go's `spanClass`, in mheap.go): what the objects of a span are.
+#[derive(Clone, Copy, Debug, PartialEq, Eq)]
+pub struct SpanClass {
+    /// The size class, below `gh_base::CLASSES`.
+    pub class: u32,
+    /// That the objects have no pointer fields.
+    pub noscan: bool,
+}
+
+/// Where the pass stands.
+#[derive(Clone, Copy, Debug, PartialEq, Eq)]
+pub enum PassPlace {
+    /// It looks at a page.
+    Look {
+        /// The page.
+        page: u32,
+    },
+    /// It looks for a clear slot in the span whose head it met.
+    Bits {
+        /// The first page of the span.
+        page: u32,
+        /// What its head word was found to say.
+        head: SpanHead,
+        /// Which of the span's alloc words it loads, below 16 times the span's pages.
+        word: u32,
+    },
+    /// It takes the span.
+    Take {
+        /// The first page of the span.
+        page: u32,
+        /// What its head word was found to say.
+        head: SpanHead,
+    },
+    /// It has ended.
+    Ended,
+}
+
+/// Looks for a swept span of a span class that nobody has cached and that has a clear slot, and
+/// takes it for a seat (Go's `mcentral.cacheSpan` where it takes from `partialSwept`, in
+/// mcentral.go). Whoever runs it has the heap's lock.
+///
+/// There are no lists: the page words are walked from page 0 on, from head to head. Of a span of
+/// the class the alloc words are loaded one after the other until one lacks a slot's bit. The
+/// first span that has such a word is taken: its head word is written with the seat as its owner,
+/// and the pass ends with its first page. It ends with `None` behind the last page.
+#[derive(Clone, Copy)]
+pub struct SweptPass {
+    layout: Layout,
+    seat: u32,
+    generation: u64,
+    wanted: SpanClass,
+    place: PassPlace,
+}
+
+impl Model for SweptPass {
+    ghost use Rattle.gh_central.specs.Listing.{Pass};
+    ghost use Rattle.gh_central.specs.Sound.{Sound};
+
+    ghost Value = { Pass };
+
+    ghost view = { λ m. record { layout = m.layout; seat = m.seat; generation = m.generation; wanted = m.wanted; place = m.place } };
+
+    ghost invariant = { λ m. Sound (record { layout = m.layout; seat = m.seat; generation = m.generation; wanted = m.wanted; place = m.place }) };
+
+    ghost inverse = { λ m. record { layout = m.layout; seat = m.seat; generation = m.generation; wanted = m.wanted; place = m.place } };
+}
+
+impl SweptPass {
+    /// Looks for a span of the class, from page 0 on. A span is swept where its number is this sweep
+    /// generation. The head word of the one that it takes will say that the seat has it cached.
+    pub fn new(layout: &Layout, seat: u32, generation: u64, wanted: SpanClass) -> SweptPass
+        requires seat { seat < seats_of layout.now }
+        requires generation { generation < 2 ^ 34 }
+        requires class { wanted.class < 25 }
+        ensures { result ≡ opening layout.now seat generation wanted }
+    {
+        SweptPass {
+            layout: *layout,
+            seat,
+            generation,
+            wanted,
+            place: PassPlace::Look { page: 0 },
+        }
+    }
+
+    /// The head is that of a swept span of the wanted class that nobody owns.
+    fn is_wanted(&self, head: &SpanHead) -> bool
+        ensures { result ≡ is_wanted self.now head.now }
+    {
+        head.class == self.wanted.class
+            && head.noscan == self.wanted.noscan
+            && head.owner == 0
+            && head.number == self.generation
+    }
+
+    /// Where alloc word `word` of the span at this page is loaded.
+    fn alloc_word(&self, page: u32, word: u32) -> u32
+        requires page { page < 2 ^ 10 }
+        requires word { word < 2 ^ 17 }
+        ensures is { result ≡ alloc_word self.now page word }
+        ensures within { result < 16 * self.now.layout.pages }
+    {
+        (16 * page + word) % (16 * self.layout.pages)
+    }
+
+    /// Alloc word `word` of the span at this page lacks a slot's bit.
+    fn lacks(&self, page: u32, word: u32, found: u64) -> bool
+        requires page { page < 2 ^ 10 }
+        requires word { word < 2 ^ 17 }
+        ensures { result ≡ lacks_at self.now page word found }
+    {
+        let slot = slot_words(self.wanted.class);
+        let slots = slots_in(self.wanted.class);
+        lacks_slot(slot, slots, 1024 * page, 16 * page + word, found)
+    }
+
+    /// The head word of a span that it takes.
+    fn taken_word(&self, head: SpanHead) -> u64
+        requires { FitsHead head }
+        ensures { result ≡ head_word (owned_by (self.now.seat + 1) head) }
+    {
+        PageWord::Head(SpanHead {
+            owner: self.seat + 1,
+            ..head
+        })
+        .pack()
+    }
+
+    /// The step that it asks for.
+    fn ask(&self) -> Ask
+        ensures asks { result ≡ asks self.now }
+        ensures within { InRange self.now.layout (cell_of result) }
+    {
+        match self.place {
+            PassPlace::Look { page } => Ask::Load(Cell::Page(page)),
+            PassPlace::Bits { page, word, .. } => {
+                Ask::Load(Cell::Alloc(self.alloc_word(page, word)))
+            }
+            PassPlace::Take { page, head } => Ask::Store(Cell::Page(page), self.taken_word(head)),
+            PassPlace::Ended => Ask::Load(Cell::Touch),
+        }
+    }
+
+    /// It looks at this page next, if there is one.
+    fn look_from(&self, page: u32) -> PassPlace
+        ensures { result ≡ look_from self.now page }
+    {
+        if page < self.layout.pages {
+            PassPlace::Look { page }
+        } else {
+            PassPlace::Ended
+        }
+    }
+
+    /// Where it stands after a page was found to be this.
+    fn after_page(&self, page: u32, found: PageWord) -> PassPlace
+        requires page { page < 2 ^ 10 }
+        requires fits { FitsPage found }
+        ensures { result ≡ after_page self.now page found }
+    {
+        match found {
+            PageWord::Head(head) => {
+                if self.is_wanted(&head) {
+                    PassPlace::Bits {
+                        page,
+                        head,
+                        word: 0,
+                    }
+                } else {
+                    self.look_from(page + head.pages)
+                }
+            }
+            PageWord::Free | PageWord::Body(_) => self.look_from(page + 1),
+        }
+    }
+
+    /// Where it stands after an alloc word of the span was found to be this.
+    fn after_bits(&self, page: u32, head: SpanHead, word: u32, found: u64) -> PassPlace
+        requires page { page < 2 ^ 10 }
+        requires fits { FitsHead head }
+        requires word { word < 16 * head.pages }
+        ensures { result ≡ after_bits self.now page head word found }
+    {
+        if self.lacks(page, word, found) {
+            PassPlace::Take { page, head }
+        } else if word + 1 < 16 * head.pages {
+            PassPlace::Bits {
+                page,
+                head,
+                word: word + 1,
+            }
+        } else {
+            self.look_from(page + head.pages)
+        }
+    }
+
+    /// Where it stands after its step found this.
+    fn go(&self, found: u64) -> PassPlace
+        ensures { result ≡ goes_at self.now self.now.place found }
+    {
+        match self.place {
+            PassPlace::Look { page } => self.after_page(page, PageWord::unpack(found)),
+            PassPlace::Bits { page, head, word } => self.after_bits(page, head, word, found),
+            PassPlace::Take { .. } | PassPlace::Ended => PassPlace::Ended,
+        }
+    }
+}
+
+/// What it gives by a step from the first place to the second.
+fn given(from: PassPlace, to: PassPlace) -> Option<Option<u32>>
+    ensures { result ≡ given from to }
+{
+    match from {
+        PassPlace::Take { page, .. } => Some(Some(page)),
+        PassPlace::Ended => None,
+        PassPlace::Look { .. } | PassPlace::Bits { .. } => match to {
+            PassPlace::Ended => Some(None),
+            _ => None,
+        },
+    }
+}
+
+impl Machine for SweptPass {
+    ghost use Rattle.std.specs.Prelude.{refl};
+    ghost use Rattle.gh_central.specs.Ends as proved;
+    ghost use Rattle.gh_central.specs.Listing.{asks, gives, goes, is_busy};
+
+    type Out = Option<u32>;
+
+    ghost layout = { λ m. m.layout };
+
+    ghost busy = { λ m. is_busy m.place };
+
+    ghost asks = { asks };
+
+    ghost goes = { goes };
+
+    ghost gives = { gives };
+
+    fn next(&self) -> Req {
+        self.layout.request(self.ask())
+    }
+
+    fn take(&mut self, found: u64) -> Option<Option<u32>> {
+        let from = self.place;
+        let to = self.go(found);
+        self.place = to;
+        given(from, to)
+    }
+
+    ghost ends = { proved.ends };
+
+    ghost stays = { λ _ _. refl };
+}

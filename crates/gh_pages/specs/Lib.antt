@@ -1,0 +1,5 @@
+pub mod Ends
+pub mod FirstFit
+pub mod Listing
+pub mod Sound
+pub mod Storing

@@ -1,0 +1,253 @@
+//! The routine that looks for the pages of a span and writes their page words.
+
+ghost use Rattle.std.specs.Prelude.{◌≡◌, ◌+◌, ◌^◌, ◌<◌, ◌≤◌};
+ghost use Rattle.gh_base.specs.Cells.{InRange, seats_of};
+ghost use Rattle.gh_base.specs.Steps.{cell_of};
+ghost use Rattle.gh_base.specs.Packing.{body_word, head_word};
+ghost use Rattle.gh_pages.specs.Listing.{after_look, asks, fresh_body, fresh_head, gives, goes_at, is_last, next_store, opening, row_after};
+ghost use Rattle.gh_pages.specs.Sound.{IsSpan};
+
+use gh_base::{Ask, Cell, Layout, Machine, PageWord, Req, SpanBody, SpanHead};
+use std::marker::Model;
+
+/// What a span is cut for.
+#[derive(Clone, Copy, Debug, PartialEq, Eq)]
+pub struct Span {
+    /// The size class, below `gh_base::CLASSES`, or `gh_base::LARGE`.
+    pub class: u32,
+    /// That its objects have no pointer fields.
+    pub noscan: bool,
+    /// Its pages, 1 to 64.
+    pub pages: u32,
+}
+
+/// Where the routine stands.
+#[derive(Clone, Copy, Debug, PartialEq, Eq)]
+pub enum Place {
+    /// It looks at a page; so many free ones stand in a row right before it.
+    Look {
+        /// The page.
+        page: u32,
+        /// The free pages before it, fewer than the span needs.
+        run: u32,
+    },
+    /// It writes the word of a further page of the span.
+    Body {
+        /// The first page of the span.
+        first: u32,
+        /// How many pages behind the first one, 1 at least.
+        distance: u32,
+    },
+    /// It writes the word of the first page of the span.
+    Head {
+        /// That page.
+        first: u32,
+    },
+    /// It has ended.
+    Ended,
+}
+
+/// Takes fresh pages for a span, first fit (Go's `mheap.alloc` over `pageAlloc.find`, in mheap.go
+/// and mpagealloc.go). Whoever runs it has the heap's lock.
+///
+/// It loads the page words from page 0 on, until as many free pages stand in a row as the span
+/// needs. It then writes their words, the head last: until that word is there nobody takes these
+/// pages for a span. It ends with the first page, or with `None` where no row of free pages is
+/// long enough.
+#[derive(Clone, Copy)]
+pub struct Carve {
+    layout: Layout,
+    seat: u32,
+    generation: u64,
+    span: Span,
+    place: Place,
+}
+
+impl Model for Carve {
+    ghost use Rattle.gh_pages.specs.Listing.{Carving};
+    ghost use Rattle.gh_pages.specs.Sound.{Sound};
+
+    ghost Value = { Carving };
+
+    ghost view = { λ c. record { layout = c.layout; seat = c.seat; generation = c.generation; span = c.span; place = c.place } };
+
+    ghost invariant = { λ c. Sound (record { layout = c.layout; seat = c.seat; generation = c.generation; span = c.span; place = c.place }) };
+
+    ghost inverse = { λ c. record { layout = c.layout; seat = c.seat; generation = c.generation; span = c.span; place = c.place } };
+}
+
+/// So many free pages stand in a row up to the page whose word was found.
+fn row_after(run: u32, found: u64) -> u32
+    requires { run + 1 < 2 ^ 32 }
+    ensures { result ≡ row_after run found }
+{
+    match PageWord::unpack(found) {
+        PageWord::Free => run + 1,
+        _ => 0,
+    }
+}
+
+impl Span {
+    /// The store that follows those of the pages up to this distance behind the first: the next
+    /// page's, and last the first page's.
+    fn next_store(&self, first: u32, distance: u32) -> Place
+        requires { distance + 1 < 2 ^ 32 }
+        ensures { result ≡ next_store self.now first distance }
+    {
+        if distance + 1 < self.pages {
+            Place::Body {
+                first,
+                distance: distance + 1,
+            }
+        } else {
+            Place::Head { first }
+        }
+    }
+}
+
+impl Carve {
+    /// Looks for pages for the span, from page 0 on. The head word will say that the seat has the
+    /// span cached, and that it is swept in this sweep generation.
+    pub fn new(layout: &Layout, seat: u32, generation: u64, span: Span) -> Carve
+        requires seat { seat < seats_of layout.now }
+        requires generation { generation < 2 ^ 34 }
+        requires span { IsSpan span }
+        ensures { result ≡ opening layout.now seat generation span }
+    {
+        Carve {
+            layout: *layout,
+            seat,
+            generation,
+            span,
+            place: Place::Look { page: 0, run: 0 },
+        }
+    }
+
+    /// The word of the span's first page.
+    fn head_word(&self) -> u64
+        ensures { result ≡ head_word (fresh_head self.now) }
+    {
+        PageWord::Head(SpanHead {
+            class: self.span.class,
+            noscan: self.span.noscan,
+            pages: self.span.pages,
+            owner: self.seat + 1,
+            number: self.generation,
+        })
+        .pack()
+    }
+
+    /// The word of the page at this distance behind the span's first.
+    fn body_word(&self, distance: u32) -> u64
+        requires some { 1 ≤ distance }
+        requires few { distance < 2 ^ 13 }
+        ensures { result ≡ body_word (fresh_body self.now distance) }
+    {
+        PageWord::Body(SpanBody {
+            class: self.span.class,
+            noscan: self.span.noscan,
+            distance,
+        })
+        .pack()
+    }
+
+    /// The step that it asks for.
+    fn ask(&self) -> Ask
+        ensures asks { result ≡ asks self.now }
+        ensures within { InRange self.now.layout (cell_of result) }
+    {
+        match self.place {
+            Place::Look { page, .. } => Ask::Load(Cell::Page(page)),
+            Place::Body { first, distance } => {
+                Ask::Store(Cell::Page(first + distance), self.body_word(distance))
+            }
+            Place::Head { first } => Ask::Store(Cell::Page(first), self.head_word()),
+            Place::Ended => Ask::Load(Cell::Touch),
+        }
+    }
+}
+
+impl Carve {
+    /// What it ends with, if the step that found this is its last.
+    fn give(&self, found: u64) -> Option<Option<u32>>
+        ensures { result ≡ gives self.now found }
+    {
+        match self.place {
+            Place::Look { page, run } => {
+                let none = row_after(run, found) != self.span.pages && self.is_last(page);
+                if none { Some(None) } else { None }
+            }
+            Place::Head { first } => Some(Some(first)),
+            Place::Body { .. } | Place::Ended => None,
+        }
+    }
+
+    /// No page of the arena lies behind this one.
+    fn is_last(&self, page: u32) -> bool
+        requires { page + 1 < 2 ^ 32 }
+        ensures { result ≡ is_last self.now page }
+    {
+        page + 1 >= self.layout.pages
+    }
+
+    /// Where it stands after the page was looked at, with so many free ones in a row up to it.
+    fn after_look(&self, page: u32, row: u32) -> Place
+        requires few { row ≤ page + 1 }
+        requires page { page + 1 < 2 ^ 32 }
+        ensures { result ≡ after_look self.now page row }
+    {
+        if row == self.span.pages {
+            self.span.next_store(page + 1 - row, 0)
+        } else if self.is_last(page) {
+            Place::Ended
+        } else {
+            Place::Look {
+                page: page + 1,
+                run: row,
+            }
+        }
+    }
+
+    /// Where it stands after its step found this.
+    fn go(&self, found: u64) -> Place
+        ensures { result ≡ goes_at self.now self.now.place found }
+    {
+        match self.place {
+            Place::Look { page, run } => self.after_look(page, row_after(run, found)),
+            Place::Body { first, distance } => self.span.next_store(first, distance),
+            Place::Head { .. } | Place::Ended => Place::Ended,
+        }
+    }
+}
+
+impl Machine for Carve {
+    ghost use Rattle.std.specs.Prelude.{refl};
+    ghost use Rattle.gh_pages.specs.Listing.{asks, gives, goes, is_busy};
+    ghost use Rattle.gh_pages.specs.Ends as proved;
+
+    type Out = Option<u32>;
+
+    ghost layout = { λ c. c.layout };
+
+    ghost busy = { λ c. is_busy c.place };
+
+    ghost asks = { asks };
+
+    ghost goes = { goes };
+
+    ghost gives = { gives };
+
+    fn next(&self) -> Req {
+        self.layout.request(self.ask())
+    }
+
+    fn take(&mut self, found: u64) -> Option<Option<u32>> {
+        let out = self.give(found);
+        self.place = self.go(found);
+        out
+    }
+
+    ghost ends = { proved.ends };
+
+    ghost stays = { λ _ _. refl };
+}

@@ -1,0 +1,280 @@
+-- The turns of the processor: what is still to come at each of them.
+use Rattle.std.proofs.Common.{◌≡◌, ℕ, zero, suc, ◌+◌, ◌-◌, ◌<◌, ◌≤◌, Bool, true, false, cond, ltb, leb, List, [], ◌∷◌, ◌++◌, length, get_or, drop, min, Option, Some, None, refl, sym, ap, subst, ◌∙◌, append_assoc, arith, inl, inr}
+use Rattle.std.specs.Prelude.{slice_get, sum_by}
+use Rattle.std.specs.List.{flat_map, range_with_len}
+use Rattle.std.proofs.lemmas.Bool.{leb-true, leb-false, le-leb, ltb-true, lt-ltb, cases_lt}
+use Rattle.std.proofs.lemmas.Bool.Decides.{nat_tests}
+use Rattle.std.proofs.lemmas.List.{at_drop_more, drop_all}
+use Rattle.std.proofs.lemmas.List.Sums.{get_or-le-sum_by, sum_by-cons}
+use Rattle.std.proofs.lemmas.Option.{slice_get-get_or, slice_get_past}
+use Rattle.gh_base.specs.declared.operation.Op.{Op}
+use Rattle.gh_base.specs.declared.operation.Op.TheVariants as op
+use Rattle.gh_base.specs.Packing.{bit}
+use Rattle.gh_script.specs.declared.statement.Stmt.{Stmt}
+use Rattle.gh_script.specs.declared.statement.Stmt.TheVariants as stmts
+use Rattle.gh_script.specs.Program.{Program, no_goroutine, statements_of, statements_in, op_of}
+use Rattle.gh_world.specs.declared.turns.Next.{Next}
+use Rattle.gh_world.specs.declared.turns.Next.TheVariants as next
+use Rattle.gh_world.specs.Turns.{count_of, total_of, turn_of, round_of, work_at, work_of, turns_of, later, to_come, is_statement, goroutine_at, statements_among, Stands, IsPast, MayBeOver, Follows, op_due, is_over, is_leave}
+
+-- ---- statements
+
+pub statement_is : (g : ℕ) (s : Stmt) → is_statement (op_of g s) ≡ true
+statement_is g (stmts.New d t) = refl
+statement_is g (stmts.Load d b k) = refl
+statement_is g (stmts.Store b k v) = refl
+statement_is g (stmts.GetGlobal d k) = refl
+statement_is g (stmts.SetGlobal k v) = refl
+statement_is g (stmts.Int d n) = refl
+statement_is g (stmts.Move d s) = refl
+statement_is g (stmts.Nil d) = refl
+statement_is g stmts.Gc = refl
+
+pub goroutine_is : (g : ℕ) (s : Stmt) → goroutine_at (op_of g s) ≡ g
+goroutine_is g (stmts.New d t) = refl
+goroutine_is g (stmts.Load d b k) = refl
+goroutine_is g (stmts.Store b k v) = refl
+goroutine_is g (stmts.GetGlobal d k) = refl
+goroutine_is g (stmts.SetGlobal k v) = refl
+goroutine_is g (stmts.Int d n) = refl
+goroutine_is g (stmts.Move d s) = refl
+goroutine_is g (stmts.Nil d) = refl
+goroutine_is g stmts.Gc = refl
+
+pub statement_no_leave : (g : ℕ) (s : Stmt) → is_leave (op_of g s) ≡ false
+statement_no_leave g (stmts.New d t) = refl
+statement_no_leave g (stmts.Load d b k) = refl
+statement_no_leave g (stmts.Store b k v) = refl
+statement_no_leave g (stmts.GetGlobal d k) = refl
+statement_no_leave g (stmts.SetGlobal k v) = refl
+statement_no_leave g (stmts.Int d n) = refl
+statement_no_leave g (stmts.Move d s) = refl
+statement_no_leave g (stmts.Nil d) = refl
+statement_no_leave g stmts.Gc = refl
+
+no_end : (g h : ℕ) (s : Stmt) → op_of g s ≡ op.End h → ⊥
+no_end g h (stmts.New d t) e = absurd cc
+no_end g h (stmts.Load d b k) e = absurd cc
+no_end g h (stmts.Store b k v) e = absurd cc
+no_end g h (stmts.GetGlobal d k) e = absurd cc
+no_end g h (stmts.SetGlobal k v) e = absurd cc
+no_end g h (stmts.Int d n) e = absurd cc
+no_end g h (stmts.Move d s) e = absurd cc
+no_end g h (stmts.Nil d) e = absurd cc
+no_end g h stmts.Gc e = absurd cc
+
+pub work_no_leave : (g : ℕ) (s : Option Stmt) → is_leave (work_at g s) ≡ false
+work_no_leave g None = refl
+work_no_leave g (Some s) = statement_no_leave g s
+
+-- ---- the turns of a round, from a goroutine on
+
+module _ (p : Program) (r : ℕ) where
+  abbrev pub turns_from : ℕ → List Op
+  turns_from g = flat_map (turn_of p r) (range_with_len g (length p.goroutines - g))
+
+  pub none_from : (g : ℕ) → length p.goroutines ≤ g → turns_from g ≡ []
+  none_from g h = let none : length p.goroutines - g ≡ 0 = omega arith in rw none refl
+
+  one_more : (g : ℕ) → g < length p.goroutines → turns_from g ≡ turn_of p r g ++ turns_from (g + 1)
+  one_more g h = let more : length p.goroutines - g ≡ suc (length p.goroutines - (g + 1)) = omega arith in rw more refl
+
+  pub passed : (g : ℕ) → g < length p.goroutines → count_of p g < r → turns_from g ≡ turns_from (g + 1)
+  passed g h over = let none : leb r (count_of p g) ≡ false = grind (arith, nat_tests) in one_more g h ∙ rw none refl
+
+  pub has_one : (g : ℕ) → g < length p.goroutines → r ≤ count_of p g → turns_from g ≡ op.Poll ∷ work_of p r g ∷ turns_from (g + 1)
+  has_one g h live = let one : leb r (count_of p g) ≡ true = le-leb r (count_of p g) live in one_more g h ∙ rw one refl
+
+  -- where no turn stands, every goroutine has ended
+  not_cons : (x y : Op) (xs : List Op) → x ∷ y ∷ xs ≡ [] → ⊥
+  not_cons x y xs e = absurd cc
+
+  past_here : (n g : ℕ) (b : Bool) → leb r (count_of p g) ≡ b → cond b (op.Poll ∷ work_of p r g ∷ []) [] ++ flat_map (turn_of p r) (range_with_len (g + 1) n) ≡ [] → (h : ℕ) → g ≤ h → h < length p.goroutines
+      → (flat_map (turn_of p r) (range_with_len (g + 1) n) ≡ [] → g + 1 ≤ h → count_of p h < r) → count_of p h < r
+  past_here n g true t q h le lt ih = absurd (not_cons op.Poll (work_of p r g) _ q)
+  past_here n g false t q h le lt ih = elim (cases_lt g h) [
+    | inl more ↦ ih q (omega arith)
+    | inr here ↦ let same : h ≡ g = omega arith in rw same (leb-false r (count_of p g) t)
+  ]
+
+  pub all_past : (n g : ℕ) → g + n ≡ length p.goroutines → flat_map (turn_of p r) (range_with_len g n) ≡ [] → (h : ℕ) → g ≤ h → h < length p.goroutines → count_of p h < r
+  all_past zero g e none h le lt = absurd (omega arith)
+  all_past (suc n) g e none h le lt = past_here n g (leb r (count_of p g)) refl none h le lt (λ q more. all_past n (g + 1) (omega arith) q h more lt)
+
+  -- a round in which every goroutine has ended has no turn
+  no_turns : ((h : ℕ) → h < length p.goroutines → count_of p h < r) → (n g : ℕ) → g + n ≡ length p.goroutines → flat_map (turn_of p r) (range_with_len g n) ≡ []
+  no_turns past zero g e = refl
+  no_turns past (suc n) g e =
+      let none : leb r (count_of p g) ≡ false = let h = past g (omega arith) in grind (arith, nat_tests) in
+      rw none (no_turns past n (g + 1) (omega arith))
+
+module _ (p : Program) where
+  pub count-le : (g : ℕ) → g < length p.goroutines → count_of p g ≤ total_of p
+  count-le g h = get_or-le-sum_by statements_in p.goroutines g no_goroutine h
+
+  -- when every goroutine has ended, no round follows
+  no_rounds : (n r : ℕ) → ((h : ℕ) → h < length p.goroutines → count_of p h < r) → flat_map (round_of p) (range_with_len r n) ≡ []
+  no_rounds zero r past = refl
+  no_rounds (suc n) r past =
+      let here : round_of p r ≡ [] = no_turns p r past (length p.goroutines) 0 (omega arith) in
+      rw here (no_rounds n (r + 1) (λ h lt. let q = past h lt in omega arith))
+
+  -- the first turn in the round
+  pub later_here : (r g h : ℕ) → turns_from p r g ≡ op.Poll ∷ work_of p r h ∷ turns_from p r (h + 1) → to_come p (next.Poll r h) ≡ later p r g
+  later_here r g h e = sym (ap (λ (xs : List Op). xs ++ (flat_map (round_of p) (range_with_len (r + 1) (total_of p - r)) ++ op.Leave ∷ [])) e)
+
+  -- none in the round: the next one
+  later_next : (r g : ℕ) → r < total_of p → turns_from p r g ≡ [] → later p r g ≡ later p (r + 1) 0
+  later_next r g lt e =
+      let more : total_of p - r ≡ suc (total_of p - (r + 1)) = omega arith in
+      let whole : length p.goroutines - 0 ≡ length p.goroutines = omega arith in
+      ap (λ (xs : List Op). xs ++ (flat_map (round_of p) (range_with_len (r + 1) (total_of p - r)) ++ op.Leave ∷ [])) e
+      ∙ rw (more, whole) (append_assoc (round_of p (r + 1)) (flat_map (round_of p) (range_with_len ((r + 1) + 1) (total_of p - (r + 1)))) (op.Leave ∷ []))
+
+  pub later_after : (r g h : ℕ) → r < total_of p → turns_from p r g ≡ [] → turns_from p (r + 1) 0 ≡ op.Poll ∷ work_of p (r + 1) h ∷ turns_from p (r + 1) (h + 1) → to_come p (next.Poll (r + 1) h) ≡ later p r g
+  later_after r g h lt none e = later_here (r + 1) 0 h e ∙ sym (later_next r g lt none)
+
+  pub later_none : (r g : ℕ) → turns_from p r g ≡ [] → turns_from p (r + 1) 0 ≡ [] → to_come p next.Leave ≡ later p r g
+  later_none r g none e =
+      let whole : length p.goroutines - 0 ≡ length p.goroutines = omega arith in
+      let past : (h : ℕ) → h < length p.goroutines → count_of p h < r + 1 = λ h lt. all_past p (r + 1) (length p.goroutines) 0 (omega arith) (subst (λ (n : ℕ). flat_map (turn_of p (r + 1)) (range_with_len 0 n) ≡ []) whole e) h (omega arith) lt in
+      let rest : flat_map (round_of p) (range_with_len (r + 1) (total_of p - r)) ≡ [] = no_rounds (total_of p - r) (r + 1) past in
+      rw (none, rest) refl
+
+  pub opens_at : turns_of p ≡ later p 0 0
+  unfolding turns_of
+  opens_at =
+      let whole : length p.goroutines - 0 ≡ length p.goroutines = omega arith in
+      let all : total_of p - 0 ≡ total_of p = omega arith in
+      let more : total_of p + 1 ≡ suc (total_of p) = omega arith in
+      rw (whole, all, more) (append_assoc (round_of p 0) (flat_map (round_of p) (range_with_len (0 + 1) (total_of p))) (op.Leave ∷ []))
+
+  -- ---- a goroutine is over once its last turn is
+
+  past_more : (r g h k : ℕ) → g ≤ h → IsPast p r g k → IsPast p r h k
+  past_more r g h k le past = go (ltb k g) (ltb k h) refl refl past where
+    go : (a b : Bool) → ltb k g ≡ a → ltb k h ≡ b → count_of p k < r + bit a → count_of p k < r + bit b
+    go true true e f q = q
+    go true false e f q = absurd (let lt = ltb-true k g e in let t = lt-ltb k h (omega arith) in cc)
+    go false true e f q = omega arith
+    go false false e f q = q
+
+  past_round : (r g h k : ℕ) → IsPast p r g k → IsPast p (r + 1) h k
+  past_round r g h k past = go (ltb k g) (ltb k h) past where
+    go : (a b : Bool) → count_of p k < r + bit a → count_of p k < (r + 1) + bit b
+    go true true q = omega arith
+    go true false q = omega arith
+    go false true q = omega arith
+    go false false q = omega arith
+
+  pub over_here : (r g h k : ℕ) → g ≤ h → IsPast p r g k → MayBeOver p (next.Poll r h) k
+  over_here r g h k le past = past_more r g h k le past
+
+  pub over_next : (r g h k : ℕ) → IsPast p r g k → MayBeOver p (next.Poll (r + 1) h) k
+  over_next r g h k past = past_round r g h k past
+
+  pub over_more : (r g k : ℕ) → IsPast p r g k → IsPast p r (g + 1) k
+  over_more r g k past = past_more r g (g + 1) k (omega arith) past
+
+  no_statement : (xs : List Stmt) (n : ℕ) → slice_get xs n ≡ None → length xs ≤ n
+  no_statement xs n e = elim (cases_lt n (length xs)) [
+    | inl lt ↦ absurd (let some = slice_get-get_or xs n stmts.Gc lt in cc)
+    | inr le ↦ le
+  ]
+
+  -- a goroutine that ends in its turn is over behind it
+  pub ends_over : (r g k : ℕ) → r ≤ count_of p g → work_of p r g ≡ op.End k → IsPast p r (g + 1) k
+  ends_over r g k stands e = go (slice_get (statements_of p g) r) refl e where
+    go : (s : Option Stmt) → slice_get (statements_of p g) r ≡ s → work_at g s ≡ op.End k → count_of p k < r + bit (ltb k (g + 1))
+    go None t q =
+        let same : g ≡ k = cc in
+        let none : count_of p g ≤ r = no_statement (statements_of p g) r t in
+        let lt : ltb k (g + 1) ≡ true = grind (arith, nat_tests) in
+        rw (lt, ← same) (omega arith)
+    go (Some s) t q = absurd (no_end g k s q)
+
+  -- ---- the statements among the turns are those of the script
+
+  among_append : (xs ys : List Op) → statements_among (xs ++ ys) ≡ statements_among xs + statements_among ys
+  among_append [] ys = omega arith
+  among_append (x ∷ xs) ys = let ih = among_append xs ys in omega (arith, ih)
+
+  -- so many statements of the goroutines from g on stand before round r
+  before_round : ℕ → (g n : ℕ) → ℕ
+  before_round r g zero = 0
+  before_round r g (suc n) = min (count_of p g) r + before_round r (g + 1) n
+
+  before_none : (g n : ℕ) → before_round 0 g n ≡ 0
+  unfolding before_round
+  before_none g zero = refl
+  before_none g (suc n) = let ih = before_none (g + 1) n in omega (arith, ih)
+
+  pub has_statement : (xs : List Stmt) (n : ℕ) (s : Stmt) → slice_get xs n ≡ Some s → n < length xs
+  has_statement xs n s e = elim (cases_lt n (length xs)) [
+    | inl lt ↦ lt
+    | inr le ↦ absurd (let none = slice_get_past xs n le in cc)
+  ]
+
+  one_turn : (r g : ℕ) → min (count_of p g) r + statements_among (turn_of p r g) ≡ min (count_of p g) (r + 1)
+  one_turn r g = go (leb r (count_of p g)) (slice_get (statements_of p g) r) refl refl where
+    go : (b : Bool) (s : Option Stmt) → leb r (count_of p g) ≡ b → slice_get (statements_of p g) r ≡ s → min (count_of p g) r + statements_among (cond b (op.Poll ∷ work_at g s ∷ []) []) ≡ min (count_of p g) (r + 1)
+    go false s e t = let past = leb-false r (count_of p g) e in omega arith
+    go true None e t = let live = leb-true r (count_of p g) e in let none = no_statement (statements_of p g) r t in omega arith
+    go true (Some s) e t =
+        let lt : r < count_of p g = has_statement (statements_of p g) r s t in
+        let one : bit (is_statement (op_of g s)) ≡ 1 = ap bit (statement_is g s) in
+        omega (arith, one, lt)
+
+  one_round : (r n g : ℕ) → before_round r g n + statements_among (flat_map (turn_of p r) (range_with_len g n)) ≡ before_round (r + 1) g n
+  unfolding before_round
+  one_round r zero g = refl
+  one_round r (suc n) g =
+      let here = one_turn r g in
+      let rest = one_round r n (g + 1) in
+      let both = among_append (turn_of p r g) (flat_map (turn_of p r) (range_with_len (g + 1) n)) in
+      omega (arith, here, rest, both)
+
+  rounds_say : (n r : ℕ) → before_round r 0 (length p.goroutines) + statements_among (flat_map (round_of p) (range_with_len r n)) ≡ before_round (r + n) 0 (length p.goroutines)
+  rounds_say zero r = let same : r + 0 ≡ r = omega arith in rw same (omega arith)
+  rounds_say (suc n) r =
+      let here = one_round r (length p.goroutines) 0 in
+      let rest = rounds_say n (r + 1) in
+      let both = among_append (round_of p r) (flat_map (round_of p) (range_with_len (r + 1) n)) in
+      let same : r + suc n ≡ (r + 1) + n = omega arith in
+      rw same (omega (arith, here, rest, both))
+
+  all_before : (n g : ℕ) → g + n ≡ length p.goroutines → before_round (total_of p + 1) g n ≡ sum_by statements_in (drop g p.goroutines)
+  unfolding before_round
+  all_before zero g e = sym (ap (sum_by statements_in) (drop_all g p.goroutines (omega arith)))
+  all_before (suc n) g e =
+      let few = count-le g (omega arith) in
+      let whole : min (count_of p g) (total_of p + 1) ≡ count_of p g = omega arith in
+      let ih = all_before n (g + 1) (omega arith) in
+      let more = at_drop_more (sum_by statements_in) p.goroutines g no_goroutine (omega arith) in
+      let head = sum_by-cons statements_in (get_or p.goroutines g no_goroutine) (drop (g + 1) p.goroutines) in
+      omega (arith, whole, ih, more, head)
+
+  pub turns_say : statements_among (turns_of p) ≡ total_of p
+  unfolding turns_of
+  turns_say =
+      let rounds = rounds_say (total_of p + 1) 0 in
+      let none = before_none 0 (length p.goroutines) in
+      let all : before_round (total_of p + 1) 0 (length p.goroutines) ≡ total_of p = all_before (length p.goroutines) 0 (omega arith) in
+      let same : 0 + (total_of p + 1) ≡ total_of p + 1 = omega arith in
+      let both = among_append (flat_map (round_of p) (range_with_len 0 (total_of p + 1))) (op.Leave ∷ []) in
+      omega (arith, rw same at rounds, none, all, both)
+
+  -- the turn behind a statement, or behind a goroutine's end
+  pub follows_run : (before : Next) (r g : ℕ) (o : Op) (new : Next) → before ≡ next.Run r g → Stands p before → op_due p before ≡ Some o → to_come p new ≡ later p r (g + 1) → Stands p new → ((h : ℕ) → IsPast p r (g + 1) h → MayBeOver p new h) → is_over new ≡ false → Follows p before o new
+  follows_run before r g o new is stands due come stood over going =
+      subst (λ (b : Next). Follows p b o new) (sym is) (go (subst (Stands p) is stands) (subst (λ (b : Next). op_due p b ≡ Some o) is due)) where
+        go : Stands p (next.Run r g) → Some (work_of p r g) ≡ Some o → Follows p (next.Run r g) o new
+        go here e =
+            let same : work_of p r g ≡ o = cc in
+            record {
+              come = ap (λ (x : Op). x ∷ later p r (g + 1)) same ∙ ap (λ (xs : List Op). o ∷ xs) (sym come);
+              stands = stood;
+              over = λ h past. over h (over_more r g h past);
+              ends = λ h ended. over h (ends_over r g h here.1 (same ∙ ended));
+              leaves = going ∙ sym (ap is_leave (sym same) ∙ work_no_leave g (slice_get (statements_of p g) r));
+            }

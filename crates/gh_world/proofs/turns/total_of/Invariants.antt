@@ -1,0 +1,10 @@
+use Rattle.std.proofs.Common.{◌≡◌, ◌≤◌, length, take}
+use Rattle.std.specs.List.{sum_by}
+use Rattle.gh_script.specs.Program.{statements_in}
+use Rattle.gh_world.proofs.turns.total_of.Given as goal
+
+abbrev pub invariant-loop-g : goal.invariant-loop-g
+invariant-loop-g l = record {
+  within : l.g ≤ length l.script.goroutines;
+  so_far : l.total ≡ sum_by statements_in (take l.g l.script.goroutines);
+}

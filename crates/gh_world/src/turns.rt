@@ -1,0 +1,132 @@
+//! The turns of the processor: round after round each goroutine that has not ended polls, and then
+//! runs its next statement, or ends where it has none left. At last the processor leaves.
+
+ghost use Rattle.std.specs.Prelude.{◌≡◌, ℕ, ◌+◌, ◌-◌, ◌^◌, ◌<◌, ◌≤◌, [], ◌∷◌, length, false, IfSome, Some, None, MatchOption};
+ghost use Rattle.std.specs.List.{flat_map, range_with_len};
+ghost use Rattle.gh_base.specs.declared.operation.Op.{Op};
+ghost use Rattle.gh_base.specs.declared.operation.Op.TheVariants as ops;
+ghost use Rattle.gh_script.specs.Program.{op_of};
+ghost use Rattle.gh_world.specs.Turns.{count_of, later, op_due, to_come, total_of, turn_of, work_of, is_over, Follows, IsPast, MayBeOver, Stands};
+
+use gh_base::Op;
+use gh_script::{Script, Stmt};
+
+/// What the processor begins next.
+#[derive(Clone, Copy, Debug, PartialEq, Eq)]
+pub enum Next {
+    /// The poll of goroutine `g` in a round, from 0.
+    Poll { round: u32, g: u32 },
+    /// The statement of goroutine `g` in a round, or its end.
+    Run { round: u32, g: u32 },
+    /// Its leave.
+    Leave,
+    /// Nothing.
+    Over,
+}
+
+/// A statement as an operation of its goroutine.
+fn op_of(g: u32, statement: Stmt) -> Op
+    ensures { result ≡ op_of g statement }
+{
+    match statement {
+        Stmt::New { d, t } => Op::New { g, d, t },
+        Stmt::Load { d, b, k } => Op::Load { g, d, b, k },
+        Stmt::Store { b, k, v } => Op::Store { g, b, k, v },
+        Stmt::GetGlobal { d, k } => Op::GetGlobal { g, d, k },
+        Stmt::SetGlobal { k, v } => Op::SetGlobal { g, k, v },
+        Stmt::Int { d, n } => Op::Int { g, d, n },
+        Stmt::Move { d, s } => Op::Move { g, d, s },
+        Stmt::Nil { d } => Op::Nil { g, d },
+        Stmt::Gc => Op::Gc { g },
+    }
+}
+
+/// What goroutine `g` does in the round: its next statement, or it ends.
+fn work_of(script: &Script, round: u32, g: u32) -> Op
+    requires goroutine { g < length script.now.goroutines }
+    requires fits { round + 1 < 2 ^ 32 }
+    ensures { result ≡ work_of script.now round g }
+{
+    match script.statement(g, round + 1) {
+        Some(statement) => op_of(g, statement),
+        None => Op::End(g),
+    }
+}
+
+/// The first goroutine from `g` on that has a turn in the round.
+fn first_turn(script: &Script, round: u32, g: u32) -> Option<u32>
+    requires { g ≤ length script.now.goroutines }
+    ensures stands { IfSome result (λ h. (g ≤ h) × (h < length script.now.goroutines) × (round ≤ count_of script.now h)) }
+    ensures turns { MatchOption result
+        (flat_map (turn_of script.now round) (range_with_len g (length script.now.goroutines - g)) ≡ [])
+        (λ h. flat_map (turn_of script.now round) (range_with_len g (length script.now.goroutines - g)) ≡
+        ops.Poll ∷ work_of script.now round h ∷ flat_map (turn_of script.now round) (range_with_len (h + 1) (length script.now.goroutines - (h + 1)))) }
+{
+    for h in g..script.goroutines() {
+        if round <= script.count(h) {
+            return Some(h);
+        }
+    }
+    None
+}
+
+/// The first turn from that of goroutine `g` in the round on.
+pub fn next_turn(script: &Script, round: u32, g: u32) -> Next
+    requires goroutine { g ≤ length script.now.goroutines }
+    requires round { round ≤ total_of script.now }
+    requires fits { round + 1 < 2 ^ 32 }
+    ensures come { to_come script.now result ≡ later script.now round g }
+    ensures stands { Stands script.now result }
+    ensures over { (h : ℕ) → IsPast script.now round g h → MayBeOver script.now result h }
+    ensures going { is_over result ≡ false }
+{
+    if let Some(g) = first_turn(script, round, g) {
+        return Next::Poll { round, g };
+    }
+    match first_turn(script, round + 1, 0) {
+        Some(g) => Next::Poll {
+            round: round + 1,
+            g,
+        },
+        None => Next::Leave,
+    }
+}
+
+/// What the processor begins next.
+pub fn due(script: &Script, next: Next) -> Option<Op>
+    requires { Stands script.now next }
+    ensures { result ≡ op_due script.now next }
+{
+    script.is_well_formed();
+    match next {
+        Next::Poll { .. } => Some(Op::Poll),
+        Next::Run { round, g } => Some(work_of(script, round, g)),
+        Next::Leave => Some(Op::Leave),
+        Next::Over => None,
+    }
+}
+
+/// The turn behind this one.
+pub fn following(script: &Script, next: Next) -> Next
+    requires { Stands script.now next }
+    ensures { (o : Op) → op_due script.now next ≡ Some o → Follows script.now next o result }
+{
+    script.is_well_formed();
+    match next {
+        Next::Poll { round, g } => Next::Run { round, g },
+        Next::Run { round, g } => next_turn(script, round, g + 1),
+        Next::Leave | Next::Over => Next::Over,
+    }
+}
+
+/// How many statements the goroutines of the script have, all together.
+pub fn total_of(script: &Script) -> usize
+    ensures { result ≡ total_of script.now }
+{
+    script.is_well_formed();
+    let mut total = 0;
+    for g in 0..script.goroutines() {
+        total += script.count(g) as usize;
+    }
+    total
+}
