@@ -1,0 +1,9 @@
+pub mod Ends
+pub mod Finding
+pub mod Locking
+pub mod Making
+pub mod Placing
+pub mod PlacingEnds
+pub mod PlacingSound
+pub mod Refusing
+pub mod Sound

@@ -1,0 +1,40 @@
+-- What the search knows of its own numbers, whatever it is told.
+use Rattle.std.specs.Prelude.{◌≡◌, ℕ, ◌+◌, ◌^◌, ◌<◌, ◌≤◌, Option, Some}
+use Rattle.gh_base.specs.declared.layout.Layout.{Layout}
+use Rattle.gh_base.specs.Cells.{seats_of}
+use Rattle.gh_class.specs.Classes.{pages_of, slots_of}
+use Rattle.gh_alloc.specs.declared.find.CachedSpan.{CachedSpan}
+use Rattle.gh_alloc.specs.declared.find.FindPoint.{FindPoint}
+use Rattle.gh_alloc.specs.declared.find.FindPoint.TheVariants.{Slots, Give, Pass, Carve}
+use Rattle.gh_alloc.specs.declared.find.Sought.{Sought}
+use Rattle.gh_alloc.specs.declared.find.Sought.TheVariants.{Small, Large}
+use Rattle.gh_alloc.specs.Finding.{Finding, span_for}
+
+-- a size class that there is, or 1 to 64 pages
+abbrev pub IsSought : Sought → Type 0
+IsSought (Small c) = c.class < 25
+IsSought (Large pages noscan) = (1 ≤ pages) × (pages ≤ 64)
+
+-- the pages of a span of the class lie in the arena, and the cursor is that of a slot, or the number of slots
+pub record IsCachedSpan (l : Layout) (class : ℕ) (s : CachedSpan) : Type 0 where
+  pub pages : s.head + pages_of class ≤ l.pages
+  pub cursor : s.cursor ≤ slots_of class
+
+abbrev pub IsCached : Layout → Sought → Option CachedSpan → Type 0
+IsCached l (Small c) (Some s) = IsCachedSpan l c.class s
+IsCached l _ _ = Unit {0}
+
+-- the routine that it runs is of the same heap, and the cached span that is searched is of the class
+abbrev pub IsPoint : Layout → Sought → FindPoint → Type 0
+IsPoint l wanted (Slots s) = (s.layout ≡ l) × (s.span.class ≡ (span_for wanted).class)
+IsPoint l wanted (Give g) = g.layout ≡ l
+IsPoint l wanted (Pass p) = p.layout ≡ l
+IsPoint l wanted (Carve c) = c.layout ≡ l
+IsPoint l wanted _ = Unit {0}
+
+pub record Sound (f : Finding) : Type 0 where
+  pub seat : f.seat < seats_of f.layout
+  pub generation : f.generation < 2 ^ 34
+  pub wanted : IsSought f.wanted
+  pub cached : IsCached f.layout f.wanted f.cached
+  pub point : IsPoint f.layout f.wanted f.point
