@@ -1,23 +1,8 @@
 #!/usr/bin/env bash
-# Times `goheap replay` on texts of 4,194,304 bytes that are read, parsed and refused, or have few statements: comments, blanks,
-# and one type of 65,536 fields a line. It prints bytes a second, the best of five runs, and the time of an empty text.
+# Times `goheap replay` on texts of about 4 MiB: comments, blanks, one line, 190,000 statements, and 64 types of 65,000 fields. It
+# prints bytes a second, the best of five runs (bench/parse.sh 9: of nine), and the time of an empty text.
 set -eu
-here=$(cd "$(dirname "$0")/.." && pwd)
-runs=${1:-5}
-work=$(mktemp -d)
-trap 'rm -rf "$work"' EXIT
-
-best() {
-  local least=0
-  for _ in $(seq "$runs"); do
-    local begun took
-    begun=$(date +%s%N)
-    "$here/goheap.sh" replay <"$1" >"$work/out" || true
-    took=$(($(date +%s%N) - begun))
-    if [ "$least" -eq 0 ] || [ "$took" -lt "$least" ]; then least=$took; fi
-  done
-  echo "$least"
-}
+. "$(dirname "$0")/timing.sh"
 
 : >"$work/empty"
 "$here/goheap.sh" replay <"$work/empty" >"$work/out" || true

@@ -4,10 +4,7 @@
 # time grows in proportion to the statements. The time of a script without statements is taken off each; each time is the best of
 # five runs (bench/replay.sh 9: of nine).
 set -eu
-here=$(cd "$(dirname "$0")/.." && pwd)
-runs=${1:-5}
-work=$(mktemp -d)
-trap 'rm -rf "$work"' EXIT
+. "$(dirname "$0")/timing.sh"
 
 # A script of so many statements.
 script() {
@@ -17,19 +14,6 @@ script() {
     for (i = 0; i < n; i++) print row[i % 4 + 1]
   }'
   printf 'end\n'
-}
-
-# The nanoseconds of the fastest run.
-best() {
-  local least=0
-  for _ in $(seq "$runs"); do
-    local begun took
-    begun=$(date +%s%N)
-    "$here/goheap.sh" replay <"$1" >"$work/out"
-    took=$(($(date +%s%N) - begun))
-    if [ "$least" -eq 0 ] || [ "$took" -lt "$least" ]; then least=$took; fi
-  done
-  echo "$least"
 }
 
 script 0 >"$work/empty"
