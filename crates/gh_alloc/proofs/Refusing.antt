@@ -1,5 +1,5 @@
 -- The search says that there is no room only where it has found neither a swept span nor fresh pages.
-use Rattle.std.proofs.Common.{◌≡◌, ℕ, zero, suc, ◌+◌, ◌≤◌, ◌⊎◌, inl, inr, Bool, true, false, cond, nat_eq, nat_lt, Option, Some, None, refl, sym, ap, subst, ◌∙◌, arith}
+use Rattle.std.proofs.Common.{◌≡◌, ℕ, zero, suc, ◌+◌, ◌≤◌, ◌⊎◌, ◌↔◌, IsTrue, inl, inr, Bool, true, false, cond, nat_eq, nat_lt, Option, Some, None, refl, sym, ap, subst, ◌∙◌, arith}
 use Rattle.std.proofs.lemmas.Bool.{cases_order, eqb-true}
 use Rattle.gh_base.specs.declared.cell.Cell.TheVariants as cell
 use Rattle.gh_base.specs.declared.cell.Ask.TheVariants.{Swap}
@@ -20,9 +20,46 @@ use Rattle.gh_alloc.specs.declared.find.FindPoint.TheVariants.{Slots, Lock, Give
 use Rattle.gh_alloc.specs.declared.find.Found.TheVariants.{At, NoRoom}
 use Rattle.gh_alloc.specs.declared.find.Sought.{Sought}
 use Rattle.gh_alloc.specs.declared.find.Sought.TheVariants.{Small, Large}
-use Rattle.gh_alloc.specs.Finding.{Finding, after_carve, after_give, after_pass, after_slots, asks, asks_at, at_point, begin, carving, ended, gives, gives_at, given_head, goes_at, locked_for, opening, searched, slot_found, span_for, spans_for, taken_for, unlocked}
+use Rattle.gh_alloc.specs.Finding.{Finding, after_carve, after_give, after_pass, after_slots, asks, asks_at, at_point, begin, carving, ended, gives, gives_at, given_head, goes_at, locked_for, opening, refuses, refuses_at, searched, slot_found, span_for, spans_for, taken_for, unlocked}
 use Rattle.gh_alloc.specs.Locking.{told}
 use Rattle.gh_alloc.specs.Refusing.{HasFoundNone, LeadsTo, TakesLock, carve_after, pass_after}
+
+-- the step that gives no room is the one that refuses
+slot_is_room : (g : Finding) (out : Option (Option ℕ)) → slot_found g out ≡ Some NoRoom → ⊥
+slot_is_room g None e = cc
+slot_is_room g (Some None) e = cc
+slot_is_room g (Some (Some slot)) e = cc
+
+after_gives : (after : After) → IsTrue (refuses_at (Unlock after)) → ended after ≡ Some NoRoom
+after_gives Again h = absurd (cc)
+after_gives (End (At x)) h = absurd (cc)
+after_gives (End NoRoom) h = refl
+
+after_refuses : (after : After) → ended after ≡ Some NoRoom → IsTrue (refuses_at (Unlock after))
+after_refuses Again e = absurd (cc)
+after_refuses (End (At x)) e = absurd (cc)
+after_refuses (End NoRoom) e = refl
+
+refusal_gives : (f : Finding) (p : FindPoint) (w : ℕ) → IsTrue (refuses_at p) → gives_at f p w ≡ Some NoRoom
+refusal_gives f (Slots s) w h = absurd (cc)
+refusal_gives f Lock w h = absurd (cc)
+refusal_gives f (Give x) w h = absurd (cc)
+refusal_gives f (Pass m) w h = absurd (cc)
+refusal_gives f (Carve c) w h = absurd (cc)
+refusal_gives f (Unlock after) w h = after_gives after h
+refusal_gives f Ended w h = absurd (cc)
+
+giver_refuses : (f : Finding) (p : FindPoint) (w : ℕ) → gives_at f p w ≡ Some NoRoom → IsTrue (refuses_at p)
+giver_refuses f (Slots s) w e = absurd (slot_is_room (searched f (slots.goes s w)) (slots.gives s w) e)
+giver_refuses f Lock w e = absurd (cc)
+giver_refuses f (Give x) w e = absurd (cc)
+giver_refuses f (Pass m) w e = absurd (cc)
+giver_refuses f (Carve c) w e = absurd (cc)
+giver_refuses f (Unlock after) w e = after_refuses after e
+giver_refuses f Ended w e = absurd (cc)
+
+pub refuses_exactly : (f : Finding) (b : Bool) → b ≡ refuses f → (w : ℕ) → IsTrue b ↔ (gives f w ≡ Some NoRoom)
+refuses_exactly f b is w = (λ h. refusal_gives f f.point w (sym is ∙ h), λ e. is ∙ giver_refuses f f.point w e)
 
 -- what stays
 record Base : Type 0 where
@@ -276,11 +313,6 @@ module _ (f : Finding) (found : ℕ → ℕ) where
   tracks : Track 0 f.point → (n : ℕ) → Tracks n
   tracks start zero = (f.point, refl, start)
   tracks start (suc n) = let t = tracks start n in step n t.0 t.1 t.2
-
-  slot_is_room : (g : Finding) (out : Option (Option ℕ)) → slot_found g out ≡ Some NoRoom → ⊥
-  slot_is_room g None e = cc
-  slot_is_room g (Some None) e = cc
-  slot_is_room g (Some (Some slot)) e = cc
 
   refused : (n : ℕ) (after : After) → ended after ≡ Some NoRoom → Refused n after → Refuses n
   refused n Again e t = absurd (cc)

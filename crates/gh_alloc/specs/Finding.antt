@@ -173,3 +173,11 @@ goes f found = goes_at f f.point found
 
 abbrev pub gives : Finding → ℕ → Option Found
 gives f found = gives_at f f.point found
+
+-- its next step ends it with no room
+abbrev pub refuses_at : FindPoint → Bool
+refuses_at (Unlock (End NoRoom)) = true
+refuses_at _ = false
+
+abbrev pub refuses : Finding → Bool
+refuses f = refuses_at f.point

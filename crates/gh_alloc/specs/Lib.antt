@@ -7,3 +7,4 @@ pub mod PlacingEnds
 pub mod PlacingSound
 pub mod Refusing
 pub mod Sound
+pub mod Within

@@ -3,12 +3,15 @@ use Rattle.std.specs.Prelude.{◌≡◌, ℕ, ◌+◌, ◌^◌, ◌<◌, ◌≤�
 use Rattle.gh_base.specs.declared.layout.Layout.{Layout}
 use Rattle.gh_base.specs.Cells.{seats_of}
 use Rattle.gh_class.specs.Classes.{pages_of, slots_of}
+use Rattle.gh_alloc.specs.declared.find.After.{After}
+use Rattle.gh_alloc.specs.declared.find.After.TheVariants.{Again, End}
 use Rattle.gh_alloc.specs.declared.find.CachedSpan.{CachedSpan}
 use Rattle.gh_alloc.specs.declared.find.FindPoint.{FindPoint}
-use Rattle.gh_alloc.specs.declared.find.FindPoint.TheVariants.{Slots, Give, Pass, Carve}
+use Rattle.gh_alloc.specs.declared.find.FindPoint.TheVariants.{Slots, Give, Pass, Carve, Unlock}
 use Rattle.gh_alloc.specs.declared.find.Sought.{Sought}
 use Rattle.gh_alloc.specs.declared.find.Sought.TheVariants.{Small, Large}
 use Rattle.gh_alloc.specs.Finding.{Finding, span_for}
+use Rattle.gh_alloc.specs.Within.{LiesWithin}
 
 -- a size class that there is, or 1 to 64 pages
 abbrev pub IsSought : Sought → Type 0
@@ -24,12 +27,18 @@ abbrev pub IsCached : Layout → Sought → Option CachedSpan → Type 0
 IsCached l (Small c) (Some s) = IsCachedSpan l c.class s
 IsCached l _ _ = Unit {0}
 
--- the routine that it runs is of the same heap, and the cached span that is searched is of the class
+-- the slot that it ends with, if it ends, lies in the arena
+abbrev pub IsAfter : Layout → Sought → After → Type 0
+IsAfter l wanted Again = Unit {0}
+IsAfter l wanted (End out) = LiesWithin l wanted out
+
+-- the routine that it runs is of the same heap and for what is wanted
 abbrev pub IsPoint : Layout → Sought → FindPoint → Type 0
 IsPoint l wanted (Slots s) = (s.layout ≡ l) × (s.span.class ≡ (span_for wanted).class)
 IsPoint l wanted (Give g) = g.layout ≡ l
-IsPoint l wanted (Pass p) = p.layout ≡ l
-IsPoint l wanted (Carve c) = c.layout ≡ l
+IsPoint l wanted (Pass p) = (p.layout ≡ l) × (wanted ≡ Small p.wanted)
+IsPoint l wanted (Carve c) = (c.layout ≡ l) × (c.span ≡ span_for wanted)
+IsPoint l wanted (Unlock after) = IsAfter l wanted after
 IsPoint l wanted _ = Unit {0}
 
 pub record Sound (f : Finding) : Type 0 where

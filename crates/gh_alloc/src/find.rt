@@ -1,14 +1,16 @@
 //! The routine that looks for a slot for an object.
 
-ghost use Rattle.std.specs.Prelude.{◌≡◌, ◌+◌, ◌*◌, ◌^◌, ◌<◌, ◌≤◌, Option};
+ghost use Rattle.std.specs.Prelude.{◌≡◌, ℕ, ◌+◌, ◌*◌, ◌^◌, ◌<◌, ◌≤◌, ◌↔◌, IfSome, IsTrue, Option, true};
 ghost use Rattle.gh_base.specs.Cells.{seats_of};
 ghost use Rattle.gh_central.specs.Giving.{giving};
 ghost use Rattle.gh_alloc.specs.declared.find.FindPoint.TheVariants.{Give};
-ghost use Rattle.gh_alloc.specs.Finding.{after_carve, after_give, after_pass, after_slots, begin, carving, ended, first_page, given_head, locked_for, move_cursor, opening, search_in, slot_found, span_at, span_for, spans_for, taken, unlocked, word_at_cursor};
+ghost use Rattle.gh_alloc.specs.declared.find.Found.TheVariants.{NoRoom};
+ghost use Rattle.gh_alloc.specs.Finding.{after_carve, after_give, after_pass, after_slots, begin, carving, ended, first_page, given_head, gives, goes, is_busy, locked_for, move_cursor, opening, refuses, search_in, slot_found, span_at, span_for, spans_for, taken, unlocked, word_at_cursor};
 ghost use Rattle.gh_class.specs.Classes.{pages_of, slots_of};
 ghost use Rattle.gh_cache.specs.Listing.{slot_at};
 ghost use Rattle.gh_pages.specs.Sound.{IsSpan};
 ghost use Rattle.gh_alloc.specs.Sound.{IsCached, IsCachedSpan, IsSought};
+ghost use Rattle.gh_alloc.specs.Within.{FitsFrom, FitsGiven, LiesWithin};
 
 use gh_base::{Ask, Cell, LARGE, Layout, Machine, Req, SpanHead};
 use gh_cache::{Cached, NextSlot};
@@ -150,11 +152,20 @@ impl Find {
         }
     }
 
-    /// The span that is cached now, with its cursor.
+    /// The span that is cached now, with its cursor: it lies in the arena.
     pub fn cached(&self) -> Option<CachedSpan>
-        ensures { result ≡ self.now.cached }
+        ensures is { result ≡ self.now.cached }
+        ensures within { IsCached self.now.layout self.now.wanted result }
     {
         self.cached
+    }
+
+    /// The next step ends the search with `NoRoom`.
+    pub fn refuses(&self) -> bool
+        ensures is { result ≡ refuses self.now }
+        ensures exactly { (found : ℕ) → IsTrue result ↔ (gives self.now found ≡ Some NoRoom) }
+    {
+        matches!(self.point, FindPoint::Unlock(After::End(Found::NoRoom)))
     }
 }
 
@@ -305,6 +316,7 @@ impl Find {
 
     /// It goes on with the span from this page on.
     fn take_span(&mut self, page: u32)
+        requires { FitsFrom self.old.layout self.old.wanted page }
         ensures { self.new ≡ taken self.old page }
     {
         match self.wanted {
@@ -322,6 +334,7 @@ impl Find {
 
     /// Goes on after a step of the pass.
     fn after_pass(&mut self, out: Option<Option<u32>>)
+        requires { FitsGiven self.old.layout self.old.wanted out }
         ensures { self.new ≡ after_pass self.old out }
     {
         match out {
@@ -333,6 +346,7 @@ impl Find {
 
     /// Goes on after a step of the search for pages.
     fn after_carve(&mut self, out: Option<Option<u32>>)
+        requires { FitsGiven self.old.layout self.old.wanted out }
         ensures { self.new ≡ after_carve self.old out }
     {
         match out {
@@ -439,7 +453,13 @@ impl Machine for Find {
         }
     }
 
-    fn take(&mut self, found: u64) -> Option<Found> {
+    fn take(&mut self, found: u64) -> Option<Found>
+        requires { is_busy self.old.point ≡ true }
+        ensures state { self.new ≡ goes self.old found }
+        ensures out { result ≡ gives self.old found }
+        ensures within { IfSome result (LiesWithin self.old.layout self.old.wanted) }
+    {
+        size_class_laws();
         match &mut self.point {
             FindPoint::Slots(search) => {
                 let out = search.take(found);

@@ -87,6 +87,22 @@ impl<'s> Place<'s> {
         }
     }
 
+    /// The first heap word of the slot.
+    pub fn word(&self) -> u32
+        ensures is { result ≡ self.now.at }
+        ensures within { result + self.now.slot ≤ 1024 * self.now.layout.pages }
+        ensures some { 1 ≤ self.now.slot }
+    {
+        self.at
+    }
+
+    /// The object's name.
+    pub fn name(&self) -> Name
+        ensures { result ≡ self.now.name }
+    {
+        self.name
+    }
+
     /// The next step makes the object.
     pub fn acts(&self) -> bool
         ensures { result ≡ acts self.now }

@@ -44,15 +44,18 @@ fn make(request: Req, words: &mut [u64; 287]) -> u64 {
     }
 }
 
-/// Runs it over these words: what it ends with, and the steps to there.
+/// Runs it over these words: what it ends with, and the steps to there. It ends with nothing where
+/// `refuses` told otherwise before the last step.
 fn run(find: &mut Find, words: &mut [u64; 287]) -> (Option<Found>, u32)
     requires { is_busy find.old.point ≡ true }
 {
     for step in 1..1000u32 {
         let request = find.next();
+        let refuses = find.refuses();
         let found = make(request, words);
         if let Some(out) = find.take(found) {
-            return (Some(out), step);
+            let told = refuses == (out == Found::NoRoom);
+            return (if told { Some(out) } else { None }, step);
         }
     }
     (None, 0)
@@ -146,6 +149,7 @@ fn makes_an_object(rt: HostRuntime) -> Result<(), Fail> {
     let given = PageWord::Head(SpanHead { owner: 0, ..span }).pack();
     let name = Name { g: 0, k: 7 };
     let mut place = Place::new(&layout, &shape, 1024, 2, name, Some(span));
+    assert_eq!(rt; (place.word(), place.name()), (1024, name));
     let steps = [
         Req::Store(17_183 + 1024, 0),
         Req::Store(17_183 + 1025, 0),

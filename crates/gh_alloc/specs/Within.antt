@@ -1,0 +1,28 @@
+-- The slot that the search ends with lies in the arena.
+use Rattle.std.specs.Prelude.{ℕ, ◌+◌, ◌*◌, ◌/◌, ◌≤◌, Option, Some}
+use Rattle.gh_base.specs.declared.layout.Layout.{Layout}
+use Rattle.gh_class.specs.Classes.{slot_of}
+use Rattle.gh_alloc.specs.declared.find.Found.{Found}
+use Rattle.gh_alloc.specs.declared.find.Found.TheVariants.{At, NoRoom}
+use Rattle.gh_alloc.specs.declared.find.Sought.{Sought}
+use Rattle.gh_alloc.specs.declared.find.Sought.TheVariants.{Small, Large}
+
+-- the words of the slot that is looked for: of its class, or of the whole span
+abbrev pub words_of : Sought → ℕ
+words_of (Small c) = slot_of c.class / 8
+words_of (Large pages noscan) = 1024 * pages
+
+-- the slot that was found lies in the arena
+abbrev pub LiesWithin : Layout → Sought → Found → Type 0
+LiesWithin l w (At a) = a + words_of w ≤ 1024 * l.pages
+LiesWithin l w NoRoom = Unit {0}
+
+-- the pages of a large object lie in the arena from this page on
+abbrev pub FitsFrom : Layout → Sought → (page : ℕ) → Type 0
+FitsFrom l (Small c) page = Unit {0}
+FitsFrom l (Large pages noscan) page = page + pages ≤ l.pages
+
+-- the same of the page that a routine has given, if it has given one
+abbrev pub FitsGiven : Layout → Sought → Option (Option ℕ) → Type 0
+FitsGiven l w (Some (Some page)) = FitsFrom l w page
+FitsGiven l w _ = Unit {0}
