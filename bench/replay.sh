@@ -1,8 +1,8 @@
 #!/usr/bin/env bash
 # Times `goheap replay` on scripts of 1,000, 10,000 and 200,000 statements of one goroutine (new, int, store and load in
 # turn). It prints the statements a second, and the ratio of the time of a statement to that in the script before: 1.0 where
-# time grows in proportion to the statements. The time of a script without statements is taken off each; each time is the best of
-# five runs (bench/replay.sh 9: of nine).
+# time grows in proportion to the statements; and the turns (atomic steps) of the script and how many of them are taken a second.
+# The time of a script without statements is taken off each; each time is the best of five runs (bench/replay.sh 9: of nine).
 set -eu
 . "$(dirname "$0")/timing.sh"
 
@@ -16,6 +16,16 @@ script() {
   printf 'end\n'
 }
 
+# The turns of a script: the least budget within which it ends.
+turns() {
+  local low=1 high=50000000 middle
+  while [ "$low" -lt "$high" ]; do
+    middle=$(((low + high) / 2))
+    if "$here/goheap.sh" replay --budget "$middle" <"$1" >"$work/out"; then high=$middle; else low=$((middle + 1)); fi
+  done
+  echo "$low"
+}
+
 script 0 >"$work/empty"
 "$here/goheap.sh" replay <"$work/empty" >"$work/out"
 empty=$(best "$work/empty")
@@ -25,10 +35,10 @@ for n in 1000 10000 200000; do
   script "$n" >"$work/script"
   took=$(($(best "$work/script") - empty))
   if [ "$took" -le 0 ]; then took=1; fi
-  awk -v n="$n" -v t="$took" -v b="$before" 'BEGIN {
+  awk -v n="$n" -v t="$took" -v b="$before" -v turns="$(turns "$work/script")" 'BEGIN {
     printf "%d statements: %.0f a second", n, n * 1e9 / t
     if (b > 0) printf ", a statement takes %.2f of its time before", (t / n) / b
-    print ""
+    printf "; %d turns: %.1f million a second\n", turns, turns * 1e3 / t
   }'
   before=$(awk -v n="$n" -v t="$took" 'BEGIN { print t / n }')
 done

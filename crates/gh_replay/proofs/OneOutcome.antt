@@ -9,7 +9,7 @@ use Rattle.gh_base.specs.declared.machine.Entry.{Entry}
 use Rattle.gh_script.specs.Program.{Program}
 use Rattle.gh_world.specs.Order.{begun_in}
 use Rattle.gh_world.specs.Law.{processor_after}
-use Rattle.gh_world.specs.Turns.{has_left_at}
+use Rattle.gh_mutator.specs.Serving.{has_left_at}
 use Rattle.gh_world.specs.World.{opening}
 use Rattle.gh_world.specs.Runs.{IsRun, IsRunSoFar, IsExplained, EveryRunIsOne, NoneIsLonger, answers_given}
 use Rattle.gh_replay.specs.Replayed.{LaysOut, NotBoth, OneAnswer}

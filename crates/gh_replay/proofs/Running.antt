@@ -7,8 +7,9 @@ use Rattle.gh_base.specs.declared.layout.Layout.{Layout}
 use Rattle.gh_base.specs.declared.machine.Entry.{Entry}
 use Rattle.gh_base.specs.Packing.{bit}
 use Rattle.gh_script.specs.Program.{Program}
-use Rattle.gh_world.specs.declared.point.Point.{Point}
-use Rattle.gh_world.specs.declared.point.Point.TheVariants.{Idle, Left, Touch, LoadPage, LoadBits, LoadField, LoadBirth, StorePage, StoreBits, StoreField, GlobalLoad, GlobalStore, Slot, Look, Body, Head, Clear, Birth, ClearBits, SetBits, Alloc, Disown, Count, End, Leave}
+use Rattle.gh_mutator.specs.declared.point.Point.{Point}
+use Rattle.gh_mutator.specs.declared.point.Point.TheVariants.{Left, Leave}
+use Rattle.gh_mutator.specs.Serving.{answer_at, has_left_at, is_last, is_leaving, is_serving}
 use Rattle.gh_world.specs.declared.world.World.{World}
 use Rattle.gh_world.specs.declared.world.Event.{Event}
 use Rattle.gh_world.specs.declared.world.Event.TheVariants as event
@@ -16,7 +17,7 @@ use Rattle.gh_world.specs.Runs.{IsRun, IsRunSoFar, IsExplained, EveryRunIsExplai
 use Rattle.gh_world.specs.declared.turns.Next.{Next}
 use Rattle.gh_world.specs.declared.turns.Next.TheVariants as next
 use Rattle.gh_world.specs.Order.{begun_in}
-use Rattle.gh_world.specs.Turns.{answer_at, has_left_at, is_leaving, is_over, is_statement, to_come, total_of}
+use Rattle.gh_world.specs.Turns.{is_over, to_come, total_of}
 use Rattle.gh_world.specs.World.{Appends, IsAfter, SoundWorld, answer_in, event_at, event_of, is_done, layout_of, marks_in, marks_of, now_in, script_of}
 use Rattle.gh_replay.specs.Replayed.{IsReplayed, IsUnfinished, Ran}
 
@@ -33,86 +34,24 @@ told (event.Answered g n a) = (g, a) ∷ []
 told event.Moved = []
 told event.Finished = []
 
-told_touch : (now : ℕ × ℕ) (o : Op) (b : Bool) (a : Option Answer) → told (event_at now (Touch o) (cond b a None)) ≡ with_goroutine now.0 (cond b a None)
-told_touch now o true None = refl
-told_touch now o true (Some a) = refl
-told_touch now o false a = refl
+-- the last step of an actor is no statement's
+last_is_none : (p : Point) → is_last p ≡ true → is_serving p ≡ false
+last_is_none Leave e = refl
+last_is_none _ e = absurd (cc)
 
-told_at : (marks : ℕ × ℕ) (p : Point) (a : Option Answer) → told (event_at marks p (answer_at p a)) ≡ with_goroutine marks.0 (answer_at p a)
-told_at marks Idle None = refl
-told_at marks Idle (Some a) = refl
-told_at marks Left None = refl
-told_at marks Left (Some a) = refl
-told_at marks (Touch o) a = told_touch marks o (is_statement o) a
-told_at marks (LoadPage x) None = refl
-told_at marks (LoadPage x) (Some a) = refl
-told_at marks (LoadBits x) None = refl
-told_at marks (LoadBits x) (Some a) = refl
-told_at marks (LoadField x q) None = refl
-told_at marks (LoadField x q) (Some a) = refl
-told_at marks (LoadBirth x) None = refl
-told_at marks (LoadBirth x) (Some a) = refl
-told_at marks (StorePage x) None = refl
-told_at marks (StorePage x) (Some a) = refl
-told_at marks (StoreBits x) None = refl
-told_at marks (StoreBits x) (Some a) = refl
-told_at marks (StoreField x) None = refl
-told_at marks (StoreField x) (Some a) = refl
-told_at marks (GlobalLoad x y z) None = refl
-told_at marks (GlobalLoad x y z) (Some a) = refl
-told_at marks (GlobalStore x y z) None = refl
-told_at marks (GlobalStore x y z) (Some a) = refl
-told_at marks (Slot x y) None = refl
-told_at marks (Slot x y) (Some a) = refl
-told_at marks (Look x y z) None = refl
-told_at marks (Look x y z) (Some a) = refl
-told_at marks (Body x y z) None = refl
-told_at marks (Body x y z) (Some a) = refl
-told_at marks (Head x y) None = refl
-told_at marks (Head x y) (Some a) = refl
-told_at marks (Clear x y z) None = refl
-told_at marks (Clear x y z) (Some a) = refl
-told_at marks (Birth x y) None = refl
-told_at marks (Birth x y) (Some a) = refl
-told_at marks (ClearBits x y z) None = refl
-told_at marks (ClearBits x y z) (Some a) = refl
-told_at marks (SetBits x y z) None = refl
-told_at marks (SetBits x y z) (Some a) = refl
-told_at marks (Alloc x y) None = refl
-told_at marks (Alloc x y) (Some a) = refl
-told_at marks (Disown x y) None = refl
-told_at marks (Disown x y) (Some a) = refl
-told_at marks (Count x y) None = refl
-told_at marks (Count x y) (Some a) = refl
-told_at marks (End x) a = refl
-told_at marks Leave a = refl
+told_by : (now : ℕ × ℕ) (last serves : Bool) (a : Option Answer) → (last ≡ true → serves ≡ false) → told (event_at now last (cond serves a None)) ≡ with_goroutine now.0 (cond serves a None)
+told_by now true true a quiet = absurd (let no = quiet refl in cc)
+told_by now true false a quiet = refl
+told_by now false true None quiet = refl
+told_by now false true (Some a) quiet = refl
+told_by now false false a quiet = refl
+
+told_at : (now : ℕ × ℕ) (p : Point) (a : Option Answer) → told (event_at now (is_last p) (answer_at p a)) ≡ with_goroutine now.0 (answer_at p a)
+told_at now p a = told_by now (is_last p) (is_serving p) a (last_is_none p)
 
 left_is : (p : Point) → has_left_at p ≡ true → p ≡ Left
-left_is Idle e = absurd (cc)
 left_is Left e = refl
-left_is (Touch o) e = absurd (cc)
-left_is (LoadPage x) e = absurd (cc)
-left_is (LoadBits x) e = absurd (cc)
-left_is (LoadField x q) e = absurd (cc)
-left_is (LoadBirth x) e = absurd (cc)
-left_is (StorePage x) e = absurd (cc)
-left_is (StoreBits x) e = absurd (cc)
-left_is (StoreField x) e = absurd (cc)
-left_is (GlobalLoad x y z) e = absurd (cc)
-left_is (GlobalStore x y z) e = absurd (cc)
-left_is (Slot x y) e = absurd (cc)
-left_is (Look x y z) e = absurd (cc)
-left_is (Body x y z) e = absurd (cc)
-left_is (Head x y) e = absurd (cc)
-left_is (Clear x y z) e = absurd (cc)
-left_is (Birth x y) e = absurd (cc)
-left_is (ClearBits x y z) e = absurd (cc)
-left_is (SetBits x y z) e = absurd (cc)
-left_is (Alloc x y) e = absurd (cc)
-left_is (Disown x y) e = absurd (cc)
-left_is (Count x y) e = absurd (cc)
-left_is (End x) e = absurd (cc)
-left_is Leave e = absurd (cc)
+left_is _ e = absurd (cc)
 
 told_of : (p : Program) (l : Layout) (es : List (Entry Op)) (e : Entry Op) (happened : Event) → happened ≡ event_of p.shapes l es e → told happened ≡ with_goroutine (now_in p.shapes l (e ∷ es)).0 (answer_in p.shapes l es e)
 told_of p l es e happened says = ap told says ∙ told_at _ _ _
@@ -178,7 +117,7 @@ over_is next.Over e = refl
 whole : (w : World) (es : List (Entry Op)) → SoundWorld w → IsAfter w es → is_done w ≡ true → IsRun (script_of w) (layout_of w) es
 whole w es sound after done =
     let p = script_of w in
-    let at : w.processor.point ≡ Left = left_is w.processor.point done in
+    let at : w.mutator.processor.point ≡ Left = left_is w.mutator.processor.point done in
     let over : w.next ≡ next.Over = over_is w.next (sym sound.leaves ∙ ap is_leaving at) in
     let none : to_come p w.next ≡ [] = ap (to_come p) over in
     record {

@@ -9,7 +9,7 @@ use Rattle.gh_script.specs.Program.{Program}
 use Rattle.gh_world.specs.declared.world.World.{World}
 use Rattle.gh_world.specs.Law.{processor_after}
 use Rattle.gh_world.specs.Runs.{IsExplained, IsRunSoFar, answers_given}
-use Rattle.gh_world.specs.Turns.{has_left_at}
+use Rattle.gh_mutator.specs.Serving.{has_left_at}
 use Rattle.gh_world.specs.World.{opening, script_of, layout_of, is_done, IsAfter}
 
 -- the layout is that of the script's settings

@@ -12,7 +12,9 @@ use Rattle.gh_base.specs.Shapes.{shape_at, is_pointer}
 use Rattle.std.specs.List.{flat_map, range_with_len}
 use Rattle.std.specs.Prelude.{slice_get}
 use Rattle.gh_lines.specs.Text.{MakerStands}
-use Rattle.gh_world.specs.Turns.{total_of, has_turn, work_at, work_of, turn_of, round_of, turns_of, is_statement, goroutine_at, answers_to}
+use Rattle.gh_interp.specs.Working.{work_at, work_of}
+use Rattle.gh_mutator.specs.Serving.{is_statement}
+use Rattle.gh_world.specs.Turns.{total_of, has_turn, turn_of, round_of, turns_of, goroutine_at, answers_to}
 use Rattle.gh_top.specs.Found.{AllStand}
 use Rattle.gh_script.specs.declared.statement.Stmt.{Stmt}
 use Rattle.gh_script.specs.declared.statement.Stmt.TheVariants as stmts

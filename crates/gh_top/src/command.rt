@@ -18,11 +18,14 @@ use gh_replay::one_outcome;
 use gh_script::one_reading;
 use std::alloc::Global;
 
-/// Runs the command: `words` begins with the program's name, and the one command is `replay`. It reads
-/// a script from `src`, runs it, and writes the lines of its answers to `out`; a command line that is
-/// not taken and a text that is no script are told in one line. It reads at most 4,194,305 bytes, which
-/// is one more than a script may have. Nothing is written before the run has ended, and each line is
-/// written as one piece, the rest of it again until it is taken.
+/// Runs the command: `words` begins with the program's name, and the one command is `replay`, with at
+/// most one `--budget n`, the most atomic steps that the processor may make (1 to 1,000,000,000, and
+/// 50,000,000 where the words say nothing). It reads a script from `src`, and runs its goroutines in
+/// turns on one processor: a turn has one statement of its goroutine, or its end. It writes the lines
+/// of the answers to `out`, goroutine by goroutine. A command line that is not taken, a text that is
+/// no script and a run that is not over within its budget are told in one line. It reads at most
+/// 4,194,305 bytes, which is one more than a script may have. Nothing is written before the run has
+/// ended, and each line is written as one piece, the rest of it again until it is taken.
 pub fn top<S: Source, K: Sink>(alloc: Global, words: &[&str], src: &mut S, out: &mut K) -> Status
     // What was written is all of what is to be said of the words and the text: with `Ok`, the lines of
     // the answers that the heap that never frees gives to the script that the text spells.

@@ -10,8 +10,9 @@ ghost use Rattle.gh_top.specs.Found.{AllStand, IsTellable, IsSilent, said_of, st
 use crate::found::Found;
 use crate::status::Status;
 use gh_base::Answer;
+use gh_interp::tell;
 use gh_io::{Failed, Sink, write_all};
-use gh_lines::{LineBuf, has_line};
+use gh_lines::LineBuf;
 use gh_script::Script;
 
 /// How the call ends once what was found is written.
@@ -117,10 +118,9 @@ fn say_answer<K: Sink>(
     ensures failed { OnErr result (Rose (K.faults out.old) (K.faults out.new)) }
     ensures never_falls { K.faults out.old ≤ K.faults out.new }
 {
-    if !has_line(&answer) {
+    let mut line = LineBuf::new();
+    if !tell(&mut line, script, g, n, answer) {
         return Ok(());
     }
-    let mut line = LineBuf::new();
-    line.answer(script, g, n, answer);
     write_all(out, line.bytes())
 }

@@ -8,8 +8,8 @@ ghost use Rattle.std.specs.Prelude.{◌≡◌};
 pub enum Status {
     /// The source was read to its end, its script was run, and the lines of its answers were taken.
     Ok,
-    /// The command line is not the program's name and `replay`. Nothing was read, and the line
-    /// `words refused` was taken.
+    /// The command line is not the program's name and `replay`, with at most the budget of turns
+    /// (`--budget n`). Nothing was read, and the line `words refused` was taken.
     BadWords,
     /// The text spells no script. Its line `line n: why` was taken.
     BadScript,

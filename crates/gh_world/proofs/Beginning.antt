@@ -1,8 +1,8 @@
 -- Where an operation begins, its point says what it is to say.
-use Rattle.std.proofs.Common.{◌≡◌, ℕ, ◌<◌, ◌≤◌, Bool, true, false, cond, ltb, List, [], ◌∷◌, length, Option, Some, None, refl, sym, ap, subst, ◌∙◌, arith}
+use Rattle.std.proofs.Common.{◌≡◌, ℕ, ◌<◌, Bool, true, false, List, [], ◌∷◌, length, Some, None, refl, ap, subst, arith}
 use Rattle.std.specs.Prelude.{◌&&◌}
 use Rattle.std.specs.Option.{option_to_list}
-use Rattle.std.proofs.lemmas.Bool.{ltb-true, ltb-false}
+use Rattle.std.proofs.lemmas.Bool.{ltb-true}
 use Rattle.gh_base.specs.declared.value.Name.{Name}
 use Rattle.gh_base.specs.declared.value.Value.{Value}
 use Rattle.gh_base.specs.declared.value.Value.TheVariants as value
@@ -12,22 +12,22 @@ use Rattle.gh_base.specs.declared.shape.Shape.{Shape}
 use Rattle.gh_base.specs.declared.layout.Layout.{Layout}
 use Rattle.gh_base.specs.declared.machine.Entry.{Entry}
 use Rattle.gh_base.specs.Cells.{Words}
-use Rattle.gh_class.specs.Classes.{slots_of}
 use Rattle.gh_model.specs.declared.EverValue.{EverValue}
 use Rattle.gh_model.specs.declared.EverValue.TheVariants as ever
 use Rattle.gh_model.specs.Ever.{Ever, is_number}
-use Rattle.gh_world.specs.declared.point.Wanted.{Wanted}
-use Rattle.gh_world.specs.declared.point.Cached.{Cached}
-use Rattle.gh_world.specs.declared.point.Processor.{Processor}
-use Rattle.gh_world.specs.declared.point.Point.{Point}
-use Rattle.gh_world.specs.declared.point.Point.TheVariants.{Slot, Look}
-use Rattle.gh_world.specs.Listing.{begins, begins_at, begin_load, begin_store, begin_global_store, search_from, wanted_of, cached_for, register_of, at_point, made_by, new_op}
-use Rattle.gh_world.specs.Order.{may_begin, in_range, has_names, is_busy_at, most_objects}
-use Rattle.gh_world.specs.Stands.{Means}
+use Rattle.gh_mutator.specs.declared.point.Wanted.{Wanted}
+use Rattle.gh_mutator.specs.declared.point.Processor.{Processor}
+use Rattle.gh_mutator.specs.declared.point.Point.{Point}
+use Rattle.gh_mutator.specs.declared.point.Point.TheVariants.{Find}
+use Rattle.gh_mutator.specs.Listing.{begins, begins_at, begin_load, begin_store, begin_global_store, finding, wanted_of, register_of, at_point, made_by, new_op, is_busy_at}
+use Rattle.gh_world.specs.Order.{may_begin, in_range}
+use Rattle.gh_world.specs.Stands.{Means, pages_row, alloc_row}
 use Rattle.gh_world.specs.Points.{Good, FineAt, WantsName, op_at, IsPending, ShapesGood}
+use Rattle.gh_world.proofs.Finding.{find_begins}
 use Rattle.gh_world.proofs.Step.{Holding}
 use Rattle.gh_world.proofs.Frames.{both, good_at}
-use Rattle.gh_world.proofs.Wanting.{wanted_good, wanted_names, cached_small}
+use Rattle.gh_world.proofs.Wanting.{wanted_names}
+use Rattle.gh_mutator.specs.Sound.{has_names, most_objects}
 
 module _ (shapes : List Shape) (l : Layout) where
   -- what an operation's first point is to say
@@ -74,22 +74,10 @@ module _ (shapes : List Shape) (l : Layout) where
   begin_global_by words place e m g k v (ever.Ref n) value.Nil lg lk lv is h = absurd h
   begin_global_by words place e m g k v (ever.Ref n) (value.Int w) lg lk lv is h = absurd h
 
-  -- the search for a slot: in the cached span while it has slots left, else among the pages from 0
-  pub searches : (words : Words) (place : Name → ℕ) (e : Ever) (m : Processor) (w : Wanted) (c : Option Cached) → WantsName l.pages l.globals l.goroutines shapes m w → 1 ≤ l.pages → 1 ≤ w.pages → cached_for m w ≡ c →
-      BeginsAt words place e m (new_op w) (search_from w c)
-  searches words place e m w None wants pages some is =
-      record { fine = (wants, pages, some, (omega arith, λ q high low. absurd (omega arith)), (λ first le. absurd (omega arith), λ lt. absurd (omega arith)), λ c eq. absurd (cc (is, eq))); pends = tt; acts = refl; busy = refl }
-  searches words place e m w (Some c) wants pages some is = go (ltb c.cursor (slots_of w.class)) refl where
-    go : (b : Bool) → ltb c.cursor (slots_of w.class) ≡ b → BeginsAt words place e m (new_op w) (cond b (Slot w c) (Look w 0 0))
-    go true t = record { fine = (wants, cached_small m w c is, is, ltb-true _ _ t); pends = tt; acts = refl; busy = refl }
-    go false t =
-        let past : slots_of w.class ≤ c.cursor = ltb-false _ _ t in
-        record { fine = (wants, pages, some, (omega arith, λ q high low. absurd (omega arith)), (λ first le. absurd (omega arith), λ lt. absurd (omega arith)), λ k eq. spent k eq past); pends = tt; acts = refl; busy = refl } where
-          one : (a k : Cached) → Some a ≡ Some k → a ≡ k
-          one a k eq = cc
-
-          spent : (k : Cached) → cached_for m w ≡ Some k → slots_of w.class ≤ c.cursor → slots_of w.class ≤ k.cursor
-          spent k eq past = subst (λ (x : Cached). slots_of w.class ≤ x.cursor) (one c k (sym is ∙ eq)) past
+  -- the search for a slot begins: in the cached span while it has slots left, else with the lock
+  searches : (words : Words) (place : Name → ℕ) (e : Ever) (m : Processor) (w : Wanted) → WantsName l.pages l.globals l.goroutines shapes m w → BeginsAt words place e m (new_op w) (Find w (finding m w))
+  searches words place e m w wants =
+      record { fine = (wants, refl, find_begins shapes l (pages_row words) (alloc_row words) place e (at_point m (Find w (finding m w))) w); pends = tt; acts = refl; busy = refl }
 
   three : (a b c : Bool) → (a && b && c) ≡ true → (a ≡ true) × (b ≡ true) × (c ≡ true)
   three a b c e = let x = both (a && b) c e in let y = both a b x.0 in (y.0, y.1, x.1)
@@ -100,15 +88,12 @@ module _ (shapes : List Shape) (l : Layout) where
   begins_at_point sg words place e m (op.New g d t) r f good =
       let x = three _ _ _ r in
       let lt : t < length shapes = ltb-true _ _ x.2 in
-      let w = wanted_of shapes g d t in
-      let wg = wanted_good shapes g d t (sg t lt) in
       let n = wanted_names shapes g d t in
       let few : made_by m (wanted_of shapes g d t).g < most_objects = rw (n.0) (ltb-true _ _ f) in
       let is : new_op (wanted_of shapes g d t) ≡ op.New g d t = rw (n.0, n.1, n.2) refl in
-      subst (λ (o : Op). BeginsAt words place e m o (search_from (wanted_of shapes g d t) (cached_for m (wanted_of shapes g d t)))) is
-      (searches words place e m (wanted_of shapes g d t) (cached_for m (wanted_of shapes g d t))
-      (record { goroutine = rw (n.0) (ltb-true _ _ x.0); register = rw (n.1) (ltb-true _ _ x.1); type = rw (n.2) lt; is = rw (n.0, n.1, n.2) refl }, few)
-      good.sizes.some wg.some refl)
+      subst (λ (o : Op). BeginsAt words place e m o (Find (wanted_of shapes g d t) (finding m (wanted_of shapes g d t)))) is
+      (searches words place e m (wanted_of shapes g d t)
+      (record { goroutine = rw (n.0) (ltb-true _ _ x.0); register = rw (n.1) (ltb-true _ _ x.1); type = rw (n.2) lt; is = rw (n.0, n.1, n.2) refl }, few))
   begins_at_point sg words place e m (op.Load g d b k) r f good =
       let x = three _ _ _ r in
       begin_load_by words place e m g d b k (e.register g b) (register_of m g b) (ltb-true _ _ x.0) (ltb-true _ _ x.1) (ltb-true _ _ x.2) refl (good.registers g b (ltb-true _ _ x.0) (ltb-true _ _ x.2))

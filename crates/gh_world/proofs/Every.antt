@@ -1,33 +1,34 @@
 -- Every own step and every beginning, and so every legal list.
-use Rattle.std.proofs.Common.{◌≡◌, ℕ, ◌+◌, ◌*◌, Bool, true, false, List, Option, None, refl, arith, lit<, ltb}
+use Rattle.std.proofs.Common.{◌≡◌, ℕ, ◌+◌, ◌*◌, ◌%◌, Bool, true, false, List, Option, None, refl, sym, ◌∙◌, arith, lit<, ltb}
 use Rattle.std.specs.Prelude.{slice_index, slice_index_or, replicate}
 use Rattle.std.proofs.lemmas.List.{get_or-replicate, get_or_past, length-replicate}
 use Rattle.std.proofs.lemmas.Bool.{ltb-true, ltb-false}
+use Rattle.std.proofs.lemmas.Nat.Bits.{bit_at-zero}
 use Rattle.gh_base.specs.declared.value.Value.TheVariants as value
 use Rattle.gh_base.specs.declared.shape.Shape.{Shape}
 use Rattle.gh_base.specs.declared.layout.Layout.{Layout}
 use Rattle.gh_base.specs.Cells.{opening_words}
 use Rattle.gh_base.specs.Packing.{bit}
 use Rattle.gh_model.specs.Ever.{opening_ever}
-use Rattle.gh_world.specs.declared.point.Cached.{Cached}
-use Rattle.gh_world.specs.declared.point.Point.{Point}
-use Rattle.gh_world.specs.declared.point.Point.TheVariants.{Idle, Left, Touch, LoadPage, LoadBits, LoadField, LoadBirth, StorePage, StoreBits, StoreField, GlobalLoad, GlobalStore, Slot, Look, Body, Head, Clear, Birth, ClearBits, SetBits, Alloc, Disown, Count, End, Leave}
-use Rattle.gh_world.specs.Order.{is_busy_at, opening_processor}
+use Rattle.gh_bitmap.specs.Bits.{row_bit}
+use Rattle.gh_alloc.specs.declared.find.CachedSpan.{CachedSpan}
+use Rattle.gh_mutator.specs.declared.point.Point.{Point}
+use Rattle.gh_mutator.specs.declared.point.Point.TheVariants.{Idle, Left, Touch, LoadPage, LoadBits, LoadField, LoadBirth, StorePage, StoreBits, StoreField, GlobalLoad, GlobalStore, Find, Place, End, Leave}
 use Rattle.gh_world.specs.Law.{EveryListStands}
 use Rattle.gh_world.specs.Points.{ShapesGood}
-use Rattle.gh_world.proofs.Step.{Holding, StepAt}
+use Rattle.gh_world.specs.Stands.{alloc_row}
+use Rattle.gh_world.proofs.Step.{Holding, Laws, StepAt}
 use Rattle.gh_world.proofs.Whole.{every_list_stands}
 use Rattle.gh_world.proofs.Beginning.{begin_any}
+use Rattle.gh_world.proofs.FindSteps.{step_find}
+use Rattle.gh_world.proofs.Making.{step_place}
 use Rattle.gh_world.proofs.Statements.{step_touch, step_load_page, step_load_bits, step_load_field, step_load_birth, step_store_page, step_store_bits, step_store_field, step_global_load, step_global_store, step_end, step_leave}
-use Rattle.gh_world.proofs.Searching.{step_slot, step_look}
-use Rattle.gh_world.proofs.Spanning.{step_body, step_head}
-use Rattle.gh_world.proofs.Placing.{step_clear, step_birth, step_clear_bits, step_set_bits}
-use Rattle.gh_world.proofs.Making.{step_alloc, step_disown, step_count}
+use Rattle.gh_mutator.specs.Listing.{is_busy_at, opening_processor}
 
-abbrev no_cached : Option Cached
+abbrev no_cached : Option CachedSpan
 no_cached = None
 
-module _ (shapes : List Shape) (l : Layout) where
+module _ (shapes : List Shape) (l : Layout) (laws : Laws) where
   step_any : (p : Point) → is_busy_at p ≡ true → StepAt shapes l p
   step_any Idle busy = absurd cc
   step_any Left busy = absurd cc
@@ -41,17 +42,8 @@ module _ (shapes : List Shape) (l : Layout) where
   step_any (StoreField s) busy = step_store_field shapes l s
   step_any (GlobalLoad g d k) busy = step_global_load shapes l g d k
   step_any (GlobalStore g k v) busy = step_global_store shapes l g k v
-  step_any (Slot w c) busy = step_slot shapes l w c
-  step_any (Look w p run) busy = step_look shapes l w p run
-  step_any (Body w first i) busy = step_body shapes l w first i
-  step_any (Head w first) busy = step_head shapes l w first
-  step_any (Clear w a i) busy = step_clear shapes l w a i
-  step_any (Birth w a) busy = step_birth shapes l w a
-  step_any (ClearBits w a i) busy = step_clear_bits shapes l w a i
-  step_any (SetBits w a i) busy = step_set_bits shapes l w a i
-  step_any (Alloc w a) busy = step_alloc shapes l w a
-  step_any (Disown w a) busy = step_disown shapes l w a
-  step_any (Count w a) busy = step_count shapes l w a
+  step_any (Find w f) busy = step_find shapes l laws w f
+  step_any (Place w p) busy = step_place shapes l laws w p
   step_any (End g) busy = step_end shapes l g
   step_any Leave busy = step_leave shapes l
 
@@ -73,8 +65,12 @@ module _ (shapes : List Shape) (l : Layout) where
     go true t = get_or-replicate n i no_cached None (ltb-true i n t)
     go false t = get_or_past (replicate n no_cached) i None (omega (arith, length-replicate n no_cached, ltb-false i n t))
 
+  no_bit : (trigger x : ℕ) → row_bit (alloc_row (opening_words trigger)) x ≡ 1 → ⊥
+  unfolding row_bit
+  no_bit trigger x set = let none = sym (bit_at-zero (x % 64)) ∙ set in omega (arith, none)
+
   -- before the first step nothing stands
-  opens : (trigger : ℕ) → Holding shapes l (opening_words trigger) (λ n. 0) opening_ever (opening_processor l.pages 0) None
+  opens : (trigger : ℕ) → Holding shapes l (opening_words trigger) (λ n. 0) opening_ever (opening_processor l 0) None
   opens trigger =
       let limits = l.limits in
       let pages = limits.pages_fit in
@@ -93,7 +89,7 @@ module _ (shapes : List Shape) (l : Layout) where
             generation = lit< tt;
           };
           spans = λ p h lt eq. absurd cc;
-          slots = record { is_slot = λ n made. absurd (omega arith); is_set = λ n made. absurd (omega arith) };
+          slots = record { is_slot = λ n made. absurd (omega arith); is_set = λ n made. absurd (omega arith); only = λ x lt set. absurd (no_bit trigger x set) };
           births = λ n made. absurd (omega arith);
           bitmap = λ n k made. absurd (omega arith);
           fields = λ n k made. absurd (omega arith);
@@ -103,7 +99,7 @@ module _ (shapes : List Shape) (l : Layout) where
           few = λ g. omega arith;
           none = λ g le. refl;
           cache = λ class noscan c low eq. absurd (cc (none_cached 50 (2 * class + bit noscan), eq));
-          taken = λ p i h span. absurd (cc (span.head));
+          owners = λ p h span. absurd (cc (span.head));
         };
         fine = tt;
         pends = tt;

@@ -12,9 +12,9 @@ use Rattle.gh_base.specs.Cells.{Words, put}
 use Rattle.gh_base.specs.declared.cell.Cell.TheVariants as cell
 use Rattle.gh_model.specs.declared.EverValue.{EverValue}
 use Rattle.gh_model.specs.Ever.{Ever, same_name, with_register, with_field, with_global, with_end, shape_of}
-use Rattle.gh_world.specs.declared.point.Processor.{Processor}
-use Rattle.gh_world.specs.declared.point.Point.{Point}
-use Rattle.gh_world.specs.Listing.{register_of, set_register, at_point}
+use Rattle.gh_mutator.specs.declared.point.Processor.{Processor}
+use Rattle.gh_mutator.specs.declared.point.Point.{Point}
+use Rattle.gh_mutator.specs.Listing.{register_of, set_register, at_point}
 use Rattle.gh_world.specs.Stands.{pages_row, IsMade, Holds, Means, size_of}
 use Rattle.gh_world.specs.Points.{Good}
 use Rattle.gh_world.proofs.Spans.{slot_at_once}
@@ -77,7 +77,7 @@ module _ (pages globals goroutines : ℕ) (shapes : List Shape) where
         few = g.few;
         none = g.none;
         cache = g.cache;
-        taken = g.taken;
+        owners = g.owners;
       }
 
   -- a register takes a value that means the same
@@ -88,7 +88,7 @@ module _ (pages globals goroutines : ℕ) (shapes : List Shape) where
       record {
         sizes = record { registers = rw length-set s.registers; made = s.made; cache = s.cache; arena = s.arena; some = s.some; most = s.most; few = s.few; seat = s.seat; generation = s.generation };
         spans = good.spans;
-        slots = record { is_slot = good.slots.is_slot; is_set = good.slots.is_set };
+        slots = record { is_slot = good.slots.is_slot; is_set = good.slots.is_set; only = good.slots.only };
         births = good.births;
         bitmap = good.bitmap;
         fields = good.fields;
@@ -98,7 +98,7 @@ module _ (pages globals goroutines : ℕ) (shapes : List Shape) where
         few = good.few;
         none = good.none;
         cache = good.cache;
-        taken = good.taken;
+        owners = good.owners;
       } where
         go : (h c : ℕ) → h < goroutines → c < 16 → (b : Bool) → (eqb h g && eqb c d) ≡ b → Means place e (cond b v (e.register h c)) (register_of (set_register m g d w) h c)
         go h c lh lc true t =
@@ -129,7 +129,7 @@ module _ (pages globals goroutines : ℕ) (shapes : List Shape) where
       record {
         sizes = record { registers = s.registers; made = s.made; cache = s.cache; arena = s.arena; some = s.some; most = s.most; few = s.few; seat = s.seat; generation = s.generation };
         spans = good.spans;
-        slots = record { is_slot = good.slots.is_slot; is_set = good.slots.is_set };
+        slots = record { is_slot = good.slots.is_slot; is_set = good.slots.is_set; only = good.slots.only };
         births = good.births;
         bitmap = good.bitmap;
         fields = λ n' k' made' lk'. go n' k' made' lk' (same_name n' n && eqb k' k) refl;
@@ -139,7 +139,7 @@ module _ (pages globals goroutines : ℕ) (shapes : List Shape) where
         few = good.few;
         none = good.none;
         cache = good.cache;
-        taken = good.taken;
+        owners = good.owners;
       } where
         apart : (n' : Name) (k' : ℕ) → IsMade e n' → k' < size_of shapes e n' → (same_name n' n && eqb k' k) ≡ false → place n + k ≢ place n' + k'
         apart n' k' made' lk' t eq =
@@ -169,7 +169,7 @@ module _ (pages globals goroutines : ℕ) (shapes : List Shape) where
       record {
         sizes = record { registers = s.registers; made = s.made; cache = s.cache; arena = s.arena; some = s.some; most = s.most; few = s.few; seat = s.seat; generation = s.generation };
         spans = good.spans;
-        slots = record { is_slot = good.slots.is_slot; is_set = good.slots.is_set };
+        slots = record { is_slot = good.slots.is_slot; is_set = good.slots.is_set; only = good.slots.only };
         births = good.births;
         bitmap = good.bitmap;
         fields = good.fields;
@@ -179,7 +179,7 @@ module _ (pages globals goroutines : ℕ) (shapes : List Shape) where
         few = good.few;
         none = good.none;
         cache = good.cache;
-        taken = good.taken;
+        owners = good.owners;
       } where
         go : (c : ℕ) → c < globals → (b : Bool) → eqb c k ≡ b → Holds place e true (cond b v (e.global c)) (cond (eqb k c) w (words (cell.Global c)))
         go c lc true t = let here : eqb k c ≡ true = eq-eqb k c (sym (eqb-true c k t)) in rw here holds
@@ -192,7 +192,7 @@ module _ (pages globals goroutines : ℕ) (shapes : List Shape) where
       record {
         sizes = record { registers = s.registers; made = s.made; cache = s.cache; arena = s.arena; some = s.some; most = s.most; few = s.few; seat = s.seat; generation = s.generation };
         spans = good.spans;
-        slots = record { is_slot = good.slots.is_slot; is_set = good.slots.is_set };
+        slots = record { is_slot = good.slots.is_slot; is_set = good.slots.is_set; only = good.slots.only };
         births = good.births;
         bitmap = good.bitmap;
         fields = good.fields;
@@ -202,18 +202,18 @@ module _ (pages globals goroutines : ℕ) (shapes : List Shape) where
         few = good.few;
         none = good.none;
         cache = good.cache;
-        taken = good.taken;
+        owners = good.owners;
       }
 
   -- words of other rows are written
   pub good_scanned : (words : Words) (place : Name → ℕ) (e : Ever) (m : Processor) (g v : ℕ) → Good pages globals goroutines shapes words place e m → Good pages globals goroutines shapes (put words (cell.Scanned g) v) place e m
   good_scanned words place e m g v good =
-      record { sizes = good.sizes; spans = good.spans; slots = record { is_slot = good.slots.is_slot; is_set = good.slots.is_set }; births = good.births; bitmap = good.bitmap; fields = good.fields; globals_hold = good.globals_hold; registers = good.registers; made = good.made; few = good.few; none = good.none; cache = good.cache; taken = good.taken }
+      record { sizes = good.sizes; spans = good.spans; slots = record { is_slot = good.slots.is_slot; is_set = good.slots.is_set; only = good.slots.only }; births = good.births; bitmap = good.bitmap; fields = good.fields; globals_hold = good.globals_hold; registers = good.registers; made = good.made; few = good.few; none = good.none; cache = good.cache; owners = good.owners }
 
   pub good_ack : (words : Words) (place : Name → ℕ) (e : Ever) (m : Processor) (seat v : ℕ) → Good pages globals goroutines shapes words place e m → Good pages globals goroutines shapes (put words (cell.Ack seat) v) place e m
   good_ack words place e m seat v good =
-      record { sizes = good.sizes; spans = good.spans; slots = record { is_slot = good.slots.is_slot; is_set = good.slots.is_set }; births = good.births; bitmap = good.bitmap; fields = good.fields; globals_hold = good.globals_hold; registers = good.registers; made = good.made; few = good.few; none = good.none; cache = good.cache; taken = good.taken }
+      record { sizes = good.sizes; spans = good.spans; slots = record { is_slot = good.slots.is_slot; is_set = good.slots.is_set; only = good.slots.only }; births = good.births; bitmap = good.bitmap; fields = good.fields; globals_hold = good.globals_hold; registers = good.registers; made = good.made; few = good.few; none = good.none; cache = good.cache; owners = good.owners }
 
   pub good_heap : (words : Words) (place : Name → ℕ) (e : Ever) (m : Processor) (v : ℕ) → Good pages globals goroutines shapes words place e m → Good pages globals goroutines shapes (put words cell.Heap v) place e m
   good_heap words place e m v good =
-      record { sizes = good.sizes; spans = good.spans; slots = record { is_slot = good.slots.is_slot; is_set = good.slots.is_set }; births = good.births; bitmap = good.bitmap; fields = good.fields; globals_hold = good.globals_hold; registers = good.registers; made = good.made; few = good.few; none = good.none; cache = good.cache; taken = good.taken }
+      record { sizes = good.sizes; spans = good.spans; slots = record { is_slot = good.slots.is_slot; is_set = good.slots.is_set; only = good.slots.only }; births = good.births; bitmap = good.bitmap; fields = good.fields; globals_hold = good.globals_hold; registers = good.registers; made = good.made; few = good.few; none = good.none; cache = good.cache; owners = good.owners }

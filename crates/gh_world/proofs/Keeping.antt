@@ -9,9 +9,9 @@ use Rattle.gh_base.specs.declared.layout.Layout.{Layout}
 use Rattle.gh_base.specs.Cells.{Words}
 use Rattle.gh_base.specs.Steps.{effect}
 use Rattle.gh_model.specs.Ever.{Ever}
-use Rattle.gh_world.specs.declared.point.Processor.{Processor}
-use Rattle.gh_world.specs.declared.point.Point.{Point}
-use Rattle.gh_world.specs.Listing.{asks_at, takes_at, gives_at, acts_at, Act}
+use Rattle.gh_mutator.specs.declared.point.Processor.{Processor}
+use Rattle.gh_mutator.specs.declared.point.Point.{Point}
+use Rattle.gh_mutator.specs.Listing.{asks_at, takes_at, gives_at, acts_at, Act}
 use Rattle.gh_world.specs.Order.{acted}
 use Rattle.gh_world.specs.Law.{FullAt}
 use Rattle.gh_world.specs.Points.{FineAt, op_at, IsPending}
@@ -30,7 +30,7 @@ module _ (shapes : List Shape) (l : Layout) where
   -- the parts of a step
   pub keeps_from : (words : Words) (e : Ever) (m : Processor) (p : Point) (pending : Option Answer) (found : ℕ)
       (after : Words) (next : Processor) (act : Option Act) (given : Option Answer) (place : Name → ℕ) (now : Option Answer) →
-      effect words (asks_at shapes m p) ≡ after → takes_at shapes m p found ≡ next → acts_at m p found ≡ act → gives_at l.goroutines m p found ≡ given →
+      effect words (asks_at m p) ≡ after → takes_at shapes m p found ≡ next → acts_at m p found ≡ act → gives_at l.goroutines m p found ≡ given →
       Holding shapes l after place (acted shapes l e act) next now →
       option_to_list (answer_of_act shapes l e act) ++ option_to_list pending ≡ option_to_list now ++ option_to_list given →
       ((a : Act) → act ≡ Some a → a.full ≡ true → FullAt shapes l words a.op) →

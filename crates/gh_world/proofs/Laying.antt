@@ -9,11 +9,15 @@ use Rattle.gh_base.specs.declared.pack.TheConstants.{LARGE}
 use Rattle.gh_base.specs.declared.shape.Shape.{Shape}
 use Rattle.gh_base.specs.Packing.{IsClass, page_of}
 use Rattle.gh_class.specs.Classes.{pages_of}
-use Rattle.gh_world.specs.declared.point.Wanted.{Wanted}
-use Rattle.gh_world.specs.Listing.{span_head, span_body}
-use Rattle.gh_world.specs.Stands.{Row, IsSpan, SpansGood, IsSlot}
-use Rattle.gh_world.specs.Points.{LaidOut}
+use Rattle.gh_mutator.specs.declared.point.Wanted.{Wanted}
+use Rattle.gh_world.specs.Stands.{IsSpan, SpansGood, IsSlot}
+use Rattle.gh_world.specs.Points.{span_body, LaidOut}
 use Rattle.gh_world.proofs.Spans.{page_in_span}
+use Rattle.gh_bitmap.specs.Bits.{Row}
+
+-- what the first page of a span for such objects says
+abbrev pub head_for : Wanted → (owner number : ℕ) → SpanHead
+head_for w owner number = record { class = w.class; noscan = w.noscan; pages = w.pages; owner = owner; number = number }
 
 -- the pages once page q has the word w
 abbrev pub with_page : Row → ℕ → ℕ → Row
@@ -80,8 +84,8 @@ module _ (pages globals goroutines : ℕ) (shapes : List Shape) (row : Row) (w :
     go d low high false e = let ne : i ≢ d = grind (arith, nat_tests) in ap page_of (other_page row (first + i) x (first + d) (λ f. ne (omega arith))) ∙ o.written d low (omega arith)
 
   -- the head is written last: the pages are a span
-  pub laid_out_span : (owner number x : ℕ) → page_of x ≡ page.Head (span_head w owner number) → IsClass w.class → 1 ≤ w.pages → (w.class ≢ LARGE → w.pages ≡ pages_of w.class) →
-      LaidOut pages globals goroutines shapes row w first w.pages → IsSpan pages (with_page row first x) first (span_head w owner number)
+  pub laid_out_span : (owner number x : ℕ) → page_of x ≡ page.Head (head_for w owner number) → IsClass w.class → 1 ≤ w.pages → (w.class ≢ LARGE → w.pages ≡ pages_of w.class) →
+      LaidOut pages globals goroutines shapes row w first w.pages → IsSpan pages (with_page row first x) first (head_for w owner number)
   laid_out_span owner number x is class some small o = record {
     head = ap page_of (written_page row first x) ∙ is;
     body = λ d low high. ap page_of (other_page row first x (first + d) (λ e. omega arith)) ∙ o.written d low high;
@@ -91,19 +95,19 @@ module _ (pages globals goroutines : ℕ) (shapes : List Shape) (row : Row) (w :
     small = small;
   }
 
-  pub head_spans : (owner number x : ℕ) → page_of x ≡ page.Head (span_head w owner number) → IsClass w.class → 1 ≤ w.pages → (w.class ≢ LARGE → w.pages ≡ pages_of w.class) →
+  pub head_spans : (owner number x : ℕ) → page_of x ≡ page.Head (head_for w owner number) → IsClass w.class → 1 ≤ w.pages → (w.class ≢ LARGE → w.pages ≡ pages_of w.class) →
       LaidOut pages globals goroutines shapes row w first w.pages → SpansGood pages row → SpansGood pages (with_page row first x)
   head_spans owner number x is class some small o good p h lt e = elim (head_before pages row first x p h e) [
     | inl y ↦
         let own = laid_out_span owner number x is class some small o in
-        let same : span_head w owner number ≡ h = cc (is, y.1) in
-        subst (λ (k : SpanHead). IsSpan pages (with_page row first x) p k) same (subst (λ (n : ℕ). IsSpan pages (with_page row first x) n (span_head w owner number)) y.0 own)
+        let same : head_for w owner number ≡ h = cc (is, y.1) in
+        subst (λ (k : SpanHead). IsSpan pages (with_page row first x) p k) same (subst (λ (n : ℕ). IsSpan pages (with_page row first x) n (head_for w owner number)) y.0 own)
     | inr y ↦ span_kept pages row first x o.head p h (good p h lt y)
   ]
 
   -- a span then is the new one, or was there before
-  pub head_span_before : (owner number x : ℕ) → page_of x ≡ page.Head (span_head w owner number) → SpansGood pages row → (p : ℕ) (h : SpanHead) → IsSpan pages (with_page row first x) p h →
-      ((first ≡ p) × (span_head w owner number ≡ h)) ⊎ IsSpan pages row p h
+  pub head_span_before : (owner number x : ℕ) → page_of x ≡ page.Head (head_for w owner number) → SpansGood pages row → (p : ℕ) (h : SpanHead) → IsSpan pages (with_page row first x) p h →
+      ((first ≡ p) × (head_for w owner number ≡ h)) ⊎ IsSpan pages row p h
   head_span_before owner number x is good p h s = elim (head_before pages row first x p h s.head) [
     | inl y ↦ inl (y.0, cc (is, y.1))
     | inr y ↦ let within = s.within in let some = s.some in inr (good p h (omega arith) y)

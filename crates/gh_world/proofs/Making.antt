@@ -1,11 +1,13 @@
--- Own steps in which an object is made, and after.
-use Rattle.std.proofs.Common.{◌≡◌, ◌≢◌, ℕ, ◌+◌, ◌*◌, ◌/◌, ◌%◌, ◌-◌, ◌^◌, ◌<◌, ◌≤◌, ◌⊎◌, Bool, true, false, cond, eqb, List, [], ◌∷◌, length, Some, None, refl, sym, ap, subst, ◌∙◌, arith, inl, inr, lit<, get_or-set_same, get_or-set_other, length-set}
-use Rattle.std.specs.Prelude.{slice_index_or, slice_set, bit_or}
+-- Own steps in which an object is made, and after; and all steps of the making.
+use Rattle.std.proofs.Common.{◌≡◌, ◌≢◌, ℕ, ◌+◌, ◌*◌, ◌/◌, ◌%◌, ◌-◌, ◌^◌, ◌<◌, ◌≤◌, ◌⊎◌, Bool, true, false, cond, eqb, List, [], ◌∷◌, length, Option, Some, None, refl, sym, ap, subst, ◌∙◌, arith, inl, inr, lit<, get_or-set_same, get_or-set_other, length-set, append-nil}
+use Rattle.std.specs.Prelude.{slice_set, bit_or}
+use Rattle.std.specs.Option.{option_to_list}
 use Rattle.std.proofs.lemmas.Bool.{eqb-true, eq-eqb, ne_eqb}
 use Rattle.std.proofs.lemmas.Bool.Decides.{nat_tests}
 use Rattle.gh_base.specs.declared.value.Name.{Name}
 use Rattle.gh_base.specs.declared.value.Value.{Value}
 use Rattle.gh_base.specs.declared.value.Value.TheVariants as value
+use Rattle.gh_base.specs.declared.value.Answer.{Answer}
 use Rattle.gh_base.specs.declared.value.Answer.TheVariants as answer
 use Rattle.gh_base.specs.declared.shape.Shape.{Shape}
 use Rattle.gh_base.specs.Shapes.{shape_at, is_pointer}
@@ -15,30 +17,40 @@ use Rattle.gh_base.specs.declared.pack.SpanBody.{SpanBody}
 use Rattle.gh_base.specs.declared.pack.PageWord.TheVariants as page
 use Rattle.gh_base.specs.declared.pack.TheConstants.{LARGE}
 use Rattle.gh_base.specs.Packing.{IsClass, bit, page_of, birth_word, head_word}
+use Rattle.gh_base.proofs.Packing.{page_of-page_word}
 use Rattle.gh_class.specs.Classes.{pages_of}
 use Rattle.gh_base.specs.Cells.{Words, put}
+use Rattle.gh_base.specs.Steps.{cell_of}
 use Rattle.gh_base.specs.declared.cell.Cell.TheVariants as cell
 use Rattle.gh_model.specs.declared.EverValue.{EverValue}
 use Rattle.gh_model.specs.declared.EverValue.TheVariants as ever
 use Rattle.gh_model.specs.Ever.{Ever, same_name, next_name, first_value, with_object, with_register, shape_of, field_count}
-use Rattle.gh_world.specs.declared.point.Wanted.{Wanted}
-use Rattle.gh_world.specs.declared.point.Cached.{Cached}
-use Rattle.gh_world.specs.declared.point.Processor.{Processor}
-use Rattle.gh_world.specs.declared.point.Point.{Point}
-use Rattle.gh_world.specs.declared.point.Point.TheVariants.{Idle, Alloc, Disown, Count}
-use Rattle.gh_world.specs.Listing.{is_large, at_point, made_by, made_object, next_of, new_op, span_head}
-use Rattle.gh_world.specs.Order.{most_objects}
-use Rattle.gh_world.specs.Stands.{Row, row_bit, pages_row, alloc_row, bitmap_row, slot_count, slot_size, body_at, IsSpan, IsSlot, IsMade, size_of, Holds, Means}
-use Rattle.gh_world.specs.Points.{Good, WantsName, BitsBelow, Born, OwnSpan, Fresh, IsPending}
-use Rattle.gh_world.proofs.Step.{Keeps, StepAt}
+use Rattle.gh_bitmap.specs.Bits.{Row, row_bit, bitmap_row}
+use Rattle.gh_bitmap.specs.Setting.{Setting}
+use Rattle.gh_central.specs.Giving as giving
+use Rattle.gh_central.specs.Listing.{owned_by}
+use Rattle.gh_alloc.specs.declared.find.CachedSpan.{CachedSpan}
+use Rattle.gh_alloc.specs.declared.place.PlacePoint.{PlacePoint}
+use Rattle.gh_alloc.specs.declared.place.PlacePoint.TheVariants as make
+use Rattle.gh_alloc.specs.Placing.{Placing}
+use Rattle.gh_alloc.specs.Placing as placed
+use Rattle.gh_mutator.specs.declared.point.Wanted.{Wanted}
+use Rattle.gh_mutator.specs.declared.point.Processor.{Processor}
+use Rattle.gh_mutator.specs.declared.point.Point.{Point}
+use Rattle.gh_mutator.specs.declared.point.Point.TheVariants.{Idle, Place}
+use Rattle.gh_mutator.specs.Listing.{asks_at, is_large, is_made, at_point, made_by, made_object, next_of, new_op, span_head}
+use Rattle.gh_mutator.specs.Sound.{most_objects}
+use Rattle.gh_world.specs.Stands.{pages_row, alloc_row, slot_count, slot_size, body_at, IsSpan, IsSlot, IsMade, size_of, Holds, Means}
+use Rattle.gh_world.specs.Points.{Good, WantsName, BitsBelow, Born, OwnSpan, Fresh, IsNamed, ShapesGood}
+use Rattle.gh_world.proofs.Step.{Laws, Keeps, StepAt}
 use Rattle.gh_world.proofs.Keeping.{fine_here, keeps_from, not_full, act_of, has_room}
-use Rattle.gh_world.proofs.Frames.{within_is, good_at, good_register, good_heap, same_name_is, same_name_here}
-use Rattle.gh_world.proofs.Spans.{slot_within, same_span}
+use Rattle.gh_world.proofs.Frames.{good_at, good_register, good_heap, same_name_is, same_name_here}
+use Rattle.gh_world.proofs.Spans.{same_span}
 use Rattle.gh_world.proofs.BitRows.{set_one, set_one_other}
 use Rattle.gh_world.proofs.Laying.{with_page, written_page, other_page}
 use Rattle.gh_world.proofs.Wanting.{WantedGood}
-use Rattle.gh_world.proofs.Searching.{wanted_here}
-use Rattle.gh_world.proofs.Spanning.{head_says}
+use Rattle.gh_world.proofs.Placing.{made_at, FineMaking, KeepsMaking, step_clear, step_birth, step_bits}
+use Rattle.gh_world.proofs.Caching.{wanted_here}
 
 -- the new object has its place
 abbrev placed_at : (Name → ℕ) → Name → ℕ → Name → ℕ
@@ -134,7 +146,7 @@ module _ (shapes : List Shape) (l : Layout) where
       record {
         sizes = record { registers = s.registers; made = rw length-set s.made; cache = s.cache; arena = s.arena; some = s.some; most = s.most; few = s.few; seat = s.seat; generation = s.generation };
         spans = good.spans;
-        slots = record { is_slot = λ x made. slot x (made_cases shapes e w.g w.t x made); is_set = λ x made. set x (made_cases shapes e w.g w.t x made) };
+        slots = record { is_slot = λ x made. slot x (made_cases shapes e w.g w.t x made); is_set = λ x made. set x (made_cases shapes e w.g w.t x made); only = λ x lt bit. only x lt bit (eqb a x) refl };
         births = λ x made. birth x (made_cases shapes e w.g w.t x made);
         bitmap = λ x k made lk. pointers x k (made_cases shapes e w.g w.t x made) lk;
         fields = λ x k made lk. field x k (made_cases shapes e w.g w.t x made) lk;
@@ -144,7 +156,7 @@ module _ (shapes : List Shape) (l : Layout) where
         few = λ g. few g (eqb g w.g) refl;
         none = λ g le. none g le (eqb g w.g) refl;
         cache = good.cache;
-        taken = λ p i h span ne inside. taken p i h (good.taken p i h span ne inside);
+        owners = good.owners;
       } where
         slot : (x : Name) → (x ≡ next_name e w.g) ⊎ (IsMade e x × (same_name x (next_name e w.g) ≡ false)) → IsSlot l.pages (pages_row words) (placed_at place (next_name e w.g) a x) (size_of shapes (with_object shapes e w.g w.t) x)
         slot x (inl q) =
@@ -202,13 +214,14 @@ module _ (shapes : List Shape) (l : Layout) where
         none g le true t = let same : g ≡ w.g = eqb-true g w.g t in let lw = wants.0.goroutine in absurd (omega arith)
         none g le false t = rw t (good.none g le)
 
-        taken : (p i : ℕ) (h : SpanHead) → (row_bit (alloc_row words) (1024 * p + i * slot_size h) ≡ 1) ⊎ ((c : Cached) × (slice_index_or m.cache (2 * h.class + bit h.noscan) None ≡ Some c) × (c.head ≡ p) × (c.cursor ≤ i)) →
-            (row_bit (alloc_row (put words (cell.Alloc (a / 64)) (bit_or (words (cell.Alloc (a / 64))) (2 ^ (a % 64))))) (1024 * p + i * slot_size h) ≡ 1) ⊎ ((c : Cached) × (slice_index_or m.cache (2 * h.class + bit h.noscan) None ≡ Some c) × (c.head ≡ p) × (c.cursor ≤ i))
-        taken p i h (inr x) = inr x
-        taken p i h (inl x) = inl (still (eqb a (1024 * p + i * slot_size h)) refl) where
-          still : (b : Bool) → eqb a (1024 * p + i * slot_size h) ≡ b → row_bit (alloc_row (put words (cell.Alloc (a / 64)) (bit_or (words (cell.Alloc (a / 64))) (2 ^ (a % 64))))) (1024 * p + i * slot_size h) ≡ 1
-          still true t = subst (λ (y : ℕ). row_bit (alloc_row (put words (cell.Alloc (a / 64)) (bit_or (words (cell.Alloc (a / 64))) (2 ^ (a % 64))))) y ≡ 1) (eqb-true _ _ t) (set_one (alloc_row words) a)
-          still false t = set_one_other (alloc_row words) a (1024 * p + i * slot_size h) (λ q. absurd (cc (t, eq-eqb a (1024 * p + i * slot_size h) q))) ∙ x
+        only : (x : ℕ) → x < 1024 * l.pages → row_bit (alloc_row (put words (cell.Alloc (a / 64)) (bit_or (words (cell.Alloc (a / 64))) (2 ^ (a % 64))))) x ≡ 1 → (b : Bool) → eqb a x ≡ b →
+            (n : Name) × IsMade (with_object shapes e w.g w.t) n × (x ≡ placed_at place (next_name e w.g) a n)
+        only x lt set true t = (next_name e w.g, new_made shapes e w.g w.t, sym (eqb-true a x t) ∙ sym (at_new shapes e w.g w.t place a))
+        only x lt set false t =
+            let ne : a ≢ x = λ q. absurd (cc (t, eq-eqb a x q)) in
+            let was = good.slots.only x lt (sym (set_one_other (alloc_row words) a x ne) ∙ set) in
+            let still = was_made shapes e w.g w.t was.0 was.1 in
+            (was.0, still.1, was.2 ∙ sym (at_old shapes e w.g w.t place a was.0 still.0))
 
   -- the register names the object
   good_named : (words : Words) (place : Name → ℕ) (e : Ever) (m : Processor) (w : Wanted) (a : ℕ) (p : Point) → WantedGood (shape_at shapes w.t) w → WantsName l.pages l.globals l.goroutines shapes m w → Born l.pages l.globals l.goroutines shapes words place e m w a → BitsBelow l.pages l.globals l.goroutines shapes (bitmap_row words) w a (a + w.slot) → Fits words place e m →
@@ -231,40 +244,42 @@ module _ (shapes : List Shape) (l : Layout) where
     counted_is : e.made w.g ≡ made_by (counted m w.g) w.g - 1
     counted_is = let lw = wants.0.goroutine in let same = made_same m w.g long (omega arith) in omega (arith, same, is)
 
-  alloc_by : (words : Words) (place : Name → ℕ) (e : Ever) (m : Processor) (w : Wanted) (a found : ℕ) → WantedGood (shape_at shapes w.t) w → WantsName l.pages l.globals l.goroutines shapes m w → Born l.pages l.globals l.goroutines shapes words place e m w a → BitsBelow l.pages l.globals l.goroutines shapes (bitmap_row words) w a (a + w.slot) → Fits words place e m →
-      a / 64 % (16 * m.pages) ≡ a / 64 → (b : Bool) → is_large w ≡ b → Keeps shapes l words e m (Alloc w a) None found
-  alloc_by words place e m w a found wg wants born bits good index true large =
-      let f = fresh place e m w a (Disown w a) wg wants good.sizes.made good.sizes.few (good.made w.g wants.0.goroutine) in
-      let own = born.clearing.own large in
-      keeps_from shapes l words e m (Alloc w a) None found (put words (cell.Alloc (a / 64)) (bit_or (words (cell.Alloc (a / 64))) (2 ^ (a % 64)))) (at_point (made_object m w a) (Disown w a)) (Some (act_of (new_op w))) None (placed_at place (next_name e w.g) a) (Some (answer.Ref (next_name e w.g)))
-      (ap (λ (x : ℕ). put words (cell.Alloc x) (bit_or (words (cell.Alloc x)) (2 ^ (a % 64)))) index) (ap (λ (b : Bool). at_point (made_object m w a) (cond b (Disown w a) (Count w a))) large) refl refl
-      (record { good = good_named words place e m w a (Disown w a) wg wants born bits good; fine = (own, (next_name e w.g, f)); pends = f.name })
+  -- where the making goes then
+  abbrev made_by_span : Processor → Wanted → ℕ → Name → Bool → PlacePoint
+  made_by_span m w a n b = placed.made (made_at shapes l m w a n make.Alloc) (cond b (Some (span_head m w)) None)
+
+  abbrev taken : Processor → Wanted → ℕ → Name → Bool → Processor
+  taken m w a n b = at_point (made_object m w a) (cond (placed.is_busy (made_by_span m w a n b)) (Place w (made_at shapes l m w a n (made_by_span m w a n b))) Idle)
+
+  alloc_by : (words : Words) (place : Name → ℕ) (e : Ever) (m : Processor) (w : Wanted) (a : ℕ) → WantedGood (shape_at shapes w.t) w → WantsName l.pages l.globals l.goroutines shapes m w → Born l.pages l.globals l.goroutines shapes words place e m w a → BitsBelow l.pages l.globals l.goroutines shapes (bitmap_row words) w a (a + w.slot) → Fits words place e m →
+      (b : Bool) → is_large w ≡ b → KeepsMaking shapes l words e m w a (next_name e w.g) make.Alloc None
+  alloc_by words place e m w a wg wants born bits good true large =
+      keeps_from shapes l words e m (Place w (made_at shapes l m w a (next_name e w.g) make.Alloc)) None (words (cell.Alloc (a / 64))) (put words (cell.Alloc (a / 64)) (bit_or (words (cell.Alloc (a / 64))) (2 ^ (a % 64))))
+      (taken m w a (next_name e w.g) true) (Some (act_of (new_op w))) None (placed_at place (next_name e w.g) a) (Some (answer.Ref (next_name e w.g)))
+      refl (ap (λ (b : Bool). taken m w a (next_name e w.g) b) large) refl (ap (λ (b : Bool). cond (placed.is_busy (made_by_span m w a (next_name e w.g) b)) None (Some (answer.Ref (next_name e w.g)))) large)
+      (record {
+        good = good_named words place e m w a _ wg wants born bits good;
+        fine = (refl, (refl, born.clearing.own large, fresh place e m w a _ wg wants good.sizes.made good.sizes.few (good.made w.g wants.0.goroutine)));
+        pends = refl;
+      })
       refl (has_room shapes l words (new_op w)) refl
-  alloc_by words place e m w a found wg wants born bits good index false large =
-      let f = fresh place e m w a (Count w a) wg wants good.sizes.made good.sizes.few (good.made w.g wants.0.goroutine) in
-      keeps_from shapes l words e m (Alloc w a) None found (put words (cell.Alloc (a / 64)) (bit_or (words (cell.Alloc (a / 64))) (2 ^ (a % 64)))) (at_point (made_object m w a) (Count w a)) (Some (act_of (new_op w))) None (placed_at place (next_name e w.g) a) (Some (answer.Ref (next_name e w.g)))
-      (ap (λ (x : ℕ). put words (cell.Alloc x) (bit_or (words (cell.Alloc x)) (2 ^ (a % 64)))) index) (ap (λ (b : Bool). at_point (made_object m w a) (cond b (Disown w a) (Count w a))) large) refl refl
-      (record { good = good_named words place e m w a (Count w a) wg wants born bits good; fine = (next_name e w.g, f); pends = f.name })
+  alloc_by words place e m w a wg wants born bits good false large =
+      keeps_from shapes l words e m (Place w (made_at shapes l m w a (next_name e w.g) make.Alloc)) None (words (cell.Alloc (a / 64))) (put words (cell.Alloc (a / 64)) (bit_or (words (cell.Alloc (a / 64))) (2 ^ (a % 64))))
+      (taken m w a (next_name e w.g) false) (Some (act_of (new_op w))) None (placed_at place (next_name e w.g) a) (Some (answer.Ref (next_name e w.g)))
+      refl (ap (λ (b : Bool). taken m w a (next_name e w.g) b) large) refl (ap (λ (b : Bool). cond (placed.is_busy (made_by_span m w a (next_name e w.g) b)) None (Some (answer.Ref (next_name e w.g)))) large)
+      (record {
+        good = good_named words place e m w a _ wg wants born bits good;
+        fine = (refl, fresh place e m w a _ wg wants good.sizes.made good.sizes.few (good.made w.g wants.0.goroutine));
+        pends = refl;
+      })
       refl (has_room shapes l words (new_op w)) refl
 
-  pub step_alloc : (w : Wanted) (a : ℕ) → StepAt shapes l (Alloc w a)
-  step_alloc w a sg words place e m None at h =
-      let here = fine_here shapes l words place e m (Alloc w a) None at h in
-      let f = here.0 in
-      let wg = wanted_here shapes l w sg f.0.0 in
-      let slot = f.1.clearing.is_slot in
-      let within = slot_within l.pages (pages_row words) a w.slot slot in
-      let w0 = within.0 in
-      let some = wg.room in
-      let index : a / 64 % (16 * m.pages) ≡ a / 64 = within_is (a / 64) (16 * m.pages) (rw (h.good.sizes.arena) (omega arith)) in
-      alloc_by words place e m w a (words (cell.Alloc (a / 64 % (16 * m.pages)))) wg f.0 f.1 f.2 h.good index (is_large w) refl
-  step_alloc w a sg words place e m (Some x) at h = absurd (fine_here shapes l words place e m (Alloc w a) (Some x) at h).1
+  step_alloc : (words : Words) (place : Name → ℕ) (e : Ever) (m : Processor) (w : Wanted) (a : ℕ) (n : Name) → WantedGood (shape_at shapes w.t) w → Fits words place e m → FineMaking shapes l words place e m w a n make.Alloc → KeepsMaking shapes l words e m w a n make.Alloc None
+  step_alloc words place e m w a n wg good f =
+      let named : n ≡ next_name e w.g = f.1 ∙ same_name_is (next_of m w) (next_name e w.g) refl (good.made w.g f.0.0.goroutine) in
+      subst (λ (x : Name). KeepsMaking shapes l words e m w a x make.Alloc None) (sym named) (alloc_by words place e m w a wg f.0 f.2 f.3 good (is_large w) refl)
 
   -- Nobody owns the span of a large object once it stands.
-
-  -- the head with another owner and number
-  owned_by : (h k : SpanHead) → k.class ≡ h.class → k.noscan ≡ h.noscan → k.pages ≡ h.pages → (slot_size k ≡ slot_size h) × (slot_count k ≡ slot_count h)
-  owned_by h k class noscan pages = (rw (class, pages) refl, rw class refl)
 
   abbrev body_with : ℕ → Bool → ℕ → SpanBody
   body_with class noscan d = record { class = class; noscan = noscan; distance = d }
@@ -346,7 +361,7 @@ module _ (shapes : List Shape) (l : Layout) where
   good_disowned words place e m q x own k s large is class noscan long good = record {
     sizes = good.sizes;
     spans = λ p h lt f. spans p h lt (eqb q p) refl f;
-    slots = record { is_slot = λ n made. slot (place n) _ (good.slots.is_slot n made); is_set = good.slots.is_set };
+    slots = record { is_slot = λ n made. slot (place n) _ (good.slots.is_slot n made); is_set = good.slots.is_set; only = good.slots.only };
     births = good.births;
     bitmap = good.bitmap;
     fields = good.fields;
@@ -356,9 +371,9 @@ module _ (shapes : List Shape) (l : Layout) where
     few = good.few;
     none = good.none;
     cache = λ c noscan entry low eq. cache c noscan entry (good.cache c noscan entry low eq);
-    taken = λ p i h span ne inside. elim (head_disowned (pages_row words) q x k is p h span.head) [
+    owners = λ p h span ne. elim (head_disowned (pages_row words) q x k is p h span.head) [
       | inl y ↦ absurd (ne (ap (λ (z : SpanHead). z.class) (sym y.1) ∙ class ∙ large))
-      | inr y ↦ let within = span.within in let some = span.some in good.taken p i h (good.spans p h (omega arith) y) ne inside
+      | inr y ↦ let within = span.within in let some = span.some in good.owners p h (good.spans p h (omega arith) y) ne
     ];
   } where
     here : IsSpan l.pages (with_page (pages_row words) q x) q k
@@ -376,42 +391,61 @@ module _ (shapes : List Shape) (l : Layout) where
         let z = sizes_same t.h d.0 d.1.class d.1.long in
         record { p = t.p; h = d.0; i = t.i; span = d.1.span; inside = rw (z.1) t.inside; size_is = t.size_is ∙ sym z.0; at = t.at }
 
-    cache : (c : ℕ) (n : Bool) (entry : Cached) → (h : SpanHead) × IsSpan l.pages (pages_row words) entry.head h × (h.class ≡ c) × (h.noscan ≡ n) → (h : SpanHead) × IsSpan l.pages (with_page (pages_row words) q x) entry.head h × (h.class ≡ c) × (h.noscan ≡ n)
+    cache : (c : ℕ) (n : Bool) (entry : CachedSpan) → (h : SpanHead) × IsSpan l.pages (pages_row words) entry.head h × (h.class ≡ c) × (h.noscan ≡ n) → (h : SpanHead) × IsSpan l.pages (with_page (pages_row words) q x) entry.head h × (h.class ≡ c) × (h.noscan ≡ n)
     cache c n entry t =
         let d = span_disowned (pages_row words) q x own k s is class noscan long entry.head t.0 t.1 in
         (d.0, d.1.span, d.1.class ∙ t.2, d.1.noscan ∙ t.3)
 
-  pub step_disown : (w : Wanted) (a : ℕ) → StepAt shapes l (Disown w a)
-  step_disown w a sg words place e m (Some (answer.Ref n)) at h =
-      let here = fine_here shapes l words place e m (Disown w a) (Some (answer.Ref n)) at h in
-      let own = here.0.0 in
-      let f = here.0.1.1 in
-      let wg = wanted_here shapes l w sg f.wants in
-      let within = own.span.within in
-      let some = own.span.some in
-      let index : a / 1024 % m.pages ≡ a / 1024 = within_is (a / 1024) m.pages (rw (h.good.sizes.arena) (omega arith)) in
-      let is = head_says shapes l (shape_at shapes w.t) w 0 m.generation wg (lit< tt) h.good.sizes.generation in
-      large_by own here.0.1.0 f here.1 wg index is (eqb own.h.class LARGE) refl h.good where
-        large_by : (own : OwnSpan l.pages l.globals l.goroutines shapes (pages_row words) w a) (x : Name) → Fresh l.pages l.globals l.goroutines shapes place e m w a x → IsPending place e m (Disown w a) (Some (answer.Ref n)) → WantedGood (shape_at shapes w.t) w → a / 1024 % m.pages ≡ a / 1024 → page_of (head_word (span_head w 0 m.generation)) ≡ page.Head (span_head w 0 m.generation) →
-            (b : Bool) → eqb own.h.class LARGE ≡ b → Fits words place e m → Keeps shapes l words e m (Disown w a) (Some (answer.Ref n)) (words (cell.Page (a / 1024 % m.pages)))
-        large_by own x f pends wg index is b t good =
-            keeps_from shapes l words e m (Disown w a) (Some (answer.Ref n)) (words (cell.Page (a / 1024 % m.pages))) (put words (cell.Page (a / 1024)) (head_word (span_head w 0 m.generation))) (at_point m (Count w a)) None None place (Some (answer.Ref n))
-            (ap (λ (y : ℕ). put words (cell.Page y) (head_word (span_head w 0 m.generation))) index) refl refl refl
-            (record {
-              good = good_at l.pages l.globals l.goroutines shapes (put words (cell.Page (a / 1024)) (head_word (span_head w 0 m.generation))) place e m (Count w a) (good_disowned words place e m (a / 1024) (head_word (span_head w 0 m.generation)) own.h (span_head w 0 m.generation) own.span large is (sym own.class) (sym own.noscan) (sym own.long) good);
-              fine = (x, record { wants = f.wants; name = f.name; made = f.made; at = f.at; size = f.size });
-              pends = pends;
-            })
-            refl (not_full shapes l words None refl) refl where
-              large : own.h.class ≡ LARGE
-              large = own.class ∙ own.large
-  step_disown w a sg words place e m pending at h = absurd (fine_here shapes l words place e m (Disown w a) pending at h).1
+  head_says : (shape : Shape) (m : Processor) (w : Wanted) → WantedGood shape w → m.generation < 2 ^ 34 → page_of (head_word (owned_by 0 (span_head m w))) ≡ page.Head (owned_by 0 (span_head m w))
+  head_says shape m w g small = let most = g.most in page_of-page_word (page.Head (owned_by 0 (span_head m w))) (record { class = g.class; some = g.some; pages = omega arith; owner = lit< tt; number = small })
 
-  pub step_count : (w : Wanted) (a : ℕ) → StepAt shapes l (Count w a)
-  step_count w a sg words place e m (Some (answer.Ref n)) at h =
-      let here = fine_here shapes l words place e m (Count w a) (Some (answer.Ref n)) at h in
-      keeps_from shapes l words e m (Count w a) (Some (answer.Ref n)) (words cell.Heap) (put words cell.Heap ((words cell.Heap + 8 * w.slot) % 2 ^ 64)) (at_point m Idle) None (Some (answer.Ref (record { g = w.g; k = made_by m w.g - 1 }))) place None
+  fresh_kept : (place : Name → ℕ) (e : Ever) (m : Processor) (p : Point) (w : Wanted) (a : ℕ) (n : Name) → Fresh l.pages l.globals l.goroutines shapes place e m w a n → Fresh l.pages l.globals l.goroutines shapes place e (at_point m p) w a n
+  fresh_kept place e m p w a n f = record { wants = f.wants; name = f.name; made = f.made; at = f.at; size = f.size }
+
+  -- nobody owns the large object's span once it stands
+  give_by : (words : Words) (place : Name → ℕ) (e : Ever) (m : Processor) (w : Wanted) (a : ℕ) (n : Name) (pending : Option Answer) → WantedGood (shape_at shapes w.t) w → Fits words place e m → OwnSpan l.pages l.globals l.goroutines shapes (pages_row words) w a → Fresh l.pages l.globals l.goroutines shapes place e m w a n → IsNamed n true pending →
+      KeepsMaking shapes l words e m w a n (make.Give (giving.giving m.layout (a / 1024) (span_head m w))) pending
+  give_by words place e m w a n pending wg good own f named =
+      keeps_from shapes l words e m (Place w (made_at shapes l m w a n (make.Give (giving.giving m.layout (a / 1024) (span_head m w))))) pending (words (cell.Page (a / 1024))) (put words (cell.Page (a / 1024)) (head_word (owned_by 0 (span_head m w))))
+      (at_point m (Place w (made_at shapes l m w a n make.Count))) None None place pending
       refl refl refl refl
-      (record { good = good_at l.pages l.globals l.goroutines shapes (put words cell.Heap ((words cell.Heap + 8 * w.slot) % 2 ^ 64)) place e m Idle (good_heap l.pages l.globals l.goroutines shapes words place e m ((words cell.Heap + 8 * w.slot) % 2 ^ 64) h.good); fine = tt; pends = tt })
-      (ap (λ (x : Name). answer.Ref x ∷ []) here.1) (not_full shapes l words None refl) refl
-  step_count w a sg words place e m pending at h = absurd (fine_here shapes l words place e m (Count w a) pending at h).1
+      (record {
+        good = good_at l.pages l.globals l.goroutines shapes (put words (cell.Page (a / 1024)) (head_word (owned_by 0 (span_head m w)))) place e m (Place w (made_at shapes l m w a n make.Count))
+            (good_disowned words place e m (a / 1024) (head_word (owned_by 0 (span_head m w))) own.h (owned_by 0 (span_head m w)) own.span (own.class ∙ own.large) (head_says (shape_at shapes w.t) m w wg good.sizes.generation) (sym own.class) (sym own.noscan) (sym own.long) good);
+        fine = (refl, fresh_kept place e m (Place w (made_at shapes l m w a n make.Count)) w a n f);
+        pends = named;
+      })
+      (sym (append-nil (option_to_list pending))) (not_full shapes l words None refl) refl
+
+  step_give : (words : Words) (place : Name → ℕ) (e : Ever) (m : Processor) (w : Wanted) (a : ℕ) (n : Name) (g : giving.Giving) (pending : Option Answer) → WantedGood (shape_at shapes w.t) w → Fits words place e m → FineMaking shapes l words place e m w a n (make.Give g) → IsNamed n true pending → KeepsMaking shapes l words e m w a n (make.Give g) pending
+  step_give words place e m w a n g pending wg good f named =
+      subst (λ (x : giving.Giving). KeepsMaking shapes l words e m w a n (make.Give x) pending) (sym f.0) (give_by words place e m w a n pending wg good f.1 f.2 named)
+
+  step_count : (words : Words) (place : Name → ℕ) (e : Ever) (m : Processor) (w : Wanted) (a : ℕ) (n : Name) (pending : Option Answer) → Fits words place e m → IsNamed n true pending → KeepsMaking shapes l words e m w a n make.Count pending
+  step_count words place e m w a n (Some (answer.Ref x)) good named =
+      keeps_from shapes l words e m (Place w (made_at shapes l m w a n make.Count)) (Some (answer.Ref x)) (words cell.Heap) (put words cell.Heap ((words cell.Heap + 8 * w.slot) % 2 ^ 64)) (at_point m Idle) None (Some (answer.Ref n)) place None
+      refl refl refl refl
+      (record { good = good_at l.pages l.globals l.goroutines shapes (put words cell.Heap ((words cell.Heap + 8 * w.slot) % 2 ^ 64)) place e m Idle (good_heap l.pages l.globals l.goroutines shapes words place e m ((words cell.Heap + 8 * w.slot) % 2 ^ 64) good); fine = tt; pends = tt })
+      (ap (λ (y : Name). answer.Ref y ∷ []) named) (not_full shapes l words None refl) refl
+  step_count words place e m w a n pending good named = absurd named
+
+  -- each step of the making
+  step_on : Laws → ShapesGood shapes → (words : Words) (place : Name → ℕ) (e : Ever) (m : Processor) (w : Wanted) (a : ℕ) (n : Name) (q : PlacePoint) (pending : Option Answer) → Fits words place e m → FineMaking shapes l words place e m w a n q → IsNamed n (is_made q) pending → KeepsMaking shapes l words e m w a n q pending
+  step_on laws sg words place e m w a n (make.Clear k) None good f named = step_clear shapes l words place e m w a n k good f
+  step_on laws sg words place e m w a n make.Birth None good f named = step_birth shapes l words place e m w a n (wanted_here shapes l w sg f.0.0) good f
+  step_on laws sg words place e m w a n (make.Bits s) None good f named =
+      subst (λ (x : Setting). KeepsMaking shapes l words e m w a n (make.Bits x) None) (sym f.3) (step_bits shapes l laws words place e m w a n (sg w.t f.0.0.type) (wanted_here shapes l w sg f.0.0) good f.0 f.1 f.2 s.place f.4)
+  step_on laws sg words place e m w a n make.Alloc None good f named = step_alloc words place e m w a n (wanted_here shapes l w sg f.0.0) good f
+  step_on laws sg words place e m w a n (make.Clear k) (Some x) good f named = absurd named
+  step_on laws sg words place e m w a n make.Birth (Some x) good f named = absurd named
+  step_on laws sg words place e m w a n (make.Bits s) (Some x) good f named = absurd named
+  step_on laws sg words place e m w a n make.Alloc (Some x) good f named = absurd named
+  step_on laws sg words place e m w a n (make.Give g) pending good f named = step_give words place e m w a n g pending (wanted_here shapes l w sg f.2.wants) good f named
+  step_on laws sg words place e m w a n make.Count pending good f named = step_count words place e m w a n pending good named
+  step_on laws sg words place e m w a n make.Ended pending good f named = absurd f
+
+  pub step_place : Laws → (w : Wanted) (p : Placing) → StepAt shapes l (Place w p)
+  step_place laws w p sg words place e m pending at h =
+      let here = fine_here shapes l words place e m (Place w p) pending at h in
+      subst (λ (x : Placing). Keeps shapes l words e m (Place w x) pending (words (cell_of (asks_at m (Place w x))))) (sym here.0.0)
+      (step_on laws sg words place e m w p.at p.name p.point pending h.good here.0.1 here.1)

@@ -8,11 +8,12 @@ use Rattle.gh_base.specs.declared.layout.Layout.{Layout}
 use Rattle.gh_base.specs.declared.machine.Entry.{Entry}
 use Rattle.gh_base.specs.Lists.{Setting, state_of, MayFollow, Begins}
 use Rattle.gh_script.specs.Program.{Program}
-use Rattle.gh_world.specs.declared.point.Processor.{Processor}
-use Rattle.gh_world.specs.Order.{processor_kind, setting_of, is_busy_at, begun_in}
+use Rattle.gh_mutator.specs.declared.point.Processor.{Processor}
+use Rattle.gh_world.specs.Order.{processor_kind, setting_of, begun_in}
 use Rattle.gh_world.specs.Turns.{turns_of}
 use Rattle.gh_world.specs.World.{opening}
 use Rattle.gh_world.specs.Runs.{IsRun, IsRunSoFar, EveryRunIsOne, NoneIsLonger}
+use Rattle.gh_mutator.specs.Listing.{is_busy_at}
 
 abbrev at_setting : Program → Layout → Setting Processor Op
 at_setting p l = setting_of p.shapes l opening
@@ -40,7 +41,7 @@ same_begun busy (Some o) (Some q) bs xs ys turns a b c d h k =
 
 module _ (p : Program) (l : Layout) where
   busy_after : List (Entry Op) → Bool
-  busy_after es = is_busy_at (state_of (processor_kind p.shapes l.pages) 0 es).point
+  busy_after es = is_busy_at (state_of (processor_kind p.shapes l) 0 es).point
 
   none_busy : (a : ℕ) (es : List (Entry Op)) (b : Option Op) → a ≡ 0 → Begins (at_setting p l) a es b → b ≡ None → busy_after es ≡ true
   unfolding busy_after
@@ -89,7 +90,7 @@ too_long o turns bs rest h k =
 none_follow : (p : Program) (l : Layout) (es : List (Entry Op)) (a : ℕ) (o : Option Op) (to_come : List Op) → a ≡ 0 → IsRun p l es → Begins (at_setting p l) a es o
     → turns_of p ≡ reverse (begun_in p.shapes l es) ++ (option_to_list o ++ to_come) → ⊥
 none_follow p l es a None to_come zero run begins turns =
-    let busy : is_busy_at (state_of (processor_kind p.shapes l.pages) 0 es).point ≡ true = subst (λ (n : ℕ). Begins (at_setting p l) n es None) zero begins in
+    let busy : is_busy_at (state_of (processor_kind p.shapes l) 0 es).point ≡ true = subst (λ (n : ℕ). Begins (at_setting p l) n es None) zero begins in
     absurd (let e = ap is_busy_at run.done in cc)
 none_follow p l es a (Some o) to_come zero run begins turns = too_long o (turns_of p) (begun_in p.shapes l es) to_come run.turns turns
 

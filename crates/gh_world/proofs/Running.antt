@@ -16,15 +16,16 @@ use Rattle.gh_base.specs.Cells.{Words}
 use Rattle.gh_base.specs.Lists.{Begins, state_of, started, words_after, Legal}
 use Rattle.gh_model.specs.Ever.{Ever, opening_ever, answer_of, ever_after}
 use Rattle.gh_model.specs.Answers.{Answers, AllAnswer, ever_after_all}
-use Rattle.gh_world.specs.declared.point.Processor.{Processor}
-use Rattle.gh_world.specs.Listing.{acts, gives_at, Act, takes, begins}
-use Rattle.gh_world.specs.Order.{processor_kind, setting_of, is_busy_at, before_step, begun_in, ever_of, given_in, answer_at}
-use Rattle.gh_world.specs.Turns.{answer_at as answer_at_point, answers_to, is_serving, is_statement, goroutine_at, statement_now, turns_of}
+use Rattle.gh_mutator.specs.declared.point.Processor.{Processor}
+use Rattle.gh_mutator.specs.Listing.{acts, gives_at, Act, takes, begins, is_busy_at}
+use Rattle.gh_world.specs.Order.{processor_kind, setting_of, before_step, begun_in, ever_of, given_in, answer_at}
+use Rattle.gh_world.specs.Turns.{answers_to, goroutine_at, statement_now, turns_of}
 use Rattle.gh_script.specs.Program.{Program}
 use Rattle.gh_world.specs.World.{opening, answer_in, now_in}
 use Rattle.gh_world.specs.Runs.{IsRun, answers_given, with_goroutine, IsExplained}
 use Rattle.gh_world.specs.Law.{processor_after, answers_in, ops_in, FullAt, FullOnly, Stands}
 use Rattle.gh_world.proofs.StepFacts.{step_facts, begin_facts}
+use Rattle.gh_mutator.specs.Serving.{answer_at as answer_at_point, is_serving, is_statement}
 
 reverse_more : {A : Type 0} (x : A) (xs : List A) → reverse (x ∷ xs) ≡ reverse xs ++ x ∷ []
 reverse_more x xs = reverse_onto xs x []
@@ -140,7 +141,7 @@ one_answer o bs a = go (is_statement o) refl where
 
 module _ (p : Program) (l : Layout) where
   abbrev after_list : List (Entry Op) → Processor
-  after_list es = state_of (processor_kind p.shapes l.pages) 0 es
+  after_list es = state_of (processor_kind p.shapes l) 0 es
 
   -- the operation o is begun and not ended, and what stood before it is answered
   record Runs (es : List (Entry Op)) (o : Op) (bs : List Op) (m : Processor) : Type 0 where
@@ -160,13 +161,13 @@ module _ (p : Program) (l : Layout) where
   starts : (es : List (Entry Op)) (e : Entry Op) (b : Option Op) → e.begun ≡ b → Begins (setting_of p.shapes l opening) 0 es b → Told es → (o : Op) × (bs : List Op) × (option_to_list e.begun ++ begun_in p.shapes l es ≡ o ∷ bs) × Runs es o bs (before_step p.shapes l es e)
   starts es e None is begins t =
       let w = t.busy begins in
-      (w.0, w.1, ap (λ (b : Option Op). option_to_list b ++ begun_in p.shapes l es) is ∙ w.2, subst (λ (b : Option Op). Runs es w.0 w.1 (started (processor_kind p.shapes l.pages) b (after_list es))) (sym is) w.3)
+      (w.0, w.1, ap (λ (b : Option Op). option_to_list b ++ begun_in p.shapes l es) is ∙ w.2, subst (λ (b : Option Op). Runs es w.0 w.1 (started (processor_kind p.shapes l) b (after_list es))) (sym is) w.3)
   starts es e (Some o) is begins t =
       let here = t.idle begins.0 in (
         o,
         begun_in p.shapes l es,
         ap (λ (b : Option Op). option_to_list b ++ begun_in p.shapes l es) is,
-        subst (λ (b : Option Op). Runs es o (begun_in p.shapes l es) (started (processor_kind p.shapes l.pages) b (after_list es))) (sym is) (record {
+        subst (λ (b : Option Op). Runs es o (begun_in p.shapes l es) (started (processor_kind p.shapes l) b (after_list es))) (sym is) (record {
           serving = (begin_facts p.shapes (after_list es) o).serves;
           answers = here.0;
           long = here.1;
@@ -223,7 +224,7 @@ module _ (p : Program) (l : Layout) where
   all_told (e ∷ es) h =
       let zeroth : e.actor ≡ 0 = let low = h.1.actor in omega arith in
       let begins : Begins (setting_of p.shapes l opening) 0 es e.begun = subst (λ (n : ℕ). Begins (setting_of p.shapes l opening) n es e.begun) zeroth h.1.begins in
-      let busy : is_busy_at (before_step p.shapes l es e).point ≡ true = subst (λ (n : ℕ). is_busy_at (started (processor_kind p.shapes l.pages) e.begun (state_of (processor_kind p.shapes l.pages) n es)).point ≡ true) zeroth h.1.runs in
+      let busy : is_busy_at (before_step p.shapes l es e).point ≡ true = subst (λ (n : ℕ). is_busy_at (started (processor_kind p.shapes l) e.begun (state_of (processor_kind p.shapes l) n es)).point ≡ true) zeroth h.1.runs in
       let w = starts es e e.begun refl begins (all_told es h.0) in
       goes es e w.0 w.1 (gives_at l.goroutines (before_step p.shapes l es e) (before_step p.shapes l es e).point e.found) refl busy h.1.actor w.2 w.3
 

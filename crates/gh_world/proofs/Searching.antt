@@ -1,365 +1,251 @@
--- Own steps of the search for a slot: in the cached span, and for a run of free pages.
-use Rattle.std.proofs.Common.{◌≡◌, ◌≢◌, ℕ, ◌+◌, ◌*◌, ◌/◌, ◌%◌, ◌-◌, ◌<◌, ◌≤◌, ◌⊎◌, Bool, true, false, cond, eqb, leb, List, [], ◌++◌, length, Option, Some, None, refl, sym, ap, subst, ◌∙◌, arith, inl, inr, get_or-set_same, get_or-set_other, length-set}
+-- Own steps of the search for a slot: in the cached span, and with the lock taken and let go.
+use Rattle.std.proofs.Common.{◌≡◌, ◌≢◌, ℕ, ◌+◌, ◌*◌, ◌/◌, ◌%◌, ◌<◌, ◌≤◌, ◌⊎◌, Bool, true, false, cond, eqb, ltb, List, length, Option, Some, None, refl, sym, ap, subst, ◌∙◌, arith, inl, inr}
 use Rattle.std.specs.Prelude.{slice_index_or, slice_set}
-use Rattle.std.specs.Option.{option_to_list}
 use Rattle.std.specs.Int.{bit_at}
-use Rattle.std.proofs.lemmas.Nat.Bits.{bit_at-lt}
-use Rattle.std.proofs.lemmas.Bool.{eqb-true, eq-eqb, ne_eqb, leb-true, leb-false}
+use Rattle.std.proofs.lemmas.Bool.{eqb-true, ltb-true}
 use Rattle.std.proofs.lemmas.Bool.Decides.{nat_tests}
 use Rattle.gh_base.specs.declared.value.Name.{Name}
-use Rattle.gh_base.specs.declared.value.Value.TheVariants as value
-use Rattle.gh_base.specs.declared.value.Answer.TheVariants as answer
 use Rattle.gh_base.specs.declared.shape.Shape.{Shape}
 use Rattle.gh_base.specs.Shapes.{shape_at}
 use Rattle.gh_base.specs.declared.layout.Layout.{Layout}
 use Rattle.gh_base.specs.declared.pack.SpanHead.{SpanHead}
-use Rattle.gh_base.specs.declared.pack.PageWord.{PageWord}
 use Rattle.gh_base.specs.declared.pack.PageWord.TheVariants as page
 use Rattle.gh_base.specs.declared.pack.TheConstants.{LARGE}
-use Rattle.gh_base.specs.Packing.{IsClass, bit, page_of}
-use Rattle.gh_base.specs.Cells.{Words}
+use Rattle.gh_base.specs.Packing.{bit, page_of}
+use Rattle.gh_base.specs.Cells.{Words, put}
 use Rattle.gh_base.specs.declared.cell.Cell.TheVariants as cell
-use Rattle.gh_class.specs.Classes.{slots_of}
-use Rattle.gh_model.specs.declared.EverValue.TheVariants as ever
-use Rattle.gh_model.specs.Ever.{Ever, with_register}
-use Rattle.gh_world.specs.declared.point.Wanted.{Wanted}
-use Rattle.gh_world.specs.declared.point.Cached.{Cached}
-use Rattle.gh_world.specs.declared.point.Processor.{Processor}
-use Rattle.gh_world.specs.declared.point.Point.TheVariants.{Idle, Slot, Look, Body, Head, Clear}
-use Rattle.gh_world.specs.Listing.{is_large, span_class, cached_for, cache_span, slot_at, at_point, set_register, is_clear, is_free, after_slot, cache_after, search_from, run_after, fits_none, new_op, Act}
-use Rattle.gh_world.specs.Law.{FullAt}
-use Rattle.gh_world.specs.Stands.{Row, row_bit, pages_row, alloc_row, slot_count, slot_size, IsSpan, IsSlot, IsMade, NoRoom}
-use Rattle.gh_world.specs.Points.{Good, Wants, WantsName, IsSpent, FreeBefore, NoRunBefore, LaidOut, ShapesGood}
-use Rattle.gh_world.proofs.Step.{Keeps, StepAt}
-use Rattle.gh_world.proofs.Keeping.{fine_here, keeps_from, not_full}
-use Rattle.gh_world.proofs.Frames.{within_is, good_at, good_register}
+use Rattle.gh_base.specs.Steps.{cell_of}
+use Rattle.gh_bitmap.specs.Bits.{row_bit}
+use Rattle.gh_class.specs.Classes.{slot_of, slots_of}
+use Rattle.gh_model.specs.Ever.{Ever}
+use Rattle.gh_cache.specs.declared.next_slot.Place.TheVariants as slot_place
+use Rattle.gh_cache.specs.Listing as searching
+use Rattle.gh_pages.specs.declared.carve.Span.{Span}
+use Rattle.gh_pages.specs.Listing as carving
+use Rattle.gh_alloc.specs.declared.find.After.{After}
+use Rattle.gh_alloc.specs.declared.find.After.TheVariants.{Again, End as Ends}
+use Rattle.gh_alloc.specs.declared.find.CachedSpan.{CachedSpan}
+use Rattle.gh_alloc.specs.declared.find.FindPoint.{FindPoint}
+use Rattle.gh_alloc.specs.declared.find.FindPoint.TheVariants as seek
+use Rattle.gh_alloc.specs.declared.find.Found.{Found}
+use Rattle.gh_alloc.specs.declared.find.Found.TheVariants.{At, NoRoom as NoneFound}
+use Rattle.gh_alloc.specs.Finding.{Finding}
+use Rattle.gh_alloc.specs.Finding as find
+use Rattle.gh_mutator.specs.declared.point.Wanted.{Wanted}
+use Rattle.gh_mutator.specs.declared.point.Processor.{Processor}
+use Rattle.gh_mutator.specs.declared.point.Point.TheVariants.{Find}
+use Rattle.gh_mutator.specs.Listing.{is_large, span_class, cached_for, sought, sought_for, asks_at, at_point}
+use Rattle.gh_world.specs.Stands.{pages_row, alloc_row, IsSlot, IsMade, IsOwned, OwnersGood}
+use Rattle.gh_world.specs.Points.{Good, WantsName, span_of}
+use Rattle.gh_world.proofs.Step.{Keeps}
+use Rattle.gh_world.proofs.Frames.{within_is, good_at}
 use Rattle.gh_world.proofs.Spans.{slot_within, slot_some}
-use Rattle.gh_world.proofs.Wanting.{WantedGood, wanted_good, CachedSpan, cached_span, cached_small, slot_wanted}
-use Rattle.gh_world.proofs.Beginning.{searches}
+use Rattle.gh_world.proofs.Wanting.{WantedGood, SpanCached, cached_span, cached_small, slot_wanted}
+use Rattle.gh_world.proofs.Caching.{with_cached, small_class, cached_same, cached_other, good_cache, wanted_here, count_small, none_for_large}
+use Rattle.gh_world.proofs.Finding.{here, FineHere, FindsAt, find_begins, goes_on, caches_on, finds_slot, finds_no_room}
 
--- the row of the cache tells the class and noscan
-pub class_tells : (c d : ℕ) (n k : Bool) → 2 * c + bit n ≡ 2 * d + bit k → (c ≡ d) × (n ≡ k)
-class_tells c d true true e = (omega arith, refl)
-class_tells c d false false e = (omega arith, refl)
-class_tells c d true false e = absurd (omega arith)
-class_tells c d false true e = absurd (omega arith)
-
-pub bit_small : (b : Bool) → bit b ≤ 1
-bit_small true = omega arith
-bit_small false = omega arith
-
-pub cached_is : (a c : Cached) → Some a ≡ Some c → a ≡ c
+cached_is : (a c : CachedSpan) → Some a ≡ Some c → a ≡ c
 cached_is a c e = cc
+
+-- the row of the cache for what is wanted
+pub cached_row : (m : Processor) (w : Wanted) → is_large w ≡ false → cached_for m w ≡ slice_index_or m.cache (span_class w) None
+cached_row m w small = ap (λ (b : Bool). cond b None (slice_index_or m.cache (span_class w) None)) small
+
+-- this is cached there now
+pub row_now : (m : Processor) (shape : Shape) (w : Wanted) (k : Option CachedSpan) → WantedGood shape w → is_large w ≡ false → length m.cache ≡ 50 → slice_index_or (slice_set m.cache (span_class w) k) (span_class w) None ≡ k
+row_now m shape w k wg small long = sym (cached_row (with_cached m w k) w small) ∙ cached_same m shape w k wg small long
+
+-- a span that nobody owns, or that is cached
+abbrev pub MayOwn : Processor → ℕ → SpanHead → Type 0
+MayOwn m p h = (h.owner ≡ 0) ⊎ IsOwned m.seat m.cache p h
+
+-- what is cached for such objects changes, and if a span was cached for them, it still is
+pub owned_with : (m : Processor) (shape : Shape) (w : Wanted) (k : Option CachedSpan) (p : ℕ) (h : SpanHead) → WantedGood shape w → is_large w ≡ false → length m.cache ≡ 50 →
+    ((c : CachedSpan) → cached_for m w ≡ Some c → (x : CachedSpan) × (k ≡ Some x) × (x.head ≡ c.head)) → MayOwn m p h → MayOwn (with_cached m w k) p h
+owned_with m shape w k p h wg small long same (inl o) = inl o
+owned_with m shape w k p h wg small long same (inr o) = inr (owned o (eqb (2 * h.class + bit h.noscan) (span_class w)) refl) where
+  owned : IsOwned m.seat m.cache p h → (b : Bool) → eqb (2 * h.class + bit h.noscan) (span_class w) ≡ b → IsOwned m.seat (slice_set m.cache (span_class w) k) p h
+  owned o true t =
+      let j : 2 * h.class + bit h.noscan ≡ span_class w = eqb-true _ _ t in
+      let x = same o.c (cached_row m w small ∙ ap (λ (y : ℕ). slice_index_or m.cache y None) (sym j) ∙ o.cached) in
+      record { owner = o.owner; c = x.0; cached = ap (λ (y : ℕ). slice_index_or (slice_set m.cache (span_class w) k) y None) j ∙ row_now m shape w k wg small long ∙ x.1; at = x.2 ∙ o.at }
+  owned o false t = record { owner = o.owner; c = o.c; cached = cached_other m w k h.class h.noscan t ∙ o.cached; at = o.at }
+
+-- what a span is cut for is what is wanted
+pub span_sought : (shape : Shape) (w : Wanted) → WantedGood shape w → find.span_for (sought w) ≡ record { class = w.class; noscan = w.noscan; pages = w.pages }
+span_sought shape w wg = go (is_large w) refl where
+  go : (b : Bool) → is_large w ≡ b → find.span_for (sought_for w b) ≡ record { class = w.class; noscan = w.noscan; pages = w.pages }
+  go true large = ap (λ (c : ℕ). record { class = c; noscan = w.noscan; pages = w.pages }) (sym (eqb-true w.class LARGE large))
+  go false small = ap (λ (p : ℕ). record { class = w.class; noscan = w.noscan; pages = p }) (sym (wg.small (small_class shape w wg small).1))
 
 module _ (shapes : List Shape) (l : Layout) where
   abbrev Fits : Words → (Name → ℕ) → Ever → Processor → Type 0
   Fits words place e m = Good l.pages l.globals l.goroutines shapes words place e m
 
-  -- what was asked for in a small class
-  pub small_class : (shape : Shape) (w : Wanted) → WantedGood shape w → is_large w ≡ false → (w.class < 25) × (w.class ≢ LARGE)
-  small_class shape w g small =
-      let ne : w.class ≢ LARGE = λ q. absurd (cc (small, eq-eqb w.class LARGE q)) in
-      (elim g.class [ inl x ↦ x | inr x ↦ absurd (ne x) ], ne)
+  -- the lock's word stands for nothing here
+  pub good_lock : (words : Words) (place : Name → ℕ) (e : Ever) (m : Processor) (v : ℕ) → Fits words place e m → Fits (put words cell.Lock v) place e m
+  good_lock words place e m v good =
+      record { sizes = good.sizes; spans = good.spans; slots = record { is_slot = good.slots.is_slot; is_set = good.slots.is_set; only = good.slots.only }; births = good.births; bitmap = good.bitmap; fields = good.fields; globals_hold = good.globals_hold; registers = good.registers; made = good.made; few = good.few; none = good.none; cache = good.cache; owners = good.owners }
 
-  pub cached_same : (m : Processor) (shape : Shape) (w : Wanted) (k : Cached) → WantedGood shape w → is_large w ≡ false → length m.cache ≡ 50 → cached_for (cache_span m w k) w ≡ Some k
-  cached_same m shape w k g small long =
-      let low = (small_class shape w g small).0 in
-      let b = bit_small w.noscan in
-      let lt : span_class w < length m.cache = omega (arith, long) in
-      ap (λ (x : Bool). cond x None (slice_index_or (slice_set m.cache (span_class w) (Some k)) (span_class w) None)) small ∙ rw get_or-set_same
-
-  -- a span is cached, or its cursor moves on
-  pub good_cache : (words : Words) (place : Name → ℕ) (e : Ever) (m : Processor) (shape : Shape) (w : Wanted) (k : Cached) → WantedGood shape w → is_large w ≡ false → Fits words place e m → CachedSpan l.pages (pages_row words) w k →
-      ((p i : ℕ) (h : SpanHead) → IsSpan l.pages (pages_row words) p h → h.class ≡ w.class → h.noscan ≡ w.noscan → i < slot_count h → (row_bit (alloc_row words) (1024 * p + i * slot_size h) ≡ 1) ⊎ ((k.head ≡ p) × (k.cursor ≤ i))) →
-      Fits words place e (cache_span m w k)
-  good_cache words place e m shape w k wg small good span now =
-      let s = good.sizes in
-      record {
-        sizes = record { registers = s.registers; made = s.made; cache = rw length-set s.cache; arena = s.arena; some = s.some; most = s.most; few = s.few; seat = s.seat; generation = s.generation };
-        spans = good.spans;
-        slots = good.slots;
-        births = good.births;
-        bitmap = good.bitmap;
-        fields = good.fields;
-        globals_hold = good.globals_hold;
-        registers = good.registers;
-        made = good.made;
-        few = good.few;
-        none = good.none;
-        cache = λ class noscan c low is. caches class noscan c low is (eqb (2 * class + bit noscan) (span_class w)) refl;
-        taken = λ p i h span_h ne inside. taken p i h span_h ne inside (eqb (2 * h.class + bit h.noscan) (span_class w)) refl;
-      } where
-        low : w.class < 25
-        low = (small_class shape w wg small).0
-
-        at_row : slice_index_or (slice_set m.cache (span_class w) (Some k)) (span_class w) None ≡ Some k
-        at_row = let b = bit_small w.noscan in let lw = low in let lt : span_class w < length m.cache = omega (arith, good.sizes.cache) in rw get_or-set_same
-
-        elsewhere : (j : ℕ) → eqb j (span_class w) ≡ false → slice_index_or (slice_set m.cache (span_class w) (Some k)) j None ≡ slice_index_or m.cache j None
-        elsewhere j f = let ne : j ≢ span_class w = λ q. absurd (cc (f, eq-eqb j (span_class w) q)) in rw get_or-set_other refl
-
-        caches : (class : ℕ) (noscan : Bool) (c : Cached) → class < 25 → slice_index_or (slice_set m.cache (span_class w) (Some k)) (2 * class + bit noscan) None ≡ Some c → (b : Bool) → eqb (2 * class + bit noscan) (span_class w) ≡ b →
-            (h : SpanHead) × IsSpan l.pages (pages_row words) c.head h × (h.class ≡ class) × (h.noscan ≡ noscan)
-        caches class noscan c lc is true t =
-            let j : 2 * class + bit noscan ≡ span_class w = eqb-true _ _ t in
-            let same = class_tells class w.class noscan w.noscan j in
-            let one : k ≡ c = cached_is k c (sym (sym is ∙ ap (λ (x : ℕ). slice_index_or (slice_set m.cache (span_class w) (Some k)) x None) j ∙ at_row)) in
-            (span.h, subst (λ (x : Cached). IsSpan l.pages (pages_row words) x.head span.h) one span.span, span.class ∙ sym same.0, span.noscan ∙ sym same.1)
-        caches class noscan c lc is false t = good.cache class noscan c lc (sym (elsewhere _ t) ∙ is)
-
-        taken : (p i : ℕ) (h : SpanHead) → IsSpan l.pages (pages_row words) p h → h.class ≢ LARGE → i < slot_count h → (b : Bool) → eqb (2 * h.class + bit h.noscan) (span_class w) ≡ b →
-            (row_bit (alloc_row words) (1024 * p + i * slot_size h) ≡ 1) ⊎ ((c : Cached) × (slice_index_or (slice_set m.cache (span_class w) (Some k)) (2 * h.class + bit h.noscan) None ≡ Some c) × (c.head ≡ p) × (c.cursor ≤ i))
-        taken p i h span_h ne inside true t =
-            let j : 2 * h.class + bit h.noscan ≡ span_class w = eqb-true _ _ t in
-            let same = class_tells h.class w.class h.noscan w.noscan j in
-            elim (now p i h span_h same.0 same.1 inside) [
-              | inl x ↦ inl x
-              | inr x ↦ inr (k, ap (λ (y : ℕ). slice_index_or (slice_set m.cache (span_class w) (Some k)) y None) j ∙ at_row, x.0, x.1)
-            ]
-        taken p i h span_h ne inside false t = elim (good.taken p i h span_h ne inside) [
-          | inl x ↦ inl x
-          | inr x ↦ inr (x.0, elsewhere _ t ∙ x.1, x.2, x.3)
-        ]
-
-  pub wanted_here : (w : Wanted) → ShapesGood shapes → Wants l.pages l.globals l.goroutines shapes w → WantedGood (shape_at shapes w.t) w
-  wanted_here w sg wants = subst (λ (x : Wanted). WantedGood (shape_at shapes w.t) x) (sym wants.is) (wanted_good shapes w.g w.d w.t (sg w.t wants.type))
-
-  pub count_small : (h : SpanHead) (w : Wanted) → w.class ≢ LARGE → h.class ≡ w.class → slot_count h ≡ slots_of w.class
-  count_small h w ne e = rw e (rw (ne_eqb w.class LARGE ne) refl)
+  -- the first heap word of the slot at the cursor
+  abbrev slot_word_at : Wanted → CachedSpan → ℕ
+  slot_word_at w c = searching.slot_at (find.span_at w.class c) c.cursor
 
   -- the slot at the cursor
-  slot_here : (words : Words) (place : Name → ℕ) (e : Ever) (m : Processor) (w : Wanted) (c : Cached) → WantedGood (shape_at shapes w.t) w → Fits words place e m → cached_for m w ≡ Some c → c.cursor < slots_of w.class → IsSlot l.pages (pages_row words) (slot_at w c) w.slot
+  slot_here : (words : Words) (place : Name → ℕ) (e : Ever) (m : Processor) (w : Wanted) (c : CachedSpan) → WantedGood (shape_at shapes w.t) w → Fits words place e m → cached_for m w ≡ Some c → c.cursor < slots_of w.class → IsSlot l.pages (pages_row words) (slot_word_at w c) w.slot
   slot_here words place e m w c wg good is inside =
       let small = cached_small m w c is in
       let ne = (small_class (shape_at shapes w.t) w wg small).1 in
       let k = cached_span l.pages (pages_row words) m (shape_at shapes w.t) w c wg good.cache is in
-      slot_wanted l.pages (pages_row words) (shape_at shapes w.t) w c.head k.h c.cursor wg k.span k.class (λ large. absurd (ne large)) (rw (count_small k.h w ne k.class) inside)
+      let size : w.slot ≡ slot_of w.class / 8 = wg.size ∙ ap (λ (b : Bool). cond b (1024 * w.pages) (slot_of w.class / 8)) small in
+      subst (λ (n : ℕ). IsSlot l.pages (pages_row words) (1024 * c.head + c.cursor * n) w.slot) size
+      (slot_wanted l.pages (pages_row words) (shape_at shapes w.t) w c.head k.h c.cursor wg k.span k.class (λ large. absurd (ne large)) (rw (count_small shapes l k.h w ne k.class) inside))
+
+  -- the cursor of the cached span moves: the span is owned as before
+  owners_moved : (words : Words) (m : Processor) (w : Wanted) (c k : CachedSpan) → WantedGood (shape_at shapes w.t) w → length m.cache ≡ 50 → cached_for m w ≡ Some c → k.head ≡ c.head → OwnersGood l.pages (pages_row words) m → OwnersGood l.pages (pages_row words) (with_cached m w (Some k))
+  owners_moved words m w c k wg long is head owners p h span ne =
+      let o = owners p h span ne in
+      (o.0, owned_with m (shape_at shapes w.t) w (Some k) p h wg (cached_small m w c is) long (λ x eq. (k, refl, head ∙ ap (λ (y : CachedSpan). y.head) (cached_is c x (sym is ∙ eq)))) o.1)
+
+  abbrev moved : CachedSpan → CachedSpan
+  moved c = record c { cursor = c.cursor + 1 }
+
+  -- the search of the cached span, in which nothing was looked at
+  abbrev slots_at : Processor → Wanted → CachedSpan → FindPoint
+  slots_at m w c = seek.Slots (searching.opening m.layout (find.span_at w.class c))
+
+  abbrev SlotKeeps : Words → Ever → Processor → Wanted → CachedSpan → ℕ → Type 0
+  SlotKeeps words e m w c found = Keeps shapes l words e m (Find w (here shapes l m w (slots_at m w c))) None found
+
+  -- the search of the cached span after a step, by whether the slot is clear and whether another stands behind it
+  abbrev looked : Processor → Wanted → CachedSpan → Bool → Bool → searching.Searching
+  looked m w c clear more = let s = searching.opening m.layout (find.span_at w.class c) in cond clear (record s { place = slot_place.Ended }) (record s { span = find.span_at w.class (moved c); place = cond more slot_place.Look slot_place.Ended })
+
+  abbrev told : CachedSpan → Bool → Bool → Option (Option ℕ)
+  told c clear more = cond clear (Some (Some c.cursor)) (cond more None (Some None))
+
+  -- what that leads to, and what is found
+  abbrev slots_after : Processor → Wanted → CachedSpan → Bool → Bool → Finding
+  slots_after m w c clear more = find.after_slots (find.searched (here shapes l m w (slots_at m w c)) (looked m w c clear more)) (told c clear more)
+
+  abbrev slots_found : Processor → Wanted → CachedSpan → Bool → Bool → Option Found
+  slots_found m w c clear more = find.slot_found (find.searched (here shapes l m w (slots_at m w c)) (looked m w c clear more)) (told c clear more)
 
   bit_cases : (b : ℕ) → b < 2 → (eqb b 0 ≡ false) → b ≡ 1
   bit_cases b lt f = let ne : b ≢ 0 = grind (arith, nat_tests) in omega arith
 
-  slot_by : (words : Words) (place : Name → ℕ) (e : Ever) (m : Processor) (w : Wanted) (c : Cached) (found : ℕ) → WantedGood (shape_at shapes w.t) w → Fits words place e m → WantsName l.pages l.globals l.goroutines shapes m w → cached_for m w ≡ Some c → c.cursor < slots_of w.class →
-      bit_at found (slot_at w c % 64) ≡ row_bit (alloc_row words) (slot_at w c) → (b : Bool) → is_clear w c found ≡ b → Keeps shapes l words e m (Slot w c) None found
-  slot_by words place e m w c found wg good wants is inside bit true test =
-      let clear : row_bit (alloc_row words) (slot_at w c) ≡ 0 = sym bit ∙ eqb-true _ _ test in
-      let slot = slot_here words place e m w c wg good is inside in
-      keeps_from shapes l words e m (Slot w c) None found words (at_point m (Clear w (slot_at w c) 0)) None None place None refl
-      (ap (λ (b : Bool). at_point (cache_after m w c b) (after_slot w c b)) test) refl refl
-      (record {
-        good = good_at l.pages l.globals l.goroutines shapes words place e m (Clear w (slot_at w c) 0) good;
-        fine = (wants, wg.room, record { is_slot = slot; is_clear = λ n made eq. clash n made eq clear; own = λ large. absurd (cc (large, cached_small m w c is)) }, λ k lt. absurd (omega arith));
-        pends = tt;
-      })
-      refl (not_full shapes l words None refl) refl where
-        clash : (n : Name) → IsMade e n → slot_at w c ≡ place n → row_bit (alloc_row words) (slot_at w c) ≡ 0 → ⊥
-        clash n made eq clear = let set = good.slots.is_set n made in let both : row_bit (alloc_row words) (place n) ≡ 0 = ap (λ (x : ℕ). row_bit (alloc_row words) x) (sym eq) ∙ clear in omega (arith, set, both)
-  slot_by words place e m w c found wg good wants is inside bit false test =
-      let set : row_bit (alloc_row words) (slot_at w c) ≡ 1 = sym bit ∙ bit_cases (bit_at found (slot_at w c % 64)) (bit_at-lt found (slot_at w c % 64)) test in
+  -- the slot is clear
+  slot_clear : (words : Words) (place : Name → ℕ) (e : Ever) (m : Processor) (w : Wanted) (c : CachedSpan) (found : ℕ) → WantedGood (shape_at shapes w.t) w → Fits words place e m → WantsName l.pages l.globals l.goroutines shapes m w → cached_for m w ≡ Some c → c.cursor < slots_of w.class →
+      row_bit (alloc_row words) (slot_word_at w c) ≡ 0 → find.goes (here shapes l m w (slots_at m w c)) found ≡ slots_after m w c true false → find.gives (here shapes l m w (slots_at m w c)) found ≡ slots_found m w c true false → SlotKeeps words e m w c found
+  slot_clear words place e m w c found wg good wants is inside clear goes gives =
       let small = cached_small m w c is in
-      let ne = (small_class (shape_at shapes w.t) w wg small).1 in
+      finds_slot shapes l words words place e m w (slots_at m w c) found (slot_word_at w c) wg wants refl
+      (ap (λ (f : Finding). f.cached) goes ∙ ap (λ (x : Option CachedSpan). find.move_cursor c.cursor x) is ∙ sym is)
+      (gives ∙ ap (λ (x : Option CachedSpan). Some (At (find.word_at_cursor (sought w) (find.move_cursor c.cursor x)))) is ∙ ap (λ (b : Bool). Some (At (find.word_at_cursor (sought_for w b) (Some c)))) small)
+      good (record { is_slot = slot_here words place e m w c wg good is inside; is_clear = λ n made eq. clash n made eq; own = λ large. absurd (cc (large, small)) }) where
+        clash : (n : Name) → IsMade e n → slot_word_at w c ≡ place n → ⊥
+        clash n made eq = let set = good.slots.is_set n made in let both : row_bit (alloc_row words) (place n) ≡ 0 = ap (λ (x : ℕ). row_bit (alloc_row words) x) (sym eq) ∙ clear in omega (arith, set, both)
+
+  -- the cursor has moved
+  good_moved : (words : Words) (place : Name → ℕ) (e : Ever) (m : Processor) (w : Wanted) (c : CachedSpan) → WantedGood (shape_at shapes w.t) w → Fits words place e m → cached_for m w ≡ Some c → Fits words place e (with_cached m w (Some (moved c)))
+  good_moved words place e m w c wg good is =
       let k = cached_span l.pages (pages_row words) m (shape_at shapes w.t) w c wg good.cache is in
-      let more = record c { cursor = c.cursor + 1 } in
-      let span : CachedSpan l.pages (pages_row words) w (record c { cursor = c.cursor + 1 }) = record { h = k.h; span = k.span; class = k.class; noscan = k.noscan } in
-      let next = cache_span m w (record c { cursor = c.cursor + 1 }) in
-      let kept : Fits words place e (cache_span m w (record c { cursor = c.cursor + 1 })) = good_cache words place e m (shape_at shapes w.t) w (record c { cursor = c.cursor + 1 }) wg small good span (λ p i h span_h class noscan lt. now p i h span_h class noscan lt ne set (eqb i c.cursor) refl) in
-      let at = searches shapes l words place e (cache_span m w (record c { cursor = c.cursor + 1 })) w (Some (record c { cursor = c.cursor + 1 })) wants good.sizes.some wg.some (cached_same m (shape_at shapes w.t) w (record c { cursor = c.cursor + 1 }) wg small good.sizes.cache) in
-      keeps_from shapes l words e m (Slot w c) None found words (at_point (cache_span m w (record c { cursor = c.cursor + 1 })) (search_from w (Some (record c { cursor = c.cursor + 1 })))) None None place None refl
-      (ap (λ (b : Bool). at_point (cache_after m w c b) (after_slot w c b)) test) refl refl
-      (record {
-        good = good_at l.pages l.globals l.goroutines shapes words place e (cache_span m w (record c { cursor = c.cursor + 1 })) (search_from w (Some (record c { cursor = c.cursor + 1 }))) kept;
-        fine = at.fine;
-        pends = at.pends;
-      })
-      refl (not_full shapes l words None refl) (ap (λ (o : Option _). option_to_list o ++ []) (sym at.acts)) where
-        by_cached : (p i : ℕ) (h : SpanHead) (x : Cached) → slice_index_or m.cache (2 * h.class + Rattle.gh_base.specs.Packing.bit h.noscan) None ≡ Some x → x.head ≡ p → x.cursor ≤ i → h.class ≡ w.class → h.noscan ≡ w.noscan → (c.head ≡ p) × (c.cursor ≤ i)
-        by_cached p i h x is_x head cursor class noscan =
-            let row : slice_index_or m.cache (span_class w) None ≡ Some x = sym (ap (λ (y : ℕ). slice_index_or m.cache y None) (ap (λ (y : ℕ). 2 * y + Rattle.gh_base.specs.Packing.bit h.noscan) class ∙ ap (λ (b : Bool). 2 * w.class + Rattle.gh_base.specs.Packing.bit b) noscan)) ∙ is_x in
-            let one : x ≡ c = cached_is x c (sym (ap (λ (b : Bool). cond b None (slice_index_or m.cache (span_class w) None)) (cached_small m w c is) ∙ row) ∙ is) in
-            (ap (λ (y : Cached). y.head) (sym one) ∙ head, subst (λ (y : Cached). y.cursor ≤ i) one cursor)
+      good_cache shapes l words place e m (shape_at shapes w.t) w (Some (moved c)) wg (cached_small m w c is) good (λ x eq. spans x (cached_is (moved c) x eq) k) (owners_moved words m w c (moved c) wg good.sizes.cache is refl good.owners) where
+        spans : (x : CachedSpan) → moved c ≡ x → SpanCached l.pages (pages_row words) w c → SpanCached l.pages (pages_row words) w x
+        spans x eq k = subst (λ (y : CachedSpan). SpanCached l.pages (pages_row words) w y) eq (record { h = k.h; span = k.span; class = k.class; noscan = k.noscan })
 
-        now : (p i : ℕ) (h : SpanHead) → IsSpan l.pages (pages_row words) p h → h.class ≡ w.class → h.noscan ≡ w.noscan → i < slot_count h → w.class ≢ LARGE → row_bit (alloc_row words) (slot_at w c) ≡ 1 → (b : Bool) → eqb i c.cursor ≡ b →
-            (row_bit (alloc_row words) (1024 * p + i * slot_size h) ≡ 1) ⊎ ((c.head ≡ p) × (c.cursor + 1 ≤ i))
-        now p i h span_h class noscan lt ne set b t = elim (good.taken p i h span_h (λ q. ne (sym class ∙ q)) lt) [
-          | inl x ↦ inl x
-          | inr x ↦ at_cursor p i h span_h class ne set (by_cached p i h x.0 x.1 x.2 x.3 class noscan) b t
-        ] where
-          size_here : (h : SpanHead) → h.class ≡ w.class → w.class ≢ LARGE → slot_size h ≡ w.slot
-          size_here h class ne = rw class (rw (ne_eqb w.class LARGE ne) (sym (wg.size ∙ rw (ne_eqb w.class LARGE ne) refl)))
+  -- it is taken: the next one, if there is one, else the lock
+  slot_taken : (words : Words) (place : Name → ℕ) (e : Ever) (m : Processor) (w : Wanted) (c : CachedSpan) (found : ℕ) → WantedGood (shape_at shapes w.t) w → Fits words place e m → WantsName l.pages l.globals l.goroutines shapes m w → cached_for m w ≡ Some c →
+      (more : Bool) → ltb (c.cursor + 1) (slots_of w.class) ≡ more → find.goes (here shapes l m w (slots_at m w c)) found ≡ slots_after m w c false more → find.gives (here shapes l m w (slots_at m w c)) found ≡ slots_found m w c false more → SlotKeeps words e m w c found
+  slot_taken words place e m w c found wg good wants is true more goes gives =
+      let small = cached_small m w c is in
+      caches_on shapes l words words place e m w (slots_at m w c) (slots_at m w (moved c)) found (Some (moved c)) wg small good.sizes.cache wants refl
+      (goes ∙ ap (λ (x : Option CachedSpan). record { layout = m.layout; seat = m.seat; generation = m.generation; wanted = sought w; cached = find.move_cursor (c.cursor + 1) x; point = slots_at m w (moved c) }) is)
+      gives (good_moved words place e m w c wg good is)
+      (moved c, cached_same m (shape_at shapes w.t) w (Some (moved c)) wg small good.sizes.cache, refl, ltb-true _ _ more)
+  slot_taken words place e m w c found wg good wants is false more goes gives =
+      caches_on shapes l words words place e m w (slots_at m w c) seek.Lock found (Some (moved c)) wg (cached_small m w c is) good.sizes.cache wants refl
+      (goes ∙ ap (λ (x : Option CachedSpan). record { layout = m.layout; seat = m.seat; generation = m.generation; wanted = sought w; cached = find.move_cursor (c.cursor + 1) x; point = seek.Lock }) is)
+      gives (good_moved words place e m w c wg good is) tt
 
-          at_cursor : (p i : ℕ) (h : SpanHead) → IsSpan l.pages (pages_row words) p h → h.class ≡ w.class → w.class ≢ LARGE → row_bit (alloc_row words) (slot_at w c) ≡ 1 → (c.head ≡ p) × (c.cursor ≤ i) → (b : Bool) → eqb i c.cursor ≡ b →
-              (row_bit (alloc_row words) (1024 * p + i * slot_size h) ≡ 1) ⊎ ((c.head ≡ p) × (c.cursor + 1 ≤ i))
-          at_cursor p i h span_h class ne set both true t =
-              let there : 1024 * p + i * slot_size h ≡ slot_at w c = ap (λ (x : ℕ). 1024 * p + i * x) (size_here h class ne) ∙ ap (λ (x : ℕ). 1024 * p + x * w.slot) (eqb-true _ _ t) ∙ ap (λ (x : ℕ). 1024 * x + c.cursor * w.slot) (sym both.0) in
-              inl (ap (λ (x : ℕ). row_bit (alloc_row words) x) there ∙ set)
-          at_cursor p i h span_h class ne set both false t =
-              let apart : i ≢ c.cursor = grind (arith, nat_tests) in let le = both.1 in inr (both.0, omega arith)
+  slot_by : (words : Words) (place : Name → ℕ) (e : Ever) (m : Processor) (w : Wanted) (c : CachedSpan) (found : ℕ) → WantedGood (shape_at shapes w.t) w → Fits words place e m → WantsName l.pages l.globals l.goroutines shapes m w → cached_for m w ≡ Some c → c.cursor < slots_of w.class →
+      bit_at found (slot_word_at w c % 64) ≡ row_bit (alloc_row words) (slot_word_at w c) → (b : Bool) → eqb (bit_at found (slot_word_at w c % 64)) 0 ≡ b → SlotKeeps words e m w c found
+  slot_by words place e m w c found wg good wants is inside bit true test =
+      slot_clear words place e m w c found wg good wants is inside (sym bit ∙ eqb-true _ _ test)
+      (ap (λ (b : Bool). slots_after m w c b (ltb (c.cursor + 1) (slots_of w.class))) test)
+      (ap (λ (b : Bool). slots_found m w c b (ltb (c.cursor + 1) (slots_of w.class))) test)
+  slot_by words place e m w c found wg good wants is inside bit false test =
+      slot_taken words place e m w c found wg good wants is (ltb (c.cursor + 1) (slots_of w.class)) refl
+      (ap (λ (b : Bool). slots_after m w c b (ltb (c.cursor + 1) (slots_of w.class))) test)
+      (ap (λ (b : Bool). slots_found m w c b (ltb (c.cursor + 1) (slots_of w.class))) test)
 
-  pub step_slot : (w : Wanted) (c : Cached) → StepAt shapes l (Slot w c)
+  -- the alloc word of the slot at the cursor is looked at
+  slots_here : (words : Words) (place : Name → ℕ) (e : Ever) (m : Processor) (w : Wanted) (c : CachedSpan) → WantedGood (shape_at shapes w.t) w → Fits words place e m → WantsName l.pages l.globals l.goroutines shapes m w → cached_for m w ≡ Some c → c.cursor < slots_of w.class →
+      SlotKeeps words e m w c (words (cell.Alloc (searching.alloc_word m.layout (slot_word_at w c))))
   unfolding row_bit
-  step_slot w c sg words place e m None at h =
-      let here = fine_here shapes l words place e m (Slot w c) None at h in
-      let f = here.0 in
-      let wg = wanted_here w sg f.0.0 in
-      let slot = slot_here words place e m w c wg h.good f.2 f.3 in
-      let within = slot_within l.pages (pages_row words) (slot_at w c) w.slot slot in
-      let some = slot_some l.pages (pages_row words) (slot_at w c) w.slot slot in
+  slots_here words place e m w c wg good wants is inside =
+      let slot = slot_here words place e m w c wg good is inside in
+      let within = slot_within l.pages (pages_row words) (slot_word_at w c) w.slot slot in
+      let some = slot_some l.pages (pages_row words) (slot_word_at w c) w.slot slot in
       let w0 = within.0 in
-      let index : slot_at w c / 64 % (16 * m.pages) ≡ slot_at w c / 64 = within_is (slot_at w c / 64) (16 * m.pages) (rw (h.good.sizes.arena) (omega arith)) in
-      slot_by words place e m w c (words (cell.Alloc (slot_at w c / 64 % (16 * m.pages)))) wg h.good f.0 f.2 f.3
-      (ap (λ (i : ℕ). bit_at (words (cell.Alloc i)) (slot_at w c % 64)) index)
-      (is_clear w c (words (cell.Alloc (slot_at w c / 64 % (16 * m.pages))))) refl
-  step_slot w c sg words place e m (Some a) at h = absurd (fine_here shapes l words place e m (Slot w c) (Some a) at h).1
+      let index : searching.alloc_word m.layout (slot_word_at w c) ≡ slot_word_at w c / 64 = within_is (slot_word_at w c / 64) (16 * m.layout.pages) (rw (good.sizes.arena) (omega arith)) in
+      slot_by words place e m w c (words (cell.Alloc (searching.alloc_word m.layout (slot_word_at w c)))) wg good wants is inside
+      (ap (λ (i : ℕ). bit_at (words (cell.Alloc i)) (slot_word_at w c % 64)) index)
+      (eqb (bit_at (words (cell.Alloc (searching.alloc_word m.layout (slot_word_at w c)))) (slot_word_at w c % 64)) 0) refl
 
-  not_free : (w : PageWord) → is_free w ≡ false → w ≢ page.Free
-  not_free w f e = absurd (cc (f, ap is_free e))
+  pub find_slots : (s : searching.Searching) → FindsAt shapes l (seek.Slots s)
+  find_slots s sg words place e m w at wants fine good =
+      let wg = wanted_here shapes l w sg wants.0 in
+      subst (λ (x : searching.Searching). Keeps shapes l words e m (Find w (here shapes l m w (seek.Slots x))) None (words (cell_of (asks_at m (Find w (here shapes l m w (seek.Slots x))))))) (sym fine.2)
+      (slots_here words place e m w fine.0 wg good wants fine.1 fine.3)
 
-  -- the page was looked at: what is known of the pages before the next one
-  free_more : (row : Row) (p run : ℕ) → page_of (row p) ≡ page.Free → FreeBefore l.pages l.globals l.goroutines shapes row p run → FreeBefore l.pages l.globals l.goroutines shapes row (p + 1) (run + 1)
-  free_more row p run free before =
-      let low = before.0 in
-      (omega arith, λ q high lt. go q high lt (eqb q p) refl) where
-        go : (q : ℕ) → p + 1 < q + (run + 1) + 1 → q < p + 1 → (b : Bool) → eqb q p ≡ b → page_of (row q) ≡ page.Free
-        go q high lt true t = subst (λ (x : ℕ). page_of (row x) ≡ page.Free) (sym (eqb-true q p t)) free
-        go q high lt false t = let ne : q ≢ p = grind (arith, nat_tests) in before.1 q (omega arith) (omega arith)
+  -- The lock.
 
-  free_none : (row : Row) (p : ℕ) → FreeBefore l.pages l.globals l.goroutines shapes row (p + 1) 0
-  free_none row p = (omega arith, λ q high lt. absurd (omega arith))
+  -- with the lock, the cached span is given back, a span is looked for, or pages
+  abbrev locked : Processor → Wanted → FindPoint
+  locked m w = find.locked_for (here shapes l m w seek.Lock) (sought w) (cached_for m w)
 
-  no_run_taken : (row : Row) (need p run : ℕ) → 1 ≤ need → page_of (row p) ≢ page.Free → NoRunBefore l.pages l.globals l.goroutines shapes row need p run → NoRunBefore l.pages l.globals l.goroutines shapes row need (p + 1) 0
-  no_run_taken row need p run some taken before = (λ first le. go first le (leb (first + need) p) refl, λ lt. subst (λ (x : ℕ). page_of (row x) ≢ page.Free) last taken) where
-    last : p ≡ p + 1 - 0 - 1
-    last = omega arith
+  -- no page was looked at yet
+  fine_carving : (words : Words) (place : Name → ℕ) (e : Ever) (m : Processor) (w : Wanted) → WantedGood (shape_at shapes w.t) w → Fits words place e m → is_large w ≡ true → (s : Span) → s ≡ span_of l.pages l.globals l.goroutines shapes w → FineHere shapes l words place e m w (seek.Carve (carving.opening m.layout m.seat m.generation s))
+  fine_carving words place e m w wg good large s is =
+      (none_for_large m w large, ap (λ (x : Span). carving.opening m.layout m.seat m.generation x) is, λ small. absurd (cc (large, small)), (good.sizes.some, wg.some, (omega arith, λ q high low. absurd (omega arith)), (λ first le. no_page first le wg.some, λ lt. absurd (omega arith)))) where
+        no_page : (first : ℕ) → first + w.pages ≤ 0 → 1 ≤ w.pages → (d : ℕ) × (d < w.pages) × (page_of (words (cell.Page (first + d))) ≢ page.Free)
+        no_page first le some = absurd (omega arith)
 
-    go : (first : ℕ) → first + need ≤ p + 1 → (b : Bool) → leb (first + need) p ≡ b → (d : ℕ) × (d < need) × (page_of (row (first + d)) ≢ page.Free)
-    go first le true t = before.0 first (leb-true _ _ t)
-    go first le false t =
-        let high : p < first + need = leb-false _ _ t in
-        let at : p ≡ first + (p - first) = omega arith in
-        (p - first, omega arith, subst (λ (x : ℕ). page_of (row x) ≢ page.Free) at taken)
+  fine_locked : (words : Words) (place : Name → ℕ) (e : Ever) (m : Processor) (w : Wanted) → WantedGood (shape_at shapes w.t) w → Fits words place e m → FineHere shapes l words place e m w (locked m w)
+  fine_locked words place e m w wg good = go (is_large w) (cached_for m w) refl refl where
+    go : (b : Bool) (c : Option CachedSpan) → is_large w ≡ b → cached_for m w ≡ c → FineHere shapes l words place e m w (find.locked_for (here shapes l m w seek.Lock) (sought_for w b) c)
+    go true c large is = fine_carving words place e m w wg good large (find.span_for (sought w)) (span_sought (shape_at shapes w.t) w wg)
+    go false None small is = (small, is, refl, (good.sizes.some, λ q i h low. absurd (omega arith)))
+    go false (Some c) small is = (c, is, refl)
 
-  no_run_more : (row : Row) (need p run : ℕ) → run + 1 < need → NoRunBefore l.pages l.globals l.goroutines shapes row need p run → NoRunBefore l.pages l.globals l.goroutines shapes row need (p + 1) (run + 1)
-  no_run_more row need p run short before = (λ first le. go first le (leb (first + need) p) refl, λ lt. subst (λ (x : ℕ). page_of (row x) ≢ page.Free) same (before.1 (omega arith))) where
-    same : p - run - 1 ≡ p + 1 - (run + 1) - 1
-    same = omega arith
+  lock_by : (words : Words) (place : Name → ℕ) (e : Ever) (m : Processor) (w : Wanted) → WantedGood (shape_at shapes w.t) w → WantsName l.pages l.globals l.goroutines shapes m w → Fits words place e m → (b : Bool) → eqb (words cell.Lock) 0 ≡ b → Keeps shapes l words e m (Find w (here shapes l m w seek.Lock)) None (words cell.Lock)
+  lock_by words place e m w wg wants good true test =
+      goes_on shapes l words (put words cell.Lock (m.seat + 1)) place e m w seek.Lock (locked m w) (words cell.Lock) wants
+      (ap (λ (b : Bool). cond b (put words cell.Lock (m.seat + 1)) words) test)
+      (ap (λ (b : Bool). here shapes l m w (cond b (locked m w) seek.Lock)) test) refl
+      (good_lock words place e m (m.seat + 1) good)
+      (fine_locked (put words cell.Lock (m.seat + 1)) place e (at_point m (Find w (here shapes l m w (locked m w)))) w wg (good_at l.pages l.globals l.goroutines shapes (put words cell.Lock (m.seat + 1)) place e m (Find w (here shapes l m w (locked m w))) (good_lock words place e m (m.seat + 1) good)))
+  lock_by words place e m w wg wants good false test =
+      goes_on shapes l words words place e m w seek.Lock seek.Lock (words cell.Lock) wants
+      (ap (λ (b : Bool). cond b (put words cell.Lock (m.seat + 1)) words) test)
+      (ap (λ (b : Bool). here shapes l m w (cond b (locked m w) seek.Lock)) test) refl good tt
 
-    go : (first : ℕ) → first + need ≤ p + 1 → (b : Bool) → leb (first + need) p ≡ b → (d : ℕ) × (d < need) × (page_of (row (first + d)) ≢ page.Free)
-    go first le true t = before.0 first (leb-true _ _ t)
-    go first le false t =
-        let high : p < first + need = leb-false _ _ t in
-        let at : p - run - 1 ≡ first + (p - run - 1 - first) = omega arith in
-        (p - run - 1 - first, omega arith, subst (λ (x : ℕ). page_of (row x) ≢ page.Free) at (before.1 (omega arith)))
+  pub find_lock : FindsAt shapes l seek.Lock
+  find_lock sg words place e m w at wants fine good = lock_by words place e m w (wanted_here shapes l w sg wants.0) wants good (eqb (words cell.Lock) 0) refl
 
-  -- enough free pages stand in a row
-  laid_out : (row : Row) (w : Wanted) (p run : ℕ) → p < l.pages → 1 ≤ w.pages → run + 1 ≡ w.pages → page_of (row p) ≡ page.Free → FreeBefore l.pages l.globals l.goroutines shapes row p run → LaidOut l.pages l.globals l.goroutines shapes row w (p + 1 - w.pages) 1
-  laid_out row w p run lt some enough free before = record {
-    within = omega (arith, low);
-    head = at (p + 1 - w.pages) (omega arith) (omega arith);
-    written = λ d low high. absurd (omega arith);
-    free = λ d low high. at (p + 1 - w.pages + d) (omega arith) (omega arith);
-  } where
-    low : run ≤ p
-    low = before.0
+  pub find_unlock : (after : After) → FindsAt shapes l (seek.Unlock after)
+  find_unlock Again sg words place e m w at wants fine good =
+      goes_on shapes l words (put words cell.Lock 0) place e m w (seek.Unlock Again) (find.begin m.layout (sought w) (cached_for m w)) (words cell.Lock) wants refl refl refl
+      (good_lock words place e m 0 good)
+      (find_begins shapes l (pages_row words) (alloc_row words) place e (at_point m (Find w (here shapes l m w (find.begin m.layout (sought w) (cached_for m w))))) w)
+  find_unlock (Ends (At a)) sg words place e m w at wants fine good =
+      finds_slot shapes l words (put words cell.Lock 0) place e m w (seek.Unlock (Ends (At a))) (words cell.Lock) a (wanted_here shapes l w sg wants.0) wants refl refl refl
+      (good_lock words place e m 0 good)
+      (let k = fine.1 in record { is_slot = k.is_slot; is_clear = k.is_clear; own = k.own })
+  find_unlock (Ends NoneFound) sg words place e m w at wants fine good =
+      finds_no_room shapes l words (put words cell.Lock 0) place e m w (seek.Unlock (Ends NoneFound)) (words cell.Lock) wants refl refl refl
+      (good_lock words place e m 0 good) fine
 
-    at : (q : ℕ) → p + 1 ≤ q + w.pages → q < p + 1 → page_of (row q) ≡ page.Free
-    at q high le = (free_more row p run free before).1 q (omega arith) le
-
-  no_room : (words : Words) (place : Name → ℕ) (e : Ever) (m : Processor) (w : Wanted) (p run : ℕ) → WantedGood (shape_at shapes w.t) w → Fits words place e m → IsSpent l.pages l.globals l.goroutines shapes m w → l.pages ≤ p + 1 →
-      NoRunBefore l.pages l.globals l.goroutines shapes (pages_row words) w.pages (p + 1) run → NoRoom l.pages (pages_row words) (alloc_row words) w.class w.noscan w.pages
-  no_room words place e m w p run wg good spent last before = record {
-    slots = λ ne p i h span class noscan inside. taken ne p i h class noscan inside (good.taken p i h span (λ q. ne (sym class ∙ q)) inside);
-    run = λ first le. before.0 first (omega arith);
-  } where
-    taken : w.class ≢ LARGE → (p i : ℕ) (h : SpanHead) → h.class ≡ w.class → h.noscan ≡ w.noscan → i < slot_count h →
-        (row_bit (alloc_row words) (1024 * p + i * slot_size h) ≡ 1) ⊎ ((c : Cached) × (slice_index_or m.cache (2 * h.class + bit h.noscan) None ≡ Some c) × (c.head ≡ p) × (c.cursor ≤ i)) → row_bit (alloc_row words) (1024 * p + i * slot_size h) ≡ 1
-    taken ne p i h class noscan inside (inl x) = x
-    taken ne p i h class noscan inside (inr x) =
-        let row : slice_index_or m.cache (span_class w) None ≡ Some x.0 = sym (ap (λ (y : ℕ). slice_index_or m.cache y None) (ap (λ (y : ℕ). 2 * y + bit h.noscan) class ∙ ap (λ (b : Bool). 2 * w.class + bit b) noscan)) ∙ x.1 in
-        let cached : cached_for m w ≡ Some x.0 = ap (λ (b : Bool). cond b None (slice_index_or m.cache (span_class w) None)) (ne_eqb w.class LARGE ne) ∙ row in
-        let past = spent x.0 cached in
-        let count : slot_count h ≡ slots_of w.class = count_small h w ne class in
-        let le = x.3 in
-        absurd (omega (arith, past, count, le, inside))
-
-  full_ops : (w : Wanted) → Wants l.pages l.globals l.goroutines shapes w → (words : Words) → NoRoom l.pages (pages_row words) (alloc_row words) w.class w.noscan w.pages → FullAt shapes l words (new_op w)
-  full_ops w wants words room = subst (λ (x : Wanted). NoRoom l.pages (pages_row words) (alloc_row words) x.class x.noscan x.pages) wants.is room
-
-  -- what the walk does with a page that was looked at
-  look_ahead : (words : Words) (place : Name → ℕ) (e : Ever) (m : Processor) (w : Wanted) (p run found : ℕ) → WantedGood (shape_at shapes w.t) w → Fits words place e m → WantsName l.pages l.globals l.goroutines shapes m w → p < l.pages → IsSpent l.pages l.globals l.goroutines shapes m w →
-      eqb (run_after run found) w.pages ≡ false → run_after run found < w.pages → FreeBefore l.pages l.globals l.goroutines shapes (pages_row words) (p + 1) (run_after run found) → NoRunBefore l.pages l.globals l.goroutines shapes (pages_row words) w.pages (p + 1) (run_after run found) →
-      (b : Bool) → leb m.pages (p + 1) ≡ b → Keeps shapes l words e m (Look w p run) None found
-  look_ahead words place e m w p run found wg good wants lt spent short less free none true last =
-      let end : l.pages ≤ p + 1 = rw (← good.sizes.arena) (leb-true _ _ last) in
-      let fits : fits_none m w p run found ≡ true = rw (short, last) refl in
-      let room = no_room words place e m w p (run_after run found) wg good spent end none in
-      let next : Ever = with_register e w.g w.d ever.Nil in
-      keeps_from shapes l words e m (Look w p run) None found words (at_point (set_register m w.g w.d value.Nil) Idle) (Some (record { op = new_op w; full = true })) (Some answer.Full) place None refl
-      (rw (fits, short, last) refl) (rw fits refl) (rw fits refl)
-      (record { good = good_at l.pages l.globals l.goroutines shapes words place (with_register e w.g w.d ever.Nil) (set_register m w.g w.d value.Nil) Idle (good_register l.pages l.globals l.goroutines shapes words place e m w.g w.d ever.Nil value.Nil wants.0.goroutine wants.0.register tt good); fine = tt; pends = tt })
-      refl (λ a is full. subst (λ (x : Act). FullAt shapes l words x.op) (act_is (record { op = new_op w; full = true }) a is) (full_ops w wants.0 words room)) refl where
-        act_is : (x a : Act) → Some x ≡ Some a → x ≡ a
-        act_is x a is = cc
-  look_ahead words place e m w p run found wg good wants lt spent short less free none false last =
-      let more : p + 1 < l.pages = rw (← good.sizes.arena) (leb-false _ _ last) in
-      let fits : fits_none m w p run found ≡ false = rw (short, last) refl in
-      keeps_from shapes l words e m (Look w p run) None found words (at_point m (Look w (p + 1) (run_after run found))) None None place None refl
-      (rw (fits, short, last) refl) (rw fits refl) (rw fits refl)
-      (record { good = good_at l.pages l.globals l.goroutines shapes words place e m (Look w (p + 1) (run_after run found)) good; fine = (wants, more, less, free, none, spent); pends = tt })
-      refl (not_full shapes l words None refl) refl
-
-  look_found : (words : Words) (place : Name → ℕ) (e : Ever) (m : Processor) (w : Wanted) (p run found : ℕ) → WantedGood (shape_at shapes w.t) w → Fits words place e m → WantsName l.pages l.globals l.goroutines shapes m w → p < l.pages → IsSpent l.pages l.globals l.goroutines shapes m w →
-      page_of (words (cell.Page p)) ≡ page.Free → run_after run found ≡ run + 1 → run + 1 ≡ w.pages → FreeBefore l.pages l.globals l.goroutines shapes (pages_row words) p run → (b : Bool) → eqb w.pages 1 ≡ b → Keeps shapes l words e m (Look w p run) None found
-  look_found words place e m w p run found wg good wants lt spent free now enough before b one =
-      let out = laid_out (pages_row words) w p run lt wg.some enough free before in
-      let hit : eqb (run_after run found) w.pages ≡ true = eq-eqb _ _ (now ∙ enough) in
-      let fits : fits_none m w p run found ≡ false = rw hit refl in
-      go b one out hit fits where
-        go : (b : Bool) → eqb w.pages 1 ≡ b → LaidOut l.pages l.globals l.goroutines shapes (pages_row words) w (p + 1 - w.pages) 1 → eqb (run_after run found) w.pages ≡ true → fits_none m w p run found ≡ false → Keeps shapes l words e m (Look w p run) None found
-        go true one out hit fits =
-            let single : w.pages ≡ 1 = eqb-true _ _ one in
-            keeps_from shapes l words e m (Look w p run) None found words (at_point m (Head w (p + 1 - w.pages))) None None place None refl
-            (rw (fits, hit, one) refl) (rw fits refl) (rw fits refl)
-            (record { good = good_at l.pages l.globals l.goroutines shapes words place e m (Head w (p + 1 - w.pages)) good; fine = (wants, subst (λ (x : ℕ). LaidOut l.pages l.globals l.goroutines shapes (pages_row words) w (p + 1 - w.pages) x) (sym single) out, spent); pends = tt })
-            refl (not_full shapes l words None refl) refl
-        go false one out hit fits =
-            let several : w.pages ≢ 1 = grind (arith, nat_tests) in
-            let some = wg.some in
-            keeps_from shapes l words e m (Look w p run) None found words (at_point m (Body w (p + 1 - w.pages) 1)) None None place None refl
-            (rw (fits, hit, one) refl) (rw fits refl) (rw fits refl)
-            (record { good = good_at l.pages l.globals l.goroutines shapes words place e m (Body w (p + 1 - w.pages) 1) good; fine = (wants, omega arith, omega arith, out, spent); pends = tt })
-            refl (not_full shapes l words None refl) refl
-
-  free_is : (w : PageWord) → is_free w ≡ true → w ≡ page.Free
-  free_is page.Free e = refl
-  free_is (page.Head h) e = absurd cc
-  free_is (page.Body b) e = absurd cc
-
-  look_by : (words : Words) (place : Name → ℕ) (e : Ever) (m : Processor) (w : Wanted) (p run found : ℕ) → WantedGood (shape_at shapes w.t) w → Fits words place e m → WantsName l.pages l.globals l.goroutines shapes m w → p < l.pages → run < w.pages → IsSpent l.pages l.globals l.goroutines shapes m w →
-      found ≡ words (cell.Page p) → FreeBefore l.pages l.globals l.goroutines shapes (pages_row words) p run → NoRunBefore l.pages l.globals l.goroutines shapes (pages_row words) w.pages p run → (b : Bool) → is_free (page_of found) ≡ b → Keeps shapes l words e m (Look w p run) None found
-  look_by words place e m w p run found wg good wants lt few spent is before none true test =
-      let free : page_of (words (cell.Page p)) ≡ page.Free = sym (ap page_of is) ∙ free_is _ test in
-      let now : run_after run found ≡ run + 1 = rw test refl in
-      go (eqb (run + 1) w.pages) refl free now where
-        go : (b : Bool) → eqb (run + 1) w.pages ≡ b → page_of (words (cell.Page p)) ≡ page.Free → run_after run found ≡ run + 1 → Keeps shapes l words e m (Look w p run) None found
-        go true t free now = look_found words place e m w p run found wg good wants lt spent free now (eqb-true _ _ t) before (eqb w.pages 1) refl
-        go false t free now =
-            let ne : run + 1 ≢ w.pages = grind (arith, nat_tests) in
-            let less : run + 1 < w.pages = omega arith in
-            look_ahead words place e m w p run found wg good wants lt spent (rw now t) (rw now less)
-            (rw now (free_more (pages_row words) p run free before))
-            (rw now (no_run_more (pages_row words) w.pages p run less none)) (leb m.pages (p + 1)) refl
-  look_by words place e m w p run found wg good wants lt few spent is before none false test =
-      let taken : page_of (words (cell.Page p)) ≢ page.Free = λ q. not_free (page_of found) test (ap page_of is ∙ q) in
-      let now : run_after run found ≡ 0 = rw test refl in
-      let some = wg.some in
-      look_ahead words place e m w p run found wg good wants lt spent (rw now (ne_eqb 0 w.pages (λ q. omega arith))) (rw now wg.some)
-      (rw now (free_none (pages_row words) p))
-      (rw now (no_run_taken (pages_row words) w.pages p run wg.some taken none)) (leb m.pages (p + 1)) refl
-
-  pub step_look : (w : Wanted) (p run : ℕ) → StepAt shapes l (Look w p run)
-  step_look w p run sg words place e m None at h =
-      let here = fine_here shapes l words place e m (Look w p run) None at h in
-      let f = here.0 in
-      let wg = wanted_here w sg f.0.0 in
-      let index : p % m.pages ≡ p = within_is p m.pages (rw (h.good.sizes.arena) f.1) in
-      look_by words place e m w p run (words (cell.Page (p % m.pages))) wg h.good f.0 f.1 f.2 f.5 (ap (λ (i : ℕ). words (cell.Page i)) index) f.3 f.4 (is_free (page_of (words (cell.Page (p % m.pages))))) refl
-  step_look w p run sg words place e m (Some a) at h = absurd (fine_here shapes l words place e m (Look w p run) (Some a) at h).1
+  pub find_ended : FindsAt shapes l seek.Ended
+  find_ended sg words place e m w at wants fine good = absurd fine

@@ -10,9 +10,10 @@ use Rattle.gh_base.specs.declared.pack.PageWord.TheVariants as page
 use Rattle.gh_base.specs.declared.pack.TheConstants.{LARGE}
 use Rattle.gh_base.specs.Packing.{IsClass, page_of, page_class, page_noscan}
 use Rattle.gh_class.specs.Classes.{slot_of, pages_of, slots_of}
-use Rattle.gh_world.specs.Listing.{slot_in}
-use Rattle.gh_world.specs.Stands.{Row, slot_count, slot_size, body_at, IsSpan, IsSlot}
+use Rattle.gh_mutator.specs.Listing.{slot_in}
+use Rattle.gh_world.specs.Stands.{slot_count, slot_size, body_at, IsSpan, IsSlot}
 use Rattle.gh_world.proofs.Classes.{class_good}
+use Rattle.gh_bitmap.specs.Bits.{Row}
 
 head_is : (g h : SpanHead) → page.Head g ≡ page.Head h → g ≡ h
 head_is g h e = cc

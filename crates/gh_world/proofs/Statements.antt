@@ -24,18 +24,19 @@ use Rattle.gh_base.proofs.Packing.{name_of-birth_word}
 use Rattle.gh_model.specs.declared.EverValue.{EverValue}
 use Rattle.gh_model.specs.declared.EverValue.TheVariants as ever
 use Rattle.gh_model.specs.Ever.{Ever, shape_of, fits, is_number, told, with_register, with_field, with_global, with_end, load_answer, store_answer, answer_of, ever_after, takes_answer, stores_value}
-use Rattle.gh_world.specs.declared.point.Loading.{Loading}
-use Rattle.gh_world.specs.declared.point.Storing.{Storing}
-use Rattle.gh_world.specs.declared.point.Processor.{Processor}
-use Rattle.gh_world.specs.declared.point.Point.{Point}
-use Rattle.gh_world.specs.declared.point.Point.TheVariants.{Idle, Left, Touch, LoadPage, LoadBits, LoadField, LoadBirth, StorePage, StoreBits, StoreField, GlobalLoad, GlobalStore, End, Leave}
-use Rattle.gh_world.specs.Listing.{asks_at, takes_at, gives_at, acts_at, acting, slot_in, value_of, word_of_value, kinds_differ, register_of, set_register, at_point, after_found, told_value, touched, touch_answer, load_op, store_op}
-use Rattle.gh_world.specs.Stands.{row_bit, pages_row, IsMade, Holds, Means, size_of}
+use Rattle.gh_mutator.specs.declared.point.Loading.{Loading}
+use Rattle.gh_mutator.specs.declared.point.Storing.{Storing}
+use Rattle.gh_mutator.specs.declared.point.Processor.{Processor}
+use Rattle.gh_mutator.specs.declared.point.Point.{Point}
+use Rattle.gh_mutator.specs.declared.point.Point.TheVariants.{Idle, Left, Touch, LoadPage, LoadBits, LoadField, LoadBirth, StorePage, StoreBits, StoreField, GlobalLoad, GlobalStore, End, Leave}
+use Rattle.gh_mutator.specs.Listing.{asks_at, takes_at, gives_at, acts_at, acting, slot_in, value_of, word_of_value, kinds_differ, register_of, set_register, at_point, after_found, told_value, touched, touch_answer, load_op, store_op}
+use Rattle.gh_world.specs.Stands.{pages_row, IsMade, Holds, Means, size_of}
 use Rattle.gh_world.specs.Points.{Good, FineAt, IsPlain, Through, op_at, IsPending}
 use Rattle.gh_world.proofs.Step.{Keeps, StepAt}
 use Rattle.gh_world.proofs.Keeping.{fine_here, keeps_from, not_full, act_of, has_room}
 use Rattle.gh_world.proofs.Frames.{within_is, good_at, good_register, good_field, good_global, good_end, good_scanned, good_ack}
 use Rattle.gh_world.proofs.Spans.{slot_in_page, slot_within, slot_some}
+use Rattle.gh_bitmap.specs.Bits.{row_bit}
 
 -- Values of the two heaps that mean the same.
 
@@ -115,24 +116,24 @@ module _ (shapes : List Shape) (l : Layout) where
   Fits words place e m = Good l.pages l.globals l.goroutines shapes words place e m
 
   -- indices within the heap are as they are asked for
-  page_is : (words : Words) (place : Name → ℕ) (e : Ever) (m : Processor) (n : Name) → Fits words place e m → IsMade e n → place n / 1024 % m.pages ≡ place n / 1024
+  page_is : (words : Words) (place : Name → ℕ) (e : Ever) (m : Processor) (n : Name) → Fits words place e m → IsMade e n → place n / 1024 % m.layout.pages ≡ place n / 1024
   page_is words place e m n g made =
       let w = slot_within l.pages (pages_row words) (place n) (size_of shapes e n) (g.slots.is_slot n made) in
-      within_is (place n / 1024) m.pages (rw (g.sizes.arena) w.1)
+      within_is (place n / 1024) m.layout.pages (rw (g.sizes.arena) w.1)
 
-  word_is : (words : Words) (place : Name → ℕ) (e : Ever) (m : Processor) (n : Name) (k : ℕ) → Fits words place e m → IsMade e n → k < size_of shapes e n → (place n + k) % (1024 * m.pages) ≡ place n + k
+  word_is : (words : Words) (place : Name → ℕ) (e : Ever) (m : Processor) (n : Name) (k : ℕ) → Fits words place e m → IsMade e n → k < size_of shapes e n → (place n + k) % (1024 * m.layout.pages) ≡ place n + k
   word_is words place e m n k g made lt =
       let w = slot_within l.pages (pages_row words) (place n) (size_of shapes e n) (g.slots.is_slot n made) in
       let w0 = w.0 in
-      within_is (place n + k) (1024 * m.pages) (rw (g.sizes.arena) (omega arith))
+      within_is (place n + k) (1024 * m.layout.pages) (rw (g.sizes.arena) (omega arith))
 
-  bit_word_is : (words : Words) (place : Name → ℕ) (e : Ever) (m : Processor) (n : Name) (k : ℕ) → Fits words place e m → IsMade e n → k < size_of shapes e n → (place n + k) / 64 % (16 * m.pages) ≡ (place n + k) / 64
+  bit_word_is : (words : Words) (place : Name → ℕ) (e : Ever) (m : Processor) (n : Name) (k : ℕ) → Fits words place e m → IsMade e n → k < size_of shapes e n → (place n + k) / 64 % (16 * m.layout.pages) ≡ (place n + k) / 64
   bit_word_is words place e m n k g made lt =
       let w = slot_within l.pages (pages_row words) (place n) (size_of shapes e n) (g.slots.is_slot n made) in
       let w0 = w.0 in
-      within_is ((place n + k) / 64) (16 * m.pages) (rw (g.sizes.arena) (omega arith))
+      within_is ((place n + k) / 64) (16 * m.layout.pages) (rw (g.sizes.arena) (omega arith))
 
-  place_within : (words : Words) (place : Name → ℕ) (e : Ever) (m : Processor) → Fits words place e m → (n : Name) → IsMade e n → place n < 1024 * m.pages
+  place_within : (words : Words) (place : Name → ℕ) (e : Ever) (m : Processor) → Fits words place e m → (n : Name) → IsMade e n → place n < 1024 * m.layout.pages
   place_within words place e m g n made =
       let w = slot_within l.pages (pages_row words) (place n) (size_of shapes e n) (g.slots.is_slot n made) in
       let s = slot_some l.pages (pages_row words) (place n) (size_of shapes e n) (g.slots.is_slot n made) in
@@ -140,9 +141,9 @@ module _ (shapes : List Shape) (l : Layout) where
       rw (g.sizes.arena) (omega arith)
 
   -- the page word of an object gives its size
-  size_found : (words : Words) (place : Name → ℕ) (e : Ever) (m : Processor) (n : Name) (at : ℕ) → Fits words place e m → IsMade e n → at ≡ place n → slot_in (page_of (words (cell.Page (at / 1024 % m.pages)))) ≡ size_of shapes e n
+  size_found : (words : Words) (place : Name → ℕ) (e : Ever) (m : Processor) (n : Name) (at : ℕ) → Fits words place e m → IsMade e n → at ≡ place n → slot_in (page_of (words (cell.Page (at / 1024 % m.layout.pages)))) ≡ size_of shapes e n
   size_found words place e m n at g made is =
-      ap (λ (a : ℕ). slot_in (page_of (words (cell.Page (a / 1024 % m.pages))))) is ∙ ap (λ (q : ℕ). slot_in (page_of (words (cell.Page q)))) (page_is words place e m n g made)
+      ap (λ (a : ℕ). slot_in (page_of (words (cell.Page (a / 1024 % m.layout.pages))))) is ∙ ap (λ (q : ℕ). slot_in (page_of (words (cell.Page q)))) (page_is words place e m n g made)
       ∙ slot_in_page l.pages (pages_row words) (place n) (size_of shapes e n) (g.slots.is_slot n made)
 
   load_found : (e : Ever) (v : EverValue) (n : Name) (k : ℕ) → v ≡ ever.Ref n → k < size_of shapes e n → load_answer shapes e v k ≡ told (e.field n k)
@@ -177,16 +178,16 @@ module _ (shapes : List Shape) (l : Layout) where
       let here = fine_here shapes l words place e m (LoadPage ld) None at h in
       let n = here.0.0 in
       let t = here.0.1.0 in
-      load_page_by words place e m ld n (words (cell.Page (ld.at / 1024 % m.pages))) h.good t here.0.1.1 (size_found words place e m n ld.at h.good t.made t.at) (ltb ld.k (slot_in (page_of (words (cell.Page (ld.at / 1024 % m.pages)))))) refl
+      load_page_by words place e m ld n (words (cell.Page (ld.at / 1024 % m.layout.pages))) h.good t here.0.1.1 (size_found words place e m n ld.at h.good t.made t.at) (ltb ld.k (slot_in (page_of (words (cell.Page (ld.at / 1024 % m.layout.pages)))))) refl
   step_load_page ld shapes_good words place e m (Some a) at h = absurd (fine_here shapes l words place e m (LoadPage ld) (Some a) at h).1
 
   -- the bit that is found tells whether the field is a pointer
   bit_found : (words : Words) (place : Name → ℕ) (e : Ever) (m : Processor) (n : Name) (at k : ℕ) → Fits words place e m → IsMade e n → k < size_of shapes e n → at ≡ place n →
-      eqb (bit_at (words (cell.Bitmap ((at + k) / 64 % (16 * m.pages)))) ((at + k) % 64)) 1 ≡ is_pointer (shape_of shapes e n) k
+      eqb (bit_at (words (cell.Bitmap ((at + k) / 64 % (16 * m.layout.pages)))) ((at + k) % 64)) 1 ≡ is_pointer (shape_of shapes e n) k
   unfolding row_bit
   bit_found words place e m n at k g made lt is =
       bit_is (is_pointer (shape_of shapes e n) k) _
-      (ap (λ (a : ℕ). bit_at (words (cell.Bitmap ((a + k) / 64 % (16 * m.pages)))) ((a + k) % 64)) is
+      (ap (λ (a : ℕ). bit_at (words (cell.Bitmap ((a + k) / 64 % (16 * m.layout.pages)))) ((a + k) % 64)) is
       ∙ ap (λ (i : ℕ). bit_at (words (cell.Bitmap i)) ((place n + k) % 64)) (bit_word_is words place e m n k g made lt)
       ∙ g.bitmap n k made lt)
 
@@ -196,9 +197,9 @@ module _ (shapes : List Shape) (l : Layout) where
       let n = here.0.0 in
       let t = here.0.1.0 in
       let lt = here.0.2 in
-      let found = words (cell.Bitmap ((ld.at + ld.k) / 64 % (16 * m.pages))) in
-      let bit : eqb (bit_at (words (cell.Bitmap ((ld.at + ld.k) / 64 % (16 * m.pages)))) ((ld.at + ld.k) % 64)) 1 ≡ is_pointer (shape_of shapes e n) ld.k = bit_found words place e m n ld.at ld.k h.good t.made lt t.at in
-      keeps_from shapes l words e m (LoadBits ld) None (words (cell.Bitmap ((ld.at + ld.k) / 64 % (16 * m.pages)))) words (at_point m (LoadField ld (is_pointer (shape_of shapes e n) ld.k))) None None place None refl
+      let found = words (cell.Bitmap ((ld.at + ld.k) / 64 % (16 * m.layout.pages))) in
+      let bit : eqb (bit_at (words (cell.Bitmap ((ld.at + ld.k) / 64 % (16 * m.layout.pages)))) ((ld.at + ld.k) % 64)) 1 ≡ is_pointer (shape_of shapes e n) ld.k = bit_found words place e m n ld.at ld.k h.good t.made lt t.at in
+      keeps_from shapes l words e m (LoadBits ld) None (words (cell.Bitmap ((ld.at + ld.k) / 64 % (16 * m.layout.pages)))) words (at_point m (LoadField ld (is_pointer (shape_of shapes e n) ld.k))) None None place None refl
       (ap (λ (p : Bool). at_point m (LoadField ld p)) bit) refl refl
       (record { good = good_at l.pages l.globals l.goroutines shapes words place e m (LoadField ld (is_pointer (shape_of shapes e n) ld.k)) h.good; fine = (n, here.0.1, lt, refl); pends = tt })
       refl (not_full shapes l words None refl) refl
@@ -206,7 +207,7 @@ module _ (shapes : List Shape) (l : Layout) where
 
   -- a register takes a value that was found
   took : (words : Words) (place : Name → ℕ) (e : Ever) (m : Processor) (p : Point) (o : Op) (g d : ℕ) (v : EverValue) (x : Value) (found : ℕ) → g < l.goroutines → d < 16 → Means place e v x → Fits words place e m →
-      effect words (asks_at shapes m p) ≡ words → takes_at shapes m p found ≡ at_point (set_register m g d x) (after_found x) → acts_at m p found ≡ Some (act_of o) → gives_at l.goroutines m p found ≡ told_value x →
+      effect words (asks_at m p) ≡ words → takes_at shapes m p found ≡ at_point (set_register m g d x) (after_found x) → acts_at m p found ≡ Some (act_of o) → gives_at l.goroutines m p found ≡ told_value x →
       answer_of shapes e o ≡ told v → ever_after shapes e o (told v) ≡ with_register e g d v → op_at p ≡ Some o →
       Keeps shapes l words e m p None found
   took words place e m p o g d v x found lg ld means good ask take does give answers goes op =
@@ -245,21 +246,21 @@ module _ (shapes : List Shape) (l : Layout) where
       let t = here.0.1.0 in
       let lt = here.0.2 in
       let v = e.field n ld.k in
-      let found = words (cell.Field ((ld.at + ld.k) % (1024 * m.pages))) in
-      let word : words (cell.Field ((ld.at + ld.k) % (1024 * m.pages))) ≡ words (cell.Field (place n + ld.k)) =
-      ap (λ (a : ℕ). words (cell.Field ((a + ld.k) % (1024 * m.pages)))) t.at ∙ ap (λ (i : ℕ). words (cell.Field i)) (word_is words place e m n ld.k h.good t.made lt) in
-      let holds : Holds place e p v (words (cell.Field ((ld.at + ld.k) % (1024 * m.pages)))) =
-      subst (λ (q : Bool). Holds place e q v (words (cell.Field ((ld.at + ld.k) % (1024 * m.pages))))) (sym here.0.3) (subst (λ (w : ℕ). Holds place e (is_pointer (shape_of shapes e n) ld.k) v w) (sym word) (h.good.fields n ld.k t.made lt)) in
-      let means = found_means m.pages place e p v (words (cell.Field ((ld.at + ld.k) % (1024 * m.pages)))) (place_within words place e m h.good) holds in
-      took words place e m (LoadField ld p) (load_op ld) ld.g ld.d v (value_of m.pages p (words (cell.Field ((ld.at + ld.k) % (1024 * m.pages))))) (words (cell.Field ((ld.at + ld.k) % (1024 * m.pages)))) t.goroutine here.0.1.1 means h.good
+      let found = words (cell.Field ((ld.at + ld.k) % (1024 * m.layout.pages))) in
+      let word : words (cell.Field ((ld.at + ld.k) % (1024 * m.layout.pages))) ≡ words (cell.Field (place n + ld.k)) =
+      ap (λ (a : ℕ). words (cell.Field ((a + ld.k) % (1024 * m.layout.pages)))) t.at ∙ ap (λ (i : ℕ). words (cell.Field i)) (word_is words place e m n ld.k h.good t.made lt) in
+      let holds : Holds place e p v (words (cell.Field ((ld.at + ld.k) % (1024 * m.layout.pages)))) =
+      subst (λ (q : Bool). Holds place e q v (words (cell.Field ((ld.at + ld.k) % (1024 * m.layout.pages))))) (sym here.0.3) (subst (λ (w : ℕ). Holds place e (is_pointer (shape_of shapes e n) ld.k) v w) (sym word) (h.good.fields n ld.k t.made lt)) in
+      let means = found_means m.layout.pages place e p v (words (cell.Field ((ld.at + ld.k) % (1024 * m.layout.pages)))) (place_within words place e m h.good) holds in
+      took words place e m (LoadField ld p) (load_op ld) ld.g ld.d v (value_of m.layout.pages p (words (cell.Field ((ld.at + ld.k) % (1024 * m.layout.pages))))) (words (cell.Field ((ld.at + ld.k) % (1024 * m.layout.pages)))) t.goroutine here.0.1.1 means h.good
       refl refl refl refl (load_found e (e.register ld.g ld.b) n ld.k t.names lt) (takes_told e ld.g ld.d v) refl
   step_load_field ld p shapes_good words place e m (Some a) at h = absurd (fine_here shapes l words place e m (LoadField ld p) (Some a) at h).1
 
   -- the name in a birth word
-  name_found : (place : Name → ℕ) (e : Ever) (words : Words) (m : Processor) (n : Name) (a : ℕ) → Fits words place e m → IsMade e n → a ≡ place n → name_of l.goroutines (words (cell.Birth (a % (1024 * m.pages)))) ≡ n
+  name_found : (place : Name → ℕ) (e : Ever) (words : Words) (m : Processor) (n : Name) (a : ℕ) → Fits words place e m → IsMade e n → a ≡ place n → name_of l.goroutines (words (cell.Birth (a % (1024 * m.layout.pages)))) ≡ n
   name_found place e words m n a g made is =
-      let at : words (cell.Birth (a % (1024 * m.pages))) ≡ birth_word n =
-      ap (λ (x : ℕ). words (cell.Birth (x % (1024 * m.pages)))) is ∙ ap (λ (x : ℕ). words (cell.Birth x)) (within_is (place n) (1024 * m.pages) (place_within words place e m g n made)) ∙ g.births n made in
+      let at : words (cell.Birth (a % (1024 * m.layout.pages))) ≡ birth_word n =
+      ap (λ (x : ℕ). words (cell.Birth (x % (1024 * m.layout.pages)))) is ∙ ap (λ (x : ℕ). words (cell.Birth x)) (within_is (place n) (1024 * m.layout.pages) (place_within words place e m g n made)) ∙ g.births n made in
       rw at (named n (known n made) (few n made)) where
         few : (n : Name) → IsMade e n → n.k < 2 ^ 32
         few n made = let f = g.few n.g in omega (arith, f, made)
@@ -276,7 +277,7 @@ module _ (shapes : List Shape) (l : Layout) where
   pub step_load_birth : (a : ℕ) → StepAt shapes l (LoadBirth a)
   step_load_birth a shapes_good words place e m (Some (answer.Ref n)) at h =
       let here = (fine_here shapes l words place e m (LoadBirth a) (Some (answer.Ref n)) at h).1 in
-      keeps_from shapes l words e m (LoadBirth a) (Some (answer.Ref n)) (words (cell.Birth (a % (1024 * m.pages)))) words (at_point m Idle) None (Some (answer.Ref (name_of l.goroutines (words (cell.Birth (a % (1024 * m.pages))))))) place None refl
+      keeps_from shapes l words e m (LoadBirth a) (Some (answer.Ref n)) (words (cell.Birth (a % (1024 * m.layout.pages)))) words (at_point m Idle) None (Some (answer.Ref (name_of l.goroutines (words (cell.Birth (a % (1024 * m.layout.pages))))))) place None refl
       refl refl refl
       (record { good = good_at l.pages l.globals l.goroutines shapes words place e m Idle h.good; fine = tt; pends = tt })
       (ap (λ (x : Name). answer.Ref x ∷ []) (sym (name_found place e words m n a h.good here.0 here.1))) (not_full shapes l words None refl) refl
@@ -290,7 +291,7 @@ module _ (shapes : List Shape) (l : Layout) where
 
   -- an operation is a fault, at its point: nothing changes
   faulted : (words : Words) (place : Name → ℕ) (e : Ever) (m : Processor) (p : Point) (o : Op) (a : Answer) (found : ℕ) → Fits words place e m →
-      effect words (asks_at shapes m p) ≡ words → takes_at shapes m p found ≡ at_point m Idle → acts_at m p found ≡ Some (act_of o) → gives_at l.goroutines m p found ≡ Some a →
+      effect words (asks_at m p) ≡ words → takes_at shapes m p found ≡ at_point m Idle → acts_at m p found ≡ Some (act_of o) → gives_at l.goroutines m p found ≡ Some a →
       answer_of shapes e o ≡ a → ever_after shapes e o a ≡ e → op_at p ≡ Some o → Keeps shapes l words e m p None found
   faulted words place e m p o a found good ask take does give answers stays op =
       let next : ever_after shapes e o (answer_of shapes e o) ≡ e = ap (λ (x : Answer). ever_after shapes e o x) answers ∙ stays in
@@ -322,7 +323,7 @@ module _ (shapes : List Shape) (l : Layout) where
       let here = fine_here shapes l words place e m (StorePage s) None at h in
       let n = here.0.0 in
       let t = here.0.1.0 in
-      store_page_by words place e m s n (words (cell.Page (s.at / 1024 % m.pages))) h.good t here.0.1.1 (size_found words place e m n s.at h.good t.made t.at) (ltb s.k (slot_in (page_of (words (cell.Page (s.at / 1024 % m.pages)))))) refl
+      store_page_by words place e m s n (words (cell.Page (s.at / 1024 % m.layout.pages))) h.good t here.0.1.1 (size_found words place e m n s.at h.good t.made t.at) (ltb s.k (slot_in (page_of (words (cell.Page (s.at / 1024 % m.layout.pages)))))) refl
   step_store_page s shapes_good words place e m (Some a) at h = absurd (fine_here shapes l words place e m (StorePage s) (Some a) at h).1
 
   store_bits_by : (words : Words) (place : Name → ℕ) (e : Ever) (m : Processor) (s : Storing) (n : Name) (found : ℕ) → Fits words place e m → Through l.pages l.globals l.goroutines shapes place e s.g s.b s.at n → s.v < 16 → s.k < size_of shapes e n →
@@ -348,7 +349,7 @@ module _ (shapes : List Shape) (l : Layout) where
       let here = fine_here shapes l words place e m (StoreBits s) None at h in
       let n = here.0.0 in
       let t = here.0.1.0 in
-      store_bits_by words place e m s n (words (cell.Bitmap ((s.at + s.k) / 64 % (16 * m.pages)))) h.good t here.0.1.1 here.0.2 (bit_found words place e m n s.at s.k h.good t.made here.0.2 t.at) (fits (is_pointer (shape_of shapes e n) s.k) (e.register s.g s.v)) refl
+      store_bits_by words place e m s n (words (cell.Bitmap ((s.at + s.k) / 64 % (16 * m.layout.pages)))) h.good t here.0.1.1 here.0.2 (bit_found words place e m n s.at s.k h.good t.made here.0.2 t.at) (fits (is_pointer (shape_of shapes e n) s.k) (e.register s.g s.v)) refl
   step_store_bits s shapes_good words place e m (Some a) at h = absurd (fine_here shapes l words place e m (StoreBits s) (Some a) at h).1
 
   pub step_store_field : (s : Storing) → StepAt shapes l (StoreField s)
@@ -359,11 +360,11 @@ module _ (shapes : List Shape) (l : Layout) where
       let v = e.register s.g s.v in
       let w = word_of_value (register_of m s.g s.v) in
       let after : Words = put words (cell.Field (place n + s.k)) (word_of_value (register_of m s.g s.v)) in
-      let index : (s.at + s.k) % (1024 * m.pages) ≡ place n + s.k = ap (λ (a : ℕ). (a + s.k) % (1024 * m.pages)) t.at ∙ word_is words place e m n s.k h.good t.made here.0.2 in
+      let index : (s.at + s.k) % (1024 * m.layout.pages) ≡ place n + s.k = ap (λ (a : ℕ). (a + s.k) % (1024 * m.layout.pages)) t.at ∙ word_is words place e m n s.k h.good t.made here.0.2 in
       let holds = word_holds place e (is_pointer (shape_of shapes e n) s.k) (e.register s.g s.v) (register_of m s.g s.v) (h.good.registers s.g s.v t.goroutine here.0.1.1) here.0.3 in
       let answers : answer_of shapes e (store_op s) ≡ answer.Done = store_kind e (e.register s.g s.b) (e.register s.g s.v) n s.k true t.names here.0.2 here.0.3 in
       let next : ever_after shapes e (store_op s) (answer_of shapes e (store_op s)) ≡ with_field e n s.k (e.register s.g s.v) = ap (λ (a : Answer). ever_after shapes e (store_op s) a) answers ∙ ap (λ (x : EverValue). stores_value e x s.k (e.register s.g s.v) answer.Done) t.names in
-      keeps_from shapes l words e m (StoreField s) None (words (cell.Field ((s.at + s.k) % (1024 * m.pages)))) (put words (cell.Field (place n + s.k)) (word_of_value (register_of m s.g s.v))) (at_point m Idle) (Some (act_of (store_op s))) (Some answer.Done) place None
+      keeps_from shapes l words e m (StoreField s) None (words (cell.Field ((s.at + s.k) % (1024 * m.layout.pages)))) (put words (cell.Field (place n + s.k)) (word_of_value (register_of m s.g s.v))) (at_point m Idle) (Some (act_of (store_op s))) (Some answer.Done) place None
       (ap (λ (x : ℕ). put words (cell.Field x) (word_of_value (register_of m s.g s.v))) index) refl refl refl
       (record {
         good = subst (λ (x : Ever). Fits (put words (cell.Field (place n + s.k)) (word_of_value (register_of m s.g s.v))) place x (at_point m Idle)) (sym next)
@@ -378,8 +379,8 @@ module _ (shapes : List Shape) (l : Layout) where
   pub step_global_load : (g d k : ℕ) → StepAt shapes l (GlobalLoad g d k)
   step_global_load g d k shapes_good words place e m None at h =
       let here = fine_here shapes l words place e m (GlobalLoad g d k) None at h in
-      let means = found_means m.pages place e true (e.global k) (words (cell.Global k)) (place_within words place e m h.good) (h.good.globals_hold k here.0.2) in
-      took words place e m (GlobalLoad g d k) (op.GetGlobal g d k) g d (e.global k) (value_of m.pages true (words (cell.Global k))) (words (cell.Global k)) here.0.0 here.0.1 means h.good
+      let means = found_means m.layout.pages place e true (e.global k) (words (cell.Global k)) (place_within words place e m h.good) (h.good.globals_hold k here.0.2) in
+      took words place e m (GlobalLoad g d k) (op.GetGlobal g d k) g d (e.global k) (value_of m.layout.pages true (words (cell.Global k))) (words (cell.Global k)) here.0.0 here.0.1 means h.good
       refl refl refl refl refl (takes_told e g d (e.global k)) refl
   step_global_load g d k shapes_good words place e m (Some a) at h = absurd (fine_here shapes l words place e m (GlobalLoad g d k) (Some a) at h).1
 

@@ -8,13 +8,20 @@ use Rattle.gh_base.specs.declared.shape.Shape.{Shape}
 use Rattle.gh_base.specs.declared.layout.Layout.{Layout}
 use Rattle.gh_base.specs.Cells.{Words}
 use Rattle.gh_base.specs.Steps.{cell_of, effect}
+use Rattle.gh_bitmap.specs.Stepping.{EachStepIsOnItsBits}
+use Rattle.gh_central.specs.Slots.{TheTestSaysIt}
 use Rattle.gh_model.specs.Ever.{Ever}
-use Rattle.gh_world.specs.declared.point.Processor.{Processor}
-use Rattle.gh_world.specs.declared.point.Point.{Point}
-use Rattle.gh_world.specs.Listing.{asks_at, takes_at, gives_at, acts_at, Act}
+use Rattle.gh_mutator.specs.declared.point.Processor.{Processor}
+use Rattle.gh_mutator.specs.declared.point.Point.{Point}
+use Rattle.gh_mutator.specs.Listing.{asks_at, takes_at, gives_at, acts_at, Act}
 use Rattle.gh_world.specs.Law.{FullAt}
 use Rattle.gh_world.specs.Order.{acted, answer_at}
 use Rattle.gh_world.specs.Points.{Good, FineAt, op_at, IsPending, ShapesGood}
+
+-- what the crates below promise of their routines
+pub record Laws : Type 0 where
+  pub bits : EachStepIsOnItsBits
+  pub test : TheTestSaysIt
 
 module _ (shapes : List Shape) (l : Layout) where
   abbrev pub answer_of_act : Ever → Option Act → Option Answer
@@ -35,7 +42,7 @@ module _ (shapes : List Shape) (l : Layout) where
   pub record Keeps (words : Words) (e : Ever) (m : Processor) (p : Point) (pending : Option Answer) (found : ℕ) : Type 0 where
     pub place : Name → ℕ
     pub now_pending : Option Answer
-    pub holding : Holding (effect words (asks_at shapes m p)) place (acted shapes l e (acts_at m p found)) (takes_at shapes m p found) now_pending
+    pub holding : Holding (effect words (asks_at m p)) place (acted shapes l e (acts_at m p found)) (takes_at shapes m p found) now_pending
     -- an answer is pending from the point of its operation until it is given
     pub answers : option_to_list (answer_of_act e (acts_at m p found)) ++ option_to_list pending ≡ option_to_list now_pending ++ option_to_list (gives_at l.goroutines m p found)
     -- it finds no room only where there is none
@@ -45,4 +52,4 @@ module _ (shapes : List Shape) (l : Layout) where
 
   -- every own-step lemma is of this form, for its point p
   abbrev pub StepAt : Point → Type 0
-  StepAt p = ShapesGood shapes → (words : Words) (place : Name → ℕ) (e : Ever) (m : Processor) (pending : Option Answer) → m.point ≡ p → Holding words place e m pending → Keeps words e m p pending (words (cell_of (asks_at shapes m p)))
+  StepAt p = ShapesGood shapes → (words : Words) (place : Name → ℕ) (e : Ever) (m : Processor) (pending : Option Answer) → m.point ≡ p → Holding words place e m pending → Keeps words e m p pending (words (cell_of (asks_at m p)))

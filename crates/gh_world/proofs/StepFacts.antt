@@ -1,5 +1,5 @@
 -- What each step, and each beginning, is to a statement: it acts once, it is answered last, and its object is counted once.
-use Rattle.std.proofs.Common.{◌≡◌, ℕ, ◌+◌, ◌-◌, ◌*◌, ◌/◌, ◌%◌, ◌^◌, ◌<◌, ◌≤◌, Bool, true, false, cond, eqb, ltb, leb, not, ◌&&◌, List, get_or, refl, ap, subst, Option, Some, None, arith}
+use Rattle.std.proofs.Common.{◌≡◌, ℕ, ◌+◌, ◌*◌, ◌/◌, ◌%◌, ◌≤◌, Bool, true, false, cond, eqb, ltb, leb, not, ◌&&◌, List, get_or, refl, ap, subst, Option, Some, None, arith}
 use Rattle.std.specs.Prelude.{is_some}
 use Rattle.std.proofs.Math.ListN.{set}
 use Rattle.std.proofs.lemmas.Bool.Decides.{nat_tests}
@@ -15,18 +15,27 @@ use Rattle.gh_base.specs.declared.shape.Shape.{Shape}
 use Rattle.gh_base.specs.Shapes.{shape_at}
 use Rattle.gh_base.specs.declared.pack.TheConstants.{LARGE}
 use Rattle.gh_base.specs.Packing.{bit, page_of}
-use Rattle.gh_class.specs.Classes.{pages_of, slots_of, class_number, slot_words}
-use Rattle.gh_world.specs.declared.point.Wanted.{Wanted}
-use Rattle.gh_world.specs.declared.point.Cached.{Cached}
-use Rattle.gh_world.specs.declared.point.Processor.{Processor}
-use Rattle.gh_world.specs.declared.point.Point.{Point}
-use Rattle.gh_world.specs.declared.point.Point.TheVariants.{Idle, Left, Touch, LoadPage, LoadBits, LoadField, LoadBirth, StorePage, StoreBits, StoreField, GlobalLoad, GlobalStore, Slot, Look, Body, Head, Clear, Birth, ClearBits, SetBits, Alloc, Disown, Count, End, Leave}
-use Rattle.gh_world.specs.Listing.{slot_in, value_of, kinds_differ, register_of, set_register, made_by, at_point, is_large, cached_for, cache_span, slot_at, pointer_bits, begins_at, begin_load, begin_store, begin_global_store, wanted_of, search_from, takes_at, after_found, cache_after, is_clear, run_after, made_object, gives_at, acts_at, acting, Act, told_value, load_op, store_op, new_op}
-use Rattle.gh_world.specs.Order.{is_busy_at}
+use Rattle.gh_class.specs.Classes.{pages_of, class_number, slot_words}
+use Rattle.gh_mutator.specs.declared.point.Wanted.{Wanted}
+use Rattle.gh_base.specs.declared.pack.SpanHead.{SpanHead}
+use Rattle.gh_bitmap.specs.Setting as bits
+use Rattle.gh_alloc.specs.declared.find.Found.{Found}
+use Rattle.gh_alloc.specs.declared.find.Found.TheVariants.{At, NoRoom}
+use Rattle.gh_alloc.specs.declared.place.PlacePoint.{PlacePoint}
+use Rattle.gh_alloc.specs.declared.place.PlacePoint.TheVariants as making_point
+use Rattle.gh_alloc.specs.Finding.{Finding}
+use Rattle.gh_alloc.specs.Finding as find
+use Rattle.gh_alloc.specs.Placing.{Placing}
+use Rattle.gh_alloc.specs.Placing as place
+use Rattle.gh_mutator.specs.declared.point.Processor.{Processor}
+use Rattle.gh_mutator.specs.declared.point.Point.{Point}
+use Rattle.gh_mutator.specs.declared.point.Point.TheVariants.{Idle, Left, Touch, LoadPage, LoadBits, LoadField, LoadBirth, StorePage, StoreBits, StoreField, GlobalLoad, GlobalStore, Find, Place, End, Leave}
+use Rattle.gh_mutator.specs.Listing.{slot_in, value_of, kinds_differ, register_of, set_register, made_by, at_point, is_large, is_made, span_class, begins_at, begin_load, begin_store, begin_global_store, wanted_of, finding, takes_at, after_find, after_found, after_place, made_object, gives_at, acts_at, acting, Act, told_value, finds_none, load_op, store_op, new_op, is_busy_at}
 use Rattle.gh_world.specs.Points.{op_at}
-use Rattle.gh_world.specs.Sound.{making, HasName}
-use Rattle.gh_world.specs.Turns.{is_point, is_unacted, is_statement, is_serving, answer_at, is_leaving, is_leave}
-use Rattle.gh_world.proofs.Soundness.{read_after_set}
+use Rattle.gh_world.specs.Turns.{is_unacted, is_leave}
+use Rattle.gh_mutator.proofs.Soundness.{read_after_set}
+use Rattle.gh_mutator.specs.Serving.{is_point, is_statement, is_serving, answer_at, is_leaving}
+use Rattle.gh_world.specs.World.{making}
 
 -- from point p and the processor m to the next one, with the act and the answer of the step
 pub record StepFacts (m : Processor) (p : Point) (next : Processor) (act : Option Act) (given : Option Answer) : Type 0 where
@@ -66,14 +75,14 @@ module _ (shapes : List Shape) (goroutines : ℕ) (m : Processor) where
     go false = record { counted = λ g. omega arith; leaves = refl; answered = omega arith; once = refl; ends = refl; serves = refl }
 
   load_field_facts : (x : _) (p : Bool) (found : ℕ) → FactsAt (LoadField x p) found
-  load_field_facts x p found = go (value_of m.pages p found) where
+  load_field_facts x p found = go (value_of m.layout.pages p found) where
     go : (v : Value) → StepFacts m (LoadField x p) (at_point (set_register m x.g x.d v) (after_found v)) (acting true (load_op x) false) (told_value v)
     go value.Nil = record { counted = λ g. omega arith; leaves = refl; answered = omega arith; once = refl; ends = refl; serves = refl }
     go (value.Int n) = record { counted = λ g. omega arith; leaves = refl; answered = omega arith; once = refl; ends = refl; serves = refl }
     go (value.Ref n) = record { counted = λ g. omega arith; leaves = refl; answered = omega arith; once = refl; ends = refl; serves = refl }
 
   global_load_facts : (g d k found : ℕ) → FactsAt (GlobalLoad g d k) found
-  global_load_facts g d k found = go (value_of m.pages true found) where
+  global_load_facts g d k found = go (value_of m.layout.pages true found) where
     go : (v : Value) → StepFacts m (GlobalLoad g d k) (at_point (set_register m g d v) (after_found v)) (acting true (op.GetGlobal g d k) false) (told_value v)
     go value.Nil = record { counted = λ h. omega arith; leaves = refl; answered = omega arith; once = refl; ends = refl; serves = refl }
     go (value.Int n) = record { counted = λ h. omega arith; leaves = refl; answered = omega arith; once = refl; ends = refl; serves = refl }
@@ -93,69 +102,50 @@ module _ (shapes : List Shape) (goroutines : ℕ) (m : Processor) where
   touch_facts (op.End g) found = record { counted = λ h. omega arith; leaves = refl; answered = omega arith; once = refl; ends = refl; serves = refl }
   touch_facts op.Leave found = record { counted = λ h. omega arith; leaves = refl; answered = omega arith; once = refl; ends = refl; serves = refl }
 
-  slot_facts : (w : Wanted) (c : Cached) (found : ℕ) → FactsAt (Slot w c) found
-  slot_facts w c found = go (is_clear w c found) (ltb (c.cursor + 1) (slots_of w.class)) where
-    next : Cached
-    next = record c { cursor = c.cursor + 1 }
+  find_facts : (w : Wanted) (f : Finding) (found : ℕ) → FactsAt (Find w f) found
+  find_facts w f found = go (is_large w) (find.gives f found) where
+    cached : Processor
+    cached = record m { cache = set m.cache (span_class w) (find.goes f found).cached }
 
-    go : (a b : Bool) → StepFacts m (Slot w c) (at_point (cache_after m w c a) (elim a [ true ↦ Clear w (slot_at w c) 0 | false ↦ cond b (Slot w next) (Look w 0 0) ])) None None
-    go true b = record { counted = λ g. omega arith; leaves = refl; answered = omega arith; once = refl; ends = refl; serves = refl }
-    go false true = record { counted = λ g. omega arith; leaves = refl; answered = omega arith; once = refl; ends = refl; serves = refl }
-    go false false = record { counted = λ g. omega arith; leaves = refl; answered = omega arith; once = refl; ends = refl; serves = refl }
+    go : (large : Bool) (out : Option Found) → StepFacts m (Find w f) (after_find shapes (cond large m cached) w (find.goes f found) out) (acting (finds_none out) (new_op w) true) (cond (finds_none out) (Some answer.Full) None)
+    go true None = record { counted = λ g. omega arith; leaves = refl; answered = omega arith; once = refl; ends = refl; serves = refl }
+    go true (Some (At a)) = record { counted = λ g. omega arith; leaves = refl; answered = omega arith; once = refl; ends = refl; serves = refl }
+    go true (Some NoRoom) = record { counted = λ g. omega arith; leaves = refl; answered = omega arith; once = refl; ends = refl; serves = refl }
+    go false None = record { counted = λ g. omega arith; leaves = refl; answered = omega arith; once = refl; ends = refl; serves = refl }
+    go false (Some (At a)) = record { counted = λ g. omega arith; leaves = refl; answered = omega arith; once = refl; ends = refl; serves = refl }
+    go false (Some NoRoom) = record { counted = λ g. omega arith; leaves = refl; answered = omega arith; once = refl; ends = refl; serves = refl }
 
-  look_facts : (w : Wanted) (p run found : ℕ) → FactsAt (Look w p run) found
-  look_facts w p run found = go (eqb (run_after run found) w.pages) (leb m.pages (p + 1)) (eqb w.pages 1) where
-    go : (a b c : Bool) → StepFacts m (Look w p run)
-        (at_point (cond (not a && b) (set_register m w.g w.d value.Nil) m) (cond a (cond c (Head w (p + 1 - w.pages)) (Body w (p + 1 - w.pages) 1)) (cond b Idle (Look w (p + 1) (run_after run found)))))
-        (acting (not a && b) (new_op w) true) (cond (not a && b) (Some answer.Full) None)
-    go true b true = record { counted = λ g. omega arith; leaves = refl; answered = omega arith; once = refl; ends = refl; serves = refl }
-    go true b false = record { counted = λ g. omega arith; leaves = refl; answered = omega arith; once = refl; ends = refl; serves = refl }
-    go false true c = record { counted = λ g. omega arith; leaves = refl; answered = omega arith; once = refl; ends = refl; serves = refl }
-    go false false c = record { counted = λ g. omega arith; leaves = refl; answered = omega arith; once = refl; ends = refl; serves = refl }
+  -- a step of the making before the object is made, the one that makes it, and one behind that
+  before_made : (w : Wanted) (p n : Placing) → is_made p.point ≡ false → is_made n.point ≡ false → StepFacts m (Place w p) (at_point m (Place w n)) None None
+  before_made w p n here next = record { counted = λ g. rw (here, next) (omega arith); leaves = refl; answered = omega arith; once = rw (here, next) refl; ends = refl; serves = refl }
 
-  body_facts : (w : Wanted) (first i found : ℕ) → FactsAt (Body w first i) found
-  body_facts w first i found = go (ltb (i + 1) w.pages) where
-    go : (a : Bool) → StepFacts m (Body w first i) (at_point m (cond a (Body w first (i + 1)) (Head w first))) None None
-    go true = record { counted = λ g. omega arith; leaves = refl; answered = omega arith; once = refl; ends = refl; serves = refl }
-    go false = record { counted = λ g. omega arith; leaves = refl; answered = omega arith; once = refl; ends = refl; serves = refl }
-
-  head_facts : (w : Wanted) (first found : ℕ) → FactsAt (Head w first) found
-  head_facts w first found = go (is_large w) where
-    new : Cached
-    new = record { head = first; cursor = 0 }
-
-    go : (a : Bool) → StepFacts m (Head w first) (cond a (at_point m (Clear w (1024 * first) 0)) (at_point (cache_span m w new) (Slot w new))) None None
-    go true = record { counted = λ g. omega arith; leaves = refl; answered = omega arith; once = refl; ends = refl; serves = refl }
-    go false = record { counted = λ g. omega arith; leaves = refl; answered = omega arith; once = refl; ends = refl; serves = refl }
-
-  clear_facts : (w : Wanted) (a i found : ℕ) → FactsAt (Clear w a i) found
-  clear_facts w a i found = go (ltb (i + 1) w.slot) where
-    go : (b : Bool) → StepFacts m (Clear w a i) (at_point m (cond b (Clear w a (i + 1)) (Birth w a))) None None
-    go true = record { counted = λ g. omega arith; leaves = refl; answered = omega arith; once = refl; ends = refl; serves = refl }
-    go false = record { counted = λ g. omega arith; leaves = refl; answered = omega arith; once = refl; ends = refl; serves = refl }
-
-  clear_bits_facts : (w : Wanted) (a i found : ℕ) → FactsAt (ClearBits w a i) found
-  clear_bits_facts w a i found = go (eqb (pointer_bits (shape_at shapes w.t) a i) 0) (ltb (64 * (i + 1)) (a + w.slot)) where
-    go : (b c : Bool) → StepFacts m (ClearBits w a i) (at_point m (cond b (cond c (ClearBits w a (i + 1)) (Alloc w a)) (SetBits w a i))) None None
-    go true true = record { counted = λ g. omega arith; leaves = refl; answered = omega arith; once = refl; ends = refl; serves = refl }
-    go true false = record { counted = λ g. omega arith; leaves = refl; answered = omega arith; once = refl; ends = refl; serves = refl }
-    go false c = record { counted = λ g. omega arith; leaves = refl; answered = omega arith; once = refl; ends = refl; serves = refl }
-
-  set_bits_facts : (w : Wanted) (a i found : ℕ) → FactsAt (SetBits w a i) found
-  set_bits_facts w a i found = go (ltb (64 * (i + 1)) (a + w.slot)) where
-    go : (c : Bool) → StepFacts m (SetBits w a i) (at_point m (cond c (ClearBits w a (i + 1)) (Alloc w a))) None None
-    go true = record { counted = λ g. omega arith; leaves = refl; answered = omega arith; once = refl; ends = refl; serves = refl }
-    go false = record { counted = λ g. omega arith; leaves = refl; answered = omega arith; once = refl; ends = refl; serves = refl }
-
-  alloc_facts : (w : Wanted) (a found : ℕ) → FactsAt (Alloc w a) found
-  alloc_facts w a found = go (is_large w) where
+  now_made : (w : Wanted) (p n : Placing) (a : ℕ) → is_made p.point ≡ false → is_made n.point ≡ true → StepFacts m (Place w p) (at_point (made_object m w a) (Place w n)) (acting true (new_op w) false) None
+  now_made w p n a here next = record { counted = λ g. rw (here, next) (omega (arith, more g)); leaves = refl; answered = omega arith; once = rw (here, next) refl; ends = refl; serves = refl } where
     more : (g : ℕ) → get_or (set m.made w.g (made_by m w.g + 1)) g 0 ≤ made_by m g + 1
     more g = read_after_set (λ (n : ℕ). n ≤ made_by m g + 1) m.made w.g g (made_by m w.g + 1) 0
         (λ e. let same : made_by m w.g ≡ made_by m g = ap (λ (h : ℕ). made_by m h) e in omega arith) (omega arith)
 
-    go : (b : Bool) → StepFacts m (Alloc w a) (at_point (made_object m w a) (cond b (Disown w a) (Count w a))) (acting true (new_op w) false) None
-    go true = record { counted = λ g. omega (arith, more g); leaves = refl; answered = omega arith; once = refl; ends = refl; serves = refl }
-    go false = record { counted = λ g. omega (arith, more g); leaves = refl; answered = omega arith; once = refl; ends = refl; serves = refl }
+  place_facts : (w : Wanted) (p : Placing) (found : ℕ) (q : PlacePoint) → FactsAt (Place w (place.at_point p q)) found
+  place_facts w p found (making_point.Clear k) = go (ltb (k + 1) p.slot) where
+    go : (b : Bool) → StepFacts m (Place w (place.at_point p (making_point.Clear k))) (after_place m w false p.at (place.at_point p (cond b (making_point.Clear (k + 1)) making_point.Birth))) None
+        (cond (place.is_busy (cond b (making_point.Clear (k + 1)) making_point.Birth)) None (Some (answer.Ref p.name)))
+    go true = before_made w _ _ refl refl
+    go false = before_made w _ _ refl refl
+  place_facts w p found making_point.Birth = before_made w _ _ refl refl
+  place_facts w p found (making_point.Bits s) = go (bits.is_busy (bits.goes s found).place) refl where
+    next : Bool → PlacePoint
+    next b = cond b (making_point.Bits (bits.goes s found)) making_point.Alloc
+
+    go : (b : Bool) → bits.is_busy (bits.goes s found).place ≡ b → StepFacts m (Place w (place.at_point p (making_point.Bits s))) (after_place m w false p.at (place.at_point p (next b))) None (cond (place.is_busy (next b)) None (Some (answer.Ref p.name)))
+    go true e = rw e (before_made w _ _ refl refl)
+    go false e = before_made w _ _ refl refl
+  place_facts w p found making_point.Alloc = go p.span where
+    go : (s : Option SpanHead) → StepFacts m (Place w (place.at_point p making_point.Alloc)) (after_place m w true p.at (place.at_point p (place.made p s))) (acting true (new_op w) false) (cond (place.is_busy (place.made p s)) None (Some (answer.Ref p.name)))
+    go None = now_made w _ _ p.at refl refl
+    go (Some h) = now_made w _ _ p.at refl refl
+  place_facts w p found (making_point.Give g) = record { counted = λ g. omega arith; leaves = refl; answered = omega arith; once = refl; ends = refl; serves = refl }
+  place_facts w p found making_point.Count = record { counted = λ g. omega arith; leaves = refl; answered = omega arith; once = refl; ends = refl; serves = refl }
+  place_facts w p found making_point.Ended = record { counted = λ g. omega arith; leaves = refl; answered = omega arith; once = refl; ends = refl; serves = refl }
 
   pub step_facts : (p : Point) (found : ℕ) → is_busy_at p ≡ true → FactsAt p found
   step_facts Idle found busy = absurd (cc)
@@ -170,17 +160,8 @@ module _ (shapes : List Shape) (goroutines : ℕ) (m : Processor) where
   step_facts (StoreField x) found busy = record { counted = λ h. omega arith; leaves = refl; answered = omega arith; once = refl; ends = refl; serves = refl }
   step_facts (GlobalLoad g d k) found busy = global_load_facts g d k found
   step_facts (GlobalStore g k v) found busy = record { counted = λ h. omega arith; leaves = refl; answered = omega arith; once = refl; ends = refl; serves = refl }
-  step_facts (Slot w c) found busy = slot_facts w c found
-  step_facts (Look w p run) found busy = look_facts w p run found
-  step_facts (Body w first i) found busy = body_facts w first i found
-  step_facts (Head w first) found busy = head_facts w first found
-  step_facts (Clear w a i) found busy = clear_facts w a i found
-  step_facts (Birth w a) found busy = record { counted = λ h. omega arith; leaves = refl; answered = omega arith; once = refl; ends = refl; serves = refl }
-  step_facts (ClearBits w a i) found busy = clear_bits_facts w a i found
-  step_facts (SetBits w a i) found busy = set_bits_facts w a i found
-  step_facts (Alloc w a) found busy = alloc_facts w a found
-  step_facts (Disown w a) found busy = record { counted = λ h. omega arith; leaves = refl; answered = omega arith; once = refl; ends = refl; serves = refl }
-  step_facts (Count w a) found busy = record { counted = λ h. omega arith; leaves = refl; answered = omega arith; once = refl; ends = refl; serves = refl }
+  step_facts (Find w f) found busy = find_facts w f found
+  step_facts (Place w p) found busy = place_facts w p found p.point
   step_facts (End g) found busy = record { counted = λ h. omega arith; leaves = refl; answered = omega arith; once = refl; ends = refl; serves = refl }
   step_facts Leave found busy = record { counted = λ h. omega arith; leaves = refl; answered = omega arith; once = refl; ends = refl; serves = refl }
 
@@ -194,12 +175,8 @@ pub record BeginFacts (o : Op) (p : Point) : Type 0 where
   pub serves : is_serving p ≡ is_statement o
   pub is : op_at p ≡ Some o
 
-search_facts : (w : Wanted) (c : Option Cached) → BeginFacts (new_op w) (search_from w c)
-search_facts w None = record { made = omega arith; leaves = refl; busy = refl; serves = refl; is = refl }
-search_facts w (Some c) = go (ltb c.cursor (slots_of w.class)) where
-  go : (b : Bool) → BeginFacts (new_op w) (cond b (Slot w c) (Look w 0 0))
-  go true = record { made = omega arith; leaves = refl; busy = refl; serves = refl; is = refl }
-  go false = record { made = omega arith; leaves = refl; busy = refl; serves = refl; is = refl }
+search_facts : (w : Wanted) (f : Finding) → BeginFacts (new_op w) (Find w f)
+search_facts w f = record { made = omega arith; leaves = refl; busy = refl; serves = refl; is = refl }
 
 wanted_op : (shapes : List Shape) (g d t : ℕ) → new_op (wanted_of shapes g d t) ≡ op.New g d t
 wanted_op shapes g d t = go (leb (shape_at shapes t).words 4096) where
@@ -225,7 +202,7 @@ global_store_facts g k v (value.Int n) = record { made = omega arith; leaves = r
 global_store_facts g k v (value.Ref n) = record { made = omega arith; leaves = refl; busy = refl; serves = refl; is = refl }
 
 pub begin_facts : (shapes : List Shape) (m : Processor) (o : Op) → BeginFacts o (begins_at shapes m o)
-begin_facts shapes m (op.New g d t) = subst (λ (o : Op). BeginFacts o (search_from (wanted_of shapes g d t) (cached_for m (wanted_of shapes g d t)))) (wanted_op shapes g d t) (search_facts (wanted_of shapes g d t) (cached_for m (wanted_of shapes g d t)))
+begin_facts shapes m (op.New g d t) = subst (λ (o : Op). BeginFacts o (Find (wanted_of shapes g d t) (finding m (wanted_of shapes g d t)))) (wanted_op shapes g d t) (search_facts (wanted_of shapes g d t) (finding m (wanted_of shapes g d t)))
 begin_facts shapes m (op.Load g d b k) = load_facts g d b k (register_of m g b)
 begin_facts shapes m (op.Store g b k v) = store_facts g b k v (register_of m g b)
 begin_facts shapes m (op.GetGlobal g d k) = record { made = omega arith; leaves = refl; busy = refl; serves = refl; is = refl }
@@ -237,32 +214,3 @@ begin_facts shapes m (op.Gc g) = record { made = omega arith; leaves = refl; bus
 begin_facts shapes m op.Poll = record { made = omega arith; leaves = refl; busy = refl; serves = refl; is = refl }
 begin_facts shapes m (op.End g) = record { made = omega arith; leaves = refl; busy = refl; serves = refl; is = refl }
 begin_facts shapes m op.Leave = record { made = omega arith; leaves = refl; busy = refl; serves = refl; is = refl }
-
--- Objects are few.
-
-pub has_name : (n : ℕ) (m : Processor) (p : Point) → ((g : ℕ) → made_by m g + making p ≤ n) → n < 2 ^ 32 → HasName m p
-has_name n m (Alloc w a) h few = omega (arith, h w.g)
-has_name n m Idle h few = tt
-has_name n m Left h few = tt
-has_name n m (Touch o) h few = tt
-has_name n m (LoadPage x) h few = tt
-has_name n m (LoadBits x) h few = tt
-has_name n m (LoadField x p) h few = tt
-has_name n m (LoadBirth a) h few = tt
-has_name n m (StorePage x) h few = tt
-has_name n m (StoreBits x) h few = tt
-has_name n m (StoreField x) h few = tt
-has_name n m (GlobalLoad g d k) h few = tt
-has_name n m (GlobalStore g k v) h few = tt
-has_name n m (Slot w c) h few = tt
-has_name n m (Look w p run) h few = tt
-has_name n m (Body w first i) h few = tt
-has_name n m (Head w first) h few = tt
-has_name n m (Clear w a i) h few = tt
-has_name n m (Birth w a) h few = tt
-has_name n m (ClearBits w a i) h few = tt
-has_name n m (SetBits w a i) h few = tt
-has_name n m (Disown w a) h few = tt
-has_name n m (Count w a) h few = tt
-has_name n m (End g) h few = tt
-has_name n m Leave h few = tt

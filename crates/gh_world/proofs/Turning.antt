@@ -15,7 +15,9 @@ use Rattle.gh_script.specs.declared.statement.Stmt.TheVariants as stmts
 use Rattle.gh_script.specs.Program.{Program, no_goroutine, statements_of, statements_in, op_of}
 use Rattle.gh_world.specs.declared.turns.Next.{Next}
 use Rattle.gh_world.specs.declared.turns.Next.TheVariants as next
-use Rattle.gh_world.specs.Turns.{count_of, total_of, turn_of, round_of, work_at, work_of, turns_of, later, to_come, is_statement, goroutine_at, statements_among, Stands, IsPast, MayBeOver, Follows, op_due, is_over, is_leave}
+use Rattle.gh_world.specs.Turns.{count_of, total_of, turn_of, round_of, turns_of, later, to_come, goroutine_at, statements_among, Stands, IsPast, MayBeOver, Follows, op_due, is_over, is_leave}
+use Rattle.gh_mutator.specs.Serving.{is_statement}
+use Rattle.gh_interp.specs.Working.{work_at, work_of}
 
 -- ---- statements
 

@@ -10,13 +10,14 @@ use Rattle.gh_base.specs.declared.pack.TheConstants.{LARGE}
 use Rattle.gh_base.specs.Packing.{IsClass}
 use Rattle.gh_class.specs.Classes.{slot_of, pages_of, class_number, slot_words}
 use Rattle.gh_model.specs.Ever.{field_count}
-use Rattle.gh_world.specs.declared.point.Wanted.{Wanted}
-use Rattle.gh_world.specs.declared.point.Cached.{Cached}
-use Rattle.gh_world.specs.declared.point.Processor.{Processor}
-use Rattle.gh_world.specs.Listing.{wanted_of, is_large, span_class, cached_for}
-use Rattle.gh_world.specs.Stands.{Row, slot_count, slot_size, IsSpan, IsSlot, CacheGood}
+use Rattle.gh_mutator.specs.declared.point.Wanted.{Wanted}
+use Rattle.gh_alloc.specs.declared.find.CachedSpan.{CachedSpan}
+use Rattle.gh_mutator.specs.declared.point.Processor.{Processor}
+use Rattle.gh_mutator.specs.Listing.{wanted_of, is_large, span_class, cached_for}
+use Rattle.gh_world.specs.Stands.{slot_count, slot_size, IsSpan, IsSlot, CacheGood}
 use Rattle.gh_world.specs.Points.{ShapeGood}
 use Rattle.gh_world.proofs.Classes.{class_good, class_of_words, large_words}
+use Rattle.gh_bitmap.specs.Bits.{Row}
 
 -- the parts of what is wanted
 pub record WantedGood (shape : Shape) (w : Wanted) : Type 0 where
@@ -113,7 +114,7 @@ slot_wanted pages row shape w p h i good span class same inside = record {
 }
 
 -- a cached span is one of the class that is wanted
-pub record CachedSpan (pages : ℕ) (row : Row) (w : Wanted) (c : Cached) : Type 0 where
+pub record SpanCached (pages : ℕ) (row : Row) (w : Wanted) (c : CachedSpan) : Type 0 where
   pub h : SpanHead
   pub span : IsSpan pages row c.head h
   pub class : h.class ≡ w.class
@@ -123,10 +124,10 @@ some_is : {A : Type 0} (x : Option A) (b : Bool) (y : A) → cond b None x ≡ S
 some_is x true y e = absurd cc
 some_is x false y e = (refl, e)
 
-pub cached_small : (m : Processor) (w : Wanted) (c : Cached) → cached_for m w ≡ Some c → is_large w ≡ false
+pub cached_small : (m : Processor) (w : Wanted) (c : CachedSpan) → cached_for m w ≡ Some c → is_large w ≡ false
 cached_small m w c e = (some_is _ (eqb w.class LARGE) c e).0
 
-pub cached_span : (pages : ℕ) (row : Row) (m : Processor) (shape : Shape) (w : Wanted) (c : Cached) → WantedGood shape w → CacheGood pages row m → cached_for m w ≡ Some c → CachedSpan pages row w c
+pub cached_span : (pages : ℕ) (row : Row) (m : Processor) (shape : Shape) (w : Wanted) (c : CachedSpan) → WantedGood shape w → CacheGood pages row m → cached_for m w ≡ Some c → SpanCached pages row w c
 cached_span pages row m shape w c good cache e =
     let both = some_is (slice_index_or m.cache (span_class w) None) (eqb w.class LARGE) c e in
     let ne : w.class ≢ LARGE = λ q. absurd (cc (both.0, eq-eqb w.class LARGE q)) in

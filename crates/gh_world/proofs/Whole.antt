@@ -13,13 +13,14 @@ use Rattle.gh_base.specs.Steps.{cell_of}
 use Rattle.gh_base.specs.Lists.{by, started, words_after, Legal, MayFollow}
 use Rattle.gh_base.proofs.Own.{state_of-by}
 use Rattle.gh_model.specs.Ever.{Ever, opening_ever}
-use Rattle.gh_world.specs.declared.point.Processor.{Processor}
-use Rattle.gh_world.specs.declared.point.Point.{Point}
-use Rattle.gh_world.specs.declared.point.Point.TheVariants.{Idle, Left}
-use Rattle.gh_world.specs.Listing.{asks, takes_at, gives_at, acts_at, begins, Act}
-use Rattle.gh_world.specs.Order.{processor_kind, setting_of, is_busy_at, may_begin, opening_processor, begun_in, ever_of, order_of, given_in, Answered, answered}
+use Rattle.gh_mutator.specs.declared.point.Processor.{Processor}
+use Rattle.gh_mutator.specs.declared.point.Point.{Point}
+use Rattle.gh_mutator.specs.declared.point.Point.TheVariants.{Idle, Left}
+use Rattle.gh_mutator.specs.Listing.{asks, takes_at, gives_at, acts_at, begins, Act, is_busy_at, opening_processor}
+use Rattle.gh_world.specs.Order.{processor_kind, setting_of, may_begin, begun_in, ever_of, order_of, given_in, Answered, answered}
 use Rattle.gh_world.specs.Points.{op_at, IsPending, ShapesGood}
 use Rattle.gh_world.specs.Law.{processor_after, answers_in, ops_in, FullOnly, EveryListStands}
+use Rattle.gh_world.proofs.InPlace.{in_place}
 use Rattle.gh_world.proofs.Step.{answer_of_act, op_of_act, Holding, StepAt}
 
 module _ (shapes : List Shape) (l : Layout) (opening : Words) where
@@ -38,19 +39,19 @@ module _ (shapes : List Shape) (l : Layout) (opening : Words) where
     pub step : (p : Point) → is_busy_at p ≡ true → StepAt shapes l p
     pub begin : (words : Words) (place : Name → ℕ) (e : Ever) (m : Processor) (o : Op) (es : List (Entry Op)) → is_busy_at m.point ≡ false → may_begin l.goroutines l.globals (length shapes) m es o ≡ true →
         Holding shapes l words place e m None → Holding shapes l words place e (begins shapes m o) None × (option_to_list (op_at (begins shapes m o).point) ≡ o ∷ []) × (is_busy_at (begins shapes m o).point ≡ true)
-    pub opens : Holding shapes l opening (λ n. 0) opening_ever (opening_processor l.pages 0) None
+    pub opens : Holding shapes l opening (λ n. 0) opening_ever (opening_processor l 0) None
 
 module _ (shapes : List Shape) (l : Layout) (opening : Words) (steps : Steps shapes l opening) where
   before : List (Entry Op) → Option Op → Processor
-  before es b = started (processor_kind shapes l.pages) b (processor_after shapes l opening es)
+  before es b = started (processor_kind shapes l) b (processor_after shapes l opening es)
 
   -- the entry that may follow
   abbrev entry : List (Entry Op) → Option Op → Entry Op
   entry es b = record {
     actor = 0;
     begun = b;
-    ask = asks shapes (started (processor_kind shapes l.pages) b (processor_after shapes l opening es));
-    found = words_after opening es (cell_of (asks shapes (started (processor_kind shapes l.pages) b (processor_after shapes l opening es))));
+    ask = asks (started (processor_kind shapes l) b (processor_after shapes l opening es));
+    found = words_after opening es (cell_of (asks (started (processor_kind shapes l) b (processor_after shapes l opening es))));
   }
 
   answers_split : (e : Ever) (a : Option Act) (order : List Answered) → map (λ (x : Answered). x.answer) (option_to_list (answered shapes l e a) ++ order) ≡ option_to_list (answer_of_act shapes l e a) ++ map (λ (x : Answered). x.answer) order
@@ -66,16 +67,16 @@ module _ (shapes : List Shape) (l : Layout) (opening : Words) (steps : Steps sha
 
   -- with the operation begun, if any, one step more
   stepped : (es : List (Entry Op)) (b : Option Op) (place : Name → ℕ) (pending : Option Answer) →
-      Holding shapes l (words_after opening es) place (ever_of shapes l es) (started (processor_kind shapes l.pages) b (processor_after shapes l opening es)) pending →
-      is_busy_at (started (processor_kind shapes l.pages) b (processor_after shapes l opening es)).point ≡ true →
+      Holding shapes l (words_after opening es) place (ever_of shapes l es) (started (processor_kind shapes l) b (processor_after shapes l opening es)) pending →
+      is_busy_at (started (processor_kind shapes l) b (processor_after shapes l opening es)).point ≡ true →
       answers_in shapes l opening es ≡ option_to_list pending ++ given_in shapes l es →
-      option_to_list b ++ begun_in shapes l es ≡ option_to_list (op_at (started (processor_kind shapes l.pages) b (processor_after shapes l opening es)).point) ++ ops_in shapes l opening es →
+      option_to_list b ++ begun_in shapes l es ≡ option_to_list (op_at (started (processor_kind shapes l) b (processor_after shapes l opening es)).point) ++ ops_in shapes l opening es →
       FullOnly shapes l opening es →
       Going shapes l opening (entry es b ∷ es)
   stepped es b place pending holding busy answers ops full =
-      let m = started (processor_kind shapes l.pages) b (processor_after shapes l opening es) in
+      let m = started (processor_kind shapes l) b (processor_after shapes l opening es) in
       let k = steps.step m.point busy steps.shapes_good (words_after opening es) place (ever_of shapes l es) m pending refl holding in
-      let found = words_after opening es (cell_of (asks shapes m)) in
+      let found = words_after opening es (cell_of (asks m)) in
       let act = acts_at m m.point found in
       record {
         place = k.place;
@@ -93,10 +94,10 @@ module _ (shapes : List Shape) (l : Layout) (opening : Words) (steps : Steps sha
   -- it is the entry that may follow
   placed_entry : (es : List (Entry Op)) (b : Option Op) (q : Ask) (n : ℕ) → MayFollow (setting_of shapes l opening) es (with_parts 0 b q n) → Going shapes l opening (entry es b ∷ es) → Going shapes l opening (with_parts 0 b q n ∷ es)
   placed_entry es b q n mf g =
-      let q0 : asks shapes (started (processor_kind shapes l.pages) b (processor_after shapes l opening es)) ≡ q = sym mf.asks in
-      let n0 : words_after opening es (cell_of (asks shapes (started (processor_kind shapes l.pages) b (processor_after shapes l opening es)))) ≡ n = ap (λ (r : Ask). words_after opening es (cell_of r)) q0 ∙ sym mf.found in
+      let q0 : asks (started (processor_kind shapes l) b (processor_after shapes l opening es)) ≡ q = sym mf.asks in
+      let n0 : words_after opening es (cell_of (asks (started (processor_kind shapes l) b (processor_after shapes l opening es)))) ≡ n = ap (λ (r : Ask). words_after opening es (cell_of r)) q0 ∙ sym mf.found in
       subst (λ (m : ℕ). Going shapes l opening (with_parts 0 b q m ∷ es)) n0
-      (subst (λ (r : Ask). Going shapes l opening (with_parts 0 b r (words_after opening es (cell_of (asks shapes (started (processor_kind shapes l.pages) b (processor_after shapes l opening es))))) ∷ es)) q0 g)
+      (subst (λ (r : Ask). Going shapes l opening (with_parts 0 b r (words_after opening es (cell_of (asks (started (processor_kind shapes l) b (processor_after shapes l opening es))))) ∷ es)) q0 g)
 
   -- where nothing is begun no answer is pending
   none_pending : (place : Name → ℕ) (e : Ever) (m : Processor) (p : Point) (pending : Option Answer) → is_busy_at p ≡ false → IsPending place e m p pending → pending ≡ None
@@ -118,7 +119,7 @@ module _ (shapes : List Shape) (l : Layout) (opening : Words) (steps : Steps sha
       let m = processor_after shapes l opening es in
       let idle : is_busy_at m.point ≡ false = mf.begins.0 in
       let none = none_pending g.place (ever_of shapes l es) m m.point g.pending idle g.holding.pends in
-      let now = steps.begin (words_after opening es) g.place (ever_of shapes l es) m o (by 0 es) idle (subst (λ (x : Processor). may_begin l.goroutines l.globals (length shapes) x (by 0 es) o ≡ true) (sym (state_of-by (processor_kind shapes l.pages) 0 es)) mf.begins.1) (subst (λ (x : Option Answer). Holding shapes l (words_after opening es) g.place (ever_of shapes l es) m x) none g.holding) in
+      let now = steps.begin (words_after opening es) g.place (ever_of shapes l es) m o (by 0 es) idle (subst (λ (x : Processor). may_begin l.goroutines l.globals (length shapes) x (by 0 es) o ≡ true) (sym (state_of-by (processor_kind shapes l) 0 es)) mf.begins.1) (subst (λ (x : Option Answer). Holding shapes l (words_after opening es) g.place (ever_of shapes l es) m x) none g.holding) in
       let ops : begun_in shapes l es ≡ ops_in shapes l opening es = g.ops ∙ ap (λ (x : Option Op). option_to_list x ++ ops_in shapes l opening es) (none_at m.point idle) in
       placed_entry es (Some o) q n mf
       (stepped es (Some o) g.place None now.0 now.2 (subst (λ (x : Option Answer). answers_in shapes l opening es ≡ option_to_list x ++ given_in shapes l es) none g.answers)
@@ -141,6 +142,7 @@ module _ (shapes : List Shape) (l : Layout) (opening : Words) (steps : Steps sha
       record {
         place = g.place;
         good = g.holding.good;
+        in_place = in_place shapes l (words_after opening es) g.place (ever_of shapes l es) m g.holding.good;
         answers = λ idle. g.answers ∙ ap (λ (x : Option Answer). option_to_list x ++ given_in shapes l es) (none_pending g.place (ever_of shapes l es) m m.point g.pending idle g.holding.pends);
         full = g.full;
         ops = λ idle. sym (g.ops ∙ ap (λ (x : Option Op). option_to_list x ++ ops_in shapes l opening es) (none_at m.point idle));

@@ -23,20 +23,25 @@ use Rattle.gh_base.proofs.Showing.{found-request, shows_effect}
 use Rattle.gh_script.specs.declared.statement.Stmt.{Stmt}
 use Rattle.gh_script.specs.declared.statement.Stmt.TheVariants.{New, Load, Store, GetGlobal, SetGlobal, Int, Move, Nil, Gc}
 use Rattle.gh_script.specs.Program.{Program, goroutine_at as goroutine_there, no_goroutine, statements_of, op_of, IsStatement, AreStatements, IsShape, WellFormed}
-use Rattle.gh_world.specs.declared.point.Processor.{Processor}
-use Rattle.gh_world.specs.declared.point.Point.{Point}
-use Rattle.gh_world.specs.declared.point.Point.TheVariants.{Idle}
+use Rattle.gh_mutator.specs.declared.point.Processor.{Processor}
+use Rattle.gh_mutator.specs.declared.point.Point.{Point}
+use Rattle.gh_mutator.specs.declared.point.Point.TheVariants.{Idle}
 use Rattle.gh_world.specs.declared.turns.Next.{Next}
 use Rattle.gh_world.specs.declared.turns.Next.TheVariants as next
-use Rattle.gh_world.specs.Listing.{asks, takes, begins, begins_at, gives_at, acts, made_by}
-use Rattle.gh_world.specs.Order.{processor_kind, setting_of, is_busy_at, may_begin, most_objects, has_names, in_range, goroutine_of, is_over as is_ended, ends, ended_in, leaves, has_left, begun_in, opening_processor}
+use Rattle.gh_mutator.specs.Listing.{asks, takes, begins_at, gives_at, acts, made_by, is_busy_at, opening_processor}
+use Rattle.gh_world.specs.Order.{processor_kind, setting_of, may_begin, in_range, goroutine_of, is_over as is_ended, ends, ended_in, leaves, has_left, begun_in}
 use Rattle.gh_world.specs.Points.{op_at, ShapesGood}
-use Rattle.gh_world.specs.Sound.{ShapesFit, SoundOp, MadeAtMost}
-use Rattle.gh_world.specs.Turns.{count_of, total_of, work_at, work_of, turns_of, to_come, later, Stands, MayBeOver, IsPast, is_over, op_due, is_leave, Follows, is_statement, goroutine_at, statements_among, statements_by, statement_now, is_point, is_unacted, statement_answer, is_leaving, has_left_at, next_point}
-use Rattle.gh_world.specs.World.{opening, Progress, After, Fit, points_in, event_at, event_of, op_at_turn, counts_after, stated_after, last_after, GoesOn}
-use Rattle.gh_world.proofs.Soundness.{takes_sound, begins_sound, opening_sound, read_after_set, read_replicate}
+use Rattle.gh_mutator.specs.Sound.{ShapesFit, SoundOp, most_objects, has_names}
+use Rattle.gh_world.specs.Turns.{count_of, total_of, turns_of, to_come, later, Stands, MayBeOver, IsPast, is_over, op_due, is_leave, Follows, goroutine_at, statements_among, statements_by, statement_now, is_unacted, next_point}
+use Rattle.gh_world.specs.World.{opening, Progress, After, Fit, points_in, event_at, event_of, op_at_turn, counts_after, stated_after, last_after, begun_as, GoesOn, MadeAtMost}
+use Rattle.gh_mutator.proofs.Soundness.{read_after_set, read_replicate}
 use Rattle.gh_world.proofs.StepFacts.{step_facts, begin_facts, StepFacts, BeginFacts}
 use Rattle.gh_world.proofs.Turning.{goroutine_is, has_statement, opens_at, turns_say}
+use Rattle.gh_mutator.specs.Mutating.{Mutating}
+use Rattle.gh_mutator.specs.Mutating as mutating
+use Rattle.gh_mutator.specs.Ends.{stays}
+use Rattle.gh_mutator.specs.Serving.{is_last, is_statement, is_point, statement_answer, is_leaving, has_left_at}
+use Rattle.gh_interp.specs.Working.{work_at, work_of}
 
 -- an operation that is in range of the layout
 pub record Runs (shapes : List Shape) (l : Layout) (o : Op) : Type 0 where
@@ -135,17 +140,18 @@ last_few t o before new = go (is_statement o) new where
   go true h = h refl
   go false h = before
 
-pub fit_begun : (p : Program) (l : Layout) (list : List ℕ) (m : Processor) (t : Progress) (marks points room : ℕ) (o : Op) (new : Next) → Fit p l list m t marks points room → is_busy_at m.point ≡ false →
-    op_due p t.next ≡ Some o → Follows p t.next o new → Fit p l list (begins p.shapes m o) (progress_after t (Some o) new) marks points room
-fit_begun p l list m t marks points room o new f idle due follows =
-    let b : BeginFacts o (begins_at p.shapes m o) = begin_facts p.shapes m o in
-    let unacted : is_unacted (op_at (begins_at p.shapes m o)) ≡ is_statement o = ap is_unacted b.is in
+pub fit_begun : (p : Program) (l : Layout) (list : List ℕ) (m : Mutating) (t : Progress) (marks points room : ℕ) (o : Op) (new : Next) → Fit p l list m t marks points room → op_due p t.next ≡ Some o → Follows p t.next o new →
+    Fit p l list (mutating.begins m o) (progress_after t (Some o) new) marks points room
+fit_begun p l list m t marks points room o new f due follows =
+    let b : BeginFacts o (begins_at m.shapes m.processor o) = begin_facts m.shapes m.processor o in
+    let unacted : is_unacted (op_at (begins_at m.shapes m.processor o)) ≡ is_statement o = ap is_unacted b.is in
     let come : statements_among (to_come p t.next) ≡ bit (is_statement o) + statements_among (to_come p new) = ap statements_among follows.come in
     record {
       script = f.script;
       layout = f.layout;
       long = f.long;
-      sound = begins_sound p.shapes l m o (shapes_fit p f.script) f.sound (due_runs p l f.script f.layout t.next o f.stands due).sound;
+      shapes = f.shapes;
+      laid = f.laid;
       made = λ g. omega (arith, f.made g, b.made);
       stands = follows.stands;
       all = omega (arith, f.all, come);
@@ -158,15 +164,16 @@ fit_begun p l list m t marks points room o new f idle due follows =
       reserved = f.reserved;
     }
 
-pub fit_stepped : (p : Program) (l : Layout) (list : List ℕ) (m : Processor) (t : Progress) (marks points room found : ℕ) → Fit p l list m t marks points room → is_busy_at m.point ≡ true →
-    Fit p l (changed (request l (asks p.shapes m)) list) (takes p.shapes m found) t (marks + bit (is_some (statement_answer l.goroutines m m.point found))) (points + bit (is_point (acts m found))) room
+pub fit_stepped : (p : Program) (l : Layout) (list : List ℕ) (m : Mutating) (t : Progress) (marks points room found : ℕ) → Fit p l list m t marks points room → is_busy_at m.processor.point ≡ true →
+    Fit p l (changed (request l (mutating.asks m)) list) (mutating.goes m found) t (marks + bit (is_some (statement_answer l.goroutines m.processor m.processor.point found))) (points + bit (is_point (acts m.processor found))) room
 fit_stepped p l list m t marks points room found f busy =
-    let s : StepFacts m m.point (takes p.shapes m found) (acts m found) (gives_at l.goroutines m m.point found) = step_facts p.shapes l.goroutines m m.point found busy in
+    let s : StepFacts m.processor m.processor.point (takes m.shapes m.processor found) (acts m.processor found) (gives_at l.goroutines m.processor m.processor.point found) = step_facts m.shapes l.goroutines m.processor m.processor.point found busy in
     record {
       script = f.script;
       layout = f.layout;
       long = simp length-set f.long;
-      sound = takes_sound p.shapes l m found f.sound;
+      shapes = f.shapes;
+      laid = stays m found ∙ f.laid;
       made = λ g. omega (arith, f.made g, s.counted g);
       stands = f.stands;
       all = f.all;
@@ -335,20 +342,20 @@ now_after t (Some o) bs long few counted now = go (is_statement o) refl (counted
 
 module _ (p : Program) (l : Layout) (runnable : WellFormed p) (laid : IsLayoutOf p.settings.arena p.settings.globals p.settings.procs p.settings.workers (length p.goroutines) l) where
   abbrev pub begun : Processor → Option Op → Processor
-  begun m b = started (processor_kind p.shapes l.pages) b m
+  begun m b = started (processor_kind p.shapes l) b m
 
   abbrev pub found_at : List ℕ → Processor → ℕ
-  found_at list m = get_or list (target (request l (asks p.shapes m))) 0
+  found_at list m = get_or list (target (request l (asks m))) 0
 
   abbrev pub entry_of : List ℕ → Processor → Option Op → Entry Op
-  entry_of list m b = record { actor = 0; begun = b; ask = asks p.shapes (begun m b); found = found_at list (begun m b) }
+  entry_of list m b = record { actor = 0; begun = b; ask = asks (begun m b); found = found_at list (begun m b) }
 
   -- what a world knows of itself that a further entry rests on
   pub record Knows (m : Processor) (t : Progress) (b : Option Op) (new : Next) : Type 0 where
     pub is : b ≡ op_at_turn p (is_busy_at m.point) t.next
     pub goes : GoesOn p t.next b new
     pub busy : is_busy_at (begun m b).point ≡ true
-    pub within : InRange l (cell_of (asks p.shapes (begun m b)))
+    pub within : InRange l (cell_of (asks (begun m b)))
     pub made : MadeAtMost t.stated m
     pub stands : Stands p t.next
     pub all : t.stated + statements_among (to_come p t.next) ≡ total_of p
@@ -357,7 +364,7 @@ module _ (p : Program) (l : Layout) (runnable : WellFormed p) (laid : IsLayoutOf
   -- what follows the list by one step more
   abbrev pub Goes : List ℕ → Progress → List (ℕ × ℕ) → ℕ → List (Entry Op) → Option Op → Next → Processor → Type 0
   Goes list t points marks es b new m =
-      After p l (changed (request l (asks p.shapes (begun m b))) list) (takes p.shapes (begun m b) (found_at list (begun m b))) (progress_after t b new)
+      After p l (changed (request l (asks (begun m b))) list) (takes p.shapes (begun m b) (found_at list (begun m b))) (progress_after t b new)
       (points ++ next_point (is_point (acts (begun m b) (found_at list (begun m b)))) (pair_of (last_after t b) (get_or (counts_after t b) (last_after t b) 0)))
       (marks + bit (is_some (statement_answer l.goroutines (begun m b) (begun m b).point (found_at list (begun m b)))))
       (entry_of list m b ∷ es)
@@ -369,18 +376,18 @@ module _ (p : Program) (l : Layout) (runnable : WellFormed p) (laid : IsLayoutOf
     go true e = absurd (let none : Some o ≡ None = sym some ∙ is ∙ ap (λ (c : Bool). op_at_turn p c t) e in cc)
     go false e = (e, sym (ap (λ (c : Bool). op_at_turn p c t) e) ∙ sym is ∙ some)
 
-  begins_next : (es : List (Entry Op)) (t : Progress) (b : Option Op) (new : Next) → Knows (state_of (processor_kind p.shapes l.pages) 0 es) t b new → Legal (setting_of p.shapes l opening) es →
+  begins_next : (es : List (Entry Op)) (t : Progress) (b : Option Op) (new : Next) → Knows (state_of (processor_kind p.shapes l) 0 es) t b new → Legal (setting_of p.shapes l opening) es →
       ((g : ℕ) → ended_in es g ≡ true → MayBeOver p t.next g) → (has_left es ≡ true → is_over t.next ≡ true) → Begins (setting_of p.shapes l opening) 0 es b
   begins_next es t None new k legal over left = k.busy
   begins_next es t (Some o) new k legal over left =
-      let m = state_of (processor_kind p.shapes l.pages) 0 es in
+      let m = state_of (processor_kind p.shapes l) 0 es in
       let due = due_at m t.next (Some o) o k.is refl in
       let ranged = (due_runs p l runnable laid t.next o k.stands due.1).ranged in
       let few : is_statement o ≡ true → t.stated < most_objects = λ sure. omega (arith, due_statement p t.next o due.1 sure, k.all, few_statements p runnable) in
       let may : may_begin l.goroutines l.globals (length p.shapes) m es o ≡ true =
       no_false_more _ _ _ _ ranged (has_name_at m t.stated o k.made few) (false_unless (has_left es) (λ h. not_over p t.next o due.1 (left h))) (not_ended p t.next o es k.stands due.1 over) in (
         due.0,
-        subst (λ (fs : List (Entry Op)). may_begin l.goroutines l.globals (length p.shapes) (state_of (processor_kind p.shapes l.pages) 0 fs) fs o ≡ true) (sym (by_all p.shapes l opening es legal)) may,
+        subst (λ (fs : List (Entry Op)). may_begin l.goroutines l.globals (length p.shapes) (state_of (processor_kind p.shapes l) 0 fs) fs o ≡ true) (sym (by_all p.shapes l opening es legal)) may,
       )
 
   turns_next : (t : Progress) (b : Option Op) (new : Next) (bs : List Op) → GoesOn p t.next b new → turns_of p ≡ reverse bs ++ to_come p t.next → turns_of p ≡ reverse (option_to_list b ++ bs) ++ to_come p new
@@ -388,9 +395,9 @@ module _ (p : Program) (l : Layout) (runnable : WellFormed p) (laid : IsLayoutOf
   turns_next t (Some o) new bs goes turns = turns ∙ ap (λ (xs : List Op). reverse bs ++ xs) goes.come ∙ sym (one_more o bs (to_come p new))
 
   follows_at : (list : List ℕ) (t : Progress) (points : List (ℕ × ℕ)) (marks : ℕ) (es : List (Entry Op)) (b : Option Op) (new : Next) →
-      After p l list (state_of (processor_kind p.shapes l.pages) 0 es) t points marks es → Knows (state_of (processor_kind p.shapes l.pages) 0 es) t b new → Goes list t points marks es b new (state_of (processor_kind p.shapes l.pages) 0 es)
+      After p l list (state_of (processor_kind p.shapes l) 0 es) t points marks es → Knows (state_of (processor_kind p.shapes l) 0 es) t b new → Goes list t points marks es b new (state_of (processor_kind p.shapes l) 0 es)
   follows_at list t points marks es b new a k =
-      let m = state_of (processor_kind p.shapes l.pages) 0 es in
+      let m = state_of (processor_kind p.shapes l) 0 es in
       let due : (o : Op) → b ≡ Some o → op_due p t.next ≡ Some o = λ o e. (due_at m t.next b o k.is e).1 in
       let here : (o : Op) → b ≡ Some o → is_statement o ≡ true → goroutine_at o < 32 = λ o e sure. due_goroutine p t.next o runnable k.stands (due o e) sure in
       let now = now_after t b (begun_in p.shapes l es) k.columns here a.counted a.now in
@@ -403,10 +410,10 @@ module _ (p : Program) (l : Layout) (runnable : WellFormed p) (laid : IsLayoutOf
             runs = k.busy;
             asks = refl;
             within = k.within;
-            found = found-request l list (words_after opening es) (asks p.shapes (begun m b)) k.within a.words;
+            found = found-request l list (words_after opening es) (asks (begun m b)) k.within a.words;
           },
         );
-        words = shows_effect l list (words_after opening es) (asks p.shapes (begun m b)) k.within a.words;
+        words = shows_effect l list (words_after opening es) (asks (begun m b)) k.within a.words;
         processor = refl;
         turns = turns_next t b new (begun_in p.shapes l es) k.goes a.turns;
         counted = counted_after t b (begun_in p.shapes l es) k.columns here a.counted;
@@ -423,40 +430,49 @@ module _ (p : Program) (l : Layout) (runnable : WellFormed p) (laid : IsLayoutOf
     Goal : Processor → Type 0
     Goal n = After p l list n t points marks es → Knows n t b new → Goes list t points marks es b new n
 
-    back : Goal (state_of (processor_kind p.shapes l.pages) 0 es) → Goal m
+    back : Goal (state_of (processor_kind p.shapes l) 0 es) → Goal m
     back g = subst Goal (sym a.processor) g
 
   -- what the step says
   says_at : (list : List ℕ) (t : Progress) (es : List (Entry Op)) (b : Option Op) → pair_of (last_after t b) (get_or (counts_after t b) (last_after t b) 0) ≡ statement_now (option_to_list b ++ begun_in p.shapes l es) →
-      event_at (pair_of (last_after t b) (get_or (counts_after t b) (last_after t b) 0)) (begun (state_of (processor_kind p.shapes l.pages) 0 es) b).point (statement_answer l.goroutines (begun (state_of (processor_kind p.shapes l.pages) 0 es) b) (begun (state_of (processor_kind p.shapes l.pages) 0 es) b).point (found_at list (begun (state_of (processor_kind p.shapes l.pages) 0 es) b)))
-      ≡ event_of p.shapes l es (entry_of list (state_of (processor_kind p.shapes l.pages) 0 es) b)
+      event_at (pair_of (last_after t b) (get_or (counts_after t b) (last_after t b) 0)) (is_last (begun (state_of (processor_kind p.shapes l) 0 es) b).point) (statement_answer l.goroutines (begun (state_of (processor_kind p.shapes l) 0 es) b) (begun (state_of (processor_kind p.shapes l) 0 es) b).point (found_at list (begun (state_of (processor_kind p.shapes l) 0 es) b)))
+      ≡ event_of p.shapes l es (entry_of list (state_of (processor_kind p.shapes l) 0 es) b)
   says_at list t es b same =
-      let m = state_of (processor_kind p.shapes l.pages) 0 es in
-      ap (λ (x : ℕ × ℕ). event_at x (begun m b).point (statement_answer l.goroutines (begun m b) (begun m b).point (found_at list (begun m b)))) same
+      let m = state_of (processor_kind p.shapes l) 0 es in
+      ap (λ (x : ℕ × ℕ). event_at x (is_last (begun m b).point) (statement_answer l.goroutines (begun m b) (begun m b).point (found_at list (begun m b)))) same
 
   pub says : (list : List ℕ) (m : Processor) (t : Progress) (points : List (ℕ × ℕ)) (marks : ℕ) (es : List (Entry Op)) (b : Option Op) (new : Next) → After p l list m t points marks es → Knows m t b new →
-      event_at (pair_of (last_after t b) (get_or (counts_after t b) (last_after t b) 0)) (begun m b).point (statement_answer l.goroutines (begun m b) (begun m b).point (found_at list (begun m b))) ≡ event_of p.shapes l es (entry_of list m b)
+      event_at (pair_of (last_after t b) (get_or (counts_after t b) (last_after t b) 0)) (is_last (begun m b).point) (statement_answer l.goroutines (begun m b) (begun m b).point (found_at list (begun m b))) ≡ event_of p.shapes l es (entry_of list m b)
   says list m t points marks es b new a k =
       let here : (o : Op) → b ≡ Some o → is_statement o ≡ true → goroutine_at o < 32 = λ o e sure. due_goroutine p t.next o runnable k.stands (due_at m t.next b o k.is e).1 sure in
       let now = now_after t b (begun_in p.shapes l es) k.columns here a.counted a.now in
       subst Goal (sym a.processor) (says_at list t es b now) where
         Goal : Processor → Type 0
-        Goal n = event_at (pair_of (last_after t b) (get_or (counts_after t b) (last_after t b) 0)) (begun n b).point (statement_answer l.goroutines (begun n b) (begun n b).point (found_at list (begun n b))) ≡ event_of p.shapes l es (entry_of list n b)
+        Goal n = event_at (pair_of (last_after t b) (get_or (counts_after t b) (last_after t b) 0)) (is_last (begun n b).point) (statement_answer l.goroutines (begun n b) (begun n b).point (found_at list (begun n b))) ≡ event_of p.shapes l es (entry_of list n b)
 
 -- ---- numbers that fit
 
-pub stated_few : (p : Program) (l : Layout) (list : List ℕ) (m : Processor) (t : Progress) (marks points room : ℕ) → Fit p l list m t marks points room → t.stated ≤ 200000
+pub stated_few : (p : Program) (l : Layout) (list : List ℕ) (m : Mutating) (t : Progress) (marks points room : ℕ) → Fit p l list m t marks points room → t.stated ≤ 200000
 stated_few p l list m t marks points room f = omega (arith, f.all, few_statements p f.script)
 
-pub marks_few : (p : Program) (l : Layout) (list : List ℕ) (m : Processor) (t : Progress) (marks points room : ℕ) → Fit p l list m t marks points room → marks + 1 < 2 ^ 32
+pub marks_few : (p : Program) (l : Layout) (list : List ℕ) (m : Mutating) (t : Progress) (marks points room : ℕ) → Fit p l list m t marks points room → marks + 1 < 2 ^ 32
 marks_few p l list m t marks points room f = omega (arith, f.marked, stated_few p l list m t marks points room f)
 
-pub point_room : (p : Program) (l : Layout) (list : List ℕ) (m : Processor) (t : Progress) (marks points room found : ℕ) (b : Bool) → Fit p l list m t marks points room → is_busy_at m.point ≡ true →
-    b ≡ is_point (acts m found) → b ≡ true → points < room
+pub point_room : (p : Program) (l : Layout) (list : List ℕ) (m : Mutating) (t : Progress) (marks points room found : ℕ) (b : Bool) → Fit p l list m t marks points room → is_busy_at m.processor.point ≡ true →
+    b ≡ is_point (acts m.processor found) → b ≡ true → points < room
 point_room p l list m t marks points room found b f busy is set =
-    let s : StepFacts m m.point (takes p.shapes m found) (acts m found) (gives_at l.goroutines m m.point found) = step_facts p.shapes l.goroutines m m.point found busy in
-    let one : bit (is_point (acts m found)) ≡ 1 = ap bit (sym is ∙ set) in
+    let s : StepFacts m.processor m.processor.point (takes m.shapes m.processor found) (acts m.processor found) (gives_at l.goroutines m.processor m.processor.point found) = step_facts m.shapes l.goroutines m.processor m.processor.point found busy in
+    let one : bit (is_point (acts m.processor found)) ≡ 1 = ap bit (sym is ∙ set) in
     omega (arith, s.once, f.pointed, f.all, f.reserved, one)
+
+-- ---- what the processor is asked to begin
+
+pub due_sound : (p : Program) (l : Layout) (list : List ℕ) (m : Mutating) (t : Progress) (marks points room : ℕ) (o : Op) → Fit p l list m t marks points room → op_due p t.next ≡ Some o → SoundOp m.shapes m.processor.layout o
+due_sound p l list m t marks points room o f due =
+    subst (λ (shapes : List Shape). SoundOp shapes m.processor.layout o) (sym f.shapes) (subst (λ (k : Layout). SoundOp p.shapes k o) (sym f.laid) (due_runs p l f.script f.layout t.next o f.stands due).sound)
+
+pub due_named : (p : Program) (l : Layout) (list : List ℕ) (m : Mutating) (t : Progress) (marks points room : ℕ) (o : Op) → Fit p l list m t marks points room → op_due p t.next ≡ Some o → has_names m.processor o ≡ true
+due_named p l list m t marks points room o f due = has_name_at m.processor t.stated o f.made (λ sure. omega (arith, due_statement p t.next o due sure, f.all, few_statements p f.script))
 
 -- ---- a world as it opens
 
@@ -464,7 +480,7 @@ abbrev pub opening_progress : Next → Progress
 opening_progress first = record { next = first; begun = replicate 32 0; stated = 0; last = 0 }
 
 pub fit_opens : (p : Program) (l : Layout) (list : List ℕ) (first : Next) (room : ℕ) → WellFormed p → IsLayoutOf p.settings.arena p.settings.globals p.settings.procs p.settings.workers (length p.goroutines) l →
-    length list ≡ length_of l → total_of p ≤ room → to_come p first ≡ later p 0 0 → Stands p first → is_over first ≡ false → Fit p l list (opening_processor l.pages 0) (opening_progress first) 0 0 room
+    length list ≡ length_of l → total_of p ≤ room → to_come p first ≡ later p 0 0 → Stands p first → is_over first ≡ false → Fit p l list (mutating.opening l 0 p.shapes) (opening_progress first) 0 0 room
 fit_opens p l list first room r lay long reserved come stands over =
     let turns : to_come p first ≡ turns_of p = come ∙ sym (opens_at p) in
     let all : statements_among (to_come p first) ≡ total_of p = ap statements_among turns ∙ turns_say p in
@@ -472,7 +488,8 @@ fit_opens p l list first room r lay long reserved come stands over =
       script = r;
       layout = lay;
       long = long;
-      sound = opening_sound p.shapes l 0 (omega (arith, l.limits.procs_fit.0));
+      shapes = refl;
+      laid = refl;
       made = λ g. let none : get_or (replicate 32 0) g 0 ≡ 0 = read_replicate {A = ℕ} 32 g 0 in omega arith;
       stands = stands;
       all = omega (arith, all);
@@ -485,7 +502,7 @@ fit_opens p l list first room r lay long reserved come stands over =
       reserved = reserved;
     }
 
-pub after_opens : (p : Program) (l : Layout) (list : List ℕ) (first : Next) → Shows l list opening → to_come p first ≡ later p 0 0 → After p l list (opening_processor l.pages 0) (opening_progress first) [] 0 []
+pub after_opens : (p : Program) (l : Layout) (list : List ℕ) (first : Next) → Shows l list opening → to_come p first ≡ later p 0 0 → After p l list (opening_processor l 0) (opening_progress first) [] 0 []
 after_opens p l list first shows come = record {
   legal = tt;
   words = shows;
@@ -512,17 +529,17 @@ has_due p next.Leave h = (op.Leave, refl)
 has_due p next.Over h = absurd cc
 
 -- what a step begins with
-pub record Ready (p : Program) (l : Layout) (list : List ℕ) (m : Processor) (t : Progress) (marks points room : ℕ) : Type 0 where
+pub record Ready (p : Program) (l : Layout) (list : List ℕ) (m : Mutating) (t : Progress) (marks points room : ℕ) : Type 0 where
   pub fit : Fit p l list m t marks points room
-  pub busy : is_busy_at m.point ≡ true
+  pub busy : is_busy_at m.processor.point ≡ true
 
-pub ready : (p : Program) (l : Layout) (list : List ℕ) (m : Processor) (t : Progress) (marks points room : ℕ) (b : Option Op) (new : Next) → Fit p l list m t marks points room → has_left_at m.point ≡ false →
-    b ≡ op_at_turn p (is_busy_at m.point) t.next → GoesOn p t.next b new → Ready p l list (started (processor_kind p.shapes l.pages) b m) (progress_after t b new) marks points room
-ready p l list m t marks points room b new f going is goes = go (is_busy_at m.point) refl b is goes where
-  go : (c : Bool) → is_busy_at m.point ≡ c → (b : Option Op) → b ≡ op_at_turn p c t.next → GoesOn p t.next b new → Ready p l list (started (processor_kind p.shapes l.pages) b m) (progress_after t b new) marks points room
+pub ready : (p : Program) (l : Layout) (list : List ℕ) (m : Mutating) (t : Progress) (marks points room : ℕ) (b : Option Op) (new : Next) → Fit p l list m t marks points room → has_left_at m.processor.point ≡ false →
+    b ≡ op_at_turn p (is_busy_at m.processor.point) t.next → GoesOn p t.next b new → Ready p l list (begun_as m b) (progress_after t b new) marks points room
+ready p l list m t marks points room b new f going is goes = go (is_busy_at m.processor.point) refl b is goes where
+  go : (c : Bool) → is_busy_at m.processor.point ≡ c → (b : Option Op) → b ≡ op_at_turn p c t.next → GoesOn p t.next b new → Ready p l list (begun_as m b) (progress_after t b new) marks points room
   go true busy None e same = record { fit = subst (λ (x : Next). Fit p l list m (progress_after t None x) marks points room) (sym same) f; busy = busy }
   go true busy (Some o) e follows = absurd cc
-  go false idle (Some o) e follows = record { fit = fit_begun p l list m t marks points room o new f idle (sym e) follows; busy = (begin_facts p.shapes m o).busy }
-  go false idle None e same = absurd (never (has_due p t.next (sym f.leaves ∙ idle_not_leaving m.point idle going))) where
+  go false idle (Some o) e follows = record { fit = fit_begun p l list m t marks points room o new f (sym e) follows; busy = (begin_facts m.shapes m.processor o).busy }
+  go false idle None e same = absurd (never (has_due p t.next (sym f.leaves ∙ idle_not_leaving m.processor.point idle going))) where
     never : (o : Op) × (op_due p t.next ≡ Some o) → ⊥
     never w = let none : None ≡ Some w.0 = e ∙ w.1 in cc

@@ -1,5 +1,9 @@
 -- What every legal list of the processor's steps keeps.
-use Rattle.std.specs.Prelude.{◌≡◌, ℕ, true, false, List, [], ◌∷◌, map, Some}
+use Rattle.std.specs.Prelude.{◌≡◌, ◌≢◌, ℕ, ◌+◌, ◌*◌, ◌/◌, ◌<◌, ◌≤◌, true, false, List, [], ◌∷◌, map, Some}
+use Rattle.gh_base.specs.declared.cell.Cell.TheVariants.{Birth, Page}
+use Rattle.gh_base.specs.Packing.{birth_word, page_of}
+use Rattle.gh_bitmap.specs.Bits.{row_bit}
+use Rattle.gh_model.specs.Ever.{Ever}
 use Rattle.gh_base.specs.declared.value.Name.{Name}
 use Rattle.gh_base.specs.declared.value.Answer.{Answer}
 use Rattle.gh_base.specs.declared.operation.Op.{Op}
@@ -9,10 +13,10 @@ use Rattle.gh_base.specs.declared.layout.Layout.{Layout}
 use Rattle.gh_base.specs.declared.machine.Entry.{Entry}
 use Rattle.gh_base.specs.Cells.{Words}
 use Rattle.gh_base.specs.Lists.{state_of, words_after, Legal}
-use Rattle.gh_world.specs.declared.point.Processor.{Processor}
-use Rattle.gh_world.specs.Order.{processor_kind, setting_of, is_busy_at, before_step, begun_in, ever_of, order_of, given_in, Answered}
-use Rattle.gh_world.specs.Listing.{acts, Act, wanted_of}
-use Rattle.gh_world.specs.Stands.{NoRoom, pages_row, alloc_row}
+use Rattle.gh_mutator.specs.declared.point.Processor.{Processor}
+use Rattle.gh_world.specs.Order.{processor_kind, setting_of, before_step, begun_in, ever_of, order_of, given_in, Answered}
+use Rattle.gh_mutator.specs.Listing.{acts, Act, is_busy_at, slot_in, wanted_of}
+use Rattle.gh_world.specs.Stands.{NoRoom, pages_row, alloc_row, IsMade, size_of}
 use Rattle.gh_world.specs.Points.{Good}
 
 -- there is no room for the object that the operation is to make: each slot of its span class is taken, and no run of free pages fits
@@ -20,9 +24,23 @@ abbrev pub FullAt : List Shape → Layout → Words → Op → Type 0
 FullAt shapes l words (op.New g d t) = let w = wanted_of shapes g d t in NoRoom l.pages (pages_row words) (alloc_row words) w.class w.noscan w.pages
 FullAt shapes l words _ = ⊥
 
+module _ (shapes : List Shape) (l : Layout) (words : Words) (e : Ever) where
+  -- the object stands at heap word a: its allocation bit is set, its birth word says its name, and the page word gives its slot
+  pub record IsPlaced (n : Name) (a : ℕ) : Type 0 where
+    pub within : a + size_of shapes e n ≤ 1024 * l.pages
+    pub set : row_bit (alloc_row words) a ≡ 1
+    pub birth : words (Birth a) ≡ birth_word n
+    pub slot : slot_in (page_of (words (Page (a / 1024)))) ≡ size_of shapes e n
+
+  -- each object that was made stands in its place and in no other, and no two share a heap word
+  pub record AreInPlace (place : Name → ℕ) : Type 0 where
+    pub placed : (n : Name) → IsMade e n → IsPlaced n (place n)
+    pub once : (n : Name) (a : ℕ) → IsMade e n → IsPlaced n a → a ≡ place n
+    pub apart : (n n' : Name) (j k : ℕ) → IsMade e n → IsMade e n' → n ≢ n' → j < size_of shapes e n → k < size_of shapes e n' → place n + j ≢ place n' + k
+
 module _ (shapes : List Shape) (l : Layout) (opening : Words) where
   abbrev pub processor_after : List (Entry Op) → Processor
-  processor_after es = state_of (processor_kind shapes l.pages) 0 es
+  processor_after es = state_of (processor_kind shapes l) 0 es
 
   abbrev pub answers_in : List (Entry Op) → List Answer
   answers_in es = map (λ (a : Answered). a.answer) (order_of shapes l es)
@@ -39,6 +57,7 @@ module _ (shapes : List Shape) (l : Layout) (opening : Words) where
   pub record Stands (es : List (Entry Op)) : Type 0 where
     pub place : Name → ℕ
     pub good : Good l.pages l.globals l.goroutines shapes (words_after opening es) place (ever_of shapes l es) (processor_after es)
+    pub in_place : AreInPlace shapes l (words_after opening es) (ever_of shapes l es) place
     pub answers : is_busy_at (processor_after es).point ≡ false → answers_in es ≡ given_in shapes l es
     pub full : FullOnly es
     pub ops : is_busy_at (processor_after es).point ≡ false → ops_in es ≡ begun_in shapes l es

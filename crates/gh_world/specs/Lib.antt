@@ -1,5 +1,3 @@
-pub mod Listing
-pub mod Sound
 pub mod Turns
 pub mod Order
 pub mod Stands

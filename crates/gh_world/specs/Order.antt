@@ -1,7 +1,6 @@
 -- Lists of steps of the processor, the newest first: what was begun, where each statement acted, what was answered, and what the heap that never frees is after them.
-use Rattle.std.specs.Prelude.{ℕ, nat_lt, Bool, true, false, not, ◌==◌, ◌&&◌, ◌||◌, if◌then◌else◌, List, [], ◌∷◌, ◌++◌, length, replicate, Option, Some, None}
+use Rattle.std.specs.Prelude.{ℕ, nat_lt, Bool, true, false, not, ◌==◌, ◌&&◌, ◌||◌, if◌then◌else◌, List, [], ◌∷◌, ◌++◌, length, Option, Some, None}
 use Rattle.std.specs.Option.{option_to_list}
-use Rattle.gh_base.specs.declared.value.Value.TheVariants as value
 use Rattle.gh_base.specs.declared.value.Answer.{Answer}
 use Rattle.gh_base.specs.declared.value.Answer.TheVariants as answer
 use Rattle.gh_base.specs.declared.operation.Op.{Op}
@@ -12,34 +11,16 @@ use Rattle.gh_base.specs.declared.machine.Entry.{Entry}
 use Rattle.gh_base.specs.Cells.{Words}
 use Rattle.gh_base.specs.Lists.{Kind, Setting, state_of, started}
 use Rattle.gh_model.specs.Ever.{Ever, opening_ever, answer_of, ever_after}
-use Rattle.gh_world.specs.declared.point.Processor.{Processor}
-use Rattle.gh_world.specs.declared.point.Point.{Point}
-use Rattle.gh_world.specs.declared.point.Point.TheVariants.{Idle, Left}
-use Rattle.gh_world.specs.Listing.{asks, begins, takes, gives_at, acts, Act, made_by}
-
--- the processor before its first step
-abbrev pub opening_processor : (pages seat : ℕ) → Processor
-opening_processor pages seat = record {
-  pages = pages;
-  seat = seat;
-  generation = 2;
-  registers = replicate 512 value.Nil;
-  made = replicate 32 0;
-  cache = replicate 50 None;
-  point = Idle;
-}
-
-abbrev pub is_busy_at : Point → Bool
-is_busy_at Idle = false
-is_busy_at Left = false
-is_busy_at _ = true
+use Rattle.gh_mutator.specs.declared.point.Processor.{Processor}
+use Rattle.gh_mutator.specs.Listing.{asks, begins, takes, gives_at, acts, Act, is_busy_at, opening_processor}
+use Rattle.gh_mutator.specs.Sound.{has_names}
 
 -- the processor as a kind of actor
-abbrev pub processor_kind : List Shape → ℕ → Kind Processor Op
-processor_kind shapes pages = record {
-  start = λ seat. opening_processor pages seat;
+abbrev pub processor_kind : List Shape → Layout → Kind Processor Op
+processor_kind shapes l = record {
+  start = λ seat. opening_processor l seat;
   begins = begins shapes;
-  asks = asks shapes;
+  asks = asks;
   takes = takes shapes;
   busy = λ m. is_busy_at m.point;
 }
@@ -97,14 +78,6 @@ abbrev pub is_over : List (Entry Op) → Option ℕ → Bool
 is_over es None = false
 is_over es (Some g) = ended_in es g
 
--- a goroutine makes fewer than so many objects
-abbrev pub most_objects : ℕ
-most_objects = 200000
-
-abbrev pub has_names : Processor → Op → Bool
-has_names m (op.New g d t) = nat_lt (made_by m g) most_objects
-has_names m _ = true
-
 -- in this private state, after these entries of its own
 abbrev pub may_begin : (goroutines globals types : ℕ) → Processor → List (Entry Op) → Op → Bool
 may_begin goroutines globals types m es o = in_range goroutines globals types o && has_names m o && not (has_left es) && not (is_over es (goroutine_of o))
@@ -112,11 +85,11 @@ may_begin goroutines globals types m es o = in_range goroutines globals types o 
 -- what a list is of: one processor over a heap of this layout
 abbrev pub setting_of : List Shape → Layout → Words → Setting Processor Op
 setting_of shapes l opening = record {
-  kind = processor_kind shapes l.pages;
+  kind = processor_kind shapes l;
   layout = l;
   actors = 1;
   opening = opening;
-  may_begin = λ a es o. may_begin l.goroutines l.globals (length shapes) (state_of (processor_kind shapes l.pages) a es) es o;
+  may_begin = λ a es o. may_begin l.goroutines l.globals (length shapes) (state_of (processor_kind shapes l) a es) es o;
 }
 
 -- What a list says.
@@ -129,7 +102,7 @@ pub record Answered : Type 0 where
 module _ (shapes : List Shape) (l : Layout) where
   -- the processor before the entry's step, its operation begun
   abbrev pub before_step : List (Entry Op) → Entry Op → Processor
-  before_step es e = started (processor_kind shapes l.pages) e.begun (state_of (processor_kind shapes l.pages) 0 es)
+  before_step es e = started (processor_kind shapes l) e.begun (state_of (processor_kind shapes l) 0 es)
 
   -- the operations begun
   abbrev pub begun_in : List (Entry Op) → List Op

@@ -10,7 +10,7 @@ use Rattle.gh_base.specs.Lists.{Legal}
 use Rattle.gh_script.specs.Program.{Program, WellFormed}
 use Rattle.gh_model.specs.Ever.{opening_ever}
 use Rattle.gh_model.specs.Answers.{AllAnswer}
-use Rattle.gh_world.specs.declared.point.Point.TheVariants.{Left}
+use Rattle.gh_mutator.specs.declared.point.Point.TheVariants.{Left}
 use Rattle.gh_world.specs.Order.{setting_of, begun_in}
 use Rattle.gh_world.specs.Law.{processor_after, EveryListStands, FullOnly}
 use Rattle.gh_world.specs.Points.{ShapesGood}

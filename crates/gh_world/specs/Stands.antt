@@ -1,6 +1,5 @@
 -- The heap's words stand for the heap that never frees. Said of the words row by row, so that a step on one row leaves what is said of the others.
-use Rattle.std.specs.Prelude.{◌≡◌, ◌≢◌, ℕ, ◌+◌, ◌*◌, ◌/◌, ◌%◌, ◌^◌, ◌<◌, ◌≤◌, Bool, true, false, ◌==◌, if◌then◌else◌, List, length, slice_index_or, Some, None, ◌⊎◌}
-use Rattle.std.specs.Int.{bit_at}
+use Rattle.std.specs.Prelude.{◌≡◌, ◌≢◌, ℕ, ◌+◌, ◌*◌, ◌/◌, ◌^◌, ◌<◌, ◌≤◌, Bool, true, false, ◌==◌, if◌then◌else◌, List, length, slice_index_or, Option, Some, None, ◌⊎◌}
 use Rattle.gh_base.specs.declared.value.Value.{Value}
 use Rattle.gh_base.specs.declared.value.Value.TheVariants as value
 use Rattle.gh_base.specs.declared.value.Name.{Name}
@@ -17,22 +16,16 @@ use Rattle.gh_class.specs.Classes.{slot_of, pages_of, slots_of}
 use Rattle.gh_model.specs.declared.EverValue.{EverValue}
 use Rattle.gh_model.specs.declared.EverValue.TheVariants as ever
 use Rattle.gh_model.specs.Ever.{Ever, field_count, shape_of}
-use Rattle.gh_world.specs.declared.point.Cached.{Cached}
-use Rattle.gh_world.specs.declared.point.Processor.{Processor}
-use Rattle.gh_world.specs.Listing.{register_of}
-
--- A row is what one kind of word holds, by its index.
-abbrev pub Row : Type 0
-Row = ℕ → ℕ
+use Rattle.gh_alloc.specs.declared.find.CachedSpan.{CachedSpan}
+use Rattle.gh_bitmap.specs.Bits.{Row, row_bit}
+use Rattle.gh_mutator.specs.declared.point.Processor.{Processor}
+use Rattle.gh_mutator.specs.Listing.{register_of}
 
 abbrev pub pages_row : Words → Row
 pages_row words p = words (cell.Page p)
 
 abbrev pub alloc_row : Words → Row
 alloc_row words i = words (cell.Alloc i)
-
-abbrev pub bitmap_row : Words → Row
-bitmap_row words i = words (cell.Bitmap i)
 
 abbrev pub birth_row : Words → Row
 birth_row words a = words (cell.Birth a)
@@ -42,10 +35,6 @@ field_row words x = words (cell.Field x)
 
 abbrev pub global_row : Words → Row
 global_row words k = words (cell.Global k)
-
--- the bit of heap word x in a row of bits
-unfoldable pub row_bit : Row → ℕ → ℕ
-row_bit row x = bit_at (row (x / 64)) (x % 64)
 
 -- Spans.
 
@@ -111,10 +100,11 @@ module _ (shapes : List Shape) where
   abbrev pub size_of : Ever → Name → ℕ
   size_of e n = field_count (shape_of shapes e n)
 
-  -- each object has a slot of its size, whose alloc bit is set
+  -- each object has a slot of its size, whose alloc bit is set, and no other alloc bit is set
   pub record SlotsGood (pages : ℕ) (page_words alloc : Row) (place : Name → ℕ) (e : Ever) : Type 0 where
     pub is_slot : (n : Name) → IsMade e n → IsSlot pages page_words (place n) (size_of e n)
     pub is_set : (n : Name) → IsMade e n → row_bit alloc (place n) ≡ 1
+    pub only : (x : ℕ) → x < 1024 * pages → row_bit alloc x ≡ 1 → (n : Name) × IsMade e n × (x ≡ place n)
 
   -- its bitmap bits tell its pointer fields
   abbrev pub BitmapGood : Row → (Name → ℕ) → Ever → Type 0
@@ -132,10 +122,16 @@ GlobalsGood globals row place e = (k : ℕ) → k < globals → Holds place e tr
 abbrev pub RegistersGood : ℕ → (Name → ℕ) → Ever → Processor → Type 0
 RegistersGood goroutines place e m = (g d : ℕ) → g < goroutines → d < 16 → Means place e (e.register g d) (register_of m g d)
 
--- a slot of a span that holds small objects is taken, or stands at or behind the cursor of that span, which is cached
-abbrev pub TakenGood : ℕ → Row → Row → Processor → Type 0
-TakenGood pages row alloc m = (p i : ℕ) (h : SpanHead) → IsSpan pages row p h → h.class ≢ LARGE → i < slot_count h →
-    (row_bit alloc (1024 * p + i * slot_size h) ≡ 1) ⊎ ((c : Cached) × (slice_index_or m.cache (2 * h.class + bit h.noscan) None ≡ Some c) × (c.head ≡ p) × (c.cursor ≤ i))
+-- the processor at this seat, with these cached spans, has the span at page p cached
+pub record IsOwned (seat : ℕ) (cache : List (Option CachedSpan)) (p : ℕ) (h : SpanHead) : Type 0 where
+  pub owner : h.owner ≡ seat + 1
+  pub c : CachedSpan
+  pub cached : slice_index_or cache (2 * h.class + bit h.noscan) None ≡ Some c
+  pub at : c.head ≡ p
+
+-- a span that holds small objects is swept, and the processor has it cached or nobody has
+abbrev pub OwnersGood : ℕ → Row → Processor → Type 0
+OwnersGood pages row m = (p : ℕ) (h : SpanHead) → IsSpan pages row p h → h.class ≢ LARGE → (h.number ≡ m.generation) × ((h.owner ≡ 0) ⊎ IsOwned m.seat m.cache p h)
 
 -- There is no room for an object of this class and so many pages: each slot of its span class is taken, and no run of free pages fits. A large object has a span of its own.
 pub record NoRoom (pages : ℕ) (row alloc : Row) (class : ℕ) (noscan : Bool) (need : ℕ) : Type 0 where
@@ -144,7 +140,7 @@ pub record NoRoom (pages : ℕ) (row alloc : Row) (class : ℕ) (noscan : Bool) 
 
 -- a cached span is one of its span class
 abbrev pub CacheGood : ℕ → Row → Processor → Type 0
-CacheGood pages row m = (class : ℕ) (noscan : Bool) (c : Cached) → class < 25 → slice_index_or m.cache (2 * class + bit noscan) None ≡ Some c →
+CacheGood pages row m = (class : ℕ) (noscan : Bool) (c : CachedSpan) → class < 25 → slice_index_or m.cache (2 * class + bit noscan) None ≡ Some c →
     (h : SpanHead) × IsSpan pages row c.head h × (h.class ≡ class) × (h.noscan ≡ noscan)
 
 -- the sizes of the processor's tables
@@ -152,7 +148,7 @@ pub record SizesGood (pages goroutines : ℕ) (m : Processor) : Type 0 where
   pub registers : length m.registers ≡ 512
   pub made : length m.made ≡ 32
   pub cache : length m.cache ≡ 50
-  pub arena : m.pages ≡ pages
+  pub arena : m.layout.pages ≡ pages
   pub some : 1 ≤ pages
   pub most : pages ≤ 1024
   pub few : goroutines ≤ 32

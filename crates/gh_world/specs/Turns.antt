@@ -1,19 +1,16 @@
 -- The processor's turns, and what a step is to a statement.
-use Rattle.std.specs.Prelude.{◌≡◌, ℕ, ◌+◌, ◌-◌, ◌<◌, ◌≤◌, nat_le, nat_lt, ◌==◌, ◌&&◌, Bool, true, false, if◌then◌else◌, List, [], ◌∷◌, ◌++◌, length, slice_get, sum_by, Option, Some, None, unwrap_or}
+use Rattle.std.specs.Prelude.{◌≡◌, ℕ, ◌+◌, ◌-◌, ◌<◌, ◌≤◌, nat_le, nat_lt, ◌==◌, ◌&&◌, Bool, true, false, if◌then◌else◌, List, [], ◌∷◌, ◌++◌, length, sum_by, Option, Some, None, unwrap_or}
 use Rattle.std.specs.List.{flat_map, range_with_len}
 use Rattle.gh_base.specs.declared.value.Answer.{Answer}
 use Rattle.gh_base.specs.declared.operation.Op.{Op}
 use Rattle.gh_base.specs.declared.operation.Op.TheVariants as op
 use Rattle.gh_base.specs.Packing.{bit}
-use Rattle.gh_script.specs.declared.statement.Stmt.{Stmt}
-use Rattle.gh_script.specs.Program.{Program, statements_of, statements_in, op_of}
-use Rattle.gh_world.specs.declared.point.Processor.{Processor}
-use Rattle.gh_world.specs.declared.point.Point.{Point}
-use Rattle.gh_world.specs.declared.point.Point.TheVariants.{Idle, Left, Touch, End, Leave}
+use Rattle.gh_interp.specs.Working.{work_of}
+use Rattle.gh_script.specs.Program.{Program, statements_of, statements_in}
 use Rattle.gh_world.specs.declared.turns.Next.{Next}
 use Rattle.gh_world.specs.declared.turns.Next.TheVariants as next
 use Rattle.gh_world.specs.Order.{goroutine_of}
-use Rattle.gh_world.specs.Listing.{gives_at, Act}
+use Rattle.gh_mutator.specs.Serving.{is_statement}
 
 -- ---- the turns
 
@@ -23,14 +20,6 @@ count_of p g = length (statements_of p g)
 
 abbrev pub total_of : Program → ℕ
 total_of p = sum_by statements_in p.goroutines
-
--- what goroutine g does in round r, from 0: its statement number r + 1, or it ends
-abbrev pub work_at : ℕ → Option Stmt → Op
-work_at g (Some s) = op_of g s
-work_at g None = op.End g
-
-abbrev pub work_of : Program → (r g : ℕ) → Op
-work_of p r g = work_at g (slice_get (statements_of p g) r)
 
 -- it has not ended before round r
 abbrev pub has_turn : Program → (r g : ℕ) → Bool
@@ -48,13 +37,6 @@ unfoldable pub turns_of : Program → List Op
 turns_of p = flat_map (round_of p) (range_with_len 0 (total_of p + 1)) ++ op.Leave ∷ []
 
 -- ---- statements among operations
-
--- a statement of a goroutine, and no step of the processor's own
-abbrev pub is_statement : Op → Bool
-is_statement op.Poll = false
-is_statement (op.End g) = false
-is_statement op.Leave = false
-is_statement _ = true
 
 -- the goroutine of a statement
 abbrev pub goroutine_at : Op → ℕ
@@ -82,41 +64,10 @@ answers_to (o ∷ os) (a ∷ answers) = (if is_statement o then (goroutine_at o,
 
 -- ---- what a step is to a statement
 
--- the step is the point of a statement
-abbrev pub is_point : Option Act → Bool
-is_point None = false
-is_point (Some a) = is_statement a.op
-
 -- the statement that has not had its point yet
 abbrev pub is_unacted : Option Op → Bool
 is_unacted None = false
 is_unacted (Some o) = is_statement o
-
--- the processor runs a statement
-abbrev pub is_serving : Point → Bool
-is_serving Idle = false
-is_serving Left = false
-is_serving (Touch o) = is_statement o
-is_serving (End g) = false
-is_serving Leave = false
-is_serving _ = true
-
--- the step ends a statement, which is answered so: the processor's own steps end none
-abbrev pub answer_at : Point → Option Answer → Option Answer
-answer_at p answer = if is_serving p then answer else None
-
-abbrev pub statement_answer : ℕ → Processor → Point → ℕ → Option Answer
-statement_answer goroutines m p found = answer_at p (gives_at goroutines m p found)
-
--- the processor leaves, or has left
-abbrev pub is_leaving : Point → Bool
-is_leaving Leave = true
-is_leaving Left = true
-is_leaving _ = false
-
-abbrev pub has_left_at : Point → Bool
-has_left_at Left = true
-has_left_at _ = false
 
 -- the point of the statement begun last
 abbrev pub next_point : Bool → ℕ × ℕ → List (ℕ × ℕ)

@@ -9,26 +9,27 @@ use Rattle.gh_base.specs.declared.machine.Entry.{Entry}
 use Rattle.gh_base.specs.Packing.{bit}
 use Rattle.gh_base.specs.Cells.{Words, InRange, IsLayoutOf, length_of, opening_words, Shows}
 use Rattle.gh_base.specs.Steps.{cell_of, changed, request, target}
-use Rattle.gh_base.specs.Lists.{state_of, started, words_after, Legal}
+use Rattle.gh_base.specs.Lists.{state_of, words_after, Legal}
 use Rattle.gh_script.specs.Program.{Program, WellFormed}
-use Rattle.gh_world.specs.declared.point.Processor.{Processor}
-use Rattle.gh_world.specs.declared.point.Point.{Point}
-use Rattle.gh_world.specs.declared.point.Point.TheVariants.{Leave}
+use Rattle.gh_mutator.specs.declared.point.Processor.{Processor}
+use Rattle.gh_mutator.specs.declared.point.Point.{Point}
+use Rattle.gh_mutator.specs.declared.point.Point.TheVariants.{Find, Place}
+use Rattle.gh_mutator.specs.Listing.{acts, is_busy_at, is_made, made_by}
+use Rattle.gh_mutator.specs.Mutating.{Mutating, asks, begins, goes}
+use Rattle.gh_mutator.specs.Serving.{has_left_at, is_last, is_leaving, is_point, is_serving, is_statement, statement_answer}
 use Rattle.gh_world.specs.declared.turns.Next.{Next}
 use Rattle.gh_world.specs.declared.world.World.{World}
 use Rattle.gh_world.specs.declared.world.Event.{Event}
 use Rattle.gh_world.specs.declared.world.Event.TheVariants as event
-use Rattle.gh_world.specs.Listing.{asks, takes, acts}
-use Rattle.gh_world.specs.Order.{processor_kind, setting_of, is_busy_at, before_step, begun_in, ended_in, has_left}
+use Rattle.gh_world.specs.Order.{processor_kind, setting_of, before_step, begun_in, ended_in, has_left}
 use Rattle.gh_world.specs.Points.{op_at}
-use Rattle.gh_world.specs.Turns.{total_of, turns_of, to_come, Stands, MayBeOver, is_over, op_due, Follows, is_statement, goroutine_at, statements_among, statements_by, statement_now, is_point, is_unacted, is_serving, statement_answer, is_leaving, has_left_at, next_point}
-use Rattle.gh_world.specs.Sound.{Sound, MadeAtMost}
+use Rattle.gh_world.specs.Turns.{total_of, turns_of, to_come, Stands, MayBeOver, is_over, op_due, Follows, goroutine_at, statements_among, statements_by, statement_now, is_unacted, next_point}
 
--- what the step says, where this statement was begun last
-abbrev pub event_at : ℕ × ℕ → Point → Option Answer → Event
-event_at now Leave answer = event.Finished
-event_at now p None = event.Moved
-event_at now p (Some a) = event.Answered now.0 now.1 a
+-- what the step says, where this statement was begun last: the actor's last step, or one that ends a statement or none
+abbrev pub event_at : ℕ × ℕ → Bool → Option Answer → Event
+event_at now true answer = event.Finished
+event_at now false None = event.Moved
+event_at now false (Some a) = event.Answered now.0 now.1 a
 
 module _ (shapes : List Shape) (l : Layout) where
   -- what the entry's step gives the statement
@@ -51,7 +52,7 @@ module _ (shapes : List Shape) (l : Layout) where
 
   -- what the entry's step says
   abbrev pub event_of : List (Entry Op) → Entry Op → Event
-  event_of es e = event_at (now_in (e ∷ es)) (before_step shapes l es e).point (answer_in es e)
+  event_of es e = event_at (now_in (e ∷ es)) (is_last (before_step shapes l es e).point) (answer_in es e)
 
 -- the words of the heap as it opens: no cycle is asked for
 abbrev pub opening : Words
@@ -68,7 +69,7 @@ pub record Progress : Type 0 where
 pub record After (p : Program) (l : Layout) (list : List ℕ) (m : Processor) (t : Progress) (points : List (ℕ × ℕ)) (marks : ℕ) (es : List (Entry Op)) : Type 0 where
   pub legal : Legal (setting_of p.shapes l opening) es
   pub words : Shows l list (words_after opening es)
-  pub processor : m ≡ state_of (processor_kind p.shapes l.pages) 0 es
+  pub processor : m ≡ state_of (processor_kind p.shapes l) 0 es
   pub turns : turns_of p ≡ reverse (begun_in p.shapes l es) ++ to_come p t.next
   pub counted : (g : ℕ) → g < 32 → slice_index t.begun g ≡ statements_by g (begun_in p.shapes l es)
   pub now : (t.last, slice_index t.begun t.last) ≡ now_in p.shapes l es
@@ -82,7 +83,7 @@ progress_of w = record { next = w.next; begun = w.begun; stated = w.stated; last
 
 -- the world is the state of the list
 abbrev pub IsAfter : World → List (Entry Op) → Type 0
-IsAfter w es = After w.script.now w.layout w.words w.processor (progress_of w) w.points.items w.marks es
+IsAfter w es = After w.script.now w.layout w.words w.mutator.processor (progress_of w) w.points.items w.marks es
 
 -- the world is the state of the list with one entry more, of this actor, and the event is what that entry's step says
 pub record Appends (w : World) (actor : ℕ) (es : List (Entry Op)) (happened : Event) : Type 0 where
@@ -91,25 +92,36 @@ pub record Appends (w : World) (actor : ℕ) (es : List (Entry Op)) (happened : 
   pub after : IsAfter w (e ∷ es)
   pub says : happened ≡ event_of w.script.now.shapes w.layout es e
 
+-- 1 where an object is being made that is not counted yet
+abbrev pub making : Point → ℕ
+making (Find w f) = 1
+making (Place w p) = if is_made p.point then 0 else 1
+making _ = 0
+
+-- each goroutine has made at most n objects, with the one that is being made
+abbrev pub MadeAtMost : ℕ → Processor → Type 0
+MadeAtMost n m = (g : ℕ) → made_by m g + making m.point ≤ n
+
 -- what the world knows of its own state
-pub record Fit (p : Program) (l : Layout) (list : List ℕ) (m : Processor) (t : Progress) (marks points room : ℕ) : Type 0 where
+pub record Fit (p : Program) (l : Layout) (list : List ℕ) (m : Mutating) (t : Progress) (marks points room : ℕ) : Type 0 where
   pub script : WellFormed p
   pub layout : IsLayoutOf p.settings.arena p.settings.globals p.settings.procs p.settings.workers (length p.goroutines) l
   pub long : length list ≡ length_of l
-  pub sound : Sound p.shapes l m
-  pub made : MadeAtMost t.stated m
+  pub shapes : m.shapes ≡ p.shapes
+  pub laid : m.processor.layout ≡ l
+  pub made : MadeAtMost t.stated m.processor
   pub stands : Stands p t.next
   pub all : t.stated + statements_among (to_come p t.next) ≡ total_of p
   pub columns : length t.begun ≡ 32
   pub few_begun : (g : ℕ) → slice_index t.begun g ≤ t.stated
   pub last : t.last < 32
-  pub leaves : is_leaving m.point ≡ is_over t.next
-  pub marked : marks + bit (is_serving m.point) ≤ t.stated
-  pub pointed : points + bit (is_unacted (op_at m.point)) ≤ t.stated
+  pub leaves : is_leaving m.processor.point ≡ is_over t.next
+  pub marked : marks + bit (is_serving m.processor.point) ≤ t.stated
+  pub pointed : points + bit (is_unacted (op_at m.processor.point)) ≤ t.stated
   pub reserved : total_of p ≤ room
 
 abbrev pub SoundWorld : World → Type 0
-SoundWorld w = Fit w.script.now w.layout w.words w.processor (progress_of w) w.marks (vec_len w.points) (vec_capacity w.points)
+SoundWorld w = Fit w.script.now w.layout w.words w.mutator (progress_of w) w.marks (vec_len w.points) (vec_capacity w.points)
 
 -- What a world shows.
 
@@ -121,7 +133,7 @@ layout_of w = w.layout
 
 -- the actor is done: it has left
 abbrev pub is_done : World → Bool
-is_done w = has_left_at w.processor.point
+is_done w = has_left_at w.mutator.processor.point
 
 -- how many statements were answered
 abbrev pub marks_of : World → ℕ
@@ -156,20 +168,24 @@ abbrev pub GoesOn : Program → Next → Option Op → Next → Type 0
 GoesOn p before None new = new ≡ before
 GoesOn p before (Some o) new = Follows p before o new
 
+abbrev pub begun_as : Mutating → Option Op → Mutating
+begun_as m None = m
+begun_as m (Some o) = begins m o
+
 -- an operation is begun where none is
 pub record Begins (old new : World) : Type 0 where
   pub o : Option Op
-  pub is : o ≡ op_at_turn old.script.now (is_busy_at old.processor.point) old.next
-  pub processor : new.processor ≡ started (processor_kind old.script.now.shapes old.layout.pages) o old.processor
+  pub is : o ≡ op_at_turn old.script.now (is_busy_at old.mutator.processor.point) old.next
+  pub mutator : new.mutator ≡ begun_as old.mutator o
   pub next : GoesOn old.script.now old.next o new.next
   pub begun : new.begun ≡ counts_after (progress_of old) o
   pub stated : new.stated ≡ stated_after (progress_of old) o
   pub last : new.last ≡ last_after (progress_of old) o
-  pub others : new ≡ record old { processor = new.processor; next = new.next; begun = new.begun; stated = new.stated; last = new.last }
+  pub others : new ≡ record old { mutator = new.mutator; next = new.next; begun = new.begun; stated = new.stated; last = new.last }
 
 -- what the processor's step found in these words
 abbrev pub found_in : World → ℕ
-found_in w = slice_index w.words (target (request w.layout (asks w.script.now.shapes w.processor)))
+found_in w = slice_index w.words (target (request w.layout (asks w.mutator)))
 
 abbrev pub now_of : World → ℕ × ℕ
 now_of w = (w.last, slice_index w.begun w.last)
@@ -178,12 +194,12 @@ now_of w = (w.last, slice_index w.begun w.last)
 pub record Advances (old new : World) (happened : Event) : Type 0 where
   pub script : new.script.now ≡ old.script.now
   pub layout : new.layout ≡ old.layout
-  pub within : InRange old.layout (cell_of (asks old.script.now.shapes old.processor))
-  pub words : new.words ≡ changed (request old.layout (asks old.script.now.shapes old.processor)) old.words
-  pub processor : new.processor ≡ takes old.script.now.shapes old.processor (found_in old)
+  pub within : InRange old.layout (cell_of (asks old.mutator))
+  pub words : new.words ≡ changed (request old.layout (asks old.mutator)) old.words
+  pub mutator : new.mutator ≡ goes old.mutator (found_in old)
   pub progress : progress_of new ≡ progress_of old
-  pub points : new.points.items ≡ old.points.items ++ next_point (is_point (acts old.processor (found_in old))) (now_of old)
-  pub count : vec_len new.points ≡ vec_len old.points + bit (is_point (acts old.processor (found_in old)))
+  pub points : new.points.items ≡ old.points.items ++ next_point (is_point (acts old.mutator.processor (found_in old))) (now_of old)
+  pub count : vec_len new.points ≡ vec_len old.points + bit (is_point (acts old.mutator.processor (found_in old)))
   pub room : vec_capacity new.points ≡ vec_capacity old.points
-  pub marks : new.marks ≡ old.marks + bit (is_some (statement_answer old.layout.goroutines old.processor old.processor.point (found_in old)))
-  pub says : happened ≡ event_at (now_of old) old.processor.point (statement_answer old.layout.goroutines old.processor old.processor.point (found_in old))
+  pub marks : new.marks ≡ old.marks + bit (is_some (statement_answer old.layout.goroutines old.mutator.processor old.mutator.processor.point (found_in old)))
+  pub says : happened ≡ event_at (now_of old) (is_last old.mutator.processor.point) (statement_answer old.layout.goroutines old.mutator.processor old.mutator.processor.point (found_in old))

@@ -2,19 +2,28 @@
 
 ghost use Rattle.gh_world.specs.Runs.{EveryLegalListStands, EveryRunIsExplained, EveryRunIsOne, NoneIsLonger};
 
+use gh_bitmap::laws::each_step_is_on_its_bits;
+use gh_central::laws::the_test_says_it;
+
 /// After every legal list of steps the words stand for the heap that never frees; each operation
 /// begun has acted once and in order, and was answered as that heap answers it where it acted, save
 /// `full`, which stands only where each slot of the span class was taken and no run of free pages
 /// fitted.
 pub fn every_legal_list_stands()
     ensures { EveryLegalListStands }
-{}
+{
+    each_step_is_on_its_bits();
+    the_test_says_it();
+}
 
 /// The answers of every whole run of a script are those of the heap that never frees, save `full`,
 /// which stands only where nothing fitted.
 pub fn every_run_is_explained()
     ensures { EveryRunIsExplained }
-{}
+{
+    each_step_is_on_its_bits();
+    the_test_says_it();
+}
 
 /// With one processor a script has one run: what it finds in the words settles each step.
 pub fn a_script_has_one_run()

@@ -82,3 +82,48 @@ fn scripts_are_answered(rt: HostRuntime) -> Result<(), Fail> {
     )?;
     answers(&rt, rt.alloc(), "", &[])
 }
+
+/// How many steps each statement takes, with the one of the poll before it.
+fn steps(rt: &impl Abort, alloc: Global, statements: &str, want: &[u32]) -> Result<(), Fail> {
+    let text = format!(in alloc; "{HEADER}{statements}end\n")?;
+    let script = parse(alloc, text.as_bytes())?;
+    let mut world = World::new(alloc, &script)?;
+    let mut taken: u32 = 0;
+    for turn in 0..10_000usize {
+        if world.done() {
+            break;
+        }
+        taken = taken.saturating_add(1);
+        if let Event::Answered { n, .. } = world.step(0) {
+            let place = (n as usize).saturating_sub(1);
+            assert_eq!(rt;
+                want.get(place).copied(),
+                Some(taken),
+                "statement {n}, turn {turn}"
+            );
+            taken = 0;
+        }
+    }
+    assert!(rt; world.done());
+    Ok(())
+}
+
+#[test]
+fn each_statement_takes_its_steps(rt: HostRuntime) -> Result<(), Fail> {
+    // The first object of a class: the lock, a pass over 16 pages, a page looked at and written, the lock
+    // freed, a slot; two words cleared, the name, two steps on the bitmap, the allocation bit, the bytes.
+    // The second: two slots looked at, and the making of it.
+    steps(
+        &rt,
+        rt.alloc(),
+        "new r0 node\nnew r1 node\nstore r0 0 r1\nload r2 r0 0\nload r2 r0 1\nint r5 7\ngstore 0 r0\ngload r3 0\n",
+        &[29, 10, 4, 5, 4, 2, 2, 3],
+    )?;
+    // faults: no such field, a number for a pointer field, a number for a global, no object
+    steps(
+        &rt,
+        rt.alloc(),
+        "new r0 node\nload r3 r0 2\nint r5 7\nstore r0 0 r5\ngstore 0 r5\nload r1 r5 0\nstore r1 0 r5\n",
+        &[29, 2, 2, 3, 2, 2, 2],
+    )
+}

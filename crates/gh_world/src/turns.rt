@@ -5,11 +5,12 @@ ghost use Rattle.std.specs.Prelude.{◌≡◌, ℕ, ◌+◌, ◌-◌, ◌^◌, �
 ghost use Rattle.std.specs.List.{flat_map, range_with_len};
 ghost use Rattle.gh_base.specs.declared.operation.Op.{Op};
 ghost use Rattle.gh_base.specs.declared.operation.Op.TheVariants as ops;
-ghost use Rattle.gh_script.specs.Program.{op_of};
-ghost use Rattle.gh_world.specs.Turns.{count_of, later, op_due, to_come, total_of, turn_of, work_of, is_over, Follows, IsPast, MayBeOver, Stands};
+ghost use Rattle.gh_interp.specs.Working.{work_of};
+ghost use Rattle.gh_world.specs.Turns.{count_of, later, op_due, to_come, total_of, turn_of, is_over, Follows, IsPast, MayBeOver, Stands};
 
 use gh_base::Op;
-use gh_script::{Script, Stmt};
+use gh_interp::work;
+use gh_script::Script;
 
 /// What the processor begins next.
 #[derive(Clone, Copy, Debug, PartialEq, Eq)]
@@ -22,35 +23,6 @@ pub enum Next {
     Leave,
     /// Nothing.
     Over,
-}
-
-/// A statement as an operation of its goroutine.
-fn op_of(g: u32, statement: Stmt) -> Op
-    ensures { result ≡ op_of g statement }
-{
-    match statement {
-        Stmt::New { d, t } => Op::New { g, d, t },
-        Stmt::Load { d, b, k } => Op::Load { g, d, b, k },
-        Stmt::Store { b, k, v } => Op::Store { g, b, k, v },
-        Stmt::GetGlobal { d, k } => Op::GetGlobal { g, d, k },
-        Stmt::SetGlobal { k, v } => Op::SetGlobal { g, k, v },
-        Stmt::Int { d, n } => Op::Int { g, d, n },
-        Stmt::Move { d, s } => Op::Move { g, d, s },
-        Stmt::Nil { d } => Op::Nil { g, d },
-        Stmt::Gc => Op::Gc { g },
-    }
-}
-
-/// What goroutine `g` does in the round: its next statement, or it ends.
-fn work_of(script: &Script, round: u32, g: u32) -> Op
-    requires goroutine { g < length script.now.goroutines }
-    requires fits { round + 1 < 2 ^ 32 }
-    ensures { result ≡ work_of script.now round g }
-{
-    match script.statement(g, round + 1) {
-        Some(statement) => op_of(g, statement),
-        None => Op::End(g),
-    }
 }
 
 /// The first goroutine from `g` on that has a turn in the round.
@@ -100,7 +72,7 @@ pub fn due(script: &Script, next: Next) -> Option<Op>
     script.is_well_formed();
     match next {
         Next::Poll { .. } => Some(Op::Poll),
-        Next::Run { round, g } => Some(work_of(script, round, g)),
+        Next::Run { round, g } => Some(work(script, round, g)),
         Next::Leave => Some(Op::Leave),
         Next::Over => None,
     }

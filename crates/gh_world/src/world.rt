@@ -8,14 +8,14 @@ ghost use Rattle.gh_base.specs.declared.machine.Entry.{Entry};
 ghost use Rattle.gh_base.specs.declared.operation.Op.{Op};
 ghost use Rattle.std.specs.Vec.{vec_capacity};
 ghost use Rattle.gh_base.specs.Packing.{bit};
-ghost use Rattle.gh_world.specs.Order.{is_busy_at};
-ghost use Rattle.gh_world.specs.Turns.{answer_at, goroutine_at, is_statement, next_point};
+ghost use Rattle.gh_mutator.specs.Mutating.{is_busy};
+ghost use Rattle.gh_mutator.specs.Serving.{is_statement};
+ghost use Rattle.gh_world.specs.Turns.{goroutine_at, next_point};
 ghost use Rattle.gh_world.specs.World.{counts_after, event_at, is_done, last_after, layout_of, marks_of, now_of, points_of, progress_of, script_of, stated_after, Advances, Appends, Begins, IsAfter, SoundWorld};
 
-use crate::acts::is_statement;
-use crate::point::{Point, Processor};
 use crate::turns::{Next, due, following, next_turn, total_of};
-use gh_base::{Answer, Layout, Op};
+use gh_base::{Answer, Layout, Machine, Op};
+use gh_mutator::Mutator;
 use gh_script::Script;
 use gh_words::{Plain, Words};
 use std::alloc::{AllocError, Global};
@@ -37,7 +37,7 @@ pub struct World<'s> {
     script: &'s Script,
     layout: Layout,
     words: Plain,
-    processor: Processor,
+    mutator: Mutator<'s>,
     // What it begins next.
     next: Next,
     // How many statements of each goroutine have begun, and how many of all.
@@ -49,17 +49,6 @@ pub struct World<'s> {
     points: Vec<(u32, u32)>,
     // How many statements were answered.
     marks: u32,
-}
-
-/// The answer of the statement that ends with a step at this point, where the operation ends so.
-fn statement_answer(point: Point, answer: Option<Answer>) -> Option<Answer>
-    ensures { result ≡ answer_at point answer }
-{
-    match point {
-        Point::Touch(op) if !is_statement(op) => None,
-        Point::Idle | Point::Left | Point::End(_) | Point::Leave => None,
-        _ => answer,
-    }
 }
 
 /// The goroutine of a statement; none for a step of the processor's own.
@@ -80,11 +69,12 @@ fn statement_goroutine(op: Op) -> Option<u32>
     }
 }
 
-/// What a step at this point says, where statement `n` of goroutine `g` was begun last.
-fn event_at(g: u32, n: u32, point: Point, answer: Option<Answer>) -> Event
-    ensures { result ≡ event_at (g, n) point answer }
+/// What a step says, where statement `n` of goroutine `g` was begun last: the actor's last step, or one
+/// that ends a statement or none.
+fn event_at(g: u32, n: u32, is_last: bool, answer: Option<Answer>) -> Event
+    ensures { result ≡ event_at (g, n) is_last answer }
 {
-    if let Point::Leave = point {
+    if is_last {
         return Event::Finished;
     }
     match answer {
@@ -95,7 +85,6 @@ fn event_at(g: u32, n: u32, point: Point, answer: Option<Answer>) -> Event
 
 impl<'s> World<'s> {
     /// A world over the script as it opens. All its memory is taken here: no step takes any.
-    #[tactic(auto, using(crate::proofs::WorldFacts::fit_opens, crate::proofs::WorldFacts::after_opens))]
     pub fn new(alloc: Global, script: &'s Script) -> Result<World<'s>, AllocError>
         ensures sound { IfOk result SoundWorld }
         ensures opens { IfOk result (λ w. IsAfter w []) }
@@ -120,7 +109,7 @@ impl<'s> World<'s> {
             script,
             layout,
             words,
-            processor: Processor::opening(layout.pages, 0),
+            mutator: Mutator::new(&layout, 0, script.shapes()),
             next: next_turn(script, 0, 0),
             begun: [0; 32],
             stated: 0,
@@ -160,10 +149,7 @@ impl<'s> World<'s> {
     pub fn done(&self) -> bool
         ensures { result ≡ is_done self.now }
     {
-        match self.processor.point {
-            Point::Left => true,
-            _ => false,
-        }
+        self.mutator.has_left()
     }
 
     /// How many statements the actor, which is the processor, 0, has answered.
@@ -188,12 +174,12 @@ impl<'s> World<'s> {
         requires sound { SoundWorld self.old }
         ensures { Begins self.old self.new }
     {
-        if self.processor.is_busy() {
+        if self.mutator.is_busy() {
             return;
         }
         if let Some(op) = due(self.script, self.next) {
             self.next = following(self.script, self.next);
-            self.processor.begin(self.script.shapes(), &self.layout, op);
+            self.mutator.begin(op);
             self.count(op);
         }
     }
@@ -216,21 +202,19 @@ impl<'s> World<'s> {
     }
 
     /// One step of the processor.
-    #[tactic(auto, using(crate::proofs::StepFacts::has_name))]
     fn advance(&mut self) -> Event
         requires sound { SoundWorld self.old }
-        requires busy { is_busy_at self.old.processor.point ≡ true }
+        requires busy { is_busy self.old.mutator ≡ true }
         ensures { Advances self.old self.new result }
     {
-        let script = self.script;
-        let shapes = script.shapes();
-        let point = self.processor.point;
-        let ask = self.processor.ask(shapes, &self.layout);
-        let found = self.words.step(self.layout.request(ask));
-        let is_point = self.processor.is_point(shapes, &self.layout, found);
-        let answer = statement_answer(point, self.processor.take(shapes, &self.layout, found));
+        let is_serving = self.mutator.is_serving();
+        let is_last = self.mutator.is_last();
+        let found = self.words.step(self.mutator.next());
+        let is_point = self.mutator.is_point(found);
+        let ended = self.mutator.take(found);
+        let answer = if is_serving { ended } else { None };
         self.note(is_point);
-        let event = event_at(self.last, self.begun[self.last as usize], point, answer);
+        let event = event_at(self.last, self.begun[self.last as usize], is_last, answer);
         if answer.is_some() {
             self.marks += 1;
         }

@@ -16,7 +16,7 @@ returns-clause-sound c =
     subst (λ (s : Settings). IsLayoutOf s.arena s.globals s.procs s.workers (length p.goroutines) l) c.settings-settings.ensures counted in
     let reserved : total_of p ≤ vec_capacity c.in_ok-points.points = omega (arith, c.in_ok-points.ensures.capacity, c.total_of.ensures) in
     let empty : vec_len c.in_ok-points.points ≡ 0 = c.in_ok-points.ensures.len in
-    rw (c.opening.ensures, empty) (fit_opens p l c.in_ok-words.words c.next_turn.result (vec_capacity c.in_ok-points.points) c.is_well_formed.ensures laid c.in_ok-words.ensures.long reserved c.next_turn.ensures.come c.next_turn.ensures.stands c.next_turn.ensures.going)
+    rw (c.new-3.ensures, c.shapes.ensures, empty) (fit_opens p l c.in_ok-words.words c.next_turn.result (vec_capacity c.in_ok-points.points) c.is_well_formed.ensures laid c.in_ok-words.ensures.long reserved c.next_turn.ensures.come c.next_turn.ensures.stands c.next_turn.ensures.going)
 
 pub returns-clause-opens : goal.returns-clause-opens
-returns-clause-opens c = rw (c.opening.ensures, c.in_ok-points.ensures.items) (after_opens c.args.script.now c.in-Ok.layout c.in_ok-words.words c.next_turn.result c.in_ok-words.ensures c.next_turn.ensures.come)
+returns-clause-opens c = rw (c.new-3.ensures, c.in_ok-points.ensures.items) (after_opens c.args.script.now c.in-Ok.layout c.in_ok-words.words c.next_turn.result c.in_ok-words.ensures c.next_turn.ensures.come)

@@ -1,8 +1,8 @@
 use Rattle.std.proofs.Common.{◌≡◌, true}
-use Rattle.gh_world.specs.Order.{is_busy_at}
 use Rattle.gh_world.specs.World.{SoundWorld}
 use Rattle.gh_world.proofs.OneStep.{ready_world, sound_after, appends}
 use Rattle.gh_world.proofs.world.World.step.Goals as goal
+use Rattle.gh_mutator.specs.Listing.{is_busy_at}
 
 pub advance-requires-clause-sound : goal.advance-requires-clause-sound
 advance-requires-clause-sound c = (ready_world c.args.self.now c.begin_next.new.self c.requires.sound c.requires.going c.begin_next.ensures).0
@@ -16,5 +16,5 @@ returns-clause-appended c es after = appends c.args.self.now _ _ _ es _ c.requir
 pub returns-clause-sound : goal.returns-clause-sound
 returns-clause-sound c =
     let sound : SoundWorld c.begin_next.new.self = (ready_world c.args.self.now c.begin_next.new.self c.requires.sound c.requires.going c.begin_next.ensures).0 in
-    let busy : is_busy_at c.begin_next.new.self.processor.point ≡ true = (ready_world c.args.self.now c.begin_next.new.self c.requires.sound c.requires.going c.begin_next.ensures).1 in
+    let busy : is_busy_at c.begin_next.new.self.mutator.processor.point ≡ true = (ready_world c.args.self.now c.begin_next.new.self c.requires.sound c.requires.going c.begin_next.ensures).1 in
     sound_after _ _ _ sound busy c.advance.ensures

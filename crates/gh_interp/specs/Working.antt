@@ -1,0 +1,15 @@
+-- What a goroutine does.
+use Rattle.std.specs.Prelude.{ℕ, slice_get, Option, Some, None}
+use Rattle.gh_base.specs.declared.operation.Op.{Op}
+use Rattle.gh_base.specs.declared.operation.Op.TheVariants as op
+use Rattle.gh_script.specs.declared.statement.Stmt.{Stmt}
+use Rattle.gh_script.specs.Program.{Program, statements_of, op_of}
+
+-- a statement as an operation of goroutine g; where there is none, it ends
+abbrev pub work_at : ℕ → Option Stmt → Op
+work_at g (Some s) = op_of g s
+work_at g None = op.End g
+
+-- what goroutine g does in round r, from 0: its statement number r + 1, or it ends
+abbrev pub work_of : Program → (r g : ℕ) → Op
+work_of p r g = work_at g (slice_get (statements_of p g) r)

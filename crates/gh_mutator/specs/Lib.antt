@@ -1,0 +1,6 @@
+pub mod Ending
+pub mod Ends
+pub mod Listing
+pub mod Mutating
+pub mod Serving
+pub mod Sound

@@ -1,0 +1,130 @@
+//! The machine of a processor.
+
+ghost use Rattle.std.specs.Prelude.{◌≡◌, ◌<◌, true, false};
+ghost use Rattle.gh_mutator.specs.Mutating.{acts, begins, is_busy, opening};
+ghost use Rattle.gh_mutator.specs.Serving.{has_left_at, is_last, is_point, is_serving};
+ghost use Rattle.gh_mutator.specs.Sound.{has_names, ShapesFit, SoundOp};
+
+use crate::point::{Point, Processor};
+use gh_base::{Answer, Layout, Machine, Op, Req, Shapes};
+use std::marker::Model;
+
+/// A processor (Go's P with its mcache): it runs the statements of goroutines, one operation at a time.
+///
+/// An operation is begun by [`Mutator::begin`]; then the machine asks for one step after the other until
+/// it gives the operation's answer. Polls, the ends of goroutines and its own leave are operations too,
+/// which are answered `Done`.
+#[derive(Drop)]
+pub struct Mutator<'s> {
+    shapes: &'s Shapes,
+    processor: Processor<'s>,
+}
+
+impl<'s> Model for Mutator<'s> {
+    ghost use Rattle.gh_mutator.specs.Mutating.{Mutating};
+    ghost use Rattle.gh_mutator.specs.Sound.{ShapesFit, Sound};
+
+    ghost Value = { Mutating };
+
+    ghost view = { λ m. record { shapes = m.shapes.now; processor = m.processor } };
+
+    ghost invariant = { λ m. ShapesFit m.shapes.now × Sound m.shapes.now m.processor };
+}
+
+impl<'s> Mutator<'s> {
+    /// A processor at this seat, before its first step: all registers are nil, no span is cached, and
+    /// nothing is begun. Each type has 1 to 65,536 words.
+    #[tactic(auto, using(crate::proofs::Soundness::opening_sound))]
+    pub fn new(layout: &Layout, seat: u32, shapes: &'s Shapes) -> Mutator<'s>
+        requires seat { seat < layout.now.procs }
+        requires shapes { ShapesFit shapes.now }
+        ensures { result ≡ opening layout.now seat shapes.now }
+    {
+        Mutator {
+            shapes,
+            processor: Processor::opening(layout, seat),
+        }
+    }
+
+    /// Begins an operation, where none is begun. Its goroutine, registers, type and global are there,
+    /// and a goroutine that is to make an object has made fewer than 200,000.
+    #[tactic(auto, using(crate::proofs::Soundness::begins_sound))]
+    pub fn begin(&mut self, op: Op)
+        requires idle { is_busy self.old ≡ false }
+        requires op { SoundOp self.old.shapes self.old.processor.layout op }
+        requires names { has_names self.old.processor op ≡ true }
+        ensures { self.new ≡ begins self.old op }
+    {
+        self.processor.begin(self.shapes, op);
+    }
+
+    /// An operation is begun, and a step is to be made.
+    pub fn is_busy(&self) -> bool
+        ensures { result ≡ is_busy self.now }
+    {
+        self.processor.is_busy()
+    }
+
+    /// It has left.
+    pub fn has_left(&self) -> bool
+        ensures { result ≡ has_left_at self.now.processor.point }
+    {
+        match self.processor.point {
+            Point::Left => true,
+            _ => false,
+        }
+    }
+
+    /// Its next step is its last: it leaves.
+    pub fn is_last(&self) -> bool
+        ensures { result ≡ is_last self.now.processor.point }
+    {
+        match self.processor.point {
+            Point::Leave => true,
+            _ => false,
+        }
+    }
+
+    /// It runs a statement of a goroutine, and no operation of its own.
+    pub fn is_serving(&self) -> bool
+        ensures { result ≡ is_serving self.now.processor.point }
+    {
+        self.processor.is_serving()
+    }
+
+    /// The step that finds this is the point of a statement.
+    pub fn is_point(&self, found: u64) -> bool
+        ensures { result ≡ is_point (acts self.now found) }
+    {
+        self.processor.is_point(self.shapes, found)
+    }
+}
+
+impl<'s> Machine for Mutator<'s> {
+    ghost use Rattle.gh_mutator.specs.Mutating.{asks, gives, goes, is_busy, layout};
+    ghost use Rattle.gh_mutator.specs.Ends as proved;
+
+    type Out = Answer;
+
+    ghost layout = { layout };
+
+    ghost busy = { is_busy };
+
+    ghost asks = { asks };
+
+    ghost goes = { goes };
+
+    ghost gives = { gives };
+
+    fn next(&self) -> Req {
+        self.processor.next(self.shapes)
+    }
+
+    fn take(&mut self, found: u64) -> Option<Answer> {
+        self.processor.take(self.shapes, found)
+    }
+
+    ghost ends = { proved.ends };
+
+    ghost stays = { proved.stays };
+}
