@@ -1,5 +1,5 @@
 #!/usr/bin/env bash
-# Times `goheap replay` on scripts of 1,000, 10,000 and 200,000 statements of one goroutine (new, int, store and load in
+# Times `goheap replay` on scripts of 10,000, 50,000 and 200,000 statements of one goroutine (new, int, store and load in
 # turn). It prints the statements a second, and the ratio of the time of a statement to that in the script before: 1.0 where
 # time grows in proportion to the statements; and the turns (atomic steps) of the script and how many of them are taken a second.
 # The time of a script without statements is taken off each; each time is the best of five runs (bench/replay.sh 9: of nine).
@@ -31,7 +31,7 @@ script 0 >"$work/empty"
 empty=$(best "$work/empty")
 echo "no statement: $((empty / 1000)) microseconds"
 before=0
-for n in 1000 10000 200000; do
+for n in 10000 50000 200000; do
   script "$n" >"$work/script"
   took=$(($(best "$work/script") - empty))
   if [ "$took" -le 0 ]; then took=1; fi

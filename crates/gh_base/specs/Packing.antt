@@ -125,3 +125,8 @@ tally_of word = record { marked = word % 2 ^ 32; freed = word / 2 ^ 32 }
 
 abbrev pub tally_word : TallyWord → ℕ
 tally_word t = t.marked + 2 ^ 32 * t.freed
+
+-- what is packed is read back: a page word that fits, and the name in the birth word of a goroutine that there is
+pub record PackedWordsAreReadBack : Type 0 where
+  pub page : (p : PageWord) → FitsPage p → page_of (page_word p) ≡ p
+  pub birth : (goroutines : ℕ) (n : Name) → n.g < goroutines → n.k < 2 ^ 32 → name_of goroutines (birth_word n) ≡ n

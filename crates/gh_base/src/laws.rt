@@ -4,6 +4,7 @@ ghost use Rattle.std.specs.Prelude.{◌≡◌, List, ℕ};
 ghost use Rattle.gh_base.specs.declared.machine.Entry.{Entry};
 ghost use Rattle.gh_base.specs.Cells.{WordsAreApart, WordsAreBelow};
 ghost use Rattle.gh_base.specs.Lists.{by, Kind, state_of};
+ghost use Rattle.gh_base.specs.Packing.{PackedWordsAreReadBack};
 ghost use Rattle.gh_base.specs.Steps.{ChangesOneCell, StepsAreShown};
 
 use crate::layout::Layout;
@@ -23,6 +24,12 @@ pub fn steps_are_shown(layout: &Layout)
 /// A step leaves its cell as it says, and every other cell as it is.
 pub fn a_step_changes_one_cell()
     ensures { ChangesOneCell }
+{}
+
+/// What a page word says is read back from it, where each number fits its bits, and so is the name in
+/// a birth word, where there is such a goroutine and it made fewer than 2^32 objects.
+pub fn packed_words_are_read_back()
+    ensures { PackedWordsAreReadBack }
 {}
 
 /// An actor's state after a list depends on its own entries alone.

@@ -1,11 +1,16 @@
 //! What holds of the whole table.
-ghost use Rattle.std.specs.Prelude.{◌≡◌, ℕ, ◌+◌, ◌*◌, ◌%◌, ◌<◌, ◌≤◌};
-ghost use Rattle.gh_class.specs.Classes.{slot_of, pages_of, slots_of, IsClassOf, class_number, slot_words};
+ghost use Rattle.std.specs.Prelude.{◌≡◌, ℕ, ◌+◌, ◌*◌, ◌/◌, ◌%◌, ◌<◌, ◌≤◌};
+ghost use Rattle.gh_class.specs.Classes.{slot_of, pages_of, slots_of, IsClassOf, class_number, large_pages, slot_words};
 
 /// The laws of the table. The call does nothing: its contract is what a proof wants of it.
 pub fn size_class_laws()
     // Slots rise with the class.
     ensures rises { (c d : ℕ) → c < d → d < 25 → slot_of c < slot_of d }
+    // A slot has 8 to 32,768 bytes, and a span 1 to 4 pages.
+    ensures least_slot { (c : ℕ) → c < 25 → 8 ≤ slot_of c }
+    ensures greatest_slot { (c : ℕ) → c < 25 → slot_of c ≤ 32768 }
+    ensures some_page { (c : ℕ) → c < 25 → 1 ≤ pages_of c }
+    ensures few_pages { (c : ℕ) → c < 25 → pages_of c ≤ 4 }
     // A span has as many slots as its pages hold.
     ensures fit { (c : ℕ) → c < 25 → slots_of c * slot_of c ≤ 8192 * pages_of c }
     ensures full { (c : ℕ) → c < 25 → 8192 * pages_of c < (slots_of c + 1) * slot_of c }
@@ -16,6 +21,9 @@ pub fn size_class_laws()
     ensures number { (bytes : ℕ) → bytes ≤ 32768 → IsClassOf bytes (class_number bytes) }
     ensures only { (bytes c : ℕ) → IsClassOf bytes c → c ≡ class_number bytes }
     ensures large { (bytes : ℕ) → 32768 < bytes → class_number bytes ≡ 31 }
+    // The slot of a small object is that of its class, and a large one's slot is whole pages.
+    ensures small_slot { (words : ℕ) → 8 * words ≤ 32768 → slot_words words ≡ slot_of (class_number (8 * words)) / 8 }
+    ensures large_slot { (words : ℕ) → 32768 < 8 * words → slot_words words ≡ 1024 * large_pages words }
     // An object fits its slot.
     ensures holds { (words : ℕ) → words ≤ slot_words words }
     ensures bounded { (words : ℕ) → words ≤ 65536 → slot_words words ≤ 65536 }

@@ -1,33 +1,13 @@
--- What callers of a source and a sink need: chains of reads, of writes and of counts.
-use Rattle.std.proofs.Common.{◌≡◌, ℕ, ◌+◌, ◌-◌, ◌≤◌, List, ◌++◌, Option, None, Some, length, take, drop, arith, refl, sym, ap, ◌∙◌, subst, inl, inr, length-append, take_at, drop_at}
+-- Chains of reads and of writes.
+use Rattle.std.proofs.Common.{◌≡◌, ℕ, ◌+◌, ◌-◌, ◌≤◌, List, ◌++◌, Option, length, take, drop, arith, refl, sym, ap, ◌∙◌, subst, length-append, take_at, drop_at}
 use Rattle.std.proofs.lemmas.List.{take_rest, take-append-le}
 use Rattle.std.proofs.Math.Seq.{take-add}
 use Rattle.std.specs.Io.KnownBytes.{Consumes, Appends}
 use Rattle.std.specs.Io.{StartsWith}
 use Rattle.std.proofs.KnownBytes.{Appends-trans, Consumes-trans, starts_with_rest}
-use Rattle.gh_io.specs.Counts.{Rose}
 use Rattle.gh_io.specs.Streams.{TookPart}
 
--- ---- counts
-
--- a count that rose in the second of two calls rose over both
-pub Rose-after : (a b c : ℕ) → a ≤ b → Rose b c → Rose a c
-Rose-after a b c h (inl r) = inl (omega arith)
-Rose-after a b c h (inr r) = inr r
-
--- a count that rose in the first of two calls rose over both
-pub Rose-before : (a b c : ℕ) → Rose a b → b ≤ c → Rose a c
-Rose-before a b c (inl r) h = inl (omega arith)
-Rose-before a b c (inr r) h = inr (omega arith)
-
 -- ---- reads
-
--- what is left of bytes that the source told
-pub Consumes-told : (a b : Option (List ℕ)) (bs before : List ℕ) → a ≡ Some before → Consumes a b bs → b ≡ Some (drop (length bs) before)
-Consumes-told a b bs before told p = go b (subst (λ o. Consumes o b bs) told p) where
-  go : (o : Option (List ℕ)) → Consumes (Some before) o bs → o ≡ Some (drop (length bs) before)
-  go None q = absurd q
-  go (Some y) q = ap Some (sym (ap (drop (length bs)) q ∙ drop_at bs y _ refl))
 
 -- what a further read appended was consumed after what stood before
 pub Consumes-grown : (a b c : Option (List ℕ)) (old new : List ℕ) → Consumes a b old → StartsWith new old → Consumes b c (drop (length old) new) → Consumes a c new
@@ -61,6 +41,3 @@ TookPart-second a b c p q all part =
       within = omega (arith, length-append p q);
       taken = subst (Appends a c) (sym same) (Appends-trans a b c _ _ all part.taken);
     }
-
--- what a caller of several reads or writes may hand to its tactics
-pub ruleset told = (TookPart-first, TookPart-second, Consumes-told, Rose-after, Rose-before)

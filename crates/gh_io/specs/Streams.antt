@@ -9,6 +9,16 @@ pub record TookPart (before after : Option (List ℕ)) (piece : List ℕ) : Type
   pub within : count ≤ length piece
   pub taken : Appends before after (take count piece)
 
+-- a part of the first of two pieces is a part of both
+abbrev pub PartOfFirstIsOfBoth : Type 0
+PartOfFirstIsOfBoth = (before after : Option (List ℕ)) (first second : List ℕ) → TookPart before after first → TookPart before after (first ++ second)
+
+-- the first of two pieces, and then a part of the second, are a part of both
+abbrev pub PartOfSecondIsOfBoth : Type 0
+PartOfSecondIsOfBoth =
+    (before between after : Option (List ℕ)) (first second : List ℕ) → Appends before between first → TookPart between after second →
+    TookPart before after (first ++ second)
+
 -- a source over bytes in memory
 pub record SourceState : Type 0 where
   -- the bytes that no read has given yet

@@ -8,6 +8,7 @@
 //! The streams of the process tell no bytes: they and the system are trusted.
 #![tactic(auto)]
 
+pub mod laws;
 mod memory;
 mod sink;
 mod source;

@@ -76,6 +76,7 @@ fn takes_pieces_up_to_the_room_or_a_fault(rt: HostRuntime) -> Result<(), Fail> {
         assert_eq!(rt; sink.bytes(), bytes, "room {room}");
         assert_eq!(rt; sink.faults(), faults, "room {room}");
     }
+    laws::parts_are_of_both();
     Ok(())
 }
 

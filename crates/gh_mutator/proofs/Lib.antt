@@ -1,3 +1,4 @@
 pub mod ClassFacts
 pub mod Soundness
 pub mod Ending
+pub mod Faults

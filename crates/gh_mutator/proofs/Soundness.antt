@@ -16,7 +16,6 @@ use Rattle.gh_base.specs.declared.pack.PageWord.TheVariants as page
 use Rattle.gh_base.specs.declared.pack.TheConstants.{LARGE}
 use Rattle.gh_base.specs.Packing.{IsClass, bit, page_of, class_in, pages_in, head_of, body_of}
 use Rattle.gh_class.specs.Classes.{slot_of, slots_of}
-use Rattle.gh_class.proofs.Table.{slot_of-greatest}
 use Rattle.gh_alloc.specs.declared.find.CachedSpan.{CachedSpan}
 use Rattle.gh_alloc.specs.declared.find.Found.{Found}
 use Rattle.gh_alloc.specs.declared.find.Found.TheVariants.{At, NoRoom}
@@ -43,17 +42,17 @@ use Rattle.gh_mutator.specs.declared.point.Point.TheVariants.{Idle, Left, Touch,
 use Rattle.gh_mutator.specs.Listing.{slot_in, value_of, kinds_differ, made_by, register_of, set_register, at_point, is_large, is_made, span_class, cached_for, cache_span, begins, begins_at, begin_load, begin_store, begin_global_store, finding as finding_for, wanted_of, opening_processor, placing, sought, sought_for, takes, takes_at, after_find, after_found, made_object, touched}
 use Rattle.gh_mutator.specs.Serving.{is_plain}
 use Rattle.gh_mutator.specs.Sound.{most_objects, has_names, HasName, IsRegister, ShapesFit, SoundOp, IsNear, SoundWanted, SoundCached, SoundTouch, SoundPoint, Sound}
-use Rattle.gh_mutator.proofs.ClassFacts.{wanted_sound}
+use Rattle.gh_mutator.proofs.ClassFacts.{ClassLaws, wanted_sound}
 
 -- what is read from a list in which one element was set
-pub read_after_set : {A : Type 0} (P : A → Type 0) (xs : List A) (i j : ℕ) (x d : A) → (i ≡ j → P x) → P (get_or xs j d) → P (get_or (set xs i x) j d)
+read_after_set : {A : Type 0} (P : A → Type 0) (xs : List A) (i j : ℕ) (x d : A) → (i ≡ j → P x) → P (get_or xs j d) → P (get_or (set xs i x) j d)
 read_after_set P [] i j x d new old = old
 read_after_set P (y ∷ ys) zero zero x d new old = new refl
 read_after_set P (y ∷ ys) zero (suc j) x d new old = old
 read_after_set P (y ∷ ys) (suc i) zero x d new old = old
 read_after_set P (y ∷ ys) (suc i) (suc j) x d new old = read_after_set P ys i j x d (λ e. new (ap suc e)) old
 
-pub read_replicate : {A : Type 0} (n i : ℕ) (x : A) → get_or (replicate n x) i x ≡ x
+read_replicate : {A : Type 0} (n i : ℕ) (x : A) → get_or (replicate n x) i x ≡ x
 read_replicate zero i x = refl
 read_replicate (suc n) zero x = refl
 read_replicate (suc n) (suc i) x = read_replicate n i x
@@ -83,18 +82,18 @@ pages_in-few : (word : ℕ) → pages_in word ≤ 8191
 pages_in-few word = omega arith
 
 -- the words of the slot, from the class and the pages
-slot_from-few : (class n : ℕ) → IsClass class → n ≤ 8191 → cond (eqb class LARGE) (1024 * n) (slot_of class / 8) < 2 ^ 23
-slot_from-few class n is few = go (eqb class 31) refl where
+slot_from-few : ClassLaws → (class n : ℕ) → IsClass class → n ≤ 8191 → cond (eqb class LARGE) (1024 * n) (slot_of class / 8) < 2 ^ 23
+slot_from-few laws class n is few = go (eqb class 31) refl where
   go : (b : Bool) → eqb class 31 ≡ b → cond b (1024 * n) (slot_of class / 8) < 2 ^ 23
   go true e = omega arith
-  go false e = let small : class < 25 = grind (arith, nat_tests, is) in omega (arith, slot_of-greatest class small)
+  go false e = let small : class < 25 = grind (arith, nat_tests, is) in omega (arith, laws.greatest_slot class small)
 
-pub slot_in-few : (word : ℕ) → slot_in (page_of word) < 2 ^ 23
-slot_in-few word = go (eqb (word % 4) 1) (eqb (word % 4) 2) where
+slot_in-few : ClassLaws → (word : ℕ) → slot_in (page_of word) < 2 ^ 23
+slot_in-few laws word = go (eqb (word % 4) 1) (eqb (word % 4) 2) where
   go : (a b : Bool) → slot_in (cond a (page.Head (head_of word)) (cond b (page.Body (body_of word)) page.Free)) < 2 ^ 23
-  go true b = slot_from-few (class_in word) (pages_in word) (class_in-is word) (pages_in-few word)
-  go false true = slot_from-few (class_in word) 1 (class_in-is word) (omega arith)
-  go false false = slot_from-few 0 1 (inl (omega arith)) (omega arith)
+  go true b = slot_from-few laws (class_in word) (pages_in word) (class_in-is word) (pages_in-few word)
+  go false true = slot_from-few laws (class_in word) 1 (class_in-is word) (omega arith)
+  go false false = slot_from-few laws 0 1 (inl (omega arith)) (omega arith)
 
 -- What the search keeps, and where the making of an object goes.
 
@@ -213,26 +212,26 @@ module _ (shapes : List Shape) where
   touch_sound m _ s h = moved m Idle s tt tt
 
   -- where no object is looked for or made
-  plain_at : (m : Processor) (p : Point) (found : ℕ) → is_plain p ≡ true → Sound shapes m → SoundPoint shapes m.layout p → HasName m p → m.point ≡ p → Sound shapes (takes_at shapes m p found)
-  plain_at m Idle found q s h n at = s
-  plain_at m Left found q s h n at = s
-  plain_at m (Touch o) found q s h n at = touch_sound m o s h
-  plain_at m (LoadPage x) found q s h n at = if_moved m (ltb x.k (slot_in (page_of found))) (LoadBits x) Idle s (λ e. ((h, omega (arith, ltb-true _ _ e, slot_in-few found)), tt)) (λ e. (tt, tt))
-  plain_at m (LoadBits x) found q s h n at = moved m _ s h tt
-  plain_at m (LoadField x p) found q s h n at = told m x.g x.d p found s
-  plain_at m (LoadBirth a) found q s h n at = moved m Idle s tt tt
-  plain_at m (StorePage x) found q s h n at = if_moved m (ltb x.k (slot_in (page_of found))) (StoreBits x) Idle s (λ e. ((h, omega (arith, ltb-true _ _ e, slot_in-few found)), tt)) (λ e. (tt, tt))
-  plain_at m (StoreBits x) found q s h n at = if_moved m (kinds_differ (eqb (bit_at found ((x.at + x.k) % 64)) 1) (register_of m x.g x.v)) Idle (StoreField x) s (λ e. (tt, tt)) (λ e. (h, tt))
-  plain_at m (StoreField x) found q s h n at = moved m Idle s tt tt
-  plain_at m (GlobalLoad g d k) found q s h n at = told m g d true found s
-  plain_at m (GlobalStore g k v) found q s h n at = moved m Idle s tt tt
-  plain_at m (Find w f) found q s h n at = absurd (cc)
-  plain_at m (Place w p) found q s h n at = absurd (cc)
-  plain_at m (End g) found q s h n at = moved m Idle s tt tt
-  plain_at m Leave found q s h n at = moved m Left s tt tt
+  plain_at : ClassLaws → (m : Processor) (p : Point) (found : ℕ) → is_plain p ≡ true → Sound shapes m → SoundPoint shapes m.layout p → HasName m p → m.point ≡ p → Sound shapes (takes_at shapes m p found)
+  plain_at laws m Idle found q s h n at = s
+  plain_at laws m Left found q s h n at = s
+  plain_at laws m (Touch o) found q s h n at = touch_sound m o s h
+  plain_at laws m (LoadPage x) found q s h n at = if_moved m (ltb x.k (slot_in (page_of found))) (LoadBits x) Idle s (λ e. ((h, omega (arith, ltb-true _ _ e, slot_in-few laws found)), tt)) (λ e. (tt, tt))
+  plain_at laws m (LoadBits x) found q s h n at = moved m _ s h tt
+  plain_at laws m (LoadField x p) found q s h n at = told m x.g x.d p found s
+  plain_at laws m (LoadBirth a) found q s h n at = moved m Idle s tt tt
+  plain_at laws m (StorePage x) found q s h n at = if_moved m (ltb x.k (slot_in (page_of found))) (StoreBits x) Idle s (λ e. ((h, omega (arith, ltb-true _ _ e, slot_in-few laws found)), tt)) (λ e. (tt, tt))
+  plain_at laws m (StoreBits x) found q s h n at = if_moved m (kinds_differ (eqb (bit_at found ((x.at + x.k) % 64)) 1) (register_of m x.g x.v)) Idle (StoreField x) s (λ e. (tt, tt)) (λ e. (h, tt))
+  plain_at laws m (StoreField x) found q s h n at = moved m Idle s tt tt
+  plain_at laws m (GlobalLoad g d k) found q s h n at = told m g d true found s
+  plain_at laws m (GlobalStore g k v) found q s h n at = moved m Idle s tt tt
+  plain_at laws m (Find w f) found q s h n at = absurd (cc)
+  plain_at laws m (Place w p) found q s h n at = absurd (cc)
+  plain_at laws m (End g) found q s h n at = moved m Idle s tt tt
+  plain_at laws m Leave found q s h n at = moved m Left s tt tt
 
-  pub plain_sound : (m : Processor) (found : ℕ) → is_plain m.point ≡ true → Sound shapes m → Sound shapes (takes shapes m found)
-  plain_sound m found plain s = plain_at m m.point found plain s s.point s.name refl
+  pub plain_sound : ClassLaws → (m : Processor) (found : ℕ) → is_plain m.point ≡ true → Sound shapes m → Sound shapes (takes shapes m found)
+  plain_sound laws m found plain s = plain_at laws m m.point found plain s s.point s.name refl
 
   -- The search for a slot.
 
@@ -353,22 +352,22 @@ module _ (shapes : List Shape) where
     by true x y e f = e
     by false x y e f = f
 
-  begin_sound_at : (m : Processor) (o : Op) → ShapesFit shapes → Sound shapes m → SoundOp shapes m.layout o → has_names m o ≡ true → Sound shapes (at_point m (begins_at shapes m o))
-  begin_sound_at m (op.New g d t) fit s h n = new_sound m (wanted_of shapes g d t) s (wanted_sound shapes g d t fit h.1 h.0) (subst (λ x. made_by m x < most_objects) (sym (wanted_goroutine g d t)) (ltb-true _ _ n))
-  begin_sound_at m (op.Load g d b k) fit s h n = loads_sound m g d b k (register_of m g b) s h.0 (s.registers (16 * g + b))
-  begin_sound_at m (op.Store g b k v) fit s h n = stores_sound m g b k v (register_of m g b) s (h.0.0, h.1) (s.registers (16 * g + b))
-  begin_sound_at m (op.GetGlobal g d k) fit s h n = moved m _ s h tt
-  begin_sound_at m (op.SetGlobal g k v) fit s h n = global_stores_sound m g k v (register_of m g v) s h.0 h.1
-  begin_sound_at m (op.Int g d x) fit s h n = moved m _ s h tt
-  begin_sound_at m (op.Move g d x) fit s h n = moved m _ s h tt
-  begin_sound_at m (op.Nil g d) fit s h n = moved m _ s h tt
-  begin_sound_at m (op.Gc g) fit s h n = moved m _ s tt tt
-  begin_sound_at m op.Poll fit s h n = moved m _ s tt tt
-  begin_sound_at m (op.End g) fit s h n = moved m _ s h tt
-  begin_sound_at m op.Leave fit s h n = moved m _ s tt tt
+  begin_sound_at : ClassLaws → (m : Processor) (o : Op) → ShapesFit shapes → Sound shapes m → SoundOp shapes m.layout o → has_names m o ≡ true → Sound shapes (at_point m (begins_at shapes m o))
+  begin_sound_at laws m (op.New g d t) fit s h n = new_sound m (wanted_of shapes g d t) s (wanted_sound laws shapes g d t fit h.1 h.0) (subst (λ x. made_by m x < most_objects) (sym (wanted_goroutine g d t)) (ltb-true _ _ n))
+  begin_sound_at laws m (op.Load g d b k) fit s h n = loads_sound m g d b k (register_of m g b) s h.0 (s.registers (16 * g + b))
+  begin_sound_at laws m (op.Store g b k v) fit s h n = stores_sound m g b k v (register_of m g b) s (h.0.0, h.1) (s.registers (16 * g + b))
+  begin_sound_at laws m (op.GetGlobal g d k) fit s h n = moved m _ s h tt
+  begin_sound_at laws m (op.SetGlobal g k v) fit s h n = global_stores_sound m g k v (register_of m g v) s h.0 h.1
+  begin_sound_at laws m (op.Int g d x) fit s h n = moved m _ s h tt
+  begin_sound_at laws m (op.Move g d x) fit s h n = moved m _ s h tt
+  begin_sound_at laws m (op.Nil g d) fit s h n = moved m _ s h tt
+  begin_sound_at laws m (op.Gc g) fit s h n = moved m _ s tt tt
+  begin_sound_at laws m op.Poll fit s h n = moved m _ s tt tt
+  begin_sound_at laws m (op.End g) fit s h n = moved m _ s h tt
+  begin_sound_at laws m op.Leave fit s h n = moved m _ s tt tt
 
-  pub begins_sound : (m : Processor) (o : Op) → ShapesFit shapes → Sound shapes m → SoundOp shapes m.layout o → has_names m o ≡ true → Sound shapes (begins shapes m o)
-  begins_sound m o fit s h n = begin_sound_at m o fit s h n
+  pub begins_sound : ClassLaws → (m : Processor) (o : Op) → ShapesFit shapes → Sound shapes m → SoundOp shapes m.layout o → has_names m o ≡ true → Sound shapes (begins shapes m o)
+  begins_sound laws m o fit s h n = begin_sound_at laws m o fit s h n
 
   no_cached : Option CachedSpan
   no_cached = None

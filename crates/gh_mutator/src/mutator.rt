@@ -48,7 +48,6 @@ impl<'s> Mutator<'s> {
 
     /// Begins an operation, where none is begun. Its goroutine, registers, type and global are there,
     /// and a goroutine that is to make an object has made fewer than 200,000.
-    #[tactic(auto, using(crate::proofs::Soundness::begins_sound))]
     pub fn begin(&mut self, op: Op)
         requires idle { is_busy self.old ≡ false }
         requires op { SoundOp self.old.shapes self.old.processor.layout op }

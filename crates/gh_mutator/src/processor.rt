@@ -1,15 +1,16 @@
 //! A processor: its opening, its registers, and where an operation begins.
 
-ghost use Rattle.std.specs.Prelude.{◌≡◌, ◌+◌, ◌<◌, ◌^◌};
+ghost use Rattle.std.specs.Prelude.{◌≡◌, ◌+◌, ◌<◌, ◌^◌, true};
 ghost use Rattle.gh_base.specs.Packing.{IsClass};
 ghost use Rattle.gh_mutator.specs.Listing.{begins, begin_load, begin_store, begin_global_store, cached_for, cache_span, finding, is_busy_at, is_large, next_of, opening_processor, own_span, register_of, set_register, sought, span_class, wanted_of};
-ghost use Rattle.gh_mutator.specs.Sound.{IsNear, IsRegister, ShapesFit, Sound, SoundOp, SoundWanted};
+ghost use Rattle.gh_mutator.specs.Sound.{has_names, IsNear, IsRegister, ShapesFit, Sound, SoundOp, SoundWanted};
 
 use crate::point::{Loading, Point, Processor, Storing, Wanted};
 use crate::sizes::wanted;
 use gh_alloc::{CachedSpan, Find, Sought};
 use gh_base::{LARGE, Layout, Name, Op, Shapes, SpanHead, Value};
 use gh_central::SpanClass;
+use gh_class::size_class_laws;
 
 impl Wanted {
     /// The object has a span of its own.
@@ -198,13 +199,15 @@ impl<'s> Processor<'s> {
     }
 
     /// Begins an operation.
-    #[tactic(auto, using(crate::proofs::ClassFacts::wanted_sound))]
     pub(crate) fn begin(&mut self, shapes: &Shapes, op: Op)
         requires sound { Sound shapes.now self.old }
         requires fit { ShapesFit shapes.now }
         requires op { SoundOp shapes.now self.old.layout op }
-        ensures { self.new ≡ begins shapes.now self.old op }
+        requires names { has_names self.old op ≡ true }
+        ensures begins { self.new ≡ begins shapes.now self.old op }
+        ensures sound { Sound shapes.now self.new }
     {
+        size_class_laws();
         self.point = match op {
             Op::New { g, d, t } => {
                 let wanted = wanted(shapes, g, d, t);

@@ -11,6 +11,7 @@ use crate::point::{Point, Processor, Wanted};
 use crate::sizes::slot_in;
 use gh_alloc::{Found, Place};
 use gh_base::{Answer, Machine, Op, PageWord, Shapes, Value};
+use gh_class::size_class_laws;
 
 /// A found word as a value: of a pointer field nil or a reference to a word of the heap, else a
 /// number.
@@ -63,6 +64,7 @@ impl<'s> Processor<'s> {
             Point::Find(_, _) => self.take_find(shapes, found),
             Point::Place(_, _) => self.take_place(shapes, found),
             _ => {
+                size_class_laws();
                 let answer = self.give(shapes, found);
                 self.go_on(shapes, found);
                 answer

@@ -2,9 +2,10 @@
 //!
 //! A script gives settings and the shapes of types, and then the statements of 1 to 32 goroutines.
 //! Statements between `repeat` and `end` stand several times; all goroutines together have at most
-//! 200,000, repetitions written out. The grammar stands in specs/Grammar.antt: a text is read line by line, and each line is refused for
-//! the first cause of a table that it meets. [`parse`] answers what that grammar says of a text,
-//! both ways: a script exactly where the text spells it, a fault exactly where it is refused so.
+//! 200,000, repetitions written out. The grammar stands in specs/Grammar.antt: a text is read line by
+//! line, and each line is refused for the first cause of a table that it meets. [`parse`] answers what
+//! that grammar says of a text, both ways: a script exactly where the text spells it, a fault exactly
+//! where it is refused so.
 //! [`script_form`] says the same without the reading line by line: which lines a script has, and
 //! what they say (specs/Form.antt).
 //! The heap has no use of the text once it is parsed, so a [`Script`] keeps only what was said.

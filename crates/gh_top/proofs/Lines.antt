@@ -8,8 +8,7 @@ use Rattle.std.proofs.lemmas.Bool.{eq-eqb}
 use Rattle.std.proofs.lemmas.List.{take_more, length-append, append-nil}
 use Rattle.std.proofs.lemmas.List.FromFn.{length-map-range_with_len, map-range_with_len_more, take-map-range_with_len}
 use Rattle.gh_base.specs.declared.value.Answer.{Answer}
-use Rattle.gh_io.specs.Streams.{TookPart}
-use Rattle.gh_io.proofs.Told.{TookPart-first, TookPart-second}
+use Rattle.gh_io.specs.Streams.{TookPart, PartOfFirstIsOfBoth, PartOfSecondIsOfBoth}
 use Rattle.gh_lines.specs.Text.{lines_from, answer_line, has_line, answers_by, answers_text_from}
 use Rattle.gh_script.specs.Program.{Program}
 
@@ -67,16 +66,16 @@ pub said-more : (p : Program) (g i n : ℕ) (xs : List (ℕ × Answer)) (d : ℕ
 said-more p g i n xs d a b c l mine long before line = subst (Appends a c) (sym (mine-lines p g i n xs d l mine long)) (Appends-trans a b c _ _ before line)
 
 -- the goroutine's lines so far, and then a part of the next
-pub said-part : (p : Program) (g i n : ℕ) (xs : List (ℕ × Answer)) (d : ℕ × Answer) (a b c : Option (List ℕ)) → i < length xs → (get_or xs i d).0 ≡ g → n ≡ length (answers_by g (take i xs)) →
+pub said-part : PartOfFirstIsOfBoth → PartOfSecondIsOfBoth → (p : Program) (g i n : ℕ) (xs : List (ℕ × Answer)) (d : ℕ × Answer) (a b c : Option (List ℕ)) → i < length xs → (get_or xs i d).0 ≡ g → n ≡ length (answers_by g (take i xs)) →
     Appends a b (lines_from p g 1 (answers_by g (take i xs))) → TookPart b c (lines_from p g (n + 1) ((get_or xs i d).1 ∷ [])) → TookPart a c (lines_from p g 1 (answers_by g xs))
-said-part p g i n xs d a b c l mine long before part =
+said-part first second p g i n xs d a b c l mine long before part =
     let upto = answers_by g (take (i + 1) xs) in
     let rest = answers_by g (drop (i + 1) xs) in
     let whole : answers_by g xs ≡ upto ++ rest = ap (answers_by g) (sym (take-append-drop (i + 1) xs)) ∙ by-append g (take (i + 1) xs) (drop (i + 1) xs) in
     subst (TookPart a c) (sym (lines-append p g 1 upto rest) ∙ ap (lines_from p g 1) (sym whole))
-    (TookPart-first a c (lines_from p g 1 upto) (lines_from p g (1 + length upto) rest)
+    (first a c (lines_from p g 1 upto) (lines_from p g (1 + length upto) rest)
     (subst (TookPart a c) (sym (mine-lines p g i n xs d l mine long))
-    (TookPart-second a b c (lines_from p g 1 (answers_by g (take i xs))) (lines_from p g (n + 1) ((get_or xs i d).1 ∷ [])) before part)))
+    (second a b c (lines_from p g 1 (answers_by g (take i xs))) (lines_from p g (n + 1) ((get_or xs i d).1 ∷ [])) before part)))
 
 -- ---- goroutine by goroutine
 
@@ -103,15 +102,15 @@ pub told-more : (p : Program) (g : ℕ) (xs : List (ℕ × Answer)) (a b c : Opt
 told-more p g xs a b c before lines = subst (Appends a c) (sym (one-more p g xs)) (Appends-trans a b c _ _ before lines)
 
 -- the goroutines so far, and then a part of the next
-pub told-part : (p : Program) (g n : ℕ) (xs : List (ℕ × Answer)) (a b c : Option (List ℕ)) → g < n → Appends a b (answers_text_from p 0 (those_before g xs)) → TookPart b c (lines_from p g 1 (answers_by g xs)) → TookPart a c (answers_text_from p 0 (those_before n xs))
-told-part p g n xs a b c l before part =
+pub told-part : PartOfFirstIsOfBoth → PartOfSecondIsOfBoth → (p : Program) (g n : ℕ) (xs : List (ℕ × Answer)) (a b c : Option (List ℕ)) → g < n → Appends a b (answers_text_from p 0 (those_before g xs)) → TookPart b c (lines_from p g 1 (answers_by g xs)) → TookPart a c (answers_text_from p 0 (those_before n xs))
+told-part first second p g n xs a b c l before part =
     let upto : take (g + 1) (those_before n xs) ≡ those_before (g + 1) xs = take-map-range_with_len (λ h. answers_by h xs) 0 n (g + 1) (omega arith) in
     let rest = drop (g + 1) (those_before n xs) in
     let whole : those_before n xs ≡ those_before (g + 1) xs ++ rest = sym (take-append-drop (g + 1) (those_before n xs)) ∙ ap (λ (ys : List (List Answer)). ys ++ rest) upto in
     subst (TookPart a c) (sym (text-append p 0 (those_before (g + 1) xs) rest) ∙ ap (answers_text_from p 0) (sym whole))
-    (TookPart-first a c (answers_text_from p 0 (those_before (g + 1) xs)) (answers_text_from p (0 + length (those_before (g + 1) xs)) rest)
+    (first a c (answers_text_from p 0 (those_before (g + 1) xs)) (answers_text_from p (0 + length (those_before (g + 1) xs)) rest)
     (subst (TookPart a c) (sym (one-more p g xs))
-    (TookPart-second a b c (answers_text_from p 0 (those_before g xs)) (lines_from p g 1 (answers_by g xs)) before part)))
+    (second a b c (answers_text_from p 0 (those_before g xs)) (lines_from p g 1 (answers_by g xs)) before part)))
 
 pub on-err : {T E P : Type 0} (r : Result T E) → P → OnErr r P
 on-err (Ok x) h = tt

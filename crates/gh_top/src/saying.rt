@@ -11,6 +11,7 @@ use crate::found::Found;
 use crate::status::Status;
 use gh_base::Answer;
 use gh_interp::tell;
+use gh_io::laws::parts_are_of_both;
 use gh_io::{Failed, Sink, write_all};
 use gh_lines::LineBuf;
 use gh_script::Script;
@@ -72,6 +73,7 @@ fn say_answers<K: Sink>(
     ensures failed { OnErr result (Rose (K.faults out.old) (K.faults out.new)) }
     ensures never_falls { K.faults out.old ≤ K.faults out.new }
 {
+    parts_are_of_both();
     for g in 0..script.goroutines() {
         say_goroutine(out, script, g, answers)?;
     }
@@ -93,6 +95,7 @@ fn say_goroutine<K: Sink>(
     ensures failed { OnErr result (Rose (K.faults out.old) (K.faults out.new)) }
     ensures never_falls { K.faults out.old ≤ K.faults out.new }
 {
+    parts_are_of_both();
     let mut n = 0;
     for (h, answer) in answers {
         if *h == g {

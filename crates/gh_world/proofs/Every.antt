@@ -1,8 +1,6 @@
 -- Every own step and every beginning, and so every legal list.
-use Rattle.std.proofs.Common.{◌≡◌, ℕ, ◌+◌, ◌*◌, ◌%◌, Bool, true, false, List, Option, None, refl, sym, ◌∙◌, arith, lit<, ltb}
-use Rattle.std.specs.Prelude.{slice_index, slice_index_or, replicate}
-use Rattle.std.proofs.lemmas.List.{get_or-replicate, get_or_past, length-replicate}
-use Rattle.std.proofs.lemmas.Bool.{ltb-true, ltb-false}
+use Rattle.std.proofs.Common.{◌≡◌, ℕ, ◌+◌, ◌*◌, ◌%◌, true, List, Option, None, refl, sym, ◌∙◌, arith, lit<}
+use Rattle.std.proofs.lemmas.List.{length-replicate}
 use Rattle.std.proofs.lemmas.Nat.Bits.{bit_at-zero}
 use Rattle.gh_base.specs.declared.value.Value.TheVariants as value
 use Rattle.gh_base.specs.declared.shape.Shape.{Shape}
@@ -17,6 +15,7 @@ use Rattle.gh_mutator.specs.declared.point.Point.TheVariants.{Idle, Left, Touch,
 use Rattle.gh_world.specs.Law.{EveryListStands}
 use Rattle.gh_world.specs.Points.{ShapesGood}
 use Rattle.gh_world.specs.Stands.{alloc_row}
+use Rattle.gh_world.proofs.Reading.{read_replicate}
 use Rattle.gh_world.proofs.Step.{Holding, Laws, StepAt}
 use Rattle.gh_world.proofs.Whole.{every_list_stands}
 use Rattle.gh_world.proofs.Beginning.{begin_any}
@@ -36,7 +35,7 @@ module _ (shapes : List Shape) (l : Layout) (laws : Laws) where
   step_any (LoadPage d) busy = step_load_page shapes l d
   step_any (LoadBits d) busy = step_load_bits shapes l d
   step_any (LoadField d p) busy = step_load_field shapes l d p
-  step_any (LoadBirth a) busy = step_load_birth shapes l a
+  step_any (LoadBirth a) busy = step_load_birth shapes l laws a
   step_any (StorePage s) busy = step_store_page shapes l s
   step_any (StoreBits s) busy = step_store_bits shapes l s
   step_any (StoreField s) busy = step_store_field shapes l s
@@ -46,24 +45,6 @@ module _ (shapes : List Shape) (l : Layout) (laws : Laws) where
   step_any (Place w p) busy = step_place shapes l laws w p
   step_any (End g) busy = step_end shapes l g
   step_any Leave busy = step_leave shapes l
-
-  all_nil : (n i : ℕ) → slice_index_or (replicate n value.Nil) i value.Nil ≡ value.Nil
-  all_nil n i = go (ltb i n) refl where
-    go : (b : Bool) → ltb i n ≡ b → slice_index_or (replicate n value.Nil) i value.Nil ≡ value.Nil
-    go true t = get_or-replicate n i value.Nil value.Nil (ltb-true i n t)
-    go false t = get_or_past (replicate n value.Nil) i value.Nil (omega (arith, length-replicate n value.Nil, ltb-false i n t))
-
-  all_zero : (n i : ℕ) → slice_index (replicate n 0) i ≡ 0
-  all_zero n i = go (ltb i n) refl where
-    go : (b : Bool) → ltb i n ≡ b → slice_index (replicate n 0) i ≡ 0
-    go true t = get_or-replicate n i 0 0 (ltb-true i n t)
-    go false t = get_or_past (replicate n 0) i 0 (omega (arith, length-replicate {A = ℕ} n 0, ltb-false i n t))
-
-  none_cached : (n i : ℕ) → slice_index_or (replicate n (no_cached)) i None ≡ no_cached
-  none_cached n i = go (ltb i n) refl where
-    go : (b : Bool) → ltb i n ≡ b → slice_index_or (replicate n no_cached) i None ≡ no_cached
-    go true t = get_or-replicate n i no_cached None (ltb-true i n t)
-    go false t = get_or_past (replicate n no_cached) i None (omega (arith, length-replicate n no_cached, ltb-false i n t))
 
   no_bit : (trigger x : ℕ) → row_bit (alloc_row (opening_words trigger)) x ≡ 1 → ⊥
   unfolding row_bit
@@ -94,11 +75,11 @@ module _ (shapes : List Shape) (l : Layout) (laws : Laws) where
           bitmap = λ n k made. absurd (omega arith);
           fields = λ n k made. absurd (omega arith);
           globals_hold = λ k lt. (refl, refl);
-          registers = λ g d lg ld. rw (all_nil 512 (16 * g + d)) tt;
-          made = λ g lt. all_zero 32 g;
+          registers = λ g d lg ld. rw (read_replicate 512 (16 * g + d) value.Nil) tt;
+          made = λ g lt. read_replicate {A = ℕ} 32 g 0;
           few = λ g. omega arith;
           none = λ g le. refl;
-          cache = λ class noscan c low eq. absurd (cc (none_cached 50 (2 * class + bit noscan), eq));
+          cache = λ class noscan c low eq. absurd (cc (read_replicate 50 (2 * class + bit noscan) no_cached, eq));
           owners = λ p h span. absurd (cc (span.head));
         };
         fine = tt;
@@ -107,7 +88,7 @@ module _ (shapes : List Shape) (l : Layout) (laws : Laws) where
 
   -- whatever the processor does, and in whatever order its operations come, the words stand for the heap that never frees, and it answers what that heap answers
   pub every_list : ShapesGood shapes → (trigger : ℕ) → EveryListStands shapes l (opening_words trigger)
-  every_list sg trigger = every_list_stands shapes l (opening_words trigger) (record {
+  every_list sg trigger = every_list_stands shapes l (opening_words trigger) laws (record {
     shapes_good = sg;
     step = step_any;
     begin = begin_any shapes l sg;

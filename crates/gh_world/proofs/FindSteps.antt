@@ -20,9 +20,9 @@ module _ (shapes : List Shape) (l : Layout) where
   find_any : Laws → (q : FindPoint) → FindsAt shapes l q
   find_any laws (seek.Slots s) = find_slots shapes l s
   find_any laws seek.Lock = find_lock shapes l
-  find_any laws (seek.Give g) = find_give shapes l g
+  find_any laws (seek.Give g) = find_give shapes l laws g
   find_any laws (seek.Pass p) = find_pass shapes l laws p
-  find_any laws (seek.Carve c) = find_carve shapes l c
+  find_any laws (seek.Carve c) = find_carve shapes l laws c
   find_any laws (seek.Unlock after) = find_unlock shapes l after
   find_any laws seek.Ended = find_ended shapes l
 

@@ -1,4 +1,5 @@
 pub mod Step
+pub mod Reading
 pub mod Classes
 pub mod Spans
 pub mod Laying

@@ -17,7 +17,6 @@ use Rattle.gh_base.specs.declared.pack.SpanBody.{SpanBody}
 use Rattle.gh_base.specs.declared.pack.PageWord.TheVariants as page
 use Rattle.gh_base.specs.declared.pack.TheConstants.{LARGE}
 use Rattle.gh_base.specs.Packing.{IsClass, bit, page_of, birth_word, head_word}
-use Rattle.gh_base.proofs.Packing.{page_of-page_word}
 use Rattle.gh_class.specs.Classes.{pages_of}
 use Rattle.gh_base.specs.Cells.{Words, put}
 use Rattle.gh_base.specs.Steps.{cell_of}
@@ -396,30 +395,30 @@ module _ (shapes : List Shape) (l : Layout) where
         let d = span_disowned (pages_row words) q x own k s is class noscan long entry.head t.0 t.1 in
         (d.0, d.1.span, d.1.class ∙ t.2, d.1.noscan ∙ t.3)
 
-  head_says : (shape : Shape) (m : Processor) (w : Wanted) → WantedGood shape w → m.generation < 2 ^ 34 → page_of (head_word (owned_by 0 (span_head m w))) ≡ page.Head (owned_by 0 (span_head m w))
-  head_says shape m w g small = let most = g.most in page_of-page_word (page.Head (owned_by 0 (span_head m w))) (record { class = g.class; some = g.some; pages = omega arith; owner = lit< tt; number = small })
+  head_says : Laws → (shape : Shape) (m : Processor) (w : Wanted) → WantedGood shape w → m.generation < 2 ^ 34 → page_of (head_word (owned_by 0 (span_head m w))) ≡ page.Head (owned_by 0 (span_head m w))
+  head_says laws shape m w g small = let most = g.most in laws.packed.page (page.Head (owned_by 0 (span_head m w))) (record { class = g.class; some = g.some; pages = omega arith; owner = lit< tt; number = small })
 
   fresh_kept : (place : Name → ℕ) (e : Ever) (m : Processor) (p : Point) (w : Wanted) (a : ℕ) (n : Name) → Fresh l.pages l.globals l.goroutines shapes place e m w a n → Fresh l.pages l.globals l.goroutines shapes place e (at_point m p) w a n
   fresh_kept place e m p w a n f = record { wants = f.wants; name = f.name; made = f.made; at = f.at; size = f.size }
 
   -- nobody owns the large object's span once it stands
-  give_by : (words : Words) (place : Name → ℕ) (e : Ever) (m : Processor) (w : Wanted) (a : ℕ) (n : Name) (pending : Option Answer) → WantedGood (shape_at shapes w.t) w → Fits words place e m → OwnSpan l.pages l.globals l.goroutines shapes (pages_row words) w a → Fresh l.pages l.globals l.goroutines shapes place e m w a n → IsNamed n true pending →
+  give_by : Laws → (words : Words) (place : Name → ℕ) (e : Ever) (m : Processor) (w : Wanted) (a : ℕ) (n : Name) (pending : Option Answer) → WantedGood (shape_at shapes w.t) w → Fits words place e m → OwnSpan l.pages l.globals l.goroutines shapes (pages_row words) w a → Fresh l.pages l.globals l.goroutines shapes place e m w a n → IsNamed n true pending →
       KeepsMaking shapes l words e m w a n (make.Give (giving.giving m.layout (a / 1024) (span_head m w))) pending
-  give_by words place e m w a n pending wg good own f named =
+  give_by laws words place e m w a n pending wg good own f named =
       keeps_from shapes l words e m (Place w (made_at shapes l m w a n (make.Give (giving.giving m.layout (a / 1024) (span_head m w))))) pending (words (cell.Page (a / 1024))) (put words (cell.Page (a / 1024)) (head_word (owned_by 0 (span_head m w))))
       (at_point m (Place w (made_at shapes l m w a n make.Count))) None None place pending
       refl refl refl refl
       (record {
         good = good_at l.pages l.globals l.goroutines shapes (put words (cell.Page (a / 1024)) (head_word (owned_by 0 (span_head m w)))) place e m (Place w (made_at shapes l m w a n make.Count))
-            (good_disowned words place e m (a / 1024) (head_word (owned_by 0 (span_head m w))) own.h (owned_by 0 (span_head m w)) own.span (own.class ∙ own.large) (head_says (shape_at shapes w.t) m w wg good.sizes.generation) (sym own.class) (sym own.noscan) (sym own.long) good);
+            (good_disowned words place e m (a / 1024) (head_word (owned_by 0 (span_head m w))) own.h (owned_by 0 (span_head m w)) own.span (own.class ∙ own.large) (head_says laws (shape_at shapes w.t) m w wg good.sizes.generation) (sym own.class) (sym own.noscan) (sym own.long) good);
         fine = (refl, fresh_kept place e m (Place w (made_at shapes l m w a n make.Count)) w a n f);
         pends = named;
       })
       (sym (append-nil (option_to_list pending))) (not_full shapes l words None refl) refl
 
-  step_give : (words : Words) (place : Name → ℕ) (e : Ever) (m : Processor) (w : Wanted) (a : ℕ) (n : Name) (g : giving.Giving) (pending : Option Answer) → WantedGood (shape_at shapes w.t) w → Fits words place e m → FineMaking shapes l words place e m w a n (make.Give g) → IsNamed n true pending → KeepsMaking shapes l words e m w a n (make.Give g) pending
-  step_give words place e m w a n g pending wg good f named =
-      subst (λ (x : giving.Giving). KeepsMaking shapes l words e m w a n (make.Give x) pending) (sym f.0) (give_by words place e m w a n pending wg good f.1 f.2 named)
+  step_give : Laws → (words : Words) (place : Name → ℕ) (e : Ever) (m : Processor) (w : Wanted) (a : ℕ) (n : Name) (g : giving.Giving) (pending : Option Answer) → WantedGood (shape_at shapes w.t) w → Fits words place e m → FineMaking shapes l words place e m w a n (make.Give g) → IsNamed n true pending → KeepsMaking shapes l words e m w a n (make.Give g) pending
+  step_give laws words place e m w a n g pending wg good f named =
+      subst (λ (x : giving.Giving). KeepsMaking shapes l words e m w a n (make.Give x) pending) (sym f.0) (give_by laws words place e m w a n pending wg good f.1 f.2 named)
 
   step_count : (words : Words) (place : Name → ℕ) (e : Ever) (m : Processor) (w : Wanted) (a : ℕ) (n : Name) (pending : Option Answer) → Fits words place e m → IsNamed n true pending → KeepsMaking shapes l words e m w a n make.Count pending
   step_count words place e m w a n (Some (answer.Ref x)) good named =
@@ -440,7 +439,7 @@ module _ (shapes : List Shape) (l : Layout) where
   step_on laws sg words place e m w a n make.Birth (Some x) good f named = absurd named
   step_on laws sg words place e m w a n (make.Bits s) (Some x) good f named = absurd named
   step_on laws sg words place e m w a n make.Alloc (Some x) good f named = absurd named
-  step_on laws sg words place e m w a n (make.Give g) pending good f named = step_give words place e m w a n g pending (wanted_here shapes l w sg f.2.wants) good f named
+  step_on laws sg words place e m w a n (make.Give g) pending good f named = step_give laws words place e m w a n g pending (wanted_here shapes l w sg f.2.wants) good f named
   step_on laws sg words place e m w a n make.Count pending good f named = step_count words place e m w a n pending good named
   step_on laws sg words place e m w a n make.Ended pending good f named = absurd f
 

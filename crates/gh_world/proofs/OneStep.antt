@@ -5,6 +5,7 @@ use Rattle.gh_base.specs.declared.operation.Op.{Op}
 use Rattle.gh_base.specs.declared.layout.Layout.{Layout}
 use Rattle.gh_base.specs.declared.machine.Entry.{Entry}
 use Rattle.gh_base.specs.Lists.{started}
+use Rattle.gh_base.specs.Steps.{StepsAreShown}
 use Rattle.gh_script.specs.Program.{Program}
 use Rattle.gh_base.specs.declared.shape.Shape.{Shape}
 use Rattle.gh_mutator.specs.declared.point.Processor.{Processor}
@@ -58,13 +59,13 @@ sound_after w v happened f busy a =
     fit_same _ _ _ _ _ _ _ _ _ _ _ _ _ _ _ _ a.script a.layout a.words a.mutator a.progress a.marks a.count a.room
     (fit_stepped w.script.now w.layout w.words w.mutator (progress_of w) w.marks (vec_len w.points) (vec_capacity w.points) (found_in w) f busy)
 
-appends_begun : (w v : World) (b : Option Op) (new : Next) (es : List (Entry Op)) (happened : Event) → (f : SoundWorld w) → Knows w.script.now w.layout f.script f.layout w.mutator.processor (progress_of w) b new → Advances (with_begun w b new) v happened → IsAfter w es → Appends v 0 es happened
-appends_begun w v b new es happened f k a after =
+appends_begun : (w v : World) (b : Option Op) (new : Next) (es : List (Entry Op)) (happened : Event) → StepsAreShown w.layout → (f : SoundWorld w) → Knows w.script.now w.layout f.script f.layout w.mutator.processor (progress_of w) b new → Advances (with_begun w b new) v happened → IsAfter w es → Appends v 0 es happened
+appends_begun w v b new es happened shown f k a after =
     record {
       e = entry_of w.script.now w.layout f.script f.layout w.words w.mutator.processor b;
       by = refl;
       after = after_same _ _ _ _ _ _ _ _ _ _ _ _ _ _ _ a.script a.layout a.words (ap (λ (m : Mutating). m.processor) a.mutator) a.progress a.points a.marks
-          (follows w.script.now w.layout f.script f.layout w.words w.mutator.processor (progress_of w) w.points.items w.marks es b new after k);
+          (follows w.script.now w.layout f.script f.layout shown w.words w.mutator.processor (progress_of w) w.points.items w.marks es b new after k);
       says = a.says ∙ says w.script.now w.layout f.script f.layout w.words w.mutator.processor (progress_of w) w.points.items w.marks es b new after k
           ∙ ap (λ (q : Program). event_of q.shapes w.layout es (entry_of w.script.now w.layout f.script f.layout w.words w.mutator.processor b)) (sym a.script)
           ∙ ap (λ (k : Layout). event_of v.script.now.shapes k es (entry_of w.script.now w.layout f.script f.layout w.words w.mutator.processor b)) (sym a.layout);
@@ -82,7 +83,7 @@ knows w x v happened k f going a = record {
   columns = f.columns;
 }
 
-pub appends : (w x v : World) (actor : ℕ) (es : List (Entry Op)) (happened : Event) → actor ≡ 0 → SoundWorld w → is_done w ≡ false → Begins w x → Advances x v happened → IsAfter w es → Appends v actor es happened
-appends w x v actor es happened first f going k a after =
+pub appends : (w x v : World) (actor : ℕ) (es : List (Entry Op)) (happened : Event) → StepsAreShown w.layout → actor ≡ 0 → SoundWorld w → is_done w ≡ false → Begins w x → Advances x v happened → IsAfter w es → Appends v actor es happened
+appends w x v actor es happened shown first f going k a after =
     let b : Advances (with_begun w k.o x.next) v happened = subst (λ (y : World). Advances y v happened) (begun_is w x k f.shapes) a in
-    subst (λ (n : ℕ). Appends v n es happened) (sym first) (appends_begun w v k.o x.next es happened f (knows w x v happened k f going b) b after)
+    subst (λ (n : ℕ). Appends v n es happened) (sym first) (appends_begun w v k.o x.next es happened shown f (knows w x v happened k f going b) b after)

@@ -11,7 +11,6 @@ use Rattle.gh_base.specs.declared.pack.PageWord.TheVariants as page
 use Rattle.gh_base.specs.declared.pack.TheConstants.{LARGE}
 use Rattle.gh_base.specs.Cells.{Words, put}
 use Rattle.gh_base.specs.Packing.{bit, page_of, head_word, FitsHead}
-use Rattle.gh_base.proofs.Packing.{page_of-page_word}
 use Rattle.gh_central.specs.Listing.{owned_by}
 use Rattle.gh_model.specs.Ever.{Ever}
 use Rattle.gh_alloc.specs.declared.find.CachedSpan.{CachedSpan}
@@ -20,6 +19,7 @@ use Rattle.gh_mutator.specs.declared.point.Processor.{Processor}
 use Rattle.gh_mutator.specs.Listing.{is_large, span_class, cached_for}
 use Rattle.gh_world.specs.Stands.{pages_row, IsSpan, SpansGood, IsSlot, IsOwned, OwnersGood}
 use Rattle.gh_world.specs.Points.{Good}
+use Rattle.gh_world.proofs.Step.{Laws}
 use Rattle.gh_world.proofs.Spans.{same_span}
 use Rattle.gh_world.proofs.Laying.{with_page, written_page, other_page}
 use Rattle.gh_world.proofs.Wanting.{WantedGood, SpanCached}
@@ -27,8 +27,8 @@ use Rattle.gh_world.proofs.Caching.{class_tells, with_cached, cached_same, cache
 use Rattle.gh_bitmap.specs.Bits.{Row}
 
 -- the word of a head says it
-pub owned_says : (o : ℕ) (h : SpanHead) → FitsHead (owned_by o h) → page_of (head_word (owned_by o h)) ≡ page.Head (owned_by o h)
-owned_says o h f = page_of-page_word (page.Head (owned_by o h)) f
+pub owned_says : Laws → (o : ℕ) (h : SpanHead) → FitsHead (owned_by o h) → page_of (head_word (owned_by o h)) ≡ page.Head (owned_by o h)
+owned_says laws o h f = laws.packed.page (page.Head (owned_by o h)) f
 
 -- a span is as before, but for its owner
 pub record SameSpan (h g : SpanHead) : Type 0 where

@@ -88,9 +88,9 @@ module _ (shapes : List Shape) (l : Layout) where
   abbrev seeking : Processor → Sought → Option CachedSpan → FindPoint → Finding
   seeking m s c q = record { layout = m.layout; seat = m.seat; generation = m.generation; wanted = s; cached = c; point = q }
 
-  give_by : (words : Words) (place : Name → ℕ) (e : Ever) (m : Processor) (w : Wanted) (c : CachedSpan) → WantedGood (shape_at shapes w.t) w → Wanting m w → cached_for m w ≡ Some c → Fits words place e m →
+  give_by : Laws → (words : Words) (place : Name → ℕ) (e : Ever) (m : Processor) (w : Wanted) (c : CachedSpan) → WantedGood (shape_at shapes w.t) w → Wanting m w → cached_for m w ≡ Some c → Fits words place e m →
       Keeps shapes l words e m (Find w (here shapes l m w (seek.Give (give_at m w c)))) None (words (cell.Page c.head))
-  give_by words place e m w c wg wants is good =
+  give_by laws words place e m w c wg wants is good =
       let small = cached_small m w c is in
       let ne = (small_class (shape_at shapes w.t) w wg small).1 in
       let k = cached_span l.pages (pages_row words) m (shape_at shapes w.t) w c wg good.cache is in
@@ -103,7 +103,7 @@ module _ (shapes : List Shape) (l : Layout) where
       let generation = good.sizes.generation in
       let head : owned_by 0 (given_head m.generation (class_of w)) ≡ owned_by 0 k.h = head_eq k.h w.class w.noscan (pages_of w.class) m.generation k.class k.noscan pages number in
       let fits : FitsHead (owned_by 0 (given_head m.generation (class_of w))) = record { class = wg.class; some = omega arith; pages = omega arith; owner = omega arith; number = generation } in
-      let says : page_of (given_word m w) ≡ page.Head (owned_by 0 k.h) = owned_says 0 (given_head m.generation (class_of w)) fits ∙ ap page.Head head in
+      let says : page_of (given_word m w) ≡ page.Head (owned_by 0 k.h) = owned_says laws 0 (given_head m.generation (class_of w)) fits ∙ ap page.Head head in
       let owners = owned_owners shapes l (pages_row words) m w None c.head (given_word m w) 0 k.h small says good.spans k.span large (λ y q. ap (λ (s : CachedSpan). s.head) (cached_is y c (sym q ∙ is))) (inl refl) good.owners in
       let kept = good_owned shapes l words place e m (shape_at shapes w.t) w None c.head (given_word m w) 0 k.h wg small says k.span good (λ y q. absurd (cc q)) owners in
       caches_on shapes l words (put words (cell.Page c.head) (given_word m w)) place e m w (seek.Give (give_at m w c)) (seek.Pass (pass.opening m.layout m.seat m.generation (class_of w))) (words (cell.Page c.head)) None wg small good.sizes.cache wants refl
@@ -111,10 +111,10 @@ module _ (shapes : List Shape) (l : Layout) where
       refl kept
       (small, cached_same m (shape_at shapes w.t) w None wg small good.sizes.cache, refl, (good.sizes.some, λ q i h lt. absurd (omega arith)))
 
-  pub find_give : (g : giving.Giving) → FindsAt shapes l (seek.Give g)
-  find_give g sg words place e m w at wants fine good =
+  pub find_give : Laws → (g : giving.Giving) → FindsAt shapes l (seek.Give g)
+  find_give laws g sg words place e m w at wants fine good =
       subst (λ (x : giving.Giving). Keeps shapes l words e m (Find w (here shapes l m w (seek.Give x))) None (words (cell_of (asks_at m (Find w (here shapes l m w (seek.Give x))))))) (sym fine.2)
-      (give_by words place e m w fine.0 (wanted_here shapes l w sg wants.0) wants fine.1 good)
+      (give_by laws words place e m w fine.0 (wanted_here shapes l w sg wants.0) wants fine.1 good)
 
   -- the pass over the spans
 
@@ -335,9 +335,9 @@ module _ (shapes : List Shape) (l : Layout) where
   cached_row : (m : Processor) (w : Wanted) (c : Option CachedSpan) → is_large w ≡ false → cached_for m w ≡ c → slice_index_or m.cache (span_class w) None ≡ c
   cached_row m w c small e = sym (ap (λ (b : Bool). cond b None (slice_index_or m.cache (span_class w) None)) small) ∙ e
 
-  take_by : (words : Words) (place : Name → ℕ) (e : Ever) (m : Processor) (w : Wanted) (p : ℕ) (h : SpanHead) → WantedGood (shape_at shapes w.t) w → Wanting m w → is_large w ≡ false → cached_for m w ≡ None → Fits words place e m → OfClass words w p h →
+  take_by : Laws → (words : Words) (place : Name → ℕ) (e : Ever) (m : Processor) (w : Wanted) (p : ℕ) (h : SpanHead) → WantedGood (shape_at shapes w.t) w → Wanting m w → is_large w ≡ false → cached_for m w ≡ None → Fits words place e m → OfClass words w p h →
       Keeps shapes l words e m (Find w (here shapes l m w (seek.Pass (pass_here m w (pass_place.Take p h))))) None (words (cell.Page p))
-  take_by words place e m w p h wg wants small none good of =
+  take_by laws words place e m w p h wg wants small none good of =
       let ne = (small_class (shape_at shapes w.t) w wg small).1 in
       let large : h.class ≢ LARGE = λ q. ne (sym of.class ∙ q) in
       let number = (good.owners p h of.span large).0 in
@@ -346,7 +346,7 @@ module _ (shapes : List Shape) (l : Layout) where
       let seat = good.sizes.seat in
       let generation = good.sizes.generation in
       let fits : FitsHead (owned_by (m.seat + 1) h) = record { class = of.span.class; some = of.span.some; pages = omega arith; owner = omega arith; number = rw number generation } in
-      let says = owned_says (m.seat + 1) h fits in
+      let says = owned_says laws (m.seat + 1) h fits in
       let same = cached_same m (shape_at shapes w.t) w (Some (fresh_cached p)) wg small good.sizes.cache in
       let row = cached_row (with_cached m w (Some (fresh_cached p))) w (Some (fresh_cached p)) small same in
       let own : IsOwned m.seat (with_cached m w (Some (fresh_cached p))).cache p (owned_by (m.seat + 1) h) = record {
@@ -376,7 +376,7 @@ module _ (shapes : List Shape) (l : Layout) where
       let low = fine.2 in
       let index : (16 * p + i) % (16 * m.layout.pages) ≡ 16 * p + i = within_is (16 * p + i) (16 * m.layout.pages) (rw (good.sizes.arena) (omega arith)) in
       bits_by laws.test words place e m w p h i (words (cell.Alloc ((16 * p + i) % (16 * m.layout.pages)))) (ap (λ (x : ℕ). words (cell.Alloc x)) index) wg wants small none good fine.0 fine.1 fine.2 fine.3
-  pass_by laws (pass_place.Take p h) words place e m w wg wants small none good fine = take_by words place e m w p h wg wants small none good fine
+  pass_by laws (pass_place.Take p h) words place e m w wg wants small none good fine = take_by laws words place e m w p h wg wants small none good fine
   pass_by laws pass_place.Ended words place e m w wg wants small none good fine = absurd fine
 
   pub find_pass : Laws → (p : pass.Pass) → FindsAt shapes l (seek.Pass p)

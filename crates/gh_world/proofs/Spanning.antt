@@ -13,7 +13,6 @@ use Rattle.gh_base.specs.Packing.{bit, page_of, head_word, body_word}
 use Rattle.gh_base.specs.Cells.{Words, put}
 use Rattle.gh_base.specs.declared.cell.Cell.TheVariants as cell
 use Rattle.gh_base.specs.Steps.{cell_of}
-use Rattle.gh_base.proofs.Packing.{page_of-page_word}
 use Rattle.gh_bitmap.specs.Bits.{Row}
 use Rattle.gh_class.specs.Classes.{pages_of}
 use Rattle.gh_model.specs.Ever.{Ever}
@@ -33,7 +32,7 @@ use Rattle.gh_mutator.specs.declared.point.Point.TheVariants.{Find}
 use Rattle.gh_mutator.specs.Listing.{is_large, span_class, cached_for, sought, sought_for, asks_at}
 use Rattle.gh_world.specs.Stands.{pages_row, alloc_row, slot_count, IsSpan, IsSlot, IsMade}
 use Rattle.gh_world.specs.Points.{Good, WantsName, Clearing, LaidOut, FullBefore, span_body}
-use Rattle.gh_world.proofs.Step.{Keeps}
+use Rattle.gh_world.proofs.Step.{Laws, Keeps}
 use Rattle.gh_world.proofs.Spans.{page_in_span, slot_word, slot_some}
 use Rattle.gh_world.proofs.Laying.{head_for, span_kept, slot_kept, body_spans, body_span_before, laid_out_more, laid_out_span, head_spans, head_span_before}
 use Rattle.gh_world.proofs.Wanting.{WantedGood, slot_wanted}
@@ -43,16 +42,16 @@ use Rattle.gh_world.proofs.Searching.{row_now, MayOwn, owned_with}
 use Rattle.gh_world.proofs.Walking.{carve_here, CarveKeeps, Walks, CarvesAt, carve_look}
 
 -- the words of a span's pages say what they are
-body_says : (shape : Shape) (w : Wanted) (i : ℕ) → WantedGood shape w → 0 < i → i < w.pages → page_of (body_word (span_body w i)) ≡ page.Body (span_body w i)
-body_says shape w i g some lt = let most = g.most in page_of-page_word (page.Body (span_body w i)) (record { class = g.class; some = some; distance = omega arith })
+body_says : Laws → (shape : Shape) (w : Wanted) (i : ℕ) → WantedGood shape w → 0 < i → i < w.pages → page_of (body_word (span_body w i)) ≡ page.Body (span_body w i)
+body_says laws shape w i g some lt = let most = g.most in laws.packed.page (page.Body (span_body w i)) (record { class = g.class; some = some; distance = omega arith })
 
-pub head_says : (shape : Shape) (w : Wanted) (owner number : ℕ) → WantedGood shape w → owner < 2 ^ 8 → number < 2 ^ 34 → page_of (head_word (head_for w owner number)) ≡ page.Head (head_for w owner number)
-head_says shape w owner number g lo ln = let most = g.most in page_of-page_word (page.Head (head_for w owner number)) (record { class = g.class; some = g.some; pages = omega arith; owner = lo; number = ln })
+head_says : Laws → (shape : Shape) (w : Wanted) (owner number : ℕ) → WantedGood shape w → owner < 2 ^ 8 → number < 2 ^ 34 → page_of (head_word (head_for w owner number)) ≡ page.Head (head_for w owner number)
+head_says laws shape w owner number g lo ln = let most = g.most in laws.packed.page (page.Head (head_for w owner number)) (record { class = g.class; some = g.some; pages = omega arith; owner = lo; number = ln })
 
 row_of : (class class' : ℕ) (noscan noscan' : Bool) → class ≡ class' → noscan ≡ noscan' → 2 * class + bit noscan ≡ 2 * class' + bit noscan'
 row_of class class' noscan noscan' e f = ap (λ (y : ℕ). 2 * y + bit noscan) e ∙ ap (λ (b : Bool). 2 * class' + bit b) f
 
-module _ (shapes : List Shape) (l : Layout) where
+module _ (shapes : List Shape) (l : Layout) (laws : Laws) where
   abbrev Fits : Words → (Name → ℕ) → Ever → Processor → Type 0
   Fits words place e m = Good l.pages l.globals l.goroutines shapes words place e m
 
@@ -64,7 +63,7 @@ module _ (shapes : List Shape) (l : Layout) where
   good_body : (words : Words) (place : Name → ℕ) (e : Ever) (m : Processor) (shape : Shape) (w : Wanted) (q i : ℕ) → WantedGood shape w → 0 < i → i < w.pages → page_of (words (cell.Page q)) ≡ page.Free → Fits words place e m →
       Fits (put words (cell.Page q) (body_word (span_body w i))) place e m
   good_body words place e m shape w q i wg some lt free good =
-      let is = body_says shape w i wg some lt in
+      let is = body_says laws shape w i wg some lt in
       record {
         sizes = good.sizes;
         spans = body_spans l.pages (pages_row words) q (body_word (span_body w i)) (span_body w i) is free good.spans;
@@ -88,7 +87,7 @@ module _ (shapes : List Shape) (l : Layout) where
   carve_body first i words place e m w wg wants walks good =
       let f = walks.fine in
       let free = f.2.free i (omega arith) f.1 in
-      let is = body_says (shape_at shapes w.t) w i wg f.0 f.1 in
+      let is = body_says laws (shape_at shapes w.t) w i wg f.0 f.1 in
       go (ltb (i + 1) w.pages) refl (good_body words place e m (shape_at shapes w.t) w (first + i) i wg f.0 f.1 free good)
       (λ small q j h lt span class noscan inside. walks.full small q j h lt (body_span_before l.pages (pages_row words) (first + i) (body_word (span_body w i)) (span_body w i) is good.spans q h span) class noscan inside)
       (laid_out_more l.pages l.globals l.goroutines shapes (pages_row words) w first i (body_word (span_body w i)) f.0 f.1 is f.2) where
@@ -116,7 +115,7 @@ module _ (shapes : List Shape) (l : Layout) where
   headed words m w first = put words (cell.Page first) (head_word (fresh m w))
 
   fresh_says : (words : Words) (place : Name → ℕ) (e : Ever) (m : Processor) (w : Wanted) → WantedGood (shape_at shapes w.t) w → Fits words place e m → page_of (head_word (fresh m w)) ≡ page.Head (fresh m w)
-  fresh_says words place e m w wg good = let seat = good.sizes.seat in head_says (shape_at shapes w.t) w (m.seat + 1) m.generation wg (omega arith) good.sizes.generation
+  fresh_says words place e m w wg good = let seat = good.sizes.seat in head_says laws (shape_at shapes w.t) w (m.seat + 1) m.generation wg (omega arith) good.sizes.generation
 
   fresh_spans : (words : Words) (place : Name → ℕ) (e : Ever) (m : Processor) (w : Wanted) (first : ℕ) → WantedGood (shape_at shapes w.t) w → IsLaidOut (pages_row words) w first w.pages → Fits words place e m → IsSpan l.pages (pages_row (headed words m w first)) first (fresh m w)
   fresh_spans words place e m w first wg out good = laid_out_span l.pages l.globals l.goroutines shapes (pages_row words) w first (m.seat + 1) m.generation (head_word (fresh m w)) (fresh_says words place e m w wg good) wg.class wg.some wg.small out

@@ -20,7 +20,6 @@ use Rattle.gh_base.specs.Packing.{bit, page_of, birth_word, name_of}
 use Rattle.gh_base.specs.Cells.{Words, put}
 use Rattle.gh_base.specs.Steps.{effect}
 use Rattle.gh_base.specs.declared.cell.Cell.TheVariants as cell
-use Rattle.gh_base.proofs.Packing.{name_of-birth_word}
 use Rattle.gh_model.specs.declared.EverValue.{EverValue}
 use Rattle.gh_model.specs.declared.EverValue.TheVariants as ever
 use Rattle.gh_model.specs.Ever.{Ever, shape_of, fits, is_number, told, with_register, with_field, with_global, with_end, load_answer, store_answer, answer_of, ever_after, takes_answer, stores_value}
@@ -32,7 +31,7 @@ use Rattle.gh_mutator.specs.declared.point.Point.TheVariants.{Idle, Left, Touch,
 use Rattle.gh_mutator.specs.Listing.{asks_at, takes_at, gives_at, acts_at, acting, slot_in, value_of, word_of_value, kinds_differ, register_of, set_register, at_point, after_found, told_value, touched, touch_answer, load_op, store_op}
 use Rattle.gh_world.specs.Stands.{pages_row, IsMade, Holds, Means, size_of}
 use Rattle.gh_world.specs.Points.{Good, FineAt, IsPlain, Through, op_at, IsPending}
-use Rattle.gh_world.proofs.Step.{Keeps, StepAt}
+use Rattle.gh_world.proofs.Step.{Laws, Keeps, StepAt}
 use Rattle.gh_world.proofs.Keeping.{fine_here, keeps_from, not_full, act_of, has_room}
 use Rattle.gh_world.proofs.Frames.{within_is, good_at, good_register, good_field, good_global, good_end, good_scanned, good_ack}
 use Rattle.gh_world.proofs.Spans.{slot_in_page, slot_within, slot_some}
@@ -257,8 +256,8 @@ module _ (shapes : List Shape) (l : Layout) where
   step_load_field ld p shapes_good words place e m (Some a) at h = absurd (fine_here shapes l words place e m (LoadField ld p) (Some a) at h).1
 
   -- the name in a birth word
-  name_found : (place : Name → ℕ) (e : Ever) (words : Words) (m : Processor) (n : Name) (a : ℕ) → Fits words place e m → IsMade e n → a ≡ place n → name_of l.goroutines (words (cell.Birth (a % (1024 * m.layout.pages)))) ≡ n
-  name_found place e words m n a g made is =
+  name_found : Laws → (place : Name → ℕ) (e : Ever) (words : Words) (m : Processor) (n : Name) (a : ℕ) → Fits words place e m → IsMade e n → a ≡ place n → name_of l.goroutines (words (cell.Birth (a % (1024 * m.layout.pages)))) ≡ n
+  name_found laws place e words m n a g made is =
       let at : words (cell.Birth (a % (1024 * m.layout.pages))) ≡ birth_word n =
       ap (λ (x : ℕ). words (cell.Birth (x % (1024 * m.layout.pages)))) is ∙ ap (λ (x : ℕ). words (cell.Birth x)) (within_is (place n) (1024 * m.layout.pages) (place_within words place e m g n made)) ∙ g.births n made in
       rw at (named n (known n made) (few n made)) where
@@ -272,16 +271,16 @@ module _ (shapes : List Shape) (l : Layout) where
           by false t = let none = g.none n.g (ltb-false n.g l.goroutines t) in absurd (omega (arith, none, made))
 
         named : (n : Name) → n.g < l.goroutines → n.k < 2 ^ 32 → name_of l.goroutines (birth_word n) ≡ n
-        named n lg lk = name_of-birth_word l.goroutines n lg lk
+        named n lg lk = laws.packed.birth l.goroutines n lg lk
 
-  pub step_load_birth : (a : ℕ) → StepAt shapes l (LoadBirth a)
-  step_load_birth a shapes_good words place e m (Some (answer.Ref n)) at h =
+  pub step_load_birth : Laws → (a : ℕ) → StepAt shapes l (LoadBirth a)
+  step_load_birth laws a shapes_good words place e m (Some (answer.Ref n)) at h =
       let here = (fine_here shapes l words place e m (LoadBirth a) (Some (answer.Ref n)) at h).1 in
       keeps_from shapes l words e m (LoadBirth a) (Some (answer.Ref n)) (words (cell.Birth (a % (1024 * m.layout.pages)))) words (at_point m Idle) None (Some (answer.Ref (name_of l.goroutines (words (cell.Birth (a % (1024 * m.layout.pages))))))) place None refl
       refl refl refl
       (record { good = good_at l.pages l.globals l.goroutines shapes words place e m Idle h.good; fine = tt; pends = tt })
-      (ap (λ (x : Name). answer.Ref x ∷ []) (sym (name_found place e words m n a h.good here.0 here.1))) (not_full shapes l words None refl) refl
-  step_load_birth a shapes_good words place e m pending at h = absurd (fine_here shapes l words place e m (LoadBirth a) pending at h).1
+      (ap (λ (x : Name). answer.Ref x ∷ []) (sym (name_found laws place e words m n a h.good here.0 here.1))) (not_full shapes l words None refl) refl
+  step_load_birth laws a shapes_good words place e m pending at h = absurd (fine_here shapes l words place e m (LoadBirth a) pending at h).1
 
   store_past : (e : Ever) (v w : EverValue) (n : Name) (k : ℕ) → v ≡ ever.Ref n → ltb k (size_of shapes e n) ≡ false → store_answer shapes e v k w ≡ answer.Fault fault.Field
   store_past e v w n k is over = rw (is, over) refl

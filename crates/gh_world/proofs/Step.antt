@@ -8,6 +8,9 @@ use Rattle.gh_base.specs.declared.shape.Shape.{Shape}
 use Rattle.gh_base.specs.declared.layout.Layout.{Layout}
 use Rattle.gh_base.specs.Cells.{Words}
 use Rattle.gh_base.specs.Steps.{cell_of, effect}
+use Rattle.gh_base.specs.declared.machine.Entry.{Entry}
+use Rattle.gh_base.specs.Lists.{by, Kind, state_of}
+use Rattle.gh_base.specs.Packing.{PackedWordsAreReadBack}
 use Rattle.gh_bitmap.specs.Stepping.{EachStepIsOnItsBits}
 use Rattle.gh_central.specs.Slots.{TheTestSaysIt}
 use Rattle.gh_model.specs.Ever.{Ever}
@@ -22,6 +25,8 @@ use Rattle.gh_world.specs.Points.{Good, FineAt, op_at, IsPending, ShapesGood}
 pub record Laws : Type 0 where
   pub bits : EachStepIsOnItsBits
   pub test : TheTestSaysIt
+  pub packed : PackedWordsAreReadBack
+  pub own : (k : Kind Processor Op) (a : ℕ) (es : List (Entry Op)) → state_of k a es ≡ state_of k a (by a es)
 
 module _ (shapes : List Shape) (l : Layout) where
   abbrev pub answer_of_act : Ever → Option Act → Option Answer

@@ -33,7 +33,7 @@ use Rattle.gh_mutator.specs.declared.point.Point.TheVariants.{Idle, Left, Touch,
 use Rattle.gh_mutator.specs.Listing.{slot_in, value_of, kinds_differ, register_of, set_register, made_by, at_point, is_large, is_made, span_class, begins_at, begin_load, begin_store, begin_global_store, wanted_of, finding, takes_at, after_find, after_found, after_place, made_object, gives_at, acts_at, acting, Act, told_value, finds_none, load_op, store_op, new_op, is_busy_at}
 use Rattle.gh_world.specs.Points.{op_at}
 use Rattle.gh_world.specs.Turns.{is_unacted, is_leave}
-use Rattle.gh_mutator.proofs.Soundness.{read_after_set}
+use Rattle.gh_world.proofs.Reading.{read_after_set}
 use Rattle.gh_mutator.specs.Serving.{is_point, is_statement, is_serving, answer_at, is_leaving}
 use Rattle.gh_world.specs.World.{making}
 

@@ -11,7 +11,6 @@ use Rattle.gh_base.specs.declared.cell.Ask.{Ask}
 use Rattle.gh_base.specs.Cells.{Words}
 use Rattle.gh_base.specs.Steps.{cell_of}
 use Rattle.gh_base.specs.Lists.{by, started, words_after, Legal, MayFollow}
-use Rattle.gh_base.proofs.Own.{state_of-by}
 use Rattle.gh_model.specs.Ever.{Ever, opening_ever}
 use Rattle.gh_mutator.specs.declared.point.Processor.{Processor}
 use Rattle.gh_mutator.specs.declared.point.Point.{Point}
@@ -21,7 +20,7 @@ use Rattle.gh_world.specs.Order.{processor_kind, setting_of, may_begin, begun_in
 use Rattle.gh_world.specs.Points.{op_at, IsPending, ShapesGood}
 use Rattle.gh_world.specs.Law.{processor_after, answers_in, ops_in, FullOnly, EveryListStands}
 use Rattle.gh_world.proofs.InPlace.{in_place}
-use Rattle.gh_world.proofs.Step.{answer_of_act, op_of_act, Holding, StepAt}
+use Rattle.gh_world.proofs.Step.{Laws, answer_of_act, op_of_act, Holding, StepAt}
 
 module _ (shapes : List Shape) (l : Layout) (opening : Words) where
   -- what the induction keeps
@@ -41,7 +40,7 @@ module _ (shapes : List Shape) (l : Layout) (opening : Words) where
         Holding shapes l words place e m None → Holding shapes l words place e (begins shapes m o) None × (option_to_list (op_at (begins shapes m o).point) ≡ o ∷ []) × (is_busy_at (begins shapes m o).point ≡ true)
     pub opens : Holding shapes l opening (λ n. 0) opening_ever (opening_processor l 0) None
 
-module _ (shapes : List Shape) (l : Layout) (opening : Words) (steps : Steps shapes l opening) where
+module _ (shapes : List Shape) (l : Layout) (opening : Words) (laws : Laws) (steps : Steps shapes l opening) where
   before : List (Entry Op) → Option Op → Processor
   before es b = started (processor_kind shapes l) b (processor_after shapes l opening es)
 
@@ -119,7 +118,7 @@ module _ (shapes : List Shape) (l : Layout) (opening : Words) (steps : Steps sha
       let m = processor_after shapes l opening es in
       let idle : is_busy_at m.point ≡ false = mf.begins.0 in
       let none = none_pending g.place (ever_of shapes l es) m m.point g.pending idle g.holding.pends in
-      let now = steps.begin (words_after opening es) g.place (ever_of shapes l es) m o (by 0 es) idle (subst (λ (x : Processor). may_begin l.goroutines l.globals (length shapes) x (by 0 es) o ≡ true) (sym (state_of-by (processor_kind shapes l) 0 es)) mf.begins.1) (subst (λ (x : Option Answer). Holding shapes l (words_after opening es) g.place (ever_of shapes l es) m x) none g.holding) in
+      let now = steps.begin (words_after opening es) g.place (ever_of shapes l es) m o (by 0 es) idle (subst (λ (x : Processor). may_begin l.goroutines l.globals (length shapes) x (by 0 es) o ≡ true) (sym (laws.own (processor_kind shapes l) 0 es)) mf.begins.1) (subst (λ (x : Option Answer). Holding shapes l (words_after opening es) g.place (ever_of shapes l es) m x) none g.holding) in
       let ops : begun_in shapes l es ≡ ops_in shapes l opening es = g.ops ∙ ap (λ (x : Option Op). option_to_list x ++ ops_in shapes l opening es) (none_at m.point idle) in
       placed_entry es (Some o) q n mf
       (stepped es (Some o) g.place None now.0 now.2 (subst (λ (x : Option Answer). answers_in shapes l opening es ≡ option_to_list x ++ given_in shapes l es) none g.answers)

@@ -16,10 +16,9 @@ use Rattle.gh_base.specs.Shapes.{no_shape}
 use Rattle.gh_base.specs.declared.layout.Layout.{Layout}
 use Rattle.gh_base.specs.declared.machine.Entry.{Entry}
 use Rattle.gh_base.specs.Cells.{Words, IsLayoutOf, InRange, Shows, length_of}
-use Rattle.gh_base.specs.Steps.{cell_of, request, target, changed}
+use Rattle.gh_base.specs.Steps.{cell_of, request, target, changed, IsShown, StepsAreShown}
 use Rattle.gh_base.specs.Lists.{by, state_of, started, words_after, Legal, Begins}
 use Rattle.gh_base.specs.Packing.{bit}
-use Rattle.gh_base.proofs.Showing.{found-request, shows_effect}
 use Rattle.gh_script.specs.declared.statement.Stmt.{Stmt}
 use Rattle.gh_script.specs.declared.statement.Stmt.TheVariants.{New, Load, Store, GetGlobal, SetGlobal, Int, Move, Nil, Gc}
 use Rattle.gh_script.specs.Program.{Program, goroutine_at as goroutine_there, no_goroutine, statements_of, op_of, IsStatement, AreStatements, IsShape, WellFormed}
@@ -34,7 +33,7 @@ use Rattle.gh_world.specs.Points.{op_at, ShapesGood}
 use Rattle.gh_mutator.specs.Sound.{ShapesFit, SoundOp, most_objects, has_names}
 use Rattle.gh_world.specs.Turns.{count_of, total_of, turns_of, to_come, later, Stands, MayBeOver, IsPast, is_over, op_due, is_leave, Follows, goroutine_at, statements_among, statements_by, statement_now, is_unacted, next_point}
 use Rattle.gh_world.specs.World.{opening, Progress, After, Fit, points_in, event_at, event_of, op_at_turn, counts_after, stated_after, last_after, begun_as, GoesOn, MadeAtMost}
-use Rattle.gh_mutator.proofs.Soundness.{read_after_set, read_replicate}
+use Rattle.gh_world.proofs.Reading.{read_after_set, read_replicate}
 use Rattle.gh_world.proofs.StepFacts.{step_facts, begin_facts, StepFacts, BeginFacts}
 use Rattle.gh_world.proofs.Turning.{goroutine_is, has_statement, opens_at, turns_say}
 use Rattle.gh_mutator.specs.Mutating.{Mutating}
@@ -394,13 +393,14 @@ module _ (p : Program) (l : Layout) (runnable : WellFormed p) (laid : IsLayoutOf
   turns_next t None new bs goes turns = turns ∙ ap (λ (x : Next). reverse bs ++ to_come p x) (sym goes)
   turns_next t (Some o) new bs goes turns = turns ∙ ap (λ (xs : List Op). reverse bs ++ xs) goes.come ∙ sym (one_more o bs (to_come p new))
 
-  follows_at : (list : List ℕ) (t : Progress) (points : List (ℕ × ℕ)) (marks : ℕ) (es : List (Entry Op)) (b : Option Op) (new : Next) →
+  follows_at : StepsAreShown l → (list : List ℕ) (t : Progress) (points : List (ℕ × ℕ)) (marks : ℕ) (es : List (Entry Op)) (b : Option Op) (new : Next) →
       After p l list (state_of (processor_kind p.shapes l) 0 es) t points marks es → Knows (state_of (processor_kind p.shapes l) 0 es) t b new → Goes list t points marks es b new (state_of (processor_kind p.shapes l) 0 es)
-  follows_at list t points marks es b new a k =
+  follows_at shown list t points marks es b new a k =
       let m = state_of (processor_kind p.shapes l) 0 es in
       let due : (o : Op) → b ≡ Some o → op_due p t.next ≡ Some o = λ o e. (due_at m t.next b o k.is e).1 in
       let here : (o : Op) → b ≡ Some o → is_statement o ≡ true → goroutine_at o < 32 = λ o e sure. due_goroutine p t.next o runnable k.stands (due o e) sure in
       let now = now_after t b (begun_in p.shapes l es) k.columns here a.counted a.now in
+      let step : IsShown l list (words_after opening es) (asks (begun m b)) = shown list (words_after opening es) (asks (begun m b)) k.within a.words in
       record {
         legal = (
           a.legal,
@@ -410,10 +410,10 @@ module _ (p : Program) (l : Layout) (runnable : WellFormed p) (laid : IsLayoutOf
             runs = k.busy;
             asks = refl;
             within = k.within;
-            found = found-request l list (words_after opening es) (asks (begun m b)) k.within a.words;
+            found = step.found;
           },
         );
-        words = shows_effect l list (words_after opening es) (asks (begun m b)) k.within a.words;
+        words = step.after;
         processor = refl;
         turns = turns_next t b new (begun_in p.shapes l es) k.goes a.turns;
         counted = counted_after t b (begun_in p.shapes l es) k.columns here a.counted;
@@ -425,8 +425,8 @@ module _ (p : Program) (l : Layout) (runnable : WellFormed p) (laid : IsLayoutOf
         marked = ap (λ (n : ℕ). n + bit (is_some (statement_answer l.goroutines (begun m b) (begun m b).point (found_at list (begun m b))))) a.marked;
       }
 
-  pub follows : (list : List ℕ) (m : Processor) (t : Progress) (points : List (ℕ × ℕ)) (marks : ℕ) (es : List (Entry Op)) (b : Option Op) (new : Next) → After p l list m t points marks es → Knows m t b new → Goes list t points marks es b new m
-  follows list m t points marks es b new a = back (follows_at list t points marks es b new) a where
+  pub follows : StepsAreShown l → (list : List ℕ) (m : Processor) (t : Progress) (points : List (ℕ × ℕ)) (marks : ℕ) (es : List (Entry Op)) (b : Option Op) (new : Next) → After p l list m t points marks es → Knows m t b new → Goes list t points marks es b new m
+  follows shown list m t points marks es b new a = back (follows_at shown list t points marks es b new) a where
     Goal : Processor → Type 0
     Goal n = After p l list n t points marks es → Knows n t b new → Goes list t points marks es b new n
 

@@ -2,8 +2,11 @@
 
 ghost use Rattle.gh_world.specs.Runs.{EveryLegalListStands, EveryRunIsExplained, EveryRunIsOne, NoneIsLonger};
 
+use gh_base::Op;
+use gh_base::laws::{a_state_is_of_its_own_entries, packed_words_are_read_back};
 use gh_bitmap::laws::each_step_is_on_its_bits;
 use gh_central::laws::the_test_says_it;
+use gh_mutator::Processor;
 
 /// After every legal list of steps the words stand for the heap that never frees; each operation
 /// begun has acted once and in order, and was answered as that heap answers it where it acted, save
@@ -14,6 +17,8 @@ pub fn every_legal_list_stands()
 {
     each_step_is_on_its_bits();
     the_test_says_it();
+    packed_words_are_read_back();
+    a_state_is_of_its_own_entries::<Processor<'_>, Op>();
 }
 
 /// The answers of every whole run of a script are those of the heap that never frees, save `full`,
@@ -23,6 +28,8 @@ pub fn every_run_is_explained()
 {
     each_step_is_on_its_bits();
     the_test_says_it();
+    packed_words_are_read_back();
+    a_state_is_of_its_own_entries::<Processor<'_>, Op>();
 }
 
 /// With one processor a script has one run: what it finds in the words settles each step.

@@ -14,6 +14,7 @@ ghost use Rattle.gh_world.specs.Turns.{goroutine_at, next_point};
 ghost use Rattle.gh_world.specs.World.{counts_after, event_at, is_done, last_after, layout_of, marks_of, now_of, points_of, progress_of, script_of, stated_after, Advances, Appends, Begins, IsAfter, SoundWorld};
 
 use crate::turns::{Next, due, following, next_turn, total_of};
+use gh_base::laws::steps_are_shown;
 use gh_base::{Answer, Layout, Machine, Op};
 use gh_mutator::Mutator;
 use gh_script::Script;
@@ -132,6 +133,7 @@ impl<'s> World<'s> {
         ensures layout { layout_of self.new ≡ layout_of self.old }
     {
         let _ = actor;
+        steps_are_shown(&self.layout);
         self.begin_next();
         self.advance()
     }

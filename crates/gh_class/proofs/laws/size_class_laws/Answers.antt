@@ -1,9 +1,13 @@
-use Rattle.gh_class.proofs.Table.{slots_rise, slots_fit, slots_full, slot_of-words, slots_of-least, slots_of-greatest, IsClassOf-number, slot_words-bound, class_number-is, class_number_large, slot_words_hold}
+use Rattle.gh_class.proofs.Table.{slots_rise, slot_of-least, slot_of-greatest, pages_of-least, pages_of-greatest, slots_fit, slots_full, slot_of-words, slots_of-least, slots_of-greatest, IsClassOf-number, slot_words-bound, class_number-is, class_number_large, slot_words_small, slot_words_large, slot_words_hold}
 use Rattle.gh_class.proofs.laws.size_class_laws.Goals as goal
 
 pub returns : goal.returns
 returns c = record {
   rises = slots_rise;
+  least_slot = slot_of-least;
+  greatest_slot = slot_of-greatest;
+  some_page = pages_of-least;
+  few_pages = pages_of-greatest;
   fit = slots_fit;
   full = slots_full;
   whole_words = slot_of-words;
@@ -12,6 +16,8 @@ returns c = record {
   number = class_number-is;
   only = IsClassOf-number;
   large = class_number_large;
+  small_slot = slot_words_small;
+  large_slot = slot_words_large;
   holds = slot_words_hold;
   bounded = slot_words-bound;
 }

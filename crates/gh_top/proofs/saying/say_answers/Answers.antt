@@ -4,7 +4,7 @@ use Rattle.gh_top.proofs.saying.say_answers.Goals as goal
 
 pub returns-in_err-say_goroutine-clause-part : goal.returns-in_err-say_goroutine-clause-part
 returns-in_err-say_goroutine-clause-part g c =
-    on-err c.from_residual.result (told-part c.args.script.now c.loop-g.g _ c.args.answers.now _ _ _ (omega arith) c.loop-g.invariant.taken c.in_err-say_goroutine.ensures.part)
+    on-err c.from_residual.result (told-part c.parts_are_of_both.ensures.first c.parts_are_of_both.ensures.second c.args.script.now c.loop-g.g _ c.args.answers.now _ _ _ (omega arith) c.loop-g.invariant.taken c.in_err-say_goroutine.ensures.part)
 
 pub loop-g-preserved : goal.loop-g-preserved
 loop-g-preserved g c = record {

@@ -5,7 +5,7 @@ use Rattle.gh_top.proofs.saying.say_goroutine.Goals.{then-h-g+in_ok-say_answer, 
 
 pub returns-in_err-say_answer-clause-part : goal.returns-in_err-say_answer-clause-part
 returns-in_err-say_answer-clause-part g c =
-    on-err c.from_residual.result (said-part c.args.script.now c.args.g c.loop-h.h-index c.loop-h.n c.args.answers.now _ _ _ _ c.loop-h-test.true c.if-h-g.true c.loop-h.invariant.counted c.loop-h.invariant.taken c.in_err-say_answer.ensures.part)
+    on-err c.from_residual.result (said-part c.parts_are_of_both.ensures.first c.parts_are_of_both.ensures.second c.args.script.now c.args.g c.loop-h.h-index c.loop-h.n c.args.answers.now _ _ _ _ c.loop-h-test.true c.if-h-g.true c.loop-h.invariant.counted c.loop-h.invariant.taken c.in_err-say_answer.ensures.part)
 
 pub loop-h-preserved : goal.loop-h-preserved
 loop-h-preserved g c = elim c.if-h-g.branch [

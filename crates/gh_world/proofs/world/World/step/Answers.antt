@@ -11,7 +11,7 @@ pub advance-requires-clause-busy : goal.advance-requires-clause-busy
 advance-requires-clause-busy c = (ready_world c.args.self.now c.begin_next.new.self c.requires.sound c.requires.going c.begin_next.ensures).1
 
 pub returns-clause-appended : goal.returns-clause-appended
-returns-clause-appended c es after = appends c.args.self.now _ _ _ es _ c.requires.actor c.requires.sound c.requires.going c.begin_next.ensures c.advance.ensures after
+returns-clause-appended c es after = appends c.args.self.now _ _ _ es _ c.steps_are_shown.ensures c.requires.actor c.requires.sound c.requires.going c.begin_next.ensures c.advance.ensures after
 
 pub returns-clause-sound : goal.returns-clause-sound
 returns-clause-sound c =
