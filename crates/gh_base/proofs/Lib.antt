@@ -1,4 +1,7 @@
+pub mod Folding
+pub mod Holding
 pub mod Apart
 pub mod Own
 pub mod Packing
 pub mod Showing
+pub mod Writing

@@ -1,6 +1,9 @@
 pub mod Cells
+pub mod Holding
 pub mod Limits
 pub mod Lists
 pub mod Packing
+pub mod Routines
+pub mod Rows
 pub mod Shapes
 pub mod Steps

@@ -1,7 +1,8 @@
 -- The shapes of types.
-use Rattle.std.specs.Prelude.{ℕ, ◌/◌, ◌%◌, Bool, true, List, [], ◌==◌, slice_index, slice_index_or}
+use Rattle.std.specs.Prelude.{◌≡◌, ℕ, ◌/◌, ◌%◌, ◌<◌, ◌≤◌, ◌↔◌, Bool, true, false, List, [], ◌==◌, length, slice_index, slice_index_or}
 use Rattle.std.specs.Int.{bit_at}
 use Rattle.gh_base.specs.declared.shape.Shape.{Shape}
+use Rattle.gh_base.specs.declared.limits.TheConstants.{MOST_TYPE_WORDS}
 
 -- what stands where there is no type
 abbrev pub no_shape : Shape
@@ -18,3 +19,17 @@ bits_at shape i = slice_index shape.bits i
 -- the field is a pointer; words past the type's length are numbers
 abbrev pub is_pointer : Shape → ℕ → Bool
 is_pointer shape k = bit_at (bits_at shape (k / 64)) (k % 64) == 1
+
+-- a shape that a type may have
+pub record FitsShape (shape : Shape) : Type 0 where
+  -- it has 1 to 65,536 words
+  pub some_word : 1 ≤ shape.words
+  pub few_words : shape.words ≤ MOST_TYPE_WORDS
+  -- no field from its length on is a pointer
+  pub none_beyond : (k : ℕ) → shape.words ≤ k → is_pointer shape k ≡ false
+  -- it is noscan exactly where no field is a pointer
+  pub noscan : (shape.noscan ≡ true) ↔ ((k : ℕ) → is_pointer shape k ≡ false)
+
+-- each of these types has such a shape
+abbrev pub ShapesFit : List Shape → Type 0
+ShapesFit shapes = (t : ℕ) → t < length shapes → FitsShape (shape_at shapes t)

@@ -4,6 +4,9 @@
 //! Code and definitions name a word by its [`Cell`]. Its number in the list of all words is the
 //! layout's affair (`Layout::word`), so what is said of one row never speaks of another.
 
+ghost use Rattle.std.specs.Prelude.{◌≡◌};
+ghost use Rattle.gh_base.specs.Steps.{leaves, target};
+
 /// A word of the heap.
 #[derive(Clone, Copy, Debug, PartialEq, Eq)]
 pub enum Cell {
@@ -93,4 +96,34 @@ pub enum Req {
     Add(u32, u64),
     /// Writes the second number exactly where the word is the first.
     Swap(u32, u64, u64),
+}
+
+impl Req {
+    /// The number of the word that it is on.
+    pub fn word(self) -> u32
+        ensures { result ≡ target self }
+    {
+        match self {
+            Req::Load(word)
+            | Req::Store(word, _)
+            | Req::Or(word, _)
+            | Req::And(word, _)
+            | Req::Add(word, _)
+            | Req::Swap(word, _, _) => word,
+        }
+    }
+
+    /// What it leaves where it finds this.
+    pub fn left(self, found: u64) -> u64
+        ensures { result ≡ leaves self found }
+    {
+        match self {
+            Req::Load(_) => found,
+            Req::Store(_, value) => value,
+            Req::Or(_, bits) => found | bits,
+            Req::And(_, bits) => found & bits,
+            Req::Add(_, more) => found.wrapping_add(more),
+            Req::Swap(_, old, new) => { if found == old { new } else { found } }
+        }
+    }
 }

@@ -3,8 +3,11 @@
 ghost use Rattle.std.specs.Prelude.{◌≡◌, List, ℕ};
 ghost use Rattle.gh_base.specs.declared.machine.Entry.{Entry};
 ghost use Rattle.gh_base.specs.Cells.{WordsAreApart, WordsAreBelow};
+ghost use Rattle.gh_base.specs.Holding.{BuffersAreHeld};
 ghost use Rattle.gh_base.specs.Lists.{by, Kind, state_of};
 ghost use Rattle.gh_base.specs.Packing.{PackedWordsAreReadBack};
+ghost use Rattle.gh_base.specs.Routines.{IsFolded, Listing};
+ghost use Rattle.gh_base.specs.Rows.{CellsAreTold, RowsAreWritten};
 ghost use Rattle.gh_base.specs.Steps.{ChangesOneCell, StepsAreShown};
 
 use crate::layout::Layout;
@@ -26,8 +29,8 @@ pub fn a_step_changes_one_cell()
     ensures { ChangesOneCell }
 {}
 
-/// What a page word says is read back from it, where each number fits its bits, and so is the name in
-/// a birth word, where there is such a goroutine and it made fewer than 2^32 objects.
+/// What a packed word says is read back from it, where each number fits its bits; of a birth word, where
+/// there is such a goroutine and it made fewer than 2^32 objects. And what is read of a page word fits.
 pub fn packed_words_are_read_back()
     ensures { PackedWordsAreReadBack }
 {}
@@ -35,4 +38,27 @@ pub fn packed_words_are_read_back()
 /// An actor's state after a list depends on its own entries alone.
 pub fn a_state_is_of_its_own_entries<M, O>()
     ensures { (k : Kind M O) (a : ℕ) (es : List (Entry O)) → state_of k a es ≡ state_of k a (by a es) }
+{}
+
+/// The steps of a routine are those of its first few, and then those of the routine after them.
+pub fn steps_are_folded<M, Out>()
+    ensures { (r : Listing M Out) → IsFolded r }
+{}
+
+/// A write in a row leaves its word as it says and every other word as it is, and so with bits.
+pub fn rows_are_written()
+    ensures { RowsAreWritten }
+{}
+
+/// Cells are told apart, and a write is on one of them.
+pub fn cells_are_told()
+    ensures { CellsAreTold }
+{}
+
+/// What is held of grey work buffers is kept. A step of a seat that loads, gives its buffer back, takes one
+/// that nobody holds, takes an entry out of its own or puts one in, or sets mark bits, is a move that the
+/// seat may make; and a move that a seat may make keeps the counts of all buffers and what every other seat
+/// holds.
+pub fn buffers_are_held()
+    ensures { BuffersAreHeld }
 {}

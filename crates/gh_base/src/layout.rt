@@ -166,61 +166,61 @@ impl Layout {
         }
     }
 
-    fn alloc_row(&self) -> u32
+    pub(crate) fn alloc_row(&self) -> u32
         ensures { result ≡ alloc_row self.now }
     {
         15 + self.pages
     }
 
-    fn mark_row(&self) -> u32
+    pub(crate) fn mark_row(&self) -> u32
         ensures { result ≡ mark_row self.now }
     {
         self.alloc_row() + 16 * self.pages
     }
 
-    fn bitmap_row(&self) -> u32
+    pub(crate) fn bitmap_row(&self) -> u32
         ensures { result ≡ bitmap_row self.now }
     {
         self.mark_row() + 16 * self.pages
     }
 
-    fn birth_row(&self) -> u32
+    pub(crate) fn birth_row(&self) -> u32
         ensures { result ≡ birth_row self.now }
     {
         self.bitmap_row() + 16 * self.pages
     }
 
-    fn field_row(&self) -> u32
+    pub(crate) fn field_row(&self) -> u32
         ensures { result ≡ field_row self.now }
     {
         self.birth_row() + 1024 * self.pages
     }
 
-    fn global_row(&self) -> u32
+    pub(crate) fn global_row(&self) -> u32
         ensures { result ≡ global_row self.now }
     {
         self.field_row() + 1024 * self.pages
     }
 
-    fn buffer_row(&self) -> u32
+    pub(crate) fn buffer_row(&self) -> u32
         ensures { result ≡ buffer_row self.now }
     {
         self.global_row() + self.globals
     }
 
-    fn entry_row(&self) -> u32
+    pub(crate) fn entry_row(&self) -> u32
         ensures { result ≡ entry_row self.now }
     {
         self.buffer_row() + self.buffers()
     }
 
-    fn ack_row(&self) -> u32
+    pub(crate) fn ack_row(&self) -> u32
         ensures { result ≡ ack_row self.now }
     {
         self.entry_row() + 253 * self.buffers()
     }
 
-    fn scanned_row(&self) -> u32
+    pub(crate) fn scanned_row(&self) -> u32
         ensures { result ≡ scanned_row self.now }
     {
         self.ack_row() + self.procs + self.workers

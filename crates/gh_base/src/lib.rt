@@ -13,6 +13,7 @@
 #![tactic(auto)]
 
 mod cell;
+mod held;
 pub mod laws;
 mod layout;
 pub mod limits;
@@ -22,15 +23,17 @@ mod pack;
 mod shape;
 #[cfg(test)]
 mod tests;
+pub mod trace;
 mod value;
 
 pub use cell::{Ask, Cell, Req};
+pub use held::Held;
 pub use layout::{Layout, LayoutFault};
 pub use machine::{Entry, Machine};
 pub use operation::Op;
 pub use pack::{
-    BufferWord, CLASSES, END, ENTRIES, GONE, LARGE, PageWord, Phase, PhaseWord, SpanBody, SpanHead,
-    TallyWord, read_slack,
+    BufferWord, END, ENTRIES, GONE, PageWord, Phase, PhaseWord, SpanBody, SpanHead, TallyWord,
+    read_slack,
 };
 pub use shape::{Bits, Shape, Shapes};
 pub use value::{Answer, Fault, Name, Value};

@@ -12,3 +12,9 @@ pub const MOST_PROCS: u32 = 8;
 pub const MOST_WORKERS: u32 = 4;
 /// The most goroutines; there is at least one.
 pub const MOST_GOROUTINES: u32 = 32;
+/// The registers of a goroutine.
+pub const REGISTERS: u32 = 16;
+/// The most words of a type, which has one at least.
+pub const MOST_TYPE_WORDS: u32 = 65_536;
+/// The most statements of a script, and so the most objects that a goroutine makes.
+pub const MOST_STATEMENTS: u32 = 200_000;

@@ -5,14 +5,14 @@
 //! may. So a machine needs no case for words that never are.
 
 ghost use Rattle.std.specs.Prelude.{◌≡◌, ◌+◌, ◌<◌, ◌^◌, max};
-ghost use Rattle.gh_base.specs.Packing.{birth_word, buffer_of, buffer_word, class_in, FitsBuffer, FitsPage, FitsPhase, name_of, page_class, page_noscan, page_of, page_pages, page_word, phase_of, phase_word, tally_of, tally_word};
+ghost use Rattle.gh_base.specs.Packing.{birth_word, buffer_of, buffer_word, class_bits, class_in, FitsBuffer, FitsPage, FitsPhase, name_of, page_class, page_noscan, page_of, page_pages, page_word, phase_of, phase_word, slot_in, tally_of, tally_word};
+ghost use Rattle.gh_class.specs.Classes.{IsSizeClass};
 
 use crate::value::Name;
+use gh_class::{Class, SizeClass};
 
-/// How many size classes of small objects there are: 0 to 24.
-pub const CLASSES: u32 = 25;
-/// The class of a span that holds one large object.
-pub const LARGE: u32 = 31;
+/// What stands for a large object in the place of a size class's number.
+const LARGE: u32 = 31;
 /// The entries of a grey work buffer.
 pub const ENTRIES: u32 = 253;
 /// What a machine that is done acknowledges.
@@ -23,8 +23,8 @@ pub const END: u64 = u64::MAX;
 /// The first page of a span.
 #[derive(Clone, Copy, Debug, PartialEq, Eq)]
 pub struct SpanHead {
-    /// The size class, below [`CLASSES`], or [`LARGE`].
-    pub class: u32,
+    /// The size class of its objects.
+    pub class: SizeClass,
     /// That its objects have no pointer fields.
     pub noscan: bool,
     /// Its pages, 1 to 8191.
@@ -39,8 +39,8 @@ pub struct SpanHead {
 /// A further page of a span.
 #[derive(Clone, Copy, Debug, PartialEq, Eq)]
 pub struct SpanBody {
-    /// The span's size class.
-    pub class: u32,
+    /// The size class of the span's objects.
+    pub class: SizeClass,
     /// That the span's objects have no pointer fields.
     pub noscan: bool,
     /// How many pages the head lies before it, 1 to 8191.
@@ -58,15 +58,28 @@ pub enum PageWord {
     Body(SpanBody),
 }
 
-/// The size class in a page word. One that there is not is read as 0.
-fn read_class(word: u64) -> u32
-    ensures { result ≡ class_in word }
+/// The number of a size class in a page word.
+fn class_number(class: SizeClass) -> u32
+    ensures { result ≡ class_bits class }
 {
-    let class = ((word >> 2) & 63) as u32;
-    if class < CLASSES || class == LARGE {
-        class
-    } else {
-        0
+    match class {
+        SizeClass::Small(class) => class.number(),
+        SizeClass::Large => LARGE,
+    }
+}
+
+/// The size class in a page word. One that there is not is read as the first.
+fn read_class(word: u64) -> SizeClass
+    ensures is { result ≡ class_in word }
+    ensures among { IsSizeClass result }
+{
+    let number = ((word >> 2) & 63) as u32;
+    if number == LARGE {
+        return SizeClass::Large;
+    }
+    match Class::from_number(number) {
+        Some(class) => SizeClass::Small(class),
+        None => SizeClass::Small(Class::FIRST),
     }
 }
 
@@ -82,14 +95,14 @@ impl PageWord {
         match self {
             PageWord::Free => 0,
             PageWord::Head(head) => {
-                1 + (u64::from(head.class) << 2)
+                1 + (u64::from(class_number(head.class)) << 2)
                     + (u64::from(head.noscan) << 8)
                     + (u64::from(head.pages) << 9)
                     + (u64::from(head.owner) << 22)
                     + (head.number << 30)
             }
             PageWord::Body(body) => {
-                2 + (u64::from(body.class) << 2)
+                2 + (u64::from(class_number(body.class)) << 2)
                     + (u64::from(body.noscan) << 8)
                     + (u64::from(body.distance) << 9)
             }
@@ -122,12 +135,12 @@ impl PageWord {
         }
     }
 
-    /// The class of the span that the page is in; of a free page 0.
-    pub fn class(&self) -> u32
+    /// The size class of the span that the page is in; of a free page the first.
+    pub fn class(&self) -> SizeClass
         ensures { result ≡ page_class self.now }
     {
         match self {
-            PageWord::Free => 0,
+            PageWord::Free => SizeClass::Small(Class::FIRST),
             PageWord::Head(head) => head.class,
             PageWord::Body(body) => body.class,
         }
@@ -151,6 +164,18 @@ impl PageWord {
         match self {
             PageWord::Head(head) => head.pages,
             _ => 1,
+        }
+    }
+
+    /// The words of the slot of an object whose first word is in such a page: those of its class's
+    /// slots, or of the whole span.
+    pub fn slot_words(&self) -> u32
+        requires { FitsPage self.now }
+        ensures { result ≡ slot_in self.now }
+    {
+        match self.class() {
+            SizeClass::Small(class) => class.slot_words(),
+            SizeClass::Large => 1024 * self.pages(),
         }
     }
 }

@@ -20,14 +20,15 @@ impl Model for Bits {
     ghost view = { λ b. b.words.items };
 }
 
-/// A type's shape.
+/// A type's shape. `FitsShape` of specs/Shapes.antt states what is said here of its fields; who makes a list of shapes shows
+/// `ShapesFit` of it.
 #[derive(Debug, Drop)]
 pub struct Shape {
     /// Its length in words, 1 to 65,536.
     pub words: u32,
-    /// That it has no pointer field.
+    /// That it has no pointer field: true exactly where no bit is set.
     pub noscan: bool,
-    /// Its pointer fields. Words that are not there are 0.
+    /// Its pointer fields. No bit is set from the length on; words that are not there are 0.
     pub bits: Bits,
 }
 

@@ -3,6 +3,7 @@
 ghost use Rattle.std.specs.Prelude.{◌≡◌, true};
 
 use super::*;
+use gh_class::{Class, SizeClass};
 use std::test::Fail;
 
 #[test]
@@ -60,46 +61,43 @@ fn a_layout_is_refused_outside_its_limits(rt: HostRuntime) {
 }
 
 #[test]
-fn page_words(rt: HostRuntime) {
-    let head = SpanHead {
-        class: 3,
+fn page_words(rt: HostRuntime) -> Result<(), Fail> {
+    let class = Class::from_number(3).ok_or("no class")?;
+    let free = PageWord::Free;
+    let head = PageWord::Head(SpanHead {
+        class: SizeClass::Small(class),
         noscan: true,
         pages: 1,
         owner: 2,
         number: 2,
-    };
-    let body = SpanBody {
-        class: 31,
+    });
+    let body = PageWord::Body(SpanBody {
+        class: SizeClass::Large,
         noscan: false,
         distance: 3,
-    };
-    assert_eq!(rt; PageWord::Free.pack(), 0);
-    assert_eq!(rt; PageWord::Head(head).pack(), 2155873037);
-    assert_eq!(rt; PageWord::Body(body).pack(), 1662);
-    let least = SpanHead {
-        class: 0,
+    });
+    let least = PageWord::Head(SpanHead {
+        class: SizeClass::Small(Class::FIRST),
         noscan: false,
         pages: 1,
         owner: 0,
         number: 0,
-    };
+    });
+    assert_eq!(rt; free.pack(), 0);
+    assert_eq!(rt; head.pack(), 2155873037);
+    assert_eq!(rt; body.pack(), 1662);
     for (word, says) in [
-        (0, PageWord::Free),
-        (2155873037, PageWord::Head(head)),
-        (1662, PageWord::Body(body)),
-        (3, PageWord::Free),
-        (4 * 26 + 1, PageWord::Head(least)),
+        (0, &free),
+        (2155873037, &head),
+        (1662, &body),
+        (3, &free),
+        (4 * 26 + 1, &least),
     ] {
-        assert_eq!(rt; PageWord::unpack(word), says, "{word}");
+        assert!(rt; PageWord::unpack(word) == *says, "{word}");
     }
-    assert_eq!(rt;
-        (PageWord::Body(body).class(), PageWord::Head(head).noscan()),
-        (31, true)
-    );
-    assert_eq!(rt;
-        (PageWord::Head(head).pages(), PageWord::Free.pages()),
-        (1, 1)
-    );
+    assert_eq!(rt; (body.class(), head.noscan()), (SizeClass::Large, true));
+    assert_eq!(rt; (head.pages(), free.pages()), (1, 1));
+    Ok(())
 }
 
 #[test]
@@ -194,5 +192,34 @@ fn a_machine_runs(rt: HostRuntime) -> Result<(), Fail> {
         over: false,
     };
     assert_eq!(rt; only_step(&mut look, 5), (Req::Load(0), Some(5)));
+    Ok(())
+}
+
+#[test]
+fn steps_are_lines(rt: HostRuntime) -> Result<(), Fail> {
+    let layout = Layout::new(16, 1, 1, 1, 1)?;
+    let mut look = Look {
+        layout,
+        over: false,
+    };
+    let mut words = vec![in rt.alloc(); 5u64; 20]?;
+    let steps = trace::run_alone(rt.alloc(), &mut look, &layout, &mut words, 9)?;
+    assert_eq!(rt; steps.out, Some(5));
+    assert_eq!(rt; steps.lines.len(), 1);
+    assert_eq!(rt; steps.lines[0].as_str(), "load touch: 5");
+    for (request, line) in [
+        (Req::Load(18), "load page 3: 5"),
+        (Req::Store(18, 8), "store page 3 8: 5"),
+        (Req::Or(5, 3), "or lock 3: 5"),
+        (Req::And(31, 1), "and alloc 0 1: 0"),
+        (Req::Add(9, 16), "add heap 16: 5"),
+        (Req::Swap(16, 5, 6), "swap page 1 5 6: 5"),
+    ] {
+        let found = trace::step(&mut words, request);
+        let told = trace::line(rt.alloc(), &layout, request, found)?;
+        assert_eq!(rt; told.as_str(), line);
+    }
+    assert!(rt; words.len() > 9);
+    assert_eq!(rt; words[9], 21);
     Ok(())
 }

@@ -4,7 +4,8 @@ use Rattle.std.proofs.lemmas.Bool.{cases_lt, ltb-true, ltb-false, leb-true, leb-
 use Rattle.std.proofs.lemmas.List.Sums.{fails_before_first, passes_at_first}
 use Rattle.std.proofs.lemmas.List.Quantifiers.{position-Some}
 use Rattle.std.specs.List.{position_or_len}
-use Rattle.gh_class.specs.Classes.{slot_sizes, page_counts, slot_of, pages_of, slots_of, IsClassOf, class_number, large_pages, slot_words}
+use Rattle.gh_class.specs.Classes.{slot_sizes, page_counts, slot_of, pages_of, slots_of, IsClassOf, class_number, large_pages, size_class_of, slot_words}
+use Rattle.gh_class.specs.declared.class.SizeClass.TheVariants.{Small, Large}
 
 -- ---- a test of each number below another
 
@@ -124,16 +125,19 @@ slots_of-greatest c h =
 first_class : ℕ → ℕ
 first_class bytes = position_or_len (λ slot. nat_le bytes slot) slot_sizes
 
-class_number_small : (bytes : ℕ) → bytes ≤ 32768 → class_number bytes ≡ first_class bytes
+is_first_class : (bytes : ℕ) → class_number bytes ≡ first_class bytes
 unfolding class_number first_class
-class_number_small bytes h =
-    let test : nat_le bytes 32768 ≡ true = le-leb bytes 32768 h in
+is_first_class bytes = refl
+
+-- a small object's class is one of the table's, and a large one's is not
+pub size_class_small : (words : ℕ) → 8 * words ≤ 32768 → size_class_of words ≡ Small (class_number (8 * words))
+size_class_small words h =
+    let test : nat_le (8 * words) 32768 ≡ true = le-leb (8 * words) 32768 h in
     rw test refl
 
-pub class_number_large : (bytes : ℕ) → 32768 < bytes → class_number bytes ≡ 31
-unfolding class_number
-class_number_large bytes h =
-    let test : nat_le bytes 32768 ≡ false = lt-leb bytes 32768 h in
+pub size_class_large : (words : ℕ) → 32768 < 8 * words → size_class_of words ≡ Large
+size_class_large words h =
+    let test : nat_le (8 * words) 32768 ≡ false = lt-leb (8 * words) 32768 h in
     rw test refl
 
 too_small : (bytes d : ℕ) → d < first_class bytes → slot_of d < bytes
@@ -158,7 +162,7 @@ first_class-is bytes h =
     record { among = small; holds = large_enough bytes small; least = too_small bytes }
 
 pub class_number-is : (bytes : ℕ) → bytes ≤ 32768 → IsClassOf bytes (class_number bytes)
-class_number-is bytes h = rw (class_number_small bytes h) (first_class-is bytes h)
+class_number-is bytes h = rw (is_first_class bytes) (first_class-is bytes h)
 
 -- an object has one class
 pub IsClassOf-unique : (bytes c d : ℕ) → IsClassOf bytes c → IsClassOf bytes d → c ≡ d

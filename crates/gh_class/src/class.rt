@@ -1,11 +1,13 @@
 //! The table, and the class and the slot of an object.
 ghost use Rattle.std.specs.Prelude.{◌≡◌, ◌+◌, ◌*◌, ◌-◌, ◌<◌, ◌≤◌, ◌↔◌, IfSome, IsNone, SomeIff, nat_le, position};
-ghost use Rattle.gh_class.specs.Classes.{slot_sizes, slot_of, pages_of, slots_of, IsClassOf, class_number, large_pages, slot_words};
+ghost use Rattle.gh_class.specs.Classes.{slot_sizes, slot_of, slot_words_of, pages_of, slots_of, span_index, IsClassOf, IsSizeClass, class_number, large_pages, size_class_of, slot_words};
 
 use std::marker::Model;
 
 /// How many size classes there are. Their numbers are 0 to 24.
 pub const CLASSES: u32 = 25;
+/// How many span classes there are: two to a size class.
+pub const SPAN_CLASSES: u32 = 2 * CLASSES;
 
 // The bytes of a slot, by class.
 const SLOT_BYTES: [u32; 25] = [
@@ -42,6 +44,9 @@ impl Model for Class {
 }
 
 impl Class {
+    /// The class of the smallest slots.
+    pub const FIRST: Class = Class { number: 0 };
+
     /// The class of this number; `None` exactly from 25 on.
     pub fn from_number(number: u32) -> Option<Self>
         ensures { SomeIff result (number < 25) number }
@@ -73,6 +78,15 @@ impl Class {
         SLOT_BYTES[self.number as usize]
     }
 
+    /// The words of a slot, 1 to 4096, each of 8 bytes.
+    pub fn slot_words(&self) -> u32
+        ensures value { result ≡ slot_words_of self.now }
+        ensures range { (1 ≤ result) × (result ≤ 4096) }
+        ensures among { self.now < 25 }
+    {
+        self.slot_bytes() / 8
+    }
+
     /// The pages of a span, 1 to 4, each of 8192 bytes.
     #[tactic(auto, unfolding(crate::specs::Classes::pages_of, crate::specs::Classes::page_counts))]
     pub fn pages(&self) -> u32
@@ -90,6 +104,48 @@ impl Class {
         ensures among { self.now < 25 }
     {
         PAGE_BYTES * self.pages() / self.slot_bytes()
+    }
+}
+
+/// The size class of an object: one of the table's, or none of them.
+#[derive(Clone, Copy, PartialEq, Eq, Debug)]
+pub enum SizeClass {
+    /// An object of at most 32,768 bytes, in a slot of this class.
+    Small(Class),
+    /// A larger object, in a span of its own.
+    Large,
+}
+
+impl SizeClass {
+    /// The size class of an object of so many words, each of 8 bytes.
+    pub fn of_words(words: u32) -> SizeClass
+        requires { words ≤ 65536 }
+        ensures is { result ≡ size_class_of words }
+        ensures among { IsSizeClass result }
+    {
+        match class_of(8 * words) {
+            Some(class) => SizeClass::Small(class),
+            None => SizeClass::Large,
+        }
+    }
+}
+
+/// A span class (Go's `spanClass`, in mheap.go): what the objects are that a span's slots are for.
+#[derive(Clone, Copy, PartialEq, Eq, Debug)]
+pub struct SpanClass {
+    /// Their size class.
+    pub class: Class,
+    /// That they have no pointer fields.
+    pub noscan: bool,
+}
+
+impl SpanClass {
+    /// Its number, 0 to 49: twice that of the size class, and 1 more for noscan.
+    pub fn index(&self) -> u32
+        ensures value { result ≡ span_index self.now }
+        ensures below { result < 50 }
+    {
+        2 * self.class.number() + u32::from(self.noscan)
     }
 }
 

@@ -1,6 +1,7 @@
 //! What holds of the whole table.
 ghost use Rattle.std.specs.Prelude.{◌≡◌, ℕ, ◌+◌, ◌*◌, ◌/◌, ◌%◌, ◌<◌, ◌≤◌};
-ghost use Rattle.gh_class.specs.Classes.{slot_of, pages_of, slots_of, IsClassOf, class_number, large_pages, slot_words};
+ghost use Rattle.gh_class.specs.Classes.{slot_of, pages_of, slots_of, IsClassOf, class_number, large_pages, size_class_of, slot_words};
+ghost use Rattle.gh_class.specs.declared.class.SizeClass.TheVariants.{Small, Large};
 
 /// The laws of the table. The call does nothing: its contract is what a proof wants of it.
 pub fn size_class_laws()
@@ -20,7 +21,9 @@ pub fn size_class_laws()
     // The number that computes is that of the class, and an object has no other class.
     ensures number { (bytes : ℕ) → bytes ≤ 32768 → IsClassOf bytes (class_number bytes) }
     ensures only { (bytes c : ℕ) → IsClassOf bytes c → c ≡ class_number bytes }
-    ensures large { (bytes : ℕ) → 32768 < bytes → class_number bytes ≡ 31 }
+    // An object is small exactly where its bytes fit the largest slot, and its class is then that of the table.
+    ensures small { (words : ℕ) → 8 * words ≤ 32768 → size_class_of words ≡ Small (class_number (8 * words)) }
+    ensures large { (words : ℕ) → 32768 < 8 * words → size_class_of words ≡ Large }
     // The slot of a small object is that of its class, and a large one's slot is whole pages.
     ensures small_slot { (words : ℕ) → 8 * words ≤ 32768 → slot_words words ≡ slot_of (class_number (8 * words)) / 8 }
     ensures large_slot { (words : ℕ) → 32768 < 8 * words → slot_words words ≡ 1024 * large_pages words }

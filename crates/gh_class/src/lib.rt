@@ -12,5 +12,7 @@ mod laws;
 #[cfg(test)]
 mod tests;
 
-pub use class::{CLASSES, Class, class_of, large_pages, slot_words};
+pub use class::{
+    CLASSES, Class, SPAN_CLASSES, SizeClass, SpanClass, class_of, large_pages, slot_words,
+};
 pub use laws::size_class_laws;

@@ -2,7 +2,7 @@
 
 ghost use Rattle.std.specs.Prelude.{◌≡◌, ◌<◌, IfOk, length, slice_index};
 ghost use Rattle.gh_base.specs.Cells.{length_of, opening_words, Shows};
-ghost use Rattle.gh_base.specs.Steps.{changed, leaves, target};
+ghost use Rattle.gh_base.specs.Steps.{changed, target};
 
 use gh_base::{Cell, Layout, Req};
 use std::alloc::{AllocError, Global};
@@ -55,38 +55,10 @@ impl Words for Plain {
     ghost list = { λ p. p };
 
     fn step(&mut self, request: Req) -> u64 {
-        let at = number_of(request) as usize;
+        let at = request.word() as usize;
         let found = self.words[at];
-        self.words[at] = left_by(request, found);
+        self.words[at] = request.left(found);
         found
-    }
-}
-
-/// The number of the word that a request is on.
-fn number_of(request: Req) -> u32
-    ensures { result ≡ target request }
-{
-    match request {
-        Req::Load(word)
-        | Req::Store(word, _)
-        | Req::Or(word, _)
-        | Req::And(word, _)
-        | Req::Add(word, _)
-        | Req::Swap(word, _, _) => word,
-    }
-}
-
-/// What a request leaves where it finds this.
-fn left_by(request: Req, found: u64) -> u64
-    ensures { result ≡ leaves request found }
-{
-    match request {
-        Req::Load(_) => found,
-        Req::Store(_, value) => value,
-        Req::Or(_, bits) => found | bits,
-        Req::And(_, bits) => found & bits,
-        Req::Add(_, more) => found.wrapping_add(more),
-        Req::Swap(_, old, new) => { if found == old { new } else { found } }
     }
 }
 
@@ -135,7 +107,7 @@ mod tests {
             (Req::Load(6), 0),
             (Req::Load(8), 0),
         ] {
-            assert!(rt; (number_of(request) as usize) < words.words.len());
+            assert!(rt; (request.word() as usize) < words.words.len());
             assert_eq!(rt; step_on(&mut words, request), found, "{request:?}");
         }
         Ok(())
