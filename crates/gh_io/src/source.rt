@@ -32,7 +32,8 @@ pub trait Source {
     ghost faults: { Self → ℕ };
 
     /// Puts the next bytes at the front of `buf`, and answers how many. 0 on a buffer that is not
-    /// empty is the end. `Failed` comes only where the count of faults rose.
+    /// empty is the end. `Failed` comes only where the count of faults rose, and a count only rises with
+    /// it.
     fn read(&mut self, buf: &mut [u8]) -> Result<usize, Failed>
         ensures count { IfOk result (λ n. n ≤ length buf.old) }
         // The bytes are the next of those that were left.
@@ -40,6 +41,7 @@ pub trait Source {
         ensures end { IfOk result (λ n. n ≡ 0 → 0 < length buf.old → IsAtEnd (left self.new)) }
         ensures kept { OnErr result (left self.new ≡ left self.old) }
         ensures failed { OnErr result (Rose (faults self.old) (faults self.new)) }
+        ensures no_fault { OnOk result (faults self.new ≡ faults self.old) }
         ensures never_falls { faults self.old ≤ faults self.new };
 }
 
@@ -56,6 +58,7 @@ pub fn read_up_to<S: Source>(alloc: Global, src: &mut S, limit: usize) -> Result
     ensures rest { IfOk result (λ bytes. Consumes (S.left src.old) (S.left src.new) bytes.items) }
     ensures end { IfOk result (λ bytes. vec_len bytes < limit → IsAtEnd (S.left src.new)) }
     ensures failed { result ≡ Err ReadError.Failed → Rose (S.faults src.old) (S.faults src.new) }
+    ensures no_fault { ¬ (result ≡ Err ReadError.Failed) → S.faults src.new ≡ S.faults src.old }
     ensures never_falls { S.faults src.old ≤ S.faults src.new }
 {
     let mut bytes = Vec::new(alloc);
@@ -77,6 +80,7 @@ fn read_chunk<S: Source>(src: &mut S, bytes: &mut Vec<u8>, limit: usize) -> Resu
         (appended_bytes bytes.old.items bytes.new.items)) }
     ensures end { IfOk result (λ n. n ≡ 0 → IsAtEnd (S.left src.new)) }
     ensures failed { result ≡ Err ReadError.Failed → Rose (S.faults src.old) (S.faults src.new) }
+    ensures no_fault { ¬ (result ≡ Err ReadError.Failed) → S.faults src.new ≡ S.faults src.old }
     ensures never_falls { S.faults src.old ≤ S.faults src.new }
 {
     let mut chunk = [0u8; CHUNK];

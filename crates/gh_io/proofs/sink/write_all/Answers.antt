@@ -6,6 +6,6 @@ pub loop-at-preserved : goal.loop-at-preserved
 loop-at-preserved g c = record {
   within = search rules;
   taken = Appends-rest _ _ _ _ _ _ (search rules) c.loop-at.invariant.taken c.in_ok-at.ensures.next;
-  never_falls = search rules;
+  no_fault = search rules;
   empty = search rules;
 }

@@ -6,7 +6,7 @@ abbrev pub invariant-loop-at : goal.invariant-loop-at
 invariant-loop-at g l = record {
   within : l.at ≤ length l.piece;
   taken : Appends (g.K.Sink.taken l.initial.sink) (g.K.Sink.taken l.sink) (take l.at l.piece);
-  never_falls : g.K.Sink.faults l.initial.sink ≤ g.K.Sink.faults l.sink;
+  no_fault : g.K.Sink.faults l.sink ≡ g.K.Sink.faults l.initial.sink;
   empty : l.piece ≡ [] → l.sink ≡ l.initial.sink;
 }
 

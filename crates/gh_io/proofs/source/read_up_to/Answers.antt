@@ -6,5 +6,5 @@ pub loop-src-preserved : goal.loop-src-preserved
 loop-src-preserved g c = record {
   within = search rules;
   consumed = Consumes-grown _ _ _ _ _ c.loop-src.invariant.consumed c.in_ok-read_chunk.ensures.appends c.in_ok-read_chunk.ensures.next;
-  never_falls = search rules;
+  no_fault = search rules;
 }
