@@ -5,25 +5,28 @@ use Rattle.std.proofs.lemmas.Bool.{cases_lt}
 use Rattle.gh_tri.specs.declared.Colour.TheVariants.{White, Grey, Black}
 use Rattle.gh_tri.specs.declared.Move.{Move}
 use Rattle.gh_tri.specs.declared.Move.TheVariants.{Load, ReadOld, Shade, Store, ScanField, Blacken, Allocate, ScanRegister}
-use Rattle.gh_tri.specs.Tricolour.{Tricolour, put, put_row, shaded, moved, May, MayLoad, MayStore, MayAllocate, IsMarked, IsBlackStack}
-use Rattle.gh_tri.specs.Invariants.{Invariants, IsOpening, IsMarkingDone, IsReached, globals, held, field, after, EachMay, EveryMoveKeepsTheInvariants, NoWhiteObjectIsReached}
+use Rattle.gh_tri.specs.Tricolour.{Tricolour, put, put_row, shaded, moved, MayLoad, MayStore, MayAllocate, IsMarked, IsGreyStack, IsBlackStack}
+use Rattle.gh_tri.specs.Invariants.{HasScanLeft, Invariants, IsMarkingDone, IsReached, globals, held, field, after, EachMay, KeepsTheInvariants, Opens, MarkedWhatIsReached, EveryMoveKeepsTheInvariants, NoWhiteObjectIsReached}
+use Rattle.gh_tri.specs.Changes.{Drop, Copy, MayCopy, changed, ChangesKeepTheInvariants}
 use Rattle.gh_tri.proofs.Tells.{differ, put-tells, shaded-named, marked-tells}
 use Rattle.gh_tri.proofs.Protecting.{IsSafe, safe-field, none-protected}
-use Rattle.gh_tri.proofs.Steps.{one-colour, keeps-register, keeps-read, keeps-shaded, keeps-value, keeps-scanned, keeps-black, keeps-made, keeps-seen}
+use Rattle.gh_tri.proofs.Steps.{keeps-register, keeps-read, keeps-shaded, keeps-value, keeps-scanned, keeps-black, keeps-made, keeps-seen}
 
 -- what a stack that is black can load from is marked or protected
 held-safe : (p : Tricolour) (s o : ℕ) → Invariants p → IsBlackStack p s → (o ≡ 0) ⊎ ((r : ℕ) × (r < 16) × (p.register s r ≡ Some o)) → IsSafe p o
-held-safe p s o i dark (inl e) = inl (subst (IsMarked p) (sym e) i.one_grey_place.globals)
+held-safe p s o i dark (inl e) = inl (subst (IsMarked p) (sym e) i.marked_objects.globals)
 held-safe p s o i dark (inr h) = i.black_stacks.black s h.0 o dark h.1 h.2
+
+-- between its scans a stack has no register that is scanned while another is not
+between-scans : (p : Tricolour) (s r : ℕ) → r < 16 → IsGreyStack p s ⊎ IsBlackStack p s → HasScanLeft p s → p.seen s r ≡ true → ⊥
+between-scans p s r within (inl grey) left seen = differ seen (grey r within)
+between-scans p s r within (inr dark) left seen = differ (dark left.0 left.1) left.2
 
 keeps-load : (p : Tricolour) (s r o f : ℕ) → Invariants p → MayLoad p s r o f → Invariants (moved p (Load s r o f))
 keeps-load p s r o f i may =
-    keeps-register p s r (p.value o f) i (i.one_grey_place.fields o f)
+    keeps-register p s r (p.value o f) i (i.unmade_objects.fields o f)
     (λ dark w e. safe-field p i o f w (held-safe p s o i dark may.held) (record { within = may.from.within; holds = e }))
-    (λ left seen. absurd (elim may.scan [
-      | inl grey ↦ differ seen (grey r may.into.within)
-      | inr dark ↦ differ (dark left.0 left.1) left.2
-    ]))
+    (λ left seen. absurd (between-scans p s r may.into.within may.scan left seen))
 
 keeps-store : (p : Tricolour) (s o f : ℕ) (new : Option ℕ) → Invariants p → MayStore p s o f new → Invariants (moved p (Store s o f new))
 keeps-store p s o f new i may =
@@ -42,27 +45,38 @@ keeps-allocate p s r i may =
         | inr n ↦ absurd (n.0 (cc))
       ]
 
--- each of the eight moves keeps the four invariants
-pub keeps-moved : (p : Tricolour) (m : Move) → Invariants p → May p m → Invariants (moved p m)
+-- each of the eight moves keeps the invariants
+pub keeps-moved : KeepsTheInvariants
 keeps-moved p (Load s r o f) i may = keeps-load p s r o f i may
 keeps-moved p (ReadOld s o f) i may = keeps-read p s o f i
 keeps-moved p (Shade o) i may = keeps-shaded p (Some o) i (λ w e. let same : o ≡ w = cc in omega arith)
 keeps-moved p (Store s o f new) i may = keeps-store p s o f new i may
 keeps-moved p (ScanField o f) i may =
     keeps-scanned (record p { colour = shaded p.colour (p.value o f) }) o f
-    (keeps-shaded p (p.value o f) i (i.one_grey_place.fields o f)) (λ w e. shaded-named p.colour (p.value o f) w e)
+    (keeps-shaded p (p.value o f) i (i.unmade_objects.fields o f)) (λ w e. shaded-named p.colour (p.value o f) w e)
 keeps-moved p (Blacken o) i may = keeps-black p o i may.made may.fields
 keeps-moved p (Allocate s r) i may = keeps-allocate p s r i may
 keeps-moved p (ScanRegister s r) i may =
     keeps-seen (record p { colour = shaded p.colour (p.register s r) }) s r
-    (keeps-shaded p (p.register s r) i (i.one_grey_place.registers s r)) may.of.within may.once (λ w e. shaded-named p.colour (p.register s r) w e)
+    (keeps-shaded p (p.register s r) i (i.unmade_objects.registers s r)) may.of.within may.once (λ w e. shaded-named p.colour (p.register s r) w e)
+
+keeps-copy : (p : Tricolour) (s d r : ℕ) → Invariants p → MayCopy p s d r → Invariants (changed p (Copy s d r))
+keeps-copy p s d r i may =
+    keeps-register p s d (p.register s r) i (i.unmade_objects.registers s r)
+    (λ dark o e. i.black_stacks.black s r o dark may.from.within e)
+    (λ left seen. absurd (between-scans p s d may.into.within may.scan left seen))
+
+-- so does each change that is no move
+pub keeps-changed : ChangesKeepTheInvariants
+keeps-changed p (Drop s r) i may = keeps-register p s r None i (λ o e. cc) (λ dark o e. cc) (λ left seen o e. cc)
+keeps-changed p (Copy s d r) i may = keeps-copy p s d r i may
 
 pub keeps-after : (p : Tricolour) (moves : List Move) → Invariants p → EachMay p moves → Invariants (after p moves)
 keeps-after p [] i each = i
 keeps-after p (m ∷ moves) i each = keeps-after (moved p m) moves (keeps-moved p m i each.0) each.1
 
 -- an opening picture has the invariants
-pub opening-holds : (p : Tricolour) → IsOpening p → Invariants p
+pub opening-holds : Opens
 opening-holds p h = record {
   scanned_fields = λ o f e w x. absurd (nothing (sym (h.scanned o f e) ∙ x));
   black_stacks = record {
@@ -73,11 +87,12 @@ opening-holds p h = record {
     holds = λ s o f v e. absurd (no_read (sym (h.read s o f) ∙ e));
     shaded = λ s o f v e. absurd (no_read (sym (h.read s o f) ∙ e));
   };
-  one_grey_place = record {
-    one = λ o lt. one-colour (p.colour o);
-    black = λ o f e lt. absurd (not_black o e);
+  marked_objects = record {
     globals = λ e. let clash : Grey ≡ White = sym h.grey ∙ e in cc;
-    unmade = λ o le. h.white o (let some : 0 < p.objects = h.some in omega arith);
+    black = λ o f e lt. absurd (not_black o e);
+  };
+  unmade_objects = record {
+    white = λ o le. h.white o (let some : 0 < p.objects = h.some in omega arith);
     empty = h.empty;
     fields = h.fields;
     registers = h.registers;
@@ -100,23 +115,26 @@ opening-holds p h = record {
 no-grey : (p : Tricolour) → Invariants p → IsMarkingDone p → (o : ℕ) → p.colour o ≢ Grey
 no-grey p i done o e = elim (cases_lt o p.objects) [
   | inl lt ↦ done.greys o lt e
-  | inr le ↦ (let clash : White ≡ Grey = sym (i.one_grey_place.unmade o le) ∙ e in cc)
+  | inr le ↦ (let clash : White ≡ Grey = sym (i.unmade_objects.white o le) ∙ e in cc)
 ]
 
 -- where marking is done, what is reached is marked
-pub reached-marked : (p : Tricolour) → Invariants p → IsMarkingDone p → (o : ℕ) → IsReached p o → IsMarked p o
-reached-marked p i done o globals = i.one_grey_place.globals
+reached-marked : (p : Tricolour) → Invariants p → IsMarkingDone p → (o : ℕ) → IsReached p o → IsMarked p o
+reached-marked p i done o globals = i.marked_objects.globals
 reached-marked p i done o (held s r w lt within e) = elim (i.black_stacks.black s r w (done.stacks s lt) within e) [
   | inl m ↦ m
   | inr d ↦ absurd (none-protected p (no-grey p i done) done.globals w d)
 ]
 reached-marked p i done o (field a f w d e) = elim (marked-tells (p.colour a) (reached-marked p i done a d)) [
   | inl grey ↦ absurd (no-grey p i done a grey)
-  | inr black ↦ i.scanned_fields a f (i.one_grey_place.black a f black e.within) w e.holds
+  | inr black ↦ i.scanned_fields a f (i.marked_objects.black a f black e.within) w e.holds
 ]
+
+pub none-white : MarkedWhatIsReached
+none-white p i done o white reached = reached-marked p i done o reached white
 
 pub every-move : EveryMoveKeepsTheInvariants
 every-move p moves opens each = keeps-after p moves (opening-holds p opens) each
 
 pub no-white : NoWhiteObjectIsReached
-no-white p moves opens each done o white reached = reached-marked (after p moves) (every-move p moves opens each) done o reached white
+no-white p moves opens each done = none-white (after p moves) (every-move p moves opens each) done

@@ -63,7 +63,7 @@ safe-field p i o f w safe e = elim (colour-tells (p.colour w)) [
     | inr d ↦ inr (from_white o f w d e white)
     | inl m ↦ elim (marked-tells (p.colour o) m) [
       | inl grey ↦ inr (from_grey o f w grey e white)
-      | inr black ↦ inl (i.scanned_fields o f (i.one_grey_place.black o f black e.within) w e.holds)
+      | inr black ↦ inl (i.scanned_fields o f (i.marked_objects.black o f black e.within) w e.holds)
     ]
   ]
 ]

@@ -5,7 +5,8 @@ use Rattle.gh_tri.specs.declared.Move.TheVariants.{Store, ScanField, Allocate, S
 use Rattle.gh_tri.specs.declared.Move.{Move}
 use Rattle.gh_tri.specs.Invariants.{Invariants}
 use Rattle.gh_tri.proofs.Tells.{put2-tells}
-use Rattle.gh_tri.proofs.Keeping.{keeps-moved}
+use Rattle.gh_tri.specs.Changes.{Change, changed, MayChange}
+use Rattle.gh_tri.proofs.Keeping.{keeps-moved, keeps-changed}
 use Rattle.std.proofs.Common.{subst, List, length, get_or-set_other, get_or-set_same}
 use Rattle.std.proofs.Math.ListN.{set}
 use mathlib.Core.Path.{fun_ext}
@@ -25,6 +26,10 @@ put2-made f g i j v n e fs vs a b w h = elim (put2-tells f i j v a b) [
 -- what a picture after a move keeps
 pub keeps-shown : (p q : Tricolour) (m : Move) → q ≡ moved p m → May p m → Invariants p → Invariants q
 keeps-shown p q m e may i = subst Invariants (sym e) (keeps-moved p m i may)
+
+-- and after a change of registers
+pub keeps-changed-shown : (p q : Tricolour) (c : Change) → q ≡ changed p c → MayChange p c → Invariants p → Invariants q
+keeps-changed-shown p q c e may i = subst Invariants (sym e) (keeps-changed p c i may)
 
 -- a colour that is written
 pub colours-set : (xs : List Colour) (o : ℕ) (c : Colour) → o < length xs → colours_of (set xs o c) ≡ put (colours_of xs) o c

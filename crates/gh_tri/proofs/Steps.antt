@@ -1,18 +1,11 @@
 -- The changes that the eight moves are made of, each of which keeps the invariants.
-use Rattle.std.proofs.Common.{◌≡◌, ◌≢◌, ℕ, ◌+◌, ◌<◌, true, false, refl, sym, ◌∙◌, ap, subst, inl, inr, ◌⊎◌, Option, Some, None, arith}
+use Rattle.std.proofs.Common.{◌≡◌, ◌≢◌, ℕ, ◌+◌, ◌<◌, true, false, sym, ◌∙◌, ap, subst, inl, inr, ◌⊎◌, Option, Some, None, arith}
 use Rattle.std.proofs.lemmas.Bool.Decides.{eqb_tells}
-use Rattle.gh_tri.specs.declared.Colour.{Colour}
-use Rattle.gh_tri.specs.declared.Colour.TheVariants.{White, Grey, Black}
+use Rattle.gh_tri.specs.declared.Colour.TheVariants.{White, Black}
 use Rattle.gh_tri.specs.Tricolour.{Tricolour, put, put2, put3, put_row, shaded, IsMarked, NilOrMarked, NilOrMade, IsBlackStack}
-use Rattle.gh_tri.specs.Invariants.{HasScanLeft, Invariants, IsOneColour}
+use Rattle.gh_tri.specs.Invariants.{HasScanLeft, Invariants}
 use Rattle.gh_tri.proofs.Tells.{differ, put-tells, put2-tells, put3-tells, put_row-tells, shaded-tells, shaded-marks, shaded-grey, shaded-white, shaded-black}
 use Rattle.gh_tri.proofs.Protecting.{IsSafe, Guards, safe-kept}
-
--- every colour is one of the three
-pub one-colour : (c : Colour) → IsOneColour c
-one-colour White = inl (refl, (λ e. cc), (λ e. cc))
-one-colour Grey = inr (inl ((λ e. cc), refl, (λ e. cc)))
-one-colour Black = inr (inr ((λ e. cc), (λ e. cc), refl))
 
 -- a register takes a value that is made; where the stack is black, a safe one, and where the register is scanned, a marked one
 pub keeps-register : (p : Tricolour) (s r : ℕ) (v : Option ℕ) → Invariants p → NilOrMade p v → (IsBlackStack p s → (o : ℕ) → v ≡ Some o → IsSafe p o) → (HasScanLeft p s → p.seen s r ≡ true → NilOrMarked p v) → Invariants (record p { register = put2 p.register s r v })
@@ -30,18 +23,19 @@ keeps-register p s r v i made safe marked =
         ];
       };
       barrier_order = record { holds = i.barrier_order.holds; shaded = i.barrier_order.shaded };
-      one_grey_place = record {
-        one = i.one_grey_place.one;
-        black = i.one_grey_place.black;
-        globals = i.one_grey_place.globals;
-        unmade = i.one_grey_place.unmade;
-        empty = i.one_grey_place.empty;
-        fields = i.one_grey_place.fields;
+      marked_objects = record {
+        globals = i.marked_objects.globals;
+        black = i.marked_objects.black;
+      };
+      unmade_objects = record {
+        white = i.unmade_objects.white;
+        empty = i.unmade_objects.empty;
+        fields = i.unmade_objects.fields;
         registers = λ t b o e. elim (put2-tells p.register s r v t b) [
           | inl y ↦ made o (sym y.2 ∙ e)
-          | inr n ↦ i.one_grey_place.registers t b o (sym n ∙ e)
+          | inr n ↦ i.unmade_objects.registers t b o (sym n ∙ e)
         ];
-        reads = i.one_grey_place.reads;
+        reads = i.unmade_objects.reads;
       };
     } where
       guards : Guards p (record p { register = put2 p.register s r v })
@@ -69,17 +63,18 @@ keeps-read p s o f i =
           | inr h ↦ h
         ];
       };
-      one_grey_place = record {
-        one = i.one_grey_place.one;
-        black = i.one_grey_place.black;
-        globals = i.one_grey_place.globals;
-        unmade = i.one_grey_place.unmade;
-        empty = i.one_grey_place.empty;
-        fields = i.one_grey_place.fields;
-        registers = i.one_grey_place.registers;
+      marked_objects = record {
+        globals = i.marked_objects.globals;
+        black = i.marked_objects.black;
+      };
+      unmade_objects = record {
+        white = i.unmade_objects.white;
+        empty = i.unmade_objects.empty;
+        fields = i.unmade_objects.fields;
+        registers = i.unmade_objects.registers;
         reads = λ t a b v e w h. elim (put3-tells p.read s o f (Some (p.value o f)) t a b) [
-          | inl y ↦ (let same : Some v ≡ Some (p.value o f) = sym e ∙ y.3 in let inner : v ≡ p.value o f = cc in i.one_grey_place.fields o f w (sym inner ∙ h))
-          | inr n ↦ i.one_grey_place.reads t a b v (sym n ∙ e) w h
+          | inl y ↦ (let same : Some v ≡ Some (p.value o f) = sym e ∙ y.3 in let inner : v ≡ p.value o f = cc in i.unmade_objects.fields o f w (sym inner ∙ h))
+          | inr n ↦ i.unmade_objects.reads t a b v (sym n ∙ e) w h
         ];
       };
     } where
@@ -114,18 +109,19 @@ keeps-shaded p v i made =
           | inr h ↦ h
         ];
       };
-      one_grey_place = record {
-        one = λ o h. one-colour (shaded p.colour v o);
-        black = λ o f h lt. i.one_grey_place.black o f (shaded-black p.colour v o h) lt;
-        globals = shaded-marks p.colour v 0 i.one_grey_place.globals;
-        unmade = λ o h. elim (shaded-tells p.colour v o) [
+      marked_objects = record {
+        globals = shaded-marks p.colour v 0 i.marked_objects.globals;
+        black = λ o f h lt. i.marked_objects.black o f (shaded-black p.colour v o h) lt;
+      };
+      unmade_objects = record {
+        white = λ o h. elim (shaded-tells p.colour v o) [
           | inl y ↦ (let below : o < p.objects = made o y.0 in absurd (omega arith))
-          | inr n ↦ n.1 ∙ i.one_grey_place.unmade o h
+          | inr n ↦ n.1 ∙ i.unmade_objects.white o h
         ];
-        empty = i.one_grey_place.empty;
-        fields = i.one_grey_place.fields;
-        registers = i.one_grey_place.registers;
-        reads = i.one_grey_place.reads;
+        empty = i.unmade_objects.empty;
+        fields = i.unmade_objects.fields;
+        registers = i.unmade_objects.registers;
+        reads = i.unmade_objects.reads;
       };
     } where
       guards : Guards p (record p { colour = shaded p.colour v })
@@ -162,21 +158,22 @@ keeps-value p s o f new i in_range was made marked =
           | inr h ↦ h
         ];
       };
-      one_grey_place = record {
-        one = i.one_grey_place.one;
-        black = i.one_grey_place.black;
-        globals = i.one_grey_place.globals;
-        unmade = i.one_grey_place.unmade;
+      marked_objects = record {
+        globals = i.marked_objects.globals;
+        black = i.marked_objects.black;
+      };
+      unmade_objects = record {
+        white = i.unmade_objects.white;
         empty = λ a b h. elim (put2-tells p.value o f new a b) [
           | inl y ↦ absurd (omega arith)
-          | inr n ↦ n ∙ i.one_grey_place.empty a b h
+          | inr n ↦ n ∙ i.unmade_objects.empty a b h
         ];
         fields = λ a b w e. elim (put2-tells p.value o f new a b) [
           | inl y ↦ made w (sym y.2 ∙ e)
-          | inr n ↦ i.one_grey_place.fields a b w (sym n ∙ e)
+          | inr n ↦ i.unmade_objects.fields a b w (sym n ∙ e)
         ];
-        registers = i.one_grey_place.registers;
-        reads = λ t a b v e w h. i.one_grey_place.reads t a b v (was_read t a b v e) w h;
+        registers = i.unmade_objects.registers;
+        reads = λ t a b v e w h. i.unmade_objects.reads t a b v (was_read t a b v e) w h;
       };
     } where
       was_read : (t a b : ℕ) (v : Option ℕ) → put3 p.read s o f None t a b ≡ Some v → p.read t a b ≡ Some v
@@ -219,18 +216,19 @@ keeps-scanned p o f i clean =
         middle = i.black_stacks.middle;
       };
       barrier_order = record { holds = i.barrier_order.holds; shaded = i.barrier_order.shaded };
-      one_grey_place = record {
-        one = i.one_grey_place.one;
+      marked_objects = record {
+        globals = i.marked_objects.globals;
         black = λ a b h lt. elim (put2-tells p.scanned o f true a b) [
           | inl y ↦ y.2
-          | inr n ↦ n ∙ i.one_grey_place.black a b h lt
+          | inr n ↦ n ∙ i.marked_objects.black a b h lt
         ];
-        globals = i.one_grey_place.globals;
-        unmade = i.one_grey_place.unmade;
-        empty = i.one_grey_place.empty;
-        fields = i.one_grey_place.fields;
-        registers = i.one_grey_place.registers;
-        reads = i.one_grey_place.reads;
+      };
+      unmade_objects = record {
+        white = i.unmade_objects.white;
+        empty = i.unmade_objects.empty;
+        fields = i.unmade_objects.fields;
+        registers = i.unmade_objects.registers;
+        reads = i.unmade_objects.reads;
       };
     } where
       guards : Guards p (record p { scanned = put2 p.scanned o f true })
@@ -261,21 +259,22 @@ keeps-black p o i in_range done =
           | inr h ↦ h
         ];
       };
-      one_grey_place = record {
-        one = λ a h. one-colour (put p.colour o Black a);
+      marked_objects = record {
+        globals = marks 0 i.marked_objects.globals;
         black = λ a b h lt. elim (put-tells p.colour o Black a) [
           | inl y ↦ ap (λ c. p.scanned c b) (sym y.0) ∙ done b lt
-          | inr n ↦ i.one_grey_place.black a b (sym n.1 ∙ h) lt
+          | inr n ↦ i.marked_objects.black a b (sym n.1 ∙ h) lt
         ];
-        globals = marks 0 i.one_grey_place.globals;
-        unmade = λ a h. elim (put-tells p.colour o Black a) [
+      };
+      unmade_objects = record {
+        white = λ a h. elim (put-tells p.colour o Black a) [
           | inl y ↦ absurd (omega arith)
-          | inr n ↦ n.1 ∙ i.one_grey_place.unmade a h
+          | inr n ↦ n.1 ∙ i.unmade_objects.white a h
         ];
-        empty = i.one_grey_place.empty;
-        fields = i.one_grey_place.fields;
-        registers = i.one_grey_place.registers;
-        reads = i.one_grey_place.reads;
+        empty = i.unmade_objects.empty;
+        fields = i.unmade_objects.fields;
+        registers = i.unmade_objects.registers;
+        reads = i.unmade_objects.reads;
       };
     } where
       marks : (w : ℕ) → p.colour w ≢ White → put p.colour o Black w ≢ White
@@ -330,30 +329,31 @@ keeps-made p i =
           | inr h ↦ h
         ];
       };
-      one_grey_place = record {
-        one = λ a h. one-colour (put p.colour p.objects Black a);
+      marked_objects = record {
+        globals = marks 0 i.marked_objects.globals;
         black = λ a b h lt. elim (put_row-tells p.scanned p.objects true a b) [
           | inl y ↦ y.1
           | inr n ↦ elim (put-tells p.colour p.objects Black a) [
             | inl y ↦ absurd (n.0 y.0)
-            | inr m ↦ n.1 ∙ i.one_grey_place.black a b (sym m.1 ∙ h) lt
+            | inr m ↦ n.1 ∙ i.marked_objects.black a b (sym m.1 ∙ h) lt
           ]
         ];
-        globals = marks 0 i.one_grey_place.globals;
-        unmade = λ a h. elim (put-tells p.colour p.objects Black a) [
+      };
+      unmade_objects = record {
+        white = λ a h. elim (put-tells p.colour p.objects Black a) [
           | inl y ↦ absurd (omega arith)
-          | inr n ↦ n.1 ∙ i.one_grey_place.unmade a (omega arith)
+          | inr n ↦ n.1 ∙ i.unmade_objects.white a (omega arith)
         ];
         empty = λ a b h. elim (put_row-tells p.value p.objects None a b) [
           | inl y ↦ y.1
-          | inr n ↦ n.1 ∙ i.one_grey_place.empty a b (omega arith)
+          | inr n ↦ n.1 ∙ i.unmade_objects.empty a b (omega arith)
         ];
         fields = λ a b w e. elim (put_row-tells p.value p.objects None a b) [
           | inl y ↦ (let none : None ≡ Some w = sym y.1 ∙ e in cc)
-          | inr n ↦ more w (i.one_grey_place.fields a b w (sym n.1 ∙ e))
+          | inr n ↦ more w (i.unmade_objects.fields a b w (sym n.1 ∙ e))
         ];
-        registers = λ t b w e. more w (i.one_grey_place.registers t b w e);
-        reads = λ t a b v e w h. more w (i.one_grey_place.reads t a b v e w h);
+        registers = λ t b w e. more w (i.unmade_objects.registers t b w e);
+        reads = λ t a b v e w h. more w (i.unmade_objects.reads t a b v e w h);
       };
     } where
       more : (w : ℕ) → w < p.objects → w < p.objects + 1
@@ -375,7 +375,7 @@ keeps-made p i =
       ]
 
       holds_nothing : (a b w : ℕ) → p.objects ≡ a → p.value a b ≡ Some w → ⊥
-      holds_nothing a b w y e = let none : None ≡ Some w = sym (i.one_grey_place.empty a b (omega arith)) ∙ e in cc
+      holds_nothing a b w y e = let none : None ≡ Some w = sym (i.unmade_objects.empty a b (omega arith)) ∙ e in cc
 
       guards : Guards p (record p { objects = p.objects + 1; colour = put p.colour p.objects Black; value = put_row p.value p.objects None; scanned = put_row p.scanned p.objects true })
       guards = record {
@@ -417,15 +417,16 @@ keeps-seen p s r i within once clean =
         ];
       };
       barrier_order = record { holds = i.barrier_order.holds; shaded = i.barrier_order.shaded };
-      one_grey_place = record {
-        one = i.one_grey_place.one;
-        black = i.one_grey_place.black;
-        globals = i.one_grey_place.globals;
-        unmade = i.one_grey_place.unmade;
-        empty = i.one_grey_place.empty;
-        fields = i.one_grey_place.fields;
-        registers = i.one_grey_place.registers;
-        reads = i.one_grey_place.reads;
+      marked_objects = record {
+        globals = i.marked_objects.globals;
+        black = i.marked_objects.black;
+      };
+      unmade_objects = record {
+        white = i.unmade_objects.white;
+        empty = i.unmade_objects.empty;
+        fields = i.unmade_objects.fields;
+        registers = i.unmade_objects.registers;
+        reads = i.unmade_objects.reads;
       };
     } where
       named : (t b w : ℕ) → s ≡ t → r ≡ b → p.register t b ≡ Some w → IsMarked p w

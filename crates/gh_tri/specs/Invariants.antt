@@ -1,6 +1,5 @@
--- The tricolour invariant in its four parts, and what it gives once marking is done.
+-- The tricolour invariant in its five parts, what keeps it, and what it gives once marking is done.
 use Rattle.std.specs.Prelude.{◌≡◌, ◌≢◌, ℕ, ◌<◌, ◌≤◌, true, false, ◌⊎◌, List, [], ◌∷◌, Option, Some, None}
-use Rattle.gh_tri.specs.declared.Colour.{Colour}
 use Rattle.gh_tri.specs.declared.Colour.TheVariants.{White, Grey, Black}
 use Rattle.gh_tri.specs.declared.Move.{Move}
 use Rattle.gh_tri.specs.Tricolour.{Tricolour, moved, May, IsMarked, NilOrMarked, NilOrMade, IsBlackStack}
@@ -37,20 +36,17 @@ pub record BarrierOrder (p : Tricolour) : Type 0 where
   -- so once what was read is shaded, it holds nil or a marked object
   pub shaded : (s o f : ℕ) (v : Option ℕ) → p.read s o f ≡ Some v → NilOrMarked p v → NilOrMarked p (p.value o f)
 
--- one of the three colours, and no other
-abbrev pub IsOneColour : Colour → Type 0
-IsOneColour c =
-    ((c ≡ White) × (c ≢ Grey) × (c ≢ Black)) ⊎ (((c ≢ White) × (c ≡ Grey) × (c ≢ Black)) ⊎ ((c ≢ White) × (c ≢ Grey) × (c ≡ Black)))
-
-pub record OneGreyPlace (p : Tricolour) : Type 0 where
-  -- each object that is made is white, grey or black, exactly one
-  pub one : (o : ℕ) → o < p.objects → IsOneColour (p.colour o)
-  -- a black object has all its fields scanned
-  pub black : (o f : ℕ) → p.colour o ≡ Black → f < p.fields → p.scanned o f ≡ true
+-- Each object has one colour, since `colour` is a function. That a grey object stands in one work buffer is no matter of the
+-- picture, which has none.
+pub record MarkedObjects (p : Tricolour) : Type 0 where
   -- object 0 is marked from the start on
   pub globals : IsMarked p 0
-  -- what is not made counts as white and holds nothing, and is named in no field, no register and no read
-  pub unmade : (o : ℕ) → p.objects ≤ o → p.colour o ≡ White
+  -- a black object has all its fields scanned
+  pub black : (o f : ℕ) → p.colour o ≡ Black → f < p.fields → p.scanned o f ≡ true
+
+-- What is not made counts as white and holds nothing, and is named in no field, no register and no read.
+pub record UnmadeObjects (p : Tricolour) : Type 0 where
+  pub white : (o : ℕ) → p.objects ≤ o → p.colour o ≡ White
   pub empty : (o f : ℕ) → p.objects ≤ o → p.value o f ≡ None
   pub fields : (o f : ℕ) → NilOrMade p (p.value o f)
   pub registers : (s r : ℕ) → NilOrMade p (p.register s r)
@@ -60,7 +56,8 @@ pub record Invariants (p : Tricolour) : Type 0 where
   pub scanned_fields : ScannedFields p
   pub black_stacks : BlackStacks p
   pub barrier_order : BarrierOrder p
-  pub one_grey_place : OneGreyPlace p
+  pub marked_objects : MarkedObjects p
+  pub unmade_objects : UnmadeObjects p
 
 -- As at a cycle's begin: object 0 is grey, all others are white, all stacks are grey, no store is under way, and what is
 -- not made is nowhere named.
@@ -96,6 +93,18 @@ pub data IsReached (p : Tricolour) : ℕ → Type 0 where
   globals : IsReached p 0
   held : (s r o : ℕ) → s < p.stacks → r < 16 → p.register s r ≡ Some o → IsReached p o
   field : (o f w : ℕ) → IsReached p o → Edge p o f w → IsReached p w
+
+-- Each move keeps the invariants, whichever picture has them.
+abbrev pub KeepsTheInvariants : Type 0
+KeepsTheInvariants = (p : Tricolour) (m : Move) → Invariants p → May p m → Invariants (moved p m)
+
+-- An opening picture has the invariants.
+abbrev pub Opens : Type 0
+Opens = (p : Tricolour) → IsOpening p → Invariants p
+
+-- Where the invariants hold and marking is done, no white object is reached.
+abbrev pub MarkedWhatIsReached : Type 0
+MarkedWhatIsReached = (p : Tricolour) → Invariants p → IsMarkingDone p → (o : ℕ) → p.colour o ≡ White → ¬ IsReached p o
 
 -- Whatever the moves: while each may be made when its turn comes, the invariants hold.
 abbrev pub EveryMoveKeepsTheInvariants : Type 0

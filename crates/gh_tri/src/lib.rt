@@ -36,15 +36,31 @@
 //! and the new value is stored. This is right although another store may have replaced what was read: the field then holds
 //! what that store put there, which was shaded before.
 //!
+//! # What is no move
+//!
+//! A goroutine also drops registers and copies them within its stack. Neither looks into an object or colours one, so the
+//! picture's registers change and nothing else. What a black stack holds twice is marked or protected as before. In the midst of
+//! its scan a stack copies nothing: what is white could go from a register that is still to be scanned into one that was.
+//!
 //! # Where it stands
 //!
 //! `specs/Tricolour.antt` has the picture as a record of functions (`Tricolour`), what each move leaves (`moved`), and when it
-//! may be made (`May`). `specs/Invariants.antt` has the invariant in four parts: scanned fields, black stacks, barrier
-//! order, one grey place. [`every_list_of_moves`] is the theorem, over all lists of moves. [`Picture`] keeps such a picture in
-//! tables that are made once; the contract of each of its moves says that it is that move and no other.
+//! may be made (`May`). `specs/Invariants.antt` has the invariant in five parts: scanned fields, black stacks, barrier order,
+//! marked objects, and objects that are not made. `specs/Changes.antt` has the changes of registers.
+//! [`a_move_keeps_the_invariants`] and [`a_change_of_registers_keeps_the_invariants`] are the laws of one step, and with
+//! [`an_opening_has_the_invariants`] and [`what_is_reached_is_marked`] they give [`every_list_of_moves`], the theorem over all
+//! lists of moves. [`Picture`] keeps such a picture in tables that are made once; the contract of each of its moves and changes
+//! says that it is that move or change and no other.
 #![tactic(auto)]
 
-ghost use Rattle.gh_tri.specs.Invariants.{EveryMoveKeepsTheInvariants, NoWhiteObjectIsReached};
+ghost use Rattle.gh_tri.specs.Changes.{ChangesKeepTheInvariants};
+ghost use Rattle.gh_tri.specs.Invariants.{
+  EveryMoveKeepsTheInvariants,
+  KeepsTheInvariants,
+  MarkedWhatIsReached,
+  NoWhiteObjectIsReached,
+  Opens,
+};
 
 mod moves;
 mod shades;
@@ -101,7 +117,31 @@ pub enum Move {
     ScanRegister(u32, u32),
 }
 
-/// From an opening picture, whatever moves are made while each may be made when its turn comes: the four invariants hold;
+/// Each move that may be made keeps the invariants, from whatever picture has them. So who shows that each atomic step of a
+/// machine is a list of moves, each of which may be made, has the invariants after each step.
+pub fn a_move_keeps_the_invariants()
+    ensures { KeepsTheInvariants }
+{}
+
+/// A picture as at a cycle's begin has the invariants.
+pub fn an_opening_has_the_invariants()
+    ensures { Opens }
+{}
+
+/// In a picture that has the invariants, where no object is grey, each field of object 0 is scanned and each stack is black,
+/// no path of fields leads to a white object from object 0 or from a register.
+pub fn what_is_reached_is_marked()
+    ensures { MarkedWhatIsReached }
+{}
+
+/// A change of a stack's registers that is no move keeps the invariants: a register is dropped, or it takes what another
+/// register of the stack holds, where the stack's scan has not begun or has ended. This is what a goroutine does by `nil`,
+/// `int` and `move`, by a load of nil or of a number, by a `new` that is answered `full`, and by its end.
+pub fn a_change_of_registers_keeps_the_invariants()
+    ensures { ChangesKeepTheInvariants }
+{}
+
+/// From an opening picture, whatever moves are made while each may be made when its turn comes: the invariants hold;
 /// and where no object is grey, each field of object 0 is scanned and each stack is black, no path of fields leads to a
 /// white object from object 0 or from a register.
 pub fn every_list_of_moves()

@@ -1,9 +1,10 @@
-//! The picture, and its eight moves.
+//! The picture, its eight moves, and the changes of registers.
 
 ghost use Rattle.std.specs.Prelude.{◌≡◌, ℕ, ◌+◌, ◌*◌, ◌<◌, ◌≤◌, ◌^◌, length, IfOk, Option, Some, None};
 ghost use Rattle.gh_tri.specs.Tables.{cells};
 
 mod asks;
+mod changes;
 mod runs;
 
 use crate::Colour;

@@ -1,6 +1,6 @@
 //! The row of the picture's surface, and the two ways in which a collector without one of the shades loses an object.
 
-use crate::Move::{Allocate, Blacken, Load, ReadOld, ScanField, Shade, Store};
+use crate::Move::{Allocate, Blacken, Load, ReadOld, ScanField, ScanRegister, Shade, Store};
 use crate::{Colour, Move, Picture};
 use std::process::Abort;
 use std::test::Fail;
@@ -17,6 +17,10 @@ enum Step {
     /// The new object in the register has this number.
     Allocates(u32, u32, u32),
     Writes(u32, u32, u32, Option<u32>),
+    DropsRegister(u32, u32),
+    /// The first of two registers of a stack takes what the second holds.
+    CopiesRegister(u32, u32, u32),
+    MayNotCopy(u32, u32, u32),
     ScansObject(u32),
     ScansStack(u32),
     /// The object has this colour.
@@ -45,6 +49,16 @@ fn allocate(rt: &impl Abort, picture: &mut Picture, stack: u32, reg: u32) -> u32
 fn write(rt: &impl Abort, picture: &mut Picture, stack: u32, o: u32, f: u32, new: Option<u32>) {
     assert!(rt; picture.is_register(stack, 0) && picture.is_field(o, f) && picture.is_made(new));
     picture.write(stack, o, f, new);
+}
+
+fn drop_register(rt: &impl Abort, picture: &mut Picture, stack: u32, reg: u32) {
+    assert!(rt; picture.is_register(stack, reg));
+    picture.drop_register(stack, reg);
+}
+
+fn copy_register(rt: &impl Abort, picture: &mut Picture, stack: u32, into: u32, from: u32) {
+    assert!(rt; picture.may_copy(stack, into, from));
+    picture.copy_register(stack, into, from);
 }
 
 fn scan_object(rt: &impl Abort, picture: &mut Picture, o: u32) {
@@ -82,6 +96,9 @@ fn take(rt: &impl Abort, picture: &mut Picture, step: &Step) {
         Step::Reads(s, o, f, v) => assert_eq!(rt; read(rt, picture, *s, *o, *f), *v),
         Step::Allocates(s, r, o) => assert_eq!(rt; allocate(rt, picture, *s, *r), *o),
         Step::Writes(s, o, f, v) => write(rt, picture, *s, *o, *f, *v),
+        Step::DropsRegister(s, r) => drop_register(rt, picture, *s, *r),
+        Step::CopiesRegister(s, d, r) => copy_register(rt, picture, *s, *d, *r),
+        Step::MayNotCopy(s, d, r) => assert!(rt; !picture.may_copy(*s, *d, *r)),
         Step::ScansObject(o) => scan_object(rt, picture, *o),
         Step::ScansStack(s) => scan_stack(rt, picture, *s),
         Step::Has(o, c) => assert_eq!(rt; colour(rt, picture, *o), *c, "of {o}"),
@@ -159,8 +176,8 @@ fn an_object_that_goes_into_a_black_one_is_marked(rt: HostRuntime) -> Result<(),
         Step::MayNot(Store(0, 1, 0, Some(2))),
         Step::Makes(Shade(2)),
         Step::Makes(Store(0, 1, 0, Some(2))),
-        Step::Makes(Load(0, 0, 0, 0)),
-        Step::Keeps(0, 0, Some(1)),
+        Step::DropsRegister(0, 0),
+        Step::Keeps(0, 0, None),
         Step::Holds(1, 0, Some(2)),
         Step::Has(2, Colour::Grey),
         Step::ScansStack(0),
@@ -185,5 +202,37 @@ fn a_write_shades_what_it_deletes_and_what_it_puts(rt: HostRuntime) -> Result<()
         Step::Has(2, Colour::Grey),
     ];
     play(&rt, &mut picture, &story);
+    Ok(())
+}
+
+/// In the midst of its scan a stack copies nothing: else object 1 would leave the register that is still to be scanned for
+/// one that was.
+#[test]
+fn registers_are_copied_before_a_scan_and_after_it(rt: HostRuntime) -> Result<(), Fail> {
+    let mut picture = Picture::new(rt.alloc(), 2, 0, 1, 1, &[], &[(0, 1, 1)])?;
+    let story = [
+        Step::CopiesRegister(0, 2, 1),
+        Step::Keeps(0, 2, Some(1)),
+        Step::Keeps(0, 1, Some(1)),
+        Step::DropsRegister(0, 1),
+        Step::Keeps(0, 1, None),
+        Step::ScansStack(0),
+        Step::Has(1, Colour::Grey),
+        Step::CopiesRegister(0, 15, 2),
+        Step::Keeps(0, 15, Some(1)),
+        Step::MayNotCopy(0, 16, 2),
+        Step::MayNotCopy(0, 2, 16),
+        Step::MayNotCopy(1, 2, 3),
+    ];
+    play(&rt, &mut picture, &story);
+    let mut scanned = Picture::new(rt.alloc(), 2, 0, 1, 1, &[], &[(0, 1, 1)])?;
+    let middle = [
+        Step::Makes(ScanRegister(0, 0)),
+        Step::MayNotCopy(0, 0, 1),
+        Step::MayNotCopy(0, 1, 0),
+        Step::DropsRegister(0, 0),
+        Step::Keeps(0, 1, Some(1)),
+    ];
+    play(&rt, &mut scanned, &middle);
     Ok(())
 }
