@@ -19,6 +19,7 @@ use Rattle.gh_script.specs.Text.{lines_of, words_of, sentence_of}
 use Rattle.gh_script.specs.Draft.{Draft, IsSound, IsOpenNamed, IsNewName, AreOpenStatements, blank_draft, nothing_given, given_at, globals_in, settings_in, program_in}
 use Rattle.gh_script.specs.Grammar.{read_line, read_lines, go_on, read_end, then_end, reading_of, line_fault, Spells, Refused}
 use Rattle.gh_script.specs.Outcome.{Ends}
+use Rattle.gh_script.proofs.ShapeLaws.{ShapesFit-IsShape}
 use Rattle.gh_script.proofs.Sound.{IsSound-read_line}
 
 nothing : (x : Setting) (n : ℕ) → given_at nothing_given x ≡ Some n → (least x ≤ n) × (n ≤ most x)
@@ -77,6 +78,7 @@ formed draft s some = record {
   settings = AreWithin-settings_in draft.given s.given;
   types = omega (arith, s.types, s.named);
   shapes = s.shapes;
+  shapes_fit = ShapesFit-IsShape draft.shapes s.shapes;
   some_goroutine = some;
   few_goroutines = omega (arith, s.goroutines);
   names = s.closed_names;

@@ -1,14 +1,16 @@
 -- The bits of a shape are its fields.
 use Rattle.std.proofs.Common.{◌≡◌, ℕ, zero, suc, ◌+◌, ◌*◌, ◌/◌, ◌%◌, ◌≤◌, Bool, true, false, not, cond, eqb, leb, List, [], ◌∷◌, length, get_or, take, drop, refl, sym, ap, ◌∙◌, arith, inl, inr}
+use Rattle.std.specs.Prelude.{All}
 use Rattle.std.specs.List.{list_any, list_all}
 use Rattle.std.specs.Int.{bit_at}
 use Rattle.std.proofs.lemmas.Bool.{cases_lt, leb-true}
 use Rattle.std.proofs.lemmas.List.{get_or-take, get_or-drop, get_or_past, drop_all, length-take}
-use Rattle.std.proofs.lemmas.List.Elements.{All-from_get_or}
+use Rattle.std.proofs.lemmas.List.Elements.{All-from_get_or, All-get_or}
 use Rattle.std.proofs.lemmas.List.Folds.{list_any_at, list_any_none}
 use Rattle.std.proofs.lemmas.List.FromFn.{length-map-range_with_len, get_or-map-range_with_len}
 use Rattle.std.proofs.lemmas.Nat.Bits.{bit_at-zero, bit_at_lowest, bit_at-suc}
-use Rattle.gh_base.specs.Shapes.{is_pointer}
+use Rattle.gh_base.specs.declared.shape.Shape.{Shape}
+use Rattle.gh_base.specs.Shapes.{is_pointer, no_shape, ShapesFit}
 use Rattle.gh_script.specs.Program.{IsShape}
 use Rattle.gh_script.specs.ShapeText.{is_kind, Item, items_of, are_letters, fields_in, count_fits, total_in, fits_behind, fits_limits, fields_of, word_of, packed, shape_with}
 use Rattle.gh_script.proofs.Items.{length-fields_of, length-spread, items_of-first}
@@ -102,3 +104,9 @@ IsShape-text word letters fits =
     let some = items_of-first word kind in
     let total = some_field (items_of word) 0 some (and_left (list_all count_fits (items_of word)) _ fits) in
     IsShape-shape_with (fields_of word) (omega (arith, length-spread (items_of word))) (length-fields_of word fits)
+
+-- shapes that are so fit
+pub ShapesFit-IsShape : (shapes : List Shape) → All IsShape shapes → ShapesFit shapes
+ShapesFit-IsShape shapes all t lt =
+    let s = All-get_or IsShape shapes t no_shape lt all in
+    record { some_word = s.some_word; few_words = s.few_words; none_beyond = s.none_beyond; noscan = s.noscan }

@@ -1,5 +1,6 @@
 -- How much a script may have.
 use Rattle.std.specs.Prelude.{ℕ}
+use Rattle.gh_base.specs.declared.limits.TheConstants.{LEAST_PAGES, MOST_GLOBALS, MOST_GOROUTINES, MOST_PAGES, MOST_STATEMENTS, MOST_TYPE_WORDS, REGISTERS}
 use Rattle.gh_script.specs.declared.key.Setting.{Setting}
 use Rattle.gh_script.specs.declared.key.Setting.TheVariants as settings
 
@@ -11,15 +12,15 @@ abbrev pub most_types : ℕ
 most_types = 64
 
 abbrev pub most_goroutines : ℕ
-most_goroutines = 32
+most_goroutines = MOST_GOROUTINES
 
 -- the most statements of all goroutines, repetitions written out
 abbrev pub most_statements : ℕ
-most_statements = 200000
+most_statements = MOST_STATEMENTS
 
 -- the most times that a body of `repeat` stands
 abbrev pub most_times : ℕ
-most_times = 200000
+most_times = MOST_STATEMENTS
 
 -- the most `repeat`s that are open at once
 abbrev pub most_repeats : ℕ
@@ -32,7 +33,7 @@ most_field = 65535
 abbrev pub least : Setting → ℕ
 least settings.Procs = 1
 least settings.Workers = 1
-least settings.Arena = 16
+least settings.Arena = LEAST_PAGES
 least settings.Globals = 1
 least settings.Gogc = 0
 least settings.Minheap = 0
@@ -41,15 +42,15 @@ least settings.Minheap = 0
 abbrev pub most : Setting → ℕ
 most settings.Procs = 1
 most settings.Workers = 1
-most settings.Arena = 1024
-most settings.Globals = 256
+most settings.Arena = MOST_PAGES
+most settings.Globals = MOST_GLOBALS
 most settings.Gogc = 1000
 most settings.Minheap = 8388608
 
 -- the most words of a type
 abbrev pub most_words : ℕ
-most_words = 65536
+most_words = MOST_TYPE_WORDS
 
 -- how many registers there are
 abbrev pub registers : ℕ
-registers = 16
+registers = REGISTERS

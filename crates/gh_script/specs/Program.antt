@@ -1,6 +1,6 @@
 -- What a script says, whichever text spells it.
 use Rattle.std.specs.Prelude.{◌≡◌, ℕ, ◌+◌, ◌-◌, ◌/◌, ◌^◌, ◌<◌, ◌≤◌, ◌==◌, ◌↔◌, true, false, if◌then◌else◌, List, [], length, slice_get, slice_index_or, Option, None, All, AllPairs, ◌≢◌, sum_by}
-use Rattle.gh_base.specs.Shapes.{bits_at, is_pointer}
+use Rattle.gh_base.specs.Shapes.{bits_at, is_pointer, ShapesFit}
 use Rattle.gh_base.specs.declared.shape.Shape.{Shape}
 use Rattle.gh_base.specs.declared.operation.Op.{Op}
 use Rattle.gh_base.specs.declared.operation.Op.TheVariants as ops
@@ -99,6 +99,7 @@ pub record WellFormed (p : Program) : Type 0 where
   pub settings : AreWithin p.settings
   pub types : length p.shapes ≤ most_types
   pub shapes : All IsShape p.shapes
+  pub shapes_fit : ShapesFit p.shapes
   pub some_goroutine : 1 ≤ length p.goroutines
   pub few_goroutines : length p.goroutines ≤ most_goroutines
   pub names : All IsNamed p.goroutines

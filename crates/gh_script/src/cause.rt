@@ -25,13 +25,15 @@ use crate::key::{Key, Setting};
 use crate::line::Sentence;
 use crate::shape_text::{are_counts, are_letters, fits_limits};
 use crate::word::{is_name, number, register};
+use gh_base::limits;
+use gh_base::limits::{LEAST_PAGES, MOST_GLOBALS, MOST_PAGES};
 
 /// The most types of a script.
 const MOST_TYPES: usize = 64;
 /// The most goroutines of a script.
-const MOST_GOROUTINES: usize = 32;
+const MOST_GOROUTINES: usize = limits::MOST_GOROUTINES as usize;
 /// The most times that a body of `repeat` stands.
-const MOST_TIMES: u64 = 200_000;
+const MOST_TIMES: u64 = limits::MOST_STATEMENTS as u64;
 /// The most `repeat`s that are open at once.
 const MOST_REPEATS: usize = 8;
 /// The greatest field that a statement names.
@@ -125,7 +127,7 @@ fn least(setting: Setting) -> u64
 {
     match setting {
         Setting::Procs | Setting::Workers | Setting::Globals => 1,
-        Setting::Arena => 16,
+        Setting::Arena => u64::from(LEAST_PAGES),
         Setting::Gogc | Setting::Minheap => 0,
     }
 }
@@ -135,8 +137,8 @@ fn most(setting: Setting) -> u64
 {
     match setting {
         Setting::Procs | Setting::Workers => 1,
-        Setting::Arena => 1024,
-        Setting::Globals => 256,
+        Setting::Arena => u64::from(MOST_PAGES),
+        Setting::Globals => u64::from(MOST_GLOBALS),
         Setting::Gogc => 1000,
         Setting::Minheap => 8_388_608,
     }

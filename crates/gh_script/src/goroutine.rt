@@ -6,11 +6,12 @@ ghost use Rattle.std.specs.Option.{option_map};
 ghost use Rattle.gh_script.specs.Draft.{goroutine_of, with_closed, with_repeat, with_statement, written_out};
 
 use crate::statement::Stmt;
+use gh_base::limits;
 use std::alloc::{AllocError, Global};
 use std::marker::Model;
 
 /// The most statements of a script, repetitions written out.
-pub const MOST_STATEMENTS: usize = 200_000;
+pub const MOST_STATEMENTS: usize = limits::MOST_STATEMENTS as usize;
 
 /// A goroutine's name and its statements, repetitions written out.
 #[derive(Debug, Drop)]
