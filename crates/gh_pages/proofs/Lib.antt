@@ -1,5 +1,1 @@
-pub mod Reading
-pub mod Rows
-pub mod Storing
-pub mod Keeping
-pub mod Looking
+pub mod Carving

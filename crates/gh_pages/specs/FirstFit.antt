@@ -1,11 +1,12 @@
 -- First fit: which pages the routine takes, by what it finds of each page.
-use Rattle.std.specs.Prelude.{◌≡◌, ℕ, zero, suc, ◌+◌, ◌<◌, ◌≤◌, ◌↔◌, IsTrue, Some, None}
+use Rattle.std.specs.Prelude.{◌≡◌, ℕ, suc, ◌+◌, ◌<◌, ◌≤◌, ◌↔◌, IsTrue, None}
 use Rattle.gh_base.specs.declared.cell.Cell.TheVariants.{Page}
 use Rattle.gh_base.specs.declared.cell.Ask.TheVariants.{Load}
 use Rattle.gh_base.specs.declared.layout.Layout.{Layout}
 use Rattle.gh_base.specs.Packing.{page_of}
+use Rattle.gh_base.specs.Routines.{EndsWith, told}
 use Rattle.gh_pages.specs.declared.carve.Span.{Span}
-use Rattle.gh_pages.specs.Listing.{Carving, asks, at_place, first_store, gives, goes, is_free, opening}
+use Rattle.gh_pages.specs.Listing.{Carving, asks, at_stage, first_store, is_free, listing, opening}
 
 -- so many free pages stand from this one on, in an arena of so many pages where page p was found to be `found p`
 pub record Fits (pages count : ℕ) (found : ℕ → ℕ) (first : ℕ) : Type 0 where
@@ -17,26 +18,21 @@ pub record IsFirstFit (pages count : ℕ) (found : ℕ → ℕ) (first : ℕ) : 
   pub fits : Fits pages count found first
   pub least : (other : ℕ) → Fits pages count found other → first ≤ other
 
--- the routine once it was told found 0 to found (n - 1)
-abbrev pub told : Carving → (ℕ → ℕ) → ℕ → Carving
-told c found zero = c
-told c found (suc n) = goes (told c found n) (found n)
-
 module _ (c : Carving) (found : ℕ → ℕ) where
   abbrev pub FitsAt : ℕ → Type 0
   FitsAt first = Fits c.layout.pages c.span.pages found first
 
   -- after n loads its next step is the load of page n
   abbrev pub Loads : ℕ → Type 0
-  Loads n = asks (told c found n) ≡ Load (Page n)
+  Loads n = asks (told listing c found n) ≡ Load (Page n)
 
   -- by that load it goes on to its stores, from this page on
   abbrev pub GoesOnWith : ℕ → ℕ → Type 0
-  GoesOnWith n first = Loads n × (goes (told c found n) (found n) ≡ at_place c (first_store c.span first))
+  GoesOnWith n first = Loads n × (told listing c found (suc n) ≡ at_stage c (first_store c.span first))
 
   -- by that load it ends with none
   abbrev pub EndsWithNone : ℕ → Type 0
-  EndsWithNone n = Loads n × (gives (told c found n) (found n) ≡ Some None)
+  EndsWithNone n = Loads n × EndsWith listing c found n None
 
   pub record FindsFirstFit : Type 0 where
     -- it loads page after page, as long as there is one and no row of free pages before it is long enough

@@ -1,4 +1,4 @@
--- Fresh pages for a span: what is asked for at each place, where that leads, and what it gives.
+-- Fresh pages for a span: what is asked for at each stage, where that leads, and what it gives.
 use Rattle.std.specs.Prelude.{ℕ, ◌+◌, ◌-◌, Bool, true, false, not, nat_lt, ◌==◌, if◌then◌else◌, Option, Some, None}
 use Rattle.gh_base.specs.declared.cell.Cell.TheVariants.{Touch, Page}
 use Rattle.gh_base.specs.declared.cell.Ask.{Ask}
@@ -9,24 +9,25 @@ use Rattle.gh_base.specs.declared.pack.PageWord.TheVariants.{Free}
 use Rattle.gh_base.specs.declared.pack.SpanHead.{SpanHead}
 use Rattle.gh_base.specs.declared.pack.SpanBody.{SpanBody}
 use Rattle.gh_base.specs.Packing.{page_of, head_word, body_word}
+use Rattle.gh_base.specs.Routines.{Listing}
 use Rattle.gh_pages.specs.declared.carve.Span.{Span}
-use Rattle.gh_pages.specs.declared.carve.Place.{Place}
-use Rattle.gh_pages.specs.declared.carve.Place.TheVariants.{Look, Body, Head, Ended}
+use Rattle.gh_pages.specs.declared.carve.CarveStage.{CarveStage}
+use Rattle.gh_pages.specs.declared.carve.CarveStage.TheVariants.{Look, Body, Head, Ended}
 
--- a routine that looks for pages for a span: whose it is, the sweep generation, the span, and where it stands
+-- a routine that looks for pages for a span: whose it is, the sweep generation, the span, and its stage
 pub record Carving : Type 0 where
   pub layout : Layout
   pub seat : ℕ
   pub generation : ℕ
   pub span : Span
-  pub place : Place
+  pub stage : CarveStage
 
-abbrev pub at_place : Carving → Place → Carving
-at_place c p = record c { place = p }
+abbrev pub at_stage : Carving → CarveStage → Carving
+at_stage c stage = record c { stage = stage }
 
 -- it has looked at no page
 abbrev pub opening : Layout → (seat generation : ℕ) → Span → Carving
-opening l seat generation span = record { layout = l; seat = seat; generation = generation; span = span; place = Look 0 0 }
+opening l seat generation span = record { layout = l; seat = seat; generation = generation; span = span; stage = Look 0 0 }
 
 -- what is written to the span's first page, and to one further on
 abbrev pub fresh_head : Carving → SpanHead
@@ -44,29 +45,29 @@ abbrev pub row_after : ℕ → ℕ → ℕ
 row_after run found = if is_free (page_of found) then run + 1 else 0
 
 -- the store that follows those of the pages up to this distance behind the first: the next page's, and last the first page's
-abbrev pub next_store : Span → ℕ → ℕ → Place
+abbrev pub next_store : Span → ℕ → ℕ → CarveStage
 next_store span first distance = if nat_lt (distance + 1) span.pages then Body first (distance + 1) else Head first
 
 -- the first store of a span from this page on
-abbrev pub first_store : Span → ℕ → Place
+abbrev pub first_store : Span → ℕ → CarveStage
 first_store span first = next_store span first 0
 
 abbrev pub is_last : Carving → ℕ → Bool
 is_last c page = not (nat_lt (page + 1) c.layout.pages)
 
 module _ (c : Carving) where
-  abbrev pub asks_at : Place → Ask
+  abbrev pub asks_at : CarveStage → Ask
   asks_at (Look page run) = Load (Page page)
   asks_at (Body first distance) = Store (Page (first + distance)) (body_word (fresh_body c distance))
   asks_at (Head first) = Store (Page first) (head_word (fresh_head c))
   asks_at Ended = Load Touch
 
-  abbrev pub after_look : ℕ → ℕ → Place
+  abbrev pub after_look : ℕ → ℕ → CarveStage
   after_look page row =
       if row == c.span.pages then first_store c.span (page + 1 - c.span.pages)
       else if is_last c page then Ended else Look (page + 1) row
 
-  abbrev pub goes_at : Place → ℕ → Place
+  abbrev pub goes_at : CarveStage → ℕ → CarveStage
   goes_at (Look page run) found = after_look page (row_after run found)
   goes_at (Body first distance) found = next_store c.span first distance
   goes_at (Head first) found = Ended
@@ -75,22 +76,25 @@ module _ (c : Carving) where
   abbrev pub gives_none : ℕ → ℕ → Bool
   gives_none page row = if row == c.span.pages then false else is_last c page
 
-  abbrev pub gives_at : Place → ℕ → Option (Option ℕ)
+  abbrev pub gives_at : CarveStage → ℕ → Option (Option ℕ)
   gives_at (Look page run) found = if gives_none page (row_after run found) then Some None else None
   gives_at (Body first distance) found = None
   gives_at (Head first) found = Some (Some first)
   gives_at Ended found = None
 
-abbrev pub is_busy : Place → Bool
+abbrev pub is_busy : CarveStage → Bool
 is_busy Ended = false
 is_busy _ = true
 
 -- the step that it asks for, what it is after the step found this, and what it ends with if that step is its last
 abbrev pub asks : Carving → Ask
-asks c = asks_at c c.place
+asks c = asks_at c c.stage
 
 abbrev pub goes : Carving → ℕ → Carving
-goes c found = at_place c (goes_at c c.place found)
+goes c found = at_stage c (goes_at c c.stage found)
 
 abbrev pub gives : Carving → ℕ → Option (Option ℕ)
-gives c found = gives_at c c.place found
+gives c found = gives_at c c.stage found
+
+abbrev pub listing : Listing Carving (Option ℕ)
+listing = record { layout = λ c. c.layout; busy = λ c. is_busy c.stage; asks = asks; goes = goes; gives = gives }

@@ -5,25 +5,26 @@ ghost use Rattle.gh_base.specs.Cells.{InRange, seats_of};
 ghost use Rattle.gh_base.specs.Steps.{cell_of};
 ghost use Rattle.gh_base.specs.Packing.{body_word, head_word};
 ghost use Rattle.gh_pages.specs.Listing.{after_look, asks, fresh_body, fresh_head, gives, goes_at, is_last, next_store, opening, row_after};
-ghost use Rattle.gh_pages.specs.Sound.{IsSpan};
+ghost use Rattle.gh_pages.specs.Sound.{FitsSpan};
 
 use gh_base::{Ask, Cell, Layout, Machine, PageWord, Req, SpanBody, SpanHead};
+use gh_class::SizeClass;
 use std::marker::Model;
 
 /// What a span is cut for.
 #[derive(Clone, Copy, Debug, PartialEq, Eq)]
 pub struct Span {
-    /// The size class, below `gh_base::CLASSES`, or `gh_base::LARGE`.
-    pub class: u32,
+    /// The size class of its objects.
+    pub class: SizeClass,
     /// That its objects have no pointer fields.
     pub noscan: bool,
     /// Its pages, 1 to 64.
     pub pages: u32,
 }
 
-/// Where the routine stands.
+/// The stages of the routine.
 #[derive(Clone, Copy, Debug, PartialEq, Eq)]
-pub enum Place {
+pub enum CarveStage {
     /// It looks at a page; so many free ones stand in a row right before it.
     Look {
         /// The page.
@@ -60,7 +61,7 @@ pub struct Carve {
     seat: u32,
     generation: u64,
     span: Span,
-    place: Place,
+    stage: CarveStage,
 }
 
 impl Model for Carve {
@@ -69,11 +70,11 @@ impl Model for Carve {
 
     ghost Value = { Carving };
 
-    ghost view = { λ c. record { layout = c.layout; seat = c.seat; generation = c.generation; span = c.span; place = c.place } };
+    ghost view = { λ c. record { layout = c.layout; seat = c.seat; generation = c.generation; span = c.span; stage = c.stage } };
 
-    ghost invariant = { λ c. Sound (record { layout = c.layout; seat = c.seat; generation = c.generation; span = c.span; place = c.place }) };
+    ghost invariant = { λ c. Sound (record { layout = c.layout; seat = c.seat; generation = c.generation; span = c.span; stage = c.stage }) };
 
-    ghost inverse = { λ c. record { layout = c.layout; seat = c.seat; generation = c.generation; span = c.span; place = c.place } };
+    ghost inverse = { λ c. record { layout = c.layout; seat = c.seat; generation = c.generation; span = c.span; stage = c.stage } };
 }
 
 /// So many free pages stand in a row up to the page whose word was found.
@@ -90,17 +91,17 @@ fn row_after(run: u32, found: u64) -> u32
 impl Span {
     /// The store that follows those of the pages up to this distance behind the first: the next
     /// page's, and last the first page's.
-    fn next_store(&self, first: u32, distance: u32) -> Place
+    fn next_store(&self, first: u32, distance: u32) -> CarveStage
         requires { distance + 1 < 2 ^ 32 }
         ensures { result ≡ next_store self.now first distance }
     {
         if distance + 1 < self.pages {
-            Place::Body {
+            CarveStage::Body {
                 first,
                 distance: distance + 1,
             }
         } else {
-            Place::Head { first }
+            CarveStage::Head { first }
         }
     }
 }
@@ -111,7 +112,7 @@ impl Carve {
     pub fn new(layout: &Layout, seat: u32, generation: u64, span: Span) -> Carve
         requires seat { seat < seats_of layout.now }
         requires generation { generation < 2 ^ 34 }
-        requires span { IsSpan span }
+        requires span { FitsSpan span }
         ensures { result ≡ opening layout.now seat generation span }
     {
         Carve {
@@ -119,7 +120,7 @@ impl Carve {
             seat,
             generation,
             span,
-            place: Place::Look { page: 0, run: 0 },
+            stage: CarveStage::Look { page: 0, run: 0 },
         }
     }
 
@@ -156,13 +157,13 @@ impl Carve {
         ensures asks { result ≡ asks self.now }
         ensures within { InRange self.now.layout (cell_of result) }
     {
-        match self.place {
-            Place::Look { page, .. } => Ask::Load(Cell::Page(page)),
-            Place::Body { first, distance } => {
+        match self.stage {
+            CarveStage::Look { page, .. } => Ask::Load(Cell::Page(page)),
+            CarveStage::Body { first, distance } => {
                 Ask::Store(Cell::Page(first + distance), self.body_word(distance))
             }
-            Place::Head { first } => Ask::Store(Cell::Page(first), self.head_word()),
-            Place::Ended => Ask::Load(Cell::Touch),
+            CarveStage::Head { first } => Ask::Store(Cell::Page(first), self.head_word()),
+            CarveStage::Ended => Ask::Load(Cell::Touch),
         }
     }
 }
@@ -172,13 +173,13 @@ impl Carve {
     fn give(&self, found: u64) -> Option<Option<u32>>
         ensures { result ≡ gives self.now found }
     {
-        match self.place {
-            Place::Look { page, run } => {
+        match self.stage {
+            CarveStage::Look { page, run } => {
                 let none = row_after(run, found) != self.span.pages && self.is_last(page);
                 if none { Some(None) } else { None }
             }
-            Place::Head { first } => Some(Some(first)),
-            Place::Body { .. } | Place::Ended => None,
+            CarveStage::Head { first } => Some(Some(first)),
+            CarveStage::Body { .. } | CarveStage::Ended => None,
         }
     }
 
@@ -190,8 +191,8 @@ impl Carve {
         page + 1 >= self.layout.pages
     }
 
-    /// Where it stands after the page was looked at, with so many free ones in a row up to it.
-    fn after_look(&self, page: u32, row: u32) -> Place
+    /// Its stage after the page was looked at, with so many free ones in a row up to it.
+    fn after_look(&self, page: u32, row: u32) -> CarveStage
         requires few { row ≤ page + 1 }
         requires page { page + 1 < 2 ^ 32 }
         ensures { result ≡ after_look self.now page row }
@@ -199,43 +200,43 @@ impl Carve {
         if row == self.span.pages {
             self.span.next_store(page + 1 - row, 0)
         } else if self.is_last(page) {
-            Place::Ended
+            CarveStage::Ended
         } else {
-            Place::Look {
+            CarveStage::Look {
                 page: page + 1,
                 run: row,
             }
         }
     }
 
-    /// Where it stands after its step found this.
-    fn go(&self, found: u64) -> Place
-        ensures { result ≡ goes_at self.now self.now.place found }
+    /// Its stage after its step found this.
+    fn go(&self, found: u64) -> CarveStage
+        ensures { result ≡ goes_at self.now self.now.stage found }
     {
-        match self.place {
-            Place::Look { page, run } => self.after_look(page, row_after(run, found)),
-            Place::Body { first, distance } => self.span.next_store(first, distance),
-            Place::Head { .. } | Place::Ended => Place::Ended,
+        match self.stage {
+            CarveStage::Look { page, run } => self.after_look(page, row_after(run, found)),
+            CarveStage::Body { first, distance } => self.span.next_store(first, distance),
+            CarveStage::Head { .. } | CarveStage::Ended => CarveStage::Ended,
         }
     }
 }
 
 impl Machine for Carve {
     ghost use Rattle.std.specs.Prelude.{refl};
-    ghost use Rattle.gh_pages.specs.Listing.{asks, gives, goes, is_busy};
+    ghost use Rattle.gh_pages.specs.Listing.{listing};
     ghost use Rattle.gh_pages.specs.Ends as proved;
 
     type Out = Option<u32>;
 
-    ghost layout = { λ c. c.layout };
+    ghost layout = { listing.layout };
 
-    ghost busy = { λ c. is_busy c.place };
+    ghost busy = { listing.busy };
 
-    ghost asks = { asks };
+    ghost asks = { listing.asks };
 
-    ghost goes = { goes };
+    ghost goes = { listing.goes };
 
-    ghost gives = { gives };
+    ghost gives = { listing.gives };
 
     fn next(&self) -> Req {
         self.layout.request(self.ask())
@@ -243,7 +244,7 @@ impl Machine for Carve {
 
     fn take(&mut self, found: u64) -> Option<Option<u32>> {
         let out = self.give(found);
-        self.place = self.go(found);
+        self.stage = self.go(found);
         out
     }
 

@@ -3,6 +3,8 @@
 ghost use Rattle.gh_pages.specs.FirstFit.{FirstFitIsFound};
 ghost use Rattle.gh_pages.specs.Storing.{FreshWordsAreReadBack, StoresStandInOrder, StoresWriteTheSpan};
 
+use gh_base::laws::{cells_are_told, packed_words_are_read_back};
+
 /// Told what each page holds, the routine goes on exactly with the least page from which enough
 /// free pages stand in a row, right after it has loaded the last of them; and it ends with `None`
 /// exactly where there is no such page.
@@ -20,10 +22,14 @@ pub fn stores_stand_in_order()
 /// further ones, and every other word as it was.
 pub fn stores_write_the_span()
     ensures { StoresWriteTheSpan }
-{}
+{
+    cells_are_told();
+}
 
 /// The words of a fresh span's pages are read as what was written: the head, and the bodies with
 /// their distances.
 pub fn fresh_words_are_read_back()
     ensures { FreshWordsAreReadBack }
-{}
+{
+    packed_words_are_read_back();
+}

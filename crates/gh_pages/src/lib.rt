@@ -15,4 +15,4 @@ pub mod laws;
 #[cfg(test)]
 mod tests;
 
-pub use carve::{Carve, Place, Span};
+pub use carve::{Carve, CarveStage, Span};

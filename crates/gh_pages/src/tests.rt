@@ -1,60 +1,25 @@
 //! What no clause says: runs over words that are drawn up by hand.
 
-ghost use Rattle.std.specs.Prelude.{◌≡◌, true};
-ghost use Rattle.gh_pages.specs.Listing.{is_busy};
-
 use super::*;
-use gh_base::{Layout, Machine, PageWord, Req, SpanBody, SpanHead};
+use gh_base::{Cell, Layout, PageWord, SpanBody, SpanHead, trace};
+use gh_class::{Class, SizeClass};
+use std::alloc::{AllocError, Global};
 use std::test::Fail;
 
-/// The page word of the first page of a layout.
-const FIRST_PAGE_WORD: u32 = 15;
-
-/// Makes the step on the page words, and tells the old word.
-fn make(request: Req, pages: &mut [u64; 16]) -> u64 {
-    match request {
-        Req::Load(word) => {
-            let page = word.saturating_sub(FIRST_PAGE_WORD).min(15) as usize;
-            pages[page]
-        }
-        Req::Store(word, value) => {
-            let page = word.saturating_sub(FIRST_PAGE_WORD).min(15) as usize;
-            let old = pages[page];
-            pages[page] = value;
-            old
-        }
-        _ => 0,
-    }
-}
-
-/// Runs it over these page words: what it ends with, and the steps to there.
-fn run(carve: &mut Carve, pages: &mut [u64; 16]) -> (Option<u32>, u32)
-    requires { is_busy carve.old.place ≡ true }
-{
-    for step in 1..100u32 {
-        let request = carve.next();
-        let found = make(request, pages);
-        if let Some(out) = carve.take(found) {
-            return (out, step);
-        }
-    }
-    (None, 0)
-}
-
-/// Sixteen page words: a dot is a free page, any other byte one that is taken.
-fn page_words(row: &[u8; 16]) -> [u64; 16] {
-    let mut words = [0u64; 16];
+/// The words up to the end of the row of page words, which begins at `start`: a dot is a free page,
+/// any other byte one that is taken.
+fn page_words(alloc: Global, start: u32, row: &[u8; 16]) -> Result<Vec<u64>, AllocError> {
+    let mut words = vec![in alloc; 0u64; start as usize]?;
     for i in 0..16 {
-        if row[i] != b'.' {
-            words[i] = 1;
-        }
+        words.push(if row[i] == b'.' { 0 } else { 1 })?;
     }
-    words
+    Ok(words)
 }
 
 #[test]
 fn takes_the_first_row_that_fits(rt: HostRuntime) -> Result<(), Fail> {
     let layout = Layout::new(16, 1, 1, 1, 1)?;
+    let start = layout.word(Cell::Page(0));
     // the pages, how many are wanted, the first page taken, and the steps
     for (row, pages, first, steps) in [
         (b"................", 1, Some(0), 2),
@@ -67,18 +32,16 @@ fn takes_the_first_row_that_fits(rt: HostRuntime) -> Result<(), Fail> {
         (b"xxxxxxxxxxxxxxxx", 1, None, 16),
         (b"xxxxxxxxxxxxxxx.", 1, Some(15), 17),
     ] {
-        let mut words = page_words(row);
+        let mut words = page_words(rt.alloc(), start, row)?;
         let span = Span {
-            class: 31,
+            class: SizeClass::Large,
             noscan: false,
             pages,
         };
         let mut carve = Carve::new(&layout, 2, 4, span);
-        assert_eq!(rt;
-            run(&mut carve, &mut words),
-            (first, steps),
-            "{pages} pages"
-        );
+        let made = trace::run_alone(rt.alloc(), &mut carve, &layout, &mut words, 100)?;
+        let found = (made.out, made.lines.len());
+        assert_eq!(rt; found, (Some(first), steps), "{pages} pages");
     }
     Ok(())
 }
@@ -86,16 +49,19 @@ fn takes_the_first_row_that_fits(rt: HostRuntime) -> Result<(), Fail> {
 #[test]
 fn writes_the_words_of_the_span(rt: HostRuntime) -> Result<(), Fail> {
     let layout = Layout::new(16, 1, 1, 1, 1)?;
-    let mut words = page_words(b"x..x............");
+    let start = layout.word(Cell::Page(0));
+    let mut words = page_words(rt.alloc(), start, b"x..x............")?;
+    let class = SizeClass::Small(Class::from_number(20).ok_or("no class")?);
     let span = Span {
-        class: 20,
+        class,
         noscan: true,
         pages: 3,
     };
     let mut carve = Carve::new(&layout, 1, 6, span);
-    assert_eq!(rt; run(&mut carve, &mut words), (Some(4), 10));
+    let steps = trace::run_alone(rt.alloc(), &mut carve, &layout, &mut words, 100)?;
+    assert_eq!(rt; (steps.out, steps.lines.len()), (Some(Some(4)), 10));
     let head = SpanHead {
-        class: 20,
+        class,
         noscan: true,
         pages: 3,
         owner: 2,
@@ -103,7 +69,7 @@ fn writes_the_words_of_the_span(rt: HostRuntime) -> Result<(), Fail> {
     };
     let body = |distance: u32| {
         PageWord::Body(SpanBody {
-            class: 20,
+            class,
             noscan: true,
             distance,
         })
@@ -115,11 +81,40 @@ fn writes_the_words_of_the_span(rt: HostRuntime) -> Result<(), Fail> {
         (6, body(2)),
         (7, PageWord::Free),
     ] {
-        assert_eq!(rt; PageWord::unpack(words[page]), says, "page {page}");
+        let word = words.get(start as usize + page).ok_or("no word")?;
+        assert_eq!(rt; PageWord::unpack(*word), says, "page {page}");
     }
     laws::first_fit();
     laws::stores_stand_in_order();
     laws::stores_write_the_span();
     laws::fresh_words_are_read_back();
+    Ok(())
+}
+
+#[test]
+fn loads_and_then_stores(rt: HostRuntime) -> Result<(), Fail> {
+    let layout = Layout::new(16, 1, 1, 1, 1)?;
+    let start = layout.word(Cell::Page(0));
+    let mut words = page_words(rt.alloc(), start, b"x..x............")?;
+    let span = Span {
+        class: SizeClass::Large,
+        noscan: false,
+        pages: 2,
+    };
+    let mut carve = Carve::new(&layout, 1, 2, span);
+    let steps = trace::run_alone(rt.alloc(), &mut carve, &layout, &mut words, 9)?;
+    assert_eq!(rt; steps.lines.len(), 5);
+    for (i, line) in [
+        "load page 0: 1",
+        "load page 1: 0",
+        "load page 2: 0",
+        "store page 2 638: 0",
+        "store page 1 2155873405: 0",
+    ]
+    .iter()
+    .enumerate()
+    {
+        assert_eq!(rt; steps.lines[i].as_str(), *line);
+    }
     Ok(())
 }

@@ -1,4 +1,4 @@
-use Rattle.gh_pages.proofs.Keeping.{sound_moved}
+use Rattle.gh_pages.proofs.Carving.Keeping.{sound_moved}
 use Rattle.gh_pages.proofs.carve.CarveMachine.take.Goals as goal
 
 pub invariant_of-self : goal.invariant_of-self

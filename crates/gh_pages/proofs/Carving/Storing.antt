@@ -3,14 +3,15 @@ use Rattle.std.proofs.Common.{◌≡◌, ◌≢◌, ℕ, zero, suc, ◌+◌, ◌
 use Rattle.std.proofs.lemmas.Bool.Decides.{nat_tests}
 use Rattle.gh_base.specs.declared.cell.Cell.{Cell}
 use Rattle.gh_base.specs.declared.cell.Cell.TheVariants.{Page}
-use Rattle.gh_base.specs.Cells.{Words, put, same_cell}
+use Rattle.gh_base.specs.Cells.{Words, put}
 use Rattle.gh_base.specs.Packing.{body_word, head_word}
+use Rattle.gh_base.specs.Routines.{Alone, told}
+use Rattle.gh_base.specs.Rows.{CellsAreTold}
 use Rattle.gh_base.specs.Steps.{cell_of, effect}
 use Rattle.gh_pages.specs.declared.carve.Span.{Span}
-use Rattle.gh_pages.specs.declared.carve.Place.TheVariants.{Body, Head, Ended}
-use Rattle.gh_pages.specs.FirstFit.{told}
-use Rattle.gh_pages.specs.Listing.{Carving, asks, at_place, fresh_body, fresh_head, gives, goes, next_store}
-use Rattle.gh_pages.specs.Storing.{Run, StoresInOrder, StoresLeaveTheSpan, stored, storing}
+use Rattle.gh_pages.specs.declared.carve.CarveStage.TheVariants.{Body, Head, Ended}
+use Rattle.gh_pages.specs.Listing.{Carving, asks, at_stage, fresh_body, fresh_head, gives, goes, listing, next_store}
+use Rattle.gh_pages.specs.Storing.{StoresInOrder, StoresLeaveTheSpan, stored, storing}
 
 -- the store that follows where a body is to be written, and where none is
 on_body : (span : Span) (first n : ℕ) → n + 1 < span.pages → next_store span first n ≡ Body first (n + 1)
@@ -25,19 +26,19 @@ on_head span first n last = ap (λ (b : Bool). cond b (Body first (n + 1)) (Head
 
 module _ (c : Carving) (first : ℕ) where
   abbrev at_store : ℕ → Carving
-  at_store n = at_place c (next_store c.span first n)
+  at_store n = at_stage c (next_store c.span first n)
 
-  body_store : (n : ℕ) → n + 1 < c.span.pages → at_store n ≡ at_place c (Body first (n + 1))
-  body_store n more = ap (at_place c) (on_body c.span first n more)
+  body_store : (n : ℕ) → n + 1 < c.span.pages → at_store n ≡ at_stage c (Body first (n + 1))
+  body_store n more = ap (at_stage c) (on_body c.span first n more)
 
-  head_store : (n : ℕ) → n + 1 ≡ c.span.pages → at_store n ≡ at_place c (Head first)
-  head_store n last = ap (at_place c) (on_head c.span first n last)
+  head_store : (n : ℕ) → n + 1 ≡ c.span.pages → at_store n ≡ at_stage c (Head first)
+  head_store n last = ap (at_stage c) (on_head c.span first n last)
 
   -- a body word's store leads to the next
   goes_from : (n word : ℕ) → n + 1 < c.span.pages → goes (at_store n) word ≡ at_store (suc n)
   goes_from n word more = ap (λ (m : Carving). goes m word) (body_store n more) ∙ ap at_store (omega arith)
 
-  told_is : (found : ℕ → ℕ) (n : ℕ) → n < c.span.pages → told (storing c first) found n ≡ at_store n
+  told_is : (found : ℕ → ℕ) (n : ℕ) → n < c.span.pages → told listing (storing c first) found n ≡ at_store n
   told_is found zero some = refl
   told_is found (suc n) more = ap (λ (m : Carving). goes m (found n)) (told_is found n (omega arith)) ∙ goes_from n (found n) (omega arith)
 
@@ -49,32 +50,23 @@ module _ (c : Carving) (first : ℕ) where
     gives_first = λ n word last. ap (λ (m : Carving). gives m word) (told_is found n (omega arith) ∙ head_store n last);
   }
 
-other_page : (q : ℕ) (cell : Cell) → cell ≢ Page q → same_cell (Page q) cell ≡ false
-other_page q (Page p) other = go (eqb q p) refl where
-  go : (b : Bool) → eqb q p ≡ b → b ≡ false
-  go false e = refl
-  go true e = absurd (other (ap Page (let same : p ≡ q = grind (arith, nat_tests) in same)))
-other_page q _ other = refl
-
-put_there : (words : Words) (q value : ℕ) → put words (Page q) value (Page q) ≡ value
-put_there words q value = ap (λ (b : Bool). cond b value (words (Page q))) is where
-  is : eqb q q ≡ true
-  is = grind (arith, nat_tests)
-
-put_elsewhere : (words : Words) (q value : ℕ) (cell : Cell) → cell ≢ Page q → put words (Page q) value cell ≡ words cell
-put_elsewhere words q value cell other = ap (λ (b : Bool). cond b value (words cell)) (other_page q cell other)
-
 other_number : (p q : ℕ) → p ≢ q → Page p ≢ Page q
 other_number p q ne e = ne (cc)
 
-module _ (c : Carving) (words : Words) (first : ℕ) where
+module _ (cells : CellsAreTold) (c : Carving) (words : Words) (first : ℕ) where
+  put_there : (words : Words) (q value : ℕ) → put words (Page q) value (Page q) ≡ value
+  put_there words q value = cells.put_here words (Page q) value
+
+  put_elsewhere : (words : Words) (q value : ℕ) (cell : Cell) → cell ≢ Page q → put words (Page q) value cell ≡ words cell
+  put_elsewhere words q value cell other = cells.put_elsewhere words (Page q) cell value (λ e. other (sym e))
+
   -- after n stores
-  record Left (n : ℕ) (r : Run) : Type 0 where
+  record Left (n : ℕ) (r : Alone Carving) : Type 0 where
     routine : r.routine ≡ at_store c first n
     bodies : (d : ℕ) → 1 ≤ d → d ≤ n → r.words (Page (first + d)) ≡ body_word (fresh_body c d)
     others : (cell : Cell) → ((d : ℕ) → 1 ≤ d → d ≤ n → cell ≢ Page (first + d)) → r.words cell ≡ words cell
 
-  left_more : (n : ℕ) (r s : Run) → n + 1 < c.span.pages → Left n r → s.routine ≡ at_store c first (n + 1) →
+  left_more : (n : ℕ) (r s : Alone Carving) → n + 1 < c.span.pages → Left n r → s.routine ≡ at_store c first (n + 1) →
       s.words ≡ put r.words (Page (first + (n + 1))) (body_word (fresh_body c (n + 1))) → Left (n + 1) s
   left_more n r s more l routine is = record {
     routine = routine;
@@ -94,18 +86,18 @@ module _ (c : Carving) (words : Words) (first : ℕ) where
   left (suc n) more =
       let l = left n (omega arith) in
       let r = stored c words first n in
-      let here : r.routine ≡ at_place c (Body first (n + 1)) = l.routine ∙ body_store c first n (omega arith) in
+      let here : r.routine ≡ at_stage c (Body first (n + 1)) = l.routine ∙ body_store c first n (omega arith) in
       subst (λ (x : ℕ). Left x (stored c words first (suc n))) (omega arith)
       (left_more n r (stored c words first (suc n)) (omega arith) l (ap (λ (m : Carving). goes m (r.words (cell_of (asks r.routine)))) here) (ap (λ (m : Carving). effect r.words (asks m)) here))
 
   -- after the last store
-  record All (r : Run) : Type 0 where
-    ended : r.routine ≡ at_place c Ended
+  record All (r : Alone Carving) : Type 0 where
+    ended : r.routine ≡ at_stage c Ended
     head : r.words (Page first) ≡ head_word (fresh_head c)
     bodies : (d : ℕ) → 1 ≤ d → d < c.span.pages → r.words (Page (first + d)) ≡ body_word (fresh_body c d)
     others : (cell : Cell) → ((d : ℕ) → d < c.span.pages → cell ≢ Page (first + d)) → r.words cell ≡ words cell
 
-  left_last : (n : ℕ) (r s : Run) → n + 1 ≡ c.span.pages → Left n r → s.routine ≡ at_place c Ended → s.words ≡ put r.words (Page first) (head_word (fresh_head c)) → All s
+  left_last : (n : ℕ) (r s : Alone Carving) → n + 1 ≡ c.span.pages → Left n r → s.routine ≡ at_stage c Ended → s.words ≡ put r.words (Page first) (head_word (fresh_head c)) → All s
   left_last n r s last l routine is = record {
     ended = routine;
     head = ap (λ (w : Words). w (Page first)) is ∙ put_there r.words first (head_word (fresh_head c));
@@ -119,7 +111,7 @@ module _ (c : Carving) (words : Words) (first : ℕ) where
   all n last =
       let l = left n (omega arith) in
       let r = stored c words first n in
-      let here : r.routine ≡ at_place c (Head first) = l.routine ∙ head_store c first n last in
+      let here : r.routine ≡ at_stage c (Head first) = l.routine ∙ head_store c first n last in
       left_last n r (stored c words first (suc n)) last l (ap (λ (m : Carving). goes m (r.words (cell_of (asks r.routine)))) here) (ap (λ (m : Carving). effect r.words (asks m)) here)
 
   pub leaves : 1 ≤ c.span.pages → StoresLeaveTheSpan c words first

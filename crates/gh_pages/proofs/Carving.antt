@@ -1,0 +1,4 @@
+pub mod Keeping
+pub mod Looking
+pub mod Rows
+pub mod Storing
