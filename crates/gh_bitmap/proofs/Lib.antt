@@ -1,5 +1,3 @@
-pub mod BitRows
 pub mod Moved
-pub mod ReadBack
-pub mod Running
-pub mod Steps
+pub mod PointerReading
+pub mod PointerSetting

@@ -1,25 +1,9 @@
 -- The bits of the bitmap: which are a slot's, and which a type's pointer fields are.
 use Rattle.std.specs.Prelude.{ℕ, ◌+◌, ◌-◌, ◌*◌, ◌/◌, ◌%◌, ◌^◌, nat_lt, if◌then◌else◌, max, min}
-use Rattle.std.specs.Int.{bit_at}
-use Rattle.gh_base.specs.declared.cell.Cell.TheVariants.{Bitmap}
-use Rattle.gh_base.specs.Cells.{Words}
 use Rattle.gh_base.specs.declared.shape.Shape.{Shape}
 use Rattle.gh_base.specs.Shapes.{bits_at}
-
--- what a row of words holds, by index
-abbrev pub Row : Type 0
-Row = ℕ → ℕ
-
-abbrev pub bitmap_row : Words → Row
-bitmap_row words i = words (Bitmap i)
-
--- the bit of heap word x in a row that has a bit for each heap word
-unfoldable pub row_bit : Row → ℕ → ℕ
-row_bit row x = bit_at (row (x / 64)) (x % 64)
-
--- the bitmap's bit of heap word x
-abbrev pub pointer_bit : Words → ℕ → ℕ
-pointer_bit words x = row_bit (bitmap_row words) x
+-- a row of words, and the bit of a heap word in it
+pub use Rattle.gh_base.specs.Rows.{Row, pointer_bit, row_bit}
 
 -- the bits from low to high - 1
 abbrev pub bits_between : ℕ → ℕ → ℕ

@@ -1,7 +1,7 @@
 pub mod Bits
 pub mod Ends
 pub mod Pointers
-pub mod Reading
-pub mod Setting
+pub mod ReadPointer
+pub mod SetPointers
 pub mod Sound
 pub mod Stepping

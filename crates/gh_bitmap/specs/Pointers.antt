@@ -1,5 +1,5 @@
 -- What the routines do, run from their beginning to their end with no other actor's step between.
-use Rattle.std.specs.Prelude.{◌≡◌, ◌≢◌, ℕ, zero, suc, ◌+◌, ◌*◌, ◌/◌, ◌<◌, ◌≤◌, ◌⊎◌, true, ◌==◌, Some}
+use Rattle.std.specs.Prelude.{◌≡◌, ◌≢◌, ℕ, ◌+◌, ◌*◌, ◌/◌, ◌<◌, ◌≤◌, ◌⊎◌, ◌==◌, Some}
 use Rattle.gh_base.specs.declared.cell.Cell.{Cell}
 use Rattle.gh_base.specs.declared.cell.Cell.TheVariants.{Bitmap}
 use Rattle.gh_base.specs.declared.cell.Ask.TheVariants.{Load}
@@ -7,12 +7,12 @@ use Rattle.gh_base.specs.declared.layout.Layout.{Layout}
 use Rattle.gh_base.specs.declared.shape.Shape.{Shape}
 use Rattle.gh_base.specs.Cells.{Words}
 use Rattle.gh_base.specs.Packing.{bit}
+use Rattle.gh_base.specs.Routines.{Leaves}
+use Rattle.gh_base.specs.Rows.{pointer_bit}
 use Rattle.gh_base.specs.Shapes.{is_pointer}
-use Rattle.gh_base.specs.Steps.{cell_of, effect}
-use Rattle.gh_bitmap.specs.declared.set_pointers.SetPlace.TheVariants.{Ended}
-use Rattle.gh_bitmap.specs.Bits.{pointer_bit}
-use Rattle.gh_bitmap.specs.Reading as reading
-use Rattle.gh_bitmap.specs.Setting.{Setting, asks, goes, is_busy, opening}
+use Rattle.gh_base.specs.Steps.{cell_of}
+use Rattle.gh_bitmap.specs.ReadPointer as reading
+use Rattle.gh_bitmap.specs.SetPointers as setting
 use Rattle.gh_bitmap.specs.Stepping.{FitsSlot}
 
 -- the bits of a slot of so many words at heap word `at` are those of the shape, and nothing else is changed
@@ -24,27 +24,9 @@ pub record AreSet (shape : Shape) (at slot : ℕ) (before after : Words) : Type 
   -- and so is each cell that has no bit of the slot
   pub other_cells : (cell : Cell) → ((i : ℕ) → i < slot → cell ≢ Bitmap ((at + i) / 64)) → after cell ≡ before cell
 
--- the routine and the words
-pub record Run : Type 0 where
-  pub routine : Setting
-  pub words : Words
-
--- after so many steps of its own
-abbrev pub alone : ℕ → Run → Run
-alone zero r = r
-alone (suc n) r = alone n (record { routine = goes r.routine (r.words (cell_of (asks r.routine))); words = effect r.words (asks r.routine) })
-
-module _ (r : Run) (IsLeft : Words → Type 0) where
-  -- the routine ends, and these are the words that it leaves
-  pub record EndsWith : Type 0 where
-    pub steps : ℕ
-    pub busy : (n : ℕ) → n < steps → is_busy (alone n r).routine.place ≡ true
-    pub ended : (alone steps r).routine.place ≡ Ended
-    pub left : IsLeft (alone steps r).words
-
 abbrev pub PointersAreSet : Type 0
 PointersAreSet = (l : Layout) (shape : Shape) (at slot : ℕ) (words : Words) → 1 ≤ slot → at + slot ≤ 1024 * l.pages → FitsSlot shape slot →
-    EndsWith (record { routine = opening l shape at slot; words = words }) (AreSet shape at slot words)
+    Leaves setting.listing (record { routine = setting.opening l shape at slot; words = words }) (AreSet shape at slot words)
 
 -- the routine that reads loads the word that has the bit, and ends with that bit
 pub record ReadsBit (l : Layout) (at : ℕ) (words : Words) : Type 0 where

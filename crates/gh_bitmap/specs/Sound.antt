@@ -1,21 +1,21 @@
 -- What the routine that sets pointer bits knows of its own numbers, whatever it is told.
 use Rattle.std.specs.Prelude.{ℕ, ◌+◌, ◌*◌, ◌/◌, ◌<◌, ◌≤◌}
-use Rattle.gh_bitmap.specs.declared.set_pointers.SetPlace.{SetPlace}
-use Rattle.gh_bitmap.specs.declared.set_pointers.SetPlace.TheVariants.{Clear, Set, Ended}
-use Rattle.gh_bitmap.specs.Setting.{Setting}
+use Rattle.gh_bitmap.specs.declared.set_pointers.SetStage.{SetStage}
+use Rattle.gh_bitmap.specs.declared.set_pointers.SetStage.TheVariants.{Clear, Set, Ended}
+use Rattle.gh_bitmap.specs.SetPointers.{PointerSetting}
 
 -- word i of the bitmap has bits of a slot of one word at least
 pub record Touches (at slot i : ℕ) : Type 0 where
   pub begins : at / 64 ≤ i
   pub ends : 64 * i < at + slot
 
-abbrev pub IsPlace : (at slot : ℕ) → SetPlace → Type 0
-IsPlace at slot (Clear i) = Touches at slot i
-IsPlace at slot (Set i) = Touches at slot i
-IsPlace at slot Ended = Unit {0}
+abbrev pub IsStage : (at slot : ℕ) → SetStage → Type 0
+IsStage at slot (Clear i) = Touches at slot i
+IsStage at slot (Set i) = Touches at slot i
+IsStage at slot Ended = Unit {0}
 
--- the slot has a word and lies in the arena, and the routine stands at a word that has bits of it
-pub record Sound (s : Setting) : Type 0 where
+-- the slot has a word and lies in the arena, and the word that the routine is at has bits of it
+pub record Sound (s : PointerSetting) : Type 0 where
   pub some : 1 ≤ s.slot
   pub within : s.at + s.slot ≤ 1024 * s.layout.pages
-  pub place : IsPlace s.at s.slot s.place
+  pub stage : IsStage s.at s.slot s.stage

@@ -2,12 +2,13 @@
 use Rattle.std.specs.Prelude.{◌≡◌, ℕ, ◌+◌, ◌-◌, ◌*◌, ◌/◌, ◌^◌, ◌<◌, ◌≤◌, false}
 use Rattle.gh_base.specs.Cells.{Words}
 use Rattle.gh_base.specs.Packing.{bit}
+use Rattle.gh_base.specs.Rows.{pointer_bit}
 use Rattle.gh_base.specs.Steps.{effect}
 use Rattle.gh_base.specs.declared.shape.Shape.{Shape}
 use Rattle.gh_base.specs.Shapes.{bits_at, is_pointer}
-use Rattle.gh_bitmap.specs.declared.set_pointers.SetPlace.TheVariants.{Clear, Set}
-use Rattle.gh_bitmap.specs.Bits.{pointer_bit, pointer_bits}
-use Rattle.gh_bitmap.specs.Setting.{Setting, asks_at}
+use Rattle.gh_bitmap.specs.declared.set_pointers.SetStage.TheVariants.{Clear, Set}
+use Rattle.gh_bitmap.specs.Bits.{pointer_bits}
+use Rattle.gh_bitmap.specs.SetPointers.{PointerSetting, asks_at}
 use Rattle.gh_bitmap.specs.Sound.{Touches}
 
 -- the shape's words fit the slot, and none behind them is a pointer field
@@ -16,7 +17,7 @@ pub record FitsSlot (shape : Shape) (slot : ℕ) : Type 0 where
   pub within : shape.words ≤ slot
   pub none : (k : ℕ) → shape.words ≤ k → is_pointer shape k ≡ false
 
-module _ (s : Setting) (i : ℕ) where
+module _ (s : PointerSetting) (i : ℕ) where
   -- heap word x is one of the slot's, and word i has its bit
   pub record IsHere (x : ℕ) : Type 0 where
     pub word : x / 64 ≡ i
@@ -44,4 +45,4 @@ module _ (s : Setting) (i : ℕ) where
 
 -- for a slot in the arena, and each word that has bits of it
 abbrev pub EachStepIsOnItsBits : Type 0
-EachStepIsOnItsBits = (s : Setting) (i : ℕ) (words : Words) → s.at + s.slot ≤ 1024 * s.layout.pages → FitsSlot s.shape s.slot → Touches s.at s.slot i → StepsOn s i words
+EachStepIsOnItsBits = (s : PointerSetting) (i : ℕ) (words : Words) → s.at + s.slot ≤ 1024 * s.layout.pages → FitsSlot s.shape s.slot → Touches s.at s.slot i → StepsOn s i words

@@ -5,6 +5,7 @@ ghost use Rattle.gh_base.specs.Shapes.{bits_at};
 ghost use Rattle.gh_bitmap.specs.Bits.{bits_between, pointer_bits, slot_bits};
 
 use gh_base::Shape;
+use gh_base::limits::MOST_PAGES;
 
 /// The bits from `low` to `high - 1`.
 #[tactic(auto, using(crate::proofs::Moved::powers_apart))]
@@ -25,7 +26,7 @@ fn bits_between(low: u32, high: u32) -> u64
 pub(crate) fn slot_bits(at: u32, slot: u32, i: u32) -> u64
     requires begins { at / 64 ≤ i }
     requires ends { 64 * i < at + slot }
-    requires within { at + slot ≤ 2 ^ 20 }
+    requires within { at + slot ≤ 1024 * MOST_PAGES }
     ensures is { result ≡ slot_bits at slot i }
     ensures fits { result < 2 ^ 64 }
 {

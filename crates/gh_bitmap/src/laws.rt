@@ -3,17 +3,26 @@
 ghost use Rattle.gh_bitmap.specs.Pointers.{BitsAreRead, PointersAreSet, SetBitsAreReadBack};
 ghost use Rattle.gh_bitmap.specs.Stepping.{EachStepIsOnItsBits};
 
+use crate::set_pointers::SetPointers;
+use gh_base::laws::{cells_are_told, rows_are_written, steps_are_folded};
+
 /// Each step of the routine that sets pointer bits is on the slot's bits in one word: the first
 /// clears them, the second makes them those of the type's pointer fields. Every other bit stays.
 pub fn each_step_is_on_its_bits()
     ensures { EachStepIsOnItsBits }
-{}
+{
+    rows_are_written();
+}
 
 /// Run to its end over any words, the routine leaves the bits of the slot's words as the type says,
 /// every other heap word's bit as it was, and every cell that has no bit of the slot.
 pub fn pointers_are_set()
     ensures { PointersAreSet }
-{}
+{
+    rows_are_written();
+    cells_are_told();
+    steps_are_folded::<SetPointers<'_>, ()>();
+}
 
 /// The routine that reads a heap word's bit ends with that bit.
 pub fn bits_are_read()

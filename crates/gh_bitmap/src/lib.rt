@@ -4,12 +4,13 @@
 //! field of an object. Who loads a field reads its bit first, to know whether what it holds is a
 //! reference or a number; so does whoever scans the object. [`SetPointers`] writes the bits of a new
 //! object's slot, by the shape of its type, and [`ReadPointer`] reads the bit of one word. What they
-//! ask for and where they go is their listing, in specs/Setting.antt and specs/Reading.antt; above
+//! ask for and where they go is their listing, in specs/SetPointers.antt and specs/ReadPointer.antt; above
 //! that stand the laws of [`laws`]: the bits of the slot become those of the type, every other bit
 //! stays, and what is read is what was set.
 //!
-//! This is Go's heap bitmap (`heapSetType` and `typePointers`, mbitmap.go). Go keeps the bits of a
-//! small object's span at the end of that span; here they are a row of words of their own.
+//! This is Go's heap bitmap (`heapBitsSetType`, and `heapBitsForAddr` with `heapBits.isPointer`, in
+//! mbitmap.go). Go keeps two bits for each word, in a bitmap for each arena; here the bits are a row of
+//! words of their own, one for each heap word.
 #![tactic(auto)]
 
 mod bits;
@@ -19,5 +20,5 @@ mod set_pointers;
 #[cfg(test)]
 mod tests;
 
-pub use read_pointer::{ReadPlace, ReadPointer};
-pub use set_pointers::{SetPlace, SetPointers};
+pub use read_pointer::{ReadPointer, ReadStage};
+pub use set_pointers::{SetPointers, SetStage};

@@ -3,14 +3,14 @@
 ghost use Rattle.std.specs.Prelude.{◌≡◌};
 ghost use Rattle.gh_base.specs.Cells.{InRange};
 ghost use Rattle.gh_base.specs.Steps.{cell_of};
-ghost use Rattle.gh_bitmap.specs.Reading.{asks, opening};
+ghost use Rattle.gh_bitmap.specs.ReadPointer.{asks, opening};
 
 use gh_base::{Ask, Cell, Layout, Machine, Req};
 use std::marker::Model;
 
-/// Where the routine that reads a pointer bit stands.
+/// The stages of the routine that reads a pointer bit.
 #[derive(Clone, Copy, Debug, PartialEq, Eq)]
-pub enum ReadPlace {
+pub enum ReadStage {
     /// It loads the word of the bitmap that has the bit.
     Load,
     /// It has ended.
@@ -18,22 +18,22 @@ pub enum ReadPlace {
 }
 
 /// Reads the bit of one heap word: it ends with whether that word is a pointer field (Go's
-/// `typePointers`, mbitmap.go).
+/// `heapBits.isPointer`, mbitmap.go).
 #[derive(Clone, Copy, Debug, PartialEq, Eq)]
 pub struct ReadPointer {
     layout: Layout,
     at: u32,
-    place: ReadPlace,
+    stage: ReadStage,
 }
 
 impl Model for ReadPointer {
-    ghost use Rattle.gh_bitmap.specs.Reading.{Reading};
+    ghost use Rattle.gh_bitmap.specs.ReadPointer.{PointerReading};
 
-    ghost Value = { Reading };
+    ghost Value = { PointerReading };
 
-    ghost view = { λ r. record { layout = r.layout; at = r.at; place = r.place } };
+    ghost view = { λ r. record { layout = r.layout; at = r.at; stage = r.stage } };
 
-    ghost inverse = { λ r. record { layout = r.layout; at = r.at; place = r.place } };
+    ghost inverse = { λ r. record { layout = r.layout; at = r.at; stage = r.stage } };
 }
 
 impl ReadPointer {
@@ -44,50 +44,50 @@ impl ReadPointer {
         ReadPointer {
             layout: *layout,
             at,
-            place: ReadPlace::Load,
+            stage: ReadStage::Load,
         }
     }
 
     /// The step that it asks for.
-    fn ask(&self) -> Ask
+    pub fn ask(&self) -> Ask
         ensures asks { result ≡ asks self.now }
         ensures within { InRange self.now.layout (cell_of result) }
     {
-        match self.place {
-            ReadPlace::Load => Ask::Load(Cell::Bitmap(self.at / 64 % (16 * self.layout.pages))),
-            ReadPlace::Ended => Ask::Load(Cell::Touch),
+        match self.stage {
+            ReadStage::Load => Ask::Load(Cell::Bitmap(self.at / 64 % (16 * self.layout.pages))),
+            ReadStage::Ended => Ask::Load(Cell::Touch),
         }
     }
 }
 
 impl Machine for ReadPointer {
     ghost use Rattle.std.specs.Prelude.{refl};
-    ghost use Rattle.gh_bitmap.specs.Reading.{asks, gives, goes, is_busy};
+    ghost use Rattle.gh_bitmap.specs.ReadPointer.{listing};
     ghost use Rattle.gh_bitmap.specs.Ends as proved;
 
     type Out = bool;
 
-    ghost layout = { λ r. r.layout };
+    ghost layout = { listing.layout };
 
-    ghost busy = { λ r. is_busy r.place };
+    ghost busy = { listing.busy };
 
-    ghost asks = { asks };
+    ghost asks = { listing.asks };
 
-    ghost goes = { goes };
+    ghost goes = { listing.goes };
 
-    ghost gives = { gives };
+    ghost gives = { listing.gives };
 
     fn next(&self) -> Req {
         self.layout.request(self.ask())
     }
 
     fn take(&mut self, found: u64) -> Option<bool> {
-        match self.place {
-            ReadPlace::Load => {
-                self.place = ReadPlace::Ended;
+        match self.stage {
+            ReadStage::Load => {
+                self.stage = ReadStage::Ended;
                 Some((found >> (self.at % 64)) & 1 == 1)
             }
-            ReadPlace::Ended => None,
+            ReadStage::Ended => None,
         }
     }
 

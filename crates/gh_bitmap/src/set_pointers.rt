@@ -3,15 +3,16 @@
 ghost use Rattle.std.specs.Prelude.{◌≡◌, ◌+◌, ◌*◌, ◌^◌, ◌<◌, ◌≤◌};
 ghost use Rattle.gh_base.specs.Cells.{InRange};
 ghost use Rattle.gh_base.specs.Steps.{cell_of};
-ghost use Rattle.gh_bitmap.specs.Setting.{asks, goes_at, next_place, opening};
+ghost use Rattle.gh_bitmap.specs.SetPointers.{asks, goes_at, next_stage, opening};
 
 use crate::bits::{pointer_bits, slot_bits};
+use gh_base::limits::MOST_PAGES;
 use gh_base::{Ask, Cell, Layout, Machine, Req, Shape};
 use std::marker::Model;
 
-/// Where the routine that sets pointer bits stands.
+/// The stages of the routine that sets pointer bits.
 #[derive(Clone, Copy, Debug, PartialEq, Eq)]
-pub enum SetPlace {
+pub enum SetStage {
     /// It clears the slot's bits in this word of the bitmap.
     Clear(u32),
     /// It sets the bits of the pointer fields in this word, of which there is one at least.
@@ -20,7 +21,7 @@ pub enum SetPlace {
     Ended,
 }
 
-/// Writes the bits of an object's slot by the shape of its type (Go's `heapSetType`, mbitmap.go).
+/// Writes the bits of an object's slot by the shape of its type (Go's `heapBitsSetType`, mbitmap.go).
 ///
 /// For each word of the bitmap that has bits of the slot, in ascending order, it clears the slot's
 /// bits, and then sets those of the pointer fields, if the word has any. Each is one atomic step that
@@ -32,18 +33,18 @@ pub struct SetPointers<'s> {
     shape: &'s Shape,
     at: u32,
     slot: u32,
-    place: SetPlace,
+    stage: SetStage,
 }
 
 impl<'s> Model for SetPointers<'s> {
-    ghost use Rattle.gh_bitmap.specs.Setting.{Setting};
+    ghost use Rattle.gh_bitmap.specs.SetPointers.{PointerSetting};
     ghost use Rattle.gh_bitmap.specs.Sound.{Sound};
 
-    ghost Value = { Setting };
+    ghost Value = { PointerSetting };
 
-    ghost view = { λ s. record { layout = s.layout; shape = s.shape.now; at = s.at; slot = s.slot; place = s.place } };
+    ghost view = { λ s. record { layout = s.layout; shape = s.shape.now; at = s.at; slot = s.slot; stage = s.stage } };
 
-    ghost invariant = { λ s. Sound (record { layout = s.layout; shape = s.shape.now; at = s.at; slot = s.slot; place = s.place }) };
+    ghost invariant = { λ s. Sound (record { layout = s.layout; shape = s.shape.now; at = s.at; slot = s.slot; stage = s.stage }) };
 }
 
 impl<'s> SetPointers<'s> {
@@ -59,7 +60,7 @@ impl<'s> SetPointers<'s> {
             shape,
             at,
             slot,
-            place: SetPlace::Clear(at / 64),
+            stage: SetStage::Clear(at / 64),
         }
     }
 
@@ -69,74 +70,74 @@ impl<'s> SetPointers<'s> {
         ensures within { InRange self.now.layout (cell_of result) }
     {
         let row = 16 * self.layout.pages;
-        match self.place {
-            SetPlace::Clear(i) => {
+        match self.stage {
+            SetStage::Clear(i) => {
                 let others = u64::MAX - slot_bits(self.at, self.slot, i);
                 Ask::And(Cell::Bitmap(i % row), others)
             }
-            SetPlace::Set(i) => {
+            SetStage::Set(i) => {
                 let pointers = pointer_bits(self.shape, self.at, i);
                 Ask::Or(Cell::Bitmap(i % row), pointers)
             }
-            SetPlace::Ended => Ask::Load(Cell::Touch),
+            SetStage::Ended => Ask::Load(Cell::Touch),
         }
     }
 
     /// The next word of the bitmap that has bits of the slot, if there is one.
-    fn next_place(&self, i: u32) -> SetPlace
-        requires { i < 2 ^ 20 }
-        ensures { result ≡ next_place self.now i }
+    fn next_stage(&self, i: u32) -> SetStage
+        requires { i < 16 * MOST_PAGES }
+        ensures { result ≡ next_stage self.now i }
     {
         if 64 * (i + 1) < self.at + self.slot {
-            SetPlace::Clear(i + 1)
+            SetStage::Clear(i + 1)
         } else {
-            SetPlace::Ended
+            SetStage::Ended
         }
     }
 
-    /// Where it stands after its step.
-    fn go(&self) -> SetPlace
-        ensures { result ≡ goes_at self.now self.now.place }
+    /// Its stage after its step.
+    fn go(&self) -> SetStage
+        ensures { result ≡ goes_at self.now self.now.stage }
     {
-        match self.place {
-            SetPlace::Clear(i) => {
+        match self.stage {
+            SetStage::Clear(i) => {
                 if pointer_bits(self.shape, self.at, i) == 0 {
-                    self.next_place(i)
+                    self.next_stage(i)
                 } else {
-                    SetPlace::Set(i)
+                    SetStage::Set(i)
                 }
             }
-            SetPlace::Set(i) => self.next_place(i),
-            SetPlace::Ended => SetPlace::Ended,
+            SetStage::Set(i) => self.next_stage(i),
+            SetStage::Ended => SetStage::Ended,
         }
     }
 }
 
 impl<'s> Machine for SetPointers<'s> {
     ghost use Rattle.std.specs.Prelude.{refl};
-    ghost use Rattle.gh_bitmap.specs.Setting.{asks, gives, goes, is_busy};
+    ghost use Rattle.gh_bitmap.specs.SetPointers.{listing};
     ghost use Rattle.gh_bitmap.specs.Ends as proved;
 
     type Out = ();
 
-    ghost layout = { λ s. s.layout };
+    ghost layout = { listing.layout };
 
-    ghost busy = { λ s. is_busy s.place };
+    ghost busy = { listing.busy };
 
-    ghost asks = { asks };
+    ghost asks = { listing.asks };
 
-    ghost goes = { goes };
+    ghost goes = { listing.goes };
 
-    ghost gives = { gives };
+    ghost gives = { listing.gives };
 
     fn next(&self) -> Req {
         self.layout.request(self.ask())
     }
 
     fn take(&mut self, found: u64) -> Option<()> {
-        self.place = self.go();
-        match self.place {
-            SetPlace::Ended => Some(()),
+        self.stage = self.go();
+        match self.stage {
+            SetStage::Ended => Some(()),
             _ => None,
         }
     }

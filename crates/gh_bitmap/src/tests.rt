@@ -1,60 +1,9 @@
 //! What no clause says: runs over bitmap words that are drawn up by hand.
 
-ghost use Rattle.std.specs.Prelude.{◌≡◌, ◌<◌, true};
-ghost use Rattle.gh_bitmap.specs.Setting.{is_busy};
-
 use super::*;
-use gh_base::{Bits, Layout, Machine, Req, Shape};
+use gh_base::{Bits, Cell, Layout, Shape, trace};
 use std::alloc::{AllocError, Global};
 use std::test::Fail;
-
-/// The first bitmap word of a layout of 16 pages.
-const BITMAP_ROW: u32 = 543;
-
-/// The place in the row of a word of the layout.
-fn place(word: u32) -> usize
-    ensures { result < 256 }
-{
-    word.saturating_sub(BITMAP_ROW).min(255) as usize
-}
-
-/// Makes the step on the bitmap words, and tells the old word.
-fn make(request: Req, row: &mut [u64; 256]) -> u64 {
-    match request {
-        Req::Load(word) => row[place(word)],
-        Req::And(word, bits) => {
-            let old = row[place(word)];
-            row[place(word)] = old & bits;
-            old
-        }
-        Req::Or(word, bits) => {
-            let old = row[place(word)];
-            row[place(word)] = old | bits;
-            old
-        }
-        _ => 0,
-    }
-}
-
-/// Runs it to its end, and counts its steps.
-fn set(routine: &mut SetPointers, row: &mut [u64; 256]) -> u32
-    requires { is_busy routine.old.place ≡ true }
-{
-    for steps in 1..100u32 {
-        let found = make(routine.next(), row);
-        if routine.take(found).is_some() {
-            return steps;
-        }
-    }
-    0
-}
-
-/// The bit of a heap word.
-fn read(layout: &Layout, row: &mut [u64; 256], at: u32) -> Option<bool> {
-    let mut routine = ReadPointer::new(layout, at);
-    let found = make(routine.next(), row);
-    routine.take(found)
-}
 
 /// A shape with these pointer fields.
 fn shape(alloc: Global, words: u32, bits: &[u64]) -> Result<Shape, AllocError> {
@@ -72,6 +21,7 @@ fn shape(alloc: Global, words: u32, bits: &[u64]) -> Result<Shape, AllocError> {
 #[test]
 fn sets_the_bits_of_the_slot(rt: HostRuntime) -> Result<(), Fail> {
     let layout = Layout::new(16, 1, 1, 1, 1)?;
+    let start = layout.word(Cell::Bitmap(0)) as usize;
     let all = u64::MAX;
     // the first heap word and the words of the slot, the shape's pointer fields, what each word of the
     // bitmap was; the steps, the first word that has bits of the slot, and that and the two behind it
@@ -103,14 +53,17 @@ fn sets_the_bits_of_the_slot(rt: HostRuntime) -> Result<(), Fail> {
         (16_382, 2, [2, 0, 0], 0, 2, 255, [1 << 63, 0, 0]),
     ] {
         let shape = shape(rt.alloc(), slot, &fields)?;
-        let mut row = [was; 256];
+        let mut words = vec![in rt.alloc(); was; start + 256]?;
         assert!(rt; 1 <= slot && slot <= 16_384 && at <= 16_384 - slot);
         let mut routine = SetPointers::new(&layout, &shape, at, slot);
-        assert_eq!(rt; set(&mut routine, &mut row), steps, "{at} {slot}");
+        let made = trace::run_alone(rt.alloc(), &mut routine, &layout, &mut words, 100)?;
+        assert!(rt; made.out.is_some(), "{at} {slot}");
+        assert_eq!(rt; made.lines.len(), steps, "{at} {slot}");
         for (i, word) in left.iter().enumerate() {
-            let there = (first + i).min(255);
-            if first + i < 256 {
-                assert_eq!(rt; row[there], *word, "{at} {slot} {there}");
+            // a word behind the row is no word of the list
+            let there = start.saturating_add(first).saturating_add(i);
+            if let Some(found) = words.get(there) {
+                assert_eq!(rt; *found, *word, "{at} {slot} {there}");
             }
         }
     }
@@ -118,10 +71,34 @@ fn sets_the_bits_of_the_slot(rt: HostRuntime) -> Result<(), Fail> {
 }
 
 #[test]
+fn clears_and_sets_word_by_word(rt: HostRuntime) -> Result<(), Fail> {
+    let layout = Layout::new(16, 1, 1, 1, 1)?;
+    let shape = shape(rt.alloc(), 4, &[9])?;
+    let mut routine = SetPointers::new(&layout, &shape, 62, 4);
+    let start = layout.word(Cell::Bitmap(0)) as usize;
+    let mut words = vec![in rt.alloc(); 7u64; start + 256]?;
+    let steps = trace::run_alone(rt.alloc(), &mut routine, &layout, &mut words, 9)?;
+    assert_eq!(rt; steps.lines.len(), 4);
+    for (i, line) in [
+        "and bitmap 0 4611686018427387903: 7",
+        "or bitmap 0 4611686018427387904: 7",
+        "and bitmap 1 18446744073709551612: 7",
+        "or bitmap 1 2: 4",
+    ]
+    .iter()
+    .enumerate()
+    {
+        assert_eq!(rt; steps.lines[i].as_str(), *line);
+    }
+    Ok(())
+}
+
+#[test]
 fn reads_one_bit(rt: HostRuntime) -> Result<(), Fail> {
     let layout = Layout::new(16, 1, 1, 1, 1)?;
-    let mut row = [0u64; 256];
-    row[2] = 5;
+    let start = layout.word(Cell::Bitmap(0)) as usize;
+    let mut words = vec![in rt.alloc(); 0u64; start + 256]?;
+    words[start + 2] = 5;
     for (at, bit) in [
         (127, false),
         (128, true),
@@ -129,7 +106,9 @@ fn reads_one_bit(rt: HostRuntime) -> Result<(), Fail> {
         (130, true),
         (16_384 + 128, true),
     ] {
-        assert_eq!(rt; read(&layout, &mut row, at), Some(bit), "{at}");
+        let mut routine = ReadPointer::new(&layout, at);
+        let steps = trace::run_alone(rt.alloc(), &mut routine, &layout, &mut words, 9)?;
+        assert_eq!(rt; (steps.out, steps.lines.len()), (Some(bit), 1), "{at}");
     }
     laws::each_step_is_on_its_bits();
     laws::pointers_are_set();

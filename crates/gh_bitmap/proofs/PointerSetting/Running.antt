@@ -1,5 +1,5 @@
 -- The routine that sets pointer bits, run to its end: word after word of the bitmap.
-use Rattle.std.proofs.Common.{◌≡◌, ◌≢◌, ℕ, zero, suc, ◌+◌, ◌-◌, ◌*◌, ◌/◌, ◌<◌, ◌≤◌, ◌⊎◌, Bool, true, false, cond, eqb, ltb, refl, sym, ap, ◌∙◌, arith, inl, inr}
+use Rattle.std.proofs.Common.{◌≡◌, ◌≢◌, ℕ, zero, suc, ◌+◌, ◌-◌, ◌*◌, ◌/◌, ◌<◌, ◌≤◌, ◌⊎◌, Bool, true, false, cond, eqb, ltb, refl, sym, ap, subst, ◌∙◌, arith, inl, inr}
 use Rattle.std.proofs.lemmas.Bool.{eqb-true, ltb-true, ltb-false}
 use Rattle.gh_base.specs.declared.cell.Cell.{Cell}
 use Rattle.gh_base.specs.declared.cell.Cell.TheVariants.{Bitmap}
@@ -7,16 +7,18 @@ use Rattle.gh_base.specs.declared.layout.Layout.{Layout}
 use Rattle.gh_base.specs.declared.shape.Shape.{Shape}
 use Rattle.gh_base.specs.Cells.{Words}
 use Rattle.gh_base.specs.Packing.{bit}
+use Rattle.gh_base.specs.Routines.{Alone, alone, IsFolded, Leaves, steps_alone}
+use Rattle.gh_base.specs.Rows.{CellsAreTold, pointer_bit, RowsAreWritten}
 use Rattle.gh_base.specs.Shapes.{is_pointer}
-use Rattle.gh_base.specs.Steps.{cell_of, effect}
-use Rattle.gh_bitmap.specs.declared.set_pointers.SetPlace.{SetPlace}
-use Rattle.gh_bitmap.specs.declared.set_pointers.SetPlace.TheVariants.{Clear, Set, Ended}
-use Rattle.gh_bitmap.specs.Bits.{pointer_bit, pointer_bits}
-use Rattle.gh_bitmap.specs.Pointers.{AreSet, EndsWith, Run, alone}
-use Rattle.gh_bitmap.specs.Setting.{Setting, asks, asks_at, goes, is_busy, next_place, opening, word_at}
+use Rattle.gh_base.specs.Steps.{effect}
+use Rattle.gh_bitmap.specs.declared.set_pointers.SetStage.{SetStage}
+use Rattle.gh_bitmap.specs.declared.set_pointers.SetStage.TheVariants.{Clear, Set, Ended}
+use Rattle.gh_bitmap.specs.Bits.{pointer_bits}
+use Rattle.gh_bitmap.specs.Pointers.{AreSet}
+use Rattle.gh_bitmap.specs.SetPointers.{PointerSetting, asks_at, is_busy, listing, next_stage, opening, word_at}
 use Rattle.gh_bitmap.specs.Sound.{Touches}
 use Rattle.gh_bitmap.specs.Stepping.{FitsSlot, IsHere, StepsOn}
-use Rattle.gh_bitmap.proofs.Steps.{other_cell, steps_on, word_is}
+use Rattle.gh_bitmap.proofs.PointerSetting.Steps.{steps_on, word_is}
 
 -- a word that has bits of the slot has that of one of its words
 first_here : (at slot i : ℕ) → 1 ≤ slot → at / 64 ≤ i → 64 * i < at + slot → (k : ℕ) × (k < slot) × ((at + k) / 64 ≡ i)
@@ -28,24 +30,26 @@ first_here at slot i some begins ends = by (ltb at (64 * i)) refl where
       (64 * i - at, omega arith, rw sum (omega arith))
   by false e = let ge : 64 * i ≤ at = ltb-false _ _ e in (0, omega arith, omega arith)
 
--- one step of its own
-abbrev stepped : Run → Run
-stepped r = record { routine = goes r.routine (r.words (cell_of (asks r.routine))); words = effect r.words (asks r.routine) }
+module _ (folded : IsFolded listing) where
+  busy_more : (r : Alone PointerSetting) → is_busy r.routine.stage ≡ true → (steps : ℕ) → ((n : ℕ) → n < steps → is_busy (alone listing (steps_alone listing r) n).routine.stage ≡ true) →
+      (n : ℕ) → n < suc steps → is_busy (alone listing r n).routine.stage ≡ true
+  busy_more r busy steps later zero lt = busy
+  busy_more r busy steps later (suc n) lt = ap (λ (s : Alone PointerSetting). is_busy s.routine.stage) (folded.alone_first r n) ∙ later n (omega arith)
 
-busy_more : (r : Run) → is_busy r.routine.place ≡ true → (steps : ℕ) → ((n : ℕ) → n < steps → is_busy (alone n (stepped r)).routine.place ≡ true) →
-    (n : ℕ) → n < suc steps → is_busy (alone n r).routine.place ≡ true
-busy_more r busy steps later zero lt = busy
-busy_more r busy steps later (suc n) lt = later n (omega arith)
+  -- it ends from where its next step leads
+  ends_more : (r : Alone PointerSetting) (IsLeft : Words → Type 0) → is_busy r.routine.stage ≡ true → Leaves listing (steps_alone listing r) IsLeft → Leaves listing r IsLeft
+  ends_more r IsLeft busy e = record {
+    steps = suc e.steps;
+    busy = busy_more r busy e.steps e.busy;
+    ended = ap (λ (s : Alone PointerSetting). is_busy s.routine.stage) (folded.alone_first r e.steps) ∙ e.ended;
+    left = subst (λ (s : Alone PointerSetting). IsLeft s.words) (sym (folded.alone_first r e.steps)) e.left;
+  }
 
--- it ends from where its next step leads
-ends_more : (r : Run) (IsLeft : Words → Type 0) → is_busy r.routine.place ≡ true → EndsWith (stepped r) IsLeft → EndsWith r IsLeft
-ends_more r IsLeft busy e = record { steps = suc e.steps; busy = busy_more r busy e.steps e.busy; ended = e.ended; left = e.left }
+module _ (rows : RowsAreWritten) (told : CellsAreTold) (folded : IsFolded listing) (l : Layout) (shape : Shape) (at slot : ℕ) (words : Words) (some : 1 ≤ slot) (within : at + slot ≤ 1024 * l.pages) (fits : FitsSlot shape slot) where
+  abbrev here : SetStage → PointerSetting
+  here p = record { layout = l; shape = shape; at = at; slot = slot; stage = p }
 
-module _ (l : Layout) (shape : Shape) (at slot : ℕ) (words : Words) (some : 1 ≤ slot) (within : at + slot ≤ 1024 * l.pages) (fits : FitsSlot shape slot) where
-  abbrev here : SetPlace → Setting
-  here p = record { layout = l; shape = shape; at = at; slot = slot; place = p }
-
-  abbrev run : SetPlace → Words → Run
+  abbrev run : SetStage → Words → Alone PointerSetting
   run p ws = record { routine = here p; words = ws }
 
   abbrev IsOther : Cell → Type 0
@@ -73,7 +77,7 @@ module _ (l : Layout) (shape : Shape) (at slot : ℕ) (words : Words) (some : 1 
 
   module _ (i : ℕ) (touches : Touches at slot i) where
     on : (ws : Words) → StepsOn (here Ended) i ws
-    on ws = steps_on (here Ended) i ws within fits touches
+    on ws = steps_on rows (here Ended) i ws within fits touches
 
     -- word i has a bit of the slot, so it is none of the other cells
     not_other : (cell : Cell) → IsOther cell → cell ≢ Bitmap (word_at (here Ended) i)
@@ -95,7 +99,7 @@ module _ (l : Layout) (shape : Shape) (at slot : ℕ) (words : Words) (some : 1 
       cleared_kept = record {
         set = λ x from below lt. (on ws).clears.others x (before x lt) ∙ done.set x from below lt;
         others = λ x out. (on ws).clears.others x (not_here i x out) ∙ done.others x out;
-        cells = λ cell other. other_cell ws (word_at (here Ended) i) _ cell (not_other cell other) ∙ done.cells cell other;
+        cells = λ cell other. told.put_elsewhere ws (Bitmap (word_at (here Ended) i)) cell _ (λ e. not_other cell other (sym e)) ∙ done.cells cell other;
       }
 
       set_here : (ws' : Words) → ((x : ℕ) → IsHere (here Ended) i x → pointer_bit ws' x ≡ bit (is_pointer shape (x - at))) → ((x : ℕ) → at ≤ x → x < at + slot → x < 64 * i → pointer_bit ws' x ≡ bit (is_pointer shape (x - at))) →
@@ -117,11 +121,11 @@ module _ (l : Layout) (shape : Shape) (at slot : ℕ) (words : Words) (some : 1 
       done_with = record {
         set = set_here both (λ x h. (on cleared).sets.slot x h ((on ws).clears.slot x h)) (λ x from below lt. (on cleared).sets.others x (before x lt) ∙ cleared_kept.set x from below lt);
         others = λ x out. (on cleared).sets.others x (not_here i x out) ∙ cleared_kept.others x out;
-        cells = λ cell other. other_cell cleared (word_at (here Ended) i) _ cell (not_other cell other) ∙ cleared_kept.cells cell other;
+        cells = λ cell other. told.put_elsewhere cleared (Bitmap (word_at (here Ended) i)) cell _ (λ e. not_other cell other (sym e)) ∙ cleared_kept.cells cell other;
       }
 
-  abbrev Ends : SetPlace → Words → Type 0
-  Ends p ws = EndsWith (run p ws) (AreSet shape at slot words)
+  abbrev Ends : SetStage → Words → Type 0
+  Ends p ws = Leaves listing (run p ws) (AreSet shape at slot words)
 
   -- from word i on it ends, if it does from the next
   abbrev EndsFrom : ℕ → Type 0
@@ -130,21 +134,21 @@ module _ (l : Layout) (shape : Shape) (at slot : ℕ) (words : Words) (some : 1 
   finished : (i : ℕ) (ws : Words) → at + slot ≤ 64 * i → Done i ws → Ends Ended ws
   finished i ws long done = record { steps = 0; busy = λ n lt. absurd (omega arith); ended = refl; left = all_done i ws long done }
 
-  ends_next : (d i : ℕ) (ws : Words) → EndsFrom d → at / 64 ≤ i → at + slot ≤ 64 * (i + suc d) → Done (i + 1) ws → Ends (next_place (here Ended) i) ws
+  ends_next : (d i : ℕ) (ws : Words) → EndsFrom d → at / 64 ≤ i → at + slot ≤ 64 * (i + suc d) → Done (i + 1) ws → Ends (next_stage (here Ended) i) ws
   ends_next d i ws later begins fuel done = by (ltb (64 * (i + 1)) (at + slot)) refl where
     by : (more : Bool) → ltb (64 * (i + 1)) (at + slot) ≡ more → Ends (cond more (Clear (i + 1)) Ended) ws
     by true e = later (i + 1) ws (record { begins = omega arith; ends = ltb-true _ _ e }) (omega arith) done
     by false e = finished (i + 1) ws (ltb-false _ _ e) done
 
   ends_here : (d : ℕ) → EndsFrom d → EndsFrom (suc d)
-  ends_here d later i ws touches fuel done = ends_more (run (Clear i) ws) _ refl (by (eqb (pointer_bits shape at i) 0) refl) where
-    by : (none : Bool) → eqb (pointer_bits shape at i) 0 ≡ none → Ends (cond none (next_place (here Ended) i) (Set i)) (cleared i touches ws done)
+  ends_here d later i ws touches fuel done = ends_more folded (run (Clear i) ws) _ refl (by (eqb (pointer_bits shape at i) 0) refl) where
+    by : (none : Bool) → eqb (pointer_bits shape at i) 0 ≡ none → Ends (cond none (next_stage (here Ended) i) (Set i)) (cleared i touches ws done)
     by true e = ends_next d i (cleared i touches ws done) later touches.begins fuel (done_without i touches ws done (eqb-true _ _ e))
-    by false e = ends_more (run (Set i) (cleared i touches ws done)) _ refl (ends_next d i (both i touches ws done) later touches.begins fuel (done_with i touches ws done))
+    by false e = ends_more folded (run (Set i) (cleared i touches ws done)) _ refl (ends_next d i (both i touches ws done) later touches.begins fuel (done_with i touches ws done))
 
   ends_from : (d : ℕ) → EndsFrom d
   ends_from zero i ws touches fuel done = let ends : 64 * i < at + slot = touches.ends in absurd (omega arith)
   ends_from (suc d) i ws touches fuel done = ends_here d (ends_from d) i ws touches fuel done
 
-  pub ends : EndsWith (record { routine = opening l shape at slot; words = words }) (AreSet shape at slot words)
+  pub ends : Leaves listing (record { routine = opening l shape at slot; words = words }) (AreSet shape at slot words)
   ends = ends_from (slot + 1) (at / 64) words (record { begins = omega arith; ends = omega arith }) (omega arith) none_done

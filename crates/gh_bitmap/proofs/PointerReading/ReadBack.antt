@@ -7,12 +7,12 @@ use Rattle.gh_base.specs.declared.layout.Layout.{Layout}
 use Rattle.gh_base.specs.declared.shape.Shape.{Shape}
 use Rattle.gh_base.specs.Cells.{Words}
 use Rattle.gh_base.specs.Packing.{bit}
+use Rattle.gh_base.specs.Rows.{row_bit}
 use Rattle.gh_base.specs.Shapes.{is_pointer}
 use Rattle.gh_base.specs.Steps.{cell_of}
 use Rattle.std.specs.Int.{bit_at}
-use Rattle.gh_bitmap.specs.Bits.{row_bit}
 use Rattle.gh_bitmap.specs.Pointers.{AreSet, ReadsBit}
-use Rattle.gh_bitmap.specs.Reading.{asks, gives, opening}
+use Rattle.gh_bitmap.specs.ReadPointer.{asks, gives, opening}
 
 word_is : (l : Layout) (at : ℕ) → at < 1024 * l.pages → at / 64 % (16 * l.pages) ≡ at / 64
 word_is l at inside = mod-eq_of_lt (omega arith)

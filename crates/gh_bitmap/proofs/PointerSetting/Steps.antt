@@ -1,25 +1,24 @@
 -- What single steps do to the bits of the bitmap, and to its words.
-use Rattle.std.proofs.Common.{◌≡◌, ◌≢◌, ℕ, ◌+◌, ◌-◌, ◌*◌, ◌/◌, ◌^◌, ◌<◌, ◌≤◌, ◌⊎◌, Bool, true, false, cond, eqb, ltb, refl, sym, ap, subst, arith, inl, inr}
+use Rattle.std.proofs.Common.{◌≡◌, ◌≢◌, ℕ, ◌+◌, ◌-◌, ◌*◌, ◌/◌, ◌^◌, ◌<◌, ◌≤◌, ◌⊎◌, Bool, true, false, eqb, ltb, refl, sym, subst, arith, inl, inr}
 use Rattle.std.specs.Prelude.{bit_or, bit_and}
 use Rattle.std.proofs.Math.Nat.{mod-eq_of_lt}
 use Rattle.std.proofs.lemmas.Bool.{eqb-true, eq-eqb, ltb-true, ltb-false}
-use Rattle.gh_base.specs.declared.cell.Cell.{Cell}
-use Rattle.gh_base.specs.declared.cell.Cell.TheVariants.{Bitmap}
-use Rattle.gh_base.specs.Cells.{Words, put, same_cell}
+use Rattle.gh_base.specs.Cells.{Words}
 use Rattle.gh_base.specs.Packing.{bit}
+use Rattle.gh_base.specs.Rows.{bitmap_words, Row, row_bit, RowsAreWritten, with_word}
 use Rattle.gh_base.specs.Shapes.{is_pointer}
-use Rattle.gh_bitmap.specs.Bits.{Row, bitmap_row, pointer_bits, row_bit, slot_bits}
-use Rattle.gh_bitmap.specs.Setting.{Setting, word_at}
+use Rattle.gh_bitmap.specs.Bits.{pointer_bits, slot_bits}
+use Rattle.gh_bitmap.specs.SetPointers.{PointerSetting, word_at}
 use Rattle.gh_bitmap.specs.Sound.{Touches}
 use Rattle.gh_bitmap.specs.Stepping.{ClearsBits, FitsSlot, HasNone, IsHere, SetsBits, StepsOn}
-use Rattle.gh_bitmap.proofs.BitRows.{bits_elsewhere, clear_slot, clear_slot_other, no_pointers, set_pointers, set_pointers_other, with_word}
+use Rattle.gh_bitmap.proofs.PointerSetting.BitRows.{clear_slot, clear_slot_other, no_pointers, set_pointers, set_pointers_other}
 
 -- a word that has bits of a slot in the arena is one of the row's
-pub word_is : (s : Setting) (i : ℕ) → s.at + s.slot ≤ 1024 * s.layout.pages → Touches s.at s.slot i → word_at s i ≡ i
+pub word_is : (s : PointerSetting) (i : ℕ) → s.at + s.slot ≤ 1024 * s.layout.pages → Touches s.at s.slot i → word_at s i ≡ i
 word_is s i within touches = let ends : 64 * i < s.at + s.slot = touches.ends in mod-eq_of_lt (omega arith)
 
 -- a heap word that has its bit elsewhere, or is not of the slot
-outside : (s : Setting) (i x : ℕ) → ¬ IsHere s i x → (i ≢ x / 64) ⊎ ((x < s.at) ⊎ (s.at + s.slot ≤ x))
+outside : (s : PointerSetting) (i x : ℕ) → ¬ IsHere s i x → (i ≢ x / 64) ⊎ ((x < s.at) ⊎ (s.at + s.slot ≤ x))
 outside s i x not = by (eqb i (x / 64)) (ltb x s.at) (ltb x (s.at + s.slot)) refl refl refl where
   by : (here before inside : Bool) → eqb i (x / 64) ≡ here → ltb x s.at ≡ before → ltb x (s.at + s.slot) ≡ inside → (i ≢ x / 64) ⊎ ((x < s.at) ⊎ (s.at + s.slot ≤ x))
   by false before inside e f g = inl (λ z. absurd (cc (e, eq-eqb _ _ z)))
@@ -27,9 +26,9 @@ outside s i x not = by (eqb i (x / 64)) (ltb x s.at) (ltb x (s.at + s.slot)) ref
   by true false false e f g = inr (inr (ltb-false _ _ g))
   by true false true e f g = absurd (not (record { word = sym (eqb-true _ _ e); from = ltb-false _ _ f; below = ltb-true _ _ g }))
 
-module _ (s : Setting) (i : ℕ) (words : Words) (within : s.at + s.slot ≤ 1024 * s.layout.pages) (fits : FitsSlot s.shape s.slot) (touches : Touches s.at s.slot i) where
+module _ (rows : RowsAreWritten) (s : PointerSetting) (i : ℕ) (words : Words) (within : s.at + s.slot ≤ 1024 * s.layout.pages) (fits : FitsSlot s.shape s.slot) (touches : Touches s.at s.slot i) where
   abbrev row : Row
-  row = bitmap_row words
+  row = bitmap_words words
 
   abbrev cleared : ℕ → Row
   cleared w = with_word row w (bit_and (row w) (2 ^ 64 - 1 - slot_bits s.at s.slot i))
@@ -45,19 +44,19 @@ module _ (s : Setting) (i : ℕ) (words : Words) (within : s.at + s.slot ≤ 102
 
   clears : ClearsBits s i words
   clears = record {
-    slot = λ x here. subst (λ (w : ℕ). row_bit (cleared w) x ≡ 0) is (clear_slot row s.at s.slot i x here.word here.from here.below);
+    slot = λ x here. subst (λ (w : ℕ). row_bit (cleared w) x ≡ 0) is (clear_slot rows row s.at s.slot i x here.word here.from here.below);
     others = λ x not. subst (λ (w : ℕ). row_bit (cleared w) x ≡ row_bit row x) is (elim (outside s i x not) [
-      | inl away ↦ bits_elsewhere row i _ x away
-      | inr out ↦ clear_slot_other row s.at s.slot i x out
+      | inl away ↦ rows.bit_elsewhere row i _ x away
+      | inr out ↦ clear_slot_other rows row s.at s.slot i x out
     ]);
   }
 
   sets : SetsBits s i words
   sets = record {
-    slot = λ x here clear. subst (λ (w : ℕ). row_bit (set w) x ≡ bit (is_pointer s.shape (x - s.at))) is (set_pointers row s.shape s.at i x fits.narrow here.word here.from clear);
+    slot = λ x here clear. subst (λ (w : ℕ). row_bit (set w) x ≡ bit (is_pointer s.shape (x - s.at))) is (set_pointers rows row s.shape s.at i x fits.narrow here.word here.from clear);
     others = λ x not. subst (λ (w : ℕ). row_bit (set w) x ≡ row_bit row x) is (elim (outside s i x not) [
-      | inl away ↦ bits_elsewhere row i _ x away
-      | inr out ↦ set_pointers_other row s.shape s.at s.slot i x fits.narrow behind touches.begins out
+      | inl away ↦ rows.bit_elsewhere row i _ x away
+      | inr out ↦ set_pointers_other rows row s.shape s.at s.slot i x fits.narrow behind touches.begins out
     ]);
   }
 
@@ -70,14 +69,3 @@ module _ (s : Setting) (i : ℕ) (words : Words) (within : s.at + s.slot ≤ 102
 
   pub steps_on : StepsOn s i words
   steps_on = record { clears = clears; sets = sets; none = has_none }
-
--- a write to a word of the bitmap leaves every other cell
-bitmap_tells : (i : ℕ) (d : Cell) → same_cell (Bitmap i) d ≡ true → d ≡ Bitmap i
-bitmap_tells i (Bitmap j) e = ap Bitmap (sym (eqb-true i j e))
-bitmap_tells i _ e = cc
-
-pub other_cell : (words : Words) (i value : ℕ) (d : Cell) → d ≢ Bitmap i → put words (Bitmap i) value d ≡ words d
-other_cell words i value d ne = by (same_cell (Bitmap i) d) refl where
-  by : (same : Bool) → same_cell (Bitmap i) d ≡ same → cond same value (words d) ≡ words d
-  by true e = absurd (ne (bitmap_tells i d e))
-  by false e = refl

@@ -1,0 +1,3 @@
+pub mod BitRows
+pub mod Running
+pub mod Steps
