@@ -1,48 +1,54 @@
 -- After each load the routine looks at the next slot, or has ended.
-use Rattle.std.proofs.Common.{◌≡◌, ◌≢◌, ℕ, zero, suc, ◌+◌, ◌%◌, ◌<◌, ◌≤◌, ◌⊎◌, Bool, true, false, cond, eqb, ltb, Some, None, refl, sym, ap, subst, ◌∙◌, arith, inl, inr}
+use Rattle.std.proofs.Common.{◌≡◌, ◌≢◌, ℕ, zero, suc, ◌+◌, ◌-◌, ◌%◌, ◌<◌, ◌≤◌, ◌⊎◌, Bool, true, false, cond, eqb, ltb, Some, None, refl, sym, ap, subst, ◌∙◌, arith, inl, inr}
+use Rattle.std.specs.Int.{bit_at}
 use Rattle.std.proofs.lemmas.Nat.Bits.{bit_at-lt}
 use Rattle.std.proofs.lemmas.Bool.{eqb-true, eq-eqb, ltb-true, ltb-false}
 use Rattle.gh_base.specs.declared.layout.Layout.{Layout}
 use Rattle.gh_base.specs.declared.cell.Cell.TheVariants.{Alloc}
 use Rattle.gh_base.specs.declared.cell.Ask.TheVariants.{Load}
+use Rattle.gh_base.specs.Routines.{EndsWith, GoesOn, told}
 use Rattle.gh_class.specs.Classes.{slots_of}
 use Rattle.gh_cache.specs.declared.next_slot.Cached.{Cached}
-use Rattle.gh_cache.specs.declared.next_slot.Place.{Place}
-use Rattle.gh_cache.specs.declared.next_slot.Place.TheVariants.{Look, Ended}
-use Rattle.gh_cache.specs.Listing.{Searching, asks, gives, goes, goes_at, is_busy, is_clear, opening, slot_at}
-use Rattle.gh_cache.specs.Sound.{IsSpan}
-use Rattle.gh_cache.specs.NextClear.{AreTaken, EndsWith, FindsNextClear, GoesOn, IsNextClear, slot_bit, told}
+use Rattle.gh_cache.specs.declared.next_slot.SlotStage.{SlotStage}
+use Rattle.gh_cache.specs.declared.next_slot.SlotStage.TheVariants.{Look, Ended}
+use Rattle.gh_cache.specs.Listing.{Searching, asks, gives, goes, goes_at, is_busy, is_clear, listing, opening, slot_at}
+use Rattle.gh_cache.specs.Sound.{FitsArena}
+use Rattle.gh_cache.specs.NextClear.{AreTaken, FindsNextClear, IsNextClear, slot_bit}
 use Rattle.gh_cache.proofs.Slots.{IsCut, slot_word}
 
 module _ (l : Layout) (span : Cached) (found : ℕ → ℕ) where
   -- it looks at the n-th slot from the cursor on
-  abbrev looking : ℕ → Place → Searching
-  looking n p = record { layout = l; span = record span { cursor = span.cursor + n }; place = p }
+  abbrev looking : ℕ → SlotStage → Searching
+  looking n p = record { layout = l; span = record span { cursor = span.cursor + n }; stage = p }
 
   abbrev after : ℕ → Searching
-  after n = told (opening l span) found n
+  after n = told listing (opening l span) found n
 
   -- there is such a slot, and those before it are taken
   abbrev Reached : ℕ → Type 0
   Reached n = (span.cursor + n < slots_of span.class) × AreTaken span found (span.cursor + n)
 
   abbrev After : ℕ → Type 0
-  After n = ((after n ≡ looking n Look) × Reached n) ⊎ (((after n).place ≡ Ended) × (Reached n → ⊥))
+  After n = ((after n ≡ looking n Look) × Reached n) ⊎ (((after n).stage ≡ Ended) × (Reached n → ⊥))
 
   -- what its word says of the slot that it looks at, and whether there is a further one
   abbrev clears : ℕ → Bool
-  clears n = is_clear span (span.cursor + n) (found (span.cursor + n))
+  clears n = is_clear span (span.cursor + n) (found n)
 
   abbrev more : ℕ → Bool
   more n = ltb (span.cursor + n + 1) (slots_of span.class)
 
+  -- the slot that it looks at with step n is n behind the cursor
+  bit_of : (n : ℕ) → slot_bit span found (span.cursor + n) ≡ bit_at (found n) (slot_at span (span.cursor + n) % 64)
+  bit_of n = let same : span.cursor + n - span.cursor ≡ n = omega arith in ap (λ (k : ℕ). bit_at (found k) (slot_at span (span.cursor + n) % 64)) same
+
   bit_clear : (n : ℕ) → clears n ≡ true → slot_bit span found (span.cursor + n) ≡ 0
-  bit_clear n e = eqb-true _ _ e
+  bit_clear n e = bit_of n ∙ eqb-true _ _ e
 
   bit_taken : (n : ℕ) → clears n ≡ false → slot_bit span found (span.cursor + n) ≡ 1
   bit_taken n e =
-      let small : slot_bit span found (span.cursor + n) < 2 = bit_at-lt (found (span.cursor + n)) (slot_at span (span.cursor + n) % 64) in
-      let ne : slot_bit span found (span.cursor + n) ≢ 0 = λ z. absurd (cc (e, eq-eqb _ _ z)) in
+      let small : slot_bit span found (span.cursor + n) < 2 = bit_at-lt (found (span.cursor + n - span.cursor)) (slot_at span (span.cursor + n) % 64) in
+      let ne : slot_bit span found (span.cursor + n) ≢ 0 = λ z. absurd (cc (e, eq-eqb _ _ (sym (bit_of n) ∙ z))) in
       omega arith
 
   more_taken : (n : ℕ) → AreTaken span found (span.cursor + n) → clears n ≡ false → AreTaken span found (span.cursor + suc n)
@@ -54,39 +60,39 @@ module _ (l : Layout) (span : Cached) (found : ℕ → ℕ) where
   fewer_taken : (n : ℕ) → Reached (suc n) → Reached n
   fewer_taken n r = let lt : span.cursor + suc n < slots_of span.class = r.0 in (omega arith, λ slot from below. r.1 slot from (omega arith))
 
-  moved : (n : ℕ) → after n ≡ looking n Look → after (suc n) ≡ cond (clears n) (looking n Ended) (record { layout = l; span = record span { cursor = span.cursor + n + 1 }; place = cond (more n) Look Ended })
-  moved n e = ap (λ (s : Searching). goes s (found (span.cursor + n))) e
+  moved : (n : ℕ) → after n ≡ looking n Look → after (suc n) ≡ cond (clears n) (looking n Ended) (record { layout = l; span = record span { cursor = span.cursor + n + 1 }; stage = cond (more n) Look Ended })
+  moved n e = ap (λ (s : Searching). goes s (found n)) e
 
-  after_next : (n : ℕ) → Reached n → (c m : Bool) → clears n ≡ c → more n ≡ m → after (suc n) ≡ cond c (looking n Ended) (record { layout = l; span = record span { cursor = span.cursor + n + 1 }; place = cond m Look Ended }) → After (suc n)
-  after_next n r true m t u e = inr (ap (λ (s : Searching). s.place) e, λ q. absurd (let b = bit_clear n t in let k : slot_bit span found (span.cursor + n) ≡ 1 = q.1 (span.cursor + n) (omega arith) (omega arith) in omega (arith, b, k)))
+  after_next : (n : ℕ) → Reached n → (c m : Bool) → clears n ≡ c → more n ≡ m → after (suc n) ≡ cond c (looking n Ended) (record { layout = l; span = record span { cursor = span.cursor + n + 1 }; stage = cond m Look Ended }) → After (suc n)
+  after_next n r true m t u e = inr (ap (λ (s : Searching). s.stage) e, λ q. absurd (let b = bit_clear n t in let k : slot_bit span found (span.cursor + n) ≡ 1 = q.1 (span.cursor + n) (omega arith) (omega arith) in omega (arith, b, k)))
   after_next n r false true t u e =
       let lt : span.cursor + n + 1 < slots_of span.class = ltb-true _ _ u in
       let same : span.cursor + n + 1 ≡ span.cursor + suc n = omega arith in
-      inl (e ∙ ap (λ (k : ℕ). record { layout = l; span = record span { cursor = k }; place = Look }) same, (omega arith, more_taken n r.1 t))
+      inl (e ∙ ap (λ (k : ℕ). record { layout = l; span = record span { cursor = k }; stage = Look }) same, (omega arith, more_taken n r.1 t))
   after_next n r false false t u e =
       let ge : slots_of span.class ≤ span.cursor + n + 1 = ltb-false _ _ u in
-      inr (ap (λ (s : Searching). s.place) e, λ q. absurd (let lt : span.cursor + suc n < slots_of span.class = q.0 in omega arith))
+      inr (ap (λ (s : Searching). s.stage) e, λ q. absurd (let lt : span.cursor + suc n < slots_of span.class = q.0 in omega arith))
 
-  stays_ended : (s : Searching) (f : ℕ) (p : Place) → p ≡ Ended → p ≡ s.place → (goes_at s p f).place ≡ Ended
+  stays_ended : (s : Searching) (f : ℕ) (p : SlotStage) → p ≡ Ended → p ≡ s.stage → (goes_at s p f).stage ≡ Ended
   stays_ended s f Ended e is = sym is
   stays_ended s f Look e is = absurd (cc)
 
   after_each : span.cursor < slots_of span.class → (n : ℕ) → After n
   after_each below zero =
       let same : span.cursor ≡ span.cursor + zero = omega arith in
-      inl (ap (λ (k : ℕ). record { layout = l; span = record span { cursor = k }; place = Look }) same, (omega arith, λ slot from lt. absurd (omega arith)))
+      inl (ap (λ (k : ℕ). record { layout = l; span = record span { cursor = k }; stage = Look }) same, (omega arith, λ slot from lt. absurd (omega arith)))
   after_each below (suc n) = elim (after_each below n) [
     | inl h ↦ after_next n h.1 (clears n) (more n) refl refl (moved n h.0)
-    | inr h ↦ inr (stays_ended (after n) (found (span.cursor + n)) (after n).place h.0 refl, λ q. h.1 (fewer_taken n q))
+    | inr h ↦ inr (stays_ended (after n) (found n) (after n).stage h.0 refl, λ q. h.1 (fewer_taken n q))
   ]
 
   module _ (n : ℕ) where
     -- by its next load, where it looks at the slot
-    gives_here : after n ≡ looking n Look → gives (after n) (found (span.cursor + n)) ≡ cond (clears n) (Some (Some (span.cursor + n))) (cond (more n) None (Some None))
-    gives_here e = ap (λ (s : Searching). gives s (found (span.cursor + n))) e
+    gives_here : after n ≡ looking n Look → gives (after n) (found n) ≡ cond (clears n) (Some (Some (span.cursor + n))) (cond (more n) None (Some None))
+    gives_here e = ap (λ (s : Searching). gives s (found n)) e
 
-    gives_none : (s : Searching) (f : ℕ) (p : Place) → p ≡ Ended → p ≡ s.place → gives s f ≡ None
-    gives_none s f p e is = subst (λ (q : Place). gives (record s { place = q }) f ≡ None) (sym e ∙ is) refl
+    gives_none : (s : Searching) (f : ℕ) (p : SlotStage) → p ≡ Ended → p ≡ s.stage → gives s f ≡ None
+    gives_none s f p e is = subst (λ (q : SlotStage). gives (record s { stage = q }) f ≡ None) (sym e ∙ is) refl
 
     some_forward : (slot : ℕ) → Reached n → (c m : Bool) → clears n ≡ c → cond c (Some (Some (span.cursor + n))) (cond m None (Some None)) ≡ Some (Some slot) → IsNextClear span found slot × (slot ≡ span.cursor + n)
     some_forward slot r true m t e =
@@ -120,13 +126,13 @@ module _ (l : Layout) (span : Cached) (found : ℕ → ℕ) where
     none_back taken same false false t u = refl
 
     cursor_some_at : (slot : ℕ) → (c m : Bool) → cond c (Some (Some (span.cursor + n))) (cond m None (Some None)) ≡ Some (Some slot) →
-        (cond c (looking n Ended) (record { layout = l; span = record span { cursor = span.cursor + n + 1 }; place = cond m Look Ended })).span.cursor ≡ slot
+        (cond c (looking n Ended) (record { layout = l; span = record span { cursor = span.cursor + n + 1 }; stage = cond m Look Ended })).span.cursor ≡ slot
     cursor_some_at slot true m e = cc
     cursor_some_at slot false true e = absurd (cc)
     cursor_some_at slot false false e = absurd (cc)
 
     cursor_none_at : Reached n → (c m : Bool) → more n ≡ m → cond c (Some (Some (span.cursor + n))) (cond m None (Some None)) ≡ Some None →
-        (cond c (looking n Ended) (record { layout = l; span = record span { cursor = span.cursor + n + 1 }; place = cond m Look Ended })).span.cursor ≡ slots_of span.class
+        (cond c (looking n Ended) (record { layout = l; span = record span { cursor = span.cursor + n + 1 }; stage = cond m Look Ended })).span.cursor ≡ slots_of span.class
     cursor_none_at r true m u e = absurd (cc)
     cursor_none_at r false true u e = absurd (cc)
     cursor_none_at r false false u e =
@@ -134,31 +140,31 @@ module _ (l : Layout) (span : Cached) (found : ℕ → ℕ) where
         let lt : span.cursor + n < slots_of span.class = r.0 in
         omega arith
 
-  pub finds : IsCut span.class → IsSpan l span → span.cursor < slots_of span.class → FindsNextClear (opening l span) found
+  pub finds : IsCut span.class → FitsArena l span → span.cursor < slots_of span.class → FindsNextClear (opening l span) found
   finds cut within below = record {
     goes_on = λ n. elim (after_each below n) [
-      | inl h ↦ (λ _. h.1, λ _. ap (λ (s : Searching). is_busy s.place) h.0)
-      | inr h ↦ (λ (busy : GoesOn (opening l span) found n). absurd (let over : is_busy (after n).place ≡ false = ap is_busy h.0 in cc), λ r. absurd (h.1 r))
+      | inl h ↦ (λ _. h.1, λ _. ap (λ (s : Searching). is_busy s.stage) h.0)
+      | inr h ↦ (λ (busy : GoesOn listing (opening l span) found n). absurd (let over : is_busy (after n).stage ≡ false = ap is_busy h.0 in cc), λ r. absurd (h.1 r))
     ];
     loads = λ n busy. elim (after_each below n) [
       | inl h ↦ ap asks h.0 ∙ ap (λ (k : ℕ). Load (Alloc k)) (slot_word l span (span.cursor + n) cut within h.1.0)
-      | inr h ↦ absurd (let over : is_busy (after n).place ≡ false = ap is_busy h.0 in cc)
+      | inr h ↦ absurd (let over : is_busy (after n).stage ≡ false = ap is_busy h.0 in cc)
     ];
     some = λ n slot. elim (after_each below n) [
       | inl h ↦ (λ e. some_forward n slot h.1 (clears n) (more n) refl (sym (gives_here n h.0) ∙ e), λ q. gives_here n h.0 ∙ some_back n slot q.0 q.1 (clears n) (more n) refl)
-      | inr h ↦ (λ (e : EndsWith (opening l span) found n (Some slot)). absurd (let none : gives (after n) (found (span.cursor + n)) ≡ None = gives_none n (after n) (found (span.cursor + n)) (after n).place h.0 refl in cc), λ q. absurd (h.1 (reached_slot n slot q.0 q.1)))
+      | inr h ↦ (λ (e : EndsWith listing (opening l span) found n (Some slot)). absurd (let none : gives (after n) (found n) ≡ None = gives_none n (after n) (found n) (after n).stage h.0 refl in cc), λ q. absurd (h.1 (reached_slot n slot q.0 q.1)))
     ];
     none = λ n. elim (after_each below n) [
       | inl h ↦ (λ e. none_forward n h.1 (clears n) (more n) refl refl (sym (gives_here n h.0) ∙ e), λ q. gives_here n h.0 ∙ none_back n q.0 q.1 (clears n) (more n) refl refl)
-      | inr h ↦ (λ (e : EndsWith (opening l span) found n None). absurd (let none : gives (after n) (found (span.cursor + n)) ≡ None = gives_none n (after n) (found (span.cursor + n)) (after n).place h.0 refl in cc), λ q. absurd (h.1 (reached_all n q.0 q.1)))
+      | inr h ↦ (λ (e : EndsWith listing (opening l span) found n None). absurd (let none : gives (after n) (found n) ≡ None = gives_none n (after n) (found n) (after n).stage h.0 refl in cc), λ q. absurd (h.1 (reached_all n q.0 q.1)))
     ];
     cursor_some = λ n slot e. elim (after_each below n) [
       | inl h ↦ ap (λ (s : Searching). s.span.cursor) (moved n h.0) ∙ cursor_some_at n slot (clears n) (more n) (sym (gives_here n h.0) ∙ e)
-      | inr h ↦ absurd (let none : gives (after n) (found (span.cursor + n)) ≡ None = gives_none n (after n) (found (span.cursor + n)) (after n).place h.0 refl in cc)
+      | inr h ↦ absurd (let none : gives (after n) (found n) ≡ None = gives_none n (after n) (found n) (after n).stage h.0 refl in cc)
     ];
     cursor_none = λ n e. elim (after_each below n) [
       | inl h ↦ ap (λ (s : Searching). s.span.cursor) (moved n h.0) ∙ cursor_none_at n h.1 (clears n) (more n) refl (sym (gives_here n h.0) ∙ e)
-      | inr h ↦ absurd (let none : gives (after n) (found (span.cursor + n)) ≡ None = gives_none n (after n) (found (span.cursor + n)) (after n).place h.0 refl in cc)
+      | inr h ↦ absurd (let none : gives (after n) (found n) ≡ None = gives_none n (after n) (found n) (after n).stage h.0 refl in cc)
     ];
   } where
     reached_slot : (n slot : ℕ) → IsNextClear span found slot → slot ≡ span.cursor + n → Reached n

@@ -5,7 +5,7 @@ use Rattle.gh_base.specs.declared.layout.Layout.{Layout}
 use Rattle.gh_class.specs.Classes.{pages_of, slot_of, slots_of}
 use Rattle.gh_cache.specs.declared.next_slot.Cached.{Cached}
 use Rattle.gh_cache.specs.Listing.{alloc_word, slot_at}
-use Rattle.gh_cache.specs.Sound.{IsSpan}
+use Rattle.gh_cache.specs.Sound.{FitsArena}
 
 -- a slot has whole words, one at least, and a span has as many slots as its pages hold
 pub record IsCut (class : ℕ) : Type 0 where
@@ -25,7 +25,7 @@ words_fit size slots room whole fit =
     let fits : slots * (8 * (size / 8)) ≤ 8192 * room = subst (λ (n : ℕ). slots * n ≤ 8192 * room) is fit in
     omega arith
 
-pub slot_below : (l : Layout) (span : Cached) (slot : ℕ) → IsCut span.class → IsSpan l span → slot < slots_of span.class → slot_at span slot < 1024 * l.pages
+pub slot_below : (l : Layout) (span : Cached) (slot : ℕ) → IsCut span.class → FitsArena l span → slot < slots_of span.class → slot_at span slot < 1024 * l.pages
 slot_below l span slot cut within below =
     let size = slot_of span.class / 8 in
     let some : 1 ≤ size = some_words (slot_of span.class) (slots_of span.class) (8192 * pages_of span.class) cut.whole_words cut.full in
@@ -35,7 +35,7 @@ slot_below l span slot cut within below =
     omega arith
 
 -- so the word of its bit is one of the row's
-pub slot_word : (l : Layout) (span : Cached) (slot : ℕ) → IsCut span.class → IsSpan l span → slot < slots_of span.class → alloc_word l (slot_at span slot) ≡ slot_at span slot / 64
+pub slot_word : (l : Layout) (span : Cached) (slot : ℕ) → IsCut span.class → FitsArena l span → slot < slots_of span.class → alloc_word l (slot_at span slot) ≡ slot_at span slot / 64
 slot_word l span slot cut within below =
     let inside : slot_at span slot < 1024 * l.pages = slot_below l span slot cut within below in
     mod-eq_of_lt (omega arith)

@@ -1,18 +1,19 @@
 -- What the routine finds: the least slot from the cursor on whose bit is clear, where it is told what the load for each slot found.
-use Rattle.std.specs.Prelude.{◌≡◌, ℕ, zero, suc, ◌+◌, ◌/◌, ◌%◌, ◌<◌, ◌≤◌, true, ◌↔◌, Option, Some, None}
+use Rattle.std.specs.Prelude.{◌≡◌, ℕ, suc, ◌+◌, ◌-◌, ◌/◌, ◌%◌, ◌<◌, ◌≤◌, ◌↔◌, Some, None}
 use Rattle.std.specs.Int.{bit_at}
 use Rattle.gh_base.specs.declared.cell.Cell.TheVariants.{Alloc}
 use Rattle.gh_base.specs.declared.cell.Ask.TheVariants.{Load}
 use Rattle.gh_base.specs.declared.layout.Layout.{Layout}
+use Rattle.gh_base.specs.Routines.{EndsWith, GoesOn, told}
 use Rattle.gh_class.specs.Classes.{slots_of}
 use Rattle.gh_cache.specs.declared.next_slot.Cached.{Cached}
-use Rattle.gh_cache.specs.Listing.{Searching, asks, gives, goes, is_busy, opening, slot_at}
-use Rattle.gh_cache.specs.Sound.{IsSpan}
+use Rattle.gh_cache.specs.Listing.{Searching, asks, listing, opening, slot_at}
+use Rattle.gh_cache.specs.Sound.{FitsArena}
 
 module _ (span : Cached) (found : ℕ → ℕ) where
-  -- the alloc bit of a slot, in the word that the load for it found
+  -- the alloc bit of a slot, in the word that the load for it found: the load for the slot at the cursor is step 0
   abbrev pub slot_bit : ℕ → ℕ
-  slot_bit slot = bit_at (found slot) (slot_at span slot % 64)
+  slot_bit slot = bit_at (found (slot - span.cursor)) (slot_at span slot % 64)
 
   -- the slots from the cursor up to this one, itself left out, are taken
   abbrev pub AreTaken : ℕ → Type 0
@@ -25,32 +26,19 @@ module _ (span : Cached) (found : ℕ → ℕ) where
     pub clear : slot_bit slot ≡ 0
     pub least : AreTaken slot
 
--- the routine once it was told what the next n loads found
-abbrev pub told : Searching → (ℕ → ℕ) → ℕ → Searching
-told s found zero = s
-told s found (suc n) = goes (told s found n) (found (s.span.cursor + n))
-
 module _ (s : Searching) (found : ℕ → ℕ) where
-  -- after n loads it asks for a further one
-  abbrev pub GoesOn : ℕ → Type 0
-  GoesOn n = is_busy (told s found n).place ≡ true
-
-  -- by the next load it ends with this
-  abbrev pub EndsWith : ℕ → Option ℕ → Type 0
-  EndsWith n out = gives (told s found n) (found (s.span.cursor + n)) ≡ Some out
-
   pub record FindsNextClear : Type 0 where
     -- it goes on exactly as long as a slot is left and all before it are taken
-    pub goes_on : (n : ℕ) → GoesOn n ↔ ((s.span.cursor + n < slots_of s.span.class) × AreTaken s.span found (s.span.cursor + n))
+    pub goes_on : (n : ℕ) → GoesOn listing s found n ↔ ((s.span.cursor + n < slots_of s.span.class) × AreTaken s.span found (s.span.cursor + n))
     -- it loads the words that have the slots' bits, one slot after the other
-    pub loads : (n : ℕ) → GoesOn n → asks (told s found n) ≡ Load (Alloc (slot_at s.span (s.span.cursor + n) / 64))
+    pub loads : (n : ℕ) → GoesOn listing s found n → asks (told listing s found n) ≡ Load (Alloc (slot_at s.span (s.span.cursor + n) / 64))
     -- it ends with a slot exactly where that is the next clear one, by the load for it
-    pub some : (n slot : ℕ) → EndsWith n (Some slot) ↔ (IsNextClear s.span found slot × (slot ≡ s.span.cursor + n))
+    pub some : (n slot : ℕ) → EndsWith listing s found n (Some slot) ↔ (IsNextClear s.span found slot × (slot ≡ s.span.cursor + n))
     -- it ends with none exactly where all slots are taken, by the load for the last
-    pub none : (n : ℕ) → EndsWith n None ↔ (AreTaken s.span found (slots_of s.span.class) × (s.span.cursor + suc n ≡ slots_of s.span.class))
+    pub none : (n : ℕ) → EndsWith listing s found n None ↔ (AreTaken s.span found (slots_of s.span.class) × (s.span.cursor + suc n ≡ slots_of s.span.class))
     -- its cursor then is that slot, or the number of slots
-    pub cursor_some : (n slot : ℕ) → EndsWith n (Some slot) → (told s found (suc n)).span.cursor ≡ slot
-    pub cursor_none : (n : ℕ) → EndsWith n None → (told s found (suc n)).span.cursor ≡ slots_of s.span.class
+    pub cursor_some : (n slot : ℕ) → EndsWith listing s found n (Some slot) → (told listing s found (suc n)).span.cursor ≡ slot
+    pub cursor_none : (n : ℕ) → EndsWith listing s found n None → (told listing s found (suc n)).span.cursor ≡ slots_of s.span.class
 
 abbrev pub NextClearIsFound : Type 0
-NextClearIsFound = (l : Layout) (span : Cached) (found : ℕ → ℕ) → IsSpan l span → span.cursor < slots_of span.class → FindsNextClear (opening l span) found
+NextClearIsFound = (l : Layout) (span : Cached) (found : ℕ → ℕ) → FitsArena l span → span.cursor < slots_of span.class → FindsNextClear (opening l span) found

@@ -6,8 +6,8 @@
 //! there on. What it asks for and where it goes is its listing, in specs/Listing.antt; above that
 //! stands the law of [`laws`]: it finds the least clear slot, and none exactly where all are taken.
 //!
-//! Go looks at 64 slots at once, in a copy of the span's bits (`mspan.allocCache`, mbitmap.go and
-//! mcache.go); here each slot costs one load of a word of the row of alloc bits, which is the heap's
+//! Go looks at 64 slots at once, in a copy of the span's bits (`mspan.allocCache` of mheap.go, by
+//! `nextFreeFast` in malloc.go and `nextFreeIndex` in mbitmap.go); here each slot costs one load of a word of the row of alloc bits, which is the heap's
 //! own, 64 heap words to a word.
 #![tactic(auto)]
 
@@ -16,4 +16,4 @@ mod next_slot;
 #[cfg(test)]
 mod tests;
 
-pub use next_slot::{Cached, NextSlot, Place};
+pub use next_slot::{Cached, NextSlot, SlotStage};

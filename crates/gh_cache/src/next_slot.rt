@@ -1,11 +1,12 @@
 //! The routine that looks for the next clear slot.
 
-ghost use Rattle.std.specs.Prelude.{◌≡◌, ◌+◌, ◌*◌, ◌^◌, ◌<◌, ◌≤◌};
+ghost use Rattle.std.specs.Prelude.{◌≡◌, ◌+◌, ◌*◌, ◌<◌, ◌≤◌};
 ghost use Rattle.gh_base.specs.Cells.{InRange};
 ghost use Rattle.gh_base.specs.Steps.{cell_of};
-ghost use Rattle.gh_class.specs.Classes.{pages_of, slot_of, slots_of};
+ghost use Rattle.gh_class.specs.Classes.{pages_of, slots_of};
 ghost use Rattle.gh_cache.specs.Listing.{asks, gives, goes, opening, slot_at};
 
+use gh_base::limits::MOST_PAGES;
 use gh_base::{Ask, Cell, Layout, Machine, Req};
 use gh_class::{Class, size_class_laws};
 use std::marker::Model;
@@ -15,15 +16,15 @@ use std::marker::Model;
 pub struct Cached {
     /// Its first page.
     pub head: u32,
-    /// Its size class, below `gh_class::CLASSES`.
-    pub class: u32,
+    /// Its size class.
+    pub class: Class,
     /// A slot, or the number of slots. Whoever caches the span knows that each slot before it is taken.
     pub cursor: u32,
 }
 
-/// Where the routine stands.
+/// The stages of the routine.
 #[derive(Clone, Copy, Debug, PartialEq, Eq)]
-pub enum Place {
+pub enum SlotStage {
     /// It looks at the slot at the cursor.
     Look,
     /// It has ended.
@@ -40,7 +41,7 @@ pub enum Place {
 pub struct NextSlot {
     layout: Layout,
     span: Cached,
-    place: Place,
+    stage: SlotStage,
 }
 
 impl Model for NextSlot {
@@ -49,37 +50,21 @@ impl Model for NextSlot {
 
     ghost Value = { Searching };
 
-    ghost view = { λ s. record { layout = s.layout; span = s.span; place = s.place } };
+    ghost view = { λ s. record { layout = s.layout; span = s.span; stage = s.stage } };
 
-    ghost invariant = { λ s. Sound (record { layout = s.layout; span = s.span; place = s.place }) };
+    ghost invariant = { λ s. Sound (record { layout = s.layout; span = s.span; stage = s.stage }) };
 
-    ghost inverse = { λ s. record { layout = s.layout; span = s.span; place = s.place } };
+    ghost inverse = { λ s. record { layout = s.layout; span = s.span; stage = s.stage } };
 }
 
 impl Cached {
-    /// The slots of the span.
-    fn slots(&self) -> u32
-        requires { self.now.class < 25 }
-        ensures slots { result ≡ slots_of self.now.class }
-        ensures few { result ≤ 1024 }
-    {
-        match Class::from_number(self.class) {
-            Some(class) => class.slots(),
-            None => unreachable!(),
-        }
-    }
-
     /// The first heap word of the slot at the cursor.
-    fn word(&self) -> u32
-        requires class { self.now.class < 25 }
-        requires head { self.now.head ≤ 1024 }
+    pub fn word(&self) -> u32
+        requires head { self.now.head ≤ MOST_PAGES }
         requires cursor { self.now.cursor ≤ 1024 }
         ensures { result ≡ slot_at self.now self.now.cursor }
     {
-        match Class::from_number(self.class) {
-            Some(class) => 1024 * self.head + self.cursor * (class.slot_bytes() / 8),
-            None => unreachable!(),
-        }
+        1024 * self.head + self.cursor * self.class.slot_words()
     }
 }
 
@@ -87,7 +72,6 @@ impl NextSlot {
     /// Looks for a clear slot of the span, from the cursor on. The cursor is that of a slot, and the
     /// span's pages are in the arena.
     pub fn new(layout: &Layout, span: Cached) -> NextSlot
-        requires class { span.class < 25 }
         requires cursor { span.cursor < slots_of span.class }
         requires pages { span.head + pages_of span.class ≤ layout.now.pages }
         ensures { result ≡ opening layout.now span }
@@ -96,7 +80,7 @@ impl NextSlot {
         NextSlot {
             layout: *layout,
             span,
-            place: Place::Look,
+            stage: SlotStage::Look,
         }
     }
 
@@ -112,12 +96,12 @@ impl NextSlot {
         ensures asks { result ≡ asks self.now }
         ensures within { InRange self.now.layout (cell_of result) }
     {
-        match self.place {
-            Place::Look => {
+        match self.stage {
+            SlotStage::Look => {
                 let word = self.span.word();
                 Ask::Load(Cell::Alloc(word / 64 % (16 * self.layout.pages)))
             }
-            Place::Ended => Ask::Load(Cell::Touch),
+            SlotStage::Ended => Ask::Load(Cell::Touch),
         }
     }
 }
@@ -125,48 +109,47 @@ impl NextSlot {
 impl NextSlot {
     /// Goes on by the alloc word of the slot at the cursor.
     fn look(&mut self, found: u64) -> Option<Option<u32>>
-        requires { self.old.place ≡ Place.Look }
+        requires { self.old.stage ≡ SlotStage.Look }
         ensures goes { self.new ≡ goes self.old found }
         ensures gives { result ≡ gives self.old found }
     {
         if (found >> (self.span.word() % 64)) & 1 == 0 {
-            self.place = Place::Ended;
+            self.stage = SlotStage::Ended;
             return Some(Some(self.span.cursor));
         }
         self.span.cursor += 1;
-        if self.span.cursor < self.span.slots() {
+        if self.span.cursor < self.span.class.slots() {
             return None;
         }
-        self.place = Place::Ended;
+        self.stage = SlotStage::Ended;
         Some(None)
     }
 }
 
 impl Machine for NextSlot {
-    ghost use Rattle.std.specs.Prelude.{refl};
-    ghost use Rattle.gh_cache.specs.Listing.{asks, gives, goes, is_busy};
+    ghost use Rattle.gh_cache.specs.Listing.{listing};
     ghost use Rattle.gh_cache.specs.Ends as proved;
 
     type Out = Option<u32>;
 
-    ghost layout = { λ s. s.layout };
+    ghost layout = { listing.layout };
 
-    ghost busy = { λ s. is_busy s.place };
+    ghost busy = { listing.busy };
 
-    ghost asks = { asks };
+    ghost asks = { listing.asks };
 
-    ghost goes = { goes };
+    ghost goes = { listing.goes };
 
-    ghost gives = { gives };
+    ghost gives = { listing.gives };
 
     fn next(&self) -> Req {
         self.layout.request(self.ask())
     }
 
     fn take(&mut self, found: u64) -> Option<Option<u32>> {
-        match self.place {
-            Place::Look => self.look(found),
-            Place::Ended => None,
+        match self.stage {
+            SlotStage::Look => self.look(found),
+            SlotStage::Ended => None,
         }
     }
 

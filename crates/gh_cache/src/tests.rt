@@ -1,49 +1,27 @@
 //! What no clause says: runs over alloc words that are drawn up by hand.
 
-ghost use Rattle.std.specs.Prelude.{◌≡◌, true};
-ghost use Rattle.gh_cache.specs.Listing.{is_busy};
-
 use super::*;
-use gh_base::{Layout, Machine, Req};
+use gh_base::{Cell, Layout, trace};
 use gh_class::Class;
+use std::alloc::{AllocError, Global};
 use std::test::Fail;
 
-/// The first alloc word of a layout of 16 pages.
-const ALLOC_ROW: u32 = 31;
-
-/// What a load finds.
-fn find(request: Req, alloc: &[u64; 256]) -> u64 {
-    match request {
-        Req::Load(word) => alloc[word.saturating_sub(ALLOC_ROW).min(255) as usize],
-        _ => 0,
-    }
-}
-
-/// Runs it over these alloc words: what it ends with, its cursor then, and its loads.
-fn run(search: &mut NextSlot, alloc: &[u64; 256]) -> (Option<u32>, u32, u32)
-    requires { is_busy search.old.place ≡ true }
-{
-    for loads in 1..2000u32 {
-        let found = find(search.next(), alloc);
-        if let Some(slot) = search.take(found) {
-            return (slot, search.cursor(), loads);
-        }
-    }
-    (None, 0, 0)
-}
-
-/// Alloc words of which these, by their numbers, are not 0.
-fn alloc_words(set: &[(usize, u64)]) -> [u64; 256] {
-    let mut words = [0u64; 256];
+/// The words up to the end of the row of alloc words, which begins at `start`: of that row these, by
+/// their numbers, are set so, and all others are 0.
+fn alloc_words(alloc: Global, start: u32, set: &[(usize, u64)]) -> Result<Vec<u64>, AllocError> {
+    let mut row = [0u64; 256];
     for (i, word) in set {
-        words[(*i).min(255)] = *word;
+        row[(*i).min(255)] = *word;
     }
-    words
+    let mut words = vec![in alloc; 0u64; start as usize]?;
+    words.extend_from_slice(&row)?;
+    Ok(words)
 }
 
 #[test]
 fn finds_the_next_clear_slot(rt: HostRuntime) -> Result<(), Fail> {
     let layout = Layout::new(16, 1, 1, 1, 1)?;
+    let start = layout.word(Cell::Alloc(0));
     // the first page, the class and the cursor; alloc words; the slot, the cursor then, the loads
     for (head, class, cursor, set, slot, after, loads) in [
         (2, 0, 0, [(0, 0), (0, 0)], Some(0), 0, 1),
@@ -59,20 +37,40 @@ fn finds_the_next_clear_slot(rt: HostRuntime) -> Result<(), Fail> {
         (15, 4, 168, [(255, 1 << 48), (0, 0)], Some(169), 169, 2),
         (15, 4, 168, [(255, 1 << 54), (0, 0)], Some(168), 168, 1),
     ] {
-        let size_class = Class::from_number(class).ok_or("no class")?;
-        assert!(rt; cursor < size_class.slots());
-        assert!(rt; head < 16 && head + size_class.pages() <= layout.pages);
-        let mut search = NextSlot::new(
-            &layout,
-            Cached {
-                head,
-                class,
-                cursor,
-            },
-        );
-        let found = run(&mut search, &alloc_words(&set));
-        assert_eq!(rt; found, (slot, after, loads), "{head} {class} {cursor}");
+        let class = Class::from_number(class).ok_or("no class")?;
+        assert!(rt; cursor < class.slots());
+        assert!(rt; head < 16 && head + class.pages() <= layout.pages);
+        let span = Cached {
+            head,
+            class,
+            cursor,
+        };
+        let mut search = NextSlot::new(&layout, span);
+        let mut words = alloc_words(rt.alloc(), start, &set)?;
+        let steps = trace::run_alone(rt.alloc(), &mut search, &layout, &mut words, 2000)?;
+        let found = (steps.out, search.cursor(), steps.lines.len());
+        assert_eq!(rt; found, (Some(slot), after, loads), "{span:?}");
     }
     laws::next_clear_slot();
+    Ok(())
+}
+
+#[test]
+fn loads_the_alloc_words_of_the_slots(rt: HostRuntime) -> Result<(), Fail> {
+    let layout = Layout::new(16, 1, 1, 1, 1)?;
+    let start = layout.word(Cell::Alloc(0));
+    let class = Class::from_number(21).ok_or("no class")?;
+    assert_eq!(rt; (class.slots(), class.pages()), (2, 1));
+    let span = Cached {
+        head: 5,
+        class,
+        cursor: 0,
+    };
+    let mut search = NextSlot::new(&layout, span);
+    let mut words = alloc_words(rt.alloc(), start, &[(80, 1), (88, 4)])?;
+    let steps = trace::run_alone(rt.alloc(), &mut search, &layout, &mut words, 9)?;
+    assert_eq!(rt; steps.lines.len(), 2);
+    assert_eq!(rt; steps.lines[0].as_str(), "load alloc 80: 1");
+    assert_eq!(rt; steps.lines[1].as_str(), "load alloc 88: 4");
     Ok(())
 }
