@@ -1,5 +1,3 @@
-pub mod Keeping
 pub mod Lacking
 pub mod Owning
 pub mod Passing
-pub mod Stopping

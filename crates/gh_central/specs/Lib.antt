@@ -1,7 +1,7 @@
 pub mod Ends
-pub mod Giving
-pub mod Listing
+pub mod GiveBack
 pub mod Owning
 pub mod Passing
 pub mod Slots
 pub mod Sound
+pub mod SweptPass

@@ -1,11 +1,6 @@
 -- Slots that begin in an alloc word, and whether one of them is clear.
 use Rattle.std.specs.Prelude.{◌≡◌, ℕ, zero, suc, ◌+◌, ◌*◌, ◌/◌, ◌%◌, ◌<◌, Bool, true, false, ◌↔◌, ◌==◌, ◌&&◌, ◌||◌}
 use Rattle.std.specs.Int.{bit_at}
-use Rattle.gh_class.specs.Classes.{slot_of}
-
--- the words of a slot of the class
-abbrev pub slot_words : ℕ → ℕ
-slot_words class = slot_of class / 8
 
 -- slot i of the span whose first heap word is `first` begins in alloc word `word`, and its bit is clear in what was found there
 pub record IsClear (slot first word found i : ℕ) : Type 0 where

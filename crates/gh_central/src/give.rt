@@ -2,15 +2,15 @@
 
 ghost use Rattle.std.specs.Prelude.{◌≡◌, ◌<◌};
 ghost use Rattle.gh_base.specs.Packing.{FitsHead, head_word};
-ghost use Rattle.gh_central.specs.Listing.{owned_by};
-ghost use Rattle.gh_central.specs.Giving.{giving};
+ghost use Rattle.gh_central.specs.GiveBack.{opening};
+ghost use Rattle.gh_central.specs.SweptPass.{owned_by};
 
 use gh_base::{Ask, Cell, Layout, Machine, PageWord, Req, SpanHead};
 use std::marker::Model;
 
-/// Where the routine stands that gives a span back.
+/// The stages of the routine that gives a span back.
 #[derive(Clone, Copy, Debug, PartialEq, Eq)]
-pub enum GivePlace {
+pub enum GiveStage {
     /// It writes the head word.
     Write,
     /// It has ended.
@@ -26,19 +26,19 @@ pub struct GiveBack {
     layout: Layout,
     page: u32,
     head: SpanHead,
-    place: GivePlace,
+    stage: GiveStage,
 }
 
 impl Model for GiveBack {
-    ghost use Rattle.gh_central.specs.Giving.{Giving, CanGive};
+    ghost use Rattle.gh_central.specs.GiveBack.{Giving, CanGive};
 
     ghost Value = { Giving };
 
-    ghost view = { λ g. record { layout = g.layout; page = g.page; head = g.head; place = g.place } };
+    ghost view = { λ g. record { layout = g.layout; page = g.page; head = g.head; stage = g.stage } };
 
     ghost invariant = { λ g. CanGive g.layout g.page g.head };
 
-    ghost inverse = { λ g. record { layout = g.layout; page = g.page; head = g.head; place = g.place } };
+    ghost inverse = { λ g. record { layout = g.layout; page = g.page; head = g.head; stage = g.stage } };
 }
 
 impl GiveBack {
@@ -46,13 +46,13 @@ impl GiveBack {
     pub fn new(layout: &Layout, page: u32, head: SpanHead) -> GiveBack
         requires page { page < layout.now.pages }
         requires head { FitsHead head }
-        ensures { result ≡ giving layout.now page head }
+        ensures { result ≡ opening layout.now page head }
     {
         GiveBack {
             layout: *layout,
             page,
             head,
-            place: GivePlace::Write,
+            stage: GiveStage::Write,
         }
     }
 
@@ -71,35 +71,35 @@ impl GiveBack {
 impl Machine for GiveBack {
     ghost use Rattle.std.specs.Prelude.{refl};
     ghost use Rattle.gh_central.specs.Ends as proved;
-    ghost use Rattle.gh_central.specs.Giving.{giving_asks, giving_gives, giving_goes, is_writing};
+    ghost use Rattle.gh_central.specs.GiveBack.{listing};
 
     type Out = ();
 
-    ghost layout = { λ g. g.layout };
+    ghost layout = { listing.layout };
 
-    ghost busy = { λ g. is_writing g.place };
+    ghost busy = { listing.busy };
 
-    ghost asks = { giving_asks };
+    ghost asks = { listing.asks };
 
-    ghost goes = { λ g _. giving_goes g };
+    ghost goes = { listing.goes };
 
-    ghost gives = { λ g _. giving_gives g };
+    ghost gives = { listing.gives };
 
     fn next(&self) -> Req {
-        let ask = match self.place {
-            GivePlace::Write => Ask::Store(Cell::Page(self.page), self.given_word()),
-            GivePlace::Ended => Ask::Load(Cell::Touch),
+        let ask = match self.stage {
+            GiveStage::Write => Ask::Store(Cell::Page(self.page), self.given_word()),
+            GiveStage::Ended => Ask::Load(Cell::Touch),
         };
         self.layout.request(ask)
     }
 
     fn take(&mut self, _found: u64) -> Option<()> {
-        match self.place {
-            GivePlace::Write => {
-                self.place = GivePlace::Ended;
+        match self.stage {
+            GiveStage::Write => {
+                self.stage = GiveStage::Ended;
                 Some(())
             }
-            GivePlace::Ended => None,
+            GiveStage::Ended => None,
         }
     }
 

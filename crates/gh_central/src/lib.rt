@@ -10,7 +10,7 @@
 //! room is read from its alloc words. A word decides by the slots that begin in it; one in which
 //! none begins decides nothing.
 //!
-//! What the routines ask for and where they go is in specs/Listing.antt and specs/Giving.antt.
+//! What the routines ask for and where they go is in specs/SweptPass.antt and specs/GiveBack.antt.
 //! Above that stand the laws of [`laws`].
 #![tactic(auto)]
 
@@ -21,5 +21,5 @@ mod slots;
 #[cfg(test)]
 mod tests;
 
-pub use give::{GiveBack, GivePlace};
-pub use pass::{PassPlace, SpanClass, SweptPass};
+pub use give::{GiveBack, GiveStage};
+pub use pass::{PassStage, SweptPass};

@@ -4,24 +4,18 @@ ghost use Rattle.std.specs.Prelude.{◌≡◌, ◌+◌, ◌*◌, ◌^◌, ◌<�
 ghost use Rattle.gh_base.specs.Cells.{InRange, seats_of};
 ghost use Rattle.gh_base.specs.Steps.{cell_of};
 ghost use Rattle.gh_base.specs.Packing.{FitsHead, FitsPage, head_word};
-ghost use Rattle.gh_central.specs.Listing.{after_bits, after_page, alloc_word, asks, given, goes_at, is_wanted, lacks_at, look_from, opening, owned_by};
+ghost use Rattle.gh_central.specs.SweptPass.{after_bits, after_page, alloc_word, asks, given, goes_at, is_wanted, lacks_at, look_from, opening, owned_by};
 
-use crate::slots::{lacks_slot, slot_words, slots_in};
+use crate::slots::lacks_slot;
+use gh_base::laws::packed_words_are_read_back;
+use gh_base::limits::MOST_PAGES;
 use gh_base::{Ask, Cell, Layout, Machine, PageWord, Req, SpanHead};
+use gh_class::{SizeClass, SpanClass};
 use std::marker::Model;
 
-/// A span class (Go's `spanClass`, in mheap.go): what the objects of a span are.
+/// The stages of the pass.
 #[derive(Clone, Copy, Debug, PartialEq, Eq)]
-pub struct SpanClass {
-    /// The size class, below `gh_base::CLASSES`.
-    pub class: u32,
-    /// That the objects have no pointer fields.
-    pub noscan: bool,
-}
-
-/// Where the pass stands.
-#[derive(Clone, Copy, Debug, PartialEq, Eq)]
-pub enum PassPlace {
+pub enum PassStage {
     /// It looks at a page.
     Look {
         /// The page.
@@ -61,20 +55,20 @@ pub struct SweptPass {
     seat: u32,
     generation: u64,
     wanted: SpanClass,
-    place: PassPlace,
+    stage: PassStage,
 }
 
 impl Model for SweptPass {
-    ghost use Rattle.gh_central.specs.Listing.{Pass};
+    ghost use Rattle.gh_central.specs.SweptPass.{Pass};
     ghost use Rattle.gh_central.specs.Sound.{Sound};
 
     ghost Value = { Pass };
 
-    ghost view = { λ m. record { layout = m.layout; seat = m.seat; generation = m.generation; wanted = m.wanted; place = m.place } };
+    ghost view = { λ m. record { layout = m.layout; seat = m.seat; generation = m.generation; wanted = m.wanted; stage = m.stage } };
 
-    ghost invariant = { λ m. Sound (record { layout = m.layout; seat = m.seat; generation = m.generation; wanted = m.wanted; place = m.place }) };
+    ghost invariant = { λ m. Sound (record { layout = m.layout; seat = m.seat; generation = m.generation; wanted = m.wanted; stage = m.stage }) };
 
-    ghost inverse = { λ m. record { layout = m.layout; seat = m.seat; generation = m.generation; wanted = m.wanted; place = m.place } };
+    ghost inverse = { λ m. record { layout = m.layout; seat = m.seat; generation = m.generation; wanted = m.wanted; stage = m.stage } };
 }
 
 impl SweptPass {
@@ -83,7 +77,6 @@ impl SweptPass {
     pub fn new(layout: &Layout, seat: u32, generation: u64, wanted: SpanClass) -> SweptPass
         requires seat { seat < seats_of layout.now }
         requires generation { generation < 2 ^ 34 }
-        requires class { wanted.class < 25 }
         ensures { result ≡ opening layout.now seat generation wanted }
     {
         SweptPass {
@@ -91,7 +84,7 @@ impl SweptPass {
             seat,
             generation,
             wanted,
-            place: PassPlace::Look { page: 0 },
+            stage: PassStage::Look { page: 0 },
         }
     }
 
@@ -99,7 +92,7 @@ impl SweptPass {
     fn is_wanted(&self, head: &SpanHead) -> bool
         ensures { result ≡ is_wanted self.now head.now }
     {
-        head.class == self.wanted.class
+        head.class == SizeClass::Small(self.wanted.class)
             && head.noscan == self.wanted.noscan
             && head.owner == 0
             && head.number == self.generation
@@ -107,7 +100,7 @@ impl SweptPass {
 
     /// Where alloc word `word` of the span at this page is loaded.
     fn alloc_word(&self, page: u32, word: u32) -> u32
-        requires page { page < 2 ^ 10 }
+        requires page { page < MOST_PAGES }
         requires word { word < 2 ^ 17 }
         ensures is { result ≡ alloc_word self.now page word }
         ensures within { result < 16 * self.now.layout.pages }
@@ -117,12 +110,12 @@ impl SweptPass {
 
     /// Alloc word `word` of the span at this page lacks a slot's bit.
     fn lacks(&self, page: u32, word: u32, found: u64) -> bool
-        requires page { page < 2 ^ 10 }
+        requires page { page < MOST_PAGES }
         requires word { word < 2 ^ 17 }
         ensures { result ≡ lacks_at self.now page word found }
     {
-        let slot = slot_words(self.wanted.class);
-        let slots = slots_in(self.wanted.class);
+        let slot = self.wanted.class.slot_words();
+        let slots = self.wanted.class.slots();
         lacks_slot(slot, slots, 1024 * page, 16 * page + word, found)
     }
 
@@ -143,37 +136,37 @@ impl SweptPass {
         ensures asks { result ≡ asks self.now }
         ensures within { InRange self.now.layout (cell_of result) }
     {
-        match self.place {
-            PassPlace::Look { page } => Ask::Load(Cell::Page(page)),
-            PassPlace::Bits { page, word, .. } => {
+        match self.stage {
+            PassStage::Look { page } => Ask::Load(Cell::Page(page)),
+            PassStage::Bits { page, word, .. } => {
                 Ask::Load(Cell::Alloc(self.alloc_word(page, word)))
             }
-            PassPlace::Take { page, head } => Ask::Store(Cell::Page(page), self.taken_word(head)),
-            PassPlace::Ended => Ask::Load(Cell::Touch),
+            PassStage::Take { page, head } => Ask::Store(Cell::Page(page), self.taken_word(head)),
+            PassStage::Ended => Ask::Load(Cell::Touch),
         }
     }
 
     /// It looks at this page next, if there is one.
-    fn look_from(&self, page: u32) -> PassPlace
+    fn look_from(&self, page: u32) -> PassStage
         ensures { result ≡ look_from self.now page }
     {
         if page < self.layout.pages {
-            PassPlace::Look { page }
+            PassStage::Look { page }
         } else {
-            PassPlace::Ended
+            PassStage::Ended
         }
     }
 
-    /// Where it stands after a page was found to be this.
-    fn after_page(&self, page: u32, found: PageWord) -> PassPlace
-        requires page { page < 2 ^ 10 }
+    /// Its stage after a page was found to be this.
+    fn after_page(&self, page: u32, found: PageWord) -> PassStage
+        requires page { page < MOST_PAGES }
         requires fits { FitsPage found }
         ensures { result ≡ after_page self.now page found }
     {
         match found {
             PageWord::Head(head) => {
                 if self.is_wanted(&head) {
-                    PassPlace::Bits {
+                    PassStage::Bits {
                         page,
                         head,
                         word: 0,
@@ -186,17 +179,17 @@ impl SweptPass {
         }
     }
 
-    /// Where it stands after an alloc word of the span was found to be this.
-    fn after_bits(&self, page: u32, head: SpanHead, word: u32, found: u64) -> PassPlace
-        requires page { page < 2 ^ 10 }
+    /// Its stage after an alloc word of the span was found to be this.
+    fn after_bits(&self, page: u32, head: SpanHead, word: u32, found: u64) -> PassStage
+        requires page { page < MOST_PAGES }
         requires fits { FitsHead head }
         requires word { word < 16 * head.pages }
         ensures { result ≡ after_bits self.now page head word found }
     {
         if self.lacks(page, word, found) {
-            PassPlace::Take { page, head }
+            PassStage::Take { page, head }
         } else if word + 1 < 16 * head.pages {
-            PassPlace::Bits {
+            PassStage::Bits {
                 page,
                 head,
                 word: word + 1,
@@ -206,27 +199,27 @@ impl SweptPass {
         }
     }
 
-    /// Where it stands after its step found this.
-    fn go(&self, found: u64) -> PassPlace
-        ensures { result ≡ goes_at self.now self.now.place found }
+    /// Its stage after its step found this.
+    fn go(&self, found: u64) -> PassStage
+        ensures { result ≡ goes_at self.now self.now.stage found }
     {
-        match self.place {
-            PassPlace::Look { page } => self.after_page(page, PageWord::unpack(found)),
-            PassPlace::Bits { page, head, word } => self.after_bits(page, head, word, found),
-            PassPlace::Take { .. } | PassPlace::Ended => PassPlace::Ended,
+        match self.stage {
+            PassStage::Look { page } => self.after_page(page, PageWord::unpack(found)),
+            PassStage::Bits { page, head, word } => self.after_bits(page, head, word, found),
+            PassStage::Take { .. } | PassStage::Ended => PassStage::Ended,
         }
     }
 }
 
-/// What it gives by a step from the first place to the second.
-fn given(from: PassPlace, to: PassPlace) -> Option<Option<u32>>
-    ensures { result ≡ given from to }
+/// What it gives by a step from the first stage to the second.
+fn given(from: &PassStage, to: &PassStage) -> Option<Option<u32>>
+    ensures { result ≡ given from.now to.now }
 {
     match from {
-        PassPlace::Take { page, .. } => Some(Some(page)),
-        PassPlace::Ended => None,
-        PassPlace::Look { .. } | PassPlace::Bits { .. } => match to {
-            PassPlace::Ended => Some(None),
+        PassStage::Take { page, .. } => Some(Some(*page)),
+        PassStage::Ended => None,
+        PassStage::Look { .. } | PassStage::Bits { .. } => match to {
+            PassStage::Ended => Some(None),
             _ => None,
         },
     }
@@ -235,29 +228,30 @@ fn given(from: PassPlace, to: PassPlace) -> Option<Option<u32>>
 impl Machine for SweptPass {
     ghost use Rattle.std.specs.Prelude.{refl};
     ghost use Rattle.gh_central.specs.Ends as proved;
-    ghost use Rattle.gh_central.specs.Listing.{asks, gives, goes, is_busy};
+    ghost use Rattle.gh_central.specs.SweptPass.{listing};
 
     type Out = Option<u32>;
 
-    ghost layout = { λ m. m.layout };
+    ghost layout = { listing.layout };
 
-    ghost busy = { λ m. is_busy m.place };
+    ghost busy = { listing.busy };
 
-    ghost asks = { asks };
+    ghost asks = { listing.asks };
 
-    ghost goes = { goes };
+    ghost goes = { listing.goes };
 
-    ghost gives = { gives };
+    ghost gives = { listing.gives };
 
     fn next(&self) -> Req {
         self.layout.request(self.ask())
     }
 
     fn take(&mut self, found: u64) -> Option<Option<u32>> {
-        let from = self.place;
+        packed_words_are_read_back();
         let to = self.go(found);
-        self.place = to;
-        given(from, to)
+        let out = given(&self.stage, &to);
+        self.stage = to;
+        out
     }
 
     ghost ends = { proved.ends };

@@ -1,35 +1,7 @@
-//! The slots of a size class, and those that begin in one alloc word.
+//! The slots of a span that begin in one alloc word.
 
 ghost use Rattle.std.specs.Prelude.{◌≡◌, ℕ, ◌+◌, ◌*◌, ◌-◌, ◌<◌, ◌≤◌, ◌^◌, ◌↔◌, IsTrue};
-ghost use Rattle.gh_class.specs.Classes.{slots_of};
-ghost use Rattle.gh_central.specs.Slots.{LacksSlot, lacks_slot, slot_words};
-
-use gh_class::Class;
-
-/// The words of a slot of the class.
-pub(crate) fn slot_words(class: u32) -> u32
-    requires { class < 25 }
-    ensures value { result ≡ slot_words class }
-    ensures some { 1 ≤ result }
-    ensures few { result ≤ 4096 }
-{
-    match Class::from_number(class) {
-        Some(class) => class.slot_bytes() / 8,
-        None => unreachable!(),
-    }
-}
-
-/// The slots of a span of the class.
-pub(crate) fn slots_in(class: u32) -> u32
-    requires { class < 25 }
-    ensures value { result ≡ slots_of class }
-    ensures few { result ≤ 1024 }
-{
-    match Class::from_number(class) {
-        Some(class) => class.slots(),
-        None => unreachable!(),
-    }
-}
+ghost use Rattle.gh_central.specs.Slots.{LacksSlot, lacks_slot};
 
 /// How many slots begin before so many words of a span.
 fn slots_before(slot: u32, words: u32) -> u32

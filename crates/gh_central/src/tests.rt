@@ -1,117 +1,94 @@
 //! What no clause says: runs over words that are drawn up by hand.
 
-ghost use Rattle.std.specs.Prelude.{◌≡◌, true};
-ghost use Rattle.gh_central.specs.Listing.{is_busy};
-ghost use Rattle.gh_central.specs.Giving.{is_writing};
+ghost use Rattle.std.specs.Prelude.{◌≡◌, ◌<◌, ◌≤◌, true};
+ghost use Rattle.gh_base.specs.Packing.{FitsBody, FitsHead};
+ghost use Rattle.gh_central.specs.GiveBack as giving;
 
 use super::*;
 use crate::slots::lacks_slot;
-use gh_base::{Layout, Machine, PageWord, Req, SpanBody, SpanHead};
+use gh_base::trace::run_alone;
+use gh_base::{Cell, Layout, Machine, PageWord, Req, SpanBody, SpanHead};
+use gh_class::{Class, SizeClass, SpanClass};
+use std::alloc::{AllocError, Global};
 use std::test::Fail;
 
-/// The words of a layout of 16 pages up to its last alloc word.
-const WORDS: usize = 287;
-
-const FIRST_PAGE_WORD: usize = 15;
-
-const FIRST_ALLOC_WORD: usize = 31;
-
-/// A span of class 20: 8 slots of 384 words on 3 pages, swept in generation 4, of nobody.
-const WANTED: SpanHead = SpanHead {
-    class: 20,
-    noscan: true,
-    pages: 3,
-    owner: 0,
-    number: 4,
-};
-
-/// Makes the step on the words, and tells the old word.
-fn make(request: Req, words: &mut [u64; 287]) -> u64 {
-    match request {
-        Req::Load(word) => words[(word as usize).min(WORDS - 1)],
-        Req::Store(word, value) => {
-            let at = (word as usize).min(WORDS - 1);
-            let old = words[at];
-            words[at] = value;
-            old
-        }
-        _ => 0,
-    }
+/// Class 20: a span of it has 8 slots of 384 words on 3 pages.
+fn class() -> Class {
+    Class::from_number(20).unwrap_or(Class::FIRST)
 }
 
-/// Runs it over these words: what it ends with, and the steps to there.
-fn run(pass: &mut SweptPass, words: &mut [u64; 287]) -> (Option<u32>, u32)
-    requires { is_busy pass.old.place ≡ true }
+/// The head of a span of that class.
+fn span(noscan: bool, owner: u32, number: u64) -> SpanHead
+    requires owner { owner < 256 }
+    requires number { number < 1000 }
+    ensures { FitsHead result }
 {
-    for step in 1..1000u32 {
-        let request = pass.next();
-        let found = make(request, words);
-        if let Some(out) = pass.take(found) {
-            return (out, step);
+    SpanHead {
+        class: SizeClass::Small(class()),
+        noscan,
+        pages: 3,
+        owner,
+        number,
+    }
+}
+
+/// A further page of such a span.
+fn body(noscan: bool, distance: u32) -> SpanBody
+    requires some { 1 ≤ distance }
+    requires few { distance < 3 }
+    ensures { FitsBody result }
+{
+    SpanBody {
+        class: SizeClass::Small(class()),
+        noscan,
+        distance,
+    }
+}
+
+/// Writes a span of 3 pages, the first of which is this word.
+fn lay(words: &mut Vec<u64>, first: u32, noscan: bool, owner: u32, number: u64)
+    requires owner { owner < 256 }
+    requires number { number < 1000 }
+{
+    let pages = [
+        PageWord::Head(span(noscan, owner, number)).pack(),
+        PageWord::Body(body(noscan, 1)).pack(),
+        PageWord::Body(body(noscan, 2)).pack(),
+    ];
+    for i in 0..3usize {
+        let at = first as usize + i;
+        if at < words.len() {
+            words[at] = pages[i];
         }
     }
-    (None, 0)
 }
 
-/// Writes a span of 3 pages.
-fn lay(words: &mut [u64; 287], page: usize, head: SpanHead) {
-    if page < 13 && head.class < 25 && head.owner < 256 && head.number < 1000 {
-        let body = SpanBody {
-            class: head.class,
-            noscan: head.noscan,
-            distance: 1,
-        };
-        words[FIRST_PAGE_WORD + page] = PageWord::Head(SpanHead { pages: 3, ..head }).pack();
-        words[FIRST_PAGE_WORD + page + 1] = PageWord::Body(body).pack();
-        words[FIRST_PAGE_WORD + page + 2] = PageWord::Body(SpanBody {
-            distance: 2,
-            ..body
-        })
-        .pack();
-    }
-}
-
-/// Sets the bits of the first slots of a span of class 20.
-fn fill(words: &mut [u64; 287], page: usize, slots: usize) {
-    for i in 0..8 {
-        if i < slots && page < 13 {
-            words[FIRST_ALLOC_WORD + 16 * page + 6 * i] = 1;
+/// Sets the bits of the first slots of a span of class 20, whose first alloc word is this.
+fn fill(words: &mut Vec<u64>, first: u32, slots: usize) {
+    for i in 0..8usize {
+        let at = first as usize + 6 * i;
+        if i < slots && at < words.len() {
+            words[at] = 1;
         }
     }
 }
 
 /// Full, cached, of the other span class, a free page, not swept, and the one with room.
-fn heap_words() -> [u64; 287] {
-    let mut words = [0u64; 287];
-    lay(&mut words, 0, WANTED);
-    fill(&mut words, 0, 8);
-    lay(&mut words, 3, SpanHead { owner: 2, ..WANTED });
-    lay(
-        &mut words,
-        6,
-        SpanHead {
-            noscan: false,
-            ..WANTED
-        },
-    );
-    lay(
-        &mut words,
-        10,
-        SpanHead {
-            number: 3,
-            ..WANTED
-        },
-    );
-    words
+fn heap_words(alloc: Global, layout: &Layout) -> Result<Vec<u64>, AllocError>
+    requires pages { layout.now.pages ≡ 16 }
+{
+    let mut words = vec![in alloc; 0u64; layout.word(Cell::Mark(0)) as usize]?;
+    lay(&mut words, layout.word(Cell::Page(0)), true, 0, 4);
+    fill(&mut words, layout.word(Cell::Alloc(0)), 8);
+    lay(&mut words, layout.word(Cell::Page(3)), true, 2, 4);
+    lay(&mut words, layout.word(Cell::Page(6)), false, 0, 4);
+    lay(&mut words, layout.word(Cell::Page(10)), true, 0, 3);
+    Ok(words)
 }
 
 #[test]
 fn takes_the_first_span_with_room(rt: HostRuntime) -> Result<(), Fail> {
     let layout = Layout::new(16, 1, 1, 1, 1)?;
-    let wanted = SpanClass {
-        class: 20,
-        noscan: true,
-    };
     // the generation, how many slots of the last span are taken, the taken page, and the steps
     for (generation, taken, page, steps) in [
         // 48 alloc words of the full span, then from head to head
@@ -123,23 +100,26 @@ fn takes_the_first_span_with_room(rt: HostRuntime) -> Result<(), Fail> {
         (3, 8, None, 1 + 2 + 1 + 49 + 3),
         (6, 0, None, 1 + 2 + 1 + 1 + 3),
     ] {
-        let mut words = heap_words();
-        fill(&mut words, 10, taken);
+        let mut words = heap_words(rt.alloc(), &layout)?;
+        fill(&mut words, layout.word(Cell::Alloc(160)), taken);
+        let wanted = SpanClass {
+            class: class(),
+            noscan: true,
+        };
         let mut pass = SweptPass::new(&layout, 1, generation, wanted);
+        let run = run_alone(rt.alloc(), &mut pass, &layout, &mut words, 999)?;
         assert_eq!(rt;
-            run(&mut pass, &mut words),
-            (page, steps),
+            (run.out, run.lines.len()),
+            (Some(page), steps),
             "{generation} {taken}"
         );
         if page.is_some() {
-            let head = SpanHead {
-                owner: 2,
-                number: 3,
-                ..WANTED
-            };
             assert_eq!(rt;
-                PageWord::unpack(words[FIRST_PAGE_WORD + 10]),
-                PageWord::Head(head)
+                words
+                    .get(layout.word(Cell::Page(10)) as usize)
+                    .copied()
+                    .map(PageWord::unpack),
+                Some(PageWord::Head(span(true, 2, 3)))
             );
         }
     }
@@ -151,7 +131,7 @@ fn takes_the_first_span_with_room(rt: HostRuntime) -> Result<(), Fail> {
 
 /// The only step of the routine, and what it gives.
 fn only_step(give: &mut GiveBack) -> (Req, Option<()>)
-    requires { is_writing give.old.place ≡ true }
+    requires { giving.is_busy give.old.stage ≡ true }
 {
     let request = give.next();
     (request, give.take(0))
@@ -160,9 +140,8 @@ fn only_step(give: &mut GiveBack) -> (Req, Option<()>)
 #[test]
 fn gives_a_span_back(rt: HostRuntime) -> Result<(), Fail> {
     let layout = Layout::new(16, 1, 1, 1, 1)?;
-    let cached = SpanHead { owner: 3, ..WANTED };
-    let mut give = GiveBack::new(&layout, 5, cached);
-    let word = PageWord::Head(WANTED).pack();
+    let mut give = GiveBack::new(&layout, 5, span(true, 3, 4));
+    let word = PageWord::Head(span(true, 0, 4)).pack();
     assert_eq!(rt; only_step(&mut give), (Req::Store(20, word), Some(())));
     laws::giving_changes_the_owner();
     Ok(())

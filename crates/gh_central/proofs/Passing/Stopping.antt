@@ -1,33 +1,22 @@
 -- The pass ends, whatever it is told.
-use Rattle.std.proofs.Common.{◌≡◌, ℕ, ◌+◌, ◌-◌, ◌*◌, ◌%◌, ◌^◌, ◌<◌, ◌≤◌, ◌⊎◌, inl, inr, Bool, true, false, cond, eqb, ltb, List, [], ◌∷◌, length, lit≤, refl, sym, ap, subst, ◌∙◌, arith}
+use Rattle.std.proofs.Common.{◌≡◌, ℕ, ◌+◌, ◌-◌, ◌*◌, ◌^◌, ◌<◌, ◌≤◌, ◌⊎◌, inl, inr, Bool, true, false, cond, ltb, zero, suc, lit≤, refl, sym, ap, subst, ◌∙◌, arith}
 use Rattle.std.proofs.lemmas.Bool.Decides.{nat_tests}
 use Rattle.gh_base.specs.declared.pack.PageWord.{PageWord}
 use Rattle.gh_base.specs.declared.pack.PageWord.TheVariants.{Free, Head, Body}
 use Rattle.gh_base.specs.declared.pack.SpanHead.{SpanHead}
-use Rattle.gh_base.specs.Packing.{body_of, head_of, page_of}
-use Rattle.gh_central.specs.declared.pass.PassPlace.{PassPlace}
-use Rattle.gh_central.specs.declared.pass.PassPlace.TheVariants.{Look, Bits, Take, Ended}
-use Rattle.gh_central.specs.Listing.{Pass, after_bits, after_page, at_place, goes, goes_at, is_wanted, lacks_at, look_from}
-use Rattle.gh_central.specs.Passing.{told}
-
-abbrev HasPages : PageWord → Type 0
-HasPages Free = Unit {0}
-HasPages (Head h) = (1 ≤ h.pages) × (h.pages < 2 ^ 13)
-HasPages (Body b) = Unit {0}
-
-has_pages : (word : ℕ) → HasPages (page_of word)
-has_pages word = go (eqb (word % 4) 1) (eqb (word % 4) 2) where
-  go : (is_head is_body : Bool) → HasPages (cond is_head (Head (head_of word)) (cond is_body (Body (body_of word)) Free))
-  go true b = (omega arith, omega arith)
-  go false true = tt
-  go false false = tt
+use Rattle.gh_base.specs.Packing.{page_of}
+use Rattle.gh_base.specs.Routines.{EndsWithin, told}
+use Rattle.gh_central.specs.declared.pass.PassStage.{PassStage}
+use Rattle.gh_central.specs.declared.pass.PassStage.TheVariants.{Look, Bits, Take, Ended}
+use Rattle.gh_central.specs.SweptPass.{Pass, after_bits, after_page, at_stage, goes, goes_at, is_busy, is_wanted, lacks_at, listing, look_from}
+use Rattle.gh_central.proofs.Passing.Walking.{has_pages, HasPages}
 
 module _ (m : Pass) where
   -- a bound on the steps from a page on
   abbrev behind : ℕ → ℕ
   behind page = 19 * (m.layout.pages - page) + 2 ^ 18
 
-  abbrev left : PassPlace → ℕ
+  abbrev left : PassStage → ℕ
   left (Look page) = behind page
   left (Bits page h i) = 2 + (16 * h.pages - i) + cond (ltb (page + h.pages) m.layout.pages) (behind (page + h.pages)) 0
   left (Take page h) = 1
@@ -64,37 +53,38 @@ module _ (m : Pass) where
     go false true e = let more : i + 1 < 16 * h.pages = grind (arith, nat_tests) in omega arith
     go false false e = subst (λ (x : ℕ). x < left (Bits page h i)) (sym (left_from (page + h.pages))) (omega arith)
 
-  shrinks : (p : PassPlace) (w : ℕ) → (p ≡ Ended) ⊎ (left (goes_at m p w) < left p)
+  shrinks : (p : PassStage) (w : ℕ) → (p ≡ Ended) ⊎ (left (goes_at m p w) < left p)
   shrinks (Look page) w = inr (look_less page (page_of w) (has_pages w))
   shrinks (Bits page h i) w = inr (bits_less page h i w)
   shrinks (Take page h) w = inr (omega arith)
   shrinks Ended w = inl refl
 
-  stops_at : (p : PassPlace) → left p ≡ 0 → p ≡ Ended
+  stops_at : (p : PassStage) → left p ≡ 0 → p ≡ Ended
   stops_at (Look page) e = absurd (omega arith)
   stops_at (Bits page h i) e = absurd (omega arith)
   stops_at (Take page h) e = absurd (omega arith)
   stops_at Ended e = refl
 
-  abbrev Shrunk : List ℕ → Type 0
-  Shrunk ws = (p : PassPlace) × (told m ws ≡ at_place m p) × ((p ≡ Ended) ⊎ (length ws + left p ≤ left m.place))
+  module _ (found : ℕ → ℕ) where
+    abbrev Shrunk : ℕ → Type 0
+    Shrunk n = (p : PassStage) × (told listing m found n ≡ at_stage m p) × ((p ≡ Ended) ⊎ (n + left p ≤ left m.stage))
 
-  shrunk : (ws : List ℕ) → Shrunk ws
-  shrunk [] = (m.place, refl, inr (omega arith))
-  shrunk (w ∷ ws) = next (shrunk ws) where
-    next : Shrunk ws → Shrunk (w ∷ ws)
-    next (p, e, inl over) = (Ended, ap (λ (x : Pass). goes x w) e ∙ ap (λ (x : PassPlace). at_place m (goes_at m x w)) over, inl refl)
-    next (p, e, inr few) = (
-      goes_at m p w,
-      ap (λ (x : Pass). goes x w) e,
-      elim (shrinks p w) [
-        | inl over ↦ inl (ap (λ (x : PassPlace). goes_at m x w) over)
-        | inr less ↦ inr (omega arith)
-      ],
-    )
+    shrunk : (n : ℕ) → Shrunk n
+    shrunk zero = (m.stage, refl, inr (omega arith))
+    shrunk (suc n) = next (shrunk n) where
+      next : Shrunk n → Shrunk (suc n)
+      next (p, e, inl over) = (Ended, ap (λ (x : Pass). goes x (found n)) e ∙ ap (λ (x : PassStage). at_stage m (goes_at m x (found n))) over, inl refl)
+      next (p, e, inr few) = (
+        goes_at m p (found n),
+        ap (λ (x : Pass). goes x (found n)) e,
+        elim (shrinks p (found n)) [
+          | inl over ↦ inl (ap (λ (x : PassStage). goes_at m x (found n)) over)
+          | inr less ↦ inr (omega arith)
+        ],
+      )
 
-  pub stops : (ws : List ℕ) → left m.place ≤ length ws → (told m ws).place ≡ Ended
-  stops ws enough = at_end (shrunk ws) where
-    at_end : Shrunk ws → (told m ws).place ≡ Ended
-    at_end (p, e, inl over) = ap (λ (x : Pass). x.place) e ∙ over
-    at_end (p, e, inr few) = ap (λ (x : Pass). x.place) e ∙ stops_at p (omega arith)
+    pub stops : (most : ℕ) → left m.stage ≤ most → EndsWithin listing most m found
+    stops most enough = record { steps = left m.stage; few = enough; ended = at_end (shrunk (left m.stage)) } where
+      at_end : Shrunk (left m.stage) → is_busy (told listing m found (left m.stage)).stage ≡ false
+      at_end (p, e, inl over) = ap (λ (x : Pass). is_busy x.stage) e ∙ ap is_busy over
+      at_end (p, e, inr few) = ap (λ (x : Pass). is_busy x.stage) e ∙ ap is_busy (stops_at p (omega arith))

@@ -1,0 +1,52 @@
+-- A span is given back: what is asked for at each stage, where that leads, and what it gives.
+use Rattle.std.specs.Prelude.{ℕ, ◌<◌, Bool, true, false, Option, Some, None}
+use Rattle.gh_base.specs.declared.cell.Cell.TheVariants.{Touch, Page}
+use Rattle.gh_base.specs.declared.cell.Ask.{Ask}
+use Rattle.gh_base.specs.declared.cell.Ask.TheVariants.{Load, Store}
+use Rattle.gh_base.specs.declared.layout.Layout.{Layout}
+use Rattle.gh_base.specs.declared.pack.SpanHead.{SpanHead}
+use Rattle.gh_base.specs.Packing.{FitsHead, head_word}
+use Rattle.gh_base.specs.Routines.{Listing}
+use Rattle.gh_central.specs.declared.give.GiveStage.{GiveStage}
+use Rattle.gh_central.specs.declared.give.GiveStage.TheVariants.{Write, Ended}
+use Rattle.gh_central.specs.SweptPass.{owned_by}
+
+-- the span's first page and what its head word says, and the routine's stage
+pub record Giving : Type 0 where
+  pub layout : Layout
+  pub page : ℕ
+  pub head : SpanHead
+  pub stage : GiveStage
+
+abbrev pub opening : Layout → ℕ → SpanHead → Giving
+opening l page h = record { layout = l; page = page; head = h; stage = Write }
+
+-- the page is one of the arena, and the head fits its word
+pub record CanGive (l : Layout) (page : ℕ) (h : SpanHead) : Type 0 where
+  pub there : page < l.pages
+  pub fits : FitsHead h
+
+abbrev pub is_busy : GiveStage → Bool
+is_busy Write = true
+is_busy Ended = false
+
+abbrev pub asks_at : Giving → GiveStage → Ask
+asks_at g Write = Store (Page g.page) (head_word (owned_by 0 g.head))
+asks_at g Ended = Load Touch
+
+abbrev pub gives_at : GiveStage → Option (Unit {0})
+gives_at Write = Some tt
+gives_at Ended = None
+
+-- the step that it asks for, what it is after the step found this, and what it ends with if that step is its last
+abbrev pub asks : Giving → Ask
+asks g = asks_at g g.stage
+
+abbrev pub goes : Giving → ℕ → Giving
+goes g found = record g { stage = Ended }
+
+abbrev pub gives : Giving → ℕ → Option (Unit {0})
+gives g found = gives_at g.stage
+
+abbrev pub listing : Listing Giving (Unit {0})
+listing = record { layout = λ g. g.layout; busy = λ g. is_busy g.stage; asks = asks; goes = goes; gives = gives }
