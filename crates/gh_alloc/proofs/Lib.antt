@@ -1,4 +1,2 @@
-pub mod Locking
-pub mod Making
-pub mod Refusing
-pub mod Within
+pub mod Finding
+pub mod Placing

@@ -1,10 +1,11 @@
-pub mod Ends
-pub mod Finding
+pub mod Find
+pub mod FindEnds
+pub mod FindSound
 pub mod Locking
 pub mod Making
-pub mod Placing
-pub mod PlacingEnds
-pub mod PlacingSound
+pub mod Place
+pub mod PlaceEnds
+pub mod PlaceSound
 pub mod Refusing
-pub mod Sound
+pub mod Vocabulary
 pub mod Within

@@ -1,18 +1,11 @@
 -- The search writes page words with the heap's lock alone, and frees the lock before it ends.
-use Rattle.std.specs.Prelude.{◌≡◌, ℕ, zero, suc, Bool, true, false, ◌==◌, if◌then◌else◌, Option, Some}
+use Rattle.std.specs.Prelude.{◌≡◌, ℕ, zero, suc, Bool, true, false, ◌==◌, if◌then◌else◌, Option}
 use Rattle.gh_base.specs.declared.cell.Cell.TheVariants.{Lock, Page}
 use Rattle.gh_base.specs.declared.cell.Ask.{Ask}
 use Rattle.gh_base.specs.declared.cell.Ask.TheVariants.{Store, Swap}
-use Rattle.gh_base.specs.declared.layout.Layout.{Layout}
-use Rattle.gh_alloc.specs.declared.find.CachedSpan.{CachedSpan}
-use Rattle.gh_alloc.specs.declared.find.Found.{Found}
-use Rattle.gh_alloc.specs.declared.find.Sought.{Sought}
-use Rattle.gh_alloc.specs.Finding.{Finding, asks, gives, goes, opening}
-
--- the search once it was told found 0 to found (n - 1)
-abbrev pub told : Finding → (ℕ → ℕ) → ℕ → Finding
-told f found zero = f
-told f found (suc n) = goes (told f found n) (found n)
+use Rattle.gh_base.specs.Routines.{EndsWith, told}
+use Rattle.gh_alloc.specs.Vocabulary.{Layout, Sought, CachedSpan, Found}
+use Rattle.gh_alloc.specs.Find.{Finding, asks, listing, opening}
 
 -- it has the lock after a step that found this: it takes it by a swap that found 0, and frees it by a store
 abbrev pub lock_after : Bool → Ask → ℕ → Bool
@@ -24,17 +17,17 @@ module _ (f : Finding) (found : ℕ → ℕ) where
   -- it has the lock after so many steps
   abbrev pub holds : ℕ → Bool
   holds zero = false
-  holds (suc n) = lock_after (holds n) (asks (told f found n)) (found n)
+  holds (suc n) = lock_after (holds n) (asks (told listing f found n)) (found n)
 
   pub record WritesWithTheLock : Type 0 where
     -- it asks for the lock only while it does not have it
-    pub asks_without : (n old new : ℕ) → asks (told f found n) ≡ Swap Lock old new → holds n ≡ false
+    pub asks_without : (n old new : ℕ) → asks (told listing f found n) ≡ Swap Lock old new → holds n ≡ false
     -- it writes page words only while it has it
-    pub writes_with : (n page word : ℕ) → asks (told f found n) ≡ Store (Page page) word → holds n ≡ true
+    pub writes_with : (n page word : ℕ) → asks (told listing f found n) ≡ Store (Page page) word → holds n ≡ true
     -- it frees the lock only while it has it
-    pub frees_with : (n word : ℕ) → asks (told f found n) ≡ Store Lock word → holds n ≡ true
+    pub frees_with : (n word : ℕ) → asks (told listing f found n) ≡ Store Lock word → holds n ≡ true
     -- and it does not have it at the end
-    pub ends_without : (n : ℕ) (out : Found) → gives (told f found n) (found n) ≡ Some out → holds (suc n) ≡ false
+    pub ends_without : (n : ℕ) (out : Found) → EndsWith listing f found n out → holds (suc n) ≡ false
 
 -- whatever it is told
 abbrev pub PagesAreWrittenWithTheLock : Type 0

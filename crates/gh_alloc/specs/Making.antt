@@ -1,5 +1,5 @@
 -- What the making of an object leaves, run from its beginning to its end with no other actor's step between.
-use Rattle.std.specs.Prelude.{◌≡◌, ◌≢◌, ℕ, zero, suc, ◌+◌, ◌*◌, ◌/◌, ◌%◌, ◌^◌, ◌<◌, ◌≤◌, ◌⊎◌, true, Option, Some, bit_or}
+use Rattle.std.specs.Prelude.{◌≡◌, ◌≢◌, ℕ, ◌+◌, ◌*◌, ◌/◌, ◌%◌, ◌^◌, ◌<◌, ◌≤◌, ◌⊎◌, Option, Some, bit_or}
 use Rattle.gh_base.specs.declared.cell.Cell.{Cell}
 use Rattle.gh_base.specs.declared.cell.Cell.TheVariants.{Alloc, Birth, Bitmap, Field, Heap, Page}
 use Rattle.gh_base.specs.declared.layout.Layout.{Layout}
@@ -8,13 +8,12 @@ use Rattle.gh_base.specs.declared.shape.Shape.{Shape}
 use Rattle.gh_base.specs.declared.value.Name.{Name}
 use Rattle.gh_base.specs.Cells.{Words}
 use Rattle.gh_base.specs.Packing.{birth_word, bit, head_word}
+use Rattle.gh_base.specs.Routines.{Leaves}
+use Rattle.gh_base.specs.Rows.{pointer_bit}
 use Rattle.gh_base.specs.Shapes.{is_pointer}
-use Rattle.gh_base.specs.Steps.{cell_of, effect}
-use Rattle.gh_bitmap.specs.Bits.{pointer_bit}
 use Rattle.gh_bitmap.specs.Stepping.{FitsSlot}
-use Rattle.gh_central.specs.Listing.{owned_by}
-use Rattle.gh_alloc.specs.declared.place.PlacePoint.TheVariants.{Ended}
-use Rattle.gh_alloc.specs.Placing.{Placing, asks, goes, is_busy, opening}
+use Rattle.gh_central.specs.SweptPass.{owned_by}
+use Rattle.gh_alloc.specs.Place.{listing, opening}
 
 module _ (shape : Shape) (at slot : ℕ) (name : Name) (span : Option SpanHead) where
   -- the cell is none of those that an object's making writes
@@ -26,7 +25,7 @@ module _ (shape : Shape) (at slot : ℕ) (name : Name) (span : Option SpanHead) 
     pub heap : cell ≢ Heap
     pub head : (h : SpanHead) → span ≡ Some h → cell ≢ Page (at / 1024)
 
-  pub record IsMade (before after : Words) : Type 0 where
+  pub record LeavesObject (before after : Words) : Type 0 where
     -- each word of the slot is clear
     pub fields : (k : ℕ) → k < slot → after (Field (at + k)) ≡ 0
     -- its first word has the object's name
@@ -43,25 +42,7 @@ module _ (shape : Shape) (at slot : ℕ) (name : Name) (span : Option SpanHead) 
     -- every other cell is as before
     pub others : (cell : Cell) → IsOther cell → after cell ≡ before cell
 
--- the routine and the words
-pub record Run : Type 0 where
-  pub routine : Placing
-  pub words : Words
-
--- after so many steps of its own
-abbrev pub alone : ℕ → Run → Run
-alone zero r = r
-alone (suc n) r = alone n (record { routine = goes r.routine (r.words (cell_of (asks r.routine))); words = effect r.words (asks r.routine) })
-
-module _ (r : Run) (IsLeft : Words → Type 0) where
-  -- the routine ends, and these are the words that it leaves
-  pub record EndsWith : Type 0 where
-    pub steps : ℕ
-    pub busy : (n : ℕ) → n < steps → is_busy (alone n r).routine.point ≡ true
-    pub ended : (alone steps r).routine.point ≡ Ended
-    pub left : IsLeft (alone steps r).words
-
 abbrev pub ObjectsAreMade : Type 0
 ObjectsAreMade = (l : Layout) (shape : Shape) (at slot : ℕ) (name : Name) (span : Option SpanHead) (words : Words) →
     1 ≤ slot → at + slot ≤ 1024 * l.pages → FitsSlot shape slot →
-    EndsWith (record { routine = opening l shape at slot name span; words = words }) (IsMade shape at slot name span words)
+    Leaves listing (record { routine = opening l shape at slot name span; words = words }) (LeavesObject shape at slot name span words)

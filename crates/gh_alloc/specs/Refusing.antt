@@ -1,52 +1,43 @@
 -- What the search has seen where it says that there is no room.
-use Rattle.std.specs.Prelude.{◌≡◌, ℕ, zero, suc, ◌+◌, ◌≤◌, ◌⊎◌, List, [], ◌∷◌, Option, Some, None}
+use Rattle.std.specs.Prelude.{◌≡◌, ℕ, ◌+◌, ◌≤◌, ◌⊎◌, Option, None}
 use Rattle.gh_base.specs.declared.cell.Cell.TheVariants.{Lock}
 use Rattle.gh_base.specs.declared.cell.Ask.TheVariants.{Swap}
-use Rattle.gh_base.specs.declared.layout.Layout.{Layout}
-use Rattle.gh_central.specs.declared.pass.SpanClass.{SpanClass}
-use Rattle.gh_central.specs.Listing as pass
-use Rattle.gh_central.specs.Passing as passing
+use Rattle.gh_base.specs.Routines.{EndsWith, told}
+use Rattle.gh_central.specs.SweptPass as pass
 use Rattle.gh_pages.specs.Listing as carve
-use Rattle.gh_pages.specs.FirstFit as fitting
-use Rattle.gh_alloc.specs.declared.find.CachedSpan.{CachedSpan}
-use Rattle.gh_alloc.specs.declared.find.FindPoint.TheVariants.{Pass, Carve}
-use Rattle.gh_alloc.specs.declared.find.Found.TheVariants.{NoRoom}
-use Rattle.gh_alloc.specs.declared.find.Sought.{Sought}
-use Rattle.gh_alloc.specs.declared.find.Sought.TheVariants.{Small, Large}
-use Rattle.gh_alloc.specs.Finding.{Finding, asks, gives, opening, span_for}
-use Rattle.gh_alloc.specs.Locking.{told}
+use Rattle.gh_alloc.specs.Vocabulary.{Layout, SpanClass, Sought, Small, Large, CachedSpan, NoRoom, Pass, Carve}
+use Rattle.gh_alloc.specs.Find.{Finding, asks, listing, opening, span_for}
 
--- the words that so many steps from this one on were told, the newest first
-abbrev pub words_from : (ℕ → ℕ) → (from count : ℕ) → List ℕ
-words_from found from zero = []
-words_from found from (suc n) = found (from + n) ∷ words_from found from n
+-- what the steps from this one on are told
+abbrev pub since : (ℕ → ℕ) → (from : ℕ) → ℕ → ℕ
+since found from n = found (from + n)
 
 module _ (f : Finding) (found : ℕ → ℕ) (l : Layout) (seat generation : ℕ) where
   -- by this step the lock was taken
   pub record TakesLock (step : ℕ) : Type 0 where
-    pub asked : asks (told f found step) ≡ Swap Lock 0 (seat + 1)
+    pub asked : asks (told listing f found step) ≡ Swap Lock 0 (seat + 1)
     pub free : found step ≡ 0
 
   -- the pass for the span class after so many of its steps, the first of them this one
   abbrev pub pass_after : SpanClass → (from steps : ℕ) → pass.Pass
-  pass_after c from steps = passing.told (pass.opening l seat generation c) (words_from found from steps)
+  pass_after c from steps = told pass.listing (pass.opening l seat generation c) (since found from) steps
 
   -- a pass begins with the first step, and with the last one it ends with none
   pub record PassEndsWithNone (c : SpanClass) (from last : ℕ) : Type 0 where
     pub steps : ℕ
-    pub runs : (n : ℕ) → n ≤ steps → (told f found (from + n)).point ≡ Pass (pass_after c from n)
+    pub runs : (n : ℕ) → n ≤ steps → (told listing f found (from + n)).stage ≡ Pass (pass_after c from n)
     pub is_last : from + steps ≡ last
-    pub none : pass.gives (pass_after c from steps) (found last) ≡ Some None
+    pub none : EndsWith pass.listing (pass.opening l seat generation c) (since found from) steps None
 
   -- the search for fresh pages after so many of its steps
   abbrev pub carve_after : Sought → (from steps : ℕ) → carve.Carving
-  carve_after wanted from steps = fitting.told (carve.opening l seat generation (span_for wanted)) (λ n. found (from + n)) steps
+  carve_after wanted from steps = told carve.listing (carve.opening l seat generation (span_for wanted)) (since found from) steps
 
   pub record CarveEndsWithNone (wanted : Sought) (from last : ℕ) : Type 0 where
     pub steps : ℕ
-    pub runs : (n : ℕ) → n ≤ steps → (told f found (from + n)).point ≡ Carve (carve_after wanted from n)
+    pub runs : (n : ℕ) → n ≤ steps → (told listing f found (from + n)).stage ≡ Carve (carve_after wanted from n)
     pub is_last : from + steps ≡ last
-    pub none : carve.gives (carve_after wanted from steps) (found last) ≡ Some None
+    pub none : EndsWith carve.listing (carve.opening l seat generation (span_for wanted)) (since found from) steps None
 
   -- the pass follows the lock, or the step that gives a cached span back
   abbrev pub Follows : (lock pass : ℕ) → Type 0
@@ -77,4 +68,4 @@ module _ (f : Finding) (found : ℕ → ℕ) (l : Layout) (seat generation : ℕ
 abbrev pub NoRoomIsTrue : Type 0
 NoRoomIsTrue = (l : Layout) (seat generation : ℕ) (wanted : Sought) (cached : Option CachedSpan) (found : ℕ → ℕ) (step : ℕ) →
     let f = opening l seat generation wanted cached in
-    gives (told f found step) (found step) ≡ Some NoRoom → HasFoundNone f found l seat generation wanted step
+    EndsWith listing f found step NoRoom → HasFoundNone f found l seat generation wanted step

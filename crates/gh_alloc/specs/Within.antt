@@ -1,16 +1,12 @@
 -- The slot that the search ends with lies in the arena.
-use Rattle.std.specs.Prelude.{ℕ, ◌+◌, ◌*◌, ◌/◌, ◌≤◌, Option, Some}
-use Rattle.gh_base.specs.declared.layout.Layout.{Layout}
-use Rattle.gh_class.specs.Classes.{slot_of}
-use Rattle.gh_alloc.specs.declared.find.Found.{Found}
-use Rattle.gh_alloc.specs.declared.find.Found.TheVariants.{At, NoRoom}
-use Rattle.gh_alloc.specs.declared.find.Sought.{Sought}
-use Rattle.gh_alloc.specs.declared.find.Sought.TheVariants.{Small, Large}
+use Rattle.std.specs.Prelude.{ℕ, ◌+◌, ◌*◌, ◌≤◌, Option, Some}
+use Rattle.gh_base.specs.Packing.{slot_for}
+use Rattle.gh_alloc.specs.Vocabulary.{Layout, Sought, Small, Large, Found, At, NoRoom}
+use Rattle.gh_alloc.specs.Find.{span_for}
 
--- the words of the slot that is looked for: of its class, or of the whole span
+-- the words of the slot that is looked for
 abbrev pub words_of : Sought → ℕ
-words_of (Small c) = slot_of c.class / 8
-words_of (Large pages noscan) = 1024 * pages
+words_of w = slot_for (span_for w).class (span_for w).pages
 
 -- the slot that was found lies in the arena
 abbrev pub LiesWithin : Layout → Sought → Found → Type 0

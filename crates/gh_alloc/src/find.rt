@@ -2,54 +2,20 @@
 
 ghost use Rattle.std.specs.Prelude.{◌≡◌, ℕ, ◌+◌, ◌*◌, ◌^◌, ◌<◌, ◌≤◌, ◌↔◌, IfSome, IsTrue, Option, true};
 ghost use Rattle.gh_base.specs.Cells.{seats_of};
-ghost use Rattle.gh_central.specs.Giving.{giving};
-ghost use Rattle.gh_alloc.specs.declared.find.FindPoint.TheVariants.{Give};
-ghost use Rattle.gh_alloc.specs.declared.find.Found.TheVariants.{NoRoom};
-ghost use Rattle.gh_alloc.specs.Finding.{after_carve, after_give, after_pass, after_slots, begin, carving, ended, first_page, given_head, gives, goes, is_busy, locked_for, move_cursor, opening, refuses, search_in, slot_found, span_at, span_for, spans_for, taken, unlocked, word_at_cursor};
-ghost use Rattle.gh_class.specs.Classes.{pages_of, slots_of};
-ghost use Rattle.gh_cache.specs.Listing.{slot_at};
-ghost use Rattle.gh_pages.specs.Sound.{IsSpan};
-ghost use Rattle.gh_alloc.specs.Sound.{IsCached, IsCachedSpan, IsSought};
+ghost use Rattle.gh_central.specs.GiveBack as giving;
+ghost use Rattle.gh_alloc.specs.declared.find.FindStage.TheVariants.{Give};
+ghost use Rattle.gh_alloc.specs.declared.sought.Found.TheVariants.{NoRoom};
+ghost use Rattle.gh_alloc.specs.Find.{after_carve, after_give, after_lock, after_pass, after_slots, begin, carving, ended, first_page, given_head, gives, goes, is_busy, locked_for, opening, refuses, search_in, slot_found, spans_for, taken, unlocked, word_at_cursor};
+ghost use Rattle.gh_alloc.specs.FindSound.{FitsPages, IsCached, IsCachedSpan};
 ghost use Rattle.gh_alloc.specs.Within.{FitsFrom, FitsGiven, LiesWithin};
 
-use gh_base::{Ask, Cell, LARGE, Layout, Machine, Req, SpanHead};
-use gh_cache::{Cached, NextSlot};
-use gh_central::{GiveBack, SpanClass, SweptPass};
-use gh_class::{Class, size_class_laws};
-use gh_pages::{Carve, Span};
+use crate::sought::{CachedSpan, Found, Sought, given_head, move_cursor};
+use gh_base::{Ask, Cell, Layout, Machine, Req};
+use gh_cache::NextSlot;
+use gh_central::{GiveBack, SweptPass};
+use gh_class::{Class, SpanClass, size_class_laws};
+use gh_pages::Carve;
 use std::marker::Model;
-
-/// What a slot is looked for.
-#[derive(Clone, Copy, Debug, PartialEq, Eq)]
-pub enum Sought {
-    /// An object of a size class, in a slot of a span of this span class.
-    Small(SpanClass),
-    /// A large object, in a span of its own.
-    Large {
-        /// The pages of the span, 1 to 64.
-        pages: u32,
-        /// That the object has no pointer fields.
-        noscan: bool,
-    },
-}
-
-/// A span that a processor has cached for a span class.
-#[derive(Clone, Copy, Debug, PartialEq, Eq)]
-pub struct CachedSpan {
-    /// Its first page.
-    pub head: u32,
-    /// A slot, or the number of slots. Each slot before it is taken.
-    pub cursor: u32,
-}
-
-/// What the search ends with.
-#[derive(Clone, Copy, Debug, PartialEq, Eq)]
-pub enum Found {
-    /// The slot whose first heap word this is.
-    At(u32),
-    /// The heap has no room for the object.
-    NoRoom,
-}
 
 /// What follows once the lock is free.
 #[derive(Clone, Copy, Debug, PartialEq, Eq)]
@@ -60,9 +26,9 @@ pub enum After {
     End(Found),
 }
 
-/// Where the search stands.
+/// The stages of the search.
 #[derive(Clone, Copy)]
-pub enum FindPoint {
+pub enum FindStage {
     /// It searches the cached span.
     Slots(NextSlot),
     /// It asks for the heap's lock.
@@ -93,36 +59,20 @@ pub struct Find {
     generation: u64,
     wanted: Sought,
     cached: Option<CachedSpan>,
-    point: FindPoint,
+    stage: FindStage,
 }
 
 impl Model for Find {
-    ghost use Rattle.gh_alloc.specs.Finding.{Finding};
-    ghost use Rattle.gh_class.specs.Classes.{pages_of, slots_of};
-    ghost use Rattle.gh_cache.specs.Listing.{slot_at};
-    ghost use Rattle.gh_pages.specs.Sound.{IsSpan};
-    ghost use Rattle.gh_alloc.specs.Sound.{Sound};
+    ghost use Rattle.gh_alloc.specs.Find.{Finding};
+    ghost use Rattle.gh_alloc.specs.FindSound.{Sound};
 
     ghost Value = { Finding };
 
-    ghost view = { λ f. record { layout = f.layout; seat = f.seat; generation = f.generation; wanted = f.wanted; cached = f.cached; point = f.point } };
+    ghost view = { λ f. record { layout = f.layout; seat = f.seat; generation = f.generation; wanted = f.wanted; cached = f.cached; stage = f.stage } };
 
-    ghost invariant = { λ f. Sound (record { layout = f.layout; seat = f.seat; generation = f.generation; wanted = f.wanted; cached = f.cached; point = f.point }) };
+    ghost invariant = { λ f. Sound (record { layout = f.layout; seat = f.seat; generation = f.generation; wanted = f.wanted; cached = f.cached; stage = f.stage }) };
 
-    ghost inverse = { λ f. record { layout = f.layout; seat = f.seat; generation = f.generation; wanted = f.wanted; cached = f.cached; point = f.point } };
-}
-
-/// The pages of a span of the class.
-fn pages_of(class: u32) -> u32
-    requires { class < 25 }
-    ensures value { result ≡ pages_of class }
-    ensures some { 1 ≤ result }
-    ensures few { result ≤ 4 }
-{
-    match Class::from_number(class) {
-        Some(class) => class.pages(),
-        None => unreachable!(),
-    }
+    ghost inverse = { λ f. record { layout = f.layout; seat = f.seat; generation = f.generation; wanted = f.wanted; cached = f.cached; stage = f.stage } };
 }
 
 impl Find {
@@ -138,7 +88,7 @@ impl Find {
     ) -> Find
         requires seat { seat < seats_of layout.now }
         requires generation { generation < 2 ^ 34 }
-        requires wanted { IsSought wanted }
+        requires pages { FitsPages wanted }
         requires cached { IsCached layout.now wanted cached }
         ensures { result ≡ opening layout.now seat generation wanted cached }
     {
@@ -148,7 +98,7 @@ impl Find {
             generation,
             wanted,
             cached,
-            point: begin(layout, wanted, cached),
+            stage: begin(layout, &wanted, cached),
         }
     }
 
@@ -165,104 +115,51 @@ impl Find {
         ensures is { result ≡ refuses self.now }
         ensures exactly { (found : ℕ) → IsTrue result ↔ (gives self.now found ≡ Some NoRoom) }
     {
-        matches!(self.point, FindPoint::Unlock(After::End(Found::NoRoom)))
+        matches!(self.stage, FindStage::Unlock(After::End(Found::NoRoom)))
     }
 }
 
-/// The slots of a span of the class.
-fn slots_of(class: u32) -> u32
-    requires { class < 25 }
-    ensures { result ≡ slots_of class }
+/// Its first stage: the search of the cached span, if a slot is left from its cursor on.
+fn begin(layout: &Layout, wanted: &Sought, cached: Option<CachedSpan>) -> FindStage
+    requires { IsCached layout.now wanted.now cached }
+    ensures { result ≡ begin layout.now wanted.now cached }
 {
-    match Class::from_number(class) {
-        Some(class) => class.slots(),
-        None => unreachable!(),
-    }
-}
-
-/// Where it begins: at the search of the cached span, if a slot is left from its cursor on.
-fn begin(layout: &Layout, wanted: Sought, cached: Option<CachedSpan>) -> FindPoint
-    requires wanted { IsSought wanted }
-    requires cached { IsCached layout.now wanted cached }
-    ensures { result ≡ begin layout.now wanted cached }
-{
-    match wanted {
+    match *wanted {
         Sought::Small(class) => match cached {
             Some(span) => begin_in(layout, class.class, span),
-            None => FindPoint::Lock,
+            None => FindStage::Lock,
         },
-        Sought::Large { .. } => FindPoint::Lock,
+        Sought::Large { .. } => FindStage::Lock,
     }
 }
 
 /// The same for a span that is cached.
-fn begin_in(layout: &Layout, class: u32, span: CachedSpan) -> FindPoint
-    requires class { class < 25 }
-    requires span { IsCachedSpan layout.now class span }
+fn begin_in(layout: &Layout, class: Class, span: CachedSpan) -> FindStage
+    requires { IsCachedSpan layout.now class span }
     ensures { result ≡ search_in layout.now class span }
 {
-    if span.cursor < slots_of(class) {
-        let cached = Cached {
-            head: span.head,
-            class,
-            cursor: span.cursor,
-        };
-        FindPoint::Slots(NextSlot::new(layout, cached))
+    if span.cursor < class.slots() {
+        FindStage::Slots(NextSlot::new(layout, span.of_class(class)))
     } else {
-        FindPoint::Lock
-    }
-}
-
-/// The first heap word of the slot at the cursor of a span of the class.
-fn slot_word(class: u32, span: CachedSpan) -> u32
-    requires class { class < 25 }
-    requires head { span.head ≤ 1024 }
-    requires cursor { span.cursor ≤ 1024 }
-    ensures { result ≡ slot_at (span_at class span) span.cursor }
-{
-    match Class::from_number(class) {
-        Some(class) => 1024 * span.head + span.cursor * (class.slot_bytes() / 8),
-        None => unreachable!(),
-    }
-}
-
-impl Sought {
-    /// What a fresh span is cut for.
-    fn span(&self) -> Span
-        requires { IsSought self.now }
-        ensures span { result ≡ span_for self.now }
-        ensures fits { IsSpan result }
-    {
-        match *self {
-            Sought::Small(class) => Span {
-                class: class.class,
-                noscan: class.noscan,
-                pages: pages_of(class.class),
-            },
-            Sought::Large { pages, noscan } => Span {
-                class: LARGE,
-                noscan,
-                pages,
-            },
-        }
+        FindStage::Lock
     }
 }
 
 impl Find {
     /// It looks for fresh pages next.
-    fn carving(&self) -> FindPoint
+    fn carving(&self) -> FindStage
         ensures { result ≡ carving self.now }
     {
         let span = self.wanted.span();
-        FindPoint::Carve(Carve::new(&self.layout, self.seat, self.generation, span))
+        FindStage::Carve(Carve::new(&self.layout, self.seat, self.generation, span))
     }
 
     /// It looks for a span next.
-    fn spans(&self) -> FindPoint
+    fn spans(&self) -> FindStage
         ensures { result ≡ spans_for self.now self.now.wanted }
     {
         match self.wanted {
-            Sought::Small(class) => FindPoint::Pass(SweptPass::new(
+            Sought::Small(class) => FindStage::Pass(SweptPass::new(
                 &self.layout,
                 self.seat,
                 self.generation,
@@ -273,7 +170,7 @@ impl Find {
     }
 
     /// What follows once it has the lock.
-    fn locked(&self) -> FindPoint
+    fn locked(&self) -> FindStage
         ensures { result ≡ locked_for self.now self.now.wanted self.now.cached }
     {
         match self.wanted {
@@ -286,19 +183,12 @@ impl Find {
     }
 
     /// It gives the cached span back next.
-    fn giving(&self, class: SpanClass, span: CachedSpan) -> FindPoint
-        requires class { class.class < 25 }
-        requires span { IsCachedSpan self.now.layout class.class span }
-        ensures { result ≡ Give (giving self.now.layout span.head (given_head self.now.generation class)) }
+    fn giving(&self, class: SpanClass, span: CachedSpan) -> FindStage
+        requires { IsCachedSpan self.now.layout class.class span }
+        ensures { result ≡ Give (giving.opening self.now.layout span.head (given_head self.now.generation class)) }
     {
-        let head = SpanHead {
-            class: class.class,
-            noscan: class.noscan,
-            pages: pages_of(class.class),
-            owner: 0,
-            number: self.generation,
-        };
-        FindPoint::Give(GiveBack::new(&self.layout, span.head, head))
+        let head = given_head(class, self.generation);
+        FindStage::Give(GiveBack::new(&self.layout, span.head, head))
     }
 
     /// The page, where so many fit from it on, and else 0.
@@ -321,14 +211,24 @@ impl Find {
     {
         match self.wanted {
             Sought::Small(class) => {
-                let head = self.first_page(pages_of(class.class), page);
+                let head = self.first_page(class.class.pages(), page);
                 self.cached = Some(CachedSpan { head, cursor: 0 });
-                self.point = FindPoint::Unlock(After::Again);
+                self.stage = FindStage::Unlock(After::Again);
             }
             Sought::Large { pages, .. } => {
                 let word = 1024 * self.first_page(pages, page);
-                self.point = FindPoint::Unlock(After::End(Found::At(word)));
+                self.stage = FindStage::Unlock(After::End(Found::At(word)));
             }
+        }
+    }
+
+    /// Goes on after it asked for the lock and found this.
+    fn after_lock(&mut self, found: u64)
+        requires { self.old.stage ≡ FindStage.Lock }
+        ensures { self.new ≡ after_lock self.old found }
+    {
+        if found == 0 {
+            self.stage = self.locked();
         }
     }
 
@@ -339,7 +239,7 @@ impl Find {
     {
         match out {
             None => {}
-            Some(None) => self.point = self.carving(),
+            Some(None) => self.stage = self.carving(),
             Some(Some(page)) => self.take_span(page),
         }
     }
@@ -351,7 +251,7 @@ impl Find {
     {
         match out {
             None => {}
-            Some(None) => self.point = FindPoint::Unlock(After::End(Found::NoRoom)),
+            Some(None) => self.stage = FindStage::Unlock(After::End(Found::NoRoom)),
             Some(Some(page)) => self.take_span(page),
         }
     }
@@ -362,7 +262,7 @@ impl Find {
     {
         if out.is_some() {
             self.cached = None;
-            self.point = self.spans();
+            self.stage = self.spans();
         }
     }
 
@@ -373,7 +273,7 @@ impl Find {
         size_class_laws();
         match self.wanted {
             Sought::Small(class) => match self.cached {
-                Some(span) => slot_word(class.class, span),
+                Some(span) => span.of_class(class.class).word(),
                 None => 0,
             },
             Sought::Large { .. } => 0,
@@ -388,107 +288,90 @@ impl Find {
         match out {
             None => None,
             Some(None) => {
-                self.point = FindPoint::Lock;
+                self.stage = FindStage::Lock;
                 None
             }
             Some(Some(_)) => {
-                self.point = FindPoint::Ended;
+                self.stage = FindStage::Ended;
                 Some(Found::At(self.word()))
             }
         }
     }
 
-    /// Where it stands once the lock is free.
-    fn unlocked(&self, after: After) -> FindPoint
+    /// Its stage once the lock is free.
+    fn unlocked(&self, after: After) -> FindStage
         ensures { result ≡ unlocked self.now after }
     {
         match after {
-            After::Again => begin(&self.layout, self.wanted, self.cached),
-            After::End(_) => FindPoint::Ended,
+            After::Again => begin(&self.layout, &self.wanted, self.cached),
+            After::End(_) => FindStage::Ended,
         }
-    }
-}
-
-/// The cursor of the cached span is this.
-fn move_cursor(cached: Option<CachedSpan>, cursor: u32) -> Option<CachedSpan>
-    ensures { result ≡ move_cursor cursor cached }
-{
-    match cached {
-        Some(span) => Some(CachedSpan {
-            head: span.head,
-            cursor,
-        }),
-        None => None,
     }
 }
 
 impl Machine for Find {
-    ghost use Rattle.gh_alloc.specs.Finding.{asks, gives, goes, is_busy};
-    ghost use Rattle.gh_alloc.specs.Ends as proved;
+    ghost use Rattle.gh_alloc.specs.Find.{gives, goes, is_busy, listing};
+    ghost use Rattle.gh_alloc.specs.FindEnds as proved;
 
     type Out = Found;
 
-    ghost layout = { λ f. f.layout };
+    ghost layout = { listing.layout };
 
-    ghost busy = { λ f. is_busy f.point };
+    ghost busy = { listing.busy };
 
-    ghost asks = { asks };
+    ghost asks = { listing.asks };
 
-    ghost goes = { goes };
+    ghost goes = { listing.goes };
 
-    ghost gives = { gives };
+    ghost gives = { listing.gives };
 
     fn next(&self) -> Req {
-        match &self.point {
-            FindPoint::Slots(search) => search.next(),
-            FindPoint::Lock => {
+        match &self.stage {
+            FindStage::Slots(search) => search.next(),
+            FindStage::Lock => {
                 let mine = u64::from(self.seat) + 1;
                 self.layout.request(Ask::Swap(Cell::Lock, 0, mine))
             }
-            FindPoint::Give(give) => give.next(),
-            FindPoint::Pass(pass) => pass.next(),
-            FindPoint::Carve(carve) => carve.next(),
-            FindPoint::Unlock(_) => self.layout.request(Ask::Store(Cell::Lock, 0)),
-            FindPoint::Ended => self.layout.request(Ask::Load(Cell::Touch)),
+            FindStage::Give(give) => give.next(),
+            FindStage::Pass(pass) => pass.next(),
+            FindStage::Carve(carve) => carve.next(),
+            FindStage::Unlock(_) => self.layout.request(Ask::Store(Cell::Lock, 0)),
+            FindStage::Ended => self.layout.request(Ask::Load(Cell::Touch)),
         }
     }
 
     fn take(&mut self, found: u64) -> Option<Found>
-        requires { is_busy self.old.point ≡ true }
+        requires { is_busy self.old.stage ≡ true }
         ensures state { self.new ≡ goes self.old found }
         ensures out { result ≡ gives self.old found }
         ensures within { IfSome result (LiesWithin self.old.layout self.old.wanted) }
     {
         size_class_laws();
-        match &mut self.point {
-            FindPoint::Slots(search) => {
+        match &mut self.stage {
+            FindStage::Slots(search) => {
                 let out = search.take(found);
                 self.cached = move_cursor(self.cached, search.cursor());
                 return self.after_slots(out);
             }
-            FindPoint::Give(give) => {
+            FindStage::Give(give) => {
                 let out = give.take(found);
                 self.after_give(out);
             }
-            FindPoint::Pass(pass) => {
+            FindStage::Pass(pass) => {
                 let out = pass.take(found);
                 self.after_pass(out);
             }
-            FindPoint::Carve(carve) => {
+            FindStage::Carve(carve) => {
                 let out = carve.take(found);
                 self.after_carve(out);
             }
-            FindPoint::Lock => {
-                if found == 0 {
-                    self.point = self.locked();
-                }
-            }
-            FindPoint::Unlock(after) => {
+            FindStage::Lock => self.after_lock(found),
+            FindStage::Unlock(after) => {
                 let then = *after;
-                self.point = self.unlocked(then);
+                self.stage = self.unlocked(then);
                 return ended(then);
             }
-            FindPoint::Ended => {}
+            FindStage::Ended => {}
         }
         None
     }

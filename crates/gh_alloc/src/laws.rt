@@ -4,6 +4,9 @@ ghost use Rattle.gh_alloc.specs.Locking.{PagesAreWrittenWithTheLock};
 ghost use Rattle.gh_alloc.specs.Making.{ObjectsAreMade};
 ghost use Rattle.gh_alloc.specs.Refusing.{NoRoomIsTrue};
 
+use crate::place::Place;
+use gh_base::laws::{cells_are_told, steps_are_folded};
+use gh_bitmap::SetPointers;
 use gh_bitmap::laws::pointers_are_set;
 
 /// Whatever the search is told, it writes a page word only between the swap that found the lock free
@@ -26,4 +29,7 @@ pub fn objects_are_made()
     ensures { ObjectsAreMade }
 {
     pointers_are_set();
+    cells_are_told();
+    steps_are_folded::<Place<'_>, ()>();
+    steps_are_folded::<SetPointers<'_>, ()>();
 }

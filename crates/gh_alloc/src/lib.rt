@@ -9,15 +9,17 @@
 //!
 //! This is Go's `mallocgc` and `mcache.refill` over `mheap.alloc` (malloc.go, mcache.go, mheap.go).
 //! Both are machines over those of the crates below. What they ask for and where they go is their
-//! listing, in specs/Finding.antt and specs/Placing.antt, composed from the listings of those
+//! listing, in specs/Find.antt and specs/Place.antt, composed from the listings of those
 //! machines.
 #![tactic(auto)]
 
 mod find;
 pub mod laws;
 mod place;
+mod sought;
 #[cfg(test)]
 mod tests;
 
-pub use find::{After, CachedSpan, Find, FindPoint, Found, Sought};
-pub use place::{Place, PlacePoint};
+pub use find::{After, Find, FindStage};
+pub use place::{Place, PlaceStage};
+pub use sought::{CachedSpan, Found, Sought};

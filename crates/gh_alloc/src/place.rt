@@ -1,19 +1,19 @@
 //! The routine that makes an object in its slot.
 
 ghost use Rattle.std.specs.Prelude.{◌≡◌, ℕ, ◌+◌, ◌*◌, ◌^◌, ◌<◌, ◌≤◌};
-ghost use Rattle.gh_alloc.specs.Placing.{acts, made, opening};
-ghost use Rattle.gh_alloc.specs.PlacingSound.{IsSpan};
-ghost use Rattle.gh_alloc.specs.declared.place.PlacePoint.TheVariants.{Bits};
-ghost use Rattle.gh_bitmap.specs.Setting as setting;
+ghost use Rattle.gh_alloc.specs.Place.{acts, made, opening};
+ghost use Rattle.gh_alloc.specs.PlaceSound.{FitsSpanHead};
+ghost use Rattle.gh_alloc.specs.declared.place.PlaceStage.TheVariants.{Bits};
+ghost use Rattle.gh_bitmap.specs.SetPointers as setting;
 
 use gh_base::{Ask, Cell, Layout, Machine, Name, Req, Shape, SpanHead};
 use gh_bitmap::SetPointers;
 use gh_central::GiveBack;
 use std::marker::Model;
 
-/// Where the making of an object stands.
+/// The stages of the making of an object.
 #[derive(Drop)]
-pub enum PlacePoint<'s> {
+pub enum PlaceStage<'s> {
     /// It clears this field word of the slot.
     Clear(u32),
     /// It writes the birth word.
@@ -45,18 +45,18 @@ pub struct Place<'s> {
     slot: u32,
     name: Name,
     span: Option<SpanHead>,
-    point: PlacePoint<'s>,
+    stage: PlaceStage<'s>,
 }
 
 impl<'s> Model for Place<'s> {
-    ghost use Rattle.gh_alloc.specs.Placing.{Placing};
-    ghost use Rattle.gh_alloc.specs.PlacingSound.{Sound};
+    ghost use Rattle.gh_alloc.specs.Place.{Placing};
+    ghost use Rattle.gh_alloc.specs.PlaceSound.{Sound};
 
     ghost Value = { Placing };
 
-    ghost view = { λ p. record { layout = p.layout; shape = p.shape.now; at = p.at; slot = p.slot; name = p.name; span = p.span; point = p.point } };
+    ghost view = { λ p. record { layout = p.layout; shape = p.shape.now; at = p.at; slot = p.slot; name = p.name; span = p.span; stage = p.stage } };
 
-    ghost invariant = { λ p. Sound (record { layout = p.layout; shape = p.shape.now; at = p.at; slot = p.slot; name = p.name; span = p.span; point = p.point }) };
+    ghost invariant = { λ p. Sound (record { layout = p.layout; shape = p.shape.now; at = p.at; slot = p.slot; name = p.name; span = p.span; stage = p.stage }) };
 }
 
 impl<'s> Place<'s> {
@@ -73,7 +73,7 @@ impl<'s> Place<'s> {
         requires some { 1 ≤ slot }
         requires within { at + slot ≤ 1024 * layout.now.pages }
         requires name { name.g + 1 < 2 ^ 32 }
-        requires span { IsSpan span }
+        requires span { FitsSpanHead span }
         ensures { result ≡ opening layout.now shape.now at slot name span }
     {
         Place {
@@ -83,7 +83,7 @@ impl<'s> Place<'s> {
             slot,
             name,
             span,
-            point: PlacePoint::Clear(0),
+            stage: PlaceStage::Clear(0),
         }
     }
 
@@ -107,83 +107,83 @@ impl<'s> Place<'s> {
     pub fn acts(&self) -> bool
         ensures { result ≡ acts self.now }
     {
-        match self.point {
-            PlacePoint::Alloc => true,
+        match self.stage {
+            PlaceStage::Alloc => true,
             _ => false,
         }
     }
 
     /// What follows once the object is made.
-    fn made(&self) -> PlacePoint<'s>
+    fn made(&self) -> PlaceStage<'s>
         ensures { result ≡ made self.now self.now.span }
     {
         match self.span {
-            Some(head) => PlacePoint::Give(GiveBack::new(&self.layout, self.at / 1024, head)),
-            None => PlacePoint::Count,
+            Some(head) => PlaceStage::Give(GiveBack::new(&self.layout, self.at / 1024, head)),
+            None => PlaceStage::Count,
         }
     }
 
     /// It writes the pointer bits next.
-    fn bits(&self) -> PlacePoint<'s>
+    fn bits(&self) -> PlaceStage<'s>
         ensures { result ≡ Bits (setting.opening self.now.layout self.now.shape self.now.at self.now.slot) }
     {
-        PlacePoint::Bits(SetPointers::new(&self.layout, self.shape, self.at, self.slot))
+        PlaceStage::Bits(SetPointers::new(&self.layout, self.shape, self.at, self.slot))
     }
 }
 
 impl<'s> Machine for Place<'s> {
     ghost use Rattle.std.specs.Prelude.{refl};
-    ghost use Rattle.gh_alloc.specs.Placing.{asks, gives, goes, is_busy};
-    ghost use Rattle.gh_alloc.specs.PlacingEnds as proved;
+    ghost use Rattle.gh_alloc.specs.Place.{listing};
+    ghost use Rattle.gh_alloc.specs.PlaceEnds as proved;
 
     type Out = ();
 
-    ghost layout = { λ p. p.layout };
+    ghost layout = { listing.layout };
 
-    ghost busy = { λ p. is_busy p.point };
+    ghost busy = { listing.busy };
 
-    ghost asks = { asks };
+    ghost asks = { listing.asks };
 
-    ghost goes = { goes };
+    ghost goes = { listing.goes };
 
-    ghost gives = { gives };
+    ghost gives = { listing.gives };
 
     fn next(&self) -> Req {
-        let ask = match &self.point {
-            PlacePoint::Clear(k) => Ask::Store(Cell::Field(self.at + *k), 0),
-            PlacePoint::Birth => Ask::Store(Cell::Birth(self.at), self.name.pack()),
-            PlacePoint::Bits(bits) => return bits.next(),
-            PlacePoint::Alloc => Ask::Or(Cell::Alloc(self.at / 64), 1 << (self.at % 64)),
-            PlacePoint::Give(give) => return give.next(),
-            PlacePoint::Count => Ask::Add(Cell::Heap, 8 * u64::from(self.slot)),
-            PlacePoint::Ended => Ask::Load(Cell::Touch),
+        let ask = match &self.stage {
+            PlaceStage::Clear(k) => Ask::Store(Cell::Field(self.at + *k), 0),
+            PlaceStage::Birth => Ask::Store(Cell::Birth(self.at), self.name.pack()),
+            PlaceStage::Bits(bits) => return bits.next(),
+            PlaceStage::Alloc => Ask::Or(Cell::Alloc(self.at / 64), 1 << (self.at % 64)),
+            PlaceStage::Give(give) => return give.next(),
+            PlaceStage::Count => Ask::Add(Cell::Heap, 8 * u64::from(self.slot)),
+            PlaceStage::Ended => Ask::Load(Cell::Touch),
         };
         self.layout.request(ask)
     }
 
     fn take(&mut self, found: u64) -> Option<()> {
-        match &mut self.point {
-            PlacePoint::Clear(k) => {
+        match &mut self.stage {
+            PlaceStage::Clear(k) => {
                 let next = *k + 1;
-                self.point = if next < self.slot {
-                    PlacePoint::Clear(next)
+                self.stage = if next < self.slot {
+                    PlaceStage::Clear(next)
                 } else {
-                    PlacePoint::Birth
+                    PlaceStage::Birth
                 };
             }
-            PlacePoint::Birth => self.point = self.bits(),
-            PlacePoint::Bits(bits) => {
+            PlaceStage::Birth => self.stage = self.bits(),
+            PlaceStage::Bits(bits) => {
                 if bits.take(found).is_some() {
-                    self.point = PlacePoint::Alloc;
+                    self.stage = PlaceStage::Alloc;
                 }
             }
-            PlacePoint::Alloc => self.point = self.made(),
-            PlacePoint::Give(_) => self.point = PlacePoint::Count,
-            PlacePoint::Count => {
-                self.point = PlacePoint::Ended;
+            PlaceStage::Alloc => self.stage = self.made(),
+            PlaceStage::Give(_) => self.stage = PlaceStage::Count,
+            PlaceStage::Count => {
+                self.stage = PlaceStage::Ended;
                 return Some(());
             }
-            PlacePoint::Ended => {}
+            PlaceStage::Ended => {}
         }
         None
     }

@@ -1,113 +1,107 @@
 //! What no clause says: runs over words that are drawn up by hand.
 
 ghost use Rattle.std.specs.Prelude.{◌≡◌, true};
-ghost use Rattle.gh_alloc.specs.Finding.{is_busy};
-ghost use Rattle.gh_alloc.specs.Placing as placing;
+ghost use Rattle.gh_alloc.specs.Find.{is_busy};
+ghost use Rattle.gh_alloc.specs.FindSound.{FitsPages};
+ghost use Rattle.gh_alloc.specs.Place as placing;
 
 use super::*;
-use gh_base::{Bits, LARGE, Layout, Machine, Name, PageWord, Req, Shape, SpanHead};
-use gh_central::SpanClass;
+use gh_base::trace::run_alone;
+use gh_base::{Bits, Cell, Layout, Machine, Name, PageWord, Req, Shape, SpanHead};
+use gh_class::{Class, SizeClass, SpanClass};
+use std::alloc::{AllocError, Global};
 use std::test::Fail;
 
-/// The words of a layout of 16 pages up to its last alloc word.
-const WORDS: usize = 287;
-
-const FIRST_PAGE_WORD: usize = 15;
-
-const FIRST_ALLOC_WORD: usize = 31;
-
-/// 8 slots of 384 words on 3 pages.
-const CLASS: SpanClass = SpanClass {
-    class: 20,
-    noscan: true,
-};
-
-/// Makes the step on the words, and tells the old word.
-fn make(request: Req, words: &mut [u64; 287]) -> u64 {
-    match request {
-        Req::Load(word) => words[(word as usize).min(WORDS - 1)],
-        Req::Store(word, value) => {
-            let at = (word as usize).min(WORDS - 1);
-            let old = words[at];
-            words[at] = value;
-            old
-        }
-        Req::Swap(word, from, to) => {
-            let at = (word as usize).min(WORDS - 1);
-            let old = words[at];
-            if old == from {
-                words[at] = to;
-            }
-            old
-        }
-        _ => 0,
-    }
+/// An object of the class that has no pointer fields.
+fn without_pointers(class: &Class) -> Sought
+    ensures { FitsPages result }
+{
+    Sought::Small(SpanClass {
+        class: *class,
+        noscan: true,
+    })
 }
 
-/// Runs it over these words: what it ends with, and the steps to there. It ends with nothing where
-/// `refuses` told otherwise before the last step.
-fn run(find: &mut Find, words: &mut [u64; 287]) -> (Option<Found>, u32)
-    requires { is_busy find.old.point ≡ true }
+/// Whether `refuses` tells, behind so many steps of a run over these words, that the next one ends it
+/// without a slot.
+fn refuses_behind(
+    alloc: Global,
+    find: &Find,
+    layout: &Layout,
+    words: &[u64],
+    steps: u32,
+) -> Result<bool, AllocError>
+    requires { is_busy find.now.stage ≡ true }
 {
-    for step in 1..1000u32 {
-        let request = find.next();
-        let refuses = find.refuses();
-        let found = make(request, words);
-        if let Some(out) = find.take(found) {
-            let told = refuses == (out == Found::NoRoom);
-            return (if told { Some(out) } else { None }, step);
-        }
-    }
-    (None, 0)
+    let mut find = *find;
+    let mut words = words.to_vec(alloc)?;
+    let _ = run_alone(alloc, &mut find, layout, &mut words, steps)?;
+    Ok(find.refuses())
 }
 
 #[test]
 fn finds_a_slot_of_a_span(rt: HostRuntime) -> Result<(), Fail> {
     let layout = Layout::new(16, 1, 1, 1, 1)?;
-    let mut words = [0u64; 287];
+    let mut words = vec![in rt.alloc(); 0u64; layout.word(Cell::Mark(0)) as usize]?;
+    // 8 slots of 384 words on 3 pages
+    let class = Class::from_number(20).ok_or("no class")?;
     // no span is there: the lock, a pass over 16 pages, 3 pages looked at and written, the lock freed, a slot
-    let mut find = Find::new(&layout, 1, 4, Sought::Small(CLASS), None);
-    assert_eq!(rt; run(&mut find, &mut words), (Some(Found::At(0)), 25));
+    let mut find = Find::new(&layout, 1, 4, without_pointers(&class), None);
+    let refuses = refuses_behind(rt.alloc(), &find, &layout, &words, 24)?;
+    let steps = run_alone(rt.alloc(), &mut find, &layout, &mut words, 999)?;
+    assert_eq!(rt; (steps.out, steps.lines.len()), (Some(Found::At(0)), 25));
+    assert!(rt; !refuses);
+    assert_eq!(rt; words.len(), 287);
     let head = SpanHead {
-        class: 20,
+        class: SizeClass::Small(class),
         noscan: true,
         pages: 3,
         owner: 2,
         number: 4,
     };
     assert_eq!(rt;
-        PageWord::unpack(words[FIRST_PAGE_WORD]),
+        PageWord::unpack(words[layout.word(Cell::Page(0)) as usize]),
         PageWord::Head(head)
     );
-    assert_eq!(rt; words[5], 0);
+    assert_eq!(rt; words[layout.word(Cell::Lock) as usize], 0);
     // its first two slots are taken
     let cached = find.cached();
     assert_eq!(rt; cached, Some(CachedSpan { head: 0, cursor: 0 }));
-    words[FIRST_ALLOC_WORD] = 1;
-    words[FIRST_ALLOC_WORD + 6] = 1;
-    let mut find = Find::new(&layout, 0, 4, Sought::Small(CLASS), None);
-    assert_eq!(rt; run(&mut find, &mut words), (Some(Found::At(3072)), 26));
+    words[layout.word(Cell::Alloc(0)) as usize] = 1;
+    words[layout.word(Cell::Alloc(6)) as usize] = 1;
+    let mut find = Find::new(&layout, 0, 4, without_pointers(&class), None);
+    let refuses = refuses_behind(rt.alloc(), &find, &layout, &words, 25)?;
+    let steps = run_alone(rt.alloc(), &mut find, &layout, &mut words, 999)?;
+    assert_eq!(rt; (steps.out, steps.lines.len()), (Some(Found::At(3072)), 26));
+    assert!(rt; !refuses);
     Ok(())
 }
 
 #[test]
 fn finds_pages_for_a_large_object(rt: HostRuntime) -> Result<(), Fail> {
     let layout = Layout::new(16, 1, 1, 1, 1)?;
-    let mut words = [0u64; 287];
-    words[FIRST_PAGE_WORD + 1] = 1;
+    let mut words = vec![in rt.alloc(); 0u64; layout.word(Cell::Mark(0)) as usize]?;
+    words[layout.word(Cell::Page(1)) as usize] = 1;
     let large = Sought::Large {
         pages: 2,
         noscan: false,
     };
     let mut find = Find::new(&layout, 1, 4, large, None);
-    assert_eq!(rt; run(&mut find, &mut words), (Some(Found::At(2048)), 8));
+    let refuses = refuses_behind(rt.alloc(), &find, &layout, &words, 7)?;
+    let steps = run_alone(rt.alloc(), &mut find, &layout, &mut words, 999)?;
+    assert_eq!(rt; (steps.out, steps.lines.len()), (Some(Found::At(2048)), 8));
+    assert!(rt; !refuses);
     let larger = Sought::Large {
         pages: 13,
         noscan: false,
     };
     let mut find = Find::new(&layout, 1, 4, larger, None);
-    assert_eq!(rt; run(&mut find, &mut words), (Some(Found::NoRoom), 18));
-    assert_eq!(rt; words[5], 0);
+    let refuses = refuses_behind(rt.alloc(), &find, &layout, &words, 17)?;
+    let steps = run_alone(rt.alloc(), &mut find, &layout, &mut words, 999)?;
+    assert_eq!(rt; (steps.out, steps.lines.len()), (Some(Found::NoRoom), 18));
+    assert!(rt; refuses);
+    assert_eq!(rt; words.len(), 287);
+    assert_eq!(rt; words[layout.word(Cell::Lock) as usize], 0);
     laws::pages_are_written_with_the_lock();
     laws::no_room_is_true();
     laws::objects_are_made();
@@ -116,7 +110,7 @@ fn finds_pages_for_a_large_object(rt: HostRuntime) -> Result<(), Fail> {
 
 /// It makes just these steps, and the sixth is the one that makes the object.
 fn makes(place: &mut Place, steps: &[Req; 8]) -> bool
-    requires { placing.is_busy place.old.point ≡ true }
+    requires { placing.is_busy place.old.stage ≡ true }
 {
     for i in 0..8usize {
         if place.acts() != (i == 5) || place.next() != steps[i] {
@@ -140,7 +134,7 @@ fn makes_an_object(rt: HostRuntime) -> Result<(), Fail> {
         bits: Bits { words: bits },
     };
     let span = SpanHead {
-        class: LARGE,
+        class: SizeClass::Large,
         noscan: false,
         pages: 1,
         owner: 2,

@@ -1,4 +1,4 @@
-use Rattle.gh_alloc.proofs.Locking.{written_with_the_lock}
+use Rattle.gh_alloc.proofs.Finding.Locking.{written_with_the_lock}
 use Rattle.gh_alloc.proofs.laws.pages_are_written_with_the_lock.Goals as goal
 
 pub returns : goal.returns

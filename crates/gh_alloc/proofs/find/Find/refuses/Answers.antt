@@ -1,5 +1,5 @@
 use Rattle.std.proofs.Common.{rules}
-use Rattle.gh_alloc.proofs.Refusing.{refuses_exactly}
+use Rattle.gh_alloc.proofs.Finding.Refusing.{refuses_exactly}
 use Rattle.gh_alloc.proofs.find.Find.refuses.Goals as goal
 
 pub returns-in_default-clause-exactly : goal.returns-in_default-clause-exactly

@@ -1,63 +1,55 @@
--- Looking for a slot: what is asked for at each point, where that leads, and what it gives.
+-- Looking for a slot: what is asked for at each stage, where that leads, and what it gives.
 use Rattle.std.specs.Prelude.{ℕ, ◌+◌, ◌*◌, Bool, true, false, nat_lt, nat_le, ◌==◌, if◌then◌else◌, Option, Some, None}
 use Rattle.gh_base.specs.declared.cell.Cell.TheVariants as cell
 use Rattle.gh_base.specs.declared.cell.Ask.{Ask}
 use Rattle.gh_base.specs.declared.cell.Ask.TheVariants.{Load, Store, Swap}
-use Rattle.gh_base.specs.declared.layout.Layout.{Layout}
 use Rattle.gh_base.specs.declared.pack.SpanHead.{SpanHead}
+use Rattle.gh_base.specs.Routines.{Listing}
+use Rattle.gh_class.specs.declared.class.SizeClass.TheVariants as size
 use Rattle.gh_class.specs.Classes.{pages_of, slots_of}
 use Rattle.gh_cache.specs.declared.next_slot.Cached.{Cached}
 use Rattle.gh_cache.specs.Listing as slots
-use Rattle.gh_central.specs.declared.pass.SpanClass.{SpanClass}
-use Rattle.gh_central.specs.Giving as give
-use Rattle.gh_central.specs.Listing as pass
+use Rattle.gh_central.specs.GiveBack as give
+use Rattle.gh_central.specs.SweptPass as pass
 use Rattle.gh_pages.specs.declared.carve.Span.{Span}
 use Rattle.gh_pages.specs.Listing as carve
-use Rattle.gh_alloc.specs.declared.find.After.{After}
-use Rattle.gh_alloc.specs.declared.find.After.TheVariants.{Again, End}
-use Rattle.gh_alloc.specs.declared.find.CachedSpan.{CachedSpan}
-use Rattle.gh_alloc.specs.declared.find.Found.{Found}
-use Rattle.gh_alloc.specs.declared.find.Found.TheVariants.{At, NoRoom}
-use Rattle.gh_alloc.specs.declared.find.FindPoint.{FindPoint}
-use Rattle.gh_alloc.specs.declared.find.FindPoint.TheVariants.{Slots, Lock, Give, Pass, Carve, Unlock, Ended}
-use Rattle.gh_alloc.specs.declared.find.Sought.{Sought}
-use Rattle.gh_alloc.specs.declared.find.Sought.TheVariants.{Small, Large}
+use Rattle.gh_alloc.specs.Vocabulary.{Layout, SpanClass, Sought, Small, Large, CachedSpan, Found, At, NoRoom, After, Again, End, FindStage, Slots, Lock, Give, Pass, Carve, Unlock, Ended}
 
--- a search: whose it is, the sweep generation, what it is for, the span that is cached, and where it stands
+-- a search: whose it is, the sweep generation, what it is for, the span that is cached, and its stage
 pub record Finding : Type 0 where
   pub layout : Layout
   pub seat : ℕ
   pub generation : ℕ
   pub wanted : Sought
   pub cached : Option CachedSpan
-  pub point : FindPoint
+  pub stage : FindStage
 
-abbrev pub at_point : Finding → FindPoint → Finding
-at_point f p = record f { point = p }
+abbrev pub at_stage : Finding → FindStage → Finding
+at_stage f stage = record f { stage = stage }
 
 -- a cached span of a class
 abbrev pub span_at : (class : ℕ) → CachedSpan → Cached
 span_at class s = record { head = s.head; class = class; cursor = s.cursor }
 
 -- the search of a cached span, where a slot is left from its cursor on; else the lock
-abbrev pub search_in : Layout → (class : ℕ) → CachedSpan → FindPoint
+abbrev pub search_in : Layout → (class : ℕ) → CachedSpan → FindStage
 search_in l class s = if nat_lt s.cursor (slots_of class) then Slots (slots.opening l (span_at class s)) else Lock
 
-abbrev pub begin : Layout → Sought → Option CachedSpan → FindPoint
+abbrev pub begin : Layout → Sought → Option CachedSpan → FindStage
 begin l (Small c) (Some s) = search_in l c.class s
 begin l _ _ = Lock
 
 abbrev pub opening : Layout → (seat generation : ℕ) → Sought → Option CachedSpan → Finding
-opening l seat generation wanted cached = record { layout = l; seat = seat; generation = generation; wanted = wanted; cached = cached; point = begin l wanted cached }
+opening l seat generation wanted cached = record { layout = l; seat = seat; generation = generation; wanted = wanted; cached = cached; stage = begin l wanted cached }
 
 -- what a fresh span is cut for
 abbrev pub span_for : Sought → Span
-span_for (Small c) = record { class = c.class; noscan = c.noscan; pages = pages_of c.class }
-span_for (Large pages noscan) = record { class = 31; noscan = noscan; pages = pages }
+span_for (Small c) = record { class = size.Small c.class; noscan = c.noscan; pages = pages_of c.class }
+span_for (Large pages noscan) = record { class = size.Large; noscan = noscan; pages = pages }
 
 -- the cached span is given back as a swept one
 abbrev pub given_head : (generation : ℕ) → SpanClass → SpanHead
-given_head generation c = record { class = c.class; noscan = c.noscan; pages = pages_of c.class; owner = 0; number = generation }
+given_head generation c = record { class = size.Small c.class; noscan = c.noscan; pages = pages_of c.class; owner = 0; number = generation }
 
 abbrev pub move_cursor : ℕ → Option CachedSpan → Option CachedSpan
 move_cursor cursor None = None
@@ -70,17 +62,17 @@ word_at_cursor _ _ = 0
 
 module _ (f : Finding) where
   -- fresh pages are looked for
-  abbrev pub carving : FindPoint
+  abbrev pub carving : FindStage
   carving = Carve (carve.opening f.layout f.seat f.generation (span_for f.wanted))
 
   -- a span is looked for: of a size class first a swept one
-  abbrev pub spans_for : Sought → FindPoint
+  abbrev pub spans_for : Sought → FindStage
   spans_for (Small c) = Pass (pass.opening f.layout f.seat f.generation c)
   spans_for (Large pages noscan) = carving
 
   -- with the lock: a cached span is given back first
-  abbrev pub locked_for : Sought → Option CachedSpan → FindPoint
-  locked_for (Small c) (Some s) = Give (give.giving f.layout s.head (given_head f.generation c))
+  abbrev pub locked_for : Sought → Option CachedSpan → FindStage
+  locked_for (Small c) (Some s) = Give (give.opening f.layout s.head (given_head f.generation c))
   locked_for wanted _ = spans_for wanted
 
   -- a page from which so many do not fit is read as page 0
@@ -89,30 +81,34 @@ module _ (f : Finding) where
 
   -- the span from this page on: of a size class it is cached, a large object's is what was looked for
   abbrev pub taken_for : Sought → ℕ → Finding
-  taken_for (Small c) page = record f { cached = Some (record { head = first_page (pages_of c.class) page; cursor = 0 }); point = Unlock Again }
-  taken_for (Large pages noscan) page = at_point f (Unlock (End (At (1024 * first_page pages page))))
+  taken_for (Small c) page = record f { cached = Some (record { head = first_page (pages_of c.class) page; cursor = 0 }); stage = Unlock Again }
+  taken_for (Large pages noscan) page = at_stage f (Unlock (End (At (1024 * first_page pages page))))
 
   abbrev pub taken : ℕ → Finding
   taken page = taken_for f.wanted page
 
+  -- what it is after it asked for the lock and found this
+  abbrev pub after_lock : ℕ → Finding
+  after_lock found = at_stage f (if found == 0 then locked_for f.wanted f.cached else Lock)
+
   -- what it is after the routine that it runs has given this
   abbrev pub after_slots : Option (Option ℕ) → Finding
   after_slots None = f
-  after_slots (Some None) = at_point f Lock
-  after_slots (Some (Some slot)) = at_point f Ended
+  after_slots (Some None) = at_stage f Lock
+  after_slots (Some (Some slot)) = at_stage f Ended
 
   abbrev pub after_give : Option (Unit {0}) → Finding
   after_give None = f
-  after_give (Some _) = record f { cached = None; point = spans_for f.wanted }
+  after_give (Some _) = record f { cached = None; stage = spans_for f.wanted }
 
   abbrev pub after_pass : Option (Option ℕ) → Finding
   after_pass None = f
-  after_pass (Some None) = at_point f carving
+  after_pass (Some None) = at_stage f carving
   after_pass (Some (Some page)) = taken page
 
   abbrev pub after_carve : Option (Option ℕ) → Finding
   after_carve None = f
-  after_carve (Some None) = at_point f (Unlock (End NoRoom))
+  after_carve (Some None) = at_stage f (Unlock (End NoRoom))
   after_carve (Some (Some page)) = taken page
 
   -- what it gives where the search of the cached span has given this
@@ -122,62 +118,65 @@ module _ (f : Finding) where
 
   -- after a step of that search
   abbrev pub searched : slots.Searching → Finding
-  searched s = record f { cached = move_cursor s.span.cursor f.cached; point = Slots s }
+  searched s = record f { cached = move_cursor s.span.cursor f.cached; stage = Slots s }
 
-  abbrev pub asks_at : FindPoint → Ask
+  abbrev pub asks_at : FindStage → Ask
   asks_at (Slots s) = slots.asks s
   asks_at Lock = Swap cell.Lock 0 (f.seat + 1)
-  asks_at (Give g) = give.giving_asks g
+  asks_at (Give g) = give.asks g
   asks_at (Pass p) = pass.asks p
   asks_at (Carve c) = carve.asks c
   asks_at (Unlock after) = Store cell.Lock 0
   asks_at Ended = Load cell.Touch
 
-  abbrev pub unlocked : After → FindPoint
+  abbrev pub unlocked : After → FindStage
   unlocked Again = begin f.layout f.wanted f.cached
   unlocked (End out) = Ended
 
-abbrev pub goes_at : Finding → FindPoint → ℕ → Finding
+abbrev pub goes_at : Finding → FindStage → ℕ → Finding
 goes_at f (Slots s) found = after_slots (searched f (slots.goes s found)) (slots.gives s found)
-goes_at f Lock found = at_point f (if found == 0 then locked_for f f.wanted f.cached else Lock)
-goes_at f (Give g) found = after_give (at_point f (Give (give.giving_goes g))) (give.giving_gives g)
-goes_at f (Pass p) found = after_pass (at_point f (Pass (pass.goes p found))) (pass.gives p found)
-goes_at f (Carve c) found = after_carve (at_point f (Carve (carve.goes c found))) (carve.gives c found)
-goes_at f (Unlock after) found = at_point f (unlocked f after)
-goes_at f Ended found = at_point f Ended
+goes_at f Lock found = after_lock f found
+goes_at f (Give g) found = after_give (at_stage f (Give (give.goes g found))) (give.gives g found)
+goes_at f (Pass p) found = after_pass (at_stage f (Pass (pass.goes p found))) (pass.gives p found)
+goes_at f (Carve c) found = after_carve (at_stage f (Carve (carve.goes c found))) (carve.gives c found)
+goes_at f (Unlock after) found = at_stage f (unlocked f after)
+goes_at f Ended found = at_stage f Ended
 
 abbrev pub ended : After → Option Found
 ended Again = None
 ended (End out) = Some out
 
-abbrev pub gives_at : Finding → FindPoint → ℕ → Option Found
+abbrev pub gives_at : Finding → FindStage → ℕ → Option Found
 gives_at f (Slots s) found = slot_found (searched f (slots.goes s found)) (slots.gives s found)
 gives_at f (Unlock after) found = ended after
 gives_at f _ found = None
 
-abbrev pub is_busy : FindPoint → Bool
-is_busy (Slots s) = slots.is_busy s.place
+abbrev pub is_busy : FindStage → Bool
+is_busy (Slots s) = slots.is_busy s.stage
 is_busy Lock = true
-is_busy (Give g) = give.is_writing g.place
-is_busy (Pass p) = pass.is_busy p.place
-is_busy (Carve c) = carve.is_busy c.place
+is_busy (Give g) = give.is_busy g.stage
+is_busy (Pass p) = pass.is_busy p.stage
+is_busy (Carve c) = carve.is_busy c.stage
 is_busy (Unlock after) = true
 is_busy Ended = false
 
 -- the step that it asks for, what it is after the step found this, and what it ends with if that step is its last
 abbrev pub asks : Finding → Ask
-asks f = asks_at f f.point
+asks f = asks_at f f.stage
 
 abbrev pub goes : Finding → ℕ → Finding
-goes f found = goes_at f f.point found
+goes f found = goes_at f f.stage found
 
 abbrev pub gives : Finding → ℕ → Option Found
-gives f found = gives_at f f.point found
+gives f found = gives_at f f.stage found
+
+abbrev pub listing : Listing Finding Found
+listing = record { layout = λ f. f.layout; busy = λ f. is_busy f.stage; asks = asks; goes = goes; gives = gives }
 
 -- its next step ends it with no room
-abbrev pub refuses_at : FindPoint → Bool
+abbrev pub refuses_at : FindStage → Bool
 refuses_at (Unlock (End NoRoom)) = true
 refuses_at _ = false
 
 abbrev pub refuses : Finding → Bool
-refuses f = refuses_at f.point
+refuses f = refuses_at f.stage

@@ -1,22 +1,22 @@
 -- What the search knows of its own numbers, whatever it is told.
 use Rattle.std.specs.Prelude.{◌≡◌, ℕ, ◌+◌, ◌^◌, ◌<◌, ◌≤◌, Option, Some}
-use Rattle.gh_base.specs.declared.layout.Layout.{Layout}
 use Rattle.gh_base.specs.Cells.{seats_of}
+use Rattle.gh_class.specs.declared.class.TheConstants.{CLASSES}
+use Rattle.gh_class.specs.declared.class.SizeClass.TheVariants as size
 use Rattle.gh_class.specs.Classes.{pages_of, slots_of}
-use Rattle.gh_alloc.specs.declared.find.After.{After}
-use Rattle.gh_alloc.specs.declared.find.After.TheVariants.{Again, End}
-use Rattle.gh_alloc.specs.declared.find.CachedSpan.{CachedSpan}
-use Rattle.gh_alloc.specs.declared.find.FindPoint.{FindPoint}
-use Rattle.gh_alloc.specs.declared.find.FindPoint.TheVariants.{Slots, Give, Pass, Carve, Unlock}
-use Rattle.gh_alloc.specs.declared.find.Sought.{Sought}
-use Rattle.gh_alloc.specs.declared.find.Sought.TheVariants.{Small, Large}
-use Rattle.gh_alloc.specs.Finding.{Finding, span_for}
+use Rattle.gh_alloc.specs.Vocabulary.{Layout, Sought, Small, Large, CachedSpan, After, Again, End, FindStage, Slots, Give, Pass, Carve, Unlock}
+use Rattle.gh_alloc.specs.Find.{Finding, span_for}
 use Rattle.gh_alloc.specs.Within.{LiesWithin}
 
--- a size class that there is, or 1 to 64 pages
+-- a large object has 1 to 64 pages
+abbrev pub FitsPages : Sought → Type 0
+FitsPages (Small c) = Unit {0}
+FitsPages (Large pages noscan) = (1 ≤ pages) × (pages ≤ 64)
+
+-- and a size class is one of the table's
 abbrev pub IsSought : Sought → Type 0
-IsSought (Small c) = c.class < 25
-IsSought (Large pages noscan) = (1 ≤ pages) × (pages ≤ 64)
+IsSought (Small c) = c.class < CLASSES
+IsSought (Large pages noscan) = FitsPages (Large pages noscan)
 
 -- the pages of a span of the class lie in the arena, and the cursor is that of a slot, or the number of slots
 pub record IsCachedSpan (l : Layout) (class : ℕ) (s : CachedSpan) : Type 0 where
@@ -33,17 +33,17 @@ IsAfter l wanted Again = Unit {0}
 IsAfter l wanted (End out) = LiesWithin l wanted out
 
 -- the routine that it runs is of the same heap and for what is wanted
-abbrev pub IsPoint : Layout → Sought → FindPoint → Type 0
-IsPoint l wanted (Slots s) = (s.layout ≡ l) × (s.span.class ≡ (span_for wanted).class)
-IsPoint l wanted (Give g) = g.layout ≡ l
-IsPoint l wanted (Pass p) = (p.layout ≡ l) × (wanted ≡ Small p.wanted)
-IsPoint l wanted (Carve c) = (c.layout ≡ l) × (c.span ≡ span_for wanted)
-IsPoint l wanted (Unlock after) = IsAfter l wanted after
-IsPoint l wanted _ = Unit {0}
+abbrev pub IsStage : Layout → Sought → FindStage → Type 0
+IsStage l wanted (Slots s) = (s.layout ≡ l) × (size.Small s.span.class ≡ (span_for wanted).class)
+IsStage l wanted (Give g) = g.layout ≡ l
+IsStage l wanted (Pass p) = (p.layout ≡ l) × (wanted ≡ Small p.wanted)
+IsStage l wanted (Carve c) = (c.layout ≡ l) × (c.span ≡ span_for wanted)
+IsStage l wanted (Unlock after) = IsAfter l wanted after
+IsStage l wanted _ = Unit {0}
 
 pub record Sound (f : Finding) : Type 0 where
   pub seat : f.seat < seats_of f.layout
   pub generation : f.generation < 2 ^ 34
   pub wanted : IsSought f.wanted
   pub cached : IsCached f.layout f.wanted f.cached
-  pub point : IsPoint f.layout f.wanted f.point
+  pub stage : IsStage f.layout f.wanted f.stage

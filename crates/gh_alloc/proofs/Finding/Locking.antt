@@ -1,0 +1,186 @@
+-- The search has the lock at the stages that say so.
+use Rattle.std.proofs.Common.{◌≡◌, ℕ, zero, suc, Bool, true, false, cond, nat_eq, nat_lt, Option, Some, None, refl, sym, ap, ◌∙◌}
+use Rattle.gh_base.specs.declared.cell.Cell.TheVariants as cell
+use Rattle.gh_base.specs.declared.cell.Ask.TheVariants.{Store, Swap}
+use Rattle.gh_base.specs.Routines.{told}
+use Rattle.gh_class.specs.Classes.{slots_of}
+use Rattle.gh_cache.specs.Listing as slots
+use Rattle.gh_cache.specs.declared.next_slot.SlotStage.{SlotStage}
+use Rattle.gh_cache.specs.declared.next_slot.SlotStage.TheVariants as slots_stage
+use Rattle.gh_central.specs.GiveBack as give
+use Rattle.gh_central.specs.declared.give.GiveStage.{GiveStage}
+use Rattle.gh_central.specs.declared.give.GiveStage.TheVariants as give_stage
+use Rattle.gh_central.specs.SweptPass as pass
+use Rattle.gh_central.specs.declared.pass.PassStage.{PassStage}
+use Rattle.gh_central.specs.declared.pass.PassStage.TheVariants as pass_stage
+use Rattle.gh_pages.specs.Listing as carve
+use Rattle.gh_pages.specs.declared.carve.CarveStage.{CarveStage}
+use Rattle.gh_pages.specs.declared.carve.CarveStage.TheVariants as carve_stage
+use Rattle.gh_alloc.specs.Vocabulary.{Layout, Sought, Small, Large, CachedSpan, Found, After, Again, End, FindStage, Slots, Lock, Give, Pass, Carve, Unlock, Ended}
+use Rattle.gh_alloc.specs.Find.{Finding, after_carve, after_give, after_pass, after_slots, asks, asks_at, at_stage, begin, gives_at, goes_at, listing, locked_for, opening, searched, spans_for, taken_for, unlocked}
+use Rattle.gh_alloc.specs.Locking.{WritesWithTheLock, holds, lock_after}
+
+abbrev has_lock : FindStage → Bool
+has_lock (Slots s) = false
+has_lock Lock = false
+has_lock (Give g) = true
+has_lock (Pass p) = true
+has_lock (Carve c) = true
+has_lock (Unlock after) = true
+has_lock Ended = false
+
+-- the steps of the routines that it runs neither take the lock nor free it
+slots_asks : (s : slots.Searching) (p : SlotStage) (held : Bool) (w : ℕ) → lock_after held (slots.asks_at s p) w ≡ held
+slots_asks s slots_stage.Look held w = refl
+slots_asks s slots_stage.Ended held w = refl
+
+give_asks : (g : give.Giving) (p : GiveStage) (held : Bool) (w : ℕ) → lock_after held (give.asks_at g p) w ≡ held
+give_asks g give_stage.Write held w = refl
+give_asks g give_stage.Ended held w = refl
+
+pass_asks : (m : pass.Pass) (p : PassStage) (held : Bool) (w : ℕ) → lock_after held (pass.asks_at m p) w ≡ held
+pass_asks m (pass_stage.Look page) held w = refl
+pass_asks m (pass_stage.Bits page h i) held w = refl
+pass_asks m (pass_stage.Take page h) held w = refl
+pass_asks m pass_stage.Ended held w = refl
+
+carve_asks : (c : carve.Carving) (p : CarveStage) (held : Bool) (w : ℕ) → lock_after held (carve.asks_at c p) w ≡ held
+carve_asks c (carve_stage.Look page run) held w = refl
+carve_asks c (carve_stage.Body first distance) held w = refl
+carve_asks c (carve_stage.Head first) held w = refl
+carve_asks c carve_stage.Ended held w = refl
+
+-- where it goes
+begin_without : (l : Layout) (w : Sought) (s : Option CachedSpan) → has_lock (begin l w s) ≡ false
+begin_without l (Small c) (Some s) = by (nat_lt s.cursor (slots_of c.class)) where
+  by : (b : Bool) → has_lock (cond b (Slots (slots.opening l (record { head = s.head; class = c.class; cursor = s.cursor }))) Lock) ≡ false
+  by true = refl
+  by false = refl
+begin_without l (Small c) None = refl
+begin_without l (Large pages noscan) s = refl
+
+unlocked_without : (f : Finding) (after : After) → has_lock (unlocked f after) ≡ false
+unlocked_without f Again = begin_without f.layout f.wanted f.cached
+unlocked_without f (End out) = refl
+
+spans_with : (f : Finding) (w : Sought) → has_lock (spans_for f w) ≡ true
+spans_with f (Small c) = refl
+spans_with f (Large pages noscan) = refl
+
+locked_with : (f : Finding) (w : Sought) (s : Option CachedSpan) → has_lock (locked_for f w s) ≡ true
+locked_with f (Small c) (Some s) = refl
+locked_with f (Small c) None = refl
+locked_with f (Large pages noscan) s = refl
+
+taken_with : (f : Finding) (w : Sought) (page : ℕ) → has_lock (taken_for f w page).stage ≡ true
+taken_with f (Small c) page = refl
+taken_with f (Large pages noscan) page = refl
+
+slots_without : (f : Finding) (out : Option (Option ℕ)) → has_lock f.stage ≡ false → has_lock (after_slots f out).stage ≡ false
+slots_without f None h = h
+slots_without f (Some None) h = refl
+slots_without f (Some (Some slot)) h = refl
+
+give_with : (f : Finding) (out : Option (Unit {0})) → has_lock f.stage ≡ true → has_lock (after_give f out).stage ≡ true
+give_with f None h = h
+give_with f (Some x) h = spans_with f f.wanted
+
+pass_with : (f : Finding) (out : Option (Option ℕ)) → has_lock f.stage ≡ true → has_lock (after_pass f out).stage ≡ true
+pass_with f None h = h
+pass_with f (Some None) h = refl
+pass_with f (Some (Some page)) h = taken_with f f.wanted page
+
+carve_with : (f : Finding) (out : Option (Option ℕ)) → has_lock f.stage ≡ true → has_lock (after_carve f out).stage ≡ true
+carve_with f None h = h
+carve_with f (Some None) h = refl
+carve_with f (Some (Some page)) h = taken_with f f.wanted page
+
+lock_found : (f : Finding) (b : Bool) → cond b true false ≡ has_lock (cond b (locked_for f f.wanted f.cached) Lock)
+lock_found f true = sym (locked_with f f.wanted f.cached)
+lock_found f false = refl
+
+step : (f : Finding) (p : FindStage) (w : ℕ) → lock_after (has_lock p) (asks_at f p) w ≡ has_lock (goes_at f p w).stage
+step f (Slots s) w = slots_asks s s.stage false w ∙ sym (slots_without (searched f (slots.goes s w)) (slots.gives s w) refl)
+step f Lock w = lock_found f (nat_eq w 0)
+step f (Give g) w = give_asks g g.stage true w ∙ sym (give_with (at_stage f (Give (give.goes g w))) (give.gives g w) refl)
+step f (Pass m) w = pass_asks m m.stage true w ∙ sym (pass_with (at_stage f (Pass (pass.goes m w))) (pass.gives m w) refl)
+step f (Carve c) w = carve_asks c c.stage true w ∙ sym (carve_with (at_stage f (Carve (carve.goes c w))) (carve.gives c w) refl)
+step f (Unlock after) w = sym (unlocked_without f after)
+step f Ended w = refl
+
+-- what it asks for at each stage
+slots_store : (s : slots.Searching) (p : SlotStage) (page word : ℕ) → slots.asks_at s p ≡ Store (cell.Page page) word → false ≡ true
+slots_store s slots_stage.Look page word e = absurd (cc)
+slots_store s slots_stage.Ended page word e = absurd (cc)
+
+store_with : (f : Finding) (p : FindStage) (page word : ℕ) → asks_at f p ≡ Store (cell.Page page) word → has_lock p ≡ true
+store_with f (Slots s) page word e = slots_store s s.stage page word e
+store_with f Lock page word e = absurd (cc)
+store_with f (Give g) page word e = refl
+store_with f (Pass m) page word e = refl
+store_with f (Carve c) page word e = refl
+store_with f (Unlock after) page word e = refl
+store_with f Ended page word e = absurd (cc)
+
+slots_free : (s : slots.Searching) (p : SlotStage) (word : ℕ) → slots.asks_at s p ≡ Store cell.Lock word → false ≡ true
+slots_free s slots_stage.Look word e = absurd (cc)
+slots_free s slots_stage.Ended word e = absurd (cc)
+
+free_with : (f : Finding) (p : FindStage) (word : ℕ) → asks_at f p ≡ Store cell.Lock word → has_lock p ≡ true
+free_with f (Slots s) word e = slots_free s s.stage word e
+free_with f Lock word e = absurd (cc)
+free_with f (Give g) word e = refl
+free_with f (Pass m) word e = refl
+free_with f (Carve c) word e = refl
+free_with f (Unlock after) word e = refl
+free_with f Ended word e = absurd (cc)
+
+give_swap : (g : give.Giving) (p : GiveStage) (old new : ℕ) → give.asks_at g p ≡ Swap cell.Lock old new → true ≡ false
+give_swap g give_stage.Write old new e = absurd (cc)
+give_swap g give_stage.Ended old new e = absurd (cc)
+
+pass_swap : (m : pass.Pass) (p : PassStage) (old new : ℕ) → pass.asks_at m p ≡ Swap cell.Lock old new → true ≡ false
+pass_swap m (pass_stage.Look page) old new e = absurd (cc)
+pass_swap m (pass_stage.Bits page h i) old new e = absurd (cc)
+pass_swap m (pass_stage.Take page h) old new e = absurd (cc)
+pass_swap m pass_stage.Ended old new e = absurd (cc)
+
+carve_swap : (c : carve.Carving) (p : CarveStage) (old new : ℕ) → carve.asks_at c p ≡ Swap cell.Lock old new → true ≡ false
+carve_swap c (carve_stage.Look page run) old new e = absurd (cc)
+carve_swap c (carve_stage.Body first distance) old new e = absurd (cc)
+carve_swap c (carve_stage.Head first) old new e = absurd (cc)
+carve_swap c carve_stage.Ended old new e = absurd (cc)
+
+swap_without : (f : Finding) (p : FindStage) (old new : ℕ) → asks_at f p ≡ Swap cell.Lock old new → has_lock p ≡ false
+swap_without f (Slots s) old new e = refl
+swap_without f Lock old new e = refl
+swap_without f (Give g) old new e = give_swap g g.stage old new e
+swap_without f (Pass m) old new e = pass_swap m m.stage old new e
+swap_without f (Carve c) old new e = carve_swap c c.stage old new e
+swap_without f (Unlock after) old new e = absurd (cc)
+swap_without f Ended old new e = refl
+
+end_without : (f : Finding) (p : FindStage) (w : ℕ) (out : Found) → gives_at f p w ≡ Some out → has_lock (goes_at f p w).stage ≡ false
+end_without f (Slots s) w out e = slots_without (searched f (slots.goes s w)) (slots.gives s w) refl
+end_without f Lock w out e = absurd (cc)
+end_without f (Give g) w out e = absurd (cc)
+end_without f (Pass m) w out e = absurd (cc)
+end_without f (Carve c) w out e = absurd (cc)
+end_without f (Unlock after) w out e = unlocked_without f after
+end_without f Ended w out e = absurd (cc)
+
+module _ (f : Finding) (found : ℕ → ℕ) (start : has_lock f.stage ≡ false) where
+  held_is : (n : ℕ) → holds f found n ≡ has_lock (told listing f found n).stage
+  held_is zero = sym start
+  held_is (suc n) = ap (λ (b : Bool). lock_after b (asks (told listing f found n)) (found n)) (held_is n) ∙ step (told listing f found n) (told listing f found n).stage (found n)
+
+  pub with_the_lock : WritesWithTheLock f found
+  with_the_lock = record {
+    asks_without = λ n old new e. held_is n ∙ swap_without (told listing f found n) (told listing f found n).stage old new e;
+    writes_with = λ n page word e. held_is n ∙ store_with (told listing f found n) (told listing f found n).stage page word e;
+    frees_with = λ n word e. held_is n ∙ free_with (told listing f found n) (told listing f found n).stage word e;
+    ends_without = λ n out e. held_is (suc n) ∙ end_without (told listing f found n) (told listing f found n).stage (found n) out e;
+  }
+
+pub written_with_the_lock : (l : Layout) (seat generation : ℕ) (wanted : Sought) (cached : Option CachedSpan) (found : ℕ → ℕ) → WritesWithTheLock (opening l seat generation wanted cached) found
+written_with_the_lock l seat generation wanted cached found = with_the_lock (opening l seat generation wanted cached) found (begin_without l wanted cached)

@@ -1,0 +1,65 @@
+-- The slot that the search of a cached span ends with lies in the arena.
+use Rattle.std.proofs.Common.{◌≡◌, ℕ, suc, ◌+◌, ◌*◌, ◌/◌, ◌<◌, ◌≤◌, Bool, true, false, cond, Option, Some, None, IfSome, sym, subst, arith}
+use Rattle.std.proofs.Math.Nat.{mul-le-mul_left, mul-le-mul_right}
+use Rattle.gh_class.specs.declared.class.TheConstants.{CLASSES}
+use Rattle.gh_class.specs.declared.class.SizeClass.TheVariants as size
+use Rattle.gh_class.specs.Classes.{pages_of, slot_of, slots_of}
+use Rattle.gh_cache.specs.Listing as slots
+use Rattle.gh_cache.specs.Sound as slots_sound
+use Rattle.gh_cache.specs.declared.next_slot.SlotStage.{SlotStage}
+use Rattle.gh_cache.specs.declared.next_slot.SlotStage.TheVariants as stage
+use Rattle.gh_alloc.specs.Vocabulary.{Layout, SpanClass, Sought, Small, Large, CachedSpan, FindStage, Slots}
+use Rattle.gh_alloc.specs.Find.{Finding, gives, gives_at, move_cursor, searched, slot_found, span_for, word_at_cursor}
+use Rattle.gh_alloc.specs.FindSound.{IsCached, IsStage, Sound}
+use Rattle.gh_alloc.specs.Within.{LiesWithin, words_of}
+
+-- a slot of a span in the arena lies in the arena
+slot_fits : (head cursor slots size pages total : ℕ) → cursor < slots → slots * size ≤ 8192 * pages → head + pages ≤ total → 1024 * head + cursor * (size / 8) + size / 8 ≤ 1024 * total
+slot_fits head cursor slots size pages total below fit within =
+    let upto : suc cursor * (size / 8) ≤ slots * (size / 8) = mul-le-mul_right (size / 8) below in
+    let words : 8 * (size / 8) ≤ size = omega arith in
+    let whole : slots * (8 * (size / 8)) ≤ slots * size = mul-le-mul_left slots words in
+    omega arith
+
+-- the cursor is that of a slot of the class, and a span of the class fits the arena
+record IsAtSlot (l : Layout) (cursor class : ℕ) : Type 0 where
+  among : class < CLASSES
+  below : cursor < slots_of class
+  pages : pages_of class ≤ l.pages
+
+module _ (fit : (c : ℕ) → c < CLASSES → slots_of c * slot_of c ≤ 8192 * pages_of c) where
+  small_fits : (l : Layout) (c : SpanClass) (cached : Option CachedSpan) (cursor : ℕ) → IsAtSlot l cursor c.class → IsCached l (Small c) cached →
+      word_at_cursor (Small c) (move_cursor cursor cached) + words_of (Small c) ≤ 1024 * l.pages
+  small_fits l c (Some s) cursor at within = slot_fits s.head cursor (slots_of c.class) (slot_of c.class) (pages_of c.class) l.pages at.below (fit c.class at.among) within.pages
+  small_fits l c None cursor at within =
+      let some : 0 < slots_of c.class = let h = at.below in omega arith in
+      let pages : 0 + pages_of c.class ≤ l.pages = let h = at.pages in omega arith in
+      let first : 1024 * 0 + 0 * (slot_of c.class / 8) + slot_of c.class / 8 ≤ 1024 * l.pages = slot_fits 0 0 (slots_of c.class) (slot_of c.class) (pages_of c.class) l.pages some (fit c.class at.among) pages in
+      omega arith
+
+  word_fits : (l : Layout) (w : Sought) (cached : Option CachedSpan) (cursor class : ℕ) → IsAtSlot l cursor class → size.Small class ≡ (span_for w).class → IsCached l w cached →
+      word_at_cursor w (move_cursor cursor cached) + words_of w ≤ 1024 * l.pages
+  word_fits l (Small c) cached cursor class at same within = small_fits l c cached cursor (let is : class ≡ c.class = cc in subst (λ (n : ℕ). IsAtSlot l cursor n) is at) within
+  word_fits l (Large pages noscan) cached cursor class at same within = absurd (cc)
+
+  look_fits : (f : Finding) (s : slots.Searching) (p : SlotStage) (found : ℕ) → slots_sound.FitsArena s.layout s.span → slots_sound.IsStage s.span p → s.layout ≡ f.layout → size.Small s.span.class ≡ (span_for f.wanted).class → IsCached f.layout f.wanted f.cached →
+      IfSome (slot_found (searched f (slots.goes_at s p found)) (slots.gives_at s p found)) (LiesWithin f.layout f.wanted)
+  look_fits f s stage.Look found span here heap class within = by (slots.is_found s found) (slots.has_next s.span) where
+    in_heap : pages_of s.span.class ≤ f.layout.pages
+    in_heap = subst (λ (l : Layout). pages_of s.span.class ≤ l.pages) heap (let h : s.span.head + pages_of s.span.class ≤ s.layout.pages = span.pages in omega arith)
+
+    at : IsAtSlot f.layout s.span.cursor s.span.class
+    at = record { among = span.class; below = here; pages = in_heap }
+
+    by : (clear more : Bool) → IfSome (slot_found (searched f (cond clear (slots.at_stage s stage.Ended) (slots.passed s))) (cond clear (Some (Some s.span.cursor)) (cond more None (Some None)))) (LiesWithin f.layout f.wanted)
+    by true more = word_fits f.layout f.wanted f.cached s.span.cursor s.span.class at class within
+    by false true = tt
+    by false false = tt
+  look_fits f s stage.Ended found span here heap class within = tt
+
+  slots_fit : (f : Finding) (s : slots.Searching) (found : ℕ) → slots_sound.Sound s → IsStage f.layout f.wanted (Slots s) → IsCached f.layout f.wanted f.cached → IfSome (gives_at f (Slots s) found) (LiesWithin f.layout f.wanted)
+  slots_fit f s found sound runs within = look_fits f s s.stage found sound.span sound.stage runs.0 runs.1 within
+
+  pub slot_found_fits : (f : Finding) (s : slots.Searching) (found : ℕ) → Sound f → slots_sound.Sound s → f.stage ≡ Slots s → IfSome (gives f found) (LiesWithin f.layout f.wanted)
+  slot_found_fits f s found sound search is =
+      subst (λ (p : FindStage). IfSome (gives_at f p found) (LiesWithin f.layout f.wanted)) (sym is) (slots_fit f s found search (subst (λ (p : FindStage). IsStage f.layout f.wanted p) is sound.stage) sound.cached)

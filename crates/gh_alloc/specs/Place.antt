@@ -1,0 +1,87 @@
+-- Making an object in its slot: what is asked for at each stage, where that leads, and what it gives.
+use Rattle.std.specs.Prelude.{ℕ, ◌+◌, ◌*◌, ◌/◌, ◌%◌, ◌^◌, Bool, true, false, nat_lt, if◌then◌else◌, Option, Some, None}
+use Rattle.gh_base.specs.declared.cell.Cell.TheVariants as cell
+use Rattle.gh_base.specs.declared.cell.Ask.{Ask}
+use Rattle.gh_base.specs.declared.cell.Ask.TheVariants.{Load, Store, Or, Add}
+use Rattle.gh_base.specs.declared.layout.Layout.{Layout}
+use Rattle.gh_base.specs.declared.pack.SpanHead.{SpanHead}
+use Rattle.gh_base.specs.declared.shape.Shape.{Shape}
+use Rattle.gh_base.specs.declared.value.Name.{Name}
+use Rattle.gh_base.specs.Packing.{birth_word}
+use Rattle.gh_base.specs.Routines.{Listing}
+use Rattle.gh_bitmap.specs.SetPointers as bits
+use Rattle.gh_central.specs.GiveBack as give
+use Rattle.gh_alloc.specs.declared.place.PlaceStage.{PlaceStage}
+use Rattle.gh_alloc.specs.declared.place.PlaceStage.TheVariants.{Clear, Birth, Bits, Alloc, Give, Count, Ended}
+
+-- the making of an object: of which shape and name, in the slot at which heap word and of how many words, a large one's span, and its stage
+pub record Placing : Type 0 where
+  pub layout : Layout
+  pub shape : Shape
+  pub at : ℕ
+  pub slot : ℕ
+  pub name : Name
+  pub span : Option SpanHead
+  pub stage : PlaceStage
+
+abbrev pub at_stage : Placing → PlaceStage → Placing
+at_stage p stage = record p { stage = stage }
+
+abbrev pub opening : Layout → Shape → (at slot : ℕ) → Name → Option SpanHead → Placing
+opening l shape at slot name span = record { layout = l; shape = shape; at = at; slot = slot; name = name; span = span; stage = Clear 0 }
+
+module _ (p : Placing) where
+  abbrev pub asks_at : PlaceStage → Ask
+  asks_at (Clear k) = Store (cell.Field (p.at + k)) 0
+  asks_at Birth = Store (cell.Birth p.at) (birth_word p.name)
+  asks_at (Bits s) = bits.asks s
+  asks_at Alloc = Or (cell.Alloc (p.at / 64)) (2 ^ (p.at % 64))
+  asks_at (Give g) = give.asks g
+  asks_at Count = Add cell.Heap (8 * p.slot)
+  asks_at Ended = Load cell.Touch
+
+  -- once the object is made, a large one's span is given back
+  abbrev pub made : Option SpanHead → PlaceStage
+  made None = Count
+  made (Some head) = Give (give.opening p.layout (p.at / 1024) head)
+
+  abbrev pub goes_at : PlaceStage → ℕ → PlaceStage
+  goes_at (Clear k) found = if nat_lt (k + 1) p.slot then Clear (k + 1) else Birth
+  goes_at Birth found = Bits (bits.opening p.layout p.shape p.at p.slot)
+  goes_at (Bits s) found = if bits.is_busy (bits.goes s found).stage then Bits (bits.goes s found) else Alloc
+  goes_at Alloc found = made p.span
+  goes_at (Give g) found = Count
+  goes_at Count found = Ended
+  goes_at Ended found = Ended
+
+abbrev pub gives_at : PlaceStage → Option (Unit {0})
+gives_at Count = Some tt
+gives_at _ = None
+
+abbrev pub is_busy : PlaceStage → Bool
+is_busy (Bits s) = bits.is_busy s.stage
+is_busy (Give g) = give.is_busy g.stage
+is_busy Ended = false
+is_busy _ = true
+
+-- the object is made by the step at this stage
+abbrev pub acts_at : PlaceStage → Bool
+acts_at Alloc = true
+acts_at _ = false
+
+-- the step that it asks for, what it is after the step found this, and what it ends with if that step is its last
+abbrev pub asks : Placing → Ask
+asks p = asks_at p p.stage
+
+abbrev pub goes : Placing → ℕ → Placing
+goes p found = at_stage p (goes_at p p.stage found)
+
+abbrev pub gives : Placing → ℕ → Option (Unit {0})
+gives p found = gives_at p.stage
+
+abbrev pub listing : Listing Placing (Unit {0})
+listing = record { layout = λ p. p.layout; busy = λ p. is_busy p.stage; asks = asks; goes = goes; gives = gives }
+
+-- its next step makes the object
+abbrev pub acts : Placing → Bool
+acts p = acts_at p.stage
