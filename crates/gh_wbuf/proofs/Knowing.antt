@@ -1,0 +1,233 @@
+-- Each step of the routines is a move, and leads to what the next stage knows.
+use Rattle.std.proofs.Common.{◌≡◌, ◌≢◌, ℕ, ◌+◌, ◌<◌, Bool, true, false, cond, eqb, ltb, Option, Some, None, refl, sym, ap, subst, ◌∙◌}
+use Rattle.std.proofs.lemmas.Bool.{eqb-true, eq-eqb, ltb-true}
+use Rattle.gh_base.specs.declared.cell.Ask.TheVariants.{Swap}
+use Rattle.gh_base.specs.declared.cell.Cell.TheVariants.{Buffer}
+use Rattle.gh_base.specs.declared.held.Held.{Held}
+use Rattle.gh_base.specs.declared.layout.Layout.{Layout}
+use Rattle.gh_base.specs.Cells.{Words}
+use Rattle.gh_base.specs.Holding.{AreBuffersOf, AreCounted, Buffers, BuffersAreHeld, Facts, Holds, KeepsItsBuffer, May, Move, moved, Moves, OwnStep, StepsAreMoves}
+use Rattle.gh_base.specs.Packing.{buffer_of, buffer_word}
+use Rattle.gh_base.specs.Routines.{Listing}
+use Rattle.gh_base.specs.Steps.{cell_of}
+use Rattle.gh_wbuf.specs.declared.find_room.RoomStage.{RoomStage}
+use Rattle.gh_wbuf.specs.declared.find_room.RoomStage.TheVariants as room
+use Rattle.gh_wbuf.specs.declared.give_buffer.GiveStage.{GiveStage}
+use Rattle.gh_wbuf.specs.declared.give_buffer.GiveStage.TheVariants as give
+use Rattle.gh_wbuf.specs.declared.take_entry.TakeStage.{TakeStage}
+use Rattle.gh_wbuf.specs.declared.take_entry.TakeStage.TheVariants as take
+use Rattle.gh_wbuf.specs.declared.try_buffer.TryStage.{TryStage}
+use Rattle.gh_wbuf.specs.declared.try_buffer.TryStage.TheVariants.{Look, GiveBack, Claim, Ended}
+use Rattle.gh_wbuf.specs.declared.try_buffer.Wish.TheVariants.{Room, Entry}
+use Rattle.gh_wbuf.specs.BufferGiving as giving
+use Rattle.gh_wbuf.specs.EntryTaking as taking
+use Rattle.gh_wbuf.specs.Knowing.{BuffersAreKept, GiveKnows, IsFreeAt, RoomKnows, RoomStageKnows, RoomTryKnows, TakeKnows, TakeStageKnows, TakeTryKnows, TryKnows}
+use Rattle.gh_wbuf.specs.RoomFinding as finding
+use Rattle.gh_wbuf.specs.Trying as try
+use Rattle.gh_wbuf.specs.Trying.{Trying}
+use Rattle.gh_wbuf.specs.TrySound.{FitsTryStage}
+use Rattle.gh_wbuf.proofs.Taking.{fine_try, took}
+use Rattle.gh_wbuf.proofs.Tries.{open_yes}
+use Rattle.gh_wbuf.proofs.Trying.{same_step}
+
+-- what a try holds, by what it gives
+
+pub given_held : (t : Trying) (p : TryStage) (f : ℕ) (h : Held) → try.gives_at t p f ≡ Some (Some h) → (try.goes_at t p f).held ≡ Some h
+given_held t Look f h e = by (try.is_open t.wish f) e where
+  by : (b : Bool) → cond b None (Some None) ≡ Some (Some h) → t.held ≡ Some h
+  by true e = absurd (cc)
+  by false e = absurd (cc)
+given_held t (GiveBack word) f h e = absurd (cc)
+given_held t (Claim word) f h e = by (eqb f word) e where
+  by : (b : Bool) → Some (cond b (Some (try.taken t.index word)) None) ≡ Some (Some h) → (cond b (record t { held = Some (try.taken t.index word); stage = Ended }) (try.at_stage t Ended)).held ≡ Some h
+  by true e = let is : try.taken t.index word ≡ h = cc in ap Some is
+  by false e = absurd (cc)
+given_held t Ended f h e = absurd (cc)
+
+pub lost_none : (t : Trying) (p : TryStage) (f : ℕ) → t.held ≡ None → try.gives_at t p f ≡ Some None → (try.goes_at t p f).held ≡ None
+lost_none t Look f none e = none
+lost_none t (GiveBack word) f none e = absurd (cc)
+lost_none t (Claim word) f none e = by (eqb f word) e where
+  by : (b : Bool) → Some (cond b (Some (try.taken t.index word)) None) ≡ Some None → (cond b (record t { held = Some (try.taken t.index word); stage = Ended }) (try.at_stage t Ended)).held ≡ None
+  by true e = absurd (cc)
+  by false e = none
+lost_none t Ended f none e = absurd (cc)
+
+pub still_none : (t : Trying) (p : TryStage) (f : ℕ) → t.held ≡ None → try.gives_at t p f ≡ None → (try.goes_at t p f).held ≡ None
+still_none t Look f none e = none
+still_none t (GiveBack word) f none e = refl
+still_none t (Claim word) f none e = absurd (cc)
+still_none t Ended f none e = none
+
+claims_free : (t : Trying) (held : Option Held) (word : ℕ) → IsFreeAt held (try.claims t held word)
+claims_free t None word = refl
+claims_free t (Some h) word = tt
+
+free_step : (t : Trying) (p : TryStage) (f : ℕ) → IsFreeAt t.held t.stage → IsFreeAt (try.goes_at t p f).held (try.goes_at t p f).stage
+free_step t Look f free = by (try.is_open t.wish f) where
+  by : (b : Bool) → IsFreeAt t.held (cond b (try.claims t t.held f) Ended)
+  by true = claims_free t t.held f
+  by false = tt
+free_step t (GiveBack word) f free = refl
+free_step t (Claim word) f free = by (eqb f word) where
+  by : (b : Bool) → IsFreeAt (cond b (record t { held = Some (try.taken t.index word); stage = Ended }) (try.at_stage t Ended)).held (cond b (record t { held = Some (try.taken t.index word); stage = Ended }) (try.at_stage t Ended)).stage
+  by true = tt
+  by false = tt
+free_step t Ended f free = free
+
+try_next : (seat : ℕ) (t : Trying) (f : ℕ) → TryKnows seat t → TryKnows seat (try.goes t f)
+try_next seat t f k =
+    let fine = fine_try seat t.wish t f (record { seat_is = k.seat_is; wish_is = refl; stage_is = k.opened }) in
+    record { seat_is = fine.seat_is; opened = fine.stage_is; free = free_step t t.stage f k.free }
+
+module _ (law : BuffersAreHeld) where
+  module _ (seat : ℕ) (s : Buffers) (words : Words) (counted : AreCounted s) (shown : AreBuffersOf words s) where
+    steps : StepsAreMoves seat s words
+    steps = law.steps seat s words counted shown
+
+    gives_any : (t : Trying) (held : Option Held) → Holds s seat held → Moves seat s words (try.back_at t held) None
+    gives_any t None holds = steps.loads _ None holds
+    gives_any t (Some h) holds = steps.gives_back h holds
+
+    try_moves : (t : Trying) (p : TryStage) → t.seat ≡ seat → FitsTryStage t.wish p → IsFreeAt t.held p → Holds s seat t.held →
+        Moves seat s words (try.asks_at t p) (try.goes_at t p (words (cell_of (try.asks_at t p)))).held
+    try_moves t Look is opened free holds = steps.loads _ t.held holds
+    try_moves t (GiveBack word) is opened free holds = gives_any t t.held holds
+    try_moves t (Claim word) is opened free holds = by (eqb (words (Buffer t.index)) word) refl where
+      by : (b : Bool) → eqb (words (Buffer t.index)) word ≡ b →
+          Moves seat s words (Swap (Buffer t.index) word (buffer_word (record { count = (buffer_of word).count; holder = t.seat + 1 }))) (cond b (record t { held = Some (try.taken t.index word); stage = Ended }) (try.at_stage t Ended)).held
+      by true e =
+          subst (λ (a : ℕ). Moves seat s words (Swap (Buffer t.index) word (buffer_word (record { count = (buffer_of word).count; holder = a + 1 }))) (Some (try.taken t.index word))) (sym is)
+          (steps.takes_buffer t.index word (subst (Holds s seat) free holds) (open_yes t.wish word opened).free (eqb-true _ _ e))
+      by false e =
+          let ne : words (Buffer t.index) ≢ word = λ z. absurd (cc (e, eq-eqb _ _ z)) in
+          steps.swaps_nothing t.index word _ t.held holds ne
+    try_moves t Ended is opened free holds = steps.loads _ t.held holds
+
+    try_own : (t : Trying) → TryKnows seat t → Holds s seat t.held → Moves seat s words (try.asks t) (try.goes t (words (cell_of (try.asks t)))).held
+    try_own t k holds = try_moves t t.stage k.seat_is k.opened k.free holds
+
+    -- the search for room
+
+    room_holds : (r : finding.RoomFinding) (t : Trying) (index : ℕ) (out : Option (Option Held)) → (out ≡ Some None → t.held ≡ None) → ((h : Held) → out ≡ Some (Some h) → t.held ≡ Some h) →
+        t.held ≡ finding.held_at (finding.after_try (finding.at_stage r (room.Try t)) index out).stage
+    room_holds r t index None lost won = refl
+    room_holds r t index (Some None) lost won = lost refl
+    room_holds r t index (Some (Some h)) lost won = won h refl
+
+    room_moves : (r : finding.RoomFinding) (p : RoomStage) → RoomStageKnows seat p → Holds s seat (finding.held_at p) → Holds s seat (finding.held_at r.stage) →
+        Moves seat s words (finding.asks_at r p) (finding.held_at (finding.goes_at r p (words (cell_of (finding.asks_at r p)))).stage)
+    room_moves r (room.GiveBack h) k holds whole = steps.gives_back h holds
+    room_moves r (room.Try t) k holds whole =
+        let f : ℕ = words (cell_of (try.asks t)) in
+        subst (Moves seat s words (try.asks t))
+        (room_holds r (try.goes t f) t.index (try.gives t f) (lost_none t t.stage f k.none) (λ h e. given_held t t.stage f h e))
+        (try_own t k.tries holds)
+    room_moves r (room.Ended h) k holds whole = steps.loads _ _ whole
+
+    -- the taking of an entry
+
+    behind_holds : (r : taking.EntryTaking) (index : ℕ) (held : Option Held) → held ≡ taking.held_at (taking.behind r index held)
+    behind_holds r index held = by (taking.has_next r.layout index) where
+      by : (b : Bool) → held ≡ taking.held_at (cond b (taking.try_at r.layout r.seat (index + 1) held) (take.Ended held))
+      by true = refl
+      by false = refl
+
+    take_holds : (r : taking.EntryTaking) (t : Trying) (index : ℕ) (out : Option (Option Held)) → ((h : Held) → out ≡ Some (Some h) → t.held ≡ Some h) →
+        t.held ≡ taking.held_at (taking.after_try (taking.at_stage r (take.Try t)) index t.held out).stage
+    take_holds r t index None won = refl
+    take_holds r t index (Some None) won = behind_holds (taking.at_stage r (take.Try t)) index t.held
+    take_holds r t index (Some (Some h)) won = won h refl
+
+    take_moves : (r : taking.EntryTaking) (p : TakeStage) → TakeStageKnows seat p → Holds s seat (taking.held_at p) → Holds s seat (taking.held_at r.stage) →
+        Moves seat s words (taking.asks_at r p) (taking.held_at (taking.goes_at r p (words (cell_of (taking.asks_at r p)))).stage)
+    take_moves r (take.Try t) k holds whole =
+        let f : ℕ = words (cell_of (try.asks t)) in
+        subst (Moves seat s words (try.asks t))
+        (take_holds r (try.goes t f) t.index (try.gives t f) (λ h e. given_held t t.stage f h e))
+        (try_own t k.tries holds)
+    take_moves r (take.Take h) k holds whole = steps.takes_entry h holds k
+    take_moves r (take.Ended held) k holds whole = steps.loads _ _ whole
+
+    give_moves : (g : giving.BufferGiving) (p : GiveStage) → Holds s seat (giving.held_at p) → Moves seat s words (giving.asks_at p) None
+    give_moves g (give.Give h) holds = steps.gives_back h holds
+    give_moves g give.Ended holds = steps.loads _ None holds
+
+  -- what the next stage knows
+
+  room_fresh : (seat : ℕ) (l : Layout) (own index : ℕ) → own ≡ seat → RoomTryKnows seat (try.opening l own Room index None)
+  room_fresh seat l own index e = record { tries = record { seat_is = e; opened = tt; free = tt }; wish_is = refl; none = refl }
+
+  room_after : (seat : ℕ) (r : finding.RoomFinding) (index : ℕ) (out : Option (Option Held)) → r.seat ≡ seat → (out ≡ None → RoomStageKnows seat r.stage) → RoomKnows seat (finding.after_try r index out)
+  room_after seat r index None e here = record { seat_is = e; stage = here refl }
+  room_after seat r index (Some None) e here = record { seat_is = e; stage = room_fresh seat r.layout r.seat (finding.next_index r.layout index) e }
+  room_after seat r index (Some (Some h)) e here = record { seat_is = e; stage = tt }
+
+  room_next : (seat : ℕ) (r : finding.RoomFinding) (p : RoomStage) (f : ℕ) → RoomKnows seat r → RoomStageKnows seat p → RoomKnows seat (finding.goes_at r p f)
+  room_next seat r (room.GiveBack h) f whole k = record { seat_is = whole.seat_is; stage = room_fresh seat r.layout r.seat 0 whole.seat_is }
+  room_next seat r (room.Try t) f whole k =
+      room_after seat (finding.at_stage r (room.Try (try.goes t f))) t.index (try.gives t f) whole.seat_is
+      (λ e. record { tries = try_next seat t f k.tries; wish_is = (same_step t f).wish ∙ k.wish_is; none = still_none t t.stage f k.none e })
+  room_next seat r (room.Ended h) f whole k = whole
+
+  take_fresh : (seat : ℕ) (l : Layout) (own index : ℕ) (held : Option Held) → own ≡ seat → TakeTryKnows seat (try.opening l own Entry index held)
+  take_fresh seat l own index held e = record { tries = record { seat_is = e; opened = tt; free = tt }; wish_is = refl }
+
+  take_after : (seat : ℕ) (r : taking.EntryTaking) (index : ℕ) (held : Option Held) (out : Option (Option Held)) → r.seat ≡ seat → TakeStageKnows seat r.stage → ((h : Held) → out ≡ Some (Some h) → 0 < h.count) →
+      TakeKnows seat (taking.after_try r index held out)
+  take_after seat r index held None e here some = record { seat_is = e; stage = here }
+  take_after seat r index held (Some None) e here some = record { seat_is = e; stage = by (taking.has_next r.layout index) } where
+    by : (b : Bool) → TakeStageKnows seat (cond b (taking.try_at r.layout r.seat (index + 1) held) (take.Ended held))
+    by true = take_fresh seat r.layout r.seat (index + 1) held e
+    by false = tt
+  take_after seat r index held (Some (Some h)) e here some = record { seat_is = e; stage = some h refl }
+
+  take_next : (seat : ℕ) (r : taking.EntryTaking) (p : TakeStage) (f : ℕ) → TakeKnows seat r → TakeStageKnows seat p → TakeKnows seat (taking.goes_at r p f)
+  take_next seat r (take.Try t) f whole k =
+      take_after seat (taking.at_stage r (take.Try (try.goes t f))) t.index (try.goes t f).held (try.gives t f) whole.seat_is
+      (record { tries = try_next seat t f k.tries; wish_is = (same_step t f).wish ∙ k.wish_is })
+      (λ h e. (took seat Entry t f h (record { seat_is = k.tries.seat_is; wish_is = k.wish_is; stage_is = k.tries.opened }) e).1)
+  take_next seat r (take.Take h) f whole k = record { seat_is = whole.seat_is; stage = tt }
+  take_next seat r (take.Ended held) f whole k = whole
+
+  -- the two laws of a routine, whose stage speaks of nothing shared
+  module _ {M Out : Type 0} (r : Listing M Out) (held_of : M → Option Held) (Knows : (seat : ℕ) → M → Type 0) where
+    lasts : (s : Buffers) (seat other : ℕ) (move : Move) (m : M) → AreCounted s → May other s move → seat ≢ other → Facts r held_of Knows s seat m → Facts r held_of Knows (moved other s move) seat m
+    lasts s seat other move m counted may apart f = record { knows = f.knows; holds = (law.keep other s move counted may).others seat (held_of m) apart f.holds }
+
+    pub keeps : ((s : Buffers) (seat : ℕ) (words : Words) (m : M) → AreCounted s → AreBuffersOf words s → Facts r held_of Knows s seat m → OwnStep r held_of Knows s seat words m) → KeepsItsBuffer r held_of Knows
+    keeps own = record { own_step = own; lasts = lasts }
+
+  finds_begin : (l : Layout) (seat : ℕ) (held : Option Held) → RoomKnows seat (finding.opening l seat held) × (finding.held_at (finding.begin l seat held) ≡ held)
+  finds_begin l seat None = (record { seat_is = refl; stage = room_fresh seat l seat 0 refl }, refl)
+  finds_begin l seat (Some h) = (record { seat_is = refl; stage = tt }, refl)
+
+  takes_begin : (l : Layout) (seat : ℕ) (held : Option Held) → TakeKnows seat (taking.opening l seat held) × (taking.held_at (taking.begin l seat held) ≡ held)
+  takes_begin l seat None = (record { seat_is = refl; stage = take_fresh seat l seat 0 None refl }, refl)
+  takes_begin l seat (Some h) = by (ltb 0 h.count) refl where
+    by : (b : Bool) → ltb 0 h.count ≡ b → TakeKnows seat (record { layout = l; seat = seat; stage = cond b (take.Take h) (taking.try_at l seat 0 (Some h)) }) × (taking.held_at (cond b (take.Take h) (taking.try_at l seat 0 (Some h))) ≡ Some h)
+    by true e = (record { seat_is = refl; stage = ltb-true _ _ e }, refl)
+    by false e = (record { seat_is = refl; stage = take_fresh seat l seat 0 (Some h) refl }, refl)
+
+  pub kept : BuffersAreKept
+  kept = record {
+    tries = keeps try.listing (λ t. t.held) TryKnows (λ s seat words t counted shown f. record {
+      moves = try_own seat s words counted shown t f.knows f.holds;
+      knows = try_next seat t (words (cell_of (try.asks t))) f.knows;
+    });
+    finds = keeps finding.listing (λ r. finding.held_at r.stage) RoomKnows (λ s seat words r counted shown f. record {
+      moves = room_moves seat s words counted shown r r.stage f.knows.stage f.holds f.holds;
+      knows = room_next seat r r.stage (words (cell_of (finding.asks r))) f.knows f.knows.stage;
+    });
+    takes = keeps taking.listing (λ t. taking.held_at t.stage) TakeKnows (λ s seat words t counted shown f. record {
+      moves = take_moves seat s words counted shown t t.stage f.knows.stage f.holds f.holds;
+      knows = take_next seat t t.stage (words (cell_of (taking.asks t))) f.knows f.knows.stage;
+    });
+    gives = keeps giving.listing (λ g. giving.held_at g.stage) GiveKnows (λ s seat words g counted shown f. record {
+      moves = give_moves seat s words counted shown g g.stage f.holds;
+      knows = tt;
+    });
+    tries_begin = λ l seat wish index held. record { seat_is = refl; opened = tt; free = tt };
+    finds_begin = finds_begin;
+    takes_begin = takes_begin;
+  }

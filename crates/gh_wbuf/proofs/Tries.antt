@@ -1,0 +1,130 @@
+-- A try, by what it is told.
+use Rattle.std.proofs.Common.{◌≡◌, ◌≢◌, ℕ, suc, Bool, true, false, cond, eqb, Option, Some, None, refl, sym, ap, ◌∙◌, arith, inl, inr}
+use Rattle.std.specs.Prelude.{◌&&◌}
+use Rattle.std.proofs.lemmas.Bool.{eqb-true, eq-eqb}
+use Rattle.std.proofs.lemmas.Bool.Decides.{nat_tests}
+use Rattle.gh_base.specs.declared.held.Held.{Held}
+use Rattle.gh_base.specs.declared.layout.Layout.{Layout}
+use Rattle.gh_base.specs.Packing.{buffer_of}
+use Rattle.gh_base.specs.Routines.{EndsWith, told}
+use Rattle.gh_wbuf.specs.declared.try_buffer.TryStage.TheVariants.{GiveBack, Claim, Ended}
+use Rattle.gh_wbuf.specs.declared.try_buffer.Wish.{Wish}
+use Rattle.gh_wbuf.specs.declared.try_buffer.Wish.TheVariants.{Room, Entry}
+use Rattle.gh_wbuf.specs.Tries.{Has, IsOpen, swap_step, TriesBuffer}
+use Rattle.gh_wbuf.specs.Trying.{asks, at_stage, claims, gives, goes, is_open, listing, opening, serves, taken, Trying}
+use Rattle.gh_wbuf.proofs.Trying.{answers_once, ends_once}
+
+-- what the tests of a word say
+
+has : (wish : Wish) (count : ℕ) → serves wish count ≡ true → Has wish count
+has Room count e = grind (arith, nat_tests)
+has Entry count e = grind (arith, nat_tests)
+
+serves_it : (wish : Wish) (count : ℕ) → Has wish count → serves wish count ≡ true
+serves_it Room count h = grind (arith, nat_tests)
+serves_it Entry count h = grind (arith, nat_tests)
+
+both : (a b : Bool) → (a && b) ≡ true → (a ≡ true) × (b ≡ true)
+both true b e = (refl, e)
+both false b e = absurd (cc)
+
+pub open_yes : (wish : Wish) (word : ℕ) → is_open wish word ≡ true → IsOpen wish word
+open_yes wish word e =
+    let parts = both (eqb (buffer_of word).holder 0) (serves wish (buffer_of word).count) e in
+    record { free = eqb-true _ _ parts.0; has = has wish (buffer_of word).count parts.1 }
+
+pub open_no : (wish : Wish) (word : ℕ) → is_open wish word ≡ false → ¬ IsOpen wish word
+open_no wish word e o =
+    let yes : is_open wish word ≡ true = ap (λ (b : Bool). b && serves wish (buffer_of word).count) (eq-eqb _ _ o.free) ∙ serves_it wish (buffer_of word).count o.has in
+    absurd (cc)
+
+module _ (l : Layout) (seat : ℕ) (wish : Wish) (index : ℕ) (held : Option Held) (found : ℕ → ℕ) where
+  abbrev from : Trying
+  from = opening l seat wish index held
+
+  abbrev word : ℕ
+  word = found 0
+
+  abbrev after : ℕ → Trying
+  after n = told listing from found n
+
+  looked : (free : Bool) → is_open wish word ≡ free → after 1 ≡ at_stage from (cond free (claims from held word) Ended)
+  looked free e = ap (λ (b : Bool). at_stage from (cond b (claims from held word) Ended)) e
+
+  not_free : is_open wish word ≡ false → TriesBuffer from found
+  not_free e =
+      let closed : ¬ IsOpen wish word = open_no wish word e in
+      let end : EndsWith listing from found 0 None = ap (λ (b : Bool). cond b None (Some None)) e in
+      record {
+        loads = refl;
+        gives_back = λ h is free. absurd (closed free);
+        swaps = λ free. absurd (closed free);
+        none = (λ _. inl closed, λ _. (0, end));
+        some = λ h. (λ q. absurd (let is : Some h ≡ None = answers_once from found q.0 0 (Some h) None q.1 end in cc), λ q. absurd (closed q.0));
+        ends = (0, None, end);
+        holds_some = λ n h q. absurd (let is : Some h ≡ None = answers_once from found n 0 (Some h) None q end in cc);
+        holds_none = λ n q free. absurd (closed free);
+        holds_still = λ n q _. let is : n ≡ 0 = ends_once from found n 0 None None q end in ap (λ (k : ℕ). (after (suc k)).held) is;
+      }
+
+  -- at the swap it holds none
+  abbrev claiming : Trying
+  claiming = record from { held = None; stage = Claim word }
+
+  module _ (yes : is_open wish word ≡ true) (back : (h : Held) → held ≡ Some h → after 1 ≡ at_stage from (GiveBack word)) (at : after (swap_step held) ≡ claiming) where
+    abbrev last : ℕ
+    last = swap_step held
+
+    free : IsOpen wish word
+    free = open_yes wish word yes
+
+    outcome : (wrote : Bool) → eqb (found last) word ≡ wrote → EndsWith listing from found last (cond wrote (Some (taken index word)) None)
+    outcome wrote e = ap (λ (s : Trying). gives s (found last)) at ∙ ap (λ (b : Bool). Some (cond b (Some (taken index word)) None)) e
+
+    then : (wrote : Bool) → eqb (found last) word ≡ wrote → after (suc last) ≡ cond wrote (record claiming { held = Some (taken index word); stage = Ended }) (at_stage claiming Ended)
+    then wrote e = ap (λ (s : Trying). goes s (found last)) at ∙ ap (λ (b : Bool). cond b (record claiming { held = Some (taken index word); stage = Ended }) (at_stage claiming Ended)) e
+
+    is_held : (n : ℕ) → n ≡ last → (wrote : Bool) → eqb (found last) word ≡ wrote → (after (suc n)).held ≡ (cond wrote (record claiming { held = Some (taken index word); stage = Ended }) (at_stage claiming Ended)).held
+    is_held n is wrote e = ap (λ (k : ℕ). (after (suc k)).held) is ∙ ap (λ (s : Trying). s.held) (then wrote e)
+
+    by : (wrote : Bool) → eqb (found last) word ≡ wrote → TriesBuffer from found
+    by true e =
+        let end : EndsWith listing from found last (Some (taken index word)) = outcome true e in
+        let same : found last ≡ word = eqb-true _ _ e in
+        record {
+          loads = refl;
+          gives_back = λ h is _. ap asks (back h is) ∙ ap (λ (o : Option Held). asks (at_stage (opening l seat wish index o) (GiveBack word))) is;
+          swaps = λ _. ap asks at;
+          none = (λ q. absurd (let is : None ≡ Some (taken index word) = answers_once from found q.0 last None (Some (taken index word)) q.1 end in cc), λ q. absurd (elim q [ inl taken_before ↦ taken_before free | inr ne ↦ ne same ]));
+          some = λ h. (λ q. (free, same, let is : Some h ≡ Some (taken index word) = answers_once from found q.0 last (Some h) (Some (taken index word)) q.1 end in cc), λ q. (last, end ∙ ap (λ (k : Held). Some (Some k)) (sym q.2)));
+          ends = (last, Some (taken index word), end);
+          holds_some = λ n h q.
+              let is : Some h ≡ Some (taken index word) = answers_once from found n last (Some h) (Some (taken index word)) q end in
+              is_held n (ends_once from found n last (Some h) (Some (taken index word)) q end) true e ∙ sym is;
+          holds_none = λ n q _. absurd (let is : None ≡ Some (taken index word) = answers_once from found n last None (Some (taken index word)) q end in cc);
+          holds_still = λ n q closed. absurd (closed free);
+        }
+    by false e =
+        let end : EndsWith listing from found last None = outcome false e in
+        let differ : found last ≢ word = λ z. absurd (cc (e, eq-eqb _ _ z)) in
+        record {
+          loads = refl;
+          gives_back = λ h is _. ap asks (back h is) ∙ ap (λ (o : Option Held). asks (at_stage (opening l seat wish index o) (GiveBack word))) is;
+          swaps = λ _. ap asks at;
+          none = (λ _. inr differ, λ _. (last, end));
+          some = λ h. (λ q. absurd (let is : Some h ≡ None = answers_once from found q.0 last (Some h) None q.1 end in cc), λ q. absurd (differ q.1));
+          ends = (last, None, end);
+          holds_some = λ n h q. absurd (let is : Some h ≡ None = answers_once from found n last (Some h) None q end in cc);
+          holds_none = λ n q _. is_held n (ends_once from found n last None None q end) false e;
+          holds_still = λ n q closed. absurd (closed free);
+        }
+
+    pub is_free : TriesBuffer from found
+    is_free = by (eqb (found last) word) refl
+
+pub tries : (l : Layout) (seat : ℕ) (wish : Wish) (index : ℕ) (held : Option Held) (found : ℕ → ℕ) → TriesBuffer (opening l seat wish index held) found
+tries l seat wish index held found = by held (is_open wish (found 0)) refl where
+  by : (held : Option Held) (free : Bool) → is_open wish (found 0) ≡ free → TriesBuffer (opening l seat wish index held) found
+  by held false e = not_free l seat wish index held found e
+  by None true e = is_free l seat wish index None found e (λ h is. absurd (cc)) (looked l seat wish index None found true e)
+  by (Some h) true e = is_free l seat wish index (Some h) found e (λ _ _. looked l seat wish index (Some h) found true e) (ap (λ (s : Trying). goes s (found 1)) (looked l seat wish index (Some h) found true e))

@@ -1,0 +1,47 @@
+-- Giving a buffer back: what is asked for at each stage, where that leads, and what it gives.
+use Rattle.std.specs.Prelude.{ℕ, Bool, true, false, Option, Some, None}
+use Rattle.gh_base.specs.declared.cell.Cell.TheVariants.{Touch}
+use Rattle.gh_base.specs.declared.cell.Ask.{Ask}
+use Rattle.gh_base.specs.declared.cell.Ask.TheVariants.{Load}
+use Rattle.gh_base.specs.declared.held.Held.{Held}
+use Rattle.gh_base.specs.declared.layout.Layout.{Layout}
+use Rattle.gh_base.specs.Routines.{Listing}
+use Rattle.gh_wbuf.specs.declared.give_buffer.GiveStage.{GiveStage}
+use Rattle.gh_wbuf.specs.declared.give_buffer.GiveStage.TheVariants.{Give, Ended}
+use Rattle.gh_wbuf.specs.Trying.{gives_back}
+
+pub record BufferGiving : Type 0 where
+  pub layout : Layout
+  pub stage : GiveStage
+
+abbrev pub opening : Layout → Held → BufferGiving
+opening l h = record { layout = l; stage = Give h }
+
+-- what is held at each stage
+abbrev pub held_at : GiveStage → Option Held
+held_at (Give h) = Some h
+held_at Ended = None
+
+abbrev pub asks_at : GiveStage → Ask
+asks_at (Give h) = gives_back h
+asks_at Ended = Load Touch
+
+abbrev pub gives_at : GiveStage → Option (Unit {0})
+gives_at (Give h) = Some tt
+gives_at Ended = None
+
+abbrev pub is_busy : GiveStage → Bool
+is_busy (Give h) = true
+is_busy Ended = false
+
+abbrev pub asks : BufferGiving → Ask
+asks g = asks_at g.stage
+
+abbrev pub goes : BufferGiving → ℕ → BufferGiving
+goes g found = record g { stage = Ended }
+
+abbrev pub gives : BufferGiving → ℕ → Option (Unit {0})
+gives g found = gives_at g.stage
+
+abbrev pub listing : Listing BufferGiving (Unit {0})
+listing = record { layout = λ g. g.layout; busy = λ g. is_busy g.stage; asks = asks; goes = goes; gives = gives }

@@ -1,0 +1,71 @@
+-- What each stage of the routines knows of the buffers: who holds which, and how many entries each has.
+use Rattle.std.specs.Prelude.{◌≡◌, ℕ, ◌<◌, Option, None}
+use Rattle.gh_base.specs.declared.held.Held.{Held}
+use Rattle.gh_base.specs.declared.layout.Layout.{Layout}
+use Rattle.gh_base.specs.Holding.{KeepsItsBuffer}
+use Rattle.gh_wbuf.specs.declared.find_room.RoomStage.{RoomStage}
+use Rattle.gh_wbuf.specs.declared.find_room.RoomStage.TheVariants as room
+use Rattle.gh_wbuf.specs.declared.take_entry.TakeStage.{TakeStage}
+use Rattle.gh_wbuf.specs.declared.take_entry.TakeStage.TheVariants as take
+use Rattle.gh_wbuf.specs.declared.try_buffer.TryStage.{TryStage}
+use Rattle.gh_wbuf.specs.declared.try_buffer.TryStage.TheVariants.{Claim}
+use Rattle.gh_wbuf.specs.declared.try_buffer.Wish.{Wish}
+use Rattle.gh_wbuf.specs.declared.try_buffer.Wish.TheVariants.{Room, Entry}
+use Rattle.gh_wbuf.specs.BufferGiving as giving
+use Rattle.gh_wbuf.specs.EntryTaking as taking
+use Rattle.gh_wbuf.specs.RoomFinding as finding
+use Rattle.gh_wbuf.specs.Trying as try
+use Rattle.gh_wbuf.specs.TrySound.{FitsTryStage}
+
+-- at its swap a try holds no buffer
+abbrev pub IsFreeAt : Option Held → TryStage → Type 0
+IsFreeAt held (Claim word) = held ≡ None
+IsFreeAt held _ = Unit {0}
+
+-- the word that it is to swap says that nobody holds the buffer; what else it says, only the swap tells
+pub record TryKnows (seat : ℕ) (t : try.Trying) : Type 0 where
+  pub seat_is : t.seat ≡ seat
+  pub opened : FitsTryStage t.wish t.stage
+  pub free : IsFreeAt t.held t.stage
+
+-- the search for room holds no buffer while it tries one
+pub record RoomTryKnows (seat : ℕ) (t : try.Trying) : Type 0 where
+  pub tries : TryKnows seat t
+  pub wish_is : t.wish ≡ Room
+  pub none : t.held ≡ None
+
+abbrev pub RoomStageKnows : (seat : ℕ) → RoomStage → Type 0
+RoomStageKnows seat (room.Try t) = RoomTryKnows seat t
+RoomStageKnows seat _ = Unit {0}
+
+pub record RoomKnows (seat : ℕ) (r : finding.RoomFinding) : Type 0 where
+  pub seat_is : r.seat ≡ seat
+  pub stage : RoomStageKnows seat r.stage
+
+pub record TakeTryKnows (seat : ℕ) (t : try.Trying) : Type 0 where
+  pub tries : TryKnows seat t
+  pub wish_is : t.wish ≡ Entry
+
+-- the buffer whose entry it takes has one
+abbrev pub TakeStageKnows : (seat : ℕ) → TakeStage → Type 0
+TakeStageKnows seat (take.Try t) = TakeTryKnows seat t
+TakeStageKnows seat (take.Take h) = 0 < h.count
+TakeStageKnows seat (take.Ended held) = Unit {0}
+
+pub record TakeKnows (seat : ℕ) (t : taking.EntryTaking) : Type 0 where
+  pub seat_is : t.seat ≡ seat
+  pub stage : TakeStageKnows seat t.stage
+
+abbrev pub GiveKnows : (seat : ℕ) → giving.BufferGiving → Type 0
+GiveKnows seat g = Unit {0}
+
+-- Each step of the routines is a move that their seat may make, and leads to what the next stage knows; and that lasts.
+pub record BuffersAreKept : Type 0 where
+  pub tries : KeepsItsBuffer try.listing (λ t. t.held) TryKnows
+  pub finds : KeepsItsBuffer finding.listing (λ r. finding.held_at r.stage) RoomKnows
+  pub takes : KeepsItsBuffer taking.listing (λ t. taking.held_at t.stage) TakeKnows
+  pub gives : KeepsItsBuffer giving.listing (λ g. giving.held_at g.stage) GiveKnows
+  -- they know it where they begin
+  pub tries_begin : (l : Layout) (seat : ℕ) (wish : Wish) (index : ℕ) (held : Option Held) → TryKnows seat (try.opening l seat wish index held)
+  pub finds_begin : (l : Layout) (seat : ℕ) (held : Option Held) → RoomKnows seat (finding.opening l seat held) × (finding.held_at (finding.begin l seat held) ≡ held)
+  pub takes_begin : (l : Layout) (seat : ℕ) (held : Option Held) → TakeKnows seat (taking.opening l seat held) × (taking.held_at (taking.begin l seat held) ≡ held)

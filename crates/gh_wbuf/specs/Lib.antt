@@ -1,0 +1,13 @@
+pub mod BufferGiving
+pub mod Ends
+pub mod Entries
+pub mod EntryTaking
+pub mod Giving
+pub mod Knowing
+pub mod RoomFinding
+pub mod Rooms
+pub mod Sound
+pub mod Tries
+pub mod TryEnds
+pub mod TrySound
+pub mod Trying
