@@ -1,0 +1,4 @@
+pub mod Alone
+pub mod Knowing
+pub mod Marks
+pub mod Told

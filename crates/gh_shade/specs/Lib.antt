@@ -1,0 +1,7 @@
+pub mod Alone
+pub mod Ends
+pub mod Knowing
+pub mod Listing
+pub mod Marks
+pub mod Shades
+pub mod Sound
