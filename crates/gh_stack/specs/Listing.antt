@@ -1,0 +1,82 @@
+-- The scan of a stack: what is wished and asked for at each stage, where that leads, and what it gives.
+use Rattle.std.specs.Prelude.{ℕ, ◌+◌, Bool, true, false, List, [], ◌∷◌, drop, Option, Some, None}
+use Rattle.gh_base.specs.declared.cell.Cell.TheVariants.{Touch, Scanned}
+use Rattle.gh_base.specs.declared.cell.Ask.{Ask}
+use Rattle.gh_base.specs.declared.cell.Ask.TheVariants as ask
+use Rattle.gh_base.specs.declared.layout.Layout.{Layout}
+use Rattle.gh_base.specs.declared.value.Value.{Value}
+use Rattle.gh_base.specs.declared.value.Value.TheVariants as value
+use Rattle.gh_base.specs.Routines.{Listing}
+use Rattle.gh_stack.specs.declared.scan_stack.StackStage.{StackStage}
+use Rattle.gh_stack.specs.declared.scan_stack.StackStage.TheVariants.{Shade, Store, Ended}
+
+-- the scan of a goroutine's stack in a cycle: the registers, and its stage
+pub record StackScan : Type 0 where
+  pub layout : Layout
+  pub goroutine : ℕ
+  pub cycle : ℕ
+  pub registers : List Value
+  pub stage : StackStage
+
+-- the first of these registers, numbered from here on, that holds a reference; where none does, the store
+abbrev pub first_of : (register : ℕ) → List Value → StackStage
+first_of register [] = Store
+first_of register (value.Ref reference ∷ values) = Shade register reference
+first_of register (value.Nil ∷ values) = first_of (register + 1) values
+first_of register (value.Int n ∷ values) = first_of (register + 1) values
+
+-- so from this register on
+abbrev pub stage_from : List Value → (register : ℕ) → StackStage
+stage_from registers register = first_of register (drop register registers)
+
+abbrev pub opening : Layout → (goroutine cycle : ℕ) → List Value → StackScan
+opening l goroutine cycle registers = record { layout = l; goroutine = goroutine; cycle = cycle; registers = registers; stage = stage_from registers 0 }
+
+abbrev pub at_stage : StackScan → StackStage → StackScan
+at_stage s stage = record s { stage = stage }
+
+-- what it wishes to be shaded
+abbrev pub wish_of : StackStage → Option ℕ
+wish_of (Shade register reference) = Some reference
+wish_of _ = None
+
+abbrev pub is_waiting : StackStage → Bool
+is_waiting (Shade register reference) = true
+is_waiting _ = false
+
+-- and where it goes once that is shaded
+abbrev pub after_shade : List Value → StackStage → StackStage
+after_shade registers (Shade register reference) = stage_from registers (register + 1)
+after_shade registers stage = stage
+
+abbrev pub told_shaded : StackScan → StackScan
+told_shaded s = at_stage s (after_shade s.registers s.stage)
+
+module _ (s : StackScan) where
+  abbrev pub asks_at : StackStage → Ask
+  asks_at Store = ask.Store (Scanned s.goroutine) s.cycle
+  asks_at _ = ask.Load Touch
+
+  abbrev pub goes_at : StackStage → StackScan
+  goes_at Store = at_stage s Ended
+  goes_at _ = s
+
+abbrev pub gives_at : StackStage → Option (Unit {0})
+gives_at Store = Some tt
+gives_at _ = None
+
+abbrev pub is_busy : StackStage → Bool
+is_busy Store = true
+is_busy _ = false
+
+abbrev pub asks : StackScan → Ask
+asks s = asks_at s s.stage
+
+abbrev pub goes : StackScan → ℕ → StackScan
+goes s found = goes_at s s.stage
+
+abbrev pub gives : StackScan → ℕ → Option (Unit {0})
+gives s found = gives_at s.stage
+
+abbrev pub listing : Listing StackScan (Unit {0})
+listing = record { layout = λ s. s.layout; busy = λ s. is_busy s.stage; asks = asks; goes = goes; gives = gives }

@@ -1,0 +1,16 @@
+-- What the scan of a stack knows of its own numbers, whatever it is told.
+use Rattle.std.specs.Prelude.{◌≡◌, ◌<◌, length}
+use Rattle.gh_base.specs.declared.limits.TheConstants.{REGISTERS}
+use Rattle.gh_stack.specs.declared.scan_stack.StackStage.{StackStage}
+use Rattle.gh_stack.specs.declared.scan_stack.StackStage.TheVariants.{Shade}
+use Rattle.gh_stack.specs.Listing.{StackScan}
+
+-- the register is one of the goroutine's
+abbrev pub FitsStage : StackStage → Type 0
+FitsStage (Shade register reference) = register < REGISTERS
+FitsStage _ = Unit {0}
+
+pub record FitsScan (s : StackScan) : Type 0 where
+  pub goroutine : s.goroutine < s.layout.goroutines
+  pub registers : length s.registers ≡ REGISTERS
+  pub stage : FitsStage s.stage

@@ -1,0 +1,175 @@
+//! The routine that scans a stack.
+
+ghost use Rattle.std.specs.Prelude.{◌≡◌, ◌<◌, ◌↔◌, IsTrue, length, true};
+ghost use Rattle.gh_base.specs.Cells.{InRange};
+ghost use Rattle.gh_base.specs.Steps.{cell_of};
+ghost use Rattle.gh_stack.specs.Sound.{FitsStage};
+ghost use Rattle.gh_stack.specs.Listing.{asks, is_busy, is_waiting, opening, stage_from, told_shaded, wish_of};
+
+use gh_base::limits::REGISTERS;
+use gh_base::{Ask, Cell, Layout, Machine, Req, Value};
+use std::marker::Model;
+
+/// The registers of a goroutine.
+pub const REGISTER_COUNT: usize = REGISTERS as usize;
+
+/// The stages of the scan of a stack.
+#[derive(Clone, Copy, Debug, PartialEq, Eq)]
+pub enum StackStage {
+    /// It waits until the reference in a register is shaded.
+    Shade {
+        /// Which register.
+        register: u32,
+        /// The reference that it holds.
+        reference: u64,
+    },
+    /// It stores the cycle.
+    Store,
+    /// It has ended.
+    Ended,
+}
+
+/// Scans the stack of a goroutine (Go's `scanstack`, mgcmark.go).
+///
+/// It wishes that each reference in the registers be shaded, one after the other in the order of the
+/// registers. Nil and numbers are passed over. Then it stores the cycle in which the stack is scanned, which is
+/// its only step.
+#[derive(Clone, Copy, Debug, PartialEq, Eq)]
+pub struct ScanStack {
+    layout: Layout,
+    goroutine: u32,
+    cycle: u64,
+    registers: [Value; REGISTER_COUNT],
+    stage: StackStage,
+}
+
+impl Model for ScanStack {
+    ghost use Rattle.gh_stack.specs.Listing.{StackScan};
+    ghost use Rattle.gh_stack.specs.Sound.{FitsScan};
+
+    ghost Value = { StackScan };
+
+    ghost view = { λ s. record { layout = s.layout; goroutine = s.goroutine; cycle = s.cycle; registers = s.registers; stage = s.stage } };
+
+    ghost invariant = { λ s. FitsScan (record { layout = s.layout; goroutine = s.goroutine; cycle = s.cycle; registers = s.registers; stage = s.stage }) };
+
+    ghost inverse = { λ s. record { layout = s.layout; goroutine = s.goroutine; cycle = s.cycle; registers = s.registers; stage = s.stage } };
+}
+
+/// What follows from this register on: the first that holds a reference, or the store.
+fn stage_from(registers: &[Value], from: u32) -> StackStage
+    requires { length registers.now ≡ REGISTERS }
+    ensures is { result ≡ stage_from registers.now from }
+    ensures fits { FitsStage result }
+{
+    for register in from..REGISTERS {
+        if let Value::Ref(reference) = registers[register as usize] {
+            return StackStage::Shade {
+                register,
+                reference,
+            };
+        }
+    }
+    StackStage::Store
+}
+
+impl ScanStack {
+    /// Scans the stack of this goroutine in this cycle; its registers are these.
+    pub fn new(
+        layout: &Layout,
+        goroutine: u32,
+        cycle: u64,
+        registers: [Value; REGISTER_COUNT],
+    ) -> ScanStack
+        requires { goroutine < layout.now.goroutines }
+        ensures { result ≡ opening layout.now goroutine cycle registers }
+    {
+        ScanStack {
+            layout: *layout,
+            goroutine,
+            cycle,
+            registers,
+            stage: stage_from(&registers, 0),
+        }
+    }
+
+    /// The reference that is to be shaded now; `None` where all are.
+    pub fn wish(&self) -> Option<u64>
+        ensures { result ≡ wish_of self.now.stage }
+    {
+        match self.stage {
+            StackStage::Shade { reference, .. } => Some(reference),
+            StackStage::Store | StackStage::Ended => None,
+        }
+    }
+
+    /// It waits until a reference is shaded.
+    pub fn waits(&self) -> bool
+        ensures { IsTrue result ↔ (is_waiting self.now.stage ≡ true) }
+    {
+        matches!(self.stage, StackStage::Shade { .. })
+    }
+
+    /// All references are shaded, and its step is next.
+    pub fn stores(&self) -> bool
+        ensures { IsTrue result ↔ (is_busy self.now.stage ≡ true) }
+    {
+        matches!(self.stage, StackStage::Store)
+    }
+
+    /// Goes on where that is shaded.
+    pub fn told_shaded(&mut self)
+        requires { is_waiting self.old.stage ≡ true }
+        ensures { self.new ≡ told_shaded self.old }
+    {
+        if let StackStage::Shade { register, .. } = self.stage {
+            self.stage = stage_from(&self.registers, register + 1);
+        }
+    }
+
+    /// The step that it asks for.
+    fn ask(&self) -> Ask
+        ensures asks { result ≡ asks self.now }
+        ensures within { InRange self.now.layout (cell_of result) }
+    {
+        match self.stage {
+            StackStage::Store => Ask::Store(Cell::Scanned(self.goroutine), self.cycle),
+            StackStage::Shade { .. } | StackStage::Ended => Ask::Load(Cell::Touch),
+        }
+    }
+}
+
+impl Machine for ScanStack {
+    ghost use Rattle.gh_stack.specs.Listing.{listing};
+    ghost use Rattle.gh_stack.specs.Ends as proved;
+
+    type Out = ();
+
+    ghost layout = { listing.layout };
+
+    ghost busy = { listing.busy };
+
+    ghost asks = { listing.asks };
+
+    ghost goes = { listing.goes };
+
+    ghost gives = { listing.gives };
+
+    fn next(&self) -> Req {
+        self.layout.request(self.ask())
+    }
+
+    fn take(&mut self, _found: u64) -> Option<()> {
+        match self.stage {
+            StackStage::Store => {
+                self.stage = StackStage::Ended;
+                Some(())
+            }
+            StackStage::Shade { .. } | StackStage::Ended => None,
+        }
+    }
+
+    ghost ends = { proved.ends };
+
+    ghost stays = { proved.stays };
+}
