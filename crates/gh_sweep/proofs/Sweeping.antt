@@ -1,0 +1,5 @@
+pub mod Alone
+pub mod Counts
+pub mod Facts
+pub mod Slots
+pub mod Steps

@@ -1,0 +1,290 @@
+-- A sweep that runs alone: its words after each word of the span's bits, and at its end.
+use Rattle.std.proofs.Common.{◌≡◌, ◌≢◌, ℕ, zero, suc, ◌+◌, ◌*◌, ◌/◌, ◌%◌, ◌^◌, ◌<◌, ◌≤◌, ◌↔◌, Bool, true, false, cond, eqb, Some, refl, sym, ap, subst, ◌∙◌, arith, inl, inr}
+use Rattle.std.specs.Prelude.{bit_and, min}
+use Rattle.std.specs.Int.{bit_at}
+use Rattle.std.proofs.lemmas.Bool.{eqb-true, eq-eqb}
+use Rattle.std.proofs.lemmas.Nat.Bits.{bit_at_and, bit_at-lt}
+use Rattle.gh_base.specs.declared.cell.Cell.TheVariants as cell
+use Rattle.gh_base.specs.Packing.{head_word}
+use Rattle.gh_base.specs.Routines.{alone, Leaves}
+use Rattle.gh_base.specs.Rows.{alloc_bit, alloc_words, CellsAreTold, mark_bit, mark_words, row_bit, RowsAreWritten}
+use Rattle.gh_base.specs.Steps.{cell_of, effect}
+use Rattle.gh_sweep.specs.Alone.{found_alone, from, IsOther, IsSwept, objects_freed, objects_kept, SweepsSpan}
+use Rattle.gh_sweep.specs.Counts.{AreTold}
+use Rattle.gh_sweep.specs.Listing.{asks, bit_words, gives, goes, in_sweep, is_busy, listing, negative, once_swept, slot_bytes, Sweeping}
+use Rattle.gh_sweep.specs.Steps.{after, freed, IsBegun, IsInArena, kept, marks_told, span_of, steps_on_bits, SweepsAsTold}
+use Rattle.gh_sweep.specs.Vocabulary.{And, Ask, Cell, Layout, put, SpanHead, Store, Swept, Words}
+use Rattle.gh_sweep.proofs.Sweeping.Counts.{freed_counted, kept_counted}
+use Rattle.gh_sweep.proofs.Sweeping.Steps.{takes_its_steps}
+
+module _ (cells : CellsAreTold) (rows : RowsAreWritten) (l : Layout) (page : ℕ) (head : SpanHead) (before : Words) (arena : IsInArena l page head) (fits : (c : Cell) → before c < 2 ^ 64) (begun : before (cell.Page page) ≡ head_word head) where
+  abbrev found : ℕ → ℕ
+  found = found_alone l page head before
+
+  abbrev routine : ℕ → Sweeping
+  routine n = (alone listing (from l page head before) n).routine
+
+  abbrev words : ℕ → Words
+  words n = (alone listing (from l page head before) n).words
+
+  abbrev bits : ℕ
+  bits = bit_words head
+
+  abbrev last : ℕ
+  last = steps_on_bits head
+
+  -- alone it is told what the words hold
+  as_told : (n : ℕ) → routine n ≡ after l page head found n
+  as_told zero = refl
+  as_told (suc n) = ap (λ (s : Sweeping). goes s (found n)) (as_told n)
+
+  steps : SweepsAsTold l page head found
+  steps = takes_its_steps l page head found arena
+
+  module _ (n : ℕ) (step : Ask) (e : asks (after l page head found n) ≡ step) where
+    asks_alone : asks (routine n) ≡ step
+    asks_alone = ap asks (as_told n) ∙ e
+
+    next_words : words (suc n) ≡ effect (words n) step
+    next_words = ap (effect (words n)) asks_alone
+
+    finds : found n ≡ words n (cell_of step)
+    finds = ap (λ (s : Ask). words n (cell_of s)) asks_alone
+
+  -- the first so many words of the span's bits are swept, and nothing else is changed but the head
+  record Done (i : ℕ) (ws : Words) : Type 0 where
+    head_is : ws (cell.Page page) ≡ head_word (in_sweep head)
+    cut : (j : ℕ) → j < i → ws (cell.Alloc (16 * page + j)) ≡ bit_and (before (cell.Alloc (16 * page + j))) (before (cell.Mark (16 * page + j)))
+    uncut : (j : ℕ) → i ≤ j → ws (cell.Alloc (16 * page + j)) ≡ before (cell.Alloc (16 * page + j))
+    cleared : (j : ℕ) → j < i → ws (cell.Mark (16 * page + j)) ≡ 0
+    marked : (j : ℕ) → i ≤ j → ws (cell.Mark (16 * page + j)) ≡ before (cell.Mark (16 * page + j))
+    tally : ws cell.Tally ≡ before cell.Tally
+    live : ws cell.Live ≡ before cell.Live
+    heap : ws cell.Heap ≡ before cell.Heap
+    others : (c : Cell) → IsOther l page head before c → ws c ≡ before c
+
+  -- the swap writes
+  swapped : words 1 ≡ put before (cell.Page page) (head_word (in_sweep head))
+  swapped = by (eqb (before (cell.Page page)) (head_word head)) refl where
+    by : (b : Bool) → eqb (before (cell.Page page)) (head_word head) ≡ b → words 1 ≡ put before (cell.Page page) (head_word (in_sweep head))
+    by true e = ap (λ (b : Bool). cond b (put before (cell.Page page) (head_word (in_sweep head))) before) e
+    by false e = absurd (cc (e, eq-eqb _ _ begun))
+
+  none_done : Done 0 (put before (cell.Page page) (head_word (in_sweep head)))
+  none_done = record {
+    head_is = cells.put_here before (cell.Page page) (head_word (in_sweep head));
+    cut = λ j lt. absurd (omega arith);
+    uncut = λ j ge. kept (cell.Alloc (16 * page + j)) (λ e. absurd (cc));
+    cleared = λ j lt. absurd (omega arith);
+    marked = λ j ge. kept (cell.Mark (16 * page + j)) (λ e. absurd (cc));
+    tally = kept cell.Tally (λ e. absurd (cc));
+    live = kept cell.Live (λ e. absurd (cc));
+    heap = kept cell.Heap (λ e. absurd (cc));
+    others = λ c o. kept c (λ e. o.head_word (sym e));
+  } where
+    kept : (c : Cell) → cell.Page page ≢ c → put before (cell.Page page) (head_word (in_sweep head)) c ≡ before c
+    kept c ne = cells.put_elsewhere before (cell.Page page) c (head_word (in_sweep head)) ne
+
+  module _ (i : ℕ) (lt : i < bits) (ws : Words) (done : Done i ws) where
+    abbrev alloc_here : Cell
+    alloc_here = cell.Alloc (16 * page + i)
+
+    abbrev mark_here : Cell
+    mark_here = cell.Mark (16 * page + i)
+
+    abbrev with_cut : Words
+    with_cut = put ws alloc_here (bit_and (ws alloc_here) (before mark_here))
+
+    abbrev with_both : Words
+    with_both = put with_cut mark_here 0
+
+    stay : (c : Cell) → alloc_here ≢ c → mark_here ≢ c → with_both c ≡ ws c
+    stay c a m = cells.put_elsewhere with_cut mark_here c 0 m ∙ cells.put_elsewhere ws alloc_here c (bit_and (ws alloc_here) (before mark_here)) a
+
+    other_alloc : (j : ℕ) → i ≢ j → with_both (cell.Alloc (16 * page + j)) ≡ ws (cell.Alloc (16 * page + j))
+    other_alloc j ne = stay (cell.Alloc (16 * page + j)) (λ e. absurd (let same : 16 * page + i ≡ 16 * page + j = cc in ne (omega arith))) (λ e. absurd (cc))
+
+    other_mark : (j : ℕ) → i ≢ j → with_both (cell.Mark (16 * page + j)) ≡ ws (cell.Mark (16 * page + j))
+    other_mark j ne = stay (cell.Mark (16 * page + j)) (λ e. absurd (cc)) (λ e. absurd (let same : 16 * page + i ≡ 16 * page + j = cc in ne (omega arith)))
+
+    cut_here : with_both alloc_here ≡ bit_and (before alloc_here) (before mark_here)
+    cut_here =
+        cells.put_elsewhere with_cut mark_here alloc_here 0 (λ e. absurd (cc)) ∙ cells.put_here ws alloc_here (bit_and (ws alloc_here) (before mark_here))
+        ∙ ap (λ (n : ℕ). bit_and n (before mark_here)) (done.uncut i (omega arith))
+
+    cut_more : (j : ℕ) → j < suc i → (b : Bool) → eqb i j ≡ b → with_both (cell.Alloc (16 * page + j)) ≡ bit_and (before (cell.Alloc (16 * page + j))) (before (cell.Mark (16 * page + j)))
+    cut_more j below true e = subst (λ (k : ℕ). with_both (cell.Alloc (16 * page + k)) ≡ bit_and (before (cell.Alloc (16 * page + k))) (before (cell.Mark (16 * page + k)))) (eqb-true _ _ e) cut_here
+    cut_more j below false e = let ne : i ≢ j = λ z. absurd (cc (e, eq-eqb _ _ z)) in other_alloc j ne ∙ done.cut j (omega arith)
+
+    cleared_more : (j : ℕ) → j < suc i → (b : Bool) → eqb i j ≡ b → with_both (cell.Mark (16 * page + j)) ≡ 0
+    cleared_more j below true e = subst (λ (k : ℕ). with_both (cell.Mark (16 * page + k)) ≡ 0) (eqb-true _ _ e) (cells.put_here with_cut mark_here 0)
+    cleared_more j below false e = let ne : i ≢ j = λ z. absurd (cc (e, eq-eqb _ _ z)) in other_mark j ne ∙ done.cleared j (omega arith)
+
+    next_done : Done (suc i) with_both
+    next_done = record {
+      head_is = stay (cell.Page page) (λ e. absurd (cc)) (λ e. absurd (cc)) ∙ done.head_is;
+      cut = λ j below. cut_more j below _ refl;
+      uncut = λ j ge. other_alloc j (λ e. absurd (omega arith)) ∙ done.uncut j (omega arith);
+      cleared = λ j below. cleared_more j below _ refl;
+      marked = λ j ge. other_mark j (λ e. absurd (omega arith)) ∙ done.marked j (omega arith);
+      tally = stay cell.Tally (λ e. absurd (cc)) (λ e. absurd (cc)) ∙ done.tally;
+      live = stay cell.Live (λ e. absurd (cc)) (λ e. absurd (cc)) ∙ done.live;
+      heap = stay cell.Heap (λ e. absurd (cc)) (λ e. absurd (cc)) ∙ done.heap;
+      others = λ c o. stay c (λ e. o.alloc i lt (sym e)) (λ e. o.mark i lt (sym e)) ∙ done.others c o;
+    }
+
+  begins : IsBegun l page head found
+  begins = begun
+
+  -- the three steps on a word
+  module _ (i : ℕ) (lt : i < bits) (done : Done i (words (1 + 3 * i))) where
+    finds_marks : found (1 + 3 * i) ≡ before (cell.Mark (16 * page + i))
+    finds_marks = finds (1 + 3 * i) _ (steps.on_words begins i lt).loads_marks ∙ done.marked i (omega arith)
+
+    loaded : words (2 + 3 * i) ≡ words (1 + 3 * i)
+    loaded = let next : 2 + 3 * i ≡ suc (1 + 3 * i) = omega arith in ap words next ∙ next_words (1 + 3 * i) _ (steps.on_words begins i lt).loads_marks
+
+    finds_alloc : found (2 + 3 * i) ≡ before (cell.Alloc (16 * page + i))
+    finds_alloc = finds (2 + 3 * i) _ (steps.on_words begins i lt).clears_bits ∙ ap (λ (ws : Words). ws (cell.Alloc (16 * page + i))) loaded ∙ done.uncut i (omega arith)
+
+    has_cut : words (3 + 3 * i) ≡ with_cut i lt (words (1 + 3 * i)) done
+    has_cut =
+        let next : 3 + 3 * i ≡ suc (2 + 3 * i) = omega arith in
+        ap words next ∙ next_words (2 + 3 * i) _ (steps.on_words begins i lt).clears_bits
+        ∙ ap (λ (ws : Words). effect ws (And (cell.Alloc (16 * page + i)) (marks_told found i))) loaded ∙ ap (λ (m : ℕ). effect (words (1 + 3 * i)) (And (cell.Alloc (16 * page + i)) m)) finds_marks
+
+    has_both : words (1 + 3 * suc i) ≡ with_both i lt (words (1 + 3 * i)) done
+    has_both =
+        let next : 1 + 3 * suc i ≡ suc (3 + 3 * i) = omega arith in
+        ap words next ∙ next_words (3 + 3 * i) _ (steps.on_words begins i lt).clears_marks ∙ ap (λ (ws : Words). effect ws (Store (cell.Mark (16 * page + i)) 0)) has_cut
+
+  done_until : (i : ℕ) → i ≤ bits → Done i (words (1 + 3 * i))
+  done_until zero le = subst (λ (ws : Words). Done 0 ws) (sym swapped) none_done
+  done_until (suc i) le =
+      let lt : i < bits = omega arith in
+      let done : Done i (words (1 + 3 * i)) = done_until i (omega arith) in
+      subst (λ (ws : Words). Done (suc i) ws) (sym (has_both i lt done)) (next_done i lt (words (1 + 3 * i)) done)
+
+  are_told : AreTold (alloc_words before) (mark_words before) l page head found
+  are_told = record {
+    marks_are = λ i lt. finds_marks i lt (done_until i (omega arith));
+    alloc_is = λ i lt. finds_alloc i lt (done_until i (omega arith));
+  }
+
+  kept_is : kept l page head found ≡ objects_kept l page head before
+  kept_is = kept_counted rows (alloc_words before) (mark_words before) l page head found (λ i. fits (cell.Alloc i)) (λ i. fits (cell.Mark i)) are_told
+
+  freed_is : freed l page head found ≡ objects_freed l page head before
+  freed_is = freed_counted rows (alloc_words before) (mark_words before) l page head found (λ i. fits (cell.Alloc i)) (λ i. fits (cell.Mark i)) are_told
+
+  -- the last four steps
+  abbrev told_tally : Words → Words
+  told_tally ws = put ws cell.Tally ((ws cell.Tally + (kept l page head found + 2 ^ 32 * freed l page head found)) % 2 ^ 64)
+
+  abbrev told_live : Words → Words
+  told_live ws = put ws cell.Live ((ws cell.Live + kept l page head found * slot_bytes head) % 2 ^ 64)
+
+  abbrev told_heap : Words → Words
+  told_heap ws = put ws cell.Heap ((ws cell.Heap + negative (freed l page head found * slot_bytes head)) % 2 ^ 64)
+
+  abbrev finished : Words → Words
+  finished ws = put ws (cell.Page page) (head_word (once_swept head))
+
+  ends_at : words (last + 4) ≡ finished (told_heap (told_live (told_tally (words last))))
+  ends_at =
+      let one : last + 1 ≡ suc last = omega arith in
+      let two : last + 2 ≡ suc (last + 1) = omega arith in
+      let three : last + 3 ≡ suc (last + 2) = omega arith in
+      let four : last + 4 ≡ suc (last + 3) = omega arith in
+      let a : words (last + 1) ≡ told_tally (words last) = ap words one ∙ next_words last _ (steps.on_counts begins).adds_tally in
+      let b : words (last + 2) ≡ told_live (told_tally (words last)) = ap words two ∙ next_words (last + 1) _ (steps.on_counts begins).adds_live ∙ ap told_live a in
+      let c : words (last + 3) ≡ told_heap (told_live (told_tally (words last))) = ap words three ∙ next_words (last + 2) _ (steps.on_counts begins).adds_heap ∙ ap told_heap b in
+      ap words four ∙ next_words (last + 3) _ (steps.on_counts begins).finishes ∙ ap finished c
+
+  module _ (ws : Words) (done : Done bits ws) where
+    abbrev end : Words
+    end = finished (told_heap (told_live (told_tally ws)))
+
+    -- but the counts and the head no cell is changed by them
+    as_before : (c : Cell) → cell.Tally ≢ c → cell.Live ≢ c → cell.Heap ≢ c → cell.Page page ≢ c → end c ≡ ws c
+    as_before c t v h p =
+        cells.put_elsewhere (told_heap (told_live (told_tally ws))) (cell.Page page) c _ p ∙ cells.put_elsewhere (told_live (told_tally ws)) cell.Heap c _ h ∙ cells.put_elsewhere (told_tally ws) cell.Live c _ v ∙ cells.put_elsewhere ws cell.Tally c _ t
+
+    alloc_at_end : (j : ℕ) → j < bits → end (cell.Alloc (16 * page + j)) ≡ bit_and (before (cell.Alloc (16 * page + j))) (before (cell.Mark (16 * page + j)))
+    alloc_at_end j lt = as_before (cell.Alloc (16 * page + j)) (λ e. absurd (cc)) (λ e. absurd (cc)) (λ e. absurd (cc)) (λ e. absurd (cc)) ∙ done.cut j lt
+
+    bit_in : (row : ℕ → ℕ) (k : ℕ) → row_bit row (1024 * page + k) ≡ bit_at (row (16 * page + k / 64)) (k % 64)
+    bit_in row k =
+        let word : (1024 * page + k) / 64 ≡ 16 * page + k / 64 = omega arith in
+        let place : (1024 * page + k) % 64 ≡ k % 64 = omega arith in
+        rows.bit_of row (16 * page + k / 64) (1024 * page + k) word ∙ ap (λ (n : ℕ). bit_at (row (16 * page + k / 64)) n) place
+
+    least_bit : (k : ℕ) → k < 1024 * head.pages → alloc_bit end (1024 * page + k) ≡ min (alloc_bit before (1024 * page + k)) (mark_bit before (1024 * page + k))
+    least_bit k lt =
+        bit_in (alloc_words end) k ∙ ap (λ (n : ℕ). bit_at n (k % 64)) (alloc_at_end (k / 64) (omega arith)) ∙ bit_at_and (before (cell.Alloc (16 * page + k / 64))) (before (cell.Mark (16 * page + k / 64))) (k % 64)
+        ∙ ap (λ (n : ℕ). min n (bit_at (before (cell.Mark (16 * page + k / 64))) (k % 64))) (sym (bit_in (alloc_words before) k)) ∙ ap (λ (n : ℕ). min (alloc_bit before (1024 * page + k)) n) (sym (bit_in (mark_words before) k))
+
+    bit_small : (row : ℕ → ℕ) (k : ℕ) → row_bit row (1024 * page + k) < 2
+    bit_small row k = let e = bit_in row k in let small = bit_at-lt (row (16 * page + k / 64)) (k % 64) in omega (arith, e, small)
+
+    both_bits : (e a m : ℕ) → a < 2 → m < 2 → e ≡ min a m → (e ≡ 1) ↔ ((a ≡ 1) × (m ≡ 1))
+    both_bits e a m small low is = (λ one. (omega arith, omega arith), λ h. let x : a ≡ 1 = h.0 in let y : m ≡ 1 = h.1 in omega arith)
+
+    tally_at_end : end cell.Tally ≡ (before cell.Tally + (objects_kept l page head before + 2 ^ 32 * objects_freed l page head before)) % 2 ^ 64
+    tally_at_end =
+        ap (λ (n : ℕ). (n + (kept l page head found + 2 ^ 32 * freed l page head found)) % 2 ^ 64) done.tally
+        ∙ ap (λ (n : ℕ). (before cell.Tally + (n + 2 ^ 32 * freed l page head found)) % 2 ^ 64) kept_is ∙ ap (λ (n : ℕ). (before cell.Tally + (objects_kept l page head before + 2 ^ 32 * n)) % 2 ^ 64) freed_is
+
+    live_at_end : end cell.Live ≡ (before cell.Live + objects_kept l page head before * slot_bytes head) % 2 ^ 64
+    live_at_end = ap (λ (n : ℕ). (n + kept l page head found * slot_bytes head) % 2 ^ 64) done.live ∙ ap (λ (n : ℕ). (before cell.Live + n * slot_bytes head) % 2 ^ 64) kept_is
+
+    taken_off : (bytes heap : ℕ) → heap < 2 ^ 64 → ((heap + negative bytes) % 2 ^ 64 + bytes) % 2 ^ 64 ≡ heap
+    taken_off bytes heap lt = omega arith
+
+    heap_at_end : (end cell.Heap + objects_freed l page head before * slot_bytes head) % 2 ^ 64 ≡ before cell.Heap
+    heap_at_end =
+        let e : end cell.Heap ≡ (before cell.Heap + negative (objects_freed l page head before * slot_bytes head)) % 2 ^ 64 =
+        ap (λ (n : ℕ). (n + negative (freed l page head found * slot_bytes head)) % 2 ^ 64) done.heap ∙ ap (λ (n : ℕ). (before cell.Heap + negative (n * slot_bytes head)) % 2 ^ 64) freed_is in
+        ap (λ (n : ℕ). (n + objects_freed l page head before * slot_bytes head) % 2 ^ 64) e ∙ taken_off (objects_freed l page head before * slot_bytes head) (before cell.Heap) (fits cell.Heap)
+
+    is_swept : IsSwept l page head before end
+    is_swept = record {
+      objects = λ k lt. both_bits _ _ _ (bit_small (alloc_words before) k) (bit_small (mark_words before) k) (least_bit k lt);
+      marks = λ j lt. as_before (cell.Mark (16 * page + j)) (λ e. absurd (cc)) (λ e. absurd (cc)) (λ e. absurd (cc)) (λ e. absurd (cc)) ∙ done.cleared j lt;
+      tally = tally_at_end;
+      live = live_at_end;
+      heap = heap_at_end;
+      head_is = cells.put_here (told_heap (told_live (told_tally ws))) (cell.Page page) (head_word (once_swept head));
+      others = λ c o. as_before c (λ e. o.tally (sym e)) (λ e. o.live (sym e)) (λ e. o.heap (sym e)) (λ e. o.head_word (sym e)) ∙ done.others c o;
+    }
+
+  -- it is busy up to its last step
+  busy_until : (n : ℕ) → n < last + 4 → is_busy (routine n).stage ≡ true
+  busy_until n lt = ap (λ (s : Sweeping). is_busy s.stage) (as_told n) ∙ (steps.goes_on n).1 (inr (begins, lt))
+
+  over : is_busy (routine (last + 4)).stage ≡ false
+  over = by (is_busy (routine (last + 4)).stage) refl where
+    by : (b : Bool) → is_busy (routine (last + 4)).stage ≡ b → b ≡ false
+    by false e = refl
+    by true e = elim ((steps.goes_on (last + 4)).0 (sym (ap (λ (s : Sweeping). is_busy s.stage) (as_told (last + 4))) ∙ e)) [
+      | inl z ↦ absurd (omega arith)
+      | inr h ↦ absurd (let lt : last + 4 < last + 4 = h.1 in omega arith)
+    ]
+
+  leaves_swept : Leaves listing (from l page head before) (IsSwept l page head before)
+  leaves_swept = record {
+    steps = last + 4;
+    busy = busy_until;
+    ended = over;
+    left = subst (λ (ws : Words). IsSwept l page head before ws) (sym ends_at) (is_swept (words last) (done_until bits (omega arith)));
+  }
+
+  pub sweeps : SweepsSpan l page head before
+  unfolding leaves_swept
+  sweeps = record {
+    leaves = leaves_swept;
+    steps = refl;
+    gives_counts =
+        ap (λ (s : Sweeping). gives s (found (last + 3))) (as_told (last + 3)) ∙ (steps.swept (last + 3) (span_of head (kept l page head found) (freed l page head found))).1 (begins, refl, refl)
+        ∙ ap (λ (k : ℕ). Some (Swept (span_of head k (freed l page head found)))) kept_is ∙ ap (λ (f : ℕ). Some (Swept (span_of head (objects_kept l page head before) f))) freed_is;
+  }

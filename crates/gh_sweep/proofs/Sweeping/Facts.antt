@@ -1,0 +1,315 @@
+-- A sweep's own step leads from its facts to the next ones, and they last under what others do.
+use Rattle.std.proofs.Common.{◌≡◌, ◌≢◌, ℕ, suc, ◌+◌, ◌*◌, ◌<◌, ◌≤◌, ◌⊎◌, Bool, true, false, cond, eqb, ltb, Some, None, refl, sym, ap, subst, ◌∙◌, arith, inl, inr}
+use Rattle.std.specs.Prelude.{bit_and, count_ones, min}
+use Rattle.std.specs.Int.{bit_at}
+use Rattle.std.proofs.lemmas.Bool.{eqb-true, eq-eqb, ltb-false}
+use Rattle.std.proofs.lemmas.Nat.Bits.{bit_at_and, bit_at-lt}
+use Rattle.gh_base.specs.declared.cell.Cell.TheVariants as cell
+use Rattle.gh_base.specs.declared.pack.PageWord.TheVariants.{Head}
+use Rattle.gh_base.specs.Packing.{FitsHead, head_word, PackedWordsAreReadBack, page_of}
+use Rattle.gh_base.specs.Rows.{CellsAreTold}
+use Rattle.gh_base.specs.Steps.{cell_of, ChangesOneCell, effect, left}
+use Rattle.gh_sweep.specs.Bits.{kept_in, sum_below}
+use Rattle.gh_sweep.specs.Facts.{alloc_here, AreApart, Facts, FactsAt, HasCleared, HasNotNumber, HasSwept, IsBehind, IsPlaced, marks_here, MayBegin, Others, OthersAt, OwnStep, SpanStays, SweepKeepsItsFacts}
+use Rattle.gh_sweep.specs.Listing.{asks_at, at_stage, bit_words, counted, goes_at, in_sweep, is_busy, once_swept, slots_in, Sweeping, swept_span, word_at}
+use Rattle.gh_sweep.specs.Sound.{FitsSweep, IsStage}
+use Rattle.gh_sweep.specs.Steps.{IsInArena}
+use Rattle.gh_sweep.specs.Vocabulary.{AddHeap, AddLive, AddTally, Ask, Begin, Cell, ClearBits, ClearMarks, Ended, Finish, LoadMarks, Lost, put, SpanHead, SweepEnd, SweepStage, Swept, SweptSpan, Words}
+use Rattle.gh_sweep.proofs.Bits.{sum_more, sum_none, sum_same}
+use Rattle.gh_sweep.proofs.Sweeping.Steps.{word_is}
+
+-- the number of a head that is packed
+not_numbered : PackedWordsAreReadBack → (h : SpanHead) (number : ℕ) → FitsHead h → h.number ≢ number → HasNotNumber number (head_word h)
+not_numbered packed h number fits ne g e same =
+    let back : page_of (head_word h) ≡ Head h = packed.page (Head h) fits in
+    let is : g ≡ h = cc in
+    ne (ap (λ (k : SpanHead). k.number) (sym is) ∙ same)
+
+fits_begun : (h : SpanHead) → FitsSweep h → FitsHead (in_sweep h)
+fits_begun h f = let small = f.number in record { class = f.head.class; some = f.head.some; pages = f.head.pages; owner = f.head.owner; number = omega arith }
+
+fits_swept : (h : SpanHead) → FitsSweep h → FitsHead (once_swept h)
+fits_swept h f = record { class = f.head.class; some = f.head.some; pages = f.head.pages; owner = omega arith; number = f.number }
+
+-- The facts last.
+
+module _ (s : Sweeping) (before after : Words) where
+  swept_lasts : (i : ℕ) → i ≤ bit_words s.head → SpanStays s before after → HasSwept s before i → HasSwept s after i
+  swept_lasts i le stays h = record {
+    own = stays.head_stays ∙ h.own;
+    no_marks = λ j lt. stays.marks_stay j (omega arith) ∙ h.no_marks j lt;
+    kept_are = h.kept_are ∙ sum_same _ _ i (λ j lt. ap count_ones (sym (stays.alloc_stays j (omega arith))));
+  }
+
+  cleared_lasts : (i : ℕ) → i < bit_words s.head → SpanStays s before after → HasCleared s before i → HasCleared s after i
+  cleared_lasts i below stays h = record {
+    own = stays.head_stays ∙ h.own;
+    no_marks = λ j lt. stays.marks_stay j (omega arith) ∙ h.no_marks j lt;
+    are_marked = λ j e. ap (λ (w : ℕ). bit_at w j) (stays.marks_stay i below) ∙ h.are_marked j (ap (λ (w : ℕ). bit_at w j) (sym (stays.alloc_stays i below)) ∙ e);
+    kept_are = h.kept_are ∙ sum_same _ _ (i + 1) (λ j lt. ap count_ones (sym (stays.alloc_stays j (omega arith))));
+  }
+
+  begin_lasts : OthersAt s before after Begin → MayBegin s before → MayBegin s after
+  begin_lasts (inr gone) h = record { none_kept = h.none_kept; head_is = inr gone }
+  begin_lasts (inl same) h = record { none_kept = h.none_kept; head_is = elim h.head_is [ inl e ↦ inl (same ∙ e) | inr g ↦ inr (subst (λ (w : ℕ). HasNotNumber s.head.number w) (sym same) g) ] }
+
+  lasts_at : (stage : SweepStage) → IsStage s.head stage → OthersAt s before after stage → FactsAt s before stage → FactsAt s after stage
+  lasts_at Begin is o h = begin_lasts o h
+  lasts_at (LoadMarks i) is o h = swept_lasts i (omega arith) o h
+  lasts_at (ClearBits i marks) is o h = (swept_lasts i (omega arith) o h.0, o.marks_stay i is ∙ h.1)
+  lasts_at (ClearMarks i) is o h = cleared_lasts i is o h
+  lasts_at AddTally is o h = swept_lasts (bit_words s.head) (omega arith) o h
+  lasts_at AddLive is o h = swept_lasts (bit_words s.head) (omega arith) o h
+  lasts_at AddHeap is o h = swept_lasts (bit_words s.head) (omega arith) o h
+  lasts_at Finish is o h = swept_lasts (bit_words s.head) (omega arith) o h
+  lasts_at Ended is o h = tt
+
+-- A step leaves each cell but its own.
+
+module _ (changes : ChangesOneCell) (cells : CellsAreTold) where
+  elsewhere : (words : Words) (step : Ask) (c : Cell) → cell_of step ≢ c → effect words step c ≡ words c
+  elsewhere words step c ne = changes words step c ∙ ap (λ (b : Bool). cond b (left step (words (cell_of step))) (words c)) (cells.other (cell_of step) c ne)
+
+  -- a step that is on none of the span's words
+  stays_but : (t : Sweeping) (words : Words) (step : Ask) → cell_of step ≢ cell.Page t.page → ((i : ℕ) → i < bit_words t.head → cell_of step ≢ cell.Alloc (16 * t.page + i)) → ((i : ℕ) → i < bit_words t.head → cell_of step ≢ cell.Mark (16 * t.page + i)) → SpanStays t words (effect words step)
+  stays_but t words step p a m = record {
+    head_stays = elsewhere words step (cell.Page t.page) p;
+    alloc_stays = λ i lt. elsewhere words step (cell.Alloc (16 * t.page + i)) (a i lt);
+    marks_stay = λ i lt. elsewhere words step (cell.Mark (16 * t.page + i)) (m i lt);
+  }
+
+  stays_to_others : (t : Sweeping) (before after : Words) (stage : SweepStage) → SpanStays t before after → OthersAt t before after stage
+  stays_to_others t before after Begin o = inl o.head_stays
+  stays_to_others t before after (LoadMarks i) o = o
+  stays_to_others t before after (ClearBits i marks) o = o
+  stays_to_others t before after (ClearMarks i) o = o
+  stays_to_others t before after AddTally o = o
+  stays_to_others t before after AddLive o = o
+  stays_to_others t before after AddHeap o = o
+  stays_to_others t before after Finish o = o
+  stays_to_others t before after Ended o = tt
+
+  module _ (s t : Sweeping) (words : Words) (placed : IsPlaced s) (apart : AreApart s t) (there : IsInArena t.layout t.page t.head) where
+    pages_apart : s.page ≢ t.page
+    pages_apart e =
+        let a : 1 ≤ s.head.pages = placed.arena.some in
+        let b : 1 ≤ t.head.pages = there.some in
+        elim apart [ inl x ↦ absurd (omega arith) | inr y ↦ absurd (omega arith) ]
+
+    word_here : (i : ℕ) → i < bit_words s.head → word_at s i ≡ 16 * s.page + i
+    word_here i lt = word_is s.layout s.page s.head i placed.arena lt
+
+    bits_apart : (i j : ℕ) → i < bit_words s.head → j < bit_words t.head → word_at s i ≢ 16 * t.page + j
+    bits_apart i j below lt e =
+        let is : word_at s i ≡ 16 * s.page + i = word_here i below in
+        let same : 16 * s.page + i ≡ 16 * t.page + j = sym is ∙ e in
+        elim apart [ inl x ↦ absurd (omega (arith, same, x)) | inr y ↦ absurd (omega (arith, same, y)) ]
+
+    stays_at : (stage : SweepStage) → IsStage s.head stage → SpanStays t words (effect words (asks_at s stage))
+    stays_at Begin is = stays_but t words (asks_at s Begin) (λ e. pages_apart (cc)) (λ i lt e. absurd (cc)) (λ i lt e. absurd (cc))
+    stays_at (LoadMarks i) is = record { head_stays = refl; alloc_stays = λ j lt. refl; marks_stay = λ j lt. refl }
+    stays_at (ClearBits i marks) is = stays_but t words (asks_at s (ClearBits i marks)) (λ e. absurd (cc)) (λ j lt e. bits_apart i j is lt (cc)) (λ j lt e. absurd (cc))
+    stays_at (ClearMarks i) is = stays_but t words (asks_at s (ClearMarks i)) (λ e. absurd (cc)) (λ j lt e. absurd (cc)) (λ j lt e. bits_apart i j is lt (cc))
+    stays_at AddTally is = stays_but t words (asks_at s AddTally) (λ e. absurd (cc)) (λ i lt e. absurd (cc)) (λ i lt e. absurd (cc))
+    stays_at AddLive is = stays_but t words (asks_at s AddLive) (λ e. absurd (cc)) (λ i lt e. absurd (cc)) (λ i lt e. absurd (cc))
+    stays_at AddHeap is = stays_but t words (asks_at s AddHeap) (λ e. absurd (cc)) (λ i lt e. absurd (cc)) (λ i lt e. absurd (cc))
+    stays_at Finish is = stays_but t words (asks_at s Finish) (λ e. pages_apart (cc)) (λ i lt e. absurd (cc)) (λ i lt e. absurd (cc))
+    stays_at Ended is = record { head_stays = refl; alloc_stays = λ j lt. refl; marks_stay = λ j lt. refl }
+
+  -- of the same span, where the other has not begun
+  module _ (packed : PackedWordsAreReadBack) (s : Sweeping) (words : Words) (fits : FitsSweep s.head) where
+    abbrev HeadStaysAt : SweepStage → Type 0
+    HeadStaysAt stage = (effect words (asks_at s stage) (cell.Page s.page) ≡ words (cell.Page s.page)) ⊎ HasNotNumber s.head.number (effect words (asks_at s stage) (cell.Page s.page))
+
+    begun_gone : HasNotNumber s.head.number (head_word (in_sweep s.head))
+    begun_gone = not_numbered packed (in_sweep s.head) s.head.number (fits_begun s.head fits) (λ e. absurd (omega arith))
+
+    swept_gone : HasNotNumber s.head.number (head_word (once_swept s.head))
+    swept_gone = not_numbered packed (once_swept s.head) s.head.number (fits_swept s.head fits) (λ e. absurd (omega arith))
+
+    swap_stays : (b : Bool) → eqb (words (cell.Page s.page)) (head_word s.head) ≡ b → HeadStaysAt Begin
+    swap_stays true e = inr (subst (λ (w : ℕ). HasNotNumber s.head.number w) (sym (ap (λ (b : Bool). cond b (put words (cell.Page s.page) (head_word (in_sweep s.head))) words (cell.Page s.page)) e ∙ cells.put_here words (cell.Page s.page) (head_word (in_sweep s.head)))) begun_gone)
+    swap_stays false e = inl (ap (λ (b : Bool). cond b (put words (cell.Page s.page) (head_word (in_sweep s.head))) words (cell.Page s.page)) e)
+
+    head_stays_at : (stage : SweepStage) → HeadStaysAt stage
+    head_stays_at Begin = swap_stays _ refl
+    head_stays_at (LoadMarks i) = inl refl
+    head_stays_at (ClearBits i marks) = inl refl
+    head_stays_at (ClearMarks i) = inl refl
+    head_stays_at AddTally = inl refl
+    head_stays_at AddLive = inl refl
+    head_stays_at AddHeap = inl refl
+    head_stays_at Finish = inr (subst (λ (w : ℕ). HasNotNumber s.head.number w) (sym (cells.put_here words (cell.Page s.page) (head_word (once_swept s.head)))) swept_gone)
+    head_stays_at Ended = inl refl
+
+    behind_stays : (t : Sweeping) → IsBehind s t → Others t words (effect words (asks_at s s.stage))
+    behind_stays t b = subst (λ (stage : SweepStage). OthersAt t words (effect words (asks_at s s.stage)) stage) (sym b.not_begun) (subst (λ (p : ℕ). HeadAt p t.head.number) b.same_page (subst (λ (n : ℕ). HeadAt s.page n) b.same_number (head_stays_at s.stage))) where
+      HeadAt : (page number : ℕ) → Type 0
+      HeadAt page number = (effect words (asks_at s s.stage) (cell.Page page) ≡ words (cell.Page page)) ⊎ HasNotNumber number (effect words (asks_at s s.stage) (cell.Page page))
+
+  others_stay : PackedWordsAreReadBack → (s t : Sweeping) (words : Words) → IsPlaced s → IsPlaced t → AreApart s t ⊎ IsBehind s t → Others t words (effect words (asks_at s s.stage))
+  others_stay packed s t words placed there (inl apart) = stays_to_others t words _ t.stage (stays_at s t words placed apart there.arena s.stage placed.stage)
+  others_stay packed s t words placed there (inr behind) = behind_stays packed s words placed.head t behind
+
+-- The own step.
+
+module _ (changes : ChangesOneCell) (cells : CellsAreTold) (s : Sweeping) (words : Words) (arena : IsInArena s.layout s.page s.head) where
+  own_word : (i : ℕ) → i < bit_words s.head → word_at s i ≡ 16 * s.page + i
+  own_word i lt = word_is s.layout s.page s.head i arena lt
+
+  abbrev StepAt : SweepStage → Type 0
+  StepAt stage = OwnStep (record s { stage = stage }) words
+
+  nothing_given : (end : SweepEnd) → None ≡ Some end → ⊥
+  nothing_given end e = absurd (cc)
+
+  -- before it has begun
+  abbrev begun_words : Words
+  begun_words = put words (cell.Page s.page) (head_word (in_sweep s.head))
+
+  begin_leads : MayBegin s words → (b : Bool) → eqb (words (cell.Page s.page)) (head_word s.head) ≡ b → Facts (at_stage s (cond b (LoadMarks 0) Ended)) (cond b begun_words words)
+  begin_leads h true e = record { own = cells.put_here words (cell.Page s.page) (head_word (in_sweep s.head)); no_marks = λ j lt. absurd (omega arith); kept_are = h.none_kept ∙ sym (sum_none (λ j. count_ones (alloc_here s begun_words j))) }
+  begin_leads h false e = tt
+
+  begin_lost : MayBegin s words → (b : Bool) → eqb (words (cell.Page s.page)) (head_word s.head) ≡ b → cond b None (Some Lost) ≡ Some Lost → HasNotNumber s.head.number (cond b begun_words words (cell.Page s.page))
+  begin_lost h true e g = absurd (cc)
+  begin_lost h false e g = elim h.head_is [ inl x ↦ absurd (cc (e, eq-eqb _ _ x)) | inr gone ↦ gone ]
+
+  begin_swept : (span : SweptSpan) → (b : Bool) → cond b None (Some Lost) ≡ Some (Swept span) → ⊥
+  begin_swept span true g = absurd (cc)
+  begin_swept span false g = absurd (cc)
+
+  begin_step : MayBegin s words → StepAt Begin
+  begin_step h = record {
+    may = tt;
+    leads = begin_leads h _ refl;
+    lost = begin_lost h _ refl;
+    swept = λ span g. absurd (begin_swept span _ g);
+  }
+
+  -- a word's three steps
+  load_step : (i : ℕ) → i < bit_words s.head → HasSwept s words i → StepAt (LoadMarks i)
+  load_step i lt h = record {
+    may = h.own;
+    leads = (record { own = h.own; no_marks = h.no_marks; kept_are = h.kept_are }, ap (λ (n : ℕ). words (cell.Mark n)) (sym (own_word i lt)));
+    lost = λ g. absurd (nothing_given Lost g);
+    swept = λ span g. absurd (nothing_given (Swept span) g);
+  }
+
+  module _ (i marks : ℕ) (lt : i < bit_words s.head) (h : HasSwept s words i) (are : marks_here s words i ≡ marks) where
+    abbrev cut_words : Words
+    cut_words = put words (cell.Alloc (16 * s.page + i)) (bit_and (alloc_here s words i) marks)
+
+    stays_marked : (j : ℕ) → bit_at (marks_here s words i) j ≡ 1 → bit_at (bit_and (alloc_here s words i) marks) j ≡ bit_at (alloc_here s words i) j
+    stays_marked j e =
+        let one : bit_at marks j ≡ 1 = ap (λ (w : ℕ). bit_at w j) (sym are) ∙ e in
+        bit_at_and (alloc_here s words i) marks j ∙ ap (λ (n : ℕ). min (bit_at (alloc_here s words i) j) n) one ∙ least (bit_at (alloc_here s words i) j) (bit_at-lt (alloc_here s words i) j) where
+          least : (b : ℕ) → b < 2 → min b 1 ≡ b
+          least b small = omega arith
+
+    cut_is : cut_words (cell.Alloc (16 * s.page + i)) ≡ bit_and (alloc_here s words i) marks
+    cut_is = cells.put_here words (cell.Alloc (16 * s.page + i)) (bit_and (alloc_here s words i) marks)
+
+    cut_other : (j : ℕ) → j < i → alloc_here s words j ≡ alloc_here s cut_words j
+    cut_other j below = sym (cells.put_elsewhere words (cell.Alloc (16 * s.page + i)) (cell.Alloc (16 * s.page + j)) (bit_and (alloc_here s words i) marks) (λ e. let same : 16 * s.page + i ≡ 16 * s.page + j = cc in absurd (omega arith)))
+
+    kept_then : s.kept + kept_in (alloc_here s words i) marks ≡ sum_below (λ j. count_ones (alloc_here s cut_words j)) (i + 1)
+    kept_then =
+        let below : sum_below (λ j. count_ones (alloc_here s words j)) i ≡ sum_below (λ j. count_ones (alloc_here s cut_words j)) i = sum_same _ _ i (λ j b. ap count_ones (cut_other j b)) in
+        let here : count_ones (alloc_here s cut_words i) ≡ kept_in (alloc_here s words i) marks = ap count_ones cut_is in
+        let next : i + 1 ≡ suc i = omega arith in
+        let more = sum_more (λ j. count_ones (alloc_here s cut_words j)) i in
+        let is = h.kept_are in
+        rw next (omega (arith, below, here, more, is))
+
+    marked_then : (j : ℕ) → bit_at (alloc_here s cut_words i) j ≡ 1 → bit_at (marks_here s words i) j ≡ 1
+    marked_then j e =
+        let is : min (bit_at (alloc_here s words i) j) (bit_at marks j) ≡ 1 = sym (bit_at_and (alloc_here s words i) marks j) ∙ ap (λ (w : ℕ). bit_at w j) (sym cut_is) ∙ e in
+        ap (λ (w : ℕ). bit_at w j) are ∙ both (bit_at (alloc_here s words i) j) (bit_at marks j) (bit_at-lt (alloc_here s words i) j) (bit_at-lt marks j) is where
+          both : (a m : ℕ) → a < 2 → m < 2 → min a m ≡ 1 → m ≡ 1
+          both a m small low is = omega arith
+
+    cleared_then : HasCleared (counted s i marks (alloc_here s words i)) cut_words i
+    cleared_then = record { own = h.own; no_marks = h.no_marks; are_marked = marked_then; kept_are = kept_then }
+
+    clear_step : StepAt (ClearBits i marks)
+    clear_step = record {
+      may = (h.own, stays_marked);
+      leads = subst (λ (n : ℕ). HasCleared (counted s i marks (words (cell.Alloc n))) (put words (cell.Alloc n) (bit_and (words (cell.Alloc n)) marks)) i) (sym (own_word i lt)) cleared_then;
+      lost = λ g. absurd (nothing_given Lost g);
+      swept = λ span g. absurd (nothing_given (Swept span) g);
+    }
+
+  module _ (i : ℕ) (lt : i < bit_words s.head) (h : HasCleared s words i) where
+    abbrev unmarked_words : Words
+    unmarked_words = put words (cell.Mark (16 * s.page + i)) 0
+
+    no_marks_then : (j : ℕ) → j < i + 1 → (b : Bool) → eqb i j ≡ b → marks_here s unmarked_words j ≡ 0
+    no_marks_then j below true e = subst (λ (k : ℕ). marks_here s unmarked_words k ≡ 0) (eqb-true _ _ e) (cells.put_here words (cell.Mark (16 * s.page + i)) 0)
+    no_marks_then j below false e =
+        let ne : i ≢ j = λ z. absurd (cc (e, eq-eqb _ _ z)) in
+        cells.put_elsewhere words (cell.Mark (16 * s.page + i)) (cell.Mark (16 * s.page + j)) 0 (λ x. let same : 16 * s.page + i ≡ 16 * s.page + j = cc in absurd (ne (omega arith))) ∙ h.no_marks j (omega arith)
+
+    swept_then : HasSwept s unmarked_words (i + 1)
+    swept_then = record { own = h.own; no_marks = λ j below. no_marks_then j below _ refl; kept_are = h.kept_are }
+
+    at_next : (b : Bool) → ltb (i + 1) (bit_words s.head) ≡ b → Facts (at_stage s (cond b (LoadMarks (i + 1)) AddTally)) unmarked_words
+    at_next true e = record { own = swept_then.own; no_marks = swept_then.no_marks; kept_are = swept_then.kept_are }
+    at_next false e =
+        let ge : bit_words s.head ≤ i + 1 = ltb-false _ _ e in
+        let same : i + 1 ≡ bit_words s.head = omega arith in
+        let all : HasSwept s unmarked_words (bit_words s.head) = subst (λ (k : ℕ). HasSwept s unmarked_words k) same swept_then in
+        record { own = all.own; no_marks = all.no_marks; kept_are = all.kept_are }
+
+    clear_marks_step : StepAt (ClearMarks i)
+    clear_marks_step = record {
+      may = (h.own, h.are_marked);
+      leads = subst (λ (n : ℕ). Facts (goes_at s (ClearMarks i) (words (cell.Mark n))) (put words (cell.Mark n) 0)) (sym (own_word i lt)) (at_next _ refl);
+      lost = λ g. absurd (nothing_given Lost g);
+      swept = λ span g. absurd (nothing_given (Swept span) g);
+    }
+
+  -- the counts
+  module _ (h : HasSwept s words (bit_words s.head)) where
+    tally_step : StepAt AddTally
+    tally_step = record { may = h.own; leads = record { own = h.own; no_marks = h.no_marks; kept_are = h.kept_are }; lost = λ g. absurd (nothing_given Lost g); swept = λ span g. absurd (nothing_given (Swept span) g) }
+
+    live_step : StepAt AddLive
+    live_step = record { may = h.own; leads = record { own = h.own; no_marks = h.no_marks; kept_are = h.kept_are }; lost = λ g. absurd (nothing_given Lost g); swept = λ span g. absurd (nothing_given (Swept span) g) }
+
+    heap_step : StepAt AddHeap
+    heap_step = record { may = h.own; leads = record { own = h.own; no_marks = h.no_marks; kept_are = h.kept_are }; lost = λ g. absurd (nothing_given Lost g); swept = λ span g. absurd (nothing_given (Swept span) g) }
+
+    is_it : (span : SweptSpan) → Some (Swept (swept_span s)) ≡ Some (Swept span) → span ≡ swept_span s
+    is_it span g = cc
+
+    finish_step : StepAt Finish
+    finish_step = record {
+      may = (h.own, h.no_marks);
+      leads = tt;
+      lost = λ g. absurd (cc);
+      swept = λ span g. record {
+        head_is = cells.put_here words (cell.Page s.page) (head_word (once_swept s.head));
+        no_marks = h.no_marks;
+        kept_are = ap (λ (x : SweptSpan). x.kept) (is_it span g) ∙ h.kept_are;
+        clear_is = subst (λ (x : SweptSpan). x.clear ≡ ltb x.kept (slots_in s.head.class)) (sym (is_it span g)) refl;
+      };
+    }
+
+  own_step_at : (stage : SweepStage) → IsStage s.head stage → is_busy stage ≡ true → FactsAt s words stage → StepAt stage
+  own_step_at Begin is busy h = begin_step h
+  own_step_at (LoadMarks i) is busy h = load_step i is h
+  own_step_at (ClearBits i marks) is busy h = clear_step i marks is h.0 h.1
+  own_step_at (ClearMarks i) is busy h = clear_marks_step i is h
+  own_step_at AddTally is busy h = tally_step h
+  own_step_at AddLive is busy h = live_step h
+  own_step_at AddHeap is busy h = heap_step h
+  own_step_at Finish is busy h = finish_step h
+  own_step_at Ended is busy h = absurd (cc)
+
+pub keeps : ChangesOneCell → CellsAreTold → PackedWordsAreReadBack → SweepKeepsItsFacts
+keeps changes cells packed = record {
+  own = λ s words placed busy h. own_step_at changes cells s words placed.arena s.stage placed.stage busy h;
+  last = λ s before after placed others h. lasts_at s before after s.stage placed.stage others h;
+  others = λ s t words placed there where_are. others_stay changes cells packed s t words placed there where_are;
+}

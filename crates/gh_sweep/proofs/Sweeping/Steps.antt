@@ -1,0 +1,275 @@
+-- The steps of a sweep: what it is after each of them.
+use Rattle.std.proofs.Common.{◌≡◌, ◌≢◌, ℕ, zero, suc, ◌+◌, ◌-◌, ◌*◌, ◌/◌, ◌%◌, ◌<◌, ◌≤◌, ◌⊎◌, Bool, true, false, cond, eqb, ltb, Option, Some, None, refl, sym, ap, subst, ◌∙◌, arith, inl, inr}
+use Rattle.std.proofs.Math.Nat.{mod-eq_of_lt}
+use Rattle.std.proofs.lemmas.Bool.{eqb-true, eq-eqb, ltb-true, ltb-false, lt-ltb, le-ltb}
+use Rattle.gh_base.specs.declared.cell.Cell.TheVariants as cell
+use Rattle.gh_base.specs.Packing.{head_word}
+use Rattle.gh_base.specs.Routines.{EndsWith, EndsWithin, GoesOn}
+use Rattle.gh_sweep.specs.Bits.{freed_in, kept_in}
+use Rattle.gh_sweep.specs.Listing.{asks, bit_words, gives, goes, is_busy, listing, opening, Sweeping}
+use Rattle.gh_sweep.specs.Steps.{after, alloc_told, freed, freed_told, IsBegun, IsInArena, kept, kept_told, marks_told, span_of, steps_on_bits, StepsOnCounts, StepsOnWord, SweepTakesItsSteps}
+use Rattle.gh_sweep.specs.Vocabulary.{AddHeap, AddLive, AddTally, And, Begin, ClearBits, ClearMarks, Ended, Finish, Layout, Load, LoadMarks, Lost, SpanHead, Store, SweepEnd, SweepStage, Swept, SweptSpan}
+use Rattle.gh_sweep.proofs.Bits.{sum_more, sum_none}
+
+-- where word i of the span's bits lies
+pub word_is : (l : Layout) (page : ℕ) (head : SpanHead) (i : ℕ) → IsInArena l page head → i < bit_words head → (16 * page + i) % (16 * l.pages) ≡ 16 * page + i
+word_is l page head i arena lt = let w : page + head.pages ≤ l.pages = arena.within in mod-eq_of_lt (omega arith)
+
+module _ (l : Layout) (page : ℕ) (head : SpanHead) (found : ℕ → ℕ) where
+  -- it is at this stage, and has counted the bits of so many words
+  abbrev pub at : ℕ → SweepStage → Sweeping
+  at words stage = record { layout = l; page = page; head = head; kept = kept_told found words; freed = freed_told found words; stage = stage }
+
+  abbrev now : ℕ → Sweeping
+  now n = after l page head found n
+
+  begins_at : opening l page head ≡ at 0 Begin
+  begins_at =
+      let k : 0 ≡ kept_told found 0 = sym (sum_none (λ i. kept_in (alloc_told found i) (marks_told found i))) in
+      let f : 0 ≡ freed_told found 0 = sym (sum_none (λ i. freed_in (alloc_told found i) (marks_told found i))) in
+      ap (λ (n : ℕ). record { layout = l; page = page; head = head; kept = n; freed = 0; stage = Begin }) k ∙ ap (λ (n : ℕ). record { layout = l; page = page; head = head; kept = kept_told found 0; freed = n; stage = Begin }) f
+
+  -- Where the swap has written.
+  module _ (begun : IsBegun l page head found) (some : 1 ≤ head.pages) where
+    abbrev words : ℕ
+    words = bit_words head
+
+    swapped : (b : Bool) → eqb (found 0) (head_word head) ≡ b → b ≡ true → goes (at 0 Begin) (found 0) ≡ at 0 (LoadMarks 0)
+    swapped b e is = ap (λ (c : Bool). at 0 (cond c (LoadMarks 0) Ended)) (e ∙ is)
+
+    loads_first : now 1 ≡ at 0 (LoadMarks 0)
+    loads_first = ap (λ (s : Sweeping). goes s (found 0)) begins_at ∙ swapped _ refl (eq-eqb _ _ begun)
+
+    counts_word : (i n : ℕ) → n ≡ 2 + 3 * i → goes (at i (ClearBits i (marks_told found i))) (found n) ≡ at (suc i) (ClearMarks i)
+    counts_word i n e =
+        let k : kept_told found i + kept_in (found n) (marks_told found i) ≡ kept_told found (suc i) = ap (λ (m : ℕ). kept_told found i + kept_in (found m) (marks_told found i)) e ∙ sym (sum_more (λ j. kept_in (alloc_told found j) (marks_told found j)) i) in
+        let f : freed_told found i + freed_in (found n) (marks_told found i) ≡ freed_told found (suc i) = ap (λ (m : ℕ). freed_told found i + freed_in (found m) (marks_told found i)) e ∙ sym (sum_more (λ j. freed_in (alloc_told found j) (marks_told found j)) i) in
+        ap (λ (m : ℕ). record { layout = l; page = page; head = head; kept = m; freed = freed_told found i + freed_in (found n) (marks_told found i); stage = ClearMarks i }) k ∙ ap (λ (m : ℕ). record { layout = l; page = page; head = head; kept = kept_told found (suc i); freed = m; stage = ClearMarks i }) f
+
+    clears_next : (i : ℕ) → now (1 + 3 * i) ≡ at i (LoadMarks i) → now (2 + 3 * i) ≡ at i (ClearBits i (marks_told found i))
+    clears_next i e =
+        let next : 2 + 3 * i ≡ suc (1 + 3 * i) = omega arith in
+        ap now next ∙ ap (λ (s : Sweeping). goes s (found (1 + 3 * i))) e
+
+    clears_marks_next : (i : ℕ) → now (2 + 3 * i) ≡ at i (ClearBits i (marks_told found i)) → now (3 + 3 * i) ≡ at (suc i) (ClearMarks i)
+    clears_marks_next i e =
+        let next : 3 + 3 * i ≡ suc (2 + 3 * i) = omega arith in
+        ap now next ∙ ap (λ (s : Sweeping). goes s (found (2 + 3 * i))) e ∙ counts_word i (2 + 3 * i) refl
+
+    -- behind a word's three steps
+    behind_word : (i : ℕ) → now (3 + 3 * i) ≡ at (suc i) (ClearMarks i) → now (1 + 3 * suc i) ≡ at (suc i) (cond (ltb (i + 1) words) (LoadMarks (i + 1)) AddTally)
+    behind_word i e =
+        let next : 1 + 3 * suc i ≡ suc (3 + 3 * i) = omega arith in
+        ap now next ∙ ap (λ (s : Sweeping). goes s (found (3 + 3 * i))) e
+
+    loads : (i : ℕ) → i < words → now (1 + 3 * i) ≡ at i (LoadMarks i)
+    loads zero lt = loads_first
+    loads (suc i) lt =
+        let e = behind_word i (clears_marks_next i (clears_next i (loads i (omega arith)))) in
+        let one : i + 1 ≡ suc i = omega arith in
+        let more : ltb (i + 1) words ≡ true = lt-ltb (i + 1) words (omega arith) in
+        e ∙ ap (λ (b : Bool). at (suc i) (cond b (LoadMarks (i + 1)) AddTally)) more ∙ ap (λ (n : ℕ). at (suc i) (LoadMarks n)) one
+
+    clears : (i : ℕ) → i < words → now (2 + 3 * i) ≡ at i (ClearBits i (marks_told found i))
+    clears i lt = clears_next i (loads i lt)
+
+    clears_marks : (i : ℕ) → i < words → now (3 + 3 * i) ≡ at (suc i) (ClearMarks i)
+    clears_marks i lt = clears_marks_next i (clears i lt)
+
+    tells : now (steps_on_bits head) ≡ at words AddTally
+    tells =
+        let last : words ≡ suc (words - 1) = omega arith in
+        let lt : words - 1 < words = omega arith in
+        let none : ltb (words - 1 + 1) words ≡ false = le-ltb (words - 1 + 1) words (omega arith) in
+        ap (λ (n : ℕ). now (1 + 3 * n)) last ∙ behind_word (words - 1) (clears_marks (words - 1) lt) ∙ ap (λ (b : Bool). at (suc (words - 1)) (cond b (LoadMarks (words - 1 + 1)) AddTally)) none ∙ ap (λ (n : ℕ). at n AddTally) (sym last)
+
+    tells_live : now (steps_on_bits head + 1) ≡ at words AddLive
+    tells_live =
+        let next : steps_on_bits head + 1 ≡ suc (steps_on_bits head) = omega arith in
+        ap now next ∙ ap (λ (s : Sweeping). goes s (found (steps_on_bits head))) tells
+
+    tells_heap : now (steps_on_bits head + 2) ≡ at words AddHeap
+    tells_heap =
+        let next : steps_on_bits head + 2 ≡ suc (steps_on_bits head + 1) = omega arith in
+        ap now next ∙ ap (λ (s : Sweeping). goes s (found (steps_on_bits head + 1))) tells_live
+
+    finishes : now (steps_on_bits head + 3) ≡ at words Finish
+    finishes =
+        let next : steps_on_bits head + 3 ≡ suc (steps_on_bits head + 2) = omega arith in
+        ap now next ∙ ap (λ (s : Sweeping). goes s (found (steps_on_bits head + 2))) tells_heap
+
+    over : (k : ℕ) → now (steps_on_bits head + 4 + k) ≡ at words Ended
+    over zero =
+        let next : steps_on_bits head + 4 + 0 ≡ suc (steps_on_bits head + 3) = omega arith in
+        ap now next ∙ ap (λ (s : Sweeping). goes s (found (steps_on_bits head + 3))) finishes
+    over (suc k) =
+        let next : steps_on_bits head + 4 + suc k ≡ suc (steps_on_bits head + 4 + k) = omega arith in
+        ap now next ∙ ap (λ (s : Sweeping). goes s (found (steps_on_bits head + 4 + k))) (over k)
+
+    -- What holds of each stage that it comes to holds after each step.
+    record OfStages (P : ℕ → Sweeping → Type 0) : Type 0 where
+      begin : P 0 (at 0 Begin)
+      load : (i : ℕ) → i < words → P (1 + 3 * i) (at i (LoadMarks i))
+      clear : (i : ℕ) → i < words → P (2 + 3 * i) (at i (ClearBits i (marks_told found i)))
+      clear_marks : (i : ℕ) → i < words → P (3 + 3 * i) (at (suc i) (ClearMarks i))
+      tally : P (steps_on_bits head) (at words AddTally)
+      live : P (steps_on_bits head + 1) (at words AddLive)
+      heap : P (steps_on_bits head + 2) (at words AddHeap)
+      finish : P (steps_on_bits head + 3) (at words Finish)
+      end : (k : ℕ) → P (steps_on_bits head + 4 + k) (at words Ended)
+
+    here : (P : ℕ → Sweeping → Type 0) (n m : ℕ) (s : Sweeping) → n ≡ m → now m ≡ s → P m s → P n (now n)
+    here P n m s e is p = subst (λ (k : ℕ). P k (now k)) (sym e) (subst (λ (t : Sweeping). P m t) (sym is) p)
+
+    of_stages : (P : ℕ → Sweeping → Type 0) → OfStages P → (n : ℕ) → P n (now n)
+    of_stages P o zero = subst (λ (s : Sweeping). P 0 s) (sym begins_at) o.begin
+    of_stages P o (suc n) = in_words (ltb n (3 * words)) refl where
+      by_third : n < 3 * words → (b c : Bool) → eqb (n % 3) 0 ≡ b → eqb (n % 3) 1 ≡ c → P (suc n) (now (suc n))
+      by_third lt true c e f = let z : n % 3 ≡ 0 = eqb-true _ _ e in here P (suc n) (1 + 3 * (n / 3)) _ (omega arith) (loads (n / 3) (omega arith)) (o.load (n / 3) (omega arith))
+      by_third lt false true e f = let z : n % 3 ≡ 1 = eqb-true _ _ f in here P (suc n) (2 + 3 * (n / 3)) _ (omega arith) (clears (n / 3) (omega arith)) (o.clear (n / 3) (omega arith))
+      by_third lt false false e f =
+          let x : n % 3 ≢ 0 = λ z. absurd (cc (e, eq-eqb _ _ z)) in
+          let y : n % 3 ≢ 1 = λ z. absurd (cc (f, eq-eqb _ _ z)) in
+          here P (suc n) (3 + 3 * (n / 3)) _ (omega arith) (clears_marks (n / 3) (omega arith)) (o.clear_marks (n / 3) (omega arith))
+
+      by_last : 3 * words ≤ n → (k : ℕ) → n ≡ 3 * words + k → P (suc n) (now (suc n))
+      by_last ge zero e = here P (suc n) (steps_on_bits head) _ (omega arith) tells o.tally
+      by_last ge (suc zero) e = here P (suc n) (steps_on_bits head + 1) _ (omega arith) tells_live o.live
+      by_last ge (suc (suc zero)) e = here P (suc n) (steps_on_bits head + 2) _ (omega arith) tells_heap o.heap
+      by_last ge (suc (suc (suc zero))) e = here P (suc n) (steps_on_bits head + 3) _ (omega arith) finishes o.finish
+      by_last ge (suc (suc (suc (suc k)))) e = here P (suc n) (steps_on_bits head + 4 + k) _ (omega arith) (over k) (o.end k)
+
+      in_words : (b : Bool) → ltb n (3 * words) ≡ b → P (suc n) (now (suc n))
+      in_words true e = by_third (ltb-true _ _ e) (eqb (n % 3) 0) (eqb (n % 3) 1) refl refl
+      in_words false e = let ge : 3 * words ≤ n = ltb-false _ _ e in by_last ge (n - 3 * words) (omega arith)
+
+    -- it goes on up to the last of its steps
+    goes_on_until : (n : ℕ) → is_busy (now n).stage ≡ ltb n (steps_on_bits head + 4)
+    goes_on_until = of_stages (λ n s. is_busy s.stage ≡ ltb n (steps_on_bits head + 4)) (record {
+      begin = sym (lt-ltb 0 (steps_on_bits head + 4) (omega arith));
+      load = λ i lt. sym (lt-ltb (1 + 3 * i) (steps_on_bits head + 4) (omega arith));
+      clear = λ i lt. sym (lt-ltb (2 + 3 * i) (steps_on_bits head + 4) (omega arith));
+      clear_marks = λ i lt. sym (lt-ltb (3 + 3 * i) (steps_on_bits head + 4) (omega arith));
+      tally = sym (lt-ltb (steps_on_bits head) (steps_on_bits head + 4) (omega arith));
+      live = sym (lt-ltb (steps_on_bits head + 1) (steps_on_bits head + 4) (omega arith));
+      heap = sym (lt-ltb (steps_on_bits head + 2) (steps_on_bits head + 4) (omega arith));
+      finish = sym (lt-ltb (steps_on_bits head + 3) (steps_on_bits head + 4) (omega arith));
+      end = λ k. sym (le-ltb (steps_on_bits head + 4 + k) (steps_on_bits head + 4) (omega arith));
+    })
+
+    -- and by that one it gives what it has counted, and by no other
+    abbrev given : Bool → Option SweepEnd
+    given last = cond last (Some (Swept (span_of head (kept l page head found) (freed l page head found)))) None
+
+    not_last : (n : ℕ) → n ≢ steps_on_bits head + 3 → None ≡ given (eqb n (steps_on_bits head + 3))
+    not_last n ne = by (eqb n (steps_on_bits head + 3)) refl where
+      by : (b : Bool) → eqb n (steps_on_bits head + 3) ≡ b → None ≡ given b
+      by true e = absurd (ne (eqb-true _ _ e))
+      by false e = refl
+
+    abbrev no_end : Option SweepEnd
+    no_end = None
+
+    begin_gives : (b : Bool) → eqb (found 0) (head_word head) ≡ b → b ≡ true → cond b no_end (Some Lost) ≡ no_end
+    begin_gives true e is = refl
+    begin_gives false e is = absurd (cc)
+
+    gives_last : (n : ℕ) → gives (now n) (found n) ≡ given (eqb n (steps_on_bits head + 3))
+    gives_last = of_stages (λ n s. gives s (found n) ≡ given (eqb n (steps_on_bits head + 3))) (record {
+      begin = begin_gives _ refl (eq-eqb _ _ begun) ∙ not_last 0 (λ e. absurd (omega arith));
+      load = λ i lt. not_last (1 + 3 * i) (λ e. absurd (omega arith));
+      clear = λ i lt. not_last (2 + 3 * i) (λ e. absurd (omega arith));
+      clear_marks = λ i lt. not_last (3 + 3 * i) (λ e. absurd (omega arith));
+      tally = not_last (steps_on_bits head) (λ e. absurd (omega arith));
+      live = not_last (steps_on_bits head + 1) (λ e. absurd (omega arith));
+      heap = not_last (steps_on_bits head + 2) (λ e. absurd (omega arith));
+      finish = ap given (sym (eq-eqb (steps_on_bits head + 3) (steps_on_bits head + 3) refl));
+      end = λ k. not_last (steps_on_bits head + 4 + k) (λ e. absurd (omega arith));
+    })
+
+  -- Where the swap has not written it has ended.
+  module _ (other : found 0 ≢ head_word head) where
+    not_begun : (b : Bool) → eqb (found 0) (head_word head) ≡ b → b ≡ false
+    not_begun true e = absurd (other (eqb-true _ _ e))
+    not_begun false e = refl
+
+    over_at_once : (n : ℕ) → now (suc n) ≡ at 0 Ended
+    over_at_once zero = ap (λ (s : Sweeping). goes s (found 0)) begins_at ∙ ap (λ (b : Bool). at 0 (cond b (LoadMarks 0) Ended)) (not_begun _ refl)
+    over_at_once (suc n) = ap (λ (s : Sweeping). goes s (found (suc n))) (over_at_once n)
+
+    lost_first : gives (now 0) (found 0) ≡ Some Lost
+    lost_first = ap (λ (b : Bool). cond b None (Some Lost)) (not_begun _ refl)
+
+    gives_nothing : (n : ℕ) → gives (now (suc n)) (found (suc n)) ≡ None
+    gives_nothing n = ap (λ (s : Sweeping). gives s (found (suc n))) (over_at_once n)
+
+  module _ (arena : IsInArena l page head) where
+    on_word : IsBegun l page head found → (i : ℕ) → i < bit_words head → StepsOnWord l page head found i
+    on_word begun i lt = record {
+      loads_marks = ap asks (loads begun arena.some i lt) ∙ ap (λ (n : ℕ). Load (cell.Mark n)) (word_is l page head i arena lt);
+      clears_bits = ap asks (clears begun arena.some i lt) ∙ ap (λ (n : ℕ). And (cell.Alloc n) (marks_told found i)) (word_is l page head i arena lt);
+      clears_marks = ap asks (clears_marks begun arena.some i lt) ∙ ap (λ (n : ℕ). Store (cell.Mark n) 0) (word_is l page head i arena lt);
+    }
+
+    on_counts : IsBegun l page head found → StepsOnCounts l page head found
+    on_counts begun = record {
+      adds_tally = ap asks (tells begun arena.some);
+      adds_live = ap asks (tells_live begun arena.some);
+      adds_heap = ap asks (tells_heap begun arena.some);
+      finishes = ap asks (finishes begun arena.some);
+    }
+
+    goes_on_from : (n : ℕ) → (b : Bool) → eqb (found 0) (head_word head) ≡ b → GoesOn listing (opening l page head) found n → (n ≡ 0) ⊎ (IsBegun l page head found × (n < steps_on_bits head + 4))
+    goes_on_from n true e busy =
+        let begun : IsBegun l page head found = eqb-true _ _ e in
+        inr (begun, ltb-true _ _ (sym (goes_on_until begun arena.some n) ∙ busy))
+    goes_on_from zero false e busy = inl refl
+    goes_on_from (suc n) false e busy =
+        let over : is_busy (now (suc n)).stage ≡ false = ap (λ (s : Sweeping). is_busy s.stage) (over_at_once (λ z. absurd (cc (e, eq-eqb _ _ z))) n) in
+        absurd (cc (over, busy))
+
+    goes_on_to : (n : ℕ) → (n ≡ 0) ⊎ (IsBegun l page head found × (n < steps_on_bits head + 4)) → GoesOn listing (opening l page head) found n
+    goes_on_to n (inl e) = ap (λ (k : ℕ). is_busy (now k).stage) e
+    goes_on_to n (inr h) = goes_on_until h.0 arena.some n ∙ lt-ltb n (steps_on_bits head + 4) h.1
+
+    lost_from : (n : ℕ) → (b : Bool) → eqb (found 0) (head_word head) ≡ b → EndsWith listing (opening l page head) found n Lost → (n ≡ 0) × (found 0 ≢ head_word head)
+    lost_from n true e ends =
+        let begun : IsBegun l page head found = eqb-true _ _ e in
+        absurd (by (eqb n (steps_on_bits head + 3)) (sym (gives_last begun arena.some n) ∙ ends)) where
+          by : (last : Bool) → given (eqb-true _ _ e) arena.some last ≡ Some Lost → ⊥
+          by true h = absurd (cc)
+          by false h = absurd (cc)
+    lost_from zero false e ends = (refl, λ z. absurd (cc (e, eq-eqb _ _ z)))
+    lost_from (suc n) false e ends = absurd (let none = gives_nothing (λ z. absurd (cc (e, eq-eqb _ _ z))) n in cc)
+
+    lost_to : (n : ℕ) → (n ≡ 0) × (found 0 ≢ head_word head) → EndsWith listing (opening l page head) found n Lost
+    lost_to n h = subst (λ (k : ℕ). gives (now k) (found k) ≡ Some Lost) (sym h.0) (lost_first h.1)
+
+    ends_by : (b : Bool) → eqb (found 0) (head_word head) ≡ b → EndsWithin listing (steps_on_bits head + 4) (opening l page head) found
+    ends_by true e = record { steps = steps_on_bits head + 4; few = omega arith; ended = goes_on_until (eqb-true _ _ e) arena.some (steps_on_bits head + 4) ∙ le-ltb (steps_on_bits head + 4) (steps_on_bits head + 4) (omega arith) }
+    ends_by false e = record { steps = 1; few = omega arith; ended = ap (λ (s : Sweeping). is_busy s.stage) (over_at_once (λ z. absurd (cc (e, eq-eqb _ _ z))) 0) }
+
+    abbrev counted_span : SweptSpan
+    counted_span = span_of head (kept l page head found) (freed l page head found)
+
+    swept_from : (n : ℕ) (span : SweptSpan) → (b : Bool) → eqb (found 0) (head_word head) ≡ b → EndsWith listing (opening l page head) found n (Swept span) → IsBegun l page head found × (n ≡ steps_on_bits head + 3) × (span ≡ counted_span)
+    swept_from n span true e ends = by (eqb n (steps_on_bits head + 3)) refl (sym (gives_last (eqb-true _ _ e) arena.some n) ∙ ends) where
+      by : (last : Bool) → eqb n (steps_on_bits head + 3) ≡ last → given (eqb-true _ _ e) arena.some last ≡ Some (Swept span) → IsBegun l page head found × (n ≡ steps_on_bits head + 3) × (span ≡ counted_span)
+      by true f h = (eqb-true _ _ e, eqb-true _ _ f, (cc))
+      by false f h = absurd (cc)
+    swept_from zero span false e ends = absurd (let lost = lost_first (λ z. absurd (cc (e, eq-eqb _ _ z))) in cc)
+    swept_from (suc n) span false e ends = absurd (let none = gives_nothing (λ z. absurd (cc (e, eq-eqb _ _ z))) n in cc)
+
+    swept_to : (n : ℕ) (span : SweptSpan) → IsBegun l page head found × (n ≡ steps_on_bits head + 3) × (span ≡ counted_span) → EndsWith listing (opening l page head) found n (Swept span)
+    swept_to n span h = gives_last h.0 arena.some n ∙ ap (given h.0 arena.some) (eq-eqb _ _ h.1) ∙ ap (λ (s : SweptSpan). Some (Swept s)) (sym h.2)
+
+pub takes_its_steps : SweepTakesItsSteps
+takes_its_steps l page head found arena = record {
+  begins = refl;
+  lost = λ n. (lost_from l page head found arena n _ refl, lost_to l page head found arena n);
+  on_words = on_word l page head found arena;
+  on_counts = on_counts l page head found arena;
+  goes_on = λ n. (goes_on_from l page head found arena n _ refl, goes_on_to l page head found arena n);
+  ends = ends_by l page head found arena _ refl;
+  swept = λ n span. (swept_from l page head found arena n span _ refl, swept_to l page head found arena n span);
+}

@@ -1,0 +1,10 @@
+pub mod Alone
+pub mod Bits
+pub mod Counts
+pub mod Ends
+pub mod Facts
+pub mod Listing
+pub mod Slots
+pub mod Sound
+pub mod Steps
+pub mod Vocabulary

@@ -1,0 +1,124 @@
+-- A span is swept: what is asked for at each stage, where that leads, and what it gives.
+use Rattle.std.specs.Prelude.{ℕ, ◌+◌, ◌-◌, ◌*◌, ◌%◌, ◌^◌, Bool, true, false, nat_lt, ◌==◌, if◌then◌else◌, Option, Some, None}
+use Rattle.gh_base.specs.declared.cell.Cell.TheVariants as cell
+use Rattle.gh_base.specs.declared.cell.Ask.{Ask}
+use Rattle.gh_base.specs.declared.cell.Ask.TheVariants.{Load, Store, And, Add, Swap}
+use Rattle.gh_base.specs.declared.layout.Layout.{Layout}
+use Rattle.gh_base.specs.declared.pack.SpanHead.{SpanHead}
+use Rattle.gh_base.specs.Packing.{head_word, tally_word}
+use Rattle.gh_base.specs.Routines.{Listing}
+use Rattle.gh_class.specs.declared.class.SizeClass.{SizeClass}
+use Rattle.gh_class.specs.declared.class.SizeClass.TheVariants.{Small, Large}
+use Rattle.gh_class.specs.Classes.{slot_of, slots_of}
+use Rattle.gh_sweep.specs.declared.sweep.SweepEnd.{SweepEnd}
+use Rattle.gh_sweep.specs.declared.sweep.SweepEnd.TheVariants.{Lost, Swept}
+use Rattle.gh_sweep.specs.declared.sweep.SweepStage.{SweepStage}
+use Rattle.gh_sweep.specs.declared.sweep.SweepStage.TheVariants.{Begin, LoadMarks, ClearBits, ClearMarks, AddTally, AddLive, AddHeap, Finish, Ended}
+use Rattle.gh_sweep.specs.declared.sweep.SweptSpan.{SweptSpan}
+use Rattle.gh_sweep.specs.Bits.{freed_in, kept_in}
+
+-- the span's first page and what its head word was found to say, the bits kept and freed so far, and the routine's stage
+pub record Sweeping : Type 0 where
+  pub layout : Layout
+  pub page : ℕ
+  pub head : SpanHead
+  pub kept : ℕ
+  pub freed : ℕ
+  pub stage : SweepStage
+
+abbrev pub opening : Layout → ℕ → SpanHead → Sweeping
+opening l page head = record { layout = l; page = page; head = head; kept = 0; freed = 0; stage = Begin }
+
+abbrev pub at_stage : Sweeping → SweepStage → Sweeping
+at_stage s stage = record s { stage = stage }
+
+-- the head while the span is swept, and once it is swept
+abbrev pub in_sweep : SpanHead → SpanHead
+in_sweep h = record h { number = h.number + 1 }
+
+abbrev pub once_swept : SpanHead → SpanHead
+once_swept h = record h { owner = 0; number = h.number + 2 }
+
+-- the bytes of a slot, and how many slots there are, in a span of this size class and of so many pages
+abbrev pub slot_bytes_of : SizeClass → (pages : ℕ) → ℕ
+slot_bytes_of (Small c) pages = slot_of c
+slot_bytes_of Large pages = 8192 * pages
+
+abbrev pub slot_bytes : SpanHead → ℕ
+slot_bytes h = slot_bytes_of h.class h.pages
+
+abbrev pub slots_in : SizeClass → ℕ
+slots_in (Small c) = slots_of c
+slots_in Large = 1
+
+-- the span's words of alloc bits, and as many of mark bits
+abbrev pub bit_words : SpanHead → ℕ
+bit_words h = 16 * h.pages
+
+-- what is taken off the heap's bytes, as it is added
+abbrev pub negative : ℕ → ℕ
+negative bytes = (2 ^ 64 - bytes % 2 ^ 64) % 2 ^ 64
+
+module _ (s : Sweeping) where
+  -- where word i of the span's bits lies in its row
+  abbrev pub word_at : ℕ → ℕ
+  word_at i = (16 * s.page + i) % (16 * s.layout.pages)
+
+  abbrev pub asks_at : SweepStage → Ask
+  asks_at Begin = Swap (cell.Page s.page) (head_word s.head) (head_word (in_sweep s.head))
+  asks_at (LoadMarks i) = Load (cell.Mark (word_at i))
+  asks_at (ClearBits i marks) = And (cell.Alloc (word_at i)) marks
+  asks_at (ClearMarks i) = Store (cell.Mark (word_at i)) 0
+  asks_at AddTally = Add cell.Tally (tally_word (record { marked = s.kept; freed = s.freed }))
+  asks_at AddLive = Add cell.Live (s.kept * slot_bytes s.head)
+  asks_at AddHeap = Add cell.Heap (negative (s.freed * slot_bytes s.head))
+  asks_at Finish = Store (cell.Page s.page) (head_word (once_swept s.head))
+  asks_at Ended = Load cell.Touch
+
+  -- the next word of the span's bits, if there is one
+  abbrev pub behind : ℕ → SweepStage
+  behind i = if nat_lt (i + 1) (bit_words s.head) then LoadMarks (i + 1) else AddTally
+
+  -- the swap has written where it found the head
+  abbrev pub wrote : ℕ → Bool
+  wrote found = found == head_word s.head
+
+  abbrev pub counted : (i marks found : ℕ) → Sweeping
+  counted i marks found = record s { kept = s.kept + kept_in found marks; freed = s.freed + freed_in found marks; stage = ClearMarks i }
+
+  abbrev pub goes_at : SweepStage → ℕ → Sweeping
+  goes_at Begin found = at_stage s (if wrote found then LoadMarks 0 else Ended)
+  goes_at (LoadMarks i) found = at_stage s (ClearBits i found)
+  goes_at (ClearBits i marks) found = counted i marks found
+  goes_at (ClearMarks i) found = at_stage s (behind i)
+  goes_at AddTally found = at_stage s AddLive
+  goes_at AddLive found = at_stage s AddHeap
+  goes_at AddHeap found = at_stage s Finish
+  goes_at Finish found = at_stage s Ended
+  goes_at Ended found = s
+
+  -- what it has found of the span
+  abbrev pub swept_span : SweptSpan
+  swept_span = record { kept = s.kept; freed = s.freed; clear = nat_lt s.kept (slots_in s.head.class) }
+
+  abbrev pub gives_at : SweepStage → ℕ → Option SweepEnd
+  gives_at Begin found = if wrote found then None else Some Lost
+  gives_at Finish found = Some (Swept swept_span)
+  gives_at _ found = None
+
+abbrev pub is_busy : SweepStage → Bool
+is_busy Ended = false
+is_busy _ = true
+
+-- the step that it asks for, what it is after the step found this, and what it ends with if that step is its last
+abbrev pub asks : Sweeping → Ask
+asks s = asks_at s s.stage
+
+abbrev pub goes : Sweeping → ℕ → Sweeping
+goes s found = goes_at s s.stage found
+
+abbrev pub gives : Sweeping → ℕ → Option SweepEnd
+gives s found = gives_at s s.stage found
+
+abbrev pub listing : Listing Sweeping SweepEnd
+listing = record { layout = λ s. s.layout; busy = λ s. is_busy s.stage; asks = asks; goes = goes; gives = gives }

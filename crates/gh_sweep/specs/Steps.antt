@@ -1,0 +1,83 @@
+-- The steps of a sweep, whatever it is told.
+use Rattle.std.specs.Prelude.{◌≡◌, ◌≢◌, ℕ, ◌+◌, ◌*◌, ◌^◌, ◌<◌, ◌≤◌, ◌⊎◌, ◌↔◌, nat_lt}
+use Rattle.gh_base.specs.declared.cell.Cell.TheVariants as cell
+use Rattle.gh_base.specs.declared.cell.Ask.TheVariants.{Load, Store, And, Add, Swap}
+use Rattle.gh_base.specs.declared.layout.Layout.{Layout}
+use Rattle.gh_base.specs.declared.pack.SpanHead.{SpanHead}
+use Rattle.gh_base.specs.Packing.{head_word}
+use Rattle.gh_base.specs.Routines.{EndsWith, EndsWithin, GoesOn, told}
+use Rattle.gh_sweep.specs.declared.sweep.SweepEnd.TheVariants.{Lost, Swept}
+use Rattle.gh_sweep.specs.declared.sweep.SweptSpan.{SweptSpan}
+use Rattle.gh_sweep.specs.Bits.{freed_in, kept_in, sum_below}
+use Rattle.gh_sweep.specs.Listing.{asks, bit_words, in_sweep, listing, negative, once_swept, opening, slot_bytes, slots_in, Sweeping}
+
+-- the span lies in the arena
+pub record IsInArena (l : Layout) (page : ℕ) (head : SpanHead) : Type 0 where
+  pub some : 1 ≤ head.pages
+  pub within : page + head.pages ≤ l.pages
+
+-- what a sweep that has counted so many objects has found of the span
+abbrev pub span_of : SpanHead → (kept freed : ℕ) → SweptSpan
+span_of head kept freed = record { kept = kept; freed = freed; clear = nat_lt kept (slots_in head.class) }
+
+-- Step 0 is the swap, and then each word of the span's bits has three steps: the first finds its marks, the second its alloc bits.
+module _ (found : ℕ → ℕ) where
+  abbrev pub marks_told : ℕ → ℕ
+  marks_told i = found (1 + 3 * i)
+
+  abbrev pub alloc_told : ℕ → ℕ
+  alloc_told i = found (2 + 3 * i)
+
+  -- the bits kept and freed in the first so many words
+  abbrev pub kept_told : ℕ → ℕ
+  kept_told words = sum_below (λ i. kept_in (alloc_told i) (marks_told i)) words
+
+  abbrev pub freed_told : ℕ → ℕ
+  freed_told words = sum_below (λ i. freed_in (alloc_told i) (marks_told i)) words
+
+-- the steps before the first Add
+abbrev pub steps_on_bits : SpanHead → ℕ
+steps_on_bits head = 1 + 3 * bit_words head
+
+module _ (l : Layout) (page : ℕ) (head : SpanHead) (found : ℕ → ℕ) where
+  abbrev pub after : ℕ → Sweeping
+  after n = told listing (opening l page head) found n
+
+  -- the bits kept and freed in the whole span
+  abbrev pub kept : ℕ
+  kept = kept_told found (bit_words head)
+
+  abbrev pub freed : ℕ
+  freed = freed_told found (bit_words head)
+
+  -- the swap has found the head, so it has written
+  abbrev pub IsBegun : Type 0
+  IsBegun = found 0 ≡ head_word head
+
+  -- the three steps for a word of the span's bits
+  pub record StepsOnWord (i : ℕ) : Type 0 where
+    pub loads_marks : asks (after (1 + 3 * i)) ≡ Load (cell.Mark (16 * page + i))
+    pub clears_bits : asks (after (2 + 3 * i)) ≡ And (cell.Alloc (16 * page + i)) (marks_told found i)
+    pub clears_marks : asks (after (3 + 3 * i)) ≡ Store (cell.Mark (16 * page + i)) 0
+
+  -- the last four steps
+  pub record StepsOnCounts : Type 0 where
+    pub adds_tally : asks (after (steps_on_bits head)) ≡ Add cell.Tally (kept + 2 ^ 32 * freed)
+    pub adds_live : asks (after (steps_on_bits head + 1)) ≡ Add cell.Live (kept * slot_bytes head)
+    pub adds_heap : asks (after (steps_on_bits head + 2)) ≡ Add cell.Heap (negative (freed * slot_bytes head))
+    pub finishes : asks (after (steps_on_bits head + 3)) ≡ Store (cell.Page page) (head_word (once_swept head))
+
+  pub record SweepsAsTold : Type 0 where
+    pub begins : asks (after 0) ≡ Swap (cell.Page page) (head_word head) (head_word (in_sweep head))
+    -- it is lost exactly by its first step, and exactly where that found another word
+    pub lost : (n : ℕ) → EndsWith listing (opening l page head) found n Lost ↔ ((n ≡ 0) × (found 0 ≢ head_word head))
+    -- else it takes these steps, and no other
+    pub on_words : IsBegun → (i : ℕ) → i < bit_words head → StepsOnWord i
+    pub on_counts : IsBegun → StepsOnCounts
+    pub goes_on : (n : ℕ) → GoesOn listing (opening l page head) found n ↔ ((n ≡ 0) ⊎ (IsBegun × (n < steps_on_bits head + 4)))
+    pub ends : EndsWithin listing (steps_on_bits head + 4) (opening l page head) found
+    -- and ends with what it has counted
+    pub swept : (n : ℕ) (span : SweptSpan) → EndsWith listing (opening l page head) found n (Swept span) ↔ (IsBegun × (n ≡ steps_on_bits head + 3) × (span ≡ span_of head kept freed))
+
+abbrev pub SweepTakesItsSteps : Type 0
+SweepTakesItsSteps = (l : Layout) (page : ℕ) (head : SpanHead) (found : ℕ → ℕ) → IsInArena l page head → SweepsAsTold l page head found

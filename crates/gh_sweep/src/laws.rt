@@ -1,0 +1,68 @@
+//! Laws of the routine. The functions do nothing; what they ensure is proved.
+
+ghost use Rattle.gh_sweep.specs.Alone.{SpansAreSwept};
+ghost use Rattle.gh_sweep.specs.Bits.{BitsAreKeptOrFreed, SetBitsAreCounted};
+ghost use Rattle.gh_sweep.specs.Counts.{ObjectsAreCounted};
+ghost use Rattle.gh_sweep.specs.Facts.{SweepKeepsItsFacts};
+ghost use Rattle.gh_sweep.specs.Slots.{ClearSlotsAreTold};
+ghost use Rattle.gh_sweep.specs.Steps.{SweepTakesItsSteps};
+
+use gh_base::laws::{
+    a_step_changes_one_cell, cells_are_told, packed_words_are_read_back, rows_are_written,
+};
+use gh_class::size_class_laws;
+
+/// The number of set bits of a word is the sum of its bits.
+pub fn set_bits_are_counted()
+    ensures { SetBitsAreCounted }
+{}
+
+/// The bits kept and freed of an alloc word are its set bits.
+pub fn bits_are_kept_or_freed()
+    ensures { BitsAreKeptOrFreed }
+{}
+
+/// A sweep is lost exactly where its swap found another word than the head's, by that step. Else it
+/// takes three steps for each word of the span's bits and four more, as they are listed, and ends with
+/// the bits kept and freed, whatever it is told.
+pub fn sweep_takes_its_steps()
+    ensures { SweepTakesItsSteps }
+{}
+
+/// Where the words found are those of two rows, whatever else changes meanwhile, a sweep keeps the
+/// objects that are marked there and frees the others, and all that its steps write is of these rows.
+pub fn objects_are_counted()
+    ensures { ObjectsAreCounted }
+{
+    rows_are_written();
+}
+
+/// Run alone from words that have the head, a sweep keeps exactly the objects that are marked, clears
+/// the marks, changes the counts by what it kept and freed, and changes nothing else.
+pub fn spans_are_swept()
+    ensures { SpansAreSwept }
+{
+    cells_are_told();
+    rows_are_written();
+}
+
+/// At each stage a sweep relies on facts about its span's words. Its own step is on its span alone,
+/// clears no marked object's bit and leads to the next stage's facts; they last where others leave the
+/// words of a span that is being swept; and so does every other sweep. It is lost only where the page
+/// has no head with the number that was found.
+pub fn sweep_keeps_its_facts()
+    ensures { SweepKeepsItsFacts }
+{
+    a_step_changes_one_cell();
+    cells_are_told();
+    packed_words_are_read_back();
+}
+
+/// Where a sweep says that a slot of a small object's span is clear, one is; and where it says that none
+/// is, none is, as long as each alloc bit is that of a slot's first word.
+pub fn clear_slots_are_told()
+    ensures { ClearSlotsAreTold }
+{
+    rows_are_written();
+    size_class_laws();
+}

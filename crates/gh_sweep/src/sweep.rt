@@ -1,0 +1,285 @@
+//! The routine that sweeps a span.
+
+ghost use Rattle.std.specs.Prelude.{◌≡◌, ◌+◌, ◌*◌, ◌^◌, ◌<◌, ◌≤◌};
+ghost use Rattle.gh_base.specs.Cells.{InRange};
+ghost use Rattle.gh_base.specs.Packing.{FitsHead, head_word};
+ghost use Rattle.gh_base.specs.Steps.{cell_of};
+ghost use Rattle.gh_sweep.specs.Bits.{freed_in, kept_in};
+ghost use Rattle.gh_sweep.specs.Listing.{asks, behind, bit_words, counted, gives, goes, in_sweep, once_swept, opening, slot_bytes, slots_in, swept_span, word_at};
+ghost use Rattle.gh_sweep.specs.Sound.{FitsSweep};
+
+use gh_base::{Ask, Cell, Layout, Machine, PageWord, Req, SpanHead, TallyWord};
+use gh_class::SizeClass;
+use std::marker::Model;
+
+/// The stages of the routine. A word of the span's bits is numbered from the span's first, 16 a page.
+#[derive(Clone, Copy, Debug, PartialEq, Eq)]
+pub enum SweepStage {
+    /// It swaps the head for one whose number says that the span is swept now.
+    Begin,
+    /// It loads a word of mark bits.
+    LoadMarks(u32),
+    /// It clears the bits of an alloc word that are not among the marks found.
+    ClearBits(u32, u64),
+    /// It clears a word of mark bits.
+    ClearMarks(u32),
+    /// It adds the objects kept and freed to those of the cycle.
+    AddTally,
+    /// It adds the bytes kept to those of the cycle.
+    AddLive,
+    /// It takes the bytes freed off the heap's.
+    AddHeap,
+    /// It writes the head of the swept span.
+    Finish,
+    /// It has ended.
+    Ended,
+}
+
+/// What a sweep has found of a span.
+#[derive(Clone, Copy, Debug, PartialEq, Eq)]
+pub struct SweptSpan {
+    /// The objects that it kept: they were marked.
+    pub kept: u32,
+    /// The objects that it freed.
+    pub freed: u32,
+    /// A slot is clear: it kept fewer objects than the span has slots.
+    pub clear: bool,
+}
+
+/// What a sweep ends with.
+#[derive(Clone, Copy, Debug, PartialEq, Eq)]
+pub enum SweepEnd {
+    /// The head had changed meanwhile: another has begun to sweep the span.
+    Lost,
+    /// The span is swept.
+    Swept(SweptSpan),
+}
+
+/// Sweeps a span (Go's `sweepLocked.sweep`, mgcsweep.go).
+///
+/// It swaps the span's head word from what was found to the same with the next sweep number, and is lost
+/// where that found another word. Then for each word of the span's bits it loads the mark bits, keeps
+/// those alloc bits alone that are among them, and clears the mark bits. It counts the bits that it kept
+/// and freed, adds them to the cycle's counts, their bytes to the cycle's and off the heap's, and writes
+/// the head with the number of a swept span and no owner.
+#[derive(Clone, Copy, Debug, PartialEq, Eq)]
+pub struct Sweep {
+    layout: Layout,
+    page: u32,
+    head: SpanHead,
+    kept: u32,
+    freed: u32,
+    stage: SweepStage,
+}
+
+impl Model for Sweep {
+    ghost use Rattle.gh_sweep.specs.Listing.{Sweeping};
+    ghost use Rattle.gh_sweep.specs.Sound.{Sound};
+
+    ghost Value = { Sweeping };
+
+    ghost view = { λ s. record { layout = s.layout; page = s.page; head = s.head; kept = s.kept; freed = s.freed; stage = s.stage } };
+
+    ghost invariant = { λ s. Sound (record { layout = s.layout; page = s.page; head = s.head; kept = s.kept; freed = s.freed; stage = s.stage }) };
+
+    ghost inverse = { λ s. record { layout = s.layout; page = s.page; head = s.head; kept = s.kept; freed = s.freed; stage = s.stage } };
+}
+
+/// The bytes of a slot of the span.
+fn slot_bytes(head: &SpanHead) -> u64
+    requires { FitsHead head.now }
+    ensures is { result ≡ slot_bytes head.now }
+    ensures few { result ≤ 2 ^ 26 }
+{
+    match head.class {
+        SizeClass::Small(class) => u64::from(class.slot_bytes()),
+        SizeClass::Large => 8192 * u64::from(head.pages),
+    }
+}
+
+/// How many slots a span of the size class has.
+fn slots_in(class: &SizeClass) -> u32
+    ensures { result ≡ slots_in class.now }
+{
+    match class {
+        SizeClass::Small(class) => class.slots(),
+        SizeClass::Large => 1,
+    }
+}
+
+impl Sweep {
+    /// Sweeps the span whose first page this is, and whose head word was found to say this.
+    pub fn new(layout: &Layout, page: u32, head: SpanHead) -> Sweep
+        requires page { page < layout.now.pages }
+        requires head { FitsSweep head }
+        ensures { result ≡ opening layout.now page head }
+    {
+        Sweep {
+            layout: *layout,
+            page,
+            head,
+            kept: 0,
+            freed: 0,
+            stage: SweepStage::Begin,
+        }
+    }
+
+    /// The head word as it was found.
+    fn found_word(&self) -> u64
+        ensures { result ≡ head_word self.now.head }
+    {
+        PageWord::Head(self.head).pack()
+    }
+
+    /// The head word while the span is swept.
+    fn begun_word(&self) -> u64
+        ensures { result ≡ head_word (in_sweep self.now.head) }
+    {
+        PageWord::Head(SpanHead {
+            number: self.head.number + 1,
+            ..self.head
+        })
+        .pack()
+    }
+
+    /// The head word of the swept span.
+    fn swept_word(&self) -> u64
+        ensures { result ≡ head_word (once_swept self.now.head) }
+    {
+        PageWord::Head(SpanHead {
+            owner: 0,
+            number: self.head.number + 2,
+            ..self.head
+        })
+        .pack()
+    }
+
+    /// Where word `i` of the span's bits lies in its row.
+    fn word_at(&self, i: u32) -> u32
+        requires { i < bit_words self.now.head }
+        ensures is { result ≡ word_at self.now i }
+        ensures within { result < 16 * self.now.layout.pages }
+    {
+        (16 * self.page + i) % (16 * self.layout.pages)
+    }
+
+    /// The step that it asks for.
+    fn ask(&self) -> Ask
+        ensures asks { result ≡ asks self.now }
+        ensures within { InRange self.now.layout (cell_of result) }
+    {
+        match self.stage {
+            SweepStage::Begin => {
+                let page = Cell::Page(self.page);
+                Ask::Swap(page, self.found_word(), self.begun_word())
+            }
+            SweepStage::LoadMarks(i) => Ask::Load(Cell::Mark(self.word_at(i))),
+            SweepStage::ClearBits(i, marks) => Ask::And(Cell::Alloc(self.word_at(i)), marks),
+            SweepStage::ClearMarks(i) => Ask::Store(Cell::Mark(self.word_at(i)), 0),
+            SweepStage::AddTally => {
+                let tally = TallyWord {
+                    marked: self.kept,
+                    freed: self.freed,
+                };
+                Ask::Add(Cell::Tally, tally.pack())
+            }
+            SweepStage::AddLive => Ask::Add(Cell::Live, self.bytes(self.kept)),
+            SweepStage::AddHeap => {
+                Ask::Add(Cell::Heap, 0u64.wrapping_sub(self.bytes(self.freed)))
+            }
+            SweepStage::Finish => Ask::Store(Cell::Page(self.page), self.swept_word()),
+            SweepStage::Ended => Ask::Load(Cell::Touch),
+        }
+    }
+
+    /// The bytes of so many slots.
+    fn bytes(&self, slots: u32) -> u64
+        ensures is { result ≡ slots * slot_bytes self.now.head }
+        ensures fits { result < 2 ^ 64 }
+    {
+        u64::from(slots) * slot_bytes(&self.head)
+    }
+
+    /// What it has found of the span.
+    fn swept_span(&self) -> SweptSpan
+        ensures { result ≡ swept_span self.now }
+    {
+        SweptSpan {
+            kept: self.kept,
+            freed: self.freed,
+            clear: self.kept < slots_in(&self.head.class),
+        }
+    }
+
+    /// Its stage behind word `i` of the span's bits.
+    fn behind(&self, i: u32) -> SweepStage
+        requires { i < bit_words self.now.head }
+        ensures { result ≡ behind self.now i }
+    {
+        let words = 16 * self.head.pages;
+        if i + 1 < words {
+            SweepStage::LoadMarks(i + 1)
+        } else {
+            SweepStage::AddTally
+        }
+    }
+
+    /// Counts the bits of an alloc word that are kept and freed.
+    fn count(&mut self, i: u32, marks: u64, found: u64)
+        requires { self.old.stage ≡ SweepStage.ClearBits i marks }
+        ensures { self.new ≡ counted self.old i marks found }
+    {
+        self.kept += (found & marks).count_ones();
+        self.freed += (found & !marks).count_ones();
+        self.stage = SweepStage::ClearMarks(i);
+    }
+}
+
+impl Machine for Sweep {
+    ghost use Rattle.gh_sweep.specs.Listing.{listing};
+    ghost use Rattle.gh_sweep.specs.Ends as proved;
+
+    type Out = SweepEnd;
+
+    ghost layout = { listing.layout };
+
+    ghost busy = { listing.busy };
+
+    ghost asks = { listing.asks };
+
+    ghost goes = { listing.goes };
+
+    ghost gives = { listing.gives };
+
+    fn next(&self) -> Req {
+        self.layout.request(self.ask())
+    }
+
+    fn take(&mut self, found: u64) -> Option<SweepEnd> {
+        match self.stage {
+            SweepStage::Begin => {
+                if found != self.found_word() {
+                    self.stage = SweepStage::Ended;
+                    return Some(SweepEnd::Lost);
+                }
+                self.stage = SweepStage::LoadMarks(0);
+            }
+            SweepStage::LoadMarks(i) => self.stage = SweepStage::ClearBits(i, found),
+            SweepStage::ClearBits(i, marks) => self.count(i, marks, found),
+            SweepStage::ClearMarks(i) => self.stage = self.behind(i),
+            SweepStage::AddTally => self.stage = SweepStage::AddLive,
+            SweepStage::AddLive => self.stage = SweepStage::AddHeap,
+            SweepStage::AddHeap => self.stage = SweepStage::Finish,
+            SweepStage::Finish => {
+                self.stage = SweepStage::Ended;
+                return Some(SweepEnd::Swept(self.swept_span()));
+            }
+            SweepStage::Ended => {}
+        }
+        None
+    }
+
+    ghost ends = { proved.ends };
+
+    ghost stays = { proved.stays };
+}
