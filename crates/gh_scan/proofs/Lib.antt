@@ -1,0 +1,4 @@
+pub mod Next
+pub mod Order
+pub mod Scanning
+pub mod Slots

@@ -1,0 +1,4 @@
+pub mod Ends
+pub mod Listing
+pub mod Scans
+pub mod Sound

@@ -1,0 +1,143 @@
+-- The scan of an object: what is asked for at each stage, where that leads, and what it gives.
+use Rattle.std.specs.Prelude.{ℕ, zero, suc, ◌+◌, ◌-◌, ◌*◌, ◌/◌, ◌%◌, Bool, true, false, ◌==◌, ◌||◌, if◌then◌else◌, Option, Some, None}
+use Rattle.std.specs.Int.{bit_at}
+use Rattle.gh_base.specs.declared.cell.Cell.TheVariants.{Touch, Page, Bitmap, Field}
+use Rattle.gh_base.specs.declared.cell.Ask.{Ask}
+use Rattle.gh_base.specs.declared.cell.Ask.TheVariants.{Load}
+use Rattle.gh_base.specs.declared.held.Held.{Held}
+use Rattle.gh_base.specs.declared.layout.Layout.{Layout}
+use Rattle.gh_base.specs.Packing.{page_of, slot_in}
+use Rattle.gh_base.specs.Routines.{Listing}
+use Rattle.gh_scan.specs.declared.scan.ScanStage.{ScanStage}
+use Rattle.gh_scan.specs.declared.scan.ScanStage.TheVariants.{LoadPage, LoadBitmap, LoadField, Shading, FindRoom, Ended}
+use Rattle.gh_shade.specs.declared.shade.Shaded.{Shaded}
+use Rattle.gh_shade.specs.declared.shade.Shaded.TheVariants.{Done, WantsRoom}
+use Rattle.gh_shade.specs.Listing as shade
+use Rattle.gh_wbuf.specs.RoomFinding as room
+
+-- the scan of an object by its reference: the buffer that is held between shadings, the words of the slot, the heap word that it is at, the bitmap word that it found last, and its stage
+pub record Scanning : Type 0 where
+  pub layout : Layout
+  pub seat : ℕ
+  pub reference : ℕ
+  pub held : Option Held
+  pub slot : ℕ
+  pub at : ℕ
+  pub bits : ℕ
+  pub stage : ScanStage
+
+abbrev pub opening : Layout → (seat reference : ℕ) → Option Held → Scanning
+opening l seat reference held = record { layout = l; seat = seat; reference = reference; held = held; slot = 0; at = 0; bits = 0; stage = LoadPage }
+
+abbrev pub at_stage : Scanning → ScanStage → Scanning
+at_stage s stage = record s { stage = stage }
+
+-- the first heap word of the object
+abbrev pub object_of : (reference : ℕ) → ℕ
+object_of reference = reference - 1
+
+-- the bit of heap word x in this bitmap word: the word is a pointer field
+abbrev pub is_pointer : (bits x : ℕ) → Bool
+is_pointer bits x = bit_at bits (x % 64) == 1
+
+-- something is loaded for heap word x: a new bitmap word, or the field
+abbrev pub is_loaded : (bits x : ℕ) → Bool
+is_loaded bits x = (x % 64 == 0) || is_pointer bits x
+
+-- the first such among so many heap words from x on
+abbrev pub next_in : (bits words x : ℕ) → Option ℕ
+next_in bits zero x = None
+next_in bits (suc words) x = if is_loaded bits x then Some x else next_in bits words (x + 1)
+
+-- from x on and below the end
+abbrev pub next_from : (bits end x : ℕ) → Option ℕ
+next_from bits end x = next_in bits (end - x) x
+
+-- a reference that was found is taken modulo the heap's words
+abbrev pub reference_in : Layout → (found : ℕ) → ℕ
+reference_in l found = (found - 1) % (1024 * l.pages) + 1
+
+-- what is loaded for heap word x
+abbrev pub loads_at : (x : ℕ) → ScanStage
+loads_at x = if x % 64 == 0 then LoadBitmap else LoadField
+
+-- what is held at each stage
+abbrev pub held_at : Option Held → ScanStage → Option Held
+held_at held (Shading sh) = sh.held
+held_at held (FindRoom sh r) = room.held_at r.stage
+held_at held _ = held
+
+module _ (s : Scanning) where
+  -- the heap word behind the slot
+  abbrev pub end : ℕ
+  end = object_of s.reference + s.slot
+
+  abbrev pub asks_at : ScanStage → Ask
+  asks_at LoadPage = Load (Page (object_of s.reference / 1024))
+  asks_at LoadBitmap = Load (Bitmap (s.at / 64 % (16 * s.layout.pages)))
+  asks_at LoadField = Load (Field (s.at % (1024 * s.layout.pages)))
+  asks_at (Shading sh) = shade.asks sh
+  asks_at (FindRoom sh r) = room.asks r
+  asks_at Ended = Load Touch
+
+  -- it goes on at this heap word, or ends where there is none
+  abbrev pub at_next : Option ℕ → Scanning
+  at_next None = at_stage s Ended
+  at_next (Some x) = record s { at = x; stage = loads_at x }
+
+-- it is done with the word that it is at
+abbrev pub behind : Scanning → Scanning
+behind s = at_next s (next_from s.bits (end s) (s.at + 1))
+
+-- the bitmap word of the word that it is at is this
+abbrev pub with_bits : Scanning → (found : ℕ) → Scanning
+with_bits s found = if is_pointer found s.at then record s { bits = found; stage = LoadField } else behind (record s { bits = found })
+
+-- the field holds this
+abbrev pub with_field : Scanning → (found : ℕ) → Scanning
+with_field s found = if found == 0 then behind s else at_stage s (Shading (shade.opening s.layout (reference_in s.layout found) s.held))
+
+-- after a step of shading, by what that gave
+abbrev pub after_shade : Scanning → shade.Shading → Option Shaded → Scanning
+after_shade s sh None = at_stage s (Shading sh)
+after_shade s sh (Some Done) = behind (record s { held = sh.held })
+after_shade s sh (Some WantsRoom) = at_stage s (FindRoom sh (room.opening s.layout s.seat sh.held))
+
+-- after a step of the search for room, by what that gave
+abbrev pub after_room : Scanning → shade.Shading → room.RoomFinding → Option Held → Scanning
+after_room s sh r None = at_stage s (FindRoom sh r)
+after_room s sh r (Some h) = at_stage s (Shading (shade.told_room sh h))
+
+abbrev pub goes_at : Scanning → ScanStage → ℕ → Scanning
+goes_at s LoadPage found = record s { slot = slot_in (page_of found); at = object_of s.reference; stage = LoadBitmap }
+goes_at s LoadBitmap found = with_bits s found
+goes_at s LoadField found = with_field s found
+goes_at s (Shading sh) found = after_shade s (shade.goes sh found) (shade.gives sh found)
+goes_at s (FindRoom sh r) found = after_room s sh (room.goes r found) (room.gives r found)
+goes_at s Ended found = s
+
+abbrev pub is_busy : ScanStage → Bool
+is_busy (Shading sh) = shade.is_busy sh.stage
+is_busy (FindRoom sh r) = room.is_busy r.stage
+is_busy Ended = false
+is_busy _ = true
+
+-- where it has ended it gives the words that it has scanned, those of the slot
+abbrev pub given_at : (slot : ℕ) → ScanStage → Option ℕ
+given_at slot Ended = Some slot
+given_at slot _ = None
+
+abbrev pub asks : Scanning → Ask
+asks s = asks_at s s.stage
+
+abbrev pub goes : Scanning → ℕ → Scanning
+goes s found = goes_at s s.stage found
+
+abbrev pub given : Scanning → Option ℕ
+given s = given_at s.slot s.stage
+
+abbrev pub gives : Scanning → ℕ → Option ℕ
+gives s found = given (goes s found)
+
+abbrev pub listing : Listing Scanning ℕ
+listing = record { layout = λ s. s.layout; busy = λ s. is_busy s.stage; asks = asks; goes = goes; gives = gives }
