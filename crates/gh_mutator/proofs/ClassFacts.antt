@@ -1,18 +1,14 @@
 -- Facts of all size classes, and of what an object of a type wants.
-use Rattle.std.proofs.Common.{◌≡◌, ℕ, ◌*◌, ◌/◌, ◌%◌, ◌<◌, ◌≤◌, Bool, true, false, cond, leb, List, length, refl, sym, ap, ◌∙◌, subst, inl, inr, arith}
-use Rattle.std.proofs.lemmas.Bool.{leb-true, eq-eqb, ne_eqb}
+use Rattle.std.proofs.Common.{◌≡◌, ℕ, ◌*◌, ◌/◌, ◌%◌, ◌<◌, ◌≤◌, Bool, true, false, cond, leb, List, length, refl, subst, arith}
+use Rattle.std.proofs.lemmas.Bool.{leb-true}
 use Rattle.std.proofs.lemmas.Bool.Decides.{nat_tests}
 use Rattle.gh_base.specs.declared.shape.Shape.{Shape}
-use Rattle.gh_base.specs.Shapes.{shape_at}
-use Rattle.gh_base.specs.declared.pack.TheConstants.{LARGE}
+use Rattle.gh_base.specs.Shapes.{shape_at, ShapesFit}
 use Rattle.gh_class.specs.Classes.{slot_of, pages_of, slots_of, IsClassOf, class_number, large_pages, slot_words}
 use Rattle.std.proofs.Math.Nat.{mul-le-mul_right}
-use Rattle.gh_alloc.specs.declared.find.Sought.TheVariants.{Small, Large}
-use Rattle.gh_alloc.specs.Sound.{IsSought}
-use Rattle.gh_alloc.specs.Within.{words_of}
-use Rattle.gh_mutator.specs.declared.point.Wanted.{Wanted}
-use Rattle.gh_mutator.specs.Listing.{sought, sought_for, wanted_of}
-use Rattle.gh_mutator.specs.Sound.{IsRegister, ShapesFit, SoundWanted}
+use Rattle.gh_class.specs.declared.class.SizeClass.TheVariants as size
+use Rattle.gh_mutator.specs.New.{sought_by, wanted_of}
+use Rattle.gh_mutator.specs.Sound.{IsRegister, SoundWanted}
 
 -- the laws of the size classes that are wanted here
 pub record ClassLaws : Type 0 where
@@ -82,31 +78,16 @@ large_facts laws words h k =
     let bound : slot_words words ≤ 65536 = laws.bounded words k in
     record { some = omega arith; few = omega arith; slot = omega arith; is = omega arith }
 
--- what is sought for an object of this class
-sought_small : (w : Wanted) → w.class < 25 → sought w ≡ Small (record { class = w.class; noscan = w.noscan })
-sought_small w h = ap (sought_for w) (ne_eqb w.class LARGE (λ e. omega arith))
-
-sought_large : (w : Wanted) → w.class ≡ LARGE → sought w ≡ Large w.pages w.noscan
-sought_large w e = ap (sought_for w) (eq-eqb w.class LARGE e)
-
-wanted_sound_at : ClassLaws → (b : Bool) (shapes : List Shape) (g d t words : ℕ) (noscan : Bool) → leb words 4096 ≡ b → 1 ≤ words → words ≤ 65536 → t < length shapes → IsRegister g d →
-    SoundWanted shapes (cond b
-    (record { g = g; d = d; t = t; class = class_number (8 * words); noscan = noscan; slot = slot_words words; pages = pages_of (class_number (8 * words)) })
-    (record { g = g; d = d; t = t; class = LARGE; noscan = noscan; slot = slot_words words; pages = slot_words words / 1024 }))
+wanted_sound_at : ClassLaws → (b : Bool) (shapes : List Shape) (g d t words : ℕ) (noscan : Bool) → leb (8 * words) 32768 ≡ b → 1 ≤ words → words ≤ 65536 → t < length shapes → IsRegister g d →
+    SoundWanted shapes (record { g = g; d = d; t = t; slot = slot_words words; sought = sought_by (cond b (size.Small (class_number (8 * words))) size.Large) noscan (slot_words words) })
 wanted_sound_at laws true shapes g d t words noscan e some few there register =
-    let f = small_facts laws words (leb-true _ _ e) in
-    let c = facts_of laws (class_number (8 * words)) f.class in
-    let many : pages_of (class_number (8 * words)) ≤ 4 = c.few in
-    let w : Wanted = record { g = g; d = d; t = t; class = class_number (8 * words); noscan = noscan; slot = slot_words words; pages = pages_of (class_number (8 * words)) } in
-    let is = sought_small w f.class in
-    record { register = register; type = there; class = inl f.class; some = c.some; few = omega arith; slot = f.slot; words = f.is ∙ sym (ap words_of is); sought_is = subst IsSought (sym is) f.class }
+    let f = small_facts laws words (omega (arith, leb-true _ _ e)) in
+    record { register = register; type = there; sought = f.class; slot = f.slot; words = f.is }
 wanted_sound_at laws false shapes g d t words noscan e some few there register =
     let above : 4096 < words = grind (arith, nat_tests) in
     let f = large_facts laws words above few in
-    let w : Wanted = record { g = g; d = d; t = t; class = LARGE; noscan = noscan; slot = slot_words words; pages = slot_words words / 1024 } in
-    let is = sought_large w refl in
-    record { register = register; type = there; class = inr refl; some = f.some; few = f.few; slot = f.slot; words = f.is ∙ sym (ap words_of is); sought_is = subst IsSought (sym is) (f.some, f.few) }
+    record { register = register; type = there; sought = (f.some, f.few); slot = f.slot; words = f.is }
 
 pub wanted_sound : ClassLaws → (shapes : List Shape) (g d t : ℕ) → ShapesFit shapes → t < length shapes → IsRegister g d → SoundWanted shapes (wanted_of shapes g d t)
 wanted_sound laws shapes g d t fit there register =
-    wanted_sound_at laws (leb (shape_at shapes t).words 4096) shapes g d t (shape_at shapes t).words (shape_at shapes t).noscan refl (fit t there).0 (fit t there).1 there register
+    wanted_sound_at laws (leb (8 * (shape_at shapes t).words) 32768) shapes g d t (shape_at shapes t).words (shape_at shapes t).noscan refl (fit t there).some_word (fit t there).few_words there register

@@ -1,90 +1,89 @@
--- Each operation that makes no object ends after a few steps.
-use Rattle.std.proofs.Common.{◌≡◌, ℕ, suc, ◌+◌, ◌-◌, ◌%◌, Bool, true, false, cond, eqb, ltb, List, refl, arith}
-use Rattle.std.specs.Int.{bit_at}
-use Rattle.gh_base.specs.declared.operation.Op.{Op}
+-- Each operation that makes no object ends after a few steps: each step leaves fewer.
+use Rattle.std.proofs.Common.{◌≡◌, ℕ, zero, suc, ◌+◌, ◌≤◌, Bool, true, false, List, refl, ap, ◌∙◌, arith}
+use Rattle.gh_mutator.specs.Vocabulary.{Op, Shape, Processor, Then, GoesOn, Ends, Task, EndsWithin}
 use Rattle.gh_base.specs.declared.operation.Op.TheVariants as op
-use Rattle.gh_base.specs.declared.shape.Shape.{Shape}
-use Rattle.gh_base.specs.declared.value.Value.{Value}
-use Rattle.gh_base.specs.declared.value.Value.TheVariants as value
-use Rattle.gh_base.specs.Packing.{page_of}
-use Rattle.gh_mutator.specs.declared.point.Loading.{Loading}
-use Rattle.gh_mutator.specs.declared.point.Storing.{Storing}
-use Rattle.gh_mutator.specs.declared.point.Processor.{Processor}
-use Rattle.gh_mutator.specs.declared.point.Point.{Point}
-use Rattle.gh_mutator.specs.declared.point.Point.TheVariants.{Idle, Touch, LoadPage, LoadBits, LoadField, LoadBirth, StorePage, StoreBits, StoreField, GlobalLoad, GlobalStore, End, Leave}
-use Rattle.gh_mutator.specs.Ending.{EndsWithin, OperationsEnd, makes_object, most_steps}
-use Rattle.gh_mutator.specs.Listing.{at_point, after_found, begin_load, begin_store, begin_global_store, kinds_differ, register_of, set_register, slot_in, touched, value_of}
-use Rattle.gh_mutator.specs.Mutating.{Mutating, begins, goes}
+use Rattle.gh_mutator.specs.declared.own.Own.{Own}
+use Rattle.gh_mutator.specs.declared.own.Own.TheVariants as own
+use Rattle.gh_mutator.specs.declared.task.Task.TheVariants as task
+use Rattle.gh_mutator.specs.Ending.{makes_object, most_steps, OperationsEnd}
+use Rattle.gh_mutator.specs.Listing.{begins_at, follows, is_busy_at, rests, takes_at}
+use Rattle.gh_mutator.specs.Mutating.{begins, goes, listing, Mutating}
+use Rattle.gh_mutator.specs.Processor.{register_of}
+use Rattle.gh_mutator.specs.Serving.{is_making}
+use Rattle.gh_mutator.proofs.GlobalSteps as global
+use Rattle.gh_mutator.proofs.LoadSteps as load
+use Rattle.gh_mutator.proofs.Steps.{GoesTo}
+use Rattle.gh_mutator.proofs.StoreSteps as store
+use Rattle.gh_mutator.proofs.Telling.{told_first}
+
+-- how many steps are left at most, where no object is made
+abbrev left : Task → ℕ
+left task.Idle = 0
+left task.Left = 0
+left (task.Load x) = load.left x
+left (task.Store x) = store.left x
+left (task.Global x) = global.left x
+left (task.Register x) = 1
+left (task.New x) = 0
+left (task.Own x) = 1
+
+-- a step leaves fewer, and makes no object
+record Fewer (t next : Task) : Type 0 where
+  plain : is_making next ≡ false
+  fewer : left next + 1 ≤ left t
+
+from_step : {S : Type 0} (most : S → ℕ) (into : S → Task) (t : Task) (then : Then S) → ((y : S) → is_making (into y) ≡ false) → ((y : S) → left (into y) ≡ most y) → 1 ≤ left t → GoesTo (λ (y : S). most y + 1 ≤ left t) then → Fewer t (follows into then)
+from_step most into t (Ends a) plain is some h = record { plain = refl; fewer = omega arith }
+from_step most into t (GoesOn y) plain is some h = record { plain = plain y; fewer = omega (arith, is y, h) }
+
+rests_fewer : (x : Own) → Fewer (task.Own x) (rests x)
+rests_fewer own.Poll = record { plain = refl; fewer = omega arith }
+rests_fewer (own.End g) = record { plain = refl; fewer = omega arith }
+rests_fewer own.Leave = record { plain = refl; fewer = omega arith }
 
 module _ (shapes : List Shape) where
-  abbrev at : Processor → Point → Mutating
-  at m p = record { shapes = shapes; processor = at_point m p }
+  fewer_at : (m : Processor) (t : Task) (found : ℕ) → is_making t ≡ false → is_busy_at t ≡ true → Fewer t (takes_at shapes m t found).task
+  fewer_at m task.Idle found plain busy = absurd (cc)
+  fewer_at m task.Left found plain busy = absurd (cc)
+  fewer_at m (task.Load x) found plain busy = let h = load.nears m.layout x found in from_step load.left task.Load (task.Load x) _ (λ y. refl) (λ y. refl) h.0 h.1
+  fewer_at m (task.Store x) found plain busy = let h = store.nears m.layout (register_of m x.g x.v) x found in from_step store.left task.Store (task.Store x) _ (λ y. refl) (λ y. refl) h.0 h.1
+  fewer_at m (task.Global x) found plain busy = let h = global.nears m.layout (register_of m x.g x.r) x found in from_step global.left task.Global (task.Global x) _ (λ y. refl) (λ y. refl) h.0 h.1
+  fewer_at m (task.Register x) found plain busy = record { plain = refl; fewer = omega arith }
+  fewer_at m (task.New x) found plain busy = absurd (cc)
+  fewer_at m (task.Own x) found plain busy = rests_fewer x
 
-  -- one step more
-  later : (most : ℕ) (m : Mutating) (found : ℕ → ℕ) → EndsWithin most (goes m (found 0)) (λ i. found (suc i)) → EndsWithin (suc most) m found
-  later most m found h = let few = h.few in record { steps = suc h.steps; few = omega arith; ended = h.ended }
+-- one step more
+later : (most : ℕ) (m : Mutating) (found : ℕ → ℕ) → EndsWithin listing most (goes m (found 0)) (λ i. found (suc i)) → EndsWithin listing (suc most) m found
+later most m found h =
+    let few = h.few in
+    record { steps = suc h.steps; few = omega arith; ended = ap (λ (x : Mutating). is_busy_at x.processor.task) (told_first listing m found h.steps) ∙ h.ended }
 
-  -- nothing is begun any more
-  over : (most : ℕ) (m : Processor) (found : ℕ → ℕ) → EndsWithin most (at m Idle) found
-  over most m found = record { steps = 0; few = omega arith; ended = refl }
+ends_within : (most : ℕ) (m : Mutating) (found : ℕ → ℕ) → is_making m.processor.task ≡ false → left m.processor.task ≤ most → EndsWithin listing most m found
+ends_within zero m found plain few = by (is_busy_at m.processor.task) refl where
+  by : (b : Bool) → is_busy_at m.processor.task ≡ b → EndsWithin listing zero m found
+  by false idle = record { steps = 0; few = omega arith; ended = idle }
+  by true busy = let fewer = (fewer_at m.shapes m.processor m.processor.task (found 0) plain busy).fewer in absurd (omega arith)
+ends_within (suc most) m found plain few = by (is_busy_at m.processor.task) refl (ends_within most (goes m (found 0)) (λ i. found (suc i))) where
+  by : (b : Bool) → is_busy_at m.processor.task ≡ b → (is_making (goes m (found 0)).processor.task ≡ false → left (goes m (found 0)).processor.task ≤ most → EndsWithin listing most (goes m (found 0)) (λ i. found (suc i))) → EndsWithin listing (suc most) m found
+  by false idle next = record { steps = 0; few = omega arith; ended = idle }
+  by true busy next =
+      let h = fewer_at m.shapes m.processor m.processor.task (found 0) plain busy in
+      let fewer = h.fewer in
+      later most m found (next h.plain (omega arith))
 
-  after_value : (m : Processor) (v : Value) (found : ℕ → ℕ) → EndsWithin 1 (at m (after_found v)) found
-  after_value m value.Nil found = over 1 m found
-  after_value m (value.Int n) found = over 1 m found
-  after_value m (value.Ref r) found = later 0 (at m (LoadBirth (r - 1))) found (over 0 m (λ i. found (suc i)))
-
-  touch : (most : ℕ) (m : Processor) (o : Op) (found : ℕ → ℕ) → EndsWithin (suc most) (at m (Touch o)) found
-  touch most m o found = later most (at m (Touch o)) found (over most (touched (at_point m (Touch o)) o) (λ i. found (suc i)))
-
-  field : (m : Processor) (l : Loading) (p : Bool) (found : ℕ → ℕ) → EndsWithin 2 (at m (LoadField l p)) found
-  field m l p found = later 1 (at m (LoadField l p)) found (after_value (set_register m l.g l.d (value_of m.layout.pages p (found 0))) (value_of m.layout.pages p (found 0)) (λ i. found (suc i)))
-
-  bits : (m : Processor) (l : Loading) (found : ℕ → ℕ) (b : Bool) → EndsWithin 3 (at m (cond b (LoadBits l) Idle)) found
-  bits m l found true = later 2 (at m (LoadBits l)) found (field m l (eqb (bit_at (found 0) ((l.at + l.k) % 64)) 1) (λ i. found (suc i)))
-  bits m l found false = over 3 m found
-
-  loads : (m : Processor) (g d b k : ℕ) (v : Value) (found : ℕ → ℕ) → EndsWithin 4 (at m (begin_load g d b k v)) found
-  loads m g d b k value.Nil found = touch 3 m (op.Load g d b k) found
-  loads m g d b k (value.Int n) found = touch 3 m (op.Load g d b k) found
-  loads m g d b k (value.Ref r) found =
-      let l : Loading = record { g = g; d = d; b = b; k = k; at = r - 1 } in
-      later 3 (at m (LoadPage (record { g = g; d = d; b = b; k = k; at = r - 1 }))) found (bits m (record { g = g; d = d; b = b; k = k; at = r - 1 }) (λ i. found (suc i)) (ltb k (slot_in (page_of (found 0)))))
-
-  stores_field : (m : Processor) (s : Storing) (found : ℕ → ℕ) (b : Bool) → EndsWithin 1 (at m (cond b Idle (StoreField s))) found
-  stores_field m s found true = over 1 m found
-  stores_field m s found false = later 0 (at m (StoreField s)) found (over 0 m (λ i. found (suc i)))
-
-  stores_bits : (m : Processor) (s : Storing) (found : ℕ → ℕ) (b : Bool) → EndsWithin 2 (at m (cond b (StoreBits s) Idle)) found
-  stores_bits m s found true = later 1 (at m (StoreBits s)) found (stores_field m s (λ i. found (suc i)) (kinds_differ (eqb (bit_at (found 0) ((s.at + s.k) % 64)) 1) (register_of m s.g s.v)))
-  stores_bits m s found false = over 2 m found
-
-  stores : (m : Processor) (g b k v : ℕ) (x : Value) (found : ℕ → ℕ) → EndsWithin 3 (at m (begin_store g b k v x)) found
-  stores m g b k v value.Nil found = touch 2 m (op.Store g b k v) found
-  stores m g b k v (value.Int n) found = touch 2 m (op.Store g b k v) found
-  stores m g b k v (value.Ref r) found =
-      later 2 (at m (StorePage (record { g = g; b = b; k = k; v = v; at = r - 1 }))) found (stores_bits m (record { g = g; b = b; k = k; v = v; at = r - 1 }) (λ i. found (suc i)) (ltb k (slot_in (page_of (found 0)))))
-
-  global_stores : (m : Processor) (g k v : ℕ) (x : Value) (found : ℕ → ℕ) → EndsWithin 1 (at m (begin_global_store g k v x)) found
-  global_stores m g k v (value.Int n) found = touch 0 m (op.SetGlobal g k v) found
-  global_stores m g k v value.Nil found = later 0 (at m (GlobalStore g k v)) found (over 0 m (λ i. found (suc i)))
-  global_stores m g k v (value.Ref r) found = later 0 (at m (GlobalStore g k v)) found (over 0 m (λ i. found (suc i)))
-
-  global_loads : (m : Processor) (g d k : ℕ) (found : ℕ → ℕ) → EndsWithin 2 (at m (GlobalLoad g d k)) found
-  global_loads m g d k found = later 1 (at m (GlobalLoad g d k)) found (after_value (set_register m g d (value_of m.layout.pages true (found 0))) (value_of m.layout.pages true (found 0)) (λ i. found (suc i)))
-
-  ends_at : (m : Processor) (o : Op) (found : ℕ → ℕ) → makes_object o ≡ false → EndsWithin (most_steps o) (begins (record { shapes = shapes; processor = m }) o) found
-  ends_at m (op.New g d t) found h = absurd (cc)
-  ends_at m (op.Load g d b k) found h = loads m g d b k (register_of m g b) found
-  ends_at m (op.Store g b k v) found h = stores m g b k v (register_of m g b) found
-  ends_at m (op.GetGlobal g d k) found h = global_loads m g d k found
-  ends_at m (op.SetGlobal g k v) found h = global_stores m g k v (register_of m g v) found
-  ends_at m (op.Int g d n) found h = touch 0 m (op.Int g d n) found
-  ends_at m (op.Move g d s) found h = touch 0 m (op.Move g d s) found
-  ends_at m (op.Nil g d) found h = touch 0 m (op.Nil g d) found
-  ends_at m (op.Gc g) found h = touch 0 m (op.Gc g) found
-  ends_at m op.Poll found h = touch 0 m op.Poll found
-  ends_at m (op.End g) found h = later 0 (at m (End g)) found (over 0 m (λ i. found (suc i)))
-  ends_at m op.Leave found h = later 0 (at m Leave) found (record { steps = 0; few = omega arith; ended = refl })
+begins_few : (shapes : List Shape) (m : Processor) (o : Op) → makes_object o ≡ false → (is_making (begins_at shapes m o) ≡ false) × (left (begins_at shapes m o) ≤ most_steps o)
+begins_few shapes m (op.New g d t) h = absurd (cc)
+begins_few shapes m (op.Load g d b k) h = (refl, load.begins_left g d b k (register_of m g b))
+begins_few shapes m (op.Store g b k v) h = (refl, store.begins_left g b k v (register_of m g b))
+begins_few shapes m (op.GetGlobal g d k) h = (refl, omega arith)
+begins_few shapes m (op.SetGlobal g k v) h = (refl, global.begins_store_left g k v (register_of m g v))
+begins_few shapes m (op.Int g d n) h = (refl, omega arith)
+begins_few shapes m (op.Move g d s) h = (refl, omega arith)
+begins_few shapes m (op.Nil g d) h = (refl, omega arith)
+begins_few shapes m (op.Gc g) h = (refl, omega arith)
+begins_few shapes m op.Poll h = (refl, omega arith)
+begins_few shapes m (op.End g) h = (refl, omega arith)
+begins_few shapes m op.Leave h = (refl, omega arith)
 
 pub operations_end : OperationsEnd
-operations_end m o found h = ends_at m.shapes m.processor o found h
+operations_end m o found h = let few = begins_few m.shapes m.processor o h in ends_within (most_steps o) (begins m o) found few.0 few.1

@@ -1,4 +1,15 @@
+pub mod Changes
 pub mod ClassFacts
-pub mod Soundness
 pub mod Ending
 pub mod Faults
+pub mod Fields
+pub mod Full
+pub mod GlobalSteps
+pub mod Lists
+pub mod LoadSteps
+pub mod NewSteps
+pub mod Shapes
+pub mod Soundness
+pub mod Steps
+pub mod StoreSteps
+pub mod Telling

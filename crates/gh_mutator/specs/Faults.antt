@@ -3,28 +3,31 @@ use Rattle.std.specs.Prelude.{◌≡◌, ℕ, suc, ◌≤◌, Bool, true, false,
 use Rattle.gh_base.specs.declared.cell.Ask.{Ask}
 use Rattle.gh_base.specs.declared.cell.Ask.TheVariants.{Load}
 use Rattle.gh_base.specs.declared.operation.Op.{Op}
+use Rattle.gh_base.specs.declared.value.Answer.{Answer}
 use Rattle.gh_base.specs.declared.value.Answer.TheVariants.{Fault}
 use Rattle.gh_base.specs.declared.value.Fault.{Fault as Cause}
-use Rattle.gh_mutator.specs.declared.point.Point.TheVariants.{Idle}
-use Rattle.gh_mutator.specs.Ending.{told}
-use Rattle.gh_mutator.specs.Listing.{at_point}
-use Rattle.gh_mutator.specs.Mutating.{Mutating, asks, begins, gives}
+use Rattle.gh_mutator.specs.declared.processor.Processor.{Processor}
+use Rattle.gh_mutator.specs.declared.task.Task.TheVariants.{Idle}
+use Rattle.gh_mutator.specs.Mutating.{asks, begins, gives, listing, marks_after, Mutating}
+use Rattle.gh_mutator.specs.Processor.{at_task}
+use Rattle.gh_base.specs.Routines.{told}
 
 abbrev pub is_load : Ask → Bool
 is_load (Load cell) = true
 is_load _ = false
 
--- with nothing begun
-abbrev pub idle : Mutating → Mutating
-idle m = record m { processor = at_point m.processor Idle }
+-- with nothing begun, this processor, and one statement more answered
+abbrev pub rested : Mutating → Processor → Answer → Mutating
+rested m p a = record m { processor = at_task p Idle; marks = marks_after m.marks (Some a) }
 
--- the operation begun at m is answered by its step number n, counted from 0
-pub record ChangesNothing (m : Mutating) (o : Op) (found : ℕ → ℕ) (n : ℕ) : Type 0 where
+-- the operation begun at m is answered this fault by its step number n, counted from 0
+pub record ChangesNothing (m : Mutating) (o : Op) (found : ℕ → ℕ) (n : ℕ) (cause : Cause) : Type 0 where
   -- no step up to that one writes a word
-  pub loads : (i : ℕ) → i ≤ n → is_load (asks (told i (begins m o) found)) ≡ true
+  pub loads : (i : ℕ) → i ≤ n → is_load (asks (told listing (begins m o) found i)) ≡ true
   -- and the processor is what it was: its registers, its numbers of objects, its cached spans
-  pub stays : told (suc n) (begins m o) found ≡ idle m
+  pub stays : told listing (begins m o) found (suc n) ≡ rested m m.processor (Fault cause)
 
 -- whatever the steps find
 abbrev pub FaultsChangeNothing : Type 0
-FaultsChangeNothing = (m : Mutating) (o : Op) (found : ℕ → ℕ) (n : ℕ) (cause : Cause) → gives (told n (begins m o) found) (found n) ≡ Some (Fault cause) → ChangesNothing m o found n
+FaultsChangeNothing = (m : Mutating) (o : Op) (found : ℕ → ℕ) (n : ℕ) (cause : Cause) →
+    gives (told listing (begins m o) found n) (found n) ≡ Some (Fault cause) → ChangesNothing m o found n cause

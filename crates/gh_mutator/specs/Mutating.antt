@@ -1,40 +1,52 @@
--- The processor as a machine, which keeps the shapes of the types beside its state.
-use Rattle.std.specs.Prelude.{ℕ, Bool, List, Option}
+-- The processor as a machine, which keeps the shapes of the types beside its state, and counts the statements that it has answered.
+use Rattle.std.specs.Prelude.{ℕ, ◌+◌, ◌-◌, ◌^◌, min, Bool, List, Option, Some, None}
 use Rattle.gh_base.specs.declared.cell.Ask.{Ask}
 use Rattle.gh_base.specs.declared.layout.Layout.{Layout}
 use Rattle.gh_base.specs.declared.operation.Op.{Op}
 use Rattle.gh_base.specs.declared.shape.Shape.{Shape}
 use Rattle.gh_base.specs.declared.value.Answer.{Answer}
-use Rattle.gh_mutator.specs.declared.point.Processor.{Processor}
-use Rattle.gh_mutator.specs.Listing.{acts as acts_by, Act, asks as asks_of, begins as begins_by, gives_at, is_busy_at, opening_processor, takes}
+use Rattle.gh_base.specs.Routines.{Listing}
+use Rattle.gh_mutator.specs.declared.processor.Processor.{Processor}
+use Rattle.gh_mutator.specs.Listing.{acts as acts_by, Act, asks as asks_of, begins as begins_by, gives as gives_by, is_busy_at, takes}
+use Rattle.gh_mutator.specs.Processor.{opening_processor}
+use Rattle.gh_mutator.specs.Serving.{statement_answer}
 
 pub record Mutating : Type 0 where
   pub shapes : List Shape
   pub processor : Processor
+  pub marks : ℕ
 
 abbrev pub opening : Layout → (seat : ℕ) → List Shape → Mutating
-opening l seat shapes = record { shapes = shapes; processor = opening_processor l seat }
+opening l seat shapes = record { shapes = shapes; processor = opening_processor l seat; marks = 0 }
 
 abbrev pub layout : Mutating → Layout
 layout m = m.processor.layout
 
 abbrev pub is_busy : Mutating → Bool
-is_busy m = is_busy_at m.processor.point
+is_busy m = is_busy_at m.processor.task
 
 -- once an operation is begun
 abbrev pub begins : Mutating → Op → Mutating
 begins m o = record m { processor = begins_by m.shapes m.processor o }
 
+-- how many statements are answered once this one is, if it is; the number stands at its type's end
+abbrev pub marks_after : (marks : ℕ) → Option Answer → ℕ
+marks_after marks None = marks
+marks_after marks (Some a) = min (marks + 1) (2 ^ 64 - 1)
+
 -- the step that it asks for, what it is after the step found this, and what the operation is answered if it ends with that step
 abbrev pub asks : Mutating → Ask
 asks m = asks_of m.processor
 
-abbrev pub goes : Mutating → ℕ → Mutating
-goes m found = record m { processor = takes m.shapes m.processor found }
+abbrev pub goes : Mutating → (found : ℕ) → Mutating
+goes m found = record m { processor = takes m.shapes m.processor found; marks = marks_after m.marks (statement_answer m.processor found) }
 
-abbrev pub gives : Mutating → ℕ → Option Answer
-gives m found = gives_at m.processor.layout.goroutines m.processor m.processor.point found
+abbrev pub gives : Mutating → (found : ℕ) → Option Answer
+gives m found = gives_by m.processor found
+
+abbrev pub listing : Listing Mutating Answer
+listing = record { layout = layout; busy = is_busy; asks = asks; goes = goes; gives = gives }
 
 -- the operation that acts by that step, if one does
-abbrev pub acts : Mutating → ℕ → Option Act
+abbrev pub acts : Mutating → (found : ℕ) → Option Act
 acts m found = acts_by m.processor found

@@ -10,25 +10,39 @@
 //! the field, for a store the store of it, for a `new` the step that sets the allocation bit, or, where
 //! there is no room, the step that frees the heap's lock. A fault acts at the step that finds its cause.
 //!
-//! [`Mutator`] is the machine. What it asks for and where it goes is its listing (specs/Listing.antt):
-//! `asks`, `takes` and `gives_at` by points, and `acts` for the point of each operation. An index that a
+//! [`Mutator`] is the machine. Each statement has a file of code and one of definitions, of its name:
+//! what it asks for at each of its stages, and in one function what its step does there. That says all: the
+//! value that its register takes, whether it goes on or how it is answered, and that it acts. The machine's
+//! listing (specs/Listing.antt) puts the statements together, and src/run.rt applies them. An index that a
 //! word of the heap told is taken modulo the words of its row, so every step is on a word that there is,
 //! whatever was found.
 //!
 //! The words and the steps follow Go's `malloc.go`, `mcache.go` and `mbitmap.go`.
 #![tactic(auto)]
 
-mod acts;
-mod asks;
-mod gives;
+mod field;
+mod global;
 pub mod laws;
+mod load;
 mod mutator;
-mod point;
+mod new;
+mod own;
 mod processor;
-mod sizes;
-mod takes;
+mod register;
+mod run;
+mod step;
+mod store;
+mod task;
 #[cfg(test)]
 mod tests;
 
+pub use global::{Global, GlobalStage};
+pub use load::{Load, LoadStage};
 pub use mutator::Mutator;
-pub use point::{Loading, Point, Processor, Storing, Wanted};
+pub use new::{New, NewStage, Wanted};
+pub use own::Own;
+pub use processor::Processor;
+pub use register::{Register, Source};
+pub use step::{Step, Then};
+pub use store::{Store, StoreStage};
+pub use task::Task;

@@ -3,9 +3,12 @@
 ghost use Rattle.std.specs.Prelude.{◌≡◌, ◌<◌, true, false};
 ghost use Rattle.gh_mutator.specs.Mutating.{acts, begins, is_busy, opening};
 ghost use Rattle.gh_mutator.specs.Serving.{has_left_at, is_last, is_point, is_serving};
-ghost use Rattle.gh_mutator.specs.Sound.{has_names, ShapesFit, SoundOp};
+ghost use Rattle.gh_base.specs.Shapes.{ShapesFit};
+ghost use Rattle.gh_mutator.specs.Sound.{has_names, SoundOp};
 
-use crate::point::{Point, Processor};
+use crate::own::Own;
+use crate::processor::Processor;
+use crate::task::Task;
 use gh_base::{Answer, Layout, Machine, Op, Req, Shapes};
 use std::marker::Model;
 
@@ -18,15 +21,18 @@ use std::marker::Model;
 pub struct Mutator<'s> {
     shapes: &'s Shapes,
     processor: Processor<'s>,
+    // How many statements it has answered.
+    marks: u64,
 }
 
 impl<'s> Model for Mutator<'s> {
     ghost use Rattle.gh_mutator.specs.Mutating.{Mutating};
-    ghost use Rattle.gh_mutator.specs.Sound.{ShapesFit, Sound};
+    ghost use Rattle.gh_base.specs.Shapes.{ShapesFit};
+    ghost use Rattle.gh_mutator.specs.Sound.{Sound};
 
     ghost Value = { Mutating };
 
-    ghost view = { λ m. record { shapes = m.shapes.now; processor = m.processor } };
+    ghost view = { λ m. record { shapes = m.shapes.now; processor = m.processor; marks = m.marks } };
 
     ghost invariant = { λ m. ShapesFit m.shapes.now × Sound m.shapes.now m.processor };
 }
@@ -34,7 +40,6 @@ impl<'s> Model for Mutator<'s> {
 impl<'s> Mutator<'s> {
     /// A processor at this seat, before its first step: all registers are nil, no span is cached, and
     /// nothing is begun. Each type has 1 to 65,536 words.
-    #[tactic(auto, using(crate::proofs::Soundness::opening_sound))]
     pub fn new(layout: &Layout, seat: u32, shapes: &'s Shapes) -> Mutator<'s>
         requires seat { seat < layout.now.procs }
         requires shapes { ShapesFit shapes.now }
@@ -43,11 +48,13 @@ impl<'s> Mutator<'s> {
         Mutator {
             shapes,
             processor: Processor::opening(layout, seat),
+            marks: 0,
         }
     }
 
-    /// Begins an operation, where none is begun. Its goroutine, registers, type and global are there,
-    /// and a goroutine that is to make an object has made fewer than 200,000.
+    /// Begins an operation, where none is begun, and which is no `gc`, for which there is no listing yet.
+    /// Its goroutine, registers, type and global are there, and a goroutine that is to make an object has
+    /// made fewer than 200,000.
     pub fn begin(&mut self, op: Op)
         requires idle { is_busy self.old ≡ false }
         requires op { SoundOp self.old.shapes self.old.processor.layout op }
@@ -66,27 +73,27 @@ impl<'s> Mutator<'s> {
 
     /// It has left.
     pub fn has_left(&self) -> bool
-        ensures { result ≡ has_left_at self.now.processor.point }
+        ensures { result ≡ has_left_at self.now.processor.task }
     {
-        match self.processor.point {
-            Point::Left => true,
+        match self.processor.task {
+            Task::Left => true,
             _ => false,
         }
     }
 
     /// Its next step is its last: it leaves.
     pub fn is_last(&self) -> bool
-        ensures { result ≡ is_last self.now.processor.point }
+        ensures { result ≡ is_last self.now.processor.task }
     {
-        match self.processor.point {
-            Point::Leave => true,
+        match self.processor.task {
+            Task::Own(Own::Leave) => true,
             _ => false,
         }
     }
 
     /// It runs a statement of a goroutine, and no operation of its own.
     pub fn is_serving(&self) -> bool
-        ensures { result ≡ is_serving self.now.processor.point }
+        ensures { result ≡ is_serving self.now.processor.task }
     {
         self.processor.is_serving()
     }
@@ -96,6 +103,14 @@ impl<'s> Mutator<'s> {
         ensures { result ≡ is_point (acts self.now found) }
     {
         self.processor.is_point(self.shapes, found)
+    }
+
+    /// How many statements it has answered; polls, ends and its leave are none. The number stands at
+    /// `u64::MAX`, which no run reaches.
+    pub fn marks(&self) -> u64
+        ensures { result ≡ self.now.marks }
+    {
+        self.marks
     }
 }
 
@@ -120,7 +135,12 @@ impl<'s> Machine for Mutator<'s> {
     }
 
     fn take(&mut self, found: u64) -> Option<Answer> {
-        self.processor.take(self.shapes, found)
+        let is_serving = self.processor.is_serving();
+        let answer = self.processor.take(self.shapes, found);
+        if is_serving && answer.is_some() {
+            self.marks = self.marks.saturating_add(1);
+        }
+        answer
     }
 
     ghost ends = { proved.ends };

@@ -1,93 +1,48 @@
-//! A processor: its opening, its registers, and where an operation begins.
+//! A processor: its private state, and where an operation begins.
 
-ghost use Rattle.std.specs.Prelude.{◌≡◌, ◌+◌, ◌<◌, ◌^◌, true};
-ghost use Rattle.gh_base.specs.Packing.{IsClass};
-ghost use Rattle.gh_mutator.specs.Listing.{begins, begin_load, begin_store, begin_global_store, cached_for, cache_span, finding, is_busy_at, is_large, next_of, opening_processor, own_span, register_of, set_register, sought, span_class, wanted_of};
-ghost use Rattle.gh_mutator.specs.Sound.{has_names, IsNear, IsRegister, ShapesFit, Sound, SoundOp, SoundWanted};
+ghost use Rattle.std.specs.Prelude.{◌≡◌, ◌<◌, true};
+ghost use Rattle.gh_mutator.specs.Listing.{begins, is_busy_at};
+ghost use Rattle.gh_mutator.specs.Processor.{cache_span, cached_for, opening_processor, register_of, set_register, with_value};
+ghost use Rattle.gh_mutator.specs.Register as register;
+ghost use Rattle.gh_mutator.specs.declared.task.Task.TheVariants as task;
+ghost use Rattle.gh_base.specs.Shapes.{ShapesFit};
+ghost use Rattle.gh_mutator.specs.Sound.{has_names, IsRegister, Sound, SoundOp};
 
-use crate::point::{Loading, Point, Processor, Storing, Wanted};
-use crate::sizes::wanted;
-use gh_alloc::{CachedSpan, Find, Sought};
-use gh_base::{LARGE, Layout, Name, Op, Shapes, SpanHead, Value};
-use gh_central::SpanClass;
-use gh_class::size_class_laws;
+use crate::global::Global;
+use crate::load::Load;
+use crate::own::Own;
+use crate::register::{Register, Source};
+use crate::store::Store;
+use crate::task::Task;
+use gh_alloc::{CachedSpan, Sought};
+use gh_base::limits::{MOST_GOROUTINES, REGISTERS};
+use gh_base::{Layout, Op, Shapes, Value};
+use gh_class::{SPAN_CLASSES, size_class_laws};
 
-impl Wanted {
-    /// The object has a span of its own.
-    pub(crate) fn is_large(self) -> bool
-        ensures { result ≡ is_large self }
-    {
-        self.class == LARGE
-    }
-
-    /// Its span class: twice the class, and 1 more for noscan.
-    pub(crate) fn span_class(self) -> u32
-        requires { IsClass self.class }
-        ensures { result ≡ span_class self }
-    {
-        2 * self.class + u32::from(self.noscan)
-    }
-
-    /// What is sought for it.
-    pub(crate) fn sought(self) -> Sought
-        ensures { result ≡ sought self }
-    {
-        if self.is_large() {
-            Sought::Large {
-                pages: self.pages,
-                noscan: self.noscan,
-            }
-        } else {
-            Sought::Small(SpanClass {
-                class: self.class,
-                noscan: self.noscan,
-            })
-        }
-    }
+/// A processor.
+#[derive(Drop)]
+pub struct Processor<'s> {
+    /// The heap's layout.
+    pub layout: Layout,
+    /// Its seat.
+    pub seat: u32,
+    /// Its copy of the sweep generation.
+    pub generation: u64,
+    /// The registers of the goroutines, 16 each.
+    pub registers: [Value; (REGISTERS * MOST_GOROUTINES) as usize],
+    /// How many objects each goroutine has made.
+    pub made: [u32; MOST_GOROUTINES as usize],
+    /// The cached spans, each at the place of its span class.
+    pub cache: [Option<CachedSpan>; SPAN_CLASSES as usize],
+    /// What it is at.
+    pub task: Task<'s>,
 }
 
-/// Where a load begins.
-fn begin_load<'s>(g: u32, d: u32, b: u32, k: u32, base: Value) -> Point<'s>
-    requires { IsNear 1024 base }
-    ensures { result ≡ begin_load g d b k base }
+/// A statement begins that register `d` of goroutine `g` takes a value.
+fn begin_register<'s>(g: u32, d: u32, source: Source) -> Task<'s>
+    ensures { result ≡ task.Register (register.begins g d source) }
 {
-    match base {
-        Value::Ref(reference) => Point::LoadPage(Loading {
-            g,
-            d,
-            b,
-            k,
-            at: reference.saturating_sub(1) as u32,
-        }),
-        _ => Point::Touch(Op::Load { g, d, b, k }),
-    }
-}
-
-/// Where a store begins.
-fn begin_store<'s>(g: u32, b: u32, k: u32, v: u32, base: Value) -> Point<'s>
-    requires { IsNear 1024 base }
-    ensures { result ≡ begin_store g b k v base }
-{
-    match base {
-        Value::Ref(reference) => Point::StorePage(Storing {
-            g,
-            b,
-            k,
-            v,
-            at: reference.saturating_sub(1) as u32,
-        }),
-        _ => Point::Touch(Op::Store { g, b, k, v }),
-    }
-}
-
-/// Where a store in a global begins.
-fn begin_global_store<'s>(g: u32, k: u32, v: u32, value: Value) -> Point<'s>
-    ensures { result ≡ begin_global_store g k v value }
-{
-    match value {
-        Value::Int(_) => Point::Touch(Op::SetGlobal { g, k, v }),
-        _ => Point::GlobalStore(g, k, v),
-    }
+    Task::Register(Register { g, d, source })
 }
 
 impl<'s> Processor<'s> {
@@ -99,19 +54,19 @@ impl<'s> Processor<'s> {
             layout: *layout,
             seat,
             generation: 2,
-            registers: [Value::Nil; 512],
-            made: [0; 32],
-            cache: [None; 50],
-            point: Point::Idle,
+            registers: [Value::Nil; (REGISTERS * MOST_GOROUTINES) as usize],
+            made: [0; MOST_GOROUTINES as usize],
+            cache: [None; SPAN_CLASSES as usize],
+            task: Task::Idle,
         }
     }
 
-    /// It has a step to make, with no operation begun.
+    /// It has a step to make, with an operation begun.
     pub(crate) fn is_busy(&self) -> bool
-        ensures { result ≡ is_busy_at self.now.point }
+        ensures { result ≡ is_busy_at self.now.task }
     {
-        match self.point {
-            Point::Idle | Point::Left => false,
+        match self.task {
+            Task::Idle | Task::Left => false,
             _ => true,
         }
     }
@@ -121,7 +76,7 @@ impl<'s> Processor<'s> {
         requires { IsRegister g d }
         ensures { result ≡ register_of self.now g d }
     {
-        self.registers[(16 * g + d) as usize]
+        self.registers[(REGISTERS * g + d) as usize]
     }
 
     /// Register `d` of goroutine `g` takes a value.
@@ -129,72 +84,26 @@ impl<'s> Processor<'s> {
         requires { IsRegister g d }
         ensures { self.new ≡ set_register self.old g d value }
     {
-        self.registers[(16 * g + d) as usize] = value;
+        self.registers[(REGISTERS * g + d) as usize] = value;
     }
 
-    /// The span that is cached for such an object.
-    fn cached_for(&self, wanted: Wanted) -> Option<CachedSpan>
-        requires { IsClass wanted.class }
-        ensures { result ≡ cached_for self.now wanted }
+    /// The span that is cached for such an object; a large one has its span for itself.
+    pub(crate) fn cached_for(&self, sought: &Sought) -> Option<CachedSpan>
+        ensures { result ≡ cached_for self.now sought.now }
     {
-        if wanted.is_large() {
-            None
-        } else {
-            self.cache[wanted.span_class() as usize]
+        match sought {
+            Sought::Small(class) => self.cache[class.index() as usize],
+            Sought::Large { .. } => None,
         }
     }
 
-    /// The span is cached for such objects from now on, if one is; a large object has its span for itself.
-    pub(crate) fn cache_span(&mut self, wanted: Wanted, cached: Option<CachedSpan>)
-        requires { IsClass wanted.class }
-        ensures { self.new ≡ cache_span self.old wanted cached }
+    /// The span is cached for such objects from now on, if one is.
+    pub(crate) fn cache_span(&mut self, sought: &Sought, cached: Option<CachedSpan>)
+        ensures { self.new ≡ cache_span self.old sought.now cached }
     {
-        if !wanted.is_large() {
-            self.cache[wanted.span_class() as usize] = cached;
-        }
-    }
-
-    /// The search for a slot for such an object.
-    fn finding(&self, shapes: &Shapes, wanted: Wanted) -> Find
-        requires sound { Sound shapes.now self.now }
-        requires wanted { SoundWanted shapes.now wanted }
-        ensures { result ≡ finding self.now wanted }
-    {
-        let cached = self.cached_for(wanted);
-        Find::new(
-            &self.layout,
-            self.seat,
-            self.generation,
-            wanted.sought(),
-            cached,
-        )
-    }
-
-    /// What the first page of a large object's span says while it is being made.
-    pub(crate) fn own_span(&self, wanted: Wanted) -> Option<SpanHead>
-        requires { self.now.seat + 1 < 2 ^ 32 }
-        ensures { result ≡ own_span self.now wanted }
-    {
-        if !wanted.is_large() {
-            return None;
-        }
-        Some(SpanHead {
-            class: wanted.class,
-            noscan: wanted.noscan,
-            pages: wanted.pages,
-            owner: self.seat + 1,
-            number: self.generation,
-        })
-    }
-
-    /// The name of the object that it makes.
-    pub(crate) fn next_name(&self, wanted: Wanted) -> Name
-        requires { wanted.g < 32 }
-        ensures { result ≡ next_of self.now wanted }
-    {
-        Name {
-            g: wanted.g,
-            k: self.made[wanted.g as usize],
+        match sought {
+            Sought::Small(class) => self.cache[class.index() as usize] = cached,
+            Sought::Large { .. } => {}
         }
     }
 
@@ -208,22 +117,21 @@ impl<'s> Processor<'s> {
         ensures sound { Sound shapes.now self.new }
     {
         size_class_laws();
-        self.point = match op {
-            Op::New { g, d, t } => {
-                let wanted = wanted(shapes, g, d, t);
-                Point::Find(wanted, self.finding(shapes, wanted))
+        self.task = match op {
+            Op::New { g, d, t } => self.begin_new(shapes, g, d, t),
+            Op::Load { g, d, b, k } => Task::Load(Load::begin(g, d, b, k, self.register(g, b))),
+            Op::Store { g, b, k, v } => Task::Store(Store::begin(g, b, k, v, self.register(g, b))),
+            Op::GetGlobal { g, d, k } => Task::Global(Global::begin_load(g, d, k)),
+            Op::SetGlobal { g, k, v } => {
+                Task::Global(Global::begin_store(g, k, v, self.register(g, v)))
             }
-            Op::Load { g, d, b, k } => begin_load(g, d, b, k, self.register(g, b)),
-            Op::Store { g, b, k, v } => begin_store(g, b, k, v, self.register(g, b)),
-            Op::GetGlobal { g, d, k } => Point::GlobalLoad(g, d, k),
-            Op::SetGlobal { g, k, v } => begin_global_store(g, k, v, self.register(g, v)),
-            Op::Int { g: _, d: _, n: _ }
-            | Op::Move { g: _, d: _, s: _ }
-            | Op::Nil { g: _, d: _ }
-            | Op::Gc { g: _ }
-            | Op::Poll => Point::Touch(op),
-            Op::End(g) => Point::End(g),
-            Op::Leave => Point::Leave,
+            Op::Int { g, d, n } => begin_register(g, d, Source::Int(n)),
+            Op::Move { g, d, s } => begin_register(g, d, Source::Move(s)),
+            Op::Nil { g, d } => begin_register(g, d, Source::Nil),
+            Op::Gc { g: _ } => unreachable!(),
+            Op::Poll => Task::Own(Own::Poll),
+            Op::End(g) => Task::Own(Own::End(g)),
+            Op::Leave => Task::Own(Own::Leave),
         };
     }
 }

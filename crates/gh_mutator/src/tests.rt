@@ -1,31 +1,26 @@
-//! Operations on a processor that is told one word again and again: what they are answered, and how many
-//! steps they take.
+//! Operations on a processor over words that are drawn up by hand: what they are answered, and which steps
+//! they take.
 
 ghost use Rattle.std.specs.Prelude.{◌≡◌, ◌<◌, true, IfOk, length};
-ghost use Rattle.gh_mutator.specs.Listing.{opening_processor};
-ghost use Rattle.gh_mutator.specs.Mutating.{is_busy};
-ghost use Rattle.gh_mutator.specs.Sound.{has_names, ShapesFit, SoundOp};
+ghost use Rattle.gh_mutator.specs.Processor.{opening_processor};
+ghost use Rattle.gh_base.specs.Shapes.{ShapesFit};
+ghost use Rattle.gh_mutator.specs.Sound.{has_names, SoundOp};
 
 use super::*;
-use gh_base::{Answer, Bits, Fault, Layout, Machine, Name, Op, Shape, Shapes};
+use gh_base::trace::run_alone;
+use gh_base::{Answer, Bits, Cell, Fault, Layout, Machine, Name, Op, Shape, Shapes};
 use std::alloc::{AllocError, Global};
 use std::test::Fail;
 
-/// Tells each step this word, until the operation is answered: its answer, and how many steps it took.
-fn run(mutator: &mut Mutator, told: u64) -> (Option<Answer>, u32)
-    requires { is_busy mutator.old ≡ true }
-{
-    for step in 1..1000u32 {
-        let _ = mutator.next();
-        if let Some(answer) = mutator.take(told) {
-            return (Some(answer), step);
-        }
-    }
-    (None, 0)
-}
-
-/// The same of the first operation of a processor.
-fn first(shapes: &Shapes, layout: &Layout, op: Op, told: u64) -> (Option<Answer>, u32)
+/// What the first operation of a processor is answered over words that all hold this one, and in how
+/// many steps.
+fn first(
+    alloc: Global,
+    shapes: &Shapes,
+    layout: &Layout,
+    op: Op,
+    word: u64,
+) -> Result<(Option<Answer>, usize), AllocError>
     requires seat { 0 < layout.now.procs }
     requires shapes { ShapesFit shapes.now }
     requires op { SoundOp shapes.now layout.now op }
@@ -33,7 +28,24 @@ fn first(shapes: &Shapes, layout: &Layout, op: Op, told: u64) -> (Option<Answer>
 {
     let mut mutator = Mutator::new(layout, 0, shapes);
     mutator.begin(op);
-    run(&mut mutator, told)
+    let mut words = vec![in alloc; word; layout.words() as usize]?;
+    let steps = run_alone(alloc, &mut mutator, layout, &mut words, 999)?;
+    Ok((steps.out, steps.lines.len()))
+}
+
+/// How many statements a processor counts once its first operation is answered, over words that all hold
+/// 0.
+fn marks(alloc: Global, shapes: &Shapes, layout: &Layout, op: Op) -> Result<u64, AllocError>
+    requires seat { 0 < layout.now.procs }
+    requires shapes { ShapesFit shapes.now }
+    requires op { SoundOp shapes.now layout.now op }
+    requires names { has_names (opening_processor layout.now 0) op ≡ true }
+{
+    let mut mutator = Mutator::new(layout, 0, shapes);
+    mutator.begin(op);
+    let mut words = Vec::new(alloc);
+    let _ = run_alone(alloc, &mut mutator, layout, &mut words, 999)?;
+    Ok(mutator.marks())
 }
 
 /// One type of two numbers.
@@ -51,6 +63,21 @@ fn one_type(alloc: Global) -> Result<Shapes, AllocError>
     })
 }
 
+/// One type of two words, its first a pointer.
+fn node_type(alloc: Global) -> Result<Shapes, AllocError>
+    ensures { IfOk result (λ s. (length s ≡ 1) × ShapesFit s) }
+{
+    let words = vec![in alloc; 1u64]?;
+    let row = Shape {
+        words: 2,
+        noscan: false,
+        bits: Bits { words },
+    };
+    Ok(Shapes {
+        rows: vec![in alloc; row]?,
+    })
+}
+
 #[test]
 fn each_operation_takes_its_steps(rt: HostRuntime) -> Result<(), Fail> {
     let layout = Layout::new(16, 1, 1, 1, 1)?;
@@ -59,33 +86,54 @@ fn each_operation_takes_its_steps(rt: HostRuntime) -> Result<(), Fail> {
     let done = Some(Answer::Done);
     let nil_base = Some(Answer::Fault(Fault::NilBase));
     let named = Some(Answer::Ref(Name { g: 0, k: 5 }));
-    assert_eq!(rt; first(&shapes, &layout, Op::Poll, 9), (done, 1));
     assert_eq!(rt;
-        first(&shapes, &layout, Op::Int { g, d, n: 7 }, 9),
+        first(rt.alloc(), &shapes, &layout, Op::Poll, 9)?,
         (done, 1)
     );
     assert_eq!(rt;
-        first(&shapes, &layout, Op::Load { g, d, b: 2, k }, 9),
+        first(rt.alloc(), &shapes, &layout, Op::Int { g, d, n: 7 }, 9)?,
+        (done, 1)
+    );
+    assert_eq!(rt;
+        first(rt.alloc(), &shapes, &layout, Op::Load { g, d, b: 2, k }, 9)?,
         (nil_base, 1)
     );
     assert_eq!(rt;
-        first(&shapes, &layout, Op::Store { g, b: 2, k, v: 3 }, 9),
+        first(
+            rt.alloc(),
+            &shapes,
+            &layout,
+            Op::Store { g, b: 2, k, v: 3 },
+            9
+        )?,
         (nil_base, 1)
     );
     assert_eq!(rt;
-        first(&shapes, &layout, Op::GetGlobal { g, d, k }, 0),
+        first(rt.alloc(), &shapes, &layout, Op::GetGlobal { g, d, k }, 0)?,
         (Some(Answer::Nil), 1)
     );
     assert_eq!(rt;
-        first(&shapes, &layout, Op::GetGlobal { g, d, k }, 5),
+        first(rt.alloc(), &shapes, &layout, Op::GetGlobal { g, d, k }, 5)?,
         (named, 2)
     );
     assert_eq!(rt;
-        first(&shapes, &layout, Op::SetGlobal { g, k, v: 3 }, 9),
+        first(
+            rt.alloc(),
+            &shapes,
+            &layout,
+            Op::SetGlobal { g, k, v: 3 },
+            9
+        )?,
         (done, 1)
     );
-    assert_eq!(rt; first(&shapes, &layout, Op::End(0), 9), (done, 1));
-    assert_eq!(rt; first(&shapes, &layout, Op::Leave, 9), (done, 1));
+    assert_eq!(rt;
+        first(rt.alloc(), &shapes, &layout, Op::End(0), 9)?,
+        (done, 1)
+    );
+    assert_eq!(rt;
+        first(rt.alloc(), &shapes, &layout, Op::Leave, 9)?,
+        (done, 1)
+    );
     Ok(())
 }
 
@@ -97,8 +145,105 @@ fn an_object_is_made(rt: HostRuntime) -> Result<(), Fail> {
     // cleared, the name, the bitmap, the allocation bit, the heap's bytes
     let made = Some(Answer::Ref(Name { g: 0, k: 0 }));
     assert_eq!(rt;
-        first(&shapes, &layout, Op::New { g: 0, d: 1, t: 0 }, 0),
+        first(
+            rt.alloc(),
+            &shapes,
+            &layout,
+            Op::New { g: 0, d: 1, t: 0 },
+            0
+        )?,
         (made, 27)
     );
+    Ok(())
+}
+
+/// The steps of the first `new` of `type node pn` in a new arena.
+const FIRST_NEW: [&str; 28] = [
+    "swap lock 0 1: 0",
+    "load page 0: 0",
+    "load page 1: 0",
+    "load page 2: 0",
+    "load page 3: 0",
+    "load page 4: 0",
+    "load page 5: 0",
+    "load page 6: 0",
+    "load page 7: 0",
+    "load page 8: 0",
+    "load page 9: 0",
+    "load page 10: 0",
+    "load page 11: 0",
+    "load page 12: 0",
+    "load page 13: 0",
+    "load page 14: 0",
+    "load page 15: 0",
+    "load page 0: 0",
+    "store page 0 2151678469: 0",
+    "store lock 0: 1",
+    "load alloc 0: 0",
+    "store field 0 0: 0",
+    "store field 1 0: 0",
+    "store birth 0 4294967296: 0",
+    "and bitmap 0 18446744073709551612: 0",
+    "or bitmap 0 1: 0",
+    "or alloc 0 1: 0",
+    "add heap 16: 0",
+];
+
+#[test]
+fn the_first_object_is_made_in_these_steps(rt: HostRuntime) -> Result<(), Fail> {
+    let layout = Layout::new(16, 1, 1, 1, 1)?;
+    let shapes = node_type(rt.alloc())?;
+    let mut words = vec![in rt.alloc(); 0u64; layout.words() as usize]?;
+    words[layout.word(Cell::Gen) as usize] = 2;
+    words[layout.word(Cell::Trigger) as usize] = u64::MAX;
+    words[layout.word(Cell::Slack) as usize] = 1;
+    let mut mutator = Mutator::new(&layout, 0, &shapes);
+    mutator.begin(Op::New { g: 0, d: 1, t: 0 });
+    let steps = run_alone(rt.alloc(), &mut mutator, &layout, &mut words, 999)?;
+    assert_eq!(rt; steps.out, Some(Answer::Ref(Name { g: 0, k: 0 })));
+    assert_eq!(rt; steps.lines.len(), FIRST_NEW.len());
+    for (line, stored) in steps.lines.iter().zip(FIRST_NEW) {
+        assert_eq!(rt; line.as_str(), stored);
+    }
+    Ok(())
+}
+
+#[test]
+fn a_full_heap_is_answered_and_counted(rt: HostRuntime) -> Result<(), Fail> {
+    let layout = Layout::new(16, 1, 1, 1, 1)?;
+    let shapes = one_type(rt.alloc())?;
+    let mut mutator = Mutator::new(&layout, 0, &shapes);
+    mutator.begin(Op::New { g: 0, d: 1, t: 0 });
+    // the lock is free; each page is the first of a span of another class, which fills the arena: the pass
+    // ends behind it, 16 pages are looked at, and the lock is freed
+    let _ = mutator.next();
+    let told = mutator.take(0);
+    assert!(rt; told.is_none() && mutator.is_busy());
+    let mut words = vec![in rt.alloc(); 8289u64; layout.words() as usize]?;
+    let steps = run_alone(rt.alloc(), &mut mutator, &layout, &mut words, 999)?;
+    assert_eq!(rt; (steps.out, steps.lines.len()), (Some(Answer::Full), 18));
+    assert_eq!(rt; mutator.marks(), 1);
+    Ok(())
+}
+
+#[test]
+fn polls_are_not_counted(rt: HostRuntime) -> Result<(), Fail> {
+    let layout = Layout::new(16, 1, 1, 1, 1)?;
+    let shapes = one_type(rt.alloc())?;
+    let (g, d, k) = (0, 1, 0);
+    assert_eq!(rt; marks(rt.alloc(), &shapes, &layout, Op::Poll)?, 0);
+    assert_eq!(rt; marks(rt.alloc(), &shapes, &layout, Op::End(0))?, 0);
+    assert_eq!(rt; marks(rt.alloc(), &shapes, &layout, Op::Leave)?, 0);
+    assert_eq!(rt;
+        marks(rt.alloc(), &shapes, &layout, Op::Int { g, d, n: 7 })?,
+        1
+    );
+    assert_eq!(rt;
+        marks(rt.alloc(), &shapes, &layout, Op::Load { g, d, b: 2, k })?,
+        1
+    );
+    laws::operations_end();
+    laws::faults_change_nothing();
+    laws::full_changes_little();
     Ok(())
 }

@@ -1,0 +1,10 @@
+use Rattle.std.proofs.Common.{sym, subst, rules}
+use Rattle.gh_mutator.specs.declared.new.Wanted.{Wanted}
+use Rattle.gh_mutator.specs.Sound.{SoundWanted}
+use Rattle.gh_mutator.proofs.ClassFacts.{ClassLaws, wanted_sound}
+use Rattle.gh_mutator.proofs.processor.Processor.begin_new.Goals as goal
+
+pub finding-requires-clause-wanted : goal.finding-requires-clause-wanted
+finding-requires-clause-wanted c =
+    let laws : ClassLaws = search rules in
+    subst (λ (w : Wanted). SoundWanted c.args.shapes.now w) (sym c.of-wanted.ensures) (wanted_sound laws c.args.shapes.now c.args.g c.args.d c.args.t c.requires.fit c.requires.there c.requires.register)

@@ -1,0 +1,69 @@
+-- The load and the store of a global: where each begins, what it asks for at each stage, and what its step does.
+use Rattle.std.specs.Prelude.{ℕ, true, Option, Some, None}
+use Rattle.gh_base.specs.declared.cell.Ask.{Ask}
+use Rattle.gh_base.specs.declared.cell.Ask.TheVariants as ask
+use Rattle.gh_base.specs.declared.cell.Cell.TheVariants as cell
+use Rattle.gh_base.specs.declared.layout.Layout.{Layout}
+use Rattle.gh_base.specs.declared.operation.Op.{Op}
+use Rattle.gh_base.specs.declared.operation.Op.TheVariants as op
+use Rattle.gh_base.specs.declared.value.Answer.TheVariants as answer
+use Rattle.gh_base.specs.declared.value.Fault.TheVariants as fault
+use Rattle.gh_base.specs.declared.value.Value.{Value}
+use Rattle.gh_base.specs.declared.value.Value.TheVariants as value
+use Rattle.gh_mutator.specs.declared.global.Global.{Global}
+use Rattle.gh_mutator.specs.declared.global.GlobalStage.{GlobalStage}
+use Rattle.gh_mutator.specs.declared.global.GlobalStage.TheVariants.{Load, Birth, Store, Number}
+use Rattle.gh_mutator.specs.declared.step.Step.{Step}
+use Rattle.gh_mutator.specs.Fields.{birth_cell, names, takes, value_of, word_of_value}
+use Rattle.gh_mutator.specs.Step.{ends}
+
+abbrev pub op_in : Global → GlobalStage → Op
+op_in x Load = op.GetGlobal x.g x.r x.k
+op_in x (Birth at) = op.GetGlobal x.g x.r x.k
+op_in x Store = op.SetGlobal x.g x.k x.r
+op_in x Number = op.SetGlobal x.g x.k x.r
+
+abbrev pub op_of : Global → Op
+op_of x = op_in x x.stage
+
+abbrev pub at_stage : Global → GlobalStage → Global
+at_stage x stage = record x { stage = stage }
+
+-- register d takes global k
+abbrev pub begins_load : (g d k : ℕ) → Global
+begins_load g d k = record { g = g; r = d; k = k; stage = Load }
+
+-- global k takes what register v holds, which is this; a number is a fault
+abbrev pub begins_store : (g k v : ℕ) → Value → Global
+begins_store g k v (value.Int n) = record { g = g; r = v; k = k; stage = Number }
+begins_store g k v _ = record { g = g; r = v; k = k; stage = Store }
+
+-- once a reference was found, to the object at this heap word
+abbrev pub naming : Global → (at : ℕ) → Global
+naming x at = at_stage x (Birth at)
+
+-- register r holds this
+module _ (l : Layout) (held : Value) (x : Global) where
+  abbrev pub asks_at : GlobalStage → Ask
+  asks_at Load = ask.Load (cell.Global x.k)
+  asks_at (Birth at) = ask.Load (birth_cell l at)
+  asks_at Store = ask.Store (cell.Global x.k) (word_of_value held)
+  asks_at Number = ask.Load cell.Touch
+
+  abbrev pub step_at : GlobalStage → (found : ℕ) → Step Global
+  step_at Load found = takes (naming x) (value_of l.pages true found)
+  step_at (Birth at) found = names l found
+  step_at Store found = ends answer.Done
+  step_at Number found = ends (answer.Fault fault.Kind)
+
+-- the step that it asks for, and what that step does where it found this
+abbrev pub asks : Layout → (held : Value) → Global → Ask
+asks l held x = asks_at l held x x.stage
+
+abbrev pub step : Layout → (held : Value) → Global → (found : ℕ) → Step Global
+step l held x found = step_at l held x x.stage found
+
+-- the operation, until it has acted
+abbrev pub unacted : Global → GlobalStage → Option Op
+unacted x (Birth at) = None
+unacted x stage = Some (op_in x stage)

@@ -1,0 +1,92 @@
+//! What the words tell that a load or a store reads: the slot of an object, the kind of a field, and its
+//! value.
+//!
+//! An index that a word of the heap told is taken modulo the words of its row. So every step is on a word
+//! that there is, whatever was found.
+
+ghost use Rattle.std.specs.Prelude.{◌≡◌, ◌≤◌};
+ghost use Rattle.gh_base.specs.Cells.{InRange};
+ghost use Rattle.gh_mutator.specs.Fields.{birth_cell, field_cell, has_field, is_pointer_by, kinds_differ, page_cell, value_of, word_of_value};
+ghost use Rattle.gh_mutator.specs.Sound.{IsNear};
+
+use gh_base::{Cell, Layout, Machine, PageWord, Value};
+use gh_bitmap::ReadPointer;
+
+/// The word of the page in which heap word `at` lies.
+pub(crate) fn page_cell(layout: &Layout, at: u32) -> Cell
+    ensures is { result ≡ page_cell layout.now at }
+    ensures within { InRange layout.now result }
+{
+    Cell::Page(at / 1024 % layout.pages)
+}
+
+/// Heap word `x`.
+pub(crate) fn field_cell(layout: &Layout, x: u32) -> Cell
+    ensures is { result ≡ field_cell layout.now x }
+    ensures within { InRange layout.now result }
+{
+    Cell::Field(x % (1024 * layout.pages))
+}
+
+/// The birth word of the object whose first heap word is `at`.
+pub(crate) fn birth_cell(layout: &Layout, at: u32) -> Cell
+    ensures is { result ≡ birth_cell layout.now at }
+    ensures within { InRange layout.now result }
+{
+    Cell::Birth(at % (1024 * layout.pages))
+}
+
+/// The object whose page word was found has a field `k`.
+pub(crate) fn has_field(k: u32, found: u64) -> bool
+    ensures { result ≡ has_field k found }
+{
+    k < PageWord::unpack(found).slot_words()
+}
+
+/// Heap word `at` is a pointer field, by the word of the bitmap that was found.
+pub(crate) fn is_pointer_by(layout: &Layout, at: u32, found: u64) -> bool
+    ensures { result ≡ is_pointer_by layout.now at found }
+{
+    let mut reader = ReadPointer::new(layout, at);
+    match reader.take(found) {
+        Some(pointer) => pointer,
+        None => false,
+    }
+}
+
+/// A found word as a value: of a pointer field nil or a reference to a word of the heap, else a number.
+pub(crate) fn value_of(pages: u32, pointer: bool, found: u64) -> Value
+    requires some { 1 ≤ pages }
+    requires few { pages ≤ 1024 }
+    ensures is { result ≡ value_of pages pointer found }
+    ensures near { IsNear pages result }
+{
+    if !pointer {
+        Value::Int(found)
+    } else if found == 0 {
+        Value::Nil
+    } else {
+        Value::Ref((found - 1) % (1024 * u64::from(pages)) + 1)
+    }
+}
+
+/// The word that a value is written as.
+pub(crate) fn word_of_value(value: Value) -> u64
+    ensures { result ≡ word_of_value value }
+{
+    match value {
+        Value::Nil => 0,
+        Value::Int(number) => number,
+        Value::Ref(reference) => reference,
+    }
+}
+
+/// A pointer field meets a number, or a number field nil or a reference.
+pub(crate) fn kinds_differ(pointer: bool, value: Value) -> bool
+    ensures { result ≡ kinds_differ pointer value }
+{
+    match value {
+        Value::Int(_) => pointer,
+        _ => !pointer,
+    }
+}

@@ -1,0 +1,83 @@
+//! What the processor is at: nothing, or a statement of a goroutine, or an operation of its own.
+
+ghost use Rattle.std.specs.Prelude.{◌≡◌};
+
+use crate::global::Global;
+use crate::load::Load;
+use crate::new::New;
+use crate::own::Own;
+use crate::register::Register;
+use crate::store::Store;
+
+/// What the processor is at. Each statement is a small machine, in the file of its name.
+#[derive(Drop)]
+pub enum Task<'s> {
+    /// Nothing is begun.
+    Idle,
+    /// It has left.
+    Left,
+    /// The load of a field.
+    Load(Load),
+    /// The store of a field.
+    Store(Store),
+    /// The load or the store of a global.
+    Global(Global),
+    /// A statement on registers alone.
+    Register(Register),
+    /// A new object.
+    New(New<'s>),
+    /// An operation of its own.
+    Own(Own),
+}
+
+/// A statement whose steps change no more than its register.
+pub(crate) trait Statement<'s> {
+    ghost use Rattle.std.specs.Prelude.{◌≡◌};
+    ghost use Rattle.gh_mutator.specs.declared.task.Task.{Task};
+
+    ghost as_task: { Self → Task };
+
+    /// The task of a processor that runs it.
+    fn as_task(self) -> Task<'s>
+        ensures { result ≡ as_task self };
+}
+
+impl<'s> Statement<'s> for Load {
+    ghost use Rattle.gh_mutator.specs.declared.task.Task.TheVariants as task;
+
+    ghost as_task = { task.Load };
+
+    fn as_task(self) -> Task<'s> {
+        Task::Load(self)
+    }
+}
+
+impl<'s> Statement<'s> for Store {
+    ghost use Rattle.gh_mutator.specs.declared.task.Task.TheVariants as task;
+
+    ghost as_task = { task.Store };
+
+    fn as_task(self) -> Task<'s> {
+        Task::Store(self)
+    }
+}
+
+impl<'s> Statement<'s> for Global {
+    ghost use Rattle.gh_mutator.specs.declared.task.Task.TheVariants as task;
+
+    ghost as_task = { task.Global };
+
+    fn as_task(self) -> Task<'s> {
+        Task::Global(self)
+    }
+}
+
+impl<'s> Statement<'s> for Register {
+    ghost use Rattle.gh_mutator.specs.declared.task.Task.TheVariants as task;
+
+    ghost as_task = { task.Register };
+
+    fn as_task(self) -> Task<'s> {
+        Task::Register(self)
+    }
+}
