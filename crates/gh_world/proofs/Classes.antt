@@ -1,9 +1,13 @@
 -- Facts of the table of size classes, each computed over all 25.
-use Rattle.std.proofs.Common.{◌≡◌, ℕ, zero, suc, ◌+◌, ◌*◌, ◌/◌, ◌<◌, ◌≤◌, Bool, true, false, leb, eqb, refl, subst, arith}
+use Rattle.std.proofs.Common.{◌≡◌, ℕ, zero, suc, ◌+◌, ◌*◌, ◌/◌, ◌<◌, ◌≤◌, ◌≢◌, Bool, true, false, cond, leb, eqb, refl, subst, arith}
 use Rattle.std.specs.Prelude.{◌&&◌, nat_le, nat_lt}
 use Rattle.std.proofs.lemmas.Bool.{leb-true, ltb-true, eqb-true, lt-leb}
 use Rattle.std.proofs.lemmas.Bool.Decides.{nat_tests}
-use Rattle.gh_class.specs.Classes.{slot_sizes, page_counts, slot_of, pages_of, slots_of, class_number, slot_words, large_pages}
+use Rattle.gh_base.specs.Packing.{slot_for}
+use Rattle.gh_class.specs.declared.class.SizeClass.{SizeClass}
+use Rattle.gh_class.specs.declared.class.SizeClass.TheVariants as size
+use Rattle.gh_class.specs.Classes.{slot_sizes, page_counts, slot_of, pages_of, slots_of, class_number, slot_words, large_pages, IsSizeClass}
+use Rattle.gh_world.specs.Stands.{number_of, is_own_class}
 
 -- the test holds of each number below n
 abbrev all_below : (ℕ → Bool) → ℕ → Bool
@@ -78,3 +82,30 @@ large_words words large =
     let not_small : leb (8 * words) 32768 ≡ false = lt-leb (8 * words) 32768 (omega arith) in
     let is : slot_words words ≡ 1024 * ((words + 1023) / 1024) = rw not_small refl in
     (omega (arith, is), omega (arith, is), omega (arith, is), omega (arith, is))
+
+-- Size classes, small and large.
+
+pub own_class : (c : SizeClass) → is_own_class c ≡ true → c ≡ size.Large
+own_class (size.Small c) e = absurd cc
+own_class size.Large e = refl
+
+pub small_not_own : (c : SizeClass) → is_own_class c ≡ false → c ≢ size.Large
+small_not_own (size.Small c) e q = absurd (cc)
+small_not_own size.Large e q = absurd (cc)
+
+pub not_own : (c : SizeClass) → c ≢ size.Large → is_own_class c ≡ false
+not_own (size.Small c) ne = refl
+not_own size.Large ne = absurd (ne refl)
+
+pub small_class_is : (c : SizeClass) → c ≢ size.Large → c ≡ size.Small (number_of c)
+small_class_is (size.Small c) ne = refl
+small_class_is size.Large ne = absurd (ne refl)
+
+pub small_class_below : (c : SizeClass) → IsSizeClass c → c ≢ size.Large → number_of c < 25
+small_class_below (size.Small c) h ne = h
+small_class_below size.Large h ne = absurd (ne refl)
+
+-- the words of a slot, by whether the span is a large object's
+pub slot_for_is : (c : SizeClass) (n : ℕ) → slot_for c n ≡ cond (is_own_class c) (1024 * n) (slot_of (number_of c) / 8)
+slot_for_is (size.Small c) n = refl
+slot_for_is size.Large n = refl

@@ -3,48 +3,41 @@ use Rattle.std.proofs.Common.{◌≡◌, ℕ, ◌+◌, ◌*◌, ◌%◌, true, L
 use Rattle.std.proofs.lemmas.List.{length-replicate}
 use Rattle.std.proofs.lemmas.Nat.Bits.{bit_at-zero}
 use Rattle.gh_base.specs.declared.value.Value.TheVariants as value
-use Rattle.gh_base.specs.declared.shape.Shape.{Shape}
-use Rattle.gh_base.specs.declared.layout.Layout.{Layout}
-use Rattle.gh_base.specs.Cells.{opening_words}
-use Rattle.gh_base.specs.Packing.{bit}
-use Rattle.gh_model.specs.Ever.{opening_ever}
-use Rattle.gh_bitmap.specs.Bits.{row_bit}
-use Rattle.gh_alloc.specs.declared.find.CachedSpan.{CachedSpan}
-use Rattle.gh_mutator.specs.declared.point.Point.{Point}
-use Rattle.gh_mutator.specs.declared.point.Point.TheVariants.{Idle, Left, Touch, LoadPage, LoadBits, LoadField, LoadBirth, StorePage, StoreBits, StoreField, GlobalLoad, GlobalStore, Find, Place, End, Leave}
+use Rattle.gh_world.specs.Vocabulary.{Shape, Layout, opening_words, bit, opening_ever, CachedSpan, Task, NewStage, Find, Place, Wanted, is_busy_at, opening_processor}
+use Rattle.gh_base.specs.Rows.{row_bit}
+use Rattle.gh_mutator.specs.declared.task.Task.TheVariants as task
 use Rattle.gh_world.specs.Law.{EveryListStands}
-use Rattle.gh_world.specs.Points.{ShapesGood}
+use Rattle.gh_world.specs.Facts.{ShapesGood}
 use Rattle.gh_world.specs.Stands.{alloc_row}
 use Rattle.gh_world.proofs.Reading.{read_replicate}
 use Rattle.gh_world.proofs.Step.{Holding, Laws, StepAt}
-use Rattle.gh_world.proofs.Whole.{every_list_stands}
+use Rattle.gh_world.proofs.Whole.{Steps, every_list_stands}
 use Rattle.gh_world.proofs.Beginning.{begin_any}
 use Rattle.gh_world.proofs.FindSteps.{step_find}
 use Rattle.gh_world.proofs.Making.{step_place}
-use Rattle.gh_world.proofs.Statements.{step_touch, step_load_page, step_load_bits, step_load_field, step_load_birth, step_store_page, step_store_bits, step_store_field, step_global_load, step_global_store, step_end, step_leave}
-use Rattle.gh_mutator.specs.Listing.{is_busy_at, opening_processor}
+use Rattle.gh_world.proofs.Global.{step_global}
+use Rattle.gh_world.proofs.Load.{step_load}
+use Rattle.gh_world.proofs.Own.{step_own}
+use Rattle.gh_world.proofs.Register.{step_register}
+use Rattle.gh_world.proofs.Store.{step_store}
 
 abbrev no_cached : Option CachedSpan
 no_cached = None
 
 module _ (shapes : List Shape) (l : Layout) (laws : Laws) where
-  step_any : (p : Point) → is_busy_at p ≡ true → StepAt shapes l p
-  step_any Idle busy = absurd cc
-  step_any Left busy = absurd cc
-  step_any (Touch o) busy = step_touch shapes l o
-  step_any (LoadPage d) busy = step_load_page shapes l d
-  step_any (LoadBits d) busy = step_load_bits shapes l d
-  step_any (LoadField d p) busy = step_load_field shapes l d p
-  step_any (LoadBirth a) busy = step_load_birth shapes l laws a
-  step_any (StorePage s) busy = step_store_page shapes l s
-  step_any (StoreBits s) busy = step_store_bits shapes l s
-  step_any (StoreField s) busy = step_store_field shapes l s
-  step_any (GlobalLoad g d k) busy = step_global_load shapes l g d k
-  step_any (GlobalStore g k v) busy = step_global_store shapes l g k v
-  step_any (Find w f) busy = step_find shapes l laws w f
-  step_any (Place w p) busy = step_place shapes l laws w p
-  step_any (End g) busy = step_end shapes l g
-  step_any Leave busy = step_leave shapes l
+  step_new : (w : Wanted) (s : NewStage) → StepAt shapes l (task.New (record { wanted = w; stage = s }))
+  step_new w (Find f) = step_find shapes l laws w f
+  step_new w (Place p) = step_place shapes l laws w p
+
+  step_any : (t : Task) → is_busy_at t ≡ true → StepAt shapes l t
+  step_any task.Idle busy = absurd cc
+  step_any task.Left busy = absurd cc
+  step_any (task.Load x) busy = step_load shapes l laws x
+  step_any (task.Store x) busy = step_store shapes l x
+  step_any (task.Global x) busy = step_global shapes l laws x
+  step_any (task.Register x) busy = step_register shapes l x
+  step_any (task.New x) busy = step_new x.wanted x.stage
+  step_any (task.Own x) busy = step_own shapes l x
 
   no_bit : (trigger x : ℕ) → row_bit (alloc_row (opening_words trigger)) x ≡ 1 → ⊥
   unfolding row_bit
@@ -63,6 +56,7 @@ module _ (shapes : List Shape) (l : Layout) (laws : Laws) where
             made = length-replicate {A = ℕ} 32 0;
             cache = length-replicate 50 no_cached;
             arena = refl;
+            names = refl;
             some = let low = pages.0 in omega arith;
             most = pages.1;
             few = goroutines.1;
@@ -86,11 +80,14 @@ module _ (shapes : List Shape) (l : Layout) (laws : Laws) where
         pends = tt;
       }
 
-  -- whatever the processor does, and in whatever order its operations come, the words stand for the heap that never frees, and it answers what that heap answers
-  pub every_list : ShapesGood shapes → (trigger : ℕ) → EveryListStands shapes l (opening_words trigger)
-  every_list sg trigger = every_list_stands shapes l (opening_words trigger) laws (record {
+  pub all_steps : ShapesGood shapes → (trigger : ℕ) → Steps shapes l (opening_words trigger)
+  all_steps sg trigger = record {
     shapes_good = sg;
     step = step_any;
     begin = begin_any shapes l sg;
     opens = opens trigger;
-  })
+  }
+
+  -- whatever the processor does, and in whatever order its operations come, the words stand for the heap that never frees, and it answers what that heap answers
+  pub every_list : ShapesGood shapes → (trigger : ℕ) → EveryListStands shapes l (opening_words trigger)
+  every_list sg trigger = every_list_stands shapes l (opening_words trigger) laws (all_steps sg trigger)

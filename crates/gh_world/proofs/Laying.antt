@@ -5,19 +5,19 @@ use Rattle.std.proofs.lemmas.Bool.Decides.{nat_tests}
 use Rattle.gh_base.specs.declared.pack.SpanHead.{SpanHead}
 use Rattle.gh_base.specs.declared.pack.SpanBody.{SpanBody}
 use Rattle.gh_base.specs.declared.pack.PageWord.TheVariants as page
-use Rattle.gh_base.specs.declared.pack.TheConstants.{LARGE}
+use Rattle.gh_class.specs.declared.class.SizeClass.TheVariants as size
 use Rattle.gh_base.specs.declared.shape.Shape.{Shape}
-use Rattle.gh_base.specs.Packing.{IsClass, page_of}
-use Rattle.gh_class.specs.Classes.{pages_of}
-use Rattle.gh_mutator.specs.declared.point.Wanted.{Wanted}
-use Rattle.gh_world.specs.Stands.{IsSpan, SpansGood, IsSlot}
-use Rattle.gh_world.specs.Points.{span_body, LaidOut}
+use Rattle.gh_base.specs.Packing.{page_of}
+use Rattle.gh_class.specs.Classes.{pages_of, IsSizeClass}
+use Rattle.gh_mutator.specs.declared.new.Wanted.{Wanted}
+use Rattle.gh_world.specs.Stands.{number_of, IsSpan, SpansGood, IsSlot}
+use Rattle.gh_world.specs.Facts.{span_body, LaidOut, needs}
 use Rattle.gh_world.proofs.Spans.{page_in_span}
-use Rattle.gh_bitmap.specs.Bits.{Row}
+use Rattle.gh_base.specs.Rows.{Row}
 
 -- what the first page of a span for such objects says
 abbrev pub head_for : Wanted → (owner number : ℕ) → SpanHead
-head_for w owner number = record { class = w.class; noscan = w.noscan; pages = w.pages; owner = owner; number = number }
+head_for w owner number = record { class = (needs w).class; noscan = (needs w).noscan; pages = (needs w).pages; owner = owner; number = number }
 
 -- the pages once page q has the word w
 abbrev pub with_page : Row → ℕ → ℕ → Row
@@ -72,7 +72,7 @@ module _ (pages : ℕ) (row : Row) (q w : ℕ) where
 
 module _ (pages globals goroutines : ℕ) (shapes : List Shape) (row : Row) (w : Wanted) (first : ℕ) where
   -- the further pages are laid out one by one
-  pub laid_out_more : (i x : ℕ) → 0 < i → i < w.pages → page_of x ≡ page.Body (span_body w i) → LaidOut pages globals goroutines shapes row w first i → LaidOut pages globals goroutines shapes (with_page row (first + i) x) w first (i + 1)
+  pub laid_out_more : (i x : ℕ) → 0 < i → i < (needs w).pages → page_of x ≡ page.Body (span_body w i) → LaidOut pages globals goroutines shapes row w first i → LaidOut pages globals goroutines shapes (with_page row (first + i) x) w first (i + 1)
   laid_out_more i x some more is o = record {
     within = o.within;
     head = ap page_of (other_page row (first + i) x first (λ e. omega arith)) ∙ o.head;
@@ -84,8 +84,8 @@ module _ (pages globals goroutines : ℕ) (shapes : List Shape) (row : Row) (w :
     go d low high false e = let ne : i ≢ d = grind (arith, nat_tests) in ap page_of (other_page row (first + i) x (first + d) (λ f. ne (omega arith))) ∙ o.written d low (omega arith)
 
   -- the head is written last: the pages are a span
-  pub laid_out_span : (owner number x : ℕ) → page_of x ≡ page.Head (head_for w owner number) → IsClass w.class → 1 ≤ w.pages → (w.class ≢ LARGE → w.pages ≡ pages_of w.class) →
-      LaidOut pages globals goroutines shapes row w first w.pages → IsSpan pages (with_page row first x) first (head_for w owner number)
+  pub laid_out_span : (owner number x : ℕ) → page_of x ≡ page.Head (head_for w owner number) → IsSizeClass (needs w).class → 1 ≤ (needs w).pages → ((needs w).class ≢ size.Large → (needs w).pages ≡ pages_of (number_of (needs w).class)) →
+      LaidOut pages globals goroutines shapes row w first (needs w).pages → IsSpan pages (with_page row first x) first (head_for w owner number)
   laid_out_span owner number x is class some small o = record {
     head = ap page_of (written_page row first x) ∙ is;
     body = λ d low high. ap page_of (other_page row first x (first + d) (λ e. omega arith)) ∙ o.written d low high;
@@ -95,8 +95,8 @@ module _ (pages globals goroutines : ℕ) (shapes : List Shape) (row : Row) (w :
     small = small;
   }
 
-  pub head_spans : (owner number x : ℕ) → page_of x ≡ page.Head (head_for w owner number) → IsClass w.class → 1 ≤ w.pages → (w.class ≢ LARGE → w.pages ≡ pages_of w.class) →
-      LaidOut pages globals goroutines shapes row w first w.pages → SpansGood pages row → SpansGood pages (with_page row first x)
+  pub head_spans : (owner number x : ℕ) → page_of x ≡ page.Head (head_for w owner number) → IsSizeClass (needs w).class → 1 ≤ (needs w).pages → ((needs w).class ≢ size.Large → (needs w).pages ≡ pages_of (number_of (needs w).class)) →
+      LaidOut pages globals goroutines shapes row w first (needs w).pages → SpansGood pages row → SpansGood pages (with_page row first x)
   head_spans owner number x is class some small o good p h lt e = elim (head_before pages row first x p h e) [
     | inl y ↦
         let own = laid_out_span owner number x is class some small o in

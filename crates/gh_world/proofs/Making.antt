@@ -4,56 +4,43 @@ use Rattle.std.specs.Prelude.{slice_set, bit_or}
 use Rattle.std.specs.Option.{option_to_list}
 use Rattle.std.proofs.lemmas.Bool.{eqb-true, eq-eqb, ne_eqb}
 use Rattle.std.proofs.lemmas.Bool.Decides.{nat_tests}
-use Rattle.gh_base.specs.declared.value.Name.{Name}
-use Rattle.gh_base.specs.declared.value.Value.{Value}
+use Rattle.gh_world.specs.Vocabulary.{Name, Value, Answer, Shape, shape_at, is_pointer, Layout, SpanHead, SpanBody, SizeClass, bit, page_of, birth_word, head_word, IsSizeClass, Words, put, cell_of, EverValue, Ever, same_name, with_register, shape_of, field_count, Row, PointerSetting, owned_by, CachedSpan, PlaceStage, Placing, Wanted, Processor, Task, Idle, most_objects, asks_at, is_made, made_object, makes, next_of, own_span, at_task, made_by, Sought, Small, Large, span_for}
 use Rattle.gh_base.specs.declared.value.Value.TheVariants as value
-use Rattle.gh_base.specs.declared.value.Answer.{Answer}
 use Rattle.gh_base.specs.declared.value.Answer.TheVariants as answer
-use Rattle.gh_base.specs.declared.shape.Shape.{Shape}
-use Rattle.gh_base.specs.Shapes.{shape_at, is_pointer}
-use Rattle.gh_base.specs.declared.layout.Layout.{Layout}
-use Rattle.gh_base.specs.declared.pack.SpanHead.{SpanHead}
-use Rattle.gh_base.specs.declared.pack.SpanBody.{SpanBody}
 use Rattle.gh_base.specs.declared.pack.PageWord.TheVariants as page
-use Rattle.gh_base.specs.declared.pack.TheConstants.{LARGE}
-use Rattle.gh_base.specs.Packing.{IsClass, bit, page_of, birth_word, head_word}
+use Rattle.gh_class.specs.declared.class.SizeClass.TheVariants as size
 use Rattle.gh_class.specs.Classes.{pages_of}
-use Rattle.gh_base.specs.Cells.{Words, put}
-use Rattle.gh_base.specs.Steps.{cell_of}
 use Rattle.gh_base.specs.declared.cell.Cell.TheVariants as cell
-use Rattle.gh_model.specs.declared.EverValue.{EverValue}
 use Rattle.gh_model.specs.declared.EverValue.TheVariants as ever
-use Rattle.gh_model.specs.Ever.{Ever, same_name, next_name, first_value, with_object, with_register, shape_of, field_count}
-use Rattle.gh_bitmap.specs.Bits.{Row, row_bit, bitmap_row}
-use Rattle.gh_bitmap.specs.Setting.{Setting}
-use Rattle.gh_central.specs.Giving as giving
-use Rattle.gh_central.specs.Listing.{owned_by}
-use Rattle.gh_alloc.specs.declared.find.CachedSpan.{CachedSpan}
-use Rattle.gh_alloc.specs.declared.place.PlacePoint.{PlacePoint}
-use Rattle.gh_alloc.specs.declared.place.PlacePoint.TheVariants as make
-use Rattle.gh_alloc.specs.Placing.{Placing}
-use Rattle.gh_alloc.specs.Placing as placed
-use Rattle.gh_mutator.specs.declared.point.Wanted.{Wanted}
-use Rattle.gh_mutator.specs.declared.point.Processor.{Processor}
-use Rattle.gh_mutator.specs.declared.point.Point.{Point}
-use Rattle.gh_mutator.specs.declared.point.Point.TheVariants.{Idle, Place}
-use Rattle.gh_mutator.specs.Listing.{asks_at, is_large, is_made, at_point, made_by, made_object, next_of, new_op, span_head}
-use Rattle.gh_mutator.specs.Sound.{most_objects}
-use Rattle.gh_world.specs.Stands.{pages_row, alloc_row, slot_count, slot_size, body_at, IsSpan, IsSlot, IsMade, size_of, Holds, Means}
-use Rattle.gh_world.specs.Points.{Good, WantsName, BitsBelow, Born, OwnSpan, Fresh, IsNamed, ShapesGood}
+use Rattle.gh_model.specs.Ever.{next_name, first_value, with_object}
+use Rattle.gh_base.specs.Rows.{row_bit, RowsAreWritten, bitmap_words as bitmap_row}
+use Rattle.gh_central.specs.GiveBack as giving
+use Rattle.gh_alloc.specs.declared.place.PlaceStage.TheVariants as make
+use Rattle.gh_alloc.specs.Place as placed
+use Rattle.gh_world.specs.Stands.{pages_row, alloc_row, slot_count, slot_size, body_at, IsSpan, IsSlot, IsMade, size_of, Holds, Means, number_of}
+use Rattle.gh_world.specs.Facts.{Good, WantsName, BitsBelow, Born, OwnSpan, Fresh, IsNamed, ShapesGood, is_large, span_head, is_own}
 use Rattle.gh_world.proofs.Step.{Laws, Keeps, StepAt}
 use Rattle.gh_world.proofs.Keeping.{fine_here, keeps_from, not_full, act_of, has_room}
 use Rattle.gh_world.proofs.Frames.{good_at, good_register, good_heap, same_name_is, same_name_here}
 use Rattle.gh_world.proofs.Spans.{same_span}
-use Rattle.gh_world.proofs.BitRows.{set_one, set_one_other}
 use Rattle.gh_world.proofs.Laying.{with_page, written_page, other_page}
 use Rattle.gh_world.proofs.Wanting.{WantedGood}
 use Rattle.gh_world.proofs.Placing.{made_at, FineMaking, KeepsMaking, step_clear, step_birth, step_bits}
 use Rattle.gh_world.proofs.Caching.{wanted_here}
+use Rattle.gh_mutator.specs.New.{op_of as new_op}
 
--- the new object has its place
+-- the span of a large object, and that a small one has none
+span_by : (seat generation : ℕ) (x : Sought) → is_own x ≡ true → own_span seat generation x ≡ Some (record { class = (span_for x).class; noscan = (span_for x).noscan; pages = (span_for x).pages; owner = seat + 1; number = generation })
+span_by seat generation (Small c) e = absurd (cc)
+span_by seat generation (Large pages noscan) e = refl
+
+no_span_by : (seat generation : ℕ) (x : Sought) → is_own x ≡ false → own_span seat generation x ≡ None
+no_span_by seat generation (Small c) e = refl
+no_span_by seat generation (Large pages noscan) e = absurd (cc)
+
+-- the new object has its address
 abbrev placed_at : (Name → ℕ) → Name → ℕ → Name → ℕ
-placed_at place n a x = cond (same_name x n) a (place x)
+placed_at address n a x = cond (same_name x n) a (address x)
 
 module _ (shapes : List Shape) (e : Ever) (g t : ℕ) where
   -- which objects are made then
@@ -96,21 +83,21 @@ module _ (shapes : List Shape) (e : Ever) (g t : ℕ) where
   field_old : (x : Name) (k : ℕ) → same_name x (next_name e g) ≡ false → (with_object shapes e g t).field x k ≡ e.field x k
   field_old x k f = ap (λ (b : Bool). cond b (first_value (is_pointer (shape_at shapes t) k)) (e.field x k)) f
 
-  module _ (place : Name → ℕ) (a : ℕ) where
-    at_new : placed_at place (next_name e g) a (next_name e g) ≡ a
-    at_new = ap (λ (b : Bool). cond b a (place (next_name e g))) (same_name_here (next_name e g))
+  module _ (address : Name → ℕ) (a : ℕ) where
+    at_new : placed_at address (next_name e g) a (next_name e g) ≡ a
+    at_new = ap (λ (b : Bool). cond b a (address (next_name e g))) (same_name_here (next_name e g))
 
-    at_old : (x : Name) → same_name x (next_name e g) ≡ false → placed_at place (next_name e g) a x ≡ place x
-    at_old x f = ap (λ (b : Bool). cond b a (place x)) f
+    at_old : (x : Name) → same_name x (next_name e g) ≡ false → placed_at address (next_name e g) a x ≡ address x
+    at_old x f = ap (λ (b : Bool). cond b a (address x)) f
 
-    holds_more : (p : Bool) (v : EverValue) (word : ℕ) → Holds place e p v word → Holds (placed_at place (next_name e g) a) (with_object shapes e g t) p v word
+    holds_more : (p : Bool) (v : EverValue) (word : ℕ) → Holds address e p v word → Holds (placed_at address (next_name e g) a) (with_object shapes e g t) p v word
     holds_more p ever.Nil word h = h
     holds_more p (ever.Int x) word h = h
     holds_more p (ever.Ref n) word h =
         let w = was_made n h.2 in
         (h.0, h.1 ∙ ap (λ (y : ℕ). y + 1) (sym (at_old n w.0)), w.1)
 
-    means_more : (v : EverValue) (x : Value) → Means place e v x → Means (placed_at place (next_name e g) a) (with_object shapes e g t) v x
+    means_more : (v : EverValue) (x : Value) → Means address e v x → Means (placed_at address (next_name e g) a) (with_object shapes e g t) v x
     means_more ever.Nil value.Nil h = tt
     means_more (ever.Int v) (value.Int w) h = h
     means_more (ever.Ref n) (value.Ref r) h =
@@ -125,7 +112,7 @@ module _ (shapes : List Shape) (e : Ever) (g t : ℕ) where
 
 module _ (shapes : List Shape) (l : Layout) where
   abbrev Fits : Words → (Name → ℕ) → Ever → Processor → Type 0
-  Fits words place e m = Good l.pages l.globals l.goroutines shapes words place e m
+  Fits words address e m = Good l.pages l.globals l.goroutines shapes words address e m
 
   -- one more object was made
   abbrev counted : Processor → ℕ → Processor
@@ -138,64 +125,64 @@ module _ (shapes : List Shape) (l : Layout) where
   made_other m g h ne = rw get_or-set_other refl
 
   -- the object is there once its alloc bit is set
-  good_made : (words : Words) (place : Name → ℕ) (e : Ever) (m : Processor) (w : Wanted) (a : ℕ) → WantedGood (shape_at shapes w.t) w → WantsName l.pages l.globals l.goroutines shapes m w → Born l.pages l.globals l.goroutines shapes words place e m w a → BitsBelow l.pages l.globals l.goroutines shapes (bitmap_row words) w a (a + w.slot) → Fits words place e m →
-      Fits (put words (cell.Alloc (a / 64)) (bit_or (words (cell.Alloc (a / 64))) (2 ^ (a % 64)))) (placed_at place (next_name e w.g) a) (with_object shapes e w.g w.t) (counted m w.g)
-  good_made words place e m w a wg wants born bits good =
+  good_made : RowsAreWritten → (words : Words) (address : Name → ℕ) (e : Ever) (m : Processor) (w : Wanted) (a : ℕ) → WantedGood (shape_at shapes w.t) w → WantsName l.pages l.globals l.goroutines shapes m w → Born l.pages l.globals l.goroutines shapes words address e m w a → BitsBelow l.pages l.globals l.goroutines shapes (bitmap_row words) w a (a + w.slot) → Fits words address e m →
+      Fits (put words (cell.Alloc (a / 64)) (bit_or (words (cell.Alloc (a / 64))) (2 ^ (a % 64)))) (placed_at address (next_name e w.g) a) (with_object shapes e w.g w.t) (counted m w.g)
+  good_made rows words address e m w a wg wants born bits good =
       let s = good.sizes in
       record {
-        sizes = record { registers = s.registers; made = rw length-set s.made; cache = s.cache; arena = s.arena; some = s.some; most = s.most; few = s.few; seat = s.seat; generation = s.generation };
+        sizes = record { registers = s.registers; made = rw length-set s.made; cache = s.cache; arena = s.arena; names = s.names; some = s.some; most = s.most; few = s.few; seat = s.seat; generation = s.generation };
         spans = good.spans;
         slots = record { is_slot = λ x made. slot x (made_cases shapes e w.g w.t x made); is_set = λ x made. set x (made_cases shapes e w.g w.t x made); only = λ x lt bit. only x lt bit (eqb a x) refl };
         births = λ x made. birth x (made_cases shapes e w.g w.t x made);
         bitmap = λ x k made lk. pointers x k (made_cases shapes e w.g w.t x made) lk;
         fields = λ x k made lk. field x k (made_cases shapes e w.g w.t x made) lk;
-        globals_hold = λ k lk. holds_more shapes e w.g w.t place a true (e.global k) (words (cell.Global k)) (good.globals_hold k lk);
-        registers = λ g d lg ld. means_more shapes e w.g w.t place a (e.register g d) _ (good.registers g d lg ld);
+        globals_hold = λ k lk. holds_more shapes e w.g w.t address a true (e.global k) (words (cell.Global k)) (good.globals_hold k lk);
+        registers = λ g d lg ld. means_more shapes e w.g w.t address a (e.register g d) _ (good.registers g d lg ld);
         made = λ g lg. counts g lg (eqb g w.g) refl;
         few = λ g. few g (eqb g w.g) refl;
         none = λ g le. none g le (eqb g w.g) refl;
         cache = good.cache;
         owners = good.owners;
       } where
-        slot : (x : Name) → (x ≡ next_name e w.g) ⊎ (IsMade e x × (same_name x (next_name e w.g) ≡ false)) → IsSlot l.pages (pages_row words) (placed_at place (next_name e w.g) a x) (size_of shapes (with_object shapes e w.g w.t) x)
+        slot : (x : Name) → (x ≡ next_name e w.g) ⊎ (IsMade e x × (same_name x (next_name e w.g) ≡ false)) → IsSlot l.pages (pages_row words) (placed_at address (next_name e w.g) a x) (size_of shapes (with_object shapes e w.g w.t) x)
         slot x (inl q) =
             let size : size_of shapes (with_object shapes e w.g w.t) (next_name e w.g) ≡ w.slot = ap field_count (shape_new shapes e w.g w.t) ∙ wg.count in
-            subst (λ (y : Name). IsSlot l.pages (pages_row words) (placed_at place (next_name e w.g) a y) (size_of shapes (with_object shapes e w.g w.t) y)) (sym q)
-            (rw (at_new shapes e w.g w.t place a, size) born.clearing.is_slot)
-        slot x (inr q) = rw (at_old shapes e w.g w.t place a x q.1, ap field_count (shape_old shapes e w.g w.t x q.1)) (good.slots.is_slot x q.0)
+            subst (λ (y : Name). IsSlot l.pages (pages_row words) (placed_at address (next_name e w.g) a y) (size_of shapes (with_object shapes e w.g w.t) y)) (sym q)
+            (rw (at_new shapes e w.g w.t address a, size) born.clearing.is_slot)
+        slot x (inr q) = rw (at_old shapes e w.g w.t address a x q.1, ap field_count (shape_old shapes e w.g w.t x q.1)) (good.slots.is_slot x q.0)
 
-        set : (x : Name) → (x ≡ next_name e w.g) ⊎ (IsMade e x × (same_name x (next_name e w.g) ≡ false)) → row_bit (alloc_row (put words (cell.Alloc (a / 64)) (bit_or (words (cell.Alloc (a / 64))) (2 ^ (a % 64))))) (placed_at place (next_name e w.g) a x) ≡ 1
-        set x (inl q) = subst (λ (y : Name). row_bit (alloc_row (put words (cell.Alloc (a / 64)) (bit_or (words (cell.Alloc (a / 64))) (2 ^ (a % 64))))) (placed_at place (next_name e w.g) a y) ≡ 1) (sym q) (rw (at_new shapes e w.g w.t place a) (set_one (alloc_row words) a))
-        set x (inr q) = rw (at_old shapes e w.g w.t place a x q.1) (set_one_other (alloc_row words) a (place x) (born.clearing.is_clear x q.0) ∙ good.slots.is_set x q.0)
+        set : (x : Name) → (x ≡ next_name e w.g) ⊎ (IsMade e x × (same_name x (next_name e w.g) ≡ false)) → row_bit (alloc_row (put words (cell.Alloc (a / 64)) (bit_or (words (cell.Alloc (a / 64))) (2 ^ (a % 64))))) (placed_at address (next_name e w.g) a x) ≡ 1
+        set x (inl q) = subst (λ (y : Name). row_bit (alloc_row (put words (cell.Alloc (a / 64)) (bit_or (words (cell.Alloc (a / 64))) (2 ^ (a % 64))))) (placed_at address (next_name e w.g) a y) ≡ 1) (sym q) (rw (at_new shapes e w.g w.t address a) (rows.sets_one (alloc_row words) a))
+        set x (inr q) = rw (at_old shapes e w.g w.t address a x q.1) (rows.sets_no_other (alloc_row words) a (address x) (born.clearing.is_clear x q.0) ∙ good.slots.is_set x q.0)
 
-        birth : (x : Name) → (x ≡ next_name e w.g) ⊎ (IsMade e x × (same_name x (next_name e w.g) ≡ false)) → words (cell.Birth (placed_at place (next_name e w.g) a x)) ≡ birth_word x
+        birth : (x : Name) → (x ≡ next_name e w.g) ⊎ (IsMade e x × (same_name x (next_name e w.g) ≡ false)) → words (cell.Birth (placed_at address (next_name e w.g) a x)) ≡ birth_word x
         birth x (inl q) =
             let named : next_of m w ≡ next_name e w.g = same_name_is (next_of m w) (next_name e w.g) refl (good.made w.g wants.0.goroutine) in
-            subst (λ (y : Name). words (cell.Birth (placed_at place (next_name e w.g) a y)) ≡ birth_word y) (sym q) (rw (at_new shapes e w.g w.t place a) (born.birth ∙ ap birth_word named))
-        birth x (inr q) = rw (at_old shapes e w.g w.t place a x q.1) (good.births x q.0)
+            subst (λ (y : Name). words (cell.Birth (placed_at address (next_name e w.g) a y)) ≡ birth_word y) (sym q) (rw (at_new shapes e w.g w.t address a) (born.birth ∙ ap birth_word named))
+        birth x (inr q) = rw (at_old shapes e w.g w.t address a x q.1) (good.births x q.0)
 
-        pointers : (x : Name) (k : ℕ) → (x ≡ next_name e w.g) ⊎ (IsMade e x × (same_name x (next_name e w.g) ≡ false)) → k < size_of shapes (with_object shapes e w.g w.t) x → row_bit (bitmap_row words) (placed_at place (next_name e w.g) a x + k) ≡ bit (is_pointer (shape_of shapes (with_object shapes e w.g w.t) x) k)
+        pointers : (x : Name) (k : ℕ) → (x ≡ next_name e w.g) ⊎ (IsMade e x × (same_name x (next_name e w.g) ≡ false)) → k < size_of shapes (with_object shapes e w.g w.t) x → row_bit (bitmap_row words) (placed_at address (next_name e w.g) a x + k) ≡ bit (is_pointer (shape_of shapes (with_object shapes e w.g w.t) x) k)
         pointers x k (inl q) lk =
             let size : size_of shapes (with_object shapes e w.g w.t) (next_name e w.g) ≡ w.slot = ap field_count (shape_new shapes e w.g w.t) ∙ wg.count in
             let lk' : k < w.slot = rw (← size) (subst (λ (y : Name). k < size_of shapes (with_object shapes e w.g w.t) y) q lk) in
-            subst (λ (y : Name). row_bit (bitmap_row words) (placed_at place (next_name e w.g) a y + k) ≡ bit (is_pointer (shape_of shapes (with_object shapes e w.g w.t) y) k)) (sym q)
-            (rw (at_new shapes e w.g w.t place a, shape_new shapes e w.g w.t) (bits k lk' (omega arith)))
-        pointers x k (inr q) lk = rw (at_old shapes e w.g w.t place a x q.1, shape_old shapes e w.g w.t x q.1) (good.bitmap x k q.0 (rw (← ap field_count (shape_old shapes e w.g w.t x q.1)) lk))
+            subst (λ (y : Name). row_bit (bitmap_row words) (placed_at address (next_name e w.g) a y + k) ≡ bit (is_pointer (shape_of shapes (with_object shapes e w.g w.t) y) k)) (sym q)
+            (rw (at_new shapes e w.g w.t address a, shape_new shapes e w.g w.t) (bits k lk' (omega arith)))
+        pointers x k (inr q) lk = rw (at_old shapes e w.g w.t address a x q.1, shape_old shapes e w.g w.t x q.1) (good.bitmap x k q.0 (rw (← ap field_count (shape_old shapes e w.g w.t x q.1)) lk))
 
-        first : (k : ℕ) → k < w.slot → (b : Bool) → is_pointer (shape_at shapes w.t) k ≡ b → Holds (placed_at place (next_name e w.g) a) (with_object shapes e w.g w.t) b (first_value b) (words (cell.Field (a + k)))
+        first : (k : ℕ) → k < w.slot → (b : Bool) → is_pointer (shape_at shapes w.t) k ≡ b → Holds (placed_at address (next_name e w.g) a) (with_object shapes e w.g w.t) b (first_value b) (words (cell.Field (a + k)))
         first k lk true p = (refl, born.fields k lk)
         first k lk false p = (refl, born.fields k lk)
 
         field : (x : Name) (k : ℕ) → (x ≡ next_name e w.g) ⊎ (IsMade e x × (same_name x (next_name e w.g) ≡ false)) → k < size_of shapes (with_object shapes e w.g w.t) x →
-            Holds (placed_at place (next_name e w.g) a) (with_object shapes e w.g w.t) (is_pointer (shape_of shapes (with_object shapes e w.g w.t) x) k) ((with_object shapes e w.g w.t).field x k) (words (cell.Field (placed_at place (next_name e w.g) a x + k)))
+            Holds (placed_at address (next_name e w.g) a) (with_object shapes e w.g w.t) (is_pointer (shape_of shapes (with_object shapes e w.g w.t) x) k) ((with_object shapes e w.g w.t).field x k) (words (cell.Field (placed_at address (next_name e w.g) a x + k)))
         field x k (inl q) lk =
             let size : size_of shapes (with_object shapes e w.g w.t) (next_name e w.g) ≡ w.slot = ap field_count (shape_new shapes e w.g w.t) ∙ wg.count in
             let lk' : k < w.slot = rw (← size) (subst (λ (y : Name). k < size_of shapes (with_object shapes e w.g w.t) y) q lk) in
-            subst (λ (y : Name). Holds (placed_at place (next_name e w.g) a) (with_object shapes e w.g w.t) (is_pointer (shape_of shapes (with_object shapes e w.g w.t) y) k) ((with_object shapes e w.g w.t).field y k) (words (cell.Field (placed_at place (next_name e w.g) a y + k)))) (sym q)
-            (rw (at_new shapes e w.g w.t place a, shape_new shapes e w.g w.t, field_new shapes e w.g w.t k) (first k lk' (is_pointer (shape_at shapes w.t) k) refl))
+            subst (λ (y : Name). Holds (placed_at address (next_name e w.g) a) (with_object shapes e w.g w.t) (is_pointer (shape_of shapes (with_object shapes e w.g w.t) y) k) ((with_object shapes e w.g w.t).field y k) (words (cell.Field (placed_at address (next_name e w.g) a y + k)))) (sym q)
+            (rw (at_new shapes e w.g w.t address a, shape_new shapes e w.g w.t, field_new shapes e w.g w.t k) (first k lk' (is_pointer (shape_at shapes w.t) k) refl))
         field x k (inr q) lk =
-            rw (at_old shapes e w.g w.t place a x q.1, shape_old shapes e w.g w.t x q.1, field_old shapes e w.g w.t x k q.1)
-            (holds_more shapes e w.g w.t place a (is_pointer (shape_of shapes e x) k) (e.field x k) (words (cell.Field (place x + k))) (good.fields x k q.0 (rw (← ap field_count (shape_old shapes e w.g w.t x q.1)) lk)))
+            rw (at_old shapes e w.g w.t address a x q.1, shape_old shapes e w.g w.t x q.1, field_old shapes e w.g w.t x k q.1)
+            (holds_more shapes e w.g w.t address a (is_pointer (shape_of shapes e x) k) (e.field x k) (words (cell.Field (address x + k))) (good.fields x k q.0 (rw (← ap field_count (shape_old shapes e w.g w.t x q.1)) lk)))
 
         counts : (g : ℕ) → g < l.goroutines → (b : Bool) → eqb g w.g ≡ b → made_by (counted m w.g) g ≡ cond (eqb g w.g) (e.made w.g + 1) (e.made g)
         counts g lg true t =
@@ -214,77 +201,77 @@ module _ (shapes : List Shape) (l : Layout) where
         none g le false t = rw t (good.none g le)
 
         only : (x : ℕ) → x < 1024 * l.pages → row_bit (alloc_row (put words (cell.Alloc (a / 64)) (bit_or (words (cell.Alloc (a / 64))) (2 ^ (a % 64))))) x ≡ 1 → (b : Bool) → eqb a x ≡ b →
-            (n : Name) × IsMade (with_object shapes e w.g w.t) n × (x ≡ placed_at place (next_name e w.g) a n)
-        only x lt set true t = (next_name e w.g, new_made shapes e w.g w.t, sym (eqb-true a x t) ∙ sym (at_new shapes e w.g w.t place a))
+            (n : Name) × IsMade (with_object shapes e w.g w.t) n × (x ≡ placed_at address (next_name e w.g) a n)
+        only x lt set true t = (next_name e w.g, new_made shapes e w.g w.t, sym (eqb-true a x t) ∙ sym (at_new shapes e w.g w.t address a))
         only x lt set false t =
             let ne : a ≢ x = λ q. absurd (cc (t, eq-eqb a x q)) in
-            let was = good.slots.only x lt (sym (set_one_other (alloc_row words) a x ne) ∙ set) in
+            let was = good.slots.only x lt (sym (rows.sets_no_other (alloc_row words) a x ne) ∙ set) in
             let still = was_made shapes e w.g w.t was.0 was.1 in
-            (was.0, still.1, was.2 ∙ sym (at_old shapes e w.g w.t place a was.0 still.0))
+            (was.0, still.1, was.2 ∙ sym (at_old shapes e w.g w.t address a was.0 still.0))
 
   -- the register names the object
-  good_named : (words : Words) (place : Name → ℕ) (e : Ever) (m : Processor) (w : Wanted) (a : ℕ) (p : Point) → WantedGood (shape_at shapes w.t) w → WantsName l.pages l.globals l.goroutines shapes m w → Born l.pages l.globals l.goroutines shapes words place e m w a → BitsBelow l.pages l.globals l.goroutines shapes (bitmap_row words) w a (a + w.slot) → Fits words place e m →
-      Fits (put words (cell.Alloc (a / 64)) (bit_or (words (cell.Alloc (a / 64))) (2 ^ (a % 64)))) (placed_at place (next_name e w.g) a) (with_register (with_object shapes e w.g w.t) w.g w.d (ever.Ref (next_name e w.g))) (at_point (made_object m w a) p)
-  good_named words place e m w a p wg wants born bits good =
-      good_at l.pages l.globals l.goroutines shapes (put words (cell.Alloc (a / 64)) (bit_or (words (cell.Alloc (a / 64))) (2 ^ (a % 64)))) (placed_at place (next_name e w.g) a) (with_register (with_object shapes e w.g w.t) w.g w.d (ever.Ref (next_name e w.g))) (made_object m w a) p
-      (good_register l.pages l.globals l.goroutines shapes (put words (cell.Alloc (a / 64)) (bit_or (words (cell.Alloc (a / 64))) (2 ^ (a % 64)))) (placed_at place (next_name e w.g) a) (with_object shapes e w.g w.t) (counted m w.g) w.g w.d (ever.Ref (next_name e w.g)) (value.Ref (a + 1)) wants.0.goroutine wants.0.register
-      (ap (λ (y : ℕ). y + 1) (sym (at_new shapes e w.g w.t place a)), new_made shapes e w.g w.t) (good_made words place e m w a wg wants born bits good))
+  good_named : RowsAreWritten → (words : Words) (address : Name → ℕ) (e : Ever) (m : Processor) (w : Wanted) (a : ℕ) (p : Task) → WantedGood (shape_at shapes w.t) w → WantsName l.pages l.globals l.goroutines shapes m w → Born l.pages l.globals l.goroutines shapes words address e m w a → BitsBelow l.pages l.globals l.goroutines shapes (bitmap_row words) w a (a + w.slot) → Fits words address e m →
+      Fits (put words (cell.Alloc (a / 64)) (bit_or (words (cell.Alloc (a / 64))) (2 ^ (a % 64)))) (placed_at address (next_name e w.g) a) (with_register (with_object shapes e w.g w.t) w.g w.d (ever.Ref (next_name e w.g))) (at_task (made_object m w a) p)
+  good_named rows words address e m w a p wg wants born bits good =
+      good_at l.pages l.globals l.goroutines shapes (put words (cell.Alloc (a / 64)) (bit_or (words (cell.Alloc (a / 64))) (2 ^ (a % 64)))) (placed_at address (next_name e w.g) a) (with_register (with_object shapes e w.g w.t) w.g w.d (ever.Ref (next_name e w.g))) (made_object m w a) p
+      (good_register l.pages l.globals l.goroutines shapes (put words (cell.Alloc (a / 64)) (bit_or (words (cell.Alloc (a / 64))) (2 ^ (a % 64)))) (placed_at address (next_name e w.g) a) (with_object shapes e w.g w.t) (counted m w.g) w.g w.d (ever.Ref (next_name e w.g)) (value.Ref (a + 1)) wants.0.goroutine wants.0.register
+      (ap (λ (y : ℕ). y + 1) (sym (at_new shapes e w.g w.t address a)), new_made shapes e w.g w.t) (good_made rows words address e m w a wg wants born bits good))
 
   -- it was just made
-  fresh : (place : Name → ℕ) (e : Ever) (m : Processor) (w : Wanted) (a : ℕ) (p : Point) → WantedGood (shape_at shapes w.t) w → WantsName l.pages l.globals l.goroutines shapes m w → length m.made ≡ 32 → l.goroutines ≤ 32 → made_by m w.g ≡ e.made w.g →
-      Fresh l.pages l.globals l.goroutines shapes (placed_at place (next_name e w.g) a) (with_register (with_object shapes e w.g w.t) w.g w.d (ever.Ref (next_name e w.g))) (at_point (made_object m w a) p) w a (next_name e w.g)
-  fresh place e m w a p wg wants long few is = record {
+  fresh : (address : Name → ℕ) (e : Ever) (m : Processor) (w : Wanted) (a : ℕ) (p : Task) → WantedGood (shape_at shapes w.t) w → WantsName l.pages l.globals l.goroutines shapes m w → length m.made ≡ 32 → l.goroutines ≤ 32 → made_by m w.g ≡ e.made w.g →
+      Fresh l.pages l.globals l.goroutines shapes (placed_at address (next_name e w.g) a) (with_register (with_object shapes e w.g w.t) w.g w.d (ever.Ref (next_name e w.g))) (at_task (made_object m w a) p) w a (next_name e w.g)
+  fresh address e m w a p wg wants long few is = record {
     wants = wants.0;
     name = same_name_is (next_name e w.g) _ refl counted_is;
     made = new_made shapes e w.g w.t;
-    at = sym (at_new shapes e w.g w.t place a);
+    at = sym (at_new shapes e w.g w.t address a);
     size = ap field_count (shape_new shapes e w.g w.t) ∙ wg.count;
   } where
     counted_is : e.made w.g ≡ made_by (counted m w.g) w.g - 1
     counted_is = let lw = wants.0.goroutine in let same = made_same m w.g long (omega arith) in omega (arith, same, is)
 
   -- where the making goes then
-  abbrev made_by_span : Processor → Wanted → ℕ → Name → Bool → PlacePoint
-  made_by_span m w a n b = placed.made (made_at shapes l m w a n make.Alloc) (cond b (Some (span_head m w)) None)
+  abbrev made_by_span : Processor → Wanted → ℕ → Name → Option SpanHead → PlaceStage
+  made_by_span m w a n s = placed.made (made_at shapes l m w a n make.Alloc) s
 
-  abbrev taken : Processor → Wanted → ℕ → Name → Bool → Processor
-  taken m w a n b = at_point (made_object m w a) (cond (placed.is_busy (made_by_span m w a n b)) (Place w (made_at shapes l m w a n (made_by_span m w a n b))) Idle)
+  abbrev taken : Processor → Wanted → ℕ → Name → Option SpanHead → Processor
+  taken m w a n s = at_task (made_object m w a) (cond (placed.is_busy (made_by_span m w a n s)) (makes w (made_at shapes l m w a n (made_by_span m w a n s))) Idle)
 
-  alloc_by : (words : Words) (place : Name → ℕ) (e : Ever) (m : Processor) (w : Wanted) (a : ℕ) → WantedGood (shape_at shapes w.t) w → WantsName l.pages l.globals l.goroutines shapes m w → Born l.pages l.globals l.goroutines shapes words place e m w a → BitsBelow l.pages l.globals l.goroutines shapes (bitmap_row words) w a (a + w.slot) → Fits words place e m →
+  alloc_by : RowsAreWritten → (words : Words) (address : Name → ℕ) (e : Ever) (m : Processor) (w : Wanted) (a : ℕ) → WantedGood (shape_at shapes w.t) w → WantsName l.pages l.globals l.goroutines shapes m w → Born l.pages l.globals l.goroutines shapes words address e m w a → BitsBelow l.pages l.globals l.goroutines shapes (bitmap_row words) w a (a + w.slot) → Fits words address e m →
       (b : Bool) → is_large w ≡ b → KeepsMaking shapes l words e m w a (next_name e w.g) make.Alloc None
-  alloc_by words place e m w a wg wants born bits good true large =
-      keeps_from shapes l words e m (Place w (made_at shapes l m w a (next_name e w.g) make.Alloc)) None (words (cell.Alloc (a / 64))) (put words (cell.Alloc (a / 64)) (bit_or (words (cell.Alloc (a / 64))) (2 ^ (a % 64))))
-      (taken m w a (next_name e w.g) true) (Some (act_of (new_op w))) None (placed_at place (next_name e w.g) a) (Some (answer.Ref (next_name e w.g)))
-      refl (ap (λ (b : Bool). taken m w a (next_name e w.g) b) large) refl (ap (λ (b : Bool). cond (placed.is_busy (made_by_span m w a (next_name e w.g) b)) None (Some (answer.Ref (next_name e w.g)))) large)
+  alloc_by rows words address e m w a wg wants born bits good true large =
+      keeps_from shapes l words e m (makes w (made_at shapes l m w a (next_name e w.g) make.Alloc)) None (words (cell.Alloc (a / 64))) (put words (cell.Alloc (a / 64)) (bit_or (words (cell.Alloc (a / 64))) (2 ^ (a % 64))))
+      (taken m w a (next_name e w.g) (Some (span_head m w))) (Some (act_of (new_op w))) None (placed_at address (next_name e w.g) a) (Some (answer.Ref (next_name e w.g)))
+      refl (ap (λ (s : Option SpanHead). taken m w a (next_name e w.g) s) (span_by m.seat m.generation w.sought large)) refl (ap (λ (s : Option SpanHead). cond (placed.is_busy (made_by_span m w a (next_name e w.g) s)) None (Some (answer.Ref (next_name e w.g)))) (span_by m.seat m.generation w.sought large))
       (record {
-        good = good_named words place e m w a _ wg wants born bits good;
-        fine = (refl, (refl, born.clearing.own large, fresh place e m w a _ wg wants good.sizes.made good.sizes.few (good.made w.g wants.0.goroutine)));
+        good = good_named rows words address e m w a _ wg wants born bits good;
+        fine = (refl, (refl, born.clearing.own large, fresh address e m w a _ wg wants good.sizes.made good.sizes.few (good.made w.g wants.0.goroutine)));
         pends = refl;
       })
       refl (has_room shapes l words (new_op w)) refl
-  alloc_by words place e m w a wg wants born bits good false large =
-      keeps_from shapes l words e m (Place w (made_at shapes l m w a (next_name e w.g) make.Alloc)) None (words (cell.Alloc (a / 64))) (put words (cell.Alloc (a / 64)) (bit_or (words (cell.Alloc (a / 64))) (2 ^ (a % 64))))
-      (taken m w a (next_name e w.g) false) (Some (act_of (new_op w))) None (placed_at place (next_name e w.g) a) (Some (answer.Ref (next_name e w.g)))
-      refl (ap (λ (b : Bool). taken m w a (next_name e w.g) b) large) refl (ap (λ (b : Bool). cond (placed.is_busy (made_by_span m w a (next_name e w.g) b)) None (Some (answer.Ref (next_name e w.g)))) large)
+  alloc_by rows words address e m w a wg wants born bits good false large =
+      keeps_from shapes l words e m (makes w (made_at shapes l m w a (next_name e w.g) make.Alloc)) None (words (cell.Alloc (a / 64))) (put words (cell.Alloc (a / 64)) (bit_or (words (cell.Alloc (a / 64))) (2 ^ (a % 64))))
+      (taken m w a (next_name e w.g) None) (Some (act_of (new_op w))) None (placed_at address (next_name e w.g) a) (Some (answer.Ref (next_name e w.g)))
+      refl (ap (λ (s : Option SpanHead). taken m w a (next_name e w.g) s) (no_span_by m.seat m.generation w.sought large)) refl (ap (λ (s : Option SpanHead). cond (placed.is_busy (made_by_span m w a (next_name e w.g) s)) None (Some (answer.Ref (next_name e w.g)))) (no_span_by m.seat m.generation w.sought large))
       (record {
-        good = good_named words place e m w a _ wg wants born bits good;
-        fine = (refl, fresh place e m w a _ wg wants good.sizes.made good.sizes.few (good.made w.g wants.0.goroutine));
+        good = good_named rows words address e m w a _ wg wants born bits good;
+        fine = (refl, fresh address e m w a _ wg wants good.sizes.made good.sizes.few (good.made w.g wants.0.goroutine));
         pends = refl;
       })
       refl (has_room shapes l words (new_op w)) refl
 
-  step_alloc : (words : Words) (place : Name → ℕ) (e : Ever) (m : Processor) (w : Wanted) (a : ℕ) (n : Name) → WantedGood (shape_at shapes w.t) w → Fits words place e m → FineMaking shapes l words place e m w a n make.Alloc → KeepsMaking shapes l words e m w a n make.Alloc None
-  step_alloc words place e m w a n wg good f =
+  step_alloc : RowsAreWritten → (words : Words) (address : Name → ℕ) (e : Ever) (m : Processor) (w : Wanted) (a : ℕ) (n : Name) → WantedGood (shape_at shapes w.t) w → Fits words address e m → FineMaking shapes l words address e m w a n make.Alloc → KeepsMaking shapes l words e m w a n make.Alloc None
+  step_alloc rows words address e m w a n wg good f =
       let named : n ≡ next_name e w.g = f.1 ∙ same_name_is (next_of m w) (next_name e w.g) refl (good.made w.g f.0.0.goroutine) in
-      subst (λ (x : Name). KeepsMaking shapes l words e m w a x make.Alloc None) (sym named) (alloc_by words place e m w a wg f.0 f.2 f.3 good (is_large w) refl)
+      subst (λ (x : Name). KeepsMaking shapes l words e m w a x make.Alloc None) (sym named) (alloc_by rows words address e m w a wg f.0 f.2 f.3 good (is_large w) refl)
 
   -- Nobody owns the span of a large object once it stands.
 
-  abbrev body_with : ℕ → Bool → ℕ → SpanBody
+  abbrev body_with : SizeClass → Bool → ℕ → SpanBody
   body_with class noscan d = record { class = class; noscan = noscan; distance = d }
 
   body_same : (h k : SpanHead) (d : ℕ) → h.class ≡ k.class → h.noscan ≡ k.noscan → body_at h d ≡ body_at k d
-  body_same h k d class noscan = ap (λ (c : ℕ). body_with c h.noscan d) class ∙ ap (λ (n : Bool). body_with k.class n d) noscan
+  body_same h k d class noscan = ap (λ (c : SizeClass). body_with c h.noscan d) class ∙ ap (λ (n : Bool). body_with k.class n d) noscan
 
   -- what a span looks like with another head
   pub record SameSpan (row : Row) (q x p : ℕ) (h h' : SpanHead) : Type 0 where
@@ -304,8 +291,8 @@ module _ (shapes : List Shape) (l : Layout) where
           body = λ d low high. ap page_of (other_page row p x (p + d) (λ f. omega arith)) ∙ t.body d low (omega arith) ∙ ap (λ (b : SpanBody). page.Body b) (body_same h k d (sym class) (sym noscan));
           within = omega arith;
           some = omega arith;
-          class = subst IsClass (sym class) t.class;
-          small = λ ne. long ∙ t.small (λ f. ne (class ∙ f)) ∙ ap (λ (y : ℕ). pages_of y) (sym class);
+          class = subst IsSizeClass (sym class) t.class;
+          small = λ ne. long ∙ t.small (λ f. ne (class ∙ f)) ∙ ap (λ (y : SizeClass). pages_of (number_of y)) (sym class);
         };
         class = class;
         noscan = noscan;
@@ -356,11 +343,11 @@ module _ (shapes : List Shape) (l : Layout) where
   sizes_same : (h h' : SpanHead) → h'.class ≡ h.class → h'.pages ≡ h.pages → (slot_size h' ≡ slot_size h) × (slot_count h' ≡ slot_count h)
   sizes_same h h' class long = (rw (class, long) refl, rw class refl)
 
-  good_disowned : (words : Words) (place : Name → ℕ) (e : Ever) (m : Processor) (q x : ℕ) (own k : SpanHead) → IsSpan l.pages (pages_row words) q own → own.class ≡ LARGE → page_of x ≡ page.Head k → k.class ≡ own.class → k.noscan ≡ own.noscan → k.pages ≡ own.pages → Fits words place e m → Fits (put words (cell.Page q) x) place e m
-  good_disowned words place e m q x own k s large is class noscan long good = record {
+  good_disowned : (words : Words) (address : Name → ℕ) (e : Ever) (m : Processor) (q x : ℕ) (own k : SpanHead) → IsSpan l.pages (pages_row words) q own → own.class ≡ size.Large → page_of x ≡ page.Head k → k.class ≡ own.class → k.noscan ≡ own.noscan → k.pages ≡ own.pages → Fits words address e m → Fits (put words (cell.Page q) x) address e m
+  good_disowned words address e m q x own k s large is class noscan long good = record {
     sizes = good.sizes;
     spans = λ p h lt f. spans p h lt (eqb q p) refl f;
-    slots = record { is_slot = λ n made. slot (place n) _ (good.slots.is_slot n made); is_set = good.slots.is_set; only = good.slots.only };
+    slots = record { is_slot = λ n made. slot (address n) _ (good.slots.is_slot n made); is_set = good.slots.is_set; only = good.slots.only };
     births = good.births;
     bitmap = good.bitmap;
     fields = good.fields;
@@ -390,7 +377,7 @@ module _ (shapes : List Shape) (l : Layout) where
         let z = sizes_same t.h d.0 d.1.class d.1.long in
         record { p = t.p; h = d.0; i = t.i; span = d.1.span; inside = rw (z.1) t.inside; size_is = t.size_is ∙ sym z.0; at = t.at }
 
-    cache : (c : ℕ) (n : Bool) (entry : CachedSpan) → (h : SpanHead) × IsSpan l.pages (pages_row words) entry.head h × (h.class ≡ c) × (h.noscan ≡ n) → (h : SpanHead) × IsSpan l.pages (with_page (pages_row words) q x) entry.head h × (h.class ≡ c) × (h.noscan ≡ n)
+    cache : (c : ℕ) (n : Bool) (entry : CachedSpan) → (h : SpanHead) × IsSpan l.pages (pages_row words) entry.head h × (h.class ≡ size.Small c) × (h.noscan ≡ n) → (h : SpanHead) × IsSpan l.pages (with_page (pages_row words) q x) entry.head h × (h.class ≡ size.Small c) × (h.noscan ≡ n)
     cache c n entry t =
         let d = span_disowned (pages_row words) q x own k s is class noscan long entry.head t.0 t.1 in
         (d.0, d.1.span, d.1.class ∙ t.2, d.1.noscan ∙ t.3)
@@ -398,53 +385,53 @@ module _ (shapes : List Shape) (l : Layout) where
   head_says : Laws → (shape : Shape) (m : Processor) (w : Wanted) → WantedGood shape w → m.generation < 2 ^ 34 → page_of (head_word (owned_by 0 (span_head m w))) ≡ page.Head (owned_by 0 (span_head m w))
   head_says laws shape m w g small = let most = g.most in laws.packed.page (page.Head (owned_by 0 (span_head m w))) (record { class = g.class; some = g.some; pages = omega arith; owner = lit< tt; number = small })
 
-  fresh_kept : (place : Name → ℕ) (e : Ever) (m : Processor) (p : Point) (w : Wanted) (a : ℕ) (n : Name) → Fresh l.pages l.globals l.goroutines shapes place e m w a n → Fresh l.pages l.globals l.goroutines shapes place e (at_point m p) w a n
-  fresh_kept place e m p w a n f = record { wants = f.wants; name = f.name; made = f.made; at = f.at; size = f.size }
+  fresh_kept : (address : Name → ℕ) (e : Ever) (m : Processor) (p : Task) (w : Wanted) (a : ℕ) (n : Name) → Fresh l.pages l.globals l.goroutines shapes address e m w a n → Fresh l.pages l.globals l.goroutines shapes address e (at_task m p) w a n
+  fresh_kept address e m p w a n f = record { wants = f.wants; name = f.name; made = f.made; at = f.at; size = f.size }
 
   -- nobody owns the large object's span once it stands
-  give_by : Laws → (words : Words) (place : Name → ℕ) (e : Ever) (m : Processor) (w : Wanted) (a : ℕ) (n : Name) (pending : Option Answer) → WantedGood (shape_at shapes w.t) w → Fits words place e m → OwnSpan l.pages l.globals l.goroutines shapes (pages_row words) w a → Fresh l.pages l.globals l.goroutines shapes place e m w a n → IsNamed n true pending →
-      KeepsMaking shapes l words e m w a n (make.Give (giving.giving m.layout (a / 1024) (span_head m w))) pending
-  give_by laws words place e m w a n pending wg good own f named =
-      keeps_from shapes l words e m (Place w (made_at shapes l m w a n (make.Give (giving.giving m.layout (a / 1024) (span_head m w))))) pending (words (cell.Page (a / 1024))) (put words (cell.Page (a / 1024)) (head_word (owned_by 0 (span_head m w))))
-      (at_point m (Place w (made_at shapes l m w a n make.Count))) None None place pending
+  give_by : Laws → (words : Words) (address : Name → ℕ) (e : Ever) (m : Processor) (w : Wanted) (a : ℕ) (n : Name) (pending : Option Answer) → WantedGood (shape_at shapes w.t) w → Fits words address e m → OwnSpan l.pages l.globals l.goroutines shapes (pages_row words) w a → Fresh l.pages l.globals l.goroutines shapes address e m w a n → IsNamed n true pending →
+      KeepsMaking shapes l words e m w a n (make.Give (giving.opening m.layout (a / 1024) (span_head m w))) pending
+  give_by laws words address e m w a n pending wg good own f named =
+      keeps_from shapes l words e m (makes w (made_at shapes l m w a n (make.Give (giving.opening m.layout (a / 1024) (span_head m w))))) pending (words (cell.Page (a / 1024))) (put words (cell.Page (a / 1024)) (head_word (owned_by 0 (span_head m w))))
+      (at_task m (makes w (made_at shapes l m w a n make.Count))) None None address pending
       refl refl refl refl
       (record {
-        good = good_at l.pages l.globals l.goroutines shapes (put words (cell.Page (a / 1024)) (head_word (owned_by 0 (span_head m w)))) place e m (Place w (made_at shapes l m w a n make.Count))
-            (good_disowned words place e m (a / 1024) (head_word (owned_by 0 (span_head m w))) own.h (owned_by 0 (span_head m w)) own.span (own.class ∙ own.large) (head_says laws (shape_at shapes w.t) m w wg good.sizes.generation) (sym own.class) (sym own.noscan) (sym own.long) good);
-        fine = (refl, fresh_kept place e m (Place w (made_at shapes l m w a n make.Count)) w a n f);
+        good = good_at l.pages l.globals l.goroutines shapes (put words (cell.Page (a / 1024)) (head_word (owned_by 0 (span_head m w)))) address e m (makes w (made_at shapes l m w a n make.Count))
+            (good_disowned words address e m (a / 1024) (head_word (owned_by 0 (span_head m w))) own.h (owned_by 0 (span_head m w)) own.span (own.class ∙ own.large) (head_says laws (shape_at shapes w.t) m w wg good.sizes.generation) (sym own.class) (sym own.noscan) (sym own.long) good);
+        fine = (refl, fresh_kept address e m (makes w (made_at shapes l m w a n make.Count)) w a n f);
         pends = named;
       })
       (sym (append-nil (option_to_list pending))) (not_full shapes l words None refl) refl
 
-  step_give : Laws → (words : Words) (place : Name → ℕ) (e : Ever) (m : Processor) (w : Wanted) (a : ℕ) (n : Name) (g : giving.Giving) (pending : Option Answer) → WantedGood (shape_at shapes w.t) w → Fits words place e m → FineMaking shapes l words place e m w a n (make.Give g) → IsNamed n true pending → KeepsMaking shapes l words e m w a n (make.Give g) pending
-  step_give laws words place e m w a n g pending wg good f named =
-      subst (λ (x : giving.Giving). KeepsMaking shapes l words e m w a n (make.Give x) pending) (sym f.0) (give_by laws words place e m w a n pending wg good f.1 f.2 named)
+  step_give : Laws → (words : Words) (address : Name → ℕ) (e : Ever) (m : Processor) (w : Wanted) (a : ℕ) (n : Name) (g : giving.Giving) (pending : Option Answer) → WantedGood (shape_at shapes w.t) w → Fits words address e m → FineMaking shapes l words address e m w a n (make.Give g) → IsNamed n true pending → KeepsMaking shapes l words e m w a n (make.Give g) pending
+  step_give laws words address e m w a n g pending wg good f named =
+      subst (λ (x : giving.Giving). KeepsMaking shapes l words e m w a n (make.Give x) pending) (sym f.0) (give_by laws words address e m w a n pending wg good f.1 f.2 named)
 
-  step_count : (words : Words) (place : Name → ℕ) (e : Ever) (m : Processor) (w : Wanted) (a : ℕ) (n : Name) (pending : Option Answer) → Fits words place e m → IsNamed n true pending → KeepsMaking shapes l words e m w a n make.Count pending
-  step_count words place e m w a n (Some (answer.Ref x)) good named =
-      keeps_from shapes l words e m (Place w (made_at shapes l m w a n make.Count)) (Some (answer.Ref x)) (words cell.Heap) (put words cell.Heap ((words cell.Heap + 8 * w.slot) % 2 ^ 64)) (at_point m Idle) None (Some (answer.Ref n)) place None
+  step_count : (words : Words) (address : Name → ℕ) (e : Ever) (m : Processor) (w : Wanted) (a : ℕ) (n : Name) (pending : Option Answer) → Fits words address e m → IsNamed n true pending → KeepsMaking shapes l words e m w a n make.Count pending
+  step_count words address e m w a n (Some (answer.Ref x)) good named =
+      keeps_from shapes l words e m (makes w (made_at shapes l m w a n make.Count)) (Some (answer.Ref x)) (words cell.Heap) (put words cell.Heap ((words cell.Heap + 8 * w.slot) % 2 ^ 64)) (at_task m Idle) None (Some (answer.Ref n)) address None
       refl refl refl refl
-      (record { good = good_at l.pages l.globals l.goroutines shapes (put words cell.Heap ((words cell.Heap + 8 * w.slot) % 2 ^ 64)) place e m Idle (good_heap l.pages l.globals l.goroutines shapes words place e m ((words cell.Heap + 8 * w.slot) % 2 ^ 64) good); fine = tt; pends = tt })
+      (record { good = good_at l.pages l.globals l.goroutines shapes (put words cell.Heap ((words cell.Heap + 8 * w.slot) % 2 ^ 64)) address e m Idle (good_heap l.pages l.globals l.goroutines shapes words address e m ((words cell.Heap + 8 * w.slot) % 2 ^ 64) good); fine = tt; pends = tt })
       (ap (λ (y : Name). answer.Ref y ∷ []) named) (not_full shapes l words None refl) refl
-  step_count words place e m w a n pending good named = absurd named
+  step_count words address e m w a n pending good named = absurd named
 
   -- each step of the making
-  step_on : Laws → ShapesGood shapes → (words : Words) (place : Name → ℕ) (e : Ever) (m : Processor) (w : Wanted) (a : ℕ) (n : Name) (q : PlacePoint) (pending : Option Answer) → Fits words place e m → FineMaking shapes l words place e m w a n q → IsNamed n (is_made q) pending → KeepsMaking shapes l words e m w a n q pending
-  step_on laws sg words place e m w a n (make.Clear k) None good f named = step_clear shapes l words place e m w a n k good f
-  step_on laws sg words place e m w a n make.Birth None good f named = step_birth shapes l words place e m w a n (wanted_here shapes l w sg f.0.0) good f
-  step_on laws sg words place e m w a n (make.Bits s) None good f named =
-      subst (λ (x : Setting). KeepsMaking shapes l words e m w a n (make.Bits x) None) (sym f.3) (step_bits shapes l laws words place e m w a n (sg w.t f.0.0.type) (wanted_here shapes l w sg f.0.0) good f.0 f.1 f.2 s.place f.4)
-  step_on laws sg words place e m w a n make.Alloc None good f named = step_alloc words place e m w a n (wanted_here shapes l w sg f.0.0) good f
-  step_on laws sg words place e m w a n (make.Clear k) (Some x) good f named = absurd named
-  step_on laws sg words place e m w a n make.Birth (Some x) good f named = absurd named
-  step_on laws sg words place e m w a n (make.Bits s) (Some x) good f named = absurd named
-  step_on laws sg words place e m w a n make.Alloc (Some x) good f named = absurd named
-  step_on laws sg words place e m w a n (make.Give g) pending good f named = step_give laws words place e m w a n g pending (wanted_here shapes l w sg f.2.wants) good f named
-  step_on laws sg words place e m w a n make.Count pending good f named = step_count words place e m w a n pending good named
-  step_on laws sg words place e m w a n make.Ended pending good f named = absurd f
+  step_on : Laws → ShapesGood shapes → (words : Words) (address : Name → ℕ) (e : Ever) (m : Processor) (w : Wanted) (a : ℕ) (n : Name) (q : PlaceStage) (pending : Option Answer) → Fits words address e m → FineMaking shapes l words address e m w a n q → IsNamed n (is_made q) pending → KeepsMaking shapes l words e m w a n q pending
+  step_on laws sg words address e m w a n (make.Clear k) None good f named = step_clear shapes l words address e m w a n k good f
+  step_on laws sg words address e m w a n make.Birth None good f named = step_birth shapes l words address e m w a n (wanted_here shapes l w sg f.0.0) good f
+  step_on laws sg words address e m w a n (make.Bits s) None good f named =
+      subst (λ (x : PointerSetting). KeepsMaking shapes l words e m w a n (make.Bits x) None) (sym f.3) (step_bits shapes l laws words address e m w a n (sg w.t f.0.0.type) (wanted_here shapes l w sg f.0.0) good f.0 f.1 f.2 s.stage f.4)
+  step_on laws sg words address e m w a n make.Alloc None good f named = step_alloc laws.rows words address e m w a n (wanted_here shapes l w sg f.0.0) good f
+  step_on laws sg words address e m w a n (make.Clear k) (Some x) good f named = absurd named
+  step_on laws sg words address e m w a n make.Birth (Some x) good f named = absurd named
+  step_on laws sg words address e m w a n (make.Bits s) (Some x) good f named = absurd named
+  step_on laws sg words address e m w a n make.Alloc (Some x) good f named = absurd named
+  step_on laws sg words address e m w a n (make.Give g) pending good f named = step_give laws words address e m w a n g pending (wanted_here shapes l w sg f.2.wants) good f named
+  step_on laws sg words address e m w a n make.Count pending good f named = step_count words address e m w a n pending good named
+  step_on laws sg words address e m w a n make.Ended pending good f named = absurd f
 
-  pub step_place : Laws → (w : Wanted) (p : Placing) → StepAt shapes l (Place w p)
-  step_place laws w p sg words place e m pending at h =
-      let here = fine_here shapes l words place e m (Place w p) pending at h in
-      subst (λ (x : Placing). Keeps shapes l words e m (Place w x) pending (words (cell_of (asks_at m (Place w x))))) (sym here.0.0)
-      (step_on laws sg words place e m w p.at p.name p.point pending h.good here.0.1 here.1)
+  pub step_place : Laws → (w : Wanted) (p : Placing) → StepAt shapes l (makes w p)
+  step_place laws w p sg words address e m pending at h =
+      let here = fine_here shapes l words address e m (makes w p) pending at h in
+      subst (λ (x : Placing). Keeps shapes l words e m (makes w x) pending (words (cell_of (asks_at m (makes w x))))) (sym here.0.0)
+      (step_on laws sg words address e m w p.at p.name p.stage pending h.good here.0.1 here.1)

@@ -8,7 +8,7 @@ use Rattle.gh_base.specs.declared.layout.Layout.{Layout}
 use Rattle.gh_base.specs.declared.machine.Entry.{Entry}
 use Rattle.gh_base.specs.Lists.{Setting, state_of, MayFollow, Begins}
 use Rattle.gh_script.specs.Program.{Program}
-use Rattle.gh_mutator.specs.declared.point.Processor.{Processor}
+use Rattle.gh_mutator.specs.declared.processor.Processor.{Processor}
 use Rattle.gh_world.specs.Order.{processor_kind, setting_of, begun_in}
 use Rattle.gh_world.specs.Turns.{turns_of}
 use Rattle.gh_world.specs.World.{opening}
@@ -22,11 +22,11 @@ one_more : {A : Type 0} (x : A) (xs rest : List A) → reverse (x ∷ xs) ++ res
 one_more x xs rest = ap (λ ys. ys ++ rest) (reverse_onto xs x []) ∙ append_assoc (reverse xs) (x ∷ []) rest
 
 -- what had begun before the last step
-before_turns : (o : Option Op) (bs to_come turns : List Op) → turns ≡ reverse (option_to_list o ++ bs) ++ to_come → turns ≡ reverse bs ++ (option_to_list o ++ to_come)
+pub before_turns : (o : Option Op) (bs to_come turns : List Op) → turns ≡ reverse (option_to_list o ++ bs) ++ to_come → turns ≡ reverse bs ++ (option_to_list o ++ to_come)
 before_turns None bs to_come turns h = h
 before_turns (Some o) bs to_come turns h = h ∙ one_more o bs to_come
 
-before : (p : Program) (l : Layout) (e : Entry Op) (es : List (Entry Op)) → IsRunSoFar p l (e ∷ es) → IsRunSoFar p l es
+pub before : (p : Program) (l : Layout) (e : Entry Op) (es : List (Entry Op)) → IsRunSoFar p l (e ∷ es) → IsRunSoFar p l es
 before p l e es r = record { legal = r.legal.0; to_come = option_to_list e.begun ++ r.to_come; turns = before_turns e.begun (begun_in p.shapes l es) r.to_come (turns_of p) r.turns }
 
 -- the same operations, where both begin one or neither does
@@ -41,7 +41,7 @@ same_begun busy (Some o) (Some q) bs xs ys turns a b c d h k =
 
 module _ (p : Program) (l : Layout) where
   busy_after : List (Entry Op) → Bool
-  busy_after es = is_busy_at (state_of (processor_kind p.shapes l) 0 es).point
+  busy_after es = is_busy_at (state_of (processor_kind p.shapes l) 0 es).task
 
   none_busy : (a : ℕ) (es : List (Entry Op)) (b : Option Op) → a ≡ 0 → Begins (at_setting p l) a es b → b ≡ None → busy_after es ≡ true
   unfolding busy_after
@@ -90,7 +90,7 @@ too_long o turns bs rest h k =
 none_follow : (p : Program) (l : Layout) (es : List (Entry Op)) (a : ℕ) (o : Option Op) (to_come : List Op) → a ≡ 0 → IsRun p l es → Begins (at_setting p l) a es o
     → turns_of p ≡ reverse (begun_in p.shapes l es) ++ (option_to_list o ++ to_come) → ⊥
 none_follow p l es a None to_come zero run begins turns =
-    let busy : is_busy_at (state_of (processor_kind p.shapes l) 0 es).point ≡ true = subst (λ (n : ℕ). Begins (at_setting p l) n es None) zero begins in
+    let busy : is_busy_at (state_of (processor_kind p.shapes l) 0 es).task ≡ true = subst (λ (n : ℕ). Begins (at_setting p l) n es None) zero begins in
     absurd (let e = ap is_busy_at run.done in cc)
 none_follow p l es a (Some o) to_come zero run begins turns = too_long o (turns_of p) (begun_in p.shapes l es) to_come run.turns turns
 

@@ -2,29 +2,18 @@
 use Rattle.std.proofs.Common.{◌≡◌, ◌≢◌, ℕ, ◌+◌, ◌*◌, ◌<◌, ◌≤◌, ◌⊎◌, Bool, true, false, cond, eqb, slice_index_or, List, Option, Some, None, refl, sym, ap, subst, ◌∙◌, arith, inl, inr, length-set}
 use Rattle.std.proofs.lemmas.Bool.{eqb-true}
 use Rattle.std.proofs.lemmas.Bool.Decides.{nat_tests}
-use Rattle.gh_base.specs.declared.value.Name.{Name}
-use Rattle.gh_base.specs.declared.shape.Shape.{Shape}
-use Rattle.gh_base.specs.declared.layout.Layout.{Layout}
+use Rattle.gh_world.specs.Vocabulary.{Name, Shape, Layout, SpanHead, Words, put, bit, page_of, head_word, FitsHead, owned_by, Ever, CachedSpan, Wanted, Processor, Row, cached_for}
 use Rattle.gh_base.specs.declared.cell.Cell.TheVariants as cell
-use Rattle.gh_base.specs.declared.pack.SpanHead.{SpanHead}
 use Rattle.gh_base.specs.declared.pack.PageWord.TheVariants as page
-use Rattle.gh_base.specs.declared.pack.TheConstants.{LARGE}
-use Rattle.gh_base.specs.Cells.{Words, put}
-use Rattle.gh_base.specs.Packing.{bit, page_of, head_word, FitsHead}
-use Rattle.gh_central.specs.Listing.{owned_by}
-use Rattle.gh_model.specs.Ever.{Ever}
-use Rattle.gh_alloc.specs.declared.find.CachedSpan.{CachedSpan}
-use Rattle.gh_mutator.specs.declared.point.Wanted.{Wanted}
-use Rattle.gh_mutator.specs.declared.point.Processor.{Processor}
-use Rattle.gh_mutator.specs.Listing.{is_large, span_class, cached_for}
-use Rattle.gh_world.specs.Stands.{pages_row, IsSpan, SpansGood, IsSlot, IsOwned, OwnersGood}
-use Rattle.gh_world.specs.Points.{Good}
+use Rattle.gh_class.specs.declared.class.SizeClass.TheVariants as size
+use Rattle.gh_world.specs.Stands.{number_of, pages_row, IsSpan, SpansGood, IsSlot, IsOwned, OwnersGood}
+use Rattle.gh_world.specs.Facts.{Good, is_large, needs}
 use Rattle.gh_world.proofs.Step.{Laws}
 use Rattle.gh_world.proofs.Spans.{same_span}
 use Rattle.gh_world.proofs.Laying.{with_page, written_page, other_page}
-use Rattle.gh_world.proofs.Wanting.{WantedGood, SpanCached}
+use Rattle.gh_world.proofs.Wanting.{WantedGood, SpanCached, span_class, cached_row, small_class_not}
 use Rattle.gh_world.proofs.Caching.{class_tells, with_cached, cached_same, cached_other}
-use Rattle.gh_bitmap.specs.Bits.{Row}
+use Rattle.gh_world.proofs.Classes.{small_class_is}
 
 -- the word of a head says it
 pub owned_says : Laws → (o : ℕ) (h : SpanHead) → FitsHead (owned_by o h) → page_of (head_word (owned_by o h)) ≡ page.Head (owned_by o h)
@@ -122,16 +111,16 @@ pub row_of : (class class' : ℕ) (noscan noscan' : Bool) → class ≡ class' �
 row_of class class' noscan noscan' e f = ap (λ (y : ℕ). 2 * y + bit noscan) e ∙ ap (λ (b : Bool). 2 * class' + bit b) f
 
 -- what the row says of the objects of the class
-pub row_cached : (m : Processor) (w : Wanted) (h : SpanHead) (c : CachedSpan) → is_large w ≡ false → 2 * h.class + bit h.noscan ≡ span_class w → slice_index_or m.cache (2 * h.class + bit h.noscan) None ≡ Some c → cached_for m w ≡ Some c
-row_cached m w h c small row is = ap (λ (b : Bool). cond b None (slice_index_or m.cache (span_class w) None)) small ∙ sym (ap (λ (j : ℕ). slice_index_or m.cache j None) row) ∙ is
+pub row_cached : (m : Processor) (w : Wanted) (h : SpanHead) (c : CachedSpan) → is_large w ≡ false → 2 * number_of h.class + bit h.noscan ≡ span_class w → slice_index_or m.cache (2 * number_of h.class + bit h.noscan) None ≡ Some c → cached_for m w.sought ≡ Some c
+row_cached m w h c small row is = cached_row m w small ∙ sym (ap (λ (j : ℕ). slice_index_or m.cache j None) row) ∙ is
 
 module _ (shapes : List Shape) (l : Layout) where
   abbrev Fits : Words → (Name → ℕ) → Ever → Processor → Type 0
-  Fits words place e m = Good l.pages l.globals l.goroutines shapes words place e m
+  Fits words address e m = Good l.pages l.globals l.goroutines shapes words address e m
 
   -- a span of the class gets another owner, by whom it is then cached, if by any
-  pub owned_owners : (row : Row) (m : Processor) (w : Wanted) (c : Option CachedSpan) (q x o : ℕ) (k : SpanHead) → is_large w ≡ false → page_of x ≡ page.Head (owned_by o k) → SpansGood l.pages row → IsSpan l.pages row q k → k.class ≢ LARGE →
-      ((y : CachedSpan) → cached_for m w ≡ Some y → y.head ≡ q) → ((o ≡ 0) ⊎ IsOwned m.seat (with_cached m w c).cache q (owned_by o k)) → OwnersGood l.pages row m → OwnersGood l.pages (with_page row q x) (with_cached m w c)
+  pub owned_owners : (row : Row) (m : Processor) (w : Wanted) (c : Option CachedSpan) (q x o : ℕ) (k : SpanHead) → is_large w ≡ false → page_of x ≡ page.Head (owned_by o k) → SpansGood l.pages row → IsSpan l.pages row q k → k.class ≢ size.Large →
+      ((y : CachedSpan) → cached_for m w.sought ≡ Some y → y.head ≡ q) → ((o ≡ 0) ⊎ IsOwned m.seat (with_cached m w c).cache q (owned_by o k)) → OwnersGood l.pages row m → OwnersGood l.pages (with_page row q x) (with_cached m w c)
   owned_owners row m w c q x o k small is good own ne head now before p h s large = elim (span_was l.pages row q x o k is good p h s) [
     | inl y ↦ here p h y.0 y.1
     | inr y ↦ let was = before p h y.1 large in (was.0, there p h y.0 was.1)
@@ -141,23 +130,23 @@ module _ (shapes : List Shape) (l : Layout) where
         subst (λ (g : SpanHead). (g.number ≡ m.generation) × ((g.owner ≡ 0) ⊎ IsOwned m.seat (with_cached m w c).cache p g)) same
         (subst (λ (n : ℕ). (k.number ≡ m.generation) × ((o ≡ 0) ⊎ IsOwned m.seat (with_cached m w c).cache n (owned_by o k))) at ((before q k own ne).0, now))
 
-    cached_there : (p : ℕ) (h : SpanHead) → q ≢ p → IsOwned m.seat m.cache p h → (b : Bool) → eqb (2 * h.class + bit h.noscan) (span_class w) ≡ b → IsOwned m.seat (with_cached m w c).cache p h
+    cached_there : (p : ℕ) (h : SpanHead) → q ≢ p → IsOwned m.seat m.cache p h → (b : Bool) → eqb (2 * number_of h.class + bit h.noscan) (span_class w) ≡ b → IsOwned m.seat (with_cached m w c).cache p h
     cached_there p h apart is true t = absurd (apart (sym (head is.c (row_cached m w h is.c small (eqb-true _ _ t) is.cached)) ∙ is.at))
-    cached_there p h apart is false t = record { owner = is.owner; c = is.c; cached = cached_other m w c h.class h.noscan t ∙ is.cached; at = is.at }
+    cached_there p h apart is false t = record { owner = is.owner; c = is.c; cached = cached_other m w c (number_of h.class) h.noscan t ∙ is.cached; at = is.at }
 
     there : (p : ℕ) (h : SpanHead) → q ≢ p → ((h.owner ≡ 0) ⊎ IsOwned m.seat m.cache p h) → (h.owner ≡ 0) ⊎ IsOwned m.seat (with_cached m w c).cache p h
     there p h apart (inl y) = inl y
-    there p h apart (inr y) = inr (cached_there p h apart y (eqb (2 * h.class + bit h.noscan) (span_class w)) refl)
+    there p h apart (inr y) = inr (cached_there p h apart y (eqb (2 * number_of h.class + bit h.noscan) (span_class w)) refl)
 
   -- a head word says another owner, and the span is cached from now on, or none is
-  pub good_owned : (words : Words) (place : Name → ℕ) (e : Ever) (m : Processor) (shape : Shape) (w : Wanted) (c : Option CachedSpan) (q x o : ℕ) (k : SpanHead) → WantedGood shape w → is_large w ≡ false → page_of x ≡ page.Head (owned_by o k) → IsSpan l.pages (pages_row words) q k → Fits words place e m →
-      ((y : CachedSpan) → c ≡ Some y → SpanCached l.pages (with_page (pages_row words) q x) w y) → OwnersGood l.pages (with_page (pages_row words) q x) (with_cached m w c) → Fits (put words (cell.Page q) x) place e (with_cached m w c)
-  good_owned words place e m shape w c q x o k wg small is own good span owners =
+  pub good_owned : (words : Words) (address : Name → ℕ) (e : Ever) (m : Processor) (shape : Shape) (w : Wanted) (c : Option CachedSpan) (q x o : ℕ) (k : SpanHead) → WantedGood shape w → is_large w ≡ false → page_of x ≡ page.Head (owned_by o k) → IsSpan l.pages (pages_row words) q k → Fits words address e m →
+      ((y : CachedSpan) → c ≡ Some y → SpanCached l.pages (with_page (pages_row words) q x) w y) → OwnersGood l.pages (with_page (pages_row words) q x) (with_cached m w c) → Fits (put words (cell.Page q) x) address e (with_cached m w c)
+  good_owned words address e m shape w c q x o k wg small is own good span owners =
       let s = good.sizes in
       record {
-        sizes = record { registers = s.registers; made = s.made; cache = rw length-set s.cache; arena = s.arena; some = s.some; most = s.most; few = s.few; seat = s.seat; generation = s.generation };
+        sizes = record { registers = s.registers; made = s.made; cache = rw length-set s.cache; arena = s.arena; names = s.names; some = s.some; most = s.most; few = s.few; seat = s.seat; generation = s.generation };
         spans = owned_spans l.pages (pages_row words) q x o k is own good.spans;
-        slots = record { is_slot = λ n made. owned_slot l.pages (pages_row words) q x o k is own (place n) _ (good.slots.is_slot n made); is_set = good.slots.is_set; only = good.slots.only };
+        slots = record { is_slot = λ n made. owned_slot l.pages (pages_row words) q x o k is own (address n) _ (good.slots.is_slot n made); is_set = good.slots.is_set; only = good.slots.only };
         births = good.births;
         bitmap = good.bitmap;
         fields = good.fields;
@@ -170,13 +159,13 @@ module _ (shapes : List Shape) (l : Layout) where
         owners = owners;
       } where
         caches : (class : ℕ) (noscan : Bool) (y : CachedSpan) → class < 25 → slice_index_or (with_cached m w c).cache (2 * class + bit noscan) None ≡ Some y → (b : Bool) → eqb (2 * class + bit noscan) (span_class w) ≡ b →
-            (h : SpanHead) × IsSpan l.pages (with_page (pages_row words) q x) y.head h × (h.class ≡ class) × (h.noscan ≡ noscan)
+            (h : SpanHead) × IsSpan l.pages (with_page (pages_row words) q x) y.head h × (h.class ≡ size.Small class) × (h.noscan ≡ noscan)
         caches class noscan y low eq true t =
             let j : 2 * class + bit noscan ≡ span_class w = eqb-true _ _ t in
-            let same = class_tells class w.class noscan w.noscan j in
-            let one : c ≡ Some y = sym (cached_same m shape w c wg small good.sizes.cache) ∙ ap (λ (b : Bool). cond b None (slice_index_or (with_cached m w c).cache (span_class w) None)) small ∙ sym (ap (λ (i : ℕ). slice_index_or (with_cached m w c).cache i None) j) ∙ eq in
+            let same = class_tells class (number_of (needs w).class) noscan (needs w).noscan j in
+            let one : c ≡ Some y = sym (cached_same m shape w c wg small good.sizes.cache) ∙ cached_row (with_cached m w c) w small ∙ sym (ap (λ (i : ℕ). slice_index_or (with_cached m w c).cache i None) j) ∙ eq in
             let sp = span y one in
-            (sp.h, sp.span, sp.class ∙ sym same.0, sp.noscan ∙ sym same.1)
+            (sp.h, sp.span, sp.class ∙ small_class_is (needs w).class (small_class_not shape w wg small) ∙ ap size.Small (sym same.0), sp.noscan ∙ sym same.1)
         caches class noscan y low eq false t =
             let was = good.cache class noscan y low (sym (cached_other m w c class noscan t) ∙ eq) in
             let now = span_after l.pages (pages_row words) q x o k is own y.head was.0 was.1 in

@@ -1,31 +1,28 @@
 -- A whole run of a script: what its statements are answered.
-use Rattle.std.proofs.Common.{◌≡◌, ℕ, ◌<◌, Bool, true, false, not, cond, List, [], ◌∷◌, ◌++◌, length, reverse, Option, Some, None, refl, sym, ap, subst, ◌∙◌, append_assoc, arith, inl, inr}
+use Rattle.std.proofs.Common.{◌≡◌, ℕ, ◌<◌, Bool, true, false, not, cond, List, [], ◌∷◌, ◌++◌, map, length, reverse, Option, Some, None, refl, sym, ap, subst, ◌∙◌, append_assoc, arith, inl, inr}
 use Rattle.std.specs.Prelude.{◌&&◌, is_some}
 use Rattle.std.specs.Option.{option_to_list}
+use Rattle.std.specs.List.{filter}
 use Rattle.std.proofs.lemmas.Grind.{reverse_onto}
-use Rattle.std.proofs.lemmas.List.{length-reverse, append-nil}
+use Rattle.std.proofs.lemmas.List.{length-reverse, append-nil, map-append}
 use Rattle.std.proofs.lemmas.Bool.{eq-eqb}
-use Rattle.gh_base.specs.declared.value.Answer.{Answer}
+use Rattle.gh_world.specs.Vocabulary.{Answer, Op, Shape, Layout, Entry, Words, state_of, started, words_after, Legal, Ever, opening_ever, answer_of, ever_after, AllAnswer, Processor, Program, statements_of, answers_by, is_serving, is_statement, Act, acts, gives_at, is_busy_at}
 use Rattle.gh_base.specs.declared.value.Answer.TheVariants as answer
-use Rattle.gh_base.specs.declared.operation.Op.{Op}
 use Rattle.gh_base.specs.declared.operation.Op.TheVariants as op
-use Rattle.gh_base.specs.declared.shape.Shape.{Shape}
-use Rattle.gh_base.specs.declared.layout.Layout.{Layout}
-use Rattle.gh_base.specs.declared.machine.Entry.{Entry}
-use Rattle.gh_base.specs.Cells.{Words}
-use Rattle.gh_base.specs.Lists.{Begins, state_of, started, words_after, Legal}
-use Rattle.gh_model.specs.Ever.{Ever, opening_ever, answer_of, ever_after}
-use Rattle.gh_model.specs.Answers.{Answers, AllAnswer, ever_after_all}
-use Rattle.gh_mutator.specs.declared.point.Processor.{Processor}
-use Rattle.gh_mutator.specs.Listing.{acts, gives_at, Act, takes, begins, is_busy_at}
-use Rattle.gh_world.specs.Order.{processor_kind, setting_of, before_step, begun_in, ever_of, given_in, answer_at}
-use Rattle.gh_world.specs.Turns.{answers_to, goroutine_at, statement_now, turns_of}
-use Rattle.gh_script.specs.Program.{Program}
+use Rattle.gh_base.specs.Lists.{Begins}
+use Rattle.gh_model.specs.Answers.{Answers, ever_after_all}
+use Rattle.gh_world.specs.Order.{processor_kind, setting_of, before_step, begun_in, ever_of, order_of, acted_in, given_in, answer_at, Answered}
+use Rattle.gh_world.specs.Turns.{answers_to, goroutine_at, is_statement_of, statement_now, turns_of}
+use Rattle.gh_script.specs.Program.{op_of}
 use Rattle.gh_world.specs.World.{opening, answer_in, now_in}
-use Rattle.gh_world.specs.Runs.{IsRun, answers_given, with_goroutine, IsExplained}
+use Rattle.gh_world.specs.Runs.{IsRun, acted_by, answers_given, with_goroutine, IsExplained}
 use Rattle.gh_world.specs.Law.{processor_after, answers_in, ops_in, FullAt, FullOnly, Stands}
-use Rattle.gh_world.proofs.StepFacts.{step_facts, begin_facts}
-use Rattle.gh_mutator.specs.Serving.{answer_at as answer_at_point, is_serving, is_statement}
+use Rattle.gh_world.proofs.EachOnce.{acted_answers, acted_ops, none_beyond, turns_mine}
+use Rattle.gh_world.proofs.NoRoom.{full_means}
+use Rattle.gh_world.proofs.StepFacts.{step_facts, begin_facts, begins_busy}
+use Rattle.gh_mutator.specs.Serving.{answer_at as answer_at_task}
+use Rattle.gh_mutator.specs.Listing.{begins, takes}
+use Rattle.gh_world.proofs.Frames.{both}
 
 reverse_more : {A : Type 0} (x : A) (xs : List A) → reverse (x ∷ xs) ≡ reverse xs ++ x ∷ []
 reverse_more x xs = reverse_onto xs x []
@@ -139,20 +136,29 @@ one_answer o bs a = go (is_statement o) refl where
   go true e = rw e refl
   go false e = refl
 
+-- where no operation is listed, none acted
+none_acted : (xs : List Answered) → map (λ (a : Answered). a.op) xs ≡ [] → xs ≡ []
+none_acted [] e = refl
+none_acted (x ∷ xs) e = absurd (cc)
+
+map-reverse : {A B : Type 0} (f : A → B) (xs : List A) → map f (reverse xs) ≡ reverse (map f xs)
+map-reverse f [] = refl
+map-reverse f (x ∷ xs) = ap (map f) (reverse_more x xs) ∙ map-append f (reverse xs) (x ∷ []) ∙ ap (λ ys. ys ++ f x ∷ []) (map-reverse f xs) ∙ sym (reverse_more (f x) (map f xs))
+
 module _ (p : Program) (l : Layout) where
   abbrev after_list : List (Entry Op) → Processor
   after_list es = state_of (processor_kind p.shapes l) 0 es
 
   -- the operation o is begun and not ended, and what stood before it is answered
   record Runs (es : List (Entry Op)) (o : Op) (bs : List Op) (m : Processor) : Type 0 where
-    serving : is_serving m.point ≡ is_statement o
+    serving : is_serving m.task ≡ is_statement o
     answers : answers_given p l es ≡ answers_to (reverse bs) (reverse (given_in p.shapes l es))
     long : length bs ≡ length (given_in p.shapes l es)
 
   -- what the list has answered
   record Told (es : List (Entry Op)) : Type 0 where
-    idle : is_busy_at (after_list es).point ≡ false → (answers_given p l es ≡ answers_to (reverse (begun_in p.shapes l es)) (reverse (given_in p.shapes l es))) × (length (begun_in p.shapes l es) ≡ length (given_in p.shapes l es))
-    busy : is_busy_at (after_list es).point ≡ true → (o : Op) × (bs : List Op) × (begun_in p.shapes l es ≡ o ∷ bs) × Runs es o bs (after_list es)
+    idle : is_busy_at (after_list es).task ≡ false → (answers_given p l es ≡ answers_to (reverse (begun_in p.shapes l es)) (reverse (given_in p.shapes l es))) × (length (begun_in p.shapes l es) ≡ length (given_in p.shapes l es))
+    busy : is_busy_at (after_list es).task ≡ true → (o : Op) × (bs : List Op) × (begun_in p.shapes l es ≡ o ∷ bs) × Runs es o bs (after_list es)
 
   state_more : (e : Entry Op) (es : List (Entry Op)) → e.actor < 1 → after_list (e ∷ es) ≡ takes p.shapes (before_step p.shapes l es e) e.found
   state_more e es h = let zeroth : e.actor ≡ 0 = omega arith in ap (λ (b : Bool). cond b (takes p.shapes (before_step p.shapes l es e) e.found) (after_list es)) (eq-eqb e.actor 0 zeroth)
@@ -168,23 +174,23 @@ module _ (p : Program) (l : Layout) where
         begun_in p.shapes l es,
         ap (λ (b : Option Op). option_to_list b ++ begun_in p.shapes l es) is,
         subst (λ (b : Option Op). Runs es o (begun_in p.shapes l es) (started (processor_kind p.shapes l) b (after_list es))) (sym is) (record {
-          serving = (begin_facts p.shapes (after_list es) o).serves;
+          serving = (begin_facts p.shapes (after_list es) o (begins_busy p.shapes (after_list es) l.goroutines l.globals (length p.shapes) o (both _ _ (both _ _ (both _ _ begins.1).0).0).0)).serves;
           answers = here.0;
           long = here.1;
         }),
       )
 
   -- what the step gives, and where it leads
-  goes : (es : List (Entry Op)) (e : Entry Op) (o : Op) (bs : List Op) (g : Option Answer) → gives_at l.goroutines (before_step p.shapes l es e) (before_step p.shapes l es e).point e.found ≡ g → is_busy_at (before_step p.shapes l es e).point ≡ true →
+  goes : (es : List (Entry Op)) (e : Entry Op) (o : Op) (bs : List Op) (g : Option Answer) → gives_at (before_step p.shapes l es e) (before_step p.shapes l es e).task e.found ≡ g → is_busy_at (before_step p.shapes l es e).task ≡ true →
       e.actor < 1 → begun_in p.shapes l (e ∷ es) ≡ o ∷ bs → Runs es o bs (before_step p.shapes l es e) → Told (e ∷ es)
   goes es e o bs None is busy actor begun r =
       let m = before_step p.shapes l es e in
-      let s = step_facts p.shapes l.goroutines m m.point e.found busy in
-      let next : is_busy_at (takes p.shapes m e.found).point ≡ true = s.ends ∙ ap (λ (x : Option Answer). not (is_some x)) is in
-      let still : is_busy_at (after_list (e ∷ es)).point ≡ true = ap (λ (n : Processor). is_busy_at n.point) (state_more e es actor) ∙ next in
-      let serving : is_serving (takes p.shapes m e.found).point ≡ is_statement o = s.serves ∙ ap (λ (b : Bool). b && is_serving m.point) next ∙ r.serving in
+      let s = step_facts p.shapes m m.task e.found busy in
+      let next : is_busy_at (takes p.shapes m e.found).task ≡ true = s.ends ∙ ap (λ (x : Option Answer). not (is_some x)) is in
+      let still : is_busy_at (after_list (e ∷ es)).task ≡ true = ap (λ (n : Processor). is_busy_at n.task) (state_more e es actor) ∙ next in
+      let serving : is_serving (takes p.shapes m e.found).task ≡ is_statement o = s.serves ∙ ap (λ (b : Bool). b && is_serving m.task) next ∙ r.serving in
       let given : given_in p.shapes l (e ∷ es) ≡ given_in p.shapes l es = ap (λ (x : Option Answer). option_to_list x ++ given_in p.shapes l es) is in
-      let none : answer_in p.shapes l es e ≡ None = ap (λ (x : Option Answer). answer_at_point m.point x) is ∙ no_answer (is_serving m.point) in
+      let none : answer_in p.shapes l es e ≡ None = ap (λ (x : Option Answer). answer_at_task m.task x) is ∙ no_answer (is_serving m.task) in
       let answers : answers_given p l (e ∷ es) ≡ answers_given p l es = ap (λ (x : Option Answer). answers_given p l es ++ with_goroutine (now_in p.shapes l (e ∷ es)).0 x) none ∙ append-nil (answers_given p l es) in
       record {
         idle = λ h. absurd (let q = sym still ∙ h in cc);
@@ -193,7 +199,7 @@ module _ (p : Program) (l : Layout) where
           bs,
           begun,
           record {
-            serving = ap (λ (n : Processor). is_serving n.point) (state_more e es actor) ∙ serving;
+            serving = ap (λ (n : Processor). is_serving n.task) (state_more e es actor) ∙ serving;
             answers = answers ∙ r.answers ∙ ap (λ (xs : List Answer). answers_to (reverse bs) (reverse xs)) (sym given);
             long = r.long ∙ ap length (sym given);
           },
@@ -201,11 +207,11 @@ module _ (p : Program) (l : Layout) where
       }
   goes es e o bs (Some a) is busy actor begun r =
       let m = before_step p.shapes l es e in
-      let s = step_facts p.shapes l.goroutines m m.point e.found busy in
-      let next : is_busy_at (takes p.shapes m e.found).point ≡ false = s.ends ∙ ap (λ (x : Option Answer). not (is_some x)) is in
-      let over : is_busy_at (after_list (e ∷ es)).point ≡ false = ap (λ (n : Processor). is_busy_at n.point) (state_more e es actor) ∙ next in
+      let s = step_facts p.shapes m m.task e.found busy in
+      let next : is_busy_at (takes p.shapes m e.found).task ≡ false = s.ends ∙ ap (λ (x : Option Answer). not (is_some x)) is in
+      let over : is_busy_at (after_list (e ∷ es)).task ≡ false = ap (λ (n : Processor). is_busy_at n.task) (state_more e es actor) ∙ next in
       let given : given_in p.shapes l (e ∷ es) ≡ a ∷ given_in p.shapes l es = ap (λ (x : Option Answer). option_to_list x ++ given_in p.shapes l es) is in
-      let answer : answer_in p.shapes l es e ≡ cond (is_statement o) (Some a) None = ap (λ (x : Option Answer). answer_at_point m.point x) is ∙ ap (λ (b : Bool). cond b (Some a) None) r.serving in
+      let answer : answer_in p.shapes l es e ≡ cond (is_statement o) (Some a) None = ap (λ (x : Option Answer). answer_at_task m.task x) is ∙ ap (λ (b : Bool). cond b (Some a) None) r.serving in
       let now : now_in p.shapes l (e ∷ es) ≡ statement_now (o ∷ bs) = ap statement_now begun in
       let more : answers_given p l (e ∷ es) ≡ answers_given p l es ++ answers_to (o ∷ []) (a ∷ []) =
       ap (λ (x : Option Answer). answers_given p l es ++ with_goroutine (now_in p.shapes l (e ∷ es)).0 x) answer ∙ ap (λ (x : ℕ × ℕ). answers_given p l es ++ with_goroutine x.0 (cond (is_statement o) (Some a) None)) now ∙ ap (λ (xs : List (ℕ × Answer)). answers_given p l es ++ xs) (one_answer o bs a) in
@@ -224,22 +230,35 @@ module _ (p : Program) (l : Layout) where
   all_told (e ∷ es) h =
       let zeroth : e.actor ≡ 0 = let low = h.1.actor in omega arith in
       let begins : Begins (setting_of p.shapes l opening) 0 es e.begun = subst (λ (n : ℕ). Begins (setting_of p.shapes l opening) n es e.begun) zeroth h.1.begins in
-      let busy : is_busy_at (before_step p.shapes l es e).point ≡ true = subst (λ (n : ℕ). is_busy_at (started (processor_kind p.shapes l) e.begun (state_of (processor_kind p.shapes l) n es)).point ≡ true) zeroth h.1.runs in
+      let busy : is_busy_at (before_step p.shapes l es e).task ≡ true = subst (λ (n : ℕ). is_busy_at (started (processor_kind p.shapes l) e.begun (state_of (processor_kind p.shapes l) n es)).task ≡ true) zeroth h.1.runs in
       let w = starts es e e.begun refl begins (all_told es h.0) in
-      goes es e w.0 w.1 (gives_at l.goroutines (before_step p.shapes l es e) (before_step p.shapes l es e).point e.found) refl busy h.1.actor w.2 w.3
+      goes es e w.0 w.1 (gives_at (before_step p.shapes l es e) (before_step p.shapes l es e).task e.found) refl busy h.1.actor w.2 w.3
 
   -- a whole run's answers are explained, where every legal list stands
   pub run_explained : (es : List (Entry Op)) → IsRun p l es → Stands p.shapes l opening es → IsExplained p l es (answers_given p l es)
   run_explained es run stands =
-      let idle : is_busy_at (processor_after p.shapes l opening es).point ≡ false = ap is_busy_at run.done in
+      let idle : is_busy_at (processor_after p.shapes l opening es).task ≡ false = ap is_busy_at run.done in
       let acted = acted_all p.shapes l opening es stands.full in
-      let ops : reverse (ops_in p.shapes l opening es) ≡ turns_of p = ap (λ (xs : List Op). reverse xs) (stands.ops idle) ∙ run.turns in
-      let answers : reverse (answers_in p.shapes l opening es) ≡ reverse (given_in p.shapes l es) = ap (λ (xs : List Answer). reverse xs) (stands.answers idle) in
+      let in_order = acted_in p.shapes l es in
+      let ops : map (λ (a : Answered). a.op) in_order ≡ turns_of p = map-reverse (λ (a : Answered). a.op) (order_of p.shapes l es) ∙ ap (λ (xs : List Op). reverse xs) (stands.ops idle) ∙ run.turns in
+      let answers : map (λ (a : Answered). a.answer) in_order ≡ reverse (given_in p.shapes l es) = map-reverse (λ (a : Answered). a.answer) (order_of p.shapes l es) ∙ ap (λ (xs : List Answer). reverse xs) (stands.answers idle) in
+      let among : answers_given p l es ≡ answers_to (turns_of p) (map (λ (a : Answered). a.answer) in_order) =
+      ((all_told es run.legal).idle idle).0 ∙ ap (λ (xs : List Op). answers_to xs (reverse (given_in p.shapes l es))) run.turns ∙ ap (λ (as' : List Answer). answers_to (turns_of p) as') (sym answers) in
+      let mine : (g : ℕ) → map (λ (a : Answered). a.op) (acted_by g in_order) ≡ map (op_of g) (statements_of p g) = λ g. acted_ops p g in_order ∙ ap (λ (xs : List Op). filter (is_statement_of g) xs) ops ∙ turns_mine p g in
       record {
         run = run;
         given = refl;
-        all = reverse (given_in p.shapes l es);
-        ever = subst (λ (as' : List Answer). AllAnswer p.shapes opening_ever (turns_of p) as') answers (subst (λ (xs : List Op). AllAnswer p.shapes opening_ever xs (reverse (answers_in p.shapes l opening es))) ops acted.all);
-        among = ((all_told es run.legal).idle idle).0 ∙ ap (λ (xs : List Op). answers_to xs (reverse (given_in p.shapes l es))) run.turns;
-        full = stands.full;
+        all = map (λ (a : Answered). a.answer) in_order;
+        acted = ops;
+        answered = refl;
+        ever = subst (λ (xs : List Op). AllAnswer p.shapes opening_ever xs (map (λ (a : Answered). a.answer) in_order)) ops
+            (subst (λ (as' : List Answer). AllAnswer p.shapes opening_ever (map (λ (a : Answered). a.op) in_order) as') (sym (map-reverse (λ (a : Answered). a.answer) (order_of p.shapes l es)))
+            (subst (λ (xs : List Op). AllAnswer p.shapes opening_ever xs (reverse (answers_in p.shapes l opening es))) (sym (map-reverse (λ (a : Answered). a.op) (order_of p.shapes l es))) acted.all));
+        among = among;
+        each = λ g. record {
+          statements = mine g;
+          answered = acted_answers p g in_order ∙ ap (λ (xs : List Op). answers_by g (answers_to xs (map (λ (a : Answered). a.answer) in_order))) ops ∙ ap (answers_by g) (sym among);
+        };
+        others = λ g le. none_acted (acted_by g in_order) (mine g ∙ ap (map (op_of g)) (none_beyond p g le));
+        full = full_means p.shapes l opening es stands.full;
       }

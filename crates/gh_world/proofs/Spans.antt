@@ -7,13 +7,13 @@ use Rattle.std.proofs.lemmas.Bool.Decides.{nat_tests}
 use Rattle.gh_base.specs.declared.pack.SpanHead.{SpanHead}
 use Rattle.gh_base.specs.declared.pack.SpanBody.{SpanBody}
 use Rattle.gh_base.specs.declared.pack.PageWord.TheVariants as page
-use Rattle.gh_base.specs.declared.pack.TheConstants.{LARGE}
-use Rattle.gh_base.specs.Packing.{IsClass, page_of, page_class, page_noscan}
-use Rattle.gh_class.specs.Classes.{slot_of, pages_of, slots_of}
-use Rattle.gh_mutator.specs.Listing.{slot_in}
-use Rattle.gh_world.specs.Stands.{slot_count, slot_size, body_at, IsSpan, IsSlot}
-use Rattle.gh_world.proofs.Classes.{class_good}
-use Rattle.gh_bitmap.specs.Bits.{Row}
+use Rattle.gh_base.specs.Packing.{page_of, page_class, page_noscan, page_pages, slot_for, slot_in}
+use Rattle.gh_class.specs.declared.class.SizeClass.{SizeClass}
+use Rattle.gh_class.specs.declared.class.SizeClass.TheVariants as size
+use Rattle.gh_class.specs.Classes.{slot_of, pages_of, slots_of, IsSizeClass}
+use Rattle.gh_world.specs.Stands.{number_of, is_own_class, slot_count, slot_size, body_at, IsSpan, IsSlot}
+use Rattle.gh_world.proofs.Classes.{class_good, slot_for_is, small_class_below, small_not_own}
+use Rattle.gh_base.specs.Rows.{Row}
 
 head_is : (g h : SpanHead) → page.Head g ≡ page.Head h → g ≡ h
 head_is g h e = cc
@@ -66,17 +66,16 @@ pub record SlotsFit (h : SpanHead) : Type 0 where
   pub size : 1 ≤ slot_size h
   pub within : slot_count h * slot_size h ≤ 1024 * h.pages
 
-slots_fit_by : (h : SpanHead) (b : Bool) → eqb h.class LARGE ≡ b → IsClass h.class → 1 ≤ h.pages → (h.class ≢ LARGE → h.pages ≡ pages_of h.class) →
-    (1 ≤ cond b (1024 * h.pages) (slot_of h.class / 8)) × (cond b 1 (slots_of h.class) * cond b (1024 * h.pages) (slot_of h.class / 8) ≤ 1024 * h.pages)
+slots_fit_by : (h : SpanHead) (b : Bool) → is_own_class h.class ≡ b → IsSizeClass h.class → 1 ≤ h.pages → (h.class ≢ size.Large → h.pages ≡ pages_of (number_of h.class)) →
+    (1 ≤ cond b (1024 * h.pages) (slot_of (number_of h.class) / 8)) × (cond b 1 (slots_of (number_of h.class)) * cond b (1024 * h.pages) (slot_of (number_of h.class) / 8) ≤ 1024 * h.pages)
 slots_fit_by h true e class some small = (omega arith, omega arith)
 slots_fit_by h false e class some small =
-    let ne : h.class ≢ LARGE = grind (arith, nat_tests) in
-    let low : h.class < 25 = elim class [ inl x ↦ x | inr x ↦ absurd (ne x) ] in
-    let good = class_good h.class low in
+    let ne : h.class ≢ size.Large = small_not_own h.class e in
+    let good = class_good (number_of h.class) (small_class_below h.class class ne) in
     (good.size, rw (small ne) good.within)
 
 pub slots_fit : (pages : ℕ) (row : Row) (p : ℕ) (h : SpanHead) → IsSpan pages row p h → SlotsFit h
-slots_fit pages row p h s = let f = slots_fit_by h (eqb h.class LARGE) refl s.class s.some s.small in record { size = f.0; within = f.1 }
+slots_fit pages row p h s = let f = slots_fit_by h (is_own_class h.class) refl s.class s.some s.small in record { size = f.0; within = f.1 }
 
 -- where word j of the slot lies
 pub record SlotWord (pages : ℕ) (row : Row) (a size j : ℕ) (p : ℕ) (h : SpanHead) : Type 0 where
@@ -133,23 +132,21 @@ slot_within pages row a size s =
     (omega arith, omega arith)
 
 -- the page word of a slot's first heap word gives its size
-size_by : (pages : ℕ) (row : Row) (a size : ℕ) (s : IsSlot pages row a size) (b : Bool) → eqb s.h.class LARGE ≡ b → slot_in (page_of (row (a / 1024))) ≡ size
+size_by : (pages : ℕ) (row : Row) (a size : ℕ) (s : IsSlot pages row a size) (b : Bool) → is_own_class s.h.class ≡ b → slot_in (page_of (row (a / 1024))) ≡ size
 size_by pages row a size s true e =
-    let large : s.h.class ≡ LARGE = eqb-true _ _ e in
     let count : slot_count s.h ≡ 1 = rw e refl in
     let first : s.i ≡ 0 = let lt : s.i < 1 = rw (← count) s.inside in omega arith in
     let at : a ≡ 1024 * s.p = s.at ∙ ap (λ (n : ℕ). 1024 * s.p + n * size) first ∙ omega arith in
     let q : a / 1024 ≡ s.p = omega arith in
     let word : page_of (row (a / 1024)) ≡ page.Head s.h = ap (λ (x : ℕ). page_of (row x)) q ∙ s.span.head in
-    let whole : slot_size s.h ≡ 1024 * s.h.pages = rw e refl in
-    rw word (rw e (sym (s.size_is ∙ whole)))
+    ap slot_in word ∙ slot_for_is s.h.class s.h.pages ∙ sym (s.size_is)
 size_by pages row a size s false e =
     let some = slot_some pages row a size s in
     let first = slot_word pages row a size 0 s some in
     let q : (a + 0) / 1024 ≡ a / 1024 = omega arith in
     let here = page_in_span pages row s.p s.h (a / 1024) s.span (rw (← q) first.low) (rw (← q) first.high) in
-    let size_is : slot_size s.h ≡ slot_of s.h.class / 8 = rw e refl in
-    rw (here.0, e) (sym (s.size_is ∙ size_is))
+    let size_is : slot_size s.h ≡ slot_of (number_of s.h.class) / 8 = rw e refl in
+    ap (λ (c : SizeClass). slot_for c (page_pages (page_of (row (a / 1024))))) here.0 ∙ slot_for_is s.h.class (page_pages (page_of (row (a / 1024)))) ∙ ap (λ (b : Bool). cond b (1024 * page_pages (page_of (row (a / 1024)))) (slot_of (number_of s.h.class) / 8)) e ∙ sym (s.size_is ∙ size_is)
 
 pub slot_in_page : (pages : ℕ) (row : Row) (a size : ℕ) → IsSlot pages row a size → slot_in (page_of (row (a / 1024))) ≡ size
-slot_in_page pages row a size s = size_by pages row a size s (eqb s.h.class LARGE) refl
+slot_in_page pages row a size s = size_by pages row a size s (is_own_class s.h.class) refl

@@ -1,216 +1,261 @@
 -- What each step, and each beginning, is to a statement: it acts once, it is answered last, and its object is counted once.
-use Rattle.std.proofs.Common.{◌≡◌, ℕ, ◌+◌, ◌*◌, ◌/◌, ◌%◌, ◌≤◌, Bool, true, false, cond, eqb, ltb, leb, not, ◌&&◌, List, get_or, refl, ap, subst, Option, Some, None, arith}
+use Rattle.std.proofs.Common.{◌≡◌, ℕ, ◌+◌, ◌-◌, ◌≤◌, Bool, true, false, cond, ltb, not, ◌&&◌, List, get_or, refl, sym, ap, ◌∙◌, Option, Some, None, arith}
 use Rattle.std.specs.Prelude.{is_some}
 use Rattle.std.proofs.Math.ListN.{set}
-use Rattle.std.proofs.lemmas.Bool.Decides.{nat_tests}
-use Rattle.std.specs.Int.{bit_at}
-use Rattle.gh_base.specs.declared.value.Value.{Value}
-use Rattle.gh_base.specs.declared.value.Value.TheVariants as value
-use Rattle.gh_base.specs.declared.value.Answer.{Answer}
+use Rattle.gh_world.specs.Vocabulary.{Layout, Op, SpanHead, Shape, Answer, Value, bit, Found, At, PlaceStage, Finding, Placing, Global, GlobalStage, LoadStage, NewStage, Find, Place, Wanted, Own, Processor, Register, Source, Step, StoreStage, Task, is_pointer_by, kinds_differ, value_of, Act, acting, acts_at, applied, begins_at, gives_at, is_busy_at, op_at, takes_at, after_find, finds_none, is_made, made_object, makes, searches, at_task, cache_span, made_by, register_of, is_leaving, is_point, is_serving, is_statement}
+use Rattle.gh_base.specs.declared.operation.Op.TheVariants as op
 use Rattle.gh_base.specs.declared.value.Answer.TheVariants as answer
 use Rattle.gh_base.specs.declared.value.Fault.TheVariants as fault
-use Rattle.gh_base.specs.declared.operation.Op.{Op}
-use Rattle.gh_base.specs.declared.operation.Op.TheVariants as op
-use Rattle.gh_base.specs.declared.shape.Shape.{Shape}
-use Rattle.gh_base.specs.Shapes.{shape_at}
-use Rattle.gh_base.specs.declared.pack.TheConstants.{LARGE}
-use Rattle.gh_base.specs.Packing.{bit, page_of}
-use Rattle.gh_class.specs.Classes.{pages_of, class_number, slot_words}
-use Rattle.gh_mutator.specs.declared.point.Wanted.{Wanted}
-use Rattle.gh_base.specs.declared.pack.SpanHead.{SpanHead}
-use Rattle.gh_bitmap.specs.Setting as bits
-use Rattle.gh_alloc.specs.declared.find.Found.{Found}
-use Rattle.gh_alloc.specs.declared.find.Found.TheVariants.{At, NoRoom}
-use Rattle.gh_alloc.specs.declared.place.PlacePoint.{PlacePoint}
-use Rattle.gh_alloc.specs.declared.place.PlacePoint.TheVariants as making_point
-use Rattle.gh_alloc.specs.Finding.{Finding}
-use Rattle.gh_alloc.specs.Finding as find
-use Rattle.gh_alloc.specs.Placing.{Placing}
-use Rattle.gh_alloc.specs.Placing as place
-use Rattle.gh_mutator.specs.declared.point.Processor.{Processor}
-use Rattle.gh_mutator.specs.declared.point.Point.{Point}
-use Rattle.gh_mutator.specs.declared.point.Point.TheVariants.{Idle, Left, Touch, LoadPage, LoadBits, LoadField, LoadBirth, StorePage, StoreBits, StoreField, GlobalLoad, GlobalStore, Find, Place, End, Leave}
-use Rattle.gh_mutator.specs.Listing.{slot_in, value_of, kinds_differ, register_of, set_register, made_by, at_point, is_large, is_made, span_class, begins_at, begin_load, begin_store, begin_global_store, wanted_of, finding, takes_at, after_find, after_found, after_place, made_object, gives_at, acts_at, acting, Act, told_value, finds_none, load_op, store_op, new_op, is_busy_at}
-use Rattle.gh_world.specs.Points.{op_at}
+use Rattle.gh_base.specs.declared.value.Value.TheVariants as value
+use Rattle.gh_bitmap.specs.SetPointers as bits
+use Rattle.gh_alloc.specs.declared.sought.Found.TheVariants.{NoRoom}
+use Rattle.gh_alloc.specs.declared.place.PlaceStage.TheVariants as place_stage
+use Rattle.gh_alloc.specs.Find as find
+use Rattle.gh_alloc.specs.Place as place
+use Rattle.gh_mutator.specs.declared.global.GlobalStage.TheVariants as global_stage
+use Rattle.gh_mutator.specs.declared.load.Load.{Load}
+use Rattle.gh_mutator.specs.declared.load.LoadStage.TheVariants as load_stage
+use Rattle.gh_mutator.specs.declared.own.Own.TheVariants as own
+use Rattle.gh_mutator.specs.declared.register.Source.TheVariants as source
+use Rattle.gh_mutator.specs.declared.step.Then.{Then}
+use Rattle.gh_mutator.specs.declared.step.Then.TheVariants.{GoesOn, Ends}
+use Rattle.gh_mutator.specs.declared.store.Store.{Store}
+use Rattle.gh_mutator.specs.declared.store.StoreStage.TheVariants as store_stage
+use Rattle.gh_mutator.specs.declared.task.Task.TheVariants as task
+use Rattle.gh_mutator.specs.Fields.{has_field, takes}
+use Rattle.gh_mutator.specs.Global as global
+use Rattle.gh_mutator.specs.Listing.{follows}
+use Rattle.gh_mutator.specs.Load as load
+use Rattle.gh_mutator.specs.New.{after_place, op_of as new_op}
+use Rattle.gh_mutator.specs.Processor.{with_value}
+use Rattle.gh_mutator.specs.Serving.{answer_at}
+use Rattle.gh_mutator.specs.Step.{answered, ends, goes_on}
+use Rattle.gh_mutator.specs.Store as store
+use Rattle.gh_world.specs.Order.{in_range}
 use Rattle.gh_world.specs.Turns.{is_unacted, is_leave}
-use Rattle.gh_world.proofs.Reading.{read_after_set}
-use Rattle.gh_mutator.specs.Serving.{is_point, is_statement, is_serving, answer_at, is_leaving}
 use Rattle.gh_world.specs.World.{making}
+use Rattle.gh_world.proofs.Reading.{read_after_set}
 
--- from point p and the processor m to the next one, with the act and the answer of the step
-pub record StepFacts (m : Processor) (p : Point) (next : Processor) (act : Option Act) (given : Option Answer) : Type 0 where
-  pub counted : (g : ℕ) → made_by next g + making next.point ≤ made_by m g + making p
-  pub leaves : is_leaving next.point ≡ is_leaving p
-  pub answered : bit (is_some (answer_at p given)) + bit (is_serving next.point) ≤ bit (is_serving p)
-  pub once : bit (is_unacted (op_at p)) ≡ bit (is_unacted (op_at next.point)) + bit (is_point act)
-  pub ends : is_busy_at next.point ≡ not (is_some given)
-  pub serves : is_serving next.point ≡ (is_busy_at next.point && is_serving p)
+-- from task t and the processor m to the next one, with the act and the answer of the step
+pub record StepFacts (m : Processor) (t : Task) (next : Processor) (act : Option Act) (given : Option Answer) : Type 0 where
+  pub counted : (g : ℕ) → made_by next g + making next.task ≤ made_by m g + making t
+  pub leaves : is_leaving next.task ≡ is_leaving t
+  pub answered : bit (is_some (answer_at t given)) + bit (is_serving next.task) ≤ bit (is_serving t)
+  pub once : bit (is_unacted (op_at t)) ≡ bit (is_unacted (op_at next.task)) + bit (is_point act)
+  pub ends : is_busy_at next.task ≡ not (is_some given)
+  pub serves : is_serving next.task ≡ (is_busy_at next.task && is_serving t)
 
-module _ (shapes : List Shape) (goroutines : ℕ) (m : Processor) where
-  abbrev pub FactsAt : Point → ℕ → Type 0
-  FactsAt p found = StepFacts m p (takes_at shapes m p found) (acts_at m p found) (gives_at goroutines m p found)
+-- ---- a statement whose steps change no more than its register
 
-  load_page_facts : (x : _) (found : ℕ) → FactsAt (LoadPage x) found
-  load_page_facts x found = go (ltb x.k (slot_in (page_of found))) (leb (slot_in (page_of found)) x.k) refl refl where
-    go : (a b : Bool) → ltb x.k (slot_in (page_of found)) ≡ a → leb (slot_in (page_of found)) x.k ≡ b →
-        StepFacts m (LoadPage x) (at_point m (cond a (LoadBits x) Idle)) (acting b (load_op x) false) (cond a None (Some (answer.Fault fault.Field)))
-    go true true e f = absurd (grind (arith, nat_tests))
-    go true false e f = record { counted = λ g. omega arith; leaves = refl; answered = omega arith; once = refl; ends = refl; serves = refl }
-    go false true e f = record { counted = λ g. omega arith; leaves = refl; answered = omega arith; once = refl; ends = refl; serves = refl }
-    go false false e f = absurd (grind (arith, nat_tests))
+-- its tasks are those of a statement
+record IsServed {S : Type 0} (into : S → Task) : Type 0 where
+  serves : (x : S) → is_serving (into x) ≡ true
+  leaves : (x : S) → is_leaving (into x) ≡ false
+  makes : (x : S) → making (into x) ≡ 0
+  busy : (x : S) → is_busy_at (into x) ≡ true
 
-  store_page_facts : (x : _) (found : ℕ) → FactsAt (StorePage x) found
-  store_page_facts x found = go (ltb x.k (slot_in (page_of found))) (leb (slot_in (page_of found)) x.k) refl refl where
-    go : (a b : Bool) → ltb x.k (slot_in (page_of found)) ≡ a → leb (slot_in (page_of found)) x.k ≡ b →
-        StepFacts m (StorePage x) (at_point m (cond a (StoreBits x) Idle)) (acting b (store_op x) false) (cond a None (Some (answer.Fault fault.Field)))
-    go true true e f = absurd (grind (arith, nat_tests))
-    go true false e f = record { counted = λ g. omega arith; leaves = refl; answered = omega arith; once = refl; ends = refl; serves = refl }
-    go false true e f = record { counted = λ g. omega arith; leaves = refl; answered = omega arith; once = refl; ends = refl; serves = refl }
-    go false false e f = absurd (grind (arith, nat_tests))
+-- it acts once
+abbrev ActsOnce : {S : Type 0} → (S → Task) → S → Step S → Type 0
+ActsOnce into x step = bit (is_unacted (op_at (into x))) ≡ bit (is_unacted (op_at (follows into step.then))) + bit step.acts
 
-  store_bits_facts : (x : _) (found : ℕ) → FactsAt (StoreBits x) found
-  store_bits_facts x found = go (kinds_differ (eqb (bit_at found ((x.at + x.k) % 64)) 1) (register_of m x.g x.v)) where
-    go : (a : Bool) → StepFacts m (StoreBits x) (at_point m (cond a Idle (StoreField x))) (acting a (store_op x) false) (cond a (Some (answer.Fault fault.Kind)) None)
-    go true = record { counted = λ g. omega arith; leaves = refl; answered = omega arith; once = refl; ends = refl; serves = refl }
-    go false = record { counted = λ g. omega arith; leaves = refl; answered = omega arith; once = refl; ends = refl; serves = refl }
+point_bit : (acts : Bool) (o : Op) → is_statement o ≡ true → bit (is_point (acting acts o false)) ≡ bit acts
+point_bit true o e = ap bit e
+point_bit false o e = refl
 
-  load_field_facts : (x : _) (p : Bool) (found : ℕ) → FactsAt (LoadField x p) found
-  load_field_facts x p found = go (value_of m.layout.pages p found) where
-    go : (v : Value) → StepFacts m (LoadField x p) (at_point (set_register m x.g x.d v) (after_found v)) (acting true (load_op x) false) (told_value v)
-    go value.Nil = record { counted = λ g. omega arith; leaves = refl; answered = omega arith; once = refl; ends = refl; serves = refl }
-    go (value.Int n) = record { counted = λ g. omega arith; leaves = refl; answered = omega arith; once = refl; ends = refl; serves = refl }
-    go (value.Ref n) = record { counted = λ g. omega arith; leaves = refl; answered = omega arith; once = refl; ends = refl; serves = refl }
+from_step : {S : Type 0} (into : S → Task) (m : Processor) (g d : ℕ) (x : S) (step : Step S) (o : Op) → IsServed into → is_statement o ≡ true → ActsOnce into x step → StepFacts m (into x) (applied into m g d step) (acting step.acts o false) (answered step.then)
+from_step {S} into m g d x step o h is once = by step.then once where
+  point : bit (is_point (acting step.acts o false)) ≡ bit step.acts
+  point = point_bit step.acts o is
 
-  global_load_facts : (g d k found : ℕ) → FactsAt (GlobalLoad g d k) found
-  global_load_facts g d k found = go (value_of m.layout.pages true found) where
-    go : (v : Value) → StepFacts m (GlobalLoad g d k) (at_point (set_register m g d v) (after_found v)) (acting true (op.GetGlobal g d k) false) (told_value v)
-    go value.Nil = record { counted = λ h. omega arith; leaves = refl; answered = omega arith; once = refl; ends = refl; serves = refl }
-    go (value.Int n) = record { counted = λ h. omega arith; leaves = refl; answered = omega arith; once = refl; ends = refl; serves = refl }
-    go (value.Ref n) = record { counted = λ h. omega arith; leaves = refl; answered = omega arith; once = refl; ends = refl; serves = refl }
+  by : (then : Then S) → bit (is_unacted (op_at (into x))) ≡ bit (is_unacted (op_at (follows into then))) + bit step.acts → StepFacts m (into x) (at_task (with_value m g d step.sets) (follows into then)) (acting step.acts o false) (answered then)
+  by (Ends a) once = record {
+    counted = λ k. omega arith;
+    leaves = sym (h.leaves x);
+    answered = rw (h.serves x) (omega arith);
+    once = once ∙ ap (λ (n : ℕ). 0 + n) (sym point);
+    ends = refl;
+    serves = refl;
+  }
+  by (GoesOn y) once = record {
+    counted = λ k. rw (h.makes y) (omega arith);
+    leaves = h.leaves y ∙ sym (h.leaves x);
+    answered = rw (h.serves x, h.serves y) (omega arith);
+    once = once ∙ ap (λ (n : ℕ). bit (is_unacted (op_at (into y))) + n) (sym point);
+    ends = h.busy y;
+    serves = rw (h.serves y, h.busy y, h.serves x) refl;
+  }
 
-  touch_facts : (o : Op) (found : ℕ) → FactsAt (Touch o) found
-  touch_facts (op.Int g d n) found = record { counted = λ h. omega arith; leaves = refl; answered = omega arith; once = refl; ends = refl; serves = refl }
-  touch_facts (op.Move g d x) found = record { counted = λ h. omega arith; leaves = refl; answered = omega arith; once = refl; ends = refl; serves = refl }
-  touch_facts (op.Nil g d) found = record { counted = λ h. omega arith; leaves = refl; answered = omega arith; once = refl; ends = refl; serves = refl }
-  touch_facts (op.New g d t) found = record { counted = λ h. omega arith; leaves = refl; answered = omega arith; once = refl; ends = refl; serves = refl }
-  touch_facts (op.Load g d b k) found = record { counted = λ h. omega arith; leaves = refl; answered = omega arith; once = refl; ends = refl; serves = refl }
-  touch_facts (op.Store g b k v) found = record { counted = λ h. omega arith; leaves = refl; answered = omega arith; once = refl; ends = refl; serves = refl }
-  touch_facts (op.GetGlobal g d k) found = record { counted = λ h. omega arith; leaves = refl; answered = omega arith; once = refl; ends = refl; serves = refl }
-  touch_facts (op.SetGlobal g k v) found = record { counted = λ h. omega arith; leaves = refl; answered = omega arith; once = refl; ends = refl; serves = refl }
-  touch_facts (op.Gc g) found = record { counted = λ h. omega arith; leaves = refl; answered = omega arith; once = refl; ends = refl; serves = refl }
-  touch_facts op.Poll found = record { counted = λ h. omega arith; leaves = refl; answered = omega arith; once = refl; ends = refl; serves = refl }
-  touch_facts (op.End g) found = record { counted = λ h. omega arith; leaves = refl; answered = omega arith; once = refl; ends = refl; serves = refl }
-  touch_facts op.Leave found = record { counted = λ h. omega arith; leaves = refl; answered = omega arith; once = refl; ends = refl; serves = refl }
+-- a value that is found
+value_once : {S : Type 0} (naming : ℕ → S) (into : S → Task) (v : Value) → ((a : ℕ) → op_at (into (naming a)) ≡ None) → 1 ≡ bit (is_unacted (op_at (follows into (takes naming v).then))) + 1
+value_once naming into value.Nil none = refl
+value_once naming into (value.Int n) none = refl
+value_once naming into (value.Ref r) none = ap (λ (o : Option Op). bit (is_unacted o) + 1) (sym (none (r - 1)))
 
-  find_facts : (w : Wanted) (f : Finding) (found : ℕ) → FactsAt (Find w f) found
-  find_facts w f found = go (is_large w) (find.gives f found) where
-    cached : Processor
-    cached = record m { cache = set m.cache (span_class w) (find.goes f found).cached }
+load_served : IsServed task.Load
+load_served = record { serves = λ x. refl; leaves = λ x. refl; makes = λ x. refl; busy = λ x. refl }
 
-    go : (large : Bool) (out : Option Found) → StepFacts m (Find w f) (after_find shapes (cond large m cached) w (find.goes f found) out) (acting (finds_none out) (new_op w) true) (cond (finds_none out) (Some answer.Full) None)
-    go true None = record { counted = λ g. omega arith; leaves = refl; answered = omega arith; once = refl; ends = refl; serves = refl }
-    go true (Some (At a)) = record { counted = λ g. omega arith; leaves = refl; answered = omega arith; once = refl; ends = refl; serves = refl }
-    go true (Some NoRoom) = record { counted = λ g. omega arith; leaves = refl; answered = omega arith; once = refl; ends = refl; serves = refl }
-    go false None = record { counted = λ g. omega arith; leaves = refl; answered = omega arith; once = refl; ends = refl; serves = refl }
-    go false (Some (At a)) = record { counted = λ g. omega arith; leaves = refl; answered = omega arith; once = refl; ends = refl; serves = refl }
-    go false (Some NoRoom) = record { counted = λ g. omega arith; leaves = refl; answered = omega arith; once = refl; ends = refl; serves = refl }
+load_page_once : (x : Load) (b : Bool) → ActsOnce task.Load (load.at_stage x load_stage.Page) (cond b (goes_on (load.at_stage x load_stage.Bits)) (ends (answer.Fault fault.Field)))
+load_page_once x true = refl
+load_page_once x false = refl
+
+load_once : (l : Layout) (x : Load) (s : LoadStage) (found : ℕ) → ActsOnce task.Load (load.at_stage x s) (load.step_at l x s found)
+load_once l x load_stage.NilBase found = refl
+load_once l x load_stage.Page found = load_page_once x (has_field x.k found)
+load_once l x load_stage.Bits found = refl
+load_once l x (load_stage.Field p) found = value_once (load.naming x) task.Load (value_of l.pages p found) (λ a. refl)
+load_once l x (load_stage.Birth a) found = refl
+
+store_served : IsServed task.Store
+store_served = record { serves = λ x. refl; leaves = λ x. refl; makes = λ x. refl; busy = λ x. refl }
+
+store_page_once : (x : Store) (b : Bool) → ActsOnce task.Store (store.at_stage x store_stage.Page) (cond b (goes_on (store.at_stage x store_stage.Bits)) (ends (answer.Fault fault.Field)))
+store_page_once x true = refl
+store_page_once x false = refl
+
+store_bits_once : (x : Store) (b : Bool) → ActsOnce task.Store (store.at_stage x store_stage.Bits) (cond b (ends (answer.Fault fault.Kind)) (goes_on (store.at_stage x store_stage.Field)))
+store_bits_once x true = refl
+store_bits_once x false = refl
+
+store_once : (l : Layout) (held : Value) (x : Store) (s : StoreStage) (found : ℕ) → ActsOnce task.Store (store.at_stage x s) (store.step_at l held x s found)
+store_once l held x store_stage.NilBase found = refl
+store_once l held x store_stage.Page found = store_page_once x (has_field x.k found)
+store_once l held x store_stage.Bits found = store_bits_once x (kinds_differ (is_pointer_by l (x.at + x.k) found) held)
+store_once l held x store_stage.Field found = refl
+
+global_served : IsServed task.Global
+global_served = record { serves = λ x. refl; leaves = λ x. refl; makes = λ x. refl; busy = λ x. refl }
+
+global_once : (l : Layout) (held : Value) (x : Global) (s : GlobalStage) (found : ℕ) → ActsOnce task.Global (global.at_stage x s) (global.step_at l held x s found)
+global_once l held x global_stage.Load found = value_once (global.naming x) task.Global (value_of l.pages true found) (λ a. refl)
+global_once l held x (global_stage.Birth a) found = refl
+global_once l held x global_stage.Store found = refl
+global_once l held x global_stage.Number found = refl
+
+global_statement : (x : Global) (s : GlobalStage) → is_statement (global.op_in x s) ≡ true
+global_statement x global_stage.Load = refl
+global_statement x (global_stage.Birth a) = refl
+global_statement x global_stage.Store = refl
+global_statement x global_stage.Number = refl
+
+-- ---- each step
+
+module _ (shapes : List Shape) (m : Processor) where
+  abbrev pub FactsAt : Task → ℕ → Type 0
+  FactsAt t found = StepFacts m t (takes_at shapes m t found) (acts_at m t found) (gives_at m t found)
+
+  register_facts : (x : Register) (s : Source) (found : ℕ) → FactsAt (task.Register (record x { source = s })) found
+  register_facts x (source.Int n) found = record { counted = λ h. omega arith; leaves = refl; answered = omega arith; once = refl; ends = refl; serves = refl }
+  register_facts x (source.Move d) found = record { counted = λ h. omega arith; leaves = refl; answered = omega arith; once = refl; ends = refl; serves = refl }
+  register_facts x source.Nil found = record { counted = λ h. omega arith; leaves = refl; answered = omega arith; once = refl; ends = refl; serves = refl }
+
+  own_facts : (x : Own) (found : ℕ) → FactsAt (task.Own x) found
+  own_facts own.Poll found = record { counted = λ h. omega arith; leaves = refl; answered = omega arith; once = refl; ends = refl; serves = refl }
+  own_facts (own.End g) found = record { counted = λ h. omega arith; leaves = refl; answered = omega arith; once = refl; ends = refl; serves = refl }
+  own_facts own.Leave found = record { counted = λ h. omega arith; leaves = refl; answered = omega arith; once = refl; ends = refl; serves = refl }
+
+  find_facts : (w : Wanted) (f : Finding) (found : ℕ) → FactsAt (searches w f) found
+  find_facts w f found = go (find.gives f found) where
+    go : (out : Option Found) → StepFacts m (searches w f) (after_find shapes (cache_span m w.sought (find.goes f found).cached) w (find.goes f found) out) (acting (finds_none out) (new_op w) true) (cond (finds_none out) (Some answer.Full) None)
+    go None = record { counted = λ g. omega arith; leaves = refl; answered = omega arith; once = refl; ends = refl; serves = refl }
+    go (Some (At a)) = record { counted = λ g. omega arith; leaves = refl; answered = omega arith; once = refl; ends = refl; serves = refl }
+    go (Some NoRoom) = record { counted = λ g. omega arith; leaves = refl; answered = omega arith; once = refl; ends = refl; serves = refl }
 
   -- a step of the making before the object is made, the one that makes it, and one behind that
-  before_made : (w : Wanted) (p n : Placing) → is_made p.point ≡ false → is_made n.point ≡ false → StepFacts m (Place w p) (at_point m (Place w n)) None None
+  before_made : (w : Wanted) (p n : Placing) → is_made p.stage ≡ false → is_made n.stage ≡ false → StepFacts m (makes w p) (at_task m (makes w n)) None None
   before_made w p n here next = record { counted = λ g. rw (here, next) (omega arith); leaves = refl; answered = omega arith; once = rw (here, next) refl; ends = refl; serves = refl }
 
-  now_made : (w : Wanted) (p n : Placing) (a : ℕ) → is_made p.point ≡ false → is_made n.point ≡ true → StepFacts m (Place w p) (at_point (made_object m w a) (Place w n)) (acting true (new_op w) false) None
+  now_made : (w : Wanted) (p n : Placing) (a : ℕ) → is_made p.stage ≡ false → is_made n.stage ≡ true → StepFacts m (makes w p) (at_task (made_object m w a) (makes w n)) (acting true (new_op w) false) None
   now_made w p n a here next = record { counted = λ g. rw (here, next) (omega (arith, more g)); leaves = refl; answered = omega arith; once = rw (here, next) refl; ends = refl; serves = refl } where
     more : (g : ℕ) → get_or (set m.made w.g (made_by m w.g + 1)) g 0 ≤ made_by m g + 1
     more g = read_after_set (λ (n : ℕ). n ≤ made_by m g + 1) m.made w.g g (made_by m w.g + 1) 0
         (λ e. let same : made_by m w.g ≡ made_by m g = ap (λ (h : ℕ). made_by m h) e in omega arith) (omega arith)
 
-  place_facts : (w : Wanted) (p : Placing) (found : ℕ) (q : PlacePoint) → FactsAt (Place w (place.at_point p q)) found
-  place_facts w p found (making_point.Clear k) = go (ltb (k + 1) p.slot) where
-    go : (b : Bool) → StepFacts m (Place w (place.at_point p (making_point.Clear k))) (after_place m w false p.at (place.at_point p (cond b (making_point.Clear (k + 1)) making_point.Birth))) None
-        (cond (place.is_busy (cond b (making_point.Clear (k + 1)) making_point.Birth)) None (Some (answer.Ref p.name)))
+  place_facts : (w : Wanted) (p : Placing) (found : ℕ) (q : PlaceStage) → FactsAt (makes w (place.at_stage p q)) found
+  place_facts w p found (place_stage.Clear k) = go (ltb (k + 1) p.slot) where
+    go : (b : Bool) → StepFacts m (makes w (place.at_stage p (place_stage.Clear k))) (after_place m w false p.at (place.at_stage p (cond b (place_stage.Clear (k + 1)) place_stage.Birth))) None
+        (cond (place.is_busy (cond b (place_stage.Clear (k + 1)) place_stage.Birth)) None (Some (answer.Ref p.name)))
     go true = before_made w _ _ refl refl
     go false = before_made w _ _ refl refl
-  place_facts w p found making_point.Birth = before_made w _ _ refl refl
-  place_facts w p found (making_point.Bits s) = go (bits.is_busy (bits.goes s found).place) refl where
-    next : Bool → PlacePoint
-    next b = cond b (making_point.Bits (bits.goes s found)) making_point.Alloc
+  place_facts w p found place_stage.Birth = before_made w _ _ refl refl
+  place_facts w p found (place_stage.Bits s) = go (bits.is_busy (bits.goes s found).stage) refl where
+    next : Bool → PlaceStage
+    next b = cond b (place_stage.Bits (bits.goes s found)) place_stage.Alloc
 
-    go : (b : Bool) → bits.is_busy (bits.goes s found).place ≡ b → StepFacts m (Place w (place.at_point p (making_point.Bits s))) (after_place m w false p.at (place.at_point p (next b))) None (cond (place.is_busy (next b)) None (Some (answer.Ref p.name)))
+    go : (b : Bool) → bits.is_busy (bits.goes s found).stage ≡ b → StepFacts m (makes w (place.at_stage p (place_stage.Bits s))) (after_place m w false p.at (place.at_stage p (next b))) None (cond (place.is_busy (next b)) None (Some (answer.Ref p.name)))
     go true e = rw e (before_made w _ _ refl refl)
     go false e = before_made w _ _ refl refl
-  place_facts w p found making_point.Alloc = go p.span where
-    go : (s : Option SpanHead) → StepFacts m (Place w (place.at_point p making_point.Alloc)) (after_place m w true p.at (place.at_point p (place.made p s))) (acting true (new_op w) false) (cond (place.is_busy (place.made p s)) None (Some (answer.Ref p.name)))
+  place_facts w p found place_stage.Alloc = go p.span where
+    go : (s : Option SpanHead) → StepFacts m (makes w (place.at_stage p place_stage.Alloc)) (after_place m w true p.at (place.at_stage p (place.made p s))) (acting true (new_op w) false) (cond (place.is_busy (place.made p s)) None (Some (answer.Ref p.name)))
     go None = now_made w _ _ p.at refl refl
     go (Some h) = now_made w _ _ p.at refl refl
-  place_facts w p found (making_point.Give g) = record { counted = λ g. omega arith; leaves = refl; answered = omega arith; once = refl; ends = refl; serves = refl }
-  place_facts w p found making_point.Count = record { counted = λ g. omega arith; leaves = refl; answered = omega arith; once = refl; ends = refl; serves = refl }
-  place_facts w p found making_point.Ended = record { counted = λ g. omega arith; leaves = refl; answered = omega arith; once = refl; ends = refl; serves = refl }
+  place_facts w p found (place_stage.Give g) = record { counted = λ g. omega arith; leaves = refl; answered = omega arith; once = refl; ends = refl; serves = refl }
+  place_facts w p found place_stage.Count = record { counted = λ g. omega arith; leaves = refl; answered = omega arith; once = refl; ends = refl; serves = refl }
+  place_facts w p found place_stage.Ended = record { counted = λ g. omega arith; leaves = refl; answered = omega arith; once = refl; ends = refl; serves = refl }
 
-  pub step_facts : (p : Point) (found : ℕ) → is_busy_at p ≡ true → FactsAt p found
-  step_facts Idle found busy = absurd (cc)
-  step_facts Left found busy = absurd (cc)
-  step_facts (Touch o) found busy = touch_facts o found
-  step_facts (LoadPage x) found busy = load_page_facts x found
-  step_facts (LoadBits x) found busy = record { counted = λ h. omega arith; leaves = refl; answered = omega arith; once = refl; ends = refl; serves = refl }
-  step_facts (LoadField x p) found busy = load_field_facts x p found
-  step_facts (LoadBirth a) found busy = record { counted = λ h. omega arith; leaves = refl; answered = omega arith; once = refl; ends = refl; serves = refl }
-  step_facts (StorePage x) found busy = store_page_facts x found
-  step_facts (StoreBits x) found busy = store_bits_facts x found
-  step_facts (StoreField x) found busy = record { counted = λ h. omega arith; leaves = refl; answered = omega arith; once = refl; ends = refl; serves = refl }
-  step_facts (GlobalLoad g d k) found busy = global_load_facts g d k found
-  step_facts (GlobalStore g k v) found busy = record { counted = λ h. omega arith; leaves = refl; answered = omega arith; once = refl; ends = refl; serves = refl }
-  step_facts (Find w f) found busy = find_facts w f found
-  step_facts (Place w p) found busy = place_facts w p found p.point
-  step_facts (End g) found busy = record { counted = λ h. omega arith; leaves = refl; answered = omega arith; once = refl; ends = refl; serves = refl }
-  step_facts Leave found busy = record { counted = λ h. omega arith; leaves = refl; answered = omega arith; once = refl; ends = refl; serves = refl }
+  new_facts : (w : Wanted) (s : NewStage) (found : ℕ) → FactsAt (task.New (record { wanted = w; stage = s })) found
+  new_facts w (Find f) found = find_facts w f found
+  new_facts w (Place p) found = place_facts w p found p.stage
 
--- Where an operation begins.
+  pub step_facts : (t : Task) (found : ℕ) → is_busy_at t ≡ true → FactsAt t found
+  step_facts task.Idle found busy = absurd (cc)
+  step_facts task.Left found busy = absurd (cc)
+  step_facts (task.Load x) found busy = from_step task.Load m x.g x.d x (load.step m.layout x found) (load.op_of x) load_served refl (load_once m.layout x x.stage found)
+  step_facts (task.Store x) found busy = from_step task.Store m x.g x.v x (store.step m.layout (register_of m x.g x.v) x found) (store.op_of x) store_served refl (store_once m.layout (register_of m x.g x.v) x x.stage found)
+  step_facts (task.Global x) found busy = from_step task.Global m x.g x.r x (global.step m.layout (register_of m x.g x.r) x found) (global.op_of x) global_served (global_statement x x.stage) (global_once m.layout (register_of m x.g x.r) x x.stage found)
+  step_facts (task.Register x) found busy = register_facts x x.source found
+  step_facts (task.New x) found busy = new_facts x.wanted x.stage found
+  step_facts (task.Own x) found busy = own_facts x found
 
--- from no operation to the first point of this one
-pub record BeginFacts (o : Op) (p : Point) : Type 0 where
-  pub made : making p ≤ bit (is_statement o)
-  pub leaves : is_leaving p ≡ is_leave o
-  pub busy : is_busy_at p ≡ true
-  pub serves : is_serving p ≡ is_statement o
-  pub is : op_at p ≡ Some o
+-- ---- where an operation begins
 
-search_facts : (w : Wanted) (f : Finding) → BeginFacts (new_op w) (Find w f)
-search_facts w f = record { made = omega arith; leaves = refl; busy = refl; serves = refl; is = refl }
+-- from no operation to the first task of this one
+pub record BeginFacts (o : Op) (t : Task) : Type 0 where
+  pub made : making t ≤ bit (is_statement o)
+  pub leaves : is_leaving t ≡ is_leave o
+  pub serves : is_serving t ≡ is_statement o
+  pub is : op_at t ≡ Some o
 
-wanted_op : (shapes : List Shape) (g d t : ℕ) → new_op (wanted_of shapes g d t) ≡ op.New g d t
-wanted_op shapes g d t = go (leb (shape_at shapes t).words 4096) where
-  go : (b : Bool) → new_op (cond b
-      (record { g = g; d = d; t = t; class = class_number (8 * (shape_at shapes t).words); noscan = (shape_at shapes t).noscan; slot = slot_words (shape_at shapes t).words; pages = pages_of (class_number (8 * (shape_at shapes t).words)) })
-      (record { g = g; d = d; t = t; class = LARGE; noscan = (shape_at shapes t).noscan; slot = slot_words (shape_at shapes t).words; pages = slot_words (shape_at shapes t).words / 1024 })) ≡ op.New g d t
-  go true = refl
-  go false = refl
+load_facts : (g d b k : ℕ) (v : Value) → BeginFacts (op.Load g d b k) (task.Load (load.begins g d b k v))
+load_facts g d b k value.Nil = record { made = omega arith; leaves = refl; serves = refl; is = refl }
+load_facts g d b k (value.Int n) = record { made = omega arith; leaves = refl; serves = refl; is = refl }
+load_facts g d b k (value.Ref n) = record { made = omega arith; leaves = refl; serves = refl; is = refl }
 
-load_facts : (g d b k : ℕ) (v : Value) → BeginFacts (op.Load g d b k) (begin_load g d b k v)
-load_facts g d b k value.Nil = record { made = omega arith; leaves = refl; busy = refl; serves = refl; is = refl }
-load_facts g d b k (value.Int n) = record { made = omega arith; leaves = refl; busy = refl; serves = refl; is = refl }
-load_facts g d b k (value.Ref n) = record { made = omega arith; leaves = refl; busy = refl; serves = refl; is = refl }
+store_facts : (g b k v : ℕ) (x : Value) → BeginFacts (op.Store g b k v) (task.Store (store.begins g b k v x))
+store_facts g b k v value.Nil = record { made = omega arith; leaves = refl; serves = refl; is = refl }
+store_facts g b k v (value.Int n) = record { made = omega arith; leaves = refl; serves = refl; is = refl }
+store_facts g b k v (value.Ref n) = record { made = omega arith; leaves = refl; serves = refl; is = refl }
 
-store_facts : (g b k v : ℕ) (x : Value) → BeginFacts (op.Store g b k v) (begin_store g b k v x)
-store_facts g b k v value.Nil = record { made = omega arith; leaves = refl; busy = refl; serves = refl; is = refl }
-store_facts g b k v (value.Int n) = record { made = omega arith; leaves = refl; busy = refl; serves = refl; is = refl }
-store_facts g b k v (value.Ref n) = record { made = omega arith; leaves = refl; busy = refl; serves = refl; is = refl }
+global_store_facts : (g k v : ℕ) (x : Value) → BeginFacts (op.SetGlobal g k v) (task.Global (global.begins_store g k v x))
+global_store_facts g k v value.Nil = record { made = omega arith; leaves = refl; serves = refl; is = refl }
+global_store_facts g k v (value.Int n) = record { made = omega arith; leaves = refl; serves = refl; is = refl }
+global_store_facts g k v (value.Ref n) = record { made = omega arith; leaves = refl; serves = refl; is = refl }
 
-global_store_facts : (g k v : ℕ) (x : Value) → BeginFacts (op.SetGlobal g k v) (begin_global_store g k v x)
-global_store_facts g k v value.Nil = record { made = omega arith; leaves = refl; busy = refl; serves = refl; is = refl }
-global_store_facts g k v (value.Int n) = record { made = omega arith; leaves = refl; busy = refl; serves = refl; is = refl }
-global_store_facts g k v (value.Ref n) = record { made = omega arith; leaves = refl; busy = refl; serves = refl; is = refl }
+-- an operation that is begun
+pub begin_facts : (shapes : List Shape) (m : Processor) (o : Op) → is_busy_at (begins_at shapes m o) ≡ true → BeginFacts o (begins_at shapes m o)
+begin_facts shapes m (op.New g d t) busy = record { made = omega arith; leaves = refl; serves = refl; is = refl }
+begin_facts shapes m (op.Load g d b k) busy = load_facts g d b k (register_of m g b)
+begin_facts shapes m (op.Store g b k v) busy = store_facts g b k v (register_of m g b)
+begin_facts shapes m (op.GetGlobal g d k) busy = record { made = omega arith; leaves = refl; serves = refl; is = refl }
+begin_facts shapes m (op.SetGlobal g k v) busy = global_store_facts g k v (register_of m g v)
+begin_facts shapes m (op.Int g d n) busy = record { made = omega arith; leaves = refl; serves = refl; is = refl }
+begin_facts shapes m (op.Move g d x) busy = record { made = omega arith; leaves = refl; serves = refl; is = refl }
+begin_facts shapes m (op.Nil g d) busy = record { made = omega arith; leaves = refl; serves = refl; is = refl }
+begin_facts shapes m (op.Gc g) busy = absurd (cc)
+begin_facts shapes m op.Poll busy = record { made = omega arith; leaves = refl; serves = refl; is = refl }
+begin_facts shapes m (op.End g) busy = record { made = omega arith; leaves = refl; serves = refl; is = refl }
+begin_facts shapes m op.Leave busy = record { made = omega arith; leaves = refl; serves = refl; is = refl }
 
-pub begin_facts : (shapes : List Shape) (m : Processor) (o : Op) → BeginFacts o (begins_at shapes m o)
-begin_facts shapes m (op.New g d t) = subst (λ (o : Op). BeginFacts o (Find (wanted_of shapes g d t) (finding m (wanted_of shapes g d t)))) (wanted_op shapes g d t) (search_facts (wanted_of shapes g d t) (finding m (wanted_of shapes g d t)))
-begin_facts shapes m (op.Load g d b k) = load_facts g d b k (register_of m g b)
-begin_facts shapes m (op.Store g b k v) = store_facts g b k v (register_of m g b)
-begin_facts shapes m (op.GetGlobal g d k) = record { made = omega arith; leaves = refl; busy = refl; serves = refl; is = refl }
-begin_facts shapes m (op.SetGlobal g k v) = global_store_facts g k v (register_of m g v)
-begin_facts shapes m (op.Int g d n) = record { made = omega arith; leaves = refl; busy = refl; serves = refl; is = refl }
-begin_facts shapes m (op.Move g d x) = record { made = omega arith; leaves = refl; busy = refl; serves = refl; is = refl }
-begin_facts shapes m (op.Nil g d) = record { made = omega arith; leaves = refl; busy = refl; serves = refl; is = refl }
-begin_facts shapes m (op.Gc g) = record { made = omega arith; leaves = refl; busy = refl; serves = refl; is = refl }
-begin_facts shapes m op.Poll = record { made = omega arith; leaves = refl; busy = refl; serves = refl; is = refl }
-begin_facts shapes m (op.End g) = record { made = omega arith; leaves = refl; busy = refl; serves = refl; is = refl }
-begin_facts shapes m op.Leave = record { made = omega arith; leaves = refl; busy = refl; serves = refl; is = refl }
+-- one that is in range is begun
+pub begins_busy : (shapes : List Shape) (m : Processor) (goroutines globals types : ℕ) (o : Op) → in_range goroutines globals types o ≡ true → is_busy_at (begins_at shapes m o) ≡ true
+begins_busy shapes m gs gl ts (op.Gc g) h = absurd (cc)
+begins_busy shapes m gs gl ts (op.New g d t) h = refl
+begins_busy shapes m gs gl ts (op.Load g d b k) h = refl
+begins_busy shapes m gs gl ts (op.Store g b k v) h = refl
+begins_busy shapes m gs gl ts (op.GetGlobal g d k) h = refl
+begins_busy shapes m gs gl ts (op.SetGlobal g k v) h = refl
+begins_busy shapes m gs gl ts (op.Int g d n) h = refl
+begins_busy shapes m gs gl ts (op.Move g d s) h = refl
+begins_busy shapes m gs gl ts (op.Nil g d) h = refl
+begins_busy shapes m gs gl ts op.Poll h = refl
+begins_busy shapes m gs gl ts (op.End g) h = refl
+begins_busy shapes m gs gl ts op.Leave h = refl

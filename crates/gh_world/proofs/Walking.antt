@@ -1,37 +1,20 @@
 -- Own steps of the search for a run of free pages.
 use Rattle.std.proofs.Common.{◌≡◌, ◌≢◌, ℕ, ◌+◌, ◌-◌, ◌<◌, ◌≤◌, Bool, true, false, not, cond, eqb, leb, ltb, List, Option, Some, None, refl, sym, ap, subst, ◌∙◌, arith}
-use Rattle.std.proofs.lemmas.Bool.{eqb-true, ne_eqb, leb-true, leb-false, ltb-true, ltb-false}
+use Rattle.std.proofs.lemmas.Bool.{eqb-true, leb-true, leb-false, ltb-true, ltb-false}
 use Rattle.std.proofs.lemmas.Bool.Decides.{nat_tests}
-use Rattle.gh_base.specs.declared.value.Name.{Name}
-use Rattle.gh_base.specs.declared.shape.Shape.{Shape}
-use Rattle.gh_base.specs.Shapes.{shape_at}
-use Rattle.gh_base.specs.declared.layout.Layout.{Layout}
-use Rattle.gh_base.specs.declared.pack.PageWord.{PageWord}
+use Rattle.gh_world.specs.Vocabulary.{Name, Shape, shape_at, Layout, PageWord, page_of, Words, cell_of, Row, Ever, CarveStage, FindStage, Finding, Wanted, Processor, asks_at, searches, cached_for}
 use Rattle.gh_base.specs.declared.pack.PageWord.TheVariants as page
-use Rattle.gh_base.specs.declared.pack.TheConstants.{LARGE}
-use Rattle.gh_base.specs.Packing.{page_of}
-use Rattle.gh_base.specs.Cells.{Words}
 use Rattle.gh_base.specs.declared.cell.Cell.TheVariants as cell
-use Rattle.gh_base.specs.Steps.{cell_of}
-use Rattle.gh_bitmap.specs.Bits.{Row}
-use Rattle.gh_model.specs.Ever.{Ever}
-use Rattle.gh_pages.specs.declared.carve.Place.{Place as CarvePlace}
-use Rattle.gh_pages.specs.declared.carve.Place.TheVariants as carve_place
+use Rattle.gh_pages.specs.declared.carve.CarveStage.TheVariants as carve_stage
 use Rattle.gh_pages.specs.Listing as carving
 use Rattle.gh_alloc.specs.declared.find.After.TheVariants.{End as Ends}
-use Rattle.gh_alloc.specs.declared.find.FindPoint.{FindPoint}
-use Rattle.gh_alloc.specs.declared.find.FindPoint.TheVariants as seek
-use Rattle.gh_alloc.specs.declared.find.Found.TheVariants.{NoRoom as NoneFound}
-use Rattle.gh_alloc.specs.Finding.{Finding}
-use Rattle.gh_alloc.specs.Finding as find
-use Rattle.gh_mutator.specs.declared.point.Wanted.{Wanted}
-use Rattle.gh_mutator.specs.declared.point.Processor.{Processor}
-use Rattle.gh_mutator.specs.declared.point.Point.TheVariants.{Find}
-use Rattle.gh_mutator.specs.Listing.{is_large, cached_for, asks_at}
+use Rattle.gh_alloc.specs.declared.find.FindStage.TheVariants as seek
+use Rattle.gh_alloc.specs.declared.sought.Found.TheVariants.{NoRoom as NoneFound}
+use Rattle.gh_alloc.specs.Find as find
 use Rattle.gh_world.specs.Stands.{pages_row, alloc_row, NoRoom}
-use Rattle.gh_world.specs.Points.{Good, WantsName, FreeBefore, NoRunBefore, LaidOut, FullBefore, FineCarve, span_of, carve_at}
+use Rattle.gh_world.specs.Facts.{Good, WantsName, FreeBefore, NoRunBefore, LaidOut, FullBefore, FineCarve, span_of, carve_at, is_large, needs}
 use Rattle.gh_world.proofs.Step.{Keeps}
-use Rattle.gh_world.proofs.Wanting.{WantedGood}
+use Rattle.gh_world.proofs.Wanting.{WantedGood, not_large}
 use Rattle.gh_world.proofs.Finding.{here, goes_on}
 
 not_free : (w : PageWord) → carving.is_free w ≡ false → w ≢ page.Free
@@ -44,7 +27,7 @@ free_is (page.Body b) e = absurd cc
 
 module _ (shapes : List Shape) (l : Layout) where
   abbrev Fits : Words → (Name → ℕ) → Ever → Processor → Type 0
-  Fits words place e m = Good l.pages l.globals l.goroutines shapes words place e m
+  Fits words address e m = Good l.pages l.globals l.goroutines shapes words address e m
 
   -- the page was looked at: what is known of the pages before the next one
   free_more : (row : Row) (p run : ℕ) → page_of (row p) ≡ page.Free → FreeBefore l.pages l.globals l.goroutines shapes row p run → FreeBefore l.pages l.globals l.goroutines shapes row (p + 1) (run + 1)
@@ -83,108 +66,108 @@ module _ (shapes : List Shape) (l : Layout) where
         (p - run - 1 - first, omega arith, subst (λ (x : ℕ). page_of (row x) ≢ page.Free) at (before.1 (omega arith)))
 
   -- enough free pages stand in a row
-  laid_out : (row : Row) (w : Wanted) (p run : ℕ) → p < l.pages → 1 ≤ w.pages → run + 1 ≡ w.pages → page_of (row p) ≡ page.Free → FreeBefore l.pages l.globals l.goroutines shapes row p run → LaidOut l.pages l.globals l.goroutines shapes row w (p + 1 - w.pages) 1
+  laid_out : (row : Row) (w : Wanted) (p run : ℕ) → p < l.pages → 1 ≤ (needs w).pages → run + 1 ≡ (needs w).pages → page_of (row p) ≡ page.Free → FreeBefore l.pages l.globals l.goroutines shapes row p run → LaidOut l.pages l.globals l.goroutines shapes row w (p + 1 - (needs w).pages) 1
   laid_out row w p run lt some enough free before = record {
     within = omega (arith, low);
-    head = at (p + 1 - w.pages) (omega arith) (omega arith);
+    head = at (p + 1 - (needs w).pages) (omega arith) (omega arith);
     written = λ d low high. absurd (omega arith);
-    free = λ d low high. at (p + 1 - w.pages + d) (omega arith) (omega arith);
+    free = λ d low high. at (p + 1 - (needs w).pages + d) (omega arith) (omega arith);
   } where
     low : run ≤ p
     low = before.0
 
-    at : (q : ℕ) → p + 1 ≤ q + w.pages → q < p + 1 → page_of (row q) ≡ page.Free
+    at : (q : ℕ) → p + 1 ≤ q + (needs w).pages → q < p + 1 → page_of (row q) ≡ page.Free
     at q high le = (free_more row p run free before).1 q (omega arith) le
 
-  -- the search for pages, at this place
-  abbrev pub carve_here : Processor → Wanted → CarvePlace → FindPoint
+  -- the search for pages, at this stage
+  abbrev pub carve_here : Processor → Wanted → CarveStage → FindStage
   carve_here m w q = seek.Carve (carve_at l.pages l.globals l.goroutines shapes m w q)
 
-  abbrev pub CarveKeeps : Words → Ever → Processor → Wanted → CarvePlace → ℕ → Type 0
-  CarveKeeps words e m w q found = Keeps shapes l words e m (Find w (here shapes l m w (carve_here m w q))) None found
+  abbrev pub CarveKeeps : Words → Ever → Processor → Wanted → CarveStage → ℕ → Type 0
+  CarveKeeps words e m w q found = Keeps shapes l words e m (searches w (here shapes l m w (carve_here m w q))) None found
 
-  -- no slot of the span class is left, and the pages are as the place says
-  pub record Walks (words : Words) (m : Processor) (w : Wanted) (q : CarvePlace) : Type 0 where
-    pub cached : cached_for m w ≡ None
+  -- no slot of the span class is left, and the pages are as the stage says
+  pub record Walks (words : Words) (m : Processor) (w : Wanted) (q : CarveStage) : Type 0 where
+    pub cached : cached_for m w.sought ≡ None
     pub full : is_large w ≡ false → FullBefore l.pages l.globals l.goroutines shapes (pages_row words) (alloc_row words) w l.pages
     pub fine : FineCarve l.pages l.globals l.goroutines shapes (pages_row words) w q
 
-  -- a step at this place of the search for pages
-  abbrev pub CarvesAt : CarvePlace → Type 0
-  CarvesAt q = (words : Words) (place : Name → ℕ) (e : Ever) (m : Processor) (w : Wanted) → WantedGood (shape_at shapes w.t) w → WantsName l.pages l.globals l.goroutines shapes m w → Walks words m w q → Good l.pages l.globals l.goroutines shapes words place e m →
-      CarveKeeps words e m w q (words (cell_of (asks_at m (Find w (here shapes l m w (carve_here m w q))))))
+  -- a step at this stage of the search for pages
+  abbrev pub CarvesAt : CarveStage → Type 0
+  CarvesAt q = (words : Words) (address : Name → ℕ) (e : Ever) (m : Processor) (w : Wanted) → WantedGood (shape_at shapes w.t) w → WantsName l.pages l.globals l.goroutines shapes m w → Walks words m w q → Good l.pages l.globals l.goroutines shapes words address e m →
+      CarveKeeps words e m w q (words (cell_of (asks_at m (searches w (here shapes l m w (carve_here m w q))))))
 
-  no_room : (words : Words) (m : Processor) (w : Wanted) (p run : ℕ) (q : CarvePlace) → Walks words m w q → l.pages ≤ p + 1 → NoRunBefore l.pages l.globals l.goroutines shapes (pages_row words) w.pages (p + 1) run → NoRoom l.pages (pages_row words) (alloc_row words) w.class w.noscan w.pages
-  no_room words m w p run q walks last before = record {
-    slots = λ ne p i h span class noscan inside. let within = span.within in let some = span.some in walks.full (ne_eqb w.class LARGE ne) p i h (omega arith) span class noscan inside;
+  no_room : (words : Words) (m : Processor) (w : Wanted) (p run : ℕ) (q : CarveStage) → WantedGood (shape_at shapes w.t) w → Walks words m w q → l.pages ≤ p + 1 → NoRunBefore l.pages l.globals l.goroutines shapes (pages_row words) (needs w).pages (p + 1) run → NoRoom l.pages (pages_row words) (alloc_row words) (needs w).class (needs w).noscan (needs w).pages
+  no_room words m w p run q wg walks last before = record {
+    slots = λ ne p i h span class noscan inside. let within = span.within in let some = span.some in walks.full (not_large (shape_at shapes w.t) w wg ne) p i h (omega arith) span class noscan inside;
     run = λ first le. before.0 first (omega arith);
   }
 
   -- where a look leads, by whether enough free pages stand in a row and whether there are more pages
-  abbrev look_place : Wanted → (p row : ℕ) → Bool → Bool → CarvePlace
-  look_place w p row enough more = cond enough (carving.first_store (span_of l.pages l.globals l.goroutines shapes w) (p + 1 - w.pages)) (cond (not more) carve_place.Ended (carve_place.Look (p + 1) row))
+  abbrev look_place : Wanted → (p row : ℕ) → Bool → Bool → CarveStage
+  look_place w p row enough more = cond enough (carving.first_store (span_of l.pages l.globals l.goroutines shapes w) (p + 1 - (needs w).pages)) (cond (not more) carve_stage.Ended (carve_stage.Look (p + 1) row))
 
   abbrev look_given : Bool → Bool → Option (Option ℕ)
   look_given enough more = cond (cond enough false (not more)) (Some None) None
 
   abbrev look_after : Processor → Wanted → (p run row : ℕ) → Bool → Bool → Finding
-  look_after m w p run row enough more = find.after_carve (find.at_point (here shapes l m w (carve_here m w (carve_place.Look p run))) (carve_here m w (look_place w p row enough more))) (look_given enough more)
+  look_after m w p run row enough more = find.after_carve (find.at_stage (here shapes l m w (carve_here m w (carve_stage.Look p run))) (carve_here m w (look_place w p row enough more))) (look_given enough more)
 
   abbrev Looks : Processor → Wanted → (p run found row : ℕ) → Bool → Type 0
-  Looks m w p run found row enough = find.goes (here shapes l m w (carve_here m w (carve_place.Look p run))) found ≡ look_after m w p run row enough (ltb (p + 1) m.layout.pages)
+  Looks m w p run found row enough = find.goes (here shapes l m w (carve_here m w (carve_stage.Look p run))) found ≡ look_after m w p run row enough (ltb (p + 1) m.layout.pages)
 
   -- the walk goes on with the next page, or ends
-  look_ahead : (words : Words) (place : Name → ℕ) (e : Ever) (m : Processor) (w : Wanted) (p run found row : ℕ) → WantsName l.pages l.globals l.goroutines shapes m w → Walks words m w (carve_place.Look p run) → Fits words place e m →
-      row < w.pages → FreeBefore l.pages l.globals l.goroutines shapes (pages_row words) (p + 1) row → NoRunBefore l.pages l.globals l.goroutines shapes (pages_row words) w.pages (p + 1) row → Looks m w p run found row false →
-      (b : Bool) → ltb (p + 1) m.layout.pages ≡ b → CarveKeeps words e m w (carve_place.Look p run) found
-  look_ahead words place e m w p run found row wants walks good less free none goes true more =
+  look_ahead : (words : Words) (address : Name → ℕ) (e : Ever) (m : Processor) (w : Wanted) (p run found row : ℕ) → WantedGood (shape_at shapes w.t) w → WantsName l.pages l.globals l.goroutines shapes m w → Walks words m w (carve_stage.Look p run) → Fits words address e m →
+      row < (needs w).pages → FreeBefore l.pages l.globals l.goroutines shapes (pages_row words) (p + 1) row → NoRunBefore l.pages l.globals l.goroutines shapes (pages_row words) (needs w).pages (p + 1) row → Looks m w p run found row false →
+      (b : Bool) → ltb (p + 1) m.layout.pages ≡ b → CarveKeeps words e m w (carve_stage.Look p run) found
+  look_ahead words address e m w p run found row wg wants walks good less free none goes true more =
       let lt : p + 1 < l.pages = rw (← good.sizes.arena) (ltb-true _ _ more) in
-      goes_on shapes l words words place e m w (carve_here m w (carve_place.Look p run)) (carve_here m w (carve_place.Look (p + 1) row)) found wants refl
+      goes_on shapes l words words address e m w (carve_here m w (carve_stage.Look p run)) (carve_here m w (carve_stage.Look (p + 1) row)) found wants refl
       (goes ∙ ap (λ (b : Bool). look_after m w p run row false b) more) refl good
       (walks.cached, refl, walks.full, (lt, less, free, none))
-  look_ahead words place e m w p run found row wants walks good less free none goes false last =
+  look_ahead words address e m w p run found row wg wants walks good less free none goes false last =
       let end : l.pages ≤ p + 1 = rw (← good.sizes.arena) (ltb-false _ _ last) in
-      goes_on shapes l words words place e m w (carve_here m w (carve_place.Look p run)) (seek.Unlock (Ends NoneFound)) found wants refl
+      goes_on shapes l words words address e m w (carve_here m w (carve_stage.Look p run)) (seek.Unlock (Ends NoneFound)) found wants refl
       (goes ∙ ap (λ (b : Bool). look_after m w p run row false b) last) refl good
-      (no_room words m w p row (carve_place.Look p run) walks end none)
+      (no_room words m w p row (carve_stage.Look p run) wg walks end none)
 
   -- enough free pages stand in a row: the further ones are written first
-  look_found : (words : Words) (place : Name → ℕ) (e : Ever) (m : Processor) (w : Wanted) (p run found : ℕ) → WantedGood (shape_at shapes w.t) w → WantsName l.pages l.globals l.goroutines shapes m w → Walks words m w (carve_place.Look p run) → Fits words place e m →
-      LaidOut l.pages l.globals l.goroutines shapes (pages_row words) w (p + 1 - w.pages) 1 → Looks m w p run found (run + 1) true → (b : Bool) → ltb 1 w.pages ≡ b → CarveKeeps words e m w (carve_place.Look p run) found
-  look_found words place e m w p run found wg wants walks good out goes true more =
-      goes_on shapes l words words place e m w (carve_here m w (carve_place.Look p run)) (carve_here m w (carve_place.Body (p + 1 - w.pages) 1)) found wants refl
-      (goes ∙ ap (λ (b : Bool). here shapes l m w (carve_here m w (cond b (carve_place.Body (p + 1 - w.pages) 1) (carve_place.Head (p + 1 - w.pages))))) more) refl good
+  look_found : (words : Words) (address : Name → ℕ) (e : Ever) (m : Processor) (w : Wanted) (p run found : ℕ) → WantedGood (shape_at shapes w.t) w → WantsName l.pages l.globals l.goroutines shapes m w → Walks words m w (carve_stage.Look p run) → Fits words address e m →
+      LaidOut l.pages l.globals l.goroutines shapes (pages_row words) w (p + 1 - (needs w).pages) 1 → Looks m w p run found (run + 1) true → (b : Bool) → ltb 1 (needs w).pages ≡ b → CarveKeeps words e m w (carve_stage.Look p run) found
+  look_found words address e m w p run found wg wants walks good out goes true more =
+      goes_on shapes l words words address e m w (carve_here m w (carve_stage.Look p run)) (carve_here m w (carve_stage.Body (p + 1 - (needs w).pages) 1)) found wants refl
+      (goes ∙ ap (λ (b : Bool). here shapes l m w (carve_here m w (cond b (carve_stage.Body (p + 1 - (needs w).pages) 1) (carve_stage.Head (p + 1 - (needs w).pages))))) more) refl good
       (walks.cached, refl, walks.full, (omega arith, ltb-true _ _ more, out))
-  look_found words place e m w p run found wg wants walks good out goes false one =
-      let few : w.pages ≤ 1 = ltb-false _ _ one in
+  look_found words address e m w p run found wg wants walks good out goes false one =
+      let few : (needs w).pages ≤ 1 = ltb-false _ _ one in
       let some = wg.some in
-      let single : 1 ≡ w.pages = omega arith in
-      goes_on shapes l words words place e m w (carve_here m w (carve_place.Look p run)) (carve_here m w (carve_place.Head (p + 1 - w.pages))) found wants refl
-      (goes ∙ ap (λ (b : Bool). here shapes l m w (carve_here m w (cond b (carve_place.Body (p + 1 - w.pages) 1) (carve_place.Head (p + 1 - w.pages))))) one) refl good
-      (walks.cached, refl, walks.full, subst (λ (x : ℕ). LaidOut l.pages l.globals l.goroutines shapes (pages_row words) w (p + 1 - w.pages) x) single out)
+      let single : 1 ≡ (needs w).pages = omega arith in
+      goes_on shapes l words words address e m w (carve_here m w (carve_stage.Look p run)) (carve_here m w (carve_stage.Head (p + 1 - (needs w).pages))) found wants refl
+      (goes ∙ ap (λ (b : Bool). here shapes l m w (carve_here m w (cond b (carve_stage.Body (p + 1 - (needs w).pages) 1) (carve_stage.Head (p + 1 - (needs w).pages))))) one) refl good
+      (walks.cached, refl, walks.full, subst (λ (x : ℕ). LaidOut l.pages l.globals l.goroutines shapes (pages_row words) w (p + 1 - (needs w).pages) x) single out)
 
-  look_by : (words : Words) (place : Name → ℕ) (e : Ever) (m : Processor) (w : Wanted) (p run : ℕ) → WantedGood (shape_at shapes w.t) w → WantsName l.pages l.globals l.goroutines shapes m w → Walks words m w (carve_place.Look p run) → Fits words place e m →
-      (b : Bool) → carving.is_free (page_of (words (cell.Page p))) ≡ b → (enough : Bool) → eqb (cond b (run + 1) 0) w.pages ≡ enough → CarveKeeps words e m w (carve_place.Look p run) (words (cell.Page p))
-  look_by words place e m w p run wg wants walks good true test true enough =
+  look_by : (words : Words) (address : Name → ℕ) (e : Ever) (m : Processor) (w : Wanted) (p run : ℕ) → WantedGood (shape_at shapes w.t) w → WantsName l.pages l.globals l.goroutines shapes m w → Walks words m w (carve_stage.Look p run) → Fits words address e m →
+      (b : Bool) → carving.is_free (page_of (words (cell.Page p))) ≡ b → (enough : Bool) → eqb (cond b (run + 1) 0) (needs w).pages ≡ enough → CarveKeeps words e m w (carve_stage.Look p run) (words (cell.Page p))
+  look_by words address e m w p run wg wants walks good true test true enough =
       let free : page_of (words (cell.Page p)) ≡ page.Free = free_is _ test in
-      look_found words place e m w p run (words (cell.Page p)) wg wants walks good (laid_out (pages_row words) w p run walks.fine.0 wg.some (eqb-true _ _ enough) free walks.fine.2)
-      (ap (λ (b : Bool). look_after m w p run (cond b (run + 1) 0) (eqb (cond b (run + 1) 0) w.pages) (ltb (p + 1) m.layout.pages)) test ∙ ap (λ (b : Bool). look_after m w p run (run + 1) b (ltb (p + 1) m.layout.pages)) enough)
-      (ltb 1 w.pages) refl
-  look_by words place e m w p run wg wants walks good true test false enough =
+      look_found words address e m w p run (words (cell.Page p)) wg wants walks good (laid_out (pages_row words) w p run walks.fine.0 wg.some (eqb-true _ _ enough) free walks.fine.2)
+      (ap (λ (b : Bool). look_after m w p run (cond b (run + 1) 0) (eqb (cond b (run + 1) 0) (needs w).pages) (ltb (p + 1) m.layout.pages)) test ∙ ap (λ (b : Bool). look_after m w p run (run + 1) b (ltb (p + 1) m.layout.pages)) enough)
+      (ltb 1 (needs w).pages) refl
+  look_by words address e m w p run wg wants walks good true test false enough =
       let free : page_of (words (cell.Page p)) ≡ page.Free = free_is _ test in
-      let ne : run + 1 ≢ w.pages = grind (arith, nat_tests) in
+      let ne : run + 1 ≢ (needs w).pages = grind (arith, nat_tests) in
       let few = walks.fine.1 in
-      let less : run + 1 < w.pages = omega arith in
-      look_ahead words place e m w p run (words (cell.Page p)) (run + 1) wants walks good less (free_more (pages_row words) p run free walks.fine.2) (no_run_more (pages_row words) w.pages p run less walks.fine.3)
-      (ap (λ (b : Bool). look_after m w p run (cond b (run + 1) 0) (eqb (cond b (run + 1) 0) w.pages) (ltb (p + 1) m.layout.pages)) test ∙ ap (λ (b : Bool). look_after m w p run (run + 1) b (ltb (p + 1) m.layout.pages)) enough)
+      let less : run + 1 < (needs w).pages = omega arith in
+      look_ahead words address e m w p run (words (cell.Page p)) (run + 1) wg wants walks good less (free_more (pages_row words) p run free walks.fine.2) (no_run_more (pages_row words) (needs w).pages p run less walks.fine.3)
+      (ap (λ (b : Bool). look_after m w p run (cond b (run + 1) 0) (eqb (cond b (run + 1) 0) (needs w).pages) (ltb (p + 1) m.layout.pages)) test ∙ ap (λ (b : Bool). look_after m w p run (run + 1) b (ltb (p + 1) m.layout.pages)) enough)
       (ltb (p + 1) m.layout.pages) refl
-  look_by words place e m w p run wg wants walks good false test true enough = let some = wg.some in let none : 0 ≡ w.pages = eqb-true _ _ enough in absurd (omega arith)
-  look_by words place e m w p run wg wants walks good false test false enough =
+  look_by words address e m w p run wg wants walks good false test true enough = let some = wg.some in let none : 0 ≡ (needs w).pages = eqb-true _ _ enough in absurd (omega arith)
+  look_by words address e m w p run wg wants walks good false test false enough =
       let taken : page_of (words (cell.Page p)) ≢ page.Free = not_free _ test in
-      look_ahead words place e m w p run (words (cell.Page p)) 0 wants walks good wg.some (free_none (pages_row words) p) (no_run_taken (pages_row words) w.pages p run wg.some taken walks.fine.3)
-      (ap (λ (b : Bool). look_after m w p run (cond b (run + 1) 0) (eqb (cond b (run + 1) 0) w.pages) (ltb (p + 1) m.layout.pages)) test ∙ ap (λ (b : Bool). look_after m w p run 0 b (ltb (p + 1) m.layout.pages)) enough)
+      look_ahead words address e m w p run (words (cell.Page p)) 0 wg wants walks good wg.some (free_none (pages_row words) p) (no_run_taken (pages_row words) (needs w).pages p run wg.some taken walks.fine.3)
+      (ap (λ (b : Bool). look_after m w p run (cond b (run + 1) 0) (eqb (cond b (run + 1) 0) (needs w).pages) (ltb (p + 1) m.layout.pages)) test ∙ ap (λ (b : Bool). look_after m w p run 0 b (ltb (p + 1) m.layout.pages)) enough)
       (ltb (p + 1) m.layout.pages) refl
 
-  pub carve_look : (p run : ℕ) → CarvesAt (carve_place.Look p run)
-  carve_look p run words place e m w wg wants walks good =
-      look_by words place e m w p run wg wants walks good (carving.is_free (page_of (words (cell.Page p)))) refl (eqb (cond (carving.is_free (page_of (words (cell.Page p)))) (run + 1) 0) w.pages) refl
+  pub carve_look : (p run : ℕ) → CarvesAt (carve_stage.Look p run)
+  carve_look p run words address e m w wg wants walks good =
+      look_by words address e m w p run wg wants walks good (carving.is_free (page_of (words (cell.Page p)))) refl (eqb (cond (carving.is_free (page_of (words (cell.Page p)))) (run + 1) 0) (needs w).pages) refl

@@ -9,38 +9,25 @@ use Rattle.std.proofs.lemmas.Grind.{reverse_onto}
 use Rattle.std.proofs.lemmas.List.{get_or-set_same, get_or-set_other}
 use Rattle.std.proofs.lemmas.List.Elements.{All-get_or}
 use Rattle.std.proofs.lemmas.Option.{get_or_from_slice_get}
-use Rattle.gh_base.specs.declared.operation.Op.{Op}
+use Rattle.gh_world.specs.Vocabulary.{Op, Answer, Shape, Layout, Entry, Words, IsLayoutOf, InRange, Shows, length_of, cell_of, request, target, changed, StepsAreShown, by, state_of, started, words_after, Legal, bit, Stmt, Program, no_goroutine, statements_of, WellFormed, Processor, Task, Idle, Next, most_objects, has_names, Progress, Mutating, is_last, is_statement, is_point, statement_answer, is_leaving, has_left_at, work_at, work_of, acts, begins_at, gives_at, is_busy_at, op_at, made_by, opening_processor}
 use Rattle.gh_base.specs.declared.operation.Op.TheVariants as op
-use Rattle.gh_base.specs.declared.shape.Shape.{Shape}
 use Rattle.gh_base.specs.Shapes.{no_shape}
-use Rattle.gh_base.specs.declared.layout.Layout.{Layout}
-use Rattle.gh_base.specs.declared.machine.Entry.{Entry}
-use Rattle.gh_base.specs.Cells.{Words, IsLayoutOf, InRange, Shows, length_of}
-use Rattle.gh_base.specs.Steps.{cell_of, request, target, changed, IsShown, StepsAreShown}
-use Rattle.gh_base.specs.Lists.{by, state_of, started, words_after, Legal, Begins}
-use Rattle.gh_base.specs.Packing.{bit}
-use Rattle.gh_script.specs.declared.statement.Stmt.{Stmt}
+use Rattle.gh_base.specs.Steps.{IsShown}
+use Rattle.gh_base.specs.Lists.{Begins}
 use Rattle.gh_script.specs.declared.statement.Stmt.TheVariants.{New, Load, Store, GetGlobal, SetGlobal, Int, Move, Nil, Gc}
-use Rattle.gh_script.specs.Program.{Program, goroutine_at as goroutine_there, no_goroutine, statements_of, op_of, IsStatement, AreStatements, IsShape, WellFormed}
-use Rattle.gh_mutator.specs.declared.point.Processor.{Processor}
-use Rattle.gh_mutator.specs.declared.point.Point.{Point}
-use Rattle.gh_mutator.specs.declared.point.Point.TheVariants.{Idle}
-use Rattle.gh_world.specs.declared.turns.Next.{Next}
+use Rattle.gh_script.specs.Program.{goroutine_at as goroutine_there, op_of, IsStatement, AreStatements, IsShape}
 use Rattle.gh_world.specs.declared.turns.Next.TheVariants as next
-use Rattle.gh_mutator.specs.Listing.{asks, takes, begins_at, gives_at, acts, made_by, is_busy_at, opening_processor}
 use Rattle.gh_world.specs.Order.{processor_kind, setting_of, may_begin, in_range, goroutine_of, is_over as is_ended, ends, ended_in, leaves, has_left, begun_in}
-use Rattle.gh_world.specs.Points.{op_at, ShapesGood}
-use Rattle.gh_mutator.specs.Sound.{ShapesFit, SoundOp, most_objects, has_names}
+use Rattle.gh_world.specs.Facts.{ShapesGood}
+use Rattle.gh_mutator.specs.Sound.{SoundOp}
 use Rattle.gh_world.specs.Turns.{count_of, total_of, turns_of, to_come, later, Stands, MayBeOver, IsPast, is_over, op_due, is_leave, Follows, goroutine_at, statements_among, statements_by, statement_now, is_unacted, next_point}
-use Rattle.gh_world.specs.World.{opening, Progress, After, Fit, points_in, event_at, event_of, op_at_turn, counts_after, stated_after, last_after, begun_as, GoesOn, MadeAtMost}
+use Rattle.gh_world.specs.World.{opening, progress_after, After, Fit, points_in, event_at, event_of, op_at_turn, counts_after, last_after, begun_as, GoesOn, MadeAtMost}
 use Rattle.gh_world.proofs.Reading.{read_after_set, read_replicate}
-use Rattle.gh_world.proofs.StepFacts.{step_facts, begin_facts, StepFacts, BeginFacts}
+use Rattle.gh_world.proofs.StepFacts.{step_facts, begin_facts, StepFacts, BeginFacts, begins_busy}
 use Rattle.gh_world.proofs.Turning.{goroutine_is, has_statement, opens_at, turns_say}
-use Rattle.gh_mutator.specs.Mutating.{Mutating}
 use Rattle.gh_mutator.specs.Mutating as mutating
 use Rattle.gh_mutator.specs.Ends.{stays}
-use Rattle.gh_mutator.specs.Serving.{is_last, is_statement, is_point, statement_answer, is_leaving, has_left_at}
-use Rattle.gh_interp.specs.Working.{work_at, work_of}
+use Rattle.gh_mutator.specs.Listing.{asks, takes}
 
 -- an operation that is in range of the layout
 pub record Runs (shapes : List Shape) (l : Layout) (o : Op) : Type 0 where
@@ -87,9 +74,6 @@ module _ (p : Program) (l : Layout) (r : WellFormed p) (lay : IsLayoutOf p.setti
   due_runs next.Leave o h e = let same : op.Leave ≡ o = cc in subst (Runs p.shapes l) same (record { sound = tt; ranged = refl })
   due_runs next.Over o h e = absurd cc
 
-pub shapes_fit : (p : Program) → WellFormed p → ShapesFit p.shapes
-shapes_fit p r t h = let s = All-get_or IsShape p.shapes t no_shape h r.shapes in (s.some_word, s.few_words)
-
 pub shapes_good : (p : Program) → WellFormed p → ShapesGood p.shapes
 shapes_good p r t h = let s = All-get_or IsShape p.shapes t no_shape h r.shapes in record { some = s.some_word; most = s.few_words; within = s.none_beyond; narrow = s.narrow }
 
@@ -100,10 +84,6 @@ shapes_good p r t h = let s = All-get_or IsShape p.shapes t no_shape h r.shapes 
 bit_few : (b : Bool) → bit b ≤ 1
 bit_few true = omega arith
 bit_few false = omega arith
-
--- the progress once this is begun, and so much comes next
-abbrev pub progress_after : Progress → Option Op → Next → Progress
-progress_after t o new = record { next = new; begun = counts_after t o; stated = stated_after t o; last = last_after t o }
 
 no_statement_poll : (o : Op) → op.Poll ≡ o → is_statement o ≡ false
 no_statement_poll o e = sym (ap is_statement e)
@@ -139,10 +119,25 @@ last_few t o before new = go (is_statement o) new where
   go true h = h refl
   go false h = before
 
-pub fit_begun : (p : Program) (l : Layout) (list : List ℕ) (m : Mutating) (t : Progress) (marks points room : ℕ) (o : Op) (new : Next) → Fit p l list m t marks points room → op_due p t.next ≡ Some o → Follows p t.next o new →
-    Fit p l list (mutating.begins m o) (progress_after t (Some o) new) marks points room
-fit_begun p l list m t marks points room o new f due follows =
-    let b : BeginFacts o (begins_at m.shapes m.processor o) = begin_facts m.shapes m.processor o in
+-- what is due is begun
+pub begun_busy : (p : Program) (l : Layout) (list : List ℕ) (m : Mutating) (t : Progress) (points room : ℕ) (o : Op) → Fit p l list m t points room → op_due p t.next ≡ Some o → is_busy_at (begins_at m.shapes m.processor o) ≡ true
+begun_busy p l list m t points room o f due = begins_busy m.shapes m.processor l.goroutines l.globals (length p.shapes) o (due_runs p l f.script f.layout t.next o f.stands due).ranged
+
+pub stated_few : (p : Program) (l : Layout) (list : List ℕ) (m : Mutating) (t : Progress) (points room : ℕ) → Fit p l list m t points room → t.stated ≤ 200000
+stated_few p l list m t points room f = omega (arith, f.all, few_statements p f.script)
+
+pub marks_few : (p : Program) (l : Layout) (list : List ℕ) (m : Mutating) (t : Progress) (points room : ℕ) → Fit p l list m t points room → m.marks + 1 < 2 ^ 32
+marks_few p l list m t points room f = omega (arith, f.marked, stated_few p l list m t points room f)
+
+-- the answered statements of the machine are counted, as long as their number is not at its end
+pub marks_more : (marks : ℕ) (a : Option Answer) → marks + 1 < 2 ^ 32 → mutating.marks_after marks a ≡ marks + bit (is_some a)
+marks_more marks None few = omega arith
+marks_more marks (Some a) few = omega arith
+
+pub fit_begun : (p : Program) (l : Layout) (list : List ℕ) (m : Mutating) (t : Progress) (points room : ℕ) (o : Op) (new : Next) → Fit p l list m t points room → op_due p t.next ≡ Some o → Follows p t.next o new →
+    Fit p l list (mutating.begins m o) (progress_after t (Some o) new) points room
+fit_begun p l list m t points room o new f due follows =
+    let b : BeginFacts o (begins_at m.shapes m.processor o) = begin_facts m.shapes m.processor o (begun_busy p l list m t points room o f due) in
     let unacted : is_unacted (op_at (begins_at m.shapes m.processor o)) ≡ is_statement o = ap is_unacted b.is in
     let come : statements_among (to_come p t.next) ≡ bit (is_statement o) + statements_among (to_come p new) = ap statements_among follows.come in
     record {
@@ -163,10 +158,10 @@ fit_begun p l list m t marks points room o new f due follows =
       reserved = f.reserved;
     }
 
-pub fit_stepped : (p : Program) (l : Layout) (list : List ℕ) (m : Mutating) (t : Progress) (marks points room found : ℕ) → Fit p l list m t marks points room → is_busy_at m.processor.point ≡ true →
-    Fit p l (changed (request l (mutating.asks m)) list) (mutating.goes m found) t (marks + bit (is_some (statement_answer l.goroutines m.processor m.processor.point found))) (points + bit (is_point (acts m.processor found))) room
-fit_stepped p l list m t marks points room found f busy =
-    let s : StepFacts m.processor m.processor.point (takes m.shapes m.processor found) (acts m.processor found) (gives_at l.goroutines m.processor m.processor.point found) = step_facts m.shapes l.goroutines m.processor m.processor.point found busy in
+pub fit_stepped : (p : Program) (l : Layout) (list : List ℕ) (m : Mutating) (t : Progress) (points room found : ℕ) → Fit p l list m t points room → is_busy_at m.processor.task ≡ true →
+    Fit p l (changed (request l (mutating.asks m)) list) (mutating.goes m found) t (points + bit (is_point (acts m.processor found))) room
+fit_stepped p l list m t points room found f busy =
+    let s : StepFacts m.processor m.processor.task (takes m.shapes m.processor found) (acts m.processor found) (gives_at m.processor m.processor.task found) = step_facts m.shapes m.processor m.processor.task found busy in
     record {
       script = f.script;
       layout = f.layout;
@@ -180,10 +175,14 @@ fit_stepped p l list m t marks points room found f busy =
       few_begun = f.few_begun;
       last = f.last;
       leaves = s.leaves ∙ f.leaves;
-      marked = omega (arith, s.answered, f.marked);
+      marked = omega (arith, s.answered, f.marked, marks_more m.marks (statement_answer m.processor found) (marks_few p l list m t points room f));
       pointed = omega (arith, s.once, f.pointed);
       reserved = f.reserved;
     }
+
+pub fit_same : (p q : Program) (l k : Layout) (list new : List ℕ) (m n : Mutating) (t later : Progress) (points count room space : ℕ) → q ≡ p → k ≡ l → new ≡ list → n ≡ m → later ≡ t → count ≡ points → space ≡ room →
+    Fit p l list m t points room → Fit q k new n later count space
+fit_same p q l k list new m n t later points count room space a b c d e f g fit = rw (a, b, c, d, e, f, g) fit
 
 -- ---- lists
 
@@ -294,14 +293,14 @@ leaves_is op.Poll = refl
 leaves_is op.Leave = refl
 
 -- what has ended may be over behind the turn that is begun
-ended_after : (p : Program) (t : Next) (b : Option Op) (new : Next) (es : List (Entry Op)) → GoesOn p t b new → ((g : ℕ) → ended_in es g ≡ true → MayBeOver p t g) → (g : ℕ) → (ends b g || ended_in es g) ≡ true → MayBeOver p new g
+pub ended_after : (p : Program) (t : Next) (b : Option Op) (new : Next) (es : List (Entry Op)) → GoesOn p t b new → ((g : ℕ) → ended_in es g ≡ true → MayBeOver p t g) → (g : ℕ) → (ends b g || ended_in es g) ≡ true → MayBeOver p new g
 ended_after p t None new es follows over g h = subst (λ (x : Next). MayBeOver p x g) (sym follows) (over g h)
 ended_after p t (Some o) new es follows over g h = go (ends (Some o) g) refl h where
   go : (c : Bool) → ends (Some o) g ≡ c → (c || ended_in es g) ≡ true → MayBeOver p new g
   go true e q = follows.ends g (ends_is o g e)
   go false e q = follows.over g (over g q)
 
-left_after : (p : Program) (t : Next) (b : Option Op) (new : Next) (es : List (Entry Op)) → GoesOn p t b new → ((o : Op) → b ≡ Some o → op_due p t ≡ Some o) → (has_left es ≡ true → is_over t ≡ true) → (leaves b || has_left es) ≡ true → is_over new ≡ true
+pub left_after : (p : Program) (t : Next) (b : Option Op) (new : Next) (es : List (Entry Op)) → GoesOn p t b new → ((o : Op) → b ≡ Some o → op_due p t ≡ Some o) → (has_left es ≡ true → is_over t ≡ true) → (leaves b || has_left es) ≡ true → is_over new ≡ true
 left_after p t None new es follows due left h = ap is_over follows ∙ left h
 left_after p t (Some o) new es follows due left h = go (leaves (Some o)) refl h where
   go : (c : Bool) → leaves (Some o) ≡ c → (c || has_left es) ≡ true → is_over new ≡ true
@@ -351,9 +350,9 @@ module _ (p : Program) (l : Layout) (runnable : WellFormed p) (laid : IsLayoutOf
 
   -- what a world knows of itself that a further entry rests on
   pub record Knows (m : Processor) (t : Progress) (b : Option Op) (new : Next) : Type 0 where
-    pub is : b ≡ op_at_turn p (is_busy_at m.point) t.next
+    pub is : b ≡ op_at_turn p (is_busy_at m.task) t.next
     pub goes : GoesOn p t.next b new
-    pub busy : is_busy_at (begun m b).point ≡ true
+    pub busy : is_busy_at (begun m b).task ≡ true
     pub within : InRange l (cell_of (asks (begun m b)))
     pub made : MadeAtMost t.stated m
     pub stands : Stands p t.next
@@ -365,31 +364,37 @@ module _ (p : Program) (l : Layout) (runnable : WellFormed p) (laid : IsLayoutOf
   Goes list t points marks es b new m =
       After p l (changed (request l (asks (begun m b))) list) (takes p.shapes (begun m b) (found_at list (begun m b))) (progress_after t b new)
       (points ++ next_point (is_point (acts (begun m b) (found_at list (begun m b)))) (pair_of (last_after t b) (get_or (counts_after t b) (last_after t b) 0)))
-      (marks + bit (is_some (statement_answer l.goroutines (begun m b) (begun m b).point (found_at list (begun m b)))))
+      (marks + bit (is_some (statement_answer (begun m b) (found_at list (begun m b)))))
       (entry_of list m b ∷ es)
 
   -- an operation that begins is the one that is due
-  due_at : (m : Processor) (t : Next) (b : Option Op) (o : Op) → b ≡ op_at_turn p (is_busy_at m.point) t → b ≡ Some o → (is_busy_at m.point ≡ false) × (op_due p t ≡ Some o)
-  due_at m t b o is some = go (is_busy_at m.point) refl where
-    go : (c : Bool) → is_busy_at m.point ≡ c → (is_busy_at m.point ≡ false) × (op_due p t ≡ Some o)
+  due_at : (m : Processor) (t : Next) (b : Option Op) (o : Op) → b ≡ op_at_turn p (is_busy_at m.task) t → b ≡ Some o → (is_busy_at m.task ≡ false) × (op_due p t ≡ Some o)
+  due_at m t b o is some = go (is_busy_at m.task) refl where
+    go : (c : Bool) → is_busy_at m.task ≡ c → (is_busy_at m.task ≡ false) × (op_due p t ≡ Some o)
     go true e = absurd (let none : Some o ≡ None = sym some ∙ is ∙ ap (λ (c : Bool). op_at_turn p c t) e in cc)
     go false e = (e, sym (ap (λ (c : Bool). op_at_turn p c t) e) ∙ sym is ∙ some)
+
+  -- what is due may begin, where nothing is begun
+  pub begins_due : (es : List (Entry Op)) (t : Progress) (o : Op) → is_busy_at (state_of (processor_kind p.shapes l) 0 es).task ≡ false → op_due p t.next ≡ Some o → MadeAtMost t.stated (state_of (processor_kind p.shapes l) 0 es) → Stands p t.next → t.stated + statements_among (to_come p t.next) ≡ total_of p → Legal (setting_of p.shapes l opening) es →
+      ((g : ℕ) → ended_in es g ≡ true → MayBeOver p t.next g) → (has_left es ≡ true → is_over t.next ≡ true) → Begins (setting_of p.shapes l opening) 0 es (Some o)
+  begins_due es t o idle due made stands all legal over left =
+      let m = state_of (processor_kind p.shapes l) 0 es in
+      let ranged = (due_runs p l runnable laid t.next o stands due).ranged in
+      let few : is_statement o ≡ true → t.stated < most_objects = λ sure. omega (arith, due_statement p t.next o due sure, all, few_statements p runnable) in
+      let may : may_begin l.goroutines l.globals (length p.shapes) m es o ≡ true =
+      no_false_more _ _ _ _ ranged (has_name_at m t.stated o made few) (false_unless (has_left es) (λ h. not_over p t.next o due (left h))) (not_ended p t.next o es stands due over) in (
+        idle,
+        subst (λ (fs : List (Entry Op)). may_begin l.goroutines l.globals (length p.shapes) (state_of (processor_kind p.shapes l) 0 fs) fs o ≡ true) (sym (by_all p.shapes l opening es legal)) may,
+      )
 
   begins_next : (es : List (Entry Op)) (t : Progress) (b : Option Op) (new : Next) → Knows (state_of (processor_kind p.shapes l) 0 es) t b new → Legal (setting_of p.shapes l opening) es →
       ((g : ℕ) → ended_in es g ≡ true → MayBeOver p t.next g) → (has_left es ≡ true → is_over t.next ≡ true) → Begins (setting_of p.shapes l opening) 0 es b
   begins_next es t None new k legal over left = k.busy
   begins_next es t (Some o) new k legal over left =
-      let m = state_of (processor_kind p.shapes l) 0 es in
-      let due = due_at m t.next (Some o) o k.is refl in
-      let ranged = (due_runs p l runnable laid t.next o k.stands due.1).ranged in
-      let few : is_statement o ≡ true → t.stated < most_objects = λ sure. omega (arith, due_statement p t.next o due.1 sure, k.all, few_statements p runnable) in
-      let may : may_begin l.goroutines l.globals (length p.shapes) m es o ≡ true =
-      no_false_more _ _ _ _ ranged (has_name_at m t.stated o k.made few) (false_unless (has_left es) (λ h. not_over p t.next o due.1 (left h))) (not_ended p t.next o es k.stands due.1 over) in (
-        due.0,
-        subst (λ (fs : List (Entry Op)). may_begin l.goroutines l.globals (length p.shapes) (state_of (processor_kind p.shapes l) 0 fs) fs o ≡ true) (sym (by_all p.shapes l opening es legal)) may,
-      )
+      let due = due_at (state_of (processor_kind p.shapes l) 0 es) t.next (Some o) o k.is refl in
+      begins_due es t o due.0 due.1 k.made k.stands k.all legal over left
 
-  turns_next : (t : Progress) (b : Option Op) (new : Next) (bs : List Op) → GoesOn p t.next b new → turns_of p ≡ reverse bs ++ to_come p t.next → turns_of p ≡ reverse (option_to_list b ++ bs) ++ to_come p new
+  pub turns_next : (t : Progress) (b : Option Op) (new : Next) (bs : List Op) → GoesOn p t.next b new → turns_of p ≡ reverse bs ++ to_come p t.next → turns_of p ≡ reverse (option_to_list b ++ bs) ++ to_come p new
   turns_next t None new bs goes turns = turns ∙ ap (λ (x : Next). reverse bs ++ to_come p x) (sym goes)
   turns_next t (Some o) new bs goes turns = turns ∙ ap (λ (xs : List Op). reverse bs ++ xs) goes.come ∙ sym (one_more o bs (to_come p new))
 
@@ -422,7 +427,7 @@ module _ (p : Program) (l : Layout) (runnable : WellFormed p) (laid : IsLayoutOf
         left = left_after p t.next b new es k.goes due a.left;
         pointed = ap (λ (ps : List (ℕ × ℕ)). ps ++ next_point (is_point (acts (begun m b) (found_at list (begun m b)))) (pair_of (last_after t b) (get_or (counts_after t b) (last_after t b) 0))) a.pointed
             ∙ ap (λ (x : ℕ × ℕ). points_in p.shapes l es ++ next_point (is_point (acts (begun m b) (found_at list (begun m b)))) x) now;
-        marked = ap (λ (n : ℕ). n + bit (is_some (statement_answer l.goroutines (begun m b) (begun m b).point (found_at list (begun m b))))) a.marked;
+        marked = ap (λ (n : ℕ). n + bit (is_some (statement_answer (begun m b) (found_at list (begun m b))))) a.marked;
       }
 
   pub follows : StepsAreShown l → (list : List ℕ) (m : Processor) (t : Progress) (points : List (ℕ × ℕ)) (marks : ℕ) (es : List (Entry Op)) (b : Option Op) (new : Next) → After p l list m t points marks es → Knows m t b new → Goes list t points marks es b new m
@@ -435,44 +440,38 @@ module _ (p : Program) (l : Layout) (runnable : WellFormed p) (laid : IsLayoutOf
 
   -- what the step says
   says_at : (list : List ℕ) (t : Progress) (es : List (Entry Op)) (b : Option Op) → pair_of (last_after t b) (get_or (counts_after t b) (last_after t b) 0) ≡ statement_now (option_to_list b ++ begun_in p.shapes l es) →
-      event_at (pair_of (last_after t b) (get_or (counts_after t b) (last_after t b) 0)) (is_last (begun (state_of (processor_kind p.shapes l) 0 es) b).point) (statement_answer l.goroutines (begun (state_of (processor_kind p.shapes l) 0 es) b) (begun (state_of (processor_kind p.shapes l) 0 es) b).point (found_at list (begun (state_of (processor_kind p.shapes l) 0 es) b)))
+      event_at (pair_of (last_after t b) (get_or (counts_after t b) (last_after t b) 0)) (is_last (begun (state_of (processor_kind p.shapes l) 0 es) b).task) (statement_answer (begun (state_of (processor_kind p.shapes l) 0 es) b) (found_at list (begun (state_of (processor_kind p.shapes l) 0 es) b)))
       ≡ event_of p.shapes l es (entry_of list (state_of (processor_kind p.shapes l) 0 es) b)
   says_at list t es b same =
       let m = state_of (processor_kind p.shapes l) 0 es in
-      ap (λ (x : ℕ × ℕ). event_at x (is_last (begun m b).point) (statement_answer l.goroutines (begun m b) (begun m b).point (found_at list (begun m b)))) same
+      ap (λ (x : ℕ × ℕ). event_at x (is_last (begun m b).task) (statement_answer (begun m b) (found_at list (begun m b)))) same
 
   pub says : (list : List ℕ) (m : Processor) (t : Progress) (points : List (ℕ × ℕ)) (marks : ℕ) (es : List (Entry Op)) (b : Option Op) (new : Next) → After p l list m t points marks es → Knows m t b new →
-      event_at (pair_of (last_after t b) (get_or (counts_after t b) (last_after t b) 0)) (is_last (begun m b).point) (statement_answer l.goroutines (begun m b) (begun m b).point (found_at list (begun m b))) ≡ event_of p.shapes l es (entry_of list m b)
+      event_at (pair_of (last_after t b) (get_or (counts_after t b) (last_after t b) 0)) (is_last (begun m b).task) (statement_answer (begun m b) (found_at list (begun m b))) ≡ event_of p.shapes l es (entry_of list m b)
   says list m t points marks es b new a k =
       let here : (o : Op) → b ≡ Some o → is_statement o ≡ true → goroutine_at o < 32 = λ o e sure. due_goroutine p t.next o runnable k.stands (due_at m t.next b o k.is e).1 sure in
       let now = now_after t b (begun_in p.shapes l es) k.columns here a.counted a.now in
       subst Goal (sym a.processor) (says_at list t es b now) where
         Goal : Processor → Type 0
-        Goal n = event_at (pair_of (last_after t b) (get_or (counts_after t b) (last_after t b) 0)) (is_last (begun n b).point) (statement_answer l.goroutines (begun n b) (begun n b).point (found_at list (begun n b))) ≡ event_of p.shapes l es (entry_of list n b)
+        Goal n = event_at (pair_of (last_after t b) (get_or (counts_after t b) (last_after t b) 0)) (is_last (begun n b).task) (statement_answer (begun n b) (found_at list (begun n b))) ≡ event_of p.shapes l es (entry_of list n b)
 
 -- ---- numbers that fit
 
-pub stated_few : (p : Program) (l : Layout) (list : List ℕ) (m : Mutating) (t : Progress) (marks points room : ℕ) → Fit p l list m t marks points room → t.stated ≤ 200000
-stated_few p l list m t marks points room f = omega (arith, f.all, few_statements p f.script)
-
-pub marks_few : (p : Program) (l : Layout) (list : List ℕ) (m : Mutating) (t : Progress) (marks points room : ℕ) → Fit p l list m t marks points room → marks + 1 < 2 ^ 32
-marks_few p l list m t marks points room f = omega (arith, f.marked, stated_few p l list m t marks points room f)
-
-pub point_room : (p : Program) (l : Layout) (list : List ℕ) (m : Mutating) (t : Progress) (marks points room found : ℕ) (b : Bool) → Fit p l list m t marks points room → is_busy_at m.processor.point ≡ true →
+pub point_room : (p : Program) (l : Layout) (list : List ℕ) (m : Mutating) (t : Progress) (points room found : ℕ) (b : Bool) → Fit p l list m t points room → is_busy_at m.processor.task ≡ true →
     b ≡ is_point (acts m.processor found) → b ≡ true → points < room
-point_room p l list m t marks points room found b f busy is set =
-    let s : StepFacts m.processor m.processor.point (takes m.shapes m.processor found) (acts m.processor found) (gives_at l.goroutines m.processor m.processor.point found) = step_facts m.shapes l.goroutines m.processor m.processor.point found busy in
+point_room p l list m t points room found b f busy is set =
+    let s : StepFacts m.processor m.processor.task (takes m.shapes m.processor found) (acts m.processor found) (gives_at m.processor m.processor.task found) = step_facts m.shapes m.processor m.processor.task found busy in
     let one : bit (is_point (acts m.processor found)) ≡ 1 = ap bit (sym is ∙ set) in
     omega (arith, s.once, f.pointed, f.all, f.reserved, one)
 
 -- ---- what the processor is asked to begin
 
-pub due_sound : (p : Program) (l : Layout) (list : List ℕ) (m : Mutating) (t : Progress) (marks points room : ℕ) (o : Op) → Fit p l list m t marks points room → op_due p t.next ≡ Some o → SoundOp m.shapes m.processor.layout o
-due_sound p l list m t marks points room o f due =
+pub due_sound : (p : Program) (l : Layout) (list : List ℕ) (m : Mutating) (t : Progress) (points room : ℕ) (o : Op) → Fit p l list m t points room → op_due p t.next ≡ Some o → SoundOp m.shapes m.processor.layout o
+due_sound p l list m t points room o f due =
     subst (λ (shapes : List Shape). SoundOp shapes m.processor.layout o) (sym f.shapes) (subst (λ (k : Layout). SoundOp p.shapes k o) (sym f.laid) (due_runs p l f.script f.layout t.next o f.stands due).sound)
 
-pub due_named : (p : Program) (l : Layout) (list : List ℕ) (m : Mutating) (t : Progress) (marks points room : ℕ) (o : Op) → Fit p l list m t marks points room → op_due p t.next ≡ Some o → has_names m.processor o ≡ true
-due_named p l list m t marks points room o f due = has_name_at m.processor t.stated o f.made (λ sure. omega (arith, due_statement p t.next o due sure, f.all, few_statements p f.script))
+pub due_named : (p : Program) (l : Layout) (list : List ℕ) (m : Mutating) (t : Progress) (points room : ℕ) (o : Op) → Fit p l list m t points room → op_due p t.next ≡ Some o → has_names m.processor o ≡ true
+due_named p l list m t points room o f due = has_name_at m.processor t.stated o f.made (λ sure. omega (arith, due_statement p t.next o due sure, f.all, few_statements p f.script))
 
 -- ---- a world as it opens
 
@@ -480,7 +479,7 @@ abbrev pub opening_progress : Next → Progress
 opening_progress first = record { next = first; begun = replicate 32 0; stated = 0; last = 0 }
 
 pub fit_opens : (p : Program) (l : Layout) (list : List ℕ) (first : Next) (room : ℕ) → WellFormed p → IsLayoutOf p.settings.arena p.settings.globals p.settings.procs p.settings.workers (length p.goroutines) l →
-    length list ≡ length_of l → total_of p ≤ room → to_come p first ≡ later p 0 0 → Stands p first → is_over first ≡ false → Fit p l list (mutating.opening l 0 p.shapes) (opening_progress first) 0 0 room
+    length list ≡ length_of l → total_of p ≤ room → to_come p first ≡ later p 0 0 → Stands p first → is_over first ≡ false → Fit p l list (mutating.opening l 0 p.shapes) (opening_progress first) 0 room
 fit_opens p l list first room r lay long reserved come stands over =
     let turns : to_come p first ≡ turns_of p = come ∙ sym (opens_at p) in
     let all : statements_among (to_come p first) ≡ total_of p = ap statements_among turns ∙ turns_say p in
@@ -518,28 +517,28 @@ after_opens p l list first shows come = record {
 
 -- ---- the next operation is begun, where the processor has not left
 
-idle_not_leaving : (p : Point) → is_busy_at p ≡ false → has_left_at p ≡ false → is_leaving p ≡ false
+pub idle_not_leaving : (t : Task) → is_busy_at t ≡ false → has_left_at t ≡ false → is_leaving t ≡ false
 idle_not_leaving Idle h k = refl
 idle_not_leaving _ h k = absurd (cc)
 
-has_due : (p : Program) (t : Next) → is_over t ≡ false → (o : Op) × (op_due p t ≡ Some o)
+pub has_due : (p : Program) (t : Next) → is_over t ≡ false → (o : Op) × (op_due p t ≡ Some o)
 has_due p (next.Poll n g) h = (op.Poll, refl)
 has_due p (next.Run n g) h = (work_of p n g, refl)
 has_due p next.Leave h = (op.Leave, refl)
 has_due p next.Over h = absurd cc
 
 -- what a step begins with
-pub record Ready (p : Program) (l : Layout) (list : List ℕ) (m : Mutating) (t : Progress) (marks points room : ℕ) : Type 0 where
-  pub fit : Fit p l list m t marks points room
-  pub busy : is_busy_at m.processor.point ≡ true
+pub record Ready (p : Program) (l : Layout) (list : List ℕ) (m : Mutating) (t : Progress) (points room : ℕ) : Type 0 where
+  pub fit : Fit p l list m t points room
+  pub busy : is_busy_at m.processor.task ≡ true
 
-pub ready : (p : Program) (l : Layout) (list : List ℕ) (m : Mutating) (t : Progress) (marks points room : ℕ) (b : Option Op) (new : Next) → Fit p l list m t marks points room → has_left_at m.processor.point ≡ false →
-    b ≡ op_at_turn p (is_busy_at m.processor.point) t.next → GoesOn p t.next b new → Ready p l list (begun_as m b) (progress_after t b new) marks points room
-ready p l list m t marks points room b new f going is goes = go (is_busy_at m.processor.point) refl b is goes where
-  go : (c : Bool) → is_busy_at m.processor.point ≡ c → (b : Option Op) → b ≡ op_at_turn p c t.next → GoesOn p t.next b new → Ready p l list (begun_as m b) (progress_after t b new) marks points room
-  go true busy None e same = record { fit = subst (λ (x : Next). Fit p l list m (progress_after t None x) marks points room) (sym same) f; busy = busy }
+pub ready : (p : Program) (l : Layout) (list : List ℕ) (m : Mutating) (t : Progress) (points room : ℕ) (b : Option Op) (new : Next) → Fit p l list m t points room → has_left_at m.processor.task ≡ false →
+    b ≡ op_at_turn p (is_busy_at m.processor.task) t.next → GoesOn p t.next b new → Ready p l list (begun_as m b) (progress_after t b new) points room
+ready p l list m t points room b new f going is goes = go (is_busy_at m.processor.task) refl b is goes where
+  go : (c : Bool) → is_busy_at m.processor.task ≡ c → (b : Option Op) → b ≡ op_at_turn p c t.next → GoesOn p t.next b new → Ready p l list (begun_as m b) (progress_after t b new) points room
+  go true busy None e same = record { fit = subst (λ (x : Next). Fit p l list m (progress_after t None x) points room) (sym same) f; busy = busy }
   go true busy (Some o) e follows = absurd cc
-  go false idle (Some o) e follows = record { fit = fit_begun p l list m t marks points room o new f (sym e) follows; busy = (begin_facts m.shapes m.processor o).busy }
-  go false idle None e same = absurd (never (has_due p t.next (sym f.leaves ∙ idle_not_leaving m.processor.point idle going))) where
+  go false idle (Some o) e follows = record { fit = fit_begun p l list m t points room o new f (sym e) follows; busy = begun_busy p l list m t points room o f (sym e) }
+  go false idle None e same = absurd (never (has_due p t.next (sym f.leaves ∙ idle_not_leaving m.processor.task idle going))) where
     never : (o : Op) × (op_due p t.next ≡ Some o) → ⊥
     never w = let none : None ≡ Some w.0 = e ∙ w.1 in cc

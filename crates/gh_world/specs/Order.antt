@@ -1,5 +1,5 @@
 -- Lists of steps of the processor, the newest first: what was begun, where each statement acted, what was answered, and what the heap that never frees is after them.
-use Rattle.std.specs.Prelude.{ℕ, nat_lt, Bool, true, false, not, ◌==◌, ◌&&◌, ◌||◌, if◌then◌else◌, List, [], ◌∷◌, ◌++◌, length, Option, Some, None}
+use Rattle.std.specs.Prelude.{ℕ, nat_lt, Bool, true, false, not, ◌==◌, ◌&&◌, ◌||◌, if◌then◌else◌, List, [], ◌∷◌, ◌++◌, length, reverse, Option, Some, None}
 use Rattle.std.specs.Option.{option_to_list}
 use Rattle.gh_base.specs.declared.value.Answer.{Answer}
 use Rattle.gh_base.specs.declared.value.Answer.TheVariants as answer
@@ -7,12 +7,14 @@ use Rattle.gh_base.specs.declared.operation.Op.{Op}
 use Rattle.gh_base.specs.declared.operation.Op.TheVariants as op
 use Rattle.gh_base.specs.declared.shape.Shape.{Shape}
 use Rattle.gh_base.specs.declared.layout.Layout.{Layout}
+use Rattle.gh_base.specs.declared.limits.TheConstants.{REGISTERS}
 use Rattle.gh_base.specs.declared.machine.Entry.{Entry}
 use Rattle.gh_base.specs.Cells.{Words}
 use Rattle.gh_base.specs.Lists.{Kind, Setting, state_of, started}
 use Rattle.gh_model.specs.Ever.{Ever, opening_ever, answer_of, ever_after}
-use Rattle.gh_mutator.specs.declared.point.Processor.{Processor}
-use Rattle.gh_mutator.specs.Listing.{asks, begins, takes, gives_at, acts, Act, is_busy_at, opening_processor}
+use Rattle.gh_mutator.specs.declared.processor.Processor.{Processor}
+use Rattle.gh_mutator.specs.Listing.{asks, begins, takes, gives, acts, Act, is_busy_at}
+use Rattle.gh_mutator.specs.Processor.{opening_processor}
 use Rattle.gh_mutator.specs.Sound.{has_names}
 
 -- the processor as a kind of actor
@@ -22,7 +24,7 @@ processor_kind shapes l = record {
   begins = begins shapes;
   asks = asks;
   takes = takes shapes;
-  busy = λ m. is_busy_at m.point;
+  busy = λ m. is_busy_at m.task;
 }
 
 -- What an operation needs: a goroutine that there is and that has not ended, registers, a global and a type in range; nothing after the processor has left.
@@ -47,14 +49,14 @@ has_left (e ∷ es) = leaves e.begun || has_left es
 
 module _ (goroutines globals types : ℕ) where
   abbrev pub in_range : Op → Bool
-  in_range (op.New g d t) = nat_lt g goroutines && nat_lt d 16 && nat_lt t types
-  in_range (op.Load g d b k) = nat_lt g goroutines && nat_lt d 16 && nat_lt b 16
-  in_range (op.Store g b k v) = nat_lt g goroutines && nat_lt b 16 && nat_lt v 16
-  in_range (op.GetGlobal g d k) = nat_lt g goroutines && nat_lt d 16 && nat_lt k globals
-  in_range (op.SetGlobal g k v) = nat_lt g goroutines && nat_lt k globals && nat_lt v 16
-  in_range (op.Int g d n) = nat_lt g goroutines && nat_lt d 16
-  in_range (op.Move g d s) = nat_lt g goroutines && nat_lt d 16 && nat_lt s 16
-  in_range (op.Nil g d) = nat_lt g goroutines && nat_lt d 16
+  in_range (op.New g d t) = nat_lt g goroutines && nat_lt d REGISTERS && nat_lt t types
+  in_range (op.Load g d b k) = nat_lt g goroutines && nat_lt d REGISTERS && nat_lt b REGISTERS
+  in_range (op.Store g b k v) = nat_lt g goroutines && nat_lt b REGISTERS && nat_lt v REGISTERS
+  in_range (op.GetGlobal g d k) = nat_lt g goroutines && nat_lt d REGISTERS && nat_lt k globals
+  in_range (op.SetGlobal g k v) = nat_lt g goroutines && nat_lt k globals && nat_lt v REGISTERS
+  in_range (op.Int g d n) = nat_lt g goroutines && nat_lt d REGISTERS
+  in_range (op.Move g d s) = nat_lt g goroutines && nat_lt d REGISTERS && nat_lt s REGISTERS
+  in_range (op.Nil g d) = nat_lt g goroutines && nat_lt d REGISTERS
   in_range (op.End g) = nat_lt g goroutines
   in_range op.Poll = true
   in_range op.Leave = true
@@ -131,7 +133,11 @@ module _ (shapes : List Shape) (l : Layout) where
   order_of [] = []
   order_of (e ∷ es) = option_to_list (answered (ever_of es) (acts (before_step es e) e.found)) ++ order_of es
 
+  -- the first of them first
+  abbrev pub acted_in : List (Entry Op) → List Answered
+  acted_in es = reverse (order_of es)
+
   -- what the processor answered
   abbrev pub given_in : List (Entry Op) → List Answer
   given_in [] = []
-  given_in (e ∷ es) = option_to_list (gives_at l.goroutines (before_step es e) (before_step es e).point e.found) ++ given_in es
+  given_in (e ∷ es) = option_to_list (gives (before_step es e) e.found) ++ given_in es

@@ -42,6 +42,10 @@ turns_of p = flat_map (round_of p) (range_with_len 0 (total_of p + 1)) ++ op.Lea
 abbrev pub goroutine_at : Op → ℕ
 goroutine_at o = unwrap_or (goroutine_of o) 0
 
+-- it is a statement of goroutine g
+abbrev pub is_statement_of : ℕ → Op → Bool
+is_statement_of g o = is_statement o && (goroutine_at o == g)
+
 -- how many of the operations are statements, and how many of goroutine g
 abbrev pub statements_among : List Op → ℕ
 statements_among [] = 0

@@ -1,9 +1,9 @@
 //! Laws of the lists of the processor's steps, whatever the code does.
 
-ghost use Rattle.gh_world.specs.Runs.{EveryLegalListStands, EveryRunIsExplained, EveryRunIsOne, NoneIsLonger};
+ghost use Rattle.gh_world.specs.Runs.{EveryLegalListStands, EveryRunIsExplained, EveryRunIsOne, NoneIsLonger, RunsEndWhole, RunsGoOn};
 
 use gh_base::Op;
-use gh_base::laws::{a_state_is_of_its_own_entries, packed_words_are_read_back};
+use gh_base::laws::{a_state_is_of_its_own_entries, packed_words_are_read_back, rows_are_written};
 use gh_bitmap::laws::each_step_is_on_its_bits;
 use gh_central::laws::the_test_says_it;
 use gh_mutator::Processor;
@@ -18,6 +18,7 @@ pub fn every_legal_list_stands()
     each_step_is_on_its_bits();
     the_test_says_it();
     packed_words_are_read_back();
+    rows_are_written();
     a_state_is_of_its_own_entries::<Processor<'_>, Op>();
 }
 
@@ -29,6 +30,7 @@ pub fn every_run_is_explained()
     each_step_is_on_its_bits();
     the_test_says_it();
     packed_words_are_read_back();
+    rows_are_written();
     a_state_is_of_its_own_entries::<Processor<'_>, Op>();
 }
 
@@ -37,3 +39,15 @@ pub fn a_script_has_one_run()
     ensures same { EveryRunIsOne }
     ensures longest { NoneIsLonger }
 {}
+
+/// A script's run so far goes on by a step until its processor leaves, and then it is whole.
+pub fn runs_go_on()
+    ensures on { RunsGoOn }
+    ensures whole { RunsEndWhole }
+{
+    each_step_is_on_its_bits();
+    the_test_says_it();
+    packed_words_are_read_back();
+    rows_are_written();
+    a_state_is_of_its_own_entries::<Processor<'_>, Op>();
+}

@@ -12,16 +12,17 @@
 //! for the heap that never frees after every single step, and not only between statements.
 //!
 //! [`every_legal_list_stands`] says this of every list of steps, [`every_run_is_explained`] of whole
-//! runs, [`a_script_has_one_run`] that there is one; [`World::step`] is one entry more of whatever list
-//! the world is the state of. The processor runs all goroutines in turns, round after round (`turns`), and
-//! polls before each statement. No other actor moves: nothing is marked, swept or freed yet.
+//! runs, [`a_script_has_one_run`] that there is one, [`runs_go_on`] that it goes on until it is whole;
+//! [`World::step`] is one entry more of whatever list the world is the state of. The processor runs all
+//! goroutines in turns, round after round (`turns`), and polls before each statement. No other actor
+//! moves: nothing is marked, swept or freed yet.
 #![tactic(auto)]
 
 mod laws;
 mod turns;
 mod world;
 
-pub use laws::{a_script_has_one_run, every_legal_list_stands, every_run_is_explained};
+pub use laws::{a_script_has_one_run, every_legal_list_stands, every_run_is_explained, runs_go_on};
 pub use turns::{Next, total_of};
 pub use world::{Event, World};
 

@@ -95,9 +95,9 @@ fn steps(rt: &impl Abort, alloc: Global, statements: &str, want: &[u32]) -> Resu
         }
         taken = taken.saturating_add(1);
         if let Event::Answered { n, .. } = world.step(0) {
-            let place = (n as usize).saturating_sub(1);
+            let address = (n as usize).saturating_sub(1);
             assert_eq!(rt;
-                want.get(place).copied(),
+                want.get(address).copied(),
                 Some(taken),
                 "statement {n}, turn {turn}"
             );

@@ -1,5 +1,27 @@
-use Rattle.gh_world.proofs.WorldFacts.{point_room}
+use Rattle.std.proofs.Common.{◌≡◌, ◌+◌, true, refl, ◌∙◌, ap, vec_len, rules}
+use Rattle.std.specs.Vec.{vec_capacity}
+use Rattle.gh_base.specs.Packing.{bit}
+use Rattle.gh_base.specs.Steps.{changed, request}
+use Rattle.gh_mutator.specs.Listing.{acts, is_busy_at}
+use Rattle.gh_mutator.specs.Mutating.{asks, goes}
+use Rattle.gh_mutator.specs.Serving.{is_point}
+use Rattle.gh_world.specs.World.{State}
+use Rattle.gh_world.proofs.WorldFacts.{fit_same, fit_stepped, point_room}
 use Rattle.gh_world.proofs.world.World.advance.Goals as goal
 
-pub note-requires-clause-room : goal.note-requires-clause-room
-note-requires-clause-room c set = point_room _ _ _ _ _ _ _ _ c.step-found.result c.is_point-is_point.result c.requires.sound c.requires.busy c.is_point-is_point.ensures set
+pub note-requires : goal.note-requires
+note-requires c set =
+    let busy : is_busy_at c.self.inside.mutator.processor.task ≡ true = ap (λ (w : State). is_busy_at w.mutator.processor.task) c.self.view_is ∙ c.requires in
+    point_room _ _ _ _ _ _ _ c.step-found.result c.is_point-is_point.result c.self.invariant busy c.is_point-is_point.ensures set
+
+pub invariant_of-self : goal.invariant_of-self
+invariant_of-self c =
+    let w = c.self.inside in
+    let m = c.self.inside.mutator in
+    let found = c.step-found.result in
+    let busy : is_busy_at c.self.inside.mutator.processor.task ≡ true = ap (λ (v : State). is_busy_at v.mutator.processor.task) c.self.view_is ∙ c.requires in
+    let words : c.step-found.new.self ≡ changed (request c.self.inside.layout (asks c.self.inside.mutator)) c.self.inside.words = search rules in
+    let after : c.take-ended.new.self ≡ goes c.self.inside.mutator c.step-found.result = search rules in
+    let count : vec_len c.note.new.points ≡ vec_len c.self.inside.points + bit (is_point (acts c.self.inside.mutator.processor c.step-found.result)) = search rules in
+    fit_same _ _ _ _ _ _ _ _ _ _ _ _ _ _ refl refl words after refl count c.note.ensures.reserved
+    (fit_stepped w.script.now w.layout w.words m w.progress (vec_len w.points) (vec_capacity w.points) found c.self.invariant busy)

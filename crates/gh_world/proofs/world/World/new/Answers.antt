@@ -6,8 +6,8 @@ use Rattle.gh_world.specs.Turns.{total_of}
 use Rattle.gh_world.proofs.WorldFacts.{fit_opens, after_opens}
 use Rattle.gh_world.proofs.world.World.new.Goals as goal
 
-pub returns-clause-sound : goal.returns-clause-sound
-returns-clause-sound c =
+pub invariant_of-result : goal.invariant_of-result
+invariant_of-result c =
     let p = c.args.script.now in
     let l = c.in-Ok.layout in
     let counted : IsLayoutOf c.settings-settings.result.arena c.settings-settings.result.globals c.settings-settings.result.procs c.settings-settings.result.workers (length p.goroutines) l =

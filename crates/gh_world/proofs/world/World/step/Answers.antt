@@ -1,20 +1,17 @@
-use Rattle.std.proofs.Common.{◌≡◌, true}
-use Rattle.gh_world.specs.World.{SoundWorld}
-use Rattle.gh_world.proofs.OneStep.{ready_world, sound_after, appends}
+use Rattle.std.proofs.Common.{ap, subst}
+use Rattle.gh_base.specs.declared.layout.Layout.{Layout}
+use Rattle.gh_base.specs.Steps.{StepsAreShown}
+use Rattle.gh_world.specs.World.{State}
+use Rattle.gh_world.proofs.OneStep.{Kept, appends, busy_world}
 use Rattle.gh_world.proofs.world.World.step.Goals as goal
-use Rattle.gh_mutator.specs.Listing.{is_busy_at}
 
-pub advance-requires-clause-sound : goal.advance-requires-clause-sound
-advance-requires-clause-sound c = (ready_world c.args.self.now c.begin_next.new.self c.requires.sound c.requires.going c.begin_next.ensures).0
-
-pub advance-requires-clause-busy : goal.advance-requires-clause-busy
-advance-requires-clause-busy c = (ready_world c.args.self.now c.begin_next.new.self c.requires.sound c.requires.going c.begin_next.ensures).1
+pub advance-requires : goal.advance-requires
+advance-requires c =
+    let kept : Kept c.args.self.now = subst (λ (w : State). Kept w) c.self.view_is (record { noted = _; room = _; fit = c.self.invariant }) in
+    busy_world c.args.self.now c.begin_next.new.self kept c.requires.going c.begin_next.ensures
 
 pub returns-clause-appended : goal.returns-clause-appended
-returns-clause-appended c es after = appends c.args.self.now _ _ _ es _ c.steps_are_shown.ensures c.requires.actor c.requires.sound c.requires.going c.begin_next.ensures c.advance.ensures after
-
-pub returns-clause-sound : goal.returns-clause-sound
-returns-clause-sound c =
-    let sound : SoundWorld c.begin_next.new.self = (ready_world c.args.self.now c.begin_next.new.self c.requires.sound c.requires.going c.begin_next.ensures).0 in
-    let busy : is_busy_at c.begin_next.new.self.mutator.processor.point ≡ true = (ready_world c.args.self.now c.begin_next.new.self c.requires.sound c.requires.going c.begin_next.ensures).1 in
-    sound_after _ _ _ sound busy c.advance.ensures
+returns-clause-appended c es after =
+    let kept : Kept c.args.self.now = subst (λ (w : State). Kept w) c.self.view_is (record { noted = _; room = _; fit = c.self.invariant }) in
+    let shown : StepsAreShown c.args.self.now.layout = subst (λ (l : Layout). StepsAreShown l) (ap (λ (w : State). w.layout) c.self.view_is) c.steps_are_shown.ensures in
+    appends c.args.self.now _ _ _ es _ shown c.requires.actor kept c.requires.going c.begin_next.ensures c.advance.ensures.advances after

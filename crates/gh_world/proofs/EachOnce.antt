@@ -1,0 +1,129 @@
+-- Each goroutine's statements stand among the turns each once and in their order, and its answers are theirs.
+use Rattle.std.proofs.Common.{◌≡◌, ℕ, zero, suc, ◌+◌, ◌<◌, ◌≤◌, Bool, true, false, cond, eqb, leb, ◌&&◌, List, [], ◌∷◌, ◌++◌, map, length, drop, Option, Some, None, refl, sym, ap, subst, ◌∙◌, arith, inl, inr}
+use Rattle.std.specs.Prelude.{slice_get}
+use Rattle.std.specs.List.{filter, flat_map, range_with_len}
+use Rattle.std.specs.Option.{option_to_list}
+use Rattle.std.proofs.lemmas.Bool.{leb-false, eq-eqb, cases_lt}
+use Rattle.std.proofs.lemmas.Bool.Decides.{nat_tests}
+use Rattle.std.proofs.lemmas.List.{append-nil, drop_all, drop_more, get_or_past}
+use Rattle.std.proofs.lemmas.List.Elements.{filter-append}
+use Rattle.std.proofs.lemmas.Option.{slice_get-get_or, slice_get_past}
+use Rattle.gh_world.specs.Vocabulary.{Answer, Op, Stmt, Program, no_goroutine, statements_of, answers_by, is_statement, work_at}
+use Rattle.gh_base.specs.declared.operation.Op.TheVariants as op
+use Rattle.gh_script.specs.declared.statement.Stmt.TheVariants as stmts
+use Rattle.gh_script.specs.Program.{Goroutine, op_of}
+use Rattle.gh_world.specs.Order.{Answered}
+use Rattle.gh_world.specs.Turns.{count_of, total_of, turn_of, round_of, turns_of, answers_to, goroutine_at, is_statement_of}
+use Rattle.gh_world.specs.Runs.{acted_by}
+use Rattle.gh_world.proofs.Turning.{statement_is, goroutine_is, has_statement, count-le}
+
+-- its statement there, and those from there on
+pieces : (f : Stmt → Op) (xs : List Stmt) (r : ℕ) → map f (option_to_list (slice_get xs r)) ++ map f (drop (r + 1) xs) ≡ map f (drop r xs)
+pieces f xs r = elim (cases_lt r (length xs)) [
+  | inl lt ↦ ap (λ (s : Option Stmt). map f (option_to_list s) ++ map f (drop (r + 1) xs)) (slice_get-get_or xs r stmts.Gc lt) ∙ sym (ap (map f) (drop_more xs r stmts.Gc lt))
+  | inr le ↦ ap (λ (s : Option Stmt). map f (option_to_list s) ++ map f (drop (r + 1) xs)) (slice_get_past xs r le) ∙ ap (map f) (drop_all (r + 1) xs (omega arith) ∙ sym (drop_all r xs le))
+]
+
+module _ (p : Program) (g : ℕ) where
+  abbrev mine : List Op → List Op
+  mine os = filter (is_statement_of g) os
+
+  abbrev piece : Option Stmt → List Op
+  piece s = map (op_of g) (option_to_list s)
+
+  mine_is : (s : Stmt) → is_statement_of g (op_of g s) ≡ true
+  mine_is s = ap (λ (b : Bool). b && eqb (goroutine_at (op_of g s)) g) (statement_is g s) ∙ ap (λ (h : ℕ). eqb h g) (goroutine_is g s) ∙ eq-eqb g g refl
+
+  not_mine : (h : ℕ) (s : Stmt) → (h ≡ g → ⊥) → is_statement_of g (op_of h s) ≡ false
+  not_mine h s ne =
+      let apart : eqb h g ≡ false = grind (arith, nat_tests) in
+      ap (λ (b : Bool). b && eqb (goroutine_at (op_of h s)) g) (statement_is h s) ∙ ap (λ (k : ℕ). eqb k g) (goroutine_is h s) ∙ apart
+
+  turn_mine : (r : ℕ) → mine (turn_of p r g) ≡ piece (slice_get (statements_of p g) r)
+  turn_mine r = go (leb r (count_of p g)) (slice_get (statements_of p g) r) refl refl where
+    go : (b : Bool) (s : Option Stmt) → leb r (count_of p g) ≡ b → slice_get (statements_of p g) r ≡ s → mine (cond b (op.Poll ∷ work_at g s ∷ []) []) ≡ piece s
+    go false None e t = refl
+    go false (Some s) e t = absurd (let past = leb-false r (count_of p g) e in let lt = has_statement p (statements_of p g) r s t in omega arith)
+    go true None e t = refl
+    go true (Some s) e t = ap (λ (b : Bool). cond b (op_of g s ∷ []) []) (mine_is s)
+
+  turn_other : (r h : ℕ) → (h ≡ g → ⊥) → mine (turn_of p r h) ≡ []
+  turn_other r h ne = go (leb r (count_of p h)) (slice_get (statements_of p h) r) where
+    go : (b : Bool) (s : Option Stmt) → mine (cond b (op.Poll ∷ work_at h s ∷ []) []) ≡ []
+    go false s = refl
+    go true None = refl
+    go true (Some s) = ap (λ (b : Bool). cond b (op_of h s ∷ []) []) (not_mine h s ne)
+
+  -- the turns of other goroutines
+  others : (r n h : ℕ) → ((k : ℕ) → h ≤ k → k < h + n → k ≡ g → ⊥) → mine (flat_map (turn_of p r) (range_with_len h n)) ≡ []
+  others r zero h ne = refl
+  others r (suc n) h ne =
+      filter-append (is_statement_of g) (turn_of p r h) (flat_map (turn_of p r) (range_with_len (h + 1) n))
+      ∙ ap (λ (os : List Op). os ++ mine (flat_map (turn_of p r) (range_with_len (h + 1) n))) (turn_other r h (ne h (omega arith) (omega arith)))
+      ∙ others r n (h + 1) (λ k low high same. ne k (omega arith) (omega arith) same)
+
+  here : (r n h : ℕ) → h ≤ g → g < h + n → mine (flat_map (turn_of p r) (range_with_len h n)) ≡ piece (slice_get (statements_of p g) r)
+  here r zero h low high = absurd (omega arith)
+  here r (suc n) h low high = elim (cases_lt h g) [
+    | inl lt ↦ filter-append (is_statement_of g) (turn_of p r h) (flat_map (turn_of p r) (range_with_len (h + 1) n))
+        ∙ ap (λ (os : List Op). os ++ mine (flat_map (turn_of p r) (range_with_len (h + 1) n))) (turn_other r h (λ same. omega arith))
+        ∙ here r n (h + 1) (omega arith) (omega arith)
+    | inr le ↦ let same : g ≡ h = omega arith in subst (λ (k : ℕ). mine (flat_map (turn_of p r) (range_with_len k (suc n))) ≡ piece (slice_get (statements_of p g) r)) same
+        (filter-append (is_statement_of g) (turn_of p r g) (flat_map (turn_of p r) (range_with_len (g + 1) n))
+        ∙ ap (λ (os : List Op). os ++ mine (flat_map (turn_of p r) (range_with_len (g + 1) n))) (turn_mine r)
+        ∙ ap (λ (os : List Op). piece (slice_get (statements_of p g) r) ++ os) (others r n (g + 1) (λ k low high same. omega arith))
+        ∙ append-nil (piece (slice_get (statements_of p g) r)))
+  ]
+
+  -- a goroutine that there is not has no statement
+  pub none_beyond : length p.goroutines ≤ g → statements_of p g ≡ []
+  none_beyond le = ap (λ (x : Goroutine). x.statements) (get_or_past p.goroutines g no_goroutine le)
+
+  round_mine : (r : ℕ) → mine (round_of p r) ≡ piece (slice_get (statements_of p g) r)
+  round_mine r = elim (cases_lt g (length p.goroutines)) [
+    | inl lt ↦ here r (length p.goroutines) 0 (omega arith) (omega arith)
+    | inr le ↦ others r (length p.goroutines) 0 (λ k low high same. omega arith)
+        ∙ sym (ap (λ (xs : List Stmt). piece (slice_get xs r)) (none_beyond le) ∙ ap piece (slice_get_past [] r (omega arith)))
+  ]
+
+  rounds_mine : (n r : ℕ) → count_of p g ≤ r + n → mine (flat_map (round_of p) (range_with_len r n)) ≡ map (op_of g) (drop r (statements_of p g))
+  rounds_mine zero r few = ap (map (op_of g)) (sym (drop_all r (statements_of p g) (omega arith)))
+  rounds_mine (suc n) r few =
+      filter-append (is_statement_of g) (round_of p r) (flat_map (round_of p) (range_with_len (r + 1) n))
+      ∙ ap (λ (os : List Op). os ++ mine (flat_map (round_of p) (range_with_len (r + 1) n))) (round_mine r)
+      ∙ ap (λ (os : List Op). piece (slice_get (statements_of p g) r) ++ os) (rounds_mine n (r + 1) (omega arith))
+      ∙ pieces (op_of g) (statements_of p g) r
+
+  few_statements : count_of p g ≤ total_of p
+  few_statements = elim (cases_lt g (length p.goroutines)) [
+    | inl lt ↦ count-le p g lt
+    | inr le ↦ let none = ap (λ (xs : List Stmt). length xs) (none_beyond le) in omega (arith, none)
+  ]
+
+  -- the statements of the goroutine among the turns are those of the script
+  pub turns_mine : mine (turns_of p) ≡ map (op_of g) (statements_of p g)
+  unfolding turns_of
+  turns_mine =
+      filter-append (is_statement_of g) (flat_map (round_of p) (range_with_len 0 (total_of p + 1))) (op.Leave ∷ [])
+      ∙ append-nil (mine (flat_map (round_of p) (range_with_len 0 (total_of p + 1))))
+      ∙ rounds_mine (total_of p + 1) 0 (omega (arith, few_statements))
+
+  -- which operations are the goroutine's
+  pub acted_ops : (xs : List Answered) → map (λ (a : Answered). a.op) (acted_by g xs) ≡ mine (map (λ (a : Answered). a.op) xs)
+  acted_ops [] = refl
+  acted_ops (x ∷ xs) = go (is_statement_of g x.op) (acted_ops xs) where
+    go : (b : Bool) → map (λ (a : Answered). a.op) (acted_by g xs) ≡ mine (map (λ (a : Answered). a.op) xs) → map (λ (a : Answered). a.op) (cond b (x ∷ acted_by g xs) (acted_by g xs)) ≡ cond b (x.op ∷ mine (map (λ (a : Answered). a.op) xs)) (mine (map (λ (a : Answered). a.op) xs))
+    go true ih = ap (λ (os : List Op). x.op ∷ os) ih
+    go false ih = ih
+
+  abbrev rest_of : List Answered → List (ℕ × Answer)
+  rest_of xs = answers_to (map (λ (a : Answered). a.op) xs) (map (λ (a : Answered). a.answer) xs)
+
+  -- and which answers
+  pub acted_answers : (xs : List Answered) → map (λ (a : Answered). a.answer) (acted_by g xs) ≡ answers_by g (answers_to (map (λ (a : Answered). a.op) xs) (map (λ (a : Answered). a.answer) xs))
+  acted_answers [] = refl
+  acted_answers (x ∷ xs) = go (is_statement x.op) (eqb (goroutine_at x.op) g) refl (acted_answers xs) where
+    go : (b c : Bool) → eqb (goroutine_at x.op) g ≡ c → map (λ (a : Answered). a.answer) (acted_by g xs) ≡ answers_by g (rest_of xs) → map (λ (a : Answered). a.answer) (cond (b && c) (x ∷ acted_by g xs) (acted_by g xs)) ≡ answers_by g (cond b ((goroutine_at x.op, x.answer) ∷ []) [] ++ rest_of xs)
+    go false c e ih = ih
+    go true true e ih = ap (λ (as' : List Answer). x.answer ∷ as') ih ∙ ap (λ (d : Bool). cond d (x.answer ∷ []) [] ++ answers_by g (rest_of xs)) (sym e)
+    go true false e ih = ih ∙ ap (λ (d : Bool). cond d (x.answer ∷ []) [] ++ answers_by g (rest_of xs)) (sym e)
