@@ -1,5 +1,5 @@
 -- The definitions of specs/Text.antt at texts that were written out by hand.
-use Rattle.std.proofs.Common.{◌≡◌, ◌-◌, ◌^◌, refl, List, [], ◌∷◌}
+use Rattle.std.proofs.Common.{◌≡◌, ℕ, ◌-◌, ◌^◌, refl, List, [], ◌∷◌}
 use Rattle.std.specs.Prelude.{codes}
 use Rattle.std.specs.Fmt.{digits}
 use Rattle.gh_base.specs.declared.value.Answer.{Answer}
@@ -18,11 +18,11 @@ two_goroutines settings = record {
   goroutines = record { name = codes "b"; statements = [] } ∷ record { name = codes "a"; statements = [] } ∷ [];
 }
 
-abbrev answers_of_two : List (List Answer)
+-- each answer with its goroutine, in the order in which the statements ended
+abbrev answers_of_two : List (ℕ × Answer)
 answers_of_two =
-    (Fault NilBase ∷ Ref (record { g = 0; k = 0 }) ∷ Done ∷ Nil ∷ Full ∷ Swept ∷ Fault Field ∷ [])
-    ∷ (Done ∷ Ref (record { g = 0; k = 12 }) ∷ Int (2 ^ 64 - 1) ∷ Fault Kind ∷ Ref (record { g = 1; k = 3 }) ∷ [])
-    ∷ []
+    (0, Fault NilBase) ∷ (1, Done) ∷ (1, Ref (record { g = 0; k = 12 })) ∷ (0, Ref (record { g = 0; k = 0 })) ∷ (0, Done) ∷ (0, Nil)
+    ∷ (1, Int (2 ^ 64 - 1)) ∷ (0, Full) ∷ (1, Fault Kind) ∷ (0, Swept) ∷ (1, Ref (record { g = 1; k = 3 })) ∷ (0, Fault Field) ∷ []
 
 -- statements without a line are counted, and each goroutine counts from 1
 answers_text-of_two : (settings : Settings) → answers_text (two_goroutines settings) answers_of_two ≡ codes "b 1 fault nil\nb 2 ref b.0\nb 4 nil\nb 5 full\nb 6 swept\nb 7 fault field\na 2 ref b.12\na 3 int 18446744073709551615\na 4 fault kind\na 5 ref a.3\n"

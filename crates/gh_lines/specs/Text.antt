@@ -1,6 +1,6 @@
 -- The bytes of the output: each line ends with LF, its words are parted by one space, and its numbers are in decimal digits.
-use Rattle.std.specs.Prelude.{ℕ, ◌+◌, ◌<◌, ◌==◌, ⊤, Bool, true, false, if◌then◌else◌, List, [], ◌∷◌, ◌++◌, length, map, codes, decimal}
-use Rattle.std.specs.List.{range_with_len}
+use Rattle.std.specs.Prelude.{ℕ, ◌+◌, ◌<◌, ◌==◌, ⊤, Bool, true, false, if◌then◌else◌, List, [], ◌∷◌, ◌++◌, length, codes, decimal}
+use Rattle.std.specs.List.{concat, flat_map, range_with_len}
 use Rattle.gh_base.specs.declared.value.Answer.{Answer}
 use Rattle.gh_base.specs.declared.value.Answer.TheVariants.{Done, Nil, Int, Ref, Swept, Full, Fault}
 use Rattle.gh_base.specs.declared.value.Fault as faults
@@ -52,27 +52,22 @@ has_line Done = false
 has_line _ = true
 
 -- the lines of goroutine g, whose statements from number n on answered so
-abbrev pub lines_from : Program → ℕ → ℕ → List Answer → List ℕ
+abbrev pub lines_from : Program → ℕ → ℕ → List Answer → List (List ℕ)
 lines_from p g n [] = []
-lines_from p g n (answer ∷ more) = (if has_line answer then answer_line p g n answer else []) ++ lines_from p g (n + 1) more
-
--- the lines of the goroutines from number g on, whose statements answered so
-abbrev pub answers_text_from : Program → ℕ → List (List Answer) → List ℕ
-answers_text_from p g [] = []
-answers_text_from p g (answers ∷ more) = lines_from p g 1 answers ++ answers_text_from p (g + 1) more
-
--- goroutine by goroutine in script order, each by its own statements
-abbrev pub answers_text : Program → List (List Answer) → List ℕ
-answers_text p answers = answers_text_from p 0 answers
+lines_from p g n (answer ∷ more) = (if has_line answer then answer_line p g n answer ∷ [] else []) ++ lines_from p g (n + 1) more
 
 -- the answers of goroutine g, among answers each with its goroutine
 abbrev pub answers_by : ℕ → List (ℕ × Answer) → List Answer
 answers_by g [] = []
 answers_by g (x ∷ more) = (if x.0 == g then x.1 ∷ [] else []) ++ answers_by g more
 
--- each goroutine's answers, in script order
-abbrev pub by_goroutine : Program → List (ℕ × Answer) → List (List Answer)
-by_goroutine p answers = map (λ g. answers_by g answers) (range_with_len 0 (length p.goroutines))
+-- the lines of the answers: goroutine by goroutine in script order, each by its own statements
+abbrev pub lines_of : Program → List (ℕ × Answer) → List (List ℕ)
+lines_of p answers = flat_map (λ g. lines_from p g 1 (answers_by g answers)) (range_with_len 0 (length p.goroutines))
+
+-- these lines, one after the other
+abbrev pub answers_text : Program → List (ℕ × Answer) → List ℕ
+answers_text p answers = concat (lines_of p answers)
 
 -- What is told of a whole run.
 

@@ -1,2 +1,5 @@
-pub mod Running
+pub mod EitherOne
 pub mod OneOutcome
+pub mod Owning
+pub mod Rows
+pub mod Running

@@ -10,9 +10,9 @@ use Rattle.gh_script.specs.Program.{Program}
 use Rattle.gh_world.specs.Order.{begun_in}
 use Rattle.gh_world.specs.Law.{processor_after}
 use Rattle.gh_mutator.specs.Serving.{has_left_at}
-use Rattle.gh_world.specs.World.{opening}
+use Rattle.gh_world.specs.World.{opening, LaysOut}
 use Rattle.gh_world.specs.Runs.{IsRun, IsRunSoFar, IsExplained, EveryRunIsOne, NoneIsLonger, answers_given}
-use Rattle.gh_replay.specs.Replayed.{LaysOut, NotBoth, OneAnswer}
+use Rattle.gh_replay.specs.Replayed.{NotBoth, OneAnswer}
 
 both : {A B : Type 0} (x y : A × B) → x.0 ≡ y.0 → x.1 ≡ y.1 → x ≡ y
 both x y e f = rw (e, f) refl
@@ -66,8 +66,8 @@ module _ (same : EveryRunIsOne) (longest : NoneIsLonger) where
   not_both p budget answers r u =
       let layout : u.layout ≡ r.layout = same_layout p u.layout r.layout u.lays_out r.lays_out in
       let so_far : IsRunSoFar p r.layout u.turns = subst (λ (l : Layout). IsRunSoFar p l u.turns) layout u.so_far in
-      let going : has_left_at (processor_after p.shapes r.layout opening u.turns).point ≡ false = subst (λ (l : Layout). has_left_at (processor_after p.shapes l opening u.turns).point ≡ false) layout u.going in
+      let going : has_left_at (processor_after p.shapes r.layout opening u.turns).task ≡ false = subst (λ (l : Layout). has_left_at (processor_after p.shapes l opening u.turns).task ≡ false) layout u.going in
       let within = longest p r.layout r.turns u.turns r.explained.run so_far in
       let turns : r.turns ≡ u.turns = same p r.layout r.turns u.turns (is_so_far p r.layout r.turns r.explained.run) so_far (omega (arith, within, r.few, u.long)) in
-      let over : has_left_at (processor_after p.shapes r.layout opening u.turns).point ≡ true = subst (λ (es : List (Entry Op)). has_left_at (processor_after p.shapes r.layout opening es).point ≡ true) turns (ap has_left_at r.explained.run.done) in
+      let over : has_left_at (processor_after p.shapes r.layout opening u.turns).task ≡ true = subst (λ (es : List (Entry Op)). has_left_at (processor_after p.shapes r.layout opening es).task ≡ true) turns (ap has_left_at r.explained.run.done) in
       absurd (let e = sym going ∙ over in cc)

@@ -1,20 +1,14 @@
 -- What a replay answers, and what stands where it ran out of turns.
-use Rattle.std.specs.Prelude.{◌≡◌, ℕ, ◌≤◌, false, List, length}
+use Rattle.std.specs.Prelude.{◌≡◌, ℕ, ◌≤◌, ◌⊎◌, false, List, length}
 use Rattle.gh_base.specs.declared.value.Answer.{Answer}
 use Rattle.gh_base.specs.declared.operation.Op.{Op}
 use Rattle.gh_base.specs.declared.layout.Layout.{Layout}
 use Rattle.gh_base.specs.declared.machine.Entry.{Entry}
-use Rattle.gh_base.specs.Cells.{IsLayoutOf}
-use Rattle.gh_script.specs.Program.{Program}
-use Rattle.gh_world.specs.declared.world.World.{World}
+use Rattle.gh_script.specs.Program.{Program, WellFormed}
 use Rattle.gh_world.specs.Law.{processor_after}
 use Rattle.gh_world.specs.Runs.{IsExplained, IsRunSoFar, answers_given}
 use Rattle.gh_mutator.specs.Serving.{has_left_at}
-use Rattle.gh_world.specs.World.{opening, script_of, layout_of, is_done, IsAfter}
-
--- the layout is that of the script's settings
-abbrev pub LaysOut : Program → Layout → Type 0
-LaysOut p l = IsLayoutOf p.settings.arena p.settings.globals p.settings.procs p.settings.workers (length p.goroutines) l
+use Rattle.gh_world.specs.World.{opening, script_of, layout_of, is_done, IsAfter, LaysOut, State}
 
 -- the answers, each with its goroutine, are those of a whole run of the script, of at most so many turns, and are explained: the heap that never frees answers so, save `full`, which stands only where nothing fitted
 pub record IsReplayed (p : Program) (budget : ℕ) (answers : List (ℕ × Answer)) : Type 0 where
@@ -31,7 +25,7 @@ pub record IsUnfinished (p : Program) (n : ℕ) : Type 0 where
   pub turns : List (Entry Op)
   pub so_far : IsRunSoFar p layout turns
   pub long : length turns ≡ n
-  pub going : has_left_at (processor_after p.shapes layout opening turns).point ≡ false
+  pub going : has_left_at (processor_after p.shapes layout opening turns).task ≡ false
 
 -- A script's run either ends within the budget or does not, and is answered in one way, whatever the budget.
 abbrev pub NotBoth : Type 0
@@ -40,10 +34,14 @@ NotBoth = (p : Program) (budget : ℕ) (answers : List (ℕ × Answer)) → IsRe
 abbrev pub OneAnswer : Type 0
 OneAnswer = (p : Program) (m n : ℕ) (answers others : List (ℕ × Answer)) → IsReplayed p m answers → IsReplayed p n others → answers ≡ others
 
+-- A script's run either ends within the budget or does not: one of the two.
+abbrev pub EitherOne : Type 0
+EitherOne = (p : Program) (budget : ℕ) → WellFormed p → ((answers : List (ℕ × Answer)) × IsReplayed p budget answers) ⊎ IsUnfinished p budget
+
 -- Of the code's own.
 
 -- the world has taken turns within the budget, all of it where it is not done, and has answered so
-pub record Ran (w : World) (budget : ℕ) (answers : List (ℕ × Answer)) : Type 0 where
+pub record Ran (w : State) (budget : ℕ) (answers : List (ℕ × Answer)) : Type 0 where
   pub turns : List (Entry Op)
   pub after : IsAfter w turns
   pub few : length turns ≤ budget

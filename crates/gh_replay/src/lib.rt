@@ -2,15 +2,19 @@
 //!
 //! A turn is one step of one actor: one atomic operation on one word. What a run answers is explained
 //! by the list of its turns. With one processor a script has one such list, so that a run ends within
-//! the budget or runs out of turns, and never both ([`one_outcome`]).
+//! the budget or runs out of turns, and never both ([`one_outcome`]). The lines of the answers are told
+//! one by one, in the order in which they are written ([`Report`]).
 #![tactic(auto)]
 
 mod fault;
 mod laws;
+mod report;
+mod row;
 mod turns;
 
 pub use fault::ReplayFault;
 pub use laws::one_outcome;
+pub use report::Report;
 pub use turns::replay;
 
 #[cfg(test)]

@@ -1,52 +1,60 @@
 //! Replays of scripts.
 
 use super::{ReplayFault, replay};
-use gh_base::{Answer, Fault, Name};
+use gh_lines::LineBuf;
 use gh_script::parse;
 use std::alloc::Global;
 use std::process::Abort;
 use std::test::Fail;
 
-const HEADER: &str = "procs 1\nworkers 1\narena 16\nglobals 1\ngogc 0\ntype node pn\ngo a\n";
+const HEADER: &str = "procs 1\nworkers 1\narena 16\nglobals 1\ngogc 0\ntype node pn\n";
 
-/// Replays the statements, and looks at the answers.
-fn answers(rt: &impl Abort, alloc: Global, statements: &str, want: &[Answer]) -> Result<(), Fail> {
-    let text = format!(in alloc; "{HEADER}{statements}end\n")?;
+/// Replays the goroutines, whose lines are parted by `|`, and looks at the lines of the report, parted so too.
+fn lines(rt: &impl Abort, alloc: Global, goroutines: &str, want: &str) -> Result<(), Fail> {
+    let text = format!(in alloc; "{HEADER}{goroutines}")?;
+    let text = text.replace(alloc, "|", "\n")?;
     let script = parse(alloc, text.as_bytes())?;
-    let told = replay(alloc, &script, 10_000)?;
-    assert_eq!(rt; told.len(), want.len(), "{statements}");
-    for ((g, answer), wanted) in told.iter().zip(want) {
-        assert_eq!(rt; (*g, *answer), (0, *wanted), "{statements}");
+    let report = replay(alloc, &script, 10_000)?;
+    let want = want.replace(alloc, "|", "\n")?;
+    let mut told = Vec::new(alloc);
+    let mut line = LineBuf::new();
+    for i in 0..report.lines() {
+        report.line(&script, i, &mut line);
+        told.extend_from_slice(line.bytes())?;
     }
+    assert_eq!(rt; told.as_slice(), want.as_bytes(), "{goroutines}");
     Ok(())
 }
 
 #[test]
 fn scripts_are_replayed(rt: HostRuntime) -> Result<(), Fail> {
-    let first = Answer::Ref(Name { g: 0, k: 0 });
-    answers(
-        &rt,
-        rt.alloc(),
-        "new r0 node\nint r1 7\nstore r0 1 r1\nload r2 r0 1\n",
-        &[first, Answer::Done, Answer::Done, Answer::Int(7)],
-    )?;
-    answers(
-        &rt,
-        rt.alloc(),
-        "load r1 r0 0\nnew r0 node\nload r1 r0 2\n",
-        &[
-            Answer::Fault(Fault::NilBase),
-            first,
-            Answer::Fault(Fault::Field),
-        ],
-    )?;
-    answers(&rt, rt.alloc(), "", &[])
+    let rows = [
+        (
+            "go a|new r0 node|int r1 7|store r0 1 r1|load r2 r0 1|end",
+            "a 1 ref a.0|a 4 int 7|",
+        ),
+        (
+            "go a|load r1 r0 0|new r0 node|load r1 r0 2|end",
+            "a 1 fault nil|a 2 ref a.0|a 3 fault field|",
+        ),
+        ("go a|end", ""),
+        ("go a|int r1 7|end|go b|nil r0|end", ""),
+        // The turns alternate, and the lines do not.
+        (
+            "go b|new r0 node|nil r0|load r1 r0 0|end|go c|end|go a|nil r3|new r1 node|new r2 node|end",
+            "b 1 ref b.0|b 3 fault nil|a 2 ref a.0|a 3 ref a.1|",
+        ),
+    ];
+    for (goroutines, want) in rows {
+        lines(&rt, rt.alloc(), goroutines, want)?;
+    }
+    Ok(())
 }
 
 #[test]
 fn turns_run_out(rt: HostRuntime) -> Result<(), Fail> {
     let alloc = rt.alloc();
-    let text = format!(in alloc; "{HEADER}int r1 7\nend\n")?;
+    let text = format!(in alloc; "{HEADER}go a\nint r1 7\nend\n")?;
     let script = parse(alloc, text.as_bytes())?;
     for budget in 0..6u64 {
         let outcome = replay(alloc, &script, budget);

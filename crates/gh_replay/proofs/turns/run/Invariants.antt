@@ -1,14 +1,15 @@
 use Rattle.std.proofs.Common.{◌≡◌, ◌≤◌}
 use Rattle.std.specs.Vec.{vec_capacity}
 use Rattle.gh_world.specs.Turns.{total_of}
-use Rattle.gh_world.specs.World.{script_of, SoundWorld}
+use Rattle.gh_world.specs.World.{layout_of, marks_of, script_of}
 use Rattle.gh_replay.proofs.Running.{Midway}
 use Rattle.gh_replay.proofs.turns.run.Given as goal
 
 abbrev pub invariant-loop-left : goal.invariant-loop-left
 invariant-loop-left l = record {
-  sound : SoundWorld l.world;
   script : script_of l.world ≡ script_of l.initial.world;
+  layout : layout_of l.world ≡ layout_of l.initial.world;
+  few : marks_of l.world ≤ total_of (script_of l.world);
   midway : Midway l.world l.budget l.left l.answers.items;
   room : total_of (script_of l.world) ≤ vec_capacity l.answers;
 }

@@ -1,0 +1,254 @@
+-- Each name that the heap that never frees answers is one that a goroutine of the script gave.
+use Rattle.std.proofs.Common.{◌≡◌, ℕ, ◌+◌, ◌<◌, zero, suc, Bool, true, false, cond, ◌==◌, ◌&&◌, List, [], ◌∷◌, ◌++◌, length, Option, Some, None, sym, subst, inl, inr, arith}
+use Rattle.std.specs.List.{AllByRecursion}
+use Rattle.gh_base.specs.declared.value.Name.{Name}
+use Rattle.gh_base.specs.declared.value.Answer.{Answer}
+use Rattle.gh_base.specs.declared.value.Fault.TheVariants.{Field, Kind}
+use Rattle.gh_base.specs.declared.value.Answer.TheVariants as answers
+use Rattle.gh_base.specs.declared.operation.Op.{Op}
+use Rattle.gh_base.specs.declared.operation.Op.TheVariants as ops
+use Rattle.gh_base.specs.declared.shape.Shape.{Shape}
+use Rattle.gh_base.specs.Shapes.{shape_at, is_pointer}
+use Rattle.std.specs.List.{flat_map, range_with_len}
+use Rattle.std.specs.Prelude.{slice_get}
+use Rattle.gh_lines.specs.Text.{MakerStands}
+use Rattle.gh_interp.specs.Working.{work_at, work_of}
+use Rattle.gh_mutator.specs.Serving.{is_statement}
+use Rattle.gh_world.specs.Turns.{total_of, has_turn, turn_of, round_of, turns_of, goroutine_at, answers_to}
+use Rattle.gh_replay.specs.Report.{IsReportOf, ReportState}
+use Rattle.gh_script.specs.declared.statement.Stmt.{Stmt}
+use Rattle.gh_script.specs.declared.statement.Stmt.TheVariants as stmts
+use Rattle.gh_script.specs.Program.{Program, statements_of, op_of}
+use Rattle.gh_model.specs.declared.EverValue.{EverValue}
+use Rattle.gh_model.specs.declared.EverValue.TheVariants as values
+use Rattle.gh_model.specs.Ever.{Ever, opening_ever, ever_after, told, load_answer, store_answer, has_field, is_pointer_field, fits, first_value, is_number, same_name, next_name, with_register, with_field, with_object, takes_answer, stores_value, sets_global, makes_object}
+use Rattle.gh_model.specs.Answers.{Answers, AllAnswer}
+
+module _ (shapes : List Shape) (n : ℕ) where
+  abbrev pub Own : EverValue → Type 0
+  Own (values.Ref m) = m.g < n
+  Own _ = Unit {0}
+
+  pub record AllOwn (e : Ever) : Type 0 where
+    registers : (g d : ℕ) → Own (e.register g d)
+    fields : (m : Name) (k : ℕ) → Own (e.field m k)
+    globals : (k : ℕ) → Own (e.global k)
+
+  abbrev pub OwnOp : Op → Type 0
+  OwnOp (ops.New g d t) = g < n
+  OwnOp _ = Unit {0}
+
+  abbrev pub OwnAnswer : Answer → Type 0
+  OwnAnswer (answers.Ref m) = m.g < n
+  OwnAnswer _ = Unit {0}
+
+  own_if : (b : Bool) (v w : EverValue) → Own v → Own w → Own (cond b v w)
+  own_if true v w p q = p
+  own_if false v w p q = q
+
+  told_own : (v : EverValue) → Own v → OwnAnswer (told v)
+  told_own values.Nil o = tt
+  told_own (values.Int k) o = tt
+  told_own (values.Ref m) o = o
+
+  first_own : (b : Bool) → Own (first_value b)
+  first_own true = tt
+  first_own false = tt
+
+  load_own : (e : Ever) (v : EverValue) (k : ℕ) → AllOwn e → OwnAnswer (load_answer shapes e v k)
+  load_own e values.Nil k h = tt
+  load_own e (values.Int i) k h = tt
+  load_own e (values.Ref m) k h = go (has_field shapes e m k) where
+    go : (b : Bool) → OwnAnswer (cond b (told (e.field m k)) (answers.Fault Field))
+    go true = told_own (e.field m k) (h.fields m k)
+    go false = tt
+
+  store_own : (e : Ever) (v : EverValue) (k : ℕ) (w : EverValue) → OwnAnswer (store_answer shapes e v k w)
+  store_own e values.Nil k w = tt
+  store_own e (values.Int i) k w = tt
+  store_own e (values.Ref m) k w = go (has_field shapes e m k) (fits (is_pointer_field shapes e m k) w) where
+    go : (b c : Bool) → OwnAnswer (cond b (cond c answers.Done (answers.Fault Kind)) (answers.Fault Field))
+    go true true = tt
+    go true false = tt
+    go false c = tt
+
+  set_own : (b : Bool) → OwnAnswer (cond b (answers.Fault Kind) answers.Done)
+  set_own true = tt
+  set_own false = tt
+
+  as_own : (a b : Answer) → a ≡ b → OwnAnswer b → OwnAnswer a
+  as_own a b e o = subst OwnAnswer (sym e) o
+
+  answer_own : (e : Ever) (o : Op) (a : Answer) → AllOwn e → OwnOp o → Answers shapes e o a → OwnAnswer a
+  answer_own e (ops.New g d t) a h own (inl q) = as_own a _ q own
+  answer_own e (ops.New g d t) a h own (inr q) = as_own a _ q tt
+  answer_own e (ops.Load g d b k) a h own q = as_own a _ q (load_own e (e.register g b) k h)
+  answer_own e (ops.Store g b k v) a h own q = as_own a _ q (store_own e (e.register g b) k (e.register g v))
+  answer_own e (ops.GetGlobal g d k) a h own q = as_own a _ q (told_own (e.global k) (h.globals k))
+  answer_own e (ops.SetGlobal g k v) a h own q = as_own a _ q (set_own (is_number (e.register g v)))
+  answer_own e (ops.Int g d i) a h own q = as_own a _ q tt
+  answer_own e (ops.Move g d s) a h own q = as_own a _ q tt
+  answer_own e (ops.Nil g d) a h own q = as_own a _ q tt
+  answer_own e (ops.Gc g) a h own q = as_own a _ q tt
+  answer_own e ops.Poll a h own q = as_own a _ q tt
+  answer_own e (ops.End g) a h own q = as_own a _ q tt
+  answer_own e ops.Leave a h own q = as_own a _ q tt
+
+  register_own : (e : Ever) (g d : ℕ) (v : EverValue) → AllOwn e → Own v → AllOwn (with_register e g d v)
+  register_own e g d v x o = record {
+    registers = λ h c. own_if ((h == g) && (c == d)) v (e.register h c) o (x.registers h c);
+    fields = x.fields;
+    globals = x.globals;
+  }
+
+  takes_own : (e : Ever) (g d : ℕ) (a : Answer) → AllOwn e → OwnAnswer a → AllOwn (takes_answer e g d a)
+  takes_own e g d answers.Nil x o = register_own e g d values.Nil x tt
+  takes_own e g d (answers.Int i) x o = register_own e g d (values.Int i) x tt
+  takes_own e g d (answers.Ref m) x o = register_own e g d (values.Ref m) x o
+  takes_own e g d answers.Done x o = x
+  takes_own e g d answers.Swept x o = x
+  takes_own e g d answers.Full x o = x
+  takes_own e g d (answers.Fault f) x o = x
+
+  field_own : (e : Ever) (m : Name) (k : ℕ) (v : EverValue) → AllOwn e → Own v → AllOwn (with_field e m k v)
+  field_own e m k v x o = record {
+    registers = x.registers;
+    fields = λ h c. own_if (same_name h m && (c == k)) v (e.field h c) o (x.fields h c);
+    globals = x.globals;
+  }
+
+  stores_own : (e : Ever) (v : EverValue) (k : ℕ) (w : EverValue) (a : Answer) → AllOwn e → Own w → AllOwn (stores_value e v k w a)
+  stores_own e (values.Ref m) k w answers.Done x o = field_own e m k w x o
+  stores_own e (values.Ref m) k w answers.Nil x o = x
+  stores_own e (values.Ref m) k w (answers.Int i) x o = x
+  stores_own e (values.Ref m) k w (answers.Ref q) x o = x
+  stores_own e (values.Ref m) k w answers.Swept x o = x
+  stores_own e (values.Ref m) k w answers.Full x o = x
+  stores_own e (values.Ref m) k w (answers.Fault f) x o = x
+  stores_own e values.Nil k w a x o = x
+  stores_own e (values.Int i) k w a x o = x
+
+  sets_own : (e : Ever) (k : ℕ) (v : EverValue) (a : Answer) → AllOwn e → Own v → AllOwn (sets_global e k v a)
+  sets_own e k v answers.Done x o = record { registers = x.registers; fields = x.fields; globals = λ c. own_if (c == k) v (e.global c) o (x.globals c) }
+  sets_own e k v answers.Nil x o = x
+  sets_own e k v (answers.Int i) x o = x
+  sets_own e k v (answers.Ref q) x o = x
+  sets_own e k v answers.Swept x o = x
+  sets_own e k v answers.Full x o = x
+  sets_own e k v (answers.Fault f) x o = x
+
+  object_own : (e : Ever) (g t : ℕ) → AllOwn e → AllOwn (with_object shapes e g t)
+  object_own e g t x = record {
+    registers = x.registers;
+    fields = λ m k. own_if (same_name m (next_name e g)) (first_value (is_pointer (shape_at shapes t) k)) (e.field m k) (first_own (is_pointer (shape_at shapes t) k)) (x.fields m k);
+    globals = x.globals;
+  }
+
+  made_own : (e : Ever) (g d t : ℕ) → AllOwn e → g < n → AllOwn (with_register (with_object shapes e g t) g d (values.Ref (next_name e g)))
+  made_own e g d t x o = register_own (with_object shapes e g t) g d (values.Ref (next_name e g)) (object_own e g t x) o
+
+  makes_own : (e : Ever) (g d t : ℕ) (a : Answer) → AllOwn e → g < n → AllOwn (makes_object shapes e g d t a)
+  makes_own e g d t answers.Full x o = register_own e g d values.Nil x tt
+  makes_own e g d t answers.Done x o = made_own e g d t x o
+  makes_own e g d t answers.Nil x o = made_own e g d t x o
+  makes_own e g d t (answers.Int i) x o = made_own e g d t x o
+  makes_own e g d t (answers.Ref q) x o = made_own e g d t x o
+  makes_own e g d t answers.Swept x o = made_own e g d t x o
+  makes_own e g d t (answers.Fault f) x o = made_own e g d t x o
+
+  after_own : (e : Ever) (o : Op) (a : Answer) → AllOwn e → OwnOp o → OwnAnswer a → AllOwn (ever_after shapes e o a)
+  after_own e (ops.New g d t) a x own q = makes_own e g d t a x own
+  after_own e (ops.Load g d b k) a x own q = takes_own e g d a x q
+  after_own e (ops.Store g b k v) a x own q = stores_own e (e.register g b) k (e.register g v) a x (x.registers g v)
+  after_own e (ops.GetGlobal g d k) a x own q = takes_own e g d a x q
+  after_own e (ops.SetGlobal g k v) a x own q = sets_own e k (e.register g v) a x (x.registers g v)
+  after_own e (ops.Int g d i) a x own q = register_own e g d (values.Int i) x tt
+  after_own e (ops.Move g d s) a x own q = register_own e g d (e.register g s) x (x.registers g s)
+  after_own e (ops.Nil g d) a x own q = register_own e g d values.Nil x tt
+  after_own e (ops.Gc g) a x own q = x
+  after_own e ops.Poll a x own q = x
+  after_own e (ops.End g) a x own q = record { registers = x.registers; fields = x.fields; globals = x.globals }
+  after_own e ops.Leave a x own q = x
+
+  -- the answers to operations of goroutines that there are
+  pub all_own : (e : Ever) (os : List Op) (told_so : List Answer) → AllOwn e → AllByRecursion OwnOp os → AllAnswer shapes e os told_so → AllByRecursion OwnAnswer told_so
+  all_own e [] [] x own q = tt
+  all_own e [] (a ∷ more) x own q = absurd q
+  all_own e (o ∷ rest) [] x own q = absurd q
+  all_own e (o ∷ rest) (a ∷ more) x own q =
+      let named = answer_own e o a x own.0 q.0 in
+      (named, all_own (ever_after shapes e o a) rest more (after_own e o a x own.0 named) own.1 q.1)
+
+  pub opening_own : AllOwn opening_ever
+  opening_own = record { registers = λ g d. tt; fields = λ m k. tt; globals = λ k. tt }
+
+  statement_own : (g : ℕ) (s : Stmt) → g < n → OwnOp (op_of g s)
+  statement_own g (stmts.New d t) some = some
+  statement_own g (stmts.Load d b k) some = tt
+  statement_own g (stmts.Store b k v) some = tt
+  statement_own g (stmts.GetGlobal d k) some = tt
+  statement_own g (stmts.SetGlobal k v) some = tt
+  statement_own g (stmts.Int d i) some = tt
+  statement_own g (stmts.Move d s) some = tt
+  statement_own g (stmts.Nil d) some = tt
+  statement_own g stmts.Gc some = tt
+
+  work_own : (g : ℕ) (s : Option Stmt) → g < n → OwnOp (work_at g s)
+  work_own g None some = tt
+  work_own g (Some s) some = statement_own g s some
+
+  own_append : (xs ys : List Op) → AllByRecursion OwnOp xs → AllByRecursion OwnOp ys → AllByRecursion OwnOp (xs ++ ys)
+  own_append [] ys own more = more
+  own_append (x ∷ xs) ys own more = (own.0, own_append xs ys own.1 more)
+
+-- the turns of a script are of goroutines that it has
+module _ (p : Program) where
+  abbrev own : List Op → Type 0
+  own os = AllByRecursion (OwnOp p.shapes (length p.goroutines)) os
+
+  turn_own : (r g : ℕ) → g < length p.goroutines → own (turn_of p r g)
+  turn_own r g lt = go (has_turn p r g) where
+    go : (b : Bool) → own (cond b (ops.Poll ∷ work_of p r g ∷ []) [])
+    go true = (tt, (work_own p.shapes (length p.goroutines) g (slice_get (statements_of p g) r) lt, tt))
+    go false = tt
+
+  round_own : (r n g : ℕ) → g + n ≡ length p.goroutines → own (flat_map (turn_of p r) (range_with_len g n))
+  round_own r zero g e = tt
+  round_own r (suc n) g e = own_append p.shapes (length p.goroutines) (turn_of p r g) (flat_map (turn_of p r) (range_with_len (g + 1) n)) (turn_own r g (omega arith)) (round_own r n (g + 1) (omega arith))
+
+  rounds_own : (n r : ℕ) → own (flat_map (round_of p) (range_with_len r n))
+  rounds_own zero r = tt
+  rounds_own (suc n) r = own_append p.shapes (length p.goroutines) (round_of p r) (flat_map (round_of p) (range_with_len (r + 1) n)) (round_own r (length p.goroutines) 0 (omega arith)) (rounds_own n (r + 1))
+
+  turns_own : own (turns_of p)
+  unfolding turns_of
+  turns_own = own_append p.shapes (length p.goroutines) (flat_map (round_of p) (range_with_len 0 (total_of p + 1))) (ops.Leave ∷ []) (rounds_own (total_of p + 1) 0) (tt, tt)
+
+-- each answer that names an object has a goroutine of the script that made it
+maker_stands : (p : Program) (b : Answer) → OwnAnswer p.shapes (length p.goroutines) b → MakerStands p b
+maker_stands p (answers.Ref m) o = o
+maker_stands p answers.Done o = tt
+maker_stands p answers.Nil o = tt
+maker_stands p (answers.Int i) o = tt
+maker_stands p answers.Swept o = tt
+maker_stands p answers.Full o = tt
+maker_stands p (answers.Fault f) o = tt
+
+-- among the answers of the turns are those of the statements
+stand_append : (p : Program) (xs ys : List (ℕ × Answer)) → AllByRecursion (λ (x : ℕ × Answer). MakerStands p x.1) xs → AllByRecursion (λ (x : ℕ × Answer). MakerStands p x.1) ys → AllByRecursion (λ (x : ℕ × Answer). MakerStands p x.1) (xs ++ ys)
+stand_append p [] ys h k = k
+stand_append p (x ∷ xs) ys h k = (h.0, stand_append p xs ys h.1 k)
+
+statements_stand : (p : Program) (os : List Op) (told_so : List Answer) → AllByRecursion (OwnAnswer p.shapes (length p.goroutines)) told_so → AllByRecursion (λ (x : ℕ × Answer). MakerStands p x.1) (answers_to os told_so)
+statements_stand p [] told_so h = tt
+statements_stand p (o ∷ os) [] h = tt
+statements_stand p (o ∷ os) (a ∷ more) h = stand_append p (cond (is_statement o) ((goroutine_at o, a) ∷ []) []) (answers_to os more) (go (is_statement o)) (statements_stand p os more h.1) where
+  go : (b : Bool) → AllByRecursion (λ (x : ℕ × Answer). MakerStands p x.1) (cond b ((goroutine_at o, a) ∷ []) [])
+  go true = (maker_stands p a h.0, tt)
+  go false = tt
+
+pub answers_stand : (p : Program) (report : ReportState) → IsReportOf p report → AllByRecursion (λ (x : ℕ × Answer). MakerStands p x.1) report.answers
+answers_stand p report r =
+    let e = r.replayed.explained in
+    subst (AllByRecursion (λ (x : ℕ × Answer). MakerStands p x.1)) (sym e.among)
+    (statements_stand p (turns_of p) e.all (all_own p.shapes (length p.goroutines) opening_ever (turns_of p) e.all (opening_own p.shapes (length p.goroutines)) (turns_own p) e.ever))

@@ -1,0 +1,10 @@
+use Rattle.std.proofs.Common.{◌≡◌, ◌≤◌, length}
+use Rattle.std.specs.Vec.{vec_capacity}
+use Rattle.gh_replay.specs.Report.{rows_of}
+use Rattle.gh_replay.proofs.report.Report.new.Given as goal
+
+abbrev pub invariant-loop-g : goal.invariant-loop-g
+invariant-loop-g l = record {
+  rows : l.rows.items ≡ rows_of l.g l.answers.items;
+  room : length l.answers.items ≤ vec_capacity l.rows;
+}
