@@ -22,7 +22,7 @@ same-budget words m n v w = let e : Some (Replay m) ≡ Some (Replay n) = sym v 
 pub words-end : (words : List (List ℕ)) (text : List ℕ) (f : Found) → Matches words text f → AreRefused words → (status_of f ≡ statuses.BadWords) ⊎ (status_of f ≡ statuses.NoMemory)
 words-end words text BadWords m r = inl refl
 words-end words text (BadScript fault) m r = absurd (taken-not-refused words m.0 m.1 r)
-words-end words text (Ran p answers) m r = absurd (taken-not-refused words m.0 m.1 r)
+words-end words text (Ran p report) m r = absurd (taken-not-refused words m.0 m.1 r)
 words-end words text (OutOfTurns n) m r = absurd (taken-not-refused words m.0 m.1 r)
 words-end words text ReadFault m r = absurd (taken-not-refused words m.0 m.1 r)
 words-end words text NoMemory m r = inr refl
@@ -30,7 +30,7 @@ words-end words text NoMemory m r = inr refl
 pub words-refused : (words : List (List ℕ)) (text : List ℕ) (f : Found) → Matches words text f → status_of f ≡ statuses.BadWords → AreRefused words
 words-refused words text BadWords m e = m
 words-refused words text (BadScript fault) m e = absurd cc
-words-refused words text (Ran p answers) m e = absurd cc
+words-refused words text (Ran p report) m e = absurd cc
 words-refused words text (OutOfTurns n) m e = absurd cc
 words-refused words text ReadFault m e = absurd cc
 words-refused words text NoMemory m e = absurd cc
@@ -39,7 +39,7 @@ words-refused words text NoMemory m e = absurd cc
 pub read-taken : (words : List (List ℕ)) (text : List ℕ) (f : Found) → Matches words text f → status_of f ≡ statuses.ReadFault → AreRefused words → ⊥
 read-taken words text BadWords m e r = absurd cc
 read-taken words text (BadScript fault) m e r = absurd cc
-read-taken words text (Ran p answers) m e r = absurd cc
+read-taken words text (Ran p report) m e r = absurd cc
 read-taken words text (OutOfTurns n) m e r = absurd cc
 read-taken words text ReadFault m e r = taken-not-refused words m.0 m.1 r
 read-taken words text NoMemory m e r = absurd cc
@@ -47,7 +47,7 @@ read-taken words text NoMemory m e r = absurd cc
 pub is-read-fault : (f : Found) → status_of f ≡ statuses.ReadFault → f ≡ ReadFault
 is-read-fault BadWords e = absurd cc
 is-read-fault (BadScript fault) e = absurd cc
-is-read-fault (Ran p answers) e = absurd cc
+is-read-fault (Ran p report) e = absurd cc
 is-read-fault (OutOfTurns n) e = absurd cc
 is-read-fault ReadFault e = refl
 is-read-fault NoMemory e = absurd cc
@@ -58,7 +58,7 @@ module _ (not_both : (text : List ℕ) (p : Program) (line : ℕ) (why : Why) �
       → (status_of f ≡ statuses.Ok) ⊎ (status_of f ≡ statuses.OutOfTurns) ⊎ (status_of f ≡ statuses.NoMemory)
   spelled-ends words text budget p BadWords m read replay spelled = absurd (taken-not-refused words budget replay m)
   spelled-ends words text budget p (BadScript fault) m read replay spelled = absurd (not_both text p fault.line fault.why spelled m.2)
-  spelled-ends words text budget p (Ran q answers) m read replay spelled = inl refl
+  spelled-ends words text budget p (Ran q report) m read replay spelled = inl refl
   spelled-ends words text budget p (OutOfTurns n) m read replay spelled = inr (inl refl)
   spelled-ends words text budget p ReadFault m read replay spelled = absurd (read refl)
   spelled-ends words text budget p NoMemory m read replay spelled = inr (inr refl)
@@ -68,7 +68,7 @@ module _ (not_both : (text : List ℕ) (p : Program) (line : ℕ) (why : Why) �
       → (status_of f ≡ statuses.BadScript) ⊎ (status_of f ≡ statuses.NoMemory)
   refused-ends words text budget line why BadWords m read replay refused = absurd (taken-not-refused words budget replay m)
   refused-ends words text budget line why (BadScript fault) m read replay refused = inl refl
-  refused-ends words text budget line why (Ran q answers) m read replay refused = absurd (not_both text q line why m.2.0 refused)
+  refused-ends words text budget line why (Ran q report) m read replay refused = absurd (not_both text q line why m.2.0 refused)
   refused-ends words text budget line why (OutOfTurns n) m read replay refused = absurd (not_both text m.2.1 line why m.2.2 refused)
   refused-ends words text budget line why ReadFault m read replay refused = absurd (read refl)
   refused-ends words text budget line why NoMemory m read replay refused = inr refl
@@ -78,7 +78,7 @@ module _ (one_script : (text : List ℕ) (p q : Program) → Spells text p → S
   pub replayed-tells : (words : List (List ℕ)) (text : List ℕ) (budget : ℕ) (p : Program) (answers : List (ℕ × Answer)) (f : Found) → Matches words text f → IsReplay words budget → Spells text p → IsReplayed p budget answers → status_of f ≡ statuses.OutOfTurns → ⊥
   replayed-tells words text budget p answers BadWords m replay spelled r e = absurd cc
   replayed-tells words text budget p answers (BadScript fault) m replay spelled r e = absurd cc
-  replayed-tells words text budget p answers (Ran q others) m replay spelled r e = absurd cc
+  replayed-tells words text budget p answers (Ran q report) m replay spelled r e = absurd cc
   replayed-tells words text budget p answers (OutOfTurns n) m replay spelled r e =
       let u : IsUnfinished p m.0 = subst (λ (q : Program). IsUnfinished q m.0) (one_script text m.2.1 p m.2.2 spelled) m.2.3 in
       never p budget answers r (subst (λ (n : ℕ). IsUnfinished p n) (same-budget words m.0 budget m.1 replay) u)
@@ -89,9 +89,9 @@ module _ (one_script : (text : List ℕ) (p q : Program) → Spells text p → S
   pub unfinished-tells : (words : List (List ℕ)) (text : List ℕ) (budget : ℕ) (p : Program) (f : Found) → Matches words text f → IsReplay words budget → Spells text p → IsUnfinished p budget → status_of f ≡ statuses.Ok → ⊥
   unfinished-tells words text budget p BadWords m replay spelled u e = absurd cc
   unfinished-tells words text budget p (BadScript fault) m replay spelled u e = absurd cc
-  unfinished-tells words text budget p (Ran q answers) m replay spelled u e =
-      let r : IsReplayed p m.0 answers.items = subst (λ (x : Program). IsReplayed x m.0 answers.items) (one_script text q p m.2.0 spelled) m.2.1 in
-      never p budget answers.items (subst (λ (n : ℕ). IsReplayed p n answers.items) (same-budget words m.0 budget m.1 replay) r) u
+  unfinished-tells words text budget p (Ran q report) m replay spelled u e =
+      let r : IsReplayed p m.0 report.answers = subst (λ (x : Program). IsReplayed x m.0 report.answers) (one_script text q p m.2.0 spelled) m.2.1 in
+      never p budget report.answers (subst (λ (n : ℕ). IsReplayed p n report.answers) (same-budget words m.0 budget m.1 replay) r) u
   unfinished-tells words text budget p (OutOfTurns n) m replay spelled u e = absurd cc
   unfinished-tells words text budget p ReadFault m replay spelled u e = absurd cc
   unfinished-tells words text budget p NoMemory m replay spelled u e = absurd cc
@@ -100,7 +100,7 @@ module _ (one_script : (text : List ℕ) (p q : Program) → Spells text p → S
 pub says : (words : List (List ℕ)) (text : List ℕ) (f : Found) → Matches words text f → IsTelling (status_of f) → Says words text (status_of f) (said_of f)
 says words text BadWords m telling = (m, refl)
 says words text (BadScript fault) m telling = (m.0, m.1, fault.line, fault.why, m.2, refl)
-says words text (Ran p answers) m telling = (m.0, m.1, p, m.2.0, answers.items, m.2.1, refl)
+says words text (Ran p report) m telling = (m.0, m.1, p, m.2.0, report.answers, m.2.1, refl)
 says words text (OutOfTurns n) m telling = (m.0, m.1, m.2.1, m.2.2, m.2.3, rw m.2.0 refl)
 says words text ReadFault m telling = absurd telling
 says words text NoMemory m telling = absurd telling
@@ -109,7 +109,7 @@ says words text NoMemory m telling = absurd telling
 pub telling : (f : Found) → (IsSilent f → ⊥) → IsTelling (status_of f)
 telling BadWords loud = tt
 telling (BadScript fault) loud = tt
-telling (Ran p answers) loud = tt
+telling (Ran p report) loud = tt
 telling (OutOfTurns n) loud = tt
 telling ReadFault loud = absurd (loud tt)
 telling NoMemory loud = absurd (loud tt)

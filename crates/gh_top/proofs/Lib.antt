@@ -1,4 +1,3 @@
-pub mod Owning
 pub mod CommandLineNumbers
 pub mod CommandLineWords
 pub mod CommandLineWalk

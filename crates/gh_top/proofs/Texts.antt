@@ -1,22 +1,14 @@
 -- From a text to what it says.
-use Rattle.std.proofs.Common.{◌≡◌, ℕ, ◌+◌, ◌<◌, ◌≤◌, ◌^◌, List, [], length, Option, Some, None, sym, ap, subst, ◌∙◌, arith}
+use Rattle.std.proofs.Common.{◌≡◌, ℕ, ◌+◌, ◌<◌, ◌≤◌, List, [], length, Option, Some, None, sym, ap, subst, ◌∙◌, arith}
 use Rattle.std.specs.Io.KnownBytes.{Consumes, IsAtEnd}
-use Rattle.gh_base.specs.declared.value.Answer.{Answer}
-use Rattle.gh_replay.specs.Replayed.{IsReplayed}
-use Rattle.gh_world.specs.Turns.{total_of}
 use Rattle.gh_script.specs.declared.reading.TheConstants.{MOST_BYTES}
 use Rattle.gh_script.specs.Limits.{most_bytes}
-use Rattle.gh_script.specs.Program.{Program, WellFormed}
+use Rattle.gh_script.specs.Program.{Program}
 use Rattle.gh_script.specs.Grammar.{reading_of, Spells}
 use Rattle.gh_top.specs.declared.found.Found.{Found}
 use Rattle.gh_top.specs.declared.found.Found.TheVariants.{BadWords, BadScript, Ran, OutOfTurns, ReadFault, NoMemory}
-use Rattle.gh_top.specs.Found.{AllStand, Matches, MatchesText, IsRan}
+use Rattle.gh_top.specs.Found.{Matches, MatchesText, IsRan}
 use Rattle.gh_top.specs.Outcome.{IsReplay}
-use Rattle.gh_top.proofs.Owning.{answers_stand}
-
--- what the replay of a script answers can be told
-pub tellable : (p : Program) (budget : ℕ) (xs : List (ℕ × Answer)) → WellFormed p → IsReplayed p budget xs → length xs ≤ total_of p → AllStand p xs × (length xs < 2 ^ 32)
-tellable p budget xs formed r few = (answers_stand p r.explained.all xs r.explained.ever r.explained.among, omega (arith, few, formed.few_statements))
 
 -- ---- a text that was read as far as a script may go is the whole text, or too long for a script
 
@@ -24,7 +16,7 @@ tellable p budget xs formed r few = (answers_stand p r.explained.all xs r.explai
 pub matches-same : (budget : ℕ) (a b : List ℕ) (f : Found) → reading_of a ≡ reading_of b → MatchesText budget a f → MatchesText budget b f
 matches-same budget a b BadWords e h = h
 matches-same budget a b (BadScript f) e h = sym e ∙ h
-matches-same budget a b (Ran p answers) e h = (sym e ∙ h.0, h.1)
+matches-same budget a b (Ran p report) e h = (sym e ∙ h.0, h.1)
 matches-same budget a b (OutOfTurns n) e h = (h.0, h.1, sym e ∙ h.2, h.3)
 matches-same budget a b ReadFault e h = h
 matches-same budget a b NoMemory e h = h
@@ -40,7 +32,7 @@ end-told before after text bytes told consumed end = go after (subst (λ o. Cons
 pub ran-short : (spelled-short : (text : List ℕ) (p : Program) → Spells text p → length text ≤ most_bytes) (budget : ℕ) (bytes : List ℕ) (f : Found) → MatchesText budget bytes f → IsRan f → length bytes < MOST_BYTES + 1
 ran-short short budget bytes BadWords h r = absurd r
 ran-short short budget bytes (BadScript f) h r = absurd r
-ran-short short budget bytes (Ran p answers) h r = omega (arith, short bytes p h.0)
+ran-short short budget bytes (Ran p report) h r = omega (arith, short bytes p h.0)
 ran-short short budget bytes (OutOfTurns n) h r = omega (arith, short bytes h.1 h.2)
 ran-short short budget bytes ReadFault h r = absurd r
 ran-short short budget bytes NoMemory h r = absurd r
@@ -49,7 +41,7 @@ ran-short short budget bytes NoMemory h r = absurd r
 pub matches-words : (words : List (List ℕ)) (text : List ℕ) (budget : ℕ) (f : Found) → IsReplay words budget → MatchesText budget text f → Matches words text f
 matches-words words text budget BadWords w h = absurd h
 matches-words words text budget (BadScript f) w h = (budget, w, h)
-matches-words words text budget (Ran p answers) w h = (budget, w, h)
+matches-words words text budget (Ran p report) w h = (budget, w, h)
 matches-words words text budget (OutOfTurns n) w h = (budget, w, h)
 matches-words words text budget ReadFault w h = (budget, w, h)
 matches-words words text budget NoMemory w h = tt

@@ -1,8 +1,8 @@
 -- What a call has found before it writes anything.
-use Rattle.std.specs.Prelude.{◌≡◌, ℕ, ◌^◌, ◌<◌, List, [], length, All}
-use Rattle.gh_base.specs.declared.value.Answer.{Answer}
-use Rattle.gh_lines.specs.Text.{MakerStands, answers_text, by_goroutine, refusal_line, turns_line, words_refused_line}
+use Rattle.std.specs.Prelude.{◌≡◌, ℕ, List, []}
+use Rattle.gh_lines.specs.Text.{answers_text, refusal_line, turns_line, words_refused_line}
 use Rattle.gh_replay.specs.Replayed.{IsReplayed, IsUnfinished}
+use Rattle.gh_replay.specs.Report.{IsReportOf}
 use Rattle.gh_script.specs.Program.{Program}
 use Rattle.gh_script.specs.Grammar.{Spells, Refused}
 use Rattle.gh_top.specs.declared.status.Status.{Status}
@@ -14,7 +14,7 @@ use Rattle.gh_top.specs.Outcome.{IsReplay, AreRefused}
 -- a script that was run is the one that the text spells, run under this budget, and a text that was refused spells none
 abbrev pub MatchesText : ℕ → List ℕ → Found → Type 0
 MatchesText budget text (BadScript f) = Refused text f.line f.why
-MatchesText budget text (Ran p answers) = Spells text p × IsReplayed p budget answers.items
+MatchesText budget text (Ran p report) = Spells text p × IsReplayed p budget report.answers
 MatchesText budget text (OutOfTurns n) = (n ≡ budget) × (p : Program) × Spells text p × IsUnfinished p budget
 MatchesText budget text BadWords = ⊥
 MatchesText budget text ReadFault = Unit {0}
@@ -29,24 +29,20 @@ Matches words text found = (budget : ℕ) × IsReplay words budget × MatchesTex
 -- a text was read to its end
 abbrev pub IsRead : Found → Type 0
 IsRead (BadScript f) = Unit {0}
-IsRead (Ran p answers) = Unit {0}
+IsRead (Ran p report) = Unit {0}
 IsRead (OutOfTurns n) = Unit {0}
 IsRead NoMemory = Unit {0}
 IsRead _ = ⊥
 
 -- the script was run, as far as its turns went
 abbrev pub IsRan : Found → Type 0
-IsRan (Ran p answers) = Unit {0}
+IsRan (Ran p report) = Unit {0}
 IsRan (OutOfTurns n) = Unit {0}
 IsRan _ = ⊥
 
--- the makers of the objects that are answered stand in the script
-abbrev pub AllStand : Program → List (ℕ × Answer) → Type 0
-AllStand p answers = All (λ (x : ℕ × Answer). MakerStands p x.1) answers
-
--- there is a line for each answer, and its number fits
+-- what is told is of the script that was run
 abbrev pub IsTellable : Found → Type 0
-IsTellable (Ran p answers) = AllStand p answers.items × (length answers.items < 2 ^ 32)
+IsTellable (Ran p report) = IsReportOf p report
 IsTellable _ = Unit {0}
 
 -- there is nothing to say
@@ -59,7 +55,7 @@ IsSilent _ = ⊥
 abbrev pub said_of : Found → List ℕ
 said_of BadWords = words_refused_line
 said_of (BadScript f) = refusal_line f.line f.why
-said_of (Ran p answers) = answers_text p (by_goroutine p answers.items)
+said_of (Ran p report) = answers_text p report.answers
 said_of (OutOfTurns n) = turns_line n
 said_of ReadFault = []
 said_of NoMemory = []
@@ -68,7 +64,7 @@ said_of NoMemory = []
 abbrev pub status_of : Found → Status
 status_of BadWords = statuses.BadWords
 status_of (BadScript f) = statuses.BadScript
-status_of (Ran p answers) = statuses.Ok
+status_of (Ran p report) = statuses.Ok
 status_of (OutOfTurns n) = statuses.OutOfTurns
 status_of ReadFault = statuses.ReadFault
 status_of NoMemory = statuses.NoMemory

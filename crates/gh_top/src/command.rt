@@ -1,6 +1,6 @@
 //! The call that the program makes.
 
-ghost use Rattle.std.specs.Prelude.{◌≡◌, ℕ, ◌≤◌, ◌⊎◌, List, [], Some};
+ghost use Rattle.std.specs.Prelude.{◌≡◌, ℕ, ◌<◌, ◌≤◌, ◌⊎◌, List, [], Some};
 ghost use Rattle.gh_io.specs.Counts.{Rose};
 ghost use Rattle.gh_script.specs.declared.fault.Why.{Why};
 ghost use Rattle.gh_script.specs.Program.{Program};
@@ -38,7 +38,7 @@ pub fn top<S: Source, K: Sink>(alloc: Global, words: &[&str], src: &mut S, out: 
         S.left src.new ≡ Some [] }
 
     // Each answer and its cause.
-    ensures bad_words { result ≡ Status.BadWords → AreRefused (texts words.now) }
+    ensures bad_words { result ≡ Status.BadWords → AreRefused (texts words.now) × (src.new ≡ src.old) }
     ensures bad_words_exactly { AreRefused (texts words.now) →
         ¬ Rose (K.faults out.old) (K.faults out.new) →
         (result ≡ Status.BadWords) ⊎ (result ≡ Status.NoMemory) }
@@ -60,6 +60,10 @@ pub fn top<S: Source, K: Sink>(alloc: Global, words: &[&str], src: &mut S, out: 
     ensures read_fault { result ≡ Status.ReadFault →
         ¬ AreRefused (texts words.now) × Rose (S.faults src.old) (S.faults src.new) × (K.taken out.new ≡ K.taken out.old) }
     ensures write_fault { result ≡ Status.WriteFault → Rose (K.faults out.old) (K.faults out.new) }
+    // No fault is silent: a call in which a read failed ends with ReadFault, and one in which a write
+    // failed with WriteFault.
+    ensures read_fault_exactly { S.faults src.old < S.faults src.new → result ≡ Status.ReadFault }
+    ensures write_fault_exactly { K.faults out.old < K.faults out.new → result ≡ Status.WriteFault }
     // A sink that failed took the beginning of what was to be said.
     ensures write_part { (text : List ℕ) → S.left src.old ≡ Some text → result ≡ Status.WriteFault →
         SaidPart (texts words.now) text (K.taken out.old) (K.taken out.new) }

@@ -1,6 +1,6 @@
 //! Finding what there is to say.
 
-ghost use Rattle.std.specs.Prelude.{◌≡◌, ℕ, ◌≤◌, List, [], Some};
+ghost use Rattle.std.specs.Prelude.{◌≡◌, ℕ, ◌<◌, ◌≤◌, List, [], Some};
 ghost use Rattle.gh_io.specs.Counts.{Rose};
 ghost use Rattle.gh_top.specs.CommandLine.{texts};
 ghost use Rattle.gh_top.specs.Outcome.{IsReplay};
@@ -21,6 +21,8 @@ pub fn find<S: Source>(alloc: Global, words: &[&str], src: &mut S) -> Found
     ensures explained { (text : List ℕ) × Matches (texts words.now) text result }
     ensures read { (text : List ℕ) → S.left src.old ≡ Some text → IsRan result → S.left src.new ≡ Some [] }
     ensures read_fault { result ≡ Found.ReadFault → Rose (S.faults src.old) (S.faults src.new) }
+    ensures read_fault_exactly { S.faults src.old < S.faults src.new → result ≡ Found.ReadFault }
+    ensures unread { result ≡ Found.BadWords → src.new ≡ src.old }
     ensures never_falls { S.faults src.old ≤ S.faults src.new }
     ensures tellable { IsTellable result }
 {
@@ -37,6 +39,7 @@ fn replay_text<S: Source>(alloc: Global, budget: u64, src: &mut S) -> Found
     ensures explained { (text : List ℕ) × MatchesText budget text result }
     ensures read { (text : List ℕ) → S.left src.old ≡ Some text → IsRan result → S.left src.new ≡ Some [] }
     ensures read_fault { result ≡ Found.ReadFault → Rose (S.faults src.old) (S.faults src.new) }
+    ensures read_fault_exactly { S.faults src.old < S.faults src.new → result ≡ Found.ReadFault }
     ensures never_falls { S.faults src.old ≤ S.faults src.new }
     ensures tellable { IsTellable result }
 {
@@ -60,9 +63,8 @@ fn run(alloc: Global, budget: u64, text: &[u8]) -> Found
         Err(ParseError::Script(fault)) => return Found::BadScript(fault),
         Err(ParseError::NoMemory) => return Found::NoMemory,
     };
-    script.is_well_formed();
     match replay(alloc, &script, budget) {
-        Ok(told) => Found::Ran(script, told),
+        Ok(report) => Found::Ran(script, report),
         Err(ReplayFault::OutOfTurns(turns)) => Found::OutOfTurns(turns),
         Err(ReplayFault::NoMemory) => Found::NoMemory,
     }

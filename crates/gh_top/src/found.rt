@@ -4,7 +4,7 @@
 //! Nothing here writes, and nothing that writes (`saying.rt`) reads or takes memory. So what is written
 //! is settled before the first byte of it goes out.
 
-use gh_base::Answer;
+use gh_replay::Report;
 use gh_script::{Script, ScriptFault};
 
 /// What was found.
@@ -14,8 +14,8 @@ pub enum Found {
     BadWords,
     /// The text spells no script.
     BadScript(ScriptFault),
-    /// The script was run, and its statements answered so, each with its goroutine.
-    Ran(Script, Vec<(u32, Answer)>),
+    /// The script was run, and this is the report of it.
+    Ran(Script, Report),
     /// The script's run took so many turns, which is the budget, and is not over.
     OutOfTurns(u64),
     /// A read failed.

@@ -2,8 +2,9 @@
 
 ghost use Rattle.std.specs.Prelude.{◌≡◌};
 
-/// How a call ended. The first cause in the order bad words, read fault, bad script, write fault
-/// counts; want of memory may come before each of them but the last.
+/// How a call ended, by the first cause in this order: the words are not taken, a read failed, the text
+/// is no script, the turns ran out. Where a write of what is then to be said failed, it is `WriteFault`
+/// in their place, and in that of `Ok`. Memory may run out at any point before the run begins.
 #[derive(Clone, Copy, Debug, PartialEq, Eq)]
 pub enum Status {
     /// The source was read to its end, its script was run, and the lines of its answers were taken.

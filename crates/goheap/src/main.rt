@@ -18,13 +18,13 @@ fn main(rt: HostRuntime) -> ExitCode {
     ExitCode::from(called(&rt, &mut src, &mut out).code())
 }
 
-// The call with the words of the command line. A word that is not UTF-8 makes a command line that is not
-// taken, as one of no words is.
+// The call with the words of the command line. Where they cannot be had, and not for want of memory (a
+// word is not UTF-8), the command line is not taken, as one of no words is not.
 fn called<R: Env + AllocGlobal, S: Source, K: Sink>(rt: &R, src: &mut S, out: &mut K) -> Status {
     let args = match env::args(rt) {
         Ok(args) => args,
-        Err(e) if e.kind() == ErrorKind::InvalidData => return top(rt.alloc(), &[], src, out),
-        Err(_) => return Status::NoMemory,
+        Err(e) if e.kind() == ErrorKind::OutOfMemory => return Status::NoMemory,
+        Err(_) => return top(rt.alloc(), &[], src, out),
     };
     let Ok(args) = args.collect::<Vec<String>>(rt.alloc()) else {
         return Status::NoMemory;

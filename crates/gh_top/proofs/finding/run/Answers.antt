@@ -1,10 +1,6 @@
 use Rattle.std.proofs.Common.{ℕ, Err, ap, subst, ◌∙◌}
 use Rattle.gh_replay.specs.Replayed.{IsUnfinished}
-use Rattle.gh_top.proofs.Texts.{tellable}
 use Rattle.gh_top.proofs.finding.run.Goals as goal
-
-pub returns-in-Ok-replay-clause-tellable : goal.returns-in-Ok-replay-clause-tellable
-returns-in-Ok-replay-clause-tellable c = tellable c.in-Ok.script c.args.budget _ c.is_well_formed.ensures c.in-Ok-replay.ensures.explained c.in-Ok-replay.ensures.few
 
 pub returns-in-Err-OutOfTurns-clause-found : goal.returns-in-Err-OutOfTurns-clause-found
 returns-in-Err-OutOfTurns-clause-found c =
