@@ -1,11 +1,15 @@
 #!/usr/bin/env bash
-# Runs the program on each script of examples/ and compares what it writes with the file beside it.
+# Runs the program on each script of examples/, each of which opens with a line of what it shows, and compares what it writes with
+# the file beside it. GOHEAP names another program to run than goheap.sh's.
 set -u
 cd "$(dirname "$0")/.." || exit 1
 passed=0
 failed=0
 for script in examples/*.heap; do
-  if ./goheap.sh replay < "$script" 2>/dev/null | cmp -s - "${script%.heap}.out"; then
+  if ! head -n 1 "$script" | grep -q '^# ..*\.$'; then
+    echo "check_examples: $script does not open with a line of what it shows"
+    failed=$((failed + 1))
+  elif "${GOHEAP:-./goheap.sh}" replay < "$script" 2>/dev/null | cmp -s - "${script%.heap}.out"; then
     passed=$((passed + 1))
   else
     echo "check_examples: $script does not write ${script%.heap}.out"
