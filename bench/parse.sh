@@ -5,7 +5,7 @@ set -eu
 . "$(dirname "$0")/timing.sh"
 
 : >"$work/empty"
-"$here/goheap.sh" replay <"$work/empty" >"$work/out" || true
+"$program" replay <"$work/empty" >"$work/out" || true
 echo "no byte: $(($(best "$work/empty") / 1000)) microseconds"
 most=4194304
 # lines of comments; lines of blanks; one line; statements that are spread by blanks; shapes

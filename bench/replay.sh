@@ -21,13 +21,13 @@ turns() {
   local low=1 high=50000000 middle
   while [ "$low" -lt "$high" ]; do
     middle=$(((low + high) / 2))
-    if "$here/goheap.sh" replay --budget "$middle" <"$1" >"$work/out"; then high=$middle; else low=$((middle + 1)); fi
+    if "$program" replay --budget "$middle" <"$1" >"$work/out"; then high=$middle; else low=$((middle + 1)); fi
   done
   echo "$low"
 }
 
 script 0 >"$work/empty"
-"$here/goheap.sh" replay <"$work/empty" >"$work/out"
+"$program" replay <"$work/empty" >"$work/out"
 empty=$(best "$work/empty")
 echo "no statement: $((empty / 1000)) microseconds"
 before=0
