@@ -1,0 +1,33 @@
+#!/usr/bin/env bash
+# Holds docs/SCRIPTS.md to the program and to the table of size classes: what each easily made mistake is answered, and the sizes of slots.
+# GOHEAP names another program to run than goheap.sh's.
+set -u
+cd "$(dirname "$0")/.." || exit 1
+page=docs/SCRIPTS.md passed=0 failed=0
+
+tried() {
+  if [ "$2" = "$3" ]; then passed=$((passed + 1)); else
+    echo "check_scripts: $1: the page says '$2', and it is '$3'"
+    failed=$((failed + 1))
+  fi
+}
+
+# What is written stands in line 1, before a goroutine, or in line 3, in one of two lines before it.
+while IFS=$'\t' read -r written answer; do
+  case $answer in
+    'line 1:'*) text="$written\ngo a\nend\n" ;;
+    *) text="type node pn\ngo a\n$written\nend\n" ;;
+  esac
+  case $written in go*) text="$written\nend\n" ;; esac
+  # shellcheck disable=SC2059
+  tried "$written" "$answer" "$(printf "$text" | "${GOHEAP:-./goheap.sh}" replay 2>/dev/null)"
+done < <(awk -F'|' '/^## Mistakes/ { on = 1 } /^All causes/ { on = 0 }
+  on && $2 ~ /^ `/ && $3 ~ /^ `line [13]:/ { answer = $3; gsub(/^ `|` $/, "", answer); n = split($2, part, "`"); for (i = 2; i <= n; i += 2) print part[i] "\t" answer }' "$page")
+
+sizes() { sed -n "/^const $1/,/];/p" crates/gh_class/src/class.rt | sed 's/^const[^=]*=//' | grep -o '[0-9][0-9]*'; }
+of_code=$(paste -d' ' <(sizes SLOT_BYTES) <(sizes PAGES) | awk '{ print $1 / 8, int(8192 * $2 / $1), $2 }')
+of_page=$(awk -F'|' '/^\| [0-9,]+ \| [0-9]+ \| [0-9] \|/ { gsub(/[ ,]/, ""); print $2, $3, $4; if ($6) print $6, $7, $8 }' "$page" | sort -n)
+tried 'the sizes of slots' "$of_page" "$of_code"
+
+echo "scripts: $passed passed, $failed failed"
+[ "$failed" -eq 0 ]
