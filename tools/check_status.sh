@@ -12,7 +12,7 @@ failed=0
 check() {
   local status=$1 line=$2 input=$3
   shift 3
-  ./goheap.sh "$@" <"$input" >"$work/out" 2>"$work/err"
+  "$program" "$@" <"$input" >"$work/out" 2>"$work/err"
   compare "$?" "$status" "$line" "$*"
 }
 
@@ -27,7 +27,12 @@ compare() {
 }
 
 first=examples/first.heap
-./goheap.sh replay <"$first" >"$work/out" 2>/dev/null
+# The program itself: goheap.sh answers words that it does not know. GOHEAP names another one than goheap.sh's.
+program=${GOHEAP-}
+if [ -z "$program" ]; then
+  ./goheap.sh replay <"$first" >"$work/out" 2>/dev/null
+  program=$(echo out/goheap-????????????????)
+fi
 printf 'go a\n' >"$work/open"
 # a word that is not UTF-8, wherever it stands
 check 2 'words refused' "$first" replay $'\xff'
@@ -39,7 +44,7 @@ check 3 'line 1: nesting' "$work/open" replay
 check 4 '' / replay
 check 8 'turns 1' "$first" replay --budget 1
 # a device that takes nothing
-./goheap.sh replay <"$first" >/dev/full 2>"$work/err"
+"$program" replay <"$first" >/dev/full 2>"$work/err"
 got=$?
 : >"$work/out"
 compare "$got" 5 '' 'replay to a full device'
