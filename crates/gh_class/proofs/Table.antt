@@ -6,6 +6,7 @@ use Rattle.std.proofs.lemmas.List.Quantifiers.{position-Some}
 use Rattle.std.specs.List.{position_or_len}
 use Rattle.gh_class.specs.Classes.{slot_sizes, page_counts, slot_of, pages_of, slots_of, IsClassOf, class_number, large_pages, size_class_of, slot_words}
 use Rattle.gh_class.specs.declared.class.SizeClass.TheVariants.{Small, Large}
+use Rattle.gh_class.specs.declared.class.TheConstants.{MOST_TYPE_WORDS}
 
 -- ---- a test of each number below another
 
@@ -247,14 +248,14 @@ small_or_large m = swapped (cases_lt 32768 m) where
 pub slot_words_hold : (words : ℕ) → words ≤ slot_words words
 slot_words_hold words = holds_by words (small_or_large (8 * words))
 
-bound_by : (words : ℕ) → words ≤ 65536 → (8 * words ≤ 32768) ⊎ (32768 < 8 * words) → slot_words words ≤ 65536
+bound_by : (words : ℕ) → words ≤ MOST_TYPE_WORDS → (8 * words ≤ 32768) ⊎ (32768 < 8 * words) → slot_words words ≤ MOST_TYPE_WORDS
 bound_by words h (inl le) =
     omega (arith, slot_words_small words le, slot_of-greatest _ (class_number-is (8 * words) le).among)
 bound_by words h (inr gt) =
     omega (arith, slot_words_large words gt, large_pages-fewest words)
 
 -- the slot of an object of at most 65,536 words has at most as many
-pub slot_words-bound : (words : ℕ) → words ≤ 65536 → slot_words words ≤ 65536
+pub slot_words-bound : (words : ℕ) → words ≤ MOST_TYPE_WORDS → slot_words words ≤ MOST_TYPE_WORDS
 slot_words-bound words h = bound_by words h (small_or_large (8 * words))
 
 -- worked cases of the slot, which compute

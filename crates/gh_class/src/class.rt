@@ -8,6 +8,10 @@ use std::marker::Model;
 pub const CLASSES: u32 = 25;
 /// How many span classes there are: two to a size class.
 pub const SPAN_CLASSES: u32 = 2 * CLASSES;
+/// The most words of a type, which has one at least.
+pub const MOST_TYPE_WORDS: u32 = 65_536;
+/// The most pages of a span: those of the largest object.
+pub const MOST_SPAN_PAGES: u32 = MOST_TYPE_WORDS / PAGE_WORDS;
 
 // The bytes of a slot, by class.
 const SLOT_BYTES: [u32; 25] = [
@@ -119,7 +123,7 @@ pub enum SizeClass {
 impl SizeClass {
     /// The size class of an object of so many words, each of 8 bytes.
     pub fn of_words(words: u32) -> SizeClass
-        requires { words ≤ 65536 }
+        requires { words ≤ MOST_TYPE_WORDS }
         ensures is { result ≡ size_class_of words }
         ensures among { IsSizeClass result }
     {
@@ -183,10 +187,10 @@ pub fn large_pages(words: u32) -> u32
 /// The words of the slot of an object of so many words, each of 8 bytes: those of its class's slot,
 /// and above 4096 words those of its pages.
 pub fn slot_words(words: u32) -> u32
-    requires { words ≤ 65536 }
+    requires { words ≤ MOST_TYPE_WORDS }
     ensures value { result ≡ slot_words words }
     ensures fits { words ≤ result }
-    ensures bound { result ≤ 65536 }
+    ensures bound { result ≤ MOST_TYPE_WORDS }
 {
     match class_of(8 * words) {
         Some(class) => class.slot_bytes() / 8,

@@ -2,6 +2,7 @@
 ghost use Rattle.std.specs.Prelude.{◌≡◌, ℕ, ◌+◌, ◌*◌, ◌/◌, ◌%◌, ◌<◌, ◌≤◌};
 ghost use Rattle.gh_class.specs.Classes.{slot_of, pages_of, slots_of, IsClassOf, class_number, large_pages, size_class_of, slot_words};
 ghost use Rattle.gh_class.specs.declared.class.SizeClass.TheVariants.{Small, Large};
+ghost use Rattle.gh_class.specs.declared.class.TheConstants.{MOST_TYPE_WORDS};
 
 /// The laws of the table. The call does nothing: its contract is what a proof wants of it.
 pub fn size_class_laws()
@@ -29,5 +30,5 @@ pub fn size_class_laws()
     ensures large_slot { (words : ℕ) → 32768 < 8 * words → slot_words words ≡ 1024 * large_pages words }
     // An object fits its slot.
     ensures holds { (words : ℕ) → words ≤ slot_words words }
-    ensures bounded { (words : ℕ) → words ≤ 65536 → slot_words words ≤ 65536 }
+    ensures bounded { (words : ℕ) → words ≤ MOST_TYPE_WORDS → slot_words words ≤ MOST_TYPE_WORDS }
 {}

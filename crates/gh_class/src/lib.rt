@@ -13,6 +13,7 @@ mod laws;
 mod tests;
 
 pub use class::{
-    CLASSES, Class, SPAN_CLASSES, SizeClass, SpanClass, class_of, large_pages, slot_words,
+    CLASSES, Class, MOST_SPAN_PAGES, MOST_TYPE_WORDS, SPAN_CLASSES, SizeClass, SpanClass, class_of,
+    large_pages, slot_words,
 };
 pub use laws::size_class_laws;

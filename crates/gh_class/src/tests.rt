@@ -71,9 +71,9 @@ fn finds_the_least_class_and_the_slot(rt: HostRuntime) -> Result<(), Fail> {
         (4096, 4096),
         (4097, 5120),
         (9000, 9216),
-        (65536, 65536),
+        (MOST_TYPE_WORDS, MOST_TYPE_WORDS),
     ] {
-        assert!(rt; words <= 65536);
+        assert!(rt; words <= MOST_TYPE_WORDS);
         assert_eq!(rt; slot_words(words), want, "{words} words");
     }
     size_class_laws();
