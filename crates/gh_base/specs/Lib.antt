@@ -2,6 +2,8 @@ pub mod Cells
 pub mod Holding
 pub mod Limits
 pub mod Lists
+pub mod OneOrder
+pub mod Orders
 pub mod Packing
 pub mod Routines
 pub mod Rows

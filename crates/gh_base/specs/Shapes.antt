@@ -2,7 +2,7 @@
 use Rattle.std.specs.Prelude.{◌≡◌, ℕ, ◌/◌, ◌%◌, ◌<◌, ◌≤◌, ◌↔◌, Bool, true, false, List, [], ◌==◌, length, slice_index, slice_index_or}
 use Rattle.std.specs.Int.{bit_at}
 use Rattle.gh_base.specs.declared.shape.Shape.{Shape}
-use Rattle.gh_base.specs.declared.limits.TheConstants.{MOST_TYPE_WORDS}
+use Rattle.gh_class.specs.declared.class.TheConstants.{MOST_TYPE_WORDS}
 
 -- what stands where there is no type
 abbrev pub no_shape : Shape
@@ -22,7 +22,7 @@ is_pointer shape k = bit_at (bits_at shape (k / 64)) (k % 64) == 1
 
 -- a shape that a type may have
 pub record FitsShape (shape : Shape) : Type 0 where
-  -- it has 1 to 65,536 words
+  -- it has 1 to MOST_TYPE_WORDS words
   pub some_word : 1 ≤ shape.words
   pub few_words : shape.words ≤ MOST_TYPE_WORDS
   -- no field from its length on is a pointer

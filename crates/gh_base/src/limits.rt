@@ -1,5 +1,7 @@
 //! The limits of a heap: how few and how many there may be of each thing that a script sets.
 
+pub use gh_class::MOST_TYPE_WORDS;
+
 /// The fewest pages of an arena.
 pub const LEAST_PAGES: u32 = 16;
 /// The most pages of an arena.
@@ -14,7 +16,5 @@ pub const MOST_WORKERS: u32 = 4;
 pub const MOST_GOROUTINES: u32 = 32;
 /// The registers of a goroutine.
 pub const REGISTERS: u32 = 16;
-/// The most words of a type, which has one at least.
-pub const MOST_TYPE_WORDS: u32 = 65_536;
 /// The most statements of a script, and so the most objects that a goroutine makes.
 pub const MOST_STATEMENTS: u32 = 200_000;

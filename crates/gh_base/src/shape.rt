@@ -24,7 +24,7 @@ impl Model for Bits {
 /// `ShapesFit` of it.
 #[derive(Debug, Drop)]
 pub struct Shape {
-    /// Its length in words, 1 to 65,536.
+    /// Its length in words, 1 to `MOST_TYPE_WORDS`.
     pub words: u32,
     /// That it has no pointer field: true exactly where no bit is set.
     pub noscan: bool,

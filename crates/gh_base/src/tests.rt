@@ -205,8 +205,9 @@ fn steps_are_lines(rt: HostRuntime) -> Result<(), Fail> {
     let mut words = vec![in rt.alloc(); 5u64; 20]?;
     let steps = trace::run_alone(rt.alloc(), &mut look, &layout, &mut words, 9)?;
     assert_eq!(rt; steps.out, Some(5));
-    assert_eq!(rt; steps.lines.len(), 1);
-    assert_eq!(rt; steps.lines[0].as_str(), "load touch: 5");
+    assert!(rt; steps.are(&["load touch: 5"]));
+    assert!(rt; !steps.are(&["load touch: 6"]));
+    assert!(rt; !steps.are(&[]));
     for (request, line) in [
         (Req::Load(18), "load page 3: 5"),
         (Req::Store(18, 8), "store page 3 8: 5"),

@@ -21,6 +21,21 @@ pub struct Steps<O> {
     pub out: Option<O>,
 }
 
+impl<O> Steps<O> {
+    /// That its lines are these.
+    pub fn are(&self, lines: &[&str]) -> bool {
+        if self.lines.len() != lines.len() {
+            return false;
+        }
+        for (i, line) in lines.iter().enumerate() {
+            if i >= self.lines.len() || self.lines[i].as_str() != *line {
+                return false;
+            }
+        }
+        true
+    }
+}
+
 /// The control words, by their numbers.
 const CONTROL: [&str; 15] = [
     "touch", "phase", "gen", "begun", "swept", "lock", "want", "bank", "gcur", "heap", "trigger",
