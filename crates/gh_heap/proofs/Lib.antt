@@ -1,0 +1,13 @@
+mod Apart
+mod Follows
+mod Keeps
+mod KeepsMade
+mod KeepsObjects
+mod KeepsSpans
+mod Known
+mod Lasts
+mod Leaves
+mod LeavesPages
+mod Own
+mod Quiet
+mod Reaching

@@ -1,0 +1,5 @@
+pub mod Laws
+pub mod Moves
+pub mod Objects
+pub mod Rights
+pub mod Spans

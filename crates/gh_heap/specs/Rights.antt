@@ -1,0 +1,143 @@
+-- The shared state: the words, each actor's rights to change them, and the ghosts beside them; and what holds of it at every moment.
+use Rattle.std.specs.Prelude.{◌≡◌, ℕ, ◌+◌, ◌^◌, ◌<◌, Bool, true, List, ◌↔◌, Option, Some}
+use Rattle.gh_base.specs.declared.cell.Cell.TheVariants as cell
+use Rattle.gh_base.specs.declared.layout.Layout.{Layout}
+use Rattle.gh_base.specs.declared.pack.PageWord.TheVariants.{Head}
+use Rattle.gh_base.specs.declared.pack.SpanHead.{SpanHead}
+use Rattle.gh_base.specs.declared.shape.Shape.{Shape}
+use Rattle.gh_base.specs.declared.value.Name.{Name}
+use Rattle.gh_base.specs.Cells.{Words}
+use Rattle.gh_base.specs.Packing.{page_of}
+use Rattle.gh_base.specs.Rows.{Row, row_bit, page_words, alloc_words, bitmap_words, birth_words, field_words, global_words}
+use Rattle.gh_model.specs.Ever.{Ever}
+use Rattle.gh_heap.specs.Objects.{IsMade, Place, Placed, BitsGood, ReachedGood, SlotsGood, PointersGood, FieldsGood, GlobalsGood, NamesGood}
+use Rattle.gh_heap.specs.Spans.{IsSpan, IsSlotOf, IsFull, owner_at, Laying, LaidOut}
+
+-- what a heap is of: where its words lie, the types of its objects, and at which seat is the processor that runs a goroutine
+pub record Arena : Type 0 where
+  pub layout : Layout
+  pub shapes : List Shape
+  pub seat_of : ℕ → ℕ
+
+-- The words; a row for each kind of right, by seat: who has the lock, who holds the span that begins at a page, and what is being laid out; where each name was placed, and the heap that never frees.
+pub record Shared : Type 0 where
+  pub words : Words
+  pub locked : ℕ → Bool
+  pub holds : ℕ → ℕ → Bool
+  pub laying : ℕ → Option Laying
+  pub place : Place
+  pub ever : Ever
+
+-- What is said of the shared state is said of this: of the words only the rows that a right guards.
+pub record View : Type 0 where
+  pub lock : ℕ
+  pub generation : ℕ
+  pub page : Row
+  pub alloc : Row
+  pub bitmap : Row
+  pub birth : Row
+  pub field : Row
+  pub global : Row
+  pub locked : ℕ → Bool
+  pub holds : ℕ → ℕ → Bool
+  pub laying : ℕ → Option Laying
+  pub place : Place
+  pub ever : Ever
+
+abbrev pub view : Shared → View
+view s = record {
+  lock = s.words cell.Lock;
+  generation = s.words cell.Gen;
+  page = page_words s.words;
+  alloc = alloc_words s.words;
+  bitmap = bitmap_words s.words;
+  birth = birth_words s.words;
+  field = field_words s.words;
+  global = global_words s.words;
+  locked = s.locked;
+  holds = s.holds;
+  laying = s.laying;
+  place = s.place;
+  ever = s.ever;
+}
+
+-- the rights of one seat: whether it has the lock, which spans it holds, and what it lays out
+pub record Right (a : ℕ) (v : View) (l : Bool) (h : ℕ → Bool) (y : Option Laying) : Type 0 where
+  pub locked : v.locked a ≡ l
+  pub holds : (p : ℕ) → v.holds a p ≡ h p
+  pub laying : v.laying a ≡ y
+
+-- The groups of what holds at every moment, each over the rows that it reads. A tie of a right to a word goes both ways, so that nothing has to be counted.
+
+-- the lock's word names the seat that has the lock
+abbrev pub LockGood : (lock : ℕ) → (ℕ → Bool) → Type 0
+LockGood lock locked = (a : ℕ) → (lock ≡ a + 1) ↔ (locked a ≡ true)
+
+-- each head is that of a whole span
+abbrev pub SpansGood : (pages : ℕ) → (page : Row) → Type 0
+SpansGood pages page = (p : ℕ) (h : SpanHead) → page_of (page p) ≡ Head h → IsSpan pages page p h
+
+-- and is swept: its number is that of the sweep generation
+abbrev pub NumbersGood : (page : Row) → (generation : ℕ) → Type 0
+NumbersGood page generation = (p : ℕ) (h : SpanHead) → page_of (page p) ≡ Head h → h.number ≡ generation
+
+-- a head names the seat that holds its span
+abbrev pub OwnersGood : (page : Row) → (ℕ → ℕ → Bool) → Type 0
+OwnersGood page holds = (a p : ℕ) → (owner_at page p ≡ a + 1) ↔ (holds a p ≡ true)
+
+-- who lays a span out has the lock
+pub record Lays (pages : ℕ) (page : Row) (locked : ℕ → Bool) (a : ℕ) (y : Laying) : Type 0 where
+  pub by_holder : locked a ≡ true
+  pub laid : LaidOut pages page y
+
+abbrev pub LayingGood : (pages : ℕ) → (page : Row) → (ℕ → Bool) → (ℕ → Option Laying) → Type 0
+LayingGood pages page locked laying = (a : ℕ) (y : Laying) → laying a ≡ Some y → Lays pages page locked a y
+
+-- A span that nobody owns is full. So it is while nothing is freed: a span is given back when its slots are all taken.
+abbrev pub FullGood : (page alloc : Row) → Type 0
+FullGood page alloc = (p : ℕ) (h : SpanHead) → page_of (page p) ≡ Head h → h.owner ≡ 0 → IsFull alloc p h
+
+-- While nothing is freed, every object that was made stays placed.
+abbrev pub StaysGood : (alloc birth : Row) → Place → (made : ℕ → ℕ) → Type 0
+StaysGood alloc birth place made = (n : Name) → IsMade made n → Placed alloc birth place n
+
+pub record Good (z : Arena) (v : View) : Type 0 where
+  pub lock : LockGood v.lock v.locked
+  pub spans : SpansGood z.layout.pages v.page
+  pub generation : v.generation < 2 ^ 34
+  pub numbers : NumbersGood v.page v.generation
+  pub owners : OwnersGood v.page v.holds
+  pub laying : LayingGood z.layout.pages v.page v.locked v.laying
+  pub full : FullGood v.page v.alloc
+  pub bits : BitsGood v.alloc v.birth v.place v.ever.made
+  pub reached : ReachedGood v.alloc v.birth v.place v.ever
+  pub stays : StaysGood v.alloc v.birth v.place v.ever.made
+  pub slots : SlotsGood z.shapes z.layout.pages v.page v.alloc v.birth v.place v.ever.made v.ever.type_of
+  pub pointers : PointersGood z.shapes v.alloc v.birth v.bitmap v.place v.ever.made v.ever.type_of
+  pub fields : FieldsGood z.shapes v.alloc v.birth v.field v.place v.ever.made v.ever.type_of v.ever.field
+  pub globals : GlobalsGood z.layout.globals v.global v.place v.ever.made v.ever.global
+  pub names : NamesGood z.layout.goroutines v.ever.made
+
+-- What a right guards.
+
+-- A slot in which no object stands, in a span that the seat holds: whoever holds the span has it for itself until its alloc bit is set.
+pub record Claim (pages : ℕ) (page alloc : Row) (holds : ℕ → ℕ → Bool) (a at size : ℕ) : Type 0 where
+  pub p : ℕ
+  pub h : SpanHead
+  pub i : ℕ
+  pub held : holds a p ≡ true
+  pub slot : IsSlotOf pages page p h i at size
+  pub clear : row_bit alloc at ≡ 0
+
+abbrev pub Claims : Arena → View → (a at size : ℕ) → Type 0
+Claims z v a at size = Claim z.layout.pages v.page v.alloc v.holds a at size
+
+-- a goroutine of the processor at this seat
+abbrev pub IsOf : Arena → (a g : ℕ) → Type 0
+IsOf z a g = (g < z.layout.goroutines) × (z.seat_of g ≡ a)
+
+-- What a walk over the page words has found.
+
+-- each span of the span class that nobody owns and that begins before page p is full
+abbrev pub FullBefore : (page alloc : Row) → (span : SpanHead) → (p : ℕ) → Type 0
+FullBefore page alloc span p = (q : ℕ) (h : SpanHead) → q < p → page_of (page q) ≡ Head h → h.class ≡ span.class → h.noscan ≡ span.noscan → h.owner ≡ 0 → IsFull alloc q h
