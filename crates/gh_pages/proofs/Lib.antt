@@ -1,1 +1,2 @@
 pub mod Carving
+mod Owning

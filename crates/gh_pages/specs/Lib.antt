@@ -1,4 +1,5 @@
 pub mod Ends
+pub mod Facts
 pub mod FirstFit
 pub mod Listing
 pub mod Sound

@@ -3,16 +3,17 @@ use Rattle.std.specs.Prelude.{◌+◌, ◌^◌, ◌<◌, ◌≤◌}
 use Rattle.gh_base.specs.declared.layout.Layout.{Layout}
 use Rattle.gh_base.specs.Cells.{seats_of}
 use Rattle.gh_class.specs.Classes.{IsSizeClass}
+use Rattle.gh_class.specs.declared.class.TheConstants.{MOST_SPAN_PAGES}
 use Rattle.gh_pages.specs.declared.carve.Span.{Span}
 use Rattle.gh_pages.specs.declared.carve.CarveStage.{CarveStage}
 use Rattle.gh_pages.specs.declared.carve.CarveStage.TheVariants.{Look, Body, Head, Ended}
 use Rattle.gh_pages.specs.Listing.{Carving}
 
--- a span of a class there is, of 1 to 64 pages
+-- a span of a class there is, of 1 to MOST_SPAN_PAGES pages
 pub record FitsSpan (span : Span) : Type 0 where
   pub class : IsSizeClass span.class
   pub some : 1 ≤ span.pages
-  pub few : span.pages ≤ 64
+  pub few : span.pages ≤ MOST_SPAN_PAGES
 
 -- the pages that a stage speaks of are pages of the arena
 abbrev pub IsStage : Layout → Span → CarveStage → Type 0

@@ -18,7 +18,7 @@ pub struct Span {
     pub class: SizeClass,
     /// That its objects have no pointer fields.
     pub noscan: bool,
-    /// Its pages, 1 to 64.
+    /// Its pages, 1 to `MOST_SPAN_PAGES`.
     pub pages: u32,
 }
 

@@ -1,9 +1,11 @@
 //! Laws of the routine. The functions do nothing; what they ensure is proved.
 
+ghost use Rattle.gh_pages.specs.Facts.{CarvesByItsRights};
 ghost use Rattle.gh_pages.specs.FirstFit.{FirstFitIsFound};
 ghost use Rattle.gh_pages.specs.Storing.{FreshWordsAreReadBack, StoresStandInOrder, StoresWriteTheSpan};
 
 use gh_base::laws::{cells_are_told, packed_words_are_read_back};
+use gh_heap::laws::{each_move_keeps, facts_last, rights_follow, the_heap_is_apart};
 
 /// Told what each page holds, the routine goes on exactly with the least page from which enough
 /// free pages stand in a row, right after it has loaded the last of them; and it ends with `None`
@@ -32,4 +34,17 @@ pub fn fresh_words_are_read_back()
     ensures { FreshWordsAreReadBack }
 {
     packed_words_are_read_back();
+}
+
+/// Whatever any number of processors do beside it: each of its steps is a move that its seat may make, and
+/// what is known at each stage holds then and lasts. Where it gives a page, a fresh span stands there, in
+/// which no object is, and the seat holds it; where it gives none, no run of free pages fits.
+pub fn the_carve_keeps_its_facts()
+    ensures { CarvesByItsRights }
+{
+    packed_words_are_read_back();
+    facts_last();
+    rights_follow();
+    the_heap_is_apart();
+    each_move_keeps();
 }
