@@ -1,5 +1,6 @@
 pub mod Bits
 pub mod Ends
+pub mod Facts
 pub mod Pointers
 pub mod ReadPointer
 pub mod SetPointers

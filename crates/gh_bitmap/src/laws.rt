@@ -1,10 +1,12 @@
 //! Laws of the routines. The functions do nothing; what they ensure is proved.
 
+ghost use Rattle.gh_bitmap.specs.Facts.{SetsByItsRights};
 ghost use Rattle.gh_bitmap.specs.Pointers.{BitsAreRead, PointersAreSet, SetBitsAreReadBack};
 ghost use Rattle.gh_bitmap.specs.Stepping.{EachStepIsOnItsBits};
 
 use crate::set_pointers::SetPointers;
 use gh_base::laws::{cells_are_told, rows_are_written, steps_are_folded};
+use gh_heap::laws::{facts_last, rights_follow, the_heap_is_apart};
 
 /// Each step of the routine that sets pointer bits is on the slot's bits in one word: the first
 /// clears them, the second makes them those of the type's pointer fields. Every other bit stays.
@@ -33,3 +35,14 @@ pub fn bits_are_read()
 pub fn set_bits_are_read_back()
     ensures { SetBitsAreReadBack }
 {}
+
+/// Whatever any number of processors do beside it: while the seat claims the slot, each step is a move that it
+/// may make, and what is known at each stage holds then and lasts. At the end the slot's bits are told.
+pub fn setting_keeps_its_facts()
+    ensures { SetsByItsRights }
+{
+    facts_last();
+    rights_follow();
+    the_heap_is_apart();
+    each_step_is_on_its_bits();
+}

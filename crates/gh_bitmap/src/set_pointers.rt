@@ -49,7 +49,7 @@ impl<'s> Model for SetPointers<'s> {
 
 impl<'s> SetPointers<'s> {
     /// Writes the bits of an object of this shape whose first heap word is `at`, in a slot of `slot`
-    /// words, 1 to 65,536, which lies in the arena.
+    /// words, 1 to `MOST_TYPE_WORDS`, which lies in the arena.
     pub fn new(layout: &Layout, shape: &'s Shape, at: u32, slot: u32) -> SetPointers<'s>
         requires some { 1 ≤ slot }
         requires within { at + slot ≤ 1024 * layout.now.pages }
