@@ -1,3 +1,6 @@
+mod GiveRights
 pub mod Lacking
 pub mod Owning
+mod PassRights
 pub mod Passing
+pub mod Reclaiming

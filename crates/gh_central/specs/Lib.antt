@@ -1,7 +1,13 @@
+pub mod EmptySpans
 pub mod Ends
 pub mod GiveBack
+pub mod GiveFacts
 pub mod Owning
+pub mod PassFacts
 pub mod Passing
+pub mod Reclaim
+pub mod ReclaimEnds
+pub mod ReclaimSound
 pub mod Slots
 pub mod Sound
 pub mod SweptPass

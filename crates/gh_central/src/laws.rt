@@ -1,10 +1,15 @@
 //! Laws of the routines. The functions do nothing; what they ensure is proved.
 
+ghost use Rattle.gh_central.specs.GiveFacts.{GivesByItsRights};
+ghost use Rattle.gh_central.specs.PassFacts.{PassesByItsRights};
+ghost use Rattle.gh_central.specs.EmptySpans.{EmptySpansAreFreed, ReclaimingEnds};
 ghost use Rattle.gh_central.specs.Owning.{GivingChangesTheOwner, TakingChangesTheOwner};
 ghost use Rattle.gh_central.specs.Passing.{PassEnds, PassTakesTheFirst};
 ghost use Rattle.gh_central.specs.Slots.{TheTestSaysIt};
 
 use gh_base::laws::{cells_are_told, packed_words_are_read_back};
+use gh_class::size_class_laws;
+use gh_heap::laws::{each_move_keeps, facts_last, rights_follow, the_heap_is_apart};
 
 /// Whatever words it is told, the pass gives a page only where it was told that the head of a
 /// wanted span stands there with an alloc word that lacks a slot's bit, and where each page before
@@ -40,4 +45,41 @@ pub fn giving_changes_the_owner()
 /// Whatever it is told, the pass has ended after 19 steps a page and 2^18 more.
 pub fn the_pass_ends()
     ensures { PassEnds }
+{}
+
+/// Whatever any number of processors do beside it: each step of the pass is a move that its seat may make,
+/// and what is known at each stage holds then and lasts. Where it gives a page, the seat holds a span of the
+/// span class that begins there; where it gives none, each such span that nobody owns is full.
+pub fn the_pass_keeps_its_facts()
+    ensures { PassesByItsRights }
+{
+    packed_words_are_read_back();
+    facts_last();
+    rights_follow();
+    the_heap_is_apart();
+    each_move_keeps();
+    the_test_says_it();
+    size_class_laws();
+}
+
+/// Giving a span back is a move that its seat may make while it holds the span and each slot is taken; the
+/// span of a large object needs no lock for it.
+pub fn giving_back_keeps_its_facts()
+    ensures { GivesByItsRights }
+{
+    rights_follow();
+}
+
+/// Whatever words it is told, each step of `Reclaim` is a load, or stores 0 in the page word of a span
+/// whose head it was told with no owner and with the sweep generation, and whose alloc words it was
+/// all told to be 0: of the bodies in ascending order, and then of the head. When it ends, each page
+/// was met, and each swept span that nobody owns has an alloc word that was told not to be 0, or is
+/// freed.
+pub fn empty_spans_are_freed()
+    ensures { EmptySpansAreFreed }
+{}
+
+/// Whatever it is told, `Reclaim` has ended after 21 steps a page and 2^18 more.
+pub fn the_reclaiming_ends()
+    ensures { ReclaimingEnds }
 {}

@@ -180,3 +180,56 @@ fn slots_that_begin_in_a_word(rt: HostRuntime) {
     }
     laws::the_test_says_it();
 }
+
+/// A heap of 16 pages in sweep generation 4, by its words that are not 0: an empty large span on pages 1
+/// and 2, cached spans at the pages 3 and 6, one whose last alloc word is not 0 at page 4, one that is
+/// being swept at page 5, and an empty one on the last page. Page 0 is free.
+const SPANS: [(usize, u64); 8] = [
+    (16, 4_294_968_445),
+    (17, 638),
+    (18, 4_303_356_417),
+    (19, 4_294_967_809),
+    (20, 3_221_225_985),
+    (21, 4_299_166_333),
+    (30, 4_294_967_809),
+    (31 + 79, 1 << 63),
+];
+
+#[test]
+fn frees_empty_spans(rt: HostRuntime) -> Result<(), Fail> {
+    let layout = Layout::new(16, 1, 1, 1, 1)?;
+    let mut words = vec![in rt.alloc(); 0u64; layout.word(Cell::Mark(0)) as usize]?;
+    for (word, value) in SPANS {
+        if word < words.len() {
+            words[word] = value;
+        }
+    }
+    let mut reclaim = Reclaim::new(&layout, 4);
+    let run = run_alone(rt.alloc(), &mut reclaim, &layout, &mut words, 999)?;
+    assert_eq!(rt; (run.out, run.lines.len()), (Some(()), 74));
+    for (i, line) in [
+        (0, "load page 0: 0"),
+        (1, "load page 1: 4294968445"),
+        // 32 alloc words, each 0
+        (2, "load alloc 16: 0"),
+        (33, "load alloc 47: 0"),
+        (34, "store page 2 0: 638"),
+        (35, "store page 1 0: 4294968445"),
+        (36, "load page 3: 4303356417"),
+        (37, "load page 4: 4294967809"),
+        (38, "load alloc 64: 0"),
+        (53, "load alloc 79: 9223372036854775808"),
+        (54, "load page 5: 3221225985"),
+        (55, "load page 6: 4299166333"),
+        (56, "load page 15: 4294967809"),
+        (57, "load alloc 240: 0"),
+        (72, "load alloc 255: 0"),
+        (73, "store page 15 0: 4294967809"),
+    ] {
+        let there = run.lines.get(i);
+        assert_eq!(rt; there.map(|step| step.as_str()), Some(line));
+    }
+    laws::empty_spans_are_freed();
+    laws::the_reclaiming_ends();
+    Ok(())
+}

@@ -1,0 +1,305 @@
+-- The pass's own steps are moves that its rights allow, and what it knows lasts. Of the heap it is known what the laws of gh_heap say.
+use Rattle.std.proofs.Common.{◌≡◌, ◌≢◌, ℕ, ◌+◌, ◌-◌, ◌*◌, ◌/◌, ◌%◌, ◌^◌, ◌<◌, ◌≤◌, ◌&&◌, Bool, true, false, cond, eqb, ltb, inl, inr, Option, Some, None, refl, sym, ap, subst, ◌∙◌, arith}
+use Rattle.std.specs.Bool.{beq}
+use Rattle.std.specs.Int.{bit_at}
+use Rattle.std.proofs.Math.Nat.{mod-eq_of_lt}
+use Rattle.std.proofs.lemmas.Bool.{eqb-true, eq-eqb, ltb-true, ltb-false}
+use Rattle.std.proofs.lemmas.Bool.Decides.{eqb_tells}
+use Rattle.std.proofs.lemmas.Nat.Bits.{bit_at-lt}
+use Rattle.gh_base.specs.declared.cell.Ask.TheVariants as ask
+use Rattle.gh_base.specs.declared.cell.Cell.TheVariants as cell
+use Rattle.gh_base.specs.declared.layout.Layout.{Layout}
+use Rattle.gh_base.specs.declared.pack.PageWord.{PageWord}
+use Rattle.gh_base.specs.declared.pack.PageWord.TheVariants as page
+use Rattle.gh_base.specs.declared.pack.SpanHead.{SpanHead}
+use Rattle.gh_base.specs.Packing.{PackedWordsAreReadBack, head_word, page_of}
+use Rattle.gh_base.specs.Rows.{row_bit}
+use Rattle.gh_base.specs.Steps.{cell_of, effect}
+use Rattle.gh_class.specs.declared.class.SizeClass.{SizeClass}
+use Rattle.gh_class.specs.declared.class.SizeClass.TheVariants.{Small, Large}
+use Rattle.gh_class.specs.Classes.{slot_of, slot_words_of, slots_of}
+use Rattle.gh_heap.specs.Laws.{EachFactLasts, EachMoveKeeps, EachOwnMoveLeaves, EachRightFollows, TheHeapIsApart}
+use Rattle.gh_heap.specs.Moves.{KeepsObjects, Leaves, MayPass, Others, Own, Quiet, Steps, moved, update}
+use Rattle.gh_heap.specs.Rights.{Arena, FullBefore, Good, Right, Shared, View, view}
+use Rattle.gh_heap.specs.Spans.{IsFull, IsSpan, Laying, owned_by, owner_at, owner_in, slot_count, slot_size}
+use Rattle.gh_central.specs.declared.pass.PassStage.{PassStage}
+use Rattle.gh_central.specs.declared.pass.PassStage.TheVariants.{Look, Bits, Take, Ended}
+use Rattle.gh_central.specs.PassFacts.{Comes, Facts, FactsAt, IsUnowned, Lasts, LooksAt, LooksInto, Opens, OwnStep, Passes, PassesByItsRights, TakenBelow, sought}
+use Rattle.gh_central.specs.Slots.{TheTestSaysIt}
+use Rattle.gh_central.specs.SweptPass.{Pass, after_page, alloc_word, asks, at_stage, given, gives, goes, goes_at, is_busy, is_small, is_wanted, lacks_at, look_from}
+
+pub record Known : Type 0 where
+  pub packed : PackedWordsAreReadBack
+  pub keep : EachMoveKeeps
+  pub last : EachFactLasts
+  pub follow : EachRightFollows
+  pub leave : EachOwnMoveLeaves
+  pub apart : TheHeapIsApart
+  pub test : TheTestSaysIt
+  pub least_slot : (c : ℕ) → c < 25 → 8 ≤ slot_of c
+
+-- what nobody owns the seat does not hold
+not-held : (z : Arena) (a : ℕ) (v : View) (l : Bool) (held : ℕ → Bool) (y : Option Laying) (p : ℕ) → Good z v → Right a v l held y → owner_at v.page p ≡ 0 → held p ≡ false
+not-held z a v l held y p g right none = go (held p) refl where
+  one : (n : ℕ) → n ≡ a + 1 → n ≡ 0 → ⊥
+  one n e f = omega arith
+
+  go : (b : Bool) → held p ≡ b → b ≡ false
+  go false e = refl
+  go true e = absurd (one (owner_at v.page p) ((g.owners a p).1 (right.holds p ∙ e)) none)
+
+-- it is the same routine at another stage
+whose-at : (z : Arena) (a : ℕ) (v : View) (m : Pass) (q : PassStage) → Passes z a v m → Passes z a v (at_stage m q)
+whose-at z a v m q h = record { layout = h.layout; seat = h.seat; few = h.few; number = h.number; class = h.class }
+
+whose-of : (z : Arena) (a : ℕ) (v : View) (m : Pass) (q : PassStage) → Passes z a v (at_stage m q) → Passes z a v m
+whose-of z a v m q h = record { layout = h.layout; seat = h.seat; few = h.few; number = h.number; class = h.class }
+
+pub opens : Opens
+opens z a v m whose stage = record {
+  whose = whose;
+  stage = subst (λ (q : PassStage). FactsAt z m v q) (sym stage) (record { there = omega (arith, z.layout.limits.pages_fit.0); full = λ q h lt. absurd (omega arith) });
+}
+
+-- What is known lasts.
+
+unowned-lasts : Known → (z : Arena) (a : ℕ) (v w : View) (m : Pass) (p : ℕ) (h : SpanHead) → Others z a v w → v.locked a ≡ true → IsUnowned m.wanted v.page p h → IsUnowned m.wanted w.page p h
+unowned-lasts k z a v w m p h o l x = record { head = (k.last z a v w o).head p h l (λ e. small-large m.wanted.class (sym x.class ∙ e)) x.head; class = x.class; noscan = x.noscan; owner = x.owner } where
+  small-large : (c : ℕ) → Small c ≡ Large → ⊥
+  small-large c e = cc
+
+stage-lasts : Known → (z : Arena) (a : ℕ) (v w : View) (m : Pass) (q : PassStage) → Others z a v w → v.locked a ≡ true → FactsAt z m v q → FactsAt z m w q
+stage-lasts k z a v w m (Look p) o l x = record { there = x.there; full = (k.last z a v w o).full_before (sought m) p l x.full }
+stage-lasts k z a v w m (Bits p h i) o l x = record {
+  unowned = unowned-lasts k z a v w m p h o l x.unowned;
+  full = (k.last z a v w o).full_before (sought m) p l x.full;
+  within = x.within;
+  taken = λ j few below. o.bits (1024 * p + j * slot_words_of m.wanted.class) (x.taken j few below);
+}
+stage-lasts k z a v w m (Take p h) o l x = unowned-lasts k z a v w m p h o l x
+stage-lasts k z a v w m Ended o l x = x
+
+pub lasts : Known → Lasts
+lasts k z a v w m o l x = record {
+  whose = record { layout = x.whose.layout; seat = x.whose.seat; few = x.whose.few; number = x.whose.number ∙ sym o.generation; class = x.whose.class };
+  stage = stage-lasts k z a v w m m.stage o l x.stage;
+}
+
+-- The test of a head.
+
+both : (b c : Bool) → (b && c) ≡ true → (b ≡ true) × (c ≡ true)
+both true true e = (refl, refl)
+both true false e = absurd (cc)
+both false c e = absurd (cc)
+
+beq-true : (b c : Bool) → beq b c ≡ true → b ≡ c
+beq-true true true e = refl
+beq-true false false e = refl
+beq-true true false e = absurd (cc)
+beq-true false true e = absurd (cc)
+
+beq-same : (b : Bool) → beq b b ≡ true
+beq-same true = refl
+beq-same false = refl
+
+small-is : (c : ℕ) (class : SizeClass) → is_small c class ≡ true → class ≡ Small c
+small-is c (Small d) e = ap Small (eqb-true d c e)
+small-is c Large e = absurd (cc)
+
+wanted-is : (m : Pass) (h : SpanHead) → is_wanted m h ≡ true → (h.class ≡ Small m.wanted.class) × (h.noscan ≡ m.wanted.noscan) × (h.owner ≡ 0)
+wanted-is m h e =
+    let x = both ((is_small m.wanted.class h.class && beq h.noscan m.wanted.noscan) && eqb h.owner 0) (eqb h.number m.generation) e in
+    let y = both (is_small m.wanted.class h.class && beq h.noscan m.wanted.noscan) (eqb h.owner 0) x.0 in
+    let w = both (is_small m.wanted.class h.class) (beq h.noscan m.wanted.noscan) y.0 in
+    (small-is m.wanted.class h.class w.0, beq-true h.noscan m.wanted.noscan w.1, eqb-true h.owner 0 y.1)
+
+wanted-test : (m : Pass) (h : SpanHead) → h.class ≡ Small m.wanted.class → h.noscan ≡ m.wanted.noscan → h.owner ≡ 0 → h.number ≡ m.generation → is_wanted m h ≡ true
+wanted-test m h class noscan owner number = rw (class, noscan, owner, number, eq-eqb m.wanted.class m.wanted.class refl, beq-same m.wanted.noscan, eq-eqb m.generation m.generation refl) refl
+
+-- The pages gone past.
+
+module _ (z : Arena) (m : Pass) (v : View) where
+  abbrev Full : ℕ → Type 0
+  Full p = FullBefore v.page v.alloc (sought m) p
+
+  -- a page that is no head
+  past-page : (p : ℕ) → Full p → ((h : SpanHead) → page_of (v.page p) ≢ page.Head h) → Full (p + 1)
+  past-page p full none q h lt head class noscan owner = elim (eqb_tells q p) [
+    | inl y ↦ absurd (none h (subst (λ (x : ℕ). page_of (v.page x) ≡ page.Head h) y.1 head))
+    | inr n ↦ full q h (omega (arith, n.1)) head class noscan owner
+  ]
+
+  same-head : (p : ℕ) (h k : SpanHead) → page_of (v.page p) ≡ page.Head h → page_of (v.page p) ≡ page.Head k → h ≡ k
+  same-head p h k e f = cc
+
+  -- a span
+  past-span : Good z v → (p : ℕ) (k : SpanHead) → page_of (v.page p) ≡ page.Head k → Full p → (k.class ≡ Small m.wanted.class → k.noscan ≡ m.wanted.noscan → k.owner ≡ 0 → IsFull v.alloc p k) → Full (p + k.pages)
+  past-span g p k head full taken q h lt is class noscan owner = elim (eqb_tells q p) [
+    | inl y ↦ at (subst (λ (x : ℕ). page_of (v.page x) ≡ page.Head h) y.1 is) y.1
+    | inr n ↦ inside (ltb q p) refl n.1
+  ] where
+    at : page_of (v.page p) ≡ page.Head h → q ≡ p → IsFull v.alloc q h
+    at e y = let same = same-head p k h head e in
+        subst (λ (x : ℕ). IsFull v.alloc x h) (sym y) (subst (λ (x : SpanHead). IsFull v.alloc p x) same
+        (taken (ap (λ (x : SpanHead). x.class) same ∙ class) (ap (λ (x : SpanHead). x.noscan) same ∙ noscan) (ap (λ (x : SpanHead). x.owner) same ∙ owner)))
+
+    body-head : (d : ℕ) → page_of (v.page d) ≡ page.Head h → (b : _) → page_of (v.page d) ≡ page.Body b → ⊥
+    body-head d e b f = cc
+
+    inside : (b : Bool) → ltb q p ≡ b → q ≢ p → IsFull v.alloc q h
+    inside true t ne = full q h (ltb-true q p t) is class noscan owner
+    inside false t ne =
+        let low : p ≤ q = ltb-false q p t in
+        let far : q ≡ p + (q - p) = omega arith in
+        absurd (body-head (p + (q - p)) (subst (λ (x : ℕ). page_of (v.page x) ≡ page.Head h) far is) _ ((g.spans p k head).body (q - p) (omega arith) (omega arith)))
+
+-- The own steps.
+
+module _ (k : Known) (z : Arena) (a : ℕ) (s : Shared) (held : ℕ → Bool) (m : Pass) where
+  abbrev now : View
+  now = view s
+
+  -- what the next stage has, with nothing that was changed
+  abbrev Goes : Option (Option ℕ) → PassStage → Type 0
+  Goes given q = Comes z a now now held given (at_stage m q)
+
+  stays : Good z now → Leaves now now
+  stays g = (k.leave z a s g).stays
+
+  -- a stage from which a look goes on, or the end
+  looks : (before : PassStage) (p : ℕ) → ((q : PassStage) → given before q ≡ cond (is_busy q) None (Some None)) → Good z now → Right a now true held None → Passes z a now m → FullBefore now.page now.alloc (sought m) p →
+      (b : Bool) → ltb p m.layout.pages ≡ b → Goes (given before (cond b (Look p) Ended)) (cond b (Look p) Ended)
+  looks before p says g right whose full true t = rw (says (Look p)) (stays g, right, record { whose = whose-at z a now m (Look p) whose; stage = record { there = subst (λ (l : Layout). p < l.pages) whose.layout (ltb-true p m.layout.pages t); full = full } })
+  looks before p says g right whose full false t =
+      let last : z.layout.pages ≤ p = subst (λ (l : Layout). l.pages ≤ p) whose.layout (ltb-false p m.layout.pages t) in
+      rw (says Ended) (stays g, right, λ q h lt. full q h (omega arith))
+
+  look-says : (p : ℕ) (q : PassStage) → given (Look p) q ≡ cond (is_busy q) None (Some None)
+  look-says p q = refl
+
+  bits-says : (p i : ℕ) (h : SpanHead) (q : PassStage) → given (Bits p h i) q ≡ cond (is_busy q) None (Some None)
+  bits-says p i h q = refl
+
+  number-is : Good z now → Passes z a now m → (p : ℕ) (h : SpanHead) → page_of (now.page p) ≡ page.Head h → h.number ≡ m.generation
+  number-is g whose p h head = g.numbers p h head ∙ sym whose.number
+
+  look : (p : ℕ) → Good z now → Right a now true held None → Passes z a now m → LooksAt z (sought m) now p → Goes (given (Look p) (goes_at m (Look p) (now.page p))) (goes_at m (Look p) (now.page p))
+  look p g right whose x = go (page_of (now.page p)) refl where
+    no-head : (w : PageWord) (h : SpanHead) → page_of (now.page p) ≡ w → w ≢ page.Head h → page_of (now.page p) ≢ page.Head h
+    no-head w h e n f = n (sym e ∙ f)
+
+    on-head : (h : SpanHead) → page_of (now.page p) ≡ page.Head h → (b : Bool) → is_wanted m h ≡ b → Goes (given (Look p) (cond b (Bits p h 0) (look_from m (p + h.pages)))) (cond b (Bits p h 0) (look_from m (p + h.pages)))
+    on-head h head true t =
+        let w = wanted-is m h t in
+        let span = g.spans p h head in (
+          stays g,
+          right,
+          record {
+            whose = whose-at z a now m (Bits p h 0) whose;
+            stage = record {
+              unowned = record { head = head; class = w.0; noscan = w.1; owner = w.2 };
+              full = x.full;
+              within = omega (arith, span.fits.some);
+              taken = λ j few below. absurd (not-below p (j * slot_words_of m.wanted.class) below);
+            };
+          },
+        ) where
+          not-below : (p y : ℕ) → (1024 * p + y) / 64 < 16 * p + 0 → ⊥
+          not-below p y lt = omega arith
+    on-head h head false t = looks (Look p) (p + h.pages) (look-says p) g right whose (past-span z m now g p h head x.full (λ class noscan owner. absurd (clash (wanted-test m h class noscan owner (number-is g whose p h head))))) (ltb (p + h.pages) m.layout.pages) refl where
+      clash : is_wanted m h ≡ true → ⊥
+      clash e = cc
+
+    go : (w : PageWord) → page_of (now.page p) ≡ w → Goes (given (Look p) (after_page m p w)) (after_page m p w)
+    go page.Free e = looks (Look p) (p + 1) (look-says p) g right whose (past-page z m now p x.full (λ h. no-head page.Free h e (λ f. absurd cc))) (ltb (p + 1) m.layout.pages) refl
+    go (page.Body b) e = looks (Look p) (p + 1) (look-says p) g right whose (past-page z m now p x.full (λ h. no-head (page.Body b) h e (λ f. absurd cc))) (ltb (p + 1) m.layout.pages) refl
+    go (page.Head h) e = on-head h e (is_wanted m h) refl
+
+  -- an alloc word of a span that is looked into
+  abbrev slot_at : (p j : ℕ) → ℕ
+  slot_at p j = 1024 * p + j * slot_words_of m.wanted.class
+
+  lacks-none : (p i found : ℕ) → lacks_at m p i found ≡ false → (j : ℕ) → j < slots_of m.wanted.class → slot_at p j / 64 ≡ 16 * p + i → bit_at found (slot_at p j % 64) ≡ 1
+  lacks-none p i found none j few at = elim (eqb_tells (bit_at found (slot_at p j % 64)) 0) [
+    | inl y ↦ absurd (clash ((k.test (slot_words_of m.wanted.class) (slots_of m.wanted.class) (1024 * p) (16 * p + i) found).1 (j, few, record { begins = at; clear = y.1 })))
+    | inr n ↦ omega (arith, n.1, bit_at-lt found (slot_at p j % 64))
+  ] where
+    clash : lacks_at m p i found ≡ true → ⊥
+    clash e = cc
+
+  word-is : (p i : ℕ) (h : SpanHead) → Good z now → Passes z a now m → LooksInto m.wanted (sought m) now p h i → alloc_word m p i ≡ 16 * p + i
+  word-is p i h g whose x =
+      let span = g.spans p h x.unowned.head in
+      rw (whose.layout) (mod-eq_of_lt (omega (arith, span.within, x.within)))
+
+  more-taken : (p i found : ℕ) (h : SpanHead) → found ≡ now.alloc (16 * p + i) → lacks_at m p i found ≡ false → LooksInto m.wanted (sought m) now p h i → TakenBelow m.wanted now.alloc p (i + 1)
+  unfolding row_bit
+  more-taken p i found h is none x j few below = elim (eqb_tells (slot_at p j / 64) (16 * p + i)) [
+    | inl y ↦ rw (y.1) (subst (λ (w : ℕ). bit_at w (slot_at p j % 64) ≡ 1) is (lacks-none p i found none j few y.1))
+    | inr n ↦ x.taken j few (omega (arith, n.1))
+  ]
+
+  all-taken : (p i : ℕ) (h : SpanHead) → Good z now → Passes z a now m → IsUnowned m.wanted now.page p h → 16 * h.pages ≤ i → TakenBelow m.wanted now.alloc p i → IsFull now.alloc p h
+  all-taken p i h g whose x le taken j few =
+      let span = g.spans p h x.head in
+      let counted : slot_count h ≡ slots_of m.wanted.class = rw (x.class) refl in
+      let sized : slot_size h ≡ slot_words_of m.wanted.class = rw (x.class) refl in
+      let some : 0 < slot_size h = rw (sized) (omega (arith, k.least_slot m.wanted.class whose.class)) in
+      let inside = (k.apart z now g).inside p j (1024 * p + j * slot_size h) (slot_size h) 0 h (record { span = span; inside = few; size_is = refl; at = refl }) some in
+      subst (λ (n : ℕ). row_bit now.alloc (1024 * p + j * n) ≡ 1) (sym sized) (taken j (subst (λ (n : ℕ). j < n) counted few) (below (j * slot_words_of m.wanted.class) (subst (λ (n : ℕ). 1024 * p + j * n + 0 < 1024 * (p + h.pages)) sized inside.1))) where
+        below : (y : ℕ) → 1024 * p + y + 0 < 1024 * (p + h.pages) → (1024 * p + y) / 64 < 16 * p + i
+        below y lt = omega (arith, le)
+
+  bits : (p i found : ℕ) (h : SpanHead) → found ≡ now.alloc (16 * p + i) → Good z now → Right a now true held None → Passes z a now m → LooksInto m.wanted (sought m) now p h i → Goes (given (Bits p h i) (goes_at m (Bits p h i) found)) (goes_at m (Bits p h i) found)
+  bits p i found h is g right whose x = go (lacks_at m p i found) refl where
+    more : lacks_at m p i found ≡ false → (b : Bool) → ltb (i + 1) (16 * h.pages) ≡ b → Goes (given (Bits p h i) (cond b (Bits p h (i + 1)) (look_from m (p + h.pages)))) (cond b (Bits p h (i + 1)) (look_from m (p + h.pages)))
+    more none true t = (stays g, right, record { whose = whose-at z a now m (Bits p h (i + 1)) whose; stage = record { unowned = x.unowned; full = x.full; within = ltb-true (i + 1) (16 * h.pages) t; taken = more-taken p i found h is none x } })
+    more none false t = looks (Bits p h i) (p + h.pages) (bits-says p i h) g right whose (past-span z m now g p h x.unowned.head x.full (λ class noscan owner. all-taken p (i + 1) h g whose x.unowned (ltb-false (i + 1) (16 * h.pages) t) (more-taken p i found h is none x))) (ltb (p + h.pages) m.layout.pages) refl
+
+    go : (b : Bool) → lacks_at m p i found ≡ b → Goes (given (Bits p h i) (cond b (Take p h) (cond (ltb (i + 1) (16 * h.pages)) (Bits p h (i + 1)) (look_from m (p + h.pages))))) (cond b (Take p h) (cond (ltb (i + 1) (16 * h.pages)) (Bits p h (i + 1)) (look_from m (p + h.pages))))
+    go true t = (stays g, right, record { whose = whose-at z a now m (Take p h) whose; stage = x.unowned })
+    go false t = more t (ltb (i + 1) (16 * h.pages)) refl
+
+  take : (p : ℕ) (h : SpanHead) → Good z now → Right a now true held None → Passes z a now m → IsUnowned m.wanted now.page p h → Steps z a s (asks (at_stage m (Take p h))) (λ t. KeepsObjects now (view t) × Comes z a now (view t) held (Some (Some p)) (at_stage m Ended))
+  take p h g right whose x = record { move = Own p h; may = may; words_are = ap (λ (n : ℕ). effect s.words (ask.Store (cell.Page p) (head_word (owned_by (n + 1) h)))) (sym whose.seat); after = ((refl, refl), (leaves, right-then, record { h = owned_by (a + 1) h; span = span; class = x.class; noscan = x.noscan; owner = refl }, not-held z a now true held None p g right (ap owner_in x.head ∙ x.owner))) } where
+    may : MayPass now a p h × (h.owner ≡ 0) × (a + 1 < 2 ^ 8)
+    may = (record { locked = right.locked; laying = right.laying; head = x.head }, x.owner, whose.few)
+
+    t : Shared
+    t = moved z a s (Own p h)
+
+    leaves : Leaves now (view t)
+    leaves = (k.leave z a s g).owned p h may
+
+    right-then : Right a (view t) true (update held p true) None
+    right-then = (k.follow z a s true held None right).owned p h
+
+    written : (view t).page p ≡ head_word (owned_by (a + 1) h)
+    written = ap (λ (b : Bool). cond b (head_word (owned_by (a + 1) h)) (now.page p)) (eq-eqb p p refl)
+
+    before : IsSpan z.layout.pages now.page p h
+    before = g.spans p h x.head
+
+    pages-few : h.pages < 2 ^ 13
+    pages-few = omega (arith, before.within, z.layout.limits.pages_fit.1)
+
+    number-few : h.number < 2 ^ 34
+    number-few = omega (arith, g.numbers p h x.head, g.generation)
+
+    span : IsSpan z.layout.pages (view t).page p (owned_by (a + 1) h)
+    span = (k.keep z a s (Own p h) g may).spans p (owned_by (a + 1) h) (ap page_of written ∙ k.packed.page (page.Head (owned_by (a + 1) h)) (record { class = before.fits.class; some = before.fits.some; pages = pages-few; owner = whose.few; number = number-few }))
+
+  own-at : (q : PassStage) → Good z now → Right a now true held None → Facts z a now (at_stage m q) →
+      Steps z a s (asks (at_stage m q)) (λ t. KeepsObjects now (view t) × Comes z a now (view t) held (gives (at_stage m q) (s.words (cell_of (asks (at_stage m q))))) (goes (at_stage m q) (s.words (cell_of (asks (at_stage m q))))))
+  own-at (Look p) g right x = record { move = Quiet (asks (at_stage m (Look p))); may = tt; words_are = refl; after = ((refl, refl), look p g right (whose-of z a now m (Look p) x.whose) x.stage) }
+  own-at (Bits p h i) g right x =
+      let whose = whose-of z a now m (Bits p h i) x.whose in
+      record { move = Quiet (asks (at_stage m (Bits p h i))); may = tt; words_are = refl; after = ((refl, refl), bits p i (s.words (cell.Alloc (alloc_word m p i))) h (ap (λ (n : ℕ). now.alloc n) (word-is p i h g whose x.stage)) g right whose x.stage) }
+  own-at (Take p h) g right x = take p h g right (whose-of z a now m (Take p h) x.whose) x.stage
+  own-at Ended g right x = absurd x.stage
+
+pub own : Known → OwnStep
+own k z a s held m g right x = own-at k z a s held m m.stage g right x
+
+pub passes_by_its_rights : Known → PassesByItsRights
+passes_by_its_rights k = record { opens = opens; own_step = own k; lasts = lasts k }

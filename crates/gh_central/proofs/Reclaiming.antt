@@ -1,0 +1,3 @@
+pub mod Freeing
+pub mod Keeping
+pub mod Stopping

@@ -1,0 +1,90 @@
+-- What is known at each stage of the pass for a swept span while any number of processors change the heap, under which rights, and the two laws: what each step of its own is, and that what is known lasts whatever others do.
+use Rattle.std.specs.Prelude.{◌≡◌, ℕ, ◌+◌, ◌*◌, ◌/◌, ◌^◌, ◌<◌, Bool, true, false, Option, Some, None}
+use Rattle.gh_base.specs.declared.pack.PageWord.TheVariants as page
+use Rattle.gh_base.specs.declared.pack.SpanHead.{SpanHead}
+use Rattle.gh_base.specs.Packing.{page_of}
+use Rattle.gh_base.specs.Rows.{Row, row_bit}
+use Rattle.gh_base.specs.Steps.{cell_of}
+use Rattle.gh_class.specs.declared.class.SizeClass.TheVariants.{Small}
+use Rattle.gh_class.specs.declared.class.SpanClass.{SpanClass}
+use Rattle.gh_class.specs.Classes.{pages_of, slot_words_of, slots_of}
+use Rattle.gh_heap.specs.Moves.{KeepsObjects, Leaves, Others, Steps, update}
+use Rattle.gh_heap.specs.Rights.{Arena, FullBefore, Good, Right, Shared, View, view}
+use Rattle.gh_heap.specs.Spans.{IsSpan}
+use Rattle.gh_central.specs.declared.pass.PassStage.{PassStage}
+use Rattle.gh_central.specs.declared.pass.PassStage.TheVariants.{Look, Bits, Take, Ended}
+use Rattle.gh_central.specs.SweptPass.{Pass, asks, gives, goes}
+
+-- the routine is this seat's, in this arena, and looks for spans of a class there is
+pub record Passes (z : Arena) (a : ℕ) (v : View) (m : Pass) : Type 0 where
+  pub layout : m.layout ≡ z.layout
+  pub seat : m.seat ≡ a
+  pub few : a + 1 < 2 ^ 8
+  pub number : m.generation ≡ v.generation
+  pub class : m.wanted.class < 25
+
+-- the head of a span that it looks for
+abbrev pub sought : Pass → SpanHead
+sought m = record { class = Small m.wanted.class; noscan = m.wanted.noscan; pages = pages_of m.wanted.class; owner = 0; number = m.generation }
+
+-- a span of the span class that nobody owns begins at page p
+pub record IsUnowned (wanted : SpanClass) (page_words : Row) (p : ℕ) (h : SpanHead) : Type 0 where
+  pub head : page_of (page_words p) ≡ page.Head h
+  pub class : h.class ≡ Small wanted.class
+  pub noscan : h.noscan ≡ wanted.noscan
+  pub owner : h.owner ≡ 0
+
+-- each slot of the span at page p is taken whose bit stands before alloc word i of the span
+abbrev pub TakenBelow : SpanClass → (alloc : Row) → (p i : ℕ) → Type 0
+TakenBelow wanted alloc p i = (j : ℕ) → j < slots_of wanted.class → (1024 * p + j * slot_words_of wanted.class) / 64 < 16 * p + i → row_bit alloc (1024 * p + j * slot_words_of wanted.class) ≡ 1
+
+pub record LooksAt (z : Arena) (span : SpanHead) (v : View) (p : ℕ) : Type 0 where
+  pub there : p < z.layout.pages
+  pub full : FullBefore v.page v.alloc span p
+
+pub record LooksInto (wanted : SpanClass) (span : SpanHead) (v : View) (p : ℕ) (h : SpanHead) (i : ℕ) : Type 0 where
+  pub unowned : IsUnowned wanted v.page p h
+  pub full : FullBefore v.page v.alloc span p
+  pub within : i < 16 * h.pages
+  pub taken : TakenBelow wanted v.alloc p i
+
+abbrev pub FactsAt : Arena → Pass → View → PassStage → Type 0
+FactsAt z m v (Look p) = LooksAt z (sought m) v p
+FactsAt z m v (Bits p h i) = LooksInto m.wanted (sought m) v p h i
+FactsAt z m v (Take p h) = IsUnowned m.wanted v.page p h
+FactsAt z m v Ended = ⊥
+
+pub record Facts (z : Arena) (a : ℕ) (v : View) (m : Pass) : Type 0 where
+  pub whose : Passes z a v m
+  pub stage : FactsAt z m v m.stage
+
+-- a span of the span class begins at page p, and this seat owns it
+pub record IsTaken (z : Arena) (a : ℕ) (wanted : SpanClass) (page_words : Row) (p : ℕ) : Type 0 where
+  pub h : SpanHead
+  pub span : IsSpan z.layout.pages page_words p h
+  pub class : h.class ≡ Small wanted.class
+  pub noscan : h.noscan ≡ wanted.noscan
+  pub owner : h.owner ≡ a + 1
+
+-- What a step from v comes to in w, where the seat held those spans: what it leaves to who runs the routine; the right that its seat has then; and the facts of the next stage, or of the end. The span that is taken is not one that it held.
+abbrev pub Comes : Arena → (a : ℕ) → (v w : View) → (ℕ → Bool) → Option (Option ℕ) → Pass → Type 0
+Comes z a v w held None m = Leaves v w × Right a w true held None × Facts z a w m
+Comes z a v w held (Some None) m = Leaves v w × Right a w true held None × FullBefore w.page w.alloc (sought m) z.layout.pages
+Comes z a v w held (Some (Some p)) m = Leaves v w × Right a w true (update held p true) None × IsTaken z a m.wanted w.page p × (held p ≡ false)
+
+abbrev pub Opens : Type 0
+Opens = (z : Arena) (a : ℕ) (v : View) (m : Pass) → Passes z a v m → m.stage ≡ Look 0 → Facts z a v m
+
+-- a step of its own
+abbrev pub OwnStep : Type 0
+OwnStep = (z : Arena) (a : ℕ) (s : Shared) (held : ℕ → Bool) (m : Pass) → Good z (view s) → Right a (view s) true held None → Facts z a (view s) m →
+    Steps z a s (asks m) (λ t. KeepsObjects (view s) (view t) × Comes z a (view s) (view t) held (gives m (s.words (cell_of (asks m)))) (goes m (s.words (cell_of (asks m)))))
+
+-- the steps of others
+abbrev pub Lasts : Type 0
+Lasts = (z : Arena) (a : ℕ) (v w : View) (m : Pass) → Others z a v w → v.locked a ≡ true → Facts z a v m → Facts z a w m
+
+pub record PassesByItsRights : Type 0 where
+  pub opens : Opens
+  pub own_step : OwnStep
+  pub lasts : Lasts

@@ -1,0 +1,96 @@
+-- Pages of empty spans are freed: what is asked for at each stage, where that leads, and what it gives.
+use Rattle.std.specs.Prelude.{ℕ, ◌+◌, ◌*◌, ◌%◌, Bool, true, false, nat_lt, ◌==◌, if◌then◌else◌, Option, Some, None}
+use Rattle.gh_base.specs.declared.cell.Cell.TheVariants as cell
+use Rattle.gh_base.specs.declared.cell.Ask.{Ask}
+use Rattle.gh_base.specs.declared.cell.Ask.TheVariants.{Load, Store}
+use Rattle.gh_base.specs.declared.layout.Layout.{Layout}
+use Rattle.gh_base.specs.declared.pack.PageWord.{PageWord}
+use Rattle.gh_base.specs.declared.pack.PageWord.TheVariants as word
+use Rattle.gh_base.specs.declared.pack.SpanHead.{SpanHead}
+use Rattle.gh_base.specs.Packing.{page_of}
+use Rattle.gh_base.specs.Routines.{Listing}
+use Rattle.gh_central.specs.declared.reclaim.ReclaimStage.{ReclaimStage}
+use Rattle.gh_central.specs.declared.reclaim.ReclaimStage.TheVariants.{Look, Bits, Body, Head, Ended}
+
+-- the sweep generation, and the routine's stage
+pub record Reclaiming : Type 0 where
+  pub layout : Layout
+  pub generation : ℕ
+  pub stage : ReclaimStage
+
+abbrev pub at_stage : Reclaiming → ReclaimStage → Reclaiming
+at_stage m p = record m { stage = p }
+
+-- it has looked at no page
+abbrev pub opening : Layout → (generation : ℕ) → Reclaiming
+opening l generation = record { layout = l; generation = generation; stage = Look 0 }
+
+abbrev pub is_busy : ReclaimStage → Bool
+is_busy Ended = false
+is_busy _ = true
+
+-- the bodies of the span from this distance on are freed, then its head
+abbrev pub free_from : (page pages distance : ℕ) → ReclaimStage
+free_from page pages distance = if nat_lt distance pages then Body page pages distance else Head page pages
+
+module _ (m : Reclaiming) where
+  -- where alloc word i of the span at this page is loaded
+  abbrev pub alloc_word : (page i : ℕ) → ℕ
+  alloc_word page i = (16 * page + i) % (16 * m.layout.pages)
+
+  -- the page at this distance from the head
+  abbrev pub body_page : (page distance : ℕ) → ℕ
+  body_page page distance = (page + distance) % m.layout.pages
+
+  abbrev pub asks_at : ReclaimStage → Ask
+  asks_at (Look page) = Load (cell.Page page)
+  asks_at (Bits page pages i) = Load (cell.Alloc (alloc_word page i))
+  asks_at (Body page pages distance) = Store (cell.Page (body_page page distance)) 0
+  asks_at (Head page pages) = Store (cell.Page page) 0
+  asks_at Ended = Load cell.Touch
+
+  abbrev pub look_from : ℕ → ReclaimStage
+  look_from page = if nat_lt page m.layout.pages then Look page else Ended
+
+  -- a span that nobody owns and that is not swept
+  abbrev pub unswept : ℕ → SpanHead → ReclaimStage
+  unswept page h = look_from (page + h.pages)
+
+  -- a span that nobody owns
+  abbrev pub unowned : ℕ → SpanHead → ReclaimStage
+  unowned page h = if h.number == m.generation then Bits page h.pages 0 else unswept page h
+
+  abbrev pub after_page : ℕ → PageWord → ReclaimStage
+  after_page page word.Free = look_from (page + 1)
+  after_page page (word.Body b) = look_from (page + 1)
+  after_page page (word.Head h) = if h.owner == 0 then unowned page h else look_from (page + h.pages)
+
+  abbrev pub after_bits : (page pages i found : ℕ) → ReclaimStage
+  after_bits page pages i found =
+      if found == 0 then (if nat_lt (i + 1) (16 * pages) then Bits page pages (i + 1) else free_from page pages 1)
+      else look_from (page + pages)
+
+  abbrev pub goes_at : ReclaimStage → ℕ → ReclaimStage
+  goes_at (Look page) found = after_page page (page_of found)
+  goes_at (Bits page pages i) found = after_bits page pages i found
+  goes_at (Body page pages distance) found = free_from page pages (distance + 1)
+  goes_at (Head page pages) found = look_from (page + pages)
+  goes_at Ended found = Ended
+
+-- what it gives by a step from the first stage to the second
+abbrev pub given : ReclaimStage → ReclaimStage → Option (Unit {0})
+given Ended next = None
+given _ next = if is_busy next then None else Some tt
+
+-- the step that it asks for, what it is after the step found this, and what it ends with if that step is its last
+abbrev pub asks : Reclaiming → Ask
+asks m = asks_at m m.stage
+
+abbrev pub goes : Reclaiming → ℕ → Reclaiming
+goes m found = at_stage m (goes_at m m.stage found)
+
+abbrev pub gives : Reclaiming → ℕ → Option (Unit {0})
+gives m found = given m.stage (goes_at m m.stage found)
+
+abbrev pub listing : Listing Reclaiming (Unit {0})
+listing = record { layout = λ m. m.layout; busy = λ m. is_busy m.stage; asks = asks; goes = goes; gives = gives }

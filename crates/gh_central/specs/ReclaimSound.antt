@@ -1,0 +1,22 @@
+-- What the freeing of empty spans knows of its own numbers, whatever it is told.
+use Rattle.std.specs.Prelude.{ℕ, ◌*◌, ◌^◌, ◌<◌, ◌≤◌}
+use Rattle.gh_base.specs.declared.layout.Layout.{Layout}
+use Rattle.gh_central.specs.declared.reclaim.ReclaimStage.{ReclaimStage}
+use Rattle.gh_central.specs.declared.reclaim.ReclaimStage.TheVariants.{Look, Bits, Body, Head, Ended}
+use Rattle.gh_central.specs.Reclaim.{Reclaiming}
+
+-- the page is one of the arena, and a head word has room for the number of pages
+pub record IsSpan (l : Layout) (page pages : ℕ) : Type 0 where
+  pub there : page < l.pages
+  pub some : 1 ≤ pages
+  pub few : pages < 2 ^ 13
+
+abbrev pub IsStage : Layout → ReclaimStage → Type 0
+IsStage l (Look page) = page < l.pages
+IsStage l (Bits page pages i) = IsSpan l page pages × (i < 16 * pages)
+IsStage l (Body page pages distance) = IsSpan l page pages × (distance < pages)
+IsStage l (Head page pages) = IsSpan l page pages
+IsStage l Ended = Unit {0}
+
+abbrev pub Sound : Reclaiming → Type 0
+Sound m = IsStage m.layout m.stage

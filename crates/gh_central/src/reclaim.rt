@@ -1,0 +1,284 @@
+//! The freeing of empty spans.
+
+ghost use Rattle.std.specs.Prelude.{◌≡◌, ◌+◌, ◌*◌, ◌^◌, ◌<◌, ◌≤◌};
+ghost use Rattle.gh_base.specs.Cells.{InRange};
+ghost use Rattle.gh_base.specs.Steps.{cell_of};
+ghost use Rattle.gh_base.specs.Packing.{FitsHead, FitsPage};
+ghost use Rattle.gh_central.specs.Reclaim.{after_bits, after_page, alloc_word, asks, body_page, free_from, given, goes_at, look_from, opening, unowned, unswept};
+
+use gh_base::laws::packed_words_are_read_back;
+use gh_base::limits::MOST_PAGES;
+use gh_base::{Ask, Cell, Layout, Machine, PageWord, Req, SpanHead};
+use std::marker::Model;
+
+/// The stages of the freeing of empty spans.
+#[derive(Clone, Copy, Debug, PartialEq, Eq)]
+pub enum ReclaimStage {
+    /// It looks at a page.
+    Look {
+        /// The page.
+        page: u32,
+    },
+    /// It looks for a set bit in the span whose head it met.
+    Bits {
+        /// The first page of the span.
+        page: u32,
+        /// The pages that its head word was found to say, 1 at least.
+        pages: u32,
+        /// Which of the span's alloc words it loads, below 16 times the span's pages.
+        word: u32,
+    },
+    /// It frees a further page of the span.
+    Body {
+        /// The first page of the span.
+        page: u32,
+        /// The pages of the span.
+        pages: u32,
+        /// The page's distance from the first one.
+        distance: u32,
+    },
+    /// It frees the first page of the span.
+    Head {
+        /// The first page of the span.
+        page: u32,
+        /// The pages of the span.
+        pages: u32,
+    },
+    /// It has ended.
+    Ended,
+}
+
+/// Frees the pages of each empty span (Go's `mheap.reclaim`, which ends in `mheap.freeSpan` for each
+/// span without an object, in mheap.go and mgcsweep.go). Whoever runs it has the heap's lock.
+///
+/// The page words are walked from page 0 on, from head to head. A span that a seat owns is passed
+/// over. Of a swept span that nobody owns the alloc words are loaded one after the other until one
+/// is not 0. Where all are 0, no slot is taken: 0 is stored in the page words of the span, its bodies
+/// first and its head last, so that no page word ever speaks of a head that is not there. A page
+/// whose word is 0 is free, and `Carve` of `gh_pages` may take it. It ends behind the last page.
+#[derive(Clone, Copy)]
+pub struct Reclaim {
+    layout: Layout,
+    generation: u64,
+    stage: ReclaimStage,
+}
+
+impl Model for Reclaim {
+    ghost use Rattle.gh_central.specs.Reclaim.{Reclaiming};
+    ghost use Rattle.gh_central.specs.ReclaimSound.{Sound};
+
+    ghost Value = { Reclaiming };
+
+    ghost view = { λ m. record { layout = m.layout; generation = m.generation; stage = m.stage } };
+
+    ghost invariant = { λ m. Sound (record { layout = m.layout; generation = m.generation; stage = m.stage }) };
+
+    ghost inverse = { λ m. record { layout = m.layout; generation = m.generation; stage = m.stage } };
+}
+
+impl Reclaim {
+    /// Looks for empty spans, from page 0 on. A span is swept where its number is this sweep
+    /// generation.
+    pub fn new(layout: &Layout, generation: u64) -> Reclaim
+        ensures { result ≡ opening layout.now generation }
+    {
+        Reclaim {
+            layout: *layout,
+            generation,
+            stage: ReclaimStage::Look { page: 0 },
+        }
+    }
+
+    /// Where alloc word `word` of the span at this page is loaded.
+    fn alloc_word(&self, page: u32, word: u32) -> u32
+        requires page { page < MOST_PAGES }
+        requires word { word < 2 ^ 17 }
+        ensures is { result ≡ alloc_word self.now page word }
+        ensures within { result < 16 * self.now.layout.pages }
+    {
+        (16 * page + word) % (16 * self.layout.pages)
+    }
+
+    /// The page at this distance from the first page of a span.
+    fn body_page(&self, page: u32, distance: u32) -> u32
+        requires page { page < MOST_PAGES }
+        requires distance { distance < 2 ^ 13 }
+        ensures is { result ≡ body_page self.now page distance }
+        ensures within { result < self.now.layout.pages }
+    {
+        (page + distance) % self.layout.pages
+    }
+
+    /// The step that it asks for.
+    fn ask(&self) -> Ask
+        ensures asks { result ≡ asks self.now }
+        ensures within { InRange self.now.layout (cell_of result) }
+    {
+        match self.stage {
+            ReclaimStage::Look { page } => Ask::Load(Cell::Page(page)),
+            ReclaimStage::Bits { page, word, .. } => {
+                Ask::Load(Cell::Alloc(self.alloc_word(page, word)))
+            }
+            ReclaimStage::Body { page, distance, .. } => {
+                Ask::Store(Cell::Page(self.body_page(page, distance)), 0)
+            }
+            ReclaimStage::Head { page, .. } => Ask::Store(Cell::Page(page), 0),
+            ReclaimStage::Ended => Ask::Load(Cell::Touch),
+        }
+    }
+
+    /// It looks at this page next, if there is one.
+    fn look_from(&self, page: u32) -> ReclaimStage
+        ensures { result ≡ look_from self.now page }
+    {
+        if page < self.layout.pages {
+            ReclaimStage::Look { page }
+        } else {
+            ReclaimStage::Ended
+        }
+    }
+
+    /// It passes over a span that nobody owns and that is not swept: none is there while goroutines
+    /// run, since the world is swept while it is stopped.
+    fn unswept(&self, page: u32, head: &SpanHead) -> ReclaimStage
+        requires page { page < MOST_PAGES }
+        requires fits { FitsHead head.now }
+        ensures { result ≡ unswept self.now page head.now }
+    {
+        self.look_from(page + head.pages)
+    }
+
+    /// Its stage after it met the head of a span that nobody owns.
+    fn unowned(&self, page: u32, head: &SpanHead) -> ReclaimStage
+        requires page { page < MOST_PAGES }
+        requires fits { FitsHead head.now }
+        ensures { result ≡ unowned self.now page head.now }
+    {
+        if head.number == self.generation {
+            ReclaimStage::Bits {
+                page,
+                pages: head.pages,
+                word: 0,
+            }
+        } else {
+            self.unswept(page, head)
+        }
+    }
+
+    /// Its stage after a page was found to be this.
+    fn after_page(&self, page: u32, found: PageWord) -> ReclaimStage
+        requires page { page < MOST_PAGES }
+        requires fits { FitsPage found }
+        ensures { result ≡ after_page self.now page found }
+    {
+        match found {
+            PageWord::Head(head) => {
+                if head.owner == 0 {
+                    self.unowned(page, &head)
+                } else {
+                    self.look_from(page + head.pages)
+                }
+            }
+            PageWord::Free | PageWord::Body(_) => self.look_from(page + 1),
+        }
+    }
+
+    /// Its stage after an alloc word of the span was found to be this.
+    fn after_bits(&self, page: u32, pages: u32, word: u32, found: u64) -> ReclaimStage
+        requires page { page < MOST_PAGES }
+        requires pages { pages < 2 ^ 13 }
+        requires word { word < 16 * pages }
+        ensures { result ≡ after_bits self.now page pages word found }
+    {
+        if found != 0 {
+            self.look_from(page + pages)
+        } else if word + 1 < 16 * pages {
+            ReclaimStage::Bits {
+                page,
+                pages,
+                word: word + 1,
+            }
+        } else {
+            free_from(page, pages, 1)
+        }
+    }
+
+    /// Its stage after its step found this.
+    fn go(&self, found: u64) -> ReclaimStage
+        ensures { result ≡ goes_at self.now self.now.stage found }
+    {
+        match self.stage {
+            ReclaimStage::Look { page } => self.after_page(page, PageWord::unpack(found)),
+            ReclaimStage::Bits { page, pages, word } => self.after_bits(page, pages, word, found),
+            ReclaimStage::Body {
+                page,
+                pages,
+                distance,
+            } => free_from(page, pages, distance + 1),
+            ReclaimStage::Head { page, pages } => self.look_from(page + pages),
+            ReclaimStage::Ended => ReclaimStage::Ended,
+        }
+    }
+}
+
+/// It frees the page at this distance next; behind the last one, the first page.
+fn free_from(page: u32, pages: u32, distance: u32) -> ReclaimStage
+    ensures { result ≡ free_from page pages distance }
+{
+    if distance < pages {
+        ReclaimStage::Body {
+            page,
+            pages,
+            distance,
+        }
+    } else {
+        ReclaimStage::Head { page, pages }
+    }
+}
+
+/// What it gives by a step from the first stage to the second.
+fn given(from: &ReclaimStage, to: &ReclaimStage) -> Option<()>
+    ensures { result ≡ given from.now to.now }
+{
+    match from {
+        ReclaimStage::Ended => None,
+        _ => match to {
+            ReclaimStage::Ended => Some(()),
+            _ => None,
+        },
+    }
+}
+
+impl Machine for Reclaim {
+    ghost use Rattle.std.specs.Prelude.{refl};
+    ghost use Rattle.gh_central.specs.ReclaimEnds as proved;
+    ghost use Rattle.gh_central.specs.Reclaim.{listing};
+
+    type Out = ();
+
+    ghost layout = { listing.layout };
+
+    ghost busy = { listing.busy };
+
+    ghost asks = { listing.asks };
+
+    ghost goes = { listing.goes };
+
+    ghost gives = { listing.gives };
+
+    fn next(&self) -> Req {
+        self.layout.request(self.ask())
+    }
+
+    fn take(&mut self, found: u64) -> Option<()> {
+        packed_words_are_read_back();
+        let to = self.go(found);
+        let out = given(&self.stage, &to);
+        self.stage = to;
+        out
+    }
+
+    ghost ends = { proved.ends };
+
+    ghost stays = { λ _ _. refl };
+}
