@@ -1,2 +1,6 @@
 pub mod Finding
 pub mod Placing
+mod FindLasts
+mod FindRights
+mod PlaceRights
+pub mod Seeking

@@ -20,7 +20,7 @@ begin_busy l (Small c) (Some s) = by (nat_lt s.cursor (slots_of c.class)) where
 begin_busy l (Small c) None = refl
 begin_busy l (Large pages noscan) s = refl
 
-spans_busy : (f : Finding) (w : Sought) → is_busy (spans_for f w) ≡ true
+pub spans_busy : (f : Finding) (w : Sought) → is_busy (spans_for f w) ≡ true
 spans_busy f (Small c) = refl
 spans_busy f (Large pages noscan) = refl
 

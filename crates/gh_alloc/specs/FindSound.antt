@@ -1,17 +1,17 @@
 -- What the search knows of its own numbers, whatever it is told.
 use Rattle.std.specs.Prelude.{◌≡◌, ℕ, ◌+◌, ◌^◌, ◌<◌, ◌≤◌, Option, Some}
 use Rattle.gh_base.specs.Cells.{seats_of}
-use Rattle.gh_class.specs.declared.class.TheConstants.{CLASSES}
+use Rattle.gh_class.specs.declared.class.TheConstants.{CLASSES, MOST_SPAN_PAGES}
 use Rattle.gh_class.specs.declared.class.SizeClass.TheVariants as size
 use Rattle.gh_class.specs.Classes.{pages_of, slots_of}
 use Rattle.gh_alloc.specs.Vocabulary.{Layout, Sought, Small, Large, CachedSpan, After, Again, End, FindStage, Slots, Give, Pass, Carve, Unlock}
 use Rattle.gh_alloc.specs.Find.{Finding, span_for}
 use Rattle.gh_alloc.specs.Within.{LiesWithin}
 
--- a large object has 1 to 64 pages
+-- a large object has 1 to MOST_SPAN_PAGES pages
 abbrev pub FitsPages : Sought → Type 0
 FitsPages (Small c) = Unit {0}
-FitsPages (Large pages noscan) = (1 ≤ pages) × (pages ≤ 64)
+FitsPages (Large pages noscan) = (1 ≤ pages) × (pages ≤ MOST_SPAN_PAGES)
 
 -- and a size class is one of the table's
 abbrev pub IsSought : Sought → Type 0

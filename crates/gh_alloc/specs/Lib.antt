@@ -1,11 +1,17 @@
 pub mod Find
 pub mod FindEnds
+pub mod FindFacts
 pub mod FindSound
 pub mod Locking
 pub mod Making
 pub mod Place
 pub mod PlaceEnds
+pub mod PlaceFacts
 pub mod PlaceSound
 pub mod Refusing
+pub mod Rounds
+pub mod Search
+pub mod SearchEnds
+pub mod SearchSound
 pub mod Vocabulary
 pub mod Within

@@ -7,12 +7,13 @@ ghost use Rattle.gh_alloc.specs.declared.find.FindStage.TheVariants.{Give};
 ghost use Rattle.gh_alloc.specs.declared.sought.Found.TheVariants.{NoRoom};
 ghost use Rattle.gh_alloc.specs.Find.{after_carve, after_give, after_lock, after_pass, after_slots, begin, carving, ended, first_page, given_head, gives, goes, is_busy, locked_for, opening, refuses, search_in, slot_found, spans_for, taken, unlocked, word_at_cursor};
 ghost use Rattle.gh_alloc.specs.FindSound.{FitsPages, IsCached, IsCachedSpan};
+ghost use Rattle.gh_alloc.specs.Search.{again, frees_at, reclaiming};
 ghost use Rattle.gh_alloc.specs.Within.{FitsFrom, FitsGiven, LiesWithin};
 
 use crate::sought::{CachedSpan, Found, Sought, given_head, move_cursor};
 use gh_base::{Ask, Cell, Layout, Machine, Req};
 use gh_cache::NextSlot;
-use gh_central::{GiveBack, SweptPass};
+use gh_central::{GiveBack, Reclaim, SweptPass};
 use gh_class::{Class, SpanClass, size_class_laws};
 use gh_pages::Carve;
 use std::marker::Model;
@@ -117,6 +118,20 @@ impl Find {
     {
         matches!(self.stage, FindStage::Unlock(After::End(Found::NoRoom)))
     }
+
+    /// The next step frees the heap's lock.
+    pub(crate) fn frees_lock(&self) -> bool
+        ensures { result ≡ frees_at self.now.stage }
+    {
+        matches!(self.stage, FindStage::Unlock(_))
+    }
+
+    /// The freeing of empty spans of the same heap.
+    pub(crate) fn reclaim(&self) -> Reclaim
+        ensures { result ≡ reclaiming self.now }
+    {
+        Reclaim::new(&self.layout, self.generation)
+    }
 }
 
 /// Its first stage: the search of the cached span, if a slot is left from its cursor on.
@@ -167,6 +182,13 @@ impl Find {
             )),
             Sought::Large { .. } => self.carving(),
         }
+    }
+
+    /// It goes over to the search for a span.
+    pub(crate) fn look_for_span(&mut self)
+        ensures { self.new ≡ again self.old }
+    {
+        self.stage = self.spans();
     }
 
     /// What follows once it has the lock.
@@ -262,7 +284,7 @@ impl Find {
     {
         if out.is_some() {
             self.cached = None;
-            self.stage = self.spans();
+            self.look_for_span();
         }
     }
 

@@ -1,13 +1,21 @@
 //! Laws of the routines. The functions do nothing; what they ensure is proved.
 
-ghost use Rattle.gh_alloc.specs.Locking.{PagesAreWrittenWithTheLock};
+ghost use Rattle.gh_alloc.specs.FindFacts.{FindsByItsRights};
+ghost use Rattle.gh_alloc.specs.Locking.{PagesAreFreedWithTheLock, PagesAreWrittenWithTheLock};
 ghost use Rattle.gh_alloc.specs.Making.{ObjectsAreMade};
+ghost use Rattle.gh_alloc.specs.PlaceFacts.{PlacesByItsRights};
 ghost use Rattle.gh_alloc.specs.Refusing.{NoRoomIsTrue};
+ghost use Rattle.gh_alloc.specs.Rounds.{NoRoomIsAfterReclaim};
 
 use crate::place::Place;
-use gh_base::laws::{cells_are_told, steps_are_folded};
+use gh_base::laws::{cells_are_told, rows_are_written, steps_are_folded};
 use gh_bitmap::SetPointers;
-use gh_bitmap::laws::pointers_are_set;
+use gh_bitmap::laws::{pointers_are_set, setting_keeps_its_facts};
+use gh_cache::laws::the_search_keeps_its_facts;
+use gh_central::laws::{giving_back_keeps_its_facts, the_pass_keeps_its_facts};
+use gh_class::size_class_laws;
+use gh_heap::laws::{facts_last, rights_follow};
+use gh_pages::laws::the_carve_keeps_its_facts;
 
 /// Whatever the search is told, it writes a page word only between the swap that found the lock free
 /// and the store that frees it; and it has freed the lock when it ends.
@@ -33,3 +41,46 @@ pub fn objects_are_made()
     steps_are_folded::<Place<'_>, ()>();
     steps_are_folded::<SetPointers<'_>, ()>();
 }
+
+/// Whatever any number of processors do beside it: each step of the search, short of the one that finds no
+/// room, is a move that its seat may make, and what is known at each stage holds then and lasts. A slot that
+/// it gives lies in a span that the seat holds, and no object stands there. Where it finds none, no span of
+/// the span class is cached, each that nobody owns is full, and no run of free pages fits.
+pub fn finding_keeps_its_facts()
+    ensures { FindsByItsRights }
+{
+    the_search_keeps_its_facts();
+    the_pass_keeps_its_facts();
+    giving_back_keeps_its_facts();
+    the_carve_keeps_its_facts();
+    rights_follow();
+    facts_last();
+    size_class_laws();
+}
+
+/// Whatever any number of processors do beside it: while the seat claims the slot, each step of the making of an
+/// object is a move that it may make, and what is known at each stage holds then and lasts. The heap that never
+/// frees changes exactly by the store of the alloc bit; at the end the object stands at its place.
+pub fn making_keeps_its_facts()
+    ensures { PlacesByItsRights }
+{
+    rows_are_written();
+    rights_follow();
+    setting_keeps_its_facts();
+    giving_back_keeps_its_facts();
+}
+
+/// Whatever `Search` is told, it writes a page word, also where it frees a page, only between the swap
+/// that found the lock free and the store that frees it; and it has freed the lock when it ends.
+pub fn pages_are_freed_with_the_lock()
+    ensures { PagesAreFreedWithTheLock }
+{}
+
+/// Whatever `Search` is told, it ends with `NoRoom` only where these steps stand one behind the other:
+/// it took the lock; it gave a cached span back, if one was cached; the pass over the spans ended with
+/// none, and then the search for fresh pages; `Reclaim` ran to its end; the pass ended with none once
+/// more, and then the search for fresh pages; it freed the lock. A large object needs no pass. It had
+/// the lock all the while, so that it took it once and freed it once.
+pub fn no_room_is_after_reclaim()
+    ensures { NoRoomIsAfterReclaim }
+{}

@@ -60,7 +60,7 @@ impl<'s> Model for Place<'s> {
 }
 
 impl<'s> Place<'s> {
-    /// Makes an object of this shape and name in the slot of `slot` words, 1 to 65,536, whose first heap
+    /// Makes an object of this shape and name in the slot of `slot` words, 1 to `MOST_TYPE_WORDS`, whose first heap
     /// word is `at`. A large object has a span of its own, and `span` is what that span's head word says.
     pub fn new(
         layout: &Layout,

@@ -19,7 +19,7 @@ pub enum Sought {
     Small(SpanClass),
     /// A large object, in a span of its own.
     Large {
-        /// The pages of the span, 1 to 64.
+        /// The pages of the span, 1 to `MOST_SPAN_PAGES`.
         pages: u32,
         /// That the object has no pointer fields.
         noscan: bool,

@@ -157,3 +157,104 @@ fn makes_an_object(rt: HostRuntime) -> Result<(), Fail> {
     assert!(rt; makes(&mut place, &steps));
     Ok(())
 }
+
+/// Words of a heap of 16 pages whose only span is a large one that nobody owns, on all of them, with this
+/// first alloc word.
+fn one_large_span(alloc: Global, layout: &Layout, bits: u64) -> Result<Vec<u64>, AllocError>
+    requires { layout.now.pages ≡ 16 }
+{
+    let mut words = vec![in alloc; 0u64; layout.word(Cell::Mark(0)) as usize]?;
+    for page in 0..16u32 {
+        let at = layout.word(Cell::Page(page)) as usize;
+        let body = 126 + 512 * u64::from(page);
+        if at < words.len() {
+            words[at] = if page == 0 { 4_294_975_613 } else { body };
+        }
+    }
+    let at = layout.word(Cell::Alloc(0)) as usize;
+    if at < words.len() {
+        words[at] = bits;
+    }
+    Ok(words)
+}
+
+#[test]
+fn frees_empty_spans_for_a_small_object(rt: HostRuntime) -> Result<(), Fail> {
+    let layout = Layout::new(16, 1, 1, 1, 1)?;
+    let mut words = one_large_span(rt.alloc(), &layout, 0)?;
+    let class = Class::from_number(20).ok_or("no class")?;
+    let mut search = Search::new(&layout, 1, 4, without_pointers(&class), None);
+    let steps = run_alone(rt.alloc(), &mut search, &layout, &mut words, 999)?;
+    assert_eq!(rt; (steps.out, steps.lines.len()), (Some(Found::At(0)), 315));
+    for (i, line) in [
+        (0, "swap lock 0 2: 0"),
+        // the pass, and the search for fresh pages
+        (1, "load page 0: 4294975613"),
+        (2, "load page 0: 4294975613"),
+        (3, "load page 1: 638"),
+        (17, "load page 15: 7806"),
+        // the span is empty
+        (18, "load page 0: 4294975613"),
+        (19, "load alloc 0: 0"),
+        (274, "load alloc 255: 0"),
+        (275, "store page 1 0: 638"),
+        (289, "store page 15 0: 7806"),
+        (290, "store page 0 0: 4294975613"),
+        // the pass and the search once more
+        (291, "load page 0: 0"),
+        (306, "load page 15: 0"),
+        (307, "load page 0: 0"),
+        (309, "load page 2: 0"),
+        (310, "store page 1 850: 0"),
+        (311, "store page 2 1362: 0"),
+        (312, "store page 0 4303357777: 0"),
+        (313, "store lock 0: 2"),
+        (314, "load alloc 0: 0"),
+    ] {
+        let there = steps.lines.get(i);
+        assert_eq!(rt; there.map(|step| step.as_str()), Some(line));
+    }
+    assert_eq!(rt; search.cached(), Some(CachedSpan { head: 0, cursor: 0 }));
+    Ok(())
+}
+
+/// A large object of one page.
+fn of_one_page() -> Sought
+    ensures { FitsPages result }
+{
+    Sought::Large {
+        pages: 1,
+        noscan: false,
+    }
+}
+
+#[test]
+fn finds_no_room_behind_a_reclaim(rt: HostRuntime) -> Result<(), Fail> {
+    let layout = Layout::new(16, 1, 1, 1, 1)?;
+    let mut words = one_large_span(rt.alloc(), &layout, 1)?;
+    // the lock, 16 pages, the head and its alloc word, 16 pages, the lock freed
+    let mut search = Search::new(&layout, 1, 4, of_one_page(), None);
+    let mut copy = words.to_vec(rt.alloc())?;
+    let steps = run_alone(rt.alloc(), &mut search, &layout, &mut copy, 35)?;
+    assert_eq!(rt; (steps.out, steps.lines.len()), (None, 35));
+    assert!(rt; search.refuses());
+    let mut again = Search::new(&layout, 1, 4, of_one_page(), None);
+    let steps = run_alone(rt.alloc(), &mut again, &layout, &mut words, 999)?;
+    assert_eq!(rt; (steps.out, steps.lines.len()), (Some(Found::NoRoom), 36));
+    for (i, line) in [
+        (0, "swap lock 0 2: 0"),
+        (1, "load page 0: 4294975613"),
+        (16, "load page 15: 7806"),
+        (17, "load page 0: 4294975613"),
+        (18, "load alloc 0: 1"),
+        (19, "load page 0: 4294975613"),
+        (34, "load page 15: 7806"),
+        (35, "store lock 0: 2"),
+    ] {
+        let there = steps.lines.get(i);
+        assert_eq!(rt; there.map(|step| step.as_str()), Some(line));
+    }
+    laws::pages_are_freed_with_the_lock();
+    laws::no_room_is_after_reclaim();
+    Ok(())
+}

@@ -20,7 +20,7 @@ use Rattle.gh_alloc.specs.Vocabulary.{Layout, Sought, Small, Large, CachedSpan, 
 use Rattle.gh_alloc.specs.Find.{Finding, after_carve, after_give, after_pass, after_slots, asks, asks_at, at_stage, begin, gives_at, goes_at, listing, locked_for, opening, searched, spans_for, taken_for, unlocked}
 use Rattle.gh_alloc.specs.Locking.{WritesWithTheLock, holds, lock_after}
 
-abbrev has_lock : FindStage → Bool
+abbrev pub has_lock : FindStage → Bool
 has_lock (Slots s) = false
 has_lock Lock = false
 has_lock (Give g) = true
@@ -51,7 +51,7 @@ carve_asks c (carve_stage.Head first) held w = refl
 carve_asks c carve_stage.Ended held w = refl
 
 -- where it goes
-begin_without : (l : Layout) (w : Sought) (s : Option CachedSpan) → has_lock (begin l w s) ≡ false
+pub begin_without : (l : Layout) (w : Sought) (s : Option CachedSpan) → has_lock (begin l w s) ≡ false
 begin_without l (Small c) (Some s) = by (nat_lt s.cursor (slots_of c.class)) where
   by : (b : Bool) → has_lock (cond b (Slots (slots.opening l (record { head = s.head; class = c.class; cursor = s.cursor }))) Lock) ≡ false
   by true = refl
@@ -59,15 +59,15 @@ begin_without l (Small c) (Some s) = by (nat_lt s.cursor (slots_of c.class)) whe
 begin_without l (Small c) None = refl
 begin_without l (Large pages noscan) s = refl
 
-unlocked_without : (f : Finding) (after : After) → has_lock (unlocked f after) ≡ false
+pub unlocked_without : (f : Finding) (after : After) → has_lock (unlocked f after) ≡ false
 unlocked_without f Again = begin_without f.layout f.wanted f.cached
 unlocked_without f (End out) = refl
 
-spans_with : (f : Finding) (w : Sought) → has_lock (spans_for f w) ≡ true
+pub spans_with : (f : Finding) (w : Sought) → has_lock (spans_for f w) ≡ true
 spans_with f (Small c) = refl
 spans_with f (Large pages noscan) = refl
 
-locked_with : (f : Finding) (w : Sought) (s : Option CachedSpan) → has_lock (locked_for f w s) ≡ true
+pub locked_with : (f : Finding) (w : Sought) (s : Option CachedSpan) → has_lock (locked_for f w s) ≡ true
 locked_with f (Small c) (Some s) = refl
 locked_with f (Small c) None = refl
 locked_with f (Large pages noscan) s = refl
@@ -76,7 +76,7 @@ taken_with : (f : Finding) (w : Sought) (page : ℕ) → has_lock (taken_for f w
 taken_with f (Small c) page = refl
 taken_with f (Large pages noscan) page = refl
 
-slots_without : (f : Finding) (out : Option (Option ℕ)) → has_lock f.stage ≡ false → has_lock (after_slots f out).stage ≡ false
+pub slots_without : (f : Finding) (out : Option (Option ℕ)) → has_lock f.stage ≡ false → has_lock (after_slots f out).stage ≡ false
 slots_without f None h = h
 slots_without f (Some None) h = refl
 slots_without f (Some (Some slot)) h = refl
@@ -99,7 +99,7 @@ lock_found : (f : Finding) (b : Bool) → cond b true false ≡ has_lock (cond b
 lock_found f true = sym (locked_with f f.wanted f.cached)
 lock_found f false = refl
 
-step : (f : Finding) (p : FindStage) (w : ℕ) → lock_after (has_lock p) (asks_at f p) w ≡ has_lock (goes_at f p w).stage
+pub step : (f : Finding) (p : FindStage) (w : ℕ) → lock_after (has_lock p) (asks_at f p) w ≡ has_lock (goes_at f p w).stage
 step f (Slots s) w = slots_asks s s.stage false w ∙ sym (slots_without (searched f (slots.goes s w)) (slots.gives s w) refl)
 step f Lock w = lock_found f (nat_eq w 0)
 step f (Give g) w = give_asks g g.stage true w ∙ sym (give_with (at_stage f (Give (give.goes g w))) (give.gives g w) refl)
@@ -113,7 +113,7 @@ slots_store : (s : slots.Searching) (p : SlotStage) (page word : ℕ) → slots.
 slots_store s slots_stage.Look page word e = absurd (cc)
 slots_store s slots_stage.Ended page word e = absurd (cc)
 
-store_with : (f : Finding) (p : FindStage) (page word : ℕ) → asks_at f p ≡ Store (cell.Page page) word → has_lock p ≡ true
+pub store_with : (f : Finding) (p : FindStage) (page word : ℕ) → asks_at f p ≡ Store (cell.Page page) word → has_lock p ≡ true
 store_with f (Slots s) page word e = slots_store s s.stage page word e
 store_with f Lock page word e = absurd (cc)
 store_with f (Give g) page word e = refl
@@ -126,7 +126,7 @@ slots_free : (s : slots.Searching) (p : SlotStage) (word : ℕ) → slots.asks_a
 slots_free s slots_stage.Look word e = absurd (cc)
 slots_free s slots_stage.Ended word e = absurd (cc)
 
-free_with : (f : Finding) (p : FindStage) (word : ℕ) → asks_at f p ≡ Store cell.Lock word → has_lock p ≡ true
+pub free_with : (f : Finding) (p : FindStage) (word : ℕ) → asks_at f p ≡ Store cell.Lock word → has_lock p ≡ true
 free_with f (Slots s) word e = slots_free s s.stage word e
 free_with f Lock word e = absurd (cc)
 free_with f (Give g) word e = refl
@@ -151,7 +151,7 @@ carve_swap c (carve_stage.Body first distance) old new e = absurd (cc)
 carve_swap c (carve_stage.Head first) old new e = absurd (cc)
 carve_swap c carve_stage.Ended old new e = absurd (cc)
 
-swap_without : (f : Finding) (p : FindStage) (old new : ℕ) → asks_at f p ≡ Swap cell.Lock old new → has_lock p ≡ false
+pub swap_without : (f : Finding) (p : FindStage) (old new : ℕ) → asks_at f p ≡ Swap cell.Lock old new → has_lock p ≡ false
 swap_without f (Slots s) old new e = refl
 swap_without f Lock old new e = refl
 swap_without f (Give g) old new e = give_swap g g.stage old new e
@@ -160,7 +160,7 @@ swap_without f (Carve c) old new e = carve_swap c c.stage old new e
 swap_without f (Unlock after) old new e = absurd (cc)
 swap_without f Ended old new e = refl
 
-end_without : (f : Finding) (p : FindStage) (w : ℕ) (out : Found) → gives_at f p w ≡ Some out → has_lock (goes_at f p w).stage ≡ false
+pub end_without : (f : Finding) (p : FindStage) (w : ℕ) (out : Found) → gives_at f p w ≡ Some out → has_lock (goes_at f p w).stage ≡ false
 end_without f (Slots s) w out e = slots_without (searched f (slots.goes s w)) (slots.gives s w) refl
 end_without f Lock w out e = absurd (cc)
 end_without f (Give g) w out e = absurd (cc)
@@ -170,11 +170,11 @@ end_without f (Unlock after) w out e = unlocked_without f after
 end_without f Ended w out e = absurd (cc)
 
 module _ (f : Finding) (found : ℕ → ℕ) (start : has_lock f.stage ≡ false) where
-  held_is : (n : ℕ) → holds f found n ≡ has_lock (told listing f found n).stage
+  held_is : (n : ℕ) → holds listing f found n ≡ has_lock (told listing f found n).stage
   held_is zero = sym start
   held_is (suc n) = ap (λ (b : Bool). lock_after b (asks (told listing f found n)) (found n)) (held_is n) ∙ step (told listing f found n) (told listing f found n).stage (found n)
 
-  pub with_the_lock : WritesWithTheLock f found
+  pub with_the_lock : WritesWithTheLock listing f found
   with_the_lock = record {
     asks_without = λ n old new e. held_is n ∙ swap_without (told listing f found n) (told listing f found n).stage old new e;
     writes_with = λ n page word e. held_is n ∙ store_with (told listing f found n) (told listing f found n).stage page word e;
@@ -182,5 +182,5 @@ module _ (f : Finding) (found : ℕ → ℕ) (start : has_lock f.stage ≡ false
     ends_without = λ n out e. held_is (suc n) ∙ end_without (told listing f found n) (told listing f found n).stage (found n) out e;
   }
 
-pub written_with_the_lock : (l : Layout) (seat generation : ℕ) (wanted : Sought) (cached : Option CachedSpan) (found : ℕ → ℕ) → WritesWithTheLock (opening l seat generation wanted cached) found
+pub written_with_the_lock : (l : Layout) (seat generation : ℕ) (wanted : Sought) (cached : Option CachedSpan) (found : ℕ → ℕ) → WritesWithTheLock listing (opening l seat generation wanted cached) found
 written_with_the_lock l seat generation wanted cached found = with_the_lock (opening l seat generation wanted cached) found (begin_without l wanted cached)

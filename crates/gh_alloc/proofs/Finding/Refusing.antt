@@ -40,7 +40,7 @@ refusal_gives f (Carve c) w h = absurd (cc)
 refusal_gives f (Unlock after) w h = after_gives after h
 refusal_gives f Ended w h = absurd (cc)
 
-giver_refuses : (f : Finding) (p : FindStage) (w : ℕ) → gives_at f p w ≡ Some NoRoom → IsTrue (refuses_at p)
+pub giver_refuses : (f : Finding) (p : FindStage) (w : ℕ) → gives_at f p w ≡ Some NoRoom → IsTrue (refuses_at p)
 giver_refuses f (Slots s) w e = absurd (slot_is_room (searched f (slots.goes s w)) (slots.gives s w) e)
 giver_refuses f Lock w e = absurd (cc)
 giver_refuses f (Give x) w e = absurd (cc)
@@ -53,16 +53,16 @@ pub refuses_exactly : (f : Finding) (b : Bool) → b ≡ refuses f → (w : ℕ)
 refuses_exactly f b is w = (λ h. refusal_gives f f.stage w (sym is ∙ h), λ e. is ∙ giver_refuses f f.stage w e)
 
 -- what stays
-record Base : Type 0 where
-  layout : Layout
-  seat : ℕ
-  generation : ℕ
-  wanted : Sought
+pub record Base : Type 0 where
+  pub layout : Layout
+  pub seat : ℕ
+  pub generation : ℕ
+  pub wanted : Sought
 
-abbrev base : Finding → Base
+abbrev pub base : Finding → Base
 base g = record { layout = g.layout; seat = g.seat; generation = g.generation; wanted = g.wanted }
 
-taken_base : (g : Finding) (w : Sought) (page : ℕ) → base (taken_for g w page) ≡ base g
+pub taken_base : (g : Finding) (w : Sought) (page : ℕ) → base (taken_for g w page) ≡ base g
 taken_base g (Small c) page = refl
 taken_base g (Large pages noscan) page = refl
 
@@ -85,7 +85,7 @@ carve_base g None = refl
 carve_base g (Some None) = refl
 carve_base g (Some (Some page)) = taken_base g g.wanted page
 
-goes_base : (g : Finding) (p : FindStage) (w : ℕ) → base (goes_at g p w) ≡ base g
+pub goes_base : (g : Finding) (p : FindStage) (w : ℕ) → base (goes_at g p w) ≡ base g
 goes_base g (Slots s) w = slots_base (searched g (slots.goes s w)) (slots.gives s w)
 goes_base g Lock w = refl
 goes_base g (Give x) w = give_base (at_stage g (Give (give.goes x w))) (give.gives x w)

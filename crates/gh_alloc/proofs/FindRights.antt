@@ -1,0 +1,549 @@
+-- The search's own steps are moves that its rights allow, and where it finds no room there is none. Of the heap and of its routines it is known what their laws say.
+use Rattle.std.proofs.Common.{◌≡◌, ℕ, ◌+◌, ◌*◌, ◌/◌, ◌^◌, ◌<◌, ◌≤◌, Bool, true, false, cond, eqb, ltb, inl, inr, Option, Some, None, refl, sym, ap, subst, ◌∙◌, arith}
+use Rattle.std.proofs.lemmas.Bool.{eqb-true, eq-eqb, le-leb, ltb-true, ltb-false}
+use Rattle.std.proofs.lemmas.Bool.Decides.{eqb_tells}
+use Rattle.gh_base.specs.declared.cell.Ask.TheVariants as ask
+use Rattle.gh_base.specs.declared.cell.Cell.TheVariants as cell
+use Rattle.gh_base.specs.declared.layout.Layout.{Layout}
+use Rattle.gh_base.specs.declared.pack.SpanHead.{SpanHead}
+use Rattle.gh_base.specs.Cells.{Words, put}
+use Rattle.gh_base.specs.Rows.{Row, row_bit}
+use Rattle.gh_base.specs.Steps.{cell_of}
+use Rattle.gh_class.specs.declared.class.SizeClass.{SizeClass}
+use Rattle.gh_class.specs.declared.class.SizeClass.TheVariants as size
+use Rattle.gh_class.specs.Classes.{pages_of, slot_words_of, slots_of}
+use Rattle.gh_heap.specs.Moves.{KeepsObjects, Lands, Leaves, LeaveLock, May, Move, Quiet, Steps, TakeLock, moved, update}
+use Rattle.gh_heap.specs.Rights.{Arena, FullBefore, Good, Right, Shared, View, view}
+use Rattle.gh_heap.specs.Spans.{FitsClass, IsFull, IsSpan, number_of, owned_by, slot_count, slot_size}
+use Rattle.gh_cache.specs.Facts as searching
+use Rattle.gh_cache.specs.Listing as slots
+use Rattle.gh_cache.specs.declared.next_slot.SlotStage.TheVariants as slot_stage
+use Rattle.gh_central.specs.GiveBack as give
+use Rattle.gh_central.specs.PassFacts as passing
+use Rattle.gh_central.specs.SweptPass as pass
+use Rattle.gh_pages.specs.declared.carve.CarveStage.{CarveStage}
+use Rattle.gh_pages.specs.Facts as carving
+use Rattle.gh_pages.specs.Listing as carve
+use Rattle.gh_alloc.specs.Vocabulary.{SpanClass, Sought, Small, Large, CachedSpan, At, NoRoom, Again, End, FindStage, Slots, Lock, Give, Pass, Carve, Unlock, Ended}
+use Rattle.gh_alloc.specs.Find.{Finding, after_carve, after_pass, after_slots, asks, begin, first_page, given_head, gives, goes, locked_for, refuses_at, searched, slot_found, span_at, span_for, spans_for, taken_for}
+use Rattle.gh_alloc.specs.FindFacts.{Caches, Comes, Facts, FactsAt, FindsByItsRights, FindsNone, IsCached, IsCachedFor, IsUsedUp, NoneIsTrue, NoneLeft, Opens, OwnsLarge, OwnStep, Seeks, carve_at, head_for, head_of, held, is_locked, laying, own, pass_at, with_span}
+use Rattle.gh_alloc.specs.FindSound.{IsSought}
+use Rattle.gh_alloc.proofs.FindLasts.{Known, lasts}
+
+-- What its own steps keep.
+
+-- the sweep generation is as it was
+abbrev Kept : Shared → Shared → Type 0
+Kept s t = (view t).generation ≡ (view s).generation
+
+kept : Known → (z : Arena) (a : ℕ) (s : Shared) (m : Move) → Good z (view s) → May z a (view s) m → Kept s (moved z a s m)
+kept k z a s m g may = (k.own z a s m g may).generation
+
+-- what follows from a routine's step
+lands : Known → (z : Arena) (a : ℕ) (s : Shared) (words : Words) (Then So : Shared → Type 0) → Good z (view s) → ((t : Shared) → Kept s t → Then t → So t) → Lands z a s words Then → Lands z a s words So
+lands k z a s words Then So g f x = record { move = x.move; may = x.may; words_are = x.words_are; after = f (moved z a s x.move) (kept k z a s x.move g x.may) x.after }
+
+-- Where it finds none.
+
+refuses-at : (z : Arena) (a : ℕ) (v : View) (f : Finding) (q : FindStage) → refuses_at q ≡ true → FactsAt z a v f q → FindsNone z v f × (q ≡ Unlock (End NoRoom))
+refuses-at z a v f (Slots s) e x = absurd (cc)
+refuses-at z a v f Lock e x = absurd (cc)
+refuses-at z a v f (Give g) e x = absurd (cc)
+refuses-at z a v f (Pass p) e x = absurd (cc)
+refuses-at z a v f (Carve m) e x = absurd (cc)
+refuses-at z a v f (Unlock Again) e x = absurd (cc)
+refuses-at z a v f (Unlock (End (At y))) e x = absurd (cc)
+refuses-at z a v f (Unlock (End NoRoom)) e x = (x, refl)
+refuses-at z a v f Ended e x = absurd x
+
+finds-none : NoneIsTrue
+finds-none z a v rest f x e = let y = refuses-at z a v f f.stage e x.stage in record { none = y.0; stage = y.1 }
+
+-- Numbers.
+
+fits-class : Known → (seat generation : ℕ) (wanted : Sought) → IsSought wanted → FitsClass (record { class = (span_for wanted).class; noscan = (span_for wanted).noscan; pages = (span_for wanted).pages; owner = seat; number = generation })
+fits-class k seat generation (Small c) x = record { some = k.some_page c.class x; class = x; small = λ ne. refl }
+fits-class k seat generation (Large pages noscan) x = record { some = x.0; class = tt; small = λ ne. absurd (ne refl) }
+
+few-pages : Known → (wanted : Sought) → IsSought wanted → (span_for wanted).pages < 2 ^ 13
+few-pages k (Small c) x = omega (arith, k.few_pages c.class x)
+few-pages k (Large pages noscan) x = omega (arith, x.1)
+
+is-class : (wanted : Sought) → (c : SpanClass) → wanted ≡ Small c → IsSought wanted → c.class < 25
+is-class wanted c e x = subst IsSought e x
+
+-- a page from which the span fits is read as it is
+first-is : (f : Finding) (pages at : ℕ) → at + pages ≤ f.layout.pages → first_page f pages at ≡ at
+first-is f pages at le = ap (λ (b : Bool). cond b at 0) (le-leb (at + pages) f.layout.pages le)
+
+-- Slots.
+
+some-is : (x y : CachedSpan) → Some x ≡ Some y → x ≡ y
+some-is x y e = cc
+
+abbrev Apart : (ℕ → Bool) → Option CachedSpan → Type 0
+Apart rest cached = (x : CachedSpan) → cached ≡ Some x → rest x.head ≡ false
+
+is-apart : (rest : ℕ → Bool) (x : CachedSpan) → rest x.head ≡ false → Apart rest (Some x)
+is-apart rest x e y f = subst (λ (c : CachedSpan). rest c.head ≡ false) (some-is x y f) e
+
+none-apart : (rest : ℕ → Bool) → Apart rest None
+none-apart rest y f = absurd (cc)
+
+abbrev OwnApart : (ℕ → Bool) → Option ℕ → Type 0
+OwnApart rest p = (q : ℕ) → p ≡ Some q → rest q ≡ false
+
+none-own : (rest : ℕ → Bool) → OwnApart rest None
+none-own rest q e = absurd (cc)
+
+is-own : (rest : ℕ → Bool) (p : ℕ) → rest p ≡ false → OwnApart rest (Some p)
+is-own rest p e q f = subst (λ (i : ℕ). rest i ≡ false) (same p q f) e where
+  same : (p q : ℕ) → Some p ≡ Some q → p ≡ q
+  same p q f = cc
+
+-- of a span that is full the slots are taken, and the other way
+taken-of : (alloc : Row) (h : SpanHead) (p c : ℕ) → h.class ≡ size.Small c → IsFull alloc p h → (j : ℕ) → j < slots_of c → row_bit alloc (1024 * p + j * slot_words_of c) ≡ 1
+taken-of alloc h p c e full j few =
+    let counted : slot_count h ≡ slots_of c = rw (e) refl in
+    let sized : slot_size h ≡ slot_words_of c = rw (e) refl in
+    subst (λ (n : ℕ). row_bit alloc (1024 * p + j * n) ≡ 1) sized (full j (subst (λ (n : ℕ). j < n) (sym counted) few))
+
+full-of : (alloc : Row) (h : SpanHead) (p c : ℕ) → h.class ≡ size.Small c → ((j : ℕ) → j < slots_of c → row_bit alloc (1024 * p + j * slot_words_of c) ≡ 1) → IsFull alloc p h
+full-of alloc h p c e taken j few =
+    let counted : slot_count h ≡ slots_of c = rw (e) refl in
+    let sized : slot_size h ≡ slot_words_of c = rw (e) refl in
+    subst (λ (n : ℕ). row_bit alloc (1024 * p + j * n) ≡ 1) (sym sized) (taken j (subst (λ (n : ℕ). j < n) counted few))
+
+used-up : (w v : Sought) (c d : Option CachedSpan) → w ≡ v → c ≡ d → IsUsedUp v d → IsUsedUp w c
+used-up w v c d e f x = subst (λ (u : Sought). IsUsedUp u c) (sym e) (subst (λ (b : Option CachedSpan). IsUsedUp v b) (sym f) x)
+
+-- a search begins with the cached span, or else with the lock
+module _ (z : Arena) (a : ℕ) (v : View) (rest : ℕ → Bool) (f : Finding) where
+  abbrev Stands : FindStage → Type 0
+  Stands q = Right a v (is_locked q) (with_span (own q) (with_span (head_of f.cached) rest)) (laying q) × FactsAt z a v f q × OwnApart rest (own q)
+
+  begins : (wanted : Sought) (cached : Option CachedSpan) → f.wanted ≡ wanted → f.cached ≡ cached → Caches a v wanted cached → Right a v false (with_span (head_of f.cached) rest) None → Stands (begin f.layout wanted cached)
+  begins (Small c) (Some x) w y caches right = go (ltb x.cursor (slots_of c.class)) refl where
+    go : (b : Bool) → ltb x.cursor (slots_of c.class) ≡ b → Stands (cond b (Slots (slots.opening f.layout (span_at c.class x))) Lock)
+    go true e = (right, record { c = c; k = x; for = record { wanted = w; cached = y }; is = refl; left = ltb-true x.cursor (slots_of c.class) e }, none-own rest)
+    go false e = (right, used-up f.wanted (Small c) f.cached (Some x) w y (ltb-false x.cursor (slots_of c.class) e), none-own rest)
+  begins (Small c) None w y caches right = (right, used-up f.wanted (Small c) f.cached None w y tt, none-own rest)
+  begins (Large pages noscan) (Some x) w y caches right = absurd caches
+  begins (Large pages noscan) None w y caches right = (right, used-up f.wanted (Large pages noscan) f.cached None w y tt, none-own rest)
+
+opens : Opens
+opens z a v rest f seeks caches apart right e =
+    let at : f.stage ≡ begin f.layout f.wanted f.cached = ap (λ (g : Finding). g.stage) e in
+    let x : Stands z a v rest f f.stage = subst (λ (q : FindStage). Stands z a v rest f q) (sym at) (begins z a v rest f f.wanted f.cached refl refl caches right) in
+    (x.0, record { seeks = seeks; caches = caches; apart = apart; own_apart = x.2; stage = x.1 })
+
+-- The own steps.
+
+module _ (k : Known) (z : Arena) (a : ℕ) (s : Shared) (rest : ℕ → Bool) (l : Layout) (e n : ℕ) where
+  abbrev now : View
+  now = view s
+
+  abbrev at : Sought → Option CachedSpan → FindStage → Finding
+  at w c q = record { layout = l; seat = e; generation = n; wanted = w; cached = c; stage = q }
+
+  -- whose search it is, at any stage
+  abbrev Whose : Sought → Type 0
+  Whose w = Seeks z a now (at w None Lock)
+
+  whose-of : (w : Sought) (c : Option CachedSpan) (q : FindStage) → Seeks z a now (at w c q) → Whose w
+  whose-of w c q x = record { layout = x.layout; seat = x.seat; few = x.few; number = x.number; wanted = x.wanted }
+
+  seeks-at : (w : Sought) (c : Option CachedSpan) (q : FindStage) (t : Shared) → Kept s t → Whose w → Seeks z a (view t) (at w c q)
+  seeks-at w c q t same x = record { layout = x.layout; seat = x.seat; few = x.few; number = x.number ∙ sym same; wanted = x.wanted }
+
+  -- it goes on
+  abbrev On : Shared → Finding → Type 0
+  On t f = Right a (view t) (is_locked f.stage) (held f rest) (laying f.stage) × Facts z a (view t) rest f
+
+  abbrev Step : Finding → Type 0
+  Step f = Steps z a s (asks f) (λ t. KeepsObjects now (view t) × Comes z a (view t) rest (gives f (s.words (cell_of (asks f)))) (goes f (s.words (cell_of (asks f)))))
+
+  -- The cached span is searched.
+
+  abbrev start : SpanClass → CachedSpan → slots.Searching
+  start c x = slots.opening l (span_at c.class x)
+
+  abbrev next : SpanClass → CachedSpan → Bool → slots.Searching
+  next c x d = record { layout = l; span = record { head = x.head; class = c.class; cursor = x.cursor + 1 }; stage = cond d slot_stage.Look slot_stage.Ended }
+
+  -- by the tests that the slot at the cursor is clear and that one stands behind it
+  abbrev After : SpanClass → CachedSpan → (b d : Bool) → slots.Searching
+  After c x b d = cond b (slots.at_stage (start c x) slot_stage.Ended) (next c x d)
+
+  abbrev Given : CachedSpan → (b d : Bool) → Option (Option ℕ)
+  Given x b d = cond b (Some (Some x.cursor)) (cond d None (Some None))
+
+  abbrev From : SpanClass → CachedSpan → (b d : Bool) → Finding
+  From c x b d = searched (at (Small c) (Some x) (Slots (start c x))) (After c x b d)
+
+  slots-then : (c : SpanClass) (x : CachedSpan) (found : ℕ) (t : Shared) → Kept s t → Whose (Small c) → rest x.head ≡ false → x.cursor < slots_of c.class → Right a (view t) false (update rest x.head true) None →
+      searching.Comes z a (view t) c.noscan (slots.gives (start c x) found) (slots.goes (start c x) found) →
+      Comes z a (view t) rest (slot_found (searched (at (Small c) (Some x) (Slots (start c x))) (slots.goes (start c x) found)) (slots.gives (start c x) found)) (after_slots (searched (at (Small c) (Some x) (Slots (start c x))) (slots.goes (start c x) found)) (slots.gives (start c x) found))
+  slots-then c x found t same whose apart left right r = go (slots.is_found (start c x) found) (ltb (x.cursor + 1) (slots_of c.class)) refl r where
+    go : (b d : Bool) → ltb (x.cursor + 1) (slots_of c.class) ≡ d → searching.Comes z a (view t) c.noscan (Given x b d) (After c x b d) → Comes z a (view t) rest (slot_found (From c x b d) (Given x b d)) (after_slots (From c x b d) (Given x b d))
+    go true d is y = record {
+      right = right;
+      caches = record { span = y.span_held; few = omega (arith, left); taken = y.taken };
+      apart = is-apart rest x apart;
+      own_apart = none-own rest;
+      found = record { claim = y.claim; class = y.class; noscan_is = y.noscan_is };
+    }
+    go false true is y = (
+      right,
+      record {
+        seeks = seeks-at (Small c) (Some (record x { cursor = x.cursor + 1 })) (Slots (next c x true)) t same whose;
+        caches = record { span = y.span; few = omega (arith, y.cursor); taken = y.taken };
+        apart = is-apart rest (record x { cursor = x.cursor + 1 }) apart;
+        own_apart = none-own rest;
+        stage = record { c = c; k = record x { cursor = x.cursor + 1 }; for = record { wanted = refl; cached = refl }; is = refl; left = y.cursor };
+      },
+    )
+    go false false is y = (
+      right,
+      record {
+        seeks = seeks-at (Small c) (Some (record x { cursor = x.cursor + 1 })) Lock t same whose;
+        caches = record { span = y.span_held; few = omega (arith, left); taken = λ j lt. taken-of (view t).alloc y.span_held.h x.head c.class y.span_held.class y.full j (omega (arith, left, lt)) };
+        apart = is-apart rest (record x { cursor = x.cursor + 1 }) apart;
+        own_apart = none-own rest;
+        stage = ltb-false (x.cursor + 1) (slots_of c.class) is;
+      },
+    )
+
+  slots-own : (c : SpanClass) (x : CachedSpan) → Good z now → Whose (Small c) → IsCached a now c x → rest x.head ≡ false → x.cursor < slots_of c.class → Right a now false (update rest x.head true) None → Step (at (Small c) (Some x) (Slots (start c x)))
+  slots-own c x good whose y apart left right =
+      lands k z a s _ _ _ good (λ t same r. (r.0, slots-then c x (s.words (cell_of (slots.asks (start c x)))) t same whose apart left r.1 r.2))
+      (k.search.own_step z a s false (update rest x.head true) None c.noscan (start c x) good right (record { layout = whose.layout; span = y.span; stage = refl; cursor = left; taken = y.taken }))
+
+  -- With the lock.
+
+  carves : (w : Sought) (t : Shared) → Good z now → Kept s t → Whose w → carving.Carves z a (view t) (carve.opening l e n (span_for w))
+  carves w t good same whose = record {
+    layout = whose.layout;
+    seat = whose.seat;
+    number = whose.number ∙ sym same;
+    class = fits;
+    word = record { class = fits.class; some = fits.some; pages = few-pages k w whose.wanted; owner = omega (arith, whose.few, whose.seat); number = omega (arith, whose.number, good.generation) };
+  } where
+    fits : FitsClass (carve.fresh_head (carve.opening l e n (span_for w)))
+    fits = fits-class k (e + 1) n w whose.wanted
+
+  carve-then : (w : Sought) (t : Shared) → Good z now → Kept s t → Whose w → NoneLeft z (view t) (at w None Lock) w → Right a (view t) true rest None → On t (at w None (Carve (carve.opening l e n (span_for w))))
+  carve-then (Small c) t good same whose none right = (
+    right,
+    record {
+      seeks = seeks-at (Small c) None (Carve (carve.opening l e n (span_for (Small c)))) t same whose;
+      caches = tt;
+      apart = none-apart rest;
+      own_apart = none-own rest;
+      stage = record { cached = refl; none = none; is = refl; facts = k.carve.opens z a (view t) (carve.opening l e n (span_for (Small c))) (carves (Small c) t good same whose) refl };
+    },
+  )
+  carve-then (Large pages noscan) t good same whose none right = (
+    right,
+    record {
+      seeks = seeks-at (Large pages noscan) None (Carve (carve.opening l e n (span_for (Large pages noscan)))) t same whose;
+      caches = tt;
+      apart = none-apart rest;
+      own_apart = none-own rest;
+      stage = record { cached = refl; none = none; is = refl; facts = k.carve.opens z a (view t) (carve.opening l e n (span_for (Large pages noscan))) (carves (Large pages noscan) t good same whose) refl };
+    },
+  )
+
+  spans-then : (w : Sought) (t : Shared) → Good z now → Kept s t → Whose w → Right a (view t) true rest None → On t (at w None (spans_for (at w None Lock) w))
+  spans-then (Small c) t good same whose right = (
+    right,
+    record {
+      seeks = seeks-at (Small c) None (Pass (pass.opening l e n c)) t same whose;
+      caches = tt;
+      apart = none-apart rest;
+      own_apart = none-own rest;
+      stage = record {
+        c = c;
+        wanted = refl;
+        cached = refl;
+        is = refl;
+        facts = k.pass.opens z a (view t) (pass.opening l e n c) (record { layout = whose.layout; seat = whose.seat; few = whose.few; number = whose.number ∙ sym same; class = whose.wanted }) refl;
+      };
+    },
+  )
+  spans-then (Large pages noscan) t good same whose right = carve-then (Large pages noscan) t good same whose tt right
+
+  locked-then : (w : Sought) (c : Option CachedSpan) (t : Shared) → Good z now → Kept s t → Whose w → Caches a (view t) w c → Apart rest c → IsUsedUp w c → Right a (view t) true (with_span (head_of c) rest) None → On t (at w c (locked_for (at w c Lock) w c))
+  locked-then (Small c) (Some x) t good same whose caches apart used right = (
+    right,
+    record {
+      seeks = seeks-at (Small c) (Some x) (Give (give.opening l x.head (given_head n c))) t same whose;
+      caches = caches;
+      apart = apart;
+      own_apart = none-own rest;
+      stage = record { c = c; k = x; for = record { wanted = refl; cached = refl }; is = refl; used = used };
+    },
+  )
+  locked-then (Small c) None t good same whose caches apart used right = spans-then (Small c) t good same whose right
+  locked-then (Large pages noscan) (Some x) t good same whose caches apart used right = absurd caches
+  locked-then (Large pages noscan) None t good same whose caches apart used right = spans-then (Large pages noscan) t good same whose right
+
+  -- the lock's word is written: what is cached stays
+  caches-with : (w : Sought) (c : Option CachedSpan) (lock : ℕ) (locked : ℕ → Bool) → Caches a now w c → Caches a (record now { lock = lock; locked = locked }) w c
+  caches-with (Small c) (Some x) lock locked y = record { span = record { h = y.span.h; head = y.span.head; class = y.span.class; noscan_is = y.span.noscan_is; held = y.span.held }; few = y.few; taken = y.taken }
+  caches-with (Small c) None lock locked y = y
+  caches-with (Large pages noscan) (Some x) lock locked y = y
+  caches-with (Large pages noscan) None lock locked y = y
+
+  lock-own : (w : Sought) (c : Option CachedSpan) → Good z now → Whose w → Caches a now w c → Apart rest c → IsUsedUp w c → Right a now false (with_span (head_of c) rest) None → Step (at w c Lock)
+  lock-own w c good whose caches apart used right = go (eqb (s.words cell.Lock) 0) refl where
+    go : (b : Bool) → eqb (s.words cell.Lock) 0 ≡ b → Lands z a s (cond b (put s.words cell.Lock (e + 1)) s.words) (λ t. KeepsObjects now (view t) × On t (at w c (cond b (locked_for (at w c Lock) w c) Lock)))
+    go true is = record {
+      move = TakeLock;
+      may = eqb-true (s.words cell.Lock) 0 is;
+      words_are = ap (λ (m : ℕ). put s.words cell.Lock (m + 1)) (sym whose.seat);
+      after = ((refl, refl), locked-then w c (moved z a s TakeLock) good refl whose (caches-with w c (a + 1) (update s.locked a true) caches) apart used (k.follow z a s false (with_span (head_of c) rest) None right).taken);
+    }
+    go false is = record {
+      move = Quiet (ask.Load cell.Lock);
+      may = tt;
+      words_are = refl;
+      after = ((refl, refl), (right, record { seeks = seeks-at w c Lock s refl whose; caches = caches; apart = apart; own_apart = none-own rest; stage = used }));
+    }
+
+  -- The cached span is given back.
+
+  given-back : (p : ℕ) → rest p ≡ false → (q : ℕ) → update (update rest p true) p false q ≡ rest q
+  given-back p apart q = elim (eqb_tells p q) [
+    | inl y ↦ ap (λ (b : Bool). cond b false (cond b true (rest q))) y.0 ∙ sym (subst (λ (i : ℕ). rest i ≡ false) y.1 apart)
+    | inr m ↦ ap (λ (b : Bool). cond b false (cond b true (rest q))) m.0
+  ]
+
+  head-is : (h : SpanHead) (c : SpanClass) → h.class ≡ size.Small c.class → h.noscan ≡ c.noscan → h.pages ≡ pages_of c.class → h.number ≡ n → owned_by 0 h ≡ given_head n c
+  head-is h c class noscan pages number = rw (class, noscan, pages, number) refl
+
+  small-pages : (h : SpanHead) (c : ℕ) → FitsClass h → h.class ≡ size.Small c → h.pages ≡ pages_of c
+  small-pages h c fits class = fits.small (λ x. small-large c (sym class ∙ x)) ∙ ap (λ (y : SizeClass). pages_of (number_of y)) class where
+    small-large : (c : ℕ) → size.Small c ≡ size.Large → ⊥
+    small-large c x = cc
+
+  give-own : (c : SpanClass) (x : CachedSpan) → Good z now → Whose (Small c) → IsCached a now c x → rest x.head ≡ false → slots_of c.class ≤ x.cursor → Right a now true (update rest x.head true) None → Step (at (Small c) (Some x) (Give (give.opening l x.head (given_head n c))))
+  give-own c x good whose y apart used right =
+      lands k z a s _ _ _ good (λ t same r. (r.0, spans-then (Small c) t good same whose (record { locked = r.2.locked; holds = λ q. r.2.holds q ∙ given-back x.head apart q; laying = r.2.laying })))
+      (k.give.gives z a s (update rest x.head true) (give.opening l x.head (given_head n c)) good right (record {
+        stage = refl;
+        h = y.span.h;
+        head = y.span.head;
+        same = head-is y.span.h c y.span.class y.span.noscan_is (small-pages y.span.h c.class (good.spans x.head y.span.h y.span.head).fits y.span.class) (good.numbers x.head y.span.h y.span.head ∙ sym whose.number);
+        held = y.span.held;
+        full = full-of now.alloc y.span.h x.head c.class y.span.class (λ j lt. y.taken j (omega (arith, lt, used)));
+      }))
+
+  -- A span is taken.
+
+  cached-then : (c : SpanClass) (p : ℕ) (h : SpanHead) (m : FindStage) (t : Shared) → Kept s t → Whose (Small c) → IsSpan z.layout.pages (view t).page p h → h.class ≡ size.Small c.class → h.noscan ≡ c.noscan → Right a (view t) true (update rest p true) None → rest p ≡ false → On t (taken_for (at (Small c) None m) (Small c) p)
+  cached-then c p h m t same whose span class noscan right apart = subst (λ (i : ℕ). On t (at (Small c) (Some (record { head = i; cursor = 0 })) (Unlock Again))) (sym first) (
+    right,
+    record {
+      seeks = seeks-at (Small c) (Some (record { head = p; cursor = 0 })) (Unlock Again) t same whose;
+      caches = record {
+        span = record { h = h; head = span.head; class = class; noscan_is = noscan; held = right.holds p ∙ ap (λ (b : Bool). cond b true (rest p)) (eq-eqb p p refl) };
+        few = omega arith;
+        taken = λ j lt. absurd (omega (arith, lt));
+      };
+      apart = is-apart rest (record { head = p; cursor = 0 }) apart;
+      own_apart = none-own rest;
+      stage = record { c = c; k = record { head = p; cursor = 0 }; for = record { wanted = refl; cached = refl } };
+    },
+  ) where
+    first : first_page (at (Small c) None m) (pages_of c.class) p ≡ p
+    first = first-is (at (Small c) None m) (pages_of c.class) p (subst (λ (y : Layout). p + pages_of c.class ≤ y.pages) (sym whose.layout) (subst (λ (i : ℕ). p + i ≤ z.layout.pages) (small-pages h c.class span.fits class) span.within))
+
+  pass-then : (c : SpanClass) (t : Shared) (given : Option (Option ℕ)) (m : pass.Pass) → Good z now → Kept s t → Whose (Small c) → m ≡ pass_at (at (Small c) None Lock) c m.stage → passing.Comes z a now (view t) rest given m → On t (after_pass (at (Small c) None (Pass m)) given)
+  pass-then c t None m good same whose is r = (
+    r.1,
+    record {
+      seeks = seeks-at (Small c) None (Pass m) t same whose;
+      caches = tt;
+      apart = none-apart rest;
+      own_apart = none-own rest;
+      stage = record { c = c; wanted = refl; cached = refl; is = is; facts = r.2 };
+    },
+  )
+  pass-then c t (Some None) m good same whose is r = carve-then (Small c) t good same whose (subst (λ (y : pass.Pass). FullBefore (view t).page (view t).alloc (passing.sought y) z.layout.pages) is r.2) r.1
+  pass-then c t (Some (Some p)) m good same whose is r =
+      let y = subst (λ (y : pass.Pass). passing.IsTaken z a y.wanted (view t).page p) is r.2 in
+      cached-then c p y.h (Pass m) t same whose y.span y.class y.noscan r.1 r.3
+
+  pass-own : (c : SpanClass) (m : pass.Pass) → Good z now → Whose (Small c) → m ≡ pass_at (at (Small c) None Lock) c m.stage → passing.Facts z a now m → Right a now true rest None → Step (at (Small c) None (Pass m))
+  pass-own c m good whose is facts right =
+      let found : ℕ = s.words (cell_of (pass.asks m)) in
+      lands k z a s _ _ _ good (λ t same r. (r.0, pass-then c t (pass.gives m found) (pass.goes m found) good same whose (ap (λ (y : pass.Pass). pass.at_stage y (pass.goes m found).stage) is) r.1))
+      (k.pass.own_step z a s rest m good right facts)
+
+  -- Fresh pages.
+
+  none-goes : (w : Sought) (t : Shared) → Leaves now (view t) → NoneLeft z now (at w None Lock) w → NoneLeft z (view t) (at w None Lock) w
+  none-goes (Small c) t leaves x = k.walks now (view t) (head_for (at (Small c) None Lock)) z.layout.pages leaves x
+  none-goes (Large pages noscan) t leaves x = x
+
+  large-then : (pages : ℕ) (noscan : Bool) (p : ℕ) (m : FindStage) (q : CarveStage) (t : Shared) → Kept s t → Whose (Large pages noscan) → carving.IsFresh z (view t) (carve_at (at (Large pages noscan) None Lock) q) p → Right a (view t) true (update rest p true) None → rest p ≡ false → On t (taken_for (at (Large pages noscan) None m) (Large pages noscan) p)
+  large-then pages noscan p m q t same whose fresh right apart = subst (λ (i : ℕ). On t (at (Large pages noscan) None (Unlock (End (At (1024 * i)))))) (sym first) (
+    subst (λ (i : ℕ). Right a (view t) true (update rest i true) None) page-is right,
+    record {
+      seeks = seeks-at (Large pages noscan) None (Unlock (End (At (1024 * p)))) t same whose;
+      caches = tt;
+      apart = none-apart rest;
+      own_apart = is-own rest (1024 * p / 1024) (subst (λ (i : ℕ). rest i ≡ false) page-is apart);
+      stage = record {
+        pages = pages;
+        noscan = noscan;
+        wanted = refl;
+        claim = record {
+          p = p;
+          h = carve.fresh_head (carve_at (at (Large pages noscan) None Lock) q);
+          i = 0;
+          held = right.holds p ∙ ap (λ (b : Bool). cond b true (rest p)) (eq-eqb p p refl);
+          slot = record { span = fresh.span; inside = omega arith; size_is = refl; at = omega arith };
+          clear = fresh.empty (1024 * p) (omega arith) (omega (arith, whose.wanted.0));
+        };
+        class = refl;
+        noscan_is = refl;
+        first = page-is;
+        head = ap (λ (x : ℕ). head (x + 1) n) whose.seat ∙ ap (λ (x : ℕ). head (a + 1) x) (whose.number ∙ sym same);
+      };
+    },
+  ) where
+    page-is : p ≡ 1024 * p / 1024
+    page-is = omega arith
+
+    head : (owner number : ℕ) → SpanHead
+    head owner number = record { class = size.Large; noscan = noscan; pages = pages; owner = owner; number = number }
+
+    first : first_page (at (Large pages noscan) None m) pages p ≡ p
+    first = first-is (at (Large pages noscan) None m) pages p (subst (λ (y : Layout). p + pages ≤ y.pages) (sym whose.layout) fresh.span.within)
+
+  fresh-then : (w : Sought) (t : Shared) (p : ℕ) (m : FindStage) (q : CarveStage) → Kept s t → Whose w → carving.IsFresh z (view t) (carve_at (at w None Lock) q) p → Right a (view t) true (update rest p true) None → rest p ≡ false → On t (taken_for (at w None m) w p)
+  fresh-then (Small c) t p m q same whose fresh right apart = cached-then c p (carve.fresh_head (carve_at (at (Small c) None Lock) q)) m t same whose fresh.span refl refl right apart
+  fresh-then (Large pages noscan) t p m q same whose fresh right apart = large-then pages noscan p m q t same whose fresh right apart
+
+  no-cache : (w : Sought) (v : View) → Caches a v w None
+  no-cache (Small c) v = tt
+  no-cache (Large pages noscan) v = tt
+
+  carved : (w : Sought) (t : Shared) (given : Option (Option ℕ)) (m : carve.Carving) → Kept s t → Whose w → NoneLeft z now (at w None Lock) w → m ≡ carve_at (at w None Lock) m.stage → carving.Comes z a now (view t) rest given m → On t (after_carve (at w None (Carve m)) given)
+  carved w t None m same whose none is r = (
+    r.1,
+    record {
+      seeks = seeks-at w None (Carve m) t same whose;
+      caches = no-cache w (view t);
+      apart = none-apart rest;
+      own_apart = none-own rest;
+      stage = record { cached = refl; none = none-goes w t r.0 none; is = is; facts = r.2 };
+    },
+  )
+  carved w t (Some None) m same whose none is r = (
+    r.1,
+    record {
+      seeks = seeks-at w None (Unlock (End NoRoom)) t same whose;
+      caches = no-cache w (view t);
+      apart = none-apart rest;
+      own_apart = none-own rest;
+      stage = record { cached = refl; none = none-goes w t r.0 none; no_run = subst (λ (y : carve.Carving). carving.NoRun (view t).page y.span.pages z.layout.pages) is r.2 };
+    },
+  )
+  carved w t (Some (Some p)) m same whose none is r = fresh-then w t p (Carve m) m.stage same whose (subst (λ (y : carve.Carving). carving.IsFresh z (view t) y p) is r.2) r.1 r.3
+
+  carve-own : (w : Sought) (m : carve.Carving) → Good z now → Whose w → NoneLeft z now (at w None Lock) w → m ≡ carve_at (at w None Lock) m.stage → carving.Facts z a now m → Right a now true rest (carving.laying m) → Step (at w None (Carve m))
+  carve-own w m good whose none is facts right =
+      let found : ℕ = s.words (cell_of (carve.asks m)) in
+      lands k z a s _ _ _ good (λ t same r. (r.0, carved w t (carve.gives m found) (carve.goes m found) same whose none (ap (λ (y : carve.Carving). carve.at_stage y (carve.goes m found).stage) is) r.1))
+      (k.carve.own_step z a s rest m good right facts)
+
+  -- The lock is freed.
+
+  again-own : (c : SpanClass) (x : CachedSpan) → Whose (Small c) → IsCached a now c x → rest x.head ≡ false → Right a now true (update rest x.head true) None → Step (at (Small c) (Some x) (Unlock Again))
+  again-own c x whose y apart right = record {
+    move = LeaveLock;
+    may = (right.locked, right.laying);
+    words_are = refl;
+    after = (
+      (refl, refl),
+      (
+        begun.0,
+        record {
+          seeks = seeks-at (Small c) (Some x) (begin l (Small c) (Some x)) t refl whose;
+          caches = caches;
+          apart = is-apart rest x apart;
+          own_apart = begun.2;
+          stage = begun.1;
+        },
+      ),
+    );
+  } where
+    t : Shared
+    t = moved z a s LeaveLock
+
+    caches : Caches a (view t) (Small c) (Some x)
+    caches = caches-with (Small c) (Some x) 0 (update s.locked a false) y
+
+    begun : Stands z a (view t) rest (at (Small c) (Some x) (begin l (Small c) (Some x))) (begin l (Small c) (Some x))
+    begun = begins z a (view t) rest (at (Small c) (Some x) (begin l (Small c) (Some x))) (Small c) (Some x) refl refl caches (k.follow z a s true (update rest x.head true) None right).left
+
+  large-own : (pages : ℕ) (noscan : Bool) (y : ℕ) → OwnsLarge z a now (at (Large pages noscan) None (Unlock (End (At y)))) y → OwnApart rest (Some (y / 1024)) → Right a now true (update rest (y / 1024) true) None → Step (at (Large pages noscan) None (Unlock (End (At y))))
+  large-own pages noscan y x apart right = record {
+    move = LeaveLock;
+    may = (right.locked, right.laying);
+    words_are = refl;
+    after = (
+      (refl, refl),
+      record {
+        right = (k.follow z a s true (update rest (y / 1024) true) None right).left;
+        caches = tt;
+        apart = none-apart rest;
+        own_apart = apart;
+        found = record {
+          pages = x.pages;
+          noscan = x.noscan;
+          wanted = x.wanted;
+          claim = record { p = x.claim.p; h = x.claim.h; i = x.claim.i; held = x.claim.held; slot = x.claim.slot; clear = x.claim.clear };
+          class = x.class;
+          noscan_is = x.noscan_is;
+          first = x.first;
+          head = x.head;
+        };
+      },
+    );
+  }
+
+  -- The stages.
+
+  abbrev Own : Sought → Option CachedSpan → FindStage → Type 0
+  Own w c q = Good z now → Whose w → Caches a now w c → Apart rest c → OwnApart rest (own q) → Right a now (is_locked q) (held (at w c q) rest) (laying q) → Step (at w c q)
+
+  at-cached : (q : FindStage) (w : Sought) (c : Option CachedSpan) (x : SpanClass) (y : CachedSpan) → IsCachedFor (at w c q) x y → Own (Small x) (Some y) q → Own w c q
+  at-cached q w c x y for own = subst (λ (v : Sought). Own v c q) (sym for.wanted) (subst (λ (d : Option CachedSpan). Own (Small x) d q) (sym for.cached) own)
+
+  own-at : (q : FindStage) (w : Sought) (c : Option CachedSpan) → FactsAt z a now (at w c q) q → refuses_at q ≡ false → Own w c q
+  own-at (Slots m) w c x go = at-cached (Slots m) w c x.c x.k (record { wanted = x.for.wanted; cached = x.for.cached })
+      (subst (λ (y : slots.Searching). Own (Small x.c) (Some x.k) (Slots y)) (sym x.is) (λ good whose y apart free right. slots-own x.c x.k good whose y (apart x.k refl) x.left right))
+  own-at Lock w c x go = λ good whose y apart free right. lock-own w c good whose y apart x right
+  own-at (Give g) w c x go = at-cached (Give g) w c x.c x.k (record { wanted = x.for.wanted; cached = x.for.cached })
+      (subst (λ (y : give.Giving). Own (Small x.c) (Some x.k) (Give y)) (sym x.is) (λ good whose y apart free right. give-own x.c x.k good whose y (apart x.k refl) x.used right))
+  own-at (Pass p) w c x go = subst (λ (v : Sought). Own v c (Pass p)) (sym x.wanted) (subst (λ (d : Option CachedSpan). Own (Small x.c) d (Pass p)) (sym x.cached)
+      (λ good whose y apart free right. pass-own x.c p good whose x.is x.facts right))
+  own-at (Carve m) w c x go = subst (λ (d : Option CachedSpan). Own w d (Carve m)) (sym x.cached) (λ good whose y apart free right. carve-own w m good whose x.none x.is x.facts right)
+  own-at (Unlock Again) w c x go = at-cached (Unlock Again) w c x.c x.k (record { wanted = x.for.wanted; cached = x.for.cached }) (λ good whose y apart free right. again-own x.c x.k whose y (apart x.k refl) right)
+  own-at (Unlock (End (At y))) (Small d) c x go = absurd (small-large x.wanted) where
+    small-large : Small d ≡ Large x.pages x.noscan → ⊥
+    small-large e = cc
+  own-at (Unlock (End (At y))) (Large pages noscan) (Some d) x go = λ good whose caches apart free right. absurd caches
+  own-at (Unlock (End (At y))) (Large pages noscan) None x go = λ good whose caches apart free right. large-own pages noscan y x free right
+  own-at (Unlock (End NoRoom)) w c x go = absurd (cc)
+  own-at Ended w c x go = absurd x
+
+own-step : Known → OwnStep
+own-step k z a s rest f good right x go = own-at k z a s rest f.layout f.seat f.generation f.stage f.wanted f.cached x.stage go good (whose-of k z a s rest f.layout f.seat f.generation f.wanted f.cached f.stage x.seeks) x.caches x.apart x.own_apart right
+
+pub finds_by_its_rights : Known → FindsByItsRights
+finds_by_its_rights k = record { opens = opens; own_step = own-step k; none = finds-none; lasts = lasts k }

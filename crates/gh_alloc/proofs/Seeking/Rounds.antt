@@ -1,0 +1,450 @@
+-- The search where a collector runs says that there is no room only where it has found none twice, and freed empty spans between.
+use Rattle.std.proofs.Common.{◌≡◌, ℕ, zero, suc, ◌+◌, ◌<◌, ◌≤◌, ◌⊎◌, inl, inr, Bool, true, false, cond, nat_eq, Option, Some, None, refl, sym, ap, subst, ◌∙◌, arith}
+use Rattle.std.proofs.lemmas.Bool.{cases_order, eqb-true}
+use Rattle.gh_base.specs.declared.cell.Ask.{Ask}
+use Rattle.gh_base.specs.declared.cell.Ask.TheVariants.{Store, Swap}
+use Rattle.gh_base.specs.declared.cell.Cell.TheVariants as cell
+use Rattle.gh_base.specs.Packing.{head_word}
+use Rattle.gh_base.specs.Routines.{EndsWith, told}
+use Rattle.gh_cache.specs.Listing as slots
+use Rattle.gh_central.specs.GiveBack as give
+use Rattle.gh_central.specs.declared.give.GiveStage.{GiveStage}
+use Rattle.gh_central.specs.declared.give.GiveStage.TheVariants.{Write}
+use Rattle.gh_central.specs.Reclaim.{Reclaiming}
+use Rattle.gh_central.specs.Reclaim as reclaim
+use Rattle.gh_central.specs.SweptPass as pass
+use Rattle.gh_pages.specs.Listing as carve
+use Rattle.gh_alloc.specs.declared.search.SearchStage.{SearchStage}
+use Rattle.gh_alloc.specs.declared.search.SearchStage.TheVariants.{First, Free, Second}
+use Rattle.gh_alloc.specs.Vocabulary.{Layout, SpanClass, Sought, Small, Large, CachedSpan, At, NoRoom, Again, End, FindStage, Slots, Lock, Give, Pass, Carve, Unlock, Ended}
+use Rattle.gh_alloc.specs.Find.{Finding, after_carve, after_give, after_pass, at_stage, carving, given_head, locked_for, refuses_at, searched, span_for, spans_for, taken_for, unlocked}
+use Rattle.gh_alloc.specs.Find as find
+use Rattle.gh_alloc.specs.Locking.{holds}
+use Rattle.gh_alloc.specs.Rounds.{FindsNone, Follows as FollowsLock, FreesSpans, GivesBack, HasFoundNoneTwice, Passed}
+use Rattle.gh_alloc.specs.Search.{Seeking, after_first, after_free, again, asks, asks_at, frees_at, gives_at, goes_at, listing, opening, reclaiming}
+use Rattle.gh_alloc.proofs.Finding.Locking.{has_lock}
+use Rattle.gh_alloc.proofs.Finding.Locking as finding
+use Rattle.gh_alloc.proofs.Finding.Refusing.{Base, base, giver_refuses, goes_base}
+use Rattle.gh_alloc.proofs.Seeking.Locking.{has_lock_at, held_is}
+use Rattle.gh_alloc.proofs.Seeking.Parts.{Running, begins, ends_with, goes_on}
+
+-- what stays
+free_base : (f : Finding) (r : Reclaiming) (out : Option (Unit {0})) → base (after_free f r out).find ≡ base f
+free_base f r None = refl
+free_base f r (Some x) = refl
+
+search_base : (f : Finding) (p : SearchStage) (w : ℕ) → base (goes_at f p w).find ≡ base f
+search_base f First w = goes_base f f.stage w
+search_base f (Free r) w = free_base f (reclaim.goes r w) (reclaim.gives r w)
+search_base f Second w = goes_base f f.stage w
+
+without_refuses : (p : FindStage) → has_lock p ≡ false → refuses_at p ≡ false
+without_refuses (Slots x) h = refl
+without_refuses Lock h = refl
+without_refuses (Give x) h = refl
+without_refuses (Pass x) h = refl
+without_refuses (Carve x) h = refl
+without_refuses (Unlock after) h = absurd (cc)
+without_refuses Ended h = refl
+
+refusing_asks : (f : Finding) (p : FindStage) → refuses_at p ≡ true → find.asks_at f p ≡ Store cell.Lock 0
+refusing_asks f (Slots x) h = absurd (cc)
+refusing_asks f Lock h = absurd (cc)
+refusing_asks f (Give x) h = absurd (cc)
+refusing_asks f (Pass x) h = absurd (cc)
+refusing_asks f (Carve x) h = absurd (cc)
+refusing_asks f (Unlock after) h = refl
+refusing_asks f Ended h = absurd (cc)
+
+module _ (s : Seeking) (found : ℕ → ℕ) where
+  abbrev now : ℕ → Seeking
+  now n = told listing s found n
+
+  abbrev asked : ℕ → Ask
+  asked n = asks (now n)
+
+  base_is : (n : ℕ) → base (now n).find ≡ base s.find
+  base_is zero = refl
+  base_is (suc n) = search_base (now n).find (now n).stage (found n) ∙ base_is n
+
+  wanted_is : (g : Finding) → base g ≡ base s.find → g.wanted ≡ s.find.wanted
+  wanted_is g e = ap (λ (b : Base). b.wanted) e
+
+  -- One round, before whose first step this is known.
+  module _ (Before : ℕ → Type 0) where
+    record PassRuns (n : ℕ) (x : pass.Pass) : Type 0 where
+      class : SpanClass
+      small : s.find.wanted ≡ Small class
+      first : ℕ
+      before : Before first
+      runs : Running asked found pass.listing (pass.opening s.find.layout s.find.seat s.find.generation class) first n x
+
+    record CarveRuns (n : ℕ) (x : carve.Carving) : Type 0 where
+      first : ℕ
+      before : Before first
+      from : ℕ
+      passed : Passed asked found s.find.layout s.find.seat s.find.generation s.find.wanted first from
+      runs : Running asked found carve.listing (carve.opening s.find.layout s.find.seat s.find.generation (span_for s.find.wanted)) from n x
+
+    record RoundEnds (n : ℕ) : Type 0 where
+      first : ℕ
+      before : Before first
+      last : ℕ
+      none : FindsNone asked found s.find.layout s.find.seat s.find.generation s.find.wanted first last
+      next : last + 1 ≡ n
+
+    abbrev Round : ℕ → FindStage → Type 0
+    Round n (Pass x) = PassRuns n x
+    Round n (Carve x) = CarveRuns n x
+    Round n (Unlock (End NoRoom)) = RoundEnds n
+    Round n (Unlock (End (At x))) = Unit {0}
+    Round n (Unlock Again) = Unit {0}
+    Round n _ = ⊥
+
+    taken_round : (n : ℕ) (g : Finding) (w : Sought) (page : ℕ) → Round n (taken_for g w page).stage
+    taken_round n g (Small c) page = tt
+    taken_round n g (Large pages noscan) page = tt
+
+    carve_opens : (g : Finding) → base g ≡ base s.find → carve.opening g.layout g.seat g.generation (span_for g.wanted) ≡ carve.opening s.find.layout s.find.seat s.find.generation (span_for s.find.wanted)
+    carve_opens g e = ap (λ (b : Base). carve.opening b.layout b.seat b.generation (span_for b.wanted)) e
+
+    carve_round_begins : (n : ℕ) (g : Finding) → base g ≡ base s.find → (first : ℕ) → Before first → Passed asked found s.find.layout s.find.seat s.find.generation s.find.wanted first n → Round n (carving g)
+    carve_round_begins n g e first before passed = record { first = first; before = before; from = n; passed = passed; runs = begins asked found carve.listing _ n (carve.opening g.layout g.seat g.generation (span_for g.wanted)) (carve_opens g e) }
+
+    round_begins : (n : ℕ) (g : Finding) (w : Sought) → base g ≡ base s.find → g.wanted ≡ w → Before n → Round n (spans_for g w)
+    round_begins n g (Small c) e is before = record {
+      class = c;
+      small = sym (wanted_is g e) ∙ is;
+      first = n;
+      before = before;
+      runs = begins asked found pass.listing _ n (pass.opening g.layout g.seat g.generation c) (ap (λ (b : Base). pass.opening b.layout b.seat b.generation c) e);
+    }
+    round_begins n g (Large pages noscan) e is before =
+        carve_round_begins n g e n before (subst (λ (w : Sought). Passed asked found s.find.layout s.find.seat s.find.generation w n n) (sym is ∙ wanted_is g e) refl)
+
+    abbrev pass_on : (n : ℕ) (f : Finding) (x : pass.Pass) → Finding
+    pass_on n f x = at_stage f (Pass (pass.goes x (found n)))
+
+    abbrev carve_on : (n : ℕ) (f : Finding) (x : carve.Carving) → Finding
+    carve_on n f x = at_stage f (Carve (carve.goes x (found n)))
+
+    passes_on : (n : ℕ) (f : Finding) → base f ≡ base s.find → (x : pass.Pass) → PassRuns n x → asked n ≡ pass.asks x → Round (suc n) (find.goes_at f (Pass x) (found n)).stage
+    passes_on n f e x k a = by (pass.gives x (found n)) refl where
+      by : (out : Option (Option ℕ)) → pass.gives x (found n) ≡ out → Round (suc n) (after_pass (pass_on n f x) out).stage
+      by None g = record { class = k.class; small = k.small; first = k.first; before = k.before; runs = goes_on asked found pass.listing _ k.first n x k.runs a }
+      by (Some None) g = carve_round_begins (suc n) (pass_on n f x) e k.first k.before
+          (subst (λ (w : Sought). Passed asked found s.find.layout s.find.seat s.find.generation w k.first (suc n)) (sym k.small) (n, ends_with asked found pass.listing _ k.first n x k.runs a None g, omega arith))
+      by (Some (Some page)) g = taken_round (suc n) (pass_on n f x) f.wanted page
+
+    carves_on : (n : ℕ) (f : Finding) (x : carve.Carving) → CarveRuns n x → asked n ≡ carve.asks x → Round (suc n) (find.goes_at f (Carve x) (found n)).stage
+    carves_on n f x k a = by (carve.gives x (found n)) refl where
+      by : (out : Option (Option ℕ)) → carve.gives x (found n) ≡ out → Round (suc n) (after_carve (carve_on n f x) out).stage
+      by None g = record { first = k.first; before = k.before; from = k.from; passed = k.passed; runs = goes_on asked found carve.listing _ k.from n x k.runs a }
+      by (Some None) g = record { first = k.first; before = k.before; last = n; none = record { from = k.from; passed = k.passed; none = ends_with asked found carve.listing _ k.from n x k.runs a None g }; next = omega arith }
+      by (Some (Some page)) g = taken_round (suc n) (carve_on n f x) f.wanted page
+
+    round_with : (n : ℕ) (p : FindStage) → Round n p → has_lock p ≡ true
+    round_with n (Slots x) k = absurd k
+    round_with n Lock k = absurd k
+    round_with n (Give x) k = absurd k
+    round_with n (Pass x) k = refl
+    round_with n (Carve x) k = refl
+    round_with n (Unlock after) k = refl
+    round_with n Ended k = absurd k
+
+    refused : (n : ℕ) (p : FindStage) → refuses_at p ≡ true → Round n p → RoundEnds n
+    refused n (Slots x) h k = absurd k
+    refused n Lock h k = absurd k
+    refused n (Give x) h k = absurd k
+    refused n (Pass x) h k = absurd (cc)
+    refused n (Carve x) h k = absurd (cc)
+    refused n (Unlock Again) h k = absurd (cc)
+    refused n (Unlock (End (At x))) h k = absurd (cc)
+    refused n (Unlock (End NoRoom)) h k = k
+    refused n Ended h k = absurd k
+
+  -- What is known at each stage, since the lock was taken at this step.
+
+  abbrev Follows : (lock first : ℕ) → Type 0
+  Follows lock first = FollowsLock asked found s.find.layout s.find.seat s.find.generation s.find.wanted lock first
+
+  record GiveRuns (lock n : ℕ) (x : give.Giving) : Type 0 where
+    follows : lock + 1 ≡ n
+    writes : x.stage ≡ Write
+    class : SpanClass
+    small : s.find.wanted ≡ Small class
+    page : ℕ
+    store : give.asks x ≡ Store (cell.Page page) (head_word (given_head s.find.generation class))
+
+  -- the first round has ended
+  record FoundNone (lock : ℕ) : Type 0 where
+    first : ℕ
+    follows : Follows lock first
+    last : ℕ
+    none : FindsNone asked found s.find.layout s.find.seat s.find.generation s.find.wanted first last
+
+  record FreeRuns (lock n : ℕ) (r : Reclaiming) : Type 0 where
+    past : FoundNone lock
+    runs : Running asked found reclaim.listing (reclaim.opening s.find.layout s.find.generation) (past.last + 1) n r
+
+  record HasFreed (lock first : ℕ) : Type 0 where
+    past : FoundNone lock
+    freed : ℕ
+    frees : FreesSpans asked found s.find.layout s.find.seat s.find.generation (past.last + 1) freed
+    next : freed + 1 ≡ first
+
+  abbrev WithFirst : (lock n : ℕ) → FindStage → Type 0
+  WithFirst lock n (Give x) = GiveRuns lock n x
+  WithFirst lock n (Pass x) = PassRuns (Follows lock) n x
+  WithFirst lock n (Carve x) = CarveRuns (Follows lock) n x
+  WithFirst lock n (Unlock (End NoRoom)) = ⊥
+  WithFirst lock n (Unlock (End (At x))) = Unit {0}
+  WithFirst lock n (Unlock Again) = Unit {0}
+  WithFirst lock n _ = ⊥
+
+  abbrev WithLock : (lock n : ℕ) → FindStage → SearchStage → Type 0
+  WithLock lock n p First = WithFirst lock n p
+  WithLock lock n p (Free r) = FreeRuns lock n r
+  WithLock lock n p Second = Round (HasFreed lock) n p
+
+  first_with : (lock n : ℕ) (p : FindStage) → WithFirst lock n p → has_lock p ≡ true
+  first_with lock n (Slots x) k = absurd k
+  first_with lock n Lock k = absurd k
+  first_with lock n (Give x) k = refl
+  first_with lock n (Pass x) k = refl
+  first_with lock n (Carve x) k = refl
+  first_with lock n (Unlock after) k = refl
+  first_with lock n Ended k = absurd k
+
+  has_with : (lock n : ℕ) (p : FindStage) (q : SearchStage) → WithLock lock n p q → has_lock_at p q ≡ true
+  has_with lock n p First k = first_with lock n p k
+  has_with lock n p (Free r) k = refl
+  has_with lock n p Second k = round_with (HasFreed lock) n p k
+
+  record Locked (n : ℕ) : Type 0 where
+    lock : ℕ
+    takes : asked lock ≡ Swap cell.Lock 0 (s.find.seat + 1)
+    free : found lock ≡ 0
+    held : (k : ℕ) → lock < k → k ≤ n → holds listing s found k ≡ true
+    known : WithLock lock n (now n).find.stage (now n).stage
+
+  abbrev Unlocked : ℕ → Type 0
+  Unlocked n = ((now n).stage ≡ First) × (has_lock (now n).find.stage ≡ false)
+
+  abbrev Tracks : ℕ → Type 0
+  Tracks n = Unlocked n ⊎ Locked n
+
+  -- a round that was the first leads to the freeing
+  leads_on : (lock n : ℕ) (g : Finding) → base g ≡ base s.find → (p : FindStage) → Round (Follows lock) n p → WithLock lock n p (cond (refuses_at p) (Free (reclaiming g)) First)
+  leads_on lock n g e (Slots x) k = absurd k
+  leads_on lock n g e Lock k = absurd k
+  leads_on lock n g e (Give x) k = absurd k
+  leads_on lock n g e (Pass x) k = k
+  leads_on lock n g e (Carve x) k = k
+  leads_on lock n g e (Unlock Again) k = tt
+  leads_on lock n g e (Unlock (End (At x))) k = tt
+  leads_on lock n g e (Unlock (End NoRoom)) k = record {
+    past = record { first = k.first; follows = k.before; last = k.last; none = k.none };
+    runs = subst (λ (j : ℕ). Running asked found reclaim.listing (reclaim.opening s.find.layout s.find.generation) j n (reclaiming g)) (sym k.next) (begins asked found reclaim.listing _ n (reclaiming g) (ap (λ (b : Base). reclaim.opening b.layout b.generation) e));
+  }
+  leads_on lock n g e Ended k = absurd k
+
+  -- where a step of the search leads, by the stage that it is at
+  abbrev first_to : ℕ → FindStage → Seeking
+  first_to n p = record { find = find.goes_at (now n).find p (found n); stage = after_first (find.goes_at (now n).find p (found n)) }
+
+  first_is : (n : ℕ) (p : FindStage) → (now n).stage ≡ First → (now n).find.stage ≡ p → now (suc n) ≡ first_to n p
+  first_is n p e at = ap (λ (q : SearchStage). goes_at (now n).find q (found n)) e ∙ ap (first_to n) at
+
+  abbrev second_to : ℕ → FindStage → Seeking
+  second_to n p = record { find = find.goes_at (now n).find p (found n); stage = cond (frees_at p) First Second }
+
+  second_is : (n : ℕ) (p : FindStage) → (now n).stage ≡ Second → (now n).find.stage ≡ p → now (suc n) ≡ second_to n p
+  second_is n p e at = ap (λ (q : SearchStage). goes_at (now n).find q (found n)) e ∙ ap (second_to n) at
+
+  first_asks : (n : ℕ) (p : FindStage) → (now n).stage ≡ First → (now n).find.stage ≡ p → asked n ≡ find.asks_at (now n).find p
+  first_asks n p e at = ap (asks_at (now n).find) e ∙ ap (find.asks_at (now n).find) at
+
+  second_asks : (n : ℕ) (p : FindStage) → (now n).stage ≡ Second → (now n).find.stage ≡ p → asked n ≡ find.asks_at (now n).find p
+  second_asks n p e at = ap (asks_at (now n).find) e ∙ ap (find.asks_at (now n).find) at
+
+  -- it does not have the lock then
+  unlocks : (n : ℕ) (g : Finding) → now (suc n) ≡ record { find = g; stage = First } → has_lock g.stage ≡ false → Tracks (suc n)
+  unlocks n g e h = inl (ap (λ (z : Seeking). z.stage) e, ap (λ (z : Seeking). has_lock z.find.stage) e ∙ h)
+
+  unlocks_first : (n : ℕ) (g : Finding) → now (suc n) ≡ record { find = g; stage = after_first g } → has_lock g.stage ≡ false → Tracks (suc n)
+  unlocks_first n g e h = unlocks n g (e ∙ ap (λ (b : Bool). record { find = g; stage = cond b (Free (reclaiming g)) First }) (without_refuses g.stage h)) h
+
+  module _ (start : has_lock_at s.find.stage s.stage ≡ false) where
+    -- it has the lock then, and had it since
+    locks : (n lock : ℕ) → asked lock ≡ Swap cell.Lock 0 (s.find.seat + 1) → found lock ≡ 0 → ((k : ℕ) → lock < k → k ≤ n → holds listing s found k ≡ true) → (z : Seeking) → now (suc n) ≡ z → WithLock lock (suc n) z.find.stage z.stage → Tracks (suc n)
+    locks n lock takes free held z e k = inr (record { lock = lock; takes = takes; free = free; held = still; known = known }) where
+      known : WithLock lock (suc n) (now (suc n)).find.stage (now (suc n)).stage
+      known = subst (λ (y : Seeking). WithLock lock (suc n) y.find.stage y.stage) (sym e) k
+
+      still : (j : ℕ) → lock < j → j ≤ suc n → holds listing s found j ≡ true
+      still j low le = elim (cases_order j (suc n)) [
+        | inl is ↦ subst (λ (i : ℕ). holds listing s found i ≡ true) (sym is) (held_is s found start (suc n) ∙ has_with lock (suc n) (now (suc n)).find.stage (now (suc n)).stage known)
+        | inr (inl under) ↦ held j low (omega arith)
+        | inr (inr above) ↦ absurd (omega arith)
+      ]
+
+    -- the lock was taken, or it was not
+    abbrev lock_to : ℕ → FindStage → Seeking
+    lock_to n p = record { find = at_stage (now n).find p; stage = after_first (at_stage (now n).find p) }
+
+    lock_step : (n : ℕ) → (now n).stage ≡ First → (now n).find.stage ≡ Lock → Tracks (suc n)
+    lock_step n e at = by (nat_eq (found n) 0) refl where
+      next : (b : Bool) → nat_eq (found n) 0 ≡ b → now (suc n) ≡ lock_to n (cond b (locked_for (now n).find (now n).find.wanted (now n).find.cached) Lock)
+      next b is = first_is n Lock e at ∙ ap (λ (c : Bool). lock_to n (cond c (locked_for (now n).find (now n).find.wanted (now n).find.cached) Lock)) is
+
+      begins_round : (w : Sought) → (now n).find.wanted ≡ w → WithLock n (suc n) (spans_for (now n).find w) (after_first (at_stage (now n).find (spans_for (now n).find w)))
+      begins_round w is = leads_on n (suc n) (at_stage (now n).find (spans_for (now n).find w)) (base_is n) (spans_for (now n).find w) (round_begins (Follows n) (suc n) (now n).find w (base_is n) is (inl (omega arith)))
+
+      locked : (w : Sought) (c : Option CachedSpan) → (now n).find.wanted ≡ w → WithLock n (suc n) (locked_for (now n).find w c) (after_first (at_stage (now n).find (locked_for (now n).find w c)))
+      locked (Small c) (Some x) is = record {
+        follows = omega arith;
+        writes = refl;
+        class = c;
+        small = sym (wanted_is (now n).find (base_is n)) ∙ is;
+        page = x.head;
+        store = ap (λ (b : Base). Store (cell.Page x.head) (head_word (given_head b.generation c))) (base_is n);
+      }
+      locked (Small c) None is = begins_round (Small c) is
+      locked (Large pages noscan) x is = begins_round (Large pages noscan) is
+
+      by : (b : Bool) → nat_eq (found n) 0 ≡ b → Tracks (suc n)
+      by true is = locks n n (first_asks n Lock e at ∙ ap (λ (b : Base). Swap cell.Lock 0 (b.seat + 1)) (base_is n)) (eqb-true (found n) 0 is) (λ k low le. absurd (omega arith)) (lock_to n (locked_for (now n).find (now n).find.wanted (now n).find.cached)) (next true is) (locked (now n).find.wanted (now n).find.cached refl)
+      by false is = unlocks_first n (at_stage (now n).find Lock) (next false is) refl
+
+    without_step : (n : ℕ) (p : FindStage) → (now n).stage ≡ First → (now n).find.stage ≡ p → has_lock p ≡ false → Tracks (suc n)
+    without_step n (Slots x) e at h = unlocks_first n (find.goes_at (now n).find (Slots x) (found n)) (first_is n (Slots x) e at) (finding.slots_without (searched (now n).find (slots.goes x (found n))) (slots.gives x (found n)) refl)
+    without_step n Lock e at h = lock_step n e at
+    without_step n (Give x) e at h = absurd (cc)
+    without_step n (Pass x) e at h = absurd (cc)
+    without_step n (Carve x) e at h = absurd (cc)
+    without_step n (Unlock after) e at h = absurd (cc)
+    without_step n Ended e at h = unlocks_first n (at_stage (now n).find Ended) (first_is n Ended e at) refl
+
+    module _ (n : ℕ) (t : Locked n) where
+      abbrev goes_to : (z : Seeking) → now (suc n) ≡ z → WithLock t.lock (suc n) z.find.stage z.stage → Tracks (suc n)
+      goes_to z e k = locks n t.lock t.takes t.free t.held z e k
+
+      abbrev give_on : give.Giving → Finding
+      give_on x = at_stage (now n).find (Give (give.goes x (found n)))
+
+      abbrev given_on : give.Giving → Finding
+      given_on x = record (give_on x) { cached = None; stage = spans_for (give_on x) (give_on x).wanted }
+
+      give_step : (x : give.Giving) → (now n).stage ≡ First → (now n).find.stage ≡ Give x → GiveRuns t.lock n x → Tracks (suc n)
+      give_step x e at k = goes_to (first_to n (Give x)) (first_is n (Give x) e at) (subst (λ (z : Finding). WithLock t.lock (suc n) z.stage (after_first z)) (sym written) begun) where
+        written : find.goes_at (now n).find (Give x) (found n) ≡ (given_on x)
+        written = ap (λ (p : GiveStage). after_give (give_on x) (give.gives_at p)) k.writes
+
+        given_back : GivesBack asked found s.find.layout s.find.seat s.find.generation s.find.wanted (t.lock + 1)
+        given_back = record { class = k.class; small = k.small; page = k.page; store = ap asked k.follows ∙ first_asks n (Give x) e at ∙ k.store }
+
+        begun : WithLock t.lock (suc n) (given_on x).stage (after_first (given_on x))
+        begun = leads_on t.lock (suc n) (given_on x) (base_is n) (spans_for (give_on x) (give_on x).wanted) (round_begins (Follows t.lock) (suc n) (give_on x) (give_on x).wanted (base_is n) refl (inr (given_back, let at = k.follows in omega arith)))
+
+      first_step : (p : FindStage) → (now n).stage ≡ First → (now n).find.stage ≡ p → WithFirst t.lock n p → Tracks (suc n)
+      first_step (Slots x) e at k = absurd k
+      first_step Lock e at k = absurd k
+      first_step (Give x) e at k = give_step x e at k
+      first_step (Pass x) e at k = goes_to (first_to n (Pass x)) (first_is n (Pass x) e at)
+          (leads_on t.lock (suc n) (find.goes_at (now n).find (Pass x) (found n)) (goes_base (now n).find (Pass x) (found n) ∙ base_is n) (find.goes_at (now n).find (Pass x) (found n)).stage (passes_on (Follows t.lock) n (now n).find (base_is n) x k (first_asks n (Pass x) e at)))
+      first_step (Carve x) e at k = goes_to (first_to n (Carve x)) (first_is n (Carve x) e at)
+          (leads_on t.lock (suc n) (find.goes_at (now n).find (Carve x) (found n)) (goes_base (now n).find (Carve x) (found n) ∙ base_is n) (find.goes_at (now n).find (Carve x) (found n)).stage (carves_on (Follows t.lock) n (now n).find x k (first_asks n (Carve x) e at)))
+      first_step (Unlock Again) e at k = unlocks_first n (at_stage (now n).find (unlocked (now n).find Again)) (first_is n (Unlock Again) e at) (finding.unlocked_without (now n).find Again)
+      first_step (Unlock (End (At x))) e at k = unlocks_first n (at_stage (now n).find Ended) (first_is n (Unlock (End (At x))) e at) refl
+      first_step (Unlock (End NoRoom)) e at k = absurd k
+      first_step Ended e at k = absurd k
+
+      free_step : (r : Reclaiming) → (now n).stage ≡ Free r → FreeRuns t.lock n r → Tracks (suc n)
+      free_step r e k = by (reclaim.gives r (found n)) refl where
+        next : now (suc n) ≡ after_free (now n).find (reclaim.goes r (found n)) (reclaim.gives r (found n))
+        next = ap (λ (q : SearchStage). goes_at (now n).find q (found n)) e
+
+        a : asked n ≡ reclaim.asks r
+        a = ap (asks_at (now n).find) e
+
+        has_freed : reclaim.gives r (found n) ≡ Some tt → HasFreed t.lock (suc n)
+        has_freed g = record { past = k.past; freed = n; frees = ends_with asked found reclaim.listing _ (k.past.last + 1) n r k.runs a tt g; next = omega arith }
+
+        by : (out : Option (Unit {0})) → reclaim.gives r (found n) ≡ out → Tracks (suc n)
+        by None g = goes_to (record { find = (now n).find; stage = Free (reclaim.goes r (found n)) }) (next ∙ ap (after_free (now n).find (reclaim.goes r (found n))) g)
+            (record { past = k.past; runs = goes_on asked found reclaim.listing _ (k.past.last + 1) n r k.runs a })
+        by (Some x) g = goes_to (record { find = again (now n).find; stage = Second }) (next ∙ ap (after_free (now n).find (reclaim.goes r (found n))) g)
+            (round_begins (HasFreed t.lock) (suc n) (now n).find (now n).find.wanted (base_is n) refl (has_freed g))
+
+      second_step : (p : FindStage) → (now n).stage ≡ Second → (now n).find.stage ≡ p → Round (HasFreed t.lock) n p → Tracks (suc n)
+      second_step (Slots x) e at k = absurd k
+      second_step Lock e at k = absurd k
+      second_step (Give x) e at k = absurd k
+      second_step (Pass x) e at k = goes_to (second_to n (Pass x)) (second_is n (Pass x) e at) (passes_on (HasFreed t.lock) n (now n).find (base_is n) x k (second_asks n (Pass x) e at))
+      second_step (Carve x) e at k = goes_to (second_to n (Carve x)) (second_is n (Carve x) e at) (carves_on (HasFreed t.lock) n (now n).find x k (second_asks n (Carve x) e at))
+      second_step (Unlock after) e at k = unlocks n (at_stage (now n).find (unlocked (now n).find after)) (second_is n (Unlock after) e at) (finding.unlocked_without (now n).find after)
+      second_step Ended e at k = absurd k
+
+      with_step : (q : SearchStage) → (now n).stage ≡ q → WithLock t.lock n (now n).find.stage q → Tracks (suc n)
+      with_step First e k = first_step (now n).find.stage e refl k
+      with_step (Free r) e k = free_step r e k
+      with_step Second e k = second_step (now n).find.stage e refl k
+
+    tracks : s.stage ≡ First → (n : ℕ) → Tracks n
+    tracks opens zero = inl (opens, sym (ap (has_lock_at s.find.stage) opens) ∙ start)
+    tracks opens (suc n) = elim (tracks opens n) [
+      | inl u ↦ without_step n (now n).find.stage u.0 refl u.1
+      | inr t ↦ with_step n t (now n).stage refl t.known
+    ]
+
+    never_first : (lock n : ℕ) (p : FindStage) → refuses_at p ≡ true → WithFirst lock n p → ⊥
+    never_first lock n (Slots x) h k = k
+    never_first lock n Lock h k = k
+    never_first lock n (Give x) h k = cc
+    never_first lock n (Pass x) h k = cc
+    never_first lock n (Carve x) h k = cc
+    never_first lock n (Unlock Again) h k = cc
+    never_first lock n (Unlock (End (At x))) h k = cc
+    never_first lock n (Unlock (End NoRoom)) h k = k
+    never_first lock n Ended h k = k
+
+    abbrev Refuses : ℕ → Type 0
+    Refuses n = HasFoundNoneTwice s found s.find.layout s.find.seat s.find.generation s.find.wanted n
+
+    ended_twice : (n : ℕ) (t : Locked n) → asked n ≡ Store cell.Lock 0 → RoundEnds (HasFreed t.lock) n → Refuses n
+    ended_twice n t a k = record {
+      lock = t.lock;
+      takes = t.takes;
+      free = t.free;
+      first = k.before.past.first;
+      follows = k.before.past.follows;
+      last = k.before.past.last;
+      none = k.before.past.none;
+      freed = k.before.freed;
+      frees = k.before.frees;
+      last_again = k.last;
+      none_again = subst (λ (j : ℕ). FindsNone asked found s.find.layout s.find.seat s.find.generation s.find.wanted j k.last) (sym k.before.next) k.none;
+      next = k.next;
+      frees_lock = a;
+      held = t.held;
+    }
+
+    with_no_room : (n : ℕ) (t : Locked n) (q : SearchStage) → (now n).stage ≡ q → WithLock t.lock n (now n).find.stage q → gives_at (now n).find q (found n) ≡ Some NoRoom → Refuses n
+    with_no_room n t First e k g = absurd (never_first t.lock n (now n).find.stage (giver_refuses (now n).find (now n).find.stage (found n) g) k)
+    with_no_room n t (Free r) e k g = absurd (cc)
+    with_no_room n t Second e k g =
+        let h : refuses_at (now n).find.stage ≡ true = giver_refuses (now n).find (now n).find.stage (found n) g in
+        ended_twice n t (second_asks n (now n).find.stage e refl ∙ refusing_asks (now n).find (now n).find.stage h) (refused (HasFreed t.lock) n (now n).find.stage h k)
+
+    no_room : s.stage ≡ First → (n : ℕ) → EndsWith listing s found n NoRoom → Refuses n
+    no_room opens n g = elim (tracks opens n) [
+      | inl u ↦
+          let h : refuses_at (now n).find.stage ≡ true = giver_refuses (now n).find (now n).find.stage (found n) (sym (ap (λ (q : SearchStage). gives_at (now n).find q (found n)) u.0) ∙ g) in
+          let f : refuses_at (now n).find.stage ≡ false = without_refuses (now n).find.stage u.1 in absurd (cc)
+      | inr t ↦ with_no_room n t (now n).stage refl t.known g
+    ]
+
+pub no_room_is_true : (l : Layout) (seat generation : ℕ) (wanted : Sought) (cached : Option CachedSpan) (found : ℕ → ℕ) (n : ℕ) →
+    EndsWith listing (opening l seat generation wanted cached) found n NoRoom → HasFoundNoneTwice (opening l seat generation wanted cached) found l seat generation wanted n
+no_room_is_true l seat generation wanted cached found n g = no_room (opening l seat generation wanted cached) found (finding.begin_without l wanted cached) refl n g

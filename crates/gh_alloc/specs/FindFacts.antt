@@ -1,0 +1,228 @@
+-- What is known at each stage of the search for a slot while any number of processors change the heap, under which rights, and the laws: what each step of its own is, that what is known lasts whatever others do, and what is true where it finds no room.
+use Rattle.std.specs.Prelude.{◌≡◌, ℕ, ◌+◌, ◌*◌, ◌/◌, ◌^◌, ◌<◌, ◌≤◌, Bool, true, false, Option, Some, None}
+use Rattle.gh_base.specs.declared.pack.SpanHead.{SpanHead}
+use Rattle.gh_base.specs.Steps.{cell_of}
+use Rattle.gh_class.specs.declared.class.SizeClass.TheVariants as size
+use Rattle.gh_class.specs.Classes.{slot_words_of, slots_of}
+use Rattle.gh_heap.specs.Moves.{KeepsObjects, Others, Steps, update}
+use Rattle.gh_heap.specs.Rights.{Arena, Claims, FullBefore, Good, Right, Shared, View, view}
+use Rattle.gh_heap.specs.Spans.{Laying}
+use Rattle.gh_cache.specs.Facts.{IsHeld, TakenBelow}
+use Rattle.gh_cache.specs.Listing as slots
+use Rattle.gh_central.specs.declared.pass.PassStage.{PassStage}
+use Rattle.gh_central.specs.GiveBack as give
+use Rattle.gh_central.specs.PassFacts as passing
+use Rattle.gh_central.specs.SweptPass as pass
+use Rattle.gh_pages.specs.declared.carve.CarveStage.{CarveStage}
+use Rattle.gh_pages.specs.Facts as carving
+use Rattle.gh_pages.specs.Listing as carve
+use Rattle.gh_alloc.specs.Vocabulary.{SpanClass, Sought, Small, Large, CachedSpan, Found, At, NoRoom, Again, End, FindStage, Slots, Lock, Give, Pass, Carve, Unlock, Ended}
+use Rattle.gh_alloc.specs.Find.{Finding, asks, given_head, gives, goes, opening, refuses, span_at, span_for}
+use Rattle.gh_alloc.specs.FindSound.{IsSought}
+
+-- The cached span.
+
+-- the seat holds the span that is cached for the span class, and its slots before the cursor are taken
+pub record IsCached (a : ℕ) (v : View) (c : SpanClass) (k : CachedSpan) : Type 0 where
+  pub span : IsHeld a v (span_at c.class k) c.noscan
+  pub few : k.cursor ≤ slots_of c.class
+  pub taken : TakenBelow v.alloc (span_at c.class k)
+
+-- a large object's search has none cached
+abbrev pub Caches : (a : ℕ) → View → Sought → Option CachedSpan → Type 0
+Caches a v (Small c) (Some k) = IsCached a v c k
+Caches a v (Small c) None = Unit {0}
+Caches a v (Large pages noscan) (Some k) = ⊥
+Caches a v (Large pages noscan) None = Unit {0}
+
+-- all slots of the cached span are taken, if one is cached
+abbrev pub IsUsedUp : Sought → Option CachedSpan → Type 0
+IsUsedUp (Small c) (Some k) = slots_of c.class ≤ k.cursor
+IsUsedUp _ _ = Unit {0}
+
+-- what is cached is cached for a span class
+pub record IsCachedFor (f : Finding) (c : SpanClass) (k : CachedSpan) : Type 0 where
+  pub wanted : f.wanted ≡ Small c
+  pub cached : f.cached ≡ Some k
+
+-- The rights at a stage.
+
+-- it has the lock
+abbrev pub is_locked : FindStage → Bool
+is_locked (Give g) = true
+is_locked (Pass p) = true
+is_locked (Carve c) = true
+is_locked (Unlock after) = true
+is_locked _ = false
+
+abbrev pub laying : FindStage → Option Laying
+laying (Carve c) = carving.laying c
+laying _ = None
+
+-- the span of a large object, which no cache lists
+abbrev pub own : FindStage → Option ℕ
+own (Unlock (End (At x))) = Some (x / 1024)
+own _ = None
+
+abbrev pub head_of : Option CachedSpan → Option ℕ
+head_of None = None
+head_of (Some k) = Some k.head
+
+-- what the seat holds with that span, where it holds those beside it
+abbrev pub with_span : Option ℕ → (ℕ → Bool) → ℕ → Bool
+with_span None rest = rest
+with_span (Some p) rest = update rest p true
+
+abbrev pub held : Finding → (ℕ → Bool) → ℕ → Bool
+held f rest = with_span (own f.stage) (with_span (head_of f.cached) rest)
+
+-- The facts.
+
+-- the search is this seat's, in this arena
+pub record Seeks (z : Arena) (a : ℕ) (v : View) (f : Finding) : Type 0 where
+  pub layout : f.layout ≡ z.layout
+  pub seat : f.seat ≡ a
+  pub few : a + 1 < 2 ^ 8
+  pub number : f.generation ≡ v.generation
+  pub wanted : IsSought f.wanted
+
+-- the head of a span that is looked for
+abbrev pub head_for : Finding → SpanHead
+head_for f = record { class = (span_for f.wanted).class; noscan = (span_for f.wanted).noscan; pages = (span_for f.wanted).pages; owner = 0; number = f.generation }
+
+-- each span of the span class that nobody owns is full; a large object has none
+abbrev pub NoneLeft : Arena → View → Finding → Sought → Type 0
+NoneLeft z v f (Small c) = FullBefore v.page v.alloc (head_for f) z.layout.pages
+NoneLeft z v f (Large pages noscan) = Unit {0}
+
+-- there is no room: that, no span of the span class is cached, and no run of free pages fits
+pub record FindsNone (z : Arena) (v : View) (f : Finding) : Type 0 where
+  pub cached : f.cached ≡ None
+  pub none : NoneLeft z v f f.wanted
+  pub no_run : carving.NoRun v.page (span_for f.wanted).pages z.layout.pages
+
+-- a slot of a fresh span for a large object
+pub record OwnsLarge (z : Arena) (a : ℕ) (v : View) (f : Finding) (x : ℕ) : Type 0 where
+  pub pages : ℕ
+  pub noscan : Bool
+  pub wanted : f.wanted ≡ Large pages noscan
+  pub claim : Claims z v a x (1024 * pages)
+  pub class : claim.h.class ≡ size.Large
+  pub noscan_is : claim.h.noscan ≡ noscan
+  pub first : claim.p ≡ x / 1024
+  pub head : claim.h ≡ record { class = size.Large; noscan = noscan; pages = pages; owner = a + 1; number = v.generation }
+
+pub record InSlots (f : Finding) (s : slots.Searching) : Type 0 where
+  pub c : SpanClass
+  pub k : CachedSpan
+  pub for : IsCachedFor f c k
+  pub is : s ≡ slots.opening f.layout (span_at c.class k)
+  pub left : k.cursor < slots_of c.class
+
+pub record InGive (f : Finding) (g : give.Giving) : Type 0 where
+  pub c : SpanClass
+  pub k : CachedSpan
+  pub for : IsCachedFor f c k
+  pub is : g ≡ give.opening f.layout k.head (given_head f.generation c)
+  pub used : slots_of c.class ≤ k.cursor
+
+abbrev pub pass_at : Finding → SpanClass → PassStage → pass.Pass
+pass_at f c q = record { layout = f.layout; seat = f.seat; generation = f.generation; wanted = c; stage = q }
+
+pub record InPass (z : Arena) (a : ℕ) (v : View) (f : Finding) (p : pass.Pass) : Type 0 where
+  pub c : SpanClass
+  pub wanted : f.wanted ≡ Small c
+  pub cached : f.cached ≡ None
+  pub is : p ≡ pass_at f c p.stage
+  pub facts : passing.Facts z a v p
+
+abbrev pub carve_at : Finding → CarveStage → carve.Carving
+carve_at f q = record { layout = f.layout; seat = f.seat; generation = f.generation; span = span_for f.wanted; stage = q }
+
+pub record InCarve (z : Arena) (a : ℕ) (v : View) (f : Finding) (m : carve.Carving) : Type 0 where
+  pub cached : f.cached ≡ None
+  pub none : NoneLeft z v f f.wanted
+  pub is : m ≡ carve_at f m.stage
+  pub facts : carving.Facts z a v m
+
+pub record InAgain (f : Finding) : Type 0 where
+  pub c : SpanClass
+  pub k : CachedSpan
+  pub for : IsCachedFor f c k
+
+abbrev pub FactsAt : Arena → (a : ℕ) → View → Finding → FindStage → Type 0
+FactsAt z a v f (Slots s) = InSlots f s
+FactsAt z a v f Lock = IsUsedUp f.wanted f.cached
+FactsAt z a v f (Give g) = InGive f g
+FactsAt z a v f (Pass p) = InPass z a v f p
+FactsAt z a v f (Carve m) = InCarve z a v f m
+FactsAt z a v f (Unlock Again) = InAgain f
+FactsAt z a v f (Unlock (End (At x))) = OwnsLarge z a v f x
+FactsAt z a v f (Unlock (End NoRoom)) = FindsNone z v f
+FactsAt z a v f Ended = ⊥
+
+-- with what the seat holds beside the cached span and a large object's, neither of which is among it
+pub record Facts (z : Arena) (a : ℕ) (v : View) (rest : ℕ → Bool) (f : Finding) : Type 0 where
+  pub seeks : Seeks z a v f
+  pub caches : Caches a v f.wanted f.cached
+  pub apart : (k : CachedSpan) → f.cached ≡ Some k → rest k.head ≡ false
+  pub own_apart : (p : ℕ) → own f.stage ≡ Some p → rest p ≡ false
+  pub stage : FactsAt z a v f f.stage
+
+-- The slot that is found: of the cached span, or of a large object's own.
+
+pub record FindsSlot (z : Arena) (a : ℕ) (v : View) (c : SpanClass) (k : CachedSpan) (x : ℕ) : Type 0 where
+  pub claim : Claims z v a x (slot_words_of c.class)
+  pub class : claim.h.class ≡ size.Small c.class
+  pub noscan_is : claim.h.noscan ≡ c.noscan
+
+abbrev pub IsFound : Arena → (a : ℕ) → View → Finding → Sought → Option CachedSpan → (x : ℕ) → Type 0
+IsFound z a v f (Small c) (Some k) x = FindsSlot z a v c k x
+IsFound z a v f (Small c) None x = ⊥
+IsFound z a v f (Large pages noscan) cached x = OwnsLarge z a v f x
+
+-- the span in which it lies, if no cache lists it
+abbrev pub own_found : Sought → (x : ℕ) → Option ℕ
+own_found (Small c) x = None
+own_found (Large pages noscan) x = Some (x / 1024)
+
+pub record HasFound (z : Arena) (a : ℕ) (v : View) (rest : ℕ → Bool) (f : Finding) (x : ℕ) : Type 0 where
+  pub right : Right a v false (with_span (own_found f.wanted x) (with_span (head_of f.cached) rest)) None
+  pub caches : Caches a v f.wanted f.cached
+  pub apart : (k : CachedSpan) → f.cached ≡ Some k → rest k.head ≡ false
+  pub own_apart : (p : ℕ) → own_found f.wanted x ≡ Some p → rest p ≡ false
+  pub found : IsFound z a v f f.wanted f.cached x
+
+-- What a step comes to in w: the right that its seat has then; and the facts of the next stage, or the slot. A search that finds none ends by a step of who runs it.
+abbrev pub Comes : Arena → (a : ℕ) → (w : View) → (ℕ → Bool) → Option Found → Finding → Type 0
+Comes z a w rest None f = Right a w (is_locked f.stage) (held f rest) (laying f.stage) × Facts z a w rest f
+Comes z a w rest (Some (At x)) f = HasFound z a w rest f x
+Comes z a w rest (Some NoRoom) f = ⊥
+
+-- begun with what is cached
+abbrev pub Opens : Type 0
+Opens = (z : Arena) (a : ℕ) (v : View) (rest : ℕ → Bool) (f : Finding) → Seeks z a v f → Caches a v f.wanted f.cached → ((k : CachedSpan) → f.cached ≡ Some k → rest k.head ≡ false) → Right a v false (with_span (head_of f.cached) rest) None →
+    f ≡ opening f.layout f.seat f.generation f.wanted f.cached → Right a v (is_locked f.stage) (held f rest) (laying f.stage) × Facts z a v rest f
+
+-- a step of its own, short of the one that finds no room
+abbrev pub OwnStep : Type 0
+OwnStep = (z : Arena) (a : ℕ) (s : Shared) (rest : ℕ → Bool) (f : Finding) → Good z (view s) → Right a (view s) (is_locked f.stage) (held f rest) (laying f.stage) → Facts z a (view s) rest f → refuses f ≡ false →
+    Steps z a s (asks f) (λ t. KeepsObjects (view s) (view t) × Comes z a (view t) rest (gives f (s.words (cell_of (asks f)))) (goes f (s.words (cell_of (asks f)))))
+
+-- where it finds none there is no room, and it asks for the lock's word to be freed
+pub record Refuses (z : Arena) (v : View) (f : Finding) : Type 0 where
+  pub none : FindsNone z v f
+  pub stage : f.stage ≡ Unlock (End NoRoom)
+
+abbrev pub NoneIsTrue : Type 0
+NoneIsTrue = (z : Arena) (a : ℕ) (v : View) (rest : ℕ → Bool) (f : Finding) → Facts z a v rest f → refuses f ≡ true → Refuses z v f
+
+-- the steps of others
+abbrev pub Lasts : Type 0
+Lasts = (z : Arena) (a : ℕ) (v w : View) (rest : ℕ → Bool) (f : Finding) → Good z v → Others z a v w → v.locked a ≡ is_locked f.stage → Facts z a v rest f → Facts z a w rest f
+
+pub record FindsByItsRights : Type 0 where
+  pub opens : Opens
+  pub own_step : OwnStep
+  pub none : NoneIsTrue
+  pub lasts : Lasts

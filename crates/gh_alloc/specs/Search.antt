@@ -1,0 +1,81 @@
+-- Looking for a slot where a collector runs: what is asked for at each stage, where that leads, and what it gives.
+use Rattle.std.specs.Prelude.{ℕ, Bool, true, false, if◌then◌else◌, Option, Some, None}
+use Rattle.gh_base.specs.declared.cell.Ask.{Ask}
+use Rattle.gh_base.specs.Routines.{Listing}
+use Rattle.gh_central.specs.Reclaim.{Reclaiming}
+use Rattle.gh_central.specs.Reclaim as reclaim
+use Rattle.gh_alloc.specs.declared.search.SearchStage.{SearchStage}
+use Rattle.gh_alloc.specs.declared.search.SearchStage.TheVariants.{First, Free, Second}
+use Rattle.gh_alloc.specs.Vocabulary.{Layout, Sought, CachedSpan, Found, FindStage, Unlock}
+use Rattle.gh_alloc.specs.Find.{Finding, spans_for}
+use Rattle.gh_alloc.specs.Find as find
+
+-- the search of the cached span and of the heap, and the stage that says which search it is
+pub record Seeking : Type 0 where
+  pub find : Finding
+  pub stage : SearchStage
+
+abbrev pub opening : Layout → (seat generation : ℕ) → Sought → Option CachedSpan → Seeking
+opening l seat generation wanted cached = record { find = find.opening l seat generation wanted cached; stage = First }
+
+-- the next step frees the lock
+abbrev pub frees_at : FindStage → Bool
+frees_at (Unlock after) = true
+frees_at _ = false
+
+-- the pages of empty spans are freed
+abbrev pub reclaiming : Finding → Reclaiming
+reclaiming f = reclaim.opening f.layout f.generation
+
+-- a span is looked for once more, under the same lock
+abbrev pub again : Finding → Finding
+again f = find.at_stage f (spans_for f f.wanted)
+
+-- the stage after a step of the first search led there: in place of no room, empty spans are freed
+abbrev pub after_first : Finding → SearchStage
+after_first f = if find.refuses f then Free (reclaiming f) else First
+
+-- what it is after the freeing has given this
+abbrev pub after_free : Finding → Reclaiming → Option (Unit {0}) → Seeking
+after_free f r None = record { find = f; stage = Free r }
+after_free f r (Some _) = record { find = again f; stage = Second }
+
+module _ (f : Finding) where
+  abbrev pub asks_at : SearchStage → Ask
+  asks_at (Free r) = reclaim.asks r
+  asks_at _ = find.asks f
+
+  -- the second search ends where the lock is freed
+  abbrev pub goes_at : SearchStage → ℕ → Seeking
+  goes_at First found = record { find = find.goes f found; stage = after_first (find.goes f found) }
+  goes_at (Free r) found = after_free f (reclaim.goes r found) (reclaim.gives r found)
+  goes_at Second found = record { find = find.goes f found; stage = if frees_at f.stage then First else Second }
+
+  abbrev pub gives_at : SearchStage → ℕ → Option Found
+  gives_at (Free r) found = None
+  gives_at _ found = find.gives f found
+
+  abbrev pub is_busy : SearchStage → Bool
+  is_busy (Free r) = reclaim.is_busy r.stage
+  is_busy _ = find.is_busy f.stage
+
+  -- the next step ends it with no room
+  abbrev pub refuses_at : SearchStage → Bool
+  refuses_at (Free r) = false
+  refuses_at _ = find.refuses f
+
+-- the step that it asks for, what it is after the step found this, and what it ends with if that step is its last
+abbrev pub asks : Seeking → Ask
+asks s = asks_at s.find s.stage
+
+abbrev pub goes : Seeking → ℕ → Seeking
+goes s found = goes_at s.find s.stage found
+
+abbrev pub gives : Seeking → ℕ → Option Found
+gives s found = gives_at s.find s.stage found
+
+abbrev pub listing : Listing Seeking Found
+listing = record { layout = λ s. s.find.layout; busy = λ s. is_busy s.find s.stage; asks = asks; goes = goes; gives = gives }
+
+abbrev pub refuses : Seeking → Bool
+refuses s = refuses_at s.find s.stage

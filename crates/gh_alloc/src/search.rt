@@ -1,0 +1,164 @@
+//! The search for a slot where a collector runs.
+
+ghost use Rattle.std.specs.Prelude.{◌≡◌, ℕ, ◌^◌, ◌<◌, ◌↔◌, IfSome, IsTrue, Option, true};
+ghost use Rattle.gh_base.specs.Cells.{seats_of};
+ghost use Rattle.gh_alloc.specs.declared.sought.Found.TheVariants.{NoRoom};
+ghost use Rattle.gh_alloc.specs.FindSound.{FitsPages, IsCached};
+ghost use Rattle.gh_alloc.specs.Search.{after_first, gives, goes, is_busy, opening, refuses};
+ghost use Rattle.gh_alloc.specs.Within.{LiesWithin};
+
+use crate::find::Find;
+use crate::sought::{CachedSpan, Found, Sought};
+use gh_base::{Layout, Machine, Req};
+use gh_central::Reclaim;
+use std::marker::Model;
+
+/// The stages of the search where a collector runs.
+#[derive(Clone, Copy)]
+pub enum SearchStage {
+    /// It searches, and has freed no empty span since it took the lock.
+    First,
+    /// It frees the pages of empty spans.
+    Free(Reclaim),
+    /// It searches once more, with the lock still held.
+    Second,
+}
+
+/// Looks for a slot for an object where a collector runs (Go's `mheap.alloc`, which reclaims pages
+/// before it takes some, in mheap.go).
+///
+/// It searches as [`Find`] does. Where that finds neither a swept span with a clear slot nor fresh
+/// pages, the heap's lock stays held: a span whose objects were all freed still has its pages, and
+/// serves no object of another class. So the pages of each empty span are freed by [`Reclaim`], and
+/// then spans and fresh pages are looked for once more. It ends with `NoRoom` where there are none
+/// then. A search that takes the lock anew may free empty spans anew.
+#[derive(Clone, Copy)]
+pub struct Search {
+    find: Find,
+    stage: SearchStage,
+}
+
+impl Model for Search {
+    ghost use Rattle.gh_alloc.specs.Search.{Seeking};
+    ghost use Rattle.gh_alloc.specs.SearchSound.{Sound};
+
+    ghost Value = { Seeking };
+
+    ghost view = { λ s. record { find = s.find; stage = s.stage } };
+
+    ghost invariant = { λ s. Sound (record { find = s.find; stage = s.stage }) };
+
+    ghost inverse = { λ s. record { find = s.find; stage = s.stage } };
+}
+
+impl Search {
+    /// Looks for a slot. The head words that it writes say that the seat has the span cached, or nobody
+    /// where it gives one back, and that it is swept in this sweep generation. A span that is cached for
+    /// the class of a small object lies in the arena.
+    pub fn new(
+        layout: &Layout,
+        seat: u32,
+        generation: u64,
+        wanted: Sought,
+        cached: Option<CachedSpan>,
+    ) -> Search
+        requires seat { seat < seats_of layout.now }
+        requires generation { generation < 2 ^ 34 }
+        requires pages { FitsPages wanted }
+        requires cached { IsCached layout.now wanted cached }
+        ensures { result ≡ opening layout.now seat generation wanted cached }
+    {
+        Search {
+            find: Find::new(layout, seat, generation, wanted, cached),
+            stage: SearchStage::First,
+        }
+    }
+
+    /// The span that is cached now, with its cursor: it lies in the arena.
+    pub fn cached(&self) -> Option<CachedSpan>
+        ensures is { result ≡ self.now.find.cached }
+        ensures within { IsCached self.now.find.layout self.now.find.wanted result }
+    {
+        self.find.cached()
+    }
+
+    /// The next step ends the search with `NoRoom`.
+    pub fn refuses(&self) -> bool
+        ensures is { result ≡ refuses self.now }
+        ensures exactly { (found : ℕ) → IsTrue result ↔ (gives self.now found ≡ Some NoRoom) }
+    {
+        match self.stage {
+            SearchStage::Free(_) => false,
+            SearchStage::First | SearchStage::Second => self.find.refuses(),
+        }
+    }
+}
+
+/// Its stage after a step of the first search led there.
+fn after_first(find: &Find) -> SearchStage
+    ensures { result ≡ after_first find.now }
+{
+    if find.refuses() {
+        SearchStage::Free(find.reclaim())
+    } else {
+        SearchStage::First
+    }
+}
+
+impl Machine for Search {
+    ghost use Rattle.gh_alloc.specs.Search.{gives, goes, is_busy, listing};
+    ghost use Rattle.gh_alloc.specs.SearchEnds as proved;
+
+    type Out = Found;
+
+    ghost layout = { listing.layout };
+
+    ghost busy = { listing.busy };
+
+    ghost asks = { listing.asks };
+
+    ghost goes = { listing.goes };
+
+    ghost gives = { listing.gives };
+
+    fn next(&self) -> Req {
+        match &self.stage {
+            SearchStage::Free(reclaim) => reclaim.next(),
+            SearchStage::First | SearchStage::Second => self.find.next(),
+        }
+    }
+
+    fn take(&mut self, found: u64) -> Option<Found>
+        requires { is_busy self.old.find self.old.stage ≡ true }
+        ensures state { self.new ≡ goes self.old found }
+        ensures out { result ≡ gives self.old found }
+        ensures within { IfSome result (LiesWithin self.old.find.layout self.old.find.wanted) }
+    {
+        match &mut self.stage {
+            SearchStage::First => {
+                let out = self.find.take(found);
+                self.stage = after_first(&self.find);
+                out
+            }
+            SearchStage::Free(reclaim) => {
+                if reclaim.take(found).is_some() {
+                    self.find.look_for_span();
+                    self.stage = SearchStage::Second;
+                }
+                None
+            }
+            SearchStage::Second => {
+                let frees = self.find.frees_lock();
+                let out = self.find.take(found);
+                if frees {
+                    self.stage = SearchStage::First;
+                }
+                out
+            }
+        }
+    }
+
+    ghost ends = { proved.ends };
+
+    ghost stays = { proved.stays };
+}
