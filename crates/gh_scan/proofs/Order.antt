@@ -5,21 +5,21 @@ use Rattle.gh_base.specs.declared.layout.Layout.{Layout}
 use Rattle.gh_base.specs.Routines.{EndsWith, GoesOn}
 use Rattle.gh_scan.specs.declared.scan.ScanStage.{ScanStage}
 use Rattle.gh_scan.specs.declared.scan.ScanStage.TheVariants.{LoadPage, LoadBitmap, LoadField, Shading, FindRoom, Ended}
-use Rattle.gh_scan.specs.Listing.{after_room, after_shade, at_next, behind, given, given_at, goes, is_busy, is_loaded, is_pointer, listing, next_in, object_of, reference_in, Scanning}
+use Rattle.gh_scan.specs.Listing.{after_room, after_shade, at_next, behind, end, given, given_at, goes, is_busy, is_loaded, is_pointer, listing, next_in, object_of, reference_in, Scanning}
 use Rattle.gh_scan.specs.Scans.{after, from, ScansInOrder, slot_told}
 use Rattle.gh_shade.specs.declared.shade.Shaded.{Shaded}
 use Rattle.gh_shade.specs.declared.shade.Shaded.TheVariants.{Done, WantsRoom}
 use Rattle.gh_shade.specs.Listing as shade
 use Rattle.gh_wbuf.specs.RoomFinding as room
 
-some_is : {a b : ℕ} → Some a ≡ Some b → a ≡ b
+pub some_is : {a b : ℕ} → Some a ≡ Some b → a ≡ b
 some_is e = cc
 
-abbrev Between : (low end : ℕ) → Option ℕ → Type 0
-Between low end None = Unit {0}
-Between low end (Some z) = (low ≤ z) × (z < end)
+abbrev pub Between : (low above : ℕ) → Option ℕ → Type 0
+Between low above None = Unit {0}
+Between low above (Some z) = (low ≤ z) × (z < above)
 
-next_between : (low w k y : ℕ) → low ≤ y → Between low (y + k) (next_in w k y)
+pub next_between : (low w k y : ℕ) → low ≤ y → Between low (y + k) (next_in w k y)
 next_between low w zero y le = tt
 next_between low w (suc k) y le =
     let up : low ≤ y + 1 = omega arith in
@@ -133,6 +133,17 @@ module _ (l : Layout) (seat reference : ℕ) (held : Option Held) (found : ℕ �
       let up : (state_n (suc n)).at ≤ i.at = i.up in
       let first : object_of reference ≤ (state_n (suc n)).at = before.from_object in
       record { low = (state_n (suc n)).at; is = i; from_object = subst (λ (x : ℕ). object_of reference ≤ x) (sym at_is) (omega arith) }
+
+  -- it has these numbers throughout
+  pub slot_is : (n : ℕ) → (state_n (suc n)).slot ≡ slot
+  slot_is n = ap (λ (t : Scanning). t.slot) (lying n).is.is
+
+  pub end_is : (n : ℕ) → end (state_n (suc n)) ≡ object_of reference + slot
+  end_is n = ap (λ (t : Scanning). end t) (lying n).is.is
+
+  pub layout_is : (n : ℕ) → (state_n n).layout ≡ l
+  layout_is zero = refl
+  layout_is (suc n) = ap (λ (t : Scanning). t.layout) (lying n).is.is
 
   pub in_order : ScansInOrder l seat reference held found
   in_order = record { gives_slot = gives_slot; within = within; from_first = λ n. (lying n).from_object; ascends = ascends } where

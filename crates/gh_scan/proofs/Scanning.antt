@@ -10,8 +10,7 @@ use Rattle.gh_base.specs.Rows.{Row}
 use Rattle.gh_scan.specs.declared.scan.ScanStage.{ScanStage}
 use Rattle.gh_scan.specs.declared.scan.ScanStage.TheVariants.{LoadPage, LoadBitmap, LoadField, Shading, FindRoom, Ended}
 use Rattle.gh_scan.specs.Listing.{after_room, after_shade, asks, asks_at, at_next, behind, given, given_at, goes, goes_at, is_pointer, listing, next_in, object_of, reference_in, Scanning}
-use Rattle.gh_scan.specs.Scans.{after, AreTold, begun, begun_between, bits_of, field_of, from, references_at, references_in, ScansObject, shaded_at, slot_told, StepsAt}
-use Rattle.gh_scan.proofs.Order.{in_order}
+use Rattle.gh_scan.specs.Scans.{after, AreTold, begun, begun_between, bits_of, field_of, from, references_at, references_in, shaded_at, slot_told, StepsAt}
 use Rattle.gh_shade.specs.declared.shade.Shaded.{Shaded}
 use Rattle.gh_shade.specs.declared.shade.Shaded.TheVariants.{Done, WantsRoom}
 use Rattle.gh_shade.specs.Listing as shade
@@ -89,22 +88,22 @@ module _ (bits fields : Row) (l : Layout) where
     abbrev state : Option Held → (x w : ℕ) → ScanStage → Scanning
     state h x w stage = record { layout = l; seat = seat; reference = reference; held = h; slot = slot; at = x; bits = w; stage = stage }
 
-    record AtBits (x : ℕ) (done : List ℕ) : Type 0 where
-      below : x < stop
-      left : done ++ refs_from stop x ≡ all
+    pub record AtBits (x : ℕ) (done : List ℕ) : Type 0 where
+      pub below : x < stop
+      pub left : done ++ refs_from stop x ≡ all
 
-    record AtField (x w : ℕ) (done : List ℕ) : Type 0 where
-      below : x < stop
-      left : done ++ refs_from stop x ≡ all
-      word : w ≡ bits_of bits fields l x
-      pointer : is_pointer w x ≡ true
+    pub record AtField (x w : ℕ) (done : List ℕ) : Type 0 where
+      pub below : x < stop
+      pub left : done ++ refs_from stop x ≡ all
+      pub word : w ≡ bits_of bits fields l x
+      pub pointer : is_pointer w x ≡ true
 
-    record AtShade (x w : ℕ) (done : List ℕ) : Type 0 where
-      below : x < stop
-      left : done ++ refs_from stop (x + 1) ≡ all
-      word : w ≡ bits_of bits fields l x
+    pub record AtShade (x w : ℕ) (done : List ℕ) : Type 0 where
+      pub below : x < stop
+      pub left : done ++ refs_from stop (x + 1) ≡ all
+      pub word : w ≡ bits_of bits fields l x
 
-    abbrev Knows : (x w : ℕ) → List ℕ → ScanStage → Type 0
+    abbrev pub Knows : (x w : ℕ) → List ℕ → ScanStage → Type 0
     Knows x w done LoadPage = ⊥
     Knows x w done LoadBitmap = AtBits x done
     Knows x w done LoadField = AtField x w done
@@ -112,13 +111,13 @@ module _ (bits fields : Row) (l : Layout) where
     Knows x w done (FindRoom sh r) = AtShade x w done
     Knows x w done Ended = done ≡ all
 
-    record Is (s : Scanning) (done : List ℕ) : Type 0 where
-      held : Option Held
-      at : ℕ
-      word : ℕ
-      stage : ScanStage
-      is : s ≡ state held at word stage
-      knows : Knows at word done stage
+    pub record Is (s : Scanning) (done : List ℕ) : Type 0 where
+      pub held : Option Held
+      pub at : ℕ
+      pub word : ℕ
+      pub stage : ScanStage
+      pub is : s ≡ state held at word stage
+      pub knows : Knows at word done stage
 
     -- nothing was shaded with the step
     with_none : (s : Scanning) (done more : List ℕ) → more ≡ [] → Is s done → Is s (done ++ more)
@@ -147,9 +146,9 @@ module _ (bits fields : Row) (l : Layout) where
 
     module _ (v : ℕ) where
       -- the step finds a word of the row that it is on
-      record Finds (s : Scanning) : Type 0 where
-        bits_are : (i : ℕ) → asks s ≡ Load (Bitmap i) → v ≡ bits i
-        fields_are : (i : ℕ) → asks s ≡ Load (Field i) → v ≡ fields i
+      pub record Finds (s : Scanning) : Type 0 where
+        pub bits_are : (i : ℕ) → asks s ≡ Load (Bitmap i) → v ≡ bits i
+        pub fields_are : (i : ℕ) → asks s ≡ Load (Field i) → v ≡ fields i
 
       step : (h : Option Held) (x w : ℕ) (stage : ScanStage) (done : List ℕ) → Knows x w done stage → Finds (state h x w stage) →
           Is (goes (state h x w stage) v) (done ++ begun_between stage (goes (state h x w stage) v).stage)
@@ -211,7 +210,7 @@ module _ (l : Layout) (seat reference : ℕ) (held : Option Held) (found : ℕ �
         subst (λ (t : Scanning). Finds bits fields l seat reference slot v t → Is bits fields l seat reference slot (goes t v) (done ++ begun_between t.stage (goes t v).stage))
         (sym i.is) (step bits fields l seat reference slot v i.held i.at i.word i.stage done i.knows)
 
-    is_at : (n : ℕ) → Is bits fields l seat reference slot (state_n (suc n)) (begun_n (suc n))
+    pub is_at : (n : ℕ) → Is bits fields l seat reference slot (state_n (suc n)) (begun_n (suc n))
     is_at zero =
         let below : object_of reference < object_of reference + slot = omega arith in
         let words : (object_of reference + slot) - object_of reference ≡ slot = omega arith in
@@ -226,12 +225,12 @@ module _ (l : Layout) (seat reference : ℕ) (held : Option Held) (found : ℕ �
     ended x w done (Shading sh) out k e = absurd (cc)
     ended x w done (FindRoom sh r) out k e = absurd (cc)
 
-    all_begun : (n w : ℕ) → EndsWith listing (from l seat reference held found) found n w → begun_n (suc n) ≡ all bits fields l seat reference slot
+    pub all_begun : (n w : ℕ) → EndsWith listing (from l seat reference held found) found n w → begun_n (suc n) ≡ all bits fields l seat reference slot
     all_begun n w e =
         let i = is_at n in
         ended i.at i.word (begun_n (suc n)) i.stage w i.knows (sym (ap given i.is) ∙ e)
 
-  steps_at : (s : Scanning) (stage : ScanStage) → s.stage ≡ stage → StepsAt s stage
+  pub steps_at : (s : Scanning) (stage : ScanStage) → s.stage ≡ stage → StepsAt s stage
   steps_at s LoadPage e = record { cell = Page (object_of s.reference / 1024); loads = ap (asks_at s) e }
   steps_at s LoadBitmap e = record { cell = Bitmap (s.at / 64 % (16 * s.layout.pages)); loads = ap (asks_at s) e }
   steps_at s LoadField e = record { cell = Field (s.at % (1024 * s.layout.pages)); loads = ap (asks_at s) e }
@@ -248,6 +247,3 @@ module _ (l : Layout) (seat reference : ℕ) (held : Option Held) (found : ℕ �
 
     tells : (v : ℕ) (h : Held) → room.gives r v ≡ Some h → (goes s v).stage ≡ Shading (shade.told_room sh h)
     tells v h took = ap (λ (g : ScanStage). (goes_at s g v).stage) e ∙ ap (λ (out : Option Held). (after_room s sh (room.goes r v) out).stage) took
-
-  pub scans : ScansObject l seat reference held found
-  scans = record { begins = refl; steps = λ n. steps_at (state_n n) (state_n n).stage refl; in_order = in_order l seat reference held found some; shades = all_begun }

@@ -1,17 +1,19 @@
 -- What the scan of an object does, whatever it is told: which references it has shaded, and what it ends with.
-use Rattle.std.specs.Prelude.{◌≡◌, ℕ, zero, suc, ◌+◌, ◌*◌, ◌/◌, ◌%◌, ◌^◌, ◌<◌, ◌≤◌, ◌==◌, if◌then◌else◌, List, [], ◌∷◌, ◌++◌, Option, Some, None}
+use Rattle.std.specs.Prelude.{◌≡◌, ◌≢◌, ◌↔◌, ℕ, zero, suc, ◌+◌, ◌*◌, ◌/◌, ◌%◌, ◌^◌, ◌<◌, ◌≤◌, false, ◌==◌, if◌then◌else◌, List, [], ◌∷◌, ◌++◌, Option, Some, None}
 use Rattle.gh_base.specs.declared.cell.Cell.{Cell}
 use Rattle.gh_base.specs.declared.cell.Cell.TheVariants.{Page, Bitmap, Field}
 use Rattle.gh_base.specs.declared.cell.Ask.TheVariants.{Load}
 use Rattle.gh_base.specs.declared.held.Held.{Held}
 use Rattle.gh_base.specs.declared.layout.Layout.{Layout}
+use Rattle.gh_base.specs.Cells.{put, Words}
 use Rattle.gh_base.specs.Packing.{page_of, slot_in}
 use Rattle.gh_base.specs.Routines.{EndsWith, GoesOn, told}
-use Rattle.gh_base.specs.Rows.{Row}
+use Rattle.gh_base.specs.Rows.{bitmap_words, field_words, pointer_bit, Row}
+use Rattle.gh_base.specs.Steps.{cell_of}
 use Rattle.gh_scan.specs.declared.scan.ScanStage.{ScanStage}
-use Rattle.gh_scan.specs.declared.scan.ScanStage.TheVariants.{Shading, FindRoom}
-use Rattle.gh_scan.specs.Listing.{asks, goes, is_pointer, listing, object_of, opening, reference_in, Scanning}
-use Rattle.gh_shade.specs.declared.shade.Shaded.TheVariants.{WantsRoom}
+use Rattle.gh_scan.specs.declared.scan.ScanStage.TheVariants.{LoadBitmap, LoadField, Shading, FindRoom}
+use Rattle.gh_scan.specs.Listing.{asks, goes, is_loaded, is_pointer, listing, object_of, opening, reference_in, Scanning}
+use Rattle.gh_shade.specs.declared.shade.Shaded.TheVariants.{Done, WantsRoom}
 use Rattle.gh_shade.specs.Listing as shade
 use Rattle.gh_wbuf.specs.RoomFinding as room
 
@@ -66,6 +68,13 @@ StepsAt s (Shading sh) = StepsOfShading s sh
 StepsAt s (FindRoom sh r) = StepsOfRoom s sh r
 StepsAt s _ = LoadsOne s
 
+-- with a step at this stage that found v it is done with heap word x: it is no pointer field, it is nil, or what it refers to is shaded
+abbrev pub IsDone : ScanStage → (x v : ℕ) → Type 0
+IsDone LoadBitmap x v = is_pointer v x ≡ false
+IsDone LoadField x v = v ≡ 0
+IsDone (Shading sh) x v = shade.gives sh v ≡ Some Done
+IsDone _ x v = ⊥
+
 module _ (l : Layout) (seat reference : ℕ) (held : Option Held) (found : ℕ → ℕ) where
   abbrev pub from : Scanning
   from = opening l seat reference held
@@ -87,6 +96,59 @@ module _ (l : Layout) (seat reference : ℕ) (held : Option Held) (found : ℕ �
     pub bits_are : (n i : ℕ) → asks (after n) ≡ Load (Bitmap i) → found n ≡ bits i
     pub fields_are : (n i : ℕ) → asks (after n) ≡ Load (Field i) → found n ≡ fields i
 
+  -- the words as the first n steps found them: each cell has what was found there last, and 0 where none of the steps was on it
+  abbrev pub words_told : (n : ℕ) → Words
+  words_told zero = λ cell. 0
+  words_told (suc n) = put (words_told n) (cell_of (asks (after n))) (found n)
+
+  -- the references of the slot by these
+  abbrev pub references_told : (n : ℕ) → List ℕ
+  references_told n = references_in (bitmap_words (words_told n)) (field_words (words_told n)) l slot_told (object_of reference)
+
+  -- heap word x is one of the slot
+  pub record InSlot (x : ℕ) : Type 0 where
+    pub from_first : object_of reference ≤ x
+    pub below : x < object_of reference + slot_told
+
+  -- one of the steps up to n is a load of this cell
+  pub record WasLoaded (n : ℕ) (cell : Cell) : Type 0 where
+    pub step : ℕ
+    pub by_then : step ≤ n
+    pub loads : asks (after step) ≡ Load cell
+
+  -- The slot lies in the heap. Then what it was told is what some rows hold, since it asks for each of their words once.
+  abbrev pub LiesInHeap : Type 0
+  LiesInHeap = object_of reference + slot_told ≤ 1024 * l.pages
+
+  pub record ShadesAsTold : Type 0 where
+    -- no bitmap word and no field is loaded again
+    pub bitmap_once : (k n i : ℕ) → k < n → asks (after k) ≡ Load (Bitmap i) → asks (after n) ≢ Load (Bitmap i)
+    pub fields_once : (k n i : ℕ) → k < n → asks (after k) ≡ Load (Field i) → asks (after n) ≢ Load (Field i)
+    -- by its end it has loaded exactly the bitmap words of the words of the slot, and exactly the fields of the pointers among these
+    pub loads_bitmap : (n w i : ℕ) → EndsWith listing from found n w → WasLoaded n (Bitmap i) ↔ ((x : ℕ) × InSlot x × (x / 64 ≡ i))
+    pub loads_fields : (n w x : ℕ) → EndsWith listing from found n w → WasLoaded n (Field x) ↔ (InSlot x × (pointer_bit (words_told (suc n)) x ≡ 1))
+    -- the words that it found are rows which agree with all that it was told
+    pub agree : (n w : ℕ) → EndsWith listing from found n w → AreTold (bitmap_words (words_told (suc n))) (field_words (words_told (suc n)))
+    -- it ends once it has shaded exactly the references of the slot by these, in their order
+    pub shades : (n w : ℕ) → EndsWith listing from found n w → begun (suc n) ≡ references_told (suc n)
+
+  -- with step n it is done with the heap word that it is at
+  abbrev pub DoneWith : (n : ℕ) → Type 0
+  DoneWith n = IsDone (after n).stage (after n).at (found n)
+
+  -- nothing is left to be loaded behind that word: each later word of the slot has the same bitmap word, and is no pointer field by it
+  abbrev pub NoneLeft : (n : ℕ) → Type 0
+  NoneLeft n = (y : ℕ) → (after n).at < y → y < object_of reference + slot_told → is_loaded (after (suc n)).bits y ≡ false
+
+  pub record EndsAtOnce : Type 0 where
+    -- it ends by a step exactly where it is done then with the word that it is at, and none is left
+    pub ends : (n : ℕ) → DoneWith n → NoneLeft n → EndsWith listing from found n slot_told
+    pub ends_only : (n w : ℕ) → GoesOn listing from found n → EndsWith listing from found n w → DoneWith n × NoneLeft n
+    -- so it ends by the step that is done with the last word of the slot
+    pub behind_last : (n : ℕ) → suc (after n).at ≡ object_of reference + slot_told → DoneWith n → EndsWith listing from found n slot_told
+    -- and asks for no further step
+    pub rests : (n w k : ℕ) → EndsWith listing from found n w → n < k → ¬ GoesOn listing from found k
+
   -- it goes over the words of the slot in ascending order, and gives their number
   pub record ScansInOrder : Type 0 where
     pub gives_slot : (n w : ℕ) → EndsWith listing from found n w → w ≡ slot_told
@@ -100,8 +162,12 @@ module _ (l : Layout) (seat reference : ℕ) (held : Option Held) (found : ℕ �
     pub begins : asks (after 0) ≡ Load (Page (object_of reference / 1024))
     pub steps : (n : ℕ) → StepsAt (after n) (after n).stage
     pub in_order : ScansInOrder
-    -- where it is told words of these rows it ends once it has shaded exactly the references of the slot, in their order
+    -- Where it is told words of these rows it ends once it has shaded exactly the references of the slot by them, in their order. Rows may hold anything where it has loaded nothing: so it has loaded each word that these references depend on.
     pub shades : (bits fields : Row) → AreTold bits fields → (n w : ℕ) → EndsWith listing from found n w → begun (suc n) ≡ references_in bits fields l slot_told (object_of reference)
+    -- and there are such rows, wherever the slot lies in the heap
+    pub as_told : LiesInHeap → ShadesAsTold
+    -- it ends at once behind the last word of the slot
+    pub at_once : EndsAtOnce
 
 abbrev pub ObjectsAreScanned : Type 0
 ObjectsAreScanned = (l : Layout) (seat reference : ℕ) (held : Option Held) (found : ℕ → ℕ) → found 0 < 2 ^ 64 → ScansObject l seat reference held found

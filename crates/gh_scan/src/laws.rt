@@ -2,17 +2,21 @@
 
 ghost use Rattle.gh_scan.specs.Scans.{ObjectsAreScanned};
 
-use gh_base::laws::packed_words_are_read_back;
+use gh_base::laws::{cells_are_told, packed_words_are_read_back};
 use gh_class::size_class_laws;
 
 /// The scan of an object goes over the words of its slot in ascending order, and gives their number by the
-/// page word. Where the bitmap words and the fields that it is told are those of some rows of words, what it
-/// has shaded at its end is exactly the references of the slot by these rows: what the fields hold whose bit
-/// is set, where that is not nil, each once and in the order of the words. Its own steps are loads; all
-/// others are those of shading, and of the search for room.
+/// page word. Where the slot lies in the heap it loads the bitmap words of the slot and the fields whose bit
+/// is set there, each once, and no other field; and what it has shaded at its end is exactly the references
+/// of the slot by the words that it was told: what these fields hold, where that is not nil, each once and in
+/// the order of the words. The same stands by whatever rows of words agree with what it was told. It ends by
+/// the step that is done with a word behind which nothing is left to be loaded, and by no other; so it ends
+/// at once behind the last word of the slot. Its own steps are loads; all others are those of shading, and of
+/// the search for room.
 pub fn objects_are_scanned()
     ensures { ObjectsAreScanned }
 {
+    cells_are_told();
     size_class_laws();
     packed_words_are_read_back();
 }

@@ -1,7 +1,7 @@
 //! Scans of objects that are drawn up by hand.
 
 use super::*;
-use gh_base::trace::{Steps, run_alone};
+use gh_base::trace::run_alone;
 use gh_base::{Held, Layout};
 use std::alloc::{AllocError, Global};
 use std::test::Fail;
@@ -34,19 +34,6 @@ fn words(alloc: Global, set: &[(usize, u64)]) -> Result<Vec<u64>, AllocError> {
     Ok(words)
 }
 
-/// Compares the lines of the steps.
-fn are_lines<O>(steps: &Steps<O>, lines: &[&str]) -> bool {
-    if steps.lines.len() != lines.len() {
-        return false;
-    }
-    for (i, line) in lines.iter().enumerate() {
-        if i >= steps.lines.len() || steps.lines[i].as_str() != *line {
-            return false;
-        }
-    }
-    true
-}
-
 // The object at heap word 3 * 1024 + 62 has two words, whose bits are the last two of one bitmap word.
 
 #[test]
@@ -64,7 +51,7 @@ fn numbers_are_passed_over(rt: HostRuntime) -> Result<(), Fail> {
     let steps = run_alone(rt.alloc(), &mut scan, &layout, &mut words, 99)?;
     assert_eq!(rt; steps.out, Some(2));
     let lines = ["load page 3: 2147484165", "load bitmap 48: 3"];
-    assert!(rt; are_lines(&steps, &lines));
+    assert!(rt; steps.are(&lines));
     assert_eq!(rt; scan.held(), Some(own));
     Ok(())
 }
@@ -83,7 +70,7 @@ fn nil_is_passed_over(rt: HostRuntime) -> Result<(), Fail> {
         "load field 3134: 0",
         "load field 3135: 0",
     ];
-    assert!(rt; are_lines(&steps, &lines));
+    assert!(rt; steps.are(&lines));
     assert_eq!(rt; scan.held(), None);
     Ok(())
 }
@@ -112,7 +99,7 @@ fn a_reference_is_shaded(rt: HostRuntime) -> Result<(), Fail> {
         "or mark 16 1: 0",
         "store entry 257 1025: 0",
     ];
-    assert!(rt; are_lines(&steps, &lines));
+    assert!(rt; steps.are(&lines));
     assert_eq!(rt; scan.held(), Some(Held { index: 1, count: 5 }));
     Ok(())
 }
@@ -141,7 +128,7 @@ fn the_bitmap_is_loaded_anew(rt: HostRuntime) -> Result<(), Fail> {
         "load page 1: 2147484161",
         "or mark 16 1: 1",
     ];
-    assert!(rt; are_lines(&steps, &lines));
+    assert!(rt; steps.are(&lines));
     // a large object of one page has 16 bitmap words
     let mut many = words(rt.alloc(), &[(15 + 2, LARGE)])?;
     let mut large = Scan::new(&layout, 1, 2049, None);
@@ -183,7 +170,7 @@ fn room_is_found_for_shading(rt: HostRuntime) -> Result<(), Fail> {
         "swap buffer 1 0 512: 0",
         "store entry 253 1025: 0",
     ];
-    assert!(rt; are_lines(&steps, &lines));
+    assert!(rt; steps.are(&lines));
     assert_eq!(rt; scan.held(), Some(Held { index: 1, count: 1 }));
     laws::objects_are_scanned();
     Ok(())

@@ -1,7 +1,7 @@
 //! Runs of shading over words that are drawn up by hand.
 
 use super::*;
-use gh_base::trace::{Steps, run_alone};
+use gh_base::trace::run_alone;
 use gh_base::{Held, Layout, Machine, Value};
 use std::test::Fail;
 
@@ -10,19 +10,6 @@ const HEAD: u64 = 1 + 512 + (2 << 30);
 
 /// The same without pointer fields.
 const NOSCAN_HEAD: u64 = HEAD + 256;
-
-/// The lines of the steps are these.
-fn are_lines<O>(steps: &Steps<O>, lines: &[&str]) -> bool {
-    if steps.lines.len() != lines.len() {
-        return false;
-    }
-    for (i, line) in lines.iter().enumerate() {
-        if i >= steps.lines.len() || steps.lines[i].as_str() != *line {
-            return false;
-        }
-    }
-    true
-}
 
 #[test]
 fn an_object_is_shaded(rt: HostRuntime) -> Result<(), Fail> {
@@ -46,7 +33,7 @@ fn an_object_is_shaded(rt: HostRuntime) -> Result<(), Fail> {
         let mut shade = Shade::new(&layout, 3078, Some(own));
         let steps = run_alone(rt.alloc(), &mut shade, &layout, &mut words, 9)?;
         assert_eq!(rt; steps.out, Some(Shaded::Done));
-        assert!(rt; are_lines(&steps, lines));
+        assert!(rt; steps.are(lines));
         assert_eq!(rt; shade.held(), Some(held));
     }
     laws::objects_are_shaded();
@@ -72,7 +59,7 @@ fn room_is_wished_for(rt: HostRuntime) -> Result<(), Fail> {
         let mut words = vec![in rt.alloc(); 0u64; 60_000]?;
         let steps = run_alone(rt.alloc(), &mut shade, &layout, &mut words, 9)?;
         assert_eq!(rt; steps.out, Some(Shaded::Done));
-        assert!(rt; are_lines(&steps, &["store entry 9 3078: 0"]));
+        assert!(rt; steps.are(&["store entry 9 3078: 0"]));
         assert_eq!(rt;
             shade.held(),
             Some(Held {

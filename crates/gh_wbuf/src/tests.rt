@@ -3,7 +3,7 @@
 ghost use Rattle.std.specs.Prelude.{◌≡◌, true};
 
 use super::*;
-use gh_base::trace::{Steps, run_alone};
+use gh_base::trace::run_alone;
 use gh_base::{Held, Layout, Machine};
 use std::alloc::{AllocError, Global};
 use std::test::Fail;
@@ -22,19 +22,6 @@ fn words(alloc: Global, set: &[(usize, u64)]) -> Result<Vec<u64>, AllocError> {
         }
     }
     Ok(words)
-}
-
-/// Compares the lines of the steps.
-fn are_lines<O>(steps: &Steps<O>, lines: &[&str]) -> bool {
-    if steps.lines.len() != lines.len() {
-        return false;
-    }
-    for (i, line) in lines.iter().enumerate() {
-        if i >= steps.lines.len() || steps.lines[i].as_str() != *line {
-            return false;
-        }
-    }
-    true
 }
 
 /// Tells it what its steps find: what it ends with, if it ends.
@@ -72,7 +59,7 @@ fn room_is_found(rt: HostRuntime) -> Result<(), Fail> {
         "load buffer 2: 251",
         "swap buffer 2 251 763: 251",
     ];
-    assert!(rt; are_lines(&steps, &lines));
+    assert!(rt; steps.are(&lines));
 
     let full = Held {
         index: 0,
@@ -89,7 +76,7 @@ fn room_is_found(rt: HostRuntime) -> Result<(), Fail> {
         "load buffer 1: 0",
         "swap buffer 1 0 512: 0",
     ];
-    assert!(rt; are_lines(&steps, &lines));
+    assert!(rt; steps.are(&lines));
     Ok(())
 }
 
@@ -131,14 +118,14 @@ fn entries_are_taken(rt: HostRuntime) -> Result<(), Fail> {
     let mut entry = TakeEntry::new(&layout, 1, Some(empty));
     let steps = run_alone(rt.alloc(), &mut entry, &layout, &mut found, 99)?;
     assert_eq!(rt; steps.out, Some(Some(1025)));
-    assert!(rt; are_lines(&steps, &lines));
+    assert!(rt; steps.are(&lines));
     assert_eq!(rt; entry.held(), left);
 
     let mut found = words(rt.alloc(), &set)?;
     let mut entry = TakeEntry::new(&layout, 1, Some(full));
     let steps = run_alone(rt.alloc(), &mut entry, &layout, &mut found, 99)?;
     assert_eq!(rt; steps.out, Some(Some(1025)));
-    assert!(rt; are_lines(&steps, &["load entry 509: 1025"]));
+    assert!(rt; steps.are(&["load entry 509: 1025"]));
     assert_eq!(rt; entry.held(), left);
 
     let mut found = words(rt.alloc(), &[])?;
@@ -209,7 +196,7 @@ fn a_buffer_is_given_back(rt: HostRuntime) -> Result<(), Fail> {
     let mut give = GiveBuffer::new(&layout, own);
     let steps = run_alone(rt.alloc(), &mut give, &layout, &mut words, 9)?;
     assert_eq!(rt; steps.out, Some(()));
-    assert!(rt; are_lines(&steps, &["store buffer 4 17: 512"]));
+    assert!(rt; steps.are(&["store buffer 4 17: 512"]));
     assert_eq!(rt; give.held(), None);
     laws::buffers_are_given_back();
     Ok(())

@@ -1,0 +1,302 @@
+-- In a slot that lies in the heap each bitmap word and each field is asked for once, so that what was told is what some rows hold.
+use Rattle.std.proofs.Common.{◌≡◌, ◌≢◌, ℕ, zero, suc, ◌+◌, ◌-◌, ◌*◌, ◌/◌, ◌%◌, ◌<◌, ◌≤◌, ◌==◌, Bool, true, false, cond, Option, Some, None, refl, sym, ap, ◌∙◌, arith, below_more}
+use Rattle.std.proofs.Math.Nat.{mod-eq_of_lt}
+use Rattle.std.proofs.lemmas.Bool.{eqb-true}
+use Rattle.gh_base.specs.declared.cell.Ask.TheVariants.{Load}
+use Rattle.gh_base.specs.declared.cell.Cell.{Cell}
+use Rattle.gh_base.specs.declared.cell.Cell.TheVariants.{Bitmap, Field}
+use Rattle.gh_base.specs.declared.held.Held.{Held}
+use Rattle.gh_base.specs.declared.layout.Layout.{Layout}
+use Rattle.gh_base.specs.Cells.{put, Words}
+use Rattle.gh_base.specs.Rows.{CellsAreTold}
+use Rattle.gh_base.specs.Steps.{cell_of}
+use Rattle.gh_scan.specs.declared.scan.ScanStage.{ScanStage}
+use Rattle.gh_scan.specs.declared.scan.ScanStage.TheVariants.{LoadPage, LoadBitmap, LoadField, Shading, FindRoom, Ended}
+use Rattle.gh_scan.specs.Listing.{after_room, after_shade, asks, asks_at, at_next, behind, end, goes_at, is_busy, is_pointer, next_from, object_of, reference_in, Scanning}
+use Rattle.gh_scan.specs.Scans.{after, LiesInHeap, ScansInOrder, slot_told, words_told}
+use Rattle.gh_scan.proofs.Order.{Between, next_between}
+use Rattle.gh_shade.specs.declared.shade.Shaded.{Shaded}
+use Rattle.gh_shade.specs.declared.shade.Shaded.TheVariants.{Done, WantsRoom}
+use Rattle.gh_shade.specs.declared.shade.ShadeStage.{ShadeStage}
+use Rattle.gh_shade.specs.declared.shade.ShadeStage.TheVariants as shade_stage
+use Rattle.gh_shade.specs.Listing as shade
+use Rattle.gh_wbuf.specs.declared.find_room.RoomStage.{RoomStage}
+use Rattle.gh_wbuf.specs.declared.find_room.RoomStage.TheVariants as room_stage
+use Rattle.gh_wbuf.specs.declared.try_buffer.TryStage.{TryStage}
+use Rattle.gh_wbuf.specs.declared.try_buffer.TryStage.TheVariants as try_stage
+use Rattle.gh_wbuf.specs.RoomFinding as room
+use Rattle.gh_wbuf.specs.Trying as try
+
+-- Shading and the search for room are on no bitmap word, and on no field.
+
+abbrev pub is_of_slot : Cell → Bool
+is_of_slot (Bitmap i) = true
+is_of_slot (Field i) = true
+is_of_slot _ = false
+
+enters_off : (reference : ℕ) (held : Option Held) → is_of_slot (cell_of (shade.enters reference held)) ≡ false
+enters_off reference None = refl
+enters_off reference (Some h) = refl
+
+pub shade_off : (sh : shade.Shading) (stage : ShadeStage) → is_of_slot (cell_of (shade.asks_at sh stage)) ≡ false
+shade_off sh shade_stage.LoadPage = refl
+shade_off sh (shade_stage.SetMark noscan) = refl
+shade_off sh shade_stage.WaitForRoom = refl
+shade_off sh shade_stage.Enter = enters_off sh.reference sh.held
+shade_off sh shade_stage.Ended = refl
+
+back_off : (t : try.Trying) (held : Option Held) → is_of_slot (cell_of (try.back_at t held)) ≡ false
+back_off t None = refl
+back_off t (Some h) = refl
+
+try_off : (t : try.Trying) (stage : TryStage) → is_of_slot (cell_of (try.asks_at t stage)) ≡ false
+try_off t try_stage.Look = refl
+try_off t (try_stage.GiveBack word) = back_off t t.held
+try_off t (try_stage.Claim word) = refl
+try_off t try_stage.Ended = refl
+
+pub room_off : (r : room.RoomFinding) (stage : RoomStage) → is_of_slot (cell_of (room.asks_at r stage)) ≡ false
+room_off r (room_stage.GiveBack h) = refl
+room_off r (room_stage.Try t) = try_off t t.stage
+room_off r (room_stage.Ended h) = refl
+
+pub off_slot : (c d : Cell) → is_of_slot c ≡ false → is_of_slot d ≡ true → c ≢ d
+off_slot c d off on e =
+    let same : is_of_slot c ≡ is_of_slot d = ap is_of_slot e in
+    cc
+
+-- How far it has come: all that was asked for is below, and what it asks for at this stage is not.
+
+abbrev bits_front : (x : ℕ) → ScanStage → ℕ
+bits_front x LoadPage = 0
+bits_front x LoadBitmap = x / 64
+bits_front x _ = x / 64 + 1
+
+abbrev fields_front : (x : ℕ) → ScanStage → ℕ
+fields_front x LoadPage = 0
+fields_front x LoadBitmap = x
+fields_front x LoadField = x
+fields_front x _ = x + 1
+
+-- and after the step of this stage
+abbrev bits_passed : (x : ℕ) → ScanStage → ℕ
+bits_passed x LoadPage = 0
+bits_passed x _ = x / 64 + 1
+
+abbrev fields_passed : (x : ℕ) → ScanStage → ℕ
+fields_passed x LoadPage = 0
+fields_passed x LoadBitmap = x
+fields_passed x _ = x + 1
+
+record Passes (bits fields : ℕ) (s : Scanning) : Type 0 where
+  bits_up : bits ≤ bits_front s.at s.stage
+  fields_up : fields ≤ fields_front s.at s.stage
+
+less : (bits fields fewer : ℕ) (s : Scanning) → fewer ≤ fields → Passes bits fields s → Passes bits fewer s
+less bits fields fewer s le p =
+    let up : fields ≤ fields_front s.at s.stage = p.fields_up in
+    record { bits_up = p.bits_up; fields_up = omega arith }
+
+same : (x : ℕ) → x ≤ x
+same x = omega arith
+
+one_more : (x : ℕ) → x ≤ x + 1
+one_more x = omega arith
+
+next_word : (x z : ℕ) → x + 1 ≤ z → z % 64 ≡ 0 → x / 64 + 1 ≤ z / 64
+next_word x z le e = omega arith
+
+no_less : (x z : ℕ) → x + 1 ≤ z → x / 64 + 1 ≤ z / 64 + 1
+no_less x z le = omega arith
+
+behind_passes : (s : Scanning) → Passes (s.at / 64 + 1) (s.at + 1) (behind s)
+behind_passes s = by (next_from s.bits (end s) (s.at + 1)) (next_between (s.at + 1) s.bits (end s - (s.at + 1)) (s.at + 1) (same (s.at + 1))) where
+  by : (next : Option ℕ) → Between (s.at + 1) ((s.at + 1) + (end s - (s.at + 1))) next → Passes (s.at / 64 + 1) (s.at + 1) (at_next s next)
+  by None b = record { bits_up = same (s.at / 64 + 1); fields_up = same (s.at + 1) }
+  by (Some z) b = at_word (z % 64 == 0) refl where
+    at_word : (c : Bool) → (z % 64 == 0) ≡ c → Passes (s.at / 64 + 1) (s.at + 1) (record s { at = z; stage = cond c LoadBitmap LoadField })
+    at_word true e = record { bits_up = next_word s.at z b.0 (eqb-true _ _ e); fields_up = b.0 }
+    at_word false e = record { bits_up = no_less s.at z b.0; fields_up = b.0 }
+
+passes_at : (s : Scanning) (stage : ScanStage) (v : ℕ) → s.stage ≡ stage → Passes (bits_passed s.at stage) (fields_passed s.at stage) (goes_at s stage v)
+passes_at s LoadPage v is = record { bits_up = omega arith; fields_up = omega arith }
+passes_at s LoadBitmap v is = by (is_pointer v s.at) where
+  by : (b : Bool) → Passes (s.at / 64 + 1) s.at (cond b (record s { bits = v; stage = LoadField }) (behind (record s { bits = v })))
+  by true = record { bits_up = same (s.at / 64 + 1); fields_up = same s.at }
+  by false = less (s.at / 64 + 1) (s.at + 1) s.at (behind (record s { bits = v })) (one_more s.at) (behind_passes (record s { bits = v }))
+passes_at s LoadField v is = by (v == 0) where
+  by : (b : Bool) → Passes (s.at / 64 + 1) (s.at + 1) (cond b (behind s) (record s { stage = Shading (shade.opening s.layout (reference_in s.layout v) s.held) }))
+  by true = behind_passes s
+  by false = record { bits_up = same (s.at / 64 + 1); fields_up = same (s.at + 1) }
+passes_at s (Shading sh) v is = by (shade.goes sh v) (shade.gives sh v) where
+  by : (next : shade.Shading) (out : Option Shaded) → Passes (s.at / 64 + 1) (s.at + 1) (after_shade s next out)
+  by next None = record { bits_up = same (s.at / 64 + 1); fields_up = same (s.at + 1) }
+  by next (Some Done) = behind_passes (record s { held = next.held })
+  by next (Some WantsRoom) = record { bits_up = same (s.at / 64 + 1); fields_up = same (s.at + 1) }
+passes_at s (FindRoom sh r) v is = by (room.goes r v) (room.gives r v) where
+  by : (next : room.RoomFinding) (out : Option Held) → Passes (s.at / 64 + 1) (s.at + 1) (after_room s sh next out)
+  by next None = record { bits_up = same (s.at / 64 + 1); fields_up = same (s.at + 1) }
+  by next (Some own) = record { bits_up = same (s.at / 64 + 1); fields_up = same (s.at + 1) }
+passes_at s Ended v is =
+    let bits : bits_front s.at s.stage ≡ s.at / 64 + 1 = ap (λ (g : ScanStage). bits_front s.at g) is in
+    let fields : fields_front s.at s.stage ≡ s.at + 1 = ap (λ (g : ScanStage). fields_front s.at g) is in
+    record { bits_up = omega arith; fields_up = omega arith }
+
+bits_rise : (x : ℕ) (stage : ScanStage) → bits_front x stage ≤ bits_passed x stage
+bits_rise x LoadPage = same 0
+bits_rise x LoadBitmap = one_more (x / 64)
+bits_rise x LoadField = same (x / 64 + 1)
+bits_rise x (Shading sh) = same (x / 64 + 1)
+bits_rise x (FindRoom sh r) = same (x / 64 + 1)
+bits_rise x Ended = same (x / 64 + 1)
+
+fields_rise : (x : ℕ) (stage : ScanStage) → fields_front x stage ≤ fields_passed x stage
+fields_rise x LoadPage = same 0
+fields_rise x LoadBitmap = same x
+fields_rise x LoadField = one_more x
+fields_rise x (Shading sh) = same (x + 1)
+fields_rise x (FindRoom sh r) = same (x + 1)
+fields_rise x Ended = same (x + 1)
+
+-- index i of a row is asked for here: it is not below the front, and is afterwards
+record AtFront (front passed i : ℕ) : Type 0 where
+  here : front ≤ i
+  below : i < passed
+
+bitmap_index : (x pages i : ℕ) → x < 1024 * pages → Bitmap (x / 64 % (16 * pages)) ≡ Bitmap i → AtFront (x / 64) (x / 64 + 1) i
+bitmap_index x pages i lt e =
+    let small : x / 64 < 16 * pages = omega arith in
+    let whole : x / 64 % (16 * pages) ≡ x / 64 = mod-eq_of_lt small in
+    let index : x / 64 % (16 * pages) ≡ i = cc in
+    record { here = omega arith; below = omega arith }
+
+field_index : (x pages i : ℕ) → x < 1024 * pages → Field (x % (1024 * pages)) ≡ Field i → AtFront x (x + 1) i
+field_index x pages i lt e =
+    let whole : x % (1024 * pages) ≡ x = mod-eq_of_lt lt in
+    let index : x % (1024 * pages) ≡ i = cc in
+    record { here = omega arith; below = omega arith }
+
+module _ (s : Scanning) where
+  -- where it asks for a word of the slot that lies in the heap
+  abbrev Inside : ScanStage → Type 0
+  Inside stage = is_busy stage ≡ true → s.at < 1024 * s.layout.pages
+
+  bits_at : (stage : ScanStage) (i : ℕ) → Inside stage → cell_of (asks_at s stage) ≡ Bitmap i → AtFront (bits_front s.at stage) (bits_passed s.at stage) i
+  bits_at LoadPage i inside e = absurd (cc)
+  bits_at LoadBitmap i inside e = bitmap_index s.at s.layout.pages i (inside refl) e
+  bits_at LoadField i inside e = absurd (cc)
+  bits_at (Shading sh) i inside e = absurd (off_slot _ _ (shade_off sh sh.stage) refl e)
+  bits_at (FindRoom sh r) i inside e = absurd (off_slot _ _ (room_off r r.stage) refl e)
+  bits_at Ended i inside e = absurd (cc)
+
+  fields_at : (stage : ScanStage) (i : ℕ) → Inside stage → cell_of (asks_at s stage) ≡ Field i → AtFront (fields_front s.at stage) (fields_passed s.at stage) i
+  fields_at LoadPage i inside e = absurd (cc)
+  fields_at LoadBitmap i inside e = absurd (cc)
+  fields_at LoadField i inside e = field_index s.at s.layout.pages i (inside refl) e
+  fields_at (Shading sh) i inside e = absurd (off_slot _ _ (shade_off sh sh.stage) refl e)
+  fields_at (FindRoom sh r) i inside e = absurd (off_slot _ _ (room_off r r.stage) refl e)
+  fields_at Ended i inside e = absurd (cc)
+
+module _ (cells : CellsAreTold) (l : Layout) (seat reference : ℕ) (held : Option Held) (found : ℕ → ℕ) where
+  abbrev state_n : ℕ → Scanning
+  state_n n = after l seat reference held found n
+
+  abbrev words_n : ℕ → Words
+  words_n n = words_told l seat reference held found n
+
+  -- a row of which each word is asked for at a front that rises
+  module _ (row : ℕ → Cell) (front : ℕ → ℕ) (rises : (n : ℕ) → front n ≤ front (suc n))
+      (at_front : (n i : ℕ) → cell_of (asks (state_n n)) ≡ row i → AtFront (front n) (front (suc n)) i) where
+    record Kept (n k i : ℕ) : Type 0 where
+      holds : found k ≡ words_n n (row i)
+      below : i < front n
+
+    abbrev KeptOf : (n k : ℕ) → Type 0
+    KeptOf n k = (i : ℕ) → asks (state_n k) ≡ Load (row i) → Kept n k i
+
+    -- the step that asks for it
+    kept_here : (n : ℕ) → KeptOf (suc n) n
+    kept_here n i e =
+        let cell : cell_of (asks (state_n n)) ≡ row i = ap cell_of e in
+        let wrote : put (words_n n) (row i) (found n) (row i) ≡ found n = cells.put_here (words_n n) (row i) (found n) in
+        let holds : put (words_n n) (cell_of (asks (state_n n))) (found n) (row i) ≡ found n = ap (λ (c : Cell). put (words_n n) c (found n) (row i)) cell ∙ wrote in
+        record { holds = sym holds; below = (at_front n i cell).below }
+
+    -- and each step after it
+    kept_on : (n k i : ℕ) → Kept n k i → Kept (suc n) k i
+    kept_on n k i was =
+        let below : i < front n = was.below in
+        let up : front n ≤ front (suc n) = rises n in
+        let apart : cell_of (asks (state_n n)) ≢ row i = λ e. (let here : front n ≤ i = (at_front n i e).here in omega arith) in
+        let stays : put (words_n n) (cell_of (asks (state_n n))) (found n) (row i) ≡ words_n n (row i) = cells.put_elsewhere (words_n n) (cell_of (asks (state_n n))) (row i) (found n) apart in
+        record { holds = was.holds ∙ sym stays; below = omega arith }
+
+    kept : (n k : ℕ) → k < n → KeptOf n k
+    kept zero k lt = absurd (omega arith)
+    kept (suc n) k lt =
+        let lt_more : k < n + 1 = omega arith in
+        below_more (λ (j : ℕ). KeptOf (suc n) j) n (λ j below i e. kept_on n j i (kept n j below i e)) (kept_here n) k lt_more
+
+    once : (k n i : ℕ) → k < n → asks (state_n k) ≡ Load (row i) → asks (state_n n) ≢ Load (row i)
+    once k n i lt e again =
+        let below : i < front n = (kept n k lt i e).below in
+        let here : front n ≤ i = (at_front n i (ap cell_of again)).here in
+        omega arith
+
+  module _ (order : ScansInOrder l seat reference held found) (lies : LiesInHeap l seat reference held found) (stays : (n : ℕ) → (state_n n).layout ≡ l) where
+    abbrev bits_n : ℕ → ℕ
+    bits_n n = bits_front (state_n n).at (state_n n).stage
+
+    abbrev fields_n : ℕ → ℕ
+    fields_n n = fields_front (state_n n).at (state_n n).stage
+
+    passes : (n : ℕ) → Passes (bits_passed (state_n n).at (state_n n).stage) (fields_passed (state_n n).at (state_n n).stage) (state_n (suc n))
+    passes n = passes_at (state_n n) (state_n n).stage (found n) refl
+
+    bits_rise_n : (n : ℕ) → bits_n n ≤ bits_n (suc n)
+    bits_rise_n n =
+        let up : bits_n n ≤ bits_passed (state_n n).at (state_n n).stage = bits_rise (state_n n).at (state_n n).stage in
+        let on : bits_passed (state_n n).at (state_n n).stage ≤ bits_n (suc n) = (passes n).bits_up in
+        omega arith
+
+    fields_rise_n : (n : ℕ) → fields_n n ≤ fields_n (suc n)
+    fields_rise_n n =
+        let up : fields_n n ≤ fields_passed (state_n n).at (state_n n).stage = fields_rise (state_n n).at (state_n n).stage in
+        let on : fields_passed (state_n n).at (state_n n).stage ≤ fields_n (suc n) = (passes n).fields_up in
+        omega arith
+
+    inside : (n : ℕ) → Inside (state_n (suc n)) (state_n (suc n)).stage
+    inside n busy =
+        let within : (state_n (suc n)).at < object_of reference + slot_told l seat reference held found = order.within n busy in
+        let heap : object_of reference + slot_told l seat reference held found ≤ 1024 * l.pages = lies in
+        let pages : (state_n (suc n)).layout.pages ≡ l.pages = ap (λ (m : Layout). m.pages) (stays (suc n)) in
+        omega arith
+
+    bits_ask : (n i : ℕ) → cell_of (asks (state_n n)) ≡ Bitmap i → AtFront (bits_n n) (bits_n (suc n)) i
+    bits_ask zero i e = absurd (cc)
+    bits_ask (suc n) i e =
+        let at = bits_at (state_n (suc n)) (state_n (suc n)).stage i (inside n) e in
+        let below : i < bits_passed (state_n (suc n)).at (state_n (suc n)).stage = at.below in
+        let on : bits_passed (state_n (suc n)).at (state_n (suc n)).stage ≤ bits_n (suc (suc n)) = (passes (suc n)).bits_up in
+        record { here = at.here; below = omega arith }
+
+    fields_ask : (n i : ℕ) → cell_of (asks (state_n n)) ≡ Field i → AtFront (fields_n n) (fields_n (suc n)) i
+    fields_ask zero i e = absurd (cc)
+    fields_ask (suc n) i e =
+        let at = fields_at (state_n (suc n)) (state_n (suc n)).stage i (inside n) e in
+        let below : i < fields_passed (state_n (suc n)).at (state_n (suc n)).stage = at.below in
+        let on : fields_passed (state_n (suc n)).at (state_n (suc n)).stage ≤ fields_n (suc (suc n)) = (passes (suc n)).fields_up in
+        record { here = at.here; below = omega arith }
+
+    pub bitmap_once : (k n i : ℕ) → k < n → asks (state_n k) ≡ Load (Bitmap i) → asks (state_n n) ≢ Load (Bitmap i)
+    bitmap_once = once Bitmap bits_n bits_rise_n bits_ask
+
+    pub fields_once : (k n i : ℕ) → k < n → asks (state_n k) ≡ Load (Field i) → asks (state_n n) ≢ Load (Field i)
+    fields_once = once Field fields_n fields_rise_n fields_ask
+
+    -- what was told in the first n steps is what the rows have then
+    pub bits_kept : (n k i : ℕ) → k < n → asks (state_n k) ≡ Load (Bitmap i) → found k ≡ words_n n (Bitmap i)
+    bits_kept n k i lt e = (kept Bitmap bits_n bits_rise_n bits_ask n k lt i e).holds
+
+    pub fields_kept : (n k i : ℕ) → k < n → asks (state_n k) ≡ Load (Field i) → found k ≡ words_n n (Field i)
+    fields_kept n k i lt e = (kept Field fields_n fields_rise_n fields_ask n k lt i e).holds
