@@ -1,0 +1,77 @@
+-- Going on after a stop: what is asked for at each stage, where that leads, and what it gives.
+use Rattle.std.specs.Prelude.{ℕ, Bool, true, false, not, ◌==◌, if◌then◌else◌, Option, Some, None}
+use Rattle.gh_base.specs.declared.cell.Cell.TheVariants.{Touch, Phase, Gen, Begun, Ack}
+use Rattle.gh_base.specs.declared.cell.Ask.{Ask}
+use Rattle.gh_base.specs.declared.cell.Ask.TheVariants.{Load, Store}
+use Rattle.gh_base.specs.declared.layout.Layout.{Layout}
+use Rattle.gh_base.specs.Packing.{phase_of}
+use Rattle.gh_base.specs.Routines.{Listing}
+use Rattle.gh_phase.specs.declared.resume.Resumed.{Resumed}
+use Rattle.gh_phase.specs.declared.resume.ResumeStage.{ResumeStage}
+use Rattle.gh_phase.specs.declared.resume.ResumeStage.TheVariants.{Acknowledge, LoadPhase, LoadGeneration, LoadBegun, Ended}
+use Rattle.gh_phase.specs.declared.view.RunPhase.{RunPhase}
+use Rattle.gh_phase.specs.declared.view.View.{View}
+use Rattle.gh_phase.specs.Views.{generation_of, run_phase}
+
+-- an actor that goes on after a stop: the number of the stop, what it knows so far, and its stage
+pub record Resuming : Type 0 where
+  pub layout : Layout
+  pub seat : ℕ
+  pub stops : ℕ
+  pub view : View
+  pub stage : ResumeStage
+
+abbrev pub opening : Layout → (seat stops : ℕ) → View → Resuming
+opening l seat stops view = record { layout = l; seat = seat; stops = stops; view = view; stage = Acknowledge }
+
+abbrev pub at_stage : Resuming → ResumeStage → Resuming
+at_stage r stage = record r { stage = stage }
+
+-- it ends with what it knows now, and whether another number of cycles has begun than it knew of
+abbrev pub resumed : View → (begun : ℕ) → Resumed
+resumed view begun = record { view = record view { begun = begun }; another_cycle = not (begun == view.begun) }
+
+module _ (r : Resuming) where
+  abbrev pub asks_at : ResumeStage → Ask
+  asks_at Acknowledge = Store (Ack r.seat) r.stops
+  asks_at LoadPhase = Load Phase
+  asks_at LoadGeneration = Load Gen
+  asks_at LoadBegun = Load Begun
+  asks_at Ended = Load Touch
+
+  -- a stop with the same number is waited for; one with another is acknowledged
+  abbrev pub stopped : (number : ℕ) → Resuming
+  stopped number = if number == r.stops then at_stage r LoadPhase else record r { stops = number; stage = Acknowledge }
+
+  -- by the phase of a world that runs, or else by the number of the stop
+  abbrev pub after_phase : (number : ℕ) → Option RunPhase → Resuming
+  after_phase number None = stopped number
+  after_phase number (Some phase) = record r { view = record (r.view) { phase = phase }; stage = LoadGeneration }
+
+  abbrev pub goes_at : ResumeStage → ℕ → Resuming
+  goes_at Acknowledge found = at_stage r LoadPhase
+  goes_at LoadPhase found = after_phase (phase_of found).stops (run_phase (phase_of found).phase)
+  goes_at LoadGeneration found = record r { view = record (r.view) { generation = generation_of found }; stage = LoadBegun }
+  goes_at LoadBegun found = record r { view = record (r.view) { begun = found }; stage = Ended }
+  goes_at Ended found = r
+
+  abbrev pub gives_at : ResumeStage → ℕ → Option Resumed
+  gives_at LoadBegun found = Some (resumed r.view found)
+  gives_at _ found = None
+
+abbrev pub is_busy : ResumeStage → Bool
+is_busy Ended = false
+is_busy _ = true
+
+-- the step that it asks for, what it is after the step found this, and what it ends with if that step is its last
+abbrev pub asks : Resuming → Ask
+asks r = asks_at r r.stage
+
+abbrev pub goes : Resuming → ℕ → Resuming
+goes r found = goes_at r r.stage found
+
+abbrev pub gives : Resuming → ℕ → Option Resumed
+gives r found = gives_at r r.stage found
+
+abbrev pub listing : Listing Resuming Resumed
+listing = record { layout = λ r. r.layout; busy = λ r. is_busy r.stage; asks = asks; goes = goes; gives = gives }
