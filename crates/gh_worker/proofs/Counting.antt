@@ -1,0 +1,84 @@
+-- A worker's count, step by step.
+use Rattle.std.proofs.Common.{◌≡◌, ℕ, zero, suc, ◌+◌, ◌-◌, ◌^◌, Bool, true, false, cond, eqb, Option, Some, None, arith}
+use Rattle.std.specs.Prelude.{min}
+use Rattle.gh_base.specs.declared.held.Held.{Held}
+use Rattle.gh_base.specs.declared.layout.Layout.{Layout}
+use Rattle.gh_phase.specs.declared.resume.Resumed.{Resumed}
+use Rattle.gh_phase.specs.Listing as resume
+use Rattle.gh_scan.specs.Listing as scan
+use Rattle.gh_shade.specs.declared.shade.Shaded.{Shaded}
+use Rattle.gh_shade.specs.declared.shade.Shaded.TheVariants as shaded
+use Rattle.gh_shade.specs.Listing as shade
+use Rattle.gh_wbuf.specs.BufferGiving as give
+use Rattle.gh_wbuf.specs.EntryTaking as take
+use Rattle.gh_wbuf.specs.RoomFinding as room
+use Rattle.gh_worker.specs.declared.worker.WorkerStage.{WorkerStage}
+use Rattle.gh_worker.specs.declared.worker.WorkerStage.TheVariants.{LoadPhase, GiveBack, Resuming, Taking, Scanning, LoadCursor, Claim, LoadGlobal, Shading, FindRoom, Leave, Done}
+use Rattle.gh_worker.specs.Listing.{Working, after_give, after_resume, after_room, after_scan, after_shade, after_take, at_stage, done_with, goes_at}
+use Rattle.gh_worker.specs.Works.{CountsWords, after, scanned, word_of, words_done, words_of}
+
+-- the count of so many words
+abbrev count : ℕ → ℕ
+count words = min words (2 ^ 64 - 1)
+
+none_more : (marks s : ℕ) → marks ≡ count s → marks ≡ count (s + 0)
+none_more marks s e = omega arith
+
+more : (marks s d : ℕ) → marks ≡ count s → count (marks + d) ≡ count (s + d)
+more marks s d e = omega arith
+
+module _ (w : Working) (s : ℕ) (e : w.marks ≡ count s) where
+  abbrev Counts : (d : ℕ) → Working → Type 0
+  Counts d to = to.marks ≡ count (s + d)
+
+  give_so : (g : give.BufferGiving) (stops : ℕ) (out : Option (Unit {0})) → Counts 0 (after_give w g stops out)
+  give_so g stops None = none_more w.marks s e
+  give_so g stops (Some x) = none_more w.marks s e
+
+  resume_so : (r : resume.Resuming) (out : Option Resumed) → Counts 0 (after_resume w r out)
+  resume_so r None = none_more w.marks s e
+  resume_so r (Some out) = none_more w.marks s e
+
+  take_so : (t : take.EntryTaking) (out : Option (Option ℕ)) → Counts 0 (after_take w t out)
+  take_so t None = none_more w.marks s e
+  take_so t (Some None) = none_more w.marks s e
+  take_so t (Some (Some reference)) = none_more w.marks s e
+
+  scan_so : (sc : scan.Scanning) (out : Option ℕ) → Counts (words_of out) (after_scan w sc out)
+  scan_so sc None = none_more w.marks s e
+  scan_so sc (Some words) = more w.marks s words e
+
+  global_so : (sh : shade.Shading) (b : Bool) → Counts (cond b 1 0) (cond b (done_with w w.held 1) (at_stage w (Shading sh)))
+  global_so sh true = more w.marks s 1 e
+  global_so sh false = none_more w.marks s e
+
+  shade_so : (sh : shade.Shading) (out : Option Shaded) → Counts (word_of out) (after_shade w sh out)
+  shade_so sh None = none_more w.marks s e
+  shade_so sh (Some shaded.Done) = more w.marks s 1 e
+  shade_so sh (Some shaded.WantsRoom) = none_more w.marks s e
+
+  room_so : (sh : shade.Shading) (r : room.RoomFinding) (out : Option Held) → Counts 0 (after_room w sh r out)
+  room_so sh r None = none_more w.marks s e
+  room_so sh r (Some h) = none_more w.marks s e
+
+  step_so : (stage : WorkerStage) (found : ℕ) → Counts (words_done stage found) (goes_at w stage found)
+  step_so LoadPhase found = none_more w.marks s e
+  step_so (GiveBack g stops) found = give_so (give.goes g found) stops (give.gives g found)
+  step_so (Resuming r) found = resume_so (resume.goes r found) (resume.gives r found)
+  step_so (Taking t) found = take_so (take.goes t found) (take.gives t found)
+  step_so (Scanning sc) found = scan_so (scan.goes sc found) (scan.gives sc found)
+  step_so LoadCursor found = none_more w.marks s e
+  step_so Claim found = none_more w.marks s e
+  step_so (LoadGlobal i) found = global_so _ (eqb found 0)
+  step_so (Shading sh) found = shade_so (shade.goes sh found) (shade.gives sh found)
+  step_so (FindRoom sh r) found = room_so sh (room.goes r found) (room.gives r found)
+  step_so Leave found = none_more w.marks s e
+  step_so Done found = none_more w.marks s e
+
+module _ (l : Layout) (seat : ℕ) (found : ℕ → ℕ) where
+  counts_so : (n : ℕ) → (after l seat found n).marks ≡ count (scanned l seat found n)
+  counts_so zero = omega arith
+  counts_so (suc n) = step_so (after l seat found n) (scanned l seat found n) (counts_so n) (after l seat found n).stage (found n)
+
+  pub counts : CountsWords l seat found
+  counts = record { counts = counts_so }

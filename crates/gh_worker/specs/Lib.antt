@@ -1,0 +1,4 @@
+pub mod Ends
+pub mod Listing
+pub mod Sound
+pub mod Works

@@ -1,0 +1,155 @@
+-- The worker: what it asks for at each stage, where that leads, and when it is done.
+use Rattle.std.specs.Prelude.{ℕ, ◌+◌, ◌-◌, ◌^◌, Bool, true, false, min, nat_lt, ◌==◌, if◌then◌else◌, Option, Some, None}
+use Rattle.gh_base.specs.declared.cell.Cell.TheVariants as cell
+use Rattle.gh_base.specs.declared.cell.Ask.{Ask}
+use Rattle.gh_base.specs.declared.cell.Ask.TheVariants.{Load, Store, Add}
+use Rattle.gh_base.specs.declared.held.Held.{Held}
+use Rattle.gh_base.specs.declared.layout.Layout.{Layout}
+use Rattle.gh_base.specs.declared.pack.Phase.{Phase}
+use Rattle.gh_base.specs.declared.pack.Phase.TheVariants.{Off, Mark, Stop, Finished}
+use Rattle.gh_base.specs.declared.pack.TheConstants.{GONE}
+use Rattle.gh_base.specs.Packing.{phase_of}
+use Rattle.gh_base.specs.Routines.{Listing}
+use Rattle.gh_phase.specs.declared.resume.Resumed.{Resumed}
+use Rattle.gh_phase.specs.declared.view.View.{View}
+use Rattle.gh_phase.specs.Listing as resume
+use Rattle.gh_phase.specs.Views.{first_view}
+use Rattle.gh_scan.specs.Listing as scan
+use Rattle.gh_scan.specs.Listing.{reference_in}
+use Rattle.gh_shade.specs.declared.shade.Shaded.{Shaded}
+use Rattle.gh_shade.specs.declared.shade.Shaded.TheVariants as shaded
+use Rattle.gh_shade.specs.Listing as shade
+use Rattle.gh_wbuf.specs.BufferGiving as give
+use Rattle.gh_wbuf.specs.EntryTaking as take
+use Rattle.gh_wbuf.specs.RoomFinding as room
+use Rattle.gh_worker.specs.declared.worker.WorkerStage.{WorkerStage}
+use Rattle.gh_worker.specs.declared.worker.WorkerStage.TheVariants.{LoadPhase, GiveBack, Resuming, Taking, Scanning, LoadCursor, Claim, LoadGlobal, Shading, FindRoom, Leave, Done}
+
+-- a worker: the buffer that it holds between its routines, what it knows of the phase, the words that it has scanned, and its stage
+pub record Working : Type 0 where
+  pub layout : Layout
+  pub seat : ℕ
+  pub held : Option Held
+  pub view : View
+  pub marks : ℕ
+  pub stage : WorkerStage
+
+abbrev pub opening : Layout → (seat : ℕ) → Working
+opening l seat = record { layout = l; seat = seat; held = None; view = first_view; marks = 0; stage = LoadPhase }
+
+abbrev pub at_stage : Working → WorkerStage → Working
+at_stage w stage = record w { stage = stage }
+
+-- what is held at each stage
+abbrev pub held_at : Option Held → WorkerStage → Option Held
+held_at held (GiveBack g stops) = give.held_at g.stage
+held_at held (Taking t) = take.held_at t.stage
+held_at held (Scanning s) = scan.held_at s.held s.stage
+held_at held (Shading sh) = sh.held
+held_at held (FindRoom sh r) = room.held_at r.stage
+held_at held _ = held
+
+-- so many words more are scanned; the count stands still at its type's end
+abbrev pub counted : (marks words : ℕ) → ℕ
+counted marks words = min (marks + words) (2 ^ 64 - 1)
+
+abbrev pub asks_at : Working → WorkerStage → Ask
+asks_at w LoadPhase = Load cell.Phase
+asks_at w (GiveBack g stops) = give.asks g
+asks_at w (Resuming r) = resume.asks r
+asks_at w (Taking t) = take.asks t
+asks_at w (Scanning s) = scan.asks s
+asks_at w LoadCursor = Load cell.Gcur
+asks_at w Claim = Add cell.Gcur 1
+asks_at w (LoadGlobal i) = Load (cell.Global i)
+asks_at w (Shading sh) = shade.asks sh
+asks_at w (FindRoom sh r) = room.asks r
+asks_at w Leave = Store (cell.Ack w.seat) GONE
+asks_at w Done = Load cell.Touch
+
+-- it acknowledges the stop of this number and goes on
+abbrev pub resuming : Working → (stops : ℕ) → WorkerStage
+resuming w stops = Resuming (resume.opening w.layout w.seat stops w.view)
+
+-- at a stop it gives the buffer that it holds back first
+abbrev pub stops_at : Working → (stops : ℕ) → Option Held → WorkerStage
+stops_at w stops None = resuming w stops
+stops_at w stops (Some h) = GiveBack (give.opening w.layout h) stops
+
+-- by the phase that was found, with the number of stops
+abbrev pub by_phase : Working → (stops : ℕ) → Phase → WorkerStage
+by_phase w stops Off = LoadPhase
+by_phase w stops Mark = Taking (take.opening w.layout w.seat w.held)
+by_phase w stops Stop = stops_at w stops w.held
+by_phase w stops Finished = Leave
+
+-- after the buffer is given back none is held
+abbrev pub after_give : Working → give.BufferGiving → (stops : ℕ) → Option (Unit {0}) → Working
+after_give w g stops None = at_stage w (GiveBack g stops)
+after_give w g stops (Some x) = record w { held = None; stage = resuming w stops }
+
+abbrev pub after_resume : Working → resume.Resuming → Option Resumed → Working
+after_resume w r None = at_stage w (Resuming r)
+after_resume w r (Some out) = record w { view = out.view; stage = LoadPhase }
+
+-- an object that was taken is scanned; with none the next global is looked for
+abbrev pub after_take : Working → take.EntryTaking → Option (Option ℕ) → Working
+after_take w t None = at_stage w (Taking t)
+after_take w t (Some None) = record w { held = take.held_at t.stage; stage = LoadCursor }
+after_take w t (Some (Some reference)) = record w { held = take.held_at t.stage; stage = Scanning (scan.opening w.layout w.seat reference (take.held_at t.stage)) }
+
+-- so many words are scanned, and this is held then
+abbrev pub done_with : Working → Option Held → (words : ℕ) → Working
+done_with w held words = record w { held = held; marks = counted w.marks words; stage = LoadPhase }
+
+abbrev pub after_scan : Working → scan.Scanning → Option ℕ → Working
+after_scan w s None = at_stage w (Scanning s)
+after_scan w s (Some words) = done_with w (scan.held_at s.held s.stage) words
+
+-- a global that is nil needs no step more; any other is taken modulo the heap's words
+abbrev pub after_global : Working → (found : ℕ) → Working
+after_global w found = if found == 0 then done_with w w.held 1 else at_stage w (Shading (shade.opening w.layout (reference_in w.layout found) w.held))
+
+abbrev pub after_shade : Working → shade.Shading → Option Shaded → Working
+after_shade w sh None = at_stage w (Shading sh)
+after_shade w sh (Some shaded.Done) = done_with w sh.held 1
+after_shade w sh (Some shaded.WantsRoom) = at_stage w (FindRoom sh (room.opening w.layout w.seat sh.held))
+
+abbrev pub after_room : Working → shade.Shading → room.RoomFinding → Option Held → Working
+after_room w sh r None = at_stage w (FindRoom sh r)
+after_room w sh r (Some h) = at_stage w (Shading (shade.told_room sh h))
+
+abbrev pub goes_at : Working → WorkerStage → ℕ → Working
+goes_at w LoadPhase found = at_stage w (by_phase w (phase_of found).stops (phase_of found).phase)
+goes_at w (GiveBack g stops) found = after_give w (give.goes g found) stops (give.gives g found)
+goes_at w (Resuming r) found = after_resume w (resume.goes r found) (resume.gives r found)
+goes_at w (Taking t) found = after_take w (take.goes t found) (take.gives t found)
+goes_at w (Scanning s) found = after_scan w (scan.goes s found) (scan.gives s found)
+goes_at w LoadCursor found = at_stage w (if nat_lt found w.layout.globals then Claim else LoadPhase)
+goes_at w Claim found = at_stage w (if nat_lt found w.layout.globals then LoadGlobal found else LoadPhase)
+goes_at w (LoadGlobal i) found = after_global w found
+goes_at w (Shading sh) found = after_shade w (shade.goes sh found) (shade.gives sh found)
+goes_at w (FindRoom sh r) found = after_room w sh (room.goes r found) (room.gives r found)
+goes_at w Leave found = at_stage w Done
+goes_at w Done found = w
+
+abbrev pub gives_at : WorkerStage → Option (Unit {0})
+gives_at Leave = Some tt
+gives_at _ = None
+
+-- until it is done
+abbrev pub is_busy : WorkerStage → Bool
+is_busy Done = false
+is_busy _ = true
+
+abbrev pub asks : Working → Ask
+asks w = asks_at w w.stage
+
+abbrev pub goes : Working → ℕ → Working
+goes w found = goes_at w w.stage found
+
+abbrev pub gives : Working → ℕ → Option (Unit {0})
+gives w found = gives_at w.stage
+
+abbrev pub listing : Listing Working (Unit {0})
+listing = record { layout = λ w. w.layout; busy = λ w. is_busy w.stage; asks = asks; goes = goes; gives = gives }

@@ -1,0 +1,24 @@
+//! The worker: an actor that marks in the background while goroutines run.
+//!
+//! Marking has two sources of grey objects: the roots, and what is grey already. A worker takes grey
+//! objects from the work buffers and scans each, which shades what it refers to; where no buffer has one
+//! it takes the next global that nobody has claimed, and shades what that refers to. So each worker goes on
+//! until all globals are claimed and all buffers are empty, and no two take the same object or global: an
+//! entry is taken from a buffer that one alone holds, and a global is claimed by an atomic add.
+//!
+//! Between two objects it loads the phase. At a stop it gives its buffer back before it acknowledges: the
+//! collector looks for grey objects in the buffers that nobody holds, and one that a stopped worker kept
+//! would be missed, and its object freed. With marking off it waits. Once the last cycle is swept it says
+//! that it is gone, and is done.
+//!
+//! This is Go's `gcBgMarkWorker` (mgc.go) with `gcDrain` (mgcmark.go). Go parks its workers between cycles
+//! and starts them by the scheduler; here each loads the phase until marking is on. Go claims roots by
+//! `work.markrootNext`, in blocks; here the globals are the roots, and each is claimed by itself.
+#![tactic(auto)]
+
+pub mod laws;
+#[cfg(test)]
+mod tests;
+mod worker;
+
+pub use worker::{Worker, WorkerStage};

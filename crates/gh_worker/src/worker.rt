@@ -1,0 +1,377 @@
+//! The worker as a machine of single atomic steps.
+
+ghost use Rattle.std.specs.Prelude.{◌≡◌, ◌^◌, ◌<◌, IsTrue, ◌↔◌, Option, false, true};
+ghost use Rattle.gh_base.specs.Holding.{IsHeld};
+ghost use Rattle.gh_phase.specs.Listing as resumes;
+ghost use Rattle.gh_scan.specs.Listing as scans;
+ghost use Rattle.gh_shade.specs.Listing as shades;
+ghost use Rattle.gh_wbuf.specs.EntryTaking as takes;
+ghost use Rattle.gh_wbuf.specs.RoomFinding as rooms;
+ghost use Rattle.gh_worker.specs.Listing.{after_global, done_with, goes_at, held_at, is_busy, opening, resuming, stops_at};
+ghost use Rattle.gh_worker.specs.Sound.{IsWorkersSeat, Runs, Waits};
+
+use gh_base::{Ask, Cell, GONE, Held, Layout, Machine, Phase, PhaseWord, Req};
+use gh_phase::{Resume, Resumed, View};
+use gh_scan::Scan;
+use gh_shade::{Shade, Shaded};
+use gh_wbuf::{FindRoom, GiveBuffer, TakeEntry};
+use std::marker::Model;
+
+/// The stages of a worker.
+#[derive(Clone, Copy, Debug, PartialEq, Eq)]
+pub enum WorkerStage {
+    /// It loads the phase.
+    LoadPhase,
+    /// It gives its buffer back, at the stop of this number.
+    GiveBack(GiveBuffer, u64),
+    /// It acknowledges a stop and goes on.
+    Resuming(Resume),
+    /// It takes a grey object.
+    Taking(TakeEntry),
+    /// It scans that object.
+    Scanning(Scan),
+    /// It loads the number of the next global.
+    LoadCursor,
+    /// It claims the next global.
+    Claim,
+    /// It loads the global that it has claimed.
+    LoadGlobal(u32),
+    /// It shades what that refers to.
+    Shading(Shade),
+    /// It looks for a buffer with room, which that shading waits for.
+    FindRoom(Shade, FindRoom),
+    /// It says that it is gone.
+    Leave,
+    /// It is done.
+    Done,
+}
+
+/// Marks in the background (Go's `gcBgMarkWorker`, mgc.go, and `gcDrain`, mgcmark.go).
+///
+/// Again and again it loads the phase. While marking is on it takes a grey object and scans it; where no
+/// buffer has one it claims the next global, if one is left, and shades what that refers to. At a stop it
+/// gives its buffer back, acknowledges, and goes on once the world runs again. With marking off it loads the
+/// phase again. Where the last cycle is swept it says that it is gone, and is done.
+#[derive(Clone, Copy, Debug, PartialEq, Eq)]
+pub struct Worker {
+    layout: Layout,
+    seat: u32,
+    held: Option<Held>,
+    view: View,
+    // The words that it has scanned.
+    marks: u64,
+    stage: WorkerStage,
+}
+
+impl Model for Worker {
+    ghost use Rattle.gh_worker.specs.Listing.{Working};
+    ghost use Rattle.gh_worker.specs.Sound.{FitsWorker};
+
+    ghost Value = { Working };
+
+    ghost view = { λ w. record { layout = w.layout; seat = w.seat; held = w.held; view = w.view; marks = w.marks; stage = w.stage } };
+
+    ghost invariant = { λ w. FitsWorker (record { layout = w.layout; seat = w.seat; held = w.held; view = w.view; marks = w.marks; stage = w.stage }) };
+
+    ghost inverse = { λ w. record { layout = w.layout; seat = w.seat; held = w.held; view = w.view; marks = w.marks; stage = w.stage } };
+}
+
+impl Worker {
+    /// A worker at this seat, before its first step: it holds no buffer.
+    pub fn new(layout: &Layout, seat: u32) -> Worker
+        requires { IsWorkersSeat layout.now seat }
+        ensures opening { result ≡ opening layout.now seat }
+        ensures begun { is_busy result.stage ≡ true }
+    {
+        Worker {
+            layout: *layout,
+            seat,
+            held: None,
+            view: View::first(),
+            marks: 0,
+            stage: WorkerStage::LoadPhase,
+        }
+    }
+
+    /// It is done: it asks for no further step.
+    pub fn is_done(&self) -> bool
+        ensures { IsTrue result ↔ (is_busy self.now.stage ≡ false) }
+    {
+        matches!(self.stage, WorkerStage::Done)
+    }
+
+    /// The words that it has scanned: those of each object and one for each global, counted when that is
+    /// done. The number stands at `u64::MAX`, which no run reaches.
+    pub fn marks(&self) -> u64
+        ensures { result ≡ self.now.marks }
+    {
+        self.marks
+    }
+
+    /// The buffer that is held now, if any.
+    pub fn held(&self) -> Option<Held>
+        ensures is { result ≡ held_at self.now.held self.now.stage }
+        ensures fits { IsHeld self.now.layout result }
+    {
+        match &self.stage {
+            WorkerStage::GiveBack(give, _) => give.held(),
+            WorkerStage::Taking(take) => take.held(),
+            WorkerStage::Scanning(scan) => scan.held(),
+            WorkerStage::Shading(shade) => shade.held(),
+            WorkerStage::FindRoom(_, room) => room.held(),
+            _ => self.held,
+        }
+    }
+
+    /// It acknowledges the stop of this number.
+    fn resuming(&self, stops: u64) -> WorkerStage
+        requires { stops < 2 ^ 62 }
+        ensures { result ≡ resuming self.now stops }
+    {
+        WorkerStage::Resuming(Resume::new(&self.layout, self.seat, stops, self.view))
+    }
+
+    /// Stops, and gives the buffer that it holds back first.
+    fn stop(&mut self, stops: u64)
+        requires { stops < 2 ^ 62 }
+        ensures { self.new ≡ record self.old { stage = stops_at self.old stops self.old.held } }
+    {
+        self.stage = match self.held {
+            None => self.resuming(stops),
+            Some(held) => WorkerStage::GiveBack(GiveBuffer::new(&self.layout, held), stops),
+        };
+    }
+
+    /// Goes on by the phase word.
+    fn by_phase(&mut self, found: u64)
+        ensures { self.new ≡ goes_at self.old WorkerStage.LoadPhase found }
+    {
+        let word = PhaseWord::unpack(found);
+        match word.phase {
+            Phase::Off => self.stage = WorkerStage::LoadPhase,
+            Phase::Mark => {
+                let take = TakeEntry::new(&self.layout, self.seat, self.held);
+                self.stage = WorkerStage::Taking(take);
+            }
+            Phase::Stop => self.stop(word.stops),
+            Phase::Finished => self.stage = WorkerStage::Leave,
+        }
+    }
+
+    /// Goes on after its buffer is given back.
+    fn given_back(&mut self, stops: u64)
+        requires { stops < 2 ^ 62 }
+        ensures { self.new ≡ record self.old { held = Option.None; stage = resuming self.old stops } }
+    {
+        self.held = None;
+        self.stage = self.resuming(stops);
+    }
+
+    /// Takes a step of going on after a stop.
+    fn resume(&mut self, resume: &Resume, found: u64)
+        requires { Runs self.old.layout resume.now.layout (resumes.is_busy resume.now.stage) }
+        ensures { self.new ≡ goes_at self.old (WorkerStage.Resuming resume.now) found }
+    {
+        let mut resume = *resume;
+        match resume.take(found) {
+            None => self.stage = WorkerStage::Resuming(resume),
+            Some(resumed) => {
+                self.view = resumed.view;
+                self.stage = WorkerStage::LoadPhase;
+            }
+        }
+    }
+
+    /// Takes a step of the taking of an object.
+    fn take_entry(&mut self, take: &TakeEntry, found: u64)
+        requires { Runs self.old.layout take.now.layout (takes.is_busy take.now.stage) }
+        ensures { self.new ≡ goes_at self.old (WorkerStage.Taking take.now) found }
+    {
+        let mut take = *take;
+        match take.take(found) {
+            None => self.stage = WorkerStage::Taking(take),
+            Some(None) => {
+                self.held = take.held();
+                self.stage = WorkerStage::LoadCursor;
+            }
+            Some(Some(reference)) => {
+                self.held = take.held();
+                let scan = Scan::new(&self.layout, self.seat, reference, self.held);
+                self.stage = WorkerStage::Scanning(scan);
+            }
+        }
+    }
+
+    /// So many words are scanned, and this buffer is held, if any.
+    fn done_with(&mut self, held: Option<Held>, words: u32)
+        requires { IsHeld self.old.layout held }
+        ensures { self.new ≡ done_with self.old held words }
+    {
+        self.held = held;
+        self.marks = self.marks.saturating_add(u64::from(words));
+        self.stage = WorkerStage::LoadPhase;
+    }
+
+    /// Takes a step of the scan of an object.
+    fn scan(&mut self, scan: &Scan, found: u64)
+        requires { Runs self.old.layout scan.now.layout (scans.is_busy scan.now.stage) }
+        ensures { self.new ≡ goes_at self.old (WorkerStage.Scanning scan.now) found }
+    {
+        let mut scan = *scan;
+        match scan.take(found) {
+            None => self.stage = WorkerStage::Scanning(scan),
+            Some(words) => self.done_with(scan.held(), words),
+        }
+    }
+
+    /// There is a global of this number.
+    fn is_global(&self, number: u64) -> bool
+        ensures { IsTrue result ↔ (number < self.now.layout.globals) }
+    {
+        number < u64::from(self.layout.globals)
+    }
+
+    /// Goes on by the number of the next global: where there is one, it claims one.
+    fn after_cursor(&mut self, found: u64)
+        ensures { self.new ≡ goes_at self.old WorkerStage.LoadCursor found }
+    {
+        self.stage = if self.is_global(found) {
+            WorkerStage::Claim
+        } else {
+            WorkerStage::LoadPhase
+        };
+    }
+
+    /// Goes on by the number that it has claimed.
+    fn after_claim(&mut self, found: u64)
+        ensures { self.new ≡ goes_at self.old WorkerStage.Claim found }
+    {
+        self.stage = if self.is_global(found) {
+            WorkerStage::LoadGlobal(found as u32)
+        } else {
+            WorkerStage::LoadPhase
+        };
+    }
+
+    /// Goes on by what the global holds: nil, or a reference.
+    fn after_global(&mut self, found: u64)
+        ensures { self.new ≡ after_global self.old found }
+    {
+        if found == 0 {
+            self.done_with(self.held, 1);
+        } else {
+            let words = 1024 * u64::from(self.layout.pages);
+            let reference = (found - 1) % words + 1;
+            self.stage = WorkerStage::Shading(Shade::new(&self.layout, reference, self.held));
+        }
+    }
+
+    /// Takes a step of this shading.
+    fn shade(&mut self, shade: &Shade, found: u64)
+        requires { Runs self.old.layout shade.now.layout (shades.is_busy shade.now.stage) }
+        ensures { self.new ≡ goes_at self.old (WorkerStage.Shading shade.now) found }
+    {
+        let mut shade = *shade;
+        match shade.take(found) {
+            None => self.stage = WorkerStage::Shading(shade),
+            Some(Shaded::Done) => self.done_with(shade.held(), 1),
+            Some(Shaded::WantsRoom) => {
+                let room = FindRoom::new(&self.layout, self.seat, shade.held());
+                self.stage = WorkerStage::FindRoom(shade, room);
+            }
+        }
+    }
+
+    /// Takes a step of this search for room, which that shading waits for.
+    fn find_room(&mut self, shade: &Shade, room: &FindRoom, found: u64)
+        requires { Waits self.old.layout shade.now room.now }
+        ensures { self.new ≡ goes_at self.old (WorkerStage.FindRoom shade.now room.now) found }
+    {
+        let (mut shade, mut room) = (*shade, *room);
+        match room.take(found) {
+            None => self.stage = WorkerStage::FindRoom(shade, room),
+            Some(held) => {
+                shade.told_room(held);
+                self.stage = WorkerStage::Shading(shade);
+            }
+        }
+    }
+}
+
+impl Machine for Worker {
+    ghost use Rattle.gh_worker.specs.Listing.{listing};
+    ghost use Rattle.gh_worker.specs.Ends as proved;
+
+    type Out = ();
+
+    ghost layout = { listing.layout };
+
+    ghost busy = { listing.busy };
+
+    ghost asks = { listing.asks };
+
+    ghost goes = { listing.goes };
+
+    ghost gives = { listing.gives };
+
+    fn next(&self) -> Req {
+        let ask = match &self.stage {
+            WorkerStage::LoadPhase => Ask::Load(Cell::Phase),
+            WorkerStage::GiveBack(give, _) => return give.next(),
+            WorkerStage::Resuming(resume) => return resume.next(),
+            WorkerStage::Taking(take) => return take.next(),
+            WorkerStage::Scanning(scan) => return scan.next(),
+            WorkerStage::LoadCursor => Ask::Load(Cell::Gcur),
+            WorkerStage::Claim => Ask::Add(Cell::Gcur, 1),
+            WorkerStage::LoadGlobal(i) => Ask::Load(Cell::Global(*i)),
+            WorkerStage::Shading(shade) => return shade.next(),
+            WorkerStage::FindRoom(_, room) => return room.next(),
+            WorkerStage::Leave => Ask::Store(Cell::Ack(self.seat), GONE),
+            WorkerStage::Done => Ask::Load(Cell::Touch),
+        };
+        self.layout.request(ask)
+    }
+
+    fn take(&mut self, found: u64) -> Option<()> {
+        match &self.stage {
+            WorkerStage::LoadPhase => self.by_phase(found),
+            WorkerStage::GiveBack(_, stops) => {
+                let stops = *stops;
+                self.given_back(stops);
+            }
+            WorkerStage::Resuming(resume) => {
+                let resume = *resume;
+                self.resume(&resume, found);
+            }
+            WorkerStage::Taking(take) => {
+                let take = *take;
+                self.take_entry(&take, found);
+            }
+            WorkerStage::Scanning(scan) => {
+                let scan = *scan;
+                self.scan(&scan, found);
+            }
+            WorkerStage::LoadCursor => self.after_cursor(found),
+            WorkerStage::Claim => self.after_claim(found),
+            WorkerStage::LoadGlobal(_) => self.after_global(found),
+            WorkerStage::Shading(shade) => {
+                let shade = *shade;
+                self.shade(&shade, found);
+            }
+            WorkerStage::FindRoom(shade, room) => {
+                let (shade, room) = (*shade, *room);
+                self.find_room(&shade, &room, found);
+            }
+            WorkerStage::Leave => {
+                self.stage = WorkerStage::Done;
+                return Some(());
+            }
+            WorkerStage::Done => {}
+        }
+        None
+    }
+
+    ghost ends = { proved.ends };
+
+    ghost stays = { proved.stays };
+}
