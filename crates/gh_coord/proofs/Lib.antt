@@ -1,0 +1,13 @@
+pub mod Accounts
+pub mod Checks
+pub mod GoingOn
+pub mod Loads
+pub mod Numbering
+pub mod Phasing
+pub mod Quiet
+pub mod Running
+pub mod Stepping
+pub mod Stops
+pub mod Sweeps
+pub mod Watches
+pub mod Wholes

@@ -1,0 +1,58 @@
+-- Marking is ended: what is asked for at each stage, where that leads, and what it gives.
+use Rattle.std.specs.Prelude.{ℕ, ◌+◌, ◌%◌, ◌^◌, Bool, true, false, Option, Some, None}
+use Rattle.gh_base.specs.declared.cell.Cell.TheVariants as cell
+use Rattle.gh_base.specs.declared.cell.Ask.{Ask}
+use Rattle.gh_base.specs.declared.cell.Ask.TheVariants.{Load, Store}
+use Rattle.gh_base.specs.declared.layout.Layout.{Layout}
+use Rattle.gh_base.specs.Routines.{Listing}
+use Rattle.gh_coord.specs.declared.close.CloseStage.{CloseStage}
+use Rattle.gh_coord.specs.declared.close.CloseStage.TheVariants.{LoadBank, ClearBank, StoreGen, Ended}
+
+-- the credit that has lapsed by now, the sweep generation that is to be stored, and the stage
+pub record Closing : Type 0 where
+  pub layout : Layout
+  pub lapsed : ℕ
+  pub generation : ℕ
+  pub stage : CloseStage
+
+abbrev pub opening : Layout → (lapsed generation : ℕ) → Closing
+opening l lapsed generation = record { layout = l; lapsed = lapsed; generation = generation; stage = LoadBank }
+
+abbrev pub at_stage : Closing → CloseStage → Closing
+at_stage c stage = record c { stage = stage }
+
+module _ (c : Closing) where
+  abbrev pub asks_at : CloseStage → Ask
+  asks_at LoadBank = Load cell.Bank
+  asks_at ClearBank = Store cell.Bank 0
+  asks_at StoreGen = Store cell.Gen c.generation
+  asks_at Ended = Load cell.Touch
+
+  abbrev pub goes_at : CloseStage → ℕ → Closing
+  goes_at LoadBank found = record c { lapsed = (c.lapsed + found) % 2 ^ 64; stage = ClearBank }
+  goes_at ClearBank found = at_stage c StoreGen
+  goes_at StoreGen found = at_stage c Ended
+  goes_at Ended found = c
+
+  abbrev pub given_at : CloseStage → Option ℕ
+  given_at Ended = Some c.lapsed
+  given_at _ = None
+
+abbrev pub is_busy : CloseStage → Bool
+is_busy Ended = false
+is_busy _ = true
+
+abbrev pub given : Closing → Option ℕ
+given c = given_at c c.stage
+
+abbrev pub asks : Closing → Ask
+asks c = asks_at c c.stage
+
+abbrev pub goes : Closing → ℕ → Closing
+goes c found = goes_at c c.stage found
+
+abbrev pub gives : Closing → ℕ → Option ℕ
+gives c found = given (goes c found)
+
+abbrev pub listing : Listing Closing ℕ
+listing = record { layout = λ c. c.layout; busy = λ c. is_busy c.stage; asks = asks; goes = goes; gives = gives }

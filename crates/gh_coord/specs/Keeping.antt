@@ -1,0 +1,12 @@
+-- The list of swept cycles.
+use Rattle.std.specs.Prelude.{ℕ, nat_lt, if◌then◌else◌, List, [], ◌∷◌, ◌++◌, length}
+use Rattle.gh_coord.specs.declared.cycles.Cycle.{Cycle}
+
+-- the cycles that are kept, in their order, and for how many there is room
+pub record Kept : Type 0 where
+  pub items : List Cycle
+  pub room : ℕ
+
+-- with a further one, where there is room for it
+abbrev pub kept : Kept → Cycle → Kept
+kept c cycle = record c { items = (if nat_lt (length c.items) c.room then c.items ++ cycle ∷ [] else c.items) }

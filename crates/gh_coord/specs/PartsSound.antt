@@ -1,0 +1,53 @@
+-- What the parts of the coordinator know of their own numbers, whatever they are told.
+use Rattle.std.specs.Prelude.{◌≡◌, ℕ, ◌^◌, ◌<◌}
+use Rattle.gh_base.specs.declared.layout.Layout.{Layout}
+use Rattle.gh_coord.specs.declared.stop.StopStage.{StopStage}
+use Rattle.gh_coord.specs.declared.stop.StopStage.TheVariants as stop
+use Rattle.gh_coord.specs.declared.sweep_all.SweepAllStage.{SweepAllStage}
+use Rattle.gh_coord.specs.declared.sweep_all.SweepAllStage.TheVariants as sweep
+use Rattle.gh_coord.specs.declared.watch.WatchStage.{WatchStage}
+use Rattle.gh_coord.specs.declared.watch.WatchStage.TheVariants as watch
+use Rattle.gh_coord.specs.Opening.{CycleOpening}
+use Rattle.gh_coord.specs.Stopping.{acks_of, Stopping}
+use Rattle.gh_coord.specs.SweepingAll.{SweepingAll}
+use Rattle.gh_coord.specs.Telling.{Telling}
+use Rattle.gh_coord.specs.Watching.{Watching, words_of}
+
+-- a number of stops fits the phase word
+abbrev pub FitsStops : (stops : ℕ) → Type 0
+FitsStops stops = stops < 2 ^ 62
+
+-- a sweep generation fits a page word
+abbrev pub FitsGeneration : (generation : ℕ) → Type 0
+FitsGeneration generation = generation < 2 ^ 34
+
+abbrev pub FitsStopStage : Layout → StopStage → Type 0
+FitsStopStage l (stop.Await ack) = ack < acks_of l
+FitsStopStage l _ = Unit {0}
+
+pub record FitsStop (s : Stopping) : Type 0 where
+  pub stops : FitsStops s.stops
+  pub stage : FitsStopStage s.layout s.stage
+
+abbrev pub FitsOpen : CycleOpening → Type 0
+FitsOpen o = FitsStops o.stops
+
+abbrev pub FitsWatchStage : Layout → WatchStage → Type 0
+FitsWatchStage l (watch.Look i) = i < words_of l
+FitsWatchStage l (watch.Ended watched) = Unit {0}
+
+abbrev pub FitsWatch : Watching → Type 0
+FitsWatch w = FitsWatchStage w.layout w.stage
+
+abbrev pub FitsSweepAllStage : Layout → SweepAllStage → Type 0
+FitsSweepAllStage l (sweep.LoadPage page) = page < l.pages
+FitsSweepAllStage l (sweep.Sweep page sw) = (page < l.pages) × (sw.layout ≡ l)
+FitsSweepAllStage l (sweep.Await page) = page < l.pages
+FitsSweepAllStage l sweep.Ended = Unit {0}
+
+pub record FitsSweepAll (s : SweepingAll) : Type 0 where
+  pub generation : FitsGeneration s.generation
+  pub stage : FitsSweepAllStage s.layout s.stage
+
+abbrev pub FitsTell : Telling → Type 0
+FitsTell t = FitsStops t.stops

@@ -1,0 +1,69 @@
+-- It is told that a cycle is swept: what is asked for at each stage, where that leads, and what it gives.
+use Rattle.std.specs.Prelude.{ℕ, Bool, true, false, if◌then◌else◌, Option, Some, None}
+use Rattle.gh_base.specs.declared.cell.Cell.TheVariants as cell
+use Rattle.gh_base.specs.declared.cell.Ask.{Ask}
+use Rattle.gh_base.specs.declared.cell.Ask.TheVariants.{Load, Store}
+use Rattle.gh_base.specs.declared.layout.Layout.{Layout}
+use Rattle.gh_base.specs.declared.pack.Phase.TheVariants.{Off, Finished}
+use Rattle.gh_base.specs.declared.pack.PhaseWord.{PhaseWord}
+use Rattle.gh_base.specs.Packing.{phase_word}
+use Rattle.gh_base.specs.Routines.{Listing}
+use Rattle.gh_coord.specs.declared.tell.TellStage.{TellStage}
+use Rattle.gh_coord.specs.declared.tell.TellStage.TheVariants.{StoreTrigger, StoreSwept, StorePhase, Ended}
+
+-- the trigger of the next cycle, the number of this one, that of the stops, that it was the last cycle, and the stage
+pub record Telling : Type 0 where
+  pub layout : Layout
+  pub trigger : ℕ
+  pub cycle : ℕ
+  pub stops : ℕ
+  pub is_last : Bool
+  pub stage : TellStage
+
+abbrev pub opening : Layout → (trigger cycle stops : ℕ) → (is_last : Bool) → Telling
+opening l trigger cycle stops is_last = record { layout = l; trigger = trigger; cycle = cycle; stops = stops; is_last = is_last; stage = StoreTrigger }
+
+module _ (t : Telling) where
+  -- no marking from now on; behind the last cycle the world is done
+  abbrev pub phase_at : PhaseWord
+  phase_at = record { stops = t.stops; phase = (if t.is_last then Finished else Off) }
+
+  abbrev pub asks_at : TellStage → Ask
+  asks_at StoreTrigger = Store cell.Trigger t.trigger
+  asks_at StoreSwept = Store cell.Swept t.cycle
+  asks_at StorePhase = Store cell.Phase (phase_word phase_at)
+  asks_at Ended = Load cell.Touch
+
+abbrev pub behind : TellStage → TellStage
+behind StoreTrigger = StoreSwept
+behind StoreSwept = StorePhase
+behind StorePhase = Ended
+behind Ended = Ended
+
+abbrev pub is_busy : TellStage → Bool
+is_busy Ended = false
+is_busy _ = true
+
+-- its next step stores the phase word
+abbrev pub stores_phase : TellStage → Bool
+stores_phase StorePhase = true
+stores_phase _ = false
+
+abbrev pub given_at : TellStage → Option (Unit {0})
+given_at Ended = Some tt
+given_at _ = None
+
+abbrev pub given : Telling → Option (Unit {0})
+given t = given_at t.stage
+
+abbrev pub asks : Telling → Ask
+asks t = asks_at t t.stage
+
+abbrev pub goes : Telling → ℕ → Telling
+goes t found = record t { stage = behind t.stage }
+
+abbrev pub gives : Telling → ℕ → Option (Unit {0})
+gives t found = given (goes t found)
+
+abbrev pub listing : Listing Telling (Unit {0})
+listing = record { layout = λ t. t.layout; busy = λ t. is_busy t.stage; asks = asks; goes = goes; gives = gives }

@@ -1,0 +1,82 @@
+-- A look at the words that say whether marking is over: what is asked for at each stage, where that leads, and what it gives.
+use Rattle.std.specs.Prelude.{ℕ, ◌+◌, ◌-◌, Bool, true, false, nat_le, nat_lt, ◌==◌, ◌||◌, not, if◌then◌else◌, Option, Some, None}
+use Rattle.gh_base.specs.declared.cell.Cell.{Cell}
+use Rattle.gh_base.specs.declared.cell.Cell.TheVariants.{Touch, Gcur, Buffer, Scanned}
+use Rattle.gh_base.specs.declared.cell.Ask.{Ask}
+use Rattle.gh_base.specs.declared.cell.Ask.TheVariants.{Load}
+use Rattle.gh_base.specs.declared.layout.Layout.{Layout}
+use Rattle.gh_base.specs.declared.pack.BufferWord.{BufferWord}
+use Rattle.gh_base.specs.Cells.{buffers_of}
+use Rattle.gh_base.specs.Packing.{buffer_of}
+use Rattle.gh_base.specs.Routines.{Listing}
+use Rattle.gh_coord.specs.declared.watch.Watched.{Watched}
+use Rattle.gh_coord.specs.declared.watch.Watched.TheVariants.{All, NotYet}
+use Rattle.gh_coord.specs.declared.watch.WatchStage.{WatchStage}
+use Rattle.gh_coord.specs.declared.watch.WatchStage.TheVariants.{Look, Ended}
+
+-- the number of the cycle, and the stage
+pub record Watching : Type 0 where
+  pub layout : Layout
+  pub cycle : ℕ
+  pub stage : WatchStage
+
+abbrev pub opening : Layout → (cycle : ℕ) → Watching
+opening l cycle = record { layout = l; cycle = cycle; stage = Look 0 }
+
+abbrev pub at_stage : Watching → WatchStage → Watching
+at_stage w stage = record w { stage = stage }
+
+-- The words that are watched, by number: the cursor of the globals, the goroutines' stacks, the grey work buffers.
+module _ (l : Layout) where
+  abbrev pub words_of : ℕ
+  words_of = 1 + l.goroutines + buffers_of l
+
+  abbrev pub cell_at : ℕ → Cell
+  cell_at i = if i == 0 then Gcur else if nat_lt (i - 1) l.goroutines then Scanned (i - 1) else Buffer (i - 1 - l.goroutines)
+
+  -- what follows behind the word of this number
+  abbrev pub behind : ℕ → WatchStage
+  behind i = if nat_lt (i + 1) words_of then Look (i + 1) else Ended All
+
+-- a buffer that somebody holds, or that is empty
+abbrev pub is_held_or_empty : BufferWord → Bool
+is_held_or_empty b = not (b.holder == 0) || (b.count == 0)
+
+-- the word is as wanted in this cycle: each global is scanned or is being scanned, the stack is scanned, and nothing is left to whoever takes the buffer
+abbrev pub is_wanted : Layout → (cycle : ℕ) → Cell → (found : ℕ) → Bool
+is_wanted l cycle Gcur found = nat_le l.globals found
+is_wanted l cycle (Scanned g) found = nat_le cycle found
+is_wanted l cycle (Buffer i) found = is_held_or_empty (buffer_of found)
+is_wanted l cycle _ found = true
+
+module _ (w : Watching) where
+  abbrev pub asks_at : WatchStage → Ask
+  asks_at (Look i) = Load (cell_at w.layout i)
+  asks_at (Ended watched) = Load Touch
+
+  abbrev pub goes_at : WatchStage → ℕ → Watching
+  goes_at (Look i) found = at_stage w (if is_wanted w.layout w.cycle (cell_at w.layout i) found then behind w.layout i else Ended NotYet)
+  goes_at (Ended watched) found = w
+
+abbrev pub is_busy : WatchStage → Bool
+is_busy (Look i) = true
+is_busy (Ended watched) = false
+
+abbrev pub given_at : WatchStage → Option Watched
+given_at (Look i) = None
+given_at (Ended watched) = Some watched
+
+abbrev pub given : Watching → Option Watched
+given w = given_at w.stage
+
+abbrev pub asks : Watching → Ask
+asks w = asks_at w w.stage
+
+abbrev pub goes : Watching → ℕ → Watching
+goes w found = goes_at w w.stage found
+
+abbrev pub gives : Watching → ℕ → Option Watched
+gives w found = given (goes w found)
+
+abbrev pub listing : Listing Watching Watched
+listing = record { layout = λ w. w.layout; busy = λ w. is_busy w.stage; asks = asks; goes = goes; gives = gives }

@@ -1,0 +1,504 @@
+//! The coordinator's machine.
+
+ghost use Rattle.std.specs.Prelude.{◌≡◌, ◌+◌, ◌<◌, ◌≤◌, ◌^◌, ◌↔◌, IfOk, IsTrue, Option, false, true};
+ghost use Rattle.gh_base.specs.declared.pack.Phase.{Phase};
+ghost use Rattle.gh_base.specs.Packing.{phase_word};
+ghost use Rattle.gh_coord.specs.declared.count.Counted.{Counted};
+ghost use Rattle.gh_coord.specs.declared.pacing.TheConstants.{MOST_GOGC, NEVER};
+ghost use Rattle.gh_coord.specs.declared.watch.Watched.{Watched};
+ghost use Rattle.gh_coord.specs.Listing.{after_ack, after_check, after_close, after_count, after_open, after_stop, after_stop_again, after_sweep, after_tell, after_want, after_watch, counted, cycle_of, given, goes_at, is_busy, is_done, is_ending, lapsed_at, next_stop, opening, stores_phase, stops_world, watches};
+
+use crate::close::Close;
+use crate::count::{Count, Counted};
+use crate::cycles::{Cycle, Cycles};
+use crate::open::Open;
+use crate::pacing::NEVER;
+use crate::stop::Stop;
+use crate::sweep_all::SweepAll;
+use crate::tell::Tell;
+use crate::watch::{Watch, Watched};
+use gh_base::{Ask, Cell, GONE, Layout, Machine, Phase, PhaseWord, Req, TallyWord};
+use std::alloc::{AllocError, Global};
+use std::marker::Model;
+
+/// How many numbers of stops there are: those that a phase word holds.
+const STOPS: u64 = 1 << 62;
+/// How many sweep generations there are: those that a page word holds.
+const GENERATIONS: u64 = 1 << 34;
+
+/// The stages of the coordinator.
+#[derive(Clone, Copy, Debug, PartialEq, Eq)]
+pub enum CoordStage {
+    /// It is idle, and loads the acknowledgement of this processor: whether that is done.
+    LoadAck(u32),
+    /// It is idle, and loads the request for a cycle.
+    LoadWant,
+    /// It stops the world, to open a cycle.
+    Stop(Stop),
+    /// It opens a cycle.
+    Open(Open),
+    /// It looks whether marking is over, while the world runs.
+    Watch(Watch),
+    /// It stops the world, since marking seems to be over.
+    StopAgain(Stop),
+    /// It checks that marking is over, while the world is stopped.
+    Check(Watch),
+    /// It stores the phase word: marking is not over, and the world runs.
+    MarkOn,
+    /// It ends marking.
+    Close(Close),
+    /// It has each span swept.
+    Sweep(SweepAll),
+    /// It reads what the sweep has counted.
+    Count(Count),
+    /// It tells that the cycle is swept, and lets the world run.
+    Tell(Tell),
+    /// The last cycle is swept.
+    Done,
+}
+
+/// The coordinator (what Go's `gcStart`, `gcMarkDone` and `gcMarkTermination` do, mgc.go, on whatever
+/// goroutine calls them): it opens cycles, finds out that their marking is over, has the spans swept, and
+/// tells that they are.
+///
+/// A private number begins anew where its word ends: the stops modulo 2^62, the cycles modulo 2^64, the
+/// sweep generation modulo 2^34, the credit that has lapsed modulo 2^64.
+#[derive(Drop)]
+pub struct Coord {
+    layout: Layout,
+    seat: u32,
+    gogc: u32,
+    minheap: u32,
+    stops: u64,
+    begun: u64,
+    generation: u64,
+    live: u64,
+    // The credit that had lapsed by the last cycle whose marking was ended.
+    lapsed: u64,
+    is_last: bool,
+    marks: u64,
+    cycles: Cycles,
+    stage: CoordStage,
+}
+
+impl Model for Coord {
+    ghost use Rattle.gh_coord.specs.Listing.{Coordinating};
+    ghost use Rattle.gh_coord.specs.Sound.{FitsCoord};
+
+    ghost Value = { Coordinating };
+
+    ghost view = { λ c. record { layout = c.layout; seat = c.seat; gogc = c.gogc; minheap = c.minheap; stops = c.stops; begun = c.begun; generation = c.generation; live = c.live; lapsed = c.lapsed; is_last = c.is_last; marks = c.marks; cycles = c.cycles; stage = c.stage } };
+
+    ghost invariant = { λ c. FitsCoord (record { layout = c.layout; seat = c.seat; gogc = c.gogc; minheap = c.minheap; stops = c.stops; begun = c.begun; generation = c.generation; live = c.live; lapsed = c.lapsed; is_last = c.is_last; marks = c.marks; cycles = c.cycles; stage = c.stage }) };
+}
+
+/// The cycle as it is kept.
+fn cycle_of(k: u64, tally: TallyWord) -> Cycle
+    ensures { result ≡ cycle_of k tally }
+{
+    Cycle {
+        k,
+        marked: u64::from(tally.marked),
+        freed: u64::from(tally.freed),
+    }
+}
+
+impl Coord {
+    /// A coordinator before its first step, at this seat, which is the one behind the workers'. `gogc` is in
+    /// percent, `minheap` in bytes. It keeps up to `cycles` swept cycles, whose memory is taken here: it is
+    /// refused only where that is.
+    pub fn new(
+        alloc: Global,
+        layout: &Layout,
+        seat: u32,
+        gogc: u32,
+        minheap: u32,
+        cycles: u32,
+    ) -> Result<Coord, AllocError>
+        requires seat { seat ≡ layout.now.procs + layout.now.workers }
+        requires gogc { gogc ≤ MOST_GOGC }
+        ensures { IfOk result (λ c. c ≡ opening layout.now seat gogc minheap cycles) }
+    {
+        let cycles = Cycles::new(alloc, cycles)?;
+        Ok(Coord {
+            layout: *layout,
+            seat,
+            gogc,
+            minheap,
+            stops: 0,
+            begun: 0,
+            generation: 2,
+            live: 0,
+            lapsed: 0,
+            is_last: false,
+            marks: 0,
+            cycles,
+            stage: CoordStage::LoadAck(0),
+        })
+    }
+
+    /// The word that the heap's trigger opens with.
+    pub fn opening(&self) -> u64
+        ensures { result ≡ NEVER }
+    {
+        NEVER
+    }
+
+    /// The last cycle is swept, and it has no further step.
+    pub fn is_done(&self) -> bool
+        ensures { result ≡ is_done self.now.stage }
+    {
+        matches!(self.stage, CoordStage::Done)
+    }
+
+    /// How often it has stored the phase word. The number stands still at `u64::MAX`.
+    pub fn marks(&self) -> u64
+        ensures { result ≡ self.now.marks }
+    {
+        self.marks
+    }
+
+    /// The swept cycles in their order, as many as there is room for.
+    pub fn cycles(&self) -> &[Cycle]
+        ensures { result.now ≡ self.now.cycles.items }
+    {
+        self.cycles.as_slice()
+    }
+
+    /// The credit that has lapsed, in words, modulo 2^64.
+    pub fn lapsed(&self) -> u64
+        ensures { result ≡ lapsed_at self.now.lapsed self.now.stage }
+    {
+        match &self.stage {
+            CoordStage::Close(close) => close.lapsed(),
+            _ => self.lapsed,
+        }
+    }
+
+    /// The bytes that were marked in the last swept cycle; 0 before the first.
+    pub fn live(&self) -> u64
+        ensures { result ≡ self.now.live }
+    {
+        self.live
+    }
+
+    /// The number of the next stop.
+    fn next_stop(&self) -> u64
+        ensures is { result ≡ next_stop self.now.stops }
+        ensures fits { result < 2 ^ 62 }
+    {
+        (self.stops + 1) % STOPS
+    }
+
+    /// Begins to stop the world, to open a cycle.
+    fn stop_world(&mut self)
+        ensures { self.new ≡ stops_world self.old }
+    {
+        self.stops = self.next_stop();
+        self.stage = CoordStage::Stop(Stop::new(&self.layout, self.stops));
+    }
+
+    /// Goes on by the acknowledgement of this processor.
+    fn after_ack(&mut self, proc: u32, found: u64)
+        requires { proc < self.old.layout.procs }
+        ensures { self.new ≡ after_ack self.old proc found }
+    {
+        if found != GONE {
+            self.stage = CoordStage::LoadWant;
+        } else if proc + 1 < self.layout.procs {
+            self.stage = CoordStage::LoadAck(proc + 1);
+        } else {
+            self.is_last = true;
+            self.stop_world();
+        }
+    }
+
+    /// Goes on by the request for a cycle.
+    fn after_want(&mut self, found: u64)
+        ensures { self.new ≡ after_want self.old found }
+    {
+        if found == 0 {
+            self.stage = CoordStage::LoadAck(0);
+        } else {
+            self.stop_world();
+        }
+    }
+
+    /// Goes on after a step of the stop: the cycle is opened where the world is stopped.
+    fn after_stop(&mut self, out: Option<()>)
+        ensures { self.new ≡ after_stop self.old out }
+    {
+        if out.is_some() {
+            self.begun = self.begun.wrapping_add(1);
+            let open = Open::new(&self.layout, self.stops, self.begun);
+            self.stage = CoordStage::Open(open);
+        }
+    }
+
+    /// Looks whether marking is over, while the world runs.
+    fn watch(&mut self)
+        ensures { self.new ≡ watches self.old }
+    {
+        self.stage = CoordStage::Watch(Watch::new(&self.layout, self.begun));
+    }
+
+    /// Goes on after a step of the opening of a cycle.
+    fn after_open(&mut self, out: Option<()>)
+        ensures { self.new ≡ after_open self.old out }
+    {
+        if out.is_some() {
+            self.watch();
+        }
+    }
+
+    /// Goes on after a step of the look: it looks again, or stops the world.
+    fn after_watch(&mut self, out: Option<Watched>)
+        ensures { self.new ≡ after_watch self.old out }
+    {
+        match out {
+            None => {}
+            Some(Watched::NotYet) => self.watch(),
+            Some(Watched::All) => {
+                self.stops = self.next_stop();
+                self.stage = CoordStage::StopAgain(Stop::new(&self.layout, self.stops));
+            }
+        }
+    }
+
+    /// Goes on after a step of the second stop: what was seen is checked where the world is stopped.
+    fn after_stop_again(&mut self, out: Option<()>)
+        ensures { self.new ≡ after_stop_again self.old out }
+    {
+        if out.is_some() {
+            self.stage = CoordStage::Check(Watch::new(&self.layout, self.begun));
+        }
+    }
+
+    /// Goes on after a step of the check: marking is ended, or goes on.
+    fn after_check(&mut self, out: Option<Watched>)
+        ensures { self.new ≡ after_check self.old out }
+    {
+        match out {
+            None => {}
+            Some(Watched::NotYet) => self.stage = CoordStage::MarkOn,
+            Some(Watched::All) => {
+                self.generation = (self.generation + 2) % GENERATIONS;
+                let close = Close::new(&self.layout, self.lapsed, self.generation);
+                self.stage = CoordStage::Close(close);
+            }
+        }
+    }
+
+    /// Goes on after a step of the end of marking.
+    fn after_close(&mut self, out: Option<u64>)
+        ensures { self.new ≡ after_close self.old out }
+    {
+        if let Some(lapsed) = out {
+            self.lapsed = lapsed;
+            self.stage = CoordStage::Sweep(SweepAll::new(&self.layout, self.generation));
+        }
+    }
+
+    /// Goes on after a step of the sweep.
+    fn after_sweep(&mut self, out: Option<()>)
+        ensures { self.new ≡ after_sweep self.old out }
+    {
+        if out.is_some() {
+            self.stage = CoordStage::Count(Count::new(&self.layout));
+        }
+    }
+
+    /// Goes on after a step of the reading of the counts: the cycle is kept.
+    fn after_count(&mut self, out: Option<Counted>)
+        ensures { self.new ≡ after_count self.old out }
+    {
+        if let Some(counted) = out {
+            self.live = counted.live;
+            self.cycles.keep(cycle_of(self.begun, counted.tally));
+            let tell = Tell::new(&self.layout, NEVER, self.begun, self.stops, self.is_last);
+            self.stage = CoordStage::Tell(tell);
+        }
+    }
+
+    /// Goes on after a step of the telling: it is idle, or done behind the last cycle.
+    fn after_tell(&mut self, out: Option<()>)
+        ensures { self.new ≡ after_tell self.old out }
+    {
+        if out.is_some() {
+            self.stage = if self.is_last {
+                CoordStage::Done
+            } else {
+                CoordStage::LoadAck(0)
+            };
+        }
+    }
+
+    /// Its next step stores the phase word.
+    fn stores_phase(&self) -> bool
+        ensures { result ≡ stores_phase self.now.stage }
+    {
+        match &self.stage {
+            CoordStage::Stop(stop) | CoordStage::StopAgain(stop) => stop.stores_phase(),
+            CoordStage::Open(open) => open.stores_phase(),
+            CoordStage::MarkOn => true,
+            CoordStage::Tell(tell) => tell.stores_phase(),
+            _ => false,
+        }
+    }
+
+    /// Counts the step, where it stores the phase word.
+    fn count_mark(&mut self)
+        ensures { self.new ≡ counted self.old }
+    {
+        if self.stores_phase() {
+            self.marks = self.marks.saturating_add(1);
+        }
+    }
+
+    /// Its marking has ended, or is being ended.
+    fn is_ending(&self) -> bool
+        ensures { result ≡ is_ending self.now.stage }
+    {
+        match self.stage {
+            CoordStage::Close(_)
+            | CoordStage::Sweep(_)
+            | CoordStage::Count(_)
+            | CoordStage::Tell(_)
+            | CoordStage::Done => true,
+            _ => false,
+        }
+    }
+
+    /// Goes on after a step up to the end of marking.
+    fn go_on_marking(&mut self, found: u64)
+        requires marking { is_ending self.old.stage ≡ false }
+        requires busy { is_busy self.old.stage ≡ true }
+        ensures { self.new ≡ goes_at self.old self.old.stage found }
+    {
+        match &mut self.stage {
+            CoordStage::LoadAck(proc) => {
+                let proc = *proc;
+                self.after_ack(proc, found);
+            }
+            CoordStage::LoadWant => self.after_want(found),
+            CoordStage::Stop(stop) => {
+                let out = stop.take(found);
+                self.after_stop(out);
+            }
+            CoordStage::Open(open) => {
+                let out = open.take(found);
+                self.after_open(out);
+            }
+            CoordStage::Watch(watch) => {
+                let out = watch.take(found);
+                self.after_watch(out);
+            }
+            CoordStage::StopAgain(stop) => {
+                let out = stop.take(found);
+                self.after_stop_again(out);
+            }
+            CoordStage::Check(watch) => {
+                let out = watch.take(found);
+                self.after_check(out);
+            }
+            CoordStage::MarkOn => self.watch(),
+            _ => {}
+        }
+    }
+
+    /// Goes on after a step from the end of marking on.
+    fn go_on_ending(&mut self, found: u64)
+        requires ending { is_ending self.old.stage ≡ true }
+        requires busy { is_busy self.old.stage ≡ true }
+        ensures { self.new ≡ goes_at self.old self.old.stage found }
+    {
+        match &mut self.stage {
+            CoordStage::Close(close) => {
+                let out = close.take(found);
+                self.after_close(out);
+            }
+            CoordStage::Sweep(sweep) => {
+                let out = sweep.take(found);
+                self.after_sweep(out);
+            }
+            CoordStage::Count(count) => {
+                let out = count.take(found);
+                self.after_count(out);
+            }
+            CoordStage::Tell(tell) => {
+                let out = tell.take(found);
+                self.after_tell(out);
+            }
+            _ => {}
+        }
+    }
+
+    /// What it gives now.
+    fn given(&self) -> Option<()>
+        ensures { result ≡ given self.now }
+    {
+        match self.stage {
+            CoordStage::Done => Some(()),
+            _ => None,
+        }
+    }
+
+    /// The phase word while marking goes on.
+    fn mark_word(&self) -> u64
+        ensures { result ≡ phase_word (record { stops = self.now.stops; phase = Phase.Mark }) }
+    {
+        PhaseWord {
+            stops: self.stops,
+            phase: Phase::Mark,
+        }
+        .pack()
+    }
+}
+
+impl Machine for Coord {
+    ghost use Rattle.gh_coord.specs.Listing.{listing};
+    ghost use Rattle.gh_coord.specs.Ends as proved;
+
+    type Out = ();
+
+    ghost layout = { listing.layout };
+
+    ghost busy = { listing.busy };
+
+    ghost asks = { listing.asks };
+
+    ghost goes = { listing.goes };
+
+    ghost gives = { listing.gives };
+
+    fn next(&self) -> Req {
+        let ask = match &self.stage {
+            CoordStage::LoadAck(proc) => Ask::Load(Cell::Ack(*proc)),
+            CoordStage::LoadWant => Ask::Load(Cell::Want),
+            CoordStage::Stop(stop) | CoordStage::StopAgain(stop) => return stop.next(),
+            CoordStage::Open(open) => return open.next(),
+            CoordStage::Watch(watch) | CoordStage::Check(watch) => return watch.next(),
+            CoordStage::MarkOn => Ask::Store(Cell::Phase, self.mark_word()),
+            CoordStage::Close(close) => return close.next(),
+            CoordStage::Sweep(sweep) => return sweep.next(),
+            CoordStage::Count(count) => return count.next(),
+            CoordStage::Tell(tell) => return tell.next(),
+            CoordStage::Done => Ask::Load(Cell::Touch),
+        };
+        self.layout.request(ask)
+    }
+
+    fn take(&mut self, found: u64) -> Option<()> {
+        self.count_mark();
+        if self.is_ending() {
+            self.go_on_ending(found);
+        } else {
+            self.go_on_marking(found);
+        }
+        self.given()
+    }
+
+    ghost ends = { proved.ends };
+
+    ghost stays = { proved.stays };
+}

@@ -1,0 +1,61 @@
+//! The coordinator: who opens cycles, finds out that their marking is over, has the spans swept, and tells
+//! that they are.
+//!
+//! One actor runs all of a cycle, and all others follow the phase word that it stores. So what is to happen
+//! in order happens in the order of its steps. [`Coord`] is that actor, put together from parts, each a
+//! machine of its own: [`Stop`], [`Open`], [`Watch`], [`Close`], [`SweepAll`], [`Count`] and [`Tell`].
+//!
+//! It stops the world twice in a cycle. A stop is over once each processor and each worker has acknowledged
+//! it, and who acknowledges has nothing begun, holds no work buffer and caches no span.
+//!
+//! The first stop opens the cycle. The request is cleared before the cycle begins, so that one that comes
+//! later is not lost but asks for a further cycle, and one that comes between is served by this one. The
+//! cycle's number is stored before the phase word, so that who goes on knows the cycle that is marked.
+//!
+//! The second stop ends its marking. While the world runs the coordinator looks again and again at the words
+//! that say whether something is left to mark. But it looks at them one after the other, and what it has
+//! seen may not be so any more: a buffer that it found empty may be filled by a worker that held another, and
+//! what somebody holds it cannot see at all. So that it found each as wanted is a hint alone. It stops the
+//! world and looks once more; now nothing is held and nothing moves, so that all words are as wanted at one
+//! moment, and no grey object is left. Where one is not, marking goes on.
+//!
+//! The next sweep generation is what ends the marking: with it all spans are unswept. The world stays
+//! stopped until each is swept. Others may sweep too, so the coordinator waits where one has begun to, and
+//! only then are the counts of the cycle whole. It keeps them, tells that the cycle is swept, and lets the
+//! world run.
+//!
+//! Once every processor is done it runs one last cycle, which nobody asks for, and behind it all are done.
+//!
+//! Nothing is paced yet: no allocation asks for a cycle by the heap's size, and none owes any marking.
+//!
+//! What the parts and the coordinator ask for and where they go are their listings, in specs/; above these
+//! stand the laws of [`laws`]. In Go this is spread over `gcStart`, `gcMarkDone`, `gcMarkTermination` and
+//! `gcSweep` (mgc.go), which whatever goroutine gets there first runs, under locks. Go finds that marking is
+//! over with a barrier that flushes each P's buffers (the ragged barrier of `gcMarkDone`), and sweeps
+//! while the world runs.
+#![tactic(auto)]
+
+mod close;
+mod coord;
+mod count;
+mod cycles;
+pub mod laws;
+mod open;
+mod pacing;
+mod stop;
+mod sweep_all;
+mod tell;
+#[cfg(test)]
+mod tests;
+mod watch;
+
+pub use close::{Close, CloseStage};
+pub use coord::{Coord, CoordStage};
+pub use count::{Count, CountStage, Counted};
+pub use cycles::{Cycle, Cycles};
+pub use open::{Open, OpenStage};
+pub use pacing::{MOST_GOGC, NEVER, SLACK, WORK};
+pub use stop::{Stop, StopStage};
+pub use sweep_all::{SweepAll, SweepAllStage};
+pub use tell::{Tell, TellStage};
+pub use watch::{Watch, WatchStage, Watched};

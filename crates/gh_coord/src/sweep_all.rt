@@ -1,0 +1,189 @@
+//! The routine that has each span swept.
+
+ghost use Rattle.std.specs.Prelude.{◌≡◌, ◌<◌, ◌^◌, Option, true};
+ghost use Rattle.gh_base.specs.Cells.{InRange};
+ghost use Rattle.gh_base.specs.Packing.{page_of};
+ghost use Rattle.gh_base.specs.Steps.{cell_of};
+ghost use Rattle.gh_coord.specs.SweepingAll.{after_await, after_load, after_sweep, at_stage, behind, given, is_busy, is_in_sweep, opening};
+ghost use Rattle.gh_sweep.specs.declared.sweep.SweepEnd.{SweepEnd};
+
+use gh_base::{Ask, Cell, Layout, Machine, PageWord, Req};
+use gh_sweep::{Sweep, SweepEnd};
+use std::marker::Model;
+
+/// The stages of the sweep of all spans.
+#[derive(Clone, Copy, Debug, PartialEq, Eq)]
+pub enum SweepAllStage {
+    /// It loads the word of this page.
+    LoadPage(u32),
+    /// It sweeps the span at this page.
+    Sweep(u32, Sweep),
+    /// It loads the word of this page until nobody sweeps the span there.
+    Await(u32),
+    /// It has ended.
+    Ended,
+}
+
+/// Has each span swept before the next cycle (Go's `sweepone` in the loops of `gcStart` and `gcSweep`,
+/// mgc.go, which finish the sweep of the cycle before).
+///
+/// It goes over the pages in ascending order. A span that is unswept it sweeps. Where another has begun to
+/// sweep it, it waits until that is done.
+#[derive(Clone, Copy, Debug, PartialEq, Eq)]
+pub struct SweepAll {
+    layout: Layout,
+    generation: u64,
+    stage: SweepAllStage,
+}
+
+impl Model for SweepAll {
+    ghost use Rattle.gh_coord.specs.SweepingAll.{SweepingAll};
+    ghost use Rattle.gh_coord.specs.PartsSound.{FitsSweepAll};
+
+    ghost Value = { SweepingAll };
+
+    ghost view = { λ s. record { layout = s.layout; generation = s.generation; stage = s.stage } };
+
+    ghost invariant = { λ s. FitsSweepAll (record { layout = s.layout; generation = s.generation; stage = s.stage }) };
+
+    ghost inverse = { λ s. record { layout = s.layout; generation = s.generation; stage = s.stage } };
+}
+
+impl SweepAll {
+    /// Has each span swept in this sweep generation.
+    pub fn new(layout: &Layout, generation: u64) -> SweepAll
+        requires { generation < 2 ^ 34 }
+        ensures opening { result ≡ opening layout.now generation }
+        ensures begun { is_busy result.stage ≡ true }
+    {
+        SweepAll {
+            layout: *layout,
+            generation,
+            stage: SweepAllStage::LoadPage(0),
+        }
+    }
+
+    /// By this page word somebody sweeps the span.
+    fn is_in_sweep(&self, found: u64) -> bool
+        ensures { result ≡ is_in_sweep self.now.generation (page_of found) }
+    {
+        match PageWord::unpack(found) {
+            PageWord::Head(head) => head.number + 1 == self.generation,
+            _ => false,
+        }
+    }
+
+    /// What follows behind this page.
+    fn behind(&self, page: u32) -> SweepAllStage
+        requires { page < self.now.layout.pages }
+        ensures { result ≡ behind self.now page }
+    {
+        if page + 1 < self.layout.pages {
+            SweepAllStage::LoadPage(page + 1)
+        } else {
+            SweepAllStage::Ended
+        }
+    }
+
+    /// Goes on by what the page word says: the span is unswept, somebody sweeps it, or neither.
+    fn after_load(&mut self, page: u32, found: u64)
+        requires { page < self.old.layout.pages }
+        ensures { self.new ≡ after_load self.old page (page_of found) }
+    {
+        self.stage = match PageWord::unpack(found) {
+            PageWord::Head(head) if head.number + 2 == self.generation => {
+                SweepAllStage::Sweep(page, Sweep::new(&self.layout, page, head))
+            }
+            PageWord::Head(head) if head.number + 1 == self.generation => {
+                SweepAllStage::Await(page)
+            }
+            _ => self.behind(page),
+        };
+    }
+
+    /// Goes on after a step of the sweep of the span at this page.
+    fn after_sweep(&mut self, page: u32, out: Option<SweepEnd>)
+        requires { page < self.old.layout.pages }
+        ensures { self.new ≡ after_sweep self.old page out }
+    {
+        match out {
+            None => {}
+            Some(SweepEnd::Lost) => self.stage = SweepAllStage::Await(page),
+            Some(SweepEnd::Swept(_)) => self.stage = self.behind(page),
+        }
+    }
+
+    /// Goes on where somebody swept the span at this page.
+    fn after_await(&mut self, page: u32, found: u64)
+        requires page { page < self.old.layout.pages }
+        ensures { self.new ≡ after_await self.old page (page_of found) }
+    {
+        self.stage = if self.is_in_sweep(found) {
+            SweepAllStage::Await(page)
+        } else {
+            self.behind(page)
+        };
+    }
+
+    /// What it gives now.
+    fn given(&self) -> Option<()>
+        ensures { result ≡ given self.now }
+    {
+        match self.stage {
+            SweepAllStage::Ended => Some(()),
+            _ => None,
+        }
+    }
+}
+
+impl Machine for SweepAll {
+    ghost use Rattle.gh_coord.specs.SweepingAll.{listing};
+    ghost use Rattle.gh_coord.specs.PartsEnd as proved;
+
+    type Out = ();
+
+    ghost layout = { listing.layout };
+
+    ghost busy = { listing.busy };
+
+    ghost asks = { listing.asks };
+
+    ghost goes = { listing.goes };
+
+    ghost gives = { listing.gives };
+
+    fn next(&self) -> Req {
+        let ask = match &self.stage {
+            SweepAllStage::LoadPage(page) | SweepAllStage::Await(page) => {
+                Ask::Load(Cell::Page(*page))
+            }
+            SweepAllStage::Sweep(_, sweep) => return sweep.next(),
+            SweepAllStage::Ended => Ask::Load(Cell::Touch),
+        };
+        self.layout.request(ask)
+    }
+
+    fn take(&mut self, found: u64) -> Option<()> {
+        match &mut self.stage {
+            SweepAllStage::LoadPage(page) => {
+                let page = *page;
+                self.after_load(page, found);
+            }
+            SweepAllStage::Sweep(page, sweep) => {
+                let page = *page;
+                let out = sweep.take(found);
+                self.after_sweep(page, out);
+            }
+            SweepAllStage::Await(page) => {
+                let page = *page;
+                self.after_await(page, found);
+            }
+            SweepAllStage::Ended => {}
+        }
+        self.given()
+    }
+
+    ghost ends = { proved.sweep_all_ends };
+
+    ghost stays = { proved.sweep_all_stays };
+}

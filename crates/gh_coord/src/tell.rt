@@ -1,0 +1,149 @@
+//! The routine that tells that a cycle is swept.
+
+ghost use Rattle.std.specs.Prelude.{◌≡◌, ◌<◌, ◌^◌, true};
+ghost use Rattle.gh_base.specs.Cells.{InRange};
+ghost use Rattle.gh_base.specs.Packing.{phase_word};
+ghost use Rattle.gh_base.specs.Steps.{cell_of};
+ghost use Rattle.gh_coord.specs.Telling.{asks, given, is_busy, opening, phase_at, stores_phase};
+
+use gh_base::{Ask, Cell, Layout, Machine, Phase, PhaseWord, Req};
+use std::marker::Model;
+
+/// The stages in which it is told that a cycle is swept.
+#[derive(Clone, Copy, Debug, PartialEq, Eq)]
+pub enum TellStage {
+    /// It stores the trigger of the next cycle.
+    StoreTrigger,
+    /// It stores the number of the cycle.
+    StoreSwept,
+    /// It stores the phase word: the world runs, or is done.
+    StorePhase,
+    /// It has ended.
+    Ended,
+}
+
+/// Tells that a cycle is swept, and lets the world run (the end of Go's `gcMarkTermination`, mgc.go).
+///
+/// Who waits for the cycle goes on by the word of swept cycles. So the phase word is stored behind it: while
+/// it is swept the world is stopped.
+#[derive(Clone, Copy, Debug, PartialEq, Eq)]
+pub struct Tell {
+    layout: Layout,
+    trigger: u64,
+    cycle: u64,
+    stops: u64,
+    is_last: bool,
+    stage: TellStage,
+}
+
+impl Model for Tell {
+    ghost use Rattle.gh_coord.specs.Telling.{Telling};
+    ghost use Rattle.gh_coord.specs.PartsSound.{FitsTell};
+
+    ghost Value = { Telling };
+
+    ghost view = { λ t. record { layout = t.layout; trigger = t.trigger; cycle = t.cycle; stops = t.stops; is_last = t.is_last; stage = t.stage } };
+
+    ghost invariant = { λ t. FitsTell (record { layout = t.layout; trigger = t.trigger; cycle = t.cycle; stops = t.stops; is_last = t.is_last; stage = t.stage }) };
+
+    ghost inverse = { λ t. record { layout = t.layout; trigger = t.trigger; cycle = t.cycle; stops = t.stops; is_last = t.is_last; stage = t.stage } };
+}
+
+impl Tell {
+    /// Tells that the cycle of this number is swept, with the trigger of the next and the number of stops.
+    /// Behind the last cycle the world is done.
+    pub fn new(layout: &Layout, trigger: u64, cycle: u64, stops: u64, is_last: bool) -> Tell
+        requires { stops < 2 ^ 62 }
+        ensures opening { result ≡ opening layout.now trigger cycle stops is_last }
+        ensures begun { is_busy result.stage ≡ true }
+    {
+        Tell {
+            layout: *layout,
+            trigger,
+            cycle,
+            stops,
+            is_last,
+            stage: TellStage::StoreTrigger,
+        }
+    }
+
+    /// Its next step stores the phase word.
+    pub fn stores_phase(&self) -> bool
+        ensures { result ≡ stores_phase self.now.stage }
+    {
+        matches!(self.stage, TellStage::StorePhase)
+    }
+
+    /// The phase word that it stores.
+    fn phase_word(&self) -> u64
+        ensures { result ≡ phase_word (phase_at self.now) }
+    {
+        let phase = if self.is_last {
+            Phase::Finished
+        } else {
+            Phase::Off
+        };
+        PhaseWord {
+            stops: self.stops,
+            phase,
+        }
+        .pack()
+    }
+
+    /// The step that it asks for.
+    fn ask(&self) -> Ask
+        ensures asks { result ≡ asks self.now }
+        ensures within { InRange self.now.layout (cell_of result) }
+    {
+        match self.stage {
+            TellStage::StoreTrigger => Ask::Store(Cell::Trigger, self.trigger),
+            TellStage::StoreSwept => Ask::Store(Cell::Swept, self.cycle),
+            TellStage::StorePhase => Ask::Store(Cell::Phase, self.phase_word()),
+            TellStage::Ended => Ask::Load(Cell::Touch),
+        }
+    }
+
+    /// What it gives now.
+    fn given(&self) -> Option<()>
+        ensures { result ≡ given self.now }
+    {
+        match self.stage {
+            TellStage::Ended => Some(()),
+            _ => None,
+        }
+    }
+}
+
+impl Machine for Tell {
+    ghost use Rattle.gh_coord.specs.Telling.{listing};
+    ghost use Rattle.gh_coord.specs.PartsEnd as proved;
+
+    type Out = ();
+
+    ghost layout = { listing.layout };
+
+    ghost busy = { listing.busy };
+
+    ghost asks = { listing.asks };
+
+    ghost goes = { listing.goes };
+
+    ghost gives = { listing.gives };
+
+    fn next(&self) -> Req {
+        self.layout.request(self.ask())
+    }
+
+    fn take(&mut self, _found: u64) -> Option<()> {
+        self.stage = match self.stage {
+            TellStage::StoreTrigger => TellStage::StoreSwept,
+            TellStage::StoreSwept => TellStage::StorePhase,
+            TellStage::StorePhase | TellStage::Ended => TellStage::Ended,
+        };
+        self.given()
+    }
+
+    ghost ends = { proved.tell_ends };
+
+    ghost stays = { proved.tell_stays };
+}
