@@ -7,6 +7,7 @@ use Rattle.gh_base.specs.Shapes.{shape_at, ShapesFit}
 use Rattle.gh_class.specs.Classes.{slot_of, pages_of, slots_of, IsClassOf, class_number, large_pages, slot_words}
 use Rattle.std.proofs.Math.Nat.{mul-le-mul_right}
 use Rattle.gh_class.specs.declared.class.SizeClass.TheVariants as size
+use Rattle.gh_class.specs.declared.class.TheConstants.{MOST_SPAN_PAGES, MOST_TYPE_WORDS}
 use Rattle.gh_mutator.specs.New.{sought_by, wanted_of}
 use Rattle.gh_mutator.specs.Sound.{IsRegister, SoundWanted}
 
@@ -23,7 +24,7 @@ pub record ClassLaws : Type 0 where
   pub small_slot : (words : ℕ) → 8 * words ≤ 32768 → slot_words words ≡ slot_of (class_number (8 * words)) / 8
   pub large_slot : (words : ℕ) → 32768 < 8 * words → slot_words words ≡ 1024 * large_pages words
   pub holds : (words : ℕ) → words ≤ slot_words words
-  pub bounded : (words : ℕ) → words ≤ 65536 → slot_words words ≤ 65536
+  pub bounded : (words : ℕ) → words ≤ MOST_TYPE_WORDS → slot_words words ≤ MOST_TYPE_WORDS
 
 -- what is known of a class
 pub record FactsOf (c : ℕ) : Type 0 where
@@ -58,7 +59,7 @@ pub record SmallFacts (words : ℕ) : Type 0 where
   pub slot : 1 ≤ slot_words words
   pub is : slot_words words ≡ slot_of (class_number (8 * words)) / 8
 
-small_facts : ClassLaws → (words : ℕ) → words ≤ 4096 → SmallFacts words
+pub small_facts : ClassLaws → (words : ℕ) → words ≤ 4096 → SmallFacts words
 small_facts laws words h =
     let below : class_number (8 * words) < 25 = (laws.number (8 * words) (omega arith)).among in
     let f = facts_of laws (class_number (8 * words)) below in
@@ -67,18 +68,18 @@ small_facts laws words h =
 
 pub record LargeFacts (words : ℕ) : Type 0 where
   pub some : 1 ≤ slot_words words / 1024
-  pub few : slot_words words / 1024 ≤ 64
+  pub few : slot_words words / 1024 ≤ MOST_SPAN_PAGES
   pub slot : 1 ≤ slot_words words
   pub is : slot_words words ≡ 1024 * (slot_words words / 1024)
 
-large_facts : ClassLaws → (words : ℕ) → 4096 < words → words ≤ 65536 → LargeFacts words
+pub large_facts : ClassLaws → (words : ℕ) → 4096 < words → words ≤ MOST_TYPE_WORDS → LargeFacts words
 large_facts laws words h k =
     let e : slot_words words ≡ 1024 * large_pages words = laws.large_slot words (omega arith) in
     let hold : words ≤ slot_words words = laws.holds words in
-    let bound : slot_words words ≤ 65536 = laws.bounded words k in
+    let bound : slot_words words ≤ MOST_TYPE_WORDS = laws.bounded words k in
     record { some = omega arith; few = omega arith; slot = omega arith; is = omega arith }
 
-wanted_sound_at : ClassLaws → (b : Bool) (shapes : List Shape) (g d t words : ℕ) (noscan : Bool) → leb (8 * words) 32768 ≡ b → 1 ≤ words → words ≤ 65536 → t < length shapes → IsRegister g d →
+wanted_sound_at : ClassLaws → (b : Bool) (shapes : List Shape) (g d t words : ℕ) (noscan : Bool) → leb (8 * words) 32768 ≡ b → 1 ≤ words → words ≤ MOST_TYPE_WORDS → t < length shapes → IsRegister g d →
     SoundWanted shapes (record { g = g; d = d; t = t; slot = slot_words words; sought = sought_by (cond b (size.Small (class_number (8 * words))) size.Large) noscan (slot_words words) })
 wanted_sound_at laws true shapes g d t words noscan e some few there register =
     let f = small_facts laws words (omega (arith, leb-true _ _ e)) in

@@ -1,15 +1,24 @@
 pub mod Changes
 pub mod ClassFacts
+pub mod Deeds
 pub mod Ending
 pub mod Faults
 pub mod Fields
 pub mod Full
+pub mod Giving
 pub mod GlobalSteps
+pub mod Leaving
 pub mod Lists
 pub mod LoadSteps
 pub mod NewSteps
+mod Owning
+pub mod NoAck
+pub mod Polling
 pub mod Shapes
 pub mod Soundness
+pub mod StackMarking
+pub mod StackMarks
 pub mod Steps
 pub mod StoreSteps
 pub mod Telling
+pub mod Waiting

@@ -1,8 +1,20 @@
 //! Laws of the machine. The functions do nothing; what they ensure is proved.
 
+ghost use Rattle.gh_mutator.specs.Deeds.{OnlyPointsChange, ProcessorsDeedsFit};
 ghost use Rattle.gh_mutator.specs.Ending.{OperationsEnd};
 ghost use Rattle.gh_mutator.specs.Faults.{FaultsChangeNothing};
 ghost use Rattle.gh_mutator.specs.Full.{FullChangesLittle};
+ghost use Rattle.gh_mutator.specs.Gives.{GivesLeaveNothing};
+ghost use Rattle.gh_mutator.specs.Leaves.{NothingIsHeldAtLeave};
+ghost use Rattle.gh_mutator.specs.Polls.{PollsHoldNothingAtStops};
+ghost use Rattle.gh_mutator.specs.Runs.{RunsByItsRights};
+ghost use Rattle.gh_mutator.specs.StackMarks.{WishesOfAStackAreShaded};
+ghost use Rattle.gh_mutator.specs.Waits.{WaitsEndWithACycle};
+
+use gh_alloc::laws::{finding_keeps_its_facts, making_keeps_its_facts};
+use gh_base::laws::{packed_words_are_read_back, rows_are_written};
+use gh_class::size_class_laws;
+use gh_heap::laws::{rights_follow, the_heap_is_apart};
 
 /// Whatever its steps find, an operation that makes no object ends after a few of them: a load after at
 /// most 4, a store after 3, a load of a global after 2, and each other operation after 1.
@@ -20,4 +32,66 @@ pub fn faults_change_nothing()
 /// is nil.
 pub fn full_changes_little()
     ensures { FullChangesLittle }
+{}
+
+/// An operation that has a point acts once, before it ends, whatever its steps find: statements and the ends of
+/// goroutines have one, a poll and a leave none.
+pub fn the_processors_deeds_fit()
+    ensures { ProcessorsDeedsFit }
+{}
+
+/// A poll and a leave leave the heap that never frees as it is: after a list it is what all acts leave.
+pub fn only_points_change()
+    ensures { OnlyPointsChange }
+{}
+
+/// Whatever any number of processors do beside it: an operation begins well where it may begin; each step of the
+/// processor is a move that its rights allow, after which its registers hold what they hold in the heap that
+/// never frees, and it answers what that heap answers, or `full` where it found no room; and what is known of
+/// it lasts.
+pub fn a_processor_runs_by_its_rights()
+    ensures { RunsByItsRights }
+{
+    packed_words_are_read_back();
+    rows_are_written();
+    size_class_laws();
+    the_heap_is_apart();
+    rights_follow();
+    finding_keeps_its_facts();
+    making_keeps_its_facts();
+}
+
+/// Whatever it is told, the giving back writes page words with the heap's lock alone, and frees the lock
+/// before it ends. Once it has ended no span is cached and no buffer is held: each span that was cached is
+/// given back with one store, in ascending span class, and so is the buffer. It writes no other page word,
+/// and no other buffer's.
+pub fn gives_leave_nothing()
+    ensures { GivesLeaveNothing }
+{}
+
+/// A processor that leaves runs the giving back first. Its last step says that it is gone, for its own seat;
+/// it makes that step once all is given back, and acknowledges nothing else.
+pub fn nothing_is_held_at_leave()
+    ensures { NothingIsHeldAtLeave }
+{}
+
+/// A poll begins with a load of the phase. It acknowledges a stop for its own seat, with no span cached and
+/// no buffer held. It scans a stack at a fourth poll while marking is on: that of the lowest goroutine of the
+/// processor that has not ended and was not scanned in this cycle. It looks for a buffer with room at its end
+/// only where it is no part of a wait.
+pub fn polls_hold_nothing_at_stops()
+    ensures { PollsHoldNothingAtStops }
+{}
+
+/// A wait asks for a cycle first, and then polls and loads the number of the last swept cycle, again and
+/// again. It ends exactly where such a load tells at least one more than the cycle that the processor knew
+/// when it began. Its polls are those of a wait; they acknowledge a stop with nothing held.
+pub fn waits_end_with_a_cycle()
+    ensures { WaitsEndWithACycle }
+{}
+
+/// The scan of a stack shades what the scan wishes for, and tells it once that is shaded. Its last step
+/// stores the cycle, where no wish is left.
+pub fn wishes_of_a_stack_are_shaded()
+    ensures { WishesOfAStackAreShaded }
 {}

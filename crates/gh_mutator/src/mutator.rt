@@ -39,7 +39,7 @@ impl<'s> Model for Mutator<'s> {
 
 impl<'s> Mutator<'s> {
     /// A processor at this seat, before its first step: all registers are nil, no span is cached, and
-    /// nothing is begun. Each type has 1 to 65,536 words.
+    /// nothing is begun. Each type has 1 to `MOST_TYPE_WORDS` words.
     pub fn new(layout: &Layout, seat: u32, shapes: &'s Shapes) -> Mutator<'s>
         requires seat { seat < layout.now.procs }
         requires shapes { ShapesFit shapes.now }

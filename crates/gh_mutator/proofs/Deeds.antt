@@ -1,0 +1,244 @@
+-- Each operation of the processor acts once before it ends, and only those with a point change the heap that never frees.
+use Rattle.std.proofs.Common.{◌≡◌, ℕ, ◌+◌, Bool, true, false, cond, ltb, List, refl, sym, ap, ◌∙◌, Option, Some, None}
+use Rattle.gh_mutator.specs.Vocabulary.{Layout, Op, Shape, Value, Found, At, NoRoom, PlaceStage, Finding, Placing, Global, LoadStage, NewStage, Find, Place, Wanted, Processor, StoreStage, Task}
+use Rattle.gh_base.specs.declared.operation.Op.TheVariants as op
+use Rattle.gh_base.specs.declared.pack.SpanHead.{SpanHead}
+use Rattle.gh_base.specs.declared.value.Answer.TheVariants as answer
+use Rattle.gh_base.specs.declared.value.Fault.TheVariants as fault
+use Rattle.gh_base.specs.declared.value.Value.TheVariants as value
+use Rattle.gh_base.specs.Orders.{before_step, left_at, model_after}
+use Rattle.gh_bitmap.specs.SetPointers as bits
+use Rattle.gh_alloc.specs.declared.place.PlaceStage.TheVariants as making
+use Rattle.gh_alloc.specs.Find as find
+use Rattle.gh_alloc.specs.Place as place
+use Rattle.gh_model.specs.Ever.{Ever}
+use Rattle.gh_mutator.specs.declared.global.GlobalStage.{GlobalStage}
+use Rattle.gh_mutator.specs.declared.global.GlobalStage.TheVariants as global_stage
+use Rattle.gh_mutator.specs.declared.load.Load.{Load}
+use Rattle.gh_mutator.specs.declared.load.LoadStage.TheVariants as load_stage
+use Rattle.gh_mutator.specs.declared.own.Own.{Own}
+use Rattle.gh_mutator.specs.declared.own.Own.TheVariants as own_step
+use Rattle.gh_mutator.specs.declared.step.Step.{Step}
+use Rattle.gh_mutator.specs.declared.store.Store.{Store}
+use Rattle.gh_mutator.specs.declared.store.StoreStage.TheVariants as store_stage
+use Rattle.gh_mutator.specs.declared.task.Task.TheVariants as task
+use Rattle.gh_mutator.specs.Deeds.{OnlyPointsChange, ProcessorsDeedsFit, deeds, has_point, meaning, point_of, pointed, processor_kind}
+use Rattle.gh_mutator.specs.Facts.{acted}
+use Rattle.gh_mutator.specs.Fields.{has_field, is_pointer_by, kinds_differ, takes as takes_value, value_of}
+use Rattle.gh_mutator.specs.Global as global
+use Rattle.gh_mutator.specs.Listing.{Act, acting, acts, acts_at, begins_at, follows, is_busy_at, op_at, rests, takes, takes_at}
+use Rattle.gh_mutator.specs.Load as load
+use Rattle.gh_mutator.specs.New.{after_find, after_place, finds_none, op_of as new_op, searches, unacted}
+use Rattle.gh_mutator.specs.Processor.{cache_span, register_of}
+use Rattle.gh_mutator.specs.Step.{ends, goes_on}
+use Rattle.gh_mutator.specs.Store as store
+
+-- from the operation to act before a step to that behind it: the step acts for it, or leaves it so
+abbrev ActsOnce : (before after : Option Op) → Option Act → Type 0
+ActsOnce before after None = after ≡ before
+ActsOnce before after (Some x) = (before ≡ Some x.op) × (after ≡ None)
+
+-- ---- a step of a statement acts once
+
+-- this step, for this operation
+abbrev StepActs : {S : Type 0} → (S → Task) → (before : Option Op) → Op → Step S → Type 0
+StepActs into before o step = ActsOnce before (op_at (follows into step.then)) (acting step.acts o false)
+
+-- a value that is found
+value_acts : {S : Type 0} (naming : ℕ → S) (into : S → Task) (o : Op) (v : Value) → ((a : ℕ) → op_at (into (naming a)) ≡ None) → StepActs into (Some o) o (takes_value naming v)
+value_acts naming into o value.Nil none = (refl, refl)
+value_acts naming into o (value.Int n) none = (refl, refl)
+value_acts naming into o (value.Ref r) none = (refl, none _)
+
+abbrev LoadActs : Load → LoadStage → Step Load → Type 0
+LoadActs x s step = StepActs task.Load (load.unacted x s) (load.op_of x) step
+
+load_page_acts : (x : Load) (b : Bool) → LoadActs x load_stage.Page (cond b (goes_on (load.at_stage x load_stage.Bits)) (ends (answer.Fault fault.Field)))
+load_page_acts x true = refl
+load_page_acts x false = (refl, refl)
+
+load_acts : (l : Layout) (x : Load) (s : LoadStage) (found : ℕ) → LoadActs x s (load.step_at l x s found)
+load_acts l x load_stage.NilBase found = (refl, refl)
+load_acts l x load_stage.Page found = load_page_acts x (has_field x.k found)
+load_acts l x load_stage.Bits found = refl
+load_acts l x (load_stage.Field p) found = value_acts (load.naming x) task.Load (load.op_of x) (value_of l.pages p found) (λ a. refl)
+load_acts l x (load_stage.Birth a) found = refl
+
+abbrev StoreActs : Store → Step Store → Type 0
+StoreActs x step = StepActs task.Store (Some (store.op_of x)) (store.op_of x) step
+
+store_page_acts : (x : Store) (b : Bool) → StoreActs x (cond b (goes_on (store.at_stage x store_stage.Bits)) (ends (answer.Fault fault.Field)))
+store_page_acts x true = refl
+store_page_acts x false = (refl, refl)
+
+store_bits_acts : (x : Store) (b : Bool) → StoreActs x (cond b (ends (answer.Fault fault.Kind)) (goes_on (store.at_stage x store_stage.Field)))
+store_bits_acts x true = (refl, refl)
+store_bits_acts x false = refl
+
+store_acts : (l : Layout) (held : Value) (x : Store) (s : StoreStage) (found : ℕ) → StoreActs x (store.step_at l held x s found)
+store_acts l held x store_stage.NilBase found = (refl, refl)
+store_acts l held x store_stage.Page found = store_page_acts x (has_field x.k found)
+store_acts l held x store_stage.Bits found = store_bits_acts x (kinds_differ (is_pointer_by l (x.at + x.k) found) held)
+store_acts l held x store_stage.Field found = (refl, refl)
+
+global_acts : (l : Layout) (held : Value) (x : Global) (s : GlobalStage) (found : ℕ) → StepActs task.Global (global.unacted x s) (global.op_in x s) (global.step_at l held x s found)
+global_acts l held x global_stage.Load found = value_acts (global.naming x) task.Global (global.op_in x global_stage.Load) (value_of l.pages true found) (λ a. refl)
+global_acts l held x (global_stage.Birth a) found = refl
+global_acts l held x global_stage.Store found = (refl, refl)
+global_acts l held x global_stage.Number found = (refl, refl)
+
+-- ---- each step acts once
+
+module _ (shapes : List Shape) (m : Processor) where
+  abbrev ActsAt : Task → ℕ → Type 0
+  ActsAt t found = ActsOnce (op_at t) (op_at (takes_at shapes m t found).task) (acts_at m t found)
+
+  find_acts : (w : Wanted) (f : Finding) (found : ℕ) → ActsAt (searches w f) found
+  find_acts w f found = go (find.gives f found) where
+    go : (out : Option Found) → ActsOnce (Some (new_op w)) (op_at (after_find shapes (cache_span m w.sought (find.goes f found).cached) w (find.goes f found) out).task) (acting (finds_none out) (new_op w) true)
+    go None = refl
+    go (Some (At a)) = refl
+    go (Some NoRoom) = (refl, refl)
+
+  -- the making is at q, and then at n
+  abbrev PlaceActs : Wanted → Placing → (q n : PlaceStage) → Type 0
+  PlaceActs w p q n = ActsOnce (unacted w (Place (place.at_stage p q))) (op_at (after_place m w (place.acts_at q) p.at (place.at_stage p n)).task) (acting (place.acts_at q) (new_op w) false)
+
+  place_acts : (w : Wanted) (p : Placing) (found : ℕ) (q : PlaceStage) → PlaceActs w p q (place.goes_at p q found)
+  place_acts w p found (making.Clear k) = go (ltb (k + 1) p.slot) where
+    go : (b : Bool) → PlaceActs w p (making.Clear k) (cond b (making.Clear (k + 1)) making.Birth)
+    go true = refl
+    go false = refl
+  place_acts w p found making.Birth = refl
+  place_acts w p found (making.Bits s) = go (bits.is_busy (bits.goes s found).stage) refl where
+    go : (b : Bool) → bits.is_busy (bits.goes s found).stage ≡ b → PlaceActs w p (making.Bits s) (cond b (making.Bits (bits.goes s found)) making.Alloc)
+    go true e = rw e refl
+    go false e = refl
+  place_acts w p found making.Alloc = go p.span where
+    go : (s : Option SpanHead) → PlaceActs w p making.Alloc (place.made p s)
+    go None = (refl, refl)
+    go (Some h) = (refl, refl)
+  place_acts w p found (making.Give g) = refl
+  place_acts w p found making.Count = refl
+  place_acts w p found making.Ended = refl
+
+  new_acts : (w : Wanted) (s : NewStage) (found : ℕ) → ActsAt (task.New (record { wanted = w; stage = s })) found
+  new_acts w (Find f) found = find_acts w f found
+  new_acts w (Place p) found = place_acts w p found p.stage
+
+  -- behind an operation of the processor's own
+  rests_without : (x : Own) → op_at (rests x) ≡ None
+  rests_without own_step.Poll = refl
+  rests_without (own_step.End g) = refl
+  rests_without own_step.Leave = refl
+
+  acts_once_at : (t : Task) (found : ℕ) → is_busy_at t ≡ true → ActsAt t found
+  acts_once_at task.Idle found busy = absurd (cc)
+  acts_once_at task.Left found busy = absurd (cc)
+  acts_once_at (task.Load x) found busy = load_acts m.layout x x.stage found
+  acts_once_at (task.Store x) found busy = store_acts m.layout (register_of m x.g x.v) x x.stage found
+  acts_once_at (task.Global x) found busy = global_acts m.layout (register_of m x.g x.r) x x.stage found
+  acts_once_at (task.Register x) found busy = (refl, refl)
+  acts_once_at (task.New x) found busy = new_acts x.wanted x.stage found
+  acts_once_at (task.Own x) found busy = (refl, rests_without x)
+
+-- ---- where an operation begins, it is to act
+
+load_to_act : (g d b k : ℕ) (v : Value) → op_at (task.Load (load.begins g d b k v)) ≡ Some (op.Load g d b k)
+load_to_act g d b k value.Nil = refl
+load_to_act g d b k (value.Int n) = refl
+load_to_act g d b k (value.Ref r) = refl
+
+store_to_act : (g b k v : ℕ) (x : Value) → op_at (task.Store (store.begins g b k v x)) ≡ Some (op.Store g b k v)
+store_to_act g b k v value.Nil = refl
+store_to_act g b k v (value.Int n) = refl
+store_to_act g b k v (value.Ref r) = refl
+
+set_global_to_act : (g k v : ℕ) (x : Value) → op_at (task.Global (global.begins_store g k v x)) ≡ Some (op.SetGlobal g k v)
+set_global_to_act g k v value.Nil = refl
+set_global_to_act g k v (value.Int n) = refl
+set_global_to_act g k v (value.Ref r) = refl
+
+to_act : (shapes : List Shape) (m : Processor) (o : Op) → is_busy_at (begins_at shapes m o) ≡ true → op_at (begins_at shapes m o) ≡ Some o
+to_act shapes m (op.New g d t) busy = refl
+to_act shapes m (op.Load g d b k) busy = load_to_act g d b k (register_of m g b)
+to_act shapes m (op.Store g b k v) busy = store_to_act g b k v (register_of m g b)
+to_act shapes m (op.GetGlobal g d k) busy = refl
+to_act shapes m (op.SetGlobal g k v) busy = set_global_to_act g k v (register_of m g v)
+to_act shapes m (op.Int g d n) busy = refl
+to_act shapes m (op.Move g d s) busy = refl
+to_act shapes m (op.Nil g d) busy = refl
+to_act shapes m (op.Gc g) busy = absurd (cc)
+to_act shapes m op.Poll busy = refl
+to_act shapes m (op.End g) busy = refl
+to_act shapes m op.Leave busy = refl
+
+none_at_rest : (t : Task) → is_busy_at t ≡ false → op_at t ≡ None
+none_at_rest task.Idle idle = refl
+none_at_rest task.Left idle = refl
+none_at_rest (task.Load x) idle = absurd (cc)
+none_at_rest (task.Store x) idle = absurd (cc)
+none_at_rest (task.Global x) idle = absurd (cc)
+none_at_rest (task.Register x) idle = absurd (cc)
+none_at_rest (task.New x) idle = absurd (cc)
+none_at_rest (task.Own x) idle = absurd (cc)
+
+-- ---- those with a point
+
+-- a step that is no point leaves the operation with a point as it is
+leaves_it : (before after : Option Op) (act : Option Act) → ActsOnce before after act → point_of act ≡ None → pointed after ≡ pointed before
+leaves_it before after None same none = ap pointed same
+leaves_it before after (Some x) does none = go (has_point x.op) refl none where
+  go : (b : Bool) → has_point x.op ≡ b → cond b (Some x) None ≡ None → pointed after ≡ pointed before
+  go true e none = absurd (cc)
+  go false e none = ap pointed does.1 ∙ sym (ap pointed does.0 ∙ ap (λ (b : Bool). cond b (Some x.op) None) e)
+
+-- a point is that of the operation, and then none is to act
+acts_for_it : (before after : Option Op) (act : Option Act) (x : Act) → ActsOnce before after act → point_of act ≡ Some x → (pointed before ≡ Some x.op) × (pointed after ≡ None)
+acts_for_it before after None x same is = absurd (cc)
+acts_for_it before after (Some y) x does is = go (has_point y.op) refl is where
+  op_in : Option Act → Option Op
+  op_in None = None
+  op_in (Some z) = Some z.op
+
+  go : (b : Bool) → has_point y.op ≡ b → cond b (Some y) None ≡ Some x → (pointed before ≡ Some x.op) × (pointed after ≡ None)
+  go true e is = (ap pointed does.0 ∙ ap (λ (b : Bool). cond b (Some y.op) None) e ∙ ap op_in is, ap pointed does.1)
+  go false e is = absurd (cc)
+
+acts_once : (shapes : List Shape) (m : Processor) (found : ℕ) → is_busy_at m.task ≡ true → ActsOnce (op_at m.task) (op_at (takes shapes m found).task) (acts m found)
+acts_once shapes m found busy = acts_once_at shapes m m.task found busy
+
+pub processors_deeds_fit : ProcessorsDeedsFit
+processors_deeds_fit shapes l = record {
+  opens = λ a. refl;
+  idle = λ m idle. ap pointed (none_at_rest m.task idle);
+  begins = λ m o idle busy. ap pointed (to_act shapes m o busy);
+  goes_on = λ m found busy none. leaves_it _ _ (acts m found) (acts_once shapes m found busy) none;
+  acts_for = λ m found x busy is. (acts_for_it _ _ (acts m found) x (acts_once shapes m found busy) is).0;
+  acts_once = λ m found x busy is. (acts_for_it _ _ (acts m found) x (acts_once shapes m found busy) is).1;
+}
+
+-- ---- only points change the heap that never frees
+
+-- by the operation of an act
+changes : (shapes : List Shape) (e : Ever) (o : Op) (full : Bool) → acted shapes e (cond (has_point o) (Some (record { op = o; full = full })) None) ≡ acted shapes e (Some (record { op = o; full = full }))
+changes shapes e op.Poll full = refl
+changes shapes e op.Leave full = refl
+changes shapes e (op.Gc g) full = refl
+changes shapes e _ full = refl
+
+alone : (shapes : List Shape) (e : Ever) (x : Option Act) → acted shapes e (point_of x) ≡ acted shapes e x
+alone shapes e None = refl
+alone shapes e (Some x) = changes shapes e x.op x.full
+
+-- the model after a point is what the act leaves
+left_is : (shapes : List Shape) (e : Ever) (x : Option Act) → left_at (meaning shapes) e x ≡ acted shapes e x
+left_is shapes e None = refl
+left_is shapes e (Some x) = refl
+
+pub only_points_change : OnlyPointsChange
+only_points_change shapes l = record {
+  alone = alone shapes;
+  follows = λ es e. left_is shapes _ (point_of (acts (before_step (processor_kind shapes l) (deeds shapes) es e) e.found))
+      ∙ alone shapes (model_after (processor_kind shapes l) (deeds shapes) (meaning shapes) es) (acts (before_step (processor_kind shapes l) (deeds shapes) es e) e.found);
+}

@@ -1,0 +1,300 @@
+-- The steps of a new object's making. The making is known by its law, and by which of its steps makes the object and which is its last.
+use Rattle.std.proofs.Common.{◌≡◌, ◌≢◌, ℕ, ◌+◌, ◌*◌, ◌/◌, ◌<◌, ◌⊎◌, Bool, true, false, cond, eqb, ltb, [], ◌∷◌, ◌++◌, length, get_or, Option, Some, None, refl, sym, ap, subst, ◌∙◌, arith, inl, inr, length-set, get_or-set_same, get_or-set_other}
+use Rattle.std.specs.Option.{option_to_list}
+use Rattle.std.proofs.Math.ListN.{set}
+use Rattle.std.proofs.lemmas.Bool.{eqb-true, eqb-false, eq-eqb}
+use Rattle.gh_base.specs.declared.limits.TheConstants.{MOST_GOROUTINES, REGISTERS}
+use Rattle.gh_base.specs.declared.pack.SpanHead.{SpanHead}
+use Rattle.gh_base.specs.declared.value.Answer.{Answer}
+use Rattle.gh_base.specs.declared.value.Answer.TheVariants as answer
+use Rattle.gh_base.specs.declared.value.Name.{Name}
+use Rattle.gh_base.specs.declared.value.Value.{Value}
+use Rattle.gh_base.specs.declared.value.Value.TheVariants as value
+use Rattle.gh_base.specs.Steps.{cell_of}
+use Rattle.gh_model.specs.declared.EverValue.{EverValue}
+use Rattle.gh_model.specs.declared.EverValue.TheVariants as ever
+use Rattle.gh_model.specs.Ever.{Ever, next_name, same_name, with_object, with_register}
+use Rattle.gh_heap.specs.Laws.{KeepsItsOwn}
+use Rattle.gh_heap.specs.Moves.{KeepsObjects, Steps, moved, placed_at, update}
+use Rattle.gh_heap.specs.Objects.{IsMade, Means, Place as PlaceOf}
+use Rattle.gh_heap.specs.Rights.{Arena, Good, IsOf, Shared, View, view}
+use Rattle.gh_bitmap.specs.SetPointers as setter
+use Rattle.gh_alloc.specs.declared.place.PlaceStage.{PlaceStage}
+use Rattle.gh_alloc.specs.declared.place.PlaceStage.TheVariants as making
+use Rattle.gh_alloc.specs.declared.sought.Sought.{Sought}
+use Rattle.gh_alloc.specs.declared.sought.Sought.TheVariants.{Small, Large}
+use Rattle.gh_alloc.specs.FindFacts as find
+use Rattle.gh_alloc.specs.Place as placer
+use Rattle.gh_alloc.specs.PlaceFacts as place
+use Rattle.gh_mutator.specs.declared.new.Wanted.{Wanted}
+use Rattle.gh_mutator.specs.declared.processor.Processor.{Processor}
+use Rattle.gh_mutator.specs.declared.task.Task.{Task}
+use Rattle.gh_mutator.specs.declared.task.Task.TheVariants as task
+use Rattle.gh_mutator.specs.Facts.{CachesAll, CountsFit, Does, Fine, Makes, NamedFrom, RegistersFit, ShapesAreGood, Steady, acted, answered_at, for_whom, lists}
+use Rattle.gh_mutator.specs.Listing.{Act, acting}
+use Rattle.gh_mutator.specs.New.{is_made, made_object, makes, op_of, own_span}
+use Rattle.gh_mutator.specs.Processor.{at_task, made_by, register_of, set_register}
+use Rattle.gh_mutator.proofs.Owning.Cache.{lists-it}
+use Rattle.gh_mutator.proofs.Owning.Finding.{Known, goroutine-few, registers-then, same-counts, same-registers, still-cached}
+
+-- What kind of step is made at a stage: one on the way, the one that makes the object, or the last.
+data Kind (p : placer.Placing) (q : PlaceStage) (found : ℕ) : Type 0 where
+  onward : placer.acts_at q ≡ false → placer.gives_at q ≡ None → placer.is_busy (placer.goes_at p q found) ≡ true → is_made (placer.goes_at p q found) ≡ is_made q → Kind p q found
+  making-it : placer.acts_at q ≡ true → placer.gives_at q ≡ None → placer.is_busy (placer.goes_at p q found) ≡ true → is_made (placer.goes_at p q found) ≡ true → is_made q ≡ false → Kind p q found
+  ending : placer.acts_at q ≡ false → placer.gives_at q ≡ Some tt → placer.is_busy (placer.goes_at p q found) ≡ false → is_made q ≡ true → placer.goes_at p q found ≡ making.Ended → Kind p q found
+
+kind-of : (p : placer.Placing) (q : PlaceStage) (found : ℕ) → (q ≡ making.Ended → ⊥) → Kind p q found
+kind-of p (making.Clear i) found busy = go (ltb (i + 1) p.slot) refl where
+  go : (b : Bool) → ltb (i + 1) p.slot ≡ b → Kind p (making.Clear i) found
+  go true e = onward refl refl (ap (λ (b : Bool). placer.is_busy (cond b (making.Clear (i + 1)) making.Birth)) e) (ap (λ (b : Bool). is_made (cond b (making.Clear (i + 1)) making.Birth)) e)
+  go false e = onward refl refl (ap (λ (b : Bool). placer.is_busy (cond b (making.Clear (i + 1)) making.Birth)) e) (ap (λ (b : Bool). is_made (cond b (making.Clear (i + 1)) making.Birth)) e)
+kind-of p making.Birth found busy = onward refl refl refl refl
+kind-of p (making.Bits s) found busy = go (setter.is_busy (setter.goes s found).stage) refl where
+  go : (b : Bool) → setter.is_busy (setter.goes s found).stage ≡ b → Kind p (making.Bits s) found
+  go true e = onward refl refl (ap (λ (b : Bool). placer.is_busy (cond b (making.Bits (setter.goes s found)) making.Alloc)) e ∙ e) (ap (λ (b : Bool). is_made (cond b (making.Bits (setter.goes s found)) making.Alloc)) e)
+  go false e = onward refl refl (ap (λ (b : Bool). placer.is_busy (cond b (making.Bits (setter.goes s found)) making.Alloc)) e) (ap (λ (b : Bool). is_made (cond b (making.Bits (setter.goes s found)) making.Alloc)) e)
+kind-of p making.Alloc found busy = go p.span refl where
+  go : (x : Option SpanHead) → p.span ≡ x → Kind p making.Alloc found
+  go None e = making-it refl refl (ap (λ (y : Option SpanHead). placer.is_busy (placer.made p y)) e) (ap (λ (y : Option SpanHead). is_made (placer.made p y)) e) refl
+  go (Some h) e = making-it refl refl (ap (λ (y : Option SpanHead). placer.is_busy (placer.made p y)) e) (ap (λ (y : Option SpanHead). is_made (placer.made p y)) e) refl
+kind-of p (making.Give g) found busy = onward refl refl refl refl
+kind-of p making.Count found busy = ending refl refl refl refl refl
+kind-of p making.Ended found busy = absurd (busy refl)
+
+-- What the seat holds at a stage, and what its caches list.
+
+held-cases : (q : PlaceStage) (span : Option SpanHead) (n : ℕ) (base : ℕ → Bool) (y : ℕ) → (place.held_by q span n base y ≡ base y) ⊎ ((place.held_by q span n base y ≡ update base n false y) × ((h : SpanHead) × (span ≡ Some h)))
+held-cases (making.Clear i) span n base y = inl refl
+held-cases making.Birth span n base y = inl refl
+held-cases (making.Bits s) span n base y = inl refl
+held-cases making.Alloc span n base y = inl refl
+held-cases (making.Give g) span n base y = inl refl
+held-cases making.Count None n base y = inl refl
+held-cases making.Count (Some h) n base y = inr (refl, (h, refl))
+held-cases making.Ended None n base y = inl refl
+held-cases making.Ended (Some h) n base y = inr (refl, (h, refl))
+
+-- a large object has a span of its own, and no other
+own-cases : (seat generation : ℕ) (x : Sought) (at : ℕ) (h : SpanHead) → own_span seat generation x ≡ Some h → find.own_found x at ≡ Some (at / 1024)
+own-cases seat generation (Small c) at h e = absurd (cc)
+own-cases seat generation (Large pages noscan) at h e = refl
+
+with-listed : (o : Option ℕ) (held : ℕ → Bool) (y : ℕ) → held y ≡ true → find.with_span o held y ≡ true
+with-listed None held y e = e
+with-listed (Some n) held y e = go (eqb n y) where
+  go : (b : Bool) → cond b true (held y) ≡ true
+  go true = refl
+  go false = e
+
+module _ (z : Arena) (a : ℕ) (v : View) (m : Processor) (x : Wanted) (p : placer.Placing) where
+  abbrev base : ℕ → Bool
+  base = find.with_span (find.own_found x.sought p.at) (lists m.cache)
+
+  -- what is listed is held at every stage
+  listed-held : p.span ≡ own_span m.seat m.generation x.sought → ((y : ℕ) → find.own_found x.sought p.at ≡ Some y → lists m.cache y ≡ false) → (q : PlaceStage) (y : ℕ) → lists m.cache y ≡ true → place.held_by q p.span (p.at / 1024) base y ≡ true
+  listed-held span apart q y e = elim (held-cases q p.span (p.at / 1024) base y) [
+    | inl same ↦ same ∙ with-listed (find.own_found x.sought p.at) (lists m.cache) y e
+    | inr given ↦ given.0 ∙ elsewhere (apart (p.at / 1024) (own-cases m.seat m.generation x.sought p.at given.1.0 (sym span ∙ given.1.1)))
+  ] where
+    elsewhere : lists m.cache (p.at / 1024) ≡ false → update base (p.at / 1024) false y ≡ true
+    elsewhere none = go (eqb (p.at / 1024) y) refl where
+      go : (b : Bool) → eqb (p.at / 1024) y ≡ b → cond b false (base y) ≡ true
+      go true t = absurd (cc (e, subst (λ (n : ℕ). lists m.cache n ≡ false) (eqb-true (p.at / 1024) y t) none))
+      go false t = with-listed (find.own_found x.sought p.at) (lists m.cache) y e
+
+  -- at the end just that
+  held-last : p.span ≡ own_span m.seat m.generation x.sought → ((y : ℕ) → find.own_found x.sought p.at ≡ Some y → lists m.cache y ≡ false) → (y : ℕ) → place.held_by making.Ended p.span (p.at / 1024) base y ≡ lists m.cache y
+  held-last span apart y = subst (λ (s : Option SpanHead). place.held_by making.Ended s (p.at / 1024) base y ≡ lists m.cache y) (sym span) (go x.sought refl) where
+    go : (s : Sought) → x.sought ≡ s → place.held_by making.Ended (own_span m.seat m.generation x.sought) (p.at / 1024) base y ≡ lists m.cache y
+    go (Small c) e = subst (λ (s : Sought). place.held_by making.Ended (own_span m.seat m.generation s) (p.at / 1024) (find.with_span (find.own_found s p.at) (lists m.cache)) y ≡ lists m.cache y) (sym e) refl
+    go (Large pages noscan) e = subst (λ (s : Sought). place.held_by making.Ended (own_span m.seat m.generation s) (p.at / 1024) (find.with_span (find.own_found s p.at) (lists m.cache)) y ≡ lists m.cache y) (sym e)
+        (back (eqb (p.at / 1024) y) refl (apart (p.at / 1024) (ap (λ (s : Sought). find.own_found s p.at) e))) where
+          back : (b : Bool) → eqb (p.at / 1024) y ≡ b → lists m.cache (p.at / 1024) ≡ false → cond b false (cond b true (lists m.cache y)) ≡ lists m.cache y
+          back true t none = sym (subst (λ (n : ℕ). lists m.cache n ≡ false) (eqb-true (p.at / 1024) y t) none)
+          back false t none = refl
+
+-- The object is made: its goroutine's count and register take it.
+
+names-differ : (e : Ever) (g : ℕ) (n : Name) → IsMade e.made n → same_name n (next_name e g) ≡ false
+names-differ e g n made = go (eqb n.g g) (eqb n.k (e.made g)) refl refl where
+  go : (b c : Bool) → eqb n.g g ≡ b → eqb n.k (e.made g) ≡ c → same_name n (next_name e g) ≡ false
+  go true true t u = absurd (omega (arith, subst (λ (h : ℕ). n.k < e.made h) (eqb-true n.g g t) made, eqb-true n.k (e.made g) u))
+  go true false t u = rw (t, u) refl
+  go false c t u = rw (t) refl
+
+means-then : (z : Arena) (v : View) (g t at : ℕ) (x : EverValue) (y : Value) → Means v.place v.ever.made x y → Means (placed_at v.place (next_name v.ever g) at) (with_object z.shapes v.ever g t).made x y
+means-then z v g t at ever.Nil value.Nil h = h
+means-then z v g t at ever.Nil (value.Int i) h = h
+means-then z v g t at ever.Nil (value.Ref r) h = h
+means-then z v g t at (ever.Int n) value.Nil h = h
+means-then z v g t at (ever.Int n) (value.Int i) h = h
+means-then z v g t at (ever.Int n) (value.Ref r) h = h
+means-then z v g t at (ever.Ref n) value.Nil h = h
+means-then z v g t at (ever.Ref n) (value.Int i) h = h
+means-then z v g t at (ever.Ref n) (value.Ref r) h = (
+  h.0 ∙ ap (λ (b : Bool). cond b at (v.place n) + 1) (sym (names-differ v.ever g n h.1)),
+  more (eqb n.g g) refl,
+) where
+  more : (b : Bool) → eqb n.g g ≡ b → n.k < cond b (v.ever.made g + 1) (v.ever.made n.g)
+  more true e = omega (arith, subst (λ (h' : ℕ). n.k < v.ever.made h') (eqb-true n.g g e) h.1)
+  more false e = h.1
+
+made-registers : (z : Arena) (a : ℕ) (v w : View) (m : Processor) (g d t at : ℕ) → length m.registers ≡ REGISTERS * MOST_GOROUTINES → IsOf z a g → d < REGISTERS →
+    w.ever ≡ with_register (with_object z.shapes v.ever g t) g d (ever.Ref (next_name v.ever g)) → w.place ≡ placed_at v.place (next_name v.ever g) at → RegistersFit z a v m → RegistersFit z a w (set_register m g d (value.Ref (at + 1)))
+made-registers z a v w m g d t at long of low e place fit h c hof lc =
+    subst (λ (x : Ever). Means w.place x.made (x.register h c) (register_of (set_register m g d (value.Ref (at + 1))) h c)) (sym e)
+    (subst (λ (x : PlaceOf). Means x (with_object z.shapes v.ever g t).made ((with_register (with_object z.shapes v.ever g t) g d (ever.Ref (next_name v.ever g))).register h c) (register_of (set_register m g d (value.Ref (at + 1))) h c)) (sym place)
+    (registers-then z a now m g d (ever.Ref (next_name v.ever g)) (value.Ref (at + 1)) long (goroutine-few z a g of) low here (λ i r iof lr. means-then z v g t at (v.ever.register i r) (register_of m i r) (fit i r iof lr)) h c hof lc)) where
+      now : View
+      now = record v { ever = with_object z.shapes v.ever g t; place = placed_at v.place (next_name v.ever g) at }
+
+      more : (b : Bool) → b ≡ true → v.ever.made g < cond b (v.ever.made g + 1) (v.ever.made g)
+      more true e = omega arith
+      more false e = absurd (cc)
+
+      same : same_name (next_name v.ever g) (next_name v.ever g) ≡ true
+      same = rw (eq-eqb g g refl, eq-eqb (v.ever.made g) (v.ever.made g) refl) refl
+
+      here : Means now.place now.ever.made (ever.Ref (next_name v.ever g)) (value.Ref (at + 1))
+      here = (ap (λ (b : Bool). cond b at (v.place (next_name v.ever g)) + 1) (sym same), more (eqb g g) (eq-eqb g g refl))
+
+made-counts : (z : Arena) (a : ℕ) (v w : View) (m : Processor) (g d t : ℕ) → length m.made ≡ MOST_GOROUTINES → IsOf z a g → w.ever ≡ with_register (with_object z.shapes v.ever g t) g d (ever.Ref (next_name v.ever g)) → CountsFit z a v m →
+    (h : ℕ) → IsOf z a h → get_or (set m.made g (made_by m g + 1)) h 0 ≡ w.ever.made h
+made-counts z a v w m g d t long of e fit h hof = subst (λ (x : Ever). get_or (set m.made g (made_by m g + 1)) h 0 ≡ x.made h) (sym e) (go (eqb h g) refl) where
+  go : (b : Bool) → eqb h g ≡ b → get_or (set m.made g (made_by m g + 1)) h 0 ≡ cond b (v.ever.made g + 1) (v.ever.made h)
+  go true t =
+      let same : h ≡ g = eqb-true h g t in
+      let lt : g < length m.made = omega (arith, long, goroutine-few z a g of) in
+      subst (λ (n : ℕ). get_or (set m.made g (made_by m g + 1)) n 0 ≡ v.ever.made g + 1) (sym same) (rw get_or-set_same (ap (λ (n : ℕ). n + 1) (fit g of)))
+  go false t = let ne : h ≢ g = eqb-false h g t in rw get_or-set_other (fit h hof)
+
+-- The steps.
+
+module _ (k : Known) (z : Arena) (a : ℕ) (s : Shared) (m : Processor) (x : Wanted) (p : placer.Placing) (pending : Option Answer) where
+  abbrev now : View
+  now = view s
+
+  abbrev making-at : Processor
+  making-at = at_task m (makes x p)
+
+  abbrev found : ℕ
+  found = s.words (cell_of (placer.asks p))
+
+  abbrev next : placer.Placing
+  next = placer.goes p found
+
+  abbrev then : Bool → Bool → Processor
+  then made busy = at_task (cond made (made_object making-at x p.at) making-at) (cond busy (makes x next) task.Idle)
+
+  -- what is cached is so still
+  caches-still : (w : View) (q : Task) → KeepsItsOwn a now w → ((y : ℕ) → lists m.cache y ≡ true → w.holds a y ≡ true) → CachesAll a now m → CachesAll a w (at_task m q)
+  caches-still w q own held all c l below is = still-cached a now w c l own (held l.head (lists-it m.cache _ l.head l is refl)) (all c l below is)
+
+  steady-on : (w : View) (q : Task) → KeepsObjects now w → w.generation ≡ now.generation → CachesAll a w (at_task m q) → Steady z a now m → Steady z a w (at_task m q)
+  steady-on w q o same caches y = record {
+    sits = record { layout = y.sits.layout; seat = y.sits.seat; few = y.sits.few; generation = y.sits.generation ∙ sym same; registers = y.sits.registers; made = y.sits.made; cache = y.sits.cache };
+    registers = λ g d of few. same-registers z a now w m o y.registers g d of few;
+    counts = λ g of. same-counts z a now w m o y.counts g of;
+    caches = caches;
+  }
+
+  -- what the step comes to, by its kind
+  done : (t : Shared) → ShapesAreGood z.shapes → Steady z a now m → Makes z a now m x p pending → KeepsItsOwn a now (view t) → place.Changes z (for_whom x) p (placer.acts_at p.stage) now (view t) →
+      place.Comes z a (view t) (for_whom x) (base z a now m x p) (placer.gives_at p.stage) next → Kind p p.stage found → Does z a s t making-at pending found
+  done t sg st mk own changes comes (onward still gives busy same) = record {
+    after = pending;
+    fine = subst (λ (b : Bool). Fine z a (view t) (then b (placer.is_busy next.stage)) pending) (sym still) (subst (λ (b : Bool). Fine z a (view t) (then false b) pending) (sym busy) (record {
+      steady = steady-on (view t) (makes x next) o own.generation (caches-still (view t) (makes x next) own held st.caches) st;
+      right = come.0;
+      task = record { facts = come.1; register = mk.register; of = mk.of; span = mk.span; apart = mk.apart; named = subst (λ (b : Bool). NamedFrom b p.name pending) (sym same) mk.named };
+    }));
+    ever = o.0 ∙ sym (ap (λ (b : Bool). acted z.shapes s.ever (acting b (op_of x) false)) still);
+    answers = ap (λ (b : Bool). option_to_list (answered_at z.shapes s.ever (acting b (op_of x) false)) ++ option_to_list pending) still ∙ nothing pending ∙ sym (ap (λ (b : Bool). option_to_list pending ++ option_to_list (cond b None (Some (answer.Ref p.name)))) busy);
+    full = λ q acts full. absurd (no-act q (ap (λ (b : Bool). acting b (op_of x) false) (sym still) ∙ acts));
+  } where
+    o : KeepsObjects now (view t)
+    o = subst (λ (b : Bool). place.Changes z (for_whom x) p b now (view t)) still changes
+
+    come : place.Comes z a (view t) (for_whom x) (base z a now m x p) None next
+    come = subst (λ (g : Option (Unit {0})). place.Comes z a (view t) (for_whom x) (base z a now m x p) g next) gives comes
+
+    held : (y : ℕ) → lists m.cache y ≡ true → (view t).holds a y ≡ true
+    held y e = come.0.holds y ∙ listed-held z a now m x p mk.span mk.apart next.stage y e
+
+    nothing : (q : Option Answer) → [] ++ option_to_list q ≡ option_to_list q ++ []
+    nothing None = refl
+    nothing (Some r) = refl
+
+    no-act : (q : Act) → None ≡ Some q → ⊥
+    no-act q e = cc
+  done t sg st mk own changes comes (making-it acts gives busy made unmade) = record {
+    after = Some (answer.Ref p.name);
+    fine = subst (λ (b : Bool). Fine z a (view t) (then b (placer.is_busy next.stage)) (Some (answer.Ref p.name))) (sym acts) (subst (λ (b : Bool). Fine z a (view t) (then true b) (Some (answer.Ref p.name))) (sym busy) (record {
+      steady = record {
+        sits = record { layout = st.sits.layout; seat = st.sits.seat; few = st.sits.few; generation = st.sits.generation ∙ sym own.generation; registers = rw length-set st.sits.registers; made = rw length-set st.sits.made; cache = st.sits.cache };
+        registers = made-registers z a now (view t) m x.g x.d x.t p.at st.sits.registers mk.of mk.register o.0 o.1 st.registers;
+        counts = made-counts z a now (view t) m x.g x.d x.t st.sits.made mk.of o.0 st.counts;
+        caches = caches-still (view t) (makes x next) own held st.caches;
+      };
+      right = come.0;
+      task = record { facts = come.1; register = mk.register; of = mk.of; span = mk.span; apart = mk.apart; named = subst (λ (b : Bool). NamedFrom b p.name (Some (answer.Ref p.name))) (sym made) refl };
+    }));
+    ever = o.0 ∙ sym (ap (λ (b : Bool). acted z.shapes s.ever (acting b (op_of x) false)) acts);
+    answers = ap (λ (b : Bool). option_to_list (answered_at z.shapes s.ever (acting b (op_of x) false)) ++ option_to_list pending) acts ∙ ap (λ (q : Option Answer). (answer.Ref (next_name s.ever x.g) ∷ []) ++ option_to_list q) none
+        ∙ ap (λ (n : Name). answer.Ref n ∷ []) (sym o.2) ∙ sym (ap (λ (b : Bool). option_to_list (Some (answer.Ref p.name)) ++ option_to_list (cond b None (Some (answer.Ref p.name)))) busy);
+    full = λ q e full. absurd (not-full q (ap (λ (b : Bool). acting b (op_of x) false) (sym acts) ∙ e) full);
+  } where
+    o : place.Changes z (for_whom x) p true now (view t)
+    o = subst (λ (b : Bool). place.Changes z (for_whom x) p b now (view t)) acts changes
+
+    come : place.Comes z a (view t) (for_whom x) (base z a now m x p) None next
+    come = subst (λ (g : Option (Unit {0})). place.Comes z a (view t) (for_whom x) (base z a now m x p) g next) gives comes
+
+    held : (y : ℕ) → lists m.cache y ≡ true → (view t).holds a y ≡ true
+    held y e = come.0.holds y ∙ listed-held z a now m x p mk.span mk.apart next.stage y e
+
+    none : pending ≡ None
+    none = subst (λ (b : Bool). NamedFrom b p.name pending) unmade mk.named
+
+    not-full : (q : Act) → Some (record { op = op_of x; full = false }) ≡ Some q → q.full ≡ true → ⊥
+    not-full q e f = let same : record { op = op_of x; full = false } ≡ q = cc in absurd (cc (ap (λ (r : Act). r.full) same, f))
+  done t sg st mk own changes comes (ending still gives busy made last) = record {
+    after = None;
+    fine = subst (λ (b : Bool). Fine z a (view t) (then b (placer.is_busy next.stage)) None) (sym still) (subst (λ (b : Bool). Fine z a (view t) (then false b) None) (sym busy) (record {
+      steady = steady-on (view t) task.Idle o own.generation (caches-still (view t) task.Idle own (λ y e. held y ∙ e) st.caches) st;
+      right = record { locked = come.0.locked; holds = held; laying = come.0.laying };
+      task = refl;
+    }));
+    ever = o.0 ∙ sym (ap (λ (b : Bool). acted z.shapes s.ever (acting b (op_of x) false)) still);
+    answers = ap (λ (b : Bool). option_to_list (answered_at z.shapes s.ever (acting b (op_of x) false)) ++ option_to_list pending) still ∙ ap (λ (q : Option Answer). [] ++ option_to_list q) named ∙ sym (ap (λ (b : Bool). [] ++ option_to_list (cond b None (Some (answer.Ref p.name)))) busy);
+    full = λ q acts full. absurd (no-act q (ap (λ (b : Bool). acting b (op_of x) false) (sym still) ∙ acts));
+  } where
+    o : KeepsObjects now (view t)
+    o = subst (λ (b : Bool). place.Changes z (for_whom x) p b now (view t)) still changes
+
+    come : place.Comes z a (view t) (for_whom x) (base z a now m x p) (Some tt) next
+    come = subst (λ (g : Option (Unit {0})). place.Comes z a (view t) (for_whom x) (base z a now m x p) g next) gives comes
+
+    held : (y : ℕ) → (view t).holds a y ≡ lists m.cache y
+    held y = come.0.holds y ∙ ap (λ (q : PlaceStage). place.held_by q p.span (p.at / 1024) (base z a now m x p) y) last ∙ held-last z a now m x p mk.span mk.apart y
+
+    named : pending ≡ Some (answer.Ref p.name)
+    named = subst (λ (b : Bool). NamedFrom b p.name pending) made mk.named
+
+    no-act : (q : Act) → None ≡ Some q → ⊥
+    no-act q e = cc
+
+  pub place-steps : ShapesAreGood z.shapes → Good z now → Fine z a now making-at pending → Steps z a s (placer.asks p) (λ t. Does z a s t making-at pending found)
+  place-steps sg g fine =
+      let y = fine.steady in
+      let mk : Makes z a now m x p pending = record { facts = fine.task.facts; register = fine.task.register; of = fine.task.of; span = fine.task.span; apart = fine.task.apart; named = fine.task.named } in
+      let st : Steady z a now m = record {
+        sits = record { layout = y.sits.layout; seat = y.sits.seat; few = y.sits.few; generation = y.sits.generation; registers = y.sits.registers; made = y.sits.made; cache = y.sits.cache };
+        registers = y.registers;
+        counts = y.counts;
+        caches = y.caches;
+      } in
+      let l = k.place.own_step z a s (for_whom x) (base z a now m x p) p g fine.right mk.facts in
+      record { move = l.move; may = l.may; words_are = l.words_are; after = done (moved z a s l.move) sg st mk (k.own z a s l.move g l.may) l.after.0 l.after.1 (kind-of p p.stage found (unended mk.facts)) } where
+        unended : place.Facts z a now (for_whom x) p → p.stage ≡ making.Ended → ⊥
+        unended facts e = subst (λ (q : PlaceStage). place.FactsAt z a now (for_whom x) (place.base p) q) e facts

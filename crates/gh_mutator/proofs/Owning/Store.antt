@@ -1,0 +1,212 @@
+-- Own steps of a store while others change the heap. At its point the field takes what its register holds.
+use Rattle.std.proofs.Common.{◌≡◌, ℕ, ◌+◌, ◌<◌, Bool, true, false, not, cond, ltb, [], ◌∷◌, Option, Some, None, refl, sym, ap, subst, ◌∙◌}
+use Rattle.std.proofs.lemmas.Bool.{ltb-true, lt-ltb}
+use Rattle.gh_mutator.specs.Vocabulary.{Name, Answer, Value, Processor, Step, StoreStage, Task}
+use Rattle.gh_base.specs.declared.cell.Cell.TheVariants as cell
+use Rattle.gh_base.specs.declared.value.Answer.TheVariants as answer
+use Rattle.gh_base.specs.declared.value.Fault.{Fault}
+use Rattle.gh_base.specs.declared.value.Fault.TheVariants as fault
+use Rattle.gh_base.specs.declared.value.Value.TheVariants as value
+use Rattle.gh_base.specs.Cells.{put}
+use Rattle.gh_base.specs.Packing.{page_of, slot_in}
+use Rattle.gh_base.specs.Steps.{cell_of}
+use Rattle.gh_model.specs.declared.EverValue.{EverValue}
+use Rattle.gh_model.specs.declared.EverValue.TheVariants as ever
+use Rattle.gh_model.specs.Ever.{Ever, Reach, answer_of, ever_after, fits, store_answer, stores_value, with_field}
+use Rattle.gh_heap.specs.Moves.{Quiet, Steps, Write, moved}
+use Rattle.gh_heap.specs.Objects.{Holds, Means, Place, points, size_for}
+use Rattle.gh_heap.specs.Rights.{Arena, Good, Right, Shared, view}
+use Rattle.gh_mutator.specs.declared.store.Store.{Store}
+use Rattle.gh_mutator.specs.declared.store.StoreStage.TheVariants.{Page, Bits, Field, NilBase}
+use Rattle.gh_mutator.specs.declared.task.Task.TheVariants as task
+use Rattle.gh_mutator.specs.Facts.{Does, Fine, IsPlain, OwnStepAt, Steady, Stores, Through, lists}
+use Rattle.gh_mutator.specs.Fields.{has_field, is_pointer_by, kinds_differ, word_of_value}
+use Rattle.gh_mutator.specs.Listing.{asks}
+use Rattle.gh_mutator.specs.Processor.{at_task, register_of}
+use Rattle.gh_mutator.specs.Step.{ends, goes_on}
+use Rattle.gh_mutator.specs.Store.{at_stage, op_of, step}
+use Rattle.gh_mutator.proofs.Owning.Fields.{Comes, Known, bit_found, caches_in, faulted, further, idle, not_full, register_reached, size_found, steady_at, word_is}
+
+-- the word of a value holds what a field of its kind is to hold
+word_holds : (place : Place) (made : ℕ → ℕ) (p : Bool) (v : EverValue) (x : Value) → Means place made v x → fits p v ≡ true → Holds place made p v (word_of_value x)
+word_holds place made p ever.Nil value.Nil h f = (f, refl)
+word_holds place made true (ever.Int a) (value.Int b) h f = absurd cc
+word_holds place made false (ever.Int a) (value.Int b) h f = (refl, sym h)
+word_holds place made p (ever.Ref n) (value.Ref r) h f = (f, h.0, h.1)
+word_holds place made p ever.Nil (value.Int b) h f = absurd h
+word_holds place made p ever.Nil (value.Ref r) h f = absurd h
+word_holds place made p (ever.Int a) value.Nil h f = absurd h
+word_holds place made p (ever.Int a) (value.Ref r) h f = absurd h
+word_holds place made p (ever.Ref n) value.Nil h f = absurd h
+word_holds place made p (ever.Ref n) (value.Int b) h f = absurd h
+
+differ_fits : (place : Place) (made : ℕ → ℕ) (p : Bool) (v : EverValue) (x : Value) → Means place made v x → kinds_differ p x ≡ not (fits p v)
+differ_fits place made true ever.Nil value.Nil h = refl
+differ_fits place made false ever.Nil value.Nil h = refl
+differ_fits place made true (ever.Int a) (value.Int b) h = refl
+differ_fits place made false (ever.Int a) (value.Int b) h = refl
+differ_fits place made true (ever.Ref n) (value.Ref r) h = refl
+differ_fits place made false (ever.Ref n) (value.Ref r) h = refl
+differ_fits place made p ever.Nil (value.Int b) h = absurd h
+differ_fits place made p ever.Nil (value.Ref r) h = absurd h
+differ_fits place made p (ever.Int a) value.Nil h = absurd h
+differ_fits place made p (ever.Int a) (value.Ref r) h = absurd h
+differ_fits place made p (ever.Ref n) value.Nil h = absurd h
+differ_fits place made p (ever.Ref n) (value.Int b) h = absurd h
+
+module _ (laws : Known) (z : Arena) (a : ℕ) (s : Shared) (m : Processor) (x : Store) (good : Good z (view s)) where
+  abbrev e : Ever
+  e = s.ever
+
+  abbrev size : Name → ℕ
+  size n = size_for z.shapes e.type_of n
+
+  -- field k of the object is a pointer
+  abbrev kind : Name → Bool
+  kind n = points z.shapes e.type_of n x.k
+
+  -- what it stores, in the heap that never frees, and in its register
+  abbrev stored : EverValue
+  stored = e.register x.g x.v
+
+  abbrev held : Value
+  held = register_of m x.g x.v
+
+  -- what it is answered
+
+  store_past : (v : EverValue) (n : Name) → v ≡ ever.Ref n → ltb x.k (size n) ≡ false → store_answer z.shapes e v x.k stored ≡ answer.Fault fault.Field
+  store_past v n is over = rw (is, over) refl
+
+  store_kind : (v w : EverValue) (n : Name) (b : Bool) → v ≡ ever.Ref n → x.k < size n → fits (kind n) w ≡ b → store_answer z.shapes e v x.k w ≡ cond b answer.Done (answer.Fault fault.Kind)
+  store_kind v w n b is few f = rw (is, lt-ltb x.k (size n) few, f) refl
+
+  plain_store : (v : EverValue) → IsPlain v → store_answer z.shapes e v x.k stored ≡ answer.Fault fault.NilBase
+  plain_store ever.Nil h = refl
+  plain_store (ever.Int i) h = refl
+  plain_store (ever.Ref n) h = absurd h
+
+  fault_stays : (v : EverValue) (f : Fault) → stores_value e v x.k stored (answer.Fault f) ≡ e
+  fault_stays ever.Nil f = refl
+  fault_stays (ever.Int i) f = refl
+  fault_stays (ever.Ref n) f = refl
+
+  -- the processor at a stage of it, and the word that its step finds
+  abbrev here : StoreStage → Processor
+  here q = at_task m (task.Store (at_stage x q))
+
+  abbrev found : StoreStage → ℕ
+  found q = s.words (cell_of (asks (here q)))
+
+  abbrev Own : StoreStage → Option Answer → Type 0
+  Own q pending = Steps z a s (asks (here q)) (λ t. Does z a s t (here q) pending (found q))
+
+  abbrev To : Shared → Option Answer → Step Store → Type 0
+  To t pending next = Comes Store task.Store z a s t m x.g x.v (op_of x) pending next
+
+  does : (q : StoreStage) (pending : Option Answer) (t : Shared) → To t pending (step m.layout held (at_stage x q) (found q)) → Does z a s t (here q) pending (found q)
+  does q pending t c = record { after = c.after; fine = c.fine; ever = c.ever; answers = c.answers; full = λ y is full. absurd (not_full (step m.layout held (at_stage x q) (found q)).acts (op_of x) y is full) }
+
+  module _ (steady : Steady z a (view s) m) (right : Right a (view s) false (lists m.cache) None) where
+    reach : (n : Name) → Through z a (view s) x.g x.b x.at n → Reach e n
+    reach n t = Reach.from_register x.g x.b n t.runs.goes_on t.names
+
+    means : (n : Name) → Through z a (view s) x.g x.b x.at n → (p : StoreStage) → Stores z a (view s) (at_stage x p) None → Means s.place e.made stored held
+    means n t p l = steady.registers x.g x.v t.runs.of l.register
+
+    abbrev stores_at : (p q : StoreStage) → Stores z a (view s) (at_stage x p) None → Stores z a (view s) (at_stage x q) None
+    stores_at p q l = record { n = l.n; through = l.through; register = l.register; unanswered = l.unanswered }
+
+    fault_at : (f : Fault) → answer_of z.shapes e (op_of x) ≡ answer.Fault f → To s None (ends (answer.Fault f))
+    fault_at f is = faulted Store task.Store z a s m x.g x.v (op_of x) steady right (answer.Fault f) is (fault_stays (e.register x.g x.b) f)
+
+    page_by : (l : Stores z a (view s) (at_stage x Page) None) → slot_in (page_of (found Page)) ≡ size l.n → (b : Bool) → has_field x.k (found Page) ≡ b → To s None (cond b (goes_on (at_stage x Bits)) (ends (answer.Fault fault.Field)))
+    page_by l sized true test = further Store task.Store z a s m x.g x.v (op_of x) steady right (at_stage x Bits)
+        (record { steady = steady_at z a (view s) m (task.Store (at_stage x Bits)) steady; right = right; task = (stores_at Page Bits l, subst (λ (n : ℕ). x.k < n) sized (ltb-true _ _ test)) })
+    page_by l sized false test = fault_at fault.Field (store_past (e.register x.g x.b) l.n l.through.names (subst (λ (n : ℕ). ltb x.k n ≡ false) sized test))
+
+    page : (l : Stores z a (view s) (at_stage x Page) None) → Own Page None
+    page l = record {
+      move = Quiet (asks (here Page));
+      may = tt;
+      words_are = refl;
+      after = does Page None s (page_by l (size_found laws z (view s) good l.n l.through.made (reach l.n l.through) m.layout x.at steady.sits.layout l.through.here) (has_field x.k (found Page)) refl);
+    }
+
+    -- the field's kind is that of the value, or not
+    bits_by : (l : Stores z a (view s) (at_stage x Bits) None) → x.k < size l.n → (b : Bool) → fits (kind l.n) stored ≡ b → (differ : Bool) → differ ≡ not b → To s None (cond differ (ends (answer.Fault fault.Kind)) (goes_on (at_stage x Field)))
+    bits_by l few true fit true is = absurd cc
+    bits_by l few true fit false is = further Store task.Store z a s m x.g x.v (op_of x) steady right (at_stage x Field)
+        (record { steady = steady_at z a (view s) m (task.Store (at_stage x Field)) steady; right = right; task = (stores_at Bits Field l, few, fit) })
+    bits_by l few false fit true is = fault_at fault.Kind (store_kind (e.register x.g x.b) stored l.n false l.through.names few fit)
+    bits_by l few false fit false is = absurd cc
+
+    bits : (l : Stores z a (view s) (at_stage x Bits) None) → x.k < size l.n → Own Bits None
+    bits l few = record {
+      move = Quiet (asks (here Bits));
+      may = tt;
+      words_are = refl;
+      after = does Bits None s (bits_by l few (fits (kind l.n) stored) refl (kinds_differ (is_pointer_by m.layout (x.at + x.k) (found Bits)) held)
+          (ap (λ (p : Bool). kinds_differ p held) (bit_found laws z (view s) good l.n l.through.made (reach l.n l.through) m.layout x.at steady.sits.layout l.through.here x.k few)
+          ∙ differ_fits s.place e.made (kind l.n) stored held (means l.n l.through Bits l)));
+    }
+
+    field : (l : Stores z a (view s) (at_stage x Field) None) → x.k < size l.n → fits (kind l.n) stored ≡ true → Own Field None
+    field l few fit = record {
+      move = Write l.n x.k stored (word_of_value held);
+      may = record {
+        reached = reach l.n l.through;
+        made = l.through.made;
+        within = few;
+        value_reached = register_reached e x.g x.v l.through.runs.goes_on stored refl;
+        holds = word_holds s.place e.made (kind l.n) stored held (means l.n l.through Field l) fit;
+      };
+      words_are = ap (λ (i : ℕ). put s.words (cell.Field i) (word_of_value held)) (sym (word_is laws z (view s) good l.n l.through.made (reach l.n l.through) m.layout x.at steady.sits.layout l.through.here x.k few));
+      after = does Field None t (record {
+        after = None;
+        fine = idle z a (view t) m steady-then ((laws.follow z a s false (lists m.cache) None right).written l.n x.k stored (word_of_value held));
+        ever = sym next;
+        answers = ap (λ (y : Answer). y ∷ []) is;
+      });
+    } where
+      t : Shared
+      t = moved z a s (Write l.n x.k stored (word_of_value held))
+
+      steady-then : Steady z a (view t) m
+      steady-then = record {
+        sits = record { layout = steady.sits.layout; seat = steady.sits.seat; few = steady.sits.few; generation = steady.sits.generation; registers = steady.sits.registers; made = steady.sits.made; cache = steady.sits.cache };
+        registers = steady.registers;
+        counts = steady.counts;
+        caches = caches_in a (view s) (view t).field (with_field e l.n x.k stored) m steady.caches;
+      }
+
+      is : answer_of z.shapes e (op_of x) ≡ answer.Done
+      is = store_kind (e.register x.g x.b) stored l.n true l.through.names few fit
+
+      next : ever_after z.shapes e (op_of x) (answer_of z.shapes e (op_of x)) ≡ with_field e l.n x.k stored
+      next = ap (λ (y : Answer). ever_after z.shapes e (op_of x) y) is ∙ ap (λ (y : EverValue). stores_value e y x.k stored answer.Done) l.through.names
+
+    nil_base : IsPlain (e.register x.g x.b) → Own NilBase None
+    nil_base plain = record {
+      move = Quiet (asks (here NilBase));
+      may = tt;
+      words_are = refl;
+      after = does NilBase None s (fault_at fault.NilBase (plain_store (e.register x.g x.b) plain));
+    }
+
+  own : (q : StoreStage) (pending : Option Answer) → Fine z a (view s) (here q) pending → Own q pending
+  own q pending fine = by q pending fine (steady_at z a (view s) (here q) m.task fine.steady) where
+    by : (q : StoreStage) (pending : Option Answer) → Fine z a (view s) (here q) pending → Steady z a (view s) m → Own q pending
+    by Page None fine steady = page steady fine.right fine.task
+    by Bits None fine steady = bits steady fine.right fine.task.0 fine.task.1
+    by Field None fine steady = field steady fine.right fine.task.0 fine.task.1 fine.task.2
+    by NilBase None fine steady = nil_base steady fine.right fine.task.2
+    by Page (Some y) fine steady = absurd (cc fine.task.unanswered)
+    by Bits (Some y) fine steady = absurd (cc fine.task.0.unanswered)
+    by Field (Some y) fine steady = absurd (cc fine.task.0.unanswered)
+    by NilBase (Some y) fine steady = absurd (cc fine.task.3)
+
+pub store_steps : Known → (x : Store) → OwnStepAt (task.Store x)
+store_steps laws x z a s m pending shapes is good fine = go (ap (λ (q : Task). at_task m q) (sym is)) where
+  go : at_task m (task.Store x) ≡ m → Steps z a s (asks m) (λ t. Does z a s t m pending (s.words (cell_of (asks m))))
+  go same = subst (λ (y : Processor). Steps z a s (asks y) (λ t. Does z a s t y pending (s.words (cell_of (asks y))))) same
+      (own laws z a s m x good x.stage pending (subst (λ (y : Processor). Fine z a (view s) y pending) (sym same) fine))

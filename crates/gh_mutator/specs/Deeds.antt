@@ -1,0 +1,78 @@
+-- The processor as a kind of actor, and its deeds: which operations have a point, which step is it, and what it means in the heap that never frees.
+use Rattle.std.specs.Prelude.{◌≡◌, Bool, true, false, if◌then◌else◌, List, ◌∷◌, Option, Some, None}
+use Rattle.gh_mutator.specs.Vocabulary.{Layout, Op, Shape, Answer, Processor, Task}
+use Rattle.gh_base.specs.declared.machine.Entry.{Entry}
+use Rattle.gh_base.specs.declared.operation.Op.TheVariants as op
+use Rattle.gh_base.specs.Lists.{Kind}
+use Rattle.gh_base.specs.Orders.{Deeds, DeedsFit, Meaning, before_step, model_after}
+use Rattle.gh_model.specs.Ever.{Ever, ever_after, opening_ever}
+use Rattle.gh_mutator.specs.declared.own.Own.TheVariants as own_step
+use Rattle.gh_mutator.specs.declared.task.Task.TheVariants as task
+use Rattle.gh_mutator.specs.Facts.{acted, answer_at}
+use Rattle.gh_mutator.specs.Listing.{Act, acts, asks, begins, gives, is_busy_at, op_at, takes}
+use Rattle.gh_mutator.specs.Processor.{opening_processor}
+
+-- the processor as a kind of actor
+abbrev pub processor_kind : List Shape → Layout → Kind Processor Op
+processor_kind shapes l = record {
+  start = λ seat. opening_processor l seat;
+  begins = begins shapes;
+  asks = asks;
+  takes = takes shapes;
+  busy = λ m. is_busy_at m.task;
+}
+
+-- Statements and the ends of goroutines have points. A poll and a leave have none, nor has `gc`, of which there is no listing yet.
+abbrev pub has_point : Op → Bool
+has_point op.Poll = false
+has_point op.Leave = false
+has_point (op.Gc g) = false
+has_point _ = true
+
+-- the operation, if it has a point
+abbrev pub pointed : Option Op → Option Op
+pointed None = None
+pointed (Some o) = if has_point o then Some o else None
+
+-- the act, if it is a point
+abbrev pub point_of : Option Act → Option Act
+point_of None = None
+point_of (Some x) = if has_point x.op then Some x else None
+
+-- what an operation with a point is answered
+abbrev pub given_at : Task → Option Answer → Option Answer
+given_at (task.Own own_step.Poll) given = None
+given_at (task.Own own_step.Leave) given = None
+given_at _ given = given
+
+abbrev pub deeds : List Shape → Deeds Processor Op Act Answer
+deeds shapes = record {
+  has_point = has_point;
+  unacted = λ m. pointed (op_at m.task);
+  acts = λ m found. point_of (acts m found);
+  of = λ x. x.op;
+  gives = λ m found. given_at m.task (gives m found);
+}
+
+-- what a point means in the heap that never frees
+abbrev pub meaning : List Shape → Meaning Ever Act Answer
+meaning shapes = record {
+  opening = opening_ever;
+  answer = answer_at shapes;
+  after = λ e x a. ever_after shapes e x.op a;
+}
+
+-- Whatever the processor finds, each operation that has a point acts once, before it ends.
+abbrev pub ProcessorsDeedsFit : Type 0
+ProcessorsDeedsFit = (shapes : List Shape) (l : Layout) → DeedsFit (processor_kind shapes l) (deeds shapes)
+
+-- The heap that never frees is changed by points alone.
+pub record IsChangedByPoints (shapes : List Shape) (l : Layout) : Type 0 where
+  -- an act that is no point leaves it as it is
+  pub alone : (e : Ever) (x : Option Act) → acted shapes e (point_of x) ≡ acted shapes e x
+  -- so a list leaves in it what all acts leave
+  pub follows : (es : List (Entry Op)) (e : Entry Op) → model_after (processor_kind shapes l) (deeds shapes) (meaning shapes) (e ∷ es)
+      ≡ acted shapes (model_after (processor_kind shapes l) (deeds shapes) (meaning shapes) es) (acts (before_step (processor_kind shapes l) (deeds shapes) es e) e.found)
+
+abbrev pub OnlyPointsChange : Type 0
+OnlyPointsChange = (shapes : List Shape) (l : Layout) → IsChangedByPoints shapes l

@@ -1,0 +1,363 @@
+//! The poll of a processor among a collector.
+
+ghost use Rattle.std.specs.Prelude.{◌≡◌, ◌^◌, ◌<◌, IfSome, length, true};
+ghost use Rattle.gh_base.specs.declared.limits.TheConstants.{MOST_GOROUTINES};
+ghost use Rattle.gh_phase.specs.Listing as resumes;
+ghost use Rattle.gh_wbuf.specs.RoomFinding as rooms;
+ghost use Rattle.gh_mutator.specs.Give as gives;
+ghost use Rattle.gh_mutator.specs.MarkStack as marks;
+ghost use Rattle.gh_mutator.specs.GiveSound.{Runs};
+ghost use Rattle.gh_mutator.specs.Poll.{begins_stack, counted, due, first_due, given, goes_at, has_two, is_busy, is_due, marks_then, opening, room_stage, stops_then};
+ghost use Rattle.gh_mutator.specs.PollSound.{FitsLocal, FitsStage};
+
+use crate::give::{Cache, Give};
+use crate::mark_stack::MarkStack;
+use gh_base::limits::MOST_GOROUTINES;
+use gh_base::{Ask, Cell, END, ENTRIES, Held, Layout, Machine, PhaseWord, Req, Value};
+use gh_phase::{Resume, RunPhase, View};
+use gh_stack::REGISTER_COUNT;
+use gh_wbuf::FindRoom;
+use std::marker::Model;
+
+/// The registers of each goroutine.
+pub type Stacks = [[Value; REGISTER_COUNT]; MOST_GOROUTINES as usize];
+
+/// The cycle in which each stack was scanned last; `END` where its goroutine has ended.
+pub type Scanned = [u64; MOST_GOROUTINES as usize];
+
+/// What a processor alone knows, and a poll reads and changes.
+#[derive(Clone, Copy)]
+pub struct Local {
+    /// What it knows of the phase.
+    pub view: View,
+    /// The spans that it has cached.
+    pub cache: Cache,
+    /// The buffer that it holds, if any.
+    pub held: Option<Held>,
+    /// Its polls since it last learned of another cycle, modulo 2^64.
+    pub polls: u64,
+    /// The last scan of each stack.
+    pub scanned: Scanned,
+    /// The stacks.
+    pub stacks: Stacks,
+}
+
+/// The stages of a poll.
+#[derive(Clone, Copy)]
+pub enum PollStage {
+    /// It loads the phase.
+    LoadPhase,
+    /// It gives back what it holds, at the stop of this number.
+    Giving(Give, u64),
+    /// It acknowledges the stop and goes on.
+    Resuming(Resume),
+    /// It scans the stack of this goroutine.
+    Marking(u32, MarkStack),
+    /// It looks for a buffer with room.
+    FindRoom(FindRoom),
+    /// It has ended.
+    Ended,
+}
+
+/// Polls (in Go a goroutine finds at its next safe point that it is to stop, where `preemptall` asked for that;
+/// proc.go).
+///
+/// It loads the phase. At a stop it gives the cached spans and the buffer back, acknowledges, and goes on
+/// once the world runs again. Then, while marking is on, every fourth poll scans the stack of the lowest
+/// goroutine of the processor that has not ended and was not scanned in this cycle. A poll that is no part
+/// of a wait sees at its end that a buffer is held which has room for the two entries of a write barrier.
+#[derive(Clone, Copy)]
+pub struct Poll {
+    layout: Layout,
+    seat: u32,
+    waits: bool,
+    local: Local,
+    stage: PollStage,
+}
+
+impl Model for Poll {
+    ghost use Rattle.gh_mutator.specs.Poll.{Polling};
+    ghost use Rattle.gh_mutator.specs.PollSound.{FitsPoll};
+
+    ghost Value = { Polling };
+
+    ghost view = { λ p. record { layout = p.layout; seat = p.seat; waits = p.waits; local = p.local; stage = p.stage } };
+
+    ghost invariant = { λ p. FitsPoll (record { layout = p.layout; seat = p.seat; waits = p.waits; local = p.local; stage = p.stage }) };
+
+    ghost inverse = { λ p. record { layout = p.layout; seat = p.seat; waits = p.waits; local = p.local; stage = p.stage } };
+}
+
+/// The stack of this goroutine is to be scanned in this cycle: it is one of the processor's, has not ended,
+/// and was not scanned in the cycle.
+fn is_due(layout: &Layout, seat: u32, cycle: u64, g: u32, last: u64) -> bool
+    ensures { result ≡ is_due layout.now seat cycle g last }
+{
+    g < layout.goroutines && g % layout.procs == seat && last != END && last != cycle
+}
+
+/// The lowest goroutine whose stack is to be scanned in this cycle.
+fn first_due(layout: &Layout, seat: u32, cycle: u64, scanned: &[u64]) -> Option<u32>
+    requires { length scanned.now ≡ MOST_GOROUTINES }
+    ensures is { result ≡ first_due layout.now seat cycle 0 scanned.now }
+    ensures there { IfSome result (λ g. g < layout.now.goroutines) }
+{
+    for g in 0..MOST_GOROUTINES {
+        if is_due(layout, seat, cycle, g, scanned[g as usize]) {
+            return Some(g);
+        }
+    }
+    None
+}
+
+/// A buffer is held, and two entries go into it.
+fn has_two(held: Option<Held>) -> bool
+    ensures { result ≡ has_two held }
+{
+    match held {
+        Some(held) => held.count <= ENTRIES - 2,
+        None => false,
+    }
+}
+
+impl Poll {
+    /// The processor at this seat polls; `waits` says that the poll is a part of a wait.
+    pub fn new(layout: &Layout, seat: u32, local: &Local, waits: bool) -> Poll
+        requires seat { seat < layout.now.procs }
+        requires local { FitsLocal layout.now local.now }
+        ensures opening { result ≡ opening layout.now seat local.now waits }
+        ensures begun { is_busy result.stage ≡ true }
+    {
+        Poll {
+            layout: *layout,
+            seat,
+            waits,
+            local: *local,
+            stage: PollStage::LoadPhase,
+        }
+    }
+
+    /// What the processor knows now.
+    pub fn local(&self) -> Local
+        ensures is { result ≡ self.now.local }
+        ensures fits { FitsLocal self.now.layout result }
+    {
+        self.local
+    }
+
+    /// Its last stage: a buffer with room is looked for where the processor is to have one.
+    fn room_stage(&self) -> PollStage
+        ensures is { result ≡ room_stage self.now.layout self.now.seat self.now.waits self.now.local.held }
+        ensures fits { FitsStage self.now.layout result }
+    {
+        if self.waits || has_two(self.local.held) {
+            PollStage::Ended
+        } else {
+            PollStage::FindRoom(FindRoom::new(&self.layout, self.seat, self.local.held))
+        }
+    }
+
+    /// The poll is counted.
+    fn count(&mut self)
+        ensures { self.new ≡ counted self.old }
+    {
+        self.local.polls = self.local.polls.wrapping_add(1);
+        self.stage = self.room_stage();
+    }
+
+    /// The goroutine whose stack this poll scans, if it scans one.
+    fn due(&self) -> Option<u32>
+        ensures is { result ≡ due self.now }
+        ensures there { IfSome result (λ g. g < self.now.layout.goroutines) }
+    {
+        if self.local.polls % 4 == 0 {
+            let cycle = self.local.view.begun;
+            first_due(&self.layout, self.seat, cycle, &self.local.scanned)
+        } else {
+            None
+        }
+    }
+
+    /// Goes on where the world runs.
+    fn mark(&mut self)
+        ensures { self.new ≡ marks_then self.old self.old.local.view.phase }
+    {
+        match self.local.view.phase {
+            RunPhase::Off | RunPhase::Finished => self.stage = PollStage::Ended,
+            RunPhase::Mark => match self.due() {
+                None => self.count(),
+                Some(g) => self.begin_stack(g),
+            },
+        }
+    }
+
+    /// It scans the stack of this goroutine.
+    fn begin_stack(&mut self, g: u32)
+        requires { g < self.old.layout.goroutines }
+        ensures { self.new ≡ begins_stack self.old g }
+    {
+        let stack = self.local.stacks[g as usize];
+        let (cycle, held) = (self.local.view.begun, self.local.held);
+        let mark = MarkStack::new(&self.layout, self.seat, g, cycle, stack, held);
+        self.stage = PollStage::Marking(g, mark);
+    }
+
+    /// Goes on giving back at the stop of this number; where nothing is left it acknowledges that.
+    fn stop(&mut self, give: &Give, stops: u64)
+        requires layout { give.now.layout ≡ self.old.layout }
+        requires stops { stops < 2 ^ 62 }
+        ensures { self.new ≡ stops_then self.old give.now stops }
+    {
+        if give.is_busy() {
+            self.stage = PollStage::Giving(*give, stops);
+        } else {
+            self.local.cache = give.cache();
+            self.local.held = give.held();
+            let resume = Resume::new(&self.layout, self.seat, stops, self.local.view);
+            self.stage = PollStage::Resuming(resume);
+        }
+    }
+
+    /// Goes on by the phase word.
+    fn by_phase(&mut self, found: u64)
+        ensures { self.new ≡ goes_at self.old PollStage.LoadPhase found }
+    {
+        let word = PhaseWord::unpack(found);
+        match RunPhase::of(word.phase) {
+            None => {
+                let generation = self.local.view.generation;
+                let (cache, held) = (self.local.cache, self.local.held);
+                let give = Give::new(&self.layout, self.seat, generation, cache, held);
+                self.stop(&give, word.stops);
+            }
+            Some(_) => self.mark(),
+        }
+    }
+
+    /// Takes a step of the giving back.
+    fn give(&mut self, give: &Give, stops: u64, found: u64)
+        requires runs { Runs self.old.layout give.now.layout (gives.is_busy give.now.stage) }
+        requires stops { stops < 2 ^ 62 }
+        ensures { self.new ≡ goes_at self.old (PollStage.Giving give.now stops) found }
+    {
+        let mut give = *give;
+        give.take(found);
+        self.stop(&give, stops);
+    }
+
+    /// Takes a step of going on after the stop.
+    fn resume(&mut self, resume: &Resume, found: u64)
+        requires { Runs self.old.layout resume.now.layout (resumes.is_busy resume.now.stage) }
+        ensures { self.new ≡ goes_at self.old (PollStage.Resuming resume.now) found }
+    {
+        let mut resume = *resume;
+        match resume.take(found) {
+            None => self.stage = PollStage::Resuming(resume),
+            Some(resumed) => {
+                self.local.view = resumed.view;
+                if resumed.another_cycle {
+                    self.local.polls = 0;
+                }
+                self.mark();
+            }
+        }
+    }
+
+    /// Takes a step of the scan of this goroutine's stack.
+    fn scan(&mut self, g: u32, mark: &MarkStack, found: u64)
+        requires g { g < self.old.layout.goroutines }
+        requires runs { Runs self.old.layout mark.now.layout (marks.is_busy mark.now.stage) }
+        ensures { self.new ≡ goes_at self.old (PollStage.Marking g mark.now) found }
+    {
+        let mut mark = *mark;
+        match mark.take(found) {
+            None => self.stage = PollStage::Marking(g, mark),
+            Some(()) => {
+                self.local.held = mark.held();
+                self.local.scanned[g as usize] = self.local.view.begun;
+                self.count();
+            }
+        }
+    }
+
+    /// Takes a step of the search for a buffer with room.
+    fn find_room(&mut self, room: &FindRoom, found: u64)
+        requires { Runs self.old.layout room.now.layout (rooms.is_busy room.now.stage) }
+        ensures { self.new ≡ goes_at self.old (PollStage.FindRoom room.now) found }
+    {
+        let mut room = *room;
+        match room.take(found) {
+            None => self.stage = PollStage::FindRoom(room),
+            Some(held) => {
+                self.local.held = Some(held);
+                self.stage = PollStage::Ended;
+            }
+        }
+    }
+
+    /// What it gives now: it has ended, or not.
+    fn given(&self) -> Option<()>
+        ensures { result ≡ given self.now.stage }
+    {
+        match self.stage {
+            PollStage::Ended => Some(()),
+            _ => None,
+        }
+    }
+}
+
+impl Machine for Poll {
+    ghost use Rattle.gh_mutator.specs.Poll.{listing};
+    ghost use Rattle.gh_mutator.specs.PollEnds as proved;
+
+    type Out = ();
+
+    ghost layout = { listing.layout };
+
+    ghost busy = { listing.busy };
+
+    ghost asks = { listing.asks };
+
+    ghost goes = { listing.goes };
+
+    ghost gives = { listing.gives };
+
+    fn next(&self) -> Req {
+        match &self.stage {
+            PollStage::LoadPhase => self.layout.request(Ask::Load(Cell::Phase)),
+            PollStage::Giving(give, _) => give.next(),
+            PollStage::Resuming(resume) => resume.next(),
+            PollStage::Marking(_, mark) => mark.next(),
+            PollStage::FindRoom(room) => room.next(),
+            PollStage::Ended => self.layout.request(Ask::Load(Cell::Touch)),
+        }
+    }
+
+    fn take(&mut self, found: u64) -> Option<()> {
+        match &self.stage {
+            PollStage::LoadPhase => self.by_phase(found),
+            PollStage::Giving(give, stops) => {
+                let (give, stops) = (*give, *stops);
+                self.give(&give, stops, found);
+            }
+            PollStage::Resuming(resume) => {
+                let resume = *resume;
+                self.resume(&resume, found);
+            }
+            PollStage::Marking(g, mark) => {
+                let (g, mark) = (*g, *mark);
+                self.scan(g, &mark, found);
+            }
+            PollStage::FindRoom(room) => {
+                let room = *room;
+                self.find_room(&room, found);
+            }
+            PollStage::Ended => {}
+        }
+        self.given()
+    }
+
+    ghost ends = { proved.ends };
+
+    ghost stays = { proved.stays };
+}
