@@ -1,5 +1,6 @@
 -- What the lists keep to.
 use Rattle.std.specs.Prelude.{◌≡◌, ℕ, ◌+◌, ◌<◌, ◌≤◌, ◌^◌, List, length, slice_index, Some}
+use Rattle.gh_class.specs.declared.class.TheConstants.{MOST_TYPE_WORDS}
 use Rattle.gh_base.specs.declared.shape.Shape.{Shape}
 use Rattle.gh_base.specs.declared.value.Name.{Name}
 use Rattle.gh_base.specs.Shapes.{shape_at}
@@ -9,9 +10,9 @@ use Rattle.gh_ever.specs.Cells.{held, IsDistinct}
 use Rattle.gh_ever.specs.Objects.{kind_of, IsKnown, IsInKnown}
 use Rattle.gh_ever.specs.Lists.{Lists}
 
--- each type has 1 to 65,536 words
+-- each type has 1 to MOST_TYPE_WORDS words
 abbrev pub AreSized : List Shape → Type 0
-AreSized shapes = (t : ℕ) → t < length shapes → (1 ≤ (shape_at shapes t).words) × ((shape_at shapes t).words ≤ 65536)
+AreSized shapes = (t : ℕ) → t < length shapes → (1 ≤ (shape_at shapes t).words) × ((shape_at shapes t).words ≤ MOST_TYPE_WORDS)
 
 pub record Sound (lists : Lists) : Type 0 where
   pub sized : AreSized lists.shapes

@@ -5,6 +5,7 @@ use Rattle.std.specs.Str.{is_utf8}
 use Rattle.std.proofs.lemmas.Bool.{eqb-false, lt-ltb, cases_lt}
 use Rattle.std.proofs.lemmas.List.{take_all, length-take-le}
 use Rattle.std.proofs.lemmas.List.Elements.{All-nil}
+use Rattle.gh_base.specs.Shapes.{FitsShape}
 use Rattle.gh_script.specs.declared.fault.Why.{Why}
 use Rattle.gh_script.specs.declared.fault.Why.TheVariants.{Size, Utf8, Nesting, Missing}
 use Rattle.gh_script.specs.declared.fault.ScriptFault.{ScriptFault}
@@ -14,12 +15,12 @@ use Rattle.gh_script.specs.declared.key.Setting.{Setting}
 use Rattle.gh_script.specs.declared.key.Setting.TheVariants.{Procs, Workers, Arena, Globals, Gogc, Minheap}
 use Rattle.gh_script.specs.declared.statement.Settings.{Settings}
 use Rattle.gh_script.specs.Limits.{least, most, most_bytes}
-use Rattle.gh_script.specs.Program.{Program, AreWithin, AreStatements, IsNamed, IsShape, WellFormed}
+use Rattle.gh_script.specs.Program.{Program, AreWithin, AreStatements, IsNamed, IsPacked, WellFormed}
 use Rattle.gh_script.specs.Text.{lines_of, words_of, sentence_of}
 use Rattle.gh_script.specs.Draft.{Draft, IsSound, IsOpenNamed, IsNewName, AreOpenStatements, blank_draft, nothing_given, given_at, globals_in, settings_in, program_in}
 use Rattle.gh_script.specs.Grammar.{read_line, read_lines, go_on, read_end, then_end, reading_of, line_fault, Spells, Refused}
 use Rattle.gh_script.specs.Outcome.{Ends}
-use Rattle.gh_script.proofs.ShapeLaws.{ShapesFit-IsShape}
+use Rattle.gh_script.proofs.ShapeLaws.{All-ShapesFit}
 use Rattle.gh_script.proofs.Sound.{IsSound-read_line}
 
 nothing : (x : Setting) (n : ℕ) → given_at nothing_given x ≡ Some n → (least x ≤ n) × (n ≤ most x)
@@ -35,7 +36,8 @@ IsSound-blank = record {
   given = nothing;
   types = omega arith;
   named = refl;
-  shapes = All-nil IsShape;
+  shapes_fit = All-nil FitsShape;
+  shapes_packed = All-nil IsPacked;
   goroutines = omega arith;
   closed_names = All-nil IsNamed;
   open_names = All-nil IsOpenNamed;
@@ -77,8 +79,8 @@ pub formed : (draft : Draft) → IsSound draft → 1 ≤ length draft.closed →
 formed draft s some = record {
   settings = AreWithin-settings_in draft.given s.given;
   types = omega (arith, s.types, s.named);
-  shapes = s.shapes;
-  shapes_fit = ShapesFit-IsShape draft.shapes s.shapes;
+  shapes_fit = All-ShapesFit draft.shapes s.shapes_fit;
+  shapes_packed = s.shapes_packed;
   some_goroutine = some;
   few_goroutines = omega (arith, s.goroutines);
   names = s.closed_names;

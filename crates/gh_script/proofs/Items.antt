@@ -3,6 +3,7 @@ use Rattle.std.proofs.Common.{◌≡◌, ℕ, ◌+◌, ◌<◌, ◌≤◌, Bool,
 use Rattle.std.specs.List.{list_all, position_or_len, before_first}
 use Rattle.std.proofs.lemmas.List.{at_drop_more, at_drop_all, append-nil, length-append, length-replicate}
 use Rattle.std.proofs.lemmas.Bool.{le-leb, lt-leb, leb-true}
+use Rattle.gh_class.specs.declared.class.TheConstants.{MOST_TYPE_WORDS}
 use Rattle.gh_script.specs.ShapeText.{is_kind, Item, items_of, fields_in, count_fits, total_in, fits_behind, fits_limits, spread, fields_of}
 
 kind_first : (c : ℕ) (cs : List ℕ) → is_kind c ≡ true → items_of (c ∷ cs) ≡ record { pointer = eqb c 112; tail = before_first is_kind cs } ∷ items_of cs
@@ -33,19 +34,19 @@ all_end test word i whole le so_far = sym (ap (list_all test) (items_of-past wor
 
 -- ---- limits
 
-empty_stops : (n m before : ℕ) (all : Bool) → n ≡ 0 → (((leb 1 n && leb n 65536) && all) && leb (before + (n + m)) 65536) ≡ false
+empty_stops : (n m before : ℕ) (all : Bool) → n ≡ 0 → (((leb 1 n && leb n MOST_TYPE_WORDS) && all) && leb (before + (n + m)) MOST_TYPE_WORDS) ≡ false
 empty_stops n m before all h = rw h refl
 
-wide_stops : (n m before : ℕ) (each all : Bool) → 65536 < before + n → ((each && all) && leb (before + (n + m)) 65536) ≡ false
-wide_stops n m before true true h = lt-leb (before + (n + m)) 65536 (omega arith)
+wide_stops : (n m before : ℕ) (each all : Bool) → MOST_TYPE_WORDS < before + n → ((each && all) && leb (before + (n + m)) MOST_TYPE_WORDS) ≡ false
+wide_stops n m before true true h = lt-leb (before + (n + m)) MOST_TYPE_WORDS (omega arith)
 wide_stops n m before true false h = refl
 wide_stops n m before false true h = refl
 wide_stops n m before false false h = refl
 
-goes_on : (n m before : ℕ) (all : Bool) → 1 ≤ n → before + n ≤ 65536 → (((leb 1 n && leb n 65536) && all) && leb (before + (n + m)) 65536) ≡ (all && leb ((before + n) + m) 65536)
+goes_on : (n m before : ℕ) (all : Bool) → 1 ≤ n → before + n ≤ MOST_TYPE_WORDS → (((leb 1 n && leb n MOST_TYPE_WORDS) && all) && leb (before + (n + m)) MOST_TYPE_WORDS) ≡ (all && leb ((before + n) + m) MOST_TYPE_WORDS)
 goes_on n m before all some within =
     let a : leb 1 n ≡ true = le-leb 1 n some in
-    let b : leb n 65536 ≡ true = le-leb n 65536 (omega arith) in
+    let b : leb n MOST_TYPE_WORDS ≡ true = le-leb n MOST_TYPE_WORDS (omega arith) in
     let e : before + (n + m) ≡ (before + n) + m = omega arith in
     rw (a, b, e) refl
 
@@ -53,19 +54,19 @@ pub fits_behind-empty : (items rest : List Item) (item : Item) (before : ℕ) �
 unfolding fits_behind
 fits_behind-empty items rest item before e h = rw e (empty_stops (fields_in item) (total_in rest) before (list_all count_fits rest) h)
 
-pub fits_behind-wide : (items rest : List Item) (item : Item) (before : ℕ) → items ≡ item ∷ rest → 65536 < before + fields_in item → fits_behind before items ≡ false
+pub fits_behind-wide : (items rest : List Item) (item : Item) (before : ℕ) → items ≡ item ∷ rest → MOST_TYPE_WORDS < before + fields_in item → fits_behind before items ≡ false
 unfolding fits_behind
 fits_behind-wide items rest item before e h = rw e (wide_stops (fields_in item) (total_in rest) before (count_fits item) (list_all count_fits rest) h)
 
-pub fits_behind-more : (items rest : List Item) (item : Item) (before : ℕ) → items ≡ item ∷ rest → 1 ≤ fields_in item → before + fields_in item ≤ 65536
+pub fits_behind-more : (items rest : List Item) (item : Item) (before : ℕ) → items ≡ item ∷ rest → 1 ≤ fields_in item → before + fields_in item ≤ MOST_TYPE_WORDS
     → fits_behind before items ≡ fits_behind (before + fields_in item) rest
 unfolding fits_behind
 fits_behind-more items rest item before e some within = rw e (goes_on (fields_in item) (total_in rest) before (list_all count_fits rest) some within)
 
-pub fits_behind-end : (word : List ℕ) (i before : ℕ) (whole : Bool) → before ≤ 65536 → length word ≤ i → fits_behind before (items_of (drop i word)) ≡ whole → true ≡ whole
+pub fits_behind-end : (word : List ℕ) (i before : ℕ) (whole : Bool) → before ≤ MOST_TYPE_WORDS → length word ≤ i → fits_behind before (items_of (drop i word)) ≡ whole → true ≡ whole
 unfolding fits_behind
 fits_behind-end word i before whole within le so_far =
-    let e : fits_behind before (items_of (drop i word)) ≡ true = rw (items_of-past word i le) (le-leb (before + 0) 65536 (omega arith)) in
+    let e : fits_behind before (items_of (drop i word)) ≡ true = rw (items_of-past word i le) (le-leb (before + 0) MOST_TYPE_WORDS (omega arith)) in
     sym e ∙ so_far
 
 -- ---- fields
@@ -90,10 +91,10 @@ and_right : (a b : Bool) → (a && b) ≡ true → b ≡ true
 and_right true b h = h
 and_right false b h = absurd cc
 
--- a shape within the limits has at most 65,536 fields
-pub length-fields_of : (word : List ℕ) → fits_limits word ≡ true → length (fields_of word) ≤ 65536
+-- a shape within the limits has at most MOST_TYPE_WORDS fields
+pub length-fields_of : (word : List ℕ) → fits_limits word ≡ true → length (fields_of word) ≤ MOST_TYPE_WORDS
 unfolding fits_limits fits_behind fields_of
-length-fields_of word h = omega (arith, length-spread (items_of word), leb-true (0 + total_in (items_of word)) 65536 (and_right (list_all count_fits (items_of word)) _ h))
+length-fields_of word h = omega (arith, length-spread (items_of word), leb-true (0 + total_in (items_of word)) MOST_TYPE_WORDS (and_right (list_all count_fits (items_of word)) _ h))
 
 -- a word that begins with a letter has an item
 pub items_of-first : (word : List ℕ) → is_kind (get_or word 0 0) ≡ true → 1 ≤ length (items_of word)

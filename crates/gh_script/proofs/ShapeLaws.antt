@@ -9,9 +9,10 @@ use Rattle.std.proofs.lemmas.List.Elements.{All-from_get_or, All-get_or}
 use Rattle.std.proofs.lemmas.List.Folds.{list_any_at, list_any_none}
 use Rattle.std.proofs.lemmas.List.FromFn.{length-map-range_with_len, get_or-map-range_with_len}
 use Rattle.std.proofs.lemmas.Nat.Bits.{bit_at-zero, bit_at_lowest, bit_at-suc}
+use Rattle.gh_class.specs.declared.class.TheConstants.{MOST_TYPE_WORDS}
 use Rattle.gh_base.specs.declared.shape.Shape.{Shape}
-use Rattle.gh_base.specs.Shapes.{is_pointer, no_shape, ShapesFit}
-use Rattle.gh_script.specs.Program.{IsShape}
+use Rattle.gh_base.specs.Shapes.{is_pointer, no_shape, FitsShape, ShapesFit}
+use Rattle.gh_script.specs.Program.{IsPacked}
 use Rattle.gh_script.specs.ShapeText.{is_kind, Item, items_of, are_letters, fields_in, count_fits, total_in, fits_behind, fits_limits, fields_of, word_of, packed, shape_with}
 use Rattle.gh_script.proofs.Items.{length-fields_of, length-spread, items_of-first}
 use Rattle.gh_script.proofs.Names.{and_left}
@@ -76,13 +77,19 @@ field_none fields k none = elim (cases_lt k (length fields)) [
   | inr le ↦ get_or_past fields k false le
 ]
 
-pub IsShape-shape_with : (fields : List Bool) → 1 ≤ length fields → length fields ≤ 65536 → IsShape (shape_with fields)
+-- the bits of a shape that fields make are packed
+pub IsPacked-shape_with : (fields : List Bool) → IsPacked (shape_with fields)
 unfolding shape_with packed
-IsShape-shape_with fields some few = record {
-  some_word = some;
-  few_words = few;
+IsPacked-shape_with fields = record {
   packed = length-map-range_with_len (λ k. word_of (take 64 (drop (64 * k) fields))) 0 ((length fields + 63) / 64);
   narrow = λ i. rw (packed_at fields i) (word_of-lt (take 64 (drop (64 * i) fields)) 64 (omega (arith, length-take 64 (drop (64 * i) fields))));
+}
+
+FitsShape-shape_with : (fields : List Bool) → 1 ≤ length fields → length fields ≤ MOST_TYPE_WORDS → FitsShape (shape_with fields)
+unfolding shape_with
+FitsShape-shape_with fields some few = record {
+  some_word = some;
+  few_words = few;
   none_beyond = λ k le. is_pointer_at fields k ∙ get_or_past fields k false le;
   noscan = (
     λ h k. is_pointer_at fields k ∙ field_none fields k (not_any (list_any (λ pointer. pointer) fields) h),
@@ -93,20 +100,18 @@ IsShape-shape_with fields some few = record {
 some_field : (items : List Item) (before : ℕ) → 1 ≤ length items → list_all count_fits items ≡ true → 1 ≤ total_in items
 some_field [] before h all = h
 some_field (item ∷ items) before h all =
-    let one = and_left (leb 1 (fields_in item)) (leb (fields_in item) 65536) (and_left (count_fits item) (list_all count_fits items) all) in
+    let one = and_left (leb 1 (fields_in item)) (leb (fields_in item) MOST_TYPE_WORDS) (and_left (count_fits item) (list_all count_fits items) all) in
     omega (arith, leb-true 1 (fields_in item) one)
 
 -- a shape that was let through has a field at least
-pub IsShape-text : (word : List ℕ) → are_letters word ≡ true → fits_limits word ≡ true → IsShape (shape_with (fields_of word))
+pub FitsShape-text : (word : List ℕ) → are_letters word ≡ true → fits_limits word ≡ true → FitsShape (shape_with (fields_of word))
 unfolding are_letters fits_limits fits_behind fields_of
-IsShape-text word letters fits =
+FitsShape-text word letters fits =
     let kind = and_left (is_kind (get_or word 0 0)) _ letters in
     let some = items_of-first word kind in
     let total = some_field (items_of word) 0 some (and_left (list_all count_fits (items_of word)) _ fits) in
-    IsShape-shape_with (fields_of word) (omega (arith, length-spread (items_of word))) (length-fields_of word fits)
+    FitsShape-shape_with (fields_of word) (omega (arith, length-spread (items_of word))) (length-fields_of word fits)
 
 -- shapes that are so fit
-pub ShapesFit-IsShape : (shapes : List Shape) → All IsShape shapes → ShapesFit shapes
-ShapesFit-IsShape shapes all t lt =
-    let s = All-get_or IsShape shapes t no_shape lt all in
-    record { some_word = s.some_word; few_words = s.few_words; none_beyond = s.none_beyond; noscan = s.noscan }
+pub All-ShapesFit : (shapes : List Shape) → All FitsShape shapes → ShapesFit shapes
+All-ShapesFit shapes all t lt = All-get_or FitsShape shapes t no_shape lt all

@@ -10,6 +10,7 @@ use Rattle.std.proofs.lemmas.Bool.{leb-true, leb-false, ltb-false, ltb-true}
 use Rattle.std.proofs.lemmas.List.{length_push, nil_from_length}
 use Rattle.std.proofs.lemmas.List.Elements.{All-nil, All-cons, All-append, All-push, All-head, All-take, All-drop}
 use Rattle.std.proofs.lemmas.List.Sums.{sum_by-append}
+use Rattle.gh_base.specs.Shapes.{FitsShape}
 use Rattle.gh_script.specs.declared.fault.Why.{Why}
 use Rattle.gh_script.specs.declared.given.Given.{Given}
 use Rattle.gh_script.specs.declared.goroutine.Repeat.{Repeat}
@@ -18,7 +19,7 @@ use Rattle.gh_script.specs.declared.key.Setting.TheVariants.{Procs, Workers, Are
 use Rattle.gh_script.specs.declared.key.Key.{Key}
 use Rattle.gh_script.specs.declared.key.Key.TheVariants as keys
 use Rattle.gh_script.specs.declared.statement.Stmt.{Stmt}
-use Rattle.gh_script.specs.Program.{Goroutine, IsShape, IsStatement, AreStatements, AreNamedApart, IsNamed, statements_in}
+use Rattle.gh_script.specs.Program.{Goroutine, IsPacked, IsStatement, AreStatements, AreNamedApart, IsNamed, statements_in}
 use Rattle.gh_script.specs.Text.{Sentence}
 use Rattle.gh_script.specs.Words.{is_digit, register_of, number_of, digits_value_of, value_from, key_of, is_name}
 use Rattle.gh_script.specs.ShapeText.{are_letters, fields_of, shape_with}
@@ -28,7 +29,7 @@ use Rattle.gh_script.proofs.Allowed.{allowed, left_false, right_false, not_false
 use Rattle.gh_script.proofs.Names.{and_right}
 use Rattle.gh_script.proofs.Repeated.{All-repeat}
 use Rattle.gh_script.proofs.Written.{in_full}
-use Rattle.gh_script.proofs.ShapeLaws.{IsShape-text}
+use Rattle.gh_script.proofs.ShapeLaws.{FitsShape-text, IsPacked-shape_with}
 
 -- ---- words
 
@@ -113,7 +114,8 @@ set_sound draft x line s h =
       ];
       types = s.types;
       named = s.named;
-      shapes = s.shapes;
+      shapes_fit = s.shapes_fit;
+      shapes_packed = s.shapes_packed;
       goroutines = s.goroutines;
       closed_names = s.closed_names;
       open_names = s.open_names;
@@ -130,13 +132,14 @@ type_sound draft line s h =
     let a = allowed draft keys.Type line h in
     let u = unbegun draft a.nesting in
     let letters = not_false (are_letters line.third) (right_false (not (is_name line.second)) (not (are_letters line.third)) (right_false (not (eqb line.count 3)) _ a.word)) in
-    let shape = IsShape-text line.third letters (type_fits draft keys.Type line h refl) in
+    let shape = FitsShape-text line.third letters (type_fits draft keys.Type line h refl) in
     let few = type_few draft keys.Type line h refl in
     record {
       given = s.given;
       types = omega (arith, length_push draft.names line.second);
       named = length_push draft.shapes (shape_with (fields_of line.third)) ∙ ap (λ (n : ℕ). n + 1) s.named ∙ sym (length_push draft.names line.second);
-      shapes = All-push IsShape draft.shapes (shape_with (fields_of line.third)) s.shapes shape;
+      shapes_fit = All-push FitsShape draft.shapes (shape_with (fields_of line.third)) s.shapes_fit shape;
+      shapes_packed = All-push IsPacked draft.shapes (shape_with (fields_of line.third)) s.shapes_packed (IsPacked-shape_with (fields_of line.third));
       goroutines = s.goroutines;
       closed_names = s.closed_names;
       open_names = s.open_names;
@@ -173,7 +176,8 @@ begin_sound draft line s h =
       given = s.given;
       types = s.types;
       named = s.named;
-      shapes = s.shapes;
+      shapes_fit = s.shapes_fit;
+      shapes_packed = s.shapes_packed;
       goroutines = omega arith;
       closed_names = s.closed_names;
       open_names = All-cons IsOpenNamed (begun line.second) [] name (All-nil IsOpenNamed);
@@ -208,7 +212,8 @@ changed draft None s count k = record {
   given = s.given;
   types = s.types;
   named = s.named;
-  shapes = s.shapes;
+  shapes_fit = s.shapes_fit;
+  shapes_packed = s.shapes_packed;
   goroutines = omega (arith, count, s.goroutines);
   closed_names = s.closed_names;
   open_names = All-nil IsOpenNamed;
@@ -224,7 +229,8 @@ changed draft (Some g) s count k =
       given = s.given;
       types = s.types;
       named = s.named;
-      shapes = s.shapes;
+      shapes_fit = s.shapes_fit;
+      shapes_packed = s.shapes_packed;
       goroutines = omega (arith, count, s.goroutines);
       closed_names = s.closed_names;
       open_names = All-cons IsOpenNamed g [] kept.name (All-nil IsOpenNamed);
@@ -305,7 +311,8 @@ close_sound draft g s e few =
       given = s.given;
       types = s.types;
       named = s.named;
-      shapes = s.shapes;
+      shapes_fit = s.shapes_fit;
+      shapes_packed = s.shapes_packed;
       goroutines = omega (arith, length_push draft.closed (goroutine_of g), s.goroutines, one);
       closed_names = All-push IsNamed draft.closed (goroutine_of g) s.closed_names k.name;
       open_names = All-nil IsOpenNamed;

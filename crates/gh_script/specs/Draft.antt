@@ -4,6 +4,7 @@ use Rattle.std.specs.Option.{option_map, option_and_then, option_to_list}
 use Rattle.std.specs.List.{list_any, repeat}
 use Rattle.std.specs.Str.{bytes_eq}
 use Rattle.gh_base.specs.declared.shape.Shape.{Shape}
+use Rattle.gh_base.specs.Shapes.{FitsShape}
 use Rattle.gh_script.specs.declared.given.Given.{Given}
 use Rattle.gh_script.specs.declared.goroutine.Repeat.{Repeat}
 use Rattle.gh_script.specs.declared.key.Setting.{Setting}
@@ -12,7 +13,7 @@ use Rattle.gh_script.specs.declared.statement.Settings.{Settings}
 use Rattle.gh_script.specs.declared.statement.Stmt.{Stmt}
 use Rattle.gh_script.specs.Limits.{least, most, most_types, most_goroutines, most_statements}
 use Rattle.gh_script.specs.Words.{is_name}
-use Rattle.gh_script.specs.Program.{Goroutine, Program, statements_in, AreStatements, AreNamedApart, IsShape, IsStatement, IsNamed}
+use Rattle.gh_script.specs.Program.{Goroutine, Program, statements_in, AreStatements, AreNamedApart, IsPacked, IsStatement, IsNamed}
 
 -- a goroutine that is open: its name; its statements so far, with the body of each open `repeat` once, none once they are
 -- more than a script may have (that many can never get fewer); and the open `repeat`s, innermost first
@@ -150,7 +151,8 @@ pub record IsSound (draft : Draft) : Type 0 where
   pub given : (x : Setting) (n : ℕ) → given_at draft.given x ≡ Some n → (least x ≤ n) × (n ≤ most x)
   pub types : length draft.names ≤ most_types
   pub named : length draft.shapes ≡ length draft.names
-  pub shapes : All IsShape draft.shapes
+  pub shapes_fit : All FitsShape draft.shapes
+  pub shapes_packed : All IsPacked draft.shapes
   pub goroutines : goroutines_begun draft ≤ most_goroutines
   pub closed_names : All IsNamed draft.closed
   pub open_names : All IsOpenNamed (option_to_list draft.current)

@@ -1,6 +1,6 @@
 -- How much a script may have.
 use Rattle.std.specs.Prelude.{ℕ}
-use Rattle.gh_base.specs.declared.limits.TheConstants.{LEAST_PAGES, MOST_GLOBALS, MOST_GOROUTINES, MOST_PAGES, MOST_STATEMENTS, MOST_TYPE_WORDS, REGISTERS}
+use Rattle.gh_base.specs.declared.limits.TheConstants.{LEAST_PAGES, MOST_GLOBALS, MOST_GOROUTINES, MOST_PAGES, MOST_STATEMENTS, REGISTERS}
 use Rattle.gh_script.specs.declared.key.Setting.{Setting}
 use Rattle.gh_script.specs.declared.key.Setting.TheVariants as settings
 
@@ -46,10 +46,6 @@ most settings.Arena = MOST_PAGES
 most settings.Globals = MOST_GLOBALS
 most settings.Gogc = 1000
 most settings.Minheap = 8388608
-
--- the most words of a type
-abbrev pub most_words : ℕ
-most_words = MOST_TYPE_WORDS
 
 -- how many registers there are
 abbrev pub registers : ℕ

@@ -1,11 +1,11 @@
 -- What a script says, whichever text spells it.
-use Rattle.std.specs.Prelude.{◌≡◌, ℕ, ◌+◌, ◌-◌, ◌/◌, ◌^◌, ◌<◌, ◌≤◌, ◌==◌, ◌↔◌, true, false, if◌then◌else◌, List, [], length, slice_get, slice_index_or, Option, None, All, AllPairs, ◌≢◌, sum_by}
-use Rattle.gh_base.specs.Shapes.{bits_at, is_pointer, ShapesFit}
+use Rattle.std.specs.Prelude.{◌≡◌, ℕ, ◌+◌, ◌-◌, ◌/◌, ◌^◌, ◌<◌, ◌≤◌, ◌==◌, true, if◌then◌else◌, List, [], length, slice_get, slice_index_or, Option, None, All, AllPairs, ◌≢◌, sum_by}
+use Rattle.gh_base.specs.Shapes.{bits_at, ShapesFit}
 use Rattle.gh_base.specs.declared.shape.Shape.{Shape}
 use Rattle.gh_base.specs.declared.operation.Op.{Op}
 use Rattle.gh_base.specs.declared.operation.Op.TheVariants as ops
 use Rattle.gh_script.specs.declared.key.Setting.TheVariants.{Procs, Workers, Arena, Globals, Gogc, Minheap}
-use Rattle.gh_script.specs.Limits.{least, most, most_types, most_goroutines, most_statements, most_field, most_words, registers}
+use Rattle.gh_script.specs.Limits.{least, most, most_types, most_goroutines, most_statements, most_field, registers}
 use Rattle.gh_script.specs.Words.{is_name}
 use Rattle.gh_script.specs.declared.statement.Settings.{Settings}
 use Rattle.gh_script.specs.declared.statement.Stmt.{Stmt}
@@ -60,14 +60,10 @@ pub record AreWithin (settings : Settings) : Type 0 where
   pub gogc : (least Gogc ≤ settings.gogc) × (settings.gogc ≤ most Gogc)
   pub minheap : (least Minheap ≤ settings.minheap) × (settings.minheap ≤ most Minheap)
 
--- the bits are those of the fields alone, 64 a word; noscan says that none is set
-pub record IsShape (shape : Shape) : Type 0 where
-  pub some_word : 1 ≤ shape.words
-  pub few_words : shape.words ≤ most_words
+-- the bits of a shape lie 64 a word, in as many words as its fields need
+pub record IsPacked (shape : Shape) : Type 0 where
   pub packed : length shape.bits ≡ (shape.words + 63) / 64
   pub narrow : (i : ℕ) → bits_at shape i < 2 ^ 64
-  pub none_beyond : (k : ℕ) → shape.words ≤ k → is_pointer shape k ≡ false
-  pub noscan : (shape.noscan ≡ true) ↔ ((k : ℕ) → is_pointer shape k ≡ false)
 
 -- the numbers of a statement are within their limits; no statement asks for a cycle, until `gc` is taken
 abbrev pub IsStatement : ℕ → ℕ → Stmt → Type 0
@@ -98,8 +94,8 @@ statements_in g = length g.statements
 pub record WellFormed (p : Program) : Type 0 where
   pub settings : AreWithin p.settings
   pub types : length p.shapes ≤ most_types
-  pub shapes : All IsShape p.shapes
   pub shapes_fit : ShapesFit p.shapes
+  pub shapes_packed : All IsPacked p.shapes
   pub some_goroutine : 1 ≤ length p.goroutines
   pub few_goroutines : length p.goroutines ≤ most_goroutines
   pub names : All IsNamed p.goroutines

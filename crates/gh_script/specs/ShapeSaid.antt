@@ -1,5 +1,6 @@
 -- The code's items of a shape.
 use Rattle.std.specs.Prelude.{◌≡◌, ℕ, ◌≤◌, false, List, ◌∷◌, Option, Some, None}
+use Rattle.gh_class.specs.declared.class.TheConstants.{MOST_TYPE_WORDS}
 use Rattle.gh_script.specs.declared.shape_text.Item as code
 use Rattle.gh_script.specs.ShapeText.{Item, fits_behind}
 
@@ -14,4 +15,4 @@ with_item (Some item) others = item_seen item ∷ others
 -- with so many fields before them, items fit exactly where the others do with so many before them; None: they don't
 abbrev pub PassesLimits : ℕ → Option ℕ → List Item → List Item → Type 0
 PassesLimits before None items others = fits_behind before items ≡ false
-PassesLimits before (Some more) items others = (more ≤ 65536) × (fits_behind before items ≡ fits_behind more others)
+PassesLimits before (Some more) items others = (more ≤ MOST_TYPE_WORDS) × (fits_behind before items ≡ fits_behind more others)

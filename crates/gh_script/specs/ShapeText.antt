@@ -1,6 +1,7 @@
 -- How the shape of a type is spelled.
 use Rattle.std.specs.Prelude.{ℕ, ◌+◌, ◌*◌, ◌/◌, ◌==◌, ◌&&◌, ◌||◌, Bool, true, if◌then◌else◌, not, nat_le, List, [], ◌∷◌, ◌++◌, length, map, take, drop, replicate, Option, Some, is_some, unwrap_or, slice_index}
 use Rattle.std.specs.List.{list_all, list_any, before_first, range_with_len}
+use Rattle.gh_class.specs.declared.class.TheConstants.{MOST_TYPE_WORDS}
 use Rattle.gh_base.specs.declared.shape.Shape.{Shape}
 use Rattle.gh_script.specs.Words.{number_of}
 
@@ -40,17 +41,17 @@ abbrev pub fields_in : Item → ℕ
 fields_in item = unwrap_or (count_of item.tail) 0
 
 abbrev pub count_fits : Item → Bool
-count_fits item = nat_le 1 (fields_in item) && nat_le (fields_in item) 65536
+count_fits item = nat_le 1 (fields_in item) && nat_le (fields_in item) MOST_TYPE_WORDS
 
 abbrev pub total_in : List Item → ℕ
 total_in [] = 0
 total_in (item ∷ items) = fields_in item + total_in items
 
--- each count is from 1 to 65,536, and so is the length, with this many fields before
+-- each count is from 1 to MOST_TYPE_WORDS, and so is the length, with this many fields before
 unfoldable pub fits_behind : ℕ → List Item → Bool
-fits_behind before items = list_all count_fits items && nat_le (before + total_in items) 65536
+fits_behind before items = list_all count_fits items && nat_le (before + total_in items) MOST_TYPE_WORDS
 
--- each count and the length are from 1 to 65,536
+-- each count and the length are from 1 to MOST_TYPE_WORDS
 unfoldable pub fits_limits : List ℕ → Bool
 fits_limits word = fits_behind 0 (items_of word)
 

@@ -21,11 +21,9 @@ ghost use Rattle.gh_script.specs.ShapeText.{
 ghost use Rattle.gh_script.specs.ShapeSaid.{item_seen, with_item, PassesLimits};
 
 use crate::word::number;
+use gh_base::limits::MOST_TYPE_WORDS;
 use gh_base::{Bits, Shape};
 use std::alloc::{AllocError, Global};
-
-/// The most words of a type.
-const MOST_WORDS: u64 = 65_536;
 
 /// A letter of a shape, and what stands behind it up to the next letter.
 #[derive(Clone, Copy)]
@@ -151,7 +149,7 @@ pub fn are_counts(word: &[u8]) -> bool
 /// The fields so far, with those of the item at a place, if there is one; `None` past the limits.
 fn total_past(word: &[u8], i: usize, total: u64) -> Option<u64>
     requires at { i < length word.now }
-    requires so_far { total ≤ 65536 }
+    requires so_far { total ≤ MOST_TYPE_WORDS }
     ensures { PassesLimits total result (items_of (drop i word.now)) (items_of (drop (i + 1) word.now)) }
 {
     match item_at(word, i) {
@@ -161,7 +159,7 @@ fn total_past(word: &[u8], i: usize, total: u64) -> Option<u64>
             if fields == 0 {
                 return None;
             }
-            if fields > MOST_WORDS - total {
+            if fields > MOST_TYPE_WORDS as u64 - total {
                 None
             } else {
                 Some(total + fields)
@@ -170,7 +168,7 @@ fn total_past(word: &[u8], i: usize, total: u64) -> Option<u64>
     }
 }
 
-/// Whether each count and the length of a shape are from 1 to 65,536.
+/// Whether each count and the length of a shape are from 1 to `MOST_TYPE_WORDS`.
 pub fn fits_limits(word: &[u8]) -> bool
     ensures { result ≡ fits_limits word.now }
 {
@@ -236,7 +234,7 @@ fn word_of_fields(fields: &[bool]) -> u64
 
 /// Word `i` of the packed fields.
 fn packed_word(fields: &[bool], i: usize) -> u64
-    requires many { length fields.now ≤ 65536 }
+    requires many { length fields.now ≤ MOST_TYPE_WORDS }
     requires within { 64 * i ≤ length fields.now }
     ensures { result ≡ word_of (take 64 (drop (64 * i) fields.now)) }
 {
@@ -245,7 +243,7 @@ fn packed_word(fields: &[bool], i: usize) -> u64
 }
 
 fn packed(alloc: Global, fields: &[bool]) -> Result<Vec<u64>, AllocError>
-    requires { length fields.now ≤ 65536 }
+    requires { length fields.now ≤ MOST_TYPE_WORDS }
     ensures { IfOk result (λ words. words.items ≡ packed fields.now) }
 {
     let mut words = Vec::new(alloc);
@@ -263,7 +261,7 @@ fn has_pointer(fields: &[bool]) -> bool
 
 #[tactic(auto, unfolding(crate::specs::ShapeText::shape_with))]
 fn shape_with(alloc: Global, fields: &[bool]) -> Result<Shape, AllocError>
-    requires { length fields.now ≤ 65536 }
+    requires { length fields.now ≤ MOST_TYPE_WORDS }
     ensures { IfOk result (λ shape. shape ≡ shape_with fields.now) }
 {
     Ok(Shape {
