@@ -7,9 +7,10 @@ use Rattle.std.proofs.lemmas.List.{append_cancel_left, append-nil, length-replic
 use Rattle.gh_world.specs.Vocabulary.{Op, Layout, Entry, InRange, length_of, cell_of, state_of, started, words_after, Program, WellFormed, Processor, Task, Left, is_busy_at, Mutating, has_left_at, is_leaving, work_of, Next, Progress}
 use Rattle.gh_base.specs.declared.operation.Op.TheVariants as op
 use Rattle.gh_base.specs.Lists.{Begins}
+use Rattle.gh_mutator.specs.Deeds.{processor_kind}
 use Rattle.gh_mutator.specs.Listing.{asks, takes}
 use Rattle.gh_world.specs.declared.turns.Next.TheVariants as next
-use Rattle.gh_world.specs.Order.{processor_kind, setting_of, begun_in, ever_of, ended_in, ends, has_left, leaves}
+use Rattle.gh_world.specs.Order.{setting_of, begun_in, ever_of, ended_in, ends, has_left, leaves}
 use Rattle.gh_world.specs.Runs.{IsRun, IsRunSoFar, RunsGoOn, RunsEndWhole}
 use Rattle.gh_world.specs.Turns.{count_of, to_come, later, turns_of, total_of, op_due, is_over, Stands, MayBeOver, IsPast, Follows}
 use Rattle.gh_world.specs.World.{opening, Fit, LaysOut, progress_after}

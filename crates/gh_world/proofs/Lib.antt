@@ -37,3 +37,9 @@ pub mod Wanting
 pub mod Whole
 pub mod Within
 pub mod WorldFacts
+pub mod Naming
+pub mod Interleaving
+pub mod Invariant
+pub mod Opening
+pub mod Standing
+pub mod Lasting

@@ -9,10 +9,11 @@ use Rattle.gh_base.specs.declared.machine.Entry.{Entry}
 use Rattle.gh_base.specs.Lists.{Setting, state_of, MayFollow, Begins}
 use Rattle.gh_script.specs.Program.{Program}
 use Rattle.gh_mutator.specs.declared.processor.Processor.{Processor}
-use Rattle.gh_world.specs.Order.{processor_kind, setting_of, begun_in}
+use Rattle.gh_world.specs.Order.{setting_of, begun_in}
 use Rattle.gh_world.specs.Turns.{turns_of}
 use Rattle.gh_world.specs.World.{opening}
 use Rattle.gh_world.specs.Runs.{IsRun, IsRunSoFar, EveryRunIsOne, NoneIsLonger}
+use Rattle.gh_mutator.specs.Deeds.{processor_kind}
 use Rattle.gh_mutator.specs.Listing.{is_busy_at}
 
 abbrev at_setting : Program → Layout → Setting Processor Op

@@ -8,11 +8,11 @@ use Rattle.gh_base.specs.Steps.{StepsAreShown}
 use Rattle.gh_script.specs.Program.{Program}
 use Rattle.gh_base.specs.declared.shape.Shape.{Shape}
 use Rattle.gh_mutator.specs.declared.processor.Processor.{Processor}
+use Rattle.gh_mutator.specs.Deeds.{processor_kind}
 use Rattle.gh_mutator.specs.Mutating.{Mutating}
 use Rattle.gh_world.specs.declared.turns.Next.{Next}
 use Rattle.gh_world.specs.declared.world.Event.{Event}
 use Rattle.gh_world.specs.declared.world.Progress.{Progress}
-use Rattle.gh_world.specs.Order.{processor_kind}
 use Rattle.gh_world.specs.World.{After, IsAfter, Appends, Begins, Fit, State, Advances, begun_as, found_in, is_done, progress_after, event_of}
 use Rattle.gh_world.proofs.WorldFacts.{ready, follows, says, entry_of, Knows, marks_few, marks_more}
 use Rattle.gh_mutator.specs.Listing.{begins, is_busy_at}

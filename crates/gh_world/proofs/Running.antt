@@ -11,7 +11,7 @@ use Rattle.gh_base.specs.declared.value.Answer.TheVariants as answer
 use Rattle.gh_base.specs.declared.operation.Op.TheVariants as op
 use Rattle.gh_base.specs.Lists.{Begins}
 use Rattle.gh_model.specs.Answers.{Answers, ever_after_all}
-use Rattle.gh_world.specs.Order.{processor_kind, setting_of, before_step, begun_in, ever_of, order_of, acted_in, given_in, answer_at, Answered}
+use Rattle.gh_world.specs.Order.{setting_of, before_step, begun_in, ever_of, order_of, acted_in, given_in, answer_at, Answered}
 use Rattle.gh_world.specs.Turns.{answers_to, goroutine_at, is_statement_of, statement_now, turns_of}
 use Rattle.gh_script.specs.Program.{op_of}
 use Rattle.gh_world.specs.World.{opening, answer_in, now_in}
@@ -20,6 +20,7 @@ use Rattle.gh_world.specs.Law.{processor_after, answers_in, ops_in, FullAt, Full
 use Rattle.gh_world.proofs.EachOnce.{acted_answers, acted_ops, none_beyond, turns_mine}
 use Rattle.gh_world.proofs.NoRoom.{full_means}
 use Rattle.gh_world.proofs.StepFacts.{step_facts, begin_facts, begins_busy}
+use Rattle.gh_mutator.specs.Deeds.{processor_kind}
 use Rattle.gh_mutator.specs.Serving.{answer_at as answer_at_task}
 use Rattle.gh_mutator.specs.Listing.{begins, takes}
 use Rattle.gh_world.proofs.Frames.{both}

@@ -5,6 +5,7 @@ use Rattle.std.proofs.Math.Nat.{mul-le-mul_right}
 use Rattle.std.proofs.lemmas.Bool.{leb-true, leb-false}
 use Rattle.gh_world.specs.Vocabulary.{Shape, shape_at, SpanHead, bit, IsSizeClass, field_count, Wanted, CachedSpan, Processor, Row, wanted_of, cached_for, cached_in, Sought, Small, Large, span_for}
 use Rattle.gh_class.specs.declared.class.SizeClass.TheVariants as size
+use Rattle.gh_class.specs.declared.class.TheConstants.{MOST_SPAN_PAGES, MOST_TYPE_WORDS}
 use Rattle.gh_class.specs.Classes.{slot_of, pages_of, class_number, slot_words}
 use Rattle.gh_world.specs.Stands.{number_of, is_own_class, slot_count, slot_size, IsSpan, IsSlot, CacheGood}
 use Rattle.gh_world.specs.Facts.{ShapeGood, is_large, is_own, needs}
@@ -41,13 +42,13 @@ pub record WantedGood (shape : Shape) (w : Wanted) : Type 0 where
   pub class : IsSizeClass (needs w).class
   pub own : is_large w ≡ is_own_class (needs w).class
   pub some : 1 ≤ (needs w).pages
-  pub most : (needs w).pages ≤ 64
+  pub most : (needs w).pages ≤ MOST_SPAN_PAGES
   pub small : (needs w).class ≢ size.Large → (needs w).pages ≡ pages_of (number_of (needs w).class)
   pub size : w.slot ≡ cond (is_own_class (needs w).class) (1024 * (needs w).pages) (slot_of (number_of (needs w).class) / 8)
   pub count : field_count shape ≡ w.slot
   pub words : shape.words ≤ w.slot
   pub room : 1 ≤ w.slot
-  pub bound : w.slot ≤ 65536
+  pub bound : w.slot ≤ MOST_TYPE_WORDS
   pub noscan : (needs w).noscan ≡ shape.noscan
 
 abbrev by_size : Shape → (g d t : ℕ) → Bool → Wanted

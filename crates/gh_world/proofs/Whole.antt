@@ -4,11 +4,12 @@ use Rattle.std.specs.Option.{option_to_list}
 use Rattle.gh_world.specs.Vocabulary.{Name, Answer, Op, Shape, Layout, Entry, Words, cell_of, by, started, words_after, Legal, MayFollow, Ever, opening_ever, Processor, Task, Idle, Left, Act, acts_at, gives_at, is_busy_at, takes_at, op_at, opening_processor}
 use Rattle.gh_base.specs.declared.cell.Ask.{Ask}
 use Rattle.gh_base.specs.Lists.{Begins}
-use Rattle.gh_world.specs.Order.{processor_kind, setting_of, may_begin, begun_in, ever_of, order_of, given_in, Answered, answered}
+use Rattle.gh_world.specs.Order.{setting_of, may_begin, begun_in, ever_of, order_of, given_in, Answered, answered}
 use Rattle.gh_world.specs.Facts.{IsPending, ShapesGood}
 use Rattle.gh_world.specs.Law.{processor_after, answers_in, ops_in, FullOnly, EveryListStands}
 use Rattle.gh_world.proofs.InPlace.{in_place}
 use Rattle.gh_world.proofs.Step.{Laws, answer_of_act, op_of_act, Holding, StepAt}
+use Rattle.gh_mutator.specs.Deeds.{processor_kind}
 use Rattle.gh_mutator.specs.Listing.{asks, begins}
 
 module _ (shapes : List Shape) (l : Layout) (opening : Words) where

@@ -1,7 +1,7 @@
 -- What each stage of the processor's listing says, beside what holds at every one; and all that a legal list keeps.
 use Rattle.std.specs.Prelude.{◌≡◌, ◌≢◌, ℕ, ◌+◌, ◌-◌, ◌*◌, ◌/◌, ◌^◌, ◌<◌, ◌≤◌, Bool, true, false, List, length, Option, Some, None}
 use Rattle.gh_world.specs.Vocabulary.{Name, REGISTERS, Answer, Shape, shape_at, is_pointer, SpanBody, SpanHead, bit, page_of, birth_word, Words, EverValue, Ever, shape_of, is_number, fits, Row, SetStage, SpanClass, PassStage, Span, CarveStage, Again, CachedSpan, FindStage, At, PlaceStage, Finding, given_head, span_for, Placing, Sought, Small, Large, Global, GlobalStage, LoadStage, NewStage, Find, Place, Wanted, Own, Processor, Register, Source, StoreStage, Task, wanted_of, is_made, next_of, own_span, cached_for, made_by, most_objects}
-use Rattle.gh_base.specs.declared.limits.TheConstants.{MOST_TYPE_WORDS}
+use Rattle.gh_class.specs.declared.class.TheConstants.{MOST_TYPE_WORDS}
 use Rattle.gh_base.specs.declared.value.Answer.TheVariants as answer
 use Rattle.gh_base.specs.Shapes.{bits_at}
 use Rattle.gh_base.specs.declared.pack.PageWord.TheVariants as page

@@ -5,7 +5,8 @@ use Rattle.gh_world.specs.Vocabulary.{birth_word, page_of, slot_in, Ever, Name, 
 use Rattle.gh_base.specs.Rows.{row_bit}
 use Rattle.gh_base.specs.declared.value.Answer.TheVariants as answer
 use Rattle.gh_base.specs.declared.operation.Op.TheVariants as op
-use Rattle.gh_world.specs.Order.{processor_kind, setting_of, before_step, begun_in, ever_of, order_of, acted_in, given_in, Answered}
+use Rattle.gh_mutator.specs.Deeds.{processor_kind}
+use Rattle.gh_world.specs.Order.{setting_of, before_step, begun_in, ever_of, order_of, acted_in, given_in, Answered}
 use Rattle.gh_world.specs.Stands.{NoRoom, pages_row, alloc_row, IsMade, size_of}
 use Rattle.gh_world.specs.Facts.{Good, needs}
 

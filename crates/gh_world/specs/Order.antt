@@ -10,22 +10,12 @@ use Rattle.gh_base.specs.declared.layout.Layout.{Layout}
 use Rattle.gh_base.specs.declared.limits.TheConstants.{REGISTERS}
 use Rattle.gh_base.specs.declared.machine.Entry.{Entry}
 use Rattle.gh_base.specs.Cells.{Words}
-use Rattle.gh_base.specs.Lists.{Kind, Setting, state_of, started}
+use Rattle.gh_base.specs.Lists.{Setting, state_of, started}
 use Rattle.gh_model.specs.Ever.{Ever, opening_ever, answer_of, ever_after}
 use Rattle.gh_mutator.specs.declared.processor.Processor.{Processor}
-use Rattle.gh_mutator.specs.Listing.{asks, begins, takes, gives, acts, Act, is_busy_at}
-use Rattle.gh_mutator.specs.Processor.{opening_processor}
+use Rattle.gh_mutator.specs.Deeds.{processor_kind}
+use Rattle.gh_mutator.specs.Listing.{gives, acts, Act}
 use Rattle.gh_mutator.specs.Sound.{has_names}
-
--- the processor as a kind of actor
-abbrev pub processor_kind : List Shape → Layout → Kind Processor Op
-processor_kind shapes l = record {
-  start = λ seat. opening_processor l seat;
-  begins = begins shapes;
-  asks = asks;
-  takes = takes shapes;
-  busy = λ m. is_busy_at m.task;
-}
 
 -- What an operation needs: a goroutine that there is and that has not ended, registers, a global and a type in range; nothing after the processor has left.
 

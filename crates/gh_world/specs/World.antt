@@ -2,9 +2,10 @@
 use Rattle.std.specs.Prelude.{◌≡◌, ℕ, ◌+◌, ◌<◌, ◌≤◌, Bool, true, false, if◌then◌else◌, List, [], ◌∷◌, ◌++◌, length, reverse, slice_index, slice_set, ◌^◌, ◌-◌, Option, Some, None, is_some}
 use Rattle.gh_world.specs.Vocabulary.{Answer, Op, Shape, Layout, MOST_GOROUTINES, Entry, bit, Words, InRange, IsLayoutOf, length_of, opening_words, Shows, cell_of, changed, request, target, state_of, words_after, Legal, Program, WellFormed, NewStage, Find, Place, Processor, Task, acts, is_busy_at, op_at, is_made, made_by, Mutating, goes, has_left_at, is_last, is_leaving, is_point, is_serving, is_statement, statement_answer, Next, Progress, Event}
 use Rattle.gh_mutator.specs.declared.task.Task.TheVariants.{New}
+use Rattle.gh_mutator.specs.Deeds.{processor_kind}
 use Rattle.gh_mutator.specs.Mutating.{asks, begins}
 use Rattle.gh_world.specs.declared.world.Event.TheVariants as event
-use Rattle.gh_world.specs.Order.{processor_kind, setting_of, before_step, begun_in, ended_in, has_left}
+use Rattle.gh_world.specs.Order.{setting_of, before_step, begun_in, ended_in, has_left}
 use Rattle.gh_world.specs.Turns.{total_of, turns_of, to_come, Stands, MayBeOver, is_over, op_due, Follows, goroutine_at, statements_among, statements_by, statement_now, is_unacted, next_point}
 
 -- what the step says, where this statement was begun last: the actor's last step, or one that ends a statement or none

@@ -1,12 +1,18 @@
 //! Laws of the lists of the processor's steps, whatever the code does.
 
+ghost use Rattle.gh_world.specs.Processors.{EveryListOfProcessorsStands};
 ghost use Rattle.gh_world.specs.Runs.{EveryLegalListStands, EveryRunIsExplained, EveryRunIsOne, NoneIsLonger, RunsEndWhole, RunsGoOn};
 
 use gh_base::Op;
 use gh_base::laws::{a_state_is_of_its_own_entries, packed_words_are_read_back, rows_are_written};
 use gh_bitmap::laws::each_step_is_on_its_bits;
 use gh_central::laws::the_test_says_it;
+use gh_class::size_class_laws;
+use gh_heap::laws::{each_move_keeps, each_move_leaves, the_heap_is_apart};
 use gh_mutator::Processor;
+use gh_mutator::laws::{
+    a_processor_runs_by_its_rights, only_points_change, the_processors_deeds_fit,
+};
 
 /// After every legal list of steps the words stand for the heap that never frees; each operation
 /// begun has acted once and in order, and was answered as that heap answers it where it acted, save
@@ -49,5 +55,22 @@ pub fn runs_go_on()
     the_test_says_it();
     packed_words_are_read_back();
     rows_are_written();
+    a_state_is_of_its_own_entries::<Processor<'_>, Op>();
+}
+
+/// However many processors there are and in whatever order they step: after every legal list of their
+/// steps the words stand for the heap that never frees; each processor was answered as that heap answers
+/// its operations in the order of their points, save `full`, which stands only where no slot of the span
+/// class was left to it and no run of free pages fitted.
+pub fn every_list_of_processors_stands()
+    ensures { EveryListOfProcessorsStands }
+{
+    the_heap_is_apart();
+    each_move_keeps();
+    each_move_leaves();
+    a_processor_runs_by_its_rights();
+    the_processors_deeds_fit();
+    only_points_change();
+    size_class_laws();
     a_state_is_of_its_own_entries::<Processor<'_>, Op>();
 }

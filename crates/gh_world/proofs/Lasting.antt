@@ -1,0 +1,109 @@
+-- After every legal list of any number of processors' steps the words stand for the heap that never frees.
+use Rattle.std.proofs.Common.{◌≡◌, ◌≢◌, ℕ, ◌+◌, ◌%◌, ◌<◌, ◌≤◌, Bool, true, false, cond, List, [], ◌∷◌, length, Option, Some, None, refl, sym, ap, subst, ◌∙◌, arith}
+use Rattle.std.specs.Prelude.{◌&&◌, not}
+use Rattle.gh_base.specs.declared.layout.Layout.{Layout}
+use Rattle.gh_base.specs.declared.machine.Entry.{Entry}
+use Rattle.gh_base.specs.declared.operation.Op.{Op}
+use Rattle.gh_base.specs.declared.operation.Op.TheVariants as op
+use Rattle.gh_base.specs.declared.shape.Shape.{Shape}
+use Rattle.gh_base.specs.Cells.{Words, opening_words}
+use Rattle.gh_base.specs.Lists.{Legal, MayFollow, started, state_of, words_after}
+use Rattle.gh_base.specs.Orders.{done_at}
+use Rattle.gh_heap.specs.Rights.{Arena, IsOf, view}
+use Rattle.gh_alloc.specs.declared.sought.Sought.{Sought}
+use Rattle.gh_mutator.specs.declared.processor.Processor.{Processor}
+use Rattle.gh_mutator.specs.Deeds.{deeds, has_point, point_of, processor_kind}
+use Rattle.gh_mutator.specs.Facts.{Does, FullAt, ShapesAreGood}
+use Rattle.gh_mutator.specs.Listing.{Act, acts, begins}
+use Rattle.gh_mutator.specs.New.{sought_for}
+use Rattle.gh_mutator.specs.Processor.{cached_for}
+use Rattle.gh_mutator.specs.Runs.{DoesPoints}
+use Rattle.gh_world.specs.Order.{has_left}
+use Rattle.gh_world.specs.Processors.{AnswersAsEver, EveryListOfProcessorsStands, FullOnlyThere, IsFullFor, ListStands, NoRoomFor, arena_of, has_more, may_begin, may_leave, may_run, setting}
+use Rattle.gh_world.proofs.Interleaving.{Known, both}
+use Rattle.gh_world.proofs.Invariant.{Inv, Which, at, begun, does, inv-step, setting_by}
+use Rattle.gh_world.proofs.Opening.{inv-opening}
+use Rattle.gh_world.proofs.Standing.{Heap, full-for, stands}
+
+-- What begins an operation changes no cache.
+
+starts : (z : Arena) (b : Option Op) (m : Processor) (sought : Sought) → cached_for (started (processor_kind z.shapes z.layout) b m) sought ≡ cached_for m sought
+starts z None m sought = refl
+starts z (Some o) m sought = refl
+
+none-cached : (z : Arena) (a : ℕ) (words : Words) (m y : Processor) (sought : Sought) → cached_for m sought ≡ cached_for y sought → NoRoomFor z a words m sought → NoRoomFor z a words y sought
+none-cached z a words m y sought same f = record { own = sym same ∙ f.own; slots = f.slots; swept = f.swept; run = f.run }
+
+full-starts : (z : Arena) (a : ℕ) (words : Words) (m y : Processor) (o : Op) → ((sought : Sought) → cached_for m sought ≡ cached_for y sought) → IsFullFor z a words m o → IsFullFor z a words y o
+full-starts z a words m y (op.New g d t) same f = none-cached z a words m y _ (same _) f
+full-starts z a words m y (op.Load g d b i) same f = f
+full-starts z a words m y (op.Store g b i c) same f = f
+full-starts z a words m y (op.GetGlobal g d i) same f = f
+full-starts z a words m y (op.SetGlobal g i c) same f = f
+full-starts z a words m y (op.Int g d n) same f = f
+full-starts z a words m y (op.Move g d c) same f = f
+full-starts z a words m y (op.Nil g d) same f = f
+full-starts z a words m y (op.Gc g) same f = f
+full-starts z a words m y op.Poll same f = f
+full-starts z a words m y (op.End g) same f = f
+full-starts z a words m y op.Leave same f = f
+
+regroup : (b c d e : Bool) → (b && c && d && e) ≡ true → (b && (c && d && e)) ≡ true
+regroup true c d e h = h
+regroup false c d e h = absurd (cc)
+
+-- a point is what acted
+point-acts : (x : Option Act) (y : Act) → point_of x ≡ Some y → x ≡ Some y
+point-acts None y e = absurd (cc)
+point-acts (Some x) y e = go (has_point x.op) refl e where
+  go : (b : Bool) → has_point x.op ≡ b → cond b (Some x) None ≡ Some y → Some x ≡ Some y
+  go true t e = e
+  go false t e = absurd (cc)
+
+module _ (k : Known) (heap : Heap) (z : Arena) (sg : ShapesAreGood z.shapes) (w : Which z) (seats : (g : ℕ) → z.seat_of g < w.actors) where
+  -- an answer `full` where the entry acts
+  here : (es : List (Entry Op)) (e : Entry Op) (may : MayFollow (setting_by z w) es e) (h : Inv z w es) (x : Act) → done_at (processor_kind z.shapes z.layout) (deeds z.shapes) es e ≡ Some x → x.full ≡ true →
+      IsFullFor z e.actor (words_after w.opening es) (at z w es e.actor) x.op
+  here es e may h x acts full =
+      let found = (does k z sg w es e may h).does.full x (point-acts _ x acts) full in
+      let full : IsFullFor z e.actor h.s.words (started (processor_kind z.shapes z.layout) e.begun (at z w es e.actor)) x.op = full-for heap z w es h seats e.actor (started (processor_kind z.shapes z.layout) e.begun (at z w es e.actor)) x.op found in
+      subst (λ (y : Words). IsFullFor z e.actor y (at z w es e.actor) x.op) h.words
+      (full-starts z e.actor h.s.words (started (processor_kind z.shapes z.layout) e.begun (at z w es e.actor)) (at z w es e.actor) x.op (starts z e.begun (at z w es e.actor)) full)
+
+  pub record Lasts (es : List (Entry Op)) : Type 0 where
+    pub inv : Inv z w es
+    pub full : FullOnlyThere z w.opening es
+
+  pub lasts : (opens : Inv z w []) (es : List (Entry Op)) → Legal (setting_by z w) es → Lasts es
+  lasts opens [] legal = record { inv = opens; full = tt }
+  lasts opens (e ∷ es) legal =
+      let before = lasts opens es legal.0 in
+      record { inv = inv-step k z sg w es e legal.1 before.inv; full = (before.full, here es e legal.1 before.inv) }
+
+  pub list-stands : (opens : Inv z w []) → w.actors ≡ z.layout.procs → (es : List (Entry Op)) → Legal (setting_by z w) es → ListStands z w.opening es
+  list-stands opens all es legal =
+      let l = lasts opens es legal in
+      record {
+        stands = stands heap z w es l.inv seats;
+        answers = λ a lt. record { pending = l.inv.pending a; answers = l.inv.answers a (omega (arith, lt, all)) };
+        full = l.full;
+      }
+
+-- Each goroutine is of a seat that has a processor.
+
+module _ (k : Known) (heap : Heap) (shapes : List Shape) (l : Layout) (trigger : ℕ) (counts : ℕ → ℕ) (sg : ShapesAreGood shapes) where
+  which : Which (arena_of shapes l)
+  which = record {
+    opening = opening_words trigger;
+    actors = l.procs;
+    few = omega arith;
+    may = λ a es o. may_begin (arena_of shapes l) counts a (state_of (processor_kind shapes l) a es) es o;
+    runs = λ a es o may. (both (may_run (arena_of shapes l) a (state_of (processor_kind shapes l) a es) es o) (not (has_left es) && has_more counts es o && may_leave (arena_of shapes l) a es o) (regroup (may_run (arena_of shapes l) a (state_of (processor_kind shapes l) a es) es o) (not (has_left es)) (has_more counts es o) (may_leave (arena_of shapes l) a es o) may)).0;
+  }
+
+  pub every-here : (es : List (Entry Op)) → Legal (setting (arena_of shapes l) counts (opening_words trigger)) es → ListStands (arena_of shapes l) (opening_words trigger) es
+  unfolding which
+  every-here es legal = list-stands k heap (arena_of shapes l) sg which (λ g. let some = l.limits.procs_fit.0 in omega (arith, some)) (inv-opening (arena_of shapes l) trigger which refl) refl es legal
+
+pub every-list : (k : Known) (heap : Heap) → EveryListOfProcessorsStands
+every-list k heap shapes l trigger counts es sg legal = every-here k heap shapes l trigger counts sg es legal
