@@ -29,6 +29,7 @@ use Rattle.gh_alloc.specs.Find.{Finding, after_carve, after_pass, after_slots, a
 use Rattle.gh_alloc.specs.FindFacts.{Caches, Comes, Facts, FactsAt, FindsByItsRights, FindsNone, IsCached, IsCachedFor, IsUsedUp, NoneIsTrue, NoneLeft, Opens, OwnsLarge, OwnStep, Seeks, carve_at, head_for, head_of, held, is_locked, laying, own, pass_at, with_span}
 use Rattle.gh_alloc.specs.FindSound.{IsSought}
 use Rattle.gh_alloc.proofs.FindLasts.{Known, lasts}
+use Rattle.gh_alloc.proofs.FindWithin.{within}
 
 -- What its own steps keep.
 
@@ -546,4 +547,4 @@ own-step : Known → OwnStep
 own-step k z a s rest f good right x go = own-at k z a s rest f.layout f.seat f.generation f.stage f.wanted f.cached x.stage go good (whose-of k z a s rest f.layout f.seat f.generation f.wanted f.cached f.stage x.seeks) x.caches x.apart x.own_apart right
 
 pub finds_by_its_rights : Known → FindsByItsRights
-finds_by_its_rights k = record { opens = opens; own_step = own-step k; none = finds-none; lasts = lasts k }
+finds_by_its_rights k = record { opens = opens; own_step = own-step k; within = within k; none = finds-none; lasts = lasts k }

@@ -2,5 +2,6 @@ pub mod Finding
 pub mod Placing
 mod FindLasts
 mod FindRights
+mod FindWithin
 mod PlaceRights
 pub mod Seeking

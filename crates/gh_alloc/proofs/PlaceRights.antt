@@ -7,6 +7,7 @@ use Rattle.gh_base.specs.declared.limits.TheConstants.{MOST_STATEMENTS}
 use Rattle.gh_base.specs.declared.pack.PageWord.TheVariants as page
 use Rattle.gh_base.specs.declared.shape.Shape.{Shape}
 use Rattle.gh_base.specs.declared.value.Name.{Name}
+use Rattle.gh_base.specs.Cells.{InRange}
 use Rattle.gh_base.specs.Packing.{bit, birth_word, page_of}
 use Rattle.gh_base.specs.Rows.{Row, RowsAreWritten, row_bit}
 use Rattle.gh_base.specs.Shapes.{is_pointer, shape_at}
@@ -14,7 +15,7 @@ use Rattle.gh_base.specs.Steps.{cell_of}
 use Rattle.gh_class.specs.declared.class.SizeClass.TheVariants as size
 use Rattle.gh_class.specs.Classes.{size_class_of}
 use Rattle.gh_model.specs.Ever.{field_count, next_name, same_name}
-use Rattle.gh_heap.specs.Laws.{EachRightFollows}
+use Rattle.gh_heap.specs.Laws.{EachRightFollows, TheHeapIsApart}
 use Rattle.gh_heap.specs.Moves.{ClearField, Make, May, Others, Quiet, Runs, SetBirth, Steps, landing, moved, placed_at, update}
 use Rattle.gh_heap.specs.Rights.{Arena, Claims, Good, Right, Shared, View, view}
 use Rattle.gh_heap.specs.Spans.{IsFull, slot_count, slot_size}
@@ -27,13 +28,14 @@ use Rattle.gh_central.specs.GiveFacts as giving
 use Rattle.gh_alloc.specs.declared.place.PlaceStage.{PlaceStage}
 use Rattle.gh_alloc.specs.declared.place.PlaceStage.TheVariants.{Clear, Birth, Bits, Alloc, Give, Count, Ended}
 use Rattle.gh_alloc.specs.Place.{Placing, acts_at, asks, asks_at, at_stage, gives_at, goes, made}
-use Rattle.gh_alloc.specs.PlaceFacts.{Born, Changes, Comes, FactsAt, FieldsClear, For, GivesUp, IsItsSpan, Lasts, Made, Opens, OwnStep, PlacesByItsRights, Unmade, base, held_by, setting}
+use Rattle.gh_alloc.specs.PlaceFacts.{Born, Changes, Comes, FactsAt, FieldsClear, For, GivesUp, IsItsSpan, Lasts, Made, Opens, OwnStep, PlacesByItsRights, Unmade, Within, base, held_by, setting}
 
 pub record Known : Type 0 where
   pub rows : RowsAreWritten
   pub follow : EachRightFollows
   pub bits : bits.SetsByItsRights
   pub give : giving.GivesByItsRights
+  pub apart : TheHeapIsApart
 
 opens : Opens
 opens z a v f p unmade stage = subst (λ (q : PlaceStage). FactsAt z a v f (base p) q) (sym stage) (at-base unmade, unmade.places.some, λ j lt. absurd (omega arith)) where
@@ -314,5 +316,24 @@ module _ (k : Known) (z : Arena) (a : ℕ) (s : Shared) (f : For) (held : ℕ �
 own : Known → OwnStep
 own k z a s f held p g right x = own-at k z a s f held p p.stage g right x
 
+-- Its words.
+
+module _ (k : Known) (z : Arena) (a : ℕ) (v : View) (f : For) (p : Placing) (good : Good z v) where
+  -- a word of the claimed slot
+  inside : (i : ℕ) → Unmade z a v f (base p) → i < p.slot → p.at + i < 1024 * z.layout.pages
+  inside i u lt = let claim = u.claim in let slot = (k.apart z v good).inside claim.p claim.i p.at p.slot i claim.h claim.slot lt in omega (arith, slot.1, claim.slot.span.within)
+
+  within-at : (q : PlaceStage) → FactsAt z a v f (base p) q → InRange z.layout (cell_of (asks (at_stage p q)))
+  within-at (Clear i) x = inside i x.0 x.1
+  within-at Birth x = let first = inside 0 x.0 x.0.places.some in omega (arith, first)
+  within-at (Bits m) x = k.bits.within z a v m x.3
+  within-at Alloc x = let first = inside 0 x.0 x.0.places.some in omega (arith, first)
+  within-at (Give g) x = k.give.within z a v g good x.1.back
+  within-at Count x = tt
+  within-at Ended x = absurd x
+
+within : Known → Within
+within k z a v f p good x = within-at k z a v f p good p.stage x
+
 pub places_by_its_rights : Known → PlacesByItsRights
-places_by_its_rights k = record { opens = opens; own_step = own k; lasts = lasts k }
+places_by_its_rights k = record { opens = opens; own_step = own k; within = within k; lasts = lasts k }

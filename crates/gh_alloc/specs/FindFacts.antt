@@ -1,6 +1,7 @@
--- What is known at each stage of the search for a slot while any number of processors change the heap, under which rights, and the laws: what each step of its own is, that what is known lasts whatever others do, and what is true where it finds no room.
+-- What is known at each stage of the search for a slot while any number of processors change the heap, under which rights, and the laws: what each step of its own is, that it is on a word that there is, that what is known lasts whatever others do, and what is true where it finds no room.
 use Rattle.std.specs.Prelude.{◌≡◌, ℕ, ◌+◌, ◌*◌, ◌/◌, ◌^◌, ◌<◌, ◌≤◌, Bool, true, false, Option, Some, None}
 use Rattle.gh_base.specs.declared.pack.SpanHead.{SpanHead}
+use Rattle.gh_base.specs.Cells.{InRange}
 use Rattle.gh_base.specs.Steps.{cell_of}
 use Rattle.gh_class.specs.declared.class.SizeClass.TheVariants as size
 use Rattle.gh_class.specs.Classes.{slot_words_of, slots_of}
@@ -209,6 +210,10 @@ abbrev pub OwnStep : Type 0
 OwnStep = (z : Arena) (a : ℕ) (s : Shared) (rest : ℕ → Bool) (f : Finding) → Good z (view s) → Right a (view s) (is_locked f.stage) (held f rest) (laying f.stage) → Facts z a (view s) rest f → refuses f ≡ false →
     Steps z a s (asks f) (λ t. KeepsObjects (view s) (view t) × Comes z a (view t) rest (gives f (s.words (cell_of (asks f)))) (goes f (s.words (cell_of (asks f)))))
 
+-- each is on a word that there is
+abbrev pub Within : Type 0
+Within = (z : Arena) (a : ℕ) (v : View) (rest : ℕ → Bool) (f : Finding) → Good z v → Facts z a v rest f → InRange z.layout (cell_of (asks f))
+
 -- where it finds none there is no room, and it asks for the lock's word to be freed
 pub record Refuses (z : Arena) (v : View) (f : Finding) : Type 0 where
   pub none : FindsNone z v f
@@ -224,5 +229,6 @@ Lasts = (z : Arena) (a : ℕ) (v w : View) (rest : ℕ → Bool) (f : Finding) �
 pub record FindsByItsRights : Type 0 where
   pub opens : Opens
   pub own_step : OwnStep
+  pub within : Within
   pub none : NoneIsTrue
   pub lasts : Lasts

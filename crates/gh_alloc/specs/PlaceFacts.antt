@@ -1,7 +1,8 @@
--- What is known at each stage of the making of an object while any number of processors change the heap, under which rights, and the two laws: what each step of its own is, and that what is known lasts whatever others do.
+-- What is known at each stage of the making of an object while any number of processors change the heap, under which rights, and the laws: what each step of its own is, that it is on a word that there is, and that what is known lasts whatever others do.
 use Rattle.std.specs.Prelude.{◌≡◌, ℕ, ◌+◌, ◌/◌, ◌<◌, Bool, true, false, length, Option, Some, None}
 use Rattle.gh_base.specs.declared.limits.TheConstants.{MOST_STATEMENTS, REGISTERS}
 use Rattle.gh_base.specs.declared.pack.SpanHead.{SpanHead}
+use Rattle.gh_base.specs.Cells.{InRange}
 use Rattle.gh_base.specs.Packing.{birth_word}
 use Rattle.gh_base.specs.Rows.{Row}
 use Rattle.gh_base.specs.Shapes.{shape_at}
@@ -126,6 +127,10 @@ abbrev pub OwnStep : Type 0
 OwnStep = (z : Arena) (a : ℕ) (s : Shared) (f : For) (held : ℕ → Bool) (p : Placing) → Good z (view s) → Right a (view s) false (held_in p held) None → Facts z a (view s) f p →
     Steps z a s (asks p) (λ t. Changes z f p (acts p) (view s) (view t) × Comes z a (view t) f held (gives p (s.words (cell_of (asks p)))) (goes p (s.words (cell_of (asks p)))))
 
+-- it is on a word that there is
+abbrev pub Within : Type 0
+Within = (z : Arena) (a : ℕ) (v : View) (f : For) (p : Placing) → Good z v → Facts z a v f p → InRange z.layout (cell_of (asks p))
+
 -- the steps of others
 abbrev pub Lasts : Type 0
 Lasts = (z : Arena) (a : ℕ) (v w : View) (f : For) (p : Placing) → Good z v → Others z a v w → Facts z a v f p → Facts z a w f p
@@ -133,4 +138,5 @@ Lasts = (z : Arena) (a : ℕ) (v w : View) (f : For) (p : Placing) → Good z v 
 pub record PlacesByItsRights : Type 0 where
   pub opens : Opens
   pub own_step : OwnStep
+  pub within : Within
   pub lasts : Lasts

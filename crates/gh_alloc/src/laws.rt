@@ -14,7 +14,7 @@ use gh_bitmap::laws::{pointers_are_set, setting_keeps_its_facts};
 use gh_cache::laws::the_search_keeps_its_facts;
 use gh_central::laws::{giving_back_keeps_its_facts, the_pass_keeps_its_facts};
 use gh_class::size_class_laws;
-use gh_heap::laws::{facts_last, rights_follow};
+use gh_heap::laws::{facts_last, rights_follow, the_heap_is_apart};
 use gh_pages::laws::the_carve_keeps_its_facts;
 
 /// Whatever the search is told, it writes a page word only between the swap that found the lock free
@@ -43,9 +43,9 @@ pub fn objects_are_made()
 }
 
 /// Whatever any number of processors do beside it: each step of the search, short of the one that finds no
-/// room, is a move that its seat may make, and what is known at each stage holds then and lasts. A slot that
-/// it gives lies in a span that the seat holds, and no object stands there. Where it finds none, no span of
-/// the span class is cached, each that nobody owns is full, and no run of free pages fits.
+/// room, is a move that its seat may make, and each is on a word that there is; what is known at each stage holds
+/// then and lasts. A slot that it gives lies in a span that the seat holds, and no object stands there. Where it
+/// finds none, no span of the span class is cached, each that nobody owns is full, and no run of free pages fits.
 pub fn finding_keeps_its_facts()
     ensures { FindsByItsRights }
 {
@@ -59,8 +59,9 @@ pub fn finding_keeps_its_facts()
 }
 
 /// Whatever any number of processors do beside it: while the seat claims the slot, each step of the making of an
-/// object is a move that it may make, and what is known at each stage holds then and lasts. The heap that never
-/// frees changes exactly by the store of the alloc bit; at the end the object stands at its place.
+/// object is a move that it may make, on a word that there is, and what is known at each stage holds then and
+/// lasts. The heap that never frees changes exactly by the store of the alloc bit; at the end the object stands at
+/// its place.
 pub fn making_keeps_its_facts()
     ensures { PlacesByItsRights }
 {
@@ -68,6 +69,7 @@ pub fn making_keeps_its_facts()
     rights_follow();
     setting_keeps_its_facts();
     giving_back_keeps_its_facts();
+    the_heap_is_apart();
 }
 
 /// Whatever `Search` is told, it writes a page word, also where it frees a page, only between the swap

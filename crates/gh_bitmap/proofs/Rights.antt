@@ -2,9 +2,11 @@
 use Rattle.std.proofs.Common.{◌≡◌, ℕ, ◌+◌, ◌-◌, ◌*◌, ◌/◌, ◌%◌, ◌^◌, ◌<◌, ◌≤◌, ◌⊎◌, Bool, true, false, cond, eqb, ltb, inl, inr, Option, refl, sym, ap, subst, ◌∙◌, arith}
 use Rattle.std.specs.Int.{bit_at}
 use Rattle.std.specs.Prelude.{bit_and, bit_or}
+use Rattle.std.proofs.Math.Nat.{mod-lt}
 use Rattle.std.proofs.lemmas.Bool.{eqb-true, eq-eqb, ltb-true, ltb-false}
 use Rattle.gh_base.specs.declared.cell.Cell.TheVariants as cell
-use Rattle.gh_base.specs.Cells.{put}
+use Rattle.gh_base.specs.declared.layout.Layout.{Layout}
+use Rattle.gh_base.specs.Cells.{InRange, put}
 use Rattle.gh_base.specs.Packing.{bit}
 use Rattle.gh_base.specs.Rows.{Row, bitmap_words, row_bit}
 use Rattle.gh_base.specs.Shapes.{is_pointer}
@@ -16,7 +18,7 @@ use Rattle.gh_heap.specs.Spans.{Laying}
 use Rattle.gh_bitmap.specs.declared.set_pointers.SetStage.{SetStage}
 use Rattle.gh_bitmap.specs.declared.set_pointers.SetStage.TheVariants.{Clear, Set, Ended}
 use Rattle.gh_bitmap.specs.Bits.{pointer_bits, slot_bits}
-use Rattle.gh_bitmap.specs.Facts.{ClearIn, Comes, Facts, FactsAt, Lasts, Opens, OwnStep, SetsByItsRights, ToldBelow}
+use Rattle.gh_bitmap.specs.Facts.{ClearIn, Comes, Facts, FactsAt, Lasts, Opens, OwnStep, SetsByItsRights, ToldBelow, Within}
 use Rattle.gh_bitmap.specs.SetPointers.{PointerSetting, asks, at_stage, gives, gives_at, goes, is_busy, next_stage, word_at}
 use Rattle.gh_bitmap.specs.Sound.{Touches}
 use Rattle.gh_bitmap.specs.Stepping.{EachStepIsOnItsBits, FitsSlot, IsHere, StepsOn}
@@ -146,5 +148,20 @@ module _ (k : Known) (z : Arena) (a : ℕ) (s : Shared) (l : Bool) (held : ℕ �
 own : Known → OwnStep
 own k z a s l held y m g right x = own-at k z a s l held y m m.stage g right x
 
+-- Its words.
+
+within-at : (z : Arena) (m : PointerSetting) (bitmap : Row) (q : SetStage) → ((i : ℕ) → word_at m i < 16 * z.layout.pages) → FactsAt m bitmap q → InRange z.layout (cell_of (asks (at_stage m q)))
+within-at z m bitmap (Clear i) there x = there i
+within-at z m bitmap (Set i) there x = there i
+within-at z m bitmap Ended there x = absurd x
+
+within : Within
+within z a v m x = within-at z m v.bitmap m.stage there x.stage where
+  arena : m.layout.pages ≡ z.layout.pages
+  arena = ap (λ (l : Layout). l.pages) x.layout
+
+  there : (i : ℕ) → word_at m i < 16 * z.layout.pages
+  there i = let some : 0 < 16 * m.layout.pages = omega (arith, m.layout.limits.pages_fit.0) in omega (arith, mod-lt i some, arena)
+
 pub sets_by_its_rights : Known → SetsByItsRights
-sets_by_its_rights k = record { opens = opens; own_step = own k; lasts = lasts k }
+sets_by_its_rights k = record { opens = opens; own_step = own k; within = within; lasts = lasts k }

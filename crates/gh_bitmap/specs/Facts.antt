@@ -1,5 +1,6 @@
--- What is known while the pointer bits of a claimed slot are set and any number of processors change the heap; what each step of its own is, and that what is known lasts whatever others do.
+-- What is known while the pointer bits of a claimed slot are set and any number of processors change the heap; what each step of its own is, that it is on a word that there is, and that what is known lasts whatever others do.
 use Rattle.std.specs.Prelude.{◌≡◌, ℕ, ◌+◌, ◌*◌, ◌/◌, ◌<◌, Bool, Option, Some, None}
+use Rattle.gh_base.specs.Cells.{InRange}
 use Rattle.gh_base.specs.Packing.{bit}
 use Rattle.gh_base.specs.Rows.{Row, row_bit}
 use Rattle.gh_base.specs.Shapes.{is_pointer}
@@ -46,6 +47,10 @@ abbrev pub OwnStep : Type 0
 OwnStep = (z : Arena) (a : ℕ) (s : Shared) (l : Bool) (held : ℕ → Bool) (y : Option Laying) (m : PointerSetting) → Good z (view s) → Right a (view s) l held y → Facts z a (view s) m →
     Steps z a s (asks m) (λ t. (view t ≡ record (view s) { bitmap = (view t).bitmap }) × Right a (view t) l held y × Comes z a (view t) (gives m (s.words (cell_of (asks m)))) (goes m (s.words (cell_of (asks m)))))
 
+-- it is on a word that there is
+abbrev pub Within : Type 0
+Within = (z : Arena) (a : ℕ) (v : View) (m : PointerSetting) → Facts z a v m → InRange z.layout (cell_of (asks m))
+
 -- the steps of others
 abbrev pub Lasts : Type 0
 Lasts = (z : Arena) (a : ℕ) (v w : View) (m : PointerSetting) → Others z a v w → Facts z a v m → Facts z a w m
@@ -53,4 +58,5 @@ Lasts = (z : Arena) (a : ℕ) (v w : View) (m : PointerSetting) → Others z a v
 pub record SetsByItsRights : Type 0 where
   pub opens : Opens
   pub own_step : OwnStep
+  pub within : Within
   pub lasts : Lasts

@@ -37,7 +37,7 @@ pub fn set_bits_are_read_back()
 {}
 
 /// Whatever any number of processors do beside it: while the seat claims the slot, each step is a move that it
-/// may make, and what is known at each stage holds then and lasts. At the end the slot's bits are told.
+/// may make, on a word that there is, and what is known at each stage holds then and lasts. At the end the slot's bits are told.
 pub fn setting_keeps_its_facts()
     ensures { SetsByItsRights }
 {

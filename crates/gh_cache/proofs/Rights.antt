@@ -1,11 +1,13 @@
 -- Its own steps change nothing, and what it knows lasts. Of the heap it is known what the laws of gh_heap say.
 use Rattle.std.proofs.Common.{◌≡◌, ◌≢◌, ℕ, ◌+◌, ◌*◌, ◌/◌, ◌%◌, ◌<◌, ◌≤◌, Bool, true, false, cond, eqb, ltb, inl, inr, Option, Some, None, refl, sym, ap, subst, ◌∙◌, arith}
 use Rattle.std.specs.Int.{bit_at}
-use Rattle.std.proofs.Math.Nat.{mod-eq_of_lt}
+use Rattle.std.proofs.Math.Nat.{mod-eq_of_lt, mod-lt}
 use Rattle.std.proofs.lemmas.Bool.{eqb-true, eqb-false, ltb-true, ltb-false}
 use Rattle.std.proofs.lemmas.Bool.Decides.{eqb_tells}
 use Rattle.std.proofs.lemmas.Nat.Bits.{bit_at-lt}
 use Rattle.gh_base.specs.declared.cell.Cell.TheVariants as cell
+use Rattle.gh_base.specs.declared.layout.Layout.{Layout}
+use Rattle.gh_base.specs.Cells.{InRange}
 use Rattle.gh_base.specs.Rows.{row_bit}
 use Rattle.gh_base.specs.Steps.{cell_of}
 use Rattle.gh_class.specs.declared.class.SizeClass.{SizeClass}
@@ -18,7 +20,7 @@ use Rattle.gh_heap.specs.Spans.{IsFull, IsSlotOf, Laying, slot_size}
 use Rattle.gh_cache.specs.declared.next_slot.Cached.{Cached}
 use Rattle.gh_cache.specs.declared.next_slot.SlotStage.{SlotStage}
 use Rattle.gh_cache.specs.declared.next_slot.SlotStage.TheVariants.{Look, Ended}
-use Rattle.gh_cache.specs.Facts.{Comes, Facts, IsHeld, Lasts, OwnStep, SearchesByItsRights, TakenBelow}
+use Rattle.gh_cache.specs.Facts.{Comes, Facts, IsHeld, Lasts, OwnStep, SearchesByItsRights, TakenBelow, Within}
 use Rattle.gh_cache.specs.Listing.{Searching, alloc_word, asks, at_stage, gives, gives_at, goes, goes_at, has_next, passed, slot_at}
 
 pub record Known : Type 0 where
@@ -117,5 +119,11 @@ own-at k z a s l held y noscan m Ended e g right x = absurd (cc)
 own : Known → OwnStep
 own k z a s l held y noscan m g right x = own-at k z a s l held y noscan m m.stage x.stage g right x
 
+within : Within
+within z a v noscan m x =
+    let arena : m.layout.pages ≡ z.layout.pages = ap (λ (l : Layout). l.pages) x.layout in
+    let some : 0 < 16 * m.layout.pages = omega (arith, m.layout.limits.pages_fit.0) in
+    subst (λ (q : SlotStage). InRange z.layout (cell_of (asks (at_stage m q)))) (sym x.stage) (omega (arith, mod-lt (slot_at m.span m.span.cursor / 64) some, arena))
+
 pub searches_by_its_rights : Known → SearchesByItsRights
-searches_by_its_rights k = record { own_step = own k; lasts = lasts }
+searches_by_its_rights k = record { own_step = own k; within = within; lasts = lasts }

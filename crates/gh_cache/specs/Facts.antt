@@ -1,7 +1,8 @@
--- What is known while a cached span is searched for a clear slot and any number of processors change the heap; what each step of its own is, and that what is known lasts whatever others do. The seat holds the span, so no other sets a bit in it.
+-- What is known while a cached span is searched for a clear slot and any number of processors change the heap; what each step of its own is, that it is on a word that there is, and that what is known lasts whatever others do. The seat holds the span, so no other sets a bit in it.
 use Rattle.std.specs.Prelude.{◌≡◌, ℕ, ◌<◌, Bool, true, Option, Some, None}
 use Rattle.gh_base.specs.declared.pack.PageWord.TheVariants as page
 use Rattle.gh_base.specs.declared.pack.SpanHead.{SpanHead}
+use Rattle.gh_base.specs.Cells.{InRange}
 use Rattle.gh_base.specs.Packing.{page_of}
 use Rattle.gh_base.specs.Rows.{Row, row_bit}
 use Rattle.gh_base.specs.Steps.{cell_of}
@@ -59,10 +60,15 @@ abbrev pub OwnStep : Type 0
 OwnStep = (z : Arena) (a : ℕ) (s : Shared) (l : Bool) (held : ℕ → Bool) (y : Option Laying) (noscan : Bool) (m : Searching) → Good z (view s) → Right a (view s) l held y → Facts z a (view s) noscan m →
     Steps z a s (asks m) (λ t. KeepsObjects (view s) (view t) × Right a (view t) l held y × Comes z a (view t) noscan (gives m (s.words (cell_of (asks m)))) (goes m (s.words (cell_of (asks m)))))
 
+-- it is on a word that there is
+abbrev pub Within : Type 0
+Within = (z : Arena) (a : ℕ) (v : View) (noscan : Bool) (m : Searching) → Facts z a v noscan m → InRange z.layout (cell_of (asks m))
+
 -- the steps of others
 abbrev pub Lasts : Type 0
 Lasts = (z : Arena) (a : ℕ) (v w : View) (noscan : Bool) (m : Searching) → Good z v → Others z a v w → Facts z a v noscan m → Facts z a w noscan m
 
 pub record SearchesByItsRights : Type 0 where
   pub own_step : OwnStep
+  pub within : Within
   pub lasts : Lasts

@@ -15,8 +15,8 @@ pub fn next_clear_slot()
     size_class_laws();
 }
 
-/// Whatever any number of processors do beside it: while the seat holds the span, what is known at each stage
-/// holds after its step and lasts. A slot that it gives is the seat's; where it gives none, all are taken.
+/// Whatever any number of processors do beside it: while the seat holds the span, each step is on a word that
+/// there is, and what is known at each stage holds after it and lasts. A slot that it gives is the seat's; where it gives none, all are taken.
 pub fn the_search_keeps_its_facts()
     ensures { SearchesByItsRights }
 {

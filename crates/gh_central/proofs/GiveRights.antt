@@ -1,16 +1,17 @@
--- Giving a span back is a move that the rights of its seat allow, and what must be known for it lasts.
-use Rattle.std.proofs.Common.{true, refl, ap, sym, ◌∙◌, None}
+-- Giving a span back is a move that the rights of its seat allow, on a word that there is, and what must be known for it lasts.
+use Rattle.std.proofs.Common.{◌+◌, ◌<◌, ◌≤◌, true, refl, ap, sym, subst, ◌∙◌, None, arith}
 use Rattle.gh_base.specs.declared.cell.Ask.TheVariants as ask
 use Rattle.gh_base.specs.declared.cell.Cell.TheVariants as cell
 use Rattle.gh_base.specs.declared.pack.SpanHead.{SpanHead}
+use Rattle.gh_base.specs.Cells.{InRange}
 use Rattle.gh_base.specs.Packing.{head_word}
-use Rattle.gh_base.specs.Steps.{effect}
+use Rattle.gh_base.specs.Steps.{cell_of, effect}
 use Rattle.gh_heap.specs.Laws.{EachOwnMoveLeaves, EachRightFollows}
 use Rattle.gh_heap.specs.Moves.{Disown, May, Publish}
 use Rattle.gh_heap.specs.Rights.{view}
 use Rattle.gh_central.specs.declared.give.GiveStage.{GiveStage}
 use Rattle.gh_central.specs.GiveBack.{asks_at}
-use Rattle.gh_central.specs.GiveFacts.{GivesBack, GivesByItsRights, GivesLarge, Lasts}
+use Rattle.gh_central.specs.GiveFacts.{GivesBack, GivesByItsRights, GivesLarge, Lasts, Within}
 
 pub record Known : Type 0 where
   pub follow : EachRightFollows
@@ -34,6 +35,9 @@ gives_large k z a s l held y g good right x large = record {
   after = ((refl, refl), (k.follow z a s l held y right).published g.page x.h);
 }
 
+within : Within
+within z a v g good x = let span = good.spans g.page x.h x.head in subst (λ (q : GiveStage). InRange z.layout (cell_of (asks_at g q))) (sym x.stage) (omega (arith, span.within, span.fits.some))
+
 lasts : Lasts
 lasts z a v w g good o x = record {
   stage = x.stage;
@@ -45,4 +49,4 @@ lasts z a v w g good o x = record {
 }
 
 pub gives_by_its_rights : Known → GivesByItsRights
-gives_by_its_rights k = record { gives = gives k; gives_large = gives_large k; lasts = lasts }
+gives_by_its_rights k = record { gives = gives k; gives_large = gives_large k; within = within; lasts = lasts }

@@ -2,7 +2,7 @@
 use Rattle.std.proofs.Common.{◌≡◌, ◌≢◌, ℕ, ◌+◌, ◌-◌, ◌*◌, ◌/◌, ◌%◌, ◌^◌, ◌<◌, ◌≤◌, ◌&&◌, Bool, true, false, cond, eqb, ltb, inl, inr, Option, Some, None, refl, sym, ap, subst, ◌∙◌, arith}
 use Rattle.std.specs.Bool.{beq}
 use Rattle.std.specs.Int.{bit_at}
-use Rattle.std.proofs.Math.Nat.{mod-eq_of_lt}
+use Rattle.std.proofs.Math.Nat.{mod-eq_of_lt, mod-lt}
 use Rattle.std.proofs.lemmas.Bool.{eqb-true, eq-eqb, ltb-true, ltb-false}
 use Rattle.std.proofs.lemmas.Bool.Decides.{eqb_tells}
 use Rattle.std.proofs.lemmas.Nat.Bits.{bit_at-lt}
@@ -12,6 +12,7 @@ use Rattle.gh_base.specs.declared.layout.Layout.{Layout}
 use Rattle.gh_base.specs.declared.pack.PageWord.{PageWord}
 use Rattle.gh_base.specs.declared.pack.PageWord.TheVariants as page
 use Rattle.gh_base.specs.declared.pack.SpanHead.{SpanHead}
+use Rattle.gh_base.specs.Cells.{InRange}
 use Rattle.gh_base.specs.Packing.{PackedWordsAreReadBack, head_word, page_of}
 use Rattle.gh_base.specs.Rows.{row_bit}
 use Rattle.gh_base.specs.Steps.{cell_of, effect}
@@ -24,7 +25,7 @@ use Rattle.gh_heap.specs.Rights.{Arena, FullBefore, Good, Right, Shared, View, v
 use Rattle.gh_heap.specs.Spans.{IsFull, IsSpan, Laying, owned_by, owner_at, owner_in, slot_count, slot_size}
 use Rattle.gh_central.specs.declared.pass.PassStage.{PassStage}
 use Rattle.gh_central.specs.declared.pass.PassStage.TheVariants.{Look, Bits, Take, Ended}
-use Rattle.gh_central.specs.PassFacts.{Comes, Facts, FactsAt, IsUnowned, Lasts, LooksAt, LooksInto, Opens, OwnStep, Passes, PassesByItsRights, TakenBelow, sought}
+use Rattle.gh_central.specs.PassFacts.{Comes, Facts, FactsAt, IsUnowned, Lasts, LooksAt, LooksInto, Opens, OwnStep, Passes, PassesByItsRights, TakenBelow, Within, sought}
 use Rattle.gh_central.specs.Slots.{TheTestSaysIt}
 use Rattle.gh_central.specs.SweptPass.{Pass, after_page, alloc_word, asks, at_stage, given, gives, goes, goes_at, is_busy, is_small, is_wanted, lacks_at, look_from}
 
@@ -301,5 +302,19 @@ module _ (k : Known) (z : Arena) (a : ℕ) (s : Shared) (held : ℕ → Bool) (m
 pub own : Known → OwnStep
 own k z a s held m g right x = own-at k z a s held m m.stage g right x
 
+-- Its words.
+
+within-at : (z : Arena) (v : View) (m : Pass) (q : PassStage) → Good z v → m.layout ≡ z.layout → FactsAt z m v q → InRange z.layout (cell_of (asks (at_stage m q)))
+within-at z v m (Look p) g layout x = x.there
+within-at z v m (Bits p h i) g layout x =
+    let arena : m.layout.pages ≡ z.layout.pages = ap (λ (l : Layout). l.pages) layout in
+    let some : 0 < 16 * m.layout.pages = omega (arith, m.layout.limits.pages_fit.0) in
+    omega (arith, mod-lt (16 * p + i) some, arena)
+within-at z v m (Take p h) g layout x = let span = g.spans p h x.head in omega (arith, span.within, span.fits.some)
+within-at z v m Ended g layout x = absurd x
+
+within : Within
+within z a v m g x = within-at z v m m.stage g x.whose.layout x.stage
+
 pub passes_by_its_rights : Known → PassesByItsRights
-passes_by_its_rights k = record { opens = opens; own_step = own k; lasts = lasts k }
+passes_by_its_rights k = record { opens = opens; own_step = own k; within = within; lasts = lasts k }

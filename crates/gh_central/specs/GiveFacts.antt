@@ -1,8 +1,10 @@
--- A span is given back while any number of processors change the heap: what must be known, and which move it is.
+-- A span is given back while any number of processors change the heap: what must be known, which move it is, and that it is on a word that there is.
 use Rattle.std.specs.Prelude.{◌≡◌, ℕ, Bool, true, false, Option, None}
 use Rattle.gh_base.specs.declared.pack.PageWord.TheVariants as page
 use Rattle.gh_base.specs.declared.pack.SpanHead.{SpanHead}
+use Rattle.gh_base.specs.Cells.{InRange}
 use Rattle.gh_base.specs.Packing.{page_of}
+use Rattle.gh_base.specs.Steps.{cell_of}
 use Rattle.gh_class.specs.declared.class.SizeClass.TheVariants.{Large}
 use Rattle.gh_heap.specs.Moves.{KeepsObjects, Leaves, Others, Steps, update}
 use Rattle.gh_heap.specs.Rights.{Arena, Good, Right, Shared, View, view}
@@ -29,6 +31,10 @@ abbrev pub GivesLarge : Type 0
 GivesLarge = (z : Arena) (a : ℕ) (s : Shared) (l : Bool) (held : ℕ → Bool) (y : Option Laying) (g : Giving) → Good z (view s) → Right a (view s) l held y → (c : CanGiveBack a (view s) g) → c.h.class ≡ Large →
     Steps z a s (asks g) (λ t. KeepsObjects (view s) (view t) × Right a (view t) l (update held g.page false) y)
 
+-- it is on a word that there is
+abbrev pub Within : Type 0
+Within = (z : Arena) (a : ℕ) (v : View) (g : Giving) → Good z v → CanGiveBack a v g → InRange z.layout (cell_of (asks g))
+
 -- what must be known lasts, whatever others do
 abbrev pub Lasts : Type 0
 Lasts = (z : Arena) (a : ℕ) (v w : View) (g : Giving) → Good z v → Others z a v w → CanGiveBack a v g → CanGiveBack a w g
@@ -36,4 +42,5 @@ Lasts = (z : Arena) (a : ℕ) (v w : View) (g : Giving) → Good z v → Others 
 pub record GivesByItsRights : Type 0 where
   pub gives : GivesBack
   pub gives_large : GivesLarge
+  pub within : Within
   pub lasts : Lasts

@@ -1,7 +1,8 @@
--- What is known at each stage of the pass for a swept span while any number of processors change the heap, under which rights, and the two laws: what each step of its own is, and that what is known lasts whatever others do.
+-- What is known at each stage of the pass for a swept span while any number of processors change the heap, under which rights, and the laws: what each step of its own is, that it is on a word that there is, and that what is known lasts whatever others do.
 use Rattle.std.specs.Prelude.{◌≡◌, ℕ, ◌+◌, ◌*◌, ◌/◌, ◌^◌, ◌<◌, Bool, true, false, Option, Some, None}
 use Rattle.gh_base.specs.declared.pack.PageWord.TheVariants as page
 use Rattle.gh_base.specs.declared.pack.SpanHead.{SpanHead}
+use Rattle.gh_base.specs.Cells.{InRange}
 use Rattle.gh_base.specs.Packing.{page_of}
 use Rattle.gh_base.specs.Rows.{Row, row_bit}
 use Rattle.gh_base.specs.Steps.{cell_of}
@@ -80,6 +81,10 @@ abbrev pub OwnStep : Type 0
 OwnStep = (z : Arena) (a : ℕ) (s : Shared) (held : ℕ → Bool) (m : Pass) → Good z (view s) → Right a (view s) true held None → Facts z a (view s) m →
     Steps z a s (asks m) (λ t. KeepsObjects (view s) (view t) × Comes z a (view s) (view t) held (gives m (s.words (cell_of (asks m)))) (goes m (s.words (cell_of (asks m)))))
 
+-- it is on a word that there is
+abbrev pub Within : Type 0
+Within = (z : Arena) (a : ℕ) (v : View) (m : Pass) → Good z v → Facts z a v m → InRange z.layout (cell_of (asks m))
+
 -- the steps of others
 abbrev pub Lasts : Type 0
 Lasts = (z : Arena) (a : ℕ) (v w : View) (m : Pass) → Others z a v w → v.locked a ≡ true → Facts z a v m → Facts z a w m
@@ -87,4 +92,5 @@ Lasts = (z : Arena) (a : ℕ) (v w : View) (m : Pass) → Others z a v w → v.l
 pub record PassesByItsRights : Type 0 where
   pub opens : Opens
   pub own_step : OwnStep
+  pub within : Within
   pub lasts : Lasts

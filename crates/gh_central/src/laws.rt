@@ -48,7 +48,7 @@ pub fn the_pass_ends()
 {}
 
 /// Whatever any number of processors do beside it: each step of the pass is a move that its seat may make,
-/// and what is known at each stage holds then and lasts. Where it gives a page, the seat holds a span of the
+/// on a word that there is, and what is known at each stage holds then and lasts. Where it gives a page, the seat holds a span of the
 /// span class that begins there; where it gives none, each such span that nobody owns is full.
 pub fn the_pass_keeps_its_facts()
     ensures { PassesByItsRights }
@@ -62,7 +62,8 @@ pub fn the_pass_keeps_its_facts()
     size_class_laws();
 }
 
-/// Giving a span back is a move that its seat may make while it holds the span and each slot is taken; the
+/// Giving a span back is a move that its seat may make while it holds the span and each slot is taken, and it is
+/// on a word that there is; the
 /// span of a large object needs no lock for it.
 pub fn giving_back_keeps_its_facts()
     ensures { GivesByItsRights }

@@ -158,7 +158,7 @@ pub record MayLay (z : Arena) (v : View) (a : ℕ) (y : Laying) : Type 0 where
   pub owner : y.head.owner ≡ a + 1
   pub number : y.head.number ≡ v.generation
 
--- of a span that the seat holds, or that nobody owns, with the lock and laying nothing out
+-- with the lock, laying nothing out, of a page where a span begins; whose the span is each move asks for itself
 pub record MayPass (v : View) (a p : ℕ) (h : SpanHead) : Type 0 where
   pub locked : v.locked a ≡ true
   pub laying : v.laying a ≡ None

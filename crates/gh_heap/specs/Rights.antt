@@ -67,7 +67,7 @@ pub record Right (a : ℕ) (v : View) (l : Bool) (h : ℕ → Bool) (y : Option 
   pub holds : (p : ℕ) → v.holds a p ≡ h p
   pub laying : v.laying a ≡ y
 
--- The groups of what holds at every moment, each over the rows that it reads. A tie of a right to a word goes both ways, so that nothing has to be counted.
+-- The groups of what holds at every moment, each over the rows that it reads. A tie of a right to a word goes both ways, so that nothing has to be counted; that of a span that is being laid out goes one way, since its pages do not tell who lays it out.
 
 -- the lock's word names the seat that has the lock
 abbrev pub LockGood : (lock : ℕ) → (ℕ → Bool) → Type 0

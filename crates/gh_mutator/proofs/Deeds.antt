@@ -22,6 +22,7 @@ use Rattle.gh_mutator.specs.declared.step.Step.{Step}
 use Rattle.gh_mutator.specs.declared.store.Store.{Store}
 use Rattle.gh_mutator.specs.declared.store.StoreStage.TheVariants as store_stage
 use Rattle.gh_mutator.specs.declared.task.Task.TheVariants as task
+use Rattle.gh_mutator.specs.Acting.{ActsOnce, EachOperationActsOnce}
 use Rattle.gh_mutator.specs.Deeds.{OnlyPointsChange, ProcessorsDeedsFit, deeds, has_point, meaning, point_of, pointed, processor_kind}
 use Rattle.gh_mutator.specs.Facts.{acted}
 use Rattle.gh_mutator.specs.Fields.{has_field, is_pointer_by, kinds_differ, takes as takes_value, value_of}
@@ -32,11 +33,6 @@ use Rattle.gh_mutator.specs.New.{after_find, after_place, finds_none, op_of as n
 use Rattle.gh_mutator.specs.Processor.{cache_span, register_of}
 use Rattle.gh_mutator.specs.Step.{ends, goes_on}
 use Rattle.gh_mutator.specs.Store as store
-
--- from the operation to act before a step to that behind it: the step acts for it, or leaves it so
-abbrev ActsOnce : (before after : Option Op) → Option Act → Type 0
-ActsOnce before after None = after ≡ before
-ActsOnce before after (Some x) = (before ≡ Some x.op) × (after ≡ None)
 
 -- ---- a step of a statement acts once
 
@@ -207,6 +203,9 @@ acts_for_it before after (Some y) x does is = go (has_point y.op) refl is where
 
 acts_once : (shapes : List Shape) (m : Processor) (found : ℕ) → is_busy_at m.task ≡ true → ActsOnce (op_at m.task) (op_at (takes shapes m found).task) (acts m found)
 acts_once shapes m found busy = acts_once_at shapes m m.task found busy
+
+pub each_operation_acts_once : EachOperationActsOnce
+each_operation_acts_once = record { begins = to_act; rests = none_at_rest; steps = acts_once }
 
 pub processors_deeds_fit : ProcessorsDeedsFit
 processors_deeds_fit shapes l = record {

@@ -16,3 +16,4 @@ pub mod Runs
 pub mod Store
 pub mod Values
 pub mod Wanting
+pub mod Within

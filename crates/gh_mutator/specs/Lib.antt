@@ -1,3 +1,4 @@
+pub mod Acting
 pub mod Deeds
 pub mod Ending
 pub mod Ends

@@ -1,6 +1,7 @@
--- A processor among any number of processors: what it begins begins well, each of its steps is a move that its rights allow, and what is known of it lasts whatever others do.
+-- A processor among any number of processors: what it begins begins well, each of its steps is a move that its rights allow, on a word that there is, and what is known of it lasts whatever others do.
 use Rattle.std.specs.Prelude.{◌≡◌, ℕ, true, false, ◌++◌, Option, None}
 use Rattle.std.specs.Option.{option_to_list}
+use Rattle.gh_base.specs.Cells.{InRange}
 use Rattle.gh_base.specs.Steps.{cell_of}
 use Rattle.gh_heap.specs.Moves.{Steps}
 use Rattle.gh_heap.specs.Rights.{Arena, Good, Shared, View, view}
@@ -26,8 +27,13 @@ abbrev pub OwnStep : Type 0
 OwnStep = (z : Arena) (a : ℕ) (s : Shared) (m : Processor) (pending : Option Answer) → ShapesAreGood z.shapes → is_busy_at m.task ≡ true → Good z (view s) → Fine z a (view s) m pending →
     Steps z a s (asks m) (λ t. DoesPoints z a s t m pending (s.words (cell_of (asks m))))
 
+-- it is on a word that there is
+abbrev pub Within : Type 0
+Within = (z : Arena) (a : ℕ) (v : View) (m : Processor) (pending : Option Answer) → Good z v → Fine z a v m pending → InRange z.layout (cell_of (asks m))
+
 pub record RunsByItsRights : Type 0 where
   pub begins : Begins
   pub rests : Rests
   pub own_step : OwnStep
+  pub within : Within
   pub lasts : Lasts

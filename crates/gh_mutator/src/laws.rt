@@ -1,5 +1,6 @@
 //! Laws of the machine. The functions do nothing; what they ensure is proved.
 
+ghost use Rattle.gh_mutator.specs.Acting.{EachOperationActsOnce};
 ghost use Rattle.gh_mutator.specs.Deeds.{OnlyPointsChange, ProcessorsDeedsFit};
 ghost use Rattle.gh_mutator.specs.Ending.{OperationsEnd};
 ghost use Rattle.gh_mutator.specs.Faults.{FaultsChangeNothing};
@@ -34,6 +35,11 @@ pub fn full_changes_little()
     ensures { FullChangesLittle }
 {}
 
+/// An operation that is begun acts once, before it ends, whatever its steps find: also one that has no point.
+pub fn each_operation_acts_once()
+    ensures { EachOperationActsOnce }
+{}
+
 /// An operation that has a point acts once, before it ends, whatever its steps find: statements and the ends of
 /// goroutines have one, a poll and a leave none.
 pub fn the_processors_deeds_fit()
@@ -46,9 +52,9 @@ pub fn only_points_change()
 {}
 
 /// Whatever any number of processors do beside it: an operation begins well where it may begin; each step of the
-/// processor is a move that its rights allow, after which its registers hold what they hold in the heap that
-/// never frees, and it answers what that heap answers, or `full` where it found no room; and what is known of
-/// it lasts.
+/// processor is a move that its rights allow, on a word that there is, after which its registers hold what they
+/// hold in the heap that never frees, and it answers what that heap answers, or `full` where it found no room;
+/// and what is known of it lasts.
 pub fn a_processor_runs_by_its_rights()
     ensures { RunsByItsRights }
 {

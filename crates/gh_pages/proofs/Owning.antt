@@ -5,6 +5,7 @@ use Rattle.std.proofs.lemmas.Bool.Decides.{nat_tests, eqb_tells}
 use Rattle.gh_base.specs.declared.layout.Layout.{Layout}
 use Rattle.gh_base.specs.declared.pack.PageWord.{PageWord}
 use Rattle.gh_base.specs.declared.pack.PageWord.TheVariants as page
+use Rattle.gh_base.specs.Cells.{InRange}
 use Rattle.gh_base.specs.Packing.{PackedWordsAreReadBack, head_word, page_of}
 use Rattle.gh_base.specs.Rows.{Row}
 use Rattle.gh_base.specs.Steps.{cell_of}
@@ -14,7 +15,7 @@ use Rattle.gh_heap.specs.Rights.{Arena, Good, Right, Shared, View, view}
 use Rattle.gh_heap.specs.Spans.{IsSpan, LaidOut, Laying, owner_at, owner_in}
 use Rattle.gh_pages.specs.declared.carve.CarveStage.{CarveStage}
 use Rattle.gh_pages.specs.declared.carve.CarveStage.TheVariants.{Look, Body, Head, Ended}
-use Rattle.gh_pages.specs.Facts.{Carves, CarvesByItsRights, Comes, Facts, FactsAt, FreeBefore, Lasts, Looks, NoRun, NoRunBefore, Opens, OwnStep, fresh_from, laying_at}
+use Rattle.gh_pages.specs.Facts.{Carves, CarvesByItsRights, Comes, Facts, FactsAt, FreeBefore, Lasts, Looks, NoRun, NoRunBefore, Opens, OwnStep, Within, fresh_from, laying_at}
 use Rattle.gh_pages.specs.Listing.{Carving, after_look, asks, at_stage, first_store, fresh_head, gives, gives_at, gives_none, goes, goes_at, is_free, is_last, next_store}
 
 pub record Known : Type 0 where
@@ -260,5 +261,16 @@ module _ (k : Known) (z : Arena) (a : ℕ) (s : Shared) (held : ℕ → Bool) (c
 pub own : Known → OwnStep
 own k z a s held c g right h = own-at k z a s held c c.stage g right h
 
+-- Its words.
+
+within-at : (z : Arena) (c : Carving) (page_words : Row) (q : CarveStage) → FactsAt z c page_words q → InRange z.layout (cell_of (asks (at_stage c q)))
+within-at z c page_words (Look p run) x = x.there
+within-at z c page_words (Body first d) x = omega (arith, x.0.within, x.1)
+within-at z c page_words (Head first) x = omega (arith, x.within, x.some)
+within-at z c page_words Ended x = absurd x
+
+within : Within
+within z a v c x = within-at z c v.page c.stage x.stage
+
 pub carves_by_its_rights : Known → CarvesByItsRights
-carves_by_its_rights k = record { opens = opens; own_step = own k; lasts = lasts k }
+carves_by_its_rights k = record { opens = opens; own_step = own k; within = within; lasts = lasts k }

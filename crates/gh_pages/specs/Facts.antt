@@ -1,6 +1,7 @@
--- What is known at each stage of the search for fresh pages while any number of processors change the heap, under which rights, and the two laws: what each step of its own is, and that what is known lasts whatever others do.
+-- What is known at each stage of the search for fresh pages while any number of processors change the heap, under which rights, and the laws: what each step of its own is, that it is on a word that there is, and that what is known lasts whatever others do.
 use Rattle.std.specs.Prelude.{◌≡◌, ◌≢◌, ℕ, ◌+◌, ◌-◌, ◌*◌, ◌<◌, ◌≤◌, Bool, true, false, Option, Some, None}
 use Rattle.gh_base.specs.declared.pack.PageWord.TheVariants as page
+use Rattle.gh_base.specs.Cells.{InRange}
 use Rattle.gh_base.specs.Packing.{FitsHead, page_of}
 use Rattle.gh_base.specs.Rows.{Row, row_bit}
 use Rattle.gh_base.specs.Steps.{cell_of}
@@ -86,6 +87,10 @@ abbrev pub OwnStep : Type 0
 OwnStep = (z : Arena) (a : ℕ) (s : Shared) (held : ℕ → Bool) (c : Carving) → Good z (view s) → Right a (view s) true held (laying c) → Facts z a (view s) c →
     Steps z a s (asks c) (λ t. KeepsObjects (view s) (view t) × Comes z a (view s) (view t) held (gives c (s.words (cell_of (asks c)))) (goes c (s.words (cell_of (asks c)))))
 
+-- it is on a word that there is
+abbrev pub Within : Type 0
+Within = (z : Arena) (a : ℕ) (v : View) (c : Carving) → Facts z a v c → InRange z.layout (cell_of (asks c))
+
 -- the steps of others
 abbrev pub Lasts : Type 0
 Lasts = (z : Arena) (a : ℕ) (v w : View) (c : Carving) → Others z a v w → v.locked a ≡ true → Facts z a v c → Facts z a w c
@@ -93,4 +98,5 @@ Lasts = (z : Arena) (a : ℕ) (v w : View) (c : Carving) → Others z a v w → 
 pub record CarvesByItsRights : Type 0 where
   pub opens : Opens
   pub own_step : OwnStep
+  pub within : Within
   pub lasts : Lasts

@@ -36,8 +36,8 @@ pub fn fresh_words_are_read_back()
     packed_words_are_read_back();
 }
 
-/// Whatever any number of processors do beside it: each of its steps is a move that its seat may make, and
-/// what is known at each stage holds then and lasts. Where it gives a page, a fresh span stands there, in
+/// Whatever any number of processors do beside it: each of its steps is a move that its seat may make, on
+/// a word that there is, and what is known at each stage holds then and lasts. Where it gives a page, a fresh span stands there, in
 /// which no object is, and the seat holds it; where it gives none, no run of free pages fits.
 pub fn the_carve_keeps_its_facts()
     ensures { CarvesByItsRights }

@@ -46,6 +46,7 @@ use Rattle.gh_mutator.proofs.Owning.Own.{own_steps}
 use Rattle.gh_mutator.proofs.Owning.PlaceSteps.{place-steps}
 use Rattle.gh_mutator.proofs.Owning.Register.{register_steps}
 use Rattle.gh_mutator.proofs.Owning.Store.{store_steps}
+use Rattle.gh_mutator.proofs.Owning.Within.{within}
 
 pub record All : Type 0 where
   pub known : known.Known
@@ -164,4 +165,4 @@ own k z a s m pending sg busy good fine =
     landing z a s _ _ _ (λ t d. record { does = d; answers = points-at z a s t m pending (s.words (cell_of (asks m))) m.task busy fine d }) (steps-at k m.task busy z a s m pending sg refl good fine)
 
 pub runs_by_its_rights : All → RunsByItsRights
-runs_by_its_rights k = record { begins = begins_any k; rests = rests; own_step = own k; lasts = facts_last k.known }
+runs_by_its_rights k = record { begins = begins_any k; rests = rests; own_step = own k; within = within k.finding.find.within k.finding.place.within; lasts = facts_last k.known }
