@@ -5,6 +5,7 @@ pub mod Lists
 pub mod OneOrder
 pub mod Orders
 pub mod Packing
+pub mod Reading
 pub mod Routines
 pub mod Rows
 pub mod Shapes

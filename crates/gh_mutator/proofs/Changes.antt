@@ -7,7 +7,7 @@ use Rattle.gh_alloc.specs.declared.sought.Sought.TheVariants.{Small, Large}
 use Rattle.gh_mutator.specs.Listing.{applied, follows}
 use Rattle.gh_mutator.specs.Processor.{at_task, cache_span, cache_with, registers_with, with_value}
 use Rattle.gh_mutator.specs.Sound.{IsNear, Sound, SoundCached, SoundTask}
-use Rattle.gh_mutator.proofs.Lists.{read_after_set}
+use Rattle.gh_base.specs.Reading.{read_after_set}
 use Rattle.gh_mutator.proofs.Steps.{GoesTo, SetsNear, StepSound}
 
 module _ (shapes : List Shape) where

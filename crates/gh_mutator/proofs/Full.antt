@@ -31,7 +31,7 @@ use Rattle.gh_mutator.specs.Listing.{gives_at, takes_at}
 use Rattle.gh_mutator.specs.New.{after_find, finding, finds_none, gives_at as gives_new, makes, searches, takes_at as takes_new, wanted_of}
 use Rattle.gh_mutator.specs.Processor.{at_task, cache_span, cache_with, cached_in, set_register}
 use Rattle.gh_base.specs.Routines.{told}
-use Rattle.gh_mutator.proofs.Lists.{set_twice}
+use Rattle.gh_base.specs.Reading.{set_twice}
 use Rattle.gh_mutator.proofs.NewSteps.{find_wants}
 use Rattle.gh_mutator.proofs.Telling.{held_before}
 

@@ -20,7 +20,7 @@ use Rattle.gh_mutator.specs.Give.{after_buffer, asks, asks_at, at_stage, begins,
 use Rattle.gh_mutator.specs.GiveSound.{FitsCache}
 use Rattle.gh_mutator.specs.Sound.{SoundCached}
 use Rattle.gh_mutator.specs.Gives.{after, buffer_stores, buffers_by, buffers_written, GivesAll, head_stores, LeftNothing, pages_by, pages_written}
-use Rattle.gh_mutator.proofs.Lists.{read_after_set, read_replicate}
+use Rattle.gh_base.specs.Reading.{read_after_set, read_replicate}
 
 abbrev no_span : Option CachedSpan
 no_span = None

@@ -8,7 +8,6 @@ pub mod Full
 pub mod Giving
 pub mod GlobalSteps
 pub mod Leaving
-pub mod Lists
 pub mod LoadSteps
 pub mod NewSteps
 mod Owning

@@ -23,7 +23,7 @@ use Rattle.gh_mutator.specs.NewParts.{after_making, cached_by, finds, goes_at, m
 use Rattle.gh_mutator.specs.Processor.{at_task, cache_span, cached_for, made_by, set_register}
 use Rattle.gh_mutator.specs.Sound.{most_objects, Sound, SoundTask, SoundWanted}
 use Rattle.gh_mutator.proofs.Changes.{cached_sound, moved, taken}
-use Rattle.gh_mutator.proofs.Lists.{read_after_set}
+use Rattle.gh_base.specs.Reading.{read_after_set}
 
 -- What the search keeps, and where the making of an object goes.
 

@@ -15,5 +15,6 @@ pub mod Register
 pub mod Runs
 pub mod Store
 pub mod Values
+pub mod Vocabulary
 pub mod Wanting
 pub mod Within

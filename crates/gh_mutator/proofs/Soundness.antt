@@ -20,7 +20,7 @@ use Rattle.gh_mutator.specs.Store as store_listing
 use Rattle.gh_mutator.proofs.Changes.{applied_sound, moved}
 use Rattle.gh_mutator.proofs.ClassFacts.{ClassLaws, wanted_sound}
 use Rattle.gh_mutator.proofs.GlobalSteps as global
-use Rattle.gh_mutator.proofs.Lists.{read_replicate}
+use Rattle.gh_base.specs.Reading.{read_replicate}
 use Rattle.gh_mutator.proofs.LoadSteps as load
 use Rattle.gh_mutator.proofs.NewSteps as new
 use Rattle.gh_mutator.proofs.Steps.{StepSound}

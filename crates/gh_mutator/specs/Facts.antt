@@ -1,38 +1,23 @@
 -- What is known of a processor while any number of them change the heap: of its registers, its cached spans and its rights at every moment, and of the statement that it is at; and the laws: what each step of its own is, and that what is known lasts whatever others do.
 use Rattle.std.specs.Prelude.{◌≡◌, ◌≢◌, ℕ, ◌+◌, ◌*◌, ◌^◌, ◌<◌, Bool, true, false, ◌==◌, ◌||◌, if◌then◌else◌, List, [], ◌∷◌, ◌++◌, length, Option, Some, None}
 use Rattle.std.specs.Option.{option_to_list}
-use Rattle.gh_mutator.specs.Vocabulary.{MOST_GOROUTINES, REGISTERS, Name, Op, Shape, Answer, SpanClass, CachedSpan, Sought, Find, Place, Global, LoadStage, NewStage, Processor, Register, Source, StoreStage, Task, Wanted}
-use Rattle.gh_base.specs.declared.limits.TheConstants.{MOST_STATEMENTS}
+use Rattle.gh_mutator.specs.Vocabulary.{Answer, answer_of, Arena, CachedSpan, cell_of, Ever, ever_after, EverValue, Find, Finding, fits, FitsShape, Global, GlobalStage, Good, is_number, IsMade, IsOf, Load, LoadStage, Means, MOST_GOROUTINES, MOST_STATEMENTS, Name, NewStage, Op, Own, page_of, Place, Placing, points, Processor, Register, REGISTERS, Right, Runs, Shape, shape_at, Shared, size_for, Small, Sought, Source, SPAN_CLASSES, SpanClass, SpanHead, Steps, Store, StoreStage, Task, View, view, Wanted}
 use Rattle.gh_base.specs.declared.operation.Op.TheVariants as op
 use Rattle.gh_base.specs.declared.pack.PageWord.TheVariants as page
-use Rattle.gh_base.specs.declared.pack.SpanHead.{SpanHead}
 use Rattle.gh_base.specs.declared.value.Answer.TheVariants as answer
-use Rattle.gh_base.specs.Packing.{page_of}
-use Rattle.gh_base.specs.Shapes.{FitsShape, bits_at, shape_at}
-use Rattle.gh_base.specs.Steps.{cell_of}
+use Rattle.gh_base.specs.Shapes.{bits_at}
 use Rattle.gh_class.specs.declared.class.SizeClass.TheVariants as size
-use Rattle.gh_class.specs.declared.class.TheConstants.{SPAN_CLASSES}
-use Rattle.gh_model.specs.declared.EverValue.{EverValue}
 use Rattle.gh_model.specs.declared.EverValue.TheVariants as ever
-use Rattle.gh_model.specs.Ever.{Ever, answer_of, ever_after, fits, is_number}
-use Rattle.gh_heap.specs.Moves.{Others, Runs, Steps}
-use Rattle.gh_heap.specs.Objects.{IsMade, Means, points, size_for}
-use Rattle.gh_heap.specs.Rights.{Arena, Good, IsOf, Right, Shared, View, view}
+use Rattle.gh_heap.specs.Moves.{Others}
 use Rattle.gh_heap.specs.Spans.{Laying}
-use Rattle.gh_alloc.specs.declared.sought.Sought.TheVariants.{Small}
 use Rattle.gh_alloc.specs.FindFacts as find
-use Rattle.gh_alloc.specs.Find.{Finding, span_for}
+use Rattle.gh_alloc.specs.Find.{span_for}
 use Rattle.gh_alloc.specs.PlaceFacts as place
-use Rattle.gh_alloc.specs.Place.{Placing}
 use Rattle.gh_pages.specs.Facts.{NoRun}
-use Rattle.gh_mutator.specs.declared.global.GlobalStage.{GlobalStage}
 use Rattle.gh_mutator.specs.declared.global.GlobalStage.TheVariants as global_stage
-use Rattle.gh_mutator.specs.declared.load.Load.{Load}
 use Rattle.gh_mutator.specs.declared.load.LoadStage.TheVariants as load_stage
-use Rattle.gh_mutator.specs.declared.own.Own.{Own}
 use Rattle.gh_mutator.specs.declared.own.Own.TheVariants as own_step
 use Rattle.gh_mutator.specs.declared.register.Source.TheVariants as source
-use Rattle.gh_mutator.specs.declared.store.Store.{Store}
 use Rattle.gh_mutator.specs.declared.store.StoreStage.TheVariants as store_stage
 use Rattle.gh_mutator.specs.declared.task.Task.TheVariants as task
 use Rattle.gh_mutator.specs.Listing.{Act, acts, asks, begins, gives, takes}

@@ -2,10 +2,7 @@
 use Rattle.std.specs.Prelude.{◌≡◌, ℕ, true, false, ◌++◌, Option, None}
 use Rattle.std.specs.Option.{option_to_list}
 use Rattle.gh_base.specs.Cells.{InRange}
-use Rattle.gh_base.specs.Steps.{cell_of}
-use Rattle.gh_heap.specs.Moves.{Steps}
-use Rattle.gh_heap.specs.Rights.{Arena, Good, Shared, View, view}
-use Rattle.gh_mutator.specs.Vocabulary.{Answer, Op, Processor}
+use Rattle.gh_mutator.specs.Vocabulary.{Answer, Arena, cell_of, Good, Op, Processor, Shared, Steps, View, view}
 use Rattle.gh_mutator.specs.Deeds.{given_at, point_of}
 use Rattle.gh_mutator.specs.Facts.{Does, Fine, Lasts, MayBegin, ShapesAreGood, answered_at}
 use Rattle.gh_mutator.specs.Listing.{acts, asks, begins, gives, is_busy_at}

@@ -11,13 +11,9 @@ use Rattle.gh_mutator.specs.Deeds.{processor_kind}
 use Rattle.gh_mutator.specs.Listing.{asks, takes}
 use Rattle.gh_world.specs.declared.turns.Next.TheVariants as next
 use Rattle.gh_world.specs.Order.{setting_of, begun_in, ever_of, ended_in, ends, has_left, leaves}
-use Rattle.gh_world.specs.Runs.{IsRun, IsRunSoFar, RunsGoOn, RunsEndWhole}
+use Rattle.gh_world.specs.Runs.{EveryLegalListGoesOn, IsRun, IsRunSoFar, RunsGoOn, RunsEndWhole}
 use Rattle.gh_world.specs.Turns.{count_of, to_come, later, turns_of, total_of, op_due, is_over, Stands, MayBeOver, IsPast, Follows}
 use Rattle.gh_world.specs.World.{opening, Fit, LaysOut, progress_after}
-use Rattle.gh_world.proofs.Asking.{asks_within, seat_stays}
-use Rattle.gh_world.proofs.Every.{all_steps}
-use Rattle.gh_world.proofs.Step.{Laws}
-use Rattle.gh_world.proofs.Whole.{held}
 use Rattle.gh_world.proofs.OneRun.{before, before_turns}
 use Rattle.gh_world.proofs.Turning.{turns_from, none_from, passed, has_one, later_here, later_after, later_none, over_here, over_next, opens_at, follows_run, count-le}
 use Rattle.gh_world.proofs.WorldFacts.{begins_due, begun_busy, ended_after, fit_begun, fit_opens, fit_stepped, has_due, idle_not_leaving, left_after, opening_progress, shapes_good, turns_next}
@@ -93,7 +89,7 @@ left_is t e = grind arith
 left_leaves : (t : Task) → has_left_at t ≡ true → is_leaving t ≡ true
 left_leaves t e = grind arith
 
-module _ (laws : Laws) (p : Program) (l : Layout) (formed : WellFormed p) (lays : LaysOut p l) where
+module _ (within : EveryLegalListGoesOn) (p : Program) (l : Layout) (formed : WellFormed p) (lays : LaysOut p l) where
   abbrev after_list : List (Entry Op) → Processor
   after_list es = state_of (processor_kind p.shapes l) 0 es
 
@@ -108,7 +104,6 @@ module _ (laws : Laws) (p : Program) (l : Layout) (formed : WellFormed p) (lays 
     noted : ℕ
     room : ℕ
     fit : Fit p l list (mutating m marks) progress noted room
-    seat : m.seat ≡ 0
     turns : turns_of p ≡ reverse bs ++ to_come p progress.next
     ended : (g : ℕ) → over g ≡ true → MayBeOver p progress.next g
     left : gone ≡ true → is_over progress.next ≡ true
@@ -130,7 +125,6 @@ module _ (laws : Laws) (p : Program) (l : Layout) (formed : WellFormed p) (lays 
         noted = 0;
         room = total_of p;
         fit = fit_opens p l (replicate (length_of l) 0) c.turn (total_of p) formed lays (length-replicate {A = ℕ} (length_of l) 0) (omega arith) c.come c.stands c.going;
-        seat = refl;
         turns = opens_at p ∙ sym c.come;
         ended = λ g e. absurd cc;
         left = λ e. absurd cc;
@@ -138,7 +132,7 @@ module _ (laws : Laws) (p : Program) (l : Layout) (formed : WellFormed p) (lays 
 
   begin_none : (es : List (Entry Op)) → Behind es → is_busy_at (after_list es).task ≡ true → Begun es None
   begin_none es k busy = (
-    record { list = k.list; progress = k.progress; marks = k.marks; noted = k.noted; room = k.room; fit = k.fit; seat = k.seat; turns = k.turns; ended = k.ended; left = k.left },
+    record { list = k.list; progress = k.progress; marks = k.marks; noted = k.noted; room = k.room; fit = k.fit; turns = k.turns; ended = k.ended; left = k.left },
     busy,
   )
 
@@ -152,7 +146,6 @@ module _ (laws : Laws) (p : Program) (l : Layout) (formed : WellFormed p) (lays 
           noted = k.noted;
           room = k.room;
           fit = fit_begun p l k.list (mutating (after_list es) k.marks) k.progress k.noted k.room o f.turn k.fit due f.follows;
-          seat = k.seat;
           turns = turns_next p l formed lays k.progress (Some o) f.turn (begun_in p.shapes l es) f.follows k.turns;
           ended = ended_after p k.progress.next (Some o) f.turn es f.follows k.ended;
           left = left_after p k.progress.next (Some o) f.turn es f.follows (λ q e. due ∙ e) k.left;
@@ -168,7 +161,7 @@ module _ (laws : Laws) (p : Program) (l : Layout) (formed : WellFormed p) (lays 
       let is : after_list (e ∷ es) ≡ takes p.shapes m e.found = ap (λ (c : Bool). cond c (takes p.shapes m e.found) (after_list es)) (eq-eqb e.actor 0 zeroth) in
       let after = fit_stepped p l k.list (mutating m k.marks) k.progress k.noted k.room e.found k.fit b.1 in
       subst (λ (n : Processor). Keeps n (begun_in p.shapes l (e ∷ es)) (ended_in (e ∷ es)) (has_left (e ∷ es))) (sym is)
-      (record { list = _; progress = k.progress; marks = _; noted = _; room = k.room; fit = after; seat = seat_stays p.shapes m e.found ∙ k.seat; turns = k.turns; ended = k.ended; left = k.left })
+      (record { list = _; progress = k.progress; marks = _; noted = _; room = k.room; fit = after; turns = k.turns; ended = k.ended; left = k.left })
 
   -- what begins behind a list is what is due
   begun_as_due : (es : List (Entry Op)) (o : Option Op) (rest : List Op) → Behind es → Begins (setting_of p.shapes l opening) 0 es o → turns_of p ≡ reverse (begun_in p.shapes l es) ++ (option_to_list o ++ rest) → Begun es o
@@ -192,22 +185,11 @@ module _ (laws : Laws) (p : Program) (l : Layout) (formed : WellFormed p) (lays 
     found = words_after opening es (cell_of (asks (started (processor_kind p.shapes l) o (after_list es))));
   }
 
-  seat_begun : (o : Option Op) (m : Processor) → (started (processor_kind p.shapes l) o m).seat ≡ m.seat
-  seat_begun None m = refl
-  seat_begun (Some o) m = refl
-
-  -- it is on a word that there is
-  next_within : (es : List (Entry Op)) → IsRunSoFar p l es → (o : Option Op) → Begins (setting_of p.shapes l opening) 0 es o → InRange l (cell_of (asks (started (processor_kind p.shapes l) o (after_list es))))
-  next_within es r o begins =
-      let good = shapes_good p formed in
-      let h = held p.shapes l opening laws (all_steps p.shapes l laws good (2 ^ 64 - 1)) es r.legal o begins in
-      asks_within p.shapes l (words_after opening es) h.address (ever_of p.shapes l es) (started (processor_kind p.shapes l) o (after_list es)) h.pending good h.holding (seat_begun o (after_list es) ∙ (behind es r).seat)
-
   follows_so : (es : List (Entry Op)) (o : Option Op) → IsRunSoFar p l es → Begun es o → Begins (setting_of p.shapes l opening) 0 es o → (e : Entry Op) × IsRunSoFar p l (e ∷ es)
   follows_so es o r b begins = (
     entry es o,
     record {
-      legal = (r.legal, record { actor = omega arith; begins = begins; runs = b.1; asks = refl; within = next_within es r o begins; found = refl });
+      legal = (r.legal, record { actor = omega arith; begins = begins; runs = b.1; asks = refl; within = within p.shapes l (2 ^ 64 - 1) (shapes_good p formed) es o r.legal begins; found = refl });
       to_come = to_come p b.0.progress.next;
       turns = b.0.turns;
     },
@@ -232,8 +214,8 @@ module _ (laws : Laws) (p : Program) (l : Layout) (formed : WellFormed p) (lays 
         done = left_is (after_list es).task left;
       }
 
-pub runs_go_on : Laws → RunsGoOn
-runs_go_on laws p l es formed lays r going = goes_on laws p l formed lays es r going
+pub runs_go_on : EveryLegalListGoesOn → RunsGoOn
+runs_go_on within p l es formed lays r going = goes_on within p l formed lays es r going
 
-pub runs_end_whole : Laws → RunsEndWhole
-runs_end_whole laws p l es formed lays r left = ends_whole laws p l formed lays es r left
+pub runs_end_whole : EveryLegalListGoesOn → RunsEndWhole
+runs_end_whole within p l es formed lays r left = ends_whole within p l formed lays es r left

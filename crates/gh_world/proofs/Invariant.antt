@@ -8,7 +8,7 @@ use Rattle.gh_base.specs.declared.machine.Entry.{Entry}
 use Rattle.gh_base.specs.declared.operation.Op.{Op}
 use Rattle.gh_base.specs.declared.operation.Op.TheVariants as op
 use Rattle.gh_base.specs.declared.value.Answer.{Answer}
-use Rattle.gh_base.specs.Cells.{Words}
+use Rattle.gh_base.specs.Cells.{InRange, Words}
 use Rattle.gh_base.specs.Lists.{Begins, Legal, MayFollow, Setting, by, started, state_of, words_after}
 use Rattle.gh_base.specs.Orders.{Answered, DeedsFit, answered, answered_by, before_step, done_at, given_by, left_at, model_after, with_point}
 use Rattle.gh_base.specs.Steps.{cell_of, effect}
@@ -31,7 +31,7 @@ pub record Which (z : Arena) : Type 0 where
   pub actors : ℕ
   pub few : actors ≤ z.layout.procs
   pub may : ℕ → List (Entry Op) → Op → Bool
-  pub runs : (a : ℕ) (es : List (Entry Op)) (o : Op) → may a es o ≡ true → may_run z a (state_of (processor_kind z.shapes z.layout) a es) es o ≡ true
+  pub runs : (a : ℕ) (es : List (Entry Op)) (o : Op) → a < actors → may a es o ≡ true → may_run z a (state_of (processor_kind z.shapes z.layout) a es) es o ≡ true
 
 abbrev pub setting_by : (z : Arena) → Which z → Setting Processor Op
 setting_by z w = record { kind = processor_kind z.shapes z.layout; layout = z.layout; actors = w.actors; opening = w.opening; may_begin = w.may }
@@ -61,6 +61,36 @@ module _ (z : Arena) (w : Which z) where
     pub answers : (a : ℕ) → a < w.actors → answers_by a es ≡ option_to_list (pending a) ++ gave a es
     pub ended : (a g : ℕ) → a < w.actors → IsOf z a g → ((deeds z.shapes).unacted (at es a) ≡ Some (op.End g)) ⊎ (s.ever.ended g ≡ true) → ended_in (by a es) g ≡ true
 
+-- A list with one answer more, where that is answered at its point, before what it is to be given.
+
+abbrev ans : List (Answered Act Answer) → List Answer
+ans xs = map (λ (x : Answered Act Answer). x.answer) xs
+
+pub regroup : {A : Type 0} (x p q g old : List A) (rest : List A) → x ++ p ≡ q ++ g → old ≡ p ++ rest → x ++ old ≡ q ++ (g ++ rest)
+regroup x p q g old rest e f = ap (λ y. x ++ y) f ∙ sym (append_assoc x p rest) ∙ ap (λ y. y ++ rest) e ∙ append_assoc q g rest
+
+-- What begins behind the list, or goes on.
+module _ (k : Known) (z : Arena) (sg : ShapesAreGood z.shapes) (w : Which z) (es : List (Entry Op)) (h : Inv z w es) (a : ℕ) (few : a < w.actors) where
+  -- what is known of the processor then, and that nothing is pending where an operation begins
+  pub record Begun (b : Option Op) : Type 0 where
+    pub pending : Option Answer
+    pub is : h.pending a ≡ pending
+    pub fine : Fine z a (view h.s) (started (processor_kind z.shapes z.layout) b (at z w es a)) pending
+
+  pub begun : (b : Option Op) → Begins (setting_by z w) a es b → Begun b
+  begun None begins = record { pending = h.pending a; is = refl; fine = h.fine a few }
+  begun (Some o) begins =
+      let none : h.pending a ≡ None = k.run.rests z a (view h.s) (at z w es a) (h.pending a) begins.0 (h.fine a few) in
+      let rest : Fine z a (view h.s) (at z w es a) None = subst (λ (p : Option Answer). Fine z a (view h.s) (at z w es a) p) none (h.fine a few) in
+      let own : at z w (by a es) a ≡ at z w es a = sym (k.own (processor_kind z.shapes z.layout) a es) in
+      let run : may_run z a (at z w es a) (by a es) o ≡ true = subst (λ (y : Processor). may_run z a y (by a es) o ≡ true) own (w.runs a (by a es) o few begins.1) in
+      let can = may-begin z a (view h.s) (at z w es a) (by a es) (λ g of is. h.ended a g few of (inr is)) (λ g of. rest.steady.counts g of) o run in
+      record { pending = None; is = none; fine = k.run.begins z a (view h.s) (at z w es a) o sg h.good rest begins.0 can }
+
+  -- its step is on a word that there is
+  pub within : (b : Option Op) → Begins (setting_by z w) a es b → InRange z.layout (cell_of (asks (started (processor_kind z.shapes z.layout) b (at z w es a))))
+  within b begins = let x = begun b begins in k.run.within z a (view h.s) (started (processor_kind z.shapes z.layout) b (at z w es a)) x.pending h.good x.fine
+
 -- One step: the entry's operation is begun, if any is.
 module _ (k : Known) (z : Arena) (sg : ShapesAreGood z.shapes) (w : Which z) (es : List (Entry Op)) (e : Entry Op) (may : MayFollow (setting_by z w) es e) (h : Inv z w es) where
   abbrev a : ℕ
@@ -70,29 +100,14 @@ module _ (k : Known) (z : Arena) (sg : ShapesAreGood z.shapes) (w : Which z) (es
   abbrev m : Processor
   m = started (processor_kind z.shapes z.layout) e.begun (at z w es a)
 
-  -- what is known of it then, and that nothing is pending where an operation begins
-  pub record Begun : Type 0 where
-    pub pending : Option Answer
-    pub is : h.pending a ≡ pending
-    pub fine : Fine z a (view h.s) m pending
-
-  pub begun : Begun
-  begun = go e.begun refl may.begins where
-    go : (b : Option Op) → e.begun ≡ b → Begins (setting_by z w) a es b → Begun
-    go None same begins = record { pending = h.pending a; is = refl; fine = subst (λ (b : Option Op). Fine z a (view h.s) (started (processor_kind z.shapes z.layout) b (at z w es a)) (h.pending a)) (sym same) (h.fine a may.actor) }
-    go (Some o) same begins =
-        let none : h.pending a ≡ None = k.run.rests z a (view h.s) (at z w es a) (h.pending a) begins.0 (h.fine a may.actor) in
-        let rest : Fine z a (view h.s) (at z w es a) None = subst (λ (p : Option Answer). Fine z a (view h.s) (at z w es a) p) none (h.fine a may.actor) in
-        let own : at z w (by a es) a ≡ at z w es a = sym (k.own (processor_kind z.shapes z.layout) a es) in
-        let run : may_run z a (at z w es a) (by a es) o ≡ true = subst (λ (y : Processor). may_run z a y (by a es) o ≡ true) own (w.runs a (by a es) o begins.1) in
-        let can = may-begin z a (view h.s) (at z w es a) (by a es) (λ g of is. h.ended a g may.actor of (inr is)) (λ g of. rest.steady.counts g of) o run in
-        record { pending = None; is = none; fine = subst (λ (b : Option Op). Fine z a (view h.s) (started (processor_kind z.shapes z.layout) b (at z w es a)) None) (sym same) (k.run.begins z a (view h.s) (at z w es a) o sg h.good rest begins.0 can) }
+  pub starts : Begun k z sg w es h a may.actor e.begun
+  starts = begun k z sg w es h a may.actor e.begun may.begins
 
   abbrev found : ℕ
   found = h.s.words (cell_of (asks m))
 
-  pub step : Steps z a h.s (asks m) (λ t. DoesPoints z a h.s t m begun.pending found)
-  step = k.run.own_step z a h.s m begun.pending sg may.runs h.good begun.fine
+  pub step : Steps z a h.s (asks m) (λ t. DoesPoints z a h.s t m starts.pending found)
+  step = k.run.own_step z a h.s m starts.pending sg may.runs h.good starts.fine
 
   pub t : Shared
   t = moved z a h.s step.move
@@ -100,9 +115,9 @@ module _ (k : Known) (z : Arena) (sg : ShapesAreGood z.shapes) (w : Which z) (es
   pub found-is : found ≡ e.found
   found-is = ap (λ (y : Words). y (cell_of (asks m))) h.words ∙ ap (λ (q : Ask). words_after w.opening es (cell_of q)) (sym may.asks) ∙ sym may.found
 
-  pub does : DoesPoints z a h.s t m begun.pending e.found
+  pub does : DoesPoints z a h.s t m starts.pending e.found
   unfolding t
-  does = subst (λ (n : ℕ). DoesPoints z a h.s t m begun.pending n) found-is step.after
+  does = subst (λ (n : ℕ). DoesPoints z a h.s t m starts.pending n) found-is step.after
 
   others : (b : ℕ) → b ≢ a → Others z b (view h.s) (view t)
   unfolding t
@@ -118,16 +133,9 @@ module _ (k : Known) (z : Arena) (sg : ShapesAreGood z.shapes) (w : Which z) (es
     go true same = subst (λ (c : ℕ). Fine z c (view t) ((processor_kind z.shapes z.layout).takes (started (processor_kind z.shapes z.layout) e.begun (at z w es c)) e.found) does.does.after) (eqb-true a b same) does.does.fine
     go false other = k.run.lasts z b (view h.s) (view t) (at z w es b) (h.pending b) h.good (others b (λ q. eqb-false a b other (sym q))) (h.fine b lt)
 
-  -- what is answered at its point comes before what it is to be given
-  abbrev ans : List (Answered Act Answer) → List Answer
-  ans xs = map (λ (x : Answered Act Answer). x.answer) xs
-
   split : (v : Ever) (x : Option Act) (xs : List (Answered Act Answer)) → ans (option_to_list (answered (meaning z.shapes) v x) ++ xs) ≡ option_to_list (answered_at z.shapes v x) ++ ans xs
   split v None xs = refl
   split v (Some x) xs = refl
-
-  regroup : {A : Type 0} (x p q g old : List A) (rest : List A) → x ++ p ≡ q ++ g → old ≡ p ++ rest → x ++ old ≡ q ++ (g ++ rest)
-  regroup x p q g old rest e f = ap (λ y. x ++ y) f ∙ sym (append_assoc x p rest) ∙ ap (λ y. y ++ rest) e ∙ append_assoc q g rest
 
   abbrev point : Option Act
   point = (deeds z.shapes).acts m e.found
@@ -136,9 +144,9 @@ module _ (k : Known) (z : Arena) (sg : ShapesAreGood z.shapes) (w : Which z) (es
   given = (deeds z.shapes).gives m e.found
 
   own-answers : ans (option_to_list (answered (meaning z.shapes) (ever_of z w es) point) ++ answered_by (processor_kind z.shapes z.layout) (deeds z.shapes) (meaning z.shapes) a es) ≡ option_to_list does.does.after ++ (option_to_list given ++ gave z w a es)
-  own-answers = split (ever_of z w es) point _ ∙ regroup (option_to_list (answered_at z.shapes (ever_of z w es) point)) (option_to_list begun.pending) (option_to_list does.does.after) (option_to_list given) _ (gave z w a es)
-      (subst (λ (v : Ever). option_to_list (answered_at z.shapes v point) ++ option_to_list begun.pending ≡ option_to_list does.does.after ++ option_to_list given) h.ever does.answers)
-      (subst (λ (p : Option Answer). answers_by z w a es ≡ option_to_list p ++ gave z w a es) begun.is (h.answers a may.actor))
+  own-answers = split (ever_of z w es) point _ ∙ regroup (option_to_list (answered_at z.shapes (ever_of z w es) point)) (option_to_list starts.pending) (option_to_list does.does.after) (option_to_list given) _ (gave z w a es)
+      (subst (λ (v : Ever). option_to_list (answered_at z.shapes v point) ++ option_to_list starts.pending ≡ option_to_list does.does.after ++ option_to_list given) h.ever does.answers)
+      (subst (λ (p : Option Answer). answers_by z w a es ≡ option_to_list p ++ gave z w a es) starts.is (h.answers a may.actor))
 
   answers-then : (b : ℕ) → b < w.actors → answers_by z w b (e ∷ es) ≡ option_to_list (pending-then b) ++ gave z w b (e ∷ es)
   unfolding pending-then
@@ -218,3 +226,8 @@ module _ (k : Known) (z : Arena) (sg : ShapesAreGood z.shapes) (w : Which z) (es
     answers = answers-then;
     ended = ended-then;
   }
+
+  -- what is pending then for the actor
+  pub pending-here : inv-step.pending e.actor ≡ does.does.after
+  unfolding inv-step pending-then
+  pending-here = ap (λ (c : Bool). cond c does.does.after (h.pending a)) (eq-eqb a a refl)

@@ -9,6 +9,7 @@ use Rattle.gh_base.specs.declared.shape.Shape.{Shape}
 use Rattle.gh_base.specs.Cells.{Words, opening_words}
 use Rattle.gh_base.specs.Lists.{Legal, MayFollow, started, state_of, words_after}
 use Rattle.gh_base.specs.Orders.{done_at}
+use Rattle.gh_base.specs.Shapes.{shape_at}
 use Rattle.gh_heap.specs.Rights.{Arena, IsOf, view}
 use Rattle.gh_alloc.specs.declared.sought.Sought.{Sought}
 use Rattle.gh_mutator.specs.declared.processor.Processor.{Processor}
@@ -19,7 +20,7 @@ use Rattle.gh_mutator.specs.New.{sought_for}
 use Rattle.gh_mutator.specs.Processor.{cached_for}
 use Rattle.gh_mutator.specs.Runs.{DoesPoints}
 use Rattle.gh_world.specs.Order.{has_left}
-use Rattle.gh_world.specs.Processors.{AnswersAsEver, EveryListOfProcessorsStands, FullOnlyThere, IsFullFor, ListStands, NoRoomFor, arena_of, has_more, may_begin, may_leave, may_run, setting}
+use Rattle.gh_world.specs.Processors.{AnswersAsEver, EveryListOfProcessorsStands, FullOnlyThere, IsFullFor, ListStands, NoRoomFor, OfNew, arena_of, has_more, may_begin, may_leave, may_run, setting}
 use Rattle.gh_world.proofs.Interleaving.{Known, both}
 use Rattle.gh_world.proofs.Invariant.{Inv, Which, at, begun, does, inv-step, setting_by}
 use Rattle.gh_world.proofs.Opening.{inv-opening}
@@ -34,19 +35,20 @@ starts z (Some o) m sought = refl
 none-cached : (z : Arena) (a : ℕ) (words : Words) (m y : Processor) (sought : Sought) → cached_for m sought ≡ cached_for y sought → NoRoomFor z a words m sought → NoRoomFor z a words y sought
 none-cached z a words m y sought same f = record { own = sym same ∙ f.own; slots = f.slots; swept = f.swept; run = f.run }
 
-full-starts : (z : Arena) (a : ℕ) (words : Words) (m y : Processor) (o : Op) → ((sought : Sought) → cached_for m sought ≡ cached_for y sought) → IsFullFor z a words m o → IsFullFor z a words y o
-full-starts z a words m y (op.New g d t) same f = none-cached z a words m y _ (same _) f
-full-starts z a words m y (op.Load g d b i) same f = f
-full-starts z a words m y (op.Store g b i c) same f = f
-full-starts z a words m y (op.GetGlobal g d i) same f = f
-full-starts z a words m y (op.SetGlobal g i c) same f = f
-full-starts z a words m y (op.Int g d n) same f = f
-full-starts z a words m y (op.Move g d c) same f = f
-full-starts z a words m y (op.Nil g d) same f = f
-full-starts z a words m y (op.Gc g) same f = f
-full-starts z a words m y op.Poll same f = f
-full-starts z a words m y (op.End g) same f = f
-full-starts z a words m y op.Leave same f = f
+-- what follows of what is sought follows of the operation
+pub of-new : (shapes : List Shape) (P Q : Sought → Type 0) (o : Op) → ((sought : Sought) → P sought → Q sought) → OfNew shapes P o → OfNew shapes Q o
+of-new shapes P Q (op.New g d t) follows f = follows (sought_for (shape_at shapes t)) f
+of-new shapes P Q (op.Load g d b i) follows f = f
+of-new shapes P Q (op.Store g b i c) follows f = f
+of-new shapes P Q (op.GetGlobal g d i) follows f = f
+of-new shapes P Q (op.SetGlobal g i c) follows f = f
+of-new shapes P Q (op.Int g d n) follows f = f
+of-new shapes P Q (op.Move g d c) follows f = f
+of-new shapes P Q (op.Nil g d) follows f = f
+of-new shapes P Q (op.Gc g) follows f = f
+of-new shapes P Q op.Poll follows f = f
+of-new shapes P Q (op.End g) follows f = f
+of-new shapes P Q op.Leave follows f = f
 
 regroup : (b c d e : Bool) → (b && c && d && e) ≡ true → (b && (c && d && e)) ≡ true
 regroup true c d e h = h
@@ -62,13 +64,14 @@ point-acts (Some x) y e = go (has_point x.op) refl e where
 
 module _ (k : Known) (heap : Heap) (z : Arena) (sg : ShapesAreGood z.shapes) (w : Which z) (seats : (g : ℕ) → z.seat_of g < w.actors) where
   -- an answer `full` where the entry acts
-  here : (es : List (Entry Op)) (e : Entry Op) (may : MayFollow (setting_by z w) es e) (h : Inv z w es) (x : Act) → done_at (processor_kind z.shapes z.layout) (deeds z.shapes) es e ≡ Some x → x.full ≡ true →
+  pub full-here : (es : List (Entry Op)) (e : Entry Op) (may : MayFollow (setting_by z w) es e) (h : Inv z w es) (x : Act) → acts (started (processor_kind z.shapes z.layout) e.begun (at z w es e.actor)) e.found ≡ Some x → x.full ≡ true →
       IsFullFor z e.actor (words_after w.opening es) (at z w es e.actor) x.op
-  here es e may h x acts full =
-      let found = (does k z sg w es e may h).does.full x (point-acts _ x acts) full in
-      let full : IsFullFor z e.actor h.s.words (started (processor_kind z.shapes z.layout) e.begun (at z w es e.actor)) x.op = full-for heap z w es h seats e.actor (started (processor_kind z.shapes z.layout) e.begun (at z w es e.actor)) x.op found in
-      subst (λ (y : Words). IsFullFor z e.actor y (at z w es e.actor) x.op) h.words
-      (full-starts z e.actor h.s.words (started (processor_kind z.shapes z.layout) e.begun (at z w es e.actor)) (at z w es e.actor) x.op (starts z e.begun (at z w es e.actor)) full)
+  full-here es e may h x acts full =
+      let m = at z w es e.actor in
+      let found = (does k z sg w es e may h).does.full x acts full in
+      let begun : IsFullFor z e.actor h.s.words (started (processor_kind z.shapes z.layout) e.begun m) x.op = full-for heap z w es h seats e.actor (started (processor_kind z.shapes z.layout) e.begun m) x.op found in
+      subst (λ (y : Words). IsFullFor z e.actor y m x.op) h.words
+      (of-new z.shapes (NoRoomFor z e.actor h.s.words (started (processor_kind z.shapes z.layout) e.begun m)) (NoRoomFor z e.actor h.s.words m) x.op (λ sought. none-cached z e.actor h.s.words (started (processor_kind z.shapes z.layout) e.begun m) m sought (starts z e.begun m sought)) begun)
 
   pub record Lasts (es : List (Entry Op)) : Type 0 where
     pub inv : Inv z w es
@@ -78,7 +81,7 @@ module _ (k : Known) (heap : Heap) (z : Arena) (sg : ShapesAreGood z.shapes) (w 
   lasts opens [] legal = record { inv = opens; full = tt }
   lasts opens (e ∷ es) legal =
       let before = lasts opens es legal.0 in
-      record { inv = inv-step k z sg w es e legal.1 before.inv; full = (before.full, here es e legal.1 before.inv) }
+      record { inv = inv-step k z sg w es e legal.1 before.inv; full = (before.full, λ x acts full. full-here es e legal.1 before.inv x (point-acts _ x acts) full) }
 
   pub list-stands : (opens : Inv z w []) → w.actors ≡ z.layout.procs → (es : List (Entry Op)) → Legal (setting_by z w) es → ListStands z w.opening es
   list-stands opens all es legal =
@@ -98,7 +101,7 @@ module _ (k : Known) (heap : Heap) (shapes : List Shape) (l : Layout) (trigger :
     actors = l.procs;
     few = omega arith;
     may = λ a es o. may_begin (arena_of shapes l) counts a (state_of (processor_kind shapes l) a es) es o;
-    runs = λ a es o may. (both (may_run (arena_of shapes l) a (state_of (processor_kind shapes l) a es) es o) (not (has_left es) && has_more counts es o && may_leave (arena_of shapes l) a es o) (regroup (may_run (arena_of shapes l) a (state_of (processor_kind shapes l) a es) es o) (not (has_left es)) (has_more counts es o) (may_leave (arena_of shapes l) a es o) may)).0;
+    runs = λ a es o lt may. (both (may_run (arena_of shapes l) a (state_of (processor_kind shapes l) a es) es o) (not (has_left es) && has_more counts es o && may_leave (arena_of shapes l) a es o) (regroup (may_run (arena_of shapes l) a (state_of (processor_kind shapes l) a es) es o) (not (has_left es)) (has_more counts es o) (may_leave (arena_of shapes l) a es o) may)).0;
   }
 
   pub every-here : (es : List (Entry Op)) → Legal (setting (arena_of shapes l) counts (opening_words trigger)) es → ListStands (arena_of shapes l) (opening_words trigger) es

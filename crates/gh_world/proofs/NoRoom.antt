@@ -16,9 +16,10 @@ use Rattle.gh_base.specs.Lists.{words_after}
 use Rattle.gh_model.specs.declared.EverValue.{EverValue}
 use Rattle.gh_model.specs.declared.EverValue.TheVariants as values
 use Rattle.gh_model.specs.Ever.{Ever, answer_of, told, load_answer, store_answer, has_field, is_pointer_field, is_number, fits}
+use Rattle.gh_mutator.specs.Facts.{answer_at}
 use Rattle.gh_mutator.specs.Listing.{acts, Act}
-use Rattle.gh_world.specs.Order.{before_step, ever_of, order_of, answer_at, answered, Answered}
-use Rattle.gh_world.specs.Law.{FullAt, FullOnly, FoundNoRoom, FullMeansNoRoom}
+use Rattle.gh_world.specs.Order.{before_step, ever_of, order_of, answered, Answered}
+use Rattle.gh_world.specs.Law.{FullAt, FullOnly, FoundNoRoom, FullMeansNoRoom, processor_after}
 
 -- the heap that never frees has room for each object
 told_no_full : (v : EverValue) → told v ≡ answer.Full → ⊥
@@ -70,7 +71,7 @@ one_more_at (z ∷ xs) y (suc i) x e = elim (one_more_at xs y i x e) [ inl h ↦
 
 module _ (shapes : List Shape) (l : Layout) (opening : Words) where
   -- an act that is answered `full` found no room
-  full_act : (e : Ever) (a : Act) → answer_at shapes l e a ≡ answer.Full → a.full ≡ true
+  full_act : (e : Ever) (a : Act) → answer_at shapes e a ≡ answer.Full → a.full ≡ true
   full_act e a full = go a.full refl full where
     go : (b : Bool) → a.full ≡ b → cond b answer.Full (answer_of shapes e a.op) ≡ answer.Full → a.full ≡ true
     go true is f = is
@@ -79,8 +80,8 @@ module _ (shapes : List Shape) (l : Layout) (opening : Words) where
   abbrev act_with : Op → Bool → Act
   act_with o full = record { op = o; full = full }
 
-  found_here : (es : List (Entry Op)) (e : Entry Op) (a : Act) (i : ℕ) (x : Answered) → acts (before_step shapes l es e) e.found ≡ Some a → (a.full ≡ true → FullAt shapes l (words_after opening es) a.op) →
-      length (reverse (order_of shapes l es)) ≡ i → record { op = a.op; answer = answer_at shapes l (ever_of shapes l es) a } ≡ x → x.answer ≡ answer.Full → FoundNoRoom shapes l opening (e ∷ es) i x.op
+  found_here : (es : List (Entry Op)) (e : Entry Op) (a : Act) (i : ℕ) (x : Answered) → acts (before_step shapes l es e) e.found ≡ Some a → (a.full ≡ true → FullAt shapes l (words_after opening es) (processor_after shapes l opening es) a.op) →
+      length (reverse (order_of shapes l es)) ≡ i → record { op = a.op; answer = answer_at shapes (ever_of shapes l es) a } ≡ x → x.answer ≡ answer.Full → FoundNoRoom shapes l opening (e ∷ es) i x.op
   found_here es e a i x is room long same full =
       let o : a.op ≡ x.op = ap (λ (y : Answered). y.op) same in
       let sure : a.full ≡ true = full_act (ever_of shapes l es) a (ap (λ (y : Answered). y.answer) same ∙ full) in
@@ -91,7 +92,7 @@ module _ (shapes : List Shape) (l : Layout) (opening : Words) where
         there = refl;
         behind = sym (length-reverse (order_of shapes l es)) ∙ long;
         acted = is ∙ ap (λ (b : Bool). Some (act_with a.op b)) sure ∙ ap (λ (q : Op). Some (act_with q true)) o;
-        no_room = subst (λ (q : Op). FullAt shapes l (words_after opening es) q) o (room sure);
+        no_room = subst (λ (q : Op). FullAt shapes l (words_after opening es) (processor_after shapes l opening es) q) o (room sure);
       }
 
   pub full_means : (es : List (Entry Op)) → FullOnly shapes l opening es → FullMeansNoRoom shapes l opening es
@@ -115,7 +116,7 @@ module _ (shapes : List Shape) (l : Layout) (opening : Words) where
         slice_get (reverse (option_to_list (answered shapes l (ever_of shapes l es) a) ++ order_of shapes l es)) i ≡ Some x → FoundNoRoom shapes l opening (e ∷ es) i x.op
     go None q earlier there = further (earlier there is)
     go (Some a) q earlier there =
-        let y : Answered = record { op = a.op; answer = answer_at shapes l (ever_of shapes l es) a } in
+        let y : Answered = record { op = a.op; answer = answer_at shapes (ever_of shapes l es) a } in
         elim (one_more_at (reverse (order_of shapes l es)) y i x (sym (ap (λ (xs : List Answered). slice_get xs i) (reverse_onto (order_of shapes l es) y [])) ∙ there)) [
           | inl old ↦ further (earlier old is)
           | inr new ↦ found_here es e a i x q (full.1 a q) new.0 new.1 is

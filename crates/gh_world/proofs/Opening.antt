@@ -19,7 +19,7 @@ use Rattle.gh_mutator.specs.Facts.{Fine, lists}
 use Rattle.gh_mutator.specs.Processor.{opening_processor}
 use Rattle.gh_world.proofs.Invariant.{Inv, Which}
 use Rattle.gh_world.proofs.Naming.{named-opening}
-use Rattle.gh_world.proofs.Reading.{read_replicate}
+use Rattle.gh_base.specs.Reading.{read_replicate}
 
 nothing-reached : (n : Name) → Reach opening_ever n → ⊥
 nothing-reached n (from_global k n' e) = cc

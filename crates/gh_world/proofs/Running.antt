@@ -11,7 +11,7 @@ use Rattle.gh_base.specs.declared.value.Answer.TheVariants as answer
 use Rattle.gh_base.specs.declared.operation.Op.TheVariants as op
 use Rattle.gh_base.specs.Lists.{Begins}
 use Rattle.gh_model.specs.Answers.{Answers, ever_after_all}
-use Rattle.gh_world.specs.Order.{setting_of, before_step, begun_in, ever_of, order_of, acted_in, given_in, answer_at, Answered}
+use Rattle.gh_world.specs.Order.{setting_of, before_step, begun_in, ever_of, order_of, acted_in, given_in, Answered}
 use Rattle.gh_world.specs.Turns.{answers_to, goroutine_at, is_statement_of, statement_now, turns_of}
 use Rattle.gh_script.specs.Program.{op_of}
 use Rattle.gh_world.specs.World.{opening, answer_in, now_in}
@@ -21,9 +21,10 @@ use Rattle.gh_world.proofs.EachOnce.{acted_answers, acted_ops, none_beyond, turn
 use Rattle.gh_world.proofs.NoRoom.{full_means}
 use Rattle.gh_world.proofs.StepFacts.{step_facts, begin_facts, begins_busy}
 use Rattle.gh_mutator.specs.Deeds.{processor_kind}
+use Rattle.gh_mutator.specs.Facts.{answer_at}
 use Rattle.gh_mutator.specs.Serving.{answer_at as answer_at_task}
 use Rattle.gh_mutator.specs.Listing.{begins, takes}
-use Rattle.gh_world.proofs.Frames.{both}
+use Rattle.gh_world.proofs.Interleaving.{both}
 
 reverse_more : {A : Type 0} (x : A) (xs : List A) → reverse (x ∷ xs) ≡ reverse xs ++ x ∷ []
 reverse_more x xs = reverse_onto xs x []
@@ -57,11 +58,11 @@ all_long shapes e (p ∷ ps) (b ∷ bs) all = let ih = all_long shapes (ever_aft
 
 module _ (shapes : List Shape) (l : Layout) (opening : Words) where
   -- an act is answered so: `full` for a new object alone
-  act_answers : (e : Ever) (words : Words) (a : Act) → (a.full ≡ true → FullAt shapes l words a.op) → Answers shapes e a.op (answer_at shapes l e a)
-  act_answers e words a full = go a.full refl where
+  act_answers : (e : Ever) (words : Words) (m : Processor) (a : Act) → (a.full ≡ true → FullAt shapes l words m a.op) → Answers shapes e a.op (answer_at shapes e a)
+  act_answers e words m a full = go a.full refl where
     go : (b : Bool) → a.full ≡ b → Answers shapes e a.op (cond a.full answer.Full (answer_of shapes e a.op))
     go true t = rw t (new a.op (full t)) where
-      new : (o : Op) → FullAt shapes l words o → Answers shapes e o answer.Full
+      new : (o : Op) → FullAt shapes l words m o → Answers shapes e o answer.Full
       new (op.New g d t) f = inr refl
       new (op.Load g d b k) f = absurd f
       new (op.Store g b k v) f = absurd f
@@ -94,18 +95,18 @@ module _ (shapes : List Shape) (l : Layout) (opening : Words) where
     all : AllAnswer shapes opening_ever (reverse (ops_in shapes l opening es)) (reverse (answers_in shapes l opening es))
     ever : ever_after_all shapes opening_ever (reverse (ops_in shapes l opening es)) (reverse (answers_in shapes l opening es)) ≡ ever_of shapes l es
 
-  acted_more : (es : List (Entry Op)) (e : Entry Op) (a : Option Act) → acts (before_step shapes l es e) e.found ≡ a → Acted es → ((x : Act) → a ≡ Some x → x.full ≡ true → FullAt shapes l (words_after opening es) x.op) → Acted (e ∷ es)
+  acted_more : (es : List (Entry Op)) (e : Entry Op) (a : Option Act) → acts (before_step shapes l es e) e.found ≡ a → Acted es → ((x : Act) → a ≡ Some x → x.full ≡ true → FullAt shapes l (words_after opening es) (processor_after shapes l opening es) x.op) → Acted (e ∷ es)
   acted_more es e None is h full = record {
     all = rw is h.all;
     ever = rw is h.ever;
   }
   acted_more es e (Some x) is h full =
-      let here = act_answers (ever_of shapes l es) (words_after opening es) x (full x refl) in
+      let here = act_answers (ever_of shapes l es) (words_after opening es) (processor_after shapes l opening es) x (full x refl) in
       let ops = reverse_more x.op (ops_in shapes l opening es) in
-      let answers = reverse_more (answer_at shapes l (ever_of shapes l es) x) (answers_in shapes l opening es) in
+      let answers = reverse_more (answer_at shapes (ever_of shapes l es) x) (answers_in shapes l opening es) in
       record {
-        all = rw is (rw (ops, answers) (all_more shapes opening_ever _ _ x.op (answer_at shapes l (ever_of shapes l es) x) h.all (rw (h.ever) here)));
-        ever = rw is (rw (ops, answers) (ever_more shapes opening_ever _ _ x.op (answer_at shapes l (ever_of shapes l es) x) h.all ∙ ap (λ (y : Ever). ever_after shapes y x.op (answer_at shapes l (ever_of shapes l es) x)) h.ever));
+        all = rw is (rw (ops, answers) (all_more shapes opening_ever _ _ x.op (answer_at shapes (ever_of shapes l es) x) h.all (rw (h.ever) here)));
+        ever = rw is (rw (ops, answers) (ever_more shapes opening_ever _ _ x.op (answer_at shapes (ever_of shapes l es) x) h.all ∙ ap (λ (y : Ever). ever_after shapes y x.op (answer_at shapes (ever_of shapes l es) x)) h.ever));
       }
 
   acted_all : (es : List (Entry Op)) → FullOnly shapes l opening es → Acted es

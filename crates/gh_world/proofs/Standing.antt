@@ -34,7 +34,8 @@ use Rattle.gh_mutator.specs.Facts.{FoundNone, FullAt, ShapesAreGood}
 use Rattle.gh_mutator.specs.Listing.{Act, acts}
 use Rattle.gh_mutator.specs.New.{sought_for}
 use Rattle.gh_mutator.specs.Processor.{cached_for}
-use Rattle.gh_world.specs.Processors.{IsAnothers, IsFullFor, IsTakenPage, IsVacant, NoRoomFor, StandsFor}
+use Rattle.gh_world.specs.Law.{AllStand}
+use Rattle.gh_world.specs.Processors.{IsAnothers, IsFullFor, IsTakenPage, IsVacant, NoRoomFor, StandsFor, StandsForThese}
 use Rattle.gh_world.proofs.Interleaving.{Known}
 use Rattle.gh_world.proofs.Invariant.{Inv, Which, at, ever_of}
 use Rattle.gh_world.proofs.Naming.{reached-made}
@@ -70,38 +71,46 @@ module _ (k : Heap) (z : Arena) (w : Which z) (es : List (Entry Op)) (h : Inv z 
   abbrev v : View
   v = view h.s
 
-  made : (n : Name) → Reach h.s.ever n → IsMade h.s.ever.made n
-  made n r = reached-made h.s.ever h.named n r
-
   few : (n : Name) → IsMade h.s.ever.made n → n.k < 2 ^ 32
   few n m = omega (arith, m, h.good.names.few n.g)
 
-  one : (n m : Name) → Reach h.s.ever n → Reach h.s.ever m → h.s.place n ≡ h.s.place m → n ≡ m
-  one n m r q e = (k.apart z v h.good).once n m (made n r) (made m q) (h.good.reached n r) (h.good.reached m q) e
-
-  stands-here : StandsFor z h.s.words h.s.ever (at z w es)
-  stands-here = record {
+  -- objects that were made and are placed
+  stands-of : (These : Name → Type 0) → ((n : Name) → These n → IsMade h.s.ever.made n) → ((n : Name) → These n → Placed v.alloc v.birth h.s.place n) → StandsForThese z These h.s.words h.s.ever (at z w es)
+  stands-of These made placed = record {
     place = h.s.place;
-    placed = h.good.reached;
+    placed = placed;
     once = λ n a r x.
         let b = h.good.bits a x.set in
         let same : n ≡ b.0 = same-birth n b.0 (few n (made n r)) (few b.0 b.1) (sym x.says ∙ b.3) in
         sym b.2 ∙ ap h.s.place (sym same);
-    slot = λ n r. h.good.slots n (made n r) (h.good.reached n r);
+    slot = λ n r. h.good.slots n (made n r) (placed n r);
     fields = λ n j r lt.
-        let p = h.good.reached n r in
+        let p = placed n r in
         let is : eqb (row_bit v.bitmap (h.s.place n + j)) 1 ≡ points z.shapes h.s.ever.type_of n j = ap (λ (x : ℕ). eqb x 1) (h.good.pointers n j (made n r) p lt) ∙ bit-is (points z.shapes h.s.ever.type_of n j) in
         subst (λ (b : Bool). Holds h.s.place h.s.ever.made b (h.s.ever.field n j) (v.field (h.s.place n + j))) (sym is) (h.good.fields n j (made n r) p lt);
     apart = λ n m i j r q ne li lj.
-        let x = h.good.slots n (made n r) (h.good.reached n r) in
-        let y = h.good.slots m (made m q) (h.good.reached m q) in
-        (k.apart z v h.good).slots x.p y.p x.i y.i (h.s.place n) (h.s.place m) (size_for z.shapes h.s.ever.type_of n) (size_for z.shapes h.s.ever.type_of m) i j x.h y.h x.slot y.slot (λ e. ne (one n m r q e)) li lj;
+        let x = h.good.slots n (made n r) (placed n r) in
+        let y = h.good.slots m (made m q) (placed m q) in
+        (k.apart z v h.good).slots x.p y.p x.i y.i (h.s.place n) (h.s.place m) (size_for z.shapes h.s.ever.type_of n) (size_for z.shapes h.s.ever.type_of m) i j x.h y.h x.slot y.slot (λ e. ne ((k.apart z v h.good).once n m (made n r) (made m q) (placed n r) (placed m q) e)) li lj;
     globals = h.good.globals;
     registers = λ a g d of lt. (h.fine a (subst (λ (b : ℕ). b < w.actors) of.1 (seats g))).steady.registers g d of lt;
   }
 
+  -- after the list
+  here : (P : Words → Ever → Type 0) → P h.s.words h.s.ever → P (words_after w.opening es) (ever_of z w es)
+  here P x = subst (λ (e : Ever). P (words_after w.opening es) e) h.ever (subst (λ (y : Words). P y h.s.ever) h.words x)
+
   pub stands : StandsFor z (words_after w.opening es) (ever_of z w es) (at z w es)
-  stands = subst (λ (e : Ever). StandsFor z (words_after w.opening es) e (at z w es)) h.ever (subst (λ (y : Words). StandsFor z y h.s.ever (at z w es)) h.words stands-here)
+  stands = here (λ y e. StandsFor z y e (at z w es)) (stands-of (Reach h.s.ever) (reached-made h.s.ever h.named) h.good.reached)
+
+  -- while nothing is freed, each object that was made
+  pub all-stand : AllStand z (words_after w.opening es) (ever_of z w es) (at z w es)
+  unfolding stands-of
+  all-stand = here (λ y e. AllStand z y e (at z w es)) (record {
+    these = stands-of (IsMade h.s.ever.made) (λ n made. made) h.good.stays;
+    only = h.good.bits;
+    pointers = λ n j made lt. h.good.pointers n j made (h.good.stays n made) lt;
+  })
 
   -- There is no room.
 

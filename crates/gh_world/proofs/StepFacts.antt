@@ -34,7 +34,7 @@ use Rattle.gh_mutator.specs.Store as store
 use Rattle.gh_world.specs.Order.{in_range}
 use Rattle.gh_world.specs.Turns.{is_unacted, is_leave}
 use Rattle.gh_world.specs.World.{making}
-use Rattle.gh_world.proofs.Reading.{read_after_set}
+use Rattle.gh_base.specs.Reading.{read_after_set}
 
 -- from task t and the processor m to the next one, with the act and the answer of the step
 pub record StepFacts (m : Processor) (t : Task) (next : Processor) (act : Option Act) (given : Option Answer) : Type 0 where

@@ -18,12 +18,12 @@ use Rattle.gh_script.specs.declared.statement.Stmt.TheVariants.{New, Load, Store
 use Rattle.gh_script.specs.Program.{goroutine_at as goroutine_there, op_of, IsStatement, AreStatements, IsPacked}
 use Rattle.gh_world.specs.declared.turns.Next.TheVariants as next
 use Rattle.gh_world.specs.Order.{setting_of, may_begin, in_range, goroutine_of, is_over as is_ended, ends, ended_in, leaves, has_left, begun_in}
-use Rattle.gh_world.specs.Facts.{ShapesGood}
 use Rattle.gh_mutator.specs.Deeds.{processor_kind}
+use Rattle.gh_mutator.specs.Facts.{ShapesAreGood}
 use Rattle.gh_mutator.specs.Sound.{SoundOp}
 use Rattle.gh_world.specs.Turns.{count_of, total_of, turns_of, to_come, later, Stands, MayBeOver, IsPast, is_over, op_due, is_leave, Follows, goroutine_at, statements_among, statements_by, statement_now, is_unacted, next_point}
 use Rattle.gh_world.specs.World.{opening, progress_after, After, Fit, points_in, event_at, event_of, op_at_turn, counts_after, last_after, begun_as, GoesOn, MadeAtMost}
-use Rattle.gh_world.proofs.Reading.{read_after_set, read_replicate}
+use Rattle.gh_base.specs.Reading.{read_after_set, read_replicate}
 use Rattle.gh_world.proofs.StepFacts.{step_facts, begin_facts, StepFacts, BeginFacts, begins_busy}
 use Rattle.gh_world.proofs.Turning.{goroutine_is, has_statement, opens_at, turns_say}
 use Rattle.gh_mutator.specs.Mutating as mutating
@@ -75,8 +75,8 @@ module _ (p : Program) (l : Layout) (r : WellFormed p) (lay : IsLayoutOf p.setti
   due_runs next.Leave o h e = let same : op.Leave ≡ o = cc in subst (Runs p.shapes l) same (record { sound = tt; ranged = refl })
   due_runs next.Over o h e = absurd cc
 
-pub shapes_good : (p : Program) → WellFormed p → ShapesGood p.shapes
-shapes_good p r t h = let s = r.shapes_fit t h in let packed = All-get_or IsPacked p.shapes t no_shape h r.shapes_packed in record { some = s.some_word; most = s.few_words; within = s.none_beyond; narrow = packed.narrow }
+pub shapes_good : (p : Program) → WellFormed p → ShapesAreGood p.shapes
+shapes_good p r = record { fit = r.shapes_fit; narrow = λ t i h. (All-get_or IsPacked p.shapes t no_shape h r.shapes_packed).narrow i }
 
 -- What the world knows of its own state, after a beginning and after a step.
 

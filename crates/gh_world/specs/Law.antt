@@ -1,33 +1,38 @@
--- What every legal list of the processor's steps keeps.
-use Rattle.std.specs.Prelude.{◌≡◌, ◌≢◌, ℕ, ◌+◌, ◌*◌, ◌/◌, ◌<◌, ◌≤◌, true, false, List, [], ◌∷◌, ◌++◌, map, length, slice_get, Some}
-use Rattle.gh_base.specs.declared.cell.Cell.TheVariants.{Birth, Page}
-use Rattle.gh_world.specs.Vocabulary.{birth_word, page_of, slot_in, Ever, Name, Answer, Op, Shape, Layout, Entry, Words, state_of, words_after, Legal, Processor, acts, Act, is_busy_at, wanted_of}
-use Rattle.gh_base.specs.Rows.{row_bit}
+-- What every legal list of one processor's steps keeps: what lists of any number of processors keep, and more, since no other moves.
+use Rattle.std.specs.Prelude.{◌≡◌, ◌≢◌, ℕ, ◌+◌, ◌<◌, true, false, List, [], ◌∷◌, ◌++◌, map, length, slice_get, Option, Some}
+use Rattle.gh_base.specs.declared.cell.Cell.TheVariants as cell
+use Rattle.gh_base.specs.declared.pack.PageWord.TheVariants.{Head}
 use Rattle.gh_base.specs.declared.value.Answer.TheVariants as answer
-use Rattle.gh_base.specs.declared.operation.Op.TheVariants as op
+use Rattle.gh_base.specs.Cells.{InRange}
+use Rattle.gh_base.specs.Lists.{Begins}
+use Rattle.gh_base.specs.Rows.{alloc_words, birth_words, bitmap_words, row_bit}
+use Rattle.gh_class.specs.declared.class.SizeClass.TheVariants as size
+use Rattle.gh_heap.specs.Objects.{BitsGood, IsMade, points, size_for}
+use Rattle.gh_heap.specs.Rights.{Arena}
+use Rattle.gh_heap.specs.Spans.{IsFull}
 use Rattle.gh_mutator.specs.Deeds.{processor_kind}
-use Rattle.gh_world.specs.Order.{setting_of, before_step, begun_in, ever_of, order_of, acted_in, given_in, Answered}
-use Rattle.gh_world.specs.Stands.{NoRoom, pages_row, alloc_row, IsMade, size_of}
-use Rattle.gh_world.specs.Facts.{Good, needs}
+use Rattle.gh_world.specs.Vocabulary.{Act, Answer, Entry, Ever, Layout, Legal, Name, Op, Processor, Shape, Sought, SpanHead, Words, acts, asks, bit, cell_of, is_busy_at, page_of, span_for, started, state_of, words_after}
+use Rattle.gh_world.specs.Order.{Answered, acted_in, before_step, begun_in, ever_of, given_in, order_of, setting_of}
+use Rattle.gh_world.specs.Processors.{NoRoomFor, OfNew, StandsForThese, at_seat}
 
--- there is no room for the object that the operation is to make: each slot of its span class is taken, and no run of free pages fits
-abbrev pub FullAt : List Shape → Layout → Words → Op → Type 0
-FullAt shapes l words (op.New g d t) = let span = needs (wanted_of shapes g d t) in NoRoom l.pages (pages_row words) (alloc_row words) span.class span.noscan span.pages
-FullAt shapes l words _ = ⊥
+-- all goroutines are of the processor at seat 0
+abbrev pub one_of : List Shape → Layout → Arena
+one_of shapes l = record { layout = l; shapes = shapes; seat_of = λ g. 0 }
 
-module _ (shapes : List Shape) (l : Layout) (words : Words) (e : Ever) where
-  -- the object stands at heap word a: its allocation bit is set, its birth word says its name, and the page word gives its slot
-  pub record IsPlaced (n : Name) (a : ℕ) : Type 0 where
-    pub within : a + size_of shapes e n ≤ 1024 * l.pages
-    pub set : row_bit (alloc_row words) a ≡ 1
-    pub birth : words (Birth a) ≡ birth_word n
-    pub slot : slot_in (page_of (words (Page (a / 1024)))) ≡ size_of shapes e n
+-- There is no room for what is so sought: what this means where there are more processors, whose `run` says that no run of free pages fits, empty spans that nobody owns counted as free; and each span of the span class is full. A large object needs no span of that class.
+pub record NoRoom (z : Arena) (words : Words) (m : Processor) (sought : Sought) : Type 0 where
+  pub among : NoRoomFor z 0 words m sought
+  pub slots : (p : ℕ) (h : SpanHead) → (span_for sought).class ≢ size.Large → page_of (words (cell.Page p)) ≡ Head h → h.class ≡ (span_for sought).class → h.noscan ≡ (span_for sought).noscan → IsFull (alloc_words words) p h
 
-  -- each object that was made stands at its address and at no other, and no two share a heap word
-  pub record AreInPlace (address : Name → ℕ) : Type 0 where
-    pub placed : (n : Name) → IsMade e n → IsPlaced n (address n)
-    pub once : (n : Name) (a : ℕ) → IsMade e n → IsPlaced n a → a ≡ address n
-    pub apart : (n n' : Name) (j k : ℕ) → IsMade e n → IsMade e n' → n ≢ n' → j < size_of shapes e n → k < size_of shapes e n' → address n + j ≢ address n' + k
+-- for the object that the operation is to make
+abbrev pub FullAt : List Shape → Layout → Words → Processor → Op → Type 0
+FullAt shapes l words m o = OfNew shapes (NoRoom (one_of shapes l) words m) o
+
+-- While nothing is freed each object that was made stands, whether or not a script reaches it, and no alloc bit is set but theirs; the bitmap tells their pointer fields.
+pub record AllStand (z : Arena) (words : Words) (e : Ever) (at : ℕ → Processor) : Type 0 where
+  pub these : StandsForThese z (IsMade e.made) words e at
+  pub only : BitsGood (alloc_words words) (birth_words words) these.place e.made
+  pub pointers : (n : Name) (k : ℕ) → IsMade e.made n → k < size_for z.shapes e.type_of n → row_bit (bitmap_words words) (these.place n + k) ≡ bit (points z.shapes e.type_of n k)
 
 module _ (shapes : List Shape) (l : Layout) (opening : Words) where
   abbrev pub processor_after : List (Entry Op) → Processor
@@ -42,7 +47,7 @@ module _ (shapes : List Shape) (l : Layout) (opening : Words) where
   -- `full` stands only where there was no room
   abbrev pub FullOnly : List (Entry Op) → Type 0
   FullOnly [] = Unit {0}
-  FullOnly (e ∷ es) = FullOnly es × ((a : Act) → acts (before_step shapes l es e) e.found ≡ Some a → a.full ≡ true → FullAt shapes l (words_after opening es) a.op)
+  FullOnly (e ∷ es) = FullOnly es × ((a : Act) → acts (before_step shapes l es e) e.found ≡ Some a → a.full ≡ true → FullAt shapes l (words_after opening es) (processor_after es) a.op)
 
   -- the operation acted in the list, behind i others, where there was no room
   pub record FoundNoRoom (es : List (Entry Op)) (i : ℕ) (o : Op) : Type 0 where
@@ -52,7 +57,7 @@ module _ (shapes : List Shape) (l : Layout) (opening : Words) where
     pub there : es ≡ later ++ entry ∷ before
     pub behind : length (order_of shapes l before) ≡ i
     pub acted : acts (before_step shapes l before entry) entry.found ≡ Some (record { op = o; full = true })
-    pub no_room : FullAt shapes l (words_after opening before) o
+    pub no_room : FullAt shapes l (words_after opening before) (processor_after before) o
 
   -- whichever operation is answered `full`, it acted where there was no room
   abbrev pub FullMeansNoRoom : List (Entry Op) → Type 0
@@ -60,12 +65,14 @@ module _ (shapes : List Shape) (l : Layout) (opening : Words) where
 
   -- the words stand for the heap that never frees, and where nothing is begun each operation begun has acted once, in order, and was answered as that heap answers it where it acted
   pub record Stands (es : List (Entry Op)) : Type 0 where
-    pub address : Name → ℕ
-    pub good : Good l.pages l.globals l.goroutines shapes (words_after opening es) address (ever_of shapes l es) (processor_after es)
-    pub in_place : AreInPlace shapes l (words_after opening es) (ever_of shapes l es) address
+    pub stand : AllStand (one_of shapes l) (words_after opening es) (ever_of shapes l es) (at_seat (one_of shapes l) opening es)
     pub answers : is_busy_at (processor_after es).task ≡ false → answers_in es ≡ given_in shapes l es
     pub full : FullOnly es
     pub ops : is_busy_at (processor_after es).task ≡ false → ops_in es ≡ begun_in shapes l es
 
   abbrev pub EveryListStands : Type 0
   EveryListStands = (es : List (Entry Op)) → Legal (setting_of shapes l opening) es → Stands es
+
+  -- behind each legal list, whether an operation begins or goes on, its step is on a word that there is
+  abbrev pub EveryStepIsWithin : Type 0
+  EveryStepIsWithin = (es : List (Entry Op)) (b : Option Op) → Legal (setting_of shapes l opening) es → Begins (setting_of shapes l opening) 0 es b → InRange l (cell_of (asks (started (processor_kind shapes l) b (processor_after es))))

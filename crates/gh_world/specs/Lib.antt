@@ -1,8 +1,6 @@
 pub mod Turns
 pub mod Order
 pub mod Processors
-pub mod Stands
-pub mod Facts
 pub mod Law
 pub mod World
 pub mod Runs

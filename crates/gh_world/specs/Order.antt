@@ -1,8 +1,7 @@
 -- Lists of steps of the processor, the newest first: what was begun, where each statement acted, what was answered, and what the heap that never frees is after them.
-use Rattle.std.specs.Prelude.{ℕ, nat_lt, Bool, true, false, not, ◌==◌, ◌&&◌, ◌||◌, if◌then◌else◌, List, [], ◌∷◌, ◌++◌, length, reverse, Option, Some, None}
+use Rattle.std.specs.Prelude.{ℕ, nat_lt, Bool, true, false, not, ◌==◌, ◌&&◌, ◌||◌, List, [], ◌∷◌, ◌++◌, length, reverse, Option, Some, None}
 use Rattle.std.specs.Option.{option_to_list}
 use Rattle.gh_base.specs.declared.value.Answer.{Answer}
-use Rattle.gh_base.specs.declared.value.Answer.TheVariants as answer
 use Rattle.gh_base.specs.declared.operation.Op.{Op}
 use Rattle.gh_base.specs.declared.operation.Op.TheVariants as op
 use Rattle.gh_base.specs.declared.shape.Shape.{Shape}
@@ -11,9 +10,10 @@ use Rattle.gh_base.specs.declared.limits.TheConstants.{REGISTERS}
 use Rattle.gh_base.specs.declared.machine.Entry.{Entry}
 use Rattle.gh_base.specs.Cells.{Words}
 use Rattle.gh_base.specs.Lists.{Setting, state_of, started}
-use Rattle.gh_model.specs.Ever.{Ever, opening_ever, answer_of, ever_after}
+use Rattle.gh_model.specs.Ever.{Ever, opening_ever}
 use Rattle.gh_mutator.specs.declared.processor.Processor.{Processor}
 use Rattle.gh_mutator.specs.Deeds.{processor_kind}
+use Rattle.gh_mutator.specs.Facts.{acted, answer_at}
 use Rattle.gh_mutator.specs.Listing.{gives, acts, Act}
 use Rattle.gh_mutator.specs.Sound.{has_names}
 
@@ -101,22 +101,14 @@ module _ (shapes : List Shape) (l : Layout) where
   begun_in [] = []
   begun_in (e ∷ es) = option_to_list e.begun ++ begun_in es
 
-  -- what an operation is answered where it acts
-  abbrev pub answer_at : Ever → Act → Answer
-  answer_at e a = if a.full then answer.Full else answer_of shapes e a.op
-
-  abbrev pub acted : Ever → Option Act → Ever
-  acted e None = e
-  acted e (Some a) = ever_after shapes e a.op (answer_at e a)
-
   -- the heap that never frees after the list
   abbrev pub ever_of : List (Entry Op) → Ever
   ever_of [] = opening_ever
-  ever_of (e ∷ es) = acted (ever_of es) (acts (before_step es e) e.found)
+  ever_of (e ∷ es) = acted shapes (ever_of es) (acts (before_step es e) e.found)
 
   abbrev pub answered : Ever → Option Act → Option Answered
   answered e None = None
-  answered e (Some a) = Some (record { op = a.op; answer = answer_at e a })
+  answered e (Some a) = Some (record { op = a.op; answer = answer_at shapes e a })
 
   -- the operations in the order of their points, with the answers of the heap that never frees
   abbrev pub order_of : List (Entry Op) → List Answered

@@ -93,16 +93,20 @@ setting z counts opening = record {
 abbrev pub IsPlacedAt : Words → Name → (a : ℕ) → Type 0
 IsPlacedAt words n a = Placed (alloc_words words) (birth_words words) (λ m. a) n
 
--- Each object that a script reaches is placed at its address and at no other. Its slot is of its size, and its words, by its pointer bits, are its values; no two share a word. Globals and registers agree. What an operation past its point puts into a register counts as being there.
-pub record StandsFor (z : Arena) (words : Words) (e : Ever) (at : ℕ → Processor) : Type 0 where
+-- Each of these objects is placed at its address and at no other. Its slot is of its size, and its words, by its pointer bits, are its values; no two share a word. Globals and registers agree. What an operation past its point puts into a register counts as being there.
+pub record StandsForThese (z : Arena) (These : Name → Type 0) (words : Words) (e : Ever) (at : ℕ → Processor) : Type 0 where
   pub place : Place
-  pub placed : (n : Name) → Reach e n → Placed (alloc_words words) (birth_words words) place n
-  pub once : (n : Name) (a : ℕ) → Reach e n → IsPlacedAt words n a → a ≡ place n
-  pub slot : (n : Name) → Reach e n → InSlot z.shapes z.layout.pages (page_words words) place e.type_of n
-  pub fields : (n : Name) (k : ℕ) → Reach e n → k < size_for z.shapes e.type_of n → Holds place e.made (row_bit (bitmap_words words) (place n + k) == 1) (e.field n k) (field_words words (place n + k))
-  pub apart : (n m : Name) (j k : ℕ) → Reach e n → Reach e m → n ≢ m → j < size_for z.shapes e.type_of n → k < size_for z.shapes e.type_of m → place n + j ≢ place m + k
+  pub placed : (n : Name) → These n → Placed (alloc_words words) (birth_words words) place n
+  pub once : (n : Name) (a : ℕ) → These n → IsPlacedAt words n a → a ≡ place n
+  pub slot : (n : Name) → These n → InSlot z.shapes z.layout.pages (page_words words) place e.type_of n
+  pub fields : (n : Name) (k : ℕ) → These n → k < size_for z.shapes e.type_of n → Holds place e.made (row_bit (bitmap_words words) (place n + k) == 1) (e.field n k) (field_words words (place n + k))
+  pub apart : (n m : Name) (j k : ℕ) → These n → These m → n ≢ m → j < size_for z.shapes e.type_of n → k < size_for z.shapes e.type_of m → place n + j ≢ place m + k
   pub globals : GlobalsGood z.layout.globals (global_words words) place e.made e.global
   pub registers : (a g d : ℕ) → IsOf z a g → d < REGISTERS → Means place e.made (e.register g d) (register_of (at a) g d)
+
+-- each object that a script reaches
+abbrev pub StandsFor : Arena → Words → Ever → (ℕ → Processor) → Type 0
+StandsFor z words e at = StandsForThese z (Reach e) words e at
 
 -- There is no room, for the processor at this seat.
 
@@ -129,9 +133,13 @@ pub record NoRoomFor (z : Arena) (a : ℕ) (words : Words) (m : Processor) (soug
   pub swept : (p : ℕ) (h : SpanHead) → page_of (words (cell.Page p)) ≡ Head h → h.number ≡ words cell.Gen
   pub run : (first : ℕ) → first + (span_for sought).pages ≤ z.layout.pages → (d : ℕ) × (d < (span_for sought).pages) × IsTakenPage z words (first + d)
 
+-- the operation is to make an object, and of what is sought for it this holds
+abbrev pub OfNew : List Shape → (Sought → Type 0) → Op → Type 0
+OfNew shapes P (op.New g d t) = P (sought_for (shape_at shapes t))
+OfNew shapes P _ = ⊥
+
 abbrev pub IsFullFor : Arena → (a : ℕ) → Words → Processor → Op → Type 0
-IsFullFor z a words m (op.New g d t) = NoRoomFor z a words m (sought_for (shape_at z.shapes t))
-IsFullFor z a words m _ = ⊥
+IsFullFor z a words m o = OfNew z.shapes (NoRoomFor z a words m) o
 
 module _ (z : Arena) (opening : Words) where
   -- the processor at a seat after the list

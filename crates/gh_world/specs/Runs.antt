@@ -13,10 +13,10 @@ use Rattle.gh_script.specs.Program.{Program, WellFormed, op_of, statements_of}
 use Rattle.gh_model.specs.Ever.{opening_ever}
 use Rattle.gh_model.specs.Answers.{AllAnswer}
 use Rattle.gh_mutator.specs.declared.task.Task.TheVariants.{Left}
+use Rattle.gh_mutator.specs.Facts.{ShapesAreGood}
 use Rattle.gh_mutator.specs.Serving.{has_left_at}
 use Rattle.gh_world.specs.Order.{setting_of, begun_in, acted_in, Answered}
-use Rattle.gh_world.specs.Law.{processor_after, EveryListStands, FullMeansNoRoom}
-use Rattle.gh_world.specs.Facts.{ShapesGood}
+use Rattle.gh_world.specs.Law.{processor_after, EveryListStands, EveryStepIsWithin, FullMeansNoRoom}
 use Rattle.gh_world.specs.Turns.{turns_of, answers_to, is_statement_of}
 use Rattle.gh_world.specs.World.{opening, now_in, answer_in, LaysOut}
 
@@ -65,7 +65,11 @@ pub record IsExplained (p : Program) (l : Layout) (es : List (Entry Op)) (answer
 
 -- Whatever the types' shapes, the heap's layout and its trigger as it opens: after every legal list of the processor's steps the words stand for the heap that never frees, and `full` was answered only where there was no room.
 abbrev pub EveryLegalListStands : Type 0
-EveryLegalListStands = (shapes : List Shape) (l : Layout) (trigger : ℕ) → ShapesGood shapes → EveryListStands shapes l (opening_words trigger)
+EveryLegalListStands = (shapes : List Shape) (l : Layout) (trigger : ℕ) → ShapesAreGood shapes → EveryListStands shapes l (opening_words trigger)
+
+-- And the step that follows is on a word that there is.
+abbrev pub EveryLegalListGoesOn : Type 0
+EveryLegalListGoesOn = (shapes : List Shape) (l : Layout) (trigger : ℕ) → ShapesAreGood shapes → EveryStepIsWithin shapes l (opening_words trigger)
 
 -- Whatever the script, and whatever run of it: its answers are explained.
 abbrev pub EveryRunIsExplained : Type 0

@@ -45,7 +45,7 @@ pub use Rattle.gh_alloc.specs.declared.sought.Found.TheVariants.{At}
 pub use Rattle.gh_alloc.specs.declared.sought.Sought.{Sought}
 pub use Rattle.gh_alloc.specs.declared.sought.Sought.TheVariants.{Large, Small}
 pub use Rattle.gh_mutator.specs.Fields.{is_pointer_by, kinds_differ, value_of, word_of_value}
-pub use Rattle.gh_mutator.specs.Listing.{Act, acting, acts, acts_at, applied, asks_at, begins_at, gives_at, is_busy_at, op_at, takes_at}
+pub use Rattle.gh_mutator.specs.Listing.{Act, acting, acts, acts_at, applied, asks, asks_at, begins_at, gives_at, is_busy_at, op_at, takes_at}
 pub use Rattle.gh_mutator.specs.Mutating.{Mutating, goes}
 pub use Rattle.gh_mutator.specs.New.{after_find, finds_none, is_made, made_object, makes, next_of, own_span, searches, wanted_of}
 pub use Rattle.gh_mutator.specs.Processor.{at_task, cache_span, cache_with, cached_for, cached_in, made_by, opening_processor, register_of, set_register}

@@ -1,30 +1,34 @@
 //! Laws of the lists of the processor's steps, whatever the code does.
 
 ghost use Rattle.gh_world.specs.Processors.{EveryListOfProcessorsStands};
-ghost use Rattle.gh_world.specs.Runs.{EveryLegalListStands, EveryRunIsExplained, EveryRunIsOne, NoneIsLonger, RunsEndWhole, RunsGoOn};
+ghost use Rattle.gh_world.specs.Runs.{EveryLegalListGoesOn, EveryLegalListStands, EveryRunIsExplained, EveryRunIsOne, NoneIsLonger, RunsEndWhole, RunsGoOn};
 
 use gh_base::Op;
-use gh_base::laws::{a_state_is_of_its_own_entries, packed_words_are_read_back, rows_are_written};
-use gh_bitmap::laws::each_step_is_on_its_bits;
-use gh_central::laws::the_test_says_it;
+use gh_base::laws::a_state_is_of_its_own_entries;
 use gh_class::size_class_laws;
 use gh_heap::laws::{each_move_keeps, each_move_leaves, the_heap_is_apart};
 use gh_mutator::Processor;
 use gh_mutator::laws::{
-    a_processor_runs_by_its_rights, only_points_change, the_processors_deeds_fit,
+    a_processor_runs_by_its_rights, each_operation_acts_once, only_points_change,
+    the_processors_deeds_fit,
 };
 
 /// After every legal list of steps the words stand for the heap that never frees; each operation
 /// begun has acted once and in order, and was answered as that heap answers it where it acted, save
 /// `full`, which stands only where each slot of the span class was taken and no run of free pages
-/// fitted.
+/// fitted. What begins or goes on behind such a list steps on a word that there is.
 pub fn every_legal_list_stands()
-    ensures { EveryLegalListStands }
+    ensures stands { EveryLegalListStands }
+    ensures goes_on { EveryLegalListGoesOn }
 {
-    each_step_is_on_its_bits();
-    the_test_says_it();
-    packed_words_are_read_back();
-    rows_are_written();
+    the_heap_is_apart();
+    each_move_keeps();
+    each_move_leaves();
+    a_processor_runs_by_its_rights();
+    the_processors_deeds_fit();
+    only_points_change();
+    each_operation_acts_once();
+    size_class_laws();
     a_state_is_of_its_own_entries::<Processor<'_>, Op>();
 }
 
@@ -33,11 +37,7 @@ pub fn every_legal_list_stands()
 pub fn every_run_is_explained()
     ensures { EveryRunIsExplained }
 {
-    each_step_is_on_its_bits();
-    the_test_says_it();
-    packed_words_are_read_back();
-    rows_are_written();
-    a_state_is_of_its_own_entries::<Processor<'_>, Op>();
+    every_legal_list_stands();
 }
 
 /// With one processor a script has one run: what it finds in the words settles each step.
@@ -51,11 +51,7 @@ pub fn runs_go_on()
     ensures on { RunsGoOn }
     ensures whole { RunsEndWhole }
 {
-    each_step_is_on_its_bits();
-    the_test_says_it();
-    packed_words_are_read_back();
-    rows_are_written();
-    a_state_is_of_its_own_entries::<Processor<'_>, Op>();
+    every_legal_list_stands();
 }
 
 /// However many processors there are and in whatever order they step: after every legal list of their

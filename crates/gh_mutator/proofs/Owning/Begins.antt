@@ -1,23 +1,17 @@
 -- Where an operation begins, its first stage says what it is to say.
 use Rattle.std.proofs.Common.{◌≡◌, ℕ, ◌<◌, false, None, refl, ap, subst, arith}
+use Rattle.gh_mutator.proofs.Owning.Vocabulary.{at_task, begins, FactsAt, Fine, held_at, is_locked_at, laying_at, lists, MayBegin, register_of, ShapesAreGood}
 use Rattle.gh_base.specs.declared.operation.Op.TheVariants as op
-use Rattle.gh_base.specs.declared.value.Value.{Value}
 use Rattle.gh_base.specs.declared.value.Value.TheVariants as value
-use Rattle.gh_model.specs.declared.EverValue.{EverValue}
 use Rattle.gh_model.specs.declared.EverValue.TheVariants as ever
-use Rattle.gh_model.specs.Ever.{is_number}
-use Rattle.gh_heap.specs.Moves.{Runs}
-use Rattle.gh_heap.specs.Objects.{Means}
-use Rattle.gh_heap.specs.Rights.{Arena, Good, Right, View}
-use Rattle.gh_mutator.specs.Vocabulary.{Op, Processor, REGISTERS, Task}
+use Rattle.gh_mutator.specs.Vocabulary.{Arena, EverValue, Good, is_number, Means, Op, Processor, REGISTERS, Right, Runs, Task, Value, View}
 use Rattle.gh_mutator.specs.declared.register.Source.TheVariants as source
 use Rattle.gh_mutator.specs.declared.task.Task.TheVariants as task
 use Rattle.gh_mutator.specs.declared.own.Own.TheVariants as own_step
-use Rattle.gh_mutator.specs.Facts.{BeginsIdle, FactsAt, Fine, MayBegin, ShapesAreGood, held_at, is_locked_at, laying_at, lists}
+use Rattle.gh_mutator.specs.Facts.{BeginsIdle}
 use Rattle.gh_mutator.specs.Global as global
-use Rattle.gh_mutator.specs.Listing.{begins, begins_at}
+use Rattle.gh_mutator.specs.Listing.{begins_at}
 use Rattle.gh_mutator.specs.Load as load
-use Rattle.gh_mutator.specs.Processor.{at_task, register_of}
 use Rattle.gh_mutator.specs.Register as register
 use Rattle.gh_mutator.specs.Store as store
 use Rattle.gh_mutator.proofs.Owning.Frames.{fine_at_rest}

@@ -3,21 +3,12 @@ use Rattle.std.proofs.Common.{◌≡◌, ◌≢◌, ℕ, zero, suc, ◌+◌, ◌
 use Rattle.std.specs.Prelude.{◌||◌}
 use Rattle.std.proofs.Math.ListN.{set}
 use Rattle.std.proofs.lemmas.Bool.{eqb-true, eqb-false, eq-eqb}
+use Rattle.gh_mutator.proofs.Owning.Vocabulary.{cache_with, cached_in, lists}
+use Rattle.gh_mutator.specs.Vocabulary.{CachedSpan, Large, page_of, Small, Sought, SPAN_CLASSES, span_index, SpanClass, SpanHead, View}
 use Rattle.gh_base.specs.declared.pack.PageWord.TheVariants as page
-use Rattle.gh_base.specs.declared.pack.SpanHead.{SpanHead}
-use Rattle.gh_base.specs.Packing.{page_of}
 use Rattle.gh_class.specs.declared.class.SizeClass.TheVariants as size
-use Rattle.gh_class.specs.declared.class.SpanClass.{SpanClass}
-use Rattle.gh_class.specs.declared.class.TheConstants.{SPAN_CLASSES}
-use Rattle.gh_class.specs.Classes.{span_index}
-use Rattle.gh_heap.specs.Rights.{View}
-use Rattle.gh_alloc.specs.declared.sought.CachedSpan.{CachedSpan}
-use Rattle.gh_alloc.specs.declared.sought.Sought.{Sought}
-use Rattle.gh_alloc.specs.declared.sought.Sought.TheVariants.{Small, Large}
 use Rattle.gh_alloc.specs.FindFacts.{IsCached, head_of, with_span}
-use Rattle.gh_mutator.specs.Facts.{lists}
-use Rattle.gh_mutator.specs.Processor.{cache_with, cached_in}
-use Rattle.gh_mutator.proofs.Lists.{set_twice}
+use Rattle.gh_base.specs.Reading.{set_twice}
 
 -- The place of a span class tells it.
 

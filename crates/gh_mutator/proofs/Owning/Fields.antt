@@ -6,31 +6,23 @@ use Rattle.std.specs.Option.{option_to_list}
 use Rattle.std.proofs.Math.Nat.{mod-eq_of_lt}
 use Rattle.std.proofs.lemmas.Bool.{eqb-true, eq-eqb, ne_eqb, ltb-true, ltb-false}
 use Rattle.std.proofs.lemmas.Bool.Decides.{eqb_tells}
-use Rattle.gh_mutator.specs.Vocabulary.{REGISTERS, Layout, Name, Op, Answer, Value, Processor, Step, Task, Idle}
+use Rattle.gh_mutator.proofs.Owning.Vocabulary.{Act, acted, acting, answered, answered_at, at_task, CachesAll, ends, Fine, follows, goes_on, is_pointer_by, lists, register_of, RegistersFit, set_register, Steady, value_of}
+use Rattle.gh_mutator.specs.Vocabulary.{Answer, answer_of, Arena, EachRightFollows, Ever, ever_after, EverValue, Good, Holds, Idle, IsMade, IsOf, IsReached, IsSizeClass, Layout, Means, moved, Name, name_of, Op, PackedWordsAreReadBack, page_of, points, Processor, Reach, REGISTERS, Right, Row, Runs, Shared, size_for, SizeClass, slot_in, slot_of, slot_size, Step, takes_answer, Task, TheHeapIsApart, told, Value, View, view, with_register}
 use Rattle.gh_base.specs.declared.cell.Ask.TheVariants as ask
 use Rattle.gh_base.specs.declared.cell.Cell.{Cell}
 use Rattle.gh_base.specs.declared.value.Answer.TheVariants as answer
 use Rattle.gh_base.specs.declared.value.Value.TheVariants as value
-use Rattle.gh_base.specs.Packing.{PackedWordsAreReadBack, bit, name_of, page_class, page_of, page_pages, slot_for, slot_in}
-use Rattle.gh_base.specs.Rows.{Row, RowsAreWritten}
-use Rattle.gh_class.specs.Classes.{IsSizeClass, slot_of}
-use Rattle.gh_class.specs.declared.class.SizeClass.{SizeClass}
+use Rattle.gh_base.specs.Packing.{bit, page_class, page_pages, slot_for}
+use Rattle.gh_base.specs.Rows.{RowsAreWritten}
 use Rattle.gh_class.specs.declared.class.SizeClass.TheVariants as size
-use Rattle.gh_model.specs.declared.EverValue.{EverValue}
 use Rattle.gh_model.specs.declared.EverValue.TheVariants as ever
-use Rattle.gh_model.specs.Ever.{Ever, Reach, answer_of, ever_after, takes_answer, told, with_register}
-use Rattle.gh_heap.specs.Laws.{EachRightFollows, TheHeapIsApart}
 use Rattle.gh_heap.specs.Moves as moves
-use Rattle.gh_heap.specs.Moves.{IsReached, Runs, moved}
-use Rattle.gh_heap.specs.Objects.{Holds, InSlot, IsMade, Means, Place, Placed, points, size_for}
-use Rattle.gh_heap.specs.Rights.{Arena, Good, IsOf, Right, Shared, View, view}
-use Rattle.gh_heap.specs.Spans.{is_own_class, number_of, slot_count, slot_size}
-use Rattle.gh_mutator.specs.Facts.{CachesAll, Fine, RegistersFit, Steady, Takes, acted, answered_at, lists}
-use Rattle.gh_mutator.specs.Fields.{is_pointer_by, takes, told as told_by, value_of}
-use Rattle.gh_mutator.specs.Listing.{Act, acting, applied, follows}
-use Rattle.gh_mutator.specs.Processor.{at_task, register_of, set_register}
-use Rattle.gh_mutator.specs.Step.{answered, ends, goes_on}
-use Rattle.gh_mutator.proofs.Lists.{read_after_set}
+use Rattle.gh_heap.specs.Objects.{InSlot, Place, Placed}
+use Rattle.gh_heap.specs.Spans.{is_own_class, number_of, slot_count}
+use Rattle.gh_mutator.specs.Facts.{Takes}
+use Rattle.gh_mutator.specs.Fields.{takes, told as told_by}
+use Rattle.gh_mutator.specs.Listing.{applied}
+use Rattle.gh_base.specs.Reading.{read_after_set}
 
 -- the laws that are wanted here
 pub record Known : Type 0 where

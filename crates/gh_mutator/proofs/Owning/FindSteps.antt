@@ -1,41 +1,17 @@
 -- A new object's search has found a slot, and each of its steps.
 use Rattle.std.proofs.Common.{◌≡◌, ℕ, ◌+◌, ◌*◌, ◌/◌, ◌<◌, Bool, true, false, cond, ◌++◌, length, get_or, Option, Some, None, refl, sym, ap, subst, ◌∙◌, arith}
 use Rattle.std.specs.Option.{option_to_list}
-use Rattle.gh_class.specs.declared.class.TheConstants.{SPAN_CLASSES}
+use Rattle.gh_mutator.proofs.Owning.Vocabulary.{Act, acted, acting, answered_at, at_task, cache_span, cache_with, CachesAll, Does, Fine, for_whom, lists, makes, op_of, own_span, rest, Searches, searches, ShapesAreGood, Steady}
+use Rattle.gh_mutator.specs.Vocabulary.{Answer, Arena, At, CachedSpan, cell_of, FindStage, FitsShape, FitsSlot, Found, Good, IsSought, KeepsItsOwn, KeepsObjects, Large, moved, Name, NoRoom, page_of, Processor, Runs, Shape, shape_at, Shared, size_class_of, SizeClass, slot_words, slot_words_of, Sought, SPAN_CLASSES, SpanClass, SpanHead, Steps, View, view, Wanted}
 use Rattle.gh_base.specs.declared.pack.PageWord.TheVariants as page
-use Rattle.gh_base.specs.declared.pack.SpanHead.{SpanHead}
-use Rattle.gh_base.specs.declared.shape.Shape.{Shape}
-use Rattle.gh_base.specs.declared.value.Answer.{Answer}
 use Rattle.gh_base.specs.declared.value.Answer.TheVariants as answer
-use Rattle.gh_base.specs.declared.value.Name.{Name}
-use Rattle.gh_base.specs.Packing.{page_of}
-use Rattle.gh_base.specs.Shapes.{FitsShape, shape_at}
-use Rattle.gh_base.specs.Steps.{cell_of}
-use Rattle.gh_class.specs.declared.class.SizeClass.{SizeClass}
 use Rattle.gh_class.specs.declared.class.SizeClass.TheVariants as size
-use Rattle.gh_class.specs.declared.class.SpanClass.{SpanClass}
-use Rattle.gh_class.specs.Classes.{size_class_of, slot_words, slot_words_of}
-use Rattle.gh_heap.specs.Laws.{KeepsItsOwn}
-use Rattle.gh_heap.specs.Moves.{KeepsObjects, Runs, Steps, moved}
-use Rattle.gh_heap.specs.Rights.{Arena, Claims, Good, Shared, View, view}
+use Rattle.gh_heap.specs.Rights.{Claims}
 use Rattle.gh_heap.specs.Spans.{owned_by}
-use Rattle.gh_bitmap.specs.Stepping.{FitsSlot}
-use Rattle.gh_alloc.specs.declared.find.FindStage.{FindStage}
-use Rattle.gh_alloc.specs.declared.sought.CachedSpan.{CachedSpan}
-use Rattle.gh_alloc.specs.declared.sought.Found.{Found}
-use Rattle.gh_alloc.specs.declared.sought.Found.TheVariants.{At, NoRoom}
-use Rattle.gh_alloc.specs.declared.sought.Sought.{Sought}
-use Rattle.gh_alloc.specs.declared.sought.Sought.TheVariants.{Large}
 use Rattle.gh_alloc.specs.FindFacts as find
 use Rattle.gh_alloc.specs.Find as finder
-use Rattle.gh_alloc.specs.FindSound.{IsSought}
 use Rattle.gh_alloc.specs.PlaceFacts as place
-use Rattle.gh_mutator.specs.declared.new.Wanted.{Wanted}
-use Rattle.gh_mutator.specs.declared.processor.Processor.{Processor}
-use Rattle.gh_mutator.specs.Facts.{CachesAll, acted, answered_at, Does, Fine, Searches, ShapesAreGood, Steady, for_whom, lists, rest}
-use Rattle.gh_mutator.specs.Listing.{Act, acting}
-use Rattle.gh_mutator.specs.New.{after_find, finds_none, op_of, makes, own_span, placing, searches, sought_by}
-use Rattle.gh_mutator.specs.Processor.{at_task, cache_span, cache_with}
+use Rattle.gh_mutator.specs.New.{after_find, finds_none, placing, sought_by}
 use Rattle.gh_mutator.proofs.ClassFacts.{ClassLaws}
 use Rattle.gh_mutator.proofs.NewSteps.{find_wants}
 use Rattle.gh_mutator.proofs.Owning.Cache.{class-at, index-at, listed-at}

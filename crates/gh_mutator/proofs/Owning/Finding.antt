@@ -2,48 +2,26 @@
 use Rattle.std.proofs.Common.{◌≡◌, ◌≢◌, ℕ, ◌+◌, ◌*◌, ◌<◌, Bool, true, false, cond, eqb, List, length, get_or, Option, Some, None, refl, sym, ap, subst, ◌∙◌, arith, length-set, get_or-set_same, get_or-set_other}
 use Rattle.std.specs.Prelude.{◌&&◌}
 use Rattle.std.proofs.lemmas.Bool.{eqb-true, eqb-false, eq-eqb}
-use Rattle.gh_base.specs.declared.limits.TheConstants.{MOST_GOROUTINES, MOST_STATEMENTS, REGISTERS}
+use Rattle.gh_mutator.proofs.Owning.Vocabulary.{Act, at_task, cache_span, cache_with, cached_for, cached_in, CachesAll, CountsFit, Does, Fine, FullAt, lists, register_of, RegistersFit, rest, Searches, searches, set_register, ShapesAreGood, Steady, Wants}
+use Rattle.gh_mutator.specs.Vocabulary.{Answer, Arena, CachedSpan, cell_of, EachRightFollows, Ever, EverValue, Good, IsOf, IsSought, KeepsItsOwn, KeepsObjects, Large, Means, MOST_GOROUTINES, MOST_STATEMENTS, moved, NoRoom, Op, page_of, Processor, REGISTERS, Right, Runs, shape_at, Shared, Small, Sought, SPAN_CLASSES, span_index, SpanClass, SpanHead, Steps, Task, Value, View, view, Wanted, with_register}
 use Rattle.gh_base.specs.declared.pack.PageWord.TheVariants as page
-use Rattle.gh_base.specs.declared.pack.SpanHead.{SpanHead}
-use Rattle.gh_base.specs.declared.value.Answer.{Answer}
 use Rattle.gh_base.specs.declared.cell.Cell.TheVariants as cell
-use Rattle.gh_base.specs.declared.operation.Op.{Op}
-use Rattle.gh_base.specs.declared.value.Value.{Value}
 use Rattle.gh_base.specs.declared.value.Value.TheVariants as value
-use Rattle.gh_base.specs.Packing.{page_of}
-use Rattle.gh_base.specs.Shapes.{shape_at}
-use Rattle.gh_base.specs.Steps.{cell_of}
 use Rattle.gh_class.specs.declared.class.SizeClass.TheVariants as size
-use Rattle.gh_class.specs.declared.class.SpanClass.{SpanClass}
-use Rattle.gh_class.specs.declared.class.TheConstants.{SPAN_CLASSES}
-use Rattle.gh_class.specs.Classes.{span_index}
-use Rattle.gh_model.specs.declared.EverValue.{EverValue}
 use Rattle.gh_model.specs.declared.EverValue.TheVariants as ever
-use Rattle.gh_model.specs.Ever.{Ever, with_register}
-use Rattle.gh_heap.specs.Laws.{EachMoveKeepsItsOwn, EachRightFollows, KeepsItsOwn}
-use Rattle.gh_heap.specs.Moves.{KeepsObjects, Refuse, Runs, Steps, moved}
-use Rattle.gh_heap.specs.Objects.{Means, Place as PlaceOf}
+use Rattle.gh_heap.specs.Laws.{EachMoveKeepsItsOwn}
+use Rattle.gh_heap.specs.Moves.{Refuse}
+use Rattle.gh_heap.specs.Objects.{Place as PlaceOf}
 use Rattle.gh_heap.specs.Spans.{owner_in}
-use Rattle.gh_heap.specs.Rights.{Arena, Good, IsOf, Right, Shared, View, view}
 use Rattle.gh_alloc.specs.declared.find.After.TheVariants as After
 use Rattle.gh_alloc.specs.declared.find.FindStage.TheVariants as finder_stage
-use Rattle.gh_alloc.specs.declared.sought.CachedSpan.{CachedSpan}
-use Rattle.gh_alloc.specs.declared.sought.Found.TheVariants.{NoRoom}
-use Rattle.gh_alloc.specs.declared.sought.Sought.{Sought}
-use Rattle.gh_alloc.specs.declared.sought.Sought.TheVariants.{Small, Large}
 use Rattle.gh_alloc.specs.FindFacts as find
 use Rattle.gh_alloc.specs.Find as finder
-use Rattle.gh_alloc.specs.FindSound.{IsSought}
 use Rattle.gh_alloc.specs.PlaceFacts as place
 use Rattle.gh_pages.specs.Facts.{NoRun}
-use Rattle.gh_mutator.specs.declared.new.Wanted.{Wanted}
-use Rattle.gh_mutator.specs.declared.processor.Processor.{Processor}
-use Rattle.gh_mutator.specs.declared.task.Task.{Task}
 use Rattle.gh_mutator.specs.declared.task.Task.TheVariants as task
-use Rattle.gh_mutator.specs.Facts.{CachesAll, CountsFit, Does, Fine, FoundNone, FullAt, RegistersFit, Searches, ShapesAreGood, Steady, Wants, lists, rest}
-use Rattle.gh_mutator.specs.Listing.{Act}
-use Rattle.gh_mutator.specs.New.{searches, sought_for}
-use Rattle.gh_mutator.specs.Processor.{at_task, cache_span, cache_with, cached_for, cached_in, register_of, set_register}
+use Rattle.gh_mutator.specs.Facts.{FoundNone}
+use Rattle.gh_mutator.specs.New.{sought_for}
 use Rattle.gh_mutator.proofs.NewSteps.{find_wants}
 use Rattle.gh_mutator.proofs.Owning.Cache.{cached-other, cached-same, cached-then, class-at, index-at, listed-at, lists-cached, lists-it, same-class}
 

@@ -3,21 +3,10 @@ use Rattle.std.proofs.Common.{◌≡◌, ◌≢◌, ℕ, ◌+◌, ◌*◌, ◌<�
 use Rattle.std.specs.Prelude.{◌&&◌}
 use Rattle.std.specs.Option.{option_to_list}
 use Rattle.std.proofs.lemmas.Bool.{eqb-true, eq-eqb}
-use Rattle.gh_base.specs.declared.value.Answer.{Answer}
-use Rattle.gh_base.specs.declared.value.Value.{Value}
-use Rattle.gh_base.specs.Rows.{Row}
-use Rattle.gh_base.specs.Steps.{cell_of}
-use Rattle.gh_model.specs.declared.EverValue.{EverValue}
+use Rattle.gh_mutator.proofs.Owning.Vocabulary.{Act, asks, at_task, CachesAll, Does, FactsAt, Fine, held_at, is_locked_at, laying_at, lists, OwnStepAt, register_of, RegistersFit, set_register, ShapesAreGood, Steady}
 use Rattle.gh_model.specs.declared.EverValue.TheVariants as ever
-use Rattle.gh_model.specs.Ever.{Ever, Reach, with_register}
-use Rattle.gh_heap.specs.Moves.{IsReached, Steps}
-use Rattle.gh_heap.specs.Objects.{Means}
-use Rattle.gh_heap.specs.Rights.{Arena, Good, IsOf, Right, Shared, View, view}
 use Rattle.gh_alloc.specs.FindFacts as find
-use Rattle.gh_mutator.specs.Vocabulary.{MOST_GOROUTINES, Op, REGISTERS, CachedSpan, Processor, SpanClass, Task, Idle}
-use Rattle.gh_mutator.specs.Facts.{CachesAll, Does, FactsAt, Fine, OwnStepAt, RegistersFit, ShapesAreGood, Steady, held_at, is_locked_at, laying_at, lists}
-use Rattle.gh_mutator.specs.Listing.{Act, asks}
-use Rattle.gh_mutator.specs.Processor.{at_task, register_of, set_register}
+use Rattle.gh_mutator.specs.Vocabulary.{Answer, Arena, CachedSpan, cell_of, Ever, EverValue, Good, Idle, IsOf, IsReached, Means, MOST_GOROUTINES, Op, Processor, Reach, REGISTERS, Right, Row, Shared, SpanClass, Steps, Task, Value, View, view, with_register}
 
 -- A step at a task.
 

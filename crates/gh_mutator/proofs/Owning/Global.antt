@@ -1,31 +1,21 @@
 -- Own steps of the load and the store of a global.
 use Rattle.std.proofs.Common.{◌≡◌, ℕ, ◌*◌, ◌-◌, ◌%◌, ◌<◌, Bool, true, false, cond, [], ◌∷◌, ◌++◌, Option, Some, None, refl, sym, ap, ◌∙◌, arith}
 use Rattle.std.specs.Option.{option_to_list}
+use Rattle.gh_mutator.proofs.Owning.Vocabulary.{Act, answered, at_task, Fine, follows, FullAt, lists, OwnStepAt, register_of, set_register, Steady, value_of, word_of_value}
 use Rattle.gh_base.specs.declared.cell.Ask.TheVariants as ask
 use Rattle.gh_base.specs.declared.cell.Cell.TheVariants as cell
 use Rattle.gh_base.specs.declared.operation.Op.TheVariants as op
-use Rattle.gh_base.specs.declared.value.Answer.{Answer}
 use Rattle.gh_base.specs.declared.value.Answer.TheVariants as answer
 use Rattle.gh_base.specs.declared.value.Fault.TheVariants as fault
-use Rattle.gh_base.specs.declared.value.Name.{Name}
-use Rattle.gh_base.specs.declared.value.Value.{Value}
 use Rattle.gh_base.specs.declared.value.Value.TheVariants as value
-use Rattle.gh_model.specs.declared.EverValue.{EverValue}
 use Rattle.gh_model.specs.declared.EverValue.TheVariants as ever
-use Rattle.gh_model.specs.Ever.{answer_of, ever_after, told, with_global, with_register}
-use Rattle.gh_heap.specs.Moves.{Quiet, Runs, Takes, WriteGlobal}
-use Rattle.gh_heap.specs.Objects.{Means}
-use Rattle.gh_heap.specs.Rights.{Arena, Right, View, view}
-use Rattle.gh_mutator.specs.Vocabulary.{Global, Processor, REGISTERS, Task}
-use Rattle.gh_mutator.specs.declared.global.GlobalStage.{GlobalStage}
+use Rattle.gh_model.specs.Ever.{with_global}
+use Rattle.gh_heap.specs.Moves.{WriteGlobal}
+use Rattle.gh_mutator.specs.Vocabulary.{Answer, answer_of, Arena, ever_after, EverValue, Global, GlobalStage, Means, Name, Processor, Quiet, REGISTERS, Right, Runs, Takes, Task, told, Value, View, view, with_register}
 use Rattle.gh_mutator.specs.declared.global.GlobalStage.TheVariants as global_stage
 use Rattle.gh_mutator.specs.declared.task.Task.TheVariants as task
-use Rattle.gh_mutator.specs.Facts.{Fine, FullAt, OwnStepAt, Steady, lists}
-use Rattle.gh_mutator.specs.Fields.{told as told_by, value_of, word_of_value}
+use Rattle.gh_mutator.specs.Fields.{told as told_by}
 use Rattle.gh_mutator.specs.Global.{at_stage, naming}
-use Rattle.gh_mutator.specs.Listing.{Act, follows}
-use Rattle.gh_mutator.specs.Processor.{at_task, register_of, set_register}
-use Rattle.gh_mutator.specs.Step.{answered}
 use Rattle.gh_mutator.proofs.Owning.Frames.{StepAt, answered_once, at_its_task, fine_at_rest, fine_with, global_reached, has_room, here, not_at_point, register_reached, rested, takes_last, takes_to}
 use Rattle.gh_mutator.proofs.Owning.Known.{Known}
 use Rattle.gh_mutator.proofs.Owning.Values.{found_means, name_found, takes_told, word_holds}

@@ -1,8 +1,6 @@
 -- What is known of the heap, of packed words, of the size classes and of the routines of a new object, by what their laws say.
 use Rattle.std.proofs.Common.{ℕ, ◌<◌, ◌≤◌}
-use Rattle.gh_base.specs.Packing.{PackedWordsAreReadBack}
-use Rattle.gh_class.specs.Classes.{slot_of}
-use Rattle.gh_heap.specs.Laws.{TheHeapIsApart}
+use Rattle.gh_mutator.specs.Vocabulary.{PackedWordsAreReadBack, slot_of, TheHeapIsApart}
 use Rattle.gh_alloc.specs.FindFacts as find
 use Rattle.gh_alloc.specs.PlaceFacts as place
 

@@ -1,33 +1,21 @@
 -- What is known of a processor lasts, whatever others do.
 use Rattle.std.proofs.Common.{◌≡◌, ℕ, ◌+◌, ◌<◌, Bool, true, false, Option, sym, ap, subst, ◌∙◌}
-use Rattle.gh_base.specs.declared.limits.TheConstants.{MOST_STATEMENTS}
-use Rattle.gh_base.specs.declared.value.Answer.{Answer}
-use Rattle.gh_base.specs.declared.value.Name.{Name}
-use Rattle.gh_base.specs.declared.value.Value.{Value}
+use Rattle.gh_mutator.proofs.Owning.Vocabulary.{FactsAt, for_whom, GlobalFacts, is_locked_at, IsPlain, Loads, Makes, NewFacts, OwnFacts, register_of, rest, Searches, Steady, Stores, Through, Wants}
 use Rattle.gh_base.specs.declared.value.Value.TheVariants as value
-use Rattle.gh_base.specs.Shapes.{is_pointer, shape_at}
-use Rattle.gh_model.specs.declared.EverValue.{EverValue}
+use Rattle.gh_base.specs.Shapes.{is_pointer}
 use Rattle.gh_model.specs.declared.EverValue.TheVariants as ever
-use Rattle.gh_model.specs.Ever.{field_count, fits, is_number}
-use Rattle.gh_heap.specs.Moves.{Others, Runs}
-use Rattle.gh_heap.specs.Objects.{Means}
-use Rattle.gh_heap.specs.Rights.{Arena, Good, IsOf, Right, View}
+use Rattle.gh_model.specs.Ever.{field_count}
+use Rattle.gh_heap.specs.Moves.{Others}
 use Rattle.gh_heap.specs.Spans.{Laying}
 use Rattle.gh_alloc.specs.FindFacts as find
-use Rattle.gh_mutator.specs.Vocabulary.{Find, Finding, Global, NewStage, Place, Placing, Processor, Register, Source, SpanClass, CachedSpan, StoreStage, Task, Wanted}
-use Rattle.gh_mutator.specs.declared.global.GlobalStage.{GlobalStage}
+use Rattle.gh_mutator.specs.Vocabulary.{Answer, Arena, CachedSpan, EverValue, Find, Finding, fits, Global, GlobalStage, Good, is_number, IsOf, Load, LoadStage, Means, MOST_STATEMENTS, Name, NewStage, Own, Place, Placing, Processor, Register, Right, Runs, shape_at, Source, SpanClass, Store, StoreStage, Task, Value, View, Wanted}
 use Rattle.gh_mutator.specs.declared.global.GlobalStage.TheVariants as global_stage
-use Rattle.gh_mutator.specs.declared.load.Load.{Load}
-use Rattle.gh_mutator.specs.declared.load.LoadStage.{LoadStage}
 use Rattle.gh_mutator.specs.declared.load.LoadStage.TheVariants as load_stage
-use Rattle.gh_mutator.specs.declared.own.Own.{Own}
 use Rattle.gh_mutator.specs.declared.own.Own.TheVariants as own_step
 use Rattle.gh_mutator.specs.declared.register.Source.TheVariants as source
-use Rattle.gh_mutator.specs.declared.store.Store.{Store}
 use Rattle.gh_mutator.specs.declared.store.StoreStage.TheVariants as store_stage
 use Rattle.gh_mutator.specs.declared.task.Task.TheVariants as task
-use Rattle.gh_mutator.specs.Processor.{register_of}
-use Rattle.gh_mutator.specs.Facts.{FactsAt, GlobalFacts, IsPlain, Lasts, LoadFacts, Loads, Makes, NewFacts, OwnFacts, RegisterFacts, Searches, Steady, StoreFacts, Stores, Takes, Through, Wants, for_whom, is_locked_at, locked_new, rest}
+use Rattle.gh_mutator.specs.Facts.{Lasts, LoadFacts, RegisterFacts, StoreFacts, Takes, locked_new}
 use Rattle.gh_mutator.proofs.Owning.Known.{Known}
 
 module _ (z : Arena) (a : ℕ) (v w : View) (o : Others z a v w) where

@@ -1,28 +1,16 @@
 -- Own steps of a load while others change the heap. At its point its register takes what the field held.
 use Rattle.std.proofs.Common.{◌≡◌, ℕ, ◌<◌, Bool, true, false, cond, ltb, [], ◌∷◌, Option, Some, None, refl, sym, ap, subst}
 use Rattle.std.proofs.lemmas.Bool.{ltb-true, lt-ltb}
-use Rattle.gh_mutator.specs.Vocabulary.{Name, Answer, LoadStage, Processor, Step, Task}
+use Rattle.gh_mutator.proofs.Owning.Vocabulary.{asks, at_task, Does, ends, Fine, goes_on, has_field, IsPlain, lists, Loads, OwnStepAt, Steady, Through, value_of}
+use Rattle.gh_mutator.specs.Vocabulary.{Answer, answer_of, Arena, cell_of, Ever, EverValue, Fault, Good, Load, LoadStage, Name, page_of, points, Processor, Quiet, Reach, Right, Runs, Shared, size_for, slot_in, Step, Steps, Task, told, view}
 use Rattle.gh_base.specs.declared.value.Answer.TheVariants as answer
-use Rattle.gh_base.specs.declared.value.Fault.{Fault}
 use Rattle.gh_base.specs.declared.value.Fault.TheVariants as fault
-use Rattle.gh_base.specs.Packing.{page_of, slot_in}
-use Rattle.gh_base.specs.Steps.{cell_of}
-use Rattle.gh_model.specs.declared.EverValue.{EverValue}
 use Rattle.gh_model.specs.declared.EverValue.TheVariants as ever
-use Rattle.gh_model.specs.Ever.{Ever, Reach, answer_of, load_answer, told}
+use Rattle.gh_model.specs.Ever.{load_answer}
 use Rattle.gh_heap.specs.Moves as moves
-use Rattle.gh_heap.specs.Moves.{Quiet, Runs, Steps}
-use Rattle.gh_heap.specs.Objects.{points, size_for}
-use Rattle.gh_heap.specs.Rights.{Arena, Good, Right, Shared, view}
-use Rattle.gh_mutator.specs.declared.load.Load.{Load}
 use Rattle.gh_mutator.specs.declared.load.LoadStage.TheVariants.{Page, Bits, Field, Birth, NilBase}
 use Rattle.gh_mutator.specs.declared.task.Task.TheVariants as task
-use Rattle.gh_mutator.specs.Facts.{Does, Fine, IsPlain, Loads, OwnStepAt, Steady, Through, lists}
-use Rattle.gh_mutator.specs.Fields.{has_field, value_of}
-use Rattle.gh_mutator.specs.Listing.{asks}
 use Rattle.gh_mutator.specs.Load.{at_stage, naming, op_of, step}
-use Rattle.gh_mutator.specs.Processor.{at_task}
-use Rattle.gh_mutator.specs.Step.{ends, goes_on}
 use Rattle.gh_mutator.proofs.Owning.Fields.{Comes, Known, bit_found, faulted, field_reached, further, idle, name_found, not_full, size_found, steady_at, takes_told, took, value_means}
 
 module _ (laws : Known) (z : Arena) (a : ℕ) (s : Shared) (m : Processor) (x : Load) (good : Good z (view s)) where

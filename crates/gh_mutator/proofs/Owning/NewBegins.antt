@@ -1,20 +1,11 @@
 -- A new object's search begins well.
 use Rattle.std.proofs.Common.{◌≡◌, ℕ, ◌<◌, false, length, Option, Some, None, refl, sym, subst, ◌∙◌, arith}
+use Rattle.gh_mutator.proofs.Owning.Vocabulary.{begins, cache_with, cached_for, CachesAll, Fine, held_at, is_locked_at, laying_at, lists, MayBegin, rest, ShapesAreGood}
+use Rattle.gh_mutator.specs.Vocabulary.{Arena, CachedSpan, Good, IsSought, Large, Processor, Right, Small, Sought, SPAN_CLASSES, Task, View}
 use Rattle.gh_base.specs.declared.operation.Op.TheVariants as op
-use Rattle.gh_class.specs.declared.class.TheConstants.{SPAN_CLASSES}
-use Rattle.gh_heap.specs.Rights.{Arena, Good, Right, View}
-use Rattle.gh_alloc.specs.declared.sought.CachedSpan.{CachedSpan}
-use Rattle.gh_alloc.specs.declared.sought.Sought.{Sought}
-use Rattle.gh_alloc.specs.declared.sought.Sought.TheVariants.{Small, Large}
 use Rattle.gh_alloc.specs.FindFacts as find
-use Rattle.gh_alloc.specs.FindSound.{IsSought}
-use Rattle.gh_mutator.specs.declared.processor.Processor.{Processor}
-use Rattle.gh_mutator.specs.declared.task.Task.{Task}
 use Rattle.gh_mutator.specs.declared.task.Task.TheVariants as task
-use Rattle.gh_mutator.specs.Facts.{CachesAll, Fine, MayBegin, ShapesAreGood, held_at, is_locked_at, laying_at, lists, rest}
-use Rattle.gh_mutator.specs.Listing.{begins}
 use Rattle.gh_mutator.specs.New.{finding, wanted_of}
-use Rattle.gh_mutator.specs.Processor.{cache_with, cached_for}
 use Rattle.gh_mutator.proofs.ClassFacts.{ClassLaws, wanted_sound}
 use Rattle.gh_mutator.proofs.Owning.Cache.{listed-once, lists-cached}
 use Rattle.gh_mutator.proofs.Owning.Finding.{Known}

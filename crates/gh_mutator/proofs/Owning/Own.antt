@@ -1,19 +1,16 @@
 -- Own steps of the processor's own operations.
 use Rattle.std.proofs.Common.{None, refl}
+use Rattle.gh_mutator.specs.Vocabulary.{Own, Quiet, view}
+use Rattle.gh_mutator.proofs.Owning.Vocabulary.{Act, at_task, FullAt, OwnStepAt}
 use Rattle.gh_base.specs.declared.cell.Ask.TheVariants as ask
 use Rattle.gh_base.specs.declared.cell.Cell.TheVariants as cell
 use Rattle.gh_base.specs.declared.operation.Op.TheVariants as op
 use Rattle.gh_base.specs.declared.pack.TheConstants.{END, GONE}
 use Rattle.gh_base.specs.declared.value.Answer.TheVariants as answer
 use Rattle.gh_model.specs.Ever.{with_end}
-use Rattle.gh_heap.specs.Moves.{Ends, Quiet}
-use Rattle.gh_heap.specs.Rights.{view}
-use Rattle.gh_mutator.specs.Listing.{Act}
-use Rattle.gh_mutator.specs.declared.own.Own.{Own}
+use Rattle.gh_heap.specs.Moves.{Ends}
 use Rattle.gh_mutator.specs.declared.own.Own.TheVariants as own_step
 use Rattle.gh_mutator.specs.declared.task.Task.TheVariants as task
-use Rattle.gh_mutator.specs.Facts.{FullAt, OwnStepAt}
-use Rattle.gh_mutator.specs.Processor.{at_task}
 use Rattle.gh_mutator.proofs.Owning.Frames.{StepAt, answered_once, at_its_task, fine_at_rest, fine_with, has_room, rested}
 use Rattle.gh_mutator.proofs.Owning.Known.{Known}
 

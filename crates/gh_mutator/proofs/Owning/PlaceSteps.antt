@@ -3,37 +3,23 @@ use Rattle.std.proofs.Common.{◌≡◌, ◌≢◌, ℕ, ◌+◌, ◌*◌, ◌/�
 use Rattle.std.specs.Option.{option_to_list}
 use Rattle.std.proofs.Math.ListN.{set}
 use Rattle.std.proofs.lemmas.Bool.{eqb-true, eqb-false, eq-eqb}
-use Rattle.gh_base.specs.declared.limits.TheConstants.{MOST_GOROUTINES, REGISTERS}
-use Rattle.gh_base.specs.declared.pack.SpanHead.{SpanHead}
-use Rattle.gh_base.specs.declared.value.Answer.{Answer}
+use Rattle.gh_mutator.proofs.Owning.Vocabulary.{Act, acted, acting, answered_at, at_task, CachesAll, CountsFit, Does, Fine, for_whom, lists, Makes, makes, op_of, own_span, register_of, RegistersFit, set_register, ShapesAreGood, Steady}
+use Rattle.gh_mutator.specs.Vocabulary.{Answer, Arena, cell_of, Ever, EverValue, Good, IsMade, IsOf, KeepsItsOwn, KeepsObjects, Large, Means, MOST_GOROUTINES, moved, Name, PlaceStage, Processor, REGISTERS, Shared, Small, Sought, SpanHead, Steps, Task, Value, View, view, Wanted, with_register}
 use Rattle.gh_base.specs.declared.value.Answer.TheVariants as answer
-use Rattle.gh_base.specs.declared.value.Name.{Name}
-use Rattle.gh_base.specs.declared.value.Value.{Value}
 use Rattle.gh_base.specs.declared.value.Value.TheVariants as value
-use Rattle.gh_base.specs.Steps.{cell_of}
-use Rattle.gh_model.specs.declared.EverValue.{EverValue}
 use Rattle.gh_model.specs.declared.EverValue.TheVariants as ever
-use Rattle.gh_model.specs.Ever.{Ever, next_name, same_name, with_object, with_register}
-use Rattle.gh_heap.specs.Laws.{KeepsItsOwn}
-use Rattle.gh_heap.specs.Moves.{KeepsObjects, Steps, moved, placed_at, update}
-use Rattle.gh_heap.specs.Objects.{IsMade, Means, Place as PlaceOf}
-use Rattle.gh_heap.specs.Rights.{Arena, Good, IsOf, Shared, View, view}
+use Rattle.gh_model.specs.Ever.{next_name, same_name, with_object}
+use Rattle.gh_heap.specs.Moves.{placed_at, update}
+use Rattle.gh_heap.specs.Objects.{Place as PlaceOf}
 use Rattle.gh_bitmap.specs.SetPointers as setter
-use Rattle.gh_alloc.specs.declared.place.PlaceStage.{PlaceStage}
 use Rattle.gh_alloc.specs.declared.place.PlaceStage.TheVariants as making
-use Rattle.gh_alloc.specs.declared.sought.Sought.{Sought}
-use Rattle.gh_alloc.specs.declared.sought.Sought.TheVariants.{Small, Large}
 use Rattle.gh_alloc.specs.FindFacts as find
 use Rattle.gh_alloc.specs.Place as placer
 use Rattle.gh_alloc.specs.PlaceFacts as place
-use Rattle.gh_mutator.specs.declared.new.Wanted.{Wanted}
-use Rattle.gh_mutator.specs.declared.processor.Processor.{Processor}
-use Rattle.gh_mutator.specs.declared.task.Task.{Task}
 use Rattle.gh_mutator.specs.declared.task.Task.TheVariants as task
-use Rattle.gh_mutator.specs.Facts.{CachesAll, CountsFit, Does, Fine, Makes, NamedFrom, RegistersFit, ShapesAreGood, Steady, acted, answered_at, for_whom, lists}
-use Rattle.gh_mutator.specs.Listing.{Act, acting}
-use Rattle.gh_mutator.specs.New.{is_made, made_object, makes, op_of, own_span}
-use Rattle.gh_mutator.specs.Processor.{at_task, made_by, register_of, set_register}
+use Rattle.gh_mutator.specs.Facts.{NamedFrom}
+use Rattle.gh_mutator.specs.New.{is_made, made_object}
+use Rattle.gh_mutator.specs.Processor.{made_by}
 use Rattle.gh_mutator.proofs.Owning.Cache.{lists-it}
 use Rattle.gh_mutator.proofs.Owning.Finding.{Known, goroutine-few, registers-then, same-counts, same-registers, still-cached}
 

@@ -1,19 +1,15 @@
 -- Own steps of statements on registers alone.
 use Rattle.std.proofs.Common.{ℕ, None, refl}
+use Rattle.gh_mutator.proofs.Owning.Vocabulary.{Act, at_task, FullAt, OwnStepAt, register_of}
 use Rattle.gh_base.specs.declared.cell.Ask.TheVariants as ask
 use Rattle.gh_base.specs.declared.cell.Cell.TheVariants as cell
 use Rattle.gh_base.specs.declared.operation.Op.TheVariants as op
 use Rattle.gh_base.specs.declared.value.Answer.TheVariants as answer
 use Rattle.gh_base.specs.declared.value.Value.TheVariants as value
 use Rattle.gh_model.specs.declared.EverValue.TheVariants as ever
-use Rattle.gh_heap.specs.Moves.{Takes}
-use Rattle.gh_heap.specs.Rights.{view}
-use Rattle.gh_mutator.specs.Vocabulary.{Register, Source}
+use Rattle.gh_mutator.specs.Vocabulary.{Register, Source, Takes, view}
 use Rattle.gh_mutator.specs.declared.register.Source.TheVariants as source
 use Rattle.gh_mutator.specs.declared.task.Task.TheVariants as task
-use Rattle.gh_mutator.specs.Facts.{FullAt, OwnStepAt}
-use Rattle.gh_mutator.specs.Listing.{Act}
-use Rattle.gh_mutator.specs.Processor.{at_task, register_of}
 use Rattle.gh_mutator.specs.Register.{begins}
 use Rattle.gh_mutator.proofs.Owning.Frames.{StepAt, answered_once, at_its_task, has_room, register_reached, rested, takes_last}
 use Rattle.gh_mutator.proofs.Owning.Known.{Known}

@@ -1,35 +1,22 @@
 -- The processor's laws, put together from those of its statements.
 use Rattle.std.proofs.Common.{◌≡◌, ℕ, Bool, true, false, cond, [], ◌∷◌, ◌++◌, Option, Some, None, refl, sym, ap, subst, ◌∙◌}
 use Rattle.std.specs.Option.{option_to_list}
-use Rattle.gh_base.specs.declared.value.Answer.{Answer}
+use Rattle.gh_mutator.proofs.Owning.Vocabulary.{Act, acting, answered_at, asks, at_task, begins, Does, Fine, OwnStepAt, register_of, Steady}
+use Rattle.gh_mutator.specs.Vocabulary.{Answer, Arena, cell_of, Global, GlobalStage, NewStage, Op, Own, Processor, Register, Shared, Source, Task, View, view, Wanted}
 use Rattle.gh_base.specs.declared.value.Answer.TheVariants as answer
-use Rattle.gh_base.specs.Steps.{cell_of}
 use Rattle.gh_heap.specs.Moves.{landing}
-use Rattle.gh_heap.specs.Rights.{Arena, Shared, View, view}
-use Rattle.gh_base.specs.declared.operation.Op.{Op}
-use Rattle.gh_mutator.specs.declared.global.Global.{Global}
-use Rattle.gh_mutator.specs.declared.global.GlobalStage.{GlobalStage}
 use Rattle.gh_mutator.specs.declared.global.GlobalStage.TheVariants as global_stage
-use Rattle.gh_mutator.specs.declared.register.Register.{Register}
-use Rattle.gh_mutator.specs.declared.register.Source.{Source}
 use Rattle.gh_mutator.specs.declared.register.Source.TheVariants as source
-use Rattle.gh_mutator.specs.declared.new.NewStage.{NewStage}
 use Rattle.gh_mutator.specs.declared.new.NewStage.TheVariants as new_stage
-use Rattle.gh_mutator.specs.declared.new.Wanted.{Wanted}
-use Rattle.gh_mutator.specs.declared.own.Own.{Own}
 use Rattle.gh_mutator.specs.declared.own.Own.TheVariants as own_step
-use Rattle.gh_mutator.specs.declared.processor.Processor.{Processor}
-use Rattle.gh_mutator.specs.declared.task.Task.{Task}
 use Rattle.gh_mutator.specs.declared.task.Task.TheVariants as task
 use Rattle.gh_mutator.specs.Deeds.{given_at, has_point, point_of}
-use Rattle.gh_mutator.specs.Facts.{Does, Fine, OwnStepAt, Steady, answered_at}
 use Rattle.gh_mutator.specs.Global as global
 use Rattle.gh_mutator.specs.Load as load
 use Rattle.gh_mutator.specs.New as new
 use Rattle.gh_mutator.specs.Register as register
 use Rattle.gh_mutator.specs.Store as store
-use Rattle.gh_mutator.specs.Listing.{Act, acting, acts, asks, begins, gives, is_busy_at}
-use Rattle.gh_mutator.specs.Processor.{at_task, register_of}
+use Rattle.gh_mutator.specs.Listing.{acts, gives, is_busy_at}
 use Rattle.gh_mutator.specs.Runs.{Begins, OwnStep, Rests, RunsByItsRights}
 use Rattle.gh_mutator.proofs.ClassFacts.{ClassLaws}
 use Rattle.gh_mutator.proofs.Owning.Begins.{begins_well}

@@ -1,29 +1,20 @@
 -- Own steps of a store while others change the heap. At its point the field takes what its register holds.
 use Rattle.std.proofs.Common.{◌≡◌, ℕ, ◌+◌, ◌<◌, Bool, true, false, not, cond, ltb, [], ◌∷◌, Option, Some, None, refl, sym, ap, subst, ◌∙◌}
 use Rattle.std.proofs.lemmas.Bool.{ltb-true, lt-ltb}
-use Rattle.gh_mutator.specs.Vocabulary.{Name, Answer, Value, Processor, Step, StoreStage, Task}
+use Rattle.gh_mutator.proofs.Owning.Vocabulary.{asks, at_task, Does, ends, Fine, goes_on, has_field, is_pointer_by, IsPlain, lists, OwnStepAt, register_of, Steady, Stores, Through, word_of_value}
+use Rattle.gh_mutator.specs.Vocabulary.{Answer, answer_of, Arena, cell_of, Ever, ever_after, EverValue, Fault, fits, Good, Holds, Means, moved, Name, page_of, points, Processor, Quiet, Reach, Right, Shared, size_for, slot_in, Step, Steps, Store, StoreStage, Task, Value, view}
 use Rattle.gh_base.specs.declared.cell.Cell.TheVariants as cell
 use Rattle.gh_base.specs.declared.value.Answer.TheVariants as answer
-use Rattle.gh_base.specs.declared.value.Fault.{Fault}
 use Rattle.gh_base.specs.declared.value.Fault.TheVariants as fault
 use Rattle.gh_base.specs.declared.value.Value.TheVariants as value
 use Rattle.gh_base.specs.Cells.{put}
-use Rattle.gh_base.specs.Packing.{page_of, slot_in}
-use Rattle.gh_base.specs.Steps.{cell_of}
-use Rattle.gh_model.specs.declared.EverValue.{EverValue}
 use Rattle.gh_model.specs.declared.EverValue.TheVariants as ever
-use Rattle.gh_model.specs.Ever.{Ever, Reach, answer_of, ever_after, fits, store_answer, stores_value, with_field}
-use Rattle.gh_heap.specs.Moves.{Quiet, Steps, Write, moved}
-use Rattle.gh_heap.specs.Objects.{Holds, Means, Place, points, size_for}
-use Rattle.gh_heap.specs.Rights.{Arena, Good, Right, Shared, view}
-use Rattle.gh_mutator.specs.declared.store.Store.{Store}
+use Rattle.gh_model.specs.Ever.{store_answer, stores_value, with_field}
+use Rattle.gh_heap.specs.Moves.{Write}
+use Rattle.gh_heap.specs.Objects.{Place}
 use Rattle.gh_mutator.specs.declared.store.StoreStage.TheVariants.{Page, Bits, Field, NilBase}
 use Rattle.gh_mutator.specs.declared.task.Task.TheVariants as task
-use Rattle.gh_mutator.specs.Facts.{Does, Fine, IsPlain, OwnStepAt, Steady, Stores, Through, lists}
-use Rattle.gh_mutator.specs.Fields.{has_field, is_pointer_by, kinds_differ, word_of_value}
-use Rattle.gh_mutator.specs.Listing.{asks}
-use Rattle.gh_mutator.specs.Processor.{at_task, register_of}
-use Rattle.gh_mutator.specs.Step.{ends, goes_on}
+use Rattle.gh_mutator.specs.Fields.{kinds_differ}
 use Rattle.gh_mutator.specs.Store.{at_stage, op_of, step}
 use Rattle.gh_mutator.proofs.Owning.Fields.{Comes, Known, bit_found, caches_in, faulted, further, idle, not_full, register_reached, size_found, steady_at, word_is}
 

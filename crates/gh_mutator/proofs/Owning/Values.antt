@@ -2,21 +2,12 @@
 use Rattle.std.proofs.Common.{◌≡◌, ℕ, ◌+◌, ◌*◌, ◌-◌, ◌%◌, ◌<◌, ◌≤◌, Bool, true, false, eqb, ltb, refl, ap, subst, ◌∙◌, arith}
 use Rattle.std.proofs.Math.Nat.{mod-eq_of_lt}
 use Rattle.std.proofs.lemmas.Bool.{ltb-true, ltb-false, ne_eqb}
-use Rattle.gh_base.specs.declared.pack.SpanHead.{SpanHead}
-use Rattle.gh_base.specs.declared.value.Name.{Name}
-use Rattle.gh_base.specs.declared.value.Value.{Value}
+use Rattle.gh_mutator.proofs.Owning.Vocabulary.{value_of, word_of_value}
+use Rattle.gh_mutator.specs.Vocabulary.{Arena, Ever, EverValue, fits, Good, Holds, is_number, IsMade, IsSizeClass, Means, Name, name_of, size_for, SizeClass, slot_size, SpanHead, takes_answer, told, Value, View, with_register}
 use Rattle.gh_base.specs.declared.value.Value.TheVariants as value
-use Rattle.gh_base.specs.Packing.{birth_word, name_of}
-use Rattle.gh_class.specs.declared.class.SizeClass.{SizeClass}
+use Rattle.gh_base.specs.Packing.{birth_word}
 use Rattle.gh_class.specs.declared.class.SizeClass.TheVariants as size
-use Rattle.gh_class.specs.Classes.{IsSizeClass}
-use Rattle.gh_model.specs.declared.EverValue.{EverValue}
 use Rattle.gh_model.specs.declared.EverValue.TheVariants as ever
-use Rattle.gh_model.specs.Ever.{Ever, fits, is_number, takes_answer, told, with_register}
-use Rattle.gh_heap.specs.Objects.{Holds, IsMade, Means, size_for}
-use Rattle.gh_heap.specs.Rights.{Arena, Good, View}
-use Rattle.gh_heap.specs.Spans.{slot_size}
-use Rattle.gh_mutator.specs.Fields.{value_of, word_of_value}
 use Rattle.gh_mutator.proofs.Owning.Known.{Known}
 
 -- an object that was made lies in the arena

@@ -1,12 +1,9 @@
 -- What an object of a type wants: the slot of its size class, or pages of its own.
 use Rattle.std.proofs.Common.{◌≡◌, ℕ, ◌*◌, ◌/◌, ◌^◌, ◌<◌, ◌≤◌, Bool, true, false, cond, leb, refl, arith}
 use Rattle.std.proofs.lemmas.Bool.{leb-true, leb-false}
-use Rattle.gh_base.specs.declared.shape.Shape.{Shape}
-use Rattle.gh_base.specs.Shapes.{FitsShape}
-use Rattle.gh_class.specs.declared.class.SizeClass.{SizeClass}
+use Rattle.gh_mutator.specs.Vocabulary.{FitsShape, FitsSlot, Shape, size_class_of, SizeClass, slot_words, slot_words_of}
 use Rattle.gh_class.specs.declared.class.SizeClass.TheVariants as size
-use Rattle.gh_class.specs.Classes.{class_number, size_class_of, slot_words, slot_words_of}
-use Rattle.gh_bitmap.specs.Stepping.{FitsSlot}
+use Rattle.gh_class.specs.Classes.{class_number}
 use Rattle.gh_base.specs.Shapes.{bits_at}
 use Rattle.gh_mutator.proofs.ClassFacts.{ClassLaws, large_facts, small_facts}
 

@@ -1,28 +1,22 @@
 -- Each step of the processor is on a word that there is.
 use Rattle.std.proofs.Common.{◌≡◌, ℕ, ◌+◌, ◌*◌, ◌/◌, ◌%◌, ◌<◌, Option, ap, arith}
 use Rattle.std.proofs.Math.Nat.{mod-lt}
+use Rattle.gh_mutator.proofs.Owning.Vocabulary.{FactsAt, for_whom, GlobalFacts, NewFacts, OwnFacts, register_of, rest}
 use Rattle.gh_base.specs.Cells.{InRange}
-use Rattle.gh_base.specs.Steps.{cell_of}
-use Rattle.gh_heap.specs.Rights.{Arena, Good, View}
 use Rattle.gh_alloc.specs.FindFacts as find
 use Rattle.gh_alloc.specs.PlaceFacts as place
-use Rattle.gh_mutator.specs.Vocabulary.{Answer, Find, Global, Layout, LoadStage, NewStage, Place, Processor, StoreStage, Task, Wanted}
-use Rattle.gh_mutator.specs.declared.global.GlobalStage.{GlobalStage}
+use Rattle.gh_mutator.specs.Vocabulary.{Answer, Arena, cell_of, Find, Global, GlobalStage, Good, Layout, Load, LoadStage, NewStage, Own, Place, Processor, Store, StoreStage, Task, View, Wanted}
 use Rattle.gh_mutator.specs.declared.global.GlobalStage.TheVariants as global_stage
-use Rattle.gh_mutator.specs.declared.load.Load.{Load}
 use Rattle.gh_mutator.specs.declared.load.LoadStage.TheVariants as load_stage
-use Rattle.gh_mutator.specs.declared.own.Own.{Own}
 use Rattle.gh_mutator.specs.declared.own.Own.TheVariants as own_step
-use Rattle.gh_mutator.specs.declared.store.Store.{Store}
 use Rattle.gh_mutator.specs.declared.store.StoreStage.TheVariants as store_stage
 use Rattle.gh_mutator.specs.declared.task.Task.TheVariants as task
-use Rattle.gh_mutator.specs.Facts.{FactsAt, GlobalFacts, NewFacts, OwnFacts, Sits, for_whom, rest}
+use Rattle.gh_mutator.specs.Facts.{Sits}
 use Rattle.gh_mutator.specs.Global as global
 use Rattle.gh_mutator.specs.Listing.{asks_at}
 use Rattle.gh_mutator.specs.Load as load
 use Rattle.gh_mutator.specs.New as new
 use Rattle.gh_mutator.specs.Own as own
-use Rattle.gh_mutator.specs.Processor.{register_of}
 use Rattle.gh_mutator.specs.Runs.{Within}
 use Rattle.gh_mutator.specs.Store as store
 
