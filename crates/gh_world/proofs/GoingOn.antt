@@ -4,19 +4,21 @@ use Rattle.std.specs.Prelude.{◌⊎◌}
 use Rattle.std.specs.Option.{option_to_list}
 use Rattle.std.proofs.lemmas.Bool.{cases_lt, eq-eqb}
 use Rattle.std.proofs.lemmas.List.{append_cancel_left, append-nil, length-replicate}
-use Rattle.gh_world.specs.Vocabulary.{Op, Layout, Entry, InRange, length_of, cell_of, state_of, started, words_after, Program, WellFormed, Processor, Task, Left, is_busy_at, Mutating, has_left_at, is_leaving, work_of, Next, Progress}
+use Rattle.gh_world.specs.Vocabulary.{Op, Layout, Entry, length_of, cell_of, state_of, started, words_after, Program, WellFormed, Processor, Task, Left, is_busy_at, Mutating, has_left_at, is_leaving, work_of, Next, Progress}
 use Rattle.gh_base.specs.declared.operation.Op.TheVariants as op
 use Rattle.gh_base.specs.Lists.{Begins}
 use Rattle.gh_mutator.specs.Deeds.{processor_kind}
 use Rattle.gh_mutator.specs.Listing.{asks, takes}
 use Rattle.gh_world.specs.declared.turns.Next.TheVariants as next
-use Rattle.gh_world.specs.Order.{setting_of, begun_in, ever_of, ended_in, ends, has_left, leaves}
+use Rattle.gh_world.specs.Order.{setting_of, begun_in, ended_in, ends, has_left, leaves}
 use Rattle.gh_world.specs.Runs.{EveryLegalListGoesOn, IsRun, IsRunSoFar, RunsGoOn, RunsEndWhole}
 use Rattle.gh_world.specs.Turns.{count_of, to_come, later, turns_of, total_of, op_due, is_over, Stands, MayBeOver, IsPast, Follows}
 use Rattle.gh_world.specs.World.{opening, Fit, LaysOut, progress_after}
 use Rattle.gh_world.proofs.OneRun.{before, before_turns}
 use Rattle.gh_world.proofs.Turning.{turns_from, none_from, passed, has_one, later_here, later_after, later_none, over_here, over_next, opens_at, follows_run, count-le}
-use Rattle.gh_world.proofs.WorldFacts.{begins_due, begun_busy, ended_after, fit_begun, fit_opens, fit_stepped, has_due, idle_not_leaving, left_after, opening_progress, shapes_good, turns_next}
+use Rattle.gh_world.proofs.Due.{has_due, idle_not_leaving, shapes_good}
+use Rattle.gh_world.proofs.Fitting.{begun_busy, fit_begun, fit_opens, fit_stepped, opening_progress}
+use Rattle.gh_world.proofs.WorldFacts.{begins_due, ended_after, left_after, turns_next}
 
 -- the first goroutine from g on that has a turn in round r
 record First (p : Program) (r g : ℕ) : Type 0 where

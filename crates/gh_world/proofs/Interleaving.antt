@@ -1,37 +1,21 @@
 -- The induction over legal lists of any number of processors. No statement and no stage is named here: of a processor it is known what its law says.
-use Rattle.std.proofs.Common.{◌≡◌, ◌≢◌, ℕ, ◌+◌, ◌-◌, ◌*◌, ◌/◌, ◌%◌, ◌^◌, ◌<◌, ◌≤◌, ◌⊎◌, Bool, true, false, not, cond, eqb, ltb, List, [], ◌∷◌, ◌++◌, length, map, Option, Some, None, refl, sym, ap, subst, ◌∙◌, arith, inl, inr, append_assoc}
-use Rattle.std.specs.Option.{option_to_list}
+use Rattle.std.proofs.Common.{◌≡◌, ℕ, ◌<◌, ◌⊎◌, Bool, true, false, not, cond, eqb, ltb, List, length, Option, Some, refl, sym, ap, subst, ◌∙◌, inl, inr}
 use Rattle.std.specs.Prelude.{◌&&◌, ◌||◌}
-use Rattle.std.proofs.lemmas.Bool.{eqb-true, eqb-false, eq-eqb, ltb-true}
-use Rattle.std.proofs.lemmas.Bool.Decides.{eqb_tells}
-use Rattle.gh_base.specs.declared.cell.Ask.{Ask}
-use Rattle.gh_base.specs.declared.machine.Entry.{Entry}
-use Rattle.gh_base.specs.declared.operation.Op.{Op}
+use Rattle.std.proofs.lemmas.Bool.{eqb-true, ltb-true}
+use Rattle.gh_world.specs.Vocabulary.{Answer, Arena, by, Entry, Ever, ever_after, EverValue, has_names, IsOf, made_by, Op, Processor, REGISTERS, Shape, state_of, View}
 use Rattle.gh_base.specs.declared.operation.Op.TheVariants as op
-use Rattle.gh_base.specs.declared.limits.TheConstants.{MOST_STATEMENTS, REGISTERS}
-use Rattle.gh_base.specs.declared.shape.Shape.{Shape}
-use Rattle.gh_base.specs.declared.value.Answer.{Answer}
+use Rattle.gh_base.specs.declared.limits.TheConstants.{MOST_STATEMENTS}
 use Rattle.gh_base.specs.declared.value.Answer.TheVariants as answer
-use Rattle.gh_base.specs.Cells.{Words}
-use Rattle.gh_base.specs.Lists.{Kind, Legal, MayFollow, Setting, by, started, state_of, words_after}
-use Rattle.gh_base.specs.Orders.{Answered, DeedsFit, answered, answered_by, before_step, done_at, given_by, left_at, model_after}
-use Rattle.gh_base.specs.Steps.{cell_of, effect}
-use Rattle.gh_model.specs.declared.EverValue.{EverValue}
+use Rattle.gh_base.specs.Lists.{Kind}
 use Rattle.gh_model.specs.declared.EverValue.TheVariants as ever
-use Rattle.gh_model.specs.Ever.{Ever, answer_of, ever_after, makes_object, sets_global, stores_value, takes_answer}
-use Rattle.gh_heap.specs.Laws.{EachMoveKeeps, EachMoveLeaves, TheHeapIsApart}
-use Rattle.gh_heap.specs.Moves.{Lands, Others, Runs, Steps, moved}
-use Rattle.gh_heap.specs.Rights.{Arena, Good, IsOf, Shared, View, view}
-use Rattle.gh_mutator.specs.declared.processor.Processor.{Processor}
-use Rattle.gh_mutator.specs.Deeds.{IsChangedByPoints, OnlyPointsChange, ProcessorsDeedsFit, deeds, meaning, point_of, processor_kind}
-use Rattle.gh_mutator.specs.Facts.{Fine, FullAt, MayBegin, ShapesAreGood, acted, answer_at, answered_at}
-use Rattle.gh_mutator.specs.Listing.{Act, acts, asks, begins, gives, is_busy_at, takes}
-use Rattle.gh_mutator.specs.Processor.{made_by}
-use Rattle.gh_mutator.specs.Sound.{has_names}
-use Rattle.gh_mutator.specs.Runs.{DoesPoints, RunsByItsRights}
-use Rattle.gh_world.specs.Order.{ended_in, ends, goroutine_of, in_range, is_over}
+use Rattle.gh_model.specs.Ever.{makes_object, sets_global, stores_value, takes_answer}
+use Rattle.gh_heap.specs.Laws.{EachMoveKeeps, EachMoveLeaves}
+use Rattle.gh_heap.specs.Moves.{Runs}
+use Rattle.gh_mutator.specs.Deeds.{OnlyPointsChange, ProcessorsDeedsFit}
+use Rattle.gh_mutator.specs.Facts.{MayBegin}
+use Rattle.gh_mutator.specs.Runs.{RunsByItsRights}
+use Rattle.gh_world.specs.Order.{ended_in, goroutine_of, in_range, is_over}
 use Rattle.gh_world.specs.Processors.{is_of, may_run}
-use Rattle.gh_world.proofs.Naming.{IsNamed, named-acted}
 
 pub record Known : Type 0 where
   pub keep : EachMoveKeeps

@@ -1,24 +1,16 @@
 -- What the induction keeps, and one step of it.
-use Rattle.std.proofs.Common.{◌≡◌, ◌≢◌, ℕ, ◌+◌, ◌<◌, ◌≤◌, ◌⊎◌, Bool, true, false, cond, eqb, List, [], ◌∷◌, ◌++◌, length, map, Option, Some, None, refl, sym, ap, subst, ◌∙◌, arith, inl, inr, append_assoc}
+use Rattle.std.proofs.Common.{◌≡◌, ◌≢◌, ℕ, ◌<◌, ◌≤◌, ◌⊎◌, Bool, true, false, cond, eqb, List, ◌∷◌, ◌++◌, map, Option, Some, None, refl, sym, ap, subst, ◌∙◌, arith, inl, inr, append_assoc}
 use Rattle.std.specs.Option.{option_to_list}
 use Rattle.std.specs.Prelude.{◌||◌}
 use Rattle.std.proofs.lemmas.Bool.{eqb-true, eqb-false, eq-eqb}
+use Rattle.gh_world.specs.Vocabulary.{Act, acted, acts, Answer, answer_at, Answered, answered_at, answered_by, Arena, asks, Begins, begins, by, cell_of, deeds, Entry, Ever, given_by, has_point, InRange, is_busy_at, IsOf, MayFollow, meaning, model_after, Op, Processor, processor_kind, Setting, ShapesAreGood, started, state_of, view, Words, words_after}
 use Rattle.gh_base.specs.declared.cell.Ask.{Ask}
-use Rattle.gh_base.specs.declared.machine.Entry.{Entry}
-use Rattle.gh_base.specs.declared.operation.Op.{Op}
 use Rattle.gh_base.specs.declared.operation.Op.TheVariants as op
-use Rattle.gh_base.specs.declared.value.Answer.{Answer}
-use Rattle.gh_base.specs.Cells.{InRange, Words}
-use Rattle.gh_base.specs.Lists.{Begins, Legal, MayFollow, Setting, by, started, state_of, words_after}
-use Rattle.gh_base.specs.Orders.{Answered, DeedsFit, answered, answered_by, before_step, done_at, given_by, left_at, model_after, with_point}
-use Rattle.gh_base.specs.Steps.{cell_of, effect}
-use Rattle.gh_model.specs.Ever.{Ever, ever_after}
+use Rattle.gh_base.specs.Orders.{DeedsFit, answered}
+use Rattle.gh_base.specs.Steps.{effect}
 use Rattle.gh_heap.specs.Moves.{Others, Steps, moved}
-use Rattle.gh_heap.specs.Rights.{Arena, Good, IsOf, Shared, View, view}
-use Rattle.gh_mutator.specs.declared.processor.Processor.{Processor}
-use Rattle.gh_mutator.specs.Deeds.{deeds, has_point, meaning, processor_kind}
-use Rattle.gh_mutator.specs.Facts.{Fine, FullAt, ShapesAreGood, acted, answer_at, answered_at}
-use Rattle.gh_mutator.specs.Listing.{Act, acts, asks, begins, is_busy_at}
+use Rattle.gh_heap.specs.Rights.{Good, Shared}
+use Rattle.gh_mutator.specs.Facts.{Fine}
 use Rattle.gh_mutator.specs.Runs.{DoesPoints}
 use Rattle.gh_world.specs.Order.{ended_in, ends}
 use Rattle.gh_world.specs.Processors.{may_run}

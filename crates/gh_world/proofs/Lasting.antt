@@ -1,28 +1,13 @@
 -- After every legal list of any number of processors' steps the words stand for the heap that never frees.
-use Rattle.std.proofs.Common.{◌≡◌, ◌≢◌, ℕ, ◌+◌, ◌%◌, ◌<◌, ◌≤◌, Bool, true, false, cond, List, [], ◌∷◌, length, Option, Some, None, refl, sym, ap, subst, ◌∙◌, arith}
+use Rattle.std.proofs.Common.{◌≡◌, ℕ, ◌<◌, Bool, true, false, cond, List, [], ◌∷◌, Option, Some, None, refl, sym, subst, ◌∙◌, arith}
 use Rattle.std.specs.Prelude.{◌&&◌, not}
-use Rattle.gh_base.specs.declared.layout.Layout.{Layout}
-use Rattle.gh_base.specs.declared.machine.Entry.{Entry}
-use Rattle.gh_base.specs.declared.operation.Op.{Op}
+use Rattle.gh_world.specs.Vocabulary.{Act, acts, Arena, cached_for, Entry, has_point, Layout, Legal, MayFollow, Op, opening_words, Processor, processor_kind, Shape, shape_at, ShapesAreGood, Sought, sought_for, started, state_of, Words, words_after}
 use Rattle.gh_base.specs.declared.operation.Op.TheVariants as op
-use Rattle.gh_base.specs.declared.shape.Shape.{Shape}
-use Rattle.gh_base.specs.Cells.{Words, opening_words}
-use Rattle.gh_base.specs.Lists.{Legal, MayFollow, started, state_of, words_after}
-use Rattle.gh_base.specs.Orders.{done_at}
-use Rattle.gh_base.specs.Shapes.{shape_at}
-use Rattle.gh_heap.specs.Rights.{Arena, IsOf, view}
-use Rattle.gh_alloc.specs.declared.sought.Sought.{Sought}
-use Rattle.gh_mutator.specs.declared.processor.Processor.{Processor}
-use Rattle.gh_mutator.specs.Deeds.{deeds, has_point, point_of, processor_kind}
-use Rattle.gh_mutator.specs.Facts.{Does, FullAt, ShapesAreGood}
-use Rattle.gh_mutator.specs.Listing.{Act, acts, begins}
-use Rattle.gh_mutator.specs.New.{sought_for}
-use Rattle.gh_mutator.specs.Processor.{cached_for}
-use Rattle.gh_mutator.specs.Runs.{DoesPoints}
+use Rattle.gh_mutator.specs.Deeds.{point_of}
 use Rattle.gh_world.specs.Order.{has_left}
-use Rattle.gh_world.specs.Processors.{AnswersAsEver, EveryListOfProcessorsStands, FullOnlyThere, IsFullFor, ListStands, NoRoomFor, OfNew, arena_of, has_more, may_begin, may_leave, may_run, setting}
+use Rattle.gh_world.specs.Processors.{EveryListOfProcessorsStands, FullOnlyThere, IsFullFor, ListStands, NoRoomFor, OfNew, arena_of, has_more, may_begin, may_leave, may_run, setting}
 use Rattle.gh_world.proofs.Interleaving.{Known, both}
-use Rattle.gh_world.proofs.Invariant.{Inv, Which, at, begun, does, inv-step, setting_by}
+use Rattle.gh_world.proofs.Invariant.{Inv, Which, at, does, inv-step, setting_by}
 use Rattle.gh_world.proofs.Opening.{inv-opening}
 use Rattle.gh_world.proofs.Standing.{Heap, full-for, stands}
 

@@ -1,4 +1,6 @@
+pub mod Due
 pub mod EachOnce
+pub mod Fitting
 pub mod GoingOn
 pub mod NoRoom
 pub mod One

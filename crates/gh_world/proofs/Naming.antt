@@ -1,11 +1,10 @@
 -- In the heap that never frees each value names an object that was made.
-use Rattle.std.proofs.Common.{◌≡◌, ℕ, ◌+◌, ◌<◌, Bool, true, false, cond, eqb, List, Option, Some, None, refl, sym, ap, subst, arith}
+use Rattle.std.proofs.Common.{◌≡◌, ℕ, ◌+◌, ◌<◌, Bool, true, false, cond, eqb, List, Option, Some, None, refl, sym, subst, arith}
 use Rattle.std.specs.Prelude.{◌&&◌}
 use Rattle.std.proofs.lemmas.Bool.{eqb-true, eq-eqb}
 use Rattle.gh_base.specs.declared.operation.Op.{Op}
 use Rattle.gh_base.specs.declared.operation.Op.TheVariants as op
 use Rattle.gh_base.specs.declared.shape.Shape.{Shape}
-use Rattle.gh_base.specs.declared.value.Answer.{Answer}
 use Rattle.gh_base.specs.declared.value.Answer.TheVariants as answer
 use Rattle.gh_base.specs.declared.value.Fault.TheVariants as fault
 use Rattle.gh_base.specs.declared.value.Name.{Name}
@@ -14,7 +13,7 @@ use Rattle.gh_model.specs.declared.EverValue.{EverValue}
 use Rattle.gh_model.specs.declared.EverValue.TheVariants as ever
 use Rattle.gh_model.specs.Ever.{Ever, Reach, from_field, from_global, from_register, answer_of, ever_after, first_value, fits, has_field, is_number, is_pointer_field, load_answer, next_name, opening_ever, same_name, sets_global, store_answer, stores_value, takes_answer, told, with_end, with_field, with_global, with_object, with_register}
 use Rattle.gh_heap.specs.Objects.{IsMade}
-use Rattle.gh_mutator.specs.Facts.{acted, answer_at}
+use Rattle.gh_mutator.specs.Facts.{acted}
 use Rattle.gh_mutator.specs.Listing.{Act}
 
 pub record IsNamed (e : Ever) : Type 0 where

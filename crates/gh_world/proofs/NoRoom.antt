@@ -4,20 +4,12 @@ use Rattle.std.specs.Prelude.{slice_get, ◌⊎◌}
 use Rattle.std.specs.Option.{option_to_list}
 use Rattle.std.proofs.lemmas.Grind.{reverse_onto}
 use Rattle.std.proofs.lemmas.List.{length-reverse}
+use Rattle.gh_world.specs.Vocabulary.{Act, acts, answer_at, answer_of, Entry, Ever, EverValue, Layout, Op, Shape, Words, words_after}
 use Rattle.gh_base.specs.declared.value.Answer.TheVariants as answer
 use Rattle.gh_base.specs.declared.value.Fault.TheVariants as fault
-use Rattle.gh_base.specs.declared.operation.Op.{Op}
 use Rattle.gh_base.specs.declared.operation.Op.TheVariants as op
-use Rattle.gh_base.specs.declared.shape.Shape.{Shape}
-use Rattle.gh_base.specs.declared.layout.Layout.{Layout}
-use Rattle.gh_base.specs.declared.machine.Entry.{Entry}
-use Rattle.gh_base.specs.Cells.{Words}
-use Rattle.gh_base.specs.Lists.{words_after}
-use Rattle.gh_model.specs.declared.EverValue.{EverValue}
 use Rattle.gh_model.specs.declared.EverValue.TheVariants as values
-use Rattle.gh_model.specs.Ever.{Ever, answer_of, told, load_answer, store_answer, has_field, is_pointer_field, is_number, fits}
-use Rattle.gh_mutator.specs.Facts.{answer_at}
-use Rattle.gh_mutator.specs.Listing.{acts, Act}
+use Rattle.gh_model.specs.Ever.{told, load_answer, store_answer, has_field, is_pointer_field, is_number, fits}
 use Rattle.gh_world.specs.Order.{before_step, ever_of, order_of, answered, Answered}
 use Rattle.gh_world.specs.Law.{FullAt, FullOnly, FoundNoRoom, FullMeansNoRoom, processor_after}
 

@@ -1,20 +1,13 @@
 -- The law of one processor: the invariant of any number of them, at one.
-use Rattle.std.proofs.Common.{◌≡◌, ◌≢◌, ℕ, ◌+◌, ◌<◌, ◌≤◌, Bool, true, false, cond, eqb, List, [], ◌∷◌, ◌++◌, length, map, Option, Some, None, refl, sym, ap, subst, ◌∙◌, arith, inl, inr}
+use Rattle.std.proofs.Common.{◌≡◌, ◌≢◌, ℕ, ◌<◌, ◌≤◌, Bool, true, false, cond, List, [], ◌∷◌, ◌++◌, length, map, Option, Some, None, refl, sym, ap, subst, ◌∙◌, arith, inl, inr}
 use Rattle.std.specs.Prelude.{◌&&◌, not}
 use Rattle.std.specs.Option.{option_to_list}
 use Rattle.std.proofs.lemmas.Bool.{eq-eqb}
 use Rattle.gh_base.specs.declared.cell.Cell.TheVariants as cell
-use Rattle.gh_base.specs.declared.pack.PageWord.TheVariants.{Head}
-use Rattle.gh_base.specs.Lists.{Begins}
-use Rattle.gh_base.specs.Orders.{model_after}
-use Rattle.gh_heap.specs.Rights.{view}
-use Rattle.gh_heap.specs.Spans.{owner_in}
 use Rattle.gh_mutator.specs.Acting.{ActsOnce, EachOperationActsOnce}
-use Rattle.gh_mutator.specs.Deeds.{deeds, meaning, processor_kind}
-use Rattle.gh_mutator.specs.Facts.{ShapesAreGood, acted, answered_at}
-use Rattle.gh_mutator.specs.Listing.{gives, takes}
-use Rattle.gh_world.specs.Vocabulary.{Act, Answer, Entry, Ever, InRange, Layout, Legal, MayFollow, Op, Processor, Shape, Sought, SpanHead, Words, acts, asks, begins_at, cell_of, has_names, is_busy_at, op_at, opening_words, page_of, started, state_of, words_after}
-use Rattle.gh_world.specs.Law.{AllStand, EveryListStands, EveryStepIsWithin, FullAt, FullOnly, NoRoom, answers_in, one_of, ops_in, processor_after}
+use Rattle.gh_mutator.specs.Listing.{gives}
+use Rattle.gh_world.specs.Vocabulary.{Act, acted, acts, Answer, answered_at, Begins, deeds, Entry, Ever, has_names, Head, is_busy_at, Layout, Legal, MayFollow, meaning, model_after, Op, op_at, opening_words, owner_in, page_of, Processor, processor_kind, Shape, ShapesAreGood, Sought, SpanHead, started, state_of, takes, view, Words, words_after}
+use Rattle.gh_world.specs.Law.{AllStand, EveryListStands, EveryStepIsWithin, FullOnly, NoRoom, answers_in, one_of, ops_in, processor_after}
 use Rattle.gh_world.specs.Order.{Answered, answered, before_step, begun_in, ever_of, given_in, goroutine_of, has_left, in_range, is_over, may_begin, order_of, setting_of}
 use Rattle.gh_world.specs.Processors.{IsAnothers, IsFullFor, NoRoomFor, is_of}
 use Rattle.gh_world.proofs.Interleaving.{Known}

@@ -19,7 +19,7 @@ use Rattle.gh_mutator.specs.Listing.{is_busy_at}
 abbrev at_setting : Program → Layout → Setting Processor Op
 at_setting p l = setting_of p.shapes l opening
 
-one_more : {A : Type 0} (x : A) (xs rest : List A) → reverse (x ∷ xs) ++ rest ≡ reverse xs ++ x ∷ rest
+pub one_more : {A : Type 0} (x : A) (xs rest : List A) → reverse (x ∷ xs) ++ rest ≡ reverse xs ++ x ∷ rest
 one_more x xs rest = ap (λ ys. ys ++ rest) (reverse_onto xs x []) ∙ append_assoc (reverse xs) (x ∷ []) rest
 
 -- what had begun before the last step

@@ -14,7 +14,8 @@ use Rattle.gh_world.specs.declared.turns.Next.{Next}
 use Rattle.gh_world.specs.declared.world.Event.{Event}
 use Rattle.gh_world.specs.declared.world.Progress.{Progress}
 use Rattle.gh_world.specs.World.{After, IsAfter, Appends, Begins, Fit, State, Advances, begun_as, found_in, is_done, progress_after, event_of}
-use Rattle.gh_world.proofs.WorldFacts.{ready, follows, says, entry_of, Knows, marks_few, marks_more}
+use Rattle.gh_world.proofs.Fitting.{ready, marks_few, marks_more}
+use Rattle.gh_world.proofs.WorldFacts.{follows, says, entry_of, Knows}
 use Rattle.gh_mutator.specs.Listing.{begins, is_busy_at}
 use Rattle.gh_mutator.specs.Serving.{statement_answer}
 

@@ -1,20 +1,17 @@
 -- Before the first step the heap is empty, and every processor is at rest.
-use Rattle.std.proofs.Common.{◌≡◌, ℕ, zero, suc, ◌+◌, ◌*◌, ◌/◌, ◌%◌, ◌^◌, ◌<◌, ◌≤◌, ◌⊎◌, Bool, true, false, List, [], ◌∷◌, length, replicate, get_or, Option, Some, None, refl, sym, ap, subst, ◌∙◌, arith, inl, inr, lit<}
+use Rattle.std.proofs.Common.{◌≡◌, ℕ, zero, suc, ◌+◌, ◌*◌, ◌%◌, ◌<◌, false, [], replicate, Option, None, refl, sym, ◌∙◌, arith, inl, inr, lit<}
 use Rattle.std.proofs.lemmas.List.{length-replicate}
 use Rattle.std.proofs.lemmas.Nat.Bits.{bit_at-zero}
 use Rattle.gh_base.specs.declared.limits.TheConstants.{MOST_GOROUTINES, REGISTERS}
-use Rattle.gh_base.specs.declared.operation.Op.TheVariants as op
 use Rattle.gh_base.specs.declared.value.Name.{Name}
 use Rattle.gh_base.specs.declared.value.Value.TheVariants as value
 use Rattle.gh_base.specs.Cells.{opening_words}
 use Rattle.gh_base.specs.Rows.{alloc_words, row_bit}
-use Rattle.gh_class.specs.declared.class.SpanClass.{SpanClass}
 use Rattle.gh_class.specs.declared.class.TheConstants.{SPAN_CLASSES}
 use Rattle.gh_class.specs.Classes.{span_index}
 use Rattle.gh_model.specs.Ever.{Reach, from_field, from_global, from_register, opening_ever}
-use Rattle.gh_heap.specs.Rights.{Arena, Good, IsOf, Shared, view}
+use Rattle.gh_heap.specs.Rights.{Arena, Good, Shared, view}
 use Rattle.gh_alloc.specs.declared.sought.CachedSpan.{CachedSpan}
-use Rattle.gh_mutator.specs.Deeds.{deeds}
 use Rattle.gh_mutator.specs.Facts.{Fine, lists}
 use Rattle.gh_mutator.specs.Processor.{opening_processor}
 use Rattle.gh_world.proofs.Invariant.{Inv, Which}

@@ -6,10 +6,9 @@ use Rattle.std.specs.List.{filter}
 use Rattle.std.proofs.lemmas.Grind.{reverse_onto}
 use Rattle.std.proofs.lemmas.List.{length-reverse, append-nil, map-append}
 use Rattle.std.proofs.lemmas.Bool.{eq-eqb}
-use Rattle.gh_world.specs.Vocabulary.{Answer, Op, Shape, Layout, Entry, Words, state_of, started, words_after, Legal, Ever, opening_ever, answer_of, ever_after, AllAnswer, Processor, Program, statements_of, answers_by, is_serving, is_statement, Act, acts, gives_at, is_busy_at}
+use Rattle.gh_world.specs.Vocabulary.{Act, acts, AllAnswer, Answer, answer_at, answer_of, answers_by, Begins, begins, Entry, Ever, ever_after, gives_at, is_busy_at, is_serving, is_statement, Layout, Legal, Op, opening_ever, Processor, processor_kind, Program, Shape, started, state_of, statements_of, takes, Words, words_after}
 use Rattle.gh_base.specs.declared.value.Answer.TheVariants as answer
 use Rattle.gh_base.specs.declared.operation.Op.TheVariants as op
-use Rattle.gh_base.specs.Lists.{Begins}
 use Rattle.gh_model.specs.Answers.{Answers, ever_after_all}
 use Rattle.gh_world.specs.Order.{setting_of, before_step, begun_in, ever_of, order_of, acted_in, given_in, Answered}
 use Rattle.gh_world.specs.Turns.{answers_to, goroutine_at, is_statement_of, statement_now, turns_of}
@@ -20,10 +19,7 @@ use Rattle.gh_world.specs.Law.{processor_after, answers_in, ops_in, FullAt, Full
 use Rattle.gh_world.proofs.EachOnce.{acted_answers, acted_ops, none_beyond, turns_mine}
 use Rattle.gh_world.proofs.NoRoom.{full_means}
 use Rattle.gh_world.proofs.StepFacts.{step_facts, begin_facts, begins_busy}
-use Rattle.gh_mutator.specs.Deeds.{processor_kind}
-use Rattle.gh_mutator.specs.Facts.{answer_at}
 use Rattle.gh_mutator.specs.Serving.{answer_at as answer_at_task}
-use Rattle.gh_mutator.specs.Listing.{begins, takes}
 use Rattle.gh_world.proofs.Interleaving.{both}
 
 reverse_more : {A : Type 0} (x : A) (xs : List A) → reverse (x ∷ xs) ≡ reverse xs ++ x ∷ []

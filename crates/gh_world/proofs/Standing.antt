@@ -1,42 +1,20 @@
 -- What every legal list keeps, from the invariant of the induction.
-use Rattle.std.proofs.Common.{◌≡◌, ◌≢◌, ℕ, ◌+◌, ◌-◌, ◌*◌, ◌/◌, ◌%◌, ◌^◌, ◌<◌, ◌≤◌, ◌⊎◌, Bool, true, false, cond, eqb, ltb, List, [], ◌∷◌, ◌++◌, length, map, Option, Some, None, refl, sym, ap, subst, ◌∙◌, arith, inl, inr}
-use Rattle.std.proofs.lemmas.Bool.{eqb-true, eqb-false, eq-eqb, ltb-true, ltb-false}
-use Rattle.std.proofs.lemmas.Bool.Decides.{eqb_tells}
-use Rattle.gh_base.specs.declared.cell.Cell.TheVariants as cell
-use Rattle.gh_base.specs.declared.limits.TheConstants.{MOST_STATEMENTS, REGISTERS}
-use Rattle.gh_base.specs.declared.machine.Entry.{Entry}
-use Rattle.gh_base.specs.declared.operation.Op.{Op}
+use Rattle.std.proofs.Common.{◌≡◌, ◌≢◌, ℕ, ◌+◌, ◌-◌, ◌^◌, ◌<◌, ◌≤◌, ◌⊎◌, Bool, true, false, eqb, ltb, List, refl, sym, ap, subst, ◌∙◌, arith, inl, inr}
+use Rattle.std.proofs.lemmas.Bool.{eqb-true, eqb-false, ltb-true, ltb-false}
+use Rattle.gh_world.specs.Vocabulary.{Arena, bit, Entry, Ever, Head, Holds, IsFull, IsSpan, Name, Op, owner_in, page_of, Placed, Processor, Reach, row_bit, shape_at, size_for, slot_count, Sought, sought_for, span_for, SpanHead, View, view, Words, words_after}
 use Rattle.gh_base.specs.declared.operation.Op.TheVariants as op
-use Rattle.gh_base.specs.declared.pack.PageWord.TheVariants.{Free, Head}
-use Rattle.gh_base.specs.declared.pack.SpanHead.{SpanHead}
-use Rattle.gh_base.specs.declared.value.Name.{Name}
-use Rattle.gh_base.specs.Cells.{Words}
-use Rattle.gh_base.specs.Lists.{Legal, MayFollow, started, state_of, words_after}
-use Rattle.gh_base.specs.Orders.{done_at}
-use Rattle.gh_base.specs.Packing.{bit, birth_word, page_of}
-use Rattle.gh_base.specs.Rows.{alloc_words, bitmap_words, birth_words, field_words, row_bit}
-use Rattle.gh_base.specs.Shapes.{shape_at}
+use Rattle.gh_base.specs.Packing.{birth_word}
 use Rattle.gh_class.specs.declared.class.SizeClass.{SizeClass}
 use Rattle.gh_class.specs.declared.class.SizeClass.TheVariants as size
 use Rattle.gh_class.specs.Classes.{IsSizeClass, slots_of}
-use Rattle.gh_model.specs.Ever.{Ever, Reach}
 use Rattle.gh_heap.specs.Laws.{TheHeapIsApart}
-use Rattle.gh_heap.specs.Objects.{Holds, InSlot, IsMade, Placed, points, size_for}
-use Rattle.gh_heap.specs.Rights.{Arena, Good, IsOf, View, view}
-use Rattle.gh_heap.specs.Spans.{IsFull, IsSpan, owner_at, owner_in, slot_count}
-use Rattle.gh_alloc.specs.declared.sought.Sought.{Sought}
+use Rattle.gh_heap.specs.Objects.{IsMade, points}
+use Rattle.gh_heap.specs.Spans.{owner_at}
 use Rattle.gh_alloc.specs.declared.sought.Sought.TheVariants.{Small, Large}
 use Rattle.gh_alloc.specs.FindFacts.{NoneLeft}
-use Rattle.gh_alloc.specs.Find.{span_for}
-use Rattle.gh_mutator.specs.declared.processor.Processor.{Processor}
-use Rattle.gh_mutator.specs.Deeds.{deeds, has_point, point_of, processor_kind}
-use Rattle.gh_mutator.specs.Facts.{FoundNone, FullAt, ShapesAreGood}
-use Rattle.gh_mutator.specs.Listing.{Act, acts}
-use Rattle.gh_mutator.specs.New.{sought_for}
-use Rattle.gh_mutator.specs.Processor.{cached_for}
+use Rattle.gh_mutator.specs.Facts.{FoundNone, FullAt}
 use Rattle.gh_world.specs.Law.{AllStand}
-use Rattle.gh_world.specs.Processors.{IsAnothers, IsFullFor, IsTakenPage, IsVacant, NoRoomFor, StandsFor, StandsForThese}
-use Rattle.gh_world.proofs.Interleaving.{Known}
+use Rattle.gh_world.specs.Processors.{IsAnothers, IsFullFor, IsVacant, NoRoomFor, StandsFor, StandsForThese}
 use Rattle.gh_world.proofs.Invariant.{Inv, Which, at, ever_of}
 use Rattle.gh_world.proofs.Naming.{reached-made}
 

@@ -2,7 +2,7 @@
 use Rattle.std.proofs.Common.{◌≡◌, ℕ, ◌+◌, ◌-◌, ◌≤◌, Bool, true, false, cond, ltb, not, ◌&&◌, List, get_or, refl, sym, ap, ◌∙◌, Option, Some, None, arith}
 use Rattle.std.specs.Prelude.{is_some}
 use Rattle.std.proofs.Math.ListN.{set}
-use Rattle.gh_world.specs.Vocabulary.{Layout, Op, SpanHead, Shape, Answer, Value, bit, Found, At, PlaceStage, Finding, Placing, Global, GlobalStage, LoadStage, NewStage, Find, Place, Wanted, Own, Processor, Register, Source, Step, StoreStage, Task, is_pointer_by, kinds_differ, value_of, Act, acting, acts_at, applied, begins_at, gives_at, is_busy_at, op_at, takes_at, after_find, finds_none, is_made, made_object, makes, searches, at_task, cache_span, made_by, register_of, is_leaving, is_point, is_serving, is_statement}
+use Rattle.gh_world.specs.Vocabulary.{Act, acting, acts_at, after_find, Answer, applied, At, at_task, begins_at, bit, cache_span, Find, Finding, finds_none, Found, gives_at, Global, GlobalStage, is_busy_at, is_leaving, is_made, is_point, is_pointer_by, is_serving, is_statement, kinds_differ, Layout, LoadStage, made_by, made_object, makes, NewStage, Op, op_at, Own, Place, PlaceStage, Placing, Processor, Register, register_of, searches, Shape, Source, SpanHead, Step, StoreStage, takes_at, Task, Value, value_of, Wanted}
 use Rattle.gh_base.specs.declared.operation.Op.TheVariants as op
 use Rattle.gh_base.specs.declared.value.Answer.TheVariants as answer
 use Rattle.gh_base.specs.declared.value.Fault.TheVariants as fault

@@ -1,38 +1,15 @@
 -- Lists of steps of any number of processors over one heap, the newest first: which are legal, and what every legal one keeps.
 use Rattle.std.specs.Prelude.{◌≡◌, ◌≢◌, ℕ, zero, suc, ◌+◌, ◌*◌, ◌%◌, ◌<◌, ◌≤◌, nat_lt, Bool, true, false, not, ◌==◌, ◌&&◌, ◌||◌, if◌then◌else◌, ◌⊎◌, List, [], ◌∷◌, ◌++◌, length, map, Option, Some, None}
 use Rattle.std.specs.Option.{option_to_list}
+use Rattle.gh_world.specs.Vocabulary.{Act, Answer, Answered, answered_by, Arena, cached_for, deeds, Entry, Ever, given_by, has_names, Head, Holds, IsFull, IsOf, IsSpan, Layout, Legal, meaning, model_after, Name, Op, opening_words, page_of, Placed, Processor, processor_kind, Reach, register_of, REGISTERS, row_bit, Setting, Shape, shape_at, ShapesAreGood, size_for, slot_count, Sought, sought_for, span_for, SpanHead, state_of, Words, words_after}
 use Rattle.gh_base.specs.declared.cell.Cell.TheVariants as cell
-use Rattle.gh_base.specs.declared.layout.Layout.{Layout}
-use Rattle.gh_base.specs.declared.limits.TheConstants.{MOST_STATEMENTS, REGISTERS}
-use Rattle.gh_base.specs.declared.machine.Entry.{Entry}
-use Rattle.gh_base.specs.declared.operation.Op.{Op}
 use Rattle.gh_base.specs.declared.operation.Op.TheVariants as op
-use Rattle.gh_base.specs.declared.pack.PageWord.TheVariants.{Free, Head}
-use Rattle.gh_base.specs.declared.pack.SpanHead.{SpanHead}
-use Rattle.gh_base.specs.declared.shape.Shape.{Shape}
-use Rattle.gh_base.specs.declared.value.Answer.{Answer}
-use Rattle.gh_base.specs.declared.value.Name.{Name}
-use Rattle.gh_base.specs.Cells.{Words, opening_words}
-use Rattle.gh_base.specs.Lists.{Legal, Setting, state_of, words_after}
-use Rattle.gh_base.specs.Orders.{Answered, answered_by, done_at, given_by, model_after}
-use Rattle.gh_base.specs.Packing.{page_of}
-use Rattle.gh_base.specs.Rows.{Row, alloc_words, birth_words, bitmap_words, field_words, global_words, page_words, row_bit}
-use Rattle.gh_base.specs.Shapes.{shape_at}
+use Rattle.gh_base.specs.declared.pack.PageWord.TheVariants.{Free}
+use Rattle.gh_base.specs.Orders.{done_at}
+use Rattle.gh_base.specs.Rows.{Row, alloc_words, birth_words, bitmap_words, field_words, global_words, page_words}
 use Rattle.gh_class.specs.declared.class.SizeClass.TheVariants as size
-use Rattle.gh_model.specs.Ever.{Ever, Reach}
-use Rattle.gh_heap.specs.Objects.{FieldsGood, GlobalsGood, Holds, InSlot, Means, Place, Placed, points, size_for}
-use Rattle.gh_heap.specs.Rights.{Arena, IsOf}
-use Rattle.gh_heap.specs.Spans.{IsFull, IsSpan, slot_count, slot_size}
-use Rattle.gh_alloc.specs.declared.sought.Sought.{Sought}
-use Rattle.gh_alloc.specs.declared.sought.Sought.TheVariants.{Small}
-use Rattle.gh_alloc.specs.Find.{span_for}
-use Rattle.gh_mutator.specs.declared.processor.Processor.{Processor}
-use Rattle.gh_mutator.specs.Deeds.{deeds, meaning, processor_kind}
-use Rattle.gh_mutator.specs.Facts.{ShapesAreGood}
-use Rattle.gh_mutator.specs.Listing.{Act}
-use Rattle.gh_mutator.specs.New.{sought_for}
-use Rattle.gh_mutator.specs.Processor.{cached_for, register_of}
-use Rattle.gh_mutator.specs.Sound.{has_names}
+use Rattle.gh_heap.specs.Objects.{GlobalsGood, InSlot, Means, Place}
+use Rattle.gh_heap.specs.Spans.{slot_size}
 use Rattle.gh_world.specs.Order.{ended_in, goroutine_of, has_left, in_range, is_over}
 
 -- goroutine i is of processor i modulo their number

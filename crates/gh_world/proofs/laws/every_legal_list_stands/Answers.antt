@@ -1,4 +1,3 @@
-use Rattle.gh_world.proofs.Interleaving.{Known}
 use Rattle.gh_world.proofs.One.{every-list-stands, every-step-is-within}
 use Rattle.gh_world.proofs.laws.every_legal_list_stands.Goals as goal
 

@@ -1,6 +1,6 @@
 use Rattle.std.proofs.Common.{◌-◌, ◌^◌}
 use Rattle.gh_world.proofs.Running.{run_explained}
-use Rattle.gh_world.proofs.WorldFacts.{shapes_good}
+use Rattle.gh_world.proofs.Due.{shapes_good}
 use Rattle.gh_world.proofs.laws.every_run_is_explained.Goals as goal
 
 pub returns : goal.returns

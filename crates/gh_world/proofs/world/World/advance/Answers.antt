@@ -6,7 +6,7 @@ use Rattle.gh_mutator.specs.Listing.{acts, is_busy_at}
 use Rattle.gh_mutator.specs.Mutating.{asks, goes}
 use Rattle.gh_mutator.specs.Serving.{is_point}
 use Rattle.gh_world.specs.World.{State}
-use Rattle.gh_world.proofs.WorldFacts.{fit_same, fit_stepped, point_room}
+use Rattle.gh_world.proofs.Fitting.{fit_same, fit_stepped, point_room}
 use Rattle.gh_world.proofs.world.World.advance.Goals as goal
 
 pub note-requires : goal.note-requires

@@ -1,6 +1,6 @@
 use Rattle.std.proofs.Common.{◌≡◌, Some, sym, ◌∙◌}
 use Rattle.gh_world.specs.Turns.{op_due}
-use Rattle.gh_world.proofs.WorldFacts.{due_sound, due_named, fit_begun}
+use Rattle.gh_world.proofs.Fitting.{due_sound, due_named, fit_begun}
 use Rattle.gh_world.proofs.world.World.begin_next.Goals as goal
 
 pub begin-requires-clause-op : goal.begin-requires-clause-op

@@ -3,7 +3,8 @@ use Rattle.std.specs.Vec.{vec_capacity}
 use Rattle.gh_base.specs.Cells.{IsLayoutOf}
 use Rattle.gh_script.specs.declared.statement.Settings.{Settings}
 use Rattle.gh_world.specs.Turns.{total_of}
-use Rattle.gh_world.proofs.WorldFacts.{fit_opens, after_opens}
+use Rattle.gh_world.proofs.Fitting.{fit_opens}
+use Rattle.gh_world.proofs.WorldFacts.{after_opens}
 use Rattle.gh_world.proofs.world.World.new.Goals as goal
 
 pub invariant_of-result : goal.invariant_of-result

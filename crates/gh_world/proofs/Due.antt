@@ -1,0 +1,180 @@
+-- What is due in a world's turns may begin: it is in range, there is a name for what it makes, and its goroutine goes on.
+use Rattle.std.proofs.Common.{◌≡◌, ℕ, ◌+◌, ◌<◌, ◌≤◌, Bool, true, false, ltb, not, ◌&&◌, List, length, refl, sym, ◌∙◌, ap, subst, Option, Some, None, arith}
+use Rattle.std.specs.Prelude.{slice_get}
+use Rattle.std.proofs.lemmas.Bool.Decides.{nat_tests}
+use Rattle.std.proofs.lemmas.Bool.{lt-ltb, eqb-true}
+use Rattle.std.proofs.lemmas.List.Elements.{All-get_or}
+use Rattle.std.proofs.lemmas.Option.{get_or_from_slice_get}
+use Rattle.gh_world.specs.Vocabulary.{Op, Shape, Layout, Entry, IsLayoutOf, bit, Stmt, Program, no_goroutine, statements_of, WellFormed, Processor, Task, Idle, Next, most_objects, has_names, is_statement, is_leaving, has_left_at, work_at, work_of, is_busy_at, made_by}
+use Rattle.gh_base.specs.declared.operation.Op.TheVariants as op
+use Rattle.gh_base.specs.Shapes.{no_shape}
+use Rattle.gh_script.specs.declared.statement.Stmt.TheVariants.{New, Load, Store, GetGlobal, SetGlobal, Int, Move, Nil, Gc}
+use Rattle.gh_script.specs.Program.{goroutine_at as goroutine_there, op_of, IsStatement, AreStatements, IsPacked}
+use Rattle.gh_world.specs.declared.turns.Next.TheVariants as next
+use Rattle.gh_world.specs.Order.{in_range, goroutine_of, is_over as is_ended, ends, ended_in, leaves}
+use Rattle.gh_mutator.specs.Facts.{ShapesAreGood}
+use Rattle.gh_mutator.specs.Sound.{SoundOp}
+use Rattle.gh_world.specs.Turns.{count_of, total_of, to_come, Stands, MayBeOver, IsPast, is_over, op_due, is_leave, goroutine_at, statements_among}
+use Rattle.gh_world.specs.World.{MadeAtMost}
+use Rattle.gh_world.proofs.Turning.{goroutine_is, has_statement}
+
+-- an operation that is in range of the layout
+pub record Runs (shapes : List Shape) (l : Layout) (o : Op) : Type 0 where
+  pub sound : SoundOp shapes l o
+  pub ranged : in_range l.goroutines l.globals (length shapes) o ≡ true
+
+both_true : (a b : Bool) → a ≡ true → b ≡ true → (a && b) ≡ true
+both_true true true e f = refl
+both_true true false e f = f
+both_true false b e f = e
+
+statement_runs : (p : Program) (l : Layout) (g : ℕ) (s : Stmt) → IsStatement p.settings.globals (length p.shapes) s → g < 32 → g < l.goroutines → l.globals ≡ p.settings.globals → Runs p.shapes l (op_of g s)
+statement_runs p l g (New d t) h few gs k = record { sound = ((few, h.0), h.1); ranged = both_true _ _ (both_true _ _ (lt-ltb _ _ gs) (lt-ltb _ _ h.0)) (lt-ltb _ _ h.1) }
+statement_runs p l g (Load d b x) h few gs k = record { sound = ((few, h.0), h.1); ranged = both_true _ _ (both_true _ _ (lt-ltb _ _ gs) (lt-ltb _ _ h.0)) (lt-ltb _ _ h.1) }
+statement_runs p l g (Store b x v) h few gs k = record { sound = ((few, h.0), h.2); ranged = both_true _ _ (both_true _ _ (lt-ltb _ _ gs) (lt-ltb _ _ h.0)) (lt-ltb _ _ h.2) }
+statement_runs p l g (GetGlobal d x) h few gs k = let there : x < l.globals = omega (arith, h.1) in record { sound = ((few, h.0), there); ranged = both_true _ _ (both_true _ _ (lt-ltb _ _ gs) (lt-ltb _ _ h.0)) (lt-ltb _ _ there) }
+statement_runs p l g (SetGlobal x v) h few gs k = let there : x < l.globals = omega (arith, h.0) in record { sound = ((few, h.1), there); ranged = both_true _ _ (both_true _ _ (lt-ltb _ _ gs) (lt-ltb _ _ there)) (lt-ltb _ _ h.1) }
+statement_runs p l g (Int d x) h few gs k = record { sound = (few, h.0); ranged = both_true _ _ (lt-ltb _ _ gs) (lt-ltb _ _ h.0) }
+statement_runs p l g (Move d s) h few gs k = record { sound = ((few, h.0), h.1); ranged = both_true _ _ (both_true _ _ (lt-ltb _ _ gs) (lt-ltb _ _ h.0)) (lt-ltb _ _ h.1) }
+statement_runs p l g (Nil d) h few gs k = record { sound = (few, h); ranged = both_true _ _ (lt-ltb _ _ gs) (lt-ltb _ _ h) }
+statement_runs p l g Gc h few gs k = absurd h
+
+-- the statements of a goroutine are those of a script
+are_statements : (p : Program) (g : ℕ) → g < length p.goroutines → WellFormed p → AreStatements p.settings.globals (length p.shapes) (goroutine_there p g)
+are_statements p g lt r = All-get_or (AreStatements p.settings.globals (length p.shapes)) p.goroutines g no_goroutine lt r.statements
+
+-- and they are few
+pub few_statements : (p : Program) → WellFormed p → total_of p ≤ 200000
+few_statements p r = r.few_statements
+
+module _ (p : Program) (l : Layout) (r : WellFormed p) (lay : IsLayoutOf p.settings.arena p.settings.globals p.settings.procs p.settings.workers (length p.goroutines) l) where
+  work_runs : (g n : ℕ) (s : Option Stmt) → g < length p.goroutines → slice_get (statements_of p g) n ≡ s → Runs p.shapes l (work_at g s)
+  work_runs g n None lt e = let there : g < l.goroutines = omega (arith, lay.goroutines_are) in record { sound = there; ranged = lt-ltb _ _ there }
+  work_runs g n (Some s) lt e =
+      let few : g < 32 = omega (arith, r.few_goroutines) in
+      let there : g < l.goroutines = omega (arith, lay.goroutines_are) in
+      let within : n < length (statements_of p g) = has_statement p (statements_of p g) n s e in
+      statement_runs p l g s (subst (IsStatement p.settings.globals (length p.shapes)) (get_or_from_slice_get (statements_of p g) n s s e) (All-get_or (IsStatement p.settings.globals (length p.shapes)) (statements_of p g) n s within (are_statements p g lt r))) few there lay.globals_are
+
+  -- what is due is in range
+  pub due_runs : (t : Next) (o : Op) → Stands p t → op_due p t ≡ Some o → Runs p.shapes l o
+  due_runs (next.Poll n g) o h e = let same : op.Poll ≡ o = cc in subst (Runs p.shapes l) same (record { sound = tt; ranged = refl })
+  due_runs (next.Run n g) o h e = let same : work_of p n g ≡ o = cc in subst (Runs p.shapes l) same (work_runs g n (slice_get (statements_of p g) n) h.0 refl)
+  due_runs next.Leave o h e = let same : op.Leave ≡ o = cc in subst (Runs p.shapes l) same (record { sound = tt; ranged = refl })
+  due_runs next.Over o h e = absurd cc
+
+pub shapes_good : (p : Program) → WellFormed p → ShapesAreGood p.shapes
+shapes_good p r = record { fit = r.shapes_fit; narrow = λ t i h. (All-get_or IsPacked p.shapes t no_shape h r.shapes_packed).narrow i }
+
+-- a statement that is due is one of a goroutine that there is
+pub due_goroutine : (p : Program) (t : Next) (o : Op) → WellFormed p → Stands p t → op_due p t ≡ Some o → is_statement o ≡ true → goroutine_at o < 32
+due_goroutine p (next.Poll n g) o r h e sure = absurd (let same : op.Poll ≡ o = cc in let no : false ≡ is_statement o = ap is_statement same in cc)
+due_goroutine p (next.Run n g) o r h e sure = go (slice_get (statements_of p g) n) e where
+  go : (s : Option Stmt) → Some (work_at g s) ≡ Some o → goroutine_at o < 32
+  go None q = absurd (let same : op.End g ≡ o = cc in let no : false ≡ is_statement o = ap is_statement same in cc)
+  go (Some s) q =
+      let same : op_of g s ≡ o = cc in
+      let is : goroutine_at o ≡ g = ap goroutine_at (sym same) ∙ goroutine_is g s in
+      omega (arith, is, h.0, r.few_goroutines)
+due_goroutine p next.Leave o r h e sure = absurd (let same : op.Leave ≡ o = cc in let no : false ≡ is_statement o = ap is_statement same in cc)
+due_goroutine p next.Over o r h e sure = absurd cc
+
+pub no_false_more : (a n b c : Bool) → a ≡ true → n ≡ true → b ≡ false → c ≡ false → (a && n && not b && not c) ≡ true
+no_false_more true true false false e h f g = refl
+no_false_more true true false true e h f g = absurd (cc)
+no_false_more true true true c e h f g = absurd (cc)
+no_false_more true false b c e h f g = absurd (cc)
+no_false_more false n b c e h f g = absurd (cc)
+
+-- there is a name for an object that is made by this operation
+pub has_name_at : (m : Processor) (n : ℕ) (o : Op) → MadeAtMost n m → (is_statement o ≡ true → n < most_objects) → has_names m o ≡ true
+has_name_at m n (op.New g d t) made lt = let few = made g in let below = lt refl in lt-ltb (made_by m g) most_objects (omega arith)
+has_name_at m n (op.Load g d b k) made lt = refl
+has_name_at m n (op.Store g b k v) made lt = refl
+has_name_at m n (op.GetGlobal g d k) made lt = refl
+has_name_at m n (op.SetGlobal g k v) made lt = refl
+has_name_at m n (op.Int g d x) made lt = refl
+has_name_at m n (op.Move g d s) made lt = refl
+has_name_at m n (op.Nil g d) made lt = refl
+has_name_at m n (op.Gc g) made lt = refl
+has_name_at m n op.Poll made lt = refl
+has_name_at m n (op.End g) made lt = refl
+has_name_at m n op.Leave made lt = refl
+
+pub false_unless : (b : Bool) → (b ≡ true → ⊥) → b ≡ false
+false_unless true h = absurd (h refl)
+false_unless false h = refl
+
+not_past_here : (p : Program) (n g : ℕ) → n ≤ count_of p g → IsPast p n g g → ⊥
+not_past_here p n g h past = let never : ltb g g ≡ false = grind (arith, nat_tests) in let q : count_of p g < n + bit false = subst (λ (b : Bool). count_of p g < n + bit b) never past in omega (arith, q, h)
+
+work_goroutine : (g : ℕ) (s : Option Stmt) → goroutine_of (work_at g s) ≡ Some g
+work_goroutine g None = refl
+work_goroutine g (Some (New d t)) = refl
+work_goroutine g (Some (Load d b x)) = refl
+work_goroutine g (Some (Store b x v)) = refl
+work_goroutine g (Some (GetGlobal d x)) = refl
+work_goroutine g (Some (SetGlobal x v)) = refl
+work_goroutine g (Some (Int d x)) = refl
+work_goroutine g (Some (Move d s)) = refl
+work_goroutine g (Some (Nil d)) = refl
+work_goroutine g (Some Gc) = refl
+
+-- its goroutine has not ended
+pub not_ended : (p : Program) (t : Next) (o : Op) (es : List (Entry Op)) → Stands p t → op_due p t ≡ Some o → ((g : ℕ) → ended_in es g ≡ true → MayBeOver p t g) → is_ended es (goroutine_of o) ≡ false
+not_ended p (next.Poll n g) o es h e over = let same : op.Poll ≡ o = cc in ap (λ (x : Op). is_ended es (goroutine_of x)) (sym same)
+not_ended p (next.Run n g) o es h e over =
+    let same : work_of p n g ≡ o = cc in
+    ap (λ (x : Op). is_ended es (goroutine_of x)) (sym same) ∙ ap (is_ended es) (work_goroutine g (slice_get (statements_of p g) n)) ∙ false_unless (ended_in es g) (λ t. not_past_here p n g h.1 (over g t))
+not_ended p next.Leave o es h e over = let same : op.Leave ≡ o = cc in ap (λ (x : Op). is_ended es (goroutine_of x)) (sym same)
+not_ended p next.Over o es h e over = absurd cc
+
+pub not_over : (p : Program) (t : Next) (o : Op) → op_due p t ≡ Some o → is_over t ≡ true → ⊥
+not_over p (next.Poll n g) o e h = absurd cc
+not_over p (next.Run n g) o e h = absurd cc
+not_over p next.Leave o e h = absurd cc
+not_over p next.Over o e h = absurd cc
+
+pub due_statement : (p : Program) (t : Next) (o : Op) → op_due p t ≡ Some o → is_statement o ≡ true → 1 ≤ statements_among (to_come p t)
+due_statement p (next.Poll n g) o e sure = absurd (let same : op.Poll ≡ o = cc in let no : false ≡ is_statement o = ap is_statement same in cc)
+due_statement p (next.Run n g) o e sure = let same : work_of p n g ≡ o = cc in let one : bit (is_statement (work_of p n g)) ≡ 1 = ap bit (ap is_statement same ∙ sure) in omega (arith, one)
+due_statement p next.Leave o e sure = absurd (let same : op.Leave ≡ o = cc in let no : false ≡ is_statement o = ap is_statement same in cc)
+due_statement p next.Over o e sure = absurd cc
+
+pub ends_is : (o : Op) (g : ℕ) → ends (Some o) g ≡ true → o ≡ op.End g
+ends_is (op.End h) g e = ap op.End (eqb-true h g e)
+ends_is (op.New h d t) g e = absurd cc
+ends_is (op.Load h d b k) g e = absurd cc
+ends_is (op.Store h b k v) g e = absurd cc
+ends_is (op.GetGlobal h d k) g e = absurd cc
+ends_is (op.SetGlobal h k v) g e = absurd cc
+ends_is (op.Int h d x) g e = absurd cc
+ends_is (op.Move h d s) g e = absurd cc
+ends_is (op.Nil h d) g e = absurd cc
+ends_is (op.Gc h) g e = absurd cc
+ends_is op.Poll g e = absurd cc
+ends_is op.Leave g e = absurd cc
+
+pub leaves_is : (o : Op) → leaves (Some o) ≡ is_leave o
+leaves_is (op.End h) = refl
+leaves_is (op.New h d t) = refl
+leaves_is (op.Load h d b k) = refl
+leaves_is (op.Store h b k v) = refl
+leaves_is (op.GetGlobal h d k) = refl
+leaves_is (op.SetGlobal h k v) = refl
+leaves_is (op.Int h d x) = refl
+leaves_is (op.Move h d s) = refl
+leaves_is (op.Nil h d) = refl
+leaves_is (op.Gc h) = refl
+leaves_is op.Poll = refl
+leaves_is op.Leave = refl
+
+pub idle_not_leaving : (t : Task) → is_busy_at t ≡ false → has_left_at t ≡ false → is_leaving t ≡ false
+idle_not_leaving Idle h k = refl
+idle_not_leaving _ h k = absurd (cc)
+
+pub has_due : (p : Program) (t : Next) → is_over t ≡ false → (o : Op) × (op_due p t ≡ Some o)
+has_due p (next.Poll n g) h = (op.Poll, refl)
+has_due p (next.Run n g) h = (work_of p n g, refl)
+has_due p next.Leave h = (op.Leave, refl)
+has_due p next.Over h = absurd cc
