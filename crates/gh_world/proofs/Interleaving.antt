@@ -1,4 +1,4 @@
--- The induction over legal lists of any number of processors. No statement and no stage is named here: of a processor it is known what its law says.
+-- What the induction over legal lists rests on: what is known of the heap and of a processor, by their laws; which operations may begin; and that a goroutine ends by its end alone. Operations are named here, stages are not. The induction itself is in Lasting.
 use Rattle.std.proofs.Common.{◌≡◌, ℕ, ◌<◌, ◌⊎◌, Bool, true, false, not, cond, eqb, ltb, List, length, Option, Some, refl, sym, ap, subst, ◌∙◌, inl, inr}
 use Rattle.std.specs.Prelude.{◌&&◌, ◌||◌}
 use Rattle.std.proofs.lemmas.Bool.{eqb-true, ltb-true}

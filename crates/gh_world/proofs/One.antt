@@ -42,10 +42,6 @@ module _ (shapes : List Shape) (l : Layout) (trigger : ℕ) where
 
 -- What each list says, by its operations.
 
-abbrev operation : Option Act → Option Op
-operation None = None
-operation (Some x) = Some x.op
-
 module _ (each : EachOperationActsOnce) (shapes : List Shape) (l : Layout) (opening : Words) where
   -- the processor behind the entry
   pub next-is : (es : List (Entry Op)) (e : Entry Op) → e.actor ≡ 0 → processor_after shapes l opening (e ∷ es) ≡ takes shapes (before_step shapes l es e) e.found

@@ -19,7 +19,7 @@ use Rattle.gh_world.specs.Processors.{NoRoomFor, OfNew, StandsForThese, at_seat}
 abbrev pub one_of : List Shape → Layout → Arena
 one_of shapes l = record { layout = l; shapes = shapes; seat_of = λ g. 0 }
 
--- There is no room for what is so sought: what this means where there are more processors, whose `run` says that no run of free pages fits, empty spans that nobody owns counted as free; and each span of the span class is full. A large object needs no span of that class.
+-- There is no room for what is so sought: what this means of a seat among others, where `run` says that no run of free pages fits, empty spans that nobody owns counted as free; and each span of the span class is full. A large object has no span class.
 pub record NoRoom (z : Arena) (words : Words) (m : Processor) (sought : Sought) : Type 0 where
   pub among : NoRoomFor z 0 words m sought
   pub slots : (p : ℕ) (h : SpanHead) → (span_for sought).class ≢ size.Large → page_of (words (cell.Page p)) ≡ Head h → h.class ≡ (span_for sought).class → h.noscan ≡ (span_for sought).noscan → IsFull (alloc_words words) p h
