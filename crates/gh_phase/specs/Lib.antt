@@ -1,5 +1,8 @@
 pub mod Ends
+pub mod Handshake
 pub mod Listing
+pub mod ResumePlaces
 pub mod Resumes
+pub mod Shakes
 pub mod Sound
 pub mod Views

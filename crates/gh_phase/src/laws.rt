@@ -1,6 +1,16 @@
-//! The law of the routine. The function does nothing; what it ensures is proved.
+//! The laws of the routine, and of the handshake that it is a part of. The functions do nothing; what they
+//! ensure is proved.
 
+ghost use Rattle.std.specs.Prelude.{ℕ, List, ◌∷◌};
+ghost use Rattle.gh_base.specs.declared.machine.Entry.{Entry};
+ghost use Rattle.gh_base.specs.Lists.{Legal, Setting};
+ghost use Rattle.gh_phase.specs.Handshake.{IsHandshake};
+ghost use Rattle.gh_phase.specs.ResumePlaces.{ResumesInHandshake};
 ghost use Rattle.gh_phase.specs.Resumes.{StopsAreAcknowledged};
+ghost use Rattle.gh_phase.specs.Shakes.{GoneStay, NobodyMoves, Shakes};
+
+use crate::handshake::InHandshake;
+use gh_base::laws::packed_words_are_read_back;
 
 /// The actor stores the number of the stop first, and loads the phase again and again. It stores another
 /// number exactly where it found a stop of that number, before it loads the phase again. It goes on exactly
@@ -9,3 +19,35 @@ ghost use Rattle.gh_phase.specs.Resumes.{StopsAreAcknowledged};
 pub fn stops_are_acknowledged()
     ensures { StopsAreAcknowledged }
 {}
+
+/// Going on after a stop makes the steps of the handshake, from the acknowledgement on until the actor is awake;
+/// what it ends with is what the actor knows then.
+pub fn going_on_keeps_the_handshake()
+    ensures { ResumesInHandshake }
+{}
+
+/// Where any number of actors are in the handshake, every legal list of their steps keeps it. From the opening or
+/// the end of going on after a stop, until it acknowledges the next one, what an actor knows of the phase is
+/// the last phase that was no stop, and the sweep generation and the cycles begun as their words stand. From the
+/// load of the last acknowledgement until the coordinator stores a phase that is no stop, each other actor
+/// waits at that stop, or is gone. Only one that is gone has acknowledged so.
+pub fn the_handshake_holds<M: InHandshake, O>()
+    ensures { (setting : Setting M O) (n : ℕ) → IsHandshake setting n M.sound M.place → (es : List (Entry O)) → Legal setting es → Shakes setting n M.sound M.place es }
+{
+    packed_words_are_read_back();
+}
+
+/// Who is gone stays gone.
+pub fn the_gone_stay_gone<M: InHandshake, O>()
+    ensures { (setting : Setting M O) (n : ℕ) → IsHandshake setting n M.sound M.place → (e : Entry O) (es : List (Entry O)) → Legal setting (e ∷ es) → GoneStay setting n M.place e es }
+{
+    packed_words_are_read_back();
+}
+
+/// In a stopped world nobody but the coordinator moves: a step of any other actor is a load of the phase that
+/// finds the stop, and leaves it where it was.
+pub fn nobody_moves<M: InHandshake, O>()
+    ensures { (setting : Setting M O) (n : ℕ) → IsHandshake setting n M.sound M.place → (e : Entry O) (es : List (Entry O)) → Legal setting (e ∷ es) → NobodyMoves setting n M.place e es }
+{
+    packed_words_are_read_back();
+}

@@ -16,11 +16,13 @@
 //! (mgc.go) and `mheap.sweepgen` (mheap.go), which no goroutine sees change while it runs.
 #![tactic(auto)]
 
+mod handshake;
 pub mod laws;
 mod resume;
 #[cfg(test)]
 mod tests;
 mod view;
 
+pub use handshake::InHandshake;
 pub use resume::{Resume, ResumeStage, Resumed};
 pub use view::{RunPhase, View};

@@ -1,0 +1,27 @@
+-- Where going on after a stop stands in the handshake.
+use Rattle.std.specs.Prelude.{◌≡◌, ℕ, Some}
+use Rattle.gh_phase.specs.declared.resume.Resumed.{Resumed}
+use Rattle.gh_phase.specs.declared.resume.ResumeStage.{ResumeStage}
+use Rattle.gh_phase.specs.declared.resume.ResumeStage.TheVariants.{Acknowledge, LoadPhase, LoadGeneration, LoadBegun, Ended}
+use Rattle.gh_phase.specs.Handshake.{Awake, KeepsHandshake, Party, Resumes, Stage}
+use Rattle.gh_phase.specs.Listing.{gives, goes, listing, Resuming}
+
+abbrev pub party_of : Resuming → Party
+party_of r = record { seat = r.seat; view = r.view }
+
+-- once it has ended the actor is awake
+abbrev pub stands_at : (stops : ℕ) → ResumeStage → Stage
+stands_at stops Acknowledge = Resumes stops Acknowledge
+stands_at stops LoadPhase = Resumes stops LoadPhase
+stands_at stops LoadGeneration = Resumes stops LoadGeneration
+stands_at stops LoadBegun = Resumes stops LoadBegun
+stands_at stops Ended = Awake
+
+abbrev pub stage_of : Resuming → Stage
+stage_of r = stands_at r.stops r.stage
+
+-- its steps are those of the handshake, and what it ends with is what is known then
+pub record ResumesInHandshake : Type 0 where
+  pub keeps : KeepsHandshake listing (λ r. Unit {0}) party_of stage_of
+  pub seat_stays : (r : Resuming) (found : ℕ) → (goes r found).seat ≡ r.seat
+  pub ends : (r : Resuming) (found : ℕ) (out : Resumed) → gives r found ≡ Some out → ((goes r found).view ≡ out.view) × (stage_of (goes r found) ≡ Awake)

@@ -1,0 +1,15 @@
+//! The places of actors in the handshake of a stop.
+
+/// A private state that has a place in the handshake.
+///
+/// The law of the handshake speaks of an actor by its place alone. So it holds of any actors whose steps are
+/// those of the handshake, whatever else they do.
+pub trait InHandshake {
+    ghost use Rattle.gh_phase.specs.Handshake.{Place};
+
+    // What holds of it whatever it was told.
+    ghost sound: { Self → Type 0 };
+
+    // Where it stands.
+    ghost place: { Self → Place };
+}
