@@ -6,6 +6,7 @@ pub mod Numbering
 pub mod Phasing
 pub mod Quiet
 pub mod Running
+pub mod Shaking
 pub mod Stepping
 pub mod Stops
 pub mod Sweeps

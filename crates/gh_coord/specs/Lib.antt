@@ -4,6 +4,7 @@ pub mod Counting
 pub mod Cycles
 pub mod Ends
 pub mod GoingOn
+pub mod Handshake
 pub mod Keeping
 pub mod Listing
 pub mod Opening

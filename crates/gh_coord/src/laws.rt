@@ -3,6 +3,7 @@
 ghost use Rattle.gh_coord.specs.Checks.{CyclesAreChecked};
 ghost use Rattle.gh_coord.specs.Cycles.{CyclesAreRun};
 ghost use Rattle.gh_coord.specs.GoingOn.{GoesOnUntilDone};
+ghost use Rattle.gh_coord.specs.Handshake.{LeadsHandshake};
 ghost use Rattle.gh_coord.specs.Phases.{PhasesAreCounted};
 ghost use Rattle.gh_coord.specs.Stops.{WorldIsStopped};
 ghost use Rattle.gh_coord.specs.Sweeps.{AllAreSwept};
@@ -61,4 +62,11 @@ pub fn phases_are_counted()
 /// the cycle's generation, which has ended.
 pub fn cycles_are_checked()
     ensures { CyclesAreChecked }
+{}
+
+/// Each step of the coordinator is one of the handshake of a stop. It stores a stop behind a phase that is off, or
+/// that of marking; a cycle begins, its marking ends, and a phase that is no stop is stored in a stopped world
+/// alone: once each processor and each worker was found to have acknowledged the stop, or to be gone.
+pub fn the_coordinator_leads_the_handshake()
+    ensures { LeadsHandshake }
 {}

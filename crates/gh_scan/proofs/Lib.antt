@@ -3,6 +3,7 @@ pub mod Ending
 pub mod Next
 pub mod Objects
 pub mod Order
+pub mod Quiet
 pub mod Scanning
 pub mod Slots
 pub mod Told

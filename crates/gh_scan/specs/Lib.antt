@@ -1,4 +1,5 @@
 pub mod Ends
 pub mod Listing
+pub mod Quiet
 pub mod Scans
 pub mod Sound

@@ -1,5 +1,6 @@
-//! Laws of the routine. The functions do nothing; what they ensure is proved.
+//! Laws of the routine, and of those that it runs. The functions do nothing; what they ensure is proved.
 
+ghost use Rattle.gh_scan.specs.Quiet.{MarkingIsQuiet};
 ghost use Rattle.gh_scan.specs.Scans.{ObjectsAreScanned};
 
 use gh_base::laws::{cells_are_told, packed_words_are_read_back};
@@ -20,3 +21,10 @@ pub fn objects_are_scanned()
     size_class_laws();
     packed_words_are_read_back();
 }
+
+/// The routines by which buffers are taken and given back, and objects are shaded and scanned, store no phase, no
+/// sweep generation, no number of cycles begun and no acknowledgement, nor change these in another way. So who
+/// runs them is in the handshake of a stop by where it runs them.
+pub fn marking_is_quiet()
+    ensures { MarkingIsQuiet }
+{}

@@ -1,4 +1,5 @@
 pub mod Counting
 pub mod Knowing
 pub mod Marking
+pub mod Shaking
 pub mod Working

@@ -1,7 +1,11 @@
 //! The laws of a worker. The functions do nothing; what they ensure is proved of every worker, whatever
 //! words it is told.
 
+ghost use Rattle.gh_worker.specs.Handshake.{WorkersKeepHandshake};
 ghost use Rattle.gh_worker.specs.Works.{GlobalsAreClaimed, NothingIsHeldAtStops, PhasesAreKept, TakenObjectsAreScanned, WordsAreCounted, WorkersLeaveOnce};
+
+use gh_phase::laws::going_on_keeps_the_handshake;
+use gh_scan::laws::marking_is_quiet;
 
 /// Where a worker finds a stop it acknowledges that at once, and where it holds a buffer it gives that back
 /// first. It acknowledges for its own seat alone, the number of the stop that it found last, and with no
@@ -41,3 +45,12 @@ pub fn words_are_counted()
 pub fn workers_leave_once()
     ensures { WorkersLeaveOnce }
 {}
+
+/// Each step of a worker is one of the handshake of a stop: while it takes, scans and shades it is awake and
+/// writes no word of that; from a stop it gives its buffer back, acknowledges, and goes on with no buffer held.
+pub fn a_worker_keeps_the_handshake()
+    ensures { WorkersKeepHandshake }
+{
+    going_on_keeps_the_handshake();
+    marking_is_quiet();
+}

@@ -1,0 +1,265 @@
+-- Each step of the coordinator is one of the handshake of a stop: by its stages.
+use Rattle.std.proofs.Common.{◌≡◌, ℕ, ◌+◌, ◌-◌, ◌%◌, ◌^◌, ◌<◌, ◌⊎◌, inl, inr, Bool, true, false, cond, ltb, ◌==◌, ◌||◌, refl, sym, ap, subst, ◌∙◌, arith, Option, Some, None}
+use Rattle.std.proofs.lemmas.Bool.Decides.{nat_tests}
+use Rattle.gh_base.specs.declared.cell.Cell.TheVariants as cell
+use Rattle.gh_base.specs.declared.pack.Phase.TheVariants as kind
+use Rattle.gh_base.specs.Packing.{phase_word}
+use Rattle.gh_phase.specs.declared.view.RunPhase.TheVariants as run
+use Rattle.gh_phase.specs.Handshake.{begins, behind_ack, Calm, ends, goes, IsAcked, IsQuiet, Lead, LeadGoes, Looks, next_cycle, next_generation, next_stop, quiet, run_word, sees, stop_before, stop_word, Stopped, stops}
+use Rattle.gh_coord.specs.declared.close.CloseStage.TheVariants as close_stage
+use Rattle.gh_coord.specs.declared.count.CountStage.TheVariants as count_stage
+use Rattle.gh_coord.specs.declared.open.OpenStage.TheVariants as open_stage
+use Rattle.gh_coord.specs.declared.stop.StopStage.{StopStage}
+use Rattle.gh_coord.specs.declared.stop.StopStage.TheVariants as stop_stage
+use Rattle.gh_coord.specs.declared.sweep_all.SweepAllStage.TheVariants as all_stage
+use Rattle.gh_coord.specs.declared.tell.TellStage.TheVariants as tell_stage
+use Rattle.gh_coord.specs.declared.watch.WatchStage.TheVariants as watch_stage
+use Rattle.gh_coord.specs.Closing as close
+use Rattle.gh_coord.specs.Counting as count
+use Rattle.gh_coord.specs.Handshake.{cycle_before, FitsNumbers, generation_before, lead_at, lead_of, LeadsHandshake, Sound, SoundAt, stop_post}
+use Rattle.gh_coord.specs.Listing.{after_ack, after_check, after_close, after_count, after_open, after_stop, after_stop_again, after_sweep, after_tell, after_want, after_watch, asks_at, at_stage, checks, Coordinating, counted, goes_at, is_busy, opens, stops_world}
+use Rattle.gh_coord.specs.Opening as opens_by
+use Rattle.gh_coord.specs.Stopping as stop
+use Rattle.gh_coord.specs.Stopping.{acks_of, is_acknowledged}
+use Rattle.gh_coord.specs.SweepingAll as all
+use Rattle.gh_coord.specs.Telling as tell
+use Rattle.gh_coord.specs.Watching as watch
+use Rattle.gh_coord.specs.Vocabulary.{All, Ask, Check, Close, CloseStage, CoordStage, Count, Counted, CountStage, Done, GONE, Layout, Load, LoadAck, LoadWant, MarkOn, NotYet, Open, OpenStage, Stop, StopAgain, Store, Sweep, SweepAllStage, SweepStage, Tell, TellStage, Watch, Watched, WatchStage}
+use Rattle.gh_sweep.specs.declared.sweep.SweepStage.TheVariants as sweep_stage
+use Rattle.gh_sweep.specs.Listing as sweep
+
+-- numbers that go round
+stop_behind : (s : ℕ) → s < 2 ^ 62 → stop_before (next_stop s) ≡ s
+stop_behind s h = omega arith
+
+stop_ahead : (s : ℕ) → s < 2 ^ 62 → next_stop (stop_before s) ≡ s
+stop_ahead s h = omega arith
+
+cycle_behind : (k : ℕ) → k < 2 ^ 64 → cycle_before (next_cycle k) ≡ k
+cycle_behind k h = omega arith
+
+cycle_ahead : (k : ℕ) → k < 2 ^ 64 → next_cycle (cycle_before k) ≡ k
+cycle_ahead k h = omega arith
+
+generation_behind : (g : ℕ) → g < 2 ^ 34 → generation_before (next_generation g) ≡ g
+generation_behind g h = omega arith
+
+generation_ahead : (g : ℕ) → g < 2 ^ 34 → next_generation (generation_before g) ≡ g
+generation_ahead g h = omega arith
+
+raised_stop : (number begun generation : ℕ) → FitsNumbers number begun generation → FitsNumbers (next_stop number) begun generation
+raised_stop number begun generation f = record { stops_fit = omega arith; begun_fits = f.begun_fits; generation_fits = f.generation_fits }
+
+raised_cycle : (number begun generation : ℕ) → FitsNumbers number begun generation → FitsNumbers number (next_cycle begun) generation
+raised_cycle number begun generation f = record { stops_fit = f.stops_fit; begun_fits = omega arith; generation_fits = f.generation_fits }
+
+raised_generation : (number begun generation : ℕ) → FitsNumbers number begun generation → FitsNumbers number begun (next_generation generation)
+raised_generation number begun generation f = record { stops_fit = f.stops_fit; begun_fits = f.begun_fits; generation_fits = omega arith }
+
+-- the parts that write no word of the handshake
+watch_quiet : (w : watch.Watching) (stage : WatchStage) → IsQuiet (watch.asks_at w stage)
+watch_quiet w (watch_stage.Look i) = tt
+watch_quiet w (watch_stage.Ended watched) = tt
+
+span_quiet : (s : sweep.Sweeping) (stage : SweepStage) → IsQuiet (sweep.asks_at s stage)
+span_quiet s sweep_stage.Begin = tt
+span_quiet s (sweep_stage.LoadMarks i) = tt
+span_quiet s (sweep_stage.ClearBits i marks) = tt
+span_quiet s (sweep_stage.ClearMarks i) = tt
+span_quiet s sweep_stage.AddTally = tt
+span_quiet s sweep_stage.AddLive = tt
+span_quiet s sweep_stage.AddHeap = tt
+span_quiet s sweep_stage.Finish = tt
+span_quiet s sweep_stage.Ended = tt
+
+sweep_quiet : (s : all.SweepingAll) (stage : SweepAllStage) → IsQuiet (all.asks_at s stage)
+sweep_quiet s (all_stage.LoadPage page) = tt
+sweep_quiet s (all_stage.Sweep page sw) = span_quiet sw sw.stage
+sweep_quiet s (all_stage.Await page) = tt
+sweep_quiet s all_stage.Ended = tt
+
+count_quiet : (stage : CountStage) → IsQuiet (count.asks_at stage)
+count_quiet count_stage.LoadTally = tt
+count_quiet (count_stage.LoadLive tally) = tt
+count_quiet (count_stage.Ended read) = tt
+
+-- a step at this stage leads here
+abbrev Goes : (found : ℕ) → Coordinating → CoordStage → (to : Coordinating) → Type 0
+Goes found s stage to = Sound to × LeadGoes (acks_of s.layout) found (lead_at s stage) (asks_at s stage) (lead_of to)
+
+acked : (number found : ℕ) → is_acknowledged number found ≡ true → IsAcked number found
+acked number found e = go (found == number) (found == GONE) refl refl e where
+  go : (b c : Bool) → (found == number) ≡ b → (found == GONE) ≡ c → (b || c) ≡ true → IsAcked number found
+  go true c p q r = inl (grind (arith, nat_tests))
+  go false true p q r = inr (grind (arith, nat_tests))
+  go false false p q r = absurd cc
+
+module _ (found : ℕ) (s : Coordinating) (f : FitsNumbers s.stops s.begun s.generation) where
+  fits_raised : FitsNumbers (next_stop s.stops) s.begun s.generation
+  fits_raised = raised_stop s.stops s.begun s.generation f
+
+  -- idle
+  world_stops : (last : Bool) (ask : Ask) → IsQuiet ask → (stage : CoordStage) → lead_at s stage ≡ record { stops = s.stops; begun = s.begun; generation = s.generation; post = Calm run.Off } →
+      Sound (stops_world (record s { is_last = last })) × LeadGoes (acks_of s.layout) found (lead_at s stage) ask (lead_of (stops_world (record s { is_last = last })))
+  world_stops last ask q stage e = ((fits_raised, refl), quiet q (rw e (ap (λ (n : ℕ). record { stops = n; begun = s.begun; generation = s.generation; post = Calm run.Off }) (stop_behind s.stops f.stops_fit))))
+
+  acks : (i : ℕ) → Goes found s (LoadAck i) (after_ack s i found)
+  acks i = go (found == GONE) (ltb (i + 1) s.layout.procs) where
+    go : (gone more : Bool) → Goes found s (LoadAck i) (cond gone (cond more (at_stage s (LoadAck (i + 1))) (stops_world (record s { is_last = true }))) (at_stage s LoadWant))
+    go true true = ((f, tt), quiet tt refl)
+    go true false = world_stops true (Load (cell.Ack i)) tt (LoadAck i) refl
+    go false more = ((f, tt), quiet tt refl)
+
+  wants : Goes found s LoadWant (after_want s found)
+  wants = go (found == 0) where
+    go : (none : Bool) → Goes found s LoadWant (cond none (at_stage s (LoadAck 0)) (stops_world s))
+    go true = ((f, tt), quiet tt refl)
+    go false = world_stops s.is_last (Load cell.Want) tt LoadWant refl
+
+  -- a stop
+  abbrev stopping : StopStage → stop.Stopping
+  stopping stage = record { layout = s.layout; stops = s.stops; stage = stage }
+
+  -- what a load of this acknowledgement leads to
+  abbrev seeing : (ack : ℕ) → (there more : Bool) → stop.Stopping
+  seeing ack there more = stopping (cond there (cond more (stop_stage.Await (ack + 1)) stop_stage.Ended) (stop_stage.Await ack))
+
+  first_stop : (stage : StopStage) → stop.is_busy stage ≡ true → Goes found s (Stop (stopping stage)) (goes_at s (Stop (stopping stage)) found)
+  first_stop stop_stage.StorePhase busy =
+      let is : next_stop (stop_before s.stops) ≡ s.stops = stop_ahead s.stops f.stops_fit in
+      ((f, refl), stops run.Off (λ e. cc) refl (ap (λ (n : ℕ). Store cell.Phase (stop_word n)) (sym is)) (ap (λ (n : ℕ). record { stops = n; begun = s.begun; generation = s.generation; post = Looks run.Off 0 }) (sym is)))
+  first_stop (stop_stage.Await ack) busy = go (is_acknowledged s.stops found) (ltb (ack + 1) (acks_of s.layout)) refl refl where
+    go : (there more : Bool) → is_acknowledged s.stops found ≡ there → ltb (ack + 1) (acks_of s.layout) ≡ more → Goes found s (Stop (stopping (stop_stage.Await ack))) (after_stop (at_stage s (Stop (seeing ack there more))) (stop.given (seeing ack there more)))
+    go true true e m = ((f, refl), sees run.Off ack refl refl (acked s.stops found e) (rw m refl))
+    go true false e m = ((raised_cycle s.stops s.begun s.generation f, refl), sees run.Off ack refl refl (acked s.stops found e) (rw (m, cycle_behind s.begun f.begun_fits) refl))
+    go false more e m = ((f, refl), quiet tt refl)
+  first_stop stop_stage.Ended busy = absurd cc
+
+  second_stop : (stage : StopStage) → stop.is_busy stage ≡ true → Goes found s (StopAgain (stopping stage)) (goes_at s (StopAgain (stopping stage)) found)
+  second_stop stop_stage.StorePhase busy =
+      let is : next_stop (stop_before s.stops) ≡ s.stops = stop_ahead s.stops f.stops_fit in
+      ((f, refl), stops run.Mark (λ e. cc) refl (ap (λ (n : ℕ). Store cell.Phase (stop_word n)) (sym is)) (ap (λ (n : ℕ). record { stops = n; begun = s.begun; generation = s.generation; post = Looks run.Mark 0 }) (sym is)))
+  second_stop (stop_stage.Await ack) busy = go (is_acknowledged s.stops found) (ltb (ack + 1) (acks_of s.layout)) refl refl where
+    go : (there more : Bool) → is_acknowledged s.stops found ≡ there → ltb (ack + 1) (acks_of s.layout) ≡ more → Goes found s (StopAgain (stopping (stop_stage.Await ack))) (after_stop_again (at_stage s (StopAgain (seeing ack there more))) (stop.given (seeing ack there more)))
+    go true true e m = ((f, refl), sees run.Mark ack refl refl (acked s.stops found e) (rw m refl))
+    go true false e m = ((f, tt), sees run.Mark ack refl refl (acked s.stops found e) (rw m refl))
+    go false more e m = ((f, refl), quiet tt refl)
+  second_stop stop_stage.Ended busy = absurd cc
+
+  -- a cycle is opened
+  abbrev open_at : Layout → OpenStage → opens_by.CycleOpening
+  open_at l stage = record { layout = l; stops = s.stops; cycle = s.begun; stage = stage }
+
+  opening : (l : Layout) (stage : OpenStage) → opens_by.is_busy stage ≡ true → Goes found s (Open (open_at l stage)) (goes_at s (Open (open_at l stage)) found)
+  opening l open_stage.ClearWant busy = ((f, refl), quiet tt refl)
+  opening l open_stage.ClearGcur busy = ((f, refl), quiet tt refl)
+  opening l open_stage.ClearTally busy = ((f, refl), quiet tt refl)
+  opening l open_stage.ClearLive busy = ((f, refl), quiet tt refl)
+  opening l open_stage.StoreTrigger busy = ((f, refl), quiet tt refl)
+  opening l open_stage.LoadHeap busy = ((f, refl), quiet tt refl)
+  opening l open_stage.StoreWork busy = ((f, refl), quiet tt refl)
+  opening l open_stage.StoreSlack busy = ((f, refl), quiet tt refl)
+  opening l open_stage.StoreBegun busy =
+      let is : next_cycle (cycle_before s.begun) ≡ s.begun = cycle_ahead s.begun f.begun_fits in
+      ((f, refl), begins run.Off refl (ap (λ (n : ℕ). Store cell.Begun n) (sym is)) (ap (λ (n : ℕ). record { stops = s.stops; begun = n; generation = s.generation; post = Stopped run.Off }) (sym is)))
+  opening l open_stage.StorePhase busy = ((f, tt), goes run.Off run.Mark (λ e. cc) refl refl refl)
+  opening l open_stage.Ended busy = absurd cc
+
+  -- the look and the check
+  watching : (w v : watch.Watching) (out : Option Watched) → IsQuiet (watch.asks w) → Goes found s (Watch w) (after_watch (at_stage s (Watch v)) out)
+  watching w v None q = ((f, tt), quiet q refl)
+  watching w v (Some All) q = ((fits_raised, refl), quiet q (ap (λ (n : ℕ). record { stops = n; begun = s.begun; generation = s.generation; post = Calm run.Mark }) (stop_behind s.stops f.stops_fit)))
+  watching w v (Some NotYet) q = ((f, tt), quiet q refl)
+
+  checking : (w v : watch.Watching) (out : Option Watched) → IsQuiet (watch.asks w) → Goes found s (Check w) (after_check (at_stage s (Check v)) out)
+  checking w v None q = ((f, tt), quiet q refl)
+  checking w v (Some All) q = ((raised_generation s.stops s.begun s.generation f, refl), quiet q (ap (λ (n : ℕ). record { stops = s.stops; begun = s.begun; generation = n; post = Stopped run.Mark }) (generation_behind s.generation f.generation_fits)))
+  checking w v (Some NotYet) q = ((f, tt), quiet q refl)
+
+  -- marking is ended
+  abbrev close_at : Layout → (lapsed : ℕ) → CloseStage → close.Closing
+  close_at l lapsed stage = record { layout = l; lapsed = lapsed; generation = s.generation; stage = stage }
+
+  closing : (l : Layout) (lapsed : ℕ) (stage : CloseStage) → close.is_busy stage ≡ true → Goes found s (Close (close_at l lapsed stage)) (goes_at s (Close (close_at l lapsed stage)) found)
+  closing l lapsed close_stage.LoadBank busy = ((f, refl), quiet tt refl)
+  closing l lapsed close_stage.ClearBank busy = ((f, refl), quiet tt refl)
+  closing l lapsed close_stage.StoreGen busy =
+      let is : next_generation (generation_before s.generation) ≡ s.generation = generation_ahead s.generation f.generation_fits in
+      ((f, tt), ends run.Mark refl (ap (λ (n : ℕ). Store cell.Gen n) (sym is)) (ap (λ (n : ℕ). record { stops = s.stops; begun = s.begun; generation = n; post = Stopped run.Mark }) (sym is)))
+  closing l lapsed close_stage.Ended busy = absurd cc
+
+  -- the sweep, and what it has counted
+  sweeping : (w v : all.SweepingAll) (out : Option (Unit {0})) → IsQuiet (all.asks w) → Goes found s (Sweep w) (after_sweep (at_stage s (Sweep v)) out)
+  sweeping w v None q = ((f, tt), quiet q refl)
+  sweeping w v (Some u) q = ((f, tt), quiet q refl)
+
+  counting : (w v : count.Counting) (out : Option Counted) → IsQuiet (count.asks w) → Goes found s (Count w) (after_count (at_stage s (Count v)) out)
+  counting w v None q = ((f, tt), quiet q refl)
+  counting w v (Some read) q = ((f, refl), quiet q refl)
+
+  -- the cycle is told
+  abbrev tell_at : Layout → (trigger cycle : ℕ) → TellStage → tell.Telling
+  tell_at l trigger cycle stage = record { layout = l; trigger = trigger; cycle = cycle; stops = s.stops; is_last = s.is_last; stage = stage }
+
+  tells : (l : Layout) (trigger cycle : ℕ) (stage : TellStage) → tell.is_busy stage ≡ true → Goes found s (Tell (tell_at l trigger cycle stage)) (goes_at s (Tell (tell_at l trigger cycle stage)) found)
+  tells l trigger cycle tell_stage.StoreTrigger busy = ((f, refl), quiet tt refl)
+  tells l trigger cycle tell_stage.StoreSwept busy = ((f, refl), quiet tt refl)
+  tells l trigger cycle tell_stage.StorePhase busy = go s.is_last where
+    go : (last : Bool) → Sound (at_stage s (cond last Done (LoadAck 0))) × LeadGoes (acks_of s.layout) found (record { stops = s.stops; begun = s.begun; generation = s.generation; post = Stopped run.Mark }) (Store cell.Phase (phase_word (record { stops = s.stops; phase = cond last kind.Finished kind.Off }))) (lead_of (at_stage s (cond last Done (LoadAck 0))))
+    go true = ((f, tt), goes run.Mark run.Finished (λ e. cc) refl refl refl)
+    go false = ((f, tt), goes run.Mark run.Off (λ e. cc) refl refl refl)
+  tells l trigger cycle tell_stage.Ended busy = absurd cc
+
+goes_so : (found : ℕ) (s : Coordinating) (stage : CoordStage) → FitsNumbers s.stops s.begun s.generation → SoundAt s stage → is_busy stage ≡ true → Goes found s stage (goes_at s stage found)
+goes_so found s (LoadAck i) f e busy = acks found s f i
+goes_so found s LoadWant f e busy = wants found s f
+goes_so found s (Stop st) f e busy = subst (λ (x : stop.Stopping). Goes found s (Stop x) (goes_at s (Stop x) found)) (sym e) (first_stop found s f st.stage busy)
+goes_so found s (Open o) f e busy = subst (λ (x : opens_by.CycleOpening). Goes found s (Open x) (goes_at s (Open x) found)) (sym e) (opening found s f o.layout o.stage busy)
+goes_so found s (Watch w) f e busy = watching found s f w (watch.goes w found) (watch.gives w found) (watch_quiet w w.stage)
+goes_so found s (StopAgain st) f e busy = subst (λ (x : stop.Stopping). Goes found s (StopAgain x) (goes_at s (StopAgain x) found)) (sym e) (second_stop found s f st.stage busy)
+goes_so found s (Check w) f e busy = checking found s f w (watch.goes w found) (watch.gives w found) (watch_quiet w w.stage)
+goes_so found s MarkOn f e busy = ((f, tt), goes run.Mark run.Mark (λ x. cc) refl refl refl)
+goes_so found s (Close c) f e busy = subst (λ (x : close.Closing). Goes found s (Close x) (goes_at s (Close x) found)) (sym e) (closing found s f c.layout c.lapsed c.stage busy)
+goes_so found s (Sweep w) f e busy = sweeping found s f w (all.goes w found) (all.gives w found) (sweep_quiet w w.stage)
+goes_so found s (Count c) f e busy = counting found s f c (count.goes c found) (count.gives c found) (count_quiet c.stage)
+goes_so found s (Tell t) f e busy = subst (λ (x : tell.Telling). Goes found s (Tell x) (goes_at s (Tell x) found)) (sym e) (tells found s f t.layout t.trigger t.cycle t.stage busy)
+goes_so found s Done f e busy = absurd cc
+
+-- counting the steps that store the phase word leaves the place
+counted_sound : (s : Coordinating) (stage : CoordStage) → SoundAt s stage → SoundAt (counted s) stage
+counted_sound s (LoadAck i) e = tt
+counted_sound s LoadWant e = tt
+counted_sound s (Stop st) e = e
+counted_sound s (Open o) e = e
+counted_sound s (Watch w) e = tt
+counted_sound s (StopAgain st) e = e
+counted_sound s (Check w) e = tt
+counted_sound s MarkOn e = tt
+counted_sound s (Close c) e = e
+counted_sound s (Sweep w) e = tt
+counted_sound s (Count c) e = tt
+counted_sound s (Tell t) e = e
+counted_sound s Done e = tt
+
+counted_asks : (s : Coordinating) (stage : CoordStage) → asks_at (counted s) stage ≡ asks_at s stage
+counted_asks s (LoadAck i) = refl
+counted_asks s LoadWant = refl
+counted_asks s (Stop st) = refl
+counted_asks s (Open o) = refl
+counted_asks s (Watch w) = refl
+counted_asks s (StopAgain st) = refl
+counted_asks s (Check w) = refl
+counted_asks s MarkOn = refl
+counted_asks s (Close c) = refl
+counted_asks s (Sweep w) = refl
+counted_asks s (Count c) = refl
+counted_asks s (Tell t) = refl
+counted_asks s Done = refl
+
+pub leads_handshake : LeadsHandshake
+leads_handshake = record {
+  sound = λ l seat gogc minheap room. (record { stops_fit = omega arith; begun_fits = omega arith; generation_fits = omega arith }, tt);
+  leads = λ l seat gogc minheap room. refl;
+  stays_sound = λ s found sound busy. (goes_so found (counted s) s.stage sound.0 (counted_sound s s.stage sound.1) busy).0;
+  goes = λ s found sound busy. rw (← counted_asks s s.stage) (goes_so found (counted s) s.stage sound.0 (counted_sound s s.stage sound.1) busy).1;
+}

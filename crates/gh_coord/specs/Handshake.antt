@@ -1,0 +1,118 @@
+-- Where the coordinator stands in the handshake of a stop.
+use Rattle.std.specs.Prelude.{◌≡◌, ℕ, ◌+◌, ◌-◌, ◌%◌, ◌^◌, ◌<◌, Bool, true, if◌then◌else◌}
+use Rattle.gh_base.specs.declared.layout.Layout.{Layout}
+use Rattle.gh_phase.specs.declared.view.RunPhase.{RunPhase}
+use Rattle.gh_phase.specs.declared.view.RunPhase.TheVariants as run
+use Rattle.gh_phase.specs.Handshake.{Calm, first_lead, Lead, LeadGoes, Looks, Post, stop_before, Stopped}
+use Rattle.gh_coord.specs.declared.close.CloseStage.{CloseStage}
+use Rattle.gh_coord.specs.declared.close.CloseStage.TheVariants as close_stage
+use Rattle.gh_coord.specs.declared.coord.CoordStage.{CoordStage}
+use Rattle.gh_coord.specs.declared.coord.CoordStage.TheVariants.{LoadAck, LoadWant, Stop, Open, Watch, StopAgain, Check, MarkOn, Close, Sweep, Count, Tell, Done}
+use Rattle.gh_coord.specs.declared.open.OpenStage.{OpenStage}
+use Rattle.gh_coord.specs.declared.open.OpenStage.TheVariants as open_stage
+use Rattle.gh_coord.specs.declared.stop.StopStage.{StopStage}
+use Rattle.gh_coord.specs.declared.stop.StopStage.TheVariants as stop_stage
+use Rattle.gh_coord.specs.declared.tell.TellStage.{TellStage}
+use Rattle.gh_coord.specs.declared.tell.TellStage.TheVariants as tell_stage
+use Rattle.gh_coord.specs.Listing.{asks, Coordinating, goes, is_busy, opening}
+use Rattle.gh_coord.specs.Stopping.{acks_of}
+
+-- the numbers before these
+abbrev pub cycle_before : ℕ → ℕ
+cycle_before begun = (begun + (2 ^ 64 - 1)) % 2 ^ 64
+
+abbrev pub generation_before : ℕ → ℕ
+generation_before generation = (generation + (2 ^ 34 - 2)) % 2 ^ 34
+
+-- in a stop behind this phase
+abbrev pub stop_post : RunPhase → StopStage → Post
+stop_post phase stop_stage.StorePhase = Calm phase
+stop_post phase (stop_stage.Await ack) = Looks phase ack
+stop_post phase stop_stage.Ended = Stopped phase
+
+abbrev pub open_post : OpenStage → Post
+open_post open_stage.Ended = Calm run.Mark
+open_post _ = Stopped run.Off
+
+abbrev pub told_phase : (is_last : Bool) → RunPhase
+told_phase is_last = if is_last then run.Finished else run.Off
+
+abbrev pub tell_post : (is_last : Bool) → TellStage → Post
+tell_post is_last tell_stage.Ended = Calm (told_phase is_last)
+tell_post is_last _ = Stopped run.Mark
+
+-- The world is stopped while a cycle is opened, and from the check on until the cycle is swept.
+abbrev pub post_at : CoordStage → Post
+post_at (LoadAck i) = Calm run.Off
+post_at LoadWant = Calm run.Off
+post_at (Stop st) = stop_post run.Off st.stage
+post_at (Open o) = open_post o.stage
+post_at (Watch w) = Calm run.Mark
+post_at (StopAgain st) = stop_post run.Mark st.stage
+post_at (Check w) = Stopped run.Mark
+post_at MarkOn = Stopped run.Mark
+post_at (Close c) = Stopped run.Mark
+post_at (Sweep w) = Stopped run.Mark
+post_at (Count c) = Stopped run.Mark
+post_at (Tell t) = tell_post t.is_last t.stage
+post_at Done = Calm run.Finished
+
+-- The numbers that are stored: a number that it raises is stored later.
+
+abbrev pub stored_stop : (stops : ℕ) → StopStage → ℕ
+stored_stop stops stop_stage.StorePhase = stop_before stops
+stored_stop stops _ = stops
+
+abbrev pub stops_at : (stops : ℕ) → CoordStage → ℕ
+stops_at stops (Stop st) = stored_stop stops st.stage
+stops_at stops (StopAgain st) = stored_stop stops st.stage
+stops_at stops _ = stops
+
+abbrev pub stored_cycle : (begun : ℕ) → OpenStage → ℕ
+stored_cycle begun open_stage.StorePhase = begun
+stored_cycle begun open_stage.Ended = begun
+stored_cycle begun _ = cycle_before begun
+
+abbrev pub begun_at : (begun : ℕ) → CoordStage → ℕ
+begun_at begun (Open o) = stored_cycle begun o.stage
+begun_at begun _ = begun
+
+abbrev pub stored_generation : (generation : ℕ) → CloseStage → ℕ
+stored_generation generation close_stage.Ended = generation
+stored_generation generation _ = generation_before generation
+
+abbrev pub generation_at : (generation : ℕ) → CoordStage → ℕ
+generation_at generation (Close c) = stored_generation generation c.stage
+generation_at generation _ = generation
+
+abbrev pub lead_at : Coordinating → CoordStage → Lead
+lead_at s stage = record { stops = stops_at s.stops stage; begun = begun_at s.begun stage; generation = generation_at s.generation stage; post = post_at stage }
+
+abbrev pub lead_of : Coordinating → Lead
+lead_of s = lead_at s s.stage
+
+-- each number fits its word
+pub record FitsNumbers (stops begun generation : ℕ) : Type 0 where
+  pub stops_fit : stops < 2 ^ 62
+  pub begun_fits : begun < 2 ^ 64
+  pub generation_fits : generation < 2 ^ 34
+
+-- what is stored at each stage is by the coordinator's own numbers
+abbrev pub SoundAt : Coordinating → CoordStage → Type 0
+SoundAt s (Stop st) = st ≡ record { layout = s.layout; stops = s.stops; stage = st.stage }
+SoundAt s (StopAgain st) = st ≡ record { layout = s.layout; stops = s.stops; stage = st.stage }
+SoundAt s (Open o) = o ≡ record { layout = o.layout; stops = s.stops; cycle = s.begun; stage = o.stage }
+SoundAt s (Close c) = c ≡ record { layout = c.layout; lapsed = c.lapsed; generation = s.generation; stage = c.stage }
+SoundAt s (Tell t) = t ≡ record { layout = t.layout; trigger = t.trigger; cycle = t.cycle; stops = s.stops; is_last = s.is_last; stage = t.stage }
+SoundAt s _ = Unit {0}
+
+abbrev pub Sound : Coordinating → Type 0
+Sound s = FitsNumbers s.stops s.begun s.generation × SoundAt s s.stage
+
+pub record LeadsHandshake : Type 0 where
+  -- before its first step
+  pub sound : (l : Layout) (seat gogc minheap room : ℕ) → Sound (opening l seat gogc minheap room)
+  pub leads : (l : Layout) (seat gogc minheap room : ℕ) → lead_of (opening l seat gogc minheap room) ≡ first_lead
+  -- and by each step
+  pub stays_sound : (s : Coordinating) (found : ℕ) → Sound s → is_busy s.stage ≡ true → Sound (goes s found)
+  pub goes : (s : Coordinating) (found : ℕ) → Sound s → is_busy s.stage ≡ true → LeadGoes (acks_of s.layout) found (lead_of s) (asks s) (lead_of (goes s found))

@@ -1,0 +1,122 @@
+-- Each step of a worker is one of the handshake of a stop: by its stages.
+use Rattle.std.proofs.Common.{◌≡◌, ℕ, Bool, true, false, cond, ltb, ◌==◌, refl, sym, ap, ◌∙◌, inl, inr, Option, Some, None}
+use Rattle.gh_base.specs.declared.cell.Ask.{Ask}
+use Rattle.gh_base.specs.declared.cell.Ask.TheVariants.{Load, Add}
+use Rattle.gh_base.specs.declared.cell.Cell.TheVariants as cell
+use Rattle.gh_base.specs.declared.held.Held.{Held}
+use Rattle.gh_base.specs.declared.pack.Phase.{Phase}
+use Rattle.gh_base.specs.declared.pack.Phase.TheVariants.{Off, Mark, Stop, Finished}
+use Rattle.gh_base.specs.Packing.{phase_of}
+use Rattle.gh_phase.specs.declared.resume.Resumed.{Resumed}
+use Rattle.gh_phase.specs.Ends.{ends}
+use Rattle.gh_phase.specs.Handshake.{Awake, FromAwake, IsQuiet, StageGoes}
+use Rattle.gh_phase.specs.Listing as resume
+use Rattle.gh_phase.specs.ResumePlaces.{ResumesInHandshake}
+use Rattle.gh_phase.specs.ResumePlaces as resumes
+use Rattle.gh_phase.specs.Views.{run_phase}
+use Rattle.gh_scan.specs.Listing as scan
+use Rattle.gh_scan.specs.Listing.{reference_in}
+use Rattle.gh_scan.specs.Quiet.{MarkingIsQuiet}
+use Rattle.gh_shade.specs.declared.shade.Shaded.{Shaded}
+use Rattle.gh_shade.specs.declared.shade.Shaded.TheVariants as shaded
+use Rattle.gh_shade.specs.Listing as shade
+use Rattle.gh_wbuf.specs.BufferGiving as give
+use Rattle.gh_wbuf.specs.EntryTaking as take
+use Rattle.gh_wbuf.specs.RoomFinding as room
+use Rattle.gh_worker.specs.declared.worker.WorkerStage.{WorkerStage}
+use Rattle.gh_worker.specs.declared.worker.WorkerStage.TheVariants.{LoadPhase, GiveBack, Resuming, Taking, Scanning, LoadCursor, Claim, LoadGlobal, Shading, FindRoom, Leave, Done}
+use Rattle.gh_worker.specs.Handshake.{GoesOnWithNone, party_at, party_of, Sound, SoundAt, stage_of, stands_at, WorkersKeepHandshake}
+use Rattle.gh_worker.specs.Listing.{after_give, after_resume, after_room, after_scan, after_shade, after_take, asks_at, at_stage, by_phase, done_with, goes_at, is_busy, stops_at, Working}
+use Rattle.gh_worker.specs.Listing as worker
+
+-- the worker that a step leads to, from one that is awake
+abbrev FromAwakeTo : (found : ℕ) → Ask → (w to : Working) → Type 0
+FromAwakeTo found ask w to = Sound to × (party_of to ≡ record { seat = w.seat; view = w.view }) × FromAwake found ask (stage_of to)
+
+-- and from one at this stage
+abbrev Goes : (found : ℕ) → (w : Working) → WorkerStage → (to : Working) → Type 0
+Goes found w stage to = Sound to × StageGoes found (party_at w stage) (stands_at stage) (asks_at w stage) (party_of to) (stage_of to)
+
+module _ (found : ℕ) (w : Working) where
+  -- by the phase that it found
+  stops : (held : Option Held) → w.held ≡ held → (phase_of found).phase ≡ Stop → FromAwakeTo found (Load cell.Phase) w (at_stage w (stops_at w (phase_of found).stops held))
+  stops None none e = (record { seat_is = refl; busy = refl; none = none }, refl, (refl, record { stops = ap run_phase e; number_is = refl }))
+  stops (Some h) some e = (tt, refl, (refl, record { stops = ap run_phase e; number_is = refl }))
+
+  phases : (phase : Phase) → (phase_of found).phase ≡ phase → FromAwakeTo found (Load cell.Phase) w (at_stage w (by_phase w (phase_of found).stops phase))
+  phases Off e = (tt, refl, tt)
+  phases Mark e = (tt, refl, tt)
+  phases Stop e = stops w.held refl e
+  phases Finished e = (tt, refl, tt)
+
+  takes : (ask : Ask) (t : take.EntryTaking) (out : Option (Option ℕ)) → FromAwakeTo found ask w (after_take w t out)
+  takes ask t None = (tt, refl, tt)
+  takes ask t (Some None) = (tt, refl, tt)
+  takes ask t (Some (Some reference)) = (tt, refl, tt)
+
+  scans : (ask : Ask) (s : scan.Scanning) (out : Option ℕ) → FromAwakeTo found ask w (after_scan w s out)
+  scans ask s None = (tt, refl, tt)
+  scans ask s (Some words) = (tt, refl, tt)
+
+  shades : (ask : Ask) (sh : shade.Shading) (out : Option Shaded) → FromAwakeTo found ask w (after_shade w sh out)
+  shades ask sh None = (tt, refl, tt)
+  shades ask sh (Some shaded.Done) = (tt, refl, tt)
+  shades ask sh (Some shaded.WantsRoom) = (tt, refl, tt)
+
+  finds_room : (ask : Ask) (sh : shade.Shading) (r : room.RoomFinding) (out : Option Held) → FromAwakeTo found ask w (after_room w sh r out)
+  finds_room ask sh r None = (tt, refl, tt)
+  finds_room ask sh r (Some h) = (tt, refl, tt)
+
+  either : (ask : Ask) (b : Bool) (one other : Working) → FromAwakeTo found ask w one → FromAwakeTo found ask w other → FromAwakeTo found ask w (cond b one other)
+  either ask true one other f g = f
+  either ask false one other f g = g
+
+  at_either : (ask : Ask) (b : Bool) (one other : WorkerStage) → FromAwakeTo found ask w (at_stage w one) → FromAwakeTo found ask w (at_stage w other) → FromAwakeTo found ask w (at_stage w (cond b one other))
+  at_either ask true one other f g = f
+  at_either ask false one other f g = g
+
+  -- the buffer is given back
+  gives : (q : MarkingIsQuiet) (g : give.BufferGiving) (stops : ℕ) (out : Option (Unit {0})) → Goes found w (GiveBack g stops) (after_give w (give.goes g found) stops out)
+  gives q g stops None = (tt, (refl, q.gives g, inl refl))
+  gives q g stops (Some u) = (record { seat_is = refl; busy = refl; none = refl }, (refl, q.gives g, inr refl))
+
+  -- it goes on after the stop
+  module _ (h : ResumesInHandshake) (r : resume.Resuming) (s : GoesOnWithNone w.seat w.held r) where
+    goes_so : StageGoes found (resumes.party_of r) (resumes.stage_of r) (resume.asks r) (resumes.party_of (resume.goes r found)) (resumes.stage_of (resume.goes r found))
+    goes_so = h.keeps.goes r found tt s.busy
+
+    ends_so : (out : Resumed) → resume.gives r found ≡ Some out → Goes found w (Resuming r) (record w { view = out.view; stage = LoadPhase })
+    ends_so out e =
+        let last = h.ends r found out e in
+        let seat : (resume.goes r found).seat ≡ w.seat = h.seat_stays r found ∙ s.seat_is in
+        (tt, rw (← seat, ← last.0, ← last.1) goes_so)
+
+    goes_on : (out : Option Resumed) → resume.gives r found ≡ out → Goes found w (Resuming r) (after_resume w (resume.goes r found) out)
+    goes_on None e = (record { seat_is = h.seat_stays r found ∙ s.seat_is; busy = (ends r found s.busy).0 (rw e refl); none = s.none }, goes_so)
+    goes_on (Some out) e = ends_so out e
+
+awakes : (found : ℕ) (w to : Working) (ask : Ask) → IsQuiet ask → FromAwakeTo found ask w to → Sound to × StageGoes found (record { seat = w.seat; view = w.view }) Awake ask (party_of to) (stage_of to)
+awakes found w to ask q f = (f.0, (f.1, q, f.2))
+
+module _ (q : MarkingIsQuiet) (h : ResumesInHandshake) where
+  goes : (found : ℕ) (w : Working) (stage : WorkerStage) → SoundAt w stage → is_busy stage ≡ true → Goes found w stage (goes_at w stage found)
+  goes found w LoadPhase s busy = awakes found w (goes_at w LoadPhase found) (Load cell.Phase) tt (phases found w (phase_of found).phase refl)
+  goes found w (GiveBack g stops) s busy = gives found w q g stops (give.gives g found)
+  goes found w (Resuming r) s busy = goes_on found w h r s (resume.gives r found) refl
+  goes found w (Taking t) s busy = awakes found w (goes_at w (Taking t) found) (take.asks t) (q.takes t) (takes found w (take.asks t) (take.goes t found) (take.gives t found))
+  goes found w (Scanning sc) s busy = awakes found w (goes_at w (Scanning sc) found) (scan.asks sc) (q.scans sc) (scans found w (scan.asks sc) (scan.goes sc found) (scan.gives sc found))
+  goes found w LoadCursor s busy = awakes found w (goes_at w LoadCursor found) (Load cell.Gcur) tt (at_either found w (Load cell.Gcur) (ltb found w.layout.globals) Claim LoadPhase (tt, refl, tt) (tt, refl, tt))
+  goes found w Claim s busy = awakes found w (goes_at w Claim found) (Add cell.Gcur 1) tt (at_either found w (Add cell.Gcur 1) (ltb found w.layout.globals) (LoadGlobal found) LoadPhase (tt, refl, tt) (tt, refl, tt))
+  goes found w (LoadGlobal i) s busy = awakes found w (goes_at w (LoadGlobal i) found) (Load (cell.Global i)) tt (either found w (Load (cell.Global i)) (found == 0) (done_with w w.held 1) (at_stage w (Shading (shade.opening w.layout (reference_in w.layout found) w.held))) (tt, refl, tt) (tt, refl, tt))
+  goes found w (Shading sh) s busy = awakes found w (goes_at w (Shading sh) found) (shade.asks sh) (q.shades sh) (shades found w (shade.asks sh) (shade.goes sh found) (shade.gives sh found))
+  goes found w (FindRoom sh r) s busy = awakes found w (goes_at w (FindRoom sh r) found) (room.asks r) (q.finds_room r) (finds_room found w (room.asks r) sh (room.goes r found) (room.gives r found))
+  goes found w Leave s busy = (tt, (refl, refl, refl))
+  goes found w Done s busy = absurd cc
+
+  pub keeps_handshake : WorkersKeepHandshake
+  keeps_handshake = record {
+    sound = λ l seat. tt;
+    party = λ l seat. refl;
+    awake = λ l seat. refl;
+    keeps = record { stays_sound = λ w found s busy. (goes found w w.stage s busy).0; goes = λ w found s busy. (goes found w w.stage s busy).1 };
+  }

@@ -1,0 +1,50 @@
+-- Where a worker stands in the handshake of a stop.
+use Rattle.std.specs.Prelude.{◌≡◌, ℕ, true, None, Option}
+use Rattle.gh_base.specs.declared.held.Held.{Held}
+use Rattle.gh_base.specs.declared.layout.Layout.{Layout}
+use Rattle.gh_phase.specs.Handshake.{Awake, first_party, Gives, Gone, KeepsHandshake, Leaves, Party, Stage}
+use Rattle.gh_phase.specs.Listing as resume
+use Rattle.gh_phase.specs.ResumePlaces as resumes
+use Rattle.gh_worker.specs.declared.worker.WorkerStage.{WorkerStage}
+use Rattle.gh_worker.specs.declared.worker.WorkerStage.TheVariants.{GiveBack, Resuming, Leave, Done}
+use Rattle.gh_worker.specs.Listing.{listing, opening, Working}
+
+-- while it takes, scans and shades it is awake
+abbrev pub stands_at : WorkerStage → Stage
+stands_at (GiveBack g stops) = Gives stops
+stands_at (Resuming r) = resumes.stage_of r
+stands_at Leave = Leaves
+stands_at Done = Gone
+stands_at _ = Awake
+
+-- while it goes on after a stop, it knows what that knows
+abbrev pub party_at : Working → WorkerStage → Party
+party_at w (Resuming r) = resumes.party_of r
+party_at w _ = record { seat = w.seat; view = w.view }
+
+abbrev pub stage_of : Working → Stage
+stage_of w = stands_at w.stage
+
+abbrev pub party_of : Working → Party
+party_of w = party_at w w.stage
+
+-- it goes on after a stop for its own seat, with no buffer held
+pub record GoesOnWithNone (seat : ℕ) (held : Option Held) (r : resume.Resuming) : Type 0 where
+  pub seat_is : r.seat ≡ seat
+  pub busy : resume.is_busy r.stage ≡ true
+  pub none : held ≡ None
+
+abbrev pub SoundAt : Working → WorkerStage → Type 0
+SoundAt w (Resuming r) = GoesOnWithNone w.seat w.held r
+SoundAt w _ = Unit {0}
+
+abbrev pub Sound : Working → Type 0
+Sound w = SoundAt w w.stage
+
+pub record WorkersKeepHandshake : Type 0 where
+  -- before its first step
+  pub sound : (l : Layout) (seat : ℕ) → Sound (opening l seat)
+  pub party : (l : Layout) (seat : ℕ) → party_of (opening l seat) ≡ first_party seat
+  pub awake : (l : Layout) (seat : ℕ) → stage_of (opening l seat) ≡ Awake
+  -- and by each step
+  pub keeps : KeepsHandshake listing Sound party_of stage_of
