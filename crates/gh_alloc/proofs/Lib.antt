@@ -4,4 +4,5 @@ mod FindLasts
 mod FindRights
 mod FindWithin
 mod PlaceRights
+pub mod Quiet
 pub mod Seeking

@@ -8,6 +8,7 @@ pub mod Place
 pub mod PlaceEnds
 pub mod PlaceFacts
 pub mod PlaceSound
+pub mod Quiet
 pub mod Refusing
 pub mod Rounds
 pub mod Search

@@ -4,6 +4,7 @@ ghost use Rattle.gh_alloc.specs.FindFacts.{FindsByItsRights};
 ghost use Rattle.gh_alloc.specs.Locking.{PagesAreFreedWithTheLock, PagesAreWrittenWithTheLock};
 ghost use Rattle.gh_alloc.specs.Making.{ObjectsAreMade};
 ghost use Rattle.gh_alloc.specs.PlaceFacts.{PlacesByItsRights};
+ghost use Rattle.gh_alloc.specs.Quiet.{AllocationIsQuiet};
 ghost use Rattle.gh_alloc.specs.Refusing.{NoRoomIsTrue};
 ghost use Rattle.gh_alloc.specs.Rounds.{NoRoomIsAfterReclaim};
 
@@ -85,4 +86,10 @@ pub fn pages_are_freed_with_the_lock()
 /// the lock all the while, so that it took it once and freed it once.
 pub fn no_room_is_after_reclaim()
     ensures { NoRoomIsAfterReclaim }
+{}
+
+/// The routines by which a slot is looked for, and an object made in it, store no phase, no sweep generation, no
+/// number of cycles begun and no acknowledgement, nor change these in another way.
+pub fn allocation_is_quiet()
+    ensures { AllocationIsQuiet }
 {}

@@ -1,11 +1,11 @@
 -- Each step of the coordinator is one of the handshake of a stop: by its stages.
-use Rattle.std.proofs.Common.{◌≡◌, ℕ, ◌+◌, ◌-◌, ◌%◌, ◌^◌, ◌<◌, ◌⊎◌, inl, inr, Bool, true, false, cond, ltb, ◌==◌, ◌||◌, refl, sym, ap, subst, ◌∙◌, arith, Option, Some, None}
+use Rattle.std.proofs.Common.{◌≡◌, ℕ, ◌+◌, ◌^◌, ◌<◌, inl, inr, Bool, true, false, cond, ltb, ◌==◌, ◌||◌, refl, sym, ap, subst, arith, Option, Some, None}
 use Rattle.std.proofs.lemmas.Bool.Decides.{nat_tests}
 use Rattle.gh_base.specs.declared.cell.Cell.TheVariants as cell
 use Rattle.gh_base.specs.declared.pack.Phase.TheVariants as kind
 use Rattle.gh_base.specs.Packing.{phase_word}
 use Rattle.gh_phase.specs.declared.view.RunPhase.TheVariants as run
-use Rattle.gh_phase.specs.Handshake.{begins, behind_ack, Calm, ends, goes, IsAcked, IsQuiet, Lead, LeadGoes, Looks, next_cycle, next_generation, next_stop, quiet, run_word, sees, stop_before, stop_word, Stopped, stops}
+use Rattle.gh_phase.specs.Handshake.{begins, Calm, ends, goes, IsAcked, IsQuiet, LeadGoes, Looks, next_cycle, next_generation, next_stop, quiet, sees, stop_before, stop_word, Stopped, stops}
 use Rattle.gh_coord.specs.declared.close.CloseStage.TheVariants as close_stage
 use Rattle.gh_coord.specs.declared.count.CountStage.TheVariants as count_stage
 use Rattle.gh_coord.specs.declared.open.OpenStage.TheVariants as open_stage
@@ -16,8 +16,8 @@ use Rattle.gh_coord.specs.declared.tell.TellStage.TheVariants as tell_stage
 use Rattle.gh_coord.specs.declared.watch.WatchStage.TheVariants as watch_stage
 use Rattle.gh_coord.specs.Closing as close
 use Rattle.gh_coord.specs.Counting as count
-use Rattle.gh_coord.specs.Handshake.{cycle_before, FitsNumbers, generation_before, lead_at, lead_of, LeadsHandshake, Sound, SoundAt, stop_post}
-use Rattle.gh_coord.specs.Listing.{after_ack, after_check, after_close, after_count, after_open, after_stop, after_stop_again, after_sweep, after_tell, after_want, after_watch, asks_at, at_stage, checks, Coordinating, counted, goes_at, is_busy, opens, stops_world}
+use Rattle.gh_coord.specs.Handshake.{cycle_before, FitsNumbers, generation_before, lead_at, lead_of, LeadsHandshake, Sound, SoundAt}
+use Rattle.gh_coord.specs.Listing.{after_ack, after_check, after_count, after_stop, after_stop_again, after_sweep, after_want, after_watch, asks_at, at_stage, Coordinating, counted, goes_at, is_busy, stops_world}
 use Rattle.gh_coord.specs.Opening as opens_by
 use Rattle.gh_coord.specs.Stopping as stop
 use Rattle.gh_coord.specs.Stopping.{acks_of, is_acknowledged}

@@ -13,6 +13,7 @@ pub mod NewSteps
 mod Owning
 pub mod NoAck
 pub mod Polling
+mod Shaking
 pub mod Shapes
 pub mod Soundness
 pub mod StackMarking

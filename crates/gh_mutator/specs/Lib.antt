@@ -11,6 +11,7 @@ pub mod GiveEnds
 pub mod GiveSound
 pub mod Gives
 pub mod Global
+pub mod Handshake
 pub mod Leave
 pub mod LeaveEnds
 pub mod LeaveSound
@@ -29,6 +30,7 @@ pub mod PollEnds
 pub mod PollSound
 pub mod Polls
 pub mod Processor
+pub mod Quiet
 pub mod Register
 pub mod Runs
 pub mod Serving

@@ -6,16 +6,20 @@ ghost use Rattle.gh_mutator.specs.Ending.{OperationsEnd};
 ghost use Rattle.gh_mutator.specs.Faults.{FaultsChangeNothing};
 ghost use Rattle.gh_mutator.specs.Full.{FullChangesLittle};
 ghost use Rattle.gh_mutator.specs.Gives.{GivesLeaveNothing};
+ghost use Rattle.gh_mutator.specs.Handshake.{LeavesInHandshake, PollsInHandshake, WaitsInHandshake};
 ghost use Rattle.gh_mutator.specs.Leaves.{NothingIsHeldAtLeave};
 ghost use Rattle.gh_mutator.specs.Polls.{PollsHoldNothingAtStops};
+ghost use Rattle.gh_mutator.specs.Quiet.{ProcessorIsQuiet};
 ghost use Rattle.gh_mutator.specs.Runs.{RunsByItsRights};
 ghost use Rattle.gh_mutator.specs.StackMarks.{WishesOfAStackAreShaded};
 ghost use Rattle.gh_mutator.specs.Waits.{WaitsEndWithACycle};
 
-use gh_alloc::laws::{finding_keeps_its_facts, making_keeps_its_facts};
+use gh_alloc::laws::{allocation_is_quiet, finding_keeps_its_facts, making_keeps_its_facts};
 use gh_base::laws::{packed_words_are_read_back, rows_are_written};
 use gh_class::size_class_laws;
 use gh_heap::laws::{rights_follow, the_heap_is_apart};
+use gh_phase::laws::going_on_keeps_the_handshake;
+use gh_scan::laws::marking_is_quiet;
 
 /// Whatever its steps find, an operation that makes no object ends after a few of them: a load after at
 /// most 4, a store after 3, a load of a global after 2, and each other operation after 1.
@@ -101,3 +105,38 @@ pub fn waits_end_with_a_cycle()
 pub fn wishes_of_a_stack_are_shaded()
     ensures { WishesOfAStackAreShaded }
 {}
+
+/// Save for its poll and its leave among a collector, nothing that a processor runs writes a word of the
+/// handshake of a stop: no statement, no giving back, and no scan of a stack.
+pub fn the_processor_is_quiet()
+    ensures { ProcessorIsQuiet }
+{
+    marking_is_quiet();
+    allocation_is_quiet();
+}
+
+/// Each step of a poll is one of the handshake of a stop. It begins awake; where it finds a stop it gives back what
+/// is held, acknowledges with no span cached and no buffer held, and goes on; then it is awake again until it
+/// ends.
+pub fn polls_keep_the_handshake()
+    ensures { PollsInHandshake }
+{
+    the_processor_is_quiet();
+    marking_is_quiet();
+    going_on_keeps_the_handshake();
+}
+
+/// Each step of a wait is one of the handshake of a stop: between its polls the processor is awake.
+pub fn waits_keep_the_handshake()
+    ensures { WaitsInHandshake }
+{
+    polls_keep_the_handshake();
+}
+
+/// Each step of a leave is one of the handshake of a stop: while it gives back what is held the processor is
+/// awake, and with its last step it says that it is gone.
+pub fn leaves_keep_the_handshake()
+    ensures { LeavesInHandshake }
+{
+    the_processor_is_quiet();
+}

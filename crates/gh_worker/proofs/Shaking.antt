@@ -1,5 +1,5 @@
 -- Each step of a worker is one of the handshake of a stop: by its stages.
-use Rattle.std.proofs.Common.{◌≡◌, ℕ, Bool, true, false, cond, ltb, ◌==◌, refl, sym, ap, ◌∙◌, inl, inr, Option, Some, None}
+use Rattle.std.proofs.Common.{◌≡◌, ℕ, Bool, true, false, cond, ltb, ◌==◌, refl, ap, ◌∙◌, inl, inr, Option, Some, None}
 use Rattle.gh_base.specs.declared.cell.Ask.{Ask}
 use Rattle.gh_base.specs.declared.cell.Ask.TheVariants.{Load, Add}
 use Rattle.gh_base.specs.declared.cell.Cell.TheVariants as cell
@@ -27,7 +27,6 @@ use Rattle.gh_worker.specs.declared.worker.WorkerStage.{WorkerStage}
 use Rattle.gh_worker.specs.declared.worker.WorkerStage.TheVariants.{LoadPhase, GiveBack, Resuming, Taking, Scanning, LoadCursor, Claim, LoadGlobal, Shading, FindRoom, Leave, Done}
 use Rattle.gh_worker.specs.Handshake.{GoesOnWithNone, party_at, party_of, Sound, SoundAt, stage_of, stands_at, WorkersKeepHandshake}
 use Rattle.gh_worker.specs.Listing.{after_give, after_resume, after_room, after_scan, after_shade, after_take, asks_at, at_stage, by_phase, done_with, goes_at, is_busy, stops_at, Working}
-use Rattle.gh_worker.specs.Listing as worker
 
 -- the worker that a step leads to, from one that is awake
 abbrev FromAwakeTo : (found : ℕ) → Ask → (w to : Working) → Type 0

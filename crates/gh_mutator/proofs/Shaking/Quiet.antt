@@ -1,0 +1,86 @@
+-- What a processor runs while it is awake writes no word of the handshake: by its stages.
+use Rattle.gh_base.specs.declared.layout.Layout.{Layout}
+use Rattle.gh_base.specs.declared.value.Value.{Value}
+use Rattle.gh_alloc.specs.Quiet.{AllocationIsQuiet}
+use Rattle.gh_phase.specs.Handshake.{IsQuiet}
+use Rattle.gh_scan.specs.Quiet.{MarkingIsQuiet}
+use Rattle.gh_stack.specs.declared.scan_stack.StackStage.{StackStage}
+use Rattle.gh_stack.specs.declared.scan_stack.StackStage.TheVariants as stack_stage
+use Rattle.gh_stack.specs.Listing as stack
+use Rattle.gh_mutator.specs.declared.give.GiveStage.{GiveStage}
+use Rattle.gh_mutator.specs.declared.give.GiveStage.TheVariants as give_stage
+use Rattle.gh_mutator.specs.declared.global.Global.{Global}
+use Rattle.gh_mutator.specs.declared.global.GlobalStage.{GlobalStage}
+use Rattle.gh_mutator.specs.declared.global.GlobalStage.TheVariants as global_stage
+use Rattle.gh_mutator.specs.declared.load.Load.{Load}
+use Rattle.gh_mutator.specs.declared.load.LoadStage.{LoadStage}
+use Rattle.gh_mutator.specs.declared.load.LoadStage.TheVariants as load_stage
+use Rattle.gh_mutator.specs.declared.mark_stack.MarkStackStage.{MarkStackStage}
+use Rattle.gh_mutator.specs.declared.mark_stack.MarkStackStage.TheVariants as mark_stage
+use Rattle.gh_mutator.specs.declared.new.NewStage.{NewStage}
+use Rattle.gh_mutator.specs.declared.new.NewStage.TheVariants as new_stage
+use Rattle.gh_mutator.specs.declared.store.Store.{Store}
+use Rattle.gh_mutator.specs.declared.store.StoreStage.{StoreStage}
+use Rattle.gh_mutator.specs.declared.store.StoreStage.TheVariants as store_stage
+use Rattle.gh_mutator.specs.Give as give
+use Rattle.gh_mutator.specs.Global as global
+use Rattle.gh_mutator.specs.Load as load
+use Rattle.gh_mutator.specs.MarkStack as mark
+use Rattle.gh_mutator.specs.New as new
+use Rattle.gh_mutator.specs.Quiet.{ProcessorIsQuiet}
+use Rattle.gh_mutator.specs.Store as store
+
+stacks : (s : stack.StackScan) (stage : StackStage) → IsQuiet (stack.asks_at s stage)
+stacks s (stack_stage.Shade register reference) = tt
+stacks s stack_stage.Store = tt
+stacks s stack_stage.Ended = tt
+
+loads : (l : Layout) (x : Load) (stage : LoadStage) → IsQuiet (load.asks_at l x stage)
+loads l x load_stage.NilBase = tt
+loads l x load_stage.Page = tt
+loads l x load_stage.Bits = tt
+loads l x (load_stage.Field pointer) = tt
+loads l x (load_stage.Birth at) = tt
+
+stores : (l : Layout) (held : Value) (x : Store) (stage : StoreStage) → IsQuiet (store.asks_at l held x stage)
+stores l held x store_stage.NilBase = tt
+stores l held x store_stage.Page = tt
+stores l held x store_stage.Bits = tt
+stores l held x store_stage.Field = tt
+
+globals : (l : Layout) (held : Value) (x : Global) (stage : GlobalStage) → IsQuiet (global.asks_at l held x stage)
+globals l held x global_stage.Load = tt
+globals l held x (global_stage.Birth at) = tt
+globals l held x global_stage.Store = tt
+globals l held x global_stage.Number = tt
+
+module _ (q : MarkingIsQuiet) (a : AllocationIsQuiet) where
+  gives : (g : give.Giving) (stage : GiveStage) → IsQuiet (give.asks_at g stage)
+  gives g give_stage.Lock = tt
+  gives g (give_stage.GiveSpan class s) = tt
+  gives g give_stage.Unlock = tt
+  gives g (give_stage.GiveBuffer b) = q.gives b
+  gives g give_stage.Ended = tt
+
+  marks : (m : mark.StackMarking) (stage : MarkStackStage) → IsQuiet (mark.asks_at m stage)
+  marks m (mark_stage.Shading sh) = q.shades sh
+  marks m (mark_stage.FindRoom sh r) = q.finds_room r
+  marks m mark_stage.Store = stacks m.scan m.scan.stage
+  marks m mark_stage.Ended = tt
+
+  news : (stage : NewStage) → IsQuiet (new.asks_at stage)
+  news (new_stage.Find f) = a.finds f
+  news (new_stage.Place p) = a.places p
+
+  pub is_quiet : ProcessorIsQuiet
+  is_quiet = record {
+    gives_back = λ g. gives g g.stage;
+    marks_a_stack = λ m. marks m m.stage;
+    loads = λ l x. loads l x x.stage;
+    stores = λ l held x. stores l held x x.stage;
+    globals = λ l held x. globals l held x x.stage;
+    registers = λ x. tt;
+    news = news;
+    polls = λ seat. tt;
+    ends = λ seat g. tt;
+  }
