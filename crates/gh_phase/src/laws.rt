@@ -32,14 +32,14 @@ pub fn going_on_keeps_the_handshake()
 /// load of the last acknowledgement until the coordinator stores a phase that is no stop, each other actor
 /// waits at that stop, or is gone. Only one that is gone has acknowledged so.
 pub fn the_handshake_holds<M: InHandshake, O>()
-    ensures { (setting : Setting M O) (n : ℕ) → IsHandshake setting n M.sound M.place → (es : List (Entry O)) → Legal setting es → Shakes setting n M.sound M.place es }
+    ensures { (setting : Setting M O) (n : ℕ) → IsHandshake setting n (M.sound setting.layout) M.place → (es : List (Entry O)) → Legal setting es → Shakes setting n (M.sound setting.layout) M.place es }
 {
     packed_words_are_read_back();
 }
 
 /// Who is gone stays gone.
 pub fn the_gone_stay_gone<M: InHandshake, O>()
-    ensures { (setting : Setting M O) (n : ℕ) → IsHandshake setting n M.sound M.place → (e : Entry O) (es : List (Entry O)) → Legal setting (e ∷ es) → GoneStay setting n M.place e es }
+    ensures { (setting : Setting M O) (n : ℕ) → IsHandshake setting n (M.sound setting.layout) M.place → (e : Entry O) (es : List (Entry O)) → Legal setting (e ∷ es) → GoneStay setting n M.place e es }
 {
     packed_words_are_read_back();
 }
@@ -47,7 +47,7 @@ pub fn the_gone_stay_gone<M: InHandshake, O>()
 /// In a stopped world nobody but the coordinator moves: a step of any other actor is a load of the phase that
 /// finds the stop, and leaves it where it was.
 pub fn nobody_moves<M: InHandshake, O>()
-    ensures { (setting : Setting M O) (n : ℕ) → IsHandshake setting n M.sound M.place → (e : Entry O) (es : List (Entry O)) → Legal setting (e ∷ es) → NobodyMoves setting n M.place e es }
+    ensures { (setting : Setting M O) (n : ℕ) → IsHandshake setting n (M.sound setting.layout) M.place → (e : Entry O) (es : List (Entry O)) → Legal setting (e ∷ es) → NobodyMoves setting n M.place e es }
 {
     packed_words_are_read_back();
 }

@@ -1,3 +1,4 @@
+pub mod Shaking
 pub mod Due
 pub mod EachOnce
 pub mod Fitting

@@ -1,3 +1,4 @@
+pub mod Handshake
 pub mod Turns
 pub mod Order
 pub mod Processors

@@ -18,10 +18,12 @@
 //! moves: nothing is marked, swept or freed yet.
 #![tactic(auto)]
 
+mod handshake;
 mod laws;
 mod turns;
 mod world;
 
+pub use handshake::{Actor, PartyToHandshake, every_list_keeps_the_handshake};
 pub use laws::{a_script_has_one_run, every_legal_list_stands, every_run_is_explained, runs_go_on};
 pub use turns::{Next, total_of};
 pub use world::{Event, World};

@@ -1,0 +1,65 @@
+//! Processors, workers and the coordinator in the handshake of a stop, in one list of steps.
+//!
+//! The law of the handshake (`gh_phase`) is of any actors that say where they stand in it. Here these are any
+//! number of processors and of workers, and one coordinator at the seat behind them. Of the workers and the
+//! coordinator their crates say where they stand. A processor may be of any kind that does so too: what it
+//! runs beside its polls, waits and leaves does not matter.
+
+ghost use Rattle.std.specs.Prelude.{ℕ};
+ghost use Rattle.gh_base.specs.Lists.{Kind};
+ghost use Rattle.gh_world.specs.Handshake.{EveryListKeepsIt};
+
+use gh_base::Layout;
+use gh_coord::Coord;
+use gh_coord::laws::the_coordinator_leads_the_handshake;
+use gh_phase::InHandshake;
+use gh_phase::laws::the_handshake_holds;
+use gh_worker::Worker;
+use gh_worker::laws::a_worker_keeps_the_handshake;
+
+/// A kind of processors that says where each of them stands in the handshake.
+pub trait PartyToHandshake {
+    ghost use Rattle.gh_base.specs.declared.layout.Layout.{Layout};
+    ghost use Rattle.gh_phase.specs.Handshake.{Party, Stage};
+
+    // What holds of it in a heap of this layout, whatever it was told.
+    ghost sound: { Layout → Self → Type 0 };
+
+    // Its seat, and what it knows of the phase.
+    ghost party: { Self → Party };
+
+    // Where it stands.
+    ghost stage: { Self → Stage };
+}
+
+/// An actor of a heap with a collector. No value of it is made: it is what clauses on lists of their steps
+/// speak of.
+pub enum Actor<P> {
+    /// A processor.
+    Runs(P),
+    /// A worker.
+    Marks(Worker),
+    /// The coordinator.
+    Leads(Coord),
+}
+
+impl<P: PartyToHandshake> InHandshake for Actor<P> {
+    ghost use Rattle.gh_world.specs.Handshake.{place_of, Sound};
+
+    ghost sound = { Sound P.sound };
+
+    ghost place = { place_of P.party P.stage };
+}
+
+/// Whatever the numbers of processors and workers, whatever else the processors run, and whatever the order of
+/// steps, every legal list keeps the handshake. What a processor or a worker knows of the phase, from the opening
+/// or the end of going on after a stop until it acknowledges the next one, is the last phase that was no stop, and
+/// the sweep generation and the cycles begun as their words stand; once the last cycle is swept, it may be
+/// still that marking is off. In a stopped world each of them waits at the stop, or is gone.
+pub fn every_list_keeps_the_handshake<P: PartyToHandshake, O>()
+    ensures { EveryListKeepsIt P.sound P.party P.stage O }
+{
+    the_handshake_holds::<Actor<P>, O>();
+    the_coordinator_leads_the_handshake();
+    a_worker_keeps_the_handshake();
+}
