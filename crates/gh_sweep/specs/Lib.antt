@@ -4,7 +4,10 @@ pub mod Counts
 pub mod Ends
 pub mod Facts
 pub mod Listing
+pub mod Moves
+pub mod Shared
 pub mod Slots
 pub mod Sound
 pub mod Steps
+pub mod Sweepers
 pub mod Vocabulary

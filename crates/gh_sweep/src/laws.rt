@@ -4,8 +4,10 @@ ghost use Rattle.gh_sweep.specs.Alone.{SpansAreSwept};
 ghost use Rattle.gh_sweep.specs.Bits.{BitsAreKeptOrFreed, SetBitsAreCounted};
 ghost use Rattle.gh_sweep.specs.Counts.{ObjectsAreCounted};
 ghost use Rattle.gh_sweep.specs.Facts.{SweepKeepsItsFacts};
+ghost use Rattle.gh_sweep.specs.Moves.{EachMoveKeeps, EachMoveLeaves};
 ghost use Rattle.gh_sweep.specs.Slots.{ClearSlotsAreTold};
 ghost use Rattle.gh_sweep.specs.Steps.{SweepTakesItsSteps};
+ghost use Rattle.gh_sweep.specs.Sweepers.{SweepsAmongOthers};
 
 use gh_base::laws::{
     a_step_changes_one_cell, cells_are_told, packed_words_are_read_back, rows_are_written,
@@ -65,4 +67,33 @@ pub fn clear_slots_are_told()
 {
     rows_are_written();
     size_class_laws();
+}
+
+/// While any number of actors sweep spans and others take them and place objects, what holds of the words
+/// at every moment is kept by each move that may be made.
+pub fn each_move_keeps()
+    ensures { EachMoveKeeps }
+{
+    packed_words_are_read_back();
+    rows_are_written();
+    size_class_laws();
+}
+
+/// What a move of one actor leaves to each other: the words of the span that it sweeps, and what it has to
+/// tell.
+pub fn each_move_leaves()
+    ensures { EachMoveLeaves }
+{
+    packed_words_are_read_back();
+    size_class_laws();
+}
+
+/// A sweep among other actors: each step that it asks for is a move that it may make, and leads to the next
+/// stage; what holds of it lasts under the moves of others; and once it has ended it has told all.
+pub fn sweeps_among_others()
+    ensures { SweepsAmongOthers }
+{
+    packed_words_are_read_back();
+    size_class_laws();
+    sweep_keeps_its_facts();
 }

@@ -19,7 +19,7 @@ use Rattle.gh_sweep.proofs.Bits.{sum_more, sum_none, sum_same}
 use Rattle.gh_sweep.proofs.Sweeping.Steps.{word_is}
 
 -- the number of a head that is packed
-not_numbered : PackedWordsAreReadBack → (h : SpanHead) (number : ℕ) → FitsHead h → h.number ≢ number → HasNotNumber number (head_word h)
+pub not_numbered : PackedWordsAreReadBack → (h : SpanHead) (number : ℕ) → FitsHead h → h.number ≢ number → HasNotNumber number (head_word h)
 not_numbered packed h number fits ne g e same =
     let back : page_of (head_word h) ≡ Head h = packed.page (Head h) fits in
     let is : g ≡ h = cc in

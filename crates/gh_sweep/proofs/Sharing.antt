@@ -1,0 +1,11 @@
+pub mod Keeps
+pub mod KeepsPages
+pub mod Lasts
+pub mod Lays
+pub mod Leaves
+pub mod Own
+pub mod Pages
+pub mod Quiet
+pub mod Rows
+pub mod Sums
+pub mod Told

@@ -1,0 +1,81 @@
+-- A sweep among other actors: what its stage stands for, what it relies on, and that its steps are moves that it may make.
+use Rattle.std.specs.Prelude.{◌≡◌, ◌≢◌, ℕ, ◌+◌, ◌*◌, ◌<◌, ◌↔◌, Bool, true, false}
+use Rattle.gh_base.specs.declared.cell.Cell.TheVariants.{Page}
+use Rattle.gh_base.specs.declared.pack.PageWord.TheVariants.{Head}
+use Rattle.gh_base.specs.Cells.{seats_of}
+use Rattle.gh_base.specs.Packing.{page_of}
+use Rattle.gh_base.specs.Steps.{cell_of, effect}
+use Rattle.gh_sweep.specs.Facts.{Facts, IsPlaced}
+use Rattle.gh_sweep.specs.Listing.{asks, bit_words, goes, is_busy, opening, slot_bytes, Sweeping}
+use Rattle.gh_sweep.specs.Moves.{Lands, Others, Sweeps}
+use Rattle.gh_sweep.specs.Shared.{By, CycleEnd, Due, generation_of, Good, HasEnded, nothing, Shared, view}
+use Rattle.gh_sweep.specs.Sound.{reached}
+use Rattle.gh_sweep.specs.Vocabulary.{AddHeap, AddLive, AddTally, Begin, ClearBits, ClearMarks, Ended, Finish, LoadMarks, SpanHead, SweepStage}
+
+-- it has its span: it has begun, and not ended
+abbrev pub has_span : SweepStage → Bool
+has_span Begin = false
+has_span Ended = false
+has_span _ = true
+
+-- the span at page p is the one that it has
+abbrev pub IsOwn : Sweeping → (p : ℕ) → Type 0
+IsOwn m p = (has_span m.stage ≡ true) × (m.page ≡ p)
+
+-- how many words of the span's marks it has cleared
+abbrev pub marks_cleared : SpanHead → SweepStage → ℕ
+marks_cleared h (ClearMarks i) = i
+marks_cleared h stage = reached h stage
+
+-- what it has yet to tell
+module _ (m : Sweeping) where
+  abbrev pub bytes_owed : Due
+  bytes_owed = record { kept = 0; freed = 0; live = m.kept * slot_bytes m.head; cleared = m.freed * slot_bytes m.head }
+
+  abbrev pub all_owed : Due
+  all_owed = record { kept = m.kept; freed = m.freed; live = m.kept * slot_bytes m.head; cleared = m.freed * slot_bytes m.head }
+
+  abbrev pub owes_at : SweepStage → Due
+  owes_at Begin = nothing
+  owes_at (LoadMarks i) = all_owed
+  owes_at (ClearBits i marks) = all_owed
+  owes_at (ClearMarks i) = all_owed
+  owes_at AddTally = all_owed
+  owes_at AddLive = bytes_owed
+  owes_at AddHeap = record { kept = 0; freed = 0; live = 0; cleared = m.freed * slot_bytes m.head }
+  owes_at Finish = nothing
+  owes_at Ended = nothing
+
+abbrev pub owes : Sweeping → Due
+owes m = owes_at m m.stage
+
+-- how far it is with its span: it has counted nothing, or it has cut and cleared the words that its stage says
+abbrev pub HasReached : (a : ℕ) → Shared → Sweeping → SweepStage → Type 0
+HasReached a s m Begin = (m.kept ≡ 0) × (m.freed ≡ 0)
+HasReached a s m Ended = Unit {0}
+HasReached a s m stage = Sweeps a m.page m.head (reached m.head stage) (marks_cleared m.head stage) s
+
+-- What holds of the sweep that an actor runs: the spans that are the actor's are those of its stage, which says too what it has yet to tell.
+pub record Fine (e : CycleEnd) (a : ℕ) (s : Shared) (m : Sweeping) : Type 0 where
+  pub placed : IsPlaced m
+  pub number : m.head.number + 2 ≡ generation_of e
+  pub right : (p : ℕ) → (s.far p ≡ By a) ↔ IsOwn m p
+  pub due : s.due a ≡ owes m
+  pub facts : Facts m s.words
+  pub is_at : HasReached a s m m.stage
+
+-- the actor sweeps nothing, and has told all
+pub record IsAtRest (a : ℕ) (s : Shared) : Type 0 where
+  pub none : (p : ℕ) → s.far p ≢ By a
+  pub told : s.due a ≡ nothing
+
+pub record SweepsAmongOthers : Type 0 where
+  -- a sweep may be begun where the page's word is found to have the head of an unswept span
+  pub opens : (e : CycleEnd) (a : ℕ) (s : Shared) (p : ℕ) (h : SpanHead) → HasEnded e → Good e (view s) → IsAtRest a s → page_of (s.words (Page p)) ≡ Head h → h.number + 2 ≡ generation_of e → Fine e a s (opening e.layout p h)
+  -- each of its steps is a move that it may make, after which the same holds of it
+  pub own : (e : CycleEnd) (a : ℕ) (s : Shared) (m : Sweeping) → HasEnded e → Good e (view s) → a < seats_of e.layout → Fine e a s m → is_busy m.stage ≡ true →
+      Lands e a s (effect s.words (asks m)) (λ t. Fine e a t (goes m (s.words (cell_of (asks m)))))
+  -- and that lasts under the moves of others
+  pub last : (e : CycleEnd) (a : ℕ) (s t : Shared) (m : Sweeping) → Others e a s t → Fine e a s m → Fine e a t m
+  -- once it has ended the actor is at rest
+  pub rests : (e : CycleEnd) (a : ℕ) (s : Shared) (m : Sweeping) → Fine e a s m → is_busy m.stage ≡ false → IsAtRest a s
