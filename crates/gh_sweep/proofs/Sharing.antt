@@ -1,10 +1,13 @@
+pub mod AtEnd
 pub mod Keeps
 pub mod KeepsPages
 pub mod Lasts
 pub mod Lays
 pub mod Leaves
+pub mod Lists
 pub mod Own
 pub mod Pages
+pub mod Plain
 pub mod Quiet
 pub mod Rows
 pub mod Sums

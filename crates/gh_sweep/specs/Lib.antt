@@ -5,6 +5,7 @@ pub mod Ends
 pub mod Facts
 pub mod Listing
 pub mod Moves
+pub mod Runs
 pub mod Shared
 pub mod Slots
 pub mod Sound

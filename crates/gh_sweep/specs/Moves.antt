@@ -1,5 +1,5 @@
 -- The moves by which an actor changes the shared state while spans are swept, when it may make them, and what they leave to the others.
-use Rattle.std.specs.Prelude.{◌≡◌, ◌≢◌, ℕ, ◌+◌, ◌*◌, ◌/◌, ◌%◌, ◌^◌, ◌<◌, ◌≤◌, ◌⊎◌, true, false, ◌&&◌, if◌then◌else◌, bit_and, bit_or, nat_le, nat_lt}
+use Rattle.std.specs.Prelude.{◌≡◌, ◌≢◌, ℕ, ◌+◌, ◌*◌, ◌/◌, ◌%◌, ◌^◌, ◌<◌, ◌≤◌, ◌⊎◌, true, ◌&&◌, if◌then◌else◌, bit_and, bit_or, nat_le, nat_lt}
 use Rattle.gh_base.specs.declared.cell.Ask.{Ask}
 use Rattle.gh_base.specs.declared.cell.Ask.TheVariants as ask
 use Rattle.gh_base.specs.declared.cell.Cell.{Cell}
@@ -173,9 +173,8 @@ pub record Others (e : CycleEnd) (a : ℕ) (s t : Shared) : Type 0 where
   pub due : t.due a ≡ s.due a
   pub pend : t.pend a ≡ s.pend a
 
--- The step that an actor asks for is a move that it may make, and this holds then.
-pub record Lands (e : CycleEnd) (a : ℕ) (s : Shared) (words : Words) (Then : Shared → Type 0) : Type 0 where
-  pub move : Move
+-- The step that an actor asks for, which leaves these words, is this move, the actor may make it, and this holds then.
+pub record Lands (e : CycleEnd) (a : ℕ) (s : Shared) (move : Move) (words : Words) (Then : Shared → Type 0) : Type 0 where
   pub may : May e a s move
   pub words_are : (moved a s move).words ≡ words
   pub after : Then (moved a s move)
@@ -186,3 +185,7 @@ EachMoveKeeps = (e : CycleEnd) (a : ℕ) (s : Shared) (m : Move) → HasEnded e 
 
 abbrev pub EachMoveLeaves : Type 0
 EachMoveLeaves = (e : CycleEnd) (a b : ℕ) (s : Shared) (m : Move) → a ≢ b → HasEnded e → Good e (view s) → May e b s m → Others e a s (moved b s m)
+
+-- a span that is swept stays so, and a page that is no span's first begins no other, whoever moves
+abbrev pub DoneStays : Type 0
+DoneStays = (e : CycleEnd) (a : ℕ) (s : Shared) (m : Move) (p : ℕ) → Good e (view s) → May e a s m → s.far p ≡ Done → (moved a s m).far p ≡ Done

@@ -1,16 +1,16 @@
 -- A sweep among other actors: what its stage stands for, what it relies on, and that its steps are moves that it may make.
-use Rattle.std.specs.Prelude.{◌≡◌, ◌≢◌, ℕ, ◌+◌, ◌*◌, ◌<◌, ◌↔◌, Bool, true, false}
+use Rattle.std.specs.Prelude.{◌≡◌, ◌≢◌, ℕ, ◌+◌, ◌*◌, ◌<◌, ◌↔◌, Bool, true, false, if◌then◌else◌}
 use Rattle.gh_base.specs.declared.cell.Cell.TheVariants.{Page}
 use Rattle.gh_base.specs.declared.pack.PageWord.TheVariants.{Head}
 use Rattle.gh_base.specs.Cells.{seats_of}
 use Rattle.gh_base.specs.Packing.{page_of}
 use Rattle.gh_base.specs.Steps.{cell_of, effect}
 use Rattle.gh_sweep.specs.Facts.{Facts, IsPlaced}
-use Rattle.gh_sweep.specs.Listing.{asks, bit_words, goes, is_busy, opening, slot_bytes, Sweeping}
-use Rattle.gh_sweep.specs.Moves.{Lands, Others, Sweeps}
+use Rattle.gh_sweep.specs.Listing.{asks, asks_at, goes, is_busy, opening, slot_bytes, Sweeping, wrote}
+use Rattle.gh_sweep.specs.Moves.{Clears, Cuts, Ends, Lands, Move, Others, Quiet, Starts, Sweeps, TellsHeap, TellsLive, TellsTally}
 use Rattle.gh_sweep.specs.Shared.{By, CycleEnd, Due, generation_of, Good, HasEnded, nothing, Shared, view}
 use Rattle.gh_sweep.specs.Sound.{reached}
-use Rattle.gh_sweep.specs.Vocabulary.{AddHeap, AddLive, AddTally, Begin, ClearBits, ClearMarks, Ended, Finish, LoadMarks, SpanHead, SweepStage}
+use Rattle.gh_sweep.specs.Vocabulary.{AddHeap, AddLive, AddTally, Begin, ClearBits, ClearMarks, Ended, Finish, Load, LoadMarks, SpanHead, SweepStage}
 
 -- it has its span: it has begun, and not ended
 abbrev pub has_span : SweepStage → Bool
@@ -49,6 +49,22 @@ module _ (m : Sweeping) where
 abbrev pub owes : Sweeping → Due
 owes m = owes_at m m.stage
 
+-- the move that its step is, where it finds this; a swap that is lost changes no more than a load
+module _ (m : Sweeping) where
+  abbrev pub move_at : SweepStage → (found : ℕ) → Move
+  move_at Begin found = if wrote m found then Starts m.page m.head else Quiet (Load (Page m.page))
+  move_at (LoadMarks i) found = Quiet (asks_at m (LoadMarks i))
+  move_at (ClearBits i marks) found = Cuts m.page m.head i
+  move_at (ClearMarks i) found = Clears m.page m.head i
+  move_at AddTally found = TellsTally
+  move_at AddLive found = TellsLive
+  move_at AddHeap found = TellsHeap
+  move_at Finish found = Ends m.page m.head
+  move_at Ended found = Quiet (asks_at m Ended)
+
+abbrev pub move_of : Sweeping → (found : ℕ) → Move
+move_of m found = move_at m m.stage found
+
 -- how far it is with its span: it has counted nothing, or it has cut and cleared the words that its stage says
 abbrev pub HasReached : (a : ℕ) → Shared → Sweeping → SweepStage → Type 0
 HasReached a s m Begin = (m.kept ≡ 0) × (m.freed ≡ 0)
@@ -72,9 +88,9 @@ pub record IsAtRest (a : ℕ) (s : Shared) : Type 0 where
 pub record SweepsAmongOthers : Type 0 where
   -- a sweep may be begun where the page's word is found to have the head of an unswept span
   pub opens : (e : CycleEnd) (a : ℕ) (s : Shared) (p : ℕ) (h : SpanHead) → HasEnded e → Good e (view s) → IsAtRest a s → page_of (s.words (Page p)) ≡ Head h → h.number + 2 ≡ generation_of e → Fine e a s (opening e.layout p h)
-  -- each of its steps is a move that it may make, after which the same holds of it
+  -- each of its steps is its move, which it may make, and the same holds of it then
   pub own : (e : CycleEnd) (a : ℕ) (s : Shared) (m : Sweeping) → HasEnded e → Good e (view s) → a < seats_of e.layout → Fine e a s m → is_busy m.stage ≡ true →
-      Lands e a s (effect s.words (asks m)) (λ t. Fine e a t (goes m (s.words (cell_of (asks m)))))
+      Lands e a s (move_of m (s.words (cell_of (asks m)))) (effect s.words (asks m)) (λ t. Fine e a t (goes m (s.words (cell_of (asks m)))))
   -- and that lasts under the moves of others
   pub last : (e : CycleEnd) (a : ℕ) (s t : Shared) (m : Sweeping) → Others e a s t → Fine e a s m → Fine e a t m
   -- once it has ended the actor is at rest

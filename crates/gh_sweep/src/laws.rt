@@ -4,7 +4,8 @@ ghost use Rattle.gh_sweep.specs.Alone.{SpansAreSwept};
 ghost use Rattle.gh_sweep.specs.Bits.{BitsAreKeptOrFreed, SetBitsAreCounted};
 ghost use Rattle.gh_sweep.specs.Counts.{ObjectsAreCounted};
 ghost use Rattle.gh_sweep.specs.Facts.{SweepKeepsItsFacts};
-ghost use Rattle.gh_sweep.specs.Moves.{EachMoveKeeps, EachMoveLeaves};
+ghost use Rattle.gh_sweep.specs.Moves.{DoneStays, EachMoveKeeps, EachMoveLeaves};
+ghost use Rattle.gh_sweep.specs.Runs.{EachCountIsExact, EveryListKeeps, HeadsSayWhoSweeps, NothingMarkedIsFreed, OnlySinceIsLeft, PassedStays, UnsweptStays};
 ghost use Rattle.gh_sweep.specs.Slots.{ClearSlotsAreTold};
 ghost use Rattle.gh_sweep.specs.Steps.{SweepTakesItsSteps};
 ghost use Rattle.gh_sweep.specs.Sweepers.{SweepsAmongOthers};
@@ -80,9 +81,10 @@ pub fn each_move_keeps()
 }
 
 /// What a move of one actor leaves to each other: the words of the span that it sweeps, and what it has to
-/// tell.
+/// tell. A span that is swept stays swept.
 pub fn each_move_leaves()
-    ensures { EachMoveLeaves }
+    ensures leaves { EachMoveLeaves }
+    ensures done { DoneStays }
 {
     packed_words_are_read_back();
     size_class_laws();
@@ -96,4 +98,67 @@ pub fn sweeps_among_others()
     packed_words_are_read_back();
     size_class_laws();
     sweep_keeps_its_facts();
+}
+
+// Of every list of turns of any number of actors, who sweep spans, take spans and place objects.
+
+/// What holds of the words at every moment holds after each such list, and so does what each sweep that runs
+/// relies on.
+pub fn every_list_keeps()
+    ensures { EveryListKeeps }
+{
+    rows_are_written();
+    each_move_keeps();
+    each_move_leaves();
+    sweeps_among_others();
+}
+
+/// A head says that its span is being swept exactly where one actor sweeps it; and a span that has an owner
+/// is swept.
+pub fn heads_say_who_sweeps()
+    ensures { HeadsSayWhoSweeps }
+{
+    every_list_keeps();
+}
+
+/// An object that was marked where the cycle ended stands.
+pub fn nothing_marked_is_freed()
+    ensures { NothingMarkedIsFreed }
+{
+    every_list_keeps();
+}
+
+/// In words that are swept only objects stand that a script reached where the cycle began or that were made
+/// since then; and in swept spans no mark is left.
+pub fn only_since_is_left()
+    ensures { OnlySinceIsLeft }
+{
+    every_list_keeps();
+}
+
+/// Words of bits that are not swept are as they were where the cycle ended.
+pub fn unswept_is_as_it_was()
+    ensures { UnsweptStays }
+{
+    every_list_keeps();
+}
+
+/// What the counts tell, what the actors have yet to tell and what is not swept is what stood where the
+/// cycle ended. So once each head has the number of the sweep generation the counts are exact: the objects
+/// that were marked and those that were not, the bytes of the first, and, but for what was placed and is not
+/// counted yet, the bytes that stand.
+pub fn counts_are_exact()
+    ensures { EachCountIsExact }
+{
+    rows_are_written();
+    every_list_keeps();
+}
+
+/// A page that is passed because no span begins there, or a swept one, stays so whatever turn follows.
+pub fn passed_pages_stay()
+    ensures { PassedStays }
+{
+    each_move_leaves();
+    sweeps_among_others();
+    every_list_keeps();
 }

@@ -1,22 +1,19 @@
 -- Each move keeps what holds at every moment.
-use Rattle.std.proofs.Common.{◌≡◌, ◌≢◌, ℕ, ◌+◌, ◌*◌, ◌/◌, ◌%◌, ◌^◌, ◌<◌, ◌≤◌, Bool, true, false, cond, ltb, refl, sym, ap, subst, ◌∙◌, arith, inl, inr}
-use Rattle.std.specs.Prelude.{bit_and, bit_or, count_ones}
+use Rattle.std.proofs.Common.{◌≡◌, ◌≢◌, ℕ, ◌+◌, ◌*◌, ◌/◌, ◌%◌, ◌^◌, ◌<◌, Bool, true, false, cond, refl, sym, ap, subst, ◌∙◌, arith, inl, inr}
+use Rattle.std.specs.Prelude.{bit_and, bit_or}
 use Rattle.std.proofs.lemmas.Bool.{lt-ltb, le-ltb}
 use Rattle.std.proofs.lemmas.Bool.Decides.{eqb_tells}
-use Rattle.gh_base.specs.declared.cell.Cell.TheVariants as cell
-use Rattle.gh_base.specs.declared.pack.PageWord.TheVariants.{Head}
-use Rattle.gh_base.specs.Packing.{head_word, page_of}
-use Rattle.gh_base.specs.Rows.{Row, row_bit, RowsAreWritten, with_word}
+use Rattle.gh_base.specs.Rows.{RowsAreWritten, with_word}
 use Rattle.gh_heap.specs.Moves.{update}
 use Rattle.gh_sweep.specs.Bits.{freed_in, kept_in}
 use Rattle.gh_sweep.specs.Listing.{bit_words, in_sweep}
 use Rattle.gh_sweep.specs.Moves.{Clears, Counts, Cuts, EachMoveKeeps, Ends, Frees, Lays, May, MayPlace, moved, Passes, Places, Quiet, Starts, Sweeps, TellsHeap, TellsLive, TellsTally, Turns, with_word_cut}
-use Rattle.gh_sweep.specs.Shared.{alloc_at, bit_words_of, By, CycleEnd, Done, Due, Far, generation_of, Good, HasEnded, InSpan, marks_at, MarksGood, LeftGood, OrderGood, Shared, Unswept, UntouchedGood, View, view}
+use Rattle.gh_sweep.specs.Shared.{alloc_at, bit_words_of, By, CycleEnd, Due, generation_of, Good, HasEnded, InSpan, marks_at, OrderGood, Shared, Unswept, UntouchedGood, View, view}
 use Rattle.gh_sweep.specs.Vocabulary.{SpanHead}
 use Rattle.gh_sweep.proofs.Bits.{kept_or_freed}
 use Rattle.gh_sweep.proofs.Sharing.KeepsPages.{ends, frees, Known, passes, repaged, starts, turns}
 use Rattle.gh_sweep.proofs.Sharing.Lays.{lays}
-use Rattle.gh_sweep.proofs.Sharing.Pages.{far_done, one_span, unswept_by}
+use Rattle.gh_sweep.proofs.Sharing.Pages.{one_span, swept_clear, unswept_by}
 use Rattle.gh_sweep.proofs.Sharing.Quiet.{quiet_view}
 use Rattle.gh_sweep.proofs.Sharing.Rows.{fits_cut, fits_set, known_set, one_more, since_cut, since_set, stand_cut, stand_set, uncut_written}
 use Rattle.gh_sweep.proofs.Sharing.Sums.{at_entry, off_entry}
@@ -171,13 +168,7 @@ module _ (rows : RowsAreWritten) (e : CycleEnd) (ended : HasEnded e) (a : ℕ) (
     place = may.1
 
     is_clear : s.clear w ≡ true
-    is_clear = go (s.clear w) refl where
-      go : (b : Bool) → s.clear w ≡ b → s.clear w ≡ true
-      go true is = is
-      go false is =
-          let l = g.unswept w is in
-          let same : l.span.p ≡ place.span.p = one_span v.page g.apart w place.span.p place.span.h place.span.head place.span.from place.span.below l.span in
-          absurd (l.unswept (ap s.far same ∙ far_done (generation_of e) v.page s.far g.numbers place.span.p place.span.h place.span.head place.swept))
+    is_clear = swept_clear (generation_of e) v.page s.far s.clear g.apart g.numbers g.unswept w place.span place.swept
 
     is_cut : s.cut w ≡ true
     is_cut = g.order w is_clear

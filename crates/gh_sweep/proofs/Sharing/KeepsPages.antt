@@ -1,8 +1,7 @@
 -- The moves on page words keep what holds at every moment.
-use Rattle.std.proofs.Common.{◌≡◌, ◌≢◌, ℕ, ◌+◌, ◌-◌, ◌*◌, ◌^◌, ◌<◌, ◌≤◌, ◌⊎◌, Bool, true, false, cond, eqb, leb, ltb, refl, sym, ap, subst, ◌∙◌, arith, inl, inr, ◌&&◌}
-use Rattle.std.specs.Prelude.{count_ones}
+use Rattle.std.proofs.Common.{◌≡◌, ◌≢◌, ℕ, ◌+◌, ◌-◌, ◌*◌, ◌^◌, ◌<◌, ◌≤◌, true, false, ltb, refl, sym, ap, subst, ◌∙◌, arith, inl, inr}
 use Rattle.std.proofs.lemmas.Bool.{lt-ltb}
-use Rattle.std.proofs.lemmas.Bool.Decides.{eqb_tells, nat_tests}
+use Rattle.std.proofs.lemmas.Bool.Decides.{eqb_tells}
 use Rattle.gh_base.specs.declared.pack.PageWord.{PageWord}
 use Rattle.gh_base.specs.declared.pack.PageWord.TheVariants.{Free, Head, Body}
 use Rattle.gh_base.specs.Packing.{FitsHead, head_word, PackedWordsAreReadBack, page_of}
@@ -13,12 +12,10 @@ use Rattle.gh_class.specs.Classes.{IsSizeClass, slot_of}
 use Rattle.gh_heap.specs.Moves.{update}
 use Rattle.gh_heap.specs.Spans.{owned_by}
 use Rattle.gh_sweep.specs.Listing.{bit_words, in_sweep, once_swept, slot_bytes, slot_bytes_of}
-use Rattle.gh_sweep.specs.Moves.{HasHead, IsEmpty, IsNoHead, MayLay, slots_laid, Sweeps}
-use Rattle.gh_sweep.specs.Shared.{AreDisjoint, ApartGood, By, bit_words_of, CycleEnd, Done, Due, DueGood, Far, generation_of, Good, HasEnded, HeadsGood, HeapGood, InsideGood, InSpan, IsHeadIn, IsNumbered, LeftGood, nothing, NumbersGood, placed, placed_behind, placed_in, SaysFar, SlotsGood, Unswept, UntouchedGood, View}
+use Rattle.gh_sweep.specs.Moves.{HasHead, IsEmpty, IsNoHead}
+use Rattle.gh_sweep.specs.Shared.{ApartGood, By, CycleEnd, Done, DueGood, Far, generation_of, Good, HasEnded, HeadsGood, InsideGood, InSpan, IsHeadIn, IsNumbered, LeftGood, nothing, NumbersGood, SaysFar, SlotsGood, Unswept, UntouchedGood, View}
 use Rattle.gh_sweep.specs.Vocabulary.{SpanHead}
-use Rattle.gh_sweep.proofs.Bits.{sum_same}
-use Rattle.gh_sweep.proofs.Sharing.Pages.{Alike, AreAlike, apart_back, by_done, far_done, far_unswept, gone_back, head_back, head_forth, heads_written, inside_forth, left_forth, no_head_done, numbered, numbers_kept, numbers_written, off_forth, one_span, same_by, same_head, slots_back, turn_back, turn_forth, unswept_by, unswept_done, untouched_back}
-use Rattle.gh_sweep.proofs.Sharing.Sums.{at_entry, off_entry}
+use Rattle.gh_sweep.proofs.Sharing.Pages.{AreAlike, apart_back, by_done, far_done, far_unswept, gone_back, head_back, head_forth, heads_written, inside_forth, left_forth, no_head_done, numbered, numbers_kept, numbers_written, off_forth, same_by, same_head, slots_back, turn_back, turn_forth, unswept_by, unswept_done, untouched_back}
 
 -- what the packed words and the table of size classes say
 pub record Known : Type 0 where

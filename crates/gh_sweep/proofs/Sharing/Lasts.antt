@@ -1,11 +1,10 @@
 -- What holds of a sweep lasts under the moves of others; where one may be begun, and that it ends at rest.
-use Rattle.std.proofs.Common.{◌≡◌, ◌≢◌, ℕ, ◌+◌, ◌*◌, ◌<◌, ◌≤◌, ◌⊎◌, Bool, true, false, refl, sym, ap, subst, ◌∙◌, arith, inl, inr}
+use Rattle.std.proofs.Common.{◌≡◌, ℕ, ◌+◌, true, false, refl, ap, subst, ◌∙◌, arith, inl}
 use Rattle.gh_base.specs.declared.cell.Cell.TheVariants.{Page}
 use Rattle.gh_base.specs.declared.pack.PageWord.TheVariants.{Head}
 use Rattle.gh_base.specs.Packing.{page_of}
-use Rattle.gh_sweep.specs.Facts as facts
 use Rattle.gh_sweep.specs.Facts.{OthersAt, SpanStays, SweepKeepsItsFacts}
-use Rattle.gh_sweep.specs.Listing.{at_stage, bit_words, in_sweep, is_busy, opening, Sweeping}
+use Rattle.gh_sweep.specs.Listing.{bit_words, in_sweep, is_busy, opening, Sweeping}
 use Rattle.gh_sweep.specs.Moves.{Others, SpanIsLeft, Sweeps}
 use Rattle.gh_sweep.specs.Shared.{By, CycleEnd, generation_of, Good, HasEnded, nothing, Shared, view}
 use Rattle.gh_sweep.specs.Sweepers.{Fine, has_span, HasReached, IsAtRest, IsOwn, owes_at, SweepsAmongOthers}

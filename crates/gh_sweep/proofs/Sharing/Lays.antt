@@ -1,5 +1,5 @@
 -- The head of a fresh span is laid: what holds at every moment is kept.
-use Rattle.std.proofs.Common.{◌≡◌, ◌≢◌, ℕ, ◌+◌, ◌*◌, ◌^◌, ◌<◌, ◌≤◌, ◌⊎◌, Bool, true, false, cond, eqb, leb, ltb, refl, sym, ap, subst, ◌∙◌, arith, inl, inr, ◌&&◌}
+use Rattle.std.proofs.Common.{◌≡◌, ◌≢◌, ℕ, ◌+◌, ◌*◌, ◌^◌, ◌<◌, ◌≤◌, Bool, true, false, cond, leb, ltb, refl, sym, ap, subst, ◌∙◌, arith, inl, inr, ◌&&◌}
 use Rattle.std.specs.Prelude.{count_ones}
 use Rattle.std.proofs.lemmas.Bool.Decides.{eqb_tells, nat_tests}
 use Rattle.std.proofs.lemmas.Nat.{ones_le_self}
@@ -8,7 +8,7 @@ use Rattle.gh_base.specs.Packing.{head_word, page_of}
 use Rattle.gh_base.specs.Rows.{Row, with_word}
 use Rattle.gh_sweep.specs.Listing.{slot_bytes}
 use Rattle.gh_sweep.specs.Moves.{MayLay, slots_laid}
-use Rattle.gh_sweep.specs.Shared.{AreDisjoint, ApartGood, bit_words_of, CycleEnd, Done, FewGood, generation_of, Good, HasEnded, HeapGood, InSpan, IsNumbered, placed, placed_behind, placed_in, SlotsGood, UncutGood, Unswept, UntouchedGood, View}
+use Rattle.gh_sweep.specs.Shared.{AreDisjoint, ApartGood, bit_words_of, CycleEnd, Done, FewGood, generation_of, Good, HeapGood, InSpan, IsNumbered, placed, placed_behind, placed_in, SlotsGood, UncutGood, UntouchedGood, View}
 use Rattle.gh_sweep.specs.Vocabulary.{SpanHead}
 use Rattle.gh_sweep.proofs.Bits.{sum_same}
 use Rattle.gh_sweep.proofs.Sharing.KeepsPages.{few_bytes, head_in, Known, reads, says}

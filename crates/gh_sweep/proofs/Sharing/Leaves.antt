@@ -1,5 +1,5 @@
 -- What a move of one actor leaves to another.
-use Rattle.std.proofs.Common.{◌≡◌, ◌≢◌, ℕ, ◌+◌, ◌*◌, ◌/◌, ◌%◌, ◌^◌, ◌<◌, ◌≤◌, ◌⊎◌, Bool, true, false, refl, sym, ap, subst, ◌∙◌, arith, inl, inr}
+use Rattle.std.proofs.Common.{◌≡◌, ◌≢◌, ℕ, ◌+◌, ◌*◌, ◌/◌, ◌<◌, ◌⊎◌, Bool, true, refl, sym, ap, ◌∙◌, arith, inl, inr}
 use Rattle.std.proofs.lemmas.Bool.Decides.{eqb_tells}
 use Rattle.gh_base.specs.declared.cell.Cell.TheVariants as cell
 use Rattle.gh_base.specs.declared.pack.PageWord.TheVariants.{Head}
@@ -9,14 +9,14 @@ use Rattle.gh_heap.specs.Moves.{update}
 use Rattle.gh_heap.specs.Spans.{owned_by}
 use Rattle.gh_sweep.specs.Facts.{HasNotNumber}
 use Rattle.gh_sweep.specs.Listing.{bit_words, in_sweep, once_swept}
-use Rattle.gh_sweep.specs.Moves.{Clears, Counts, Cuts, EachMoveLeaves, Ends, Frees, Lays, May, moved, Others, Passes, Places, Quiet, SpanIsLeft, Starts, TellsHeap, TellsLive, TellsTally, Turns}
+use Rattle.gh_sweep.specs.Moves.{Clears, Counts, Cuts, DoneStays, EachMoveLeaves, Ends, Frees, Lays, May, moved, Others, Passes, Places, Quiet, SpanIsLeft, Starts, TellsHeap, TellsLive, TellsTally, Turns}
 use Rattle.gh_sweep.specs.Shared.{By, CycleEnd, Done, Far, generation_of, Good, HasEnded, InSpan, Shared, Unswept, View, view}
 use Rattle.gh_sweep.specs.Vocabulary.{SpanHead}
 use Rattle.gh_sweep.proofs.Sharing.KeepsPages.{fits_owned, fits_swept, fits_then, fresh_before, is_done, Known, number_in}
 use Rattle.gh_sweep.proofs.Sharing.Lays as lay
-use Rattle.gh_sweep.proofs.Sharing.Pages.{by_done, far_done, no_head_done, one_span, same_by, unswept_by, unswept_done}
+use Rattle.gh_sweep.proofs.Sharing.Pages.{by_done, far_done, far_unswept, no_head_done, one_span, same_by, unswept_by, unswept_done}
 use Rattle.gh_sweep.proofs.Sharing.Quiet.{quiet_view}
-use Rattle.gh_sweep.proofs.Sharing.Sums.{at_entry, off_entry}
+use Rattle.gh_sweep.proofs.Sharing.Sums.{off_entry}
 use Rattle.gh_sweep.proofs.Sweeping.Facts.{not_numbered}
 
 module _ (e : CycleEnd) (a : ℕ) (s : Shared) (g : Good e (view s)) where
@@ -199,3 +199,30 @@ leaves k e a b s (Frees p h) ne ended g may = page_alone k e ended a b s ne g p 
 leaves k e a b s (Turns p word) ne ended g may = page_alone k e ended a b s ne g p word s.slot (no_head_done (generation_of e) (view s).page s.far g.numbers p may.0) (λ number n h is. absurd (may.1 h is))
 leaves k e a b s (Places x) ne ended g may = places_leaves k e ended a b s ne g x may
 leaves k e a b s Counts ne ended g may = same_words e a s (moved b s Counts) refl refl refl refl refl refl refl (other_pend k e ended a b s ne g _)
+
+-- What is swept stays so, whoever moves.
+
+starts_elsewhere : (e : CycleEnd) (a : ℕ) (s : Shared) (q : ℕ) (h : SpanHead) (p : ℕ) → Good e (view s) → May e a s (Starts q h) → s.far p ≡ Done → update s.far q (By a) p ≡ Done
+starts_elsewhere e a s q h p g may is = elim (eqb_tells q p) [
+  | inl y ↦ absurd (unswept_done (sym (far_unswept (generation_of e) (view s).page s.far g.numbers q h may.0 may.1) ∙ (ap s.far y.1 ∙ is)))
+  | inr n ↦ off_entry s.far q p (By a) n.1 ∙ is
+]
+
+ends_there : (s : Shared) (q p : ℕ) → s.far p ≡ Done → update s.far q Done p ≡ Done
+ends_there s q p is = elim (eqb_tells q p) [ inl y ↦ rw (y.0) refl | inr n ↦ rw (n.0) is ]
+
+pub done_stays : DoneStays
+done_stays e a s (Quiet step) p g may is = is
+done_stays e a s (Starts q h) p g may is = starts_elsewhere e a s q h p g may is
+done_stays e a s (Cuts q h i) p g may is = is
+done_stays e a s (Clears q h i) p g may is = is
+done_stays e a s TellsTally p g may is = is
+done_stays e a s TellsLive p g may is = is
+done_stays e a s TellsHeap p g may is = is
+done_stays e a s (Ends q h) p g may is = ends_there s q p is
+done_stays e a s (Passes q h owner) p g may is = is
+done_stays e a s (Lays q h) p g may is = is
+done_stays e a s (Frees q h) p g may is = is
+done_stays e a s (Turns q word) p g may is = is
+done_stays e a s (Places x) p g may is = is
+done_stays e a s Counts p g may is = is

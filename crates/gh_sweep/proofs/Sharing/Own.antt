@@ -1,5 +1,5 @@
 -- The steps of a sweep among others are moves that it may make, and what holds of it lasts.
-use Rattle.std.proofs.Common.{◌≡◌, ◌≢◌, ℕ, ◌+◌, ◌*◌, ◌%◌, ◌^◌, ◌<◌, ◌≤◌, ◌⊎◌, Bool, true, false, cond, eqb, ltb, refl, sym, ap, subst, ◌∙◌, arith, inl, inr}
+use Rattle.std.proofs.Common.{◌≡◌, ◌≢◌, ℕ, ◌+◌, ◌*◌, ◌%◌, ◌^◌, ◌<◌, Bool, true, false, cond, eqb, ltb, refl, sym, ap, subst, ◌∙◌, arith, inl, inr}
 use Rattle.std.specs.Prelude.{bit_and, ◌↔◌}
 use Rattle.std.proofs.lemmas.Bool.{eqb-true, lt-ltb, le-ltb, ltb-false, ltb-true}
 use Rattle.std.proofs.lemmas.Bool.Decides.{eqb_tells, nat_tests}
@@ -11,17 +11,16 @@ use Rattle.gh_base.specs.Packing.{head_word, page_of, tally_word}
 use Rattle.gh_base.specs.Steps.{cell_of, effect}
 use Rattle.gh_heap.specs.Moves.{update}
 use Rattle.gh_sweep.specs.Bits.{freed_in, kept_in}
-use Rattle.gh_sweep.specs.Facts.{Facts, FactsAt, IsPlaced, SweepKeepsItsFacts}
-use Rattle.gh_sweep.specs.Listing.{asks, asks_at, at_stage, bit_words, counted, goes, goes_at, in_sweep, is_busy, negative, slot_bytes, Sweeping, word_at}
-use Rattle.gh_sweep.specs.Moves.{Clears, Cuts, Ends, Lands, moved, Quiet, Starts, Sweeps, TellsHeap, TellsLive, TellsTally, with_word_cut}
-use Rattle.gh_sweep.specs.Shared.{By, CycleEnd, Done, Due, Far, generation_of, Good, HasEnded, InSpan, nothing, Shared, Unswept, view}
-use Rattle.gh_sweep.specs.Sound.{IsStage}
+use Rattle.gh_sweep.specs.Facts.{Facts, SweepKeepsItsFacts}
+use Rattle.gh_sweep.specs.Listing.{asks, at_stage, bit_words, counted, goes, in_sweep, is_busy, negative, slot_bytes, Sweeping, word_at}
+use Rattle.gh_sweep.specs.Moves.{Clears, Lands, moved, Quiet, Starts, Sweeps, TellsHeap, TellsLive, TellsTally, with_word_cut}
+use Rattle.gh_sweep.specs.Shared.{By, CycleEnd, Done, Due, Good, HasEnded, InSpan, Shared, Unswept, view}
 use Rattle.gh_sweep.specs.Steps.{IsInArena}
-use Rattle.gh_sweep.specs.Sweepers.{all_owed, Fine, has_span, HasReached, IsOwn, marks_cleared, owes_at}
+use Rattle.gh_sweep.specs.Sweepers.{all_owed, Fine, move_at, move_of}
 use Rattle.gh_sweep.specs.Vocabulary.{AddHeap, AddLive, AddTally, Begin, ClearBits, ClearMarks, Ended, Finish, Load, LoadMarks, put, SpanHead, SweepStage, Words}
 use Rattle.gh_sweep.proofs.Sharing.KeepsPages.{fits_then, fresh_before, Known, reads}
-use Rattle.gh_sweep.proofs.Sharing.Pages.{by_done, unswept_by}
-use Rattle.gh_sweep.proofs.Sharing.Sums.{at_entry, off_entry}
+use Rattle.gh_sweep.proofs.Sharing.Pages.{by_done}
+use Rattle.gh_sweep.proofs.Sharing.Sums.{at_entry}
 use Rattle.gh_sweep.proofs.Sweeping.Steps.{word_is}
 
 abbrev due_of : (kept freed live cleared : ℕ) → Due
@@ -41,7 +40,7 @@ module _ (k : Known) (laws : SweepKeepsItsFacts) (e : CycleEnd) (ended : HasEnde
   FineAt stage = Fine e a s (at_stage m stage)
 
   abbrev LandsAt : SweepStage → Type 0
-  LandsAt stage = Lands e a s (effect s.words (asks (at_stage m stage))) (λ t. Fine e a t (goes (at_stage m stage) (s.words (cell_of (asks (at_stage m stage))))))
+  LandsAt stage = Lands e a s (move_at (at_stage m stage) stage (s.words (cell_of (asks (at_stage m stage))))) (effect s.words (asks (at_stage m stage))) (λ t. Fine e a t (goes (at_stage m stage) (s.words (cell_of (asks (at_stage m stage))))))
 
   -- what the next stage relies on of the words
   facts_then : (stage : SweepStage) → is_busy stage ≡ true → FineAt stage → Facts (goes (at_stage m stage) (s.words (cell_of (asks (at_stage m stage))))) (effect s.words (asks (at_stage m stage)))
@@ -52,9 +51,8 @@ module _ (k : Known) (laws : SweepKeepsItsFacts) (e : CycleEnd) (ended : HasEnde
   abbrev begun_words : Words
   begun_words = put s.words (cell.Page p) (head_word (in_sweep h))
 
-  begin_at : FineAt Begin → (b : Bool) → eqb (s.words (cell.Page p)) (head_word h) ≡ b → Lands e a s (cond b begun_words s.words) (λ t. Fine e a t (at_stage m (cond b (LoadMarks 0) Ended)))
+  begin_at : FineAt Begin → (b : Bool) → eqb (s.words (cell.Page p)) (head_word h) ≡ b → Lands e a s (cond b (Starts p h) (Quiet (Load (cell.Page p)))) (cond b begun_words s.words) (λ t. Fine e a t (at_stage m (cond b (LoadMarks 0) Ended)))
   begin_at f true is = record {
-    move = Starts p h;
     may = (head_was, f.number);
     words_are = refl;
     after = record {
@@ -91,7 +89,6 @@ module _ (k : Known) (laws : SweepKeepsItsFacts) (e : CycleEnd) (ended : HasEnde
       no_span : false ≡ true → ⊥
       no_span x = cc
   begin_at f false is = record {
-    move = Quiet (Load (cell.Page p));
     may = tt;
     words_are = refl;
     after = record { placed = record { arena = f.placed.arena; head = f.placed.head; stage = tt }; number = f.number; right = f.right; due = f.due; facts = tt; is_at = tt };
@@ -113,7 +110,6 @@ module _ (k : Known) (laws : SweepKeepsItsFacts) (e : CycleEnd) (ended : HasEnde
 
   load_lands : (i : ℕ) → FineAt (LoadMarks i) → LandsAt (LoadMarks i)
   load_lands i f = record {
-    move = Quiet (Load (cell.Mark (word_at m i)));
     may = tt;
     words_are = refl;
     after = record { placed = record { arena = f.placed.arena; head = f.placed.head; stage = f.placed.stage }; number = f.number; right = f.right; due = f.due; facts = facts_then (LoadMarks i) refl f; is_at = f.is_at };
@@ -173,7 +169,6 @@ module _ (k : Known) (laws : SweepKeepsItsFacts) (e : CycleEnd) (ended : HasEnde
 
     cut_lands : LandsAt (ClearBits i marks)
     cut_lands = record {
-      move = Cuts p h i;
       may = (seat, f.is_at, within);
       words_are = words_cut;
       after = record {
@@ -228,7 +223,6 @@ module _ (k : Known) (laws : SweepKeepsItsFacts) (e : CycleEnd) (ended : HasEnde
 
     clear_lands : LandsAt (ClearMarks i)
     clear_lands = record {
-      move = Clears p h i;
       may = (f.is_at, f.placed.stage);
       words_are = words_cleared;
       after = after_clear _ refl (subst (λ (w : Words). Facts (at_stage m (cond (ltb (i + 1) (bit_words h)) (LoadMarks (i + 1)) AddTally)) w) (sym words_cleared) (facts_then (ClearMarks i) refl f));
@@ -238,7 +232,6 @@ module _ (k : Known) (laws : SweepKeepsItsFacts) (e : CycleEnd) (ended : HasEnde
 
   tally_lands : FineAt AddTally → LandsAt AddTally
   tally_lands f = record {
-    move = TellsTally;
     may = seat;
     words_are = words_told;
     after = record {
@@ -255,7 +248,6 @@ module _ (k : Known) (laws : SweepKeepsItsFacts) (e : CycleEnd) (ended : HasEnde
 
   live_lands : FineAt AddLive → LandsAt AddLive
   live_lands f = record {
-    move = TellsLive;
     may = seat;
     words_are = words_told;
     after = record {
@@ -272,7 +264,6 @@ module _ (k : Known) (laws : SweepKeepsItsFacts) (e : CycleEnd) (ended : HasEnde
 
   heap_lands : FineAt AddHeap → LandsAt AddHeap
   heap_lands f = record {
-    move = TellsHeap;
     may = seat;
     words_are = words_told;
     after = record {
@@ -291,7 +282,6 @@ module _ (k : Known) (laws : SweepKeepsItsFacts) (e : CycleEnd) (ended : HasEnde
 
   finish_lands : FineAt Finish → LandsAt Finish
   finish_lands f = record {
-    move = Ends p h;
     may = (f.is_at, f.due);
     words_are = refl;
     after = record {
@@ -323,5 +313,5 @@ module _ (k : Known) (laws : SweepKeepsItsFacts) (e : CycleEnd) (ended : HasEnde
   lands_at Finish busy f = finish_lands f
   lands_at Ended busy f = absurd (cc)
 
-pub lands : Known → SweepKeepsItsFacts → (e : CycleEnd) (a : ℕ) (s : Shared) (m : Sweeping) → HasEnded e → Good e (view s) → a < seats_of e.layout → Fine e a s m → is_busy m.stage ≡ true → Lands e a s (effect s.words (asks m)) (λ t. Fine e a t (goes m (s.words (cell_of (asks m)))))
+pub lands : Known → SweepKeepsItsFacts → (e : CycleEnd) (a : ℕ) (s : Shared) (m : Sweeping) → HasEnded e → Good e (view s) → a < seats_of e.layout → Fine e a s m → is_busy m.stage ≡ true → Lands e a s (move_of m (s.words (cell_of (asks m)))) (effect s.words (asks m)) (λ t. Fine e a t (goes m (s.words (cell_of (asks m)))))
 lands k laws e a s m ended g seat f busy = lands_at k laws e ended a s g seat m m.stage busy f

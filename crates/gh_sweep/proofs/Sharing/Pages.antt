@@ -1,5 +1,5 @@
 -- A page word changes: what is said of spans, and of the words of bits that lie in them.
-use Rattle.std.proofs.Common.{◌≡◌, ◌≢◌, ℕ, ◌+◌, ◌*◌, ◌^◌, ◌<◌, ◌≤◌, ◌⊎◌, Bool, true, false, cond, eqb, refl, sym, ap, subst, ◌∙◌, arith, inl, inr}
+use Rattle.std.proofs.Common.{◌≡◌, ◌≢◌, ℕ, ◌+◌, ◌*◌, ◌<◌, ◌≤◌, Bool, true, false, refl, sym, ap, subst, ◌∙◌, arith, inl, inr}
 use Rattle.std.proofs.lemmas.Bool.Decides.{eqb_tells}
 use Rattle.gh_base.specs.declared.pack.PageWord.{PageWord}
 use Rattle.gh_base.specs.declared.pack.PageWord.TheVariants.{Free, Head, Body}
@@ -8,7 +8,7 @@ use Rattle.gh_base.specs.Packing.{page_of}
 use Rattle.gh_base.specs.Rows.{Row, with_word}
 use Rattle.gh_heap.specs.Moves.{update}
 use Rattle.gh_sweep.specs.Listing.{slot_bytes}
-use Rattle.gh_sweep.specs.Shared.{ApartGood, By, Done, Far, HeadsGood, InSpan, InsideGood, IsHeadIn, IsLeft, IsNumbered, LeftGood, NumbersGood, SaysFar, SlotsGood, Unswept, UntouchedGood}
+use Rattle.gh_sweep.specs.Shared.{ApartGood, By, Done, Far, HeadsGood, InSpan, InsideGood, IsHeadIn, IsNumbered, LeftGood, NumbersGood, SaysFar, SlotsGood, Unswept, UntouchedGood}
 use Rattle.gh_sweep.proofs.Sharing.Sums.{at_entry, off_entry}
 
 pub same_head : (h g : SpanHead) → Head h ≡ Head g → h ≡ g
@@ -177,3 +177,13 @@ one_span page good i p h e from below s = elim (eqb_tells s.p p) [
       let high = s.below in
       elim (good s.p p s.h h s.head e n.1) [ inl x ↦ absurd (omega arith) | inr y ↦ absurd (omega arith) ]
 ]
+
+-- the marks of a swept span's words are cleared
+pub swept_clear : (generation : ℕ) (page : Row) (far : ℕ → Far) (clear : ℕ → Bool) → ApartGood page → NumbersGood generation page far → LeftGood page far clear → (i : ℕ) (s : InSpan page i) → s.h.number ≡ generation → clear i ≡ true
+swept_clear generation page far clear apart numbers unswept i s n = go (clear i) refl where
+  go : (b : Bool) → clear i ≡ b → clear i ≡ true
+  go true is = is
+  go false is =
+      let l = unswept i is in
+      let same : l.span.p ≡ s.p = one_span page apart i s.p s.h s.head s.from s.below l.span in
+      absurd (l.unswept (ap far same ∙ far_done generation page far numbers s.p s.h s.head n))

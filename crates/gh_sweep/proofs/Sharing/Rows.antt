@@ -1,5 +1,5 @@
 -- A word of alloc bits is cut to its marks, or one bit of it is set: what is said of objects by their bits.
-use Rattle.std.proofs.Common.{◌≡◌, ◌≢◌, ℕ, suc, zero, ◌+◌, ◌*◌, ◌/◌, ◌%◌, ◌^◌, ◌<◌, ◌≤◌, min, Bool, true, false, refl, sym, ap, subst, ◌∙◌, arith, inl, inr}
+use Rattle.std.proofs.Common.{◌≡◌, ℕ, ◌+◌, ◌/◌, ◌%◌, ◌^◌, ◌<◌, min, Bool, true, false, refl, sym, ap, subst, ◌∙◌, arith, inl, inr}
 use Rattle.std.specs.Prelude.{bit_and, bit_or, count_ones}
 use Rattle.std.specs.Int.{bit_at}
 use Rattle.std.proofs.lemmas.Bool.Decides.{eqb_tells}
@@ -10,8 +10,8 @@ use Rattle.gh_heap.specs.Moves.{update}
 use Rattle.gh_sweep.specs.Bits.{sum_below}
 use Rattle.gh_sweep.specs.Counts.{AreWords}
 use Rattle.gh_sweep.specs.Shared.{KnownGood, SinceGood, StandGood, UncutGood}
-use Rattle.gh_sweep.proofs.Bits.{set_bits, sum_same}
-use Rattle.gh_sweep.proofs.Sharing.Sums.{at_entry, off_entry, sum_at}
+use Rattle.gh_sweep.proofs.Bits.{set_bits}
+use Rattle.gh_sweep.proofs.Sharing.Sums.{off_entry, sum_at}
 
 both_bits : (a m i : ℕ) → bit_at a i ≡ 1 → bit_at m i ≡ 1 → bit_at (bit_and a m) i ≡ 1
 both_bits a m i e f = let b = bit_at_and a m i in omega (arith, b, e, f)

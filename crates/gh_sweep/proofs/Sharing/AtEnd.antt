@@ -1,0 +1,133 @@
+-- What holds at every moment holds where the cycle has ended.
+use Rattle.std.proofs.Common.{◌≡◌, ◌≢◌, ℕ, ◌-◌, ◌*◌, ◌/◌, ◌%◌, ◌^◌, Bool, true, false, cond, refl, sym, ap, ◌∙◌, arith}
+use Rattle.std.specs.Prelude.{bit_and, count_ones}
+use Rattle.std.specs.Int.{bit_at}
+use Rattle.std.proofs.lemmas.Nat.{ones_le_self, and_le_l}
+use Rattle.std.proofs.lemmas.Nat.Bits.{bit_at-zero}
+use Rattle.gh_base.specs.declared.cell.Cell.TheVariants as cell
+use Rattle.gh_base.specs.declared.pack.PageWord.{PageWord}
+use Rattle.gh_base.specs.declared.pack.PageWord.TheVariants.{Free, Head, Body}
+use Rattle.gh_base.specs.Cells.{seats_of}
+use Rattle.gh_base.specs.Packing.{page_of}
+use Rattle.gh_base.specs.Rows.{row_bit, RowsAreWritten}
+use Rattle.gh_sweep.specs.Bits.{sum_below}
+use Rattle.gh_sweep.specs.Runs.{at_end, far_in, is_free}
+use Rattle.gh_sweep.specs.Shared.{alloc_at, bit_words_of, cleared_at, CycleEnd, Due, freed_at, generation_of, Good, HasEnded, HeapGood, in_all, InSpan, kept_at, LeftGood, left, live_at, LiveGood, marks_at, MarksGood, nothing, owed, SaysFar, TallyGood, view}
+use Rattle.gh_sweep.proofs.Sharing.Pages.{unswept_done}
+use Rattle.gh_sweep.proofs.Sharing.Sums.{left_all, sum_zero}
+
+zero_bit : (i : ℕ) → bit_at 0 i ≡ 1 → ⊥
+zero_bit i e = absurd (let none : bit_at 0 i ≡ 0 = bit_at-zero i in omega arith)
+
+module _ (rows : RowsAreWritten) (e : CycleEnd) (ended : HasEnded e) where
+  abbrev page_at : ℕ → PageWord
+  page_at p = page_of (e.words (cell.Page p))
+
+  abbrev flag : ℕ → Bool
+  flag i = is_free (page_at (i / 16))
+
+  not_free : (w : PageWord) → is_free w ≡ false → w ≢ Free
+  not_free Free e f = absurd (cc)
+  not_free (Head h) e f = absurd (cc)
+  not_free (Body b) e f = absurd (cc)
+
+  free : (w : PageWord) → is_free w ≡ true → w ≡ Free
+  free Free e = refl
+  free (Head h) e = absurd (cc)
+  free (Body b) e = absurd (cc)
+
+  in_use : (w : PageWord) → w ≢ Free → is_free w ≡ false
+  in_use Free ne = absurd (ne refl)
+  in_use (Head h) ne = refl
+  in_use (Body b) ne = refl
+
+  says : (p : ℕ) → SaysFar (generation_of e) (page_at p) (far_in (page_at p))
+  says p = go (page_at p) refl where
+    go : (w : PageWord) → page_at p ≡ w → SaysFar (generation_of e) w (far_in w)
+    go Free is = refl
+    go (Head h) is = ended.numbers p h is
+    go (Body b) is = refl
+
+  uncut : (i : ℕ) → InSpan (view (at_end e).shared).page i → flag i ≡ false
+  uncut i s = in_use (page_at (i / 16)) (ended.no_span i s)
+
+  none_there : (i : ℕ) → flag i ≡ true → alloc_at e i ≡ 0
+  none_there i is = (ended.outside i (free (page_at (i / 16)) is)).0
+
+  unswept : LeftGood (view (at_end e).shared).page (at_end e).shared.far flag
+  unswept i is =
+      let s = ended.inside i (not_free (page_at (i / 16)) is) in
+      record { span = s; unswept = λ done. unswept_done (ap far_in (sym s.head) ∙ done) }
+
+  marks : MarksGood (marks_at e) (marks_at e) flag
+  marks i = go (flag i) refl where
+    go : (b : Bool) → flag i ≡ b → marks_at e i ≡ cond b 0 (marks_at e i)
+    go true is = (ended.outside i (free (page_at (i / 16)) is)).1
+    go false is = refl
+
+  inside : (i : ℕ) → alloc_at e i ≢ 0 → InSpan (view (at_end e).shared).page i
+  inside i ne = ended.inside i (λ is. ne (ended.outside i is).0)
+
+  since : (x : ℕ) → flag (x / 64) ≡ true → row_bit (alloc_at e) x ≡ 1 → e.since x ≡ true
+  since x is bit = absurd (zero_bit (x % 64) (ap (λ (w : ℕ). bit_at w (x % 64)) (sym (none_there (x / 64) is)) ∙ (sym (rows.bit_of (alloc_at e) (x / 64) x refl) ∙ bit)))
+
+  -- Nothing is told, owed or pending, and in words that need no sweep nothing was.
+
+  owes_none : (part : Due → ℕ) → part nothing ≡ 0 → owed part (at_end e).shared.due (seats_of e.layout) ≡ 0
+  owes_none part none = sum_zero (λ a. part nothing) (seats_of e.layout) (λ a l. none)
+
+  no_ones : (word with : ℕ) → word ≡ 0 → count_ones (bit_and word with) ≡ 0
+  no_ones word with is = let l = and_le_l word with in let ones = ones_le_self (bit_and word with) in omega arith
+
+  no_kept : (i : ℕ) → flag i ≡ true → kept_at e i ≡ 0
+  no_kept i is = no_ones (alloc_at e i) (marks_at e i) (none_there i is)
+
+  no_freed : (i : ℕ) → flag i ≡ true → freed_at e i ≡ 0
+  no_freed i is = no_ones (alloc_at e i) (2 ^ 64 - 1 - marks_at e i) (none_there i is)
+
+  no_bytes : (n i : ℕ) → n ≡ 0 → n * e.slot i ≡ 0
+  no_bytes n i is = let product : n * e.slot i ≡ 0 * e.slot i = ap (λ (x : ℕ). x * e.slot i) is in omega (arith, product)
+
+  all_left : (each : ℕ → ℕ) → ((i : ℕ) → flag i ≡ true → each i ≡ 0) → left each flag (bit_words_of e) ≡ in_all e each
+  all_left each none = left_all each flag (bit_words_of e) none
+
+  tallied : TallyGood e (e.words cell.Tally) flag (at_end e).shared.due
+  tallied = record {
+    marked = omega (arith, all_left (kept_at e) no_kept, owes_none (λ d. d.kept) refl, ended.tally);
+    freed = omega (arith, all_left (freed_at e) no_freed, owes_none (λ d. d.freed) refl, ended.tally);
+  }
+
+  lives : LiveGood e (e.words cell.Live) flag (at_end e).shared.due
+  lives = omega (arith, all_left (live_at e) (λ i is. no_bytes (kept_at e i) i (no_kept i is)), owes_none (λ d. d.live) refl, ended.live)
+
+  counted : HeapGood e (e.words cell.Heap) (alloc_at e) e.slot flag (at_end e).shared.due (at_end e).shared.pend
+  counted =
+      let pend : sum_below (λ a. 0) (seats_of e.layout) ≡ 0 = sum_zero (λ a. 0) (seats_of e.layout) (λ a l. refl) in
+      let due = owes_none (λ d. d.cleared) refl in
+      let all = all_left (cleared_at e) (λ i is. no_bytes (freed_at e i) i (no_freed i is)) in
+      record { heap = omega (arith, pend, due, ended.heap); pending = omega (arith, pend); freed = omega (arith, due, all) }
+
+  pub good_at_end : Good e (view (at_end e).shared)
+  good_at_end = record {
+    generation = refl;
+    heads = ended.heads;
+    apart = ended.apart;
+    numbers = says;
+    untouched = λ i s un. (uncut i s, uncut i s);
+    unswept = unswept;
+    order = λ i is. is;
+    marks = marks;
+    uncut = λ i is. refl;
+    uncut_slots = λ i is. refl;
+    slots = ended.slots;
+    few = ended.few;
+    inside = inside;
+    fits = ended.alloc_fits;
+    stand = ended.stand;
+    known = ended.known;
+    only_since = since;
+    told = λ a none. refl;
+    tallied = tallied;
+    lives = lives;
+    counted = counted;
+  }
