@@ -1,4 +1,6 @@
 pub mod AtEnd
+pub mod Example
+pub mod Joined
 pub mod Keeps
 pub mod KeepsPages
 pub mod Lasts

@@ -163,7 +163,7 @@ pub record SpanIsLeft (a p : ℕ) (h : SpanHead) (s t : Shared) : Type 0 where
   pub alloc : (i : ℕ) → i < bit_words h → t.words (cell.Alloc (16 * p + i)) ≡ s.words (cell.Alloc (16 * p + i))
   pub marks : (i : ℕ) → i < bit_words h → t.words (cell.Mark (16 * p + i)) ≡ s.words (cell.Mark (16 * p + i))
 
-pub record Others (e : CycleEnd) (a : ℕ) (s t : Shared) : Type 0 where
+pub record OthersLeave (e : CycleEnd) (a : ℕ) (s t : Shared) : Type 0 where
   pub mine : (p : ℕ) (h : SpanHead) → s.far p ≡ By a → page_of (s.words (cell.Page p)) ≡ Head (in_sweep h) → SpanIsLeft a p h s t
   -- no other has become its own
   pub back : (p : ℕ) → t.far p ≡ By a → s.far p ≡ By a
@@ -184,7 +184,7 @@ abbrev pub EachMoveKeeps : Type 0
 EachMoveKeeps = (e : CycleEnd) (a : ℕ) (s : Shared) (m : Move) → HasEnded e → Good e (view s) → May e a s m → Good e (view (moved a s m))
 
 abbrev pub EachMoveLeaves : Type 0
-EachMoveLeaves = (e : CycleEnd) (a b : ℕ) (s : Shared) (m : Move) → a ≢ b → HasEnded e → Good e (view s) → May e b s m → Others e a s (moved b s m)
+EachMoveLeaves = (e : CycleEnd) (a b : ℕ) (s : Shared) (m : Move) → a ≢ b → HasEnded e → Good e (view s) → May e b s m → OthersLeave e a s (moved b s m)
 
 -- a span that is swept stays so, and a page that is no span's first begins no other, whoever moves
 abbrev pub DoneStays : Type 0

@@ -1,11 +1,11 @@
 -- Any number of sweeps, with moves of others between their steps: what holds after every list of them.
-use Rattle.std.specs.Prelude.{◌≡◌, ◌≢◌, ℕ, ◌+◌, ◌*◌, ◌/◌, ◌<◌, ◌≤◌, ◌↔◌, ◌⊎◌, Bool, true, false, if◌then◌else◌, List, [], ◌∷◌, Option, Some, None}
+use Rattle.std.specs.Prelude.{◌≡◌, ◌≢◌, ℕ, zero, suc, ◌+◌, ◌*◌, ◌/◌, ◌<◌, ◌≤◌, ◌↔◌, ◌⊎◌, Bool, true, false, ◌||◌, not, nat_lt, if◌then◌else◌, List, [], ◌∷◌, Option, Some, None}
 use Rattle.gh_base.specs.declared.cell.Cell.TheVariants as cell
 use Rattle.gh_base.specs.declared.pack.PageWord.{PageWord}
 use Rattle.gh_base.specs.declared.pack.PageWord.TheVariants.{Free, Head, Body}
 use Rattle.gh_base.specs.Cells.{seats_of}
 use Rattle.gh_base.specs.Packing.{page_of, tally_of}
-use Rattle.gh_base.specs.Rows.{alloc_words, page_words, row_bit}
+use Rattle.gh_base.specs.Rows.{alloc_words, page_words, Row, row_bit}
 use Rattle.gh_base.specs.Steps.{cell_of, effect}
 use Rattle.gh_heap.specs.Moves.{update}
 use Rattle.gh_sweep.specs.Bits.{sum_below}
@@ -35,18 +35,28 @@ far_in Free = Done
 far_in (Head h) = Unswept
 far_in (Body b) = Done
 
-abbrev pub is_free : PageWord → Bool
-is_free Free = true
-is_free (Head h) = false
-is_free (Body b) = false
+-- word i of the bits lies in the span at page p, if one begins there
+abbrev pub reaches : (i p : ℕ) → PageWord → Bool
+reaches i p Free = false
+reaches i p (Head h) = nat_lt i (16 * (p + h.pages))
+reaches i p (Body b) = false
+
+-- one of the numbers below n passes the test
+abbrev pub some_below : (ℕ → Bool) → ℕ → Bool
+some_below test zero = false
+some_below test (suc n) = test n || some_below test n
+
+-- it lies in no span, so it needs no sweep
+abbrev pub in_no_span : Row → ℕ → Bool
+in_no_span page i = not (some_below (λ p. reaches i p (page_of (page p))) (i / 16 + 1))
 
 abbrev pub at_end : CycleEnd → World
 at_end e = record {
   shared = record {
     words = e.words;
     far = λ p. far_in (page_of (e.words (cell.Page p)));
-    cut = λ i. is_free (page_of (e.words (cell.Page (i / 16))));
-    clear = λ i. is_free (page_of (e.words (cell.Page (i / 16))));
+    cut = in_no_span (page_words e.words);
+    clear = in_no_span (page_words e.words);
     slot = e.slot;
     since = e.since;
     due = λ a. nothing;

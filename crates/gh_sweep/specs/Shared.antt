@@ -275,10 +275,8 @@ pub record HasEnded (e : CycleEnd) : Type 0 where
   pub heads : HeadsGood e.layout.pages (page_words e.words)
   pub apart : ApartGood (page_words e.words)
   pub numbers : (p : ℕ) (h : SpanHead) → page_of (page_words e.words p) ≡ Head h → IsNumbered (generation_of e) h Unswept
-  -- a word of bits lies in a span exactly where its page is not free
-  pub inside : (i : ℕ) → page_of (page_words e.words (i / 16)) ≢ Free → InSpan (page_words e.words) i
-  pub outside : (i : ℕ) → page_of (page_words e.words (i / 16)) ≡ Free → (alloc_at e i ≡ 0) × (marks_at e i ≡ 0)
-  pub no_span : (i : ℕ) → InSpan (page_words e.words) i → page_of (page_words e.words (i / 16)) ≢ Free
+  -- no bit is set outside of spans
+  pub outside : (i : ℕ) → (InSpan (page_words e.words) i → ⊥) → (alloc_at e i ≡ 0) × (marks_at e i ≡ 0)
   pub slots : SlotsGood (page_words e.words) e.slot
   pub few : FewGood e.slot
   pub alloc_fits : AreWords (alloc_at e)

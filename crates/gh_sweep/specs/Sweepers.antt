@@ -7,7 +7,7 @@ use Rattle.gh_base.specs.Packing.{page_of}
 use Rattle.gh_base.specs.Steps.{cell_of, effect}
 use Rattle.gh_sweep.specs.Facts.{Facts, IsPlaced}
 use Rattle.gh_sweep.specs.Listing.{asks, asks_at, goes, is_busy, opening, slot_bytes, Sweeping, wrote}
-use Rattle.gh_sweep.specs.Moves.{Clears, Cuts, Ends, Lands, Move, Others, Quiet, Starts, Sweeps, TellsHeap, TellsLive, TellsTally}
+use Rattle.gh_sweep.specs.Moves.{Clears, Cuts, Ends, Lands, Move, OthersLeave, Quiet, Starts, Sweeps, TellsHeap, TellsLive, TellsTally}
 use Rattle.gh_sweep.specs.Shared.{By, CycleEnd, Due, generation_of, Good, HasEnded, nothing, Shared, view}
 use Rattle.gh_sweep.specs.Sound.{reached}
 use Rattle.gh_sweep.specs.Vocabulary.{AddHeap, AddLive, AddTally, Begin, ClearBits, ClearMarks, Ended, Finish, Load, LoadMarks, SpanHead, SweepStage}
@@ -92,6 +92,6 @@ pub record SweepsAmongOthers : Type 0 where
   pub own : (e : CycleEnd) (a : ℕ) (s : Shared) (m : Sweeping) → HasEnded e → Good e (view s) → a < seats_of e.layout → Fine e a s m → is_busy m.stage ≡ true →
       Lands e a s (move_of m (s.words (cell_of (asks m)))) (effect s.words (asks m)) (λ t. Fine e a t (goes m (s.words (cell_of (asks m)))))
   -- and that lasts under the moves of others
-  pub last : (e : CycleEnd) (a : ℕ) (s t : Shared) (m : Sweeping) → Others e a s t → Fine e a s m → Fine e a t m
+  pub last : (e : CycleEnd) (a : ℕ) (s t : Shared) (m : Sweeping) → OthersLeave e a s t → Fine e a s m → Fine e a t m
   -- once it has ended the actor is at rest
   pub rests : (e : CycleEnd) (a : ℕ) (s : Shared) (m : Sweeping) → Fine e a s m → is_busy m.stage ≡ false → IsAtRest a s

@@ -3,7 +3,9 @@
 ghost use Rattle.gh_sweep.specs.Alone.{SpansAreSwept};
 ghost use Rattle.gh_sweep.specs.Bits.{BitsAreKeptOrFreed, SetBitsAreCounted};
 ghost use Rattle.gh_sweep.specs.Counts.{ObjectsAreCounted};
+ghost use Rattle.gh_sweep.specs.Example.{AnEndIsMet};
 ghost use Rattle.gh_sweep.specs.Facts.{SweepKeepsItsFacts};
+ghost use Rattle.gh_sweep.specs.Joined.{AllocationTakesPart, SpansFit};
 ghost use Rattle.gh_sweep.specs.Moves.{DoneStays, EachMoveKeeps, EachMoveLeaves};
 ghost use Rattle.gh_sweep.specs.Runs.{EachCountIsExact, EveryListKeeps, HeadsSayWhoSweeps, NothingMarkedIsFreed, OnlySinceIsLeft, PassedStays, UnsweptStays};
 ghost use Rattle.gh_sweep.specs.Slots.{ClearSlotsAreTold};
@@ -100,7 +102,24 @@ pub fn sweeps_among_others()
     sweep_keeps_its_facts();
 }
 
+/// The moves by which processors take spans, lay them out, give them back and fill their slots are moves of
+/// others beside the sweep, where the spans that they take and fill are swept.
+pub fn allocation_takes_part()
+    ensures spans { SpansFit }
+    ensures moves { AllocationTakesPart }
+{
+    packed_words_are_read_back();
+}
+
 // Of every list of turns of any number of actors, who sweep spans, take spans and place objects.
+
+/// There is a heap where a cycle has ended, with an object that is marked and one that is not.
+pub fn an_end_is_met()
+    ensures { AnEndIsMet }
+{
+    packed_words_are_read_back();
+    rows_are_written();
+}
 
 /// What holds of the words at every moment holds after each such list, and so does what each sweep that runs
 /// relies on.

@@ -1,7 +1,9 @@
 -- What holds at every moment holds where the cycle has ended.
-use Rattle.std.proofs.Common.{◌≡◌, ◌≢◌, ℕ, ◌-◌, ◌*◌, ◌/◌, ◌%◌, ◌^◌, Bool, true, false, cond, refl, sym, ap, ◌∙◌, arith}
-use Rattle.std.specs.Prelude.{bit_and, count_ones}
+use Rattle.std.proofs.Common.{◌≡◌, ◌≢◌, ℕ, zero, suc, ◌+◌, ◌-◌, ◌*◌, ◌/◌, ◌%◌, ◌^◌, ◌<◌, Bool, true, false, not, cond, refl, sym, ap, ◌∙◌, arith, inl, inr}
+use Rattle.std.specs.Prelude.{bit_and, count_ones, ◌||◌}
 use Rattle.std.specs.Int.{bit_at}
+use Rattle.std.proofs.lemmas.Bool.{lt-ltb, ltb-true}
+use Rattle.std.proofs.lemmas.Bool.Decides.{eqb_tells}
 use Rattle.std.proofs.lemmas.Nat.{ones_le_self, and_le_l}
 use Rattle.std.proofs.lemmas.Nat.Bits.{bit_at-zero}
 use Rattle.gh_base.specs.declared.cell.Cell.TheVariants as cell
@@ -9,9 +11,9 @@ use Rattle.gh_base.specs.declared.pack.PageWord.{PageWord}
 use Rattle.gh_base.specs.declared.pack.PageWord.TheVariants.{Free, Head, Body}
 use Rattle.gh_base.specs.Cells.{seats_of}
 use Rattle.gh_base.specs.Packing.{page_of}
-use Rattle.gh_base.specs.Rows.{row_bit, RowsAreWritten}
+use Rattle.gh_base.specs.Rows.{page_words, Row, row_bit, RowsAreWritten}
 use Rattle.gh_sweep.specs.Bits.{sum_below}
-use Rattle.gh_sweep.specs.Runs.{at_end, far_in, is_free}
+use Rattle.gh_sweep.specs.Runs.{at_end, far_in, in_no_span, reaches, some_below}
 use Rattle.gh_sweep.specs.Shared.{alloc_at, bit_words_of, cleared_at, CycleEnd, Due, freed_at, generation_of, Good, HasEnded, HeapGood, in_all, InSpan, kept_at, LeftGood, left, live_at, LiveGood, marks_at, MarksGood, nothing, owed, SaysFar, TallyGood, view}
 use Rattle.gh_sweep.proofs.Sharing.Pages.{unswept_done}
 use Rattle.gh_sweep.proofs.Sharing.Sums.{left_all, sum_zero}
@@ -19,27 +21,59 @@ use Rattle.gh_sweep.proofs.Sharing.Sums.{left_all, sum_zero}
 zero_bit : (i : ℕ) → bit_at 0 i ≡ 1 → ⊥
 zero_bit i e = absurd (let none : bit_at 0 i ≡ 0 = bit_at-zero i in omega arith)
 
+-- the number that passes the test
+found_below : (test : ℕ → Bool) (n : ℕ) → some_below test n ≡ true → (p : ℕ) × (p < n) × (test p ≡ true)
+found_below test zero e = absurd (cc)
+found_below test (suc n) e = go (test n) refl e (found_below test n) where
+  more : (p : ℕ) × (p < n) × (test p ≡ true) → (p : ℕ) × (p < suc n) × (test p ≡ true)
+  more f = let l = f.1 in (f.0, omega arith, f.2)
+
+  go : (b : Bool) → test n ≡ b → (b || some_below test n) ≡ true → (some_below test n ≡ true → (p : ℕ) × (p < n) × (test p ≡ true)) → (p : ℕ) × (p < suc n) × (test p ≡ true)
+  go true is e rest = (n, omega arith, is)
+  go false is e rest = more (rest e)
+
+one_below : (test : ℕ → Bool) (n p : ℕ) → p < n → test p ≡ true → some_below test n ≡ true
+one_below test zero p l e = absurd (omega arith)
+one_below test (suc n) p l e = elim (eqb_tells p n) [
+  | inl y ↦ ap (λ (b : Bool). b || some_below test n) (ap test (sym y.1) ∙ e)
+  | inr x ↦ let ne = x.1 in either (test n) (one_below test n p (omega (arith, l, x.1)) e)
+] where
+  either : (b : Bool) → some_below test n ≡ true → (b || some_below test n) ≡ true
+  either true e = refl
+  either false e = e
+
+module _ (page : Row) (i : ℕ) where
+  abbrev test : ℕ → Bool
+  test p = reaches i p (page_of (page p))
+
+  span_found : in_no_span page i ≡ false → InSpan page i
+  span_found e = span (found_below test (i / 16 + 1) (sets (some_below test (i / 16 + 1)) e)) where
+    sets : (b : Bool) → not b ≡ false → b ≡ true
+    sets true e = refl
+    sets false e = absurd (cc)
+
+    span : (p : ℕ) × (p < i / 16 + 1) × (test p ≡ true) → InSpan page i
+    span (p, l, e) = go (page_of (page p)) refl e where
+      go : (w : PageWord) → page_of (page p) ≡ w → reaches i p w ≡ true → InSpan page i
+      go Free is e = absurd (cc)
+      go (Head h) is e = record { p = p; h = h; head = is; from = omega arith; below = ltb-true i (16 * (p + h.pages)) e }
+      go (Body b) is e = absurd (cc)
+
+  in_span : InSpan page i → in_no_span page i ≡ false
+  in_span s =
+      let low = s.from in
+      let reached : test s.p ≡ true = ap (λ (w : PageWord). reaches i s.p w) s.head ∙ lt-ltb i (16 * (s.p + s.h.pages)) s.below in
+      ap not (one_below test (i / 16 + 1) s.p (omega arith) reached)
+
+  no_span : in_no_span page i ≡ true → InSpan page i → ⊥
+  no_span e s = let is = in_span s in absurd (cc)
+
 module _ (rows : RowsAreWritten) (e : CycleEnd) (ended : HasEnded e) where
   abbrev page_at : ℕ → PageWord
   page_at p = page_of (e.words (cell.Page p))
 
   abbrev flag : ℕ → Bool
-  flag i = is_free (page_at (i / 16))
-
-  not_free : (w : PageWord) → is_free w ≡ false → w ≢ Free
-  not_free Free e f = absurd (cc)
-  not_free (Head h) e f = absurd (cc)
-  not_free (Body b) e f = absurd (cc)
-
-  free : (w : PageWord) → is_free w ≡ true → w ≡ Free
-  free Free e = refl
-  free (Head h) e = absurd (cc)
-  free (Body b) e = absurd (cc)
-
-  in_use : (w : PageWord) → w ≢ Free → is_free w ≡ false
-  in_use Free ne = absurd (ne refl)
-  in_use (Head h) ne = refl
-  in_use (Body b) ne = refl
+  flag i = in_no_span (page_words e.words) i
 
   says : (p : ℕ) → SaysFar (generation_of e) (page_at p) (far_in (page_at p))
   says p = go (page_at p) refl where
@@ -48,28 +82,28 @@ module _ (rows : RowsAreWritten) (e : CycleEnd) (ended : HasEnded e) where
     go (Head h) is = ended.numbers p h is
     go (Body b) is = refl
 
-  uncut : (i : ℕ) → InSpan (view (at_end e).shared).page i → flag i ≡ false
-  uncut i s = in_use (page_at (i / 16)) (ended.no_span i s)
+  none_there : (i : ℕ) → flag i ≡ true → (alloc_at e i ≡ 0) × (marks_at e i ≡ 0)
+  none_there i is = ended.outside i (no_span (page_words e.words) i is)
 
-  none_there : (i : ℕ) → flag i ≡ true → alloc_at e i ≡ 0
-  none_there i is = (ended.outside i (free (page_at (i / 16)) is)).0
-
-  unswept : LeftGood (view (at_end e).shared).page (at_end e).shared.far flag
+  unswept : LeftGood (page_words e.words) (at_end e).shared.far flag
   unswept i is =
-      let s = ended.inside i (not_free (page_at (i / 16)) is) in
+      let s = span_found (page_words e.words) i is in
       record { span = s; unswept = λ done. unswept_done (ap far_in (sym s.head) ∙ done) }
 
   marks : MarksGood (marks_at e) (marks_at e) flag
   marks i = go (flag i) refl where
     go : (b : Bool) → flag i ≡ b → marks_at e i ≡ cond b 0 (marks_at e i)
-    go true is = (ended.outside i (free (page_at (i / 16)) is)).1
+    go true is = (none_there i is).1
     go false is = refl
 
-  inside : (i : ℕ) → alloc_at e i ≢ 0 → InSpan (view (at_end e).shared).page i
-  inside i ne = ended.inside i (λ is. ne (ended.outside i is).0)
+  inside : (i : ℕ) → alloc_at e i ≢ 0 → InSpan (page_words e.words) i
+  inside i ne = go (flag i) refl where
+    go : (b : Bool) → flag i ≡ b → InSpan (page_words e.words) i
+    go true is = absurd (ne (none_there i is).0)
+    go false is = span_found (page_words e.words) i is
 
   since : (x : ℕ) → flag (x / 64) ≡ true → row_bit (alloc_at e) x ≡ 1 → e.since x ≡ true
-  since x is bit = absurd (zero_bit (x % 64) (ap (λ (w : ℕ). bit_at w (x % 64)) (sym (none_there (x / 64) is)) ∙ (sym (rows.bit_of (alloc_at e) (x / 64) x refl) ∙ bit)))
+  since x is bit = absurd (zero_bit (x % 64) (ap (λ (w : ℕ). bit_at w (x % 64)) (sym (none_there (x / 64) is).0) ∙ (sym (rows.bit_of (alloc_at e) (x / 64) x refl) ∙ bit)))
 
   -- Nothing is told, owed or pending, and in words that need no sweep nothing was.
 
@@ -80,10 +114,10 @@ module _ (rows : RowsAreWritten) (e : CycleEnd) (ended : HasEnded e) where
   no_ones word with is = let l = and_le_l word with in let ones = ones_le_self (bit_and word with) in omega arith
 
   no_kept : (i : ℕ) → flag i ≡ true → kept_at e i ≡ 0
-  no_kept i is = no_ones (alloc_at e i) (marks_at e i) (none_there i is)
+  no_kept i is = no_ones (alloc_at e i) (marks_at e i) (none_there i is).0
 
   no_freed : (i : ℕ) → flag i ≡ true → freed_at e i ≡ 0
-  no_freed i is = no_ones (alloc_at e i) (2 ^ 64 - 1 - marks_at e i) (none_there i is)
+  no_freed i is = no_ones (alloc_at e i) (2 ^ 64 - 1 - marks_at e i) (none_there i is).0
 
   no_bytes : (n i : ℕ) → n ≡ 0 → n * e.slot i ≡ 0
   no_bytes n i is = let product : n * e.slot i ≡ 0 * e.slot i = ap (λ (x : ℕ). x * e.slot i) is in omega (arith, product)
@@ -113,7 +147,7 @@ module _ (rows : RowsAreWritten) (e : CycleEnd) (ended : HasEnded e) where
     heads = ended.heads;
     apart = ended.apart;
     numbers = says;
-    untouched = λ i s un. (uncut i s, uncut i s);
+    untouched = λ i s un. (in_span (page_words e.words) i s, in_span (page_words e.words) i s);
     unswept = unswept;
     order = λ i is. is;
     marks = marks;

@@ -5,14 +5,14 @@ use Rattle.gh_base.specs.declared.pack.PageWord.TheVariants.{Head}
 use Rattle.gh_base.specs.Packing.{page_of}
 use Rattle.gh_sweep.specs.Facts.{OthersAt, SpanStays, SweepKeepsItsFacts}
 use Rattle.gh_sweep.specs.Listing.{bit_words, in_sweep, is_busy, opening, Sweeping}
-use Rattle.gh_sweep.specs.Moves.{Others, SpanIsLeft, Sweeps}
+use Rattle.gh_sweep.specs.Moves.{OthersLeave, SpanIsLeft, Sweeps}
 use Rattle.gh_sweep.specs.Shared.{By, CycleEnd, generation_of, Good, HasEnded, nothing, Shared, view}
 use Rattle.gh_sweep.specs.Sweepers.{Fine, has_span, HasReached, IsAtRest, IsOwn, owes_at, SweepsAmongOthers}
 use Rattle.gh_sweep.specs.Vocabulary.{AddHeap, AddLive, AddTally, Begin, ClearBits, ClearMarks, Ended, Finish, LoadMarks, SpanHead, SweepStage}
 use Rattle.gh_sweep.proofs.Sharing.KeepsPages.{Known}
 use Rattle.gh_sweep.proofs.Sharing.Own.{lands}
 
-module _ (e : CycleEnd) (a : ℕ) (s t : Shared) (o : Others e a s t) (m : Sweeping) where
+module _ (e : CycleEnd) (a : ℕ) (s t : Shared) (o : OthersLeave e a s t) (m : Sweeping) where
   left : {cut clear : ℕ} → Sweeps a m.page m.head cut clear s → SpanIsLeft a m.page m.head s t
   left sweeps = o.mine m.page m.head sweeps.by sweeps.head
 

@@ -9,7 +9,7 @@ use Rattle.gh_heap.specs.Moves.{update}
 use Rattle.gh_heap.specs.Spans.{owned_by}
 use Rattle.gh_sweep.specs.Facts.{HasNotNumber}
 use Rattle.gh_sweep.specs.Listing.{bit_words, in_sweep, once_swept}
-use Rattle.gh_sweep.specs.Moves.{Clears, Counts, Cuts, DoneStays, EachMoveLeaves, Ends, Frees, Lays, May, moved, Others, Passes, Places, Quiet, SpanIsLeft, Starts, TellsHeap, TellsLive, TellsTally, Turns}
+use Rattle.gh_sweep.specs.Moves.{Clears, Counts, Cuts, DoneStays, EachMoveLeaves, Ends, Frees, Lays, May, moved, OthersLeave, Passes, Places, Quiet, SpanIsLeft, Starts, TellsHeap, TellsLive, TellsTally, Turns}
 use Rattle.gh_sweep.specs.Shared.{By, CycleEnd, Done, Far, generation_of, Good, HasEnded, InSpan, Shared, Unswept, View, view}
 use Rattle.gh_sweep.specs.Vocabulary.{SpanHead}
 use Rattle.gh_sweep.proofs.Sharing.KeepsPages.{fits_owned, fits_swept, fits_then, fresh_before, is_done, Known, number_in}
@@ -67,7 +67,7 @@ unchanged a p h s t by head cut clear alloc marks = record {
 }
 
 -- nor does any word of which something is said here
-same_words : (e : CycleEnd) (a : ℕ) (s t : Shared) → (view t).page ≡ (view s).page → (view t).alloc ≡ (view s).alloc → (view t).mark ≡ (view s).mark → t.far ≡ s.far → t.cut ≡ s.cut → t.clear ≡ s.clear → t.due a ≡ s.due a → t.pend a ≡ s.pend a → Others e a s t
+same_words : (e : CycleEnd) (a : ℕ) (s t : Shared) → (view t).page ≡ (view s).page → (view t).alloc ≡ (view s).alloc → (view t).mark ≡ (view s).mark → t.far ≡ s.far → t.cut ≡ s.cut → t.clear ≡ s.clear → t.due a ≡ s.due a → t.pend a ≡ s.pend a → OthersLeave e a s t
 same_words e a s t page alloc mark far cut clear due pend = record {
   mine = λ p h by head. unchanged a p h s t (ap (λ (f : ℕ → Far). f p) far ∙ by) (ap (λ (f : Row). f p) page) cut clear alloc mark;
   back = λ p is. sym (ap (λ (f : ℕ → Far). f p) far) ∙ is;
@@ -94,7 +94,7 @@ module _ (k : Known) (e : CycleEnd) (ended : HasEnded e) (a b : ℕ) (s : Shared
   has_not j fits n is number less = not_numbered k.packed j number fits (λ same. absurd (omega arith))
 
   -- a page word and how far its span is
-  page_and_far : (q word : ℕ) (f : Far) → s.far q ≢ By a → f ≢ By a → (s.far q ≡ Done → f ≡ Done) → ((number : ℕ) → number + 2 ≡ gen → HasNotNumber number word) → Others e a s (record s { words = (moved b s (Turns q word)).words; far = update s.far q f })
+  page_and_far : (q word : ℕ) (f : Far) → s.far q ≢ By a → f ≢ By a → (s.far q ≡ Done → f ≡ Done) → ((number : ℕ) → number + 2 ≡ gen → HasNotNumber number word) → OthersLeave e a s (record s { words = (moved b s (Turns q word)).words; far = update s.far q f })
   page_and_far q word f mine then done gone = record {
     mine = λ p h by head. record { by = far_left e a s g q word f mine then done gone p by; head = page_left e a s g q word f mine then done gone p by; cut = λ i l. refl; clear = λ i l. refl; alloc = λ i l. refl; marks = λ i l. refl };
     back = back_then e a s g q word f mine then done gone;
@@ -105,7 +105,7 @@ module _ (k : Known) (e : CycleEnd) (ended : HasEnded e) (a b : ℕ) (s : Shared
   }
 
   -- a page word alone, of a swept span or of none
-  page_alone : (q word : ℕ) (slot : Row) → s.far q ≡ Done → ((number : ℕ) → number + 2 ≡ gen → HasNotNumber number word) → Others e a s (record s { words = (moved b s (Turns q word)).words; slot = slot })
+  page_alone : (q word : ℕ) (slot : Row) → s.far q ≡ Done → ((number : ℕ) → number + 2 ≡ gen → HasNotNumber number word) → OthersLeave e a s (record s { words = (moved b s (Turns q word)).words; slot = slot })
   page_alone q word slot is gone = record {
     mine = λ p h by head. record { by = by; head = page_left e a s g q word Done not_mine done_by (λ x. refl) gone p by; cut = λ i l. refl; clear = λ i l. refl; alloc = λ i l. refl; marks = λ i l. refl };
     back = λ p x. x;
@@ -120,13 +120,13 @@ module _ (k : Known) (e : CycleEnd) (ended : HasEnded e) (a b : ℕ) (s : Shared
     done_by : Done ≢ By a
     done_by x = by_done a (sym x)
 
-  starts_leaves : (p : ℕ) (h : SpanHead) → May e b s (Starts p h) → Others e a s (moved b s (Starts p h))
+  starts_leaves : (p : ℕ) (h : SpanHead) → May e b s (Starts p h) → OthersLeave e a s (moved b s (Starts p h))
   starts_leaves p h may = page_and_far p (head_word (in_sweep h)) (By b) (λ by. unswept_by a (sym fresh ∙ by)) others_by (λ is. absurd (unswept_done (sym fresh ∙ is)))
       (λ number n. has_not (in_sweep h) (fits_then k e ended (view s) g b p h may.0 may.1) (h.number + 1) refl number (let m = may.1 in omega arith)) where
         fresh : s.far p ≡ Unswept
         fresh = fresh_before k e ended (view s) g b p h may.0 may.1
 
-  cuts_leaves : (p : ℕ) (h : SpanHead) (i : ℕ) → May e b s (Cuts p h i) → Others e a s (moved b s (Cuts p h i))
+  cuts_leaves : (p : ℕ) (h : SpanHead) (i : ℕ) → May e b s (Cuts p h i) → OthersLeave e a s (moved b s (Cuts p h i))
   cuts_leaves p h i may = record {
     mine = λ q j by head. record { by = by; head = refl; cut = λ x l. off_entry s.cut (16 * p + i) (16 * q + x) true (off q j by head x l); clear = λ x l. refl; alloc = λ x l. off_entry (view s).alloc (16 * p + i) (16 * q + x) _ (off q j by head x l); marks = λ x l. refl };
     back = λ q x. x;
@@ -141,7 +141,7 @@ module _ (k : Known) (e : CycleEnd) (ended : HasEnded e) (a b : ℕ) (s : Shared
     off : (q : ℕ) (j : SpanHead) → s.far q ≡ By a → page_of ((view s).page q) ≡ Head (in_sweep j) → (x : ℕ) → x < bit_words j → 16 * p + i ≢ 16 * q + x
     off q j by head x l = other_word e a s g (16 * p + i) span (λ is. others_by (sym may.1.by ∙ is)) q j by head x l
 
-  clears_leaves : (p : ℕ) (h : SpanHead) (i : ℕ) → May e b s (Clears p h i) → Others e a s (moved b s (Clears p h i))
+  clears_leaves : (p : ℕ) (h : SpanHead) (i : ℕ) → May e b s (Clears p h i) → OthersLeave e a s (moved b s (Clears p h i))
   clears_leaves p h i may = record {
     mine = λ q j by head. record { by = by; head = refl; cut = λ x l. refl; clear = λ x l. off_entry s.clear (16 * p + i) (16 * q + x) true (off q j by head x l); alloc = λ x l. refl; marks = λ x l. off_entry (view s).mark (16 * p + i) (16 * q + x) 0 (off q j by head x l) };
     back = λ q x. x;
@@ -156,21 +156,21 @@ module _ (k : Known) (e : CycleEnd) (ended : HasEnded e) (a b : ℕ) (s : Shared
     off : (q : ℕ) (j : SpanHead) → s.far q ≡ By a → page_of ((view s).page q) ≡ Head (in_sweep j) → (x : ℕ) → x < bit_words j → 16 * p + i ≢ 16 * q + x
     off q j by head x l = other_word e a s g (16 * p + i) span (λ is. others_by (sym may.0.by ∙ is)) q j by head x l
 
-  ends_leaves : (p : ℕ) (h : SpanHead) → May e b s (Ends p h) → Others e a s (moved b s (Ends p h))
+  ends_leaves : (p : ℕ) (h : SpanHead) → May e b s (Ends p h) → OthersLeave e a s (moved b s (Ends p h))
   ends_leaves p h may = page_and_far p (head_word (once_swept h)) Done (λ by. others_by (sym may.0.by ∙ by)) (λ x. by_done a (sym x)) (λ x. refl)
       (λ number n. has_not (once_swept h) (fits_swept k e ended (view s) g b p h may.0.by may.0.head may.0.are_clear may.1) (h.number + 2) refl number (let m = (number_in k e ended (view s) g b p h may.0.by may.0.head may.0.are_clear may.1).0 in omega arith))
 
-  passes_leaves : (p : ℕ) (h : SpanHead) (owner : ℕ) → May e b s (Passes p h owner) → Others e a s (moved b s (Passes p h owner))
+  passes_leaves : (p : ℕ) (h : SpanHead) (owner : ℕ) → May e b s (Passes p h owner) → OthersLeave e a s (moved b s (Passes p h owner))
   passes_leaves p h owner may = page_alone p (head_word (owned_by owner h)) s.slot (is_done k e ended (view s) g p h owner may.0 may.1)
       (λ number n. has_not (owned_by owner h) (fits_owned k e ended (view s) g p h owner may.0 may.1) h.number refl number (let m = may.0.number in omega arith))
 
-  lays_leaves : (p : ℕ) (h : SpanHead) → May e b s (Lays p h) → Others e a s (moved b s (Lays p h))
+  lays_leaves : (p : ℕ) (h : SpanHead) → May e b s (Lays p h) → OthersLeave e a s (moved b s (Lays p h))
   lays_leaves p h may = page_alone p (head_word h) (moved b s (Lays p h)).slot (lay.done_there k e (view s) g p h may) (λ number n. has_not h may.fits h.number refl number (let m = may.number in omega arith))
 
   no_head : (number : ℕ) → HasNotNumber number 0
   no_head number h e = absurd (cc)
 
-  places_leaves : (x : ℕ) → May e b s (Places x) → Others e a s (moved b s (Places x))
+  places_leaves : (x : ℕ) → May e b s (Places x) → OthersLeave e a s (moved b s (Places x))
   places_leaves x may = record {
     mine = λ q j by head. record { by = by; head = refl; cut = λ i l. refl; clear = λ i l. refl; alloc = λ i l. off_entry (view s).alloc (x / 64) (16 * q + i) _ (other_word e a s g (x / 64) may.1.span not_mine q j by head i l); marks = λ i l. refl };
     back = λ q x. x;

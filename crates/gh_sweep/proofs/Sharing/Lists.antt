@@ -9,7 +9,7 @@ use Rattle.gh_base.specs.Rows.{RowsAreWritten}
 use Rattle.gh_base.specs.Steps.{effect}
 use Rattle.gh_heap.specs.Moves.{update}
 use Rattle.gh_sweep.specs.Listing.{asks, goes, is_busy, opening, Sweeping}
-use Rattle.gh_sweep.specs.Moves.{Clears, Counts, Cuts, EachMoveKeeps, EachMoveLeaves, Ends, Frees, Lands, Lays, May, Move, moved, Others, Passes, Places, Quiet, Starts, TellsHeap, TellsLive, TellsTally, Turns}
+use Rattle.gh_sweep.specs.Moves.{Clears, Counts, Cuts, EachMoveKeeps, EachMoveLeaves, Ends, Frees, Lands, Lays, May, Move, moved, OthersLeave, Passes, Places, Quiet, Starts, TellsHeap, TellsLive, TellsTally, Turns}
 use Rattle.gh_sweep.specs.Runs.{after, Begins, EveryListKeeps, far_in, found, Holds, IsOfOthers, Legal, MayTurn, Moves, RunsFine, Steps, stepped, still, Turn, turned, World}
 use Rattle.gh_sweep.specs.Shared.{By, CycleEnd, Good, HasEnded, Shared, view}
 use Rattle.gh_sweep.specs.Sweepers.{Fine, IsAtRest, move_of, SweepsAmongOthers}
@@ -24,7 +24,7 @@ pub record Laws : Type 0 where
   pub sweeps : SweepsAmongOthers
 
 module _ (laws : Laws) (e : CycleEnd) (ended : HasEnded e) where
-  fine_lasts : (a : ℕ) (s t : Shared) (o : Option Sweeping) → Others e a s t → RunsFine e a s o → RunsFine e a t o
+  fine_lasts : (a : ℕ) (s t : Shared) (o : Option Sweeping) → OthersLeave e a s t → RunsFine e a s o → RunsFine e a t o
   fine_lasts a s t (Some m) others f = (laws.sweeps.last e a s t m others f.0, f.1)
   fine_lasts a s t None others r = record { none = λ p by. r.none p (others.back p by); told = others.due ∙ r.told }
 
