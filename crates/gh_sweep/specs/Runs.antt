@@ -165,9 +165,13 @@ IsPast e w i = IsBehind e w 0 i ⊎ ((a : ℕ) × (m : Sweeping) × IsOf w a i m
 abbrev pub IsAhead : CycleEnd → World → ℕ → Type 0
 IsAhead e w i = IsBehind e w 2 i ⊎ ((a : ℕ) × (m : Sweeping) × IsOf w a i m × (16 * m.page + reached m.head m.stage ≤ i))
 
--- each head has the number of the sweep generation
+-- page p is passed: its head, if it has one, has the number of the sweep generation
+abbrev pub IsPassed : CycleEnd → World → (p : ℕ) → Type 0
+IsPassed e w p = (h : SpanHead) → page_of (w.shared.words (cell.Page p)) ≡ Head h → h.number ≡ generation_of e
+
+-- each page is
 abbrev pub AllAreSwept : CycleEnd → World → Type 0
-AllAreSwept e w = (p : ℕ) (h : SpanHead) → page_of (w.shared.words (cell.Page p)) ≡ Head h → h.number ≡ generation_of e
+AllAreSwept e w = (p : ℕ) → p < e.layout.pages → IsPassed e w p
 
 abbrev pub owes_now : Option Sweeping → Due
 owes_now (Some m) = owes m
@@ -198,8 +202,12 @@ pub record CountsAreExact (e : CycleEnd) (w : World) : Type 0 where
 pub record HeadsSayWhoSweeps : Type 0 where
   -- a head says that its span is being swept exactly where one actor sweeps it
   pub one : (e : CycleEnd) (ts : List Turn) (p : ℕ) → HasEnded e → Legal e ts → IsInSweep e (after e ts) p ↔ OneSweeps (after e ts) p
-  -- and a span that has an owner is swept
+  -- it is unswept, being swept or swept by its number, and a span that has an owner is swept
+  pub numbers : (e : CycleEnd) (ts : List Turn) (p : ℕ) (h : SpanHead) → HasEnded e → Legal e ts → page_of ((after e ts).shared.words (cell.Page p)) ≡ Head h →
+      (h.number + 2 ≡ generation_of e) ⊎ ((h.number + 1 ≡ generation_of e) ⊎ (h.number ≡ generation_of e))
   pub owners : (e : CycleEnd) (ts : List Turn) (p : ℕ) (h : SpanHead) → HasEnded e → Legal e ts → page_of ((after e ts).shared.words (cell.Page p)) ≡ Head h → h.owner ≢ 0 → h.number ≡ generation_of e
+  -- and the sweep generation stays
+  pub generation : (e : CycleEnd) (ts : List Turn) → HasEnded e → Legal e ts → (after e ts).shared.words cell.Gen ≡ generation_of e
 
 -- an object that was marked where the cycle ended stands
 abbrev pub NothingMarkedIsFreed : Type 0
@@ -209,6 +217,9 @@ NothingMarkedIsFreed = (e : CycleEnd) (ts : List Turn) (x : ℕ) → HasEnded e 
 pub record OnlySinceIsLeft : Type 0 where
   pub objects : (e : CycleEnd) (ts : List Turn) (x : ℕ) → HasEnded e → Legal e ts → IsPast e (after e ts) (x / 64) → row_bit (alloc_words (after e ts).shared.words) x ≡ 1 → (after e ts).shared.since x ≡ true
   pub marks : (e : CycleEnd) (ts : List Turn) (i : ℕ) → HasEnded e → Legal e ts → IsBehind e (after e ts) 0 i → (after e ts).shared.words (cell.Mark i) ≡ 0
+  -- so once all are swept no other object stands, and there is no mark
+  pub all_objects : (e : CycleEnd) (ts : List Turn) (x : ℕ) → HasEnded e → Legal e ts → AllAreSwept e (after e ts) → row_bit (alloc_words (after e ts).shared.words) x ≡ 1 → (after e ts).shared.since x ≡ true
+  pub all_marks : (e : CycleEnd) (ts : List Turn) (i : ℕ) → HasEnded e → Legal e ts → AllAreSwept e (after e ts) → (after e ts).shared.words (cell.Mark i) ≡ 0
 
 -- words that are not swept are as they were
 pub record UnsweptIsAsItWas (e : CycleEnd) (w : World) (i : ℕ) : Type 0 where
@@ -218,15 +229,11 @@ pub record UnsweptIsAsItWas (e : CycleEnd) (w : World) (i : ℕ) : Type 0 where
 abbrev pub UnsweptStays : Type 0
 UnsweptStays = (e : CycleEnd) (ts : List Turn) (i : ℕ) → HasEnded e → Legal e ts → IsAhead e (after e ts) i → UnsweptIsAsItWas e (after e ts) i
 
--- at every moment nothing is lost; once each head has the number of the sweep generation the counts are those where the cycle ended
+-- at every moment nothing is lost; once all are swept the counts are those where the cycle ended
 pub record EachCountIsExact : Type 0 where
   pub always : (e : CycleEnd) (ts : List Turn) → HasEnded e → Legal e ts → NothingIsLost e (after e ts)
   pub at_last : (e : CycleEnd) (ts : List Turn) → HasEnded e → Legal e ts → AllAreSwept e (after e ts) → CountsAreExact e (after e ts)
 
--- a page whose head, if it has one, has the number of the sweep generation
-abbrev pub IsPassed : CycleEnd → World → (p : ℕ) → Type 0
-IsPassed e w p = (h : SpanHead) → page_of (w.shared.words (cell.Page p)) ≡ Head h → h.number ≡ generation_of e
-
--- stays one
+-- a page that is passed stays so
 abbrev pub PassedStays : Type 0
 PassedStays = (e : CycleEnd) (t : Turn) (ts : List Turn) (p : ℕ) → HasEnded e → Legal e (t ∷ ts) → IsPassed e (after e ts) p → IsPassed e (after e (t ∷ ts)) p

@@ -132,8 +132,8 @@ pub fn every_list_keeps()
     sweeps_among_others();
 }
 
-/// A head says that its span is being swept exactly where one actor sweeps it; and a span that has an owner
-/// is swept.
+/// A head says by its number that its span is unswept, being swept or swept: being swept exactly where one
+/// actor sweeps it, and swept where the span has an owner. The sweep generation stays.
 pub fn heads_say_who_sweeps()
     ensures { HeadsSayWhoSweeps }
 {
@@ -148,7 +148,8 @@ pub fn nothing_marked_is_freed()
 }
 
 /// In words that are swept only objects stand that a script reached where the cycle began or that were made
-/// since then; and in swept spans no mark is left.
+/// since then; and in swept spans no mark is left. So once all spans are swept this holds of each object,
+/// and there is no mark.
 pub fn only_since_is_left()
     ensures { OnlySinceIsLeft }
 {

@@ -17,6 +17,13 @@
 //! in it and free its pages, so by then all bits must be cut and all counts told. And of a word's bits
 //! those of alloc are cut before the marks are cleared, since the marks say which to cut.
 //!
+//! Several actors sweep at once, each its own span, while others take swept spans, place objects in them, lay
+//! out fresh ones and free empty ones. None of them sees the steps of the others: a sweep relies on its
+//! span's words alone, which nobody else changes, and each step of anybody is one of a few moves that leave
+//! them so (`specs/Moves.antt`). Over all lists of such steps (`specs/Runs.antt`) nothing that is marked is
+//! freed, and what the counts tell, what is still to be told and what is not swept yet are together what
+//! stood where the cycle ended. So once each head has the generation's number the counts are exact.
+//!
 //! What the routine asks for and where it goes is its listing, in specs/Listing.antt; above that stand
 //! the laws of [`laws`]. This is Go's `sweepLocked.sweep` and `sweepLocker.tryAcquire` (mgcsweep.go),
 //! where the mark bits become the alloc bits (`mspan.allocBits = mspan.gcmarkBits`) and a span has its

@@ -83,6 +83,13 @@ module _ (e : CycleEnd) (w : World) (holds : Holds e w) where
     go (Head h) is says = record { h = h; head = is; number = says.0; owner = says.1 }
     go (Body b) is says = absurd (by_done one.who says)
 
+  numbered_so : (p : ℕ) (h : SpanHead) → page_of (s.words (cell.Page p)) ≡ Head h → (h.number + 2 ≡ gen) ⊎ ((h.number + 1 ≡ gen) ⊎ (h.number ≡ gen))
+  numbered_so p h is = go (s.far p) (numbered gen (view s).page s.far holds.good.numbers p h is) where
+    go : (f : Far) → IsNumbered gen h f → (h.number + 2 ≡ gen) ⊎ ((h.number + 1 ≡ gen) ⊎ (h.number ≡ gen))
+    go Unswept n = inl n.0
+    go (By a) n = inr (inl n.0)
+    go Done n = inr (inr n)
+
   owned_is_swept : (p : ℕ) (h : SpanHead) → page_of (s.words (cell.Page p)) ≡ Head h → h.owner ≢ 0 → h.number ≡ gen
   owned_is_swept p h is owner = go (s.far p) (numbered gen (view s).page s.far holds.good.numbers p h is) where
     go : (f : Far) → IsNumbered gen h f → h.number ≡ gen
@@ -195,10 +202,18 @@ module _ (e : CycleEnd) (w : World) (holds : Holds e w) where
 
   module _ (all : AllAreSwept e w) where
     all_done : (p : ℕ) → s.far p ≡ Done
-    all_done p = passed_done p (all p)
+    all_done p = passed_done p (λ h is. all p (within h is) h is) where
+      within : (h : SpanHead) → page_of ((view s).page p) ≡ Head h → p < e.layout.pages
+      within h is = let head = holds.good.heads p h is in let some = head.fits.some in let low = head.within in omega arith
+
+    all_clear : (i : ℕ) → s.clear i ≡ true
+    all_clear i = go (s.clear i) refl where
+      go : (b : Bool) → s.clear i ≡ b → s.clear i ≡ true
+      go true is = is
+      go false is = let l = holds.good.unswept i is in absurd (l.unswept (all_done l.span.p))
 
     all_cut : (i : ℕ) → s.cut i ≡ true
-    all_cut i = if_left i (λ l. absurd (l.unswept (all_done l.span.p)))
+    all_cut i = holds.good.order i (all_clear i)
 
     none_left : (each : ℕ → ℕ) → left each s.cut (bit_words_of e) ≡ 0
     none_left each = left_none each s.cut (bit_words_of e) (λ i l. all_cut i)
@@ -239,7 +254,9 @@ module _ (after_all : EveryListKeeps) where
   pub heads_say : HeadsSayWhoSweeps
   heads_say = record {
     one = λ e ts p ended legal. let holds = after_all e ts ended legal in (one_sweeps e (after e ts) holds p, in_sweep_then e (after e ts) holds p);
+    numbers = λ e ts p h ended legal is. numbered_so e (after e ts) (after_all e ts ended legal) p h is;
     owners = λ e ts p h ended legal is owner. owned_is_swept e (after e ts) (after_all e ts ended legal) p h is owner;
+    generation = λ e ts ended legal. (after_all e ts ended legal).good.generation;
   }
 
   pub marked_stands : NothingMarkedIsFreed
@@ -249,6 +266,8 @@ module _ (after_all : EveryListKeeps) where
   only_since = record {
     objects = λ e ts x ended legal past is. let holds = after_all e ts ended legal in holds.good.only_since x (past_is_cut e (after e ts) holds (x / 64) past) is;
     marks = λ e ts i ended legal is. let holds = after_all e ts ended legal in holds.good.marks i ∙ ap (λ (b : Bool). cond b 0 (marks_at e i)) (swept_there e (after e ts) holds i is);
+    all_objects = λ e ts x ended legal all is. let holds = after_all e ts ended legal in holds.good.only_since x (all_cut e (after e ts) holds all (x / 64)) is;
+    all_marks = λ e ts i ended legal all. let holds = after_all e ts ended legal in holds.good.marks i ∙ ap (λ (b : Bool). cond b 0 (marks_at e i)) (all_clear e (after e ts) holds all i);
   }
 
   pub unswept_stays : UnsweptStays
