@@ -1,0 +1,140 @@
+-- The end of marking: where nothing is left each object that a path leads to is marked, and what is dead is white.
+use Rattle.std.proofs.Common.{◌≡◌, ℕ, ◌+◌, ◌<◌, Bool, true, arith, refl, sym, ◌∙◌, ap, inl, inr, Some, None}
+use Rattle.std.proofs.lemmas.Bool.Decides.{eqb_tells}
+use Rattle.gh_base.specs.declared.cell.Cell.TheVariants as cell
+use Rattle.gh_base.specs.declared.limits.TheConstants.{REGISTERS}
+use Rattle.gh_base.specs.Rows.{RowsAreWritten, mark_words, row_bit}
+use Rattle.gh_marks.specs.Colours.{Black, Buffered, Claimed, Colour, Cycle, IsGrey, IsMarked, IsShaded, Pending, Placing, Progress, Read, Scanned, Shared, Taken, Untouched, Waits, White, mark_of, rows}
+use Rattle.gh_marks.specs.Ends.{IsDone, IsFound, Reached, from_field, from_global, from_register}
+use Rattle.gh_marks.specs.Good.{Good}
+use Rattle.gh_marks.specs.Laws.{EachMoveLeavesTheDead, MarkingEndsClean, TheDeadAreWhite, WhatIsFoundIsDone}
+use Rattle.gh_marks.specs.Moves.{Blacken, ClaimGlobal, EndStack, Enter, GiveBuffer, IsDead, May, Move, PassGlobals, Place, PutField, PutGlobal, Quiet, ReadGlobal, Reserve, ScanGlobal, ScanStack, SetRegister, Shade, ShadeAgain, ShadeFlat, TakeBuffer, TakeEntry, moved}
+use Rattle.gh_marks.specs.Seats.{ClaimOf, NoClaim, ReadOf}
+use Rattle.gh_marks.proofs.Bits.{alloc-other, one-zero, two-ways}
+use Rattle.gh_marks.proofs.Paths.{none-protected}
+use Rattle.gh_marks.proofs.Quiet.{ReadRows, Unread, unread}
+
+nobody : {P : Type 0} (o : ℕ) → None ≡ Some o → P
+nobody o e = cc
+
+no-claim : {P : Type 0} (i : ℕ) → NoClaim ≡ ClaimOf i → P
+no-claim i e = cc
+
+no-read : {P : Type 0} (i v : ℕ) → NoClaim ≡ ReadOf i v → P
+no-read i v e = cc
+
+-- Nobody has anything, and no buffer has an entry: so nothing is grey, and no global waits.
+module _ (z : Cycle) (s : Shared) (g : Good z s) (f : IsFound z s) where
+  empty : (b : ℕ) → s.filled b ≡ 0
+  empty b = let zero : s.words (cell.Buffer b) ≡ 0 = f.empty b in sym (g.counts.free b (omega (arith, zero))) ∙ zero
+
+  no-grey : (o : ℕ) → IsGrey (s.colour o) → ⊥
+  no-grey o = go (s.colour o) refl where
+    go : (c : Colour) → s.colour o ≡ c → IsGrey c → ⊥
+    go White e x = x
+    go (Placing a) e x = x
+    go (Pending a) e x = nobody o (((f.seats a).has.is_pending o).1 e)
+    go (Buffered b j) e x = omega (arith, (g.entries.buffered o b j e).0, empty b)
+    go (Taken a) e x = nobody o (((f.seats a).has.is_taken o).1 e)
+    go Black e x = x
+
+  all-scanned : (i : ℕ) → i < z.arena.layout.globals → s.progress i ≡ Scanned
+  all-scanned i l = go (s.progress i) refl where
+    go : (c : Progress) → s.progress i ≡ c → s.progress i ≡ Scanned
+    go Untouched e = absurd (omega (arith, g.cursor.untouched i l e, f.cursor))
+    go (Claimed a) e = no-claim i (((f.seats a).has.is_claimed i).1 e)
+    go (Read a v) e = no-read i v (((f.seats a).has.is_read i v).1 e)
+    go Scanned e = e
+
+pub found-done : WhatIsFoundIsDone
+found-done z s g f = record { no_grey = no-grey z s g f; globals = all-scanned z s g f; stacks = f.stacks }
+
+-- Nothing is left: what globals and stacks hold is marked, what is marked is black, and what a black object names is marked.
+module _ (z : Cycle) (s : Shared) (g : Good z s) (d : IsDone z s) where
+  record IsKept (o : ℕ) : Type 0 where
+    pub marked : IsMarked (mark_words s.words) o
+    pub known : s.since o ≡ true
+
+  black : (o : ℕ) → IsKept o → s.colour o ≡ Black
+  black o h = go (s.colour o) refl where
+    grey : {P : Type 0} (c : Colour) → s.colour o ≡ c → IsGrey c → P
+    grey c e x = absurd (d.no_grey o (rw e x))
+
+    go : (c : Colour) → s.colour o ≡ c → s.colour o ≡ Black
+    go White e = one-zero h.marked (g.marks o ∙ ap mark_of e)
+    go (Placing a) e = absurd (g.objects.placing o a e (g.objects.placed o h.known))
+    go (Pending a) e = grey (Pending a) e tt
+    go (Buffered b j) e = grey (Buffered b j) e tt
+    go (Taken a) e = grey (Taken a) e tt
+    go Black e = e
+
+  none-waits : (i : ℕ) → i < z.arena.layout.globals → Waits (s.progress i) → ⊥
+  none-waits i l x = rw (d.globals i l) at x
+
+  register-kept : (h q o : ℕ) → h < z.arena.layout.goroutines → q < REGISTERS → s.registers h q ≡ o + 1 → IsMarked (mark_words s.words) o
+  register-kept h q o n l e = elim (d.stacks h n) [
+    | inr end ↦ absurd (none (g.stacks.over h q end))
+    | inl number ↦ elim (g.stacks.black h q number l o e) [ inl one ↦ one | inr p ↦ absurd (none-protected z.arena.layout.globals (rows s) d.no_grey none-waits o p) ]
+  ] where
+    none : s.registers h q ≡ 0 → ⊥
+    none zero = omega (arith, zero, e)
+
+  reached-kept : (o : ℕ) → Reached z s o → IsKept o
+  reached-kept o (from_global i o' l e) = record { marked = g.cursor.scanned i (d.globals i l) o e; known = g.values.globals i o e }
+  reached-kept o (from_register h q o' n l e) = record { marked = register-kept h q o n l e; known = g.values.stacks h q o e }
+  reached-kept o (from_field p k o' r l e) =
+      let kept : IsKept p = reached-kept p r in
+      record { marked = g.blacks p k (black p kept) l o e; known = g.values.fields p k kept.known l o e }
+
+pub ends-clean : MarkingEndsClean
+ends-clean z s g d o r = (reached-kept z s g d o r).marked
+
+-- What is dead is not of the cycle, and nothing else is shaded.
+pub dead-white : TheDeadAreWhite
+dead-white z s g o h = go (s.colour o) refl where
+  clash : {P : Type 0} (c : Colour) → s.colour o ≡ c → IsShaded c → P
+  clash c e x = two-ways (g.objects.shaded o (rw e x)) h.dead
+
+  go : (c : Colour) → s.colour o ≡ c → row_bit (mark_words s.words) o ≡ 0
+  go White e = g.marks o ∙ ap mark_of e
+  go (Placing a) e = absurd (g.objects.placing o a e h.placed)
+  go (Pending a) e = clash (Pending a) e tt
+  go (Buffered b j) e = clash (Buffered b j) e tt
+  go (Taken a) e = clash (Taken a) e tt
+  go Black e = clash Black e tt
+
+module _ (k : RowsAreWritten) (z : Cycle) (a : ℕ) (s : Shared) (g : Good z s) (o : ℕ) (h : IsDead s o) where
+  dead-place : (p size : ℕ) (pointer : ℕ → Bool) (noscan : Bool) → May z a s (Place p size pointer noscan) → IsDead (moved z a s (Place p size pointer noscan)) o
+  dead-place p size pointer noscan may = elim (eqb_tells p o) [
+    | inl y ↦ absurd (g.objects.placing p a may.reserved (rw (y.1) h.placed))
+    | inr n ↦ record { placed = alloc-other k s.words p o n.1 ∙ h.placed; dead = rw (n.0) h.dead }
+  ]
+
+  dead-quiet : (step : _) → May z a s (Quiet step) → IsDead (moved z a s (Quiet step)) o
+  dead-quiet step may = let u : Unread s (moved z a s (Quiet step)).words = unread s step may in
+      record { placed = ap (λ (r : ReadRows). row_bit r.alloc o) u.rows_are ∙ h.placed; dead = h.dead }
+
+  dead-moved : (m : Move) → May z a s m → IsDead (moved z a s m) o
+  dead-moved (Quiet step) may = dead-quiet step may
+  dead-moved (Shade p) may = record { placed = h.placed; dead = h.dead }
+  dead-moved (ShadeFlat p) may = record { placed = h.placed; dead = h.dead }
+  dead-moved (ShadeAgain p) may = record { placed = h.placed; dead = h.dead }
+  dead-moved (TakeBuffer b) may = record { placed = h.placed; dead = h.dead }
+  dead-moved (GiveBuffer b) may = record { placed = h.placed; dead = h.dead }
+  dead-moved (Enter b p) may = record { placed = h.placed; dead = h.dead }
+  dead-moved (TakeEntry b p) may = record { placed = h.placed; dead = h.dead }
+  dead-moved (Blacken p) may = record { placed = h.placed; dead = h.dead }
+  dead-moved (PutField x v) may = record { placed = h.placed; dead = h.dead }
+  dead-moved (PutGlobal i v) may = record { placed = h.placed; dead = h.dead }
+  dead-moved (ClaimGlobal i) may = record { placed = h.placed; dead = h.dead }
+  dead-moved (PassGlobals i) may = record { placed = h.placed; dead = h.dead }
+  dead-moved (ReadGlobal i) may = record { placed = h.placed; dead = h.dead }
+  dead-moved (ScanGlobal i v) may = record { placed = h.placed; dead = h.dead }
+  dead-moved (SetRegister f d v) may = record { placed = h.placed; dead = h.dead }
+  dead-moved (ScanStack f) may = record { placed = h.placed; dead = h.dead }
+  dead-moved (EndStack f) may = record { placed = h.placed; dead = h.dead }
+  dead-moved (Reserve p) may = record { placed = h.placed; dead = h.dead }
+  dead-moved (Place p size pointer noscan) may = dead-place p size pointer noscan may
+
+pub each-move-leaves-the-dead : RowsAreWritten → EachMoveLeavesTheDead
+each-move-leaves-the-dead k z a s m g may o h = dead-moved k z a s g o h m may

@@ -1,0 +1,187 @@
+-- What a seat has in hand after its own move.
+use Rattle.std.proofs.Common.{◌≡◌, ◌≢◌, ℕ, ◌+◌, ◌-◌, ◌*◌, ◌/◌, arith, refl, sym, ◌∙◌, ap, inl, inr, subst, Option, Some, None}
+use Rattle.std.specs.Prelude.{◌↔◌}
+use Rattle.std.proofs.lemmas.Bool.Decides.{nat_tests, eqb_tells}
+use Rattle.gh_base.specs.declared.cell.Ask.{Ask}
+use Rattle.gh_base.specs.declared.cell.Cell.TheVariants as cell
+use Rattle.gh_base.specs.declared.held.Held.{Held}
+use Rattle.gh_base.specs.Holding.{Holds, IsIt, KnowsCount, holder_in}
+use Rattle.gh_base.specs.Rows.{Row, mark_words}
+use Rattle.gh_heap.specs.Moves.{update}
+use Rattle.gh_marks.specs.Colours.{Black, Buffered, Claimed, Colour, Cycle, Pending, Placing, Read, Scanned, Shared, Taken, White, buffers_of, entry_words}
+use Rattle.gh_marks.specs.Good.{Good}
+use Rattle.gh_marks.specs.Laws.{EachHandFollows}
+use Rattle.gh_marks.specs.Moves.{Enter, GiveBuffer, May, Quiet, TakeBuffer, moved}
+use Rattle.gh_marks.specs.Seats.{ClaimOf, Hands, Has, InHand, NoClaim, ReadOf}
+use Rattle.gh_marks.proofs.Bits.{white-colour}
+use Rattle.gh_marks.proofs.Quiet.{ReadRows, Unread, unread}
+
+module _ (z : Cycle) (a : ℕ) (s : Shared) (h : InHand) (g : Good z s) (x : Hands a s h) where
+  -- what is said of colours and globals
+  has-white : (o : ℕ) → s.colour o ≡ White → (c : Colour) → c ≢ Pending a → c ≢ Taken a → c ≢ Placing a → Has (update s.colour o c) s.progress a h.pending h.scanning h.placing h.claim
+  has-white o white c p t r = record {
+    is_pending = λ q. one q (Pending a) (h.pending ≡ Some q) (λ e. cc) p (x.has.is_pending q);
+    is_taken = λ q. one q (Taken a) (h.scanning ≡ Some q) (λ e. cc) t (x.has.is_taken q);
+    is_reserved = λ q. one q (Placing a) (h.placing ≡ Some q) (λ e. cc) r (x.has.is_reserved q);
+    is_claimed = x.has.is_claimed;
+    is_read = x.has.is_read;
+  } where
+    one : (q : ℕ) (d : Colour) (P : Type 0) → White ≢ d → c ≢ d → (P ↔ (s.colour q ≡ d)) → (P ↔ (update s.colour o c q ≡ d))
+    one q d P ne other is = elim (eqb_tells o q) [
+      | inr n ↦ rw (n.0) is
+      | inl y ↦ rw (y.0) ((λ k. absurd (ne (sym white ∙ (ap s.colour y.1 ∙ is.0 k)))), (λ k. absurd (other k)))
+    ]
+
+  has-shade : (o : ℕ) → s.colour o ≡ White → h.pending ≡ None → Has (update s.colour o (Pending a)) s.progress a (Some o) h.scanning h.placing h.claim
+  has-shade o white none = record {
+    is_pending = λ q. grind (arith, nat_tests, x.has.is_pending q, none);
+    is_taken = λ q. grind (arith, nat_tests, x.has.is_taken q, white);
+    is_reserved = λ q. grind (arith, nat_tests, x.has.is_reserved q, white);
+    is_claimed = x.has.is_claimed;
+    is_read = x.has.is_read;
+  }
+
+  has-enter : (b j o : ℕ) → h.pending ≡ Some o → Has (update s.colour o (Buffered b j)) s.progress a None h.scanning h.placing h.claim
+  has-enter b j o some =
+      let was : s.colour o ≡ Pending a = (x.has.is_pending o).0 some in
+      record {
+        is_pending = λ q. grind (arith, nat_tests, x.has.is_pending q, some);
+        is_taken = λ q. grind (arith, nat_tests, x.has.is_taken q, was);
+        is_reserved = λ q. grind (arith, nat_tests, x.has.is_reserved q, was);
+        is_claimed = x.has.is_claimed;
+        is_read = x.has.is_read;
+      }
+
+  has-take : (b j o : ℕ) → s.colour o ≡ Buffered b j → h.scanning ≡ None → Has (update s.colour o (Taken a)) s.progress a h.pending (Some o) h.placing h.claim
+  has-take b j o was none = record {
+    is_pending = λ q. grind (arith, nat_tests, x.has.is_pending q, was);
+    is_taken = λ q. grind (arith, nat_tests, x.has.is_taken q, none);
+    is_reserved = λ q. grind (arith, nat_tests, x.has.is_reserved q, was);
+    is_claimed = x.has.is_claimed;
+    is_read = x.has.is_read;
+  }
+
+  has-black : (o : ℕ) → h.scanning ≡ Some o → Has (update s.colour o Black) s.progress a h.pending None h.placing h.claim
+  has-black o some =
+      let was : s.colour o ≡ Taken a = (x.has.is_taken o).0 some in
+      record {
+        is_pending = λ q. grind (arith, nat_tests, x.has.is_pending q, was);
+        is_taken = λ q. grind (arith, nat_tests, x.has.is_taken q, some);
+        is_reserved = λ q. grind (arith, nat_tests, x.has.is_reserved q, was);
+        is_claimed = x.has.is_claimed;
+        is_read = x.has.is_read;
+      }
+
+  has-reserve : (o : ℕ) → s.colour o ≡ White → h.placing ≡ None → Has (update s.colour o (Placing a)) s.progress a h.pending h.scanning (Some o) h.claim
+  has-reserve o white none = record {
+    is_pending = λ q. grind (arith, nat_tests, x.has.is_pending q, white);
+    is_taken = λ q. grind (arith, nat_tests, x.has.is_taken q, white);
+    is_reserved = λ q. grind (arith, nat_tests, x.has.is_reserved q, none);
+    is_claimed = x.has.is_claimed;
+    is_read = x.has.is_read;
+  }
+
+  has-place : (o : ℕ) → h.placing ≡ Some o → Has (update s.colour o Black) s.progress a h.pending h.scanning None h.claim
+  has-place o some =
+      let was : s.colour o ≡ Placing a = (x.has.is_reserved o).0 some in
+      record {
+        is_pending = λ q. grind (arith, nat_tests, x.has.is_pending q, was);
+        is_taken = λ q. grind (arith, nat_tests, x.has.is_taken q, was);
+        is_reserved = λ q. grind (arith, nat_tests, x.has.is_reserved q, some);
+        is_claimed = x.has.is_claimed;
+        is_read = x.has.is_read;
+      }
+
+  has-claim : (i : ℕ) → h.claim ≡ NoClaim → Has s.colour (update s.progress i (Claimed a)) a h.pending h.scanning h.placing (ClaimOf i)
+  has-claim i none = record {
+    is_pending = x.has.is_pending;
+    is_taken = x.has.is_taken;
+    is_reserved = x.has.is_reserved;
+    is_claimed = λ j. grind (arith, nat_tests, x.has.is_claimed j, none);
+    is_read = λ j v. grind (arith, nat_tests, x.has.is_read j v, none);
+  }
+
+  has-read : (i value : ℕ) → h.claim ≡ ClaimOf i → Has s.colour (update s.progress i (Read a value)) a h.pending h.scanning h.placing (ReadOf i value)
+  has-read i value some = record {
+    is_pending = x.has.is_pending;
+    is_taken = x.has.is_taken;
+    is_reserved = x.has.is_reserved;
+    is_claimed = λ j. grind (arith, nat_tests, x.has.is_claimed j, some);
+    is_read = λ j v. grind (arith, nat_tests, x.has.is_read j v, some);
+  }
+
+  has-scan : (i value : ℕ) → h.claim ≡ ReadOf i value → Has s.colour (update s.progress i Scanned) a h.pending h.scanning h.placing NoClaim
+  has-scan i value some = record {
+    is_pending = x.has.is_pending;
+    is_taken = x.has.is_taken;
+    is_reserved = x.has.is_reserved;
+    is_claimed = λ j. grind (arith, nat_tests, x.has.is_claimed j, some);
+    is_read = λ j v. grind (arith, nat_tests, x.has.is_read j v, some);
+  }
+
+  -- what is said of the buffers
+  holds-quiet : (step : Ask) → May z a s (Quiet step) → Holds (buffers_of (moved z a s (Quiet step)).words s.filled) a h.held
+  holds-quiet step may =
+      let u : Unread s (moved z a s (Quiet step)).words = unread s step may in
+      subst (λ (r : ReadRows). Holds (record { words = r.buffer; entries = r.entry; filled = s.filled }) a h.held) (sym u.rows_are) x.holds
+
+  only-one : (own : Held) → h.held ≡ Some own → (b : ℕ) → (holder_in (s.words (cell.Buffer b)) ≡ a + 1) ↔ (own.index ≡ b)
+  only-one own e b = subst (λ (held : Option Held). (holder_in (s.words (cell.Buffer b)) ≡ a + 1) ↔ IsIt held b) e (x.holds.only b)
+
+  count-is : (own : Held) → h.held ≡ Some own → s.filled own.index ≡ own.count
+  count-is own e = subst (λ (held : Option Held). KnowsCount s.filled held) e x.holds.count
+
+  holds-take : (b : ℕ) → May z a s (TakeBuffer b) → h.held ≡ None → Holds (buffers_of (moved z a s (TakeBuffer b)).words s.filled) a (Some (record { index = b; count = s.filled b }))
+  holds-take b may none = record { only = only; count = refl } where
+    nobody : (d : ℕ) → holder_in (s.words (cell.Buffer d)) ≡ a + 1 → ⊥
+    nobody d e = subst (λ (held : Option Held). IsIt held d) none ((x.holds.only d).0 e)
+
+    is : (s.filled b + 256 * (a + 1)) / 256 ≡ a + 1
+    is = omega (arith, g.counts.few b)
+
+    only : (d : ℕ) → (holder_in ((moved z a s (TakeBuffer b)).words (cell.Buffer d)) ≡ a + 1) ↔ (b ≡ d)
+    only d = elim (eqb_tells b d) [
+      | inl y ↦ rw (y.0) ((λ e. y.1), (λ e. is))
+      | inr n ↦ rw (n.0) ((λ e. absurd (nobody d e)), (λ e. absurd (n.1 e)))
+    ]
+
+  holds-give : (own : Held) → h.held ≡ Some own → Holds (buffers_of (moved z a s (GiveBuffer own.index)).words s.filled) a None
+  holds-give own e = record { only = only; count = tt } where
+    none : s.filled own.index / 256 ≡ a + 1 → ⊥
+    none k = omega (arith, k, g.counts.few own.index)
+
+    only : (d : ℕ) → (holder_in ((moved z a s (GiveBuffer own.index)).words (cell.Buffer d)) ≡ a + 1) ↔ ⊥
+    only d = elim (eqb_tells own.index d) [
+      | inl y ↦ rw (y.0) ((λ k. none k), (λ k. absurd k))
+      | inr n ↦ rw (n.0) ((λ k. n.1 ((only-one own e d).0 k)), (λ k. absurd k))
+    ]
+
+  holds-enter : (own : Held) (entry : ℕ → Row) → h.held ≡ Some own → Holds (record { words = (buffers_of s.words s.filled).words; entries = entry; filled = update s.filled own.index (s.filled own.index + 1) }) a (Some (record { index = own.index; count = own.count + 1 }))
+  holds-enter own entry e = record { only = only-one own e; count = grind (arith, nat_tests, count-is own e) }
+
+  holds-less : (own : Held) → h.held ≡ Some own → Holds (buffers_of s.words (update s.filled own.index (s.filled own.index - 1))) a (Some (record { index = own.index; count = own.count - 1 }))
+  holds-less own e = record { only = only-one own e; count = grind (arith, nat_tests, count-is own e) }
+
+pub hands-follow : EachHandFollows
+hands-follow z a s h g x = record {
+  quiet = λ step may. record { holds = holds-quiet z a s h g x step may; has = x.has };
+  shaded = λ o may none. record { holds = x.holds; has = has-shade z a s h g x o (white-colour (mark_words s.words) s.colour g.marks o may.0.white) none };
+  flat = λ o may. record { holds = x.holds; has = has-white z a s h g x o (white-colour (mark_words s.words) s.colour g.marks o may.0.white) Black (λ e. cc) (λ e. cc) (λ e. cc) };
+  again = λ o. record { holds = x.holds; has = x.has };
+  takes_buffer = λ b may none. record { holds = holds-take z a s h g x b may none; has = x.has };
+  gives_buffer = λ own e. record { holds = holds-give z a s h g x own e; has = x.has };
+  entered = λ own o may e some. record { holds = holds-enter z a s h g x own (entry_words (moved z a s (Enter own.index o)).words) e; has = has-enter z a s h g x own.index (s.filled own.index) o some };
+  takes_entry = λ own o may e none. record { holds = holds-less z a s h g x own e; has = has-take z a s h g x own.index (s.filled own.index - 1) o (g.entries.entered own.index (s.filled own.index - 1) o (omega (arith, may.some)) may.entry) none };
+  blackened = λ o some. record { holds = x.holds; has = has-black z a s h g x o some };
+  put_field = λ y v. record { holds = x.holds; has = x.has };
+  put_global = λ i v. record { holds = x.holds; has = x.has };
+  claimed = λ i may none. record { holds = x.holds; has = has-claim z a s h g x i none };
+  passed = λ i. record { holds = x.holds; has = x.has };
+  read = λ i some. record { holds = x.holds; has = has-read z a s h g x i (s.words (cell.Global i)) some };
+  scanned = λ i v some. record { holds = x.holds; has = has-scan z a s h g x i v some };
+  set = λ f d v. record { holds = x.holds; has = x.has };
+  scanned_stack = λ f. record { holds = x.holds; has = x.has };
+  ended = λ f. record { holds = x.holds; has = x.has };
+  reserved = λ o may none. record { holds = x.holds; has = has-reserve z a s h g x o may.white none };
+  placed = λ o size pointer noscan some. record { holds = x.holds; has = has-place z a s h g x o some };
+}

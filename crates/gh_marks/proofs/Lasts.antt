@@ -1,0 +1,90 @@
+-- What a seat relies on lasts; and what steps of one or two moves leave.
+use Rattle.std.proofs.Common.{◌≡◌, ℕ, ◌+◌, refl, sym, ◌∙◌, inl, inr, ◌⊎◌, Option, Some, None}
+use Rattle.gh_base.specs.declared.cell.Cell.TheVariants as cell
+use Rattle.gh_base.specs.declared.held.Held.{Held}
+use Rattle.gh_base.specs.Holding.{Holds, KnowsCount}
+use Rattle.gh_base.specs.Rows.{Row, mark_words}
+use Rattle.gh_marks.specs.Colours.{Cycle, Extents, IsClean, IsMarked, IsPointer, Shared, buffers_of}
+use Rattle.gh_marks.specs.Laws.{EachFactLasts, EachHandLasts, EachMoveKeeps, EachMoveLeaves, EachMoveLeavesTheDead, EachStepGoesByMoves, StepsGoByMoves}
+use Rattle.gh_marks.specs.Moves.{Keeps, Others, SameExtent, goes, moved, stays}
+use Rattle.gh_marks.proofs.Leaves.{iff-then, others-same, same-iff}
+
+pointer-then : (e f : Extents) (o k : ℕ) → SameExtent e f o → IsPointer e o k → IsPointer f o k
+pointer-then e f o k x h = (rw (x.size) h.0, rw (x.pointer) h.1, rw (x.noscan) h.2)
+
+pointer-was : (e f : Extents) (o k : ℕ) → SameExtent e f o → IsPointer f o k → IsPointer e o k
+pointer-was e f o k x h = (rw (x.size) at h.0, rw (x.pointer) at h.1, rw (x.noscan) at h.2)
+
+extent-then : (e f g : Extents) (o : ℕ) → SameExtent e f o → SameExtent f g o → SameExtent e g o
+extent-then e f g o x y = record { size = y.size ∙ x.size; pointer = y.pointer ∙ x.pointer; noscan = y.noscan ∙ x.noscan }
+
+-- a word that stays or is clean then, and was clean
+word-clean : (m n : Row) (v w : ℕ) → ((o : ℕ) → IsMarked m o → IsMarked n o) → (w ≡ v) ⊎ IsClean n w → IsClean m v → IsClean n w
+word-clean m n v w grow (inr c) h = c
+word-clean m n v w grow (inl e) h = λ o x. grow o (h o (sym e ∙ x))
+
+-- a word that stays or is clean, twice
+word-then : (n : Row) (m : Row) (u v w : ℕ) → ((o : ℕ) → IsMarked m o → IsMarked n o) → (v ≡ u) ⊎ IsClean m v → (w ≡ v) ⊎ IsClean n w → (w ≡ u) ⊎ IsClean n w
+word-then n m u v w grow x (inr c) = inr c
+word-then n m u v w grow (inl e) (inl f) = inl (f ∙ e)
+word-then n m u v w grow (inr c) (inl f) = inr (λ o y. grow o (c o (sym f ∙ y)))
+
+pub keeps-then : (z : Cycle) (a : ℕ) (s t u : Shared) → Keeps z a s t → Keeps z a t u → Keeps z a s u
+keeps-then z a s t u p q = record {
+  marks = λ o h. q.marks o (p.marks o h);
+  since = λ o h. q.since o (p.since o h);
+  extents = λ o h. extent-then s.extents t.extents u.extents o (p.extents o h) (q.extents o (p.since o h));
+  fields = λ o k i l. word-then (mark_words u.words) (mark_words t.words) (s.words (cell.Field (o + k))) (t.words (cell.Field (o + k))) (u.words (cell.Field (o + k))) q.marks (p.fields o k i l) (q.fields o k (p.since o i) (pointer-then s.extents t.extents o k (p.extents o i) l));
+  globals = λ i. word-then (mark_words u.words) (mark_words t.words) (s.words (cell.Global i)) (t.words (cell.Global i)) (u.words (cell.Global i)) q.marks (p.globals i) (q.globals i);
+  registers = λ g d own. q.registers g d own ∙ p.registers g d own;
+  stacks = λ g own. q.stacks g own ∙ p.stacks g own;
+}
+
+others-then : (z : Cycle) (a : ℕ) (s t u : Shared) → Others z a s t → Others z a t u → Others z a s u
+others-then z a s t u p q = record {
+  keeps = keeps-then z a s t u p.keeps q.keeps;
+  pending = λ o. iff-then (p.pending o) (q.pending o);
+  taken = λ o. iff-then (p.taken o) (q.taken o);
+  placing = λ o. iff-then (p.placing o) (q.placing o);
+  claimed = λ i. iff-then (p.claimed i) (q.claimed i);
+  read = λ i v. iff-then (p.read i v) (q.read i v);
+  held = λ b. iff-then (p.held b) (q.held b);
+  filled = λ b h. q.filled b ((p.held b).0 h) ∙ p.filled b h;
+}
+
+pub facts-last : EachFactLasts
+facts-last z a s t k = record {
+  clean = λ value h o e. k.marks o (h o e);
+  since = λ value h o e. k.since o (h o e);
+  field = λ o j i l h. word-clean (mark_words s.words) (mark_words t.words) (s.words (cell.Field (o + j))) (t.words (cell.Field (o + j))) k.marks (k.fields o j i l) h;
+  global = λ i h. word-clean (mark_words s.words) (mark_words t.words) (s.words (cell.Global i)) (t.words (cell.Global i)) k.marks (k.globals i) h;
+  register = λ g d own h. word-clean (mark_words s.words) (mark_words t.words) (s.registers g d) (t.registers g d) k.marks (inl (k.registers g d own)) h;
+  pointer = λ o j i l. pointer-then s.extents t.extents o j (k.extents o i) l;
+  pointer_was = λ o j i l. pointer-was s.extents t.extents o j (k.extents o i) l;
+}
+
+pub hands-last : EachHandLasts
+hands-last z a s t h o x = record {
+  holds = record { only = λ b. iff-then ((λ y. (x.holds.only b).0 ((o.held b).1 y)), (λ y. (o.held b).0 ((x.holds.only b).1 y))) same-iff; count = count h.held x.holds };
+  has = record {
+    is_pending = λ p. iff-then (x.has.is_pending p) (o.pending p);
+    is_taken = λ p. iff-then (x.has.is_taken p) (o.taken p);
+    is_reserved = λ p. iff-then (x.has.is_reserved p) (o.placing p);
+    is_claimed = λ i. iff-then (x.has.is_claimed i) (o.claimed i);
+    is_read = λ i v. iff-then (x.has.is_read i v) (o.read i v);
+  };
+} where
+  count : (held : Option Held) → Holds (buffers_of s.words s.filled) a held → KnowsCount t.filled held
+  count None y = tt
+  count (Some own) y = o.filled own.index ((y.only own.index).1 refl) ∙ y.count
+
+-- each step
+pub steps-go : EachMoveKeeps → EachMoveLeaves → EachMoveLeavesTheDead → EachStepGoesByMoves
+steps-go keep leave dead z a s t g stays = record { good = g; others = λ b ne. others-same z b s; dead = λ o h. h }
+steps-go keep leave dead z a s t g (goes u m w may) = further (steps-go keep leave dead z a s u g w) where
+  further : StepsGoByMoves z a s u → StepsGoByMoves z a s (moved z a u m)
+  further x = record {
+    good = keep z a u m x.good may;
+    others = λ b ne. others-then z b s u (moved z a u m) (x.others b ne) (leave z b a u m ne x.good may);
+    dead = λ o h. dead z a u m x.good may o (x.dead o h);
+  }

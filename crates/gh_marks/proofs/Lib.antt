@@ -1,0 +1,11 @@
+mod Bits
+mod Ending
+mod Follows
+mod Guarding
+mod Keeps
+mod Lasts
+mod Leaves
+mod Moving
+mod MovingRoots
+mod Paths
+mod Quiet

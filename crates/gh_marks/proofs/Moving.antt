@@ -1,0 +1,194 @@
+-- Each move keeps what holds at every moment.
+use Rattle.std.proofs.Common.{◌≡◌, ◌≢◌, ℕ, ◌+◌, ◌-◌, arith, refl, sym, ap, ◌∙◌, inl, inr, subst}
+use Rattle.std.proofs.lemmas.Bool.Decides.{nat_tests, eqb_tells}
+use Rattle.gh_base.specs.declared.cell.Cell.TheVariants as cell
+use Rattle.gh_base.specs.Holding.{AreCounted, BuffersAreHeld}
+use Rattle.gh_base.specs.Holding as holding
+use Rattle.gh_base.specs.Rows.{RowsAreWritten, alloc_words, field_words, global_words, mark_words, row_bit}
+use Rattle.gh_heap.specs.Moves.{update}
+use Rattle.gh_marks.specs.Colours.{Black, Buffered, Colour, Cycle, IsSafe, IsSince, Pending, Placing, Shared, Taken, White, buffers_of, entry_words, mark_of, rows, scanned_words}
+use Rattle.gh_marks.specs.Good.{BlacksGood, CursorGood, EntriesGood, Good, MarksGood, ObjectsGood, StacksGood}
+use Rattle.gh_marks.specs.Moves.{Blacken, Enter, GiveBuffer, May, MayShade, Move, PutField, PutGlobal, Quiet, Reserve, Shade, ShadeAgain, ShadeFlat, TakeBuffer, TakeEntry, moved, set_mark}
+use Rattle.gh_marks.proofs.Bits.{marked-again, marked-set, marked-still, marks-grow, two-ways, white-colour}
+use Rattle.gh_marks.proofs.Guarding.{guards-moved}
+use Rattle.gh_marks.proofs.Keeps.{blacks-apart, blacks-grow, cursor-grows, entries-apart, objects-coloured, objects-shaded, stacks-kept}
+use Rattle.gh_marks.proofs.Quiet.{ReadRows, Unread, unread}
+
+-- what the laws of gh_base say
+pub record Known : Type 0 where
+  pub rows : RowsAreWritten
+  pub held : BuffersAreHeld
+
+module _ (know : Known) (z : Cycle) (a : ℕ) (s : Shared) (g : Good z s) where
+  abbrev Kept : Move → Type 0
+  Kept m = May z a s m → Good z (moved z a s m)
+
+  abbrev pub StacksOf : Shared → Type 0
+  StacksOf t = StacksGood z.number (scanned_words t.words) t.registers (IsSafe z.arena.layout.globals (rows t))
+
+  pub stacks : (m : Move) → May z a s m → ((h : ℕ) → (moved z a s m).words (cell.Scanned h) ≡ s.words (cell.Scanned h)) → ((h d : ℕ) → (moved z a s m).registers h d ≡ s.registers h d) → StacksOf (moved z a s m)
+  stacks m may same regs = stacks-kept z s (moved z a s m) g (guards-moved z s g know.rows a m may) same regs
+
+  counts : (m : holding.Move) → holding.May a (buffers_of s.words s.filled) m → AreCounted (holding.moved a (buffers_of s.words s.filled) m)
+  counts m may = (know.held.keep a (buffers_of s.words s.filled) m g.counts may).counted
+
+  pub good-quiet : (step : _) → Kept (Quiet step)
+  good-quiet step may = record {
+    marks = subst (λ (r : ReadRows). MarksGood r.mark s.colour) (sym u.rows_are) g.marks;
+    objects = subst (λ (r : ReadRows). ObjectsGood r.alloc s.colour s.since s.extents) (sym u.rows_are) g.objects;
+    counts = subst (λ (r : ReadRows). AreCounted (record { words = r.buffer; entries = r.entry; filled = s.filled })) (sym u.rows_are) g.counts;
+    entries = subst (λ (r : ReadRows). EntriesGood r.entry s.filled s.colour) (sym u.rows_are) g.entries;
+    values = record {
+      fields = λ o k i l p e. g.values.fields o k i l p (sym (u.fields o k i l) ∙ e);
+      globals = subst (λ (r : ReadRows). (i : ℕ) → IsSince s.since (r.global i)) (sym u.rows_are) g.values.globals;
+      stacks = g.values.stacks;
+    };
+    blacks = λ o k h l p e. subst (λ (r : ReadRows). row_bit r.mark p ≡ 1) (sym u.rows_are) (g.blacks o k h l p (sym (u.fields o k (g.objects.shaded o (rw h tt)) l) ∙ e));
+    cursor = subst (λ (r : ReadRows). CursorGood z.arena.layout.globals r.gcur r.global s.progress r.mark) (sym u.rows_are) g.cursor;
+    stacks = stacks (Quiet step) may (λ h. ap (λ (r : ReadRows). r.scanned h) u.rows_are) (λ h d. refl);
+  } where
+    u : Unread s (moved z a s (Quiet step)).words
+    u = unread s step may
+
+  -- a mark bit is set
+  set : (m : Move) (o : ℕ) (c : Colour) → MarksGood (mark_words s.words) s.colour → s.colour o ≡ White → mark_of c ≡ 1 → ((b j : ℕ) → c ≢ Buffered b j) → ObjectsGood (alloc_words s.words) (update s.colour o c) s.since s.extents →
+      BlacksGood s.extents (field_words s.words) (mark_words (set_mark s.words o)) (update s.colour o c) → StacksOf (record s { words = set_mark s.words o; colour = update s.colour o c }) → Good z (record s { words = set_mark s.words o; colour = update s.colour o c })
+  set m o c marks white one nb objects blacks stacks_are = record {
+    marks = marked-set know.rows s.words o s.colour c one marks;
+    objects = objects;
+    counts = g.counts;
+    entries = entries-apart (entry_words s.words) s.filled s.colour o c (λ b j e. white-buffered (sym white ∙ e)) nb g.entries;
+    values = g.values;
+    blacks = blacks;
+    cursor = cursor-grows z.arena.layout.globals (s.words cell.Gcur) (global_words s.words) s.progress (mark_words s.words) (mark_words (set_mark s.words o)) (marks-grow know.rows s.words o) g.cursor;
+    stacks = stacks_are;
+  } where
+    white-buffered : {b j : ℕ} → White ≡ Buffered b j → ⊥
+    white-buffered e = cc
+
+  blacks-set : (o : ℕ) → BlacksGood s.extents (field_words s.words) (mark_words (set_mark s.words o)) s.colour
+  blacks-set o = blacks-grow s.extents (field_words s.words) (mark_words s.words) (mark_words (set_mark s.words o)) s.colour (marks-grow know.rows s.words o) g.blacks
+
+  white-of : (o : ℕ) → MayShade s o → s.colour o ≡ White
+  white-of o may = white-colour (mark_words s.words) s.colour g.marks o may.white
+
+  pub good-shade : (o : ℕ) → Kept (Shade o)
+  good-shade o may = set (Shade o) o (Pending a) g.marks (white-of o may.0) refl (λ b j e. cc)
+      (objects-shaded (alloc_words s.words) s.colour s.since s.extents o (Pending a) may.0.since tt (λ h. may.1) g.objects)
+      (blacks-apart s.extents (field_words s.words) (mark_words (set_mark s.words o)) s.colour o (Pending a) (λ e. cc) (blacks-set o))
+      (stacks (Shade o) may (λ h. refl) (λ h d. refl))
+
+  pub good-flat : (o : ℕ) → Kept (ShadeFlat o)
+  good-flat o may = set (ShadeFlat o) o Black g.marks (white-of o may.0) refl (λ b j e. cc)
+      (objects-shaded (alloc_words s.words) s.colour s.since s.extents o Black may.0.since tt (λ h. absurd h) g.objects)
+      (λ p k h l. elim (eqb_tells o p) [ inl y ↦ two-ways may.1 (rw (y.1) l.2) | inr n ↦ blacks-set o p k (rw (n.0) at h) l ])
+      (stacks (ShadeFlat o) may (λ h. refl) (λ h d. refl))
+
+  pub good-reserve : (o : ℕ) → Kept (Reserve o)
+  good-reserve o may = set (Reserve o) o (Placing a) g.marks may.white refl (λ b j e. cc)
+      (objects-coloured (alloc_words s.words) s.colour s.since s.extents o (Placing a) (λ h. absurd h) (λ h. absurd h) (λ c e. may.empty) g.objects)
+      (blacks-apart s.extents (field_words s.words) (mark_words (set_mark s.words o)) s.colour o (Placing a) (λ e. cc) (blacks-set o))
+      (stacks (Reserve o) may (λ h. refl) (λ h d. refl))
+
+  pub good-again : (o : ℕ) → Kept (ShadeAgain o)
+  good-again o may = record {
+    marks = marked-still know.rows s.words o s.colour may g.marks;
+    objects = g.objects;
+    counts = g.counts;
+    entries = g.entries;
+    values = g.values;
+    blacks = blacks-set o;
+    cursor = cursor-grows z.arena.layout.globals (s.words cell.Gcur) (global_words s.words) s.progress (mark_words s.words) (mark_words (set_mark s.words o)) (marks-grow know.rows s.words o) g.cursor;
+    stacks = stacks (ShadeAgain o) may (λ h. refl) (λ h d. refl);
+  }
+
+  pub good-take_buffer : (b : ℕ) → Kept (TakeBuffer b)
+  good-take_buffer b may = record { marks = g.marks; objects = g.objects; counts = counts (holding.TakesBuffer b) may; entries = g.entries; values = g.values; blacks = g.blacks; cursor = g.cursor; stacks = g.stacks }
+
+  pub good-give_buffer : (b : ℕ) → Kept (GiveBuffer b)
+  good-give_buffer b may = record { marks = g.marks; objects = g.objects; counts = counts (holding.GivesBuffer b) may; entries = g.entries; values = g.values; blacks = g.blacks; cursor = g.cursor; stacks = g.stacks }
+
+  pub good-enter : (b o : ℕ) → Kept (Enter b o)
+  good-enter b o may = record {
+    marks = marked-again (mark_words s.words) s.colour o (Buffered b (s.filled b)) (rw (may.pending) refl) g.marks;
+    objects = objects-shaded (alloc_words s.words) s.colour s.since s.extents o (Buffered b (s.filled b)) (g.objects.shaded o (rw (may.pending) tt)) tt (λ h. g.objects.grey o (rw (may.pending) tt)) g.objects;
+    counts = counts (holding.PutsEntry b (o + 1)) (may.held, may.room);
+    entries = record {
+      some = λ c k h. grind (arith, nat_tests, g.entries.some c k);
+      entered = λ c k p h e. grind (arith, nat_tests, g.entries.entered c k p, may.pending);
+      buffered = λ p c k h. grind (arith, nat_tests, g.entries.buffered p c k);
+    };
+    values = g.values;
+    blacks = blacks-apart s.extents (field_words s.words) (mark_words s.words) s.colour o (Buffered b (s.filled b)) (λ e. cc) g.blacks;
+    cursor = g.cursor;
+    stacks = stacks (Enter b o) may (λ h. refl) (λ h d. refl);
+  }
+
+  pub good-take_entry : (b o : ℕ) → Kept (TakeEntry b o)
+  good-take_entry b o may =
+      let was : s.colour o ≡ Buffered b (s.filled b - 1) = g.entries.entered b (s.filled b - 1) o (omega (arith, may.some)) may.entry in
+      record {
+        marks = marked-again (mark_words s.words) s.colour o (Taken a) (rw was refl) g.marks;
+        objects = objects-shaded (alloc_words s.words) s.colour s.since s.extents o (Taken a) (g.objects.shaded o (rw was tt)) tt (λ h. g.objects.grey o (rw was tt)) g.objects;
+        counts = counts (holding.TakesEntry b) (may.held, may.some);
+        entries = record {
+          some = λ c k h. grind (arith, nat_tests, g.entries.some c k);
+          entered = λ c k p h e. grind (arith, nat_tests, g.entries.entered c k p, was, may.some);
+          buffered = λ p c k h. grind (arith, nat_tests, g.entries.buffered p c k, may.entry);
+        };
+        values = g.values;
+        blacks = blacks-apart s.extents (field_words s.words) (mark_words s.words) s.colour o (Taken a) (λ e. cc) g.blacks;
+        cursor = g.cursor;
+        stacks = stacks (TakeEntry b o) may (λ h. refl) (λ h d. refl);
+      }
+
+  pub good-blacken : (o : ℕ) → Kept (Blacken o)
+  good-blacken o may = record {
+    marks = marked-again (mark_words s.words) s.colour o Black (rw (may.0) refl) g.marks;
+    objects = objects-shaded (alloc_words s.words) s.colour s.since s.extents o Black (g.objects.shaded o (rw (may.0) tt)) tt (λ h. absurd h) g.objects;
+    counts = g.counts;
+    entries = entries-apart (entry_words s.words) s.filled s.colour o Black (λ b j e. taken-buffered (sym may.0 ∙ e)) (λ b j e. cc) g.entries;
+    values = g.values;
+    blacks = λ p k h l. elim (eqb_tells o p) [ inl y ↦ rw (← y.1) (may.1 k (rw (y.1) l)) | inr n ↦ g.blacks p k (rw (n.0) at h) l ];
+    cursor = g.cursor;
+    stacks = stacks (Blacken o) may (λ h. refl) (λ h d. refl);
+  } where
+    taken-buffered : {b j : ℕ} → Taken a ≡ Buffered b j → ⊥
+    taken-buffered e = cc
+
+  pub good-put_field : (x v : ℕ) → Kept (PutField x v)
+  good-put_field x v may = record {
+    marks = g.marks;
+    objects = g.objects;
+    counts = g.counts;
+    entries = g.entries;
+    values = record {
+      fields = λ p j h l q e. elim (eqb_tells x (p + j)) [ inr n ↦ g.values.fields p j h l q (rw (n.0) at e) | inl y ↦ may.since q (rw (y.0) at e) ];
+      globals = g.values.globals;
+      stacks = g.values.stacks;
+    };
+    blacks = λ p j h l q e. elim (eqb_tells x (p + j)) [ inr n ↦ g.blacks p j h l q (rw (n.0) at e) | inl y ↦ may.new q (rw (y.0) at e) ];
+    cursor = g.cursor;
+    stacks = stacks (PutField x v) may (λ h. refl) (λ h d. refl);
+  }
+
+  pub good-put_global : (i v : ℕ) → Kept (PutGlobal i v)
+  good-put_global i v may = record {
+    marks = g.marks;
+    objects = g.objects;
+    counts = g.counts;
+    entries = g.entries;
+    values = record {
+      fields = g.values.fields;
+      globals = λ j q e. elim (eqb_tells i j) [ inr n ↦ g.values.globals j q (rw (n.0) at e) | inl y ↦ may.since q (rw (y.0) at e) ];
+      stacks = g.values.stacks;
+    };
+    blacks = g.blacks;
+    cursor = record {
+      untouched = g.cursor.untouched;
+      ahead = g.cursor.ahead;
+      read = λ j c w h. elim (eqb_tells i j) [ inl y ↦ inr (rw (y.0) may.new) | inr n ↦ rw (n.0) (g.cursor.read j c w h) ];
+      scanned = λ j h. elim (eqb_tells i j) [ inl y ↦ rw (y.0) may.new | inr n ↦ rw (n.0) (g.cursor.scanned j h) ];
+    };
+    stacks = stacks (PutGlobal i v) may (λ h. refl) (λ h d. refl);
+  }

@@ -1,0 +1,215 @@
+-- Each move keeps what holds at every moment: those of globals, of stacks and of new objects, and all together.
+use Rattle.std.proofs.Common.{◌≡◌, ℕ, ◌+◌, Bool, true, eqb, arith, refl, sym, ◌∙◌, inl, inr}
+use Rattle.std.proofs.lemmas.Bool.Decides.{nat_tests, eqb_tells}
+use Rattle.gh_base.specs.declared.cell.Cell.TheVariants as cell
+use Rattle.gh_base.specs.declared.pack.TheConstants.{END}
+use Rattle.gh_base.specs.Rows.{mark_words}
+use Rattle.gh_heap.specs.Moves.{update}
+use Rattle.gh_marks.specs.Colours.{Black, Buffered, Cycle, IsPointer, IsSince, Placing, Shared, entry_words}
+use Rattle.gh_marks.specs.Good.{Good}
+use Rattle.gh_marks.specs.Laws.{EachMoveKeeps}
+use Rattle.gh_marks.specs.Moves.{Blacken, ClaimGlobal, EndStack, Enter, GiveBuffer, May, Move, PassGlobals, Place, PutField, PutGlobal, Quiet, ReadGlobal, Reserve, ScanGlobal, ScanStack, SetRegister, Shade, ShadeAgain, ShadeFlat, TakeBuffer, TakeEntry, moved}
+use Rattle.gh_marks.proofs.Bits.{alloc-other, alloc-same, marked-again}
+use Rattle.gh_marks.proofs.Keeps.{entries-apart}
+use Rattle.gh_marks.proofs.Moving.{Known, good-again, good-blacken, good-enter, good-flat, good-give_buffer, good-put_field, good-put_global, good-quiet, good-reserve, good-shade, good-take_buffer, good-take_entry, stacks}
+
+module _ (know : Known) (z : Cycle) (a : ℕ) (s : Shared) (g : Good z s) where
+  abbrev Kept : Move → Type 0
+  Kept m = May z a s m → Good z (moved z a s m)
+
+  good-claim : (i : ℕ) → Kept (ClaimGlobal i)
+  good-claim i may = record {
+    marks = g.marks;
+    objects = g.objects;
+    counts = g.counts;
+    entries = g.entries;
+    values = g.values;
+    blacks = g.blacks;
+    cursor = record {
+      untouched = λ j l h. grind (arith, nat_tests, g.cursor.untouched j l, may);
+      ahead = λ j l h. grind (arith, nat_tests, g.cursor.ahead j l, may);
+      read = λ j c w h. elim (eqb_tells i j) [ inl y ↦ absurd (grind (arith, y)) | inr n ↦ g.cursor.read j c w (rw (n.0) at h) ];
+      scanned = λ j h. elim (eqb_tells i j) [ inl y ↦ absurd (grind (arith, y)) | inr n ↦ g.cursor.scanned j (rw (n.0) at h) ];
+    };
+    stacks = stacks know z a s g (ClaimGlobal i) may (λ h. refl) (λ h d. refl);
+  }
+
+  good-pass : (i : ℕ) → Kept (PassGlobals i)
+  good-pass i may = record {
+    marks = g.marks;
+    objects = g.objects;
+    counts = g.counts;
+    entries = g.entries;
+    values = g.values;
+    blacks = g.blacks;
+    cursor = record {
+      untouched = λ j l h. omega (arith, g.cursor.untouched j l h, may.0, may.1);
+      ahead = λ j l h. absurd (omega (arith, may.0, may.1));
+      read = g.cursor.read;
+      scanned = g.cursor.scanned;
+    };
+    stacks = g.stacks;
+  }
+
+  good-read : (i : ℕ) → Kept (ReadGlobal i)
+  good-read i may = record {
+    marks = g.marks;
+    objects = g.objects;
+    counts = g.counts;
+    entries = g.entries;
+    values = g.values;
+    blacks = g.blacks;
+    cursor = record {
+      untouched = λ j l h. grind (arith, nat_tests, g.cursor.untouched j l);
+      ahead = λ j l h. grind (arith, nat_tests, g.cursor.ahead j l h, may);
+      read = λ j c w h. elim (eqb_tells i j) [ inl y ↦ inl (grind (arith, nat_tests)) | inr n ↦ g.cursor.read j c w (rw (n.0) at h) ];
+      scanned = λ j h. elim (eqb_tells i j) [ inl y ↦ absurd (grind (arith, y)) | inr n ↦ g.cursor.scanned j (rw (n.0) at h) ];
+    };
+    stacks = stacks know z a s g (ReadGlobal i) may (λ h. refl) (λ h d. refl);
+  }
+
+  good-scan : (i v : ℕ) → Kept (ScanGlobal i v)
+  good-scan i v may = record {
+    marks = g.marks;
+    objects = g.objects;
+    counts = g.counts;
+    entries = g.entries;
+    values = g.values;
+    blacks = g.blacks;
+    cursor = record {
+      untouched = λ j l h. grind (arith, nat_tests, g.cursor.untouched j l);
+      ahead = λ j l h. grind (arith, nat_tests, g.cursor.ahead j l h, may.0);
+      read = λ j c w h. elim (eqb_tells i j) [ inl y ↦ absurd (grind (arith, y)) | inr n ↦ g.cursor.read j c w (rw (n.0) at h) ];
+      scanned = λ j h. elim (eqb_tells i j) [ inl y ↦ rw (← y.1) may.1 | inr n ↦ g.cursor.scanned j (rw (n.0) at h) ];
+    };
+    stacks = stacks know z a s g (ScanGlobal i v) may (λ h. refl) (λ h d. refl);
+  }
+
+  good-set_register : (h d v : ℕ) → Kept (SetRegister h d v)
+  good-set_register h d v may = record {
+    marks = g.marks;
+    objects = g.objects;
+    counts = g.counts;
+    entries = g.entries;
+    values = record {
+      fields = g.values.fields;
+      globals = g.values.globals;
+      stacks = λ f q o e. elim (eqb_tells h f) [
+        | inr n ↦ g.values.stacks f q o (rw (n.0) at e)
+        | inl y ↦ elim (eqb_tells d q) [ inr n ↦ g.values.stacks f q o (rw (y.0, n.0) at e) | inl w ↦ may.since o (rw (y.0, w.0) at e) ]
+      ];
+    };
+    blacks = g.blacks;
+    cursor = g.cursor;
+    stacks = record {
+      black = λ f q black l. elim (eqb_tells h f) [
+        | inr n ↦ rw (n.0) (g.stacks.black f q black l)
+        | inl y ↦ elim (eqb_tells d q) [ inr n ↦ rw (y.0, n.0) (g.stacks.black f q black l) | inl w ↦ rw (y.0, w.0) (may.safe (rw (y.1) black)) ]
+      ];
+      over = λ f q end. elim (eqb_tells h f) [ inr n ↦ rw (n.0) (g.stacks.over f q end) | inl y ↦ absurd (may.goes_on (rw (y.1) end)) ];
+    };
+  }
+
+  not_end : z.number ≡ END → ⊥
+  not_end e = omega (arith, z.few)
+
+  good-scan_stack : (h : ℕ) → Kept (ScanStack h)
+  good-scan_stack h may = record {
+    marks = g.marks;
+    objects = g.objects;
+    counts = g.counts;
+    entries = g.entries;
+    values = g.values;
+    blacks = g.blacks;
+    cursor = g.cursor;
+    stacks = record {
+      black = λ f q black l. elim (eqb_tells h f) [ inr n ↦ g.stacks.black f q (rw (n.0) at black) l | inl y ↦ rw (← y.1) (λ o e. inl (may.clean q l o e)) ];
+      over = λ f q end. elim (eqb_tells h f) [ inr n ↦ g.stacks.over f q (rw (n.0) at end) | inl y ↦ absurd (not_end (rw (y.0) at end)) ];
+    };
+  }
+
+  -- what an ended goroutine's registers hold is nothing
+  nil-since : (o : ℕ) → 0 ≡ o + 1 → ⊥
+  nil-since o e = omega arith
+
+  good-end_stack : (h : ℕ) → Kept (EndStack h)
+  good-end_stack h may = record {
+    marks = g.marks;
+    objects = g.objects;
+    counts = g.counts;
+    entries = g.entries;
+    values = record {
+      fields = g.values.fields;
+      globals = g.values.globals;
+      stacks = λ f q o e. elim (eqb_tells h f) [ inr n ↦ g.values.stacks f q o (rw (n.0) at e) | inl y ↦ absurd (nil-since o (rw (y.0) at e)) ];
+    };
+    blacks = g.blacks;
+    cursor = g.cursor;
+    stacks = record {
+      black = λ f q black l o e. elim (eqb_tells h f) [ inr n ↦ g.stacks.black f q (rw (n.0) at black) l o (rw (n.0) at e) | inl y ↦ absurd (nil-since o (rw (y.0) at e)) ];
+      over = λ f q end. elim (eqb_tells h f) [ inr n ↦ rw (n.0) (g.stacks.over f q (rw (n.0) at end)) | inl y ↦ rw (y.0) refl ];
+    };
+  }
+
+  since-grows : (o v : ℕ) → IsSince s.since v → IsSince (update s.since o true) v
+  since-grows o v h q e = elim (eqb_tells o q) [ inl y ↦ rw (y.0) refl | inr n ↦ rw (n.0) (h q e) ]
+
+  good-place : (o size : ℕ) (pointer : ℕ → Bool) (noscan : Bool) → Kept (Place o size pointer noscan)
+  good-place o size pointer noscan may = record {
+    marks = marked-again (mark_words s.words) s.colour o Black (rw (may.reserved) refl) g.marks;
+    objects = record {
+      placed = λ p h. elim (eqb_tells o p) [ inl y ↦ rw (← y.1) (alloc-same know.rows s.words o) | inr n ↦ alloc-other know.rows s.words o p n.1 ∙ g.objects.placed p (rw (n.0) at h) ];
+      shaded = λ p h. elim (eqb_tells o p) [ inl y ↦ rw (y.0) refl | inr n ↦ rw (n.0) (g.objects.shaded p (rw (n.0) at h)) ];
+      grey = λ p h. elim (eqb_tells o p) [ inl y ↦ absurd (rw (y.0) at h) | inr n ↦ rw (n.0) (g.objects.grey p (rw (n.0) at h)) ];
+      placing = λ p b h. elim (eqb_tells o p) [ inl y ↦ absurd (black-placing (rw (y.0) at h)) | inr n ↦ (λ e. g.objects.placing p b (rw (n.0) at h) (sym (alloc-other know.rows s.words o p n.1) ∙ e)) ];
+    };
+    counts = g.counts;
+    entries = entries-apart (entry_words s.words) s.filled s.colour o Black (λ b j e. placing-buffered (sym may.reserved ∙ e)) (λ b j e. cc) g.entries;
+    values = record {
+      fields = λ p j h l q e. elim (eqb_tells o p) [
+        | inl y ↦ absurd (nil p j l y q e)
+        | inr n ↦ since-grows o (s.words (cell.Field (p + j))) (g.values.fields p j (rw (n.0) at h) (rw (n.0) at l)) q e
+      ];
+      globals = λ j. since-grows o (s.words (cell.Global j)) (g.values.globals j);
+      stacks = λ f r. since-grows o (s.registers f r) (g.values.stacks f r);
+    };
+    blacks = λ p j h l q e. elim (eqb_tells o p) [ inl y ↦ absurd (nil p j l y q e) | inr n ↦ g.blacks p j (rw (n.0) at h) (rw (n.0) at l) q e ];
+    cursor = g.cursor;
+    stacks = stacks know z a s g (Place o size pointer noscan) may (λ h. refl) (λ h d. refl);
+  } where
+    nil : (p j : ℕ) → IsPointer (moved z a s (Place o size pointer noscan)).extents p j → ((eqb o p ≡ true) × (o ≡ p)) → (q : ℕ) → s.words (cell.Field (p + j)) ≡ q + 1 → ⊥
+    nil p j l y q e =
+        let zero : s.words (cell.Field (o + j)) ≡ 0 = may.clear j (rw (y.0) at l.0) (rw (y.0) at l.1) in
+        let same : s.words (cell.Field (o + j)) ≡ q + 1 = rw (y.1) e in
+        omega arith
+
+    black-placing : {b : ℕ} → Black ≡ Placing b → ⊥
+    black-placing e = cc
+
+    placing-buffered : {b j : ℕ} → Placing a ≡ Buffered b j → ⊥
+    placing-buffered e = cc
+
+  good-moved : (m : Move) → Kept m
+  good-moved (Quiet step) = good-quiet know z a s g step
+  good-moved (Shade o) = good-shade know z a s g o
+  good-moved (ShadeFlat o) = good-flat know z a s g o
+  good-moved (ShadeAgain o) = good-again know z a s g o
+  good-moved (TakeBuffer b) = good-take_buffer know z a s g b
+  good-moved (GiveBuffer b) = good-give_buffer know z a s g b
+  good-moved (Enter b o) = good-enter know z a s g b o
+  good-moved (TakeEntry b o) = good-take_entry know z a s g b o
+  good-moved (Blacken o) = good-blacken know z a s g o
+  good-moved (PutField x v) = good-put_field know z a s g x v
+  good-moved (PutGlobal i v) = good-put_global know z a s g i v
+  good-moved (ClaimGlobal i) = good-claim i
+  good-moved (PassGlobals i) = good-pass i
+  good-moved (ReadGlobal i) = good-read i
+  good-moved (ScanGlobal i v) = good-scan i v
+  good-moved (SetRegister h d v) = good-set_register h d v
+  good-moved (ScanStack h) = good-scan_stack h
+  good-moved (EndStack h) = good-end_stack h
+  good-moved (Reserve o) = good-reserve know z a s g o
+  good-moved (Place o size pointer noscan) = good-place o size pointer noscan
+
+pub each-move-keeps : Known → EachMoveKeeps
+each-move-keeps know z a s m g may = good-moved know z a s g m may

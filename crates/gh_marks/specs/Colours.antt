@@ -1,0 +1,142 @@
+-- The shared state of marking: the words, how far marking is with each object and each global, and which objects no path leads to any more.
+use Rattle.std.specs.Prelude.{◌≡◌, ℕ, ◌+◌, ◌<◌, ◌^◌, ◌⊎◌, Bool, true, false}
+use Rattle.gh_base.specs.declared.cell.Cell.TheVariants as cell
+use Rattle.gh_base.specs.Cells.{Words}
+use Rattle.gh_base.specs.Holding.{Buffers}
+use Rattle.gh_base.specs.Rows.{Row, row_bit, buffer_words, field_words, global_words, mark_words}
+use Rattle.gh_heap.specs.Rights.{Arena}
+
+-- A cycle of marking: the heap that it is in, and its number. A stack whose word is this number is black.
+pub record Cycle : Type 0 where
+  pub arena : Arena
+  pub number : ℕ
+  pub few : number < 2 ^ 48
+
+-- How far marking is with the object that begins at a heap word. From its mark on until its fields are scanned it is grey, and in one place; so no grey object is lost, and none is scanned twice.
+pub data Colour : Type 0 where
+  White : Colour
+  -- its mark bit is set, and its slot is not taken yet: the seat is placing it
+  Placing : (seat : ℕ) → Colour
+  -- the seat has marked it, and has still to put it into a buffer
+  Pending : (seat : ℕ) → Colour
+  -- it is this entry of a buffer
+  Buffered : (buffer at : ℕ) → Colour
+  -- the seat has taken it out of a buffer, and scans it
+  Taken : (seat : ℕ) → Colour
+  Black : Colour
+
+-- How far marking is with a global. A global is a root: until it is scanned, what it names may be found from nowhere else.
+pub data Progress : Type 0 where
+  Untouched : Progress
+  -- the seat has raised the cursor past it, and has still to read it
+  Claimed : (seat : ℕ) → Progress
+  -- the seat has read this value there, and has still to shade it
+  Read : (seat value : ℕ) → Progress
+  Scanned : Progress
+
+-- What the words of an object are: how many, and which of them are pointer fields, counted from its first; and whether its span is one of objects without such. It is said of an object when the cycle begins or when the object is placed, and is not changed then.
+pub record Extents : Type 0 where
+  pub size : Row
+  pub pointer : ℕ → ℕ → Bool
+  pub noscan : ℕ → Bool
+
+-- What all actors share while marking is on. An object is known by the heap word at which it begins.
+pub record Shared : Type 0 where
+  pub words : Words
+  -- what each register of a goroutine names, as 0 or 1 more than a heap word. What a load has found counts from the load on, and a goroutine that has ended has nothing.
+  pub registers : ℕ → Row
+  pub colour : ℕ → Colour
+  -- the entries of each buffer; while a seat holds it, its word does not say them
+  pub filled : Row
+  pub progress : ℕ → Progress
+  -- placed and reached when the cycle began, or placed since
+  pub since : ℕ → Bool
+  pub extents : Extents
+
+-- The rows of the words that gh_base does not name.
+
+abbrev pub entry_words : Words → ℕ → Row
+entry_words words b j = words (cell.Entry b j)
+
+abbrev pub scanned_words : Words → Row
+scanned_words words g = words (cell.Scanned g)
+
+-- the buffers, as gh_base speaks of who holds which
+abbrev pub buffers_of : Words → Row → Buffers
+buffers_of words filled = record { words = buffer_words words; entries = entry_words words; filled = filled }
+
+-- the rows that paths are made of
+pub record Rows : Type 0 where
+  pub mark : Row
+  pub field : Row
+  pub global : Row
+  pub colour : ℕ → Colour
+  pub progress : ℕ → Progress
+  pub extents : Extents
+
+abbrev pub rows : Shared → Rows
+rows s = record { mark = mark_words s.words; field = field_words s.words; global = global_words s.words; colour = s.colour; progress = s.progress; extents = s.extents }
+
+-- What is said of an object and of a value, which is 0 or 1 more than a heap word.
+
+abbrev pub IsMarked : (mark : Row) → (o : ℕ) → Type 0
+IsMarked mark o = row_bit mark o ≡ 1
+
+-- it names no object, or a marked one
+abbrev pub IsClean : (mark : Row) → (value : ℕ) → Type 0
+IsClean mark value = (o : ℕ) → value ≡ o + 1 → IsMarked mark o
+
+-- it names no object, or one of the cycle
+abbrev pub IsSince : (ℕ → Bool) → (value : ℕ) → Type 0
+IsSince since value = (o : ℕ) → value ≡ o + 1 → since o ≡ true
+
+-- its mark bit
+abbrev pub mark_of : Colour → ℕ
+mark_of White = 0
+mark_of (Placing a) = 1
+mark_of (Pending a) = 1
+mark_of (Buffered b j) = 1
+mark_of (Taken a) = 1
+mark_of Black = 1
+
+abbrev pub IsGrey : Colour → Type 0
+IsGrey White = ⊥
+IsGrey (Placing a) = ⊥
+IsGrey (Pending a) = Unit {0}
+IsGrey (Buffered b j) = Unit {0}
+IsGrey (Taken a) = Unit {0}
+IsGrey Black = ⊥
+
+-- grey or black
+abbrev pub IsShaded : Colour → Type 0
+IsShaded White = ⊥
+IsShaded (Placing a) = ⊥
+IsShaded (Pending a) = Unit {0}
+IsShaded (Buffered b j) = Unit {0}
+IsShaded (Taken a) = Unit {0}
+IsShaded Black = Unit {0}
+
+-- the global is not scanned yet
+abbrev pub Waits : Progress → Type 0
+Waits Untouched = Unit {0}
+Waits (Claimed a) = Unit {0}
+Waits (Read a v) = Unit {0}
+Waits Scanned = ⊥
+
+-- word k of the object is a pointer field
+abbrev pub IsPointer : Extents → (o k : ℕ) → Type 0
+IsPointer e o k = (k < e.size o) × (e.pointer o k ≡ true) × (e.noscan o ≡ false)
+
+-- A white object that marking will still find: a path through white objects leads to it from a field of a grey object or from a global that is not scanned. A stack that is scanned may hold such an object, though nothing will look at the stack again.
+pub data Protected (globals : ℕ) (r : Rows) : ℕ → Type 0 where
+  from_grey : (p k o : ℕ) → IsGrey (r.colour p) → IsPointer r.extents p k → r.field (p + k) ≡ o + 1 → row_bit r.mark o ≡ 0 → Protected globals r o
+  from_global : (i o : ℕ) → Waits (r.progress i) → i < globals → r.global i ≡ o + 1 → row_bit r.mark o ≡ 0 → Protected globals r o
+  from_white : (p k o : ℕ) → Protected globals r p → IsPointer r.extents p k → r.field (p + k) ≡ o + 1 → row_bit r.mark o ≡ 0 → Protected globals r o
+
+-- marked or protected
+abbrev pub IsGuarded : (globals : ℕ) → Rows → (o : ℕ) → Type 0
+IsGuarded globals r o = IsMarked r.mark o ⊎ Protected globals r o
+
+-- it names no object, or a guarded one
+abbrev pub IsSafe : (globals : ℕ) → Rows → (value : ℕ) → Type 0
+IsSafe globals r value = (o : ℕ) → value ≡ o + 1 → IsGuarded globals r o

@@ -1,0 +1,60 @@
+-- What holds at every moment while marking is on, group by group over the rows that each reads.
+use Rattle.std.specs.Prelude.{◌≡◌, ◌≢◌, ℕ, ◌+◌, ◌<◌, ◌≤◌, ◌⊎◌, Bool, true, false}
+use Rattle.gh_base.specs.declared.cell.Cell.TheVariants as cell
+use Rattle.gh_base.specs.declared.limits.TheConstants.{REGISTERS}
+use Rattle.gh_base.specs.declared.pack.TheConstants.{END}
+use Rattle.gh_base.specs.Holding.{AreCounted}
+use Rattle.gh_base.specs.Rows.{Row, row_bit, alloc_words, field_words, global_words, mark_words}
+use Rattle.gh_marks.specs.Colours.{Black, Buffered, Colour, Cycle, Extents, IsClean, IsGrey, IsPointer, IsSafe, IsShaded, IsSince, Placing, Progress, Read, Scanned, Shared, Untouched, buffers_of, entry_words, mark_of, rows, scanned_words}
+
+-- A heap word's mark bit is set exactly where its colour is not white.
+abbrev pub MarksGood : (mark : Row) → (ℕ → Colour) → Type 0
+MarksGood mark colour = (o : ℕ) → row_bit mark o ≡ mark_of (colour o)
+
+-- The objects of the cycle are placed, and all that is shaded is one: so what was dead when the cycle began is never marked, and is freed after it.
+pub record ObjectsGood (alloc : Row) (colour : ℕ → Colour) (since : ℕ → Bool) (extents : Extents) : Type 0 where
+  pub placed : (o : ℕ) → since o ≡ true → row_bit alloc o ≡ 1
+  pub shaded : (o : ℕ) → IsShaded (colour o) → since o ≡ true
+  -- what is grey may have pointer fields: an object without is done with its mark
+  pub grey : (o : ℕ) → IsGrey (colour o) → extents.noscan o ≡ false
+  -- what is being placed has no alloc bit yet
+  pub placing : (o a : ℕ) → colour o ≡ Placing a → row_bit alloc o ≢ 1
+
+-- An entry below a buffer's count names a grey object that is nowhere else.
+pub record EntriesGood (entries : ℕ → Row) (filled : Row) (colour : ℕ → Colour) : Type 0 where
+  pub some : (b j : ℕ) → j < filled b → 0 < entries b j
+  pub entered : (b j o : ℕ) → j < filled b → entries b j ≡ o + 1 → colour o ≡ Buffered b j
+  pub buffered : (o b j : ℕ) → colour o ≡ Buffered b j → (j < filled b) × (entries b j ≡ o + 1)
+
+-- What objects of the cycle, globals and registers name is of the cycle: so paths never leave it.
+pub record ValuesGood (extents : Extents) (field global : Row) (registers : ℕ → Row) (since : ℕ → Bool) : Type 0 where
+  pub fields : (o k : ℕ) → since o ≡ true → IsPointer extents o k → IsSince since (field (o + k))
+  pub globals : (i : ℕ) → IsSince since (global i)
+  pub stacks : (g d : ℕ) → IsSince since (registers g d)
+
+-- A black object names no white one: nothing will look at it again.
+abbrev pub BlacksGood : Extents → (field mark : Row) → (ℕ → Colour) → Type 0
+BlacksGood extents field mark colour = (o k : ℕ) → colour o ≡ Black → IsPointer extents o k → IsClean mark (field (o + k))
+
+-- The cursor divides the globals: those below it are somebody's or scanned. The cursor alone does not say that a global is scanned, since who raised it reads the global with a later step.
+pub record CursorGood (globals gcur : ℕ) (global : Row) (progress : ℕ → Progress) (mark : Row) : Type 0 where
+  pub untouched : (i : ℕ) → i < globals → progress i ≡ Untouched → gcur ≤ i
+  pub ahead : (i : ℕ) → i < globals → gcur ≤ i → progress i ≡ Untouched
+  -- what was read there stands there still, or the word that came in its place is clean
+  pub read : (i a v : ℕ) → progress i ≡ Read a v → (global i ≡ v) ⊎ IsClean mark (global i)
+  pub scanned : (i : ℕ) → progress i ≡ Scanned → IsClean mark (global i)
+
+-- A scanned stack holds what is marked or protected, and no more than that: after its scan a load may bring it a white object. The stack of a goroutine that has ended holds nothing.
+pub record StacksGood (number : ℕ) (scanned : Row) (registers : ℕ → Row) (Safe : ℕ → Type 0) : Type 0 where
+  pub black : (g d : ℕ) → scanned g ≡ number → d < REGISTERS → Safe (registers g d)
+  pub over : (g d : ℕ) → scanned g ≡ END → registers g d ≡ 0
+
+pub record Good (z : Cycle) (s : Shared) : Type 0 where
+  pub marks : MarksGood (mark_words s.words) s.colour
+  pub objects : ObjectsGood (alloc_words s.words) s.colour s.since s.extents
+  pub counts : AreCounted (buffers_of s.words s.filled)
+  pub entries : EntriesGood (entry_words s.words) s.filled s.colour
+  pub values : ValuesGood s.extents (field_words s.words) (global_words s.words) s.registers s.since
+  pub blacks : BlacksGood s.extents (field_words s.words) (mark_words s.words) s.colour
+  pub cursor : CursorGood z.arena.layout.globals (s.words cell.Gcur) (global_words s.words) s.progress (mark_words s.words)
+  pub stacks : StacksGood z.number (scanned_words s.words) s.registers (IsSafe z.arena.layout.globals (rows s))

@@ -1,0 +1,226 @@
+-- The moves by which an actor changes the shared state of marking, when it may make them, and what they leave to the others.
+use Rattle.std.specs.Prelude.{◌≡◌, ◌≢◌, ℕ, ◌+◌, ◌-◌, ◌/◌, ◌%◌, ◌^◌, ◌<◌, ◌≤◌, ◌⊎◌, ◌↔◌, Bool, true, false, bit_or}
+use Rattle.gh_base.specs.declared.cell.Ask.{Ask}
+use Rattle.gh_base.specs.declared.cell.Ask.TheVariants as ask
+use Rattle.gh_base.specs.declared.cell.Cell.{Cell}
+use Rattle.gh_base.specs.declared.cell.Cell.TheVariants as cell
+use Rattle.gh_base.specs.declared.limits.TheConstants.{REGISTERS}
+use Rattle.gh_base.specs.declared.pack.TheConstants.{END, ENTRIES}
+use Rattle.gh_base.specs.Cells.{Words, put}
+use Rattle.gh_base.specs.Holding.{holder_in}
+use Rattle.gh_base.specs.Packing.{buffer_word}
+use Rattle.gh_base.specs.Rows.{alloc_words, mark_words, row_bit}
+use Rattle.gh_base.specs.Steps.{cell_of, effect}
+use Rattle.gh_heap.specs.Moves.{update, update_at}
+use Rattle.gh_heap.specs.Rights.{IsOf}
+use Rattle.gh_marks.specs.Colours.{Black, Buffered, Claimed, Cycle, Extents, IsClean, IsMarked, IsPointer, IsSafe, IsSince, Pending, Placing, Read, Scanned, Shared, Taken, White, rows}
+
+-- A change of the shared state by a step, words and ghosts together. A step is one move or two.
+pub data Move : Type 0 where
+  -- a step that changes no word which marking reads
+  Quiet : (step : Ask) → Move
+  -- A mark bit is set. It was clear, and the object is pending then, or black at once where it has no pointer fields; or it was set before.
+  Shade : (o : ℕ) → Move
+  ShadeFlat : (o : ℕ) → Move
+  ShadeAgain : (o : ℕ) → Move
+  -- a buffer that nobody holds is taken, and one is given back with its count
+  TakeBuffer : (b : ℕ) → Move
+  GiveBuffer : (b : ℕ) → Move
+  -- the pending object becomes the last entry of the held buffer, and its last entry is taken out to be scanned
+  Enter : (b o : ℕ) → Move
+  TakeEntry : (b o : ℕ) → Move
+  -- all pointer fields of the taken object are scanned
+  Blacken : (o : ℕ) → Move
+  -- a heap word, or a global, takes a value behind the write barrier
+  PutField : (x value : ℕ) → Move
+  PutGlobal : (i value : ℕ) → Move
+  -- the cursor is raised: past a global, or past the last one; a claimed global is read, and what was read there is shaded
+  ClaimGlobal : (i : ℕ) → Move
+  PassGlobals : (i : ℕ) → Move
+  ReadGlobal : (i : ℕ) → Move
+  ScanGlobal : (i value : ℕ) → Move
+  -- a register takes a value; a stack is scanned; a goroutine ends
+  SetRegister : (g d value : ℕ) → Move
+  ScanStack : (g : ℕ) → Move
+  EndStack : (g : ℕ) → Move
+  -- a new object: its mark bit is set while its slot is empty, and then its alloc bit, with its words as the last three say
+  Reserve : (o : ℕ) → Move
+  Place : (o size : ℕ) → (pointer : ℕ → Bool) → (noscan : Bool) → Move
+
+-- Rows that marking does not read. A heap word may change in a step of this kind where it is no pointer field of an object of the cycle: in a slot that is being cleared, and where a field holds a number.
+abbrev pub IsAside : Shared → Cell → Type 0
+IsAside s (cell.Mark i) = ⊥
+IsAside s (cell.Alloc i) = ⊥
+IsAside s (cell.Field x) = (o k : ℕ) → s.since o ≡ true → IsPointer s.extents o k → x ≢ o + k
+IsAside s (cell.Global i) = ⊥
+IsAside s cell.Gcur = ⊥
+IsAside s (cell.Buffer b) = ⊥
+IsAside s (cell.Entry b j) = ⊥
+IsAside s (cell.Scanned g) = ⊥
+IsAside s _ = Unit {0}
+
+abbrev pub IsQuiet : Shared → Ask → Type 0
+IsQuiet s (ask.Load c) = Unit {0}
+IsQuiet s step = IsAside s (cell_of step)
+
+-- the bit of heap word o in its word of a row
+abbrev pub with_bit : (word o : ℕ) → ℕ
+with_bit word o = bit_or word (2 ^ (o % 64))
+
+abbrev pub set_mark : Words → (o : ℕ) → Words
+set_mark words o = put words (cell.Mark (o / 64)) (with_bit (words (cell.Mark (o / 64))) o)
+
+abbrev pub set_alloc : Words → (o : ℕ) → Words
+set_alloc words o = put words (cell.Alloc (o / 64)) (with_bit (words (cell.Alloc (o / 64))) o)
+
+abbrev pub with_extent : Extents → (o size : ℕ) → (pointer : ℕ → Bool) → (noscan : Bool) → Extents
+with_extent e o size pointer noscan = record { size = update e.size o size; pointer = update e.pointer o pointer; noscan = update e.noscan o noscan }
+
+abbrev pub moved : Cycle → (a : ℕ) → Shared → Move → Shared
+moved z a s (Quiet step) = record s { words = effect s.words step }
+moved z a s (Shade o) = record s { words = set_mark s.words o; colour = update s.colour o (Pending a) }
+moved z a s (ShadeFlat o) = record s { words = set_mark s.words o; colour = update s.colour o Black }
+moved z a s (ShadeAgain o) = record s { words = set_mark s.words o }
+moved z a s (TakeBuffer b) = record s { words = put s.words (cell.Buffer b) (buffer_word (record { count = s.filled b; holder = a + 1 })) }
+moved z a s (GiveBuffer b) = record s { words = put s.words (cell.Buffer b) (s.filled b) }
+moved z a s (Enter b o) = record s { words = put s.words (cell.Entry b (s.filled b)) (o + 1); colour = update s.colour o (Buffered b (s.filled b)); filled = update s.filled b (s.filled b + 1) }
+moved z a s (TakeEntry b o) = record s { colour = update s.colour o (Taken a); filled = update s.filled b (s.filled b - 1) }
+moved z a s (Blacken o) = record s { colour = update s.colour o Black }
+moved z a s (PutField x value) = record s { words = put s.words (cell.Field x) value }
+moved z a s (PutGlobal i value) = record s { words = put s.words (cell.Global i) value }
+moved z a s (ClaimGlobal i) = record s { words = put s.words cell.Gcur (i + 1); progress = update s.progress i (Claimed a) }
+moved z a s (PassGlobals i) = record s { words = put s.words cell.Gcur (i + 1) }
+moved z a s (ReadGlobal i) = record s { progress = update s.progress i (Read a (s.words (cell.Global i))) }
+moved z a s (ScanGlobal i value) = record s { progress = update s.progress i Scanned }
+moved z a s (SetRegister g d value) = record s { registers = update_at s.registers g d value }
+moved z a s (ScanStack g) = record s { words = put s.words (cell.Scanned g) z.number }
+moved z a s (EndStack g) = record s { words = put s.words (cell.Scanned g) END; registers = update s.registers g (λ d. 0) }
+moved z a s (Reserve o) = record s { words = set_mark s.words o; colour = update s.colour o (Placing a) }
+moved z a s (Place o size pointer noscan) = record s { words = set_alloc s.words o; colour = update s.colour o Black; since = update s.since o true; extents = with_extent s.extents o size pointer noscan }
+
+-- When a seat may make the move.
+
+abbrev pub HasBuffer : (a : ℕ) → Shared → (b : ℕ) → Type 0
+HasBuffer a s b = holder_in (s.words (cell.Buffer b)) ≡ a + 1
+
+-- the object is white and one of the cycle
+pub record MayShade (s : Shared) (o : ℕ) : Type 0 where
+  pub white : row_bit (mark_words s.words) o ≡ 0
+  pub since : s.since o ≡ true
+
+pub record MayEnter (a : ℕ) (s : Shared) (b o : ℕ) : Type 0 where
+  pub held : HasBuffer a s b
+  pub room : s.filled b < ENTRIES
+  pub pending : s.colour o ≡ Pending a
+
+pub record MayTakeEntry (a : ℕ) (s : Shared) (b o : ℕ) : Type 0 where
+  pub held : HasBuffer a s b
+  pub some : 0 < s.filled b
+  pub entry : s.words (cell.Entry b (s.filled b - 1)) ≡ o + 1
+
+-- A store behind the write barrier. The word that it overwrites was shaded before, so that it cuts no path to a white object; and so was the value, so that nothing which is scanned comes to name a white object.
+pub record BehindBarrier (s : Shared) (was value : ℕ) : Type 0 where
+  pub old : IsClean (mark_words s.words) was
+  pub new : IsClean (mark_words s.words) value
+  pub since : IsSince s.since value
+
+-- a register of a goroutine that goes on, which takes what is safe, if its stack is scanned
+pub record MaySetRegister (z : Cycle) (a : ℕ) (s : Shared) (g value : ℕ) : Type 0 where
+  pub own : IsOf z.arena a g
+  pub goes_on : s.words (cell.Scanned g) ≢ END
+  pub since : IsSince s.since value
+  pub safe : s.words (cell.Scanned g) ≡ z.number → IsSafe z.arena.layout.globals (rows s) value
+
+-- each register was shaded, by a scan in which no statement of the goroutine ran
+pub record MayScanStack (z : Cycle) (a : ℕ) (s : Shared) (g : ℕ) : Type 0 where
+  pub own : IsOf z.arena a g
+  pub goes_on : s.words (cell.Scanned g) ≢ END
+  pub clean : (d : ℕ) → d < REGISTERS → IsClean (mark_words s.words) (s.registers g d)
+
+-- a white heap word in an empty slot
+pub record MayReserve (s : Shared) (o : ℕ) : Type 0 where
+  pub white : s.colour o ≡ White
+  pub empty : row_bit (alloc_words s.words) o ≢ 1
+
+-- its slot is marked, and its pointer fields are clear
+pub record MayPlace (a : ℕ) (s : Shared) (o size : ℕ) (pointer : ℕ → Bool) (noscan : Bool) : Type 0 where
+  pub reserved : s.colour o ≡ Placing a
+  pub clear : (k : ℕ) → k < size → pointer k ≡ true → s.words (cell.Field (o + k)) ≡ 0
+
+abbrev pub May : Cycle → (a : ℕ) → Shared → Move → Type 0
+May z a s (Quiet step) = IsQuiet s step
+May z a s (Shade o) = MayShade s o × (s.extents.noscan o ≡ false)
+May z a s (ShadeFlat o) = MayShade s o × (s.extents.noscan o ≡ true)
+May z a s (ShadeAgain o) = IsMarked (mark_words s.words) o
+May z a s (TakeBuffer b) = holder_in (s.words (cell.Buffer b)) ≡ 0
+May z a s (GiveBuffer b) = HasBuffer a s b
+May z a s (Enter b o) = MayEnter a s b o
+May z a s (TakeEntry b o) = MayTakeEntry a s b o
+May z a s (Blacken o) = (s.colour o ≡ Taken a) × ((k : ℕ) → IsPointer s.extents o k → IsClean (mark_words s.words) (s.words (cell.Field (o + k))))
+May z a s (PutField x value) = BehindBarrier s (s.words (cell.Field x)) value
+May z a s (PutGlobal i value) = BehindBarrier s (s.words (cell.Global i)) value
+May z a s (ClaimGlobal i) = (s.words cell.Gcur ≡ i) × (i < z.arena.layout.globals)
+May z a s (PassGlobals i) = (s.words cell.Gcur ≡ i) × (z.arena.layout.globals ≤ i)
+May z a s (ReadGlobal i) = s.progress i ≡ Claimed a
+May z a s (ScanGlobal i value) = (s.progress i ≡ Read a value) × IsClean (mark_words s.words) (s.words (cell.Global i))
+May z a s (SetRegister g d value) = MaySetRegister z a s g value
+May z a s (ScanStack g) = MayScanStack z a s g
+May z a s (EndStack g) = IsOf z.arena a g
+May z a s (Reserve o) = MayReserve s o
+May z a s (Place o size pointer noscan) = MayPlace a s o size pointer noscan
+
+-- What moves leave.
+
+-- the words of an object are said as before
+pub record SameExtent (e f : Extents) (o : ℕ) : Type 0 where
+  pub size : f.size o ≡ e.size o
+  pub pointer : f.pointer o ≡ e.pointer o
+  pub noscan : f.noscan o ≡ e.noscan o
+
+-- What moves leave of what a seat knows: marks grow, a word that changes is clean then, and the stacks of its goroutines stay. The moves of all others leave it, and so do those of the seat itself that change no stack.
+pub record Keeps (z : Cycle) (a : ℕ) (s t : Shared) : Type 0 where
+  pub marks : (o : ℕ) → IsMarked (mark_words s.words) o → IsMarked (mark_words t.words) o
+  pub since : (o : ℕ) → s.since o ≡ true → t.since o ≡ true
+  pub extents : (o : ℕ) → s.since o ≡ true → SameExtent s.extents t.extents o
+  pub fields : (o k : ℕ) → s.since o ≡ true → IsPointer s.extents o k → (t.words (cell.Field (o + k)) ≡ s.words (cell.Field (o + k))) ⊎ IsClean (mark_words t.words) (t.words (cell.Field (o + k)))
+  pub globals : (i : ℕ) → (t.words (cell.Global i) ≡ s.words (cell.Global i)) ⊎ IsClean (mark_words t.words) (t.words (cell.Global i))
+  pub registers : (g d : ℕ) → IsOf z.arena a g → t.registers g d ≡ s.registers g d
+  pub stacks : (g : ℕ) → IsOf z.arena a g → t.words (cell.Scanned g) ≡ s.words (cell.Scanned g)
+
+-- What the moves of all others leave to a seat: that, and what it has in hand.
+pub record Others (z : Cycle) (a : ℕ) (s t : Shared) : Type 0 where
+  pub keeps : Keeps z a s t
+  pub pending : (o : ℕ) → (s.colour o ≡ Pending a) ↔ (t.colour o ≡ Pending a)
+  pub taken : (o : ℕ) → (s.colour o ≡ Taken a) ↔ (t.colour o ≡ Taken a)
+  pub placing : (o : ℕ) → (s.colour o ≡ Placing a) ↔ (t.colour o ≡ Placing a)
+  pub claimed : (i : ℕ) → (s.progress i ≡ Claimed a) ↔ (t.progress i ≡ Claimed a)
+  pub read : (i value : ℕ) → (s.progress i ≡ Read a value) ↔ (t.progress i ≡ Read a value)
+  pub held : (b : ℕ) → HasBuffer a s b ↔ HasBuffer a t b
+  pub filled : (b : ℕ) → HasBuffer a s b → t.filled b ≡ s.filled b
+
+-- the move changes no stack
+abbrev pub LeavesStacks : Move → Type 0
+LeavesStacks (SetRegister g d value) = ⊥
+LeavesStacks (ScanStack g) = ⊥
+LeavesStacks (EndStack g) = ⊥
+LeavesStacks _ = Unit {0}
+
+-- what was dead when the cycle began, and is placed still
+pub record IsDead (s : Shared) (o : ℕ) : Type 0 where
+  pub placed : row_bit (alloc_words s.words) o ≡ 1
+  pub dead : s.since o ≡ false
+
+-- moves of seat a lead from the one state to the other
+pub data Went (z : Cycle) (a : ℕ) (s : Shared) : Shared → Type 0 where
+  stays : Went z a s s
+  goes : (t : Shared) (m : Move) → Went z a s t → May z a t m → Went z a s (moved z a t m)
+
+-- The step that a seat asks for is made of moves that it may make, and this holds then.
+pub record Lands (z : Cycle) (a : ℕ) (s : Shared) (words : Words) (Then : Shared → Type 0) : Type 0 where
+  pub then : Shared
+  pub went : Went z a s then
+  pub words_are : then.words ≡ words
+  pub after : Then then
+
+abbrev pub Steps : Cycle → (a : ℕ) → Shared → Ask → (Shared → Type 0) → Type 0
+Steps z a s step Then = Lands z a s (effect s.words step) Then

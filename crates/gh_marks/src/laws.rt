@@ -1,0 +1,79 @@
+//! What holds of the moves of marking. The functions do nothing; what they ensure is proved.
+
+ghost use Rattle.gh_marks.specs.Laws.{EachFactLasts, EachHandFollows, EachHandLasts, EachLoadIsSafe, EachMoveGuards, EachMoveKeeps, EachMoveLeaves, EachMoveLeavesTheDead, EachOwnMoveLeaves, EachStepGoesByMoves, MarkingBegins, MarkingEndsClean, TheDeadAreWhite, WhatIsFoundIsDone, WhatIsKeptGoesOn};
+
+use gh_base::laws::{buffers_are_held, rows_are_written};
+
+/// What holds at every moment while marking is on holds after each move that may be made.
+pub fn each_move_keeps()
+    ensures { EachMoveKeeps }
+{
+    buffers_are_held();
+    rows_are_written();
+}
+
+/// What another seat's move leaves to a seat.
+pub fn each_move_leaves()
+    ensures { EachMoveLeaves }
+{
+    rows_are_written();
+}
+
+/// What is marked or protected stays so, whatever move is made; and so it stays safe in a scanned stack.
+pub fn each_move_guards()
+    ensures { EachMoveGuards }
+{
+    rows_are_written();
+}
+
+/// What was dead when the cycle began stays placed and dead, and is not marked: the sweep frees it.
+pub fn the_dead_are_left()
+    ensures stay { EachMoveLeavesTheDead }
+    ensures white { TheDeadAreWhite }
+{
+    rows_are_written();
+}
+
+/// A step of one or two moves keeps what holds, and leaves to the others what each move leaves.
+pub fn steps_go_by_moves()
+    ensures { EachStepGoesByMoves }
+{
+    each_move_keeps();
+    each_move_leaves();
+    the_dead_are_left();
+}
+
+/// What a seat's own moves leave of what it knows, where they change no stack.
+pub fn own_moves_leave()
+    ensures leave { EachOwnMoveLeaves }
+    ensures go_on { WhatIsKeptGoesOn }
+{
+    rows_are_written();
+}
+
+/// What a seat has in hand after its own move.
+pub fn hands_follow()
+    ensures { EachHandFollows }
+{}
+
+/// What a seat relies on lasts, whatever others do.
+pub fn facts_last()
+    ensures facts { EachFactLasts }
+    ensures hands { EachHandLasts }
+{}
+
+/// What a load brings is safe in a scanned stack.
+pub fn loads_are_safe()
+    ensures { EachLoadIsSafe }
+{}
+
+/// Marking begins with all of it.
+pub fn marking_begins()
+    ensures { MarkingBegins }
+{}
+
+/// At the end of marking nothing is left to be marked, and each object that a path leads to is marked.
+pub fn marking_ends_clean()
+    ensures done { WhatIsFoundIsDone }
+    ensures clean { MarkingEndsClean }
+{}
