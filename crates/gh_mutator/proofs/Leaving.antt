@@ -6,28 +6,12 @@ use Rattle.gh_base.specs.declared.held.Held.{Held}
 use Rattle.gh_base.specs.declared.layout.Layout.{Layout}
 use Rattle.gh_base.specs.declared.pack.TheConstants.{GONE}
 use Rattle.gh_alloc.specs.declared.sought.CachedSpan.{CachedSpan}
-use Rattle.gh_wbuf.specs.BufferGiving as buffer
-use Rattle.gh_wbuf.specs.declared.give_buffer.GiveStage.{GiveStage as BufferStage}
-use Rattle.gh_wbuf.specs.declared.give_buffer.GiveStage.TheVariants as buffer_stage
-use Rattle.gh_mutator.specs.declared.give.GiveStage.{GiveStage}
-use Rattle.gh_mutator.specs.declared.give.GiveStage.TheVariants.{Lock, GiveSpan, Unlock, GiveBuffer, Ended}
 use Rattle.gh_mutator.specs.declared.leave.LeaveStage.{LeaveStage}
 use Rattle.gh_mutator.specs.declared.leave.LeaveStage.TheVariants.{Giving, Leave, Left}
 use Rattle.gh_mutator.specs.Give as give
 use Rattle.gh_mutator.specs.Leave.{asks, asks_at, gives_at, goes, Leaving, stage_of}
 use Rattle.gh_mutator.specs.Leaves.{after, given, LeavesAfterGiving}
-
--- the giving back acknowledges nothing
-buffer_no_ack : (stage : BufferStage) (i number : ℕ) → buffer.asks_at stage ≡ Store (Ack i) number → ⊥
-buffer_no_ack (buffer_stage.Give h) i number e = cc
-buffer_no_ack buffer_stage.Ended i number e = cc
-
-pub no_ack : (g : give.Giving) (stage : GiveStage) (i number : ℕ) → give.asks_at g stage ≡ Store (Ack i) number → ⊥
-no_ack g Lock i number e = cc
-no_ack g (GiveSpan class s) i number e = cc
-no_ack g Unlock i number e = cc
-no_ack g (GiveBuffer b) i number e = buffer_no_ack b.stage i number e
-no_ack g Ended i number e = cc
+use Rattle.gh_mutator.proofs.Aims.{aim, give_aim}
 
 module _ (l : Layout) (seat generation : ℕ) (cache : List (Option CachedSpan)) (held : Option Held) (found : ℕ → ℕ) where
   abbrev now : ℕ → Leaving
@@ -71,7 +55,7 @@ module _ (l : Layout) (seat generation : ℕ) (cache : List (Option CachedSpan))
 
   leaves_so : (n : ℕ) (stage : LeaveStage) → Knows n stage → (i number : ℕ) → asks_at (state stage) stage ≡ Store (Ack i) number →
       (i ≡ seat) × (number ≡ GONE) × (give.is_busy (giving n).stage ≡ false) × (gives_at stage ≡ Some tt)
-  leaves_so n (Giving g) k i number e = absurd (no_ack g g.stage i number e)
+  leaves_so n (Giving g) k i number e = absurd (let no = sym (give_aim g g.stage) ∙ ap aim e in cc)
   leaves_so n Leave k i number e = let is : seat ≡ i = cc in let gone : GONE ≡ number = cc in (sym is, sym gone, k, refl)
   leaves_so n Left k i number e = absurd (cc)
 

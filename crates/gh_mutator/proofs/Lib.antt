@@ -1,6 +1,8 @@
+pub mod Aims
 pub mod Changes
 pub mod ClassFacts
 pub mod Deeds
+pub mod Due
 pub mod Ending
 pub mod Faults
 pub mod Fields
@@ -8,12 +10,14 @@ pub mod Full
 pub mod Giving
 pub mod GlobalSteps
 pub mod Leaving
+pub mod Lists
 pub mod LoadSteps
 pub mod NewSteps
 mod Owning
-pub mod NoAck
+pub mod PollScans
 pub mod Polling
 mod Shaking
+pub mod Resuming
 pub mod Shapes
 pub mod Soundness
 pub mod StackMarking

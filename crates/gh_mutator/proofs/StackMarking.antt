@@ -8,7 +8,7 @@ use Rattle.gh_stack.specs.declared.scan_stack.StackStage.TheVariants.{Shade, Sto
 use Rattle.gh_stack.specs.Listing.{after_shade, first_of, is_busy, is_waiting, opening, StackScan, told_shaded, wish_of}
 use Rattle.gh_mutator.specs.MarkStack.{goes_on}
 
-first_going : (i : ℕ) (values : List Value) → goes_on (first_of i values) ≡ true
+pub first_going : (i : ℕ) (values : List Value) → goes_on (first_of i values) ≡ true
 first_going i [] = refl
 first_going i (value.Ref r ∷ values) = refl
 first_going i (value.Nil ∷ values) = first_going (i + 1) values

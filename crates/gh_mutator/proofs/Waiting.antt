@@ -1,18 +1,47 @@
 -- A wait, step by step.
 use Rattle.std.proofs.Common.{◌≡◌, ℕ, zero, suc, ◌+◌, ◌<◌, ◌≤◌, Bool, true, false, cond, ltb, ◌↔◌, length, Option, Some, None, refl, sym, ap, subst, ◌∙◌, arith}
+use Rattle.std.specs.Prelude.{IsNone}
 use Rattle.std.proofs.lemmas.Bool.Decides.{nat_tests}
 use Rattle.gh_base.specs.declared.cell.Cell.TheVariants as cell
-use Rattle.gh_base.specs.declared.cell.Ask.TheVariants.{Store}
+use Rattle.gh_base.specs.declared.cell.Ask.TheVariants.{Load, Store}
 use Rattle.gh_base.specs.declared.layout.Layout.{Layout}
 use Rattle.gh_class.specs.declared.class.TheConstants.{SPAN_CLASSES}
+use Rattle.gh_phase.specs.Listing as resume
+use Rattle.gh_wbuf.specs.RoomFinding as room
 use Rattle.gh_mutator.specs.declared.poll.Local.{Local}
-use Rattle.gh_mutator.specs.declared.poll.PollStage.TheVariants.{LoadPhase}
+use Rattle.gh_mutator.specs.declared.poll.PollStage.{PollStage}
+use Rattle.gh_mutator.specs.declared.poll.PollStage.TheVariants as poll_stage
 use Rattle.gh_mutator.specs.declared.wait.WaitStage.{WaitStage}
 use Rattle.gh_mutator.specs.declared.wait.WaitStage.TheVariants.{Want, Polling, LoadSwept, Ended}
+use Rattle.gh_mutator.specs.MarkStack as mark
 use Rattle.gh_mutator.specs.Poll as poll
 use Rattle.gh_mutator.specs.Wait.{after_poll, asks, asks_at, at_stage, given, gives_at, goes, is_later, polling, Waiting}
-use Rattle.gh_mutator.specs.Waits.{Acknowledges, after, StepsOfPolling, WaitsSo}
+use Rattle.gh_mutator.specs.PollEnds as poll_proved
+use Rattle.gh_mutator.specs.Waits.{Acknowledges, after, polled, PollsFrom, WaitsSo}
+use Rattle.gh_mutator.proofs.Aims.{aim, differs, give_aim, is_ack, is_marking, is_take, Looks, mark_aim, resume_aim, room_aim}
 use Rattle.gh_mutator.proofs.Polling as polls
+
+-- a poll does not load the number of the last swept cycle
+poll_looks : (stage : PollStage) → poll.asks_at stage ≡ Load cell.Swept → ⊥
+poll_looks poll_stage.LoadPhase e = cc
+poll_looks (poll_stage.Giving g stops) e = let no = sym (give_aim g g.stage) ∙ ap aim e in cc
+poll_looks (poll_stage.Resuming r) e = differs is_ack (aim (resume.asks r)) Looks (resume_aim r r.stage) refl (ap aim e)
+poll_looks (poll_stage.Marking g m) e = differs is_marking (aim (mark.asks m)) Looks (mark_aim m m.stage) refl (ap aim e)
+poll_looks (poll_stage.FindRoom r) e = differs is_take (aim (room.asks r)) Looks (room_aim r r.stage) refl (ap aim e)
+poll_looks poll_stage.Ended e = cc
+
+-- a poll that asks for a step has asked for one before
+was_busy : (p : poll.Polling) (stage : PollStage) (v : ℕ) → poll.is_busy (poll.goes_at p stage v).stage ≡ true → poll.is_busy stage ≡ true
+was_busy p poll_stage.LoadPhase v e = refl
+was_busy p (poll_stage.Giving g stops) v e = refl
+was_busy p (poll_stage.Resuming r) v e = refl
+was_busy p (poll_stage.Marking g m) v e = refl
+was_busy p (poll_stage.FindRoom r) v e = refl
+was_busy p poll_stage.Ended v e = absurd (cc)
+
+none_of : (o : Option (Unit {0})) → IsNone o → o ≡ None
+none_of None n = refl
+none_of (Some x) n = absurd (cc)
 
 module _ (l : Layout) (seat : ℕ) (local : Local) (found : ℕ → ℕ) where
   abbrev now : ℕ → Waiting
@@ -34,7 +63,7 @@ module _ (l : Layout) (seat : ℕ) (local : Local) (found : ℕ → ℕ) where
     knows : Knows own stage
 
   polling_is : (own : Local) (stage : WaitStage) → length own.cache ≡ SPAN_CLASSES → Is (polling (state own stage))
-  polling_is own stage k = record { own = own; stage = Polling (poll.opening l seat own true); is = refl; knows = polls.stage_is l seat true own LoadPhase k tt }
+  polling_is own stage k = record { own = own; stage = Polling (poll.opening l seat own true); is = refl; knows = polls.stage_is l seat true own poll_stage.LoadPhase k tt }
 
   poll_is : (own : Local) (p q : poll.Polling) (out : Option (Unit {0})) → polls.Is l seat true q → Is (after_poll (state own (Polling p)) q out)
   poll_is own p q None k = record { own = own; stage = Polling q; is = refl; knows = k }
@@ -52,18 +81,31 @@ module _ (l : Layout) (seat : ℕ) (local : Local) (found : ℕ → ℕ) where
 
   -- what the stages say of their steps
 
-  polls_so : (n : ℕ) (own : Local) (stage : WaitStage) (p : poll.Polling) → now n ≡ state own stage → Knows own stage → stage ≡ Polling p → StepsOfPolling l seat local found n p
-  polls_so n own (Polling q) p e k s = subst (λ (x : poll.Polling). StepsOfPolling l seat local found n x) same (record {
-    of_a_wait = ap (λ (x : poll.Polling). x.waits) k.is;
-    asks_it = ap asks e;
-    goes_on = λ g. ap (λ (w : Waiting). (goes w (found n)).stage) e ∙ ap (λ (o : Option (Unit {0})). (after_poll (state own (Polling q)) (poll.goes q (found n)) o).stage) g;
-    ends = λ g. ap (λ (w : Waiting). asks (goes w (found n))) e ∙ ap (λ (o : Option (Unit {0})). asks (after_poll (state own (Polling q)) (poll.goes q (found n)) o)) g;
-  }) where
-    same : q ≡ p
-    same = cc
-  polls_so n own Want p e k s = absurd (cc)
-  polls_so n own LoadSwept p e k s = absurd (cc)
-  polls_so n own Ended p e k s = absurd (cc)
+  -- after i steps of a poll that goes on it is at that poll
+  runs : (n : ℕ) (own : Local) → now n ≡ state own (Polling (poll.opening l seat own true)) → (i : ℕ) → poll.is_busy (polled l seat local found n own i).stage ≡ true → now (n + i) ≡ state own (Polling (polled l seat local found n own i))
+  runs n own e zero g = let is : n + 0 ≡ n = omega arith in ap now is ∙ e
+  runs n own e (suc i) g =
+      let p = polled l seat local found n own i in
+      let busy = was_busy p p.stage (found (n + i)) g in
+      let none : poll.gives p (found (n + i)) ≡ None = none_of (poll.gives p (found (n + i))) ((poll_proved.ends p (found (n + i)) busy).1 g) in
+      let is : n + suc i ≡ suc (n + i) = omega arith in
+      ap now is
+      ∙ ap (λ (w : Waiting). goes w (found (n + i))) (runs n own e i busy)
+      ∙ ap (λ (o : Option (Unit {0})). after_poll (state own (Polling p)) (poll.goes p (found (n + i))) o) none
+
+  behind : (n : ℕ) (own : Local) → now n ≡ state own (Polling (poll.opening l seat own true)) → (i : ℕ) → poll.is_busy (polled l seat local found n own i).stage ≡ true → poll.gives (polled l seat local found n own i) (found (n + i)) ≡ Some tt → now (n + suc i) ≡ record (state own LoadSwept) { local = (polled l seat local found n own (suc i)).local }
+  behind n own e i g ended =
+      let p = polled l seat local found n own i in
+      let is : n + suc i ≡ suc (n + i) = omega arith in
+      ap now is
+      ∙ ap (λ (w : Waiting). goes w (found (n + i))) (runs n own e i g)
+      ∙ ap (λ (o : Option (Unit {0})). after_poll (state own (Polling p)) (poll.goes p (found (n + i))) o) ended
+
+  polls_from : (n : ℕ) (own : Local) → now n ≡ state own (Polling (poll.opening l seat own true)) → PollsFrom l seat local found n own
+  polls_from n own e = record {
+    steps = λ i g. ap asks (runs n own e i g);
+    behind = λ i g ended. let is = behind n own e i g ended in record { loads = ap asks is; knows = ap (λ (w : Waiting). w.local) is };
+  }
 
   later_so : (known v : ℕ) → given (is_later known v) ≡ Some tt ↔ (known + 1 ≤ v)
   later_so known v = by (ltb known v) refl where
@@ -71,17 +113,20 @@ module _ (l : Layout) (seat : ℕ) (local : Local) (found : ℕ → ℕ) where
     by true e = (λ _. (let le : known + 1 ≤ v = grind (arith, nat_tests) in le), λ _. refl)
     by false e = (λ f. absurd (cc), λ le. absurd (let no : ltb known v ≡ true = grind (arith, nat_tests) in let f = sym e ∙ no in cc))
 
-  ends_so : (stage : WaitStage) (known v : ℕ) → gives_at known stage v ≡ Some tt ↔ ((stage ≡ LoadSwept) × (known + 1 ≤ v))
-  ends_so LoadSwept known v = (λ e. (refl, (later_so known v).0 e), λ p. (later_so known v).1 p.1)
-  ends_so Want known v = (λ e. absurd (cc), λ p. absurd (let e = p.0 in cc))
-  ends_so (Polling q) known v = (λ e. absurd (cc), λ p. absurd (let e = p.0 in cc))
-  ends_so Ended known v = (λ e. absurd (cc), λ p. absurd (let e = p.0 in cc))
+  ends_so : (own : Local) (stage : WaitStage) (known v : ℕ) → gives_at known stage v ≡ Some tt ↔ ((asks_at stage ≡ Load cell.Swept) × (known + 1 ≤ v))
+  ends_so own LoadSwept known v = (λ e. (refl, (later_so known v).0 e), λ p. (later_so known v).1 p.1)
+  ends_so own Want known v = (λ e. absurd (cc), λ p. absurd (let e = p.0 in cc))
+  ends_so own (Polling q) known v = (λ e. absurd (cc), λ p. absurd (poll_looks q.stage p.0))
+  ends_so own Ended known v = (λ e. absurd (cc), λ p. absurd (let e = p.0 in cc))
 
-  again_so : (own : Local) (v : ℕ) → v < local.view.begun + 1 → (goes (state own LoadSwept) v).stage ≡ Polling (poll.opening l seat own true)
-  again_so own v lt = by (ltb local.view.begun v) refl where
-    by : (b : Bool) → ltb local.view.begun v ≡ b → (cond b (at_stage (state own LoadSwept) Ended) (polling (state own LoadSwept))).stage ≡ Polling (poll.opening l seat own true)
+  again_so : (own : Local) (stage : WaitStage) (v : ℕ) → asks_at stage ≡ Load cell.Swept → v < local.view.begun + 1 → goes (state own stage) v ≡ state own (Polling (poll.opening l seat own true))
+  again_so own LoadSwept v e lt = by (ltb local.view.begun v) refl where
+    by : (b : Bool) → ltb local.view.begun v ≡ b → cond b (at_stage (state own LoadSwept) Ended) (polling (state own LoadSwept)) ≡ state own (Polling (poll.opening l seat own true))
     by true e = absurd (let less : local.view.begun < v = grind (arith, nat_tests) in omega arith)
     by false e = refl
+  again_so own Want v e lt = absurd (cc)
+  again_so own (Polling q) v e lt = absurd (poll_looks q.stage e)
+  again_so own Ended v e lt = absurd (cc)
 
   acks_so : (n : ℕ) (own : Local) (stage : WaitStage) (i number : ℕ) → now n ≡ state own stage → Knows own stage → asks_at stage ≡ Store (cell.Ack i) number → Acknowledges l seat local found n i
   acks_so n own (Polling p) i number e k f = record { polling = p; at_poll = ap (λ (w : Waiting). w.stage) e; nothing = polls.acks_is l seat true p i number k f }
@@ -94,21 +139,17 @@ module _ (l : Layout) (seat : ℕ) (local : Local) (found : ℕ → ℕ) where
     stands zero = record { own = local; stage = Want; is = refl; knows = place }
     stands (suc n) = let i = stands n in subst (λ (w : Waiting). Is (goes w (found n))) (sym i.is) (next i.own i.stage (found n) i.knows)
 
-    ends_at : (n : ℕ) (w : Waiting) → Is w → gives_at w.known w.stage (found n) ≡ Some tt ↔ ((w.stage ≡ LoadSwept) × (local.view.begun + 1 ≤ found n))
-    ends_at n w i = subst (λ (x : Waiting). gives_at x.known x.stage (found n) ≡ Some tt ↔ ((x.stage ≡ LoadSwept) × (local.view.begun + 1 ≤ found n))) (sym i.is) (ends_so i.stage local.view.begun (found n))
+    ends_at : (n : ℕ) (w : Waiting) → Is w → gives_at w.known w.stage (found n) ≡ Some tt ↔ ((asks w ≡ Load cell.Swept) × (local.view.begun + 1 ≤ found n))
+    ends_at n w i = subst (λ (x : Waiting). gives_at x.known x.stage (found n) ≡ Some tt ↔ ((asks x ≡ Load cell.Swept) × (local.view.begun + 1 ≤ found n))) (sym i.is) (ends_so i.own i.stage local.view.begun (found n))
 
-    again_at : (w : Waiting) (v : ℕ) → Is w → w.stage ≡ LoadSwept → v < local.view.begun + 1 → (goes w v).stage ≡ Polling (poll.opening l seat w.local true)
-    again_at w v i e lt =
-        let stage_is : i.stage ≡ LoadSwept = sym (ap (λ (x : Waiting). x.stage) i.is) ∙ e in
-        let is : w ≡ state i.own LoadSwept = i.is ∙ ap (λ (s : WaitStage). state i.own s) stage_is in
-        subst (λ (x : Waiting). (goes x v).stage ≡ Polling (poll.opening l seat x.local true)) (sym is) (again_so i.own v lt)
+    again_at : (w : Waiting) (v : ℕ) → Is w → asks w ≡ Load cell.Swept → v < local.view.begun + 1 → goes w v ≡ state w.local (Polling (poll.opening l seat w.local true))
+    again_at w v i e lt = subst (λ (x : Waiting). goes x v ≡ state x.local (Polling (poll.opening l seat x.local true))) (sym i.is) (again_so i.own i.stage v (sym (ap asks i.is) ∙ e) lt)
 
     pub waits_so : WaitsSo l seat local found
     waits_so = record {
       begins = refl;
-      polls = λ n p e. let i = stands n in polls_so n i.own i.stage p i.is i.knows (sym (ap (λ (w : Waiting). w.stage) i.is) ∙ e);
-      loads = λ n e. ap asks_at e;
+      polls = polls_from 1 local refl;
       ends = λ n. ends_at n (now n) (stands n);
-      again = λ n e lt. again_at (now n) (found n) (stands n) e lt;
+      again = λ n e lt. polls_from (suc n) (now n).local (again_at (now n) (found n) (stands n) e lt);
       acknowledges = λ n j number e. let i = stands n in acks_so n i.own i.stage j number i.is i.knows (sym (ap asks i.is) ∙ e);
     }

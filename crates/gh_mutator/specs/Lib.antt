@@ -34,6 +34,7 @@ pub mod Quiet
 pub mod Register
 pub mod Runs
 pub mod Serving
+pub mod ShadeSteps
 pub mod Sound
 pub mod StackMarks
 pub mod Step

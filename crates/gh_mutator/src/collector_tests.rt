@@ -3,18 +3,14 @@
 ghost use Rattle.std.specs.Prelude.{◌≡◌, ◌+◌, ◌<◌, ◌≤◌, true};
 ghost use Rattle.gh_base.specs.Holding.{IsHeld};
 ghost use Rattle.gh_mutator.specs.GiveSound.{FitsCache};
-ghost use Rattle.gh_mutator.specs.PollSound.{FitsLocal};
 ghost use Rattle.gh_mutator.specs.Wait.{is_busy};
 
 use crate::give::no_spans;
 use crate::{Cache, Give, Leave, Local, Wait, laws};
 use gh_alloc::CachedSpan;
-use gh_base::limits::MOST_GOROUTINES;
 use gh_base::trace::{Steps, run_alone};
-use gh_base::{Held, Layout, Machine, Req, Value};
+use gh_base::{Held, Layout, Machine, Req};
 use gh_class::size_class_laws;
-use gh_phase::View;
-use gh_stack::REGISTER_COUNT;
 use std::alloc::{AllocError, Global};
 use std::test::Fail;
 
@@ -94,22 +90,6 @@ fn all_is_given_back(rt: HostRuntime) -> Result<(), Fail> {
     Ok(())
 }
 
-/// What a processor knows when the heap opens.
-fn fresh(layout: &Layout) -> Local
-    ensures { FitsLocal layout.now result }
-{
-    let view = View::first();
-    let cache = no_spans();
-    Local {
-        view,
-        cache,
-        held: None,
-        polls: 0,
-        scanned: [0; MOST_GOROUTINES as usize],
-        stacks: [[Value::Nil; REGISTER_COUNT]; MOST_GOROUTINES as usize],
-    }
-}
-
 /// Tells it what its steps find: that it asks for just these steps, and ends with the last.
 fn tell(wait: &mut Wait, steps: &[(Req, u64)]) -> bool
     requires { is_busy wait.old.stage ≡ true }
@@ -128,7 +108,7 @@ fn tell(wait: &mut Wait, steps: &[(Req, u64)]) -> bool
 #[test]
 fn a_cycle_is_waited_for(rt: HostRuntime) -> Result<(), Fail> {
     let layout = Layout::new(16, 1, 1, 1, 1)?;
-    let mut wait = Wait::new(&layout, 0, &fresh(&layout));
+    let mut wait = Wait::new(&layout, 0, &Local::first(&layout));
     let steps = [
         (Req::Or(6, 1), 0),
         // no marking, and no cycle is swept

@@ -86,22 +86,25 @@ pub fn nothing_is_held_at_leave()
 {}
 
 /// A poll begins with a load of the phase. It acknowledges a stop for its own seat, with no span cached and
-/// no buffer held. It scans a stack at a fourth poll while marking is on: that of the lowest goroutine of the
-/// processor that has not ended and was not scanned in this cycle. It looks for a buffer with room at its end
-/// only where it is no part of a wait.
+/// no buffer held. A stack is due at a fourth poll while marking is on: that of the lowest goroutine of the
+/// processor that has not ended and was not scanned in this cycle. A stack that is due is scanned, once,
+/// before the poll ends: the step that tells so comes right behind those that shade what its registers name,
+/// in order. No other stack is scanned. The poll takes a buffer at its end only where it is no part of a
+/// wait. It is counted while marking is on; where another cycle has begun, the polls are counted anew.
 pub fn polls_hold_nothing_at_stops()
     ensures { PollsHoldNothingAtStops }
 {}
 
-/// A wait asks for a cycle first, and then polls and loads the number of the last swept cycle, again and
-/// again. It ends exactly where such a load tells at least one more than the cycle that the processor knew
-/// when it began. Its polls are those of a wait; they acknowledge a stop with nothing held.
+/// A wait asks for a cycle first. Then its steps are those of a poll and a load of the number of the last
+/// swept cycle, again and again. It ends exactly where such a load tells at least one more than the cycle
+/// that the processor knew when it began. Its polls are those of a wait; they acknowledge a stop with nothing
+/// held.
 pub fn waits_end_with_a_cycle()
     ensures { WaitsEndWithACycle }
 {}
 
-/// The scan of a stack shades what the scan wishes for, and tells it once that is shaded. Its last step
-/// stores the cycle, where no wish is left.
+/// The scan of a stack tells that the stack is scanned with its last step alone. The steps before it shade
+/// what the registers name, one reference after the other in the order of the registers, and nothing else.
 pub fn wishes_of_a_stack_are_shaded()
     ensures { WishesOfAStackAreShaded }
 {}

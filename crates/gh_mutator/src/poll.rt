@@ -3,6 +3,7 @@
 ghost use Rattle.std.specs.Prelude.{◌≡◌, ◌^◌, ◌<◌, IfSome, length, true};
 ghost use Rattle.gh_base.specs.declared.limits.TheConstants.{MOST_GOROUTINES};
 ghost use Rattle.gh_phase.specs.Listing as resumes;
+ghost use Rattle.gh_phase.specs.Views.{first_view};
 ghost use Rattle.gh_wbuf.specs.RoomFinding as rooms;
 ghost use Rattle.gh_mutator.specs.Give as gives;
 ghost use Rattle.gh_mutator.specs.MarkStack as marks;
@@ -10,7 +11,7 @@ ghost use Rattle.gh_mutator.specs.GiveSound.{Runs};
 ghost use Rattle.gh_mutator.specs.Poll.{begins_stack, counted, due, first_due, given, goes_at, has_two, is_busy, is_due, marks_then, opening, room_stage, stops_then};
 ghost use Rattle.gh_mutator.specs.PollSound.{FitsLocal, FitsStage};
 
-use crate::give::{Cache, Give};
+use crate::give::{Cache, Give, no_spans};
 use crate::mark_stack::MarkStack;
 use gh_base::limits::MOST_GOROUTINES;
 use gh_base::{Ask, Cell, END, ENTRIES, Held, Layout, Machine, PhaseWord, Req, Value};
@@ -40,6 +41,28 @@ pub struct Local {
     pub scanned: Scanned,
     /// The stacks.
     pub stacks: Stacks,
+}
+
+impl Local {
+    /// What a processor knows when the heap opens: no span is cached, no buffer held, no stack scanned, and
+    /// each register is nil.
+    pub fn first(layout: &Layout) -> Local
+        ensures view { result.view ≡ first_view }
+        ensures polls { result.polls ≡ 0 }
+        ensures fits { FitsLocal layout.now result }
+    {
+        let _ = layout;
+        let view = View::first();
+        let cache = no_spans();
+        Local {
+            view,
+            cache,
+            held: None,
+            polls: 0,
+            scanned: [0; MOST_GOROUTINES as usize],
+            stacks: [[Value::Nil; REGISTER_COUNT]; MOST_GOROUTINES as usize],
+        }
+    }
 }
 
 /// The stages of a poll.

@@ -1,8 +1,8 @@
 use Rattle.std.proofs.Common.{refl}
-use Rattle.gh_mutator.proofs.collector_tests.fresh.Goals as goal
+use Rattle.gh_mutator.proofs.poll.Local.first.Goals as goal
 
-pub returns : goal.returns
-returns c = record {
+pub returns-clause-fits : goal.returns-clause-fits
+returns-clause-fits c = record {
   view = c.first-view.ensures.fits;
   room = c.no_spans-cache.ensures.room;
   cache = c.no_spans-cache.ensures.fits c.args.layout.now;
