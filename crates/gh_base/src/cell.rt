@@ -100,6 +100,7 @@ pub enum Req {
 
 impl Req {
     /// The number of the word that it is on.
+    #[inline(always)]
     pub fn word(self) -> u32
         ensures { result ≡ target self }
     {
@@ -114,6 +115,7 @@ impl Req {
     }
 
     /// What it leaves where it finds this.
+    #[inline(always)]
     pub fn left(self, found: u64) -> u64
         ensures { result ≡ leaves self found }
     {

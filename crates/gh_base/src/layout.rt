@@ -115,6 +115,8 @@ impl Layout {
     }
 
     /// The number of the cell's word.
+    // A machine names the row of its cell, so once this stands in its code no choice is left to make.
+    #[inline(always)]
     pub fn word(&self, cell: Cell) -> u32
         requires { InRange self.now cell }
         ensures at { result ≡ word_of self.now cell }
@@ -151,6 +153,8 @@ impl Layout {
     }
 
     /// The same step on the cell's word, by its number.
+    // As `word`: a machine names the kind of its step.
+    #[inline(always)]
     pub fn request(&self, ask: Ask) -> Req
         requires { InRange self.now (cell_of ask) }
         ensures same { result ≡ request self.now ask }

@@ -1,8 +1,10 @@
 //! The load and the store of a global.
 
-ghost use Rattle.std.specs.Prelude.{◌≡◌, ◌<◌};
+ghost use Rattle.std.specs.Prelude.{◌≡◌, ℕ, ◌<◌};
 ghost use Rattle.gh_base.specs.Cells.{InRange};
 ghost use Rattle.gh_base.specs.Steps.{cell_of};
+ghost use Rattle.gh_base.specs.declared.layout.Layout.{Layout};
+ghost use Rattle.gh_base.specs.declared.value.Value.{Value};
 ghost use Rattle.gh_mutator.specs.Fields.{told};
 ghost use Rattle.gh_mutator.specs.Global.{asks, at_stage, begins_load, begins_store, naming, step};
 ghost use Rattle.gh_mutator.specs.Sound.{IsNear};
@@ -117,6 +119,16 @@ impl Global {
             },
             GlobalStage::Store => Step::ends(Answer::Done),
             GlobalStage::Number => Step::ends(Answer::Fault(Fault::Kind)),
+        }
+    }
+
+    /// That it acts by its next step.
+    pub(crate) fn acts(&self) -> bool
+        ensures { (l : Layout) → (held : Value) → (found : ℕ) → result ≡ (step l held self.now found).acts }
+    {
+        match self.stage {
+            GlobalStage::Birth { .. } => false,
+            _ => true,
         }
     }
 }

@@ -4,6 +4,7 @@
 ghost use Rattle.std.specs.Prelude.{◌≡◌};
 ghost use Rattle.gh_base.specs.Cells.{InRange};
 ghost use Rattle.gh_base.specs.Steps.{cell_of};
+ghost use Rattle.gh_base.specs.declared.layout.Layout.{Layout};
 ghost use Rattle.gh_mutator.specs.Fields.{told};
 ghost use Rattle.gh_mutator.specs.Load.{asks, at_stage, begins, naming, step};
 ghost use Rattle.gh_mutator.specs.Sound.{IsNear, SoundLoad};
@@ -134,6 +135,17 @@ impl Load {
                 sets: None,
                 acts: false,
             },
+        }
+    }
+
+    /// That it acts by the step that finds this.
+    pub(crate) fn acts(&self, found: u64) -> bool
+        ensures { (l : Layout) → result ≡ (step l self.now found).acts }
+    {
+        match self.stage {
+            LoadStage::NilBase | LoadStage::Field { .. } => true,
+            LoadStage::Page => !has_field(self.k, found),
+            LoadStage::Bits | LoadStage::Birth { .. } => false,
         }
     }
 }

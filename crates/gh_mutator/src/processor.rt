@@ -2,7 +2,7 @@
 
 ghost use Rattle.std.specs.Prelude.{◌≡◌, ◌<◌, true};
 ghost use Rattle.gh_mutator.specs.Listing.{begins, is_busy_at};
-ghost use Rattle.gh_mutator.specs.Processor.{cache_span, cached_for, opening_processor, register_of, set_register, with_value};
+ghost use Rattle.gh_mutator.specs.Processor.{at_task, cache_span, cached_for, opening_processor, register_of, set_register, with_value};
 ghost use Rattle.gh_mutator.specs.Register as register;
 ghost use Rattle.gh_mutator.specs.declared.task.Task.TheVariants as task;
 ghost use Rattle.gh_base.specs.Shapes.{ShapesFit};
@@ -13,7 +13,7 @@ use crate::load::Load;
 use crate::own::Own;
 use crate::register::{Register, Source};
 use crate::store::Store;
-use crate::task::Task;
+use crate::task::{Statement, Task};
 use gh_alloc::{CachedSpan, Sought};
 use gh_base::limits::{MOST_GOROUTINES, REGISTERS};
 use gh_base::{Layout, Op, Shapes, Value};
@@ -39,10 +39,10 @@ pub struct Processor<'s> {
 }
 
 /// A statement begins that register `d` of goroutine `g` takes a value.
-fn begin_register<'s>(g: u32, d: u32, source: Source) -> Task<'s>
-    ensures { result ≡ task.Register (register.begins g d source) }
+fn begin_register(g: u32, d: u32, source: Source) -> Register
+    ensures { result ≡ register.begins g d source }
 {
-    Task::Register(Register { g, d, source })
+    Register { g, d, source }
 }
 
 impl<'s> Processor<'s> {
@@ -117,21 +117,37 @@ impl<'s> Processor<'s> {
         ensures sound { Sound shapes.now self.new }
     {
         size_class_laws();
-        self.task = match op {
-            Op::New { g, d, t } => self.begin_new(shapes, g, d, t),
-            Op::Load { g, d, b, k } => Task::Load(Load::begin(g, d, b, k, self.register(g, b))),
-            Op::Store { g, b, k, v } => Task::Store(Store::begin(g, b, k, v, self.register(g, b))),
-            Op::GetGlobal { g, d, k } => Task::Global(Global::begin_load(g, d, k)),
+        match op {
+            Op::New { g, d, t } => self.task = self.begin_new(shapes, g, d, t),
+            Op::Load { g, d, b, k } => self.start(Load::begin(g, d, b, k, self.register(g, b))),
+            Op::Store { g, b, k, v } => self.start(Store::begin(g, b, k, v, self.register(g, b))),
+            Op::GetGlobal { g, d, k } => self.start(Global::begin_load(g, d, k)),
             Op::SetGlobal { g, k, v } => {
-                Task::Global(Global::begin_store(g, k, v, self.register(g, v)))
+                self.start(Global::begin_store(g, k, v, self.register(g, v)))
             }
-            Op::Int { g, d, n } => begin_register(g, d, Source::Int(n)),
-            Op::Move { g, d, s } => begin_register(g, d, Source::Move(s)),
-            Op::Nil { g, d } => begin_register(g, d, Source::Nil),
+            Op::Int { g, d, n } => self.start(begin_register(g, d, Source::Int(n))),
+            Op::Move { g, d, s } => self.start(begin_register(g, d, Source::Move(s))),
+            Op::Nil { g, d } => self.start(begin_register(g, d, Source::Nil)),
             Op::Gc { g: _ } => unreachable!(),
-            Op::Poll => Task::Own(Own::Poll),
-            Op::End(g) => Task::Own(Own::End(g)),
-            Op::Leave => Task::Own(Own::Leave),
-        };
+            Op::Poll => self.start_own(Own::Poll),
+            Op::End(g) => self.start_own(Own::End(g)),
+            Op::Leave => self.start_own(Own::Leave),
+        }
+    }
+
+    /// It is at this statement from now on.
+    // Each branch of `begin` writes its own task, since one task that all branches make would be built
+    // with the fields of every kind, and then copied.
+    fn start<S: Statement<'s>>(&mut self, statement: S)
+        ensures { self.new ≡ at_task self.old (S.as_task statement) }
+    {
+        self.task = statement.as_task();
+    }
+
+    /// It is at this operation of its own from now on.
+    fn start_own(&mut self, own: Own)
+        ensures { self.new ≡ at_task self.old (task.Own own) }
+    {
+        self.task = Task::Own(own);
     }
 }

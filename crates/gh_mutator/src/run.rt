@@ -1,17 +1,29 @@
 //! The steps of a processor: what its task asks for, where it goes by what was found, what it then
 //! answers, and where a statement acts. A statement says so in its own file; here it is applied.
 
-ghost use Rattle.std.specs.Prelude.{◌≡◌, true};
+ghost use Rattle.std.specs.Prelude.{◌≡◌, true, Some};
 ghost use Rattle.gh_base.specs.Cells.{InRange};
 ghost use Rattle.gh_base.specs.Steps.{cell_of, request};
-ghost use Rattle.gh_mutator.specs.Listing.{acts, applied, asks, gives, is_busy_at, takes};
+ghost use Rattle.gh_base.specs.declared.value.Answer.TheVariants.{Done};
+ghost use Rattle.gh_mutator.specs.Global as global;
+ghost use Rattle.gh_mutator.specs.Listing.{acts, applied, asks, gives, is_busy_at, rests, takes};
+ghost use Rattle.gh_mutator.specs.Load as load;
+ghost use Rattle.gh_mutator.specs.Processor.{at_task, register_of};
+ghost use Rattle.gh_mutator.specs.Register as register;
 ghost use Rattle.gh_mutator.specs.Serving.{is_point, is_serving};
-ghost use Rattle.gh_mutator.specs.Sound.{IsRegister, Sound};
+ghost use Rattle.gh_mutator.specs.Sound.{IsRegister, Sound, SoundLoad, SoundRegister, SoundStore};
 ghost use Rattle.gh_mutator.specs.Step.{answered};
+ghost use Rattle.gh_mutator.specs.Store as store;
+ghost use Rattle.gh_mutator.specs.declared.task.Task.TheVariants as task;
 
+use crate::global::Global;
+use crate::load::Load;
 use crate::new::NewStage;
+use crate::own::Own;
 use crate::processor::Processor;
+use crate::register::Register;
 use crate::step::{Step, Then};
+use crate::store::Store;
 use crate::task::{Statement, Task};
 use gh_base::{Answer, Ask, Cell, Machine, Req, Shapes};
 use gh_class::size_class_laws;
@@ -71,28 +83,64 @@ impl<'s> Processor<'s> {
         size_class_laws();
         match self.task {
             Task::Idle | Task::Left => None,
-            Task::Load(x) => {
-                let step = x.step(&self.layout, found);
-                self.apply(x.g, x.d, step)
-            }
-            Task::Store(x) => {
-                let step = x.step(&self.layout, self.register(x.g, x.v), found);
-                self.apply(x.g, x.v, step)
-            }
-            Task::Global(x) => {
-                let step = x.step(&self.layout, self.register(x.g, x.r), found);
-                self.apply(x.g, x.r, step)
-            }
-            Task::Register(x) => {
-                let step = x.step(self.register(x.g, x.read()));
-                self.apply(x.g, x.d, step)
-            }
+            Task::Load(x) => self.take_load(x, found),
+            Task::Store(x) => self.take_store(x, found),
+            Task::Global(x) => self.take_global(x, found),
+            Task::Register(x) => self.take_register(x),
             Task::New(_) => self.take_new(shapes, found),
-            Task::Own(own) => {
-                self.task = own.rest();
-                Some(Answer::Done)
-            }
+            Task::Own(own) => self.take_own(own),
         }
+    }
+
+    // A function for each kind of statement: the step that it makes in memory is then no part of the others.
+
+    /// Goes on with this load.
+    fn take_load(&mut self, x: Load, found: u64) -> Option<Answer>
+        requires { SoundLoad self.old.layout.pages x }
+        ensures goes { self.new ≡ applied task.Load self.old x.g x.d (load.step self.old.layout x found) }
+        ensures gives { result ≡ answered (load.step self.old.layout x found).then }
+    {
+        let step = x.step(&self.layout, found);
+        self.apply(x.g, x.d, step)
+    }
+
+    /// Goes on with this store.
+    fn take_store(&mut self, x: Store, found: u64) -> Option<Answer>
+        requires { SoundStore self.old.layout.pages x }
+        ensures goes { self.new ≡ applied task.Store self.old x.g x.v (store.step self.old.layout (register_of self.old x.g x.v) x found) }
+        ensures gives { result ≡ answered (store.step self.old.layout (register_of self.old x.g x.v) x found).then }
+    {
+        let step = x.step(&self.layout, self.register(x.g, x.v), found);
+        self.apply(x.g, x.v, step)
+    }
+
+    /// Goes on with this load or store of a global.
+    fn take_global(&mut self, x: Global, found: u64) -> Option<Answer>
+        requires { IsRegister x.g x.r }
+        ensures goes { self.new ≡ applied task.Global self.old x.g x.r (global.step self.old.layout (register_of self.old x.g x.r) x found) }
+        ensures gives { result ≡ answered (global.step self.old.layout (register_of self.old x.g x.r) x found).then }
+    {
+        let step = x.step(&self.layout, self.register(x.g, x.r), found);
+        self.apply(x.g, x.r, step)
+    }
+
+    /// Makes this statement on registers.
+    fn take_register(&mut self, x: Register) -> Option<Answer>
+        requires { SoundRegister x }
+        ensures goes { self.new ≡ applied task.Register self.old x.g x.d (register.step (register_of self.old x.g (register.read_of x)) x) }
+        ensures gives { result ≡ answered (register.step (register_of self.old x.g (register.read_of x)) x).then }
+    {
+        let step = x.step(self.register(x.g, x.read()));
+        self.apply(x.g, x.d, step)
+    }
+
+    /// Makes this operation of its own.
+    fn take_own(&mut self, own: Own) -> Option<Answer>
+        ensures goes { self.new ≡ at_task self.old (rests own) }
+        ensures gives { result ≡ Some Done }
+    {
+        self.task = own.rest();
+        Some(Answer::Done)
     }
 
     /// It runs a statement of a goroutine.
@@ -113,9 +161,9 @@ impl<'s> Processor<'s> {
         let layout = &self.layout;
         match &self.task {
             Task::Idle | Task::Left | Task::Own(_) => false,
-            Task::Load(x) => x.step(layout, found).acts,
-            Task::Store(x) => x.step(layout, self.register(x.g, x.v), found).acts,
-            Task::Global(x) => x.step(layout, self.register(x.g, x.r), found).acts,
+            Task::Load(x) => x.acts(found),
+            Task::Store(x) => x.acts(layout, self.register(x.g, x.v), found),
+            Task::Global(x) => x.acts(),
             Task::Register(_) => true,
             Task::New(new) => match &new.stage {
                 NewStage::Find(find) => find.refuses(),

@@ -106,4 +106,16 @@ impl Store {
             StoreStage::Field => Step::ends(Answer::Done),
         }
     }
+
+    /// That it acts by the step that finds this, where register `v` holds this.
+    pub(crate) fn acts(&self, layout: &Layout, held: Value, found: u64) -> bool
+        requires { SoundStore layout.now.pages self.now }
+        ensures { result ≡ (step layout.now held self.now found).acts }
+    {
+        match self.stage {
+            StoreStage::NilBase | StoreStage::Field => true,
+            StoreStage::Page => !has_field(self.k, found),
+            StoreStage::Bits => kinds_differ(is_pointer_by(layout, self.at + self.k, found), held),
+        }
+    }
 }
