@@ -14,6 +14,7 @@
 
 mod cell;
 mod held;
+mod index;
 pub mod laws;
 mod layout;
 pub mod limits;
@@ -28,6 +29,7 @@ mod value;
 
 pub use cell::{Ask, Cell, Req};
 pub use held::Held;
+pub use index::modulo;
 pub use layout::{Layout, LayoutFault};
 pub use machine::{Entry, Machine};
 pub use operation::Op;

@@ -5,7 +5,7 @@ ghost use Rattle.gh_base.specs.Cells.{InRange};
 ghost use Rattle.gh_base.specs.Steps.{cell_of};
 ghost use Rattle.gh_bitmap.specs.ReadPointer.{asks, opening};
 
-use gh_base::{Ask, Cell, Layout, Machine, Req};
+use gh_base::{Ask, Cell, Layout, Machine, Req, modulo};
 use std::marker::Model;
 
 /// The stages of the routine that reads a pointer bit.
@@ -54,7 +54,10 @@ impl ReadPointer {
         ensures within { InRange self.now.layout (cell_of result) }
     {
         match self.stage {
-            ReadStage::Load => Ask::Load(Cell::Bitmap(self.at / 64 % (16 * self.layout.pages))),
+            ReadStage::Load => Ask::Load(Cell::Bitmap(modulo(
+                self.at / 64,
+                16 * self.layout.pages,
+            ))),
             ReadStage::Ended => Ask::Load(Cell::Touch),
         }
     }

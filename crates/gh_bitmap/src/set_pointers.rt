@@ -7,7 +7,7 @@ ghost use Rattle.gh_bitmap.specs.SetPointers.{asks, goes_at, next_stage, opening
 
 use crate::bits::{pointer_bits, slot_bits};
 use gh_base::limits::MOST_PAGES;
-use gh_base::{Ask, Cell, Layout, Machine, Req, Shape};
+use gh_base::{Ask, Cell, Layout, Machine, Req, Shape, modulo};
 use std::marker::Model;
 
 /// The stages of the routine that sets pointer bits.
@@ -73,11 +73,11 @@ impl<'s> SetPointers<'s> {
         match self.stage {
             SetStage::Clear(i) => {
                 let others = u64::MAX - slot_bits(self.at, self.slot, i);
-                Ask::And(Cell::Bitmap(i % row), others)
+                Ask::And(Cell::Bitmap(modulo(i, row)), others)
             }
             SetStage::Set(i) => {
                 let pointers = pointer_bits(self.shape, self.at, i);
-                Ask::Or(Cell::Bitmap(i % row), pointers)
+                Ask::Or(Cell::Bitmap(modulo(i, row)), pointers)
             }
             SetStage::Ended => Ask::Load(Cell::Touch),
         }

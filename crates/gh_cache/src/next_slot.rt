@@ -7,7 +7,7 @@ ghost use Rattle.gh_class.specs.Classes.{pages_of, slots_of};
 ghost use Rattle.gh_cache.specs.Listing.{asks, gives, goes, opening, slot_at};
 
 use gh_base::limits::MOST_PAGES;
-use gh_base::{Ask, Cell, Layout, Machine, Req};
+use gh_base::{Ask, Cell, Layout, Machine, Req, modulo};
 use gh_class::{Class, size_class_laws};
 use std::marker::Model;
 
@@ -99,7 +99,7 @@ impl NextSlot {
         match self.stage {
             SlotStage::Look => {
                 let word = self.span.word();
-                Ask::Load(Cell::Alloc(word / 64 % (16 * self.layout.pages)))
+                Ask::Load(Cell::Alloc(modulo(word / 64, 16 * self.layout.pages)))
             }
             SlotStage::Ended => Ask::Load(Cell::Touch),
         }
