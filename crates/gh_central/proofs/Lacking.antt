@@ -1,7 +1,9 @@
 -- The test for a clear slot says what it is to say.
-use Rattle.std.proofs.Common.{◌≡◌, ℕ, zero, suc, ◌<◌, Bool, true, false, ◌||◌, ◌↔◌, IsTrue, inl, inr, refl, sym, subst, arith}
+use Rattle.std.proofs.Common.{◌≡◌, ℕ, zero, suc, ◌+◌, ◌*◌, ◌/◌, ◌%◌, ◌-◌, ◌<◌, ◌≤◌, Bool, true, false, ◌||◌, ◌↔◌, IsTrue, inl, inr, refl, sym, ap, ◌∙◌, subst, arith}
+use Rattle.std.specs.Int.{bit_at}
 use Rattle.std.proofs.lemmas.Bool.{cases_order}
 use Rattle.std.proofs.lemmas.Bool.Decides.{nat_tests}
+use Rattle.std.proofs.Math.Nat.{mul-mod_left}
 use Rattle.gh_central.specs.Slots.{IsClear, LacksSlot, is_clear, lacks_slot}
 
 module _ (slot first word found : ℕ) where
@@ -41,3 +43,15 @@ module _ (slot first word found : ℕ) where
 pub test_is : (slot slots first word found : ℕ) (b : Bool) → IsTrue b ↔ LacksSlot slot slots first word found → b ≡ lacks_slot slot slots first word found
 test_is slot slots first word found true h = sym (lacks_is slot first word found slots (h.0 refl))
 test_is slot slots first word found false h = sym (lacks_none slot first word found slots (λ l. let e : false ≡ true = h.1 l in absurd (cc)))
+
+-- where each bit of the word is set at which a slot may begin, none is lacking
+pub none_lacking : (slot slots first word found : ℕ) → first ≤ 64 * word → ((j : ℕ) → j < 64 → (64 * word - first + j) % slot ≡ 0 → bit_at found j ≡ 1) → lacks_slot slot slots first word found ≡ false
+none_lacking slot slots first word found behind set = lacks_none slot first word found slots none where
+  none : ¬ LacksSlot slot slots first word found
+  none (i, low, c) =
+      let at = first + i * slot in
+      let begins : at / 64 ≡ word = c.begins in
+      let clear : bit_at found (at % 64) ≡ 0 = c.clear in
+      let into : 64 * word - first + at % 64 ≡ i * slot = omega arith in
+      let one : bit_at found (at % 64) ≡ 1 = set (at % 64) (omega arith) (ap (λ (x : ℕ). x % slot) into ∙ mul-mod_left i slot) in
+      absurd (omega arith)

@@ -4,3 +4,4 @@ pub mod Owning
 mod PassRights
 pub mod Passing
 pub mod Reclaiming
+mod Starts

@@ -1,15 +1,15 @@
 //! The pass over the spans for one with a clear slot.
 
-ghost use Rattle.std.specs.Prelude.{◌≡◌, ◌+◌, ◌*◌, ◌^◌, ◌<◌, ◌≤◌};
+ghost use Rattle.std.specs.Prelude.{◌≡◌, ◌+◌, ◌*◌, ◌^◌, ◌<◌, ◌≤◌, IsTrue, None, false};
 ghost use Rattle.gh_base.specs.Cells.{InRange, seats_of};
 ghost use Rattle.gh_base.specs.Steps.{cell_of};
 ghost use Rattle.gh_base.specs.Packing.{FitsHead, FitsPage, head_word};
-ghost use Rattle.gh_central.specs.SweptPass.{after_bits, after_page, alloc_word, asks, given, goes_at, is_wanted, lacks_at, look_from, opening, owned_by};
+ghost use Rattle.gh_central.specs.SweptPass.{after_bits, after_page, alloc_word, asks, given, gives, goes, goes_at, is_wanted, lacks_at, look_from, opening, owned_by};
 
-use crate::slots::lacks_slot;
+use crate::slots::{lacks_slot, none_clear};
 use gh_base::laws::packed_words_are_read_back;
 use gh_base::limits::MOST_PAGES;
-use gh_base::{Ask, Cell, Layout, Machine, PageWord, Req, SpanHead};
+use gh_base::{Ask, Cell, Layout, Machine, PageWord, Req, SpanHead, modulo};
 use gh_class::{SizeClass, SpanClass};
 use std::marker::Model;
 
@@ -105,7 +105,7 @@ impl SweptPass {
         ensures is { result ≡ alloc_word self.now page word }
         ensures within { result < 16 * self.now.layout.pages }
     {
-        (16 * page + word) % (16 * self.layout.pages)
+        modulo(16 * page + word, 16 * self.layout.pages)
     }
 
     /// Alloc word `word` of the span at this page lacks a slot's bit.
@@ -115,6 +115,9 @@ impl SweptPass {
         ensures { result ≡ lacks_at self.now page word found }
     {
         let slot = self.wanted.class.slot_words();
+        if none_clear(slot, 64 * word, found) {
+            return false;
+        }
         let slots = self.wanted.class.slots();
         lacks_slot(slot, slots, 1024 * page, 16 * page + word, found)
     }
@@ -199,6 +202,27 @@ impl SweptPass {
         }
     }
 
+    /// It goes on to the span's next alloc word, where the word found leads there: of all steps of a pass most
+    /// do, and they change one number.
+    fn goes_on(&mut self, found: u64) -> bool
+        ensures goes { IsTrue result → self.new ≡ goes self.old found }
+        ensures gives { IsTrue result → gives self.old found ≡ None }
+        ensures stays { result ≡ false → self.new ≡ self.old }
+    {
+        let PassStage::Bits { page, head, word } = self.stage else {
+            return false;
+        };
+        if word + 1 >= 16 * head.pages || self.lacks(page, word, found) {
+            return false;
+        }
+        self.stage = PassStage::Bits {
+            page,
+            head,
+            word: word + 1,
+        };
+        true
+    }
+
     /// Its stage after its step found this.
     fn go(&self, found: u64) -> PassStage
         ensures { result ≡ goes_at self.now self.now.stage found }
@@ -248,6 +272,9 @@ impl Machine for SweptPass {
 
     fn take(&mut self, found: u64) -> Option<Option<u32>> {
         packed_words_are_read_back();
+        if self.goes_on(found) {
+            return None;
+        }
         let to = self.go(found);
         let out = given(&self.stage, &to);
         self.stage = to;

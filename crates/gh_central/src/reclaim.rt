@@ -8,7 +8,7 @@ ghost use Rattle.gh_central.specs.Reclaim.{after_bits, after_page, alloc_word, a
 
 use gh_base::laws::packed_words_are_read_back;
 use gh_base::limits::MOST_PAGES;
-use gh_base::{Ask, Cell, Layout, Machine, PageWord, Req, SpanHead};
+use gh_base::{Ask, Cell, Layout, Machine, PageWord, Req, SpanHead, modulo};
 use std::marker::Model;
 
 /// The stages of the freeing of empty spans.
@@ -96,7 +96,7 @@ impl Reclaim {
         ensures is { result ≡ alloc_word self.now page word }
         ensures within { result < 16 * self.now.layout.pages }
     {
-        (16 * page + word) % (16 * self.layout.pages)
+        modulo(16 * page + word, 16 * self.layout.pages)
     }
 
     /// The page at this distance from the first page of a span.
@@ -106,7 +106,7 @@ impl Reclaim {
         ensures is { result ≡ body_page self.now page distance }
         ensures within { result < self.now.layout.pages }
     {
-        (page + distance) % self.layout.pages
+        modulo(page + distance, self.layout.pages)
     }
 
     /// The step that it asks for.

@@ -1,7 +1,111 @@
 //! The slots of a span that begin in one alloc word.
 
-ghost use Rattle.std.specs.Prelude.{◌≡◌, ℕ, ◌+◌, ◌*◌, ◌-◌, ◌<◌, ◌≤◌, ◌^◌, ◌↔◌, IsTrue};
-ghost use Rattle.gh_central.specs.Slots.{LacksSlot, lacks_slot};
+ghost use Rattle.std.specs.Prelude.{◌≡◌, ℕ, ◌+◌, ◌*◌, ◌-◌, ◌%◌, ◌<◌, ◌≤◌, ◌^◌, ◌↔◌, IsTrue, slice_index};
+ghost use Rattle.std.specs.Int.{bit_at};
+ghost use Rattle.gh_central.specs.Slots.{LacksSlot, lacks_slot, slot_starts};
+
+// By the words of a slot: the bits at which slots begin, the first at bit 0.
+const STARTS: [u64; 64] = [
+    0x0000_0000_0000_0000,
+    0xffff_ffff_ffff_ffff,
+    0x5555_5555_5555_5555,
+    0x9249_2492_4924_9249,
+    0x1111_1111_1111_1111,
+    0x1084_2108_4210_8421,
+    0x1041_0410_4104_1041,
+    0x8102_0408_1020_4081,
+    0x0101_0101_0101_0101,
+    0x8040_2010_0804_0201,
+    0x1004_0100_4010_0401,
+    0x0080_1002_0040_0801,
+    0x1001_0010_0100_1001,
+    0x0010_0080_0400_2001,
+    0x0100_0400_1000_4001,
+    0x1000_2000_4000_8001,
+    0x0001_0001_0001_0001,
+    0x0008_0004_0002_0001,
+    0x0040_0010_0004_0001,
+    0x0200_0040_0008_0001,
+    0x1000_0100_0010_0001,
+    0x8000_0400_0020_0001,
+    0x0000_1000_0040_0001,
+    0x0000_4000_0080_0001,
+    0x0001_0000_0100_0001,
+    0x0004_0000_0200_0001,
+    0x0010_0000_0400_0001,
+    0x0040_0000_0800_0001,
+    0x0100_0000_1000_0001,
+    0x0400_0000_2000_0001,
+    0x1000_0000_4000_0001,
+    0x4000_0000_8000_0001,
+    0x0000_0001_0000_0001,
+    0x0000_0002_0000_0001,
+    0x0000_0004_0000_0001,
+    0x0000_0008_0000_0001,
+    0x0000_0010_0000_0001,
+    0x0000_0020_0000_0001,
+    0x0000_0040_0000_0001,
+    0x0000_0080_0000_0001,
+    0x0000_0100_0000_0001,
+    0x0000_0200_0000_0001,
+    0x0000_0400_0000_0001,
+    0x0000_0800_0000_0001,
+    0x0000_1000_0000_0001,
+    0x0000_2000_0000_0001,
+    0x0000_4000_0000_0001,
+    0x0000_8000_0000_0001,
+    0x0001_0000_0000_0001,
+    0x0002_0000_0000_0001,
+    0x0004_0000_0000_0001,
+    0x0008_0000_0000_0001,
+    0x0010_0000_0000_0001,
+    0x0020_0000_0000_0001,
+    0x0040_0000_0000_0001,
+    0x0080_0000_0000_0001,
+    0x0100_0000_0000_0001,
+    0x0200_0000_0000_0001,
+    0x0400_0000_0000_0001,
+    0x0800_0000_0000_0001,
+    0x1000_0000_0000_0001,
+    0x2000_0000_0000_0001,
+    0x4000_0000_0000_0001,
+    0x8000_0000_0000_0001,
+];
+
+/// Each bit of `found` is set at which a slot of the span may begin: `before` words of the span lie
+/// before those of this alloc word, and the slots are cut from the span's first word on. Said of slots
+/// of fewer than 64 words alone.
+///
+/// This is what the pass meets most, in a span that is full: it is told so by one `and`, with no loop
+/// over the slots.
+pub(crate) fn none_clear(slot: u32, before: u32, found: u64) -> bool
+    requires { 1 ≤ slot }
+    ensures { IsTrue result → (j : ℕ) → j < 64 → (before + j) % slot ≡ 0 → bit_at found j ≡ 1 }
+{
+    if slot >= 64 {
+        return false;
+    }
+    (!found >> first_start(slot, before)) & starts(slot) == 0
+}
+
+/// A word with each bit set at which a slot of so many words begins, the first at bit 0.
+#[tactic(auto, unfolding(crate::specs::Slots::slot_starts))]
+fn starts(slot: u32) -> u64
+    requires { slot < 64 }
+    ensures { result ≡ slice_index slot_starts slot }
+{
+    STARTS[slot as usize]
+}
+
+/// The first word at which a slot begins, counted from word `before` of the span on.
+fn first_start(slot: u32, before: u32) -> u32
+    requires { 1 ≤ slot }
+    ensures below { result < slot }
+    ensures begins { (before + result) % slot ≡ 0 }
+{
+    let into = before % slot;
+    if into == 0 { 0 } else { slot - into }
+}
 
 /// How many slots begin before so many words of a span.
 fn slots_before(slot: u32, words: u32) -> u32
