@@ -4,12 +4,12 @@
 //! An index that a word of the heap told is taken modulo the words of its row. So every step is on a word
 //! that there is, whatever was found.
 
-ghost use Rattle.std.specs.Prelude.{◌≡◌, ◌≤◌};
+ghost use Rattle.std.specs.Prelude.{◌≡◌, ◌%◌, ◌<◌, ◌≤◌};
 ghost use Rattle.gh_base.specs.Cells.{InRange};
 ghost use Rattle.gh_mutator.specs.Fields.{birth_cell, field_cell, has_field, is_pointer_by, kinds_differ, page_cell, value_of, word_of_value};
 ghost use Rattle.gh_mutator.specs.Sound.{IsNear};
 
-use gh_base::{Cell, Layout, Machine, PageWord, Value};
+use gh_base::{Cell, Layout, Machine, PageWord, Value, modulo};
 use gh_bitmap::ReadPointer;
 
 /// The word of the page in which heap word `at` lies.
@@ -17,7 +17,7 @@ pub(crate) fn page_cell(layout: &Layout, at: u32) -> Cell
     ensures is { result ≡ page_cell layout.now at }
     ensures within { InRange layout.now result }
 {
-    Cell::Page(at / 1024 % layout.pages)
+    Cell::Page(modulo(at / 1024, layout.pages))
 }
 
 /// Heap word `x`.
@@ -25,7 +25,7 @@ pub(crate) fn field_cell(layout: &Layout, x: u32) -> Cell
     ensures is { result ≡ field_cell layout.now x }
     ensures within { InRange layout.now result }
 {
-    Cell::Field(x % (1024 * layout.pages))
+    Cell::Field(modulo(x, 1024 * layout.pages))
 }
 
 /// The birth word of the object whose first heap word is `at`.
@@ -33,7 +33,7 @@ pub(crate) fn birth_cell(layout: &Layout, at: u32) -> Cell
     ensures is { result ≡ birth_cell layout.now at }
     ensures within { InRange layout.now result }
 {
-    Cell::Birth(at % (1024 * layout.pages))
+    Cell::Birth(modulo(at, 1024 * layout.pages))
 }
 
 /// The object whose page word was found has a field `k`.
@@ -54,6 +54,15 @@ pub(crate) fn is_pointer_by(layout: &Layout, at: u32, found: u64) -> bool
     }
 }
 
+/// `modulo` of 64 bits.
+fn modulo_64(index: u64, n: u64) -> u64
+    requires { 1 ≤ n }
+    ensures is { result ≡ index % n }
+    ensures below { result < n }
+{
+    if index < n { index } else { index % n }
+}
+
 /// A found word as a value: of a pointer field nil or a reference to a word of the heap, else a number.
 pub(crate) fn value_of(pages: u32, pointer: bool, found: u64) -> Value
     requires some { 1 ≤ pages }
@@ -66,7 +75,7 @@ pub(crate) fn value_of(pages: u32, pointer: bool, found: u64) -> Value
     } else if found == 0 {
         Value::Nil
     } else {
-        Value::Ref((found - 1) % (1024 * u64::from(pages)) + 1)
+        Value::Ref(modulo_64(found - 1, 1024 * u64::from(pages)) + 1)
     }
 }
 

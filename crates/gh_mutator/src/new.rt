@@ -197,13 +197,23 @@ impl<'s> Processor<'s> {
         let Task::New(new) = &mut self.task else {
             return None;
         };
-        let wanted = new.wanted;
+        // Most steps end neither the search nor the making, and then what is wanted is not looked at.
         if new.is_search() {
             let (out, cached) = new.search(&self.layout, found);
-            self.cache_span(&wanted.sought, cached);
+            let sought = new.wanted.sought;
+            if out.is_none() {
+                self.cache_span(&sought, cached);
+                return None;
+            }
+            let wanted = new.wanted;
+            self.cache_span(&sought, cached);
             self.after_find(shapes, wanted, out)
         } else {
             let (made, name) = new.make(&self.layout, found);
+            if made.is_none() && name.is_none() {
+                return None;
+            }
+            let wanted = new.wanted;
             self.after_place(wanted, made, name)
         }
     }
