@@ -1,19 +1,29 @@
 #!/usr/bin/env bash
-# Times `goheap replay` on scripts of 10,000, 50,000 and 200,000 statements of one goroutine (new, int, store and load in
-# turn). It prints the statements a second, and the ratio of the time of a statement to that in the script before: 1.0 where
-# time grows in proportion to the statements; and the turns (atomic steps) of the script and how many of them are taken a second.
-# The time of a script without statements is taken off each; each time is the best of five runs (bench/replay.sh 9: of nine).
+# Times the turns (atomic steps) of `goheap replay`, without its opening, its parsing and its lines: the time of a run that a budget
+# cuts off one turn before the end, less that of a run of one turn. It prints a table: for each script its turns and the
+# nanoseconds of processor time that a turn takes, and the milliseconds of the run of one turn.
+#   bench/replay.sh           the program of this checkout, the least of five groups of ten runs
+#   bench/replay.sh 9         of nine groups
+#   bench/replay.sh 9 OTHER   and beside it the program OTHER, its runs among those of the first, so that a machine that is
+#                             busy now and then is so for both
 set -eu
 . "$(dirname "$0")/timing.sh"
+programs=("$program" "${@:2}")
 
-# A script of so many statements.
-script() {
-  printf 'arena 1024\ntype node pn\ngo a\n'
-  awk -v n="$1" 'BEGIN {
-    split("new r0 node,int r1 7,store r0 1 r1,load r2 r0 1", row, ",")
-    for (i = 0; i < n; i++) print row[i % 4 + 1]
-  }'
-  printf 'end\n'
+# The scripts: what each turns on most, and its text.
+names=(statements globals fields small large full)
+says() {
+  case $1 in
+    statements) printf 'arena 16\ntype t n\ngo a\nrepeat 66666\nint r0 1\nmove r1 r0\nnil r2\nend\nend\n' ;;
+    globals) printf 'arena 16\nglobals 4\ntype node pn\ngo a\nnew r0 node\nrepeat 49999\ngstore 1 r0\ngload r1 1\ngstore 2 r1\ngload r2 2\nend\nend\n' ;;
+    fields) printf 'arena 16\ntype node pn\ngo a\nnew r0 node\nnew r1 node\nint r2 7\nrepeat 49999\nstore r0 0 r1\nstore r0 1 r2\nload r3 r0 0\nload r4 r3 1\nend\nend\n' ;;
+    # new objects of two words, all of which fit
+    small) printf 'arena 1024\ntype node pn\ngo a\nrepeat 200000\nnew r0 node\nend\nend\n' ;;
+    # new objects of 65,536 words, which are cleared
+    large) printf 'arena 1024\ntype big n*65536\ngo a\nrepeat 15\nnew r0 big\nend\nend\n' ;;
+    # new objects of two words, where after the first 8,192 of them no slot is left, and each passes over all spans
+    full) printf 'arena 16\ntype node pn\ngo a\nrepeat 12000\nnew r0 node\nend\nend\n' ;;
+  esac
 }
 
 # The turns of a script: the least budget within which it ends.
@@ -26,19 +36,22 @@ turns() {
   echo "$low"
 }
 
-script 0 >"$work/empty"
-"$program" replay <"$work/empty" >"$work/out"
-empty=$(best "$work/empty")
-echo "no statement: $((empty / 1000)) microseconds"
-before=0
-for n in 10000 50000 200000; do
-  script "$n" >"$work/script"
-  took=$(($(best "$work/script") - empty))
-  if [ "$took" -le 0 ]; then took=1; fi
-  awk -v n="$n" -v t="$took" -v b="$before" -v turns="$(turns "$work/script")" 'BEGIN {
-    printf "%d statements: %.0f a second", n, n * 1e9 / t
-    if (b > 0) printf ", a statement takes %.2f of its time before", (t / n) / b
-    printf "; %d turns: %.1f million a second\n", turns, turns * 1e3 / t
-  }'
-  before=$(awk -v n="$n" -v t="$took" 'BEGIN { print t / n }')
+printf '%-12s %10s' script turns
+for _ in "${programs[@]}"; do printf ' %10s %10s' 'ns a turn' 'ms to open'; done
+printf '\n'
+for name in "${names[@]}"; do
+  says "$name" >"$work/script"
+  all=$(turns "$work/script")
+  for i in "${!programs[@]}"; do whole[i]='' one[i]=''; done
+  for _ in $(seq "$runs"); do
+    for i in "${!programs[@]}"; do
+      whole[i]=$(less "${whole[i]}" "$(ten_runs "${programs[i]}" "$((all - 1))" "$work/script")")
+      one[i]=$(less "${one[i]}" "$(ten_runs "${programs[i]}" 1 "$work/script")")
+    done
+  done
+  printf '%-12s %10d' "$name" "$all"
+  for i in "${!programs[@]}"; do
+    awk -v w="${whole[i]}" -v o="${one[i]}" -v t="$all" 'BEGIN { printf " %10.1f %10.2f", (w - o) * 1e5 / t, o / 10 }'
+  done
+  printf '\n'
 done

@@ -19,3 +19,13 @@ best() {
   done
   echo "$least"
 }
+
+# The milliseconds of processor time that ten runs of a program take together, under a budget and on a text.
+ten_runs() {
+  local TIMEFORMAT='%3U %3S'
+  { time for _ in 1 2 3 4 5 6 7 8 9 10; do "$1" replay --budget "$2" <"$3" >"$work/out" 2>&1 || true; done; } 2>&1 |
+    awk '{ print ($1 + $2) * 1000 }'
+}
+
+# The lesser of two numbers; the second where the first is empty.
+less() { awk -v a="$1" -v b="$2" 'BEGIN { print (a == "" || b + 0 < a + 0) ? b : a }'; }
