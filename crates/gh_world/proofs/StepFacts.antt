@@ -2,7 +2,7 @@
 use Rattle.std.proofs.Common.{◌≡◌, ℕ, ◌+◌, ◌-◌, ◌≤◌, Bool, true, false, cond, ltb, not, ◌&&◌, List, get_or, refl, sym, ap, ◌∙◌, Option, Some, None, arith}
 use Rattle.std.specs.Prelude.{is_some}
 use Rattle.std.proofs.Math.ListN.{set}
-use Rattle.gh_world.specs.Vocabulary.{Act, acting, acts_at, after_find, Answer, applied, At, at_task, begins_at, bit, cache_span, Find, Finding, finds_none, Found, gives_at, Global, GlobalStage, is_busy_at, is_leaving, is_made, is_point, is_pointer_by, is_serving, is_statement, kinds_differ, Layout, LoadStage, made_by, made_object, makes, NewStage, Op, op_at, Own, Place, PlaceStage, Placing, Processor, Register, register_of, searches, Shape, Source, SpanHead, Step, StoreStage, takes_at, Task, Value, value_of, Wanted}
+use Rattle.gh_world.specs.Vocabulary.{Act, acting, acts_at, after_find, after_place, Answer, applied, At, at_task, begins_at, bit, cache_span, Ends, ends, Find, Finding, finds_none, follows, Found, gives_at, Global, GlobalStage, goes_on, GoesOn, is_busy_at, is_leaving, is_made, is_point, is_pointer_by, is_serving, is_statement, kinds_differ, Layout, Load, LoadStage, made_by, made_object, makes, NewStage, Op, op_at, Own, Place, PlaceStage, Placing, Processor, Register, register_of, searches, Shape, Source, SpanHead, Step, Store, StoreStage, takes_at, Task, Then, Value, value_of, Wanted, with_value}
 use Rattle.gh_base.specs.declared.operation.Op.TheVariants as op
 use Rattle.gh_base.specs.declared.value.Answer.TheVariants as answer
 use Rattle.gh_base.specs.declared.value.Fault.TheVariants as fault
@@ -13,23 +13,17 @@ use Rattle.gh_alloc.specs.declared.place.PlaceStage.TheVariants as place_stage
 use Rattle.gh_alloc.specs.Find as find
 use Rattle.gh_alloc.specs.Place as place
 use Rattle.gh_mutator.specs.declared.global.GlobalStage.TheVariants as global_stage
-use Rattle.gh_mutator.specs.declared.load.Load.{Load}
 use Rattle.gh_mutator.specs.declared.load.LoadStage.TheVariants as load_stage
 use Rattle.gh_mutator.specs.declared.own.Own.TheVariants as own
 use Rattle.gh_mutator.specs.declared.register.Source.TheVariants as source
-use Rattle.gh_mutator.specs.declared.step.Then.{Then}
-use Rattle.gh_mutator.specs.declared.step.Then.TheVariants.{GoesOn, Ends}
-use Rattle.gh_mutator.specs.declared.store.Store.{Store}
 use Rattle.gh_mutator.specs.declared.store.StoreStage.TheVariants as store_stage
 use Rattle.gh_mutator.specs.declared.task.Task.TheVariants as task
 use Rattle.gh_mutator.specs.Fields.{has_field, takes}
 use Rattle.gh_mutator.specs.Global as global
-use Rattle.gh_mutator.specs.Listing.{follows}
 use Rattle.gh_mutator.specs.Load as load
-use Rattle.gh_mutator.specs.New.{after_place, op_of as new_op}
-use Rattle.gh_mutator.specs.Processor.{with_value}
+use Rattle.gh_mutator.specs.New.{op_of as new_op}
 use Rattle.gh_mutator.specs.Serving.{answer_at}
-use Rattle.gh_mutator.specs.Step.{answered, ends, goes_on}
+use Rattle.gh_mutator.specs.Step.{answered}
 use Rattle.gh_mutator.specs.Store as store
 use Rattle.gh_world.specs.Order.{in_range}
 use Rattle.gh_world.specs.Turns.{is_unacted, is_leave}

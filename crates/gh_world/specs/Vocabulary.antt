@@ -35,14 +35,16 @@ pub use Rattle.gh_alloc.specs.declared.sought.Sought.{Sought}
 pub use Rattle.gh_mutator.specs.Deeds.{deeds, has_point, meaning, processor_kind}
 pub use Rattle.gh_mutator.specs.Facts.{acted, answer_at, answered_at, ShapesAreGood}
 pub use Rattle.gh_mutator.specs.Fields.{is_pointer_by, kinds_differ, value_of}
-pub use Rattle.gh_mutator.specs.Listing.{Act, acting, acts, acts_at, applied, asks, begins, begins_at, gives_at, is_busy_at, op_at, takes, takes_at}
+pub use Rattle.gh_mutator.specs.Listing.{Act, acting, acts, acts_at, applied, asks, begins, begins_at, follows, gives_at, is_busy_at, op_at, takes, takes_at}
 pub use Rattle.gh_mutator.specs.Mutating.{goes, Mutating}
-pub use Rattle.gh_mutator.specs.New.{after_find, finds_none, is_made, made_object, makes, searches, sought_for}
-pub use Rattle.gh_mutator.specs.Processor.{at_task, cache_span, cached_for, made_by, opening_processor, register_of}
+pub use Rattle.gh_mutator.specs.New.{after_find, after_place, finds_none, is_made, made_object, makes, searches, sought_for}
+pub use Rattle.gh_mutator.specs.Processor.{at_task, cache_span, cached_for, made_by, opening_processor, register_of, with_value}
 pub use Rattle.gh_mutator.specs.Serving.{has_left_at, is_last, is_leaving, is_point, is_serving, is_statement, statement_answer}
 pub use Rattle.gh_mutator.specs.Sound.{has_names, most_objects}
+pub use Rattle.gh_mutator.specs.Step.{ends, goes_on}
 pub use Rattle.gh_mutator.specs.declared.global.Global.{Global}
 pub use Rattle.gh_mutator.specs.declared.global.GlobalStage.{GlobalStage}
+pub use Rattle.gh_mutator.specs.declared.load.Load.{Load}
 pub use Rattle.gh_mutator.specs.declared.load.LoadStage.{LoadStage}
 pub use Rattle.gh_mutator.specs.declared.new.NewStage.{NewStage}
 pub use Rattle.gh_mutator.specs.declared.new.NewStage.TheVariants.{Find, Place}
@@ -52,6 +54,9 @@ pub use Rattle.gh_mutator.specs.declared.processor.Processor.{Processor}
 pub use Rattle.gh_mutator.specs.declared.register.Register.{Register}
 pub use Rattle.gh_mutator.specs.declared.register.Source.{Source}
 pub use Rattle.gh_mutator.specs.declared.step.Step.{Step}
+pub use Rattle.gh_mutator.specs.declared.step.Then.{Then}
+pub use Rattle.gh_mutator.specs.declared.step.Then.TheVariants.{Ends, GoesOn}
+pub use Rattle.gh_mutator.specs.declared.store.Store.{Store}
 pub use Rattle.gh_mutator.specs.declared.store.StoreStage.{StoreStage}
 pub use Rattle.gh_mutator.specs.declared.task.Task.{Task}
 pub use Rattle.gh_mutator.specs.declared.task.Task.TheVariants.{Idle, Left}
