@@ -3,12 +3,12 @@ use Rattle.std.proofs.Common.{◌≡◌, ◌≢◌, ℕ, ◌+◌, ◌*◌, ◌/�
 use Rattle.std.specs.Prelude.{bit_and, bit_or}
 use Rattle.std.proofs.lemmas.Bool.{lt-ltb, le-ltb}
 use Rattle.std.proofs.lemmas.Bool.Decides.{eqb_tells}
-use Rattle.gh_base.specs.Rows.{RowsAreWritten, with_word}
+use Rattle.gh_base.specs.Rows.{Row, RowsAreWritten, with_word}
 use Rattle.gh_heap.specs.Moves.{update}
 use Rattle.gh_sweep.specs.Bits.{freed_in, kept_in}
 use Rattle.gh_sweep.specs.Listing.{bit_words, in_sweep}
 use Rattle.gh_sweep.specs.Moves.{Clears, Counts, Cuts, EachMoveKeeps, Ends, Frees, Lays, May, MayPlace, moved, Passes, Places, Quiet, Starts, Sweeps, TellsHeap, TellsLive, TellsTally, Turns, with_word_cut}
-use Rattle.gh_sweep.specs.Shared.{alloc_at, bit_words_of, By, CycleEnd, Due, generation_of, Good, HasEnded, InSpan, marks_at, OrderGood, Shared, Unswept, UntouchedGood, View, view}
+use Rattle.gh_sweep.specs.Shared.{alloc_at, bit_words_of, By, CycleEnd, Due, generation_of, Good, HasEnded, InSpan, marks_at, OrderGood, Shared, Unswept, UntouchedGood, View, view, DueGood, TallyGood, LiveGood, HeapGood}
 use Rattle.gh_sweep.specs.Vocabulary.{SpanHead}
 use Rattle.gh_sweep.proofs.Bits.{kept_or_freed}
 use Rattle.gh_sweep.proofs.Sharing.KeepsPages.{ends, frees, Known, passes, repaged, starts, turns}
@@ -200,7 +200,38 @@ module _ (rows : RowsAreWritten) (e : CycleEnd) (ended : HasEnded e) (a : ℕ) (
       inside : w < bit_words_of e
       inside = let h = (g.heads place.span.p place.span.h place.span.head).within in let b = place.span.below in omega arith
 
-  -- Counts are told.
+  -- Counts are told: they change, and what actors have to tell.
+  record Recounted (tally live heap : ℕ) (due : ℕ → Due) (pend : Row) : Type 0 where
+    pub told : DueGood s.far due
+    pub tallied : TallyGood e tally s.cut due
+    pub lives : LiveGood e live s.cut due
+    pub counted : HeapGood e heap v.alloc s.slot s.cut due pend
+
+  recounted : {tally live heap : ℕ} {due : ℕ → Due} {pend : Row} → Recounted tally live heap due pend → Good e (record v { tally = tally; live = live; heap = heap; due = due; pend = pend })
+  recounted r = record {
+    generation = g.generation;
+    heads = g.heads;
+    apart = g.apart;
+    numbers = g.numbers;
+    untouched = g.untouched;
+    unswept = g.unswept;
+    order = g.order;
+    marks = g.marks;
+    uncut = g.uncut;
+    uncut_slots = g.uncut_slots;
+    slots = g.slots;
+    few = g.few;
+    inside = g.inside;
+    fits = g.fits;
+    stand = g.stand;
+    known = g.known;
+    only_since = g.only_since;
+    told = r.told;
+    tallied = r.tallied;
+    lives = r.lives;
+    counted = r.counted;
+  }
+
   module _ (seat : May e a s TellsTally) where
     -- who has nothing to tell tells nothing
     told_by : (d : Due) → ((s.due a ≡ record { kept = 0; freed = 0; live = 0; cleared = 0 }) → d ≡ record { kept = 0; freed = 0; live = 0; cleared = 0 }) → (b : ℕ) → ((p : ℕ) → s.far p ≢ By b) → update s.due a d b ≡ record { kept = 0; freed = 0; live = 0; cleared = 0 }
@@ -210,104 +241,31 @@ module _ (rows : RowsAreWritten) (e : CycleEnd) (ended : HasEnded e) (a : ℕ) (
     ]
 
     tally_good : Good e (view (moved a s TellsTally))
-    tally_good = record {
-      generation = g.generation;
-      heads = g.heads;
-      apart = g.apart;
-      numbers = g.numbers;
-      untouched = g.untouched;
-      unswept = g.unswept;
-      order = g.order;
-      marks = g.marks;
-      uncut = g.uncut;
-      uncut_slots = g.uncut_slots;
-      slots = g.slots;
-      few = g.few;
-      inside = g.inside;
-      fits = g.fits;
-      stand = g.stand;
-      known = g.known;
-      only_since = g.only_since;
+    tally_good = recounted (record {
       told = told_by (record (s.due a) { kept = 0; freed = 0 }) (λ is. ap (λ (d : Due). record d { kept = 0; freed = 0 }) is);
       tallied = tally_tells e ended s.cut s.due a seat v.tally g.tallied;
       lives = live_stays e ended s.cut s.due a seat v.live (record (s.due a) { kept = 0; freed = 0 }) refl g.lives;
       counted = heap_stays e ended s.cut s.due a seat v.alloc s.slot s.pend g.fits g.few v.heap g.counted (record (s.due a) { kept = 0; freed = 0 }) refl;
-    }
+    })
 
     live_good : Good e (view (moved a s TellsLive))
-    live_good = record {
-      generation = g.generation;
-      heads = g.heads;
-      apart = g.apart;
-      numbers = g.numbers;
-      untouched = g.untouched;
-      unswept = g.unswept;
-      order = g.order;
-      marks = g.marks;
-      uncut = g.uncut;
-      uncut_slots = g.uncut_slots;
-      slots = g.slots;
-      few = g.few;
-      inside = g.inside;
-      fits = g.fits;
-      stand = g.stand;
-      known = g.known;
-      only_since = g.only_since;
+    live_good = recounted (record {
       told = told_by (record (s.due a) { live = 0 }) (λ is. ap (λ (d : Due). record d { live = 0 }) is);
       tallied = tally_stays e ended s.cut s.due a seat v.tally (record (s.due a) { live = 0 }) refl refl g.tallied;
       lives = live_tells e ended s.cut s.due a seat v.live g.lives;
       counted = heap_stays e ended s.cut s.due a seat v.alloc s.slot s.pend g.fits g.few v.heap g.counted (record (s.due a) { live = 0 }) refl;
-    }
+    })
 
     heap_good : Good e (view (moved a s TellsHeap))
-    heap_good = record {
-      generation = g.generation;
-      heads = g.heads;
-      apart = g.apart;
-      numbers = g.numbers;
-      untouched = g.untouched;
-      unswept = g.unswept;
-      order = g.order;
-      marks = g.marks;
-      uncut = g.uncut;
-      uncut_slots = g.uncut_slots;
-      slots = g.slots;
-      few = g.few;
-      inside = g.inside;
-      fits = g.fits;
-      stand = g.stand;
-      known = g.known;
-      only_since = g.only_since;
+    heap_good = recounted (record {
       told = told_by (record (s.due a) { cleared = 0 }) (λ is. ap (λ (d : Due). record d { cleared = 0 }) is);
       tallied = tally_stays e ended s.cut s.due a seat v.tally (record (s.due a) { cleared = 0 }) refl refl g.tallied;
       lives = live_stays e ended s.cut s.due a seat v.live (record (s.due a) { cleared = 0 }) refl g.lives;
       counted = heap_tells e ended s.cut s.due a seat v.alloc s.slot s.pend g.fits g.few v.heap g.counted;
-    }
+    })
 
     count_good : Good e (view (moved a s Counts))
-    count_good = record {
-      generation = g.generation;
-      heads = g.heads;
-      apart = g.apart;
-      numbers = g.numbers;
-      untouched = g.untouched;
-      unswept = g.unswept;
-      order = g.order;
-      marks = g.marks;
-      uncut = g.uncut;
-      uncut_slots = g.uncut_slots;
-      slots = g.slots;
-      few = g.few;
-      inside = g.inside;
-      fits = g.fits;
-      stand = g.stand;
-      known = g.known;
-      only_since = g.only_since;
-      told = g.told;
-      tallied = g.tallied;
-      lives = g.lives;
-      counted = heap_counts e ended s.cut s.due a seat v.alloc s.slot s.pend g.fits g.few v.heap g.counted;
-    }
+    count_good = recounted (record { told = g.told; tallied = g.tallied; lives = g.lives; counted = heap_counts e ended s.cut s.due a seat v.alloc s.slot s.pend g.fits g.few v.heap g.counted })
 
 pub keeps : Known → RowsAreWritten → EachMoveKeeps
 keeps k rows e a s (Quiet step) ended g may = subst (λ (v : View). Good e v) (sym (quiet_view s step may)) g
