@@ -25,6 +25,7 @@ use Rattle.gh_coord.specs.SweepingAll as all
 use Rattle.gh_coord.specs.Telling as tell
 use Rattle.gh_coord.specs.Watching as watch
 use Rattle.gh_coord.specs.Vocabulary.{All, Ask, Check, Close, CloseStage, CoordStage, Count, Counted, CountStage, Done, GONE, Layout, Load, LoadAck, LoadWant, MarkOn, NotYet, Open, OpenStage, Stop, StopAgain, Store, Sweep, SweepAllStage, SweepStage, Tell, TellStage, Watch, Watched, WatchStage}
+use Rattle.gh_coord.proofs.LastCycle.{counted_asks, finds_gone, finishes_at, marks_at, stops_go_on}
 use Rattle.gh_sweep.specs.declared.sweep.SweepStage.TheVariants as sweep_stage
 use Rattle.gh_sweep.specs.Listing as sweep
 
@@ -131,7 +132,7 @@ module _ (found : ℕ) (s : Coordinating) (f : FitsNumbers s.stops s.begun s.gen
   first_stop (stop_stage.Await ack) busy = go (is_acknowledged s.stops found) (ltb (ack + 1) (acks_of s.layout)) refl refl where
     go : (there more : Bool) → is_acknowledged s.stops found ≡ there → ltb (ack + 1) (acks_of s.layout) ≡ more → Goes found s (Stop (stopping (stop_stage.Await ack))) (after_stop (at_stage s (Stop (seeing ack there more))) (stop.given (seeing ack there more)))
     go true true e m = ((f, refl), sees run.Off ack refl refl (acked s.stops found e) (rw m refl))
-    go true false e m = ((raised_cycle s.stops s.begun s.generation f, refl), sees run.Off ack refl refl (acked s.stops found e) (rw (m, cycle_behind s.begun f.begun_fits) refl))
+    go true false e m = ((raised_cycle s.stops s.begun s.generation f, (refl, refl)), sees run.Off ack refl refl (acked s.stops found e) (rw (m, cycle_behind s.begun f.begun_fits) refl))
     go false more e m = ((f, refl), quiet tt refl)
   first_stop stop_stage.Ended busy = absurd cc
 
@@ -151,17 +152,17 @@ module _ (found : ℕ) (s : Coordinating) (f : FitsNumbers s.stops s.begun s.gen
   open_at l stage = record { layout = l; stops = s.stops; cycle = s.begun; stage = stage }
 
   opening : (l : Layout) (stage : OpenStage) → opens_by.is_busy stage ≡ true → Goes found s (Open (open_at l stage)) (goes_at s (Open (open_at l stage)) found)
-  opening l open_stage.ClearWant busy = ((f, refl), quiet tt refl)
-  opening l open_stage.ClearGcur busy = ((f, refl), quiet tt refl)
-  opening l open_stage.ClearTally busy = ((f, refl), quiet tt refl)
-  opening l open_stage.ClearLive busy = ((f, refl), quiet tt refl)
-  opening l open_stage.StoreTrigger busy = ((f, refl), quiet tt refl)
-  opening l open_stage.LoadHeap busy = ((f, refl), quiet tt refl)
-  opening l open_stage.StoreWork busy = ((f, refl), quiet tt refl)
-  opening l open_stage.StoreSlack busy = ((f, refl), quiet tt refl)
+  opening l open_stage.ClearWant busy = ((f, (refl, refl)), quiet tt refl)
+  opening l open_stage.ClearGcur busy = ((f, (refl, refl)), quiet tt refl)
+  opening l open_stage.ClearTally busy = ((f, (refl, refl)), quiet tt refl)
+  opening l open_stage.ClearLive busy = ((f, (refl, refl)), quiet tt refl)
+  opening l open_stage.StoreTrigger busy = ((f, (refl, refl)), quiet tt refl)
+  opening l open_stage.LoadHeap busy = ((f, (refl, refl)), quiet tt refl)
+  opening l open_stage.StoreWork busy = ((f, (refl, refl)), quiet tt refl)
+  opening l open_stage.StoreSlack busy = ((f, (refl, refl)), quiet tt refl)
   opening l open_stage.StoreBegun busy =
       let is : next_cycle (cycle_before s.begun) ≡ s.begun = cycle_ahead s.begun f.begun_fits in
-      ((f, refl), begins run.Off refl (ap (λ (n : ℕ). Store cell.Begun n) (sym is)) (ap (λ (n : ℕ). record { stops = s.stops; begun = n; generation = s.generation; post = Stopped run.Off }) (sym is)))
+      ((f, (refl, refl)), begins run.Off refl (ap (λ (n : ℕ). Store cell.Begun n) (sym is)) (ap (λ (n : ℕ). record { stops = s.stops; begun = n; generation = s.generation; post = Stopped run.Off }) (sym is)))
   opening l open_stage.StorePhase busy = ((f, tt), goes run.Off run.Mark (λ e. cc) refl refl refl)
   opening l open_stage.Ended busy = absurd cc
 
@@ -204,17 +205,17 @@ module _ (found : ℕ) (s : Coordinating) (f : FitsNumbers s.stops s.begun s.gen
   tells : (l : Layout) (trigger cycle : ℕ) (stage : TellStage) → tell.is_busy stage ≡ true → Goes found s (Tell (tell_at l trigger cycle stage)) (goes_at s (Tell (tell_at l trigger cycle stage)) found)
   tells l trigger cycle tell_stage.StoreTrigger busy = ((f, refl), quiet tt refl)
   tells l trigger cycle tell_stage.StoreSwept busy = ((f, refl), quiet tt refl)
-  tells l trigger cycle tell_stage.StorePhase busy = go s.is_last where
-    go : (last : Bool) → Sound (at_stage s (cond last Done (LoadAck 0))) × LeadGoes (acks_of s.layout) found (record { stops = s.stops; begun = s.begun; generation = s.generation; post = Stopped run.Mark }) (Store cell.Phase (phase_word (record { stops = s.stops; phase = cond last kind.Finished kind.Off }))) (lead_of (at_stage s (cond last Done (LoadAck 0))))
-    go true = ((f, tt), goes run.Mark run.Finished (λ e. cc) refl refl refl)
-    go false = ((f, tt), goes run.Mark run.Off (λ e. cc) refl refl refl)
+  tells l trigger cycle tell_stage.StorePhase busy = go s.is_last refl where
+    go : (last : Bool) → s.is_last ≡ last → Sound (at_stage s (cond last Done (LoadAck 0))) × LeadGoes (acks_of s.layout) found (record { stops = s.stops; begun = s.begun; generation = s.generation; post = Stopped run.Mark }) (Store cell.Phase (phase_word (record { stops = s.stops; phase = cond last kind.Finished kind.Off }))) (lead_of (at_stage s (cond last Done (LoadAck 0))))
+    go true e = ((f, e), goes run.Mark run.Finished (λ e. cc) refl refl refl)
+    go false e = ((f, tt), goes run.Mark run.Off (λ e. cc) refl refl refl)
   tells l trigger cycle tell_stage.Ended busy = absurd cc
 
 goes_so : (found : ℕ) (s : Coordinating) (stage : CoordStage) → FitsNumbers s.stops s.begun s.generation → SoundAt s stage → is_busy stage ≡ true → Goes found s stage (goes_at s stage found)
 goes_so found s (LoadAck i) f e busy = acks found s f i
 goes_so found s LoadWant f e busy = wants found s f
 goes_so found s (Stop st) f e busy = subst (λ (x : stop.Stopping). Goes found s (Stop x) (goes_at s (Stop x) found)) (sym e) (first_stop found s f st.stage busy)
-goes_so found s (Open o) f e busy = subst (λ (x : opens_by.CycleOpening). Goes found s (Open x) (goes_at s (Open x) found)) (sym e) (opening found s f o.layout o.stage busy)
+goes_so found s (Open o) f e busy = subst (λ (x : opens_by.CycleOpening). Goes found s (Open x) (goes_at s (Open x) found)) (sym e.0) (opening found s f o.layout o.stage busy)
 goes_so found s (Watch w) f e busy = watching found s f w (watch.goes w found) (watch.gives w found) (watch_quiet w w.stage)
 goes_so found s (StopAgain st) f e busy = subst (λ (x : stop.Stopping). Goes found s (StopAgain x) (goes_at s (StopAgain x) found)) (sym e) (second_stop found s f st.stage busy)
 goes_so found s (Check w) f e busy = checking found s f w (watch.goes w found) (watch.gives w found) (watch_quiet w w.stage)
@@ -239,27 +240,16 @@ counted_sound s (Close c) e = e
 counted_sound s (Sweep w) e = tt
 counted_sound s (Count c) e = tt
 counted_sound s (Tell t) e = e
-counted_sound s Done e = tt
-
-counted_asks : (s : Coordinating) (stage : CoordStage) → asks_at (counted s) stage ≡ asks_at s stage
-counted_asks s (LoadAck i) = refl
-counted_asks s LoadWant = refl
-counted_asks s (Stop st) = refl
-counted_asks s (Open o) = refl
-counted_asks s (Watch w) = refl
-counted_asks s (StopAgain st) = refl
-counted_asks s (Check w) = refl
-counted_asks s MarkOn = refl
-counted_asks s (Close c) = refl
-counted_asks s (Sweep w) = refl
-counted_asks s (Count c) = refl
-counted_asks s (Tell t) = refl
-counted_asks s Done = refl
+counted_sound s Done e = e
 
 pub leads_handshake : LeadsHandshake
 leads_handshake = record {
   sound = λ l seat gogc minheap room. (record { stops_fit = omega arith; begun_fits = omega arith; generation_fits = omega arith }, tt);
   leads = λ l seat gogc minheap room. refl;
   stays_sound = λ s found sound busy. (goes_so found (counted s) s.stage sound.0 (counted_sound s s.stage sound.1) busy).0;
+  finds_gone = finds_gone;
+  stops_go_on = stops_go_on;
+  marks_on = λ s sound runs. marks_at s s.stage sound.1 runs;
+  finishes = λ s sound e. finishes_at s s.stage sound.1 e;
   goes = λ s found sound busy. rw (← counted_asks s s.stage) (goes_so found (counted s) s.stage sound.0 (counted_sound s s.stage sound.1) busy).1;
 }

@@ -1,9 +1,12 @@
 -- Where the coordinator stands in the handshake of a stop.
-use Rattle.std.specs.Prelude.{◌≡◌, ℕ, ◌+◌, ◌-◌, ◌%◌, ◌^◌, ◌<◌, Bool, true, if◌then◌else◌}
+use Rattle.std.specs.Prelude.{◌≡◌, ◌≢◌, ℕ, ◌+◌, ◌-◌, ◌%◌, ◌^◌, ◌<◌, ◌⊎◌, ◌↔◌, Bool, true, if◌then◌else◌}
+use Rattle.gh_base.specs.declared.cell.Ask.TheVariants.{Load}
+use Rattle.gh_base.specs.declared.cell.Cell.TheVariants as cell
 use Rattle.gh_base.specs.declared.layout.Layout.{Layout}
+use Rattle.gh_base.specs.declared.pack.TheConstants.{GONE}
 use Rattle.gh_phase.specs.declared.view.RunPhase.{RunPhase}
 use Rattle.gh_phase.specs.declared.view.RunPhase.TheVariants as run
-use Rattle.gh_phase.specs.Handshake.{Calm, first_lead, Lead, LeadGoes, Looks, Post, stop_before, Stopped}
+use Rattle.gh_phase.specs.Handshake.{Calm, first_lead, last_of, Lead, LeadGoes, Looks, Post, stop_before, Stopped}
 use Rattle.gh_coord.specs.declared.close.CloseStage.{CloseStage}
 use Rattle.gh_coord.specs.declared.close.CloseStage.TheVariants as close_stage
 use Rattle.gh_coord.specs.declared.coord.CoordStage.{CoordStage}
@@ -14,7 +17,9 @@ use Rattle.gh_coord.specs.declared.stop.StopStage.{StopStage}
 use Rattle.gh_coord.specs.declared.stop.StopStage.TheVariants as stop_stage
 use Rattle.gh_coord.specs.declared.tell.TellStage.{TellStage}
 use Rattle.gh_coord.specs.declared.tell.TellStage.TheVariants as tell_stage
-use Rattle.gh_coord.specs.Listing.{asks, Coordinating, goes, is_busy, opening}
+use Rattle.gh_coord.specs.Closing as close
+use Rattle.gh_coord.specs.Opening as open_
+use Rattle.gh_coord.specs.Listing.{asks, asks_at, Coordinating, goes, is_busy, opening}
 use Rattle.gh_coord.specs.Stopping.{acks_of}
 
 -- the numbers before these
@@ -101,18 +106,51 @@ pub record FitsNumbers (stops begun generation : ℕ) : Type 0 where
 abbrev pub SoundAt : Coordinating → CoordStage → Type 0
 SoundAt s (Stop st) = st ≡ record { layout = s.layout; stops = s.stops; stage = st.stage }
 SoundAt s (StopAgain st) = st ≡ record { layout = s.layout; stops = s.stops; stage = st.stage }
-SoundAt s (Open o) = o ≡ record { layout = o.layout; stops = s.stops; cycle = s.begun; stage = o.stage }
+SoundAt s (Open o) = (o ≡ record { layout = o.layout; stops = s.stops; cycle = s.begun; stage = o.stage }) × (open_.is_busy o.stage ≡ true)
 SoundAt s (Close c) = c ≡ record { layout = c.layout; lapsed = c.lapsed; generation = s.generation; stage = c.stage }
 SoundAt s (Tell t) = t ≡ record { layout = t.layout; trigger = t.trigger; cycle = t.cycle; stops = s.stops; is_last = s.is_last; stage = t.stage }
+SoundAt s Done = s.is_last ≡ true
 SoundAt s _ = Unit {0}
 
 abbrev pub Sound : Coordinating → Type 0
 Sound s = FitsNumbers s.stops s.begun s.generation × SoundAt s s.stage
 
+-- A cycle is marked: from the store of the phase that begins it to that of the next sweep generation.
+abbrev pub Marks : CoordStage → Type 0
+Marks (Watch w) = Unit {0}
+Marks (StopAgain st) = Unit {0}
+Marks (Check w) = Unit {0}
+Marks MarkOn = Unit {0}
+Marks (Close c) = close.is_busy c.stage ≡ true
+Marks _ = ⊥
+
+-- The last cycle: it is begun once each processor was found to be gone, one after the other.
+
+-- the processors below this were found gone
+abbrev pub gone_to : CoordStage → ℕ
+gone_to (LoadAck i) = i
+gone_to _ = 0
+
+-- the processor at this seat was found gone before, or is found so by this step
+abbrev pub IsFoundGone : (found : ℕ) → Coordinating → CoordStage → (a : ℕ) → Type 0
+IsFoundGone found s stage a = (a < gone_to stage) ⊎ ((asks_at s stage ≡ Load (cell.Ack a)) × (found ≡ GONE))
+
+-- a step that leads here
+pub record FindsGone (found : ℕ) (s : Coordinating) (stage : CoordStage) (to : Coordinating) : Type 0 where
+  pub below : (a : ℕ) → a < gone_to to.stage → IsFoundGone found s stage a
+  pub last : to.is_last ≡ true → (s.is_last ≡ true) ⊎ ((a : ℕ) → a < s.layout.procs → IsFoundGone found s stage a)
+
 pub record LeadsHandshake : Type 0 where
   -- before its first step
   pub sound : (l : Layout) (seat gogc minheap room : ℕ) → Sound (opening l seat gogc minheap room)
   pub leads : (l : Layout) (seat gogc minheap room : ℕ) → lead_of (opening l seat gogc minheap room) ≡ first_lead
-  -- and by each step
+  -- the last phase is stored in the last cycle, for which each processor was found gone
+  pub finds_gone : (s : Coordinating) (found : ℕ) → is_busy s.stage ≡ true → FindsGone found s s.stage (goes s found)
+  pub finishes : (s : Coordinating) → Sound s → last_of (post_at s.stage) ≡ run.Finished → s.is_last ≡ true
+  -- the world is never stopped behind the last phase
+  pub stops_go_on : (s : Coordinating) (phase : RunPhase) → post_at s.stage ≡ Stopped phase → phase ≢ run.Finished
+  -- where the world is not stopped the last phase that was no stop is that of marking exactly while a cycle is marked
+  pub marks_on : (s : Coordinating) → Sound s → ((phase : RunPhase) → post_at s.stage ≡ Stopped phase → ⊥) → last_of (post_at s.stage) ≡ run.Mark ↔ Marks s.stage
+  -- each step is one of the handshake
   pub stays_sound : (s : Coordinating) (found : ℕ) → Sound s → is_busy s.stage ≡ true → Sound (goes s found)
   pub goes : (s : Coordinating) (found : ℕ) → Sound s → is_busy s.stage ≡ true → LeadGoes (acks_of s.layout) found (lead_of s) (asks s) (lead_of (goes s found))

@@ -76,6 +76,10 @@ module _ {M O : Type 0} (setting : Setting M O) (n : ℕ) (sound : M → Type 0)
     -- that it is gone is acknowledged for an actor exactly where it is
     pub gone : (a : ℕ) (party : Party) (stage : Stage) → a < n → place_of a ≡ Acts party stage → (words (Ack a) ≡ GONE ↔ (stage ≡ Gone))
 
+-- once the last cycle is swept, no other phase follows
+abbrev pub FinishedStays : {O : Type 0} → Entry O → List (Entry O) → Type 0
+FinishedStays e es = last_phase es ≡ Finished → last_phase (e ∷ es) ≡ Finished
+
 -- what one entry more leaves
 module _ {M O : Type 0} (setting : Setting M O) (n : ℕ) (place : M → Place) (e : Entry O) (es : List (Entry O)) where
   -- who is gone stays gone

@@ -7,7 +7,7 @@ ghost use Rattle.gh_base.specs.Lists.{Legal, Setting};
 ghost use Rattle.gh_phase.specs.Handshake.{IsHandshake};
 ghost use Rattle.gh_phase.specs.ResumePlaces.{ResumesInHandshake};
 ghost use Rattle.gh_phase.specs.Resumes.{StopsAreAcknowledged};
-ghost use Rattle.gh_phase.specs.Shakes.{GoneStay, NobodyMoves, Shakes};
+ghost use Rattle.gh_phase.specs.Shakes.{FinishedStays, GoneStay, NobodyMoves, Shakes};
 
 use crate::handshake::InHandshake;
 use gh_base::laws::packed_words_are_read_back;
@@ -40,6 +40,13 @@ pub fn the_handshake_holds<M: InHandshake, O>()
 /// Who is gone stays gone.
 pub fn the_gone_stay_gone<M: InHandshake, O>()
     ensures { (setting : Setting M O) (n : ℕ) → IsHandshake setting n (M.sound setting.layout) M.place → (e : Entry O) (es : List (Entry O)) → Legal setting (e ∷ es) → GoneStay setting n M.place e es }
+{
+    packed_words_are_read_back();
+}
+
+/// Once the last cycle is swept the phase stays so: no stop follows, and no other phase.
+pub fn the_last_phase_stays<M: InHandshake, O>()
+    ensures { (setting : Setting M O) (n : ℕ) → IsHandshake setting n (M.sound setting.layout) M.place → (e : Entry O) (es : List (Entry O)) → Legal setting (e ∷ es) → FinishedStays e es }
 {
     packed_words_are_read_back();
 }

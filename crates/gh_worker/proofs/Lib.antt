@@ -1,5 +1,6 @@
 pub mod Counting
 pub mod Knowing
 pub mod Marking
+pub mod Phases
 pub mod Shaking
 pub mod Working

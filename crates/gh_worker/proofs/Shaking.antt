@@ -27,6 +27,7 @@ use Rattle.gh_worker.specs.declared.worker.WorkerStage.{WorkerStage}
 use Rattle.gh_worker.specs.declared.worker.WorkerStage.TheVariants.{LoadPhase, GiveBack, Resuming, Taking, Scanning, LoadCursor, Claim, LoadGlobal, Shading, FindRoom, Leave, Done}
 use Rattle.gh_worker.specs.Handshake.{GoesOnWithNone, party_at, party_of, Sound, SoundAt, stage_of, stands_at, WorkersKeepHandshake}
 use Rattle.gh_worker.specs.Listing.{after_give, after_resume, after_room, after_scan, after_shade, after_take, asks_at, at_stage, by_phase, done_with, goes_at, is_busy, stops_at, Working}
+use Rattle.gh_worker.proofs.Phases.{leaves_at, marks_at}
 
 -- the worker that a step leads to, from one that is awake
 abbrev FromAwakeTo : (found : ℕ) → Ask → (w to : Working) → Type 0
@@ -117,5 +118,7 @@ module _ (q : MarkingIsQuiet) (h : ResumesInHandshake) where
     sound = λ l seat. tt;
     party = λ l seat. refl;
     awake = λ l seat. refl;
+    leaves = λ w found busy x. leaves_at found w w.stage busy x;
+    marks = λ w found busy x. marks_at found w w.stage busy x;
     keeps = record { stays_sound = λ w found s busy. (goes found w w.stage s busy).0; goes = λ w found s busy. (goes found w w.stage s busy).1 };
   }

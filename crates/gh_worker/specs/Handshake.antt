@@ -1,13 +1,18 @@
 -- Where a worker stands in the handshake of a stop.
-use Rattle.std.specs.Prelude.{◌≡◌, ℕ, true, None, Option}
+use Rattle.std.specs.Prelude.{◌≡◌, ℕ, ◌⊎◌, true, Option, Some, None}
+use Rattle.gh_base.specs.declared.cell.Ask.TheVariants.{Load}
+use Rattle.gh_base.specs.declared.cell.Cell.TheVariants as cell
 use Rattle.gh_base.specs.declared.held.Held.{Held}
 use Rattle.gh_base.specs.declared.layout.Layout.{Layout}
+use Rattle.gh_base.specs.Packing.{phase_of}
+use Rattle.gh_phase.specs.declared.view.RunPhase.TheVariants.{Mark, Finished}
 use Rattle.gh_phase.specs.Handshake.{Awake, first_party, Gives, Gone, KeepsHandshake, Leaves, Party, Stage}
 use Rattle.gh_phase.specs.Listing as resume
 use Rattle.gh_phase.specs.ResumePlaces as resumes
+use Rattle.gh_phase.specs.Views.{run_phase}
 use Rattle.gh_worker.specs.declared.worker.WorkerStage.{WorkerStage}
-use Rattle.gh_worker.specs.declared.worker.WorkerStage.TheVariants.{GiveBack, Resuming, Leave, Done}
-use Rattle.gh_worker.specs.Listing.{listing, opening, Working}
+use Rattle.gh_worker.specs.declared.worker.WorkerStage.TheVariants.{LoadPhase, GiveBack, Resuming, Taking, Scanning, LoadCursor, Claim, LoadGlobal, Shading, FindRoom, Leave, Done}
+use Rattle.gh_worker.specs.Listing.{asks, goes, is_busy, listing, opening, Working}
 
 -- while it takes, scans and shades it is awake
 abbrev pub stands_at : WorkerStage → Stage
@@ -41,6 +46,28 @@ SoundAt w _ = Unit {0}
 abbrev pub Sound : Working → Type 0
 Sound w = SoundAt w w.stage
 
+-- it is about to say that it is gone, or is done
+abbrev pub IsLeaving : WorkerStage → Type 0
+IsLeaving Leave = Unit {0}
+IsLeaving Done = Unit {0}
+IsLeaving _ = ⊥
+
+-- it takes, scans or shades, or claims a global
+abbrev pub IsMarking : WorkerStage → Type 0
+IsMarking (Taking t) = Unit {0}
+IsMarking (Scanning s) = Unit {0}
+IsMarking LoadCursor = Unit {0}
+IsMarking Claim = Unit {0}
+IsMarking (LoadGlobal i) = Unit {0}
+IsMarking (Shading sh) = Unit {0}
+IsMarking (FindRoom sh r) = Unit {0}
+IsMarking _ = ⊥
+
+-- it was marking before the step, or finds with it that marking is on
+pub record FindsMarking (found : ℕ) (w : Working) (stage : WorkerStage) (to : Working) : Type 0 where
+  pub view_stays : to.view ≡ w.view
+  pub finds : IsMarking stage ⊎ ((stage ≡ LoadPhase) × (run_phase (phase_of found).phase ≡ Some Mark))
+
 pub record WorkersKeepHandshake : Type 0 where
   -- before its first step
   pub sound : (l : Layout) (seat : ℕ) → Sound (opening l seat)
@@ -48,3 +75,7 @@ pub record WorkersKeepHandshake : Type 0 where
   pub awake : (l : Layout) (seat : ℕ) → stage_of (opening l seat) ≡ Awake
   -- and by each step
   pub keeps : KeepsHandshake listing Sound party_of stage_of
+  -- it leaves only where it finds the last phase
+  pub leaves : (w : Working) (found : ℕ) → is_busy w.stage ≡ true → IsLeaving (goes w found).stage → IsLeaving w.stage ⊎ ((asks w ≡ Load cell.Phase) × (run_phase (phase_of found).phase ≡ Some Finished))
+  -- it marks only where it finds that marking is on
+  pub marks : (w : Working) (found : ℕ) → is_busy w.stage ≡ true → IsMarking (goes w found).stage → FindsMarking found w w.stage (goes w found)

@@ -1,3 +1,5 @@
+pub mod Knowing
+pub mod LastCycle
 pub mod Shaking
 pub mod Due
 pub mod EachOnce

@@ -1,22 +1,20 @@
 -- Every legal list of processors, workers and a coordinator keeps the handshake.
-use Rattle.std.proofs.Common.{◌≡◌, ℕ, ◌<◌, Bool, true, false, cond, ltb, refl, ap, subst, ◌∙◌, inl, arith, List}
+use Rattle.std.proofs.Common.{◌≡◌, ℕ, ◌<◌, Bool, true, false, cond, ltb, refl, subst, ◌∙◌, inl, arith, List}
 use Rattle.std.proofs.lemmas.Bool.Decides.{nat_tests}
 use Rattle.gh_base.specs.declared.layout.Layout.{Layout}
 use Rattle.gh_base.specs.declared.machine.Entry.{Entry}
 use Rattle.gh_base.specs.Lists.{Kind}
 use Rattle.gh_phase.specs.Handshake.{Acts, Awake, first_lead, first_party, IsHandshake, Leads, LeadGoes, Party, Place, PlaceBegins, PlaceGoes, Stage}
-use Rattle.gh_phase.specs.Shakes.{Shakes}
 use Rattle.gh_coord.specs.Ends.{stays}
 use Rattle.gh_coord.specs.Handshake.{LeadsHandshake}
 use Rattle.gh_coord.specs.Handshake as leading
 use Rattle.gh_coord.specs.Listing as coord
 use Rattle.gh_coord.specs.Stopping.{acks_of}
 use Rattle.gh_worker.specs.Handshake.{WorkersKeepHandshake}
-use Rattle.gh_worker.specs.Handshake as working
 use Rattle.gh_worker.specs.Listing as worker
 use Rattle.gh_world.specs.declared.handshake.Actor.{Actor}
 use Rattle.gh_world.specs.declared.handshake.Actor.TheVariants as actor
-use Rattle.gh_world.specs.Handshake.{AreParties, asks, begins, heap, is_busy, KeepsIt, Pacing, place_of, Sound, start, takes}
+use Rattle.gh_world.specs.Handshake.{AreParties, asks, begins, heap, is_busy, Pacing, place_of, Sound, start, takes}
 
 module _ {P O : Type 0} (sound : Layout → P → Type 0) (party : P → Party) (stage : P → Stage) (l : Layout) (k : Kind P O) (h : AreParties l k (sound l) party stage) (c : LeadsHandshake) (w : WorkersKeepHandshake) where
   abbrev place : Actor P → Place
@@ -81,11 +79,3 @@ module _ {P O : Type 0} (sound : Layout → P → Type 0) (party : P → Party) 
       begins = begun_place;
       takes = taken_place;
     }
-
-    module _ (may : ℕ → List (Entry O) → O → Bool) (es : List (Entry O)) (x : Shakes (heap l k pacing may) (acks_of l) (Sound sound l) place es) where
-      pub keeps_it : KeepsIt sound party stage (heap l k pacing may) es
-      keeps_it = record {
-        shakes = x;
-        processors_know = λ a m s e awake. x.views a (party m) (stage m) s (ap place e) awake;
-        workers_know = λ a m s e awake. x.views a (working.party_of m) (working.stage_of m) s (ap place e) awake;
-      }

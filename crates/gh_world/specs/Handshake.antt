@@ -1,17 +1,25 @@
 -- Processors of any kind that is in the handshake of a stop, workers and the coordinator: their lists, and what every legal one keeps.
-use Rattle.std.specs.Prelude.{◌≡◌, ℕ, ◌<◌, Bool, true, false, nat_lt, if◌then◌else◌, List}
+use Rattle.std.specs.Prelude.{◌≡◌, ◌↔◌, ℕ, ◌<◌, Bool, true, false, nat_lt, if◌then◌else◌, List, None}
 use Rattle.gh_base.specs.declared.cell.Ask.{Ask}
+use Rattle.gh_base.specs.declared.cell.Cell.TheVariants as cell
 use Rattle.gh_base.specs.declared.layout.Layout.{Layout}
 use Rattle.gh_base.specs.declared.machine.Entry.{Entry}
-use Rattle.gh_base.specs.Cells.{opening_words, seats_of}
+use Rattle.gh_base.specs.declared.pack.TheConstants.{GONE}
+use Rattle.gh_base.specs.Cells.{opening_words, seats_of, Words}
 use Rattle.gh_base.specs.Lists.{Kind, Legal, Setting, state_of, words_after}
-use Rattle.gh_phase.specs.Handshake.{Acts, Awake, first_party, Leads, Party, Place, PlaceBegins, Stage, StageGoes}
-use Rattle.gh_phase.specs.Shakes.{IsAwake, IsCurrent, last_phase, Shakes}
+use Rattle.gh_phase.specs.declared.resume.ResumeStage.TheVariants.{LoadPhase}
+use Rattle.gh_phase.specs.declared.view.RunPhase.{RunPhase}
+use Rattle.gh_phase.specs.declared.view.RunPhase.TheVariants.{Mark, Finished}
+use Rattle.gh_phase.specs.declared.view.View.{View}
+use Rattle.gh_phase.specs.Handshake.{Acts, Awake, first_party, Leads, Party, Place, PlaceBegins, Stage, StageGoes, Stopped}
+use Rattle.gh_phase.specs.Listing as resume
+use Rattle.gh_phase.specs.Shakes.{IsAwake, IsCurrent, IsParked, last_phase, Shakes}
 use Rattle.gh_coord.specs.Handshake as leading
 use Rattle.gh_coord.specs.Listing as coord
 use Rattle.gh_coord.specs.Stopping.{acks_of}
 use Rattle.gh_worker.specs.Handshake as working
 use Rattle.gh_worker.specs.Listing as worker
+use Rattle.gh_worker.specs.declared.worker.WorkerStage.TheVariants.{Resuming}
 use Rattle.gh_world.specs.declared.handshake.Actor.{Actor}
 use Rattle.gh_world.specs.declared.handshake.Actor.TheVariants as actor
 
@@ -82,13 +90,37 @@ pub record AreParties {P O : Type 0} (l : Layout) (k : Kind P O) (sound : P → 
   pub begins_so : (m : P) (o : O) → sound m → k.busy m ≡ false → PlaceBegins (Acts (party m) (stage m)) (Acts (party (k.begins m o)) (stage (k.begins m o)))
   pub takes_so : (m : P) (found : ℕ) → sound m → k.busy m ≡ true → StageGoes found (party m) (stage m) (k.asks m) (party (k.takes m found)) (stage (k.takes m found))
 
+-- a view is the last phase that was no stop, and the words as they stand
+pub record IsExact (phase : RunPhase) (words : Words) (v : View) : Type 0 where
+  pub phase_is : v.phase ≡ phase
+  pub generation_is : v.generation ≡ words cell.Gen
+  pub begun_is : v.begun ≡ words cell.Begun
+
+-- the worker waits at this stop, with no buffer held
+pub record WaitsWithNone (stops : ℕ) (w : worker.Working) : Type 0 where
+  pub none : w.held ≡ None
+  pub routine : resume.Resuming
+  pub is_at : w.stage ≡ Resuming routine
+  pub loads : routine.stage ≡ LoadPhase
+  pub stop_is : routine.stops ≡ stops
+
 module _ {P : Type 0} (sound : Layout → P → Type 0) (party : P → Party) (stage : P → Stage) where
-  -- what every list says
+  -- what every legal list keeps
   pub record KeepsIt {O : Type 0} (s : Setting (Actor P) O) (es : List (Entry O)) : Type 0 where
     pub shakes : Shakes s (acks_of s.layout) (Sound sound s.layout) (place_of party stage) es
-    -- what a processor knows of the phase, and what a worker does
-    pub processors_know : (a : ℕ) (m : P) → a < acks_of s.layout → state_of s.kind a es ≡ actor.Runs m → IsAwake (stage m) → IsCurrent (last_phase es) (words_after s.opening es) (party m).view
+    -- what a processor knows of the phase while it is awake, and what a worker does
+    pub processors_know : (a : ℕ) (m : P) → a < acks_of s.layout → state_of s.kind a es ≡ actor.Runs m → IsAwake (stage m) → IsExact (last_phase es) (words_after s.opening es) (party m).view
     pub workers_know : (a : ℕ) (w : worker.Working) → a < acks_of s.layout → state_of s.kind a es ≡ actor.Marks w → IsAwake (working.stage_of w) → IsCurrent (last_phase es) (words_after s.opening es) (working.party_of w).view
+    -- which is that of marking exactly while a cycle is marked; so a worker takes, scans and shades then alone
+    pub processors_mark : (c : coord.Coordinating) (a : ℕ) (m : P) → state_of s.kind (acks_of s.layout) es ≡ actor.Leads c → a < acks_of s.layout → state_of s.kind a es ≡ actor.Runs m → IsAwake (stage m) → (party m).view.phase ≡ Mark ↔ leading.Marks c.stage
+    pub workers_mark : (c : coord.Coordinating) (a : ℕ) (w : worker.Working) → state_of s.kind (acks_of s.layout) es ≡ actor.Leads c → a < acks_of s.layout → state_of s.kind a es ≡ actor.Marks w → IsAwake (working.stage_of w) → (working.party_of w).view.phase ≡ Mark ↔ leading.Marks c.stage
+    pub marking : (c : coord.Coordinating) (a : ℕ) (w : worker.Working) → state_of s.kind (acks_of s.layout) es ≡ actor.Leads c → a < acks_of s.layout → state_of s.kind a es ≡ actor.Marks w → working.IsMarking w.stage → leading.Marks c.stage
+    -- where the world is stopped each waits at that stop, or is gone; no worker is gone yet, and none holds a buffer
+    pub processors_wait : (c : coord.Coordinating) (phase : RunPhase) (a : ℕ) (m : P) → state_of s.kind (acks_of s.layout) es ≡ actor.Leads c → leading.post_at c.stage ≡ Stopped phase → a < acks_of s.layout → state_of s.kind a es ≡ actor.Runs m → IsParked (leading.lead_of c).stops (stage m)
+    pub workers_wait : (c : coord.Coordinating) (phase : RunPhase) (a : ℕ) (w : worker.Working) → state_of s.kind (acks_of s.layout) es ≡ actor.Leads c → leading.post_at c.stage ≡ Stopped phase → a < acks_of s.layout → state_of s.kind a es ≡ actor.Marks w → WaitsWithNone (leading.lead_of c).stops w
+    -- no worker leaves before the last cycle is swept, and every processor has left by then
+    pub workers_leave : (a : ℕ) (w : worker.Working) → a < acks_of s.layout → state_of s.kind a es ≡ actor.Marks w → working.IsLeaving w.stage → last_phase es ≡ Finished
+    pub processors_left : (a : ℕ) → a < s.layout.procs → last_phase es ≡ Finished → words_after s.opening es (cell.Ack a) ≡ GONE
 
   abbrev pub EveryListKeepsIt : (O : Type 0) → Type 0
   EveryListKeepsIt O = (l : Layout) (k : Kind P O) (pacing : Pacing) (may_begin : ℕ → List (Entry O) → O → Bool) → AreParties l k (sound l) party stage → (es : List (Entry O)) → Legal (heap l k pacing may_begin) es →

@@ -5,15 +5,13 @@
 //! coordinator their crates say where they stand. A processor may be of any kind that does so too: what it
 //! runs beside its polls, waits and leaves does not matter.
 
-ghost use Rattle.std.specs.Prelude.{ℕ};
-ghost use Rattle.gh_base.specs.Lists.{Kind};
 ghost use Rattle.gh_world.specs.Handshake.{EveryListKeepsIt};
 
-use gh_base::Layout;
+use gh_base::laws::packed_words_are_read_back;
 use gh_coord::Coord;
 use gh_coord::laws::the_coordinator_leads_the_handshake;
 use gh_phase::InHandshake;
-use gh_phase::laws::the_handshake_holds;
+use gh_phase::laws::{the_gone_stay_gone, the_handshake_holds, the_last_phase_stays};
 use gh_worker::Worker;
 use gh_worker::laws::a_worker_keeps_the_handshake;
 
@@ -54,12 +52,16 @@ impl<P: PartyToHandshake> InHandshake for Actor<P> {
 /// Whatever the numbers of processors and workers, whatever else the processors run, and whatever the order of
 /// steps, every legal list keeps the handshake. What a processor or a worker knows of the phase, from the opening
 /// or the end of going on after a stop until it acknowledges the next one, is the last phase that was no stop, and
-/// the sweep generation and the cycles begun as their words stand; once the last cycle is swept, it may be
-/// still that marking is off. In a stopped world each of them waits at the stop, or is gone.
+/// the sweep generation and the cycles begun as their words stand; a worker may know still that marking is off once
+/// the last cycle is swept. In a stopped world each processor waits at the stop, or is gone, and each worker waits
+/// at it with no buffer held. No worker leaves before the last cycle is swept, and every processor has by then.
 pub fn every_list_keeps_the_handshake<P: PartyToHandshake, O>()
     ensures { EveryListKeepsIt P.sound P.party P.stage O }
 {
+    packed_words_are_read_back();
     the_handshake_holds::<Actor<P>, O>();
+    the_gone_stay_gone::<Actor<P>, O>();
+    the_last_phase_stays::<Actor<P>, O>();
     the_coordinator_leads_the_handshake();
     a_worker_keeps_the_handshake();
 }

@@ -1,5 +1,5 @@
 -- One step of the coordinator in the handshake.
-use Rattle.std.proofs.Common.{subst, ◌≡◌, ℕ, ◌+◌, ◌^◌, ◌<◌, Bool, true, false, cond, nat_lt, refl, ◌∙◌, ap, arith, below_more}
+use Rattle.std.proofs.Common.{subst, ◌≡◌, ℕ, ◌+◌, ◌^◌, ◌<◌, Bool, true, false, cond, nat_lt, refl, sym, ◌∙◌, ap, arith, below_more}
 use Rattle.std.proofs.lemmas.Bool.Decides.{nat_tests}
 use Rattle.gh_base.specs.declared.cell.Cell.TheVariants.{Phase, Gen, Begun, Ack}
 use Rattle.gh_base.specs.declared.cell.Ask.{Ask}
@@ -140,3 +140,13 @@ led back n w last found l m ask e (goes phase next small here is to) g = rest l.
 led back n w last found l m ask e (finishes here is to) g = rest l.post here g where
   rest : (p : Post) → p ≡ Calm Off → Good n w last (record l { post = p }) → Next n w last (record l { post = p }) ask m
   rest p x y = rw (x, is, to) (lead_finishes back n w last l.stops l.begun l.generation (rw x at y))
+
+-- the coordinator stores no phase behind the last
+pub led_finished : (n found : ℕ) (w : Words) (l m : Lead) (ask : Ask) (last : RunPhase) → last ≡ last_of l.post → LeadGoes n found l ask m → last ≡ Finished → phase_stored ask last ≡ Finished
+led_finished n found w l m ask last is (quiet q same) f = (still w ask q).last last ∙ f
+led_finished n found w l m ask last is (stops phase goes_on here asks to) f = absurd (goes_on (sym (is ∙ ap last_of here) ∙ f))
+led_finished n found w l m ask last is (sees phase ack here asks seen to) f = rw asks f
+led_finished n found w l m ask last is (begins phase here asks to) f = rw asks f
+led_finished n found w l m ask last is (ends phase here asks to) f = rw asks f
+led_finished n found w l m ask last is (goes phase next goes_on here asks to) f = absurd (goes_on (sym (is ∙ ap last_of here) ∙ f))
+led_finished n found w l m ask last is (finishes here asks to) f = absurd (let no : Off ≡ Finished = sym (is ∙ ap last_of here) ∙ f in cc)

@@ -26,7 +26,7 @@ pub begins_fine : (v : Announced) (a ack : ℕ) (from to : Place) → PlaceBegin
 begins_fine v a ack from to (inl e) f = rw e f
 begins_fine v a ack from to (inr e) f = rw e.2 (rw e.1 at f)
 
-begins_lead : (l : Lead) (from to : Place) → PlaceBegins from to → from ≡ Leads l → to ≡ Leads l
+pub begins_lead : (l : Lead) (from to : Place) → PlaceBegins from to → from ≡ Leads l → to ≡ Leads l
 begins_lead l from to (inl e) h = e ∙ h
 begins_lead l from to (inr e) h = let both : Acts e.0 Awake ≡ Leads l = sym e.1 ∙ h in absurd cc
 
@@ -43,7 +43,7 @@ own_good n w u ask last l a o g = record {
   each b false h = inl (o.others b (λ y. grind (arith, nat_tests)))
 
 module _ (back : (p : PhaseWord) → phase_of (phase_word p) ≡ p) where
-  own_place : (v : Announced) → Fits v → (a n found : ℕ) (w : Words) → Shown v w → (ask : Ask) (from to : Place) → found ≡ w (cell_of ask) → PlaceGoes n found from ask to → Fine v a (w (Ack a)) from →
+  pub own_place : (v : Announced) → Fits v → (a n found : ℕ) (w : Words) → Shown v w → (ask : Ask) (from to : Place) → found ≡ w (cell_of ask) → PlaceGoes n found from ask to → Fine v a (w (Ack a)) from →
       OwnStep v a w (effect w ask) ask × Fine v a (effect w ask (Ack a)) to
   own_place v h a n found w s ask (Acts from stage) (Acts to next) e g f = let o = own back v h a w s found from to stage next ask e f.0 g f.1 in (o.step, (o.seat, o.stands))
   own_place v h a n found w s ask (Acts from stage) (Leads m) e g f = absurd g

@@ -1,4 +1,4 @@
--- What one entry more leaves: who is gone stays gone, and in a stopped world nobody but the coordinator moves.
+-- What one entry more leaves: who is gone stays gone, the last phase stays, and in a stopped world nobody but the coordinator moves.
 use Rattle.std.proofs.Common.{inl, inr, subst, ◌≡◌, ℕ, ◌<◌, Bool, true, false, cond, ◌==◌, refl, sym, ◌∙◌, ap, arith, List, ◌∷◌, Option, Some, None}
 use Rattle.std.proofs.lemmas.Bool.Decides.{nat_tests}
 use Rattle.gh_base.specs.declared.cell.Cell.TheVariants.{Phase, Ack}
@@ -12,11 +12,12 @@ use Rattle.gh_base.specs.Packing.{phase_of, phase_word}
 use Rattle.gh_base.specs.Steps.{cell_of}
 use Rattle.gh_phase.specs.declared.resume.ResumeStage.TheVariants.{Acknowledge, LoadPhase, LoadGeneration, LoadBegun, Ended}
 use Rattle.gh_phase.specs.declared.view.RunPhase.{RunPhase}
-use Rattle.gh_phase.specs.Handshake.{Acts, Awake, Gives, Gone, IsAcked, IsHandshake, is_stop, Leads, Leaves, Place, PlaceBegins, PlaceGoes, Resumes, Stage, StageGoes, stop_word, Stopped, with_phase}
-use Rattle.gh_phase.specs.Shakes.{GoneStay, IsParked, NobodyMoves}
+use Rattle.gh_phase.specs.declared.view.RunPhase.TheVariants.{Finished}
+use Rattle.gh_phase.specs.Handshake.{Acts, Awake, Gives, Gone, IsAcked, IsHandshake, is_stop, Lead, LeadGoes, Leads, Leaves, Place, PlaceBegins, PlaceGoes, Resumes, Stage, StageGoes, stop_word, Stopped, with_phase}
+use Rattle.gh_phase.specs.Shakes.{FinishedStays, GoneStay, IsParked, last_phase, NobodyMoves, phase_stored}
 use Rattle.gh_phase.specs.Views.{run_phase}
-use Rattle.gh_phase.proofs.Shaking.Leading.{announced}
-use Rattle.gh_phase.proofs.Shaking.Lists.{begins_fine, begun_place, Fine, holds, Inv, state_other, state_own}
+use Rattle.gh_phase.proofs.Shaking.Leading.{announced, led_finished}
+use Rattle.gh_phase.proofs.Shaking.Lists.{begins_fine, begins_lead, begun_place, Fine, holds, Inv, own_place, state_other, state_own}
 use Rattle.gh_phase.proofs.Shaking.Standing.{Announced, Fits, is_gone, number_told, parked, Stands, stop_told, word_of}
 
 -- by what a load of the phase found
@@ -122,3 +123,21 @@ module _ (back : (p : PhaseWord) → phase_of (phase_word p) ≡ p) {M O : Type 
       let still = parked_begins (announced before.lead) e.actor (acked e.actor) (at e.actor) (place moved) before.good.fits on seen (before.fine e.actor l) both.1 in
       let all = waits (announced before.lead) (place moved) (place (state_of setting.kind e.actor (e ∷ es))) before.good.fits on e.actor (acked e.actor) (fine l) seen legal.1.found before.good.shown.phase goes_on in
       (all.0, all.1 ∙ rw same refl, all.2 ∙ still)
+
+  led_place_finished : (from to : Place) → from ≡ Leads before.lead → PlaceGoes n e.found from e.ask to → last_phase es ≡ Finished → phase_stored e.ask (last_phase es) ≡ Finished
+  led_place_finished (Leads x) (Leads m) here g f =
+      let same : x ≡ before.lead = cc in
+      led_finished n e.found (words_after setting.opening es) before.lead m e.ask (last_phase es) before.good.last_is (subst (λ (y : Lead). LeadGoes n e.found y e.ask m) same g) f
+  led_place_finished (Leads x) (Acts to next) here g f = absurd g
+  led_place_finished (Acts from stage) to here g f = absurd cc
+
+  pub finished_stays : FinishedStays e es
+  finished_stays f = go (e.actor == n) refl where
+    go : (b : Bool) → (e.actor == n) ≡ b → last_phase (e ∷ es) ≡ Finished
+    go true x =
+        let here : n ≡ e.actor = grind (arith, nat_tests) in
+        led_place_finished (place moved) (place (state_of setting.kind e.actor (e ∷ es))) (begins_lead before.lead (at e.actor) (place moved) both.1 (subst (λ (y : ℕ). place (state_of setting.kind y es) ≡ Leads before.lead) here before.leads)) goes_on f
+    go false x =
+        let low : e.actor < n = (let l = legal.1.actor in let y = h.actors in grind (arith, nat_tests)) in
+        let o = own_place back (announced before.lead) before.good.fits e.actor n e.found (words_after setting.opening es) before.good.shown e.ask (place moved) (place (state_of setting.kind e.actor (e ∷ es))) legal.1.found goes_on (fine low) in
+        o.0.last (last_phase es) ∙ f

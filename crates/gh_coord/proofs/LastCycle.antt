@@ -1,0 +1,267 @@
+-- The last cycle is begun once each processor was found gone: by the coordinator's stages.
+use Rattle.std.proofs.Common.{◌≡◌, ◌≢◌, ℕ, ◌+◌, ◌<◌, inl, inr, Bool, true, false, cond, ltb, ◌==◌, refl, sym, ap, subst, ◌∙◌, arith, Option, Some, None}
+use Rattle.std.specs.Prelude.{◌↔◌}
+use Rattle.std.proofs.lemmas.Bool.Decides.{nat_tests}
+use Rattle.gh_base.specs.declared.cell.Cell.TheVariants as cell
+use Rattle.gh_phase.specs.declared.view.RunPhase.{RunPhase}
+use Rattle.gh_phase.specs.declared.view.RunPhase.TheVariants as run
+use Rattle.gh_phase.specs.Handshake.{last_of, Post, Stopped}
+use Rattle.gh_coord.specs.declared.open.OpenStage.TheVariants as open_stage
+use Rattle.gh_coord.specs.declared.stop.StopStage.{StopStage}
+use Rattle.gh_coord.specs.declared.stop.StopStage.TheVariants as stop_stage
+use Rattle.gh_coord.specs.declared.tell.TellStage.TheVariants as tell_stage
+use Rattle.gh_coord.specs.Closing as close
+use Rattle.gh_coord.specs.Counting as count
+use Rattle.gh_coord.specs.Handshake.{FindsGone, gone_to, IsFoundGone, Marks, open_post, post_at, SoundAt, stop_post, tell_post, told_phase}
+use Rattle.gh_coord.specs.Listing.{after_ack, after_check, after_close, after_count, after_open, after_stop, after_stop_again, after_sweep, after_tell, after_watch, asks_at, at_stage, Coordinating, counted, goes, goes_at, is_busy, stops_world}
+use Rattle.gh_coord.specs.Opening as opens_by
+use Rattle.gh_coord.specs.Stopping as stop
+use Rattle.gh_coord.specs.SweepingAll as all
+use Rattle.gh_coord.specs.Telling as tell
+use Rattle.gh_coord.specs.Watching as watch
+use Rattle.gh_coord.specs.Vocabulary.{All, Check, Close, CoordStage, Count, Counted, Done, GONE, Load, LoadAck, LoadWant, MarkOn, NotYet, Open, OpenStage, Stop, StopAgain, Sweep, Tell, TellStage, Watch, Watched}
+
+-- a step that finds no processor gone, and leaves whether this is the last cycle
+abbrev Apart : (s to : Coordinating) → Type 0
+Apart s to = (gone_to to.stage ≡ 0) × (to.is_last ≡ s.is_last)
+
+apart_finds : (found : ℕ) (s : Coordinating) (stage : CoordStage) (to : Coordinating) → Apart s to → FindsGone found s stage to
+apart_finds found s stage to a = record { below = λ i l. absurd (let e = a.0 in omega arith); last = λ e. inl (sym a.1 ∙ e) }
+
+module _ (found : ℕ) (s : Coordinating) where
+  -- the processors up to this one
+  up_to : (i : ℕ) → found ≡ GONE → (a : ℕ) → a < i + 1 → IsFoundGone found s (LoadAck i) a
+  up_to i gone a l = go (a == i) refl where
+    go : (same : Bool) → (a == i) ≡ same → IsFoundGone found s (LoadAck i) a
+    go true e = let is : i ≡ a = grind (arith, nat_tests) in inr (ap (λ (j : ℕ). Load (cell.Ack j)) is, gone)
+    go false e = inl (grind (arith, nat_tests))
+
+  acks : (i : ℕ) → FindsGone found s (LoadAck i) (after_ack s i found)
+  acks i = go (found == GONE) (ltb (i + 1) s.layout.procs) refl refl where
+    go : (gone more : Bool) → (found == GONE) ≡ gone → ltb (i + 1) s.layout.procs ≡ more → FindsGone found s (LoadAck i) (cond gone (cond more (at_stage s (LoadAck (i + 1))) (stops_world (record s { is_last = true }))) (at_stage s LoadWant))
+    go true true e m = record { below = up_to i (grind (arith, nat_tests)); last = λ x. inl x }
+    go true false e m = record { below = λ a l. absurd (omega arith); last = λ x. inr (λ a l. up_to i (grind (arith, nat_tests)) a (grind (arith, nat_tests))) }
+    go false more e m = apart_finds found s (LoadAck i) (at_stage s LoadWant) (refl, refl)
+
+  wants : (none : Bool) → Apart s (cond none (at_stage s (LoadAck 0)) (stops_world s))
+  wants true = (refl, refl)
+  wants false = (refl, refl)
+
+  stopped : (st : stop.Stopping) (out : Option (Unit {0})) → Apart s (after_stop (at_stage s (Stop st)) out)
+  stopped st None = (refl, refl)
+  stopped st (Some u) = (refl, refl)
+
+  opened : (o : opens_by.CycleOpening) (out : Option (Unit {0})) → Apart s (after_open (at_stage s (Open o)) out)
+  opened o None = (refl, refl)
+  opened o (Some u) = (refl, refl)
+
+  watched : (w : watch.Watching) (out : Option Watched) → Apart s (after_watch (at_stage s (Watch w)) out)
+  watched w None = (refl, refl)
+  watched w (Some All) = (refl, refl)
+  watched w (Some NotYet) = (refl, refl)
+
+  stopped_again : (st : stop.Stopping) (out : Option (Unit {0})) → Apart s (after_stop_again (at_stage s (StopAgain st)) out)
+  stopped_again st None = (refl, refl)
+  stopped_again st (Some u) = (refl, refl)
+
+  checked : (w : watch.Watching) (out : Option Watched) → Apart s (after_check (at_stage s (Check w)) out)
+  checked w None = (refl, refl)
+  checked w (Some All) = (refl, refl)
+  checked w (Some NotYet) = (refl, refl)
+
+  closed : (c : close.Closing) (out : Option ℕ) → Apart s (after_close (at_stage s (Close c)) out)
+  closed c None = (refl, refl)
+  closed c (Some lapsed) = (refl, refl)
+
+  swept : (w : all.SweepingAll) (out : Option (Unit {0})) → Apart s (after_sweep (at_stage s (Sweep w)) out)
+  swept w None = (refl, refl)
+  swept w (Some u) = (refl, refl)
+
+  read : (c : count.Counting) (out : Option Counted) → Apart s (after_count (at_stage s (Count c)) out)
+  read c None = (refl, refl)
+  read c (Some r) = (refl, refl)
+
+  either : (last : Bool) → Apart s (at_stage s (cond last Done (LoadAck 0)))
+  either true = (refl, refl)
+  either false = (refl, refl)
+
+  told : (t : tell.Telling) (out : Option (Unit {0})) → Apart s (after_tell (at_stage s (Tell t)) out)
+  told t None = (refl, refl)
+  told t (Some u) = either s.is_last
+
+finds_at : (found : ℕ) (s : Coordinating) (stage : CoordStage) → is_busy stage ≡ true → FindsGone found s stage (goes_at s stage found)
+finds_at found s (LoadAck i) busy = acks found s i
+finds_at found s LoadWant busy = apart_finds found s LoadWant (goes_at s LoadWant found) (wants found s (found == 0))
+finds_at found s (Stop st) busy = apart_finds found s (Stop st) (goes_at s (Stop st) found) (stopped found s (stop.goes st found) (stop.gives st found))
+finds_at found s (Open o) busy = apart_finds found s (Open o) (goes_at s (Open o) found) (opened found s (opens_by.goes o found) (opens_by.gives o found))
+finds_at found s (Watch w) busy = apart_finds found s (Watch w) (goes_at s (Watch w) found) (watched found s (watch.goes w found) (watch.gives w found))
+finds_at found s (StopAgain st) busy = apart_finds found s (StopAgain st) (goes_at s (StopAgain st) found) (stopped_again found s (stop.goes st found) (stop.gives st found))
+finds_at found s (Check w) busy = apart_finds found s (Check w) (goes_at s (Check w) found) (checked found s (watch.goes w found) (watch.gives w found))
+finds_at found s MarkOn busy = apart_finds found s MarkOn (goes_at s MarkOn found) (refl, refl)
+finds_at found s (Close c) busy = apart_finds found s (Close c) (goes_at s (Close c) found) (closed found s (close.goes c found) (close.gives c found))
+finds_at found s (Sweep w) busy = apart_finds found s (Sweep w) (goes_at s (Sweep w) found) (swept found s (all.goes w found) (all.gives w found))
+finds_at found s (Count c) busy = apart_finds found s (Count c) (goes_at s (Count c) found) (read found s (count.goes c found) (count.gives c found))
+finds_at found s (Tell t) busy = apart_finds found s (Tell t) (goes_at s (Tell t) found) (told found s (tell.goes t found) (tell.gives t found))
+finds_at found s Done busy = absurd cc
+
+-- counting the steps that store the phase word leaves what is found
+pub counted_asks : (s : Coordinating) (stage : CoordStage) → asks_at (counted s) stage ≡ asks_at s stage
+counted_asks s (LoadAck i) = refl
+counted_asks s LoadWant = refl
+counted_asks s (Stop st) = refl
+counted_asks s (Open o) = refl
+counted_asks s (Watch w) = refl
+counted_asks s (StopAgain st) = refl
+counted_asks s (Check w) = refl
+counted_asks s MarkOn = refl
+counted_asks s (Close c) = refl
+counted_asks s (Sweep w) = refl
+counted_asks s (Count c) = refl
+counted_asks s (Tell t) = refl
+counted_asks s Done = refl
+
+pub finds_gone : (s : Coordinating) (found : ℕ) → is_busy s.stage ≡ true → FindsGone found s s.stage (goes s found)
+finds_gone s found busy =
+    let f = finds_at found (counted s) s.stage busy in
+    record { below = λ a l. rw (← counted_asks s s.stage) (f.below a l); last = λ e. elim (f.last e) [ inl x ↦ inl x | inr y ↦ inr (λ a l. rw (← counted_asks s s.stage) (y a l)) ] }
+
+-- the last phase is stored in the last cycle
+stop_goes_on : (phase : RunPhase) (stage : StopStage) → last_of (stop_post phase stage) ≡ phase
+stop_goes_on phase stop_stage.StorePhase = refl
+stop_goes_on phase (stop_stage.Await ack) = refl
+stop_goes_on phase stop_stage.Ended = refl
+
+open_goes_on : (stage : OpenStage) → last_of (open_post stage) ≡ run.Finished → ⊥
+open_goes_on open_stage.ClearWant e = cc
+open_goes_on open_stage.ClearGcur e = cc
+open_goes_on open_stage.ClearTally e = cc
+open_goes_on open_stage.ClearLive e = cc
+open_goes_on open_stage.StoreTrigger e = cc
+open_goes_on open_stage.LoadHeap e = cc
+open_goes_on open_stage.StoreWork e = cc
+open_goes_on open_stage.StoreSlack e = cc
+open_goes_on open_stage.StoreBegun e = cc
+open_goes_on open_stage.StorePhase e = cc
+open_goes_on open_stage.Ended e = cc
+
+told_last : (last : Bool) → told_phase last ≡ run.Finished → last ≡ true
+told_last true e = refl
+told_last false e = absurd cc
+
+tell_finishes : (last : Bool) (stage : TellStage) → last_of (tell_post last stage) ≡ run.Finished → last ≡ true
+tell_finishes last tell_stage.StoreTrigger e = absurd cc
+tell_finishes last tell_stage.StoreSwept e = absurd cc
+tell_finishes last tell_stage.StorePhase e = absurd cc
+tell_finishes last tell_stage.Ended e = told_last last e
+
+pub finishes_at : (s : Coordinating) (stage : CoordStage) → SoundAt s stage → last_of (post_at stage) ≡ run.Finished → s.is_last ≡ true
+finishes_at s (LoadAck i) f e = absurd cc
+finishes_at s LoadWant f e = absurd cc
+finishes_at s (Stop st) f e = absurd (let no : run.Off ≡ run.Finished = sym (stop_goes_on run.Off st.stage) ∙ e in cc)
+finishes_at s (Open o) f e = absurd (open_goes_on o.stage e)
+finishes_at s (Watch w) f e = absurd cc
+finishes_at s (StopAgain st) f e = absurd (let no : run.Mark ≡ run.Finished = sym (stop_goes_on run.Mark st.stage) ∙ e in cc)
+finishes_at s (Check w) f e = absurd cc
+finishes_at s MarkOn f e = absurd cc
+finishes_at s (Close c) f e = absurd cc
+finishes_at s (Sweep w) f e = absurd cc
+finishes_at s (Count c) f e = absurd cc
+finishes_at s (Tell t) f e = sym (ap (λ (x : tell.Telling). x.is_last) f) ∙ tell_finishes t.is_last t.stage e
+finishes_at s Done f e = f
+
+-- the world is stopped behind a phase that is off, or that of marking
+abbrev GoesOn : Post → Type 0
+GoesOn (Stopped phase) = phase ≢ run.Finished
+GoesOn _ = Unit {0}
+
+stop_so : (stage : StopStage) → GoesOn (stop_post run.Off stage) × GoesOn (stop_post run.Mark stage)
+stop_so stop_stage.StorePhase = (tt, tt)
+stop_so (stop_stage.Await ack) = (tt, tt)
+stop_so stop_stage.Ended = (λ e. cc, λ e. cc)
+
+open_so : (stage : OpenStage) → GoesOn (open_post stage)
+open_so open_stage.ClearWant = λ e. cc
+open_so open_stage.ClearGcur = λ e. cc
+open_so open_stage.ClearTally = λ e. cc
+open_so open_stage.ClearLive = λ e. cc
+open_so open_stage.StoreTrigger = λ e. cc
+open_so open_stage.LoadHeap = λ e. cc
+open_so open_stage.StoreWork = λ e. cc
+open_so open_stage.StoreSlack = λ e. cc
+open_so open_stage.StoreBegun = λ e. cc
+open_so open_stage.StorePhase = λ e. cc
+open_so open_stage.Ended = tt
+
+tell_so : (last : Bool) (stage : TellStage) → GoesOn (tell_post last stage)
+tell_so last tell_stage.StoreTrigger = λ e. cc
+tell_so last tell_stage.StoreSwept = λ e. cc
+tell_so last tell_stage.StorePhase = λ e. cc
+tell_so last tell_stage.Ended = tt
+
+post_so : (stage : CoordStage) → GoesOn (post_at stage)
+post_so (LoadAck i) = tt
+post_so LoadWant = tt
+post_so (Stop st) = (stop_so st.stage).0
+post_so (Open o) = open_so o.stage
+post_so (Watch w) = tt
+post_so (StopAgain st) = (stop_so st.stage).1
+post_so (Check w) = λ e. cc
+post_so MarkOn = λ e. cc
+post_so (Close c) = λ e. cc
+post_so (Sweep w) = λ e. cc
+post_so (Count c) = λ e. cc
+post_so (Tell t) = tell_so t.is_last t.stage
+post_so Done = tt
+
+pub stops_go_on : (s : Coordinating) (phase : RunPhase) → post_at s.stage ≡ Stopped phase → phase ≢ run.Finished
+stops_go_on s phase e = subst GoesOn e (post_so s.stage)
+
+-- where the world is not stopped, marking is on while a cycle is marked
+abbrev Runs : Post → Type 0
+Runs post = (phase : RunPhase) → post ≡ Stopped phase → ⊥
+
+not_mark : (phase : RunPhase) → phase ≢ run.Mark → (stage : CoordStage) → last_of (post_at stage) ≡ phase → (Marks stage → ⊥) → last_of (post_at stage) ≡ run.Mark ↔ Marks stage
+not_mark phase other stage e f = (λ x. absurd (other (sym e ∙ x)), λ y. absurd (f y))
+
+stop_mark : (st : stop.Stopping) (stage : StopStage) → Runs (stop_post run.Mark stage) → last_of (stop_post run.Mark stage) ≡ run.Mark ↔ Marks (StopAgain st)
+stop_mark st stop_stage.StorePhase r = (λ x. tt, λ y. refl)
+stop_mark st (stop_stage.Await ack) r = (λ x. tt, λ y. refl)
+stop_mark st stop_stage.Ended r = absurd (r run.Mark refl)
+
+open_mark : (stage : OpenStage) → opens_by.is_busy stage ≡ true → Runs (open_post stage) → ⊥
+open_mark open_stage.ClearWant b r = r run.Off refl
+open_mark open_stage.ClearGcur b r = r run.Off refl
+open_mark open_stage.ClearTally b r = r run.Off refl
+open_mark open_stage.ClearLive b r = r run.Off refl
+open_mark open_stage.StoreTrigger b r = r run.Off refl
+open_mark open_stage.LoadHeap b r = r run.Off refl
+open_mark open_stage.StoreWork b r = r run.Off refl
+open_mark open_stage.StoreSlack b r = r run.Off refl
+open_mark open_stage.StoreBegun b r = r run.Off refl
+open_mark open_stage.StorePhase b r = r run.Off refl
+open_mark open_stage.Ended b r = cc
+
+told_mark : (last : Bool) → told_phase last ≡ run.Mark → ⊥
+told_mark true e = cc
+told_mark false e = cc
+
+tell_mark : (last : Bool) (stage : TellStage) → Runs (tell_post last stage) → last_of (tell_post last stage) ≡ run.Mark → ⊥
+tell_mark last tell_stage.StoreTrigger r e = r run.Mark refl
+tell_mark last tell_stage.StoreSwept r e = r run.Mark refl
+tell_mark last tell_stage.StorePhase r e = r run.Mark refl
+tell_mark last tell_stage.Ended r e = told_mark last e
+
+pub marks_at : (s : Coordinating) (stage : CoordStage) → SoundAt s stage → Runs (post_at stage) → last_of (post_at stage) ≡ run.Mark ↔ Marks stage
+marks_at s (LoadAck i) f r = not_mark run.Off (λ e. cc) (LoadAck i) refl (λ y. y)
+marks_at s LoadWant f r = not_mark run.Off (λ e. cc) LoadWant refl (λ y. y)
+marks_at s (Stop st) f r = not_mark run.Off (λ e. cc) (Stop st) (stop_goes_on run.Off st.stage) (λ y. y)
+marks_at s (Open o) f r = absurd (open_mark o.stage f.1 r)
+marks_at s (Watch w) f r = (λ x. tt, λ y. refl)
+marks_at s (StopAgain st) f r = stop_mark st st.stage r
+marks_at s (Check w) f r = absurd (r run.Mark refl)
+marks_at s MarkOn f r = absurd (r run.Mark refl)
+marks_at s (Close c) f r = absurd (r run.Mark refl)
+marks_at s (Sweep w) f r = absurd (r run.Mark refl)
+marks_at s (Count c) f r = absurd (r run.Mark refl)
+marks_at s (Tell t) f r = (λ x. absurd (tell_mark t.is_last t.stage r x), λ y. absurd y)
+marks_at s Done f r = not_mark run.Finished (λ e. cc) Done refl (λ y. y)

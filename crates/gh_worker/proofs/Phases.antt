@@ -1,0 +1,144 @@
+-- A worker leaves only where it finds the last phase, and marks only where it finds that marking is on: by its stages.
+use Rattle.std.proofs.Common.{◌≡◌, ℕ, Bool, true, false, cond, ltb, ◌==◌, ◌⊎◌, refl, ap, inl, inr, Option, Some, None}
+use Rattle.gh_base.specs.declared.cell.Ask.TheVariants.{Load}
+use Rattle.gh_base.specs.declared.cell.Cell.TheVariants as cell
+use Rattle.gh_base.specs.declared.held.Held.{Held}
+use Rattle.gh_base.specs.declared.pack.Phase.{Phase}
+use Rattle.gh_base.specs.declared.pack.Phase.TheVariants.{Off, Mark, Stop, Finished}
+use Rattle.gh_base.specs.Packing.{phase_of}
+use Rattle.gh_phase.specs.declared.resume.Resumed.{Resumed}
+use Rattle.gh_phase.specs.declared.view.RunPhase.TheVariants as run
+use Rattle.gh_phase.specs.Listing as resume
+use Rattle.gh_phase.specs.Views.{run_phase}
+use Rattle.gh_scan.specs.Listing as scan
+use Rattle.gh_scan.specs.Listing.{reference_in}
+use Rattle.gh_shade.specs.declared.shade.Shaded.{Shaded}
+use Rattle.gh_shade.specs.declared.shade.Shaded.TheVariants as shaded
+use Rattle.gh_shade.specs.Listing as shade
+use Rattle.gh_wbuf.specs.BufferGiving as give
+use Rattle.gh_wbuf.specs.EntryTaking as take
+use Rattle.gh_wbuf.specs.RoomFinding as room
+use Rattle.gh_worker.specs.declared.worker.WorkerStage.{WorkerStage}
+use Rattle.gh_worker.specs.declared.worker.WorkerStage.TheVariants.{LoadPhase, GiveBack, Resuming, Taking, Scanning, LoadCursor, Claim, LoadGlobal, Shading, FindRoom, Leave, Done}
+use Rattle.gh_worker.specs.Handshake.{FindsMarking, IsLeaving, IsMarking}
+use Rattle.gh_worker.specs.Listing.{after_give, after_resume, after_room, after_scan, after_shade, after_take, asks_at, at_stage, by_phase, done_with, goes_at, is_busy, stops_at, Working}
+
+-- Where a step does not find the last phase, the worker goes on.
+module _ (found : ℕ) (w : Working) where
+  stops_on : (n : ℕ) (held : Option Held) → IsLeaving (stops_at w n held) → ⊥
+  stops_on n None x = x
+  stops_on n (Some h) x = x
+
+  phases_on : (phase : Phase) → (phase_of found).phase ≡ phase → IsLeaving (by_phase w (phase_of found).stops phase) → run_phase (phase_of found).phase ≡ Some run.Finished
+  phases_on Off e x = absurd x
+  phases_on Mark e x = absurd x
+  phases_on Stop e x = absurd (stops_on (phase_of found).stops w.held x)
+  phases_on Finished e x = ap run_phase e
+
+  gives_on : (g : give.BufferGiving) (n : ℕ) (out : Option (Unit {0})) → IsLeaving (after_give w g n out).stage → ⊥
+  gives_on g n None x = x
+  gives_on g n (Some u) x = x
+
+  resumes_on : (r : resume.Resuming) (out : Option Resumed) → IsLeaving (after_resume w r out).stage → ⊥
+  resumes_on r None x = x
+  resumes_on r (Some out) x = x
+
+  takes_on : (t : take.EntryTaking) (out : Option (Option ℕ)) → IsLeaving (after_take w t out).stage → ⊥
+  takes_on t None x = x
+  takes_on t (Some None) x = x
+  takes_on t (Some (Some reference)) x = x
+
+  scans_on : (s : scan.Scanning) (out : Option ℕ) → IsLeaving (after_scan w s out).stage → ⊥
+  scans_on s None x = x
+  scans_on s (Some words) x = x
+
+  shades_on : (sh : shade.Shading) (out : Option Shaded) → IsLeaving (after_shade w sh out).stage → ⊥
+  shades_on sh None x = x
+  shades_on sh (Some shaded.Done) x = x
+  shades_on sh (Some shaded.WantsRoom) x = x
+
+  room_on : (sh : shade.Shading) (r : room.RoomFinding) (out : Option Held) → IsLeaving (after_room w sh r out).stage → ⊥
+  room_on sh r None x = x
+  room_on sh r (Some h) x = x
+
+  stage_on : (b : Bool) (one other : WorkerStage) → (IsLeaving one → ⊥) → (IsLeaving other → ⊥) → IsLeaving (cond b one other) → ⊥
+  stage_on true one other f g x = f x
+  stage_on false one other f g x = g x
+
+  either_on : (b : Bool) (one other : Working) → (IsLeaving one.stage → ⊥) → (IsLeaving other.stage → ⊥) → IsLeaving (cond b one other).stage → ⊥
+  either_on true one other f g x = f x
+  either_on false one other f g x = g x
+
+  -- it was about to leave, or found the last phase
+  abbrev FindsLast : WorkerStage → Type 0
+  FindsLast stage = IsLeaving stage ⊎ ((asks_at w stage ≡ Load cell.Phase) × (run_phase (phase_of found).phase ≡ Some run.Finished))
+
+  pub leaves_at : (stage : WorkerStage) → is_busy stage ≡ true → IsLeaving (goes_at w stage found).stage → FindsLast stage
+  leaves_at LoadPhase busy x = inr (refl, phases_on (phase_of found).phase refl x)
+  leaves_at (GiveBack g n) busy x = absurd (gives_on (give.goes g found) n (give.gives g found) x)
+  leaves_at (Resuming r) busy x = absurd (resumes_on (resume.goes r found) (resume.gives r found) x)
+  leaves_at (Taking t) busy x = absurd (takes_on (take.goes t found) (take.gives t found) x)
+  leaves_at (Scanning s) busy x = absurd (scans_on (scan.goes s found) (scan.gives s found) x)
+  leaves_at LoadCursor busy x = absurd (stage_on (ltb found w.layout.globals) Claim LoadPhase (λ y. y) (λ y. y) x)
+  leaves_at Claim busy x = absurd (stage_on (ltb found w.layout.globals) (LoadGlobal found) LoadPhase (λ y. y) (λ y. y) x)
+  leaves_at (LoadGlobal i) busy x = absurd (either_on (found == 0) (done_with w w.held 1) (at_stage w (Shading (shade.opening w.layout (reference_in w.layout found) w.held))) (λ y. y) (λ y. y) x)
+  leaves_at (Shading sh) busy x = absurd (shades_on (shade.goes sh found) (shade.gives sh found) x)
+  leaves_at (FindRoom sh r) busy x = absurd (room_on sh (room.goes r found) (room.gives r found) x)
+  leaves_at Leave busy x = inl tt
+  leaves_at Done busy x = absurd cc
+
+-- Where it marks, it did so before, or has found that marking is on.
+module _ (found : ℕ) (w : Working) where
+  stops_not : (n : ℕ) (held : Option Held) → IsMarking (stops_at w n held) → ⊥
+  stops_not n None x = x
+  stops_not n (Some h) x = x
+
+  phases_mark : (phase : Phase) → (phase_of found).phase ≡ phase → IsMarking (by_phase w (phase_of found).stops phase) → run_phase (phase_of found).phase ≡ Some run.Mark
+  phases_mark Off e x = absurd x
+  phases_mark Mark e x = ap run_phase e
+  phases_mark Stop e x = absurd (stops_not (phase_of found).stops w.held x)
+  phases_mark Finished e x = absurd x
+
+  gives_not : (g : give.BufferGiving) (n : ℕ) (out : Option (Unit {0})) → IsMarking (after_give w g n out).stage → ⊥
+  gives_not g n None x = x
+  gives_not g n (Some u) x = x
+
+  resumes_not : (r : resume.Resuming) (out : Option Resumed) → IsMarking (after_resume w r out).stage → ⊥
+  resumes_not r None x = x
+  resumes_not r (Some out) x = x
+
+  take_view : (t : take.EntryTaking) (out : Option (Option ℕ)) → (after_take w t out).view ≡ w.view
+  take_view t None = refl
+  take_view t (Some None) = refl
+  take_view t (Some (Some reference)) = refl
+
+  scan_view : (s : scan.Scanning) (out : Option ℕ) → (after_scan w s out).view ≡ w.view
+  scan_view s None = refl
+  scan_view s (Some words) = refl
+
+  shade_view : (sh : shade.Shading) (out : Option Shaded) → (after_shade w sh out).view ≡ w.view
+  shade_view sh None = refl
+  shade_view sh (Some shaded.Done) = refl
+  shade_view sh (Some shaded.WantsRoom) = refl
+
+  room_view : (sh : shade.Shading) (r : room.RoomFinding) (out : Option Held) → (after_room w sh r out).view ≡ w.view
+  room_view sh r None = refl
+  room_view sh r (Some h) = refl
+
+  either_view : (b : Bool) (one other : Working) → one.view ≡ w.view → other.view ≡ w.view → (cond b one other).view ≡ w.view
+  either_view true one other e f = e
+  either_view false one other e f = f
+
+  pub marks_at : (stage : WorkerStage) → is_busy stage ≡ true → IsMarking (goes_at w stage found).stage → FindsMarking found w stage (goes_at w stage found)
+  marks_at LoadPhase busy x = record { view_stays = refl; finds = inr (refl, phases_mark (phase_of found).phase refl x) }
+  marks_at (GiveBack g n) busy x = absurd (gives_not (give.goes g found) n (give.gives g found) x)
+  marks_at (Resuming r) busy x = absurd (resumes_not (resume.goes r found) (resume.gives r found) x)
+  marks_at (Taking t) busy x = record { view_stays = take_view (take.goes t found) (take.gives t found); finds = inl tt }
+  marks_at (Scanning s) busy x = record { view_stays = scan_view (scan.goes s found) (scan.gives s found); finds = inl tt }
+  marks_at LoadCursor busy x = record { view_stays = refl; finds = inl tt }
+  marks_at Claim busy x = record { view_stays = refl; finds = inl tt }
+  marks_at (LoadGlobal i) busy x = record { view_stays = either_view (found == 0) (done_with w w.held 1) (at_stage w (Shading (shade.opening w.layout (reference_in w.layout found) w.held))) refl refl; finds = inl tt }
+  marks_at (Shading sh) busy x = record { view_stays = shade_view (shade.goes sh found) (shade.gives sh found); finds = inl tt }
+  marks_at (FindRoom sh r) busy x = record { view_stays = room_view sh (room.goes r found) (room.gives r found); finds = inl tt }
+  marks_at Leave busy x = absurd x
+  marks_at Done busy x = absurd cc
