@@ -1,8 +1,11 @@
 -- The end of marking: where nothing is left each object that a path leads to is marked, and what is dead is white.
-use Rattle.std.proofs.Common.{◌≡◌, ℕ, ◌+◌, ◌<◌, Bool, true, arith, refl, sym, ◌∙◌, ap, inl, inr, Some, None}
-use Rattle.std.proofs.lemmas.Bool.Decides.{eqb_tells}
+use Rattle.std.proofs.Common.{◌≡◌, ℕ, zero, suc, ◌+◌, ◌%◌, ◌<◌, ◌≤◌, Bool, true, arith, refl, sym, ◌∙◌, ap, inl, inr, Some, None}
+use Rattle.std.proofs.lemmas.Bool.Decides.{eqb_tells, nat_tests}
 use Rattle.gh_base.specs.declared.cell.Cell.TheVariants as cell
 use Rattle.gh_base.specs.declared.limits.TheConstants.{REGISTERS}
+use Rattle.gh_base.specs.declared.pack.TheConstants.{ENTRIES}
+use Rattle.gh_base.specs.Holding.{holder_in}
+use Rattle.gh_base.specs.Packing.{buffer_of}
 use Rattle.gh_base.specs.Rows.{RowsAreWritten, mark_words, row_bit}
 use Rattle.gh_marks.specs.Colours.{Black, Buffered, Claimed, Colour, Cycle, IsGrey, IsMarked, IsShaded, Pending, Placing, Progress, Read, Scanned, Shared, Taken, Untouched, Waits, White, mark_of, rows}
 use Rattle.gh_marks.specs.Ends.{IsDone, IsFound, Reached, from_field, from_global, from_register}
@@ -25,8 +28,22 @@ no-read i v e = cc
 
 -- Nobody has anything, and no buffer has an entry: so nothing is grey, and no global waits.
 module _ (z : Cycle) (s : Shared) (g : Good z s) (f : IsFound z s) where
+  -- who holds a buffer would have it in hand
+  nobody-holds : (b : ℕ) → holder_in (s.words (cell.Buffer b)) ≡ 0
+  nobody-holds b = go (holder_in (s.words (cell.Buffer b))) refl where
+    go : (n : ℕ) → holder_in (s.words (cell.Buffer b)) ≡ n → n ≡ 0
+    go zero e = refl
+    go (suc a) e = absurd (((f.seats a).holds.only b).0 (omega (arith, e)))
+
   empty : (b : ℕ) → s.filled b ≡ 0
-  empty b = let zero : s.words (cell.Buffer b) ≡ 0 = f.empty b in sym (g.counts.free b (omega (arith, zero))) ∙ zero
+  empty b =
+      let free : holder_in (s.words (cell.Buffer b)) ≡ 0 = nobody-holds b in
+      let is : s.words (cell.Buffer b) ≡ s.filled b = g.counts.free b free in
+      let few : s.filled b ≤ ENTRIES = g.counts.few b in
+      let none : (buffer_of (s.words (cell.Buffer b))).count ≡ 0 = f.empty b free in
+      let word : s.words (cell.Buffer b) % 256 ≡ s.words (cell.Buffer b) = omega (arith, is, few) in
+      let count : (buffer_of (s.words (cell.Buffer b))).count ≡ s.words (cell.Buffer b) = grind (arith, nat_tests, word, is, few) in
+      sym is ∙ sym count ∙ none
 
   no-grey : (o : ℕ) → IsGrey (s.colour o) → ⊥
   no-grey o = go (s.colour o) refl where
@@ -47,7 +64,11 @@ module _ (z : Cycle) (s : Shared) (g : Good z s) (f : IsFound z s) where
     go Scanned e = e
 
 pub found-done : WhatIsFoundIsDone
-found-done z s g f = record { no_grey = no-grey z s g f; globals = all-scanned z s g f; stacks = f.stacks }
+found-done z s g f = record {
+  no_grey = no-grey z s g f;
+  globals = all-scanned z s g f;
+  stacks = λ h l. elim (g.stacks.most h) [ inr end ↦ inr end | inl most ↦ inl (omega (arith, most, f.stacks h l)) ];
+}
 
 -- Nothing is left: what globals and stacks hold is marked, what is marked is black, and what a black object names is marked.
 module _ (z : Cycle) (s : Shared) (g : Good z s) (d : IsDone z s) where
@@ -77,7 +98,7 @@ module _ (z : Cycle) (s : Shared) (g : Good z s) (d : IsDone z s) where
     | inl number ↦ elim (g.stacks.black h q number l o e) [ inl one ↦ one | inr p ↦ absurd (none-protected z.arena.layout.globals (rows s) d.no_grey none-waits o p) ]
   ] where
     none : s.registers h q ≡ 0 → ⊥
-    none zero = omega (arith, zero, e)
+    none nil = omega (arith, nil, e)
 
   reached-kept : (o : ℕ) → Reached z s o → IsKept o
   reached-kept o (from_global i o' l e) = record { marked = g.cursor.scanned i (d.globals i l) o e; known = g.values.globals i o e }

@@ -1,7 +1,8 @@
 -- What each move does to a group: to the marks and objects, to the entries of buffers, to what is black, to the globals and the stacks.
-use Rattle.std.proofs.Common.{◌≡◌, ◌≢◌, ℕ, Bool, true, false, sym, ap, ◌∙◌, inl, inr, subst}
+use Rattle.std.proofs.Common.{◌≡◌, ◌≢◌, ℕ, ◌≤◌, Bool, true, false, sym, ap, ◌∙◌, inl, inr, ◌⊎◌, subst}
 use Rattle.std.proofs.lemmas.Bool.Decides.{eqb_tells}
 use Rattle.gh_base.specs.declared.cell.Cell.TheVariants as cell
+use Rattle.gh_base.specs.declared.pack.TheConstants.{END}
 use Rattle.gh_base.specs.Rows.{Row, row_bit}
 use Rattle.gh_heap.specs.Moves.{update}
 use Rattle.gh_marks.specs.Colours.{Black, Buffered, Colour, Cycle, Extents, IsGrey, IsMarked, IsSafe, IsShaded, Placing, Progress, Shared, rows, scanned_words}
@@ -53,4 +54,5 @@ pub stacks-kept : (z : Cycle) (s t : Shared) → Good z s → Guards z.arena.lay
 stacks-kept z s t g k same regs = record {
   black = λ h d black l o e. safe-kept z s g (rows t) k (s.registers h d) (g.stacks.black h d (sym (same h) ∙ black) l) o (sym (regs h d) ∙ e);
   over = λ h d end. regs h d ∙ g.stacks.over h d (sym (same h) ∙ end);
+  most = λ h. subst (λ (n : ℕ). (n ≤ z.number) ⊎ (n ≡ END)) (sym (same h)) (g.stacks.most h);
 }

@@ -107,6 +107,7 @@ module _ (know : Known) (z : Cycle) (a : ℕ) (s : Shared) (g : Good z s) where
         | inl y ↦ elim (eqb_tells d q) [ inr n ↦ rw (y.0, n.0) (g.stacks.black f q black l) | inl w ↦ rw (y.0, w.0) (may.safe (rw (y.1) black)) ]
       ];
       over = λ f q end. elim (eqb_tells h f) [ inr n ↦ rw (n.0) (g.stacks.over f q end) | inl y ↦ absurd (may.goes_on (rw (y.1) end)) ];
+      most = g.stacks.most;
     };
   }
 
@@ -125,6 +126,7 @@ module _ (know : Known) (z : Cycle) (a : ℕ) (s : Shared) (g : Good z s) where
     stacks = record {
       black = λ f q black l. elim (eqb_tells h f) [ inr n ↦ g.stacks.black f q (rw (n.0) at black) l | inl y ↦ rw (← y.1) (λ o e. inl (may.clean q l o e)) ];
       over = λ f q end. elim (eqb_tells h f) [ inr n ↦ g.stacks.over f q (rw (n.0) at end) | inl y ↦ absurd (not_end (rw (y.0) at end)) ];
+      most = λ f. elim (eqb_tells h f) [ inr n ↦ rw (n.0) (g.stacks.most f) | inl y ↦ rw (y.0) (inl (omega arith)) ];
     };
   }
 
@@ -148,6 +150,7 @@ module _ (know : Known) (z : Cycle) (a : ℕ) (s : Shared) (g : Good z s) where
     stacks = record {
       black = λ f q black l o e. elim (eqb_tells h f) [ inr n ↦ g.stacks.black f q (rw (n.0) at black) l o (rw (n.0) at e) | inl y ↦ absurd (nil-since o (rw (y.0) at e)) ];
       over = λ f q end. elim (eqb_tells h f) [ inr n ↦ rw (n.0) (g.stacks.over f q (rw (n.0) at end)) | inl y ↦ rw (y.0) refl ];
+      most = λ f. elim (eqb_tells h f) [ inr n ↦ rw (n.0) (g.stacks.most f) | inl y ↦ rw (y.0) (inr refl) ];
     };
   }
 

@@ -1,8 +1,10 @@
 -- The begin of marking and its end.
-use Rattle.std.specs.Prelude.{◌≡◌, ◌≢◌, ℕ, ◌+◌, ◌<◌, ◌≤◌, ◌⊎◌, true}
+use Rattle.std.specs.Prelude.{◌≡◌, ℕ, ◌+◌, ◌<◌, ◌≤◌, ◌⊎◌, true}
 use Rattle.gh_base.specs.declared.cell.Cell.TheVariants as cell
 use Rattle.gh_base.specs.declared.limits.TheConstants.{REGISTERS}
 use Rattle.gh_base.specs.declared.pack.TheConstants.{END}
+use Rattle.gh_base.specs.Holding.{holder_in}
+use Rattle.gh_base.specs.Packing.{buffer_of}
 use Rattle.gh_base.specs.Rows.{alloc_words, mark_words, row_bit}
 use Rattle.gh_marks.specs.Colours.{Cycle, IsGrey, IsMarked, IsPointer, IsSince, Scanned, Shared, Untouched, White}
 use Rattle.gh_marks.specs.Seats.{Hands, nothing}
@@ -15,19 +17,19 @@ pub record Opens (z : Cycle) (s : Shared) : Type 0 where
   pub filled : (b : ℕ) → s.filled b ≡ 0
   pub cursor : s.words cell.Gcur ≡ 0
   pub untouched : (i : ℕ) → s.progress i ≡ Untouched
-  pub scanned : (g : ℕ) → s.words (cell.Scanned g) ≢ z.number
+  pub scanned : (g : ℕ) → (s.words (cell.Scanned g) < z.number) ⊎ (s.words (cell.Scanned g) ≡ END)
   pub over : (g d : ℕ) → s.words (cell.Scanned g) ≡ END → s.registers g d ≡ 0
   pub placed : (o : ℕ) → s.since o ≡ true → row_bit (alloc_words s.words) o ≡ 1
   pub fields : (o k : ℕ) → s.since o ≡ true → IsPointer s.extents o k → IsSince s.since (s.words (cell.Field (o + k)))
   pub globals : (i : ℕ) → IsSince s.since (s.words (cell.Global i))
   pub registers : (g d : ℕ) → IsSince s.since (s.registers g d)
 
--- What the coordinator finds at the end of marking, while each seat has acknowledged a stop, with nothing in hand: each buffer's word is 0, the cursor is past the last global, and each stack is scanned or of a goroutine that has ended.
+-- What the coordinator finds at the end of marking, while each seat has acknowledged a stop, with nothing in hand: no buffer that nobody holds has an entry, the cursor is past the last global, and no stack's word is that of a cycle before. The seats gave their buffers back before they acknowledged, so it has to look after that: an entry that a seat still held would be seen by nobody.
 pub record IsFound (z : Cycle) (s : Shared) : Type 0 where
   pub seats : (a : ℕ) → Hands a s nothing
-  pub empty : (b : ℕ) → s.words (cell.Buffer b) ≡ 0
+  pub empty : (b : ℕ) → holder_in (s.words (cell.Buffer b)) ≡ 0 → (buffer_of (s.words (cell.Buffer b))).count ≡ 0
   pub cursor : z.arena.layout.globals ≤ s.words cell.Gcur
-  pub stacks : (g : ℕ) → g < z.arena.layout.goroutines → (s.words (cell.Scanned g) ≡ z.number) ⊎ (s.words (cell.Scanned g) ≡ END)
+  pub stacks : (g : ℕ) → g < z.arena.layout.goroutines → z.number ≤ s.words (cell.Scanned g)
 
 -- nothing is left to be marked
 pub record IsDone (z : Cycle) (s : Shared) : Type 0 where

@@ -48,6 +48,8 @@ pub record CursorGood (globals gcur : ℕ) (global : Row) (progress : ℕ → Pr
 pub record StacksGood (number : ℕ) (scanned : Row) (registers : ℕ → Row) (Safe : ℕ → Type 0) : Type 0 where
   pub black : (g d : ℕ) → scanned g ≡ number → d < REGISTERS → Safe (registers g d)
   pub over : (g d : ℕ) → scanned g ≡ END → registers g d ≡ 0
+  -- a stack's word is that of this cycle or of one before, unless its goroutine has ended
+  pub most : (g : ℕ) → (scanned g ≤ number) ⊎ (scanned g ≡ END)
 
 pub record Good (z : Cycle) (s : Shared) : Type 0 where
   pub marks : MarksGood (mark_words s.words) s.colour

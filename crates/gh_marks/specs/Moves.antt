@@ -1,5 +1,6 @@
 -- The moves by which an actor changes the shared state of marking, when it may make them, and what they leave to the others.
 use Rattle.std.specs.Prelude.{◌≡◌, ◌≢◌, ℕ, ◌+◌, ◌-◌, ◌/◌, ◌%◌, ◌^◌, ◌<◌, ◌≤◌, ◌⊎◌, ◌↔◌, Bool, true, false, bit_or}
+use Rattle.std.proofs.Common.{◌∙◌}
 use Rattle.gh_base.specs.declared.cell.Ask.{Ask}
 use Rattle.gh_base.specs.declared.cell.Ask.TheVariants as ask
 use Rattle.gh_base.specs.declared.cell.Cell.{Cell}
@@ -224,3 +225,24 @@ pub record Lands (z : Cycle) (a : ℕ) (s : Shared) (words : Words) (Then : Shar
 
 abbrev pub Steps : Cycle → (a : ℕ) → Shared → Ask → (Shared → Type 0) → Type 0
 Steps z a s step Then = Lands z a s (effect s.words step) Then
+
+-- by no move, where the step changes no word, and by one
+pub lands_still : (z : Cycle) (a : ℕ) (s : Shared) (words : Words) (Then : Shared → Type 0) → s.words ≡ words → Then s → Lands z a s words Then
+lands_still z a s words Then same h = record { then = s; went = stays; words_are = same; after = h }
+
+pub lands_by : (z : Cycle) (a : ℕ) (s : Shared) (words : Words) (Then : Shared → Type 0) (m : Move) → May z a s m → (moved z a s m).words ≡ words → Then (moved z a s m) → Lands z a s words Then
+lands_by z a s words Then m may same h = record { then = moved z a s m; went = goes s m stays may; words_are = same; after = h }
+
+-- what follows from what holds then
+pub landing : (z : Cycle) (a : ℕ) (s : Shared) (words : Words) (Then So : Shared → Type 0) → ((t : Shared) → Went z a s t → Then t → So t) → Lands z a s words Then → Lands z a s words So
+landing z a s words Then So f l = record { then = l.then; went = l.went; words_are = l.words_are; after = f l.then l.went l.after }
+
+-- moves that follow on others
+pub went_then : (z : Cycle) (a : ℕ) (s t u : Shared) → Went z a s t → Went z a t u → Went z a s u
+went_then z a s t u w stays = w
+went_then z a s t u w (goes v m x may) = goes v m (went_then z a s t v w x) may
+
+-- and a step whose moves further ones follow on, which change no word
+pub landing_on : (z : Cycle) (a : ℕ) (s : Shared) (words : Words) (Then So : Shared → Type 0) → ((t : Shared) → Went z a s t → Then t → Lands z a t t.words So) → Lands z a s words Then → Lands z a s words So
+landing_on z a s words Then So f l = let m : Lands z a l.then l.then.words So = f l.then l.went l.after in
+    record { then = m.then; went = went_then z a s l.then m.then l.went m.went; words_are = m.words_are ∙ l.words_are; after = m.after }
