@@ -109,7 +109,7 @@ module _ (law : BuffersAreHeld) where
 
     -- the search for room
 
-    room_holds : (r : finding.RoomFinding) (t : Trying) (index : ℕ) (out : Option (Option Held)) → (out ≡ Some None → t.held ≡ None) → ((h : Held) → out ≡ Some (Some h) → t.held ≡ Some h) →
+    pub room_holds : (r : finding.RoomFinding) (t : Trying) (index : ℕ) (out : Option (Option Held)) → (out ≡ Some None → t.held ≡ None) → ((h : Held) → out ≡ Some (Some h) → t.held ≡ Some h) →
         t.held ≡ finding.held_at (finding.after_try (finding.at_stage r (room.Try t)) index out).stage
     room_holds r t index None lost won = refl
     room_holds r t index (Some None) lost won = lost refl
@@ -133,7 +133,7 @@ module _ (law : BuffersAreHeld) where
       by true = refl
       by false = refl
 
-    take_holds : (r : taking.EntryTaking) (t : Trying) (index : ℕ) (out : Option (Option Held)) → ((h : Held) → out ≡ Some (Some h) → t.held ≡ Some h) →
+    pub take_holds : (r : taking.EntryTaking) (t : Trying) (index : ℕ) (out : Option (Option Held)) → ((h : Held) → out ≡ Some (Some h) → t.held ≡ Some h) →
         t.held ≡ taking.held_at (taking.after_try (taking.at_stage r (take.Try t)) index t.held out).stage
     take_holds r t index None won = refl
     take_holds r t index (Some None) won = behind_holds (taking.at_stage r (take.Try t)) index t.held

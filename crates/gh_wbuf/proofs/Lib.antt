@@ -1,5 +1,7 @@
 pub mod Entries
 pub mod Knowing
+pub mod Markers
+pub mod MarkersTake
 pub mod Rooms
 pub mod Taking
 pub mod Tries

@@ -2,6 +2,7 @@ pub mod BufferGiving
 pub mod Ends
 pub mod Entries
 pub mod EntryTaking
+pub mod Facts
 pub mod Giving
 pub mod Knowing
 pub mod RoomFinding

@@ -1,6 +1,7 @@
 //! Laws of the routines. The functions do nothing; what they ensure is proved.
 
 ghost use Rattle.gh_wbuf.specs.Entries.{EntriesAreTaken};
+ghost use Rattle.gh_wbuf.specs.Facts.{BuffersPassByMoves};
 ghost use Rattle.gh_wbuf.specs.Giving.{BuffersAreGivenBack};
 ghost use Rattle.gh_wbuf.specs.Knowing.{BuffersAreKept};
 ghost use Rattle.gh_wbuf.specs.Rooms.{RoomIsFound};
@@ -8,6 +9,7 @@ ghost use Rattle.gh_wbuf.specs.Tries.{BuffersAreTried};
 
 use crate::take_entry::TakeEntry;
 use gh_base::laws::{buffers_are_held, steps_are_folded};
+use gh_marks::laws::{facts_last, hands_follow, own_moves_leave};
 
 /// A try answers none exactly where the buffer was held or lacked what is wished, by the word that it
 /// loaded, or its swap found another word. Else it ends with the buffer, of the count of that word, and
@@ -44,4 +46,18 @@ pub fn buffers_are_kept()
     ensures { BuffersAreKept }
 {
     buffers_are_held();
+}
+
+/// Whatever any number of actors do beside it while marking is on: each step of the routines is made of moves
+/// that its seat may make, leaves all that their caller knows, and what is known at each stage holds then and
+/// lasts. An entry that is taken out is an object that its seat alone has then; so none is scanned twice, and
+/// none is lost.
+pub fn buffers_pass_by_moves()
+    ensures { BuffersPassByMoves }
+{
+    buffers_are_held();
+    buffers_are_kept();
+    facts_last();
+    hands_follow();
+    own_moves_leave();
 }

@@ -182,6 +182,7 @@ fn a_lost_swap_goes_on(rt: HostRuntime) -> Result<(), Fail> {
     laws::room_is_found();
     laws::entries_are_taken();
     laws::buffers_are_kept();
+    laws::buffers_pass_by_moves();
     Ok(())
 }
 

@@ -1,0 +1,150 @@
+-- While marking is on an entry is taken out by a move that the seat may make, and names an object that nobody else has then. And all of it together.
+use Rattle.std.proofs.Common.{◌≡◌, ℕ, ◌+◌, ◌-◌, ◌*◌, ◌%◌, ◌<◌, ◌≤◌, Bool, true, false, cond, Option, Some, None, refl, sym, ap, subst, ◌∙◌, arith}
+use Rattle.std.specs.Prelude.{max}
+use Rattle.std.proofs.Math.Nat.{mod-eq_of_lt}
+use Rattle.gh_base.specs.declared.cell.Cell.TheVariants.{Touch, Entry}
+use Rattle.gh_base.specs.declared.held.Held.{Held}
+use Rattle.gh_base.specs.declared.pack.TheConstants.{ENTRIES}
+use Rattle.gh_base.specs.Steps.{cell_of, effect}
+use Rattle.gh_marks.specs.Colours.{Buffered, Cycle, Shared, buffers_of}
+use Rattle.gh_marks.specs.Good.{Good}
+use Rattle.gh_marks.specs.Knows.{KnowsObjects}
+use Rattle.gh_marks.specs.Moves.{Keeps, MayTakeEntry, Steps, TakeEntry, landing, lands_by, moved}
+use Rattle.gh_marks.specs.Seats.{Hands, InHand}
+use Rattle.gh_wbuf.specs.declared.find_room.RoomStage.{RoomStage}
+use Rattle.gh_wbuf.specs.declared.find_room.RoomStage.TheVariants as room
+use Rattle.gh_wbuf.specs.declared.take_entry.TakeStage.{TakeStage}
+use Rattle.gh_wbuf.specs.declared.take_entry.TakeStage.TheVariants as take
+use Rattle.gh_wbuf.specs.declared.try_buffer.Wish.TheVariants.{Room}
+use Rattle.gh_wbuf.specs.EntryTaking as taking
+use Rattle.gh_wbuf.specs.Facts.{BuffersPassByMoves, FactsBegin, TakeComes, TakeFacts, TakesByMoves, Took, holding}
+use Rattle.gh_wbuf.specs.Knowing.{RoomKnows, RoomStageKnows, TakeKnows, TakeStageKnows}
+use Rattle.gh_wbuf.specs.RoomFinding as finding
+use Rattle.gh_wbuf.specs.Trying as try
+use Rattle.gh_wbuf.specs.Trying.{Trying}
+use Rattle.gh_wbuf.proofs.Knowing.{given_held}
+use Rattle.gh_wbuf.proofs.Markers.{Known, keep-finds, keep-gives, keep-tries, loads, shown, tries}
+use Rattle.gh_wbuf.proofs.Taking.{took}
+
+module _ (k : Known) (z : Cycle) (a : ℕ) (s : Shared) (rest : InHand) (g : Good z s) where
+  -- behind a try of the taking
+  comes : (r : taking.EntryTaking) (t : Trying) (index : ℕ) (out : Option (Option Held)) (u : Shared) → ((h : Held) → out ≡ Some (Some h) → t.held ≡ Some h) → r.layout ≡ z.arena.layout → rest.scanning ≡ None →
+      TakeKnows a (taking.after_try (taking.at_stage r (take.Try t)) index t.held out) → Hands a u (holding rest t.held) → TakeComes z a u rest (taking.none_of r index out) (taking.after_try (taking.at_stage r (take.Try t)) index t.held out)
+  comes r t index None u won is idle knows x = record { layout_is = is; knows = knows; hands = x; idle = idle }
+  comes r t index (Some None) u won is idle knows x = by (taking.has_next r.layout index) knows where
+    by : (b : Bool) → TakeKnows a (taking.at_stage r (cond b (taking.try_at r.layout r.seat (index + 1) t.held) (take.Ended t.held))) →
+        TakeComes z a u rest (cond b None (Some None)) (taking.at_stage r (cond b (taking.try_at r.layout r.seat (index + 1) t.held) (take.Ended t.held)))
+    by true knows = record { layout_is = is; knows = knows; hands = x; idle = idle }
+    by false knows = x
+  comes r t index (Some (Some h)) u won is idle knows x = record { layout_is = is; knows = knows; hands = subst (λ (held : Option Held). Hands a u (holding rest held)) (won h refl) x; idle = idle }
+
+  module _ (objects : KnowsObjects z s) where
+    abbrev Goal : taking.EntryTaking → TakeStage → Type 0
+    Goal r p =
+        let f : ℕ = s.words (cell_of (taking.asks_at r p)) in
+        Steps z a s (taking.asks_at r p) (λ u. Keeps z a s u × TakeComes z a u rest (taking.gives_at r p f) (taking.goes_at r p f))
+
+    entry-taken : (r : taking.EntryTaking) (h : Held) → r.layout ≡ z.arena.layout → rest.scanning ≡ None → 0 < h.count → Hands a s (holding rest (Some h)) → Goal r (take.Take h)
+    entry-taken r h is idle some x = lands_by z a s s.words (λ u. Keeps z a s u × Took a u rest (Some (taking.less h)) reference) (TakeEntry h.index o) may refl (k.leave z a s (TakeEntry h.index o) g may tt, record { some = omega arith; hands = hands }) where
+      f : ℕ
+      f = s.words (Entry h.index (h.count - 1))
+
+      o : ℕ
+      o = f - 1
+
+      reference : ℕ
+      reference = taking.entry_of r.layout f
+
+      count : s.filled h.index ≡ h.count
+      count = x.holds.count
+
+      last : s.filled h.index - 1 ≡ h.count - 1
+      last = ap (λ (n : ℕ). n - 1) count
+
+      not_nil : 0 < f
+      not_nil = g.entries.some h.index (h.count - 1) (omega (arith, count, some))
+
+      is_o : f ≡ o + 1
+      is_o = omega (arith, not_nil)
+
+      may : MayTakeEntry a s h.index o
+      may = record { held = (x.holds.only h.index).1 refl; some = omega (arith, count, some); entry = ap (λ (j : ℕ). s.words (Entry h.index j)) last ∙ is_o }
+
+      was : s.colour o ≡ Buffered h.index (h.count - 1)
+      was = g.entries.entered h.index (h.count - 1) o (omega (arith, count, some)) is_o
+
+      known : s.since o ≡ true
+      known = g.objects.shaded o (rw was tt)
+
+      within : o < 1024 * z.arena.layout.pages
+      within = omega (arith, (objects o known).within, (objects o known).some)
+
+      same : reference - 1 ≡ o
+      same =
+          let inside : o < 1024 * r.layout.pages = rw is within in
+          let less : max f 1 - 1 ≡ o = omega (arith, not_nil) in
+          let index : (max f 1 - 1) % (1024 * r.layout.pages) ≡ o = ap (λ (n : ℕ). n % (1024 * r.layout.pages)) less ∙ mod-eq_of_lt inside in
+          omega (arith, index)
+
+      hands : Hands a (moved z a s (TakeEntry h.index o)) (record rest { held = Some (taking.less h); scanning = Some (reference - 1) })
+      hands = subst (λ (n : ℕ). Hands a (moved z a s (TakeEntry h.index o)) (record rest { held = Some (taking.less h); scanning = Some n })) (sym same) ((k.follow z a s (holding rest (Some h)) g x).takes_entry h o may refl idle)
+
+    takes-at : (r : taking.EntryTaking) (p : TakeStage) → r.layout ≡ z.arena.layout → rest.scanning ≡ None → TakeStageKnows a p → Hands a s (holding rest (taking.held_at p)) →
+        TakeKnows a (taking.goes_at r p (s.words (cell_of (taking.asks_at r p)))) → TakeFacts z a s rest r → Goal r p
+    takes-at r (take.Try t) is idle knows x then whole =
+        let f : ℕ = s.words (cell_of (try.asks t)) in
+        landing z a s (effect s.words (try.asks t)) (λ u. Keeps z a s u × Hands a u (holding rest (try.goes t f).held)) (λ u. Keeps z a s u × TakeComes z a u rest (taking.gives_at r (take.Try t) f) (taking.goes_at r (take.Try t) f))
+        (λ u w h. (h.0, comes r (try.goes t f) t.index (try.gives t f) u (λ own e. given_held t t.stage f own e) is idle then h.1))
+        (tries k z a s rest g t knows.tries x)
+    takes-at r (take.Take h) is idle knows x then whole = entry-taken r h is idle knows x
+    takes-at r (take.Ended held) is idle knows x then whole =
+        landing z a s s.words (λ u. Keeps z a s u × Hands a u (holding rest (taking.held_at r.stage))) (λ u. Keeps z a s u × TakeFacts z a u rest r)
+        (λ u w h. (h.0, record { layout_is = is; knows = whole.knows; hands = h.1; idle = idle }))
+        (loads k z a s rest g Touch (taking.held_at r.stage) whole.hands)
+
+keep-takes : Known → TakesByMoves
+keep-takes k = record {
+  own_step = λ z a s rest t g objects f.
+      takes-at k z a s rest g objects t t.stage f.layout_is f.idle f.knows.stage f.hands
+      ((k.kept.takes.own_step (buffers_of s.words s.filled) a s.words t g.counts (shown k z a s rest g) (record { knows = f.knows; holds = f.hands.holds })).knows) f;
+  lasts = λ z a s u rest t o f. record { layout_is = f.layout_is; knows = f.knows; hands = k.last z a s u (holding rest (taking.held_at t.stage)) o f.hands; idle = f.idle };
+}
+
+begins : Known → (z : Cycle) (a : ℕ) (s : Shared) (rest : InHand) (held : Option Held) → Hands a s (holding rest held) → FactsBegin z a s rest held
+begins k z a s rest held x = record {
+  tries = λ wish index. record { knows = k.kept.tries_begin z.arena.layout a wish index held; hands = x };
+  finds =
+      let b : RoomKnows a (finding.opening z.arena.layout a held) × (finding.held_at (finding.begin z.arena.layout a held) ≡ held) = k.kept.finds_begin z.arena.layout a held in
+      record { knows = b.0; hands = subst (λ (h : Option Held). Hands a s (holding rest h)) (sym b.1) x };
+  takes = λ idle.
+      let b : TakeKnows a (taking.opening z.arena.layout a held) × (taking.held_at (taking.begin z.arena.layout a held) ≡ held) = k.kept.takes_begin z.arena.layout a held in
+      record { layout_is = refl; knows = b.0; hands = subst (λ (h : Option Held). Hands a s (holding rest h)) (sym b.1) x; idle = idle };
+  gives = λ own e. record { hands = subst (λ (h : Option Held). Hands a s (holding rest h)) e x };
+}
+
+-- the search for room ends with what its try took
+room-given : (out : Option (Option Held)) (h : Held) → finding.room_of out ≡ Some h → out ≡ Some (Some h)
+room-given None h e = absurd (cc)
+room-given (Some None) h e = absurd (cc)
+room-given (Some (Some own)) h e = ap Some e
+
+room-at : (a found : ℕ) (p : RoomStage) (h : Held) → RoomStageKnows a p → finding.gives_at p found ≡ Some h → h.count + 2 ≤ ENTRIES
+room-at a found (room.GiveBack own) h knows e = absurd (cc)
+room-at a found (room.Try t) h knows e = (took a Room t found h (record { seat_is = knows.tries.seat_is; wish_is = knows.wish_is; stage_is = knows.tries.opened }) (room-given (try.gives t found) h e)).1
+room-at a found (room.Ended own) h knows e = absurd (cc)
+
+held-at : (found : ℕ) (r : finding.RoomFinding) (p : RoomStage) (h : Held) → finding.gives_at p found ≡ Some h → finding.held_at (finding.goes_at r p found).stage ≡ Some h
+held-at found r (room.GiveBack own) h e = absurd (cc)
+held-at found r (room.Try t) h e = subst (λ (out : Option (Option Held)). finding.held_at (finding.after_try (finding.at_stage r (room.Try (try.goes t found))) t.index out).stage ≡ Some h) (sym (room-given (try.gives t found) h e)) refl
+held-at found r (room.Ended own) h e = absurd (cc)
+
+pub pass : Known → BuffersPassByMoves
+pass k = record {
+  begin = begins k;
+  tries = keep-tries k;
+  finds = keep-finds k;
+  takes = keep-takes k;
+  gives = keep-gives k;
+  room = λ a found r h knows e. room-at a found r.stage h knows.stage e;
+  held = λ found r h e. held-at found r r.stage h e;
+}
