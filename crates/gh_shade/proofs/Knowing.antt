@@ -11,7 +11,7 @@ use Rattle.gh_shade.specs.Knowing.{ShadeKnows, ShadingKeepsItsBuffer}
 use Rattle.gh_shade.specs.Listing.{after_mark, asks, asks_at, enters, goes_at, has_place, is_whole, listing, raised, Shading}
 use Rattle.gh_shade.specs.Sound.{FitsStage, HasPlace}
 
-placed : (held : Option Held) → has_place held ≡ true → HasPlace held
+pub placed : (held : Option Held) → has_place held ≡ true → HasPlace held
 placed None e = absurd (cc)
 placed (Some h) e = ltb-true _ _ e
 

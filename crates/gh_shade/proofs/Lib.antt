@@ -1,4 +1,5 @@
 pub mod Alone
 pub mod Knowing
+pub mod Markers
 pub mod Marks
 pub mod Told

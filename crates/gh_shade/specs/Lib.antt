@@ -1,5 +1,6 @@
 pub mod Alone
 pub mod Ends
+pub mod Facts
 pub mod Knowing
 pub mod Listing
 pub mod Marks

@@ -1,11 +1,13 @@
 //! Laws of the routine. The functions do nothing; what they ensure is proved.
 
 ghost use Rattle.gh_shade.specs.Alone.{ShadingLeavesTheRest};
+ghost use Rattle.gh_shade.specs.Facts.{ShadesByMoves};
 ghost use Rattle.gh_shade.specs.Knowing.{ShadingKeepsItsBuffer};
 ghost use Rattle.gh_shade.specs.Marks.{ShadingKeepsItsMark};
 ghost use Rattle.gh_shade.specs.Shades.{ObjectsAreShaded};
 
 use gh_base::laws::{buffers_are_held, cells_are_told, rows_are_written};
+use gh_marks::laws::{facts_last, hands_follow, own_moves_leave};
 
 /// Shading loads the object's page word and sets its mark bit. It ends there exactly where the bit was set
 /// or the object has no pointer fields; else it stores the reference at the count of the held buffer, which
@@ -39,4 +41,16 @@ pub fn shading_keeps_its_mark()
     ensures { ShadingKeepsItsMark }
 {
     rows_are_written();
+}
+
+/// Whatever any number of actors do beside it while marking is on: each step of shading is a move that its seat
+/// may make, leaves all that its caller knows, and what is known at each stage holds then and lasts. Until it is
+/// marked its object is one of the cycle; where it has ended the object is marked, and grey or black.
+pub fn shades_by_moves()
+    ensures { ShadesByMoves }
+{
+    rows_are_written();
+    facts_last();
+    hands_follow();
+    own_moves_leave();
 }

@@ -40,6 +40,7 @@ fn an_object_is_shaded(rt: HostRuntime) -> Result<(), Fail> {
     laws::shading_leaves_the_rest();
     laws::shading_keeps_its_buffer();
     laws::shading_keeps_its_mark();
+    laws::shades_by_moves();
     Ok(())
 }
 

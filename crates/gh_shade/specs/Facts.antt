@@ -1,0 +1,75 @@
+-- What is known at each stage of shading while marking is on, and what each step of its own is then. Between its mark and its entry the object is pending in the hands of the seat. Whoever shades finds what it knows left.
+use Rattle.std.specs.Prelude.{◌≡◌, ℕ, ◌<◌, ◌≤◌, true, Option, Some, None}
+use Rattle.gh_base.specs.declared.held.Held.{Held}
+use Rattle.gh_base.specs.declared.layout.Layout.{Layout}
+use Rattle.gh_base.specs.declared.pack.TheConstants.{ENTRIES}
+use Rattle.gh_base.specs.Rows.{mark_words}
+use Rattle.gh_marks.specs.Colours.{Cycle, IsMarked, Shared}
+use Rattle.gh_marks.specs.Routines.{KeepsItsFacts}
+use Rattle.gh_marks.specs.Seats.{Hands, InHand}
+use Rattle.gh_shade.specs.declared.shade.Shaded.TheVariants.{Done, WantsRoom}
+use Rattle.gh_shade.specs.declared.shade.ShadeStage.{ShadeStage}
+use Rattle.gh_shade.specs.declared.shade.ShadeStage.TheVariants.{LoadPage, SetMark, WaitForRoom, Enter, Ended}
+use Rattle.gh_shade.specs.Listing.{gives, goes, listing, object_of, opening, Shading, told_room}
+use Rattle.gh_shade.specs.Sound.{HasPlace}
+
+-- the object once it is marked, until it is entered
+abbrev pub pending_at : (o : ℕ) → ShadeStage → Option ℕ
+pending_at o LoadPage = None
+pending_at o (SetMark noscan) = None
+pending_at o WaitForRoom = Some o
+pending_at o Enter = Some o
+pending_at o Ended = None
+
+-- Until it is marked the object is known as one of the cycle, and then as marked, whoever marked it.
+abbrev pub StageFacts : Shared → (o : ℕ) → Option Held → ShadeStage → Type 0
+StageFacts s o held LoadPage = s.since o ≡ true
+StageFacts s o held (SetMark noscan) = (s.since o ≡ true) × (s.extents.noscan o ≡ noscan)
+StageFacts s o held WaitForRoom = IsMarked (mark_words s.words) o
+StageFacts s o held Enter = IsMarked (mark_words s.words) o × HasPlace held
+StageFacts s o held Ended = IsMarked (mark_words s.words) o
+
+-- what the seat has in hand
+abbrev pub in_hand : InHand → Option Held → (pending : Option ℕ) → InHand
+in_hand rest held pending = record rest { held = held; pending = pending }
+
+pub record Facts (z : Cycle) (a : ℕ) (s : Shared) (rest : InHand) (m : Shading) : Type 0 where
+  pub some : 1 ≤ m.reference
+  pub stage_is : StageFacts s (object_of m.reference) m.held m.stage
+  pub hands : Hands a s (in_hand rest m.held (pending_at (object_of m.reference) m.stage))
+
+-- shaded: the object is marked, and in nobody's hands by this
+pub record IsShaded (a : ℕ) (s : Shared) (rest : InHand) (m : Shading) : Type 0 where
+  pub marked : IsMarked (mark_words s.words) (object_of m.reference)
+  pub hands : Hands a s (in_hand rest m.held None)
+
+-- it wants room: the object is marked, and pending
+pub record WaitsForRoom (a : ℕ) (s : Shared) (rest : InHand) (m : Shading) : Type 0 where
+  pub some : 1 ≤ m.reference
+  pub marked : IsMarked (mark_words s.words) (object_of m.reference)
+  pub hands : Hands a s (in_hand rest m.held (Some (object_of m.reference)))
+
+module _ (z : Cycle) (a : ℕ) (s : Shared) (rest : InHand) where
+  -- the facts hold where it begins, with an object of the cycle
+  abbrev pub Begins : Type 0
+  Begins = (l : Layout) (reference : ℕ) (held : Option Held) → 1 ≤ reference → s.since (object_of reference) ≡ true → Hands a s (in_hand rest held None) → Facts z a s rest (opening l reference held)
+
+  -- and where it is told a buffer with a place
+  abbrev pub IsTold : Type 0
+  IsTold = (m : Shading) (h : Held) → 1 ≤ m.reference → IsMarked (mark_words s.words) (object_of m.reference) → h.count < ENTRIES → Hands a s (in_hand rest (Some h) (Some (object_of m.reference))) → Facts z a s rest (told_room m h)
+
+  -- what they come to where it ends with a step
+  abbrev pub Ends : Type 0
+  Ends = (m : Shading) (found : ℕ) → gives m found ≡ Some Done → Facts z a s rest (goes m found) → IsShaded a s rest (goes m found)
+
+  abbrev pub Wants : Type 0
+  Wants = (m : Shading) (found : ℕ) → gives m found ≡ Some WantsRoom → Facts z a s rest (goes m found) → WaitsForRoom a s rest (goes m found)
+
+pub record ShadesByMoves : Type 0 where
+  pub keeps : KeepsItsFacts listing Facts
+  pub begins : (z : Cycle) (a : ℕ) (s : Shared) (rest : InHand) → Begins z a s rest
+  pub told : (z : Cycle) (a : ℕ) (s : Shared) (rest : InHand) → IsTold z a s rest
+  pub ends : (z : Cycle) (a : ℕ) (s : Shared) (rest : InHand) → Ends z a s rest
+  pub wants : (z : Cycle) (a : ℕ) (s : Shared) (rest : InHand) → Wants z a s rest
+  -- it shades the same object all the time
+  pub same : (m : Shading) (found : ℕ) → (goes m found).reference ≡ m.reference
