@@ -1,5 +1,7 @@
 pub mod Covering
 pub mod Ending
+pub mod Markers
+pub mod MarkersAt
 pub mod Next
 pub mod Objects
 pub mod Order

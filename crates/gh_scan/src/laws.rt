@@ -1,10 +1,14 @@
 //! Laws of the routine, and of those that it runs. The functions do nothing; what they ensure is proved.
 
+ghost use Rattle.gh_scan.specs.Facts.{ScansByMoves};
 ghost use Rattle.gh_scan.specs.Quiet.{MarkingIsQuiet};
 ghost use Rattle.gh_scan.specs.Scans.{ObjectsAreScanned};
 
-use gh_base::laws::{cells_are_told, packed_words_are_read_back};
+use gh_base::laws::{cells_are_told, packed_words_are_read_back, rows_are_written};
 use gh_class::size_class_laws;
+use gh_marks::laws::{facts_last, hands_follow, own_moves_leave, steps_go_by_moves};
+use gh_shade::laws::shades_by_moves;
+use gh_wbuf::laws::buffers_pass_by_moves;
 
 /// The scan of an object goes over the words of its slot in ascending order, and gives their number by the
 /// page word. Where the slot lies in the heap it loads the bitmap words of the slot and the fields whose bit
@@ -28,3 +32,19 @@ pub fn objects_are_scanned()
 pub fn marking_is_quiet()
     ensures { MarkingIsQuiet }
 {}
+
+/// Whatever any number of actors do beside it while marking is on: each step of the scan is made of moves that
+/// its seat may make, leaves all that its caller knows, and what is known at each stage holds then and lasts.
+/// The pointer fields behind which it is are clean, also where a store has changed one since, so its last step
+/// makes the object black.
+pub fn scans_by_moves()
+    ensures { ScansByMoves }
+{
+    rows_are_written();
+    facts_last();
+    hands_follow();
+    own_moves_leave();
+    steps_go_by_moves();
+    shades_by_moves();
+    buffers_pass_by_moves();
+}

@@ -173,5 +173,6 @@ fn room_is_found_for_shading(rt: HostRuntime) -> Result<(), Fail> {
     assert!(rt; steps.are(&lines));
     assert_eq!(rt; scan.held(), Some(Held { index: 1, count: 1 }));
     laws::objects_are_scanned();
+    laws::scans_by_moves();
     Ok(())
 }

@@ -1,4 +1,5 @@
 pub mod Ends
+pub mod Facts
 pub mod Listing
 pub mod Scans
 pub mod Sound

@@ -33,5 +33,6 @@ fn a_stack_is_scanned(rt: HostRuntime) -> Result<(), Fail> {
         assert!(rt; !scan.stores());
     }
     laws::stacks_are_scanned();
+    laws::stacks_are_scanned_by_moves();
     Ok(())
 }

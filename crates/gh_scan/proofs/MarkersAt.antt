@@ -1,0 +1,205 @@
+-- Where the scan is while marking is on: what it knows of the words that it is done with lasts, and it goes on behind a word or ends with a black object.
+use Rattle.std.proofs.Common.{◌≡◌, ◌≢◌, ℕ, zero, suc, ◌+◌, ◌-◌, ◌*◌, ◌/◌, ◌%◌, ◌<◌, ◌≤◌, Bool, true, false, cond, eqb, ltb, Option, Some, None, inl, inr, ◌⊎◌, refl, sym, ap, subst, ◌∙◌, arith}
+use Rattle.std.specs.Prelude.{◌||◌}
+use Rattle.std.proofs.lemmas.Bool.{eqb-true, eq-eqb, ltb-true, ltb-false}
+use Rattle.gh_base.specs.declared.cell.Cell.TheVariants as cell
+use Rattle.gh_base.specs.Rows.{field_words, mark_words}
+use Rattle.gh_marks.specs.Colours.{Cycle, IsClean, IsPointer, Shared, Taken}
+use Rattle.gh_marks.specs.Good.{Good}
+use Rattle.gh_marks.specs.Laws.{EachFactLasts, EachHandFollows, EachOwnMoveLeaves, FactsLast, WhatIsKeptGoesOn}
+use Rattle.gh_marks.specs.Moves.{Blacken, Keeps, Lands, SameExtent, lands_by, lands_still}
+use Rattle.gh_marks.specs.Seats.{Hands, InHand}
+use Rattle.gh_scan.specs.declared.scan.ScanStage.TheVariants.{LoadBitmap, LoadField, Ended}
+use Rattle.gh_scan.specs.Facts.{BitsAre, CleanBefore, Facts, IsAt, IsField, Shades, Stands, in_hand}
+use Rattle.gh_scan.specs.Listing.{at_next, at_stage, behind, end, is_loaded, is_pointer, loads_at, next_from, next_in, object_of, Scanning}
+
+-- what the laws of gh_marks say, as far as it is of one seat's facts
+pub record KnownOfFacts : Type 0 where
+  pub facts : EachFactLasts
+  pub follow : EachHandFollows
+  pub leave : EachOwnMoveLeaves
+  pub go_on : WhatIsKeptGoesOn
+
+-- The first word for which something is loaded, and none before it.
+abbrev Skips : (bits x above : ℕ) → Option ℕ → Type 0
+Skips bits x above None = (y : ℕ) → x ≤ y → y < above → is_loaded bits y ≡ false
+Skips bits x above (Some q) = (x ≤ q) × (q < above) × (is_loaded bits q ≡ true) × ((y : ℕ) → x ≤ y → y < q → is_loaded bits y ≡ false)
+
+-- one word more before those skipped
+skips-one : (bits x y : ℕ) → is_loaded bits x ≡ false → x ≤ y → (x + 1 ≤ y → is_loaded bits y ≡ false) → is_loaded bits y ≡ false
+skips-one bits x y e le h = by (eqb x y) refl where
+  by : (b : Bool) → eqb x y ≡ b → is_loaded bits y ≡ false
+  by true same = subst (λ (v : ℕ). is_loaded bits v ≡ false) (eqb-true _ _ same) e
+  by false other = let ne : x ≢ y = λ z. absurd (cc (other, eq-eqb x y z)) in h (omega arith)
+
+skips-more : (bits x w : ℕ) (n : Option ℕ) → is_loaded bits x ≡ false → Skips bits (x + 1) (x + 1 + w) n → Skips bits x (x + suc w) n
+skips-more bits x w None e h = λ y le lt. skips-one bits x y e le (λ more. h y more (omega arith))
+skips-more bits x w (Some q) e h = (omega (arith, h.0), omega (arith, h.1), h.2, λ y le lt. skips-one bits x y e le (λ more. h.3 y more lt))
+
+skips : (bits w x : ℕ) → Skips bits x (x + w) (next_in bits w x)
+skips bits zero x = λ y le lt. absurd (omega arith)
+skips bits (suc w) x = by (is_loaded bits x) refl (skips bits w (x + 1)) where
+  by : (b : Bool) → is_loaded bits x ≡ b → Skips bits (x + 1) (x + 1 + w) (next_in bits w (x + 1)) → Skips bits x (x + suc w) (cond b (Some x) (next_in bits w (x + 1)))
+  by true e h = (omega arith, omega arith, e, λ y le lt. absurd (omega arith))
+  by false e h = skips-more bits x w (next_in bits w (x + 1)) e h
+
+skips-from : (bits above x : ℕ) → x ≤ above → Skips bits x above (next_from bits above x)
+skips-from bits above x le = let sum : x + (above - x) ≡ above = omega arith in subst (λ (n : ℕ). Skips bits x n (next_from bits above x)) sum (skips bits (above - x) x)
+
+-- a word for which nothing is loaded
+no-group : (bits y : ℕ) → is_loaded bits y ≡ false → y % 64 ≢ 0
+no-group bits y e z = let yes : eqb (y % 64) 0 ≡ true = eq-eqb _ _ z in absurd (by (eqb (y % 64) 0) yes e) where
+  by : (b : Bool) → b ≡ true → (b || is_pointer bits y) ≡ false → ⊥
+  by true p q = cc
+  by false p q = cc
+
+no-pointer : (bits y : ℕ) → is_loaded bits y ≡ false → is_pointer bits y ≡ false
+no-pointer bits y e = by (eqb (y % 64) 0) e where
+  by : (b : Bool) → (b || is_pointer bits y) ≡ false → is_pointer bits y ≡ false
+  by true q = absurd (cc)
+  by false q = q
+
+is-pointer : (bits y : ℕ) → is_loaded bits y ≡ true → eqb (y % 64) 0 ≡ false → is_pointer bits y ≡ true
+is-pointer bits y e f = by (eqb (y % 64) 0) f e where
+  by : (b : Bool) → b ≡ false → (b || is_pointer bits y) ≡ true → is_pointer bits y ≡ true
+  by true p q = absurd (cc)
+  by false p q = q
+
+-- no word that begins a group lies between, so both are of one group
+one-group : (x y : ℕ) → x ≤ y → ((v : ℕ) → x < v → v ≤ y → v % 64 ≢ 0) → y / 64 ≡ x / 64
+one-group x y le none = by (eqb (y / 64) (x / 64)) refl where
+  by : (b : Bool) → eqb (y / 64) (x / 64) ≡ b → y / 64 ≡ x / 64
+  by true e = eqb-true _ _ e
+  by false e =
+      let ne : y / 64 ≢ x / 64 = λ z. absurd (cc (e, eq-eqb _ _ z)) in
+      absurd (none (64 * (y / 64)) (omega arith) (omega arith) (omega arith))
+
+module _ (k : KnownOfFacts) (z : Cycle) (a : ℕ) (s t : Shared) (o : ℕ) (known : s.since o ≡ true) (keeps : Keeps z a s t) where
+  last : FactsLast z a s t
+  last = k.facts z a s t keeps
+
+  extent : SameExtent s.extents t.extents o
+  extent = keeps.extents o known
+
+  pub at-kept : (slot at : ℕ) → IsAt s o slot at → IsAt t o slot at
+  at-kept slot at h = record {
+    slot_is = h.slot_is ∙ sym extent.size;
+    from = h.from;
+    below = omega (arith, h.below, extent.size);
+    clean = λ j l lt. let was : IsPointer s.extents o j = last.pointer_was o j known l in last.field o j known was (h.clean j was lt);
+  }
+
+  pub field-kept : (bits at : ℕ) → IsField s o bits at → IsField t o bits at
+  field-kept bits at h = record {
+    k = h.k;
+    at_is = h.at_is;
+    pointer = last.pointer o h.k known h.pointer;
+    bits_are = λ j l e. h.bits_are j (omega (arith, l, extent.size)) e ∙ sym (ap (λ (f : ℕ → Bool). f j) extent.pointer);
+  }
+
+  -- a word that stands there still, or is clean
+  word-kept : (was is reference : ℕ) → (is ≡ was) ⊎ IsClean (mark_words t.words) is → (was ≡ reference) ⊎ IsClean (mark_words s.words) was → (is ≡ reference) ⊎ IsClean (mark_words t.words) is
+  word-kept was is reference (inr c) h = inr c
+  word-kept was is reference (inl e) (inl f) = inl (e ∙ f)
+  word-kept was is reference (inl e) (inr c) = inr (λ p x. keeps.marks p (c p (sym e ∙ x)))
+
+  stands-kept : (bits at reference : ℕ) → IsField s o bits at → Stands s at reference → Stands t at reference
+  stands-kept bits at reference f h = subst (λ (x : ℕ). Stands t x reference) (sym f.at_is)
+      (word-kept (s.words (cell.Field (o + f.k))) (t.words (cell.Field (o + f.k))) reference (keeps.fields o f.k known f.pointer) (subst (λ (x : ℕ). Stands s x reference) f.at_is h))
+
+  pub shades-kept : (slot at bits reference : ℕ) → Shades s o slot at bits reference → Shades t o slot at bits reference
+  shades-kept slot at bits reference h = record { is_at = at-kept slot at h.is_at; is_field = field-kept bits at h.is_field; stands = stands-kept bits at reference h.is_field h.stands }
+
+-- Behind the word that it is at: it goes on at the next word for which something is loaded, and with none left its object is black.
+module _ (k : KnownOfFacts) (z : Cycle) (a : ℕ) (t : Shared) (rest : InHand) (g : Good z t) (n : Scanning) where
+  abbrev o : ℕ
+  o = object_of n.reference
+
+  -- done with the word that it is at
+  pub record IsDone : Type 0 where
+    pub layout_is : n.layout ≡ z.arena.layout
+    pub seat_is : n.seat ≡ a
+    pub known : t.since o ≡ true
+    pub is_at : IsAt t o n.slot n.at
+    pub bits_are : BitsAre t.extents o n.bits n.at
+    pub clean : (j : ℕ) → IsPointer t.extents o j → o + j ≡ n.at → IsClean (mark_words t.words) (t.words (cell.Field (o + j)))
+    pub hands : Hands a t (in_hand rest n.held (Some o))
+
+  module _ (d : IsDone) where
+    taken : t.colour o ≡ Taken a
+    taken = (d.hands.has.is_taken o).0 refl
+
+    scanned : t.extents.noscan o ≡ false
+    scanned = g.objects.grey o (rw taken tt)
+
+    -- nothing is loaded for the words between
+    clean-to : (q : ℕ) → n.at < q → ((y : ℕ) → n.at + 1 ≤ y → y < q → is_loaded n.bits y ≡ false) → CleanBefore t.extents (mark_words t.words) (field_words t.words) o q
+    clean-to q lt none j l below = by (ltb (o + j) n.at) (eqb (o + j) n.at) refl refl where
+      later : n.at < o + j → ⊥
+      later more =
+          let off : is_loaded n.bits (o + j) ≡ false = none (o + j) (omega arith) below in
+          let group : (o + j) / 64 ≡ n.at / 64 = one-group n.at (o + j) (omega arith) (λ v x y. no-group n.bits v (none v (omega arith) (omega arith))) in
+          let is : is_pointer n.bits (o + j) ≡ true = d.bits_are j l.0 group ∙ l.1 in
+          let not : is_pointer n.bits (o + j) ≡ false = no-pointer n.bits (o + j) off in
+          cc
+
+      by : (b c : Bool) → ltb (o + j) n.at ≡ b → eqb (o + j) n.at ≡ c → IsClean (mark_words t.words) (t.words (cell.Field (o + j)))
+      by true c e f = d.is_at.clean j l (ltb-true _ _ e)
+      by false true e f = d.clean j l (eqb-true _ _ f)
+      by false false e f =
+          let ne : o + j ≢ n.at = λ x. absurd (cc (f, eq-eqb _ _ x)) in
+          let le : n.at ≤ o + j = ltb-false _ _ e in
+          absurd (later (omega arith))
+
+    stop : n.at + 1 ≤ end n
+    stop = omega (arith, d.is_at.below, d.is_at.slot_is)
+
+    abbrev Goal : Scanning → Type 0
+    Goal then = Lands z a t t.words (λ u. Keeps z a t u × Facts z a u rest then)
+
+    blackens : Skips n.bits (n.at + 1) (end n) None → Goal (at_stage n Ended)
+    blackens none =
+        let all : CleanBefore t.extents (mark_words t.words) (field_words t.words) o (end n) = clean-to (end n) (omega (arith, stop)) (λ y le lt. none y le lt) in
+        let may : (t.colour o ≡ Taken a) × ((j : ℕ) → IsPointer t.extents o j → IsClean (mark_words t.words) (t.words (cell.Field (o + j)))) = (taken, λ j l. all j l (omega (arith, l.0, d.is_at.slot_is))) in
+        lands_by z a t t.words (λ u. Keeps z a t u × Facts z a u rest (at_stage n Ended)) (Blacken o) may refl
+        (k.leave z a t (Blacken o) g may tt, record { layout_is = d.layout_is; seat_is = d.seat_is; known = d.known; stage_is = (k.follow z a t (in_hand rest n.held (Some o)) g d.hands).blackened o refl })
+
+    goes-on : (q : ℕ) → Skips n.bits (n.at + 1) (end n) (Some q) → Goal (record n { at = q; stage = loads_at q })
+    goes-on q h = by (eqb (q % 64) 0) refl where
+      is_at : IsAt t o n.slot q
+      is_at = record {
+        slot_is = d.is_at.slot_is;
+        from = omega (arith, d.is_at.from, h.0);
+        below = omega (arith, h.1, d.is_at.slot_is);
+        clean = clean-to q (omega (arith, h.0)) h.3;
+      }
+
+      still : (stage : _) → Facts z a t rest (record n { at = q; stage = stage }) → Goal (record n { at = q; stage = stage })
+      still stage f = lands_still z a t t.words (λ u. Keeps z a t u × Facts z a u rest (record n { at = q; stage = stage })) refl ((k.go_on z a).stays t, f)
+
+      by : (b : Bool) → eqb (q % 64) 0 ≡ b → Goal (record n { at = q; stage = cond b LoadBitmap LoadField })
+      by true e = still LoadBitmap (record { layout_is = d.layout_is; seat_is = d.seat_is; known = d.known; stage_is = (is_at, d.hands) })
+      by false e =
+          let off : q % 64 ≢ 0 = λ x. absurd (cc (e, eq-eqb _ _ x)) in
+          let group : q / 64 ≡ n.at / 64 = one-group n.at q (omega (arith, h.0)) (λ v x y. begins v x y off) in
+          let index : q ≡ o + (q - o) = omega (arith, is_at.from) in
+          let less : q - o < t.extents.size o = omega (arith, is_at.below, is_at.from) in
+          let same : is_pointer n.bits (o + (q - o)) ≡ t.extents.pointer o (q - o) = d.bits_are (q - o) less (ap (λ (x : ℕ). x / 64) (sym index) ∙ group) in
+          let set : t.extents.pointer o (q - o) ≡ true = sym same ∙ ap (is_pointer n.bits) (sym index) ∙ is-pointer n.bits q h.2 e in
+          still LoadField (record {
+            layout_is = d.layout_is;
+            seat_is = d.seat_is;
+            known = d.known;
+            stage_is = (is_at, record { k = q - o; at_is = index; pointer = (less, set, scanned); bits_are = λ j l x. d.bits_are j l (x ∙ group) }, d.hands);
+          }) where
+            begins : (v : ℕ) → n.at < v → v ≤ q → q % 64 ≢ 0 → v % 64 ≢ 0
+            begins v x y off = same (eqb v q) refl where
+              same : (b : Bool) → eqb v q ≡ b → v % 64 ≢ 0
+              same true e = subst (λ (w : ℕ). w % 64 ≢ 0) (sym (eqb-true _ _ e)) off
+              same false e = let ne : v ≢ q = λ x. absurd (cc (e, eq-eqb _ _ x)) in no-group n.bits v (h.3 v (omega arith) (omega arith))
+
+    pub goes-behind : Goal (behind n)
+    goes-behind = by (next_from n.bits (end n) (n.at + 1)) (skips-from n.bits (end n) (n.at + 1) stop) where
+      by : (next : Option ℕ) → Skips n.bits (n.at + 1) (end n) next → Goal (at_next n next)
+      by None h = blackens h
+      by (Some q) h = goes-on q h
