@@ -29,4 +29,8 @@ pub use turns::{Next, total_of};
 pub use world::{Event, World};
 
 #[cfg(test)]
+mod cycle_lines;
+#[cfg(test)]
+mod cycle_tests;
+#[cfg(test)]
 mod tests;
