@@ -13,13 +13,14 @@ use Rattle.gh_coord.specs.declared.tell.TellStage.TheVariants as tell_stage
 use Rattle.gh_coord.specs.Closing as close
 use Rattle.gh_coord.specs.Counting as count
 use Rattle.gh_coord.specs.Handshake.{FindsGone, gone_to, IsFoundGone, Marks, open_post, post_at, SoundAt, stop_post, tell_post, told_phase}
-use Rattle.gh_coord.specs.Listing.{after_ack, after_check, after_close, after_count, after_open, after_stop, after_stop_again, after_sweep, after_tell, after_watch, asks_at, at_stage, Coordinating, counted, goes, goes_at, is_busy, stops_world}
+use Rattle.gh_coord.specs.Listing.{after_ack, after_check, after_close, after_count, after_open, after_stop, after_stop_again, after_sweep, after_tell, after_watch, at_stage, Coordinating, counted, goes, goes_at, is_busy, stops_world}
 use Rattle.gh_coord.specs.Opening as opens_by
 use Rattle.gh_coord.specs.Stopping as stop
 use Rattle.gh_coord.specs.SweepingAll as all
 use Rattle.gh_coord.specs.Telling as tell
 use Rattle.gh_coord.specs.Watching as watch
 use Rattle.gh_coord.specs.Vocabulary.{All, Check, Close, CoordStage, Count, Counted, Done, GONE, Load, LoadAck, LoadWant, MarkOn, NotYet, Open, OpenStage, Stop, StopAgain, Sweep, Tell, TellStage, Watch, Watched}
+use Rattle.gh_coord.proofs.Stepping.{same_ask}
 
 -- a step that finds no processor gone, and leaves whether this is the last cycle
 abbrev Apart : (s to : Coordinating) → Type 0
@@ -105,25 +106,10 @@ finds_at found s (Tell t) busy = apart_finds found s (Tell t) (goes_at s (Tell t
 finds_at found s Done busy = absurd cc
 
 -- counting the steps that store the phase word leaves what is found
-pub counted_asks : (s : Coordinating) (stage : CoordStage) → asks_at (counted s) stage ≡ asks_at s stage
-counted_asks s (LoadAck i) = refl
-counted_asks s LoadWant = refl
-counted_asks s (Stop st) = refl
-counted_asks s (Open o) = refl
-counted_asks s (Watch w) = refl
-counted_asks s (StopAgain st) = refl
-counted_asks s (Check w) = refl
-counted_asks s MarkOn = refl
-counted_asks s (Close c) = refl
-counted_asks s (Sweep w) = refl
-counted_asks s (Count c) = refl
-counted_asks s (Tell t) = refl
-counted_asks s Done = refl
-
 pub finds_gone : (s : Coordinating) (found : ℕ) → is_busy s.stage ≡ true → FindsGone found s s.stage (goes s found)
 finds_gone s found busy =
     let f = finds_at found (counted s) s.stage busy in
-    record { below = λ a l. rw (← counted_asks s s.stage) (f.below a l); last = λ e. elim (f.last e) [ inl x ↦ inl x | inr y ↦ inr (λ a l. rw (← counted_asks s s.stage) (y a l)) ] }
+    record { below = λ a l. rw (← same_ask s s.stage) (f.below a l); last = λ e. elim (f.last e) [ inl x ↦ inl x | inr y ↦ inr (λ a l. rw (← same_ask s s.stage) (y a l)) ] }
 
 -- the last phase is stored in the last cycle
 stop_goes_on : (phase : RunPhase) (stage : StopStage) → last_of (stop_post phase stage) ≡ phase

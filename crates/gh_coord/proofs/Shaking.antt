@@ -25,7 +25,8 @@ use Rattle.gh_coord.specs.SweepingAll as all
 use Rattle.gh_coord.specs.Telling as tell
 use Rattle.gh_coord.specs.Watching as watch
 use Rattle.gh_coord.specs.Vocabulary.{All, Ask, Check, Close, CloseStage, CoordStage, Count, Counted, CountStage, Done, GONE, Layout, Load, LoadAck, LoadWant, MarkOn, NotYet, Open, OpenStage, Stop, StopAgain, Store, Sweep, SweepAllStage, SweepStage, Tell, TellStage, Watch, Watched, WatchStage}
-use Rattle.gh_coord.proofs.LastCycle.{counted_asks, finds_gone, finishes_at, marks_at, stops_go_on}
+use Rattle.gh_coord.proofs.LastCycle.{finds_gone, finishes_at, marks_at, stops_go_on}
+use Rattle.gh_coord.proofs.Stepping.{same_ask}
 use Rattle.gh_sweep.specs.declared.sweep.SweepStage.TheVariants as sweep_stage
 use Rattle.gh_sweep.specs.Listing as sweep
 
@@ -251,5 +252,5 @@ leads_handshake = record {
   stops_go_on = stops_go_on;
   marks_on = λ s sound runs. marks_at s s.stage sound.1 runs;
   finishes = λ s sound e. finishes_at s s.stage sound.1 e;
-  goes = λ s found sound busy. rw (← counted_asks s s.stage) (goes_so found (counted s) s.stage sound.0 (counted_sound s s.stage sound.1) busy).1;
+  goes = λ s found sound busy. rw (← same_ask s s.stage) (goes_so found (counted s) s.stage sound.0 (counted_sound s s.stage sound.1) busy).1;
 }

@@ -4,6 +4,7 @@ use Rattle.gh_base.specs.declared.held.Held.{Held}
 use Rattle.gh_base.specs.declared.layout.Layout.{Layout}
 use Rattle.gh_alloc.specs.declared.sought.CachedSpan.{CachedSpan}
 use Rattle.gh_class.specs.declared.class.TheConstants.{SPAN_CLASSES}
+use Rattle.gh_phase.specs.declared.view.RunPhase.TheVariants.{Mark}
 use Rattle.gh_phase.specs.declared.view.View.{View}
 use Rattle.gh_phase.specs.Handshake.{Awake, Gives, Gone, KeepsHandshake, Leaves, Party, PlaceBegins, Acts, Stage}
 use Rattle.gh_phase.specs.Listing as resume
@@ -43,7 +44,7 @@ pub record GoesOnWithNothing (seat : ℕ) (local : Local) (r : resume.Resuming) 
   pub no_span : local.cache ≡ none_cached
   pub no_buffer : local.held ≡ None
 
--- A poll: while it scans a stack, or looks for a buffer with room, the processor is awake.
+-- A poll: while it scans a stack, or looks for a buffer with room, the processor is awake and knows that marking is on.
 module _ (p : poll.Polling) where
   abbrev pub polls_at : PollStage → Stage
   polls_at (poll_stage.Giving g stops) = Gives stops
@@ -58,6 +59,8 @@ module _ (p : poll.Polling) where
   abbrev pub PollsSoundAt : PollStage → Type 0
   PollsSoundAt (poll_stage.Giving g stops) = GivesSo g g.stage
   PollsSoundAt (poll_stage.Resuming r) = GoesOnWithNothing p.seat p.local r
+  PollsSoundAt (poll_stage.Marking g m) = p.local.view.phase ≡ Mark
+  PollsSoundAt (poll_stage.FindRoom r) = p.local.view.phase ≡ Mark
   PollsSoundAt _ = Unit {0}
 
   abbrev pub poll_stage_of : Stage

@@ -27,7 +27,7 @@ pub fn going_on_keeps_the_handshake()
 {}
 
 /// Where any number of actors are in the handshake, every legal list of their steps keeps it. From the opening or
-/// the end of going on after a stop, until it acknowledges the next one, what an actor knows of the phase is
+/// the end of going on after a stop, until it is to acknowledge the next one, what an actor knows of the phase is
 /// the last phase that was no stop, and the sweep generation and the cycles begun as their words stand. From the
 /// load of the last acknowledgement until the coordinator stores a phase that is no stop, each other actor
 /// waits at that stop, or is gone. Only one that is gone has acknowledged so.

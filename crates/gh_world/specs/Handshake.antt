@@ -1,5 +1,5 @@
 -- Processors of any kind that is in the handshake of a stop, workers and the coordinator: their lists, and what every legal one keeps.
-use Rattle.std.specs.Prelude.{◌≡◌, ◌↔◌, ℕ, ◌<◌, Bool, true, false, nat_lt, if◌then◌else◌, List, None}
+use Rattle.std.specs.Prelude.{◌≡◌, ◌↔◌, ℕ, ◌<◌, Bool, true, false, nat_lt, if◌then◌else◌, List, ◌∷◌, None}
 use Rattle.gh_base.specs.declared.cell.Ask.{Ask}
 use Rattle.gh_base.specs.declared.cell.Cell.TheVariants as cell
 use Rattle.gh_base.specs.declared.layout.Layout.{Layout}
@@ -13,7 +13,7 @@ use Rattle.gh_phase.specs.declared.view.RunPhase.TheVariants.{Mark, Finished}
 use Rattle.gh_phase.specs.declared.view.View.{View}
 use Rattle.gh_phase.specs.Handshake.{Acts, Awake, first_party, Leads, Party, Place, PlaceBegins, Stage, StageGoes, Stopped}
 use Rattle.gh_phase.specs.Listing as resume
-use Rattle.gh_phase.specs.Shakes.{IsAwake, IsCurrent, IsParked, last_phase, Shakes}
+use Rattle.gh_phase.specs.Shakes.{FinishedStays, GoneStay, IsAwake, IsCurrent, IsParked, last_phase, NobodyMoves, Shakes}
 use Rattle.gh_coord.specs.Handshake as leading
 use Rattle.gh_coord.specs.Listing as coord
 use Rattle.gh_coord.specs.Stopping.{acks_of}
@@ -125,3 +125,13 @@ module _ {P : Type 0} (sound : Layout → P → Type 0) (party : P → Party) (s
   abbrev pub EveryListKeepsIt : (O : Type 0) → Type 0
   EveryListKeepsIt O = (l : Layout) (k : Kind P O) (pacing : Pacing) (may_begin : ℕ → List (Entry O) → O → Bool) → AreParties l k (sound l) party stage → (es : List (Entry O)) → Legal (heap l k pacing may_begin) es →
       KeepsIt (heap l k pacing may_begin) es
+
+  -- what one entry more leaves: who is gone, the last phase, and in a stopped world every place but the coordinator's
+  pub record StepKeepsIt {O : Type 0} (s : Setting (Actor P) O) (e : Entry O) (es : List (Entry O)) : Type 0 where
+    pub gone : GoneStay s (acks_of s.layout) (place_of party stage) e es
+    pub finished : FinishedStays e es
+    pub still : NobodyMoves s (acks_of s.layout) (place_of party stage) e es
+
+  abbrev pub EveryStepKeepsIt : (O : Type 0) → Type 0
+  EveryStepKeepsIt O = (l : Layout) (k : Kind P O) (pacing : Pacing) (may_begin : ℕ → List (Entry O) → O → Bool) → AreParties l k (sound l) party stage → (e : Entry O) (es : List (Entry O)) → Legal (heap l k pacing may_begin) (e ∷ es) →
+      StepKeepsIt (heap l k pacing may_begin) e es

@@ -5,13 +5,13 @@
 //! coordinator their crates say where they stand. A processor may be of any kind that does so too: what it
 //! runs beside its polls, waits and leaves does not matter.
 
-ghost use Rattle.gh_world.specs.Handshake.{EveryListKeepsIt};
+ghost use Rattle.gh_world.specs.Handshake.{EveryListKeepsIt, EveryStepKeepsIt};
 
 use gh_base::laws::packed_words_are_read_back;
 use gh_coord::Coord;
 use gh_coord::laws::the_coordinator_leads_the_handshake;
 use gh_phase::InHandshake;
-use gh_phase::laws::{the_gone_stay_gone, the_handshake_holds, the_last_phase_stays};
+use gh_phase::laws::{nobody_moves, the_gone_stay_gone, the_handshake_holds, the_last_phase_stays};
 use gh_worker::Worker;
 use gh_worker::laws::a_worker_keeps_the_handshake;
 
@@ -51,7 +51,7 @@ impl<P: PartyToHandshake> InHandshake for Actor<P> {
 
 /// Whatever the numbers of processors and workers, whatever else the processors run, and whatever the order of
 /// steps, every legal list keeps the handshake. What a processor or a worker knows of the phase, from the opening
-/// or the end of going on after a stop until it acknowledges the next one, is the last phase that was no stop, and
+/// or the end of going on after a stop until it is to acknowledge the next one, is the last phase that was no stop, and
 /// the sweep generation and the cycles begun as their words stand; a worker may know still that marking is off once
 /// the last cycle is swept. In a stopped world each processor waits at the stop, or is gone, and each worker waits
 /// at it with no buffer held. No worker leaves before the last cycle is swept, and every processor has by then.
@@ -62,6 +62,19 @@ pub fn every_list_keeps_the_handshake<P: PartyToHandshake, O>()
     the_handshake_holds::<Actor<P>, O>();
     the_gone_stay_gone::<Actor<P>, O>();
     the_last_phase_stays::<Actor<P>, O>();
+    the_coordinator_leads_the_handshake();
+    a_worker_keeps_the_handshake();
+}
+
+/// Who is gone stays gone, and no phase follows the last. In a stopped world nobody but the coordinator moves: a
+/// step of any other actor is a load of the phase that finds the stop, and leaves it where it was. So what the
+/// coordinator finds there, with many loads, is so at one moment.
+pub fn every_step_keeps_the_handshake<P: PartyToHandshake, O>()
+    ensures { EveryStepKeepsIt P.sound P.party P.stage O }
+{
+    the_gone_stay_gone::<Actor<P>, O>();
+    the_last_phase_stays::<Actor<P>, O>();
+    nobody_moves::<Actor<P>, O>();
     the_coordinator_leads_the_handshake();
     a_worker_keeps_the_handshake();
 }

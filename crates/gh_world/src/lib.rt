@@ -23,7 +23,9 @@ mod laws;
 mod turns;
 mod world;
 
-pub use handshake::{Actor, PartyToHandshake, every_list_keeps_the_handshake};
+pub use handshake::{
+    Actor, PartyToHandshake, every_list_keeps_the_handshake, every_step_keeps_the_handshake,
+};
 pub use laws::{a_script_has_one_run, every_legal_list_stands, every_run_is_explained, runs_go_on};
 pub use turns::{Next, total_of};
 pub use world::{Event, World};

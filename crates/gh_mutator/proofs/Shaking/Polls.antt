@@ -52,37 +52,37 @@ stays_awake : (found : ℕ) (ask : Ask) (p to : Polling) → StaysAwake p to →
 stays_awake found ask p to a = record { sound = a.sound; seat = a.seat; party = a.party; leads = rw a.stage tt }
 
 -- where the world runs
-two_or : (p : Polling) → HasPlaces p.local.cache → (two : Bool) → StaysAwake p (at_stage p (cond two Ended (FindRoom (room.opening p.layout p.seat p.local.held))))
-two_or p has true = record { sound = (has, tt); seat = refl; party = refl; stage = refl }
-two_or p has false = record { sound = (has, tt); seat = refl; party = refl; stage = refl }
+two_or : (p : Polling) → HasPlaces p.local.cache → p.local.view.phase ≡ run.Mark → (two : Bool) → StaysAwake p (at_stage p (cond two Ended (FindRoom (room.opening p.layout p.seat p.local.held))))
+two_or p has on true = record { sound = (has, tt); seat = refl; party = refl; stage = refl }
+two_or p has on false = record { sound = (has, on); seat = refl; party = refl; stage = refl }
 
-room_awake : (p : Polling) → HasPlaces p.local.cache → (waits : Bool) → StaysAwake p (at_stage p (room_stage p.layout p.seat waits p.local.held))
-room_awake p has true = record { sound = (has, tt); seat = refl; party = refl; stage = refl }
-room_awake p has false = two_or p has (has_two p.local.held)
+room_awake : (p : Polling) → HasPlaces p.local.cache → p.local.view.phase ≡ run.Mark → (waits : Bool) → StaysAwake p (at_stage p (room_stage p.layout p.seat waits p.local.held))
+room_awake p has on true = record { sound = (has, tt); seat = refl; party = refl; stage = refl }
+room_awake p has on false = two_or p has on (has_two p.local.held)
 
 -- counting a poll changes nothing of this
 abbrev more_polls : Polling → Polling
 more_polls p = record p { local = record (p.local) { polls = (p.local.polls + 1) % 2 ^ 64 } }
 
-counted_awake : (p : Polling) → HasPlaces p.local.cache → StaysAwake p (counted p)
-counted_awake p has = let a = room_awake (more_polls p) has p.waits in record { sound = a.sound; seat = a.seat; party = a.party; stage = a.stage }
+counted_awake : (p : Polling) → HasPlaces p.local.cache → p.local.view.phase ≡ run.Mark → StaysAwake p (counted p)
+counted_awake p has on = let a = room_awake (more_polls p) has on p.waits in record { sound = a.sound; seat = a.seat; party = a.party; stage = a.stage }
 
-scans_awake : (p : Polling) → HasPlaces p.local.cache → (g : Option ℕ) → StaysAwake p (scans p g)
-scans_awake p has None = counted_awake p has
-scans_awake p has (Some g) = record { sound = (has, tt); seat = refl; party = refl; stage = refl }
+scans_awake : (p : Polling) → HasPlaces p.local.cache → p.local.view.phase ≡ run.Mark → (g : Option ℕ) → StaysAwake p (scans p g)
+scans_awake p has on None = counted_awake p has on
+scans_awake p has on (Some g) = record { sound = (has, on); seat = refl; party = refl; stage = refl }
 
-marks_awake : (p : Polling) → HasPlaces p.local.cache → (phase : RunPhase) → StaysAwake p (marks_then p phase)
-marks_awake p has run.Off = record { sound = (has, tt); seat = refl; party = refl; stage = refl }
-marks_awake p has run.Mark = scans_awake p has (due p)
-marks_awake p has run.Finished = record { sound = (has, tt); seat = refl; party = refl; stage = refl }
+marks_awake : (p : Polling) → HasPlaces p.local.cache → (phase : RunPhase) → p.local.view.phase ≡ phase → StaysAwake p (marks_then p phase)
+marks_awake p has run.Off e = record { sound = (has, tt); seat = refl; party = refl; stage = refl }
+marks_awake p has run.Mark e = scans_awake p has e (due p)
+marks_awake p has run.Finished e = record { sound = (has, tt); seat = refl; party = refl; stage = refl }
 
-marked_awake : (p : Polling) → HasPlaces p.local.cache → (g : ℕ) (m : mark.StackMarking) (out : Option (Unit {0})) → StaysAwake p (after_mark p g m out)
-marked_awake p has g m None = record { sound = (has, tt); seat = refl; party = refl; stage = refl }
-marked_awake p has g m (Some x) = let a = counted_awake (scanned p g m.held) has in record { sound = a.sound; seat = a.seat; party = a.party; stage = a.stage }
+marked_awake : (p : Polling) → HasPlaces p.local.cache → p.local.view.phase ≡ run.Mark → (g : ℕ) (m : mark.StackMarking) (out : Option (Unit {0})) → StaysAwake p (after_mark p g m out)
+marked_awake p has on g m None = record { sound = (has, on); seat = refl; party = refl; stage = refl }
+marked_awake p has on g m (Some x) = let a = counted_awake (scanned p g m.held) has on in record { sound = a.sound; seat = a.seat; party = a.party; stage = a.stage }
 
-room_found : (p : Polling) → HasPlaces p.local.cache → (r : room.RoomFinding) (out : Option Held) → StaysAwake p (after_room p r out)
-room_found p has r None = record { sound = (has, tt); seat = refl; party = refl; stage = refl }
-room_found p has r (Some h) = record { sound = (has, tt); seat = refl; party = refl; stage = refl }
+room_found : (p : Polling) → HasPlaces p.local.cache → p.local.view.phase ≡ run.Mark → (r : room.RoomFinding) (out : Option Held) → StaysAwake p (after_room p r out)
+room_found p has on r None = record { sound = (has, on); seat = refl; party = refl; stage = refl }
+room_found p has on r (Some h) = record { sound = (has, tt); seat = refl; party = refl; stage = refl }
 
 -- where it has found a stop
 none_has : HasPlaces none_cached
@@ -111,7 +111,7 @@ phases : (found : ℕ) (p : Polling) → HasPlaces p.local.cache → (phase : Op
 phases found p has None e =
     let s = stops_so p has (giving p) (phase_of found).stops (opening_fine p.layout p.seat p.local.view.generation p.local.cache p.local.held has) in
     record { sound = s.sound; seat = s.seat; party = s.party; leads = at_stop found (phase_of found).stops (poll_stage_of (stops_then p (giving p) (phase_of found).stops)) (record { stops = e; number_is = refl }) s.stage }
-phases found p has (Some phase) e = stays_awake found (Load cell.Phase) p _ (marks_awake p has p.local.view.phase)
+phases found p has (Some phase) e = stays_awake found (Load cell.Phase) p _ (marks_awake p has p.local.view.phase refl)
 
 awakes : (found : ℕ) (p : Polling) (stage : PollStage) (to : Polling) → poller_at p stage ≡ record { seat = p.seat; view = p.local.view } → polls_at p stage ≡ Awake → IsQuiet (asks_at stage) → Awakes found (asks_at stage) p to → Goes found p stage to
 awakes found p stage to party awake q a = record { sound = a.sound; seat = a.seat; goes = rw (party, awake) (a.party, q, a.leads) }
@@ -127,7 +127,7 @@ module _ (h : ResumesInHandshake) (found : ℕ) (p : Polling) (has : HasPlaces p
   ends_so : (out : Resumed) → resume.gives r found ≡ Some out → Goes found p (Resuming r) (marks_then (resumed p out) out.view.phase)
   ends_so out e =
       let last = h.ends r found out e in
-      let a = marks_awake (resumed p out) has out.view.phase in
+      let a = marks_awake (resumed p out) has out.view.phase refl in
       record { sound = a.sound; seat = a.seat; goes = rw (a.party, a.stage, ← seat_is, ← last.0, ← last.1) goes_so }
 
   resumes_so : (out : Option Resumed) → resume.gives r found ≡ out → Goes found p (Resuming r) (after_resume p (resume.goes r found) out)
@@ -144,8 +144,8 @@ module _ (q : ProcessorIsQuiet) (m : MarkingIsQuiet) (h : ResumesInHandshake) wh
   goes_at_stage found p LoadPhase has s busy = awakes found p LoadPhase (goes_at p LoadPhase found) refl refl tt (phases found p has (run_phase (phase_of found).phase) refl)
   goes_at_stage found p (Giving g stops) has s busy = gives_so found p has g stops s
   goes_at_stage found p (Resuming r) has s busy = resumes_so h found p has r s (resume.gives r found) refl
-  goes_at_stage found p (Marking g x) has s busy = awakes found p (Marking g x) (goes_at p (Marking g x) found) refl refl (q.marks_a_stack x) (stays_awake found (mark.asks x) p (goes_at p (Marking g x) found) (marked_awake p has g (mark.goes x found) (mark.gives x found)))
-  goes_at_stage found p (FindRoom r) has s busy = awakes found p (FindRoom r) (goes_at p (FindRoom r) found) refl refl (m.finds_room r) (stays_awake found (room.asks r) p (goes_at p (FindRoom r) found) (room_found p has (room.goes r found) (room.gives r found)))
+  goes_at_stage found p (Marking g x) has s busy = awakes found p (Marking g x) (goes_at p (Marking g x) found) refl refl (q.marks_a_stack x) (stays_awake found (mark.asks x) p (goes_at p (Marking g x) found) (marked_awake p has s g (mark.goes x found) (mark.gives x found)))
+  goes_at_stage found p (FindRoom r) has s busy = awakes found p (FindRoom r) (goes_at p (FindRoom r) found) refl refl (m.finds_room r) (stays_awake found (room.asks r) p (goes_at p (FindRoom r) found) (room_found p has s (room.goes r found) (room.gives r found)))
   goes_at_stage found p Ended has s busy = absurd cc
 
   goes_on : (p : Polling) (found : ℕ) → SoundPoll p → is_busy p.stage ≡ true → Goes found p p.stage (goes p found)
