@@ -1,5 +1,6 @@
 mod Bits
 mod Ending
+mod Example
 mod Follows
 mod Guarding
 mod Keeps

@@ -1,5 +1,6 @@
 pub mod Colours
 pub mod Ends
+pub mod Example
 pub mod Good
 pub mod Knows
 pub mod Laws

@@ -1,5 +1,6 @@
 //! What holds of the moves of marking. The functions do nothing; what they ensure is proved.
 
+ghost use Rattle.gh_marks.specs.Example.{OneCycleIsMade};
 ghost use Rattle.gh_marks.specs.Laws.{EachFactLasts, EachHandFollows, EachHandLasts, EachLoadIsSafe, EachMoveGuards, EachMoveKeeps, EachMoveLeaves, EachMoveLeavesTheDead, EachOwnMoveLeaves, EachStepGoesByMoves, MarkingBegins, MarkingEndsClean, TheDeadAreWhite, WhatIsFoundIsDone, WhatIsKeptGoesOn};
 
 use gh_base::laws::{buffers_are_held, rows_are_written};
@@ -76,4 +77,10 @@ pub fn marking_begins()
 pub fn marking_ends_clean()
     ensures done { WhatIsFoundIsDone }
     ensures clean { MarkingEndsClean }
+{}
+
+/// There is a cycle that these laws are about: from a heap with two objects, step by step, to the end of
+/// marking, with both marked.
+pub fn one_cycle_is_made()
+    ensures { OneCycleIsMade }
 {}
