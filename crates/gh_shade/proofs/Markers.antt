@@ -178,4 +178,6 @@ shades-by-moves k = record {
   ends = λ z a s rest m found e f. shaded-then z a s rest (goes m found) (ended-at m m.stage found e) f;
   wants = λ z a s rest m found e f. waits-then z a s rest (goes m found) (waits-at m m.stage found e) f;
   same = λ m found. same-at m m.stage found;
+  ended = λ m found e. ended-at m m.stage found e;
+  waiting = λ m found e. waits-at m m.stage found e;
 }

@@ -71,5 +71,7 @@ pub record ShadesByMoves : Type 0 where
   pub told : (z : Cycle) (a : ℕ) (s : Shared) (rest : InHand) → IsTold z a s rest
   pub ends : (z : Cycle) (a : ℕ) (s : Shared) (rest : InHand) → Ends z a s rest
   pub wants : (z : Cycle) (a : ℕ) (s : Shared) (rest : InHand) → Wants z a s rest
-  -- it shades the same object all the time
+  -- it shades the same object all the time, and what it gives says at which stage it is then
   pub same : (m : Shading) (found : ℕ) → (goes m found).reference ≡ m.reference
+  pub ended : (m : Shading) (found : ℕ) → gives m found ≡ Some Done → (goes m found).stage ≡ Ended
+  pub waiting : (m : Shading) (found : ℕ) → gives m found ≡ Some WantsRoom → (goes m found).stage ≡ WaitForRoom
