@@ -1,5 +1,6 @@
 pub mod Ends
 pub mod Handshake
 pub mod Listing
+pub mod MarkFacts
 pub mod Sound
 pub mod Works

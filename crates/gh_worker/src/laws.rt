@@ -2,10 +2,14 @@
 //! words it is told.
 
 ghost use Rattle.gh_worker.specs.Handshake.{WorkersKeepHandshake};
+ghost use Rattle.gh_worker.specs.MarkFacts.{WorksByMoves};
 ghost use Rattle.gh_worker.specs.Works.{GlobalsAreClaimed, NothingIsHeldAtStops, PhasesAreKept, TakenObjectsAreScanned, WordsAreCounted, WorkersLeaveOnce};
 
+use gh_marks::laws::{facts_last, hands_follow, steps_go_by_moves};
 use gh_phase::laws::going_on_keeps_the_handshake;
-use gh_scan::laws::marking_is_quiet;
+use gh_scan::laws::{marking_is_quiet, scans_by_moves};
+use gh_shade::laws::shades_by_moves;
+use gh_wbuf::laws::buffers_pass_by_moves;
 
 /// Where a worker finds a stop it acknowledges that at once, and where it holds a buffer it gives that back
 /// first. It acknowledges for its own seat alone, the number of the stop that it found last, and with no
@@ -53,4 +57,18 @@ pub fn a_worker_keeps_the_handshake()
 {
     going_on_keeps_the_handshake();
     marking_is_quiet();
+}
+
+/// Whatever any number of actors do beside it while marking is on: each step of a worker is made of moves that
+/// its seat may make, and what is known at each stage holds then and lasts. It has in hand what the stage says
+/// and nothing else, so where it acknowledges a stop it has nothing.
+pub fn works_by_moves()
+    ensures { WorksByMoves }
+{
+    facts_last();
+    hands_follow();
+    steps_go_by_moves();
+    buffers_pass_by_moves();
+    shades_by_moves();
+    scans_by_moves();
 }

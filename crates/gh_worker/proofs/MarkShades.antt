@@ -1,0 +1,152 @@
+-- While marking is on a worker shades the global that it has read; with its mark the global is scanned. And all of a worker's steps together.
+use Rattle.std.proofs.Common.{◌≡◌, ℕ, ◌≤◌, Bool, true, false, cond, Option, Some, None, inl, inr, refl, sym, subst, arith}
+use Rattle.gh_base.specs.declared.cell.Cell.TheVariants as cell
+use Rattle.gh_base.specs.declared.held.Held.{Held}
+use Rattle.gh_base.specs.declared.layout.Layout.{Layout}
+use Rattle.gh_base.specs.Rows.{mark_words}
+use Rattle.gh_base.specs.Steps.{cell_of, effect}
+use Rattle.gh_marks.specs.Colours.{Cycle, IsClean, IsMarked, Shared}
+use Rattle.gh_marks.specs.Good.{Good}
+use Rattle.gh_marks.specs.Knows.{KnowsObjects}
+use Rattle.gh_marks.specs.Moves.{Keeps, Lands, Others, Quiet, ScanGlobal, Steps, landing, landing_on, lands_by, lands_still}
+use Rattle.gh_marks.specs.Seats.{Claim, ClaimOf, Hands, InHand, NoClaim, ReadOf, nothing}
+use Rattle.gh_phase.specs.Listing as resume
+use Rattle.gh_shade.specs.declared.shade.Shaded.{Shaded}
+use Rattle.gh_shade.specs.declared.shade.Shaded.TheVariants as shaded
+use Rattle.gh_shade.specs.declared.shade.ShadeStage.{ShadeStage}
+use Rattle.gh_shade.specs.declared.shade.ShadeStage.TheVariants.{LoadPage, SetMark, WaitForRoom, Enter, Ended}
+use Rattle.gh_shade.specs.Facts as shade_facts
+use Rattle.gh_shade.specs.Listing as shade
+use Rattle.gh_wbuf.specs.Facts as buffer_facts
+use Rattle.gh_wbuf.specs.RoomFinding as room
+use Rattle.gh_worker.specs.declared.worker.WorkerStage.{WorkerStage}
+use Rattle.gh_worker.specs.declared.worker.WorkerStage.TheVariants as worker
+use Rattle.gh_worker.specs.Listing.{Working, after_room, after_shade, asks_at, at_stage, goes_at}
+use Rattle.gh_worker.specs.MarkFacts.{Facts, KnowsCursor, StageFacts, WorksByMoves, claim_at, in_hand}
+use Rattle.gh_worker.proofs.MarkSteps.{Known, claims, gives, load-cursor, load-phase, read-global, resumed, resumes, scans, still, takes}
+
+-- what shading leaves to be known at its next stage, with the global that the worker has then
+abbrev Shading : Cycle → (a : ℕ) → Shared → Claim → shade.Shading → Type 0
+Shading z a t claim n = shade_facts.Facts z a t (in_hand None claim) n
+
+-- once the object is marked its global is scanned
+scans-global : (k : Known) (z : Cycle) (a i : ℕ) (t : Shared) (n : shade.Shading) → Good z t → Shading z a t (ReadOf i n.reference) n → IsMarked (mark_words t.words) (shade.object_of n.reference) → Lands z a t t.words (λ u. Shading z a u NoClaim n)
+scans-global k z a i t n good f marked = lands_by z a t t.words (λ u. Shading z a u NoClaim n) (ScanGlobal i n.reference) ((f.hands.has.is_read i n.reference).0 refl, clean) refl
+    (record { some = f.some; stage_is = f.stage_is; hands = (k.follow z a t (shade_facts.in_hand (in_hand None (ReadOf i n.reference)) n.held (shade_facts.pending_at (shade.object_of n.reference) n.stage)) good f.hands).scanned i n.reference refl }) where
+      clean : IsClean (mark_words t.words) (t.words (cell.Global i))
+      clean = elim (good.cursor.read i a n.reference ((f.hands.has.is_read i n.reference).0 refl)) [ inr c ↦ c | inl e ↦ named e ] where
+        named : t.words (cell.Global i) ≡ n.reference → IsClean (mark_words t.words) (t.words (cell.Global i))
+        named e o p =
+            let is : shade.object_of n.reference ≡ o = omega (arith, f.some, e, p) in
+            subst (λ (x : ℕ). IsMarked (mark_words t.words) x) is marked
+
+module _ (k : Known) (z : Cycle) (a : ℕ) (s : Shared) (g : Good z s) (objects : KnowsObjects z s) (cursor : KnowsCursor s) (w : Working) (layout_is : w.layout ≡ z.arena.layout) (seat_is : w.seat ≡ a) where
+  -- behind the mark the global is scanned, at whichever stage that leads to
+  behind-mark : (i : ℕ) (t : Shared) (m : shade.Shading) (whole : Bool) → Good z t → Shading z a t (ReadOf i m.reference) (shade.at_stage m (shade.after_mark m.held whole)) →
+      Lands z a t t.words (λ u. Shading z a u (claim_at i m.reference (shade.after_mark m.held whole)) (shade.at_stage m (shade.after_mark m.held whole)))
+  behind-mark i t m true good f = scans-global k z a i t (shade.at_stage m Ended) good f f.stage_is
+  behind-mark i t m false good f = by (shade.has_place m.held) f where
+    by : (b : Bool) → Shading z a t (ReadOf i m.reference) (shade.at_stage m (cond b Enter WaitForRoom)) → Lands z a t t.words (λ u. Shading z a u (claim_at i m.reference (cond b Enter WaitForRoom)) (shade.at_stage m (cond b Enter WaitForRoom)))
+    by true f = scans-global k z a i t (shade.at_stage m Enter) good f f.stage_is.0
+    by false f = scans-global k z a i t (shade.at_stage m WaitForRoom) good f f.stage_is
+
+  -- after a step of shading
+  claimed-then : (i : ℕ) (t : Shared) (m : shade.Shading) (p : ShadeStage) (n : ℕ) → m.stage ≡ p → Good z t → Shading z a t (claim_at i m.reference p) (shade.goes_at m p n) →
+      Lands z a t t.words (λ u. Shading z a u (claim_at i (shade.goes_at m p n).reference (shade.goes_at m p n).stage) (shade.goes_at m p n))
+  claimed-then i t m LoadPage n e good f = lands_still z a t t.words (λ u. Shading z a u (ReadOf i m.reference) (shade.goes_at m LoadPage n)) refl f
+  claimed-then i t m (SetMark noscan) n e good f = behind-mark i t m (shade.is_whole m noscan n) good f
+  claimed-then i t m WaitForRoom n e good f = lands_still z a t t.words (λ u. Shading z a u (claim_at i m.reference m.stage) m) refl (subst (λ (q : ShadeStage). Shading z a t (claim_at i m.reference q) m) (sym e) f)
+  claimed-then i t m Enter n e good f = lands_still z a t t.words (λ u. Shading z a u NoClaim (shade.goes_at m Enter n)) refl f
+  claimed-then i t m Ended n e good f = lands_still z a t t.words (λ u. Shading z a u (claim_at i m.reference m.stage) m) refl (subst (λ (q : ShadeStage). Shading z a t (claim_at i m.reference q) m) (sym e) f)
+
+  -- what is pending while room is looked for
+  abbrev pending : (reference : ℕ) → InHand
+  pending reference = record nothing { pending = Some (shade.object_of reference) }
+
+  module _ (t : Shared) (sh : shade.Shading) (n : ℕ) where
+    shaded-then : (i : ℕ) (out : Option Shaded) → shade.gives sh n ≡ out → Shading z a t (claim_at i (shade.goes sh n).reference (shade.goes sh n).stage) (shade.goes sh n) → Facts z a t (after_shade w (shade.goes sh n) out)
+    shaded-then i None e f = record { layout_is = layout_is; seat_is = seat_is; stage_is = (i, f) }
+    shaded-then i (Some shaded.Done) e f =
+        let ended : Shading z a t NoClaim (shade.goes sh n) = subst (λ (q : ShadeStage). Shading z a t (claim_at i (shade.goes sh n).reference q) (shade.goes sh n)) (k.shade.ended sh n e) f in
+        record { layout_is = layout_is; seat_is = seat_is; stage_is = (k.shade.ends z a t (in_hand None NoClaim) sh n e ended).hands }
+    shaded-then i (Some shaded.WantsRoom) e f =
+        let waiting : Shading z a t NoClaim (shade.goes sh n) = subst (λ (q : ShadeStage). Shading z a t (claim_at i (shade.goes sh n).reference q) (shade.goes sh n)) (k.shade.waiting sh n e) f in
+        let waits : shade_facts.WaitsForRoom a t (in_hand None NoClaim) (shade.goes sh n) = k.shade.wants z a t (in_hand None NoClaim) sh n e waiting in
+        let found : buffer_facts.RoomFacts z a t (pending (shade.goes sh n).reference) (room.opening z.arena.layout a (shade.goes sh n).held) = (k.buffers.begin z a t (pending (shade.goes sh n).reference) (shade.goes sh n).held waits.hands).finds in
+        record {
+          layout_is = layout_is;
+          seat_is = seat_is;
+          stage_is = (
+            waits.some,
+            waits.marked,
+            subst (λ (l : Layout). buffer_facts.RoomFacts z a t (pending (shade.goes sh n).reference) (room.opening l w.seat (shade.goes sh n).held)) (sym layout_is)
+                (subst (λ (b : ℕ). buffer_facts.RoomFacts z a t (pending (shade.goes sh n).reference) (room.opening z.arena.layout b (shade.goes sh n).held)) (sym seat_is) found),
+          );
+        }
+
+  shades : (sh : shade.Shading) (i : ℕ) → Shading z a s (claim_at i sh.reference sh.stage) sh → Steps z a s (shade.asks sh) (λ t. Facts z a t (goes_at w (worker.Shading sh) (s.words (cell_of (shade.asks sh)))))
+  shades sh i f =
+      let n : ℕ = s.words (cell_of (shade.asks sh)) in
+      landing z a s (effect s.words (shade.asks sh)) (λ u. Shading z a u (claim_at i (shade.goes sh n).reference (shade.goes sh n).stage) (shade.goes sh n)) (λ u. Facts z a u (after_shade w (shade.goes sh n) (shade.gives sh n)))
+      (λ u v h. shaded-then u sh n i (shade.gives sh n) refl h)
+      (landing_on z a s (effect s.words (shade.asks sh)) (λ t. Keeps z a s t × Shading z a t (claim_at i sh.reference sh.stage) (shade.goes sh n)) (λ u. Shading z a u (claim_at i (shade.goes sh n).reference (shade.goes sh n).stage) (shade.goes sh n))
+      (λ t v h. claimed-then i t sh sh.stage n refl (k.steps z a s t g v).good h.1)
+      (k.shade.keeps.own_step z a s (in_hand None (claim_at i sh.reference sh.stage)) sh g objects f))
+
+  -- the search for room
+  found-then : (t : Shared) (sh : shade.Shading) (r : room.RoomFinding) (n : ℕ) (out : Option Held) → room.gives r n ≡ out → 1 ≤ sh.reference → IsMarked (mark_words t.words) (shade.object_of sh.reference) → buffer_facts.RoomFacts z a s (pending sh.reference) r → buffer_facts.RoomFacts z a t (pending sh.reference) (room.goes r n) →
+      Facts z a t (after_room w sh (room.goes r n) out)
+  found-then t sh r n None e some marked was f = record { layout_is = layout_is; seat_is = seat_is; stage_is = (some, marked, f) }
+  found-then t sh r n (Some h) e some marked was f = record {
+    layout_is = layout_is;
+    seat_is = seat_is;
+    stage_is = (0, k.shade.told z a t (in_hand None NoClaim) sh h some marked (omega (arith, k.buffers.room a n r h was.knows e)) (subst (λ (held : Option Held). Hands a t (buffer_facts.holding (pending sh.reference) held)) (k.buffers.held n r h e) f.hands));
+  }
+
+  finds : (sh : shade.Shading) (r : room.RoomFinding) → 1 ≤ sh.reference → IsMarked (mark_words s.words) (shade.object_of sh.reference) → buffer_facts.RoomFacts z a s (pending sh.reference) r → Steps z a s (room.asks r) (λ t. Facts z a t (goes_at w (worker.FindRoom sh r) (s.words (cell_of (room.asks r)))))
+  finds sh r some marked f =
+      let n : ℕ = s.words (cell_of (room.asks r)) in
+      landing z a s (effect s.words (room.asks r)) (λ t. Keeps z a s t × buffer_facts.RoomFacts z a t (pending sh.reference) (room.goes r n)) (λ t. Facts z a t (after_room w sh (room.goes r n) (room.gives r n)))
+      (λ t v h. found-then t sh r n (room.gives r n) refl some (h.0.marks (shade.object_of sh.reference) marked) f h.1)
+      (k.buffers.finds.own_step z a s (pending sh.reference) r g objects f)
+
+  leaves : Hands a s (in_hand w.held NoClaim) → Steps z a s (asks_at w worker.Leave) (λ t. Facts z a t (goes_at w worker.Leave (s.words (cell_of (asks_at w worker.Leave)))))
+  leaves x = lands_by z a s (effect s.words (asks_at w worker.Leave)) (λ t. Facts z a t (at_stage w worker.Done)) (Quiet (asks_at w worker.Leave)) tt refl
+      (record { layout_is = layout_is; seat_is = seat_is; stage_is = (k.follow z a s (in_hand w.held NoClaim) g x).quiet (asks_at w worker.Leave) tt })
+
+  own-at : (p : WorkerStage) → Facts z a s w → StageFacts z a s w.held p → Steps z a s (asks_at w p) (λ t. Facts z a t (goes_at w p (s.words (cell_of (asks_at w p)))))
+  own-at worker.LoadPhase whole x = load-phase k z a s g objects cursor w layout_is seat_is x
+  own-at (worker.GiveBack m number) whole x = gives k z a s g objects cursor w layout_is seat_is m number x
+  own-at (worker.Resuming r) whole x =
+      let n : ℕ = s.words (cell_of (resume.asks r)) in
+      resumes k z a s g objects cursor w layout_is seat_is r r.stage (goes_at w (worker.Resuming r) n) x.0 (λ t h. resumed k z a s g objects cursor w layout_is seat_is (resume.goes r n) (resume.gives r n) t x.1 h)
+  own-at (worker.Taking m) whole x = takes k z a s g objects cursor w layout_is seat_is m x
+  own-at (worker.Scanning m) whole x = scans k z a s g objects cursor w layout_is seat_is m x
+  own-at worker.LoadCursor whole x = load-cursor k z a s g objects cursor w layout_is seat_is x
+  own-at worker.Claim whole x = claims k z a s g objects cursor w layout_is seat_is x
+  own-at (worker.LoadGlobal i) whole x = read-global k z a s g objects cursor w layout_is seat_is i x.1
+  own-at (worker.Shading sh) whole x = shades sh x.0 x.1
+  own-at (worker.FindRoom sh r) whole x = finds sh r x.0 x.1 x.2
+  own-at worker.Leave whole x = leaves x
+  own-at worker.Done whole x = still k z a s g objects cursor w layout_is seat_is cell.Touch w whole
+
+stage-lasts : (k : Known) (z : Cycle) (a : ℕ) (s t : Shared) (held : Option Held) (p : WorkerStage) → Others z a s t → StageFacts z a s held p → StageFacts z a t held p
+stage-lasts k z a s t held worker.LoadPhase o x = k.last z a s t (in_hand held NoClaim) o x
+stage-lasts k z a s t held (worker.GiveBack m number) o x = k.buffers.gives.lasts z a s t nothing m o x
+stage-lasts k z a s t held (worker.Resuming r) o x = (k.last z a s t nothing o x.0, x.1)
+stage-lasts k z a s t held (worker.Taking m) o x = k.buffers.takes.lasts z a s t nothing m o x
+stage-lasts k z a s t held (worker.Scanning m) o x = k.scan.keeps.lasts z a s t nothing m o x
+stage-lasts k z a s t held worker.LoadCursor o x = k.last z a s t (in_hand held NoClaim) o x
+stage-lasts k z a s t held worker.Claim o x = k.last z a s t (in_hand held NoClaim) o x
+stage-lasts k z a s t held (worker.LoadGlobal i) o x = (x.0, k.last z a s t (in_hand held (ClaimOf i)) o x.1)
+stage-lasts k z a s t held (worker.Shading sh) o x = (x.0, k.shade.keeps.lasts z a s t (in_hand None (claim_at x.0 sh.reference sh.stage)) sh o x.1)
+stage-lasts k z a s t held (worker.FindRoom sh r) o x = (x.0, o.keeps.marks (shade.object_of sh.reference) x.1, k.buffers.finds.lasts z a s t (record nothing { pending = Some (shade.object_of sh.reference) }) r o x.2)
+stage-lasts k z a s t held worker.Leave o x = k.last z a s t (in_hand held NoClaim) o x
+stage-lasts k z a s t held worker.Done o x = k.last z a s t (in_hand held NoClaim) o x
+
+pub works-by-moves : Known → WorksByMoves
+works-by-moves k = record {
+  begins = λ z a s x. record { layout_is = refl; seat_is = refl; stage_is = x };
+  own_step = λ z a s w g objects cursor f. own-at k z a s g objects cursor w f.layout_is f.seat_is w.stage f f.stage_is;
+  lasts = λ z a s t w o f. record { layout_is = f.layout_is; seat_is = f.seat_is; stage_is = stage-lasts k z a s t w.held w.stage o f.stage_is };
+}

@@ -1,0 +1,210 @@
+-- While marking is on a worker's steps are moves that its seat may make. Of the moves and of its routines it is known what their laws say.
+use Rattle.std.proofs.Common.{◌≡◌, ◌≢◌, ℕ, ◌+◌, ◌-◌, ◌*◌, ◌<◌, ◌≤◌, Bool, true, false, cond, eqb, ltb, Option, Some, None, refl, sym, ap, subst, ◌∙◌, arith}
+use Rattle.std.proofs.Math.Nat.{mod-eq_of_lt}
+use Rattle.std.proofs.lemmas.Bool.{eqb-true, eq-eqb, ltb-true, ltb-false}
+use Rattle.gh_base.specs.declared.cell.Ask.{Ask}
+use Rattle.gh_base.specs.declared.cell.Ask.TheVariants.{Load, Store, Add}
+use Rattle.gh_base.specs.declared.cell.Cell.{Cell}
+use Rattle.gh_base.specs.declared.cell.Cell.TheVariants as cell
+use Rattle.gh_base.specs.declared.held.Held.{Held}
+use Rattle.gh_base.specs.declared.layout.Layout.{Layout}
+use Rattle.gh_base.specs.declared.pack.Phase.{Phase}
+use Rattle.gh_base.specs.declared.pack.Phase.TheVariants.{Off, Mark, Stop, Finished}
+use Rattle.gh_base.specs.Cells.{put}
+use Rattle.gh_base.specs.Packing.{phase_of}
+use Rattle.gh_base.specs.Steps.{cell_of, effect}
+use Rattle.gh_marks.specs.Colours.{Cycle, Shared, Taken}
+use Rattle.gh_marks.specs.Good.{Good}
+use Rattle.gh_marks.specs.Knows.{KnowsObject, KnowsObjects}
+use Rattle.gh_marks.specs.Laws.{EachHandFollows, EachHandLasts, EachStepGoesByMoves}
+use Rattle.gh_marks.specs.Moves.{ClaimGlobal, IsQuiet, Keeps, Lands, PassGlobals, Quiet, ReadGlobal, ScanGlobal, Steps, Went, landing, landing_on, lands_by, lands_still, moved}
+use Rattle.gh_marks.specs.Seats.{ClaimOf, Hands, InHand, NoClaim, ReadOf, nothing}
+use Rattle.gh_phase.specs.declared.resume.Resumed.{Resumed}
+use Rattle.gh_phase.specs.declared.resume.ResumeStage.{ResumeStage}
+use Rattle.gh_phase.specs.declared.resume.ResumeStage.TheVariants as resume_stage
+use Rattle.gh_phase.specs.Listing as resume
+use Rattle.gh_scan.specs.declared.scan.ScanStage.{ScanStage}
+use Rattle.gh_scan.specs.declared.scan.ScanStage.TheVariants as scan_stage
+use Rattle.gh_scan.specs.Facts as scan_facts
+use Rattle.gh_scan.specs.Listing as scan
+use Rattle.gh_scan.specs.Listing.{reference_in}
+use Rattle.gh_shade.specs.Facts as shade_facts
+use Rattle.gh_shade.specs.Listing as shade
+use Rattle.gh_wbuf.specs.BufferGiving as give
+use Rattle.gh_wbuf.specs.EntryTaking as take
+use Rattle.gh_wbuf.specs.Facts as buffer_facts
+use Rattle.gh_worker.specs.declared.worker.WorkerStage.{WorkerStage}
+use Rattle.gh_worker.specs.declared.worker.WorkerStage.TheVariants as worker
+use Rattle.gh_worker.specs.Listing.{Working, after_give, after_global, after_resume, after_scan, after_take, at_stage, by_phase, done_with, goes_at, stops_at}
+use Rattle.gh_worker.specs.MarkFacts.{Facts, KnowsCursor, StageFacts, in_hand}
+
+pub record Known : Type 0 where
+  pub last : EachHandLasts
+  pub follow : EachHandFollows
+  pub steps : EachStepGoesByMoves
+  pub buffers : buffer_facts.BuffersPassByMoves
+  pub shade : shade_facts.ShadesByMoves
+  pub scan : scan_facts.ScansByMoves
+
+module _ (k : Known) (z : Cycle) (a : ℕ) (s : Shared) (g : Good z s) (objects : KnowsObjects z s) (cursor : KnowsCursor s) (w : Working) (layout_is : w.layout ≡ z.arena.layout) (seat_is : w.seat ≡ a) where
+  abbrev Leads : Ask → Working → Type 0
+  Leads ask n = Steps z a s ask (λ t. Facts z a t n)
+
+  -- it lands where it is, with the facts of the next stage
+  pub still : (c : Cell) (n : Working) → Facts z a s n → Leads (Load c) n
+  still c n f = lands_still z a s s.words (λ t. Facts z a t n) refl f
+
+  -- the same worker, with another buffer, at another stage
+  same : (t : Shared) (held : Option Held) (marks : ℕ) (stage : WorkerStage) → StageFacts z a t held stage → Facts z a t (record w { held = held; marks = marks; stage = stage })
+  same t held marks stage f = record { layout_is = layout_is; seat_is = seat_is; stage_is = f }
+
+  pub begin : (t : Shared) (rest : InHand) (held : Option Held) → Hands a t (buffer_facts.holding rest held) → buffer_facts.FactsBegin z a t rest held
+  begin t rest held x = k.buffers.begin z a t rest held x
+
+  -- the phase
+  stops : (number : ℕ) (held : Option Held) → w.held ≡ held → Hands a s (in_hand held NoClaim) → StageFacts z a s w.held (stops_at w number held)
+  stops number None e x = (x, e)
+  stops number (Some h) e x = subst (λ (l : Layout). buffer_facts.GiveFacts z a s nothing (give.opening l h)) (sym layout_is) ((begin s nothing (Some h) x).gives h refl)
+
+  phases : (number : ℕ) (phase : Phase) → Hands a s (in_hand w.held NoClaim) → StageFacts z a s w.held (by_phase w number phase)
+  phases number Off x = x
+  phases number Mark x = subst (λ (l : Layout). buffer_facts.TakeFacts z a s nothing (take.opening l w.seat w.held)) (sym layout_is)
+      (subst (λ (b : ℕ). buffer_facts.TakeFacts z a s nothing (take.opening z.arena.layout b w.held)) (sym seat_is) ((begin s nothing w.held x).takes refl))
+  phases number Stop x = stops number w.held refl x
+  phases number Finished x = x
+
+  pub load-phase : Hands a s (in_hand w.held NoClaim) → Leads (Load cell.Phase) (goes_at w worker.LoadPhase (s.words cell.Phase))
+  load-phase x = still cell.Phase (goes_at w worker.LoadPhase (s.words cell.Phase)) (same s w.held w.marks (by_phase w (phase_of (s.words cell.Phase)).stops (phase_of (s.words cell.Phase)).phase) (phases (phase_of (s.words cell.Phase)).stops (phase_of (s.words cell.Phase)).phase x))
+
+  -- a buffer is given back
+  pub gives : (m : give.BufferGiving) (number : ℕ) → buffer_facts.GiveFacts z a s nothing m → Leads (give.asks m) (goes_at w (worker.GiveBack m number) (s.words (cell_of (give.asks m))))
+  gives m number f = landing z a s (effect s.words (give.asks m)) (λ t. Keeps z a s t × buffer_facts.GiveFacts z a t nothing (give.goes m n)) (λ t. Facts z a t (after_give w (give.goes m n) number (give.gives m n)))
+      (λ t w h. then t h.1 (give.gives m n))
+      (k.buffers.gives.own_step z a s nothing m g objects f) where
+        n : ℕ
+        n = s.words (cell_of (give.asks m))
+
+        then : (t : Shared) → buffer_facts.GiveFacts z a t nothing (give.goes m n) → (out : Option (Unit {0})) → Facts z a t (after_give w (give.goes m n) number out)
+        then t f None = same t w.held w.marks (worker.GiveBack (give.goes m n) number) f
+        then t f (Some x) = record { layout_is = layout_is; seat_is = seat_is; stage_is = (f.hands, refl) }
+
+  -- a stop is acknowledged
+  quiet-step : (step : Ask) (n : Working) → IsQuiet s step → Hands a s nothing → ((t : Shared) → Hands a t nothing → Facts z a t n) → Leads step n
+  quiet-step step n may x f = lands_by z a s (effect s.words step) (λ t. Facts z a t n) (Quiet step) may refl (f (moved z a s (Quiet step)) ((k.follow z a s nothing g x).quiet step may))
+
+  pub resumes : (r : resume.Resuming) (p : ResumeStage) → (n : Working) → Hands a s nothing → ((t : Shared) → Hands a t nothing → Facts z a t n) → Leads (resume.asks_at r p) n
+  resumes r resume_stage.Acknowledge n x f = quiet-step (Store (cell.Ack r.seat) r.stops) n tt x f
+  resumes r resume_stage.LoadPhase n x f = still cell.Phase n (f s x)
+  resumes r resume_stage.LoadGeneration n x f = still cell.Gen n (f s x)
+  resumes r resume_stage.LoadBegun n x f = still cell.Begun n (f s x)
+  resumes r resume_stage.Ended n x f = still cell.Touch n (f s x)
+
+  pub resumed : (r : resume.Resuming) (out : Option Resumed) (t : Shared) → w.held ≡ None → Hands a t nothing → Facts z a t (after_resume w r out)
+  resumed r None t e x = record { layout_is = layout_is; seat_is = seat_is; stage_is = (x, e) }
+  resumed r (Some out) t e x = record { layout_is = layout_is; seat_is = seat_is; stage_is = subst (λ (held : Option Held). Hands a t (in_hand held NoClaim)) (sym e) x }
+
+  -- an object is taken
+  taken-then : (t : Shared) → Good z t → (m : take.EntryTaking) (out : Option (Option ℕ)) → buffer_facts.TakeComes z a t nothing out m → Facts z a t (after_take w m out)
+  taken-then t good m None f = same t w.held w.marks (worker.Taking m) f
+  taken-then t good m (Some None) f = same t (take.held_at m.stage) w.marks worker.LoadCursor f
+  taken-then t good m (Some (Some reference)) f = same t (take.held_at m.stage) w.marks (worker.Scanning (scan.opening w.layout w.seat reference (take.held_at m.stage))) (
+      subst (λ (l : Layout). scan_facts.Facts z a t nothing (scan.opening l w.seat reference (take.held_at m.stage))) (sym layout_is)
+      (subst (λ (b : ℕ). scan_facts.Facts z a t nothing (scan.opening z.arena.layout b reference (take.held_at m.stage))) (sym seat_is)
+      (k.scan.begins z a t nothing reference (take.held_at m.stage) known f.hands))
+      ) where
+        is : t.colour (reference - 1) ≡ Taken a
+        is = (f.hands.has.is_taken (reference - 1)).0 refl
+
+        known : t.since (reference - 1) ≡ true
+        known = good.objects.shaded (reference - 1) (rw is tt)
+
+  pub takes : (m : take.EntryTaking) → buffer_facts.TakeFacts z a s nothing m → Leads (take.asks m) (goes_at w (worker.Taking m) (s.words (cell_of (take.asks m))))
+  takes m f =
+      let n : ℕ = s.words (cell_of (take.asks m)) in
+      landing z a s (effect s.words (take.asks m)) (λ t. Keeps z a s t × buffer_facts.TakeComes z a t nothing (take.gives m n) (take.goes m n)) (λ t. Facts z a t (after_take w (take.goes m n) (take.gives m n)))
+      (λ t v h. taken-then t (k.steps z a s t g v).good (take.goes m n) (take.gives m n) h.1)
+      (k.buffers.takes.own_step z a s nothing m g objects f)
+
+  -- it is scanned
+  held-given : (slot words : ℕ) (held : Option Held) (p : ScanStage) → scan.given_at slot p ≡ Some words → scan.held_at held p ≡ held
+  held-given slot words held scan_stage.LoadPage e = refl
+  held-given slot words held scan_stage.LoadBitmap e = refl
+  held-given slot words held scan_stage.LoadField e = refl
+  held-given slot words held (scan_stage.Shading sh) e = absurd (cc)
+  held-given slot words held (scan_stage.FindRoom sh r) e = absurd (cc)
+  held-given slot words held scan_stage.Ended e = refl
+
+  scanned-then : (t : Shared) (m : scan.Scanning) (n : ℕ) (out : Option ℕ) → scan.gives m n ≡ out → scan_facts.Facts z a t nothing (scan.goes m n) → Facts z a t (after_scan w (scan.goes m n) out)
+  scanned-then t m n None e f = same t w.held w.marks (worker.Scanning (scan.goes m n)) f
+  scanned-then t m n (Some words) e f = record {
+    layout_is = layout_is;
+    seat_is = seat_is;
+    stage_is = subst (λ (held : Option Held). Hands a t (in_hand held NoClaim)) (sym (held-given (scan.goes m n).slot words (scan.goes m n).held (scan.goes m n).stage e)) (k.scan.ends z a t nothing m n words e f);
+  }
+
+  pub scans : (m : scan.Scanning) → scan_facts.Facts z a s nothing m → Leads (scan.asks m) (goes_at w (worker.Scanning m) (s.words (cell_of (scan.asks m))))
+  scans m f =
+      let n : ℕ = s.words (cell_of (scan.asks m)) in
+      landing z a s (effect s.words (scan.asks m)) (λ t. Keeps z a s t × scan_facts.Facts z a t nothing (scan.goes m n)) (λ t. Facts z a t (after_scan w (scan.goes m n) (scan.gives m n)))
+      (λ t v h. scanned-then t m n (scan.gives m n) refl h.1)
+      (k.scan.keeps.own_step z a s nothing m g objects f)
+
+  -- the cursor
+  pub load-cursor : Hands a s (in_hand w.held NoClaim) → Leads (Load cell.Gcur) (goes_at w worker.LoadCursor (s.words cell.Gcur))
+  load-cursor x = by (ltb (s.words cell.Gcur) w.layout.globals) where
+    by : (b : Bool) → Leads (Load cell.Gcur) (at_stage w (cond b worker.Claim worker.LoadPhase))
+    by true = still cell.Gcur (at_stage w worker.Claim) (same s w.held w.marks worker.Claim x)
+    by false = still cell.Gcur (at_stage w worker.LoadPhase) (same s w.held w.marks worker.LoadPhase x)
+
+  pub claims : Hands a s (in_hand w.held NoClaim) → Leads (Add cell.Gcur 1) (goes_at w worker.Claim (s.words cell.Gcur))
+  claims x = by (ltb c w.layout.globals) refl where
+    c : ℕ
+    c = s.words cell.Gcur
+
+    sum : put s.words cell.Gcur (c + 1) ≡ effect s.words (Add cell.Gcur 1)
+    sum = ap (λ (n : ℕ). put s.words cell.Gcur n) (sym (mod-eq_of_lt cursor))
+
+    by : (b : Bool) → ltb c w.layout.globals ≡ b → Leads (Add cell.Gcur 1) (at_stage w (cond b (worker.LoadGlobal c) worker.LoadPhase))
+    by true e =
+        let less : c < w.layout.globals = ltb-true _ _ e in
+        let inside : c < z.arena.layout.globals = subst (λ (l : Layout). c < l.globals) layout_is less in
+        lands_by z a s (effect s.words (Add cell.Gcur 1)) (λ t. Facts z a t (at_stage w (worker.LoadGlobal c))) (ClaimGlobal c) (refl, inside) sum
+        (same (moved z a s (ClaimGlobal c)) w.held w.marks (worker.LoadGlobal c) (inside, (k.follow z a s (in_hand w.held NoClaim) g x).claimed c (refl, inside) refl))
+    by false e =
+        let more : w.layout.globals ≤ c = ltb-false _ _ e in
+        let behind : z.arena.layout.globals ≤ c = subst (λ (l : Layout). l.globals ≤ c) layout_is more in
+        lands_by z a s (effect s.words (Add cell.Gcur 1)) (λ t. Facts z a t (at_stage w worker.LoadPhase)) (PassGlobals c) (refl, behind) sum
+        (same (moved z a s (PassGlobals c)) w.held w.marks worker.LoadPhase ((k.follow z a s (in_hand w.held NoClaim) g x).passed c))
+
+  -- a global is read
+  abbrev read : ℕ → Shared
+  read i = moved z a s (ReadGlobal i)
+
+  pub read-global : (i : ℕ) → Hands a s (in_hand w.held (ClaimOf i)) → Leads (Load (cell.Global i)) (after_global w (s.words (cell.Global i)))
+  read-global i x = landing_on z a s s.words (λ t. Hands a t (in_hand w.held (ReadOf i v)) × (t ≡ moved z a s (ReadGlobal i))) (λ t. Facts z a t (after_global w v))
+      (λ t went h. subst (λ (u : Shared). Lands z a u u.words (λ t. Facts z a t (after_global w v))) (sym h.1) (then (k.steps z a s (moved z a s (ReadGlobal i)) g (subst (Went z a s) h.1 went)).good))
+      (lands_by z a s s.words (λ t. Hands a t (in_hand w.held (ReadOf i v)) × (t ≡ moved z a s (ReadGlobal i))) (ReadGlobal i) ((x.has.is_claimed i).0 refl) refl (reads, refl)) where
+        v : ℕ
+        v = s.words (cell.Global i)
+
+        reads : Hands a (read i) (in_hand w.held (ReadOf i v))
+        reads = (k.follow z a s (in_hand w.held (ClaimOf i)) g x).read i refl
+
+        then : Good z (read i) → Lands z a (read i) (read i).words (λ u. Facts z a u (after_global w v))
+        then good = by (eqb v 0) refl where
+          by : (b : Bool) → eqb v 0 ≡ b → Lands z a (read i) (read i).words (λ u. Facts z a u (cond b (done_with w w.held 1) (at_stage w (worker.Shading (shade.opening w.layout (reference_in w.layout v) w.held)))))
+          by true e = lands_by z a (read i) (read i).words (λ u. Facts z a u (done_with w w.held 1)) (ScanGlobal i v) ((reads.has.is_read i v).0 refl, λ o p. absurd (nil o (eqb-true _ _ e) p)) refl
+              (record { layout_is = layout_is; seat_is = seat_is; stage_is = (k.follow z a (read i) (in_hand w.held (ReadOf i v)) good reads).scanned i v refl }) where
+                nil : (o : ℕ) → v ≡ 0 → v ≡ o + 1 → ⊥
+                nil o e p = omega arith
+          by false e =
+              let some : v ≢ 0 = λ n. absurd (cc (e, eq-eqb _ _ n)) in
+              let is : v ≡ (v - 1) + 1 = omega arith in
+              let known : s.since (v - 1) ≡ true = g.values.globals i (v - 1) is in
+              let there : KnowsObject z.arena.layout.pages _ _ s.extents (v - 1) = objects (v - 1) known in
+              let within : v - 1 < 1024 * z.arena.layout.pages = omega (arith, there.within, there.some) in
+              let inside : v - 1 < 1024 * w.layout.pages = rw layout_is within in
+              let reference : reference_in w.layout v ≡ v = ap (λ (n : ℕ). n + 1) (mod-eq_of_lt inside) ∙ sym is in
+              let hands : Hands a (read i) (shade_facts.in_hand (in_hand None (ReadOf i (reference_in w.layout v))) w.held None) = subst (λ (n : ℕ). Hands a (read i) (in_hand w.held (ReadOf i n))) (sym reference) reads in
+              lands_still z a (read i) (read i).words (λ u. Facts z a u (at_stage w (worker.Shading (shade.opening w.layout (reference_in w.layout v) w.held)))) refl
+              (same (read i) w.held w.marks (worker.Shading (shade.opening w.layout (reference_in w.layout v) w.held)) (i, k.shade.begins z a (read i) (in_hand None (ReadOf i (reference_in w.layout v))) w.layout (reference_in w.layout v) w.held (omega arith) (ap (λ (n : ℕ). s.since (n - 1)) reference ∙ known) hands))

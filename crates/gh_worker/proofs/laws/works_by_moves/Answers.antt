@@ -1,0 +1,12 @@
+use Rattle.gh_worker.proofs.MarkShades.{works-by-moves}
+use Rattle.gh_worker.proofs.laws.works_by_moves.Goals as goal
+
+pub returns : goal.returns
+returns c = works-by-moves (record {
+  last = c.facts_last.ensures.hands;
+  follow = c.hands_follow.ensures;
+  steps = c.steps_go_by_moves.ensures;
+  buffers = c.buffers_pass_by_moves.ensures;
+  shade = c.shades_by_moves.ensures;
+  scan = c.scans_by_moves.ensures;
+})
