@@ -25,7 +25,7 @@ use Rattle.gh_mutator.specs.MarkStack as mark
 use Rattle.gh_mutator.specs.Poll.{after_mark, after_resume, after_room, asks, asks_at, at_stage, by_phase, counted, due, given, giving, goes, has_two, marks_then, Polling, resumed, room_stage, scans, stops_then}
 use Rattle.gh_mutator.specs.ShadeSteps.{ShadesEach}
 use Rattle.gh_mutator.specs.StackMarks.{named}
-use Rattle.gh_mutator.specs.Polls.{after, EndsBy, HasScanned, IsScanning, learns, learnt, polls_behind, ScansOne, TellsScanned}
+use Rattle.gh_mutator.specs.Polls.{after, EndsBy, HasScanned, IsScanning, learns, learnt, polls_behind, ScansOne, StagesOnTheWay, TellsScanned}
 use Rattle.gh_mutator.proofs.Aims.{aim, differs, give_aim, is_ack, is_take, Marks, resume_aim, room_aim, Scans, Takes}
 use Rattle.gh_mutator.proofs.Due.{due_scans, none_scans, one_due, scans_by}
 use Rattle.gh_mutator.proofs.Resuming.{another_is, begun_stays}
@@ -245,6 +245,30 @@ module _ (l : Layout) (seat : ℕ) (waits : Bool) (local : Local) (found : ℕ �
   takes_at n own (Giving g stops) i old new is k e = absurd (let no = sym (give_aim g g.stage) ∙ ap aim e in cc)
   takes_at n own (Resuming r) i old new is k e = absurd (differs is_ack (aim (resume.asks r)) Takes (resume_aim r r.stage) refl (ap aim e))
   takes_at n own Ended i old new is k e = absurd (cc)
+
+  scans_at : (n : ℕ) (own : Local) (stage : PollStage) (g : ℕ) (m : mark.StackMarking) → Knows n own stage → stage ≡ Marking g m → ScansOne l seat own g
+  scans_at n own (Marking h t) g m k e = let same : h ≡ g = cc in subst (λ (x : ℕ). ScansOne l seat own x) same (due_scans l seat waits own h k.on k.due_is)
+  scans_at n own LoadPhase g m k e = absurd (cc)
+  scans_at n own (Giving x stops) g m k e = absurd (cc)
+  scans_at n own (Resuming r) g m k e = absurd (cc)
+  scans_at n own (FindRoom r) g m k e = absurd (cc)
+  scans_at n own Ended g m k e = absurd (cc)
+
+  room_at : (n : ℕ) (own : Local) (stage : PollStage) (r : room.RoomFinding) → Knows n own stage → stage ≡ FindRoom r → waits ≡ false
+  room_at n own (FindRoom t) r k e = k.0
+  room_at n own LoadPhase r k e = absurd (cc)
+  room_at n own (Giving x stops) r k e = absurd (cc)
+  room_at n own (Resuming t) r k e = absurd (cc)
+  room_at n own (Marking g m) r k e = absurd (cc)
+  room_at n own Ended r k e = absurd (cc)
+
+  pub on_the_way : StagesOnTheWay l seat local waits found
+  on_the_way = record {
+    scans = λ n g m e.
+        let i = stands n in
+        subst (λ (p : Polling). ScansOne l seat p.local g) (sym i.is) (scans_at n i.own i.stage g m i.knows (sym (ap (λ (p : Polling). p.stage) i.is) ∙ e));
+    room = λ n r e. let i = stands n in room_at n i.own i.stage r i.knows (sym (ap (λ (p : Polling). p.stage) i.is) ∙ e);
+  }
 
   tells_at : (n : ℕ) (own : Local) (stage : PollStage) (g cycle : ℕ) → now n ≡ state own stage → Knows n own stage → asks_at stage ≡ Store (cell.Scanned g) cycle → TellsScanned l seat local waits found n g cycle
   tells_at n own (Marking h m) g cycle is k e =

@@ -130,6 +130,7 @@ module _ (l : Layout) (seat : ℕ) (local : Local) (waits : Bool) (found : ℕ �
 
   pub polls_so : PollsSo l seat local waits found
   polls_so = record {
+    on_the_way = scanned_so.on_the_way l seat waits local found;
     begins = refl;
     acknowledges = λ n j number e. acks_is l seat waits (after l seat local waits found n) j number (stands n) e;
     marks = λ n i bits e. scanned_so.marks l seat waits local found n i bits e;

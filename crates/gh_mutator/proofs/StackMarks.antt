@@ -12,6 +12,8 @@ use Rattle.gh_base.specs.declared.value.Value.{Value}
 use Rattle.gh_base.specs.declared.value.Value.TheVariants as value
 use Rattle.gh_base.specs.Packing.{page_noscan, page_of}
 use Rattle.gh_scan.specs.Listing.{reference_in}
+use Rattle.gh_shade.specs.declared.shade.Shaded.{Shaded}
+use Rattle.gh_shade.specs.declared.shade.Shaded.TheVariants as shaded
 use Rattle.gh_shade.specs.declared.shade.ShadeStage.{ShadeStage}
 use Rattle.gh_shade.specs.declared.shade.ShadeStage.TheVariants as shade_stage
 use Rattle.gh_shade.specs.Listing as shade
@@ -29,7 +31,7 @@ use Rattle.gh_mutator.specs.declared.mark_stack.MarkStackStage.{MarkStackStage}
 use Rattle.gh_mutator.specs.declared.mark_stack.MarkStackStage.TheVariants.{Shading, FindRoom, Store, Ended}
 use Rattle.gh_mutator.specs.MarkStack.{after_room, after_shade, asks, asks_at, by_wish, gives_at, goes, goes_on, opening, StackMarking}
 use Rattle.gh_mutator.specs.ShadeSteps.{IsOfRoom, Marks, Shades, ShadesEach, is_whole}
-use Rattle.gh_mutator.specs.StackMarks.{after, MarksStack, named}
+use Rattle.gh_mutator.specs.StackMarks.{after, IsWished, MarksStack, named, WishesOnTheWay}
 use Rattle.gh_mutator.proofs.Aims.{aim, Scans, differs, is_mark, is_take, room_aim, shade_aim}
 use Rattle.gh_mutator.proofs.Lists.{drop_next}
 use Rattle.gh_mutator.proofs.StackMarking.{first_going}
@@ -318,6 +320,42 @@ module _ (l : Layout) (seat goroutine cycle : ℕ) (registers : List Value) wher
     pub stores_then : (n : ℕ) (m : StackMarking) → Is n m → gives_at m.stage ≡ Some tt → asks m ≡ ask.Store (cell.Scanned goroutine) cycle
     stores_then n m i e = ap asks i.is ∙ stores_at n i.own i.at i.stage i.knows (sym (ap (λ (x : StackMarking). gives_at x.stage) i.is) ∙ e)
 
+    -- what is being shaded is what the scan wishes for
+    wished_is : (at : StackStage) (sh : shade.Shading) (mid : ℕ) → AtRegister at sh.reference mid → IsWished l (scan_at at) sh
+    wished_is at sh mid r = record { wish = r.wish; wished = ap stack.wish_of r.at_is; reference_is = r.reference_is }
+
+    shades_at : (n : ℕ) (at : StackStage) (stage : MarkStackStage) (sh : shade.Shading) → Knows n at stage → stage ≡ Shading sh → IsWished l (scan_at at) sh
+    shades_at n at (Shading x) sh k e = let same : x ≡ sh = cc in subst (λ (y : shade.Shading). IsWished l (scan_at at) y) same (wished_is at x k.mid k.at_register)
+    shades_at n at (FindRoom x r) sh k e = absurd (cc)
+    shades_at n at Store sh k e = absurd (cc)
+    shades_at n at Ended sh k e = absurd (cc)
+
+    pub shades_is : (n : ℕ) (m : StackMarking) (sh : shade.Shading) → Is n m → m.stage ≡ Shading sh → IsWished l m.scan sh
+    shades_is n m sh i e = subst (λ (x : StackMarking). IsWished l x.scan sh) (sym i.is) (shades_at n i.at i.stage sh i.knows (sym (ap (λ (x : StackMarking). x.stage) i.is) ∙ e))
+
+    waits_at : (n : ℕ) (at : StackStage) (stage : MarkStackStage) (sh : shade.Shading) (r : room.RoomFinding) → Knows n at stage → stage ≡ FindRoom sh r → IsWished l (scan_at at) sh
+    waits_at n at (FindRoom x y) sh r k e = let same : x ≡ sh = cc in subst (λ (z : shade.Shading). IsWished l (scan_at at) z) same (wished_is at x k.mid k.at_register)
+    waits_at n at (Shading x) sh r k e = absurd (cc)
+    waits_at n at Store sh r k e = absurd (cc)
+    waits_at n at Ended sh r k e = absurd (cc)
+
+    pub waits_is : (n : ℕ) (m : StackMarking) (sh : shade.Shading) (r : room.RoomFinding) → Is n m → m.stage ≡ FindRoom sh r → IsWished l m.scan sh
+    waits_is n m sh r i e = subst (λ (x : StackMarking). IsWished l x.scan sh) (sym i.is) (waits_at n i.at i.stage sh r i.knows (sym (ap (λ (x : StackMarking). x.stage) i.is) ∙ e))
+
+    no_wish_at : (n : ℕ) (at : StackStage) (stage : MarkStackStage) → Knows n at stage → gives_at stage ≡ Some tt → stack.wish_of at ≡ None
+    no_wish_at n at Store k e = ap stack.wish_of k.at_is
+    no_wish_at n at (Shading sh) k e = absurd (cc)
+    no_wish_at n at (FindRoom sh r) k e = absurd (cc)
+    no_wish_at n at Ended k e = absurd (cc)
+
+    pub no_wish_then : (n : ℕ) (m : StackMarking) → Is n m → gives_at m.stage ≡ Some tt → stack.wish_of m.scan.stage ≡ None
+    no_wish_then n m i e = ap (λ (x : StackMarking). stack.wish_of x.scan.stage) i.is ∙ no_wish_at n i.at i.stage i.knows (sym (ap (λ (x : StackMarking). gives_at x.stage) i.is) ∙ e)
+
+  tells_at : (m : StackMarking) (w : ℕ) (sh : shade.Shading) → m.stage ≡ Shading sh → shade.gives sh w ≡ Some shaded.Done → (goes m w).scan ≡ stack.told_shaded m.scan
+  tells_at m w sh e g =
+      ap (λ (s : MarkStackStage). (goes (record m { stage = s }) w).scan) e
+      ∙ ap (λ (o : Option Shaded). (after_shade (record m { stage = Shading sh }) (shade.goes sh w) o).scan) g
+
   module _ (held : Option Held) (found : ℕ → ℕ) where
     abbrev now : ℕ → StackMarking
     now n = after l seat goroutine cycle registers held found n
@@ -329,8 +367,18 @@ module _ (l : Layout) (seat goroutine cycle : ℕ) (registers : List Value) wher
     stands zero = begins_is steps found 0 held
     stands (suc n) = goes_is steps found 0 n (now n) (stands n) refl
 
+    on_the_way : WishesOnTheWay l seat goroutine cycle registers held found
+    on_the_way = record {
+      begins = refl;
+      shades = λ n sh e. shades_is steps found 0 n (now n) sh (stands n) e;
+      waits = λ n sh r e. waits_is steps found 0 n (now n) sh r (stands n) e;
+      tells = λ n sh e g. tells_at (now n) (found n) sh e g;
+      no_wish = λ n e. no_wish_then steps found 0 n (now n) (stands n) e;
+    }
+
     pub marks_stack : MarksStack l seat goroutine cycle registers held found
     marks_stack = record {
+      on_the_way = on_the_way;
       stores = λ n g number e. let t = told_is steps found 0 n g number (now n) (stands n) e in record { own = t.own; now = t.now; shades = t.shades; ends = t.gives_it };
       ends = λ n e. stores_then steps found 0 n (now n) (stands n) e;
     }

@@ -10,8 +10,11 @@ use Rattle.gh_class.specs.declared.class.TheConstants.{SPAN_CLASSES}
 use Rattle.gh_phase.specs.declared.view.RunPhase.{RunPhase}
 use Rattle.gh_phase.specs.declared.view.RunPhase.TheVariants.{Mark}
 use Rattle.gh_phase.specs.declared.view.View.{View}
+use Rattle.gh_wbuf.specs.RoomFinding.{RoomFinding}
 use Rattle.gh_mutator.specs.declared.poll.Local.{Local}
+use Rattle.gh_mutator.specs.declared.poll.PollStage.TheVariants.{Marking, FindRoom}
 use Rattle.gh_mutator.specs.Give.{none_cached}
+use Rattle.gh_mutator.specs.MarkStack.{StackMarking}
 use Rattle.gh_mutator.specs.Poll.{asks, listing, opening, Polling}
 use Rattle.gh_mutator.specs.ShadeSteps.{ShadesEach}
 use Rattle.gh_mutator.specs.StackMarks.{named}
@@ -79,7 +82,16 @@ module _ (l : Layout) (seat : ℕ) (local : Local) (waits : Bool) (found : ℕ �
     pub tells : step at_step ≡ Store (cell.Scanned g) (after (suc n)).local.view.begun
     pub notes : (after (suc n)).local.scanned ≡ slice_set local.scanned g (after (suc n)).local.view.begun
 
+  -- What holds of the poll's stages, also of a poll that never ends: the scan of a stack may wait for a buffer with room for ever, and so may the
+  -- search for room at the end of the poll.
+  pub record StagesOnTheWay : Type 0 where
+    -- the stack that it is scanning is the one that is due
+    pub scans : (n g : ℕ) (m : StackMarking) → (after n).stage ≡ Marking g m → ScansOne l seat (after n).local g
+    -- it looks for room at its end only where it is no part of a wait
+    pub room : (n : ℕ) (r : RoomFinding) → (after n).stage ≡ FindRoom r → waits ≡ false
+
   pub record PollsSo : Type 0 where
+    pub on_the_way : StagesOnTheWay
     -- it begins with a Load of the phase
     pub begins : step 0 ≡ Load cell.Phase
     -- it acknowledges for its own seat, with no span cached and no buffer held

@@ -89,8 +89,9 @@ pub fn nothing_is_held_at_leave()
 /// no buffer held. A stack is due at a fourth poll while marking is on: that of the lowest goroutine of the
 /// processor that has not ended and was not scanned in this cycle. A stack that is due is scanned, once,
 /// before the poll ends: the step that tells so comes right behind those that shade what its registers name,
-/// in order. No other stack is scanned. The poll takes a buffer at its end only where it is no part of a
-/// wait. It is counted while marking is on; where another cycle has begun, the polls are counted anew.
+/// in order. No other stack is scanned, even where the scan waits for a buffer with room for ever. The poll looks
+/// for a buffer at its end only where it is no part of a wait. It is counted while marking is on; where another
+/// cycle has begun, the polls are counted anew.
 pub fn polls_hold_nothing_at_stops()
     ensures { PollsHoldNothingAtStops }
 {}
@@ -105,6 +106,8 @@ pub fn waits_end_with_a_cycle()
 
 /// The scan of a stack tells that the stack is scanned with its last step alone. The steps before it shade
 /// what the registers name, one reference after the other in the order of the registers, and nothing else.
+/// What is being shaded is what the scan wishes for at any time, also of a scan that waits for a buffer with room for
+/// ever, and the scan is told once that is shaded.
 pub fn wishes_of_a_stack_are_shaded()
     ensures { WishesOfAStackAreShaded }
 {}
