@@ -1,4 +1,5 @@
 pub mod Handshake
+pub mod Pollers
 pub mod Turns
 pub mod Order
 pub mod Processors
