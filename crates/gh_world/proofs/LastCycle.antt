@@ -4,12 +4,9 @@ use Rattle.std.proofs.lemmas.Bool.Decides.{nat_tests}
 use Rattle.gh_base.specs.declared.cell.Ask.{Ask}
 use Rattle.gh_base.specs.declared.cell.Ask.TheVariants.{Load}
 use Rattle.gh_base.specs.declared.cell.Cell.TheVariants as cell
-use Rattle.gh_base.specs.declared.layout.Layout.{Layout}
-use Rattle.gh_base.specs.declared.machine.Entry.{Entry}
 use Rattle.gh_base.specs.declared.pack.Phase.TheVariants as kind
 use Rattle.gh_base.specs.declared.pack.PhaseWord.{PhaseWord}
 use Rattle.gh_base.specs.declared.pack.TheConstants.{GONE}
-use Rattle.gh_base.specs.Cells.{Words}
 use Rattle.gh_base.specs.Lists.{Kind, MayFollow, Setting, started, state_of, words_after}
 use Rattle.gh_base.specs.Packing.{phase_of, phase_word}
 use Rattle.gh_base.specs.Steps.{cell_of}
@@ -27,6 +24,7 @@ use Rattle.gh_worker.specs.Handshake.{IsLeaving, IsMarking, WorkersKeepHandshake
 use Rattle.gh_worker.specs.Listing as worker
 use Rattle.gh_world.specs.declared.handshake.Actor.{Actor}
 use Rattle.gh_world.specs.declared.handshake.Actor.TheVariants as actor
+use Rattle.gh_world.specs.Vocabulary.{Entry, Layout, Words}
 use Rattle.gh_world.specs.Handshake.{actors, asks, heap, is_busy, Pacing, start, takes}
 
 -- which seats each kind of actor has

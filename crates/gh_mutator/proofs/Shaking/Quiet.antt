@@ -1,6 +1,4 @@
 -- What a processor runs while it is awake writes no word of the handshake: by its stages.
-use Rattle.gh_base.specs.declared.layout.Layout.{Layout}
-use Rattle.gh_base.specs.declared.value.Value.{Value}
 use Rattle.gh_alloc.specs.Quiet.{AllocationIsQuiet}
 use Rattle.gh_phase.specs.Handshake.{IsQuiet}
 use Rattle.gh_scan.specs.Quiet.{MarkingIsQuiet}
@@ -9,18 +7,14 @@ use Rattle.gh_stack.specs.declared.scan_stack.StackStage.TheVariants as stack_st
 use Rattle.gh_stack.specs.Listing as stack
 use Rattle.gh_mutator.specs.declared.give.GiveStage.{GiveStage}
 use Rattle.gh_mutator.specs.declared.give.GiveStage.TheVariants as give_stage
-use Rattle.gh_mutator.specs.declared.global.Global.{Global}
 use Rattle.gh_mutator.specs.declared.global.GlobalStage.{GlobalStage}
 use Rattle.gh_mutator.specs.declared.global.GlobalStage.TheVariants as global_stage
 use Rattle.gh_mutator.specs.declared.load.Load.{Load}
-use Rattle.gh_mutator.specs.declared.load.LoadStage.{LoadStage}
 use Rattle.gh_mutator.specs.declared.load.LoadStage.TheVariants as load_stage
 use Rattle.gh_mutator.specs.declared.mark_stack.MarkStackStage.{MarkStackStage}
 use Rattle.gh_mutator.specs.declared.mark_stack.MarkStackStage.TheVariants as mark_stage
-use Rattle.gh_mutator.specs.declared.new.NewStage.{NewStage}
 use Rattle.gh_mutator.specs.declared.new.NewStage.TheVariants as new_stage
 use Rattle.gh_mutator.specs.declared.store.Store.{Store}
-use Rattle.gh_mutator.specs.declared.store.StoreStage.{StoreStage}
 use Rattle.gh_mutator.specs.declared.store.StoreStage.TheVariants as store_stage
 use Rattle.gh_mutator.specs.Give as give
 use Rattle.gh_mutator.specs.Global as global
@@ -29,6 +23,7 @@ use Rattle.gh_mutator.specs.MarkStack as mark
 use Rattle.gh_mutator.specs.New as new
 use Rattle.gh_mutator.specs.Quiet.{ProcessorIsQuiet}
 use Rattle.gh_mutator.specs.Store as store
+use Rattle.gh_mutator.specs.Vocabulary.{Global, Layout, LoadStage, NewStage, StoreStage, Value}
 
 stacks : (s : stack.StackScan) (stage : StackStage) → IsQuiet (stack.asks_at s stage)
 stacks s (stack_stage.Shade register reference) = tt
