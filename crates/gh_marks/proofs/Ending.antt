@@ -1,16 +1,17 @@
 -- The end of marking: where nothing is left each object that a path leads to is marked, and what is dead is white.
-use Rattle.std.proofs.Common.{◌≡◌, ℕ, zero, suc, ◌+◌, ◌%◌, ◌<◌, ◌≤◌, Bool, true, arith, refl, sym, ◌∙◌, ap, inl, inr, Some, None}
+use Rattle.std.proofs.Common.{◌≡◌, ℕ, zero, suc, ◌+◌, ◌%◌, ◌<◌, ◌≤◌, Bool, true, false, arith, refl, sym, ◌∙◌, ap, inl, inr, Some, None}
 use Rattle.std.proofs.lemmas.Bool.Decides.{eqb_tells, nat_tests}
 use Rattle.gh_base.specs.declared.cell.Cell.TheVariants as cell
 use Rattle.gh_base.specs.declared.limits.TheConstants.{REGISTERS}
 use Rattle.gh_base.specs.declared.pack.TheConstants.{ENTRIES}
+use Rattle.gh_base.specs.Cells.{seats_of}
 use Rattle.gh_base.specs.Holding.{holder_in}
-use Rattle.gh_base.specs.Packing.{buffer_of}
+use Rattle.gh_base.specs.Packing.{bit, buffer_of}
 use Rattle.gh_base.specs.Rows.{RowsAreWritten, mark_words, row_bit}
 use Rattle.gh_marks.specs.Colours.{Black, Buffered, Claimed, Colour, Cycle, IsGrey, IsMarked, IsShaded, Pending, Placing, Progress, Read, Scanned, Shared, Taken, Untouched, Waits, White, mark_of, rows}
 use Rattle.gh_marks.specs.Ends.{IsDone, IsFound, Reached, from_field, from_global, from_register}
-use Rattle.gh_marks.specs.Good.{Good}
-use Rattle.gh_marks.specs.Laws.{EachMoveLeavesTheDead, MarkingEndsClean, TheDeadAreWhite, WhatIsFoundIsDone}
+use Rattle.gh_marks.specs.Good.{Good, count_of}
+use Rattle.gh_marks.specs.Laws.{EachMoveLeavesTheDead, MarkingEndsClean, TheCursorIsSmall, TheDeadAreWhite, WhatIsFoundIsDone}
 use Rattle.gh_marks.specs.Moves.{Blacken, ClaimGlobal, EndStack, Enter, GiveBuffer, IsDead, May, Move, PassGlobals, Place, PutField, PutGlobal, Quiet, ReadGlobal, Reserve, ScanGlobal, ScanStack, SetRegister, Shade, ShadeAgain, ShadeFlat, TakeBuffer, TakeEntry, moved}
 use Rattle.gh_marks.specs.Seats.{ClaimOf, NoClaim, ReadOf}
 use Rattle.gh_marks.proofs.Bits.{alloc-other, one-zero, two-ways}
@@ -159,3 +160,16 @@ module _ (k : RowsAreWritten) (z : Cycle) (a : ℕ) (s : Shared) (g : Good z s) 
 
 pub each-move-leaves-the-dead : RowsAreWritten → EachMoveLeavesTheDead
 each-move-leaves-the-dead k z a s m g may o h = dead-moved k z a s g o h m may
+
+-- The cursor is at most as many behind the last global as there are seats.
+count-few : (passed : ℕ → Bool) (n : ℕ) → count_of passed n ≤ n
+count-few passed zero = omega arith
+count-few passed (suc n) = by (passed n) (count-few passed n) where
+  by : (b : Bool) → count_of passed n ≤ n → count_of passed n + bit b ≤ suc n
+  by true h = omega arith
+  by false h = omega arith
+
+pub cursor-small : TheCursorIsSmall
+cursor-small z s g =
+    let l = z.arena.layout.limits in
+    omega (arith, g.passes.few, count-few s.passed (seats_of z.arena.layout), l.globals_fit.1, l.procs_fit.1, l.workers_fit.1)

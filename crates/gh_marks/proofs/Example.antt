@@ -42,6 +42,7 @@ module _ (limits : InLimits 16 1 1 1 1) (few : 1 < 2 ^ 48) where
     filled = λ b. refl;
     cursor = refl;
     untouched = λ i. refl;
+    passed = λ a. refl;
     scanned = λ g. inl (omega arith);
     over = λ g d e. refl;
     placed = placed;

@@ -50,6 +50,7 @@ others-then z a s t u p q = record {
   read = λ i v. iff-then (p.read i v) (q.read i v);
   held = λ b. iff-then (p.held b) (q.held b);
   filled = λ b h. q.filled b ((p.held b).0 h) ∙ p.filled b h;
+  passes = q.passes ∙ p.passes;
 }
 
 pub facts-last : EachFactLasts

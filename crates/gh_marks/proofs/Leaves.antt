@@ -42,9 +42,10 @@ record WorkKept (a : ℕ) (colour colour_then : ℕ → Colour) (progress progre
   pub claimed : (i : ℕ) → (progress i ≡ Claimed a) ↔ (progress_then i ≡ Claimed a)
   pub read : (i value : ℕ) → (progress i ≡ Read a value) ↔ (progress_then i ≡ Read a value)
 
-record BufferKept (a : ℕ) (buffer buffer_then filled filled_then : Row) : Type 0 where
+record BufferKept (a : ℕ) (buffer buffer_then filled filled_then : Row) (passed passed_then : ℕ → Bool) : Type 0 where
   pub held : (b : ℕ) → (holder_in (buffer b) ≡ a + 1) ↔ (holder_in (buffer_then b) ≡ a + 1)
   pub count : (b : ℕ) → holder_in (buffer b) ≡ a + 1 → filled_then b ≡ filled b
+  pub passes : passed_then a ≡ passed a
 
 module _ (z : Cycle) (a : ℕ) (s t : Shared) where
   abbrev Words : Type 0
@@ -60,7 +61,7 @@ module _ (z : Cycle) (a : ℕ) (s t : Shared) where
   Work = WorkKept a s.colour t.colour s.progress t.progress
 
   abbrev Buffer : Type 0
-  Buffer = BufferKept a (buffer_words s.words) (buffer_words t.words) s.filled t.filled
+  Buffer = BufferKept a (buffer_words s.words) (buffer_words t.words) s.filled t.filled s.passed t.passed
 
   together : Words → Objects → Stacks → Keeps z a s t
   together w o k = record {
@@ -83,6 +84,7 @@ module _ (z : Cycle) (a : ℕ) (s t : Shared) where
     read = h.read;
     held = b.held;
     filled = b.count;
+    passes = b.passes;
   }
 
 same-extent : (e : Extents) (o : ℕ) → SameExtent e e o
@@ -102,7 +104,7 @@ module _ (z : Cycle) (a : ℕ) (s : Shared) where
   work-same = record { pending = λ o. same-iff; taken = λ o. same-iff; placing = λ o. same-iff; claimed = λ i. same-iff; read = λ i v. same-iff }
 
   buffer-same : Buffer z a s s
-  buffer-same = record { held = λ b. same-iff; count = λ b h. refl }
+  buffer-same = record { held = λ b. same-iff; count = λ b h. refl; passes = refl }
 
 pub keeps-same : (z : Cycle) (a : ℕ) (s : Shared) → Keeps z a s s
 keeps-same z a s = together z a s s (words-same z a s) (objects-same z a s) (stacks-same z a s)
@@ -165,6 +167,7 @@ module _ (k : RowsAreWritten) (z : Cycle) (a c : ℕ) (s : Shared) (g : Good z s
     buffer-quiet = record {
       held = subst (λ (r : ReadRows). (b : ℕ) → (holder_in (s.words (cell.Buffer b)) ≡ a + 1) ↔ (holder_in (r.buffer b) ≡ a + 1)) (sym u.rows_are) (λ b. same-iff);
       count = λ b h. refl;
+      passes = refl;
     }
 
   pub keeps-moved : (m : Move) → May z c s m → LeavesStacks m → Keeps z a s (moved z c s m)
@@ -245,14 +248,14 @@ module _ (k : RowsAreWritten) (z : Cycle) (a c : ℕ) (s : Shared) (g : Good z s
     leaves-enter : (b o : ℕ) → May z c s (Enter b o) → Others z a s (moved z c s (Enter b o))
     leaves-enter b o may = left (Enter b o) may tt
         (recoloured o (Buffered b (s.filled b)) (rw (may.pending) ((λ h. absurd (ne (same h))), (λ h. cc), (λ h. cc))) ((λ h. cc), (λ h. cc), (λ h. cc)))
-        (record { held = λ d. same-iff; count = λ d h. grind (arith, nat_tests, may.held) }) where
+        (record { held = λ d. same-iff; count = λ d h. grind (arith, nat_tests, may.held); passes = refl }) where
           same : Pending c ≡ Pending a → a ≡ c
           same h = cc
 
     leaves-take_entry : (b o : ℕ) → May z c s (TakeEntry b o) → Others z a s (moved z c s (TakeEntry b o))
     leaves-take_entry b o may = left (TakeEntry b o) may tt
         (recoloured o (Taken c) (rw (g.entries.entered b (s.filled b - 1) o (omega (arith, may.some)) may.entry) ((λ h. cc), (λ h. cc), (λ h. cc))) ((λ h. cc), (λ h. absurd (ne (same h))), (λ h. cc)))
-        (record { held = λ d. same-iff; count = λ d h. grind (arith, nat_tests, may.held) }) where
+        (record { held = λ d. same-iff; count = λ d h. grind (arith, nat_tests, may.held); passes = refl }) where
           same : Taken c ≡ Taken a → a ≡ c
           same h = cc
 
@@ -264,7 +267,7 @@ module _ (k : RowsAreWritten) (z : Cycle) (a c : ℕ) (s : Shared) (g : Good z s
           same h = cc
 
     leaves-take : (b : ℕ) → May z c s (TakeBuffer b) → Others z a s (moved z c s (TakeBuffer b))
-    leaves-take b may = left (TakeBuffer b) may tt (work-same z a s) (record { held = holders; count = λ d h. refl }) where
+    leaves-take b may = left (TakeBuffer b) may tt (work-same z a s) (record { held = holders; count = λ d h. refl; passes = refl }) where
       free : (d : ℕ) → b ≡ d → HasBuffer a s d → ⊥
       free d e h = let zero : holder_in (s.words (cell.Buffer d)) ≡ 0 = rw (← e) may in omega (arith, zero, h)
 
@@ -275,7 +278,7 @@ module _ (k : RowsAreWritten) (z : Cycle) (a c : ℕ) (s : Shared) (g : Good z s
       holders d = elim (eqb_tells b d) [ inr n ↦ rw (n.0) same-iff | inl y ↦ rw (y.0) ((λ h. absurd (free d y.1 h)), (λ h. absurd (own h))) ]
 
     leaves-give : (b : ℕ) → May z c s (GiveBuffer b) → Others z a s (moved z c s (GiveBuffer b))
-    leaves-give b may = left (GiveBuffer b) may tt (work-same z a s) (record { held = holders; count = λ d h. refl }) where
+    leaves-give b may = left (GiveBuffer b) may tt (work-same z a s) (record { held = holders; count = λ d h. refl; passes = refl }) where
       other : (d : ℕ) → b ≡ d → HasBuffer a s d → ⊥
       other d e h = let own : holder_in (s.words (cell.Buffer d)) ≡ c + 1 = rw (← e) may in ne (omega (arith, own, h))
 
@@ -346,6 +349,9 @@ module _ (k : RowsAreWritten) (z : Cycle) (a c : ℕ) (s : Shared) (g : Good z s
         })
         (work-same z a s) (buffer-same z a s)
 
+    not-passed : update s.passed c true a ≡ s.passed a
+    not-passed = elim (eqb_tells c a) [ inl y ↦ absurd (ne (sym y.1)) | inr n ↦ rw (n.0) refl ]
+
     leaves-moved : (m : Move) → May z c s m → Others z a s (moved z c s m)
     leaves-moved (Quiet step) may = left (Quiet step) may tt (work-same z a s) (buffer-quiet step may)
     leaves-moved (Shade o) may = leaves-shade o may
@@ -359,7 +365,7 @@ module _ (k : RowsAreWritten) (z : Cycle) (a c : ℕ) (s : Shared) (g : Good z s
     leaves-moved (PutField x v) may = left (PutField x v) may tt (work-same z a s) (buffer-same z a s)
     leaves-moved (PutGlobal i v) may = left (PutGlobal i v) may tt (work-same z a s) (buffer-same z a s)
     leaves-moved (ClaimGlobal i) may = leaves-claim i may
-    leaves-moved (PassGlobals i) may = left (PassGlobals i) may tt (work-same z a s) (buffer-same z a s)
+    leaves-moved (PassGlobals i) may = left (PassGlobals i) may tt (work-same z a s) (record { held = λ b. same-iff; count = λ b h. refl; passes = not-passed })
     leaves-moved (ReadGlobal i) may = leaves-read i may
     leaves-moved (ScanGlobal i v) may = leaves-scan i v may
     leaves-moved (SetRegister h d v) may = leaves-set h d v may

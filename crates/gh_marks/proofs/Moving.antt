@@ -2,12 +2,13 @@
 use Rattle.std.proofs.Common.{◌≡◌, ◌≢◌, ℕ, ◌+◌, ◌-◌, arith, refl, sym, ap, ◌∙◌, inl, inr, subst}
 use Rattle.std.proofs.lemmas.Bool.Decides.{nat_tests, eqb_tells}
 use Rattle.gh_base.specs.declared.cell.Cell.TheVariants as cell
+use Rattle.gh_base.specs.Cells.{seats_of}
 use Rattle.gh_base.specs.Holding.{AreCounted, BuffersAreHeld}
 use Rattle.gh_base.specs.Holding as holding
 use Rattle.gh_base.specs.Rows.{RowsAreWritten, alloc_words, field_words, global_words, mark_words, row_bit}
 use Rattle.gh_heap.specs.Moves.{update}
 use Rattle.gh_marks.specs.Colours.{Black, Buffered, Colour, Cycle, IsSafe, IsSince, Pending, Placing, Shared, Taken, White, buffers_of, entry_words, mark_of, rows, scanned_words}
-use Rattle.gh_marks.specs.Good.{BlacksGood, CursorGood, EntriesGood, Good, MarksGood, ObjectsGood, StacksGood}
+use Rattle.gh_marks.specs.Good.{BlacksGood, CursorGood, EntriesGood, Good, MarksGood, ObjectsGood, PassesGood, StacksGood}
 use Rattle.gh_marks.specs.Moves.{Blacken, Enter, GiveBuffer, May, MayShade, Move, PutField, PutGlobal, Quiet, Reserve, Shade, ShadeAgain, ShadeFlat, TakeBuffer, TakeEntry, moved, set_mark}
 use Rattle.gh_marks.proofs.Bits.{marked-again, marked-set, marked-still, marks-grow, two-ways, white-colour}
 use Rattle.gh_marks.proofs.Guarding.{guards-moved}
@@ -45,6 +46,7 @@ module _ (know : Known) (z : Cycle) (a : ℕ) (s : Shared) (g : Good z s) where
     };
     blacks = λ o k h l p e. subst (λ (r : ReadRows). row_bit r.mark p ≡ 1) (sym u.rows_are) (g.blacks o k h l p (sym (u.fields o k (g.objects.shaded o (rw h tt)) l) ∙ e));
     cursor = subst (λ (r : ReadRows). CursorGood z.arena.layout.globals r.gcur r.global s.progress r.mark) (sym u.rows_are) g.cursor;
+    passes = subst (λ (r : ReadRows). PassesGood z.arena.layout.globals (seats_of z.arena.layout) r.gcur s.passed) (sym u.rows_are) g.passes;
     stacks = stacks (Quiet step) may (λ h. ap (λ (r : ReadRows). r.scanned h) u.rows_are) (λ h d. refl);
   } where
     u : Unread s (moved z a s (Quiet step)).words
@@ -61,6 +63,7 @@ module _ (know : Known) (z : Cycle) (a : ℕ) (s : Shared) (g : Good z s) where
     values = g.values;
     blacks = blacks;
     cursor = cursor-grows z.arena.layout.globals (s.words cell.Gcur) (global_words s.words) s.progress (mark_words s.words) (mark_words (set_mark s.words o)) (marks-grow know.rows s.words o) g.cursor;
+    passes = g.passes;
     stacks = stacks_are;
   } where
     white-buffered : {b j : ℕ} → White ≡ Buffered b j → ⊥
@@ -99,14 +102,15 @@ module _ (know : Known) (z : Cycle) (a : ℕ) (s : Shared) (g : Good z s) where
     values = g.values;
     blacks = blacks-set o;
     cursor = cursor-grows z.arena.layout.globals (s.words cell.Gcur) (global_words s.words) s.progress (mark_words s.words) (mark_words (set_mark s.words o)) (marks-grow know.rows s.words o) g.cursor;
+    passes = g.passes;
     stacks = stacks (ShadeAgain o) may (λ h. refl) (λ h d. refl);
   }
 
   pub good-take_buffer : (b : ℕ) → Kept (TakeBuffer b)
-  good-take_buffer b may = record { marks = g.marks; objects = g.objects; counts = counts (holding.TakesBuffer b) may; entries = g.entries; values = g.values; blacks = g.blacks; cursor = g.cursor; stacks = g.stacks }
+  good-take_buffer b may = record { marks = g.marks; objects = g.objects; counts = counts (holding.TakesBuffer b) may; entries = g.entries; values = g.values; blacks = g.blacks; cursor = g.cursor; passes = g.passes; stacks = g.stacks }
 
   pub good-give_buffer : (b : ℕ) → Kept (GiveBuffer b)
-  good-give_buffer b may = record { marks = g.marks; objects = g.objects; counts = counts (holding.GivesBuffer b) may; entries = g.entries; values = g.values; blacks = g.blacks; cursor = g.cursor; stacks = g.stacks }
+  good-give_buffer b may = record { marks = g.marks; objects = g.objects; counts = counts (holding.GivesBuffer b) may; entries = g.entries; values = g.values; blacks = g.blacks; cursor = g.cursor; passes = g.passes; stacks = g.stacks }
 
   pub good-enter : (b o : ℕ) → Kept (Enter b o)
   good-enter b o may = record {
@@ -121,6 +125,7 @@ module _ (know : Known) (z : Cycle) (a : ℕ) (s : Shared) (g : Good z s) where
     values = g.values;
     blacks = blacks-apart s.extents (field_words s.words) (mark_words s.words) s.colour o (Buffered b (s.filled b)) (λ e. cc) g.blacks;
     cursor = g.cursor;
+    passes = g.passes;
     stacks = stacks (Enter b o) may (λ h. refl) (λ h d. refl);
   }
 
@@ -139,6 +144,7 @@ module _ (know : Known) (z : Cycle) (a : ℕ) (s : Shared) (g : Good z s) where
         values = g.values;
         blacks = blacks-apart s.extents (field_words s.words) (mark_words s.words) s.colour o (Taken a) (λ e. cc) g.blacks;
         cursor = g.cursor;
+        passes = g.passes;
         stacks = stacks (TakeEntry b o) may (λ h. refl) (λ h d. refl);
       }
 
@@ -151,6 +157,7 @@ module _ (know : Known) (z : Cycle) (a : ℕ) (s : Shared) (g : Good z s) where
     values = g.values;
     blacks = λ p k h l. elim (eqb_tells o p) [ inl y ↦ rw (← y.1) (may.1 k (rw (y.1) l)) | inr n ↦ g.blacks p k (rw (n.0) at h) l ];
     cursor = g.cursor;
+    passes = g.passes;
     stacks = stacks (Blacken o) may (λ h. refl) (λ h d. refl);
   } where
     taken-buffered : {b j : ℕ} → Taken a ≡ Buffered b j → ⊥
@@ -169,6 +176,7 @@ module _ (know : Known) (z : Cycle) (a : ℕ) (s : Shared) (g : Good z s) where
     };
     blacks = λ p j h l q e. elim (eqb_tells x (p + j)) [ inr n ↦ g.blacks p j h l q (rw (n.0) at e) | inl y ↦ may.new q (rw (y.0) at e) ];
     cursor = g.cursor;
+    passes = g.passes;
     stacks = stacks (PutField x v) may (λ h. refl) (λ h d. refl);
   }
 
@@ -190,5 +198,6 @@ module _ (know : Known) (z : Cycle) (a : ℕ) (s : Shared) (g : Good z s) where
       read = λ j c w h. elim (eqb_tells i j) [ inl y ↦ inr (rw (y.0) may.new) | inr n ↦ rw (n.0) (g.cursor.read j c w h) ];
       scanned = λ j h. elim (eqb_tells i j) [ inl y ↦ rw (y.0) may.new | inr n ↦ rw (n.0) (g.cursor.scanned j h) ];
     };
+    passes = g.passes;
     stacks = stacks (PutGlobal i v) may (λ h. refl) (λ h d. refl);
   }

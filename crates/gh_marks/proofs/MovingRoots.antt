@@ -1,17 +1,31 @@
 -- Each move keeps what holds at every moment: those of globals, of stacks and of new objects, and all together.
-use Rattle.std.proofs.Common.{◌≡◌, ℕ, ◌+◌, Bool, true, eqb, arith, refl, sym, ◌∙◌, inl, inr}
+use Rattle.std.proofs.Common.{◌≡◌, ℕ, zero, suc, ◌+◌, ◌<◌, ◌≤◌, Bool, true, false, eqb, arith, refl, sym, ap, ◌∙◌, inl, inr}
 use Rattle.std.proofs.lemmas.Bool.Decides.{nat_tests, eqb_tells}
 use Rattle.gh_base.specs.declared.cell.Cell.TheVariants as cell
 use Rattle.gh_base.specs.declared.pack.TheConstants.{END}
+use Rattle.gh_base.specs.Cells.{seats_of}
+use Rattle.gh_base.specs.Packing.{bit}
 use Rattle.gh_base.specs.Rows.{mark_words}
 use Rattle.gh_heap.specs.Moves.{update}
 use Rattle.gh_marks.specs.Colours.{Black, Buffered, Cycle, IsPointer, IsSince, Placing, Shared, entry_words}
-use Rattle.gh_marks.specs.Good.{Good}
+use Rattle.gh_marks.specs.Good.{Good, count_of}
 use Rattle.gh_marks.specs.Laws.{EachMoveKeeps}
 use Rattle.gh_marks.specs.Moves.{Blacken, ClaimGlobal, EndStack, Enter, GiveBuffer, May, Move, PassGlobals, Place, PutField, PutGlobal, Quiet, ReadGlobal, Reserve, ScanGlobal, ScanStack, SetRegister, Shade, ShadeAgain, ShadeFlat, TakeBuffer, TakeEntry, moved}
 use Rattle.gh_marks.proofs.Bits.{alloc-other, alloc-same, marked-again}
 use Rattle.gh_marks.proofs.Keeps.{entries-apart}
 use Rattle.gh_marks.proofs.Moving.{Known, good-again, good-blacken, good-enter, good-flat, good-give_buffer, good-put_field, good-put_global, good-quiet, good-reserve, good-shade, good-take_buffer, good-take_entry, stacks}
+
+-- one seat more is counted, and no seat behind those counted matters
+count-behind : (passed : ℕ → Bool) (a n : ℕ) → n ≤ a → count_of (update passed a true) n ≡ count_of passed n
+count-behind passed a zero le = refl
+count-behind passed a (suc n) le = elim (eqb_tells a n) [ inl y ↦ absurd (omega (arith, y.1)) | inr m ↦ (let same : count_of (update passed a true) n ≡ count_of passed n = count-behind passed a n (omega arith) in rw (m.0) (ap (λ (c : ℕ). c + bit (passed n)) same)) ]
+
+count-passed : (passed : ℕ → Bool) (a n : ℕ) → a < n → passed a ≡ false → count_of (update passed a true) n ≡ count_of passed n + 1
+count-passed passed a zero lt first = absurd (omega arith)
+count-passed passed a (suc n) lt first = elim (eqb_tells a n) [
+  | inl y ↦ (let same : count_of (update passed a true) n ≡ count_of passed n = count-behind passed a n (omega (arith, y.1)) in let none : passed n ≡ false = ap passed (sym y.1) ∙ first in rw (y.0, none, same) (omega arith))
+  | inr m ↦ (let more : count_of (update passed a true) n ≡ count_of passed n + 1 = count-passed passed a n (omega (arith, m.1)) first in rw (m.0, more) (omega arith))
+]
 
 module _ (know : Known) (z : Cycle) (a : ℕ) (s : Shared) (g : Good z s) where
   abbrev Kept : Move → Type 0
@@ -31,6 +45,7 @@ module _ (know : Known) (z : Cycle) (a : ℕ) (s : Shared) (g : Good z s) where
       read = λ j c w h. elim (eqb_tells i j) [ inl y ↦ absurd (grind (arith, y)) | inr n ↦ g.cursor.read j c w (rw (n.0) at h) ];
       scanned = λ j h. elim (eqb_tells i j) [ inl y ↦ absurd (grind (arith, y)) | inr n ↦ g.cursor.scanned j (rw (n.0) at h) ];
     };
+    passes = record { behind = λ b h. absurd (omega (arith, g.passes.behind b h, may.0, may.1)); few = omega (arith, may.1) };
     stacks = stacks know z a s g (ClaimGlobal i) may (λ h. refl) (λ h d. refl);
   }
 
@@ -43,10 +58,14 @@ module _ (know : Known) (z : Cycle) (a : ℕ) (s : Shared) (g : Good z s) where
     values = g.values;
     blacks = g.blacks;
     cursor = record {
-      untouched = λ j l h. omega (arith, g.cursor.untouched j l h, may.0, may.1);
-      ahead = λ j l h. absurd (omega (arith, may.0, may.1));
+      untouched = λ j l h. omega (arith, g.cursor.untouched j l h, may.at, may.behind);
+      ahead = λ j l h. absurd (omega (arith, may.at, may.behind));
       read = g.cursor.read;
       scanned = g.cursor.scanned;
+    };
+    passes = record {
+      behind = λ b h. omega (arith, may.behind);
+      few = omega (arith, g.passes.few, may.at, count-passed s.passed a (seats_of z.arena.layout) may.seat may.first);
     };
     stacks = g.stacks;
   }
@@ -65,6 +84,7 @@ module _ (know : Known) (z : Cycle) (a : ℕ) (s : Shared) (g : Good z s) where
       read = λ j c w h. elim (eqb_tells i j) [ inl y ↦ inl (grind (arith, nat_tests)) | inr n ↦ g.cursor.read j c w (rw (n.0) at h) ];
       scanned = λ j h. elim (eqb_tells i j) [ inl y ↦ absurd (grind (arith, y)) | inr n ↦ g.cursor.scanned j (rw (n.0) at h) ];
     };
+    passes = g.passes;
     stacks = stacks know z a s g (ReadGlobal i) may (λ h. refl) (λ h d. refl);
   }
 
@@ -82,6 +102,7 @@ module _ (know : Known) (z : Cycle) (a : ℕ) (s : Shared) (g : Good z s) where
       read = λ j c w h. elim (eqb_tells i j) [ inl y ↦ absurd (grind (arith, y)) | inr n ↦ g.cursor.read j c w (rw (n.0) at h) ];
       scanned = λ j h. elim (eqb_tells i j) [ inl y ↦ rw (← y.1) may.1 | inr n ↦ g.cursor.scanned j (rw (n.0) at h) ];
     };
+    passes = g.passes;
     stacks = stacks know z a s g (ScanGlobal i v) may (λ h. refl) (λ h d. refl);
   }
 
@@ -101,6 +122,7 @@ module _ (know : Known) (z : Cycle) (a : ℕ) (s : Shared) (g : Good z s) where
     };
     blacks = g.blacks;
     cursor = g.cursor;
+    passes = g.passes;
     stacks = record {
       black = λ f q black l. elim (eqb_tells h f) [
         | inr n ↦ rw (n.0) (g.stacks.black f q black l)
@@ -123,6 +145,7 @@ module _ (know : Known) (z : Cycle) (a : ℕ) (s : Shared) (g : Good z s) where
     values = g.values;
     blacks = g.blacks;
     cursor = g.cursor;
+    passes = g.passes;
     stacks = record {
       black = λ f q black l. elim (eqb_tells h f) [ inr n ↦ g.stacks.black f q (rw (n.0) at black) l | inl y ↦ rw (← y.1) (λ o e. inl (may.clean q l o e)) ];
       over = λ f q end. elim (eqb_tells h f) [ inr n ↦ g.stacks.over f q (rw (n.0) at end) | inl y ↦ absurd (not_end (rw (y.0) at end)) ];
@@ -147,6 +170,7 @@ module _ (know : Known) (z : Cycle) (a : ℕ) (s : Shared) (g : Good z s) where
     };
     blacks = g.blacks;
     cursor = g.cursor;
+    passes = g.passes;
     stacks = record {
       black = λ f q black l o e. elim (eqb_tells h f) [ inr n ↦ g.stacks.black f q (rw (n.0) at black) l o (rw (n.0) at e) | inl y ↦ absurd (nil-since o (rw (y.0) at e)) ];
       over = λ f q end. elim (eqb_tells h f) [ inr n ↦ rw (n.0) (g.stacks.over f q (rw (n.0) at end)) | inl y ↦ rw (y.0) refl ];
@@ -178,6 +202,7 @@ module _ (know : Known) (z : Cycle) (a : ℕ) (s : Shared) (g : Good z s) where
     };
     blacks = λ p j h l q e. elim (eqb_tells o p) [ inl y ↦ absurd (nil p j l y q e) | inr n ↦ g.blacks p j (rw (n.0) at h) (rw (n.0) at l) q e ];
     cursor = g.cursor;
+    passes = g.passes;
     stacks = stacks know z a s g (Place o size pointer noscan) may (λ h. refl) (λ h d. refl);
   } where
     nil : (p j : ℕ) → IsPointer (moved z a s (Place o size pointer noscan)).extents p j → ((eqb o p ≡ true) × (o ≡ p)) → (q : ℕ) → s.words (cell.Field (p + j)) ≡ q + 1 → ⊥

@@ -49,6 +49,8 @@ pub record Shared : Type 0 where
   -- the entries of each buffer; while a seat holds it, its word does not say them
   pub filled : Row
   pub progress : ℕ → Progress
+  -- which seats have raised the cursor past the last global
+  pub passed : ℕ → Bool
   -- placed and reached when the cycle began, or placed since
   pub since : ℕ → Bool
   pub extents : Extents

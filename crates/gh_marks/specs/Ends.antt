@@ -1,5 +1,5 @@
 -- The begin of marking and its end.
-use Rattle.std.specs.Prelude.{◌≡◌, ℕ, ◌+◌, ◌<◌, ◌≤◌, ◌⊎◌, true}
+use Rattle.std.specs.Prelude.{◌≡◌, ℕ, ◌+◌, ◌<◌, ◌≤◌, ◌⊎◌, true, false}
 use Rattle.gh_base.specs.declared.cell.Cell.TheVariants as cell
 use Rattle.gh_base.specs.declared.limits.TheConstants.{REGISTERS}
 use Rattle.gh_base.specs.declared.pack.TheConstants.{END}
@@ -17,6 +17,7 @@ pub record Opens (z : Cycle) (s : Shared) : Type 0 where
   pub filled : (b : ℕ) → s.filled b ≡ 0
   pub cursor : s.words cell.Gcur ≡ 0
   pub untouched : (i : ℕ) → s.progress i ≡ Untouched
+  pub passed : (a : ℕ) → s.passed a ≡ false
   pub scanned : (g : ℕ) → (s.words (cell.Scanned g) < z.number) ⊎ (s.words (cell.Scanned g) ≡ END)
   pub over : (g d : ℕ) → s.words (cell.Scanned g) ≡ END → s.registers g d ≡ 0
   pub placed : (o : ℕ) → s.since o ≡ true → row_bit (alloc_words s.words) o ≡ 1

@@ -46,6 +46,7 @@ start = record {
   colour = λ o. White;
   filled = λ b. 0;
   progress = λ i. Untouched;
+  passed = λ a. false;
   since = λ o. (o == 0) || (o == 1);
   extents = record { size = λ o. 1; pointer = λ o k. true; noscan = λ o. false };
 }

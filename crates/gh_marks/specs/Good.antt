@@ -1,9 +1,11 @@
 -- What holds at every moment while marking is on, group by group over the rows that each reads.
-use Rattle.std.specs.Prelude.{◌≡◌, ◌≢◌, ℕ, ◌+◌, ◌<◌, ◌≤◌, ◌⊎◌, Bool, true, false}
+use Rattle.std.specs.Prelude.{◌≡◌, ◌≢◌, ℕ, zero, suc, ◌+◌, ◌<◌, ◌≤◌, ◌⊎◌, Bool, true, false}
 use Rattle.gh_base.specs.declared.cell.Cell.TheVariants as cell
 use Rattle.gh_base.specs.declared.limits.TheConstants.{REGISTERS}
 use Rattle.gh_base.specs.declared.pack.TheConstants.{END}
+use Rattle.gh_base.specs.Cells.{seats_of}
 use Rattle.gh_base.specs.Holding.{AreCounted}
+use Rattle.gh_base.specs.Packing.{bit}
 use Rattle.gh_base.specs.Rows.{Row, row_bit, alloc_words, field_words, global_words, mark_words}
 use Rattle.gh_marks.specs.Colours.{Black, Buffered, Colour, Cycle, Extents, IsClean, IsGrey, IsPointer, IsSafe, IsShaded, IsSince, Placing, Progress, Read, Scanned, Shared, Untouched, buffers_of, entry_words, mark_of, rows, scanned_words}
 
@@ -44,6 +46,16 @@ pub record CursorGood (globals gcur : ℕ) (global : Row) (progress : ℕ → Pr
   pub read : (i a v : ℕ) → progress i ≡ Read a v → (global i ≡ v) ⊎ IsClean mark (global i)
   pub scanned : (i : ℕ) → progress i ≡ Scanned → IsClean mark (global i)
 
+-- how many of the first so many seats these are
+abbrev pub count_of : (ℕ → Bool) → (seats : ℕ) → ℕ
+count_of passed zero = 0
+count_of passed (suc n) = count_of passed n + bit (passed n)
+
+-- A seat raises the cursor past the last global at most once in a cycle, since it looks at the cursor before: so the cursor's word never begins anew.
+pub record PassesGood (globals seats gcur : ℕ) (passed : ℕ → Bool) : Type 0 where
+  pub behind : (a : ℕ) → passed a ≡ true → globals < gcur
+  pub few : gcur ≤ globals + count_of passed seats
+
 -- A scanned stack holds what is marked or protected, and no more than that: after its scan a load may bring it a white object. The stack of a goroutine that has ended holds nothing.
 pub record StacksGood (number : ℕ) (scanned : Row) (registers : ℕ → Row) (Safe : ℕ → Type 0) : Type 0 where
   pub black : (g d : ℕ) → scanned g ≡ number → d < REGISTERS → Safe (registers g d)
@@ -59,4 +71,5 @@ pub record Good (z : Cycle) (s : Shared) : Type 0 where
   pub values : ValuesGood s.extents (field_words s.words) (global_words s.words) s.registers s.since
   pub blacks : BlacksGood s.extents (field_words s.words) (mark_words s.words) s.colour
   pub cursor : CursorGood z.arena.layout.globals (s.words cell.Gcur) (global_words s.words) s.progress (mark_words s.words)
+  pub passes : PassesGood z.arena.layout.globals (seats_of z.arena.layout) (s.words cell.Gcur) s.passed
   pub stacks : StacksGood z.number (scanned_words s.words) s.registers (IsSafe z.arena.layout.globals (rows s))

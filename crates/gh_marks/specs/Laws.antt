@@ -1,5 +1,5 @@
 -- What holds of the moves of marking.
-use Rattle.std.specs.Prelude.{◌≡◌, ◌≢◌, ℕ, ◌+◌, ◌-◌, ◌<◌, Bool, true, Some, None}
+use Rattle.std.specs.Prelude.{◌≡◌, ◌≢◌, ℕ, ◌+◌, ◌-◌, ◌^◌, ◌<◌, Bool, true, Some, None}
 use Rattle.gh_base.specs.declared.cell.Ask.{Ask}
 use Rattle.gh_base.specs.declared.cell.Cell.TheVariants as cell
 use Rattle.gh_base.specs.declared.held.Held.{Held}
@@ -100,6 +100,10 @@ pub record LoadsAreSafe (z : Cycle) (s : Shared) : Type 0 where
 
 abbrev pub EachLoadIsSafe : Type 0
 EachLoadIsSafe = (z : Cycle) (s : Shared) → Good z s → LoadsAreSafe z s
+
+-- the cursor's word does not begin anew
+abbrev pub TheCursorIsSmall : Type 0
+TheCursorIsSmall = (z : Cycle) (s : Shared) → Good z s → s.words cell.Gcur + 1 < 2 ^ 64
 
 -- As marking is switched on it holds, and no seat has anything in hand.
 pub record Begins (z : Cycle) (s : Shared) : Type 0 where

@@ -7,7 +7,7 @@ use Rattle.gh_base.specs.declared.cell.Cell.{Cell}
 use Rattle.gh_base.specs.declared.cell.Cell.TheVariants as cell
 use Rattle.gh_base.specs.declared.limits.TheConstants.{REGISTERS}
 use Rattle.gh_base.specs.declared.pack.TheConstants.{END, ENTRIES}
-use Rattle.gh_base.specs.Cells.{Words, put}
+use Rattle.gh_base.specs.Cells.{Words, put, seats_of}
 use Rattle.gh_base.specs.Holding.{holder_in}
 use Rattle.gh_base.specs.Packing.{buffer_word}
 use Rattle.gh_base.specs.Rows.{alloc_words, mark_words, row_bit}
@@ -90,7 +90,7 @@ moved z a s (Blacken o) = record s { colour = update s.colour o Black }
 moved z a s (PutField x value) = record s { words = put s.words (cell.Field x) value }
 moved z a s (PutGlobal i value) = record s { words = put s.words (cell.Global i) value }
 moved z a s (ClaimGlobal i) = record s { words = put s.words cell.Gcur (i + 1); progress = update s.progress i (Claimed a) }
-moved z a s (PassGlobals i) = record s { words = put s.words cell.Gcur (i + 1) }
+moved z a s (PassGlobals i) = record s { words = put s.words cell.Gcur (i + 1); passed = update s.passed a true }
 moved z a s (ReadGlobal i) = record s { progress = update s.progress i (Read a (s.words (cell.Global i))) }
 moved z a s (ScanGlobal i value) = record s { progress = update s.progress i Scanned }
 moved z a s (SetRegister g d value) = record s { registers = update_at s.registers g d value }
@@ -124,6 +124,13 @@ pub record BehindBarrier (s : Shared) (was value : ℕ) : Type 0 where
   pub old : IsClean (mark_words s.words) was
   pub new : IsClean (mark_words s.words) value
   pub since : IsSince s.since value
+
+-- a seat that has not done so in this cycle
+pub record MayPassGlobals (z : Cycle) (a : ℕ) (s : Shared) (i : ℕ) : Type 0 where
+  pub at : s.words cell.Gcur ≡ i
+  pub behind : z.arena.layout.globals ≤ i
+  pub seat : a < seats_of z.arena.layout
+  pub first : s.passed a ≡ false
 
 -- a register of a goroutine that goes on, which takes what is safe, if its stack is scanned
 pub record MaySetRegister (z : Cycle) (a : ℕ) (s : Shared) (g value : ℕ) : Type 0 where
@@ -161,7 +168,7 @@ May z a s (Blacken o) = (s.colour o ≡ Taken a) × ((k : ℕ) → IsPointer s.e
 May z a s (PutField x value) = BehindBarrier s (s.words (cell.Field x)) value
 May z a s (PutGlobal i value) = BehindBarrier s (s.words (cell.Global i)) value
 May z a s (ClaimGlobal i) = (s.words cell.Gcur ≡ i) × (i < z.arena.layout.globals)
-May z a s (PassGlobals i) = (s.words cell.Gcur ≡ i) × (z.arena.layout.globals ≤ i)
+May z a s (PassGlobals i) = MayPassGlobals z a s i
 May z a s (ReadGlobal i) = s.progress i ≡ Claimed a
 May z a s (ScanGlobal i value) = (s.progress i ≡ Read a value) × IsClean (mark_words s.words) (s.words (cell.Global i))
 May z a s (SetRegister g d value) = MaySetRegister z a s g value
@@ -198,6 +205,7 @@ pub record Others (z : Cycle) (a : ℕ) (s t : Shared) : Type 0 where
   pub read : (i value : ℕ) → (s.progress i ≡ Read a value) ↔ (t.progress i ≡ Read a value)
   pub held : (b : ℕ) → HasBuffer a s b ↔ HasBuffer a t b
   pub filled : (b : ℕ) → HasBuffer a s b → t.filled b ≡ s.filled b
+  pub passes : t.passed a ≡ s.passed a
 
 -- the move changes no stack
 abbrev pub LeavesStacks : Move → Type 0

@@ -1,7 +1,7 @@
 //! What holds of the moves of marking. The functions do nothing; what they ensure is proved.
 
 ghost use Rattle.gh_marks.specs.Example.{OneCycleIsMade};
-ghost use Rattle.gh_marks.specs.Laws.{EachFactLasts, EachHandFollows, EachHandLasts, EachLoadIsSafe, EachMoveGuards, EachMoveKeeps, EachMoveLeaves, EachMoveLeavesTheDead, EachOwnMoveLeaves, EachStepGoesByMoves, MarkingBegins, MarkingEndsClean, TheDeadAreWhite, WhatIsFoundIsDone, WhatIsKeptGoesOn};
+ghost use Rattle.gh_marks.specs.Laws.{EachFactLasts, EachHandFollows, EachHandLasts, EachLoadIsSafe, EachMoveGuards, EachMoveKeeps, EachMoveLeaves, EachMoveLeavesTheDead, EachOwnMoveLeaves, EachStepGoesByMoves, MarkingBegins, MarkingEndsClean, TheCursorIsSmall, TheDeadAreWhite, WhatIsFoundIsDone, WhatIsKeptGoesOn};
 
 use gh_base::laws::{buffers_are_held, rows_are_written};
 
@@ -66,6 +66,11 @@ pub fn facts_last()
 /// What a load brings is safe in a scanned stack.
 pub fn loads_are_safe()
     ensures { EachLoadIsSafe }
+{}
+
+/// The cursor of the globals stays far below where its word would begin anew.
+pub fn the_cursor_is_small()
+    ensures { TheCursorIsSmall }
 {}
 
 /// Marking begins with all of it.

@@ -1,8 +1,9 @@
 -- While marking is on a worker shades the global that it has read; with its mark the global is scanned. And all of a worker's steps together.
-use Rattle.std.proofs.Common.{◌≡◌, ℕ, ◌≤◌, Bool, true, false, cond, Option, Some, None, inl, inr, refl, sym, subst, arith}
+use Rattle.std.proofs.Common.{◌≡◌, ℕ, ◌≤◌, Bool, true, false, cond, Option, Some, None, inl, inr, refl, sym, subst, arith, ◌<◌, ◌∙◌}
 use Rattle.gh_base.specs.declared.cell.Cell.TheVariants as cell
 use Rattle.gh_base.specs.declared.held.Held.{Held}
 use Rattle.gh_base.specs.declared.layout.Layout.{Layout}
+use Rattle.gh_base.specs.Cells.{seats_of}
 use Rattle.gh_base.specs.Rows.{mark_words}
 use Rattle.gh_base.specs.Steps.{cell_of, effect}
 use Rattle.gh_marks.specs.Colours.{Cycle, IsClean, IsMarked, Shared}
@@ -22,7 +23,7 @@ use Rattle.gh_wbuf.specs.RoomFinding as room
 use Rattle.gh_worker.specs.declared.worker.WorkerStage.{WorkerStage}
 use Rattle.gh_worker.specs.declared.worker.WorkerStage.TheVariants as worker
 use Rattle.gh_worker.specs.Listing.{Working, after_room, after_shade, asks_at, at_stage, goes_at}
-use Rattle.gh_worker.specs.MarkFacts.{Facts, KnowsCursor, StageFacts, WorksByMoves, claim_at, in_hand}
+use Rattle.gh_worker.specs.MarkFacts.{Facts, StageFacts, WorksByMoves, claim_at, in_hand}
 use Rattle.gh_worker.proofs.MarkSteps.{Known, claims, gives, load-cursor, load-phase, read-global, resumed, resumes, scans, still, takes}
 
 -- what shading leaves to be known at its next stage, with the global that the worker has then
@@ -40,7 +41,7 @@ scans-global k z a i t n good f marked = lands_by z a t t.words (λ u. Shading z
             let is : shade.object_of n.reference ≡ o = omega (arith, f.some, e, p) in
             subst (λ (x : ℕ). IsMarked (mark_words t.words) x) is marked
 
-module _ (k : Known) (z : Cycle) (a : ℕ) (s : Shared) (g : Good z s) (objects : KnowsObjects z s) (cursor : KnowsCursor s) (w : Working) (layout_is : w.layout ≡ z.arena.layout) (seat_is : w.seat ≡ a) where
+module _ (k : Known) (z : Cycle) (a : ℕ) (s : Shared) (g : Good z s) (objects : KnowsObjects z s) (w : Working) (layout_is : w.layout ≡ z.arena.layout) (seat_is : w.seat ≡ a) (seat_in : a < seats_of z.arena.layout) where
   -- behind the mark the global is scanned, at whichever stage that leads to
   behind-mark : (i : ℕ) (t : Shared) (m : shade.Shading) (whole : Bool) → Good z t → Shading z a t (ReadOf i m.reference) (shade.at_stage m (shade.after_mark m.held whole)) →
       Lands z a t t.words (λ u. Shading z a u (claim_at i m.reference (shade.after_mark m.held whole)) (shade.at_stage m (shade.after_mark m.held whole)))
@@ -65,10 +66,10 @@ module _ (k : Known) (z : Cycle) (a : ℕ) (s : Shared) (g : Good z s) (objects 
 
   module _ (t : Shared) (sh : shade.Shading) (n : ℕ) where
     shaded-then : (i : ℕ) (out : Option Shaded) → shade.gives sh n ≡ out → Shading z a t (claim_at i (shade.goes sh n).reference (shade.goes sh n).stage) (shade.goes sh n) → Facts z a t (after_shade w (shade.goes sh n) out)
-    shaded-then i None e f = record { layout_is = layout_is; seat_is = seat_is; stage_is = (i, f) }
+    shaded-then i None e f = record { layout_is = layout_is; seat_is = seat_is; seat_in = seat_in; stage_is = (i, f) }
     shaded-then i (Some shaded.Done) e f =
         let ended : Shading z a t NoClaim (shade.goes sh n) = subst (λ (q : ShadeStage). Shading z a t (claim_at i (shade.goes sh n).reference q) (shade.goes sh n)) (k.shade.ended sh n e) f in
-        record { layout_is = layout_is; seat_is = seat_is; stage_is = (k.shade.ends z a t (in_hand None NoClaim) sh n e ended).hands }
+        record { layout_is = layout_is; seat_is = seat_is; seat_in = seat_in; stage_is = (k.shade.ends z a t (in_hand None NoClaim) sh n e ended).hands }
     shaded-then i (Some shaded.WantsRoom) e f =
         let waiting : Shading z a t NoClaim (shade.goes sh n) = subst (λ (q : ShadeStage). Shading z a t (claim_at i (shade.goes sh n).reference q) (shade.goes sh n)) (k.shade.waiting sh n e) f in
         let waits : shade_facts.WaitsForRoom a t (in_hand None NoClaim) (shade.goes sh n) = k.shade.wants z a t (in_hand None NoClaim) sh n e waiting in
@@ -76,6 +77,7 @@ module _ (k : Known) (z : Cycle) (a : ℕ) (s : Shared) (g : Good z s) (objects 
         record {
           layout_is = layout_is;
           seat_is = seat_is;
+          seat_in = seat_in;
           stage_is = (
             waits.some,
             waits.marked,
@@ -96,10 +98,11 @@ module _ (k : Known) (z : Cycle) (a : ℕ) (s : Shared) (g : Good z s) (objects 
   -- the search for room
   found-then : (t : Shared) (sh : shade.Shading) (r : room.RoomFinding) (n : ℕ) (out : Option Held) → room.gives r n ≡ out → 1 ≤ sh.reference → IsMarked (mark_words t.words) (shade.object_of sh.reference) → buffer_facts.RoomFacts z a s (pending sh.reference) r → buffer_facts.RoomFacts z a t (pending sh.reference) (room.goes r n) →
       Facts z a t (after_room w sh (room.goes r n) out)
-  found-then t sh r n None e some marked was f = record { layout_is = layout_is; seat_is = seat_is; stage_is = (some, marked, f) }
+  found-then t sh r n None e some marked was f = record { layout_is = layout_is; seat_is = seat_is; seat_in = seat_in; stage_is = (some, marked, f) }
   found-then t sh r n (Some h) e some marked was f = record {
     layout_is = layout_is;
     seat_is = seat_is;
+    seat_in = seat_in;
     stage_is = (0, k.shade.told z a t (in_hand None NoClaim) sh h some marked (omega (arith, k.buffers.room a n r h was.knows e)) (subst (λ (held : Option Held). Hands a t (buffer_facts.holding (pending sh.reference) held)) (k.buffers.held n r h e) f.hands));
   }
 
@@ -112,23 +115,23 @@ module _ (k : Known) (z : Cycle) (a : ℕ) (s : Shared) (g : Good z s) (objects 
 
   leaves : Hands a s (in_hand w.held NoClaim) → Steps z a s (asks_at w worker.Leave) (λ t. Facts z a t (goes_at w worker.Leave (s.words (cell_of (asks_at w worker.Leave)))))
   leaves x = lands_by z a s (effect s.words (asks_at w worker.Leave)) (λ t. Facts z a t (at_stage w worker.Done)) (Quiet (asks_at w worker.Leave)) tt refl
-      (record { layout_is = layout_is; seat_is = seat_is; stage_is = (k.follow z a s (in_hand w.held NoClaim) g x).quiet (asks_at w worker.Leave) tt })
+      (record { layout_is = layout_is; seat_is = seat_is; seat_in = seat_in; stage_is = (k.follow z a s (in_hand w.held NoClaim) g x).quiet (asks_at w worker.Leave) tt })
 
   own-at : (p : WorkerStage) → Facts z a s w → StageFacts z a s w.held p → Steps z a s (asks_at w p) (λ t. Facts z a t (goes_at w p (s.words (cell_of (asks_at w p)))))
-  own-at worker.LoadPhase whole x = load-phase k z a s g objects cursor w layout_is seat_is x
-  own-at (worker.GiveBack m number) whole x = gives k z a s g objects cursor w layout_is seat_is m number x
+  own-at worker.LoadPhase whole x = load-phase k z a s g objects w layout_is seat_is seat_in x
+  own-at (worker.GiveBack m number) whole x = gives k z a s g objects w layout_is seat_is seat_in m number x
   own-at (worker.Resuming r) whole x =
       let n : ℕ = s.words (cell_of (resume.asks r)) in
-      resumes k z a s g objects cursor w layout_is seat_is r r.stage (goes_at w (worker.Resuming r) n) x.0 (λ t h. resumed k z a s g objects cursor w layout_is seat_is (resume.goes r n) (resume.gives r n) t x.1 h)
-  own-at (worker.Taking m) whole x = takes k z a s g objects cursor w layout_is seat_is m x
-  own-at (worker.Scanning m) whole x = scans k z a s g objects cursor w layout_is seat_is m x
-  own-at worker.LoadCursor whole x = load-cursor k z a s g objects cursor w layout_is seat_is x
-  own-at worker.Claim whole x = claims k z a s g objects cursor w layout_is seat_is x
-  own-at (worker.LoadGlobal i) whole x = read-global k z a s g objects cursor w layout_is seat_is i x.1
+      resumes k z a s g objects w layout_is seat_is seat_in r r.stage (goes_at w (worker.Resuming r) n) x.0 (λ t h. resumed k z a s g objects w layout_is seat_is seat_in (resume.goes r n) (resume.gives r n) t x.1 h)
+  own-at (worker.Taking m) whole x = takes k z a s g objects w layout_is seat_is seat_in m x
+  own-at (worker.Scanning m) whole x = scans k z a s g objects w layout_is seat_is seat_in m x
+  own-at worker.LoadCursor whole x = load-cursor k z a s g objects w layout_is seat_is seat_in x
+  own-at worker.Claim whole x = claims k z a s g objects w layout_is seat_is seat_in x.0 x.1
+  own-at (worker.LoadGlobal i) whole x = read-global k z a s g objects w layout_is seat_is seat_in i x.1
   own-at (worker.Shading sh) whole x = shades sh x.0 x.1
   own-at (worker.FindRoom sh r) whole x = finds sh r x.0 x.1 x.2
   own-at worker.Leave whole x = leaves x
-  own-at worker.Done whole x = still k z a s g objects cursor w layout_is seat_is cell.Touch w whole
+  own-at worker.Done whole x = still k z a s g objects w layout_is seat_is seat_in cell.Touch w whole
 
 stage-lasts : (k : Known) (z : Cycle) (a : ℕ) (s t : Shared) (held : Option Held) (p : WorkerStage) → Others z a s t → StageFacts z a s held p → StageFacts z a t held p
 stage-lasts k z a s t held worker.LoadPhase o x = k.last z a s t (in_hand held NoClaim) o x
@@ -137,7 +140,7 @@ stage-lasts k z a s t held (worker.Resuming r) o x = (k.last z a s t nothing o x
 stage-lasts k z a s t held (worker.Taking m) o x = k.buffers.takes.lasts z a s t nothing m o x
 stage-lasts k z a s t held (worker.Scanning m) o x = k.scan.keeps.lasts z a s t nothing m o x
 stage-lasts k z a s t held worker.LoadCursor o x = k.last z a s t (in_hand held NoClaim) o x
-stage-lasts k z a s t held worker.Claim o x = k.last z a s t (in_hand held NoClaim) o x
+stage-lasts k z a s t held worker.Claim o x = (o.passes ∙ x.0, k.last z a s t (in_hand held NoClaim) o x.1)
 stage-lasts k z a s t held (worker.LoadGlobal i) o x = (x.0, k.last z a s t (in_hand held (ClaimOf i)) o x.1)
 stage-lasts k z a s t held (worker.Shading sh) o x = (x.0, k.shade.keeps.lasts z a s t (in_hand None (claim_at x.0 sh.reference sh.stage)) sh o x.1)
 stage-lasts k z a s t held (worker.FindRoom sh r) o x = (x.0, o.keeps.marks (shade.object_of sh.reference) x.1, k.buffers.finds.lasts z a s t (record nothing { pending = Some (shade.object_of sh.reference) }) r o x.2)
@@ -146,7 +149,7 @@ stage-lasts k z a s t held worker.Done o x = k.last z a s t (in_hand held NoClai
 
 pub works-by-moves : Known → WorksByMoves
 works-by-moves k = record {
-  begins = λ z a s x. record { layout_is = refl; seat_is = refl; stage_is = x };
-  own_step = λ z a s w g objects cursor f. own-at k z a s g objects cursor w f.layout_is f.seat_is w.stage f f.stage_is;
-  lasts = λ z a s t w o f. record { layout_is = f.layout_is; seat_is = f.seat_is; stage_is = stage-lasts k z a s t w.held w.stage o f.stage_is };
+  begins = λ z a s seat x. record { layout_is = refl; seat_is = refl; seat_in = seat; stage_is = x };
+  own_step = λ z a s w g objects f. own-at k z a s g objects w f.layout_is f.seat_is f.seat_in w.stage f f.stage_is;
+  lasts = λ z a s t w o f. record { layout_is = f.layout_is; seat_is = f.seat_is; seat_in = f.seat_in; stage_is = stage-lasts k z a s t w.held w.stage o f.stage_is };
 }

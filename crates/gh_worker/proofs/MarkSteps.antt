@@ -10,13 +10,13 @@ use Rattle.gh_base.specs.declared.held.Held.{Held}
 use Rattle.gh_base.specs.declared.layout.Layout.{Layout}
 use Rattle.gh_base.specs.declared.pack.Phase.{Phase}
 use Rattle.gh_base.specs.declared.pack.Phase.TheVariants.{Off, Mark, Stop, Finished}
-use Rattle.gh_base.specs.Cells.{put}
+use Rattle.gh_base.specs.Cells.{put, seats_of}
 use Rattle.gh_base.specs.Packing.{phase_of}
 use Rattle.gh_base.specs.Steps.{cell_of, effect}
 use Rattle.gh_marks.specs.Colours.{Cycle, Shared, Taken}
 use Rattle.gh_marks.specs.Good.{Good}
 use Rattle.gh_marks.specs.Knows.{KnowsObject, KnowsObjects}
-use Rattle.gh_marks.specs.Laws.{EachHandFollows, EachHandLasts, EachStepGoesByMoves}
+use Rattle.gh_marks.specs.Laws.{EachHandFollows, EachHandLasts, EachStepGoesByMoves, TheCursorIsSmall}
 use Rattle.gh_marks.specs.Moves.{ClaimGlobal, IsQuiet, Keeps, Lands, PassGlobals, Quiet, ReadGlobal, ScanGlobal, Steps, Went, landing, landing_on, lands_by, lands_still, moved}
 use Rattle.gh_marks.specs.Seats.{ClaimOf, Hands, InHand, NoClaim, ReadOf, nothing}
 use Rattle.gh_phase.specs.declared.resume.Resumed.{Resumed}
@@ -36,17 +36,18 @@ use Rattle.gh_wbuf.specs.Facts as buffer_facts
 use Rattle.gh_worker.specs.declared.worker.WorkerStage.{WorkerStage}
 use Rattle.gh_worker.specs.declared.worker.WorkerStage.TheVariants as worker
 use Rattle.gh_worker.specs.Listing.{Working, after_give, after_global, after_resume, after_scan, after_take, at_stage, by_phase, done_with, goes_at, stops_at}
-use Rattle.gh_worker.specs.MarkFacts.{Facts, KnowsCursor, StageFacts, in_hand}
+use Rattle.gh_worker.specs.MarkFacts.{Facts, StageFacts, in_hand}
 
 pub record Known : Type 0 where
   pub last : EachHandLasts
+  pub small : TheCursorIsSmall
   pub follow : EachHandFollows
   pub steps : EachStepGoesByMoves
   pub buffers : buffer_facts.BuffersPassByMoves
   pub shade : shade_facts.ShadesByMoves
   pub scan : scan_facts.ScansByMoves
 
-module _ (k : Known) (z : Cycle) (a : ℕ) (s : Shared) (g : Good z s) (objects : KnowsObjects z s) (cursor : KnowsCursor s) (w : Working) (layout_is : w.layout ≡ z.arena.layout) (seat_is : w.seat ≡ a) where
+module _ (k : Known) (z : Cycle) (a : ℕ) (s : Shared) (g : Good z s) (objects : KnowsObjects z s) (w : Working) (layout_is : w.layout ≡ z.arena.layout) (seat_is : w.seat ≡ a) (seat_in : a < seats_of z.arena.layout) where
   abbrev Leads : Ask → Working → Type 0
   Leads ask n = Steps z a s ask (λ t. Facts z a t n)
 
@@ -56,7 +57,7 @@ module _ (k : Known) (z : Cycle) (a : ℕ) (s : Shared) (g : Good z s) (objects 
 
   -- the same worker, with another buffer, at another stage
   same : (t : Shared) (held : Option Held) (marks : ℕ) (stage : WorkerStage) → StageFacts z a t held stage → Facts z a t (record w { held = held; marks = marks; stage = stage })
-  same t held marks stage f = record { layout_is = layout_is; seat_is = seat_is; stage_is = f }
+  same t held marks stage f = record { layout_is = layout_is; seat_is = seat_is; seat_in = seat_in; stage_is = f }
 
   pub begin : (t : Shared) (rest : InHand) (held : Option Held) → Hands a t (buffer_facts.holding rest held) → buffer_facts.FactsBegin z a t rest held
   begin t rest held x = k.buffers.begin z a t rest held x
@@ -86,7 +87,7 @@ module _ (k : Known) (z : Cycle) (a : ℕ) (s : Shared) (g : Good z s) (objects 
 
         then : (t : Shared) → buffer_facts.GiveFacts z a t nothing (give.goes m n) → (out : Option (Unit {0})) → Facts z a t (after_give w (give.goes m n) number out)
         then t f None = same t w.held w.marks (worker.GiveBack (give.goes m n) number) f
-        then t f (Some x) = record { layout_is = layout_is; seat_is = seat_is; stage_is = (f.hands, refl) }
+        then t f (Some x) = record { layout_is = layout_is; seat_is = seat_is; seat_in = seat_in; stage_is = (f.hands, refl) }
 
   -- a stop is acknowledged
   quiet-step : (step : Ask) (n : Working) → IsQuiet s step → Hands a s nothing → ((t : Shared) → Hands a t nothing → Facts z a t n) → Leads step n
@@ -100,8 +101,8 @@ module _ (k : Known) (z : Cycle) (a : ℕ) (s : Shared) (g : Good z s) (objects 
   resumes r resume_stage.Ended n x f = still cell.Touch n (f s x)
 
   pub resumed : (r : resume.Resuming) (out : Option Resumed) (t : Shared) → w.held ≡ None → Hands a t nothing → Facts z a t (after_resume w r out)
-  resumed r None t e x = record { layout_is = layout_is; seat_is = seat_is; stage_is = (x, e) }
-  resumed r (Some out) t e x = record { layout_is = layout_is; seat_is = seat_is; stage_is = subst (λ (held : Option Held). Hands a t (in_hand held NoClaim)) (sym e) x }
+  resumed r None t e x = record { layout_is = layout_is; seat_is = seat_is; seat_in = seat_in; stage_is = (x, e) }
+  resumed r (Some out) t e x = record { layout_is = layout_is; seat_is = seat_is; seat_in = seat_in; stage_is = subst (λ (held : Option Held). Hands a t (in_hand held NoClaim)) (sym e) x }
 
   -- an object is taken
   taken-then : (t : Shared) → Good z t → (m : take.EntryTaking) (out : Option (Option ℕ)) → buffer_facts.TakeComes z a t nothing out m → Facts z a t (after_take w m out)
@@ -139,6 +140,7 @@ module _ (k : Known) (z : Cycle) (a : ℕ) (s : Shared) (g : Good z s) (objects 
   scanned-then t m n (Some words) e f = record {
     layout_is = layout_is;
     seat_is = seat_is;
+    seat_in = seat_in;
     stage_is = subst (λ (held : Option Held). Hands a t (in_hand held NoClaim)) (sym (held-given (scan.goes m n).slot words (scan.goes m n).held (scan.goes m n).stage e)) (k.scan.ends z a t nothing m n words e f);
   }
 
@@ -151,18 +153,24 @@ module _ (k : Known) (z : Cycle) (a : ℕ) (s : Shared) (g : Good z s) (objects 
 
   -- the cursor
   pub load-cursor : Hands a s (in_hand w.held NoClaim) → Leads (Load cell.Gcur) (goes_at w worker.LoadCursor (s.words cell.Gcur))
-  load-cursor x = by (ltb (s.words cell.Gcur) w.layout.globals) where
-    by : (b : Bool) → Leads (Load cell.Gcur) (at_stage w (cond b worker.Claim worker.LoadPhase))
-    by true = still cell.Gcur (at_stage w worker.Claim) (same s w.held w.marks worker.Claim x)
-    by false = still cell.Gcur (at_stage w worker.LoadPhase) (same s w.held w.marks worker.LoadPhase x)
+  load-cursor x = by (ltb (s.words cell.Gcur) w.layout.globals) refl where
+    first : (b : Bool) → s.passed a ≡ b → s.words cell.Gcur < w.layout.globals → s.passed a ≡ false
+    first false e lt = e
+    first true e lt =
+        let inside : s.words cell.Gcur < z.arena.layout.globals = subst (λ (l : Layout). s.words cell.Gcur < l.globals) layout_is lt in
+        absurd (omega (arith, inside, g.passes.behind a e))
 
-  pub claims : Hands a s (in_hand w.held NoClaim) → Leads (Add cell.Gcur 1) (goes_at w worker.Claim (s.words cell.Gcur))
-  claims x = by (ltb c w.layout.globals) refl where
+    by : (b : Bool) → ltb (s.words cell.Gcur) w.layout.globals ≡ b → Leads (Load cell.Gcur) (at_stage w (cond b worker.Claim worker.LoadPhase))
+    by true e = still cell.Gcur (at_stage w worker.Claim) (same s w.held w.marks worker.Claim (first (s.passed a) refl (ltb-true _ _ e), x))
+    by false e = still cell.Gcur (at_stage w worker.LoadPhase) (same s w.held w.marks worker.LoadPhase x)
+
+  pub claims : s.passed a ≡ false → Hands a s (in_hand w.held NoClaim) → Leads (Add cell.Gcur 1) (goes_at w worker.Claim (s.words cell.Gcur))
+  claims first x = by (ltb c w.layout.globals) refl where
     c : ℕ
     c = s.words cell.Gcur
 
     sum : put s.words cell.Gcur (c + 1) ≡ effect s.words (Add cell.Gcur 1)
-    sum = ap (λ (n : ℕ). put s.words cell.Gcur n) (sym (mod-eq_of_lt cursor))
+    sum = ap (λ (n : ℕ). put s.words cell.Gcur n) (sym (mod-eq_of_lt (k.small z s g)))
 
     by : (b : Bool) → ltb c w.layout.globals ≡ b → Leads (Add cell.Gcur 1) (at_stage w (cond b (worker.LoadGlobal c) worker.LoadPhase))
     by true e =
@@ -173,7 +181,7 @@ module _ (k : Known) (z : Cycle) (a : ℕ) (s : Shared) (g : Good z s) (objects 
     by false e =
         let more : w.layout.globals ≤ c = ltb-false _ _ e in
         let behind : z.arena.layout.globals ≤ c = subst (λ (l : Layout). l.globals ≤ c) layout_is more in
-        lands_by z a s (effect s.words (Add cell.Gcur 1)) (λ t. Facts z a t (at_stage w worker.LoadPhase)) (PassGlobals c) (refl, behind) sum
+        lands_by z a s (effect s.words (Add cell.Gcur 1)) (λ t. Facts z a t (at_stage w worker.LoadPhase)) (PassGlobals c) (record { at = refl; behind = behind; seat = seat_in; first = first }) sum
         (same (moved z a s (PassGlobals c)) w.held w.marks worker.LoadPhase ((k.follow z a s (in_hand w.held NoClaim) g x).passed c))
 
   -- a global is read
@@ -194,7 +202,7 @@ module _ (k : Known) (z : Cycle) (a : ℕ) (s : Shared) (g : Good z s) (objects 
         then good = by (eqb v 0) refl where
           by : (b : Bool) → eqb v 0 ≡ b → Lands z a (read i) (read i).words (λ u. Facts z a u (cond b (done_with w w.held 1) (at_stage w (worker.Shading (shade.opening w.layout (reference_in w.layout v) w.held)))))
           by true e = lands_by z a (read i) (read i).words (λ u. Facts z a u (done_with w w.held 1)) (ScanGlobal i v) ((reads.has.is_read i v).0 refl, λ o p. absurd (nil o (eqb-true _ _ e) p)) refl
-              (record { layout_is = layout_is; seat_is = seat_is; stage_is = (k.follow z a (read i) (in_hand w.held (ReadOf i v)) good reads).scanned i v refl }) where
+              (record { layout_is = layout_is; seat_is = seat_is; seat_in = seat_in; stage_is = (k.follow z a (read i) (in_hand w.held (ReadOf i v)) good reads).scanned i v refl }) where
                 nil : (o : ℕ) → v ≡ 0 → v ≡ o + 1 → ⊥
                 nil o e p = omega arith
           by false e =

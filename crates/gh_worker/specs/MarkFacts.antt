@@ -1,7 +1,7 @@
 -- What is known of a worker at each stage while marking is on, and what each step of its own is then. At each stage it has in hand what the stage says and nothing else, so at a stop, with its buffer given back, it has nothing.
-use Rattle.std.specs.Prelude.{◌≡◌, ℕ, ◌+◌, ◌^◌, ◌<◌, ◌≤◌, Option, Some, None}
-use Rattle.gh_base.specs.declared.cell.Cell.TheVariants as cell
+use Rattle.std.specs.Prelude.{◌≡◌, ℕ, ◌<◌, ◌≤◌, false, Option, Some, None}
 use Rattle.gh_base.specs.declared.held.Held.{Held}
+use Rattle.gh_base.specs.Cells.{seats_of}
 use Rattle.gh_base.specs.Rows.{mark_words}
 use Rattle.gh_base.specs.Steps.{cell_of}
 use Rattle.gh_marks.specs.Colours.{Cycle, IsMarked, Shared}
@@ -19,7 +19,7 @@ use Rattle.gh_worker.specs.declared.worker.WorkerStage.{WorkerStage}
 use Rattle.gh_worker.specs.declared.worker.WorkerStage.TheVariants as worker
 use Rattle.gh_worker.specs.Listing.{Working, asks, goes, opening}
 
--- what it has in hand: a buffer, and a global
+-- What it has in hand: a buffer, and a global.
 abbrev pub in_hand : Option Held → Claim → InHand
 in_hand held claim = record nothing { held = held; claim = claim }
 
@@ -38,7 +38,7 @@ StageFacts z a s held (worker.Resuming r) = Hands a s nothing × (held ≡ None)
 StageFacts z a s held (worker.Taking t) = buffer_facts.TakeFacts z a s nothing t
 StageFacts z a s held (worker.Scanning m) = scan_facts.Facts z a s nothing m
 StageFacts z a s held worker.LoadCursor = Hands a s (in_hand held NoClaim)
-StageFacts z a s held worker.Claim = Hands a s (in_hand held NoClaim)
+StageFacts z a s held worker.Claim = (s.passed a ≡ false) × Hands a s (in_hand held NoClaim)
 StageFacts z a s held (worker.LoadGlobal i) = (i < z.arena.layout.globals) × Hands a s (in_hand held (ClaimOf i))
 StageFacts z a s held (worker.Shading sh) = (i : ℕ) × shade_facts.Facts z a s (in_hand None (claim_at i sh.reference sh.stage)) sh
 StageFacts z a s held (worker.FindRoom sh r) = (1 ≤ sh.reference) × IsMarked (mark_words s.words) (shade.object_of sh.reference) × buffer_facts.RoomFacts z a s (record nothing { pending = Some (shade.object_of sh.reference) }) r
@@ -48,13 +48,10 @@ StageFacts z a s held worker.Done = Hands a s (in_hand held NoClaim)
 pub record Facts (z : Cycle) (a : ℕ) (s : Shared) (w : Working) : Type 0 where
   pub layout_is : w.layout ≡ z.arena.layout
   pub seat_is : w.seat ≡ a
+  pub seat_in : a < seats_of z.arena.layout
   pub stage_is : StageFacts z a s w.held w.stage
 
--- The cursor is far from where it would begin anew: each worker adds to it at most once behind the last global. Whoever runs the workers knows that.
-abbrev pub KnowsCursor : Shared → Type 0
-KnowsCursor s = s.words cell.Gcur + 1 < 2 ^ 64
-
 pub record WorksByMoves : Type 0 where
-  pub begins : (z : Cycle) (a : ℕ) (s : Shared) → Hands a s nothing → Facts z a s (opening z.arena.layout a)
-  pub own_step : (z : Cycle) (a : ℕ) (s : Shared) (w : Working) → Good z s → KnowsObjects z s → KnowsCursor s → Facts z a s w → Steps z a s (asks w) (λ t. Facts z a t (goes w (s.words (cell_of (asks w)))))
+  pub begins : (z : Cycle) (a : ℕ) (s : Shared) → a < seats_of z.arena.layout → Hands a s nothing → Facts z a s (opening z.arena.layout a)
+  pub own_step : (z : Cycle) (a : ℕ) (s : Shared) (w : Working) → Good z s → KnowsObjects z s → Facts z a s w → Steps z a s (asks w) (λ t. Facts z a t (goes w (s.words (cell_of (asks w)))))
   pub lasts : (z : Cycle) (a : ℕ) (s t : Shared) (w : Working) → Others z a s t → Facts z a s w → Facts z a t w

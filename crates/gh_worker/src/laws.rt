@@ -5,7 +5,7 @@ ghost use Rattle.gh_worker.specs.Handshake.{WorkersKeepHandshake};
 ghost use Rattle.gh_worker.specs.MarkFacts.{WorksByMoves};
 ghost use Rattle.gh_worker.specs.Works.{GlobalsAreClaimed, NothingIsHeldAtStops, PhasesAreKept, TakenObjectsAreScanned, WordsAreCounted, WorkersLeaveOnce};
 
-use gh_marks::laws::{facts_last, hands_follow, steps_go_by_moves};
+use gh_marks::laws::{facts_last, hands_follow, steps_go_by_moves, the_cursor_is_small};
 use gh_phase::laws::going_on_keeps_the_handshake;
 use gh_scan::laws::{marking_is_quiet, scans_by_moves};
 use gh_shade::laws::shades_by_moves;
@@ -68,6 +68,7 @@ pub fn works_by_moves()
     facts_last();
     hands_follow();
     steps_go_by_moves();
+    the_cursor_is_small();
     buffers_pass_by_moves();
     shades_by_moves();
     scans_by_moves();
