@@ -1,6 +1,7 @@
 pub mod Polling
 pub mod Knowing
 pub mod LastCycle
+pub mod CycleMarking
 pub mod Shaking
 pub mod Due
 pub mod EachOnce

@@ -1,5 +1,6 @@
 pub mod Handshake
 pub mod Pollers
+pub mod Marking
 pub mod Turns
 pub mod Order
 pub mod Processors

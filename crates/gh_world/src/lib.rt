@@ -20,6 +20,7 @@
 
 mod handshake;
 mod laws;
+mod marking;
 mod pollers;
 mod turns;
 mod world;
@@ -28,6 +29,7 @@ pub use handshake::{
     Actor, PartyToHandshake, every_list_keeps_the_handshake, every_step_keeps_the_handshake,
 };
 pub use laws::{a_script_has_one_run, every_legal_list_stands, every_run_is_explained, runs_go_on};
+pub use marking::{MarksBeside, every_list_marks};
 pub use pollers::{Poller, pollers_keep_the_handshake};
 pub use turns::{Next, total_of};
 pub use world::{Event, World};

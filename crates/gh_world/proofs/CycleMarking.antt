@@ -1,0 +1,7 @@
+-- While a cycle is marked, over every legal list of processors, workers and a coordinator.
+pub mod Seats
+pub mod Apart
+pub mod Beside
+pub mod Checking
+pub mod Moving
+pub mod Lists

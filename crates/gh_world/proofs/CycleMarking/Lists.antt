@@ -1,0 +1,258 @@
+-- What holds while a cycle is marked, after every legal list; and what holds behind the coordinator's check.
+use Rattle.std.proofs.Common.{◌≡◌, ◌≢◌, ℕ, ◌+◌, ◌<◌, ◌≤◌, ◌==◌, Bool, true, false, cond, ltb, refl, sym, ap, subst, ◌∙◌, arith, Some, None, List, [], ◌∷◌}
+use Rattle.std.proofs.lemmas.Bool.{ltb-true, ltb-false}
+use Rattle.std.proofs.lemmas.Bool.Decides.{nat_tests}
+use Rattle.gh_base.specs.declared.cell.Ask.{Ask}
+use Rattle.gh_base.specs.declared.cell.Cell.{Cell}
+use Rattle.gh_base.specs.declared.cell.Cell.TheVariants as cell
+use Rattle.gh_base.specs.declared.layout.Layout.{Layout}
+use Rattle.gh_base.specs.declared.machine.Entry.{Entry}
+use Rattle.gh_base.specs.Cells.{buffers_of, Words}
+use Rattle.gh_base.specs.Holding.{holder_in}
+use Rattle.gh_base.specs.Lists.{Kind, Legal, started}
+use Rattle.gh_base.specs.Packing.{buffer_of}
+use Rattle.gh_base.specs.Rows.{mark_words, row_bit}
+use Rattle.gh_base.specs.Steps.{cell_of, ChangesOneCell, effect}
+use Rattle.gh_heap.specs.Rights.{Arena}
+use Rattle.gh_marks.specs.Colours.{Black, Buffered, Colour, Cycle, IsShaded, mark_of, Pending, Placing, Shared, Taken, White}
+use Rattle.gh_marks.specs.Ends.{IsDone, IsFound}
+use Rattle.gh_marks.specs.Laws.{MarkingEndsClean, WhatIsFoundIsDone}
+use Rattle.gh_marks.specs.Seats.{Hands, nothing}
+use Rattle.gh_phase.specs.declared.view.RunPhase.{RunPhase}
+use Rattle.gh_phase.specs.declared.view.RunPhase.TheVariants as run
+use Rattle.gh_phase.specs.Handshake.{Party, Stage, Stopped}
+use Rattle.gh_coord.specs.declared.coord.CoordStage.{CoordStage}
+use Rattle.gh_coord.specs.declared.coord.CoordStage.TheVariants.{Check, Close, Count, Done, LoadAck, LoadWant, MarkOn, Open, Stop, StopAgain, Sweep, Tell, Watch}
+use Rattle.gh_coord.specs.Handshake as leading
+use Rattle.gh_coord.specs.Listing as coord
+use Rattle.gh_coord.specs.Stopping.{acks_of}
+use Rattle.gh_worker.specs.Listing as worker
+use Rattle.gh_worker.specs.MarkFacts as marks
+use Rattle.gh_world.specs.declared.handshake.Actor.{Actor}
+use Rattle.gh_world.specs.declared.handshake.Actor.TheVariants as actor
+use Rattle.gh_world.specs.Handshake.{actors, asks, is_busy, KeepsIt, Pacing, place_of, StepKeepsIt, WaitsWithNone}
+use Rattle.gh_world.specs.Marking.{actors_after, EndsClean, IsChecked, IsInMarking, IsLedBy, KnowsHeap, MarksToTheEnd, PollsByMoves, setting, words, IsInLimits}
+use Rattle.gh_world.proofs.CycleMarking.Apart.{stays_clear}
+use Rattle.gh_world.proofs.CycleMarking.Checking.{begins as begins_cycle, checked_lasts, CheckedAt, Found, Goes, goes_on, goes_so, leaves}
+use Rattle.gh_world.proofs.CycleMarking.Moving as moving
+use Rattle.gh_world.proofs.CycleMarking.Moving.{Known}
+use Rattle.gh_world.proofs.CycleMarking.Seats.{IsSeated, lead_started, leads, other, seated}
+
+module _ {P O : Type 0} (arena : Arena) (k : Kind P O) (pacing : Pacing) (may : ℕ → List (Entry O) → O → Bool) (sound : Layout → P → Type 0) (party : P → Party) (stage : P → Stage)
+    (facts : Cycle → (a : ℕ) → Shared → P → Type 0) (knows : Cycle → Shared → (ℕ → Actor P) → Type 0)
+    (limits : IsInLimits arena.layout) (known : Known) (polls : PollsByMoves arena k pacing may stage facts knows) (heap : KnowsHeap arena k pacing may stage facts knows)
+    (keeps : (es : List (Entry O)) → Legal (setting arena k pacing may) es → KeepsIt sound party stage (setting arena k pacing may) es)
+    (step_keeps : (e : Entry O) (es : List (Entry O)) → Legal (setting arena k pacing may) (e ∷ es) → StepKeepsIt sound party stage (setting arena k pacing may) e es) where
+  abbrev n : ℕ
+  n = acks_of arena.layout
+
+  abbrev at : List (Entry O) → ℕ → Actor P
+  at = actors_after arena k pacing may
+
+  abbrev told : List (Entry O) → Words
+  told = words arena k pacing may
+
+  abbrev Led : List (Entry O) → coord.Coordinating → Type 0
+  Led = IsLedBy arena k pacing may
+
+  abbrev In : List (Entry O) → coord.Coordinating → Type 0
+  In = IsInMarking arena k pacing may stage facts knows
+
+  abbrev Lawful : List (Entry O) → Type 0
+  Lawful = Legal (setting arena k pacing may)
+
+  record Holds (es : List (Entry O)) (c : coord.Coordinating) : Type 0 where
+    marking : In es c
+    checked : CheckedAt arena.layout c.begun (told es) c.stage
+
+  seat_of : (es : List (Entry O)) (a : ℕ) (m : Actor P) → at es a ≡ m → IsSeated arena.layout a m
+  seat_of es a m is = subst (IsSeated arena.layout a) is (seated arena.layout k pacing es a)
+
+  -- before the first step nothing is marked
+  none_at_first : (c : coord.Coordinating) → Led [] c → leading.Marks c.stage → ⊥
+  none_at_first c led on = go (ltb n arena.layout.procs) (ltb n n) led where
+    go : (b d : Bool) → cond b (actor.Runs (k.start n)) (cond d (actor.Marks (worker.opening arena.layout n)) (actor.Leads (coord.opening arena.layout n pacing.gogc pacing.minheap pacing.room))) ≡ actor.Leads c → ⊥
+    go true d x = absurd cc
+    go false true x = absurd cc
+    go false false x =
+        let is : coord.opening arena.layout n pacing.gogc pacing.minheap pacing.room ≡ c = cc in
+        subst (λ (y : coord.Coordinating). leading.Marks y.stage) (sym is) on
+
+  module _ (e : Entry O) (es : List (Entry O)) (legal : Lawful (e ∷ es)) where
+    abbrev a : ℕ
+    a = e.actor
+
+    others_stay : (b : ℕ) → b ≢ a → at (e ∷ es) b ≡ at es b
+    others_stay b differs = other arena.layout k pacing e es b (grind (arith, nat_tests, differs))
+
+    -- a step of a processor or a worker
+    module _ (c : coord.Coordinating) (led : Led es c) (on : leading.Marks c.stage) (h : Holds es c) (among : a < n) where
+      -- where the world is stopped it changes no word
+      still : (phase : RunPhase) → leading.post_at c.stage ≡ Stopped phase → told (e ∷ es) ≡ told es
+      still phase post = ap (effect (told es)) ((step_keeps e es legal).still (leading.lead_of c) phase (ap (place_of party stage) led) post among).0
+
+      by : (m : Actor P) → at es a ≡ m → In (e ∷ es) c
+      by (actor.Runs m) is = moving.by_processor arena k pacing may stage facts knows known polls heap e es c c legal led refl h.marking m on (seat_of es a (actor.Runs m) is) is
+      by (actor.Marks w) is = moving.by_worker arena k pacing may stage facts knows known polls heap e es c c legal led refl h.marking w (seat_of es a (actor.Marks w) is).0 among is
+      by (actor.Leads x) is = absurd (let ge : n ≤ a = (seat_of es a (actor.Leads x) is).0 in omega (arith, ge, among))
+
+      by_others : Holds (e ∷ es) c
+      by_others = record { marking = by (at es a) refl; checked = checked_lasts arena.layout c.begun (told es) (told (e ∷ es)) c.stage still h.checked }
+
+    -- a step of the coordinator
+    module _ (c to : coord.Coordinating) (end : a ≡ n) (led : Led es c) (then : to ≡ coord.goes c e.found) (on : leading.Marks to.stage) (h : leading.Marks c.stage → Holds es c) where
+      here : at es a ≡ actor.Leads c
+      here = ap (at es) end ∙ led
+
+      abbrev begun : Actor P
+      begun = started (actors arena.layout k pacing) e.begun (at es a)
+
+      begun_is : begun ≡ actor.Leads c
+      begun_is = ap (started (actors arena.layout k pacing) e.begun) here ∙ lead_started arena.layout k pacing e.begun c
+
+      busy : coord.is_busy c.stage ≡ true
+      busy = sym (ap (is_busy k) begun_is) ∙ legal.1.runs
+
+      asked : e.ask ≡ coord.asks c
+      asked = legal.1.asks ∙ ap (asks k) begun_is
+
+      found : e.found ≡ told es (cell_of (coord.asks c))
+      found = legal.1.found ∙ ap (λ (q : Ask). told es (cell_of q)) asked
+
+      goes_by : Goes arena.layout c.begun (told es) c c.stage (coord.goes c e.found)
+      goes_by = goes_so arena.layout c.begun (told es) c (coord.counted c).marks (seat_of es n (actor.Leads c) led).1 refl c.stage e.found busy found
+
+      checked_then : to.begun ≡ c.begun → CheckedAt arena.layout c.begun (effect (told es) (coord.asks c)) to.stage → CheckedAt arena.layout to.begun (told (e ∷ es)) to.stage
+      checked_then same x = subst (λ (b : ℕ). CheckedAt arena.layout b (told (e ∷ es)) to.stage) (sym same) (subst (λ (q : Ask). CheckedAt arena.layout c.begun (effect (told es) q) to.stage) (sym asked) x)
+
+      by_lead : Goes arena.layout c.begun (told es) c c.stage to → Holds (e ∷ es) to
+      by_lead (begins_cycle b quiet same x) = record {
+        marking = moving.by_coordinator arena k pacing may stage facts knows known polls heap e es c to legal led same (moving.begins arena k pacing may stage facts knows known polls heap party sound es c legal.0 led b (keeps es legal.0)) end here quiet;
+        checked = checked_then same x;
+      }
+      by_lead (goes_on was quiet same x) = record {
+        marking = moving.by_coordinator arena k pacing may stage facts knows known polls heap e es c to legal led same (h was).marking end here quiet;
+        checked = checked_then same (x (h was).checked);
+      }
+      by_lead (leaves off) = absurd (off on)
+
+      by_it : Holds (e ∷ es) to
+      by_it = by_lead (subst (λ (y : coord.Coordinating). Goes arena.layout c.begun (told es) c c.stage y) (sym then) goes_by)
+
+  -- who is at the coordinator's seat
+  record LedBefore (es : List (Entry O)) : Type 0 where
+    lead : coord.Coordinating
+    led_by : Led es lead
+
+  led_before : (es : List (Entry O)) (m : Actor P) → at es n ≡ m → LedBefore es
+  led_before es (actor.Leads c) is = record { lead = c; led_by = is }
+  led_before es (actor.Runs m) is = absurd (let lt : n < arena.layout.procs = seat_of es n (actor.Runs m) is in omega (arith, lt))
+  led_before es (actor.Marks w) is = absurd (let lt : n < n = (seat_of es n (actor.Marks w) is).1 in omega (arith, lt))
+
+  follows : (e : Entry O) (es : List (Entry O)) → Lawful (e ∷ es) → ((c : coord.Coordinating) → Led es c → leading.Marks c.stage → Holds es c) → (c : coord.Coordinating) → Led (e ∷ es) c → leading.Marks c.stage → Holds (e ∷ es) c
+  follows e es legal before c led on = go (e.actor == n) refl where
+    go : (b : Bool) → (e.actor == n) ≡ b → Holds (e ∷ es) c
+    go false x =
+        let was : Led es c = sym (other arena.layout k pacing e es n x) ∙ led in
+        let within : e.actor < n + 1 = legal.1.actor in
+        by_others e es legal c was on (before c was on) (grind (arith, nat_tests, x, within))
+    go true x =
+        let end : e.actor ≡ n = grind (arith, nat_tests) in
+        let b = led_before es (at es n) refl in
+        let then : at (e ∷ es) n ≡ actor.Leads (coord.goes b.lead e.found) = sym (ap (at (e ∷ es)) end) ∙ leads arena.layout k pacing e es b.lead (ap (at es) end ∙ b.led_by) in
+        by_it e es legal b.lead c end b.led_by (let both : actor.Leads c ≡ actor.Leads (coord.goes b.lead e.found) = sym led ∙ then in cc) on (before b.lead b.led_by)
+
+  holds : (es : List (Entry O)) → Lawful es → (c : coord.Coordinating) → Led es c → leading.Marks c.stage → Holds es c
+  holds [] legal c led on = absurd (none_at_first c led on)
+  holds (e ∷ es) legal c led on = follows e es legal (λ x was marks. holds es legal.0 x was marks) c led on
+
+  -- Where the coordinator has checked it.
+  module _ (one : ChangesOneCell) (done : WhatIsFoundIsDone) (clean : MarkingEndsClean) (es : List (Entry O)) (legal : Lawful es) (c : coord.Coordinating) (led : Led es c) (i : In es c) (f : Found arena.layout c.begun (told es)) (post : leading.post_at c.stage ≡ Stopped run.Mark) where
+    abbrev z : Cycle
+    z = i.cycle
+
+    abbrev s : Shared
+    s = i.shared
+
+    kept : KeepsIt sound party stage (setting arena k pacing may) es
+    kept = keeps es legal
+
+    -- nobody has anything in hand
+    seats : (a : ℕ) → Hands a s nothing
+    seats a = go (at es a) refl where
+      among : (b : Bool) → ltb a n ≡ b → (a < n → Hands a s nothing) → Hands a s nothing
+      among true x f = f (ltb-true _ _ x)
+      among false x f = i.coordinator a (ltb-false _ _ x)
+
+      worker_has : (w : worker.Working) → WaitsWithNone (leading.lead_of c).stops w → marks.Facts z a s w → Hands a s nothing
+      worker_has w waits facts = (subst (marks.StageFacts z a s w.held) waits.is_at facts.stage_is).0
+
+      go : (m : Actor P) → at es a ≡ m → Hands a s nothing
+      go (actor.Runs m) is =
+          let lt : a < arena.layout.procs = seat_of es a (actor.Runs m) is in
+          polls.waits z a s m (leading.lead_of c).stops (kept.processors_wait c run.Mark a m led post (omega (arith, lt)) is) (i.processors a m lt is)
+      go (actor.Marks w) is =
+          let lt : a < n = (seat_of es a (actor.Marks w) is).1 in
+          worker_has w (kept.workers_wait c run.Mark a w led post lt is) (i.workers a w lt is)
+      go (actor.Leads x) is = i.coordinator a (seat_of es a (actor.Leads x) is).0
+
+    word_is : (x : Cell) → s.words x ≡ told es x
+    word_is x = ap (λ (w : Words). w x) i.is.words_are
+
+    empty : (b : ℕ) → holder_in (told es (cell.Buffer b)) ≡ 0 → (buffer_of (told es (cell.Buffer b))).count ≡ 0
+    empty b free = go (ltb b (buffers_of arena.layout)) refl where
+      go : (x : Bool) → ltb b (buffers_of arena.layout) ≡ x → (buffer_of (told es (cell.Buffer b))).count ≡ 0
+      go true x = f.empty b (ltb-true _ _ x) free
+      go false x = ap (λ (v : ℕ). (buffer_of v).count) (stays_clear (setting arena k pacing may) one b (ltb-false _ _ x) refl es legal)
+
+    is_found : IsFound z s
+    is_found = record {
+      seats = seats;
+      empty = λ b. subst (λ (w : Words). holder_in (w (cell.Buffer b)) ≡ 0 → (buffer_of (w (cell.Buffer b))).count ≡ 0) (sym i.is.words_are) (empty b);
+      cursor = subst (λ (x : Arena). x.layout.globals ≤ s.words cell.Gcur) (sym i.is.arena_is) (subst (λ (w : Words). arena.layout.globals ≤ w cell.Gcur) (sym i.is.words_are) f.cursor);
+      stacks = λ g m. subst (λ (w : Words). z.number ≤ w (cell.Scanned g)) (sym i.is.words_are) (subst (λ (x : ℕ). x ≤ told es (cell.Scanned g)) (sym i.is.number_is) (f.stacks g (subst (λ (x : Arena). g < x.layout.goroutines) i.is.arena_is m)));
+    }
+
+    is_done : IsDone z s
+    is_done = done z s i.good is_found
+
+    -- what is not of the cycle is not shaded, and nobody is placing
+    dead : (o : ℕ) → s.since o ≡ false → row_bit (mark_words s.words) o ≡ 0
+    dead o other_than = go (s.colour o) refl where
+      clash : {A : Type 0} (x : Colour) → s.colour o ≡ x → IsShaded x → A
+      clash x e y = absurd (let yes : s.since o ≡ true = i.good.objects.shaded o (rw e y) in let both : true ≡ false = sym yes ∙ other_than in cc)
+
+      go : (x : Colour) → s.colour o ≡ x → row_bit (mark_words s.words) o ≡ 0
+      go White e = i.good.marks o ∙ ap mark_of e
+      go (Placing b) e = absurd (let none : None ≡ Some o = ((seats b).has.is_reserved o).1 e in cc)
+      go (Pending b) e = clash (Pending b) e tt
+      go (Buffered b j) e = clash (Buffered b j) e tt
+      go (Taken b) e = clash (Taken b) e tt
+      go Black e = clash Black e tt
+
+    ends : EndsClean z s
+    ends = record { done = is_done; reached = clean z s i.good is_done; dead = dead }
+
+  -- behind the check all is found, in a stopped world
+  behind : (l : Layout) (number : ℕ) (w : Words) (p : CoordStage) → IsChecked p → CheckedAt l number w p → Found l number w × (leading.post_at p ≡ Stopped run.Mark)
+  behind l number w (Close x) y h = (h, refl)
+  behind l number w (LoadAck i) y h = absurd y
+  behind l number w LoadWant y h = absurd y
+  behind l number w (Stop st) y h = absurd y
+  behind l number w (Open o) y h = absurd y
+  behind l number w (Watch x) y h = absurd y
+  behind l number w (StopAgain st) y h = absurd y
+  behind l number w (Check x) y h = absurd y
+  behind l number w MarkOn y h = absurd y
+  behind l number w (Sweep x) y h = absurd y
+  behind l number w (Count x) y h = absurd y
+  behind l number w (Tell t) y h = absurd y
+  behind l number w Done y h = absurd y
+
+  pub marks_to_the_end : ChangesOneCell → WhatIsFoundIsDone → MarkingEndsClean → (es : List (Entry O)) (c : coord.Coordinating) → Lawful es → Led es c → leading.Marks c.stage → MarksToTheEnd arena k pacing may stage facts knows es c
+  marks_to_the_end one done clean es c legal led on = record {
+    marking = h.marking;
+    ends = λ x. let y = behind arena.layout c.begun (told es) c.stage x h.checked in ends one done clean es legal c led h.marking y.0 y.1;
+  } where
+    h : Holds es c
+    h = holds es legal c led on

@@ -1,0 +1,265 @@
+-- One entry more while a cycle is marked, by the actor that makes it: its step is made of moves of marking, and what is known of all others lasts. And the begin of a cycle.
+use Rattle.std.proofs.Common.{◌≡◌, ◌≢◌, ℕ, suc, ◌/◌, ◌%◌, ◌<◌, ◌≤◌, ◌==◌, Bool, true, false, refl, sym, ap, subst, ◌∙◌, arith, List, ◌∷◌}
+use Rattle.std.specs.Int.{bit_at}
+use Rattle.std.proofs.lemmas.Bool.Decides.{nat_tests}
+use Rattle.gh_base.specs.declared.cell.Ask.{Ask}
+use Rattle.gh_base.specs.declared.cell.Cell.TheVariants as cell
+use Rattle.gh_base.specs.declared.layout.Layout.{Layout}
+use Rattle.gh_base.specs.declared.machine.Entry.{Entry}
+use Rattle.gh_base.specs.Cells.{seats_of, Words}
+use Rattle.gh_base.specs.Lists.{Kind, Legal, started}
+use Rattle.gh_base.specs.Rows.{alloc_words, Row, row_bit}
+use Rattle.gh_base.specs.Steps.{cell_of, effect}
+use Rattle.gh_heap.specs.Rights.{Arena}
+use Rattle.gh_marks.specs.Colours.{Cycle, Shared}
+use Rattle.gh_marks.specs.Laws.{Begins, EachHandFollows, EachHandLasts, EachStepGoesByMoves, MarkingBegins, StepsGoByMoves}
+use Rattle.gh_marks.specs.Moves.{goes, moved, Others, Quiet, stays, Steps, Went}
+use Rattle.gh_marks.specs.Seats.{Hands, nothing}
+use Rattle.gh_phase.specs.declared.view.RunPhase.TheVariants as run
+use Rattle.gh_phase.specs.Handshake.{Acts, Party, Stage, Stopped}
+use Rattle.gh_phase.specs.Listing as resume
+use Rattle.gh_coord.specs.declared.coord.CoordStage.{CoordStage}
+use Rattle.gh_coord.specs.declared.coord.CoordStage.TheVariants.{Check, Close, Count, Done, LoadAck, LoadWant, MarkOn, Open, Stop, StopAgain, Sweep, Tell, Watch}
+use Rattle.gh_coord.specs.Handshake as leading
+use Rattle.gh_coord.specs.Listing as coord
+use Rattle.gh_coord.specs.Stopping.{acks_of}
+use Rattle.gh_worker.specs.declared.worker.WorkerStage.{WorkerStage}
+use Rattle.gh_worker.specs.declared.worker.WorkerStage.TheVariants.{Resuming}
+use Rattle.gh_worker.specs.Handshake as working
+use Rattle.gh_worker.specs.Listing as worker
+use Rattle.gh_worker.specs.MarkFacts as marks
+use Rattle.gh_world.specs.declared.handshake.Actor.{Actor}
+use Rattle.gh_world.specs.declared.handshake.Actor.TheVariants as actor
+use Rattle.gh_world.specs.Handshake.{actors, asks, is_busy, KeepsIt, Pacing, place_of, Sound, WaitsWithNone}
+use Rattle.gh_world.specs.Marking.{actors_after, IsBeginning, IsInMarking, IsLedBy, KnowsHeap, LeavesObjects, MayBegin, PollsByMoves, setting, words}
+use Rattle.gh_world.proofs.CycleMarking.Beside.{LeavesHeap, works_so}
+use Rattle.gh_world.proofs.CycleMarking.Checking.{IsLight}
+use Rattle.gh_world.proofs.CycleMarking.Seats.{IsSeated, lead_started, leads, other, runs, seated, worker_started, works}
+
+-- a bit is that of its word
+same_bit : (r q : Row) (o : ℕ) → r (o / 64) ≡ q (o / 64) → row_bit q o ≡ 1 → row_bit r o ≡ 1
+unfolding row_bit
+same_bit r q o e h = ap (λ (v : ℕ). bit_at v (o % 64)) e ∙ h
+
+-- what gh_marks and gh_worker say
+pub record Known : Type 0 where
+  pub workers : marks.WorksByMoves
+  pub begin : MarkingBegins
+  pub steps : EachStepGoesByMoves
+  pub follow : EachHandFollows
+  pub last : EachHandLasts
+
+begin_post : (p : CoordStage) → IsBeginning p → leading.post_at p ≡ Stopped run.Off
+begin_post (Open o) b = ap leading.open_post b
+begin_post (LoadAck i) b = absurd b
+begin_post LoadWant b = absurd b
+begin_post (Stop st) b = absurd b
+begin_post (Watch w) b = absurd b
+begin_post (StopAgain st) b = absurd b
+begin_post (Check w) b = absurd b
+begin_post MarkOn b = absurd b
+begin_post (Close c) b = absurd b
+begin_post (Sweep w) b = absurd b
+begin_post (Count c) b = absurd b
+begin_post (Tell t) b = absurd b
+begin_post Done b = absurd b
+
+module _ {P O : Type 0} (arena : Arena) (k : Kind P O) (pacing : Pacing) (may : ℕ → List (Entry O) → O → Bool) (stage : P → Stage) (facts : Cycle → (a : ℕ) → Shared → P → Type 0) (knows : Cycle → Shared → (ℕ → Actor P) → Type 0)
+    (known : Known) (polls : PollsByMoves arena k pacing may stage facts knows) (heap : KnowsHeap arena k pacing may stage facts knows) where
+  abbrev n : ℕ
+  n = acks_of arena.layout
+
+  abbrev at : List (Entry O) → ℕ → Actor P
+  at = actors_after arena k pacing may
+
+  abbrev In : List (Entry O) → coord.Coordinating → Type 0
+  In = IsInMarking arena k pacing may stage facts knows
+
+  module _ (e : Entry O) (es : List (Entry O)) (c to : coord.Coordinating) (legal : Legal (setting arena k pacing may) (e ∷ es)) (led : IsLedBy arena k pacing may es c) (begun_is : to.begun ≡ c.begun) (i : In es c) where
+    abbrev z : Cycle
+    z = i.cycle
+
+    abbrev s : Shared
+    s = i.shared
+
+    abbrev a : ℕ
+    a = e.actor
+
+    -- where its seat's step leads to this state
+    module _ (t : Shared) (went : Went z a s t) (words_are : t.words ≡ words arena k pacing may (e ∷ es)) (heap_is : knows z t (at (e ∷ es)))
+        (own_processor : (m : P) → at (e ∷ es) a ≡ actor.Runs m → facts z a t m)
+        (own_worker : (w : worker.Working) → at (e ∷ es) a ≡ actor.Marks w → marks.Facts z a t w)
+        (own_hand : n ≤ a → Hands a t nothing) where
+      step : StepsGoByMoves z a s t
+      step = known.steps z a s t i.good went
+
+      same : (b : ℕ) → (a == b) ≡ true → a ≡ b
+      same b x = grind (arith, nat_tests)
+
+      differs : (b : ℕ) → (a == b) ≡ false → b ≢ a
+      differs b x y = grind (arith, nat_tests)
+
+      processors : (b : ℕ) (m : P) → b < arena.layout.procs → at (e ∷ es) b ≡ actor.Runs m → facts z b t m
+      processors b m lt is = go (a == b) refl where
+        go : (x : Bool) → (a == b) ≡ x → facts z b t m
+        go true x = subst (λ (y : ℕ). facts z y t m) (same b x) (own_processor m (ap (at (e ∷ es)) (same b x) ∙ is))
+        go false x = polls.lasts z b s t m (step.others b (differs b x)) (i.processors b m lt (sym (other arena.layout k pacing e es b x) ∙ is))
+
+      workers : (b : ℕ) (w : worker.Working) → b < n → at (e ∷ es) b ≡ actor.Marks w → marks.Facts z b t w
+      workers b w lt is = go (a == b) refl where
+        go : (x : Bool) → (a == b) ≡ x → marks.Facts z b t w
+        go true x = subst (λ (y : ℕ). marks.Facts z y t w) (same b x) (own_worker w (ap (at (e ∷ es)) (same b x) ∙ is))
+        go false x = known.workers.lasts z b s t w (step.others b (differs b x)) (i.workers b w lt (sym (other arena.layout k pacing e es b x) ∙ is))
+
+      coordinator : (b : ℕ) → n ≤ b → Hands b t nothing
+      coordinator b le = go (a == b) refl where
+        go : (x : Bool) → (a == b) ≡ x → Hands b t nothing
+        go true x = subst (λ (y : ℕ). Hands y t nothing) (same b x) (own_hand (subst (λ (y : ℕ). n ≤ y) (sym (same b x)) le))
+        go false x = known.last z b s t nothing (step.others b (differs b x)) (i.coordinator b le)
+
+      next : In (e ∷ es) to
+      next = record {
+        cycle = z;
+        shared = t;
+        is = record { arena_is = i.is.arena_is; number_is = i.is.number_is ∙ sym begun_is; words_are = words_are };
+        good = step.good;
+        known = heap_is;
+        processors = processors;
+        workers = workers;
+        coordinator = coordinator;
+      }
+
+    -- the words behind the step
+    words_then : (t : Shared) (ask : Ask) → t.words ≡ effect s.words ask → e.ask ≡ ask → t.words ≡ words arena k pacing may (e ∷ es)
+    words_then t ask is asked = is ∙ (ap (effect s.words) (sym asked) ∙ ap (λ (w : Words). effect w e.ask) i.is.words_are)
+
+    -- whoever steps so leaves the objects: one that came to be would have taken a slot
+    leaves_objects : (t : Shared) (ask : Ask) → Went z a s t → t.words ≡ effect s.words ask → LeavesHeap ask → LeavesObjects s t
+    leaves_objects t ask went is h = record {
+      since = λ o. by o (t.since o) (s.since o) refl refl;
+      extents = others.keeps.extents;
+      page = λ x. ap (λ (w : Words). w (cell.Page x)) is ∙ h.page s.words x;
+      alloc = slots;
+      bitmap = λ x. ap (λ (w : Words). w (cell.Bitmap x)) is ∙ h.bitmap s.words x;
+    } where
+      step : StepsGoByMoves z a s t
+      step = known.steps z a s t i.good went
+
+      others : Others z (suc a) s t
+      others = step.others (suc a) (λ e. omega (arith, e))
+
+      slots : (x : ℕ) → t.words (cell.Alloc x) ≡ s.words (cell.Alloc x)
+      slots x = ap (λ (w : Words). w (cell.Alloc x)) is ∙ h.alloc s.words x
+
+      placed : (o : ℕ) → t.since o ≡ true → row_bit (alloc_words s.words) o ≡ 1
+      placed o e = same_bit (alloc_words s.words) (alloc_words t.words) o (sym (slots (o / 64))) (step.good.objects.placed o e)
+
+      by : (o : ℕ) (now was : Bool) → t.since o ≡ now → s.since o ≡ was → t.since o ≡ s.since o
+      by o true true e f = e ∙ sym f
+      by o false false e f = e ∙ sym f
+      by o true false e f = absurd (let d = step.dead o (record { placed = placed o e; dead = f }) in let no : true ≡ false = sym e ∙ d.dead in cc)
+      by o false true e f = absurd (let no : true ≡ false = sym (others.keeps.since o f) ∙ e in cc)
+
+    -- by a processor
+    pub by_processor : (m : P) → leading.Marks c.stage → a < arena.layout.procs → at es a ≡ actor.Runs m → In (e ∷ es) to
+    by_processor m on lt is = next land.then land.went (words_then land.then e.ask land.words_are refl) land.after.1
+        (λ p now. subst (facts z a land.then) (let both : actor.Runs (k.takes (started k e.begun m) e.found) ≡ actor.Runs p = sym then ∙ now in cc) land.after.0)
+        (λ w now. absurd (let both : actor.Runs (k.takes (started k e.begun m) e.found) ≡ actor.Marks w = sym then ∙ now in cc))
+        (λ le. absurd (omega arith)) where
+          land : Steps z a s e.ask (λ t. facts z a t (k.takes (started k e.begun m) e.found) × knows z t (at (e ∷ es)))
+          land = polls.own_step e es c legal led on z s m i.is i.good i.known lt is (i.processors a m lt is)
+
+          then : at (e ∷ es) a ≡ actor.Runs (k.takes (started k e.begun m) e.found)
+          then = runs arena.layout k pacing e es m is
+
+    -- by a worker
+    pub by_worker : (w : worker.Working) → arena.layout.procs ≤ a → a < n → at es a ≡ actor.Marks w → In (e ∷ es) to
+    by_worker w ge lt is = next land.then land.went then_words (heap.lasts e es c legal led z s land.then i.is i.good (known.steps z a s land.then i.good land.went).good i.known ge (leaves_objects land.then (worker.asks w) land.went land.words_are (works_so w busy)) then_words)
+        (λ p now. absurd (let both : actor.Marks (worker.goes w e.found) ≡ actor.Runs p = sym then ∙ now in cc))
+        (λ v now. subst (marks.Facts z a land.then) (let both : actor.Marks (worker.goes w e.found) ≡ actor.Marks v = sym then ∙ now in cc) (subst (λ (x : ℕ). marks.Facts z a land.then (worker.goes w x)) (sym found) land.after))
+        (λ le. absurd (omega arith)) where
+          land : Steps z a s (worker.asks w) (λ t. marks.Facts z a t (worker.goes w (s.words (cell_of (worker.asks w)))))
+          land = known.workers.own_step z a s w i.good (heap.objects z s (at es) i.known) (i.workers a w lt is)
+
+          asked : e.ask ≡ worker.asks w
+          asked = legal.1.asks ∙ ap (asks k) (ap (started (actors arena.layout k pacing) e.begun) is ∙ worker_started arena.layout k pacing e.begun w)
+
+          busy : worker.is_busy w.stage ≡ true
+          busy = sym (ap (is_busy k) (ap (started (actors arena.layout k pacing) e.begun) is ∙ worker_started arena.layout k pacing e.begun w)) ∙ legal.1.runs
+
+          told : e.found ≡ words arena k pacing may es (cell_of (worker.asks w))
+          told = legal.1.found ∙ ap (λ (q : Ask). words arena k pacing may es (cell_of q)) asked
+
+          found : e.found ≡ s.words (cell_of (worker.asks w))
+          found = told ∙ ap (λ (x : Words). x (cell_of (worker.asks w))) (sym i.is.words_are)
+
+          then : at (e ∷ es) a ≡ actor.Marks (worker.goes w e.found)
+          then = works arena.layout k pacing e es w is
+
+          then_words : land.then.words ≡ words arena k pacing may (e ∷ es)
+          then_words = words_then land.then (worker.asks w) land.words_are asked
+
+    -- by the coordinator
+    pub by_coordinator : a ≡ n → at es a ≡ actor.Leads c → IsLight (coord.asks c) → In (e ∷ es) to
+    by_coordinator end is light = next t went then_words (heap.lasts e es c legal led z s t i.is i.good (known.steps z a s t i.good went).good i.known (omega (arith, end)) (leaves_objects t (coord.asks c) went refl light.aside) then_words)
+        (λ p now. absurd (let both : actor.Leads (coord.goes c e.found) ≡ actor.Runs p = sym then ∙ now in cc))
+        (λ v now. absurd (let both : actor.Leads (coord.goes c e.found) ≡ actor.Marks v = sym then ∙ now in cc))
+        (λ le. (known.follow z a s nothing i.good (i.coordinator a le)).quiet (coord.asks c) (light.quiet s)) where
+          t : Shared
+          t = moved z a s (Quiet (coord.asks c))
+
+          went : Went z a s t
+          went = goes s (Quiet (coord.asks c)) stays (light.quiet s)
+
+          asked : e.ask ≡ coord.asks c
+          asked = legal.1.asks ∙ ap (asks k) (ap (started (actors arena.layout k pacing) e.begun) is ∙ lead_started arena.layout k pacing e.begun c)
+
+          then : at (e ∷ es) a ≡ actor.Leads (coord.goes c e.found)
+          then = leads arena.layout k pacing e es c is
+
+          then_words : t.words ≡ words arena k pacing may (e ∷ es)
+          then_words = words_then t (coord.asks c) refl asked
+
+  -- The begin of a cycle: the world is stopped, and nobody has anything in hand.
+  module _ (party : P → Party) (sound : Layout → P → Type 0) (es : List (Entry O)) (c : coord.Coordinating) (legal : Legal (setting arena k pacing may) es) (led : IsLedBy arena k pacing may es c) (b : IsBeginning c.stage)
+      (keeps : KeepsIt sound party stage (setting arena k pacing may) es) where
+    pub opened : MayBegin arena k pacing may stage facts knows es c
+    opened = heap.begins es c legal led b
+
+    begun : Begins opened.cycle opened.shared
+    begun = known.begin opened.cycle opened.shared opened.opens
+
+    -- a worker that waits is at its seat
+    seat_at : (w : worker.Working) (a : ℕ) (r : resume.Resuming) → w.stage ≡ Resuming r → working.Sound w → (working.party_of w).seat ≡ a → w.seat ≡ a
+    seat_at w a r e s is =
+        let on : working.GoesOnWithNone w.seat w.held r = subst (working.SoundAt w) e s in
+        sym on.seat_is ∙ (ap (λ (x : WorkerStage). (working.party_at w x).seat) (sym e) ∙ is)
+
+    worker_knows : (a : ℕ) (w : worker.Working) → a < n → at es a ≡ actor.Marks w → marks.Facts opened.cycle a opened.shared w
+    worker_knows a w lt is = record {
+      layout_is = (subst (IsSeated arena.layout a) is (seated arena.layout k pacing es a)).2 ∙ ap (λ (x : Arena). x.layout) (sym opened.is.arena_is);
+      seat_in = subst (λ (x : Arena). a < seats_of x.layout) (sym opened.is.arena_is) (omega (arith, lt));
+      seat_is = seat_at w a waits.routine waits.is_at (subst (Sound sound arena.layout) is (keeps.shakes.all_sound a (omega arith))) seat;
+      stage_is = subst (marks.StageFacts opened.cycle a opened.shared w.held) (sym waits.is_at) (begun.seats a, waits.none);
+    } where
+      waits : WaitsWithNone (leading.lead_of c).stops w
+      waits = keeps.workers_wait c run.Off a w led (begin_post c.stage b) lt is
+
+      seat : (working.party_of w).seat ≡ a
+      seat =
+          let each = keeps.shakes.each a lt in
+          let both : Acts (working.party_of w) (working.stage_of w) ≡ Acts each.0 each.1 = ap (place_of party stage) (sym is) ∙ each.2 in
+          let parties : working.party_of w ≡ each.0 = cc in
+          ap (λ (x : Party). x.seat) parties ∙ each.3
+
+    pub begins : In es c
+    begins = record {
+      cycle = opened.cycle;
+      shared = opened.shared;
+      is = opened.is;
+      good = begun.good;
+      known = opened.known;
+      processors = opened.processors;
+      workers = worker_knows;
+      coordinator = λ a le. begun.seats a;
+    }
