@@ -26,7 +26,7 @@ use Rattle.gh_pages.specs.Facts as carving
 use Rattle.gh_pages.specs.Listing as carve
 use Rattle.gh_alloc.specs.Vocabulary.{SpanClass, Sought, Small, Large, CachedSpan, At, NoRoom, Again, End, FindStage, Slots, Lock, Give, Pass, Carve, Unlock, Ended}
 use Rattle.gh_alloc.specs.Find.{Finding, after_carve, after_pass, after_slots, asks, begin, first_page, given_head, gives, goes, locked_for, refuses_at, searched, slot_found, span_at, span_for, spans_for, taken_for}
-use Rattle.gh_alloc.specs.FindFacts.{Caches, Comes, Facts, FactsAt, FindsByItsRights, FindsNone, IsCached, IsCachedFor, IsUsedUp, NoneIsTrue, NoneLeft, Opens, OwnsLarge, OwnStep, Seeks, carve_at, head_for, head_of, held, is_locked, laying, own, pass_at, with_span}
+use Rattle.gh_alloc.specs.FindFacts.{Caches, Comes, Facts, FactsAt, FindsByItsRights, FindsNone, IsCached, IsCachedFor, IsUsedUp, LooksAgain, NoneIsTrue, NoneLeft, Opens, OwnsLarge, OwnStep, Seeks, carve_at, head_for, head_of, held, is_locked, laying, looks, own, pass_at, with_span}
 use Rattle.gh_alloc.specs.FindSound.{IsSought}
 use Rattle.gh_alloc.proofs.FindLasts.{Known, lasts}
 use Rattle.gh_alloc.proofs.FindWithin.{within}
@@ -162,7 +162,7 @@ module _ (k : Known) (z : Arena) (a : ℕ) (s : Shared) (rest : ℕ → Bool) (l
   On t f = Right a (view t) (is_locked f.stage) (held f rest) (laying f.stage) × Facts z a (view t) rest f
 
   abbrev Step : Finding → Type 0
-  Step f = Steps z a s (asks f) (λ t. KeepsObjects now (view t) × Comes z a (view t) rest (gives f (s.words (cell_of (asks f)))) (goes f (s.words (cell_of (asks f)))))
+  Step f = Steps z a s (asks f) (λ t. KeepsObjects now (view t) × (looks f.stage ≡ true → Leaves now (view t)) × Comes z a (view t) rest (gives f (s.words (cell_of (asks f)))) (goes f (s.words (cell_of (asks f)))))
 
   -- The cached span is searched.
 
@@ -217,7 +217,7 @@ module _ (k : Known) (z : Arena) (a : ℕ) (s : Shared) (rest : ℕ → Bool) (l
 
   slots-own : (c : SpanClass) (x : CachedSpan) → Good z now → Whose (Small c) → IsCached a now c x → rest x.head ≡ false → x.cursor < slots_of c.class → Right a now false (update rest x.head true) None → Step (at (Small c) (Some x) (Slots (start c x)))
   slots-own c x good whose y apart left right =
-      lands k z a s _ _ _ good (λ t same r. (r.0, slots-then c x (s.words (cell_of (slots.asks (start c x)))) t same whose apart left r.1 r.2))
+      lands k z a s _ _ _ good (λ t same r. (r.0, λ e. absurd (cc), slots-then c x (s.words (cell_of (slots.asks (start c x)))) t same whose apart left r.1 r.2))
       (k.search.own_step z a s false (update rest x.head true) None c.noscan (start c x) good right (record { layout = whose.layout; span = y.span; stage = refl; cursor = left; taken = y.taken }))
 
   -- With the lock.
@@ -298,18 +298,18 @@ module _ (k : Known) (z : Arena) (a : ℕ) (s : Shared) (rest : ℕ → Bool) (l
 
   lock-own : (w : Sought) (c : Option CachedSpan) → Good z now → Whose w → Caches a now w c → Apart rest c → IsUsedUp w c → Right a now false (with_span (head_of c) rest) None → Step (at w c Lock)
   lock-own w c good whose caches apart used right = go (eqb (s.words cell.Lock) 0) refl where
-    go : (b : Bool) → eqb (s.words cell.Lock) 0 ≡ b → Lands z a s (cond b (put s.words cell.Lock (e + 1)) s.words) (λ t. KeepsObjects now (view t) × On t (at w c (cond b (locked_for (at w c Lock) w c) Lock)))
+    go : (b : Bool) → eqb (s.words cell.Lock) 0 ≡ b → Lands z a s (cond b (put s.words cell.Lock (e + 1)) s.words) (λ t. KeepsObjects now (view t) × (false ≡ true → Leaves now (view t)) × On t (at w c (cond b (locked_for (at w c Lock) w c) Lock)))
     go true is = record {
       move = TakeLock;
       may = eqb-true (s.words cell.Lock) 0 is;
       words_are = ap (λ (m : ℕ). put s.words cell.Lock (m + 1)) (sym whose.seat);
-      after = ((refl, refl), locked-then w c (moved z a s TakeLock) good refl whose (caches-with w c (a + 1) (update s.locked a true) caches) apart used (k.follow z a s false (with_span (head_of c) rest) None right).taken);
+      after = ((refl, refl), λ e. absurd (cc), locked-then w c (moved z a s TakeLock) good refl whose (caches-with w c (a + 1) (update s.locked a true) caches) apart used (k.follow z a s false (with_span (head_of c) rest) None right).taken);
     }
     go false is = record {
       move = Quiet (ask.Load cell.Lock);
       may = tt;
       words_are = refl;
-      after = ((refl, refl), (right, record { seeks = seeks-at w c Lock s refl whose; caches = caches; apart = apart; own_apart = none-own rest; stage = used }));
+      after = ((refl, refl), λ e. absurd (cc), (right, record { seeks = seeks-at w c Lock s refl whose; caches = caches; apart = apart; own_apart = none-own rest; stage = used }));
     }
 
   -- The cached span is given back.
@@ -330,14 +330,14 @@ module _ (k : Known) (z : Arena) (a : ℕ) (s : Shared) (rest : ℕ → Bool) (l
 
   give-own : (c : SpanClass) (x : CachedSpan) → Good z now → Whose (Small c) → IsCached a now c x → rest x.head ≡ false → slots_of c.class ≤ x.cursor → Right a now true (update rest x.head true) None → Step (at (Small c) (Some x) (Give (give.opening l x.head (given_head n c))))
   give-own c x good whose y apart used right =
-      lands k z a s _ _ _ good (λ t same r. (r.0, spans-then (Small c) t good same whose (record { locked = r.2.locked; holds = λ q. r.2.holds q ∙ given-back x.head apart q; laying = r.2.laying })))
+      lands k z a s _ _ _ good (λ t same r. (r.0, λ e. absurd (cc), spans-then (Small c) t good same whose (record { locked = r.1.locked; holds = λ q. r.1.holds q ∙ given-back x.head apart q; laying = r.1.laying; freeing = r.1.freeing })))
       (k.give.gives z a s (update rest x.head true) (give.opening l x.head (given_head n c)) good right (record {
         stage = refl;
         h = y.span.h;
         head = y.span.head;
         same = head-is y.span.h c y.span.class y.span.noscan_is (small-pages y.span.h c.class (good.spans x.head y.span.h y.span.head).fits y.span.class) (good.numbers x.head y.span.h y.span.head ∙ sym whose.number);
         held = y.span.held;
-        full = full-of now.alloc y.span.h x.head c.class y.span.class (λ j lt. y.taken j (omega (arith, lt, used)));
+        full = λ rule. full-of now.alloc y.span.h x.head c.class y.span.class (λ j lt. y.taken j (omega (arith, lt, used)));
       }))
 
   -- A span is taken.
@@ -376,16 +376,21 @@ module _ (k : Known) (z : Arena) (a : ℕ) (s : Shared) (rest : ℕ → Bool) (l
       let y = subst (λ (y : pass.Pass). passing.IsTaken z a y.wanted (view t).page p) is r.2 in
       cached-then c p y.h (Pass m) t same whose y.span y.class y.noscan r.1 r.3
 
+  pass-leaves : (w : View) (given : Option (Option ℕ)) (m : pass.Pass) → passing.Comes z a now w rest given m → Leaves now w
+  pass-leaves w None m r = r.0
+  pass-leaves w (Some None) m r = r.0
+  pass-leaves w (Some (Some p)) m r = r.0
+
   pass-own : (c : SpanClass) (m : pass.Pass) → Good z now → Whose (Small c) → m ≡ pass_at (at (Small c) None Lock) c m.stage → passing.Facts z a now m → Right a now true rest None → Step (at (Small c) None (Pass m))
   pass-own c m good whose is facts right =
       let found : ℕ = s.words (cell_of (pass.asks m)) in
-      lands k z a s _ _ _ good (λ t same r. (r.0, pass-then c t (pass.gives m found) (pass.goes m found) good same whose (ap (λ (y : pass.Pass). pass.at_stage y (pass.goes m found).stage) is) r.1))
+      lands k z a s _ _ _ good (λ t same r. (r.0, λ e. pass-leaves (view t) (pass.gives m found) (pass.goes m found) r.1, pass-then c t (pass.gives m found) (pass.goes m found) good same whose (ap (λ (y : pass.Pass). pass.at_stage y (pass.goes m found).stage) is) r.1))
       (k.pass.own_step z a s rest m good right facts)
 
   -- Fresh pages.
 
   none-goes : (w : Sought) (t : Shared) → Leaves now (view t) → NoneLeft z now (at w None Lock) w → NoneLeft z (view t) (at w None Lock) w
-  none-goes (Small c) t leaves x = k.walks now (view t) (head_for (at (Small c) None Lock)) z.layout.pages leaves x
+  none-goes (Small c) t leaves x = k.walks.full now (view t) (head_for (at (Small c) None Lock)) z.layout.pages leaves x
   none-goes (Large pages noscan) t leaves x = x
 
   large-then : (pages : ℕ) (noscan : Bool) (p : ℕ) (m : FindStage) (q : CarveStage) (t : Shared) → Kept s t → Whose (Large pages noscan) → carving.IsFresh z (view t) (carve_at (at (Large pages noscan) None Lock) q) p → Right a (view t) true (update rest p true) None → rest p ≡ false → On t (taken_for (at (Large pages noscan) None m) (Large pages noscan) p)
@@ -455,21 +460,30 @@ module _ (k : Known) (z : Arena) (a : ℕ) (s : Shared) (rest : ℕ → Bool) (l
   )
   carved w t (Some (Some p)) m same whose none is r = fresh-then w t p (Carve m) m.stage same whose (subst (λ (y : carve.Carving). carving.IsFresh z (view t) y p) is r.2) r.1 r.3
 
+  carve-leaves : (v : View) (given : Option (Option ℕ)) (m : carve.Carving) → carving.Comes z a now v rest given m → Leaves now v
+  carve-leaves v None m r = r.0
+  carve-leaves v (Some None) m r = r.0
+  carve-leaves v (Some (Some p)) m r = r.0
+
   carve-own : (w : Sought) (m : carve.Carving) → Good z now → Whose w → NoneLeft z now (at w None Lock) w → m ≡ carve_at (at w None Lock) m.stage → carving.Facts z a now m → Right a now true rest (carving.laying m) → Step (at w None (Carve m))
   carve-own w m good whose none is facts right =
       let found : ℕ = s.words (cell_of (carve.asks m)) in
-      lands k z a s _ _ _ good (λ t same r. (r.0, carved w t (carve.gives m found) (carve.goes m found) same whose none (ap (λ (y : carve.Carving). carve.at_stage y (carve.goes m found).stage) is) r.1))
+      lands k z a s _ _ _ good (λ t same r. (r.0, λ e. carve-leaves (view t) (carve.gives m found) (carve.goes m found) r.1, carved w t (carve.gives m found) (carve.goes m found) same whose none (ap (λ (y : carve.Carving). carve.at_stage y (carve.goes m found).stage) is) r.1))
       (k.carve.own_step z a s rest m good right facts)
 
   -- The lock is freed.
 
+  lock-leaves : Leaves now (view (moved z a s LeaveLock))
+  lock-leaves = record { pages = λ p h e none. inl e; bits = λ x e. e }
+
   again-own : (c : SpanClass) (x : CachedSpan) → Whose (Small c) → IsCached a now c x → rest x.head ≡ false → Right a now true (update rest x.head true) None → Step (at (Small c) (Some x) (Unlock Again))
   again-own c x whose y apart right = record {
     move = LeaveLock;
-    may = (right.locked, right.laying);
+    may = (right.locked, right.laying, right.freeing);
     words_are = refl;
     after = (
       (refl, refl),
+      λ e. lock-leaves,
       (
         begun.0,
         record {
@@ -494,10 +508,11 @@ module _ (k : Known) (z : Arena) (a : ℕ) (s : Shared) (rest : ℕ → Bool) (l
   large-own : (pages : ℕ) (noscan : Bool) (y : ℕ) → OwnsLarge z a now (at (Large pages noscan) None (Unlock (End (At y)))) y → OwnApart rest (Some (y / 1024)) → Right a now true (update rest (y / 1024) true) None → Step (at (Large pages noscan) None (Unlock (End (At y))))
   large-own pages noscan y x apart right = record {
     move = LeaveLock;
-    may = (right.locked, right.laying);
+    may = (right.locked, right.laying, right.freeing);
     words_are = refl;
     after = (
       (refl, refl),
+      λ e. lock-leaves,
       record {
         right = (k.follow z a s true (update rest (y / 1024) true) None right).left;
         caches = tt;
@@ -543,8 +558,12 @@ module _ (k : Known) (z : Arena) (a : ℕ) (s : Shared) (rest : ℕ → Bool) (l
   own-at (Unlock (End NoRoom)) w c x go = absurd (cc)
   own-at Ended w c x go = absurd x
 
+again : Known → LooksAgain
+again k z a s rest f good seeks cached right = subst (λ (c : Option CachedSpan). On k z a s rest f.layout f.seat f.generation s (record { layout = f.layout; seat = f.seat; generation = f.generation; wanted = f.wanted; cached = c; stage = spans_for f f.wanted })) (sym cached)
+    (spans-then k z a s rest f.layout f.seat f.generation f.wanted s good refl (whose-of k z a s rest f.layout f.seat f.generation f.wanted f.cached f.stage seeks) right)
+
 own-step : Known → OwnStep
 own-step k z a s rest f good right x go = own-at k z a s rest f.layout f.seat f.generation f.stage f.wanted f.cached x.stage go good (whose-of k z a s rest f.layout f.seat f.generation f.wanted f.cached f.stage x.seeks) x.caches x.apart x.own_apart right
 
 pub finds_by_its_rights : Known → FindsByItsRights
-finds_by_its_rights k = record { opens = opens; own_step = own-step k; within = within k; none = finds-none; lasts = lasts k }
+finds_by_its_rights k = record { opens = opens; again = again k; own_step = own-step k; within = within k; none = finds-none; lasts = lasts k }

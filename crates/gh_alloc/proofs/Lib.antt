@@ -5,4 +5,5 @@ mod FindRights
 mod FindWithin
 mod PlaceRights
 pub mod Quiet
+mod SearchRights
 pub mod Seeking

@@ -83,19 +83,20 @@ born-lasts z a v w f p o u b = record { fields = λ j lt. o.fields p.at p.slot j
 made-lasts : (z : Arena) (a : ℕ) (v w : View) (p : Placing) → Others z a v w → Made v p → Made w p
 made-lasts z a v w p o m = record { made = o.made p.name m.made; at = o.places p.name m.made ∙ m.at }
 
-gives-last : Known → (z : Arena) (a : ℕ) (v w : View) (p : Placing) (g : Giving) → Good z v → Others z a v w → GivesUp a v p g → GivesUp a w p g
-gives-last k z a v w p g good o x = record {
+gives-last : Known → (z : Arena) (a : ℕ) (v w : View) (p : Placing) (g : Giving) → Others z a v w → GivesUp z a v p g → GivesUp z a w p g
+gives-last k z a v w p g o x = record {
   head = x.head;
   span = x.span;
   back = record {
     stage = x.back.stage;
     h = x.back.h;
-    head = (o.spans g.page x.back.h x.back.held (good.spans g.page x.back.h x.back.head)).head;
+    head = o.heads g.page x.back.h x.back.held x.back.head;
     same = x.back.same;
     held = o.holds g.page ∙ x.back.held;
-    full = λ i few. o.bits _ (x.back.full i few);
+    full = λ rule i few. o.bits _ (x.back.full rule i few);
   };
   large = x.large;
+  full = λ i few. o.bits _ (x.full i few);
   page = x.page;
 }
 
@@ -104,7 +105,7 @@ stage-lasts k z a v w f p (Clear i) good o x = (unmade-lasts z a v w f p o x.0, 
 stage-lasts k z a v w f p Birth good o x = (unmade-lasts z a v w f p o x.0, λ j lt. o.fields p.at p.slot j x.0.claim lt ∙ x.1 j lt)
 stage-lasts k z a v w f p (Bits s) good o x = (unmade-lasts z a v w f p o x.0, born-lasts z a v w f p o x.0 x.1, x.2, k.bits.lasts z a v w s o x.3)
 stage-lasts k z a v w f p Alloc good o x = (unmade-lasts z a v w f p o x.0, born-lasts z a v w f p o x.0 x.1, λ j few low. o.pointers p.at p.slot j x.0.claim few ∙ x.2 j few low)
-stage-lasts k z a v w f p (Give g) good o x = (made-lasts z a v w p o x.0, gives-last k z a v w p g good o x.1)
+stage-lasts k z a v w f p (Give g) good o x = (made-lasts z a v w p o x.0, gives-last k z a v w p g o x.1)
 stage-lasts k z a v w f p Count good o x = made-lasts z a v w p o x
 stage-lasts k z a v w f p Ended good o x = x
 
@@ -273,9 +274,10 @@ module _ (k : Known) (z : Arena) (a : ℕ) (s : Shared) (f : For) (held : ℕ �
                 head = subst (λ (n : ℕ). page_of (now.page n) ≡ page.Head u.claim.h) own.0 u.claim.slot.span.head;
                 same = own.1;
                 held = subst (λ (n : ℕ). now.holds a n ≡ true) own.0 u.claim.held;
-                full = full (p.at / 1024) own.0 own.2;
+                full = λ rule. full (p.at / 1024) own.0 own.2;
               };
               large = own.2;
+              full = full (p.at / 1024) own.0 own.2;
               page = refl;
             },
           ),
@@ -290,7 +292,7 @@ module _ (k : Known) (z : Arena) (a : ℕ) (s : Shared) (f : For) (held : ℕ �
   give : (g : Giving) → Good z now → Right a now false held None → Knows (Give g) → Step (Give g)
   give g good right x =
       landing z a s _ _ _ (λ t r. (r.0, give-then g t x r.0.0 r.0.1 r.1))
-      (k.give.gives_large z a s false held None g good right x.1.back x.1.large)
+      (k.give.gives_large z a s false held None g good right x.1.back x.1.large x.1.full)
 
   count : Right a now false (held_by Count p.span (p.at / 1024) held) None → Knows Count → Step Count
   count right x = record { move = Quiet (asks_at p Count); may = tt; words_are = refl; after = ((refl, refl), go p.span refl right) } where
@@ -301,8 +303,8 @@ module _ (k : Known) (z : Arena) (a : ℕ) (s : Shared) (f : For) (held : ℕ �
     made-then = record { made = x.made; at = x.at }
 
     go : (span : Option SpanHead) → p.span ≡ span → Right a now false (held_by Count span (p.at / 1024) held) None → Comes z a (view t) f held (Some tt) (at_stage p Ended)
-    go None e r = (subst (λ (y : Option SpanHead). Right a (view t) false (held_by Ended y (p.at / 1024) held) None) (sym e) (record { locked = r.locked; holds = r.holds; laying = r.laying }), made-then)
-    go (Some head) e r = (subst (λ (y : Option SpanHead). Right a (view t) false (held_by Ended y (p.at / 1024) held) None) (sym e) (record { locked = r.locked; holds = r.holds; laying = r.laying }), made-then)
+    go None e r = (subst (λ (y : Option SpanHead). Right a (view t) false (held_by Ended y (p.at / 1024) held) None) (sym e) (record { locked = r.locked; holds = r.holds; laying = r.laying; freeing = r.freeing }), made-then)
+    go (Some head) e r = (subst (λ (y : Option SpanHead). Right a (view t) false (held_by Ended y (p.at / 1024) held) None) (sym e) (record { locked = r.locked; holds = r.holds; laying = r.laying; freeing = r.freeing }), made-then)
 
   own-at : (q : PlaceStage) → Good z now → Right a now false (held_by q p.span (p.at / 1024) held) None → Knows q → Step q
   own-at (Clear i) g right x = clear i right x

@@ -5,7 +5,7 @@ use Rattle.gh_base.specs.Cells.{InRange}
 use Rattle.gh_base.specs.Steps.{cell_of}
 use Rattle.gh_class.specs.declared.class.SizeClass.TheVariants as size
 use Rattle.gh_class.specs.Classes.{slot_words_of, slots_of}
-use Rattle.gh_heap.specs.Moves.{KeepsObjects, Others, Steps, update}
+use Rattle.gh_heap.specs.Moves.{KeepsObjects, Leaves, Others, Steps, update}
 use Rattle.gh_heap.specs.Rights.{Arena, Claims, FullBefore, Good, Right, Shared, View, view}
 use Rattle.gh_heap.specs.Spans.{Laying}
 use Rattle.gh_cache.specs.Facts.{IsHeld, TakenBelow}
@@ -18,7 +18,7 @@ use Rattle.gh_pages.specs.declared.carve.CarveStage.{CarveStage}
 use Rattle.gh_pages.specs.Facts as carving
 use Rattle.gh_pages.specs.Listing as carve
 use Rattle.gh_alloc.specs.Vocabulary.{SpanClass, Sought, Small, Large, CachedSpan, Found, At, NoRoom, Again, End, FindStage, Slots, Lock, Give, Pass, Carve, Unlock, Ended}
-use Rattle.gh_alloc.specs.Find.{Finding, asks, given_head, gives, goes, opening, refuses, span_at, span_for}
+use Rattle.gh_alloc.specs.Find.{Finding, asks, at_stage, given_head, gives, goes, opening, refuses, span_at, span_for, spans_for}
 use Rattle.gh_alloc.specs.FindSound.{IsSought}
 
 -- The cached span.
@@ -55,6 +55,13 @@ is_locked (Pass p) = true
 is_locked (Carve c) = true
 is_locked (Unlock after) = true
 is_locked _ = false
+
+-- it looks for a span under the lock, or is about to free it
+abbrev pub looks : FindStage → Bool
+looks (Pass p) = true
+looks (Carve c) = true
+looks (Unlock after) = true
+looks _ = false
 
 abbrev pub laying : FindStage → Option Laying
 laying (Carve c) = carving.laying c
@@ -205,10 +212,15 @@ abbrev pub Opens : Type 0
 Opens = (z : Arena) (a : ℕ) (v : View) (rest : ℕ → Bool) (f : Finding) → Seeks z a v f → Caches a v f.wanted f.cached → ((k : CachedSpan) → f.cached ≡ Some k → rest k.head ≡ false) → Right a v false (with_span (head_of f.cached) rest) None →
     f ≡ opening f.layout f.seat f.generation f.wanted f.cached → Right a v (is_locked f.stage) (held f rest) (laying f.stage) × Facts z a v rest f
 
--- a step of its own, short of the one that finds no room
+-- with the lock and nothing cached, a span is looked for once more
+abbrev pub LooksAgain : Type 0
+LooksAgain = (z : Arena) (a : ℕ) (s : Shared) (rest : ℕ → Bool) (f : Finding) → Good z (view s) → Seeks z a (view s) f → f.cached ≡ None → Right a (view s) true rest None →
+    Right a (view s) (is_locked (spans_for f f.wanted)) (held (at_stage f (spans_for f f.wanted)) rest) (laying (spans_for f f.wanted)) × Facts z a (view s) rest (at_stage f (spans_for f f.wanted))
+
+-- a step of its own, short of the one that finds no room; and while it looks for a span, what that leaves to who runs it
 abbrev pub OwnStep : Type 0
 OwnStep = (z : Arena) (a : ℕ) (s : Shared) (rest : ℕ → Bool) (f : Finding) → Good z (view s) → Right a (view s) (is_locked f.stage) (held f rest) (laying f.stage) → Facts z a (view s) rest f → refuses f ≡ false →
-    Steps z a s (asks f) (λ t. KeepsObjects (view s) (view t) × Comes z a (view t) rest (gives f (s.words (cell_of (asks f)))) (goes f (s.words (cell_of (asks f)))))
+    Steps z a s (asks f) (λ t. KeepsObjects (view s) (view t) × (looks f.stage ≡ true → Leaves (view s) (view t)) × Comes z a (view t) rest (gives f (s.words (cell_of (asks f)))) (goes f (s.words (cell_of (asks f)))))
 
 -- each is on a word that there is
 abbrev pub Within : Type 0
@@ -228,6 +240,7 @@ Lasts = (z : Arena) (a : ℕ) (v w : View) (rest : ℕ → Bool) (f : Finding) �
 
 pub record FindsByItsRights : Type 0 where
   pub opens : Opens
+  pub again : LooksAgain
   pub own_step : OwnStep
   pub within : Within
   pub none : NoneIsTrue

@@ -13,6 +13,7 @@ pub mod Refusing
 pub mod Rounds
 pub mod Search
 pub mod SearchEnds
+pub mod SearchFacts
 pub mod SearchSound
 pub mod Vocabulary
 pub mod Within

@@ -14,7 +14,7 @@ use Rattle.gh_model.specs.Ever.{field_count, next_name, with_object, with_regist
 use Rattle.gh_heap.specs.Moves.{Others, Runs, Steps, placed_at, update}
 use Rattle.gh_heap.specs.Objects.{IsMade}
 use Rattle.gh_heap.specs.Rights.{Arena, Claims, Good, Right, Shared, View, view}
-use Rattle.gh_heap.specs.Spans.{owned_by}
+use Rattle.gh_heap.specs.Spans.{IsFull, owned_by}
 use Rattle.gh_bitmap.specs.declared.set_pointers.SetStage.{SetStage}
 use Rattle.gh_bitmap.specs.declared.set_pointers.SetStage.TheVariants as bits_stage
 use Rattle.gh_bitmap.specs.Facts as bits
@@ -81,11 +81,12 @@ abbrev pub setting : Placing → SetStage → PointerSetting
 setting p q = bits_at (begin_bits p.layout p.shape p.at p.slot) q
 
 -- a large object's span is given back next
-pub record GivesUp (a : ℕ) (v : View) (p : Placing) (g : Giving) : Type 0 where
+pub record GivesUp (z : Arena) (a : ℕ) (v : View) (p : Placing) (g : Giving) : Type 0 where
   pub head : SpanHead
   pub span : p.span ≡ Some head
-  pub back : CanGiveBack a v g
+  pub back : CanGiveBack z a v g
   pub large : back.h.class ≡ size.Large
+  pub full : IsFull v.alloc g.page back.h
   pub page : g.page ≡ p.at / 1024
 
 abbrev pub FactsAt : Arena → (a : ℕ) → View → For → Placing → PlaceStage → Type 0
@@ -93,7 +94,7 @@ FactsAt z a v f p (Clear k) = Unmade z a v f p × (k < p.slot) × FieldsClear v.
 FactsAt z a v f p Birth = Unmade z a v f p × FieldsClear v.field p.at p.slot
 FactsAt z a v f p (Bits s) = Unmade z a v f p × Born v p × (s ≡ setting p s.stage) × bits.Facts z a v s
 FactsAt z a v f p Alloc = Unmade z a v f p × Born v p × bits.ToldBelow (setting p bits_stage.Ended) v.bitmap (p.at + p.slot)
-FactsAt z a v f p (Give g) = Made v p × GivesUp a v p g
+FactsAt z a v f p (Give g) = Made v p × GivesUp z a v p g
 FactsAt z a v f p Count = Made v p
 FactsAt z a v f p Ended = ⊥
 

@@ -7,15 +7,18 @@ ghost use Rattle.gh_alloc.specs.PlaceFacts.{PlacesByItsRights};
 ghost use Rattle.gh_alloc.specs.Quiet.{AllocationIsQuiet};
 ghost use Rattle.gh_alloc.specs.Refusing.{NoRoomIsTrue};
 ghost use Rattle.gh_alloc.specs.Rounds.{NoRoomIsAfterReclaim};
+ghost use Rattle.gh_alloc.specs.SearchFacts.{SeeksByItsRights};
 
 use crate::place::Place;
 use gh_base::laws::{cells_are_told, rows_are_written, steps_are_folded};
 use gh_bitmap::SetPointers;
 use gh_bitmap::laws::{pointers_are_set, setting_keeps_its_facts};
 use gh_cache::laws::the_search_keeps_its_facts;
-use gh_central::laws::{giving_back_keeps_its_facts, the_pass_keeps_its_facts};
+use gh_central::laws::{
+    giving_back_keeps_its_facts, the_pass_keeps_its_facts, the_reclaiming_keeps_its_facts,
+};
 use gh_class::size_class_laws;
-use gh_heap::laws::{facts_last, rights_follow, the_heap_is_apart};
+use gh_heap::laws::{each_move_keeps, facts_last, rights_follow, the_heap_is_apart};
 use gh_pages::laws::the_carve_keeps_its_facts;
 
 /// Whatever the search is told, it writes a page word only between the swap that found the lock free
@@ -57,6 +60,22 @@ pub fn finding_keeps_its_facts()
     rights_follow();
     facts_last();
     size_class_laws();
+}
+
+/// Whatever any number of processors do beside it: each step of `Search`, short of the one that finds no room, is
+/// a move that its seat may make, and each is on a word that there is; what is known at each stage holds then and
+/// lasts. A slot that it gives lies in a span that the seat holds, and no object stands there. Where it finds none,
+/// no span of the span class is cached, each that nobody owns is full, an object stands in each span of any class
+/// that nobody owns, and no run of pages fits, also if those of spans without an owner and an object are counted as
+/// free. Nothing here says that a span is full when it is given back, nor that an object stays.
+pub fn searching_keeps_its_facts()
+    ensures { SeeksByItsRights }
+{
+    finding_keeps_its_facts();
+    the_reclaiming_keeps_its_facts();
+    each_move_keeps();
+    rights_follow();
+    facts_last();
 }
 
 /// Whatever any number of processors do beside it: while the seat claims the slot, each step of the making of an

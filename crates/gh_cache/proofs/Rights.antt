@@ -30,7 +30,7 @@ pub record Known : Type 0 where
 held-lasts : (z : Arena) (a : ℕ) (v w : View) (span : Cached) (noscan : Bool) → Good z v → Others z a v w → IsHeld a v span noscan → IsHeld a w span noscan
 held-lasts z a v w span noscan g o x = record {
   h = x.h;
-  head = (o.spans span.head x.h x.held (g.spans span.head x.h x.head)).head;
+  head = o.heads span.head x.h x.held x.head;
   class = x.class;
   noscan_is = x.noscan_is;
   held = o.holds span.head ∙ x.held;
@@ -49,7 +49,7 @@ module _ (k : Known) (z : Arena) (a : ℕ) (v : View) (noscan : Bool) (m : Searc
   -- a slot of the span
   slot_is : (j : ℕ) → Good z v → (x : IsHeld a v m.span noscan) → j < slots_of m.span.class → IsSlotOf z.layout.pages v.page m.span.head x.h j (slot_at m.span j) (slot_words_of m.span.class)
   slot_is j g x few = record {
-    span = g.spans m.span.head x.h x.head;
+    span = (k.apart z v g).held a m.span.head x.h x.held x.head;
     inside = rw (x.class) few;
     size_is = rw (x.class) refl;
     at = refl;
@@ -112,7 +112,7 @@ own-at k z a s l held y noscan m Look e g right x = record {
   move = Quiet (asks (at_stage m Look));
   may = tt;
   words_are = refl;
-  after = ((refl, refl), record { locked = right.locked; holds = right.holds; laying = right.laying }, looked k z a (view s) noscan (at_stage m Look) (s.words (cell.Alloc (alloc_word m.layout (slot_at m.span m.span.cursor)))) (ap (λ (i : ℕ). bit_at (s.words (cell.Alloc i)) (slot_at m.span m.span.cursor % 64)) (word_is k z a (view s) noscan (at_stage m Look) m.span.cursor g x.layout x.span x.cursor)) g x);
+  after = ((refl, refl), record { locked = right.locked; holds = right.holds; laying = right.laying; freeing = right.freeing }, looked k z a (view s) noscan (at_stage m Look) (s.words (cell.Alloc (alloc_word m.layout (slot_at m.span m.span.cursor)))) (ap (λ (i : ℕ). bit_at (s.words (cell.Alloc i)) (slot_at m.span m.span.cursor % 64)) (word_is k z a (view s) noscan (at_stage m Look) m.span.cursor g x.layout x.span x.cursor)) g x);
 }
 own-at k z a s l held y noscan m Ended e g right x = absurd (cc)
 

@@ -1,12 +1,12 @@
 -- Giving a span back is a move that the rights of its seat allow, on a word that there is, and what must be known for it lasts.
-use Rattle.std.proofs.Common.{◌+◌, ◌<◌, ◌≤◌, true, refl, ap, sym, subst, ◌∙◌, None, arith}
+use Rattle.std.proofs.Common.{true, refl, ap, sym, subst, ◌∙◌, None, arith}
 use Rattle.gh_base.specs.declared.cell.Ask.TheVariants as ask
 use Rattle.gh_base.specs.declared.cell.Cell.TheVariants as cell
 use Rattle.gh_base.specs.declared.pack.SpanHead.{SpanHead}
 use Rattle.gh_base.specs.Cells.{InRange}
 use Rattle.gh_base.specs.Packing.{head_word}
 use Rattle.gh_base.specs.Steps.{cell_of, effect}
-use Rattle.gh_heap.specs.Laws.{EachOwnMoveLeaves, EachRightFollows}
+use Rattle.gh_heap.specs.Laws.{EachRightFollows}
 use Rattle.gh_heap.specs.Moves.{Disown, May, Publish}
 use Rattle.gh_heap.specs.Rights.{view}
 use Rattle.gh_central.specs.declared.give.GiveStage.{GiveStage}
@@ -15,22 +15,21 @@ use Rattle.gh_central.specs.GiveFacts.{GivesBack, GivesByItsRights, GivesLarge, 
 
 pub record Known : Type 0 where
   pub follow : EachRightFollows
-  pub leave : EachOwnMoveLeaves
 
 gives : Known → GivesBack
 gives k z a s held g good right x = record {
   move = Disown g.page x.h;
   may = may;
   words_are = ap (λ (h : SpanHead). effect s.words (ask.Store (cell.Page g.page) (head_word h))) x.same ∙ ap (λ (q : GiveStage). effect s.words (asks_at g q)) (sym x.stage);
-  after = ((refl, refl), (k.leave z a s good).given g.page x.h may, (k.follow z a s true held None right).given g.page x.h);
+  after = ((refl, refl), (k.follow z a s true held None right).given g.page x.h);
 } where
   may : May z a (view s) (Disown g.page x.h)
-  may = (record { locked = right.locked; laying = right.laying; head = x.head }, x.held, x.full)
+  may = (record { locked = right.locked; laying = right.laying; freeing = right.freeing; head = x.head }, x.held, x.full)
 
 gives_large : Known → GivesLarge
-gives_large k z a s l held y g good right x large = record {
+gives_large k z a s l held y g good right x large full = record {
   move = Publish g.page x.h;
-  may = (x.held, x.head, large, x.full);
+  may = (x.held, x.head, large, full);
   words_are = ap (λ (h : SpanHead). effect s.words (ask.Store (cell.Page g.page) (head_word h))) x.same ∙ ap (λ (q : GiveStage). effect s.words (asks_at g q)) (sym x.stage);
   after = ((refl, refl), (k.follow z a s l held y right).published g.page x.h);
 }
@@ -39,13 +38,13 @@ within : Within
 within z a v g good x = let span = good.spans g.page x.h x.head in subst (λ (q : GiveStage). InRange z.layout (cell_of (asks_at g q))) (sym x.stage) (omega (arith, span.within, span.fits.some))
 
 lasts : Lasts
-lasts z a v w g good o x = record {
+lasts z a v w g o x = record {
   stage = x.stage;
   h = x.h;
-  head = (o.spans g.page x.h x.held (good.spans g.page x.h x.head)).head;
+  head = o.heads g.page x.h x.held x.head;
   same = x.same;
   held = o.holds g.page ∙ x.held;
-  full = λ i few. o.bits _ (x.full i few);
+  full = λ rule i few. o.bits _ (x.full rule i few);
 }
 
 pub gives_by_its_rights : Known → GivesByItsRights

@@ -1,7 +1,9 @@
 mod GiveRights
+mod Heads
 pub mod Lacking
 pub mod Owning
 mod PassRights
+mod ReclaimRights
 pub mod Passing
 pub mod Reclaiming
 mod Starts

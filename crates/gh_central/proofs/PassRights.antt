@@ -1,5 +1,5 @@
 -- The pass's own steps are moves that its rights allow, and what it knows lasts. Of the heap it is known what the laws of gh_heap say.
-use Rattle.std.proofs.Common.{◌≡◌, ◌≢◌, ℕ, ◌+◌, ◌-◌, ◌*◌, ◌/◌, ◌%◌, ◌^◌, ◌<◌, ◌≤◌, ◌&&◌, Bool, true, false, cond, eqb, ltb, inl, inr, Option, Some, None, refl, sym, ap, subst, ◌∙◌, arith}
+use Rattle.std.proofs.Common.{◌≡◌, ◌≢◌, ℕ, ◌+◌, ◌*◌, ◌/◌, ◌%◌, ◌^◌, ◌<◌, ◌≤◌, ◌&&◌, Bool, true, false, cond, eqb, ltb, inl, inr, Option, Some, None, refl, sym, ap, subst, ◌∙◌, arith}
 use Rattle.std.specs.Bool.{beq}
 use Rattle.std.specs.Int.{bit_at}
 use Rattle.std.proofs.Math.Nat.{mod-eq_of_lt, mod-lt}
@@ -25,6 +25,7 @@ use Rattle.gh_heap.specs.Rights.{Arena, FullBefore, Good, Right, Shared, View, v
 use Rattle.gh_heap.specs.Spans.{IsFull, IsSpan, Laying, owned_by, owner_at, owner_in, slot_count, slot_size}
 use Rattle.gh_central.specs.declared.pass.PassStage.{PassStage}
 use Rattle.gh_central.specs.declared.pass.PassStage.TheVariants.{Look, Bits, Take, Ended}
+use Rattle.gh_central.proofs.Heads.{past-page, past-span}
 use Rattle.gh_central.specs.PassFacts.{Comes, Facts, FactsAt, IsUnowned, Lasts, LooksAt, LooksInto, Opens, OwnStep, Passes, PassesByItsRights, TakenBelow, Within, sought}
 use Rattle.gh_central.specs.Slots.{TheTestSaysIt}
 use Rattle.gh_central.specs.SweptPass.{Pass, after_page, alloc_word, asks, at_stage, given, gives, goes, goes_at, is_busy, is_small, is_wanted, lacks_at, look_from}
@@ -117,43 +118,6 @@ wanted-is m h e =
 wanted-test : (m : Pass) (h : SpanHead) → h.class ≡ Small m.wanted.class → h.noscan ≡ m.wanted.noscan → h.owner ≡ 0 → h.number ≡ m.generation → is_wanted m h ≡ true
 wanted-test m h class noscan owner number = rw (class, noscan, owner, number, eq-eqb m.wanted.class m.wanted.class refl, beq-same m.wanted.noscan, eq-eqb m.generation m.generation refl) refl
 
--- The pages gone past.
-
-module _ (z : Arena) (m : Pass) (v : View) where
-  abbrev Full : ℕ → Type 0
-  Full p = FullBefore v.page v.alloc (sought m) p
-
-  -- a page that is no head
-  past-page : (p : ℕ) → Full p → ((h : SpanHead) → page_of (v.page p) ≢ page.Head h) → Full (p + 1)
-  past-page p full none q h lt head class noscan owner = elim (eqb_tells q p) [
-    | inl y ↦ absurd (none h (subst (λ (x : ℕ). page_of (v.page x) ≡ page.Head h) y.1 head))
-    | inr n ↦ full q h (omega (arith, n.1)) head class noscan owner
-  ]
-
-  same-head : (p : ℕ) (h k : SpanHead) → page_of (v.page p) ≡ page.Head h → page_of (v.page p) ≡ page.Head k → h ≡ k
-  same-head p h k e f = cc
-
-  -- a span
-  past-span : Good z v → (p : ℕ) (k : SpanHead) → page_of (v.page p) ≡ page.Head k → Full p → (k.class ≡ Small m.wanted.class → k.noscan ≡ m.wanted.noscan → k.owner ≡ 0 → IsFull v.alloc p k) → Full (p + k.pages)
-  past-span g p k head full taken q h lt is class noscan owner = elim (eqb_tells q p) [
-    | inl y ↦ at (subst (λ (x : ℕ). page_of (v.page x) ≡ page.Head h) y.1 is) y.1
-    | inr n ↦ inside (ltb q p) refl n.1
-  ] where
-    at : page_of (v.page p) ≡ page.Head h → q ≡ p → IsFull v.alloc q h
-    at e y = let same = same-head p k h head e in
-        subst (λ (x : ℕ). IsFull v.alloc x h) (sym y) (subst (λ (x : SpanHead). IsFull v.alloc p x) same
-        (taken (ap (λ (x : SpanHead). x.class) same ∙ class) (ap (λ (x : SpanHead). x.noscan) same ∙ noscan) (ap (λ (x : SpanHead). x.owner) same ∙ owner)))
-
-    body-head : (d : ℕ) → page_of (v.page d) ≡ page.Head h → (b : _) → page_of (v.page d) ≡ page.Body b → ⊥
-    body-head d e b f = cc
-
-    inside : (b : Bool) → ltb q p ≡ b → q ≢ p → IsFull v.alloc q h
-    inside true t ne = full q h (ltb-true q p t) is class noscan owner
-    inside false t ne =
-        let low : p ≤ q = ltb-false q p t in
-        let far : q ≡ p + (q - p) = omega arith in
-        absurd (body-head (p + (q - p)) (subst (λ (x : ℕ). page_of (v.page x) ≡ page.Head h) far is) _ ((g.spans p k head).body (q - p) (omega arith) (omega arith)))
-
 -- The own steps.
 
 module _ (k : Known) (z : Arena) (a : ℕ) (s : Shared) (held : ℕ → Bool) (m : Pass) where
@@ -163,6 +127,14 @@ module _ (k : Known) (z : Arena) (a : ℕ) (s : Shared) (held : ℕ → Bool) (m
   -- what the next stage has, with nothing that was changed
   abbrev Goes : Option (Option ℕ) → PassStage → Type 0
   Goes given q = Comes z a now now held given (at_stage m q)
+
+  -- what holds of a head of the span class that nobody owns, once it is gone past
+  abbrev IsDone : ℕ → SpanHead → Type 0
+  IsDone q h = h.class ≡ Small m.wanted.class → h.noscan ≡ m.wanted.noscan → h.owner ≡ 0 → IsFull now.alloc q h
+
+  -- each span is whole
+  whole : Good z now → Right a now true held None → (p : ℕ) (h : SpanHead) → page_of (now.page p) ≡ page.Head h → IsSpan z.layout.pages now.page p h
+  whole g right p h = (k.apart z now g).locked a p h right.locked right.freeing
 
   stays : Good z now → Leaves now now
   stays g = (k.leave z a s g).stays
@@ -207,13 +179,13 @@ module _ (k : Known) (z : Arena) (a : ℕ) (s : Shared) (held : ℕ → Bool) (m
         ) where
           not-below : (p y : ℕ) → (1024 * p + y) / 64 < 16 * p + 0 → ⊥
           not-below p y lt = omega arith
-    on-head h head false t = looks (Look p) (p + h.pages) (look-says p) g right whose (past-span z m now g p h head x.full (λ class noscan owner. absurd (clash (wanted-test m h class noscan owner (number-is g whose p h head))))) (ltb (p + h.pages) m.layout.pages) refl where
+    on-head h head false t = looks (Look p) (p + h.pages) (look-says p) g right whose (past-span now.page IsDone z.layout.pages p h (whole g right p h head) x.full (λ class noscan owner. absurd (clash (wanted-test m h class noscan owner (number-is g whose p h head))))) (ltb (p + h.pages) m.layout.pages) refl where
       clash : is_wanted m h ≡ true → ⊥
       clash e = cc
 
     go : (w : PageWord) → page_of (now.page p) ≡ w → Goes (given (Look p) (after_page m p w)) (after_page m p w)
-    go page.Free e = looks (Look p) (p + 1) (look-says p) g right whose (past-page z m now p x.full (λ h. no-head page.Free h e (λ f. absurd cc))) (ltb (p + 1) m.layout.pages) refl
-    go (page.Body b) e = looks (Look p) (p + 1) (look-says p) g right whose (past-page z m now p x.full (λ h. no-head (page.Body b) h e (λ f. absurd cc))) (ltb (p + 1) m.layout.pages) refl
+    go page.Free e = looks (Look p) (p + 1) (look-says p) g right whose (past-page now.page IsDone p x.full (λ h. no-head page.Free h e (λ f. absurd cc))) (ltb (p + 1) m.layout.pages) refl
+    go (page.Body b) e = looks (Look p) (p + 1) (look-says p) g right whose (past-page now.page IsDone p x.full (λ h. no-head (page.Body b) h e (λ f. absurd cc))) (ltb (p + 1) m.layout.pages) refl
     go (page.Head h) e = on-head h e (is_wanted m h) refl
 
   -- an alloc word of a span that is looked into
@@ -240,9 +212,9 @@ module _ (k : Known) (z : Arena) (a : ℕ) (s : Shared) (held : ℕ → Bool) (m
     | inr n ↦ x.taken j few (omega (arith, n.1))
   ]
 
-  all-taken : (p i : ℕ) (h : SpanHead) → Good z now → Passes z a now m → IsUnowned m.wanted now.page p h → 16 * h.pages ≤ i → TakenBelow m.wanted now.alloc p i → IsFull now.alloc p h
-  all-taken p i h g whose x le taken j few =
-      let span = g.spans p h x.head in
+  all-taken : (p i : ℕ) (h : SpanHead) → Good z now → Right a now true held None → Passes z a now m → IsUnowned m.wanted now.page p h → 16 * h.pages ≤ i → TakenBelow m.wanted now.alloc p i → IsFull now.alloc p h
+  all-taken p i h g right whose x le taken j few =
+      let span = whole g right p h x.head in
       let counted : slot_count h ≡ slots_of m.wanted.class = rw (x.class) refl in
       let sized : slot_size h ≡ slot_words_of m.wanted.class = rw (x.class) refl in
       let some : 0 < slot_size h = rw (sized) (omega (arith, k.least_slot m.wanted.class whose.class)) in
@@ -255,7 +227,7 @@ module _ (k : Known) (z : Arena) (a : ℕ) (s : Shared) (held : ℕ → Bool) (m
   bits p i found h is g right whose x = go (lacks_at m p i found) refl where
     more : lacks_at m p i found ≡ false → (b : Bool) → ltb (i + 1) (16 * h.pages) ≡ b → Goes (given (Bits p h i) (cond b (Bits p h (i + 1)) (look_from m (p + h.pages)))) (cond b (Bits p h (i + 1)) (look_from m (p + h.pages)))
     more none true t = (stays g, right, record { whose = whose-at z a now m (Bits p h (i + 1)) whose; stage = record { unowned = x.unowned; full = x.full; within = ltb-true (i + 1) (16 * h.pages) t; taken = more-taken p i found h is none x } })
-    more none false t = looks (Bits p h i) (p + h.pages) (bits-says p i h) g right whose (past-span z m now g p h x.unowned.head x.full (λ class noscan owner. all-taken p (i + 1) h g whose x.unowned (ltb-false (i + 1) (16 * h.pages) t) (more-taken p i found h is none x))) (ltb (p + h.pages) m.layout.pages) refl
+    more none false t = looks (Bits p h i) (p + h.pages) (bits-says p i h) g right whose (past-span now.page IsDone z.layout.pages p h (whole g right p h x.unowned.head) x.full (λ class noscan owner. all-taken p (i + 1) h g right whose x.unowned (ltb-false (i + 1) (16 * h.pages) t) (more-taken p i found h is none x))) (ltb (p + h.pages) m.layout.pages) refl
 
     go : (b : Bool) → lacks_at m p i found ≡ b → Goes (given (Bits p h i) (cond b (Take p h) (cond (ltb (i + 1) (16 * h.pages)) (Bits p h (i + 1)) (look_from m (p + h.pages))))) (cond b (Take p h) (cond (ltb (i + 1) (16 * h.pages)) (Bits p h (i + 1)) (look_from m (p + h.pages))))
     go true t = (stays g, right, record { whose = whose-at z a now m (Take p h) whose; stage = x.unowned })
@@ -264,7 +236,7 @@ module _ (k : Known) (z : Arena) (a : ℕ) (s : Shared) (held : ℕ → Bool) (m
   take : (p : ℕ) (h : SpanHead) → Good z now → Right a now true held None → Passes z a now m → IsUnowned m.wanted now.page p h → Steps z a s (asks (at_stage m (Take p h))) (λ t. KeepsObjects now (view t) × Comes z a now (view t) held (Some (Some p)) (at_stage m Ended))
   take p h g right whose x = record { move = Own p h; may = may; words_are = ap (λ (n : ℕ). effect s.words (ask.Store (cell.Page p) (head_word (owned_by (n + 1) h)))) (sym whose.seat); after = ((refl, refl), (leaves, right-then, record { h = owned_by (a + 1) h; span = span; class = x.class; noscan = x.noscan; owner = refl }, not-held z a now true held None p g right (ap owner_in x.head ∙ x.owner))) } where
     may : MayPass now a p h × (h.owner ≡ 0) × (a + 1 < 2 ^ 8)
-    may = (record { locked = right.locked; laying = right.laying; head = x.head }, x.owner, whose.few)
+    may = (record { locked = right.locked; laying = right.laying; freeing = right.freeing; head = x.head }, x.owner, whose.few)
 
     t : Shared
     t = moved z a s (Own p h)
@@ -279,7 +251,7 @@ module _ (k : Known) (z : Arena) (a : ℕ) (s : Shared) (held : ℕ → Bool) (m
     written = ap (λ (b : Bool). cond b (head_word (owned_by (a + 1) h)) (now.page p)) (eq-eqb p p refl)
 
     before : IsSpan z.layout.pages now.page p h
-    before = g.spans p h x.head
+    before = whole g right p h x.head
 
     pages-few : h.pages < 2 ^ 13
     pages-few = omega (arith, before.within, z.layout.limits.pages_fit.1)
@@ -288,7 +260,7 @@ module _ (k : Known) (z : Arena) (a : ℕ) (s : Shared) (held : ℕ → Bool) (m
     number-few = omega (arith, g.numbers p h x.head, g.generation)
 
     span : IsSpan z.layout.pages (view t).page p (owned_by (a + 1) h)
-    span = (k.keep z a s (Own p h) g may).spans p (owned_by (a + 1) h) (ap page_of written ∙ k.packed.page (page.Head (owned_by (a + 1) h)) (record { class = before.fits.class; some = before.fits.some; pages = pages-few; owner = whose.few; number = number-few }))
+    span = (k.apart z (view t) (k.keep z a s (Own p h) g may)).held a p (owned_by (a + 1) h) (right-then.holds p ∙ ap (λ (b : Bool). cond b true (held p)) (eq-eqb p p refl)) (ap page_of written ∙ k.packed.page (page.Head (owned_by (a + 1) h)) (record { class = before.fits.class; some = before.fits.some; pages = pages-few; owner = whose.few; number = number-few }))
 
   own-at : (q : PassStage) → Good z now → Right a now true held None → Facts z a now (at_stage m q) →
       Steps z a s (asks (at_stage m q)) (λ t. KeepsObjects now (view t) × Comes z a now (view t) held (gives (at_stage m q) (s.words (cell_of (asks (at_stage m q))))) (goes (at_stage m q) (s.words (cell_of (asks (at_stage m q))))))

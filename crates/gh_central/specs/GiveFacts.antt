@@ -6,38 +6,38 @@ use Rattle.gh_base.specs.Cells.{InRange}
 use Rattle.gh_base.specs.Packing.{page_of}
 use Rattle.gh_base.specs.Steps.{cell_of}
 use Rattle.gh_class.specs.declared.class.SizeClass.TheVariants.{Large}
-use Rattle.gh_heap.specs.Moves.{KeepsObjects, Leaves, Others, Steps, update}
+use Rattle.gh_heap.specs.Moves.{KeepsObjects, Others, Steps, update}
 use Rattle.gh_heap.specs.Rights.{Arena, Good, Right, Shared, View, view}
 use Rattle.gh_heap.specs.Spans.{IsFull, Laying, owned_by}
 use Rattle.gh_central.specs.declared.give.GiveStage.TheVariants.{Write}
 use Rattle.gh_central.specs.GiveBack.{Giving, asks}
 
--- the head of the span, which the seat holds, is what is written but for its owner; and each slot is taken
-pub record CanGiveBack (a : ℕ) (v : View) (g : Giving) : Type 0 where
+-- the head of the span, which the seat holds, is what is written but for its owner; and each slot is taken, if that is the heap's rule
+pub record CanGiveBack (z : Arena) (a : ℕ) (v : View) (g : Giving) : Type 0 where
   pub stage : g.stage ≡ Write
   pub h : SpanHead
   pub head : page_of (v.page g.page) ≡ page.Head h
   pub same : owned_by 0 h ≡ owned_by 0 g.head
   pub held : v.holds a g.page ≡ true
-  pub full : IsFull v.alloc g.page h
+  pub full : z.full_only ≡ true → IsFull v.alloc g.page h
 
 -- with the lock, the seat does not hold it any more
 abbrev pub GivesBack : Type 0
-GivesBack = (z : Arena) (a : ℕ) (s : Shared) (held : ℕ → Bool) (g : Giving) → Good z (view s) → Right a (view s) true held None → CanGiveBack a (view s) g →
-    Steps z a s (asks g) (λ t. KeepsObjects (view s) (view t) × Leaves (view s) (view t) × Right a (view t) true (update held g.page false) None)
+GivesBack = (z : Arena) (a : ℕ) (s : Shared) (held : ℕ → Bool) (g : Giving) → Good z (view s) → Right a (view s) true held None → CanGiveBack z a (view s) g →
+    Steps z a s (asks g) (λ t. KeepsObjects (view s) (view t) × Right a (view t) true (update held g.page false) None)
 
--- and of a large object's span without it
+-- and a large object's span without it, once the object is made
 abbrev pub GivesLarge : Type 0
-GivesLarge = (z : Arena) (a : ℕ) (s : Shared) (l : Bool) (held : ℕ → Bool) (y : Option Laying) (g : Giving) → Good z (view s) → Right a (view s) l held y → (c : CanGiveBack a (view s) g) → c.h.class ≡ Large →
+GivesLarge = (z : Arena) (a : ℕ) (s : Shared) (l : Bool) (held : ℕ → Bool) (y : Option Laying) (g : Giving) → Good z (view s) → Right a (view s) l held y → (c : CanGiveBack z a (view s) g) → c.h.class ≡ Large → IsFull (view s).alloc g.page c.h →
     Steps z a s (asks g) (λ t. KeepsObjects (view s) (view t) × Right a (view t) l (update held g.page false) y)
 
 -- it is on a word that there is
 abbrev pub Within : Type 0
-Within = (z : Arena) (a : ℕ) (v : View) (g : Giving) → Good z v → CanGiveBack a v g → InRange z.layout (cell_of (asks g))
+Within = (z : Arena) (a : ℕ) (v : View) (g : Giving) → Good z v → CanGiveBack z a v g → InRange z.layout (cell_of (asks g))
 
 -- what must be known lasts, whatever others do
 abbrev pub Lasts : Type 0
-Lasts = (z : Arena) (a : ℕ) (v w : View) (g : Giving) → Good z v → Others z a v w → CanGiveBack a v g → CanGiveBack a w g
+Lasts = (z : Arena) (a : ℕ) (v w : View) (g : Giving) → Others z a v w → CanGiveBack z a v g → CanGiveBack z a w g
 
 pub record GivesByItsRights : Type 0 where
   pub gives : GivesBack

@@ -7,6 +7,7 @@ pub mod PassFacts
 pub mod Passing
 pub mod Reclaim
 pub mod ReclaimEnds
+pub mod ReclaimFacts
 pub mod ReclaimSound
 pub mod Slots
 pub mod Sound

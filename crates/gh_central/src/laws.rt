@@ -2,6 +2,7 @@
 
 ghost use Rattle.gh_central.specs.GiveFacts.{GivesByItsRights};
 ghost use Rattle.gh_central.specs.PassFacts.{PassesByItsRights};
+ghost use Rattle.gh_central.specs.ReclaimFacts.{ReclaimsByItsRights};
 ghost use Rattle.gh_central.specs.EmptySpans.{EmptySpansAreFreed, ReclaimingEnds};
 ghost use Rattle.gh_central.specs.Owning.{GivingChangesTheOwner, TakingChangesTheOwner};
 ghost use Rattle.gh_central.specs.Passing.{PassEnds, PassTakesTheFirst};
@@ -62,9 +63,9 @@ pub fn the_pass_keeps_its_facts()
     size_class_laws();
 }
 
-/// Giving a span back is a move that its seat may make while it holds the span and each slot is taken, and it is
-/// on a word that there is; the
-/// span of a large object needs no lock for it.
+/// Giving a span back is a move that its seat may make while it holds the span, and it is on a word that there
+/// is; each slot is to be taken where that is the heap's rule. A large object's span needs no lock for it, once
+/// the object is made.
 pub fn giving_back_keeps_its_facts()
     ensures { GivesByItsRights }
 {
@@ -79,6 +80,18 @@ pub fn giving_back_keeps_its_facts()
 pub fn empty_spans_are_freed()
     ensures { EmptySpansAreFreed }
 {}
+
+/// Whatever any number of processors do beside it: each step of `Reclaim` is a move that its seat may make while
+/// it has the lock, on a word that there is, and what is known at each stage holds then and lasts. It frees the
+/// pages of spans that nobody owns and in which no object stands; when it ends, an object stands in each span that
+/// nobody owns.
+pub fn the_reclaiming_keeps_its_facts()
+    ensures { ReclaimsByItsRights }
+{
+    facts_last();
+    rights_follow();
+    the_heap_is_apart();
+}
 
 /// Whatever it is told, `Reclaim` has ended after 21 steps a page and 2^18 more.
 pub fn the_reclaiming_ends()

@@ -1,5 +1,5 @@
 -- Spans, slots and objects by themselves: no two spans share a page, no two slots a heap word, and no object stands where no span is.
-use Rattle.std.proofs.Common.{◌≡◌, ◌≢◌, ℕ, suc, ◌+◌, ◌*◌, ◌/◌, ◌-◌, ◌%◌, ◌^◌, ◌<◌, ◌≤◌, ◌⊎◌, Bool, true, false, cond, eqb, ltb, refl, sym, ap, subst, ◌∙◌, arith, inl, inr}
+use Rattle.std.proofs.Common.{◌≡◌, ◌≢◌, ℕ, suc, ◌+◌, ◌*◌, ◌/◌, ◌-◌, ◌%◌, ◌^◌, ◌<◌, ◌≤◌, ◌⊎◌, Bool, true, false, cond, eqb, ltb, refl, sym, ap, subst, ◌∙◌, arith, inl, inr, Some, None}
 use Rattle.std.proofs.lemmas.Nat.{mul-add-lt}
 use Rattle.std.proofs.lemmas.Nat.Bits.{bit_at-lt}
 use Rattle.std.proofs.Math.Nat.{mul-le-mul_right}
@@ -16,15 +16,19 @@ use Rattle.gh_class.specs.declared.class.SizeClass.TheVariants as size
 use Rattle.gh_class.specs.Classes.{IsSizeClass, slot_of, pages_of, slots_of}
 use Rattle.gh_heap.specs.Laws.{TheHeapIsApart}
 use Rattle.gh_heap.specs.Objects.{IsMade, NamesGood, Placed}
-use Rattle.gh_heap.specs.Rights.{Arena, View, Good}
-use Rattle.gh_heap.specs.Spans.{FitsClass, IsSpan, IsSlotOf, Laying, LaidOut, body_at, is_own_class, number_of, slot_count, slot_size}
+use Rattle.gh_heap.specs.Rights.{Arena, View, Good, IsKept}
+use Rattle.gh_heap.specs.Spans.{FitsClass, IsInUse, IsSpan, IsSlotOf, Laying, LaidOut, Freeing, body_at, is_own_class, number_of, owner_at, owner_in, slot_count, slot_size}
 use Rattle.gh_heap.proofs.Known.{Table}
 
 pub head_is : (g h : SpanHead) → page.Head g ≡ page.Head h → g ≡ h
 head_is g h e = cc
 
-body_is : (g h : SpanBody) → page.Body g ≡ page.Body h → g ≡ h
+pub body_is : (g h : SpanBody) → page.Body g ≡ page.Body h → g ≡ h
 body_is g h e = cc
+
+-- a page word that is cleared says no head
+pub no_head : (h : SpanHead) → page_of 0 ≡ page.Head h → ⊥
+no_head h e = cc
 
 -- Bits and names.
 
@@ -71,11 +75,11 @@ small_class_below size.Large h ne = absurd (ne refl)
 -- Pages of spans.
 
 -- which page of the span this is
-WhichPage : (row : Row) (p : ℕ) (h : SpanHead) (q : ℕ) → Type 0
+unfoldable pub WhichPage : (row : Row) (p : ℕ) (h : SpanHead) (q : ℕ) → Type 0
 WhichPage row p h q = ((q ≡ p) × (page_of (row q) ≡ page.Head h)) ⊎ ((d : ℕ) × (0 < d) × (d < h.pages) × (q ≡ p + d) × (page_of (row q) ≡ page.Body (body_at h d)))
 
 module _ (pages : ℕ) (row : Row) where
-  which_page : (p : ℕ) (h : SpanHead) (q : ℕ) → IsSpan pages row p h → p ≤ q → q < p + h.pages → WhichPage row p h q
+  pub which_page : (p : ℕ) (h : SpanHead) (q : ℕ) → IsSpan pages row p h → p ≤ q → q < p + h.pages → WhichPage row p h q
   unfolding WhichPage
   which_page p h q s low high = go (eqb q p) refl where
     go : (b : Bool) → eqb q p ≡ b → ((q ≡ p) × (page_of (row q) ≡ page.Head h)) ⊎ ((d : ℕ) × (0 < d) × (d < h.pages) × (q ≡ p + d) × (page_of (row q) ≡ page.Body (body_at h d)))
@@ -241,12 +245,44 @@ module _ (table : Table) where
     laid_clear y x o low high = bit_clear (row_bit v.alloc x) (bit_below v.alloc x)
         (λ set. let s = in_span x set in no_span_laid z.layout.pages v.page y s.0 s.1 (x / 1024) o s.2 (omega arith) (omega arith) s.3 s.4)
 
+    bit_used : (p x : ℕ) (h : SpanHead) → IsSpan z.layout.pages v.page p h → 1024 * p ≤ x → x < 1024 * (p + h.pages) → row_bit v.alloc x ≡ 1 → IsInUse v.alloc p h
+    bit_used p x h span low high set =
+        let b = g.bits x set in
+        let at : v.place b.0 ≡ x = b.2 in
+        let placed : Placed v.alloc v.birth v.place b.0 = record { set = ap (λ (n : ℕ). row_bit v.alloc n) at ∙ set; says = ap v.birth at ∙ b.3 } in
+        let s = g.slots b.0 b.1 placed in
+        let w = slot_inside z.layout.pages v.page s.p s.i (v.place b.0) _ 0 s.h s.slot (slot_some z.layout.pages v.page s.p s.i (v.place b.0) _ s.h s.slot) in
+        let one = same_span z.layout.pages v.page s.p s.h p h (x / 1024) s.slot.span span (omega (arith, at, w.0)) (omega (arith, at, w.1)) (omega (arith, low)) (omega (arith, high)) in
+        let word : x ≡ 1024 * s.p + s.i * slot_size s.h = sym at ∙ s.slot.at ∙ ap (λ (n : ℕ). 1024 * s.p + s.i * n) s.slot.size_is in
+        let taken : IsInUse v.alloc s.p s.h = (s.i, s.slot.inside, subst (λ (n : ℕ). row_bit v.alloc n ≡ 1) word set) in
+        subst (λ (n : ℕ). IsInUse v.alloc n h) one.0 (subst (λ (k : SpanHead). IsInUse v.alloc s.p k) one.1 taken)
+
+    pub held_whole : (a p : ℕ) (h : SpanHead) → v.holds a p ≡ true → page_of (v.page p) ≡ page.Head h → IsSpan z.layout.pages v.page p h
+    held_whole a p h held e = g.whole p h e kept where
+      kept : IsKept v.freeing p
+      kept b y f same =
+          let x = (g.freeing b y f).being in
+          let none : owner_at v.page y.first ≡ 0 = ap owner_in x.head ∙ x.owner in
+          let one : owner_at v.page y.first ≡ owner_at v.page p = ap (λ (q : ℕ). owner_at v.page q) same in
+          omega (arith, none, one, (g.owners a p).1 held)
+
+    pub locked_whole : (a p : ℕ) (h : SpanHead) → v.locked a ≡ true → v.freeing a ≡ None → page_of (v.page p) ≡ page.Head h → IsSpan z.layout.pages v.page p h
+    locked_whole a p h l none e = g.whole p h e kept where
+      nothing : (y : Freeing) → None ≡ Some y → ⊥
+      nothing y f = cc
+
+      kept : IsKept v.freeing p
+      kept b y f same = let one : b ≡ a = omega (arith, (g.lock a).1 l, (g.lock b).1 (g.freeing b y f).by_holder) in absurd (nothing y (sym none ∙ ap v.freeing (sym one) ∙ f))
+
     pub placed_once : (n m : Name) → IsMade v.ever.made n → IsMade v.ever.made m → Placed v.alloc v.birth v.place n → Placed v.alloc v.birth v.place m → v.place n ≡ v.place m → n ≡ m
     placed_once n m mn mm pn pm e = same_birth z.layout.goroutines v.ever.made n m g.names mn mm (sym pn.says ∙ ap v.birth e ∙ pm.says)
 
   pub apart : TheHeapIsApart
   apart z v g = record {
     slots = slots_apart z.layout.pages v.page;
+    used = bit_used z v g;
+    held = held_whole z v g;
+    locked = locked_whole z v g;
     inside = λ p i x n k h s lt. slot_inside z.layout.pages v.page p i x n k h s lt;
     free = free_clear z v g;
     laid = laid_clear z v g;

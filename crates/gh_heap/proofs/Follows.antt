@@ -6,11 +6,12 @@ use Rattle.gh_base.specs.declared.pack.PageWord.TheVariants.{Head, Body}
 use Rattle.gh_base.specs.declared.pack.SpanHead.{SpanHead}
 use Rattle.gh_base.specs.Packing.{FitsHead, body_word, head_word, page_of}
 use Rattle.gh_base.specs.Rows.{row_bit}
-use Rattle.gh_heap.specs.Laws.{EachRightFollows, EachOwnMoveLeaves}
-use Rattle.gh_heap.specs.Moves.{IsQuiet, Quiet, LayBody, LayHead, Own, Disown, Leaves, May, MayLay, moved, update, update_at}
+use Rattle.gh_heap.specs.Laws.{EachFreeingFollows, EachRightFollows, EachOwnMoveLeaves}
+use Rattle.gh_heap.specs.Moves.{IsQuiet, Quiet, LayBody, LayHead, FreeBody, FreeHead, Own, Leaves, May, MayLay, moved, update, update_at}
 use Rattle.gh_heap.specs.Rights.{Arena, Shared, View, view, Right, Good}
-use Rattle.gh_heap.specs.Spans.{Laying, body_at, owned_by}
-use Rattle.gh_heap.proofs.LeavesPages.{Known, owned-fits, head-read, body-read, bits-grow, page-leaves, given-up, none-leaves}
+use Rattle.gh_heap.specs.Spans.{Freeing, Laying, body_at, owned_by}
+use Rattle.gh_heap.proofs.Apart.{no_head}
+use Rattle.gh_heap.proofs.LeavesPages.{Known, owned-fits, head-read, body-read, bits-grow, page-leaves, none-leaves}
 use Rattle.gh_heap.proofs.Quiet.{quiet-view}
 
 own-entry : {A : Type 0} (f : ℕ → A) (i : ℕ) (x : A) → update f i x i ≡ x
@@ -21,11 +22,12 @@ own-row f i j m x = elim (eqb_tells i i) [ inl y ↦ rw (y.0) refl | inr n ↦ a
 
 module _ (z : Arena) (a : ℕ) (s : Shared) (l : Bool) (h : ℕ → Bool) (y : Option Laying) (r : Right a (view s) l h y) where
   -- no right changes
-  stays : (w : View) → w.locked ≡ s.locked → w.holds ≡ s.holds → w.laying ≡ s.laying → Right a w l h y
-  stays w locked holds laying = record {
+  stays : (w : View) → w.locked ≡ s.locked → w.holds ≡ s.holds → w.laying ≡ s.laying → w.freeing ≡ s.freeing → Right a w l h y
+  stays w locked holds laying freeing = record {
     locked = ap (λ (f : ℕ → Bool). f a) locked ∙ r.locked;
     holds = λ p. ap (λ (f : ℕ → ℕ → Bool). f a p) holds ∙ r.holds p;
     laying = ap (λ (f : ℕ → Option Laying). f a) laying ∙ r.laying;
+    freeing = ap (λ (f : ℕ → Option Freeing). f a) freeing ∙ r.freeing;
   }
 
   -- which spans it holds then
@@ -34,23 +36,29 @@ module _ (z : Arena) (a : ℕ) (s : Shared) (l : Bool) (h : ℕ → Bool) (y : O
 
 pub rights-follow : EachRightFollows
 rights-follow z a s l h y r = record {
-  quiet = λ step. stays z a s l h y r _ refl refl refl;
-  taken = record { locked = own-entry s.locked a true; holds = r.holds; laying = r.laying };
-  left = record { locked = own-entry s.locked a false; holds = r.holds; laying = r.laying };
-  refused = λ g d. record { locked = own-entry s.locked a false; holds = r.holds; laying = r.laying };
-  body = λ x. record { locked = r.locked; holds = r.holds; laying = own-entry s.laying a (Some (record x { next = x.next + 1 })) };
-  laid = λ x. record { locked = r.locked; holds = spans z a s l h y r x.first true; laying = own-entry s.laying a None };
-  owned = λ p head. record { locked = r.locked; holds = spans z a s l h y r p true; laying = r.laying };
-  given = λ p head. record { locked = r.locked; holds = spans z a s l h y r p false; laying = r.laying };
-  published = λ p head. record { locked = r.locked; holds = spans z a s l h y r p false; laying = r.laying };
-  cleared = λ at size k. stays z a s l h y r _ refl refl refl;
-  named = λ at size n. stays z a s l h y r _ refl refl refl;
-  pointed = λ at size i word. stays z a s l h y r _ refl refl refl;
-  made = λ at g d t. stays z a s l h y r _ refl refl refl;
-  written = λ n k value word. stays z a s l h y r _ refl refl refl;
-  set = λ k value word. stays z a s l h y r _ refl refl refl;
-  takes = λ step g d value. stays z a s l h y r _ refl refl refl;
-  ends = λ step g. stays z a s l h y r _ refl refl refl;
+  quiet = λ step. stays z a s l h y r _ refl refl refl refl;
+  taken = record { locked = own-entry s.locked a true; holds = r.holds; laying = r.laying; freeing = r.freeing };
+  left = record { locked = own-entry s.locked a false; holds = r.holds; laying = r.laying; freeing = r.freeing };
+  refused = λ g d. record { locked = own-entry s.locked a false; holds = r.holds; laying = r.laying; freeing = r.freeing };
+  body = λ x. record { locked = r.locked; holds = r.holds; laying = own-entry s.laying a (Some (record x { next = x.next + 1 })); freeing = r.freeing };
+  laid = λ x. record { locked = r.locked; holds = spans z a s l h y r x.first true; laying = own-entry s.laying a None; freeing = r.freeing };
+  owned = λ p head. record { locked = r.locked; holds = spans z a s l h y r p true; laying = r.laying; freeing = r.freeing };
+  given = λ p head. record { locked = r.locked; holds = spans z a s l h y r p false; laying = r.laying; freeing = r.freeing };
+  published = λ p head. record { locked = r.locked; holds = spans z a s l h y r p false; laying = r.laying; freeing = r.freeing };
+  cleared = λ at size k. stays z a s l h y r _ refl refl refl refl;
+  named = λ at size n. stays z a s l h y r _ refl refl refl refl;
+  pointed = λ at size i word. stays z a s l h y r _ refl refl refl refl;
+  made = λ at g d t. stays z a s l h y r _ refl refl refl refl;
+  written = λ n k value word. stays z a s l h y r _ refl refl refl refl;
+  set = λ k value word. stays z a s l h y r _ refl refl refl refl;
+  takes = λ step g d value. stays z a s l h y r _ refl refl refl refl;
+  ends = λ step g. stays z a s l h y r _ refl refl refl refl;
+}
+
+pub freeing-follows : EachFreeingFollows
+freeing-follows z a s l h y f r = record {
+  body = λ x. record { locked = r.locked; holds = r.holds; laying = r.laying; freeing = own-entry s.freeing a (Some (record x { next = x.next + 1 })) };
+  head = λ x. record { locked = r.locked; holds = r.holds; laying = r.laying; freeing = own-entry s.freeing a None };
 }
 
 module _ (k : Known) (z : Arena) (a : ℕ) (s : Shared) (g : Good z (view s)) where
@@ -81,9 +89,11 @@ module _ (k : Known) (z : Arena) (a : ℕ) (s : Shared) (g : Good z (view s)) wh
   owned-leaves : (p : ℕ) (h : SpanHead) → May z a (view s) (Own p h) → Leaves (view s) (view (moved z a s (Own p h)))
   owned-leaves p h may = owner-leaves (moved z a s (Own p h)) p (owned_by (a + 1) h) (owned-fits ((view s).page p) (a + 1) h may.0.head (number-few p h may.0.head) may.2) (λ e. omega (arith, e)) (λ q. refl) (λ x e. e)
 
-  -- the span that is given back is full
-  given-leaves : (p : ℕ) (h : SpanHead) → May z a (view s) (Disown p h) → Leaves (view s) (view (moved z a s (Disown p h)))
-  given-leaves p h may = given-up k (view s) (view (moved z a s (Disown p h))) p h (λ q. refl) may.0.head (number-few p h may.0.head) may.2 (λ x e. e)
+  freed-leaves : (y : Freeing) → Leaves (view s) (view (moved z a s (FreeBody y)))
+  freed-leaves y = page-leaves (view s) (view (moved z a s (FreeBody y))) (y.first + y.next) 0 (λ q. refl) (λ h e owner. absurd (no_head h e)) (λ x e. e)
+
+  emptied-leaves : (y : Freeing) → Leaves (view s) (view (moved z a s (FreeHead y)))
+  emptied-leaves y = page-leaves (view s) (view (moved z a s (FreeHead y))) y.first 0 (λ q. refl) (λ h e owner. absurd (no_head h e)) (λ x e. e)
 
 pub own-moves-leave : Known → EachOwnMoveLeaves
 own-moves-leave k z a s g = record {
@@ -92,7 +102,9 @@ own-moves-leave k z a s g = record {
   body = body-leaves k z a s g;
   head = head-leaves k z a s g;
   owned = owned-leaves k z a s g;
-  given = given-leaves k z a s g;
+  freed = freed-leaves k z a s g;
+  emptied = emptied-leaves k z a s g;
+  left = none-leaves (view s) _ (λ p. refl) (λ x e. e);
   cleared = λ at size i. none-leaves _ _ (λ p. refl) (λ x e. e);
   named = λ at size n. none-leaves _ _ (λ p. refl) (λ x e. e);
   pointed = λ at size i word. none-leaves _ _ (λ p. refl) (λ x e. e);

@@ -1,46 +1,28 @@
 -- Each move keeps what holds at every moment. A group over rows that a move does not touch is kept by its bare name.
-use Rattle.std.proofs.Common.{◌≡◌, ℕ, ◌+◌, ◌^◌, ◌<◌, true, refl, sym, ap, subst, ◌∙◌, arith, lit<}
+use Rattle.std.proofs.Common.{◌≡◌, ◌≢◌, ℕ, ◌+◌, true, refl, sym, ap, subst, ◌∙◌, arith, lit<}
 use Rattle.gh_base.specs.declared.pack.PageWord.TheVariants as page
 use Rattle.gh_base.specs.declared.pack.SpanHead.{SpanHead}
 use Rattle.gh_base.specs.declared.value.Name.{Name}
-use Rattle.gh_base.specs.Packing.{FitsHead, birth_word, body_word, head_word, page_of}
+use Rattle.gh_base.specs.Packing.{birth_word, body_word, head_word, page_of}
 use Rattle.gh_model.specs.declared.EverValue.{EverValue}
 use Rattle.gh_model.specs.declared.EverValue.TheVariants as ever
 use Rattle.gh_model.specs.Ever.{with_end, with_register}
 use Rattle.gh_heap.specs.Laws.{EachMoveKeeps}
-use Rattle.gh_heap.specs.Moves.{Move, Quiet, Takes, Ends, TakeLock, LeaveLock, Refuse, LayBody, LayHead, Own, Disown, Publish, ClearField, SetBirth, SetBits, Make, Write, WriteGlobal, May, MayLay, IsReached, moved}
+use Rattle.gh_heap.specs.Moves.{Move, Quiet, Takes, Ends, TakeLock, LeaveLock, Refuse, LayBody, LayHead, FreeBody, FreeHead, Own, Disown, Publish, ClearField, SetBirth, SetBits, Make, Write, WriteGlobal, May, IsReached, moved}
 use Rattle.gh_heap.specs.Rights.{Arena, Shared, View, Good, view}
-use Rattle.gh_heap.specs.Spans.{Laying, body_at, owned_by, owner_in}
+use Rattle.gh_heap.specs.Spans.{Laying, body_at, owned_by, owner_at, owner_in}
+use Rattle.gh_heap.proofs.KeepsFree.{body_kept, head_kept}
+use Rattle.gh_heap.proofs.Apart.{held_whole, locked_whole}
+use Rattle.gh_heap.proofs.KeepsFreeing.{freeing_left, freeing_none, freeing_off, freeing_taken}
 use Rattle.gh_heap.proofs.Known.{Known}
+use Rattle.gh_heap.proofs.Says.{body_says, owned_says}
 use Rattle.gh_heap.proofs.Quiet.{quiet-view}
 use Rattle.gh_heap.proofs.Reaching.{reach_register, reach_end, reach_field, reach_global}
-use Rattle.gh_heap.proofs.KeepsSpans.{lock_taken, lock_left, alone, IsAlone, next_page, body_spans, body_numbers, body_full, body_owners, head_numbers, head_full, head_held, head_given, owned_spans, owned_stays, free_stays, slots_stay, laid_more, laid_spans, laying_taken, laying_left, laying_more, laying_ended, laying_none, laying_off}
-use Rattle.gh_heap.proofs.KeepsObjects.{fields_cleared, birth_bits, birth_reached, birth_slots, birth_stays, birth_pointers, birth_fields, bits_pointers, fields_written, globals_written}
-use Rattle.gh_heap.proofs.KeepsMade.{made_bits, made_fields, made_full, made_globals, made_names, made_pointers, made_reached, made_slots, made_stays}
+use Rattle.gh_heap.proofs.KeepsSpans.{lock_taken, lock_left, alone, IsAlone, next_page, plain_spans, plain_whole, plain_numbers, plain_owners, head_numbers, head_held, head_given, owned_spans, owned_whole, owned_stays, free_stays, slots_stay, laid_more, laid_spans, laid_whole, laying_taken, laying_left, laying_more, laying_ended, laying_none, laying_off}
+use Rattle.gh_heap.proofs.KeepsObjects.{fields_cleared, birth_bits, birth_reached, birth_slots, birth_pointers, birth_fields, bits_pointers, fields_written, globals_written}
+use Rattle.gh_heap.proofs.KeepsMade.{made_bits, made_fields, made_freeing, made_globals, made_names, made_pointers, made_reached, made_slots, made_words}
 
 module _ (known : Known) (z : Arena) where
-  -- The words that are written say what they are to.
-
-  body_says : (v : View) (a : ℕ) (y : Laying) → MayLay z v a y → y.next < y.head.pages → page_of (body_word (body_at y.head y.next)) ≡ page.Body (body_at y.head y.next)
-  body_says v a y m more =
-      let some = m.laid.some in
-      let few = m.word.pages in
-      known.packed.page (page.Body (body_at y.head y.next)) (record { class = m.fits.class; some = omega arith; distance = omega arith })
-
-  -- a span's head, with an owner that fits
-  owned_fits : (v : View) (p o : ℕ) (h : SpanHead) → Good z v → page_of (v.page p) ≡ page.Head h → o < 2 ^ 8 → FitsHead (owned_by o h)
-  owned_fits v p o h g is low =
-      let s = g.spans p h is in
-      let within = s.within in
-      let limits = z.layout.limits in
-      let most = limits.pages_fit in
-      let generation = g.generation in
-      let number = g.numbers p h is in
-      record { class = s.fits.class; some = s.fits.some; pages = omega (arith, most.1); owner = low; number = omega arith }
-
-  owned_says : (v : View) (p o : ℕ) (h : SpanHead) → Good z v → page_of (v.page p) ≡ page.Head h → o < 2 ^ 8 → page_of (head_word (owned_by o h)) ≡ page.Head (owned_by o h)
-  owned_says v p o h g is low = known.packed.page (page.Head (owned_by o h)) (owned_fits v p o h g is low)
-
   module _ (a : ℕ) (s : Shared) (g : Good z (view s)) where
     abbrev v : View
     v = view s
@@ -55,14 +37,15 @@ module _ (known : Known) (z : Arena) where
     kept_lock may = record {
       lock = lock_taken v.lock v.locked a g.lock may;
       spans = g.spans;
+      whole = g.whole;
       generation = g.generation;
       numbers = g.numbers;
       owners = g.owners;
       laying = laying_taken z.layout.pages v.page v.locked v.laying a g.laying;
-      full = g.full;
+      freeing = freeing_taken v.page v.alloc v.locked v.freeing a g.freeing;
+      words = g.words;
       bits = g.bits;
       reached = g.reached;
-      stays = g.stays;
       slots = g.slots;
       pointers = g.pointers;
       fields = g.fields;
@@ -74,14 +57,15 @@ module _ (known : Known) (z : Arena) where
     kept_unlock may = record {
       lock = lock_left v.lock v.locked a g.lock may.0;
       spans = g.spans;
+      whole = g.whole;
       generation = g.generation;
       numbers = g.numbers;
       owners = g.owners;
       laying = laying_left z.layout.pages v.page v.locked v.laying a g.laying may.1;
-      full = g.full;
+      freeing = freeing_left v.page v.alloc v.locked v.freeing a g.freeing may.2;
+      words = g.words;
       bits = g.bits;
       reached = g.reached;
-      stays = g.stays;
       slots = g.slots;
       pointers = g.pointers;
       fields = g.fields;
@@ -93,19 +77,21 @@ module _ (known : Known) (z : Arena) where
     kept_body y may =
         let w = body_word (body_at y.head y.next) in
         let q = y.first + y.next in
-        let is = body_says v a y may.0 may.1 in
+        let is = body_says known z v a y may.0 may.1 in
         let free = may.0.laid.free y.next (omega arith) may.1 in
+        let none : (h : SpanHead) → page_of w ≡ page.Head h → ⊥ = λ h e. absurd (cc (is, e)) in
         record {
           lock = g.lock;
-          spans = body_spans z.layout.pages v.page q w (body_at y.head y.next) is free g.spans;
+          spans = plain_spans z.layout.pages v.page q w none g.spans;
+          whole = plain_whole z.layout.pages v.page q w none free v.freeing g.whole;
           generation = g.generation;
-          numbers = body_numbers z.layout.pages v.page q w (body_at y.head y.next) is free v.generation g.numbers;
-          owners = body_owners z.layout.pages v.page q w (body_at y.head y.next) is free v.holds g.owners;
+          numbers = plain_numbers z.layout.pages v.page q w none v.generation g.numbers;
+          owners = plain_owners z.layout.pages v.page q w none (ap owner_in is) (ap owner_in free) v.holds g.owners;
           laying = laying_more z.layout.pages v.page v.locked v.laying a g.laying _ (next_page y) (one may.0.locked) may.0.locked (laid_more z.layout.pages v.page y w is may.1 may.0.laid);
-          full = body_full z.layout.pages v.page q w (body_at y.head y.next) is free v.alloc g.full;
+          freeing = freeing_none v.page v.alloc v.locked v.freeing a g.freeing _ (one may.0.locked) may.0.freeing;
+          words = g.words;
           bits = g.bits;
           reached = g.reached;
-          stays = g.stays;
           slots = slots_stay z.shapes z.layout.pages v.page _ v.alloc v.birth v.place v.ever.made v.ever.type_of (free_stays z.layout.pages v.page q w free) g.slots;
           pointers = g.pointers;
           fields = g.fields;
@@ -122,14 +108,15 @@ module _ (known : Known) (z : Arena) where
         record {
           lock = g.lock;
           spans = laid_spans z.layout.pages v.page y w is may.1 may.0.fits may.0.laid g.spans;
+          whole = laid_whole z.layout.pages v.page y w is may.1 may.0.fits may.0.laid v.freeing g.whole;
           generation = g.generation;
           numbers = head_numbers z.layout.pages v.page y.first w y.head is v.generation may.0.number g.numbers;
           owners = head_held z.layout.pages v.page y.first w y.head is v.holds a owner (ap owner_in free) g.owners;
           laying = laying_ended z.layout.pages v.page v.locked v.laying a g.laying _ (one may.0.locked);
-          full = head_full z.layout.pages v.page y.first w y.head is v.alloc (λ e. absurd (omega arith)) g.full;
+          freeing = freeing_none v.page v.alloc v.locked v.freeing a g.freeing _ (one may.0.locked) may.0.freeing;
+          words = g.words;
           bits = g.bits;
           reached = g.reached;
-          stays = g.stays;
           slots = slots_stay z.shapes z.layout.pages v.page _ v.alloc v.birth v.place v.ever.made v.ever.type_of (free_stays z.layout.pages v.page y.first w free) g.slots;
           pointers = g.pointers;
           fields = g.fields;
@@ -140,19 +127,20 @@ module _ (known : Known) (z : Arena) where
     kept_own : (p : ℕ) (h : SpanHead) → May z a v (Own p h) → Kept (Own p h)
     kept_own p h may =
         let w = head_word (owned_by (a + 1) h) in
-        let is = owned_says v p (a + 1) h g may.0.head may.2 in
-        let own = g.spans p h may.0.head in
+        let is = owned_says known z v p (a + 1) h g may.0.head may.2 in
+        let own = locked_whole known.table z v g a p h may.0.locked may.0.freeing may.0.head in
         record {
           lock = g.lock;
           spans = owned_spans z.layout.pages v.page p w (a + 1) h is own g.spans;
+          whole = owned_whole z.layout.pages v.page p w (a + 1) h is own v.freeing g.whole;
           generation = g.generation;
           numbers = head_numbers z.layout.pages v.page p w (owned_by (a + 1) h) is v.generation (g.numbers p h may.0.head) g.numbers;
           owners = head_held z.layout.pages v.page p w (owned_by (a + 1) h) is v.holds a refl (ap owner_in may.0.head ∙ may.1) g.owners;
           laying = laying_none z.layout.pages v.page v.locked v.laying a g.laying _ (one may.0.locked) may.0.laying;
-          full = head_full z.layout.pages v.page p w (owned_by (a + 1) h) is v.alloc (λ e. absurd (omega arith)) g.full;
+          freeing = freeing_none v.page v.alloc v.locked v.freeing a g.freeing _ (one may.0.locked) may.0.freeing;
+          words = g.words;
           bits = g.bits;
           reached = g.reached;
-          stays = g.stays;
           slots = slots_stay z.shapes z.layout.pages v.page _ v.alloc v.birth v.place v.ever.made v.ever.type_of (owned_stays z.layout.pages v.page p w (a + 1) h is own) g.slots;
           pointers = g.pointers;
           fields = g.fields;
@@ -163,19 +151,20 @@ module _ (known : Known) (z : Arena) where
     kept_disown : (p : ℕ) (h : SpanHead) → May z a v (Disown p h) → Kept (Disown p h)
     kept_disown p h may =
         let w = head_word (owned_by 0 h) in
-        let is = owned_says v p 0 h g may.0.head (lit< tt) in
-        let own = g.spans p h may.0.head in
+        let is = owned_says known z v p 0 h g may.0.head (lit< tt) in
+        let own = locked_whole known.table z v g a p h may.0.locked may.0.freeing may.0.head in
         record {
           lock = g.lock;
           spans = owned_spans z.layout.pages v.page p w 0 h is own g.spans;
+          whole = owned_whole z.layout.pages v.page p w 0 h is own v.freeing g.whole;
           generation = g.generation;
           numbers = head_numbers z.layout.pages v.page p w (owned_by 0 h) is v.generation (g.numbers p h may.0.head) g.numbers;
           owners = head_given z.layout.pages v.page p w (owned_by 0 h) is v.holds a refl may.1 g.owners;
           laying = laying_none z.layout.pages v.page v.locked v.laying a g.laying _ (one may.0.locked) may.0.laying;
-          full = head_full z.layout.pages v.page p w (owned_by 0 h) is v.alloc (λ e. may.2) g.full;
+          freeing = freeing_none v.page v.alloc v.locked v.freeing a g.freeing _ (one may.0.locked) may.0.freeing;
+          words = g.words;
           bits = g.bits;
           reached = g.reached;
-          stays = g.stays;
           slots = slots_stay z.shapes z.layout.pages v.page _ v.alloc v.birth v.place v.ever.made v.ever.type_of (owned_stays z.layout.pages v.page p w 0 h is own) g.slots;
           pointers = g.pointers;
           fields = g.fields;
@@ -183,22 +172,26 @@ module _ (known : Known) (z : Arena) where
           names = g.names;
         }
 
+    owned_by_holder : (b p : ℕ) (h : SpanHead) → v.holds b p ≡ true → page_of (v.page p) ≡ page.Head h → h.owner ≢ 0
+    owned_by_holder b p h held e none = let is : owner_at v.page p ≡ h.owner = ap owner_in e in omega (arith, (g.owners b p).1 held, is, none)
+
     kept_publish : (p : ℕ) (h : SpanHead) → May z a v (Publish p h) → Kept (Publish p h)
     kept_publish p h may =
         let w = head_word (owned_by 0 h) in
-        let is = owned_says v p 0 h g may.1 (lit< tt) in
-        let own = g.spans p h may.1 in
+        let is = owned_says known z v p 0 h g may.1 (lit< tt) in
+        let own = held_whole known.table z v g a p h may.0 may.1 in
         record {
           lock = g.lock;
           spans = owned_spans z.layout.pages v.page p w 0 h is own g.spans;
+          whole = owned_whole z.layout.pages v.page p w 0 h is own v.freeing g.whole;
           generation = g.generation;
           numbers = head_numbers z.layout.pages v.page p w (owned_by 0 h) is v.generation (g.numbers p h may.1) g.numbers;
           owners = head_given z.layout.pages v.page p w (owned_by 0 h) is v.holds a refl may.0 g.owners;
           laying = laying_off z.layout.pages v.page v.locked v.laying a g.laying p w h may.1;
-          full = head_full z.layout.pages v.page p w (owned_by 0 h) is v.alloc (λ e. may.3) g.full;
+          freeing = freeing_off v.page v.alloc v.locked v.freeing a g.freeing p w h may.1 (owned_by_holder a p h may.0 may.1);
+          words = g.words;
           bits = g.bits;
           reached = g.reached;
-          stays = g.stays;
           slots = slots_stay z.shapes z.layout.pages v.page _ v.alloc v.birth v.place v.ever.made v.ever.type_of (owned_stays z.layout.pages v.page p w 0 h is own) g.slots;
           pointers = g.pointers;
           fields = g.fields;
@@ -210,14 +203,15 @@ module _ (known : Known) (z : Arena) where
     kept_clear at size k may = record {
       lock = g.lock;
       spans = g.spans;
+      whole = g.whole;
       generation = g.generation;
       numbers = g.numbers;
       owners = g.owners;
       laying = g.laying;
-      full = g.full;
+      freeing = g.freeing;
+      words = g.words;
       bits = g.bits;
       reached = g.reached;
-      stays = g.stays;
       slots = g.slots;
       pointers = g.pointers;
       fields = fields_cleared known z v g a at size may.0 k may.1;
@@ -229,14 +223,15 @@ module _ (known : Known) (z : Arena) where
     kept_birth at size n may = record {
       lock = g.lock;
       spans = g.spans;
+      whole = g.whole;
       generation = g.generation;
       numbers = g.numbers;
       owners = g.owners;
       laying = g.laying;
-      full = g.full;
+      freeing = g.freeing;
+      words = g.words;
       bits = birth_bits known z v g a at size may (birth_word n);
       reached = birth_reached known z v g a at size may (birth_word n);
-      stays = birth_stays known z v g a at size may (birth_word n);
       slots = birth_slots known z v g a at size may (birth_word n);
       pointers = birth_pointers known z v g a at size may (birth_word n);
       fields = birth_fields known z v g a at size may (birth_word n);
@@ -248,14 +243,15 @@ module _ (known : Known) (z : Arena) where
     kept_bits at size i word may = record {
       lock = g.lock;
       spans = g.spans;
+      whole = g.whole;
       generation = g.generation;
       numbers = g.numbers;
       owners = g.owners;
       laying = g.laying;
-      full = g.full;
+      freeing = g.freeing;
+      words = g.words;
       bits = g.bits;
       reached = g.reached;
-      stays = g.stays;
       slots = g.slots;
       pointers = bits_pointers known z v g a at size may.0 i word may.1;
       fields = g.fields;
@@ -267,14 +263,15 @@ module _ (known : Known) (z : Arena) where
     kept_make at r d t may = record {
       lock = g.lock;
       spans = g.spans;
+      whole = g.whole;
       generation = g.generation;
       numbers = g.numbers;
       owners = g.owners;
       laying = g.laying;
-      full = made_full known z v g a at r d t may g.full;
+      freeing = made_freeing known z v g a at r d t may;
+      words = made_words known z v g a at r d t may;
       bits = made_bits known z v g a at r d t may;
       reached = made_reached known z v g a at r d t may;
-      stays = made_stays known z v g a at r d t may;
       slots = made_slots known z v g a at r d t may;
       pointers = made_pointers known z v g a at r d t may;
       fields = made_fields known z v g a at r d t may;
@@ -286,14 +283,15 @@ module _ (known : Known) (z : Arena) where
     kept_write n k value word may = record {
       lock = g.lock;
       spans = g.spans;
+      whole = g.whole;
       generation = g.generation;
       numbers = g.numbers;
       owners = g.owners;
       laying = g.laying;
-      full = g.full;
+      freeing = g.freeing;
+      words = g.words;
       bits = g.bits;
       reached = λ o r. g.reached o (reach_field v.ever n k value may.value_reached o r);
-      stays = g.stays;
       slots = g.slots;
       pointers = g.pointers;
       fields = fields_written known z v g a n k value word may;
@@ -305,14 +303,15 @@ module _ (known : Known) (z : Arena) where
     kept_global k value word may = record {
       lock = g.lock;
       spans = g.spans;
+      whole = g.whole;
       generation = g.generation;
       numbers = g.numbers;
       owners = g.owners;
       laying = g.laying;
-      full = g.full;
+      freeing = g.freeing;
+      words = g.words;
       bits = g.bits;
       reached = λ o r. g.reached o (reach_global v.ever k value may.value_reached o r);
-      stays = g.stays;
       slots = g.slots;
       pointers = g.pointers;
       fields = g.fields;
@@ -326,14 +325,15 @@ module _ (known : Known) (z : Arena) where
     kept_takes gr d value reached = record {
       lock = g.lock;
       spans = g.spans;
+      whole = g.whole;
       generation = g.generation;
       numbers = g.numbers;
       owners = g.owners;
       laying = g.laying;
-      full = g.full;
+      freeing = g.freeing;
+      words = g.words;
       bits = g.bits;
       reached = λ o r. g.reached o (reach_register v.ever gr d value reached o r);
-      stays = g.stays;
       slots = g.slots;
       pointers = g.pointers;
       fields = g.fields;
@@ -345,14 +345,15 @@ module _ (known : Known) (z : Arena) where
     kept_ends gr = record {
       lock = g.lock;
       spans = g.spans;
+      whole = g.whole;
       generation = g.generation;
       numbers = g.numbers;
       owners = g.owners;
       laying = g.laying;
-      full = g.full;
+      freeing = g.freeing;
+      words = g.words;
       bits = g.bits;
       reached = λ o r. g.reached o (reach_end v.ever gr o r);
-      stays = g.stays;
       slots = g.slots;
       pointers = g.pointers;
       fields = g.fields;
@@ -366,9 +367,11 @@ keeps known z a s (Takes step gr d value) g may = subst (λ (v : View). Good z (
 keeps known z a s (Ends step gr) g may = subst (λ (v : View). Good z (record v { ever = with_end s.ever gr })) (sym (quiet-view s step may.0)) (kept_ends known z a s g gr)
 keeps known z a s TakeLock g may = kept_lock known z a s g may
 keeps known z a s LeaveLock g may = kept_unlock known z a s g may
-keeps known z a s (Refuse gr d) g may = kept_takes known z a (moved z a s LeaveLock) (kept_unlock known z a s g (may.0, may.1)) gr d ever.Nil tt
+keeps known z a s (Refuse gr d) g may = kept_takes known z a (moved z a s LeaveLock) (kept_unlock known z a s g (may.0, may.1, may.2)) gr d ever.Nil tt
 keeps known z a s (LayBody y) g may = kept_body known z a s g y may
 keeps known z a s (LayHead y) g may = kept_head known z a s g y may
+keeps known z a s (FreeBody y) g may = body_kept known z a s g y may
+keeps known z a s (FreeHead y) g may = head_kept known z a s g y may
 keeps known z a s (Own p h) g may = kept_own known z a s g p h may
 keeps known z a s (Disown p h) g may = kept_disown known z a s g p h may
 keeps known z a s (Publish p h) g may = kept_publish known z a s g p h may

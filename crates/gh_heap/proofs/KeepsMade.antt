@@ -1,6 +1,8 @@
 -- What is said of objects holds once one more is made: the alloc bit of its claimed slot is set.
 use Rattle.std.proofs.Common.{◌≡◌, ◌≢◌, ℕ, ◌+◌, ◌/◌, ◌%◌, ◌^◌, ◌<◌, ◌≤◌, ◌⊎◌, Bool, true, false, cond, eqb, refl, sym, ap, subst, ◌∙◌, arith, inl, inr}
 use Rattle.std.specs.Prelude.{bit_or}
+use Rattle.std.proofs.Math.Pow.{pow-lt}
+use Rattle.std.proofs.lemmas.Nat.{or_lt}
 use Rattle.std.proofs.lemmas.Bool.{eqb-true, eq-eqb, ne_eqb}
 use Rattle.gh_base.specs.declared.limits.TheConstants.{MOST_STATEMENTS}
 use Rattle.gh_base.specs.declared.value.Name.{Name}
@@ -13,10 +15,11 @@ use Rattle.gh_model.specs.declared.EverValue.TheVariants as ever
 use Rattle.gh_model.specs.Ever.{Ever, Reach, field_count, first_value, next_name, same_name, with_object}
 use Rattle.gh_heap.specs.Moves.{MayMake, placed_at}
 use Rattle.gh_heap.specs.Objects.{BitsGood, FieldsGood, GlobalsGood, Holds, InSlot, IsMade, NamesGood, Place, Placed, PointersGood, ReachedGood, SlotsGood}
-use Rattle.gh_heap.specs.Rights.{Arena, View, Good, FullGood, StaysGood}
-use Rattle.gh_heap.specs.Spans.{IsSlotOf}
+use Rattle.gh_heap.specs.Rights.{Arena, View, Good, FreeingGood, FullGood, StaysGood, WordsGood}
+use Rattle.gh_heap.specs.Spans.{IsSlotOf, owner_at, owner_in}
 use Rattle.gh_heap.proofs.Known.{Known}
-use Rattle.gh_heap.proofs.Apart.{few_made, same_name_is, birth_tells, zero_one}
+use Rattle.gh_heap.proofs.KeepsFreeing.{freeing_set}
+use Rattle.gh_heap.proofs.Apart.{slot_inside, slot_some, few_made, same_name_is, birth_tells, zero_one}
 use Rattle.gh_heap.proofs.Reaching.{other_name, reach_new, same_name_here, same_name_tells, with_new}
 
 module _ (known : Known) (z : Arena) (v : View) (g : Good z v) (a at r d t : ℕ) (may : MayMake z v a at r d t) where
@@ -107,6 +110,21 @@ module _ (known : Known) (z : Arena) (v : View) (g : Good z v) (a at r d t : ℕ
   pub made_full : FullGood v.page v.alloc → FullGood v.page alloc'
   made_full full p h e none i lt = made_grows _ (full p h e none i lt)
 
+  -- it is made in a span that its seat holds, which nobody frees
+  pub made_freeing : FreeingGood v.page alloc' v.locked v.freeing
+  made_freeing =
+      let c = may.ready.claim in
+      let some = slot_some known.table z.layout.pages v.page c.p c.i at (field_count (shape_at z.shapes t)) c.h c.slot in
+      let inside = slot_inside known.table z.layout.pages v.page c.p c.i at (field_count (shape_at z.shapes t)) 0 c.h c.slot some in
+      let owner : owner_at v.page c.p ≡ c.h.owner = ap owner_in c.slot.span.head in
+      freeing_set v.page v.alloc v.locked v.freeing a g.freeing alloc' z.layout.pages c.p at c.h (λ x ne. known.rows.sets_no_other v.alloc at x ne) c.slot.span (λ none. omega (arith, (g.owners a c.p).1 c.held, owner, none)) (omega (arith, inside.0)) (omega (arith, inside.1))
+
+  pub made_words : WordsGood alloc'
+  made_words i = go (eqb (at / 64) i) where
+    go : (b : Bool) → cond b (bit_or (v.alloc (at / 64)) (2 ^ (at % 64))) (v.alloc i) < 2 ^ 64
+    go true = let low : at % 64 < 64 = omega arith in or_lt 64 (v.alloc (at / 64)) (2 ^ (at % 64)) (g.words (at / 64)) (pow-lt low)
+    go false = g.words i
+
   pub made_bits : BitsGood alloc' v.birth place' after.made
   made_bits x set = go (eqb at x) refl where
     go : (b : Bool) → eqb at x ≡ b → (n : Name) × IsMade after.made n × (place' n ≡ x) × (v.birth x ≡ birth_word n)
@@ -126,11 +144,11 @@ module _ (known : Known) (z : Arena) (v : View) (g : Good z v) (a at r d t : ℕ
     go s true f = subst (λ (x : Name). Placed alloc' v.birth place' x) (sym (same_name_tells n new f)) placed_new
     go s false f = placed_now n f (g.reached n s)
 
-  pub made_stays : StaysGood alloc' v.birth place' after.made
+  pub made_stays : StaysGood v.alloc v.birth v.place v.ever.made → StaysGood alloc' v.birth place' after.made
   unfolding Cases
-  made_stays n made = elim (made_cases n made) [
+  made_stays stays n made = elim (made_cases n made) [
     | inl e ↦ subst (λ (x : Name). Placed alloc' v.birth place' x) (sym e) placed_new
-    | inr q ↦ placed_now n q.1 (g.stays n q.0)
+    | inr q ↦ placed_now n q.1 (stays n q.0)
   ]
 
   pub made_slots : SlotsGood z.shapes z.layout.pages v.page alloc' v.birth place' after.made after.type_of

@@ -47,8 +47,8 @@ module _ (known : Known) (z : Arena) (v : View) (g : Good z v) where
       pub birth_reached : ReachedGood v.alloc written v.place v.ever
       birth_reached n r = says_now n (g.reached n r)
 
-      pub birth_stays : StaysGood v.alloc written v.place v.ever.made
-      birth_stays n made = says_now n (g.stays n made)
+      pub birth_stays : StaysGood v.alloc v.birth v.place v.ever.made → StaysGood v.alloc written v.place v.ever.made
+      birth_stays stays n made = says_now n (stays n made)
 
       pub birth_slots : SlotsGood z.shapes z.layout.pages v.page v.alloc written v.place v.ever.made v.ever.type_of
       birth_slots n made p = g.slots n made (said n p)

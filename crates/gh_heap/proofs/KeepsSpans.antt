@@ -4,7 +4,6 @@ use Rattle.std.specs.Prelude.{◌↔◌}
 use Rattle.std.proofs.lemmas.Bool.{eqb-true, eq-eqb, ne_eqb}
 use Rattle.std.proofs.lemmas.Bool.Decides.{nat_tests}
 use Rattle.gh_base.specs.declared.pack.PageWord.TheVariants as page
-use Rattle.gh_base.specs.declared.pack.SpanBody.{SpanBody}
 use Rattle.gh_base.specs.declared.pack.SpanHead.{SpanHead}
 use Rattle.gh_base.specs.declared.shape.Shape.{Shape}
 use Rattle.gh_base.specs.declared.value.Name.{Name}
@@ -12,8 +11,8 @@ use Rattle.gh_base.specs.Packing.{page_of}
 use Rattle.gh_base.specs.Rows.{Row, with_word}
 use Rattle.gh_heap.specs.Moves.{update, update_at}
 use Rattle.gh_heap.specs.Objects.{Place, SlotsGood}
-use Rattle.gh_heap.specs.Rights.{LockGood, SpansGood, NumbersGood, OwnersGood, Lays, LayingGood, FullGood}
-use Rattle.gh_heap.specs.Spans.{FitsClass, IsFull, IsSpan, Laying, LaidOut, body_at, owned_by, owner_at, owner_in}
+use Rattle.gh_heap.specs.Rights.{LockGood, SpansGood, WholeGood, NumbersGood, OwnersGood, Lays, LayingGood, FullGood}
+use Rattle.gh_heap.specs.Spans.{FitsClass, FitsIn, IsFull, IsSpan, Laying, LaidOut, Freeing, body_at, owned_by, owner_at, owner_in}
 use Rattle.gh_heap.proofs.Apart.{head_is, page_in_span, same_span}
 
 -- The lock.
@@ -59,7 +58,7 @@ given_by owner holds a q g held b p = grind (arith, nat_tests, g b p, g b q, g a
 
 module _ (pages : ℕ) (row : Row) (q w : ℕ) where
   -- a span stays where none of its pages is that one
-  span_off : (p : ℕ) (h : SpanHead) → IsSpan pages row p h → ((x : ℕ) → p ≤ x → x < p + h.pages → q ≢ x) → IsSpan pages (with_word row q w) p h
+  pub span_off : (p : ℕ) (h : SpanHead) → IsSpan pages row p h → ((x : ℕ) → p ≤ x → x < p + h.pages → q ≢ x) → IsSpan pages (with_word row q w) p h
   span_off p h s off =
       let some = s.fits.some in
       let same : (x : ℕ) → p ≤ x → x < p + h.pages → page_of (with_word row q w x) ≡ page_of (row x) = λ x low high. ap page_of (off_word row q w x (off x low high)) in
@@ -80,25 +79,28 @@ module _ (pages : ℕ) (row : Row) (q w : ℕ) where
     go true = e
     go false = refl
 
-  -- Of a further page.
-  module _ (b : SpanBody) (is : page_of w ≡ page.Body b) (free : page_of (row q) ≡ page.Free) where
-    head_before : (p : ℕ) (h : SpanHead) → page_of (with_word row q w p) ≡ page.Head h → page_of (row p) ≡ page.Head h
+  -- Of a page that is no head then.
+  module _ (none : (h : SpanHead) → page_of w ≡ page.Head h → ⊥) where
+    pub head_before : (p : ℕ) (h : SpanHead) → page_of (with_word row q w p) ≡ page.Head h → page_of (row p) ≡ page.Head h
     head_before p h e = go (eqb q p) e where
       go : (c : Bool) → page_of (cond c w (row p)) ≡ page.Head h → page_of (row p) ≡ page.Head h
-      go true f = absurd (cc (is, f))
+      go true f = absurd (none h f)
       go false f = f
 
-    pub body_spans : SpansGood pages row → SpansGood pages (with_word row q w)
-    body_spans g p h e = span_kept free p h (g p h (head_before p h e))
+    pub plain_spans : SpansGood pages row → SpansGood pages (with_word row q w)
+    plain_spans g p h e = g p h (head_before p h e)
 
-    pub body_numbers : (generation : ℕ) → NumbersGood row generation → NumbersGood (with_word row q w) generation
-    body_numbers generation g p h e = g p h (head_before p h e)
+    pub plain_whole : page_of (row q) ≡ page.Free → (freeing : ℕ → Option Freeing) → WholeGood pages row freeing → WholeGood pages (with_word row q w) freeing
+    plain_whole free freeing g p h e kept = span_kept free p h (g p h (head_before p h e) kept)
 
-    pub body_full : (alloc : Row) → FullGood row alloc → FullGood (with_word row q w) alloc
-    body_full alloc g p h e none = g p h (head_before p h e) none
+    pub plain_numbers : (generation : ℕ) → NumbersGood row generation → NumbersGood (with_word row q w) generation
+    plain_numbers generation g p h e = g p h (head_before p h e)
 
-    pub body_owners : (holds : ℕ → ℕ → Bool) → OwnersGood row holds → OwnersGood (with_word row q w) holds
-    body_owners holds g a p = subst (λ (o : ℕ). (o ≡ a + 1) ↔ (holds a p ≡ true)) (sym (owner_after 0 p (ap owner_in is) ∙ same_by (λ (y : ℕ). owner_at row y) q 0 (ap owner_in free) p)) (g a p)
+    pub plain_full : (alloc : Row) → FullGood row alloc → FullGood (with_word row q w) alloc
+    plain_full alloc g p h e unowned = g p h (head_before p h e) unowned
+
+    pub plain_owners : owner_in (page_of w) ≡ 0 → owner_at row q ≡ 0 → (holds : ℕ → ℕ → Bool) → OwnersGood row holds → OwnersGood (with_word row q w) holds
+    plain_owners now before holds g a p = subst (λ (o : ℕ). (o ≡ a + 1) ↔ (holds a p ≡ true)) (sym (owner_after 0 p now ∙ same_by (λ (y : ℕ). owner_at row y) q 0 before p)) (g a p)
 
   -- Of a head.
   module _ (k : SpanHead) (is : page_of w ≡ page.Head k) where
@@ -121,10 +123,16 @@ module _ (pages : ℕ) (row : Row) (q w : ℕ) where
       | inr x ↦ g p h x.1 none
     ]
 
-    head_spans : IsSpan pages (with_word row q w) q k → ((p : ℕ) (h : SpanHead) → q ≢ p → IsSpan pages row p h → IsSpan pages (with_word row q w) p h) → SpansGood pages row → SpansGood pages (with_word row q w)
-    head_spans own other g p h e = elim (head_then p h e) [
+    pub head_spans : FitsIn pages q k → SpansGood pages row → SpansGood pages (with_word row q w)
+    head_spans own g p h e = elim (head_then p h e) [
+      | inl x ↦ subst (λ (n : ℕ). FitsIn pages n h) x.0 (subst (λ (y : SpanHead). FitsIn pages q y) x.1 own)
+      | inr x ↦ g p h x.1
+    ]
+
+    head_whole : IsSpan pages (with_word row q w) q k → ((p : ℕ) (h : SpanHead) → q ≢ p → IsSpan pages row p h → IsSpan pages (with_word row q w) p h) → (freeing : ℕ → Option Freeing) → WholeGood pages row freeing → WholeGood pages (with_word row q w) freeing
+    head_whole own other freeing g p h e kept = elim (head_then p h e) [
       | inl x ↦ subst (λ (n : ℕ). IsSpan pages (with_word row q w) n h) x.0 (subst (λ (y : SpanHead). IsSpan pages (with_word row q w) q y) x.1 own)
-      | inr x ↦ other p h x.0 (g p h x.1)
+      | inr x ↦ other p h x.0 (g p h x.1 kept)
     ]
 
     pub head_held : (holds : ℕ → ℕ → Bool) (a : ℕ) → k.owner ≡ a + 1 → owner_at row q ≡ 0 → OwnersGood row holds → OwnersGood (with_word row q w) (update_at holds a q true)
@@ -149,7 +157,10 @@ module _ (pages : ℕ) (row : Row) (q w : ℕ) where
         span_off p h s (λ x low high e. ne (same_span pages row q k p h q own s (omega arith) (omega arith) (omega arith) (omega arith)).0)
 
     pub owned_spans : SpansGood pages row → SpansGood pages (with_word row q w)
-    owned_spans g = head_spans (owned_by o k) is owned_span other_span g
+    owned_spans g = head_spans (owned_by o k) is (record { within = own.within; fits = owned_span.fits }) g
+
+    pub owned_whole : (freeing : ℕ → Option Freeing) → WholeGood pages row freeing → WholeGood pages (with_word row q w) freeing
+    owned_whole freeing g = head_whole (owned_by o k) is owned_span other_span freeing g
 
     pub owned_stays : (p : ℕ) (h : SpanHead) → IsSpan pages row p h → (n : ℕ) × IsSpan pages (with_word row q w) p (owned_by n h)
     owned_stays p h s = go (eqb q p) refl where
@@ -191,7 +202,7 @@ next_page y = record y { next = y.next + 1 }
 some_is : (x y : Laying) → Some x ≡ Some y → x ≡ y
 some_is x y e = cc
 
-none_some : {A : Type 0} {x : A} → None ≡ Some x → ⊥
+pub none_some : {A : Type 0} {x : A} → None ≡ Some x → ⊥
 none_some e = cc
 
 pub laid_more : (pages : ℕ) (row : Row) (y : Laying) (w : ℕ) → page_of w ≡ page.Body (body_at y.head y.next) → y.next < y.head.pages → LaidOut pages row y → LaidOut pages (with_word row (y.first + y.next) w) (next_page y)
@@ -222,7 +233,10 @@ module _ (pages : ℕ) (row : Row) (y : Laying) (w : ℕ) (is : page_of w ≡ pa
   }
 
   pub laid_spans : SpansGood pages row → SpansGood pages (with_word row y.first w)
-  laid_spans g = head_spans pages row y.first w y.head is laid_span (λ p h ne s. span_kept pages row y.first w o.head p h s) g
+  laid_spans g = head_spans pages row y.first w y.head is (record { within = o.within; fits = fits }) g
+
+  pub laid_whole : (freeing : ℕ → Option Freeing) → WholeGood pages row freeing → WholeGood pages (with_word row y.first w) freeing
+  laid_whole freeing g = head_whole pages row y.first w y.head is laid_span (λ p h ne s. span_kept pages row y.first w o.head p h s) freeing g
 
 -- a head that is written is no page of it
 pub laid_off : (pages : ℕ) (row : Row) (q w : ℕ) (k : SpanHead) (y : Laying) → page_of (row q) ≡ page.Head k → LaidOut pages row y → LaidOut pages (with_word row q w) y

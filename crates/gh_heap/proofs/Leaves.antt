@@ -1,5 +1,5 @@
 -- What each move of one seat leaves to another.
-use Rattle.std.proofs.Common.{◌≡◌, ◌≢◌, ℕ, ◌+◌, ◌/◌, ◌-◌, ◌^◌, ◌<◌, ◌≤◌, ◌⊎◌, Bool, true, false, cond, eqb, ltb, refl, sym, ap, subst, ◌∙◌, arith, inl, inr, Option, None}
+use Rattle.std.proofs.Common.{◌≡◌, ◌≢◌, ℕ, ◌+◌, ◌*◌, ◌/◌, ◌-◌, ◌^◌, ◌<◌, ◌≤◌, ◌⊎◌, Bool, true, false, cond, eqb, ltb, refl, sym, ap, subst, ◌∙◌, arith, inl, inr, Option, None}
 use Rattle.std.proofs.lemmas.Bool.{ne_eqb}
 use Rattle.std.proofs.lemmas.Bool.Decides.{nat_tests, eqb_tells}
 use Rattle.gh_base.specs.declared.pack.PageWord.TheVariants.{Head}
@@ -10,11 +10,11 @@ use Rattle.gh_base.specs.Rows.{Row, row_bit, with_word}
 use Rattle.gh_model.specs.declared.EverValue.{EverValue}
 use Rattle.gh_model.specs.Ever.{Ever, next_name, same_name, with_end, with_register}
 use Rattle.gh_heap.specs.Laws.{EachMoveLeaves, TheHeapIsApart}
-use Rattle.gh_heap.specs.Moves.{Move, Quiet, Takes, Ends, TakeLock, LeaveLock, Refuse, LayBody, LayHead, Own, Disown, Publish, ClearField, SetBirth, SetBits, Make, Write, WriteGlobal, moved, May, MayLay, Leaves, Others, Published, update, update_at}
+use Rattle.gh_heap.specs.Moves.{Move, Quiet, Takes, Ends, TakeLock, LeaveLock, Refuse, LayBody, LayHead, FreeBody, FreeHead, Own, Disown, Publish, ClearField, SetBirth, SetBits, Make, Write, WriteGlobal, moved, May, MayFree, MayLay, Leaves, Others, Published, update, update_at}
 use Rattle.gh_heap.specs.Objects.{IsMade, InSlot, Placed, size_for}
 use Rattle.gh_heap.specs.Rights.{Arena, Shared, View, view, Good, Claims, IsOf}
-use Rattle.gh_heap.specs.Spans.{IsSpan, Laying, body_at, owned_by, owner_at, owner_in}
-use Rattle.gh_heap.proofs.LeavesPages.{Known, LeastSlot, owned-fits, head-read, bits-grow, one-word, given-up, none-leaves, free-elsewhere, head-elsewhere, same-first, slot-some}
+use Rattle.gh_heap.specs.Spans.{Freeing, IsSpan, Laying, body_at, owned_by, owner_at, owner_in}
+use Rattle.gh_heap.proofs.LeavesPages.{Known, LeastSlot, owned-fits, head-read, bits-grow, one-word, given-up, none-leaves, free-elsewhere, body-elsewhere, head-elsewhere, same-first, slot-some}
 use Rattle.gh_heap.proofs.Quiet.{quiet-view}
 
 -- What is left, in three parts: rights and pages, claimed slots, objects.
@@ -23,6 +23,7 @@ record PagesLeft (z : Arena) (a : ℕ) (v w : View) : Type 0 where
   pub locked : w.locked a ≡ v.locked a
   pub holds : (p : ℕ) → w.holds a p ≡ v.holds a p
   pub laying : w.laying a ≡ v.laying a
+  pub freeing : w.freeing a ≡ v.freeing a
   pub generation : w.generation ≡ v.generation
   pub bits : (x : ℕ) → row_bit v.alloc x ≡ 1 → row_bit w.alloc x ≡ 1
   pub leaves : v.locked a ≡ true → Leaves v w
@@ -30,6 +31,7 @@ record PagesLeft (z : Arena) (a : ℕ) (v w : View) : Type 0 where
   pub spans : (p : ℕ) (h : SpanHead) → v.holds a p ≡ true → IsSpan z.layout.pages v.page p h → IsSpan z.layout.pages w.page p h
 
 record SlotsLeft (z : Arena) (a : ℕ) (v w : View) : Type 0 where
+  pub clear : (p x : ℕ) (h : SpanHead) → IsSpan z.layout.pages v.page p h → h.owner ≡ 0 → 1024 * p ≤ x → x < 1024 * (p + h.pages) → row_bit v.alloc x ≡ 0 → row_bit w.alloc x ≡ 0
   pub claims : (at size : ℕ) → Claims z v a at size → row_bit w.alloc at ≡ 0
   pub fields : (at size k : ℕ) → Claims z v a at size → k < size → w.field (at + k) ≡ v.field (at + k)
   pub pointers : (at size k : ℕ) → Claims z v a at size → k < size → row_bit w.bitmap (at + k) ≡ row_bit v.bitmap (at + k)
@@ -43,15 +45,18 @@ record ObjectsLeft (z : Arena) (a : ℕ) (v w : View) : Type 0 where
   pub registers : (g d : ℕ) → IsOf z a g → w.ever.register g d ≡ v.ever.register g d
   pub ends : (g : ℕ) → IsOf z a g → w.ever.ended g ≡ v.ever.ended g
 
-together : (z : Arena) (a : ℕ) (v w : View) → PagesLeft z a v w → SlotsLeft z a v w → ObjectsLeft z a v w → Others z a v w
-together z a v w p s o = record {
+together : (z : Arena) (a : ℕ) (v w : View) → ((p : ℕ) (h : SpanHead) → v.holds a p ≡ true → page_of (v.page p) ≡ Head h → IsSpan z.layout.pages v.page p h) → PagesLeft z a v w → SlotsLeft z a v w → ObjectsLeft z a v w → Others z a v w
+together z a v w whole p s o = record {
   locked = p.locked;
   holds = p.holds;
   laying = p.laying;
+  freeing = p.freeing;
   generation = p.generation;
   bits = p.bits;
   leaves = p.leaves;
   pages = p.pages;
+  clear = s.clear;
+  heads = λ q h held head. (p.spans q h held (whole q h held head)).head;
   spans = p.spans;
   claims = s.claims;
   fields = s.fields;
@@ -67,11 +72,12 @@ together z a v w p s o = record {
 
 -- A part is left where no row of it changes.
 module _ (z : Arena) (a : ℕ) (v w : View) where
-  same-pages : w.locked a ≡ v.locked a → w.holds ≡ v.holds → w.laying ≡ v.laying → w.generation ≡ v.generation → w.page ≡ v.page → ((x : ℕ) → row_bit v.alloc x ≡ 1 → row_bit w.alloc x ≡ 1) → PagesLeft z a v w
-  same-pages locked holds laying generation page bits = record {
+  same-pages : w.locked a ≡ v.locked a → w.holds ≡ v.holds → w.laying ≡ v.laying → w.freeing ≡ v.freeing → w.generation ≡ v.generation → w.page ≡ v.page → ((x : ℕ) → row_bit v.alloc x ≡ 1 → row_bit w.alloc x ≡ 1) → PagesLeft z a v w
+  same-pages locked holds laying freeing generation page bits = record {
     locked = locked;
     holds = λ p. ap (λ (f : ℕ → ℕ → Bool). f a p) holds;
     laying = ap (λ (f : ℕ → Option Laying). f a) laying;
+    freeing = ap (λ (f : ℕ → Option Freeing). f a) freeing;
     generation = generation;
     bits = bits;
     leaves = λ l. none-leaves v w (λ p. ap (λ (row : Row). row p) page) bits;
@@ -81,6 +87,7 @@ module _ (z : Arena) (a : ℕ) (v w : View) where
 
   same-slots : w.alloc ≡ v.alloc → w.field ≡ v.field → w.bitmap ≡ v.bitmap → w.birth ≡ v.birth → SlotsLeft z a v w
   same-slots alloc field bitmap birth = record {
+    clear = λ p x h s none low high e. subst (λ (row : Row). row_bit row x ≡ 0) (sym alloc) e;
     claims = λ at size c. subst (λ (row : Row). row_bit row at ≡ 0) (sym alloc) c.clear;
     fields = λ at size k c lk. ap (λ (row : Row). row (at + k)) field;
     pointers = λ at size k c lk. ap (λ (row : Row). row_bit row (at + k)) bitmap;
@@ -133,6 +140,15 @@ module _ (z : Arena) (a b : ℕ) (v : View) (ne : a ≢ b) (g : Good z v) where
     claimed-apart : (at size k to length l : ℕ) → Claims z v a at size → k < size → Claims z v b to length → l < length → at + k ≢ to + l
     claimed-apart at size k to length l c lk d ll = (apart z v g).slots c.p d.p c.i d.i at to size length k l c.h d.h c.slot d.slot (claims-apart at size to length c d) lk ll
 
+    -- and no slot that b claims begins in a span that nobody owns
+    unowned-slot : (to length : ℕ) → Claims z v b to length → (p x : ℕ) (h : SpanHead) → IsSpan z.layout.pages v.page p h → h.owner ≡ 0 → 1024 * p ≤ x → x < 1024 * (p + h.pages) → to ≢ x
+    unowned-slot to length d p x h s none low high e =
+        let more : 1 ≤ length = rw (d.slot.size_is) (slot-some least d.h d.slot.span.fits) in
+        let j = (apart z v g).inside d.p d.i to length 0 d.h d.slot more in
+        let same : d.p ≡ p = same-first z.layout.pages v.page d.p p (x / 1024) d.h h d.slot.span s (omega (arith, e, j.0)) (omega (arith, e, j.1)) (omega (arith, low)) (omega (arith, high)) in
+        let is : owner_at v.page p ≡ h.owner = ap owner_in s.head in
+        omega (arith, is, none, (g.owners b p).1 (subst (λ (n : ℕ). v.holds b n ≡ true) same d.held))
+
 -- the names that were made are others than the next
 other-name : (e : Ever) (g : ℕ) (n : Name) → IsMade e.made n → same_name n (next_name e g) ≡ false
 other-name e g n m = elim (eqb_tells n.g g) [
@@ -162,12 +178,13 @@ outside at size x none = go (ltb x at) (ltb x (at + size)) refl refl where
 
 -- The moves of seat b, one by one.
 module _ (k : Known) (apart : TheHeapIsApart) (least : LeastSlot) (z : Arena) (a b : ℕ) (s : Shared) (ne : a ≢ b) (g : Good z (view s)) where
-  with-lock : (w : View) → s.locked b ≡ true → w.locked a ≡ s.locked a → ((p : ℕ) → w.holds a p ≡ s.holds a p) → w.laying a ≡ s.laying a → w.generation ≡ (view s).generation →
+  with-lock : (w : View) → s.locked b ≡ true → w.locked a ≡ s.locked a → ((p : ℕ) → w.holds a p ≡ s.holds a p) → w.laying a ≡ s.laying a → w.freeing a ≡ s.freeing a → w.generation ≡ (view s).generation →
       ((x : ℕ) → row_bit (view s).alloc x ≡ 1 → row_bit w.alloc x ≡ 1) → ((p : ℕ) (h : SpanHead) → s.holds a p ≡ true → IsSpan z.layout.pages (view s).page p h → IsSpan z.layout.pages w.page p h) → PagesLeft z a (view s) w
-  with-lock w l locked holds laying generation bits spans = record {
+  with-lock w l locked holds laying freeing generation bits spans = record {
     locked = locked;
     holds = holds;
     laying = laying;
+    freeing = freeing;
     generation = generation;
     bits = bits;
     leaves = λ m. absurd (one-locked z a b (view s) ne g m l);
@@ -176,15 +193,28 @@ module _ (k : Known) (apart : TheHeapIsApart) (least : LeastSlot) (z : Arena) (a
   }
 
   lay-body : (y : Laying) → May z b (view s) (LayBody y) → PagesLeft z a (view s) (view (moved z b s (LayBody y)))
-  lay-body y may = with-lock _ lay.locked refl (λ p. refl) (other-entry s.laying a b _ ne) refl (λ x e. e) (λ p h held. free-elsewhere z.layout.pages (view s).page (y.first + y.next) (body_word (body_at y.head y.next)) p h (lay.laid.free y.next (omega arith) may.1)) where
+  lay-body y may = with-lock _ lay.locked refl (λ p. refl) (other-entry s.laying a b _ ne) refl refl (λ x e. e) (λ p h held. free-elsewhere z.layout.pages (view s).page (y.first + y.next) (body_word (body_at y.head y.next)) p h (lay.laid.free y.next (omega arith) may.1)) where
     lay : MayLay z (view s) b y
     lay = may.0
 
   lay-head : (y : Laying) → May z b (view s) (LayHead y) → PagesLeft z a (view s) (view (moved z b s (LayHead y)))
-  lay-head y may = with-lock _ may.0.locked refl (λ p. other-row s.holds a b y.first p true ne) (other-entry s.laying a b None ne) refl (λ x e. e) (λ p h held. free-elsewhere z.layout.pages (view s).page y.first (head_word y.head) p h may.0.laid.head)
+  lay-head y may = with-lock _ may.0.locked refl (λ p. other-row s.holds a b y.first p true ne) (other-entry s.laying a b None ne) refl refl (λ x e. e) (λ p h held. free-elsewhere z.layout.pages (view s).page y.first (head_word y.head) p h may.0.laid.head)
+
+  -- nobody holds the span that b frees
+  free-body : (y : Freeing) → May z b (view s) (FreeBody y) → PagesLeft z a (view s) (view (moved z b s (FreeBody y)))
+  free-body y may = with-lock _ free.locked refl (λ p. refl) refl (other-entry s.freeing a b _ ne) refl (λ x e. e)
+      (λ p h held. body-elsewhere z.layout.pages (view s).page y.first 0 p y.next free.being.h h (free.being.standing y.next (omega arith) may.1) (unowned-other z a b (view s) ne g p y.first free.being.h held free.being.head free.being.owner)) where
+        free : MayFree (view s) b y
+        free = may.0
+
+  free-head : (y : Freeing) → May z b (view s) (FreeHead y) → PagesLeft z a (view s) (view (moved z b s (FreeHead y)))
+  free-head y may = with-lock _ free.locked refl (λ p. refl) refl (other-entry s.freeing a b None ne) refl (λ x e. e)
+      (λ p h held. head-elsewhere z.layout.pages (view s).page y.first 0 p free.being.h h free.being.head (unowned-other z a b (view s) ne g p y.first free.being.h held free.being.head free.being.owner)) where
+        free : MayFree (view s) b y
+        free = may.0
 
   own : (p : ℕ) (h : SpanHead) → May z b (view s) (Own p h) → PagesLeft z a (view s) (view (moved z b s (Own p h)))
-  own p h may = with-lock _ may.0.locked refl (λ q. other-row s.holds a b p q true ne) refl refl (λ x e. e)
+  own p h may = with-lock _ may.0.locked refl (λ q. other-row s.holds a b p q true ne) refl refl refl (λ x e. e)
       (λ q f held. head-elsewhere z.layout.pages (view s).page p (head_word (owned_by (b + 1) h)) q h f may.0.head (unowned-other z a b (view s) ne g q p h held may.0.head may.1))
 
   -- b gives its span up, and a holds others
@@ -193,16 +223,17 @@ module _ (k : Known) (apart : TheHeapIsApart) (least : LeastSlot) (z : Arena) (a
   others-stay p word h head mine q f held = head-elsewhere z.layout.pages (view s).page p word q h f head (two-spans z a b (view s) ne g q p held mine)
 
   disown : (p : ℕ) (h : SpanHead) → May z b (view s) (Disown p h) → PagesLeft z a (view s) (view (moved z b s (Disown p h)))
-  disown p h may = with-lock _ may.0.locked refl (λ q. other-row s.holds a b p q false ne) refl refl (λ x e. e) (others-stay p (head_word (owned_by 0 h)) h may.0.head may.1)
+  disown p h may = with-lock _ may.0.locked refl (λ q. other-row s.holds a b p q false ne) refl refl refl (λ x e. e) (others-stay p (head_word (owned_by 0 h)) h may.0.head may.1)
 
   publish : (p : ℕ) (h : SpanHead) → May z b (view s) (Publish p h) → PagesLeft z a (view s) (view (moved z b s (Publish p h)))
   publish p h may = record {
     locked = refl;
     holds = λ q. other-row s.holds a b p q false ne;
     laying = refl;
+    freeing = refl;
     generation = refl;
     bits = λ x e. e;
-    leaves = λ l. given-up k (view s) w p h (λ q. refl) may.1 few may.3 (λ x e. e);
+    leaves = λ l. given-up k (view s) w p h (λ q. refl) may.1 few may.2 may.3 (λ x e. e);
     pages = λ l q. elim (one-word (view s).page p word q) [ inl y ↦ inr (subst (Published (view s).page w.page w.alloc) y.0 published) | inr n ↦ inl n.1 ];
     spans = others-stay p word h may.1 may.0;
   } where
@@ -219,6 +250,7 @@ module _ (k : Known) (apart : TheHeapIsApart) (least : LeastSlot) (z : Arena) (a
     published = record {
       h = h;
       was = may.1;
+      owned = λ none. let is : owner_at (view s).page p ≡ h.owner = ap owner_in may.1 in omega (arith, (g.owners b p).1 may.0, is, none);
       large = may.2;
       is = ap page_of (k.rows.here (view s).page p word) ∙ head-read k (owned_by 0 h) (owned-fits ((view s).page p) 0 h may.1 few (omega arith));
       full = may.3;
@@ -226,6 +258,7 @@ module _ (k : Known) (apart : TheHeapIsApart) (least : LeastSlot) (z : Arena) (a
 
   clear-field : (at size i : ℕ) → May z b (view s) (ClearField at size i) → SlotsLeft z a (view s) (view (moved z b s (ClearField at size i)))
   clear-field at size i may = record {
+    clear = λ p x h span none low high e. e;
     claims = λ to length c. c.clear;
     fields = λ to length l c ll. elim (one-word (view s).field (at + i) 0 (to + l)) [ inl y ↦ absurd (claimed-apart z a b (view s) ne g apart least to length l at size i c ll may.0 may.1 (sym y.0)) | inr n ↦ n.1 ];
     pointers = λ to length l c ll. refl;
@@ -234,6 +267,7 @@ module _ (k : Known) (apart : TheHeapIsApart) (least : LeastSlot) (z : Arena) (a
 
   set-birth : (at size : ℕ) (n : Name) → May z b (view s) (SetBirth at size n) → SlotsLeft z a (view s) (view (moved z b s (SetBirth at size n)))
   set-birth at size n may = record {
+    clear = λ p x h span none low high e. e;
     claims = λ to length c. c.clear;
     fields = λ to length l c ll. refl;
     pointers = λ to length l c ll. refl;
@@ -242,6 +276,7 @@ module _ (k : Known) (apart : TheHeapIsApart) (least : LeastSlot) (z : Arena) (a
 
   set-bits : (at size i word : ℕ) → May z b (view s) (SetBits at size i word) → SlotsLeft z a (view s) (view (moved z b s (SetBits at size i word)))
   set-bits at size i word may = record {
+    clear = λ p x h span none low high e. e;
     claims = λ to length c. c.clear;
     fields = λ to length l c ll. refl;
     pointers = λ to length l c ll. elim (eqb_tells ((to + l) / 64) i) [
@@ -253,6 +288,7 @@ module _ (k : Known) (apart : TheHeapIsApart) (least : LeastSlot) (z : Arena) (a
 
   set-bit : (at c d t : ℕ) → May z b (view s) (Make at c d t) → SlotsLeft z a (view s) (view (moved z b s (Make at c d t)))
   set-bit at c d t may = record {
+    clear = λ p x h span none low high e. k.rows.sets_no_other (view s).alloc at x (unowned-slot z a b (view s) ne g apart least at _ may.ready.claim p x h span none low high) ∙ e;
     claims = λ to length x. k.rows.sets_no_other (view s).alloc at to (λ e. claims-apart z a b (view s) ne g apart least to length at _ x may.ready.claim (sym e)) ∙ x.clear;
     fields = λ to length l x ll. refl;
     pointers = λ to length l x ll. refl;
@@ -272,6 +308,7 @@ module _ (k : Known) (apart : TheHeapIsApart) (least : LeastSlot) (z : Arena) (a
   -- an object has a slot of its own
   write : (n : Name) (i : ℕ) (value : EverValue) (word : ℕ) → May z b (view s) (Write n i value word) → SlotsLeft z a (view s) (view (moved z b s (Write n i value word)))
   write n i value word may = record {
+    clear = λ p x h span none low high e. e;
     claims = λ to length c. c.clear;
     fields = λ to length l c ll. elim (one-word (view s).field (s.place n + i) word (to + l)) [
       | inl y ↦ absurd ((apart z (view s) g).slots slot.p c.p slot.i c.i (s.place n) to (size_for z.shapes s.ever.type_of n) length i l slot.h c.h slot.slot c.slot (elsewhere to length c) may.within ll y.0)
@@ -289,23 +326,26 @@ module _ (k : Known) (apart : TheHeapIsApart) (least : LeastSlot) (z : Arena) (a
     elsewhere : (to length : ℕ) → Claims z (view s) a to length → s.place n ≢ to
     elsewhere to length c e = omega (arith, c.clear, subst (λ (x : ℕ). row_bit (view s).alloc x ≡ 1) e placed.set)
 
+  whole : (p : ℕ) (h : SpanHead) → s.holds a p ≡ true → page_of ((view s).page p) ≡ Head h → IsSpan z.layout.pages (view s).page p h
+  whole p h = (apart z (view s) g).held a p h
+
   -- Rights and pages change, or what stands in slots, or objects, and nothing else that is said of the shared state.
 
   same-ever : (w : View) → w.ever ≡ s.ever → w.place ≡ s.place → ObjectsLeft z a (view s) w
   same-ever w e place = same-objects z a (view s) w (ap (λ (x : Ever). x.made) e) (ap (λ (x : Ever). x.type_of) e) place (λ h d of. ap (λ (x : Ever). x.register h d) e) (λ h of. ap (λ (x : Ever). x.ended h) e)
 
-  by-pages : (w : View) → PagesLeft z a (view s) w → w ≡ record (view s) { lock = w.lock; page = w.page; locked = w.locked; holds = w.holds; laying = w.laying } → Others z a (view s) w
-  by-pages w p e = together z a (view s) w p (same-slots z a (view s) w (ap (λ (x : View). x.alloc) e) (ap (λ (x : View). x.field) e) (ap (λ (x : View). x.bitmap) e) (ap (λ (x : View). x.birth) e)) (same-ever w (ap (λ (x : View). x.ever) e) (ap (λ (x : View). x.place) e))
+  by-pages : (w : View) → PagesLeft z a (view s) w → w ≡ record (view s) { lock = w.lock; page = w.page; locked = w.locked; holds = w.holds; laying = w.laying; freeing = w.freeing } → Others z a (view s) w
+  by-pages w p e = together z a (view s) w whole p (same-slots z a (view s) w (ap (λ (x : View). x.alloc) e) (ap (λ (x : View). x.field) e) (ap (λ (x : View). x.bitmap) e) (ap (λ (x : View). x.birth) e)) (same-ever w (ap (λ (x : View). x.ever) e) (ap (λ (x : View). x.place) e))
 
   by-lock : (l : ℕ) (f : ℕ → Bool) → f a ≡ s.locked a → Others z a (view s) (record (view s) { lock = l; locked = f })
-  by-lock l f locked = let w : View = record (view s) { lock = l; locked = f } in by-pages w (same-pages z a (view s) w locked refl refl refl refl (λ x e. e)) refl
+  by-lock l f locked = let w : View = record (view s) { lock = l; locked = f } in by-pages w (same-pages z a (view s) w locked refl refl refl refl refl (λ x e. e)) refl
 
   by-slots : (w : View) → SlotsLeft z a (view s) w → w ≡ record (view s) { field = w.field; bitmap = w.bitmap; birth = w.birth } → Others z a (view s) w
-  by-slots w o e = together z a (view s) w (same-pages z a (view s) w (ap (λ (x : View). x.locked a) e) (ap (λ (x : View). x.holds) e) (ap (λ (x : View). x.laying) e) (ap (λ (x : View). x.generation) e) (ap (λ (x : View). x.page) e)
+  by-slots w o e = together z a (view s) w whole (same-pages z a (view s) w (ap (λ (x : View). x.locked a) e) (ap (λ (x : View). x.holds) e) (ap (λ (x : View). x.laying) e) (ap (λ (x : View). x.freeing) e) (ap (λ (x : View). x.generation) e) (ap (λ (x : View). x.page) e)
       (λ x set. subst (λ (v : View). row_bit v.alloc x ≡ 1) (sym e) set)) o (same-ever w (ap (λ (x : View). x.ever) e) (ap (λ (x : View). x.place) e))
 
   by-objects : (w : View) → ObjectsLeft z a (view s) w → w ≡ record (view s) { global = w.global; ever = w.ever } → Others z a (view s) w
-  by-objects w o e = together z a (view s) w (same-pages z a (view s) w (ap (λ (x : View). x.locked a) e) (ap (λ (x : View). x.holds) e) (ap (λ (x : View). x.laying) e) (ap (λ (x : View). x.generation) e) (ap (λ (x : View). x.page) e)
+  by-objects w o e = together z a (view s) w whole (same-pages z a (view s) w (ap (λ (x : View). x.locked a) e) (ap (λ (x : View). x.holds) e) (ap (λ (x : View). x.laying) e) (ap (λ (x : View). x.freeing) e) (ap (λ (x : View). x.generation) e) (ap (λ (x : View). x.page) e)
       (λ x set. subst (λ (v : View). row_bit v.alloc x ≡ 1) (sym e) set)) (same-slots z a (view s) w (ap (λ (x : View). x.alloc) e) (ap (λ (x : View). x.field) e) (ap (λ (x : View). x.bitmap) e) (ap (λ (x : View). x.birth) e)) o
 
   -- another's goroutine changes
@@ -323,18 +363,20 @@ module _ (k : Known) (apart : TheHeapIsApart) (least : LeastSlot) (z : Arena) (a
   each (Ends step c) may = subst (λ (v : View). Others z a (view s) (record v { ever = with_end s.ever c })) (sym (quiet-view s step may.0)) (ends c may.1.of)
   each TakeLock may = by-lock (b + 1) (update s.locked b true) (other-entry s.locked a b true ne)
   each LeaveLock may = by-lock 0 (update s.locked b false) (other-entry s.locked a b false ne)
-  each (Refuse c d) may = together z a (view s) _ (same-pages z a (view s) _ (other-entry s.locked a b false ne) refl refl refl refl (λ x e. e)) (same-slots z a (view s) _ refl refl refl refl)
-      (same-objects z a (view s) _ refl refl refl (λ h e of. rw (ne_eqb h c (goroutines-apart z a b (view s) ne g h c of may.2.of)) refl) (λ h of. refl))
+  each (Refuse c d) may = together z a (view s) _ whole (same-pages z a (view s) _ (other-entry s.locked a b false ne) refl refl refl refl refl (λ x e. e)) (same-slots z a (view s) _ refl refl refl refl)
+      (same-objects z a (view s) _ refl refl refl (λ h e of. rw (ne_eqb h c (goroutines-apart z a b (view s) ne g h c of may.3.of)) refl) (λ h of. refl))
   each (LayBody y) may = by-pages _ (lay-body y may) refl
   each (LayHead y) may = by-pages _ (lay-head y may) refl
+  each (FreeBody y) may = by-pages _ (free-body y may) refl
+  each (FreeHead y) may = by-pages _ (free-head y may) refl
   each (Own p h) may = by-pages _ (own p h may) refl
   each (Disown p h) may = by-pages _ (disown p h may) refl
   each (Publish p h) may = by-pages _ (publish p h may) refl
   each (ClearField at size i) may = by-slots _ (clear-field at size i may) refl
   each (SetBirth at size n) may = by-slots _ (set-birth at size n may) refl
   each (SetBits at size i word) may = by-slots _ (set-bits at size i word may) refl
-  each (Make at c d t) may = together z a (view s) _ (same-pages z a (view s) _ refl refl refl refl refl (bits-grow k (view s).alloc at)) (set-bit at c d t may) (make at c d t may)
-  each (Write n i value word) may = together z a (view s) _ (same-pages z a (view s) _ refl refl refl refl refl (λ x e. e)) (write n i value word may) (same-objects z a (view s) _ refl refl refl (λ h d of. refl) (λ h of. refl))
+  each (Make at c d t) may = together z a (view s) _ whole (same-pages z a (view s) _ refl refl refl refl refl refl (bits-grow k (view s).alloc at)) (set-bit at c d t may) (make at c d t may)
+  each (Write n i value word) may = together z a (view s) _ whole (same-pages z a (view s) _ refl refl refl refl refl refl (λ x e. e)) (write n i value word may) (same-objects z a (view s) _ refl refl refl (λ h d of. refl) (λ h of. refl))
   each (WriteGlobal i value word) may = by-objects _ (same-objects z a (view s) _ refl refl refl (λ h d of. refl) (λ h of. refl)) refl
 
 pub each-move-leaves : Known → LeastSlot → TheHeapIsApart → EachMoveLeaves

@@ -69,21 +69,21 @@ bits-grow k row at x set = elim (eqb_tells at x) [
   | inr n ↦ k.rows.sets_no_other row at x n.1 ∙ set
 ]
 
--- Of the page words, one is written, which tells of no span with a clear slot and no owner.
-pub page-leaves : (v w : View) (i word : ℕ) → ((q : ℕ) → w.page q ≡ with_word v.page i word q) → ((h : SpanHead) → page_of word ≡ Head h → h.owner ≡ 0 → IsFull w.alloc i h) →
+-- Of the page words, one is written, which tells of no span without an owner but a large object's.
+pub page-leaves : (v w : View) (i word : ℕ) → ((q : ℕ) → w.page q ≡ with_word v.page i word q) → ((h : SpanHead) → page_of word ≡ Head h → h.owner ≡ 0 → (h.class ≡ Large) × IsFull w.alloc i h) →
     ((x : ℕ) → row_bit v.alloc x ≡ 1 → row_bit w.alloc x ≡ 1) → Leaves v w
 page-leaves v w i word now full bits = record {
   pages = λ q h e owner. elim (one-word v.page i word q) [
-    | inl y ↦ inr (subst (λ (x : ℕ). IsFull w.alloc x h) y.0 (full h (ap page_of (sym (now q ∙ y.1)) ∙ e) owner))
+    | inl y ↦ let f = full h (ap page_of (sym (now q ∙ y.1)) ∙ e) owner in inr (f.0, subst (λ (x : ℕ). IsFull w.alloc x h) y.0 f.1)
     | inr n ↦ inl (ap page_of (sym (now q ∙ n.1)) ∙ e)
   ];
   bits = bits;
 }
 
--- a full span is given up
-pub given-up : Known → (v w : View) (p : ℕ) (h : SpanHead) → ((q : ℕ) → w.page q ≡ with_word v.page p (head_word (owned_by 0 h)) q) → page_of (v.page p) ≡ Head h → h.number < 2 ^ 34 → IsFull w.alloc p h →
+-- a large object's span is given up
+pub given-up : Known → (v w : View) (p : ℕ) (h : SpanHead) → ((q : ℕ) → w.page q ≡ with_word v.page p (head_word (owned_by 0 h)) q) → page_of (v.page p) ≡ Head h → h.number < 2 ^ 34 → h.class ≡ Large → IsFull w.alloc p h →
     ((x : ℕ) → row_bit v.alloc x ≡ 1 → row_bit w.alloc x ≡ 1) → Leaves v w
-given-up k v w p h now head few full bits = page-leaves v w p (head_word (owned_by 0 h)) now (λ f e none. subst (IsFull w.alloc p) (same f e) full) bits where
+given-up k v w p h now head few large full bits = page-leaves v w p (head_word (owned_by 0 h)) now (λ f e none. (ap (λ (x : SpanHead). x.class) (sym (same f e)) ∙ large, subst (IsFull w.alloc p) (same f e) full)) bits where
   same : (f : SpanHead) → page_of (head_word (owned_by 0 h)) ≡ Head f → owned_by 0 h ≡ f
   same f e = cc (head-read k (owned_by 0 h) (owned-fits (v.page p) 0 h head few (omega arith)))
 
@@ -107,6 +107,15 @@ module _ (pages : ℕ) (row : Row) where
   free-elsewhere i word p h free s = elsewhere i word p h s
       (λ e. let here : page_of (row i) ≡ Head h = ap (λ (x : ℕ). page_of (row x)) e ∙ s.head in absurd (cc (free, here)))
       (λ d low high e. let here : page_of (row i) ≡ Body (body_at h d) = ap (λ (x : ℕ). page_of (row x)) e ∙ s.body d low high in absurd (cc (free, here)))
+
+  -- it was a further page of another span
+  pub body-elsewhere : (i word p d : ℕ) (g h : SpanHead) → page_of (row (i + d)) ≡ Body (body_at g d) → i ≢ p → IsSpan pages row p h → IsSpan pages (with_word row (i + d) word) p h
+  body-elsewhere i word p d g h body ne s = elsewhere (i + d) word p h s
+      (λ e. let here : page_of (row (i + d)) ≡ Head h = ap (λ (x : ℕ). page_of (row x)) e ∙ s.head in absurd (cc (body, here)))
+      (λ c low high e. let here : page_of (row (i + d)) ≡ Body (body_at h c) = ap (λ (x : ℕ). page_of (row x)) e ∙ s.body c low high in
+      let one : body_at g d ≡ body_at h c = cc (body, here) in
+      let far : d ≡ c = ap (λ (b : SpanBody). b.distance) one in
+      ne (omega (arith, far, e)))
 
   -- it was the head of another span
   pub head-elsewhere : (i word p : ℕ) (g h : SpanHead) → page_of (row i) ≡ Head g → i ≢ p → IsSpan pages row p h → IsSpan pages (with_word row i word) p h

@@ -1,6 +1,9 @@
 mod Apart
 mod Follows
 mod Keeps
+mod KeepsAll
+mod KeepsFree
+mod KeepsFreeing
 mod KeepsMade
 mod KeepsObjects
 mod KeepsSpans
@@ -10,4 +13,6 @@ mod Leaves
 mod LeavesPages
 mod Own
 mod Quiet
+mod ReachesNoMore
 mod Reaching
+mod Says

@@ -6,7 +6,7 @@ use Rattle.gh_base.specs.declared.pack.SpanHead.{SpanHead}
 use Rattle.gh_base.specs.Packing.{body_word, head_word, page_of}
 use Rattle.gh_base.specs.Rows.{Row, row_bit, with_word}
 use Rattle.gh_heap.specs.Laws.{EachMoveKeepsItsOwn, KeepsItsOwn}
-use Rattle.gh_heap.specs.Moves.{Quiet, Takes, Ends, TakeLock, LeaveLock, Refuse, LayBody, LayHead, Own, Disown, Publish, ClearField, SetBirth, SetBits, Make, Write, WriteGlobal, update_at}
+use Rattle.gh_heap.specs.Moves.{Quiet, Takes, Ends, TakeLock, LeaveLock, Refuse, LayBody, LayHead, FreeBody, FreeHead, Own, Disown, Publish, ClearField, SetBirth, SetBits, Make, Write, WriteGlobal, update_at}
 use Rattle.gh_heap.specs.Rights.{Shared, View, view}
 use Rattle.gh_heap.specs.Spans.{body_at, owned_by, owner_at, owner_in}
 use Rattle.gh_heap.proofs.LeavesPages.{Known, bits-grow}
@@ -45,6 +45,13 @@ keeps-its-own k z a s LeaveLock g may = unchanged a (view s) _ refl refl (λ x e
 keeps-its-own k z a s (Refuse c d) g may = unchanged a (view s) _ refl refl (λ x e. e)
 keeps-its-own k z a s (LayBody y) g may = written k a (view s) _ (y.first + y.next) (body_word (body_at y.head y.next)) (λ q. refl) refl (λ x e. e) (λ h held still head. let free = may.0.laid.free y.next (omega arith) may.1 in absurd (cc (free, head)))
 keeps-its-own k z a s (LayHead y) g may = written k a (view s) _ y.first (head_word y.head) (λ q. refl) refl (λ x e. e) (λ h held still head. absurd (cc (may.0.laid.head, head)))
+keeps-its-own k z a s (FreeBody y) g may = written k a (view s) _ (y.first + y.next) 0 (λ q. refl) refl (λ x e. e) (λ h held still head. let body = may.0.being.standing y.next (omega arith) may.1 in absurd (cc (body, head)))
+keeps-its-own k z a s (FreeHead y) g may = written k a (view s) _ y.first 0 (λ q. refl) refl (λ x e. e) (λ h held still head. nobody held) where
+  nobody : s.holds a y.first ≡ true → ⊥
+  nobody held =
+      let owner : owner_at (view s).page y.first ≡ a + 1 = (g.owners a y.first).1 held in
+      let none : owner_at (view s).page y.first ≡ may.0.being.h.owner = ap owner_in may.0.being.head in
+      omega (arith, owner, none, may.0.being.owner)
 keeps-its-own k z a s (Own p f) g may = written k a (view s) _ p (head_word (owned_by (a + 1) f)) (λ q. refl) refl (λ x e. e) (λ h held still head. nobody held) where
   nobody : s.holds a p ≡ true → ⊥
   nobody held =

@@ -1,5 +1,5 @@
 -- What holds of the moves.
-use Rattle.std.specs.Prelude.{◌≡◌, ◌≢◌, ℕ, ◌+◌, ◌*◌, ◌/◌, ◌<◌, ◌≤◌, Bool, true, false, Option, Some, None}
+use Rattle.std.specs.Prelude.{◌≡◌, ◌≢◌, ℕ, ◌+◌, ◌*◌, ◌/◌, ◌<◌, ◌≤◌, ◌⊎◌, Bool, true, false, Option, Some, None}
 use Rattle.gh_base.specs.declared.cell.Ask.{Ask}
 use Rattle.gh_base.specs.declared.pack.PageWord.TheVariants.{Free, Head, Body}
 use Rattle.gh_base.specs.declared.pack.SpanBody.{SpanBody}
@@ -9,14 +9,30 @@ use Rattle.gh_base.specs.Packing.{page_of}
 use Rattle.gh_base.specs.Rows.{row_bit}
 use Rattle.gh_class.specs.declared.class.SizeClass.TheVariants.{Large}
 use Rattle.gh_model.specs.declared.EverValue.{EverValue}
-use Rattle.gh_heap.specs.Moves.{Move, Quiet, Takes, Ends, TakeLock, LeaveLock, Refuse, LayBody, LayHead, Own, Disown, Publish, ClearField, SetBirth, SetBits, Make, Write, WriteGlobal, moved, May, Others, Leaves, update}
+use Rattle.gh_model.specs.Ever.{Ever, Reach, next_name}
+use Rattle.gh_heap.specs.Moves.{Move, Quiet, Takes, Ends, TakeLock, LeaveLock, Refuse, LayBody, LayHead, FreeBody, FreeHead, Own, Disown, Publish, ClearField, SetBirth, SetBits, Make, Write, WriteGlobal, moved, May, Others, Leaves, update}
 use Rattle.gh_heap.specs.Objects.{IsMade, Placed}
-use Rattle.gh_heap.specs.Rights.{Arena, Shared, View, view, Right, Good, Claims, FullBefore}
-use Rattle.gh_heap.specs.Spans.{IsSlotOf, Laying, LaidOut}
+use Rattle.gh_heap.specs.Rights.{Arena, Shared, View, view, Right, Rights, Good, Claims, FullBefore, TidyBefore, FullGood, StaysGood}
+use Rattle.gh_heap.specs.Spans.{IsInUse, IsSpan, IsSlotOf, Laying, LaidOut, Freeing, BeingFreed}
 
 -- what holds at every moment holds after each move that may be made
 abbrev pub EachMoveKeeps : Type 0
 EachMoveKeeps = (z : Arena) (a : ℕ) (s : Shared) (m : Move) → Good z (view s) → May z a (view s) m → Good z (view (moved z a s m))
+
+-- So does this, in a heap where spans are given back only when each slot is taken; and this in every heap: no move clears an alloc bit.
+pub record EachMoveKeepsAll : Type 0 where
+  pub full : (z : Arena) (a : ℕ) (s : Shared) (m : Move) → z.full_only ≡ true → Good z (view s) → FullGood (view s).page (view s).alloc → May z a (view s) m → FullGood (view (moved z a s m)).page (view (moved z a s m)).alloc
+  pub stays : (z : Arena) (a : ℕ) (s : Shared) (m : Move) → Good z (view s) → StaysGood (view s).alloc (view s).birth (view s).place (view s).ever.made → May z a (view s) m →
+      StaysGood (view (moved z a s m)).alloc (view (moved z a s m)).birth (view (moved z a s m)).place (view (moved z a s m)).ever.made
+
+-- the name that the move makes, if it makes one
+abbrev pub name_made : Ever → Move → Option Name
+name_made e (Make at g d t) = Some (next_name e g)
+name_made e _ = None
+
+-- What a script reaches after a move it reached before, or the move made it.
+abbrev pub EachMoveReachesNoMore : Type 0
+EachMoveReachesNoMore = (z : Arena) (a : ℕ) (s : Shared) (m : Move) → May z a (view s) m → (n : Name) → Reach (moved z a s m).ever n → Reach s.ever n ⊎ (name_made s.ever m ≡ Some n)
 
 -- what another's move leaves to a seat
 abbrev pub EachMoveLeaves : Type 0
@@ -45,16 +61,28 @@ pub record RightsFollow (z : Arena) (a : ℕ) (s : Shared) (l : Bool) (h : ℕ �
 abbrev pub EachRightFollows : Type 0
 EachRightFollows = (z : Arena) (a : ℕ) (s : Shared) (l : Bool) (h : ℕ → Bool) (y : Option Laying) → Right a (view s) l h y → RightsFollow z a s l h y
 
+-- while it frees the pages of a span
+pub record FreeingFollows (z : Arena) (a : ℕ) (s : Shared) (l : Bool) (h : ℕ → Bool) (y : Option Laying) : Type 0 where
+  pub body : (x : Freeing) → Rights a (view (moved z a s (FreeBody x))) l h y (Some (record x { next = x.next + 1 }))
+  pub head : (x : Freeing) → Right a (view (moved z a s (FreeHead x))) l h y
+
+abbrev pub EachFreeingFollows : Type 0
+EachFreeingFollows = (z : Arena) (a : ℕ) (s : Shared) (l : Bool) (h : ℕ → Bool) (y : Option Laying) (f : Option Freeing) → Rights a (view s) l h y f → FreeingFollows z a s l h y
+
 -- What a seat relies on lasts, whatever others do: its rights; with the lock, the pages that it saw; the slots that it claims.
 pub record FactsLast (z : Arena) (a : ℕ) (v w : View) : Type 0 where
   pub right : (l : Bool) (h : ℕ → Bool) (y : Option Laying) → Right a v l h y → Right a w l h y
+  pub rights : (l : Bool) (h : ℕ → Bool) (y : Option Laying) (f : Option Freeing) → Rights a v l h y f → Rights a w l h y f
   pub claim : (at size : ℕ) → Claims z v a at size → Claims z w a at size
   pub free : (p : ℕ) → v.locked a ≡ true → page_of (v.page p) ≡ Free → page_of (w.page p) ≡ Free
   pub taken : (p : ℕ) → v.locked a ≡ true → page_of (v.page p) ≢ Free → page_of (w.page p) ≢ Free
   pub head : (p : ℕ) (h : SpanHead) → v.locked a ≡ true → h.class ≢ Large → page_of (v.page p) ≡ Head h → page_of (w.page p) ≡ Head h
+  pub idle : (p : ℕ) (h : SpanHead) → v.locked a ≡ true → h.owner ≡ 0 → page_of (v.page p) ≡ Head h → page_of (w.page p) ≡ Head h
   pub body : (p : ℕ) (b : SpanBody) → v.locked a ≡ true → page_of (v.page p) ≡ Body b → page_of (w.page p) ≡ Body b
   pub laid : (y : Laying) → v.locked a ≡ true → LaidOut z.layout.pages v.page y → LaidOut z.layout.pages w.page y
+  pub freed : (y : Freeing) → v.locked a ≡ true → BeingFreed v.page y → BeingFreed w.page y
   pub full_before : (span : SpanHead) (p : ℕ) → v.locked a ≡ true → FullBefore v.page v.alloc span p → FullBefore w.page w.alloc span p
+  pub tidy_before : (p : ℕ) → v.locked a ≡ true → TidyBefore v.page v.alloc p → TidyBefore w.page w.alloc p
 
 abbrev pub EachFactLasts : Type 0
 EachFactLasts = (z : Arena) (a : ℕ) (v w : View) → Others z a v w → FactsLast z a v w
@@ -66,7 +94,9 @@ pub record OwnMovesLeave (z : Arena) (a : ℕ) (s : Shared) : Type 0 where
   pub body : (y : Laying) → May z a (view s) (LayBody y) → Leaves (view s) (view (moved z a s (LayBody y)))
   pub head : (y : Laying) → May z a (view s) (LayHead y) → Leaves (view s) (view (moved z a s (LayHead y)))
   pub owned : (p : ℕ) (h : SpanHead) → May z a (view s) (Own p h) → Leaves (view s) (view (moved z a s (Own p h)))
-  pub given : (p : ℕ) (h : SpanHead) → May z a (view s) (Disown p h) → Leaves (view s) (view (moved z a s (Disown p h)))
+  pub freed : (y : Freeing) → Leaves (view s) (view (moved z a s (FreeBody y)))
+  pub emptied : (y : Freeing) → Leaves (view s) (view (moved z a s (FreeHead y)))
+  pub left : Leaves (view s) (view (moved z a s LeaveLock))
   pub cleared : (at size k : ℕ) → Leaves (view s) (view (moved z a s (ClearField at size k)))
   pub named : (at size : ℕ) (n : Name) → Leaves (view s) (view (moved z a s (SetBirth at size n)))
   pub pointed : (at size i word : ℕ) → Leaves (view s) (view (moved z a s (SetBits at size i word)))
@@ -85,8 +115,9 @@ abbrev pub EachMoveKeepsItsOwn : Type 0
 EachMoveKeepsItsOwn = (z : Arena) (a : ℕ) (s : Shared) (m : Move) → Good z (view s) → May z a (view s) m → KeepsItsOwn a (view s) (view (moved z a s m))
 
 -- what a routine's own moves leave is enough for what a walk has seen
-abbrev pub WalksGoOn : Type 0
-WalksGoOn = (v w : View) (span : SpanHead) (p : ℕ) → Leaves v w → FullBefore v.page v.alloc span p → FullBefore w.page w.alloc span p
+pub record WalksGoOn : Type 0 where
+  pub full : (v w : View) (span : SpanHead) (p : ℕ) → Leaves v w → FullBefore v.page v.alloc span p → FullBefore w.page w.alloc span p
+  pub tidy : (v w : View) (p : ℕ) → Leaves v w → TidyBefore v.page v.alloc p → TidyBefore w.page w.alloc p
 
 -- What holds of spans, slots and objects by themselves.
 pub record HeapIsApart (z : Arena) (v : View) : Type 0 where
@@ -94,6 +125,11 @@ pub record HeapIsApart (z : Arena) (v : View) : Type 0 where
   pub slots : (p q i j x y n m k l : ℕ) (h g : SpanHead) → IsSlotOf z.layout.pages v.page p h i x n → IsSlotOf z.layout.pages v.page q g j y m → x ≢ y → k < n → l < m → x + k ≢ y + l
   -- a slot lies in its span, and so in the arena
   pub inside : (p i x n k : ℕ) (h : SpanHead) → IsSlotOf z.layout.pages v.page p h i x n → k < n → (1024 * p ≤ x + k) × (x + k < 1024 * (p + h.pages))
+  -- a span that a seat holds is whole, and so is each while the lock's holder frees nothing
+  pub held : (a p : ℕ) (h : SpanHead) → v.holds a p ≡ true → page_of (v.page p) ≡ Head h → IsSpan z.layout.pages v.page p h
+  pub locked : (a p : ℕ) (h : SpanHead) → v.locked a ≡ true → v.freeing a ≡ None → page_of (v.page p) ≡ Head h → IsSpan z.layout.pages v.page p h
+  -- where an alloc bit of a span is set a slot of it is taken
+  pub used : (p x : ℕ) (h : SpanHead) → IsSpan z.layout.pages v.page p h → 1024 * p ≤ x → x < 1024 * (p + h.pages) → row_bit v.alloc x ≡ 1 → IsInUse v.alloc p h
   -- no object stands in a free page, nor in one of a span that is being laid out
   pub free : (p x : ℕ) → page_of (v.page p) ≡ Free → x / 1024 ≡ p → row_bit v.alloc x ≡ 0
   pub laid : (y : Laying) (x : ℕ) → LaidOut z.layout.pages v.page y → 1024 * y.first ≤ x → x < 1024 * (y.first + y.head.pages) → row_bit v.alloc x ≡ 0

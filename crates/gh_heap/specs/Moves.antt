@@ -1,5 +1,5 @@
 -- The moves by which an actor changes the shared state, when it may make them, and what they leave to the others.
-use Rattle.std.specs.Prelude.{◌≡◌, ℕ, ◌+◌, ◌/◌, ◌%◌, ◌^◌, ◌<◌, ◌≤◌, true, false, ◌==◌, if◌then◌else◌, bit_or, length, Option, Some, None, ◌⊎◌}
+use Rattle.std.specs.Prelude.{◌≡◌, ◌≢◌, ℕ, ◌+◌, ◌*◌, ◌/◌, ◌%◌, ◌^◌, ◌<◌, ◌≤◌, true, false, ◌==◌, if◌then◌else◌, bit_or, length, Option, Some, None, ◌⊎◌}
 use Rattle.std.specs.Int.{bit_at}
 use Rattle.gh_base.specs.declared.cell.Ask.{Ask}
 use Rattle.gh_base.specs.declared.cell.Ask.TheVariants as ask
@@ -21,7 +21,7 @@ use Rattle.gh_model.specs.declared.EverValue.TheVariants as ever
 use Rattle.gh_model.specs.Ever.{Ever, Reach, field_count, next_name, same_name, with_end, with_field, with_global, with_object, with_register}
 use Rattle.gh_heap.specs.Objects.{Holds, IsMade, Place, points, size_for}
 use Rattle.gh_heap.specs.Rights.{Arena, Shared, View, view, Claims, IsOf}
-use Rattle.gh_heap.specs.Spans.{FitsClass, IsFull, IsSpan, Laying, LaidOut, body_at, owned_by}
+use Rattle.gh_heap.specs.Spans.{FitsClass, IsEmpty, IsFull, IsSpan, Laying, LaidOut, Freeing, BeingFreed, body_at, owned_by}
 
 -- A change of the shared state by one step, words and ghosts together.
 pub data Move : Type 0 where
@@ -37,6 +37,9 @@ pub data Move : Type 0 where
   -- a further page of a span is written, and last its head
   LayBody : (y : Laying) → Move
   LayHead : (y : Laying) → Move
+  -- a further page of a span is freed, and last its first
+  FreeBody : (y : Freeing) → Move
+  FreeHead : (y : Freeing) → Move
   -- a span that nobody owns is taken, one is given back, and that of a large object is
   Own : (p : ℕ) → (h : SpanHead) → Move
   Disown : (p : ℕ) → (h : SpanHead) → Move
@@ -82,6 +85,10 @@ placed_at place n at m = if same_name m n then at else place m
 abbrev pub begun : Laying → Option Laying
 begun y = if y.next == 1 then None else Some y
 
+-- and what is being freed, likewise
+abbrev pub freed_yet : Freeing → Option Freeing
+freed_yet y = if y.next == 1 then None else Some y
+
 abbrev pub moved : Arena → (a : ℕ) → Shared → Move → Shared
 moved z a s (Quiet step) = record s { words = effect s.words step }
 moved z a s (Takes step g d value) = record s { words = effect s.words step; ever = with_register s.ever g d value }
@@ -91,6 +98,8 @@ moved z a s LeaveLock = record s { words = put s.words cell.Lock 0; locked = upd
 moved z a s (Refuse g d) = record s { words = put s.words cell.Lock 0; locked = update s.locked a false; ever = with_register s.ever g d ever.Nil }
 moved z a s (LayBody y) = record s { words = put s.words (cell.Page (y.first + y.next)) (body_word (body_at y.head y.next)); laying = update s.laying a (Some (record y { next = y.next + 1 })) }
 moved z a s (LayHead y) = record s { words = put s.words (cell.Page y.first) (head_word y.head); laying = update s.laying a None; holds = update_at s.holds a y.first true }
+moved z a s (FreeBody y) = record s { words = put s.words (cell.Page (y.first + y.next)) 0; freeing = update s.freeing a (Some (record y { next = y.next + 1 })) }
+moved z a s (FreeHead y) = record s { words = put s.words (cell.Page y.first) 0; freeing = update s.freeing a None }
 moved z a s (Own p h) = record s { words = put s.words (cell.Page p) (head_word (owned_by (a + 1) h)); holds = update_at s.holds a p true }
 moved z a s (Disown p h) = record s { words = put s.words (cell.Page p) (head_word (owned_by 0 h)); holds = update_at s.holds a p false }
 moved z a s (Publish p h) = record s { words = put s.words (cell.Page p) (head_word (owned_by 0 h)); holds = update_at s.holds a p false }
@@ -152,16 +161,27 @@ pub record MayWriteGlobal (z : Arena) (v : View) (k : ℕ) (value : EverValue) (
 pub record MayLay (z : Arena) (v : View) (a : ℕ) (y : Laying) : Type 0 where
   pub locked : v.locked a ≡ true
   pub laying : v.laying a ≡ begun y
+  pub freeing : v.freeing a ≡ None
   pub laid : LaidOut z.layout.pages v.page y
   pub fits : FitsClass y.head
   pub word : FitsHead y.head
   pub owner : y.head.owner ≡ a + 1
   pub number : y.head.number ≡ v.generation
 
--- with the lock, laying nothing out, of a page where a span begins; whose the span is each move asks for itself
+-- of a swept span that nobody owns and in which no object stands
+pub record MayFree (v : View) (a : ℕ) (y : Freeing) : Type 0 where
+  pub locked : v.locked a ≡ true
+  pub laying : v.laying a ≡ None
+  pub freeing : v.freeing a ≡ freed_yet y
+  pub being : BeingFreed v.page y
+  pub swept : being.h.number ≡ v.generation
+  pub empty : IsEmpty v.alloc y.first y.pages
+
+-- with the lock, laying nothing out and freeing nothing, of a page where a span begins; whose the span is each move asks for itself
 pub record MayPass (v : View) (a p : ℕ) (h : SpanHead) : Type 0 where
   pub locked : v.locked a ≡ true
   pub laying : v.laying a ≡ None
+  pub freeing : v.freeing a ≡ None
   pub head : page_of (v.page p) ≡ Head h
 
 abbrev pub May : Arena → (a : ℕ) → View → Move → Type 0
@@ -169,12 +189,14 @@ May z a v (Quiet step) = IsQuiet step
 May z a v (Takes step g d value) = IsQuiet step × Runs z v a g × (d < REGISTERS) × IsReached v.ever value
 May z a v (Ends step g) = IsQuiet step × Runs z v a g
 May z a v TakeLock = v.lock ≡ 0
-May z a v LeaveLock = (v.locked a ≡ true) × (v.laying a ≡ None)
-May z a v (Refuse g d) = (v.locked a ≡ true) × (v.laying a ≡ None) × Runs z v a g × (d < REGISTERS)
+May z a v LeaveLock = (v.locked a ≡ true) × (v.laying a ≡ None) × (v.freeing a ≡ None)
+May z a v (Refuse g d) = (v.locked a ≡ true) × (v.laying a ≡ None) × (v.freeing a ≡ None) × Runs z v a g × (d < REGISTERS)
 May z a v (LayBody y) = MayLay z v a y × (y.next < y.head.pages)
 May z a v (LayHead y) = MayLay z v a y × (y.next ≡ y.head.pages)
+May z a v (FreeBody y) = MayFree v a y × (y.next < y.pages)
+May z a v (FreeHead y) = MayFree v a y × (y.next ≡ y.pages)
 May z a v (Own p h) = MayPass v a p h × (h.owner ≡ 0) × (a + 1 < 2 ^ 8)
-May z a v (Disown p h) = MayPass v a p h × (v.holds a p ≡ true) × IsFull v.alloc p h
+May z a v (Disown p h) = MayPass v a p h × (v.holds a p ≡ true) × (z.full_only ≡ true → IsFull v.alloc p h)
 May z a v (Publish p h) = (v.holds a p ≡ true) × (page_of (v.page p) ≡ Head h) × (h.class ≡ Large) × IsFull v.alloc p h
 May z a v (ClearField at size k) = Claims z v a at size × (k < size)
 May z a v (SetBirth at size n) = Claims z v a at size
@@ -189,13 +211,14 @@ May z a v (WriteGlobal k value word) = MayWriteGlobal z v k value word
 pub record Published (old new : Row) (alloc : Row) (p : ℕ) : Type 0 where
   pub h : SpanHead
   pub was : page_of (old p) ≡ Head h
+  pub owned : h.owner ≢ 0
   pub large : h.class ≡ Large
   pub is : page_of (new p) ≡ Head (owned_by 0 h)
   pub full : IsFull alloc p h
 
--- What a routine's own moves, short of its end, leave to who runs it: no span with a clear slot has come to be nobody's, and no alloc bit was cleared.
+-- What a routine's own moves, short of its end, leave to who runs it: no span has come to be nobody's, save a large object's, and no alloc bit was cleared.
 pub record Leaves (v w : View) : Type 0 where
-  pub pages : (p : ℕ) (h : SpanHead) → page_of (w.page p) ≡ Head h → h.owner ≡ 0 → (page_of (v.page p) ≡ Head h) ⊎ IsFull w.alloc p h
+  pub pages : (p : ℕ) (h : SpanHead) → page_of (w.page p) ≡ Head h → h.owner ≡ 0 → (page_of (v.page p) ≡ Head h) ⊎ ((h.class ≡ Large) × IsFull w.alloc p h)
   pub bits : (x : ℕ) → row_bit v.alloc x ≡ 1 → row_bit w.alloc x ≡ 1
 
 -- no object is made, and no value changes
@@ -207,11 +230,15 @@ pub record Others (z : Arena) (a : ℕ) (v w : View) : Type 0 where
   pub locked : w.locked a ≡ v.locked a
   pub holds : (p : ℕ) → w.holds a p ≡ v.holds a p
   pub laying : w.laying a ≡ v.laying a
+  pub freeing : w.freeing a ≡ v.freeing a
   pub generation : w.generation ≡ v.generation
   pub bits : (x : ℕ) → row_bit v.alloc x ≡ 1 → row_bit w.alloc x ≡ 1
   pub leaves : v.locked a ≡ true → Leaves v w
   pub pages : v.locked a ≡ true → (p : ℕ) → (w.page p ≡ v.page p) ⊎ Published v.page w.page w.alloc p
+  -- in a span that nobody owns no object is placed
+  pub clear : (p x : ℕ) (h : SpanHead) → IsSpan z.layout.pages v.page p h → h.owner ≡ 0 → 1024 * p ≤ x → x < 1024 * (p + h.pages) → row_bit v.alloc x ≡ 0 → row_bit w.alloc x ≡ 0
   -- in a span that it holds
+  pub heads : (p : ℕ) (h : SpanHead) → v.holds a p ≡ true → page_of (v.page p) ≡ Head h → page_of (w.page p) ≡ Head h
   pub spans : (p : ℕ) (h : SpanHead) → v.holds a p ≡ true → IsSpan z.layout.pages v.page p h → IsSpan z.layout.pages w.page p h
   pub claims : (at size : ℕ) → Claims z v a at size → row_bit w.alloc at ≡ 0
   pub fields : (at size k : ℕ) → Claims z v a at size → k < size → w.field (at + k) ≡ v.field (at + k)

@@ -1,5 +1,5 @@
 -- The shared state: the words, each actor's rights to change them, and the ghosts beside them; and what holds of it at every moment.
-use Rattle.std.specs.Prelude.{◌≡◌, ℕ, ◌+◌, ◌^◌, ◌<◌, Bool, true, List, ◌↔◌, Option, Some}
+use Rattle.std.specs.Prelude.{◌≡◌, ◌≢◌, ℕ, ◌+◌, ◌^◌, ◌<◌, Bool, true, List, ◌↔◌, Option, Some, None}
 use Rattle.gh_base.specs.declared.cell.Cell.TheVariants as cell
 use Rattle.gh_base.specs.declared.layout.Layout.{Layout}
 use Rattle.gh_base.specs.declared.pack.PageWord.TheVariants.{Head}
@@ -11,20 +11,22 @@ use Rattle.gh_base.specs.Packing.{page_of}
 use Rattle.gh_base.specs.Rows.{Row, row_bit, page_words, alloc_words, bitmap_words, birth_words, field_words, global_words}
 use Rattle.gh_model.specs.Ever.{Ever}
 use Rattle.gh_heap.specs.Objects.{IsMade, Place, Placed, BitsGood, ReachedGood, SlotsGood, PointersGood, FieldsGood, GlobalsGood, NamesGood}
-use Rattle.gh_heap.specs.Spans.{IsSpan, IsSlotOf, IsFull, owner_at, Laying, LaidOut}
+use Rattle.gh_heap.specs.Spans.{FitsIn, IsSpan, IsSlotOf, IsFull, IsInUse, IsEmpty, owner_at, Laying, LaidOut, Freeing, BeingFreed}
 
--- what a heap is of: where its words lie, the types of its objects, and at which seat is the processor that runs a goroutine
+-- What a heap is of: where its words lie, the types of its objects, and at which seat is the processor that runs a goroutine; and its rule by which spans are given back, only when each slot is taken, or at any time.
 pub record Arena : Type 0 where
   pub layout : Layout
   pub shapes : List Shape
   pub seat_of : ℕ → ℕ
+  pub full_only : Bool
 
--- The words; a row for each kind of right, by seat: who has the lock, who holds the span that begins at a page, and what is being laid out; where each name was placed, and the heap that never frees.
+-- The words; a row for each kind of right, by seat: who has the lock, who holds the span that begins at a page, what is being laid out, and what is being freed; where each name was placed, and the heap that never frees.
 pub record Shared : Type 0 where
   pub words : Words
   pub locked : ℕ → Bool
   pub holds : ℕ → ℕ → Bool
   pub laying : ℕ → Option Laying
+  pub freeing : ℕ → Option Freeing
   pub place : Place
   pub ever : Ever
 
@@ -41,6 +43,7 @@ pub record View : Type 0 where
   pub locked : ℕ → Bool
   pub holds : ℕ → ℕ → Bool
   pub laying : ℕ → Option Laying
+  pub freeing : ℕ → Option Freeing
   pub place : Place
   pub ever : Ever
 
@@ -57,25 +60,39 @@ view s = record {
   locked = s.locked;
   holds = s.holds;
   laying = s.laying;
+  freeing = s.freeing;
   place = s.place;
   ever = s.ever;
 }
 
--- the rights of one seat: whether it has the lock, which spans it holds, and what it lays out
-pub record Right (a : ℕ) (v : View) (l : Bool) (h : ℕ → Bool) (y : Option Laying) : Type 0 where
+-- the rights of one seat: whether it has the lock, which spans it holds, what it lays out, and what it frees
+pub record Rights (a : ℕ) (v : View) (l : Bool) (h : ℕ → Bool) (y : Option Laying) (f : Option Freeing) : Type 0 where
   pub locked : v.locked a ≡ l
   pub holds : (p : ℕ) → v.holds a p ≡ h p
   pub laying : v.laying a ≡ y
+  pub freeing : v.freeing a ≡ f
 
--- The groups of what holds at every moment, each over the rows that it reads. A tie of a right to a word goes both ways, so that nothing has to be counted; that of a span that is being laid out goes one way, since its pages do not tell who lays it out.
+-- of one that frees nothing
+abbrev pub Right : (a : ℕ) → View → Bool → (ℕ → Bool) → Option Laying → Type 0
+Right a v l h y = Rights a v l h y None
+
+-- The groups of what holds at every moment, each over the rows that it reads. A tie of a right to a word goes both ways, so that nothing has to be counted; that of a span that is being laid out or freed goes one way, since its pages do not tell who is at it.
 
 -- the lock's word names the seat that has the lock
 abbrev pub LockGood : (lock : ℕ) → (ℕ → Bool) → Type 0
 LockGood lock locked = (a : ℕ) → (lock ≡ a + 1) ↔ (locked a ≡ true)
 
--- each head is that of a whole span
+-- each head fits where it stands
 abbrev pub SpansGood : (pages : ℕ) → (page : Row) → Type 0
-SpansGood pages page = (p : ℕ) (h : SpanHead) → page_of (page p) ≡ Head h → IsSpan pages page p h
+SpansGood pages page = (p : ℕ) (h : SpanHead) → page_of (page p) ≡ Head h → FitsIn pages p h
+
+-- nobody frees the span that begins there
+abbrev pub IsKept : (ℕ → Option Freeing) → (p : ℕ) → Type 0
+IsKept freeing p = (a : ℕ) (y : Freeing) → freeing a ≡ Some y → y.first ≢ p
+
+-- and then it is that of a whole span
+abbrev pub WholeGood : (pages : ℕ) → (page : Row) → (ℕ → Option Freeing) → Type 0
+WholeGood pages page freeing = (p : ℕ) (h : SpanHead) → page_of (page p) ≡ Head h → IsKept freeing p → IsSpan pages page p h
 
 -- and is swept: its number is that of the sweep generation
 abbrev pub NumbersGood : (page : Row) → (generation : ℕ) → Type 0
@@ -93,25 +110,39 @@ pub record Lays (pages : ℕ) (page : Row) (locked : ℕ → Bool) (a : ℕ) (y 
 abbrev pub LayingGood : (pages : ℕ) → (page : Row) → (ℕ → Bool) → (ℕ → Option Laying) → Type 0
 LayingGood pages page locked laying = (a : ℕ) (y : Laying) → laying a ≡ Some y → Lays pages page locked a y
 
--- A span that nobody owns is full. So it is while nothing is freed: a span is given back when its slots are all taken.
+-- who frees the pages of a span has the lock, and no object stands there
+pub record Frees (page alloc : Row) (locked : ℕ → Bool) (a : ℕ) (y : Freeing) : Type 0 where
+  pub by_holder : locked a ≡ true
+  pub being : BeingFreed page y
+  pub empty : IsEmpty alloc y.first y.pages
+
+abbrev pub FreeingGood : (page alloc : Row) → (ℕ → Bool) → (ℕ → Option Freeing) → Type 0
+FreeingGood page alloc locked freeing = (a : ℕ) (y : Freeing) → freeing a ≡ Some y → Frees page alloc locked a y
+
+-- an alloc word is one of 64 bits
+abbrev pub WordsGood : (alloc : Row) → Type 0
+WordsGood alloc = (i : ℕ) → alloc i < 2 ^ 64
+
+-- Where spans are given back only when each slot is taken, a span that nobody owns is full. It is no part of what holds of every heap.
 abbrev pub FullGood : (page alloc : Row) → Type 0
 FullGood page alloc = (p : ℕ) (h : SpanHead) → page_of (page p) ≡ Head h → h.owner ≡ 0 → IsFull alloc p h
 
--- While nothing is freed, every object that was made stays placed.
+-- While no alloc bit is cleared, every object that was made stays placed: no part of it either.
 abbrev pub StaysGood : (alloc birth : Row) → Place → (made : ℕ → ℕ) → Type 0
 StaysGood alloc birth place made = (n : Name) → IsMade made n → Placed alloc birth place n
 
 pub record Good (z : Arena) (v : View) : Type 0 where
   pub lock : LockGood v.lock v.locked
   pub spans : SpansGood z.layout.pages v.page
+  pub whole : WholeGood z.layout.pages v.page v.freeing
   pub generation : v.generation < 2 ^ 34
   pub numbers : NumbersGood v.page v.generation
   pub owners : OwnersGood v.page v.holds
   pub laying : LayingGood z.layout.pages v.page v.locked v.laying
-  pub full : FullGood v.page v.alloc
+  pub freeing : FreeingGood v.page v.alloc v.locked v.freeing
+  pub words : WordsGood v.alloc
   pub bits : BitsGood v.alloc v.birth v.place v.ever.made
   pub reached : ReachedGood v.alloc v.birth v.place v.ever
-  pub stays : StaysGood v.alloc v.birth v.place v.ever.made
   pub slots : SlotsGood z.shapes z.layout.pages v.page v.alloc v.birth v.place v.ever.made v.ever.type_of
   pub pointers : PointersGood z.shapes v.alloc v.birth v.bitmap v.place v.ever.made v.ever.type_of
   pub fields : FieldsGood z.shapes v.alloc v.birth v.field v.place v.ever.made v.ever.type_of v.ever.field
@@ -141,3 +172,7 @@ IsOf z a g = (g < z.layout.goroutines) × (z.seat_of g ≡ a)
 -- each span of the span class that nobody owns and that begins before page p is full
 abbrev pub FullBefore : (page alloc : Row) → (span : SpanHead) → (p : ℕ) → Type 0
 FullBefore page alloc span p = (q : ℕ) (h : SpanHead) → q < p → page_of (page q) ≡ Head h → h.class ≡ span.class → h.noscan ≡ span.noscan → h.owner ≡ 0 → IsFull alloc q h
+
+-- in each span that nobody owns and that begins before page p an object stands
+abbrev pub TidyBefore : (page alloc : Row) → (p : ℕ) → Type 0
+TidyBefore page alloc p = (q : ℕ) (h : SpanHead) → q < p → page_of (page q) ≡ Head h → h.owner ≡ 0 → IsInUse alloc q h

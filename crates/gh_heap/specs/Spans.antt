@@ -48,6 +48,11 @@ pub record IsSpan (pages : ℕ) (page : Row) (p : ℕ) (h : SpanHead) : Type 0 w
   pub within : p + h.pages ≤ pages
   pub fits : FitsClass h
 
+-- its pages lie in the arena, and are as many as it may have
+pub record FitsIn (pages p : ℕ) (h : SpanHead) : Type 0 where
+  pub within : p + h.pages ≤ pages
+  pub fits : FitsClass h
+
 -- a slot of so many words begins at heap word a: slot i of the span at page p
 pub record IsSlotOf (pages : ℕ) (page : Row) (p : ℕ) (h : SpanHead) (i a size : ℕ) : Type 0 where
   pub span : IsSpan pages page p h
@@ -58,6 +63,18 @@ pub record IsSlotOf (pages : ℕ) (page : Row) (p : ℕ) (h : SpanHead) (i a siz
 -- each slot of the span is taken
 abbrev pub IsFull : (alloc : Row) → (p : ℕ) → SpanHead → Type 0
 IsFull alloc p h = (i : ℕ) → i < slot_count h → row_bit alloc (1024 * p + i * slot_size h) ≡ 1
+
+-- none of them is
+abbrev pub IsVacant : (alloc : Row) → (p : ℕ) → SpanHead → Type 0
+IsVacant alloc p h = (i : ℕ) → i < slot_count h → row_bit alloc (1024 * p + i * slot_size h) ≡ 0
+
+-- some slot of it is
+abbrev pub IsInUse : (alloc : Row) → (p : ℕ) → SpanHead → Type 0
+IsInUse alloc p h = (i : ℕ) × (i < slot_count h) × (row_bit alloc (1024 * p + i * slot_size h) ≡ 1)
+
+-- no object stands in these pages
+abbrev pub IsEmpty : (alloc : Row) → (first pages : ℕ) → Type 0
+IsEmpty alloc first pages = (x : ℕ) → 1024 * first ≤ x → x < 1024 * (first + pages) → row_bit alloc x ≡ 0
 
 -- who owns the span that a page is the first of, by one more than its seat; 0 is nobody, and so with any other page
 abbrev pub owner_in : PageWord → ℕ
@@ -82,3 +99,20 @@ pub record LaidOut (pages : ℕ) (page : Row) (y : Laying) : Type 0 where
   pub head : page_of (page y.first) ≡ Free
   pub written : (d : ℕ) → 0 < d → d < y.next → page_of (page (y.first + d)) ≡ Body (body_at y.head d)
   pub free : (d : ℕ) → y.next ≤ d → d < y.head.pages → page_of (page (y.first + d)) ≡ Free
+
+-- A span whose pages are being freed: its first page, how many it has, and that its further pages at a distance below `next` are free.
+pub record Freeing : Type 0 where
+  pub first : ℕ
+  pub pages : ℕ
+  pub next : ℕ
+
+-- nobody owns it; its head stands to the last, and so do its further pages from `next` on
+pub record BeingFreed (page : Row) (y : Freeing) : Type 0 where
+  pub h : SpanHead
+  pub head : page_of (page y.first) ≡ Head h
+  pub owner : h.owner ≡ 0
+  pub size : h.pages ≡ y.pages
+  pub some : 0 < y.next
+  pub few : y.next ≤ y.pages
+  pub freed : (d : ℕ) → 0 < d → d < y.next → page_of (page (y.first + d)) ≡ Free
+  pub standing : (d : ℕ) → y.next ≤ d → d < y.pages → page_of (page (y.first + d)) ≡ Body (body_at h d)

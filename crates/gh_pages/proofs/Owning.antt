@@ -1,6 +1,6 @@
 -- Its own steps are moves that its rights allow, and what it knows lasts. Of the heap it is known what the laws of gh_heap say.
 use Rattle.std.proofs.Common.{◌≡◌, ◌≢◌, ℕ, ◌+◌, ◌-◌, ◌<◌, ◌≤◌, Bool, true, false, not, cond, eqb, ltb, inl, inr, Option, Some, None, refl, sym, ap, subst, ◌∙◌, arith}
-use Rattle.std.proofs.lemmas.Bool.{eqb-true, eqb-false, ltb-true, ltb-false}
+use Rattle.std.proofs.lemmas.Bool.{eqb-true, eqb-false, eq-eqb, ltb-true, ltb-false}
 use Rattle.std.proofs.lemmas.Bool.Decides.{nat_tests, eqb_tells}
 use Rattle.gh_base.specs.declared.layout.Layout.{Layout}
 use Rattle.gh_base.specs.declared.pack.PageWord.{PageWord}
@@ -190,7 +190,7 @@ module _ (k : Known) (z : Arena) (a : ℕ) (s : Shared) (held : ℕ → Bool) (c
   -- The stores.
 
   may-lay : (first d : ℕ) → Right a now true held (begun (fresh_from c first d)) → Carves z a now c → LaidOut z.layout.pages now.page (fresh_from c first d) → MayLay z now a (fresh_from c first d)
-  may-lay first d right whose laid = record { locked = right.locked; laying = right.laying; laid = laid; fits = whose.class; word = whose.word; owner = ap (λ (x : ℕ). x + 1) whose.seat; number = whose.number }
+  may-lay first d right whose laid = record { locked = right.locked; laying = right.laying; freeing = right.freeing; laid = laid; fits = whose.class; word = whose.word; owner = ap (λ (x : ℕ). x + 1) whose.seat; number = whose.number }
 
   body : (first d : ℕ) → Good z now → Right a now true held (begun (fresh_from c first d)) → Carves z a now c → LaidOut z.layout.pages now.page (fresh_from c first d) → d < c.span.pages →
       Steps z a s (asks (at_stage c (Body first d))) (λ t. KeepsObjects now (view t) × Comes z a now (view t) held None (at_stage c (next_store c.span first d)))
@@ -249,7 +249,7 @@ module _ (k : Known) (z : Arena) (a : ℕ) (s : Shared) (held : ℕ → Bool) (c
     written = put-here first (head_word (fresh_head c)) (now.page first)
 
     span : IsSpan z.layout.pages (view t).page first (fresh_head c)
-    span = (k.keep z a s (LayHead y) g may).spans first (fresh_head c) (ap page_of written ∙ k.packed.page (page.Head (fresh_head c)) whose.word)
+    span = (k.apart z (view t) (k.keep z a s (LayHead y) g may)).held a first (fresh_head c) (right-then.holds first ∙ ap (λ (b : Bool). cond b true (held first)) (eq-eqb first first refl)) (ap page_of written ∙ k.packed.page (page.Head (fresh_head c)) whose.word)
 
   own-at : (q : CarveStage) → Good z now → Right a now true held (laying_at c q) → Facts z a now (at_stage c q) →
       Steps z a s (asks (at_stage c q)) (λ t. KeepsObjects now (view t) × Comes z a now (view t) held (gives (at_stage c q) (s.words (cell_of (asks (at_stage c q))))) (goes (at_stage c q) (s.words (cell_of (asks (at_stage c q))))))

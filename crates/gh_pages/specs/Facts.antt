@@ -1,13 +1,13 @@
 -- What is known at each stage of the search for fresh pages while any number of processors change the heap, under which rights, and the laws: what each step of its own is, that it is on a word that there is, and that what is known lasts whatever others do.
-use Rattle.std.specs.Prelude.{◌≡◌, ◌≢◌, ℕ, ◌+◌, ◌-◌, ◌*◌, ◌<◌, ◌≤◌, Bool, true, false, Option, Some, None}
+use Rattle.std.specs.Prelude.{◌≡◌, ◌≢◌, ℕ, ◌+◌, ◌-◌, ◌<◌, ◌≤◌, Bool, true, false, Option, Some, None}
 use Rattle.gh_base.specs.declared.pack.PageWord.TheVariants as page
 use Rattle.gh_base.specs.Cells.{InRange}
 use Rattle.gh_base.specs.Packing.{FitsHead, page_of}
-use Rattle.gh_base.specs.Rows.{Row, row_bit}
+use Rattle.gh_base.specs.Rows.{Row}
 use Rattle.gh_base.specs.Steps.{cell_of}
 use Rattle.gh_heap.specs.Moves.{KeepsObjects, Leaves, Others, Steps, begun, update}
 use Rattle.gh_heap.specs.Rights.{Arena, Good, Right, Shared, View, view}
-use Rattle.gh_heap.specs.Spans.{FitsClass, IsSpan, LaidOut, Laying}
+use Rattle.gh_heap.specs.Spans.{FitsClass, IsEmpty, IsSpan, LaidOut, Laying}
 use Rattle.gh_pages.specs.declared.carve.CarveStage.{CarveStage}
 use Rattle.gh_pages.specs.declared.carve.CarveStage.TheVariants.{Look, Body, Head, Ended}
 use Rattle.gh_pages.specs.Listing.{Carving, asks, fresh_head, gives, goes}
@@ -63,10 +63,6 @@ FactsAt z c page_words Ended = ⊥
 pub record Facts (z : Arena) (a : ℕ) (v : View) (c : Carving) : Type 0 where
   pub whose : Carves z a v c
   pub stage : FactsAt z c v.page c.stage
-
--- no object stands in the span
-abbrev pub IsEmpty : (alloc : Row) → (first pages : ℕ) → Type 0
-IsEmpty alloc first pages = (x : ℕ) → 1024 * first ≤ x → x < 1024 * (first + pages) → row_bit alloc x ≡ 0
 
 -- a fresh span stands at page `first`, held by who laid it out
 pub record IsFresh (z : Arena) (v : View) (c : Carving) (first : ℕ) : Type 0 where

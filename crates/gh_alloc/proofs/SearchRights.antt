@@ -1,0 +1,226 @@
+-- The steps of the search where a collector runs are moves that its rights allow, what it knows lasts, and where it finds no room there is none. Of the heap and of its routines it is known what their laws say.
+use Rattle.std.proofs.Common.{◌≡◌, ℕ, Bool, true, false, cond, ltb, Option, Some, None, refl, sym, ap, subst, ◌∙◌, arith}
+use Rattle.gh_base.specs.declared.pack.SpanHead.{SpanHead}
+use Rattle.gh_base.specs.Cells.{InRange}
+use Rattle.gh_base.specs.Steps.{cell_of}
+use Rattle.gh_class.specs.Classes.{slots_of}
+use Rattle.gh_heap.specs.Laws.{EachFactLasts, EachMoveKeeps, EachMoveKeepsItsOwn, WalksGoOn}
+use Rattle.gh_heap.specs.Moves.{KeepsObjects, Others, Steps, moved}
+use Rattle.gh_heap.specs.Rights.{Arena, Good, Right, Shared, TidyBefore, View, view}
+use Rattle.gh_heap.specs.Spans.{IsSpan, IsVacant}
+use Rattle.gh_cache.specs.Listing as slots
+use Rattle.gh_central.specs.Reclaim.{Reclaiming}
+use Rattle.gh_central.specs.Reclaim as reclaim
+use Rattle.gh_central.specs.ReclaimFacts as reclaiming
+use Rattle.gh_central.specs.SweptPass as pass
+use Rattle.gh_pages.specs.Listing as carve
+use Rattle.gh_alloc.specs.declared.search.SearchStage.{SearchStage}
+use Rattle.gh_alloc.specs.declared.search.SearchStage.TheVariants.{First, Free, Second}
+use Rattle.gh_alloc.specs.Vocabulary.{Layout, Sought, Small, Large, CachedSpan, Found, At, NoRoom, Again, End, FindStage, Slots, Lock, Give, Pass, Carve, Unlock, Ended}
+use Rattle.gh_alloc.specs.Find.{Finding, after_carve, after_pass, at_stage, begin, span_for, spans_for, taken_for}
+use Rattle.gh_alloc.specs.Find as find
+use Rattle.gh_alloc.specs.FindFacts as finding
+use Rattle.gh_alloc.specs.Search.{Seeking, after_first, after_free, asks_at, frees_at, gives_at, goes_at, reclaiming as begin_freeing, refuses}
+use Rattle.gh_alloc.specs.SearchFacts.{Comes, FactsAt, FindsNone, Frees, Has, Lasts, LooksAgain, LooksFirst, NoneIsTrue, Opens, OwnStep, Refuses, SeeksByItsRights, Within, reclaim_at}
+use Rattle.gh_alloc.proofs.FindLasts.{seeks-last}
+
+pub record Known : Type 0 where
+  pub last : EachFactLasts
+  pub walks : WalksGoOn
+  pub own : EachMoveKeepsItsOwn
+  pub keep : EachMoveKeeps
+  pub find : finding.FindsByItsRights
+  pub free : reclaiming.ReclaimsByItsRights
+
+-- Its stages.
+
+-- a search that begins refuses nothing
+begins-on : (l : Layout) (w : Sought) (c : Option CachedSpan) → find.refuses_at (begin l w c) ≡ false
+begins-on l (Small c) (Some x) = go (ltb x.cursor (slots_of c.class)) where
+  go : (b : Bool) → find.refuses_at (cond b (Slots (slots.opening l (find.span_at c.class x))) Lock) ≡ false
+  go true = refl
+  go false = refl
+begins-on l (Small c) None = refl
+begins-on l (Large pages noscan) (Some x) = refl
+begins-on l (Large pages noscan) None = refl
+
+-- nor does one that has freed the lock
+unlocked-on : (f : Finding) (q : FindStage) (found : ℕ) → frees_at q ≡ true → find.refuses_at (find.goes_at f q found).stage ≡ false
+unlocked-on f (Slots s) found e = absurd (cc)
+unlocked-on f Lock found e = absurd (cc)
+unlocked-on f (Give g) found e = absurd (cc)
+unlocked-on f (Pass p) found e = absurd (cc)
+unlocked-on f (Carve c) found e = absurd (cc)
+unlocked-on f (Unlock Again) found e = begins-on f.layout f.wanted f.cached
+unlocked-on f (Unlock (End out)) found e = refl
+unlocked-on f Ended found e = absurd (cc)
+
+taken-looks : (f : Finding) (w : Sought) (p : ℕ) → finding.looks (taken_for f w p).stage ≡ true
+taken-looks f (Small c) p = refl
+taken-looks f (Large pages noscan) p = refl
+
+spans-look : (f : Finding) (w : Sought) → finding.looks (spans_for f w) ≡ true
+spans-look f (Small c) = refl
+spans-look f (Large pages noscan) = refl
+
+-- one that looks for a span does so until it frees the lock
+looks-on : (f : Finding) (q : FindStage) (found : ℕ) → finding.looks q ≡ true → frees_at q ≡ false → finding.looks (find.goes_at f q found).stage ≡ true
+looks-on f (Slots s) found e u = absurd (cc)
+looks-on f Lock found e u = absurd (cc)
+looks-on f (Give g) found e u = absurd (cc)
+looks-on f (Pass p) found e u = go (pass.gives p found) where
+  go : (out : Option (Option ℕ)) → finding.looks (after_pass (at_stage f (Pass (pass.goes p found))) out).stage ≡ true
+  go None = refl
+  go (Some None) = refl
+  go (Some (Some n)) = taken-looks (at_stage f (Pass (pass.goes p found))) f.wanted n
+looks-on f (Carve c) found e u = go (carve.gives c found) where
+  go : (out : Option (Option ℕ)) → finding.looks (after_carve (at_stage f (Carve (carve.goes c found))) out).stage ≡ true
+  go None = refl
+  go (Some None) = refl
+  go (Some (Some n)) = taken-looks (at_stage f (Carve (carve.goes c found))) f.wanted n
+looks-on f (Unlock after) found e u = absurd (cc)
+looks-on f Ended found e u = absurd (cc)
+
+looks-locked : (q : FindStage) → finding.looks q ≡ true → finding.is_locked q ≡ true
+looks-locked (Slots s) e = absurd (cc)
+looks-locked Lock e = absurd (cc)
+looks-locked (Give g) e = refl
+looks-locked (Pass p) e = refl
+looks-locked (Carve c) e = refl
+looks-locked (Unlock after) e = refl
+looks-locked Ended e = absurd (cc)
+
+opens : Known → Opens
+opens k z a v rest q seeks caches apart right e =
+    let x = k.find.opens z a v rest q.find seeks caches apart right (ap (λ (p : Seeking). p.find) e) in
+    let on : find.refuses q.find ≡ false = ap (λ (p : Seeking). find.refuses p.find) e ∙ begins-on q.find.layout q.find.wanted q.find.cached in
+    subst (λ (p : SearchStage). Has a v rest (record { find = q.find; stage = p }) × FactsAt z a v rest q.find p) (sym (ap (λ (p : Seeking). p.stage) e)) (x.0, record { facts = x.1; on = on })
+
+-- What is known lasts.
+
+stage-lasts : Known → (z : Arena) (a : ℕ) (v w : View) (rest : ℕ → Bool) (f : Finding) (p : SearchStage) → Good z v → Others z a v w → Has a v rest (record { find = f; stage = p }) → FactsAt z a v rest f p → FactsAt z a w rest f p
+stage-lasts k z a v w rest f First g o right x = record { facts = k.find.lasts z a v w rest f g o right.locked x.facts; on = x.on }
+stage-lasts k z a v w rest f (Free r) g o right x = record { seeks = seeks-last z a v w f o x.seeks; cached = x.cached; is = x.is; facts = k.free.lasts z a v w rest r g o right x.facts }
+stage-lasts k z a v w rest f Second g o right x = record { facts = k.find.lasts z a v w rest f g o right.locked x.facts; looks = x.looks; tidy = (k.last z a v w o).tidy_before z.layout.pages (right.locked ∙ looks-locked f.stage x.looks) x.tidy }
+
+lasts : Known → Lasts
+lasts k z a v w rest q g o right x = stage-lasts k z a v w rest q.find q.stage g o right x
+
+-- Where it finds none.
+
+module _ (z : Arena) (v : View) (tidy : TidyBefore v.page v.alloc z.layout.pages) where
+  -- no span without an owner is vacant
+  used : (p : ℕ) (h : SpanHead) → IsSpan z.layout.pages v.page p h → h.owner ≡ 0 → ¬ IsVacant v.alloc p h
+  used p h span none vacant = let x = tidy p h (omega (arith, span.within, span.fits.some)) span.head none in omega (arith, x.2, vacant x.0 x.1)
+
+  no-room : (f : Finding) → finding.FindsNone z v f → FindsNone z v f
+  no-room f x = record { none = x; tidy = tidy; run = λ first le. let d = x.no_run first le in (d.0, d.1, record { taken = d.2; used = λ p h span low high none. used p h span none }) }
+
+refuses-at : Known → (z : Arena) (a : ℕ) (v : View) (rest : ℕ → Bool) (f : Finding) (p : SearchStage) → FactsAt z a v rest f p → refuses (record { find = f; stage = p }) ≡ true → Refuses z v (record { find = f; stage = p })
+refuses-at k z a v rest f First x e = absurd (cc (e, x.on))
+refuses-at k z a v rest f (Free r) x e = absurd (cc)
+refuses-at k z a v rest f Second x e = let no = k.find.none z a v rest f x.facts e in record { none = no-room z v x.tidy f no.none; stage = refl; unlocks = no.stage }
+
+finds-none : Known → NoneIsTrue
+finds-none k z a v rest q x e = refuses-at k z a v rest q.find q.stage x e
+
+-- The own steps.
+
+module _ (k : Known) (z : Arena) (a : ℕ) (s : Shared) (rest : ℕ → Bool) where
+  abbrev now : View
+  now = view s
+
+  abbrev Kept : Shared → Type 0
+  Kept t = (view t).generation ≡ now.generation
+
+  abbrev Step : Finding → SearchStage → Type 0
+  Step f p = Steps z a s (asks_at f p) (λ t. KeepsObjects now (view t) × Comes z a (view t) rest (gives_at f p (s.words (cell_of (asks_at f p)))) (goes_at f p (s.words (cell_of (asks_at f p)))))
+
+  -- nothing is cached, and nothing is held for the search
+  none-held : (w : View) (f : Finding) → f.cached ≡ None → f.stage ≡ Unlock (End NoRoom) → Right a w (finding.is_locked f.stage) (finding.held f rest) (finding.laying f.stage) → Right a w true rest None
+  none-held w f cached stage right = subst (λ (c : Option CachedSpan). Right a w true (finding.with_span (finding.head_of c) rest) None) cached
+      (subst (λ (q : FindStage). Right a w (finding.is_locked q) (finding.with_span (finding.own q) (finding.with_span (finding.head_of f.cached) rest)) (finding.laying q)) stage right)
+
+  first-then : (t : Shared) (f : Finding) (out : Option Found) → finding.Comes z a (view t) rest out f → Comes z a (view t) rest out (record { find = f; stage = after_first f })
+  first-then t f None c = go (find.refuses f) refl where
+    go : (b : Bool) → find.refuses f ≡ b → Comes z a (view t) rest None (record { find = f; stage = cond b (Free (begin_freeing f)) First })
+    go false e = (c.0, record { facts = c.1; on = e })
+    go true e =
+        let no = k.find.none z a (view t) rest f c.1 e in (
+          none-held (view t) f no.none.cached no.stage c.0,
+          record {
+            seeks = c.1.seeks;
+            cached = no.none.cached;
+            is = refl;
+            facts = k.free.opens z (view t) (begin_freeing f) (record { layout = c.1.seeks.layout; number = c.1.seeks.number }) refl;
+          },
+        )
+  first-then t f (Some (At x)) c = c
+  first-then t f (Some NoRoom) c = absurd c
+
+  first-own : (f : Finding) → Good z now → Has a now rest (record { find = f; stage = First }) → LooksFirst z a now rest f → Step f First
+  first-own f g right x =
+      let found : ℕ = s.words (cell_of (find.asks f)) in
+      let l = k.find.own_step z a s rest f g right x.facts x.on in
+      record { move = l.move; may = l.may; words_are = l.words_are; after = (l.after.0, first-then (moved z a s l.move) (find.goes f found) (find.gives f found) l.after.2) }
+
+  free-then : (t : Shared) (f : Finding) (r : Reclaiming) (out : Option (Unit {0})) → Good z (view t) → Kept t → finding.Seeks z a now f → f.cached ≡ None → r ≡ reclaim_at f r.stage → reclaiming.Comes z a now (view t) rest out r → Comes z a (view t) rest None (after_free f r out)
+  free-then t f r out g same seeks cached is c = go out c where
+    seeks-then : finding.Seeks z a (view t) f
+    seeks-then = record { layout = seeks.layout; seat = seeks.seat; few = seeks.few; number = seeks.number ∙ sym same; wanted = seeks.wanted }
+
+    go : (out : Option (Unit {0})) → reclaiming.Comes z a now (view t) rest out r → Comes z a (view t) rest None (after_free f r out)
+    go None c = (c.1, record { seeks = seeks-then; cached = cached; is = is; facts = c.2 })
+    go (Some u) c = let x = k.find.again z a t rest f g seeks-then cached c.1 in (x.0, record { facts = x.1; looks = spans-look f f.wanted; tidy = c.2 })
+
+  free-own : (f : Finding) (r : Reclaiming) → Good z now → Has a now rest (record { find = f; stage = Free r }) → Frees z a now f r → Step f (Free r)
+  free-own f r g right x =
+      let found : ℕ = s.words (cell_of (reclaim.asks r)) in
+      let l = k.free.own_step z a s rest r g right x.facts in
+      record {
+        move = l.move;
+        may = l.may;
+        words_are = l.words_are;
+        after = (l.after.0, free-then (moved z a s l.move) f (reclaim.goes r found) (reclaim.gives r found) (k.keep z a s l.move g l.may) (k.own z a s l.move g l.may).generation x.seeks x.cached (ap (λ (y : Reclaiming). reclaim.at_stage y (reclaim.goes r found).stage) x.is) l.after.1);
+      }
+
+  second-then : (t : Shared) (f : Finding) (found : ℕ) (out : Option Found) → finding.looks f.stage ≡ true → TidyBefore (view t).page (view t).alloc z.layout.pages → finding.Comes z a (view t) rest out (find.goes f found) →
+      Comes z a (view t) rest out (record { find = find.goes f found; stage = cond (frees_at f.stage) First Second })
+  second-then t f found None looks tidy c = go (frees_at f.stage) refl where
+    go : (b : Bool) → frees_at f.stage ≡ b → Comes z a (view t) rest None (record { find = find.goes f found; stage = cond b First Second })
+    go true e = (c.0, record { facts = c.1; on = unlocked-on f f.stage found e })
+    go false e = (c.0, record { facts = c.1; looks = looks-on f f.stage found looks e; tidy = tidy })
+  second-then t f found (Some (At x)) looks tidy c = c
+  second-then t f found (Some NoRoom) looks tidy c = absurd c
+
+  second-own : (f : Finding) → Good z now → Has a now rest (record { find = f; stage = Second }) → LooksAgain z a now rest f → find.refuses f ≡ false → Step f Second
+  second-own f g right x on =
+      let found : ℕ = s.words (cell_of (find.asks f)) in
+      let l = k.find.own_step z a s rest f g right x.facts on in
+      record {
+        move = l.move;
+        may = l.may;
+        words_are = l.words_are;
+        after = (l.after.0, second-then (moved z a s l.move) f found (find.gives f found) x.looks (k.walks.tidy now (view (moved z a s l.move)) z.layout.pages (l.after.1 x.looks) x.tidy) l.after.2);
+      }
+
+  own-at : (f : Finding) (p : SearchStage) → Good z now → Has a now rest (record { find = f; stage = p }) → FactsAt z a now rest f p → refuses (record { find = f; stage = p }) ≡ false → Step f p
+  own-at f First g right x on = first-own f g right x
+  own-at f (Free r) g right x on = free-own f r g right x
+  own-at f Second g right x on = second-own f g right x on
+
+own : Known → OwnStep
+own k z a s rest q g right x on = own-at k z a s rest q.find q.stage g right x on
+
+-- Its words.
+
+within-at : Known → (z : Arena) (a : ℕ) (v : View) (rest : ℕ → Bool) (f : Finding) (p : SearchStage) → Good z v → FactsAt z a v rest f p → InRange z.layout (cell_of (asks_at f p))
+within-at k z a v rest f First g x = k.find.within z a v rest f g x.facts
+within-at k z a v rest f (Free r) g x = k.free.within z v r g x.facts
+within-at k z a v rest f Second g x = k.find.within z a v rest f g x.facts
+
+within : Known → Within
+within k z a v rest q g x = within-at k z a v rest q.find q.stage g x
+
+pub seeks_by_its_rights : Known → SeeksByItsRights
+seeks_by_its_rights k = record { opens = opens k; own_step = own k; within = within k; none = finds-none k; lasts = lasts k }

@@ -1,0 +1,107 @@
+-- What is known at each stage of the freeing of empty spans while any number of processors change the heap, under which rights, and the laws: what each step of its own is, that it is on a word that there is, that what is known lasts whatever others do, and that in each span that nobody owns an object stands when it ends.
+use Rattle.std.specs.Prelude.{◌≡◌, ℕ, ◌+◌, ◌*◌, ◌<◌, ◌≤◌, Bool, true, Option, Some, None}
+use Rattle.gh_base.specs.declared.pack.PageWord.TheVariants as page
+use Rattle.gh_base.specs.declared.pack.SpanHead.{SpanHead}
+use Rattle.gh_base.specs.Cells.{InRange}
+use Rattle.gh_base.specs.Packing.{page_of}
+use Rattle.gh_base.specs.Rows.{Row, row_bit}
+use Rattle.gh_base.specs.Steps.{cell_of}
+use Rattle.gh_heap.specs.Moves.{KeepsObjects, Leaves, Others, Steps, freed_yet}
+use Rattle.gh_heap.specs.Rights.{Arena, Good, Right, Rights, Shared, TidyBefore, View, view}
+use Rattle.gh_heap.specs.Spans.{BeingFreed, Freeing, IsEmpty}
+use Rattle.gh_central.specs.declared.reclaim.ReclaimStage.{ReclaimStage}
+use Rattle.gh_central.specs.declared.reclaim.ReclaimStage.TheVariants.{Look, Bits, Body, Head, Ended}
+use Rattle.gh_central.specs.Reclaim.{Reclaiming, asks, gives, goes}
+
+-- The right that a stage stands for, beside the lock.
+
+-- a span whose further pages below this distance are free
+abbrev pub freed_to : (page count distance : ℕ) → Freeing
+freed_to page count distance = record { first = page; pages = count; next = distance }
+
+abbrev pub freeing_at : ReclaimStage → Option Freeing
+freeing_at (Body page pages distance) = freed_yet (freed_to page pages distance)
+freeing_at (Head page pages) = freed_yet (freed_to page pages pages)
+freeing_at _ = None
+
+abbrev pub freeing : Reclaiming → Option Freeing
+freeing m = freeing_at m.stage
+
+-- The facts.
+
+-- the routine is run in this arena, in its sweep generation
+pub record Reclaims (z : Arena) (v : View) (m : Reclaiming) : Type 0 where
+  pub layout : m.layout ≡ z.layout
+  pub number : m.generation ≡ v.generation
+
+pub record LooksAt (z : Arena) (v : View) (p : ℕ) : Type 0 where
+  pub there : p < z.layout.pages
+  pub tidy : TidyBefore v.page v.alloc p
+
+-- a span of so many pages that nobody owns begins at page p
+pub record IsIdle (page_words : Row) (p count : ℕ) : Type 0 where
+  pub h : SpanHead
+  pub head : page_of (page_words p) ≡ page.Head h
+  pub owner : h.owner ≡ 0
+  pub size : h.pages ≡ count
+
+-- no object stands in the span before alloc word i of it
+abbrev pub ClearBelow : (alloc : Row) → (p i : ℕ) → Type 0
+ClearBelow alloc p i = (x : ℕ) → 1024 * p ≤ x → x < 1024 * p + 64 * i → row_bit alloc x ≡ 0
+
+pub record LooksInto (v : View) (p count i : ℕ) : Type 0 where
+  pub idle : IsIdle v.page p count
+  pub tidy : TidyBefore v.page v.alloc p
+  pub within : i < 16 * count
+  pub clear : ClearBelow v.alloc p i
+
+-- a span that nobody owns begins at page p, and no object stands in it
+pub record IsReady (v : View) (p count : ℕ) : Type 0 where
+  pub being : BeingFreed v.page (freed_to p count 1)
+  pub empty : IsEmpty v.alloc p count
+
+-- The page at this distance is freed next. Once a further page is free, the right says what stands.
+pub record FreesFrom (z : Arena) (v : View) (p count distance : ℕ) : Type 0 where
+  pub tidy : TidyBefore v.page v.alloc p
+  pub there : p + count ≤ z.layout.pages
+  pub some : 0 < distance
+  pub few : distance ≤ count
+  pub vacant : distance ≡ 1 → IsReady v p count
+
+abbrev pub FactsAt : Arena → View → ReclaimStage → Type 0
+FactsAt z v (Look p) = LooksAt z v p
+FactsAt z v (Bits p count i) = LooksInto v p count i
+FactsAt z v (Body p count distance) = FreesFrom z v p count distance × (distance < count)
+FactsAt z v (Head p count) = FreesFrom z v p count count
+FactsAt z v Ended = ⊥
+
+pub record Facts (z : Arena) (v : View) (m : Reclaiming) : Type 0 where
+  pub whose : Reclaims z v m
+  pub stage : FactsAt z v m.stage
+
+-- What a step from v comes to in w, where the seat holds those spans: what it leaves to who runs the routine; the right that its seat has then; and the facts of the next stage, or that in each span which nobody owns an object stands.
+abbrev pub Comes : Arena → (a : ℕ) → (v w : View) → (ℕ → Bool) → Option (Unit {0}) → Reclaiming → Type 0
+Comes z a v w held None m = Leaves v w × Rights a w true held None (freeing m) × Facts z w m
+Comes z a v w held (Some _) m = Leaves v w × Right a w true held None × TidyBefore w.page w.alloc z.layout.pages
+
+abbrev pub Opens : Type 0
+Opens = (z : Arena) (v : View) (m : Reclaiming) → Reclaims z v m → m.stage ≡ Look 0 → Facts z v m
+
+-- a step of its own
+abbrev pub OwnStep : Type 0
+OwnStep = (z : Arena) (a : ℕ) (s : Shared) (held : ℕ → Bool) (m : Reclaiming) → Good z (view s) → Rights a (view s) true held None (freeing m) → Facts z (view s) m →
+    Steps z a s (asks m) (λ t. KeepsObjects (view s) (view t) × Comes z a (view s) (view t) held (gives m (s.words (cell_of (asks m)))) (goes m (s.words (cell_of (asks m)))))
+
+-- it is on a word that there is
+abbrev pub Within : Type 0
+Within = (z : Arena) (v : View) (m : Reclaiming) → Good z v → Facts z v m → InRange z.layout (cell_of (asks m))
+
+-- the steps of others
+abbrev pub Lasts : Type 0
+Lasts = (z : Arena) (a : ℕ) (v w : View) (held : ℕ → Bool) (m : Reclaiming) → Good z v → Others z a v w → Rights a v true held None (freeing m) → Facts z v m → Facts z w m
+
+pub record ReclaimsByItsRights : Type 0 where
+  pub opens : Opens
+  pub own_step : OwnStep
+  pub within : Within
+  pub lasts : Lasts
