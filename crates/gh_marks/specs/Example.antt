@@ -31,7 +31,7 @@ abbrev pub least : InLimits 16 1 1 1 1 → Layout
 least limits = record { pages = 16; globals = 1; procs = 1; workers = 1; goroutines = 1; limits = limits }
 
 abbrev pub cycle : InLimits 16 1 1 1 1 → 1 < 2 ^ 48 → Cycle
-cycle limits few = record { arena = record { layout = least limits; shapes = []; seat_of = λ g. 0 }; number = 1; few = few }
+cycle limits few = record { arena = record { layout = least limits; shapes = []; seat_of = λ g. 0; full_only = false }; number = 1; few = few }
 
 abbrev pub words : Words
 words (cell.Global i) = if i == 0 then 1 else 0

@@ -78,7 +78,7 @@ pub freed_bits : (a m : ℕ) → a < 2 ^ 64 → m < 2 ^ 64 → freed_in a m ≡ 
 freed_bits a m l s =
     set_bits (bit_and a (2 ^ 64 - 1 - m)) (omega (arith, l, and_le_l a (2 ^ 64 - 1 - m))) ∙ sum_same _ _ 64 (λ j k. bit_at_and a (2 ^ 64 - 1 - m) j ∙ ap (λ (n : ℕ). min (bit_at a j) n) (bit_at_not w64 m j s k) ∙ first_alone_set (bit_at a j) (bit_at m j) (bit_at-lt a j) (bit_at-lt m j))
 
-sum_of_two : (f g : ℕ → ℕ) (n : ℕ) → sum_below f n + sum_below g n ≡ sum_below (λ q. f q + g q) n
+pub sum_of_two : (f g : ℕ → ℕ) (n : ℕ) → sum_below f n + sum_below g n ≡ sum_below (λ q. f q + g q) n
 sum_of_two f g zero = omega (arith, sum_none f, sum_none g, sum_none (λ q. f q + g q))
 sum_of_two f g (suc n) =
     let e : sum_below f n + sum_below g n ≡ sum_below (λ q. f q + g q) n = sum_of_two f g n in

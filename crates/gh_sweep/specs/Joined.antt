@@ -1,24 +1,29 @@
--- Allocation beside the sweep: what gh_heap says of whole spans is enough for what is said of spans here, and its moves that take, lay out, give back and fill spans are moves of others here.
+-- Allocation beside the sweep: what gh_heap says of whole spans is enough for what is said of spans here, and its moves that take, lay out, free, give back and fill spans are moves of others here.
 use Rattle.std.specs.Prelude.{◌≡◌, ℕ, ◌+◌, ◌*◌, ◌<◌}
+use Rattle.gh_base.specs.declared.pack.PageWord.TheVariants.{Head}
 use Rattle.gh_base.specs.declared.pack.SpanHead.{SpanHead}
 use Rattle.gh_base.specs.declared.value.Name.{Name}
 use Rattle.gh_base.specs.Cells.{seats_of, Words}
-use Rattle.gh_base.specs.Packing.{FitsHead}
-use Rattle.gh_base.specs.Rows.{page_words, Row}
+use Rattle.gh_base.specs.Packing.{FitsHead, page_of}
+use Rattle.gh_base.specs.Rows.{alloc_words, page_words, Row}
 use Rattle.gh_model.specs.declared.EverValue.{EverValue}
 use Rattle.gh_heap.specs.Moves as heap
 use Rattle.gh_heap.specs.Rights as rights
-use Rattle.gh_heap.specs.Rights.{Arena, SpansGood}
-use Rattle.gh_heap.specs.Spans.{LaidOut, Laying}
-use Rattle.gh_sweep.specs.Moves.{May, MayLay, Move, moved}
+use Rattle.gh_heap.specs.Rights.{Arena}
+use Rattle.gh_heap.specs.Spans.{Freeing, IsSpan, LaidOut, Laying}
+use Rattle.gh_sweep.specs.Moves.{IsEmpty, May, MayLay, Move, moved}
 use Rattle.gh_sweep.specs.Runs.{IsOfOthers}
 use Rattle.gh_sweep.specs.Shared.{ApartGood, CycleEnd, generation_of, Good, Shared, view}
 
+-- each head is that of a whole span: so it is while nobody frees the pages of one
+abbrev pub AreWhole : (pages : ℕ) → (page : Row) → Type 0
+AreWhole pages page = (p : ℕ) (h : SpanHead) → page_of (page p) ≡ Head h → IsSpan pages page p h
+
 pub record SpansFit : Type 0 where
   -- whole spans have no page in common
-  pub apart : (pages : ℕ) (page : Row) → SpansGood pages page → ApartGood page
+  pub apart : (pages : ℕ) (page : Row) → AreWhole pages page → ApartGood page
   -- the head of a span that is laid out may be laid
-  pub laid : (e : CycleEnd) (page : Row) (y : Laying) → SpansGood e.layout.pages page → LaidOut e.layout.pages page y → y.next ≡ y.head.pages → FitsHead y.head → y.head.number ≡ generation_of e → MayLay e page y.first y.head
+  pub laid : (e : CycleEnd) (page : Row) (y : Laying) → AreWhole e.layout.pages page → LaidOut e.layout.pages page y → y.next ≡ y.head.pages → FitsHead y.head → y.head.number ≡ generation_of e → MayLay e page y.first y.head
 
 -- a step that leaves these words is a move of others that the actor may make
 pub record IsMoveHere (e : CycleEnd) (a : ℕ) (s : Shared) (words : Words) : Type 0 where
@@ -43,7 +48,10 @@ pub record TakesPart (e : CycleEnd) (z : Arena) (a : ℕ) (s : Shared) (r : righ
   pub locks : IsMoveHere e a s (words_then z a s r heap.TakeLock)
   pub unlocks : IsMoveHere e a s (words_then z a s r heap.LeaveLock)
   pub body : (y : Laying) → MayBeside z a s r (heap.LayBody y) → IsMoveHere e a s (words_then z a s r (heap.LayBody y))
-  pub head : (y : Laying) → MayBeside z a s r (heap.LayHead y) → IsMoveHere e a s (words_then z a s r (heap.LayHead y))
+  -- who lays a head has the lock, and nobody frees pages without it
+  pub head : (y : Laying) → AreWhole e.layout.pages (page_words s.words) → MayBeside z a s r (heap.LayHead y) → IsMoveHere e a s (words_then z a s r (heap.LayHead y))
+  pub body_freed : (y : Freeing) → MayBeside z a s r (heap.FreeBody y) → IsMoveHere e a s (words_then z a s r (heap.FreeBody y))
+  pub head_freed : (y : Freeing) → (may : MayBeside z a s r (heap.FreeHead y)) → IsEmpty (alloc_words s.words) y.first may.0.being.h → IsMoveHere e a s (words_then z a s r (heap.FreeHead y))
   pub owned : (p : ℕ) (h : SpanHead) → h.number ≡ generation_of e → MayBeside z a s r (heap.Own p h) → IsMoveHere e a s (words_then z a s r (heap.Own p h))
   pub given : (p : ℕ) (h : SpanHead) → h.number ≡ generation_of e → MayBeside z a s r (heap.Disown p h) → IsMoveHere e a s (words_then z a s r (heap.Disown p h))
   pub published : (p : ℕ) (h : SpanHead) → h.number ≡ generation_of e → MayBeside z a s r (heap.Publish p h) → IsMoveHere e a s (words_then z a s r (heap.Publish p h))
@@ -55,4 +63,4 @@ pub record TakesPart (e : CycleEnd) (z : Arena) (a : ℕ) (s : Shared) (r : righ
   pub set : (k : ℕ) (value : EverValue) (word : ℕ) → IsMoveHere e a s (words_then z a s r (heap.WriteGlobal k value word))
 
 abbrev pub AllocationTakesPart : Type 0
-AllocationTakesPart = (e : CycleEnd) (z : Arena) (a : ℕ) (s : Shared) (r : rights.Shared) → z.layout.pages ≡ e.layout.pages → Good e (view s) → SpansGood e.layout.pages (page_words s.words) → TakesPart e z a s r
+AllocationTakesPart = (e : CycleEnd) (z : Arena) (a : ℕ) (s : Shared) (r : rights.Shared) → z.layout.pages ≡ e.layout.pages → Good e (view s) → TakesPart e z a s r

@@ -9,10 +9,10 @@ use Rattle.gh_base.specs.Rows.{alloc_words, page_words, Row, row_bit}
 use Rattle.gh_base.specs.Steps.{cell_of, effect}
 use Rattle.gh_heap.specs.Moves.{update}
 use Rattle.gh_sweep.specs.Bits.{sum_below}
-use Rattle.gh_sweep.specs.Counts.{marked_objects, unmarked_objects}
+use Rattle.gh_sweep.specs.Counts.{count_below, is_set, marked_objects, unmarked_objects}
 use Rattle.gh_sweep.specs.Listing.{asks, goes, is_busy, opening, Sweeping}
 use Rattle.gh_sweep.specs.Moves.{Counts, Frees, Lays, May, Move, moved, Passes, Places, Quiet, Turns}
-use Rattle.gh_sweep.specs.Shared.{alloc_at, bit_words_of, CycleEnd, Done, Due, Far, generation_of, Good, HasEnded, HeapGood, in_all, InsideGood, InSpan, live_at, LiveGood, marks_at, nothing, placed, Shared, SlotsGood, TallyGood, Unswept, view}
+use Rattle.gh_sweep.specs.Shared.{alloc_at, bit_words_of, CycleEnd, Done, Due, Far, freed_at, generation_of, Good, HasEnded, HeapGood, in_all, InsideGood, InSpan, kept_at, live_at, LiveGood, marks_at, nothing, placed, Shared, SlotsGood, TallyGood, Unswept, view}
 use Rattle.gh_sweep.specs.Sound.{reached}
 use Rattle.gh_sweep.specs.Sweepers.{Fine, IsAtRest, IsOwn, has_span, move_of, owes}
 use Rattle.gh_sweep.specs.Vocabulary.{SpanHead}
@@ -197,6 +197,12 @@ pub record CountsAreExact (e : CycleEnd) (w : World) : Type 0 where
   pub live : w.shared.words cell.Live ≡ in_all e (live_at e)
   pub heap : w.shared.words cell.Heap + sum_below w.shared.pend (seats_of e.layout) ≡ placed (alloc_words w.shared.words) w.shared.slot (bit_words_of e)
 
+-- the words of bits, where the cycle ended, as objects: how many were marked, how many were not, and that these are all
+pub record BitsAreObjects (e : CycleEnd) : Type 0 where
+  pub marked : in_all e (kept_at e) ≡ marked_objects (alloc_at e) (marks_at e) 0 e.layout.pages
+  pub freed : in_all e (freed_at e) ≡ unmarked_objects (alloc_at e) (marks_at e) 0 e.layout.pages
+  pub all : marked_objects (alloc_at e) (marks_at e) 0 e.layout.pages + unmarked_objects (alloc_at e) (marks_at e) 0 e.layout.pages ≡ count_below (is_set (alloc_at e)) (1024 * e.layout.pages)
+
 -- The laws.
 
 pub record HeadsSayWhoSweeps : Type 0 where
@@ -233,6 +239,7 @@ UnsweptStays = (e : CycleEnd) (ts : List Turn) (i : ℕ) → HasEnded e → Lega
 pub record EachCountIsExact : Type 0 where
   pub always : (e : CycleEnd) (ts : List Turn) → HasEnded e → Legal e ts → NothingIsLost e (after e ts)
   pub at_last : (e : CycleEnd) (ts : List Turn) → HasEnded e → Legal e ts → AllAreSwept e (after e ts) → CountsAreExact e (after e ts)
+  pub objects : (e : CycleEnd) → HasEnded e → BitsAreObjects e
 
 -- a page that is passed stays so
 abbrev pub PassedStays : Type 0

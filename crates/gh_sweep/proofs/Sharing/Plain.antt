@@ -10,15 +10,15 @@ use Rattle.gh_base.specs.Cells.{seats_of}
 use Rattle.gh_base.specs.Packing.{bit, page_of}
 use Rattle.gh_base.specs.Rows.{Row, row_bit, RowsAreWritten}
 use Rattle.gh_sweep.specs.Bits.{sum_below}
-use Rattle.gh_sweep.specs.Counts.{marked_objects, unmarked_objects}
+use Rattle.gh_sweep.specs.Counts.{is_set, marked_objects, unmarked_objects}
 use Rattle.gh_sweep.specs.Listing.{bit_words, in_sweep, Sweeping}
 use Rattle.gh_sweep.specs.Moves.{DoneStays, Sweeps}
-use Rattle.gh_sweep.specs.Runs.{after, AllAreSwept, Begins, CountsAreExact, EachCountIsExact, EveryListKeeps, found, HeadsSayWhoSweeps, Holds, IsAhead, IsBehind, IsInSweep, IsOf, IsPassed, IsPast, MayTurn, Moves, NothingIsLost, NothingMarkedIsFreed, OneSweeps, OnlySinceIsLeft, owes_now, PassedStays, RunsFine, Steps, SweepsAt, Turn, turned, UnsweptIsAsItWas, UnsweptStays, World}
+use Rattle.gh_sweep.specs.Runs.{after, AllAreSwept, Begins, BitsAreObjects, CountsAreExact, EachCountIsExact, EveryListKeeps, found, HeadsSayWhoSweeps, Holds, IsAhead, IsBehind, IsInSweep, IsOf, IsPassed, IsPast, MayTurn, Moves, NothingIsLost, NothingMarkedIsFreed, OneSweeps, OnlySinceIsLeft, owes_now, PassedStays, RunsFine, Steps, SweepsAt, Turn, turned, UnsweptIsAsItWas, UnsweptStays, World}
 use Rattle.gh_sweep.specs.Shared.{alloc_at, bit_words_of, By, CycleEnd, Done, Due, Far, freed_at, generation_of, HasEnded, in_all, InSpan, IsLeft, IsNumbered, kept_at, left, live_at, marks_at, nothing, owed, SaysFar, Shared, Unswept, view}
 use Rattle.gh_sweep.specs.Sound.{reached}
 use Rattle.gh_sweep.specs.Sweepers.{Fine, has_span, HasReached, marks_cleared, move_of, SweepsAmongOthers}
 use Rattle.gh_sweep.specs.Vocabulary.{AddHeap, AddLive, AddTally, Begin, ClearBits, ClearMarks, Ended, Finish, LoadMarks, SpanHead, SweepStage}
-use Rattle.gh_sweep.proofs.Bits.{freed_bits, kept_bits, sum_same}
+use Rattle.gh_sweep.proofs.Bits.{freed_bits, kept_bits, sum_of_two, sum_same}
 use Rattle.gh_sweep.proofs.Sharing.Pages.{by_done, far_done, far_unswept, numbered, numbered_done, same_by, same_head, swept_clear}
 use Rattle.gh_sweep.proofs.Sharing.Sums.{left_none, sum_zero}
 use Rattle.gh_sweep.proofs.Sweeping.Counts.{bit_is, by_words}
@@ -241,6 +241,16 @@ module _ (rows : RowsAreWritten) (e : CycleEnd) (ended : HasEnded e) where
   all_freed : in_all e (freed_at e) ≡ unmarked_objects (alloc_at e) (marks_at e) 0 e.layout.pages
   all_freed = by_bits (λ a m. bit (eqb a 1 && not (eqb m 1))) (freed_at e) (λ i. freed_bits (alloc_at e i) (marks_at e i) (ended.alloc_fits i) (ended.marks_fit i))
 
+  bits_are_objects : BitsAreObjects e
+  bits_are_objects = record { marked = all_marked; freed = all_freed; all = sum_of_two _ _ (1024 * e.layout.pages) ∙ sum_same _ _ (1024 * e.layout.pages) (λ k l. both k) } where
+    either : (a m : Bool) → bit (a && m) + bit (a && not m) ≡ bit a
+    either true true = refl
+    either true false = refl
+    either false m = refl
+
+    both : (k : ℕ) → bit (is_set (alloc_at e) (1024 * 0 + k) && is_set (marks_at e) (1024 * 0 + k)) + bit (is_set (alloc_at e) (1024 * 0 + k) && not (is_set (marks_at e) (1024 * 0 + k))) ≡ bit (is_set (alloc_at e) k)
+    both k = let at : 1024 * 0 + k ≡ k = omega arith in either (is_set (alloc_at e) (1024 * 0 + k)) (is_set (marks_at e) (1024 * 0 + k)) ∙ ap (λ (x : ℕ). bit (is_set (alloc_at e) x)) at
+
   counts_exact : (w : World) → Holds e w → AllAreSwept e w → CountsAreExact e w
   counts_exact w holds all = record {
     marked = omega (arith, holds.good.tallied.marked, none_owed e w holds all (λ d. d.kept) refl, none_left e w holds all (kept_at e), all_marked);
@@ -277,6 +287,7 @@ module _ (after_all : EveryListKeeps) where
   counts rows = record {
     always = λ e ts ended legal. nothing_lost e (after e ts) (after_all e ts ended legal);
     at_last = λ e ts ended legal all. counts_exact rows e ended (after e ts) (after_all e ts ended legal) all;
+    objects = λ e ended. bits_are_objects rows e ended;
   }
 
   pub passed_stays : DoneStays → SweepsAmongOthers → PassedStays

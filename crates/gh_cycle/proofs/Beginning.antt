@@ -1,0 +1,154 @@
+-- Where a cycle begins: the state of marking, made of what a script reaches.
+use Rattle.std.proofs.Common.{◌≡◌, ℕ, ◌+◌, ◌%◌, ◌<◌, Bool, true, false, cond, ltb, inl, refl, sym, ap, subst, arith, ◌∙◌}
+use Rattle.std.proofs.lemmas.Bool.{ltb-true, ltb-false}
+use Rattle.std.proofs.lemmas.Nat.Bits.{bit_at-zero}
+use Rattle.gh_base.specs.declared.cell.Cell.TheVariants as cell
+use Rattle.gh_base.specs.declared.pack.TheConstants.{END}
+use Rattle.gh_base.specs.Rows.{alloc_words, mark_words, row_bit}
+use Rattle.gh_model.specs.declared.EverValue.TheVariants as ever
+use Rattle.gh_model.specs.Ever.{from_field, from_global, from_register}
+use Rattle.gh_heap.specs.Objects.{IsMade}
+use Rattle.gh_marks.specs.Colours.{Extents, Untouched, White}
+use Rattle.gh_marks.specs.Ends.{Opens}
+use Rattle.gh_cycle.specs.Marked.{OpenedRegistersFit}
+use Rattle.gh_cycle.specs.Opening.{CyclesOpen, OpenedHeapsAreAtRest, IsAtRest, IsCycleOf, IsOpened, reference_of, register_of}
+use Rattle.gh_cycle.specs.Reached.{Decided, IsBounded, IsReachedAt, PlacesAreDecided, TheReachedWereMade}
+use Rattle.gh_cycle.specs.Vocabulary.{Name, Words, EverValue, Reach, TheHeapIsApart, Holds, Place, points, shape_for, size_for, Arena, Good, view, Heap, Cycle, IsPointer, IsSince, Marking}
+
+-- no bit is set in a row of words that are 0
+no-bit : (o : ℕ) → row_bit (λ i. 0) o ≡ 0
+unfolding row_bit
+no-bit o = bit_at-zero (o % 64)
+
+pub opened-at-rest : OpenedHeapsAreAtRest
+opened-at-rest z trigger number h some same = record {
+  marks = λ o. ap (λ (w : Words). row_bit (mark_words w) o) same ∙ no-bit o;
+  buffers = λ b. ap (λ (w : Words). w (cell.Buffer b)) same;
+  cursor = ap (λ (w : Words). w cell.Gcur) same;
+  scanned = λ g. inl (subst (λ (n : ℕ). n < number) (sym (ap (λ (w : Words). w (cell.Scanned g)) same)) some);
+  over = λ g e. absurd (let zero = ap (λ (w : Words). w (cell.Scanned g)) same in omega (arith, zero, e));
+  none = λ i l. ap (λ (w : Words). w (cell.Global i)) same;
+}
+
+-- a word of the heap names what the value names
+pub names-it : (place : Place) (made : ℕ → ℕ) (v : EverValue) (word o : ℕ) → Holds place made true v word → word ≡ o + 1 → (n : Name) × (v ≡ ever.Ref n) × (place n ≡ o)
+names-it place made ever.Nil word o holds is = absurd (omega (arith, holds.1, is))
+names-it place made (ever.Int i) word o holds is = absurd (let e = holds.0 in cc)
+names-it place made (ever.Ref n) word o holds is = (n, refl, omega (arith, holds.1, is))
+
+names-reference : (place : Place) (v : EverValue) (o : ℕ) → reference_of place v ≡ o + 1 → (n : Name) × (v ≡ ever.Ref n) × (place n ≡ o)
+names-reference place ever.Nil o is = absurd (omega (arith, is))
+names-reference place (ever.Int i) o is = absurd (omega (arith, is))
+names-reference place (ever.Ref n) o is = (n, refl, omega (arith, is))
+
+module _ (z : Arena) (h : Heap) (g : Good z (view h)) (b : IsBounded z h.ever) (made : TheReachedWereMade) where
+  pub is-made : (n : Name) → Reach h.ever n → IsMade h.ever.made n
+  is-made = made z h.ever b
+
+  -- what a pointer field of an object of the cycle names is one, in any state of marking of this heap
+  pub fields-since : (s : Marking) → IsCycleOf z h s → (o k : ℕ) → s.since o ≡ true → IsPointer s.extents o k → IsSince s.since (h.words (cell.Field (o + k)))
+  fields-since s c o k known = let w = (c.since o).0 known in subst (λ (a : ℕ). IsPointer s.extents a k → IsSince s.since (h.words (cell.Field (a + k)))) w.2 (at w.0 w.1) where
+    at : (n : Name) → Reach h.ever n → IsPointer s.extents (h.place n) k → IsSince s.since (h.words (cell.Field (h.place n + k)))
+    at n r l x is =
+        let within : k < size_for z.shapes h.ever.type_of n = subst (λ (i : ℕ). k < i) (c.size n r) l.0 in
+        let pointer : points z.shapes h.ever.type_of n k ≡ true = sym (c.pointer n k r within) ∙ l.1 in
+        let holds = subst (λ (t : Bool). Holds h.place h.ever.made t (h.ever.field n k) (h.words (cell.Field (h.place n + k)))) pointer (g.fields n k (is-made n r) (g.reached n r) within) in
+        let m = names-it h.place h.ever.made (h.ever.field n k) (h.words (cell.Field (h.place n + k))) x holds is in
+        (c.since x).1 (m.0, from_field n k m.0 r m.1, m.2)
+
+  pub globals-since : (s : Marking) → IsCycleOf z h s → (i : ℕ) → i < z.layout.globals → IsSince s.since (h.words (cell.Global i))
+  globals-since s c i l x is =
+      let m = names-it h.place h.ever.made (h.ever.global i) (h.words (cell.Global i)) x (g.globals i l) is in
+      (c.since x).1 (m.0, from_global i m.0 m.1, m.2)
+
+  pub registers-since : (s : Marking) → IsCycleOf z h s → (j d : ℕ) → IsSince s.since (register_of h j d)
+  registers-since s c j d x = by (h.ever.ended j) refl where
+    by : (t : Bool) → h.ever.ended j ≡ t → cond t 0 (reference_of h.place (h.ever.register j d)) ≡ x + 1 → s.since x ≡ true
+    by true e is = absurd (omega (arith, is))
+    by false e is =
+        let m = names-reference h.place (h.ever.register j d) x is in
+        (c.since x).1 (m.0, from_register j d m.0 e m.1, m.2)
+
+module _ (z : Cycle) (h : Heap) (g : Good z.arena (view h)) (b : IsBounded z.arena h.ever) (rest : IsAtRest z.arena z.number h) (made : TheReachedWereMade) (apart : TheHeapIsApart) (d : Decided (IsReachedAt h)) where
+  no-name : Name
+  no-name = record { g = 0; k = 0 }
+
+  -- the name of the object of the cycle that is placed there
+  name-by : (o : ℕ) (t : Bool) → d.test o ≡ t → Name
+  name-by o true e = ((d.tells o).0 e).0
+  name-by o false e = no-name
+
+  abbrev name-at : ℕ → Name
+  name-at o = name-by o (d.test o) refl
+
+  name-is : (n : Name) → Reach h.ever n → name-at (h.place n) ≡ n
+  unfolding name-by
+  name-is n r = by (d.test (h.place n)) refl where
+    by : (t : Bool) (e : d.test (h.place n) ≡ t) → name-by (h.place n) t e ≡ n
+    by true e = let w = (d.tells (h.place n)).0 e in (apart z.arena (view h) g).once w.0 n (made z.arena h.ever b w.0 w.1) (made z.arena h.ever b n r) (g.reached w.0 w.1) (g.reached n r) w.2
+    by false e = let w = (d.tells (h.place n)).1 (n, r, refl) in absurd (cc)
+
+  abbrev extents : Extents
+  extents = record {
+    size = λ o. size_for z.arena.shapes h.ever.type_of (name-at o);
+    pointer = λ o k. points z.arena.shapes h.ever.type_of (name-at o) k;
+    noscan = λ o. (shape_for z.arena.shapes h.ever.type_of (name-at o)).noscan;
+  }
+
+  abbrev marking : Marking
+  marking = record {
+    words = h.words;
+    registers = register_of h;
+    colour = λ o. White;
+    filled = λ i. 0;
+    progress = λ i. Untouched;
+    passed = λ a. false;
+    since = d.test;
+    extents = extents;
+  }
+
+  of-heap : IsCycleOf z.arena h marking
+  of-heap = record {
+    words = refl;
+    since = d.tells;
+    size = λ n r. ap (λ (m : Name). size_for z.arena.shapes h.ever.type_of m) (name-is n r);
+    pointer = λ n k r l. ap (λ (m : Name). points z.arena.shapes h.ever.type_of m k) (name-is n r);
+    noscan = λ n r. ap (λ (m : Name). (shape_for z.arena.shapes h.ever.type_of m).noscan) (name-is n r);
+  }
+
+  -- all globals, those beyond the last one too
+  globals : (i : ℕ) → IsSince d.test (h.words (cell.Global i))
+  globals i x is = by (ltb i z.arena.layout.globals) refl where
+    by : (t : Bool) → ltb i z.arena.layout.globals ≡ t → d.test x ≡ true
+    by true e = globals-since z.arena h g b made marking of-heap i (ltb-true _ _ e) x is
+    by false e = absurd (omega (arith, rest.none i (ltb-false _ _ e), is))
+
+  ended : (j c : ℕ) → h.words (cell.Scanned j) ≡ END → register_of h j c ≡ 0
+  ended j c e = rw (rest.over j e) refl
+
+  opens : Opens z marking
+  opens = record {
+    marks = rest.marks;
+    white = λ o. refl;
+    buffers = rest.buffers;
+    filled = λ i. refl;
+    cursor = rest.cursor;
+    untouched = λ i. refl;
+    passed = λ a. refl;
+    scanned = rest.scanned;
+    over = ended;
+    placed = λ o known. let w = (d.tells o).0 known in subst (λ (a : ℕ). row_bit (alloc_words h.words) a ≡ 1) w.2 (g.reached w.0 w.1).set;
+    fields = fields-since z.arena h g b made marking of-heap;
+    globals = globals;
+    registers = registers-since z.arena h g b made marking of-heap;
+  }
+
+  opened : IsOpened z h
+  opened = record { marking = marking; of_heap = of-heap; registers = λ j c. refl; opens = opens }
+
+pub cycles-open : PlacesAreDecided → TheReachedWereMade → TheHeapIsApart → CyclesOpen
+cycles-open places made apart z h g b rest = opened z h g b rest made apart (places z.arena h b)
+
+-- registers as they are where a cycle begins
+pub registers-fit : OpenedRegistersFit
+registers-fit z h s are g d lg ld runs = are g d ∙ ap (λ (t : Bool). cond t 0 (reference_of h.place (h.ever.register g d))) runs

@@ -1,0 +1,12 @@
+pub mod Calm
+pub mod Counted
+pub mod Ended
+pub mod Exact
+pub mod Kept
+pub mod Left
+pub mod Packed
+pub mod Quiet
+pub mod Rows
+pub mod Slots
+pub mod Thinner
+pub mod Told

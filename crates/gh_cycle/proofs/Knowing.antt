@@ -1,0 +1,96 @@
+-- What the words of the heap say of an object: the page in which it begins, its size and whether its type is noscan.
+use Rattle.std.proofs.Common.{◌≡◌, ◌≢◌, ℕ, ◌+◌, ◌*◌, ◌/◌, ◌-◌, ◌<◌, ◌≤◌, ◌⊎◌, true, cond, inl, inr, refl, sym, ap, subst, arith, ◌∙◌}
+use Rattle.std.proofs.lemmas.Bool.Decides.{eqb_tells}
+use Rattle.gh_base.specs.declared.pack.PageWord.TheVariants as page
+use Rattle.gh_base.specs.declared.pack.SpanHead.{SpanHead}
+use Rattle.gh_base.specs.Packing.{bit, page_noscan, page_of, slot_for, slot_in}
+use Rattle.gh_base.specs.Rows.{Row, bitmap_words, page_words}
+use Rattle.gh_class.specs.declared.class.SizeClass.{SizeClass}
+use Rattle.gh_class.specs.declared.class.SizeClass.TheVariants as size
+use Rattle.gh_class.specs.Classes.{IsSizeClass, slot_of, slots_of}
+use Rattle.gh_heap.specs.Spans.{IsSlotOf, body_at, is_own_class, number_of}
+use Rattle.gh_marks.specs.Knows.{KnowsObject}
+use Rattle.gh_cycle.specs.Marked.{ObjectsAreKnown}
+use Rattle.gh_cycle.specs.Opening.{IsCycleOf}
+use Rattle.gh_cycle.specs.Reached.{IsBounded, TheReachedWereMade}
+use Rattle.gh_cycle.specs.Vocabulary.{Name, Words, Reach, TheHeapIsApart, size_for, Arena, Good, view, Heap, Marking}
+
+-- of the smallest slot, 8 bytes
+abbrev LeastSlot : Type 0
+LeastSlot = (c : ℕ) → c < 25 → 8 ≤ slot_of c
+
+slot-of-class : (c : SizeClass) (k : ℕ) → slot_for c k ≡ cond (is_own_class c) (1024 * k) (slot_of (number_of c) / 8)
+slot-of-class (size.Small c) k = refl
+slot-of-class size.Large k = refl
+
+slot-of-small : (c : SizeClass) (k : ℕ) → c ≢ size.Large → slot_for c 1 ≡ cond (is_own_class c) (1024 * k) (slot_of (number_of c) / 8)
+slot-of-small (size.Small c) k ne = refl
+slot-of-small size.Large k ne = absurd (ne refl)
+
+some-slot : LeastSlot → (c : SizeClass) (k : ℕ) → IsSizeClass c → 1 ≤ k → 1 ≤ cond (is_own_class c) (1024 * k) (slot_of (number_of c) / 8)
+some-slot least (size.Small c) k below some = let l = least c below in omega (arith, l)
+some-slot least size.Large k below some = omega (arith, some)
+
+-- the page in which a slot begins is the span's first, or a further one, and then its objects are not large
+module _ (pages : ℕ) (row : Row) (p : ℕ) (h : SpanHead) (i a n : ℕ) (o : IsSlotOf pages row p h i a n) (low : 1024 * p ≤ a) (high : a < 1024 * (p + h.pages)) where
+  abbrev IsFurther : Type 0
+  IsFurther = (d : ℕ) × (h.class ≢ size.Large) × (page_of (row (a / 1024)) ≡ page.Body (body_at h d))
+
+  large-first : h.class ≡ size.Large → a / 1024 ≡ p
+  large-first large =
+      let few : i < 1 = subst (λ (c : SizeClass). i < cond (is_own_class c) 1 (slots_of (number_of c))) large o.inside in
+      let first : i ≡ 0 = omega (arith, few) in
+      let at : a ≡ 1024 * p + 0 * n = o.at ∙ ap (λ (j : ℕ). 1024 * p + j * n) first in
+      omega (arith, at)
+
+  page-read : (page_of (row (a / 1024)) ≡ page.Head h) ⊎ IsFurther
+  page-read = elim (eqb_tells (a / 1024) p) [
+    | inl y ↦ inl (ap (λ (q : ℕ). page_of (row q)) y.1 ∙ o.span.head)
+    | inr x ↦
+        let above : p ≤ a / 1024 = omega (arith, low) in
+        let below : a / 1024 < p + h.pages = omega (arith, high) in
+        let further : 0 < a / 1024 - p = omega (arith, above, x.1) in
+        let at : a / 1024 ≡ p + (a / 1024 - p) = omega (arith, above) in
+        inr (a / 1024 - p, (λ large. x.1 (large-first large)), ap (λ (q : ℕ). page_of (row q)) at ∙ o.span.body (a / 1024 - p) further (omega (arith, above, below)))
+  ]
+
+  slot-read : slot_in (page_of (row (a / 1024))) ≡ n
+  slot-read = elim page-read [
+    | inl head ↦ ap slot_in head ∙ slot-of-class h.class h.pages ∙ sym o.size_is
+    | inr w ↦ ap slot_in w.2 ∙ slot-of-small h.class h.pages w.1 ∙ sym o.size_is
+  ]
+
+  noscan-read : page_noscan (page_of (row (a / 1024))) ≡ h.noscan
+  noscan-read = elim page-read [ inl head ↦ ap page_noscan head | inr w ↦ ap page_noscan w.2 ]
+
+module _ (least : LeastSlot) (apart : TheHeapIsApart) (made : TheReachedWereMade) where
+  module _ (z : Arena) (h : Heap) (s : Marking) (g : Good z (view h)) (b : IsBounded z h.ever) (c : IsCycleOf z h s) where
+    abbrev Known : (o : ℕ) → Type 0
+    Known o = KnowsObject z.layout.pages (page_words h.words) (bitmap_words h.words) s.extents o
+
+    known-at : (n : Name) → Reach h.ever n → Known (h.place n)
+    known-at n r =
+        let was-made = made z h.ever b n r in
+        let x = g.slots n was-made (g.reached n r) in
+        let sized = c.size n r in
+        let some : 1 ≤ size_for z.shapes h.ever.type_of n = subst (λ (w : ℕ). 1 ≤ w) (sym x.slot.size_is) (some-slot least x.h.class x.h.pages x.slot.span.fits.class x.slot.span.fits.some) in
+        let inside = λ (k : ℕ). (apart z (view h) g).inside x.p x.i (h.place n) (size_for z.shapes h.ever.type_of n) k x.h x.slot in
+        let first = inside 0 (omega (arith, some)) in
+        let last = inside (size_for z.shapes h.ever.type_of n - 1) (omega (arith, some)) in
+        let low : 1024 * x.p ≤ h.place n = omega (arith, first.0) in
+        let high : h.place n < 1024 * (x.p + x.h.pages) = omega (arith, first.1) in
+        record {
+          within = omega (arith, sized, some, last.1, x.slot.span.within);
+          some = omega (arith, sized, some);
+          size_is = slot-read z.layout.pages (page_words h.words) x.p x.h x.i (h.place n) (size_for z.shapes h.ever.type_of n) x.slot low high ∙ sym sized;
+          noscan_is = noscan-read z.layout.pages (page_words h.words) x.p x.h x.i (h.place n) (size_for z.shapes h.ever.type_of n) x.slot low high ∙ x.noscan ∙ sym (c.noscan n r);
+          pointers_are = λ k l.
+              let within : k < size_for z.shapes h.ever.type_of n = subst (λ (w : ℕ). k < w) sized l in
+              g.pointers n k was-made (g.reached n r) within ∙ ap bit (sym (c.pointer n k r within));
+        }
+
+    known : (o : ℕ) → s.since o ≡ true → Known o
+    known o since = let w = (c.since o).0 since in subst Known w.2 (known-at w.0 w.1)
+
+  pub objects-known : ObjectsAreKnown
+  objects-known z h s g b c o since = subst (λ (w : Words). KnowsObject z.arena.layout.pages (page_words w) (bitmap_words w) s.extents o) (sym c.words) (known z.arena h s g b c o since)

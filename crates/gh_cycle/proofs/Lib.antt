@@ -1,0 +1,7 @@
+mod Beginning
+mod Bounding
+pub mod Endings
+mod Knowing
+mod Marked
+mod Reaching
+mod Searching

@@ -1,0 +1,109 @@
+-- While a cycle is marked: what lasts, and what is marked at the end.
+use Rattle.std.proofs.Common.{◌≡◌, ◌≢◌, ℕ, ◌+◌, ◌/◌, ◌%◌, ◌<◌, Bool, true, false, eqb, ltb, List, [], length, inl, inr, refl, sym, ap, subst, arith, ◌∙◌}
+use Rattle.std.specs.Int.{bit_at}
+use Rattle.std.proofs.lemmas.Bool.{cases_Bool, ltb-true, ltb-false}
+use Rattle.std.proofs.lemmas.List.{get_or_past}
+use Rattle.std.proofs.lemmas.Nat.Bits.{bit_at-zero}
+use Rattle.gh_base.specs.declared.cell.Cell.TheVariants as cell
+use Rattle.gh_base.specs.declared.shape.Shape.{Shape}
+use Rattle.gh_base.specs.Shapes.{FitsShape, ShapesFit, is_pointer, no_shape, shape_at}
+use Rattle.gh_model.specs.declared.EverValue.TheVariants as ever
+use Rattle.gh_model.specs.Ever.{from_field, from_global, from_register}
+use Rattle.gh_marks.specs.Colours.{Black, Buffered, Colour, IsShaded, Pending, Placing, Taken, White, mark_of}
+use Rattle.gh_marks.specs.Ends.{Reached}
+use Rattle.gh_marks.specs.Ends.{from_field as path_field, from_global as path_global, from_register as path_register}
+use Rattle.gh_marks.specs.Moves.{SameExtent}
+use Rattle.gh_cycle.specs.Marked.{OnlyWordsChange, RegistersFit, TheCycleLasts, TheMarkedAreReached, TheReachedAreMarked}
+use Rattle.gh_cycle.specs.Opening.{IsCycleOf, reference_of}
+use Rattle.gh_cycle.specs.Reached.{IsBounded, TheReachedWereMade}
+use Rattle.gh_cycle.specs.Vocabulary.{Name, Words, EverValue, Ever, Reach, Holds, Place, points, shape_for, size_for, Arena, Good, view, Heap, Cycle, IsPointer, Marking}
+
+module _ (z : Arena) (h k : Heap) (s t : Marking) (c : IsCycleOf z h s) (o : OnlyWordsChange h k s t) where
+  place-is : (n : Name) → k.place n ≡ h.place n
+  place-is n = ap (λ (p : Place). p n) o.place
+
+  was : (n : Name) → Reach k.ever n → Reach h.ever n
+  was n r = subst (λ (e : Ever). Reach e n) o.ever r
+
+  types-are : k.ever.type_of ≡ h.ever.type_of
+  types-are = ap (λ (e : Ever). e.type_of) o.ever
+
+  same : (n : Name) → Reach k.ever n → SameExtent s.extents t.extents (h.place n)
+  same n r = o.extents (h.place n) ((c.since (h.place n)).1 (n, was n r, refl))
+
+  lasts : IsCycleOf z k t
+  lasts = record {
+    words = o.words;
+    since = λ x. (
+      (λ known. let w = (c.since x).0 (sym (o.since x) ∙ known) in (w.0, subst (λ (e : Ever). Reach e w.0) (sym o.ever) w.1, place-is w.0 ∙ w.2)),
+      (λ w. o.since x ∙ (c.since x).1 (w.0, was w.0 w.1, sym (place-is w.0) ∙ w.2)),
+    );
+    size = λ n r. ap (λ (x : ℕ). t.extents.size x) (place-is n) ∙ (same n r).size ∙ c.size n (was n r) ∙ ap (λ (f : Name → ℕ). size_for z.shapes f n) (sym types-are);
+    pointer = λ n j r l. ap (λ (x : ℕ). t.extents.pointer x j) (place-is n) ∙ ap (λ (f : ℕ → Bool). f j) (same n r).pointer
+        ∙ c.pointer n j (was n r) (subst (λ (f : Name → ℕ). j < size_for z.shapes f n) types-are l) ∙ ap (λ (f : Name → ℕ). points z.shapes f n j) (sym types-are);
+    noscan = λ n r. ap (λ (x : ℕ). t.extents.noscan x) (place-is n) ∙ (same n r).noscan ∙ c.noscan n (was n r) ∙ ap (λ (f : Name → ℕ). (shape_for z.shapes f n).noscan) (sym types-are);
+  }
+
+pub cycle-lasts : TheCycleLasts
+cycle-lasts z h k s t c o = lasts z h k s t c o
+
+-- a bit of no word is not set
+no-bit : (i w : ℕ) → w ≡ 0 → eqb (bit_at w i) 1 ≡ false
+no-bit i w is = rw is (ap (λ (n : ℕ). eqb n 1) (bit_at-zero i))
+
+-- a type with a pointer field is not noscan
+pointing-scans : (shapes : List Shape) → ShapesFit shapes → (t k : ℕ) → is_pointer (shape_at shapes t) k ≡ true → (shape_at shapes t).noscan ≡ false
+pointing-scans shapes fit t k pointer = by (ltb t (length shapes)) refl where
+  none : is_pointer no_shape k ≡ true → ⊥
+  none e = let no = no-bit (k % 64) _ (get_or_past [] (k / 64) 0 (omega arith)) in absurd (cc)
+
+  scans : (shape : Shape) → FitsShape shape → is_pointer shape k ≡ true → shape.noscan ≡ false
+  scans shape fits e = elim (cases_Bool shape.noscan) [
+    | inl t ↦ let no = (fits.noscan).0 t k in absurd (cc)
+    | inr f ↦ f
+  ]
+
+  by : (b : Bool) → ltb t (length shapes) ≡ b → (shape_at shapes t).noscan ≡ false
+  by true l = scans (shape_at shapes t) (fit t (ltb-true _ _ l)) pointer
+  by false l = absurd (none (subst (λ (shape : Shape). is_pointer shape k ≡ true) (get_or_past shapes t no_shape (ltb-false _ _ l)) pointer))
+
+-- At the end.
+
+-- a word that holds a reference
+holds-name : (place : Place) (made : ℕ → ℕ) (p : Bool) (v : EverValue) (n : Name) (word : ℕ) → v ≡ ever.Ref n → Holds place made p v word → (p ≡ true) × (word ≡ place n + 1)
+holds-name place made p v n word is holds = let w = subst (λ (x : EverValue). Holds place made p x word) is holds in (w.0, w.1)
+
+module _ (z : Cycle) (h : Heap) (s : Marking) (g : Good z.arena (view h)) (fit : ShapesFit z.arena.shapes) (b : IsBounded z.arena h.ever) (c : IsCycleOf z.arena h s) (registers : RegistersFit z.arena h s) (made : TheReachedWereMade) where
+  -- a path of names is a path of words
+  path : (n : Name) → Reach h.ever n → Reached z s (h.place n)
+  path n (from_global k n' is) =
+      let within = (b.globals k n is).0 in
+      let w = holds-name h.place h.ever.made true (h.ever.global k) n (h.words (cell.Global k)) is (g.globals k within) in
+      path_global k (h.place n) within (ap (λ (u : Words). u (cell.Global k)) c.words ∙ w.1)
+  path n (from_register j d n' runs is) =
+      let w = b.registers j d n is in
+      path_register j d (h.place n) w.0 w.1 (registers j d w.0 w.1 runs ∙ ap (reference_of h.place) is)
+  path n (from_field m k n' r is) =
+      let within = (b.fields m k n is).0 in
+      let w = holds-name h.place h.ever.made (points z.arena.shapes h.ever.type_of m k) (h.ever.field m k) n (h.words (cell.Field (h.place m + k))) is (g.fields m k (made z.arena h.ever b m r) (g.reached m r) within) in
+      let pointer : IsPointer s.extents (h.place m) k = (
+        subst (λ (x : ℕ). k < x) (sym (c.size m r)) within,
+        c.pointer m k r within ∙ w.0,
+        c.noscan m r ∙ pointing-scans z.arena.shapes fit (h.ever.type_of m) k w.0,
+      ) in
+      path_field (h.place m) k (h.place n) (path m r) pointer (ap (λ (u : Words). u (cell.Field (h.place m + k))) c.words ∙ w.1)
+
+pub reached-marked : TheReachedWereMade → TheReachedAreMarked
+reached-marked made z h s g fit b c registers each n r = each (h.place n) (path z h s g fit b c registers made n r)
+
+-- what is marked, and no slot that is being filled, is grey or black
+shaded-of : (k : Colour) → 1 ≡ mark_of k → ((a : ℕ) → k ≢ Placing a) → IsShaded k
+shaded-of White e none = absurd (omega (arith, e))
+shaded-of (Placing a) e none = absurd (none a refl)
+shaded-of (Pending a) e none = tt
+shaded-of (Buffered i j) e none = tt
+shaded-of (Taken a) e none = tt
+shaded-of Black e none = tt
+
+pub marked-reached : TheMarkedAreReached
+marked-reached z h s c g none o marked = (c.since o).0 (g.objects.shaded o (shaded-of (s.colour o) (sym marked ∙ g.marks o) (none o)))

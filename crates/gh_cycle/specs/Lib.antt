@@ -1,0 +1,7 @@
+pub mod Allocating
+pub mod Ending
+pub mod Marked
+pub mod Opening
+pub mod Reached
+pub mod Sweeping
+pub mod Vocabulary
