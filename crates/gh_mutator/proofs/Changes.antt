@@ -1,49 +1,74 @@
 -- Changes of the processor's state keep what it knows of it.
-use Rattle.std.proofs.Common.{◌≡◌, ℕ, ◌+◌, ◌*◌, ◌/◌, true, false, List, get_or, ◌∙◌, ap, subst, Option, Some, None, arith}
-use Rattle.gh_mutator.specs.Vocabulary.{Layout, Shape, Value, SpanClass, span_index, CachedSpan, Sought, IsCached, Processor, REGISTERS, Step, Then, GoesOn, Ends, Task, Idle}
+use Rattle.std.proofs.Common.{◌≡◌, ℕ, ◌+◌, ◌*◌, ◌/◌, true, false, List, [], get_or, refl, ◌∙◌, ap, sym, subst, Option, Some, None, arith}
+use Rattle.std.proofs.Math.ListN.{set}
+use Rattle.std.proofs.lemmas.List.{length-set}
+use Rattle.gh_mutator.specs.Vocabulary.{Layout, Shape, Value, SpanClass, span_index, CachedSpan, Sought, IsCached, Polling, Processor, Step, Then, GoesOn, Ends, Task, Idle}
 use Rattle.gh_base.specs.declared.value.Value.TheVariants as value
 use Rattle.gh_base.specs.Packing.{bit}
 use Rattle.gh_alloc.specs.declared.sought.Sought.TheVariants.{Small, Large}
+use Rattle.gh_mutator.specs.Cached.{SoundCached}
+use Rattle.gh_mutator.specs.GiveSound.{FitsCache}
 use Rattle.gh_mutator.specs.Listing.{applied, follows}
-use Rattle.gh_mutator.specs.Processor.{at_task, cache_span, cache_with, registers_with, with_value}
-use Rattle.gh_mutator.specs.Sound.{IsNear, Sound, SoundCached, SoundTask}
+use Rattle.gh_mutator.specs.Local.{cache_with, register_in, stacks_with}
+use Rattle.gh_mutator.specs.declared.poll.Local.{Local}
+use Rattle.gh_mutator.specs.PollSound.{FitsLocal}
+use Rattle.gh_mutator.specs.Processor.{at_poll, at_task, taking}
+use Rattle.gh_mutator.specs.Sound.{IsNear, Sound, SoundTask}
 use Rattle.gh_base.specs.Reading.{read_after_set}
 use Rattle.gh_mutator.proofs.Steps.{GoesTo, SetsNear, StepSound}
 
+-- what holds of a value that a register takes, and of what all registers held before
+pub registers_after : (P : Value → Type 0) (stacks : List (List Value)) (g d i j : ℕ) (v : Value) → P v → P value.Nil → P (register_in stacks i j) → ((e : ℕ) → P (register_in stacks g e)) → P (register_in (stacks_with stacks g d v) i j)
+registers_after P stacks g d i j v new nil old own =
+    read_after_set (λ (stack : List Value). P (get_or stack j value.Nil)) stacks g i (set (get_or stacks g []) d v) [] (λ e. read_after_set P (get_or stacks g []) d j v value.Nil (λ f. new) (own j)) old
+
 module _ (shapes : List Shape) where
   -- it is at another task
-  pub moved : (m : Processor) (t : Task) → Sound shapes m → SoundTask shapes m.layout m.made t → Sound shapes (at_task m t)
-  moved m t s h = record { seat = s.seat; generation = s.generation; registers = s.registers; cache = s.cache; few = s.few; task = h }
+  pub moved : (m : Processor) (t : Task) → Sound shapes m → SoundTask shapes m.poll m.made t → Sound shapes (at_task m t)
+  moved m t s h = record { registers = s.registers; few = s.few; task = h }
+
+  -- its poll has changed, and its registers stay
+  pub polled : (m : Processor) (p : Polling) (t : Task) → Sound shapes m → p.layout ≡ m.poll.layout → p.local.stacks ≡ m.poll.local.stacks → SoundTask shapes p m.made t → Sound shapes (at_task (at_poll m p) t)
+  polled m p t s layout stacks h = record { registers = λ g d. rw (layout, stacks) (s.registers g d); few = s.few; task = h }
 
   -- a register took a value, if there was one
-  near_after : (m : Processor) (g d : ℕ) (v : Option Value) → Sound shapes m → SetsNear m.layout.pages v → (i : ℕ) → IsNear m.layout.pages (get_or (registers_with m.registers g d v) i value.Nil)
-  near_after m g d None s near i = s.registers i
-  near_after m g d (Some v) s near i = read_after_set (IsNear m.layout.pages) m.registers (REGISTERS * g + d) i v value.Nil (λ e. near) (s.registers i)
-
-  pub taken : (m : Processor) (g d : ℕ) (v : Option Value) → Sound shapes m → SetsNear m.layout.pages v → Sound shapes (with_value m g d v)
-  taken m g d v s near = record { seat = s.seat; generation = s.generation; registers = near_after m g d v s near; cache = s.cache; few = s.few; task = s.task }
+  pub taken : (m : Processor) (g d : ℕ) (v : Option Value) (t : Task) → Sound shapes m → SetsNear m.poll.layout.pages v → SoundTask shapes (taking m g d v).poll m.made t → Sound shapes (at_task (taking m g d v) t)
+  taken m g d None t s near h = moved m t s h
+  taken m g d (Some v) t s near h = record { registers = λ i j. registers_after (IsNear m.poll.layout.pages) m.poll.local.stacks g d i j v near tt (s.registers i j) (s.registers g); few = s.few; task = h }
 
   -- a statement's step was made
-  pub applied_sound : {S : Type 0} (P : S → Type 0) (goes : S → Task) (m : Processor) (g d : ℕ) (step : Step S) → Sound shapes m → StepSound P m.layout.pages step → ((x : S) → P x → SoundTask shapes m.layout m.made (goes x)) → Sound shapes (applied goes m g d step)
+  pub applied_sound : {S : Type 0} (P : S → Type 0) (goes : S → Task) (m : Processor) (g d : ℕ) (step : Step S) → Sound shapes m → StepSound P m.poll.layout.pages step → ((x : S) (p : Polling) → p.layout ≡ m.poll.layout → P x → SoundTask shapes p m.made (goes x)) → Sound shapes (applied goes m g d step)
   applied_sound {S} P goes m g d step s h sound = by step.then h.next where
-    by : (t : Then S) → GoesTo P t → Sound shapes (at_task (with_value m g d step.sets) (follows goes t))
-    by (Ends a) p = moved (with_value m g d step.sets) Idle (taken m g d step.sets s h.sets) tt
-    by (GoesOn x) p = moved (with_value m g d step.sets) (goes x) (taken m g d step.sets s h.sets) (sound x p)
+    same : (v : Option Value) → (taking m g d v).poll.layout ≡ m.poll.layout
+    same None = refl
+    same (Some v) = refl
 
-  -- the cached span of a span class is this now
-  half : (c : SpanClass) (i : ℕ) → span_index c ≡ i → c.class ≡ i / 2
-  half c i e = by c.noscan ∙ ap (λ x. x / 2) e where
-    by : (noscan : _) → c.class ≡ (2 * c.class + bit noscan) / 2
-    by true = omega arith
-    by false = omega arith
+    by : (t : Then S) → GoesTo P t → Sound shapes (at_task (taking m g d step.sets) (follows goes t))
+    by (Ends a) p = taken m g d step.sets Idle s h.sets tt
+    by (GoesOn x) p = taken m g d step.sets (goes x) s h.sets (sound x (taking m g d step.sets).poll (same step.sets) p)
 
-  fits_small : (l : Layout) (c : SpanClass) (cached : Option CachedSpan) → IsCached l (Small c) cached → SoundCached l.pages c.class cached
-  fits_small l c None h = tt
-  fits_small l c (Some x) h = (h.pages, h.cursor)
+-- the cached span of a span class is this now
+half : (c : SpanClass) (i : ℕ) → span_index c ≡ i → c.class ≡ i / 2
+half c i e = by c.noscan ∙ ap (λ x. x / 2) e where
+  by : (noscan : _) → c.class ≡ (2 * c.class + bit noscan) / 2
+  by true = omega arith
+  by false = omega arith
 
-  cached_near : (m : Processor) (x : Sought) (c : Option CachedSpan) → Sound shapes m → IsCached m.layout x c → (i : ℕ) → SoundCached m.layout.pages (i / 2) (get_or (cache_with m.cache x c) i None)
-  cached_near m (Large pages noscan) c s h i = s.cache i
-  cached_near m (Small x) c s h i = read_after_set (SoundCached m.layout.pages (i / 2)) m.cache (span_index x) i c None (λ e. subst (λ n. SoundCached m.layout.pages n c) (half x i e) (fits_small m.layout x c h)) (s.cache i)
+fits_small : (l : Layout) (c : SpanClass) (cached : Option CachedSpan) → IsCached l (Small c) cached → SoundCached l.pages c.class cached
+fits_small l c None h = tt
+fits_small l c (Some x) h = (h.pages, h.cursor)
 
-  pub cached_sound : (m : Processor) (x : Sought) (c : Option CachedSpan) → Sound shapes m → IsCached m.layout x c → Sound shapes (cache_span m x c)
-  cached_sound m x c s h = record { seat = s.seat; generation = s.generation; registers = s.registers; cache = cached_near m x c s h; few = s.few; task = s.task }
+pub cached_fits : (l : Layout) (cache : List (Option CachedSpan)) (x : Sought) (c : Option CachedSpan) → FitsCache l cache → IsCached l x c → FitsCache l (cache_with cache x c)
+cached_fits l cache (Large pages noscan) c fits h i = fits i
+cached_fits l cache (Small x) c fits h i = read_after_set (SoundCached l.pages (i / 2)) cache (span_index x) i c None (λ e. subst (λ n. SoundCached l.pages n c) (half x i e) (fits_small l x c h)) (fits i)
+
+-- so what is known of the processor's own state stays, where the span class is of this number
+pub recached_fits : (l : Layout) (local : Local) (x : SpanClass) (i : ℕ) (c : Option CachedSpan) → i ≡ span_index x → FitsLocal l local → IsCached l (Small x) c → FitsLocal l (record local { cache = set local.cache i c })
+recached_fits l local x i c e h fits = record {
+  view = h.view;
+  room = length-set local.cache i c ∙ h.room;
+  cache = subst (λ (n : ℕ). FitsCache l (set local.cache n c)) (sym e) (cached_fits l local.cache (Small x) c h.cache fits);
+  held = h.held;
+  scanned = h.scanned;
+  stacks = h.stacks;
+}

@@ -1,6 +1,6 @@
 -- Each operation of the processor acts once before it ends, and only those with a point change the heap that never frees.
-use Rattle.std.proofs.Common.{◌≡◌, ℕ, ◌+◌, Bool, true, false, cond, ltb, List, refl, sym, ap, ◌∙◌, Option, Some, None}
-use Rattle.gh_mutator.specs.Vocabulary.{Layout, Op, Shape, Value, Found, At, NoRoom, PlaceStage, Finding, Placing, Global, LoadStage, NewStage, Find, Place, Wanted, Processor, StoreStage, Task}
+use Rattle.std.proofs.Common.{◌≡◌, ℕ, ◌+◌, Bool, true, false, cond, ltb, is_some, List, refl, sym, ap, ◌∙◌, Option, Some, None}
+use Rattle.gh_mutator.specs.Vocabulary.{Layout, Op, Shape, Value, Found, At, NoRoom, Leaving, PlaceStage, Placing, Polling, Seeking, Global, LoadStage, NewStage, Search, Wait, Place, Waiting, Wanted, Processor, StoreStage, Task}
 use Rattle.gh_base.specs.declared.operation.Op.TheVariants as op
 use Rattle.gh_base.specs.declared.pack.SpanHead.{SpanHead}
 use Rattle.gh_base.specs.declared.value.Answer.TheVariants as answer
@@ -9,30 +9,31 @@ use Rattle.gh_base.specs.declared.value.Value.TheVariants as value
 use Rattle.gh_base.specs.Orders.{before_step, left_at, model_after}
 use Rattle.gh_bitmap.specs.SetPointers as bits
 use Rattle.gh_alloc.specs.declared.place.PlaceStage.TheVariants as making
-use Rattle.gh_alloc.specs.Find as find
 use Rattle.gh_alloc.specs.Place as place
+use Rattle.gh_alloc.specs.Search as search
 use Rattle.gh_model.specs.Ever.{Ever}
 use Rattle.gh_mutator.specs.declared.global.GlobalStage.{GlobalStage}
 use Rattle.gh_mutator.specs.declared.global.GlobalStage.TheVariants as global_stage
 use Rattle.gh_mutator.specs.declared.load.Load.{Load}
 use Rattle.gh_mutator.specs.declared.load.LoadStage.TheVariants as load_stage
-use Rattle.gh_mutator.specs.declared.own.Own.{Own}
-use Rattle.gh_mutator.specs.declared.own.Own.TheVariants as own_step
 use Rattle.gh_mutator.specs.declared.step.Step.{Step}
 use Rattle.gh_mutator.specs.declared.store.Store.{Store}
 use Rattle.gh_mutator.specs.declared.store.StoreStage.TheVariants as store_stage
 use Rattle.gh_mutator.specs.declared.task.Task.TheVariants as task
 use Rattle.gh_mutator.specs.Acting.{ActsOnce, EachOperationActsOnce}
-use Rattle.gh_mutator.specs.Deeds.{OnlyPointsChange, ProcessorsDeedsFit, deeds, has_point, meaning, point_of, pointed, processor_kind}
-use Rattle.gh_mutator.specs.Facts.{acted}
+use Rattle.gh_mutator.specs.Deeds.{OnlyPointsChange, ProcessorsDeedsFit, acted, deeds, has_point, meaning, point_of, pointed, processor_kind}
 use Rattle.gh_mutator.specs.Fields.{has_field, is_pointer_by, kinds_differ, takes as takes_value, value_of}
 use Rattle.gh_mutator.specs.Global as global
-use Rattle.gh_mutator.specs.Listing.{Act, acting, acts, acts_at, begins_at, follows, is_busy_at, op_at, rests, takes, takes_at}
+use Rattle.gh_mutator.specs.Leave as leave
+use Rattle.gh_mutator.specs.Listing.{Act, acting, acts, acts_at, after_gc, after_leave, after_poll, begins, begins_at, follows, is_busy_at, op_at, takes, takes_at}
 use Rattle.gh_mutator.specs.Load as load
-use Rattle.gh_mutator.specs.New.{after_find, after_place, finds_none, op_of as new_op, searches, unacted}
+use Rattle.gh_mutator.specs.New.{after_place, after_search, after_wait, op_of as new_op, refuses, searches, unacted}
+use Rattle.gh_mutator.specs.Poll as poll
 use Rattle.gh_mutator.specs.Processor.{cache_span, register_of}
+use Rattle.gh_mutator.specs.Serving.{has_left_at}
 use Rattle.gh_mutator.specs.Step.{ends, goes_on}
 use Rattle.gh_mutator.specs.Store as store
+use Rattle.gh_mutator.specs.Wait as wait
 
 -- ---- a step of a statement acts once
 
@@ -89,12 +90,20 @@ module _ (shapes : List Shape) (m : Processor) where
   abbrev ActsAt : Task → ℕ → Type 0
   ActsAt t found = ActsOnce (op_at t) (op_at (takes_at shapes m t found).task) (acts_at m t found)
 
-  find_acts : (w : Wanted) (f : Finding) (found : ℕ) → ActsAt (searches w f) found
-  find_acts w f found = go (find.gives f found) where
-    go : (out : Option Found) → ActsOnce (Some (new_op w)) (op_at (after_find shapes (cache_span m w.sought (find.goes f found).cached) w (find.goes f found) out).task) (acting (finds_none out) (new_op w) true)
-    go None = refl
-    go (Some (At a)) = refl
-    go (Some NoRoom) = (refl, refl)
+  search_acts : (w : Wanted) (waited : Bool) (s : Seeking) (found : ℕ) → ActsAt (searches w waited s) found
+  search_acts w waited s found = go waited (search.gives s found) where
+    go : (b : Bool) (out : Option Found) → ActsOnce (Some (new_op w)) (op_at (after_search shapes (cache_span m w.sought (search.goes s found).find.cached) w b (search.goes s found) out).task) (acting (refuses b out) (new_op w) true)
+    go true None = refl
+    go false None = refl
+    go true (Some (At a)) = refl
+    go false (Some (At a)) = refl
+    go true (Some NoRoom) = (refl, refl)
+    go false (Some NoRoom) = refl
+
+  -- the wait for a cycle is no point
+  wait_acts : (w : Wanted) (x : Waiting) (out : Option (Unit {0})) → op_at (after_wait m w x out).task ≡ Some (new_op w)
+  wait_acts w x None = refl
+  wait_acts w x (Some y) = refl
 
   -- the making is at q, and then at n
   abbrev PlaceActs : Wanted → Placing → (q n : PlaceStage) → Type 0
@@ -119,24 +128,35 @@ module _ (shapes : List Shape) (m : Processor) where
   place_acts w p found making.Ended = refl
 
   new_acts : (w : Wanted) (s : NewStage) (found : ℕ) → ActsAt (task.New (record { wanted = w; stage = s })) found
-  new_acts w (Find f) found = find_acts w f found
+  new_acts w (Search waited s) found = search_acts w waited s found
+  new_acts w (Wait x) found = wait_acts w (wait.goes (wait.waiting x m.poll) found) (wait.gives (wait.waiting x m.poll) found)
   new_acts w (Place p) found = place_acts w p found p.stage
 
-  -- behind an operation of the processor's own
-  rests_without : (x : Own) → op_at (rests x) ≡ None
-  rests_without own_step.Poll = refl
-  rests_without (own_step.End g) = refl
-  rests_without own_step.Leave = refl
+  -- what ends acts
+  gc_acts : (g : ℕ) (x : Waiting) (out : Option (Unit {0})) → ActsOnce (Some (op.Gc g)) (op_at (after_gc m g x out).task) (acting (is_some out) (op.Gc g) false)
+  gc_acts g x None = refl
+  gc_acts g x (Some y) = (refl, refl)
+
+  poll_acts : (p : Polling) (out : Option (Unit {0})) → ActsOnce (Some op.Poll) (op_at (after_poll m p out).task) (acting (is_some out) op.Poll false)
+  poll_acts p None = refl
+  poll_acts p (Some y) = (refl, refl)
+
+  leave_acts : (x : Leaving) (out : Option (Unit {0})) → ActsOnce (Some op.Leave) (op_at (after_leave m x out).task) (acting (is_some out) op.Leave false)
+  leave_acts x None = refl
+  leave_acts x (Some y) = (refl, refl)
 
   acts_once_at : (t : Task) (found : ℕ) → is_busy_at t ≡ true → ActsAt t found
   acts_once_at task.Idle found busy = absurd (cc)
   acts_once_at task.Left found busy = absurd (cc)
-  acts_once_at (task.Load x) found busy = load_acts m.layout x x.stage found
-  acts_once_at (task.Store x) found busy = store_acts m.layout (register_of m x.g x.v) x x.stage found
-  acts_once_at (task.Global x) found busy = global_acts m.layout (register_of m x.g x.r) x x.stage found
+  acts_once_at (task.Load x) found busy = load_acts m.poll.layout x x.stage found
+  acts_once_at (task.Store x) found busy = store_acts m.poll.layout (register_of m x.g x.v) x x.stage found
+  acts_once_at (task.Global x) found busy = global_acts m.poll.layout (register_of m x.g x.r) x x.stage found
   acts_once_at (task.Register x) found busy = (refl, refl)
   acts_once_at (task.New x) found busy = new_acts x.wanted x.stage found
-  acts_once_at (task.Own x) found busy = (refl, rests_without x)
+  acts_once_at (task.Gc g x) found busy = gc_acts g (wait.goes (wait.waiting x m.poll) found) (wait.gives (wait.waiting x m.poll) found)
+  acts_once_at task.Poll found busy = poll_acts (poll.goes m.poll found) (poll.gives m.poll found)
+  acts_once_at (task.End g) found busy = (refl, refl)
+  acts_once_at (task.Leave x) found busy = leave_acts (leave.goes x found) (leave.gives x found)
 
 -- ---- where an operation begins, it is to act
 
@@ -164,7 +184,7 @@ to_act shapes m (op.SetGlobal g k v) busy = set_global_to_act g k v (register_of
 to_act shapes m (op.Int g d n) busy = refl
 to_act shapes m (op.Move g d s) busy = refl
 to_act shapes m (op.Nil g d) busy = refl
-to_act shapes m (op.Gc g) busy = absurd (cc)
+to_act shapes m (op.Gc g) busy = refl
 to_act shapes m op.Poll busy = refl
 to_act shapes m (op.End g) busy = refl
 to_act shapes m op.Leave busy = refl
@@ -177,7 +197,10 @@ none_at_rest (task.Store x) idle = absurd (cc)
 none_at_rest (task.Global x) idle = absurd (cc)
 none_at_rest (task.Register x) idle = absurd (cc)
 none_at_rest (task.New x) idle = absurd (cc)
-none_at_rest (task.Own x) idle = absurd (cc)
+none_at_rest (task.Gc g x) idle = absurd (cc)
+none_at_rest task.Poll idle = absurd (cc)
+none_at_rest (task.End g) idle = absurd (cc)
+none_at_rest (task.Leave x) idle = absurd (cc)
 
 -- ---- those with a point
 
@@ -207,11 +230,16 @@ acts_once shapes m found busy = acts_once_at shapes m m.task found busy
 pub each_operation_acts_once : EachOperationActsOnce
 each_operation_acts_once = record { begins = to_act; rests = none_at_rest; steps = acts_once }
 
+-- one that has left begins nothing
+begins_to_act : (shapes : List Shape) (m : Processor) (o : Op) (left : Bool) → is_busy_at m.task ≡ false → is_busy_at (cond left m (begins shapes m o)).task ≡ true → op_at (cond left m (begins shapes m o)).task ≡ Some o
+begins_to_act shapes m o true idle busy = absurd (cc)
+begins_to_act shapes m o false idle busy = to_act shapes m o busy
+
 pub processors_deeds_fit : ProcessorsDeedsFit
 processors_deeds_fit shapes l = record {
   opens = λ a. refl;
   idle = λ m idle. ap pointed (none_at_rest m.task idle);
-  begins = λ m o idle busy. ap pointed (to_act shapes m o busy);
+  begins = λ m o idle busy. ap pointed (begins_to_act shapes m o (has_left_at m.task) idle busy);
   goes_on = λ m found busy none. leaves_it _ _ (acts m found) (acts_once shapes m found busy) none;
   acts_for = λ m found x busy is. (acts_for_it _ _ (acts m found) x (acts_once shapes m found busy) is).0;
   acts_once = λ m found x busy is. (acts_for_it _ _ (acts m found) x (acts_once shapes m found busy) is).1;
@@ -223,7 +251,6 @@ processors_deeds_fit shapes l = record {
 changes : (shapes : List Shape) (e : Ever) (o : Op) (full : Bool) → acted shapes e (cond (has_point o) (Some (record { op = o; full = full })) None) ≡ acted shapes e (Some (record { op = o; full = full }))
 changes shapes e op.Poll full = refl
 changes shapes e op.Leave full = refl
-changes shapes e (op.Gc g) full = refl
 changes shapes e _ full = refl
 
 alone : (shapes : List Shape) (e : Ever) (x : Option Act) → acted shapes e (point_of x) ≡ acted shapes e x

@@ -1,24 +1,26 @@
 -- A statement that is answered a fault has loaded words alone, and has changed nothing of the processor.
 use Rattle.std.proofs.Common.{◌≡◌, ℕ, zero, suc, ◌≤◌, Bool, true, false, cond, List, refl, sym, ap, ◌∙◌, Option, Some, None, arith}
-use Rattle.gh_mutator.specs.Vocabulary.{Shape, Answer, Name, Value, Found, At, NoRoom, Finding, Placing, NewStage, Find, Place, Wanted, Processor, Step, Then, GoesOn, Ends, Task}
+use Rattle.gh_mutator.specs.Vocabulary.{Op, Shape, Answer, Name, Value, Found, At, NoRoom, Leaving, Placing, Polling, Seeking, NewStage, Search, Wait, Place, Waiting, Wanted, Processor, Step, Then, GoesOn, Ends, Task}
+use Rattle.gh_base.specs.declared.operation.Op.TheVariants as op
 use Rattle.gh_base.specs.declared.value.Answer.TheVariants as answer
 use Rattle.gh_base.specs.declared.value.Fault.{Fault as Cause}
-use Rattle.gh_alloc.specs.Find as find
 use Rattle.gh_alloc.specs.Place as place
-use Rattle.gh_mutator.specs.declared.own.Own.{Own}
-use Rattle.gh_mutator.specs.declared.own.Own.TheVariants as own
+use Rattle.gh_alloc.specs.Search as search
 use Rattle.gh_mutator.specs.declared.task.Task.TheVariants as task
 use Rattle.gh_mutator.specs.Faults.{FaultsChangeNothing, is_load, rested}
 use Rattle.gh_mutator.specs.Global as global_listing
-use Rattle.gh_mutator.specs.Listing.{applied, asks_at, follows, gives_at, rests, takes_at}
+use Rattle.gh_mutator.specs.Leave as leave
+use Rattle.gh_mutator.specs.Listing.{after_gc, after_leave, after_poll, applied, asks_at, begins_at, begun_with, follows, gives_at, once_ended, takes_at}
 use Rattle.gh_mutator.specs.Load as load_listing
 use Rattle.gh_mutator.specs.Mutating.{begins, gives, goes, listing, marks_after, Mutating}
-use Rattle.gh_mutator.specs.New.{after_find, after_place, finds_none, makes}
+use Rattle.gh_mutator.specs.New.{after_search, after_wait, answer_search, makes}
 use Rattle.gh_mutator.specs.New as new
-use Rattle.gh_mutator.specs.Processor.{at_task, cache_span, register_of, with_value}
+use Rattle.gh_mutator.specs.Poll as poll
+use Rattle.gh_mutator.specs.Processor.{at_poll, at_task, cache_span, register_of, taking}
 use Rattle.gh_mutator.specs.Serving.{answer_at, is_serving}
 use Rattle.gh_mutator.specs.Step.{answered}
 use Rattle.gh_mutator.specs.Store as store_listing
+use Rattle.gh_mutator.specs.Wait as wait
 use Rattle.gh_base.specs.Routines.{told}
 use Rattle.gh_mutator.proofs.GlobalSteps as global
 use Rattle.gh_mutator.proofs.LoadSteps as load
@@ -45,23 +47,30 @@ none_at m t next given never not = record { here = λ cause e. absurd (never cau
 from_step : {S : Type 0} (may : S → Bool) (into : S → Task) (m : Processor) (g d : ℕ) (x : S) (step : Step S) → ((y : S) → may_fault (into y) ≡ may y) → FaultsFrom may x step → FaultsAt m (into x) (applied into m g d step) (answered step.then)
 from_step {S} may into m g d x step is f = by step.then step.sets f.here f.keeps f.before where
   by : (then : Then S) (sets : Option Value) → ((cause : Cause) → answered then ≡ Some (answer.Fault cause) → may x ≡ true) → ((cause : Cause) → answered then ≡ Some (answer.Fault cause) → sets ≡ None) →
-      GoesTo (λ (y : S). may y ≡ true → (may x ≡ true) × (sets ≡ None)) then → FaultsAt m (into x) (at_task (with_value m g d sets) (follows into then)) (answered then)
-  by (Ends a) sets here keeps before = record { here = λ cause e. (is x ∙ here cause e, ap (λ (v : Option Value). at_task (with_value m g d v) task.Idle) (keeps cause e)); before = λ e. absurd (cc) }
+      GoesTo (λ (y : S). may y ≡ true → (may x ≡ true) × (sets ≡ None)) then → FaultsAt m (into x) (at_task (taking m g d sets) (follows into then)) (answered then)
+  by (Ends a) sets here keeps before = record { here = λ cause e. (is x ∙ here cause e, ap (λ (v : Option Value). at_task (taking m g d v) task.Idle) (keeps cause e)); before = λ e. absurd (cc) }
   by (GoesOn y) sets here keeps before = record {
     here = λ cause e. absurd (cc);
-    before = λ e. let h = before (sym (is y) ∙ e) in (is x ∙ h.0, ap (λ (v : Option Value). at_task (with_value m g d v) (into y)) h.1, refl);
+    before = λ e. let h = before (sym (is y) ∙ e) in (is x ∙ h.0, ap (λ (v : Option Value). at_task (taking m g d v) (into y)) h.1, refl);
   }
 
 -- an object is looked for or made: no fault is answered
 
-find_quiet : (shapes : List Shape) (m : Processor) (w : Wanted) (f : Finding) (out : Option Found) → may_fault (after_find shapes m w f out).task ≡ false
-find_quiet shapes m w f None = refl
-find_quiet shapes m w f (Some (At a)) = refl
-find_quiet shapes m w f (Some NoRoom) = refl
+search_quiet : (shapes : List Shape) (m : Processor) (w : Wanted) (waited : Bool) (s : Seeking) (out : Option Found) → may_fault (after_search shapes m w waited s out).task ≡ false
+search_quiet shapes m w waited s None = refl
+search_quiet shapes m w waited s (Some (At a)) = refl
+search_quiet shapes m w true s (Some NoRoom) = refl
+search_quiet shapes m w false s (Some NoRoom) = refl
 
-find_answers : (none : Bool) (cause : Cause) → cond none (Some answer.Full) None ≡ Some (answer.Fault cause) → ⊥
-find_answers true cause e = absurd (cc)
-find_answers false cause e = absurd (cc)
+search_answers : (waited : Bool) (out : Option Found) (cause : Cause) → answer_search waited out ≡ Some (answer.Fault cause) → ⊥
+search_answers waited None cause e = absurd (cc)
+search_answers waited (Some (At a)) cause e = absurd (cc)
+search_answers true (Some NoRoom) cause e = absurd (cc)
+search_answers false (Some NoRoom) cause e = absurd (cc)
+
+wait_quiet : (m : Processor) (w : Wanted) (x : Waiting) (out : Option (Unit {0})) → may_fault (after_wait m w x out).task ≡ false
+wait_quiet m w x None = refl
+wait_quiet m w x (Some y) = refl
 
 place_quiet : (w : Wanted) (p : Placing) (busy : Bool) → may_fault (cond busy (makes w p) task.Idle) ≡ false
 place_quiet w p true = refl
@@ -72,31 +81,44 @@ place_answers n true cause e = absurd (cc)
 place_answers n false cause e = absurd (cc)
 
 new_faults : (shapes : List Shape) (n m : Processor) (t : Task) (w : Wanted) (s : NewStage) (found : ℕ) → FaultsAt n t (new.takes_at shapes m w s found) (new.gives_at s found)
-new_faults shapes n m t w (Find f) found =
-    none_at n t _ _ (find_answers (finds_none (find.gives f found))) (find_quiet shapes (cache_span m w.sought (find.goes f found).cached) w (find.goes f found) (find.gives f found))
+new_faults shapes n m t w (Search waited s) found =
+    none_at n t _ _ (search_answers waited (search.gives s found)) (search_quiet shapes (cache_span m w.sought (search.goes s found).find.cached) w waited (search.goes s found) (search.gives s found))
+new_faults shapes n m t w (Wait x) found =
+    none_at n t _ _ (λ cause e. absurd (cc)) (wait_quiet m w (wait.goes (wait.waiting x m.poll) found) (wait.gives (wait.waiting x m.poll) found))
 new_faults shapes n m t w (Place p) found =
     none_at n t _ _ (place_answers p.name (place.is_busy (place.goes p found).stage)) (place_quiet w (place.goes p found) (place.is_busy (place.goes p found).stage))
 
-own_faults : (m : Processor) (x : Own) → FaultsAt m (task.Own x) (at_task m (rests x)) (Some answer.Done)
-own_faults m own.Poll = none_at m _ _ _ (λ cause e. absurd (cc)) refl
-own_faults m (own.End g) = none_at m _ _ _ (λ cause e. absurd (cc)) refl
-own_faults m own.Leave = none_at m _ _ _ (λ cause e. absurd (cc)) refl
+-- a `gc`, and what is the processor's own
+gc_faults : (n m : Processor) (t : Task) (g : ℕ) (x : Waiting) (out : Option (Unit {0})) → FaultsAt n t (after_gc m g x out) (once_ended out answer.Swept)
+gc_faults n m t g x None = none_at n t _ _ (λ cause e. absurd (cc)) refl
+gc_faults n m t g x (Some y) = none_at n t _ _ (λ cause e. absurd (cc)) refl
+
+poll_faults : (n m : Processor) (t : Task) (p : Polling) (out : Option (Unit {0})) → FaultsAt n t (after_poll m p out) (once_ended out answer.Done)
+poll_faults n m t p None = none_at n t _ _ (λ cause e. absurd (cc)) refl
+poll_faults n m t p (Some y) = none_at n t _ _ (λ cause e. absurd (cc)) refl
+
+leave_faults : (n m : Processor) (t : Task) (x : Leaving) (out : Option (Unit {0})) → FaultsAt n t (after_leave m x out) (once_ended out answer.Done)
+leave_faults n m t x None = none_at n t _ _ (λ cause e. absurd (cc)) refl
+leave_faults n m t x (Some y) = none_at n t _ _ (λ cause e. absurd (cc)) refl
 
 module _ (shapes : List Shape) where
   faults_at : (m : Processor) (t : Task) (found : ℕ) → FaultsAt m t (takes_at shapes (at_task m t) t found) (gives_at (at_task m t) t found)
   faults_at m task.Idle found = none_at m _ _ _ (λ cause e. absurd (cc)) refl
   faults_at m task.Left found = none_at m _ _ _ (λ cause e. absurd (cc)) refl
-  faults_at m (task.Load x) found = from_step load.may_fault task.Load m x.g x.d x (load_listing.step m.layout x found) (λ y. refl) (load.faults m.layout x found)
-  faults_at m (task.Store x) found = from_step store.may_fault task.Store m x.g x.v x (store_listing.step m.layout (register_of m x.g x.v) x found) (λ y. refl) (store.faults m.layout (register_of m x.g x.v) x found)
-  faults_at m (task.Global x) found = from_step global.may_fault task.Global m x.g x.r x (global_listing.step m.layout (register_of m x.g x.r) x found) (λ y. refl) (global.faults m.layout (register_of m x.g x.r) x found)
+  faults_at m (task.Load x) found = from_step load.may_fault task.Load m x.g x.d x (load_listing.step m.poll.layout x found) (λ y. refl) (load.faults m.poll.layout x found)
+  faults_at m (task.Store x) found = from_step store.may_fault task.Store m x.g x.v x (store_listing.step m.poll.layout (register_of m x.g x.v) x found) (λ y. refl) (store.faults m.poll.layout (register_of m x.g x.v) x found)
+  faults_at m (task.Global x) found = from_step global.may_fault task.Global m x.g x.r x (global_listing.step m.poll.layout (register_of m x.g x.r) x found) (λ y. refl) (global.faults m.poll.layout (register_of m x.g x.r) x found)
   faults_at m (task.Register x) found = none_at m _ _ _ (λ cause e. absurd (cc)) refl
   faults_at m (task.New x) found = new_faults shapes m (at_task m (task.New x)) (task.New x) x.wanted x.stage found
-  faults_at m (task.Own x) found = own_faults m x
+  faults_at m (task.Gc g x) found = gc_faults m (at_task m (task.Gc g x)) (task.Gc g x) g (wait.goes (wait.waiting x m.poll) found) (wait.gives (wait.waiting x m.poll) found)
+  faults_at m task.Poll found = poll_faults m (at_task m task.Poll) task.Poll (poll.goes m.poll found) (poll.gives m.poll found)
+  faults_at m (task.End g) found = none_at m _ _ _ (λ cause e. absurd (cc)) refl
+  faults_at m (task.Leave x) found = leave_faults m (at_task m (task.Leave x)) (task.Leave x) (leave.goes x found) (leave.gives x found)
 
 loads_at : (m : Processor) (t : Task) → may_fault t ≡ true → is_load (asks_at m t) ≡ true
-loads_at m (task.Load x) e = load.loads m.layout x e
-loads_at m (task.Store x) e = store.loads m.layout (register_of m x.g x.v) x e
-loads_at m (task.Global x) e = global.loads m.layout (register_of m x.g x.r) x e
+loads_at m (task.Load x) e = load.loads m.poll.layout x e
+loads_at m (task.Store x) e = store.loads m.poll.layout (register_of m x.g x.v) x e
+loads_at m (task.Global x) e = global.loads m.poll.layout (register_of m x.g x.r) x e
 loads_at m _ e = absurd (cc)
 
 serves_at : (t : Task) → may_fault t ≡ true → is_serving t ≡ true
@@ -141,6 +163,12 @@ ends_so x word cause e =
     ∙ ap (λ (a : Option Answer). record x { processor = at_task x.processor task.Idle; marks = marks_after x.marks (answer_at x.processor.task a) }) e
     ∙ ap (λ (b : Bool). record x { processor = at_task x.processor task.Idle; marks = marks_after x.marks (cond b (Some (answer.Fault cause)) None) }) serves
 
+-- what may be answered a fault begins with the poll as it was
+same_poll : (shapes : List Shape) (m : Processor) (o : Op) → may_fault (begins_at shapes m o) ≡ true → begun_with m.poll o ≡ m.poll
+same_poll shapes m op.Poll e = absurd (cc)
+same_poll shapes m op.Leave e = absurd (cc)
+same_poll shapes m _ e = refl
+
 pub faults_change_nothing : FaultsChangeNothing
 faults_change_nothing m o found n cause e =
     let b = begins m o in
@@ -148,5 +176,6 @@ faults_change_nothing m o found n cause e =
     held_before faulting listing (begins m o) found (λ x word p. ((faults_here x word).before p).0) n ((faults_here (told listing (begins m o) found n) (found n)).here cause e).0 in
     record {
       loads = λ i le. loads_at (told listing (begins m o) found i).processor (told listing (begins m o) found i).processor.task (all i le);
-      stays = ends_so (told listing (begins m o) found n) (found n) cause e ∙ ap (λ (x : Mutating). rested x x.processor (answer.Fault cause)) (stays_until (begins m o) found n all);
+      stays = ends_so (told listing (begins m o) found n) (found n) cause e ∙ ap (λ (x : Mutating). rested x x.processor (answer.Fault cause)) (stays_until (begins m o) found n all)
+          ∙ ap (λ (p : Polling). rested m (at_poll m.processor p) (answer.Fault cause)) (same_poll m.shapes m.processor o (all 0 (omega arith)));
     }

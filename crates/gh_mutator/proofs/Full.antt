@@ -1,187 +1,76 @@
--- A `new` that is answered `full` has changed its register and the cached span of its span class alone, and has loaded words, taken and freed the lock, and written page words.
-use Rattle.std.proofs.Common.{◌≡◌, ℕ, zero, suc, ◌≤◌, Bool, true, false, not, cond, eqb, ltb, List, refl, sym, ap, ◌∙◌, subst, ◌⊎◌, inl, inr, Option, Some, None, arith}
+-- A `new` that is answered `full` has waited for a cycle, and has found no slot before and behind that.
+use Rattle.std.proofs.Common.{◌≡◌, ℕ, zero, suc, ◌<◌, ◌≤◌, Bool, true, false, not, cond, ltb, List, [], ◌∷◌, get_or, refl, sym, ap, ◌∙◌, subst, ◌⊎◌, inl, inr, Option, Some, None, arith}
 use Rattle.std.proofs.Math.ListN.{set}
-use Rattle.std.proofs.lemmas.List.{set-get_or}
+use Rattle.std.proofs.lemmas.Bool.{ltb-true}
+use Rattle.gh_base.specs.declared.cell.Ask.TheVariants.{Load}
+use Rattle.gh_base.specs.declared.cell.Cell.TheVariants as cell
 use Rattle.gh_base.specs.declared.operation.Op.TheVariants as op
-use Rattle.gh_mutator.specs.Vocabulary.{Shape, Name, SpanClass, slots_of, span_index, CachedSpan, FindStage, Found, At, NoRoom, Sought, Finding, Placing, NewStage, Find, Place, Wanted, Processor, Task}
 use Rattle.gh_base.specs.declared.value.Answer.TheVariants as answer
 use Rattle.gh_base.specs.declared.value.Value.TheVariants as value
-use Rattle.gh_cache.specs.declared.next_slot.SlotStage.{SlotStage}
-use Rattle.gh_cache.specs.declared.next_slot.SlotStage.TheVariants as slot_stage
-use Rattle.gh_cache.specs.Listing as slots
-use Rattle.gh_central.specs.declared.give.GiveStage.{GiveStage}
-use Rattle.gh_central.specs.declared.give.GiveStage.TheVariants as give_stage
-use Rattle.gh_central.specs.declared.pass.PassStage.{PassStage}
-use Rattle.gh_central.specs.declared.pass.PassStage.TheVariants as pass_stage
-use Rattle.gh_central.specs.GiveBack as give
-use Rattle.gh_central.specs.SweptPass as pass
-use Rattle.gh_pages.specs.declared.carve.CarveStage.{CarveStage}
-use Rattle.gh_pages.specs.declared.carve.CarveStage.TheVariants as carve_stage
-use Rattle.gh_pages.specs.Listing as carve
-use Rattle.gh_alloc.specs.declared.find.After.TheVariants.{Again, End}
-use Rattle.gh_alloc.specs.declared.find.FindStage.TheVariants as seek
-use Rattle.gh_alloc.specs.declared.sought.Sought.TheVariants.{Small, Large}
-use Rattle.gh_alloc.specs.Find as find
 use Rattle.gh_alloc.specs.Place as place
+use Rattle.gh_alloc.specs.Search as search
+use Rattle.gh_alloc.specs.declared.sought.Sought.TheVariants.{Small, Large}
 use Rattle.gh_mutator.specs.declared.task.Task.TheVariants as task
+use Rattle.gh_mutator.specs.declared.wait.Wait.{Wait as WaitState}
+use Rattle.gh_mutator.specs.declared.wait.WaitStage.{WaitStage}
+use Rattle.gh_mutator.specs.declared.wait.WaitStage.TheVariants as wait_stage
 use Rattle.gh_mutator.specs.Faults.{rested}
-use Rattle.gh_mutator.specs.Full.{FullChangesLittle, is_looking}
-use Rattle.gh_mutator.specs.Mutating.{asks, begins, gives, goes, listing, marks_after, Mutating}
+use Rattle.gh_mutator.specs.Full.{after, FullChangesLittle, HasWaited, is_looking, is_waiting}
 use Rattle.gh_mutator.specs.Listing.{gives_at, takes_at}
-use Rattle.gh_mutator.specs.New.{after_find, finding, finds_none, gives_at as gives_new, makes, searches, takes_at as takes_new, wanted_of}
-use Rattle.gh_mutator.specs.Processor.{at_task, cache_span, cache_with, cached_in, set_register}
-use Rattle.gh_base.specs.Routines.{told}
-use Rattle.gh_base.specs.Reading.{set_twice}
-use Rattle.gh_mutator.proofs.NewSteps.{find_wants}
+use Rattle.gh_mutator.specs.Local.{cache_with, cached_in, stacks_with}
+use Rattle.gh_mutator.specs.Mutating.{asks, begins, gives, goes, listing, marks_after, Mutating}
+use Rattle.gh_mutator.specs.New.{after_search, after_wait, answer_search, gives_at as gives_new, makes, seeking, takes_at as takes_new, wanted_of}
+use Rattle.gh_mutator.specs.Processor.{at_poll, cache_span}
+use Rattle.gh_mutator.specs.Vocabulary.{At, CachedSpan, Found, Name, NewStage, NoRoom, Place, Placing, Polling, Processor, Search, Seeking, Shape, Sought, span_index, Task, Wait, Waiting, Wanted}
+use Rattle.gh_mutator.specs.Wait as wait
+use Rattle.gh_mutator.specs.WaitEnds as wait_proved
+use Rattle.gh_mutator.proofs.NewSteps.{search_wants}
+use Rattle.gh_mutator.proofs.Refusing.{KeptFor, kept, kept_first, refuses_none, search_looks}
+use Rattle.gh_mutator.proofs.Stacks.{wait_seat, wait_stacks}
 use Rattle.gh_mutator.proofs.Telling.{held_before}
 
--- ---- the search
+-- what is cleared reads as none
+cleared : (cache : List (Option CachedSpan)) (i : ℕ) → get_or (set cache i None) i None ≡ None
+cleared [] i = refl
+cleared (c ∷ cs) zero = refl
+cleared (c ∷ cs) (suc i) = cleared cs i
 
--- each of its steps looks for a slot
+none_in : (x : Sought) (cache : List (Option CachedSpan)) (c : Option CachedSpan) → ((k : _) → x ≡ Small k → c ≡ None) → cached_in (cache_with cache x c) x ≡ None
+none_in (Large pages noscan) cache c none = refl
+none_in (Small k) cache c none = rw (none k refl) (cleared cache (span_index k))
 
-slots_look : (s : slots.Searching) (p : SlotStage) → is_looking (slots.asks_at s p) ≡ true
-slots_look s slot_stage.Look = refl
-slots_look s slot_stage.Ended = refl
+-- a wait knows the same cycle until it ends, and ends by a later one
+poll_knows : (w : Waiting) (p : Polling) (out : Option (Unit {0})) → (wait.after_poll w p out).wait.known ≡ w.wait.known
+poll_knows w p None = refl
+poll_knows w p (Some x) = refl
 
-give_look : (g : give.Giving) (p : GiveStage) → is_looking (give.asks_at g p) ≡ true
-give_look g give_stage.Write = refl
-give_look g give_stage.Ended = refl
+swept_knows : (w : Waiting) (later : Bool) → (cond later (wait.at_stage w wait_stage.Ended) (wait.polling w)).wait.known ≡ w.wait.known
+swept_knows w true = refl
+swept_knows w false = refl
 
-pass_look : (m : pass.Pass) (p : PassStage) → is_looking (pass.asks_at m p) ≡ true
-pass_look m (pass_stage.Look page) = refl
-pass_look m (pass_stage.Bits page h i) = refl
-pass_look m (pass_stage.Take page h) = refl
-pass_look m pass_stage.Ended = refl
+knows_at : (w : Waiting) (stage : WaitStage) (v : ℕ) → (wait.goes_at w stage v).wait.known ≡ w.wait.known
+knows_at w wait_stage.Want v = refl
+knows_at w wait_stage.Polling v = poll_knows w _ _
+knows_at w wait_stage.LoadSwept v = swept_knows w (ltb w.wait.known v)
+knows_at w wait_stage.Ended v = refl
 
-carve_look : (c : carve.Carving) (p : CarveStage) → is_looking (carve.asks_at c p) ≡ true
-carve_look c (carve_stage.Look page run) = refl
-carve_look c (carve_stage.Body first i) = refl
-carve_look c (carve_stage.Head first) = refl
-carve_look c carve_stage.Ended = refl
+record EndsLater (w : Waiting) (stage : WaitStage) (v : ℕ) : Type 0 where
+  loads : wait.asks_at w stage ≡ Load cell.Swept
+  later : w.wait.known < v
 
-find_look : (f : Finding) (p : FindStage) → is_looking (find.asks_at f p) ≡ true
-find_look f (seek.Slots s) = slots_look s s.stage
-find_look f seek.Lock = refl
-find_look f (seek.Give g) = give_look g g.stage
-find_look f (seek.Pass p) = pass_look p p.stage
-find_look f (seek.Carve c) = carve_look c c.stage
-find_look f (seek.Unlock after) = refl
-find_look f seek.Ended = refl
-
--- no span is cached from the pass on, for an object of a size class
-abbrev NoneCached : FindStage → Option CachedSpan → Type 0
-NoneCached (seek.Pass p) cached = cached ≡ None
-NoneCached (seek.Carve c) cached = cached ≡ None
-NoneCached (seek.Unlock (End NoRoom)) cached = cached ≡ None
-NoneCached _ cached = Unit {0}
-
-abbrev Kept : Finding → Type 0
-Kept f = NoneCached f.stage f.cached
-
-module _ (c : SpanClass) where
-  -- the search is for an object of the class
-  abbrev of_class : Finding → FindStage → Option CachedSpan → Finding
-  of_class f p cached = record f { wanted = Small c; cached = cached; stage = p }
-
-  slots_kept : (f : Finding) (s : slots.Searching) (cached : Option CachedSpan) (out : Option (Option ℕ)) → Kept (find.after_slots (of_class f (seek.Slots s) cached) out)
-  slots_kept f s cached None = tt
-  slots_kept f s cached (Some None) = tt
-  slots_kept f s cached (Some (Some slot)) = tt
-
-  lock_kept : (f : Finding) (cached : Option CachedSpan) (free : Bool) → Kept (find.at_stage (of_class f seek.Lock cached) (cond free (find.locked_for (of_class f seek.Lock cached) (Small c) cached) seek.Lock))
-  lock_kept f (Some s) true = tt
-  lock_kept f None true = refl
-  lock_kept f cached false = tt
-
-  give_kept : (f : Finding) (g : give.Giving) (cached : Option CachedSpan) (out : Option (Unit {0})) → Kept (find.after_give (of_class f (seek.Give g) cached) out)
-  give_kept f g cached None = tt
-  give_kept f g cached (Some x) = refl
-
-  pass_kept : (f : Finding) (p : pass.Pass) (cached : Option CachedSpan) (out : Option (Option ℕ)) → cached ≡ None → Kept (find.after_pass (of_class f (seek.Pass p) cached) out)
-  pass_kept f p cached None none = none
-  pass_kept f p cached (Some None) none = none
-  pass_kept f p cached (Some (Some page)) none = tt
-
-  carve_kept : (f : Finding) (x : carve.Carving) (cached : Option CachedSpan) (out : Option (Option ℕ)) → cached ≡ None → Kept (find.after_carve (of_class f (seek.Carve x) cached) out)
-  carve_kept f x cached None none = none
-  carve_kept f x cached (Some None) none = none
-  carve_kept f x cached (Some (Some page)) none = tt
-
-  begin_kept : (f : Finding) (cached : Option CachedSpan) → NoneCached (find.begin f.layout (Small c) cached) cached
-  begin_kept f None = tt
-  begin_kept f (Some s) = by (ltb s.cursor (slots_of c.class)) where
-    by : (b : Bool) → NoneCached (cond b (seek.Slots (slots.opening f.layout (find.span_at c.class s))) seek.Lock) (Some s)
-    by true = tt
-    by false = tt
-
-  kept_at : (f : Finding) (cached : Option CachedSpan) (p : FindStage) (found : ℕ) → NoneCached p cached → Kept (find.goes_at (of_class f p cached) p found)
-  kept_at f cached (seek.Slots s) found none = slots_kept f (slots.goes s found) (find.move_cursor (slots.goes s found).span.cursor cached) (slots.gives s found)
-  kept_at f cached seek.Lock found none = lock_kept f cached (eqb found 0)
-  kept_at f cached (seek.Give g) found none = give_kept f (give.goes g found) cached (give.gives g found)
-  kept_at f cached (seek.Pass p) found none = pass_kept f (pass.goes p found) cached (pass.gives p found) none
-  kept_at f cached (seek.Carve x) found none = carve_kept f (carve.goes x found) cached (carve.gives x found) none
-  kept_at f cached (seek.Unlock Again) found none = begin_kept f cached
-  kept_at f cached (seek.Unlock (End out)) found none = tt
-  kept_at f cached seek.Ended found none = tt
-
-abbrev KeptFor : Sought → Finding → Type 0
-KeptFor (Small c) f = Kept f
-KeptFor (Large pages noscan) f = Unit {0}
-
-kept : (x : Sought) (f : Finding) (found : ℕ) → f.wanted ≡ x → KeptFor x f → KeptFor x (find.goes f found)
-kept (Large pages noscan) f found is h = tt
-kept (Small c) f found is h = subst (λ (x : Sought). Kept (find.goes (record f { wanted = x }) found)) (sym is) (kept_at c f f.cached f.stage found h)
-
-kept_first : (x : Sought) (f : Finding) → f.wanted ≡ x → f.stage ≡ find.begin f.layout x f.cached → KeptFor x f
-kept_first (Large pages noscan) f is at = tt
-kept_first (Small c) f is at = subst (λ (p : FindStage). NoneCached p f.cached) (sym at) (begin_kept c f f.cached)
-
--- it says that there is no room where it frees the lock, and the cached span stays by that step
-
-slot_says : (f : Finding) (out : Option (Option ℕ)) → find.slot_found f out ≡ Some NoRoom → ⊥
-slot_says f None e = absurd (cc)
-slot_says f (Some None) e = absurd (cc)
-slot_says f (Some (Some slot)) e = absurd (cc)
-
-refuses_at : (x : Sought) (f : Finding) (p : FindStage) (found : ℕ) → find.gives_at f p found ≡ Some NoRoom → NoneCached p f.cached → (f.cached ≡ None) × ((find.goes_at f p found).cached ≡ f.cached)
-refuses_at x f (seek.Slots s) found e h = absurd (slot_says (find.searched f (slots.goes s found)) (slots.gives s found) e)
-refuses_at x f seek.Lock found e h = absurd (cc)
-refuses_at x f (seek.Give g) found e h = absurd (cc)
-refuses_at x f (seek.Pass p) found e h = absurd (cc)
-refuses_at x f (seek.Carve c) found e h = absurd (cc)
-refuses_at x f (seek.Unlock Again) found e h = absurd (cc)
-refuses_at x f (seek.Unlock (End (At a))) found e h = absurd (cc)
-refuses_at x f (seek.Unlock (End NoRoom)) found e h = (h, refl)
-refuses_at x f seek.Ended found e h = absurd (cc)
-
--- the cached spans once it has refused
-refused : (x : Sought) (f : Finding) (found : ℕ) (cache : List (Option CachedSpan)) → find.gives f found ≡ Some NoRoom → KeptFor x f → cache_with cache x (find.goes f found).cached ≡ cache_with cache x None
-refused (Large pages noscan) f found cache e h = refl
-refused (Small c) f found cache e h =
-    let r = refuses_at (Small c) f f.stage found e h in
-    ap (λ (s : Option CachedSpan). set cache (span_index c) s) (r.1 ∙ r.0)
-
-twice : (x : Sought) (cache : List (Option CachedSpan)) (a b : Option CachedSpan) → cache_with (cache_with cache x a) x b ≡ cache_with cache x b
-twice (Large pages noscan) cache a b = refl
-twice (Small c) cache a b = set_twice cache (span_index c) a b
-
-same_cache : (x : Sought) (cache : List (Option CachedSpan)) → cache ≡ cache_with cache x (cached_in cache x)
-same_cache (Large pages noscan) cache = refl
-same_cache (Small c) cache = sym (set-get_or cache (span_index c) None)
-
--- ---- the statement
-
--- from m, the search runs, which is then f
-record Searching (m : Mutating) (w : Wanted) (x : Mutating) : Type 0 where
-  f : Finding
-  is : x ≡ record m { processor = at_task (cache_span m.processor w.sought f.cached) (searches w f) }
-  wanted : f.wanted ≡ w.sought
-  kept : KeptFor w.sought f
+ends_later : (w : Waiting) (stage : WaitStage) (v : ℕ) (x : Unit {0}) → wait.gives_at w.wait.known stage v ≡ Some x → EndsLater w stage v
+ends_later w wait_stage.LoadSwept v x e = by (ltb w.wait.known v) refl e where
+  by : (b : Bool) → ltb w.wait.known v ≡ b → wait.given b ≡ Some x → EndsLater w wait_stage.LoadSwept v
+  by true f e = record { loads = refl; later = ltb-true w.wait.known v f }
+  by false f e = absurd (cc)
+ends_later w wait_stage.Want v x e = absurd (cc)
+ends_later w wait_stage.Polling v x e = absurd (cc)
+ends_later w wait_stage.Ended v x e = absurd (cc)
 
 -- the search is over: no `full` is answered any more
 abbrev is_over : NewStage → Bool
-is_over (Find f) = false
 is_over (Place p) = true
+is_over _ = false
 
 abbrev is_past : Task → Bool
 is_past task.Idle = true
@@ -192,111 +81,214 @@ place_past : (w : Wanted) (p : Placing) (busy : Bool) → is_past (cond busy (ma
 place_past w p true = refl
 place_past w p false = refl
 
-new_past : (shapes : List Shape) (m : Processor) (w : Wanted) (s : NewStage) (found : ℕ) → is_over s ≡ true → is_past (takes_new shapes m w s found).task ≡ true
-new_past shapes m w (Find f) found e = absurd (cc)
-new_past shapes m w (Place p) found e = place_past w (place.goes p found) (place.is_busy (place.goes p found).stage)
+new_past : (shapes : List Shape) (m : Processor) (w : Wanted) (s : NewStage) (v : ℕ) → is_over s ≡ true → is_past (takes_new shapes m w s v).task ≡ true
+new_past shapes m w (Search waited s) v e = absurd (cc)
+new_past shapes m w (Wait x) v e = absurd (cc)
+new_past shapes m w (Place p) v e = place_past w (place.goes p v) (place.is_busy (place.goes p v).stage)
 
-past_at : (shapes : List Shape) (m : Processor) (t : Task) (found : ℕ) → is_past t ≡ true → is_past (takes_at shapes (at_task m t) t found).task ≡ true
-past_at shapes m task.Idle found e = refl
-past_at shapes m (task.New x) found e = new_past shapes (at_task m (task.New x)) x.wanted x.stage found e
-past_at shapes m _ found e = absurd (cc)
+past_at : (shapes : List Shape) (m : Processor) (t : Task) (v : ℕ) → m.task ≡ t → is_past t ≡ true → is_past (takes_at shapes m t v).task ≡ true
+past_at shapes m task.Idle v at e = rw at refl
+past_at shapes m (task.New x) v at e = new_past shapes m x.wanted x.stage v e
+past_at shapes m _ v at e = absurd (cc)
 
 place_answers : (n : Name) (busy : Bool) → cond busy None (Some (answer.Ref n)) ≡ Some answer.Full → ⊥
 place_answers n true e = absurd (cc)
 place_answers n false e = absurd (cc)
 
-new_answers : (s : NewStage) (found : ℕ) → is_over s ≡ true → gives_new s found ≡ Some answer.Full → ⊥
-new_answers (Find f) found e h = absurd (cc (e))
-new_answers (Place p) found e h = place_answers p.name (place.is_busy (place.goes p found).stage) h
+new_answers : (s : NewStage) (v : ℕ) → is_over s ≡ true → gives_new s v ≡ Some answer.Full → ⊥
+new_answers (Search waited s) v e h = absurd (cc (e))
+new_answers (Wait x) v e h = absurd (cc (e))
+new_answers (Place p) v e h = place_answers p.name (place.is_busy (place.goes p v).stage) h
 
-past_answers : (m : Processor) (t : Task) (found : ℕ) → is_past t ≡ true → gives_at m t found ≡ Some answer.Full → ⊥
-past_answers m task.Idle found e h = absurd (cc)
-past_answers m (task.New x) found e h = new_answers x.stage found e h
-past_answers m _ found e h = absurd (cc)
+past_answers : (m : Processor) (t : Task) (v : ℕ) → is_past t ≡ true → gives_at m t v ≡ Some answer.Full → ⊥
+past_answers m task.Idle v e h = absurd (cc)
+past_answers m (task.New x) v e h = new_answers x.stage v e h
+past_answers m _ v e h = absurd (cc)
 
-full_is : (out : Option Found) → cond (finds_none out) (Some answer.Full) None ≡ Some answer.Full → out ≡ Some NoRoom
-full_is None e = absurd (cc)
-full_is (Some (At a)) e = absurd (cc)
-full_is (Some NoRoom) e = refl
+-- `full` is answered behind the wait alone
+full_is : (waited : Bool) (out : Option Found) → answer_search waited out ≡ Some answer.Full → (waited ≡ true) × (out ≡ Some NoRoom)
+full_is waited None e = absurd (cc)
+full_is waited (Some (At a)) e = absurd (cc)
+full_is true (Some NoRoom) e = (refl, refl)
+full_is false (Some NoRoom) e = absurd (cc)
 
-module _ (m : Mutating) (w : Wanted) where
-  -- the machine while the search runs, which is f
-  abbrev searching : Finding → Mutating
-  searching f = record m { processor = at_task (cache_span m.processor w.sought f.cached) (searches w f) }
+module _ (m : Mutating) (g d t : ℕ) (found : ℕ → ℕ) where
+  abbrev w : Wanted
+  w = wanted_of m.shapes g d t
 
-  -- and behind its step, by which it has found this
-  abbrev stepped : (f g : Finding) → Option Found → Mutating
-  stepped f g out = record m {
-    processor = after_find m.shapes (cache_span (at_task (cache_span m.processor w.sought f.cached) (searches w f)) w.sought g.cached) w g out;
-    marks = marks_after m.marks (cond (finds_none out) (Some answer.Full) None);
+  abbrev now : ℕ → Mutating
+  now n = after m g d t found n
+
+  -- the machine at this stage, with this poll
+  abbrev state : Polling → NewStage → Mutating
+  state p s = record m { processor = record (m.processor) { poll = p; task = task.New (record { wanted = w; stage = s }) } }
+
+  record Seeks (s : Seeking) : Type 0 where
+    wanted : s.find.wanted ≡ w.sought
+    kept : KeptFor w.sought s
+
+  abbrev Facts : (i : ℕ) → Polling → NewStage → Type 0
+  Facts i p (Search true s) = HasWaited m g d t found i × Seeks s
+  Facts i p (Search false s) = (p.local.view.begun ≡ m.processor.poll.local.view.begun) × Seeks s
+  Facts i p (Wait x) = x.known ≡ m.processor.poll.local.view.begun
+  Facts i p (Place q) = ⊥
+
+  -- the poll's registers, layout and seat are those of the beginning
+  record Same (p : Polling) : Type 0 where
+    stacks : p.local.stacks ≡ m.processor.poll.local.stacks
+    layout : p.layout ≡ m.processor.poll.layout
+    seat : p.seat ≡ m.processor.poll.seat
+
+  record Stands (i : ℕ) (x : Mutating) : Type 0 where
+    p : Polling
+    s : NewStage
+    is : x ≡ state p s
+    same : Same p
+    facts : Facts i p s
+
+  -- the next step is one of a new object that goes on, or is past
+  abbrev Next : ℕ → Mutating → Type 0
+  Next i x = Stands i x ⊎ (is_past x.processor.task ≡ true)
+
+  seeks_first : (p : Polling) → Seeks (seeking (at_poll m.processor p) w)
+  seeks_first p = record { wanted = refl; kept = kept_first w.sought _ refl }
+
+  -- a step of the search, which is then s
+  abbrev searched : Polling → (waited : Bool) → Seeking → Seeking → Option Found → Mutating
+  searched p waited s n out = record m {
+    processor = after_search m.shapes (cache_span (state p (Search waited s)).processor w.sought n.find.cached) w waited n out;
+    marks = marks_after m.marks (answer_search waited out);
   }
 
-  goes_on : (f g : Finding) → stepped f g None ≡ searching g
-  goes_on f g = ap (λ (c : List (Option CachedSpan)). record m { processor = record m.processor { cache = c; task = searches w g } }) (twice w.sought m.processor.cache f.cached g.cached)
+  recached : (p : Polling) (c : Option CachedSpan) → Same p → Same (record p { local = record (p.local) { cache = cache_with p.local.cache w.sought c } })
+  recached p c k = record { stacks = k.stacks; layout = k.layout; seat = k.seat }
 
-  next_at : (f : Finding) (found : ℕ) (out : Option Found) → f.wanted ≡ w.sought → KeptFor w.sought f → Searching m w (stepped f (find.goes f found) out) ⊎ (is_past (stepped f (find.goes f found) out).processor.task ≡ true)
-  next_at f found None is h = inl (record { f = find.goes f found; is = goes_on f (find.goes f found); wanted = find_wants f found ∙ is; kept = kept w.sought f found is h })
-  next_at f found (Some (At a)) is h = inr refl
-  next_at f found (Some NoRoom) is h = inr refl
+  search_next : (i : ℕ) (p : Polling) (waited : Bool) (s n : Seeking) (out : Option Found) → Same p → Facts i p (Search waited s) → Seeks n → Next (suc i) (searched p waited s n out)
+  search_next i p true s n None k f r = inl (record { p = _; s = Search true n; is = refl; same = recached p n.find.cached k; facts = (later i f.0, r) }) where
+    later : (i : ℕ) → HasWaited m g d t found i → HasWaited m g d t found (suc i)
+    later i h = let less = h.before in record { at_step = h.at_step; before = omega arith; loads = h.loads; later = h.later }
+  search_next i p false s n None k f r = inl (record { p = _; s = Search false n; is = refl; same = recached p n.find.cached k; facts = (f.0, r) })
+  search_next i p waited s n (Some (At a)) k f r = inr refl
+  search_next i p true s n (Some NoRoom) k f r = inr refl
+  search_next i p false s n (Some NoRoom) k f r = inl (record { p = _; s = Wait _; is = refl; same = recached p n.find.cached k; facts = f.0 })
 
-  next : (x : Mutating) (found : ℕ) → Searching m w x → Searching m w (goes x found) ⊎ (is_past (goes x found).processor.task ≡ true)
-  next x found s = subst (λ (y : Mutating). Searching m w (goes y found) ⊎ (is_past (goes y found).processor.task ≡ true)) (sym s.is) (next_at s.f found (find.gives s.f found) s.wanted s.kept)
+  -- a step of the wait, which is then y
+  abbrev waited_on : Polling → WaitState → Waiting → Option (Unit {0}) → Mutating
+  waited_on p x y out = record m { processor = after_wait (state p (Wait x)).processor w y out }
 
-  -- what is left where there is no room
-  leaves_at : (f : Finding) (found : ℕ) → find.gives f found ≡ Some NoRoom → KeptFor w.sought f → goes (searching f) found ≡ rested m (set_register (cache_span m.processor w.sought None) w.g w.d value.Nil) answer.Full
-  leaves_at f found e h =
-      ap (stepped f (find.goes f found)) e
-      ∙ ap (λ (c : List (Option CachedSpan)). rested m (set_register (record m.processor { cache = c }) w.g w.d value.Nil) answer.Full)
-      (twice w.sought m.processor.cache f.cached (find.goes f found).cached ∙ refused w.sought f found m.processor.cache e h)
+  wait_next : (i : ℕ) (p : Polling) (x : WaitState) (y : Waiting) (out : Option (Unit {0})) → Same y.poll → y.wait.known ≡ m.processor.poll.local.view.begun → ((u : Unit {0}) → out ≡ Some u → HasWaited m g d t found (suc i)) → Next (suc i) (waited_on p x y out)
+  wait_next i p x y None k f h = inl (record { p = y.poll; s = Wait y.wait; is = refl; same = k; facts = f })
+  wait_next i p x y (Some u) k f h = inl (record { p = y.poll; s = Search true (seeking (at_poll m.processor y.poll) w); is = refl; same = k; facts = (h u refl, seeks_first y.poll) })
 
-  leaves : (x : Mutating) (found : ℕ) → Searching m w x → gives x found ≡ Some answer.Full → goes x found ≡ rested m (set_register (cache_span m.processor w.sought None) w.g w.d value.Nil) answer.Full
-  leaves x found s e =
-      let none : find.gives s.f found ≡ Some NoRoom = full_is (find.gives s.f found) (ap (λ (y : Mutating). gives y found) (sym s.is) ∙ e) in
-      ap (λ (y : Mutating). goes y found) s.is ∙ leaves_at s.f found none s.kept
+  seeks_on : (s : Seeking) (v : ℕ) → Seeks s → Seeks (search.goes s v)
+  seeks_on s v r = record { wanted = search_wants s v ∙ r.wanted; kept = kept w.sought s v r.wanted r.kept }
 
-  looks : (x : Mutating) → Searching m w x → is_looking (asks x) ≡ true
-  looks x s = subst (λ (y : Mutating). is_looking (asks y) ≡ true) (sym s.is) (find_look s.f s.f.stage)
+  wait_same : (p : Polling) (x : WaitState) (v : ℕ) → Same p → Same (wait.goes (wait.waiting x p) v).poll
+  wait_same p x v k = record {
+    stacks = wait_stacks (wait.waiting x p) v ∙ k.stacks;
+    layout = wait_proved.stays (wait.waiting x p) v ∙ k.layout;
+    seat = wait_seat (wait.waiting x p) v ∙ k.seat;
+  }
+
+  next_at : (i : ℕ) (p : Polling) (s : NewStage) → now i ≡ state p s → Same p → Facts i p s → Next (suc i) (goes (state p s) (found i))
+  next_at i p (Search waited s) e k f = search_next i p waited s (search.goes s (found i)) (search.gives s (found i)) k f (seeks_on s (found i) (seeks waited f)) where
+    seeks : (b : Bool) → Facts i p (Search b s) → Seeks s
+    seeks true f = f.1
+    seeks false f = f.1
+  next_at i p (Wait x) e k f =
+      wait_next i p x (wait.goes (wait.waiting x p) (found i)) (wait.gives (wait.waiting x p) (found i)) (wait_same p x (found i) k) (knows_at (wait.waiting x p) x.stage (found i) ∙ f)
+      (λ u is. let l = ends_later (wait.waiting x p) x.stage (found i) u is in record { at_step = i; before = omega arith; loads = ap asks e ∙ l.loads; later = subst (λ (n : ℕ). n < found i) f l.later })
+  next_at i p (Place q) e k f = absurd f
+
+  next : (i : ℕ) → Stands i (now i) → Next (suc i) (now (suc i))
+  next i st = subst (λ (x : Mutating). Next (suc i) (goes x (found i))) (sym st.is) (next_at i st.p st.s st.is st.same st.facts)
+
+  begins_so : Stands 0 (now 0)
+  begins_so = record {
+    p = m.processor.poll;
+    s = Search false (seeking m.processor w);
+    is = refl;
+    same = record { stacks = refl; layout = refl; seat = refl };
+    facts = (refl, seeks_first m.processor.poll);
+  }
 
   -- as long as no step has ended the search, it runs
-  runs : (b : Mutating) (found : ℕ → ℕ) (i : ℕ) → Searching m w b → ((j : ℕ) → j ≤ i → not (is_past (told listing b found j).processor.task) ≡ true) → Searching m w (told listing b found i)
-  runs b found zero s h = s
-  runs b found (suc i) s h = by (next (told listing b found i) (found i) (runs b found i s (λ j le. h j (omega arith)))) (h (suc i) (omega arith)) where
-    by : Searching m w (told listing b found (suc i)) ⊎ (is_past (told listing b found (suc i)).processor.task ≡ true) → not (is_past (told listing b found (suc i)).processor.task) ≡ true → Searching m w (told listing b found (suc i))
+  runs : (i : ℕ) → ((j : ℕ) → j ≤ i → not (is_past (now j).processor.task) ≡ true) → Stands i (now i)
+  runs zero h = begins_so
+  runs (suc i) h = by (next i (runs i (λ j le. h j (omega arith)))) (h (suc i) (omega arith)) where
+    by : Next (suc i) (now (suc i)) → not (is_past (now (suc i)).processor.task) ≡ true → Stands (suc i) (now (suc i))
     by (inl x) e = x
     by (inr x) e = absurd (false_true (ap not (sym x) ∙ e)) where
       false_true : false ≡ true → ⊥
       false_true q = absurd (cc)
 
-begins_searching : (m : Mutating) (w : Wanted) → Searching m w (record m { processor = at_task m.processor (searches w (finding m.processor w)) })
-begins_searching m w = record {
-  f = finding m.processor w;
-  is = ap (λ (c : List (Option CachedSpan)). record m { processor = record m.processor { cache = c; task = searches w (finding m.processor w) } }) (same_cache w.sought m.processor.cache);
-  wanted = refl;
-  kept = kept_first w.sought (finding m.processor w) refl refl;
-}
+  -- each step that is none of the wait looks for a slot
+  looks_at : (i : ℕ) (p : Polling) (s : NewStage) → Facts i p s → is_waiting (state p s).processor.task ≡ false → is_looking (asks (state p s)) ≡ true
+  looks_at i p (Search waited s) f e = search_looks s
+  looks_at i p (Wait x) f e = absurd (cc)
+  looks_at i p (Place q) f e = absurd f
+
+  looks : (i : ℕ) → Stands i (now i) → is_waiting (now i).processor.task ≡ false → is_looking (asks (now i)) ≡ true
+  looks i st e = subst (λ (x : Mutating). is_looking (asks x) ≡ true) (sym st.is) (looks_at i st.p st.s st.facts (subst (λ (x : Mutating). is_waiting x.processor.task ≡ false) st.is e))
+
+  -- what the step leaves that answers `full`
+  record Leaves (n : ℕ) (x : Mutating) : Type 0 where
+    waited : HasWaited m g d t found n
+    rests : x ≡ rested m (at_poll m.processor x.processor.poll) answer.Full
+    registers : x.processor.poll.local.stacks ≡ stacks_with m.processor.poll.local.stacks g d value.Nil
+    cached : cached_in x.processor.poll.local.cache w.sought ≡ None
+    layout : x.processor.poll.layout ≡ m.processor.poll.layout
+    seat : x.processor.poll.seat ≡ m.processor.poll.seat
+
+  full_leaves : (n : ℕ) (p : Polling) (s r : Seeking) (waited : Bool) (out : Option Found) → Same p → Facts n p (Search waited s) → waited ≡ true → out ≡ Some NoRoom → ((k : _) → w.sought ≡ Small k → r.find.cached ≡ None) → Leaves n (searched p waited s r out)
+  full_leaves n p s r true (Some NoRoom) k f h is none = record {
+    waited = f.0;
+    rests = refl;
+    registers = ap (λ (stacks : _). stacks_with stacks g d value.Nil) k.stacks;
+    cached = none_in w.sought p.local.cache r.find.cached none;
+    layout = k.layout;
+    seat = k.seat;
+  }
+  full_leaves n p s r false out k f h is none = absurd (cc)
+  full_leaves n p s r true None k f h is none = absurd (cc)
+  full_leaves n p s r true (Some (At a)) k f h is none = absurd (cc)
+
+  leaves_at : (n : ℕ) (p : Polling) (s : NewStage) → Same p → Facts n p s → gives (state p s) (found n) ≡ Some answer.Full → Leaves n (goes (state p s) (found n))
+  leaves_at n p (Search waited s) k f e =
+      let is = full_is waited (search.gives s (found n)) e in
+      full_leaves n p s (search.goes s (found n)) waited (search.gives s (found n)) k f is.0 is.1 (λ c small. refuses_none w.sought s (found n) c small is.1 (seeks waited f).kept) where
+        seeks : (b : Bool) → Facts n p (Search b s) → Seeks s
+        seeks true f = f.1
+        seeks false f = f.1
+  leaves_at n p (Wait x) k f e = absurd (cc)
+  leaves_at n p (Place q) k f e = absurd f
+
+  leaves : (n : ℕ) → Stands n (now n) → gives (now n) (found n) ≡ Some answer.Full → Leaves n (now (suc n))
+  leaves n st e = subst (λ (x : Mutating). Leaves n (goes x (found n))) (sym st.is) (leaves_at n st.p st.s st.same st.facts (subst (λ (x : Mutating). gives x (found n) ≡ Some answer.Full) st.is e))
 
 not_past : (b : Bool) → (b ≡ true → ⊥) → not b ≡ true
 not_past true h = absurd (h refl)
 not_past false h = refl
 
 past_before : (x : Mutating) (word : ℕ) → not (is_past (goes x word).processor.task) ≡ true → not (is_past x.processor.task) ≡ true
-past_before x word e = not_past (is_past x.processor.task) (λ h. by (ap not (sym (past_at x.shapes x.processor x.processor.task word h)) ∙ e)) where
+past_before x word e = not_past (is_past x.processor.task) (λ h. by (ap not (sym (past_at x.shapes x.processor x.processor.task word refl h)) ∙ e)) where
   by : false ≡ true → ⊥
   by q = absurd (cc)
 
 pub full_changes_little : FullChangesLittle
 full_changes_little m g d t found n e =
-    let b = begins m (op.New g d t) in
-    let last = told listing (begins m (op.New g d t)) found n in
-    let here : not (is_past (told listing (begins m (op.New g d t)) found n).processor.task) ≡ true =
-    not_past (is_past last.processor.task) (λ h. past_answers last.processor last.processor.task (found n) h e) in
-    let all : (i : ℕ) → i ≤ n → not (is_past (told listing (begins m (op.New g d t)) found i).processor.task) ≡ true =
+    let last = after m g d t found n in
+    let here : not (is_past (after m g d t found n).processor.task) ≡ true = not_past (is_past last.processor.task) (λ h. past_answers last.processor last.processor.task (found n) h e) in
+    let all : (i : ℕ) → i ≤ n → not (is_past (after m g d t found i).processor.task) ≡ true =
     held_before (λ (x : Mutating). not (is_past x.processor.task)) listing (begins m (op.New g d t)) found past_before n here in
-    let w = wanted_of m.shapes g d t in
-    let first : Searching m (wanted_of m.shapes g d t) (begins m (op.New g d t)) = begins_searching m (wanted_of m.shapes g d t) in
-    let at : (i : ℕ) → i ≤ n → Searching m (wanted_of m.shapes g d t) (told listing (begins m (op.New g d t)) found i) =
-    λ i le. runs m (wanted_of m.shapes g d t) (begins m (op.New g d t)) found i first (λ j before. all j (omega arith)) in
+    let at : (i : ℕ) → i ≤ n → Stands m g d t found i (after m g d t found i) = λ i le. runs m g d t found i (λ j before. all j (omega arith)) in
+    let l = leaves m g d t found n (at n (omega arith)) e in
     record {
-      looks = λ i le. looks m w (told listing (begins m (op.New g d t)) found i) (at i le);
-      leaves = leaves m w last (found n) (at n (omega arith)) e;
+      looks = λ i le. looks m g d t found i (at i le);
+      waited = l.waited;
+      leaves = l.rests;
+      registers = l.registers;
+      cached = l.cached;
+      layout = l.layout;
+      seat = l.seat;
     }

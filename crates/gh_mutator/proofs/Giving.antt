@@ -18,7 +18,7 @@ use Rattle.gh_mutator.specs.declared.give.GiveStage.{GiveStage}
 use Rattle.gh_mutator.specs.declared.give.GiveStage.TheVariants.{Lock, GiveSpan, Unlock, GiveBuffer, Ended}
 use Rattle.gh_mutator.specs.Give.{after_buffer, asks, asks_at, at_stage, begins, ends_with, first_of, gives, Giving, gives_at, giving_buffer, goes, goes_at, head_store, is_busy, listing, none_cached, opening, stage_from}
 use Rattle.gh_mutator.specs.GiveSound.{FitsCache}
-use Rattle.gh_mutator.specs.Sound.{SoundCached}
+use Rattle.gh_mutator.specs.Cached.{SoundCached}
 use Rattle.gh_mutator.specs.Gives.{after, buffer_stores, buffers_by, buffers_written, GivesAll, head_stores, LeftNothing, pages_by, pages_written}
 use Rattle.gh_base.specs.Reading.{read_after_set, read_replicate}
 
@@ -141,7 +141,7 @@ over g w e = over_at g g.stage w e
 -- what is left
 
 -- the spans behind the first of those from a class on
-drop_next : (i : ℕ) (xs : List (Option CachedSpan)) (v : Option CachedSpan) (vs : List (Option CachedSpan)) → drop i xs ≡ v ∷ vs → drop (i + 1) xs ≡ vs
+pub drop_next : (i : ℕ) (xs : List (Option CachedSpan)) (v : Option CachedSpan) (vs : List (Option CachedSpan)) → drop i xs ≡ v ∷ vs → drop (i + 1) xs ≡ vs
 drop_next zero xs v vs e = ap (drop 1) e
 drop_next (suc i) [] v vs e = absurd (cc)
 drop_next (suc i) (x ∷ xs) v vs e =

@@ -1,4 +1,5 @@
 pub mod Aims
+mod Calm
 pub mod Changes
 pub mod ClassFacts
 pub mod Deeds
@@ -13,16 +14,22 @@ pub mod Leaving
 pub mod Lists
 pub mod LoadSteps
 pub mod NewSteps
+mod Holding
+mod Marking
 mod Owning
 pub mod PollScans
 pub mod Polling
+pub mod Refusing
 mod Shaking
 pub mod Resuming
 pub mod Shapes
 pub mod Soundness
+pub mod Stacks
 pub mod StackMarking
 pub mod StackMarks
 pub mod Steps
 pub mod StoreSteps
 pub mod Telling
 pub mod Waiting
+pub mod Waits
+mod Writing

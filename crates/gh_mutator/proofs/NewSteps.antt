@@ -1,28 +1,36 @@
--- Own steps of a new object: the search for its slot, and the making of it.
+-- Own steps of a new object: the search for its slot, the wait for a cycle, and the making of it.
 use Rattle.std.proofs.Common.{◌≡◌, ℕ, ◌+◌, ◌*◌, ◌<◌, ◌≤◌, Bool, true, false, cond, ltb, List, get_or, refl, sym, ◌∙◌, ap, subst, Option, Some, None, IsNone, arith}
-use Rattle.std.specs.Prelude.{is_some}
 use Rattle.std.proofs.Math.ListN.{set}
-use Rattle.gh_mutator.specs.Vocabulary.{Layout, Shape, Name, slots_of, CachedSpan, FindStage, Found, At, NoRoom, Sought, PlaceStage, Finding, Placing, IsCached, NewStage, Find, Place, Wanted, Processor, Task}
-use Rattle.gh_base.specs.declared.value.Answer.TheVariants as answer
+use Rattle.gh_mutator.specs.Vocabulary.{Layout, Shape, slots_of, CachedSpan, FindStage, Found, At, NoRoom, Sought, PlaceStage, Finding, Placing, Seeking, NewStage, Search, Wait, Place, Wanted, Waiting, Processor, Task}
 use Rattle.gh_base.specs.declared.value.Value.TheVariants as value
 use Rattle.gh_cache.specs.Listing as slots
 use Rattle.gh_central.specs.GiveBack as give
+use Rattle.gh_central.specs.Reclaim.{Reclaiming}
+use Rattle.gh_central.specs.Reclaim as reclaim
 use Rattle.gh_central.specs.SweptPass as pass
 use Rattle.gh_pages.specs.Listing as carve
 use Rattle.gh_alloc.specs.declared.find.FindStage.TheVariants as finding
+use Rattle.gh_alloc.specs.declared.search.SearchStage.{SearchStage}
+use Rattle.gh_alloc.specs.declared.search.SearchStage.TheVariants as search_stage
 use Rattle.gh_alloc.specs.declared.sought.Sought.TheVariants.{Small, Large}
 use Rattle.gh_alloc.specs.declared.place.PlaceStage.TheVariants as making
-use Rattle.gh_alloc.specs.FindEnds as find_proved
+use Rattle.gh_alloc.specs.SearchEnds as search_proved
 use Rattle.gh_alloc.specs.Find as find
 use Rattle.gh_alloc.specs.Place as place
-use Rattle.gh_mutator.specs.declared.new.New.{New}
+use Rattle.gh_alloc.specs.Search as search
 use Rattle.gh_mutator.specs.declared.task.Task.TheVariants as task
-use Rattle.gh_mutator.specs.Listing.{gives, gives_at as gives_by, takes, takes_at as takes_by}
-use Rattle.gh_mutator.specs.New.{after_find, finding as finding_for, finds_none, is_made, made_object, makes, placing, searches, takes_at}
-use Rattle.gh_mutator.specs.NewParts.{after_making, cached_by, finds, goes_at, made_at, MakingFits, named_by, naming, searched}
-use Rattle.gh_mutator.specs.Processor.{at_task, cache_span, cached_for, made_by, set_register}
-use Rattle.gh_mutator.specs.Sound.{most_objects, Sound, SoundTask, SoundWanted}
-use Rattle.gh_mutator.proofs.Changes.{cached_sound, moved, taken}
+use Rattle.gh_mutator.specs.declared.new.New.{New}
+use Rattle.gh_mutator.specs.Listing.{takes, takes_at as takes_by}
+use Rattle.gh_mutator.specs.New.{after_found, after_search, after_wait, is_made, made_object, makes, placing, searches, seeking, takes_at, waits}
+use Rattle.gh_mutator.specs.NewParts.{made_at, MakingFits}
+use Rattle.gh_mutator.specs.Processor.{at_poll, at_task, cache_span, cached_for, made_by, set_register}
+use Rattle.gh_mutator.specs.Sound.{most_objects, Sound, SoundSearch, SoundTask, SoundWanted}
+use Rattle.gh_mutator.specs.Wait as wait
+use Rattle.gh_mutator.specs.WaitEnds as wait_proved
+use Rattle.gh_mutator.specs.WaitSound.{FitsWait}
+use Rattle.gh_mutator.proofs.Changes.{moved, polled, taken}
+use Rattle.gh_mutator.proofs.Stacks.{wait_stacks}
+use Rattle.gh_mutator.proofs.Waits.{wait_fits}
 use Rattle.gh_base.specs.Reading.{read_after_set}
 
 -- What the search keeps, and where the making of an object goes.
@@ -63,6 +71,18 @@ wants_at f finding.Ended found = refl
 pub find_wants : (f : Finding) (found : ℕ) → (find.goes f found).wanted ≡ f.wanted
 find_wants f found = wants_at f f.stage found
 
+free_wants : (f : Finding) (r : Reclaiming) (out : Option (Unit {0})) → (search.after_free f r out).find.wanted ≡ f.wanted
+free_wants f r None = refl
+free_wants f r (Some x) = refl
+
+search_wants_at : (f : Finding) (p : SearchStage) (found : ℕ) → (search.goes_at f p found).find.wanted ≡ f.wanted
+search_wants_at f search_stage.First found = find_wants f found
+search_wants_at f (search_stage.Free r) found = free_wants f (reclaim.goes r found) (reclaim.gives r found)
+search_wants_at f search_stage.Second found = find_wants f found
+
+pub search_wants : (s : Seeking) (found : ℕ) → (search.goes s found).find.wanted ≡ s.find.wanted
+search_wants s found = search_wants_at s.find s.stage found
+
 -- an object that is not made yet was not made before
 unmade_before : (p : Placing) (q : PlaceStage) (found : ℕ) → is_made (place.goes_at p q found) ≡ false → is_made q ≡ false
 unmade_before p (making.Clear k) found e = refl
@@ -96,124 +116,82 @@ made_after p making.Ended found e = absurd (cc)
 
 -- ---- its numbers stay in their ranges
 
-module _ (shapes : List Shape) where
-  -- once the search, which is then f, has found this
-  find_on : (n : Processor) (w : Wanted) (f : Finding) (out : Option Found) → Sound shapes n → SoundWanted shapes w → made_by n w.g < most_objects → f.layout ≡ n.layout → f.wanted ≡ w.sought → (out ≡ None → find.is_busy f.stage ≡ true) → Sound shapes (after_find shapes n w f out)
-  find_on n w f None s wanted name layout wants busy = moved shapes n (searches w f) s (wanted, record { busy = busy refl; layout = layout; wanted = wants }, name)
-  find_on n w f (Some (At a)) s wanted name layout wants busy = moved shapes n (makes w (placing shapes n w a)) s (wanted, record { busy = refl; layout = refl }, λ e. name)
-  find_on n w f (Some NoRoom) s wanted name layout wants busy = moved shapes (set_register n w.g w.d value.Nil) task.Idle (taken shapes n w.g w.d (Some value.Nil) s tt) tt
+is_none : {A : Type 0} {x : Option A} → x ≡ None → IsNone x
+is_none e = rw e refl
 
-  pub find_sound : (m : Processor) (w : Wanted) (f : Finding) (found : ℕ) → Sound shapes m → m.task ≡ searches w f → IsCached m.layout w.sought (find.goes f found).cached → Sound shapes (takes_at shapes m w (Find f) found)
-  find_sound m w f found s at fits =
-      let here : SoundTask shapes m.layout m.made (searches w f) = subst (λ (t : Task). SoundTask shapes m.layout m.made t) at s.task in
-      find_on (cache_span m w.sought (find.goes f found).cached) w (find.goes f found) (find.gives f found)
-      (cached_sound shapes m w.sought (find.goes f found).cached s fits) here.0 here.2 (find_proved.stays f found ∙ here.1.layout) (find_wants f found ∙ here.1.wanted)
-      (λ e. (find_proved.ends f found here.1.busy).0 (is_none e)) where
-        is_none : {A : Type 0} {x : Option A} → x ≡ None → IsNone x
-        is_none e = rw e refl
+-- the search begins busy
+pub search_begins : (m : Processor) (w : Wanted) → search.is_busy (seeking m w).find (seeking m w).stage ≡ true
+search_begins m w = by w.sought (cached_for m w.sought) where
+  more : (b : Bool) (c : _) → find.is_busy (cond b (finding.Slots (slots.opening m.poll.layout c)) finding.Lock) ≡ true
+  more true c = refl
+  more false c = refl
+
+  by : (x : Sought) (c : Option CachedSpan) → find.is_busy (find.begin m.poll.layout x c) ≡ true
+  by (Small c) (Some k) = more (ltb k.cursor (slots_of c.class)) _
+  by (Small c) None = refl
+  by (Large pages noscan) (Some k) = refl
+  by (Large pages noscan) None = refl
+
+search_sound : (m : Processor) (w : Wanted) → SoundSearch m.poll.layout w (seeking m w)
+search_sound m w = record { busy = search_begins m w; layout = refl; wanted = refl }
+
+module _ (shapes : List Shape) where
+  pub begins_sound : (m : Processor) (w : Wanted) → Sound shapes m → SoundWanted shapes w → made_by m w.g < most_objects → Sound shapes (at_task m (searches w false (seeking m w)))
+  begins_sound m w s h few = moved shapes m (searches w false (seeking m w)) s (h, search_sound m w, few)
+
+  -- the cached span has changed, and the task is not looked at
+  recached : (m : Processor) (x : Sought) (c : Option CachedSpan) → Sound shapes m → Sound shapes (at_task (cache_span m x c) task.Idle)
+  recached m x c s = record { registers = s.registers; few = s.few; task = tt }
+
+  -- once the search has found this
+  found_on : (n : Processor) (w : Wanted) (waited : Bool) (out : Found) → Sound shapes (at_task n task.Idle) → SoundWanted shapes w → made_by n w.g < most_objects → Sound shapes (after_found shapes n w waited out)
+  found_on n w waited (At a) s wanted name = moved shapes (at_task n task.Idle) (makes w (placing shapes n w a)) s (wanted, record { busy = refl; layout = refl }, λ e. name)
+  found_on n w true NoRoom s wanted name = taken shapes (at_task n task.Idle) w.g w.d (Some value.Nil) task.Idle s tt tt
+  found_on n w false NoRoom s wanted name = moved shapes (at_task n task.Idle) (waits w (wait.opening n.poll)) s (wanted, record { busy = refl; polls = tt }, name)
+
+  search_on : (n : Processor) (w : Wanted) (waited : Bool) (x : Seeking) (out : Option Found) → Sound shapes (at_task n task.Idle) → SoundWanted shapes w → made_by n w.g < most_objects → x.find.layout ≡ n.poll.layout → x.find.wanted ≡ w.sought → (out ≡ None → search.is_busy x.find x.stage ≡ true) → Sound shapes (after_search shapes n w waited x out)
+  search_on n w waited x None s wanted name layout wants busy = moved shapes (at_task n task.Idle) (searches w waited x) s (wanted, record { busy = busy refl; layout = layout; wanted = wants }, name)
+  search_on n w waited x (Some out) s wanted name layout wants busy = found_on n w waited out s wanted name
 
   -- one object more
   counts : (m : Processor) (g i : ℕ) → Sound shapes m → made_by m g < most_objects → get_or (set m.made g (made_by m g + 1)) i 0 ≤ most_objects
   counts m g i s few = read_after_set (λ n. n ≤ most_objects) m.made g i (made_by m g + 1) 0 (λ e. omega arith) (s.few i)
 
-  made_sound : (m : Processor) (w : Wanted) (a : ℕ) (t : Task) → Sound shapes m → a + 1 ≤ 1024 * m.layout.pages → made_by m w.g < most_objects → SoundTask shapes m.layout (set m.made w.g (made_by m w.g + 1)) t → Sound shapes (at_task (made_object m w a) t)
+  made_sound : (m : Processor) (w : Wanted) (a : ℕ) (t : Task) → Sound shapes m → a + 1 ≤ 1024 * m.poll.layout.pages → made_by m w.g < most_objects → SoundTask shapes (set_register m w.g w.d (value.Ref (a + 1))).poll (set m.made w.g (made_by m w.g + 1)) t → Sound shapes (at_task (made_object m w a) t)
   made_sound m w a t s near few h =
-      let n : Sound shapes (set_register (at_task m task.Idle) w.g w.d (value.Ref (a + 1))) = taken shapes (at_task m task.Idle) w.g w.d (Some (value.Ref (a + 1))) (moved shapes m task.Idle s tt) near in
-      record { seat = s.seat; generation = s.generation; registers = n.registers; cache = s.cache; few = λ i. counts m w.g i s few; task = h }
+      let n : Sound shapes (at_task (set_register m w.g w.d (value.Ref (a + 1))) task.Idle) = taken shapes m w.g w.d (Some (value.Ref (a + 1))) task.Idle s near tt in
+      record { registers = n.registers; few = λ i. counts m w.g i s few; task = h }
 
-  place_on : (m : Processor) (w : Wanted) (made more : Bool) (a : ℕ) (p : Placing) → Sound shapes m → SoundWanted shapes w → p.layout ≡ m.layout → (made ≡ true → a + 1 ≤ 1024 * m.layout.pages) → place.is_busy p.stage ≡ more → (made ≡ true → made_by m w.g < most_objects) → (made ≡ true → is_made p.stage ≡ true) → (made ≡ false → is_made p.stage ≡ false → made_by m w.g < most_objects) →
+  place_on : (m : Processor) (w : Wanted) (made more : Bool) (a : ℕ) (p : Placing) → Sound shapes m → SoundWanted shapes w → p.layout ≡ m.poll.layout → (made ≡ true → a + 1 ≤ 1024 * m.poll.layout.pages) → place.is_busy p.stage ≡ more → (made ≡ true → made_by m w.g < most_objects) → (made ≡ true → is_made p.stage ≡ true) → (made ≡ false → is_made p.stage ≡ false → made_by m w.g < most_objects) →
       Sound shapes (at_task (cond made (made_object m w a) m) (cond more (makes w p) task.Idle))
   place_on m w true true a p s wanted layout near busy few gone unmade = made_sound m w a (makes w p) s (near refl) (few refl) (wanted, record { busy = busy; layout = layout }, λ e. absurd (cc (e, gone refl)))
   place_on m w true false a p s wanted layout near busy few gone unmade = made_sound m w a task.Idle s (near refl) (few refl) tt
   place_on m w false true a p s wanted layout near busy few gone unmade = moved shapes m (makes w p) s (wanted, record { busy = busy; layout = layout }, unmade refl)
   place_on m w false false a p s wanted layout near busy few gone unmade = moved shapes m task.Idle s tt
 
-  pub place_sound : (m : Processor) (w : Wanted) (p : Placing) (found : ℕ) → Sound shapes m → m.task ≡ makes w p → (place.acts p ≡ true → p.at + 1 ≤ 1024 * m.layout.pages) → Sound shapes (takes_at shapes m w (Place p) found)
-  place_sound m w p found s at near =
-      let here : SoundTask shapes m.layout m.made (makes w p) = subst (λ (t : Task). SoundTask shapes m.layout m.made t) at s.task in
-      place_on m w (place.acts p) (place.is_busy (place.goes p found).stage) p.at (place.goes p found) s here.0 here.1.layout near refl
+  -- the object's first heap word is asked for where it is made alone
+  at_within : (l : Layout) (acts : Bool) (a : ℕ) → MakingFits l (cond acts (Some a) None) → acts ≡ true → a + 1 ≤ 1024 * l.pages
+  at_within l true a h e = h
+  at_within l false a h e = absurd (cc)
+
+  -- after a step of the wait
+  wait_on : (m : Processor) (w : Wanted) (x : Waiting) (out : Option (Unit {0})) → Sound shapes m → SoundWanted shapes w → made_by m w.g < most_objects → x.poll.layout ≡ m.poll.layout → x.poll.local.stacks ≡ m.poll.local.stacks → (out ≡ None → FitsWait x.poll x.wait) → Sound shapes (after_wait m w x out)
+  wait_on m w x None s wanted name layout stacks fits = polled shapes m x.poll (waits w x) s layout stacks (wanted, fits refl, name)
+  wait_on m w x (Some y) s wanted name layout stacks fits = polled shapes m x.poll (searches w true (seeking (at_poll m x.poll) w)) s layout stacks (wanted, search_sound (at_poll m x.poll) w, name)
+
+  -- the step at this stage; it makes the object in the arena
+  pub new_sound : (m : Processor) (w : Wanted) (x : NewStage) (found : ℕ) → Sound shapes m → SoundTask shapes m.poll m.made (task.New (record { wanted = w; stage = x })) → ((p : Placing) → x ≡ Place p → MakingFits p.layout (made_at p)) → Sound shapes (takes_at shapes m w x found)
+  new_sound m w (Search waited x) found s here fits =
+      search_on (cache_span m w.sought (search.goes x found).find.cached) w waited (search.goes x found) (search.gives x found)
+      (recached m w.sought (search.goes x found).find.cached s) here.0 here.2 (search_proved.stays x found ∙ here.1.layout) (search_wants x found ∙ here.1.wanted)
+      (λ e. (search_proved.ends x found here.1.busy).0 (is_none e))
+  new_sound m w (Wait x) found s here fits =
+      wait_on m w (wait.goes (wait.waiting x m.poll) found) (wait.gives (wait.waiting x m.poll) found) s here.0 here.2 (wait_proved.stays (wait.waiting x m.poll) found) (wait_stacks (wait.waiting x m.poll) found) (λ e. wait_fits (wait.waiting x m.poll) found here.1 e)
+  new_sound m w (Place p) found s here fits =
+      place_on m w (place.acts p) (place.is_busy (place.goes p found).stage) p.at (place.goes p found) s here.0 here.1.layout (λ e. subst (λ (l : Layout). p.at + 1 ≤ 1024 * l.pages) here.1.layout (at_within p.layout (place.acts p) p.at (fits p refl) e)) refl
       (λ e. here.2 (acts_unmade p.stage e)) (made_after p p.stage found) (λ e unmade. here.2 (unmade_before p p.stage found unmade))
 
-  -- the search begins busy
-  find_begins : (m : Processor) (w : Wanted) → find.is_busy (finding_for m w).stage ≡ true
-  find_begins m w = by w.sought (cached_for m w.sought) where
-    more : (b : Bool) (c : _) → find.is_busy (cond b (finding.Slots (slots.opening m.layout c)) finding.Lock) ≡ true
-    more true c = refl
-    more false c = refl
-
-    by : (x : Sought) (c : Option CachedSpan) → find.is_busy (find.begin m.layout x c) ≡ true
-    by (Small c) (Some k) = more (ltb k.cursor (slots_of c.class)) _
-    by (Small c) None = refl
-    by (Large pages noscan) (Some k) = refl
-    by (Large pages noscan) None = refl
-
-  pub begins_sound : (m : Processor) (w : Wanted) → Sound shapes m → SoundWanted shapes w → made_by m w.g < most_objects → Sound shapes (at_task m (searches w (finding_for m w)))
-  begins_sound m w s h few = moved shapes m (searches w (finding_for m w)) s (h, record { busy = find_begins m w; layout = refl; wanted = refl }, few)
-
-  -- ---- what the processor's code does is what the listing says
-
-  takes_new : (m : Processor) (w : Wanted) (s : NewStage) (found : ℕ) → m.task ≡ task.New (record { wanted = w; stage = s }) → takes shapes m found ≡ takes_at shapes m w s found
-  takes_new m w s found at = ap (λ (t : Task). takes_by shapes m t found) at
-
-  find_applied : (m : Processor) (w : Wanted) (f other : Finding) (c : Option CachedSpan) (out : Option Found) →
-      cond (is_some out) (after_find shapes (cache_span (at_task m (searches w f)) w.sought c) w other out) (cache_span (at_task m (searches w f)) w.sought c) ≡ after_find shapes (cache_span m w.sought c) w f out
-  find_applied m w f other c None = refl
-  find_applied m w f other c (Some (At a)) = refl
-  find_applied m w f other c (Some NoRoom) = refl
-
-  pub search_goes : (m : Processor) (w : Wanted) (s : NewStage) (y : New) (found : ℕ) (c : Option CachedSpan) (out : Option Found) (middle next : Processor) → m.task ≡ task.New (record { wanted = w; stage = s }) → finds s ≡ true →
-      y ≡ record { wanted = w; stage = goes_at s found } → c ≡ cached_by s found → out ≡ searched s found →
-      middle ≡ cache_span (at_task m (task.New y)) w.sought c → next ≡ cond (is_some out) (after_find shapes middle w (finding_for middle w) out) middle → next ≡ takes shapes m found
-  search_goes m w (Place p) y found c out middle next at search is cached gives noted goes = absurd (cc)
-  search_goes m w (Find f) y found c out middle next at search is cached gives noted goes =
-      let there : middle ≡ cache_span (at_task m (searches w (find.goes f found))) w.sought (find.goes f found).cached =
-      noted ∙ ap (λ (x : New). cache_span (at_task m (task.New x)) w.sought c) is ∙ ap (λ (x : Option CachedSpan). cache_span (at_task m (searches w (find.goes f found))) w.sought x) cached in
-      goes ∙ ap (λ (o : Option Found). cond (is_some o) (after_find shapes middle w (finding_for middle w) o) middle) gives
-      ∙ ap (λ (x : Processor). cond (is_some (find.gives f found)) (after_find shapes x w (finding_for x w) (find.gives f found)) x) there
-      ∙ find_applied m w (find.goes f found) (finding_for (cache_span (at_task m (searches w (find.goes f found))) w.sought (find.goes f found).cached) w) (find.goes f found).cached (find.gives f found)
-      ∙ sym (takes_new m w (Find f) found at)
-
-  pub search_gives : (m : Processor) (w : Wanted) (s : NewStage) (found : ℕ) (out : Option Found) → m.task ≡ task.New (record { wanted = w; stage = s }) → finds s ≡ true → out ≡ searched s found → cond (finds_none out) (Some answer.Full) None ≡ gives m found
-  search_gives m w (Place p) found out at search is = absurd (cc)
-  search_gives m w (Find f) found out at search is = ap (λ (o : Option Found). cond (finds_none o) (Some answer.Full) None) is ∙ ap (λ (t : Task). gives_by m t found) (sym at)
-
-  pub search_sound : (m : Processor) (w : Wanted) (s : NewStage) (found : ℕ) (c : Option CachedSpan) → Sound shapes m → m.task ≡ task.New (record { wanted = w; stage = s }) → finds s ≡ true → c ≡ cached_by s found → IsCached m.layout w.sought c → Sound shapes (takes shapes m found)
-  search_sound m w (Place p) found c sound at search is fits = absurd (cc)
-  search_sound m w (Find f) found c sound at search is fits =
-      subst (λ (x : Processor). Sound shapes x) (sym (takes_new m w (Find f) found at)) (find_sound m w f found sound at (subst (λ (x : Option CachedSpan). IsCached m.layout w.sought x) is fits))
-
-  place_applied : (m : Processor) (w : Wanted) (p : Placing) (a : ℕ) (acts busy : Bool) (n : Name) →
-      after_making (at_task m (makes w p)) w (cond acts (Some a) None) (cond busy None (Some n)) ≡ at_task (cond acts (made_object m w a) m) (cond busy (makes w p) task.Idle)
-  place_applied m w p a true true n = refl
-  place_applied m w p a true false n = refl
-  place_applied m w p a false true n = refl
-  place_applied m w p a false false n = refl
-
-  pub making_goes : (m : Processor) (w : Wanted) (s : NewStage) (y : New) (found : ℕ) (made : Option ℕ) (name : Option Name) (next : Processor) → m.task ≡ task.New (record { wanted = w; stage = s }) → finds s ≡ false →
-      y ≡ record { wanted = w; stage = goes_at s found } → made ≡ made_at s → name ≡ named_by s found → next ≡ after_making (at_task m (task.New y)) w made name → next ≡ takes shapes m found
-  making_goes m w (Find f) y found made name next at search is acts named goes = absurd (cc)
-  making_goes m w (Place p) y found made name next at search is acts named goes =
-      goes ∙ ap (λ (x : New). after_making (at_task m (task.New x)) w made name) is
-      ∙ ap (λ (x : Option ℕ). after_making (at_task m (makes w (place.goes p found))) w x name) acts
-      ∙ ap (λ (x : Option Name). after_making (at_task m (makes w (place.goes p found))) w (cond (place.acts p) (Some p.at) None) x) named
-      ∙ place_applied m w (place.goes p found) p.at (place.acts p) (place.is_busy (place.goes p found).stage) p.name
-      ∙ sym (takes_new m w (Place p) found at)
-
-  named : (busy : Bool) (n : Name) → naming (cond busy None (Some n)) ≡ cond busy None (Some (answer.Ref n))
-  named true n = refl
-  named false n = refl
-
-  pub making_gives : (m : Processor) (w : Wanted) (s : NewStage) (found : ℕ) (name : Option Name) → m.task ≡ task.New (record { wanted = w; stage = s }) → finds s ≡ false → name ≡ named_by s found → naming name ≡ gives m found
-  making_gives m w (Find f) found name at search is = absurd (cc)
-  making_gives m w (Place p) found name at search is = ap naming is ∙ named (place.is_busy (place.goes p found).stage) p.name ∙ ap (λ (t : Task). gives_by m t found) (sym at)
-
-  -- the object's first heap word is asked for where it is made alone
-  at_within : (l : Layout) (acts : Bool) (a : ℕ) → acts ≡ true → MakingFits l (cond acts (Some a) None) → a + 1 ≤ 1024 * l.pages
-  at_within l true a e h = h
-  at_within l false a e h = absurd (cc)
-
-  pub making_sound : (m : Processor) (w : Wanted) (s : NewStage) (found : ℕ) (made : Option ℕ) → Sound shapes m → m.task ≡ task.New (record { wanted = w; stage = s }) → finds s ≡ false → made ≡ made_at s → MakingFits m.layout made → Sound shapes (takes shapes m found)
-  making_sound m w (Find f) found made sound at search is fits = absurd (cc)
-  making_sound m w (Place p) found made sound at search is fits =
-      subst (λ (x : Processor). Sound shapes x) (sym (takes_new m w (Place p) found at))
-      (place_sound m w p found sound at (λ e. at_within m.layout (place.acts p) p.at e (subst (λ (x : Option ℕ). MakingFits m.layout x) is fits)))
+  pub take_sound : (m : Processor) (n : New) (found : ℕ) (next : Processor) → Sound shapes m → m.task ≡ task.New n → ((p : Placing) → n.stage ≡ Place p → MakingFits p.layout (made_at p)) → next ≡ takes shapes m found → Sound shapes next
+  take_sound m n found next s at fits goes =
+      subst (λ (x : Processor). Sound shapes x) (sym (goes ∙ ap (λ (t : Task). takes_by shapes m t found) at))
+      (new_sound m n.wanted n.stage found s (subst (λ (t : Task). SoundTask shapes m.poll m.made t) at s.task) fits)

@@ -3,22 +3,12 @@ use Rattle.std.proofs.Common.{◌≡◌, ◌≢◌, ℕ, zero, suc, ◌+◌, ◌
 use Rattle.std.specs.Prelude.{slice_index_or}
 use Rattle.std.proofs.lemmas.Bool.{eq-eqb, eqb-true}
 use Rattle.std.proofs.lemmas.Bool.Decides.{nat_tests}
-use Rattle.gh_base.specs.declared.cell.Ask.{Ask}
 use Rattle.gh_base.specs.declared.cell.Ask.TheVariants.{Store, Or, Swap}
 use Rattle.gh_base.specs.declared.cell.Cell.TheVariants as cell
-use Rattle.gh_base.specs.declared.held.Held.{Held}
-use Rattle.gh_base.specs.declared.layout.Layout.{Layout}
-use Rattle.gh_base.specs.declared.value.Value.{Value}
-use Rattle.gh_base.specs.Packing.{phase_of}
-use Rattle.gh_phase.specs.declared.resume.Resumed.{Resumed}
-use Rattle.gh_phase.specs.declared.view.RunPhase.{RunPhase}
 use Rattle.gh_phase.specs.declared.view.RunPhase.TheVariants as run
-use Rattle.gh_phase.specs.declared.view.View.{View}
 use Rattle.gh_phase.specs.Listing as resume
-use Rattle.gh_phase.specs.Views.{run_phase}
 use Rattle.gh_wbuf.specs.RoomFinding as room
-use Rattle.gh_mutator.specs.declared.poll.Local.{Local}
-use Rattle.gh_mutator.specs.declared.poll.PollStage.{PollStage}
+use Rattle.gh_mutator.specs.Collecting.{Ask, Held, Layout, Value, phase_of, Resumed, RunPhase, View, run_phase, Local, PollStage}
 use Rattle.gh_mutator.specs.declared.poll.PollStage.TheVariants.{LoadPhase, Giving, Resuming, Marking, FindRoom, Ended}
 use Rattle.gh_mutator.specs.Give as give
 use Rattle.gh_mutator.specs.MarkStack as mark

@@ -2,21 +2,12 @@
 use Rattle.std.proofs.Common.{◌≡◌, ℕ, zero, suc, Bool, true, false, cond, length, Option, Some, None, refl, sym, ap, subst, ◌∙◌}
 use Rattle.gh_base.specs.declared.cell.Cell.TheVariants.{Ack}
 use Rattle.gh_base.specs.declared.cell.Ask.TheVariants.{Store}
-use Rattle.gh_base.specs.declared.held.Held.{Held}
-use Rattle.gh_base.specs.declared.layout.Layout.{Layout}
-use Rattle.gh_base.specs.Packing.{phase_of}
-use Rattle.gh_class.specs.declared.class.TheConstants.{SPAN_CLASSES}
-use Rattle.gh_phase.specs.declared.resume.Resumed.{Resumed}
-use Rattle.gh_phase.specs.declared.view.RunPhase.{RunPhase}
 use Rattle.gh_phase.specs.declared.view.RunPhase.TheVariants as run
 use Rattle.gh_phase.specs.Listing as resume
-use Rattle.gh_phase.specs.Views.{run_phase}
 use Rattle.gh_wbuf.specs.RoomFinding as room
-use Rattle.gh_mutator.specs.declared.poll.Local.{Local}
-use Rattle.gh_mutator.specs.declared.poll.PollStage.{PollStage}
+use Rattle.gh_mutator.specs.Collecting.{Held, Layout, phase_of, SPAN_CLASSES, Resumed, RunPhase, run_phase, Local, PollStage, none_cached}
 use Rattle.gh_mutator.specs.declared.poll.PollStage.TheVariants.{LoadPhase, Giving, Resuming, Marking, FindRoom, Ended}
 use Rattle.gh_mutator.specs.Give as give
-use Rattle.gh_mutator.specs.Give.{none_cached}
 use Rattle.gh_mutator.specs.MarkStack as mark
 use Rattle.gh_mutator.specs.Poll.{after_mark, after_resume, after_room, asks_at, at_stage, by_phase, counted, due, giving, goes, has_two, marks_then, Polling, resumed, room_stage, scanned, scans, stops_then}
 use Rattle.gh_mutator.specs.Polls.{after, HoldsNothing, PollsSo}

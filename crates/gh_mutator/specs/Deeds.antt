@@ -5,28 +5,27 @@ use Rattle.gh_base.specs.declared.machine.Entry.{Entry}
 use Rattle.gh_base.specs.declared.operation.Op.TheVariants as op
 use Rattle.gh_base.specs.Lists.{Kind}
 use Rattle.gh_base.specs.Orders.{Deeds, DeedsFit, Meaning, before_step, model_after}
-use Rattle.gh_model.specs.Ever.{Ever, ever_after, opening_ever}
-use Rattle.gh_mutator.specs.declared.own.Own.TheVariants as own_step
+use Rattle.gh_base.specs.declared.value.Answer.TheVariants as answer
+use Rattle.gh_model.specs.Ever.{Ever, answer_of, ever_after, opening_ever}
 use Rattle.gh_mutator.specs.declared.task.Task.TheVariants as task
-use Rattle.gh_mutator.specs.Facts.{acted, answer_at}
 use Rattle.gh_mutator.specs.Listing.{Act, acts, asks, begins, gives, is_busy_at, op_at, takes}
 use Rattle.gh_mutator.specs.Processor.{opening_processor}
+use Rattle.gh_mutator.specs.Serving.{has_left_at}
 
--- the processor as a kind of actor
+-- the processor as a kind of actor; one that has left begins nothing
 abbrev pub processor_kind : List Shape → Layout → Kind Processor Op
 processor_kind shapes l = record {
   start = λ seat. opening_processor l seat;
-  begins = begins shapes;
+  begins = λ m o. if has_left_at m.task then m else begins shapes m o;
   asks = asks;
   takes = takes shapes;
   busy = λ m. is_busy_at m.task;
 }
 
--- Statements and the ends of goroutines have points. A poll and a leave have none, nor has `gc`, of which there is no listing yet.
+-- Statements and the ends of goroutines have points. A poll and a leave have none.
 abbrev pub has_point : Op → Bool
 has_point op.Poll = false
 has_point op.Leave = false
-has_point (op.Gc g) = false
 has_point _ = true
 
 -- the operation, if it has a point
@@ -41,8 +40,8 @@ point_of (Some x) = if has_point x.op then Some x else None
 
 -- what an operation with a point is answered
 abbrev pub given_at : Task → Option Answer → Option Answer
-given_at (task.Own own_step.Poll) given = None
-given_at (task.Own own_step.Leave) given = None
+given_at task.Poll given = None
+given_at (task.Leave x) given = None
 given_at _ given = given
 
 abbrev pub deeds : List Shape → Deeds Processor Op Act Answer
@@ -53,6 +52,14 @@ deeds shapes = record {
   of = λ x. x.op;
   gives = λ m found. given_at m.task (gives m found);
 }
+
+-- what an operation is answered where it acts
+abbrev pub answer_at : List Shape → Ever → Act → Answer
+answer_at shapes e x = if x.full then answer.Full else answer_of shapes e x.op
+
+abbrev pub acted : List Shape → Ever → Option Act → Ever
+acted shapes e None = e
+acted shapes e (Some x) = ever_after shapes e x.op (answer_at shapes e x)
 
 -- what a point means in the heap that never frees
 abbrev pub meaning : List Shape → Meaning Ever Act Answer

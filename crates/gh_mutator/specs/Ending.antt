@@ -1,13 +1,17 @@
--- How many steps an operation takes that makes no object.
+-- How many steps an operation takes that neither makes an object nor polls.
 use Rattle.std.specs.Prelude.{◌≡◌, ℕ, Bool, true, false}
 use Rattle.gh_base.specs.declared.operation.Op.{Op}
 use Rattle.gh_base.specs.declared.operation.Op.TheVariants as op
 use Rattle.gh_mutator.specs.Mutating.{begins, listing, Mutating}
 use Rattle.gh_base.specs.Routines.{EndsWithin}
 
-abbrev pub makes_object : Op → Bool
-makes_object (op.New g d t) = true
-makes_object _ = false
+-- a new object takes as many as the heap is large; a poll, and what polls or gives back, waits for others
+abbrev pub may_wait : Op → Bool
+may_wait (op.New g d t) = true
+may_wait (op.Gc g) = true
+may_wait op.Poll = true
+may_wait op.Leave = true
+may_wait _ = false
 
 -- a load: the page word, the bitmap, the field, the name; a store: the page word, the bitmap, the field; a global's load: the global, the name
 abbrev pub most_steps : Op → ℕ
@@ -18,4 +22,4 @@ most_steps _ = 1
 
 -- whatever the steps find
 abbrev pub OperationsEnd : Type 0
-OperationsEnd = (m : Mutating) (o : Op) (found : ℕ → ℕ) → makes_object o ≡ false → EndsWithin listing (most_steps o) (begins m o) found
+OperationsEnd = (m : Mutating) (o : Op) (found : ℕ → ℕ) → may_wait o ≡ false → EndsWithin listing (most_steps o) (begins m o) found

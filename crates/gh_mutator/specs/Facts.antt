@@ -1,7 +1,7 @@
--- What is known of a processor while any number of them change the heap: of its registers, its cached spans and its rights at every moment, and of the statement that it is at; and the laws: what each step of its own is, and that what is known lasts whatever others do.
-use Rattle.std.specs.Prelude.{◌≡◌, ◌≢◌, ℕ, ◌+◌, ◌*◌, ◌^◌, ◌<◌, Bool, true, false, ◌==◌, ◌||◌, if◌then◌else◌, List, [], ◌∷◌, ◌++◌, length, Option, Some, None}
+-- What is known of a processor while any number of them change the heap: of what it alone knows, and of its rights, at every moment, and of the operation that it is at; and the laws: what each step of its own is, and that what is known lasts whatever others do. What is known while it polls, waits or leaves is in PollHeap.
+use Rattle.std.specs.Prelude.{◌≡◌, ◌≢◌, ℕ, ◌+◌, ◌^◌, ◌<◌, ◌≤◌, Bool, true, false, List, ◌++◌, length, slice_index, Option, Some, None}
 use Rattle.std.specs.Option.{option_to_list}
-use Rattle.gh_mutator.specs.Vocabulary.{Answer, answer_of, Arena, CachedSpan, cell_of, Ever, ever_after, EverValue, Find, Finding, fits, FitsShape, Global, GlobalStage, Good, is_number, IsMade, IsOf, Load, LoadStage, Means, MOST_GOROUTINES, MOST_STATEMENTS, Name, NewStage, Op, Own, page_of, Place, Placing, points, Processor, Register, REGISTERS, Right, Runs, Shape, shape_at, Shared, size_for, Small, Sought, Source, SPAN_CLASSES, SpanClass, SpanHead, Steps, Store, StoreStage, Task, View, view, Wanted}
+use Rattle.gh_mutator.specs.Vocabulary.{Answer, Arena, cell_of, Ever, EverValue, fits, FitsShape, Global, GlobalStage, Good, is_number, IsMade, IsOf, Load, LoadStage, MOST_GOROUTINES, MOST_STATEMENTS, Name, NewStage, Op, page_of, Place, Placing, points, Polling, Processor, Register, REGISTERS, Runs, Search, Seeking, Shape, shape_at, Shared, size_for, Small, Sought, Source, SpanClass, SpanHead, Steps, Store, StoreStage, Task, View, view, Wait, Wanted}
 use Rattle.gh_base.specs.declared.operation.Op.TheVariants as op
 use Rattle.gh_base.specs.declared.pack.PageWord.TheVariants as page
 use Rattle.gh_base.specs.declared.value.Answer.TheVariants as answer
@@ -9,31 +9,26 @@ use Rattle.gh_base.specs.Shapes.{bits_at}
 use Rattle.gh_class.specs.declared.class.SizeClass.TheVariants as size
 use Rattle.gh_model.specs.declared.EverValue.TheVariants as ever
 use Rattle.gh_heap.specs.Moves.{Others}
-use Rattle.gh_heap.specs.Spans.{Laying}
-use Rattle.gh_alloc.specs.FindFacts as find
+use Rattle.gh_heap.specs.Rights.{Rights}
+use Rattle.gh_heap.specs.Spans.{Freeing, IsFull, IsInUse, Laying}
 use Rattle.gh_alloc.specs.Find.{span_for}
+use Rattle.gh_alloc.specs.FindFacts.{own_found, with_span}
 use Rattle.gh_alloc.specs.PlaceFacts as place
-use Rattle.gh_pages.specs.Facts.{NoRun}
+use Rattle.gh_alloc.specs.SearchFacts as search
 use Rattle.gh_mutator.specs.declared.global.GlobalStage.TheVariants as global_stage
 use Rattle.gh_mutator.specs.declared.load.LoadStage.TheVariants as load_stage
-use Rattle.gh_mutator.specs.declared.own.Own.TheVariants as own_step
 use Rattle.gh_mutator.specs.declared.register.Source.TheVariants as source
 use Rattle.gh_mutator.specs.declared.store.StoreStage.TheVariants as store_stage
 use Rattle.gh_mutator.specs.declared.task.Task.TheVariants as task
-use Rattle.gh_mutator.specs.Listing.{Act, acts, asks, begins, gives, takes}
+use Rattle.gh_mutator.specs.Deeds.{acted, answer_at}
+use Rattle.gh_mutator.specs.Listing.{Act, acts, asks, gives, takes}
+use Rattle.gh_mutator.specs.Local.{cache_with}
 use Rattle.gh_mutator.specs.New.{is_made, own_span, sought_for, wanted_of}
-use Rattle.gh_mutator.specs.Processor.{cache_with, cached_for, made_by, register_of}
+use Rattle.gh_mutator.specs.PollHeap.{leave_held, leave_locked, LeaveFacts, lists, no_page, poll_held, poll_locked, PollFacts, Rests, Stands, WaitFacts, waits_held, waits_locked}
+use Rattle.gh_mutator.specs.Processor.{cached_for}
+use Rattle.gh_mutator.specs.Wait.{waiting}
 
--- What acts in the heap that never frees.
-
--- what an operation is answered where it acts
-abbrev pub answer_at : List Shape → Ever → Act → Answer
-answer_at shapes e x = if x.full then answer.Full else answer_of shapes e x.op
-
-abbrev pub acted : List Shape → Ever → Option Act → Ever
-acted shapes e None = e
-acted shapes e (Some x) = ever_after shapes e x.op (answer_at shapes e x)
-
+-- what is answered where it acts, in the heap that never frees
 abbrev pub answered_at : List Shape → Ever → Option Act → Option Answer
 answered_at shapes e None = None
 answered_at shapes e (Some x) = Some (answer_at shapes e x)
@@ -43,68 +38,80 @@ pub record ShapesAreGood (shapes : List Shape) : Type 0 where
   pub fit : (t : ℕ) → t < length shapes → FitsShape (shape_at shapes t)
   pub narrow : (t i : ℕ) → t < length shapes → bits_at (shape_at shapes t) i < 2 ^ 64
 
--- At every moment.
-
--- the processor is at this seat, in this arena, and its tables are whole
-pub record Sits (z : Arena) (a : ℕ) (v : View) (m : Processor) : Type 0 where
-  pub layout : m.layout ≡ z.layout
-  pub seat : m.seat ≡ a
-  pub few : a < z.layout.procs
-  pub generation : m.generation ≡ v.generation
-  pub registers : length m.registers ≡ REGISTERS * MOST_GOROUTINES
-  pub made : length m.made ≡ MOST_GOROUTINES
-  pub cache : length m.cache ≡ SPAN_CLASSES
-
--- the registers of its goroutines hold what they hold in the heap that never frees
-abbrev pub RegistersFit : Arena → (a : ℕ) → View → Processor → Type 0
-RegistersFit z a v m = (g d : ℕ) → IsOf z a g → d < REGISTERS → Means v.place v.ever.made (v.ever.register g d) (register_of m g d)
-
--- and it knows how many objects they have made
-abbrev pub CountsFit : Arena → (a : ℕ) → View → Processor → Type 0
-CountsFit z a v m = (g : ℕ) → IsOf z a g → made_by m g ≡ v.ever.made g
-
--- it holds each span that it has cached, and the slots before its cursor are taken
-abbrev pub CachesAll : (a : ℕ) → View → Processor → Type 0
-CachesAll a v m = (c : SpanClass) (k : CachedSpan) → c.class < 25 → cached_for m (Small c) ≡ Some k → find.IsCached a v c k
+-- it knows how many objects its goroutines have made
+pub record KnowsCounts (z : Arena) (a : ℕ) (v : View) (made : List ℕ) : Type 0 where
+  pub places : length made ≡ MOST_GOROUTINES
+  pub each : (g : ℕ) → IsOf z a g → slice_index made g ≡ v.ever.made g
 
 -- Its rights.
 
--- a cache lists the span that begins at page p
-abbrev pub lists : List (Option CachedSpan) → (p : ℕ) → Bool
-lists [] p = false
-lists (None ∷ ks) p = lists ks p
-lists (Some k ∷ ks) p = (k.head == p) || lists ks p
-
 -- what it has cached but for such objects
 abbrev pub rest : Processor → Wanted → ℕ → Bool
-rest m w = lists (cache_with m.cache w.sought None)
+rest m w = lists (cache_with m.poll.local.cache w.sought None)
 
--- the spans that it holds while it makes a new object: those that it has cached, and a large object's own
-abbrev pub held_new : Processor → Wanted → NewStage → ℕ → Bool
-held_new m w (Find f) = find.held f (rest m w)
-held_new m w (Place p) = place.held_in p (find.with_span (find.own_found w.sought p.at) (lists m.cache))
+-- the spans that it holds: those that it has cached, and a large object's own while it is made; the poll, the wait and the leave say themselves what they hold
+module _ (m : Processor) where
+  abbrev pub held_new : Wanted → NewStage → ℕ → Bool
+  held_new w (Search waited q) = search.held q.find q.stage (rest m w)
+  held_new w (Wait x) = waits_held (waiting x m.poll)
+  held_new w (Place p) = place.held_in p (with_span (own_found w.sought p.at) (lists m.poll.local.cache))
 
-abbrev pub held_at : Processor → Task → ℕ → Bool
-held_at m (task.New x) = held_new m x.wanted x.stage
-held_at m _ = lists m.cache
+  abbrev pub held_at : Task → ℕ → Bool
+  held_at task.Left = no_page
+  held_at (task.New x) = held_new x.wanted x.stage
+  held_at (task.Gc g x) = waits_held (waiting x m.poll)
+  held_at task.Poll = poll_held m.poll
+  held_at (task.Leave x) = leave_held x
+  held_at _ = lists m.poll.local.cache
 
-abbrev pub locked_new : NewStage → Bool
-locked_new (Find f) = find.is_locked f.stage
-locked_new (Place p) = false
+  abbrev pub locked_new : NewStage → Bool
+  locked_new (Search waited q) = search.is_locked q.find q.stage
+  locked_new (Wait x) = waits_locked (waiting x m.poll)
+  locked_new (Place p) = false
 
-abbrev pub is_locked_at : Task → Bool
-is_locked_at (task.New x) = locked_new x.stage
-is_locked_at _ = false
+  abbrev pub is_locked_at : Task → Bool
+  is_locked_at (task.New x) = locked_new x.stage
+  is_locked_at (task.Gc g x) = waits_locked (waiting x m.poll)
+  is_locked_at task.Poll = poll_locked m.poll
+  is_locked_at (task.Leave x) = leave_locked x
+  is_locked_at _ = false
 
+-- what it lays out, and what it frees
 abbrev pub laying_new : NewStage → Option Laying
-laying_new (Find f) = find.laying f.stage
-laying_new (Place p) = None
+laying_new (Search waited q) = search.laying q.find q.stage
+laying_new _ = None
 
 abbrev pub laying_at : Task → Option Laying
 laying_at (task.New x) = laying_new x.stage
 laying_at _ = None
 
--- The statement that it is at. An operation has its answer from its point on, until the processor gives it: that is pending.
+abbrev pub freeing_new : NewStage → Option Freeing
+freeing_new (Search waited q) = search.freeing q.stage
+freeing_new _ = None
+
+abbrev pub freeing_at : Task → Option Freeing
+freeing_at (task.New x) = freeing_new x.stage
+freeing_at _ = None
+
+abbrev pub HasAt : (a : ℕ) → View → Processor → Task → Type 0
+HasAt a v m q = Rights a v (is_locked_at m q) (held_at m q) (laying_at q) (freeing_at q)
+
+-- What it alone knows: between two operations, and while it runs a statement, all of it; while it polls, waits or leaves, what that says; once it has left it holds nothing, and its registers are still read.
+
+module _ (z : Arena) (a : ℕ) (v : View) (p : Polling) where
+  abbrev pub KnowsNew : NewStage → Type 0
+  KnowsNew (Wait x) = WaitFacts z a v (waiting x p)
+  KnowsNew _ = Rests z a v p
+
+  abbrev pub KnowsAt : Task → Type 0
+  KnowsAt task.Left = Stands z a v p
+  KnowsAt (task.New x) = KnowsNew x.stage
+  KnowsAt (task.Gc g x) = WaitFacts z a v (waiting x p)
+  KnowsAt task.Poll = PollFacts z a v p
+  KnowsAt (task.Leave x) = LeaveFacts z a v p x
+  KnowsAt _ = Rests z a v p
+
+-- The operation that it is at. One has its answer from its point on, until the processor gives it: that is pending.
 
 -- the value names no object
 abbrev pub IsPlain : EverValue → Type 0
@@ -161,10 +168,6 @@ abbrev pub RegisterFacts : Arena → (a : ℕ) → View → Register → Option 
 RegisterFacts z a v x pending (source.Move s) = Runs z v a x.g × (x.d < REGISTERS) × (s < REGISTERS) × (pending ≡ None)
 RegisterFacts z a v x pending _ = Runs z v a x.g × (x.d < REGISTERS) × (pending ≡ None)
 
-abbrev pub OwnFacts : Arena → (a : ℕ) → View → Own → Option Answer → Type 0
-OwnFacts z a v (own_step.End g) pending = Runs z v a g × (pending ≡ None)
-OwnFacts z a v _ pending = pending ≡ None
-
 -- an object is to be made
 pub record Wants (z : Arena) (a : ℕ) (v : View) (w : Wanted) : Type 0 where
   pub runs : Runs z v a w.g
@@ -174,11 +177,11 @@ pub record Wants (z : Arena) (a : ℕ) (v : View) (w : Wanted) : Type 0 where
   pub is : w ≡ wanted_of z.shapes w.g w.d w.t
 
 -- its slot is searched for by this processor, which has cached what the search has
-pub record Searches (z : Arena) (a : ℕ) (v : View) (m : Processor) (w : Wanted) (f : Finding) (pending : Option Answer) : Type 0 where
+pub record Searches (z : Arena) (a : ℕ) (v : View) (m : Processor) (w : Wanted) (q : Seeking) (pending : Option Answer) : Type 0 where
   pub wants : Wants z a v w
-  pub wanted : f.wanted ≡ w.sought
-  pub cached : f.cached ≡ cached_for m w.sought
-  pub facts : find.Facts z a v (rest m w) f
+  pub wanted : q.find.wanted ≡ w.sought
+  pub cached : q.find.cached ≡ cached_for m w.sought
+  pub facts : search.Facts z a v (rest m w) q
   pub unanswered : pending ≡ None
 
 abbrev pub for_whom : Wanted → place.For
@@ -194,46 +197,39 @@ pub record Makes (z : Arena) (a : ℕ) (v : View) (m : Processor) (w : Wanted) (
   pub facts : place.Facts z a v (for_whom w) p
   pub register : w.d < REGISTERS
   pub of : IsOf z a w.g
-  pub span : p.span ≡ own_span m.seat m.generation w.sought
-  pub apart : (x : ℕ) → find.own_found w.sought p.at ≡ Some x → lists m.cache x ≡ false
+  pub span : p.span ≡ own_span m.poll.seat m.poll.local.view.generation w.sought
+  pub apart : (x : ℕ) → own_found w.sought p.at ≡ Some x → lists m.poll.local.cache x ≡ false
   pub named : NamedFrom (is_made p.stage) p.name pending
 
 abbrev pub NewFacts : Arena → (a : ℕ) → View → Processor → Wanted → Option Answer → NewStage → Type 0
-NewFacts z a v m w pending (Find f) = Searches z a v m w f pending
+NewFacts z a v m w pending (Search waited q) = Searches z a v m w q pending
+NewFacts z a v m w pending (Wait x) = Wants z a v w × (pending ≡ None)
 NewFacts z a v m w pending (Place p) = Makes z a v m w p pending
 
 abbrev pub FactsAt : Arena → (a : ℕ) → View → Processor → Option Answer → Task → Type 0
-FactsAt z a v m pending task.Idle = pending ≡ None
-FactsAt z a v m pending task.Left = pending ≡ None
 FactsAt z a v m pending (task.Load x) = LoadFacts z a v x pending x.stage
 FactsAt z a v m pending (task.Store x) = StoreFacts z a v x pending x.stage
 FactsAt z a v m pending (task.Global x) = GlobalFacts z a v x pending x.stage
 FactsAt z a v m pending (task.Register x) = RegisterFacts z a v x pending x.source
 FactsAt z a v m pending (task.New x) = NewFacts z a v m x.wanted pending x.stage
-FactsAt z a v m pending (task.Own x) = OwnFacts z a v x pending
-
--- what does not depend on the statement
-pub record Steady (z : Arena) (a : ℕ) (v : View) (m : Processor) : Type 0 where
-  pub sits : Sits z a v m
-  pub registers : RegistersFit z a v m
-  pub counts : CountsFit z a v m
-  pub caches : CachesAll a v m
+FactsAt z a v m pending (task.End g) = Runs z v a g × (pending ≡ None)
+FactsAt z a v m pending _ = pending ≡ None
 
 pub record Fine (z : Arena) (a : ℕ) (v : View) (m : Processor) (pending : Option Answer) : Type 0 where
-  pub steady : Steady z a v m
-  pub right : Right a v (is_locked_at m.task) (held_at m m.task) (laying_at m.task)
+  pub counts : KnowsCounts z a v m.made
+  pub knows : KnowsAt z a v m.poll m.task
+  pub right : HasAt a v m m.task
   pub task : FactsAt z a v m pending m.task
 
 -- The laws.
 
--- there is no room for the object that the operation is to make, by all that its processor knows: it owns no span of the span class, each that nobody owns is full, and no run of free pages fits
+-- There is no room for the object that the operation is to make, by all that its processor knows: it owns no span of the span class, and each that nobody owns is full; in each span that nobody owns, of any class, an object stands; and no run of pages fits, also if the pages of empty spans were free.
 pub record FoundNone (z : Arena) (a : ℕ) (v : View) (m : Processor) (sought : Sought) : Type 0 where
-  pub f : Finding
-  pub wanted : f.wanted ≡ sought
   pub cached : cached_for m sought ≡ None
   pub own_none : (c : SpanClass) (p : ℕ) (h : SpanHead) → sought ≡ Small c → page_of (v.page p) ≡ page.Head h → h.class ≡ size.Small c.class → h.noscan ≡ c.noscan → h.owner ≢ a + 1
-  pub none : find.NoneLeft z v f sought
-  pub no_run : NoRun v.page (span_for sought).pages z.layout.pages
+  pub full : (c : SpanClass) (p : ℕ) (h : SpanHead) → sought ≡ Small c → page_of (v.page p) ≡ page.Head h → h.class ≡ size.Small c.class → h.noscan ≡ c.noscan → h.owner ≡ 0 → IsFull v.alloc p h
+  pub in_use : (p : ℕ) (h : SpanHead) → page_of (v.page p) ≡ page.Head h → h.owner ≡ 0 → IsInUse v.alloc p h
+  pub no_run : (first : ℕ) → first + (span_for sought).pages ≤ z.layout.pages → (d : ℕ) × (d < (span_for sought).pages) × search.IsTaken z v (first + d)
 
 abbrev pub FullAt : Arena → (a : ℕ) → View → Processor → Op → Type 0
 FullAt z a v m (op.New g d t) = FoundNone z a v m (sought_for (shape_at z.shapes t))
@@ -256,7 +252,7 @@ OwnStepAt q = (z : Arena) (a : ℕ) (s : Shared) (m : Processor) (pending : Opti
 abbrev pub Lasts : Type 0
 Lasts = (z : Arena) (a : ℕ) (v w : View) (m : Processor) (pending : Option Answer) → Good z v → Others z a v w → Fine z a v m pending → Fine z a w m pending
 
--- What may begin: of a goroutine of this processor that has not ended, with registers, global and type in range, and a name for what is to be made.
+-- What may begin: of a goroutine of this processor that has not ended, with registers, global and type in range, and a name for what is to be made; and at any time a `gc`, a poll and a leave.
 abbrev pub MayBegin : Arena → (a : ℕ) → View → Op → Type 0
 MayBegin z a v (op.New g d t) = Runs z v a g × (d < REGISTERS) × (t < length z.shapes) × (v.ever.made g < MOST_STATEMENTS)
 MayBegin z a v (op.Load g d b k) = Runs z v a g × (d < REGISTERS) × (b < REGISTERS)
@@ -266,11 +262,5 @@ MayBegin z a v (op.SetGlobal g k x) = Runs z v a g × (x < REGISTERS) × (k < z.
 MayBegin z a v (op.Int g d n) = Runs z v a g × (d < REGISTERS)
 MayBegin z a v (op.Move g d s) = Runs z v a g × (d < REGISTERS) × (s < REGISTERS)
 MayBegin z a v (op.Nil g d) = Runs z v a g × (d < REGISTERS)
-MayBegin z a v (op.Gc g) = ⊥
-MayBegin z a v op.Poll = Unit {0}
 MayBegin z a v (op.End g) = Runs z v a g
-MayBegin z a v op.Leave = Unit {0}
-
--- from rest
-abbrev pub BeginsIdle : Type 0
-BeginsIdle = (z : Arena) (a : ℕ) (v : View) (m : Processor) (o : Op) → ShapesAreGood z.shapes → Good z v → Fine z a v m None → m.task ≡ task.Idle → MayBegin z a v o → Fine z a v (begins z.shapes m o) None
+MayBegin z a v _ = Unit {0}

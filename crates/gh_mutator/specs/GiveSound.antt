@@ -7,8 +7,8 @@ use Rattle.gh_alloc.specs.declared.sought.CachedSpan.{CachedSpan}
 use Rattle.gh_wbuf.specs.BufferGiving as buffer
 use Rattle.gh_mutator.specs.declared.give.GiveStage.{GiveStage}
 use Rattle.gh_mutator.specs.declared.give.GiveStage.TheVariants.{GiveSpan, GiveBuffer}
+use Rattle.gh_mutator.specs.Cached.{SoundCached}
 use Rattle.gh_mutator.specs.Give.{Giving}
-use Rattle.gh_mutator.specs.Sound.{SoundCached}
 
 -- each cached span lies in the arena, and is one of its class
 abbrev pub FitsCache : Layout → List (Option CachedSpan) → Type 0

@@ -72,34 +72,37 @@ module _ (p : poll.Polling) where
   abbrev pub SoundPoll : Type 0
   SoundPoll = HasPlaces p.local.cache × PollsSoundAt p.stage
 
--- it is a poll of this seat that goes on
-pub record PollsFor (seat : ℕ) (p : poll.Polling) : Type 0 where
-  pub seat_is : p.seat ≡ seat
+-- it is a poll that goes on
+pub record PollsOn (p : poll.Polling) : Type 0 where
   pub busy : poll.is_busy p.stage ≡ true
   pub sound : SoundPoll p
+
+-- what a processor is to the others, between two polls
+abbrev pub knower : poll.Polling → Party
+knower p = record { seat = p.seat; view = p.local.view }
 
 -- A wait: while it polls, it stands where the poll does.
 module _ (w : wait.Waiting) where
   abbrev pub waits_at : WaitStage → Stage
-  waits_at (wait_stage.Polling p) = poll_stage_of p
+  waits_at wait_stage.Polling = poll_stage_of w.poll
   waits_at _ = Awake
 
   abbrev pub waiter_at : WaitStage → Party
-  waiter_at (wait_stage.Polling p) = poller_of p
-  waiter_at _ = record { seat = w.seat; view = w.local.view }
+  waiter_at wait_stage.Polling = poller_of w.poll
+  waiter_at _ = knower w.poll
 
   abbrev pub WaitsSoundAt : WaitStage → Type 0
-  WaitsSoundAt (wait_stage.Polling p) = PollsFor w.seat p
+  WaitsSoundAt wait_stage.Polling = PollsOn w.poll
   WaitsSoundAt _ = Unit {0}
 
   abbrev pub wait_stage_of : Stage
-  wait_stage_of = waits_at w.stage
+  wait_stage_of = waits_at w.wait.stage
 
   abbrev pub waiter_of : Party
-  waiter_of = waiter_at w.stage
+  waiter_of = waiter_at w.wait.stage
 
   abbrev pub SoundWait : Type 0
-  SoundWait = HasPlaces w.local.cache × WaitsSoundAt w.stage
+  SoundWait = HasPlaces w.poll.local.cache × WaitsSoundAt w.wait.stage
 
 -- Leaving: what the processor knows of the phase stays.
 abbrev pub leaves_at : LeaveStage → Stage
@@ -119,10 +122,10 @@ pub record PollsInHandshake : Type 0 where
   pub ends : (p : poll.Polling) → poll.is_busy p.stage ≡ false → IsPlace (poller_of p) (poll_stage_of p) p.seat p.local
 
 pub record WaitsInHandshake : Type 0 where
-  pub sound : (l : Layout) (seat : ℕ) (local : Local) → HasPlaces local.cache → SoundWait (wait.opening l seat local)
-  pub begins : (l : Layout) (seat : ℕ) (local : Local) → IsPlace (waiter_of (wait.opening l seat local)) (wait_stage_of (wait.opening l seat local)) seat local
+  pub sound : (p : poll.Polling) → HasPlaces p.local.cache → SoundWait (wait.opening p)
+  pub begins : (p : poll.Polling) → IsPlace (waiter_of (wait.opening p)) (wait_stage_of (wait.opening p)) p.seat p.local
   pub keeps : KeepsHandshake wait.listing SoundWait waiter_of wait_stage_of
-  pub ends : (w : wait.Waiting) → wait.is_busy w.stage ≡ false → IsPlace (waiter_of w) (wait_stage_of w) w.seat w.local
+  pub ends : (w : wait.Waiting) → wait.is_busy w.wait.stage ≡ false → IsPlace (waiter_of w) (wait_stage_of w) w.poll.seat w.poll.local
 
 pub record LeavesInHandshake : Type 0 where
   -- it begins awake, or with nothing to give back

@@ -46,6 +46,11 @@ abbrev pub is_busy : LeaveStage → Bool
 is_busy Left = false
 is_busy _ = true
 
+-- its next step is its last: nothing is left to be given back
+abbrev pub says_gone : LeaveStage → Bool
+says_gone Leave = true
+says_gone _ = false
+
 -- the step that it asks for, what it is after the step found this, and what it ends with if that step is its last
 abbrev pub asks : Leaving → Ask
 asks w = asks_at w w.stage

@@ -20,7 +20,7 @@ abbrev pub opening : Layout → (seat : ℕ) → List Shape → Mutating
 opening l seat shapes = record { shapes = shapes; processor = opening_processor l seat; marks = 0 }
 
 abbrev pub layout : Mutating → Layout
-layout m = m.processor.layout
+layout m = m.processor.poll.layout
 
 abbrev pub is_busy : Mutating → Bool
 is_busy m = is_busy_at m.processor.task

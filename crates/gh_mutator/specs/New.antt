@@ -1,6 +1,6 @@
--- A new object: the search for its slot, and the making of the object in it. Its steps change the cached spans and the number of objects too, so they are steps of the processor.
+-- A new object: the search for its slot, the wait for a cycle where there is none, the search once more, and the making of the object in its slot. Its steps change what the processor alone knows and the number of objects too, so they are steps of the processor.
 use Rattle.std.specs.Prelude.{ℕ, ◌+◌, ◌/◌, Bool, true, false, if◌then◌else◌, List, slice_set, Option, Some, None}
-use Rattle.gh_mutator.specs.Vocabulary.{Ask, Op, Shape, Answer, Name, shape_at, SizeClass, slot_words, Found, At, NoRoom, Sought, PlaceStage, Finding, Placing, NewStage, Find, Place, Wanted, Processor, Task}
+use Rattle.gh_mutator.specs.Vocabulary.{Ask, Op, Shape, Answer, Name, shape_at, SizeClass, slot_words, Found, At, NoRoom, Sought, PlaceStage, Seeking, Placing, NewStage, Search, Wait, Place, Waiting, Wanted, Processor, Task}
 use Rattle.gh_base.specs.declared.operation.Op.TheVariants as op
 use Rattle.gh_base.specs.declared.pack.SpanHead.{SpanHead}
 use Rattle.gh_base.specs.declared.value.Answer.TheVariants as answer
@@ -9,10 +9,11 @@ use Rattle.gh_class.specs.declared.class.SizeClass.TheVariants as size
 use Rattle.gh_class.specs.Classes.{size_class_of}
 use Rattle.gh_alloc.specs.declared.sought.Sought.TheVariants.{Small, Large}
 use Rattle.gh_alloc.specs.declared.place.PlaceStage.TheVariants as making
-use Rattle.gh_alloc.specs.Find as find
 use Rattle.gh_alloc.specs.Place as place
+use Rattle.gh_alloc.specs.Search as search
 use Rattle.gh_mutator.specs.declared.task.Task.TheVariants as task
-use Rattle.gh_mutator.specs.Processor.{at_task, cache_span, cached_for, made_by, set_register}
+use Rattle.gh_mutator.specs.Processor.{at_poll, at_task, cache_span, cached_for, made_by, set_register}
+use Rattle.gh_mutator.specs.Wait as wait
 
 abbrev pub op_of : Wanted → Op
 op_of w = op.New w.g w.d w.t
@@ -42,12 +43,12 @@ own_span seat generation (Small c) = None
 own_span seat generation (Large pages noscan) = Some (record { class = size.Large; noscan = noscan; pages = pages; owner = seat + 1; number = generation })
 
 -- the search for the slot
-abbrev pub finding : Processor → Wanted → Finding
-finding m w = find.opening m.layout m.seat m.generation w.sought (cached_for m w.sought)
+abbrev pub seeking : Processor → Wanted → Seeking
+seeking m w = search.opening m.poll.layout m.poll.seat m.poll.local.view.generation w.sought (cached_for m w.sought)
 
 -- the making of the object in the slot at heap word a
 abbrev pub placing : List Shape → Processor → Wanted → (a : ℕ) → Placing
-placing shapes m w a = place.opening m.layout (shape_at shapes w.t) a w.slot (next_of m w) (own_span m.seat m.generation w.sought)
+placing shapes m w a = place.opening m.poll.layout (shape_at shapes w.t) a w.slot (next_of m w) (own_span m.poll.seat m.poll.local.view.generation w.sought)
 
 -- the object is made
 abbrev pub is_made : PlaceStage → Bool
@@ -56,28 +57,42 @@ is_made making.Count = true
 is_made making.Ended = true
 is_made _ = false
 
--- the search, or the making, of this object
-abbrev pub searches : Wanted → Finding → Task
-searches w f = task.New (record { wanted = w; stage = Find f })
+-- the search for this object, the wait between two searches, and the making of it
+abbrev pub searches : Wanted → (waited : Bool) → Seeking → Task
+searches w waited s = task.New (record { wanted = w; stage = Search waited s })
+
+abbrev pub waits : Wanted → Waiting → Task
+waits w x = task.New (record { wanted = w; stage = Wait x.wait })
 
 abbrev pub makes : Wanted → Placing → Task
 makes w p = task.New (record { wanted = w; stage = Place p })
 
 -- The steps.
 
-abbrev pub asks_at : NewStage → Ask
-asks_at (Find f) = find.asks f
-asks_at (Place p) = place.asks p
+abbrev pub asks_at : Processor → NewStage → Ask
+asks_at m (Search waited s) = search.asks s
+asks_at m (Wait x) = wait.asks (wait.waiting x m.poll)
+asks_at m (Place p) = place.asks p
+
+-- the search has ended, and has found this: the object is made there; where there is no room, a cycle is waited for, and behind that the register is nil
+abbrev pub after_found : List Shape → Processor → Wanted → (waited : Bool) → Found → Processor
+after_found shapes m w waited (At a) = at_task m (makes w (placing shapes m w a))
+after_found shapes m w true NoRoom = at_task (set_register m w.g w.d value.Nil) task.Idle
+after_found shapes m w false NoRoom = at_task m (waits w (wait.opening m.poll))
+
+-- after a step of the search, which is then s and has found this, if it has ended
+abbrev pub after_search : List Shape → Processor → Wanted → (waited : Bool) → Seeking → Option Found → Processor
+after_search shapes m w waited s None = at_task m (searches w waited s)
+after_search shapes m w waited s (Some out) = after_found shapes m w waited out
+
+-- after a step of the wait, which is then x, and has ended or not: once it has, the slot is searched for once more
+abbrev pub after_wait : Processor → Wanted → Waiting → Option (Unit {0}) → Processor
+after_wait m w x None = at_task (at_poll m x.poll) (waits w x)
+after_wait m w x (Some y) = at_task (at_poll m x.poll) (searches w true (seeking (at_poll m x.poll) w))
 
 -- the object is there: it is counted, and the register names it
 abbrev pub made_object : Processor → Wanted → (a : ℕ) → Processor
 made_object m w a = set_register (record m { made = slice_set m.made w.g (made_by m w.g + 1) }) w.g w.d (value.Ref (a + 1))
-
--- after a step of the search, which is then f and has found this, if it has ended: the object is made there, or there is no room and the register is nil
-abbrev pub after_find : List Shape → Processor → Wanted → Finding → Option Found → Processor
-after_find shapes m w f None = at_task m (searches w f)
-after_find shapes m w f (Some (At a)) = at_task m (makes w (placing shapes m w a))
-after_find shapes m w f (Some NoRoom) = at_task (set_register m w.g w.d value.Nil) task.Idle
 
 -- after a step of the making, which is then p, and by which the object at heap word a is made or not
 abbrev pub after_place : Processor → Wanted → (made : Bool) → (a : ℕ) → Placing → Processor
@@ -85,29 +100,41 @@ after_place m w made a p = at_task (if made then made_object m w a else m) (if p
 
 -- the processor after the step; the cached span is what the search says
 abbrev pub takes_at : List Shape → Processor → Wanted → NewStage → (found : ℕ) → Processor
-takes_at shapes m w (Find f) found = after_find shapes (cache_span m w.sought (find.goes f found).cached) w (find.goes f found) (find.gives f found)
+takes_at shapes m w (Search waited s) found = after_search shapes (cache_span m w.sought (search.goes s found).find.cached) w waited (search.goes s found) (search.gives s found)
+takes_at shapes m w (Wait x) found = after_wait m w (wait.goes (wait.waiting x m.poll) found) (wait.gives (wait.waiting x m.poll) found)
 takes_at shapes m w (Place p) found = after_place m w (place.acts p) p.at (place.goes p found)
 
--- the search has found no room
-abbrev pub finds_none : Option Found → Bool
-finds_none (Some NoRoom) = true
-finds_none _ = false
+-- the search behind the wait has found no room
+abbrev pub refuses : (waited : Bool) → Option Found → Bool
+refuses true (Some NoRoom) = true
+refuses _ _ = false
 
 -- what the statement is answered, if it ends with the step
+abbrev pub answer_found : (waited : Bool) → Found → Option Answer
+answer_found waited (At a) = None
+answer_found true NoRoom = Some answer.Full
+answer_found false NoRoom = None
+
+abbrev pub answer_search : (waited : Bool) → Option Found → Option Answer
+answer_search waited None = None
+answer_search waited (Some out) = answer_found waited out
+
 abbrev pub gives_at : NewStage → (found : ℕ) → Option Answer
-gives_at (Find f) found = if finds_none (find.gives f found) then Some answer.Full else None
+gives_at (Search waited s) found = answer_search waited (search.gives s found)
+gives_at (Wait x) found = None
 gives_at (Place p) found = if place.is_busy (place.goes p found).stage then None else Some (answer.Ref p.name)
 
 -- the statement acts by the step, and whether it then found no room
 abbrev pub acts_at : NewStage → (found : ℕ) → Bool
-acts_at (Find f) found = finds_none (find.gives f found)
+acts_at (Search waited s) found = refuses waited (search.gives s found)
+acts_at (Wait x) found = false
 acts_at (Place p) found = place.acts p
 
 abbrev pub is_full_at : NewStage → Bool
-is_full_at (Find f) = true
 is_full_at (Place p) = false
+is_full_at _ = true
 
 -- the operation, until it has acted
 abbrev pub unacted : Wanted → NewStage → Option Op
-unacted w (Find f) = Some (op_of w)
 unacted w (Place p) = if is_made p.stage then None else Some (op_of w)
+unacted w _ = Some (op_of w)

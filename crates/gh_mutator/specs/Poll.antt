@@ -31,6 +31,14 @@ pub record Polling : Type 0 where
 abbrev pub opening : Layout → (seat : ℕ) → Local → (waits : Bool) → Polling
 opening l seat local waits = record { layout = l; seat = seat; waits = waits; local = local; stage = LoadPhase }
 
+-- the processor is at no poll
+abbrev pub resting : Layout → (seat : ℕ) → Local → Polling
+resting l seat local = record { layout = l; seat = seat; waits = false; local = local; stage = Ended }
+
+-- it polls, with what it knows
+abbrev pub begins : Polling → (waits : Bool) → Polling
+begins p waits = record p { waits = waits; stage = LoadPhase }
+
 abbrev pub at_stage : Polling → PollStage → Polling
 at_stage p stage = record p { stage = stage }
 

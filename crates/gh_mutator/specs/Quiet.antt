@@ -1,20 +1,19 @@
 -- What a processor runs while it is awake writes no word of the handshake.
-use Rattle.std.specs.Prelude.{ℕ}
 use Rattle.gh_base.specs.declared.layout.Layout.{Layout}
 use Rattle.gh_base.specs.declared.value.Value.{Value}
+use Rattle.gh_alloc.specs.Place.{Placing}
+use Rattle.gh_alloc.specs.Place as place
+use Rattle.gh_alloc.specs.Search.{Seeking}
+use Rattle.gh_alloc.specs.Search as search
 use Rattle.gh_phase.specs.Handshake.{IsQuiet}
 use Rattle.gh_mutator.specs.declared.global.Global.{Global}
 use Rattle.gh_mutator.specs.declared.load.Load.{Load}
-use Rattle.gh_mutator.specs.declared.new.NewStage.{NewStage}
-use Rattle.gh_mutator.specs.declared.own.Own.TheVariants.{Poll, End}
 use Rattle.gh_mutator.specs.declared.register.Register.{Register}
 use Rattle.gh_mutator.specs.declared.store.Store.{Store}
 use Rattle.gh_mutator.specs.Give as give
 use Rattle.gh_mutator.specs.Global as global
 use Rattle.gh_mutator.specs.Load as load
 use Rattle.gh_mutator.specs.MarkStack as mark
-use Rattle.gh_mutator.specs.New as new
-use Rattle.gh_mutator.specs.Own as own
 use Rattle.gh_mutator.specs.Register as register
 use Rattle.gh_mutator.specs.Store as store
 
@@ -27,7 +26,5 @@ pub record ProcessorIsQuiet : Type 0 where
   pub stores : (l : Layout) (held : Value) (x : Store) → IsQuiet (store.asks l held x)
   pub globals : (l : Layout) (held : Value) (x : Global) → IsQuiet (global.asks l held x)
   pub registers : (x : Register) → IsQuiet (register.asks x)
-  pub news : (stage : NewStage) → IsQuiet (new.asks_at stage)
-  -- the operations of its own, save the leave
-  pub polls : (seat : ℕ) → IsQuiet (own.asks seat Poll)
-  pub ends : (seat g : ℕ) → IsQuiet (own.asks seat (End g))
+  pub searches : (s : Seeking) → IsQuiet (search.asks s)
+  pub makes : (p : Placing) → IsQuiet (place.asks p)

@@ -3,10 +3,10 @@ use Rattle.std.specs.Prelude.{ℕ, Bool, true, false, if◌then◌else◌, Optio
 use Rattle.gh_base.specs.declared.value.Answer.{Answer}
 use Rattle.gh_base.specs.declared.operation.Op.{Op}
 use Rattle.gh_base.specs.declared.operation.Op.TheVariants as op
-use Rattle.gh_mutator.specs.declared.own.Own.TheVariants.{Leave}
 use Rattle.gh_mutator.specs.declared.processor.Processor.{Processor}
 use Rattle.gh_mutator.specs.declared.task.Task.{Task}
-use Rattle.gh_mutator.specs.declared.task.Task.TheVariants.{Idle, Left, New, Own}
+use Rattle.gh_mutator.specs.declared.task.Task.TheVariants.{Idle, Left, New, Poll, End, Leave}
+use Rattle.gh_mutator.specs.Leave.{says_gone}
 use Rattle.gh_mutator.specs.Listing.{gives_at, Act}
 
 -- a statement of a goroutine, and no step of the processor's own
@@ -25,7 +25,9 @@ is_point (Some a) = is_statement a.op
 abbrev pub is_serving : Task → Bool
 is_serving Idle = false
 is_serving Left = false
-is_serving (Own x) = false
+is_serving Poll = false
+is_serving (End g) = false
+is_serving (Leave x) = false
 is_serving _ = true
 
 -- the step ends a statement, which is answered so: the processor's own steps end none
@@ -37,7 +39,7 @@ statement_answer m found = answer_at m.task (gives_at m m.task found)
 
 -- its next step is its last
 abbrev pub is_last : Task → Bool
-is_last (Own Leave) = true
+is_last (Leave x) = says_gone x.stage
 is_last _ = false
 
 abbrev pub has_left_at : Task → Bool
@@ -47,7 +49,8 @@ has_left_at _ = false
 -- the processor leaves, or has left
 abbrev pub is_leaving : Task → Bool
 is_leaving Left = true
-is_leaving t = is_last t
+is_leaving (Leave x) = true
+is_leaving _ = false
 
 -- an object is to be made
 abbrev pub is_making : Task → Bool

@@ -1,24 +1,25 @@
 -- What the processor knows of its own state, whatever words it finds: its numbers are in their ranges.
-use Rattle.std.specs.Prelude.{◌≡◌, ℕ, ◌+◌, ◌*◌, ◌/◌, ◌^◌, ◌<◌, ◌≤◌, nat_lt, Bool, true, false, List, length, slice_index, slice_index_or, Option, Some, None}
-use Rattle.gh_mutator.specs.Vocabulary.{MOST_GOROUTINES, REGISTERS, Layout, Op, Shape, Value, pages_of, slots_of, CachedSpan, Finding, Placing, Global, LoadStage, NewStage, Wanted, Processor, Register, StoreStage, Task}
+use Rattle.std.specs.Prelude.{◌≡◌, ℕ, ◌*◌, ◌^◌, ◌<◌, ◌≤◌, nat_lt, Bool, true, false, List, length, slice_index}
+use Rattle.gh_mutator.specs.Vocabulary.{MOST_GOROUTINES, REGISTERS, Layout, Op, Shape, Value, Seeking, Placing, Global, LoadStage, NewStage, Wanted, Polling, Processor, Register, StoreStage, Task}
 use Rattle.gh_base.specs.declared.limits.TheConstants.{MOST_STATEMENTS}
 use Rattle.gh_base.specs.declared.operation.Op.TheVariants as op
 use Rattle.gh_base.specs.declared.value.Value.TheVariants as value
-use Rattle.gh_alloc.specs.Find as find
 use Rattle.gh_alloc.specs.Place as place
+use Rattle.gh_alloc.specs.Search as search
 use Rattle.gh_alloc.specs.FindSound.{IsSought}
 use Rattle.gh_alloc.specs.Within.{words_of}
 use Rattle.gh_mutator.specs.declared.load.Load.{Load}
 use Rattle.gh_mutator.specs.declared.load.LoadStage.TheVariants as load
 use Rattle.gh_mutator.specs.declared.new.NewStage.TheVariants as new
-use Rattle.gh_mutator.specs.declared.own.Own.{Own}
-use Rattle.gh_mutator.specs.declared.own.Own.TheVariants as own
 use Rattle.gh_mutator.specs.declared.store.Store.{Store}
 use Rattle.gh_mutator.specs.declared.store.StoreStage.TheVariants as store
 use Rattle.gh_mutator.specs.declared.task.Task.TheVariants as task
+use Rattle.gh_mutator.specs.Leave as leave
 use Rattle.gh_mutator.specs.New.{is_made}
-use Rattle.gh_mutator.specs.Processor.{made_by}
+use Rattle.gh_mutator.specs.Poll as poll
+use Rattle.gh_mutator.specs.Processor.{made_by, register_of}
 use Rattle.gh_mutator.specs.Register.{read_of}
+use Rattle.gh_mutator.specs.WaitSound.{FitsWait}
 
 -- the register is one of a goroutine's
 abbrev pub IsRegister : (g d : ℕ) → Type 0
@@ -32,7 +33,7 @@ abbrev pub has_names : Processor → Op → Bool
 has_names m (op.New g d t) = nat_lt (made_by m g) most_objects
 has_names m _ = true
 
--- the operation's registers, type and global are there; `gc` is not begun yet
+-- the operation's registers, type and global are there
 abbrev pub SoundOp : List Shape → Layout → Op → Type 0
 SoundOp shapes l (op.New g d t) = IsRegister g d × (t < length shapes)
 SoundOp shapes l (op.Load g d b k) = IsRegister g d × (b < REGISTERS)
@@ -42,7 +43,7 @@ SoundOp shapes l (op.SetGlobal g k v) = IsRegister g v × (k < l.globals)
 SoundOp shapes l (op.Int g d n) = IsRegister g d
 SoundOp shapes l (op.Move g d s) = IsRegister g d × (s < REGISTERS)
 SoundOp shapes l (op.Nil g d) = IsRegister g d
-SoundOp shapes l (op.Gc g) = ⊥
+SoundOp shapes l (op.Gc g) = Unit {0}
 SoundOp shapes l op.Poll = Unit {0}
 SoundOp shapes l (op.End g) = g < l.goroutines
 SoundOp shapes l op.Leave = Unit {0}
@@ -55,11 +56,6 @@ IsNear pages _ = Unit {0}
 -- the words of a slot are at most those of 8191 pages
 abbrev pub IsField : (k : ℕ) → Type 0
 IsField k = k < 2 ^ 23
-
--- the span lies in the arena, and the cursor in the span
-abbrev pub SoundCached : (pages class : ℕ) → Option CachedSpan → Type 0
-SoundCached pages class None = Unit {0}
-SoundCached pages class (Some c) = (c.head + pages_of class ≤ pages) × (c.cursor ≤ slots_of class)
 
 -- Statement by statement.
 
@@ -92,10 +88,6 @@ pub record SoundRegister (x : Register) : Type 0 where
   pub register : IsRegister x.g x.d
   pub read : read_of x < REGISTERS
 
-abbrev pub SoundOwn : (goroutines : ℕ) → Own → Type 0
-SoundOwn goroutines (own.End g) = g < goroutines
-SoundOwn goroutines _ = Unit {0}
-
 -- an object that is to be made: of a span class, or of a span of its own, and of the words of its slot
 pub record SoundWanted (shapes : List Shape) (w : Wanted) : Type 0 where
   pub register : IsRegister w.g w.d
@@ -105,41 +97,53 @@ pub record SoundWanted (shapes : List Shape) (w : Wanted) : Type 0 where
   pub words : w.slot ≡ words_of w.sought
 
 -- the search is for this object, in this heap, and it is not over
-pub record SoundFind (l : Layout) (w : Wanted) (f : Finding) : Type 0 where
-  pub busy : find.is_busy f.stage ≡ true
-  pub layout : f.layout ≡ l
-  pub wanted : f.wanted ≡ w.sought
+pub record SoundSearch (l : Layout) (w : Wanted) (s : Seeking) : Type 0 where
+  pub busy : search.is_busy s.find s.stage ≡ true
+  pub layout : s.find.layout ≡ l
+  pub wanted : s.find.wanted ≡ w.sought
 
 -- the making is one in this heap, and it is not over
 pub record SoundPlace (l : Layout) (p : Placing) : Type 0 where
   pub busy : place.is_busy p.stage ≡ true
   pub layout : p.layout ≡ l
 
-abbrev pub SoundStage : Layout → Wanted → NewStage → Type 0
-SoundStage l w (new.Find f) = SoundFind l w f
-SoundStage l w (new.Place p) = SoundPlace l p
+abbrev pub SoundStage : Polling → Wanted → NewStage → Type 0
+SoundStage p w (new.Search waited s) = SoundSearch p.layout w s
+SoundStage p w (new.Wait x) = FitsWait p x
+SoundStage p w (new.Place x) = SoundPlace p.layout x
 
 -- there is a further name for the object that is being made
 abbrev pub HasName : (made : ℕ) → NewStage → Type 0
-HasName made (new.Find f) = made < most_objects
 HasName made (new.Place p) = is_made p.stage ≡ false → made < most_objects
+HasName made _ = made < most_objects
+
+-- the leave is of this heap, and it is not over
+pub record SoundLeave (l : Layout) (x : leave.Leaving) : Type 0 where
+  pub busy : leave.is_busy x.stage ≡ true
+  pub layout : x.layout ≡ l
 
 -- The processor.
 
-abbrev pub SoundTask : List Shape → Layout → (made : List ℕ) → Task → Type 0
-SoundTask shapes l made task.Idle = Unit {0}
-SoundTask shapes l made task.Left = Unit {0}
-SoundTask shapes l made (task.Load x) = SoundLoad l.pages x
-SoundTask shapes l made (task.Store x) = SoundStore l.pages x
-SoundTask shapes l made (task.Global x) = SoundGlobal l.globals x
-SoundTask shapes l made (task.Register x) = SoundRegister x
-SoundTask shapes l made (task.New x) = SoundWanted shapes x.wanted × SoundStage l x.wanted x.stage × HasName (slice_index made x.wanted.g) x.stage
-SoundTask shapes l made (task.Own x) = SoundOwn l.goroutines x
+abbrev pub SoundTask : List Shape → Polling → (made : List ℕ) → Task → Type 0
+SoundTask shapes p made task.Idle = Unit {0}
+SoundTask shapes p made task.Left = Unit {0}
+SoundTask shapes p made (task.Load x) = SoundLoad p.layout.pages x
+SoundTask shapes p made (task.Store x) = SoundStore p.layout.pages x
+SoundTask shapes p made (task.Global x) = SoundGlobal p.layout.globals x
+SoundTask shapes p made (task.Register x) = SoundRegister x
+SoundTask shapes p made (task.New x) = SoundWanted shapes x.wanted × SoundStage p x.wanted x.stage × HasName (slice_index made x.wanted.g) x.stage
+SoundTask shapes p made (task.Gc g x) = FitsWait p x
+SoundTask shapes p made task.Poll = poll.is_busy p.stage ≡ true
+SoundTask shapes p made (task.End g) = g < p.layout.goroutines
+SoundTask shapes p made (task.Leave x) = SoundLeave p.layout x
 
+-- it leaves
+abbrev pub LeavesSo : Layout → Task → Type 0
+LeavesSo l (task.Leave x) = SoundLeave l x
+LeavesSo l _ = ⊥
+
+-- beside what is known of its poll
 pub record Sound (shapes : List Shape) (m : Processor) : Type 0 where
-  pub seat : m.seat < m.layout.procs
-  pub generation : m.generation < 2 ^ 34
-  pub registers : (i : ℕ) → IsNear m.layout.pages (slice_index_or m.registers i value.Nil)
-  pub cache : (i : ℕ) → SoundCached m.layout.pages (i / 2) (slice_index_or m.cache i None)
+  pub registers : (g d : ℕ) → IsNear m.poll.layout.pages (register_of m g d)
   pub few : (g : ℕ) → made_by m g ≤ most_objects
-  pub task : SoundTask shapes m.layout m.made m.task
+  pub task : SoundTask shapes m.poll m.made m.task

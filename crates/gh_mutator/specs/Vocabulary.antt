@@ -28,6 +28,7 @@ pub use Rattle.gh_heap.specs.Spans.{slot_size}
 pub use Rattle.gh_alloc.specs.Find.{Finding}
 pub use Rattle.gh_alloc.specs.FindSound.{IsCached, IsSought}
 pub use Rattle.gh_alloc.specs.Place.{Placing}
+pub use Rattle.gh_alloc.specs.Search.{Seeking}
 pub use Rattle.gh_alloc.specs.declared.find.FindStage.{FindStage}
 pub use Rattle.gh_alloc.specs.declared.place.PlaceStage.{PlaceStage}
 pub use Rattle.gh_alloc.specs.declared.sought.CachedSpan.{CachedSpan}
@@ -41,9 +42,8 @@ pub use Rattle.gh_mutator.specs.declared.global.GlobalStage.{GlobalStage}
 pub use Rattle.gh_mutator.specs.declared.load.Load.{Load}
 pub use Rattle.gh_mutator.specs.declared.load.LoadStage.{LoadStage}
 pub use Rattle.gh_mutator.specs.declared.new.NewStage.{NewStage}
-pub use Rattle.gh_mutator.specs.declared.new.NewStage.TheVariants.{Find, Place}
+pub use Rattle.gh_mutator.specs.declared.new.NewStage.TheVariants.{Place, Search, Wait}
 pub use Rattle.gh_mutator.specs.declared.new.Wanted.{Wanted}
-pub use Rattle.gh_mutator.specs.declared.own.Own.{Own}
 pub use Rattle.gh_mutator.specs.declared.processor.Processor.{Processor}
 pub use Rattle.gh_mutator.specs.declared.register.Register.{Register}
 pub use Rattle.gh_mutator.specs.declared.register.Source.{Source}
@@ -54,3 +54,6 @@ pub use Rattle.gh_mutator.specs.declared.store.Store.{Store}
 pub use Rattle.gh_mutator.specs.declared.store.StoreStage.{StoreStage}
 pub use Rattle.gh_mutator.specs.declared.task.Task.{Task}
 pub use Rattle.gh_mutator.specs.declared.task.Task.TheVariants.{Idle}
+pub use Rattle.gh_mutator.specs.Leave.{Leaving}
+pub use Rattle.gh_mutator.specs.Poll.{Polling}
+pub use Rattle.gh_mutator.specs.Wait.{Waiting}

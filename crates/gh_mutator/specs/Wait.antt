@@ -3,50 +3,54 @@ use Rattle.std.specs.Prelude.{ℕ, Bool, true, false, nat_lt, if◌then◌else�
 use Rattle.gh_base.specs.declared.cell.Cell.TheVariants as cell
 use Rattle.gh_base.specs.declared.cell.Ask.{Ask}
 use Rattle.gh_base.specs.declared.cell.Ask.TheVariants.{Load, Or}
-use Rattle.gh_base.specs.declared.layout.Layout.{Layout}
 use Rattle.gh_base.specs.Routines.{Listing}
-use Rattle.gh_mutator.specs.declared.poll.Local.{Local}
+use Rattle.gh_mutator.specs.declared.wait.Wait.{Wait}
 use Rattle.gh_mutator.specs.declared.wait.WaitStage.{WaitStage}
 use Rattle.gh_mutator.specs.declared.wait.WaitStage.TheVariants.{Want, Polling, LoadSwept, Ended}
 use Rattle.gh_mutator.specs.Poll as poll
 
--- a wait: the cycle that the processor knew when it began, what it knows between two polls, and its stage
+-- a wait, and the processor that waits, with the poll that it is at, if it is at one
 pub record Waiting : Type 0 where
-  pub layout : Layout
-  pub seat : ℕ
-  pub known : ℕ
-  pub local : Local
-  pub stage : WaitStage
+  pub wait : Wait
+  pub poll : poll.Polling
 
-abbrev pub opening : Layout → (seat : ℕ) → Local → Waiting
-opening l seat local = record { layout = l; seat = seat; known = local.view.begun; local = local; stage = Want }
+-- it knows the cycle that the processor knew when it began
+abbrev pub begins : poll.Polling → Wait
+begins p = record { known = p.local.view.begun; stage = Want }
+
+abbrev pub waiting : Wait → poll.Polling → Waiting
+waiting w p = record { wait = w; poll = p }
+
+abbrev pub opening : poll.Polling → Waiting
+opening p = waiting (begins p) p
 
 abbrev pub at_stage : Waiting → WaitStage → Waiting
-at_stage w stage = record w { stage = stage }
+at_stage w stage = record w { wait = record (w.wait) { stage = stage } }
 
 -- it polls, as a part of the wait
 abbrev pub polling : Waiting → Waiting
-polling w = at_stage w (Polling (poll.opening w.layout w.seat w.local true))
+polling w = record w { wait = record (w.wait) { stage = Polling }; poll = poll.begins w.poll true }
 
 abbrev pub after_poll : Waiting → poll.Polling → Option (Unit {0}) → Waiting
-after_poll w p None = at_stage w (Polling p)
-after_poll w p (Some x) = record w { local = p.local; stage = LoadSwept }
+after_poll w p None = record w { wait = record (w.wait) { stage = Polling }; poll = p }
+after_poll w p (Some x) = record w { wait = record (w.wait) { stage = LoadSwept }; poll = p }
 
 -- a cycle later than the one that it knew is swept
 abbrev pub is_later : (known found : ℕ) → Bool
 is_later known found = nat_lt known found
 
-abbrev pub asks_at : WaitStage → Ask
-asks_at Want = Or cell.Want 1
-asks_at (Polling p) = poll.asks p
-asks_at LoadSwept = Load cell.Swept
-asks_at Ended = Load cell.Touch
+module _ (w : Waiting) where
+  abbrev pub asks_at : WaitStage → Ask
+  asks_at Want = Or cell.Want 1
+  asks_at Polling = poll.asks w.poll
+  asks_at LoadSwept = Load cell.Swept
+  asks_at Ended = Load cell.Touch
 
-abbrev pub goes_at : Waiting → WaitStage → ℕ → Waiting
-goes_at w Want found = polling w
-goes_at w (Polling p) found = after_poll w (poll.goes p found) (poll.gives p found)
-goes_at w LoadSwept found = if is_later w.known found then at_stage w Ended else polling w
-goes_at w Ended found = at_stage w Ended
+  abbrev pub goes_at : WaitStage → ℕ → Waiting
+  goes_at Want found = polling w
+  goes_at Polling found = after_poll w (poll.goes w.poll found) (poll.gives w.poll found)
+  goes_at LoadSwept found = if is_later w.wait.known found then at_stage w Ended else polling w
+  goes_at Ended found = at_stage w Ended
 
 abbrev pub given : (later : Bool) → Option (Unit {0})
 given true = Some tt
@@ -62,13 +66,13 @@ is_busy _ = true
 
 -- the step that it asks for, what it is after the step found this, and what it ends with if that step is its last
 abbrev pub asks : Waiting → Ask
-asks w = asks_at w.stage
+asks w = asks_at w w.wait.stage
 
 abbrev pub goes : Waiting → ℕ → Waiting
-goes w found = goes_at w w.stage found
+goes w found = goes_at w w.wait.stage found
 
 abbrev pub gives : Waiting → ℕ → Option (Unit {0})
-gives w found = gives_at w.known w.stage found
+gives w found = gives_at w.wait.known w.wait.stage found
 
 abbrev pub listing : Listing Waiting (Unit {0})
-listing = record { layout = λ w. w.layout; busy = λ w. is_busy w.stage; asks = asks; goes = goes; gives = gives }
+listing = record { layout = λ w. w.poll.layout; busy = λ w. is_busy w.wait.stage; asks = asks; goes = goes; gives = gives }

@@ -1,18 +1,17 @@
--- What a wait knows of its own numbers and polls, whatever it is told.
-use Rattle.std.specs.Prelude.{◌<◌}
-use Rattle.gh_base.specs.declared.layout.Layout.{Layout}
+-- What a wait knows of the poll that it runs, whatever it is told.
+use Rattle.std.specs.Prelude.{◌≡◌, true}
+use Rattle.gh_mutator.specs.declared.wait.Wait.{Wait}
 use Rattle.gh_mutator.specs.declared.wait.WaitStage.{WaitStage}
 use Rattle.gh_mutator.specs.declared.wait.WaitStage.TheVariants.{Polling}
-use Rattle.gh_mutator.specs.GiveSound.{Runs}
 use Rattle.gh_mutator.specs.Poll as poll
-use Rattle.gh_mutator.specs.PollSound.{FitsLocal}
-use Rattle.gh_mutator.specs.Wait.{Waiting}
+use Rattle.gh_mutator.specs.Wait.{is_busy}
 
-abbrev pub FitsStage : Layout → WaitStage → Type 0
-FitsStage l (Polling p) = Runs l p.layout (poll.is_busy p.stage)
-FitsStage l _ = Unit {0}
+-- the poll goes on
+abbrev pub PollsOn : poll.Polling → WaitStage → Type 0
+PollsOn p Polling = poll.is_busy p.stage ≡ true
+PollsOn p _ = Unit {0}
 
-pub record FitsWait (w : Waiting) : Type 0 where
-  pub seat : w.seat < w.layout.procs
-  pub local : FitsLocal w.layout w.local
-  pub stage : FitsStage w.layout w.stage
+-- it asks for a step, and so does the poll that it runs
+pub record FitsWait (p : poll.Polling) (w : Wait) : Type 0 where
+  pub busy : is_busy w.stage ≡ true
+  pub polls : PollsOn p w.stage

@@ -1,15 +1,16 @@
 //! Runs of a processor among a collector, over words that are drawn up by hand.
 
-ghost use Rattle.std.specs.Prelude.{◌≡◌, ◌+◌, ◌<◌, ◌≤◌, true};
+ghost use Rattle.std.specs.Prelude.{◌≡◌, ◌+◌, ◌<◌, ◌≤◌, IsTrue, true, false};
 ghost use Rattle.gh_base.specs.Holding.{IsHeld};
+ghost use Rattle.gh_base.specs.Shapes.{ShapesFit};
 ghost use Rattle.gh_mutator.specs.GiveSound.{FitsCache};
-ghost use Rattle.gh_mutator.specs.Wait.{is_busy};
+ghost use Rattle.gh_mutator.specs.Mutating.{is_busy, layout as layout_of};
 
 use crate::give::no_spans;
-use crate::{Cache, Give, Leave, Local, Wait, laws};
+use crate::{Cache, Give, Leave, Mutator, laws};
 use gh_alloc::CachedSpan;
 use gh_base::trace::{Steps, run_alone};
-use gh_base::{Held, Layout, Machine, Req};
+use gh_base::{Answer, Held, Layout, Machine, Op, Req, Shapes};
 use gh_class::size_class_laws;
 use std::alloc::{AllocError, Global};
 use std::test::Fail;
@@ -19,6 +20,8 @@ use std::test::Fail;
 const ACK_ROW: u32 = 51_094;
 
 const SCANNED_ROW: u32 = 51_096;
+
+const BUFFER_ROW: u32 = 33_568;
 
 /// The cache with this span for the span class of this number.
 fn with_span(layout: &Layout, cache: &Cache, number: u32, head: u32) -> Cache
@@ -90,16 +93,29 @@ fn all_is_given_back(rt: HostRuntime) -> Result<(), Fail> {
     Ok(())
 }
 
-/// Tells it what its steps find: that it asks for just these steps, and ends with the last.
-fn tell(wait: &mut Wait, steps: &[(Req, u64)]) -> bool
-    requires { is_busy wait.old.stage ≡ true }
+/// A heap without types.
+fn no_types(alloc: Global) -> Shapes
+    ensures { ShapesFit result }
+{
+    Shapes {
+        rows: Vec::new(alloc),
+    }
+}
+
+/// Tells it what its steps find: that it asks for just these steps, and is answered this with the last.
+fn tell(layout: &Layout, mutator: &mut Mutator<'_>, steps: &[(Req, u64)], answer: Answer) -> bool
+    requires busy { is_busy mutator.old ≡ true }
+    requires layout { layout_of mutator.old ≡ layout.now }
+    ensures layout { layout_of mutator.new ≡ layout.now }
+    ensures rests { IsTrue result → is_busy mutator.new ≡ false }
 {
     for (request, found) in steps {
-        if wait.next() != *request {
+        if mutator.next() != *request {
             return false;
         }
-        if wait.take(*found).is_some() {
-            return true;
+        let told = mutator.take(*found);
+        if told.is_some() {
+            return told == Some(answer);
         }
     }
     false
@@ -108,7 +124,9 @@ fn tell(wait: &mut Wait, steps: &[(Req, u64)]) -> bool
 #[test]
 fn a_cycle_is_waited_for(rt: HostRuntime) -> Result<(), Fail> {
     let layout = Layout::new(16, 1, 1, 1, 1)?;
-    let mut wait = Wait::new(&layout, 0, &Local::first(&layout));
+    let shapes = no_types(rt.alloc());
+    let mut mutator = Mutator::new(&layout, 0, &shapes);
+    mutator.begin(Op::Gc { g: 0 });
     let steps = [
         (Req::Or(6, 1), 0),
         // no marking, and no cycle is swept
@@ -126,8 +144,35 @@ fn a_cycle_is_waited_for(rt: HostRuntime) -> Result<(), Fail> {
         (Req::Load(1), 5),
         (Req::Load(4), 1),
     ];
-    assert!(rt; tell(&mut wait, &steps));
+    assert!(rt; tell(&layout, &mut mutator, &steps, Answer::Swept));
+    // a turn's own poll, with marking on: it takes a buffer with room
+    mutator.begin(Op::Poll);
+    let steps = [
+        (Req::Load(1), 5),
+        (Req::Load(BUFFER_ROW), 0),
+        (Req::Swap(BUFFER_ROW, 0, 256), 0),
+    ];
+    assert!(rt; tell(&layout, &mut mutator, &steps, Answer::Done));
+    // the goroutine ends; the buffer is given back
+    mutator.begin(Op::End(0));
+    assert!(rt;
+        tell(
+            &layout,
+            &mut mutator,
+            &[(Req::Store(SCANNED_ROW, u64::MAX), 1)],
+            Answer::Done
+        )
+    );
+    mutator.begin(Op::Leave);
+    let steps = [
+        (Req::Store(BUFFER_ROW, 0), 256),
+        (Req::Store(ACK_ROW, u64::MAX), 1),
+    ];
+    assert!(rt; !mutator.is_last());
+    assert!(rt; tell(&layout, &mut mutator, &steps, Answer::Done));
+    assert!(rt; mutator.has_left());
     laws::polls_hold_nothing_at_stops();
     laws::waits_end_with_a_cycle();
+    laws::the_processor_keeps_the_handshake();
     Ok(())
 }

@@ -1,6 +1,7 @@
 //! Laws of the machine. The functions do nothing; what they ensure is proved.
 
 ghost use Rattle.gh_mutator.specs.Acting.{EachOperationActsOnce};
+ghost use Rattle.gh_mutator.specs.Calm.{CalmProcessorsMarkNothing};
 ghost use Rattle.gh_mutator.specs.Deeds.{OnlyPointsChange, ProcessorsDeedsFit};
 ghost use Rattle.gh_mutator.specs.Ending.{OperationsEnd};
 ghost use Rattle.gh_mutator.specs.Faults.{FaultsChangeNothing};
@@ -8,21 +9,31 @@ ghost use Rattle.gh_mutator.specs.Full.{FullChangesLittle};
 ghost use Rattle.gh_mutator.specs.Gives.{GivesLeaveNothing};
 ghost use Rattle.gh_mutator.specs.Handshake.{LeavesInHandshake, PollsInHandshake, WaitsInHandshake};
 ghost use Rattle.gh_mutator.specs.Leaves.{NothingIsHeldAtLeave};
+ghost use Rattle.gh_mutator.specs.MarkFacts.{LeavesByMoves, PollsByMoves, WaitsByMoves};
 ghost use Rattle.gh_mutator.specs.Polls.{PollsHoldNothingAtStops};
+ghost use Rattle.gh_mutator.specs.ProcessorMarks.{MarksByMoves};
+ghost use Rattle.gh_mutator.specs.ProcessorPlaces.{ProcessorInHandshake};
 ghost use Rattle.gh_mutator.specs.Quiet.{ProcessorIsQuiet};
 ghost use Rattle.gh_mutator.specs.Runs.{RunsByItsRights};
 ghost use Rattle.gh_mutator.specs.StackMarks.{WishesOfAStackAreShaded};
 ghost use Rattle.gh_mutator.specs.Waits.{WaitsEndWithACycle};
+ghost use Rattle.gh_mutator.specs.Writing.{ProcessorWritesItsOwn, StacksAreNoted};
 
-use gh_alloc::laws::{allocation_is_quiet, finding_keeps_its_facts, making_keeps_its_facts};
-use gh_base::laws::{packed_words_are_read_back, rows_are_written};
+use crate::heap_laws::{leaves_by_rights, polls_by_rights, waits_by_rights};
+use gh_alloc::laws::{allocation_is_quiet, making_keeps_its_facts, searching_keeps_its_facts};
+use gh_base::laws::{cells_are_told, packed_words_are_read_back, rows_are_written};
 use gh_class::size_class_laws;
 use gh_heap::laws::{rights_follow, the_heap_is_apart};
+use gh_marks::laws::{facts_last, hands_follow, own_moves_leave, steps_go_by_moves};
 use gh_phase::laws::going_on_keeps_the_handshake;
 use gh_scan::laws::marking_is_quiet;
+use gh_shade::laws::shades_by_moves;
+use gh_stack::laws::stacks_are_scanned_by_moves;
+use gh_wbuf::laws::buffers_pass_by_moves;
 
-/// Whatever its steps find, an operation that makes no object ends after a few of them: a load after at
-/// most 4, a store after 3, a load of a global after 2, and each other operation after 1.
+/// Whatever its steps find, an operation that neither makes an object nor waits for others ends after a few of
+/// them: a load after at most 4, a store after 3, a load of a global after 2, and each other statement, and the
+/// end of a goroutine, after 1.
 pub fn operations_end()
     ensures { OperationsEnd }
 {}
@@ -32,9 +43,10 @@ pub fn faults_change_nothing()
     ensures { FaultsChangeNothing }
 {}
 
-/// A `new` that is answered `full` has loaded words, taken and freed the heap's lock, and given the cached
-/// span of its span class back. It leaves the processor as it was, save that span, and its register, which
-/// is nil.
+/// A `new` that is answered `full` has waited: a cycle that began after it did was swept. Each step beside those of
+/// the wait loaded a word, took or freed the heap's lock, or wrote a page word. It leaves the numbers of objects and
+/// all registers as they were, save its own, which is nil; no span is cached of its span class. What else the
+/// processor alone knows, the polls of the wait may have changed.
 pub fn full_changes_little()
     ensures { FullChangesLittle }
 {}
@@ -54,22 +66,6 @@ pub fn the_processors_deeds_fit()
 pub fn only_points_change()
     ensures { OnlyPointsChange }
 {}
-
-/// Whatever any number of processors do beside it: an operation begins well where it may begin; each step of the
-/// processor is a move that its rights allow, on a word that there is, after which its registers hold what they
-/// hold in the heap that never frees, and it answers what that heap answers, or `full` where it found no room;
-/// and what is known of it lasts.
-pub fn a_processor_runs_by_its_rights()
-    ensures { RunsByItsRights }
-{
-    packed_words_are_read_back();
-    rows_are_written();
-    size_class_laws();
-    the_heap_is_apart();
-    rights_follow();
-    finding_keeps_its_facts();
-    making_keeps_its_facts();
-}
 
 /// Whatever it is told, the giving back writes page words with the heap's lock alone, and frees the lock
 /// before it ends. Once it has ended no span is cached and no buffer is held: each span that was cached is
@@ -145,4 +141,129 @@ pub fn leaves_keep_the_handshake()
     ensures { LeavesInHandshake }
 {
     the_processor_is_quiet();
+}
+
+/// Each step of a processor is one of the handshake of a stop, whatever it runs: it is awake, but where its poll, or
+/// the poll of a wait, gives back what is held and goes on after a stop, and where it leaves. It acknowledges a stop,
+/// and says that it is gone, for its own seat, with no span cached and no buffer held.
+pub fn the_processor_keeps_the_handshake()
+    ensures { ProcessorInHandshake }
+{
+    the_processor_is_quiet();
+    marking_is_quiet();
+    polls_keep_the_handshake();
+    waits_keep_the_handshake();
+    leaves_keep_the_handshake();
+}
+
+/// Whatever any number of actors do beside it while marking is on: each step of a poll is made of moves that its
+/// seat may make, and what is known at each stage holds then and lasts. What it scans is the stack of a goroutine
+/// of its own, and each register of it is clean where it says so. It has in hand what the stage says and nothing
+/// else, so where it acknowledges a stop it has nothing.
+pub fn polls_by_moves()
+    ensures { PollsByMoves }
+{
+    the_processor_is_quiet();
+    marking_is_quiet();
+    facts_last();
+    hands_follow();
+    own_moves_leave();
+    steps_go_by_moves();
+    buffers_pass_by_moves();
+    shades_by_moves();
+    stacks_are_scanned_by_moves();
+}
+
+/// The same of a wait.
+pub fn waits_by_moves()
+    ensures { WaitsByMoves }
+{
+    polls_by_moves();
+    facts_last();
+    hands_follow();
+    own_moves_leave();
+    steps_go_by_moves();
+    buffers_pass_by_moves();
+    shades_by_moves();
+    stacks_are_scanned_by_moves();
+}
+
+/// The same of a leave: where a processor says that it is gone it has nothing in hand.
+pub fn leaves_by_moves()
+    ensures { LeavesByMoves }
+{
+    the_processor_is_quiet();
+    facts_last();
+    hands_follow();
+    own_moves_leave();
+    steps_go_by_moves();
+    buffers_pass_by_moves();
+    shades_by_moves();
+    stacks_are_scanned_by_moves();
+}
+
+/// While a cycle is marked, each step of a processor that polls, waits for a cycle or leaves is made of moves that its
+/// seat may make, and what is known of it by its task holds then and lasts, whatever all others do. It begins where
+/// the cycle does, from a processor that stands still with nothing in hand; and so it stands where the cycle ends.
+pub fn a_processor_marks_by_moves()
+    ensures { MarksByMoves }
+{
+    polls_by_moves();
+    waits_by_moves();
+    leaves_by_moves();
+    facts_last();
+    hands_follow();
+    own_moves_leave();
+    steps_go_by_moves();
+    buffers_pass_by_moves();
+    shades_by_moves();
+    stacks_are_scanned_by_moves();
+}
+
+/// Whatever a processor finds, its step is a load, or on a word of the heap's lock, of the pages, slots, pointer bits,
+/// names, fields and globals, of the mark bits, the buffers and their entries; or on its own acknowledgement, or on the
+/// word of a stack that it has scanned or whose goroutine ends. It asks for a cycle once in a wait, where that begins, and
+/// adds the bytes of a slot where it has made an object. No other word is written by it. Its heap and its seat stay.
+pub fn a_processor_writes_its_own()
+    ensures { ProcessorWritesItsOwn }
+{
+    cells_are_told();
+    the_processor_keeps_the_handshake();
+}
+
+/// What a processor has noted of a stack is the number that it has written last of it: the cycle of a scan, or that the
+/// goroutine has ended; and 0 before.
+pub fn stacks_are_noted()
+    ensures { StacksAreNoted }
+{}
+
+/// A processor that holds no buffer, and does not know that marking is on, writes no mark bit, no buffer and no entry,
+/// and of a stack that its goroutine has ended alone. So it goes on as long as the phases that it finds are not that of
+/// marking; and it holds no buffer still where it first finds that one.
+pub fn calm_processors_mark_nothing()
+    ensures { CalmProcessorsMarkNothing }
+{
+    cells_are_told();
+    the_processor_keeps_the_handshake();
+    a_processor_marks_by_moves();
+}
+
+/// Whatever any number of processors do beside it: an operation begins well where it may begin; each step of the
+/// processor is a move that its rights allow, on a word that there is, after which its registers hold what they
+/// hold in the heap that never frees, and it answers what that heap answers, or `full` where it found no room;
+/// and what is known of it lasts. Where it is parked at a stop, or is gone, it has no right, and what is known of it
+/// lasts whatever is done to the words.
+pub fn a_processor_runs_by_its_rights()
+    ensures { RunsByItsRights }
+{
+    packed_words_are_read_back();
+    rows_are_written();
+    size_class_laws();
+    the_heap_is_apart();
+    rights_follow();
+    searching_keeps_its_facts();
+    making_keeps_its_facts();
+    polls_by_rights();
+    waits_by_rights();
+    leaves_by_rights();
 }

@@ -4,7 +4,7 @@ ghost use Rattle.std.specs.Prelude.{◌≡◌, ◌+◌, ◌^◌, ◌<◌, true};
 ghost use Rattle.gh_base.specs.Holding.{IsHeld};
 ghost use Rattle.gh_mutator.specs.Give as gives;
 ghost use Rattle.gh_mutator.specs.GiveSound.{FitsCache, Runs};
-ghost use Rattle.gh_mutator.specs.Leave.{goes_at, is_busy, opening, stage_of};
+ghost use Rattle.gh_mutator.specs.Leave.{goes_at, is_busy, opening, says_gone, stage_of};
 ghost use Rattle.gh_mutator.specs.LeaveSound.{FitsStage};
 
 use crate::give::{Cache, Give};
@@ -82,6 +82,13 @@ impl Leave {
             seat,
             stage: stage_of(&give),
         }
+    }
+
+    /// Its next step is its last: nothing is left to be given back.
+    pub(crate) fn is_last(&self) -> bool
+        ensures { result ≡ says_gone self.now.stage }
+    {
+        matches!(self.stage, LeaveStage::Leave)
     }
 
     /// Takes a step of the giving back.

@@ -17,13 +17,14 @@
 //! word of the heap told is taken modulo the words of its row, so every step is on a word that there is,
 //! whatever was found.
 //!
-//! Among a collector a processor does more, and machines of their own say what; no statement runs them
-//! yet. The collector stops the world to switch marking on and off, and frees what is not marked by then.
-//! Whatever a stopped processor kept to itself would be missed: an object in its buffer would not be scanned,
-//! and the free slots of its spans would not be seen. So [`Poll`] gives all back, by [`Give`], before it
-//! acknowledges a stop. While marking is on it scans the stacks of the processor's goroutines, one at a time,
-//! by [`MarkStack`]. [`Wait`] polls until a cycle that began later is swept, and [`Leave`] gives all back for
-//! good.
+//! A processor runs among a collector, which stops the world to switch marking on and off, and frees what is
+//! not marked by then. Whatever a stopped processor kept to itself would be missed: an object in its buffer
+//! would not be scanned, and the free slots of its spans would not be seen. So a [`Poll`] gives all back, by
+//! [`Give`], before it acknowledges a stop. While marking is on it scans the stacks of the processor's
+//! goroutines, one at a time, by [`MarkStack`]. A `gc`, and a `new` that finds no room, run a [`Wait`], which
+//! polls until a cycle that began later is swept; and [`Leave`] gives all back for good. A processor has one
+//! `Poll` for its whole life: that keeps its registers, its cached spans and its buffer, and each routine
+//! reads and changes them there.
 //!
 //! The words and the steps follow Go's `malloc.go`, `mcache.go` and `mbitmap.go`.
 #![tactic(auto)]
@@ -33,13 +34,14 @@ mod collector_tests;
 mod field;
 mod give;
 mod global;
+pub mod heap_laws;
 pub mod laws;
 mod leave;
 mod load;
+mod local;
 mod mark_stack;
 mod mutator;
 mod new;
-mod own;
 mod poll;
 mod processor;
 mod register;
@@ -58,7 +60,6 @@ pub use load::{Load, LoadStage};
 pub use mark_stack::{MarkStack, MarkStackStage};
 pub use mutator::Mutator;
 pub use new::{New, NewStage, Wanted};
-pub use own::Own;
 pub use poll::{Local, Poll, PollStage, Scanned, Stacks};
 pub use processor::Processor;
 pub use register::{Register, Source};

@@ -6,7 +6,6 @@ ghost use Rattle.gh_mutator.specs.Serving.{has_left_at, is_last, is_point, is_se
 ghost use Rattle.gh_base.specs.Shapes.{ShapesFit};
 ghost use Rattle.gh_mutator.specs.Sound.{has_names, SoundOp};
 
-use crate::own::Own;
 use crate::processor::Processor;
 use crate::task::Task;
 use gh_base::{Answer, Layout, Machine, Op, Req, Shapes};
@@ -52,12 +51,11 @@ impl<'s> Mutator<'s> {
         }
     }
 
-    /// Begins an operation, where none is begun, and which is no `gc`, for which there is no listing yet.
-    /// Its goroutine, registers, type and global are there, and a goroutine that is to make an object has
-    /// made fewer than 200,000.
+    /// Begins an operation, where none is begun. Its goroutine, registers, type and global are there, and a
+    /// goroutine that is to make an object has made fewer than 200,000.
     pub fn begin(&mut self, op: Op)
         requires idle { is_busy self.old ≡ false }
-        requires op { SoundOp self.old.shapes self.old.processor.layout op }
+        requires op { SoundOp self.old.shapes self.old.processor.poll.layout op }
         requires names { has_names self.old.processor op ≡ true }
         ensures { self.new ≡ begins self.old op }
     {
@@ -86,7 +84,7 @@ impl<'s> Mutator<'s> {
         ensures { result ≡ is_last self.now.processor.task }
     {
         match self.processor.task {
-            Task::Own(Own::Leave) => true,
+            Task::Leave(leave) => leave.is_last(),
             _ => false,
         }
     }

@@ -1,20 +1,24 @@
-//! A new object: the search for its slot, and the making of it there.
+//! A new object: the search for its slot, the wait for a cycle where there is none, the search once more, and
+//! the making of the object in its slot.
 
-ghost use Rattle.std.specs.Prelude.{◌≡◌, ◌+◌, ◌^◌, ◌<◌, length, true, false, Some, None, IfSome, is_some, if◌then◌else◌};
-ghost use Rattle.gh_base.specs.declared.value.Answer.TheVariants.{Full};
+ghost use Rattle.std.specs.Prelude.{◌≡◌, ◌+◌, ◌^◌, ◌<◌, length, true, false, IfSome};
+ghost use Rattle.gh_alloc.specs.FindSound.{FitsPages};
+ghost use Rattle.gh_alloc.specs.PlaceSound.{FitsSpanHead};
 ghost use Rattle.gh_alloc.specs.Within.{LiesWithin};
 ghost use Rattle.gh_mutator.specs.Listing.{gives, takes};
-ghost use Rattle.gh_mutator.specs.New.{after_find, finding, finds_none, made_object, next_of, own_span, searches, wanted_of};
-ghost use Rattle.gh_mutator.specs.NewParts.{after_making, cached_by, finds, goes_at, made_at, MakingFits, named_by, naming, searched, SearchFits};
-ghost use Rattle.gh_mutator.specs.Processor.{made_by};
+ghost use Rattle.gh_alloc.specs.Place as places;
+ghost use Rattle.gh_mutator.specs.New.{after_found, answer_found, made_object, next_of, own_span, searches, seeking, wanted_of};
+ghost use Rattle.gh_mutator.specs.NewParts.{after_making, made_at, MakingFits, named_by, naming};
+ghost use Rattle.gh_mutator.specs.Processor.{at_task, made_by};
 ghost use Rattle.gh_mutator.specs.Serving.{is_making};
 ghost use Rattle.gh_base.specs.Shapes.{ShapesFit};
-ghost use Rattle.gh_mutator.specs.Sound.{IsRegister, Sound, SoundStage, SoundWanted};
+ghost use Rattle.gh_mutator.specs.Sound.{IsRegister, Sound, SoundWanted};
 
 use crate::processor::Processor;
 use crate::task::Task;
-use gh_alloc::{CachedSpan, Find, Found, Place, Sought};
-use gh_base::{Answer, Layout, Machine, Name, Shapes, SpanHead, Value};
+use crate::wait::Wait;
+use gh_alloc::{Found, Place, Search, Sought};
+use gh_base::{Answer, Machine, Name, Shapes, SpanHead, Value};
 use gh_class::{SizeClass, SpanClass, size_class_laws, slot_words};
 
 /// An object that is to be made: of type `t`, for register `d` of goroutine `g`.
@@ -29,11 +33,13 @@ pub struct Wanted {
     pub sought: Sought,
 }
 
-/// Where the making of a new object stands.
+/// Where a new object stands.
 #[derive(Drop)]
 pub enum NewStage<'s> {
-    /// The search for its slot.
-    Find(Find),
+    /// The search for its slot: before a cycle was waited for, or behind that.
+    Search { waited: bool, search: Search },
+    /// There was no room: a cycle is waited for.
+    Wait(Wait),
     /// The making of it in its slot.
     Place(Place<'s>),
 }
@@ -72,87 +78,53 @@ impl Wanted {
     }
 }
 
-impl<'s> New<'s> {
-    /// It looks for its slot.
-    fn is_search(&self) -> bool
-        ensures { result ≡ finds self.now.stage }
-    {
-        match &self.stage {
-            NewStage::Find(_) => true,
-            NewStage::Place(_) => false,
-        }
-    }
-
-    /// A step of the search: what it has found, where it is over, and the span that is cached then.
-    fn search(&mut self, layout: &Layout, found: u64) -> (Option<Found>, Option<CachedSpan>)
-        requires finds { finds self.old.stage ≡ true }
-        requires stage { SoundStage layout.now self.old.wanted self.old.stage }
-        ensures goes { self.new ≡ record self.old { stage = goes_at self.old.stage found } }
-        ensures found { result.0 ≡ searched self.old.stage found }
-        ensures cached { result.1 ≡ cached_by self.old.stage found }
-        ensures fits { SearchFits layout.now self.old.wanted result.0 result.1 }
-    {
-        match &mut self.stage {
-            NewStage::Find(find) => {
-                let out = find.take(found);
-                (out, find.cached())
-            }
-            NewStage::Place(_) => unreachable!(),
-        }
-    }
-
-    /// A step of the making: the object's first heap word, where it makes the object, and its name, where
-    /// the making is over.
-    fn make(&mut self, layout: &Layout, found: u64) -> (Option<u32>, Option<Name>)
-        requires finds { finds self.old.stage ≡ false }
-        requires stage { SoundStage layout.now self.old.wanted self.old.stage }
-        ensures goes { self.new ≡ record self.old { stage = goes_at self.old.stage found } }
-        ensures made { result.0 ≡ made_at self.old.stage }
-        ensures name { result.1 ≡ named_by self.old.stage found }
-        ensures fits { MakingFits layout.now result.0 }
-    {
-        match &mut self.stage {
-            NewStage::Find(_) => unreachable!(),
-            NewStage::Place(place) => {
-                let made = if place.acts() {
-                    Some(place.word())
-                } else {
-                    None
-                };
-                let name = place.name();
-                let goes_on = place.take(found).is_none();
-                (made, if goes_on { None } else { Some(name) })
-            }
-        }
-    }
+/// A step of the making: the object's first heap word, where the step makes the object, and its name, where
+/// the making is over.
+fn make(place: &mut Place<'_>, found: u64) -> (Option<u32>, Option<Name>)
+    requires { places.is_busy place.old.stage ≡ true }
+    ensures goes { place.new ≡ places.goes place.old found }
+    ensures made { result.0 ≡ made_at place.old }
+    ensures name { result.1 ≡ named_by place.old found }
+    ensures fits { MakingFits place.old.layout result.0 }
+{
+    let made = if place.acts() {
+        Some(place.word())
+    } else {
+        None
+    };
+    let name = place.name();
+    let goes_on = place.take(found).is_none();
+    (made, if goes_on { None } else { Some(name) })
 }
 
 impl<'s> Processor<'s> {
     /// Begins a new object of type `t` for register `d` of goroutine `g`.
     pub(crate) fn begin_new(&self, shapes: &Shapes, g: u32, d: u32, t: u32) -> Task<'s>
-        requires sound { Sound shapes.now self.now }
         requires fit { ShapesFit shapes.now }
         requires register { IsRegister g d }
         requires there { t < length shapes.now }
-        ensures { result ≡ searches (wanted_of shapes.now g d t) (finding self.now (wanted_of shapes.now g d t)) }
+        ensures { result ≡ searches (wanted_of shapes.now g d t) false (seeking self.now (wanted_of shapes.now g d t)) }
     {
         size_class_laws();
         let wanted = Wanted::of(shapes, g, d, t);
-        let stage = NewStage::Find(self.finding(shapes, &wanted));
+        let search = self.seeking(shapes, &wanted);
+        let stage = NewStage::Search {
+            waited: false,
+            search,
+        };
         Task::New(New { wanted, stage })
     }
 
     /// The search for a slot for such an object.
-    fn finding(&self, shapes: &Shapes, wanted: &Wanted) -> Find
-        requires sound { Sound shapes.now self.now }
+    fn seeking(&self, shapes: &Shapes, wanted: &Wanted) -> Search
         requires wanted { SoundWanted shapes.now wanted.now }
-        ensures { result ≡ finding self.now wanted.now }
+        ensures { result ≡ seeking self.now wanted.now }
     {
-        let cached = self.cached_for(&wanted.sought);
-        Find::new(
-            &self.layout,
-            self.seat,
-            self.generation,
+        let cached = self.poll.cached_for(&wanted.sought);
+        Search::new(
+            self.poll.layout(),
+            self.poll.seat(),
+            self.poll.generation(),
             wanted.sought,
             cached,
         )
@@ -160,8 +132,9 @@ impl<'s> Processor<'s> {
 
     /// What the first page of a large object's span says while it is being made.
     fn own_span(&self, sought: &Sought) -> Option<SpanHead>
-        requires { self.now.seat + 1 < 2 ^ 32 }
-        ensures { result ≡ own_span self.now.seat self.now.generation sought.now }
+        requires { FitsPages sought.now }
+        ensures is { result ≡ own_span self.now.poll.seat self.now.poll.local.view.generation sought.now }
+        ensures fits { FitsSpanHead result }
     {
         match *sought {
             Sought::Small(_) => None,
@@ -169,8 +142,8 @@ impl<'s> Processor<'s> {
                 class: SizeClass::Large,
                 noscan,
                 pages,
-                owner: self.seat + 1,
-                number: self.generation,
+                owner: self.poll.seat() + 1,
+                number: self.poll.generation(),
             }),
         }
     }
@@ -197,59 +170,82 @@ impl<'s> Processor<'s> {
         let Task::New(new) = &mut self.task else {
             return None;
         };
-        // Most steps end neither the search nor the making, and then what is wanted is not looked at.
-        if new.is_search() {
-            let (out, cached) = new.search(&self.layout, found);
-            let sought = new.wanted.sought;
-            if out.is_none() {
-                self.cache_span(&sought, cached);
-                return None;
+        // Most steps end none of its stages, and then no more of what is wanted is looked at than they need.
+        match &mut new.stage {
+            NewStage::Search { waited, search } => {
+                let out = search.take(found);
+                self.poll.cache_span(&new.wanted.sought, search.cached());
+                match out {
+                    None => None,
+                    Some(out) => {
+                        let (wanted, waited) = (new.wanted, *waited);
+                        self.end_search(shapes, wanted, waited, out)
+                    }
+                }
             }
-            let wanted = new.wanted;
-            self.cache_span(&sought, cached);
-            self.after_find(shapes, wanted, out)
-        } else {
-            let (made, name) = new.make(&self.layout, found);
-            if made.is_none() && name.is_none() {
-                return None;
+            NewStage::Wait(wait) => {
+                if wait.take(&mut self.poll, found).is_some() {
+                    let wanted = new.wanted;
+                    self.search_again(shapes, wanted);
+                }
+                None
             }
-            let wanted = new.wanted;
-            self.after_place(wanted, made, name)
+            NewStage::Place(place) => {
+                let (made, name) = make(place, found);
+                let wanted = new.wanted;
+                self.after_place(wanted, made, name)
+            }
         }
     }
 
-    /// After a step of the search, which is over where it has found this: the object is made in the slot,
-    /// or there is no room.
-    fn after_find(
+    /// The search, before or behind the wait, has ended and has found this: the object is made in the slot;
+    /// where there is no room, a cycle is waited for, and behind that the statement ends.
+    fn end_search(
         &mut self,
         shapes: &'s Shapes,
         wanted: Wanted,
-        out: Option<Found>,
+        waited: bool,
+        out: Found,
     ) -> Option<Answer>
         requires wanted { SoundWanted shapes.now wanted }
-        requires seat { self.old.seat < self.old.layout.procs }
-        requires generation { self.old.generation < 2 ^ 34 }
-        requires slot { IfSome out (LiesWithin self.old.layout wanted.sought) }
-        ensures goes { self.new ≡ (if is_some out then after_find shapes.now self.old wanted (finding self.old wanted) out else self.old) }
-        ensures gives { result ≡ (if finds_none out then Some Full else None) }
+        requires slot { LiesWithin self.old.poll.layout wanted.sought out }
+        ensures goes { self.new ≡ after_found shapes.now self.old wanted waited out }
+        ensures gives { result ≡ answer_found waited out }
     {
         match out {
-            None => None,
-            Some(Found::At(at)) => {
+            Found::At(at) => {
                 let shape = &shapes.rows[wanted.t as usize];
                 let name = self.next_name(&wanted);
                 let span = self.own_span(&wanted.sought);
-                let place = Place::new(&self.layout, shape, at, wanted.slot, name, span);
+                let place = Place::new(self.poll.layout(), shape, at, wanted.slot, name, span);
                 let stage = NewStage::Place(place);
                 self.task = Task::New(New { wanted, stage });
                 None
             }
-            Some(Found::NoRoom) => {
-                self.set_register(wanted.g, wanted.d, Value::Nil);
+            Found::NoRoom if waited => {
+                self.poll.set_register(wanted.g, wanted.d, Value::Nil);
                 self.task = Task::Idle;
                 Some(Answer::Full)
             }
+            Found::NoRoom => {
+                let stage = NewStage::Wait(Wait::begin(&self.poll));
+                self.task = Task::New(New { wanted, stage });
+                None
+            }
         }
+    }
+
+    /// A cycle has been swept: the slot is searched for once more.
+    fn search_again(&mut self, shapes: &Shapes, wanted: Wanted)
+        requires wanted { SoundWanted shapes.now wanted }
+        ensures { self.new ≡ at_task self.old (searches wanted true (seeking self.old wanted)) }
+    {
+        let search = self.seeking(shapes, &wanted);
+        let stage = NewStage::Search {
+            waited: true,
+            search,
+        };
+        self.task = Task::New(New { wanted, stage });
     }
 
     /// After a step of the making, by which the object was made at this heap word, or not, and which is over
@@ -262,7 +258,7 @@ impl<'s> Processor<'s> {
     ) -> Option<Answer>
         requires register { IsRegister wanted.g wanted.d }
         requires name { IfSome made (λ _. made_by self.old wanted.g + 1 < 2 ^ 32) }
-        requires fits { MakingFits self.old.layout made }
+        requires fits { MakingFits self.old.poll.layout made }
         ensures goes { self.new ≡ after_making self.old wanted made name }
         ensures gives { result ≡ naming name }
     {
@@ -281,6 +277,7 @@ impl<'s> Processor<'s> {
         ensures { self.new ≡ made_object self.old wanted at }
     {
         self.made[wanted.g as usize] += 1;
-        self.set_register(wanted.g, wanted.d, Value::Ref(u64::from(at) + 1));
+        let reference = Value::Ref(u64::from(at) + 1);
+        self.poll.set_register(wanted.g, wanted.d, reference);
     }
 }

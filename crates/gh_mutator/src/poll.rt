@@ -1,17 +1,16 @@
 //! The poll of a processor among a collector.
 
-ghost use Rattle.std.specs.Prelude.{◌≡◌, ◌^◌, ◌<◌, IfSome, length, true};
+ghost use Rattle.std.specs.Prelude.{◌≡◌, ◌^◌, ◌<◌, IfSome, length};
 ghost use Rattle.gh_base.specs.declared.limits.TheConstants.{MOST_GOROUTINES};
 ghost use Rattle.gh_phase.specs.Listing as resumes;
-ghost use Rattle.gh_phase.specs.Views.{first_view};
 ghost use Rattle.gh_wbuf.specs.RoomFinding as rooms;
 ghost use Rattle.gh_mutator.specs.Give as gives;
 ghost use Rattle.gh_mutator.specs.MarkStack as marks;
 ghost use Rattle.gh_mutator.specs.GiveSound.{Runs};
-ghost use Rattle.gh_mutator.specs.Poll.{begins_stack, counted, due, first_due, given, goes_at, has_two, is_busy, is_due, marks_then, opening, room_stage, stops_then};
+ghost use Rattle.gh_mutator.specs.Poll.{begins, begins_stack, counted, due, first_due, given, goes_at, has_two, is_due, marks_then, resting, room_stage, stops_then};
 ghost use Rattle.gh_mutator.specs.PollSound.{FitsLocal, FitsStage};
 
-use crate::give::{Cache, Give, no_spans};
+use crate::give::{Cache, Give};
 use crate::mark_stack::MarkStack;
 use gh_base::limits::MOST_GOROUTINES;
 use gh_base::{Ask, Cell, END, ENTRIES, Held, Layout, Machine, PhaseWord, Req, Value};
@@ -43,28 +42,6 @@ pub struct Local {
     pub stacks: Stacks,
 }
 
-impl Local {
-    /// What a processor knows when the heap opens: no span is cached, no buffer held, no stack scanned, and
-    /// each register is nil.
-    pub fn first(layout: &Layout) -> Local
-        ensures view { result.view ≡ first_view }
-        ensures polls { result.polls ≡ 0 }
-        ensures fits { FitsLocal layout.now result }
-    {
-        let _ = layout;
-        let view = View::first();
-        let cache = no_spans();
-        Local {
-            view,
-            cache,
-            held: None,
-            polls: 0,
-            scanned: [0; MOST_GOROUTINES as usize],
-            stacks: [[Value::Nil; REGISTER_COUNT]; MOST_GOROUTINES as usize],
-        }
-    }
-}
-
 /// The stages of a poll.
 #[derive(Clone, Copy)]
 pub enum PollStage {
@@ -89,12 +66,14 @@ pub enum PollStage {
 /// once the world runs again. Then, while marking is on, every fourth poll scans the stack of the lowest
 /// goroutine of the processor that has not ended and was not scanned in this cycle. A poll that is no part
 /// of a wait sees at its end that a buffer is held which has room for the two entries of a write barrier.
-#[derive(Clone, Copy)]
+///
+/// A processor has one for its whole life, which keeps what it alone knows: at rest it has ended.
+#[derive(Drop)]
 pub struct Poll {
-    layout: Layout,
-    seat: u32,
+    pub(crate) layout: Layout,
+    pub(crate) seat: u32,
     waits: bool,
-    local: Local,
+    pub(crate) local: Local,
     stage: PollStage,
 }
 
@@ -144,28 +123,27 @@ fn has_two(held: Option<Held>) -> bool
 }
 
 impl Poll {
-    /// The processor at this seat polls; `waits` says that the poll is a part of a wait.
-    pub fn new(layout: &Layout, seat: u32, local: &Local, waits: bool) -> Poll
+    /// The processor at this seat, at no poll, with what it knows.
+    pub(crate) fn resting(layout: &Layout, seat: u32, local: &Local) -> Poll
         requires seat { seat < layout.now.procs }
         requires local { FitsLocal layout.now local.now }
-        ensures opening { result ≡ opening layout.now seat local.now waits }
-        ensures begun { is_busy result.stage ≡ true }
+        ensures { result ≡ resting layout.now seat local.now }
     {
         Poll {
             layout: *layout,
             seat,
-            waits,
+            waits: false,
             local: *local,
-            stage: PollStage::LoadPhase,
+            stage: PollStage::Ended,
         }
     }
 
-    /// What the processor knows now.
-    pub fn local(&self) -> Local
-        ensures is { result ≡ self.now.local }
-        ensures fits { FitsLocal self.now.layout result }
+    /// It polls; `waits` says that the poll is a part of a wait.
+    pub(crate) fn begin(&mut self, waits: bool)
+        ensures { self.new ≡ begins self.old waits }
     {
-        self.local
+        self.waits = waits;
+        self.stage = PollStage::LoadPhase;
     }
 
     /// Its last stage: a buffer with room is looked for where the processor is to have one.

@@ -2,38 +2,29 @@
 
 ghost use Rattle.std.specs.Prelude.{◌≡◌, ◌<◌, true};
 ghost use Rattle.gh_mutator.specs.Listing.{begins, is_busy_at};
-ghost use Rattle.gh_mutator.specs.Processor.{at_task, cache_span, cached_for, opening_processor, register_of, set_register, with_value};
+ghost use Rattle.gh_mutator.specs.Processor.{at_task, opening_processor};
 ghost use Rattle.gh_mutator.specs.Register as register;
-ghost use Rattle.gh_mutator.specs.declared.task.Task.TheVariants as task;
 ghost use Rattle.gh_base.specs.Shapes.{ShapesFit};
-ghost use Rattle.gh_mutator.specs.Sound.{has_names, IsRegister, Sound, SoundOp};
+ghost use Rattle.gh_mutator.specs.Sound.{has_names, Sound, SoundOp};
 
 use crate::global::Global;
 use crate::load::Load;
-use crate::own::Own;
+use crate::poll::{Local, Poll};
 use crate::register::{Register, Source};
 use crate::store::Store;
 use crate::task::{Statement, Task};
-use gh_alloc::{CachedSpan, Sought};
-use gh_base::limits::{MOST_GOROUTINES, REGISTERS};
-use gh_base::{Layout, Op, Shapes, Value};
-use gh_class::{SPAN_CLASSES, size_class_laws};
+use crate::wait::Wait;
+use gh_base::limits::MOST_GOROUTINES;
+use gh_base::{Layout, Op, Shapes};
+use gh_class::size_class_laws;
 
 /// A processor.
 #[derive(Drop)]
 pub struct Processor<'s> {
-    /// The heap's layout.
-    pub layout: Layout,
-    /// Its seat.
-    pub seat: u32,
-    /// Its copy of the sweep generation.
-    pub generation: u64,
-    /// The registers of the goroutines, 16 each.
-    pub registers: [Value; (REGISTERS * MOST_GOROUTINES) as usize],
+    /// Its layout, its seat and what it alone knows, with the poll that it is at, if it is at one.
+    pub poll: Poll,
     /// How many objects each goroutine has made.
     pub made: [u32; MOST_GOROUTINES as usize],
-    /// The cached spans, each at the place of its span class.
-    pub cache: [Option<CachedSpan>; SPAN_CLASSES as usize],
     /// What it is at.
     pub task: Task<'s>,
 }
@@ -48,15 +39,13 @@ fn begin_register(g: u32, d: u32, source: Source) -> Register
 impl<'s> Processor<'s> {
     /// A processor before its first step.
     pub(crate) fn opening(layout: &Layout, seat: u32) -> Processor<'s>
+        requires { seat < layout.now.procs }
         ensures { result ≡ opening_processor layout.now seat }
     {
+        let local = Local::first(layout);
         Processor {
-            layout: *layout,
-            seat,
-            generation: 2,
-            registers: [Value::Nil; (REGISTERS * MOST_GOROUTINES) as usize],
+            poll: Poll::resting(layout, seat, &local),
             made: [0; MOST_GOROUTINES as usize],
-            cache: [None; SPAN_CLASSES as usize],
             task: Task::Idle,
         }
     }
@@ -71,47 +60,11 @@ impl<'s> Processor<'s> {
         }
     }
 
-    /// What register `d` of goroutine `g` holds.
-    pub(crate) fn register(&self, g: u32, d: u32) -> Value
-        requires { IsRegister g d }
-        ensures { result ≡ register_of self.now g d }
-    {
-        self.registers[(REGISTERS * g + d) as usize]
-    }
-
-    /// Register `d` of goroutine `g` takes a value.
-    pub(crate) fn set_register(&mut self, g: u32, d: u32, value: Value)
-        requires { IsRegister g d }
-        ensures { self.new ≡ set_register self.old g d value }
-    {
-        self.registers[(REGISTERS * g + d) as usize] = value;
-    }
-
-    /// The span that is cached for such an object; a large one has its span for itself.
-    pub(crate) fn cached_for(&self, sought: &Sought) -> Option<CachedSpan>
-        ensures { result ≡ cached_for self.now sought.now }
-    {
-        match sought {
-            Sought::Small(class) => self.cache[class.index() as usize],
-            Sought::Large { .. } => None,
-        }
-    }
-
-    /// The span is cached for such objects from now on, if one is.
-    pub(crate) fn cache_span(&mut self, sought: &Sought, cached: Option<CachedSpan>)
-        ensures { self.new ≡ cache_span self.old sought.now cached }
-    {
-        match sought {
-            Sought::Small(class) => self.cache[class.index() as usize] = cached,
-            Sought::Large { .. } => {}
-        }
-    }
-
     /// Begins an operation.
     pub(crate) fn begin(&mut self, shapes: &Shapes, op: Op)
         requires sound { Sound shapes.now self.old }
         requires fit { ShapesFit shapes.now }
-        requires op { SoundOp shapes.now self.old.layout op }
+        requires op { SoundOp shapes.now self.old.poll.layout op }
         requires names { has_names self.old op ≡ true }
         ensures begins { self.new ≡ begins shapes.now self.old op }
         ensures sound { Sound shapes.now self.new }
@@ -119,19 +72,35 @@ impl<'s> Processor<'s> {
         size_class_laws();
         match op {
             Op::New { g, d, t } => self.task = self.begin_new(shapes, g, d, t),
-            Op::Load { g, d, b, k } => self.start(Load::begin(g, d, b, k, self.register(g, b))),
-            Op::Store { g, b, k, v } => self.start(Store::begin(g, b, k, v, self.register(g, b))),
+            Op::Load { g, d, b, k } => {
+                let base = self.poll.register(g, b);
+                self.start(Load::begin(g, d, b, k, base));
+            }
+            Op::Store { g, b, k, v } => {
+                let base = self.poll.register(g, b);
+                self.start(Store::begin(g, b, k, v, base));
+            }
             Op::GetGlobal { g, d, k } => self.start(Global::begin_load(g, d, k)),
             Op::SetGlobal { g, k, v } => {
-                self.start(Global::begin_store(g, k, v, self.register(g, v)))
+                let held = self.poll.register(g, v);
+                self.start(Global::begin_store(g, k, v, held));
             }
             Op::Int { g, d, n } => self.start(begin_register(g, d, Source::Int(n))),
             Op::Move { g, d, s } => self.start(begin_register(g, d, Source::Move(s))),
             Op::Nil { g, d } => self.start(begin_register(g, d, Source::Nil)),
-            Op::Gc { g: _ } => unreachable!(),
-            Op::Poll => self.start_own(Own::Poll),
-            Op::End(g) => self.start_own(Own::End(g)),
-            Op::Leave => self.start_own(Own::Leave),
+            Op::Gc { g } => {
+                let wait = Wait::begin(&self.poll);
+                self.task = Task::Gc(g, wait);
+            }
+            Op::Poll => {
+                self.poll.begin(false);
+                self.task = Task::Poll;
+            }
+            Op::End(g) => self.task = Task::End(g),
+            Op::Leave => {
+                let leave = self.poll.leave();
+                self.task = Task::Leave(leave);
+            }
         }
     }
 
@@ -142,12 +111,5 @@ impl<'s> Processor<'s> {
         ensures { self.new ≡ at_task self.old (S.as_task statement) }
     {
         self.task = statement.as_task();
-    }
-
-    /// It is at this operation of its own from now on.
-    fn start_own(&mut self, own: Own)
-        ensures { self.new ≡ at_task self.old (task.Own own) }
-    {
-        self.task = Task::Own(own);
     }
 }

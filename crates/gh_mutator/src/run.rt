@@ -1,31 +1,36 @@
 //! The steps of a processor: what its task asks for, where it goes by what was found, what it then
 //! answers, and where a statement acts. A statement says so in its own file; here it is applied.
 
-ghost use Rattle.std.specs.Prelude.{◌≡◌, true, Some};
+ghost use Rattle.std.specs.Prelude.{◌≡◌, ◌<◌, true, List, Some};
+ghost use Rattle.gh_base.specs.declared.shape.Shape.{Shape};
 ghost use Rattle.gh_base.specs.Cells.{InRange};
 ghost use Rattle.gh_base.specs.Steps.{cell_of, request};
-ghost use Rattle.gh_base.specs.declared.value.Answer.TheVariants.{Done};
+ghost use Rattle.gh_base.specs.declared.value.Answer.TheVariants.{Done, Swept};
 ghost use Rattle.gh_mutator.specs.Global as global;
-ghost use Rattle.gh_mutator.specs.Listing.{acts, applied, asks, gives, is_busy_at, rests, takes};
+ghost use Rattle.gh_mutator.specs.Listing.{acts, after_gc, after_poll, applied, asks, gives, is_busy_at, once_ended, takes};
 ghost use Rattle.gh_mutator.specs.Load as load;
-ghost use Rattle.gh_mutator.specs.Processor.{at_task, register_of};
+ghost use Rattle.gh_mutator.specs.Local.{with_ended};
+ghost use Rattle.gh_mutator.specs.Poll as polls;
+ghost use Rattle.gh_mutator.specs.Processor.{at_poll, at_task, register_of};
 ghost use Rattle.gh_mutator.specs.Register as register;
 ghost use Rattle.gh_mutator.specs.Serving.{is_point, is_serving};
-ghost use Rattle.gh_mutator.specs.Sound.{IsRegister, Sound, SoundLoad, SoundRegister, SoundStore};
+ghost use Rattle.gh_mutator.specs.Sound.{IsRegister, LeavesSo, Sound, SoundLoad, SoundRegister, SoundStore};
 ghost use Rattle.gh_mutator.specs.Step.{answered};
 ghost use Rattle.gh_mutator.specs.Store as store;
+ghost use Rattle.gh_mutator.specs.Wait as waits;
+ghost use Rattle.gh_mutator.specs.WaitSound.{FitsWait};
 ghost use Rattle.gh_mutator.specs.declared.task.Task.TheVariants as task;
 
 use crate::global::Global;
 use crate::load::Load;
 use crate::new::NewStage;
-use crate::own::Own;
 use crate::processor::Processor;
 use crate::register::Register;
 use crate::step::{Step, Then};
 use crate::store::Store;
 use crate::task::{Statement, Task};
-use gh_base::{Answer, Ask, Cell, Machine, Req, Shapes};
+use crate::wait::Wait;
+use gh_base::{Answer, Ask, Cell, END, Machine, Req, Shapes};
 use gh_class::size_class_laws;
 
 impl<'s> Processor<'s> {
@@ -33,20 +38,24 @@ impl<'s> Processor<'s> {
     pub(crate) fn next(&self, shapes: &Shapes) -> Req
         requires sound { Sound shapes.now self.now }
         requires busy { is_busy_at self.now.task ≡ true }
-        ensures same { result ≡ request self.now.layout (asks self.now) }
-        ensures within { InRange self.now.layout (cell_of (asks self.now)) }
+        ensures same { result ≡ request self.now.poll.layout (asks self.now) }
+        ensures within { InRange self.now.poll.layout (cell_of (asks self.now)) }
     {
-        let layout = &self.layout;
+        let layout = self.poll.layout();
         let ask = match &self.task {
             Task::Idle | Task::Left | Task::Register(_) => Ask::Load(Cell::Touch),
             Task::Load(load) => load.ask(layout),
-            Task::Store(store) => store.ask(layout, self.register(store.g, store.v)),
-            Task::Global(global) => global.ask(layout, self.register(global.g, global.r)),
-            Task::Own(own) => own.ask(layout, self.seat),
+            Task::Store(store) => store.ask(layout, self.poll.register(store.g, store.v)),
+            Task::Global(global) => global.ask(layout, self.poll.register(global.g, global.r)),
             Task::New(new) => match &new.stage {
-                NewStage::Find(find) => return find.next(),
+                NewStage::Search { search, .. } => return search.next(),
+                NewStage::Wait(wait) => return wait.next(&self.poll),
                 NewStage::Place(place) => return place.next(),
             },
+            Task::Gc(_, wait) => return wait.next(&self.poll),
+            Task::Poll => return self.poll.next(),
+            Task::End(g) => Ask::Store(Cell::Scanned(*g), END),
+            Task::Leave(leave) => return leave.next(),
         };
         layout.request(ask)
     }
@@ -58,7 +67,7 @@ impl<'s> Processor<'s> {
         ensures gives { result ≡ answered step.then }
     {
         if let Some(value) = step.sets {
-            self.set_register(g, d, value);
+            self.poll.set_register(g, d, value);
         }
         match step.then {
             Then::GoesOn(next) => {
@@ -88,7 +97,10 @@ impl<'s> Processor<'s> {
             Task::Global(x) => self.take_global(x, found),
             Task::Register(x) => self.take_register(x),
             Task::New(_) => self.take_new(shapes, found),
-            Task::Own(own) => self.take_own(own),
+            Task::Gc(g, wait) => self.take_gc(g, wait, found),
+            Task::Poll => self.take_poll(found),
+            Task::End(g) => self.take_end(g),
+            Task::Leave(_) => self.take_leave(found),
         }
     }
 
@@ -96,31 +108,33 @@ impl<'s> Processor<'s> {
 
     /// Goes on with this load.
     fn take_load(&mut self, x: Load, found: u64) -> Option<Answer>
-        requires { SoundLoad self.old.layout.pages x }
-        ensures goes { self.new ≡ applied task.Load self.old x.g x.d (load.step self.old.layout x found) }
-        ensures gives { result ≡ answered (load.step self.old.layout x found).then }
+        requires { SoundLoad self.old.poll.layout.pages x }
+        ensures goes { self.new ≡ applied task.Load self.old x.g x.d (load.step self.old.poll.layout x found) }
+        ensures gives { result ≡ answered (load.step self.old.poll.layout x found).then }
     {
-        let step = x.step(&self.layout, found);
+        let step = x.step(self.poll.layout(), found);
         self.apply(x.g, x.d, step)
     }
 
     /// Goes on with this store.
     fn take_store(&mut self, x: Store, found: u64) -> Option<Answer>
-        requires { SoundStore self.old.layout.pages x }
-        ensures goes { self.new ≡ applied task.Store self.old x.g x.v (store.step self.old.layout (register_of self.old x.g x.v) x found) }
-        ensures gives { result ≡ answered (store.step self.old.layout (register_of self.old x.g x.v) x found).then }
+        requires { SoundStore self.old.poll.layout.pages x }
+        ensures goes { self.new ≡ applied task.Store self.old x.g x.v (store.step self.old.poll.layout (register_of self.old x.g x.v) x found) }
+        ensures gives { result ≡ answered (store.step self.old.poll.layout (register_of self.old x.g x.v) x found).then }
     {
-        let step = x.step(&self.layout, self.register(x.g, x.v), found);
+        let held = self.poll.register(x.g, x.v);
+        let step = x.step(self.poll.layout(), held, found);
         self.apply(x.g, x.v, step)
     }
 
     /// Goes on with this load or store of a global.
     fn take_global(&mut self, x: Global, found: u64) -> Option<Answer>
         requires { IsRegister x.g x.r }
-        ensures goes { self.new ≡ applied task.Global self.old x.g x.r (global.step self.old.layout (register_of self.old x.g x.r) x found) }
-        ensures gives { result ≡ answered (global.step self.old.layout (register_of self.old x.g x.r) x found).then }
+        ensures goes { self.new ≡ applied task.Global self.old x.g x.r (global.step self.old.poll.layout (register_of self.old x.g x.r) x found) }
+        ensures gives { result ≡ answered (global.step self.old.poll.layout (register_of self.old x.g x.r) x found).then }
     {
-        let step = x.step(&self.layout, self.register(x.g, x.r), found);
+        let held = self.poll.register(x.g, x.r);
+        let step = x.step(self.poll.layout(), held, found);
         self.apply(x.g, x.r, step)
     }
 
@@ -130,16 +144,71 @@ impl<'s> Processor<'s> {
         ensures goes { self.new ≡ applied task.Register self.old x.g x.d (register.step (register_of self.old x.g (register.read_of x)) x) }
         ensures gives { result ≡ answered (register.step (register_of self.old x.g (register.read_of x)) x).then }
     {
-        let step = x.step(self.register(x.g, x.read()));
+        let step = x.step(self.poll.register(x.g, x.read()));
         self.apply(x.g, x.d, step)
     }
 
-    /// Makes this operation of its own.
-    fn take_own(&mut self, own: Own) -> Option<Answer>
-        ensures goes { self.new ≡ at_task self.old (rests own) }
+    /// Goes on with this wait of a `gc` of goroutine `g`.
+    fn take_gc(&mut self, g: u32, wait: Wait, found: u64) -> Option<Answer>
+        requires { FitsWait self.old.poll wait }
+        ensures goes { self.new ≡ after_gc self.old g (waits.goes (waits.waiting wait self.old.poll) found) (waits.gives (waits.waiting wait self.old.poll) found) }
+        ensures gives { result ≡ once_ended (waits.gives (waits.waiting wait self.old.poll) found) Swept }
+    {
+        let mut wait = wait;
+        match wait.take(&mut self.poll, found) {
+            None => {
+                self.task = Task::Gc(g, wait);
+                None
+            }
+            Some(()) => {
+                self.task = Task::Idle;
+                Some(Answer::Swept)
+            }
+        }
+    }
+
+    /// Goes on with the poll.
+    fn take_poll(&mut self, found: u64) -> Option<Answer>
+        requires { polls.is_busy self.old.poll.stage ≡ true }
+        ensures goes { self.new ≡ after_poll self.old (polls.goes self.old.poll found) (polls.gives self.old.poll found) }
+        ensures gives { result ≡ once_ended (polls.gives self.old.poll found) Done }
+    {
+        match self.poll.take(found) {
+            None => {
+                self.task = Task::Poll;
+                None
+            }
+            Some(()) => {
+                self.task = Task::Idle;
+                Some(Answer::Done)
+            }
+        }
+    }
+
+    /// Goroutine `g` ends.
+    fn take_end(&mut self, g: u32) -> Option<Answer>
+        requires { g < self.old.poll.layout.goroutines }
+        ensures goes { self.new ≡ at_task (at_poll self.old (with_ended self.old.poll g)) task.Idle }
         ensures gives { result ≡ Some Done }
     {
-        self.task = own.rest();
+        self.poll.end(g);
+        self.task = Task::Idle;
+        Some(Answer::Done)
+    }
+
+    /// Goes on with the leave.
+    fn take_leave(&mut self, found: u64) -> Option<Answer>
+        requires { LeavesSo self.old.poll.layout self.old.task }
+        ensures goes { (shapes : List Shape) → self.new ≡ takes shapes self.old found }
+        ensures gives { result ≡ gives self.old found }
+    {
+        let Task::Leave(leave) = &mut self.task else {
+            return None;
+        };
+        if leave.take(found).is_none() {
+            return None;
+        }
+        self.task = Task::Left;
         Some(Answer::Done)
     }
 
@@ -148,7 +217,7 @@ impl<'s> Processor<'s> {
         ensures { result ≡ is_serving self.now.task }
     {
         match &self.task {
-            Task::Idle | Task::Left | Task::Own(_) => false,
+            Task::Idle | Task::Left | Task::Poll | Task::End(_) | Task::Leave(_) => false,
             _ => true,
         }
     }
@@ -158,17 +227,19 @@ impl<'s> Processor<'s> {
         requires { Sound shapes.now self.now }
         ensures { result ≡ is_point (acts self.now found) }
     {
-        let layout = &self.layout;
+        let layout = self.poll.layout();
         match &self.task {
-            Task::Idle | Task::Left | Task::Own(_) => false,
+            Task::Idle | Task::Left | Task::Poll | Task::End(_) | Task::Leave(_) => false,
             Task::Load(x) => x.acts(found),
-            Task::Store(x) => x.acts(layout, self.register(x.g, x.v), found),
+            Task::Store(x) => x.acts(layout, self.poll.register(x.g, x.v), found),
             Task::Global(x) => x.acts(),
             Task::Register(_) => true,
             Task::New(new) => match &new.stage {
-                NewStage::Find(find) => find.refuses(),
+                NewStage::Search { waited, search } => *waited && search.refuses(),
+                NewStage::Wait(_) => false,
                 NewStage::Place(place) => place.acts(),
             },
+            Task::Gc(_, wait) => wait.ends_by(found),
         }
     }
 }

@@ -3,11 +3,12 @@
 ghost use Rattle.std.specs.Prelude.{◌≡◌};
 
 use crate::global::Global;
+use crate::leave::Leave;
 use crate::load::Load;
 use crate::new::New;
-use crate::own::Own;
 use crate::register::Register;
 use crate::store::Store;
+use crate::wait::Wait;
 
 /// What the processor is at. Each statement is a small machine, in the file of its name.
 #[derive(Drop)]
@@ -26,8 +27,14 @@ pub enum Task<'s> {
     Register(Register),
     /// A new object.
     New(New<'s>),
-    /// An operation of its own.
-    Own(Own),
+    /// A `gc` of this goroutine: the processor waits for a cycle.
+    Gc(u32, Wait),
+    /// A poll of a turn's own. It is the processor's [`crate::Poll`] that runs.
+    Poll,
+    /// This goroutine ends: its stack counts as scanned in each cycle to come.
+    End(u32),
+    /// It gives back what it holds, and leaves.
+    Leave(Leave),
 }
 
 /// A statement whose steps change no more than its register.

@@ -134,6 +134,11 @@ fn each_operation_takes_its_steps(rt: HostRuntime) -> Result<(), Fail> {
         first(rt.alloc(), &shapes, &layout, Op::Leave, 9)?,
         (done, 1)
     );
+    // a cycle is asked for, a poll, and cycle 9 is swept
+    assert_eq!(rt;
+        first(rt.alloc(), &shapes, &layout, Op::Gc { g }, 9)?,
+        (Some(Answer::Swept), 3)
+    );
     Ok(())
 }
 
@@ -208,20 +213,33 @@ fn the_first_object_is_made_in_these_steps(rt: HostRuntime) -> Result<(), Fail> 
     Ok(())
 }
 
+/// Words in which one span, of 16 pages that are never swept, fills the arena, and cycle 1 is swept.
+fn full_words(alloc: Global, layout: &Layout) -> Result<Vec<u64>, AllocError>
+    requires { layout.now.pages ≡ 16 }
+{
+    let mut words = vec![in alloc; 0u64; layout.words() as usize]?;
+    for page in 0..16u32 {
+        words[layout.word(Cell::Page(page)) as usize] = 8289;
+    }
+    words[layout.word(Cell::Swept) as usize] = 1;
+    Ok(words)
+}
+
 #[test]
-fn a_full_heap_is_answered_and_counted(rt: HostRuntime) -> Result<(), Fail> {
+fn a_full_heap_is_answered_behind_a_cycle(rt: HostRuntime) -> Result<(), Fail> {
     let layout = Layout::new(16, 1, 1, 1, 1)?;
     let shapes = one_type(rt.alloc())?;
+    let mut words = full_words(rt.alloc(), &layout)?;
     let mut mutator = Mutator::new(&layout, 0, &shapes);
     mutator.begin(Op::New { g: 0, d: 1, t: 0 });
-    // the lock is free; each page is the first of a span of another class, which fills the arena: the pass
-    // ends behind it, 16 pages are looked at, and the lock is freed
-    let _ = mutator.next();
-    let told = mutator.take(0);
-    assert!(rt; told.is_none() && mutator.is_busy());
-    let mut words = vec![in rt.alloc(); 8289u64; layout.words() as usize]?;
     let steps = run_alone(rt.alloc(), &mut mutator, &layout, &mut words, 999)?;
-    assert_eq!(rt; (steps.out, steps.lines.len()), (Some(Answer::Full), 18));
+    // a search: the lock; the pass sees the span; 16 pages are looked at; no empty span is freed; the pass and the
+    // pages once more; the lock is freed. Then the wait: a cycle is asked for, a poll, the last swept cycle. Then
+    // a search again.
+    assert_eq!(rt; steps.out, Some(Answer::Full));
+    assert_eq!(rt; steps.lines.len(), 77);
+    assert!(rt; steps.lines[37].as_str() == "or want 1: 0");
+    assert!(rt; steps.lines[39].as_str() == "load swept: 1");
     assert_eq!(rt; mutator.marks(), 1);
     Ok(())
 }

@@ -1,14 +1,13 @@
 //! The routine by which a processor waits for a cycle.
 
-ghost use Rattle.std.specs.Prelude.{◌≡◌, ◌<◌, true};
-ghost use Rattle.gh_mutator.specs.GiveSound.{Runs};
-ghost use Rattle.gh_mutator.specs.Poll as polls;
-ghost use Rattle.gh_mutator.specs.PollSound.{FitsLocal};
-ghost use Rattle.gh_mutator.specs.Wait.{gives_at, goes_at, is_busy, opening, polling};
+ghost use Rattle.std.specs.Prelude.{◌≡◌, is_some};
+ghost use Rattle.gh_base.specs.Cells.{InRange};
+ghost use Rattle.gh_base.specs.Steps.{cell_of, request};
+ghost use Rattle.gh_mutator.specs.Wait.{asks, begins, gives, gives_at, goes, polling, waiting};
+ghost use Rattle.gh_mutator.specs.WaitSound.{FitsWait};
 
-use crate::poll::{Local, Poll};
-use gh_base::{Ask, Cell, Layout, Machine, Req};
-use std::marker::Model;
+use crate::poll::Poll;
+use gh_base::{Ask, Cell, Machine, Req};
 
 /// The stages of a wait.
 #[derive(Clone, Copy)]
@@ -16,7 +15,7 @@ pub enum WaitStage {
     /// It asks for a cycle.
     Want,
     /// It polls.
-    Polling(Poll),
+    Polling,
     /// It loads the number of the last swept cycle.
     LoadSwept,
     /// It has ended.
@@ -28,132 +27,82 @@ pub enum WaitStage {
 /// It asks for a cycle, and then it polls and loads the number of the last swept cycle, again and again. It
 /// ends once that is greater than the number of the cycle which the processor knew when it began: a cycle
 /// that began later is swept then. So what was unreachable before is freed.
+///
+/// Its polls are those of the processor that waits, which lends its [`Poll`] for each step.
 #[derive(Clone, Copy)]
 pub struct Wait {
-    layout: Layout,
-    seat: u32,
-    // The cycle that it knew when it began.
-    known: u64,
-    local: Local,
-    stage: WaitStage,
-}
-
-impl Model for Wait {
-    ghost use Rattle.gh_mutator.specs.Wait.{Waiting};
-    ghost use Rattle.gh_mutator.specs.WaitSound.{FitsWait};
-
-    ghost Value = { Waiting };
-
-    ghost view = { λ w. record { layout = w.layout; seat = w.seat; known = w.known; local = w.local; stage = w.stage } };
-
-    ghost invariant = { λ w. FitsWait (record { layout = w.layout; seat = w.seat; known = w.known; local = w.local; stage = w.stage }) };
-
-    ghost inverse = { λ w. record { layout = w.layout; seat = w.seat; known = w.known; local = w.local; stage = w.stage } };
+    /// The cycle that the processor knew when it began.
+    pub known: u64,
+    /// Its stage.
+    pub stage: WaitStage,
 }
 
 impl Wait {
-    /// The processor at this seat waits.
-    pub fn new(layout: &Layout, seat: u32, local: &Local) -> Wait
-        requires seat { seat < layout.now.procs }
-        requires local { FitsLocal layout.now local.now }
-        ensures opening { result ≡ opening layout.now seat local.now }
-        ensures begun { is_busy result.stage ≡ true }
+    /// The processor waits that knows this.
+    pub(crate) fn begin(poll: &Poll) -> Wait
+        ensures { result ≡ begins poll.now }
     {
         Wait {
-            layout: *layout,
-            seat,
-            known: local.view.begun,
-            local: *local,
+            known: poll.local.view.begun,
             stage: WaitStage::Want,
         }
     }
 
-    /// What the processor knows once it has ended.
-    pub fn local(&self) -> Local
-        ensures is { result ≡ self.now.local }
-        ensures fits { FitsLocal self.now.layout result }
+    /// The step that it asks for.
+    pub(crate) fn next(&self, poll: &Poll) -> Req
+        requires { FitsWait poll.now self.now }
+        ensures same { result ≡ request poll.now.layout (asks (waiting self.now poll.now)) }
+        ensures within { InRange poll.now.layout (cell_of (asks (waiting self.now poll.now))) }
     {
-        self.local
-    }
-
-    /// It polls next.
-    fn polls(&mut self)
-        ensures { self.new ≡ polling self.old }
-    {
-        let poll = Poll::new(&self.layout, self.seat, &self.local, true);
-        self.stage = WaitStage::Polling(poll);
-    }
-
-    /// Takes a step of a poll.
-    fn poll(&mut self, poll: &Poll, found: u64)
-        requires { Runs self.old.layout poll.now.layout (polls.is_busy poll.now.stage) }
-        ensures { self.new ≡ goes_at self.old (WaitStage.Polling poll.now) found }
-    {
-        let mut poll = *poll;
-        match poll.take(found) {
-            None => self.stage = WaitStage::Polling(poll),
-            Some(()) => {
-                self.local = poll.local();
-                self.stage = WaitStage::LoadSwept;
-            }
-        }
-    }
-
-    /// Goes on by the number of the last swept cycle.
-    fn after_swept(&mut self, found: u64) -> Option<()>
-        ensures goes { self.new ≡ goes_at self.old WaitStage.LoadSwept found }
-        ensures gives { result ≡ gives_at self.old.known WaitStage.LoadSwept found }
-    {
-        if self.known < found {
-            self.stage = WaitStage::Ended;
-            Some(())
-        } else {
-            self.polls();
-            None
-        }
-    }
-}
-
-impl Machine for Wait {
-    ghost use Rattle.gh_mutator.specs.Wait.{listing};
-    ghost use Rattle.gh_mutator.specs.WaitEnds as proved;
-
-    type Out = ();
-
-    ghost layout = { listing.layout };
-
-    ghost busy = { listing.busy };
-
-    ghost asks = { listing.asks };
-
-    ghost goes = { listing.goes };
-
-    ghost gives = { listing.gives };
-
-    fn next(&self) -> Req {
-        let ask = match &self.stage {
+        let ask = match self.stage {
             WaitStage::Want => Ask::Or(Cell::Want, 1),
-            WaitStage::Polling(poll) => return poll.next(),
+            WaitStage::Polling => return poll.next(),
             WaitStage::LoadSwept => Ask::Load(Cell::Swept),
             WaitStage::Ended => Ask::Load(Cell::Touch),
         };
-        self.layout.request(ask)
+        poll.layout.request(ask)
     }
 
-    fn take(&mut self, found: u64) -> Option<()> {
-        match &self.stage {
-            WaitStage::Want => self.polls(),
-            WaitStage::Polling(poll) => {
-                let poll = *poll;
-                self.poll(&poll, found);
+    /// The step that found this ends it.
+    pub(crate) fn ends_by(&self, found: u64) -> bool
+        ensures { result ≡ is_some (gives_at self.now.known self.now.stage found) }
+    {
+        match self.stage {
+            WaitStage::LoadSwept => self.known < found,
+            _ => false,
+        }
+    }
+
+    /// It polls next.
+    fn polls(&mut self, poll: &mut Poll)
+        ensures wait { self.new ≡ (polling (waiting self.old poll.old)).wait }
+        ensures poll { poll.new ≡ (polling (waiting self.old poll.old)).poll }
+    {
+        poll.begin(true);
+        self.stage = WaitStage::Polling;
+    }
+
+    /// Tells it what that step found. It answers `None` exactly where it asks for a further step.
+    pub(crate) fn take(&mut self, poll: &mut Poll, found: u64) -> Option<()>
+        requires { FitsWait poll.old self.old }
+        ensures wait { self.new ≡ (goes (waiting self.old poll.old) found).wait }
+        ensures poll { poll.new ≡ (goes (waiting self.old poll.old) found).poll }
+        ensures gives { result ≡ gives (waiting self.old poll.old) found }
+    {
+        match self.stage {
+            WaitStage::Want => self.polls(poll),
+            WaitStage::Polling => {
+                if poll.take(found).is_some() {
+                    self.stage = WaitStage::LoadSwept;
+                }
             }
-            WaitStage::LoadSwept => return self.after_swept(found),
+            WaitStage::LoadSwept if self.known < found => {
+                self.stage = WaitStage::Ended;
+                return Some(());
+            }
+            WaitStage::LoadSwept => self.polls(poll),
             WaitStage::Ended => {}
         }
         None
     }
-
-    ghost ends = { proved.ends };
-
-    ghost stays = { proved.stays };
 }

@@ -1,14 +1,14 @@
 -- The cached spans: each at the place of its span class, and which spans they list.
-use Rattle.std.proofs.Common.{◌≡◌, ◌≢◌, ℕ, zero, suc, ◌+◌, ◌*◌, ◌/◌, ◌%◌, ◌<◌, Bool, true, false, cond, eqb, List, [], ◌∷◌, length, get_or, Option, Some, None, refl, sym, ap, subst, ◌∙◌, arith, get_or-set_same, get_or-set_other, length-set}
+use Rattle.std.proofs.Common.{◌≡◌, ◌≢◌, ℕ, zero, suc, ◌+◌, ◌*◌, ◌<◌, Bool, true, false, cond, eqb, List, [], ◌∷◌, length, get_or, Option, Some, None, refl, sym, ap, subst, ◌∙◌, arith, get_or-set_same, get_or-set_other, length-set}
 use Rattle.std.specs.Prelude.{◌||◌}
 use Rattle.std.proofs.Math.ListN.{set}
-use Rattle.std.proofs.lemmas.Bool.{eqb-true, eqb-false, eq-eqb}
+use Rattle.std.proofs.lemmas.Bool.{eqb-true, eqb-false}
 use Rattle.gh_mutator.proofs.Owning.Vocabulary.{cache_with, cached_in, lists}
-use Rattle.gh_mutator.specs.Vocabulary.{CachedSpan, Large, page_of, Small, Sought, SPAN_CLASSES, span_index, SpanClass, SpanHead, View}
-use Rattle.gh_base.specs.declared.pack.PageWord.TheVariants as page
-use Rattle.gh_class.specs.declared.class.SizeClass.TheVariants as size
+use Rattle.gh_mutator.specs.Vocabulary.{CachedSpan, Large, Small, Sought, SPAN_CLASSES, span_index, SpanClass, View}
 use Rattle.gh_alloc.specs.FindFacts.{IsCached, head_of, with_span}
 use Rattle.gh_base.specs.Reading.{set_twice}
+use Rattle.gh_mutator.specs.Give.{span_class}
+use Rattle.gh_mutator.proofs.Holding.Lists.{head_tells, index_of, listed_at}
 
 -- The place of a span class tells it.
 
@@ -31,16 +31,6 @@ index-below c h = go c.noscan where
   go : (b : Bool) → 2 * c.class + cond b 1 0 < SPAN_CLASSES
   go true = omega arith
   go false = omega arith
-
--- each place is a span class's
-abbrev pub class-at : ℕ → SpanClass
-class-at j = record { class = j / 2; noscan = eqb (j % 2) 1 }
-
-pub index-at : (j : ℕ) → span_index (class-at j) ≡ j
-index-at j = go (eqb (j % 2) 1) refl where
-  go : (b : Bool) → eqb (j % 2) 1 ≡ b → 2 * (j / 2) + cond b 1 0 ≡ j
-  go true e = omega (arith, eqb-true (j % 2) 1 e)
-  go false e = let ne : j % 2 ≢ 1 = eqb-false (j % 2) 1 e in omega (arith, ne)
 
 -- What is cached.
 
@@ -85,37 +75,7 @@ pub lists-cached : (cache : List (Option CachedSpan)) (x : Sought) (p : ℕ) →
 lists-cached cache (Small c) p = lists-split cache (span_index c) p
 lists-cached cache (Large pages noscan) p = refl
 
--- what is listed is cached at some place, and what is cached is listed
-pub record ListedAt (xs : List (Option CachedSpan)) (p : ℕ) : Type 0 where
-  pub i : ℕ
-  pub k : CachedSpan
-  pub below : i < length xs
-  pub at : get_or xs i None ≡ Some k
-  pub head : k.head ≡ p
-
-listed-behind : (x : Option CachedSpan) (xs : List (Option CachedSpan)) (p : ℕ) → ListedAt xs p → ListedAt (x ∷ xs) p
-listed-behind x xs p l = record { i = suc l.i; k = l.k; below = omega (arith, l.below); at = l.at; head = l.head }
-
-pub listed-at : (xs : List (Option CachedSpan)) (p : ℕ) → lists xs p ≡ true → ListedAt xs p
-listed-at [] p e = absurd (cc)
-listed-at (None ∷ ys) p e = listed-behind None ys p (listed-at ys p e)
-listed-at (Some k ∷ ys) p e = go (eqb k.head p) refl e (λ f. listed-at ys p f) where
-  go : (b : Bool) → eqb k.head p ≡ b → (b || lists ys p) ≡ true → (lists ys p ≡ true → ListedAt ys p) → ListedAt (Some k ∷ ys) p
-  go true t f behind = record { i = 0; k = k; below = omega arith; at = refl; head = eqb-true k.head p t }
-  go false t f behind = listed-behind (Some k) ys p (behind f)
-
-pub lists-it : (xs : List (Option CachedSpan)) (i p : ℕ) (k : CachedSpan) → get_or xs i None ≡ Some k → k.head ≡ p → lists xs p ≡ true
-lists-it xs i p k e head = lists-split xs i p ∙ ap (λ (x : Option CachedSpan). with_span (head_of x) (lists (set xs i None)) p) e ∙ ap (λ (b : Bool). cond b true (lists (set xs i None) p)) (eq-eqb k.head p head)
-
--- No span is cached twice: a head tells its span class.
-
-head-class : (a : ℕ) (v : View) (c d : SpanClass) (k l : CachedSpan) → IsCached a v c k → IsCached a v d l → k.head ≡ l.head → c ≡ d
-head-class a v c d k l x y e =
-    let at : page_of (v.page k.head) ≡ page.Head y.span.h = subst (λ (p : ℕ). page_of (v.page p) ≡ page.Head y.span.h) (sym e) y.span.head in
-    let same : x.span.h ≡ y.span.h = cc (x.span.head, at) in
-    let class : size.Small c.class ≡ size.Small d.class = sym x.span.class ∙ ap (λ (h : SpanHead). h.class) same ∙ y.span.class in
-    let number : c.class ≡ d.class = cc in
-    ap (λ (n : ℕ). class-of n c.noscan) number ∙ ap (λ (b : Bool). class-of d.class b) (sym x.span.noscan_is ∙ ap (λ (h : SpanHead). h.noscan) same ∙ y.span.noscan_is)
+-- No span is cached twice.
 
 -- with what is cached for its span class, no other place lists it
 pub listed-once : (a : ℕ) (v : View) (cache : List (Option CachedSpan)) (c : SpanClass) (k : CachedSpan) → length cache ≡ SPAN_CLASSES → c.class < 25 →
@@ -123,11 +83,11 @@ pub listed-once : (a : ℕ) (v : View) (cache : List (Option CachedSpan)) (c : S
 listed-once a v cache c k long below all is = go (lists (cache_with cache (Small c) None) k.head) refl where
   twice : lists (cache_with cache (Small c) None) k.head ≡ true → ⊥
   twice e =
-      let l = listed-at (cache_with cache (Small c) None) k.head e in
-      let d : SpanClass = class-at l.i in
+      let l = listed_at (cache_with cache (Small c) None) k.head e in
+      let d : SpanClass = span_class l.i in
       let long' : length (cache_with cache (Small c) None) ≡ SPAN_CLASSES = rw length-set long in
       let low : d.class < 25 = omega (arith, l.below, long') in
-      let at : cached_in (cache_with cache (Small c) None) (Small d) ≡ Some l.k = ap (λ (j : ℕ). get_or (cache_with cache (Small c) None) j None) (index-at l.i) ∙ l.at in
+      let at : cached_in (cache_with cache (Small c) None) (Small d) ≡ Some l.k = ap (λ (j : ℕ). get_or (cache_with cache (Small c) None) j None) (index_of l.i) ∙ l.at in
       elsewhere l.i l.k d low l.head at (eqb (span_index d) (span_index c)) refl where
         elsewhere : (i : ℕ) (l : CachedSpan) (d : SpanClass) → d.class < 25 → l.head ≡ k.head → cached_in (cache_with cache (Small c) None) (Small d) ≡ Some l → (b : Bool) → eqb (span_index d) (span_index c) ≡ b → ⊥
         elsewhere i l d low head at true t =
@@ -137,7 +97,7 @@ listed-once a v cache c k long below all is = go (lists (cache_with cache (Small
         elsewhere i l d low head at false t =
             let ne : span_index d ≢ span_index c = eqb-false (span_index d) (span_index c) t in
             let old : cached_in cache (Small d) ≡ Some l = sym (cached-other cache c d None ne) ∙ at in
-            ne (ap span_index (head-class a v d c l k (all d l low old) (all c k below is) head))
+            ne (ap span_index (head_tells a v d c l k (all d l low old) (all c k below is) head))
 
   go : (b : Bool) → lists (cache_with cache (Small c) None) k.head ≡ b → lists (cache_with cache (Small c) None) k.head ≡ false
   go true e = absurd (twice e)

@@ -1,13 +1,21 @@
--- What is known of the heap, of packed words, of the size classes and of the routines of a new object, by what their laws say.
-use Rattle.std.proofs.Common.{ℕ, ◌<◌, ◌≤◌}
-use Rattle.gh_mutator.specs.Vocabulary.{PackedWordsAreReadBack, slot_of, TheHeapIsApart}
-use Rattle.gh_alloc.specs.FindFacts as find
-use Rattle.gh_alloc.specs.PlaceFacts as place
+-- What is known of the heap, of packed words, of the size classes and of the routines that the processor runs, by what their laws say.
+use Rattle.gh_base.specs.Rows.{RowsAreWritten}
+use Rattle.gh_heap.specs.Laws.{EachMoveKeepsItsOwn}
+use Rattle.gh_alloc.specs.PlaceFacts.{PlacesByItsRights}
+use Rattle.gh_alloc.specs.SearchFacts.{SeeksByItsRights}
+use Rattle.gh_mutator.specs.PollHeapLaws.{LeavesByRights, PollsByRights, WaitsByRights}
+use Rattle.gh_mutator.specs.Vocabulary.{EachRightFollows, PackedWordsAreReadBack, TheHeapIsApart}
+use Rattle.gh_mutator.proofs.ClassFacts.{ClassLaws}
 
 pub record Known : Type 0 where
   pub apart : TheHeapIsApart
+  pub follow : EachRightFollows
+  pub own : EachMoveKeepsItsOwn
+  pub rows : RowsAreWritten
   pub packed : PackedWordsAreReadBack
-  pub least_slot : (c : ℕ) → c < 25 → 8 ≤ slot_of c
-  -- what the search for a slot and the making of an object know lasts
-  pub find_lasts : find.Lasts
-  pub place_lasts : place.Lasts
+  pub classes : ClassLaws
+  pub search : SeeksByItsRights
+  pub place : PlacesByItsRights
+  pub polls : PollsByRights
+  pub waits : WaitsByRights
+  pub leaves : LeavesByRights

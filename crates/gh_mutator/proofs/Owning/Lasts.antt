@@ -1,68 +1,36 @@
 -- What is known of a processor lasts, whatever others do.
-use Rattle.std.proofs.Common.{◌≡◌, ℕ, ◌+◌, ◌<◌, Bool, true, false, Option, sym, ap, subst, ◌∙◌}
-use Rattle.gh_mutator.proofs.Owning.Vocabulary.{FactsAt, for_whom, GlobalFacts, is_locked_at, IsPlain, Loads, Makes, NewFacts, OwnFacts, register_of, rest, Searches, Steady, Stores, Through, Wants}
-use Rattle.gh_base.specs.declared.value.Value.TheVariants as value
+use Rattle.std.proofs.Common.{◌≡◌, ℕ, ◌<◌, Bool, true, false, List, Option, sym, subst, ◌∙◌}
+use Rattle.gh_mutator.proofs.Owning.Vocabulary.{FactsAt, for_whom, GlobalFacts, HasAt, IsPlain, KnowsAt, KnowsCounts, LoadFacts, Loads, Makes, NewFacts, RegisterFacts, rest, Rests, Searches, StoreFacts, Stores, Takes, Through, Wants}
 use Rattle.gh_base.specs.Shapes.{is_pointer}
-use Rattle.gh_model.specs.declared.EverValue.TheVariants as ever
 use Rattle.gh_model.specs.Ever.{field_count}
 use Rattle.gh_heap.specs.Moves.{Others}
-use Rattle.gh_heap.specs.Spans.{Laying}
-use Rattle.gh_alloc.specs.FindFacts as find
-use Rattle.gh_mutator.specs.Vocabulary.{Answer, Arena, CachedSpan, EverValue, Find, Finding, fits, Global, GlobalStage, Good, is_number, IsOf, Load, LoadStage, Means, MOST_STATEMENTS, Name, NewStage, Own, Place, Placing, Processor, Register, Right, Runs, shape_at, Source, SpanClass, Store, StoreStage, Task, Value, View, Wanted}
+use Rattle.gh_heap.specs.Rights.{Rights}
+use Rattle.gh_heap.specs.Spans.{Freeing, Laying}
+use Rattle.gh_alloc.specs.SearchFacts as search
+use Rattle.gh_mutator.specs.Vocabulary.{Answer, Arena, EverValue, fits, Global, GlobalStage, Good, is_number, IsOf, Load, LoadStage, MOST_STATEMENTS, Name, NewStage, Place, Placing, Processor, Register, Runs, Search, Seeking, shape_at, Source, Store, StoreStage, Task, View, Wait, Wanted}
 use Rattle.gh_mutator.specs.declared.global.GlobalStage.TheVariants as global_stage
 use Rattle.gh_mutator.specs.declared.load.LoadStage.TheVariants as load_stage
-use Rattle.gh_mutator.specs.declared.own.Own.TheVariants as own_step
 use Rattle.gh_mutator.specs.declared.register.Source.TheVariants as source
 use Rattle.gh_mutator.specs.declared.store.StoreStage.TheVariants as store_stage
 use Rattle.gh_mutator.specs.declared.task.Task.TheVariants as task
-use Rattle.gh_mutator.specs.Facts.{Lasts, LoadFacts, RegisterFacts, StoreFacts, Takes, locked_new}
+use Rattle.gh_mutator.specs.Facts.{freeing_new, held_new, KnowsNew, Lasts, laying_new, locked_new}
+use Rattle.gh_mutator.specs.Wait.{waiting}
+use Rattle.gh_mutator.proofs.Holding.Known.{knows_last, stands_last}
 use Rattle.gh_mutator.proofs.Owning.Known.{Known}
+use Rattle.gh_mutator.proofs.Owning.Steady.{counts_with}
 
 module _ (z : Arena) (a : ℕ) (v w : View) (o : Others z a v w) where
-  -- Values.
-
-  means_last : (x : EverValue) (y : Value) → Means v.place v.ever.made x y → Means w.place w.ever.made x y
-  means_last ever.Nil value.Nil h = tt
-  means_last (ever.Int n) (value.Int k) h = h
-  means_last (ever.Ref n) (value.Ref r) h = (h.0 ∙ ap (λ (p : ℕ). p + 1) (sym (o.places n h.1)), o.made n h.1)
-  means_last ever.Nil (value.Int k) h = absurd h
-  means_last ever.Nil (value.Ref r) h = absurd h
-  means_last (ever.Int n) value.Nil h = absurd h
-  means_last (ever.Int n) (value.Ref r) h = absurd h
-  means_last (ever.Ref n) value.Nil h = absurd h
-  means_last (ever.Ref n) (value.Int k) h = absurd h
-
   -- what is said of a register of one of its goroutines
   of_register : (P : EverValue → Type 0) (g d : ℕ) → IsOf z a g → P (v.ever.register g d) → P (w.ever.register g d)
   of_register P g d of h = subst P (sym (o.registers g d of)) h
 
   -- What does not depend on the statement.
 
-  cached_lasts : Good z v → (c : SpanClass) (k : CachedSpan) → find.IsCached a v c k → find.IsCached a w c k
-  cached_lasts good c k x = record {
-    span = record {
-      h = x.span.h;
-      head = (o.spans k.head x.span.h x.span.held (good.spans k.head x.span.h x.span.head)).head;
-      class = x.span.class;
-      noscan_is = x.span.noscan_is;
-      held = o.holds k.head ∙ x.span.held;
-    };
-    few = x.few;
-    taken = λ j lt. o.bits _ (x.taken j lt);
-  }
+  counts_last : (made : List ℕ) → KnowsCounts z a v made → KnowsCounts z a w made
+  counts_last made k = counts_with z a v w made (λ g of. o.counts g of) k
 
-  steady_lasts : (m : Processor) → Good z v → Steady z a v m → Steady z a w m
-  steady_lasts m good x = record {
-    sits = record { layout = x.sits.layout; seat = x.sits.seat; few = x.sits.few; generation = x.sits.generation ∙ sym o.generation; registers = x.sits.registers; made = x.sits.made; cache = x.sits.cache };
-    registers = λ g d of lt. means_last_here m g d of (x.registers g d of lt);
-    counts = λ g of. x.counts g of ∙ sym (o.counts g of);
-    caches = λ c k lt is. cached_lasts good c k (x.caches c k lt is);
-  } where
-    means_last_here : (m : Processor) (g d : ℕ) → IsOf z a g → Means v.place v.ever.made (v.ever.register g d) (register_of m g d) → Means w.place w.ever.made (w.ever.register g d) (register_of m g d)
-    means_last_here m g d of h = of_register (λ (x : EverValue). Means w.place w.ever.made x (register_of m g d)) g d of (means_last (v.ever.register g d) (register_of m g d) h)
-
-  pub right_lasts : (l : Bool) (h : ℕ → Bool) (y : Option Laying) → Right a v l h y → Right a w l h y
-  right_lasts l h y r = record { locked = o.locked ∙ r.locked; holds = λ p. o.holds p ∙ r.holds p; laying = o.laying ∙ r.laying }
+  pub right_lasts : (l : Bool) (h : ℕ → Bool) (y : Option Laying) (f : Option Freeing) → Rights a v l h y f → Rights a w l h y f
+  right_lasts l h y f r = record { locked = o.locked ∙ r.locked; holds = λ p. o.holds p ∙ r.holds p; laying = o.laying ∙ r.laying; freeing = o.freeing ∙ r.freeing }
 
   -- Of statements.
 
@@ -119,38 +87,63 @@ module _ (z : Arena) (a : ℕ) (v w : View) (o : Others z a v w) where
   register_lasts x pending (source.Move s) f = (runs_lasts x.g f.0, f.1, f.2, f.3)
   register_lasts x pending source.Nil f = (runs_lasts x.g f.0, f.1, f.2)
 
-  own_lasts : (x : Own) (pending : Option Answer) → OwnFacts z a v x pending → OwnFacts z a w x pending
-  own_lasts own_step.Poll pending f = f
-  own_lasts (own_step.End g) pending f = (runs_lasts g f.0, f.1)
-  own_lasts own_step.Leave pending f = f
-
   wants_last : (x : Wanted) → Wants z a v x → Wants z a w x
   wants_last x f = record { runs = runs_lasts x.g f.runs; register = f.register; type = f.type; few = subst (λ (n : ℕ). n < MOST_STATEMENTS) (sym (o.counts x.g f.runs.of)) f.few; is = f.is }
 
   module _ (k : Known) (m : Processor) (good : Good z v) where
-    searches_last : (x : Wanted) (f : Finding) (pending : Option Answer) → v.locked a ≡ find.is_locked f.stage → Searches z a v m x f pending → Searches z a w m x f pending
-    searches_last x f pending locked s = record { wants = wants_last x s.wants; wanted = s.wanted; cached = s.cached; facts = k.find_lasts z a v w (rest m x) f good o locked s.facts; unanswered = s.unanswered }
+    -- What it alone knows.
+
+    rests_last : Rests z a v m.poll → Rests z a w m.poll
+    rests_last r = record { stands = stands_last z a v w o m.poll r.stands; knows = knows_last z a v w o m.poll r.knows }
+
+    new_knows : (q : NewStage) → KnowsNew z a v m.poll q → KnowsNew z a w m.poll q
+    new_knows (Search waited s) h = rests_last h
+    new_knows (Wait x) h = k.waits.lasts z a v w (waiting x m.poll) o h
+    new_knows (Place x) h = rests_last h
+
+    known_lasts : (q : Task) → KnowsAt z a v m.poll q → KnowsAt z a w m.poll q
+    known_lasts task.Idle h = rests_last h
+    known_lasts task.Left h = stands_last z a v w o m.poll h
+    known_lasts (task.Load x) h = rests_last h
+    known_lasts (task.Store x) h = rests_last h
+    known_lasts (task.Global x) h = rests_last h
+    known_lasts (task.Register x) h = rests_last h
+    known_lasts (task.New x) h = new_knows x.stage h
+    known_lasts (task.Gc g x) h = k.waits.lasts z a v w (waiting x m.poll) o h
+    known_lasts task.Poll h = k.polls.lasts z a v w m.poll o h
+    known_lasts (task.End g) h = rests_last h
+    known_lasts (task.Leave x) h = k.leaves.lasts z a v w m.poll x o h
+
+    -- The operation that it is at.
+
+    searches_last : (x : Wanted) (q : Seeking) (pending : Option Answer) → search.Has a v (rest m x) q → Searches z a v m x q pending → Searches z a w m x q pending
+    searches_last x q pending has s = record { wants = wants_last x s.wants; wanted = s.wanted; cached = s.cached; facts = k.search.lasts z a v w (rest m x) q good o has s.facts; unanswered = s.unanswered }
 
     makes_last : (x : Wanted) (p : Placing) (pending : Option Answer) → Makes z a v m x p pending → Makes z a w m x p pending
-    makes_last x p pending s = record { facts = k.place_lasts z a v w (for_whom x) p good o s.facts; register = s.register; of = s.of; span = s.span; apart = s.apart; named = s.named }
+    makes_last x p pending s = record { facts = k.place.lasts z a v w (for_whom x) p good o s.facts; register = s.register; of = s.of; span = s.span; apart = s.apart; named = s.named }
 
-    new_lasts : (x : Wanted) (pending : Option Answer) (q : NewStage) → v.locked a ≡ locked_new q → NewFacts z a v m x pending q → NewFacts z a w m x pending q
-    new_lasts x pending (Find f) locked s = searches_last x f pending locked s
-    new_lasts x pending (Place p) locked s = makes_last x p pending s
+    new_lasts : (x : Wanted) (pending : Option Answer) (q : NewStage) → Rights a v (locked_new m q) (held_new m x q) (laying_new q) (freeing_new q) → NewFacts z a v m x pending q → NewFacts z a w m x pending q
+    new_lasts x pending (Search waited q) has s = searches_last x q pending has s
+    new_lasts x pending (Wait y) has s = (wants_last x s.0, s.1)
+    new_lasts x pending (Place p) has s = makes_last x p pending s
 
-    task_lasts : (pending : Option Answer) (q : Task) → v.locked a ≡ is_locked_at q → FactsAt z a v m pending q → FactsAt z a w m pending q
-    task_lasts pending task.Idle locked f = f
-    task_lasts pending task.Left locked f = f
-    task_lasts pending (task.Load x) locked f = load_lasts x pending x.stage f
-    task_lasts pending (task.Store x) locked f = store_lasts x pending x.stage f
-    task_lasts pending (task.Global x) locked f = global_lasts x pending x.stage f
-    task_lasts pending (task.Register x) locked f = register_lasts x pending x.source f
-    task_lasts pending (task.New x) locked f = new_lasts x.wanted pending x.stage locked f
-    task_lasts pending (task.Own x) locked f = own_lasts x pending f
+    task_lasts : (pending : Option Answer) (q : Task) → HasAt a v m q → FactsAt z a v m pending q → FactsAt z a w m pending q
+    task_lasts pending task.Idle has f = f
+    task_lasts pending task.Left has f = f
+    task_lasts pending (task.Load x) has f = load_lasts x pending x.stage f
+    task_lasts pending (task.Store x) has f = store_lasts x pending x.stage f
+    task_lasts pending (task.Global x) has f = global_lasts x pending x.stage f
+    task_lasts pending (task.Register x) has f = register_lasts x pending x.source f
+    task_lasts pending (task.New x) has f = new_lasts x.wanted pending x.stage has f
+    task_lasts pending (task.Gc g x) has f = f
+    task_lasts pending task.Poll has f = f
+    task_lasts pending (task.End g) has f = (runs_lasts g f.0, f.1)
+    task_lasts pending (task.Leave x) has f = f
 
 pub facts_last : Known → Lasts
 facts_last k z a v w m pending good o x = record {
-  steady = steady_lasts z a v w o m good x.steady;
-  right = right_lasts z a v w o _ _ _ x.right;
-  task = task_lasts z a v w o k m good pending m.task x.right.locked x.task;
+  counts = counts_last z a v w o m.made x.counts;
+  knows = known_lasts z a v w o k m good m.task x.knows;
+  right = right_lasts z a v w o _ _ _ _ x.right;
+  task = task_lasts z a v w o k m good pending m.task x.right x.task;
 }

@@ -1,8 +1,8 @@
 -- Own steps of a load while others change the heap. At its point its register takes what the field held.
 use Rattle.std.proofs.Common.{◌≡◌, ℕ, ◌<◌, Bool, true, false, cond, ltb, [], ◌∷◌, Option, Some, None, refl, sym, ap, subst}
 use Rattle.std.proofs.lemmas.Bool.{ltb-true, lt-ltb}
-use Rattle.gh_mutator.proofs.Owning.Vocabulary.{asks, at_task, Does, ends, Fine, goes_on, has_field, IsPlain, lists, Loads, OwnStepAt, Steady, Through, value_of}
-use Rattle.gh_mutator.specs.Vocabulary.{Answer, answer_of, Arena, cell_of, Ever, EverValue, Fault, Good, Load, LoadStage, Name, page_of, points, Processor, Quiet, Reach, Right, Runs, Shared, size_for, slot_in, Step, Steps, Task, told, view}
+use Rattle.gh_mutator.proofs.Owning.Vocabulary.{asks, at_task, Does, ends, Fine, goes_on, has_field, IsPlain, Loads, OwnStepAt, Through, value_of}
+use Rattle.gh_mutator.specs.Vocabulary.{Answer, answer_of, Arena, cell_of, Ever, EverValue, Fault, Good, Load, LoadStage, Name, page_of, points, Processor, Quiet, Reach, Shared, size_for, slot_in, Step, Steps, Task, told, view}
 use Rattle.gh_base.specs.declared.value.Answer.TheVariants as answer
 use Rattle.gh_base.specs.declared.value.Fault.TheVariants as fault
 use Rattle.gh_model.specs.declared.EverValue.TheVariants as ever
@@ -11,7 +11,10 @@ use Rattle.gh_heap.specs.Moves as moves
 use Rattle.gh_mutator.specs.declared.load.LoadStage.TheVariants.{Page, Bits, Field, Birth, NilBase}
 use Rattle.gh_mutator.specs.declared.task.Task.TheVariants as task
 use Rattle.gh_mutator.specs.Load.{at_stage, naming, op_of, step}
-use Rattle.gh_mutator.proofs.Owning.Fields.{Comes, Known, bit_found, faulted, field_reached, further, idle, name_found, not_full, size_found, steady_at, takes_told, took, value_means}
+use Rattle.gh_mutator.proofs.Owning.Known.{Known}
+use Rattle.gh_mutator.proofs.Owning.Objects.{bit_found, field_reached, name_found, size_found, takes_told, value_means}
+use Rattle.gh_mutator.proofs.Owning.Statements.{Comes, faulted, further, idle, not_full, took}
+use Rattle.gh_mutator.proofs.Owning.Steady.{HasCached, Steady}
 
 module _ (laws : Known) (z : Arena) (a : ℕ) (s : Shared) (m : Processor) (x : Load) (good : Good z (view s)) where
   abbrev e : Ever
@@ -46,10 +49,10 @@ module _ (laws : Known) (z : Arena) (a : ℕ) (s : Shared) (m : Processor) (x : 
   abbrev To : Shared → Option Answer → Step Load → Type 0
   To t pending next = Comes Load task.Load z a s t m x.g x.d (op_of x) pending next
 
-  does : (q : LoadStage) (pending : Option Answer) (t : Shared) → To t pending (step m.layout (at_stage x q) (found q)) → Does z a s t (here q) pending (found q)
-  does q pending t c = record { after = c.after; fine = c.fine; ever = c.ever; answers = c.answers; full = λ y is full. absurd (not_full (step m.layout (at_stage x q) (found q)).acts (op_of x) y is full) }
+  does : (q : LoadStage) (pending : Option Answer) (t : Shared) → To t pending (step m.poll.layout (at_stage x q) (found q)) → Does z a s t (here q) pending (found q)
+  does q pending t c = record { after = c.after; fine = c.fine; ever = c.ever; answers = c.answers; full = λ y is full. absurd (not_full (step m.poll.layout (at_stage x q) (found q)).acts (op_of x) y is full) }
 
-  module _ (steady : Steady z a (view s) m) (right : Right a (view s) false (lists m.cache) None) where
+  module _ (steady : Steady z a (view s) m) (right : HasCached a (view s) m) where
     reach : (n : Name) → Through z a (view s) x.g x.b x.at n → Reach e n
     reach n t = Reach.from_register x.g x.b n t.runs.goes_on t.names
 
@@ -61,7 +64,7 @@ module _ (laws : Known) (z : Arena) (a : ℕ) (s : Shared) (m : Processor) (x : 
 
     page_by : (l : Loads z a (view s) (at_stage x Page) None) → slot_in (page_of (found Page)) ≡ size l.n → (b : Bool) → has_field x.k (found Page) ≡ b → To s None (cond b (goes_on (at_stage x Bits)) (ends (answer.Fault fault.Field)))
     page_by l sized true test = further Load task.Load z a s m x.g x.d (op_of x) steady right (at_stage x Bits)
-        (record { steady = steady_at z a (view s) m (task.Load (at_stage x Bits)) steady; right = right; task = (loads_at Page Bits l, subst (λ (n : ℕ). x.k < n) sized (ltb-true _ _ test)) })
+        (record { counts = steady.0; knows = steady.1; right = right; task = (loads_at Page Bits l, subst (λ (n : ℕ). x.k < n) sized (ltb-true _ _ test)) })
     page_by l sized false test = fault_at fault.Field (load_past (e.register x.g x.b) l.n x.k l.through.names (subst (λ (n : ℕ). ltb x.k n ≡ false) sized test))
 
     page : (l : Loads z a (view s) (at_stage x Page) None) → Own Page None
@@ -69,7 +72,7 @@ module _ (laws : Known) (z : Arena) (a : ℕ) (s : Shared) (m : Processor) (x : 
       move = Quiet (asks (here Page));
       may = tt;
       words_are = refl;
-      after = does Page None s (page_by l (size_found laws z (view s) good l.n l.through.made (reach l.n l.through) m.layout x.at steady.sits.layout l.through.here) (has_field x.k (found Page)) refl);
+      after = does Page None s (page_by l (size_found laws z (view s) good l.n l.through.made (reach l.n l.through) m.poll.layout x.at steady.1.stands.sits.layout l.through.here) (has_field x.k (found Page)) refl);
     }
 
     bits : (l : Loads z a (view s) (at_stage x Bits) None) → x.k < size l.n → Own Bits None
@@ -78,7 +81,7 @@ module _ (laws : Known) (z : Arena) (a : ℕ) (s : Shared) (m : Processor) (x : 
       may = tt;
       words_are = refl;
       after = does Bits None s (further Load task.Load z a s m x.g x.d (op_of x) steady right _
-          (record { steady = steady_at z a (view s) m _ steady; right = right; task = (loads_at Bits _ l, few, bit_found laws z (view s) good l.n l.through.made (reach l.n l.through) m.layout x.at steady.sits.layout l.through.here x.k few) }));
+          (record { counts = steady.0; knows = steady.1; right = right; task = (loads_at Bits _ l, few, bit_found laws z (view s) good l.n l.through.made (reach l.n l.through) m.poll.layout x.at steady.1.stands.sits.layout l.through.here x.k few) }));
     }
 
     field : (p : Bool) (l : Loads z a (view s) (at_stage x (Field p)) None) → x.k < size l.n → p ≡ points z.shapes e.type_of l.n x.k → Own (Field p) None
@@ -87,9 +90,9 @@ module _ (laws : Known) (z : Arena) (a : ℕ) (s : Shared) (m : Processor) (x : 
       may = (tt, l.through.runs, l.register, field_reached e l.n x.k (reach l.n l.through) (e.field l.n x.k) refl);
       words_are = refl;
       after = does (Field p) None _ (took Load task.Load z a s m x.g x.d (op_of x) steady right (naming x)
-          (λ at v y pending st ri t. record { steady = steady_at z a v y (task.Load (naming x at)) st; right = ri; task = t })
-          l.through.runs l.register laws (cell_of (asks (here (Field p)))) (e.field l.n x.k) (value_of m.layout.pages p (found (Field p)))
-          (value_means laws z (view s) good l.n l.through.made (reach l.n l.through) m.layout x.at x.k p steady.sits.layout l.through.here few kind)
+          (λ at v y pending st ri t. record { counts = st.0; knows = st.1; right = ri; task = t })
+          l.through.runs l.register laws (cell_of (asks (here (Field p)))) (e.field l.n x.k) (value_of m.poll.layout.pages p (found (Field p)))
+          (value_means laws z (view s) good l.n l.through.made (reach l.n l.through) m.poll.layout x.at x.k p steady.1.stands.sits.layout l.through.here few kind)
           (load_found (e.register x.g x.b) l.n x.k l.through.names few) (takes_told e x.g x.d (e.field l.n x.k)));
     }
 
@@ -102,7 +105,7 @@ module _ (laws : Known) (z : Arena) (a : ℕ) (s : Shared) (m : Processor) (x : 
         after = None;
         fine = idle z a (view s) m steady right;
         ever = refl;
-        answers = ap (λ (y : Name). answer.Ref y ∷ []) (sym (name_found laws z (view s) good n t.made (Reach.from_register x.g x.d n t.runs.goes_on t.names) m.layout at steady.sits.layout t.here));
+        answers = ap (λ (y : Name). answer.Ref y ∷ []) (sym (name_found laws z (view s) good n t.made (Reach.from_register x.g x.d n t.runs.goes_on t.names) m.poll.layout at steady.1.stands.sits.layout t.here));
       });
     }
 
@@ -115,7 +118,7 @@ module _ (laws : Known) (z : Arena) (a : ℕ) (s : Shared) (m : Processor) (x : 
     }
 
   own : (q : LoadStage) (pending : Option Answer) → Fine z a (view s) (here q) pending → Own q pending
-  own q pending fine = by q pending fine (steady_at z a (view s) (here q) m.task fine.steady) where
+  own q pending fine = by q pending fine (fine.counts, fine.knows) where
     by : (q : LoadStage) (pending : Option Answer) → Fine z a (view s) (here q) pending → Steady z a (view s) m → Own q pending
     by Page None fine steady = page steady fine.right fine.task
     by Bits None fine steady = bits steady fine.right fine.task.0 fine.task.1

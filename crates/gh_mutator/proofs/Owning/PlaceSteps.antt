@@ -1,10 +1,10 @@
 -- The steps of a new object's making. The making is known by its law, and by which of its steps makes the object and which is its last.
-use Rattle.std.proofs.Common.{◌≡◌, ◌≢◌, ℕ, ◌+◌, ◌*◌, ◌/◌, ◌<◌, ◌⊎◌, Bool, true, false, cond, eqb, ltb, [], ◌∷◌, ◌++◌, length, get_or, Option, Some, None, refl, sym, ap, subst, ◌∙◌, arith, inl, inr, length-set, get_or-set_same, get_or-set_other}
+use Rattle.std.proofs.Common.{◌≡◌, ℕ, ◌+◌, ◌/◌, ◌<◌, ◌⊎◌, Bool, true, false, cond, eqb, ltb, List, [], ◌∷◌, ◌++◌, length, get_or, Option, Some, None, refl, sym, ap, subst, ◌∙◌, arith, inl, inr, length-set, get_or-set_same, get_or-set_other}
 use Rattle.std.specs.Option.{option_to_list}
 use Rattle.std.proofs.Math.ListN.{set}
 use Rattle.std.proofs.lemmas.Bool.{eqb-true, eqb-false, eq-eqb}
-use Rattle.gh_mutator.proofs.Owning.Vocabulary.{Act, acted, acting, answered_at, at_task, CachesAll, CountsFit, Does, Fine, for_whom, lists, Makes, makes, op_of, own_span, register_of, RegistersFit, set_register, ShapesAreGood, Steady}
-use Rattle.gh_mutator.specs.Vocabulary.{Answer, Arena, cell_of, Ever, EverValue, Good, IsMade, IsOf, KeepsItsOwn, KeepsObjects, Large, Means, MOST_GOROUTINES, moved, Name, PlaceStage, Processor, REGISTERS, Shared, Small, Sought, SpanHead, Steps, Task, Value, View, view, Wanted, with_register}
+use Rattle.gh_mutator.proofs.Owning.Vocabulary.{Act, acted, acting, answered_at, at_task, Does, Fine, for_whom, KnowsCounts, lists, Makes, makes, op_of, own_span, register_at, RegistersFit, ShapesAreGood, Sits}
+use Rattle.gh_mutator.specs.Vocabulary.{Answer, Arena, cell_of, Ever, EverValue, Good, IsMade, IsOf, KeepsItsOwn, KeepsObjects, Large, Means, moved, Name, PlaceStage, Polling, Processor, REGISTERS, Shared, Small, Sought, SpanHead, Steps, Value, View, view, Wanted, with_register}
 use Rattle.gh_base.specs.declared.value.Answer.TheVariants as answer
 use Rattle.gh_base.specs.declared.value.Value.TheVariants as value
 use Rattle.gh_model.specs.declared.EverValue.TheVariants as ever
@@ -18,10 +18,12 @@ use Rattle.gh_alloc.specs.Place as placer
 use Rattle.gh_alloc.specs.PlaceFacts as place
 use Rattle.gh_mutator.specs.declared.task.Task.TheVariants as task
 use Rattle.gh_mutator.specs.Facts.{NamedFrom}
+use Rattle.gh_mutator.specs.Local.{with_register as local_register}
 use Rattle.gh_mutator.specs.New.{is_made, made_object}
-use Rattle.gh_mutator.specs.Processor.{made_by}
-use Rattle.gh_mutator.proofs.Owning.Cache.{lists-it}
-use Rattle.gh_mutator.proofs.Owning.Finding.{Known, goroutine-few, registers-then, same-counts, same-registers, still-cached}
+use Rattle.gh_mutator.proofs.Holding.Known.{cached_kept}
+use Rattle.gh_mutator.proofs.Holding.Lists.{lists_it}
+use Rattle.gh_mutator.proofs.Owning.Known.{Known}
+use Rattle.gh_mutator.proofs.Owning.Steady.{goroutine_few, registers_then, sits_register, Steady, steady_on}
 
 -- What kind of step is made at a stage: one on the way, the one that makes the object, or the last.
 data Kind (p : placer.Placing) (q : PlaceStage) (found : ℕ) : Type 0 where
@@ -74,29 +76,29 @@ with-listed (Some n) held y e = go (eqb n y) where
 
 module _ (z : Arena) (a : ℕ) (v : View) (m : Processor) (x : Wanted) (p : placer.Placing) where
   abbrev base : ℕ → Bool
-  base = find.with_span (find.own_found x.sought p.at) (lists m.cache)
+  base = find.with_span (find.own_found x.sought p.at) (lists m.poll.local.cache)
 
   -- what is listed is held at every stage
-  listed-held : p.span ≡ own_span m.seat m.generation x.sought → ((y : ℕ) → find.own_found x.sought p.at ≡ Some y → lists m.cache y ≡ false) → (q : PlaceStage) (y : ℕ) → lists m.cache y ≡ true → place.held_by q p.span (p.at / 1024) base y ≡ true
+  listed-held : p.span ≡ own_span m.poll.seat m.poll.local.view.generation x.sought → ((y : ℕ) → find.own_found x.sought p.at ≡ Some y → lists m.poll.local.cache y ≡ false) → (q : PlaceStage) (y : ℕ) → lists m.poll.local.cache y ≡ true → place.held_by q p.span (p.at / 1024) base y ≡ true
   listed-held span apart q y e = elim (held-cases q p.span (p.at / 1024) base y) [
-    | inl same ↦ same ∙ with-listed (find.own_found x.sought p.at) (lists m.cache) y e
-    | inr given ↦ given.0 ∙ elsewhere (apart (p.at / 1024) (own-cases m.seat m.generation x.sought p.at given.1.0 (sym span ∙ given.1.1)))
+    | inl same ↦ same ∙ with-listed (find.own_found x.sought p.at) (lists m.poll.local.cache) y e
+    | inr given ↦ given.0 ∙ elsewhere (apart (p.at / 1024) (own-cases m.poll.seat m.poll.local.view.generation x.sought p.at given.1.0 (sym span ∙ given.1.1)))
   ] where
-    elsewhere : lists m.cache (p.at / 1024) ≡ false → update base (p.at / 1024) false y ≡ true
+    elsewhere : lists m.poll.local.cache (p.at / 1024) ≡ false → update base (p.at / 1024) false y ≡ true
     elsewhere none = go (eqb (p.at / 1024) y) refl where
       go : (b : Bool) → eqb (p.at / 1024) y ≡ b → cond b false (base y) ≡ true
-      go true t = absurd (cc (e, subst (λ (n : ℕ). lists m.cache n ≡ false) (eqb-true (p.at / 1024) y t) none))
-      go false t = with-listed (find.own_found x.sought p.at) (lists m.cache) y e
+      go true t = absurd (cc (e, subst (λ (n : ℕ). lists m.poll.local.cache n ≡ false) (eqb-true (p.at / 1024) y t) none))
+      go false t = with-listed (find.own_found x.sought p.at) (lists m.poll.local.cache) y e
 
   -- at the end just that
-  held-last : p.span ≡ own_span m.seat m.generation x.sought → ((y : ℕ) → find.own_found x.sought p.at ≡ Some y → lists m.cache y ≡ false) → (y : ℕ) → place.held_by making.Ended p.span (p.at / 1024) base y ≡ lists m.cache y
-  held-last span apart y = subst (λ (s : Option SpanHead). place.held_by making.Ended s (p.at / 1024) base y ≡ lists m.cache y) (sym span) (go x.sought refl) where
-    go : (s : Sought) → x.sought ≡ s → place.held_by making.Ended (own_span m.seat m.generation x.sought) (p.at / 1024) base y ≡ lists m.cache y
-    go (Small c) e = subst (λ (s : Sought). place.held_by making.Ended (own_span m.seat m.generation s) (p.at / 1024) (find.with_span (find.own_found s p.at) (lists m.cache)) y ≡ lists m.cache y) (sym e) refl
-    go (Large pages noscan) e = subst (λ (s : Sought). place.held_by making.Ended (own_span m.seat m.generation s) (p.at / 1024) (find.with_span (find.own_found s p.at) (lists m.cache)) y ≡ lists m.cache y) (sym e)
+  held-last : p.span ≡ own_span m.poll.seat m.poll.local.view.generation x.sought → ((y : ℕ) → find.own_found x.sought p.at ≡ Some y → lists m.poll.local.cache y ≡ false) → (y : ℕ) → place.held_by making.Ended p.span (p.at / 1024) base y ≡ lists m.poll.local.cache y
+  held-last span apart y = subst (λ (s : Option SpanHead). place.held_by making.Ended s (p.at / 1024) base y ≡ lists m.poll.local.cache y) (sym span) (go x.sought refl) where
+    go : (s : Sought) → x.sought ≡ s → place.held_by making.Ended (own_span m.poll.seat m.poll.local.view.generation x.sought) (p.at / 1024) base y ≡ lists m.poll.local.cache y
+    go (Small c) e = subst (λ (s : Sought). place.held_by making.Ended (own_span m.poll.seat m.poll.local.view.generation s) (p.at / 1024) (find.with_span (find.own_found s p.at) (lists m.poll.local.cache)) y ≡ lists m.poll.local.cache y) (sym e) refl
+    go (Large pages noscan) e = subst (λ (s : Sought). place.held_by making.Ended (own_span m.poll.seat m.poll.local.view.generation s) (p.at / 1024) (find.with_span (find.own_found s p.at) (lists m.poll.local.cache)) y ≡ lists m.poll.local.cache y) (sym e)
         (back (eqb (p.at / 1024) y) refl (apart (p.at / 1024) (ap (λ (s : Sought). find.own_found s p.at) e))) where
-          back : (b : Bool) → eqb (p.at / 1024) y ≡ b → lists m.cache (p.at / 1024) ≡ false → cond b false (cond b true (lists m.cache y)) ≡ lists m.cache y
-          back true t none = sym (subst (λ (n : ℕ). lists m.cache n ≡ false) (eqb-true (p.at / 1024) y t) none)
+          back : (b : Bool) → eqb (p.at / 1024) y ≡ b → lists m.poll.local.cache (p.at / 1024) ≡ false → cond b false (cond b true (lists m.poll.local.cache y)) ≡ lists m.poll.local.cache y
+          back true t none = sym (subst (λ (n : ℕ). lists m.poll.local.cache n ≡ false) (eqb-true (p.at / 1024) y t) none)
           back false t none = refl
 
 -- The object is made: its goroutine's count and register take it.
@@ -125,12 +127,12 @@ means-then z v g t at (ever.Ref n) (value.Ref r) h = (
   more true e = omega (arith, subst (λ (h' : ℕ). n.k < v.ever.made h') (eqb-true n.g g e) h.1)
   more false e = h.1
 
-made-registers : (z : Arena) (a : ℕ) (v w : View) (m : Processor) (g d t at : ℕ) → length m.registers ≡ REGISTERS * MOST_GOROUTINES → IsOf z a g → d < REGISTERS →
-    w.ever ≡ with_register (with_object z.shapes v.ever g t) g d (ever.Ref (next_name v.ever g)) → w.place ≡ placed_at v.place (next_name v.ever g) at → RegistersFit z a v m → RegistersFit z a w (set_register m g d (value.Ref (at + 1)))
-made-registers z a v w m g d t at long of low e place fit h c hof lc =
-    subst (λ (x : Ever). Means w.place x.made (x.register h c) (register_of (set_register m g d (value.Ref (at + 1))) h c)) (sym e)
-    (subst (λ (x : PlaceOf). Means x (with_object z.shapes v.ever g t).made ((with_register (with_object z.shapes v.ever g t) g d (ever.Ref (next_name v.ever g))).register h c) (register_of (set_register m g d (value.Ref (at + 1))) h c)) (sym place)
-    (registers-then z a now m g d (ever.Ref (next_name v.ever g)) (value.Ref (at + 1)) long (goroutine-few z a g of) low here (λ i r iof lr. means-then z v g t at (v.ever.register i r) (register_of m i r) (fit i r iof lr)) h c hof lc)) where
+made-registers : (z : Arena) (a : ℕ) (v w : View) (p : Polling) (g d t at : ℕ) → Sits z a p → IsOf z a g → d < REGISTERS →
+    w.ever ≡ with_register (with_object z.shapes v.ever g t) g d (ever.Ref (next_name v.ever g)) → w.place ≡ placed_at v.place (next_name v.ever g) at → RegistersFit z a v p → RegistersFit z a w (local_register p g d (value.Ref (at + 1)))
+made-registers z a v w p g d t at sits of low e place fit h c hof lc =
+    subst (λ (x : Ever). Means w.place x.made (x.register h c) (register_at (local_register p g d (value.Ref (at + 1))) h c)) (sym e)
+    (subst (λ (x : PlaceOf). Means x (with_object z.shapes v.ever g t).made ((with_register (with_object z.shapes v.ever g t) g d (ever.Ref (next_name v.ever g))).register h c) (register_at (local_register p g d (value.Ref (at + 1))) h c)) (sym place)
+    (registers_then z a now p g d (ever.Ref (next_name v.ever g)) (value.Ref (at + 1)) sits of low here (λ i r iof lr. means-then z v g t at (v.ever.register i r) (register_at p i r) (fit i r iof lr)) h c hof lc)) where
       now : View
       now = record v { ever = with_object z.shapes v.ever g t; place = placed_at v.place (next_name v.ever g) at }
 
@@ -144,15 +146,17 @@ made-registers z a v w m g d t at long of low e place fit h c hof lc =
       here : Means now.place now.ever.made (ever.Ref (next_name v.ever g)) (value.Ref (at + 1))
       here = (ap (λ (b : Bool). cond b at (v.place (next_name v.ever g)) + 1) (sym same), more (eqb g g) (eq-eqb g g refl))
 
-made-counts : (z : Arena) (a : ℕ) (v w : View) (m : Processor) (g d t : ℕ) → length m.made ≡ MOST_GOROUTINES → IsOf z a g → w.ever ≡ with_register (with_object z.shapes v.ever g t) g d (ever.Ref (next_name v.ever g)) → CountsFit z a v m →
-    (h : ℕ) → IsOf z a h → get_or (set m.made g (made_by m g + 1)) h 0 ≡ w.ever.made h
-made-counts z a v w m g d t long of e fit h hof = subst (λ (x : Ever). get_or (set m.made g (made_by m g + 1)) h 0 ≡ x.made h) (sym e) (go (eqb h g) refl) where
-  go : (b : Bool) → eqb h g ≡ b → get_or (set m.made g (made_by m g + 1)) h 0 ≡ cond b (v.ever.made g + 1) (v.ever.made h)
-  go true t =
+made-counts : (z : Arena) (a : ℕ) (v w : View) (made : List ℕ) (g d t : ℕ) → IsOf z a g → w.ever ≡ with_register (with_object z.shapes v.ever g t) g d (ever.Ref (next_name v.ever g)) → KnowsCounts z a v made → KnowsCounts z a w (set made g (get_or made g 0 + 1))
+made-counts z a v w made g d t of e counts = record {
+  places = length-set made g (get_or made g 0 + 1) ∙ counts.places;
+  each = λ h hof. subst (λ (x : Ever). get_or (set made g (get_or made g 0 + 1)) h 0 ≡ x.made h) (sym e) (go h hof (eqb h g) refl);
+} where
+  go : (h : ℕ) → IsOf z a h → (b : Bool) → eqb h g ≡ b → get_or (set made g (get_or made g 0 + 1)) h 0 ≡ cond b (v.ever.made g + 1) (v.ever.made h)
+  go h hof true t =
       let same : h ≡ g = eqb-true h g t in
-      let lt : g < length m.made = omega (arith, long, goroutine-few z a g of) in
-      subst (λ (n : ℕ). get_or (set m.made g (made_by m g + 1)) n 0 ≡ v.ever.made g + 1) (sym same) (rw get_or-set_same (ap (λ (n : ℕ). n + 1) (fit g of)))
-  go false t = let ne : h ≢ g = eqb-false h g t in rw get_or-set_other (fit h hof)
+      let lt : g < length made = omega (arith, counts.places, goroutine_few z a g of) in
+      subst (λ (n : ℕ). get_or (set made g (get_or made g 0 + 1)) n 0 ≡ v.ever.made g + 1) (sym same) (get_or-set_same made g (get_or made g 0 + 1) 0 lt ∙ ap (λ (n : ℕ). n + 1) (counts.each g of))
+  go h hof false t = get_or-set_other made g h (get_or made g 0 + 1) 0 (eqb-false h g t) ∙ counts.each h hof
 
 -- The steps.
 
@@ -172,25 +176,14 @@ module _ (k : Known) (z : Arena) (a : ℕ) (s : Shared) (m : Processor) (x : Wan
   abbrev then : Bool → Bool → Processor
   then made busy = at_task (cond made (made_object making-at x p.at) making-at) (cond busy (makes x next) task.Idle)
 
-  -- what is cached is so still
-  caches-still : (w : View) (q : Task) → KeepsItsOwn a now w → ((y : ℕ) → lists m.cache y ≡ true → w.holds a y ≡ true) → CachesAll a now m → CachesAll a w (at_task m q)
-  caches-still w q own held all c l below is = still-cached a now w c l own (held l.head (lists-it m.cache _ l.head l is refl)) (all c l below is)
-
-  steady-on : (w : View) (q : Task) → KeepsObjects now w → w.generation ≡ now.generation → CachesAll a w (at_task m q) → Steady z a now m → Steady z a w (at_task m q)
-  steady-on w q o same caches y = record {
-    sits = record { layout = y.sits.layout; seat = y.sits.seat; few = y.sits.few; generation = y.sits.generation ∙ sym same; registers = y.sits.registers; made = y.sits.made; cache = y.sits.cache };
-    registers = λ g d of few. same-registers z a now w m o y.registers g d of few;
-    counts = λ g of. same-counts z a now w m o y.counts g of;
-    caches = caches;
-  }
-
   -- what the step comes to, by its kind
   done : (t : Shared) → ShapesAreGood z.shapes → Steady z a now m → Makes z a now m x p pending → KeepsItsOwn a now (view t) → place.Changes z (for_whom x) p (placer.acts_at p.stage) now (view t) →
       place.Comes z a (view t) (for_whom x) (base z a now m x p) (placer.gives_at p.stage) next → Kind p p.stage found → Does z a s t making-at pending found
   done t sg st mk own changes comes (onward still gives busy same) = record {
     after = pending;
     fine = subst (λ (b : Bool). Fine z a (view t) (then b (placer.is_busy next.stage)) pending) (sym still) (subst (λ (b : Bool). Fine z a (view t) (then false b) pending) (sym busy) (record {
-      steady = steady-on (view t) (makes x next) o own.generation (caches-still (view t) (makes x next) own held st.caches) st;
+      counts = (steady_on z a now (view t) m o own held st).0;
+      knows = (steady_on z a now (view t) m o own held st).1;
       right = come.0;
       task = record { facts = come.1; register = mk.register; of = mk.of; span = mk.span; apart = mk.apart; named = subst (λ (b : Bool). NamedFrom b p.name pending) (sym same) mk.named };
     }));
@@ -204,7 +197,7 @@ module _ (k : Known) (z : Arena) (a : ℕ) (s : Shared) (m : Processor) (x : Wan
     come : place.Comes z a (view t) (for_whom x) (base z a now m x p) None next
     come = subst (λ (g : Option (Unit {0})). place.Comes z a (view t) (for_whom x) (base z a now m x p) g next) gives comes
 
-    held : (y : ℕ) → lists m.cache y ≡ true → (view t).holds a y ≡ true
+    held : (y : ℕ) → lists m.poll.local.cache y ≡ true → (view t).holds a y ≡ true
     held y e = come.0.holds y ∙ listed-held z a now m x p mk.span mk.apart next.stage y e
 
     nothing : (q : Option Answer) → [] ++ option_to_list q ≡ option_to_list q ++ []
@@ -216,11 +209,10 @@ module _ (k : Known) (z : Arena) (a : ℕ) (s : Shared) (m : Processor) (x : Wan
   done t sg st mk own changes comes (making-it acts gives busy made unmade) = record {
     after = Some (answer.Ref p.name);
     fine = subst (λ (b : Bool). Fine z a (view t) (then b (placer.is_busy next.stage)) (Some (answer.Ref p.name))) (sym acts) (subst (λ (b : Bool). Fine z a (view t) (then true b) (Some (answer.Ref p.name))) (sym busy) (record {
-      steady = record {
-        sits = record { layout = st.sits.layout; seat = st.sits.seat; few = st.sits.few; generation = st.sits.generation ∙ sym own.generation; registers = rw length-set st.sits.registers; made = rw length-set st.sits.made; cache = st.sits.cache };
-        registers = made-registers z a now (view t) m x.g x.d x.t p.at st.sits.registers mk.of mk.register o.0 o.1 st.registers;
-        counts = made-counts z a now (view t) m x.g x.d x.t st.sits.made mk.of o.0 st.counts;
-        caches = caches-still (view t) (makes x next) own held st.caches;
+      counts = made-counts z a now (view t) m.made x.g x.d x.t mk.of o.0 st.0;
+      knows = record {
+        stands = record { sits = sits_register z a m.poll x.g x.d (value.Ref (p.at + 1)) st.1.stands.sits; registers = made-registers z a now (view t) m.poll x.g x.d x.t p.at st.1.stands.sits mk.of mk.register o.0 o.1 st.1.stands.registers };
+        knows = record { generation = st.1.knows.generation ∙ sym own.generation; caches = λ c l below is. cached_kept a now (view t) own c l (held l.head (lists_it m.poll.local.cache _ l.head l is refl)) (st.1.knows.caches c l below is) };
       };
       right = come.0;
       task = record { facts = come.1; register = mk.register; of = mk.of; span = mk.span; apart = mk.apart; named = subst (λ (b : Bool). NamedFrom b p.name (Some (answer.Ref p.name))) (sym made) refl };
@@ -236,7 +228,7 @@ module _ (k : Known) (z : Arena) (a : ℕ) (s : Shared) (m : Processor) (x : Wan
     come : place.Comes z a (view t) (for_whom x) (base z a now m x p) None next
     come = subst (λ (g : Option (Unit {0})). place.Comes z a (view t) (for_whom x) (base z a now m x p) g next) gives comes
 
-    held : (y : ℕ) → lists m.cache y ≡ true → (view t).holds a y ≡ true
+    held : (y : ℕ) → lists m.poll.local.cache y ≡ true → (view t).holds a y ≡ true
     held y e = come.0.holds y ∙ listed-held z a now m x p mk.span mk.apart next.stage y e
 
     none : pending ≡ None
@@ -247,8 +239,9 @@ module _ (k : Known) (z : Arena) (a : ℕ) (s : Shared) (m : Processor) (x : Wan
   done t sg st mk own changes comes (ending still gives busy made last) = record {
     after = None;
     fine = subst (λ (b : Bool). Fine z a (view t) (then b (placer.is_busy next.stage)) None) (sym still) (subst (λ (b : Bool). Fine z a (view t) (then false b) None) (sym busy) (record {
-      steady = steady-on (view t) task.Idle o own.generation (caches-still (view t) task.Idle own (λ y e. held y ∙ e) st.caches) st;
-      right = record { locked = come.0.locked; holds = held; laying = come.0.laying };
+      counts = (steady_on z a now (view t) m o own (λ y e. held y ∙ e) st).0;
+      knows = (steady_on z a now (view t) m o own (λ y e. held y ∙ e) st).1;
+      right = record { locked = come.0.locked; holds = held; laying = come.0.laying; freeing = come.0.freeing };
       task = refl;
     }));
     ever = o.0 ∙ sym (ap (λ (b : Bool). acted z.shapes s.ever (acting b (op_of x) false)) still);
@@ -261,7 +254,7 @@ module _ (k : Known) (z : Arena) (a : ℕ) (s : Shared) (m : Processor) (x : Wan
     come : place.Comes z a (view t) (for_whom x) (base z a now m x p) (Some tt) next
     come = subst (λ (g : Option (Unit {0})). place.Comes z a (view t) (for_whom x) (base z a now m x p) g next) gives comes
 
-    held : (y : ℕ) → (view t).holds a y ≡ lists m.cache y
+    held : (y : ℕ) → (view t).holds a y ≡ lists m.poll.local.cache y
     held y = come.0.holds y ∙ ap (λ (q : PlaceStage). place.held_by q p.span (p.at / 1024) (base z a now m x p) y) last ∙ held-last z a now m x p mk.span mk.apart y
 
     named : pending ≡ Some (answer.Ref p.name)
@@ -272,14 +265,8 @@ module _ (k : Known) (z : Arena) (a : ℕ) (s : Shared) (m : Processor) (x : Wan
 
   pub place-steps : ShapesAreGood z.shapes → Good z now → Fine z a now making-at pending → Steps z a s (placer.asks p) (λ t. Does z a s t making-at pending found)
   place-steps sg g fine =
-      let y = fine.steady in
       let mk : Makes z a now m x p pending = record { facts = fine.task.facts; register = fine.task.register; of = fine.task.of; span = fine.task.span; apart = fine.task.apart; named = fine.task.named } in
-      let st : Steady z a now m = record {
-        sits = record { layout = y.sits.layout; seat = y.sits.seat; few = y.sits.few; generation = y.sits.generation; registers = y.sits.registers; made = y.sits.made; cache = y.sits.cache };
-        registers = y.registers;
-        counts = y.counts;
-        caches = y.caches;
-      } in
+      let st : Steady z a now m = (fine.counts, fine.knows) in
       let l = k.place.own_step z a s (for_whom x) (base z a now m x p) p g fine.right mk.facts in
       record { move = l.move; may = l.may; words_are = l.words_are; after = done (moved z a s l.move) sg st mk (k.own z a s l.move g l.may) l.after.0 l.after.1 (kind-of p p.stage found (unended mk.facts)) } where
         unended : place.Facts z a now (for_whom x) p → p.stage ≡ making.Ended → ⊥

@@ -11,8 +11,10 @@ use Rattle.gh_mutator.specs.Vocabulary.{Register, Source, Takes, view}
 use Rattle.gh_mutator.specs.declared.register.Source.TheVariants as source
 use Rattle.gh_mutator.specs.declared.task.Task.TheVariants as task
 use Rattle.gh_mutator.specs.Register.{begins}
-use Rattle.gh_mutator.proofs.Owning.Frames.{StepAt, answered_once, at_its_task, has_room, register_reached, rested, takes_last}
 use Rattle.gh_mutator.proofs.Owning.Known.{Known}
+use Rattle.gh_mutator.proofs.Owning.Objects.{register_reached}
+use Rattle.gh_mutator.proofs.Owning.Statements.{answered_once, at_its_task, has_room, StepAt, takes_last}
+use Rattle.gh_mutator.proofs.Owning.Steady.{Steady}
 
 step_from : (g d : ℕ) (from : Source) → StepAt (task.Register (begins g d from))
 step_from g d (source.Int n) z a s m pending shapes good x = record {
@@ -21,21 +23,21 @@ step_from g d (source.Int n) z a s m pending shapes good x = record {
   words_are = refl;
   after = record {
     after = None;
-    fine = takes_last z a (view s) m g d (ever.Int n) (value.Int n) (rested z a (view s) m (task.Register (begins g d (source.Int n))) x.steady) x.right x.task.0.of x.task.1 refl;
+    fine = takes_last z a (view s) m g d (ever.Int n) (value.Int n) (x.counts, x.knows) x.right x.task.0.of x.task.1 refl;
     ever = refl;
     answers = answered_once answer.Done _ pending x.task.2 refl;
     full = has_room (λ (y : Act). FullAt z a (view s) (at_task m (task.Register (begins g d (source.Int n)))) y.op) (op.Int g d n);
   };
 }
 step_from g d (source.Move r) z a s m pending shapes good x =
-    let steady = rested z a (view s) m (task.Register (begins g d (source.Move r))) x.steady in
+    let steady : Steady z a (view s) m = (x.counts, x.knows) in
     record {
       move = Takes (ask.Load cell.Touch) g d (s.ever.register g r);
-      may = (tt, x.task.0, x.task.1, register_reached s.ever g r (s.ever.register g r) x.task.0.goes_on refl);
+      may = (tt, x.task.0, x.task.1, register_reached s.ever g r x.task.0.goes_on (s.ever.register g r) refl);
       words_are = refl;
       after = record {
         after = None;
-        fine = takes_last z a (view s) m g d (s.ever.register g r) (register_of m g r) steady x.right x.task.0.of x.task.1 (steady.registers g r x.task.0.of x.task.2);
+        fine = takes_last z a (view s) m g d (s.ever.register g r) (register_of m g r) steady x.right x.task.0.of x.task.1 (steady.1.stands.registers g r x.task.0.of x.task.2);
         ever = refl;
         answers = answered_once answer.Done _ pending x.task.3 refl;
         full = has_room (λ (y : Act). FullAt z a (view s) (at_task m (task.Register (begins g d (source.Move r)))) y.op) (op.Move g d r);
@@ -47,7 +49,7 @@ step_from g d source.Nil z a s m pending shapes good x = record {
   words_are = refl;
   after = record {
     after = None;
-    fine = takes_last z a (view s) m g d ever.Nil value.Nil (rested z a (view s) m (task.Register (begins g d source.Nil)) x.steady) x.right x.task.0.of x.task.1 tt;
+    fine = takes_last z a (view s) m g d ever.Nil value.Nil (x.counts, x.knows) x.right x.task.0.of x.task.1 tt;
     ever = refl;
     answers = answered_once answer.Done _ pending x.task.2 refl;
     full = has_room (λ (y : Act). FullAt z a (view s) (at_task m (task.Register (begins g d source.Nil))) y.op) (op.Nil g d);

@@ -1,8 +1,8 @@
 -- Own steps of a store while others change the heap. At its point the field takes what its register holds.
 use Rattle.std.proofs.Common.{◌≡◌, ℕ, ◌+◌, ◌<◌, Bool, true, false, not, cond, ltb, [], ◌∷◌, Option, Some, None, refl, sym, ap, subst, ◌∙◌}
 use Rattle.std.proofs.lemmas.Bool.{ltb-true, lt-ltb}
-use Rattle.gh_mutator.proofs.Owning.Vocabulary.{asks, at_task, Does, ends, Fine, goes_on, has_field, is_pointer_by, IsPlain, lists, OwnStepAt, register_of, Steady, Stores, Through, word_of_value}
-use Rattle.gh_mutator.specs.Vocabulary.{Answer, answer_of, Arena, cell_of, Ever, ever_after, EverValue, Fault, fits, Good, Holds, Means, moved, Name, page_of, points, Processor, Quiet, Reach, Right, Shared, size_for, slot_in, Step, Steps, Store, StoreStage, Task, Value, view}
+use Rattle.gh_mutator.proofs.Owning.Vocabulary.{asks, at_task, Does, ends, Fine, goes_on, has_field, is_pointer_by, IsPlain, lists, OwnStepAt, register_of, Stores, Through, word_of_value}
+use Rattle.gh_mutator.specs.Vocabulary.{Answer, answer_of, Arena, cell_of, Ever, ever_after, EverValue, Fault, fits, Good, Means, moved, Name, page_of, points, Processor, Quiet, Reach, Shared, size_for, slot_in, Step, Steps, Store, StoreStage, Task, Value, view}
 use Rattle.gh_base.specs.declared.cell.Cell.TheVariants as cell
 use Rattle.gh_base.specs.declared.value.Answer.TheVariants as answer
 use Rattle.gh_base.specs.declared.value.Fault.TheVariants as fault
@@ -16,21 +16,12 @@ use Rattle.gh_mutator.specs.declared.store.StoreStage.TheVariants.{Page, Bits, F
 use Rattle.gh_mutator.specs.declared.task.Task.TheVariants as task
 use Rattle.gh_mutator.specs.Fields.{kinds_differ}
 use Rattle.gh_mutator.specs.Store.{at_stage, op_of, step}
-use Rattle.gh_mutator.proofs.Owning.Fields.{Comes, Known, bit_found, caches_in, faulted, further, idle, not_full, register_reached, size_found, steady_at, word_is}
+use Rattle.gh_mutator.proofs.Owning.Known.{Known}
+use Rattle.gh_mutator.proofs.Owning.Objects.{bit_found, register_reached, size_found, word_holds, word_is}
+use Rattle.gh_mutator.proofs.Owning.Statements.{Comes, faulted, further, idle, not_full}
+use Rattle.gh_mutator.proofs.Owning.Steady.{HasCached, Steady, steady_values}
 
--- the word of a value holds what a field of its kind is to hold
-word_holds : (place : Place) (made : ℕ → ℕ) (p : Bool) (v : EverValue) (x : Value) → Means place made v x → fits p v ≡ true → Holds place made p v (word_of_value x)
-word_holds place made p ever.Nil value.Nil h f = (f, refl)
-word_holds place made true (ever.Int a) (value.Int b) h f = absurd cc
-word_holds place made false (ever.Int a) (value.Int b) h f = (refl, sym h)
-word_holds place made p (ever.Ref n) (value.Ref r) h f = (f, h.0, h.1)
-word_holds place made p ever.Nil (value.Int b) h f = absurd h
-word_holds place made p ever.Nil (value.Ref r) h f = absurd h
-word_holds place made p (ever.Int a) value.Nil h f = absurd h
-word_holds place made p (ever.Int a) (value.Ref r) h f = absurd h
-word_holds place made p (ever.Ref n) value.Nil h f = absurd h
-word_holds place made p (ever.Ref n) (value.Int b) h f = absurd h
-
+-- a value and the kind of a field differ where it does not fit
 differ_fits : (place : Place) (made : ℕ → ℕ) (p : Bool) (v : EverValue) (x : Value) → Means place made v x → kinds_differ p x ≡ not (fits p v)
 differ_fits place made true ever.Nil value.Nil h = refl
 differ_fits place made false ever.Nil value.Nil h = refl
@@ -94,15 +85,15 @@ module _ (laws : Known) (z : Arena) (a : ℕ) (s : Shared) (m : Processor) (x : 
   abbrev To : Shared → Option Answer → Step Store → Type 0
   To t pending next = Comes Store task.Store z a s t m x.g x.v (op_of x) pending next
 
-  does : (q : StoreStage) (pending : Option Answer) (t : Shared) → To t pending (step m.layout held (at_stage x q) (found q)) → Does z a s t (here q) pending (found q)
-  does q pending t c = record { after = c.after; fine = c.fine; ever = c.ever; answers = c.answers; full = λ y is full. absurd (not_full (step m.layout held (at_stage x q) (found q)).acts (op_of x) y is full) }
+  does : (q : StoreStage) (pending : Option Answer) (t : Shared) → To t pending (step m.poll.layout held (at_stage x q) (found q)) → Does z a s t (here q) pending (found q)
+  does q pending t c = record { after = c.after; fine = c.fine; ever = c.ever; answers = c.answers; full = λ y is full. absurd (not_full (step m.poll.layout held (at_stage x q) (found q)).acts (op_of x) y is full) }
 
-  module _ (steady : Steady z a (view s) m) (right : Right a (view s) false (lists m.cache) None) where
+  module _ (steady : Steady z a (view s) m) (right : HasCached a (view s) m) where
     reach : (n : Name) → Through z a (view s) x.g x.b x.at n → Reach e n
     reach n t = Reach.from_register x.g x.b n t.runs.goes_on t.names
 
     means : (n : Name) → Through z a (view s) x.g x.b x.at n → (p : StoreStage) → Stores z a (view s) (at_stage x p) None → Means s.place e.made stored held
-    means n t p l = steady.registers x.g x.v t.runs.of l.register
+    means n t p l = steady.1.stands.registers x.g x.v t.runs.of l.register
 
     abbrev stores_at : (p q : StoreStage) → Stores z a (view s) (at_stage x p) None → Stores z a (view s) (at_stage x q) None
     stores_at p q l = record { n = l.n; through = l.through; register = l.register; unanswered = l.unanswered }
@@ -112,7 +103,7 @@ module _ (laws : Known) (z : Arena) (a : ℕ) (s : Shared) (m : Processor) (x : 
 
     page_by : (l : Stores z a (view s) (at_stage x Page) None) → slot_in (page_of (found Page)) ≡ size l.n → (b : Bool) → has_field x.k (found Page) ≡ b → To s None (cond b (goes_on (at_stage x Bits)) (ends (answer.Fault fault.Field)))
     page_by l sized true test = further Store task.Store z a s m x.g x.v (op_of x) steady right (at_stage x Bits)
-        (record { steady = steady_at z a (view s) m (task.Store (at_stage x Bits)) steady; right = right; task = (stores_at Page Bits l, subst (λ (n : ℕ). x.k < n) sized (ltb-true _ _ test)) })
+        (record { counts = steady.0; knows = steady.1; right = right; task = (stores_at Page Bits l, subst (λ (n : ℕ). x.k < n) sized (ltb-true _ _ test)) })
     page_by l sized false test = fault_at fault.Field (store_past (e.register x.g x.b) l.n l.through.names (subst (λ (n : ℕ). ltb x.k n ≡ false) sized test))
 
     page : (l : Stores z a (view s) (at_stage x Page) None) → Own Page None
@@ -120,14 +111,14 @@ module _ (laws : Known) (z : Arena) (a : ℕ) (s : Shared) (m : Processor) (x : 
       move = Quiet (asks (here Page));
       may = tt;
       words_are = refl;
-      after = does Page None s (page_by l (size_found laws z (view s) good l.n l.through.made (reach l.n l.through) m.layout x.at steady.sits.layout l.through.here) (has_field x.k (found Page)) refl);
+      after = does Page None s (page_by l (size_found laws z (view s) good l.n l.through.made (reach l.n l.through) m.poll.layout x.at steady.1.stands.sits.layout l.through.here) (has_field x.k (found Page)) refl);
     }
 
     -- the field's kind is that of the value, or not
     bits_by : (l : Stores z a (view s) (at_stage x Bits) None) → x.k < size l.n → (b : Bool) → fits (kind l.n) stored ≡ b → (differ : Bool) → differ ≡ not b → To s None (cond differ (ends (answer.Fault fault.Kind)) (goes_on (at_stage x Field)))
     bits_by l few true fit true is = absurd cc
     bits_by l few true fit false is = further Store task.Store z a s m x.g x.v (op_of x) steady right (at_stage x Field)
-        (record { steady = steady_at z a (view s) m (task.Store (at_stage x Field)) steady; right = right; task = (stores_at Bits Field l, few, fit) })
+        (record { counts = steady.0; knows = steady.1; right = right; task = (stores_at Bits Field l, few, fit) })
     bits_by l few false fit true is = fault_at fault.Kind (store_kind (e.register x.g x.b) stored l.n false l.through.names few fit)
     bits_by l few false fit false is = absurd cc
 
@@ -136,8 +127,8 @@ module _ (laws : Known) (z : Arena) (a : ℕ) (s : Shared) (m : Processor) (x : 
       move = Quiet (asks (here Bits));
       may = tt;
       words_are = refl;
-      after = does Bits None s (bits_by l few (fits (kind l.n) stored) refl (kinds_differ (is_pointer_by m.layout (x.at + x.k) (found Bits)) held)
-          (ap (λ (p : Bool). kinds_differ p held) (bit_found laws z (view s) good l.n l.through.made (reach l.n l.through) m.layout x.at steady.sits.layout l.through.here x.k few)
+      after = does Bits None s (bits_by l few (fits (kind l.n) stored) refl (kinds_differ (is_pointer_by m.poll.layout (x.at + x.k) (found Bits)) held)
+          (ap (λ (p : Bool). kinds_differ p held) (bit_found laws z (view s) good l.n l.through.made (reach l.n l.through) m.poll.layout x.at steady.1.stands.sits.layout l.through.here x.k few)
           ∙ differ_fits s.place e.made (kind l.n) stored held (means l.n l.through Bits l)));
     }
 
@@ -151,10 +142,10 @@ module _ (laws : Known) (z : Arena) (a : ℕ) (s : Shared) (m : Processor) (x : 
         value_reached = register_reached e x.g x.v l.through.runs.goes_on stored refl;
         holds = word_holds s.place e.made (kind l.n) stored held (means l.n l.through Field l) fit;
       };
-      words_are = ap (λ (i : ℕ). put s.words (cell.Field i) (word_of_value held)) (sym (word_is laws z (view s) good l.n l.through.made (reach l.n l.through) m.layout x.at steady.sits.layout l.through.here x.k few));
+      words_are = ap (λ (i : ℕ). put s.words (cell.Field i) (word_of_value held)) (sym (word_is laws z (view s) good l.n l.through.made (reach l.n l.through) m.poll.layout x.at steady.1.stands.sits.layout l.through.here x.k few));
       after = does Field None t (record {
         after = None;
-        fine = idle z a (view t) m steady-then ((laws.follow z a s false (lists m.cache) None right).written l.n x.k stored (word_of_value held));
+        fine = idle z a (view t) m steady-then ((laws.follow z a s false (lists m.poll.local.cache) None right).written l.n x.k stored (word_of_value held));
         ever = sym next;
         answers = ap (λ (y : Answer). y ∷ []) is;
       });
@@ -163,12 +154,7 @@ module _ (laws : Known) (z : Arena) (a : ℕ) (s : Shared) (m : Processor) (x : 
       t = moved z a s (Write l.n x.k stored (word_of_value held))
 
       steady-then : Steady z a (view t) m
-      steady-then = record {
-        sits = record { layout = steady.sits.layout; seat = steady.sits.seat; few = steady.sits.few; generation = steady.sits.generation; registers = steady.sits.registers; made = steady.sits.made; cache = steady.sits.cache };
-        registers = steady.registers;
-        counts = steady.counts;
-        caches = caches_in a (view s) (view t).field (with_field e l.n x.k stored) m steady.caches;
-      }
+      steady-then = steady_values z a (view s) m (view t).field (view s).global (with_field e l.n x.k stored) refl refl steady
 
       is : answer_of z.shapes e (op_of x) ≡ answer.Done
       is = store_kind (e.register x.g x.b) stored l.n true l.through.names few fit
@@ -185,7 +171,7 @@ module _ (laws : Known) (z : Arena) (a : ℕ) (s : Shared) (m : Processor) (x : 
     }
 
   own : (q : StoreStage) (pending : Option Answer) → Fine z a (view s) (here q) pending → Own q pending
-  own q pending fine = by q pending fine (steady_at z a (view s) (here q) m.task fine.steady) where
+  own q pending fine = by q pending fine (fine.counts, fine.knows) where
     by : (q : StoreStage) (pending : Option Answer) → Fine z a (view s) (here q) pending → Steady z a (view s) m → Own q pending
     by Page None fine steady = page steady fine.right fine.task
     by Bits None fine steady = bits steady fine.right fine.task.0 fine.task.1

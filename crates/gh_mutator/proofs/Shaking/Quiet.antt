@@ -13,17 +13,15 @@ use Rattle.gh_mutator.specs.declared.load.Load.{Load}
 use Rattle.gh_mutator.specs.declared.load.LoadStage.TheVariants as load_stage
 use Rattle.gh_mutator.specs.declared.mark_stack.MarkStackStage.{MarkStackStage}
 use Rattle.gh_mutator.specs.declared.mark_stack.MarkStackStage.TheVariants as mark_stage
-use Rattle.gh_mutator.specs.declared.new.NewStage.TheVariants as new_stage
 use Rattle.gh_mutator.specs.declared.store.Store.{Store}
 use Rattle.gh_mutator.specs.declared.store.StoreStage.TheVariants as store_stage
 use Rattle.gh_mutator.specs.Give as give
 use Rattle.gh_mutator.specs.Global as global
 use Rattle.gh_mutator.specs.Load as load
 use Rattle.gh_mutator.specs.MarkStack as mark
-use Rattle.gh_mutator.specs.New as new
 use Rattle.gh_mutator.specs.Quiet.{ProcessorIsQuiet}
 use Rattle.gh_mutator.specs.Store as store
-use Rattle.gh_mutator.specs.Vocabulary.{Global, Layout, LoadStage, NewStage, StoreStage, Value}
+use Rattle.gh_mutator.specs.Vocabulary.{Global, Layout, LoadStage, StoreStage, Value}
 
 stacks : (s : stack.StackScan) (stage : StackStage) → IsQuiet (stack.asks_at s stage)
 stacks s (stack_stage.Shade register reference) = tt
@@ -63,10 +61,6 @@ module _ (q : MarkingIsQuiet) (a : AllocationIsQuiet) where
   marks m mark_stage.Store = stacks m.scan m.scan.stage
   marks m mark_stage.Ended = tt
 
-  news : (stage : NewStage) → IsQuiet (new.asks_at stage)
-  news (new_stage.Find f) = a.finds f
-  news (new_stage.Place p) = a.places p
-
   pub is_quiet : ProcessorIsQuiet
   is_quiet = record {
     gives_back = λ g. gives g g.stage;
@@ -75,7 +69,6 @@ module _ (q : MarkingIsQuiet) (a : AllocationIsQuiet) where
     stores = λ l held x. stores l held x x.stage;
     globals = λ l held x. globals l held x x.stage;
     registers = λ x. tt;
-    news = news;
-    polls = λ seat. tt;
-    ends = λ seat g. tt;
+    searches = a.searches;
+    makes = a.places;
   }

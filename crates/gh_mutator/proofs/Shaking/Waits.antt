@@ -1,5 +1,5 @@
 -- Each step of a wait, and of a leave, is one of the handshake of a stop: by its stages.
-use Rattle.std.proofs.Common.{◌≡◌, ℕ, Bool, true, false, cond, refl, ◌∙◌, inl, inr, ltb, Option, Some, None}
+use Rattle.std.proofs.Common.{◌≡◌, ℕ, Bool, true, false, cond, refl, inl, inr, ltb, Option, Some, None}
 use Rattle.gh_base.specs.declared.layout.Layout.{Layout}
 use Rattle.gh_phase.specs.Handshake.{Awake, Gone, PlaceBegins, Acts, StageGoes}
 use Rattle.gh_phase.specs.declared.view.View.{View}
@@ -10,7 +10,7 @@ use Rattle.gh_mutator.specs.declared.poll.PollStage.TheVariants as poll_stage
 use Rattle.gh_mutator.specs.declared.wait.WaitStage.{WaitStage}
 use Rattle.gh_mutator.specs.declared.wait.WaitStage.TheVariants.{Want, Polling, LoadSwept, Ended}
 use Rattle.gh_mutator.specs.Give as give
-use Rattle.gh_mutator.specs.Handshake.{HasPlaces, IsPlace, leaver, leaves_at, LeavesInHandshake, PollsFor, PollsInHandshake, SoundWait, wait_stage_of, waiter_at, waiter_of, waits_at, WaitsInHandshake, WaitsSoundAt}
+use Rattle.gh_mutator.specs.Handshake.{HasPlaces, IsPlace, leaver, leaves_at, LeavesInHandshake, PollsInHandshake, PollsOn, SoundWait, wait_stage_of, waiter_at, waiter_of, waits_at, WaitsInHandshake, WaitsSoundAt}
 use Rattle.gh_mutator.specs.Leave.{Leaving, stage_of}
 use Rattle.gh_mutator.specs.Leave as leave
 use Rattle.gh_mutator.specs.Poll as poll
@@ -21,17 +21,17 @@ use Rattle.gh_mutator.specs.Wait.{after_poll, asks_at, at_stage, goes_at, is_bus
 -- a step at this stage leads here
 record Goes (found : ℕ) (w : Waiting) (stage : WaitStage) (to : Waiting) : Type 0 where
   sound : SoundWait to
-  goes : StageGoes found (waiter_at w stage) (waits_at w stage) (asks_at stage) (waiter_of to) (wait_stage_of to)
+  goes : StageGoes found (waiter_at w stage) (waits_at w stage) (asks_at w stage) (waiter_of to) (wait_stage_of to)
 
-polls_on : (w : Waiting) → HasPlaces w.local.cache → SoundWait (polling w)
-polls_on w has = (has, record { seat_is = refl; busy = refl; sound = (has, tt) })
+polls_on : (w : Waiting) → HasPlaces w.poll.local.cache → SoundWait (polling w)
+polls_on w has = (has, record { busy = refl; sound = (has, tt) })
 
-either : (found : ℕ) (w : Waiting) → HasPlaces w.local.cache → (later : Bool) → Goes found w LoadSwept (cond later (at_stage w Ended) (polling w))
+either : (found : ℕ) (w : Waiting) → HasPlaces w.poll.local.cache → (later : Bool) → Goes found w LoadSwept (cond later (at_stage w Ended) (polling w))
 either found w has true = record { sound = (has, tt); goes = (refl, tt, tt) }
 either found w has false = record { sound = polls_on w has; goes = (refl, tt, tt) }
 
 -- a poll that has given something has ended
-ended : (p : poll.Polling) (stage : PollStage) (x : Unit {0}) → poll.given stage ≡ Some x → poll.is_busy stage ≡ false
+pub ended : (p : poll.Polling) (stage : PollStage) (x : Unit {0}) → poll.given stage ≡ Some x → poll.is_busy stage ≡ false
 ended p poll_stage.Ended x e = refl
 ended p poll_stage.LoadPhase x e = absurd cc
 ended p (poll_stage.Giving g stops) x e = absurd cc
@@ -40,32 +40,32 @@ ended p (poll_stage.Marking g m) x e = absurd cc
 ended p (poll_stage.FindRoom r) x e = absurd cc
 
 module _ (h : PollsInHandshake) where
-  polled : (found : ℕ) (w : Waiting) → HasPlaces w.local.cache → (p : poll.Polling) → PollsFor w.seat p → (out : Option (Unit {0})) → poll.gives p found ≡ out → Goes found w (Polling p) (after_poll w (poll.goes p found) out)
-  polled found w has p s None e =
-      record { sound = (has, record { seat_is = h.seat_stays p found s.sound s.busy ∙ s.seat_is; busy = (ends p found s.busy).0 (rw e refl); sound = h.keeps.stays_sound p found s.sound s.busy }); goes = h.keeps.goes p found s.sound s.busy }
-  polled found w has p s (Some x) e =
-      let last = h.ends (poll.goes p found) (ended p (poll.goes p found).stage x e) in
-      let seat : (poll.goes p found).seat ≡ w.seat = h.seat_stays p found s.sound s.busy ∙ s.seat_is in
-      record { sound = ((h.keeps.stays_sound p found s.sound s.busy).0, tt); goes = rw (← seat, ← last.0, ← last.1) (h.keeps.goes p found s.sound s.busy) }
+  polled : (found : ℕ) (w : Waiting) → PollsOn w.poll → (out : Option (Unit {0})) → poll.gives w.poll found ≡ out → Goes found w Polling (after_poll w (poll.goes w.poll found) out)
+  polled found w s None e =
+      let sound = h.keeps.stays_sound w.poll found s.sound s.busy in
+      record { sound = (sound.0, record { busy = (ends w.poll found s.busy).0 (rw e refl); sound = sound }); goes = h.keeps.goes w.poll found s.sound s.busy }
+  polled found w s (Some x) e =
+      let last = h.ends (poll.goes w.poll found) (ended w.poll (poll.goes w.poll found).stage x e) in
+      record { sound = ((h.keeps.stays_sound w.poll found s.sound s.busy).0, tt); goes = rw (← last.0, ← last.1) (h.keeps.goes w.poll found s.sound s.busy) }
 
-  goes_at_stage : (found : ℕ) (w : Waiting) (stage : WaitStage) → HasPlaces w.local.cache → WaitsSoundAt w stage → is_busy stage ≡ true → Goes found w stage (goes_at w stage found)
+  goes_at_stage : (found : ℕ) (w : Waiting) (stage : WaitStage) → HasPlaces w.poll.local.cache → WaitsSoundAt w stage → is_busy stage ≡ true → Goes found w stage (goes_at w stage found)
   goes_at_stage found w Want has s busy = record { sound = polls_on w has; goes = (refl, tt, tt) }
-  goes_at_stage found w (Polling p) has s busy = polled found w has p s (poll.gives p found) refl
-  goes_at_stage found w LoadSwept has s busy = either found w has (ltb w.known found)
+  goes_at_stage found w Polling has s busy = polled found w s (poll.gives w.poll found) refl
+  goes_at_stage found w LoadSwept has s busy = either found w has (ltb w.wait.known found)
   goes_at_stage found w Ended has s busy = absurd cc
 
-  ends_at : (w : Waiting) (stage : WaitStage) → is_busy stage ≡ false → IsPlace (waiter_at w stage) (waits_at w stage) w.seat w.local
+  ends_at : (w : Waiting) (stage : WaitStage) → is_busy stage ≡ false → IsPlace (waiter_at w stage) (waits_at w stage) w.poll.seat w.poll.local
   ends_at w Ended e = (refl, refl)
   ends_at w Want e = absurd cc
-  ends_at w (Polling p) e = absurd cc
+  ends_at w Polling e = absurd cc
   ends_at w LoadSwept e = absurd cc
 
   pub waits_in_handshake : WaitsInHandshake
   waits_in_handshake = record {
-    sound = λ l seat local has. (has, tt);
-    begins = λ l seat local. (refl, refl);
-    keeps = record { stays_sound = λ w found s busy. (goes_at_stage found w w.stage s.0 s.1 busy).sound; goes = λ w found s busy. (goes_at_stage found w w.stage s.0 s.1 busy).goes };
-    ends = λ w e. ends_at w w.stage e;
+    sound = λ p has. (has, tt);
+    begins = λ p. (refl, refl);
+    keeps = record { stays_sound = λ w found s busy. (goes_at_stage found w w.wait.stage s.0 s.1 busy).sound; goes = λ w found s busy. (goes_at_stage found w w.wait.stage s.0 s.1 busy).goes };
+    ends = λ w e. ends_at w w.wait.stage e;
   }
 
 -- leaving

@@ -4,7 +4,7 @@ use Rattle.gh_mutator.specs.Sound.{SoundWanted}
 use Rattle.gh_mutator.proofs.ClassFacts.{ClassLaws, wanted_sound}
 use Rattle.gh_mutator.proofs.processor.Processor.begin_new.Goals as goal
 
-pub finding-requires-clause-wanted : goal.finding-requires-clause-wanted
-finding-requires-clause-wanted c =
+pub seeking-search-requires : goal.seeking-search-requires
+seeking-search-requires c =
     let laws : ClassLaws = search rules in
-    subst (λ (w : Wanted). SoundWanted c.args.shapes.now w) (sym c.of-wanted.ensures) (wanted_sound laws c.args.shapes.now c.args.g c.args.d c.args.t c.requires.fit c.requires.there c.requires.register)
+    record { wanted = subst (λ (w : Wanted). SoundWanted c.args.shapes.now w) (sym c.of-wanted.ensures) (wanted_sound laws c.args.shapes.now c.args.g c.args.d c.args.t c.requires.fit c.requires.there c.requires.register) }

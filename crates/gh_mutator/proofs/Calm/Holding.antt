@@ -1,0 +1,195 @@
+-- A processor that holds no buffer, and does not know that marking is on, holds none behind its step.
+use Rattle.std.proofs.Common.{◌≡◌, ◌≢◌, ℕ, ◌+◌, Bool, true, false, cond, eqb, ltb, List, [], ◌∷◌, drop, Option, Some, None, refl, subst}
+use Rattle.gh_base.specs.Packing.{phase_of}
+use Rattle.gh_alloc.specs.Place as place
+use Rattle.gh_alloc.specs.Search as search
+use Rattle.gh_phase.specs.declared.resume.ResumeStage.{ResumeStage}
+use Rattle.gh_phase.specs.declared.resume.ResumeStage.TheVariants as resume_stage
+use Rattle.gh_phase.specs.declared.view.RunPhase.{RunPhase}
+use Rattle.gh_phase.specs.declared.view.RunPhase.TheVariants as run
+use Rattle.gh_phase.specs.Listing as resume
+use Rattle.gh_phase.specs.ResumePlaces as resumes
+use Rattle.gh_phase.specs.Views.{run_phase}
+use Rattle.gh_mutator.specs.declared.give.GiveStage.TheVariants as give_stage
+use Rattle.gh_mutator.specs.declared.leave.LeaveStage.TheVariants as leave_stage
+use Rattle.gh_mutator.specs.declared.poll.PollStage.TheVariants as poll_stage
+use Rattle.gh_mutator.specs.declared.task.Task.TheVariants as task
+use Rattle.gh_mutator.specs.declared.wait.WaitStage.TheVariants as wait_stage
+use Rattle.gh_mutator.specs.Calm.{GivesNoBuffer, HoldsNoBuffer, IsNoBuffer, KnowsNoMarking, LeavesWithNone, MakesWithNone, PollsWithNone, RunsWithNone, WaitsWithNone}
+use Rattle.gh_mutator.specs.Give as give
+use Rattle.gh_mutator.specs.Global as global
+use Rattle.gh_mutator.specs.Handshake.{poller_at, polls_at, waiter_at, waits_at}
+use Rattle.gh_mutator.specs.Leave as leave
+use Rattle.gh_mutator.specs.Listing.{after_gc, after_leave, after_poll, applied, follows, takes_at}
+use Rattle.gh_mutator.specs.Load as load
+use Rattle.gh_mutator.specs.Local.{leaving}
+use Rattle.gh_mutator.specs.MarkVocabulary.{CachedSpan, GiveStage, Held, Layout, LeaveStage, PollStage, Value, WaitStage}
+use Rattle.gh_mutator.specs.New as new
+use Rattle.gh_mutator.specs.Poll as poll
+use Rattle.gh_mutator.specs.Processor.{cache_span, register_of, taking}
+use Rattle.gh_mutator.specs.ProcessorPlaces.{party_at, stage_at}
+use Rattle.gh_mutator.specs.Register as register
+use Rattle.gh_mutator.specs.Store as store
+use Rattle.gh_mutator.specs.Vocabulary.{At, Ends, Found, GoesOn, Leaving, NewStage, NoRoom, Place, Placing, Polling, Processor, Search, Seeking, Shape, Step, Task, Then, Wait, Waiting, Wanted}
+use Rattle.gh_mutator.specs.Wait as wait
+
+-- The giving back.
+first_none : (class : ℕ) (spans : List (Option CachedSpan)) → IsNoBuffer (give.first_of class spans)
+first_none class [] = tt
+first_none class (Some s ∷ spans) = tt
+first_none class (None ∷ spans) = first_none (class + 1) spans
+
+buffer_none : (l : Layout) (held : Option Held) → held ≡ None → IsNoBuffer (give.giving_buffer l held)
+buffer_none l None e = tt
+buffer_none l (Some h) e = absurd (cc)
+
+begins_none : (l : Layout) (held : Option Held) (q : GiveStage) → held ≡ None → IsNoBuffer (give.begins l held q)
+begins_none l held give_stage.Lock e = tt
+begins_none l held (give_stage.GiveSpan class s) e = tt
+begins_none l held give_stage.Unlock e = buffer_none l held e
+begins_none l held (give_stage.GiveBuffer b) e = tt
+begins_none l held give_stage.Ended e = tt
+
+opening_none : (l : Layout) (seat generation : ℕ) (cache : List (Option CachedSpan)) (held : Option Held) → held ≡ None → GivesNoBuffer (give.opening l seat generation cache held)
+opening_none l seat generation cache held e = (e, begins_none l held (give.stage_from cache 0) e)
+
+gives_none : (g : give.Giving) (q : GiveStage) (found : ℕ) → g.held ≡ None → IsNoBuffer q → GivesNoBuffer (give.goes_at g q found)
+gives_none g give_stage.Lock found e x = (e, by (eqb found 0)) where
+  by : (free : Bool) → IsNoBuffer (cond free (give.stage_from g.cache 0) give_stage.Lock)
+  by true = first_none 0 (drop 0 g.cache)
+  by false = tt
+gives_none g (give_stage.GiveSpan class s) found e x = (e, first_none (class + 1) (drop (class + 1) g.cache))
+gives_none g give_stage.Unlock found e x = (e, buffer_none g.layout g.held e)
+gives_none g (give_stage.GiveBuffer b) found e x = absurd x
+gives_none g give_stage.Ended found e x = (e, tt)
+
+-- A poll.
+abbrev PollHoldsNone : Polling → Type 0
+PollHoldsNone p = (p.local.held ≡ None) × PollsWithNone p.stage
+
+stops_none : (p : Polling) (g : give.Giving) (stops : ℕ) → p.local.held ≡ None → GivesNoBuffer g → PollHoldsNone (poll.stops_then p g stops)
+stops_none p g stops e x = by (give.is_busy g.stage) where
+  by : (busy : Bool) → PollHoldsNone (cond busy (poll.at_stage p (poll_stage.Giving g stops)) (record p { local = record (p.local) { cache = g.cache; held = g.held }; stage = poll_stage.Resuming (resume.opening p.layout p.seat stops p.local.view) }))
+  by true = (e, x)
+  by false = (x.0, tt)
+
+marks_none : (p : Polling) (phase : RunPhase) → phase ≢ run.Mark → p.local.held ≡ None → PollHoldsNone (poll.marks_then p phase)
+marks_none p run.Off off e = (e, tt)
+marks_none p run.Mark off e = absurd (off refl)
+marks_none p run.Finished off e = (e, tt)
+
+phases_none : (p : Polling) (stops : ℕ) (phase : Option RunPhase) → p.local.view.phase ≢ run.Mark → p.local.held ≡ None → PollHoldsNone (poll.by_phase p stops phase)
+phases_none p stops None off e = stops_none p (poll.giving p) stops e (opening_none p.layout p.seat p.local.view.generation p.local.cache p.local.held e)
+phases_none p stops (Some phase) off e = marks_none p p.local.view.phase off e
+
+resume_none : (p : Polling) (r : resume.Resuming) (q : ResumeStage) (found : ℕ) → p.local.held ≡ None → KnowsNoMarking (resumes.party_of r) (resumes.stands_at r.stops q) → PollHoldsNone (poll.after_resume p (resume.goes_at r q found) (resume.gives_at r q found))
+resume_none p r resume_stage.Acknowledge found e off = (e, tt)
+resume_none p r resume_stage.LoadPhase found e off = (e, tt)
+resume_none p r resume_stage.LoadGeneration found e off = (e, tt)
+resume_none p r resume_stage.LoadBegun found e off = marks_none (poll.resumed p (resume.resumed r.view found)) r.view.phase off e
+resume_none p r resume_stage.Ended found e off = (e, tt)
+
+poll_none : (p : Polling) (q : PollStage) (found : ℕ) → p.local.held ≡ None → PollsWithNone q → KnowsNoMarking (poller_at p q) (polls_at p q) → PollHoldsNone (poll.goes_at p q found)
+poll_none p poll_stage.LoadPhase found e x off = phases_none p (phase_of found).stops (run_phase (phase_of found).phase) off e
+poll_none p (poll_stage.Giving g stops) found e x off = stops_none p (give.goes g found) stops e (gives_none g g.stage found x.0 x.1)
+poll_none p (poll_stage.Resuming r) found e x off = resume_none p r r.stage found e off
+poll_none p (poll_stage.Marking g m) found e x off = absurd x
+poll_none p (poll_stage.FindRoom r) found e x off = absurd x
+poll_none p poll_stage.Ended found e x off = (e, tt)
+
+-- A wait.
+abbrev WaitHoldsNone : Waiting → Type 0
+WaitHoldsNone w = (w.poll.local.held ≡ None) × WaitsWithNone w.poll w.wait.stage
+
+wait_none : (w : Waiting) (q : WaitStage) (found : ℕ) → w.poll.local.held ≡ None → WaitsWithNone w.poll q → KnowsNoMarking (waiter_at w q) (waits_at w q) → WaitHoldsNone (wait.goes_at w q found)
+wait_none w wait_stage.Want found e x off = (e, tt)
+wait_none w wait_stage.Polling found e x off = by (poll.goes w.poll found) (poll.gives w.poll found) (poll_none w.poll w.poll.stage found e x off) where
+  by : (p : Polling) (out : Option (Unit {0})) → PollHoldsNone p → WaitHoldsNone (wait.after_poll w p out)
+  by p None h = h
+  by p (Some u) h = (h.0, tt)
+wait_none w wait_stage.LoadSwept found e x off = by (ltb w.wait.known found) where
+  by : (later : Bool) → WaitHoldsNone (cond later (wait.at_stage w wait_stage.Ended) (wait.polling w))
+  by true = (e, tt)
+  by false = (e, tt)
+wait_none w wait_stage.Ended found e x off = (e, tt)
+
+-- Leaving.
+left_none : (g : give.Giving) → GivesNoBuffer g → LeavesWithNone (leave.stage_of g)
+left_none g x = by (give.is_busy g.stage) where
+  by : (busy : Bool) → LeavesWithNone (cond busy (leave_stage.Giving g) leave_stage.Leave)
+  by true = x
+  by false = tt
+
+leave_none : (x : Leaving) (q : LeaveStage) (found : ℕ) → LeavesWithNone q → LeavesWithNone (leave.goes_at x q found).stage
+leave_none x (leave_stage.Giving g) found h = left_none (give.goes g found) (gives_none g g.stage found h.0 h.1)
+leave_none x leave_stage.Leave found h = tt
+leave_none x leave_stage.Left found h = tt
+
+pub begins_leave : (p : Polling) → p.local.held ≡ None → LeavesWithNone (leaving p).stage
+begins_leave p e = left_none (give.opening p.layout p.seat p.local.view.generation p.local.cache p.local.held) (opening_none p.layout p.seat p.local.view.generation p.local.cache p.local.held e)
+
+-- By its tasks.
+taking_none : (m : Processor) (g d : ℕ) (v : Option Value) → m.poll.local.held ≡ None → (taking m g d v).poll.local.held ≡ None
+taking_none m g d None e = e
+taking_none m g d (Some v) e = e
+
+-- no part of the task holds one
+abbrev RunsNone : Task → Type 0
+RunsNone t = (p : Polling) → RunsWithNone p t
+
+applied_none : {S : Type 0} (into : S → Task) (m : Processor) (g d : ℕ) (step : Step S) → ((y : S) → RunsNone (into y)) → m.poll.local.held ≡ None → HoldsNoBuffer (applied into m g d step)
+applied_none {S} into m g d step plain e = record { none = taking_none m g d step.sets e; runs = by step.then (taking m g d step.sets).poll } where
+  by : (then : Then S) → RunsNone (follows into then)
+  by (GoesOn y) = plain y
+  by (Ends a) = λ p. tt
+
+found_none : (shapes : List Shape) (m : Processor) (w : Wanted) (waited : Bool) (c : Option CachedSpan) (s : Seeking) (out : Option Found) → m.poll.local.held ≡ None → HoldsNoBuffer (new.after_search shapes (cache_span m w.sought c) w waited s out)
+found_none shapes m w waited c s None e = record { none = e; runs = tt }
+found_none shapes m w waited c s (Some (At a)) e = record { none = e; runs = tt }
+found_none shapes m w true c s (Some NoRoom) e = record { none = e; runs = tt }
+found_none shapes m w false c s (Some NoRoom) e = record { none = e; runs = tt }
+
+made_none : (m : Processor) (w : Wanted) (made : Bool) (a : ℕ) (y : Placing) → m.poll.local.held ≡ None → HoldsNoBuffer (new.after_place m w made a y)
+made_none m w made a y e = by made (place.is_busy y.stage) where
+  runs : (more : Bool) (p : Polling) → RunsWithNone p (cond more (new.makes w y) task.Idle)
+  runs true p = tt
+  runs false p = tt
+
+  by : (made more : Bool) → HoldsNoBuffer (record (cond made (new.made_object m w a) m) { task = cond more (new.makes w y) task.Idle })
+  by true more = record { none = e; runs = runs more (new.made_object m w a).poll }
+  by false more = record { none = e; runs = runs more m.poll }
+
+module _ (shapes : List Shape) (m : Processor) (found : ℕ) (e : m.poll.local.held ≡ None) where
+  gc_none : (g : ℕ) (w : Waiting) (out : Option (Unit {0})) → WaitHoldsNone w → HoldsNoBuffer (after_gc m g w out)
+  gc_none g w None h = record { none = h.0; runs = h.1 }
+  gc_none g w (Some u) h = record { none = h.0; runs = tt }
+
+  waited_none : (n : Wanted) (w : Waiting) (out : Option (Unit {0})) → WaitHoldsNone w → HoldsNoBuffer (new.after_wait m n w out)
+  waited_none n w None h = record { none = h.0; runs = h.1 }
+  waited_none n w (Some u) h = record { none = h.0; runs = tt }
+
+  polled_none : (p : Polling) (out : Option (Unit {0})) → PollHoldsNone p → HoldsNoBuffer (after_poll m p out)
+  polled_none p None h = record { none = h.0; runs = h.1 }
+  polled_none p (Some u) h = record { none = h.0; runs = tt }
+
+  gone_none : (x : Leaving) (out : Option (Unit {0})) → LeavesWithNone x.stage → HoldsNoBuffer (after_leave m x out)
+  gone_none x None h = record { none = e; runs = h }
+  gone_none x (Some u) h = record { none = e; runs = tt }
+
+  new_none : (n : Wanted) (q : NewStage) → MakesWithNone m.poll q → KnowsNoMarking (party_at m.poll (task.New (record { wanted = n; stage = q }))) (stage_at m.poll (task.New (record { wanted = n; stage = q }))) → HoldsNoBuffer (new.takes_at shapes m n q found)
+  new_none n (Search waited y) x off = found_none shapes m n waited (search.goes y found).find.cached (search.goes y found) (search.gives y found) e
+  new_none n (Wait y) x off = let w : Waiting = wait.waiting y m.poll in waited_none n (wait.goes w found) (wait.gives w found) (wait_none w y.stage found e x off)
+  new_none n (Place y) x off = made_none m n (place.acts y) y.at (place.goes y found) e
+
+  pub holds_at : (t : Task) → RunsWithNone m.poll t → KnowsNoMarking (party_at m.poll t) (stage_at m.poll t) → t ≡ m.task → HoldsNoBuffer (takes_at shapes m t found)
+  holds_at task.Idle x off is = record { none = e; runs = subst (λ (t : Task). RunsWithNone m.poll t) is tt }
+  holds_at task.Left x off is = record { none = e; runs = subst (λ (t : Task). RunsWithNone m.poll t) is tt }
+  holds_at (task.Load y) x off is = applied_none task.Load m y.g y.d (load.step m.poll.layout y found) (λ y p. tt) e
+  holds_at (task.Store y) x off is = applied_none task.Store m y.g y.v (store.step m.poll.layout (register_of m y.g y.v) y found) (λ y p. tt) e
+  holds_at (task.Global y) x off is = applied_none task.Global m y.g y.r (global.step m.poll.layout (register_of m y.g y.r) y found) (λ y p. tt) e
+  holds_at (task.Register y) x off is = applied_none task.Register m y.g y.d (register.step (register_of m y.g (register.read_of y)) y) (λ y p. tt) e
+  holds_at (task.New y) x off is = new_none y.wanted y.stage x off
+  holds_at (task.Gc g y) x off is = let w : Waiting = wait.waiting y m.poll in gc_none g (wait.goes w found) (wait.gives w found) (wait_none w y.stage found e x off)
+  holds_at task.Poll x off is = polled_none (poll.goes m.poll found) (poll.gives m.poll found) (poll_none m.poll m.poll.stage found e x off)
+  holds_at (task.End g) x off is = record { none = e; runs = tt }
+  holds_at (task.Leave y) x off is = gone_none (leave.goes y found) (leave.gives y found) (leave_none y y.stage found x)

@@ -1,0 +1,166 @@
+-- A calm processor marks nothing, and stays calm as long as it does not find that marking is on.
+use Rattle.std.proofs.Common.{◌≡◌, ◌≢◌, ℕ, Bool, true, false, cond, eqb, List, Option, Some, None, refl, ap, subst, inl, inr, sym}
+use Rattle.gh_base.specs.declared.cell.Ask.TheVariants.{Load}
+use Rattle.gh_base.specs.declared.cell.Cell.TheVariants as cell
+use Rattle.gh_base.specs.declared.operation.Op.TheVariants as op
+use Rattle.gh_base.specs.Packing.{phase_of}
+use Rattle.gh_base.specs.Rows.{CellsAreTold}
+use Rattle.gh_phase.specs.declared.resume.ResumeStage.{ResumeStage}
+use Rattle.gh_phase.specs.declared.resume.ResumeStage.TheVariants as resume_stage
+use Rattle.gh_phase.specs.declared.view.RunPhase.{RunPhase}
+use Rattle.gh_phase.specs.declared.view.RunPhase.TheVariants as run
+use Rattle.gh_phase.specs.Handshake.{Acts, Awake, by_phase, Gives, Gone, Leaves, Party, PlaceBegins, resume_goes, Resumes, resume_view, Stage, StageGoes, with_phase}
+use Rattle.gh_phase.specs.Shakes.{IsParked}
+use Rattle.gh_phase.specs.Views.{run_phase}
+use Rattle.gh_mutator.specs.declared.leave.LeaveStage.TheVariants as leave_stage
+use Rattle.gh_mutator.specs.declared.poll.PollStage.TheVariants as poll_stage
+use Rattle.gh_mutator.specs.declared.task.Task.TheVariants as task
+use Rattle.gh_mutator.specs.declared.wait.WaitStage.TheVariants as wait_stage
+use Rattle.gh_mutator.specs.Calm.{CalmProcessorsMarkNothing, FindsNoMarking, HoldsNoBuffer, IsWrittenCalmly, KnowsNoMarking, LeavesWithNone, MakesWithNone, PollsWithNone, RunsWithNone, WaitsWithNone}
+use Rattle.gh_mutator.specs.Deeds.{processor_kind}
+use Rattle.gh_mutator.specs.Handshake.{leaves_at, polls_at, waits_at}
+use Rattle.gh_mutator.specs.Listing.{asks, begins}
+use Rattle.gh_mutator.specs.MarkVocabulary.{Ask, LeaveStage, PollStage, View, WaitStage}
+use Rattle.gh_mutator.specs.ProcessorMarks.{MarksByMoves}
+use Rattle.gh_mutator.specs.ProcessorPlaces.{new_stage_at, party_of, ProcessorInHandshake, stage_at, stage_of}
+use Rattle.gh_mutator.specs.Serving.{has_left_at}
+use Rattle.gh_mutator.specs.Vocabulary.{Layout, NewStage, Op, Place, Polling, Processor, Search, Shape, Task, Wait, Waiting}
+use Rattle.gh_mutator.specs.Wait as wait
+use Rattle.gh_mutator.proofs.Calm.Holding.{begins_leave, holds_at}
+use Rattle.gh_mutator.proofs.Calm.Writes.{writes_calmly}
+use Rattle.gh_mutator.proofs.Writing.Rows.{leaves_others}
+
+-- What it knows of the phase.
+knows_at : (party : Party) (stops : ℕ) (q : ResumeStage) → party.view.phase ≢ run.Mark → KnowsNoMarking party (Resumes stops q)
+knows_at party stops resume_stage.Acknowledge off = tt
+knows_at party stops resume_stage.LoadPhase off = tt
+knows_at party stops resume_stage.LoadGeneration off = off
+knows_at party stops resume_stage.LoadBegun off = off
+knows_at party stops resume_stage.Ended off = off
+
+knows : (party : Party) (stage : Stage) → party.view.phase ≢ run.Mark → KnowsNoMarking party stage
+knows party Awake off = off
+knows party (Gives stops) off = off
+knows party (Resumes stops q) off = knows_at party stops q off
+knows party Leaves off = off
+knows party Gone off = tt
+
+-- by the phase that it finds
+finds : (seat stops number : ℕ) (v : View) (phase : Option RunPhase) → phase ≢ Some run.Mark → KnowsNoMarking (record { seat = seat; view = with_phase v phase }) (by_phase stops number phase)
+finds seat stops number v None off = by (eqb number stops) where
+  by : (same : Bool) → KnowsNoMarking (record { seat = seat; view = v }) (cond same (Resumes stops resume_stage.LoadPhase) (Resumes number resume_stage.Acknowledge))
+  by true = tt
+  by false = tt
+finds seat stops number v (Some phase) off = λ e. off (ap (λ (x : RunPhase). Some x) e)
+
+resumes : (found : ℕ) (from : Party) (stops : ℕ) (q : ResumeStage) (step : Ask) → step ≡ Load cell.Phase → KnowsNoMarking from (Resumes stops resume_stage.LoadPhase) → FindsNoMarking step found → KnowsNoMarking (record from { view = resume_view from.view resume_stage.LoadPhase found }) (resume_goes stops resume_stage.LoadPhase found)
+resumes found from stops q step e k off = finds from.seat stops (phase_of found).stops from.view (run_phase (phase_of found).phase) (off e)
+
+goes_on : (found : ℕ) (from : Party) (stage : Stage) (step : Ask) (to : Party) (next : Stage) → StageGoes found from stage step to next → KnowsNoMarking from stage → FindsNoMarking step found → KnowsNoMarking to next
+goes_on found from Awake step to next g k off = subst (λ (p : Party). KnowsNoMarking p next) (sym g.0) (knows from next k)
+goes_on found from (Gives stops) step to next g k off = subst (λ (p : Party). KnowsNoMarking p next) (sym g.0) (knows from next k)
+goes_on found from (Resumes stops q) step to next g k off = by q g k where
+  by : (q : ResumeStage) → StageGoes found from (Resumes stops q) step to next → KnowsNoMarking from (Resumes stops q) → KnowsNoMarking to next
+  by resume_stage.Acknowledge g k = rw (g.0, g.2) tt
+  by resume_stage.LoadPhase g k = rw (g.0, g.2) (resumes found from stops q step g.1 tt off)
+  by resume_stage.LoadGeneration g k = rw (g.0, g.2) k
+  by resume_stage.LoadBegun g k = rw (g.0, g.2) k
+  by resume_stage.Ended g k = rw (g.0, g.2) k
+goes_on found from Leaves step to next g k off = rw g.2 tt
+goes_on found from Gone step to next g k off = absurd g
+
+-- what is begun
+begins_on : (from : Party) (stage : Stage) (to : Party) (next : Stage) → PlaceBegins (Acts from stage) (Acts to next) → KnowsNoMarking from stage → KnowsNoMarking to next
+begins_on from stage to next (inl e) k =
+    let same : to ≡ from = cc in
+    let still : next ≡ stage = cc in
+    rw (same, still) k
+begins_on from stage to next (inr e) k =
+    let was : stage ≡ Awake = cc in
+    let same : to ≡ from = cc in
+    let leaves : next ≡ Leaves = cc in
+    rw (same, leaves) (subst (λ (s : Stage). KnowsNoMarking from s) was k)
+
+module _ (m : Processor) (e : m.poll.local.held ≡ None) where
+  begun_at : (shapes : List Shape) (o : Op) → HoldsNoBuffer (begins shapes m o)
+  begun_at shapes (op.New g d t) = record { none = e; runs = tt }
+  begun_at shapes (op.Load g d b n) = record { none = e; runs = tt }
+  begun_at shapes (op.Store g b n x) = record { none = e; runs = tt }
+  begun_at shapes (op.GetGlobal g d n) = record { none = e; runs = tt }
+  begun_at shapes (op.SetGlobal g n x) = record { none = e; runs = tt }
+  begun_at shapes (op.Int g d n) = record { none = e; runs = tt }
+  begun_at shapes (op.Move g d n) = record { none = e; runs = tt }
+  begun_at shapes (op.Nil g d) = record { none = e; runs = tt }
+  begun_at shapes (op.Gc g) = record { none = e; runs = tt }
+  begun_at shapes op.Poll = record { none = e; runs = tt }
+  begun_at shapes (op.End g) = record { none = e; runs = tt }
+  begun_at shapes op.Leave = record { none = refl; runs = begins_leave m.poll e }
+
+begun : (shapes : List Shape) (l : Layout) (m : Processor) (o : Op) → HoldsNoBuffer m → HoldsNoBuffer ((processor_kind shapes l).begins m o)
+begun shapes l m o h = by (has_left_at m.task) where
+  by : (left : Bool) → HoldsNoBuffer (cond left m (begins shapes m o))
+  by true = h
+  by false = begun_at m h.none shapes o
+
+-- One that stands still at a stop, or is gone.
+still_knows : (party : Party) (stage : Stage) (stops : ℕ) → IsParked stops stage → KnowsNoMarking party stage
+still_knows party Awake stops still = absurd still
+still_knows party (Gives n) stops still = absurd still
+still_knows party (Resumes n q) stops still = by q still where
+  by : (q : ResumeStage) → IsParked stops (Resumes n q) → KnowsNoMarking party (Resumes n q)
+  by resume_stage.Acknowledge still = tt
+  by resume_stage.LoadPhase still = tt
+  by resume_stage.LoadGeneration still = absurd still
+  by resume_stage.LoadBegun still = absurd still
+  by resume_stage.Ended still = absurd still
+still_knows party Leaves stops still = absurd still
+still_knows party Gone stops still = tt
+
+module _ (stops : ℕ) (p : Polling) where
+  poll_still : (q : PollStage) → IsParked stops (polls_at p q) → PollsWithNone q
+  poll_still poll_stage.LoadPhase still = tt
+  poll_still (poll_stage.Giving g n) still = absurd still
+  poll_still (poll_stage.Resuming r) still = tt
+  poll_still (poll_stage.Marking g n) still = absurd still
+  poll_still (poll_stage.FindRoom r) still = absurd still
+  poll_still poll_stage.Ended still = tt
+
+  wait_still : (w : Waiting) (q : WaitStage) → w.poll ≡ p → IsParked stops (waits_at w q) → WaitsWithNone p q
+  wait_still w wait_stage.Want e still = tt
+  wait_still w wait_stage.Polling e still = poll_still p.stage (subst (λ (x : Polling). IsParked stops (polls_at x x.stage)) e still)
+  wait_still w wait_stage.LoadSwept e still = tt
+  wait_still w wait_stage.Ended e still = tt
+
+  new_still : (q : NewStage) → IsParked stops (new_stage_at p q) → MakesWithNone p q
+  new_still (Search waited y) still = tt
+  new_still (Wait y) still = wait_still (wait.waiting y p) y.stage refl still
+  new_still (Place y) still = tt
+
+  leave_still : (q : LeaveStage) → IsParked stops (leaves_at q) → LeavesWithNone q
+  leave_still (leave_stage.Giving g) still = absurd still
+  leave_still leave_stage.Leave still = tt
+  leave_still leave_stage.Left still = tt
+
+  runs_still : (t : Task) → IsParked stops (stage_at p t) → RunsWithNone p t
+  runs_still task.Idle still = tt
+  runs_still task.Left still = tt
+  runs_still (task.Load y) still = tt
+  runs_still (task.Store y) still = tt
+  runs_still (task.Global y) still = tt
+  runs_still (task.Register y) still = tt
+  runs_still (task.New y) still = new_still y.stage still
+  runs_still (task.Gc g y) still = wait_still (wait.waiting y p) y.stage refl still
+  runs_still task.Poll still = poll_still p.stage still
+  runs_still (task.End g) still = tt
+  runs_still (task.Leave y) still = leave_still y.stage still
+
+pub calm_marks_nothing : CellsAreTold → ProcessorInHandshake → MarksByMoves → CalmProcessorsMarkNothing
+calm_marks_nothing told h k = record {
+  first = λ l seat. record { holds = record { none = refl; runs = tt }; knows = λ e. cc };
+  begins = λ shapes l m o sound rests c. record { holds = begun shapes l m o c.holds; knows = begins_on (party_of m) (stage_of m) _ _ (h.begins_so shapes l m o sound rests) c.knows };
+  lasts = λ shapes m found sound busy c off. record { holds = holds_at shapes m found c.holds.none m.task c.holds.runs c.knows refl; knows = goes_on found (party_of m) (stage_of m) (asks m) _ _ (h.takes_so shapes m found sound busy) c.knows off };
+  holds = λ shapes m found c. holds_at shapes m found c.holds.none m.task c.holds.runs c.knows refl;
+  writes = λ m c. writes_calmly m.poll m.made m.task c.holds.runs;
+  leaves = λ m words c calm off. leaves_others told (IsWrittenCalmly m) (asks m) words c (writes_calmly m.poll m.made m.task calm.holds.runs) off;
+  behind = λ z a s m stops still f. record { holds = record { none = (k.waits z a s m stops still f).no_buffer; runs = runs_still stops m.poll m.task still }; knows = still_knows (party_of m) (stage_of m) stops still };
+}

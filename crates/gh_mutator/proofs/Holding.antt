@@ -1,0 +1,9 @@
+pub mod Gives
+pub mod Known
+pub mod Leaves
+pub mod Lists
+pub mod Polls
+pub mod Ranges
+pub mod Scans
+pub mod Vocabulary
+pub mod Waits

@@ -1,0 +1,253 @@
+-- Each step of the whole processor is one of the handshake of a stop: by its tasks.
+use Rattle.std.proofs.Common.{◌≡◌, ℕ, Bool, true, false, cond, ◌↔◌, List, refl, sym, subst, ◌∙◌, inl, Option, Some, None, IsNone}
+use Rattle.std.proofs.lemmas.List.{length-set}
+use Rattle.gh_base.specs.declared.operation.Op.TheVariants as op
+use Rattle.gh_class.specs.Classes.{span_index}
+use Rattle.gh_alloc.specs.declared.sought.Sought.TheVariants.{Large, Small}
+use Rattle.gh_alloc.specs.Search as search
+use Rattle.gh_alloc.specs.Place as place
+use Rattle.gh_phase.specs.Handshake.{Acts, Awake, IsQuiet, PlaceBegins, StageGoes}
+use Rattle.gh_scan.specs.Quiet.{MarkingIsQuiet}
+use Rattle.gh_mutator.specs.declared.leave.LeaveStage.{LeaveStage}
+use Rattle.gh_mutator.specs.declared.leave.LeaveStage.TheVariants as leave_stage
+use Rattle.gh_mutator.specs.declared.task.Task.TheVariants as task
+use Rattle.gh_mutator.specs.declared.wait.Wait.{Wait as WaitState}
+use Rattle.gh_mutator.specs.Give as give
+use Rattle.gh_mutator.specs.Global as global
+use Rattle.gh_mutator.specs.Handshake.{HasPlaces, knower, leaver, leaves_at, LeavesInHandshake, PollsInHandshake, PollsOn, SoundWait, wait_stage_of, waiter_of, WaitsInHandshake}
+use Rattle.gh_mutator.specs.Leave as leave
+use Rattle.gh_mutator.specs.LeaveEnds as leave_proved
+use Rattle.gh_mutator.specs.Listing.{after_gc, after_leave, after_poll, applied, asks_at, begins, follows, is_busy_at, takes, takes_at}
+use Rattle.gh_mutator.specs.Load as load
+use Rattle.gh_mutator.specs.Local.{cache_with}
+use Rattle.gh_mutator.specs.New.{after_place, after_search, after_wait, made_object, makes}
+use Rattle.gh_mutator.specs.Poll as poll
+use Rattle.gh_mutator.specs.PollEnds as poll_proved
+use Rattle.gh_mutator.specs.Processor.{cache_span, register_of}
+use Rattle.gh_mutator.specs.ProcessorPlaces.{LeavesOn, party_at, party_of, ProcessorInHandshake, SoundAt, SoundPlace, stage_at, stage_of}
+use Rattle.gh_mutator.specs.Quiet.{ProcessorIsQuiet}
+use Rattle.gh_mutator.specs.Register as register
+use Rattle.gh_mutator.specs.Serving.{has_left_at}
+use Rattle.gh_mutator.specs.Store as store
+use Rattle.gh_mutator.specs.Vocabulary.{At, CachedSpan, Ends, Found, GoesOn, Leaving, NewStage, NoRoom, Op, Place, Placing, Polling, Processor, Search, Seeking, Shape, Sought, Step, Task, Then, Value, Wait, Waiting, Wanted}
+use Rattle.gh_mutator.specs.Wait as wait
+use Rattle.gh_mutator.specs.WaitEnds as wait_proved
+use Rattle.gh_mutator.proofs.Shaking.Acknowledging.{acks}
+
+-- a step at this task leads here
+record Goes (found : ℕ) (m : Processor) (t : Task) (to : Processor) : Type 0 where
+  sound : SoundPlace to
+  goes : StageGoes found (party_at m.poll t) (stage_at m.poll t) (asks_at m t) (party_of to) (stage_of to)
+
+-- it is awake there, of the same seat, and knows the same of the phase
+record Lands (m to : Processor) : Type 0 where
+  sound : SoundPlace to
+  party : party_of to ≡ knower m.poll
+  stage : stage_of to ≡ Awake
+
+awake : (found : ℕ) (m : Processor) (t : Task) (to : Processor) → party_at m.poll t ≡ knower m.poll → stage_at m.poll t ≡ Awake → IsQuiet (asks_at m t) → Lands m to → Goes found m t to
+awake found m t to party stage quiet l = record { sound = l.sound; goes = rw (party, stage, l.party, l.stage) (refl, quiet, tt) }
+
+-- at this task a processor is awake, whatever it has polled
+record Plain (t : Task) : Type 0 where
+  sound : (p : Polling) → SoundAt p t
+  party : (p : Polling) → party_at p t ≡ knower p
+  stage : (p : Polling) → stage_at p t ≡ Awake
+
+idle_plain : Plain task.Idle
+idle_plain = record { sound = λ p. tt; party = λ p. refl; stage = λ p. refl }
+
+lands : (m to : Processor) → HasPlaces to.poll.local.cache → knower to.poll ≡ knower m.poll → Plain to.task → Lands m to
+lands m to has same plain = record { sound = (has, plain.sound to.poll); party = plain.party to.poll ∙ same; stage = plain.stage to.poll }
+
+-- a statement's step
+applied_lands : {S : Type 0} (into : S → Task) (m : Processor) (g d : ℕ) (step : Step S) → HasPlaces m.poll.local.cache → ((y : S) → Plain (into y)) → Lands m (applied into m g d step)
+applied_lands {S} into m g d step has plain = by step.sets step.then where
+  follows_plain : (then : Then S) → Plain (follows into then)
+  follows_plain (GoesOn y) = plain y
+  follows_plain (Ends a) = idle_plain
+
+  by : (sets : Option Value) (then : Then S) → Lands m (applied into m g d (record { then = then; sets = sets; acts = step.acts }))
+  by None then = lands m _ has refl (follows_plain then)
+  by (Some v) then = lands m _ has refl (follows_plain then)
+
+load_plain : (x : _) → Plain (task.Load x)
+load_plain x = record { sound = λ p. tt; party = λ p. refl; stage = λ p. refl }
+
+store_plain : (x : _) → Plain (task.Store x)
+store_plain x = record { sound = λ p. tt; party = λ p. refl; stage = λ p. refl }
+
+global_plain : (x : _) → Plain (task.Global x)
+global_plain x = record { sound = λ p. tt; party = λ p. refl; stage = λ p. refl }
+
+register_plain : (x : _) → Plain (task.Register x)
+register_plain x = record { sound = λ p. tt; party = λ p. refl; stage = λ p. refl }
+
+search_plain : (w : Wanted) (waited : Bool) (s : Seeking) → Plain (task.New (record { wanted = w; stage = Search waited s }))
+search_plain w waited s = record { sound = λ p. tt; party = λ p. refl; stage = λ p. refl }
+
+make_plain : (w : Wanted) (p : Placing) → Plain (makes w p)
+make_plain w p = record { sound = λ q. tt; party = λ q. refl; stage = λ q. refl }
+
+-- a new object
+recached : (cache : List (Option CachedSpan)) (x : Sought) (c : Option CachedSpan) → HasPlaces cache → HasPlaces (cache_with cache x c)
+recached cache (Small k) c has = length-set cache (span_index k) c ∙ has
+recached cache (Large pages noscan) c has = has
+
+search_lands : (shapes : List Shape) (m : Processor) (w : Wanted) (waited : Bool) (s : Seeking) (c : Option CachedSpan) (out : Option Found) → HasPlaces m.poll.local.cache → Lands m (after_search shapes (cache_span m w.sought c) w waited s out)
+search_lands shapes m w waited s c None has = lands m _ (recached m.poll.local.cache w.sought c has) refl (search_plain w waited s)
+search_lands shapes m w waited s c (Some (At a)) has = lands m _ (recached m.poll.local.cache w.sought c has) refl (make_plain w _)
+search_lands shapes m w true s c (Some NoRoom) has = lands m _ (recached m.poll.local.cache w.sought c has) refl idle_plain
+search_lands shapes m w false s c (Some NoRoom) has =
+    let there = recached m.poll.local.cache w.sought c has in
+    record { sound = (there, ((there, tt), refl)); party = refl; stage = refl }
+
+place_lands : (m : Processor) (w : Wanted) (made : Bool) (a : ℕ) (p : Placing) → HasPlaces m.poll.local.cache → Lands m (after_place m w made a p)
+place_lands m w made a p has = by made (place.is_busy p.stage) where
+  either : (more : Bool) → Plain (cond more (makes w p) task.Idle)
+  either true = make_plain w p
+  either false = idle_plain
+
+  by : (made more : Bool) → Lands m (record (cond made (made_object m w a) m) { task = cond more (makes w p) task.Idle })
+  by true more = lands m _ has refl (either more)
+  by false more = lands m _ has refl (either more)
+
+-- what ends has ended
+ended : (busy : Bool) (u : Unit {0}) → IsNone (Some u) ↔ (busy ≡ true) → busy ≡ false
+ended true u e = absurd (let none : IsNone (Some u) = e.1 refl in cc)
+ended false u e = refl
+
+leave_seat : (x : Leaving) (stage : LeaveStage) (found : ℕ) → (leave.goes_at x stage found).seat ≡ x.seat
+leave_seat x (leave_stage.Giving g) found = refl
+leave_seat x leave_stage.Leave found = refl
+leave_seat x leave_stage.Left found = refl
+
+-- at rest it has left, or is idle
+idle_at : (t : Task) → is_busy_at t ≡ false → has_left_at t ≡ false → t ≡ task.Idle
+idle_at task.Idle rests stays = refl
+idle_at task.Left rests stays = absurd cc
+idle_at (task.Load x) rests stays = absurd cc
+idle_at (task.Store x) rests stays = absurd cc
+idle_at (task.Global x) rests stays = absurd cc
+idle_at (task.Register x) rests stays = absurd cc
+idle_at (task.New x) rests stays = absurd cc
+idle_at (task.Gc g x) rests stays = absurd cc
+idle_at task.Poll rests stays = absurd cc
+idle_at (task.End g) rests stays = absurd cc
+idle_at (task.Leave x) rests stays = absurd cc
+
+module _ (q : ProcessorIsQuiet) (k : MarkingIsQuiet) (h : PollsInHandshake) (v : WaitsInHandshake) (l : LeavesInHandshake) where
+  -- what a step of a wait leaves, where it has ended
+  record Woken (found : ℕ) (x y : Waiting) : Type 0 where
+    has : HasPlaces y.poll.local.cache
+    goes : StageGoes found (waiter_of x) (wait_stage_of x) (wait.asks x) (knower y.poll) Awake
+
+  wakes : (found : ℕ) (x : Waiting) → SoundWait x → wait.is_busy x.wait.stage ≡ true → (u : Unit {0}) → wait.gives x found ≡ Some u → Woken found x (wait.goes x found)
+  wakes found x s busy u e =
+      let over = ended (wait.is_busy (wait.goes x found).wait.stage) u (subst (λ (o : Option (Unit {0})). IsNone o ↔ (wait.is_busy (wait.goes x found).wait.stage ≡ true)) e (wait_proved.ends x found busy)) in
+      let last = v.ends (wait.goes x found) over in
+      record { has = (v.keeps.stays_sound x found s busy).0; goes = rw (← last.0, ← last.1) (v.keeps.goes x found s busy) }
+
+  gc_goes : (found : ℕ) (m : Processor) (g : ℕ) (x : WaitState) → SoundWait (wait.waiting x m.poll) → wait.is_busy x.stage ≡ true → (out : Option (Unit {0})) → wait.gives (wait.waiting x m.poll) found ≡ out →
+      Goes found m (task.Gc g x) (after_gc m g (wait.goes (wait.waiting x m.poll) found) out)
+  gc_goes found m g x s busy None e = let t = v.keeps.stays_sound (wait.waiting x m.poll) found s busy in record { sound = (t.0, (t, (wait_proved.ends (wait.waiting x m.poll) found busy).0 (rw e refl))); goes = v.keeps.goes (wait.waiting x m.poll) found s busy }
+  gc_goes found m g x s busy (Some u) e = let woken = wakes found (wait.waiting x m.poll) s busy u e in record { sound = (woken.has, tt); goes = woken.goes }
+
+  wait_goes : (found : ℕ) (m : Processor) (w : Wanted) (x : WaitState) → SoundWait (wait.waiting x m.poll) → wait.is_busy x.stage ≡ true → (out : Option (Unit {0})) → wait.gives (wait.waiting x m.poll) found ≡ out →
+      Goes found m (task.New (record { wanted = w; stage = Wait x })) (after_wait m w (wait.goes (wait.waiting x m.poll) found) out)
+  wait_goes found m w x s busy None e = let t = v.keeps.stays_sound (wait.waiting x m.poll) found s busy in record { sound = (t.0, (t, (wait_proved.ends (wait.waiting x m.poll) found busy).0 (rw e refl))); goes = v.keeps.goes (wait.waiting x m.poll) found s busy }
+  wait_goes found m w x s busy (Some u) e = let woken = wakes found (wait.waiting x m.poll) s busy u e in record { sound = (woken.has, tt); goes = woken.goes }
+
+  poll_goes : (found : ℕ) (m : Processor) → PollsOn m.poll → (out : Option (Unit {0})) → poll.gives m.poll found ≡ out → Goes found m task.Poll (after_poll m (poll.goes m.poll found) out)
+  poll_goes found m s None e =
+      let sound = h.keeps.stays_sound m.poll found s.sound s.busy in
+      record { sound = (sound.0, record { busy = (poll_proved.ends m.poll found s.busy).0 (rw e refl); sound = sound }); goes = h.keeps.goes m.poll found s.sound s.busy }
+  poll_goes found m s (Some u) e =
+      let over = ended (poll.is_busy (poll.goes m.poll found).stage) u (subst (λ (o : Option (Unit {0})). IsNone o ↔ (poll.is_busy (poll.goes m.poll found).stage ≡ true)) e (poll_proved.ends m.poll found s.busy)) in
+      let last = h.ends (poll.goes m.poll found) over in
+      record { sound = ((h.keeps.stays_sound m.poll found s.sound s.busy).0, tt); goes = rw (← last.0, ← last.1) (h.keeps.goes m.poll found s.sound s.busy) }
+
+  leave_goes : (found : ℕ) (m : Processor) (x : Leaving) → HasPlaces m.poll.local.cache → LeavesOn m.poll x → (out : Option (Unit {0})) → leave.gives x found ≡ out → Goes found m (task.Leave x) (after_leave m (leave.goes x found) out)
+  leave_goes found m x has s None e =
+      let seat = leave_seat x x.stage found ∙ s.seat_is in
+      record {
+        sound = (has, record { seat_is = seat; busy = (leave_proved.ends x found s.busy).0 (rw e refl); no_span = s.no_span; no_buffer = s.no_buffer });
+        goes = rw (← s.seat_is) (subst (λ (n : ℕ). StageGoes found (leaver m.poll.local.view x) (leaves_at x.stage) (leave.asks x) (record { seat = n; view = m.poll.local.view }) (leaves_at (leave.goes x found).stage)) (leave_seat x x.stage found) ((l.keeps m.poll.local.view).goes x found tt s.busy));
+      }
+  leave_goes found m x has s (Some u) e =
+      let over = ended (leave.is_busy (leave.goes x found).stage) u (subst (λ (o : Option (Unit {0})). IsNone o ↔ (leave.is_busy (leave.goes x found).stage ≡ true)) e (leave_proved.ends x found s.busy)) in
+      record {
+        sound = (has, tt);
+        goes = rw (← s.seat_is, ← l.ends (leave.goes x found) over) (subst (λ (n : ℕ). StageGoes found (leaver m.poll.local.view x) (leaves_at x.stage) (leave.asks x) (record { seat = n; view = m.poll.local.view }) (leaves_at (leave.goes x found).stage)) (leave_seat x x.stage found) ((l.keeps m.poll.local.view).goes x found tt s.busy));
+      }
+
+  module _ (shapes : List Shape) where
+    new_goes : (found : ℕ) (m : Processor) (w : Wanted) (s : NewStage) → HasPlaces m.poll.local.cache → SoundAt m.poll (task.New (record { wanted = w; stage = s })) → Goes found m (task.New (record { wanted = w; stage = s })) (takes_at shapes m (task.New (record { wanted = w; stage = s })) found)
+    new_goes found m w (Search waited s) has sound = awake found m _ _ refl refl (q.searches s) (search_lands shapes m w waited (search.goes s found) (search.goes s found).find.cached (search.gives s found) has)
+    new_goes found m w (Wait x) has sound = wait_goes found m w x sound.0 sound.1 (wait.gives (wait.waiting x m.poll) found) refl
+    new_goes found m w (Place p) has sound = awake found m _ _ refl refl (q.makes p) (place_lands m w (place.acts p) p.at (place.goes p found) has)
+
+    goes_at : (found : ℕ) (m : Processor) (t : Task) → HasPlaces m.poll.local.cache → SoundAt m.poll t → is_busy_at t ≡ true → Goes found m t (takes_at shapes m t found)
+    goes_at found m task.Idle has s busy = absurd cc
+    goes_at found m task.Left has s busy = absurd cc
+    goes_at found m (task.Load x) has s busy = awake found m _ _ refl refl (q.loads m.poll.layout x) (applied_lands task.Load m x.g x.d (load.step m.poll.layout x found) has load_plain)
+    goes_at found m (task.Store x) has s busy = awake found m _ _ refl refl (q.stores m.poll.layout (register_of m x.g x.v) x) (applied_lands task.Store m x.g x.v (store.step m.poll.layout (register_of m x.g x.v) x found) has store_plain)
+    goes_at found m (task.Global x) has s busy = awake found m _ _ refl refl (q.globals m.poll.layout (register_of m x.g x.r) x) (applied_lands task.Global m x.g x.r (global.step m.poll.layout (register_of m x.g x.r) x found) has global_plain)
+    goes_at found m (task.Register x) has s busy = awake found m _ _ refl refl (q.registers x) (applied_lands task.Register m x.g x.d (register.step (register_of m x.g (register.read_of x)) x) has register_plain)
+    goes_at found m (task.New x) has s busy = new_goes found m x.wanted x.stage has s
+    goes_at found m (task.Gc g x) has s busy = gc_goes found m g x s.0 s.1 (wait.gives (wait.waiting x m.poll) found) refl
+    goes_at found m task.Poll has s busy = poll_goes found m s (poll.gives m.poll found) refl
+    goes_at found m (task.End g) has s busy = awake found m _ _ refl refl tt (lands m _ has refl idle_plain)
+    goes_at found m (task.Leave x) has s busy = leave_goes found m x has s (leave.gives x found) refl
+
+    goes_on : (m : Processor) (found : ℕ) → SoundPlace m → is_busy_at m.task ≡ true → Goes found m m.task (takes shapes m found)
+    goes_on m found s busy = goes_at found m m.task s.0 s.1 busy
+
+    -- what is begun at rest
+    record Begun (m to : Processor) : Type 0 where
+      sound : SoundPlace to
+      begins : PlaceBegins (Acts (knower m.poll) Awake) (Acts (party_of to) (stage_of to))
+
+    plainly : (m to : Processor) → Lands m to → Begun m to
+    plainly m to l = record { sound = l.sound; begins = rw (l.party, l.stage) (inl refl) }
+
+    begins_at_rest : (m : Processor) (o : Op) → HasPlaces m.poll.local.cache → Begun m (begins shapes m o)
+    begins_at_rest m (op.New g d t) has = plainly m _ (lands m _ has refl (search_plain _ false _))
+    begins_at_rest m (op.Load g d b n) has = plainly m _ (lands m _ has refl (load_plain _))
+    begins_at_rest m (op.Store g b n x) has = plainly m _ (lands m _ has refl (store_plain _))
+    begins_at_rest m (op.GetGlobal g d n) has = plainly m _ (lands m _ has refl (global_plain _))
+    begins_at_rest m (op.SetGlobal g n x) has = plainly m _ (lands m _ has refl (global_plain _))
+    begins_at_rest m (op.Int g d n) has = plainly m _ (lands m _ has refl (register_plain _))
+    begins_at_rest m (op.Move g d s) has = plainly m _ (lands m _ has refl (register_plain _))
+    begins_at_rest m (op.Nil g d) has = plainly m _ (lands m _ has refl (register_plain _))
+    begins_at_rest m (op.Gc g) has = record { sound = (has, ((has, tt), refl)); begins = inl refl }
+    begins_at_rest m op.Poll has = record { sound = (has, record { busy = refl; sound = (has, tt) }); begins = inl refl }
+    begins_at_rest m (op.End g) has = plainly m _ (lands m _ has refl (record { sound = λ p. tt; party = λ p. refl; stage = λ p. refl }))
+    begins_at_rest m op.Leave has = record {
+      sound = (refl, record { seat_is = refl; busy = leave_proved.stage_busy (give.opening m.poll.layout m.poll.seat m.poll.local.view.generation m.poll.local.cache m.poll.local.held); no_span = refl; no_buffer = refl });
+      begins = l.begins m.poll.layout m.poll.seat m.poll.local.view.generation m.poll.local.cache m.poll.local.held m.poll.local.view;
+    }
+
+    -- one that has left begins nothing
+    record BegunFrom (m to : Processor) : Type 0 where
+      sound : SoundPlace to
+      begins : PlaceBegins (Acts (party_of m) (stage_of m)) (Acts (party_of to) (stage_of to))
+
+    begins_from : (m : Processor) (o : Op) → SoundPlace m → is_busy_at m.task ≡ false → (left : Bool) → has_left_at m.task ≡ left → BegunFrom m (cond left m (begins shapes m o))
+    begins_from m o s rests true e = record { sound = s; begins = inl refl }
+    begins_from m o s rests false e =
+        let idle : m.task ≡ task.Idle = idle_at m.task rests e in
+        let b = begins_at_rest m o s.0 in
+        record { sound = b.sound; begins = subst (λ (t : Task). PlaceBegins (Acts (party_at m.poll t) (stage_at m.poll t)) (Acts (party_of (begins shapes m o)) (stage_of (begins shapes m o)))) (sym idle) b.begins }
+
+  pub processor_in_handshake : ProcessorInHandshake
+  processor_in_handshake = record {
+    first = λ z seat. refl;
+    awake = λ z seat. refl;
+    sound_first = λ z seat. (refl, tt);
+    sound_begins = λ shapes z m o s rests. (begins_from shapes m o s rests (has_left_at m.task) refl).sound;
+    sound_takes = λ shapes m found s busy. (goes_on shapes m found s busy).sound;
+    begins_so = λ shapes z m o s rests. (begins_from shapes m o s rests (has_left_at m.task) refl).begins;
+    takes_so = λ shapes m found s busy. (goes_on shapes m found s busy).goes;
+    acknowledges = λ m i number s e. acks q k i number m m.task s.1 e;
+  }

@@ -1,0 +1,177 @@
+-- Which rows the routines of allocation and of marking write: by their stages.
+use Rattle.std.proofs.Common.{◌≡◌, ℕ, Bool, true, false, cond, eqb, Option, Some, None, refl, subst}
+use Rattle.gh_base.specs.declared.cell.Ask.TheVariants as ask
+use Rattle.gh_base.specs.declared.cell.Cell.{Cell}
+use Rattle.gh_base.specs.declared.cell.Cell.TheVariants as cell
+use Rattle.gh_base.specs.declared.held.Held.{Held}
+use Rattle.gh_base.specs.Cells.{put, Words}
+use Rattle.gh_base.specs.Rows.{CellsAreTold}
+use Rattle.gh_base.specs.Steps.{effect}
+use Rattle.gh_bitmap.specs.declared.set_pointers.SetStage.{SetStage}
+use Rattle.gh_bitmap.specs.declared.set_pointers.SetStage.TheVariants as set_stage
+use Rattle.gh_bitmap.specs.SetPointers as bits
+use Rattle.gh_cache.specs.declared.next_slot.SlotStage.{SlotStage}
+use Rattle.gh_cache.specs.declared.next_slot.SlotStage.TheVariants as slot_stage
+use Rattle.gh_cache.specs.Listing as slots
+use Rattle.gh_central.specs.declared.give.GiveStage.{GiveStage}
+use Rattle.gh_central.specs.declared.give.GiveStage.TheVariants as give_stage
+use Rattle.gh_central.specs.declared.pass.PassStage.{PassStage}
+use Rattle.gh_central.specs.declared.pass.PassStage.TheVariants as pass_stage
+use Rattle.gh_central.specs.declared.reclaim.ReclaimStage.{ReclaimStage}
+use Rattle.gh_central.specs.declared.reclaim.ReclaimStage.TheVariants as reclaim_stage
+use Rattle.gh_central.specs.GiveBack as give
+use Rattle.gh_central.specs.Reclaim as reclaim
+use Rattle.gh_central.specs.SweptPass as pass
+use Rattle.gh_pages.specs.declared.carve.CarveStage.{CarveStage}
+use Rattle.gh_pages.specs.declared.carve.CarveStage.TheVariants as carve_stage
+use Rattle.gh_pages.specs.Listing as carve
+use Rattle.gh_alloc.specs.declared.find.FindStage.TheVariants as find_stage
+use Rattle.gh_alloc.specs.declared.place.PlaceStage.TheVariants as place_stage
+use Rattle.gh_alloc.specs.declared.search.SearchStage.{SearchStage}
+use Rattle.gh_alloc.specs.declared.search.SearchStage.TheVariants as search_stage
+use Rattle.gh_alloc.specs.Find as find
+use Rattle.gh_alloc.specs.Place as place
+use Rattle.gh_alloc.specs.Search as search
+use Rattle.gh_shade.specs.declared.shade.ShadeStage.{ShadeStage}
+use Rattle.gh_shade.specs.declared.shade.ShadeStage.TheVariants as shade_stage
+use Rattle.gh_shade.specs.Listing as shade
+use Rattle.gh_wbuf.specs.declared.find_room.RoomStage.{RoomStage}
+use Rattle.gh_wbuf.specs.declared.find_room.RoomStage.TheVariants as room_stage
+use Rattle.gh_wbuf.specs.declared.give_buffer.GiveStage.{GiveStage as BufferStage}
+use Rattle.gh_wbuf.specs.declared.give_buffer.GiveStage.TheVariants as buffer_stage
+use Rattle.gh_wbuf.specs.declared.try_buffer.TryStage.{TryStage}
+use Rattle.gh_wbuf.specs.declared.try_buffer.TryStage.TheVariants as try_stage
+use Rattle.gh_wbuf.specs.BufferGiving as buffer
+use Rattle.gh_wbuf.specs.RoomFinding as room
+use Rattle.gh_wbuf.specs.Trying as try
+use Rattle.gh_mutator.specs.Vocabulary.{Ask, FindStage, PlaceStage}
+use Rattle.gh_mutator.specs.Writing.{WritesOf}
+
+-- these rows may be written
+pub record OfHeap (P : Cell → Type 0) : Type 0 where
+  pub lock : P cell.Lock
+  pub page : (i : ℕ) → P (cell.Page i)
+  pub alloc : (i : ℕ) → P (cell.Alloc i)
+  pub bitmap : (i : ℕ) → P (cell.Bitmap i)
+  pub birth : (i : ℕ) → P (cell.Birth i)
+  pub field : (i : ℕ) → P (cell.Field i)
+  pub global : (i : ℕ) → P (cell.Global i)
+
+pub record OfMarking (P : Cell → Type 0) : Type 0 where
+  pub mark : (i : ℕ) → P (cell.Mark i)
+  pub buffer : (i : ℕ) → P (cell.Buffer i)
+  pub entry : (i j : ℕ) → P (cell.Entry i j)
+
+-- Allocation.
+module _ (P : Cell → Type 0) (r : OfHeap P) where
+  slots_write : (s : slots.Searching) (q : SlotStage) → WritesOf P (slots.asks_at s q)
+  slots_write s slot_stage.Look = tt
+  slots_write s slot_stage.Ended = tt
+
+  give_writes : (g : give.Giving) (q : GiveStage) → WritesOf P (give.asks_at g q)
+  give_writes g give_stage.Write = r.page g.page
+  give_writes g give_stage.Ended = tt
+
+  pass_writes : (p : pass.Pass) (q : PassStage) → WritesOf P (pass.asks_at p q)
+  pass_writes p (pass_stage.Look page) = tt
+  pass_writes p (pass_stage.Bits page h i) = tt
+  pass_writes p (pass_stage.Take page h) = r.page page
+  pass_writes p pass_stage.Ended = tt
+
+  carve_writes : (c : carve.Carving) (q : CarveStage) → WritesOf P (carve.asks_at c q)
+  carve_writes c (carve_stage.Look page run) = tt
+  carve_writes c (carve_stage.Body first distance) = r.page _
+  carve_writes c (carve_stage.Head first) = r.page first
+  carve_writes c carve_stage.Ended = tt
+
+  reclaim_writes : (m : reclaim.Reclaiming) (q : ReclaimStage) → WritesOf P (reclaim.asks_at m q)
+  reclaim_writes m (reclaim_stage.Look page) = tt
+  reclaim_writes m (reclaim_stage.Bits page pages i) = tt
+  reclaim_writes m (reclaim_stage.Body page pages distance) = r.page _
+  reclaim_writes m (reclaim_stage.Head page pages) = r.page page
+  reclaim_writes m reclaim_stage.Ended = tt
+
+  bits_write : (s : bits.PointerSetting) (q : SetStage) → WritesOf P (bits.asks_at s q)
+  bits_write s (set_stage.Clear i) = r.bitmap _
+  bits_write s (set_stage.Set i) = r.bitmap _
+  bits_write s set_stage.Ended = tt
+
+  find_writes : (f : find.Finding) (q : FindStage) → WritesOf P (find.asks_at f q)
+  find_writes f (find_stage.Slots s) = slots_write s s.stage
+  find_writes f find_stage.Lock = r.lock
+  find_writes f (find_stage.Give g) = give_writes g g.stage
+  find_writes f (find_stage.Pass p) = pass_writes p p.stage
+  find_writes f (find_stage.Carve c) = carve_writes c c.stage
+  find_writes f (find_stage.Unlock after) = r.lock
+  find_writes f find_stage.Ended = tt
+
+  search_writes_at : (f : find.Finding) (q : SearchStage) → WritesOf P (search.asks_at f q)
+  search_writes_at f search_stage.First = find_writes f f.stage
+  search_writes_at f (search_stage.Free m) = reclaim_writes m m.stage
+  search_writes_at f search_stage.Second = find_writes f f.stage
+
+  pub search_writes : (s : search.Seeking) → WritesOf P (search.asks s)
+  search_writes s = search_writes_at s.find s.stage
+
+  -- the making of an object counts it too
+  place_writes_at : (p : place.Placing) (q : PlaceStage) → (q ≡ place_stage.Count → P cell.Heap) → WritesOf P (place.asks_at p q)
+  place_writes_at p (place_stage.Clear n) count = r.field _
+  place_writes_at p place_stage.Birth count = r.birth p.at
+  place_writes_at p (place_stage.Bits s) count = bits_write s s.stage
+  place_writes_at p place_stage.Alloc count = r.alloc _
+  place_writes_at p (place_stage.Give g) count = give_writes g g.stage
+  place_writes_at p place_stage.Count count = count refl
+  place_writes_at p place_stage.Ended count = tt
+
+  pub place_writes : (p : place.Placing) → (p.stage ≡ place_stage.Count → P cell.Heap) → WritesOf P (place.asks p)
+  place_writes p count = place_writes_at p p.stage count
+
+-- Marking.
+module _ (P : Cell → Type 0) (r : OfMarking P) where
+  pub buffer_writes : (b : buffer.BufferGiving) (q : BufferStage) → WritesOf P (buffer.asks_at q)
+  buffer_writes b (buffer_stage.Give h) = r.buffer h.index
+  buffer_writes b buffer_stage.Ended = tt
+
+  back_writes : (t : try.Trying) (held : Option Held) → WritesOf P (try.back_at t held)
+  back_writes t None = tt
+  back_writes t (Some h) = r.buffer h.index
+
+  try_writes : (t : try.Trying) (q : TryStage) → WritesOf P (try.asks_at t q)
+  try_writes t try_stage.Look = tt
+  try_writes t (try_stage.GiveBack word) = back_writes t t.held
+  try_writes t (try_stage.Claim word) = r.buffer t.index
+  try_writes t try_stage.Ended = tt
+
+  room_writes_at : (m : room.RoomFinding) (q : RoomStage) → WritesOf P (room.asks_at m q)
+  room_writes_at m (room_stage.GiveBack h) = r.buffer h.index
+  room_writes_at m (room_stage.Try t) = try_writes t t.stage
+  room_writes_at m (room_stage.Ended h) = tt
+
+  pub room_writes : (m : room.RoomFinding) → WritesOf P (room.asks m)
+  room_writes m = room_writes_at m m.stage
+
+  enter_writes : (reference : ℕ) (held : Option Held) → WritesOf P (shade.enters reference held)
+  enter_writes reference None = tt
+  enter_writes reference (Some h) = r.entry h.index _
+
+  shade_writes_at : (s : shade.Shading) (q : ShadeStage) → WritesOf P (shade.asks_at s q)
+  shade_writes_at s shade_stage.LoadPage = tt
+  shade_writes_at s (shade_stage.SetMark noscan) = r.mark _
+  shade_writes_at s shade_stage.WaitForRoom = tt
+  shade_writes_at s shade_stage.Enter = enter_writes s.reference s.held
+  shade_writes_at s shade_stage.Ended = tt
+
+  pub shade_writes : (s : shade.Shading) → WritesOf P (shade.asks s)
+  shade_writes s = shade_writes_at s s.stage
+
+-- A step leaves each word that it does not write.
+pub leaves_others : CellsAreTold → (P : Cell → Type 0) (step : Ask) (words : Words) (c : Cell) → WritesOf P step → (P c → ⊥) → effect words step c ≡ words c
+leaves_others k P (ask.Load d) words c w spared = refl
+leaves_others k P (ask.Store d value) words c w spared = k.put_elsewhere words d c value (λ e. spared (subst P e w))
+leaves_others k P (ask.Or d bits) words c w spared = k.put_elsewhere words d c _ (λ e. spared (subst P e w))
+leaves_others k P (ask.And d bits) words c w spared = k.put_elsewhere words d c _ (λ e. spared (subst P e w))
+leaves_others k P (ask.Add d more) words c w spared = k.put_elsewhere words d c _ (λ e. spared (subst P e w))
+leaves_others k P (ask.Swap d old new) words c w spared = by (eqb (words d) old) where
+  by : (swaps : Bool) → (cond swaps (put words d new) words) c ≡ words c
+  by true = k.put_elsewhere words d c new (λ e. spared (subst P e w))
+  by false = refl

@@ -1,0 +1,5 @@
+use Rattle.gh_mutator.proofs.Calm.Laws.{calm_marks_nothing}
+use Rattle.gh_mutator.proofs.laws.calm_processors_mark_nothing.Goals as goal
+
+pub returns : goal.returns
+returns c = calm_marks_nothing c.cells_are_told.ensures c.the_processor_keeps_the_handshake.ensures c.a_processor_marks_by_moves.ensures

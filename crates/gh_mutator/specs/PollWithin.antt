@@ -1,0 +1,41 @@
+-- The scan of a stack, and the search for a buffer with room, ask for words that there are: what is known of their numbers, whatever they are told.
+use Rattle.std.specs.Prelude.{◌≡◌, ◌<◌}
+use Rattle.gh_base.specs.declared.layout.Layout.{Layout}
+use Rattle.gh_base.specs.Cells.{seats_of}
+use Rattle.gh_base.specs.Holding.{IsHeld}
+use Rattle.gh_shade.specs.Listing.{Shading as ShadeState}
+use Rattle.gh_shade.specs.Sound.{FitsShade}
+use Rattle.gh_wbuf.specs.declared.find_room.RoomStage.{RoomStage}
+use Rattle.gh_wbuf.specs.declared.find_room.RoomStage.TheVariants as room_stage
+use Rattle.gh_wbuf.specs.RoomFinding.{RoomFinding}
+use Rattle.gh_wbuf.specs.Sound.{FitsRoom}
+use Rattle.gh_wbuf.specs.TrySound.{FitsTry}
+use Rattle.gh_mutator.specs.declared.mark_stack.MarkStackStage.{MarkStackStage}
+use Rattle.gh_mutator.specs.declared.mark_stack.MarkStackStage.TheVariants.{Shading, FindRoom}
+use Rattle.gh_mutator.specs.MarkStack.{StackMarking}
+
+-- the buffer that is tried is one of the layout's
+abbrev pub TriesWithin : RoomStage → Type 0
+TriesWithin (room_stage.Try t) = FitsTry t
+TriesWithin _ = Unit {0}
+
+pub record FindsWithin (l : Layout) (r : RoomFinding) : Type 0 where
+  pub layout_is : r.layout ≡ l
+  pub fits : FitsRoom r
+  pub tries : TriesWithin r.stage
+
+pub record ShadesWithin (l : Layout) (s : ShadeState) : Type 0 where
+  pub layout_is : s.layout ≡ l
+  pub fits : FitsShade s
+
+abbrev pub ScanStageWithin : Layout → MarkStackStage → Type 0
+ScanStageWithin l (Shading s) = ShadesWithin l s
+ScanStageWithin l (FindRoom s r) = ShadesWithin l s × FindsWithin l r
+ScanStageWithin l _ = Unit {0}
+
+pub record ScansWithin (l : Layout) (m : StackMarking) : Type 0 where
+  pub layout_is : m.layout ≡ l
+  pub seat : m.seat < seats_of l
+  pub goroutine : m.scan.goroutine < l.goroutines
+  pub held : IsHeld l m.held
+  pub stage : ScanStageWithin l m.stage

@@ -1,0 +1,91 @@
+-- Where the whole processor stands in the handshake of a stop: awake, but where it polls, waits for a cycle, or leaves.
+use Rattle.std.specs.Prelude.{◌≡◌, ℕ, true, false, List, None}
+use Rattle.gh_base.specs.declared.cell.Ask.TheVariants.{Store}
+use Rattle.gh_base.specs.declared.cell.Cell.TheVariants.{Ack}
+use Rattle.gh_phase.specs.Handshake.{Acts, Awake, first_party, Gone, Party, PlaceBegins, Stage, StageGoes}
+use Rattle.gh_mutator.specs.declared.task.Task.TheVariants as task
+use Rattle.gh_mutator.specs.Deeds.{processor_kind}
+use Rattle.gh_mutator.specs.Give.{none_cached}
+use Rattle.gh_mutator.specs.Handshake.{HasPlaces, knower, leaves_at, poll_stage_of, poller_of, PollsOn, SoundWait, wait_stage_of, waiter_of}
+use Rattle.gh_mutator.specs.Leave.{is_busy}
+use Rattle.gh_mutator.specs.Listing.{asks, is_busy_at, takes}
+use Rattle.gh_mutator.specs.Processor.{opening_processor}
+use Rattle.gh_mutator.specs.Vocabulary.{Layout, Leaving, NewStage, Op, Polling, Processor, Shape, Task, Wait}
+use Rattle.gh_mutator.specs.declared.wait.Wait.{Wait as WaitState}
+use Rattle.gh_mutator.specs.Wait.{is_busy as waits_still, waiting}
+
+-- it leaves from its own seat, with all that it held, and is not gone yet
+pub record LeavesOn (p : Polling) (x : Leaving) : Type 0 where
+  pub seat_is : x.seat ≡ p.seat
+  pub busy : is_busy x.stage ≡ true
+  pub no_span : p.local.cache ≡ none_cached
+  pub no_buffer : p.local.held ≡ None
+
+module _ (p : Polling) where
+  -- a new object
+  abbrev pub new_stage_at : NewStage → Stage
+  new_stage_at (Wait x) = wait_stage_of (waiting x p)
+  new_stage_at _ = Awake
+
+  abbrev pub new_party_at : NewStage → Party
+  new_party_at (Wait x) = waiter_of (waiting x p)
+  new_party_at _ = knower p
+
+  -- the wait goes on
+  abbrev pub WaitsOn : WaitState → Type 0
+  WaitsOn x = SoundWait (waiting x p) × (waits_still x.stage ≡ true)
+
+  abbrev pub SoundNewAt : NewStage → Type 0
+  SoundNewAt (Wait x) = WaitsOn x
+  SoundNewAt _ = Unit {0}
+
+  abbrev pub stage_at : Task → Stage
+  stage_at task.Left = Gone
+  stage_at (task.New x) = new_stage_at x.stage
+  stage_at (task.Gc g x) = wait_stage_of (waiting x p)
+  stage_at task.Poll = poll_stage_of p
+  stage_at (task.Leave x) = leaves_at x.stage
+  stage_at _ = Awake
+
+  abbrev pub party_at : Task → Party
+  party_at (task.New x) = new_party_at x.stage
+  party_at (task.Gc g x) = waiter_of (waiting x p)
+  party_at task.Poll = poller_of p
+  party_at _ = knower p
+
+  abbrev pub SoundAt : Task → Type 0
+  SoundAt (task.New x) = SoundNewAt x.stage
+  SoundAt (task.Gc g x) = WaitsOn x
+  SoundAt task.Poll = PollsOn p
+  SoundAt (task.Leave x) = LeavesOn p x
+  SoundAt _ = Unit {0}
+
+abbrev pub stage_of : Processor → Stage
+stage_of m = stage_at m.poll m.task
+
+abbrev pub party_of : Processor → Party
+party_of m = party_at m.poll m.task
+
+abbrev pub SoundPlace : Processor → Type 0
+SoundPlace m = HasPlaces m.poll.local.cache × SoundAt m.poll m.task
+
+-- what is so of a processor that acknowledges for seat i: it is its own, and no span is cached and no buffer held
+pub record HoldsNothing (p : Polling) (i : ℕ) : Type 0 where
+  pub own : i ≡ p.seat
+  pub no_span : p.local.cache ≡ none_cached
+  pub no_buffer : p.local.held ≡ None
+
+-- Whatever it finds, each of its steps is one of the handshake.
+pub record ProcessorInHandshake : Type 0 where
+  pub first : (l : Layout) (seat : ℕ) → party_of (opening_processor l seat) ≡ first_party seat
+  pub awake : (l : Layout) (seat : ℕ) → stage_of (opening_processor l seat) ≡ Awake
+  pub sound_first : (l : Layout) (seat : ℕ) → SoundPlace (opening_processor l seat)
+  pub sound_begins : (shapes : List Shape) (l : Layout) (m : Processor) (o : Op) → SoundPlace m → is_busy_at m.task ≡ false → SoundPlace ((processor_kind shapes l).begins m o)
+  pub sound_takes : (shapes : List Shape) (m : Processor) (found : ℕ) → SoundPlace m → is_busy_at m.task ≡ true → SoundPlace (takes shapes m found)
+  -- what it begins leaves it awake, or about to say that it is gone; one that has left begins nothing
+  pub begins_so : (shapes : List Shape) (l : Layout) (m : Processor) (o : Op) → SoundPlace m → is_busy_at m.task ≡ false →
+      PlaceBegins (Acts (party_of m) (stage_of m)) (Acts (party_of ((processor_kind shapes l).begins m o)) (stage_of ((processor_kind shapes l).begins m o)))
+  pub takes_so : (shapes : List Shape) (m : Processor) (found : ℕ) → SoundPlace m → is_busy_at m.task ≡ true →
+      StageGoes found (party_of m) (stage_of m) (asks m) (party_of (takes shapes m found)) (stage_of (takes shapes m found))
+  -- whatever it runs, it acknowledges a stop, or says that it is gone, with nothing held
+  pub acknowledges : (m : Processor) (i number : ℕ) → SoundPlace m → asks m ≡ Store (Ack i) number → HoldsNothing m.poll i

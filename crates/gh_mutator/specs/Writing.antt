@@ -1,0 +1,139 @@
+-- Which words a processor writes, whatever it finds, and what it notes of the words of its stacks.
+use Rattle.std.specs.Prelude.{◌≡◌, ◌≢◌, ℕ, ◌*◌, ◌%◌, ◌<◌, ◌⊎◌, false, true, List, length, slice_index}
+use Rattle.gh_base.specs.declared.cell.Ask.TheVariants as ask
+use Rattle.gh_base.specs.declared.cell.Cell.TheVariants as cell
+use Rattle.gh_base.specs.declared.pack.TheConstants.{END}
+use Rattle.gh_alloc.specs.declared.place.PlaceStage.TheVariants as making
+use Rattle.gh_phase.specs.declared.view.RunPhase.TheVariants.{Mark}
+use Rattle.gh_stack.specs.declared.scan_stack.StackStage.TheVariants as stack_stage
+use Rattle.gh_stack.specs.Listing as stack
+use Rattle.gh_mutator.specs.declared.mark_stack.MarkStackStage.TheVariants as mark_stage
+use Rattle.gh_mutator.specs.declared.poll.PollStage.TheVariants.{Marking}
+use Rattle.gh_mutator.specs.declared.task.Task.TheVariants as task
+use Rattle.gh_mutator.specs.declared.wait.WaitStage.TheVariants as wait_stage
+use Rattle.gh_mutator.specs.Listing.{asks, is_busy_at, takes}
+use Rattle.gh_mutator.specs.MarkVocabulary.{Cell, MarkStackStage, PollStage, SoundPlace, StackMarking, StackStage, Words, effect, opening_processor, processor_kind}
+use Rattle.gh_mutator.specs.Vocabulary.{Ask, Layout, MOST_GOROUTINES, NewStage, Op, Place, Polling, Processor, Search, Shape, Task, Wait}
+
+-- What is to be shaded is what the scan wishes for; and where nothing is, the scan's own step is next.
+abbrev pub ShadesByWish : StackStage → MarkStackStage → Type 0
+ShadesByWish scan (mark_stage.Shading sh) = stack.is_waiting scan ≡ true
+ShadesByWish scan (mark_stage.FindRoom sh r) = stack.is_waiting scan ≡ true
+ShadesByWish scan mark_stage.Store = scan ≡ stack_stage.Store
+ShadesByWish scan mark_stage.Ended = Unit {0}
+
+-- The stack that it scans is that of a goroutine of its own, and the scan is that of the cycle which it knows, while marking is on.
+pub record ScansItsOwn (p : Polling) (g : ℕ) (m : StackMarking) : Type 0 where
+  pub there : g < p.layout.goroutines
+  pub own : g % p.layout.procs ≡ p.seat
+  pub marking : p.local.view.phase ≡ Mark
+  pub of : m.scan.goroutine ≡ g
+  pub cycle_is : m.scan.cycle ≡ p.local.view.begun
+  pub by_wish : ShadesByWish m.scan.stage m.stage
+
+abbrev pub SoundScanAt : Polling → PollStage → Type 0
+SoundScanAt p (Marking g m) = ScansItsOwn p g m
+SoundScanAt p _ = Unit {0}
+
+-- what holds of a processor, whatever it was told
+pub record IsSound (m : Processor) : Type 0 where
+  pub place : SoundPlace m
+  pub scan : SoundScanAt m.poll m.poll.stage
+
+-- The words that it writes of some rows.
+
+-- it begins to wait, and asks for a cycle
+abbrev pub WantsAt : NewStage → Type 0
+WantsAt (Wait x) = x.stage ≡ wait_stage.Want
+WantsAt _ = ⊥
+
+abbrev pub IsWanting : Task → Type 0
+IsWanting (task.New x) = WantsAt x.stage
+IsWanting (task.Gc g x) = x.stage ≡ wait_stage.Want
+IsWanting _ = ⊥
+
+-- a slot is looked for
+abbrev pub SearchesAt : NewStage → Type 0
+SearchesAt (Search waited y) = Unit {0}
+SearchesAt _ = ⊥
+
+abbrev pub IsSearching : Task → Type 0
+IsSearching (task.New x) = SearchesAt x.stage
+IsSearching _ = ⊥
+
+-- it has made an object, and adds the bytes of its slot
+abbrev pub CountsAt : Ask → NewStage → Type 0
+CountsAt step (Place p) = (p.stage ≡ making.Count) × (step ≡ ask.Add cell.Heap (8 * p.slot))
+CountsAt step _ = ⊥
+
+abbrev pub CountsObject : Ask → Task → Type 0
+CountsObject step (task.New x) = CountsAt step x.stage
+CountsObject step _ = ⊥
+
+-- the goroutine ends
+pub record EndsStack (m : Processor) (g : ℕ) : Type 0 where
+  pub task_is : m.task ≡ task.End g
+  pub tells : asks m ≡ ask.Store (cell.Scanned g) END
+
+-- the stack of a goroutine of its own was scanned in the cycle that it knows
+pub record TellsScan (m : Processor) (g : ℕ) : Type 0 where
+  pub there : g < m.poll.layout.goroutines
+  pub own : g % m.poll.layout.procs ≡ m.poll.seat
+  pub marking : m.poll.local.view.phase ≡ Mark
+  pub tells : asks m ≡ ask.Store (cell.Scanned g) m.poll.local.view.begun
+
+-- The words that it writes: no control word beside those of the lock, the bytes and the wanted cycle.
+abbrev pub IsWritten : Processor → Cell → Type 0
+IsWritten m cell.Lock = Unit {0}
+IsWritten m cell.Want = IsWanting m.task × (asks m ≡ ask.Or cell.Want 1)
+IsWritten m cell.Heap = CountsObject (asks m) m.task
+IsWritten m (cell.Page i) = Unit {0}
+IsWritten m (cell.Alloc i) = Unit {0}
+IsWritten m (cell.Mark i) = Unit {0}
+IsWritten m (cell.Bitmap i) = Unit {0}
+IsWritten m (cell.Birth i) = Unit {0}
+IsWritten m (cell.Field i) = Unit {0}
+IsWritten m (cell.Global i) = Unit {0}
+IsWritten m (cell.Buffer i) = Unit {0}
+IsWritten m (cell.Entry i j) = Unit {0}
+IsWritten m (cell.Ack i) = i ≡ m.poll.seat
+IsWritten m (cell.Scanned g) = EndsStack m g ⊎ TellsScan m g
+IsWritten m _ = ⊥
+
+-- the step loads, or is on one of these words
+abbrev pub WritesOf : (Cell → Type 0) → Ask → Type 0
+WritesOf written (ask.Load c) = Unit {0}
+WritesOf written (ask.Store c value) = written c
+WritesOf written (ask.Or c bits) = written c
+WritesOf written (ask.And c bits) = written c
+WritesOf written (ask.Add c more) = written c
+WritesOf written (ask.Swap c old new) = written c
+
+-- its heap and its seat are the same
+pub record StaysThere (m to : Processor) : Type 0 where
+  pub layout : to.poll.layout ≡ m.poll.layout
+  pub seat : to.poll.seat ≡ m.poll.seat
+
+pub record ProcessorWritesItsOwn : Type 0 where
+  pub sound_first : (l : Layout) (seat : ℕ) → IsSound (opening_processor l seat)
+  pub sound_begins : (shapes : List Shape) (l : Layout) (m : Processor) (o : Op) → IsSound m → is_busy_at m.task ≡ false → IsSound ((processor_kind shapes l).begins m o)
+  pub sound_takes : (shapes : List Shape) (m : Processor) (found : ℕ) → IsSound m → is_busy_at m.task ≡ true → IsSound (takes shapes m found)
+  pub begins_there : (shapes : List Shape) (l : Layout) (m : Processor) (o : Op) → IsSound m → StaysThere m ((processor_kind shapes l).begins m o)
+  pub stays_there : (shapes : List Shape) (m : Processor) (found : ℕ) → IsSound m → StaysThere m (takes shapes m found)
+  pub writes : (m : Processor) → IsSound m → WritesOf (IsWritten m) (asks m)
+  -- so each other word is as it was
+  pub leaves : (m : Processor) (words : Words) (c : Cell) → IsSound m → (IsWritten m c → ⊥) → effect words (asks m) c ≡ words c
+  -- a wait asks for a cycle once: behind a step it is about to do so where a search has ended alone
+  pub once : (shapes : List Shape) (m : Processor) (found : ℕ) → IsWanting (takes shapes m found).task → IsSearching m.task
+
+-- The notes of its stacks: each is what it has written last of that stack.
+pub record StacksAreNoted : Type 0 where
+  pub first : (l : Layout) (seat g : ℕ) → slice_index (opening_processor l seat).poll.local.scanned g ≡ 0
+  pub places : (l : Layout) (seat : ℕ) → length (opening_processor l seat).poll.local.scanned ≡ MOST_GOROUTINES
+  pub begins : (shapes : List Shape) (l : Layout) (m : Processor) (o : Op) → IsSound m → ((processor_kind shapes l).begins m o).poll.local.scanned ≡ m.poll.local.scanned
+  pub as_many : (shapes : List Shape) (m : Processor) (found : ℕ) → IsSound m → length (takes shapes m found).poll.local.scanned ≡ length m.poll.local.scanned
+  -- the number that it writes is noted, and no other note changes
+  pub notes : (shapes : List Shape) (m : Processor) (found g number : ℕ) → IsSound m → asks m ≡ ask.Store (cell.Scanned g) number → g < length m.poll.local.scanned → slice_index (takes shapes m found).poll.local.scanned g ≡ number
+  pub keeps : (shapes : List Shape) (m : Processor) (found g : ℕ) → IsSound m → ((number : ℕ) → asks m ≢ ask.Store (cell.Scanned g) number) → slice_index (takes shapes m found).poll.local.scanned g ≡ slice_index m.poll.local.scanned g
+  -- the end of a goroutine writes the number of an end
+  pub ends : (m : Processor) (g : ℕ) → m.task ≡ task.End g → asks m ≡ ask.Store (cell.Scanned g) END
