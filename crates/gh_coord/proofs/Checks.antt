@@ -10,14 +10,15 @@ use Rattle.gh_coord.specs.declared.watch.WatchStage.TheVariants as w
 use Rattle.gh_coord.specs.Checks.{FindsAsWanted, HasAcknowledged, HaveAcknowledged, HaveFound, LoadsOne, OnLoad, state}
 use Rattle.gh_coord.specs.Closing as close
 use Rattle.gh_coord.specs.Counting as count
-use Rattle.gh_coord.specs.Listing.{after_check, after_close, after_count, after_open, after_stop, after_stop_again, after_sweep, after_tell, after_watch, asks, asks_at, at_stage, Coordinating, counted, goes_at, stops_world}
+use Rattle.gh_coord.specs.Ends.{by_ack, by_last, by_out, by_want}
+use Rattle.gh_coord.specs.Listing.{after_check, after_close, after_count, after_open, after_stop, after_stop_again, after_sweep, after_tell, after_watch, asks, asks_at, at_stage, Coordinating, counted, goes_at}
 use Rattle.gh_coord.specs.Opening as opens
 use Rattle.gh_coord.specs.Stopping as stop
 use Rattle.gh_coord.specs.SweepingAll as all
 use Rattle.gh_coord.specs.Telling as tell
 use Rattle.gh_coord.specs.Watching as watch
-use Rattle.gh_coord.specs.Vocabulary.{All, Ask, Check, Close, CloseStage, CoordStage, Count, Counted, Done, GONE, Layout, Load, LoadAck, LoadWant, MarkOn, NotYet, Open, Stop, StopAgain, StopStage, Store, Sweep, Tell, Watch, Watched, WatchStage}
-use Rattle.gh_coord.proofs.Loads.{open_load, stop_load, sweep_load, tell_load, watch_load}
+use Rattle.gh_coord.specs.Vocabulary.{All, Ask, Check, Close, CloseStage, CoordStage, Count, Done, GONE, Layout, Load, LoadAck, LoadWant, MarkOn, NotYet, Open, Stop, StopAgain, StopStage, Store, Sweep, Tell, Watch, Watched, WatchStage}
+use Rattle.gh_coord.proofs.Quiet.{IsPlain, open_at, stop_at, sweep_at, tell_at, watch_at}
 use Rattle.gh_coord.proofs.Stepping.{same_ask}
 
 module _ (l : Layout) (seat gogc minheap room : ℕ) (found : ℕ → ℕ) where
@@ -117,44 +118,10 @@ module _ (l : Layout) (seat gogc minheap room : ℕ) (found : ℕ → ℕ) where
   found_fewer stops begun n i words e k = subst (λ (x : ℕ). Found stops begun n x) e k
 
   module _ (n : ℕ) (s : Coordinating) (here : s.layout ≡ l) where
-    -- a stage of which nothing is to be known
-    ack_step : (i : ℕ) (gone more : Bool) → Has (suc n) (cond gone (cond more (at_stage s (LoadAck (i + 1))) (stops_world (record s { is_last = true }))) (at_stage s LoadWant))
-    ack_step i true true = record { layout_is = here; knows = tt }
-    ack_step i true false = record { layout_is = here; knows = tt }
-    ack_step i false more = record { layout_is = here; knows = tt }
-
-    want_step : (none : Bool) → Has (suc n) (cond none (at_stage s (LoadAck 0)) (stops_world s))
-    want_step true = record { layout_is = here; knows = tt }
-    want_step false = record { layout_is = here; knows = tt }
-
-    stop_step : (st : stop.Stopping) (out : Option (Unit {0})) → Has (suc n) (after_stop (at_stage s (Stop st)) out)
-    stop_step st None = record { layout_is = here; knows = tt }
-    stop_step st (Some u) = record { layout_is = here; knows = tt }
-
-    open_step : (op : opens.CycleOpening) (out : Option (Unit {0})) → Has (suc n) (after_open (at_stage s (Open op)) out)
-    open_step op None = record { layout_is = here; knows = tt }
-    open_step op (Some u) = record { layout_is = here; knows = tt }
-
     watch_step : (x : watch.Watching) (out : Option Watched) → Has (suc n) (after_watch (at_stage s (Watch x)) out)
     watch_step x None = record { layout_is = here; knows = tt }
     watch_step x (Some All) = record { layout_is = here; knows = record { layout_is = here; stops_is = refl; knows = tt } }
     watch_step x (Some NotYet) = record { layout_is = here; knows = tt }
-
-    sweep_step : (sw : all.SweepingAll) (out : Option (Unit {0})) → Has (suc n) (after_sweep (at_stage s (Sweep sw)) out)
-    sweep_step sw None = record { layout_is = here; knows = tt }
-    sweep_step sw (Some u) = record { layout_is = here; knows = tt }
-
-    count_step : (co : count.Counting) (out : Option Counted) → Has (suc n) (after_count (at_stage s (Count co)) out)
-    count_step co None = record { layout_is = here; knows = tt }
-    count_step co (Some read) = record { layout_is = here; knows = tt }
-
-    last_step : (last : Bool) → Has (suc n) (at_stage s (cond last Done (LoadAck 0)))
-    last_step true = record { layout_is = here; knows = tt }
-    last_step false = record { layout_is = here; knows = tt }
-
-    tell_step : (te : tell.Telling) (out : Option (Unit {0})) → Has (suc n) (after_tell (at_stage s (Tell te)) out)
-    tell_step te None = record { layout_is = here; knows = tt }
-    tell_step te (Some u) = last_step s.is_last
 
     close_step : (cl : close.Closing) (stage : CloseStage) (v : ℕ) → cl.stage ≡ stage → Has (suc n) (after_close (at_stage s (Close (close.goes_at cl stage v))) (close.given (close.goes_at cl stage v)))
     close_step cl c.LoadBank v e = record { layout_is = here; knows = tt }
@@ -232,18 +199,18 @@ module _ (l : Layout) (seat gogc minheap room : ℕ) (found : ℕ → ℕ) where
       check_step (w.Ended watched) v told asked k = absurd k
 
     step_at : (stage : CoordStage) (v : ℕ) → v ≡ found n → s.stage ≡ stage → asks (now n) ≡ asks_at s stage → Knows s.stops s.begun n stage → Has (suc n) (goes_at s stage v)
-    step_at (LoadAck i) v told is asked k = ack_step i (v == GONE) (ltb (i + 1) s.layout.procs)
-    step_at LoadWant v told is asked k = want_step (v == 0)
-    step_at (Stop st) v told is asked k = stop_step (stop.goes st v) (stop.gives st v)
-    step_at (Open op) v told is asked k = open_step (opens.goes op v) (opens.gives op v)
+    step_at (LoadAck i) v told is asked k = by_ack (Has (suc n)) s i (record { layout_is = here; knows = tt }) (record { layout_is = here; knows = tt }) (record { layout_is = here; knows = tt }) (v == GONE) (ltb (i + 1) s.layout.procs)
+    step_at LoadWant v told is asked k = by_want (Has (suc n)) s (record { layout_is = here; knows = tt }) (record { layout_is = here; knows = tt }) (v == 0)
+    step_at (Stop st) v told is asked k = by_out (Has (suc n)) (after_stop (at_stage s (Stop (stop.goes st v)))) (record { layout_is = here; knows = tt }) (λ u. record { layout_is = here; knows = tt }) (stop.gives st v)
+    step_at (Open op) v told is asked k = by_out (Has (suc n)) (after_open (at_stage s (Open (opens.goes op v)))) (record { layout_is = here; knows = tt }) (λ u. record { layout_is = here; knows = tt }) (opens.gives op v)
     step_at (Watch x) v told is asked k = watch_step (watch.goes x v) (watch.gives x v)
     step_at (StopAgain st) v told is asked k = again_step st k.layout_is k.stops_is st.stage v told refl asked k.knows
     step_at (Check x) v told is asked k = check_step x k.layout_is k.cycle_is x.stage v told asked k.knows
     step_at MarkOn v told is asked k = record { layout_is = here; knows = tt }
     step_at (Close cl) v told is asked k = close_step cl cl.stage v refl
-    step_at (Sweep sw) v told is asked k = sweep_step (all.goes sw v) (all.gives sw v)
-    step_at (Count co) v told is asked k = count_step (count.goes co v) (count.gives co v)
-    step_at (Tell te) v told is asked k = tell_step (tell.goes te v) (tell.gives te v)
+    step_at (Sweep sw) v told is asked k = by_out (Has (suc n)) (after_sweep (at_stage s (Sweep (all.goes sw v)))) (record { layout_is = here; knows = tt }) (λ u. record { layout_is = here; knows = tt }) (all.gives sw v)
+    step_at (Count co) v told is asked k = by_out (Has (suc n)) (after_count (at_stage s (Count (count.goes co v)))) (record { layout_is = here; knows = tt }) (λ read. record { layout_is = here; knows = tt }) (count.gives co v)
+    step_at (Tell te) v told is asked k = by_out (Has (suc n)) (after_tell (at_stage s (Tell (tell.goes te v)))) (record { layout_is = here; knows = tt }) (λ u. by_last (Has (suc n)) s (record { layout_is = here; knows = tt }) (record { layout_is = here; knows = tt }) s.is_last) (tell.gives te v)
     step_at Done v told is asked k = record { layout_is = here; knows = subst (λ (stage : CoordStage). Knows s.stops s.begun (suc n) stage) (sym is) tt }
 
   has : (n : ℕ) → Has n (now n)
@@ -264,19 +231,22 @@ module _ (l : Layout) (seat gogc minheap room : ℕ) (found : ℕ → ℕ) where
     close_load n s cl c.StoreGen k = tt
     close_load n s cl c.Ended k = tt
 
+    plain_on : (n : ℕ) (s : Coordinating) (stores : Bool) (ask : Ask) → IsPlain stores ask → On s n ask
+    plain_on n s stores ask p = p.loads (Found s.stops s.begun n (watch.words_of l)) (tally s.generation n)
+
     checked_at : (n : ℕ) (s : Coordinating) (stage : CoordStage) → Knows s.stops s.begun n stage → ((co : count.Counting) → stage ≡ Count co → On s n (count.asks co)) → On s n (asks_at s stage)
     checked_at n s (LoadAck i) k counts = tt
     checked_at n s LoadWant k counts = tt
-    checked_at n s (Stop st) k counts = stop_load (Found s.stops s.begun n (watch.words_of l)) (tally s.generation n) st st.stage
-    checked_at n s (Open op) k counts = open_load (Found s.stops s.begun n (watch.words_of l)) (tally s.generation n) op op.stage
-    checked_at n s (Watch x) k counts = watch_load (Found s.stops s.begun n (watch.words_of l)) (tally s.generation n) x x.stage
-    checked_at n s (StopAgain st) k counts = stop_load (Found s.stops s.begun n (watch.words_of l)) (tally s.generation n) st st.stage
-    checked_at n s (Check x) k counts = watch_load (Found s.stops s.begun n (watch.words_of l)) (tally s.generation n) x x.stage
+    checked_at n s (Stop st) k counts = plain_on n s _ _ (stop_at st).plain
+    checked_at n s (Open op) k counts = plain_on n s _ _ (open_at op op.stage)
+    checked_at n s (Watch x) k counts = plain_on n s _ _ (watch_at x).quiet.plain
+    checked_at n s (StopAgain st) k counts = plain_on n s _ _ (stop_at st).plain
+    checked_at n s (Check x) k counts = plain_on n s _ _ (watch_at x).quiet.plain
     checked_at n s MarkOn k counts = tt
     checked_at n s (Close cl) k counts = close_load n s cl cl.stage k
-    checked_at n s (Sweep sw) k counts = sweep_load (Found s.stops s.begun n (watch.words_of l)) (tally s.generation n) sw sw.stage
+    checked_at n s (Sweep sw) k counts = plain_on n s _ _ (sweep_at sw).quiet.plain
     checked_at n s (Count co) k counts = counts co refl
-    checked_at n s (Tell te) k counts = tell_load (Found s.stops s.begun n (watch.words_of l)) (tally s.generation n) te te.stage
+    checked_at n s (Tell te) k counts = plain_on n s _ _ (tell_at te te.stage)
     checked_at n s Done k counts = tt
 
     pub is_checked : (n : ℕ) → ((co : count.Counting) → (now n).stage ≡ Count co → On (now n) n (count.asks co)) → On (now n) n (asks (now n))

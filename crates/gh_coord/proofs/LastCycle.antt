@@ -1,5 +1,5 @@
 -- The last cycle is begun once each processor was found gone: by the coordinator's stages.
-use Rattle.std.proofs.Common.{◌≡◌, ◌≢◌, ℕ, ◌+◌, ◌<◌, inl, inr, Bool, true, false, cond, ltb, ◌==◌, refl, sym, ap, subst, ◌∙◌, arith, Option, Some, None}
+use Rattle.std.proofs.Common.{◌≡◌, ◌≢◌, ℕ, ◌+◌, ◌<◌, inl, inr, Bool, true, false, cond, ltb, ◌==◌, refl, sym, ap, subst, ◌∙◌, arith}
 use Rattle.std.specs.Prelude.{◌↔◌}
 use Rattle.std.proofs.lemmas.Bool.Decides.{nat_tests}
 use Rattle.gh_base.specs.declared.cell.Cell.TheVariants as cell
@@ -12,6 +12,7 @@ use Rattle.gh_coord.specs.declared.stop.StopStage.TheVariants as stop_stage
 use Rattle.gh_coord.specs.declared.tell.TellStage.TheVariants as tell_stage
 use Rattle.gh_coord.specs.Closing as close
 use Rattle.gh_coord.specs.Counting as count
+use Rattle.gh_coord.specs.Ends.{by_last, by_out, by_want, by_watched}
 use Rattle.gh_coord.specs.Handshake.{FindsGone, gone_to, IsFoundGone, Marks, open_post, post_at, SoundAt, stop_post, tell_post, told_phase}
 use Rattle.gh_coord.specs.Listing.{after_ack, after_check, after_close, after_count, after_open, after_stop, after_stop_again, after_sweep, after_tell, after_watch, at_stage, Coordinating, counted, goes, goes_at, is_busy, stops_world}
 use Rattle.gh_coord.specs.Opening as opens_by
@@ -19,7 +20,7 @@ use Rattle.gh_coord.specs.Stopping as stop
 use Rattle.gh_coord.specs.SweepingAll as all
 use Rattle.gh_coord.specs.Telling as tell
 use Rattle.gh_coord.specs.Watching as watch
-use Rattle.gh_coord.specs.Vocabulary.{All, Check, Close, CoordStage, Count, Counted, Done, GONE, Load, LoadAck, LoadWant, MarkOn, NotYet, Open, OpenStage, Stop, StopAgain, Sweep, Tell, TellStage, Watch, Watched}
+use Rattle.gh_coord.specs.Vocabulary.{Check, Close, CoordStage, Count, Done, GONE, Load, LoadAck, LoadWant, MarkOn, Open, OpenStage, Stop, StopAgain, Sweep, Tell, TellStage, Watch}
 use Rattle.gh_coord.proofs.Stepping.{same_ask}
 
 -- a step that finds no processor gone, and leaves whether this is the last cycle
@@ -44,68 +45,21 @@ module _ (found : ℕ) (s : Coordinating) where
     go true false e m = record { below = λ a l. absurd (omega arith); last = λ x. inr (λ a l. up_to i (grind (arith, nat_tests)) a (grind (arith, nat_tests))) }
     go false more e m = apart_finds found s (LoadAck i) (at_stage s LoadWant) (refl, refl)
 
-  wants : (none : Bool) → Apart s (cond none (at_stage s (LoadAck 0)) (stops_world s))
-  wants true = (refl, refl)
-  wants false = (refl, refl)
-
-  stopped : (st : stop.Stopping) (out : Option (Unit {0})) → Apart s (after_stop (at_stage s (Stop st)) out)
-  stopped st None = (refl, refl)
-  stopped st (Some u) = (refl, refl)
-
-  opened : (o : opens_by.CycleOpening) (out : Option (Unit {0})) → Apart s (after_open (at_stage s (Open o)) out)
-  opened o None = (refl, refl)
-  opened o (Some u) = (refl, refl)
-
-  watched : (w : watch.Watching) (out : Option Watched) → Apart s (after_watch (at_stage s (Watch w)) out)
-  watched w None = (refl, refl)
-  watched w (Some All) = (refl, refl)
-  watched w (Some NotYet) = (refl, refl)
-
-  stopped_again : (st : stop.Stopping) (out : Option (Unit {0})) → Apart s (after_stop_again (at_stage s (StopAgain st)) out)
-  stopped_again st None = (refl, refl)
-  stopped_again st (Some u) = (refl, refl)
-
-  checked : (w : watch.Watching) (out : Option Watched) → Apart s (after_check (at_stage s (Check w)) out)
-  checked w None = (refl, refl)
-  checked w (Some All) = (refl, refl)
-  checked w (Some NotYet) = (refl, refl)
-
-  closed : (c : close.Closing) (out : Option ℕ) → Apart s (after_close (at_stage s (Close c)) out)
-  closed c None = (refl, refl)
-  closed c (Some lapsed) = (refl, refl)
-
-  swept : (w : all.SweepingAll) (out : Option (Unit {0})) → Apart s (after_sweep (at_stage s (Sweep w)) out)
-  swept w None = (refl, refl)
-  swept w (Some u) = (refl, refl)
-
-  read : (c : count.Counting) (out : Option Counted) → Apart s (after_count (at_stage s (Count c)) out)
-  read c None = (refl, refl)
-  read c (Some r) = (refl, refl)
-
-  either : (last : Bool) → Apart s (at_stage s (cond last Done (LoadAck 0)))
-  either true = (refl, refl)
-  either false = (refl, refl)
-
-  told : (t : tell.Telling) (out : Option (Unit {0})) → Apart s (after_tell (at_stage s (Tell t)) out)
-  told t None = (refl, refl)
-  told t (Some u) = either s.is_last
-
 finds_at : (found : ℕ) (s : Coordinating) (stage : CoordStage) → is_busy stage ≡ true → FindsGone found s stage (goes_at s stage found)
 finds_at found s (LoadAck i) busy = acks found s i
-finds_at found s LoadWant busy = apart_finds found s LoadWant (goes_at s LoadWant found) (wants found s (found == 0))
-finds_at found s (Stop st) busy = apart_finds found s (Stop st) (goes_at s (Stop st) found) (stopped found s (stop.goes st found) (stop.gives st found))
-finds_at found s (Open o) busy = apart_finds found s (Open o) (goes_at s (Open o) found) (opened found s (opens_by.goes o found) (opens_by.gives o found))
-finds_at found s (Watch w) busy = apart_finds found s (Watch w) (goes_at s (Watch w) found) (watched found s (watch.goes w found) (watch.gives w found))
-finds_at found s (StopAgain st) busy = apart_finds found s (StopAgain st) (goes_at s (StopAgain st) found) (stopped_again found s (stop.goes st found) (stop.gives st found))
-finds_at found s (Check w) busy = apart_finds found s (Check w) (goes_at s (Check w) found) (checked found s (watch.goes w found) (watch.gives w found))
+finds_at found s LoadWant busy = apart_finds found s LoadWant (goes_at s LoadWant found) (by_want (Apart s) s (refl, refl) (refl, refl) (found == 0))
+finds_at found s (Stop st) busy = apart_finds found s (Stop st) (goes_at s (Stop st) found) (by_out (Apart s) (after_stop (at_stage s (Stop (stop.goes st found)))) (refl, refl) (λ x. (refl, refl)) (stop.gives st found))
+finds_at found s (Open o) busy = apart_finds found s (Open o) (goes_at s (Open o) found) (by_out (Apart s) (after_open (at_stage s (Open (opens_by.goes o found)))) (refl, refl) (λ x. (refl, refl)) (opens_by.gives o found))
+finds_at found s (Watch w) busy = apart_finds found s (Watch w) (goes_at s (Watch w) found) (by_watched (Apart s) (after_watch (at_stage s (Watch (watch.goes w found)))) (refl, refl) (refl, refl) (refl, refl) (watch.gives w found))
+finds_at found s (StopAgain st) busy = apart_finds found s (StopAgain st) (goes_at s (StopAgain st) found) (by_out (Apart s) (after_stop_again (at_stage s (StopAgain (stop.goes st found)))) (refl, refl) (λ x. (refl, refl)) (stop.gives st found))
+finds_at found s (Check w) busy = apart_finds found s (Check w) (goes_at s (Check w) found) (by_watched (Apart s) (after_check (at_stage s (Check (watch.goes w found)))) (refl, refl) (refl, refl) (refl, refl) (watch.gives w found))
 finds_at found s MarkOn busy = apart_finds found s MarkOn (goes_at s MarkOn found) (refl, refl)
-finds_at found s (Close c) busy = apart_finds found s (Close c) (goes_at s (Close c) found) (closed found s (close.goes c found) (close.gives c found))
-finds_at found s (Sweep w) busy = apart_finds found s (Sweep w) (goes_at s (Sweep w) found) (swept found s (all.goes w found) (all.gives w found))
-finds_at found s (Count c) busy = apart_finds found s (Count c) (goes_at s (Count c) found) (read found s (count.goes c found) (count.gives c found))
-finds_at found s (Tell t) busy = apart_finds found s (Tell t) (goes_at s (Tell t) found) (told found s (tell.goes t found) (tell.gives t found))
+finds_at found s (Close c) busy = apart_finds found s (Close c) (goes_at s (Close c) found) (by_out (Apart s) (after_close (at_stage s (Close (close.goes c found)))) (refl, refl) (λ x. (refl, refl)) (close.gives c found))
+finds_at found s (Sweep w) busy = apart_finds found s (Sweep w) (goes_at s (Sweep w) found) (by_out (Apart s) (after_sweep (at_stage s (Sweep (all.goes w found)))) (refl, refl) (λ x. (refl, refl)) (all.gives w found))
+finds_at found s (Count c) busy = apart_finds found s (Count c) (goes_at s (Count c) found) (by_out (Apart s) (after_count (at_stage s (Count (count.goes c found)))) (refl, refl) (λ x. (refl, refl)) (count.gives c found))
+finds_at found s (Tell t) busy = apart_finds found s (Tell t) (goes_at s (Tell t) found) (by_out (Apart s) (after_tell (at_stage s (Tell (tell.goes t found)))) (refl, refl) (λ x. by_last (Apart s) s (refl, refl) (refl, refl) s.is_last) (tell.gives t found))
 finds_at found s Done busy = absurd cc
 
--- counting the steps that store the phase word leaves what is found
 pub finds_gone : (s : Coordinating) (found : ℕ) → is_busy s.stage ≡ true → FindsGone found s s.stage (goes s found)
 finds_gone s found busy =
     let f = finds_at found (counted s) s.stage busy in

@@ -2,7 +2,6 @@ pub mod Accounts
 pub mod Checks
 pub mod GoingOn
 pub mod LastCycle
-pub mod Loads
 pub mod Numbering
 pub mod Phasing
 pub mod Quiet

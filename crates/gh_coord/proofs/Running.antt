@@ -16,7 +16,7 @@ use Rattle.gh_coord.specs.Stopping as stop
 use Rattle.gh_coord.specs.Telling as tell
 use Rattle.gh_coord.specs.Vocabulary.{Check, Close, CloseStage, CoordStage, Count, CountStage, Done, Layout, LoadAck, LoadWant, MarkOn, NEVER, Open, OpenStage, PhaseWord, Stop, StopAgain, StopStage, Sweep, Tell, TellStage, Watch}
 use Rattle.gh_coord.proofs.Accounts.{account_at, base, close_at, ended, Has, IsNumbered, marked, open_at, shape_at, tell_at, tell_number}
-use Rattle.gh_coord.proofs.Quiet.{sweep_stores, watch_stores}
+use Rattle.gh_coord.proofs.Quiet.{sweep_at, watch_at}
 use Rattle.gh_coord.proofs.Stepping.{step}
 
 -- the order, at each shape of the account
@@ -200,12 +200,12 @@ module _ (reads : (p : PhaseWord) → phase_of (phase_word p) ≡ p) where
     stores LoadWant k = tt
     stores (Stop st) k = stop_stores (base s s.lapsed objects w) st st.stage (refl, refl)
     stores (Open op) k = open_stores op op.stage (k.part ∙ k.begun_is)
-    stores (Watch x) k = watch_stores (marked (base s s.lapsed objects w)) x
+    stores (Watch x) k = (watch_at x).listed (marked (base s s.lapsed objects w))
     stores (StopAgain st) k = stop_stores (marked (base s s.lapsed objects w)) st st.stage (refl, refl)
-    stores (Check x) k = watch_stores (marked (base s s.lapsed objects w)) x
+    stores (Check x) k = (watch_at x).listed (marked (base s s.lapsed objects w))
     stores MarkOn k = reads_phase (marked (base s s.lapsed objects w)) (record { stops = s.stops; phase = phase.Mark }) (refl, refl)
     stores (Close cl) k = close_stores cl cl.stage (k.part ∙ k.generation_is)
-    stores (Sweep sw) k = sweep_stores (ended (base s s.lapsed objects w)) sw
+    stores (Sweep sw) k = (sweep_at sw).listed (ended (base s s.lapsed objects w))
     stores (Count co) k = count_stores (ended (base s s.lapsed objects w)) co.stage
     stores (Tell te) k = tell_stores te te.stage (k.part.0 ∙ k.begun_is) k.part.1
     stores Done k = tt

@@ -17,7 +17,7 @@ use Rattle.gh_coord.specs.Telling as tell
 use Rattle.gh_coord.specs.Watching as watch
 use Rattle.gh_coord.specs.Vocabulary.{All, Ask, Check, Close, CloseStage, CoordStage, Count, CountStage, Cycle, Done, GONE, LoadAck, LoadWant, MarkOn, NEVER, NotYet, Open, OpenStage, Stop, StopAgain, Sweep, TallyWord, Tell, TellStage, Watch, Watched}
 use Rattle.gh_coord.proofs.Accounts.{account_at, base, close_at, ended, Has, HasCounted, IsNumbered, marked, open_at, tell_at, tell_number}
-use Rattle.gh_coord.proofs.Quiet.{stop_is, sweep_is, watch_is}
+use Rattle.gh_coord.proofs.Quiet.{stop_at, sweep_at, watch_at}
 
 next_cycle_is : (begun w : ℕ) → begun ≡ w % 2 ^ 64 → next_cycle begun ≡ suc w % 2 ^ 64
 next_cycle_is begun w e = omega arith
@@ -150,18 +150,19 @@ tell_step s w objects v te t.Ended b g p q = last_step s w objects b g s.is_last
 step_at : (s : Coordinating) (stage : CoordStage) (w objects v : ℕ) → s.stage ≡ stage → IsNumbered s stage w objects → Has (goes_at s stage v) (with_step (account_at s stage w objects) (asks_at s stage) v)
 step_at s (LoadAck i) w objects v e k = ack_step s w objects k.begun_is k.generation_is i (v == GONE) (ltb (i + 1) s.layout.procs)
 step_at s LoadWant w objects v e k = want_step s w objects k.begun_is k.generation_is (v == 0)
-step_at s (Stop st) w objects v e k = quiet _ _ _ (stop_is _ v st) (stop_step s w objects k.begun_is k.generation_is (stop.goes st v) (stop.gives st v))
+step_at s (Stop st) w objects v e k = quiet _ _ _ ((stop_at st).account _ v) (stop_step s w objects k.begun_is k.generation_is (stop.goes st v) (stop.gives st v))
 step_at s (Open op) w objects v e k = open_step s w objects k.begun_is k.generation_is v op op.stage k.part
-step_at s (Watch x) w objects v e k = quiet _ _ _ (watch_is _ v x) (watch_step s w objects k.begun_is k.generation_is (watch.goes x v) (watch.gives x v))
-step_at s (StopAgain st) w objects v e k = quiet _ _ _ (stop_is _ v st) (again_step s w objects k.begun_is k.generation_is (stop.goes st v) (stop.gives st v))
-step_at s (Check x) w objects v e k = quiet _ _ _ (watch_is _ v x) (check_step s w objects k.begun_is k.generation_is (watch.goes x v) (watch.gives x v))
+step_at s (Watch x) w objects v e k = quiet _ _ _ ((watch_at x).quiet.account _ v) (watch_step s w objects k.begun_is k.generation_is (watch.goes x v) (watch.gives x v))
+step_at s (StopAgain st) w objects v e k = quiet _ _ _ ((stop_at st).account _ v) (again_step s w objects k.begun_is k.generation_is (stop.goes st v) (stop.gives st v))
+step_at s (Check x) w objects v e k = quiet _ _ _ ((watch_at x).quiet.account _ v) (check_step s w objects k.begun_is k.generation_is (watch.goes x v) (watch.gives x v))
 step_at s MarkOn w objects v e k = watches_step s w objects k.begun_is k.generation_is
 step_at s (Close cl) w objects v e k = close_step s w objects k.begun_is k.generation_is v cl cl.stage refl k.part
-step_at s (Sweep sw) w objects v e k = quiet _ _ _ (sweep_is _ v sw) (sweep_step s w objects k.begun_is k.generation_is (all.goes sw v) (all.gives sw v))
+step_at s (Sweep sw) w objects v e k = quiet _ _ _ ((sweep_at sw).quiet.account _ v) (sweep_step s w objects k.begun_is k.generation_is (all.goes sw v) (all.gives sw v))
 step_at s (Count co) w objects v e k = count_step s w objects k.begun_is k.generation_is v co co.stage k.part
 step_at s (Tell te) w objects v e k = tell_step s w objects v te te.stage k.begun_is k.generation_is k.part.0 k.part.1
 step_at s Done w objects v e k = done_step s w objects k.begun_is k.generation_is e
 
+-- counting the steps that store the phase word leaves what is asked for
 pub same_ask : (s : Coordinating) (stage : CoordStage) → asks_at (counted s) stage ≡ asks_at s stage
 same_ask s (LoadAck i) = refl
 same_ask s LoadWant = refl

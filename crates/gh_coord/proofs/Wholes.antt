@@ -5,12 +5,13 @@ use Rattle.gh_coord.specs.declared.count.CountStage.TheVariants as r
 use Rattle.gh_coord.specs.Checks.{HaveSweptAll, IsChecked, IsSweptAll, OnLoad, state, swept_by}
 use Rattle.gh_coord.specs.Closing as close
 use Rattle.gh_coord.specs.Counting as count
-use Rattle.gh_coord.specs.Listing.{after_check, after_close, after_count, after_open, after_stop, after_stop_again, after_sweep, after_tell, after_watch, asks, asks_at, at_stage, Coordinating, counted, goes_at, stops_world}
+use Rattle.gh_coord.specs.Ends.{by_ack, by_last, by_out, by_want, by_watched}
+use Rattle.gh_coord.specs.Listing.{after_check, after_close, after_count, after_open, after_stop, after_stop_again, after_sweep, after_tell, after_watch, asks, asks_at, at_stage, Coordinating, counted, goes_at}
 use Rattle.gh_coord.specs.Opening as opens
 use Rattle.gh_coord.specs.Stopping as stop
 use Rattle.gh_coord.specs.SweepingAll as sweep
 use Rattle.gh_coord.specs.Telling as tell
-use Rattle.gh_coord.specs.Vocabulary.{All, Check, Close, CoordStage, Count, CountStage, Done, GONE, Layout, LoadAck, LoadWant, MarkOn, NotYet, Open, Stop, StopAgain, Sweep, Tell, Watch, Watched}
+use Rattle.gh_coord.specs.Vocabulary.{Check, Close, CoordStage, Count, CountStage, Done, GONE, Layout, LoadAck, LoadWant, MarkOn, Open, Stop, StopAgain, Sweep, Tell, Watch}
 use Rattle.gh_coord.specs.Watching as watch
 use Rattle.gh_coord.proofs.Checks.{is_checked}
 use Rattle.gh_coord.proofs.Stepping.{same_ask}
@@ -82,37 +83,6 @@ module _ (l : Layout) (seat gogc minheap room : ℕ) (found : ℕ → ℕ) where
         }
 
   module _ (n : ℕ) (s : Coordinating) (here : s.layout ≡ l) where
-    ack_step : (i : ℕ) (gone more : Bool) → Has (suc n) (cond gone (cond more (at_stage s (LoadAck (i + 1))) (stops_world (record s { is_last = true }))) (at_stage s LoadWant))
-    ack_step i true true = record { layout_is = here; knows = tt }
-    ack_step i true false = record { layout_is = here; knows = tt }
-    ack_step i false more = record { layout_is = here; knows = tt }
-
-    want_step : (none : Bool) → Has (suc n) (cond none (at_stage s (LoadAck 0)) (stops_world s))
-    want_step true = record { layout_is = here; knows = tt }
-    want_step false = record { layout_is = here; knows = tt }
-
-    stop_step : (st : stop.Stopping) (out : Option (Unit {0})) → Has (suc n) (after_stop (at_stage s (Stop st)) out)
-    stop_step st None = record { layout_is = here; knows = tt }
-    stop_step st (Some u) = record { layout_is = here; knows = tt }
-
-    open_step : (op : opens.CycleOpening) (out : Option (Unit {0})) → Has (suc n) (after_open (at_stage s (Open op)) out)
-    open_step op None = record { layout_is = here; knows = tt }
-    open_step op (Some u) = record { layout_is = here; knows = tt }
-
-    watch_step : (x : watch.Watching) (out : Option Watched) → Has (suc n) (after_watch (at_stage s (Watch x)) out)
-    watch_step x None = record { layout_is = here; knows = tt }
-    watch_step x (Some All) = record { layout_is = here; knows = tt }
-    watch_step x (Some NotYet) = record { layout_is = here; knows = tt }
-
-    again_step : (st : stop.Stopping) (out : Option (Unit {0})) → Has (suc n) (after_stop_again (at_stage s (StopAgain st)) out)
-    again_step st None = record { layout_is = here; knows = tt }
-    again_step st (Some u) = record { layout_is = here; knows = tt }
-
-    check_step : (x : watch.Watching) (out : Option Watched) → Has (suc n) (after_check (at_stage s (Check x)) out)
-    check_step x None = record { layout_is = here; knows = tt }
-    check_step x (Some All) = record { layout_is = here; knows = tt }
-    check_step x (Some NotYet) = record { layout_is = here; knows = tt }
-
     close_step : (cl : close.Closing) (out : Option ℕ) → Has (suc n) (after_close (at_stage s (Close cl)) out)
     close_step cl None = record { layout_is = here; knows = tt }
     close_step cl (Some lapsed) =
@@ -128,27 +98,19 @@ module _ (l : Layout) (seat gogc minheap room : ℕ) (found : ℕ → ℕ) where
     count_step co (r.LoadLive tally) v e = record { layout_is = here; knows = tt }
     count_step co (r.Ended read) v e = subst (λ (stage : CountStage). Has (suc n) (after_count (at_stage s (Count co)) (count.given_at stage))) (sym e) (record { layout_is = here; knows = tt })
 
-    last_step : (last : Bool) → Has (suc n) (at_stage s (cond last Done (LoadAck 0)))
-    last_step true = record { layout_is = here; knows = tt }
-    last_step false = record { layout_is = here; knows = tt }
-
-    tell_step : (te : tell.Telling) (out : Option (Unit {0})) → Has (suc n) (after_tell (at_stage s (Tell te)) out)
-    tell_step te None = record { layout_is = here; knows = tt }
-    tell_step te (Some u) = last_step s.is_last
-
     step_at : (stage : CoordStage) → s.stage ≡ stage → asks (now n) ≡ asks_at s stage → Knows s.generation n stage → Has (suc n) (goes_at s stage (found n))
-    step_at (LoadAck i) is asked k = ack_step i (found n == GONE) (ltb (i + 1) s.layout.procs)
-    step_at LoadWant is asked k = want_step (found n == 0)
-    step_at (Stop st) is asked k = stop_step (stop.goes st (found n)) (stop.gives st (found n))
-    step_at (Open op) is asked k = open_step (opens.goes op (found n)) (opens.gives op (found n))
-    step_at (Watch x) is asked k = watch_step (watch.goes x (found n)) (watch.gives x (found n))
-    step_at (StopAgain st) is asked k = again_step (stop.goes st (found n)) (stop.gives st (found n))
-    step_at (Check x) is asked k = check_step (watch.goes x (found n)) (watch.gives x (found n))
+    step_at (LoadAck i) is asked k = by_ack (Has (suc n)) s i (record { layout_is = here; knows = tt }) (record { layout_is = here; knows = tt }) (record { layout_is = here; knows = tt }) (found n == GONE) (ltb (i + 1) s.layout.procs)
+    step_at LoadWant is asked k = by_want (Has (suc n)) s (record { layout_is = here; knows = tt }) (record { layout_is = here; knows = tt }) (found n == 0)
+    step_at (Stop st) is asked k = by_out (Has (suc n)) (after_stop (at_stage s (Stop (stop.goes st (found n))))) (record { layout_is = here; knows = tt }) (λ u. record { layout_is = here; knows = tt }) (stop.gives st (found n))
+    step_at (Open op) is asked k = by_out (Has (suc n)) (after_open (at_stage s (Open (opens.goes op (found n))))) (record { layout_is = here; knows = tt }) (λ u. record { layout_is = here; knows = tt }) (opens.gives op (found n))
+    step_at (Watch x) is asked k = by_watched (Has (suc n)) (after_watch (at_stage s (Watch (watch.goes x (found n))))) (record { layout_is = here; knows = tt }) (record { layout_is = here; knows = tt }) (record { layout_is = here; knows = tt }) (watch.gives x (found n))
+    step_at (StopAgain st) is asked k = by_out (Has (suc n)) (after_stop_again (at_stage s (StopAgain (stop.goes st (found n))))) (record { layout_is = here; knows = tt }) (λ u. record { layout_is = here; knows = tt }) (stop.gives st (found n))
+    step_at (Check x) is asked k = by_watched (Has (suc n)) (after_check (at_stage s (Check (watch.goes x (found n))))) (record { layout_is = here; knows = tt }) (record { layout_is = here; knows = tt }) (record { layout_is = here; knows = tt }) (watch.gives x (found n))
     step_at MarkOn is asked k = record { layout_is = here; knows = tt }
     step_at (Close cl) is asked k = close_step (close.goes cl (found n)) (close.gives cl (found n))
     step_at (Sweep sw) is asked k = sweep_step sw k asked (sweep.gives sw (found n)) refl
     step_at (Count co) is asked k = count_step co co.stage (found n) refl
-    step_at (Tell te) is asked k = tell_step (tell.goes te (found n)) (tell.gives te (found n))
+    step_at (Tell te) is asked k = by_out (Has (suc n)) (after_tell (at_stage s (Tell (tell.goes te (found n))))) (record { layout_is = here; knows = tt }) (λ u. by_last (Has (suc n)) s (record { layout_is = here; knows = tt }) (record { layout_is = here; knows = tt }) s.is_last) (tell.gives te (found n))
     step_at Done is asked k = record { layout_is = here; knows = subst (λ (stage : CoordStage). Knows s.generation (suc n) stage) (sym is) tt }
 
   has : (n : ℕ) → Has n (now n)

@@ -1,8 +1,9 @@
 -- The coordinator has given nothing exactly where it asks for a further step, and its layout stays.
+use Rattle.std.proofs.Common.{ap}
 use Rattle.std.specs.Prelude.{◌≡◌, ℕ, ◌+◌, Bool, true, false, cond, nat_lt, ◌==◌, ◌↔◌, Option, Some, None, IsNone, refl}
 use Rattle.gh_coord.specs.Closing as close
 use Rattle.gh_coord.specs.Counting as count
-use Rattle.gh_coord.specs.Listing.{after_ack, after_check, after_close, after_count, after_open, after_stop, after_stop_again, after_sweep, after_tell, after_want, at_stage, Coordinating, counted, given_at, gives, goes, goes_at, is_busy, stops_world}
+use Rattle.gh_coord.specs.Listing.{after_check, after_close, after_count, after_open, after_stop, after_stop_again, after_sweep, after_tell, at_stage, Coordinating, counted, given_at, gives, goes, goes_at, is_busy, stops_world}
 use Rattle.gh_coord.specs.Listing as coord
 use Rattle.gh_coord.specs.Opening as opens
 use Rattle.gh_coord.specs.PartsEnd as parts
@@ -10,7 +11,7 @@ use Rattle.gh_coord.specs.Stopping as stop
 use Rattle.gh_coord.specs.SweepingAll as all
 use Rattle.gh_coord.specs.Telling as tell
 use Rattle.gh_coord.specs.Watching as watch
-use Rattle.gh_coord.specs.Vocabulary.{All, Check, Close, CoordStage, Count, Counted, Done, GONE, LoadAck, LoadWant, MarkOn, NotYet, Open, Stop, StopAgain, Sweep, Tell, Watch, Watched}
+use Rattle.gh_coord.specs.Vocabulary.{All, Check, Close, CoordStage, Count, Counted, Done, GONE, Layout, LoadAck, LoadWant, MarkOn, NotYet, Open, Stop, StopAgain, Sweep, Tell, Watch, Watched}
 
 abbrev IsGivenAt : CoordStage → Type 0
 IsGivenAt stage = IsNone (given_at stage) ↔ (is_busy stage ≡ true)
@@ -86,68 +87,62 @@ module _ (s : Coordinating) where
 pub ends : (s : Coordinating) (found : ℕ) → is_busy s.stage ≡ true → IsNone (gives s found) ↔ (is_busy (goes s found).stage ≡ true)
 ends s found busy = ends_at (counted s) s.stage found busy
 
-ack_stays : (s : Coordinating) (i : ℕ) (gone more : Bool) → (cond gone (cond more (at_stage s (LoadAck (i + 1))) (stops_world (record s { is_last = true }))) (at_stage s LoadWant)).layout ≡ s.layout
-ack_stays s i true true = refl
-ack_stays s i true false = refl
-ack_stays s i false more = refl
+-- What holds of each state to which a step may lead holds of that to which it leads: by what a part has given, and by what was found.
+module _ (Holds : Coordinating → Type 0) where
+  pub by_out : {A : Type 0} (to : Option A → Coordinating) → Holds (to None) → ((x : A) → Holds (to (Some x))) → (out : Option A) → Holds (to out)
+  by_out to none some None = none
+  by_out to none some (Some x) = some x
 
-want_stays : (s : Coordinating) (none : Bool) → (cond none (at_stage s (LoadAck 0)) (stops_world s)).layout ≡ s.layout
-want_stays s true = refl
-want_stays s false = refl
+  pub by_watched : (to : Option Watched → Coordinating) → Holds (to None) → Holds (to (Some All)) → Holds (to (Some NotYet)) → (out : Option Watched) → Holds (to out)
+  by_watched to none all_so not_yet None = none
+  by_watched to none all_so not_yet (Some All) = all_so
+  by_watched to none all_so not_yet (Some NotYet) = not_yet
 
-module _ (s : Coordinating) where
-  stop_stays : (out : Option (Unit {0})) → (after_stop s out).layout ≡ s.layout
-  stop_stays None = refl
-  stop_stays (Some u) = refl
+  module _ (s : Coordinating) where
+    pub by_ack : (i : ℕ) → Holds (at_stage s (LoadAck (i + 1))) → Holds (stops_world (record s { is_last = true })) → Holds (at_stage s LoadWant) → (gone more : Bool) →
+        Holds (cond gone (cond more (at_stage s (LoadAck (i + 1))) (stops_world (record s { is_last = true }))) (at_stage s LoadWant))
+    by_ack i next last wants true true = next
+    by_ack i next last wants true false = last
+    by_ack i next last wants false more = wants
 
-  open_stays : (out : Option (Unit {0})) → (after_open s out).layout ≡ s.layout
-  open_stays None = refl
-  open_stays (Some u) = refl
+    pub by_want : Holds (at_stage s (LoadAck 0)) → Holds (stops_world s) → (none : Bool) → Holds (cond none (at_stage s (LoadAck 0)) (stops_world s))
+    by_want idle stops true = idle
+    by_want idle stops false = stops
 
-  watch_stays : (out : Option Watched) → (coord.after_watch s out).layout ≡ s.layout
-  watch_stays None = refl
-  watch_stays (Some All) = refl
-  watch_stays (Some NotYet) = refl
+    pub by_last : Holds (at_stage s Done) → Holds (at_stage s (LoadAck 0)) → (last : Bool) → Holds (at_stage s (cond last Done (LoadAck 0)))
+    by_last ends idle true = ends
+    by_last ends idle false = idle
 
-  stop_again_stays : (out : Option (Unit {0})) → (after_stop_again s out).layout ≡ s.layout
-  stop_again_stays None = refl
-  stop_again_stays (Some u) = refl
+-- what no step changes beside counting itself: the layout, the number of phase words that were stored, and the room for cycles
+abbrev Fixed : Type 0
+Fixed = Layout × ℕ × ℕ
 
-  check_stays : (out : Option Watched) → (after_check s out).layout ≡ s.layout
-  check_stays None = refl
-  check_stays (Some All) = refl
-  check_stays (Some NotYet) = refl
+abbrev fixed : Coordinating → Fixed
+fixed s = (s.layout, s.marks, s.cycles.room)
 
-  close_stays : (out : Option ℕ) → (after_close s out).layout ≡ s.layout
-  close_stays None = refl
-  close_stays (Some lapsed) = refl
+abbrev StaysFixed : (s to : Coordinating) → Type 0
+StaysFixed s to = fixed to ≡ fixed s
 
-  sweep_stays : (out : Option (Unit {0})) → (after_sweep s out).layout ≡ s.layout
-  sweep_stays None = refl
-  sweep_stays (Some u) = refl
-
-  count_stays : (out : Option Counted) → (after_count s out).layout ≡ s.layout
-  count_stays None = refl
-  count_stays (Some read) = refl
-
-  tell_stays : (out : Option (Unit {0})) → (after_tell s out).layout ≡ s.layout
-  tell_stays None = refl
-  tell_stays (Some u) = refl
-
-stays_at : (s : Coordinating) (stage : CoordStage) (found : ℕ) → (goes_at s stage found).layout ≡ s.layout
-stays_at s (LoadAck i) found = ack_stays s i (found == GONE) (nat_lt (i + 1) s.layout.procs)
-stays_at s LoadWant found = want_stays s (found == 0)
-stays_at s (Stop st) found = stop_stays (at_stage s (Stop (stop.goes st found))) (stop.gives st found)
-stays_at s (Open o) found = open_stays (at_stage s (Open (opens.goes o found))) (opens.gives o found)
-stays_at s (Watch w) found = watch_stays (at_stage s (Watch (watch.goes w found))) (watch.gives w found)
-stays_at s (StopAgain st) found = stop_again_stays (at_stage s (StopAgain (stop.goes st found))) (stop.gives st found)
-stays_at s (Check w) found = check_stays (at_stage s (Check (watch.goes w found))) (watch.gives w found)
-stays_at s MarkOn found = refl
-stays_at s (Close c) found = close_stays (at_stage s (Close (close.goes c found))) (close.gives c found)
-stays_at s (Sweep w) found = sweep_stays (at_stage s (Sweep (all.goes w found))) (all.gives w found)
-stays_at s (Count c) found = count_stays (at_stage s (Count (count.goes c found))) (count.gives c found)
-stays_at s (Tell t) found = tell_stays (at_stage s (Tell (tell.goes t found))) (tell.gives t found)
-stays_at s Done found = refl
+fixed_at : (s : Coordinating) (stage : CoordStage) (found : ℕ) → StaysFixed s (goes_at s stage found)
+fixed_at s (LoadAck i) found = by_ack (StaysFixed s) s i refl refl refl (found == GONE) (nat_lt (i + 1) s.layout.procs)
+fixed_at s LoadWant found = by_want (StaysFixed s) s refl refl (found == 0)
+fixed_at s (Stop st) found = by_out (StaysFixed s) (after_stop (at_stage s (Stop (stop.goes st found)))) refl (λ x. refl) (stop.gives st found)
+fixed_at s (Open o) found = by_out (StaysFixed s) (after_open (at_stage s (Open (opens.goes o found)))) refl (λ x. refl) (opens.gives o found)
+fixed_at s (Watch w) found = by_watched (StaysFixed s) (coord.after_watch (at_stage s (Watch (watch.goes w found)))) refl refl refl (watch.gives w found)
+fixed_at s (StopAgain st) found = by_out (StaysFixed s) (after_stop_again (at_stage s (StopAgain (stop.goes st found)))) refl (λ x. refl) (stop.gives st found)
+fixed_at s (Check w) found = by_watched (StaysFixed s) (after_check (at_stage s (Check (watch.goes w found)))) refl refl refl (watch.gives w found)
+fixed_at s MarkOn found = refl
+fixed_at s (Close c) found = by_out (StaysFixed s) (after_close (at_stage s (Close (close.goes c found)))) refl (λ x. refl) (close.gives c found)
+fixed_at s (Sweep w) found = by_out (StaysFixed s) (after_sweep (at_stage s (Sweep (all.goes w found)))) refl (λ x. refl) (all.gives w found)
+fixed_at s (Count c) found = by_out (StaysFixed s) (after_count (at_stage s (Count (count.goes c found)))) refl (λ x. refl) (count.gives c found)
+fixed_at s (Tell t) found = by_out (StaysFixed s) (after_tell (at_stage s (Tell (tell.goes t found)))) refl (λ x. refl) (tell.gives t found)
+fixed_at s Done found = refl
 
 pub stays : (s : Coordinating) (found : ℕ) → (goes s found).layout ≡ s.layout
-stays s found = stays_at (counted s) s.stage found
+stays s found = ap (λ (f : Fixed). f.0) (fixed_at (counted s) s.stage found)
+
+pub marks_stay : (s : Coordinating) (stage : CoordStage) (found : ℕ) → (goes_at s stage found).marks ≡ s.marks
+marks_stay s stage found = ap (λ (f : Fixed). f.1) (fixed_at s stage found)
+
+pub room_stays : (s : Coordinating) (found : ℕ) → (goes s found).cycles.room ≡ s.cycles.room
+room_stays s found = ap (λ (f : Fixed). f.2) (fixed_at (counted s) s.stage found)

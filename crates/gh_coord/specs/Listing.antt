@@ -18,7 +18,7 @@ use Rattle.gh_coord.specs.declared.watch.Watched.{Watched}
 use Rattle.gh_coord.specs.declared.watch.Watched.TheVariants.{All, NotYet}
 use Rattle.gh_coord.specs.Closing as close
 use Rattle.gh_coord.specs.Counting as count
-use Rattle.gh_coord.specs.Keeping.{Kept, kept}
+use Rattle.gh_coord.specs.Keeping.{Kept, kept, last_kept}
 use Rattle.gh_coord.specs.Opening as open_
 use Rattle.gh_coord.specs.Stopping as stop
 use Rattle.gh_coord.specs.SweepingAll as sweep
@@ -213,6 +213,11 @@ stores_phase (Open o) = open_.stores_phase o.stage
 stores_phase MarkOn = true
 stores_phase (Tell t) = tell.stores_phase t.stage
 stores_phase _ = false
+
+-- the cycle that its next step tells to be swept, if it does: the one that it has kept last
+abbrev pub told_at : Kept → CoordStage → Option Cycle
+told_at cycles (Tell t) = if tell.stores_swept t.stage then last_kept cycles else None
+told_at cycles _ = None
 
 -- its marks are how often it has stored the phase word, and stand still at the end of their type
 abbrev pub marks_after : (marks : ℕ) → CoordStage → ℕ

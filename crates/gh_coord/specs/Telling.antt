@@ -49,6 +49,11 @@ abbrev pub stores_phase : TellStage → Bool
 stores_phase StorePhase = true
 stores_phase _ = false
 
+-- its next step tells that the cycle is swept
+abbrev pub stores_swept : TellStage → Bool
+stores_swept StoreSwept = true
+stores_swept _ = false
+
 abbrev pub given_at : TellStage → Option (Unit {0})
 given_at Ended = Some tt
 given_at _ = None

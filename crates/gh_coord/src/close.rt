@@ -9,7 +9,7 @@ use gh_base::{Ask, Cell, Layout, Machine, Req};
 use std::marker::Model;
 
 /// The stages in which marking is ended.
-#[derive(Clone, Copy, Debug, PartialEq, Eq)]
+#[derive(Clone, Copy)]
 pub enum CloseStage {
     /// It loads the credit that is left.
     LoadBank,
@@ -25,7 +25,7 @@ pub enum CloseStage {
 ///
 /// Credit for scanning is of no use once nothing is left to scan: what is found of it has lapsed, and the
 /// bank is cleared. Then the next sweep generation is stored, and with that each span is unswept.
-#[derive(Clone, Copy, Debug, PartialEq, Eq)]
+#[derive(Clone, Copy)]
 pub struct Close {
     layout: Layout,
     lapsed: u64,

@@ -1,12 +1,13 @@
 //! The coordinator's machine.
 
-ghost use Rattle.std.specs.Prelude.{◌≡◌, ◌+◌, ◌<◌, ◌≤◌, ◌^◌, ◌↔◌, IfOk, IsTrue, Option, false, true};
+ghost use Rattle.std.specs.Prelude.{◌≡◌, ◌+◌, ◌<◌, ◌≤◌, ◌^◌, ◌↔◌, length, IfOk, IsTrue, Option, false, true};
 ghost use Rattle.gh_base.specs.declared.pack.Phase.{Phase};
 ghost use Rattle.gh_base.specs.Packing.{phase_word};
 ghost use Rattle.gh_coord.specs.declared.count.Counted.{Counted};
 ghost use Rattle.gh_coord.specs.declared.pacing.TheConstants.{MOST_GOGC, NEVER};
 ghost use Rattle.gh_coord.specs.declared.watch.Watched.{Watched};
-ghost use Rattle.gh_coord.specs.Listing.{after_ack, after_check, after_close, after_count, after_open, after_stop, after_stop_again, after_sweep, after_tell, after_want, after_watch, counted, cycle_of, given, goes_at, is_busy, is_done, is_ending, lapsed_at, next_stop, opening, stores_phase, stops_world, watches};
+ghost use Rattle.gh_coord.specs.Listing.{after_ack, after_check, after_close, after_count, after_open, after_stop, after_stop_again, after_sweep, after_tell, after_want, after_watch, counted, cycle_of, given, goes_at, is_busy, is_done, is_ending, lapsed_at, next_stop, opening, stores_phase, stops_world, told_at, watches};
+ghost use Rattle.gh_coord.specs.Keeping.{last_kept};
 
 use crate::close::Close;
 use crate::count::{Count, Counted};
@@ -27,7 +28,7 @@ const STOPS: u64 = 1 << 62;
 const GENERATIONS: u64 = 1 << 34;
 
 /// The stages of the coordinator.
-#[derive(Clone, Copy, Debug, PartialEq, Eq)]
+#[derive(Clone, Copy)]
 pub enum CoordStage {
     /// It is idle, and loads the acknowledgement of this processor: whether that is done.
     LoadAck(u32),
@@ -160,9 +161,27 @@ impl Coord {
 
     /// The swept cycles in their order, as many as there is room for.
     pub fn cycles(&self) -> &[Cycle]
-        ensures { result.now ≡ self.now.cycles.items }
+        ensures are { result.now ≡ self.now.cycles.items }
+        ensures few { length result.now ≤ self.now.cycles.room }
     {
         self.cycles.as_slice()
+    }
+
+    /// The cycle that was kept last, if one was.
+    pub fn last_cycle(&self) -> Option<Cycle>
+        ensures { result ≡ last_kept self.now.cycles }
+    {
+        self.cycles.last()
+    }
+
+    /// The cycle that its next step tells to be swept, if it does.
+    pub fn told(&self) -> Option<Cycle>
+        ensures { result ≡ told_at self.now.cycles self.now.stage }
+    {
+        match &self.stage {
+            CoordStage::Tell(tell) if tell.stores_swept() => self.cycles.last(),
+            _ => None,
+        }
     }
 
     /// The credit that has lapsed, in words, modulo 2^64.

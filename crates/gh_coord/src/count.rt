@@ -18,7 +18,7 @@ pub struct Counted {
 }
 
 /// The stages in which the counts are read.
-#[derive(Clone, Copy, Debug, PartialEq, Eq)]
+#[derive(Clone, Copy)]
 pub enum CountStage {
     /// It loads the objects marked and freed.
     LoadTally,
@@ -29,7 +29,7 @@ pub enum CountStage {
 }
 
 /// Reads what the sweep has counted.
-#[derive(Clone, Copy, Debug, PartialEq, Eq)]
+#[derive(Clone, Copy)]
 pub struct Count {
     layout: Layout,
     stage: CountStage,

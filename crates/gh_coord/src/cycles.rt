@@ -1,7 +1,7 @@
 //! The list of swept cycles, whose room is taken once.
 
-ghost use Rattle.std.specs.Prelude.{◌≡◌, [], IfOk};
-ghost use Rattle.gh_coord.specs.Keeping.{kept};
+ghost use Rattle.std.specs.Prelude.{◌≡◌, ◌≤◌, [], length, IfOk};
+ghost use Rattle.gh_coord.specs.Keeping.{kept, last_kept};
 
 use std::alloc::{AllocError, Global};
 use std::marker::Model;
@@ -51,9 +51,17 @@ impl Cycles {
         }
     }
 
+    /// The cycle that was kept last, if one was.
+    pub fn last(&self) -> Option<Cycle>
+        ensures { result ≡ last_kept self.now }
+    {
+        self.items.last().copied()
+    }
+
     /// The cycles.
     pub fn as_slice(&self) -> &[Cycle]
-        ensures { result.now ≡ self.now.items }
+        ensures are { result.now ≡ self.now.items }
+        ensures few { length result.now ≤ self.now.room }
     {
         self.items.as_slice()
     }

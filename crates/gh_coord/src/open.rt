@@ -10,7 +10,7 @@ use gh_base::{Ask, Cell, Layout, Machine, Phase, PhaseWord, Req};
 use std::marker::Model;
 
 /// The stages in which a cycle is opened.
-#[derive(Clone, Copy, Debug, PartialEq, Eq)]
+#[derive(Clone, Copy)]
 pub enum OpenStage {
     /// It clears the request for a cycle.
     ClearWant,
@@ -40,7 +40,7 @@ pub enum OpenStage {
 ///
 /// While the world is stopped it clears the request, the cursor of the globals and the counts, stores what
 /// paces the cycle, and then the cycle's number; with the phase word marking is on.
-#[derive(Clone, Copy, Debug, PartialEq, Eq)]
+#[derive(Clone, Copy)]
 pub struct Open {
     layout: Layout,
     stops: u64,

@@ -9,7 +9,7 @@ use gh_base::{Ask, Cell, GONE, Layout, Machine, Phase, PhaseWord, Req};
 use std::marker::Model;
 
 /// The stages of a stop.
-#[derive(Clone, Copy, Debug, PartialEq, Eq)]
+#[derive(Clone, Copy)]
 pub enum StopStage {
     /// It stores the phase word: the world is to stop.
     StorePhase,
@@ -24,7 +24,7 @@ pub enum StopStage {
 /// It stores the phase word with the number of this stop. Then it loads the acknowledgements of the
 /// processors and the workers in their order, each again and again until it is the number of this stop or
 /// that of an actor that is done.
-#[derive(Clone, Copy, Debug, PartialEq, Eq)]
+#[derive(Clone, Copy)]
 pub struct Stop {
     layout: Layout,
     stops: u64,

@@ -12,7 +12,7 @@ use gh_sweep::{Sweep, SweepEnd};
 use std::marker::Model;
 
 /// The stages of the sweep of all spans.
-#[derive(Clone, Copy, Debug, PartialEq, Eq)]
+#[derive(Clone, Copy)]
 pub enum SweepAllStage {
     /// It loads the word of this page.
     LoadPage(u32),
@@ -29,7 +29,7 @@ pub enum SweepAllStage {
 ///
 /// It goes over the pages in ascending order. A span that is unswept it sweeps. Where another has begun to
 /// sweep it, it waits until that is done.
-#[derive(Clone, Copy, Debug, PartialEq, Eq)]
+#[derive(Clone, Copy)]
 pub struct SweepAll {
     layout: Layout,
     generation: u64,

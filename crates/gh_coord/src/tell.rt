@@ -4,13 +4,13 @@ ghost use Rattle.std.specs.Prelude.{◌≡◌, ◌<◌, ◌^◌, true};
 ghost use Rattle.gh_base.specs.Cells.{InRange};
 ghost use Rattle.gh_base.specs.Packing.{phase_word};
 ghost use Rattle.gh_base.specs.Steps.{cell_of};
-ghost use Rattle.gh_coord.specs.Telling.{asks, given, is_busy, opening, phase_at, stores_phase};
+ghost use Rattle.gh_coord.specs.Telling.{asks, given, is_busy, opening, phase_at, stores_phase, stores_swept};
 
 use gh_base::{Ask, Cell, Layout, Machine, Phase, PhaseWord, Req};
 use std::marker::Model;
 
 /// The stages in which it is told that a cycle is swept.
-#[derive(Clone, Copy, Debug, PartialEq, Eq)]
+#[derive(Clone, Copy)]
 pub enum TellStage {
     /// It stores the trigger of the next cycle.
     StoreTrigger,
@@ -26,7 +26,7 @@ pub enum TellStage {
 ///
 /// Who waits for the cycle goes on by the word of swept cycles. So the phase word is stored behind it: while
 /// it is swept the world is stopped.
-#[derive(Clone, Copy, Debug, PartialEq, Eq)]
+#[derive(Clone, Copy)]
 pub struct Tell {
     layout: Layout,
     trigger: u64,
@@ -72,6 +72,13 @@ impl Tell {
         ensures { result ≡ stores_phase self.now.stage }
     {
         matches!(self.stage, TellStage::StorePhase)
+    }
+
+    /// Its next step tells that the cycle is swept.
+    pub fn stores_swept(&self) -> bool
+        ensures { result ≡ stores_swept self.now.stage }
+    {
+        matches!(self.stage, TellStage::StoreSwept)
     }
 
     /// The phase word that it stores.

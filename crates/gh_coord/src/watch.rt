@@ -19,7 +19,7 @@ pub enum Watched {
 }
 
 /// The stages of a look at the words that are watched.
-#[derive(Clone, Copy, Debug, PartialEq, Eq)]
+#[derive(Clone, Copy)]
 pub enum WatchStage {
     /// It loads the word of this number.
     Look(u32),
@@ -33,7 +33,7 @@ pub enum WatchStage {
 /// The words are, in this order: the cursor of the globals, which is to be behind the last of them; of each
 /// goroutine the last cycle in which its stack was scanned, which is to be no earlier than this one; and
 /// each grey work buffer, which is to be held or empty. It ends at the first that is not as wanted.
-#[derive(Clone, Copy, Debug, PartialEq, Eq)]
+#[derive(Clone, Copy)]
 pub struct Watch {
     layout: Layout,
     cycle: u64,

@@ -8,7 +8,7 @@ use Rattle.gh_base.specs.declared.value.Fault.TheVariants.{NilBase, Field, Kind}
 use Rattle.gh_script.specs.declared.statement.Settings.{Settings}
 use Rattle.gh_script.specs.declared.fault.Why.TheVariants.{Missing}
 use Rattle.gh_script.specs.Program.{Program}
-use Rattle.gh_lines.specs.Text.{answers_text, cycle_line, credit_line, live_line, turns_line, statements_line, refusal_line}
+use Rattle.gh_lines.specs.Text.{Outcome, cycle_line, credit_line, live_line, outcome_text, turns_line, statements_line, refusal_line}
 
 -- goroutines `b` and `a`, in this order
 abbrev two_goroutines : Settings → Program
@@ -24,10 +24,13 @@ answers_of_two =
     (0, Fault NilBase) ∷ (1, Done) ∷ (1, Ref (record { g = 0; k = 12 })) ∷ (0, Ref (record { g = 0; k = 0 })) ∷ (0, Done) ∷ (0, Nil)
     ∷ (1, Int (2 ^ 64 - 1)) ∷ (0, Full) ∷ (1, Fault Kind) ∷ (0, Swept) ∷ (1, Ref (record { g = 1; k = 3 })) ∷ (0, Fault Field) ∷ []
 
+abbrev outcome_of_two : Outcome
+outcome_of_two = record { answers = answers_of_two; cycles = record { number = 1; marked = 3; freed = 0 } ∷ record { number = 2; marked = 1; freed = 2 } ∷ []; objects = 1; bytes = 16 }
+
 -- statements without a line are counted, and each goroutine counts from 1
-answers_text-of_two : (settings : Settings) → answers_text (two_goroutines settings) answers_of_two ≡ codes "b 1 fault nil\nb 2 ref b.0\nb 4 nil\nb 5 full\nb 6 swept\nb 7 fault field\na 2 ref b.12\na 3 int 18446744073709551615\na 4 fault kind\na 5 ref a.3\n"
+outcome_text-of_two : (settings : Settings) → outcome_text (two_goroutines settings) outcome_of_two ≡ codes "b 1 fault nil\nb 2 ref b.0\nb 4 nil\nb 5 full\nb 6 swept\nb 7 fault field\na 2 ref b.12\na 3 int 18446744073709551615\na 4 fault kind\na 5 ref a.3\ncycle 1 marked 3 freed 0\ncycle 2 marked 1 freed 2\nlive 1 bytes 16\n"
 unfolding digits
-answers_text-of_two settings = refl
+outcome_text-of_two settings = refl
 
 cycle_line-at : cycle_line 1 301 0 ≡ codes "cycle 1 marked 301 freed 0\n"
 unfolding digits

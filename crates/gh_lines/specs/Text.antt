@@ -1,5 +1,5 @@
 -- The bytes of the output: each line ends with LF, its words are parted by one space, and its numbers are in decimal digits.
-use Rattle.std.specs.Prelude.{ℕ, ◌+◌, ◌<◌, ◌==◌, ⊤, Bool, true, false, if◌then◌else◌, List, [], ◌∷◌, ◌++◌, length, codes, decimal}
+use Rattle.std.specs.Prelude.{ℕ, ◌+◌, ◌<◌, ◌==◌, ⊤, Bool, true, false, if◌then◌else◌, List, [], ◌∷◌, ◌++◌, length, map, codes, decimal}
 use Rattle.std.specs.List.{concat, flat_map, range_with_len}
 use Rattle.gh_base.specs.declared.value.Answer.{Answer}
 use Rattle.gh_base.specs.declared.value.Answer.TheVariants.{Done, Nil, Int, Ref, Swept, Full, Fault}
@@ -65,10 +65,6 @@ answers_by g (x ∷ more) = (if x.0 == g then x.1 ∷ [] else []) ++ answers_by 
 abbrev pub lines_of : Program → List (ℕ × Answer) → List (List ℕ)
 lines_of p answers = flat_map (λ g. lines_from p g 1 (answers_by g answers)) (range_with_len 0 (length p.goroutines))
 
--- these lines, one after the other
-abbrev pub answers_text : Program → List (ℕ × Answer) → List ℕ
-answers_text p answers = concat (lines_of p answers)
-
 -- What is told of a whole run.
 
 abbrev pub cycle_line : ℕ → ℕ → ℕ → List ℕ
@@ -79,6 +75,30 @@ credit_line earned spent lapsed = codes "credit earned " ++ decimal earned ++ co
 
 abbrev pub live_line : ℕ → ℕ → List ℕ
 live_line objects bytes = codes "live " ++ decimal objects ++ codes " bytes " ++ decimal bytes ++ codes "\n"
+
+-- a swept cycle: its number, and the objects that were kept and those that were freed
+pub record SweptCycle : Type 0 where
+  pub number : ℕ
+  pub marked : ℕ
+  pub freed : ℕ
+
+-- what a whole run comes to: the answers, each with its goroutine, the cycles, and what is live at the end
+pub record Outcome : Type 0 where
+  pub answers : List (ℕ × Answer)
+  pub cycles : List SweptCycle
+  pub objects : ℕ
+  pub bytes : ℕ
+
+abbrev pub line_of_cycle : SweptCycle → List ℕ
+line_of_cycle c = cycle_line c.number c.marked c.freed
+
+-- its lines: those of the answers, one for each cycle, and the one of what is live
+abbrev pub outcome_lines : Program → Outcome → List (List ℕ)
+outcome_lines p o = lines_of p o.answers ++ (map line_of_cycle o.cycles ++ live_line o.objects o.bytes ∷ [])
+
+-- and its text
+abbrev pub outcome_text : Program → Outcome → List ℕ
+outcome_text p o = concat (outcome_lines p o)
 
 abbrev pub turns_line : ℕ → List ℕ
 turns_line n = codes "turns " ++ decimal n ++ codes "\n"

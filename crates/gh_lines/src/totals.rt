@@ -7,11 +7,11 @@ use crate::LineBuf;
 
 impl LineBuf {
     /// `cycle k marked M freed F`: how many objects the sweep of cycle `k` kept and freed.
-    pub fn cycle(&mut self, k: u32, marked: u64, freed: u64)
+    pub fn cycle(&mut self, k: u64, marked: u64, freed: u64)
         ensures { self.new ≡ cycle_line k marked freed }
     {
         self.begin(b"cycle ");
-        self.put_number(u64::from(k));
+        self.put_number(k);
         self.put(b" marked ");
         self.put_number(marked);
         self.put(b" freed ");

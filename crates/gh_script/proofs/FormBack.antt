@@ -254,6 +254,9 @@ say_by_key draft name ss repeats l (Some keys.Move) s e is t few =
 say_by_key draft name ss repeats l (Some keys.Nil) s e is t few =
     let a = allowed (inside draft.given draft.names) keys.Nil l (t keys.Nil e) in
     say_step draft name ss repeats keys.Nil l e (cause_none (at draft name ss repeats) keys.Nil l (record { word = a.word; number = a.number; limit = a.limit; twice = a.twice; unknown = a.unknown; nesting = refl })) refl few
+say_by_key draft name ss repeats l (Some keys.Gc) s e is t few =
+    let a = allowed (inside draft.given draft.names) keys.Gc l (t keys.Gc e) in
+    say_step draft name ss repeats keys.Gc l e (cause_none (at draft name ss repeats) keys.Gc l (record { word = a.word; number = a.number; limit = a.limit; twice = a.twice; unknown = a.unknown; nesting = refl })) refl few
 
 opens_none : (draft : Draft) (name : List ℕ) (ss : List Stmt) (repeats : List Repeat) (l : Sentence) → cause_at (inside draft.given draft.names) keys.Repeat l ≡ None → length repeats < 8 → cause_at (at draft name ss repeats) keys.Repeat l ≡ None
 opens_none draft name ss repeats l c few =

@@ -526,6 +526,7 @@ running_step said draft keys.SetGlobal line h c e = running_say said draft keys.
 running_step said draft keys.Int line h c e = running_say said draft keys.Int line _ h (let a = allowed draft keys.Int line c in inside_none draft keys.Int line a a.limit a.twice a.unknown refl) e refl
 running_step said draft keys.Move line h c e = running_say said draft keys.Move line _ h (let a = allowed draft keys.Move line c in inside_none draft keys.Move line a a.limit a.twice a.unknown refl) e refl
 running_step said draft keys.Nil line h c e = running_say said draft keys.Nil line _ h (let a = allowed draft keys.Nil line c in inside_none draft keys.Nil line a a.limit a.twice a.unknown refl) e refl
+running_step said draft keys.Gc line h c e = running_say said draft keys.Gc line _ h (let a = allowed draft keys.Gc line c in inside_none draft keys.Gc line a a.limit a.twice a.unknown refl) e refl
 
 -- ---- too many statements
 

@@ -73,6 +73,7 @@ statement_keeps draft keys.SetGlobal line h = single (IsStatement (globals_in dr
 statement_keeps draft keys.Int line h = single (IsStatement (globals_in draft.given) (length draft.names)) _ (register_small line.second, number_small line.third)
 statement_keeps draft keys.Move line h = single (IsStatement (globals_in draft.given) (length draft.names)) _ (register_small line.second, register_small line.third)
 statement_keeps draft keys.Nil line h = single (IsStatement (globals_in draft.given) (length draft.names)) _ (register_small line.second)
+statement_keeps draft keys.Gc line h = single (IsStatement (globals_in draft.given) (length draft.names)) _ tt
 statement_keeps draft key line h = All-nil (IsStatement (globals_in draft.given) (length draft.names))
 
 -- ---- settings

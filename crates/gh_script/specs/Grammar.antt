@@ -43,6 +43,7 @@ words_in keys.SetGlobal = 3
 words_in keys.Int = 3
 words_in keys.Move = 3
 words_in keys.Nil = 2
+words_in keys.Gc = 1
 
 -- ---- the table of causes
 
@@ -64,6 +65,7 @@ is_misspelt keys.SetGlobal line = is_no_register line.third
 is_misspelt keys.Int line = is_no_register line.second
 is_misspelt keys.Move line = is_no_register line.second || is_no_register line.third
 is_misspelt keys.Nil line = is_no_register line.second
+is_misspelt keys.Gc line = false
 
 abbrev pub is_word_fault : Key → Sentence → Bool
 is_word_fault key line = not (line.count == words_in key) || is_misspelt key line
@@ -86,6 +88,7 @@ is_number_fault keys.SetGlobal line = is_no_number line.second
 is_number_fault keys.Int line = is_no_number line.third
 is_number_fault keys.Move line = false
 is_number_fault keys.Nil line = false
+is_number_fault keys.Gc line = false
 
 -- Limit: a number or a shape's length lies outside its limits; one type or goroutine too many; at a goroutine's end,
 -- too many statements
@@ -103,6 +106,7 @@ is_limit_fault draft keys.SetGlobal line = nat_le (globals_in draft.given) (numb
 is_limit_fault draft keys.Int line = false
 is_limit_fault draft keys.Move line = false
 is_limit_fault draft keys.Nil line = false
+is_limit_fault draft keys.Gc line = false
 
 -- Twice: a setting stands a second time; a type's or a goroutine's name is taken
 abbrev pub is_twice_fault : Draft → Key → Sentence → Bool
@@ -147,6 +151,7 @@ statement_of names keys.SetGlobal line = Some (statements.SetGlobal (number_in l
 statement_of names keys.Int line = Some (statements.Int (register_in line.second) (number_in line.third))
 statement_of names keys.Move line = Some (statements.Move (register_in line.second) (register_in line.third))
 statement_of names keys.Nil line = Some (statements.Nil (register_in line.second))
+statement_of names keys.Gc line = Some statements.Gc
 statement_of names key line = None
 
 -- what the lines so far and this one say

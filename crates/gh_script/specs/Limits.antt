@@ -38,10 +38,10 @@ least settings.Globals = 1
 least settings.Gogc = 0
 least settings.Minheap = 0
 
--- one processor and one worker, until several are taken
+-- one processor, until several are taken
 abbrev pub most : Setting → ℕ
 most settings.Procs = 1
-most settings.Workers = 1
+most settings.Workers = 4
 most settings.Arena = MOST_PAGES
 most settings.Globals = MOST_GLOBALS
 most settings.Gogc = 1000

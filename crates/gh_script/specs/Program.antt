@@ -65,7 +65,7 @@ pub record IsPacked (shape : Shape) : Type 0 where
   pub packed : length shape.bits ≡ (shape.words + 63) / 64
   pub narrow : (i : ℕ) → bits_at shape i < 2 ^ 64
 
--- the numbers of a statement are within their limits; no statement asks for a cycle, until `gc` is taken
+-- the numbers of a statement are within their limits
 abbrev pub IsStatement : ℕ → ℕ → Stmt → Type 0
 IsStatement globals types (New d t) = (d < registers) × (t < types)
 IsStatement globals types (Load d b k) = (d < registers) × (b < registers) × (k ≤ most_field)
@@ -75,7 +75,7 @@ IsStatement globals types (SetGlobal k v) = (k < globals) × (v < registers)
 IsStatement globals types (Int d n) = (d < registers) × (n < 2 ^ 64)
 IsStatement globals types (Move d s) = (d < registers) × (s < registers)
 IsStatement globals types (Nil d) = d < registers
-IsStatement globals types Gc = ⊥
+IsStatement globals types Gc = Unit {0}
 
 abbrev pub AreStatements : ℕ → ℕ → Goroutine → Type 0
 AreStatements globals types g = All (IsStatement globals types) g.statements

@@ -36,7 +36,8 @@ statement_key_of word =
     (if bytes_eq word (codes "gstore") then Some keys.SetGlobal else
     (if bytes_eq word (codes "int") then Some keys.Int else
     (if bytes_eq word (codes "move") then Some keys.Move else
-    (if bytes_eq word (codes "nil") then Some keys.Nil else None)))))))
+    (if bytes_eq word (codes "nil") then Some keys.Nil else
+    (if bytes_eq word (codes "gc") then Some keys.Gc else None))))))))
 
 -- the first that is there
 abbrev pub first_some : Option Key → Option Key → Option Key

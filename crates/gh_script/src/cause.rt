@@ -56,6 +56,7 @@ fn words_in(key: Key) -> usize
         Key::Int => 3,
         Key::Move => 3,
         Key::Nil => 2,
+        Key::Gc => 1,
     }
 }
 
@@ -82,6 +83,7 @@ fn is_misspelt(key: Key, line: &Sentence) -> bool
         Key::Int => is_no_register(line.second),
         Key::Move => is_no_register(line.second) || is_no_register(line.third),
         Key::Nil => is_no_register(line.second),
+        Key::Gc => false,
     }
 }
 
@@ -111,7 +113,7 @@ fn is_number_fault(key: Key, line: &Sentence) -> bool
         Key::GetGlobal => is_no_number(line.third),
         Key::SetGlobal => is_no_number(line.second),
         Key::Int => is_no_number(line.third),
-        Key::Move | Key::Nil => false,
+        Key::Move | Key::Nil | Key::Gc => false,
     }
 }
 
@@ -136,7 +138,8 @@ fn most(setting: Setting) -> u64
     ensures { result ≡ most setting }
 {
     match setting {
-        Setting::Procs | Setting::Workers => 1,
+        Setting::Procs => 1,
+        Setting::Workers => 4,
         Setting::Arena => u64::from(MOST_PAGES),
         Setting::Globals => u64::from(MOST_GLOBALS),
         Setting::Gogc => 1000,
@@ -164,7 +167,7 @@ fn is_limit_fault(draft: &Draft, key: Key, line: &Sentence) -> bool
         Key::Store => number_in(line.third) > MOST_FIELD,
         Key::GetGlobal => number_in(line.third) >= u64::from(globals(&draft.given)),
         Key::SetGlobal => number_in(line.second) >= u64::from(globals(&draft.given)),
-        Key::New | Key::Int | Key::Move | Key::Nil => false,
+        Key::New | Key::Int | Key::Move | Key::Nil | Key::Gc => false,
     }
 }
 

@@ -27,4 +27,5 @@ pub enum Key {
     Int,
     Move,
     Nil,
+    Gc,
 }

@@ -10,7 +10,7 @@
 //! what they say (specs/Form.antt).
 //! The heap has no use of the text once it is parsed, so a [`Script`] keeps only what was said.
 //!
-//! `gc` and more than one processor or worker are refused for now.
+//! More than one processor is refused for now.
 #![tactic(auto)]
 
 mod cause;

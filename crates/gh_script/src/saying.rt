@@ -84,6 +84,7 @@ fn statement(draft: &Draft, key: Key, line: &Sentence) -> Option<Stmt>
         Key::Nil => Stmt::Nil {
             d: register_in(line.second),
         },
+        Key::Gc => Stmt::Gc,
         _ => return None,
     };
     Some(said)

@@ -73,7 +73,8 @@ fn bad_scripts_have_their_line_and_cause(rt: HostRuntime) -> Result<(), Fail> {
         ("go a|repeat 2|nil r0|go b", 4, Why::Nesting),
         ("end", 1, Why::Nesting),
         ("nil r0", 1, Why::Nesting),
-        ("go a|gc|end", 2, Why::Word),
+        ("go a|gc r0|end", 2, Why::Word),
+        ("gc", 1, Why::Nesting),
         ("go a|repeat 2|nil r0", 3, Why::Nesting),
         ("repeat 1", 1, Why::Nesting),
         ("go a|repeat 0", 2, Why::Limit),
@@ -104,7 +105,8 @@ fn bad_scripts_have_their_line_and_cause(rt: HostRuntime) -> Result<(), Fail> {
             Why::Nesting,
         ),
         ("procs 2", 1, Why::Limit),
-        ("workers 2", 1, Why::Limit),
+        ("workers 5", 1, Why::Limit),
+        ("workers 0", 1, Why::Limit),
         ("\r||# one|\t # two|procs 1\r|procs\t1", 6, Why::Twice),
         ("go a|end|\r\r", 3, Why::Word),
         ("go a|end x", 2, Why::Word),
@@ -120,12 +122,12 @@ fn bad_scripts_have_their_line_and_cause(rt: HostRuntime) -> Result<(), Fail> {
 #[test]
 fn a_script_says_its_settings_types_and_statements(rt: HostRuntime) -> Result<(), Fail> {
     let row =
-        "  type wide p*2n*63p\r||# all|gogc 007|globals 3|arena 16|type t n|go a1\t|\tnew r15 t\r|load r0 r1 65535|store r2 3 r4|gload r5 2|gstore 0 r6|int r7 18446744073709551615|move r8 r9|nil r10|end";
+        "  type wide p*2n*63p\r||# all|gogc 007|globals 3|workers 4|arena 16|type t n|go a1\t|\tnew r15 t\r|load r0 r1 65535|store r2 3 r4|gload r5 2|gstore 0 r6|int r7 18446744073709551615|move r8 r9|nil r10|gc|end";
     let text = text_of(rt.alloc(), row)?;
     let script = parse(rt.alloc(), &text).ok().ok_or("it is a script")?;
     let settings = Settings {
         procs: 1,
-        workers: 1,
+        workers: 4,
         arena: 16,
         globals: 3,
         gogc: 7,
@@ -140,7 +142,7 @@ fn a_script_says_its_settings_types_and_statements(rt: HostRuntime) -> Result<()
     assert!(rt; !shapes.noscan(0) && shapes.noscan(1));
     assert!(rt; script.goroutines() == 1);
     assert_eq!(rt; script.name(0), "a1");
-    assert_eq!(rt; script.count(0), 8);
+    assert_eq!(rt; script.count(0), 9);
     let statements = [
         None,
         Some(Stmt::New { d: 15, t: 1 }),
@@ -155,9 +157,10 @@ fn a_script_says_its_settings_types_and_statements(rt: HostRuntime) -> Result<()
         Some(Stmt::Int { d: 7, n: u64::MAX }),
         Some(Stmt::Move { d: 8, s: 9 }),
         Some(Stmt::Nil { d: 10 }),
+        Some(Stmt::Gc),
         None,
     ];
-    for (n, statement) in (0..10).zip(statements) {
+    for (n, statement) in (0..11).zip(statements) {
         assert_eq!(rt; script.statement(0, n), statement, "statement {n}");
     }
     Ok(())

@@ -76,6 +76,8 @@ fn statement_key(word: &[u8]) -> Option<Key>
         Some(Key::Move)
     } else if word == b"nil".as_slice() {
         Some(Key::Nil)
+    } else if word == b"gc".as_slice() {
+        Some(Key::Gc)
     } else {
         None
     }

@@ -6,3 +6,4 @@ pub mod Marking
 pub mod Phases
 pub mod Shaking
 pub mod Working
+pub mod Writing

@@ -4,3 +4,4 @@ pub mod Listing
 pub mod MarkFacts
 pub mod Sound
 pub mod Works
+pub mod Writing

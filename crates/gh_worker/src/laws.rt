@@ -4,6 +4,7 @@
 ghost use Rattle.gh_worker.specs.Handshake.{WorkersKeepHandshake};
 ghost use Rattle.gh_worker.specs.MarkFacts.{WorksByMoves};
 ghost use Rattle.gh_worker.specs.Works.{GlobalsAreClaimed, NothingIsHeldAtStops, PhasesAreKept, TakenObjectsAreScanned, WordsAreCounted, WorkersLeaveOnce};
+ghost use Rattle.gh_worker.specs.Writing.{CalmWorkersMarkNothing, WorkersWriteTheirOwn};
 
 use gh_marks::laws::{facts_last, hands_follow, steps_go_by_moves, the_cursor_is_small};
 use gh_phase::laws::going_on_keeps_the_handshake;
@@ -73,3 +74,15 @@ pub fn works_by_moves()
     shades_by_moves();
     scans_by_moves();
 }
+
+/// A worker writes no word but those of buffers, entries and marks, the cursor by one global, and its own
+/// acknowledgement.
+pub fn a_worker_writes_its_own()
+    ensures { WorkersWriteTheirOwn }
+{}
+
+/// A worker that holds no buffer and marks nothing stays so until it finds that marking is on, and writes its
+/// acknowledgement alone. It is so before its first step, and while it goes on after a stop.
+pub fn calm_workers_mark_nothing()
+    ensures { CalmWorkersMarkNothing }
+{}

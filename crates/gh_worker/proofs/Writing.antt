@@ -1,0 +1,166 @@
+-- Which words a worker writes, routine by routine; and that it writes none of marking while it is calm.
+use Rattle.std.proofs.Common.{◌≡◌, ℕ, ◌⊎◌, inl, inr, true, refl, subst, sym, Option, Some, None}
+use Rattle.gh_base.specs.declared.held.Held.{Held}
+use Rattle.gh_base.specs.declared.pack.Phase.{Phase}
+use Rattle.gh_base.specs.declared.pack.Phase.TheVariants as kind
+use Rattle.gh_base.specs.Packing.{phase_of}
+use Rattle.gh_phase.specs.declared.resume.Resumed.{Resumed}
+use Rattle.gh_phase.specs.declared.resume.ResumeStage.{ResumeStage}
+use Rattle.gh_phase.specs.declared.resume.ResumeStage.TheVariants as resuming
+use Rattle.gh_phase.specs.Listing as resume
+use Rattle.gh_scan.specs.declared.scan.ScanStage.{ScanStage}
+use Rattle.gh_scan.specs.declared.scan.ScanStage.TheVariants as scanning
+use Rattle.gh_scan.specs.Listing as scan
+use Rattle.gh_shade.specs.declared.shade.ShadeStage.{ShadeStage}
+use Rattle.gh_shade.specs.declared.shade.ShadeStage.TheVariants as shading
+use Rattle.gh_shade.specs.Listing as shade
+use Rattle.gh_wbuf.specs.declared.find_room.RoomStage.{RoomStage}
+use Rattle.gh_wbuf.specs.declared.find_room.RoomStage.TheVariants as finding
+use Rattle.gh_wbuf.specs.declared.give_buffer.GiveStage.{GiveStage}
+use Rattle.gh_wbuf.specs.declared.give_buffer.GiveStage.TheVariants as giving
+use Rattle.gh_wbuf.specs.declared.take_entry.TakeStage.{TakeStage}
+use Rattle.gh_wbuf.specs.declared.take_entry.TakeStage.TheVariants as taking
+use Rattle.gh_wbuf.specs.declared.try_buffer.TryStage.{TryStage}
+use Rattle.gh_wbuf.specs.declared.try_buffer.TryStage.TheVariants as trying
+use Rattle.gh_wbuf.specs.BufferGiving as give
+use Rattle.gh_wbuf.specs.EntryTaking as take
+use Rattle.gh_wbuf.specs.RoomFinding as room
+use Rattle.gh_wbuf.specs.Trying as try
+use Rattle.gh_worker.specs.declared.worker.WorkerStage.{WorkerStage}
+use Rattle.gh_worker.specs.declared.worker.WorkerStage.TheVariants as work
+use Rattle.gh_worker.specs.Handshake.{GoesOnWithNone, IsMarking, Sound, SoundAt}
+use Rattle.gh_worker.specs.Listing.{after_resume, asks_at, by_phase, goes_at, is_busy, stops_at, Working}
+use Rattle.gh_worker.specs.Writing.{AcksAlone, CalmWorkersMarkNothing, IsCalm, Rests, WorkersWriteTheirOwn, WritesItsOwn}
+
+module _ (seat : ℕ) where
+  backs : (t : try.Trying) (held : Option Held) → WritesItsOwn seat (try.back_at t held)
+  backs t None = tt
+  backs t (Some h) = tt
+
+  tries : (t : try.Trying) (p : TryStage) → WritesItsOwn seat (try.asks_at t p)
+  tries t trying.Look = tt
+  tries t (trying.GiveBack word) = backs t t.held
+  tries t (trying.Claim word) = tt
+  tries t trying.Ended = tt
+
+  gives : (p : GiveStage) → WritesItsOwn seat (give.asks_at p)
+  gives (giving.Give h) = tt
+  gives giving.Ended = tt
+
+  takes : (t : take.EntryTaking) (p : TakeStage) → WritesItsOwn seat (take.asks_at t p)
+  takes t (taking.Try u) = tries u u.stage
+  takes t (taking.Take h) = tt
+  takes t (taking.Ended held) = tt
+
+  finds_room : (r : room.RoomFinding) (p : RoomStage) → WritesItsOwn seat (room.asks_at r p)
+  finds_room r (finding.GiveBack h) = tt
+  finds_room r (finding.Try t) = tries t t.stage
+  finds_room r (finding.Ended h) = tt
+
+  enters : (reference : ℕ) (held : Option Held) → WritesItsOwn seat (shade.enters reference held)
+  enters reference None = tt
+  enters reference (Some h) = tt
+
+  shades : (s : shade.Shading) (p : ShadeStage) → WritesItsOwn seat (shade.asks_at s p)
+  shades s shading.LoadPage = tt
+  shades s (shading.SetMark noscan) = tt
+  shades s shading.WaitForRoom = tt
+  shades s shading.Enter = enters s.reference s.held
+  shades s shading.Ended = tt
+
+  scans : (s : scan.Scanning) (p : ScanStage) → WritesItsOwn seat (scan.asks_at s p)
+  scans s scanning.LoadPage = tt
+  scans s scanning.LoadBitmap = tt
+  scans s scanning.LoadField = tt
+  scans s (scanning.Shading sh) = shades sh sh.stage
+  scans s (scanning.FindRoom sh r) = finds_room r r.stage
+  scans s scanning.Ended = tt
+
+  resumes : (r : resume.Resuming) (p : ResumeStage) → r.seat ≡ seat → WritesItsOwn seat (resume.asks_at r p)
+  resumes r resuming.Acknowledge e = e
+  resumes r resuming.LoadPhase e = tt
+  resumes r resuming.LoadGeneration e = tt
+  resumes r resuming.LoadBegun e = tt
+  resumes r resuming.Ended e = tt
+
+writes_at : (w : Working) (p : WorkerStage) → SoundAt w p → is_busy p ≡ true → WritesItsOwn w.seat (asks_at w p)
+writes_at w work.LoadPhase s b = tt
+writes_at w (work.GiveBack g stops) s b = gives w.seat g.stage
+writes_at w (work.Resuming r) s b = resumes w.seat r r.stage s.seat_is
+writes_at w (work.Taking t) s b = takes w.seat t t.stage
+writes_at w (work.Scanning m) s b = scans w.seat m m.stage
+writes_at w work.LoadCursor s b = tt
+writes_at w work.Claim s b = (refl, refl)
+writes_at w (work.LoadGlobal i) s b = tt
+writes_at w (work.Shading sh) s b = shades w.seat sh sh.stage
+writes_at w (work.FindRoom sh r) s b = finds_room w.seat r r.stage
+writes_at w work.Leave s b = refl
+writes_at w work.Done s b = absurd cc
+
+pub writes_its_own : WorkersWriteTheirOwn
+writes_its_own w s b = writes_at w w.stage s b
+
+-- While it is calm.
+
+acks : (seat : ℕ) (r : resume.Resuming) (p : ResumeStage) → r.seat ≡ seat → AcksAlone seat (resume.asks_at r p)
+acks seat r resuming.Acknowledge e = e
+acks seat r resuming.LoadPhase e = tt
+acks seat r resuming.LoadGeneration e = tt
+acks seat r resuming.LoadBegun e = tt
+acks seat r resuming.Ended e = tt
+
+acks_at : (w : Working) (p : WorkerStage) → SoundAt w p → Rests p → is_busy p ≡ true → AcksAlone w.seat (asks_at w p)
+acks_at w work.LoadPhase s c b = tt
+acks_at w (work.Resuming r) s c b = acks w.seat r r.stage s.seat_is
+acks_at w work.Leave s c b = refl
+acks_at w work.Done s c b = absurd cc
+acks_at w (work.GiveBack g stops) s c b = absurd c
+acks_at w (work.Taking t) s c b = absurd c
+acks_at w (work.Scanning m) s c b = absurd c
+acks_at w work.LoadCursor s c b = absurd c
+acks_at w work.Claim s c b = absurd c
+acks_at w (work.LoadGlobal i) s c b = absurd c
+acks_at w (work.Shading sh) s c b = absurd c
+acks_at w (work.FindRoom sh r) s c b = absurd c
+
+stops_calm : (w : Working) (stops : ℕ) (held : Option Held) → w.held ≡ None → held ≡ None → Rests (stops_at w stops held)
+stops_calm w stops None e x = tt
+stops_calm w stops (Some h) e x = absurd cc
+
+loads_calm : (w : Working) (stops : ℕ) (phase : Phase) → w.held ≡ None → Rests (by_phase w stops phase) ⊎ IsMarking (by_phase w stops phase)
+loads_calm w stops kind.Off e = inl tt
+loads_calm w stops kind.Mark e = inr tt
+loads_calm w stops kind.Stop e = inl (stops_calm w stops w.held e e)
+loads_calm w stops kind.Finished e = inl tt
+
+resumes_calm : (w : Working) (r : resume.Resuming) (out : Option Resumed) → w.held ≡ None → IsCalm (after_resume w r out)
+resumes_calm w r None e = record { none = e; rests = tt }
+resumes_calm w r (Some out) e = record { none = e; rests = tt }
+
+abbrev Stays : Working → Type 0
+Stays to = IsCalm to ⊎ IsMarking to.stage
+
+stays_at : (w : Working) (p : WorkerStage) (found : ℕ) → w.held ≡ None → Rests p → is_busy p ≡ true → Stays (goes_at w p found)
+stays_at w work.LoadPhase found e c b = elim (loads_calm w (phase_of found).stops (phase_of found).phase e) [ inl x ↦ inl (record { none = e; rests = x }) | inr y ↦ inr y ]
+stays_at w (work.Resuming r) found e c b = inl (resumes_calm w (resume.goes r found) (resume.gives r found) e)
+stays_at w work.Leave found e c b = inl (record { none = e; rests = tt })
+stays_at w work.Done found e c b = absurd cc
+stays_at w (work.GiveBack g stops) found e c b = absurd c
+stays_at w (work.Taking t) found e c b = absurd c
+stays_at w (work.Scanning m) found e c b = absurd c
+stays_at w work.LoadCursor found e c b = absurd c
+stays_at w work.Claim found e c b = absurd c
+stays_at w (work.LoadGlobal i) found e c b = absurd c
+stays_at w (work.Shading sh) found e c b = absurd c
+stays_at w (work.FindRoom sh r) found e c b = absurd c
+
+stopped : (w : Working) (r : resume.Resuming) → Sound w → w.stage ≡ work.Resuming r → IsCalm w
+stopped w r s e = let x : GoesOnWithNone w.seat w.held r = subst (SoundAt w) e s in record { none = x.none; rests = subst Rests (sym e) tt }
+
+pub calm_marks_nothing : CalmWorkersMarkNothing
+calm_marks_nothing = record {
+  at_first = λ l seat. record { none = refl; rests = tt };
+  after_stop = stopped;
+  stays = λ w found c b. stays_at w w.stage found c.none c.rests b;
+  writes = λ w s c b. acks_at w w.stage s c.rests b;
+}

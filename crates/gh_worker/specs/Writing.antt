@@ -1,0 +1,60 @@
+-- Which words a worker writes, and when it writes none of marking.
+use Rattle.std.specs.Prelude.{◌≡◌, ℕ, ◌⊎◌, true, None}
+use Rattle.gh_base.specs.declared.cell.Ask.{Ask}
+use Rattle.gh_base.specs.declared.cell.Ask.TheVariants.{Load, Store, Or, And, Add, Swap}
+use Rattle.gh_base.specs.declared.cell.Cell.{Cell}
+use Rattle.gh_base.specs.declared.cell.Cell.TheVariants as cell
+use Rattle.gh_base.specs.declared.layout.Layout.{Layout}
+use Rattle.gh_phase.specs.Listing as resume
+use Rattle.gh_worker.specs.declared.worker.WorkerStage.{WorkerStage}
+use Rattle.gh_worker.specs.declared.worker.WorkerStage.TheVariants.{LoadPhase, Resuming, Leave, Done}
+use Rattle.gh_worker.specs.Handshake.{IsMarking, Sound}
+use Rattle.gh_worker.specs.Listing.{asks, goes, is_busy, opening, Working}
+
+-- a word of a buffer, an entry of one, a word of marks, or this seat's acknowledgement
+abbrev pub IsWritten : (seat : ℕ) → Cell → Type 0
+IsWritten seat (cell.Buffer b) = Unit {0}
+IsWritten seat (cell.Entry b j) = Unit {0}
+IsWritten seat (cell.Mark i) = Unit {0}
+IsWritten seat (cell.Ack a) = a ≡ seat
+IsWritten seat _ = ⊥
+
+-- a load; or a write of one of these; or the cursor is moved by one global
+abbrev pub WritesItsOwn : (seat : ℕ) → Ask → Type 0
+WritesItsOwn seat (Load c) = Unit {0}
+WritesItsOwn seat (Store c value) = IsWritten seat c
+WritesItsOwn seat (Or c bits) = IsWritten seat c
+WritesItsOwn seat (And c bits) = IsWritten seat c
+WritesItsOwn seat (Add c more) = (c ≡ cell.Gcur) × (more ≡ 1)
+WritesItsOwn seat (Swap c old new) = IsWritten seat c
+
+abbrev pub WorkersWriteTheirOwn : Type 0
+WorkersWriteTheirOwn = (w : Working) → Sound w → is_busy w.stage ≡ true → WritesItsOwn w.seat (asks w)
+
+-- it loads the phase, goes on after a stop, or leaves
+abbrev pub Rests : WorkerStage → Type 0
+Rests LoadPhase = Unit {0}
+Rests (Resuming r) = Unit {0}
+Rests Leave = Unit {0}
+Rests Done = Unit {0}
+Rests _ = ⊥
+
+-- it marks nothing, and holds no buffer
+pub record IsCalm (w : Working) : Type 0 where
+  pub none : w.held ≡ None
+  pub rests : Rests w.stage
+
+-- a load, or a store of this seat's acknowledgement
+abbrev pub AcksAlone : (seat : ℕ) → Ask → Type 0
+AcksAlone seat (Load c) = Unit {0}
+AcksAlone seat (Store (cell.Ack a) value) = a ≡ seat
+AcksAlone seat _ = ⊥
+
+pub record CalmWorkersMarkNothing : Type 0 where
+  pub at_first : (l : Layout) (seat : ℕ) → IsCalm (opening l seat)
+  -- while it goes on after a stop it is calm
+  pub after_stop : (w : Working) (r : resume.Resuming) → Sound w → w.stage ≡ Resuming r → IsCalm w
+  -- and it stays so until it finds that marking is on
+  pub stays : (w : Working) (found : ℕ) → IsCalm w → is_busy w.stage ≡ true → IsCalm (goes w found) ⊎ IsMarking (goes w found).stage
+  -- it writes its acknowledgement and nothing else
+  pub writes : (w : Working) → Sound w → IsCalm w → is_busy w.stage ≡ true → AcksAlone w.seat (asks w)
