@@ -1,5 +1,5 @@
--- A script's run ends within a budget or does not, and its answers are one list.
-use Rattle.std.proofs.Common.{◌≡◌, ℕ, true, false, List, [], reverse, refl, sym, ap, subst, ◌∙◌, arith}
+-- A script's run ends within a budget or does not, and it comes to one outcome.
+use Rattle.std.proofs.Common.{◌≡◌, ℕ, ◌<◌, true, false, List, [], reverse, refl, sym, ap, subst, ◌∙◌, arith}
 use Rattle.std.specs.Coded.{le_prop}
 use Rattle.std.proofs.lemmas.List.{append-nil}
 use Rattle.gh_base.specs.Limits.{InLimits}
@@ -7,12 +7,16 @@ use Rattle.gh_base.specs.declared.operation.Op.{Op}
 use Rattle.gh_base.specs.declared.layout.Layout.{Layout}
 use Rattle.gh_base.specs.declared.machine.Entry.{Entry}
 use Rattle.gh_script.specs.Program.{Program}
+use Rattle.gh_coord.specs.Listing.{Coordinating}
+use Rattle.gh_lines.specs.Text.{Outcome}
+use Rattle.gh_mutator.specs.declared.processor.Processor.{Processor}
+use Rattle.gh_world.specs.declared.handshake.Actor.{Actor}
+use Rattle.gh_world.specs.declared.handshake.Actor.TheVariants.{Leads}
 use Rattle.gh_world.specs.Order.{begun_in}
-use Rattle.gh_world.specs.Law.{processor_after}
-use Rattle.gh_mutator.specs.Serving.{has_left_at}
-use Rattle.gh_world.specs.World.{opening, LaysOut}
-use Rattle.gh_world.specs.Runs.{IsRun, IsRunSoFar, IsExplained, EveryRunIsOne, NoneIsLonger, answers_given}
-use Rattle.gh_replay.specs.Replayed.{NotBoth, OneAnswer}
+use Rattle.gh_world.specs.Schedule.{ended_after, IsInTurn}
+use Rattle.gh_world.specs.World.{LaysOut, setting_of}
+use Rattle.gh_world.specs.Runs.{IsRun, IsRunSoFar, IsExplained, EveryRunIsOne, NoneIsLonger, answers_given, outcome_by}
+use Rattle.gh_replay.specs.Replayed.{NotBoth, OneOutcome}
 
 both : {A B : Type 0} (x y : A × B) → x.0 ≡ y.0 → x.1 ≡ y.1 → x ≡ y
 both x y e f = rw (e, f) refl
@@ -45,29 +49,41 @@ same_layout p l k a b =
     (a.goroutines_are ∙ sym b.goroutines_are) k.limits
 
 is_so_far : (p : Program) (l : Layout) (es : List (Entry Op)) → IsRun p l es → IsRunSoFar p l es
-is_so_far p l es r = record { legal = r.legal; to_come = []; turns = sym (append-nil (reverse (begun_in p.shapes l es)) ∙ r.turns) }
+is_so_far p l es r = record { legal = r.legal; to_come = []; turns = sym (append-nil (reverse (begun_in es)) ∙ r.turns) }
+
+same_lead : (c d : Coordinating) → ◌≡◌ {A = Actor Processor} (Leads c) (Leads d) → c ≡ d
+same_lead c d e = cc
 
 module _ (same : EveryRunIsOne) (longest : NoneIsLonger) where
   -- two whole runs are one
-  one_whole : (p : Program) (l : Layout) (es fs : List (Entry Op)) → IsRun p l es → IsRun p l fs → es ≡ fs
-  one_whole p l es fs r s =
-      let a = longest p l es fs r (is_so_far p l fs s) in
-      let b = longest p l fs es s (is_so_far p l es r) in
-      same p l es fs (is_so_far p l es r) (is_so_far p l fs s) (omega (arith, a, b))
+  one_whole : (p : Program) (l : Layout) (es fs : List (Entry Op)) → IsRun p l es → IsRun p l fs → IsInTurn (setting_of p l) es → IsInTurn (setting_of p l) fs → es ≡ fs
+  one_whole p l es fs r s t u =
+      let a = longest p l es fs r (is_so_far p l fs s) t u in
+      let b = longest p l fs es s (is_so_far p l es r) u t in
+      same p l es fs (is_so_far p l es r) (is_so_far p l fs s) t u (omega (arith, a, b))
 
-  pub one_answer : OneAnswer
-  one_answer p m n answers others r s =
+  -- what is explained by one list is one
+  one_explained : (p : Program) (l : Layout) (es : List (Entry Op)) (outcome other : Outcome) → IsExplained p l es outcome → IsExplained p l es other → outcome ≡ other
+  one_explained p l es outcome other x y =
+      let leads : x.coordinator ≡ y.coordinator = same_lead x.coordinator y.coordinator (sym x.led ∙ y.led) in
+      x.given ∙ ap (outcome_by (answers_given p l es)) leads ∙ sym y.given
+
+  pub one : OneOutcome
+  one p m n outcome other r s =
       let layout : s.layout ≡ r.layout = same_layout p s.layout r.layout s.lays_out r.lays_out in
-      let e : IsExplained p r.layout s.turns others = subst (λ (l : Layout). IsExplained p l s.turns others) layout s.explained in
-      let turns : r.turns ≡ s.turns = one_whole p r.layout r.turns s.turns r.explained.run e.run in
-      r.explained.given ∙ ap (λ (es : List (Entry Op)). answers_given p r.layout es) turns ∙ sym e.given
+      let e : IsExplained p r.layout s.turns other = subst (λ (l : Layout). IsExplained p l s.turns other) layout s.explained in
+      let turn : IsInTurn (setting_of p r.layout) s.turns = subst (λ (l : Layout). IsInTurn (setting_of p l) s.turns) layout s.in_turn in
+      let turns : s.turns ≡ r.turns = one_whole p r.layout s.turns r.turns e.run r.explained.run turn r.in_turn in
+      one_explained p r.layout r.turns outcome other r.explained (subst (λ (es : List (Entry Op)). IsExplained p r.layout es other) turns e)
 
   pub not_both : NotBoth
-  not_both p budget answers r u =
+  not_both p budget outcome r u =
       let layout : u.layout ≡ r.layout = same_layout p u.layout r.layout u.lays_out r.lays_out in
       let so_far : IsRunSoFar p r.layout u.turns = subst (λ (l : Layout). IsRunSoFar p l u.turns) layout u.so_far in
-      let going : has_left_at (processor_after p.shapes r.layout opening u.turns).task ≡ false = subst (λ (l : Layout). has_left_at (processor_after p.shapes l opening u.turns).task ≡ false) layout u.going in
-      let within = longest p r.layout r.turns u.turns r.explained.run so_far in
-      let turns : r.turns ≡ u.turns = same p r.layout r.turns u.turns (is_so_far p r.layout r.turns r.explained.run) so_far (omega (arith, within, r.few, u.long)) in
-      let over : has_left_at (processor_after p.shapes r.layout opening u.turns).task ≡ true = subst (λ (es : List (Entry Op)). has_left_at (processor_after p.shapes r.layout opening es).task ≡ true) turns (ap has_left_at r.explained.run.done) in
+      let turn : IsInTurn (setting_of p r.layout) u.turns = subst (λ (l : Layout). IsInTurn (setting_of p l) u.turns) layout u.in_turn in
+      let there : u.who < (setting_of p r.layout).actors = subst (λ (l : Layout). u.who < (setting_of p l).actors) layout u.there in
+      let going : ended_after (setting_of p r.layout) u.turns u.who ≡ false = subst (λ (l : Layout). ended_after (setting_of p l) u.turns u.who ≡ false) layout u.going in
+      let within = longest p r.layout r.turns u.turns r.explained.run so_far r.in_turn turn in
+      let turns : r.turns ≡ u.turns = same p r.layout r.turns u.turns (is_so_far p r.layout r.turns r.explained.run) so_far r.in_turn turn (omega (arith, within, r.few, u.long)) in
+      let over : ended_after (setting_of p r.layout) u.turns u.who ≡ true = subst (λ (es : List (Entry Op)). ended_after (setting_of p r.layout) es u.who ≡ true) turns (r.explained.run.done u.who there) in
       absurd (let e = sym going ∙ over in cc)

@@ -247,7 +247,7 @@ statements_stand p (o ∷ os) (a ∷ more) h = stand_append p (cond (is_statemen
   go true = (maker_stands p a h.0, tt)
   go false = tt
 
-pub answers_stand : (p : Program) (report : ReportState) → IsReportOf p report → AllByRecursion (λ (x : ℕ × Answer). MakerStands p x.1) report.answers
+pub answers_stand : (p : Program) (report : ReportState) → IsReportOf p report → AllByRecursion (λ (x : ℕ × Answer). MakerStands p x.1) report.outcome.answers
 answers_stand p report r =
     let e = r.replayed.explained in
     subst (AllByRecursion (λ (x : ℕ × Answer). MakerStands p x.1)) (sym e.among)

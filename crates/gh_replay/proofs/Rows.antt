@@ -1,12 +1,15 @@
 -- The rows of answers, one after the other, and their lines.
-use Rattle.std.proofs.Common.{◌≡◌, ℕ, ◌+◌, ◌<◌, ◌≤◌, zero, suc, Bool, true, false, cond, eqb, nat_lt, List, [], ◌∷◌, ◌++◌, map, length, get_or, take, drop, Some, slice_get, refl, sym, ap, subst, ◌∙◌, arith, append_assoc, take-append-drop}
+use Rattle.std.proofs.Common.{◌≡◌, ℕ, ◌+◌, ◌-◌, ◌<◌, ◌≤◌, zero, suc, Bool, true, false, cond, eqb, nat_lt, List, [], ◌∷◌, ◌++◌, map, length, get_or, take, drop, Some, slice_get, refl, sym, ap, subst, ◌∙◌, arith, append_assoc, take-append-drop}
 use Rattle.std.specs.List.{AllByRecursion, flat_map, range_with_len}
 use Rattle.std.proofs.lemmas.Bool.Decides.{nat_tests}
 use Rattle.std.proofs.lemmas.Bool.{eq-eqb}
-use Rattle.std.proofs.lemmas.List.{take_more, length-append, append-nil, map-append, length-map}
-use Rattle.std.proofs.lemmas.Option.{slice_get-map, slice_get-get_or}
+use Rattle.std.proofs.lemmas.List.{get_or_append_left, get_or-append_right, take_more, length-append, append-nil, map-append, length-map}
+use Rattle.std.proofs.lemmas.Option.{get_or_from_slice_get, slice_get-map, slice_get-get_or, slice_get_within}
 use Rattle.gh_base.specs.declared.value.Answer.{Answer}
-use Rattle.gh_lines.specs.Text.{MakerStands, answer_line, answers_by, has_line, lines_from, lines_of}
+use Rattle.std.specs.Option.{option_map}
+use Rattle.gh_coord.specs.declared.cycles.Cycle.{Cycle}
+use Rattle.gh_lines.specs.Text.{MakerStands, SweptCycle, answer_line, answers_by, cycle_line, has_line, line_of_cycle, lines_from, lines_of, live_line, outcome_lines}
+use Rattle.gh_world.specs.Runs.{swept_cycle}
 use Rattle.gh_script.specs.Program.{Program}
 use Rattle.gh_replay.specs.declared.row.Row.{Row}
 use Rattle.gh_replay.specs.Report.{IsReportOf, ReportState, rows_from, rows_of}
@@ -35,12 +38,12 @@ lines-all p xs (g ∷ gs) =
     ∙ sym (map-append (line_of p) (rows_from g 1 (answers_by g xs)) (flat_map (λ h. rows_from h 1 (answers_by h xs)) gs))
 
 -- the lines of a report are those of its rows
-pub lines-are : (p : Program) (report : ReportState) → IsReportOf p report → lines_of p report.answers ≡ map (line_of p) (rows_of report.goroutines report.answers)
+pub lines-are : (p : Program) (report : ReportState) → IsReportOf p report → lines_of p report.outcome.answers ≡ map (line_of p) (rows_of report.goroutines report.outcome.answers)
 lines-are p report r =
-    lines-all p report.answers (range_with_len 0 (length p.goroutines))
-    ∙ ap (λ n. map (line_of p) (rows_of n report.answers)) (sym r.goroutines_are)
+    lines-all p report.outcome.answers (range_with_len 0 (length p.goroutines))
+    ∙ ap (λ n. map (line_of p) (rows_of n report.outcome.answers)) (sym r.goroutines_are)
 
-pub lines-long : (p : Program) (report : ReportState) → IsReportOf p report → length (lines_of p report.answers) ≡ length (rows_of report.goroutines report.answers)
+pub lines-long : (p : Program) (report : ReportState) → IsReportOf p report → length (lines_of p report.outcome.answers) ≡ length (rows_of report.goroutines report.outcome.answers)
 lines-long p report r = ap length (lines-are p report r) ∙ length-map _ (line_of p)
 
 -- ---- each row has a line
@@ -78,27 +81,79 @@ all-lined p m g (suc n) xs e h =
     (from-lined p m g 1 (answers_by g xs) (omega arith) (by-stand p g xs h)) (all-lined p m (g + 1) n xs (omega arith) h)
 
 -- what is seen of a report that holds these rows is this
-module _ (p : Program) (report seen : ReportState) (rows : List Row) (i : ℕ) (r : IsReportOf p report) (are : rows ≡ rows_of seen.goroutines seen.answers) (is : seen ≡ report) where
-  rows-are : rows ≡ rows_of report.goroutines report.answers
-  rows-are = are ∙ ap (λ (s : ReportState). rows_of s.goroutines s.answers) is
+module _ (p : Program) (report seen : ReportState) (rows : List Row) (i : ℕ) (r : IsReportOf p report) (are : rows ≡ rows_of seen.goroutines seen.outcome.answers) (is : seen ≡ report) where
+  rows-are : rows ≡ rows_of report.goroutines report.outcome.answers
+  rows-are = are ∙ ap (λ (s : ReportState). rows_of s.goroutines s.outcome.answers) is
 
-  pub rows-long : length (lines_of p report.answers) ≡ length rows
+  pub rows-long : length (lines_of p report.outcome.answers) ≡ length rows
   rows-long = lines-long p report r ∙ ap length (sym rows-are)
 
   -- the row that is found has a line
-  pub row-lined : (x : Row) → i < length (lines_of p report.answers) → x ≡ get_or rows i x → HasLine p (length p.goroutines) x
+  pub row-lined : (x : Row) → i < length (lines_of p report.outcome.answers) → x ≡ get_or rows i x → HasLine p (length p.goroutines) x
   row-lined x below found =
       let n : report.goroutines ≡ length p.goroutines = r.goroutines_are in
-      let each : AllByRecursion (HasLine p (length p.goroutines)) (rows_of report.goroutines report.answers) = all-lined p (length p.goroutines) 0 report.goroutines report.answers (omega (arith, n)) (answers_stand p report r) in
+      let each : AllByRecursion (HasLine p (length p.goroutines)) (rows_of report.goroutines report.outcome.answers) = all-lined p (length p.goroutines) 0 report.goroutines report.outcome.answers (omega (arith, n)) (answers_stand p report r) in
       subst (HasLine p (length p.goroutines)) (sym found)
       (all-at (HasLine p (length p.goroutines)) rows i x (subst (AllByRecursion (HasLine p (length p.goroutines))) (sym rows-are) each) (omega (arith, below, rows-long)))
 
   -- and that is the report's line
-  pub line-at : (x : Row) (line : List ℕ) → i < length (lines_of p report.answers) → x ≡ get_or rows i x → line ≡ line_of p x → slice_get (lines_of p report.answers) i ≡ Some line
+  pub line-at : (x : Row) (line : List ℕ) → i < length (lines_of p report.outcome.answers) → x ≡ get_or rows i x → line ≡ line_of p x → slice_get (lines_of p report.outcome.answers) i ≡ Some line
   line-at x line below found e =
       let some : slice_get rows i ≡ Some (get_or rows i x) = slice_get-get_or rows i x (omega (arith, below, rows-long)) in
       ap (λ (ls : List (List ℕ)). slice_get ls i) (lines-are p report r ∙ ap (map (line_of p)) (sym rows-are))
       ∙ slice_get-map (line_of p) rows i ∙ rw some (ap Some (ap (line_of p) (sym found) ∙ sym e))
+
+-- ---- all lines
+
+abbrev pub told : List Cycle → List SweptCycle
+told cycles = map swept_cycle cycles
+
+-- what is seen of a report that holds these rows, these cycles and these totals is this
+module _ (p : Program) (report seen : ReportState) (rows : List Row) (cycles : List Cycle) (objects bytes i : ℕ) (r : IsReportOf p report) (are : rows ≡ rows_of seen.goroutines seen.outcome.answers) (is : seen ≡ report) (kept : told cycles ≡ seen.outcome.cycles) (live : (objects ≡ seen.outcome.objects) × (bytes ≡ seen.outcome.bytes)) where
+  abbrev first : List (List ℕ)
+  first = lines_of p report.outcome.answers
+
+  abbrev last : List (List ℕ)
+  last = live_line report.outcome.objects report.outcome.bytes ∷ []
+
+  cycles_are : report.outcome.cycles ≡ told cycles
+  cycles_are = ap (λ (s : ReportState). s.outcome.cycles) (sym is) ∙ sym kept
+
+  cycles_long : length (map line_of_cycle report.outcome.cycles) ≡ length cycles
+  cycles_long = length-map report.outcome.cycles line_of_cycle ∙ ap length cycles_are ∙ length-map cycles swept_cycle
+
+  pub all-long : length (outcome_lines p report.outcome) ≡ length rows + length cycles + 1
+  all-long =
+      let a = length-append first (map line_of_cycle report.outcome.cycles ++ last) in
+      let b = length-append (map line_of_cycle report.outcome.cycles) last in
+      omega (arith, a, b, cycles_long, rows-long p report seen rows i r are is)
+
+  pub all-answer : (line : List ℕ) → i < length first → slice_get first i ≡ Some line → slice_get (outcome_lines p report.outcome) i ≡ Some line
+  all-answer line lt e =
+      let low : i < length (outcome_lines p report.outcome) = let a = length-append first (map line_of_cycle report.outcome.cycles ++ last) in omega (arith, a, lt) in
+      slice_get-get_or (outcome_lines p report.outcome) i [] low ∙ ap Some (get_or_append_left first (map line_of_cycle report.outcome.cycles ++ last) [] i lt ∙ get_or_from_slice_get first i line [] e)
+
+  behind : length rows ≤ i → get_or (outcome_lines p report.outcome) i [] ≡ get_or (map line_of_cycle report.outcome.cycles ++ last) (i - length rows) []
+  behind high = get_or-append_right first (map line_of_cycle report.outcome.cycles ++ last) (length rows) i [] (rows-long p report seen rows i r are is) high
+
+  pub all-cycle : (c : Cycle) (line : List ℕ) → length rows ≤ i → slice_get cycles (i - length rows) ≡ Some c → line ≡ cycle_line c.k c.marked c.freed → slice_get (outcome_lines p report.outcome) i ≡ Some line
+  all-cycle c line high e said =
+      let lt : i - length rows < length cycles = slice_get_within cycles (i - length rows) c e in
+      let low : i < length (outcome_lines p report.outcome) = omega (arith, all-long, lt, high) in
+      let here : i - length rows < length (map line_of_cycle report.outcome.cycles) = omega (arith, lt, cycles_long) in
+      let at : slice_get (map line_of_cycle report.outcome.cycles) (i - length rows) ≡ Some (line_of_cycle (swept_cycle c)) =
+      slice_get-map line_of_cycle report.outcome.cycles (i - length rows) ∙ ap (λ (xs : List SweptCycle). option_map line_of_cycle (slice_get xs (i - length rows))) cycles_are ∙ ap (option_map line_of_cycle) (slice_get-map swept_cycle cycles (i - length rows) ∙ ap (option_map swept_cycle) e) in
+      slice_get-get_or (outcome_lines p report.outcome) i [] low
+      ∙ ap Some (behind high ∙ get_or_append_left (map line_of_cycle report.outcome.cycles) last [] (i - length rows) here ∙ get_or_from_slice_get (map line_of_cycle report.outcome.cycles) (i - length rows) (line_of_cycle (swept_cycle c)) [] at ∙ sym said)
+
+  pub all-live : (line : List ℕ) → i < length (outcome_lines p report.outcome) → length rows ≤ i → length cycles ≤ i - length rows → line ≡ live_line objects bytes → slice_get (outcome_lines p report.outcome) i ≡ Some line
+  all-live line low high past said =
+      let seam : i - length rows - length cycles ≡ 0 = omega (arith, low, all-long) in
+      let o : objects ≡ report.outcome.objects = live.0 ∙ ap (λ (s : ReportState). s.outcome.objects) is in
+      let b : bytes ≡ report.outcome.bytes = live.1 ∙ ap (λ (s : ReportState). s.outcome.bytes) is in
+      slice_get-get_or (outcome_lines p report.outcome) i [] low
+      ∙ ap Some (behind high ∙ get_or-append_right (map line_of_cycle report.outcome.cycles) last (length cycles) (i - length rows) [] cycles_long past ∙ ap (λ (k : ℕ). get_or last k []) seam
+      ∙ ap (λ (n : ℕ). live_line n report.outcome.bytes) (sym o) ∙ ap (λ (n : ℕ). live_line objects n) (sym b) ∙ sym said)
 
 -- ---- the answers of one goroutine
 

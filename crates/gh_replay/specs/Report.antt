@@ -1,22 +1,22 @@
--- What a replay reports: the answers, and in which order their lines stand.
+-- What a replay reports: what its run comes to, and in which order the lines stand.
 use Rattle.std.specs.Prelude.{◌≡◌, ℕ, ◌+◌, if◌then◌else◌, List, [], ◌∷◌, ◌++◌, length}
 use Rattle.std.specs.List.{flat_map, range_with_len}
 use Rattle.gh_base.specs.declared.value.Answer.{Answer}
-use Rattle.gh_lines.specs.Text.{answers_by, has_line}
+use Rattle.gh_lines.specs.Text.{answers_by, has_line, Outcome}
 use Rattle.gh_script.specs.Program.{Program}
 use Rattle.gh_replay.specs.declared.row.Row.{Row}
 use Rattle.gh_replay.specs.Replayed.{IsReplayed}
 
--- the answers of a whole run, each with its goroutine, and how many goroutines the script has
+-- what a whole run comes to, and how many goroutines the script has
 pub record ReportState : Type 0 where
   pub goroutines : ℕ
-  pub answers : List (ℕ × Answer)
+  pub outcome : Outcome
 
 -- the report is of a replay of this script
 pub record IsReportOf (p : Program) (report : ReportState) : Type 0 where
   pub goroutines_are : report.goroutines ≡ length p.goroutines
   pub budget : ℕ
-  pub replayed : IsReplayed p budget report.answers
+  pub replayed : IsReplayed p budget report.outcome
 
 -- Of the code's own.
 

@@ -1,15 +1,15 @@
 //! What is true of runs under a budget, whatever the code does.
 
-ghost use Rattle.gh_replay.specs.Replayed.{EitherOne, NotBoth, OneAnswer};
+ghost use Rattle.gh_replay.specs.Replayed.{EitherOne, NotBoth, OneOutcome};
 
 use gh_world::{a_script_has_one_run, every_run_is_explained, runs_go_on};
 
-/// A script's run ends within a budget or does not, one of the two and never both, and its answers are
-/// one list, whatever the budget.
+/// A script's run ends within a budget or does not, one of the two and never both, and it comes to one
+/// outcome, whatever the budget.
 pub fn one_outcome()
     ensures either { EitherOne }
     ensures not_both { NotBoth }
-    ensures one_answer { OneAnswer }
+    ensures one { OneOutcome }
 {
     a_script_has_one_run();
     every_run_is_explained();

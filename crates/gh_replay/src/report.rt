@@ -1,4 +1,4 @@
-//! What a replay reports: the answers of the run, and the lines that they make.
+//! What a replay reports: the answers of the run, its cycles and what is live, and the lines that they make.
 //!
 //! Answers come in the order in which the statements end, one goroutine's among another's, and lines
 //! stand goroutine by goroutine. So the answers that have lines are put into the lines' order once,
@@ -6,49 +6,63 @@
 //! without a search, and neither takes memory nor fails. A line is made where it is asked for, since
 //! the lines together are much larger than the answers.
 //!
-//! The lines of a schedule and of a check are to follow those of the answers; there are none yet.
+//! The line of a check is to follow; there is none yet, and no line on credit, of which nothing is earned.
 
-ghost use Rattle.std.specs.Prelude.{◌≡◌, ◌+◌, ◌++◌, ◌^◌, ◌<◌, ◌≤◌, [], Some, length, slice_get};
+ghost use Rattle.std.specs.Prelude.{◌≡◌, ◌+◌, ◌++◌, ◌^◌, ◌<◌, ◌≤◌, [], Some, length, map, slice_get};
 ghost use Rattle.std.specs.Vec.{vec_capacity};
 ghost use Rattle.gh_script.specs.Program.{Program};
-ghost use Rattle.gh_lines.specs.Text.{answers_by, lines_of};
+ghost use Rattle.gh_lines.specs.Text.{answers_by, outcome_lines};
 ghost use Rattle.gh_replay.specs.Report.{IsReportOf, rows_from};
+ghost use Rattle.gh_world.specs.Runs.{swept_cycle};
 
 use crate::row::Row;
 use gh_base::Answer;
+use gh_coord::Cycle;
 use gh_interp::tell;
 use gh_lines::{LineBuf, has_line};
 use gh_script::Script;
+use gh_world::Totals;
 use std::marker::Model;
 
-/// The answers to a script's statements, and their lines.
+/// What a script's run comes to, and its lines.
 #[derive(Drop)]
 pub struct Report {
     goroutines: u32,
     answers: Vec<(u32, Answer)>,
     rows: Vec<Row>,
+    cycles: Vec<Cycle>,
+    totals: Totals,
 }
 
 impl Model for Report {
-    ghost use Rattle.std.specs.Prelude.{◌≡◌, ◌^◌, ◌<◌, length};
+    ghost use Rattle.std.specs.Prelude.{◌≡◌, ◌+◌, ◌^◌, ◌<◌, length, map};
     ghost use Rattle.gh_replay.specs.Report.{ReportState, rows_of};
+    ghost use Rattle.gh_world.specs.Runs.{swept_cycle};
 
     ghost Value = { ReportState };
 
-    ghost view = { λ r. record { goroutines = r.goroutines; answers = r.answers.items } };
+    ghost view = { λ r. record { goroutines = r.goroutines; outcome = record { answers = r.answers.items; cycles = map swept_cycle r.cycles.items; objects = r.totals.objects; bytes = r.totals.live } } };
 
-    ghost invariant = { λ r. (r.rows.items ≡ rows_of r.goroutines r.answers.items) × (length r.rows.items < 2 ^ 32) };
+    ghost invariant = { λ r. (r.rows.items ≡ rows_of r.goroutines r.answers.items) × (length r.rows.items + length r.cycles.items + 1 < 2 ^ 32) };
 }
 
 impl Report {
-    /// The report of these answers, each with its goroutine, to a script of so many goroutines. `rows`
-    /// is empty, and has room for a row for each answer.
-    pub(crate) fn new(goroutines: u32, answers: Vec<(u32, Answer)>, mut rows: Vec<Row>) -> Report
+    /// The report of these answers, each with its goroutine, to a script of so many goroutines, of these
+    /// cycles and these totals. `rows` is empty, and has room for a row for each answer.
+    pub(crate) fn new(
+        goroutines: u32,
+        answers: Vec<(u32, Answer)>,
+        mut rows: Vec<Row>,
+        cycles: Vec<Cycle>,
+        totals: Totals,
+    ) -> Report
         requires empty { rows.items ≡ [] }
-        requires few { length answers.items < 2 ^ 32 }
+        requires few { length answers.items + length cycles.items + 1 < 2 ^ 32 }
         requires room { length answers.items ≤ vec_capacity rows }
         ensures goroutines { result.goroutines ≡ goroutines }
-        ensures answers { result.answers ≡ answers.items }
+        ensures answers { result.outcome.answers ≡ answers.items }
+        ensures cycles { result.outcome.cycles ≡ map swept_cycle cycles.items }
+        ensures live { (result.outcome.objects ≡ totals.objects) × (result.outcome.bytes ≡ totals.live) }
     {
         for g in 0..goroutines {
             add_rows(g, &answers, &mut rows);
@@ -57,27 +71,41 @@ impl Report {
             goroutines,
             answers,
             rows,
+            cycles,
+            totals,
         }
     }
 
     /// How many lines there are: one for each answer that has one, which is each but
-    /// [`Answer::Done`].
+    /// [`Answer::Done`], one for each cycle, and the one of what is live.
     pub fn lines(&self) -> u32
-        ensures { (p : Program) → IsReportOf p self.now → result ≡ length (lines_of p self.now.answers) }
+        ensures { (p : Program) → IsReportOf p self.now → result ≡ length (outcome_lines p self.now.outcome) }
     {
-        self.rows.len() as u32
+        self.rows.len() as u32 + self.cycles.len() as u32 + 1
     }
 
     /// Fills the buffer with line `i`, counted from 0, which ends with LF: `name n answer`, goroutine
-    /// by goroutine in the order of the script, each by its statements. `script` is the one that was
-    /// replayed, and `i` is below [`Report::lines`].
+    /// by goroutine in the order of the script, each by its statements; then `cycle k marked M freed F`
+    /// for each cycle; then `live N bytes B`. `script` is the one that was replayed, and `i` is below
+    /// [`Report::lines`].
     pub fn line(&self, script: &Script, i: u32, buf: &mut LineBuf)
         requires script { IsReportOf script.now self.now }
-        requires below { i < length (lines_of script.now self.now.answers) }
-        ensures { slice_get (lines_of script.now self.now.answers) i ≡ Some buf.new }
+        requires below { i < length (outcome_lines script.now self.now.outcome) }
+        ensures { slice_get (outcome_lines script.now self.now.outcome) i ≡ Some buf.new }
     {
-        let Row { g, n, answer } = self.rows[i as usize];
-        let _told = tell(buf, script, g, n, answer);
+        let i = i as usize;
+        if i < self.rows.len() {
+            let Row { g, n, answer } = self.rows[i];
+            let _told = tell(buf, script, g, n, answer);
+            return;
+        }
+        let behind = i - self.rows.len();
+        if behind < self.cycles.len() {
+            let Cycle { k, marked, freed } = self.cycles[behind];
+            buf.cycle(k, marked, freed);
+        } else {
+            buf.live(self.totals.objects, self.totals.live);
+        }
     }
 }
 

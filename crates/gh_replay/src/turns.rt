@@ -1,30 +1,31 @@
-//! A script's run.
+//! A script's run, in which the actors take turns.
 
-ghost use Rattle.std.specs.Prelude.{◌≡◌, ℕ, ◌+◌, ◌≤◌, List, [], length, IfOk, Err};
+ghost use Rattle.std.specs.Prelude.{◌≡◌, ◌++◌, ℕ, ◌+◌, ◌<◌, ◌≤◌, [], length, IfOk, Err};
 ghost use Rattle.std.specs.Vec.{vec_capacity};
-ghost use Rattle.gh_base.specs.declared.value.Answer.{Answer};
+ghost use Rattle.gh_lines.specs.Text.{Outcome};
 ghost use Rattle.gh_replay.specs.declared.fault.ReplayFault.TheVariants.{OutOfTurns};
 ghost use Rattle.gh_replay.specs.Replayed.{IsReplayed, IsUnfinished, Ran};
+ghost use Rattle.gh_world.specs.Schedule.{behind};
 ghost use Rattle.gh_world.specs.Turns.{total_of};
-ghost use Rattle.gh_world.specs.World.{layout_of, script_of, IsAfter};
+ghost use Rattle.gh_world.specs.World.{actors_of, layout_of, script_of, IsAfter};
 
 use crate::fault::ReplayFault;
 use crate::laws::one_outcome;
 use crate::report::Report;
 use gh_base::Answer;
+use gh_coord::Cycle;
 use gh_script::Script;
-use gh_world::{Event, World, every_run_is_explained, total_of};
+use gh_world::{Event, World, every_run_is_explained, most_cycles, total_of};
 use std::alloc::Global;
 
-/// The report of the answers to the script's statements, where its run takes at most `budget` turns,
+/// The report of the script's run, in which the actors take turns, where it takes at most `budget` of them,
 /// and `OutOfTurns` where it takes more. All memory is taken before the first turn.
 pub fn replay(alloc: Global, script: &Script, budget: u64) -> Result<Report, ReplayFault>
-    ensures explained { IfOk result (λ report. IsReplayed script.now budget report.answers) }
+    ensures explained { IfOk result (λ report. IsReplayed script.now budget report.outcome) }
     ensures goroutines { IfOk result (λ report. report.goroutines ≡ length script.now.goroutines) }
     ensures out_of_turns { (n : ℕ) → result ≡ Err (OutOfTurns n) → (n ≡ budget) × IsUnfinished script.now n }
-    ensures few { IfOk result (λ report. length report.answers ≤ total_of script.now) }
     ensures runs_out { IsUnfinished script.now budget → IfOk result (λ report. ⊥) }
-    ensures ends { (answers : List (ℕ × Answer)) (n : ℕ) → IsReplayed script.now budget answers → result ≡ Err (OutOfTurns n) → ⊥ }
+    ensures ends { (outcome : Outcome) (n : ℕ) → IsReplayed script.now budget outcome → result ≡ Err (OutOfTurns n) → ⊥ }
 {
     every_run_is_explained();
     one_outcome();
@@ -32,11 +33,15 @@ pub fn replay(alloc: Global, script: &Script, budget: u64) -> Result<Report, Rep
     let mut world = World::new(alloc, script)?;
     let mut answers = Vec::with_capacity(alloc, total_of(script))?;
     let rows = Vec::with_capacity(alloc, total_of(script))?;
+    let mut cycles = Vec::with_capacity(alloc, most_cycles(script) as usize)?;
     run(&mut world, &mut answers, budget);
-    if world.done() {
-        Ok(Report::new(script.goroutines(), answers, rows))
-    } else {
-        Err(ReplayFault::OutOfTurns(budget))
+    match world.turn_from(0) {
+        Some(_) => Err(ReplayFault::OutOfTurns(budget)),
+        None => {
+            copy(world.cycles(), &mut cycles);
+            let goroutines = script.goroutines();
+            Ok(Report::new(goroutines, answers, rows, cycles, world.totals()))
+        }
     }
 }
 
@@ -51,12 +56,38 @@ fn run(world: &mut World, answers: &mut Vec<(u32, Answer)>, budget: u64)
     ensures few { length answers.new.items ≤ total_of (script_of world.new) }
 {
     let mut left = budget;
-    while left > 0 && !world.done() {
-        match world.step(0) {
+    let mut next = 0;
+    while left > 0 {
+        let actor = match world.turn_from(next) {
+            Some(actor) => actor,
+            None => return,
+        };
+        match world.step(actor) {
             Event::Answered { g, answer, .. } => answers.push_reserved((g, answer)),
             Event::Moved => {}
+            Event::Swept { .. } => {}
             Event::Finished => {}
         }
+        next = behind(world, actor);
         left -= 1;
+    }
+}
+
+/// The actor behind this one.
+fn behind(world: &World, actor: u8) -> u8
+    requires { actor < actors_of world.now }
+    ensures { result ≡ behind (actors_of world.now) actor }
+{
+    let actors = world.actors();
+    if actor + 1 < actors { actor + 1 } else { 0 }
+}
+
+/// Appends the cycles.
+fn copy(cycles: &[Cycle], copies: &mut Vec<Cycle>)
+    requires { length copies.old.items + length cycles.now ≤ vec_capacity copies.old }
+    ensures { copies.new.items ≡ copies.old.items ++ cycles.now }
+{
+    for cycle in cycles {
+        copies.push_reserved(*cycle);
     }
 }

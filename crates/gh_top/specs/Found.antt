@@ -1,6 +1,6 @@
 -- What a call has found before it writes anything.
 use Rattle.std.specs.Prelude.{◌≡◌, ℕ, List, []}
-use Rattle.gh_lines.specs.Text.{answers_text, refusal_line, turns_line, words_refused_line}
+use Rattle.gh_lines.specs.Text.{outcome_text, refusal_line, turns_line, words_refused_line}
 use Rattle.gh_replay.specs.Replayed.{IsReplayed, IsUnfinished}
 use Rattle.gh_replay.specs.Report.{IsReportOf}
 use Rattle.gh_script.specs.Program.{Program}
@@ -14,7 +14,7 @@ use Rattle.gh_top.specs.Outcome.{IsReplay, AreRefused}
 -- a script that was run is the one that the text spells, run under this budget, and a text that was refused spells none
 abbrev pub MatchesText : ℕ → List ℕ → Found → Type 0
 MatchesText budget text (BadScript f) = Refused text f.line f.why
-MatchesText budget text (Ran p report) = Spells text p × IsReplayed p budget report.answers
+MatchesText budget text (Ran p report) = Spells text p × IsReplayed p budget report.outcome
 MatchesText budget text (OutOfTurns n) = (n ≡ budget) × (p : Program) × Spells text p × IsUnfinished p budget
 MatchesText budget text BadWords = ⊥
 MatchesText budget text ReadFault = Unit {0}
@@ -55,7 +55,7 @@ IsSilent _ = ⊥
 abbrev pub said_of : Found → List ℕ
 said_of BadWords = words_refused_line
 said_of (BadScript f) = refusal_line f.line f.why
-said_of (Ran p report) = answers_text p report.answers
+said_of (Ran p report) = outcome_text p report.outcome
 said_of (OutOfTurns n) = turns_line n
 said_of ReadFault = []
 said_of NoMemory = []

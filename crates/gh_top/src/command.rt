@@ -5,7 +5,7 @@ ghost use Rattle.gh_io.specs.Counts.{Rose};
 ghost use Rattle.gh_script.specs.declared.fault.Why.{Why};
 ghost use Rattle.gh_script.specs.Program.{Program};
 ghost use Rattle.gh_script.specs.Grammar.{Spells, Refused};
-ghost use Rattle.gh_base.specs.declared.value.Answer.{Answer};
+ghost use Rattle.gh_lines.specs.Text.{Outcome};
 ghost use Rattle.gh_replay.specs.Replayed.{IsReplayed, IsUnfinished};
 ghost use Rattle.gh_top.specs.CommandLine.{texts};
 ghost use Rattle.gh_top.specs.Outcome.{AreRefused, IsReplay, IsTelling, Said, SaidPart};
@@ -19,16 +19,18 @@ use gh_script::one_reading;
 use std::alloc::Global;
 
 /// Runs the command: `words` begins with the program's name, and the one command is `replay`, with at
-/// most one `--budget n`, the most atomic steps that the processor may make (1 to 1,000,000,000, and
+/// most one `--budget n`, the most atomic steps that all actors together may make (1 to 1,000,000,000, and
 /// 50,000,000 where the words say nothing). It reads a script from `src`, and runs its goroutines in
-/// turns on one processor: a turn has one statement of its goroutine, or its end. It writes the lines
-/// of the answers to `out`, goroutine by goroutine. A command line that is not taken, a text that is
+/// turns on one processor, among workers and a coordinator, which collect garbage: each of these actors
+/// makes a step in its turn. It writes the lines of the answers to `out`, goroutine by goroutine, then
+/// those of the cycles, and the one of what is live at the end. A command line that is not taken, a text that is
 /// no script and a run that is not over within its budget are told in one line. It reads at most
 /// 4,194,305 bytes, which is one more than a script may have. Nothing is written before the run has
 /// ended, and each line is written as one piece, the rest of it again until it is taken.
 pub fn top<S: Source, K: Sink>(alloc: Global, words: &[&str], src: &mut S, out: &mut K) -> Status
     // What was written is all of what is to be said of the words and the text: with `Ok`, the lines of
-    // the answers that the heap that never frees gives to the script that the text spells.
+    // the answers that the heap that never frees gives to the script that the text spells, those of the
+    // cycles, each with its numbers, and the one of what the globals reach at the end.
     ensures said { (text : List ℕ) → S.left src.old ≡ Some text → IsTelling result →
         Said (texts words.now) text result (K.taken out.old) (K.taken out.new) }
     // Of a source that does not tell its bytes, the same is known for some text.
@@ -51,9 +53,9 @@ pub fn top<S: Source, K: Sink>(alloc: Global, words: &[&str], src: &mut S, out: 
         ¬ Rose (S.faults src.old) (S.faults src.new) → ¬ Rose (K.faults out.old) (K.faults out.new) →
         (result ≡ Status.Ok) ⊎ (result ≡ Status.OutOfTurns) ⊎ (result ≡ Status.NoMemory) }
     // A run that ends within the budget is told, and one that does not is out of turns.
-    ensures ok_exactly { (text : List ℕ) (budget : ℕ) (p : Program) (answers : List (ℕ × Answer)) →
+    ensures ok_exactly { (text : List ℕ) (budget : ℕ) (p : Program) (outcome : Outcome) →
         S.left src.old ≡ Some text → IsReplay (texts words.now) budget → Spells text p →
-        IsReplayed p budget answers → result ≡ Status.OutOfTurns → ⊥ }
+        IsReplayed p budget outcome → result ≡ Status.OutOfTurns → ⊥ }
     ensures out_of_turns_exactly { (text : List ℕ) (budget : ℕ) (p : Program) →
         S.left src.old ≡ Some text → IsReplay (texts words.now) budget → Spells text p →
         IsUnfinished p budget → result ≡ Status.Ok → ⊥ }

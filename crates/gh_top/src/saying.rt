@@ -4,7 +4,7 @@ ghost use Rattle.std.specs.Prelude.{◌≡◌, ◌≤◌, IsOk, OnOk, OnErr};
 ghost use Rattle.std.specs.Io.KnownBytes.{Appends};
 ghost use Rattle.gh_io.specs.Counts.{Rose};
 ghost use Rattle.gh_io.specs.Streams.{TookPart};
-ghost use Rattle.gh_lines.specs.Text.{answers_text};
+ghost use Rattle.gh_lines.specs.Text.{outcome_text};
 ghost use Rattle.gh_replay.specs.Report.{IsReportOf};
 ghost use Rattle.gh_top.specs.Found.{IsTellable, IsSilent, said_of, status_of};
 
@@ -64,8 +64,8 @@ pub fn say<K: Sink>(found: &Found, out: &mut K) -> Result<(), Failed>
 // The lines of the report, each as one piece.
 fn say_report<K: Sink>(out: &mut K, script: &Script, report: &Report) -> Result<(), Failed>
     requires { IsReportOf script.now report.now }
-    ensures ok { OnOk result (Appends (K.taken out.old) (K.taken out.new) (answers_text script.now report.now.answers)) }
-    ensures part { OnErr result (TookPart (K.taken out.old) (K.taken out.new) (answers_text script.now report.now.answers)) }
+    ensures ok { OnOk result (Appends (K.taken out.old) (K.taken out.new) (outcome_text script.now report.now.outcome)) }
+    ensures part { OnErr result (TookPart (K.taken out.old) (K.taken out.new) (outcome_text script.now report.now.outcome)) }
     ensures failed { OnErr result (Rose (K.faults out.old) (K.faults out.new)) }
     ensures no_fault { OnOk result (K.faults out.new ≡ K.faults out.old) }
     ensures never_falls { K.faults out.old ≤ K.faults out.new }

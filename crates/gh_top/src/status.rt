@@ -7,7 +7,7 @@ ghost use Rattle.std.specs.Prelude.{◌≡◌};
 /// in their place, and in that of `Ok`. Memory may run out at any point before the run begins.
 #[derive(Clone, Copy, Debug, PartialEq, Eq)]
 pub enum Status {
-    /// The source was read to its end, its script was run, and the lines of its answers were taken.
+    /// The source was read to its end, its script was run, and all lines of what it came to were taken.
     Ok,
     /// The command line is not the program's name and `replay`, with at most the budget of turns
     /// (`--budget n`). Nothing was read, and the line `words refused` was taken.

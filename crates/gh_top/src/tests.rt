@@ -51,33 +51,53 @@ fn each_script_has_its_lines(rt: HostRuntime) -> Result<(), Fail> {
         (
             "",
             "new r0 node|int r1 7|store r0 1 r1|load r2 r0 1",
-            "a 1 ref a.0|a 4 int 7|",
+            "a 1 ref a.0|a 4 int 7|cycle 1 marked 0 freed 1|live 0 bytes 0|",
+        ),
+        ("", "", "cycle 1 marked 0 freed 0|live 0 bytes 0|"),
+        (
+            "",
+            "new r0 node|gstore 0 r0|new r1 node|store r0 0 r1|nil r1|nil r0|gc|gload r0 0|load r1 r0 0",
+            "a 1 ref a.0|a 3 ref a.1|a 7 swept|a 8 ref a.0|a 9 ref a.1|cycle 1 marked 2 freed 0|cycle 2 marked 2 freed 0|live 2 bytes 32|",
         ),
         (
             "",
-            "load r1 r0 0|new r0 node|load r1 r0 2|store r0 1 r0|store r0 0 r0|load r1 r0 1|gstore 0 r1",
-            "a 1 fault nil|a 2 ref a.0|a 3 fault field|a 4 fault kind|a 6 int 0|a 7 fault kind|",
-        ),
-        ("", "", ""),
-        (
-            "",
-            "new r3 node|new r15 node|store r3 0 r15|load r15 r3 0|load r0 r15 0|load r0 r0 0",
-            "a 1 ref a.0|a 2 ref a.1|a 4 ref a.1|a 5 nil|a 6 fault nil|",
+            "new r0 node|new r1 node|store r0 0 r1|store r1 0 r0|nil r0|nil r1|gc",
+            "a 1 ref a.0|a 2 ref a.1|a 7 swept|cycle 1 marked 0 freed 2|cycle 2 marked 0 freed 0|live 0 bytes 0|",
         ),
         (
             "type big n*4096",
             "new r0 big|new r1 big|new r2 big|new r3 big|new r4 big",
-            "a 1 ref a.0|a 2 ref a.1|a 3 ref a.2|a 4 ref a.3|a 5 full|",
+            "a 1 ref a.0|a 2 ref a.1|a 3 ref a.2|a 4 ref a.3|a 5 full|cycle 1 marked 4 freed 0|cycle 2 marked 0 freed 4|live 0 bytes 0|",
+        ),
+        (
+            "type big n*4096",
+            "new r0 big|new r1 big|new r2 big|new r3 big|nil r0|new r4 big",
+            "a 1 ref a.0|a 2 ref a.1|a 3 ref a.2|a 4 ref a.3|a 6 ref a.4|cycle 1 marked 3 freed 1|cycle 2 marked 0 freed 4|live 0 bytes 0|",
+        ),
+        (
+            "",
+            "load r1 r0 0|new r0 node|load r1 r0 2|store r0 1 r0|store r0 0 r0|load r1 r0 1|gstore 0 r1",
+            "a 1 fault nil|a 2 ref a.0|a 3 fault field|a 4 fault kind|a 6 int 0|a 7 fault kind|cycle 1 marked 0 freed 1|live 0 bytes 0|",
+        ),
+        (
+            "",
+            "new r3 node|new r15 node|store r3 0 r15|load r15 r3 0|load r0 r15 0|load r0 r0 0",
+            "a 1 ref a.0|a 2 ref a.1|a 4 ref a.1|a 5 nil|a 6 fault nil|cycle 1 marked 0 freed 2|live 0 bytes 0|",
+        ),
+        (
+            "type edge n*4097",
+            "new r0 edge|new r1 edge|new r2 edge|new r3 edge",
+            "a 1 ref a.0|a 2 ref a.1|a 3 ref a.2|a 4 full|cycle 1 marked 3 freed 0|cycle 2 marked 0 freed 3|live 0 bytes 0|",
         ),
         (
             "type edge n*4097",
             "new r0 edge|new r1 edge|new r2 edge|new r3 edge|load r4 r3 0|load r5 r2 5119|load r6 r2 5120",
-            "a 1 ref a.0|a 2 ref a.1|a 3 ref a.2|a 4 full|a 5 fault nil|a 6 int 0|a 7 fault field|",
+            "a 1 ref a.0|a 2 ref a.1|a 3 ref a.2|a 4 full|a 5 fault nil|a 6 int 0|a 7 fault field|cycle 1 marked 3 freed 0|cycle 2 marked 0 freed 3|live 0 bytes 0|",
         ),
         (
             "",
             "gload r0 0|new r1 node|gstore 0 r1|nil r1|gload r2 0|move r3 r2|load r4 r3 0|nil r2|gstore 0 r2|gload r0 0",
-            "a 1 nil|a 2 ref a.0|a 5 ref a.0|a 7 nil|a 10 nil|",
+            "a 1 nil|a 2 ref a.0|a 5 ref a.0|a 7 nil|a 10 nil|cycle 1 marked 0 freed 1|live 0 bytes 0|",
         ),
     ];
     for (types, statements, lines) in rows {
@@ -93,13 +113,20 @@ fn each_script_has_its_lines(rt: HostRuntime) -> Result<(), Fail> {
 #[test]
 fn each_fault_of_the_outside_has_its_status(rt: HostRuntime) -> Result<(), Fail> {
     // failing reads, room, failing writes; the status, and what was taken
-    let rows: [(&[u64], usize, &[u64], u8, &str); 6] = [
+    let rows: [(&[u64], usize, &[u64], u8, &str); 7] = [
         (&[], 1000, &[2], 5, "a 1 ref a.0\n"),
         (&[], 1000, &[1], 5, ""),
         (&[], 5, &[], 5, "a 1 r"),
         (&[1], 1000, &[], 4, ""),
         (&[2], 1000, &[], 4, ""),
-        (&[3], 1000, &[3], 0, "a 1 ref a.0\na 4 int 7\n"),
+        (&[], 1000, &[3], 5, "a 1 ref a.0\na 4 int 7\n"),
+        (
+            &[3],
+            1000,
+            &[5],
+            0,
+            "a 1 ref a.0\na 4 int 7\ncycle 1 marked 0 freed 1\nlive 0 bytes 0\n",
+        ),
     ];
     let text = script(&rt, FIRST)?;
     for (reads, room, writes, code, lines) in rows {
@@ -160,21 +187,28 @@ fn goroutines_take_turns(rt: HostRuntime) -> Result<(), Fail> {
     let rows = [
         (
             "go a|new r0 node|gstore 0 r0|int r1 5|store r0 1 r1|end|go b|gload r0 0|gload r0 0|load r1 r0 1|load r1 r0 1|load r1 r0 1|end",
-            "a 1 ref a.0|b 1 nil|b 2 ref a.0|b 3 int 0|b 4 int 5|b 5 int 5|",
+            "a 1 ref a.0|b 1 nil|b 2 ref a.0|b 3 int 0|b 4 int 5|b 5 int 5|cycle 1 marked 1 freed 0|live 1 bytes 16|",
         ),
         (
             "go a|new r0 node|new r1 node|end|go z|end|go c|new r0 node|gstore 0 r0|gload r1 0|end",
-            "a 1 ref a.0|a 2 ref a.1|c 1 ref c.0|c 3 ref c.0|",
+            "a 1 ref a.0|a 2 ref a.1|c 1 ref c.0|c 3 ref c.0|cycle 1 marked 1 freed 2|live 1 bytes 16|",
         ),
         (
             "go a|nil r0|end|go b|new r0 node|gstore 0 r0|load r1 r0 0|end",
-            "b 1 ref b.0|b 3 nil|",
+            "b 1 ref b.0|b 3 nil|cycle 1 marked 1 freed 0|live 1 bytes 16|",
         ),
         (
             "go a|repeat 3|new r0 node|end|gstore 0 r0|end|go b|repeat 2|gload r1 0|end|repeat 2|repeat 2|gload r1 0|end|end|end",
-            "a 1 ref a.0|a 2 ref a.1|a 3 ref a.2|b 1 nil|b 2 nil|b 3 nil|b 4 ref a.2|b 5 ref a.2|b 6 ref a.2|",
+            "a 1 ref a.0|a 2 ref a.1|a 3 ref a.2|b 1 nil|b 2 nil|b 3 nil|b 4 ref a.2|b 5 ref a.2|b 6 ref a.2|cycle 1 marked 1 freed 2|live 1 bytes 16|",
         ),
-        ("go a|repeat 200000|nil r0|end|end", ""),
+        (
+            "go a|repeat 200000|nil r0|end|end",
+            "cycle 1 marked 0 freed 0|live 0 bytes 0|",
+        ),
+        (
+            "workers 4|type pair pp|go a|new r0 pair|gstore 0 r0|gc|nil r0|gstore 0 r0|gc|end|go b|gc|gload r0 0|end",
+            "a 1 ref a.0|a 3 swept|a 6 swept|b 1 swept|b 2 ref a.0|cycle 1 marked 1 freed 0|cycle 2 marked 1 freed 0|cycle 3 marked 0 freed 1|cycle 4 marked 0 freed 0|live 0 bytes 0|",
+        ),
     ];
     for (goroutines, lines) in rows {
         let text = format!(in rt.alloc(); "type node pn|{goroutines}")?;
@@ -197,6 +231,28 @@ fn a_second_span_follows_the_first(rt: HostRuntime) -> Result<(), Fail> {
         let line = format!(in rt.alloc(); "a {n} ref a.{k}\n")?;
         lines.push_str(&line)?;
     }
+    lines.push_str("cycle 1 marked 0 freed 1025\nlive 0 bytes 0\n")?;
+    assert_eq!(rt; status.code(), 0);
+    assert_eq!(rt; taken.as_slice(), lines.as_bytes());
+    Ok(())
+}
+
+#[test]
+fn more_than_one_buffer_is_filled(rt: HostRuntime) -> Result<(), Fail> {
+    let mut statements = String::from_str(rt.alloc(), "new r0 wide|gstore 0 r0")?;
+    let mut lines = String::from_str(rt.alloc(), "a 1 ref a.0\n")?;
+    for k in 0..300u32 {
+        let part = format!(in rt.alloc(); "|new r1 node|store r0 {k} r1")?;
+        statements.push_str(&part)?;
+        let line = format!(in rt.alloc(); "a {} ref a.{}\n", 3 + 2 * k, k + 1)?;
+        lines.push_str(&line)?;
+    }
+    statements.push_str("|gc")?;
+    lines.push_str(
+        "a 603 swept\ncycle 1 marked 301 freed 0\ncycle 2 marked 301 freed 0\nlive 301 bytes 7872\n",
+    )?;
+    let text = text_of(&rt, "type wide p*300", &statements)?;
+    let (status, taken) = outcome(&rt, &["goheap", "replay"], &text, &[], 100_000, &[])?;
     assert_eq!(rt; status.code(), 0);
     assert_eq!(rt; taken.as_slice(), lines.as_bytes());
     Ok(())

@@ -1,5 +1,5 @@
 -- What is due in a world's turns may begin: it is in range, there is a name for what it makes, and its goroutine goes on.
-use Rattle.std.proofs.Common.{◌≡◌, ℕ, ◌+◌, ◌<◌, ◌≤◌, Bool, true, false, ltb, not, ◌&&◌, List, length, refl, sym, ◌∙◌, ap, subst, Option, Some, None, arith}
+use Rattle.std.proofs.Common.{◌≡◌, ℕ, ◌+◌, ◌<◌, ◌≤◌, Bool, true, false, ltb, ◌&&◌, List, [], length, refl, sym, ◌∙◌, ap, subst, Option, Some, None, arith}
 use Rattle.std.specs.Prelude.{slice_get}
 use Rattle.std.proofs.lemmas.Bool.Decides.{nat_tests}
 use Rattle.std.proofs.lemmas.Bool.{lt-ltb, eqb-true}
@@ -7,12 +7,10 @@ use Rattle.std.proofs.lemmas.List.Elements.{All-get_or}
 use Rattle.std.proofs.lemmas.Option.{get_or_from_slice_get}
 use Rattle.gh_world.specs.Vocabulary.{Op, Shape, Layout, Entry, IsLayoutOf, bit, Stmt, Program, no_goroutine, statements_of, WellFormed, Processor, Task, Idle, Next, most_objects, has_names, is_statement, is_leaving, has_left_at, work_at, work_of, is_busy_at, made_by}
 use Rattle.gh_base.specs.declared.operation.Op.TheVariants as op
-use Rattle.gh_base.specs.Shapes.{no_shape}
 use Rattle.gh_script.specs.declared.statement.Stmt.TheVariants.{New, Load, Store, GetGlobal, SetGlobal, Int, Move, Nil, Gc}
-use Rattle.gh_script.specs.Program.{goroutine_at as goroutine_there, op_of, IsStatement, AreStatements, IsPacked}
+use Rattle.gh_script.specs.Program.{goroutine_at as goroutine_there, op_of, IsStatement, AreStatements}
 use Rattle.gh_world.specs.declared.turns.Next.TheVariants as next
 use Rattle.gh_world.specs.Order.{in_range, goroutine_of, is_over as is_ended, ends, ended_in, leaves}
-use Rattle.gh_mutator.specs.Facts.{ShapesAreGood}
 use Rattle.gh_mutator.specs.Sound.{SoundOp}
 use Rattle.gh_world.specs.Turns.{count_of, total_of, to_come, Stands, MayBeOver, IsPast, is_over, op_due, is_leave, goroutine_at, statements_among}
 use Rattle.gh_world.specs.World.{MadeAtMost}
@@ -23,7 +21,7 @@ pub record Runs (shapes : List Shape) (l : Layout) (o : Op) : Type 0 where
   pub sound : SoundOp shapes l o
   pub ranged : in_range l.goroutines l.globals (length shapes) o ≡ true
 
-both_true : (a b : Bool) → a ≡ true → b ≡ true → (a && b) ≡ true
+pub both_true : (a b : Bool) → a ≡ true → b ≡ true → (a && b) ≡ true
 both_true true true e f = refl
 both_true true false e f = f
 both_true false b e f = e
@@ -37,7 +35,7 @@ statement_runs p l g (SetGlobal x v) h few gs k = let there : x < l.globals = om
 statement_runs p l g (Int d x) h few gs k = record { sound = (few, h.0); ranged = both_true _ _ (lt-ltb _ _ gs) (lt-ltb _ _ h.0) }
 statement_runs p l g (Move d s) h few gs k = record { sound = ((few, h.0), h.1); ranged = both_true _ _ (both_true _ _ (lt-ltb _ _ gs) (lt-ltb _ _ h.0)) (lt-ltb _ _ h.1) }
 statement_runs p l g (Nil d) h few gs k = record { sound = (few, h); ranged = both_true _ _ (lt-ltb _ _ gs) (lt-ltb _ _ h) }
-statement_runs p l g Gc h few gs k = absurd h
+statement_runs p l g Gc h few gs k = record { sound = tt; ranged = lt-ltb _ _ gs }
 
 -- the statements of a goroutine are those of a script
 are_statements : (p : Program) (g : ℕ) → g < length p.goroutines → WellFormed p → AreStatements p.settings.globals (length p.shapes) (goroutine_there p g)
@@ -63,9 +61,6 @@ module _ (p : Program) (l : Layout) (r : WellFormed p) (lay : IsLayoutOf p.setti
   due_runs next.Leave o h e = let same : op.Leave ≡ o = cc in subst (Runs p.shapes l) same (record { sound = tt; ranged = refl })
   due_runs next.Over o h e = absurd cc
 
-pub shapes_good : (p : Program) → WellFormed p → ShapesAreGood p.shapes
-shapes_good p r = record { fit = r.shapes_fit; narrow = λ t i h. (All-get_or IsPacked p.shapes t no_shape h r.shapes_packed).narrow i }
-
 -- a statement that is due is one of a goroutine that there is
 pub due_goroutine : (p : Program) (t : Next) (o : Op) → WellFormed p → Stands p t → op_due p t ≡ Some o → is_statement o ≡ true → goroutine_at o < 32
 due_goroutine p (next.Poll n g) o r h e sure = absurd (let same : op.Poll ≡ o = cc in let no : false ≡ is_statement o = ap is_statement same in cc)
@@ -78,13 +73,6 @@ due_goroutine p (next.Run n g) o r h e sure = go (slice_get (statements_of p g) 
       omega (arith, is, h.0, r.few_goroutines)
 due_goroutine p next.Leave o r h e sure = absurd (let same : op.Leave ≡ o = cc in let no : false ≡ is_statement o = ap is_statement same in cc)
 due_goroutine p next.Over o r h e sure = absurd cc
-
-pub no_false_more : (a n b c : Bool) → a ≡ true → n ≡ true → b ≡ false → c ≡ false → (a && n && not b && not c) ≡ true
-no_false_more true true false false e h f g = refl
-no_false_more true true false true e h f g = absurd (cc)
-no_false_more true true true c e h f g = absurd (cc)
-no_false_more true false b c e h f g = absurd (cc)
-no_false_more false n b c e h f g = absurd (cc)
 
 -- there is a name for an object that is made by this operation
 pub has_name_at : (m : Processor) (n : ℕ) (o : Op) → MadeAtMost n m → (is_statement o ≡ true → n < most_objects) → has_names m o ≡ true
@@ -178,3 +166,9 @@ has_due p (next.Poll n g) h = (op.Poll, refl)
 has_due p (next.Run n g) h = (work_of p n g, refl)
 has_due p next.Leave h = (op.Leave, refl)
 has_due p next.Over h = absurd cc
+
+pub none_to_come : (p : Program) (t : Next) → is_over t ≡ true → to_come p t ≡ []
+none_to_come p (next.Poll r g) e = absurd cc
+none_to_come p (next.Run r g) e = absurd cc
+none_to_come p next.Leave e = absurd cc
+none_to_come p next.Over e = refl

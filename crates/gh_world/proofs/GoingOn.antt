@@ -1,223 +1,258 @@
--- A run of a script so far goes on while the processor has not left, and is whole when it has.
-use Rattle.std.proofs.Common.{◌≡◌, ℕ, zero, suc, ◌+◌, ◌-◌, ◌^◌, ◌<◌, ◌≤◌, Bool, true, false, cond, ◌||◌, List, [], ◌∷◌, ◌++◌, length, replicate, reverse, refl, sym, ap, subst, ◌∙◌, Option, Some, None, arith, inl, inr}
-use Rattle.std.specs.Prelude.{◌⊎◌}
+-- A run of a script so far goes on by a step of any actor that has not ended: the processor's next step is that of its turns, and each step is on a word that there is. It is whole when all have ended.
+use Rattle.std.proofs.Common.{◌≡◌, ℕ, ◌<◌, ◌≤◌, Bool, true, false, cond, ltb, eqb, not, ◌||◌, List, [], ◌∷◌, ◌++◌, reverse, refl, sym, ap, subst, ◌∙◌, Option, Some, None, arith}
 use Rattle.std.specs.Option.{option_to_list}
-use Rattle.std.proofs.lemmas.Bool.{cases_lt, eq-eqb}
-use Rattle.std.proofs.lemmas.List.{append_cancel_left, append-nil, length-replicate}
-use Rattle.gh_world.specs.Vocabulary.{Op, Layout, Entry, length_of, cell_of, state_of, started, words_after, Program, WellFormed, Processor, Task, Left, is_busy_at, Mutating, has_left_at, is_leaving, work_of, Next, Progress}
-use Rattle.gh_base.specs.declared.operation.Op.TheVariants as op
-use Rattle.gh_base.specs.Lists.{Begins}
-use Rattle.gh_mutator.specs.Deeds.{processor_kind}
-use Rattle.gh_mutator.specs.Listing.{asks, takes}
-use Rattle.gh_world.specs.declared.turns.Next.TheVariants as next
-use Rattle.gh_world.specs.Order.{setting_of, begun_in, ended_in, ends, has_left, leaves}
-use Rattle.gh_world.specs.Runs.{EveryLegalListGoesOn, IsRun, IsRunSoFar, RunsGoOn, RunsEndWhole}
-use Rattle.gh_world.specs.Turns.{count_of, to_come, later, turns_of, total_of, op_due, is_over, Stands, MayBeOver, IsPast, Follows}
-use Rattle.gh_world.specs.World.{opening, Fit, LaysOut, progress_after}
+use Rattle.std.proofs.lemmas.Bool.{eqb-true, eqb-false}
+use Rattle.std.proofs.lemmas.List.{append_cancel_left, append-nil}
+use Rattle.gh_base.specs.Lists.{Begins, by, Kind}
+use Rattle.gh_coord.specs.GoingOn.{GoesOnUntilDone, HasNext}
+use Rattle.gh_coord.specs.Listing as coord
+use Rattle.gh_coord.specs.Stopping.{acks_of}
+use Rattle.gh_mutator.specs.Mutating as mutating
+use Rattle.gh_worker.specs.Listing as worker
+use Rattle.gh_world.specs.declared.handshake.Actor.{Actor}
+use Rattle.gh_world.specs.declared.handshake.Actor.TheVariants as actor
+use Rattle.gh_world.specs.Actors.{AllStands}
+use Rattle.gh_world.specs.Handshake.{takes as takes_by}
+use Rattle.gh_world.specs.Order.{begun_in, ended_in, ends, has_left, leaves}
+use Rattle.gh_world.specs.Runs.{GoesOnBy, has_ended_in, IsRun, IsRunSoFar}
+use Rattle.gh_world.specs.Schedule.{ended_after as ended_at, has_ended}
+use Rattle.gh_world.specs.Turns.{is_over, MayBeOver, op_due, to_come, total_of, turns_of}
+use Rattle.gh_world.specs.Vocabulary.{cell_of, Entry, has_left_at, InRange, is_busy_at, is_leaving, Layout, Legal, Mutating, Op, Processor, processor_kind, Program, Progress, started, state_of, takes, Task, WellFormed, words_after}
+use Rattle.gh_world.specs.World.{actor_after, FitTurns, LaysOut, may_begin_of, opening_progress, pacing_of, progress_after, setting_of}
+use Rattle.gh_world.proofs.CycleMarking.Seats.{IsSeated, seated}
+use Rattle.gh_world.proofs.Due.{false_unless, has_due, idle_not_leaving, none_to_come, not_over}
+use Rattle.gh_world.proofs.Fitting.{begun_busy, fit_begun, fit_opens, fit_stepped}
+use Rattle.gh_world.proofs.Following.{coming, due_first, following}
+use Rattle.gh_world.proofs.OfScripts.{single}
 use Rattle.gh_world.proofs.OneRun.{before, before_turns}
-use Rattle.gh_world.proofs.Turning.{turns_from, none_from, passed, has_one, later_here, later_after, later_none, over_here, over_next, opens_at, follows_run, count-le}
-use Rattle.gh_world.proofs.Due.{has_due, idle_not_leaving, shapes_good}
-use Rattle.gh_world.proofs.Fitting.{begun_busy, fit_begun, fit_opens, fit_stepped, opening_progress}
+use Rattle.gh_world.proofs.Resting.{begun_is, is_processor, other_none}
+use Rattle.gh_world.proofs.Turning.{opens_at}
+use Rattle.gh_world.proofs.Within.Leading.{lead_asks}
+use Rattle.gh_world.proofs.Within.Lists.{worker_step_within}
 use Rattle.gh_world.proofs.WorldFacts.{begins_due, ended_after, left_after, turns_next}
-
--- the first goroutine from g on that has a turn in round r
-record First (p : Program) (r g : ℕ) : Type 0 where
-  h : ℕ
-  low : g ≤ h
-  here : h < length p.goroutines
-  live : r ≤ count_of p h
-  turns : turns_from p r g ≡ op.Poll ∷ work_of p r h ∷ turns_from p r (h + 1)
-
-first_turn : (p : Program) (r n g : ℕ) → g + n ≡ length p.goroutines → First p r g ⊎ (turns_from p r g ≡ [])
-first_turn p r zero g e = inr (none_from p r g (omega arith))
-first_turn p r (suc n) g e = elim (cases_lt (count_of p g) r) [
-  | inl past ↦ elim (first_turn p r n (g + 1) (omega arith)) [
-    | inl f ↦ inl (record { h = f.h; low = omega (arith, f.low); here = f.here; live = f.live; turns = passed p r g (omega arith) past ∙ f.turns })
-    | inr none ↦ inr (passed p r g (omega arith) past ∙ none)
-  ]
-  | inr live ↦ inl (record { h = g; low = omega arith; here = omega arith; live = live; turns = has_one p r g (omega arith) live })
-]
-
--- the turn from goroutine g in round r on
-record Coming (p : Program) (r g : ℕ) : Type 0 where
-  turn : Next
-  come : to_come p turn ≡ later p r g
-  stands : Stands p turn
-  over : (h : ℕ) → IsPast p r g h → MayBeOver p turn h
-  going : is_over turn ≡ false
-
-coming : (p : Program) (r g : ℕ) → g ≤ length p.goroutines → Coming p r g
-coming p r g le = elim (first_turn p r (length p.goroutines - g) g (omega arith)) [
-  | inl f ↦ record { turn = next.Poll r f.h; come = later_here p r g f.h f.turns; stands = (f.here, f.live); over = λ k past. over_here p r g f.h k f.low past; going = refl }
-  | inr none ↦ elim (first_turn p (r + 1) (length p.goroutines) 0 (omega arith)) [
-    | inl f ↦ record { turn = next.Poll (r + 1) f.h; come = later_after p r g f.h (omega (arith, f.live, count-le p f.h f.here)) none f.turns; stands = (f.here, f.live); over = λ k past. over_next p r g f.h k past; going = refl }
-    | inr done ↦ record { turn = next.Leave; come = later_none p r g none done; stands = tt; over = λ k past. tt; going = refl }
-  ]
-]
-
--- the turn behind the one that begins this operation
-record Following (p : Program) (t : Next) (o : Op) : Type 0 where
-  turn : Next
-  follows : Follows p t o turn
-
-following : (p : Program) (t : Next) (o : Op) → Stands p t → op_due p t ≡ Some o → Following p t o
-following p (next.Poll r g) o stands due =
-    let same : op.Poll ≡ o = cc in
-    subst (λ (x : Op). Following p (next.Poll r g) x) same (record { turn = next.Run r g; follows = record { come = refl; stands = stands; over = λ h past. past; ends = λ h e. absurd (cc); leaves = refl } })
-following p (next.Run r g) o stands due =
-    let c = coming p r (g + 1) (omega (arith, stands.0)) in
-    record { turn = c.turn; follows = follows_run p (next.Run r g) r g o c.turn refl stands due c.come c.stands c.over c.going }
-following p next.Leave o stands due =
-    let same : op.Leave ≡ o = cc in
-    subst (λ (x : Op). Following p next.Leave x) same (record { turn = next.Over; follows = record { come = refl; stands = tt; over = λ h past. tt; ends = λ h e. absurd (cc); leaves = refl } })
-following p next.Over o stands due = absurd cc
-
--- what is due is the first that is to come
-due_first : (p : Program) (t : Next) (o : Op) (rest : List Op) → to_come p t ≡ o ∷ rest → op_due p t ≡ Some o
-due_first p (next.Poll r g) o rest e = cc
-due_first p (next.Run r g) o rest e = cc
-due_first p next.Leave o rest e = cc
-due_first p next.Over o rest e = absurd cc
-
-none_to_come : (p : Program) (t : Next) → is_over t ≡ true → to_come p t ≡ []
-none_to_come p (next.Poll r g) e = absurd cc
-none_to_come p (next.Run r g) e = absurd cc
-none_to_come p next.Leave e = absurd cc
-none_to_come p next.Over e = refl
-
-left_is : (t : Task) → has_left_at t ≡ true → t ≡ Left
-left_is t e = grind arith
 
 left_leaves : (t : Task) → has_left_at t ≡ true → is_leaving t ≡ true
 left_leaves t e = grind arith
 
-module _ (within : EveryLegalListGoesOn) (p : Program) (l : Layout) (formed : WellFormed p) (lays : LaysOut p l) where
-  abbrev after_list : List (Entry Op) → Processor
-  after_list es = state_of (processor_kind p.shapes l) 0 es
+not_false : (b : Bool) → not b ≡ false → b ≡ true
+not_false true e = refl
+not_false false e = absurd cc
 
-  abbrev mutating : Processor → (marks : ℕ) → Mutating
-  mutating m marks = record { shapes = p.shapes; processor = m; marks = marks }
+module _ (p : Program) (l : Layout) where
+  abbrev one : Kind Processor Op
+  one = processor_kind p.shapes l
+
+  abbrev all : Kind (Actor Processor) Op
+  all = (setting_of p l).kind
+
+  abbrev Lawful : List (Entry Op) → Type 0
+  Lawful es = Legal (setting_of p l) es
+
+  -- what is needed of lower laws
+  pub record Laws : Type 0 where
+    pub own : (es : List (Entry Op)) → state_of one 0 es ≡ state_of one 0 (by 0 es)
+    pub on : GoesOnUntilDone
+    pub stands : (es : List (Entry Op)) → Lawful es → AllStands p.shapes l (pacing_of p) (may_begin_of p l) es
+
+  -- ---- the coordinator has a further step as long as it is not done
+
+  module _ (on : GoesOnUntilDone) where
+    abbrev HasNextAt : Actor Processor → Type 0
+    HasNextAt (actor.Runs m) = Unit {0}
+    HasNextAt (actor.Marks w) = Unit {0}
+    HasNextAt (actor.Leads c) = HasNext c
+
+    next_first : (a : ℕ) → HasNextAt (actor_after p l [] a)
+    next_first a = go (ltb a l.procs) (ltb a (acks_of l)) where
+      go : (b d : Bool) → HasNextAt (cond b (actor.Runs (one.start a)) (cond d (actor.Marks (worker.opening l a)) (actor.Leads (coord.opening l a (pacing_of p).gogc (pacing_of p).minheap (pacing_of p).room))))
+      go true d = tt
+      go false true = tt
+      go false false = on.at_first l a (pacing_of p).gogc (pacing_of p).minheap (pacing_of p).room
+
+    next_then : (o : Option Op) (x : Actor Processor) (found : ℕ) → all.busy (started all o x) ≡ true → HasNextAt x → HasNextAt (takes_by one (started all o x) found)
+    next_then None (actor.Runs m) found busy h = tt
+    next_then (Some o) (actor.Runs m) found busy h = tt
+    next_then None (actor.Marks w) found busy h = tt
+    next_then (Some o) (actor.Marks w) found busy h = tt
+    next_then None (actor.Leads c) found busy h = on.step c found busy
+    next_then (Some o) (actor.Leads c) found busy h = on.step c found busy
+
+    next_at : (es : List (Entry Op)) → Lawful es → (a : ℕ) → HasNextAt (actor_after p l es a)
+    next_at [] legal a = next_first a
+    next_at (e ∷ es) legal a = go (eqb e.actor a) refl (next_at es legal.0 a) where
+      go : (b : Bool) → eqb e.actor a ≡ b → HasNextAt (actor_after p l es a) → HasNextAt (cond b (takes_by one (started all e.begun (actor_after p l es a)) e.found) (actor_after p l es a))
+      go false x h = h
+      go true x h =
+          let same : e.actor ≡ a = eqb-true e.actor a x in
+          next_then e.begun (actor_after p l es a) e.found (subst (λ (b : ℕ). all.busy (started all e.begun (actor_after p l es b)) ≡ true) same legal.1.runs) h
+
+module _ (p : Program) (l : Layout) (formed : WellFormed p) (lays : LaysOut p l) (laws : Laws p l) where
+  abbrev after_list : List (Entry Op) → Processor
+  after_list es = state_of (one p l) 0 es
+
+  abbrev machine : Processor → (marks : ℕ) → Mutating
+  machine m marks = record { shapes = p.shapes; processor = m; marks = marks }
+
+  abbrev one_seat : l.procs ≡ 1
+  one_seat = single p l formed lays
+
+  seat : 0 < l.procs
+  seat = omega (arith, one_seat)
 
   -- what a list of a run keeps, whose processor is m, where these operations have begun
   record Keeps (m : Processor) (bs : List Op) (over : ℕ → Bool) (gone : Bool) : Type 0 where
-    list : List ℕ
     progress : Progress
     marks : ℕ
     noted : ℕ
     room : ℕ
-    fit : Fit p l list (mutating m marks) progress noted room
+    fit : FitTurns p l (machine m marks) progress noted room
     turns : turns_of p ≡ reverse bs ++ to_come p progress.next
     ended : (g : ℕ) → over g ≡ true → MayBeOver p progress.next g
     left : gone ≡ true → is_over progress.next ≡ true
 
   -- behind a list, and where this is begun behind it
   abbrev Behind : List (Entry Op) → Type 0
-  Behind es = Keeps (after_list es) (begun_in p.shapes l es) (ended_in es) (has_left es)
+  Behind es = Keeps (after_list es) (begun_in es) (ended_in es) (has_left es)
 
-  abbrev Begun : List (Entry Op) → Option Op → Type 0
-  Begun es o = Keeps (started (processor_kind p.shapes l) o (after_list es)) (option_to_list o ++ begun_in p.shapes l es) (λ g. ends o g || ended_in es g) (leaves o || has_left es) × (is_busy_at (started (processor_kind p.shapes l) o (after_list es)).task ≡ true)
+  record Begun (es : List (Entry Op)) (o : Option Op) : Type 0 where
+    keeps : Keeps (started (one p l) o (after_list es)) (option_to_list o ++ begun_in es) (λ g. ends o g || ended_in es g) (leaves o || has_left es)
+    busy : is_busy_at (started (one p l) o (after_list es)).task ≡ true
 
   opens : Behind []
   opens =
       let c = coming p 0 0 (omega arith) in
       record {
-        list = replicate (length_of l) 0;
         progress = opening_progress c.turn;
         marks = 0;
         noted = 0;
         room = total_of p;
-        fit = fit_opens p l (replicate (length_of l) 0) c.turn (total_of p) formed lays (length-replicate {A = ℕ} (length_of l) 0) (omega arith) c.come c.stands c.going;
+        fit = fit_opens p l c.turn (total_of p) (omega arith) c.come c.stands c.going;
         turns = opens_at p ∙ sym c.come;
         ended = λ g e. absurd cc;
         left = λ e. absurd cc;
       }
 
   begin_none : (es : List (Entry Op)) → Behind es → is_busy_at (after_list es).task ≡ true → Begun es None
-  begin_none es k busy = (
-    record { list = k.list; progress = k.progress; marks = k.marks; noted = k.noted; room = k.room; fit = k.fit; turns = k.turns; ended = k.ended; left = k.left },
-    busy,
-  )
+  begin_none es k busy = record {
+    keeps = record { progress = k.progress; marks = k.marks; noted = k.noted; room = k.room; fit = k.fit; turns = k.turns; ended = k.ended; left = k.left };
+    busy = busy;
+  }
+
+  -- a processor that has an operation due has not left
+  not_left : (es : List (Entry Op)) (o : Op) (k : Behind es) → op_due p k.progress.next ≡ Some o → has_left_at (after_list es).task ≡ false
+  not_left es o k due = false_unless (has_left_at (after_list es).task) (λ e. not_over p k.progress.next o due (sym k.fit.leaves ∙ left_leaves (after_list es).task e))
 
   begin_some : (es : List (Entry Op)) (o : Op) (k : Behind es) → op_due p k.progress.next ≡ Some o → Begun es (Some o)
   begin_some es o k due =
-      let f = following p k.progress.next o k.fit.stands due in (
-        record {
-          list = k.list;
+      let f = following p k.progress.next o k.fit.stands due in
+      let m = machine (after_list es) k.marks in
+      let begun : mutating.begins m o ≡ machine (started (one p l) (Some o) (after_list es)) k.marks = ap (λ (b : Bool). machine (cond b (after_list es) (mutating.begins m o).processor) k.marks) (sym (not_left es o k due)) in
+      record {
+        keeps = record {
           progress = progress_after k.progress (Some o) f.turn;
           marks = k.marks;
           noted = k.noted;
           room = k.room;
-          fit = fit_begun p l k.list (mutating (after_list es) k.marks) k.progress k.noted k.room o f.turn k.fit due f.follows;
-          turns = turns_next p l formed lays k.progress (Some o) f.turn (begun_in p.shapes l es) f.follows k.turns;
+          fit = subst (λ (n : Mutating). FitTurns p l n (progress_after k.progress (Some o) f.turn) k.noted k.room) begun (fit_begun p l formed lays m k.progress k.noted k.room k.fit o f.turn due f.follows);
+          turns = turns_next p l formed lays one_seat k.progress (Some o) f.turn (begun_in es) f.follows k.turns;
           ended = ended_after p k.progress.next (Some o) f.turn es f.follows k.ended;
           left = left_after p k.progress.next (Some o) f.turn es f.follows (λ q e. due ∙ e) k.left;
-        },
-        begun_busy p l k.list (mutating (after_list es) k.marks) k.progress k.noted k.room o k.fit due,
-      )
+        };
+        busy = subst (λ (n : Mutating). is_busy_at n.processor.task ≡ true) begun (begun_busy p l formed lays m k.progress k.noted k.room k.fit o due);
+      }
 
   -- a step of what is begun
-  stepped : (es : List (Entry Op)) (e : Entry Op) → e.actor ≡ 0 → Begun es e.begun → Behind (e ∷ es)
-  stepped es e zeroth b =
-      let k = b.0 in
-      let m = started (processor_kind p.shapes l) e.begun (after_list es) in
-      let is : after_list (e ∷ es) ≡ takes p.shapes m e.found = ap (λ (c : Bool). cond c (takes p.shapes m e.found) (after_list es)) (eq-eqb e.actor 0 zeroth) in
-      let after = fit_stepped p l k.list (mutating m k.marks) k.progress k.noted k.room e.found k.fit b.1 in
-      subst (λ (n : Processor). Keeps n (begun_in p.shapes l (e ∷ es)) (ended_in (e ∷ es)) (has_left (e ∷ es))) (sym is)
-      (record { list = _; progress = k.progress; marks = _; noted = _; room = k.room; fit = after; turns = k.turns; ended = k.ended; left = k.left })
+  stepped : (es : List (Entry Op)) (e : Entry Op) → eqb e.actor 0 ≡ true → Begun es e.begun → Behind (e ∷ es)
+  stepped es e own b =
+      let k = b.keeps in
+      let m = started (one p l) e.begun (after_list es) in
+      let is : takes p.shapes m e.found ≡ after_list (e ∷ es) = ap (λ (c : Bool). cond c (takes p.shapes m e.found) (after_list es)) (sym own) in
+      subst (λ (n : Processor). Keeps n (begun_in (e ∷ es)) (ended_in (e ∷ es)) (has_left (e ∷ es))) is
+      (record { progress = k.progress; marks = _; noted = _; room = k.room; fit = fit_stepped p l formed lays (machine m k.marks) k.progress k.noted k.room k.fit e.found b.busy; turns = k.turns; ended = k.ended; left = k.left })
+
+  -- a step of another actor
+  passed_by : (es : List (Entry Op)) (e : Entry Op) → eqb e.actor 0 ≡ false → e.begun ≡ None → Behind es → Behind (e ∷ es)
+  passed_by es e other none k = rw (other, none) (record { progress = k.progress; marks = k.marks; noted = k.noted; room = k.room; fit = k.fit; turns = k.turns; ended = k.ended; left = k.left })
+
+  busy_is : (es : List (Entry Op)) → (all p l).busy (actor_after p l es 0) ≡ is_busy_at (after_list es).task
+  busy_is es = ap (λ (x : Actor Processor). (all p l).busy x) (is_processor p l 0 seat es)
 
   -- what begins behind a list is what is due
-  begun_as_due : (es : List (Entry Op)) (o : Option Op) (rest : List Op) → Behind es → Begins (setting_of p.shapes l opening) 0 es o → turns_of p ≡ reverse (begun_in p.shapes l es) ++ (option_to_list o ++ rest) → Begun es o
-  begun_as_due es None rest k begins turns = begin_none es k begins
-  begun_as_due es (Some o) rest k begins turns = begin_some es o k (due_first p k.progress.next o rest (append_cancel_left (reverse (begun_in p.shapes l es)) (to_come p k.progress.next) (o ∷ rest) (sym k.turns ∙ turns)))
+  begun_as_due : (es : List (Entry Op)) (o : Option Op) (rest : List Op) → Behind es → Begins (setting_of p l) 0 es o → turns_of p ≡ reverse (begun_in es) ++ (option_to_list o ++ rest) → Begun es o
+  begun_as_due es None rest k begins turns = begin_none es k (sym (busy_is es) ∙ begins)
+  begun_as_due es (Some o) rest k begins turns = begin_some es o k (due_first p k.progress.next o rest (append_cancel_left (reverse (begun_in es)) (to_come p k.progress.next) (o ∷ rest) (sym k.turns ∙ turns)))
 
   behind : (es : List (Entry Op)) → IsRunSoFar p l es → Behind es
   behind [] r = opens
-  behind (e ∷ es) r =
-      let m = r.legal.1 in
-      let zeroth : e.actor ≡ 0 = omega (arith, m.actor) in
-      let begins : Begins (setting_of p.shapes l opening) 0 es e.begun = subst (λ (n : ℕ). Begins (setting_of p.shapes l opening) n es e.begun) zeroth m.begins in
-      stepped es e zeroth (begun_as_due es e.begun r.to_come (behind es (before p l e es r)) begins (before_turns e.begun (begun_in p.shapes l es) r.to_come (turns_of p) r.turns))
+  behind (e ∷ es) r = go (eqb e.actor 0) refl (behind es (before p l e es r)) where
+    go : (b : Bool) → eqb e.actor 0 ≡ b → Behind es → Behind (e ∷ es)
+    go true own k =
+        let zeroth : e.actor ≡ 0 = eqb-true e.actor 0 own in
+        let begins : Begins (setting_of p l) 0 es e.begun = subst (λ (n : ℕ). Begins (setting_of p l) n es e.begun) zeroth r.legal.1.begins in
+        stepped es e own (begun_as_due es e.begun r.to_come k begins (before_turns e.begun (begun_in es) r.to_come (turns_of p) r.turns))
+    go false other k =
+        let apart : e.actor ≡ 0 → ⊥ = eqb-false e.actor 0 other in
+        let high : l.procs ≤ e.actor = omega (arith, one_seat, apart) in
+        passed_by es e other (other_none p l e.actor es e.begun high r.legal.1.begins r.legal.1.runs) k
 
-  -- the entry that follows, where this begins
-  abbrev entry : List (Entry Op) → Option Op → Entry Op
-  entry es o = record {
-    actor = 0;
-    begun = o;
-    ask = asks (started (processor_kind p.shapes l) o (after_list es));
-    found = words_after opening es (cell_of (asks (started (processor_kind p.shapes l) o (after_list es))));
+  -- ---- the entry that follows
+
+  -- what an actor is where this begins
+  abbrev now : List (Entry Op) → ℕ → Option Op → Actor Processor
+  now es a o = started (all p l) o (actor_after p l es a)
+
+  abbrev entry : List (Entry Op) → ℕ → Option Op → Entry Op
+  entry es a o = record { actor = a; begun = o; ask = (all p l).asks (now es a o); found = words_after (setting_of p l).opening es (cell_of ((all p l).asks (now es a o))) }
+
+  follows_so : (es : List (Entry Op)) (a : ℕ) (o : Option Op) (rest : List Op) → IsRunSoFar p l es → a < (setting_of p l).actors → Begins (setting_of p l) a es o → (all p l).busy (now es a o) ≡ true → InRange l (cell_of ((all p l).asks (now es a o))) → turns_of p ≡ reverse (option_to_list o ++ begun_in es) ++ rest → GoesOnBy p l es a
+  follows_so es a o rest r lt begins runs within turns = record {
+    e = entry es a o;
+    by = refl;
+    more = record { legal = (r.legal, record { actor = lt; begins = begins; runs = runs; asks = refl; within = within; found = refl }); to_come = rest; turns = turns };
   }
 
-  follows_so : (es : List (Entry Op)) (o : Option Op) → IsRunSoFar p l es → Begun es o → Begins (setting_of p.shapes l opening) 0 es o → (e : Entry Op) × IsRunSoFar p l (e ∷ es)
-  follows_so es o r b begins = (
-    entry es o,
-    record {
-      legal = (r.legal, record { actor = omega arith; begins = begins; runs = b.1; asks = refl; within = within p.shapes l (2 ^ 64 - 1) (shapes_good p formed) es o r.legal begins; found = refl });
-      to_come = to_come p b.0.progress.next;
-      turns = b.0.turns;
-    },
-  )
+  -- the processor's
+  module _ (es : List (Entry Op)) (r : IsRunSoFar p l es) where
+    by_processor : (o : Option Op) → Begins (setting_of p l) 0 es o → Begun es o → GoesOnBy p l es 0
+    by_processor o begins b =
+        let is : now es 0 o ≡ actor.Runs (started (one p l) o (after_list es)) = begun_is p l 0 seat es o in
+        let within = (laws.stands es r.legal).within 0 o (record { seat = seat; begins = begins; runs = b.busy }) in
+        follows_so es 0 o (to_come p b.keeps.progress.next) r (omega (arith, one_seat)) begins (ap (λ (x : Actor Processor). (all p l).busy x) is ∙ b.busy)
+        (subst (λ (x : Actor Processor). InRange l (cell_of ((all p l).asks x))) (sym is) within) b.keeps.turns
 
-  goes_on : (es : List (Entry Op)) → IsRunSoFar p l es → has_left_at (after_list es).task ≡ false → (e : Entry Op) × IsRunSoFar p l (e ∷ es)
-  goes_on es r going = go (is_busy_at (after_list es).task) refl where
-    go : (busy : Bool) → is_busy_at (after_list es).task ≡ busy → (e : Entry Op) × IsRunSoFar p l (e ∷ es)
-    go true busy = follows_so es None r (begin_none es (behind es r) busy) busy
-    go false idle =
+    of_processor : has_left_at (after_list es).task ≡ false → GoesOnBy p l es 0
+    of_processor going = go (is_busy_at (after_list es).task) refl (behind es r) where
+      go : (b : Bool) → is_busy_at (after_list es).task ≡ b → Behind es → GoesOnBy p l es 0
+      go true busy k = by_processor None (busy_is es ∙ busy) (begin_none es k busy)
+      go false idle k =
+          let due = has_due p k.progress.next (sym k.fit.leaves ∙ idle_not_leaving (after_list es).task idle going) in
+          let f = following p k.progress.next due.0 k.fit.stands due.1 in
+          by_processor (Some due.0) (begins_due p l formed lays one_seat laws.own es k.progress due.0 f.turn idle due.1 f.follows k.fit.made k.fit.stands k.fit.all r.legal k.turns k.ended k.left) (begin_some es due.0 k due.1)
+
+    -- an actor's that begins nothing
+    of_other : (a : ℕ) (x : Actor Processor) → actor_after p l es a ≡ x → a < (setting_of p l).actors → (all p l).busy x ≡ true → InRange l (cell_of ((all p l).asks x)) → GoesOnBy p l es a
+    of_other a x is lt busy within =
+        let runs = ap (λ (y : Actor Processor). (all p l).busy y) is ∙ busy in
+        follows_so es a None r.to_come r lt runs runs (subst (λ (y : Actor Processor). InRange l (cell_of ((all p l).asks y))) (sym is) within) r.turns
+
+    pub goes_on : (a : ℕ) → a < (setting_of p l).actors → ended_at (setting_of p l) es a ≡ false → GoesOnBy p l es a
+    goes_on a lt going = go (actor_after p l es a) refl where
+      go : (x : Actor Processor) → actor_after p l es a ≡ x → GoesOnBy p l es a
+      go (actor.Runs m) is =
+          let low : a < l.procs = subst (IsSeated l a) is (seated l (one p l) (pacing_of p) es a) in
+          let zeroth : 0 ≡ a = omega (arith, low, one_seat) in
+          let first : ended_at (setting_of p l) es 0 ≡ false = ap (ended_at (setting_of p l) es) zeroth ∙ going in
+          subst (λ (n : ℕ). GoesOnBy p l es n) zeroth (of_processor (sym (ap has_ended (is_processor p l 0 seat es)) ∙ first))
+      go (actor.Marks w) is = of_other a (actor.Marks w) is lt (not_false (worker.is_busy w.stage) (sym (ap has_ended is) ∙ going)) (worker_step_within p.shapes l (pacing_of p) (may_begin_of p l) es l.limits a w is)
+      go (actor.Leads c) is =
+          let next : HasNext c = subst (HasNextAt p l laws.on) is (next_at p l laws.on es r.legal a) in
+          let high : acks_of l ≤ a = (subst (IsSeated l a) is (seated l (one p l) (pacing_of p) es a)).0 in
+          let last : a ≡ acks_of l = omega (arith, high, lt) in
+          of_other a (actor.Leads c) is lt (next ∙ ap not (sym (ap has_ended is) ∙ going)) (lead_asks p.shapes l (pacing_of p) (may_begin_of p l) l.limits es c (sym (ap (actor_after p l es) last) ∙ is))
+
+    pub ends_whole : ((a : ℕ) → a < (setting_of p l).actors → has_ended_in p l es a) → IsRun p l es
+    ends_whole done =
         let k = behind es r in
-        let due = has_due p k.progress.next (sym k.fit.leaves ∙ idle_not_leaving (after_list es).task idle going) in
-        follows_so es (Some due.0) r (begin_some es due.0 k due.1) (begins_due p l formed lays es k.progress due.0 idle due.1 k.fit.made k.fit.stands k.fit.all r.legal k.ended k.left)
-
-  ends_whole : (es : List (Entry Op)) → IsRunSoFar p l es → has_left_at (after_list es).task ≡ true → IsRun p l es
-  ends_whole es r left =
-      let k = behind es r in
-      let none = none_to_come p k.progress.next (sym k.fit.leaves ∙ left_leaves (after_list es).task left) in
-      record {
-        legal = r.legal;
-        turns = sym (k.turns ∙ ap (λ (xs : List Op). reverse (begun_in p.shapes l es) ++ xs) none ∙ append-nil (reverse (begun_in p.shapes l es)));
-        done = left_is (after_list es).task left;
-      }
-
-pub runs_go_on : EveryLegalListGoesOn → RunsGoOn
-runs_go_on within p l es formed lays r going = goes_on within p l formed lays es r going
-
-pub runs_end_whole : EveryLegalListGoesOn → RunsEndWhole
-runs_end_whole within p l es formed lays r left = ends_whole within p l formed lays es r left
+        let left : has_left_at (after_list es).task ≡ true = sym (ap has_ended (is_processor p l 0 seat es)) ∙ done 0 (omega arith) in
+        let none = none_to_come p k.progress.next (sym k.fit.leaves ∙ left_leaves (after_list es).task left) in
+        record { legal = r.legal; turns = sym (k.turns ∙ ap (λ (xs : List Op). reverse (begun_in es) ++ xs) none ∙ append-nil (reverse (begun_in es))); done = done }

@@ -44,7 +44,7 @@ module _ (back : (p : PhaseWord) → phase_of (phase_word p) ≡ p) where
   run_found word = run_phase (phase_of word).phase
 
   -- where the phase word is found to say that the world runs, it runs in the last phase that was no stop
-  is_last : (stop : Bool) (stops : ℕ) (phase known : RunPhase) (word : ℕ) → word ≡ cond stop (stop_word stops) (run_word stops phase) → run_found word ≡ Some known → phase ≡ known
+  pub is_last : (stop : Bool) (stops : ℕ) (phase known : RunPhase) (word : ℕ) → word ≡ cond stop (stop_word stops) (run_word stops phase) → run_found word ≡ Some known → phase ≡ known
   is_last true stops phase known word e f =
       let none : run_found (stop_word stops) ≡ None = ap (λ (p : PhaseWord). run_phase p.phase) (back (record { stops = stops; phase = kind.Stop })) in
       absurd (let x : Some known ≡ None = sym f ∙ (ap run_found e ∙ none) in cc)

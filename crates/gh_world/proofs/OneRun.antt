@@ -1,23 +1,18 @@
--- Over a plain list of words a script has one run.
-use Rattle.std.proofs.Common.{◌≡◌, ℕ, ◌+◌, ◌≤◌, Bool, true, false, List, [], ◌∷◌, ◌++◌, length, reverse, Option, Some, None, refl, sym, ap, subst, ◌∙◌, append_assoc, arith}
+-- Over a plain list of words a script has one run in each order of steps, and one where the actors take turns.
+use Rattle.std.proofs.Common.{◌≡◌, ℕ, ◌≤◌, Bool, true, false, cond, List, [], ◌∷◌, ◌++◌, length, reverse, Option, Some, None, refl, sym, ap, subst, ◌∙◌, append_assoc, arith}
 use Rattle.std.specs.Option.{option_to_list}
 use Rattle.std.proofs.lemmas.Grind.{reverse_onto}
-use Rattle.std.proofs.lemmas.List.{append_cancel_left, length-append, append-nil}
+use Rattle.std.proofs.lemmas.List.{append_cancel_left, append-nil}
 use Rattle.gh_base.specs.declared.operation.Op.{Op}
 use Rattle.gh_base.specs.declared.layout.Layout.{Layout}
 use Rattle.gh_base.specs.declared.machine.Entry.{Entry}
-use Rattle.gh_base.specs.Lists.{Setting, state_of, MayFollow, Begins}
+use Rattle.gh_base.specs.Lists.{MayFollow, Begins}
 use Rattle.gh_script.specs.Program.{Program}
-use Rattle.gh_mutator.specs.declared.processor.Processor.{Processor}
-use Rattle.gh_world.specs.Order.{setting_of, begun_in}
+use Rattle.gh_world.specs.Order.{begun_in}
+use Rattle.gh_world.specs.Schedule.{ended_after, first_going, in_order_from, IsInTurn, next_in}
 use Rattle.gh_world.specs.Turns.{turns_of}
-use Rattle.gh_world.specs.World.{opening}
-use Rattle.gh_world.specs.Runs.{IsRun, IsRunSoFar, EveryRunIsOne, NoneIsLonger}
-use Rattle.gh_mutator.specs.Deeds.{processor_kind}
-use Rattle.gh_mutator.specs.Listing.{is_busy_at}
-
-abbrev at_setting : Program → Layout → Setting Processor Op
-at_setting p l = setting_of p.shapes l opening
+use Rattle.gh_world.specs.World.{actor_after, setting_of}
+use Rattle.gh_world.specs.Runs.{actors_in, IsRun, IsRunSoFar, EveryOrderHasOneRun, EveryRunIsOne, NoneIsLonger}
 
 pub one_more : {A : Type 0} (x : A) (xs rest : List A) → reverse (x ∷ xs) ++ rest ≡ reverse xs ++ x ∷ rest
 one_more x xs rest = ap (λ ys. ys ++ rest) (reverse_onto xs x []) ∙ append_assoc (reverse xs) (x ∷ []) rest
@@ -28,7 +23,7 @@ before_turns None bs to_come turns h = h
 before_turns (Some o) bs to_come turns h = h ∙ one_more o bs to_come
 
 pub before : (p : Program) (l : Layout) (e : Entry Op) (es : List (Entry Op)) → IsRunSoFar p l (e ∷ es) → IsRunSoFar p l es
-before p l e es r = record { legal = r.legal.0; to_come = option_to_list e.begun ++ r.to_come; turns = before_turns e.begun (begun_in p.shapes l es) r.to_come (turns_of p) r.turns }
+before p l e es r = record { legal = r.legal.0; to_come = option_to_list e.begun ++ r.to_come; turns = before_turns e.begun (begun_in es) r.to_come (turns_of p) r.turns }
 
 -- the same operations, where both begin one or neither does
 same_begun : (busy : Bool) (o q : Option Op) (bs xs ys turns : List Op) → (o ≡ None → busy ≡ true) → ((x : Op) → o ≡ Some x → busy ≡ false) → (q ≡ None → busy ≡ true) → ((x : Op) → q ≡ Some x → busy ≡ false)
@@ -41,76 +36,95 @@ same_begun busy (Some o) (Some q) bs xs ys turns a b c d h k =
     cc
 
 module _ (p : Program) (l : Layout) where
-  busy_after : List (Entry Op) → Bool
-  busy_after es = is_busy_at (state_of (processor_kind p.shapes l) 0 es).task
+  none_busy : (a : ℕ) (es : List (Entry Op)) (b : Option Op) → Begins (setting_of p l) a es b → b ≡ None → (setting_of p l).kind.busy (actor_after p l es a) ≡ true
+  none_busy a es b h e = subst (λ (o : Option Op). Begins (setting_of p l) a es o) e h
 
-  none_busy : (a : ℕ) (es : List (Entry Op)) (b : Option Op) → a ≡ 0 → Begins (at_setting p l) a es b → b ≡ None → busy_after es ≡ true
-  unfolding busy_after
-  none_busy a es b zero h e = subst (λ (o : Option Op). Begins (at_setting p l) 0 es o) e (subst (λ (n : ℕ). Begins (at_setting p l) n es b) zero h)
+  some_idle : (a : ℕ) (es : List (Entry Op)) (b : Option Op) → Begins (setting_of p l) a es b → (x : Op) → b ≡ Some x → (setting_of p l).kind.busy (actor_after p l es a) ≡ false
+  some_idle a es b h x e = (subst (λ (o : Option Op). Begins (setting_of p l) a es o) e h).0
 
-  some_idle : (a : ℕ) (es : List (Entry Op)) (b : Option Op) → a ≡ 0 → Begins (at_setting p l) a es b → (x : Op) → b ≡ Some x → busy_after es ≡ false
-  unfolding busy_after
-  some_idle a es b zero h x e = (subst (λ (o : Option Op). Begins (at_setting p l) 0 es o) e (subst (λ (n : ℕ). Begins (at_setting p l) n es b) zero h)).0
-
-  same_step : (es : List (Entry Op)) (e f : Entry Op) → e.actor ≡ f.actor → e.begun ≡ f.begun → MayFollow (at_setting p l) es e → MayFollow (at_setting p l) es f → e ≡ f
+  same_step : (es : List (Entry Op)) (e f : Entry Op) → e.actor ≡ f.actor → e.begun ≡ f.begun → MayFollow (setting_of p l) es e → MayFollow (setting_of p l) es f → e ≡ f
   same_step es e f actor begun m n =
       let ask : e.ask ≡ f.ask = m.asks ∙ rw (actor, begun) (sym n.asks) in
       let found : e.found ≡ f.found = m.found ∙ rw ask (sym n.found) in
       rw (actor, begun, ask, found) refl
 
-  -- the entries that may follow a list, and continue the run, are one
-  same_entry : (es : List (Entry Op)) (e f : Entry Op) (xs ys : List Op) → MayFollow (at_setting p l) es e → MayFollow (at_setting p l) es f
-      → turns_of p ≡ reverse (begun_in p.shapes l (e ∷ es)) ++ xs → turns_of p ≡ reverse (begun_in p.shapes l (f ∷ es)) ++ ys → e ≡ f
-  same_entry es e f xs ys m n h k =
-      let zero : e.actor ≡ 0 = omega (arith, m.actor) in
-      let none : f.actor ≡ 0 = omega (arith, n.actor) in
+  -- the entries of one actor that may follow a list, and continue the run, are one
+  same_entry : (es : List (Entry Op)) (e f : Entry Op) (xs ys : List Op) → e.actor ≡ f.actor → MayFollow (setting_of p l) es e → MayFollow (setting_of p l) es f
+      → turns_of p ≡ reverse (begun_in (e ∷ es)) ++ xs → turns_of p ≡ reverse (begun_in (f ∷ es)) ++ ys → e ≡ f
+  same_entry es e f xs ys same m n h k =
+      let there : Begins (setting_of p l) e.actor es f.begun = subst (λ (a : ℕ). Begins (setting_of p l) a es f.begun) (sym same) n.begins in
       let begun : e.begun ≡ f.begun =
-      same_begun (busy_after es) e.begun f.begun (begun_in p.shapes l es) xs ys (turns_of p) (none_busy e.actor es e.begun zero m.begins) (some_idle e.actor es e.begun zero m.begins)
-      (none_busy f.actor es f.begun none n.begins) (some_idle f.actor es f.begun none n.begins) (before_turns e.begun (begun_in p.shapes l es) xs (turns_of p) h) (before_turns f.begun (begun_in p.shapes l es) ys (turns_of p) k) in
-      same_step es e f (zero ∙ sym none) begun m n
+      same_begun ((setting_of p l).kind.busy (actor_after p l es e.actor)) e.begun f.begun (begun_in es) xs ys (turns_of p) (none_busy e.actor es e.begun m.begins) (some_idle e.actor es e.begun m.begins)
+      (none_busy e.actor es f.begun there) (some_idle e.actor es f.begun there) (before_turns e.begun (begun_in es) xs (turns_of p) h) (before_turns f.begun (begun_in es) ys (turns_of p) k) in
+      same_step es e f same begun m n
 
-  one_run : (es fs : List (Entry Op)) → IsRunSoFar p l es → IsRunSoFar p l fs → length es ≡ length fs → es ≡ fs
-  one_run [] [] r s long = refl
-  one_run [] (f ∷ fs) r s long = absurd (omega arith)
-  one_run (e ∷ es) [] r s long = absurd (omega arith)
-  one_run (e ∷ es) (f ∷ fs) r s long =
-      let same : es ≡ fs = one_run es fs (before p l e es r) (before p l f fs s) (omega arith) in
+  heads : (a b : ℕ) (as' bs : List ℕ) → a ∷ as' ≡ b ∷ bs → a ≡ b
+  heads a b as' bs e = cc
+
+  tails : (a b : ℕ) (as' bs : List ℕ) → a ∷ as' ≡ b ∷ bs → as' ≡ bs
+  tails a b as' bs e = cc
+
+  pub one_order : (es fs : List (Entry Op)) → IsRunSoFar p l es → IsRunSoFar p l fs → actors_in es ≡ actors_in fs → es ≡ fs
+  one_order [] [] r s who = refl
+  one_order [] (f ∷ fs) r s who = absurd cc
+  one_order (e ∷ es) [] r s who = absurd cc
+  one_order (e ∷ es) (f ∷ fs) r s who =
+      let same : es ≡ fs = one_order es fs (before p l e es r) (before p l f fs s) (tails e.actor f.actor (actors_in es) (actors_in fs) who) in
       let other : IsRunSoFar p l (f ∷ es) = subst (λ (gs : List (Entry Op)). IsRunSoFar p l (f ∷ gs)) (sym same) s in
-      let first : e ≡ f = same_entry es e f r.to_come other.to_come r.legal.1 other.legal.1 r.turns other.turns in
+      let first : e ≡ f = same_entry es e f r.to_come other.to_come (heads e.actor f.actor (actors_in es) (actors_in fs) who) r.legal.1 other.legal.1 r.turns other.turns in
       rw (first, same) refl
+
+  insides : (a b : ℕ) → Some a ≡ Some b → a ≡ b
+  insides a b e = cc
+
+  -- where the actors take turns
+
+  pub one_run : (es fs : List (Entry Op)) → IsRunSoFar p l es → IsRunSoFar p l fs → IsInTurn (setting_of p l) es → IsInTurn (setting_of p l) fs → length es ≡ length fs → es ≡ fs
+  one_run [] [] r s t u long = refl
+  one_run [] (f ∷ fs) r s t u long = absurd (omega arith)
+  one_run (e ∷ es) [] r s t u long = absurd (omega arith)
+  one_run (e ∷ es) (f ∷ fs) r s t u long =
+      let same : es ≡ fs = one_run es fs (before p l e es r) (before p l f fs s) t.0 u.0 (omega arith) in
+      let other : IsRunSoFar p l (f ∷ es) = subst (λ (gs : List (Entry Op)). IsRunSoFar p l (f ∷ gs)) (sym same) s in
+      let turn : IsInTurn (setting_of p l) (f ∷ es) = subst (λ (gs : List (Entry Op)). IsInTurn (setting_of p l) (f ∷ gs)) (sym same) u in
+      let who : Some e.actor ≡ Some f.actor = sym t.1 ∙ turn.1 in
+      let first : e ≡ f = same_entry es e f r.to_come other.to_come (insides e.actor f.actor who) r.legal.1 other.legal.1 r.turns other.turns in
+      rw (first, same) refl
+
+pub every_order_has_one_run : EveryOrderHasOneRun
+every_order_has_one_run = one_order
 
 pub every_run_is_one : EveryRunIsOne
 every_run_is_one = one_run
 
-too_long : (o : Op) (turns bs rest : List Op) → reverse bs ≡ turns → turns ≡ reverse bs ++ (o ∷ rest) → ⊥
-too_long o turns bs rest h k =
-    let e : length turns ≡ length (reverse bs) + length (o ∷ rest) = ap length k ∙ length-append (reverse bs) (o ∷ rest) in
-    let d : length (reverse bs) ≡ length turns = ap length h in
-    omega (arith, e, d)
+-- ---- none is longer
 
-none_follow : (p : Program) (l : Layout) (es : List (Entry Op)) (a : ℕ) (o : Option Op) (to_come : List Op) → a ≡ 0 → IsRun p l es → Begins (at_setting p l) a es o
-    → turns_of p ≡ reverse (begun_in p.shapes l es) ++ (option_to_list o ++ to_come) → ⊥
-none_follow p l es a None to_come zero run begins turns =
-    let busy : is_busy_at (state_of (processor_kind p.shapes l) 0 es).task ≡ true = subst (λ (n : ℕ). Begins (at_setting p l) n es None) zero begins in
-    absurd (let e = ap is_busy_at run.done in cc)
-none_follow p l es a (Some o) to_come zero run begins turns = too_long o (turns_of p) (begun_in p.shapes l es) to_come run.turns turns
+-- who has the turn has not ended
+going_on : (ended : ℕ → Bool) (as' : List ℕ) (a : ℕ) → first_going ended as' ≡ Some a → ended a ≡ false
+going_on ended [] a e = absurd cc
+going_on ended (b ∷ bs) a e = go (ended b) refl (going_on ended bs a) e where
+  go : (c : Bool) → ended b ≡ c → (first_going ended bs ≡ Some a → ended a ≡ false) → cond c (first_going ended bs) (Some b) ≡ Some a → ended a ≡ false
+  go true f ih q = ih q
+  go false f ih q = let same : b ≡ a = cc in ap ended (sym same) ∙ f
 
-nothing_follows : (p : Program) (l : Layout) (e : Entry Op) (es : List (Entry Op)) → IsRun p l es → IsRunSoFar p l (e ∷ es) → ⊥
-nothing_follows p l e es run r =
-    let m = r.legal.1 in
-    none_follow p l es e.actor e.begun r.to_come (omega (arith, m.actor)) run m.begins (before_turns e.begun (begun_in p.shapes l es) r.to_come (turns_of p) r.turns)
+nothing_follows : (p : Program) (l : Layout) (e : Entry Op) (es : List (Entry Op)) → IsRun p l es → IsRunSoFar p l (e ∷ es) → IsInTurn (setting_of p l) (e ∷ es) → ⊥
+nothing_follows p l e es run r t =
+    let going : ended_after (setting_of p l) es e.actor ≡ false = going_on (ended_after (setting_of p l) es) (in_order_from (next_in (setting_of p l) es) (setting_of p l).actors) e.actor t.1 in
+    let done : ended_after (setting_of p l) es e.actor ≡ true = run.done e.actor r.legal.1.actor in
+    let no : true ≡ false = sym done ∙ going in
+    absurd cc
 
 is_so_far : (p : Program) (l : Layout) (es : List (Entry Op)) → IsRun p l es → IsRunSoFar p l es
-is_so_far p l es r = record { legal = r.legal; to_come = []; turns = sym (append-nil (reverse (begun_in p.shapes l es)) ∙ r.turns) }
+is_so_far p l es r = record { legal = r.legal; to_come = []; turns = sym (append-nil (reverse (begun_in es)) ∙ r.turns) }
 
-not_as_long : (p : Program) (l : Layout) (e : Entry Op) (es fs : List (Entry Op)) → IsRun p l es → IsRunSoFar p l (e ∷ fs) → length es ≡ length fs → ⊥
-not_as_long p l e es fs run r long =
-    let same : es ≡ fs = every_run_is_one p l es fs (is_so_far p l es run) (before p l e fs r) long in
-    nothing_follows p l e es run (subst (λ (gs : List (Entry Op)). IsRunSoFar p l (e ∷ gs)) (sym same) r)
+not_as_long : (p : Program) (l : Layout) (e : Entry Op) (es fs : List (Entry Op)) → IsRun p l es → IsRunSoFar p l (e ∷ fs) → IsInTurn (setting_of p l) es → IsInTurn (setting_of p l) (e ∷ fs) → length es ≡ length fs → ⊥
+not_as_long p l e es fs run r t u long =
+    let same : es ≡ fs = every_run_is_one p l es fs (is_so_far p l es run) (before p l e fs r) t u.0 long in
+    nothing_follows p l e es run (subst (λ (gs : List (Entry Op)). IsRunSoFar p l (e ∷ gs)) (sym same) r) (subst (λ (gs : List (Entry Op)). IsInTurn (setting_of p l) (e ∷ gs)) (sym same) u)
 
 pub none_is_longer : NoneIsLonger
-none_is_longer p l es [] run r = omega arith
-none_is_longer p l es (f ∷ fs) run r =
-    let within : length fs ≤ length es = none_is_longer p l es fs run (before p l f fs r) in
-    let apart = not_as_long p l f es fs run r in
+none_is_longer p l es [] run r t u = omega arith
+none_is_longer p l es (f ∷ fs) run r t u =
+    let within : length fs ≤ length es = none_is_longer p l es fs run (before p l f fs r) t u.0 in
+    let apart = not_as_long p l f es fs run r t u in
     omega (arith, within, apart)

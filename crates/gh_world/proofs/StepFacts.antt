@@ -2,7 +2,7 @@
 use Rattle.std.proofs.Common.{◌≡◌, ℕ, ◌+◌, ◌-◌, ◌≤◌, Bool, true, false, cond, ltb, not, ◌&&◌, List, get_or, refl, sym, ap, ◌∙◌, Option, Some, None, arith}
 use Rattle.std.specs.Prelude.{is_some}
 use Rattle.std.proofs.Math.ListN.{set}
-use Rattle.gh_world.specs.Vocabulary.{Act, acting, acts_at, after_find, after_place, Answer, applied, At, at_task, begins_at, bit, cache_span, Ends, ends, Find, Finding, finds_none, follows, Found, gives_at, Global, GlobalStage, goes_on, GoesOn, is_busy_at, is_leaving, is_made, is_point, is_pointer_by, is_serving, is_statement, kinds_differ, Layout, Load, LoadStage, made_by, made_object, makes, NewStage, Op, op_at, Own, Place, PlaceStage, Placing, Processor, Register, register_of, searches, Shape, Source, SpanHead, Step, Store, StoreStage, takes_at, Task, Then, Value, value_of, Wanted, with_value}
+use Rattle.gh_world.specs.Vocabulary.{Act, acting, acts_at, after_place, after_search, after_wait, Answer, applied, At, at_task, begins_at, bit, cache_span, Ends, ends, follows, Found, gives_at, Global, GlobalStage, goes_on, GoesOn, is_busy_at, is_leaving, is_made, is_point, is_pointer_by, is_serving, is_statement, kinds_differ, Layout, Load, LoadStage, made_by, made_object, makes, NewStage, Op, op_at, Place, PlaceStage, Placing, Processor, Register, register_of, Search, searches, Shape, Source, SpanHead, Step, Store, StoreStage, takes_at, taking, Task, Then, Value, value_of, Wait, Wanted}
 use Rattle.gh_base.specs.declared.operation.Op.TheVariants as op
 use Rattle.gh_base.specs.declared.value.Answer.TheVariants as answer
 use Rattle.gh_base.specs.declared.value.Fault.TheVariants as fault
@@ -10,18 +10,26 @@ use Rattle.gh_base.specs.declared.value.Value.TheVariants as value
 use Rattle.gh_bitmap.specs.SetPointers as bits
 use Rattle.gh_alloc.specs.declared.sought.Found.TheVariants.{NoRoom}
 use Rattle.gh_alloc.specs.declared.place.PlaceStage.TheVariants as place_stage
-use Rattle.gh_alloc.specs.Find as find
+use Rattle.gh_alloc.specs.Search as search
+use Rattle.gh_alloc.specs.Search.{Seeking}
 use Rattle.gh_alloc.specs.Place as place
 use Rattle.gh_mutator.specs.declared.global.GlobalStage.TheVariants as global_stage
 use Rattle.gh_mutator.specs.declared.load.LoadStage.TheVariants as load_stage
-use Rattle.gh_mutator.specs.declared.own.Own.TheVariants as own
+use Rattle.gh_mutator.specs.declared.wait.Wait.{Wait as WaitState}
 use Rattle.gh_mutator.specs.declared.register.Source.TheVariants as source
 use Rattle.gh_mutator.specs.declared.store.StoreStage.TheVariants as store_stage
 use Rattle.gh_mutator.specs.declared.task.Task.TheVariants as task
 use Rattle.gh_mutator.specs.Fields.{has_field, takes}
 use Rattle.gh_mutator.specs.Global as global
 use Rattle.gh_mutator.specs.Load as load
-use Rattle.gh_mutator.specs.New.{op_of as new_op}
+use Rattle.gh_mutator.specs.New.{answer_search, op_of as new_op, refuses}
+use Rattle.gh_mutator.specs.Leave as leave
+use Rattle.gh_mutator.specs.Leave.{Leaving}
+use Rattle.gh_mutator.specs.Listing.{after_gc, after_leave, after_poll, once_ended}
+use Rattle.gh_mutator.specs.Poll as poll
+use Rattle.gh_mutator.specs.Poll.{Polling}
+use Rattle.gh_mutator.specs.Wait as wait
+use Rattle.gh_mutator.specs.Wait.{Waiting}
 use Rattle.gh_mutator.specs.Serving.{answer_at}
 use Rattle.gh_mutator.specs.Step.{answered}
 use Rattle.gh_mutator.specs.Store as store
@@ -61,7 +69,7 @@ from_step {S} into m g d x step o h is once = by step.then once where
   point : bit (is_point (acting step.acts o false)) ≡ bit step.acts
   point = point_bit step.acts o is
 
-  by : (then : Then S) → bit (is_unacted (op_at (into x))) ≡ bit (is_unacted (op_at (follows into then))) + bit step.acts → StepFacts m (into x) (at_task (with_value m g d step.sets) (follows into then)) (acting step.acts o false) (answered then)
+  by : (then : Then S) → bit (is_unacted (op_at (into x))) ≡ bit (is_unacted (op_at (follows into then))) + bit step.acts → StepFacts m (into x) (at_task (taking m g d step.sets) (follows into then)) (acting step.acts o false) (answered then)
   by (Ends a) once = record {
     counted = λ k. omega arith;
     leaves = sym (h.leaves x);
@@ -142,17 +150,35 @@ module _ (shapes : List Shape) (m : Processor) where
   register_facts x (source.Move d) found = record { counted = λ h. omega arith; leaves = refl; answered = omega arith; once = refl; ends = refl; serves = refl }
   register_facts x source.Nil found = record { counted = λ h. omega arith; leaves = refl; answered = omega arith; once = refl; ends = refl; serves = refl }
 
-  own_facts : (x : Own) (found : ℕ) → FactsAt (task.Own x) found
-  own_facts own.Poll found = record { counted = λ h. omega arith; leaves = refl; answered = omega arith; once = refl; ends = refl; serves = refl }
-  own_facts (own.End g) found = record { counted = λ h. omega arith; leaves = refl; answered = omega arith; once = refl; ends = refl; serves = refl }
-  own_facts own.Leave found = record { counted = λ h. omega arith; leaves = refl; answered = omega arith; once = refl; ends = refl; serves = refl }
+  -- a step of a wait, of a poll and of a leave, by what that has given
+  gc_facts : (g : ℕ) (x : WaitState) (next : Waiting) (out : Option (Unit {0})) → StepFacts m (task.Gc g x) (after_gc m g next out) (acting (is_some out) (op.Gc g) false) (once_ended out answer.Swept)
+  gc_facts g x next None = record { counted = λ h. omega arith; leaves = refl; answered = omega arith; once = refl; ends = refl; serves = refl }
+  gc_facts g x next (Some u) = record { counted = λ h. omega arith; leaves = refl; answered = omega arith; once = refl; ends = refl; serves = refl }
 
-  find_facts : (w : Wanted) (f : Finding) (found : ℕ) → FactsAt (searches w f) found
-  find_facts w f found = go (find.gives f found) where
-    go : (out : Option Found) → StepFacts m (searches w f) (after_find shapes (cache_span m w.sought (find.goes f found).cached) w (find.goes f found) out) (acting (finds_none out) (new_op w) true) (cond (finds_none out) (Some answer.Full) None)
-    go None = record { counted = λ g. omega arith; leaves = refl; answered = omega arith; once = refl; ends = refl; serves = refl }
-    go (Some (At a)) = record { counted = λ g. omega arith; leaves = refl; answered = omega arith; once = refl; ends = refl; serves = refl }
-    go (Some NoRoom) = record { counted = λ g. omega arith; leaves = refl; answered = omega arith; once = refl; ends = refl; serves = refl }
+  poll_facts : (next : Polling) (out : Option (Unit {0})) → StepFacts m task.Poll (after_poll m next out) (acting (is_some out) op.Poll false) (once_ended out answer.Done)
+  poll_facts next None = record { counted = λ h. omega arith; leaves = refl; answered = omega arith; once = refl; ends = refl; serves = refl }
+  poll_facts next (Some u) = record { counted = λ h. omega arith; leaves = refl; answered = omega arith; once = refl; ends = refl; serves = refl }
+
+  leave_facts : (x next : Leaving) (out : Option (Unit {0})) → StepFacts m (task.Leave x) (after_leave m next out) (acting (is_some out) op.Leave false) (once_ended out answer.Done)
+  leave_facts x next None = record { counted = λ h. omega arith; leaves = refl; answered = omega arith; once = refl; ends = refl; serves = refl }
+  leave_facts x next (Some u) = record { counted = λ h. omega arith; leaves = refl; answered = omega arith; once = refl; ends = refl; serves = refl }
+
+  end_facts : (g found : ℕ) → FactsAt (task.End g) found
+  end_facts g found = record { counted = λ h. omega arith; leaves = refl; answered = omega arith; once = refl; ends = refl; serves = refl }
+
+  search_facts : (w : Wanted) (waited : Bool) (s : Seeking) (found : ℕ) → FactsAt (searches w waited s) found
+  search_facts w waited s found = go waited (search.gives s found) where
+    go : (b : Bool) (out : Option Found) → StepFacts m (searches w b s) (after_search shapes (cache_span m w.sought (search.goes s found).find.cached) w b (search.goes s found) out) (acting (refuses b out) (new_op w) true) (answer_search b out)
+    go true None = record { counted = λ g. omega arith; leaves = refl; answered = omega arith; once = refl; ends = refl; serves = refl }
+    go false None = record { counted = λ g. omega arith; leaves = refl; answered = omega arith; once = refl; ends = refl; serves = refl }
+    go true (Some (At a)) = record { counted = λ g. omega arith; leaves = refl; answered = omega arith; once = refl; ends = refl; serves = refl }
+    go false (Some (At a)) = record { counted = λ g. omega arith; leaves = refl; answered = omega arith; once = refl; ends = refl; serves = refl }
+    go true (Some NoRoom) = record { counted = λ g. omega arith; leaves = refl; answered = omega arith; once = refl; ends = refl; serves = refl }
+    go false (Some NoRoom) = record { counted = λ g. omega arith; leaves = refl; answered = omega arith; once = refl; ends = refl; serves = refl }
+
+  wait_facts : (w : Wanted) (x : WaitState) (next : Waiting) (out : Option (Unit {0})) → StepFacts m (task.New (record { wanted = w; stage = Wait x })) (after_wait m w next out) None None
+  wait_facts w x next None = record { counted = λ g. omega arith; leaves = refl; answered = omega arith; once = refl; ends = refl; serves = refl }
+  wait_facts w x next (Some u) = record { counted = λ g. omega arith; leaves = refl; answered = omega arith; once = refl; ends = refl; serves = refl }
 
   -- a step of the making before the object is made, the one that makes it, and one behind that
   before_made : (w : Wanted) (p n : Placing) → is_made p.stage ≡ false → is_made n.stage ≡ false → StepFacts m (makes w p) (at_task m (makes w n)) None None
@@ -187,18 +213,22 @@ module _ (shapes : List Shape) (m : Processor) where
   place_facts w p found place_stage.Ended = record { counted = λ g. omega arith; leaves = refl; answered = omega arith; once = refl; ends = refl; serves = refl }
 
   new_facts : (w : Wanted) (s : NewStage) (found : ℕ) → FactsAt (task.New (record { wanted = w; stage = s })) found
-  new_facts w (Find f) found = find_facts w f found
+  new_facts w (Search waited x) found = search_facts w waited x found
+  new_facts w (Wait x) found = wait_facts w x (wait.goes (wait.waiting x m.poll) found) (wait.gives (wait.waiting x m.poll) found)
   new_facts w (Place p) found = place_facts w p found p.stage
 
   pub step_facts : (t : Task) (found : ℕ) → is_busy_at t ≡ true → FactsAt t found
   step_facts task.Idle found busy = absurd (cc)
   step_facts task.Left found busy = absurd (cc)
-  step_facts (task.Load x) found busy = from_step task.Load m x.g x.d x (load.step m.layout x found) (load.op_of x) load_served refl (load_once m.layout x x.stage found)
-  step_facts (task.Store x) found busy = from_step task.Store m x.g x.v x (store.step m.layout (register_of m x.g x.v) x found) (store.op_of x) store_served refl (store_once m.layout (register_of m x.g x.v) x x.stage found)
-  step_facts (task.Global x) found busy = from_step task.Global m x.g x.r x (global.step m.layout (register_of m x.g x.r) x found) (global.op_of x) global_served (global_statement x x.stage) (global_once m.layout (register_of m x.g x.r) x x.stage found)
+  step_facts (task.Load x) found busy = from_step task.Load m x.g x.d x (load.step m.poll.layout x found) (load.op_of x) load_served refl (load_once m.poll.layout x x.stage found)
+  step_facts (task.Store x) found busy = from_step task.Store m x.g x.v x (store.step m.poll.layout (register_of m x.g x.v) x found) (store.op_of x) store_served refl (store_once m.poll.layout (register_of m x.g x.v) x x.stage found)
+  step_facts (task.Global x) found busy = from_step task.Global m x.g x.r x (global.step m.poll.layout (register_of m x.g x.r) x found) (global.op_of x) global_served (global_statement x x.stage) (global_once m.poll.layout (register_of m x.g x.r) x x.stage found)
   step_facts (task.Register x) found busy = register_facts x x.source found
   step_facts (task.New x) found busy = new_facts x.wanted x.stage found
-  step_facts (task.Own x) found busy = own_facts x found
+  step_facts (task.Gc g x) found busy = gc_facts g x (wait.goes (wait.waiting x m.poll) found) (wait.gives (wait.waiting x m.poll) found)
+  step_facts task.Poll found busy = poll_facts (poll.goes m.poll found) (poll.gives m.poll found)
+  step_facts (task.End g) found busy = end_facts g found
+  step_facts (task.Leave x) found busy = leave_facts x (leave.goes x found) (leave.gives x found)
 
 -- ---- where an operation begins
 
@@ -234,14 +264,14 @@ begin_facts shapes m (op.SetGlobal g k v) busy = global_store_facts g k v (regis
 begin_facts shapes m (op.Int g d n) busy = record { made = omega arith; leaves = refl; serves = refl; is = refl }
 begin_facts shapes m (op.Move g d x) busy = record { made = omega arith; leaves = refl; serves = refl; is = refl }
 begin_facts shapes m (op.Nil g d) busy = record { made = omega arith; leaves = refl; serves = refl; is = refl }
-begin_facts shapes m (op.Gc g) busy = absurd (cc)
+begin_facts shapes m (op.Gc g) busy = record { made = omega arith; leaves = refl; serves = refl; is = refl }
 begin_facts shapes m op.Poll busy = record { made = omega arith; leaves = refl; serves = refl; is = refl }
 begin_facts shapes m (op.End g) busy = record { made = omega arith; leaves = refl; serves = refl; is = refl }
 begin_facts shapes m op.Leave busy = record { made = omega arith; leaves = refl; serves = refl; is = refl }
 
 -- one that is in range is begun
 pub begins_busy : (shapes : List Shape) (m : Processor) (goroutines globals types : ℕ) (o : Op) → in_range goroutines globals types o ≡ true → is_busy_at (begins_at shapes m o) ≡ true
-begins_busy shapes m gs gl ts (op.Gc g) h = absurd (cc)
+begins_busy shapes m gs gl ts (op.Gc g) h = refl
 begins_busy shapes m gs gl ts (op.New g d t) h = refl
 begins_busy shapes m gs gl ts (op.Load g d b k) h = refl
 begins_busy shapes m gs gl ts (op.Store g b k v) h = refl

@@ -1,37 +1,32 @@
--- One step of a world is one entry more of a legal list.
-use Rattle.std.proofs.Common.{◌≡◌, ℕ, ◌+◌, ◌<◌, Bool, true, false, cond, eqb, ◌&&◌, ◌||◌, List, [], ◌∷◌, ◌++◌, length, reverse, get_or, refl, sym, ◌∙◌, ap, subst, Option, Some, None, arith}
-use Rattle.std.specs.Prelude.{is_some}
+-- One step of the processor in a world is one entry more of a legal list.
+use Rattle.std.proofs.Common.{◌≡◌, ℕ, suc, ◌+◌, ◌<◌, ◌≤◌, Bool, true, false, not, cond, eqb, ◌&&◌, ◌||◌, List, ◌∷◌, ◌++◌, length, reverse, get_or, refl, sym, ◌∙◌, ap, subst, Option, Some, None, arith}
+use Rattle.std.specs.Prelude.{is_some, ◌%◌}
 use Rattle.std.specs.Option.{option_to_list}
 use Rattle.std.proofs.Math.ListN.{set}
 use Rattle.std.proofs.lemmas.Bool.Decides.{nat_tests}
-use Rattle.std.proofs.lemmas.Bool.{eqb-true, eqb-false}
+use Rattle.std.proofs.lemmas.Bool.{eq-eqb, eqb-true, eqb-false}
 use Rattle.std.proofs.lemmas.List.{get_or-set_same, get_or-set_other}
-use Rattle.gh_world.specs.Vocabulary.{Op, Shape, Layout, Entry, Words, IsLayoutOf, InRange, Shows, cell_of, request, target, changed, StepsAreShown, by, state_of, started, words_after, Legal, bit, Program, WellFormed, Processor, Next, most_objects, Progress, is_last, is_statement, is_point, statement_answer, acts, is_busy_at, opening_processor}
+use Rattle.gh_mutator.specs.declared.task.Task.TheVariants as task
+use Rattle.gh_mutator.specs.Serving.{answer_at as answer_at_task}
+use Rattle.gh_world.specs.Vocabulary.{Answer, gives_at, is_serving, Task, Op, Layout, Entry, IsLayoutOf, InRange, cell_of, request, target, changed, StepsAreShown, by, state_of, started, words_after, Legal, bit, Program, WellFormed, Processor, processor_kind, Next, most_objects, Progress, has_names, is_last, is_statement, is_point, statement_answer, acts, is_busy_at}
+use Rattle.gh_base.specs.declared.operation.Op.TheVariants as op
 use Rattle.gh_base.specs.Steps.{IsShown}
 use Rattle.gh_base.specs.Lists.{Begins}
-use Rattle.gh_world.specs.Order.{setting_of, may_begin, ends, ended_in, leaves, has_left, begun_in}
-use Rattle.gh_mutator.specs.Deeds.{processor_kind}
-use Rattle.gh_world.specs.Turns.{total_of, turns_of, to_come, later, Stands, MayBeOver, is_over, op_due, goroutine_at, statements_among, statements_by, statement_now, next_point}
-use Rattle.gh_world.specs.World.{opening, progress_after, After, points_in, event_at, event_of, op_at_turn, counts_after, last_after, GoesOn, MadeAtMost}
-use Rattle.gh_base.specs.Reading.{read_replicate}
-use Rattle.gh_world.proofs.Turning.{opens_at}
+use Rattle.gh_coord.specs.Listing as coord
+use Rattle.gh_coord.specs.Stopping.{acks_of}
+use Rattle.gh_worker.specs.Listing as worker
+use Rattle.gh_world.specs.declared.handshake.Actor.{Actor}
+use Rattle.gh_world.specs.declared.handshake.Actor.TheVariants as actor
+use Rattle.gh_world.specs.Order.{ends, ended_in, goroutine_of, leaves, has_left, begun_in}
+use Rattle.gh_world.specs.Processors.{arena_of, has_more, is_of, may_begin, may_leave}
+use Rattle.gh_world.specs.Turns.{total_of, turns_of, to_come, Follows, Stands, MayBeOver, is_over, op_due, goroutine_at, statements_among, statements_by, statement_now, next_point}
+use Rattle.gh_world.specs.Wishes.{wishes_of}
+use Rattle.gh_world.specs.World.{actor_after, After, answer_in, answered_in, with_goroutine, counts_after, event_at, event_by, event_of, GoesOn, last_after, MadeAtMost, op_at_turn, points_in, progress_after, setting_of}
 use Rattle.gh_mutator.specs.Listing.{asks, takes}
-use Rattle.gh_world.proofs.Due.{due_goroutine, due_runs, due_statement, ends_is, false_unless, few_statements, has_name_at, leaves_is, no_false_more, not_ended, not_over}
-use Rattle.gh_world.proofs.Fitting.{opening_progress}
+use Rattle.gh_world.proofs.Asking.{all_then, has_wish, same_ended, same_left}
+use Rattle.gh_world.proofs.Due.{both_true, due_goroutine, due_runs, due_statement, ends_is, false_unless, few_statements, has_name_at, leaves_is, none_to_come, not_ended, not_over}
 use Rattle.gh_world.proofs.OneRun.{one_more}
-
--- ---- lists
-
--- all entries are of the one actor
-by_all : (shapes : List Shape) (l : Layout) (opens : Words) (es : List (Entry Op)) → Legal (setting_of shapes l opens) es → by 0 es ≡ es
-by_all shapes l opens [] h = refl
-by_all shapes l opens (e ∷ es) h = go (eqb e.actor 0) refl (by_all shapes l opens es h.0) where
-  below : e.actor < 1
-  below = h.1.actor
-
-  go : (b : Bool) → eqb e.actor 0 ≡ b → by 0 es ≡ es → cond b (e ∷ by 0 es) (by 0 es) ≡ e ∷ es
-  go true f g = ap (λ x. e ∷ x) g
-  go false f g = absurd (grind (arith, nat_tests))
+use Rattle.gh_world.proofs.Resting.{begun_is, begun_own, is_processor}
 
 -- what has ended may be over behind the turn that is begun
 pub ended_after : (p : Program) (t : Next) (b : Option Op) (new : Next) (es : List (Entry Op)) → GoesOn p t b new → ((g : ℕ) → ended_in es g ≡ true → MayBeOver p t g) → (g : ℕ) → (ends b g || ended_in es g) ≡ true → MayBeOver p new g
@@ -77,9 +72,85 @@ now_after t (Some o) bs long few counted now = go (is_statement o) refl (counted
   go false e h = now
   go true e h = ap (λ (n : ℕ). pair_of (goroutine_at o) n) (h (few o refl e))
 
+-- ---- what a step says of answers
+
+-- the last step of an actor is no statement's
+last_is_none : (t : Task) → is_last t ≡ true → is_serving t ≡ false
+last_is_none (task.Leave x) e = refl
+last_is_none _ e = absurd (cc)
+
+told_by : (now : ℕ × ℕ) (last serves : Bool) (a : Option Answer) → (last ≡ true → serves ≡ false) → answered_in (event_at now last (cond serves a None)) ≡ with_goroutine now.0 (cond serves a None)
+told_by now true true a quiet = absurd (let no = quiet refl in cc)
+told_by now true false a quiet = refl
+told_by now false true None quiet = refl
+told_by now false true (Some a) quiet = refl
+told_by now false false a quiet = refl
+
+told_at : (now : ℕ × ℕ) (t : Task) (a : Option Answer) → answered_in (event_at now (is_last t) (answer_at_task t a)) ≡ with_goroutine now.0 (answer_at_task t a)
+told_at now t a = told_by now (is_last t) (is_serving t) a (last_is_none t)
+
+-- ---- what is due may begin
+
+not_true : (b : Bool) → b ≡ false → not b ≡ true
+not_true true e = absurd cc
+not_true false e = refl
+
+module _ (p : Program) (l : Layout) (runnable : WellFormed p) (laid : IsLayoutOf p.settings.arena p.settings.globals p.settings.procs p.settings.workers (length p.goroutines) l) (single : l.procs ≡ 1) where
+  of_it : (o : Op) → is_of (arena_of p.shapes l) 0 (goroutine_of o) ≡ true
+  of_it o = go (goroutine_of o) where
+    go : (g : Option ℕ) → is_of (arena_of p.shapes l) 0 g ≡ true
+    go None = refl
+    go (Some g) = let zeroth : g % l.procs ≡ 0 = rw single (omega arith) in eq-eqb (g % l.procs) 0 zeroth
+
+  more_of : (fs : List (Entry Op)) (o : Op) (rest : List Op) → turns_of p ≡ reverse (begun_in fs) ++ o ∷ rest → has_more (wishes_of p) fs o ≡ true
+  more_of fs (op.New g d t) rest turns = has_wish p g fs (op.New g d t) rest turns (eq-eqb g g refl)
+  more_of fs (op.Gc g) rest turns = has_wish p g fs (op.Gc g) rest turns (eq-eqb g g refl)
+  more_of fs (op.Load g d b k) rest turns = refl
+  more_of fs (op.Store g b k v) rest turns = refl
+  more_of fs (op.GetGlobal g d k) rest turns = refl
+  more_of fs (op.SetGlobal g k v) rest turns = refl
+  more_of fs (op.Int g d n) rest turns = refl
+  more_of fs (op.Move g d v) rest turns = refl
+  more_of fs (op.Nil g d) rest turns = refl
+  more_of fs op.Poll rest turns = refl
+  more_of fs (op.End g) rest turns = refl
+  more_of fs op.Leave rest turns = refl
+
+  leaves_so : (fs : List (Entry Op)) (o : Op) (new : Next) → turns_of p ≡ reverse (begun_in fs) ++ o ∷ to_come p new → is_over new ≡ leaves (Some o) → may_leave (arena_of p.shapes l) 0 fs o ≡ true
+  leaves_so fs (op.New g d t) new turns over = refl
+  leaves_so fs (op.Gc g) new turns over = refl
+  leaves_so fs (op.Load g d b k) new turns over = refl
+  leaves_so fs (op.Store g b k v) new turns over = refl
+  leaves_so fs (op.GetGlobal g d k) new turns over = refl
+  leaves_so fs (op.SetGlobal g k v) new turns over = refl
+  leaves_so fs (op.Int g d n) new turns over = refl
+  leaves_so fs (op.Move g d v) new turns over = refl
+  leaves_so fs (op.Nil g d) new turns over = refl
+  leaves_so fs op.Poll new turns over = refl
+  leaves_so fs (op.End g) new turns over = refl
+  leaves_so fs op.Leave new turns over = all_then p (arena_of p.shapes l) 0 fs l.goroutines (omega (arith, laid.goroutines_are)) (turns ∙ ap (λ (os : List Op). reverse (begun_in fs) ++ op.Leave ∷ os) (none_to_come p new over))
+
+  -- where nothing is begun
+  pub begins_due : ((es : List (Entry Op)) → state_of (processor_kind p.shapes l) 0 es ≡ state_of (processor_kind p.shapes l) 0 (by 0 es)) → (es : List (Entry Op)) (t : Progress) (o : Op) (new : Next) → is_busy_at (state_of (processor_kind p.shapes l) 0 es).task ≡ false → op_due p t.next ≡ Some o → Follows p t.next o new →
+      MadeAtMost t.stated (state_of (processor_kind p.shapes l) 0 es) → Stands p t.next → t.stated + statements_among (to_come p t.next) ≡ total_of p → Legal (setting_of p l) es → turns_of p ≡ reverse (begun_in es) ++ to_come p t.next →
+      ((g : ℕ) → ended_in es g ≡ true → MayBeOver p t.next g) → (has_left es ≡ true → is_over t.next ≡ true) → Begins (setting_of p l) 0 es (Some o)
+  begins_due own es t o new idle due follows made stands all legal turns over left =
+      let m = state_of (processor_kind p.shapes l) 0 es in
+      let fs = by 0 es in
+      let begun : begun_in fs ≡ begun_in es = begun_own p l single es legal in
+      let ranged = (due_runs p l runnable laid t.next o stands due).ranged in
+      let few : is_statement o ≡ true → t.stated < most_objects = λ sure. omega (arith, due_statement p t.next o due sure, all, few_statements p runnable) in
+      let names : has_names (state_of (processor_kind p.shapes l) 0 fs) o ≡ true = subst (λ (n : Processor). has_names n o ≡ true) (own es) (has_name_at m t.stated o made few) in
+      let runs_on = not_ended p t.next o fs stands due (λ g e. over g (sym (same_ended es fs g begun) ∙ e)) in
+      let stays : has_left fs ≡ false = same_left es fs begun ∙ false_unless (has_left es) (λ h. not_over p t.next o due (left h)) in
+      let come : turns_of p ≡ reverse (begun_in fs) ++ o ∷ to_come p new = turns ∙ ap (λ (os : List Op). reverse (begun_in es) ++ os) follows.come ∙ ap (λ (os : List Op). reverse os ++ o ∷ to_come p new) (sym begun) in
+      let may : may_begin (arena_of p.shapes l) (wishes_of p) 0 (state_of (processor_kind p.shapes l) 0 fs) fs o ≡ true =
+      both_true _ _ (both_true _ _ (both_true _ _ (both_true _ _ (both_true _ _ (both_true _ _ ranged (of_it o)) names) (not_true _ runs_on)) (not_true _ stays)) (more_of fs o (to_come p new) come)) (leaves_so fs o new come (follows.leaves ∙ sym (leaves_is o))) in
+      (ap (λ (x : Actor Processor). (setting_of p l).kind.busy x) (is_processor p l 0 (omega (arith, single)) es) ∙ idle, may)
+
 -- ---- one step is one entry more
 
-module _ (p : Program) (l : Layout) (runnable : WellFormed p) (laid : IsLayoutOf p.settings.arena p.settings.globals p.settings.procs p.settings.workers (length p.goroutines) l) where
+module _ (p : Program) (l : Layout) (runnable : WellFormed p) (laid : IsLayoutOf p.settings.arena p.settings.globals p.settings.procs p.settings.workers (length p.goroutines) l) (single : l.procs ≡ 1) where
   abbrev pub begun : Processor → Option Op → Processor
   begun m b = started (processor_kind p.shapes l) b m
 
@@ -101,9 +172,9 @@ module _ (p : Program) (l : Layout) (runnable : WellFormed p) (laid : IsLayoutOf
     pub columns : length t.begun ≡ 32
 
   -- what follows the list by one step more
-  abbrev pub Goes : List ℕ → Progress → List (ℕ × ℕ) → ℕ → List (Entry Op) → Option Op → Next → Processor → Type 0
-  Goes list t points marks es b new m =
-      After p l (changed (request l (asks (begun m b))) list) (takes p.shapes (begun m b) (found_at list (begun m b))) (progress_after t b new)
+  abbrev pub Goes : List ℕ → List worker.Working → coord.Coordinating → Progress → List (ℕ × ℕ) → ℕ → List (Entry Op) → Option Op → Next → Processor → Type 0
+  Goes list workers c t points marks es b new m =
+      After p l (changed (request l (asks (begun m b))) list) (takes p.shapes (begun m b) (found_at list (begun m b))) workers c (progress_after t b new)
       (points ++ next_point (is_point (acts (begun m b) (found_at list (begun m b)))) (pair_of (last_after t b) (get_or (counts_after t b) (last_after t b) 0)))
       (marks + bit (is_some (statement_answer (begun m b) (found_at list (begun m b)))))
       (entry_of list m b ∷ es)
@@ -115,97 +186,95 @@ module _ (p : Program) (l : Layout) (runnable : WellFormed p) (laid : IsLayoutOf
     go true e = absurd (let none : Some o ≡ None = sym some ∙ is ∙ ap (λ (c : Bool). op_at_turn p c t) e in cc)
     go false e = (e, sym (ap (λ (c : Bool). op_at_turn p c t) e) ∙ sym is ∙ some)
 
-  -- what is due may begin, where nothing is begun
-  pub begins_due : (es : List (Entry Op)) (t : Progress) (o : Op) → is_busy_at (state_of (processor_kind p.shapes l) 0 es).task ≡ false → op_due p t.next ≡ Some o → MadeAtMost t.stated (state_of (processor_kind p.shapes l) 0 es) → Stands p t.next → t.stated + statements_among (to_come p t.next) ≡ total_of p → Legal (setting_of p.shapes l opening) es →
-      ((g : ℕ) → ended_in es g ≡ true → MayBeOver p t.next g) → (has_left es ≡ true → is_over t.next ≡ true) → Begins (setting_of p.shapes l opening) 0 es (Some o)
-  begins_due es t o idle due made stands all legal over left =
-      let m = state_of (processor_kind p.shapes l) 0 es in
-      let ranged = (due_runs p l runnable laid t.next o stands due).ranged in
-      let few : is_statement o ≡ true → t.stated < most_objects = λ sure. omega (arith, due_statement p t.next o due sure, all, few_statements p runnable) in
-      let may : may_begin l.goroutines l.globals (length p.shapes) m es o ≡ true =
-      no_false_more _ _ _ _ ranged (has_name_at m t.stated o made few) (false_unless (has_left es) (λ h. not_over p t.next o due (left h))) (not_ended p t.next o es stands due over) in (
-        idle,
-        subst (λ (fs : List (Entry Op)). may_begin l.goroutines l.globals (length p.shapes) (state_of (processor_kind p.shapes l) 0 fs) fs o ≡ true) (sym (by_all p.shapes l opening es legal)) may,
-      )
+  abbrev OwnEntries : Type 0
+  OwnEntries = (es : List (Entry Op)) → state_of (processor_kind p.shapes l) 0 es ≡ state_of (processor_kind p.shapes l) 0 (by 0 es)
 
-  begins_next : (es : List (Entry Op)) (t : Progress) (b : Option Op) (new : Next) → Knows (state_of (processor_kind p.shapes l) 0 es) t b new → Legal (setting_of p.shapes l opening) es →
-      ((g : ℕ) → ended_in es g ≡ true → MayBeOver p t.next g) → (has_left es ≡ true → is_over t.next ≡ true) → Begins (setting_of p.shapes l opening) 0 es b
-  begins_next es t None new k legal over left = k.busy
-  begins_next es t (Some o) new k legal over left =
+  begins_next : OwnEntries → (es : List (Entry Op)) (t : Progress) (b : Option Op) (new : Next) → Knows (state_of (processor_kind p.shapes l) 0 es) t b new → Legal (setting_of p l) es → turns_of p ≡ reverse (begun_in es) ++ to_come p t.next →
+      ((g : ℕ) → ended_in es g ≡ true → MayBeOver p t.next g) → (has_left es ≡ true → is_over t.next ≡ true) → Begins (setting_of p l) 0 es b
+  begins_next own es t None new k legal turns over left = ap (λ (x : Actor Processor). (setting_of p l).kind.busy x) (is_processor p l 0 (omega (arith, single)) es) ∙ k.busy
+  begins_next own es t (Some o) new k legal turns over left =
       let due = due_at (state_of (processor_kind p.shapes l) 0 es) t.next (Some o) o k.is refl in
-      begins_due es t o due.0 due.1 k.made k.stands k.all legal over left
+      begins_due p l runnable laid single own es t o new due.0 due.1 k.goes k.made k.stands k.all legal turns over left
 
   pub turns_next : (t : Progress) (b : Option Op) (new : Next) (bs : List Op) → GoesOn p t.next b new → turns_of p ≡ reverse bs ++ to_come p t.next → turns_of p ≡ reverse (option_to_list b ++ bs) ++ to_come p new
   turns_next t None new bs goes turns = turns ∙ ap (λ (x : Next). reverse bs ++ to_come p x) (sym goes)
   turns_next t (Some o) new bs goes turns = turns ∙ ap (λ (xs : List Op). reverse bs ++ xs) goes.come ∙ sym (one_more o bs (to_come p new))
 
-  follows_at : StepsAreShown l → (list : List ℕ) (t : Progress) (points : List (ℕ × ℕ)) (marks : ℕ) (es : List (Entry Op)) (b : Option Op) (new : Next) →
-      After p l list (state_of (processor_kind p.shapes l) 0 es) t points marks es → Knows (state_of (processor_kind p.shapes l) 0 es) t b new → Goes list t points marks es b new (state_of (processor_kind p.shapes l) 0 es)
-  follows_at shown list t points marks es b new a k =
+  -- the entry's actor is the processor
+  runs_so : (es : List (Entry Op)) (b : Option Op) → started (setting_of p l).kind b (actor_after p l es 0) ≡ actor.Runs (begun (state_of (processor_kind p.shapes l) 0 es) b)
+  runs_so es b = begun_is p l 0 (omega (arith, single)) es b
+
+  follows_at : OwnEntries → StepsAreShown l → (list : List ℕ) (workers : List worker.Working) (c : coord.Coordinating) (t : Progress) (points : List (ℕ × ℕ)) (marks : ℕ) (es : List (Entry Op)) (b : Option Op) (new : Next) →
+      After p l list (state_of (processor_kind p.shapes l) 0 es) workers c t points marks es → Knows (state_of (processor_kind p.shapes l) 0 es) t b new → Goes list workers c t points marks es b new (state_of (processor_kind p.shapes l) 0 es)
+  follows_at own shown list workers c t points marks es b new a k =
       let m = state_of (processor_kind p.shapes l) 0 es in
       let due : (o : Op) → b ≡ Some o → op_due p t.next ≡ Some o = λ o e. (due_at m t.next b o k.is e).1 in
       let here : (o : Op) → b ≡ Some o → is_statement o ≡ true → goroutine_at o < 32 = λ o e sure. due_goroutine p t.next o runnable k.stands (due o e) sure in
-      let now = now_after t b (begun_in p.shapes l es) k.columns here a.counted a.now in
-      let step : IsShown l list (words_after opening es) (asks (begun m b)) = shown list (words_after opening es) (asks (begun m b)) k.within a.words in
+      let now = now_after t b (begun_in es) k.columns here a.counted a.now in
+      let step : IsShown l list (words_after (setting_of p l).opening es) (asks (begun m b)) = shown list (words_after (setting_of p l).opening es) (asks (begun m b)) k.within a.words in
       record {
         legal = (
           a.legal,
           record {
-            actor = omega arith;
-            begins = begins_next es t b new k a.legal a.ended a.left;
-            runs = k.busy;
-            asks = refl;
+            actor = omega (arith, single);
+            begins = begins_next own es t b new k a.legal a.turns a.ended a.left;
+            runs = ap (λ (x : Actor Processor). (setting_of p l).kind.busy x) (runs_so es b) ∙ k.busy;
+            asks = sym (ap (λ (x : Actor Processor). (setting_of p l).kind.asks x) (runs_so es b));
             within = k.within;
             found = step.found;
           },
         );
         words = step.after;
         processor = refl;
-        turns = turns_next t b new (begun_in p.shapes l es) k.goes a.turns;
-        counted = counted_after t b (begun_in p.shapes l es) k.columns here a.counted;
+        marking = λ i x e. apart (suc i) (omega arith) (a.marking i x e);
+        coordinator = apart (acks_of l) (omega (arith, single)) a.coordinator;
+        turns = turns_next t b new (begun_in es) k.goes a.turns;
+        counted = counted_after t b (begun_in es) k.columns here a.counted;
         now = now;
         ended = ended_after p t.next b new es k.goes a.ended;
         left = left_after p t.next b new es k.goes due a.left;
         pointed = ap (λ (ps : List (ℕ × ℕ)). ps ++ next_point (is_point (acts (begun m b) (found_at list (begun m b)))) (pair_of (last_after t b) (get_or (counts_after t b) (last_after t b) 0))) a.pointed
             ∙ ap (λ (x : ℕ × ℕ). points_in p.shapes l es ++ next_point (is_point (acts (begun m b) (found_at list (begun m b)))) x) now;
         marked = ap (λ (n : ℕ). n + bit (is_some (statement_answer (begun m b) (found_at list (begun m b))))) a.marked;
-      }
+      } where
+        apart : (a : ℕ) → 1 ≤ a → {x : Actor Processor} → actor_after p l es a ≡ x → actor_after p l (entry_of list (state_of (processor_kind p.shapes l) 0 es) b ∷ es) a ≡ x
+        apart a le e = let other : eqb 0 a ≡ false = grind (arith, nat_tests) in rw other e
 
-  pub follows : StepsAreShown l → (list : List ℕ) (m : Processor) (t : Progress) (points : List (ℕ × ℕ)) (marks : ℕ) (es : List (Entry Op)) (b : Option Op) (new : Next) → After p l list m t points marks es → Knows m t b new → Goes list t points marks es b new m
-  follows shown list m t points marks es b new a = back (follows_at shown list t points marks es b new) a where
+  pub follows : OwnEntries → StepsAreShown l → (list : List ℕ) (m : Processor) (workers : List worker.Working) (c : coord.Coordinating) (t : Progress) (points : List (ℕ × ℕ)) (marks : ℕ) (es : List (Entry Op)) (b : Option Op) (new : Next) →
+      After p l list m workers c t points marks es → Knows m t b new → Goes list workers c t points marks es b new m
+  follows own shown list m workers c t points marks es b new a = back (follows_at own shown list workers c t points marks es b new) a where
     Goal : Processor → Type 0
-    Goal n = After p l list n t points marks es → Knows n t b new → Goes list t points marks es b new n
+    Goal n = After p l list n workers c t points marks es → Knows n t b new → Goes list workers c t points marks es b new n
 
     back : Goal (state_of (processor_kind p.shapes l) 0 es) → Goal m
     back g = subst Goal (sym a.processor) g
 
   -- what the step says
-  says_at : (list : List ℕ) (t : Progress) (es : List (Entry Op)) (b : Option Op) → pair_of (last_after t b) (get_or (counts_after t b) (last_after t b) 0) ≡ statement_now (option_to_list b ++ begun_in p.shapes l es) →
+  says_at : (list : List ℕ) (t : Progress) (es : List (Entry Op)) (b : Option Op) → pair_of (last_after t b) (get_or (counts_after t b) (last_after t b) 0) ≡ statement_now (option_to_list b ++ begun_in es) →
       event_at (pair_of (last_after t b) (get_or (counts_after t b) (last_after t b) 0)) (is_last (begun (state_of (processor_kind p.shapes l) 0 es) b).task) (statement_answer (begun (state_of (processor_kind p.shapes l) 0 es) b) (found_at list (begun (state_of (processor_kind p.shapes l) 0 es) b)))
-      ≡ event_of p.shapes l es (entry_of list (state_of (processor_kind p.shapes l) 0 es) b)
+      ≡ event_of p l es (entry_of list (state_of (processor_kind p.shapes l) 0 es) b)
   says_at list t es b same =
       let m = state_of (processor_kind p.shapes l) 0 es in
       ap (λ (x : ℕ × ℕ). event_at x (is_last (begun m b).task) (statement_answer (begun m b) (found_at list (begun m b)))) same
+      ∙ ap (λ (x : Actor Processor). event_by (statement_now (option_to_list b ++ begun_in es)) x (found_at list (begun m b))) (sym (runs_so es b))
 
-  pub says : (list : List ℕ) (m : Processor) (t : Progress) (points : List (ℕ × ℕ)) (marks : ℕ) (es : List (Entry Op)) (b : Option Op) (new : Next) → After p l list m t points marks es → Knows m t b new →
-      event_at (pair_of (last_after t b) (get_or (counts_after t b) (last_after t b) 0)) (is_last (begun m b).task) (statement_answer (begun m b) (found_at list (begun m b))) ≡ event_of p.shapes l es (entry_of list m b)
-  says list m t points marks es b new a k =
+  pub says : (list : List ℕ) (m : Processor) (workers : List worker.Working) (c : coord.Coordinating) (t : Progress) (points : List (ℕ × ℕ)) (marks : ℕ) (es : List (Entry Op)) (b : Option Op) (new : Next) → After p l list m workers c t points marks es → Knows m t b new →
+      event_at (pair_of (last_after t b) (get_or (counts_after t b) (last_after t b) 0)) (is_last (begun m b).task) (statement_answer (begun m b) (found_at list (begun m b))) ≡ event_of p l es (entry_of list m b)
+  says list m workers c t points marks es b new a k =
       let here : (o : Op) → b ≡ Some o → is_statement o ≡ true → goroutine_at o < 32 = λ o e sure. due_goroutine p t.next o runnable k.stands (due_at m t.next b o k.is e).1 sure in
-      let now = now_after t b (begun_in p.shapes l es) k.columns here a.counted a.now in
+      let now = now_after t b (begun_in es) k.columns here a.counted a.now in
       subst Goal (sym a.processor) (says_at list t es b now) where
         Goal : Processor → Type 0
-        Goal n = event_at (pair_of (last_after t b) (get_or (counts_after t b) (last_after t b) 0)) (is_last (begun n b).task) (statement_answer (begun n b) (found_at list (begun n b))) ≡ event_of p.shapes l es (entry_of list n b)
+        Goal n = event_at (pair_of (last_after t b) (get_or (counts_after t b) (last_after t b) 0)) (is_last (begun n b).task) (statement_answer (begun n b) (found_at list (begun n b))) ≡ event_of p l es (entry_of list n b)
 
-pub after_opens : (p : Program) (l : Layout) (list : List ℕ) (first : Next) → Shows l list opening → to_come p first ≡ later p 0 0 → After p l list (opening_processor l 0) (opening_progress first) [] 0 []
-after_opens p l list first shows come = record {
-  legal = tt;
-  words = shows;
-  processor = refl;
-  turns = opens_at p ∙ sym come;
-  counted = λ g lt. read_replicate {A = ℕ} 32 g 0;
-  now = refl;
-  ended = λ g e. absurd cc;
-  left = λ e. absurd cc;
-  pointed = refl;
-  marked = refl;
-}
+  -- and the answer in it
+  tells_at : (list : List ℕ) (es : List (Entry Op)) (b : Option Op) → answered_in (event_of p l es (entry_of list (state_of (processor_kind p.shapes l) 0 es) b)) ≡ with_goroutine (statement_now (option_to_list b ++ begun_in es)).0 (answer_in p.shapes l es (entry_of list (state_of (processor_kind p.shapes l) 0 es) b))
+  tells_at list es b =
+      let m = begun (state_of (processor_kind p.shapes l) 0 es) b in
+      let found = found_at list m in
+      ap (λ (x : Actor Processor). answered_in (event_by (statement_now (option_to_list b ++ begun_in es)) x found)) (runs_so es b) ∙ told_at (statement_now (option_to_list b ++ begun_in es)) m.task (gives_at m m.task found)
+
+  pub tells : (list : List ℕ) (m : Processor) (es : List (Entry Op)) (b : Option Op) → m ≡ state_of (processor_kind p.shapes l) 0 es → answered_in (event_of p l es (entry_of list m b)) ≡ with_goroutine (statement_now (option_to_list b ++ begun_in es)).0 (answer_in p.shapes l es (entry_of list m b))
+  tells list m es b is = subst Goal (sym is) (tells_at list es b) where
+    Goal : Processor → Type 0
+    Goal n = answered_in (event_of p l es (entry_of list n b)) ≡ with_goroutine (statement_now (option_to_list b ++ begun_in es)).0 (answer_in p.shapes l es (entry_of list n b))

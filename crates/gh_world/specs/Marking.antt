@@ -1,5 +1,5 @@
 -- Processors of any kind whose steps are moves of marking, workers and the coordinator: what holds while a cycle is marked, and where its marking ends, after every legal list of their steps.
-use Rattle.std.specs.Prelude.{◌≡◌, ℕ, ◌<◌, ◌≤◌, Bool, true, false, List, ◌∷◌}
+use Rattle.std.specs.Prelude.{◌≡◌, ℕ, ◌<◌, ◌≤◌, ◌⊎◌, Bool, true, false, List, [], ◌∷◌}
 use Rattle.gh_base.specs.declared.cell.Cell.TheVariants as cell
 use Rattle.gh_base.specs.declared.layout.Layout.{Layout}
 use Rattle.gh_base.specs.declared.machine.Entry.{Entry}
@@ -12,7 +12,7 @@ use Rattle.gh_marks.specs.Colours.{Cycle, Shared}
 use Rattle.gh_marks.specs.Ends.{EachReachedIsMarked, IsDone, Opens}
 use Rattle.gh_marks.specs.Good.{Good}
 use Rattle.gh_marks.specs.Knows.{KnowsObjects}
-use Rattle.gh_marks.specs.Moves.{Others, SameExtent, Steps}
+use Rattle.gh_marks.specs.Moves.{Others, SameExtent, Steps, Went}
 use Rattle.gh_marks.specs.Seats.{Hands, nothing}
 use Rattle.gh_phase.specs.Handshake.{Party, Stage}
 use Rattle.gh_phase.specs.Shakes.{IsParked}
@@ -56,6 +56,15 @@ pub record LeavesObjects (s t : Shared) : Type 0 where
 abbrev pub IsInLimits : Layout → Type 0
 IsInLimits l = InLimits l.pages l.globals l.procs l.workers l.goroutines
 
+-- The entries of the one list are the first of the other's, or all of them.
+abbrev pub IsStartOf : {O : Type 0} → (start : List (Entry O)) → List (Entry O) → Type 0
+IsStartOf start [] = start ≡ []
+IsStartOf start (e ∷ es) = (start ≡ e ∷ es) ⊎ IsStartOf start es
+
+-- a list that is meant stays so where its newest entry is left off
+abbrev pub StartsAreMeant : {O : Type 0} → (meant : List (Entry O) → Type 0) → Type 0
+StartsAreMeant {O} meant = (e : Entry O) (es : List (Entry O)) → meant (e ∷ es) → meant es
+
 -- The lists of a heap: processors of a kind, and the workers and the coordinator beside them.
 module _ {P O : Type 0} (arena : Arena) (k : Kind P O) (pacing : Pacing) (may_begin : ℕ → List (Entry O) → O → Bool) where
   abbrev pub setting : Setting (Actor P) O
@@ -77,8 +86,8 @@ module _ {P O : Type 0} (arena : Arena) (k : Kind P O) (pacing : Pacing) (may_be
     pub number_is : z.number ≡ c.begun
     pub words_are : s.words ≡ words es
 
-  -- What is known of marking at the stages of a processor; and what is known of the heap besides, with all actors as they are.
-  module _ (stage : P → Stage) (facts : Cycle → (a : ℕ) → Shared → P → Type 0) (knows : Cycle → Shared → (ℕ → Actor P) → Type 0) where
+  -- What is known of marking at the stages of a processor; what is known of the heap besides after a list; and which lists are meant.
+  module _ (stage : P → Stage) (facts : Cycle → (a : ℕ) → Shared → P → Type 0) (knows : Cycle → Shared → List (Entry O) → Type 0) (meant : List (Entry O) → Type 0) where
     -- each processor knows what its stage says
     abbrev pub ProcessorsKnow : List (Entry O) → Cycle → Shared → Type 0
     ProcessorsKnow es z s = (a : ℕ) (m : P) → a < arena.layout.procs → actors_after es a ≡ actor.Runs m → facts z a s m
@@ -86,9 +95,9 @@ module _ {P O : Type 0} (arena : Arena) (k : Kind P O) (pacing : Pacing) (may_be
     -- What is asked of processors, while marking is on.
     pub record PollsByMoves : Type 0 where
       -- A step of a processor is made of moves that its seat may make, and what is known of it and of the heap holds then. An operation may begin with the step.
-      pub own_step : (e : Entry O) (es : List (Entry O)) (c : coord.Coordinating) → Legal setting (e ∷ es) → IsLedBy es c → leading.Marks c.stage → (z : Cycle) (s : Shared) (m : P) → IsStateOf es c z s → Good z s → knows z s (actors_after es) →
+      pub own_step : (e : Entry O) (es : List (Entry O)) (c : coord.Coordinating) → Legal setting (e ∷ es) → meant (e ∷ es) → IsLedBy es c → leading.Marks c.stage → (z : Cycle) (s : Shared) (m : P) → IsStateOf es c z s → Good z s → knows z s es →
           e.actor < arena.layout.procs → actors_after es e.actor ≡ actor.Runs m → facts z e.actor s m →
-          Steps z e.actor s e.ask (λ t. facts z e.actor t (k.takes (started k e.begun m) e.found) × knows z t (actors_after (e ∷ es)))
+          Steps z e.actor s e.ask (λ t. facts z e.actor t (k.takes (started k e.begun m) e.found) × knows z t (e ∷ es))
       -- what is known of it lasts, whatever others do
       pub lasts : (z : Cycle) (a : ℕ) (s t : Shared) (m : P) → Others z a s t → facts z a s m → facts z a t m
       -- it acknowledges a stop, and ends, with nothing in hand
@@ -100,18 +109,8 @@ module _ {P O : Type 0} (arena : Arena) (k : Kind P O) (pacing : Pacing) (may_be
       pub shared : Shared
       pub is : IsStateOf es c cycle shared
       pub opens : Opens cycle shared
-      pub known : knows cycle shared (actors_after es)
+      pub known : knows cycle shared es
       pub processors : ProcessorsKnow es cycle shared
-
-    -- What is asked of the heap.
-    pub record KnowsHeap : Type 0 where
-      -- where a cycle begins
-      pub begins : (es : List (Entry O)) (c : coord.Coordinating) → Legal setting es → IsLedBy es c → IsBeginning c.stage → MayBegin es c
-      -- while it is marked, the words that are read of an object of the cycle say what its words are
-      pub objects : (z : Cycle) (s : Shared) (actors : ℕ → Actor P) → knows z s actors → KnowsObjects z s
-      -- and what is known of it lasts while workers and the coordinator step
-      pub lasts : (e : Entry O) (es : List (Entry O)) (c : coord.Coordinating) → Legal setting (e ∷ es) → IsLedBy es c → (z : Cycle) (s t : Shared) → IsStateOf es c z s → Good z s → Good z t → knows z s (actors_after es) →
-          arena.layout.procs ≤ e.actor → LeavesObjects s t → t.words ≡ words (e ∷ es) → knows z t (actors_after (e ∷ es))
 
     -- What holds while a cycle is marked: there is a state of marking with these words, and each actor knows, and has in hand, what its stage says.
     pub record IsInMarking (es : List (Entry O)) (c : coord.Coordinating) : Type 0 where
@@ -119,7 +118,7 @@ module _ {P O : Type 0} (arena : Arena) (k : Kind P O) (pacing : Pacing) (may_be
       pub shared : Shared
       pub is : IsStateOf es c cycle shared
       pub good : Good cycle shared
-      pub known : knows cycle shared (actors_after es)
+      pub known : knows cycle shared es
       pub processors : ProcessorsKnow es cycle shared
       pub workers : (a : ℕ) (w : worker.Working) → a < acks_of arena.layout → actors_after es a ≡ actor.Marks w → marks.Facts cycle a shared w
       -- the coordinator has nothing in hand, and nobody is at a seat behind it
@@ -130,9 +129,28 @@ module _ {P O : Type 0} (arena : Arena) (k : Kind P O) (pacing : Pacing) (may_be
       pub marking : IsInMarking es c
       pub ends : IsChecked c.stage → EndsClean marking.cycle marking.shared
 
-module _ {P : Type 0} (O : Type 0) (sound : Layout → P → Type 0) (party : P → Party) (stage : P → Stage) (facts : Cycle → (a : ℕ) → Shared → P → Type 0) (knows : Cycle → Shared → (ℕ → Actor P) → Type 0) where
-  -- Of every legal list, while a cycle is marked: from the store of the phase that begins it to that of the next sweep generation.
+    -- so it was at each start of the list where a cycle was marked
+    abbrev pub WasMarked : List (Entry O) → Type 0
+    WasMarked es = (start : List (Entry O)) (c : coord.Coordinating) → IsStartOf start es → IsLedBy start c → leading.Marks c.stage → MarksToTheEnd start c
+
+    -- What is asked of the heap.
+    pub record KnowsHeap : Type 0 where
+      -- where a cycle begins; what was marked before may be used for that
+      pub begins : (es : List (Entry O)) (c : coord.Coordinating) → Legal setting es → meant es → IsLedBy es c → IsBeginning c.stage → WasMarked es → MayBegin es c
+      -- while it is marked, the words that are read of an object of the cycle say what its words are
+      pub objects : (z : Cycle) (s : Shared) (es : List (Entry O)) → knows z s es → KnowsObjects z s
+      -- and what is known of it lasts while workers and the coordinator step, by moves of theirs, as long as the cycle is marked
+      pub lasts : (e : Entry O) (es : List (Entry O)) (c then : coord.Coordinating) → Legal setting (e ∷ es) → meant (e ∷ es) → IsLedBy es c → IsLedBy (e ∷ es) then → leading.Marks then.stage → (z : Cycle) (s t : Shared) → IsStateOf es c z s → Good z s → Good z t → knows z s es →
+          arena.layout.procs ≤ e.actor → Went z e.actor s t → LeavesObjects s t → t.words ≡ words (e ∷ es) → knows z t (e ∷ es)
+
+module _ {P O : Type 0} (arena : Arena) (k : Kind P O) (pacing : Pacing) (may_begin : ℕ → List (Entry O) → O → Bool) (stage : P → Stage) (facts : Cycle → (a : ℕ) → Shared → P → Type 0) (knows : Cycle → Shared → List (Entry O) → Type 0) (meant : List (Entry O) → Type 0) where
+  -- Of every legal list of this heap that is meant, while a cycle is marked: from the store of the phase that begins it to that of the next sweep generation.
+  abbrev pub EachListMarks : Type 0
+  EachListMarks = StartsAreMeant meant → PollsByMoves arena k pacing may_begin stage facts knows meant → KnowsHeap arena k pacing may_begin stage facts knows meant → (es : List (Entry O)) (c : coord.Coordinating) →
+      Legal (setting arena k pacing may_begin) es → meant es → IsLedBy arena k pacing may_begin es c → leading.Marks c.stage → MarksToTheEnd arena k pacing may_begin stage facts knows meant es c
+
+module _ {P : Type 0} (O : Type 0) (sound : Layout → P → Type 0) (party : P → Party) (stage : P → Stage) (facts : Cycle → (a : ℕ) → Shared → P → Type 0)
+    (knows : Arena → Pacing → (ℕ → List (Entry O) → O → Bool) → Cycle → Shared → List (Entry O) → Type 0) (meant : Arena → Pacing → (ℕ → List (Entry O) → O → Bool) → List (Entry O) → Type 0) where
   abbrev pub EveryListMarks : Type 0
   EveryListMarks = (arena : Arena) (k : Kind P O) (pacing : Pacing) (may_begin : ℕ → List (Entry O) → O → Bool) → IsInLimits arena.layout → AreParties arena.layout k (sound arena.layout) party stage →
-      PollsByMoves arena k pacing may_begin stage facts knows → KnowsHeap arena k pacing may_begin stage facts knows → (es : List (Entry O)) (c : coord.Coordinating) →
-      Legal (setting arena k pacing may_begin) es → IsLedBy arena k pacing may_begin es c → leading.Marks c.stage → MarksToTheEnd arena k pacing may_begin stage facts knows es c
+      EachListMarks arena k pacing may_begin stage facts (knows arena pacing may_begin) (meant arena pacing may_begin)

@@ -1,5 +1,5 @@
--- Lists of steps of the processor, the newest first: what was begun, where each statement acted, what was answered, and what the heap that never frees is after them.
-use Rattle.std.specs.Prelude.{ℕ, nat_lt, Bool, true, false, not, ◌==◌, ◌&&◌, ◌||◌, List, [], ◌∷◌, ◌++◌, length, reverse, Option, Some, None}
+-- Lists of steps of all actors, the newest first: what was begun, where each statement acted, what was answered, and what the heap that never frees is after them. Operations are begun by the processor alone; at the seat of a worker or of the coordinator these words speak of a processor that rests.
+use Rattle.std.specs.Prelude.{ℕ, nat_lt, Bool, true, false, ◌==◌, ◌&&◌, ◌||◌, List, [], ◌∷◌, ◌++◌, reverse, Option, Some, None}
 use Rattle.std.specs.Option.{option_to_list}
 use Rattle.gh_base.specs.declared.value.Answer.{Answer}
 use Rattle.gh_base.specs.declared.operation.Op.{Op}
@@ -8,14 +8,11 @@ use Rattle.gh_base.specs.declared.shape.Shape.{Shape}
 use Rattle.gh_base.specs.declared.layout.Layout.{Layout}
 use Rattle.gh_base.specs.declared.limits.TheConstants.{REGISTERS}
 use Rattle.gh_base.specs.declared.machine.Entry.{Entry}
-use Rattle.gh_base.specs.Cells.{Words}
-use Rattle.gh_base.specs.Lists.{Setting, state_of, started}
+use Rattle.gh_base.specs.Lists.{started, state_of}
 use Rattle.gh_model.specs.Ever.{Ever, opening_ever}
 use Rattle.gh_mutator.specs.declared.processor.Processor.{Processor}
-use Rattle.gh_mutator.specs.Deeds.{processor_kind}
-use Rattle.gh_mutator.specs.Facts.{acted, answer_at}
+use Rattle.gh_mutator.specs.Deeds.{acted, answer_at, processor_kind}
 use Rattle.gh_mutator.specs.Listing.{gives, acts, Act}
-use Rattle.gh_mutator.specs.Sound.{has_names}
 
 -- What an operation needs: a goroutine that there is and that has not ended, registers, a global and a type in range; nothing after the processor has left.
 
@@ -50,7 +47,7 @@ module _ (goroutines globals types : ℕ) where
   in_range (op.End g) = nat_lt g goroutines
   in_range op.Poll = true
   in_range op.Leave = true
-  in_range (op.Gc g) = false
+  in_range (op.Gc g) = nat_lt g goroutines
 
 abbrev pub goroutine_of : Op → Option ℕ
 goroutine_of (op.New g d t) = Some g
@@ -70,20 +67,6 @@ abbrev pub is_over : List (Entry Op) → Option ℕ → Bool
 is_over es None = false
 is_over es (Some g) = ended_in es g
 
--- in this private state, after these entries of its own
-abbrev pub may_begin : (goroutines globals types : ℕ) → Processor → List (Entry Op) → Op → Bool
-may_begin goroutines globals types m es o = in_range goroutines globals types o && has_names m o && not (has_left es) && not (is_over es (goroutine_of o))
-
--- what a list is of: one processor over a heap of this layout
-abbrev pub setting_of : List Shape → Layout → Words → Setting Processor Op
-setting_of shapes l opening = record {
-  kind = processor_kind shapes l;
-  layout = l;
-  actors = 1;
-  opening = opening;
-  may_begin = λ a es o. may_begin l.goroutines l.globals (length shapes) (state_of (processor_kind shapes l) a es) es o;
-}
-
 -- What a list says.
 
 -- an operation, and its answer
@@ -91,15 +74,15 @@ pub record Answered : Type 0 where
   pub op : Op
   pub answer : Answer
 
-module _ (shapes : List Shape) (l : Layout) where
-  -- the processor before the entry's step, its operation begun
-  abbrev pub before_step : List (Entry Op) → Entry Op → Processor
-  before_step es e = started (processor_kind shapes l) e.begun (state_of (processor_kind shapes l) 0 es)
+-- the operations begun
+abbrev pub begun_in : List (Entry Op) → List Op
+begun_in [] = []
+begun_in (e ∷ es) = option_to_list e.begun ++ begun_in es
 
-  -- the operations begun
-  abbrev pub begun_in : List (Entry Op) → List Op
-  begun_in [] = []
-  begun_in (e ∷ es) = option_to_list e.begun ++ begun_in es
+module _ (shapes : List Shape) (l : Layout) where
+  -- the processor of the entry before its step, its operation begun
+  abbrev pub before_step : List (Entry Op) → Entry Op → Processor
+  before_step es e = started (processor_kind shapes l) e.begun (state_of (processor_kind shapes l) e.actor es)
 
   -- the heap that never frees after the list
   abbrev pub ever_of : List (Entry Op) → Ever

@@ -1,20 +1,20 @@
 -- Lists of steps of any number of processors over one heap, the newest first: which are legal, and what every legal one keeps.
-use Rattle.std.specs.Prelude.{◌≡◌, ◌≢◌, ℕ, zero, suc, ◌+◌, ◌*◌, ◌%◌, ◌<◌, ◌≤◌, nat_lt, Bool, true, false, not, ◌==◌, ◌&&◌, ◌||◌, if◌then◌else◌, ◌⊎◌, List, [], ◌∷◌, ◌++◌, length, map, Option, Some, None}
+use Rattle.std.specs.Prelude.{◌≡◌, ◌≢◌, ℕ, zero, suc, ◌+◌, ◌%◌, ◌<◌, ◌≤◌, nat_lt, Bool, true, false, not, ◌==◌, ◌&&◌, ◌||◌, if◌then◌else◌, ◌⊎◌, List, [], ◌∷◌, ◌++◌, length, map, Option, Some, None}
 use Rattle.std.specs.Option.{option_to_list}
-use Rattle.gh_world.specs.Vocabulary.{Act, Answer, Answered, answered_by, Arena, cached_for, deeds, Entry, Ever, given_by, has_names, Head, Holds, IsFull, IsOf, IsSpan, Layout, Legal, meaning, model_after, Name, Op, opening_words, page_of, Placed, Processor, processor_kind, Reach, register_of, REGISTERS, row_bit, Setting, Shape, shape_at, ShapesAreGood, size_for, slot_count, Sought, sought_for, span_for, SpanHead, state_of, Words, words_after}
+use Rattle.gh_world.specs.Vocabulary.{Act, Answer, Answered, answered_by, Arena, cached_for, deeds, Entry, Ever, given_by, has_names, Head, Holds, IsFull, IsOf, IsSpan, Layout, meaning, model_after, Name, Op, page_of, Placed, Processor, processor_kind, Reach, register_of, REGISTERS, row_bit, Setting, Shape, shape_at, size_for, Sought, sought_for, span_for, SpanHead, state_of, Words, words_after}
 use Rattle.gh_base.specs.declared.cell.Cell.TheVariants as cell
 use Rattle.gh_base.specs.declared.operation.Op.TheVariants as op
 use Rattle.gh_base.specs.declared.pack.PageWord.TheVariants.{Free}
 use Rattle.gh_base.specs.Orders.{done_at}
-use Rattle.gh_base.specs.Rows.{Row, alloc_words, birth_words, bitmap_words, field_words, global_words, page_words}
+use Rattle.gh_base.specs.Rows.{alloc_words, birth_words, bitmap_words, field_words, global_words, page_words}
 use Rattle.gh_class.specs.declared.class.SizeClass.TheVariants as size
 use Rattle.gh_heap.specs.Objects.{GlobalsGood, InSlot, Means, Place}
-use Rattle.gh_heap.specs.Spans.{slot_size}
+use Rattle.gh_heap.specs.Spans.{IsVacant}
 use Rattle.gh_world.specs.Order.{ended_in, goroutine_of, has_left, in_range, is_over}
 
--- goroutine i is of processor i modulo their number
+-- goroutine i is of processor i modulo their number; spans are given back whether or not each slot is taken
 abbrev pub arena_of : List Shape → Layout → Arena
-arena_of shapes l = record { layout = l; shapes = shapes; seat_of = λ g. g % l.procs }
+arena_of shapes l = record { layout = l; shapes = shapes; seat_of = λ g. g % l.procs; full_only = false }
 
 -- Which operations may begin, by an actor's own entries: of a goroutine of this processor that has not ended; with registers, global and type in range; fewer `new` and `gc` of a goroutine than it has; no goroutine left before the leave; nothing after it.
 
@@ -87,10 +87,6 @@ StandsFor z words e at = StandsForThese z (Reach e) words e at
 
 -- There is no room, for the processor at this seat.
 
--- no object stands in the span
-abbrev pub IsVacant : (alloc : Row) → (p : ℕ) → SpanHead → Type 0
-IsVacant alloc p h = (i : ℕ) → i < slot_count h → row_bit alloc (1024 * p + i * slot_size h) ≡ 0
-
 -- heap page q is not free, nor in a span that is empty and that nobody owns
 pub record IsTakenPage (z : Arena) (words : Words) (q : ℕ) : Type 0 where
   pub taken : page_of (words (cell.Page q)) ≢ Free
@@ -148,8 +144,3 @@ module _ (z : Arena) (opening : Words) where
     pub stands : StandsFor z (words_after opening es) (ever_after_list es) (at_seat es)
     pub answers : (a : ℕ) → a < z.layout.procs → AnswersAsEver a es
     pub full : FullOnlyThere es
-
--- Whatever the types' shapes, the heap's layout, its trigger as it opens and how many objects each goroutine may ask for, and however many processors there are: after every legal list of their steps, in every order.
-abbrev pub EveryListOfProcessorsStands : Type 0
-EveryListOfProcessorsStands = (shapes : List Shape) (l : Layout) (trigger : ℕ) (counts : ℕ → ℕ) (es : List (Entry Op)) → ShapesAreGood shapes →
-    Legal (setting (arena_of shapes l) counts (opening_words trigger)) es → ListStands (arena_of shapes l) (opening_words trigger) es

@@ -1,45 +1,68 @@
--- Whole runs: a list of the processor's steps in which its operations are the script's turns, and at whose end it is done; and what such a list says of a script's answers.
-use Rattle.std.specs.Prelude.{◌≡◌, ℕ, ◌≤◌, true, false, List, [], ◌∷◌, ◌++◌, length, map, reverse, Option, Some, None}
+-- Whole runs: a list of the steps of all actors in which the processor's operations are the script's turns, and at whose end all are done; and what such a list says of a script's answers, its cycles and what is live.
+use Rattle.std.specs.Prelude.{◌≡◌, ℕ, ◌+◌, ◌<◌, ◌≤◌, true, false, List, [], ◌∷◌, ◌++◌, length, map, reverse, slice_get, Option, Some, None}
 use Rattle.std.specs.List.{filter}
-use Rattle.gh_base.specs.declared.value.Answer.{Answer}
-use Rattle.gh_base.specs.declared.operation.Op.{Op}
-use Rattle.gh_base.specs.declared.shape.Shape.{Shape}
-use Rattle.gh_base.specs.declared.layout.Layout.{Layout}
-use Rattle.gh_base.specs.declared.machine.Entry.{Entry}
-use Rattle.gh_base.specs.Cells.{opening_words}
-use Rattle.gh_base.specs.Lists.{Legal}
-use Rattle.gh_lines.specs.Text.{answers_by}
-use Rattle.gh_script.specs.Program.{Program, WellFormed, op_of, statements_of}
-use Rattle.gh_model.specs.Ever.{opening_ever}
-use Rattle.gh_model.specs.Answers.{AllAnswer}
-use Rattle.gh_mutator.specs.declared.task.Task.TheVariants.{Left}
-use Rattle.gh_mutator.specs.Facts.{ShapesAreGood}
-use Rattle.gh_mutator.specs.Serving.{has_left_at}
-use Rattle.gh_world.specs.Order.{setting_of, begun_in, acted_in, Answered}
-use Rattle.gh_world.specs.Law.{processor_after, EveryListStands, EveryStepIsWithin, FullMeansNoRoom}
+use Rattle.gh_world.specs.Vocabulary.{acts, AllAnswer, Answer, answers_by, Entry, Layout, Legal, Op, opening_ever, Processor, Program, state_of, statements_of, WellFormed, Words, words_after}
+use Rattle.gh_base.specs.declared.cell.Cell.TheVariants as cell
+use Rattle.gh_base.specs.declared.value.Answer.TheVariants as answer
+use Rattle.gh_coord.specs.declared.cycles.Cycle.{Cycle}
+use Rattle.gh_coord.specs.Keeping.{last_kept}
+use Rattle.gh_coord.specs.Listing.{Coordinating}
+use Rattle.gh_lines.specs.Text.{Outcome, SweptCycle}
+use Rattle.gh_mutator.specs.Deeds.{processor_kind}
+use Rattle.gh_script.specs.Program.{op_of}
+use Rattle.gh_world.specs.declared.handshake.Actor.TheVariants.{Leads}
+use Rattle.gh_world.specs.Cycles.{AreLive, cycles_in}
+use Rattle.gh_world.specs.Order.{acted_in, Answered, before_step, begun_in, ever_of, order_of}
+use Rattle.gh_world.specs.Processors.{arena_of, IsFullFor}
+use Rattle.gh_world.specs.Schedule.{ended_after, IsInTurn}
 use Rattle.gh_world.specs.Turns.{turns_of, answers_to, is_statement_of}
-use Rattle.gh_world.specs.World.{opening, now_in, answer_in, LaysOut}
+use Rattle.gh_world.specs.World.{actor_after, answer_in, LaysOut, now_in, setting_of, with_goroutine}
 
--- the list is one whole run of the script
-pub record IsRun (p : Program) (l : Layout) (es : List (Entry Op)) : Type 0 where
-  pub legal : Legal (setting_of p.shapes l opening) es
-  pub turns : reverse (begun_in p.shapes l es) ≡ turns_of p
-  pub done : (processor_after p.shapes l opening es).task ≡ Left
+module _ (p : Program) (l : Layout) where
+  -- the words after the list
+  abbrev pub words_in : List (Entry Op) → Words
+  words_in es = words_after (setting_of p l).opening es
 
--- the list is a run of the script so far: what has begun is the first of its turns
-pub record IsRunSoFar (p : Program) (l : Layout) (es : List (Entry Op)) : Type 0 where
-  pub legal : Legal (setting_of p.shapes l opening) es
-  pub to_come : List Op
-  pub turns : turns_of p ≡ reverse (begun_in p.shapes l es) ++ to_come
+  -- the processor after the list
+  abbrev pub processor_after : List (Entry Op) → Processor
+  processor_after es = state_of (processor_kind p.shapes l) 0 es
+
+  -- the actor has ended after the list
+  abbrev pub has_ended_in : List (Entry Op) → ℕ → Type 0
+  has_ended_in es a = ended_after (setting_of p l) es a ≡ true
+
+  -- the list is one whole run of the script
+  pub record IsRun (es : List (Entry Op)) : Type 0 where
+    pub legal : Legal (setting_of p l) es
+    pub turns : reverse (begun_in es) ≡ turns_of p
+    pub done : (a : ℕ) → a < (setting_of p l).actors → has_ended_in es a
+
+  -- the list is a run of the script so far: what has begun is the first of its turns
+  pub record IsRunSoFar (es : List (Entry Op)) : Type 0 where
+    pub legal : Legal (setting_of p l) es
+    pub to_come : List Op
+    pub turns : turns_of p ≡ reverse (begun_in es) ++ to_come
 
 -- what the statements were answered, in the order of their ends, each answer with its goroutine
-abbrev pub with_goroutine : ℕ → Option Answer → List (ℕ × Answer)
-with_goroutine g None = []
-with_goroutine g (Some a) = (g, a) ∷ []
-
 abbrev pub answers_given : Program → Layout → List (Entry Op) → List (ℕ × Answer)
 answers_given p l [] = []
-answers_given p l (e ∷ es) = answers_given p l es ++ with_goroutine (now_in p.shapes l (e ∷ es)).0 (answer_in p.shapes l es e)
+answers_given p l (e ∷ es) = answers_given p l es ++ with_goroutine (now_in (e ∷ es)).0 (answer_in p.shapes l es e)
+
+-- ---- what a coordinator tells of its cycles
+
+abbrev pub swept_cycle : Cycle → SweptCycle
+swept_cycle c = record { number = c.k; marked = c.marked; freed = c.freed }
+
+-- the objects that the last cycle marked; none before the first
+abbrev pub marked_by : Option Cycle → ℕ
+marked_by None = 0
+marked_by (Some c) = c.marked
+
+-- what the run comes to, where the coordinator knows this at its end
+abbrev pub outcome_by : List (ℕ × Answer) → Coordinating → Outcome
+outcome_by answers c = record { answers = answers; cycles = map swept_cycle c.cycles.items; objects = marked_by (last_kept c.cycles); bytes = c.live }
+
+-- ---- explained runs
 
 -- the statements of goroutine g among operations with their answers
 abbrev pub acted_by : ℕ → List Answered → List Answered
@@ -50,41 +73,77 @@ pub record AreItsStatements (p : Program) (g : ℕ) (acted : List Answered) (ans
   pub statements : map (λ (a : Answered). a.op) acted ≡ map (op_of g) (statements_of p g)
   pub answered : map (λ (a : Answered). a.answer) acted ≡ answers
 
--- The operations of the run are the script's turns, in the order of their points, and among them each goroutine's statements stand each once and in their order. Their answers are exactly those of the heap that never frees, save `full`, and whichever is answered `full`, each slot of its span class was taken where it acted and no run of free pages fitted. The statements' answers are those given, in the order of the turns.
-pub record IsExplained (p : Program) (l : Layout) (es : List (Entry Op)) (answers : List (ℕ × Answer)) : Type 0 where
-  pub run : IsRun p l es
-  pub given : answers ≡ answers_given p l es
-  pub all : List Answer
-  pub acted : map (λ (a : Answered). a.op) (acted_in p.shapes l es) ≡ turns_of p
-  pub answered : map (λ (a : Answered). a.answer) (acted_in p.shapes l es) ≡ all
-  pub ever : AllAnswer p.shapes opening_ever (turns_of p) all
-  pub among : answers ≡ answers_to (turns_of p) all
-  pub each : (g : ℕ) → AreItsStatements p g (acted_by g (acted_in p.shapes l es)) (answers_by g answers)
-  pub others : (g : ℕ) → length p.goroutines ≤ g → acted_by g (acted_in p.shapes l es) ≡ []
-  pub full : FullMeansNoRoom p.shapes l opening es
+module _ (p : Program) (l : Layout) where
+  -- The operation acted in the list, behind i others, where there was no room: and a cycle that began after the operation did was swept by then.
+  pub record FoundNoRoom (es : List (Entry Op)) (i : ℕ) (o : Op) : Type 0 where
+    pub before : List (Entry Op)
+    pub entry : Entry Op
+    pub later : List (Entry Op)
+    pub there : es ≡ later ++ entry ∷ before
+    pub behind : length (order_of p.shapes l before) ≡ i
+    pub acted : acts (before_step p.shapes l before entry) entry.found ≡ Some (record { op = o; full = true })
+    pub no_room : IsFullFor (arena_of p.shapes l) entry.actor (words_in p l before) (state_of (processor_kind p.shapes l) entry.actor before) o
+    -- where the operation began
+    pub earlier : List (Entry Op)
+    pub first : Entry Op
+    pub since : List (Entry Op)
+    pub began_there : before ≡ since ++ first ∷ earlier
+    pub began : first.begun ≡ Some o
+    pub none_since : begun_in since ≡ []
+    pub waited : words_in p l earlier cell.Begun < words_in p l before cell.Swept
 
--- Whatever the types' shapes, the heap's layout and its trigger as it opens: after every legal list of the processor's steps the words stand for the heap that never frees, and `full` was answered only where there was no room.
-abbrev pub EveryLegalListStands : Type 0
-EveryLegalListStands = (shapes : List Shape) (l : Layout) (trigger : ℕ) → ShapesAreGood shapes → EveryListStands shapes l (opening_words trigger)
+  -- whichever operation is answered `full`, it acted where there was no room
+  abbrev pub FullMeansNoRoom : List (Entry Op) → Type 0
+  FullMeansNoRoom es = (i : ℕ) (a : Answered) → slice_get (acted_in p.shapes l es) i ≡ Some a → a.answer ≡ answer.Full → FoundNoRoom es i a.op
 
--- And the step that follows is on a word that there is.
-abbrev pub EveryLegalListGoesOn : Type 0
-EveryLegalListGoesOn = (shapes : List Shape) (l : Layout) (trigger : ℕ) → ShapesAreGood shapes → EveryStepIsWithin shapes l (opening_words trigger)
+  -- The operations of the run are the script's turns, in the order of their points, and among them each goroutine's statements stand each once and in their order. Their answers are exactly those of the heap that never frees, save `full`, and whichever is answered `full`, there was no room where it acted, and a cycle was waited for. The statements' answers are those given, in the order of the turns. What the coordinator tells is so: each cycle kept what was marked where it ended, and freed what was white there. What is live is what the globals of the heap that never frees hold at the end.
+  pub record IsExplained (es : List (Entry Op)) (o : Outcome) : Type 0 where
+    pub run : IsRun p l es
+    -- what was answered, and what the coordinator tells at the end
+    pub coordinator : Coordinating
+    pub led : actor_after p l es (l.procs + l.workers) ≡ Leads coordinator
+    pub given : o ≡ outcome_by (answers_given p l es) coordinator
+    pub all : List Answer
+    pub acted : map (λ (a : Answered). a.op) (acted_in p.shapes l es) ≡ turns_of p
+    pub answered : map (λ (a : Answered). a.answer) (acted_in p.shapes l es) ≡ all
+    pub ever : AllAnswer p.shapes opening_ever (turns_of p) all
+    pub among : o.answers ≡ answers_to (turns_of p) all
+    pub each : (g : ℕ) → AreItsStatements p g (acted_by g (acted_in p.shapes l es)) (answers_by g o.answers)
+    pub others : (g : ℕ) → length p.goroutines ≤ g → acted_by g (acted_in p.shapes l es) ≡ []
+    pub full : FullMeansNoRoom es
+    pub cycles : o.cycles ≡ cycles_in l (setting_of p l).opening es
+    pub live : AreLive p.shapes (ever_of p.shapes l es) o.objects o.bytes
 
--- Whatever the script, and whatever run of it: its answers are explained.
+-- ---- laws
+
+-- Whatever the script, and whatever run of it, in every order of steps: what it is answered and what its coordinator tells is explained.
 abbrev pub EveryRunIsExplained : Type 0
-EveryRunIsExplained = (p : Program) (l : Layout) (es : List (Entry Op)) → WellFormed p → IsRun p l es → IsExplained p l es (answers_given p l es)
+EveryRunIsExplained = (p : Program) (l : Layout) (es : List (Entry Op)) (c : Coordinating) → WellFormed p → LaysOut p l → IsRun p l es → actor_after p l es (l.procs + l.workers) ≡ Leads c → IsExplained p l es (outcome_by (answers_given p l es) c)
 
--- Over a plain list of words a script has one run: as many steps of it are the same steps, and none follows when it is over.
+-- who steps, the newest first
+abbrev pub actors_in : List (Entry Op) → List ℕ
+actors_in es = map (λ (e : Entry Op). e.actor) es
+
+-- Over a plain list of words a script has one run in each order of steps: lists in which the same actors step are the same.
+abbrev pub EveryOrderHasOneRun : Type 0
+EveryOrderHasOneRun = (p : Program) (l : Layout) (es fs : List (Entry Op)) → IsRunSoFar p l es → IsRunSoFar p l fs → actors_in es ≡ actors_in fs → es ≡ fs
+
+-- Where the actors take turns a script has one run: as many steps of it are the same steps, and none follows when it is over.
 abbrev pub EveryRunIsOne : Type 0
-EveryRunIsOne = (p : Program) (l : Layout) (es fs : List (Entry Op)) → IsRunSoFar p l es → IsRunSoFar p l fs → length es ≡ length fs → es ≡ fs
+EveryRunIsOne = (p : Program) (l : Layout) (es fs : List (Entry Op)) → IsRunSoFar p l es → IsRunSoFar p l fs → IsInTurn (setting_of p l) es → IsInTurn (setting_of p l) fs → length es ≡ length fs → es ≡ fs
 
 abbrev pub NoneIsLonger : Type 0
-NoneIsLonger = (p : Program) (l : Layout) (es fs : List (Entry Op)) → IsRun p l es → IsRunSoFar p l fs → length fs ≤ length es
+NoneIsLonger = (p : Program) (l : Layout) (es fs : List (Entry Op)) → IsRun p l es → IsRunSoFar p l fs → IsInTurn (setting_of p l) es → IsInTurn (setting_of p l) fs → length fs ≤ length es
 
--- A run of a script so far goes on while the processor has not left, and is whole when it has.
+-- the run goes on by a step of this actor
+pub record GoesOnBy (p : Program) (l : Layout) (es : List (Entry Op)) (a : ℕ) : Type 0 where
+  pub e : Entry Op
+  pub by : e.actor ≡ a
+  pub more : IsRunSoFar p l (e ∷ es)
+
+-- A run of a script so far goes on by a step of any actor that has not ended, and is whole when all have.
 abbrev pub RunsGoOn : Type 0
-RunsGoOn = (p : Program) (l : Layout) (es : List (Entry Op)) → WellFormed p → LaysOut p l → IsRunSoFar p l es → has_left_at (processor_after p.shapes l opening es).task ≡ false → (e : Entry Op) × IsRunSoFar p l (e ∷ es)
+RunsGoOn = (p : Program) (l : Layout) (es : List (Entry Op)) (a : ℕ) → WellFormed p → LaysOut p l → IsRunSoFar p l es → a < (setting_of p l).actors → ended_after (setting_of p l) es a ≡ false → GoesOnBy p l es a
 
 abbrev pub RunsEndWhole : Type 0
-RunsEndWhole = (p : Program) (l : Layout) (es : List (Entry Op)) → WellFormed p → LaysOut p l → IsRunSoFar p l es → has_left_at (processor_after p.shapes l opening es).task ≡ true → IsRun p l es
+RunsEndWhole = (p : Program) (l : Layout) (es : List (Entry Op)) → WellFormed p → LaysOut p l → IsRunSoFar p l es → ((a : ℕ) → a < (setting_of p l).actors → has_ended_in p l es a) → IsRun p l es

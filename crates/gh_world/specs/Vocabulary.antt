@@ -1,6 +1,6 @@
 -- The names that files with many imports share.
 pub use Rattle.gh_base.specs.Cells.{InRange, IsLayoutOf, length_of, opening_words, Shows, Words}
-pub use Rattle.gh_base.specs.Lists.{Begins, by, Legal, MayFollow, Setting, started, state_of, words_after}
+pub use Rattle.gh_base.specs.Lists.{Begins, by, Kind, Legal, MayFollow, Setting, started, state_of, words_after}
 pub use Rattle.gh_base.specs.Orders.{Answered, answered_by, given_by, model_after}
 pub use Rattle.gh_base.specs.Packing.{bit, page_of}
 pub use Rattle.gh_base.specs.Rows.{row_bit}
@@ -26,19 +26,18 @@ pub use Rattle.gh_lines.specs.Text.{answers_by}
 pub use Rattle.gh_script.specs.Program.{no_goroutine, Program, statements_of, WellFormed}
 pub use Rattle.gh_script.specs.declared.statement.Stmt.{Stmt}
 pub use Rattle.gh_interp.specs.Working.{work_at, work_of}
-pub use Rattle.gh_alloc.specs.Find.{Finding, span_for}
+pub use Rattle.gh_alloc.specs.Find.{span_for}
 pub use Rattle.gh_alloc.specs.Place.{Placing}
 pub use Rattle.gh_alloc.specs.declared.place.PlaceStage.{PlaceStage}
 pub use Rattle.gh_alloc.specs.declared.sought.Found.{Found}
 pub use Rattle.gh_alloc.specs.declared.sought.Found.TheVariants.{At}
 pub use Rattle.gh_alloc.specs.declared.sought.Sought.{Sought}
-pub use Rattle.gh_mutator.specs.Deeds.{deeds, has_point, meaning, processor_kind}
-pub use Rattle.gh_mutator.specs.Facts.{acted, answer_at, answered_at, ShapesAreGood}
+pub use Rattle.gh_mutator.specs.Deeds.{acted, answer_at, deeds, has_point, meaning, processor_kind}
 pub use Rattle.gh_mutator.specs.Fields.{is_pointer_by, kinds_differ, value_of}
 pub use Rattle.gh_mutator.specs.Listing.{Act, acting, acts, acts_at, applied, asks, begins, begins_at, follows, gives_at, is_busy_at, op_at, takes, takes_at}
 pub use Rattle.gh_mutator.specs.Mutating.{goes, Mutating}
-pub use Rattle.gh_mutator.specs.New.{after_find, after_place, finds_none, is_made, made_object, makes, searches, sought_for}
-pub use Rattle.gh_mutator.specs.Processor.{at_task, cache_span, cached_for, made_by, opening_processor, register_of, with_value}
+pub use Rattle.gh_mutator.specs.New.{after_found, after_place, after_search, after_wait, is_made, made_object, makes, searches, sought_for, waits}
+pub use Rattle.gh_mutator.specs.Processor.{at_task, cache_span, cached_for, made_by, opening_processor, register_of, taking}
 pub use Rattle.gh_mutator.specs.Serving.{has_left_at, is_last, is_leaving, is_point, is_serving, is_statement, statement_answer}
 pub use Rattle.gh_mutator.specs.Sound.{has_names, most_objects}
 pub use Rattle.gh_mutator.specs.Step.{ends, goes_on}
@@ -47,9 +46,8 @@ pub use Rattle.gh_mutator.specs.declared.global.GlobalStage.{GlobalStage}
 pub use Rattle.gh_mutator.specs.declared.load.Load.{Load}
 pub use Rattle.gh_mutator.specs.declared.load.LoadStage.{LoadStage}
 pub use Rattle.gh_mutator.specs.declared.new.NewStage.{NewStage}
-pub use Rattle.gh_mutator.specs.declared.new.NewStage.TheVariants.{Find, Place}
+pub use Rattle.gh_mutator.specs.declared.new.NewStage.TheVariants.{Place, Search, Wait}
 pub use Rattle.gh_mutator.specs.declared.new.Wanted.{Wanted}
-pub use Rattle.gh_mutator.specs.declared.own.Own.{Own}
 pub use Rattle.gh_mutator.specs.declared.processor.Processor.{Processor}
 pub use Rattle.gh_mutator.specs.declared.register.Register.{Register}
 pub use Rattle.gh_mutator.specs.declared.register.Source.{Source}
@@ -60,6 +58,14 @@ pub use Rattle.gh_mutator.specs.declared.store.Store.{Store}
 pub use Rattle.gh_mutator.specs.declared.store.StoreStage.{StoreStage}
 pub use Rattle.gh_mutator.specs.declared.task.Task.{Task}
 pub use Rattle.gh_mutator.specs.declared.task.Task.TheVariants.{Idle, Left}
+pub use Rattle.gh_phase.specs.Handshake.{Party, Stage}
+pub use Rattle.gh_coord.specs.Keeping.{Kept}
+pub use Rattle.gh_coord.specs.Listing.{Coordinating, cycle_of}
+pub use Rattle.gh_coord.specs.Stopping.{acks_of}
+pub use Rattle.gh_coord.specs.declared.coord.CoordStage.{CoordStage}
+pub use Rattle.gh_coord.specs.declared.cycles.Cycle.{Cycle}
+pub use Rattle.gh_coord.specs.declared.open.OpenStage.{OpenStage}
+pub use Rattle.gh_world.specs.declared.handshake.Actor.{Actor}
 pub use Rattle.gh_world.specs.declared.turns.Next.{Next}
-pub use Rattle.gh_world.specs.declared.world.Event.{Event}
-pub use Rattle.gh_world.specs.declared.world.Progress.{Progress}
+pub use Rattle.gh_world.specs.declared.event.Event.{Event}
+pub use Rattle.gh_world.specs.declared.progress.Progress.{Progress}

@@ -1,27 +1,87 @@
--- The world of one processor: what a list of its steps is answered, and that it is the state of such a list.
-use Rattle.std.specs.Prelude.{◌≡◌, ℕ, ◌+◌, ◌<◌, ◌≤◌, Bool, true, false, if◌then◌else◌, List, [], ◌∷◌, ◌++◌, length, reverse, slice_index, slice_set, ◌^◌, ◌-◌, Option, Some, None, is_some}
-use Rattle.gh_world.specs.Vocabulary.{Answer, Op, Shape, Layout, MOST_GOROUTINES, Entry, bit, Words, InRange, IsLayoutOf, length_of, opening_words, Shows, cell_of, changed, request, target, state_of, words_after, Legal, Program, WellFormed, NewStage, Find, Place, Processor, Task, acts, is_busy_at, op_at, is_made, made_by, Mutating, goes, has_left_at, is_last, is_leaving, is_point, is_serving, is_statement, statement_answer, Next, Progress, Event}
+-- The world of one processor, its workers and the coordinator: what a list of their steps is answered, and that it is the state of such a list.
+use Rattle.std.specs.Prelude.{◌≡◌, ℕ, zero, suc, ◌+◌, ◌<◌, ◌≤◌, Bool, true, false, if◌then◌else◌, not, List, [], ◌∷◌, ◌++◌, length, map, replicate, reverse, slice_index, slice_set, slice_get, ◌-◌, ◌^◌, Option, Some, None, is_some}
+use Rattle.std.specs.List.{range_with_len}
+use Rattle.gh_base.specs.declared.cell.Ask.{Ask}
+use Rattle.gh_world.specs.Vocabulary.{Answer, Op, Shape, Layout, MOST_GOROUTINES, Entry, bit, InRange, IsLayoutOf, length_of, Shows, cell_of, changed, request, target, Setting, started, state_of, words_after, Legal, Program, WellFormed, NewStage, Place, Processor, Task, acts, is_busy_at, op_at, is_made, made_by, Mutating, goes, is_last, is_leaving, is_point, is_serving, is_statement, statement_answer, Next, Progress, Event}
+use Rattle.gh_coord.specs.declared.cycles.Cycle.{Cycle}
+use Rattle.gh_coord.specs.Listing as coord
+use Rattle.gh_coord.specs.Stopping.{acks_of}
 use Rattle.gh_mutator.specs.declared.task.Task.TheVariants.{New}
 use Rattle.gh_mutator.specs.Deeds.{processor_kind}
 use Rattle.gh_mutator.specs.Mutating.{asks, begins}
-use Rattle.gh_world.specs.declared.world.Event.TheVariants as event
-use Rattle.gh_world.specs.Order.{setting_of, before_step, begun_in, ended_in, has_left}
+use Rattle.gh_worker.specs.Listing as worker
+use Rattle.gh_world.specs.declared.handshake.Actor.{Actor}
+use Rattle.gh_world.specs.declared.handshake.Actor.TheVariants as actor
+use Rattle.gh_world.specs.declared.event.Event.TheVariants as event
+use Rattle.gh_world.specs.Handshake.{heap, Pacing}
+use Rattle.gh_world.specs.Order.{before_step, begun_in, ended_in, has_left}
+use Rattle.gh_world.specs.Processors.{arena_of, may_begin}
+use Rattle.gh_world.specs.Schedule.{ended_after, has_ended, turn_from}
 use Rattle.gh_world.specs.Turns.{total_of, turns_of, to_come, Stands, MayBeOver, is_over, op_due, Follows, goroutine_at, statements_among, statements_by, statement_now, is_unacted, next_point}
+use Rattle.gh_world.specs.Wishes.{most_cycles, wishes_of}
 
--- what the step says, where this statement was begun last: the actor's last step, or one that ends a statement or none
+-- ---- the lists of a script
+
+-- the coordinator's numbers: those of the script's settings, room for its cycles, and a trigger that no allocation reaches
+abbrev pub pacing_of : Program → Pacing
+pacing_of p = record { gogc = p.settings.gogc; minheap = p.settings.minheap; room = most_cycles p; trigger = 2 ^ 64 - 1 }
+
+-- which operations the processors may begin: of each goroutine as many `new` and `gc` as the script has
+abbrev pub may_begin_of : Program → Layout → ℕ → List (Entry Op) → Op → Bool
+may_begin_of p l a es o = may_begin (arena_of p.shapes l) (wishes_of p) a (state_of (processor_kind p.shapes l) a es) es o
+
+-- what a list is of: the processors of a heap of this layout, its workers and the coordinator
+abbrev pub setting_of : Program → Layout → Setting (Actor Processor) Op
+setting_of p l = heap l (processor_kind p.shapes l) (pacing_of p) (may_begin_of p l)
+
+-- the layout is that of the script's settings
+abbrev pub LaysOut : Program → Layout → Type 0
+LaysOut p l = IsLayoutOf p.settings.arena p.settings.globals p.settings.procs p.settings.workers (length p.goroutines) l
+
+-- ---- what an entry says
+
+-- what a step of the processor says, where this statement was begun last: the actor's last step, or one that ends a statement or none
 abbrev pub event_at : ℕ × ℕ → Bool → Option Answer → Event
 event_at now true answer = event.Finished
 event_at now false None = event.Moved
 event_at now false (Some a) = event.Answered now.0 now.1 a
 
+-- what a step says that tells this cycle to be swept, or none
+abbrev pub told_event : Option Cycle → Event
+told_event None = event.Moved
+told_event (Some c) = event.Swept c.k c.marked c.freed
+
+-- what a step says of an actor that is done by it, and else this
+abbrev pub done_or : Option (Unit {0}) → Event → Event
+done_or None other = other
+done_or (Some x) other = event.Finished
+
+-- what a step of this actor says that has found this
+abbrev pub event_by : ℕ × ℕ → Actor Processor → (found : ℕ) → Event
+event_by now (actor.Runs m) found = event_at now (is_last m.task) (statement_answer m found)
+event_by now (actor.Marks w) found = done_or (worker.gives w found) event.Moved
+event_by now (actor.Leads c) found = done_or (coord.gives c found) (told_event (coord.told_at c.cycles c.stage))
+
+-- the goroutine and the number of the statement begun last, before or with the entry
+abbrev pub now_in : List (Entry Op) → ℕ × ℕ
+now_in es = statement_now (begun_in es)
+
+-- an answer with its goroutine
+abbrev pub with_goroutine : ℕ → Option Answer → List (ℕ × Answer)
+with_goroutine g None = []
+with_goroutine g (Some a) = (g, a) ∷ []
+
+-- what an event says that a statement was answered
+abbrev pub answered_in : Event → List (ℕ × Answer)
+answered_in (event.Answered g n a) = (g, a) ∷ []
+answered_in event.Moved = []
+answered_in (event.Swept k marked freed) = []
+answered_in event.Finished = []
+
 module _ (shapes : List Shape) (l : Layout) where
   -- what the entry's step gives the statement
   abbrev pub answer_in : List (Entry Op) → Entry Op → Option Answer
   answer_in es e = statement_answer (before_step shapes l es e) e.found
-
-  -- the goroutine and the number of the statement begun last, before or with the entry
-  abbrev pub now_in : List (Entry Op) → ℕ × ℕ
-  now_in es = statement_now (begun_in shapes l es)
 
   -- the goroutine and the number of each statement, in the order of their points
   abbrev pub points_in : List (Entry Op) → List (ℕ × ℕ)
@@ -33,51 +93,67 @@ module _ (shapes : List Shape) (l : Layout) where
   marks_in [] = 0
   marks_in (e ∷ es) = marks_in es + bit (is_some (answer_in es e))
 
+module _ (p : Program) (l : Layout) where
+  -- the actor after the list
+  abbrev pub actor_after : List (Entry Op) → ℕ → Actor Processor
+  actor_after es a = state_of (setting_of p l).kind a es
+
   -- what the entry's step says
   abbrev pub event_of : List (Entry Op) → Entry Op → Event
-  event_of es e = event_at (now_in (e ∷ es)) (is_last (before_step shapes l es e).task) (answer_in es e)
+  event_of es e = event_by (now_in (e ∷ es)) (started (setting_of p l).kind e.begun (actor_after es e.actor)) e.found
 
--- the words of the heap as it opens: no cycle is asked for
-abbrev pub opening : Words
-opening = opening_words (2 ^ 64 - 1)
+-- ---- the world
 
--- these are the words, the processor, the progress, the points and the statements answered after the list
-pub record After (p : Program) (l : Layout) (list : List ℕ) (m : Processor) (t : Progress) (points : List (ℕ × ℕ)) (marks : ℕ) (es : List (Entry Op)) : Type 0 where
-  pub legal : Legal (setting_of p.shapes l opening) es
-  pub words : Shows l list (words_after opening es)
-  pub processor : m ≡ state_of (processor_kind p.shapes l) 0 es
-  pub turns : turns_of p ≡ reverse (begun_in p.shapes l es) ++ to_come p t.next
-  pub counted : (g : ℕ) → g < MOST_GOROUTINES → slice_index t.begun g ≡ statements_by g (begun_in p.shapes l es)
-  pub now : (t.last, slice_index t.begun t.last) ≡ now_in p.shapes l es
-  pub ended : (g : ℕ) → ended_in es g ≡ true → MayBeOver p t.next g
-  pub left : has_left es ≡ true → is_over t.next ≡ true
-  pub pointed : points ≡ points_in p.shapes l es
-  pub marked : marks ≡ marks_in p.shapes l es
-
--- what a world is: its script and layout, its words, the processor, how far that is among its turns, and the points
+-- what a world is: its script and layout, its words, the processor, the workers and the coordinator, how far the processor is among its turns, and the points
 pub record State : Type 0 where
   pub script : Program
   pub layout : Layout
   pub words : List ℕ
   pub mutator : Mutating
+  pub workers : List worker.Working
+  pub coord : coord.Coordinating
   pub progress : Progress
   pub points : List (ℕ × ℕ)
 
+-- These are the words, the processor, the workers, the coordinator, the progress, the points and the number of statements answered after the list.
+pub record After (p : Program) (l : Layout) (list : List ℕ) (m : Processor) (workers : List worker.Working) (c : coord.Coordinating) (t : Progress) (points : List (ℕ × ℕ)) (marks : ℕ) (es : List (Entry Op)) : Type 0 where
+  pub legal : Legal (setting_of p l) es
+  pub words : Shows l list (words_after (setting_of p l).opening es)
+  pub processor : m ≡ state_of (processor_kind p.shapes l) 0 es
+  pub marking : (i : ℕ) (x : worker.Working) → slice_get workers i ≡ Some x → actor_after p l es (suc i) ≡ actor.Marks x
+  pub coordinator : actor_after p l es (acks_of l) ≡ actor.Leads c
+  pub turns : turns_of p ≡ reverse (begun_in es) ++ to_come p t.next
+  pub counted : (g : ℕ) → g < MOST_GOROUTINES → slice_index t.begun g ≡ statements_by g (begun_in es)
+  pub now : (t.last, slice_index t.begun t.last) ≡ now_in es
+  pub ended : (g : ℕ) → ended_in es g ≡ true → MayBeOver p t.next g
+  pub left : has_left es ≡ true → is_over t.next ≡ true
+  pub pointed : points ≡ points_in p.shapes l es
+  pub marked : marks ≡ marks_in p.shapes l es
+
 -- the world is the state of the list
 abbrev pub IsAfter : State → List (Entry Op) → Type 0
-IsAfter w es = After w.script w.layout w.words w.mutator.processor w.progress w.points w.mutator.marks es
+IsAfter w es = After w.script w.layout w.words w.mutator.processor w.workers w.coord w.progress w.points w.mutator.marks es
 
--- the world is the state of the list with one entry more, of this actor, and the event is what that entry's step says
+-- how far the processor is among its turns as a world opens
+abbrev pub opening_progress : Next → Progress
+opening_progress first = record { next = first; begun = replicate MOST_GOROUTINES 0; stated = 0; last = 0 }
+
+-- the workers of a heap, each before its first step
+abbrev pub workers_at : Layout → List worker.Working
+workers_at l = map (worker.opening l) (range_with_len l.procs l.workers)
+
+-- the world is the state of the list with one entry more, of this actor, and the event is what that entry's step says, with the answer of the statement that ends with it, if one does
 pub record Appends (w : State) (actor : ℕ) (es : List (Entry Op)) (happened : Event) : Type 0 where
   pub e : Entry Op
   pub by : e.actor ≡ actor
   pub after : IsAfter w (e ∷ es)
-  pub says : happened ≡ event_of w.script.shapes w.layout es e
+  pub says : happened ≡ event_of w.script w.layout es e
+  pub answers : answered_in happened ≡ with_goroutine (now_in (e ∷ es)).0 (answer_in w.script.shapes w.layout es e)
 
 -- 1 where an object is being made that is not counted yet
 abbrev pub making_in : NewStage → ℕ
-making_in (Find f) = 1
 making_in (Place p) = if is_made p.stage then 0 else 1
+making_in _ = 1
 
 abbrev pub making : Task → ℕ
 making (New x) = making_in x.stage
@@ -87,17 +163,17 @@ making _ = 0
 abbrev pub MadeAtMost : ℕ → Processor → Type 0
 MadeAtMost n m = (g : ℕ) → made_by m g + making m.task ≤ n
 
--- the layout is that of the script's settings
-abbrev pub LaysOut : Program → Layout → Type 0
-LaysOut p l = IsLayoutOf p.settings.arena p.settings.globals p.settings.procs p.settings.workers (length p.goroutines) l
-
--- what each world keeps
-pub record Fit (p : Program) (l : Layout) (list : List ℕ) (m : Mutating) (t : Progress) (points room : ℕ) : Type 0 where
+-- What each world keeps: of its script and words,
+pub record FitWords (p : Program) (l : Layout) (list : List ℕ) : Type 0 where
   pub script : WellFormed p
   pub layout : LaysOut p l
+  pub one : l.procs ≡ 1
   pub long : length list ≡ length_of l
+
+-- of the processor and its turns,
+pub record FitTurns (p : Program) (l : Layout) (m : Mutating) (t : Progress) (points room : ℕ) : Type 0 where
   pub shapes : m.shapes ≡ p.shapes
-  pub laid : m.processor.layout ≡ l
+  pub laid : m.processor.poll.layout ≡ l
   pub made : MadeAtMost t.stated m.processor
   pub stands : Stands p t.next
   pub all : t.stated + statements_among (to_come p t.next) ≡ total_of p
@@ -109,7 +185,20 @@ pub record Fit (p : Program) (l : Layout) (list : List ℕ) (m : Mutating) (t : 
   pub pointed : points + bit (is_unacted (op_at m.processor.task)) ≤ t.stated
   pub reserved : total_of p ≤ room
 
--- What a world shows.
+-- and of the others.
+pub record FitOthers (p : Program) (l : Layout) (workers : List worker.Working) (c : coord.Coordinating) : Type 0 where
+  pub many : length workers ≡ l.workers
+  pub laid : (i : ℕ) (x : worker.Working) → slice_get workers i ≡ Some x → x.layout ≡ l
+  pub leads : c.layout ≡ l
+  pub room : c.cycles.room ≡ most_cycles p
+  pub goes_on : coord.is_busy c.stage ≡ not (coord.is_done c.stage)
+
+pub record Fit (w : State) (points room : ℕ) : Type 0 where
+  pub base : FitWords w.script w.layout w.words
+  pub turns : FitTurns w.script w.layout w.mutator w.progress points room
+  pub others : FitOthers w.script w.layout w.workers w.coord
+
+-- ---- what a world shows
 
 abbrev pub script_of : State → Program
 script_of w = w.script
@@ -117,19 +206,58 @@ script_of w = w.script
 abbrev pub layout_of : State → Layout
 layout_of w = w.layout
 
--- the actor is done: it has left
-abbrev pub is_done : State → Bool
-is_done w = has_left_at w.mutator.processor.task
+-- how many actors there are: the processor, the workers and the coordinator
+abbrev pub actors_of : State → ℕ
+actors_of w = length w.workers + 2
+
+-- the worker, or behind the last of them the coordinator
+abbrev pub worker_or : coord.Coordinating → Option worker.Working → Actor Processor
+worker_or c (Some x) = actor.Marks x
+worker_or c None = actor.Leads c
+
+-- the actor of this number
+abbrev pub actor_of : State → ℕ → Actor Processor
+actor_of w zero = actor.Runs w.mutator.processor
+actor_of w (suc i) = worker_or w.coord (slice_get w.workers i)
+
+-- the actor is done
+abbrev pub is_done : State → ℕ → Bool
+is_done w a = has_ended (actor_of w a)
+
+-- whose turn it is after the list, where it would be this actor's
+abbrev pub turn_in : Program → Layout → List (Entry Op) → ℕ → Option ℕ
+turn_in p l es a = turn_from (ended_after (setting_of p l) es) (setting_of p l).actors a
+
+-- all actors are
+abbrev pub AllDone : State → Type 0
+AllDone w = (a : ℕ) → a < actors_of w → is_done w a ≡ true
+
+-- an actor's marks: the statements answered, the words scanned, how often the phase word was stored
+abbrev pub marks_by : ℕ → Actor Processor → ℕ
+marks_by answered (actor.Runs m) = answered
+marks_by answered (actor.Marks w) = w.marks
+marks_by answered (actor.Leads c) = c.marks
+
+abbrev pub marks_of : State → ℕ → ℕ
+marks_of w a = marks_by w.mutator.marks (actor_of w a)
 
 -- how many statements were answered
-abbrev pub marks_of : State → ℕ
-marks_of w = w.mutator.marks
+abbrev pub answered_of : State → ℕ
+answered_of w = w.mutator.marks
 
 -- the goroutine and the number of each statement, in the order of their points
 abbrev pub points_of : State → List (ℕ × ℕ)
 points_of w = w.points
 
--- How a step is made.
+-- the swept cycles, in their order
+abbrev pub cycles_of : State → List Cycle
+cycles_of w = w.coord.cycles.items
+
+-- the bytes that the last cycle marked
+abbrev pub live_of : State → ℕ
+live_of w = w.coord.live
+
+-- ---- how a step of the processor is made
 
 -- the operation that the next step begins: none while one is begun
 abbrev pub op_at_turn : Program → Bool → Next → Option Op
@@ -180,11 +308,29 @@ now_of w = (w.progress.last, slice_index w.progress.begun w.progress.last)
 
 -- one step of the processor
 pub record Advances (old new : State) (happened : Event) : Type 0 where
-  pub script : new.script ≡ old.script
-  pub layout : new.layout ≡ old.layout
   pub within : InRange old.layout (cell_of (asks old.mutator))
   pub words : new.words ≡ changed (request old.layout (asks old.mutator)) old.words
   pub mutator : new.mutator ≡ goes old.mutator (found_in old)
-  pub progress : new.progress ≡ old.progress
   pub points : new.points ≡ old.points ++ next_point (is_point (acts old.mutator.processor (found_in old))) (now_of old)
+  pub others : new ≡ record old { words = new.words; mutator = new.mutator; points = new.points }
   pub says : happened ≡ event_at (now_of old) (is_last old.mutator.processor.task) (statement_answer old.mutator.processor (found_in old))
+
+-- ---- how a step of another actor is made
+
+-- what a step that asks this finds in these words
+abbrev pub found_by : State → Ask → ℕ
+found_by w ask = slice_index w.words (target (request w.layout ask))
+
+-- one step of worker i
+pub record IsStepOfWorker (old new : State) (i : ℕ) (happened : Event) : Type 0 where
+  pub before_it : worker.Working
+  pub is : slice_get old.workers i ≡ Some before_it
+  pub within : InRange old.layout (cell_of (worker.asks before_it))
+  pub others : new ≡ record old { words = changed (request old.layout (worker.asks before_it)) old.words; workers = slice_set old.workers i (worker.goes before_it (found_by old (worker.asks before_it))) }
+  pub says : happened ≡ done_or (worker.gives before_it (found_by old (worker.asks before_it))) event.Moved
+
+-- one step of the coordinator
+pub record IsStepOfCoordinator (old new : State) (happened : Event) : Type 0 where
+  pub within : InRange old.layout (cell_of (coord.asks old.coord))
+  pub others : new ≡ record old { words = changed (request old.layout (coord.asks old.coord)) old.words; coord = coord.goes old.coord (found_by old (coord.asks old.coord)) }
+  pub says : happened ≡ done_or (coord.gives old.coord (found_by old (coord.asks old.coord))) (told_event (coord.told_at old.coord.cycles old.coord.stage))

@@ -1,72 +1,59 @@
-//! Laws of the lists of the processor's steps, whatever the code does.
+//! Laws of the lists of steps of all actors that run a script, whatever the code does.
 
-ghost use Rattle.gh_world.specs.Processors.{EveryListOfProcessorsStands};
-ghost use Rattle.gh_world.specs.Runs.{EveryLegalListGoesOn, EveryLegalListStands, EveryRunIsExplained, EveryRunIsOne, NoneIsLonger, RunsEndWhole, RunsGoOn};
+ghost use Rattle.gh_world.specs.Runs.{EveryOrderHasOneRun, EveryRunIsExplained, EveryRunIsOne, NoneIsLonger, RunsEndWhole, RunsGoOn};
 
+use crate::actors::{every_list_of_actors_stands, one_processor_keeps_to_polls};
+use crate::handshake::every_list_keeps_the_handshake;
+use crate::numbers::{cycles_are_few, processors_begin_few};
 use gh_base::Op;
 use gh_base::laws::a_state_is_of_its_own_entries;
 use gh_class::size_class_laws;
-use gh_heap::laws::{each_move_keeps, each_move_leaves, the_heap_is_apart};
+use gh_coord::laws::it_goes_on_until_done;
+use gh_cycle::closing::slots_are_read;
 use gh_mutator::Processor;
 use gh_mutator::laws::{
-    a_processor_runs_by_its_rights, each_operation_acts_once, only_points_change,
-    the_processors_deeds_fit,
+    a_processor_writes_its_own, each_operation_acts_once, only_points_change,
+    the_processor_keeps_the_handshake,
 };
+use gh_sweep::laws::set_bits_are_counted;
+use gh_worker::laws::a_worker_writes_its_own;
 
-/// After every legal list of steps the words stand for the heap that never frees; each operation
-/// begun has acted once and in order, and was answered as that heap answers it where it acted, save
-/// `full`, which stands only where each slot of the span class was taken and no run of free pages
-/// fitted. What begins or goes on behind such a list steps on a word that there is.
-pub fn every_legal_list_stands()
-    ensures stands { EveryLegalListStands }
-    ensures goes_on { EveryLegalListGoesOn }
-{
-    the_heap_is_apart();
-    each_move_keeps();
-    each_move_leaves();
-    a_processor_runs_by_its_rights();
-    the_processors_deeds_fit();
-    only_points_change();
-    each_operation_acts_once();
-    size_class_laws();
-    a_state_is_of_its_own_entries::<Processor<'_>, Op>();
-}
-
-/// The answers of every whole run of a script are those of the heap that never frees, save `full`,
-/// which stands only where nothing fitted.
+/// The answers of every whole run of a script are those of the heap that never frees, save `full`, which
+/// stands only where nothing fitted and a cycle was waited for. Each cycle keeps what was marked where it
+/// ended, and frees what was white there. What is live at the end is what the globals then hold.
 pub fn every_run_is_explained()
     ensures { EveryRunIsExplained }
 {
-    every_legal_list_stands();
+    every_list_of_actors_stands();
+    one_processor_keeps_to_polls();
+    each_operation_acts_once();
+    only_points_change();
+    the_processor_keeps_the_handshake();
+    a_processor_writes_its_own();
+    a_worker_writes_its_own();
+    every_list_keeps_the_handshake::<Processor<'_>, Op>();
+    cycles_are_few::<Processor<'_>>();
+    processors_begin_few();
+    set_bits_are_counted();
+    slots_are_read();
+    size_class_laws();
 }
 
-/// With one processor a script has one run: what it finds in the words settles each step.
+/// With one processor a script has one run in each order of the actors' steps: what each finds in the words
+/// settles its step. So where they take turns there is one.
 pub fn a_script_has_one_run()
+    ensures ordered { EveryOrderHasOneRun }
     ensures same { EveryRunIsOne }
     ensures longest { NoneIsLonger }
 {}
 
-/// A script's run so far goes on by a step until its processor leaves, and then it is whole.
+/// A script's run so far goes on by a step of any actor that is not done, and is whole when all are.
 pub fn runs_go_on()
     ensures on { RunsGoOn }
     ensures whole { RunsEndWhole }
 {
-    every_legal_list_stands();
-}
-
-/// However many processors there are and in whatever order they step: after every legal list of their
-/// steps the words stand for the heap that never frees; each processor was answered as that heap answers
-/// its operations in the order of their points, save `full`, which stands only where no slot of the span
-/// class was left to it and no run of free pages fitted.
-pub fn every_list_of_processors_stands()
-    ensures { EveryListOfProcessorsStands }
-{
-    the_heap_is_apart();
-    each_move_keeps();
-    each_move_leaves();
-    a_processor_runs_by_its_rights();
-    the_processors_deeds_fit();
-    only_points_change();
-    size_class_laws();
     a_state_is_of_its_own_entries::<Processor<'_>, Op>();
+    it_goes_on_until_done();
+    every_list_of_actors_stands();
+    one_processor_keeps_to_polls();
 }

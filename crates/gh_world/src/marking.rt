@@ -20,26 +20,33 @@ use gh_marks::laws::{
 };
 use gh_worker::laws::{a_worker_keeps_the_handshake, works_by_moves};
 
-/// A kind of processors that says what is known of marking at their stages.
-pub trait MarksBeside: PartyToHandshake {
-    ghost use Rattle.std.specs.Prelude.{ℕ};
+/// A kind of processors that says what is known of marking at their stages; and of lists over a heap, with its pacing
+/// and what may begin there, what is known of the heap, and which of them are meant.
+pub trait MarksBeside<O>: PartyToHandshake {
+    ghost use Rattle.std.specs.Prelude.{ℕ, Bool, List};
+    ghost use Rattle.gh_base.specs.declared.machine.Entry.{Entry};
+    ghost use Rattle.gh_heap.specs.Rights.{Arena};
     ghost use Rattle.gh_marks.specs.Colours.{Cycle, Shared};
-    ghost use Rattle.gh_world.specs.declared.handshake.Actor.{Actor};
+    ghost use Rattle.gh_world.specs.Handshake.{Pacing};
 
     // What is known of a processor at its stage, while marking is on.
     ghost facts: { Cycle → (seat : ℕ) → Shared → Self → Type 0 };
 
-    // What is known of the heap besides, with all actors as they are.
-    ghost knows: { Cycle → Shared → (ℕ → Actor Self) → Type 0 };
+    // What is known of the heap besides, after the list.
+    ghost knows: { Arena → Pacing → (ℕ → List (Entry O) → O → Bool) → Cycle → Shared → List (Entry O) → Type 0 };
+
+    // The list is one of those that are meant.
+    ghost meant: { Arena → Pacing → (ℕ → List (Entry O) → O → Bool) → List (Entry O) → Type 0 };
 }
 
 /// Whatever the numbers of processors and workers, whatever else the processors run by moves of marking, and
-/// whatever the order of steps: after every legal list, while a cycle is marked, there is a state of marking with the
-/// words as they stand, and each actor has in hand what its stage says. Where the coordinator has checked that
-/// marking is over, nothing is grey, each global and each stack that has not ended is scanned, each object that a path
-/// leads to is marked, and what was dead when the cycle began is not.
-pub fn every_list_marks<P: MarksBeside, O>()
-    ensures { EveryListMarks O P.PartyToHandshake.sound P.PartyToHandshake.party P.PartyToHandshake.stage P.facts P.knows }
+/// whatever the order of steps: after every legal list that is meant, while a cycle is marked, there is a state of
+/// marking with the words as they stand, and each actor has in hand what its stage says. Where the coordinator has
+/// checked that marking is over, nothing is grey, each global and each stack that has not ended is scanned, each object
+/// that a path leads to is marked, and what was dead when the cycle began is not. Who says what is known of the heap
+/// where a cycle begins may use what held while the cycles before it were marked.
+pub fn every_list_marks<O, P: MarksBeside<O>>()
+    ensures { EveryListMarks O P.PartyToHandshake.sound P.PartyToHandshake.party P.PartyToHandshake.stage P.facts P.knows P.meant }
 {
     a_step_changes_one_cell();
     every_list_keeps_the_handshake::<P, O>();

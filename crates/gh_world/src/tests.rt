@@ -1,5 +1,8 @@
 //! Scripts on a world.
 
+ghost use Rattle.std.specs.Prelude.{◌<◌};
+ghost use Rattle.gh_world.specs.World.{actors_of};
+
 use super::{Event, World};
 use gh_base::{Answer, Fault, Name};
 use gh_script::parse;
@@ -9,38 +12,65 @@ use std::test::Fail;
 
 const HEADER: &str = "procs 1\nworkers 1\narena 16\nglobals 1\ngogc 0\ntype node pn\ngo a\n";
 
-/// Runs the statements on a world, and looks at its answers.
-fn answers(rt: &impl Abort, alloc: Global, statements: &str, want: &[Answer]) -> Result<(), Fail> {
+/// The actor behind this one.
+fn behind(world: &World, actor: u8) -> u8
+    requires { actor < actors_of world.now }
+    ensures { result < actors_of world.now }
+{
+    let last = world.actors() - 1;
+    if actor < last { actor + 1 } else { 0 }
+}
+
+/// Runs the statements on a world whose actors take turns, and looks at its answers and its cycles.
+fn answers(
+    rt: &impl Abort,
+    alloc: Global,
+    statements: &str,
+    want: &[Answer],
+    cycles: &[(u64, u64)],
+) -> Result<(), Fail> {
     let text = format!(in alloc; "{HEADER}{statements}end\n")?;
     let script = parse(alloc, text.as_bytes())?;
     let mut world = World::new(alloc, &script)?;
     let mut answered: usize = 0;
+    let mut swept: usize = 0;
     let mut finished: usize = 0;
-    for steps in 0..10_000usize {
-        if world.done() {
-            break;
-        }
-        match world.step(0) {
+    let mut turn = 0;
+    for steps in 0..100_000usize {
+        let actor = match world.turn_from(turn) {
+            Some(actor) => actor,
+            None => break,
+        };
+        match world.step(actor) {
             Event::Moved => {}
             Event::Answered { g, n, answer } => {
-                assert_eq!(rt; (g, n as usize), (0, answered + 1));
+                assert_eq!(rt; (actor, g, n as usize), (0, 0, answered + 1));
                 assert_eq!(rt;
                     Some(answer),
                     want.get(answered).copied(),
-                    "{n} of {statements}"
+                    "{n} of {statements}, step {steps}"
                 );
                 answered += 1;
             }
+            Event::Swept { k, marked, freed } => {
+                assert_eq!(rt; (actor, k as usize), (2, swept + 1));
+                assert_eq!(rt; Some((marked, freed)), cycles.get(swept).copied());
+                swept += 1;
+            }
             Event::Finished => finished += 1,
         }
-        assert_eq!(rt; world.marks(0), answered as u64);
+        turn = behind(&world, actor);
     }
     assert!(rt; world.done() && world.is_done(0));
-    assert_eq!(rt; (answered, finished), (want.len(), 1));
+    assert_eq!(rt; (answered, swept, finished), (want.len(), cycles.len(), 3));
+    assert_eq!(rt; world.marks(0), answered as u64);
     assert_eq!(rt; world.points().len(), want.len());
     for (i, point) in world.points().iter().enumerate() {
         assert_eq!(rt; (point.0, point.1 as usize), (0, i + 1));
     }
+    assert_eq!(rt; world.cycles().len(), cycles.len());
+    let totals = world.totals();
+    assert_eq!(rt; Some(totals.objects), cycles.last().map(|cycle| cycle.0));
     Ok(())
 }
 
@@ -53,6 +83,7 @@ fn scripts_are_answered(rt: HostRuntime) -> Result<(), Fail> {
         rt.alloc(),
         "new r0 node\nint r1 7\nstore r0 1 r1\nload r2 r0 1\n",
         &[first, Answer::Done, Answer::Done, Answer::Int(7)],
+        &[(0, 1)],
     )?;
     answers(
         &rt,
@@ -66,6 +97,7 @@ fn scripts_are_answered(rt: HostRuntime) -> Result<(), Fail> {
             Answer::Done,
             Answer::Int(0),
         ],
+        &[(0, 1)],
     )?;
     answers(
         &rt,
@@ -79,18 +111,34 @@ fn scripts_are_answered(rt: HostRuntime) -> Result<(), Fail> {
             Answer::Nil,
             Answer::Int(0),
         ],
+        &[(0, 2)],
     )?;
-    answers(&rt, rt.alloc(), "", &[])
+    answers(
+        &rt,
+        rt.alloc(),
+        "new r0 node\nnew r1 node\nstore r0 0 r1\nnil r1\ngc\nnil r0\ngc\n",
+        &[
+            first,
+            second,
+            Answer::Done,
+            Answer::Done,
+            Answer::Swept,
+            Answer::Done,
+            Answer::Swept,
+        ],
+        &[(2, 0), (0, 2), (0, 0)],
+    )?;
+    answers(&rt, rt.alloc(), "", &[], &[(0, 0)])
 }
 
-/// How many steps each statement takes, with the one of the poll before it.
+/// How many steps each statement takes, with the one of the poll before it, where the processor steps alone.
 fn steps(rt: &impl Abort, alloc: Global, statements: &str, want: &[u32]) -> Result<(), Fail> {
     let text = format!(in alloc; "{HEADER}{statements}end\n")?;
     let script = parse(alloc, text.as_bytes())?;
     let mut world = World::new(alloc, &script)?;
     let mut taken: u32 = 0;
     for turn in 0..10_000usize {
-        if world.done() {
+        if world.is_done(0) {
             break;
         }
         taken = taken.saturating_add(1);
@@ -104,7 +152,7 @@ fn steps(rt: &impl Abort, alloc: Global, statements: &str, want: &[u32]) -> Resu
             taken = 0;
         }
     }
-    assert!(rt; world.done());
+    assert!(rt; world.is_done(0));
     Ok(())
 }
 

@@ -1,60 +1,49 @@
-//! A world: the words of a heap, and the processor over them that runs a script.
+//! A world: the words of a heap, and the actors over them that run a script.
 //!
 //! The world keeps no list of its steps. What it promises is said of every list that it may be the
 //! state of: one step of it is one entry more of that list.
 
-ghost use Rattle.std.specs.Prelude.{◌≡◌, ◌+◌, ◌++◌, ◌^◌, ◌<◌, ◌≤◌, List, [], slice_index, true, false, vec_len, IfOk, IsTrue, Some, None, if◌then◌else◌};
+ghost use Rattle.std.specs.Prelude.{◌≡◌, ◌+◌, ◌<◌, ◌≤◌, List, [], length, slice_get, slice_index, true, false, IfOk, IfSome, IsTrue, None, Some};
+ghost use Rattle.gh_base.specs.Cells.{InRange, length_of, seats_of};
+ghost use Rattle.gh_base.specs.Steps.{cell_of, changed, request, target};
+ghost use Rattle.gh_world.specs.Schedule.{turn_from};
 ghost use Rattle.gh_base.specs.declared.machine.Entry.{Entry};
 ghost use Rattle.gh_base.specs.declared.operation.Op.{Op};
-ghost use Rattle.std.specs.Vec.{vec_capacity};
-ghost use Rattle.gh_base.specs.Packing.{bit};
-ghost use Rattle.gh_base.specs.declared.limits.TheConstants.{MOST_GOROUTINES};
+ghost use Rattle.gh_coord.specs.Keeping.{last_kept};
+ghost use Rattle.gh_coord.specs.Listing as coord;
 ghost use Rattle.gh_mutator.specs.Mutating.{is_busy};
-ghost use Rattle.gh_mutator.specs.Serving.{is_statement};
-ghost use Rattle.gh_world.specs.Runs.{IsRun};
-ghost use Rattle.gh_world.specs.Turns.{goroutine_at, next_point, total_of};
-ghost use Rattle.gh_world.specs.World.{event_at, is_done, layout_of, marks_of, points_of, progress_after, script_of, Advances, Appends, Begins, IsAfter, LaysOut};
+ghost use Rattle.gh_worker.specs.Listing as worker;
+ghost use Rattle.gh_worker.specs.Listing.{Working};
+ghost use Rattle.gh_world.specs.Runs.{IsRun, marked_by};
+ghost use Rattle.gh_world.specs.Turns.{total_of};
+ghost use Rattle.gh_world.specs.Wishes.{most_cycles};
+ghost use Rattle.gh_world.specs.World.{actors_of, answered_of, cycles_of, is_done, layout_of, live_of, marks_of, points_of, script_of, turn_in, workers_at, Advances, AllDone, Appends, Begins, IsAfter, IsStepOfCoordinator, IsStepOfWorker, LaysOut};
 
-use crate::turns::{Next, due, following, next_turn, total_of};
-use gh_base::laws::steps_are_shown;
-use gh_base::limits::MOST_GOROUTINES;
-use gh_base::{Answer, Layout, Machine, Op};
-use gh_mutator::Mutator;
+use crate::event::{Event, Totals, done_or, event_at, told_event};
+use crate::progress::{Progress, note};
+use crate::turns::{due, following, total_of};
+use crate::wishes::most_cycles;
+use gh_base::laws::{a_state_is_of_its_own_entries, steps_are_shown};
+use gh_base::{Layout, Machine, Op};
+use gh_coord::laws::it_goes_on_until_done;
+use gh_coord::{Coord, Cycle, NEVER};
+use gh_mutator::{Mutator, Processor};
 use gh_script::Script;
 use gh_words::{Plain, Words};
+use gh_worker::Worker;
 use std::alloc::{AllocError, Global};
 use std::marker::Model;
 
-/// What a step of an actor says.
-#[derive(Clone, Copy, Debug, PartialEq, Eq)]
-pub enum Event {
-    /// Nothing more.
-    Moved,
-    /// It ended statement `n` of goroutine `g`, counted from 1, which is answered so.
-    Answered { g: u32, n: u32, answer: Answer },
-    /// The actor is done.
-    Finished,
-}
-
-/// How far a world is among its turns.
-#[derive(Drop)]
-struct Progress {
-    // What it begins next.
-    next: Next,
-    // How many statements of each goroutine have begun, and how many of all.
-    begun: [u32; MOST_GOROUTINES as usize],
-    stated: u32,
-    // The goroutine of the statement begun last.
-    last: u32,
-}
-
-/// The words of a heap, and the processor over them that runs a script.
+/// The words of a heap, and the actors over them that run a script: the processor, which is actor 0, the
+/// workers, and the coordinator behind them.
 #[derive(Drop)]
 pub struct World<'s> {
     script: &'s Script,
     layout: Layout,
     words: Plain,
     mutator: Mutator<'s>,
+    workers: Vec<Worker>,
+    coord: Coord,
     progress: Progress,
     // The goroutine and the number of each statement, in the order of their points.
     points: Vec<(u32, u32)>,
@@ -67,69 +56,34 @@ impl<'s> Model for World<'s> {
 
     ghost Value = { State };
 
-    ghost view = { λ w. record { script = w.script.now; layout = w.layout; words = w.words; mutator = w.mutator; progress = w.progress; points = w.points.items } };
+    ghost view = { λ w. record { script = w.script.now; layout = w.layout; words = w.words; mutator = w.mutator; workers = w.workers.items; coord = w.coord; progress = w.progress; points = w.points.items } };
 
-    ghost invariant = { λ w. Fit w.script.now w.layout w.words w.mutator w.progress (vec_len w.points) (vec_capacity w.points) };
+    ghost invariant = { λ w. Fit (record { script = w.script.now; layout = w.layout; words = w.words; mutator = w.mutator; workers = w.workers.items; coord = w.coord; progress = w.progress; points = w.points.items }) (vec_len w.points) (vec_capacity w.points) };
 }
 
-/// The goroutine of a statement; none for a step of the processor's own.
-fn statement_goroutine(op: Op) -> Option<u32>
-    ensures { result ≡ (if is_statement op then Some (goroutine_at op) else None) }
+/// The workers of a heap, each before its first step.
+fn workers_of(alloc: Global, layout: &Layout) -> Result<Vec<Worker>, AllocError>
+    ensures { IfOk result (λ ws. ws.items ≡ workers_at layout.now) }
 {
-    match op {
-        Op::New { g, .. }
-        | Op::Load { g, .. }
-        | Op::Store { g, .. }
-        | Op::GetGlobal { g, .. }
-        | Op::SetGlobal { g, .. }
-        | Op::Int { g, .. }
-        | Op::Move { g, .. }
-        | Op::Nil { g, .. }
-        | Op::Gc { g } => Some(g),
-        Op::Poll | Op::End(_) | Op::Leave => None,
+    let (first, many) = (layout.procs, layout.workers);
+    let mut workers = Vec::with_capacity(alloc, many as usize)?;
+    for i in 0..many {
+        workers.push_reserved(Worker::new(layout, first + i));
     }
+    Ok(workers)
 }
 
-/// What a step says, where statement `n` of goroutine `g` was begun last: the actor's last step, or one
-/// that ends a statement or none.
-fn event_at(g: u32, n: u32, is_last: bool, answer: Option<Answer>) -> Event
-    ensures { result ≡ event_at (g, n) is_last answer }
+/// One step of a machine over the words of its heap: what the machine then gives.
+fn step_on<M: Machine>(words: &mut Plain, machine: &mut M) -> Option<M::Out>
+    requires busy { M.busy machine.old ≡ true }
+    requires long { length words.old ≡ length_of (M.layout machine.old) }
+    ensures within { InRange (M.layout machine.old) (cell_of (M.asks machine.old)) }
+    ensures words { words.new ≡ changed (request (M.layout machine.old) (M.asks machine.old)) words.old }
+    ensures machine { machine.new ≡ M.goes machine.old (slice_index words.old (target (request (M.layout machine.old) (M.asks machine.old)))) }
+    ensures out { result ≡ M.gives machine.old (slice_index words.old (target (request (M.layout machine.old) (M.asks machine.old)))) }
 {
-    if is_last {
-        return Event::Finished;
-    }
-    match answer {
-        Some(answer) => Event::Answered { g, n, answer },
-        None => Event::Moved,
-    }
-}
-
-impl Progress {
-    /// Counts an operation that has begun, where it is a statement.
-    fn count(&mut self, op: Op)
-        requires there { IsTrue (is_statement op) → goroutine_at op < MOST_GOROUTINES }
-        requires few { slice_index self.old.begun (goroutine_at op) + 1 < 2 ^ 32 }
-        requires fits { self.old.stated + 1 < 2 ^ 32 }
-        ensures { self.new ≡ progress_after self.old (Some op) self.old.next }
-    {
-        if let Some(g) = statement_goroutine(op) {
-            self.begun[g as usize] += 1;
-            self.stated += 1;
-            self.last = g;
-        }
-    }
-}
-
-/// Notes that the statement has its point.
-fn note(points: &mut Vec<(u32, u32)>, statement: (u32, u32), is_point: bool)
-    requires { IsTrue is_point → vec_len points.old < vec_capacity points.old }
-    ensures points { points.new.items ≡ points.old.items ++ next_point is_point statement }
-    ensures count { vec_len points.new ≡ vec_len points.old + bit is_point }
-    ensures reserved { vec_capacity points.new ≡ vec_capacity points.old }
-{
-    if is_point {
-        points.push_reserved(statement);
-    }
+    let found = words.step(machine.next());
+    machine.take(found)
 }
 
 impl<'s> World<'s> {
@@ -152,64 +106,134 @@ impl<'s> World<'s> {
             Ok(layout) => layout,
             Err(_) => unreachable!(),
         };
-        let words = Plain::new(alloc, &layout, u64::MAX)?;
+        let words = Plain::new(alloc, &layout, NEVER)?;
+        let workers = workers_of(alloc, &layout)?;
+        let seat = settings.procs + settings.workers;
+        let cycles = most_cycles(script);
+        let coord = Coord::new(
+            alloc,
+            &layout,
+            seat,
+            settings.gogc,
+            settings.minheap,
+            cycles,
+        )?;
         let points = Vec::with_capacity(alloc, total_of(script))?;
+        let mutator = Mutator::new(&layout, 0, script.shapes());
+        let progress = Progress::opening(script);
         Ok(World {
             script,
             layout,
             words,
-            mutator: Mutator::new(&layout, 0, script.shapes()),
-            progress: Progress {
-                next: next_turn(script, 0, 0),
-                begun: [0; MOST_GOROUTINES as usize],
-                stated: 0,
-                last: 0,
-            },
+            mutator,
+            workers,
+            coord,
+            progress,
             points,
         })
     }
 
-    /// One step of the actor, which is the processor, 0, and is not done. Whatever legal list of
-    /// steps this world is the state of, it is then the state of that list with one entry more.
-    /// Takes no memory, and constant time.
+    /// How many actors there are.
+    pub fn actors(&self) -> u8
+        ensures are { result ≡ actors_of self.now }
+        ensures seats { result ≡ seats_of (layout_of self.now) }
+    {
+        (self.workers.len() + 2) as u8
+    }
+
+    /// One step of the actor, which is not done. Whatever legal list of steps this world is the state of,
+    /// it is then the state of that list with one entry more. Takes no memory, and constant time.
     pub fn step(&mut self, actor: u8) -> Event
-        requires actor { actor < 1 }
-        requires going { is_done self.old ≡ false }
+        requires actor { actor < actors_of self.old }
+        requires going { is_done self.old actor ≡ false }
         ensures appended { (es : List (Entry Op)) → IsAfter self.old es → Appends self.new actor es result }
         ensures script { script_of self.new ≡ script_of self.old }
         ensures layout { layout_of self.new ≡ layout_of self.old }
-        ensures few { marks_of self.new ≤ total_of (script_of self.new) }
+        ensures actors { actors_of self.new ≡ actors_of self.old }
+        ensures few { answered_of self.new ≤ total_of (script_of self.new) }
     {
-        let _ = actor;
         steps_are_shown(&self.layout);
-        self.begin_next();
-        self.advance()
+        a_state_is_of_its_own_entries::<Processor<'_>, Op>();
+        if actor == 0 {
+            self.begin_next();
+            return self.advance();
+        }
+        let i = usize::from(actor) - 1;
+        if i < self.workers.len() {
+            self.work(i)
+        } else {
+            self.lead()
+        }
     }
 
-    /// The actor, which is the processor, 0, is done.
+    /// The actor is done: the processor has left, the worker is gone, the last cycle is swept.
     pub fn is_done(&self, actor: u8) -> bool
-        requires { actor < 1 }
-        ensures { result ≡ is_done self.now }
+        requires { actor < actors_of self.now }
+        ensures { result ≡ is_done self.now actor }
     {
-        let _ = actor;
-        self.done()
+        if actor == 0 {
+            return self.mutator.has_left();
+        }
+        match self.workers.get(usize::from(actor) - 1) {
+            Some(worker) => worker.is_done(),
+            None => self.coord.is_done(),
+        }
+    }
+
+    /// Whose turn it is, where it would be this actor's: the first from it on in ascending order, and behind
+    /// the last from 0 on, that is not done. None: all actors are, and whatever list the world is the state of,
+    /// that list is a whole run.
+    pub fn turn_from(&self, actor: u8) -> Option<u8>
+        requires { actor < actors_of self.now }
+        ensures turn { result ≡ turn_from (is_done self.now) (actors_of self.now) actor }
+        ensures in_lists { (es : List (Entry Op)) → IsAfter self.now es → result ≡ turn_in (script_of self.now) (layout_of self.now) es actor }
+        ensures seats { actors_of self.now ≡ seats_of (layout_of self.now) }
+        ensures going { IfSome result (λ a. (a < actors_of self.now) × (is_done self.now a ≡ false)) }
+        ensures over { result ≡ None → AllDone self.now }
+        ensures whole { result ≡ None → (es : List (Entry Op)) → IsAfter self.now es → IsRun (script_of self.now) (layout_of self.now) es }
+    {
+        let _ = &self.script;
+        for a in actor..self.actors() {
+            if !self.is_done(a) {
+                return Some(a);
+            }
+        }
+        for a in 0..actor {
+            if !self.is_done(a) {
+                return Some(a);
+            }
+        }
+        None
     }
 
     /// All actors are done. Whatever list a world is the state of that is done, that list is a whole run.
     pub fn done(&self) -> bool
-        ensures done { result ≡ is_done self.now }
+        ensures done { IsTrue result → AllDone self.now }
+        ensures only { AllDone self.now → result ≡ true }
         ensures whole { IsTrue result → (es : List (Entry Op)) → IsAfter self.now es → IsRun (script_of self.now) (layout_of self.now) es }
     {
-        self.mutator.has_left()
+        let _ = &self.script;
+        for actor in 0..self.actors() {
+            if !self.is_done(actor) {
+                return false;
+            }
+        }
+        true
     }
 
-    /// How many statements the actor, which is the processor, 0, has answered.
+    /// The actor's marks: how many statements the processor has answered, how many words a worker has
+    /// scanned, how often the coordinator has stored the phase word.
     pub fn marks(&self, actor: u8) -> u64
-        requires { actor < 1 }
-        ensures { result ≡ marks_of self.now }
+        requires { actor < actors_of self.now }
+        ensures { result ≡ marks_of self.now actor }
     {
-        let _ = actor;
-        self.mutator.marks()
+        if actor == 0 {
+            return self.mutator.marks();
+        }
+        match self.workers.get(usize::from(actor) - 1) {
+            Some(worker) => worker.marks(),
+            None => self.coord.marks(),
+        }
     }
 
     /// The goroutine and the number, counted from 1, of each statement that has had its point, in
@@ -218,6 +242,34 @@ impl<'s> World<'s> {
         ensures { result.now ≡ points_of self.now }
     {
         &self.points
+    }
+
+    /// The swept cycles, in their order.
+    pub fn cycles(&self) -> &[Cycle]
+        ensures are { result.now ≡ cycles_of self.now }
+        ensures few { length result.now ≤ most_cycles (script_of self.now) }
+    {
+        self.coord.cycles()
+    }
+
+    /// What is known at the end, where all actors are done.
+    pub fn totals(&self) -> Totals
+        requires { AllDone self.now }
+        ensures objects { result.objects ≡ marked_by (last_kept self.now.coord.cycles) }
+        ensures live { result.live ≡ live_of self.now }
+        ensures credit { (result.earned ≡ 0) × (result.spent ≡ 0) × (result.lapsed ≡ 0) }
+    {
+        let objects = match self.coord.last_cycle() {
+            Some(cycle) => cycle.marked,
+            None => 0,
+        };
+        Totals {
+            objects,
+            live: self.coord.live(),
+            earned: 0,
+            spent: 0,
+            lapsed: 0,
+        }
     }
 
     /// Begins the next operation where none is begun.
@@ -238,7 +290,7 @@ impl<'s> World<'s> {
     fn advance(&mut self) -> Event
         requires { is_busy self.old.mutator ≡ true }
         ensures advances { Advances self.old self.new result }
-        ensures few { marks_of self.new ≤ total_of (script_of self.new) }
+        ensures few { answered_of self.new ≤ total_of (script_of self.new) }
     {
         let is_serving = self.mutator.is_serving();
         let is_last = self.mutator.is_last();
@@ -250,5 +302,28 @@ impl<'s> World<'s> {
         let n = self.progress.begun[last as usize];
         note(&mut self.points, (last, n), is_point);
         event_at(last, n, is_last, answer)
+    }
+
+    /// One step of worker `i`, counted from 0.
+    fn work(&mut self, i: usize) -> Event
+        requires there { i < length self.old.workers }
+        requires busy { (x : Working) → slice_get self.old.workers i ≡ Some x → worker.is_busy x.stage ≡ true }
+        ensures { IsStepOfWorker self.old self.new i result }
+    {
+        let mut worker = self.workers[i];
+        let out = step_on(&mut self.words, &mut worker);
+        self.workers[i] = worker;
+        done_or(out, Event::Moved)
+    }
+
+    /// One step of the coordinator.
+    fn lead(&mut self) -> Event
+        requires { coord.is_busy self.old.coord.stage ≡ true }
+        ensures { IsStepOfCoordinator self.old self.new result }
+    {
+        it_goes_on_until_done();
+        let told = self.coord.told();
+        let out = step_on(&mut self.words, &mut self.coord);
+        done_or(out, told_event(told))
     }
 }

@@ -1,5 +1,5 @@
 -- What holds while a cycle is marked, after every legal list; and what holds behind the coordinator's check.
-use Rattle.std.proofs.Common.{◌≡◌, ◌≢◌, ℕ, ◌+◌, ◌<◌, ◌≤◌, ◌==◌, Bool, true, false, cond, ltb, refl, sym, ap, subst, ◌∙◌, arith, Some, None, List, [], ◌∷◌}
+use Rattle.std.proofs.Common.{◌≡◌, ◌≢◌, ℕ, ◌+◌, ◌<◌, ◌≤◌, ◌==◌, Bool, true, false, cond, ltb, refl, sym, ap, subst, ◌∙◌, arith, inl, inr, Some, None, List, [], ◌∷◌}
 use Rattle.std.proofs.lemmas.Bool.{ltb-true, ltb-false}
 use Rattle.std.proofs.lemmas.Bool.Decides.{nat_tests}
 use Rattle.gh_base.specs.declared.cell.Ask.{Ask}
@@ -31,7 +31,7 @@ use Rattle.gh_worker.specs.MarkFacts as marks
 use Rattle.gh_world.specs.declared.handshake.Actor.{Actor}
 use Rattle.gh_world.specs.declared.handshake.Actor.TheVariants as actor
 use Rattle.gh_world.specs.Handshake.{actors, asks, is_busy, KeepsIt, Pacing, place_of, StepKeepsIt, WaitsWithNone}
-use Rattle.gh_world.specs.Marking.{actors_after, EndsClean, IsChecked, IsInMarking, IsLedBy, KnowsHeap, MarksToTheEnd, PollsByMoves, setting, words, IsInLimits}
+use Rattle.gh_world.specs.Marking.{actors_after, EndsClean, IsChecked, IsInLimits, IsInMarking, IsLedBy, IsStartOf, KnowsHeap, MarksToTheEnd, PollsByMoves, setting, StartsAreMeant, WasMarked, words}
 use Rattle.gh_world.proofs.CycleMarking.Apart.{stays_clear}
 use Rattle.gh_world.proofs.CycleMarking.Checking.{begins as begins_cycle, checked_lasts, CheckedAt, Found, Goes, goes_on, goes_so, leaves}
 use Rattle.gh_world.proofs.CycleMarking.Moving as moving
@@ -39,10 +39,11 @@ use Rattle.gh_world.proofs.CycleMarking.Moving.{Known}
 use Rattle.gh_world.proofs.CycleMarking.Seats.{IsSeated, lead_started, leads, other, seated}
 
 module _ {P O : Type 0} (arena : Arena) (k : Kind P O) (pacing : Pacing) (may : ℕ → List (Entry O) → O → Bool) (sound : Layout → P → Type 0) (party : P → Party) (stage : P → Stage)
-    (facts : Cycle → (a : ℕ) → Shared → P → Type 0) (knows : Cycle → Shared → (ℕ → Actor P) → Type 0)
-    (limits : IsInLimits arena.layout) (known : Known) (polls : PollsByMoves arena k pacing may stage facts knows) (heap : KnowsHeap arena k pacing may stage facts knows)
+    (facts : Cycle → (a : ℕ) → Shared → P → Type 0) (knows : Cycle → Shared → List (Entry O) → Type 0) (meant : List (Entry O) → Type 0)
+    (limits : IsInLimits arena.layout) (known : Known) (shorter : StartsAreMeant meant) (polls : PollsByMoves arena k pacing may stage facts knows meant) (heap : KnowsHeap arena k pacing may stage facts knows meant)
     (keeps : (es : List (Entry O)) → Legal (setting arena k pacing may) es → KeepsIt sound party stage (setting arena k pacing may) es)
-    (step_keeps : (e : Entry O) (es : List (Entry O)) → Legal (setting arena k pacing may) (e ∷ es) → StepKeepsIt sound party stage (setting arena k pacing may) e es) where
+    (step_keeps : (e : Entry O) (es : List (Entry O)) → Legal (setting arena k pacing may) (e ∷ es) → StepKeepsIt sound party stage (setting arena k pacing may) e es)
+    (one : ChangesOneCell) (done : WhatIsFoundIsDone) (clean : MarkingEndsClean) where
   abbrev n : ℕ
   n = acks_of arena.layout
 
@@ -56,7 +57,7 @@ module _ {P O : Type 0} (arena : Arena) (k : Kind P O) (pacing : Pacing) (may : 
   Led = IsLedBy arena k pacing may
 
   abbrev In : List (Entry O) → coord.Coordinating → Type 0
-  In = IsInMarking arena k pacing may stage facts knows
+  In = IsInMarking arena k pacing may stage facts knows meant
 
   abbrev Lawful : List (Entry O) → Type 0
   Lawful = Legal (setting arena k pacing may)
@@ -78,96 +79,8 @@ module _ {P O : Type 0} (arena : Arena) (k : Kind P O) (pacing : Pacing) (may : 
         let is : coord.opening arena.layout n pacing.gogc pacing.minheap pacing.room ≡ c = cc in
         subst (λ (y : coord.Coordinating). leading.Marks y.stage) (sym is) on
 
-  module _ (e : Entry O) (es : List (Entry O)) (legal : Lawful (e ∷ es)) where
-    abbrev a : ℕ
-    a = e.actor
-
-    others_stay : (b : ℕ) → b ≢ a → at (e ∷ es) b ≡ at es b
-    others_stay b differs = other arena.layout k pacing e es b (grind (arith, nat_tests, differs))
-
-    -- a step of a processor or a worker
-    module _ (c : coord.Coordinating) (led : Led es c) (on : leading.Marks c.stage) (h : Holds es c) (among : a < n) where
-      -- where the world is stopped it changes no word
-      still : (phase : RunPhase) → leading.post_at c.stage ≡ Stopped phase → told (e ∷ es) ≡ told es
-      still phase post = ap (effect (told es)) ((step_keeps e es legal).still (leading.lead_of c) phase (ap (place_of party stage) led) post among).0
-
-      by : (m : Actor P) → at es a ≡ m → In (e ∷ es) c
-      by (actor.Runs m) is = moving.by_processor arena k pacing may stage facts knows known polls heap e es c c legal led refl h.marking m on (seat_of es a (actor.Runs m) is) is
-      by (actor.Marks w) is = moving.by_worker arena k pacing may stage facts knows known polls heap e es c c legal led refl h.marking w (seat_of es a (actor.Marks w) is).0 among is
-      by (actor.Leads x) is = absurd (let ge : n ≤ a = (seat_of es a (actor.Leads x) is).0 in omega (arith, ge, among))
-
-      by_others : Holds (e ∷ es) c
-      by_others = record { marking = by (at es a) refl; checked = checked_lasts arena.layout c.begun (told es) (told (e ∷ es)) c.stage still h.checked }
-
-    -- a step of the coordinator
-    module _ (c to : coord.Coordinating) (end : a ≡ n) (led : Led es c) (then : to ≡ coord.goes c e.found) (on : leading.Marks to.stage) (h : leading.Marks c.stage → Holds es c) where
-      here : at es a ≡ actor.Leads c
-      here = ap (at es) end ∙ led
-
-      abbrev begun : Actor P
-      begun = started (actors arena.layout k pacing) e.begun (at es a)
-
-      begun_is : begun ≡ actor.Leads c
-      begun_is = ap (started (actors arena.layout k pacing) e.begun) here ∙ lead_started arena.layout k pacing e.begun c
-
-      busy : coord.is_busy c.stage ≡ true
-      busy = sym (ap (is_busy k) begun_is) ∙ legal.1.runs
-
-      asked : e.ask ≡ coord.asks c
-      asked = legal.1.asks ∙ ap (asks k) begun_is
-
-      found : e.found ≡ told es (cell_of (coord.asks c))
-      found = legal.1.found ∙ ap (λ (q : Ask). told es (cell_of q)) asked
-
-      goes_by : Goes arena.layout c.begun (told es) c c.stage (coord.goes c e.found)
-      goes_by = goes_so arena.layout c.begun (told es) c (coord.counted c).marks (seat_of es n (actor.Leads c) led).1 refl c.stage e.found busy found
-
-      checked_then : to.begun ≡ c.begun → CheckedAt arena.layout c.begun (effect (told es) (coord.asks c)) to.stage → CheckedAt arena.layout to.begun (told (e ∷ es)) to.stage
-      checked_then same x = subst (λ (b : ℕ). CheckedAt arena.layout b (told (e ∷ es)) to.stage) (sym same) (subst (λ (q : Ask). CheckedAt arena.layout c.begun (effect (told es) q) to.stage) (sym asked) x)
-
-      by_lead : Goes arena.layout c.begun (told es) c c.stage to → Holds (e ∷ es) to
-      by_lead (begins_cycle b quiet same x) = record {
-        marking = moving.by_coordinator arena k pacing may stage facts knows known polls heap e es c to legal led same (moving.begins arena k pacing may stage facts knows known polls heap party sound es c legal.0 led b (keeps es legal.0)) end here quiet;
-        checked = checked_then same x;
-      }
-      by_lead (goes_on was quiet same x) = record {
-        marking = moving.by_coordinator arena k pacing may stage facts knows known polls heap e es c to legal led same (h was).marking end here quiet;
-        checked = checked_then same (x (h was).checked);
-      }
-      by_lead (leaves off) = absurd (off on)
-
-      by_it : Holds (e ∷ es) to
-      by_it = by_lead (subst (λ (y : coord.Coordinating). Goes arena.layout c.begun (told es) c c.stage y) (sym then) goes_by)
-
-  -- who is at the coordinator's seat
-  record LedBefore (es : List (Entry O)) : Type 0 where
-    lead : coord.Coordinating
-    led_by : Led es lead
-
-  led_before : (es : List (Entry O)) (m : Actor P) → at es n ≡ m → LedBefore es
-  led_before es (actor.Leads c) is = record { lead = c; led_by = is }
-  led_before es (actor.Runs m) is = absurd (let lt : n < arena.layout.procs = seat_of es n (actor.Runs m) is in omega (arith, lt))
-  led_before es (actor.Marks w) is = absurd (let lt : n < n = (seat_of es n (actor.Marks w) is).1 in omega (arith, lt))
-
-  follows : (e : Entry O) (es : List (Entry O)) → Lawful (e ∷ es) → ((c : coord.Coordinating) → Led es c → leading.Marks c.stage → Holds es c) → (c : coord.Coordinating) → Led (e ∷ es) c → leading.Marks c.stage → Holds (e ∷ es) c
-  follows e es legal before c led on = go (e.actor == n) refl where
-    go : (b : Bool) → (e.actor == n) ≡ b → Holds (e ∷ es) c
-    go false x =
-        let was : Led es c = sym (other arena.layout k pacing e es n x) ∙ led in
-        let within : e.actor < n + 1 = legal.1.actor in
-        by_others e es legal c was on (before c was on) (grind (arith, nat_tests, x, within))
-    go true x =
-        let end : e.actor ≡ n = grind (arith, nat_tests) in
-        let b = led_before es (at es n) refl in
-        let then : at (e ∷ es) n ≡ actor.Leads (coord.goes b.lead e.found) = sym (ap (at (e ∷ es)) end) ∙ leads arena.layout k pacing e es b.lead (ap (at es) end ∙ b.led_by) in
-        by_it e es legal b.lead c end b.led_by (let both : actor.Leads c ≡ actor.Leads (coord.goes b.lead e.found) = sym led ∙ then in cc) on (before b.lead b.led_by)
-
-  holds : (es : List (Entry O)) → Lawful es → (c : coord.Coordinating) → Led es c → leading.Marks c.stage → Holds es c
-  holds [] legal c led on = absurd (none_at_first c led on)
-  holds (e ∷ es) legal c led on = follows e es legal (λ x was marks. holds es legal.0 x was marks) c led on
-
   -- Where the coordinator has checked it.
-  module _ (one : ChangesOneCell) (done : WhatIsFoundIsDone) (clean : MarkingEndsClean) (es : List (Entry O)) (legal : Lawful es) (c : coord.Coordinating) (led : Led es c) (i : In es c) (f : Found arena.layout c.begun (told es)) (post : leading.post_at c.stage ≡ Stopped run.Mark) where
+  module _ (es : List (Entry O)) (legal : Lawful es) (c : coord.Coordinating) (led : Led es c) (i : In es c) (f : Found arena.layout c.begun (told es)) (post : leading.post_at c.stage ≡ Stopped run.Mark) where
     abbrev z : Cycle
     z = i.cycle
 
@@ -249,10 +162,121 @@ module _ {P O : Type 0} (arena : Arena) (k : Kind P O) (pacing : Pacing) (may : 
   behind l number w (Tell t) y h = absurd y
   behind l number w Done y h = absurd y
 
-  pub marks_to_the_end : ChangesOneCell → WhatIsFoundIsDone → MarkingEndsClean → (es : List (Entry O)) (c : coord.Coordinating) → Lawful es → Led es c → leading.Marks c.stage → MarksToTheEnd arena k pacing may stage facts knows es c
-  marks_to_the_end one done clean es c legal led on = record {
+  to_the_end : (es : List (Entry O)) (c : coord.Coordinating) → Lawful es → Led es c → Holds es c → MarksToTheEnd arena k pacing may stage facts knows meant es c
+  to_the_end es c legal led h = record {
     marking = h.marking;
-    ends = λ x. let y = behind arena.layout c.begun (told es) c.stage x h.checked in ends one done clean es legal c led h.marking y.0 y.1;
-  } where
-    h : Holds es c
-    h = holds es legal c led on
+    ends = λ x. let y = behind arena.layout c.begun (told es) c.stage x h.checked in ends es legal c led h.marking y.0 y.1;
+  }
+
+  -- The list as it was.
+  start_is_lawful : (start es : List (Entry O)) → IsStartOf start es → Lawful es → Lawful start
+  start_is_lawful start [] of legal = subst Lawful (sym of) legal
+  start_is_lawful start (e ∷ es) (inl of) legal = subst Lawful (sym of) legal
+  start_is_lawful start (e ∷ es) (inr of) legal = start_is_lawful start es of legal.0
+
+  abbrev HeldBefore : List (Entry O) → Type 0
+  HeldBefore es = (start : List (Entry O)) (c : coord.Coordinating) → IsStartOf start es → Led start c → leading.Marks c.stage → Holds start c
+
+  was_marked : (es : List (Entry O)) → Lawful es → HeldBefore es → WasMarked arena k pacing may stage facts knows meant es
+  was_marked es legal before start c of led on = to_the_end start c (start_is_lawful start es of legal) led (before start c of led on)
+
+  whole : (es : List (Entry O)) → IsStartOf es es
+  whole [] = refl
+  whole (e ∷ es) = inl refl
+
+  module _ (e : Entry O) (es : List (Entry O)) (legal : Lawful (e ∷ es)) (is_meant : meant (e ∷ es)) where
+    abbrev a : ℕ
+    a = e.actor
+
+    others_stay : (b : ℕ) → b ≢ a → at (e ∷ es) b ≡ at es b
+    others_stay b differs = other arena.layout k pacing e es b (grind (arith, nat_tests, differs))
+
+    -- a step of a processor or a worker
+    module _ (c : coord.Coordinating) (led : Led es c) (on : leading.Marks c.stage) (h : Holds es c) (among : a < n) where
+      -- the coordinator stays as it is
+      led_still : Led (e ∷ es) c
+      led_still = others_stay n (λ x. absurd (omega (arith, x, among))) ∙ led
+
+      -- where the world is stopped it changes no word
+      still : (phase : RunPhase) → leading.post_at c.stage ≡ Stopped phase → told (e ∷ es) ≡ told es
+      still phase post = ap (effect (told es)) ((step_keeps e es legal).still (leading.lead_of c) phase (ap (place_of party stage) led) post among).0
+
+      by : (m : Actor P) → at es a ≡ m → In (e ∷ es) c
+      by (actor.Runs m) is = moving.by_processor arena k pacing may stage facts knows meant known polls heap e es c c legal is_meant led led_still on refl h.marking m on (seat_of es a (actor.Runs m) is) is
+      by (actor.Marks w) is = moving.by_worker arena k pacing may stage facts knows meant known polls heap e es c c legal is_meant led led_still on refl h.marking w (seat_of es a (actor.Marks w) is).0 among is
+      by (actor.Leads x) is = absurd (let ge : n ≤ a = (seat_of es a (actor.Leads x) is).0 in omega (arith, ge, among))
+
+      by_others : Holds (e ∷ es) c
+      by_others = record { marking = by (at es a) refl; checked = checked_lasts arena.layout c.begun (told es) (told (e ∷ es)) c.stage still h.checked }
+
+    -- a step of the coordinator
+    module _ (c to : coord.Coordinating) (end : a ≡ n) (led : Led es c) (then : to ≡ coord.goes c e.found) (led_then : Led (e ∷ es) to) (on : leading.Marks to.stage) (before : HeldBefore es) where
+      here : at es a ≡ actor.Leads c
+      here = ap (at es) end ∙ led
+
+      abbrev begun : Actor P
+      begun = started (actors arena.layout k pacing) e.begun (at es a)
+
+      begun_is : begun ≡ actor.Leads c
+      begun_is = ap (started (actors arena.layout k pacing) e.begun) here ∙ lead_started arena.layout k pacing e.begun c
+
+      busy : coord.is_busy c.stage ≡ true
+      busy = sym (ap (is_busy k) begun_is) ∙ legal.1.runs
+
+      asked : e.ask ≡ coord.asks c
+      asked = legal.1.asks ∙ ap (asks k) begun_is
+
+      found : e.found ≡ told es (cell_of (coord.asks c))
+      found = legal.1.found ∙ ap (λ (q : Ask). told es (cell_of q)) asked
+
+      goes_by : Goes arena.layout c.begun (told es) c c.stage (coord.goes c e.found)
+      goes_by = goes_so arena.layout c.begun (told es) c (coord.counted c).marks (seat_of es n (actor.Leads c) led).1 refl c.stage e.found busy found
+
+      checked_then : to.begun ≡ c.begun → CheckedAt arena.layout c.begun (effect (told es) (coord.asks c)) to.stage → CheckedAt arena.layout to.begun (told (e ∷ es)) to.stage
+      checked_then same x = subst (λ (b : ℕ). CheckedAt arena.layout b (told (e ∷ es)) to.stage) (sym same) (subst (λ (q : Ask). CheckedAt arena.layout c.begun (effect (told es) q) to.stage) (sym asked) x)
+
+      by_lead : Goes arena.layout c.begun (told es) c c.stage to → Holds (e ∷ es) to
+      by_lead (begins_cycle b quiet same x) = record {
+        marking = moving.by_coordinator arena k pacing may stage facts knows meant known polls heap e es c to legal is_meant led led_then on same (moving.begins arena k pacing may stage facts knows meant known polls heap party sound es c legal.0 (shorter e es is_meant) led b (was_marked es legal.0 before) (keeps es legal.0)) end here quiet;
+        checked = checked_then same x;
+      }
+      by_lead (goes_on was quiet same x) = record {
+        marking = moving.by_coordinator arena k pacing may stage facts knows meant known polls heap e es c to legal is_meant led led_then on same (before es c (whole es) led was).marking end here quiet;
+        checked = checked_then same (x (before es c (whole es) led was).checked);
+      }
+      by_lead (leaves off) = absurd (off on)
+
+      by_it : Holds (e ∷ es) to
+      by_it = by_lead (subst (λ (y : coord.Coordinating). Goes arena.layout c.begun (told es) c c.stage y) (sym then) goes_by)
+
+  -- who is at the coordinator's seat
+  record LedBefore (es : List (Entry O)) : Type 0 where
+    lead : coord.Coordinating
+    led_by : Led es lead
+
+  led_before : (es : List (Entry O)) (m : Actor P) → at es n ≡ m → LedBefore es
+  led_before es (actor.Leads c) is = record { lead = c; led_by = is }
+  led_before es (actor.Runs m) is = absurd (let lt : n < arena.layout.procs = seat_of es n (actor.Runs m) is in omega (arith, lt))
+  led_before es (actor.Marks w) is = absurd (let lt : n < n = (seat_of es n (actor.Marks w) is).1 in omega (arith, lt))
+
+  follows : (e : Entry O) (es : List (Entry O)) → Lawful (e ∷ es) → meant (e ∷ es) → HeldBefore es → (c : coord.Coordinating) → Led (e ∷ es) c → leading.Marks c.stage → Holds (e ∷ es) c
+  follows e es legal is_meant before c led on = go (e.actor == n) refl where
+    go : (b : Bool) → (e.actor == n) ≡ b → Holds (e ∷ es) c
+    go false x =
+        let was : Led es c = sym (other arena.layout k pacing e es n x) ∙ led in
+        let within : e.actor < n + 1 = legal.1.actor in
+        by_others e es legal is_meant c was on (before es c (whole es) was on) (grind (arith, nat_tests, x, within))
+    go true x =
+        let end : e.actor ≡ n = grind (arith, nat_tests) in
+        let b = led_before es (at es n) refl in
+        let then : at (e ∷ es) n ≡ actor.Leads (coord.goes b.lead e.found) = sym (ap (at (e ∷ es)) end) ∙ leads arena.layout k pacing e es b.lead (ap (at es) end ∙ b.led_by) in
+        by_it e es legal is_meant b.lead c end b.led_by (let both : actor.Leads c ≡ actor.Leads (coord.goes b.lead e.found) = sym led ∙ then in cc) led on before
+
+  held : (es : List (Entry O)) → Lawful es → meant es → HeldBefore es
+  held [] legal is_meant start c of led on = absurd (none_at_first c (subst (λ (x : List (Entry O)). Led x c) of led) on)
+  held (e ∷ es) legal is_meant start c (inl of) led on =
+      subst (λ (x : List (Entry O)). Holds x c) (sym of) (follows e es legal is_meant (held es legal.0 (shorter e es is_meant)) c (subst (λ (x : List (Entry O)). Led x c) of led) on)
+  held (e ∷ es) legal is_meant start c (inr of) led on = held es legal.0 (shorter e es is_meant) start c of led on
+
+  pub marks_to_the_end : (es : List (Entry O)) (c : coord.Coordinating) → Lawful es → meant es → Led es c → leading.Marks c.stage → MarksToTheEnd arena k pacing may stage facts knows meant es c
+  marks_to_the_end es c legal is_meant led on = was_marked es legal (held es legal is_meant) es c (whole es) led on

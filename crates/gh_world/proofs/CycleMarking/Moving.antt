@@ -12,8 +12,9 @@ use Rattle.gh_base.specs.Rows.{alloc_words, Row, row_bit}
 use Rattle.gh_base.specs.Steps.{cell_of, effect}
 use Rattle.gh_heap.specs.Rights.{Arena}
 use Rattle.gh_marks.specs.Colours.{Cycle, Shared}
+use Rattle.gh_marks.specs.Good.{Good}
 use Rattle.gh_marks.specs.Laws.{Begins, EachHandFollows, EachHandLasts, EachStepGoesByMoves, MarkingBegins, StepsGoByMoves}
-use Rattle.gh_marks.specs.Moves.{goes, moved, Others, Quiet, stays, Steps, Went}
+use Rattle.gh_marks.specs.Moves.{goes, moved, Others, Quiet, SameExtent, stays, Steps, Went}
 use Rattle.gh_marks.specs.Seats.{Hands, nothing}
 use Rattle.gh_phase.specs.declared.view.RunPhase.TheVariants as run
 use Rattle.gh_phase.specs.Handshake.{Acts, Party, Stage, Stopped}
@@ -31,7 +32,7 @@ use Rattle.gh_worker.specs.MarkFacts as marks
 use Rattle.gh_world.specs.declared.handshake.Actor.{Actor}
 use Rattle.gh_world.specs.declared.handshake.Actor.TheVariants as actor
 use Rattle.gh_world.specs.Handshake.{actors, asks, is_busy, KeepsIt, Pacing, place_of, Sound, WaitsWithNone}
-use Rattle.gh_world.specs.Marking.{actors_after, IsBeginning, IsInMarking, IsLedBy, KnowsHeap, LeavesObjects, MayBegin, PollsByMoves, setting, words}
+use Rattle.gh_world.specs.Marking.{actors_after, IsBeginning, IsInMarking, IsLedBy, KnowsHeap, LeavesObjects, MayBegin, PollsByMoves, setting, WasMarked, words}
 use Rattle.gh_world.proofs.CycleMarking.Beside.{LeavesHeap, works_so}
 use Rattle.gh_world.proofs.CycleMarking.Checking.{IsLight}
 use Rattle.gh_world.proofs.CycleMarking.Seats.{IsSeated, lead_started, leads, other, runs, seated, worker_started, works}
@@ -41,6 +42,28 @@ same_bit : (r q : Row) (o : ℕ) → r (o / 64) ≡ q (o / 64) → row_bit q o �
 unfolding row_bit
 same_bit r q o e h = ap (λ (v : ℕ). bit_at v (o % 64)) e ∙ h
 
+-- Moves that take no slot leave the objects of the cycle: one that came to be would have taken one.
+pub record SameObjects (s t : Shared) : Type 0 where
+  pub since : (o : ℕ) → t.since o ≡ s.since o
+  pub extents : (o : ℕ) → s.since o ≡ true → SameExtent s.extents t.extents o
+
+pub objects_stay : EachStepGoesByMoves → (z : Cycle) (a : ℕ) (s t : Shared) → Good z s → Went z a s t → ((x : ℕ) → t.words (cell.Alloc x) ≡ s.words (cell.Alloc x)) → SameObjects s t
+objects_stay steps z a s t good went slots = record { since = λ o. by o (t.since o) (s.since o) refl refl; extents = others.keeps.extents } where
+  step : StepsGoByMoves z a s t
+  step = steps z a s t good went
+
+  others : Others z (suc a) s t
+  others = step.others (suc a) (λ e. omega (arith, e))
+
+  placed : (o : ℕ) → t.since o ≡ true → row_bit (alloc_words s.words) o ≡ 1
+  placed o e = same_bit (alloc_words s.words) (alloc_words t.words) o (sym (slots (o / 64))) (step.good.objects.placed o e)
+
+  by : (o : ℕ) (now was : Bool) → t.since o ≡ now → s.since o ≡ was → t.since o ≡ s.since o
+  by o true true e f = e ∙ sym f
+  by o false false e f = e ∙ sym f
+  by o true false e f = absurd (let d = step.dead o (record { placed = placed o e; dead = f }) in let no : true ≡ false = sym e ∙ d.dead in cc)
+  by o false true e f = absurd (let no : true ≡ false = sym (others.keeps.since o f) ∙ e in cc)
+
 -- what gh_marks and gh_worker say
 pub record Known : Type 0 where
   pub workers : marks.WorksByMoves
@@ -49,7 +72,7 @@ pub record Known : Type 0 where
   pub follow : EachHandFollows
   pub last : EachHandLasts
 
-begin_post : (p : CoordStage) → IsBeginning p → leading.post_at p ≡ Stopped run.Off
+pub begin_post : (p : CoordStage) → IsBeginning p → leading.post_at p ≡ Stopped run.Off
 begin_post (Open o) b = ap leading.open_post b
 begin_post (LoadAck i) b = absurd b
 begin_post LoadWant b = absurd b
@@ -64,8 +87,8 @@ begin_post (Count c) b = absurd b
 begin_post (Tell t) b = absurd b
 begin_post Done b = absurd b
 
-module _ {P O : Type 0} (arena : Arena) (k : Kind P O) (pacing : Pacing) (may : ℕ → List (Entry O) → O → Bool) (stage : P → Stage) (facts : Cycle → (a : ℕ) → Shared → P → Type 0) (knows : Cycle → Shared → (ℕ → Actor P) → Type 0)
-    (known : Known) (polls : PollsByMoves arena k pacing may stage facts knows) (heap : KnowsHeap arena k pacing may stage facts knows) where
+module _ {P O : Type 0} (arena : Arena) (k : Kind P O) (pacing : Pacing) (may : ℕ → List (Entry O) → O → Bool) (stage : P → Stage) (facts : Cycle → (a : ℕ) → Shared → P → Type 0) (knows : Cycle → Shared → List (Entry O) → Type 0) (meant : List (Entry O) → Type 0)
+    (known : Known) (polls : PollsByMoves arena k pacing may stage facts knows meant) (heap : KnowsHeap arena k pacing may stage facts knows meant) where
   abbrev n : ℕ
   n = acks_of arena.layout
 
@@ -73,9 +96,9 @@ module _ {P O : Type 0} (arena : Arena) (k : Kind P O) (pacing : Pacing) (may : 
   at = actors_after arena k pacing may
 
   abbrev In : List (Entry O) → coord.Coordinating → Type 0
-  In = IsInMarking arena k pacing may stage facts knows
+  In = IsInMarking arena k pacing may stage facts knows meant
 
-  module _ (e : Entry O) (es : List (Entry O)) (c to : coord.Coordinating) (legal : Legal (setting arena k pacing may) (e ∷ es)) (led : IsLedBy arena k pacing may es c) (begun_is : to.begun ≡ c.begun) (i : In es c) where
+  module _ (e : Entry O) (es : List (Entry O)) (c to : coord.Coordinating) (legal : Legal (setting arena k pacing may) (e ∷ es)) (is_meant : meant (e ∷ es)) (led : IsLedBy arena k pacing may es c) (led_then : IsLedBy arena k pacing may (e ∷ es) to) (on_then : leading.Marks to.stage) (begun_is : to.begun ≡ c.begun) (i : In es c) where
     abbrev z : Cycle
     z = i.cycle
 
@@ -86,7 +109,7 @@ module _ {P O : Type 0} (arena : Arena) (k : Kind P O) (pacing : Pacing) (may : 
     a = e.actor
 
     -- where its seat's step leads to this state
-    module _ (t : Shared) (went : Went z a s t) (words_are : t.words ≡ words arena k pacing may (e ∷ es)) (heap_is : knows z t (at (e ∷ es)))
+    module _ (t : Shared) (went : Went z a s t) (words_are : t.words ≡ words arena k pacing may (e ∷ es)) (heap_is : knows z t (e ∷ es))
         (own_processor : (m : P) → at (e ∷ es) a ≡ actor.Runs m → facts z a t m)
         (own_worker : (w : worker.Working) → at (e ∷ es) a ≡ actor.Marks w → marks.Facts z a t w)
         (own_hand : n ≤ a → Hands a t nothing) where
@@ -133,32 +156,20 @@ module _ {P O : Type 0} (arena : Arena) (k : Kind P O) (pacing : Pacing) (may : 
     words_then : (t : Shared) (ask : Ask) → t.words ≡ effect s.words ask → e.ask ≡ ask → t.words ≡ words arena k pacing may (e ∷ es)
     words_then t ask is asked = is ∙ (ap (effect s.words) (sym asked) ∙ ap (λ (w : Words). effect w e.ask) i.is.words_are)
 
-    -- whoever steps so leaves the objects: one that came to be would have taken a slot
+    -- whoever steps so leaves the objects
     leaves_objects : (t : Shared) (ask : Ask) → Went z a s t → t.words ≡ effect s.words ask → LeavesHeap ask → LeavesObjects s t
     leaves_objects t ask went is h = record {
-      since = λ o. by o (t.since o) (s.since o) refl refl;
-      extents = others.keeps.extents;
+      since = objects.since;
+      extents = objects.extents;
       page = λ x. ap (λ (w : Words). w (cell.Page x)) is ∙ h.page s.words x;
       alloc = slots;
       bitmap = λ x. ap (λ (w : Words). w (cell.Bitmap x)) is ∙ h.bitmap s.words x;
     } where
-      step : StepsGoByMoves z a s t
-      step = known.steps z a s t i.good went
-
-      others : Others z (suc a) s t
-      others = step.others (suc a) (λ e. omega (arith, e))
-
       slots : (x : ℕ) → t.words (cell.Alloc x) ≡ s.words (cell.Alloc x)
       slots x = ap (λ (w : Words). w (cell.Alloc x)) is ∙ h.alloc s.words x
 
-      placed : (o : ℕ) → t.since o ≡ true → row_bit (alloc_words s.words) o ≡ 1
-      placed o e = same_bit (alloc_words s.words) (alloc_words t.words) o (sym (slots (o / 64))) (step.good.objects.placed o e)
-
-      by : (o : ℕ) (now was : Bool) → t.since o ≡ now → s.since o ≡ was → t.since o ≡ s.since o
-      by o true true e f = e ∙ sym f
-      by o false false e f = e ∙ sym f
-      by o true false e f = absurd (let d = step.dead o (record { placed = placed o e; dead = f }) in let no : true ≡ false = sym e ∙ d.dead in cc)
-      by o false true e f = absurd (let no : true ≡ false = sym (others.keeps.since o f) ∙ e in cc)
+      objects : SameObjects s t
+      objects = objects_stay known.steps z a s t i.good went slots
 
     -- by a processor
     pub by_processor : (m : P) → leading.Marks c.stage → a < arena.layout.procs → at es a ≡ actor.Runs m → In (e ∷ es) to
@@ -166,20 +177,20 @@ module _ {P O : Type 0} (arena : Arena) (k : Kind P O) (pacing : Pacing) (may : 
         (λ p now. subst (facts z a land.then) (let both : actor.Runs (k.takes (started k e.begun m) e.found) ≡ actor.Runs p = sym then ∙ now in cc) land.after.0)
         (λ w now. absurd (let both : actor.Runs (k.takes (started k e.begun m) e.found) ≡ actor.Marks w = sym then ∙ now in cc))
         (λ le. absurd (omega arith)) where
-          land : Steps z a s e.ask (λ t. facts z a t (k.takes (started k e.begun m) e.found) × knows z t (at (e ∷ es)))
-          land = polls.own_step e es c legal led on z s m i.is i.good i.known lt is (i.processors a m lt is)
+          land : Steps z a s e.ask (λ t. facts z a t (k.takes (started k e.begun m) e.found) × knows z t (e ∷ es))
+          land = polls.own_step e es c legal is_meant led on z s m i.is i.good i.known lt is (i.processors a m lt is)
 
           then : at (e ∷ es) a ≡ actor.Runs (k.takes (started k e.begun m) e.found)
           then = runs arena.layout k pacing e es m is
 
     -- by a worker
     pub by_worker : (w : worker.Working) → arena.layout.procs ≤ a → a < n → at es a ≡ actor.Marks w → In (e ∷ es) to
-    by_worker w ge lt is = next land.then land.went then_words (heap.lasts e es c legal led z s land.then i.is i.good (known.steps z a s land.then i.good land.went).good i.known ge (leaves_objects land.then (worker.asks w) land.went land.words_are (works_so w busy)) then_words)
+    by_worker w ge lt is = next land.then land.went then_words (heap.lasts e es c to legal is_meant led led_then on_then z s land.then i.is i.good (known.steps z a s land.then i.good land.went).good i.known ge land.went (leaves_objects land.then (worker.asks w) land.went land.words_are (works_so w busy)) then_words)
         (λ p now. absurd (let both : actor.Marks (worker.goes w e.found) ≡ actor.Runs p = sym then ∙ now in cc))
         (λ v now. subst (marks.Facts z a land.then) (let both : actor.Marks (worker.goes w e.found) ≡ actor.Marks v = sym then ∙ now in cc) (subst (λ (x : ℕ). marks.Facts z a land.then (worker.goes w x)) (sym found) land.after))
         (λ le. absurd (omega arith)) where
           land : Steps z a s (worker.asks w) (λ t. marks.Facts z a t (worker.goes w (s.words (cell_of (worker.asks w)))))
-          land = known.workers.own_step z a s w i.good (heap.objects z s (at es) i.known) (i.workers a w lt is)
+          land = known.workers.own_step z a s w i.good (heap.objects z s es i.known) (i.workers a w lt is)
 
           asked : e.ask ≡ worker.asks w
           asked = legal.1.asks ∙ ap (asks k) (ap (started (actors arena.layout k pacing) e.begun) is ∙ worker_started arena.layout k pacing e.begun w)
@@ -201,7 +212,7 @@ module _ {P O : Type 0} (arena : Arena) (k : Kind P O) (pacing : Pacing) (may : 
 
     -- by the coordinator
     pub by_coordinator : a ≡ n → at es a ≡ actor.Leads c → IsLight (coord.asks c) → In (e ∷ es) to
-    by_coordinator end is light = next t went then_words (heap.lasts e es c legal led z s t i.is i.good (known.steps z a s t i.good went).good i.known (omega (arith, end)) (leaves_objects t (coord.asks c) went refl light.aside) then_words)
+    by_coordinator end is light = next t went then_words (heap.lasts e es c to legal is_meant led led_then on_then z s t i.is i.good (known.steps z a s t i.good went).good i.known (omega (arith, end)) went (leaves_objects t (coord.asks c) went refl light.aside) then_words)
         (λ p now. absurd (let both : actor.Leads (coord.goes c e.found) ≡ actor.Runs p = sym then ∙ now in cc))
         (λ v now. absurd (let both : actor.Leads (coord.goes c e.found) ≡ actor.Marks v = sym then ∙ now in cc))
         (λ le. (known.follow z a s nothing i.good (i.coordinator a le)).quiet (coord.asks c) (light.quiet s)) where
@@ -221,10 +232,10 @@ module _ {P O : Type 0} (arena : Arena) (k : Kind P O) (pacing : Pacing) (may : 
           then_words = words_then t (coord.asks c) refl asked
 
   -- The begin of a cycle: the world is stopped, and nobody has anything in hand.
-  module _ (party : P → Party) (sound : Layout → P → Type 0) (es : List (Entry O)) (c : coord.Coordinating) (legal : Legal (setting arena k pacing may) es) (led : IsLedBy arena k pacing may es c) (b : IsBeginning c.stage)
-      (keeps : KeepsIt sound party stage (setting arena k pacing may) es) where
-    pub opened : MayBegin arena k pacing may stage facts knows es c
-    opened = heap.begins es c legal led b
+  module _ (party : P → Party) (sound : Layout → P → Type 0) (es : List (Entry O)) (c : coord.Coordinating) (legal : Legal (setting arena k pacing may) es) (is_meant : meant es) (led : IsLedBy arena k pacing may es c) (b : IsBeginning c.stage)
+      (was : WasMarked arena k pacing may stage facts knows meant es) (keeps : KeepsIt sound party stage (setting arena k pacing may) es) where
+    pub opened : MayBegin arena k pacing may stage facts knows meant es c
+    opened = heap.begins es c legal is_meant led b was
 
     begun : Begins opened.cycle opened.shared
     begun = known.begin opened.cycle opened.shared opened.opens

@@ -1,55 +1,60 @@
-use Rattle.std.proofs.Common.{◌≡◌, ℕ, ◌≤◌, List, length, sym, ◌∙◌, subst, arith}
+use Rattle.std.proofs.Common.{◌≡◌, ℕ, ◌+◌, ◌++◌, ◌<◌, ◌≤◌, false, List, length, map, refl, sym, ◌∙◌, ap, subst, arith}
 use Rattle.gh_base.specs.declared.layout.Layout.{Layout}
-use Rattle.gh_base.specs.declared.value.Answer.{Answer}
+use Rattle.gh_lines.specs.Text.{Outcome}
+use Rattle.gh_script.specs.Program.{Program}
+use Rattle.gh_world.specs.Runs.{outcome_by, swept_cycle}
+use Rattle.gh_world.specs.Schedule.{ended_after, in_order_from}
 use Rattle.gh_world.specs.Turns.{total_of}
-use Rattle.gh_world.specs.World.{LaysOut, layout_of}
+use Rattle.gh_world.specs.World.{actors_of, layout_of, LaysOut, script_of, setting_of}
+use Rattle.gh_world.specs.Wishes.{most_cycles}
 use Rattle.gh_replay.specs.Replayed.{IsReplayed, IsUnfinished}
-use Rattle.gh_replay.proofs.Running.{finished, unfinished}
+use Rattle.gh_replay.proofs.EitherOne.{some_going}
+use Rattle.gh_replay.proofs.Running.{finished, not_all, outcome_is, unfinished}
 use Rattle.gh_replay.proofs.turns.replay.Goals as goal
 
-pub returns-then-done-clause-explained : goal.returns-then-done-clause-explained
-returns-then-done-clause-explained c =
+pub returns-in-Some-clause-out_of_turns : goal.returns-in-Some-clause-out_of_turns
+returns-in-Some-clause-out_of_turns c = λ n e.
     let lays : LaysOut c.args.script.now (layout_of c.run.new.world) = subst (λ (l : Layout). LaysOut c.args.script.now l) (sym c.run.ensures.layout) c.in_ok-world.ensures.layout in
-    subst (λ (xs : List (ℕ × Answer)). IsReplayed c.args.script.now c.args.budget xs) (sym c.new-then-done.ensures.answers)
-    (finished c.every_run_is_explained.ensures c.run.new.world c.args.script.now c.args.budget c.run.new.answers.items c.is_well_formed.ensures
-    (c.run.ensures.script ∙ c.in_ok-world.ensures.script) lays c.run.ensures.ran (c.done.ensures.whole c.if-done.true))
-
-pub returns-clause-out_of_turns : goal.returns-clause-out_of_turns
-returns-clause-out_of_turns c = λ n e.
-    let lays : LaysOut c.args.script.now (layout_of c.run.new.world) = subst (λ (l : Layout). LaysOut c.args.script.now l) (sym c.run.ensures.layout) c.in_ok-world.ensures.layout in
-    let same : c.args.budget ≡ n = cc in (
+    let same : c.args.budget ≡ n = cc in
+    let here = c.in-Some.ensures.going in
+    let there = here.0 in (
       sym same,
       subst (λ (k : ℕ). IsUnfinished c.args.script.now k) same
           (unfinished c.run.new.world c.args.script.now c.args.budget c.run.new.answers.items
-          (c.run.ensures.script ∙ c.in_ok-world.ensures.script) lays c.run.ensures.ran (sym c.done.ensures.done ∙ c.if-done.false)),
+          (c.run.ensures.script ∙ c.in_ok-world.ensures.script) lays c.run.ensures.ran (not_all c.run.new.world _ here.0 here.1)
+          (record { who = _; there = omega (arith, there, c.in-Some.ensures.seats); going = λ es after. some_going (ended_after (setting_of (script_of c.run.new.world) (layout_of c.run.new.world)) es) (in_order_from 0 (setting_of (script_of c.run.new.world) (layout_of c.run.new.world)).actors) _ (sym (c.in-Some.ensures.in_lists es after)) })),
     )
 
-pub returns-then-done-clause-runs_out : goal.returns-then-done-clause-runs_out
-returns-then-done-clause-runs_out c = λ u.
+pub returns-in-Some-clause-ends : goal.returns-in-Some-clause-ends
+returns-in-Some-clause-ends c = λ outcome n r e.
     let lays : LaysOut c.args.script.now (layout_of c.run.new.world) = subst (λ (l : Layout). LaysOut c.args.script.now l) (sym c.run.ensures.layout) c.in_ok-world.ensures.layout in
-    let r : IsReplayed c.args.script.now c.args.budget c.run.new.answers.items =
-    finished c.every_run_is_explained.ensures c.run.new.world c.args.script.now c.args.budget c.run.new.answers.items c.is_well_formed.ensures
-    (c.run.ensures.script ∙ c.in_ok-world.ensures.script) lays c.run.ensures.ran (c.done.ensures.whole c.if-done.true) in
-    c.one_outcome.ensures.not_both c.args.script.now c.args.budget c.run.new.answers.items r u
-
-pub returns-clause-ends : goal.returns-clause-ends
-returns-clause-ends c = λ answers n r e.
-    let lays : LaysOut c.args.script.now (layout_of c.run.new.world) = subst (λ (l : Layout). LaysOut c.args.script.now l) (sym c.run.ensures.layout) c.in_ok-world.ensures.layout in
-    c.one_outcome.ensures.not_both c.args.script.now c.args.budget answers r
+    let here = c.in-Some.ensures.going in
+    let there = here.0 in
+    c.one_outcome.ensures.not_both c.args.script.now c.args.budget outcome r
     (unfinished c.run.new.world c.args.script.now c.args.budget c.run.new.answers.items
-    (c.run.ensures.script ∙ c.in_ok-world.ensures.script) lays c.run.ensures.ran (sym c.done.ensures.done ∙ c.if-done.false))
+    (c.run.ensures.script ∙ c.in_ok-world.ensures.script) lays c.run.ensures.ran (not_all c.run.new.world _ here.0 here.1)
+    (record { who = _; there = omega (arith, there, c.in-Some.ensures.seats); going = λ es after. some_going (ended_after (setting_of (script_of c.run.new.world) (layout_of c.run.new.world)) es) (in_order_from 0 (setting_of (script_of c.run.new.world) (layout_of c.run.new.world)).actors) _ (sym (c.in-Some.ensures.in_lists es after)) }))
 
-pub returns-then-done-clause-few : goal.returns-then-done-clause-few
-returns-then-done-clause-few c =
-    let few : length c.run.new.answers.items ≤ total_of c.args.script.now = subst (λ (p : _). length c.run.new.answers.items ≤ total_of p) (c.run.ensures.script ∙ c.in_ok-world.ensures.script) c.run.ensures.few in
-    subst (λ (xs : List (ℕ × Answer)). length xs ≤ total_of c.args.script.now) (sym c.new-then-done.ensures.answers) few
+pub new-requires-in-None-clause-few : goal.new-requires-in-None-clause-few
+new-requires-in-None-clause-few c =
+    let copied : length c.copy.new.copies.items ≡ length c.cycles.result.now = ap length (c.copy.ensures ∙ ap (λ xs. xs ++ c.cycles.result.now) c.in_ok-cycles.ensures.items) in
+    let script : script_of c.run.new.world ≡ c.args.script.now = c.run.ensures.script ∙ c.in_ok-world.ensures.script in
+    let answers : length c.run.new.answers.items ≤ total_of c.args.script.now = subst (λ (p : Program). length c.run.new.answers.items ≤ total_of p) script c.run.ensures.few in
+    let cycles : length c.cycles.result.now ≤ most_cycles c.args.script.now = subst (λ (p : Program). length c.cycles.result.now ≤ most_cycles p) script c.cycles.ensures.few in
+    omega (arith, copied, answers, cycles, c.most_cycles.ensures.is, c.most_cycles.ensures.few, c.is_well_formed.ensures.few_statements)
 
-pub new-requires-then-done-clause-few : goal.new-requires-then-done-clause-few
-new-requires-then-done-clause-few c =
-    let few : length c.run.new.answers.items ≤ total_of c.args.script.now = subst (λ (p : _). length c.run.new.answers.items ≤ total_of p) (c.run.ensures.script ∙ c.in_ok-world.ensures.script) c.run.ensures.few in
-    omega (arith, few, c.is_well_formed.ensures.few_statements)
+pub returns-clause-explained : goal.returns-clause-explained
+returns-clause-explained c =
+    let lays : LaysOut c.args.script.now (layout_of c.run.new.world) = subst (λ (l : Layout). LaysOut c.args.script.now l) (sym c.run.ensures.layout) c.in_ok-world.ensures.layout in
+    let is : c.new-in-None.result.outcome ≡ outcome_by c.run.new.answers.items c.run.new.world.coord = outcome_is c.new-in-None.result.outcome c.run.new.answers.items c.run.new.world.coord c.new-in-None.ensures.answers
+    (c.new-in-None.ensures.cycles ∙ ap (map swept_cycle) (c.copy.ensures ∙ ap (λ xs. xs ++ c.cycles.result.now) c.in_ok-cycles.ensures.items ∙ c.cycles.ensures.are)) (c.new-in-None.ensures.live.0 ∙ c.totals.ensures.objects) (c.new-in-None.ensures.live.1 ∙ c.totals.ensures.live) in
+    subst (λ (o : Outcome). IsReplayed c.args.script.now c.args.budget o) (sym is)
+    (finished c.every_run_is_explained.ensures c.run.new.world c.args.script.now c.args.budget c.run.new.answers.items c.is_well_formed.ensures
+    (c.run.ensures.script ∙ c.in_ok-world.ensures.script) lays c.run.ensures.ran (c.in-None.ensures.whole refl))
 
-pub new-requires-then-done-clause-room : goal.new-requires-then-done-clause-room
-new-requires-then-done-clause-room c =
-    let few : length c.run.new.answers.items ≤ total_of c.args.script.now = subst (λ (p : _). length c.run.new.answers.items ≤ total_of p) (c.run.ensures.script ∙ c.in_ok-world.ensures.script) c.run.ensures.few in
-    omega (arith, few, c.in_ok-rows.ensures.capacity, c.total_of-2.ensures)
+pub returns-clause-runs_out : goal.returns-clause-runs_out
+returns-clause-runs_out c = λ u.
+    let lays : LaysOut c.args.script.now (layout_of c.run.new.world) = subst (λ (l : Layout). LaysOut c.args.script.now l) (sym c.run.ensures.layout) c.in_ok-world.ensures.layout in
+    c.one_outcome.ensures.not_both c.args.script.now c.args.budget (outcome_by c.run.new.answers.items c.run.new.world.coord)
+    (finished c.every_run_is_explained.ensures c.run.new.world c.args.script.now c.args.budget c.run.new.answers.items c.is_well_formed.ensures
+    (c.run.ensures.script ∙ c.in_ok-world.ensures.script) lays c.run.ensures.ran (c.in-None.ensures.whole refl)) u

@@ -1,7 +1,7 @@
-use Rattle.std.proofs.Common.{◌≡◌, ◌≤◌}
+use Rattle.std.proofs.Common.{◌≡◌, ◌<◌, ◌≤◌}
 use Rattle.std.specs.Vec.{vec_capacity}
 use Rattle.gh_world.specs.Turns.{total_of}
-use Rattle.gh_world.specs.World.{layout_of, marks_of, script_of}
+use Rattle.gh_world.specs.World.{actors_of, answered_of, layout_of, script_of}
 use Rattle.gh_replay.proofs.Running.{Midway}
 use Rattle.gh_replay.proofs.turns.run.Given as goal
 
@@ -9,8 +9,9 @@ abbrev pub invariant-loop-left : goal.invariant-loop-left
 invariant-loop-left l = record {
   script : script_of l.world ≡ script_of l.initial.world;
   layout : layout_of l.world ≡ layout_of l.initial.world;
-  few : marks_of l.world ≤ total_of (script_of l.world);
-  midway : Midway l.world l.budget l.left l.answers.items;
+  midway : Midway l.world l.budget l.left l.next l.answers.items;
+  few : answered_of l.world ≤ total_of (script_of l.world);
+  next : l.next < actors_of l.world;
   room : total_of (script_of l.world) ≤ vec_capacity l.answers;
 }
 

@@ -31,8 +31,8 @@ returns-in-Ok-clause-complete g c = λ text budget p told replay spelled read wr
     (spelled-ends c.one_reading.ensures.not_both (texts c.args.words.now) text budget p c.find-found.result (c.find-found.ensures.found text told) (λ e. read (c.find-found.ensures.read_fault e)) replay spelled)
 
 pub returns-in-Ok-clause-ok_exactly : goal.returns-in-Ok-clause-ok_exactly
-returns-in-Ok-clause-ok_exactly g c = λ text budget p answers told replay spelled replayed e.
-    replayed-tells c.one_reading.ensures.one_script c.one_outcome.ensures.not_both (texts c.args.words.now) text budget p answers c.find-found.result (c.find-found.ensures.found text told) replay spelled replayed (sym c.ending.ensures ∙ e)
+returns-in-Ok-clause-ok_exactly g c = λ text budget p outcome told replay spelled replayed e.
+    replayed-tells c.one_reading.ensures.one_script c.one_outcome.ensures.not_both (texts c.args.words.now) text budget p outcome c.find-found.result (c.find-found.ensures.found text told) replay spelled replayed (sym c.ending.ensures ∙ e)
 
 pub returns-in-Ok-clause-out_of_turns_exactly : goal.returns-in-Ok-clause-out_of_turns_exactly
 returns-in-Ok-clause-out_of_turns_exactly g c = λ text budget p told replay spelled unfinished e.

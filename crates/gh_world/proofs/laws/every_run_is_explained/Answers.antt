@@ -1,9 +1,20 @@
-use Rattle.std.proofs.Common.{◌-◌, ◌^◌}
-use Rattle.gh_world.proofs.Running.{run_explained}
-use Rattle.gh_world.proofs.Due.{shapes_good}
+use Rattle.gh_world.proofs.Explained.Top.{all_explained}
 use Rattle.gh_world.proofs.laws.every_run_is_explained.Goals as goal
 
 pub returns : goal.returns
 returns c =
-    let every = c.every_legal_list_stands.ensures.stands in
-    λ p l es formed run. run_explained p l es run (every p.shapes l (2 ^ 64 - 1) (shapes_good p formed) es run.legal)
+    all_explained (record {
+      every = c.every_list_of_actors_stands.ensures;
+      polls = c.one_processor_keeps_to_polls.ensures;
+      each = c.each_operation_acts_once.ensures;
+      points = c.only_points_change.ensures;
+      places = c.the_processor_keeps_the_handshake.ensures;
+      writes = c.a_processor_writes_its_own.ensures;
+      works = c.a_worker_writes_its_own.ensures;
+      keeps = c.every_list_keeps_the_handshake.ensures;
+      few = c.cycles_are_few.ensures;
+      begins_few = c.processors_begin_few.ensures;
+      bits = c.set_bits_are_counted.ensures;
+      slots = c.slots_are_read.ensures.slots;
+      classes = record { least_slot = c.size_class_laws.ensures.least_slot; fit = c.size_class_laws.ensures.fit; whole_words = c.size_class_laws.ensures.whole_words };
+    })

@@ -1,8 +1,21 @@
-use Rattle.gh_world.proofs.GoingOn.{runs_go_on, runs_end_whole}
+use Rattle.gh_mutator.specs.Deeds.{processor_kind}
+use Rattle.gh_script.specs.Program.{Program, WellFormed}
+use Rattle.gh_base.specs.declared.layout.Layout.{Layout}
+use Rattle.gh_world.specs.World.{LaysOut}
+use Rattle.gh_world.proofs.GoingOn.{ends_whole, goes_on, Laws}
+use Rattle.gh_world.proofs.OfScripts.{all_stand}
 use Rattle.gh_world.proofs.laws.runs_go_on.Goals as goal
 
+module _ (c : goal.After-one_processor_keeps_to_polls) where
+  laws : (p : Program) (l : Layout) → WellFormed p → LaysOut p l → Laws p l
+  laws p l formed lays = record {
+    own = λ es. c.a_state_is_of_its_own_entries.ensures (processor_kind p.shapes l) 0 es;
+    on = c.it_goes_on_until_done.ensures;
+    stands = λ es legal. all_stand p l formed lays c.every_list_of_actors_stands.ensures c.one_processor_keeps_to_polls.ensures es legal;
+  }
+
 pub returns-clause-on : goal.returns-clause-on
-returns-clause-on c = let every = c.every_legal_list_stands.ensures.goes_on in runs_go_on every
+returns-clause-on c p l es a formed lays r lt going = goes_on p l formed lays (laws c p l formed lays) es r a lt going
 
 pub returns-clause-whole : goal.returns-clause-whole
-returns-clause-whole c = let every = c.every_legal_list_stands.ensures.goes_on in runs_end_whole every
+returns-clause-whole c p l es formed lays r done = ends_whole p l formed lays (laws c p l formed lays) es r done

@@ -1,0 +1,169 @@
+-- Steps of workers and of the coordinator outside of marking: they are on no word of which anything is said of the heap, its spans, stacks and buffers.
+use Rattle.std.proofs.Common.{◌≡◌, ℕ, ◌≤◌, Bool, false, refl, sym, ap, ◌∙◌, arith, List, ◌∷◌, None}
+use Rattle.gh_base.specs.declared.cell.Ask.{Ask}
+use Rattle.gh_base.specs.declared.cell.Ask.TheVariants.{Add, And, Load, Or, Store, Swap}
+use Rattle.gh_base.specs.declared.cell.Cell.{Cell}
+use Rattle.gh_base.specs.declared.cell.Cell.TheVariants as cell
+use Rattle.gh_base.specs.Cells.{Words}
+use Rattle.gh_base.specs.Steps.{effect}
+use Rattle.gh_cycle.specs.Allocating.{IsTold, pend_told}
+use Rattle.gh_heap.specs.Moves.{IsQuiet, moved, Quiet}
+use Rattle.gh_worker.specs.Writing.{AcksAlone}
+use Rattle.gh_world.specs.Handshake.{Pacing}
+use Rattle.gh_world.specs.ActorsHold.{IsHeapOf}
+use Rattle.gh_world.specs.HoldVocabulary.{arena, Arena, Entry, Good, Heap, Layout, Legal, Op, Right, Shape, view}
+use Rattle.gh_world.specs.KeepsToPolls.{those}
+use Rattle.gh_world.proofs.AllActors.Known.{Known}
+use Rattle.gh_world.proofs.AllActors.Moves.{moves_on}
+use Rattle.gh_world.proofs.AllActors.Resting.{ever_stays}
+
+-- what the step leaves, whatever the words are
+pub record IsAside (ask : Ask) : Type 0 where
+  pub quiet : IsQuiet ask
+  pub heap : (w : Words) → effect w ask cell.Heap ≡ w cell.Heap
+  pub page : (w : Words) (i : ℕ) → effect w ask (cell.Page i) ≡ w (cell.Page i)
+  pub alloc : (w : Words) (i : ℕ) → effect w ask (cell.Alloc i) ≡ w (cell.Alloc i)
+  pub mark : (w : Words) (i : ℕ) → effect w ask (cell.Mark i) ≡ w (cell.Mark i)
+  pub birth : (w : Words) (i : ℕ) → effect w ask (cell.Birth i) ≡ w (cell.Birth i)
+  pub global : (w : Words) (i : ℕ) → effect w ask (cell.Global i) ≡ w (cell.Global i)
+  pub buffer : (w : Words) (i : ℕ) → effect w ask (cell.Buffer i) ≡ w (cell.Buffer i)
+  pub scanned : (w : Words) (i : ℕ) → effect w ask (cell.Scanned i) ≡ w (cell.Scanned i)
+
+-- it may be on marks and buffers
+pub record IsBeside (ask : Ask) : Type 0 where
+  pub quiet : IsQuiet ask
+  pub heap : (w : Words) → effect w ask cell.Heap ≡ w cell.Heap
+  pub page : (w : Words) (i : ℕ) → effect w ask (cell.Page i) ≡ w (cell.Page i)
+  pub alloc : (w : Words) (i : ℕ) → effect w ask (cell.Alloc i) ≡ w (cell.Alloc i)
+  pub global : (w : Words) (i : ℕ) → effect w ask (cell.Global i) ≡ w (cell.Global i)
+  pub scanned : (w : Words) (i : ℕ) → effect w ask (cell.Scanned i) ≡ w (cell.Scanned i)
+
+pub beside_of : (ask : Ask) → IsAside ask → IsBeside ask
+beside_of ask is = record { quiet = is.quiet; heap = is.heap; page = is.page; alloc = is.alloc; global = is.global; scanned = is.scanned }
+
+-- it leaves the counts of the sweep too, and tells nothing
+pub record TellsNothing (ask : Ask) : Type 0 where
+  pub aside : IsAside ask
+  pub untold : (pend : ℕ) → IsTold pend ask
+  pub pends : (pend : ℕ) → pend_told ask pend ≡ pend
+  pub tally : (w : Words) → effect w ask cell.Tally ≡ w cell.Tally
+  pub live : (w : Words) → effect w ask cell.Live ≡ w cell.Live
+  pub cursor : (w : Words) → effect w ask cell.Gcur ≡ w cell.Gcur
+
+pub loads : (c : Cell) → IsAside (Load c)
+loads c = record { quiet = tt; heap = λ w. refl; page = λ w i. refl; alloc = λ w i. refl; mark = λ w i. refl; birth = λ w i. refl; global = λ w i. refl; buffer = λ w i. refl; scanned = λ w i. refl }
+
+pub stores_bank : (x : ℕ) → IsAside (Store cell.Bank x)
+stores_bank x = record { quiet = tt; heap = λ w. refl; page = λ w i. refl; alloc = λ w i. refl; mark = λ w i. refl; birth = λ w i. refl; global = λ w i. refl; buffer = λ w i. refl; scanned = λ w i. refl }
+
+pub stores_ack : (a x : ℕ) → IsAside (Store (cell.Ack a) x)
+stores_ack a x = record { quiet = tt; heap = λ w. refl; page = λ w i. refl; alloc = λ w i. refl; mark = λ w i. refl; birth = λ w i. refl; global = λ w i. refl; buffer = λ w i. refl; scanned = λ w i. refl }
+
+pub stores_phase : (x : ℕ) → IsAside (Store cell.Phase x)
+stores_phase x = record { quiet = tt; heap = λ w. refl; page = λ w i. refl; alloc = λ w i. refl; mark = λ w i. refl; birth = λ w i. refl; global = λ w i. refl; buffer = λ w i. refl; scanned = λ w i. refl }
+
+pub stores_trigger : (x : ℕ) → IsAside (Store cell.Trigger x)
+stores_trigger x = record { quiet = tt; heap = λ w. refl; page = λ w i. refl; alloc = λ w i. refl; mark = λ w i. refl; birth = λ w i. refl; global = λ w i. refl; buffer = λ w i. refl; scanned = λ w i. refl }
+
+pub stores_swept : (x : ℕ) → IsAside (Store cell.Swept x)
+stores_swept x = record { quiet = tt; heap = λ w. refl; page = λ w i. refl; alloc = λ w i. refl; mark = λ w i. refl; birth = λ w i. refl; global = λ w i. refl; buffer = λ w i. refl; scanned = λ w i. refl }
+
+pub stores_begun : (x : ℕ) → IsAside (Store cell.Begun x)
+stores_begun x = record { quiet = tt; heap = λ w. refl; page = λ w i. refl; alloc = λ w i. refl; mark = λ w i. refl; birth = λ w i. refl; global = λ w i. refl; buffer = λ w i. refl; scanned = λ w i. refl }
+
+pub stores_want : (x : ℕ) → IsAside (Store cell.Want x)
+stores_want x = record { quiet = tt; heap = λ w. refl; page = λ w i. refl; alloc = λ w i. refl; mark = λ w i. refl; birth = λ w i. refl; global = λ w i. refl; buffer = λ w i. refl; scanned = λ w i. refl }
+
+pub stores_cursor : (x : ℕ) → IsAside (Store cell.Gcur x)
+stores_cursor x = record { quiet = tt; heap = λ w. refl; page = λ w i. refl; alloc = λ w i. refl; mark = λ w i. refl; birth = λ w i. refl; global = λ w i. refl; buffer = λ w i. refl; scanned = λ w i. refl }
+
+pub stores_tally : (x : ℕ) → IsAside (Store cell.Tally x)
+stores_tally x = record { quiet = tt; heap = λ w. refl; page = λ w i. refl; alloc = λ w i. refl; mark = λ w i. refl; birth = λ w i. refl; global = λ w i. refl; buffer = λ w i. refl; scanned = λ w i. refl }
+
+pub stores_live : (x : ℕ) → IsAside (Store cell.Live x)
+stores_live x = record { quiet = tt; heap = λ w. refl; page = λ w i. refl; alloc = λ w i. refl; mark = λ w i. refl; birth = λ w i. refl; global = λ w i. refl; buffer = λ w i. refl; scanned = λ w i. refl }
+
+pub stores_work : (x : ℕ) → IsAside (Store cell.Work x)
+stores_work x = record { quiet = tt; heap = λ w. refl; page = λ w i. refl; alloc = λ w i. refl; mark = λ w i. refl; birth = λ w i. refl; global = λ w i. refl; buffer = λ w i. refl; scanned = λ w i. refl }
+
+pub stores_slack : (x : ℕ) → IsAside (Store cell.Slack x)
+stores_slack x = record { quiet = tt; heap = λ w. refl; page = λ w i. refl; alloc = λ w i. refl; mark = λ w i. refl; birth = λ w i. refl; global = λ w i. refl; buffer = λ w i. refl; scanned = λ w i. refl }
+
+pub loads_only : (c : Cell) → TellsNothing (Load c)
+loads_only c = record { aside = loads c; untold = λ p. tt; pends = λ p. refl; tally = λ w. refl; live = λ w. refl; cursor = λ w. refl }
+
+pub acks_only : (a x : ℕ) → TellsNothing (Store (cell.Ack a) x)
+acks_only a x = record { aside = stores_ack a x; untold = λ p. tt; pends = λ p. refl; tally = λ w. refl; live = λ w. refl; cursor = λ w. refl }
+
+pub phase_only : (x : ℕ) → TellsNothing (Store cell.Phase x)
+phase_only x = record { aside = stores_phase x; untold = λ p. tt; pends = λ p. refl; tally = λ w. refl; live = λ w. refl; cursor = λ w. refl }
+
+pub trigger_only : (x : ℕ) → TellsNothing (Store cell.Trigger x)
+trigger_only x = record { aside = stores_trigger x; untold = λ p. tt; pends = λ p. refl; tally = λ w. refl; live = λ w. refl; cursor = λ w. refl }
+
+pub swept_only : (x : ℕ) → TellsNothing (Store cell.Swept x)
+swept_only x = record { aside = stores_swept x; untold = λ p. tt; pends = λ p. refl; tally = λ w. refl; live = λ w. refl; cursor = λ w. refl }
+
+-- a worker at rest writes its acknowledgement alone
+pub acks_aside : (seat : ℕ) (ask : Ask) → AcksAlone seat ask → TellsNothing ask
+acks_aside seat (Load c) is = loads_only c
+acks_aside seat (Store (cell.Ack a) x) is = acks_only a x
+acks_aside seat (Store cell.Touch x) is = absurd is
+acks_aside seat (Store cell.Phase x) is = absurd is
+acks_aside seat (Store cell.Gen x) is = absurd is
+acks_aside seat (Store cell.Begun x) is = absurd is
+acks_aside seat (Store cell.Swept x) is = absurd is
+acks_aside seat (Store cell.Lock x) is = absurd is
+acks_aside seat (Store cell.Want x) is = absurd is
+acks_aside seat (Store cell.Bank x) is = absurd is
+acks_aside seat (Store cell.Gcur x) is = absurd is
+acks_aside seat (Store cell.Heap x) is = absurd is
+acks_aside seat (Store cell.Trigger x) is = absurd is
+acks_aside seat (Store cell.Work x) is = absurd is
+acks_aside seat (Store cell.Slack x) is = absurd is
+acks_aside seat (Store cell.Tally x) is = absurd is
+acks_aside seat (Store cell.Live x) is = absurd is
+acks_aside seat (Store (cell.Page i) x) is = absurd is
+acks_aside seat (Store (cell.Alloc i) x) is = absurd is
+acks_aside seat (Store (cell.Mark i) x) is = absurd is
+acks_aside seat (Store (cell.Bitmap i) x) is = absurd is
+acks_aside seat (Store (cell.Birth i) x) is = absurd is
+acks_aside seat (Store (cell.Field i) x) is = absurd is
+acks_aside seat (Store (cell.Global i) x) is = absurd is
+acks_aside seat (Store (cell.Buffer i) x) is = absurd is
+acks_aside seat (Store (cell.Entry i j) x) is = absurd is
+acks_aside seat (Store (cell.Scanned i) x) is = absurd is
+acks_aside seat (Or c bits) is = absurd is
+acks_aside seat (And c bits) is = absurd is
+acks_aside seat (Add c more) is = absurd is
+acks_aside seat (Swap c old new) is = absurd is
+
+module _ (shapes : List Shape) (l : Layout) (pacing : Pacing) (may : ℕ → List (Entry Op) → Op → Bool) (known : Known) where
+  abbrev z : Arena
+  z = arena shapes l pacing may
+
+  -- such a step of another than a processor
+  module _ (e : Entry Op) (es : List (Entry Op)) (legal : Legal (those shapes l pacing may) (e ∷ es)) (ge : l.procs ≤ e.actor) (aside : IsBeside e.ask) (h : Heap) (of : IsHeapOf shapes l pacing may es h) (good : Good z (view h)) where
+    abbrev pub then : Heap
+    then = moved z e.actor h (Quiet e.ask)
+
+    right : Right e.actor (view h) false (λ p. false) None → Right e.actor (view then) false (λ p. false) None
+    right r = record { locked = r.locked; holds = r.holds; laying = r.laying; freeing = r.freeing }
+
+    stack_is : (g : ℕ) → then.words (cell.Scanned g) ≡ h.words (cell.Scanned g)
+    stack_is g = aside.scanned h.words g
+
+    pub heap_goes_on : IsHeapOf shapes l pacing may (e ∷ es) then
+    heap_goes_on = moves_on shapes l pacing may known e es h of good (Quiet e.ask) aside.quiet (record {
+      words_are = ap (λ (w : Words). effect w e.ask) of.words_are;
+      ever_is = of.ever_is ∙ sym (ever_stays shapes l pacing may known.points e es legal ge);
+      bounded = of.bounded;
+      stacks = λ g. ((λ x. (of.stacks g).0 (sym (stack_is g) ∙ x)), (λ x. stack_is g ∙ (of.stacks g).1 x));
+      others_stacks = λ b g differs its. stack_is g;
+      globals = λ i le. aside.global h.words i ∙ of.globals i le;
+      own = λ lt. absurd (omega (arith, lt, ge));
+      right = λ le. right (of.others e.actor le);
+    })
+
+    pub good_goes_on : Good z (view then)
+    good_goes_on = known.keeps z e.actor h (Quiet e.ask) good aside.quiet

@@ -1,0 +1,199 @@
+-- Where a cycle is about to begin the heap is known to marking, and each processor stands still with nothing in hand.
+use Rattle.std.proofs.Common.{◌≡◌, ◌≢◌, inl, ℕ, ◌+◌, ◌^◌, ◌<◌, ◌≤◌, Bool, true, false, cond, refl, sym, ap, subst, ◌∙◌, arith, List, [], length, slice_index_or}
+use Rattle.std.proofs.lemmas.Nat.Bits.{bit_at-zero}
+use Rattle.std.specs.Int.{bit_at}
+use Rattle.std.specs.Prelude.{◌/◌, ◌%◌}
+use Rattle.gh_base.specs.declared.cell.Cell.TheVariants as cell
+use Rattle.gh_base.specs.declared.limits.TheConstants.{MOST_GOROUTINES, REGISTERS}
+use Rattle.gh_base.specs.declared.pack.TheConstants.{END}
+use Rattle.gh_base.specs.declared.value.Value.{Value}
+use Rattle.gh_base.specs.declared.value.Value.TheVariants as value
+use Rattle.gh_base.specs.Rows.{row_bit}
+use Rattle.gh_coord.specs.declared.coord.CoordStage.{CoordStage}
+use Rattle.gh_coord.specs.declared.coord.CoordStage.TheVariants.{Check, Close, Count, Done, LoadAck, LoadWant, MarkOn, Open, Stop, StopAgain, Sweep, Tell, Watch}
+use Rattle.gh_coord.specs.Handshake as leading
+use Rattle.gh_cycle.specs.Opening.{IsAtRest, IsOpened, reference_of}
+use Rattle.gh_heap.specs.Objects.{Means, Place}
+use Rattle.gh_marks.specs.Seats.{Hands, nothing}
+use Rattle.gh_model.specs.declared.EverValue.{EverValue}
+use Rattle.gh_model.specs.declared.EverValue.TheVariants as ever_value
+use Rattle.gh_mutator.specs.Local.{register_at}
+use Rattle.gh_mutator.specs.MarkFacts.{KnowsStacks}
+use Rattle.gh_mutator.specs.PollHeap.{Stands}
+use Rattle.gh_mutator.specs.ProcessorMarks.{StandsWithNothing}
+use Rattle.gh_phase.specs.declared.view.RunPhase.TheVariants as run
+use Rattle.gh_stack.specs.Facts.{AreRegisters, named}
+use Rattle.gh_world.specs.declared.handshake.Actor.TheVariants as actor
+use Rattle.gh_world.specs.ActorsHold.{HasCursor, HoldsAt, IsAsItShould, IsReady, processor_at}
+use Rattle.gh_world.specs.ActorsMark.{IsMeant, Knows}
+use Rattle.gh_world.specs.HoldVocabulary.{actors_after, Arena, arena, Coordinating, Cycle, Entry, IsInLimits, IsLed, IsOf, Layout, Legal, MarkFacts, Marking, mark_words, Op, Pacing, Processor, processor_kind, Shape, stage_of, view, Words, words}
+use Rattle.gh_world.specs.KeepsToPolls.{those}
+use Rattle.gh_world.specs.Marking.{IsBeginning, MayBegin}
+use Rattle.gh_world.specs.Numbers.{Ahead, ahead_at, Begun, open_part, part_of}
+use Rattle.gh_world.proofs.AllActors.Known.{Known, ListsKnown}
+use Rattle.gh_world.proofs.AllActors.Resting.{run_is}
+use Rattle.gh_world.proofs.CycleMarking.Moving.{begin_post}
+
+-- What a value names, by the two ways to say it.
+pub same_name : (place : Place) (made : ℕ → ℕ) (v : EverValue) (w : Value) → Means place made v w → reference_of place v ≡ named w
+same_name place made ever_value.Nil value.Nil m = refl
+same_name place made (ever_value.Int i) (value.Int j) m = refl
+same_name place made (ever_value.Ref n) (value.Ref r) m = sym m.0
+same_name place made ever_value.Nil (value.Int j) m = absurd m
+same_name place made ever_value.Nil (value.Ref r) m = absurd m
+same_name place made (ever_value.Int i) value.Nil m = absurd m
+same_name place made (ever_value.Int i) (value.Ref r) m = absurd m
+same_name place made (ever_value.Ref n) value.Nil m = absurd m
+same_name place made (ever_value.Ref n) (value.Int j) m = absurd m
+
+some_name : (place : Place) (made : ℕ → ℕ) (v : EverValue) (r : ℕ) → Means place made v (value.Ref r) → 1 ≤ r
+some_name place made ever_value.Nil r m = absurd m
+some_name place made (ever_value.Int i) r m = absurd m
+some_name place made (ever_value.Ref n) r m = let is : r ≡ place n + 1 = m.0 in omega (arith, is)
+
+clear_bit : (w : Words) (o : ℕ) → w (cell.Mark (o / 64)) ≡ 0 → row_bit (mark_words w) o ≡ 0
+unfolding row_bit
+clear_bit w o is = ap (λ (v : ℕ). bit_at v (o % 64)) is ∙ bit_at-zero (o % 64)
+
+begun_part : (p : CoordStage) → IsBeginning p → part_of p ≡ Begun
+begun_part (Open o) b = ap open_part b
+begun_part (LoadAck i) b = absurd b
+begun_part LoadWant b = absurd b
+begun_part (Stop st) b = absurd b
+begun_part (Watch w) b = absurd b
+begun_part (StopAgain st) b = absurd b
+begun_part (Check w) b = absurd b
+begun_part MarkOn b = absurd b
+begun_part (Close c) b = absurd b
+begun_part (Sweep w) b = absurd b
+begun_part (Count x) b = absurd b
+begun_part (Tell t) b = absurd b
+begun_part Done b = absurd b
+
+module _ (shapes : List Shape) (l : Layout) (pacing : Pacing) (may : ℕ → List (Entry Op) → Op → Bool) (limits : IsInLimits l) (known : Known) (lists : ListsKnown shapes l pacing may)
+    (es : List (Entry Op)) (c : Coordinating) (legal : Legal (those shapes l pacing may) es) (led : IsLed shapes l pacing may es c) (b : IsBeginning c.stage) where
+  abbrev z : Arena
+  z = arena shapes l pacing may
+
+  pub is_ready : (p : CoordStage) → IsBeginning p → HoldsAt shapes l pacing may es c p → IsReady shapes l pacing may es c × (words shapes l pacing may es cell.Gcur ≡ 0)
+  is_ready (Open o) x h = (h.0, subst (HasCursor (words shapes l pacing may es cell.Gcur)) x h.1)
+  is_ready (LoadAck i) x h = absurd x
+  is_ready LoadWant x h = absurd x
+  is_ready (Stop st) x h = absurd x
+  is_ready (Watch w) x h = absurd x
+  is_ready (StopAgain st) x h = absurd x
+  is_ready (Check w) x h = absurd x
+  is_ready MarkOn x h = absurd x
+  is_ready (Close y) x h = absurd x
+  is_ready (Sweep w) x h = absurd x
+  is_ready (Count y) x h = absurd x
+  is_ready (Tell t) x h = absurd x
+  is_ready Done x h = absurd x
+
+  few : c.begun < 2 ^ 48
+  few =
+      let k = lists.counts es c legal led in
+      let part = begun_part c.stage b in
+      let one : (ahead_at (part_of c.stage)).numbered ≡ 1 = ap (λ (x : Rattle.gh_world.specs.Numbers.Part). (ahead_at x).numbered) part in
+      let opened : (ahead_at (part_of c.stage)).opened ≡ 1 = ap (λ (x : Rattle.gh_world.specs.Numbers.Part). (ahead_at x).opened) part in
+      let few = lists.few es legal in
+      omega (arith, k.number, k.opened, one, opened, few)
+
+  abbrev cycle : Cycle
+  cycle = record { arena = z; number = c.begun; few = few }
+
+  module _ (r : IsReady shapes l pacing may es c) (cursor : words shapes l pacing may es cell.Gcur ≡ 0) where
+    rest : IsAtRest z c.begun r.heap
+    rest = record {
+      marks = λ o. clear_bit r.heap.words o (r.marks (o / 64));
+      buffers = r.buffers;
+      cursor = ap (λ (w : Words). w cell.Gcur) r.of_list.words_are ∙ cursor;
+      scanned = r.stacks;
+      over = λ g. (r.of_list.stacks g).0;
+      none = r.of_list.globals;
+    }
+
+    opened : IsOpened cycle r.heap
+    opened = known.opens cycle r.heap r.good r.of_list.bounded rest
+
+    abbrev s : Marking
+    s = opened.marking
+
+    seats : (a : ℕ) → Hands a s nothing
+    seats = (known.marking cycle s opened.opens).seats
+
+    module _ (a : ℕ) (m : Processor) (lt : a < l.procs) (is : actors_after z (processor_kind shapes l) pacing may es a ≡ actor.Runs m) where
+      same : processor_at shapes l pacing may es a ≡ m
+      same = run_is shapes l pacing may es a m lt is
+
+      abbrev it : Processor
+      it = processor_at shapes l pacing may es a
+
+      should : IsAsItShould shapes l pacing may es r.heap a it
+      should = r.of_list.processors a lt
+
+      stands : Stands z a (view r.heap) it.poll
+      stands = known.runs.stands z a (view r.heap) it should.pending should.fine
+
+      goes_on : (g : ℕ) → s.words (cell.Scanned g) ≢ END → r.heap.ever.ended g ≡ false
+      goes_on g other = go (r.heap.ever.ended g) refl where
+        go : (x : Bool) → r.heap.ever.ended g ≡ x → r.heap.ever.ended g ≡ false
+        go false x = x
+        go true x = absurd (other (ap (λ (w : Words). w (cell.Scanned g)) opened.of_heap.words ∙ (r.of_list.stacks g).1 x))
+
+      few_goroutines : (g : ℕ) → IsOf z a g → g < MOST_GOROUTINES
+      few_goroutines g its = omega (arith, its.0, limits.goroutines_fit.1)
+
+      registers : (g : ℕ) → IsOf z a g → s.words (cell.Scanned g) ≢ END → AreRegisters (s.registers g) (slice_index_or it.poll.local.stacks g [])
+      registers g its other = record {
+        whole = whole;
+        each = λ d below. opened.registers g d ∙ (ap (λ (x : Bool). cond x 0 (reference_of r.heap.place (r.heap.ever.register g d))) (goes_on g other) ∙ same_name r.heap.place r.heap.ever.made (r.heap.ever.register g d) (register_at it.poll g d) (means d below));
+        some = λ d reference below holds. some_name r.heap.place r.heap.ever.made (r.heap.ever.register g d) reference (subst (λ (v : Value). Means r.heap.place r.heap.ever.made (r.heap.ever.register g d) v) holds (means d below));
+      } where
+        whole : length (slice_index_or it.poll.local.stacks g []) ≡ REGISTERS
+        whole = stands.sits.registers g (few_goroutines g its)
+
+        means : (d : ℕ) → d < length (slice_index_or it.poll.local.stacks g []) → Means r.heap.place r.heap.ever.made (r.heap.ever.register g d) (register_at it.poll g d)
+        means d below = stands.registers g d its (subst (λ (x : ℕ). d < x) whole below)
+
+      stacks : KnowsStacks cycle a s it.poll.local.stacks it.poll.local.scanned
+      stacks = record {
+        own = λ g below of. (below, of);
+        registers = registers;
+        noted = λ g its. should.notes g its ∙ sym (ap (λ (w : Words). w (cell.Scanned g)) opened.of_heap.words);
+        places = let long = stands.sits.scanned in let fit = limits.goroutines_fit.1 in omega (arith, long, fit);
+      }
+
+      stands_still : StandsWithNothing cycle a s it
+      stands_still = record {
+        stops = (leading.lead_of c).stops;
+        parked = (lists.keeps es legal).processors_wait c run.Off a it led (begin_post c.stage b) (omega (arith, lt)) (is ∙ sym (ap actor.Runs same));
+        layout_is = stands.sits.layout;
+        seat_is = stands.sits.seat;
+        no_buffer = (r.processors a lt).holds.none;
+        stacks = stacks;
+        nothing_in_hand = seats a;
+      }
+
+      knows : MarkFacts cycle a s m
+      knows = subst (MarkFacts cycle a s) same (known.marks.opens cycle a s it stands_still)
+
+    pub may_begin : MayBegin z (processor_kind shapes l) pacing may stage_of MarkFacts (Knows z pacing may) (IsMeant z pacing may) es c
+    may_begin = record {
+      cycle = cycle;
+      shared = s;
+      is = record { arena_is = refl; number_is = refl; words_are = opened.of_heap.words ∙ r.of_list.words_are };
+      opens = opened.opens;
+      known = record {
+        arena_is = refl;
+        heap = r.heap;
+        of_list = r.of_list;
+        good = r.good;
+        of_heap = opened.of_heap;
+        cycle = inl (record { lead = c; led = led; stage = b; cycle = refl });
+        packed = r.packed;
+        counted = r.counted;
+        marks_fit = λ i. let none = r.marks i in omega (arith, none);
+      };
+      processors = knows;
+    }

@@ -1,0 +1,88 @@
+-- While a cycle is marked: a stack whose goroutine has ended stays so, whoever steps.
+use Rattle.std.proofs.Common.{◌≡◌, ◌≢◌, ℕ, ◌==◌, Bool, true, false, cond, refl, ap, ◌∙◌, arith}
+use Rattle.std.proofs.lemmas.Bool.Decides.{nat_tests}
+use Rattle.gh_base.specs.declared.cell.Ask.{Ask}
+use Rattle.gh_base.specs.declared.cell.Ask.TheVariants.{Add, And, Load, Or, Store, Swap}
+use Rattle.gh_base.specs.declared.cell.Cell.{Cell}
+use Rattle.gh_base.specs.declared.cell.Cell.TheVariants as cell
+use Rattle.gh_base.specs.declared.pack.TheConstants.{END}
+use Rattle.gh_base.specs.Cells.{same_cell, Words}
+use Rattle.gh_base.specs.Steps.{cell_of, ChangesOneCell, effect, left}
+use Rattle.gh_marks.specs.Moves.{Blacken, ClaimGlobal, EndStack, Enter, GiveBuffer, goes, IsAside, IsQuiet, May, Move, moved, PassGlobals, Place, PutField, PutGlobal, Quiet, ReadGlobal, Reserve, ScanGlobal, ScanStack, SetRegister, Shade, ShadeAgain, ShadeFlat, stays, TakeBuffer, TakeEntry, Went}
+use Rattle.gh_world.specs.HoldVocabulary.{Cycle, Marking}
+
+-- a row that marking does not read is not that of stacks
+no_stack : (s : Marking) (c : Cell) (g : ℕ) → IsAside s c → same_cell c (cell.Scanned g) ≡ false
+no_stack s cell.Touch g aside = refl
+no_stack s cell.Phase g aside = refl
+no_stack s cell.Gen g aside = refl
+no_stack s cell.Begun g aside = refl
+no_stack s cell.Swept g aside = refl
+no_stack s cell.Lock g aside = refl
+no_stack s cell.Want g aside = refl
+no_stack s cell.Bank g aside = refl
+no_stack s cell.Gcur g aside = refl
+no_stack s cell.Heap g aside = refl
+no_stack s cell.Trigger g aside = refl
+no_stack s cell.Work g aside = refl
+no_stack s cell.Slack g aside = refl
+no_stack s cell.Tally g aside = refl
+no_stack s cell.Live g aside = refl
+no_stack s (cell.Page j) g aside = refl
+no_stack s (cell.Alloc j) g aside = refl
+no_stack s (cell.Mark j) g aside = refl
+no_stack s (cell.Bitmap j) g aside = refl
+no_stack s (cell.Birth j) g aside = refl
+no_stack s (cell.Field j) g aside = refl
+no_stack s (cell.Global j) g aside = refl
+no_stack s (cell.Buffer j) g aside = refl
+no_stack s (cell.Ack j) g aside = refl
+no_stack s (cell.Entry j k) g aside = refl
+no_stack s (cell.Scanned j) g aside = absurd aside
+
+module _ (one : ChangesOneCell) (z : Cycle) (a g : ℕ) where
+  leaves : (w : Words) (step : Ask) → same_cell (cell_of step) (cell.Scanned g) ≡ false → effect w step (cell.Scanned g) ≡ w (cell.Scanned g)
+  leaves w step other = one w step (cell.Scanned g) ∙ ap (λ (b : Bool). cond b (left step (w (cell_of step))) (w (cell.Scanned g))) other
+
+  quietly : (v : Marking) (step : Ask) → IsQuiet v step → effect v.words step (cell.Scanned g) ≡ v.words (cell.Scanned g)
+  quietly v (Load c) is = refl
+  quietly v (Store c x) is = leaves v.words (Store c x) (no_stack v c g is)
+  quietly v (Or c x) is = leaves v.words (Or c x) (no_stack v c g is)
+  quietly v (And c x) is = leaves v.words (And c x) (no_stack v c g is)
+  quietly v (Add c x) is = leaves v.words (Add c x) (no_stack v c g is)
+  quietly v (Swap c x y) is = leaves v.words (Swap c x y) (no_stack v c g is)
+
+  -- the stack that is scanned is of a goroutine that goes on
+  scanned : (v : Marking) (h : ℕ) → v.words (cell.Scanned h) ≢ END → v.words (cell.Scanned g) ≡ END → (b : Bool) → (h == g) ≡ b → cond b z.number (v.words (cell.Scanned g)) ≡ END
+  scanned v h on is false x = is
+  scanned v h on is true x = absurd (let same : h ≡ g = grind (arith, nat_tests) in on (ap (λ (i : ℕ). v.words (cell.Scanned i)) same ∙ is))
+
+  ended : (v : Marking) → v.words (cell.Scanned g) ≡ END → (b : Bool) → cond b END (v.words (cell.Scanned g)) ≡ END
+  ended v is false = is
+  ended v is true = refl
+
+  by_move : (v : Marking) (m : Move) → May z a v m → v.words (cell.Scanned g) ≡ END → (moved z a v m).words (cell.Scanned g) ≡ END
+  by_move v (Quiet step) may is = quietly v step may ∙ is
+  by_move v (ScanStack h) may is = scanned v h may.goes_on is (h == g) refl
+  by_move v (EndStack h) may is = ended v is (h == g)
+  by_move v (Shade o) may is = is
+  by_move v (ShadeFlat o) may is = is
+  by_move v (ShadeAgain o) may is = is
+  by_move v (TakeBuffer b) may is = is
+  by_move v (GiveBuffer b) may is = is
+  by_move v (Enter b o) may is = is
+  by_move v (TakeEntry b o) may is = is
+  by_move v (Blacken o) may is = is
+  by_move v (PutField x value) may is = is
+  by_move v (PutGlobal i value) may is = is
+  by_move v (ClaimGlobal i) may is = is
+  by_move v (PassGlobals i) may is = is
+  by_move v (ReadGlobal i) may is = is
+  by_move v (ScanGlobal i value) may is = is
+  by_move v (SetRegister h d value) may is = is
+  by_move v (Reserve o) may is = is
+  by_move v (Place o size pointer noscan) may is = is
+
+  pub ended_stays : (s t : Marking) → Went z a s t → s.words (cell.Scanned g) ≡ END → t.words (cell.Scanned g) ≡ END
+  ended_stays s t stays is = is
+  ended_stays s t (goes v m w may) is = by_move v m may (ended_stays s v w is)

@@ -1,0 +1,191 @@
+-- A goroutine ends with the step of its end alone, and has ended for good. A processor that leaves does nothing else any more.
+use Rattle.std.proofs.Common.{◌≡◌, ℕ, ◌==◌, ◌⊎◌, inl, inr, Bool, true, false, cond, refl, sym, ap, ◌∙◌, arith, List, Option, Some, None, eq-eqb}
+use Rattle.std.proofs.lemmas.Bool.Decides.{nat_tests}
+use Rattle.std.specs.Prelude.{is_some}
+use Rattle.gh_base.specs.declared.operation.Op.TheVariants as op
+use Rattle.gh_base.specs.declared.value.Answer.{Answer}
+use Rattle.gh_model.specs.Ever.{Ever, ever_after}
+use Rattle.gh_alloc.specs.declared.sought.Found.{Found}
+use Rattle.gh_alloc.specs.declared.sought.Found.TheVariants.{At, NoRoom}
+use Rattle.gh_alloc.specs.Place as place
+use Rattle.gh_alloc.specs.Search as search
+use Rattle.gh_mutator.specs.declared.global.Global.{Global}
+use Rattle.gh_mutator.specs.declared.global.GlobalStage.{GlobalStage}
+use Rattle.gh_mutator.specs.declared.global.GlobalStage.TheVariants as global_stage
+use Rattle.gh_mutator.specs.declared.new.NewStage.{NewStage}
+use Rattle.gh_mutator.specs.declared.new.NewStage.TheVariants.{Place, Search, Wait}
+use Rattle.gh_mutator.specs.declared.new.Wanted.{Wanted}
+use Rattle.gh_mutator.specs.declared.register.Register.{Register}
+use Rattle.gh_mutator.specs.declared.register.Source.{Source}
+use Rattle.gh_mutator.specs.declared.register.Source.TheVariants as source
+use Rattle.gh_mutator.specs.declared.step.Then.{Then}
+use Rattle.gh_mutator.specs.declared.step.Then.TheVariants.{Ends, GoesOn}
+use Rattle.gh_mutator.specs.declared.task.Task.{Task}
+use Rattle.gh_mutator.specs.declared.task.Task.TheVariants as task
+use Rattle.gh_mutator.specs.Deeds.{acted, answer_at}
+use Rattle.gh_mutator.specs.Global as global
+use Rattle.gh_mutator.specs.Leave as leave
+use Rattle.gh_mutator.specs.Listing.{Act, acting, acts, acts_at, after_gc, after_poll, begins_at, follows, is_busy_at, takes_at}
+use Rattle.gh_mutator.specs.Load as load
+use Rattle.gh_mutator.specs.New as new
+use Rattle.gh_mutator.specs.Poll as poll
+use Rattle.gh_mutator.specs.Processor.{cache_span, register_of}
+use Rattle.gh_mutator.specs.Register as register
+use Rattle.gh_mutator.specs.Store as store
+use Rattle.gh_mutator.specs.Vocabulary.{Placing, Polling, Seeking}
+use Rattle.gh_mutator.specs.Wait as wait
+use Rattle.gh_world.specs.ActorsHold.{is_last_task}
+use Rattle.gh_world.specs.HoldVocabulary.{Op, Processor, Shape}
+use Rattle.gh_world.proofs.AllActors.Beginning.{ends-by, keeps-end, makes-end, sets-end, stores-end}
+
+-- Its step is that of its end, or is not.
+pub is_end : (t : Task) (g : ℕ) → (t ≡ task.End g) ⊎ (t ≡ task.End g → ⊥)
+is_end (task.End h) g = go (h == g) refl where
+  go : (b : Bool) → (h == g) ≡ b → (task.End h ≡ task.End g) ⊎ (task.End h ≡ task.End g → ⊥)
+  go true x = let same : h ≡ g = grind (arith, nat_tests) in inl (ap task.End same)
+  go false x = inr (λ is. let same : h ≡ g = cc in absurd (let yes = eq-eqb h g same in let no : false ≡ true = sym x ∙ yes in cc))
+is_end task.Idle g = inr (λ is. absurd (cc))
+is_end task.Left g = inr (λ is. absurd (cc))
+is_end (task.Load x) g = inr (λ is. absurd (cc))
+is_end (task.Store x) g = inr (λ is. absurd (cc))
+is_end (task.Global x) g = inr (λ is. absurd (cc))
+is_end (task.Register x) g = inr (λ is. absurd (cc))
+is_end (task.New x) g = inr (λ is. absurd (cc))
+is_end (task.Gc h x) g = inr (λ is. absurd (cc))
+is_end task.Poll g = inr (λ is. absurd (cc))
+is_end (task.Leave x) g = inr (λ is. absurd (cc))
+
+-- the operation that acts is that of the task
+acting_op : (b : Bool) (o : Op) (full : Bool) (p : Act) → acting b o full ≡ Some p → p.op ≡ o
+acting_op true o full p is = let same : record { op = o; full = full } ≡ p = cc in sym (ap (λ (x : Act). x.op) same)
+acting_op false o full p is = absurd (cc)
+
+not_global : (x : Global) (s : GlobalStage) (g : ℕ) → global.op_in x s ≡ op.End g → ⊥
+not_global x global_stage.Load g is = cc
+not_global x (global_stage.Birth at) g is = cc
+not_global x global_stage.Store g is = cc
+not_global x global_stage.Number g is = cc
+
+not_register : (x : Register) (s : Source) (g : ℕ) → register.op_from x s ≡ op.End g → ⊥
+not_register x (source.Int n) g is = cc
+not_register x (source.Move s) g is = cc
+not_register x source.Nil g is = cc
+
+pub acts_end : (m : Processor) (t : Task) (found : ℕ) (p : Act) (g : ℕ) → acts_at m t found ≡ Some p → p.op ≡ op.End g → t ≡ task.End g
+acts_end m task.Idle found p g is end = absurd (cc)
+acts_end m task.Left found p g is end = absurd (cc)
+acts_end m (task.Load y) found p g is end = absurd (let same : load.op_of y ≡ op.End g = sym (acting_op (load.step m.poll.layout y found).acts (load.op_of y) false p is) ∙ end in cc)
+acts_end m (task.Store y) found p g is end = absurd (let same : store.op_of y ≡ op.End g = sym (acting_op (store.step m.poll.layout (register_of m y.g y.v) y found).acts (store.op_of y) false p is) ∙ end in cc)
+acts_end m (task.Global y) found p g is end = absurd (not_global y y.stage g (sym (acting_op (global.step m.poll.layout (register_of m y.g y.r) y found).acts (global.op_of y) false p is) ∙ end))
+acts_end m (task.Register y) found p g is end = absurd (not_register y y.source g (sym (acting_op (register.step (register_of m y.g (register.read_of y)) y).acts (register.op_of y) false p is) ∙ end))
+acts_end m (task.New y) found p g is end = absurd (let same : new.op_of y.wanted ≡ op.End g = sym (acting_op (new.acts_at y.stage found) (new.op_of y.wanted) (new.is_full_at y.stage) p is) ∙ end in cc)
+acts_end m (task.Gc h y) found p g is end = absurd (let same : op.Gc h ≡ op.End g = sym (acting_op (is_some (wait.gives (wait.waiting y m.poll) found)) (op.Gc h) false p is) ∙ end in cc)
+acts_end m task.Poll found p g is end = absurd (let same : op.Poll ≡ op.End g = sym (acting_op (is_some (poll.gives m.poll found)) op.Poll false p is) ∙ end in cc)
+acts_end m (task.End h) found p g is end = let same : op.End h ≡ op.End g = sym (acting_op true (op.End h) false p is) ∙ end in let one : h ≡ g = cc in ap task.End one
+acts_end m (task.Leave y) found p g is end = absurd (let same : op.Leave ≡ op.End g = sym (acting_op (is_some (leave.gives y found)) op.Leave false p is) ∙ end in cc)
+
+-- who has ended has ended for good
+pub ends_stay : (shapes : List Shape) (e : Ever) (o : Op) (x : Answer) (g : ℕ) → e.ended g ≡ true → (ever_after shapes e o x).ended g ≡ true
+ends_stay shapes e (op.New h d t) x g is = makes-end shapes e h d t g x ∙ is
+ends_stay shapes e (op.Load h d b k) x g is = keeps-end e h d g x ∙ is
+ends_stay shapes e (op.Store h b k v) x g is = stores-end e (e.register h b) k g (e.register h v) x ∙ is
+ends_stay shapes e (op.GetGlobal h d k) x g is = keeps-end e h d g x ∙ is
+ends_stay shapes e (op.SetGlobal h k v) x g is = sets-end e k g (e.register h v) x ∙ is
+ends_stay shapes e (op.Int h d n) x g is = is
+ends_stay shapes e (op.Move h d c) x g is = is
+ends_stay shapes e (op.Nil h d) x g is = is
+ends_stay shapes e (op.Gc h) x g is = is
+ends_stay shapes e op.Poll x g is = is
+ends_stay shapes e (op.End h) x g is = go (g == h) where
+  go : (b : Bool) → cond b true (e.ended g) ≡ true
+  go true = refl
+  go false = is
+ends_stay shapes e op.Leave x g is = is
+
+module _ (shapes : List Shape) (m : Processor) (found : ℕ) (e : Ever) (g : ℕ) where
+  pub acted_stays : (p : Option Act) → e.ended g ≡ true → (acted shapes e p).ended g ≡ true
+  acted_stays None is = is
+  acted_stays (Some x) is = ends_stay shapes e x.op (answer_at shapes e x) g is
+
+  acted_back : (p : Option Act) → acts m found ≡ p → (acted shapes e p).ended g ≡ true → (e.ended g ≡ true) ⊎ (m.task ≡ task.End g)
+  acted_back None at is = inl is
+  acted_back (Some x) at is = elim (ends-by shapes e x.op (answer_at shapes e x) g is) [
+    | inl y ↦ inl y
+    | inr y ↦ inr (acts_end m m.task found x g at y)
+  ]
+
+  pub ended_by : (acted shapes e (acts m found)).ended g ≡ true → (e.ended g ≡ true) ⊎ (m.task ≡ task.End g)
+  ended_by is = acted_back (acts m found) refl is
+
+  pub end_ends : m.task ≡ task.End g → (acted shapes e (acts m found)).ended g ≡ true
+  end_ends is = ap (λ (t : Task). (acted shapes e (acts_at m t found)).ended g) is ∙ ap (λ (b : Bool). cond b true (e.ended g)) (eq-eqb g g refl)
+
+-- A processor that leaves.
+
+follows_none : {S : Type 0} (goes : S → Task) → ((s : S) → is_last_task (goes s) ≡ false) → (t : Then S) → is_last_task (follows goes t) ≡ false
+follows_none goes none (GoesOn s) = none s
+follows_none goes none (Ends a) = refl
+
+module _ (shapes : List Shape) (m : Processor) (found : ℕ) where
+  found_none : (c : Processor) (w : Wanted) (waited : Bool) (f : Found) → is_last_task (new.after_found shapes c w waited f).task ≡ false
+  found_none c w true (At a) = refl
+  found_none c w false (At a) = refl
+  found_none c w true NoRoom = refl
+  found_none c w false NoRoom = refl
+
+  search_none : (c : Processor) (w : Wanted) (waited : Bool) (q : Seeking) (o : Option Found) → is_last_task (new.after_search shapes c w waited q o).task ≡ false
+  search_none c w waited q None = refl
+  search_none c w waited q (Some f) = found_none c w waited f
+
+  wait_none : (w : Wanted) (x : wait.Waiting) (o : Option (Unit {0})) → is_last_task (new.after_wait m w x o).task ≡ false
+  wait_none w x None = refl
+  wait_none w x (Some y) = refl
+
+  gc_none : (g : ℕ) (x : wait.Waiting) (o : Option (Unit {0})) → is_last_task (after_gc m g x o).task ≡ false
+  gc_none g x None = refl
+  gc_none g x (Some y) = refl
+
+  poll_none : (p : Polling) (o : Option (Unit {0})) → is_last_task (after_poll m p o).task ≡ false
+  poll_none p None = refl
+  poll_none p (Some x) = refl
+
+  place_none : (w : Wanted) (p : Placing) (b : Bool) → is_last_task (cond b (new.makes w p) task.Idle) ≡ false
+  place_none w p true = refl
+  place_none w p false = refl
+
+  new_none : (w : Wanted) (s : NewStage) → is_last_task (new.takes_at shapes m w s found).task ≡ false
+  new_none w (Search waited q) = search_none (cache_span m w.sought (search.goes q found).find.cached) w waited (search.goes q found) (search.gives q found)
+  new_none w (Wait x) = wait_none w (wait.goes (wait.waiting x m.poll) found) (wait.gives (wait.waiting x m.poll) found)
+  new_none w (Place p) = place_none w (place.goes p found) (place.is_busy (place.goes p found).stage)
+
+  other : {b : Bool} → b ≡ false → b ≡ true → ⊥
+  other x y = let both : false ≡ true = sym x ∙ y in cc
+
+  -- it left already
+  pub last_before : (t : Task) → is_busy_at t ≡ true → is_last_task (takes_at shapes m t found).task ≡ true → is_last_task t ≡ true
+  last_before task.Idle busy is = absurd (cc)
+  last_before task.Left busy is = absurd (cc)
+  last_before (task.Load x) busy is = absurd (other (follows_none task.Load (λ s. refl) (load.step m.poll.layout x found).then) is)
+  last_before (task.Store x) busy is = absurd (other (follows_none task.Store (λ s. refl) (store.step m.poll.layout (register_of m x.g x.v) x found).then) is)
+  last_before (task.Global x) busy is = absurd (other (follows_none task.Global (λ s. refl) (global.step m.poll.layout (register_of m x.g x.r) x found).then) is)
+  last_before (task.Register x) busy is = absurd (other (follows_none task.Register (λ s. refl) (register.step (register_of m x.g (register.read_of x)) x).then) is)
+  last_before (task.New x) busy is = absurd (other (new_none x.wanted x.stage) is)
+  last_before (task.Gc g x) busy is = absurd (other (gc_none g (wait.goes (wait.waiting x m.poll) found) (wait.gives (wait.waiting x m.poll) found)) is)
+  last_before task.Poll busy is = absurd (other (poll_none (poll.goes m.poll found) (poll.gives m.poll found)) is)
+  last_before (task.End g) busy is = absurd (cc)
+  last_before (task.Leave x) busy is = refl
+
+-- and began to leave with a leave
+pub last_begun : (shapes : List Shape) (m : Processor) (o : Op) → is_last_task (begins_at shapes m o) ≡ true → o ≡ op.Leave
+last_begun shapes m op.Leave is = refl
+last_begun shapes m (op.New g d t) is = absurd (cc)
+last_begun shapes m (op.Load g d b i) is = absurd (cc)
+last_begun shapes m (op.Store g b i c) is = absurd (cc)
+last_begun shapes m (op.GetGlobal g d i) is = absurd (cc)
+last_begun shapes m (op.SetGlobal g i c) is = absurd (cc)
+last_begun shapes m (op.Int g d n) is = absurd (cc)
+last_begun shapes m (op.Move g d c) is = absurd (cc)
+last_begun shapes m (op.Nil g d) is = absurd (cc)
+last_begun shapes m (op.Gc g) is = absurd (cc)
+last_begun shapes m op.Poll is = absurd (cc)
+last_begun shapes m (op.End g) is = absurd (cc)

@@ -1,0 +1,82 @@
+-- What lower crates say, as the lemmas of lists of all actors use it.
+use Rattle.std.proofs.Common.{ℕ, Bool, List, ◌∷◌}
+use Rattle.gh_base.specs.Steps.{ChangesOneCell}
+use Rattle.gh_heap.specs.Laws.{EachFactLasts, EachMoveKeeps, EachMoveLeaves, TheHeapIsApart}
+use Rattle.gh_marks.specs.Laws.{MarkingBegins}
+use Rattle.gh_sweep.specs.Runs.{EachCountIsExact}
+use Rattle.gh_sweep.specs.Sweepers.{SweepsAmongOthers}
+use Rattle.gh_cycle.specs.Allocating.{AllocationGoesOn, CalmIsFound, CalmLasts, CountedLasts}
+use Rattle.gh_cycle.specs.Ending.{CyclesEnd, HeapsOpen, MarksStayWords, PagesStayPacked, SlotsAreRead, SpansLast}
+use Rattle.gh_cycle.specs.Marked.{ObjectsAreKnown, TheCycleLasts, TheMarkedAreReached, TheReachedAreMarked}
+use Rattle.gh_cycle.specs.Opening.{CyclesOpen}
+use Rattle.gh_cycle.specs.Reached.{BoundsLast, PlacesAreDecided, TheReachedWereMade}
+use Rattle.gh_cycle.specs.Sweeping.{CountsAreTold, OnlyTheReachedAreLeft, SweepingBegins, SweepingEnds, SweepingKeepsTheHeap, SweepsMoveSo}
+use Rattle.gh_mutator.specs.Calm.{CalmProcessorsMarkNothing}
+use Rattle.gh_mutator.specs.Deeds.{OnlyPointsChange, ProcessorsDeedsFit}
+use Rattle.gh_mutator.specs.ProcessorMarks.{MarksByMoves}
+use Rattle.gh_mutator.specs.ProcessorPlaces.{party_of, ProcessorInHandshake, stage_of}
+use Rattle.gh_mutator.specs.Runs.{RunsByItsRights}
+use Rattle.gh_mutator.specs.Writing.{ProcessorWritesItsOwn, StacksAreNoted}
+use Rattle.gh_worker.specs.Writing.{CalmWorkersMarkNothing, WorkersWriteTheirOwn}
+use Rattle.gh_world.specs.ActorsMark.{Sound}
+use Rattle.gh_world.specs.Handshake.{KeepsIt, StepKeepsIt}
+use Rattle.gh_world.specs.HoldVocabulary.{Entry, IsLed, Layout, Legal, Op, Pacing, Shape}
+use Rattle.gh_world.specs.KeepsToPolls.{those}
+use Rattle.gh_world.specs.Numbers.{CountsCycles, IsFew}
+use Rattle.gh_world.specs.Waits.{StacksAreNumbered, WorkersRest}
+use Rattle.gh_base.specs.Lists.{words_after}
+use Rattle.gh_coord.specs.Listing.{Coordinating}
+
+-- of steps and moves
+pub record Known : Type 0 where
+  pub one : ChangesOneCell
+  pub apart : TheHeapIsApart
+  pub keeps : EachMoveKeeps
+  pub leaves : EachMoveLeaves
+  pub last : EachFactLasts
+  pub sweeps : SweepsAmongOthers
+  pub exact : EachCountIsExact
+  pub runs : RunsByItsRights
+  pub marks : MarksByMoves
+  pub writes : ProcessorWritesItsOwn
+  pub calm : CalmProcessorsMarkNothing
+  pub notes : StacksAreNoted
+  pub points : OnlyPointsChange
+  pub places : ProcessorInHandshake
+  pub workers_write : WorkersWriteTheirOwn
+  pub workers_calm : CalmWorkersMarkNothing
+  pub packed : PagesStayPacked
+  pub mark_words : MarksStayWords
+  pub slots : SlotsAreRead
+  pub spans_last : SpansLast
+  pub ends : CyclesEnd
+  pub heaps_open : HeapsOpen
+  pub begins : SweepingBegins
+  pub keeps_heap : SweepingKeepsTheHeap
+  pub sweep_ends : SweepingEnds
+  pub only : OnlyTheReachedAreLeft
+  pub goes_on : AllocationGoesOn
+  pub found : CalmIsFound
+  pub calm_lasts : CalmLasts
+  pub counted_lasts : CountedLasts
+  pub told : CountsAreTold
+  pub sweeps_move : SweepsMoveSo
+  pub decided : PlacesAreDecided
+  pub made : TheReachedWereMade
+  pub bounds : BoundsLast
+  pub opens : CyclesOpen
+  pub objects : ObjectsAreKnown
+  pub cycle_lasts : TheCycleLasts
+  pub reached : TheReachedAreMarked
+  pub marked : TheMarkedAreReached
+  pub marking : MarkingBegins
+  pub fit : ProcessorsDeedsFit
+
+-- of the lists of this heap
+pub record ListsKnown (shapes : List Shape) (l : Layout) (pacing : Pacing) (may : ℕ → List (Entry Op) → Op → Bool) : Type 0 where
+  pub keeps : (es : List (Entry Op)) → Legal (those shapes l pacing may) es → KeepsIt Sound party_of stage_of (those shapes l pacing may) es
+  pub steps : (e : Entry Op) (es : List (Entry Op)) → Legal (those shapes l pacing may) (e ∷ es) → StepKeepsIt Sound party_of stage_of (those shapes l pacing may) e es
+  pub few : (es : List (Entry Op)) → Legal (those shapes l pacing may) es → IsFew es
+  pub counts : (es : List (Entry Op)) (c : Coordinating) → Legal (those shapes l pacing may) es → IsLed shapes l pacing may es c → CountsCycles (those shapes l pacing may) pacing.room es c
+  pub numbers : (es : List (Entry Op)) → Legal (those shapes l pacing may) es → StacksAreNumbered (words_after (those shapes l pacing may).opening es)
+  pub rests : (es : List (Entry Op)) → Legal (those shapes l pacing may) es → WorkersRest (those shapes l pacing may) es

@@ -1,0 +1,210 @@
+-- The coordinator between two cycles, and while it opens one: what holds behind each of its steps, up to the store of the phase of marking.
+use Rattle.std.proofs.Common.{◌≡◌, ◌⊎◌, inl, inr, ℕ, ◌+◌, ◌<◌, ◌≤◌, ◌==◌, Bool, true, false, cond, ltb, refl, sym, ap, subst, ◌∙◌, arith, List, ◌∷◌, Option, Some, None}
+use Rattle.std.proofs.lemmas.Bool.Decides.{nat_tests}
+use Rattle.gh_base.specs.declared.cell.Ask.{Ask}
+use Rattle.gh_base.specs.declared.cell.Cell.TheVariants as cell
+use Rattle.gh_base.specs.declared.pack.TheConstants.{END, GONE}
+use Rattle.gh_base.specs.Cells.{Words}
+use Rattle.gh_base.specs.Steps.{effect}
+use Rattle.gh_coord.specs.declared.coord.CoordStage.{CoordStage}
+use Rattle.gh_coord.specs.declared.coord.CoordStage.TheVariants.{LoadAck, LoadWant, Open, Stop}
+use Rattle.gh_coord.specs.declared.open.OpenStage.{OpenStage}
+use Rattle.gh_coord.specs.declared.open.OpenStage.TheVariants as opening
+use Rattle.gh_coord.specs.declared.stop.StopStage.{StopStage}
+use Rattle.gh_coord.specs.declared.stop.StopStage.TheVariants as stopping
+use Rattle.gh_coord.specs.Handshake as leading
+use Rattle.gh_coord.specs.Listing as coord
+use Rattle.gh_coord.specs.Opening as opens_by
+use Rattle.gh_coord.specs.Stopping as stop
+use Rattle.gh_cycle.specs.Allocating.{IsFoundCalm}
+use Rattle.gh_phase.specs.declared.view.RunPhase.TheVariants as run
+use Rattle.gh_phase.specs.Handshake.{Stopped}
+use Rattle.gh_world.specs.Numbers.{ahead_at, part_of}
+use Rattle.gh_world.specs.Handshake.{Pacing}
+use Rattle.gh_world.specs.ActorsHold.{HasCursor, HoldsAt, IsOpening, IsQuiet, IsReady}
+use Rattle.gh_world.specs.HoldVocabulary.{acks_of, arena, Arena, Coordinating, Entry, IsLed, Layout, Legal, Op, Shape, words}
+use Rattle.gh_world.specs.KeepsToPolls.{those}
+use Rattle.gh_world.proofs.AllActors.Aside.{IsAside, loads, loads_only, phase_only, stores_begun, stores_cursor, stores_live, stores_phase, stores_slack, stores_tally, stores_trigger, stores_want, stores_work, TellsNothing}
+use Rattle.gh_world.proofs.AllActors.Known.{Known, ListsKnown}
+use Rattle.gh_world.proofs.AllActors.LeadingSeat.{asked_at, from, is_still, led_then, goes_at as goes_by, owes_nothing}
+use Rattle.gh_world.proofs.AllActors.Quiet.{quiet_goes_on, ready_goes_on}
+
+-- each request of an opening leaves the heap as it is
+opens_aside : (o : opens_by.CycleOpening) (p : OpenStage) → IsAside (opens_by.asks_at o p)
+opens_aside o opening.ClearWant = stores_want 0
+opens_aside o opening.ClearGcur = stores_cursor 0
+opens_aside o opening.ClearTally = stores_tally 0
+opens_aside o opening.ClearLive = stores_live 0
+opens_aside o opening.StoreTrigger = stores_trigger _
+opens_aside o opening.LoadHeap = loads _
+opens_aside o opening.StoreWork = stores_work _
+opens_aside o opening.StoreSlack = stores_slack _
+opens_aside o opening.StoreBegun = stores_begun _
+opens_aside o opening.StorePhase = stores_phase _
+opens_aside o opening.Ended = loads _
+
+-- and the cursor, once it is cleared
+opens_cursor : (o : opens_by.CycleOpening) (p : OpenStage) (w : Words) → HasCursor (w cell.Gcur) p → HasCursor (effect w (opens_by.asks_at o p) cell.Gcur) (opens_by.behind p)
+opens_cursor o opening.ClearWant w h = tt
+opens_cursor o opening.ClearGcur w h = refl
+opens_cursor o opening.ClearTally w h = h
+opens_cursor o opening.ClearLive w h = h
+opens_cursor o opening.StoreTrigger w h = h
+opens_cursor o opening.LoadHeap w h = h
+opens_cursor o opening.StoreWork w h = h
+opens_cursor o opening.StoreSlack w h = h
+opens_cursor o opening.StoreBegun w h = h
+opens_cursor o opening.StorePhase w h = h
+opens_cursor o opening.Ended w h = h
+
+-- each request of a stop is a load, or stores the phase
+stops_tell : (st : stop.Stopping) (p : StopStage) → TellsNothing (stop.asks_at st p)
+stops_tell st stopping.StorePhase = phase_only _
+stops_tell st (stopping.Await ack) = loads_only _
+stops_tell st stopping.Ended = loads_only _
+
+module _ (shapes : List Shape) (l : Layout) (pacing : Pacing) (may : ℕ → List (Entry Op) → Op → Bool) (known : Known) (lists : ListsKnown shapes l pacing may) where
+  abbrev z : Arena
+  z = arena shapes l pacing may
+
+  -- In a world that is stopped for it, a cycle is ready to be opened, with the next number.
+  module _ (es : List (Entry Op)) (legal : Legal (those shapes l pacing may) es) (c d : Coordinating) (o : opens_by.CycleOpening) (led : IsLed shapes l pacing may es d) (at : d.stage ≡ Open o) (early : opens_by.is_busy o.stage ≡ true) (later : d.begun ≡ c.begun + 1) (q : IsQuiet shapes l pacing may es c) where
+    stopped : (p : OpenStage) → opens_by.is_busy p ≡ true → leading.open_post p ≡ Stopped run.Off
+    stopped opening.ClearWant b = refl
+    stopped opening.ClearGcur b = refl
+    stopped opening.ClearTally b = refl
+    stopped opening.ClearLive b = refl
+    stopped opening.StoreTrigger b = refl
+    stopped opening.LoadHeap b = refl
+    stopped opening.StoreWork b = refl
+    stopped opening.StoreSlack b = refl
+    stopped opening.StoreBegun b = refl
+    stopped opening.StorePhase b = refl
+    stopped opening.Ended b = absurd cc
+
+    post : leading.post_at d.stage ≡ Stopped run.Off
+    post = ap leading.post_at at ∙ stopped o.stage early
+
+    found : IsFoundCalm z q.heap q.spans
+    found = known.found.finds z q.end q.heap q.spans q.calm
+
+    pends : (a : ℕ) → q.spans.pend a ≡ 0
+    pends a = go (ltb a l.procs) refl where
+      go : (b : Bool) → ltb a l.procs ≡ b → q.spans.pend a ≡ 0
+      go true x = let lt : a < l.procs = grind (arith, nat_tests) in q.placing a lt ∙ owes_nothing shapes l pacing may known lists es legal d led run.Off post a lt
+      go false x = q.others_place a (grind (arith, nat_tests))
+
+    older : (g : ℕ) → (q.heap.words (cell.Scanned g) ≤ c.begun) ⊎ (q.heap.words (cell.Scanned g) ≡ END) → (q.heap.words (cell.Scanned g) < d.begun) ⊎ (q.heap.words (cell.Scanned g) ≡ END)
+    older g (inl x) = inl (omega (arith, x, later))
+    older g (inr x) = inr x
+
+    pub ready : IsReady shapes l pacing may es d
+    ready = record {
+      heap = q.heap;
+      of_list = q.of_list;
+      good = q.calm.heap;
+      packed = found.packed;
+      counted = found.counted (is_still shapes l pacing may known lists es legal d led run.Off post q.heap q.of_list) pends;
+      marks = found.marks;
+      buffers = q.buffers;
+      stacks = λ g. older g (q.stacks g);
+      processors = q.processors;
+    }
+
+  -- The entry.
+  module _ (e : Entry Op) (es : List (Entry Op)) (legal : Legal (those shapes l pacing may) (e ∷ es)) (c : Coordinating) (led : IsLed shapes l pacing may es c) (by : e.actor ≡ acks_of l) where
+    abbrev u : Coordinating
+    u = coord.counted c
+
+    abbrev To : Coordinating → Type 0
+    To d = HoldsAt shapes l pacing may (e ∷ es) d d.stage
+
+    ge : l.procs ≤ e.actor
+    ge = from shapes l pacing may known lists e es legal c led by
+
+    asks_so : (p : CoordStage) → c.stage ≡ p → e.ask ≡ coord.asks_at c p
+    asks_so p is = asked_at shapes l pacing may known lists e es legal c led by p is
+
+    -- between two cycles
+    pub still_quiet : TellsNothing e.ask → (d : Coordinating) → d.begun ≡ c.begun → IsQuiet shapes l pacing may es c → IsQuiet shapes l pacing may (e ∷ es) d
+    still_quiet tells d same q = quiet_goes_on shapes l pacing may known e es legal ge tells c d same q
+
+    tells_at : (p : CoordStage) → c.stage ≡ p → TellsNothing (coord.asks_at c p) → TellsNothing e.ask
+    tells_at p is t = subst TellsNothing (sym (asks_so p is)) t
+
+    pub acks : (i : ℕ) → c.stage ≡ LoadAck i → IsQuiet shapes l pacing may es c → To (coord.goes_at u (LoadAck i) e.found)
+    acks i is q = go (e.found == GONE) (ltb (i + 1) u.layout.procs) where
+      so : (d : Coordinating) → d.begun ≡ c.begun → IsQuiet shapes l pacing may (e ∷ es) d
+      so d same = still_quiet (tells_at (LoadAck i) is (loads_only _)) d same q
+
+      go : (b f : Bool) → To (cond b (cond f (coord.at_stage u (LoadAck (i + 1))) (coord.stops_world (record u { is_last = true }))) (coord.at_stage u LoadWant))
+      go true true = so _ refl
+      go true false = so _ refl
+      go false f = so _ refl
+
+    pub wants : c.stage ≡ LoadWant → IsQuiet shapes l pacing may es c → To (coord.goes_at u LoadWant e.found)
+    wants is q = go (e.found == 0) where
+      so : (d : Coordinating) → d.begun ≡ c.begun → IsQuiet shapes l pacing may (e ∷ es) d
+      so d same = still_quiet (tells_at LoadWant is (loads_only _)) d same q
+
+      go : (b : Bool) → To (cond b (coord.at_stage u (LoadAck 0)) (coord.stops_world u))
+      go true = so _ refl
+      go false = so _ refl
+
+    -- the number of the cycle that is to be opened
+    module _ (st : stop.Stopping) (is : c.stage ≡ Stop st) where
+      same_swept : words shapes l pacing may (e ∷ es) cell.Swept ≡ words shapes l pacing may es cell.Swept
+      same_swept = rw (asks_so (Stop st) is) (go st.stage) where
+        go : (p : StopStage) → effect (words shapes l pacing may es) (stop.asks_at st p) cell.Swept ≡ words shapes l pacing may es cell.Swept
+        go stopping.StorePhase = refl
+        go (stopping.Await ack) = refl
+        go stopping.Ended = refl
+
+      was_number : c.begun ≡ words shapes l pacing may es cell.Swept + 0
+      was_number = (subst (λ (p : CoordStage). c.begun ≡ words shapes l pacing may es cell.Swept + (ahead_at (part_of p)).numbered) is (lists.counts es c legal.0 led).number)
+
+      module _ (d : Coordinating) (led_d : IsLed shapes l pacing may (e ∷ es) d) (at : d.stage ≡ Open (opens_by.opening u.layout u.stops (coord.next_cycle u.begun))) where
+        pub next_number : d.begun ≡ c.begun + 1
+        next_number =
+            let now : d.begun ≡ words shapes l pacing may (e ∷ es) cell.Swept + 1 = subst (λ (p : CoordStage). d.begun ≡ words shapes l pacing may (e ∷ es) cell.Swept + (ahead_at (part_of p)).numbered) at (lists.counts (e ∷ es) d legal led_d).number in
+            omega (arith, now, was_number, same_swept)
+
+      pub stops : IsQuiet shapes l pacing may es c → To (coord.goes_at u (Stop st) e.found)
+      stops q = go (stop.gives st e.found) refl where
+        quiet_then : IsQuiet shapes l pacing may (e ∷ es) c
+        quiet_then = still_quiet (tells_at (Stop st) is (stops_tell st st.stage)) c refl q
+
+        go : (out : Option (Unit {0})) → stop.gives st e.found ≡ out → To (coord.after_stop (coord.at_stage u (Stop (stop.goes st e.found))) out)
+        go None x = still_quiet (tells_at (Stop st) is (stops_tell st st.stage)) _ refl q
+        go (Some y) x =
+            let d_is : coord.goes c e.found ≡ coord.opens (coord.at_stage u (Stop (stop.goes st e.found))) = goes_by shapes l pacing may known lists e es legal c led by (Stop st) is ∙ ap (coord.after_stop (coord.at_stage u (Stop (stop.goes st e.found)))) x in
+            let led_d : IsLed shapes l pacing may (e ∷ es) (coord.opens (coord.at_stage u (Stop (stop.goes st e.found)))) = subst (IsLed shapes l pacing may (e ∷ es)) d_is (led_then shapes l pacing may known lists e es legal c led by) in
+            (ready (e ∷ es) legal c _ _ led_d refl refl (next_number _ led_d refl) quiet_then, tt)
+
+    -- while a cycle is opened
+    pub opens : (o : opens_by.CycleOpening) → c.stage ≡ Open o → IsOpening shapes l pacing may es c o.stage → To (coord.goes_at u (Open o) e.found)
+    opens o is r = go o.stage refl where
+      aside : IsAside e.ask
+      aside = subst IsAside (sym (asks_so (Open o) is)) (opens_aside o o.stage)
+
+      so : (d : Coordinating) → d.begun ≡ c.begun → IsOpening shapes l pacing may (e ∷ es) d (opens_by.behind o.stage)
+      so d same = (ready_goes_on shapes l pacing may known e es legal ge aside c d same r.0, subst (λ (q : Ask). HasCursor (effect (words shapes l pacing may es) q cell.Gcur) (opens_by.behind o.stage)) (sym (asks_so (Open o) is)) (opens_cursor o o.stage (words shapes l pacing may es) r.1))
+
+      there : (p : OpenStage) → o.stage ≡ p → (d : Coordinating) → d.begun ≡ c.begun → IsOpening shapes l pacing may (e ∷ es) d (opens_by.behind p)
+      there p x d same = subst (λ (y : OpenStage). IsOpening shapes l pacing may (e ∷ es) d (opens_by.behind y)) x (so d same)
+
+      by_stage : (p : OpenStage) → o.stage ≡ p → To (coord.after_open (coord.at_stage u (Open (record o { stage = opens_by.behind p }))) (opens_by.given_at (opens_by.behind p)))
+      by_stage opening.ClearWant x = there _ x _ refl
+      by_stage opening.ClearGcur x = there _ x _ refl
+      by_stage opening.ClearTally x = there _ x _ refl
+      by_stage opening.ClearLive x = there _ x _ refl
+      by_stage opening.StoreTrigger x = there _ x _ refl
+      by_stage opening.LoadHeap x = there _ x _ refl
+      by_stage opening.StoreWork x = there _ x _ refl
+      by_stage opening.StoreSlack x = there _ x _ refl
+      by_stage opening.StoreBegun x = there _ x _ refl
+      by_stage opening.StorePhase x = tt
+      by_stage opening.Ended x = tt
+
+      go : (p : OpenStage) → o.stage ≡ p → To (coord.goes_at u (Open o) e.found)
+      go p x = subst (λ (y : OpenStage). To (coord.after_open (coord.at_stage u (Open (record o { stage = opens_by.behind y }))) (opens_by.given_at (opens_by.behind y)))) (sym x) (by_stage p x)

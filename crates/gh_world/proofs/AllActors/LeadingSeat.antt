@@ -1,0 +1,108 @@
+-- The entry of the coordinator: which step it is, where it leads, and what of the processors it leaves; and a world that is stopped, in which nobody holds anything.
+use Rattle.std.proofs.Common.{◌≡◌, ℕ, ◌<◌, ◌≤◌, Bool, true, false, ltb, refl, sym, ap, ◌∙◌, arith, List, ◌∷◌, None}
+use Rattle.std.proofs.lemmas.Bool.Decides.{nat_tests}
+use Rattle.gh_base.specs.declared.cell.Ask.{Ask}
+use Rattle.gh_base.specs.Steps.{cell_of}
+use Rattle.gh_coord.specs.declared.coord.CoordStage.{CoordStage}
+use Rattle.gh_coord.specs.Handshake as leading
+use Rattle.gh_coord.specs.Listing as coord
+use Rattle.gh_cycle.specs.Ending.{IsStill}
+use Rattle.gh_mutator.specs.declared.new.NewStage.TheVariants as new
+use Rattle.gh_mutator.specs.declared.task.Task.TheVariants as task
+use Rattle.gh_mutator.specs.ProcessorPlaces.{new_stage_at, stage_at}
+use Rattle.gh_mutator.specs.Vocabulary.{Polling}
+use Rattle.gh_phase.specs.declared.view.RunPhase.{RunPhase}
+use Rattle.gh_phase.specs.Handshake.{Stopped}
+use Rattle.gh_phase.specs.Shakes.{IsParked}
+use Rattle.gh_world.specs.declared.handshake.Actor.{Actor}
+use Rattle.gh_world.specs.declared.handshake.Actor.TheVariants as actor
+use Rattle.gh_world.specs.Handshake.{actors, is_busy, asks, Pacing}
+use Rattle.gh_world.specs.ActorsHold.{IsHeapOf, processor_at, uncounted, uncounted_new}
+use Rattle.gh_world.specs.HoldVocabulary.{acks_of, actors_after, arena, Arena, Coordinating, Entry, Heap, IsLed, Layout, Legal, NewStage, Op, Processor, processor_kind, Right, Shape, stage_of, started, Task, view, words}
+use Rattle.gh_world.specs.KeepsToPolls.{those}
+use Rattle.gh_world.proofs.AllActors.Known.{Known, ListsKnown}
+use Rattle.gh_world.proofs.AllActors.Resting.{runs_are}
+use Rattle.gh_world.proofs.CycleMarking.Seats.{lead_started, leads}
+
+-- what was placed and not counted is of a processor that makes an object, so it is not parked
+parked_new : (p : Polling) (stops : ℕ) (s : NewStage) → IsParked stops (new_stage_at p s) → uncounted_new s ≡ 0
+parked_new p stops (new.Search waited q) parked = refl
+parked_new p stops (new.Wait x) parked = refl
+parked_new p stops (new.Place x) parked = absurd parked
+
+parked_at : (p : Polling) (stops : ℕ) (q : Task) → IsParked stops (stage_at p q) → uncounted q ≡ 0
+parked_at p stops (task.New x) parked = parked_new p stops x.stage parked
+parked_at p stops task.Idle parked = refl
+parked_at p stops task.Left parked = refl
+parked_at p stops (task.Load x) parked = refl
+parked_at p stops (task.Store x) parked = refl
+parked_at p stops (task.Global x) parked = refl
+parked_at p stops (task.Register x) parked = refl
+parked_at p stops (task.Gc g x) parked = refl
+parked_at p stops task.Poll parked = refl
+parked_at p stops (task.End g) parked = refl
+parked_at p stops (task.Leave x) parked = refl
+
+module _ (shapes : List Shape) (l : Layout) (pacing : Pacing) (may : ℕ → List (Entry Op) → Op → Bool) where
+  abbrev at : List (Entry Op) → ℕ → Actor Processor
+  at es a = actors_after (arena shapes l pacing may) (processor_kind shapes l) pacing may es a
+
+  abbrev Led : List (Entry Op) → Coordinating → Type 0
+  Led es c = IsLed shapes l pacing may es c
+
+  module _ (known : Known) (lists : ListsKnown shapes l pacing may) where
+    abbrev z : Arena
+    z = arena shapes l pacing may
+
+    -- Where the world is stopped.
+    module _ (es : List (Entry Op)) (legal : Legal (those shapes l pacing may) es) (c : Coordinating) (led : Led es c) (phase : RunPhase) (post : leading.post_at c.stage ≡ Stopped phase) where
+      pub parked : (a : ℕ) → a < l.procs → IsParked (leading.lead_of c).stops (stage_of (processor_at shapes l pacing may es a))
+      parked a lt = (lists.keeps es legal).processors_wait c phase a (processor_at shapes l pacing may es a) led post (omega (arith, lt)) (runs_are shapes l pacing may es a lt)
+
+      pub owes_nothing : (a : ℕ) → a < l.procs → uncounted (processor_at shapes l pacing may es a).task ≡ 0
+      owes_nothing a lt = parked_at (processor_at shapes l pacing may es a).poll _ (processor_at shapes l pacing may es a).task (parked a lt)
+
+      module _ (h : Heap) (of : IsHeapOf shapes l pacing may es h) where
+        has_nothing : (a : ℕ) → Right a (view h) false (λ p. false) None
+        has_nothing a = go (ltb a l.procs) refl where
+          go : (b : Bool) → ltb a l.procs ≡ b → Right a (view h) false (λ p. false) None
+          go true x = let lt : a < l.procs = grind (arith, nat_tests) in (known.runs.parked z a (view h) _ _ _ (parked a lt) (of.processors a lt).fine).0
+          go false x = of.others a (grind (arith, nat_tests))
+
+        pub is_still : IsStill h
+        is_still = record {
+          unlocked = λ a. (has_nothing a).locked;
+          none_held = λ a p. (has_nothing a).holds p;
+          none_laid = λ a. (has_nothing a).laying;
+          none_freed = λ a. (has_nothing a).freeing;
+        }
+
+    -- The entry.
+    module _ (e : Entry Op) (es : List (Entry Op)) (legal : Legal (those shapes l pacing may) (e ∷ es)) (c : Coordinating) (led : Led es c) (by : e.actor ≡ acks_of l) where
+      pub from : l.procs ≤ e.actor
+      from = omega (arith, by)
+
+      led_there : at es e.actor ≡ actor.Leads c
+      led_there = ap (at es) by ∙ led
+
+      begun_is : started (actors l (processor_kind shapes l) pacing) e.begun (at es e.actor) ≡ actor.Leads c
+      begun_is = ap (started (actors l (processor_kind shapes l) pacing) e.begun) led_there ∙ lead_started l (processor_kind shapes l) pacing e.begun c
+
+      pub busy : coord.is_busy c.stage ≡ true
+      busy = sym (ap (is_busy (processor_kind shapes l)) begun_is) ∙ legal.1.runs
+
+      pub asked : e.ask ≡ coord.asks c
+      asked = legal.1.asks ∙ ap (asks (processor_kind shapes l)) begun_is
+
+      pub found_is : e.found ≡ words shapes l pacing may es (cell_of (coord.asks c))
+      found_is = legal.1.found ∙ ap (λ (q : Ask). words shapes l pacing may es (cell_of q)) asked
+
+      pub led_then : Led (e ∷ es) (coord.goes c e.found)
+      led_then = sym (ap (at (e ∷ es)) by) ∙ leads l (processor_kind shapes l) pacing e es c led_there
+
+      -- at this stage
+      pub asked_at : (p : CoordStage) → c.stage ≡ p → e.ask ≡ coord.asks_at c p
+      asked_at p is = asked ∙ ap (coord.asks_at c) is
+
+      pub goes_at : (p : CoordStage) → c.stage ≡ p → coord.goes c e.found ≡ coord.goes_at (coord.counted c) p e.found
+      goes_at p is = ap (λ (q : CoordStage). coord.goes_at (coord.counted c) q e.found) is

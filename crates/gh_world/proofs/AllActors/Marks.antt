@@ -1,0 +1,195 @@
+-- While a cycle is marked: what is known of the heap says what is known of its objects, and lasts while workers and the coordinator step.
+use Rattle.std.proofs.Common.{◌≡◌, ◌≢◌, ℕ, Bool, false, cond, refl, sym, ap, subst, ◌∙◌, List}
+use Rattle.gh_base.specs.declared.cell.Ask.{Ask}
+use Rattle.gh_base.specs.declared.cell.Ask.TheVariants.{Add, And, Load, Or, Store, Swap}
+use Rattle.gh_base.specs.declared.cell.Cell.{Cell}
+use Rattle.gh_base.specs.declared.cell.Cell.TheVariants as cell
+use Rattle.gh_base.specs.Cells.{same_cell, Words}
+use Rattle.gh_base.specs.Steps.{cell_of, ChangesOneCell, effect, left}
+use Rattle.gh_heap.specs.Moves.{IsAside as IsAsideCell}
+use Rattle.gh_marks.specs.Knows.{KnowsObjects}
+use Rattle.gh_marks.specs.Moves.{goes, stays, Went}
+use Rattle.gh_cycle.specs.Ending.{MarksStayWords}
+use Rattle.gh_coord.specs.declared.close.CloseStage.{CloseStage}
+use Rattle.gh_coord.specs.declared.close.CloseStage.TheVariants as close_stage
+use Rattle.gh_coord.specs.declared.coord.CoordStage.{CoordStage}
+use Rattle.gh_coord.specs.declared.coord.CoordStage.TheVariants.{Check, Close, Count, Done, LoadAck, LoadWant, MarkOn, Open, Stop, StopAgain, Sweep, Tell, Watch}
+use Rattle.gh_coord.specs.declared.open.OpenStage.{OpenStage}
+use Rattle.gh_coord.specs.declared.open.OpenStage.TheVariants as open_stage
+use Rattle.gh_coord.specs.declared.stop.StopStage.{StopStage}
+use Rattle.gh_coord.specs.declared.stop.StopStage.TheVariants as stop_stage
+use Rattle.gh_coord.specs.declared.watch.WatchStage.{WatchStage}
+use Rattle.gh_coord.specs.declared.watch.WatchStage.TheVariants as watch_stage
+use Rattle.gh_coord.specs.Closing as close
+use Rattle.gh_coord.specs.Handshake as leading
+use Rattle.gh_coord.specs.Listing as coord
+use Rattle.gh_coord.specs.Listing.{Coordinating}
+use Rattle.gh_coord.specs.Opening as opens_by
+use Rattle.gh_coord.specs.Stopping as stop
+use Rattle.gh_coord.specs.Watching as watch
+use Rattle.gh_world.specs.Marking.{IsBeginning}
+use Rattle.gh_sweep.specs.Counts.{AreWords}
+use Rattle.gh_worker.specs.Writing.{IsWritten, WritesItsOwn}
+use Rattle.gh_world.specs.ActorsHold.{IsKnown}
+use Rattle.gh_world.specs.HoldVocabulary.{Arena, arena, Cycle, Entry, Good, IsBounded, IsCycleOf, Layout, Marking, mark_words, Op, Pacing, Shape, view}
+use Rattle.gh_world.proofs.AllActors.Aside.{beside_of, IsBeside, loads, stores_bank, stores_phase}
+use Rattle.gh_world.proofs.AllActors.Known.{Known}
+
+-- Words that a worker writes.
+
+-- the cell is none of those
+record IsApart (c : Cell) : Type 0 where
+  aside : IsAsideCell c
+  heap : same_cell c cell.Heap ≡ false
+  page : (i : ℕ) → same_cell c (cell.Page i) ≡ false
+  alloc : (i : ℕ) → same_cell c (cell.Alloc i) ≡ false
+  global : (i : ℕ) → same_cell c (cell.Global i) ≡ false
+  scanned : (i : ℕ) → same_cell c (cell.Scanned i) ≡ false
+
+apart_cell : (seat : ℕ) (c : Cell) → IsWritten seat c → IsApart c
+apart_cell seat (cell.Buffer b) is = record { aside = tt; heap = refl; page = λ i. refl; alloc = λ i. refl; global = λ i. refl; scanned = λ i. refl }
+apart_cell seat (cell.Entry b j) is = record { aside = tt; heap = refl; page = λ i. refl; alloc = λ i. refl; global = λ i. refl; scanned = λ i. refl }
+apart_cell seat (cell.Mark m) is = record { aside = tt; heap = refl; page = λ i. refl; alloc = λ i. refl; global = λ i. refl; scanned = λ i. refl }
+apart_cell seat (cell.Ack a) is = record { aside = tt; heap = refl; page = λ i. refl; alloc = λ i. refl; global = λ i. refl; scanned = λ i. refl }
+apart_cell seat cell.Touch is = absurd is
+apart_cell seat cell.Phase is = absurd is
+apart_cell seat cell.Gen is = absurd is
+apart_cell seat cell.Begun is = absurd is
+apart_cell seat cell.Swept is = absurd is
+apart_cell seat cell.Lock is = absurd is
+apart_cell seat cell.Want is = absurd is
+apart_cell seat cell.Bank is = absurd is
+apart_cell seat cell.Gcur is = absurd is
+apart_cell seat cell.Heap is = absurd is
+apart_cell seat cell.Trigger is = absurd is
+apart_cell seat cell.Work is = absurd is
+apart_cell seat cell.Slack is = absurd is
+apart_cell seat cell.Tally is = absurd is
+apart_cell seat cell.Live is = absurd is
+apart_cell seat (cell.Page i) is = absurd is
+apart_cell seat (cell.Alloc i) is = absurd is
+apart_cell seat (cell.Bitmap i) is = absurd is
+apart_cell seat (cell.Birth i) is = absurd is
+apart_cell seat (cell.Field i) is = absurd is
+apart_cell seat (cell.Global i) is = absurd is
+apart_cell seat (cell.Scanned i) is = absurd is
+
+module _ (one : ChangesOneCell) where
+  leaves : (ask : Ask) (w : Words) (at : Cell) → same_cell (cell_of ask) at ≡ false → effect w ask at ≡ w at
+  leaves ask w at apart = one w ask at ∙ ap (λ (b : Bool). cond b (left ask (w (cell_of ask))) (w at)) apart
+
+  beside_by : (ask : Ask) → Rattle.gh_heap.specs.Moves.IsQuiet ask → IsApart (cell_of ask) → IsBeside ask
+  beside_by ask quiet is = record {
+    quiet = quiet;
+    heap = λ w. leaves ask w cell.Heap is.heap;
+    page = λ w i. leaves ask w (cell.Page i) (is.page i);
+    alloc = λ w i. leaves ask w (cell.Alloc i) (is.alloc i);
+    global = λ w i. leaves ask w (cell.Global i) (is.global i);
+    scanned = λ w i. leaves ask w (cell.Scanned i) (is.scanned i);
+  }
+
+  cursor_apart : IsApart cell.Gcur
+  cursor_apart = record { aside = tt; heap = refl; page = λ i. refl; alloc = λ i. refl; global = λ i. refl; scanned = λ i. refl }
+
+  pub works_beside : (seat : ℕ) (ask : Ask) → WritesItsOwn seat ask → IsBeside ask
+  works_beside seat (Load c) is = record { quiet = tt; heap = λ w. refl; page = λ w i. refl; alloc = λ w i. refl; global = λ w i. refl; scanned = λ w i. refl }
+  works_beside seat (Store c x) is = let d = apart_cell seat c is in beside_by (Store c x) d.aside d
+  works_beside seat (Or c x) is = let d = apart_cell seat c is in beside_by (Or c x) d.aside d
+  works_beside seat (And c x) is = let d = apart_cell seat c is in beside_by (And c x) d.aside d
+  works_beside seat (Swap c x y) is = let d = apart_cell seat c is in beside_by (Swap c x y) d.aside d
+  works_beside seat (Add c x) is = let d = subst IsApart (sym is.0) cursor_apart in beside_by (Add c x) d.aside d
+
+-- mark words are words behind moves
+pub words_stay : MarksStayWords → (z : Cycle) (a : ℕ) (s t : Marking) → Went z a s t → AreWords (mark_words s.words) → AreWords (mark_words t.words)
+words_stay known z a s t stays h = h
+words_stay known z a s t (goes v m w may) h = known.moves z a v m may (words_stay known z a s v w h)
+
+module _ (shapes : List Shape) (l : Layout) (pacing : Pacing) (may : ℕ → List (Entry Op) → Op → Bool) (known : Known) where
+  abbrev z : Arena
+  z = arena shapes l pacing may
+
+  pub objects : (c : Cycle) (s : Marking) (es : List (Entry Op)) → IsKnown shapes l pacing may c s es → KnowsObjects c s
+  objects c s es k = known.objects c k.heap s (subst (λ (x : Arena). Good x (view k.heap)) (sym k.arena_is) k.good) (subst (λ (x : Arena). IsBounded x k.heap.ever) (sym k.arena_is) k.of_list.bounded) (subst (λ (x : Arena). IsCycleOf x k.heap s) (sym k.arena_is) k.of_heap)
+
+  -- The entries of the coordinator that leave the cycle marked.
+
+  asks_phase : (x : ℕ) → IsBeside (Store cell.Phase x)
+  asks_phase x = beside_of (Store cell.Phase x) (stores_phase x)
+
+  asks_load : (c : Cell) → IsBeside (Load c)
+  asks_load c = beside_of (Load c) (loads c)
+
+  module _ (s : Coordinating) where
+    opens_beside : (o : opens_by.CycleOpening) (p : OpenStage) → p ≡ open_stage.StorePhase → IsBeside (opens_by.asks_at o p)
+    opens_beside o p is = subst (λ (x : OpenStage). IsBeside (opens_by.asks_at o x)) (sym is) (asks_phase _)
+
+    watch_beside : (w : watch.Watching) (p : WatchStage) → IsBeside (watch.asks_at w p)
+    watch_beside w (watch_stage.Look i) = asks_load _
+    watch_beside w (watch_stage.Ended x) = asks_load _
+
+    stop_beside : (st : stop.Stopping) (p : StopStage) → IsBeside (stop.asks_at st p)
+    stop_beside st stop_stage.StorePhase = asks_phase _
+    stop_beside st (stop_stage.Await i) = asks_load _
+    stop_beside st stop_stage.Ended = asks_load _
+
+    -- it ends no cycle
+    abbrev StaysMarked : CoordStage → Type 0
+    StaysMarked (Close c) = c.stage ≢ close_stage.StoreGen
+    StaysMarked _ = Unit {0}
+
+    close_beside : (c : close.Closing) (p : CloseStage) → p ≢ close_stage.StoreGen → IsBeside (close.asks_at c p)
+    close_beside c close_stage.LoadBank other = asks_load _
+    close_beside c close_stage.ClearBank other = beside_of (Store cell.Bank 0) (stores_bank 0)
+    close_beside c close_stage.StoreGen other = absurd (other refl)
+    close_beside c close_stage.Ended other = asks_load _
+
+    pub marks_beside : (p : CoordStage) → leading.Marks p → StaysMarked p → IsBeside (coord.asks_at s p)
+    marks_beside (Watch w) on still = watch_beside w w.stage
+    marks_beside (StopAgain st) on still = stop_beside st st.stage
+    marks_beside (Check w) on still = watch_beside w w.stage
+    marks_beside MarkOn on still = asks_phase _
+    marks_beside (Close c) on still = close_beside c c.stage still
+    marks_beside (LoadAck i) on still = absurd on
+    marks_beside LoadWant on still = absurd on
+    marks_beside (Stop st) on still = absurd on
+    marks_beside (Open o) on still = absurd on
+    marks_beside (Sweep w) on still = absurd on
+    marks_beside (Count x) on still = absurd on
+    marks_beside (Tell t) on still = absurd on
+    marks_beside Done on still = absurd on
+
+    pub begins_beside : (p : CoordStage) → IsBeginning p → IsBeside (coord.asks_at s p)
+    begins_beside (Open o) b = opens_beside o o.stage b
+    begins_beside (LoadAck i) b = absurd b
+    begins_beside LoadWant b = absurd b
+    begins_beside (Stop st) b = absurd b
+    begins_beside (Watch w) b = absurd b
+    begins_beside (StopAgain st) b = absurd b
+    begins_beside (Check w) b = absurd b
+    begins_beside MarkOn b = absurd b
+    begins_beside (Close c) b = absurd b
+    begins_beside (Sweep w) b = absurd b
+    begins_beside (Count x) b = absurd b
+    begins_beside (Tell t) b = absurd b
+    begins_beside Done b = absurd b
+
+    -- where the store of the next sweep generation leads, no cycle is marked
+    closes_off : (c : close.Closing) (found : ℕ) (p : CloseStage) → p ≡ close_stage.StoreGen → leading.Marks (coord.after_close (coord.at_stage s (Close (close.goes_at c p found))) (close.given (close.goes_at c p found))).stage → ⊥
+    closes_off c found p is on = go (subst (λ (x : CloseStage). leading.Marks (coord.after_close (coord.at_stage s (Close (close.goes_at c x found))) (close.given (close.goes_at c x found))).stage) is on) where
+      go : ⊥ → ⊥
+      go x = x
+
+    pub stays_marked : (p : CoordStage) (found : ℕ) → leading.Marks (coord.goes_at s p found).stage → StaysMarked p
+    stays_marked (Close c) found on = λ is. closes_off c found c.stage is on
+    stays_marked (LoadAck i) found on = tt
+    stays_marked LoadWant found on = tt
+    stays_marked (Stop st) found on = tt
+    stays_marked (Open o) found on = tt
+    stays_marked (Watch w) found on = tt
+    stays_marked (StopAgain st) found on = tt
+    stays_marked (Check w) found on = tt
+    stays_marked MarkOn found on = tt
+    stays_marked (Sweep w) found on = tt
+    stays_marked (Count x) found on = tt
+    stays_marked (Tell t) found on = tt
+    stays_marked Done found on = tt

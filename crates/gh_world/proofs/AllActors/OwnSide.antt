@@ -1,0 +1,421 @@
+-- A processor's step by its rights: it is a move over the heap, and what is said of the processor, of its stacks and of the globals holds behind it. So it is between two cycles, and while one is marked.
+use Rattle.std.proofs.Common.{◌≡◌, ◌≢◌, ◌↔◌, ℕ, ◌<◌, ◌≤◌, ◌==◌, ◌⊎◌, inl, inr, zero, suc, not, Bool, true, false, cond, refl, sym, ap, subst, ◌∙◌, arith, List, [], ◌∷◌, ◌++◌, append_assoc, map, slice_index, length, Option, Some, None, eq-eqb}
+use Rattle.std.proofs.lemmas.Bool.Decides.{nat_tests}
+use Rattle.std.specs.Prelude.{◌%◌, ◌||◌}
+use Rattle.std.specs.Option.{option_to_list}
+use Rattle.gh_base.specs.declared.cell.Ask.{Ask}
+use Rattle.gh_base.specs.declared.cell.Cell.TheVariants as cell
+use Rattle.gh_base.specs.declared.operation.Op.TheVariants as op
+use Rattle.gh_base.specs.declared.pack.TheConstants.{END}
+use Rattle.gh_base.specs.Cells.{InRange}
+use Rattle.gh_base.specs.declared.machine.Entry.{Entry as EntryOf}
+use Rattle.gh_base.specs.Lists.{by, Kind}
+use Rattle.gh_base.specs.Orders.{answered, Answered, answered_by, DeedsFit}
+use Rattle.gh_base.specs.Steps.{cell_of, effect, left as left_by}
+use Rattle.gh_cycle.specs.Reached.{IsBounded}
+use Rattle.gh_heap.specs.Moves.{moved, Steps}
+use Rattle.gh_model.specs.Ever.{Ever}
+use Rattle.gh_mutator.specs.declared.task.Task.TheVariants as task
+use Rattle.gh_mutator.specs.Deeds.{acted, given_at, has_point, meaning, pointed, point_of}
+use Rattle.gh_mutator.specs.Facts.{answered_at, Does, FactsAt, MayBegin}
+use Rattle.gh_mutator.specs.PollHeap.{Stands}
+use Rattle.gh_mutator.specs.Listing.{Act, acts, asks, begins, gives, is_busy_at, op_at, takes}
+use Rattle.gh_mutator.specs.Runs.{DoesPoints}
+use Rattle.gh_mutator.specs.Serving.{has_left_at}
+use Rattle.gh_mutator.specs.Writing.{TellsScan}
+use Rattle.gh_world.specs.declared.handshake.Actor.{Actor}
+use Rattle.gh_world.specs.Actors.{may_of}
+use Rattle.gh_world.specs.ActorsHold.{IsAsItShould, IsHeapOf, is_last_task, processor_at}
+use Rattle.gh_world.specs.Handshake.{actors, asks as asks_by}
+use Rattle.gh_world.specs.HoldVocabulary.{Answer, answers_of, arena, Arena, deeds, ended_in, Entry, ever, Fine, given_of, Good, Heap, IsInLimits, IsOf, IsSound, Layout, Legal, Op, opening_words, Pacing, Processor, processor_kind, Shape, ShapesAreGood, started, state_of, Task, view, words, Words}
+use Rattle.gh_world.specs.KeepsToPolls.{those}
+use Rattle.gh_world.specs.Order.{ends}
+use Rattle.gh_world.specs.Processors.{all_ended, may_leave}
+use Rattle.gh_world.specs.Vocabulary.{made_by}
+use Rattle.gh_world.proofs.AllActors.Beginning.{both, may-begin}
+use Rattle.gh_world.proofs.AllActors.Endings.{acted_stays, acts_end, end_ends, ended_by, is_end, last_before, last_begun}
+use Rattle.gh_world.proofs.AllActors.Globals.{no_global}
+use Rattle.gh_world.proofs.AllActors.Known.{Known}
+use Rattle.gh_world.proofs.AllActors.Moves.{moves_on, OwnSide}
+use Rattle.gh_world.proofs.AllActors.Ranging.{begins_so, bounded_then, busy_now, may_parts, unacted_begun}
+use Rattle.gh_world.proofs.AllActors.Refusals.{point_is}
+use Rattle.gh_world.proofs.AllActors.Resting.{runs_are}
+use Rattle.gh_world.proofs.AllActors.StackWords.{TellsStacks}
+use Rattle.gh_world.proofs.CycleMarking.Seats.{run_started}
+
+-- a state depends on its actor's own entries alone
+pub state_by : {M O : Type 0} (k : Kind M O) (a : ℕ) (es : List (EntryOf O)) → state_of k a (by a es) ≡ state_of k a es
+state_by k a [] = refl
+state_by k a (e ∷ es) = go (e.actor == a) refl (state_by k a es) where
+  go : (b : Bool) → (e.actor == a) ≡ b → state_of k a (by a es) ≡ state_of k a es → state_of k a (cond b (e ∷ by a es) (by a es)) ≡ cond b (k.takes (started k e.begun (state_of k a es)) e.found) (state_of k a es)
+  go true x before = rw x (ap (λ m. k.takes (started k e.begun m) e.found) before)
+  go false x before = before
+
+less_than : (n g : ℕ) → g < suc n → (n == g) ≡ false → g < n
+less_than n g below other = grind (arith, nat_tests)
+
+module _ (shapes : List Shape) (l : Layout) (pacing : Pacing) (counts : ℕ → ℕ) (good : ShapesAreGood shapes) (limits : IsInLimits l) (known : Known) where
+  abbrev may : ℕ → List (Entry Op) → Op → Bool
+  may = may_of shapes l counts
+
+  abbrev z : Arena
+  z = arena shapes l pacing may
+
+  abbrev k : Kind Processor Op
+  k = processor_kind shapes l
+
+  abbrev all : Kind (Actor Processor) Op
+  all = actors l k pacing
+
+  module _ (e : Entry Op) (es : List (Entry Op)) (legal : Legal (those shapes l pacing may) (e ∷ es)) (lt : e.actor < l.procs) (h : Heap) (of : IsHeapOf shapes l pacing may es h) (gh : Good z (view h)) (tells : TellsStacks h.words (started k e.begun (processor_at shapes l pacing may es e.actor))) where
+    abbrev a : ℕ
+    a = e.actor
+
+    abbrev m : Processor
+    m = processor_at shapes l pacing may es a
+
+    abbrev pub now : Processor
+    now = started k e.begun m
+
+    pub is : IsAsItShould shapes l pacing may es h a m
+    is = of.processors a lt
+
+    -- Where an operation begins.
+
+    pub begins_with : (P : Processor → Type 0) → P m → ((o : Op) → e.begun ≡ Some o → P (k.begins m o)) → P now
+    begins_with P none some = go e.begun refl where
+      go : (o : Option Op) → e.begun ≡ o → P now
+      go None x = subst (λ (y : Option Op). P (started k y m)) (sym x) none
+      go (Some o) x = subst (λ (y : Option Op). P (started k y m)) (sym x) (some o x)
+
+    pub idle : (o : Op) → e.begun ≡ Some o → is_busy_at m.task ≡ false
+    idle o x = (begins_so shapes l pacing counts known e es legal lt o x).idle
+
+    may_now : (o : Op) → e.begun ≡ Some o → may a (by a es) o ≡ true
+    may_now o x = (begins_so shapes l pacing counts known e es legal lt o x).may_now
+
+    pub sound_now : IsSound now
+    sound_now = begins_with IsSound is.sound (λ o x. known.writes.sound_begins shapes l m o is.sound (idle o x))
+
+    may_begin : (o : Op) → e.begun ≡ Some o → MayBegin z a (view h) o
+    may_begin o x = may-begin z a (view h) (state_of k a (by a es)) (by a es) (λ g its y. is.ended g its (inr y))
+        (λ g its. ap (λ (p : Processor). made_by p g) (state_by k a es) ∙ is.fine.counts.each g its) o (may_parts z counts a (state_of k a (by a es)) (by a es) o (may_now o x)).runs
+
+    rests : (o : Op) → e.begun ≡ Some o → is.pending ≡ None
+    rests o x = known.runs.rests z a (view h) m is.pending (idle o x) is.fine
+
+    pub fine_now : Fine z a (view h) now is.pending
+    fine_now = begins_with (λ p. Fine z a (view h) p is.pending) is.fine (λ o x. subst (Fine z a (view h) (k.begins m o)) (sym (rests o x))
+        (known.runs.begins z a (view h) m o good gh (subst (Fine z a (view h) m) (rests o x) is.fine) (idle o x) (λ going. may_begin o x)))
+
+    -- The step.
+
+    pub busy : is_busy_at now.task ≡ true
+    busy = busy_now shapes l pacing counts known e es legal lt
+
+    pub asked : e.ask ≡ asks now
+    asked = legal.1.asks ∙ ap (asks_by k) (ap (started all e.begun) (runs_are shapes l pacing may es a lt) ∙ run_started l k pacing e.begun m)
+
+    abbrev found : ℕ
+    found = h.words (cell_of (asks now))
+
+    pub found_is : e.found ≡ found
+    found_is = legal.1.found ∙ (ap (λ (q : Ask). words shapes l pacing may es (cell_of q)) asked ∙ ap (λ (w : Words). w (cell_of (asks now))) (sym of.words_are))
+
+    pub land : Steps z a h (asks now) (λ t. DoesPoints z a h t now is.pending found)
+    land = known.runs.own_step z a h now is.pending good busy gh fine_now
+
+    abbrev pub t : Heap
+    t = moved z a h land.move
+
+    abbrev does : Does z a h t now is.pending found
+    does = land.after.does
+
+    abbrev pub then : Processor
+    then = takes shapes now found
+
+    pub then_is : processor_at shapes l pacing may (e ∷ es) a ≡ then
+    then_is = rw (eq-eqb e.actor e.actor refl) (ap (takes shapes now) found_is)
+
+    pub words_are : t.words ≡ words shapes l pacing may (e ∷ es)
+    words_are = land.words_are ∙ (ap (effect h.words) (sym asked) ∙ ap (λ (w : Words). effect w e.ask) of.words_are)
+
+    pub ever_is : t.ever ≡ ever shapes l pacing may (e ∷ es)
+    ever_is = does.ever ∙ (ap (λ (n : ℕ). acted shapes h.ever (acts now n)) (sym found_is) ∙ (ap (λ (x : Ever). acted shapes x (acts now e.found)) of.ever_is ∙ sym ((known.points shapes l).follows es e)))
+
+    pub bounded : IsBounded z t.ever
+    bounded = subst (IsBounded z) (ap (λ (n : ℕ). acted shapes h.ever (acts now n)) found_is ∙ sym does.ever) (bounded_then shapes l pacing counts known e es legal lt h.ever of.bounded)
+
+    -- Who has ended.
+
+    ended_on : (g : ℕ) → h.ever.ended g ≡ true → t.ever.ended g ≡ true
+    ended_on g x = ap (λ (y : Ever). y.ended g) does.ever ∙ acted_stays shapes now found h.ever g (acts now found) x
+
+    ended_was : (g : ℕ) → t.ever.ended g ≡ true → (h.ever.ended g ≡ true) ⊎ (now.task ≡ task.End g)
+    ended_was g x = ended_by shapes now found h.ever g (ap (λ (y : Ever). y.ended g) (sym does.ever) ∙ x)
+
+    ends_it : (g : ℕ) → now.task ≡ task.End g → t.ever.ended g ≡ true
+    ends_it g x = ap (λ (y : Ever). y.ended g) does.ever ∙ end_ends shapes now found h.ever g x
+
+    pub word_ends : (g : ℕ) → now.task ≡ task.End g → t.words (cell.Scanned g) ≡ END
+    word_ends g x = ap (λ (w : Words). w (cell.Scanned g)) (land.words_are ∙ ap (effect h.words) (known.notes.ends now g x)) ∙ ap (λ (b : Bool). cond b END (h.words (cell.Scanned g))) (eq-eqb g g refl)
+
+    -- The words of stacks.
+
+    then_word : (g : ℕ) → t.words (cell.Scanned g) ≡ effect h.words (asks now) (cell.Scanned g)
+    then_word g = ap (λ (w : Words). w (cell.Scanned g)) land.words_are
+
+    word_is : (g : ℕ) → TellsScan now g → t.words (cell.Scanned g) ≡ now.poll.local.view.begun
+    word_is g x = then_word g ∙ (ap (λ (q : Ask). effect h.words q (cell.Scanned g)) x.tells ∙ ap (λ (b : Bool). cond b now.poll.local.view.begun (h.words (cell.Scanned g))) (eq-eqb g g refl))
+
+    goes_on : (g : ℕ) → (now.task ≡ task.End g → ⊥) → t.ever.ended g ≡ true → h.ever.ended g ≡ true
+    goes_on g other y = elim (ended_was g y) [ inl x ↦ x | inr x ↦ absurd (other x) ]
+
+    pub stacks : (g : ℕ) → (t.words (cell.Scanned g) ≡ END) ↔ (t.ever.ended g ≡ true)
+    stacks g = elim (is_end now.task g) [
+      | inl x ↦ (λ y. ends_it g x, λ y. word_ends g x)
+      | inr other ↦ elim (tells g other) [
+        | inl x ↦ (λ y. ended_on g ((of.stacks g).0 (sym (then_word g ∙ x.same) ∙ y)), λ y. then_word g ∙ (x.same ∙ (of.stacks g).1 (goes_on g other y)))
+        | inr x ↦ (λ y. absurd (x.number (sym (word_is g x.tells) ∙ y)), λ y. absurd (x.goes_on ((of.stacks g).1 (goes_on g other y))))
+      ]
+    ]
+
+    stands : Stands z a (view h) now.poll
+    stands = known.runs.stands z a (view h) now is.pending fine_now
+
+    own_goroutine : (g : ℕ) → TellsScan now g → z.seat_of g ≡ a
+    own_goroutine g x = ap (λ (y : Layout). g % y.procs) (sym stands.sits.layout) ∙ (x.own ∙ stands.sits.seat)
+
+    pub others_stacks : (b g : ℕ) → b ≢ a → IsOf z b g → t.words (cell.Scanned g) ≡ h.words (cell.Scanned g)
+    others_stacks b g apart its = elim (is_end now.task g) [
+      | inl x ↦ absurd (let f = subst (FactsAt z a (view h) now is.pending) x fine_now.task in apart (sym its.1 ∙ f.0.of.1))
+      | inr other ↦ elim (tells g other) [
+        | inl x ↦ then_word g ∙ x.same
+        | inr x ↦ absurd (apart (sym its.1 ∙ own_goroutine g x.tells))
+      ]
+    ]
+
+    -- What it has noted, begun and ended.
+
+    fit : DeedsFit k (deeds shapes)
+    fit = known.fit shapes l
+
+    noted_before : now.poll.local.scanned ≡ m.poll.local.scanned
+    noted_before = begins_with (λ p. p.poll.local.scanned ≡ m.poll.local.scanned) refl (λ o x. known.notes.begins shapes l m o is.sound)
+
+    there : (g : ℕ) → IsOf z a g → g < length now.poll.local.scanned
+    there g its =
+        let long = stands.sits.scanned in
+        let few = limits.goroutines_fit.1 in
+        let below = its.0 in
+        omega (arith, long, few, below)
+
+    notes : (g : ℕ) → IsOf z a g → slice_index then.poll.local.scanned g ≡ t.words (cell.Scanned g)
+    notes g its = elim (is_end now.task g) [
+      | inl x ↦ known.notes.notes shapes now found g END sound_now (known.notes.ends now g x) (there g its) ∙ sym (word_ends g x)
+      | inr other ↦ elim (tells g other) [
+        | inl x ↦ known.notes.keeps shapes now found g sound_now x.untold ∙ (ap (λ (xs : List ℕ). slice_index xs g) noted_before ∙ (is.notes g its ∙ sym (then_word g ∙ x.same)))
+        | inr x ↦ known.notes.notes shapes now found g now.poll.local.view.begun sound_now x.tells.tells (there g its) ∙ sym (word_is g x.tells)
+      ]
+    ]
+
+    abbrev unacted : Processor → Option Op
+    unacted p = (deeds shapes).unacted p
+
+    -- what was still to act, is still to act or acts now
+    acts_or_waits : (g : ℕ) → unacted now ≡ Some (op.End g) → (unacted then ≡ Some (op.End g)) ⊎ (t.ever.ended g ≡ true)
+    acts_or_waits g x = go ((deeds shapes).acts now found) refl where
+      go : (p : Option Act) → (deeds shapes).acts now found ≡ p → (unacted then ≡ Some (op.End g)) ⊎ (t.ever.ended g ≡ true)
+      go None none = inl (fit.goes_on now found busy none ∙ x)
+      go (Some p) some =
+          let same : Some p.op ≡ Some (op.End g) = sym (fit.acts_for now found p busy some) ∙ x in
+          let one : p.op ≡ op.End g = cc in
+          inr (ends_it g (acts_end now now.task found p g (point_is (acts now found) p some) one))
+
+    -- and nothing else is to act behind the step
+    was_waiting : (g : ℕ) → unacted then ≡ Some (op.End g) → unacted now ≡ Some (op.End g)
+    was_waiting g x = go ((deeds shapes).acts now found) refl where
+      go : (p : Option Act) → (deeds shapes).acts now found ≡ p → unacted now ≡ Some (op.End g)
+      go None none = sym (fit.goes_on now found busy none) ∙ x
+      go (Some p) some = absurd (let no : None ≡ Some (op.End g) = sym (fit.acts_once now found p busy some) ∙ x in cc)
+
+    -- what is to act now was so, or begins
+    waits_or_begins : (g : ℕ) → unacted now ≡ Some (op.End g) → (unacted m ≡ Some (op.End g)) ⊎ (e.begun ≡ Some (op.End g))
+    waits_or_begins g x = go e.begun refl where
+      by_point : (o : Op) → e.begun ≡ Some o → (b : Bool) → has_point o ≡ b → cond b (Some o) None ≡ Some (op.End g) → e.begun ≡ Some (op.End g)
+      by_point o begun true y same = let one : Some o ≡ Some (op.End g) = same in begun ∙ one
+      by_point o begun false y same = absurd (cc)
+
+      go : (o : Option Op) → e.begun ≡ o → (unacted m ≡ Some (op.End g)) ⊎ (e.begun ≡ Some (op.End g))
+      go None none = inl (sym (ap (λ (y : Option Op). unacted (started k y m)) none) ∙ x)
+      go (Some o) some = inr (by_point o some (has_point o) refl (sym (unacted_begun shapes l pacing counts known e es legal lt o some) ∙ x))
+
+    begins_end : (g : ℕ) → e.begun ≡ Some (op.End g) → unacted now ≡ Some (op.End g)
+    begins_end g x = unacted_begun shapes l pacing counts known e es legal lt (op.End g) x
+
+    own_entries : by a (e ∷ es) ≡ e ∷ by a es
+    own_entries = ap (λ (b : Bool). cond b (e ∷ by a es) (by a es)) (eq-eqb e.actor e.actor refl)
+
+    ended_here : (g : ℕ) → ended_in (by a (e ∷ es)) g ≡ (ends e.begun g || ended_in (by a es) g)
+    ended_here g = ap (λ (ys : List (Entry Op)). ended_in ys g) own_entries
+
+    or_left : (b c : Bool) → b ≡ true → (b || c) ≡ true
+    or_left b c x = ap (λ (y : Bool). y || c) x
+
+    or_right : (b c : Bool) → c ≡ true → (b || c) ≡ true
+    or_right true c x = refl
+    or_right false c x = x
+
+    or_cases : (b c : Bool) → (b || c) ≡ true → (b ≡ true) ⊎ (c ≡ true)
+    or_cases true c x = inl refl
+    or_cases false c x = inr x
+
+    ended_there : (g : ℕ) → IsOf z a g → unacted now ≡ Some (op.End g) → ended_in (by a (e ∷ es)) g ≡ true
+    ended_there g its x = ended_here g ∙ elim (waits_or_begins g x) [
+      | inl y ↦ or_right (ends e.begun g) (ended_in (by a es) g) (is.ended g its (inl y))
+      | inr y ↦ or_left (ends e.begun g) (ended_in (by a es) g) (ap (λ (o : Option Op). ends o g) y ∙ eq-eqb g g refl)
+    ]
+
+    end_acts : (g : ℕ) → now.task ≡ task.End g → unacted now ≡ Some (op.End g)
+    end_acts g x = ap (λ (q : Task). pointed (op_at q)) x
+
+    ended : (g : ℕ) → IsOf z a g → (unacted then ≡ Some (op.End g)) ⊎ (t.ever.ended g ≡ true) → ended_in (by a (e ∷ es)) g ≡ true
+    ended g its (inl x) = ended_there g its (was_waiting g x)
+    ended g its (inr x) = elim (ended_was g x) [
+      | inl y ↦ ended_here g ∙ or_right (ends e.begun g) (ended_in (by a es) g) (is.ended g its (inr y))
+      | inr y ↦ ended_there g its (end_acts g y)
+    ]
+
+    began_end : (o : Option Op) (g : ℕ) → ends o g ≡ true → o ≡ Some (op.End g)
+    began_end (Some (op.End h)) g x = let same : h ≡ g = grind (arith, nat_tests) in ap (λ (n : ℕ). Some (op.End n)) same
+    began_end None g x = absurd (cc)
+    began_end (Some (op.New h d i)) g x = absurd (cc)
+    began_end (Some (op.Load h d b i)) g x = absurd (cc)
+    began_end (Some (op.Store h b i c)) g x = absurd (cc)
+    began_end (Some (op.GetGlobal h d i)) g x = absurd (cc)
+    began_end (Some (op.SetGlobal h i c)) g x = absurd (cc)
+    began_end (Some (op.Int h d n)) g x = absurd (cc)
+    began_end (Some (op.Move h d c)) g x = absurd (cc)
+    began_end (Some (op.Nil h d)) g x = absurd (cc)
+    began_end (Some (op.Gc h)) g x = absurd (cc)
+    began_end (Some op.Poll) g x = absurd (cc)
+    began_end (Some op.Leave) g x = absurd (cc)
+
+    -- where none begins, what is still to act is as it was
+    still_waits : (g : ℕ) → unacted m ≡ Some (op.End g) → unacted now ≡ Some (op.End g)
+    still_waits g x = begins_with (λ p. unacted p ≡ Some (op.End g)) x (λ o y. absurd (let no : None ≡ Some (op.End g) = sym (fit.idle m (idle o y)) ∙ x in cc))
+
+    ends_here : (g : ℕ) → IsOf z a g → ended_in (by a (e ∷ es)) g ≡ true → (unacted then ≡ Some (op.End g)) ⊎ (t.ever.ended g ≡ true)
+    ends_here g its x = elim (or_cases (ends e.begun g) (ended_in (by a es) g) (sym (ended_here g) ∙ x)) [
+      | inl y ↦ acts_or_waits g (begins_end g (began_end e.begun g y))
+      | inr y ↦ elim (is.ends g its y) [
+        | inl w ↦ acts_or_waits g (still_waits g w)
+        | inr w ↦ inr (ended_on g w)
+      ]
+    ]
+
+    -- One that leaves has begun to do so where all its goroutines had ended.
+
+    all_ended_at : (n g : ℕ) → g < n → (z.seat_of g == a) ≡ true → all_ended z a (by a es) n ≡ true → ended_in (by a es) g ≡ true
+    all_ended_at zero g below seat x = absurd (omega (arith, below))
+    all_ended_at (suc n) g below seat x = go (n == g) refl (λ less. all_ended_at n g less seat (both (not (z.seat_of n == a) || ended_in (by a es) n) (all_ended z a (by a es) n) x).1) where
+      parts : ((not (z.seat_of n == a) || ended_in (by a es) n) ≡ true) × (all_ended z a (by a es) n ≡ true)
+      parts = both (not (z.seat_of n == a) || ended_in (by a es) n) (all_ended z a (by a es) n) x
+
+      go : (b : Bool) → (n == g) ≡ b → (g < n → ended_in (by a es) g ≡ true) → ended_in (by a es) g ≡ true
+      go false y before = before (less_than n g below y)
+      go true y before =
+          let same : n ≡ g = grind (arith, nat_tests) in
+          let one = subst (λ (j : ℕ). (not (z.seat_of j == a) || ended_in (by a es) j) ≡ true) same parts.0 in
+          sym (ap (λ (b : Bool). not b || ended_in (by a es) g) seat) ∙ one
+
+    left_now : is_last_task now.task ≡ true → (g : ℕ) → IsOf z a g → h.ever.ended g ≡ true
+    left_now last g its = go e.begun refl where
+      left_begun : (o : Op) → e.begun ≡ Some o → (b : Bool) → has_left_at m.task ≡ b → is_last_task (cond b m (begins shapes m o)).task ≡ true → h.ever.ended g ≡ true
+      left_begun o some true x last = is.left last g its
+      left_begun o some false x last =
+          let leave : o ≡ op.Leave = last_begun shapes m o last in
+          let m_may = may_parts z counts a (state_of k a (by a es)) (by a es) o (may_now o some) in
+          let leaves = subst (λ (y : Op). may_leave z a (by a es) y ≡ true) leave m_may.leaves in
+          let said = all_ended_at l.goroutines g its.0 (eq-eqb (z.seat_of g) a its.1) leaves in
+          elim (is.ends g its said) [ inl w ↦ absurd (let no : None ≡ Some (op.End g) = sym (fit.idle m (idle o some)) ∙ w in cc) | inr w ↦ w ]
+
+      go : (o : Option Op) → e.begun ≡ o → h.ever.ended g ≡ true
+      go None none = is.left (sym (ap (λ (y : Option Op). is_last_task (started k y m).task) none) ∙ last) g its
+      go (Some o) some = left_begun o some (has_left_at m.task) refl (sym (ap (λ (y : Option Op). is_last_task (started k y m).task) some) ∙ last)
+
+    left : is_last_task then.task ≡ true → (g : ℕ) → IsOf z a g → t.ever.ended g ≡ true
+    left last g its = ended_on g (left_now (last_before shapes now found now.task busy last) g its)
+
+    -- What it was answered.
+
+    abbrev first : Words
+    first = opening_words pacing.trigger
+
+    abbrev answer_of_act : Answered Act Answer → Answer
+    answer_of_act x = x.answer
+
+    answered_first : (x : Ever) (p : Option Act) (xs : List (Answered Act Answer)) → map answer_of_act (option_to_list (answered (meaning shapes) x p) ++ xs) ≡ option_to_list (answered_at shapes x p) ++ map answer_of_act xs
+    answered_first x None xs = refl
+    answered_first x (Some p) xs = refl
+
+    answers_here : answers_of z first a (e ∷ es) ≡ option_to_list (answered_at shapes h.ever (point_of (acts now found))) ++ answers_of z first a es
+    answers_here =
+        ap (λ (b : Bool). map answer_of_act (cond b (option_to_list (answered (meaning shapes) (ever shapes l pacing may es) (point_of (acts now e.found))) ++ answered_by k (deeds shapes) (meaning shapes) a es) (answered_by k (deeds shapes) (meaning shapes) a es))) (eq-eqb e.actor e.actor refl)
+        ∙ (answered_first (ever shapes l pacing may es) (point_of (acts now e.found)) (answered_by k (deeds shapes) (meaning shapes) a es)
+        ∙ (ap (λ (x : Ever). option_to_list (answered_at shapes x (point_of (acts now e.found))) ++ answers_of z first a es) (sym of.ever_is)
+        ∙ ap (λ (n : ℕ). option_to_list (answered_at shapes h.ever (point_of (acts now n))) ++ answers_of z first a es) found_is))
+
+    given_here : given_of z first a (e ∷ es) ≡ option_to_list (given_at now.task (gives now found)) ++ given_of z first a es
+    given_here =
+        ap (λ (b : Bool). cond b (option_to_list (given_at now.task (gives now e.found)) ++ given_of z first a es) (given_of z first a es)) (eq-eqb e.actor e.actor refl)
+        ∙ ap (λ (n : ℕ). option_to_list (given_at now.task (gives now n)) ++ given_of z first a es) found_is
+
+    answers : answers_of z first a (e ∷ es) ≡ option_to_list does.after ++ given_of z first a (e ∷ es)
+    answers =
+        let x = option_to_list (answered_at shapes h.ever (point_of (acts now found))) in
+        let y = option_to_list (given_at now.task (gives now found)) in
+        answers_here ∙ (ap (λ (ys : List Answer). x ++ ys) is.answers
+        ∙ (sym (append_assoc x (option_to_list is.pending) (given_of z first a es))
+        ∙ (ap (λ (ys : List Answer). ys ++ given_of z first a es) land.after.answers
+        ∙ (append_assoc (option_to_list does.after) y (given_of z first a es)
+        ∙ ap (λ (ys : List Answer). option_to_list does.after ++ ys) (sym given_here)))))
+
+    -- The globals, and all together.
+
+    pub globals : (i : ℕ) → l.globals ≤ i → t.words (cell.Global i) ≡ 0
+    globals i le =
+        let within : InRange l (cell_of (asks now)) = subst (λ (q : Ask). InRange l (cell_of q)) asked legal.1.within in
+        ap (λ (w : Words). w (cell.Global i)) land.words_are ∙ (known.one h.words (asks now) (cell.Global i)
+        ∙ (ap (λ (b : Bool). cond b (left_by (asks now) found) (h.words (cell.Global i))) (no_global l i le (cell_of (asks now)) within) ∙ of.globals i le))
+
+    as_it_should : IsAsItShould shapes l pacing may (e ∷ es) t a then
+    as_it_should = record {
+      sound = known.writes.sound_takes shapes now found sound_now busy;
+      pending = does.after;
+      fine = does.fine;
+      answers = answers;
+      notes = notes;
+      ended = ended;
+      ends = ends_here;
+      left = left;
+    }
+
+    pub side : OwnSide shapes l pacing may known e es h of gh land.move land.may
+    side = record {
+      words_are = words_are;
+      ever_is = ever_is;
+      bounded = bounded;
+      stacks = stacks;
+      others_stacks = others_stacks;
+      globals = globals;
+      own = λ less. subst (IsAsItShould shapes l pacing may (e ∷ es) t a) (sym then_is) as_it_should;
+      right = λ le. absurd (omega (arith, le, lt));
+    }
+
+    -- the heap of the list with the entry
+    pub heap_then : IsHeapOf shapes l pacing may (e ∷ es) t
+    heap_then = moves_on shapes l pacing may known e es h of gh land.move land.may side
+
+    pub good_then : Good z (view t)
+    good_then = known.keeps z a h land.move gh land.may

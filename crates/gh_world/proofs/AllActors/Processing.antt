@@ -1,0 +1,174 @@
+-- One entry more of a processor: what holds after every list holds then, if it does so between two cycles.
+use Rattle.std.proofs.Common.{◌≡◌, ℕ, ◌<◌, Bool, true, false, refl, sym, ap, subst, ◌∙◌, arith, inl, inr, List, ◌∷◌, Option, Some, None}
+use Rattle.gh_base.specs.declared.cell.Ask.{Ask}
+use Rattle.gh_base.specs.Lists.{Begins, Kind}
+use Rattle.gh_base.specs.Packing.{PackedWordsAreReadBack}
+use Rattle.gh_phase.specs.declared.view.RunPhase.{RunPhase}
+use Rattle.gh_phase.specs.declared.view.RunPhase.TheVariants as run
+use Rattle.gh_phase.specs.Handshake.{Awake, Gone, last_of, Lead, Leads, Party, Stage, StageGoes, Stopped}
+use Rattle.gh_phase.specs.Shakes.{last_phase}
+use Rattle.gh_coord.specs.declared.coord.CoordStage.{CoordStage}
+use Rattle.gh_coord.specs.declared.coord.CoordStage.TheVariants.{Check, Close, Count, Done, LoadAck, LoadWant, MarkOn, Open, Stop, StopAgain, Sweep, Tell, Watch}
+use Rattle.gh_coord.specs.declared.open.OpenStage.{OpenStage}
+use Rattle.gh_coord.specs.declared.open.OpenStage.TheVariants as opening
+use Rattle.gh_coord.specs.declared.tell.TellStage.{TellStage}
+use Rattle.gh_coord.specs.declared.tell.TellStage.TheVariants as telling
+use Rattle.gh_coord.specs.Handshake as leading
+use Rattle.gh_coord.specs.Opening as opens_by
+use Rattle.gh_coord.specs.Telling as tells_by
+use Rattle.gh_mutator.specs.Listing.{asks, is_busy_at, takes}
+use Rattle.gh_mutator.specs.ProcessorPlaces.{party_of, SoundPlace, stage_of}
+use Rattle.gh_world.specs.declared.handshake.Actor.{Actor}
+use Rattle.gh_world.specs.declared.handshake.Actor.TheVariants as actor
+use Rattle.gh_world.specs.Actors.{LeavesTheReached}
+use Rattle.gh_world.specs.ActorsHold.{Holds, HoldsAt, IsQuiet, IsTelling, processor_at}
+use Rattle.gh_world.specs.ActorsMark.{Sound}
+use Rattle.gh_world.specs.Handshake.{actors, is_busy, KeepsIt, place_of}
+use Rattle.gh_world.specs.Handshake as handshake
+use Rattle.gh_world.specs.HoldVocabulary.{acks_of, Coordinating, Entry, IsLed, Layout, Legal, Op, Pacing, Processor, processor_kind, Shape, ShapesAreGood, started, state_of, Words, words}
+use Rattle.gh_world.specs.KeepsToPolls.{KeepsToPolls, those}
+use Rattle.gh_world.proofs.AllActors.Known.{Known, ListsKnown}
+use Rattle.gh_world.proofs.AllActors.Others.{was_by_others}
+use Rattle.gh_world.proofs.AllActors.Quieting.{IsCalmStage}
+use Rattle.gh_world.proofs.AllActors.Resting.{runs_are}
+use Rattle.gh_world.proofs.AllActors.Starts.{counted_on}
+use Rattle.gh_world.proofs.AllActors.Still.{IsStill, is_still}
+use Rattle.gh_world.proofs.AllActors.StillHolds.{holds_still}
+use Rattle.gh_world.proofs.AllActors.Was.{heap_refuses, meant_refuses, RefusesRightly, still_refuses}
+use Rattle.gh_world.proofs.CycleMarking.Seats.{run_started}
+
+-- while a cycle is opened, and told, the world is stopped
+open_stopped : (p : OpenStage) → opens_by.is_busy p ≡ true → leading.open_post p ≡ Stopped run.Off
+open_stopped opening.ClearWant busy = refl
+open_stopped opening.ClearGcur busy = refl
+open_stopped opening.ClearTally busy = refl
+open_stopped opening.ClearLive busy = refl
+open_stopped opening.StoreTrigger busy = refl
+open_stopped opening.LoadHeap busy = refl
+open_stopped opening.StoreWork busy = refl
+open_stopped opening.StoreSlack busy = refl
+open_stopped opening.StoreBegun busy = refl
+open_stopped opening.StorePhase busy = refl
+open_stopped opening.Ended busy = absurd (cc)
+
+module _ (shapes : List Shape) (l : Layout) (pacing : Pacing) (may : ℕ → List (Entry Op) → Op → Bool) (good : ShapesAreGood shapes) (back : PackedWordsAreReadBack) (known : Known) (lists : ListsKnown shapes l pacing may)
+    (e : Entry Op) (es : List (Entry Op)) (legal : Legal (those shapes l pacing may) (e ∷ es)) (meant : KeepsToPolls shapes l pacing may (e ∷ es)) (c : Coordinating) (led : IsLed shapes l pacing may es c) (among : e.actor < acks_of l) where
+  abbrev H : List (Entry Op) → Type 0
+  H xs = Holds shapes l pacing may xs c
+
+  abbrev all : Kind (Actor Processor) Op
+  all = actors l (processor_kind shapes l) pacing
+
+  abbrev told : List (Entry Op) → Words
+  told xs = words shapes l pacing may xs
+
+  keeps : KeepsIt Sound party_of stage_of (those shapes l pacing may) es
+  keeps = lists.keeps es legal.0
+
+  -- with these two all is said
+  ends_with : HoldsAt shapes l pacing may (e ∷ es) c c.stage × RefusesRightly shapes l pacing may e es → (c.stage ≡ Done → LeavesTheReached shapes l pacing may (e ∷ es) c) → H es → H (e ∷ es)
+  ends_with now last h = record {
+    at = now.0;
+    was = was_by_others shapes l pacing may known e es legal among now.1 h.was;
+    counted = counted_on shapes l pacing may e es c h.counted;
+    last = last;
+  }
+
+  -- The last cycle is swept, and each processor is gone.
+
+  phase_is : c.stage ≡ Done → last_phase es ≡ run.Finished
+  phase_is done =
+      let leads : Leads keeps.shakes.lead ≡ Leads (leading.lead_of c) = sym keeps.shakes.leads ∙ ap (place_of party_of stage_of) led in
+      let same : keeps.shakes.lead ≡ leading.lead_of c = cc in
+      keeps.shakes.led.last_is ∙ (ap (λ (x : Lead). last_of x.post) same ∙ ap (λ (p : CoordStage). last_of (leading.post_at p)) done)
+
+  module _ (lt : e.actor < l.procs) where
+    abbrev m : Processor
+    m = processor_at shapes l pacing may es e.actor
+
+    abbrev now : Processor
+    now = started (processor_kind shapes l) e.begun m
+
+    at_is : state_of all e.actor es ≡ actor.Runs m
+    at_is = runs_are shapes l pacing may es e.actor lt
+
+    sound : SoundPlace m
+    sound = (subst (handshake.Sound Sound l) at_is (keeps.shakes.all_sound e.actor (omega (arith, among)))).0.place
+
+    runs : is_busy_at now.task ≡ true
+    runs = sym (ap (is_busy (processor_kind shapes l)) (ap (started all e.begun) at_is ∙ run_started l (processor_kind shapes l) pacing e.begun m)) ∙ legal.1.runs
+
+    gone_goes : (party : Party) (stage : Stage) (to : Processor) → stage ≡ Gone → (x : Ask) → StageGoes e.found party stage x (party_of to) (stage_of to) → ⊥
+    gone_goes party stage to is x goes = subst (λ (s : Stage). StageGoes e.found party s x (party_of to) (stage_of to)) is goes
+
+    gone_begins : (o : Option Op) → e.begun ≡ o → stage_of m ≡ Gone → (stage_of now ≡ Gone) × SoundPlace now
+    gone_begins None is gone = (ap (λ (x : Option Op). stage_of (started (processor_kind shapes l) x m)) is ∙ gone, subst (λ (x : Option Op). SoundPlace (started (processor_kind shapes l) x m)) (sym is) sound)
+    gone_begins (Some o) is gone =
+        let b = subst (λ (x : Option Op). Begins (those shapes l pacing may) e.actor es x) is legal.1.begins in
+        let idle : is_busy_at m.task ≡ false = sym (ap (is_busy (processor_kind shapes l)) at_is) ∙ b.0 in
+        let begins = known.places.begins_so shapes l m o sound idle in
+        let stage : stage_of ((processor_kind shapes l).begins m o) ≡ Gone = elim begins [
+          | inl same ↦ (let parts : stage_of ((processor_kind shapes l).begins m o) ≡ stage_of m = cc in parts ∙ gone)
+          | inr x ↦ absurd (let awake : stage_of m ≡ Awake = cc in let no : Awake ≡ Gone = sym awake ∙ gone in cc)
+        ] in
+        (ap (λ (x : Option Op). stage_of (started (processor_kind shapes l) x m)) is ∙ stage, subst (λ (x : Option Op). SoundPlace (started (processor_kind shapes l) x m)) (sym is) (known.places.sound_begins shapes l m o sound idle))
+
+    stage_gone : c.stage ≡ Done → stage_of m ≡ Gone
+    stage_gone done = (keeps.shakes.gone e.actor (party_of m) (stage_of m) among (ap (place_of party_of stage_of) at_is)).0 (keeps.processors_left e.actor lt (phase_is done))
+
+    not_done : c.stage ≡ Done → ⊥
+    not_done done =
+        let then = gone_begins e.begun refl (stage_gone done) in
+        gone_goes (party_of now) (stage_of now) (takes shapes now e.found) then.0 (asks now) (known.places.takes_so shapes now e.found then.1 runs)
+
+  -- Where the world is stopped nothing changes.
+  module _ (phase : RunPhase) (post : leading.post_at c.stage ≡ Stopped phase) where
+    still : IsStill shapes l pacing may e es
+    still = is_still shapes l pacing may back lists e es legal c phase led post among
+
+    pub stopped_now : (p : CoordStage) → HoldsAt shapes l pacing may es c p → HoldsAt shapes l pacing may (e ∷ es) c p × RefusesRightly shapes l pacing may e es
+    stopped_now p h = (holds_still shapes l pacing may e es still.changes c p h, still_refuses shapes l pacing may e es still)
+
+  stopped_at : (p : CoordStage) (phase : RunPhase) → c.stage ≡ p → leading.post_at p ≡ Stopped phase → leading.post_at c.stage ≡ Stopped phase
+  stopped_at p phase is post = ap leading.post_at is ∙ post
+
+  open_busy : (o : opens_by.CycleOpening) → c.stage ≡ Open o → opens_by.is_busy o.stage ≡ true
+  open_busy o is = (subst (leading.SoundAt c) is (subst (handshake.Sound Sound l) led (keeps.shakes.all_sound (acks_of l) (omega arith))).1.1).1
+
+  -- A processor.
+  module _ (lt : e.actor < l.procs) (quiet : IsCalmStage c.stage → IsQuiet shapes l pacing may es c → IsQuiet shapes l pacing may (e ∷ es) c) where
+    abbrev Now : CoordStage → Type 0
+    Now p = HoldsAt shapes l pacing may (e ∷ es) c p × RefusesRightly shapes l pacing may e es
+
+    quiet_now : IsCalmStage c.stage → IsQuiet shapes l pacing may es c → IsQuiet shapes l pacing may (e ∷ es) c × RefusesRightly shapes l pacing may e es
+    quiet_now calm q = (quiet calm q, heap_refuses shapes l pacing may e es legal lt known good q.heap q.of_list q.calm.heap)
+
+    marks_now : leading.Marks c.stage → RefusesRightly shapes l pacing may e es
+    marks_now on = meant_refuses shapes l pacing may e es legal lt c meant led on
+
+    calm_at : (p : CoordStage) → c.stage ≡ p → IsCalmStage p → IsCalmStage c.stage
+    calm_at p is calm = subst IsCalmStage (sym is) calm
+
+    told_now : (t : tells_by.Telling) → c.stage ≡ Tell t → (s : TellStage) → t.stage ≡ s → IsTelling shapes l pacing may es c s → Now (Tell t)
+    told_now t is telling.StoreTrigger at h = stopped_now run.Mark (stopped_at (Tell t) run.Mark is (ap (leading.tell_post t.is_last) at)) (Tell t) (subst (IsTelling shapes l pacing may es c) (sym at) h)
+    told_now t is telling.StoreSwept at h = stopped_now run.Mark (stopped_at (Tell t) run.Mark is (ap (leading.tell_post t.is_last) at)) (Tell t) (subst (IsTelling shapes l pacing may es c) (sym at) h)
+    told_now t is telling.StorePhase at h = stopped_now run.Mark (stopped_at (Tell t) run.Mark is (ap (leading.tell_post t.is_last) at)) (Tell t) (subst (IsTelling shapes l pacing may es c) (sym at) h)
+    told_now t is telling.Ended at h = absurd h
+
+    now_at : (p : CoordStage) → c.stage ≡ p → HoldsAt shapes l pacing may es c p → Now p
+    now_at (LoadAck i) is q = quiet_now (calm_at (LoadAck i) is tt) q
+    now_at LoadWant is q = quiet_now (calm_at LoadWant is tt) q
+    now_at (Stop st) is q = quiet_now (calm_at (Stop st) is tt) q
+    now_at (Open o) is h = stopped_now run.Off (stopped_at (Open o) run.Off is (open_stopped o.stage (open_busy o is))) (Open o) h
+    now_at (Watch w) is h = (tt, marks_now (subst leading.Marks (sym is) tt))
+    now_at (StopAgain st) is h = (tt, marks_now (subst leading.Marks (sym is) tt))
+    now_at (Check w) is h = stopped_now run.Mark (stopped_at (Check w) run.Mark is refl) (Check w) h
+    now_at MarkOn is h = stopped_now run.Mark (stopped_at MarkOn run.Mark is refl) MarkOn h
+    now_at (Close y) is h = stopped_now run.Mark (stopped_at (Close y) run.Mark is refl) (Close y) h
+    now_at (Sweep w) is h = stopped_now run.Mark (stopped_at (Sweep w) run.Mark is refl) (Sweep w) h
+    now_at (Count y) is h = stopped_now run.Mark (stopped_at (Count y) run.Mark is refl) (Count y) h
+    now_at (Tell t) is h = told_now t is t.stage refl h
+    now_at Done is q = quiet_now (calm_at Done is tt) q
+
+    pub by_processor : H es → H (e ∷ es)
+    by_processor h = ends_with (now_at c.stage refl h.at) (λ done. absurd (not_done lt done)) h

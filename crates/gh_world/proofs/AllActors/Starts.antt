@@ -1,0 +1,82 @@
+-- What was said of a list's starts is said of them still behind one entry more; and what has to be said of the entry.
+use Rattle.std.proofs.Common.{◌≡◌, ℕ, Bool, refl, sym, ap, subst, ◌∙◌, inl, inr, List, [], ◌∷◌}
+use Rattle.gh_coord.specs.declared.coord.CoordStage.{CoordStage}
+use Rattle.gh_coord.specs.declared.coord.CoordStage.TheVariants.{Check, Close, Count, Done, LoadAck, LoadWant, MarkOn, Open, Stop, StopAgain, Sweep, Tell, Watch}
+use Rattle.gh_world.specs.Actors.{AllWereCounted, BeginsCycle, EndsAllMarked, EndsMarked, ever, FreesTheUnreached, IsEnding, IsLed, IsStepIn, IsTelling, SweepsCycle, words}
+use Rattle.gh_world.specs.HoldVocabulary.{Coordinating, Entry, IsMade, Layout, Name, Op, Pacing, Reach, Shape}
+use Rattle.gh_world.specs.Marking.{IsBeginning, IsStartOf}
+use Rattle.gh_world.specs.Processors.{IsPlacedAt}
+
+pub whole : {O : Type 0} → (es : List (Entry O)) → IsStartOf es es
+whole [] = refl
+whole (e ∷ es) = inl refl
+
+-- a start of a start is a start
+pub start_of_start : {O : Type 0} → (first start es : List (Entry O)) → IsStartOf first start → IsStartOf start es → IsStartOf first es
+start_of_start first start [] of in_it = subst (λ (x : List (Entry _)). IsStartOf first x) in_it of
+start_of_start first start (e ∷ es) of (inl in_it) = subst (λ (x : List (Entry _)). IsStartOf first x) in_it of
+start_of_start first start (e ∷ es) of (inr in_it) = inr (start_of_start first start es of in_it)
+
+-- it does not both begin a cycle and tell that one is swept
+differs : (p : CoordStage) → IsBeginning p → IsTelling p → ⊥
+differs (Open o) b t = t
+differs (LoadAck i) b t = b
+differs LoadWant b t = b
+differs (Stop st) b t = b
+differs (Watch w) b t = b
+differs (StopAgain st) b t = b
+differs (Check w) b t = b
+differs MarkOn b t = b
+differs (Close c) b t = b
+differs (Sweep w) b t = b
+differs (Count c) b t = b
+differs (Tell x) b t = b
+differs Done b t = b
+
+module _ (shapes : List Shape) (l : Layout) (pacing : Pacing) (may : ℕ → List (Entry Op) → Op → Bool) where
+  abbrev pub Frees : List (Entry Op) → List (Entry Op) → Type 0
+  Frees begun swept = (n : Name) → IsMade (ever shapes l pacing may begun).made n → (Reach (ever shapes l pacing may begun) n → ⊥) → (a : ℕ) → IsPlacedAt (words shapes l pacing may swept) n a → ⊥
+
+  module _ (e : Entry Op) (es : List (Entry Op)) where
+    -- where the entry tells that a cycle is swept, what was not reached where it began is freed; and where it begins one, no cycle of this number is swept yet
+    pub record FreesNow : Type 0 where
+      pub frees : (k : ℕ) (begun : List (Entry Op)) → IsStartOf begun es → BeginsCycle shapes l pacing may k begun → IsStepIn shapes l pacing may IsTelling k e es → Frees begun (e ∷ es)
+      pub fresh : (k : ℕ) (swept : List (Entry Op)) → IsStepIn shapes l pacing may IsBeginning k e es → IsStartOf swept es → SweepsCycle shapes l pacing may k swept → ⊥
+
+    one_lead : (c d : Coordinating) → IsLed shapes l pacing may es c → IsLed shapes l pacing may es d → c ≡ d
+    one_lead c d x y = let both = sym x ∙ y in cc
+
+    not_both : (k : ℕ) → IsStepIn shapes l pacing may IsBeginning k e es → IsStepIn shapes l pacing may IsTelling k e es → ⊥
+    not_both k b t = differs t.lead.stage (subst (λ (c : Coordinating). IsBeginning c.stage) (one_lead b.lead t.lead b.led t.led) b.stage) t.stage
+
+    pub frees_on : FreesNow → FreesTheUnreached shapes l pacing may es → FreesTheUnreached shapes l pacing may (e ∷ es)
+    frees_on now before k begun swept of_begun of_swept begins sweeps = go of_begun of_swept where
+      go : IsStartOf begun (e ∷ es) → IsStartOf swept (e ∷ es) → Frees begun swept
+      go (inr b) (inr s) = before k begun swept b s begins sweeps
+      go (inr b) (inl s) = subst (λ (x : List (Entry Op)). Frees begun x) (sym s) (now.frees k begun b begins (subst (λ (x : List (Entry Op)). SweepsCycle shapes l pacing may k x) s sweeps))
+      go (inl b) (inr s) = absurd (now.fresh k swept (subst (λ (x : List (Entry Op)). BeginsCycle shapes l pacing may k x) b begins) s sweeps)
+      go (inl b) (inl s) = absurd (not_both k (subst (λ (x : List (Entry Op)). BeginsCycle shapes l pacing may k x) b begins) (subst (λ (x : List (Entry Op)). SweepsCycle shapes l pacing may k x) s sweeps))
+
+    -- where the entry ends a cycle's marking
+    pub ends_on : ((k : ℕ) (step : IsStepIn shapes l pacing may IsEnding k e es) → EndsMarked shapes l pacing may es step.lead) → EndsAllMarked shapes l pacing may es → EndsAllMarked shapes l pacing may (e ∷ es)
+    ends_on now before d ds k of step = go of where
+      here : d ∷ ds ≡ e ∷ es → EndsMarked shapes l pacing may ds step.lead
+      here is =
+          let first : d ≡ e = cc in
+          let rest : ds ≡ es = cc in
+          let moved : IsStepIn shapes l pacing may IsEnding k e es = record {
+            lead = step.lead;
+            led = subst (λ (x : List (Entry Op)). IsLed shapes l pacing may x step.lead) rest step.led;
+            by = sym (ap (λ (x : Entry Op). x.actor) first) ∙ step.by;
+            stage = step.stage;
+            cycle = step.cycle;
+          } in
+          subst (λ (x : List (Entry Op)). EndsMarked shapes l pacing may x step.lead) (sym rest) (now k moved)
+
+      go : IsStartOf (d ∷ ds) (e ∷ es) → EndsMarked shapes l pacing may ds step.lead
+      go (inl is) = here is
+      go (inr is) = before d ds k is step
+
+    -- the cycles that were counted
+    pub counted_on : (c : Coordinating) → AllWereCounted shapes l pacing may es c → AllWereCounted shapes l pacing may (e ∷ es) c
+    counted_on c before i y is = let w = before i y is in record { ended = w.ended; start = inr w.start; ends = w.ends; marked = w.marked; freed = w.freed; all = w.all }

@@ -1,0 +1,125 @@
+-- An entry that changes nothing: no word, no processor, and nothing of the heap that never frees. So is each entry of another than the coordinator in a stopped world. What holds stays as it is.
+use Rattle.std.proofs.Common.{◌≡◌, ◌⊎◌, inr, ℕ, ◌<◌, ◌≤◌, ◌==◌, Bool, true, false, refl, sym, ap, subst, ◌∙◌, arith, List, ◌∷◌, ◌++◌}
+use Rattle.std.proofs.lemmas.Bool.Decides.{nat_tests}
+use Rattle.std.specs.Option.{option_to_list}
+use Rattle.gh_base.specs.declared.cell.Cell.TheVariants as cell
+use Rattle.gh_base.specs.declared.pack.TheConstants.{END}
+use Rattle.gh_base.specs.Lists.{by}
+use Rattle.gh_world.specs.ActorsHold.{IsAsItShould, IsHeapOf, IsInCycle, IsJustSwept, IsQuiet, IsReady, IsSweeping, EndedSo, processor_at, uncounted}
+use Rattle.gh_world.specs.HoldVocabulary.{Answer, answers_of, arena, Arena, Coordinating, CycleEnd, ended_in, Entry, ever, given_of, Heap, Layout, Legal, MarksNothing, Op, opening_words, Pacing, Processor, Shape, SweepingAll, words}
+use Rattle.gh_world.specs.KeepsToPolls.{those}
+use Rattle.gh_world.proofs.AllActors.Known.{Known}
+use Rattle.gh_world.proofs.AllActors.Resting.{answers_stay, ever_stays, given_stay, own_stay, state_stays}
+
+module _ (shapes : List Shape) (l : Layout) (pacing : Pacing) (may : ℕ → List (Entry Op) → Op → Bool) (e : Entry Op) (es : List (Entry Op)) where
+  abbrev z : Arena
+  z = arena shapes l pacing may
+
+  pub record ChangesNothing : Type 0 where
+    pub words_are : words shapes l pacing may (e ∷ es) ≡ words shapes l pacing may es
+    pub ever_is : ever shapes l pacing may (e ∷ es) ≡ ever shapes l pacing may es
+    pub processors : (a : ℕ) → a < l.procs → processor_at shapes l pacing may (e ∷ es) a ≡ processor_at shapes l pacing may es a
+    pub answers : (a : ℕ) → a < l.procs → answers_of z (opening_words pacing.trigger) a (e ∷ es) ≡ answers_of z (opening_words pacing.trigger) a es
+    pub given : (a : ℕ) → a < l.procs → given_of z (opening_words pacing.trigger) a (e ∷ es) ≡ given_of z (opening_words pacing.trigger) a es
+    pub ended : (a : ℕ) → a < l.procs → (g : ℕ) → ended_in (by a (e ∷ es)) g ≡ ended_in (by a es) g
+
+  -- a step of another than a processor that changes no word
+  pub changes_nothing : (known : Known) → Legal (those shapes l pacing may) (e ∷ es) → l.procs ≤ e.actor → words shapes l pacing may (e ∷ es) ≡ words shapes l pacing may es → ChangesNothing
+  changes_nothing known legal ge same = record {
+    words_are = same;
+    ever_is = ever_stays shapes l pacing may known.points e es legal ge;
+    processors = λ a lt. state_stays shapes l pacing may e es a (apart a lt (e.actor == a) refl);
+    answers = λ a lt. answers_stay shapes l pacing may e es a (apart a lt (e.actor == a) refl);
+    given = λ a lt. given_stay shapes l pacing may e es a (apart a lt (e.actor == a) refl);
+    ended = λ a lt g. ap (λ (ys : List (Entry Op)). ended_in ys g) (own_stay shapes l pacing may e es a (apart a lt (e.actor == a) refl));
+  } where
+    apart : (a : ℕ) → a < l.procs → (b : Bool) → (e.actor == a) ≡ b → (e.actor == a) ≡ false
+    apart a lt false x = x
+    apart a lt true x = absurd (let is : e.actor ≡ a = grind (arith, nat_tests) in omega (arith, is, lt, ge))
+
+  module _ (still : ChangesNothing) where
+    should_stay : (h : Heap) (a : ℕ) → a < l.procs → IsAsItShould shapes l pacing may es h a (processor_at shapes l pacing may es a) → IsAsItShould shapes l pacing may (e ∷ es) h a (processor_at shapes l pacing may es a)
+    should_stay h a lt is = record {
+      sound = is.sound;
+      pending = is.pending;
+      fine = is.fine;
+      answers = still.answers a lt ∙ (is.answers ∙ ap (λ (y : List Answer). option_to_list is.pending ++ y) (sym (still.given a lt)));
+      notes = is.notes;
+      ended = λ g its y. still.ended a lt g ∙ is.ended g its y;
+      ends = λ g its y. is.ends g its (sym (still.ended a lt g) ∙ y);
+      left = is.left;
+    }
+
+    pub heap_stays : (h : Heap) → IsHeapOf shapes l pacing may es h → IsHeapOf shapes l pacing may (e ∷ es) h
+    heap_stays h of = record {
+      words_are = of.words_are ∙ sym still.words_are;
+      ever_is = of.ever_is ∙ sym still.ever_is;
+      bounded = of.bounded;
+      processors = λ a lt. subst (λ (p : Processor). IsAsItShould shapes l pacing may (e ∷ es) h a p) (sym (still.processors a lt)) (should_stay h a lt (of.processors a lt));
+      others = of.others;
+      stacks = of.stacks;
+      globals = of.globals;
+    }
+
+    pub in_cycle_stays : (k : ℕ) → IsInCycle shapes l pacing may es k → IsInCycle shapes l pacing may (e ∷ es) k
+    in_cycle_stays k i = record { begun = i.begun; start = inr i.start; begins = i.begins; ever_is = still.ever_is ∙ i.ever_is }
+
+    pub ended_stays : (k : ℕ) (x : CycleEnd) → EndedSo shapes l pacing may es k x → EndedSo shapes l pacing may (e ∷ es) k x
+    ended_stays k x i = record { ended = i.ended; start = inr i.start; ends = i.ends; alloc = i.alloc; marks = i.marks; ever_is = still.ever_is ∙ i.ever_is }
+
+    pub quiet_stays : (c d : Coordinating) → d.begun ≡ c.begun → (q : IsQuiet shapes l pacing may es c) → IsQuiet shapes l pacing may (e ∷ es) d
+    quiet_stays c d same q = record {
+      heap = q.heap;
+      of_list = heap_stays q.heap q.of_list;
+      end = q.end;
+      spans = q.spans;
+      calm = q.calm;
+      placing = λ a lt. q.placing a lt ∙ ap (λ (m : Processor). uncounted m.task) (sym (still.processors a lt));
+      others_place = q.others_place;
+      buffers = q.buffers;
+      stacks = λ g. subst (λ (k : ℕ). (q.heap.words (cell.Scanned g) ≤ k) ⊎ (q.heap.words (cell.Scanned g) ≡ END)) (sym same) (q.stacks g);
+      processors = λ a lt. subst MarksNothing (sym (still.processors a lt)) (q.processors a lt);
+    }
+
+    pub ready_stays : (c d : Coordinating) → d.begun ≡ c.begun → IsReady shapes l pacing may es c → IsReady shapes l pacing may (e ∷ es) d
+    ready_stays c d same r = record {
+      heap = r.heap;
+      of_list = heap_stays r.heap r.of_list;
+      good = r.good;
+      packed = r.packed;
+      counted = r.counted;
+      marks = r.marks;
+      buffers = r.buffers;
+      stacks = λ g. subst (λ (k : ℕ). (r.heap.words (cell.Scanned g) < k) ⊎ (r.heap.words (cell.Scanned g) ≡ END)) (sym same) (r.stacks g);
+      processors = λ a lt. subst MarksNothing (sym (still.processors a lt)) (r.processors a lt);
+    }
+
+    pub sweeping_stays : (c : Coordinating) (w : SweepingAll) → IsSweeping shapes l pacing may es c w → IsSweeping shapes l pacing may (e ∷ es) c w
+    sweeping_stays c w s = record {
+      heap = s.heap;
+      of_list = heap_stays s.heap s.of_list;
+      end = s.end;
+      spans = s.spans;
+      beside = s.beside;
+      sweeps = s.sweeps;
+      cycle = in_cycle_stays c.begun s.cycle;
+      ended = ended_stays c.begun s.end s.ended;
+      buffers = s.buffers;
+      stacks = s.stacks;
+      processors = λ a lt. subst MarksNothing (sym (still.processors a lt)) (s.processors a lt);
+    }
+
+    pub swept_stays : (c d : Coordinating) → d.begun ≡ c.begun → (h : Heap) (x : CycleEnd) → IsJustSwept shapes l pacing may es c h x → IsJustSwept shapes l pacing may (e ∷ es) d h x
+    swept_stays c d same h x j = record {
+      cycle = subst (λ (k : ℕ). IsInCycle shapes l pacing may (e ∷ es) k) (sym same) (in_cycle_stays c.begun j.cycle);
+      ended = subst (λ (k : ℕ). EndedSo shapes l pacing may (e ∷ es) k x) (sym same) (ended_stays c.begun x j.ended);
+      left = j.left;
+      told = j.told;
+    }
+
+    abbrev pub IsSwept : List (Entry Op) → Coordinating → Type 0
+    IsSwept xs d = (q : IsQuiet shapes l pacing may xs d) × IsJustSwept shapes l pacing may xs d q.heap q.end
+
+    pub both_stay : (c d : Coordinating) → d.begun ≡ c.begun → IsSwept es c → IsSwept (e ∷ es) d
+    unfolding quiet_stays
+    both_stay c d same h = (quiet_stays c d same h.0, swept_stays c d same h.0.heap h.0.end h.1)

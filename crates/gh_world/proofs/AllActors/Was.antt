@@ -1,0 +1,92 @@
+-- Where an entry of a processor says `full`, there was no room: a search that finds none does so by its rights, behind its wait; polls, waits and leaves say nothing of it, and in a stopped world nobody does.
+use Rattle.std.proofs.Common.{◌≡◌, ℕ, ◌<◌, Bool, true, sym, ap, subst, ◌∙◌, List, ◌∷◌, Option, Some, None}
+use Rattle.gh_base.specs.declared.cell.Ask.{Ask}
+use Rattle.gh_base.specs.Lists.{Kind}
+use Rattle.gh_base.specs.Orders.{done_at}
+use Rattle.gh_base.specs.Steps.{cell_of}
+use Rattle.gh_coord.specs.Handshake as leading
+use Rattle.gh_heap.specs.Moves.{Steps}
+use Rattle.gh_mutator.specs.Listing.{Act, acts, asks, is_busy_at}
+use Rattle.gh_mutator.specs.Runs.{DoesPoints}
+use Rattle.gh_world.specs.declared.handshake.Actor.{Actor}
+use Rattle.gh_world.specs.declared.handshake.Actor.TheVariants as actor
+use Rattle.gh_world.specs.ActorsHold.{IsHeapOf, processor_at}
+use Rattle.gh_world.specs.Handshake.{actors, asks as asks_by, is_busy}
+use Rattle.gh_world.specs.HoldVocabulary.{arena, Arena, Coordinating, deeds, Entry, Good, Heap, IsLed, Layout, Legal, only_polls, Op, Pacing, Processor, processor_kind, Shape, ShapesAreGood, started, state_of, view, words, Words}
+use Rattle.gh_world.specs.KeepsToPolls.{IsPolled, KeepsToPolls, those}
+use Rattle.gh_world.specs.Processors.{IsFullFor}
+use Rattle.gh_world.proofs.AllActors.Known.{Known}
+use Rattle.gh_world.proofs.AllActors.Refusals.{full_for, full_searches, goes_on, IsSearchedAgain, point_is, polls_refuse_nothing}
+use Rattle.gh_world.proofs.AllActors.Resting.{runs_are}
+use Rattle.gh_world.proofs.AllActors.Still.{IsStill}
+use Rattle.gh_world.proofs.CycleMarking.Seats.{run_started}
+
+module _ (shapes : List Shape) (l : Layout) (pacing : Pacing) (may : ℕ → List (Entry Op) → Op → Bool) (e : Entry Op) (es : List (Entry Op)) where
+  abbrev z : Arena
+  z = arena shapes l pacing may
+
+  abbrev k : Kind Processor Op
+  k = processor_kind shapes l
+
+  abbrev all : Kind (Actor Processor) Op
+  all = actors l k pacing
+
+  -- the point of the entry, if it is one
+  abbrev point : Option Act
+  point = done_at k (deeds shapes) es e
+
+  -- where it says that there was no room, there was none
+  abbrev pub RefusesRightly : Type 0
+  RefusesRightly = (x : Act) → point ≡ Some x → x.full ≡ true → IsFullFor z e.actor (words shapes l pacing may es) (processor_at shapes l pacing may es e.actor) x.op
+
+  pub no_point_refuses : point ≡ None → RefusesRightly
+  no_point_refuses none x is full = absurd (let no : None ≡ Some x = sym none ∙ is in cc)
+
+  pub still_refuses : IsStill shapes l pacing may e es → RefusesRightly
+  still_refuses still = no_point_refuses still.no_point
+
+  module _ (legal : Legal (those shapes l pacing may) (e ∷ es)) where
+    module _ (lt : e.actor < l.procs) where
+      abbrev m : Processor
+      m = processor_at shapes l pacing may es e.actor
+
+      abbrev now : Processor
+      now = started k e.begun m
+
+      here : started all e.begun (state_of all e.actor es) ≡ actor.Runs now
+      here = ap (started all e.begun) (runs_are shapes l pacing may es e.actor lt) ∙ run_started l k pacing e.begun m
+
+      searched : (x : Act) → point ≡ Some x → x.full ≡ true → IsSearchedAgain now.task
+      searched x is full = full_searches now now.task e.found x (point_is (acts now e.found) x is) full
+
+      -- nor do polls, waits and leaves refuse anything
+      pub polls_refuse : only_polls now.task ≡ true → RefusesRightly
+      polls_refuse polls x is full = absurd (polls_refuse_nothing now.task polls (searched x is full))
+
+      pub meant_refuses : (c : Coordinating) → KeepsToPolls shapes l pacing may (e ∷ es) → IsLed shapes l pacing may es c → leading.Marks c.stage → RefusesRightly
+      meant_refuses c meant led on = polls_refuse (subst (IsPolled shapes l pacing may e.begun) (runs_are shapes l pacing may es e.actor lt) (meant.1 c led on))
+
+      -- and a search by its rights sees what there is
+      module _ (known : Known) (shapes_good : ShapesAreGood shapes) (h : Heap) (of : IsHeapOf shapes l pacing may es h) (good : Good z (view h)) where
+        pub heap_refuses : RefusesRightly
+        heap_refuses x is full = subst (λ (w : Words). IsFullFor z e.actor w m x.op) of.words_are (full_for z h good of.others e.actor m x.op (land.after.does.full x act full)) where
+          none_begun : e.begun ≡ None
+          none_begun = goes_on shapes l e.begun m (searched x is full)
+
+          now_is : now ≡ m
+          now_is = ap (λ (o : Option Op). started k o m) none_begun
+
+          busy : is_busy_at m.task ≡ true
+          busy = sym (ap (λ (y : Processor). is_busy_at y.task) now_is) ∙ (sym (ap (is_busy k) here) ∙ legal.1.runs)
+
+          asked : e.ask ≡ asks m
+          asked = legal.1.asks ∙ (ap (asks_by k) here ∙ ap asks now_is)
+
+          found : e.found ≡ h.words (cell_of (asks m))
+          found = legal.1.found ∙ (ap (λ (q : Ask). words shapes l pacing may es (cell_of q)) asked ∙ ap (λ (w : Words). w (cell_of (asks m))) (sym of.words_are))
+
+          act : acts m (h.words (cell_of (asks m))) ≡ Some x
+          act = ap (acts m) (sym found) ∙ (ap (λ (y : Processor). acts y e.found) (sym now_is) ∙ point_is (acts now e.found) x is)
+
+          land : Steps z e.actor h (asks m) (λ t. DoesPoints z e.actor h t m (of.processors e.actor lt).pending (h.words (cell_of (asks m))))
+          land = known.runs.own_step z e.actor h m (of.processors e.actor lt).pending shapes_good busy good (of.processors e.actor lt).fine

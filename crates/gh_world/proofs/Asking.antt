@@ -1,0 +1,219 @@
+-- Among a script's turns each goroutine asks as often as it has `new` and `gc`, and each has ended before the leave.
+use Rattle.std.proofs.Common.{◌≡◌, ℕ, zero, suc, ◌+◌, ◌<◌, ◌≤◌, Bool, true, false, cond, eqb, leb, ltb, ◌&&◌, ◌||◌, List, [], ◌∷◌, ◌++◌, map, length, reverse, Option, Some, None, refl, sym, ap, ◌∙◌, arith, inl, inr}
+use Rattle.std.specs.Prelude.{slice_get, not}
+use Rattle.std.specs.List.{filter, flat_map, range_with_len}
+use Rattle.std.specs.Option.{option_to_list}
+use Rattle.std.proofs.lemmas.Bool.{eq-eqb, cases_lt, le-leb, lt-ltb}
+use Rattle.std.proofs.lemmas.Grind.{reverse_onto}
+use Rattle.std.proofs.lemmas.List.Elements.{filter-append}
+use Rattle.std.proofs.lemmas.List.{length-append}
+use Rattle.std.proofs.lemmas.Option.{slice_get_past}
+use Rattle.gh_world.specs.Vocabulary.{Arena, Entry, Op, Program, statements_of, Stmt, work_at}
+use Rattle.gh_base.specs.declared.operation.Op.TheVariants as op
+use Rattle.gh_script.specs.declared.statement.Stmt.TheVariants as stmts
+use Rattle.gh_script.specs.Program.{op_of}
+use Rattle.gh_world.specs.Order.{begun_in, ended_in, ends, has_left, leaves}
+use Rattle.gh_world.specs.Processors.{all_ended, asked_by, asks_collector}
+use Rattle.gh_world.specs.Turns.{count_of, is_statement_of, round_of, total_of, turn_of, turns_of}
+use Rattle.gh_world.specs.Wishes.{may_ask, wishes_among, wishes_of}
+use Rattle.gh_world.proofs.EachOnce.{turns_mine}
+use Rattle.gh_world.proofs.Turning.{count-le}
+
+more : {A : Type 0} (x : A) (xs : List A) → reverse (x ∷ xs) ≡ reverse xs ++ x ∷ []
+more x xs = reverse_onto xs x []
+
+-- ---- asking
+
+abbrev one_if : Bool → ℕ
+one_if b = cond b 1 0
+
+abbrev asks : ℕ → Op → Bool
+asks g o = asks_collector g (Some o)
+
+abbrev pub asked_among : ℕ → List Op → ℕ
+asked_among g os = length (filter (asks g) os)
+
+asked_append : (g : ℕ) (xs ys : List Op) → asked_among g (xs ++ ys) ≡ asked_among g xs + asked_among g ys
+asked_append g xs ys = ap length (filter-append (asks g) xs ys) ∙ length-append (filter (asks g) xs) (filter (asks g) ys)
+
+asked_one : (g : ℕ) (o : Op) → asked_among g (o ∷ []) ≡ one_if (asks g o)
+asked_one g o = go (asks g o) where
+  go : (b : Bool) → length (cond b (o ∷ []) []) ≡ one_if b
+  go true = refl
+  go false = refl
+
+asked_more : (g : ℕ) (o : Op) (os : List Op) → asked_among g (o ∷ os) ≡ one_if (asks g o) + asked_among g os
+asked_more g o os = go (asks g o) where
+  go : (b : Bool) → length (cond b (o ∷ filter (asks g) os) (filter (asks g) os)) ≡ one_if b + length (filter (asks g) os)
+  go true = omega arith
+  go false = omega arith
+
+asked_reverse : (g : ℕ) (os : List Op) → asked_among g (reverse os) ≡ asked_among g os
+asked_reverse g [] = refl
+asked_reverse g (o ∷ os) =
+    let split = ap (asked_among g) (more o os) ∙ asked_append g (reverse os) (o ∷ []) in
+    omega (arith, split, asked_one g o, asked_more g o os, asked_reverse g os)
+
+asked_begun : (g : ℕ) (es : List (Entry Op)) → asked_by g es ≡ asked_among g (begun_in es)
+asked_begun g [] = refl
+asked_begun g (e ∷ es) = go e.begun (asked_begun g es) where
+  go : (b : Option Op) → asked_by g es ≡ asked_among g (begun_in es) → one_if (asks_collector g b) + asked_by g es ≡ asked_among g (option_to_list b ++ begun_in es)
+  go None ih = omega (arith, ih)
+  go (Some o) ih = omega (arith, asked_more g o (begun_in es), ih)
+
+-- who asks is a statement of the goroutine
+asks_mine : (g : ℕ) (o : Op) → asks g o ≡ true → is_statement_of g o ≡ true
+asks_mine g (op.New h d t) e = e
+asks_mine g (op.Gc h) e = e
+asks_mine g (op.Load h d b k) e = absurd cc
+asks_mine g (op.Store h b k v) e = absurd cc
+asks_mine g (op.GetGlobal h d k) e = absurd cc
+asks_mine g (op.SetGlobal h k v) e = absurd cc
+asks_mine g (op.Int h d n) e = absurd cc
+asks_mine g (op.Move h d s) e = absurd cc
+asks_mine g (op.Nil h d) e = absurd cc
+asks_mine g op.Poll e = absurd cc
+asks_mine g (op.End h) e = absurd cc
+asks_mine g op.Leave e = absurd cc
+
+asked_mine : (g : ℕ) (os : List Op) → asked_among g os ≡ asked_among g (filter (is_statement_of g) os)
+asked_mine g [] = refl
+asked_mine g (o ∷ os) = go (is_statement_of g o) refl (asked_mine g os) where
+  go : (b : Bool) → is_statement_of g o ≡ b → asked_among g os ≡ asked_among g (filter (is_statement_of g) os) → asked_among g (o ∷ os) ≡ asked_among g (cond b (o ∷ filter (is_statement_of g) os) (filter (is_statement_of g) os))
+  go true e ih = omega (arith, asked_more g o os, asked_more g o (filter (is_statement_of g) os), ih)
+  go false e ih = by (asks g o) refl where
+    by : (c : Bool) → asks g o ≡ c → asked_among g (o ∷ os) ≡ asked_among g (filter (is_statement_of g) os)
+    by true f = absurd (let t = asks_mine g o f in let no : true ≡ false = sym t ∙ e in cc)
+    by false f = let none : one_if (asks g o) ≡ 0 = ap one_if f in omega (arith, asked_more g o os, none, ih)
+
+asks_is : (g : ℕ) (s : Stmt) → asks g (op_of g s) ≡ may_ask s
+asks_is g (stmts.New d t) = eq-eqb g g refl
+asks_is g stmts.Gc = eq-eqb g g refl
+asks_is g (stmts.Load d b k) = refl
+asks_is g (stmts.Store b k v) = refl
+asks_is g (stmts.GetGlobal d k) = refl
+asks_is g (stmts.SetGlobal k v) = refl
+asks_is g (stmts.Int d n) = refl
+asks_is g (stmts.Move d s) = refl
+asks_is g (stmts.Nil d) = refl
+
+asked_map : (g : ℕ) (ss : List Stmt) → asked_among g (map (op_of g) ss) ≡ wishes_among ss
+asked_map g [] = refl
+asked_map g (s ∷ ss) =
+    let here : one_if (asks g (op_of g s)) ≡ one_if (may_ask s) = ap one_if (asks_is g s) in
+    let wishes : wishes_among (s ∷ ss) ≡ one_if (may_ask s) + wishes_among ss = go (may_ask s) in
+    omega (arith, asked_more g (op_of g s) (map (op_of g) ss), here, wishes, asked_map g ss) where
+      go : (b : Bool) → length (cond b (s ∷ filter may_ask ss) (filter may_ask ss)) ≡ one_if b + wishes_among ss
+      go true = omega arith
+      go false = omega arith
+
+pub asked_turns : (p : Program) (g : ℕ) → asked_among g (turns_of p) ≡ wishes_of p g
+asked_turns p g = asked_mine g (turns_of p) ∙ ap (asked_among g) (turns_mine p g) ∙ asked_map g (statements_of p g)
+
+-- an operation that asks may begin
+pub has_wish : (p : Program) (g : ℕ) (es : List (Entry Op)) (o : Op) (rest : List Op) → turns_of p ≡ reverse (begun_in es) ++ o ∷ rest → asks g o ≡ true → ltb (asked_by g es) (wishes_of p g) ≡ true
+has_wish p g es o rest turns e =
+    let all = ap (asked_among g) turns ∙ asked_append g (reverse (begun_in es)) (o ∷ rest) in
+    let one : one_if (asks g o) ≡ 1 = ap one_if e in
+    lt-ltb (asked_by g es) (wishes_of p g) (omega (arith, asked_turns p g, all, asked_more g o rest, one, asked_begun g es, asked_reverse g (begun_in es)))
+
+-- ---- ending
+
+abbrev ended_among : ℕ → List Op → Bool
+ended_among g [] = false
+ended_among g (o ∷ os) = ends (Some o) g || ended_among g os
+
+or_assoc : (a b c : Bool) → ((a || b) || c) ≡ (a || (b || c))
+or_assoc true b c = refl
+or_assoc false b c = refl
+
+or_right : (a b : Bool) → b ≡ true → (a || b) ≡ true
+or_right true b e = refl
+or_right false b e = e
+
+or_false : (a : Bool) → (a || false) ≡ a
+or_false true = refl
+or_false false = refl
+
+or_swap : (a b : Bool) → (a || (b || false)) ≡ (b || a)
+or_swap true true = refl
+or_swap true false = refl
+or_swap false true = refl
+or_swap false false = refl
+
+ended_append : (g : ℕ) (xs ys : List Op) → ended_among g (xs ++ ys) ≡ (ended_among g xs || ended_among g ys)
+ended_append g [] ys = refl
+ended_append g (x ∷ xs) ys = ap (λ (b : Bool). ends (Some x) g || b) (ended_append g xs ys) ∙ sym (or_assoc (ends (Some x) g) (ended_among g xs) (ended_among g ys))
+
+ended_reverse : (g : ℕ) (xs : List Op) → ended_among g (reverse xs) ≡ ended_among g xs
+ended_reverse g [] = refl
+ended_reverse g (x ∷ xs) =
+    ap (ended_among g) (more x xs) ∙ ended_append g (reverse xs) (x ∷ []) ∙ ap (λ (b : Bool). b || (ends (Some x) g || false)) (ended_reverse g xs) ∙ or_swap (ended_among g xs) (ends (Some x) g)
+
+ended_begun : (g : ℕ) (es : List (Entry Op)) → ended_in es g ≡ ended_among g (begun_in es)
+ended_begun g [] = refl
+ended_begun g (e ∷ es) = go e.begun (ended_begun g es) where
+  go : (b : Option Op) → ended_in es g ≡ ended_among g (begun_in es) → (ends b g || ended_in es g) ≡ ended_among g (option_to_list b ++ begun_in es)
+  go None ih = ih
+  go (Some o) ih = ap (λ (b : Bool). ends (Some o) g || b) ih
+
+-- among pieces, one of which has it
+among_pieces : (g : ℕ) (f : ℕ → List Op) (n a i : ℕ) → a ≤ i → i < a + n → ended_among g (f i) ≡ true → ended_among g (flat_map f (range_with_len a n)) ≡ true
+among_pieces g f zero a i low high e = absurd (omega arith)
+among_pieces g f (suc n) a i low high e = ended_append g (f a) (flat_map f (range_with_len (a + 1) n)) ∙ elim (cases_lt a i) [
+  | inl lt ↦ or_right (ended_among g (f a)) (ended_among g (flat_map f (range_with_len (a + 1) n))) (among_pieces g f n (a + 1) i (omega arith) (omega arith) e)
+  | inr le ↦ let same : i ≡ a = omega arith in ap (λ (b : Bool). b || ended_among g (flat_map f (range_with_len (a + 1) n))) (ap (λ (k : ℕ). ended_among g (f k)) (sym same) ∙ e)
+]
+
+module _ (p : Program) (g : ℕ) (there : g < length p.goroutines) where
+  turn_ends : ended_among g (turn_of p (count_of p g) g) ≡ true
+  turn_ends =
+      let live : leb (count_of p g) (count_of p g) ≡ true = le-leb (count_of p g) (count_of p g) (omega arith) in
+      let none = slice_get_past (statements_of p g) (count_of p g) (omega arith) in
+      ap (λ (b : Bool). ended_among g (cond b (op.Poll ∷ work_at g (slice_get (statements_of p g) (count_of p g)) ∷ []) [])) live
+      ∙ ap (λ (s : Option Stmt). ended_among g (op.Poll ∷ work_at g s ∷ [])) none
+      ∙ ap (λ (b : Bool). b || false) (eq-eqb g g refl)
+
+  pub turns_end : ended_among g (turns_of p) ≡ true
+  unfolding turns_of
+  turns_end =
+      let round : ended_among g (round_of p (count_of p g)) ≡ true = among_pieces g (turn_of p (count_of p g)) (length p.goroutines) 0 g (omega arith) (omega arith) turn_ends in
+      let rounds = among_pieces g (round_of p) (total_of p + 1) 0 (count_of p g) (omega arith) (omega (arith, count-le p g there)) round in
+      ended_append g (flat_map (round_of p) (range_with_len 0 (total_of p + 1))) (op.Leave ∷ []) ∙ ap (λ (b : Bool). b || false) rounds
+
+  -- where the leave is what comes next, it has ended
+  pub ended_then : (es : List (Entry Op)) → turns_of p ≡ reverse (begun_in es) ++ op.Leave ∷ [] → ended_in es g ≡ true
+  ended_then es turns =
+      ended_begun g es ∙ sym (ended_reverse g (begun_in es)) ∙ sym (or_false (ended_among g (reverse (begun_in es)))) ∙ sym (ended_append g (reverse (begun_in es)) (op.Leave ∷ [])) ∙ ap (ended_among g) (sym turns) ∙ turns_end
+
+pub all_then : (p : Program) (z : Arena) (a : ℕ) (es : List (Entry Op)) (n : ℕ) → n ≤ length p.goroutines → turns_of p ≡ reverse (begun_in es) ++ op.Leave ∷ [] → all_ended z a es n ≡ true
+all_then p z a es zero le turns = refl
+all_then p z a es (suc n) le turns =
+    let here : ended_in es n ≡ true = ended_then p n (omega arith) es turns in
+    let rest = all_then p z a es n (omega arith) turns in
+    go (not (eqb (z.seat_of n) a)) (ended_in es n) (all_ended z a es n) here rest where
+      go : (b c d : Bool) → c ≡ true → d ≡ true → ((b || c) && d) ≡ true
+      go true true true e f = refl
+      go false true true e f = refl
+      go b false d e f = absurd cc
+      go b c false e f = absurd cc
+
+-- ---- leaving
+
+abbrev left_among : List Op → Bool
+left_among [] = false
+left_among (o ∷ os) = leaves (Some o) || left_among os
+
+left_begun : (es : List (Entry Op)) → has_left es ≡ left_among (begun_in es)
+left_begun [] = refl
+left_begun (e ∷ es) = go e.begun (left_begun es) where
+  go : (b : Option Op) → has_left es ≡ left_among (begun_in es) → (leaves b || has_left es) ≡ left_among (option_to_list b ++ begun_in es)
+  go None ih = ih
+  go (Some o) ih = ap (λ (b : Bool). leaves (Some o) || b) ih
+
+-- who has ended, and who has left, is settled by what has begun
+pub same_ended : (es fs : List (Entry Op)) (g : ℕ) → begun_in fs ≡ begun_in es → ended_in fs g ≡ ended_in es g
+same_ended es fs g e = ended_begun g fs ∙ ap (ended_among g) e ∙ sym (ended_begun g es)
+
+pub same_left : (es fs : List (Entry Op)) → begun_in fs ≡ begun_in es → has_left fs ≡ has_left es
+same_left es fs e = left_begun fs ∙ ap left_among e ∙ sym (left_begun es)

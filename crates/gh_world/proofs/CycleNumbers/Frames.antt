@@ -1,0 +1,127 @@
+-- The steps of processors and workers, and what they leave of the words of cycles.
+use Rattle.std.proofs.Common.{◌≡◌, ℕ, suc, ◌⊎◌, inl, inr, Bool, true, false, eqb, refl}
+use Rattle.std.specs.Prelude.{bit_or}
+use Rattle.gh_base.specs.declared.cell.Ask.{Ask}
+use Rattle.gh_base.specs.declared.cell.Ask.TheVariants.{Add, And, Load, Or, Store, Swap}
+use Rattle.gh_base.specs.declared.cell.Cell.{Cell}
+use Rattle.gh_base.specs.declared.cell.Cell.TheVariants as cell
+use Rattle.gh_base.specs.Cells.{put, Words}
+use Rattle.gh_base.specs.Steps.{effect}
+use Rattle.gh_worker.specs.Writing.{IsWritten, WritesItsOwn}
+use Rattle.gh_world.specs.Numbers.{asked_after, IsNoNumber, LeavesNumbers, opened_after}
+
+-- the words of cycles
+pub record Numbers : Type 0 where
+  pub gen : ℕ
+  pub begun : ℕ
+  pub swept : ℕ
+  pub tally : ℕ
+  pub live : ℕ
+
+abbrev pub numbers_of : Words → Numbers
+numbers_of w = record { gen = w cell.Gen; begun = w cell.Begun; swept = w cell.Swept; tally = w cell.Tally; live = w cell.Live }
+
+-- these stay, and the request stays or is made
+pub record Leaves (words : Words) (ask : Ask) : Type 0 where
+  pub numbers : numbers_of (effect words ask) ≡ numbers_of words
+  pub opens_none : (before : ℕ) → opened_after ask before ≡ before
+  pub want : (((before : ℕ) → asked_after ask before ≡ before) × (effect words ask cell.Want ≡ words cell.Want)) ⊎ (((before : ℕ) → asked_after ask before ≡ suc before) × (effect words ask cell.Want ≡ bit_or (words cell.Want) 1))
+
+-- a word of another cell is written
+pub record Apart (words : Words) (c : Cell) (value : ℕ) : Type 0 where
+  pub numbers : numbers_of (put words c value) ≡ numbers_of words
+  pub want : put words c value cell.Want ≡ words cell.Want
+
+abbrev IsApart : Cell → Type 0
+IsApart c = ((words : Words) (value : ℕ) → Apart words c value) × ((value before : ℕ) → opened_after (Store c value) before ≡ before) × ((bits before : ℕ) → asked_after (Or c bits) before ≡ before)
+
+apart : (c : Cell) → IsNoNumber c → IsApart c
+apart cell.Touch h = (λ w v. record { numbers = refl; want = refl }, λ v b. refl, λ v b. refl)
+apart cell.Lock h = (λ w v. record { numbers = refl; want = refl }, λ v b. refl, λ v b. refl)
+apart cell.Heap h = (λ w v. record { numbers = refl; want = refl }, λ v b. refl, λ v b. refl)
+apart (cell.Page i) h = (λ w v. record { numbers = refl; want = refl }, λ v b. refl, λ v b. refl)
+apart (cell.Alloc i) h = (λ w v. record { numbers = refl; want = refl }, λ v b. refl, λ v b. refl)
+apart (cell.Mark i) h = (λ w v. record { numbers = refl; want = refl }, λ v b. refl, λ v b. refl)
+apart (cell.Bitmap i) h = (λ w v. record { numbers = refl; want = refl }, λ v b. refl, λ v b. refl)
+apart (cell.Birth i) h = (λ w v. record { numbers = refl; want = refl }, λ v b. refl, λ v b. refl)
+apart (cell.Field i) h = (λ w v. record { numbers = refl; want = refl }, λ v b. refl, λ v b. refl)
+apart (cell.Global i) h = (λ w v. record { numbers = refl; want = refl }, λ v b. refl, λ v b. refl)
+apart (cell.Buffer i) h = (λ w v. record { numbers = refl; want = refl }, λ v b. refl, λ v b. refl)
+apart (cell.Entry i j) h = (λ w v. record { numbers = refl; want = refl }, λ v b. refl, λ v b. refl)
+apart (cell.Ack i) h = (λ w v. record { numbers = refl; want = refl }, λ v b. refl, λ v b. refl)
+apart (cell.Scanned i) h = (λ w v. record { numbers = refl; want = refl }, λ v b. refl, λ v b. refl)
+apart cell.Phase h = absurd h
+apart cell.Gen h = absurd h
+apart cell.Begun h = absurd h
+apart cell.Swept h = absurd h
+apart cell.Want h = absurd h
+apart cell.Bank h = absurd h
+apart cell.Gcur h = absurd h
+apart cell.Trigger h = absurd h
+apart cell.Work h = absurd h
+apart cell.Slack h = absurd h
+apart cell.Tally h = absurd h
+apart cell.Live h = absurd h
+
+written : (seat : ℕ) (c : Cell) → IsWritten seat c → IsNoNumber c
+written seat (cell.Buffer i) h = tt
+written seat (cell.Entry i j) h = tt
+written seat (cell.Mark i) h = tt
+written seat (cell.Ack i) h = tt
+written seat cell.Touch h = absurd h
+written seat cell.Lock h = absurd h
+written seat cell.Heap h = absurd h
+written seat (cell.Page i) h = absurd h
+written seat (cell.Alloc i) h = absurd h
+written seat (cell.Bitmap i) h = absurd h
+written seat (cell.Birth i) h = absurd h
+written seat (cell.Field i) h = absurd h
+written seat (cell.Global i) h = absurd h
+written seat (cell.Scanned i) h = absurd h
+written seat cell.Phase h = absurd h
+written seat cell.Gen h = absurd h
+written seat cell.Begun h = absurd h
+written seat cell.Swept h = absurd h
+written seat cell.Want h = absurd h
+written seat cell.Bank h = absurd h
+written seat cell.Gcur h = absurd h
+written seat cell.Trigger h = absurd h
+written seat cell.Work h = absurd h
+written seat cell.Slack h = absurd h
+written seat cell.Tally h = absurd h
+written seat cell.Live h = absurd h
+
+module _ (words : Words) where
+  swapped : (c : Cell) (old new : ℕ) → IsApart c → (yes : Bool) → eqb (words c) old ≡ yes → Leaves words (Swap c old new)
+  swapped c old new a true e = let x = a.0 words new in record { numbers = rw e x.numbers; opens_none = λ b. refl; want = inl (λ b. refl, rw e x.want) }
+  swapped c old new a false e = record { numbers = rw e refl; opens_none = λ b. refl; want = inl (λ b. refl, rw e refl) }
+
+  by_cell : (ask : Ask) → LeavesNumbers ask → Leaves words ask
+  by_cell (Load c) h = record { numbers = refl; opens_none = λ b. refl; want = inl (λ b. refl, refl) }
+  by_cell (Store c value) h = let a = apart c h in let x = a.0 words value in record { numbers = x.numbers; opens_none = a.1 value; want = inl (λ b. refl, x.want) }
+  by_cell (Or c bits) (inl h) = let a = apart c h in let x = a.0 words (bit_or (words c) bits) in record { numbers = x.numbers; opens_none = λ b. refl; want = inl (a.2 bits, x.want) }
+  by_cell (Or c bits) (inr h) = rw h.0 (rw h.1 (record { numbers = refl; opens_none = λ b. refl; want = inr (λ b. refl, refl) }))
+  by_cell (And c bits) h = let x = (apart c h).0 words _ in record { numbers = x.numbers; opens_none = λ b. refl; want = inl (λ b. refl, x.want) }
+  by_cell (Add c more) h = let x = (apart c h).0 words _ in record { numbers = x.numbers; opens_none = λ b. refl; want = inl (λ b. refl, x.want) }
+  by_cell (Swap c old new) h = swapped c old new (apart c h) (eqb (words c) old) refl
+
+  pub leaves : (ask : Ask) → LeavesNumbers ask → Leaves words ask
+  leaves ask h = by_cell ask h
+
+  -- a worker moves the cursor besides
+  pub worker_leaves : (seat : ℕ) (ask : Ask) → WritesItsOwn seat ask → Leaves words ask
+  worker_leaves seat (Load c) h = leaves (Load c) tt
+  worker_leaves seat (Store c value) h = leaves (Store c value) (written seat c h)
+  worker_leaves seat (Or c bits) h = leaves (Or c bits) (inl (written seat c h))
+  worker_leaves seat (And c bits) h = leaves (And c bits) (written seat c h)
+  worker_leaves seat (Swap c old new) h = leaves (Swap c old new) (written seat c h)
+  worker_leaves seat (Add c more) h = rw h.0 (record { numbers = refl; opens_none = λ b. refl; want = inl (λ b. refl, refl) })
+
+-- a worker asks for no cycle
+pub worker_asks_none : (seat : ℕ) (ask : Ask) → WritesItsOwn seat ask → (before : ℕ) → asked_after ask before ≡ before
+worker_asks_none seat (Load c) h before = refl
+worker_asks_none seat (Store c value) h before = refl
+worker_asks_none seat (Or c bits) h before = (apart c (written seat c h)).2 bits before
+worker_asks_none seat (And c bits) h before = refl
+worker_asks_none seat (Add c more) h before = refl
+worker_asks_none seat (Swap c old new) h before = refl

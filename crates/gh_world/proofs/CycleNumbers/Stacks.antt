@@ -1,0 +1,196 @@
+-- The numbers at the stacks after every legal list.
+use Rattle.std.proofs.Common.{◌≡◌, ℕ, ◌≤◌, ◌<◌, ◌==◌, ◌⊎◌, inl, inr, Bool, true, false, cond, eqb, refl, sym, ap, subst, ◌∙◌, arith, List, [], ◌∷◌, Option, Some, None}
+use Rattle.gh_base.specs.declared.cell.Ask.{Ask}
+use Rattle.gh_base.specs.declared.cell.Ask.TheVariants.{Add, And, Load, Or, Store, Swap}
+use Rattle.gh_base.specs.declared.cell.Cell.{Cell}
+use Rattle.gh_base.specs.declared.cell.Cell.TheVariants as cell
+use Rattle.gh_base.specs.declared.layout.Layout.{Layout}
+use Rattle.gh_base.specs.declared.machine.Entry.{Entry}
+use Rattle.gh_base.specs.declared.pack.TheConstants.{END}
+use Rattle.gh_base.specs.Cells.{put, same_cell, Words}
+use Rattle.gh_base.specs.Lists.{Begins, Kind, Legal, started}
+use Rattle.gh_base.specs.Steps.{effect}
+use Rattle.gh_phase.specs.Handshake.{Acts, Awake, Party, PlaceBegins, Stage}
+use Rattle.gh_phase.specs.Shakes.{IsAwake}
+use Rattle.gh_coord.specs.Listing as coord
+use Rattle.gh_worker.specs.Listing as worker
+use Rattle.gh_worker.specs.Writing.{IsWritten, WorkersWriteTheirOwn, WritesItsOwn}
+use Rattle.gh_world.specs.declared.handshake.Actor.TheVariants as actor
+use Rattle.gh_world.specs.Handshake.{AreParties, is_busy, KeepsIt, Pacing}
+use Rattle.gh_world.specs.Numbers.{ahead_at, CountsCycles, IsFew, opened_in, Part, Outside, Numbered, Opened, TallyCleared, LiveCleared, Begun, Checked, Ended, Counted, part_of, WritesNoNumbers}
+use Rattle.gh_world.specs.Waits.{IsNumberOf, NumbersStack, NumbersStacks, StacksAreNumbered}
+use Rattle.gh_world.proofs.CycleNumbers.Frames.{Leaves as Leaves_, leaves, Numbers, worker_leaves}
+use Rattle.gh_world.proofs.CycleNumbers.Lists.{rises}
+use Rattle.gh_world.proofs.CycleNumbers.Wanting.{Aside, aside as lead_aside}
+use Rattle.gh_world.proofs.CycleNumbers.Seats as seats
+
+begun_behind : (part : Part) → (ahead_at part).begun ≤ (ahead_at part).numbered
+begun_behind Outside = omega arith
+begun_behind Numbered = omega arith
+begun_behind Opened = omega arith
+begun_behind TallyCleared = omega arith
+begun_behind LiveCleared = omega arith
+begun_behind Begun = omega arith
+begun_behind Checked = omega arith
+begun_behind Ended = omega arith
+begun_behind Counted = omega arith
+
+abbrev IsStack : Cell → Type 0
+IsStack c = (h : ℕ) × (c ≡ cell.Scanned h)
+
+which : (c : Cell) (g : ℕ) → (same_cell c (cell.Scanned g) ≡ false) ⊎ IsStack c
+which cell.Touch g = inl refl
+which cell.Phase g = inl refl
+which cell.Gen g = inl refl
+which cell.Begun g = inl refl
+which cell.Swept g = inl refl
+which cell.Lock g = inl refl
+which cell.Want g = inl refl
+which cell.Bank g = inl refl
+which cell.Gcur g = inl refl
+which cell.Heap g = inl refl
+which cell.Trigger g = inl refl
+which cell.Work g = inl refl
+which cell.Slack g = inl refl
+which cell.Tally g = inl refl
+which cell.Live g = inl refl
+which (cell.Page i) g = inl refl
+which (cell.Alloc i) g = inl refl
+which (cell.Mark i) g = inl refl
+which (cell.Bitmap i) g = inl refl
+which (cell.Birth i) g = inl refl
+which (cell.Field i) g = inl refl
+which (cell.Global i) g = inl refl
+which (cell.Buffer i) g = inl refl
+which (cell.Entry i j) g = inl refl
+which (cell.Ack i) g = inl refl
+which (cell.Scanned i) g = inr (i, refl)
+
+module _ (words : Words) (g : ℕ) where
+  abbrev Same : Ask → Type 0
+  Same ask = effect words ask (cell.Scanned g) ≡ words (cell.Scanned g)
+
+  put_same : (c : Cell) (value : ℕ) → same_cell c (cell.Scanned g) ≡ false → put words c value (cell.Scanned g) ≡ words (cell.Scanned g)
+  put_same c value e = rw e refl
+
+  swap_same : (c : Cell) (old new : ℕ) → same_cell c (cell.Scanned g) ≡ false → (yes : Bool) → cond yes (put words c new) words (cell.Scanned g) ≡ words (cell.Scanned g)
+  swap_same c old new e true = put_same c new e
+  swap_same c old new e false = refl
+
+  -- a processor's
+  module _ (party : Party) (stage : Stage) where
+    abbrev Leads : Ask → Type 0
+    Leads ask = Same ask ⊎ IsNumberOf party stage (effect words ask (cell.Scanned g))
+
+    stored : (h value : ℕ) → IsNumberOf party stage value → (b : Bool) → (cond b value (words (cell.Scanned g)) ≡ words (cell.Scanned g)) ⊎ IsNumberOf party stage (cond b value (words (cell.Scanned g)))
+    stored h value n true = inr n
+    stored h value n false = inl refl
+
+    by_store : (c : Cell) (value : ℕ) → NumbersStack party stage (Store c value) → (same_cell c (cell.Scanned g) ≡ false) ⊎ IsStack c → Leads (Store c value)
+    by_store c value n (inl e) = inl (put_same c value e)
+    by_store c value n (inr h) = rw h.1 (stored h.0 value (subst (λ (d : Cell). NumbersStack party stage (Store d value)) h.1 n) (h.0 == g))
+
+    pub numbered : (ask : Ask) → NumbersStack party stage ask → Leads ask
+    numbered (Load c) n = inl refl
+    numbered (Store c value) n = by_store c value n (which c g)
+    numbered (Or c bits) n = elim (which c g) [ inl e ↦ inl (put_same c _ e) | inr h ↦ absurd (subst (λ (d : Cell). NumbersStack party stage (Or d bits)) h.1 n) ]
+    numbered (And c bits) n = elim (which c g) [ inl e ↦ inl (put_same c _ e) | inr h ↦ absurd (subst (λ (d : Cell). NumbersStack party stage (And d bits)) h.1 n) ]
+    numbered (Add c more) n = elim (which c g) [ inl e ↦ inl (put_same c _ e) | inr h ↦ absurd (subst (λ (d : Cell). NumbersStack party stage (Add d more)) h.1 n) ]
+    numbered (Swap c old new) n = elim (which c g) [ inl e ↦ inl (swap_same c old new e (eqb (words c) old)) | inr h ↦ absurd (subst (λ (d : Cell). NumbersStack party stage (Swap d old new)) h.1 n) ]
+
+  -- a worker's
+  not_written : (seat : ℕ) (c : Cell) → IsWritten seat c → same_cell c (cell.Scanned g) ≡ false
+  not_written seat c h = elim (which c g) [ inl e ↦ e | inr x ↦ absurd (subst (IsWritten seat) x.1 h) ]
+
+  pub worker_same : (seat : ℕ) (ask : Ask) → WritesItsOwn seat ask → Same ask
+  worker_same seat (Load c) h = refl
+  worker_same seat (Store c value) h = put_same c value (not_written seat c h)
+  worker_same seat (Or c bits) h = put_same c _ (not_written seat c h)
+  worker_same seat (And c bits) h = put_same c _ (not_written seat c h)
+  worker_same seat (Add c more) h = rw h.0 refl
+  worker_same seat (Swap c old new) h = swap_same c old new (not_written seat c h) (eqb (words c) old)
+
+module _ {P O : Type 0} (l : Layout) (k : Kind P O) (pacing : Pacing) (may : ℕ → List (Entry O) → O → Bool) (sound : Layout → P → Type 0) (party : P → Party) (stage : P → Stage)
+    (parties : AreParties l k (sound l) party stage)
+    (keeps : (es : List (Entry O)) → Legal (seats.it l k pacing may) es → KeepsIt sound party stage (seats.it l k pacing may) es) where
+  -- what an awake processor knows, once it has begun an operation or not
+  pub knows_begun : (a : ℕ) (m : P) (o : Option O) (es : List (Entry O)) → Legal (seats.it l k pacing may) es → a < l.procs → seats.at l k pacing may es a ≡ actor.Runs m → sound l m → Begins (seats.it l k pacing may) a es o → IsAwake (stage (started k o m)) →
+      (party (started k o m)).view.begun ≡ seats.words l k pacing may es cell.Begun
+  knows_begun a m o es legal lt is s b awake = go o b awake where
+    exact : IsAwake (stage m) → (party m).view.begun ≡ seats.words l k pacing may es cell.Begun
+    exact y = ((keeps es legal).processors_know a m (omega (arith, lt)) is y).begun_is
+
+    places : (p q : Party) (s t : Stage) → PlaceBegins (Acts p s) (Acts q t) → IsAwake t → (q ≡ p) × IsAwake s
+    places p q s t (inl e) y = (cc, let same : s ≡ t = cc in subst IsAwake (sym same) y)
+    places p q s t (inr x) y = (let from = x.1 in let to = x.2 in cc, let same : s ≡ Awake = (let from = x.1 in cc) in subst IsAwake (sym same) tt)
+
+    go : (o : Option O) → Begins (seats.it l k pacing may) a es o → IsAwake (stage (started k o m)) → (party (started k o m)).view.begun ≡ seats.words l k pacing may es cell.Begun
+    go None b y = exact y
+    go (Some o) b y =
+        let x = places (party m) (party (k.begins m o)) (stage m) (stage (k.begins m o)) (parties.begins_so m o s (sym (ap (is_busy k) is) ∙ b.0)) y in
+        ap (λ (p : Party). p.view.begun) x.0 ∙ exact x.1
+
+  module _ (quiet : WritesNoNumbers k (sound l)) (works : WorkersWriteTheirOwn) (stacks : NumbersStacks k (sound l) party stage)
+      (counts : (es : List (Entry O)) (c : coord.Coordinating) → Legal (seats.it l k pacing may) es → IsFew es → seats.at l k pacing may es (seats.n l k pacing may) ≡ actor.Leads c → CountsCycles (seats.it l k pacing may) pacing.room es c) where
+    abbrev words : List (Entry O) → Words
+    words es = seats.words l k pacing may es
+
+    abbrev AllNumbered : List (Entry O) → Type 0
+    AllNumbered es = StacksAreNumbered (words es)
+
+    few_before : (e : Entry O) (es : List (Entry O)) → IsFew (e ∷ es) → IsFew es
+    few_before e es few = let up = rises e.ask (opened_in es) in omega (arith, few, up)
+
+    module _ (e : Entry O) (es : List (Entry O)) (legal : Legal (seats.it l k pacing may) (e ∷ es)) (few : IsFew (e ∷ es)) where
+      free : (m : P) → seats.RunsIt l k pacing may sound party stage parties e es m → Leaves_ (words es) e.ask
+      free m x = subst (λ (q : Ask). Leaves_ (words es) q) (sym x.asked) (leaves (words es) _ (quiet.leaves (started k e.begun m) x.sound_then x.busy))
+
+      worker_free : (w : worker.Working) → seats.WorksIt l k pacing may sound party stage parties e es w → Leaves_ (words es) e.ask
+      worker_free w x = subst (λ (q : Ask). Leaves_ (words es) q) (sym x.asked) (worker_leaves (words es) w.seat _ (works w x.sound_it x.busy))
+
+      lead_free : (c : coord.Coordinating) → seats.LeadsIt l k pacing may sound party stage parties e es c → Aside (words es) c.begun e.ask
+      lead_free c x = subst (λ (q : Ask). Aside (words es) c.begun q) (sym x.asked) (lead_aside 0 0 (words es) c 0 c.stage x.sound_it.1)
+
+      as_many : Leaves_ (words es) e.ask → words es cell.Begun ≤ words (e ∷ es) cell.Begun
+      as_many y = let same : words (e ∷ es) cell.Begun ≡ words es cell.Begun = ap (λ (n : Numbers). n.begun) y.numbers in omega (arith, same)
+
+      lead_rises : (c : coord.Coordinating) → CountsCycles (seats.it l k pacing may) pacing.room es c → (words (e ∷ es) cell.Begun ≡ words es cell.Begun) ⊎ (e.ask ≡ Store cell.Begun c.begun) → words es cell.Begun ≤ words (e ∷ es) cell.Begun
+      lead_rises c n (inl same) = omega (arith, same)
+      lead_rises c n (inr stored) =
+          let now : words (e ∷ es) cell.Begun ≡ c.begun = ap (λ (q : Ask). effect (words es) q cell.Begun) stored in
+          let a = n.begun in let b = n.number in let d = begun_behind (part_of c.stage) in
+          omega (arith, now, a, b, d)
+
+      -- no step takes the number of cycles begun back
+      begun_rises : words es cell.Begun ≤ words (e ∷ es) cell.Begun
+      begun_rises = by (seats.step l k pacing may sound party stage parties e es legal (keeps es legal.0)) where
+        by : seats.Step l k pacing may sound party stage parties e es → words es cell.Begun ≤ words (e ∷ es) cell.Begun
+        by (seats.by_processor m x s) = as_many (free m x)
+        by (seats.by_worker w x s) = as_many (worker_free w x)
+        by (seats.by_lead c x) = lead_rises c (counts es c legal.0 (few_before e es few) x.is) (lead_free c x).begun
+
+      stays : (g : ℕ) → words (e ∷ es) (cell.Scanned g) ≡ words es (cell.Scanned g) → AllNumbered es → (words (e ∷ es) (cell.Scanned g) ≡ END) ⊎ (words (e ∷ es) (cell.Scanned g) ≤ words (e ∷ es) cell.Begun)
+      stays g same h = elim (h g) [ inl y ↦ inl (same ∙ y) | inr y ↦ inr (let up = begun_rises in omega (arith, same, y, up)) ]
+
+      written : (g : ℕ) (m : P) (x : seats.RunsIt l k pacing may sound party stage parties e es m) → IsNumberOf (party (started k e.begun m)) (stage (started k e.begun m)) (words (e ∷ es) (cell.Scanned g)) →
+          (words (e ∷ es) (cell.Scanned g) ≡ END) ⊎ (words (e ∷ es) (cell.Scanned g) ≤ words (e ∷ es) cell.Begun)
+      written g m x (inl y) = inl y
+      written g m x (inr y) =
+          let known = knows_begun e.actor m e.begun es legal.0 x.seat x.is x.sound_it legal.1.begins y.0 in
+          let now = y.1 in let up = begun_rises in
+          inr (omega (arith, known, now, up))
+
+      next : AllNumbered es → AllNumbered (e ∷ es)
+      next h g = by (seats.step l k pacing may sound party stage parties e es legal (keeps es legal.0)) where
+        by : seats.Step l k pacing may sound party stage parties e es → (words (e ∷ es) (cell.Scanned g) ≡ END) ⊎ (words (e ∷ es) (cell.Scanned g) ≤ words (e ∷ es) cell.Begun)
+        by (seats.by_processor m x s) =
+            elim (numbered (words es) g (party (started k e.begun m)) (stage (started k e.begun m)) e.ask (subst (λ (q : Ask). NumbersStack (party (started k e.begun m)) (stage (started k e.begun m)) q) (sym x.asked) (stacks.numbers (started k e.begun m) x.sound_then x.busy))) [
+              | inl y ↦ stays g y h
+              | inr y ↦ written g m x y
+            ]
+        by (seats.by_worker w x s) = stays g (worker_same (words es) g w.seat e.ask (subst (λ (q : Ask). WritesItsOwn w.seat q) (sym x.asked) (works w x.sound_it x.busy))) h
+        by (seats.by_lead c x) = stays g ((lead_free c x).scanned g) h
+
+    pub are_numbered : (es : List (Entry O)) → Legal (seats.it l k pacing may) es → IsFew es → AllNumbered es
+    are_numbered [] legal few g = inr (omega arith)
+    are_numbered (e ∷ es) legal few g = next e es legal few (are_numbered es legal.0 (few_before e es few)) g

@@ -1,0 +1,201 @@
+-- The coordinator's steps: what each leaves of the request for a cycle, and of how many are opened.
+use Rattle.std.proofs.Common.{◌≡◌, ℕ, suc, ◌+◌, ◌≤◌, ◌==◌, ◌⊎◌, inl, inr, Bool, true, false, cond, refl, ap, arith, Option, Some, None}
+use Rattle.std.proofs.lemmas.Bool.Decides.{nat_tests}
+use Rattle.gh_base.specs.declared.cell.Ask.{Ask}
+use Rattle.gh_base.specs.declared.cell.Ask.TheVariants.{Store}
+use Rattle.gh_base.specs.declared.cell.Cell.TheVariants as cell
+use Rattle.gh_base.specs.Cells.{Words}
+use Rattle.gh_base.specs.Packing.{bit}
+use Rattle.gh_base.specs.Steps.{cell_of, effect}
+use Rattle.gh_coord.specs.declared.close.CloseStage.{CloseStage}
+use Rattle.gh_coord.specs.declared.close.CloseStage.TheVariants as close_stage
+use Rattle.gh_coord.specs.declared.coord.CoordStage.{CoordStage}
+use Rattle.gh_coord.specs.declared.coord.CoordStage.TheVariants.{Check, Close, Count, Done, LoadAck, LoadWant, MarkOn, Open, Stop, StopAgain, Sweep, Tell, Watch}
+use Rattle.gh_coord.specs.declared.count.Counted.{Counted}
+use Rattle.gh_coord.specs.declared.open.OpenStage.{OpenStage}
+use Rattle.gh_coord.specs.declared.open.OpenStage.TheVariants as open_stage
+use Rattle.gh_coord.specs.declared.tell.TellStage.{TellStage}
+use Rattle.gh_coord.specs.declared.tell.TellStage.TheVariants as tell_stage
+use Rattle.gh_coord.specs.declared.watch.Watched.{Watched}
+use Rattle.gh_coord.specs.declared.watch.Watched.TheVariants.{All, NotYet}
+use Rattle.gh_coord.specs.Closing as close
+use Rattle.gh_coord.specs.Counting as count
+use Rattle.gh_coord.specs.Handshake.{SoundAt}
+use Rattle.gh_coord.specs.Listing.{after_check, after_close, after_count, after_open, after_stop, after_stop_again, after_sweep, after_tell, after_watch, asks_at, at_stage, Coordinating, goes_at, is_busy, stops_world}
+use Rattle.gh_coord.specs.Opening as opens_by
+use Rattle.gh_coord.specs.Stopping as stop
+use Rattle.gh_coord.specs.SweepingAll as all
+use Rattle.gh_coord.specs.Telling as tell
+use Rattle.gh_coord.specs.Watching as watch
+use Rattle.gh_world.specs.Numbers.{asked_after, opened_after}
+use Rattle.gh_world.proofs.CycleNumbers.Frames.{Numbers}
+use Rattle.gh_world.proofs.CycleNumbers.Quiet.{all_quiet, count_still, Quiet, stop_still, watch_still}
+use Rattle.gh_world.specs.Wants.{IsIdle, IsToOpen, last_at}
+
+pub record WantsAt (opened asked want : ℕ) (is_last : Bool) (p : CoordStage) : Type 0 where
+  pub word : want ≤ 1
+  pub enough : opened + want ≤ asked + last_at is_last p
+  pub idle : IsIdle p → is_last ≡ false
+  pub wanted : IsToOpen p → (is_last ≡ true) ⊎ (want ≡ 1)
+
+-- No cycle is asked for, and no stack's word is written. Where the number of cycles begun is written, it is this; and where that of those swept is, it is stored.
+pub record Aside (w : Words) (number : ℕ) (ask : Ask) : Type 0 where
+  pub asks_none : (before : ℕ) → asked_after ask before ≡ before
+  pub scanned : (g : ℕ) → effect w ask (cell.Scanned g) ≡ w (cell.Scanned g)
+  pub begun : (effect w ask cell.Begun ≡ w cell.Begun) ⊎ (ask ≡ Store cell.Begun number)
+  pub swept : (effect w ask cell.Swept ≡ w cell.Swept) ⊎ ((value : ℕ) × (ask ≡ Store cell.Swept value))
+
+module _ (opened asked : ℕ) (w : Words) (s : Coordinating) (marks : ℕ) where
+  -- with its steps counted
+  abbrev u : Coordinating
+  u = record s { marks = marks }
+
+  abbrev In : CoordStage → Type 0
+  In p = WantsAt opened asked (w cell.Want) s.is_last p
+
+  abbrev Next : Ask → Coordinating → Type 0
+  Next ask to = WantsAt (opened_after ask opened) (asked_after ask asked) (effect w ask cell.Want) to.is_last to.stage
+
+  keeps : (ask : Ask) (is_last : Bool) (p : CoordStage) → Quiet w ask → WantsAt opened asked (w cell.Want) is_last p → WantsAt (opened_after ask opened) (asked_after ask asked) (effect w ask cell.Want) is_last p
+  keeps ask is_last p q h = rw (q.opens_none opened, q.asks_none asked, q.want) h
+
+  -- within a cycle that is opened
+  within : (p q : CoordStage) → last_at s.is_last p ≡ bit s.is_last → last_at s.is_last q ≡ bit s.is_last → (IsIdle q → ⊥) → (IsToOpen q → ⊥) → In p → In q
+  within p q is then busy open_ h = record { word = h.word; enough = let e = h.enough in omega (arith, is, then, e); idle = λ x. absurd (busy x); wanted = λ x. absurd (open_ x) }
+
+  -- outside of one
+  acks : (i : ℕ) (gone more : Bool) → In (LoadAck i) → Next (asks_at s (LoadAck i)) (cond gone (cond more (at_stage u (LoadAck (i + 1))) (stops_world (record u { is_last = true }))) (at_stage u LoadWant))
+  acks i true true h = record { word = h.word; enough = h.enough; idle = h.idle; wanted = λ x. absurd x }
+  acks i true false h = record { word = h.word; enough = h.enough; idle = λ x. absurd x; wanted = λ x. inl refl }
+  acks i false more h = record { word = h.word; enough = h.enough; idle = h.idle; wanted = λ x. absurd x }
+
+  wants : (none : Bool) (found : ℕ) → found ≡ w cell.Want → (found == 0) ≡ none → In LoadWant → Next (asks_at s LoadWant) (cond none (at_stage u (LoadAck 0)) (stops_world u))
+  wants true found f e h = record { word = h.word; enough = h.enough; idle = h.idle; wanted = λ x. absurd x }
+  wants false found f e h = record { word = h.word; enough = h.enough; idle = λ x. absurd x; wanted = λ x. inr (let few = h.word in grind (arith, nat_tests, few, f, e)) }
+
+  stopping : (st next : stop.Stopping) (out : Option (Unit {0})) → In (Stop st) → Next (stop.asks st) (after_stop (at_stage u (Stop next)) out)
+  stopping st next None h = keeps (stop.asks st) s.is_last (Stop next) (stop_still w st st.stage).quiet (record { word = h.word; enough = h.enough; idle = λ x. absurd x; wanted = λ x. h.wanted tt })
+  stopping st next (Some x) h = keeps (stop.asks st) s.is_last _ (stop_still w st st.stage).quiet (record { word = h.word; enough = h.enough; idle = λ y. absurd y; wanted = λ y. h.wanted tt })
+
+  -- a cycle is opened
+  clearing : (o : opens_by.CycleOpening) → In (Open (record o { stage = open_stage.ClearWant })) → WantsAt (suc opened) asked 0 s.is_last (Open (record o { stage = open_stage.ClearGcur }))
+  clearing o h = record { word = omega arith; enough = go s.is_last (h.wanted refl) h.enough; idle = λ x. absurd x; wanted = λ x. absurd cc } where
+    go : (last : Bool) → (last ≡ true) ⊎ (w cell.Want ≡ 1) → opened + w cell.Want ≤ asked + 0 → suc opened + 0 ≤ asked + bit last
+    go true y e = omega (arith, e)
+    go false (inl y) e = absurd cc
+    go false (inr y) e = omega (arith, y, e)
+
+  opening : (o : opens_by.CycleOpening) (p : OpenStage) → opens_by.is_busy p ≡ true → In (Open (record o { stage = p })) →
+      Next (opens_by.asks_at o p) (after_open (at_stage u (Open (record o { stage = opens_by.behind p }))) (opens_by.given_at (opens_by.behind p)))
+  opening o open_stage.ClearWant b h = clearing o h
+  opening o open_stage.ClearGcur b h = within _ _ refl refl (λ x. x) (λ x. cc) h
+  opening o open_stage.ClearTally b h = within _ _ refl refl (λ x. x) (λ x. cc) h
+  opening o open_stage.ClearLive b h = within _ _ refl refl (λ x. x) (λ x. cc) h
+  opening o open_stage.StoreTrigger b h = within _ _ refl refl (λ x. x) (λ x. cc) h
+  opening o open_stage.LoadHeap b h = within _ _ refl refl (λ x. x) (λ x. cc) h
+  opening o open_stage.StoreWork b h = within _ _ refl refl (λ x. x) (λ x. cc) h
+  opening o open_stage.StoreSlack b h = within _ _ refl refl (λ x. x) (λ x. cc) h
+  opening o open_stage.StoreBegun b h = within _ _ refl refl (λ x. x) (λ x. cc) h
+  opening o open_stage.StorePhase b h = within (Open (record o { stage = open_stage.StorePhase })) (Watch (watch.opening s.layout s.begun)) refl refl (λ x. x) (λ x. x) h
+  opening o open_stage.Ended b h = absurd cc
+
+  -- it is marked
+  watching : (v next : watch.Watching) (out : Option Watched) → In (Watch v) → Next (watch.asks v) (after_watch (at_stage u (Watch next)) out)
+  watching v next None h = keeps (watch.asks v) s.is_last (Watch next) (watch_still w v v.stage).quiet (within (Watch v) _ refl refl (λ x. x) (λ x. x) h)
+  watching v next (Some All) h = keeps (watch.asks v) s.is_last _ (watch_still w v v.stage).quiet (within (Watch v) _ refl refl (λ x. x) (λ x. x) h)
+  watching v next (Some NotYet) h = keeps (watch.asks v) s.is_last _ (watch_still w v v.stage).quiet (within (Watch v) _ refl refl (λ x. x) (λ x. x) h)
+
+  stopping_again : (st next : stop.Stopping) (out : Option (Unit {0})) → In (StopAgain st) → Next (stop.asks st) (after_stop_again (at_stage u (StopAgain next)) out)
+  stopping_again st next None h = keeps (stop.asks st) s.is_last (StopAgain next) (stop_still w st st.stage).quiet (within (StopAgain st) _ refl refl (λ x. x) (λ x. x) h)
+  stopping_again st next (Some x) h = keeps (stop.asks st) s.is_last _ (stop_still w st st.stage).quiet (within (StopAgain st) _ refl refl (λ x. x) (λ x. x) h)
+
+  checking : (v next : watch.Watching) (out : Option Watched) → In (Check v) → Next (watch.asks v) (after_check (at_stage u (Check next)) out)
+  checking v next None h = keeps (watch.asks v) s.is_last (Check next) (watch_still w v v.stage).quiet (within (Check v) _ refl refl (λ x. x) (λ x. x) h)
+  checking v next (Some All) h = keeps (watch.asks v) s.is_last _ (watch_still w v v.stage).quiet (within (Check v) _ refl refl (λ x. x) (λ x. x) h)
+  checking v next (Some NotYet) h = keeps (watch.asks v) s.is_last _ (watch_still w v v.stage).quiet (within (Check v) _ refl refl (λ x. x) (λ x. x) h)
+
+  -- its marking is ended
+  closing : (c : close.Closing) (p : CloseStage) (found : ℕ) → close.is_busy p ≡ true → In (Close c) → Next (close.asks_at c p) (after_close (at_stage u (Close (close.goes_at c p found))) (close.given (close.goes_at c p found)))
+  closing c close_stage.LoadBank found b h = within (Close c) _ refl refl (λ x. x) (λ x. x) h
+  closing c close_stage.ClearBank found b h = within (Close c) _ refl refl (λ x. x) (λ x. x) h
+  closing c close_stage.StoreGen found b h = within (Close c) _ refl refl (λ x. x) (λ x. x) h
+  closing c close_stage.Ended found b h = absurd cc
+
+  -- it is swept
+  sweeping : (v next : all.SweepingAll) (out : Option (Unit {0})) → In (Sweep v) → Next (all.asks v) (after_sweep (at_stage u (Sweep next)) out)
+  sweeping v next None h = keeps (all.asks v) s.is_last (Sweep next) (all_quiet w v v.stage) (within (Sweep v) _ refl refl (λ x. x) (λ x. x) h)
+  sweeping v next (Some x) h = keeps (all.asks v) s.is_last _ (all_quiet w v v.stage) (within (Sweep v) _ refl refl (λ x. x) (λ x. x) h)
+
+  counting : (c next : count.Counting) (out : Option Counted) → In (Count c) → Next (count.asks c) (after_count (at_stage u (Count next)) out)
+  counting c next None h = keeps (count.asks c) s.is_last (Count next) (count_still w c.stage).quiet (within (Count c) _ refl refl (λ x. x) (λ x. x) h)
+  counting c next (Some read) h = keeps (count.asks c) s.is_last _ (count_still w c.stage).quiet (within (Count c) _ refl refl (λ x. x) (λ x. x) h)
+
+  -- and told
+  told_so : (last : Bool) → s.is_last ≡ last → WantsAt opened asked (w cell.Want) last (Sweep (all.opening s.layout 0)) → WantsAt opened asked (w cell.Want) last (cond last Done (LoadAck 0))
+  told_so true e h = record { word = h.word; enough = h.enough; idle = λ x. absurd x; wanted = λ x. absurd x }
+  told_so false e h = record { word = h.word; enough = h.enough; idle = λ x. refl; wanted = λ x. absurd x }
+
+  telling : (t : tell.Telling) (p : TellStage) → tell.is_busy p ≡ true → In (Tell t) →
+      Next (tell.asks_at t p) (after_tell (at_stage u (Tell (record t { stage = tell.behind p }))) (tell.given_at (tell.behind p)))
+  telling t tell_stage.StoreTrigger b h = within (Tell t) _ refl refl (λ x. x) (λ x. x) h
+  telling t tell_stage.StoreSwept b h = within (Tell t) _ refl refl (λ x. x) (λ x. x) h
+  telling t tell_stage.StorePhase b h = told_so s.is_last refl (within (Tell t) (Sweep (all.opening s.layout 0)) refl refl (λ x. x) (λ x. x) h)
+  telling t tell_stage.Ended b h = absurd cc
+
+  pub goes_so : (p : CoordStage) (found : ℕ) → is_busy p ≡ true → found ≡ w (cell_of (asks_at s p)) → In p → Next (asks_at s p) (goes_at u p found)
+  goes_so (LoadAck i) found b f h = acks i _ _ h
+  goes_so LoadWant found b f h = wants (found == 0) found f refl h
+  goes_so (Stop st) found b f h = stopping st (stop.goes st found) (stop.gives st found) h
+  goes_so (Open o) found b f h = opening o o.stage b h
+  goes_so (Watch v) found b f h = watching v (watch.goes v found) (watch.gives v found) h
+  goes_so (StopAgain st) found b f h = stopping_again st (stop.goes st found) (stop.gives st found) h
+  goes_so (Check v) found b f h = checking v (watch.goes v found) (watch.gives v found) h
+  goes_so MarkOn found b f h = within MarkOn (Watch (watch.opening s.layout s.begun)) refl refl (λ x. x) (λ x. x) h
+  goes_so (Close c) found b f h = closing c c.stage found b h
+  goes_so (Sweep v) found b f h = sweeping v (all.goes v found) (all.gives v found) h
+  goes_so (Count c) found b f h = counting c (count.goes c found) (count.gives c found) h
+  goes_so (Tell t) found b f h = telling t t.stage b h
+  goes_so Done found b f h = absurd cc
+
+  alike : (ask : Ask) → Quiet w ask → Aside w s.begun ask
+  alike ask q = record { asks_none = q.asks_none; scanned = q.scanned; begun = inl (ap (λ (n : Numbers). n.begun) q.counts); swept = inl (ap (λ (n : Numbers). n.swept) q.counts) }
+
+  open_aside : (o : opens_by.CycleOpening) (p : OpenStage) → o.cycle ≡ s.begun → Aside w s.begun (opens_by.asks_at o p)
+  open_aside o open_stage.ClearWant e = record { asks_none = λ b. refl; scanned = λ g. refl; begun = inl refl; swept = inl refl }
+  open_aside o open_stage.ClearGcur e = record { asks_none = λ b. refl; scanned = λ g. refl; begun = inl refl; swept = inl refl }
+  open_aside o open_stage.ClearTally e = record { asks_none = λ b. refl; scanned = λ g. refl; begun = inl refl; swept = inl refl }
+  open_aside o open_stage.ClearLive e = record { asks_none = λ b. refl; scanned = λ g. refl; begun = inl refl; swept = inl refl }
+  open_aside o open_stage.StoreTrigger e = record { asks_none = λ b. refl; scanned = λ g. refl; begun = inl refl; swept = inl refl }
+  open_aside o open_stage.LoadHeap e = record { asks_none = λ b. refl; scanned = λ g. refl; begun = inl refl; swept = inl refl }
+  open_aside o open_stage.StoreWork e = record { asks_none = λ b. refl; scanned = λ g. refl; begun = inl refl; swept = inl refl }
+  open_aside o open_stage.StoreSlack e = record { asks_none = λ b. refl; scanned = λ g. refl; begun = inl refl; swept = inl refl }
+  open_aside o open_stage.StoreBegun e = record { asks_none = λ b. refl; scanned = λ g. refl; begun = inr (ap (λ (v : ℕ). Store cell.Begun v) e); swept = inl refl }
+  open_aside o open_stage.StorePhase e = record { asks_none = λ b. refl; scanned = λ g. refl; begun = inl refl; swept = inl refl }
+  open_aside o open_stage.Ended e = record { asks_none = λ b. refl; scanned = λ g. refl; begun = inl refl; swept = inl refl }
+
+  close_aside : (c : close.Closing) (p : CloseStage) → Aside w s.begun (close.asks_at c p)
+  close_aside c close_stage.LoadBank = record { asks_none = λ b. refl; scanned = λ g. refl; begun = inl refl; swept = inl refl }
+  close_aside c close_stage.ClearBank = record { asks_none = λ b. refl; scanned = λ g. refl; begun = inl refl; swept = inl refl }
+  close_aside c close_stage.StoreGen = record { asks_none = λ b. refl; scanned = λ g. refl; begun = inl refl; swept = inl refl }
+  close_aside c close_stage.Ended = record { asks_none = λ b. refl; scanned = λ g. refl; begun = inl refl; swept = inl refl }
+
+  tell_aside : (t : tell.Telling) (p : TellStage) → Aside w s.begun (tell.asks_at t p)
+  tell_aside t tell_stage.StoreTrigger = record { asks_none = λ b. refl; scanned = λ g. refl; begun = inl refl; swept = inl refl }
+  tell_aside t tell_stage.StoreSwept = record { asks_none = λ b. refl; scanned = λ g. refl; begun = inl refl; swept = inr (t.cycle, refl) }
+  tell_aside t tell_stage.StorePhase = record { asks_none = λ b. refl; scanned = λ g. refl; begun = inl refl; swept = inl refl }
+  tell_aside t tell_stage.Ended = record { asks_none = λ b. refl; scanned = λ g. refl; begun = inl refl; swept = inl refl }
+
+  pub aside : (p : CoordStage) → SoundAt s p → Aside w s.begun (asks_at s p)
+  aside (LoadAck i) e = record { asks_none = λ b. refl; scanned = λ g. refl; begun = inl refl; swept = inl refl }
+  aside LoadWant e = record { asks_none = λ b. refl; scanned = λ g. refl; begun = inl refl; swept = inl refl }
+  aside (Stop st) e = alike (stop.asks st) (stop_still w st st.stage).quiet
+  aside (Open o) e = open_aside o o.stage (ap (λ (x : opens_by.CycleOpening). x.cycle) e.0)
+  aside (Watch v) e = alike (watch.asks v) (watch_still w v v.stage).quiet
+  aside (StopAgain st) e = alike (stop.asks st) (stop_still w st st.stage).quiet
+  aside (Check v) e = alike (watch.asks v) (watch_still w v v.stage).quiet
+  aside MarkOn e = record { asks_none = λ b. refl; scanned = λ g. refl; begun = inl refl; swept = inl refl }
+  aside (Close c) e = close_aside c c.stage
+  aside (Sweep v) e = alike (all.asks v) (all_quiet w v v.stage)
+  aside (Count c) e = alike (count.asks c) (count_still w c.stage).quiet
+  aside (Tell t) e = tell_aside t t.stage
+  aside Done e = record { asks_none = λ b. refl; scanned = λ g. refl; begun = inl refl; swept = inl refl }

@@ -1,0 +1,206 @@
+-- What has acted in a run: the operations that began, in their order, each answered as the heap that never frees answers it there.
+use Rattle.std.proofs.Common.{◌≡◌, ℕ, Bool, true, false, cond, eqb, eq-eqb, arith, List, [], ◌∷◌, ◌++◌, map, reverse, Option, Some, None, refl, sym, ap, subst, ◌∙◌, inl, inr}
+use Rattle.std.specs.Option.{option_to_list}
+use Rattle.std.specs.List.{filter}
+use Rattle.std.proofs.lemmas.Bool.Decides.{nat_tests}
+use Rattle.std.proofs.lemmas.Grind.{reverse_onto}
+use Rattle.std.proofs.lemmas.List.{map-append}
+use Rattle.gh_world.specs.Vocabulary.{Act, acts, AllAnswer, Answer, answer_at, answer_of, answered_by, Answered as Deed, begins, deeds, Entry, Ever, ever_after, is_busy_at, Layout, Legal, meaning, model_after, Op, op_at, opening_ever, Processor, processor_kind, Program, Shape, started, state_of, takes, Words, words_after}
+use Rattle.gh_base.specs.declared.value.Answer.TheVariants as answer
+use Rattle.gh_base.specs.declared.operation.Op.TheVariants as op
+use Rattle.gh_base.specs.Orders.{answered as answered_deed, done_at}
+use Rattle.gh_model.specs.Answers.{Answers, ever_after_all}
+use Rattle.gh_mutator.specs.Acting.{ActsOnce, EachOperationActsOnce}
+use Rattle.gh_mutator.specs.Deeds.{acted, has_point, OnlyPointsChange, point_of}
+use Rattle.gh_mutator.specs.Serving.{has_left_at}
+use Rattle.gh_world.specs.Order.{answered, Answered, before_step, begun_in, ever_of, order_of}
+use Rattle.gh_world.specs.Processors.{arena_of, FullOnlyThere, IsFullFor}
+use Rattle.gh_world.specs.World.{setting_of}
+use Rattle.gh_world.proofs.Explained.Steps.{full_pointed, IsAnothersStep, IsItsOwn, who_steps}
+
+pub reverse_more : {A : Type 0} (x : A) (xs : List A) → reverse (x ∷ xs) ≡ reverse xs ++ x ∷ []
+reverse_more x xs = reverse_onto xs x []
+
+pub map-reverse : {A B : Type 0} (f : A → B) (xs : List A) → map f (reverse xs) ≡ reverse (map f xs)
+map-reverse f [] = refl
+map-reverse f (x ∷ xs) = ap (map f) (reverse_more x xs) ∙ map-append f (reverse xs) (x ∷ []) ∙ ap (λ ys. ys ++ f x ∷ []) (map-reverse f xs) ∙ sym (reverse_more (f x) (map f xs))
+
+-- One answer more.
+
+all_more : (shapes : List Shape) (e : Ever) (ops : List Op) (as' : List Answer) (o : Op) (a : Answer) → AllAnswer shapes e ops as' → Answers shapes (ever_after_all shapes e ops as') o a → AllAnswer shapes e (ops ++ o ∷ []) (as' ++ a ∷ [])
+all_more shapes e [] [] o a all one = (one, tt)
+all_more shapes e [] (b ∷ bs) o a all one = absurd all
+all_more shapes e (p ∷ ps) [] o a all one = absurd all
+all_more shapes e (p ∷ ps) (b ∷ bs) o a all one = (all.0, all_more shapes (ever_after shapes e p b) ps bs o a all.1 one)
+
+ever_more : (shapes : List Shape) (e : Ever) (ops : List Op) (as' : List Answer) (o : Op) (a : Answer) → AllAnswer shapes e ops as' → ever_after_all shapes e (ops ++ o ∷ []) (as' ++ a ∷ []) ≡ ever_after shapes (ever_after_all shapes e ops as') o a
+ever_more shapes e [] [] o a all = refl
+ever_more shapes e [] (b ∷ bs) o a all = absurd all
+ever_more shapes e (p ∷ ps) [] o a all = absurd all
+ever_more shapes e (p ∷ ps) (b ∷ bs) o a all = ever_more shapes (ever_after shapes e p b) ps bs o a all.1
+
+module _ (p : Program) (l : Layout) where
+  abbrev own : List (Entry Op) → Processor
+  own es = state_of (processor_kind p.shapes l) 0 es
+
+  abbrev opening : Words
+  opening = (setting_of p l).opening
+
+  abbrev pub ops_in : List (Entry Op) → List Op
+  ops_in es = map (λ (a : Answered). a.op) (order_of p.shapes l es)
+
+  abbrev pub answers_in : List (Entry Op) → List Answer
+  answers_in es = map (λ (a : Answered). a.answer) (order_of p.shapes l es)
+
+  -- points alone change the heap that never frees
+  pub ever_is : OnlyPointsChange → (es : List (Entry Op)) → model_after (processor_kind p.shapes l) (deeds p.shapes) (meaning p.shapes) es ≡ ever_of p.shapes l es
+  ever_is points [] = refl
+  ever_is points (e ∷ es) = (points p.shapes l).follows es e ∙ ap (λ (v : Ever). acted p.shapes v (acts (before_step p.shapes l es e) e.found)) (ever_is points es)
+
+  -- an act that found no room is one of the points, where there was none
+  pub full_there : (es : List (Entry Op)) (e : Entry Op) → FullOnlyThere (arena_of p.shapes l) opening (e ∷ es) → (x : Act) → acts (before_step p.shapes l es e) e.found ≡ Some x → x.full ≡ true →
+      IsFullFor (arena_of p.shapes l) e.actor (words_after opening es) (state_of (processor_kind p.shapes l) e.actor es) x.op
+  full_there es e full x is f =
+      let m = before_step p.shapes l es e in
+      let point : has_point x.op ≡ true = full_pointed m m.task e.found x is f in
+      full.1 x (ap point_of is ∙ ap (λ (b : Bool). cond b (Some x) None) point) f
+
+  -- an act is answered so: `full` for a new object alone
+  new_alone : (e : Ever) (seat : ℕ) (words : Words) (m : Processor) (o : Op) → IsFullFor (arena_of p.shapes l) seat words m o → Answers p.shapes e o answer.Full
+  new_alone e seat words m (op.New g d t) f = inr refl
+  new_alone e seat words m (op.Load g d b k) f = absurd f
+  new_alone e seat words m (op.Store g b k v) f = absurd f
+  new_alone e seat words m (op.GetGlobal g d k) f = absurd f
+  new_alone e seat words m (op.SetGlobal g k v) f = absurd f
+  new_alone e seat words m (op.Int g d n) f = absurd f
+  new_alone e seat words m (op.Move g d s) f = absurd f
+  new_alone e seat words m (op.Nil g d) f = absurd f
+  new_alone e seat words m (op.Gc g) f = absurd f
+  new_alone e seat words m op.Poll f = absurd f
+  new_alone e seat words m (op.End g) f = absurd f
+  new_alone e seat words m op.Leave f = absurd f
+
+  plain : (e : Ever) (o : Op) → Answers p.shapes e o (answer_of p.shapes e o)
+  plain e (op.New g d t) = inl refl
+  plain e (op.Load g d b k) = refl
+  plain e (op.Store g b k v) = refl
+  plain e (op.GetGlobal g d k) = refl
+  plain e (op.SetGlobal g k v) = refl
+  plain e (op.Int g d n) = refl
+  plain e (op.Move g d s) = refl
+  plain e (op.Nil g d) = refl
+  plain e (op.Gc g) = refl
+  plain e op.Poll = refl
+  plain e (op.End g) = refl
+  plain e op.Leave = refl
+
+  act_answers : (e : Ever) (a : Act) (seat : ℕ) (words : Words) (m : Processor) → (a.full ≡ true → IsFullFor (arena_of p.shapes l) seat words m a.op) → Answers p.shapes e a.op (answer_at p.shapes e a)
+  act_answers e a seat words m full = go a.full refl where
+    go : (b : Bool) → a.full ≡ b → Answers p.shapes e a.op (cond a.full answer.Full (answer_of p.shapes e a.op))
+    go true t = rw t (new_alone e seat words m a.op (full t))
+    go false t = rw t (plain e a.op)
+
+  -- the operations that have acted are answered, in order, as the heap that never frees answers them
+  pub record Acted (es : List (Entry Op)) : Type 0 where
+    pub every : AllAnswer p.shapes opening_ever (reverse (ops_in es)) (reverse (answers_in es))
+    pub ever : ever_after_all p.shapes opening_ever (reverse (ops_in es)) (reverse (answers_in es)) ≡ ever_of p.shapes l es
+
+  acted_more : (es : List (Entry Op)) (e : Entry Op) (a : Option Act) → acts (before_step p.shapes l es e) e.found ≡ a → Acted es →
+      ((x : Act) → a ≡ Some x → x.full ≡ true → IsFullFor (arena_of p.shapes l) e.actor (words_after opening es) (state_of (processor_kind p.shapes l) e.actor es) x.op) → Acted (e ∷ es)
+  acted_more es e None is h full = record { every = rw is h.every; ever = rw is h.ever }
+  acted_more es e (Some x) is h full =
+      let here = act_answers (ever_of p.shapes l es) x e.actor (words_after opening es) (state_of (processor_kind p.shapes l) e.actor es) (full x refl) in
+      let ops = reverse_more x.op (ops_in es) in
+      let answers = reverse_more (answer_at p.shapes (ever_of p.shapes l es) x) (answers_in es) in
+      record {
+        every = rw is (rw (ops, answers) (all_more p.shapes opening_ever _ _ x.op (answer_at p.shapes (ever_of p.shapes l es) x) h.every (rw (h.ever) here)));
+        ever = rw is (rw (ops, answers) (ever_more p.shapes opening_ever _ _ x.op (answer_at p.shapes (ever_of p.shapes l es) x) h.every ∙ ap (λ (y : Ever). ever_after p.shapes y x.op (answer_at p.shapes (ever_of p.shapes l es) x)) h.ever));
+      }
+
+  pub acted_all : (es : List (Entry Op)) → FullOnlyThere (arena_of p.shapes l) opening es → Acted es
+  acted_all [] full = record { every = tt; ever = refl }
+  acted_all (e ∷ es) full = acted_more es e (acts (before_step p.shapes l es e) e.found) refl (acted_all es full.0) (λ x is f. full_there es e full x is f)
+
+  -- ---- what has begun has acted, but for what is to act
+
+  module _ (single : l.procs ≡ 1) (each : EachOperationActsOnce) where
+    begun_op : (m : Processor) (o : Op) → is_busy_at m.task ≡ false → is_busy_at ((processor_kind p.shapes l).begins m o).task ≡ true → op_at ((processor_kind p.shapes l).begins m o).task ≡ Some o
+    begun_op m o idle busy = go (has_left_at m.task) refl where
+      go : (b : Bool) → has_left_at m.task ≡ b → op_at ((processor_kind p.shapes l).begins m o).task ≡ Some o
+      go true left = absurd (let b = subst (λ (x : Bool). is_busy_at (cond x m (begins p.shapes m o)).task ≡ true) left busy in let no : true ≡ false = sym b ∙ idle in cc)
+      go false left = rw left (each.begins p.shapes m o (subst (λ (x : Bool). is_busy_at (cond x m (begins p.shapes m o)).task ≡ true) left busy))
+
+    -- what is to act once this is begun, if anything is
+    to_act : (es : List (Entry Op)) (b : Option Op) → ((o : Op) → b ≡ Some o → is_busy_at (own es).task ≡ false) → is_busy_at (started (processor_kind p.shapes l) b (own es)).task ≡ true → begun_in es ≡ option_to_list (op_at (own es).task) ++ ops_in es →
+        option_to_list b ++ begun_in es ≡ option_to_list (op_at (started (processor_kind p.shapes l) b (own es)).task) ++ ops_in es
+    to_act es None rested busy h = h
+    to_act es (Some o) rested busy h =
+        let none : begun_in es ≡ ops_in es = h ∙ ap (λ (x : Option Op). option_to_list x ++ ops_in es) (each.rests (own es).task (rested o refl)) in
+        ap (λ (xs : List Op). o ∷ xs) none ∙ sym (ap (λ (x : Option Op). option_to_list x ++ ops_in es) (begun_op (own es) o (rested o refl) busy))
+
+    -- what acts goes over to what has acted
+    acts_once : (before after : Option Op) (v : Ever) (x : Option Act) (xs : List Answered) → ActsOnce before after x →
+        option_to_list before ++ map (λ (y : Answered). y.op) xs ≡ option_to_list after ++ map (λ (y : Answered). y.op) (option_to_list (answered p.shapes l v x) ++ xs)
+    acts_once before after v None xs h = ap (λ (b : Option Op). option_to_list b ++ map (λ (y : Answered). y.op) xs) (sym h)
+    acts_once before after v (Some x) xs h = rw (h.0, h.1) refl
+
+    pub ops_are : (es : List (Entry Op)) → Legal (setting_of p l) es → begun_in es ≡ option_to_list (op_at (own es).task) ++ ops_in es
+    ops_are [] legal = refl
+    ops_are (e ∷ es) legal = elim (who_steps p l single es e legal) [ inl x ↦ mine x (ops_are es legal.0) | inr x ↦ other x (ops_are es legal.0) ] where
+      mine : IsItsOwn p l single es e legal → begun_in es ≡ option_to_list (op_at (own es).task) ++ ops_in es → begun_in (e ∷ es) ≡ option_to_list (op_at (own (e ∷ es)).task) ++ ops_in (e ∷ es)
+      mine x before =
+          let m = before_step p.shapes l es e in
+          let busy : is_busy_at (started (processor_kind p.shapes l) e.begun (own es)).task ≡ true = ap (λ (y : Processor). is_busy_at y.task) (sym x.before) ∙ x.busy in
+          to_act es e.begun x.rested busy before
+          ∙ ap (λ (y : Processor). option_to_list (op_at y.task) ++ ops_in es) (sym x.before)
+          ∙ acts_once (op_at m.task) (op_at (takes p.shapes m e.found).task) (ever_of p.shapes l es) (acts m e.found) (order_of p.shapes l es) (each.steps p.shapes m e.found x.busy)
+          ∙ ap (λ (y : Processor). option_to_list (op_at y.task) ++ ops_in (e ∷ es)) (sym x.after)
+
+      other : IsAnothersStep p l single es e legal → begun_in es ≡ option_to_list (op_at (own es).task) ++ ops_in es → begun_in (e ∷ es) ≡ option_to_list (op_at (own (e ∷ es)).task) ++ ops_in (e ∷ es)
+      other x before =
+          let same : order_of p.shapes l (e ∷ es) ≡ order_of p.shapes l es = ap (λ (a : Option Act). option_to_list (answered p.shapes l (ever_of p.shapes l es) a) ++ order_of p.shapes l es) x.acts_not in
+          ap (λ (b : Option Op). option_to_list b ++ begun_in es) x.none ∙ before
+          ∙ ap (λ (y : Processor). option_to_list (op_at y.task) ++ ops_in es) (sym x.after)
+          ∙ ap (λ (xs : List Answered). option_to_list (op_at (own (e ∷ es)).task) ++ map (λ (a : Answered). a.op) xs) (sym same)
+
+  -- ---- the points among what has acted
+
+  abbrev is_point_of : Answered → Bool
+  is_point_of a = has_point a.op
+
+  abbrev as_answered : Deed Act Answer → Answered
+  as_answered y = record { op = y.deed.op; answer = y.answer }
+
+  abbrev pub points_by : List (Entry Op) → List Answered
+  points_by es = map as_answered (answered_by (processor_kind p.shapes l) (deeds p.shapes) (meaning p.shapes) 0 es)
+
+  one_point : (v w : Ever) (x : Option Act) (xs : List Answered) → w ≡ v → map as_answered (option_to_list (answered_deed (meaning p.shapes) w (point_of x))) ++ filter is_point_of xs ≡ filter is_point_of (option_to_list (answered p.shapes l v x) ++ xs)
+  one_point v w None xs e = refl
+  one_point v w (Some x) xs e = rw e (go (has_point x.op) refl) where
+    go : (b : Bool) → has_point x.op ≡ b → map as_answered (option_to_list (answered_deed (meaning p.shapes) v (cond b (Some x) None))) ++ filter is_point_of xs ≡ cond (has_point x.op) (record { op = x.op; answer = answer_at p.shapes v x } ∷ filter is_point_of xs) (filter is_point_of xs)
+    go true t = rw t refl
+    go false t = rw t refl
+
+  abbrev deeds_by : List (Entry Op) → List (Deed Act Answer)
+  deeds_by es = answered_by (processor_kind p.shapes l) (deeds p.shapes) (meaning p.shapes) 0 es
+
+  abbrev deed_here : List (Entry Op) → Entry Op → List (Deed Act Answer)
+  deed_here es e = option_to_list (answered_deed (meaning p.shapes) (model_after (processor_kind p.shapes l) (deeds p.shapes) (meaning p.shapes) es) (done_at (processor_kind p.shapes l) (deeds p.shapes) es e))
+
+  pub points_are : l.procs ≡ 1 → OnlyPointsChange → (es : List (Entry Op)) → Legal (setting_of p l) es → points_by es ≡ filter is_point_of (order_of p.shapes l es)
+  points_are single points [] legal = refl
+  points_are single points (e ∷ es) legal = elim (who_steps p l single es e legal) [ inl x ↦ mine x (points_are single points es legal.0) | inr x ↦ other x (points_are single points es legal.0) ] where
+    mine : IsItsOwn p l single es e legal → points_by es ≡ filter is_point_of (order_of p.shapes l es) → points_by (e ∷ es) ≡ filter is_point_of (order_of p.shapes l (e ∷ es))
+    mine x ih =
+        ap (λ (b : Bool). map as_answered (cond b (deed_here es e ++ deeds_by es) (deeds_by es))) (eq-eqb e.actor 0 x.zeroth)
+        ∙ map-append as_answered (deed_here es e) (deeds_by es)
+        ∙ ap (λ (xs : List Answered). map as_answered (deed_here es e) ++ xs) ih
+        ∙ one_point (ever_of p.shapes l es) (model_after (processor_kind p.shapes l) (deeds p.shapes) (meaning p.shapes) es) (acts (before_step p.shapes l es e) e.found) (order_of p.shapes l es) (ever_is points es)
+
+    other : IsAnothersStep p l single es e legal → points_by es ≡ filter is_point_of (order_of p.shapes l es) → points_by (e ∷ es) ≡ filter is_point_of (order_of p.shapes l (e ∷ es))
+    other x ih =
+        let apart : eqb e.actor 0 ≡ false = eqb-false-of x.other in
+        let same : order_of p.shapes l (e ∷ es) ≡ order_of p.shapes l es = ap (λ (a : Option Act). option_to_list (answered p.shapes l (ever_of p.shapes l es) a) ++ order_of p.shapes l es) x.acts_not in
+        ap (λ (b : Bool). map as_answered (cond b (deed_here es e ++ deeds_by es) (deeds_by es))) apart ∙ ih ∙ ap (filter is_point_of) (sym same) where
+          eqb-false-of : (e.actor ≡ 0 → ⊥) → eqb e.actor 0 ≡ false
+          eqb-false-of ne = grind (arith, nat_tests)

@@ -1,0 +1,48 @@
+-- What the laws of the actors say of a script's run, as its proofs take it.
+use Rattle.std.proofs.Common.{◌≡◌, ◌≤◌, List, ◌∷◌}
+use Rattle.gh_base.specs.Lists.{Legal}
+use Rattle.gh_coord.specs.Listing.{Coordinating}
+use Rattle.gh_coord.specs.Stopping.{acks_of}
+use Rattle.gh_mutator.specs.Acting.{EachOperationActsOnce}
+use Rattle.gh_mutator.specs.Deeds.{OnlyPointsChange, processor_kind}
+use Rattle.gh_mutator.specs.ProcessorPlaces.{party_of, stage_of}
+use Rattle.gh_worker.specs.Writing.{WorkersWriteTheirOwn}
+use Rattle.gh_world.specs.ActorsMark.{Sound}
+use Rattle.gh_world.specs.declared.handshake.Actor.TheVariants as actor
+use Rattle.gh_world.specs.Handshake.{AreParties, KeepsIt}
+use Rattle.gh_world.specs.Numbers.{IsFew, opened_in, part_of, WritesNoNumbers}
+use Rattle.gh_world.specs.Vocabulary.{Entry, Layout, Op, Program, words_after}
+use Rattle.gh_world.specs.Wishes.{most_cycles}
+use Rattle.gh_world.specs.World.{actor_after, may_begin_of, pacing_of, setting_of}
+use Rattle.gh_world.proofs.CycleNumbers.Frames.{numbers_of}
+use Rattle.gh_world.proofs.CycleNumbers.Lists.{holds}
+use Rattle.gh_world.proofs.CycleNumbers.Parts.{At, own_of}
+use Rattle.gh_world.proofs.Explained.Numbers.{Change, change, rise, Rises}
+
+pub record Known (p : Program) (l : Layout) : Type 0 where
+  pub single : l.procs ≡ 1
+  pub each : EachOperationActsOnce
+  pub points : OnlyPointsChange
+  pub parties : AreParties l (processor_kind p.shapes l) (Sound l) party_of stage_of
+  pub quiet : WritesNoNumbers (processor_kind p.shapes l) (Sound l)
+  pub works : WorkersWriteTheirOwn
+  pub keeps : (es : List (Entry Op)) → Legal (setting_of p l) es → KeepsIt Sound party_of stage_of (setting_of p l) es
+  pub few : (es : List (Entry Op)) → Legal (setting_of p l) es → IsFew es
+  -- there is room for each cycle
+  pub roomy : (es : List (Entry Op)) → Legal (setting_of p l) es → opened_in es ≤ most_cycles p
+
+module _ (p : Program) (l : Layout) (k : Known p l) (e : Entry Op) (es : List (Entry Op)) (legal : Legal (setting_of p l) (e ∷ es)) where
+  -- what the step is to the numbers of cycles
+  abbrev pub Changes : Type 0
+  Changes = Change l (processor_kind p.shapes l) (pacing_of p) (may_begin_of p l) Sound party_of stage_of k.parties k.quiet k.works k.keeps e es
+
+  pub changes : Changes
+  changes = change l (processor_kind p.shapes l) (pacing_of p) (may_begin_of p l) Sound party_of stage_of k.parties k.quiet k.works k.keeps e es legal (k.few es legal.0)
+
+  pub rises : Rises l (processor_kind p.shapes l) (pacing_of p) (may_begin_of p l) Sound party_of stage_of k.parties k.quiet k.works k.keeps e es
+  rises = rise l (processor_kind p.shapes l) (pacing_of p) (may_begin_of p l) Sound party_of stage_of k.parties k.quiet k.works k.keeps e es legal (k.few es legal.0)
+
+-- the numbers of cycles, by the part of the cycle that the coordinator is in
+pub counted : (p : Program) (l : Layout) (k : Known p l) (es : List (Entry Op)) (c : Coordinating) → Legal (setting_of p l) es → actor_after p l es (acks_of l) ≡ actor.Leads c →
+    At (pacing_of p).room (opened_in es) (numbers_of (words_after (setting_of p l).opening es)) (own_of c) (part_of c.stage)
+counted p l k es c legal led = (holds l (processor_kind p.shapes l) (pacing_of p) (may_begin_of p l) Sound party_of stage_of k.parties k.quiet k.works k.keeps es legal (k.few es legal) c led).at

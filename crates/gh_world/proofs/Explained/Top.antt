@@ -1,0 +1,170 @@
+-- Whatever the script, and whatever run of it: what it is answered and what its coordinator tells is explained.
+use Rattle.std.proofs.Common.{◌≡◌, ℕ, ◌+◌, ◌^◌, ◌<◌, ◌≤◌, true, List, [], ◌∷◌, length, map, reverse, refl, sym, ap, subst, ◌∙◌, arith, inl, inr}
+use Rattle.std.specs.List.{filter}
+use Rattle.std.proofs.lemmas.Bool.{cases_lt}
+use Rattle.gh_coord.specs.Listing as coord
+use Rattle.gh_model.specs.declared.EverValue.TheVariants as values
+use Rattle.gh_world.specs.declared.handshake.Actor.TheVariants as actor
+use Rattle.gh_world.specs.Order.{Answered}
+use Rattle.gh_world.specs.Vocabulary.{acts, Coordinating, CoordStage, Entry, Ever, Layout, Legal, Name, Op, opening_ever, processor_kind, Program, Reach, state_of, statements_of, WellFormed}
+use Rattle.gh_world.specs.RunVocabulary.{actor_after, AllStands, answers_given, AreFew, AreLive, arena_of, before_step, Check, Close, Count, count_of, CyclesAreFew, Done, EachOperationActsOnce, ever_after_list, ever_of, EveryListKeepsIt, EveryListOfActorsStands, EveryRunIsExplained, has_ended, is_statement_of, IsExplained, IsHeld, IsMade, IsRun, IsStartOf, LaysOut, LeavesTheReached, LoadAck, LoadWant, MarkOn, may_begin_of, OneProcessorKeepsToPolls, OnlyPointsChange, op_of, Open, order_of, outcome_by, pacing_of, party_of, ProcessorInHandshake, ProcessorsBeginFew, ProcessorWritesItsOwn, SetBitsAreCounted, setting_of, SlotsAreRead, Sound, stage_of, Stop, StopAgain, Sweep, Tell, total_of, turns_of, Watch, wishes_of, WorkersWriteTheirOwn}
+use Rattle.gh_world.proofs.AllActors.Asking.{asks_once, left}
+use Rattle.gh_world.proofs.AllActors.Parties.{are_parties, writes_no_numbers}
+use Rattle.gh_world.proofs.Asking.{asked_among, asked_turns}
+use Rattle.gh_world.proofs.EachOnce.{none_beyond, turns_mine}
+use Rattle.gh_world.proofs.OfScripts.{all_stand, few_in_all, many_wishes, single}
+use Rattle.gh_world.proofs.Turning.{count-le}
+use Rattle.gh_world.proofs.Wishing.{filter_few}
+use Rattle.gh_world.proofs.Explained.Acted.{Acted, acted_all, answers_in, ever_is, map-reverse, ops_in}
+use Rattle.gh_world.proofs.Explained.Answers as answers
+use Rattle.gh_world.proofs.Explained.Beyond.{all_leave, held_at_end}
+use Rattle.gh_world.proofs.Explained.Cycles.{cycles_are}
+use Rattle.gh_world.proofs.Explained.Known.{Known}
+use Rattle.gh_world.proofs.Explained.Last.{some_swept}
+use Rattle.gh_world.proofs.Explained.Made.{grows, made_all}
+use Rattle.gh_world.proofs.Explained.Naming.{IsNamed, named-acted, named-opening, reached-made}
+use Rattle.gh_world.proofs.Explained.NoRoom.{full_means}
+use Rattle.gh_world.proofs.Explained.Slots.{Classes}
+use Rattle.gh_world.proofs.Explained.Totals.{are_live}
+
+pub record Laws : Type 0 where
+  pub every : EveryListOfActorsStands
+  pub polls : OneProcessorKeepsToPolls
+  pub each : EachOperationActsOnce
+  pub points : OnlyPointsChange
+  pub places : ProcessorInHandshake
+  pub writes : ProcessorWritesItsOwn
+  pub works : WorkersWriteTheirOwn
+  pub keeps : EveryListKeepsIt Sound party_of stage_of Op
+  pub few : CyclesAreFew Sound party_of stage_of
+  pub begins_few : ProcessorsBeginFew
+  pub bits : SetBitsAreCounted
+  pub slots : SlotsAreRead
+  pub classes : Classes
+
+-- ---- how many `new` and `gc` there are
+
+few_of : (p : Program) (g : ℕ) → WellFormed p → wishes_of p g < 2 ^ 32
+few_of p g formed =
+    let one = filter_few (statements_of p g) in
+    let most = formed.few_statements in
+    let all : count_of p g ≤ total_of p = elim (cases_lt g (length p.goroutines)) [ inl lt ↦ count-le p g lt | inr le ↦ let none = ap length (none_beyond p g le) in omega (arith, none) ] in
+    omega (arith, one, most, all)
+
+is_done : (st : CoordStage) → coord.is_done st ≡ true → st ≡ Done
+is_done Done e = refl
+is_done (LoadAck i) e = absurd cc
+is_done LoadWant e = absurd cc
+is_done (Stop st) e = absurd cc
+is_done (Open o) e = absurd cc
+is_done (Watch w) e = absurd cc
+is_done (StopAgain st) e = absurd cc
+is_done (Check w) e = absurd cc
+is_done MarkOn e = absurd cc
+is_done (Close x) e = absurd cc
+is_done (Sweep w) e = absurd cc
+is_done (Count x) e = absurd cc
+is_done (Tell t) e = absurd cc
+
+module _ (laws : Laws) (p : Program) (l : Layout) (formed : WellFormed p) (out : LaysOut p l) where
+  are_few : (es : List (Entry Op)) → Legal (setting_of p l) es → AreFew Sound party_of stage_of (wishes_of p) l es
+  are_few es legal =
+      laws.few l (processor_kind p.shapes l) (pacing_of p) (may_begin_of p l) (are_parties laws.places laws.writes p.shapes l) (writes_no_numbers laws.places laws.writes p.shapes l) left (arena_of p.shapes l).seat_of (wishes_of p) (asks_once laws.writes p.shapes l)
+      (laws.begins_few (arena_of p.shapes l) (wishes_of p) (λ a es. state_of (processor_kind p.shapes l) a es) (few_in_all p l formed out)) es legal
+
+  known : Known p l
+  known = record {
+    single = single p l formed out;
+    each = laws.each;
+    points = laws.points;
+    parties = are_parties laws.places laws.writes p.shapes l;
+    quiet = writes_no_numbers laws.places laws.writes p.shapes l;
+    works = laws.works;
+    keeps = λ es legal. laws.keeps l (processor_kind p.shapes l) (pacing_of p) (may_begin_of p l) (are_parties laws.places laws.writes p.shapes l) es legal;
+    few = λ es legal. (are_few es legal).few;
+    roomy = λ es legal. let o = (are_few es legal).opened in let many = many_wishes p l formed out in omega (arith, o, many);
+  }
+
+  every : (es : List (Entry Op)) → Legal (setting_of p l) es → AllStands p.shapes l (pacing_of p) (may_begin_of p l) es
+  every es legal = all_stand p l formed out laws.every laws.polls es legal
+
+  -- ---- the heap that never frees
+
+  abbrev ever : List (Entry Op) → Ever
+  ever xs = ever_after_list (arena_of p.shapes l) (setting_of p l).opening xs
+
+  same_ever : (xs : List (Entry Op)) → ever xs ≡ ever_of p.shapes l xs
+  same_ever xs = ever_is p l laws.points xs
+
+  is_named : (xs : List (Entry Op)) → IsNamed (ever_of p.shapes l xs)
+  is_named [] = named-opening
+  is_named (e ∷ es) = named-acted p.shapes (ever_of p.shapes l es) (is_named es) (acts (before_step p.shapes l es e) e.found)
+
+  made : (xs : List (Entry Op)) (n : Name) → Reach (ever xs) n → IsMade (ever xs).made n
+  made xs n r = reached-made (ever xs) (subst IsNamed (sym (same_ever xs)) (is_named xs)) n r
+
+  more_made : (es start : List (Entry Op)) → IsStartOf start es → (n : Name) → IsMade (ever start).made n → IsMade (ever es).made n
+  more_made es start is n lt =
+      let up = grows p.shapes n.g l start es is in
+      let first = ap (λ (e : Ever). e.made n.g) (same_ever start) in
+      let then = ap (λ (e : Ever). e.made n.g) (same_ever es) in
+      omega (arith, up, first, then, lt)
+
+  -- ---- at the end of a run
+  module _ (es : List (Entry Op)) (c : Coordinating) (run : IsRun p l es) (led : actor_after p l es (l.procs + l.workers) ≡ actor.Leads c) where
+    stands : AllStands p.shapes l (pacing_of p) (may_begin_of p l) es
+    stands = every es run.legal
+
+    has : Acted p l es
+    has = acted_all p l es stands.stands.full
+
+    done : coord.is_done c.stage ≡ true
+    done = sym (ap has_ended led) ∙ run.done (l.procs + l.workers) (omega arith)
+
+    last : LeavesTheReached p.shapes l (pacing_of p) (may_begin_of p l) es c
+    last = stands.last c led (is_done c.stage done)
+
+    in_turn : reverse (ops_in p l es) ≡ turns_of p
+    in_turn = sym (map-reverse (λ (a : Answered). a.op) (order_of p.shapes l es)) ∙ answers.acted_are p l (single p l formed out) laws.each laws.points es run stands.stands
+
+    beyond : (g d : ℕ) → l.goroutines ≤ g → (ever es).register g d ≡ values.Nil
+    beyond g d le =
+        let past : length p.goroutines ≤ g = let is = out.goroutines_are in omega (arith, le, is) in
+        let none : filter (is_statement_of g) (reverse (ops_in p l es)) ≡ [] = ap (filter (is_statement_of g)) in_turn ∙ turns_mine p g ∙ ap (map (op_of g)) (none_beyond p g past) in
+        ap (λ (e : Ever). e.register g d) (same_ever es ∙ sym has.ever) ∙ all_leave p.shapes g d opening_ever (reverse (ops_in p l es)) (reverse (answers_in p l es)) none
+
+    held : (n : Name) → Reach (ever es) n → IsHeld (ever es) n
+    held n r = held_at_end (ever es) l.goroutines last.over beyond n r
+
+    few_made : (n : Name) → IsMade (ever es).made n → n.k < 2 ^ 32
+    few_made n lt =
+        let most = made_all p.shapes n.g opening_ever (reverse (ops_in p l es)) (reverse (answers_in p l es)) in
+        let same = ap (λ (e : Ever). e.made n.g) (same_ever es ∙ sym has.ever) in
+        let asks : asked_among n.g (reverse (ops_in p l es)) ≡ wishes_of p n.g = ap (asked_among n.g) in_turn ∙ asked_turns p n.g in
+        let few = few_of p n.g formed in
+        omega (arith, most, same, asks, few, lt)
+
+    lives : AreLive p.shapes (ever_of p.shapes l es) (outcome_by (answers_given p l es) c).objects c.live
+    lives = subst (λ (e : Ever). AreLive p.shapes e (outcome_by (answers_given p l es) c).objects c.live) (same_ever es)
+        (are_live laws.classes laws.slots laws.bits p l known every (λ xs legal. (every xs legal).objects.named) made es c run.legal led done (some_swept p l known es c run.legal led (is_done c.stage done)) stands.objects.fits (stands.counts c led) last held (more_made es) few_made)
+
+    pub explained : IsExplained p l es (outcome_by (answers_given p l es) c)
+    explained = record {
+      run = run;
+      coordinator = c;
+      led = led;
+      given = refl;
+      all = answers.all_answers p l (single p l formed out) laws.each laws.points es run stands.stands;
+      acted = answers.acted_are p l (single p l formed out) laws.each laws.points es run stands.stands;
+      answered = refl;
+      ever = answers.ever_answers p l (single p l formed out) laws.each laws.points es run stands.stands;
+      among = answers.among_are p l (single p l formed out) laws.each laws.points es run stands.stands;
+      each = answers.each_is p l (single p l formed out) laws.each laws.points es run stands.stands;
+      others = answers.others_none p l (single p l formed out) laws.each laws.points es run stands.stands;
+      full = full_means p l known es run.legal stands.stands.full;
+      cycles = cycles_are p l known es c run.legal led done (stands.counts c led);
+      live = lives;
+    }
+
+pub all_explained : Laws → EveryRunIsExplained
+all_explained laws p l es c formed out run led = explained laws p l formed out es c run led

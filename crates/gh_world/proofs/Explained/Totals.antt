@@ -1,0 +1,182 @@
+-- The last numbers of a run: how many objects are live, and how many bytes.
+use Rattle.std.proofs.Common.{◌≡◌, ℕ, ◌+◌, ◌*◌, ◌^◌, ◌-◌, ◌<◌, ◌≤◌, Bool, true, false, ◌&&◌, refl, sym, ap, subst, ◌∙◌, arith, List, [], ◌∷◌, get_or, length, Some, inl, inr}
+use Rattle.std.specs.Prelude.{◌↔◌, slice_get}
+use Rattle.std.proofs.lemmas.Bool.{eqb-true}
+use Rattle.std.proofs.lemmas.Option.{slice_get-get_or}
+use Rattle.gh_base.specs.declared.cell.Cell.TheVariants as cell
+use Rattle.gh_coord.specs.Listing as coord
+use Rattle.gh_world.specs.declared.handshake.Actor.TheVariants as actor
+use Rattle.gh_world.specs.Vocabulary.{acks_of, bit, Coordinating, Cycle, Entry, Ever, Layout, Legal, Name, Op, Program, Reach, row_bit, Words}
+use Rattle.gh_world.specs.RunVocabulary.{actor_after, alloc_words, AllStands, AllWereCounted, AreLive, arena_of, AreWords, Ask, by_field, by_global, effect, EndsCycle, ever_after_list, from_field, from_global, is_set, IsAmong, IsHeld, IsMade, IsMarkedObject, IsPlacedAt, IsStartOf, last_kept, LeavesTheReached, mark_words, marked_by, marked_objects, may_begin_of, pacing_of, page_words, SetBitsAreCounted, setting_of, slot_row, SlotsAreRead, words_in}
+use Rattle.gh_world.proofs.Explained.Cycles.{as_many, at_end, ends_by, legal_start}
+use Rattle.gh_world.proofs.Explained.Known.{Known}
+use Rattle.gh_world.proofs.Explained.Listing.{are_apart, no_more, sum_same}
+use Rattle.gh_world.proofs.Explained.Live as live
+use Rattle.gh_world.proofs.Explained.Live.{bytes_by_bits, set_is}
+use Rattle.gh_world.proofs.AllActors.LeadingNames.{same_name}
+use Rattle.gh_world.proofs.Explained.Slots.{AreNamed, Classes, is_made, is_placed, name_at}
+
+reached_of_held : (e : Ever) (n : Name) → IsHeld e n → Reach e n
+reached_of_held e n (by_global i m is) = from_global i m is
+reached_of_held e n (by_field m i o h is) = from_field m i o (reached_of_held e m h) is
+
+shorter : (e : Entry Op) (before es : List (Entry Op)) → IsStartOf (e ∷ before) es → IsStartOf before es
+shorter e before [] is = absurd cc
+shorter e before (x ∷ es) (inl is) = let same : before ≡ es = cc in inr (self before es same) where
+  self : (xs ys : List (Entry Op)) → xs ≡ ys → IsStartOf xs ys
+  self xs [] is = is
+  self xs (y ∷ ys) is = inl is
+shorter e before (x ∷ es) (inr is) = inr (shorter e before es is)
+
+both_true : (a b : Bool) → a ≡ true → b ≡ true → (a && b) ≡ true
+both_true true true e f = refl
+both_true true false e f = absurd cc
+both_true false b e f = absurd cc
+
+first_true : (a b : Bool) → (a && b) ≡ true → a ≡ true
+first_true true b e = refl
+first_true false b e = absurd cc
+
+second_true : (a b : Bool) → (a && b) ≡ true → b ≡ true
+second_true true b e = e
+second_true false b e = absurd cc
+
+module _ (classes : Classes) (read : SlotsAreRead) (bits : SetBitsAreCounted) (p : Program) (l : Layout) (k : Known p l)
+    (every : (xs : List (Entry Op)) → Legal (setting_of p l) xs → AllStands p.shapes l (pacing_of p) (may_begin_of p l) xs)
+    (named : (xs : List (Entry Op)) → Legal (setting_of p l) xs → AreNamed (ever_after_list (arena_of p.shapes l) (setting_of p l).opening xs).made (words_in p l xs))
+    (made : (xs : List (Entry Op)) (n : Name) → Reach (ever_after_list (arena_of p.shapes l) (setting_of p l).opening xs) n → IsMade (ever_after_list (arena_of p.shapes l) (setting_of p l).opening xs).made n) where
+  abbrev words : List (Entry Op) → Words
+  words xs = words_in p l xs
+
+  abbrev ever : List (Entry Op) → Ever
+  ever xs = ever_after_list (arena_of p.shapes l) (setting_of p l).opening xs
+
+  abbrev IsMarked : Words → Name → Type 0
+  IsMarked w n = IsMarkedObject p.shapes l (pacing_of p) (may_begin_of p l) w n
+
+  -- where the objects that stand are those that are reached
+  module _ (es : List (Entry Op)) (legal : Legal (setting_of p l) es) (left : (n : Name) → IsMade (ever es).made n → ((a : ℕ) × IsPlacedAt (words es) n a) ↔ Reach (ever es) n) where
+    stands_reached : (x : ℕ) → is_set (alloc_words (words es)) x ≡ true → Reach (ever es) (name_at (words es) (ever es).made (named es legal) x)
+    stands_reached x t = (left (name_at (words es) (ever es).made (named es legal) x) (is_made (words es) (ever es).made (named es legal) x t)).0 (x, is_placed (words es) (ever es).made (named es legal) x t)
+
+    is_standing : (n : Name) (a : ℕ) → Reach (ever es) n → IsPlacedAt (words es) n a → is_set (alloc_words (words es)) a ≡ true
+    is_standing n a r at = set_is (alloc_words (words es)) a at.set
+
+    abbrev standing : List Name
+    standing = live.names classes read p l es (every es legal).stands (named es legal) (is_set (alloc_words (words es))) (λ x t. t) stands_reached is_standing (λ n r. (left n (made es n r)).1 r)
+
+    -- where a cycle's marking ended, as many were marked, if they were the same
+    module _ (before : List (Entry Op)) (legal_before : Legal (setting_of p l) before) (grows : (n : Name) → IsMade (ever before).made n → IsMade (ever es).made n) (few : (n : Name) → IsMade (ever es).made n → n.k < 2 ^ 32)
+        (same : (n : Name) → IsMade (ever es).made n → IsMarked (words before) n ↔ Reach (ever es) n) (then : (n : Name) → IsMade (ever before).made n → IsMarked (words before) n ↔ Reach (ever before) n) where
+      abbrev w : Words
+      w = words before
+
+      abbrev test : ℕ → Bool
+      test x = is_set (alloc_words w) x && is_set (mark_words w) x
+
+      sets : (x : ℕ) → test x ≡ true → is_set (alloc_words w) x ≡ true
+      sets x t = first_true (is_set (alloc_words w) x) (is_set (mark_words w) x) t
+
+      marks_reached : (x : ℕ) → test x ≡ true → Reach (ever before) (name_at w (ever before).made (named before legal_before) x)
+      marks_reached x t = (then (name_at w (ever before).made (named before legal_before) x) (is_made w (ever before).made (named before legal_before) x (sets x t))).0 (x, is_placed w (ever before).made (named before legal_before) x (sets x t), eqb-true (row_bit (mark_words w) x) 1 (second_true (is_set (alloc_words w) x) (is_set (mark_words w) x) t))
+
+      is_marked : (n : Name) (a : ℕ) → Reach (ever before) n → IsPlacedAt w n a → test a ≡ true
+      is_marked n a r at =
+          let m = (then n (made before n r)).1 r in
+          let one : m.0 ≡ a = live.one_place classes read p l before (every before legal_before).stands (named before legal_before) n m.0 a r m.1 at in
+          both_true (is_set (alloc_words w) a) (is_set (mark_words w) a) (set_is (alloc_words w) a at.set) (set_is (mark_words w) a (ap (row_bit (mark_words w)) (sym one) ∙ m.2))
+
+      some_marked : (n : Name) → Reach (ever before) n → (a : ℕ) × IsPlacedAt w n a
+      some_marked n r = let m = (then n (made before n r)).1 r in (m.0, m.1)
+
+      abbrev marked : List Name
+      marked = live.names classes read p l before (every before legal_before).stands (named before legal_before) test sets marks_reached is_marked some_marked
+
+      to_standing : (n : Name) → IsAmong n marked → IsAmong n standing
+      to_standing n a =
+          let r = live.are_reached classes read p l before (every before legal_before).stands (named before legal_before) test sets marks_reached is_marked some_marked n a in
+          live.are_listed classes read p l es (every es legal).stands (named es legal) (is_set (alloc_words (words es))) (λ x t. t) stands_reached is_standing (λ m q. (left m (made es m q)).1 q) n ((same n (grows n (made before n r))).0 ((then n (made before n r)).1 r))
+
+      -- what is marked there was made by then
+      was_made : (n : Name) → IsMade (ever es).made n → IsMarked w n → IsMade (ever before).made n
+      was_made n of m =
+          let set : is_set (alloc_words w) m.0 ≡ true = set_is (alloc_words w) m.0 m.1.set in
+          let other = name_at w (ever before).made (named before legal_before) m.0 in
+          let there = is_made w (ever before).made (named before legal_before) m.0 set in
+          let at = is_placed w (ever before).made (named before legal_before) m.0 set in
+          let one : other ≡ n = same_name other n (few other (grows other there)) (few n of) (sym at.says ∙ m.1.says) in
+          subst (IsMade (ever before).made) one there
+
+      to_marked : (n : Name) → IsAmong n standing → IsAmong n marked
+      to_marked n a =
+          let r = live.are_reached classes read p l es (every es legal).stands (named es legal) (is_set (alloc_words (words es))) (λ x t. t) stands_reached is_standing (λ m q. (left m (made es m q)).1 q) n a in
+          live.are_listed classes read p l before (every before legal_before).stands (named before legal_before) test sets marks_reached is_marked some_marked n (there n (made es n r) ((same n (made es n r)).1 r)) where
+            there : (n : Name) → IsMade (ever es).made n → IsMarked w n → Reach (ever before) n
+            there n of m = (then n (was_made n of m)).0 m
+
+      as_marked : length marked ≡ length standing
+      as_marked =
+          let one = no_more marked standing (live.once classes read p l before (every before legal_before).stands (named before legal_before) test sets marks_reached is_marked some_marked) to_standing in
+          let other = no_more standing marked (live.once classes read p l es (every es legal).stands (named es legal) (is_set (alloc_words (words es))) (λ x t. t) stands_reached is_standing (λ m q. (left m (made es m q)).1 q)) to_marked in
+          omega (arith, one, other)
+
+      marked_are : marked_objects (alloc_words w) (mark_words w) 0 l.pages ≡ length standing
+      marked_are =
+          sum_same (λ x. bit (is_set (alloc_words w) (1024 * 0 + x) && is_set (mark_words w) (1024 * 0 + x))) (λ x. bit (test x)) (1024 * l.pages) (λ x lt. ap (λ (y : ℕ). bit (test y)) (omega arith))
+          ∙ sym (live.many classes read p l before (every before legal_before).stands (named before legal_before) test sets marks_reached is_marked some_marked)
+          ∙ as_marked
+
+  -- ---- at the end of a run
+  module _ (es : List (Entry Op)) (c : Coordinating) (legal : Legal (setting_of p l) es) (led : actor_after p l es (acks_of l) ≡ actor.Leads c) (done : coord.is_done c.stage ≡ true)
+      (some : 1 ≤ words es cell.Swept) (fits : AreWords (alloc_words (words es))) (were : AllWereCounted p.shapes l (pacing_of p) (may_begin_of p l) es c) (last : LeavesTheReached p.shapes l (pacing_of p) (may_begin_of p l) es c)
+      (held : (n : Name) → Reach (ever es) n → IsHeld (ever es) n) (grows : (start : List (Entry Op)) → IsStartOf start es → (n : Name) → IsMade (ever start).made n → IsMade (ever es).made n) (few : (n : Name) → IsMade (ever es).made n → n.k < 2 ^ 32) where
+    abbrev names : List Name
+    names = standing es legal last.left
+
+    abbrev filler : Cycle
+    filler = record { k = 0; marked = 0; freed = 0 }
+
+    abbrev newest : Cycle
+    newest = get_or c.cycles.items (length c.cycles.items - 1) filler
+
+    long : length c.cycles.items ≡ words es cell.Swept
+    long = as_many p l k es c legal led done
+
+    is_newest : slice_get c.cycles.items (length c.cycles.items - 1) ≡ Some newest
+    is_newest = slice_get-get_or c.cycles.items (length c.cycles.items - 1) filler (omega (arith, long, some))
+
+    number_is : newest.k ≡ c.begun
+    number_is =
+        let at = at_end p l k es c legal led done in
+        let n = at.number_is in
+        let m = at.keeps.numbered (length c.cycles.items - 1) newest is_newest in
+        omega (arith, n, m, long, some)
+
+    counted_there : (ended : List (Entry Op)) → IsStartOf ended es → EndsCycle p.shapes l (pacing_of p) (may_begin_of p l) newest.k ended → marked_objects (alloc_words (words ended)) (mark_words (words ended)) 0 l.pages ≡ length names
+    counted_there [] start ends = absurd ends
+    counted_there (e ∷ before) start ends =
+        let legal_ended = legal_start p l k (e ∷ before) es start legal in
+        let stores = ends_by p l k newest.k e before legal_ended ends in
+        let begun : EndsCycle p.shapes l (pacing_of p) (may_begin_of p l) c.begun (e ∷ before) = subst (λ (n : ℕ). EndsCycle p.shapes l (pacing_of p) (may_begin_of p l) n (e ∷ before)) number_is ends in
+        let there = (every es legal).ends e before newest.k start ends in
+        let now : (n : Name) → IsMade (ever es).made n → IsMarked (effect (words before) e.ask) n ↔ Reach (ever es) n = last.marked (e ∷ before) start begun in
+        ap (λ (q : Ask). marked_objects (alloc_words (effect (words before) q)) (mark_words (effect (words before) q)) 0 l.pages) stores.1
+        ∙ marked_are es legal last.left before legal_ended.0 (grows before (shorter e before es start)) few (subst (λ (q : Ask). (n : Name) → IsMade (ever es).made n → IsMarked (effect (words before) q) n ↔ Reach (ever es) n) stores.1 now) there.marked
+
+    objects_are : marked_by (last_kept c.cycles) ≡ length names
+    objects_are =
+        let y = were (length c.cycles.items - 1) newest is_newest in
+        ap marked_by is_newest ∙ y.marked ∙ counted_there y.ended y.start y.ends
+
+    pub are_live : AreLive p.shapes (ever es) (marked_by (last_kept c.cycles)) c.live
+    are_live = record {
+      names = names;
+      all = λ n. (
+        λ h. live.are_listed classes read p l es (every es legal).stands (named es legal) (is_set (alloc_words (words es))) (λ x t. t) (stands_reached es legal last.left) (is_standing es legal last.left) (λ m q. (last.left m (made es m q)).1 q) n (reached_of_held (ever es) n h),
+        λ a. held n (live.are_reached classes read p l es (every es legal).stands (named es legal) (is_set (alloc_words (words es))) (λ x t. t) (stands_reached es legal last.left) (is_standing es legal last.left) (λ m q. (last.left m (made es m q)).1 q) n a),
+      );
+      once = are_apart names (live.once classes read p l es (every es legal).stands (named es legal) (is_set (alloc_words (words es))) (λ x t. t) (stands_reached es legal last.left) (is_standing es legal last.left) (λ m q. (last.left m (made es m q)).1 q));
+      objects_are = objects_are;
+      bytes_are = last.live ∙ bytes_by_bits bits (alloc_words (words es)) (slot_row (page_words (words es))) l.pages fits
+          ∙ sym (live.bytes classes read p l es (every es legal).stands (named es legal) (is_set (alloc_words (words es))) (λ x t. t) (stands_reached es legal last.left) (is_standing es legal last.left) (λ m q. (last.left m (made es m q)).1 q));
+    }

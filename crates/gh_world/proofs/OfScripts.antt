@@ -1,0 +1,28 @@
+-- The lists of a script are lists of all actors, of one processor, with few `new` and `gc`; so all stands after each.
+use Rattle.std.proofs.Common.{◌≡◌, ◌≤◌, List, ap, ◌∙◌, arith}
+use Rattle.std.specs.Prelude.{sum_by}
+use Rattle.gh_base.specs.declared.limits.TheConstants.{MOST_STATEMENTS}
+use Rattle.gh_mutator.specs.Facts.{ShapesAreGood}
+use Rattle.gh_world.specs.Actors.{AllStands, EveryListOfActorsStands}
+use Rattle.gh_world.specs.KeepsToPolls.{OneProcessorKeepsToPolls}
+use Rattle.gh_world.specs.Vocabulary.{Entry, Layout, Legal, Op, Program, WellFormed}
+use Rattle.gh_world.specs.Wants.{total}
+use Rattle.gh_world.specs.Wishes.{wishes_in, wishes_of}
+use Rattle.gh_world.specs.World.{LaysOut, may_begin_of, pacing_of, setting_of}
+use Rattle.gh_world.proofs.Wishing.{few_wishes, total_wishes}
+
+pub shapes_good : (p : Program) → WellFormed p → ShapesAreGood p.shapes
+shapes_good p formed = record { fit = λ t lt. formed.shapes_fit t lt; narrow = λ t i lt. (formed.shapes_packed t _ lt).narrow i }
+
+module _ (p : Program) (l : Layout) (formed : WellFormed p) (out : LaysOut p l) where
+  pub single : l.procs ≡ 1
+  single = let is = out.procs_are in let low = formed.settings.procs.0 in let high = formed.settings.procs.1 in omega (arith, is, low, high)
+
+  pub many_wishes : total (wishes_of p) l.goroutines ≡ sum_by wishes_in p.goroutines
+  many_wishes = ap (total (wishes_of p)) out.goroutines_are ∙ total_wishes p.goroutines
+
+  pub few_in_all : total (wishes_of p) l.goroutines ≤ MOST_STATEMENTS
+  few_in_all = let many = many_wishes in let few = few_wishes p.goroutines in let most = formed.few_statements in omega (arith, many, few, most)
+
+  pub all_stand : EveryListOfActorsStands → OneProcessorKeepsToPolls → (es : List (Entry Op)) → Legal (setting_of p l) es → AllStands p.shapes l (pacing_of p) (may_begin_of p l) es
+  all_stand every polls es legal = every p.shapes l (pacing_of p) (wishes_of p) es (shapes_good p formed) l.limits few_in_all legal (polls p.shapes l (pacing_of p) (may_begin_of p l) single es legal)

@@ -1,0 +1,219 @@
+-- The parts of the coordinator ask for words that there are, whatever they were told.
+use Rattle.std.proofs.Common.{◌≡◌, ℕ, ◌+◌, ◌*◌, ◌<◌, Bool, true, false, cond, ◌==◌, refl, sym, subst, ◌∙◌, arith, Option, Some, None}
+use Rattle.std.proofs.lemmas.Bool.Decides.{nat_tests}
+use Rattle.std.proofs.lemmas.Nat.{mod_below}
+use Rattle.std.specs.Prelude.{nat_lt, ◌-◌}
+use Rattle.gh_base.specs.declared.cell.Cell.TheVariants as cell
+use Rattle.gh_base.specs.declared.layout.Layout.{Layout}
+use Rattle.gh_base.specs.declared.pack.PageWord.{PageWord}
+use Rattle.gh_base.specs.declared.pack.PageWord.TheVariants as page
+use Rattle.gh_base.specs.Cells.{buffers_of, InRange}
+use Rattle.gh_base.specs.Packing.{page_of}
+use Rattle.gh_base.specs.Steps.{cell_of}
+use Rattle.gh_coord.specs.declared.close.CloseStage.{CloseStage}
+use Rattle.gh_coord.specs.declared.close.CloseStage.TheVariants as close_stage
+use Rattle.gh_coord.specs.declared.count.CountStage.{CountStage}
+use Rattle.gh_coord.specs.declared.count.CountStage.TheVariants as count_stage
+use Rattle.gh_coord.specs.declared.open.OpenStage.{OpenStage}
+use Rattle.gh_coord.specs.declared.open.OpenStage.TheVariants as open_stage
+use Rattle.gh_coord.specs.declared.stop.StopStage.{StopStage}
+use Rattle.gh_coord.specs.declared.stop.StopStage.TheVariants as stop_stage
+use Rattle.gh_coord.specs.declared.sweep_all.SweepAllStage.{SweepAllStage}
+use Rattle.gh_coord.specs.declared.sweep_all.SweepAllStage.TheVariants as all_stage
+use Rattle.gh_coord.specs.declared.tell.TellStage.{TellStage}
+use Rattle.gh_coord.specs.declared.tell.TellStage.TheVariants as tell_stage
+use Rattle.gh_coord.specs.declared.watch.Watched.TheVariants.{All, NotYet}
+use Rattle.gh_coord.specs.declared.watch.WatchStage.{WatchStage}
+use Rattle.gh_coord.specs.declared.watch.WatchStage.TheVariants as watch_stage
+use Rattle.gh_coord.specs.Closing as close
+use Rattle.gh_coord.specs.Counting as count
+use Rattle.gh_coord.specs.Opening as opens
+use Rattle.gh_coord.specs.PartsSound.{FitsStopStage, FitsWatchStage}
+use Rattle.gh_coord.specs.Stopping as stop
+use Rattle.gh_coord.specs.SweepingAll as all
+use Rattle.gh_coord.specs.Telling as tell
+use Rattle.gh_coord.specs.Watching as watch
+use Rattle.gh_sweep.specs.declared.sweep.SweepEnd.{SweepEnd}
+use Rattle.gh_sweep.specs.declared.sweep.SweepEnd.TheVariants.{Lost, Swept}
+use Rattle.gh_sweep.specs.declared.sweep.SweepStage.{SweepStage}
+use Rattle.gh_sweep.specs.declared.sweep.SweepStage.TheVariants as span
+use Rattle.gh_sweep.specs.Ends as sweep_ends
+use Rattle.gh_sweep.specs.Listing as sweep
+
+-- Of each part, that it is of this heap, and that the word that is next lies in its row.
+
+abbrev pub FitsStopping : Layout → stop.Stopping → Type 0
+FitsStopping l s = (s.layout ≡ l) × FitsStopStage s.layout s.stage
+
+abbrev pub FitsWatching : Layout → watch.Watching → Type 0
+FitsWatching l w = (w.layout ≡ l) × FitsWatchStage w.layout w.stage
+
+-- whatever the head of the span says, its bits are sought within their row
+abbrev pub FitsSpan : Layout → sweep.Sweeping → Type 0
+FitsSpan l m = (m.layout ≡ l) × (m.page < l.pages)
+
+abbrev pub FitsSpans : Layout → SweepAllStage → Type 0
+FitsSpans l (all_stage.LoadPage p) = p < l.pages
+FitsSpans l (all_stage.Sweep p m) = (p < l.pages) × FitsSpan l m
+FitsSpans l (all_stage.Await p) = p < l.pages
+FitsSpans l all_stage.Ended = Unit {0}
+
+abbrev pub FitsSweeping : Layout → all.SweepingAll → Type 0
+FitsSweeping l s = (s.layout ≡ l) × FitsSpans s.layout s.stage
+
+-- What a step of each part leaves.
+
+module _ (s : stop.Stopping) (some : 0 < stop.acks_of s.layout) where
+  ack_on : (ack : ℕ) (b more : Bool) → nat_lt (ack + 1) (stop.acks_of s.layout) ≡ more → ack < stop.acks_of s.layout →
+      FitsStopStage s.layout (cond b (cond more (stop_stage.Await (ack + 1)) stop_stage.Ended) (stop_stage.Await ack))
+  ack_on ack true true e f = grind (arith, nat_tests)
+  ack_on ack true false e f = tt
+  ack_on ack false more e f = f
+
+  stop_on : (p : StopStage) (found : ℕ) → FitsStopStage s.layout p → FitsStopping s.layout (stop.goes_at (record s { stage = p }) p found)
+  stop_on stop_stage.StorePhase found f = (refl, some)
+  stop_on (stop_stage.Await ack) found f = (refl, ack_on ack (stop.is_acknowledged s.stops found) (nat_lt (ack + 1) (stop.acks_of s.layout)) refl f)
+  stop_on stop_stage.Ended found f = (refl, tt)
+
+pub stop_goes : (l : Layout) (s : stop.Stopping) (found : ℕ) → 0 < l.procs → FitsStopping l s → FitsStopping l (stop.goes s found)
+stop_goes l s found some f =
+    let here : 0 < s.layout.procs = subst (λ (k : Layout). 0 < k.procs) (sym f.0) some in
+    let acks : 0 < stop.acks_of s.layout = omega (arith, here) in
+    subst (λ (k : Layout). FitsStopping k (stop.goes s found)) f.0 (stop_on s acks s.stage found f.1)
+
+module _ (w : watch.Watching) where
+  word_on : (i : ℕ) (b more : Bool) → nat_lt (i + 1) (watch.words_of w.layout) ≡ more →
+      FitsWatchStage w.layout (cond b (cond more (watch_stage.Look (i + 1)) (watch_stage.Ended All)) (watch_stage.Ended NotYet))
+  word_on i true true e = grind (arith, nat_tests)
+  word_on i true false e = tt
+  word_on i false more e = tt
+
+  watch_on : (p : WatchStage) (found : ℕ) → FitsWatching w.layout (watch.goes_at (record w { stage = p }) p found)
+  watch_on (watch_stage.Look i) found = (refl, word_on i (watch.is_wanted w.layout w.cycle (watch.cell_at w.layout i) found) (nat_lt (i + 1) (watch.words_of w.layout)) refl)
+  watch_on (watch_stage.Ended watched) found = (refl, tt)
+
+pub watch_goes : (l : Layout) (w : watch.Watching) (found : ℕ) → FitsWatching l w → FitsWatching l (watch.goes w found)
+watch_goes l w found f = subst (λ (k : Layout). FitsWatching k (watch.goes w found)) f.0 (watch_on w w.stage found)
+
+page_stays : (m : sweep.Sweeping) (p : SweepStage) (found : ℕ) → (sweep.goes_at m p found).page ≡ m.page
+page_stays m span.Begin found = refl
+page_stays m (span.LoadMarks i) found = refl
+page_stays m (span.ClearBits i marks) found = refl
+page_stays m (span.ClearMarks i) found = refl
+page_stays m span.AddTally found = refl
+page_stays m span.AddLive found = refl
+page_stays m span.AddHeap found = refl
+page_stays m span.Finish found = refl
+page_stays m span.Ended found = refl
+
+span_goes : (l : Layout) (m : sweep.Sweeping) (found : ℕ) → FitsSpan l m → FitsSpan l (sweep.goes m found)
+span_goes l m found f = (sweep_ends.stays m found ∙ f.0, subst (λ (p : ℕ). p < l.pages) (sym (page_stays m m.stage found)) f.1)
+
+module _ (s : all.SweepingAll) (p : ℕ) (f : p < s.layout.pages) where
+  behind_on : (more : Bool) → nat_lt (p + 1) s.layout.pages ≡ more → FitsSpans s.layout (cond more (all_stage.LoadPage (p + 1)) all_stage.Ended)
+  behind_on true e = grind (arith, nat_tests)
+  behind_on false e = tt
+
+  behind_fits : FitsSpans s.layout (all.behind s p)
+  behind_fits = behind_on (nat_lt (p + 1) s.layout.pages) refl
+
+  load_on : (m : sweep.Sweeping) (b d : Bool) → FitsSpan s.layout m → FitsSpans s.layout (cond b (all_stage.Sweep p m) (cond d (all_stage.Await p) (all.behind s p)))
+  load_on m true d g = (f, g)
+  load_on m false true g = f
+  load_on m false false g = behind_fits
+
+  load_goes : (word : PageWord) → FitsSweeping s.layout (all.after_load s p word)
+  load_goes page.Free = (refl, behind_fits)
+  load_goes (page.Head h) = (refl, load_on (sweep.opening s.layout p h) (h.number + 2 == s.generation) (h.number + 1 == s.generation) (refl, f))
+  load_goes (page.Body b) = (refl, behind_fits)
+
+  await_on : (b : Bool) → FitsSpans s.layout (cond b (all_stage.Await p) (all.behind s p))
+  await_on true = f
+  await_on false = behind_fits
+
+  sweep_on : (m : sweep.Sweeping) (out : Option SweepEnd) → FitsSpan s.layout m → FitsSweeping s.layout (all.after_sweep (all.at_stage s (all_stage.Sweep p m)) p out)
+  sweep_on m None g = (refl, (f, g))
+  sweep_on m (Some Lost) g = (refl, f)
+  sweep_on m (Some (Swept x)) g = (refl, behind_fits)
+
+all_on : (s : all.SweepingAll) (p : SweepAllStage) (found : ℕ) → FitsSpans s.layout p → FitsSweeping s.layout (all.goes_at (record s { stage = p }) p found)
+all_on s (all_stage.LoadPage p) found f = load_goes s p f (page_of found)
+all_on s (all_stage.Sweep p m) found f = sweep_on s p f.0 (sweep.goes m found) (sweep.gives m found) (span_goes s.layout m found f.1)
+all_on s (all_stage.Await p) found f = (refl, await_on s p f (all.is_in_sweep s.generation (page_of found)))
+all_on s all_stage.Ended found f = (refl, tt)
+
+pub all_goes : (l : Layout) (s : all.SweepingAll) (found : ℕ) → FitsSweeping l s → FitsSweeping l (all.goes s found)
+all_goes l s found f = subst (λ (k : Layout). FitsSweeping k (all.goes s found)) f.0 (all_on s s.stage found f.1)
+
+-- The word that each part asks for.
+
+pub stop_within : (s : stop.Stopping) (p : StopStage) → FitsStopStage s.layout p → InRange s.layout (cell_of (stop.asks_at s p))
+stop_within s stop_stage.StorePhase f = tt
+stop_within s (stop_stage.Await ack) f = f
+stop_within s stop_stage.Ended f = tt
+
+-- by its number: the cursor, a stack, a buffer
+word_within : (l : Layout) (i : ℕ) (b d : Bool) → (i == 0) ≡ b → nat_lt (i - 1) l.goroutines ≡ d → i < watch.words_of l → InRange l (cond b cell.Gcur (cond d (cell.Scanned (i - 1)) (cell.Buffer (i - 1 - l.goroutines))))
+word_within l i true d e n f = tt
+word_within l i false true e n f = grind (arith, nat_tests)
+word_within l i false false e n f = go (buffers_of l) f where
+  go : (buffers : ℕ) → i < 1 + l.goroutines + buffers → i - 1 - l.goroutines < buffers
+  go buffers g = grind (arith, nat_tests)
+
+pub watch_within : (w : watch.Watching) (p : WatchStage) → FitsWatchStage w.layout p → InRange w.layout (cell_of (watch.asks_at w p))
+watch_within w (watch_stage.Look i) f = word_within w.layout i (i == 0) (nat_lt (i - 1) w.layout.goroutines) refl refl f
+watch_within w (watch_stage.Ended watched) f = tt
+
+span_within : (m : sweep.Sweeping) (p : SweepStage) → m.page < m.layout.pages → InRange m.layout (cell_of (sweep.asks_at m p))
+span_within m p f = go p where
+  word : (i : ℕ) → sweep.word_at m i < 16 * m.layout.pages
+  word i = mod_below (16 * m.page + i) (16 * m.layout.pages) (omega (arith, f))
+
+  go : (p : SweepStage) → InRange m.layout (cell_of (sweep.asks_at m p))
+  go span.Begin = f
+  go (span.LoadMarks i) = word i
+  go (span.ClearBits i marks) = word i
+  go (span.ClearMarks i) = word i
+  go span.AddTally = tt
+  go span.AddLive = tt
+  go span.AddHeap = tt
+  go span.Finish = f
+  go span.Ended = tt
+
+pub all_within : (s : all.SweepingAll) (p : SweepAllStage) → FitsSpans s.layout p → InRange s.layout (cell_of (all.asks_at s p))
+all_within s (all_stage.LoadPage p) f = f
+all_within s (all_stage.Sweep p m) f =
+    let own : m.page < m.layout.pages = subst (λ (k : Layout). m.page < k.pages) (sym f.1.0) f.1.1 in
+    subst (λ (k : Layout). InRange k (cell_of (sweep.asks m))) f.1.0 (span_within m m.stage own)
+all_within s (all_stage.Await p) f = f
+all_within s all_stage.Ended f = tt
+
+pub open_within : (l : Layout) (o : opens.CycleOpening) (p : OpenStage) → InRange l (cell_of (opens.asks_at o p))
+open_within l o open_stage.ClearWant = tt
+open_within l o open_stage.ClearGcur = tt
+open_within l o open_stage.ClearTally = tt
+open_within l o open_stage.ClearLive = tt
+open_within l o open_stage.StoreTrigger = tt
+open_within l o open_stage.LoadHeap = tt
+open_within l o open_stage.StoreWork = tt
+open_within l o open_stage.StoreSlack = tt
+open_within l o open_stage.StoreBegun = tt
+open_within l o open_stage.StorePhase = tt
+open_within l o open_stage.Ended = tt
+
+pub close_within : (l : Layout) (c : close.Closing) (p : CloseStage) → InRange l (cell_of (close.asks_at c p))
+close_within l c close_stage.LoadBank = tt
+close_within l c close_stage.ClearBank = tt
+close_within l c close_stage.StoreGen = tt
+close_within l c close_stage.Ended = tt
+
+pub count_within : (l : Layout) (p : CountStage) → InRange l (cell_of (count.asks_at p))
+count_within l count_stage.LoadTally = tt
+count_within l (count_stage.LoadLive t) = tt
+count_within l (count_stage.Ended x) = tt
+
+pub tell_within : (l : Layout) (t : tell.Telling) (p : TellStage) → InRange l (cell_of (tell.asks_at t p))
+tell_within l t tell_stage.StoreTrigger = tt
+tell_within l t tell_stage.StoreSwept = tt
+tell_within l t tell_stage.StorePhase = tt
+tell_within l t tell_stage.Ended = tt

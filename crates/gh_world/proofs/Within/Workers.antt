@@ -1,0 +1,202 @@
+-- Each step of a worker is on a word that there is, whatever is found.
+use Rattle.std.proofs.Common.{◌≡◌, ℕ, ◌+◌, ◌-◌, ◌<◌, ◌≤◌, ◌==◌, Bool, true, false, cond, ltb, Option, Some, None, refl, sym, subst, arith}
+use Rattle.std.proofs.lemmas.Bool.Decides.{nat_tests}
+use Rattle.gh_base.specs.declared.held.Held.{Held}
+use Rattle.gh_base.specs.declared.layout.Layout.{Layout}
+use Rattle.gh_base.specs.declared.pack.Phase.{Phase}
+use Rattle.gh_base.specs.declared.pack.Phase.TheVariants as phase
+use Rattle.gh_base.specs.Cells.{InRange}
+use Rattle.gh_base.specs.Holding.{IsHeld}
+use Rattle.gh_base.specs.Packing.{phase_of}
+use Rattle.gh_base.specs.Steps.{cell_of}
+use Rattle.gh_phase.specs.declared.resume.Resumed.{Resumed}
+use Rattle.gh_phase.specs.declared.resume.ResumeStage.{ResumeStage}
+use Rattle.gh_phase.specs.declared.resume.ResumeStage.TheVariants as resume_at
+use Rattle.gh_phase.specs.declared.view.RunPhase.{RunPhase}
+use Rattle.gh_phase.specs.Listing as resume
+use Rattle.gh_phase.specs.Views.{run_phase}
+use Rattle.gh_scan.specs.Listing as scan
+use Rattle.gh_shade.specs.declared.shade.Shaded.{Shaded}
+use Rattle.gh_shade.specs.declared.shade.Shaded.TheVariants as shaded
+use Rattle.gh_shade.specs.Listing as shade
+use Rattle.gh_shade.specs.Sound.{IsReference}
+use Rattle.gh_wbuf.specs.declared.take_entry.TakeStage.{TakeStage}
+use Rattle.gh_wbuf.specs.declared.take_entry.TakeStage.TheVariants as take_at
+use Rattle.gh_wbuf.specs.BufferGiving as give
+use Rattle.gh_wbuf.specs.EntryTaking as take
+use Rattle.gh_wbuf.specs.RoomFinding as room
+use Rattle.gh_wbuf.specs.Sound.{FitsGiveStage}
+use Rattle.gh_wbuf.specs.Trying as try
+use Rattle.gh_worker.specs.declared.worker.WorkerStage.{WorkerStage}
+use Rattle.gh_worker.specs.declared.worker.WorkerStage.TheVariants as at
+use Rattle.gh_worker.specs.Ends as worker_ends
+use Rattle.gh_worker.specs.Listing as worker
+use Rattle.gh_worker.specs.Listing.{Working}
+use Rattle.gh_worker.specs.Sound.{IsWorkersSeat}
+use Rattle.gh_world.proofs.Within.Buffers.{give_within, HasRoom, room_first, room_gives, room_goes, room_within, RoomWithin, take_first, take_goes, take_holds, take_within, TakeWithin}
+use Rattle.gh_world.proofs.Within.Scans.{referred, scan_first, scan_goes, scan_holds, scan_within, ScanWithin, shade_first, shade_goes, shade_told, shade_within, ShadeWithin}
+
+abbrev pub StageWithin : Layout → WorkerStage → Type 0
+StageWithin l (at.GiveBack g stops) = FitsGiveStage l g.stage
+StageWithin l (at.Resuming r) = r.seat < l.procs + l.workers
+StageWithin l (at.Taking t) = TakeWithin l t
+StageWithin l (at.Scanning s) = ScanWithin l s
+StageWithin l (at.LoadGlobal i) = i < l.globals
+StageWithin l (at.Shading sh) = ShadeWithin l sh
+StageWithin l (at.FindRoom sh r) = ShadeWithin l sh × RoomWithin l r
+StageWithin l _ = Unit {0}
+
+-- a worker's own numbers, and those of the routine that it runs, whatever the words hold
+pub record FitsWhole (w : Working) : Type 0 where
+  pub pages : 1 ≤ w.layout.pages
+  pub seat : IsWorkersSeat w.layout w.seat
+  pub held : IsHeld w.layout w.held
+  pub stage : StageWithin w.layout w.stage
+
+pub stays_there : (w : Working) (found : ℕ) → (worker.goes w found).layout ≡ w.layout
+stays_there w found = worker_ends.stays w found
+
+pub first : (l : Layout) (seat : ℕ) → 1 ≤ l.pages → l.procs ≤ seat → seat < l.procs + l.workers → FitsWhole (worker.opening l seat)
+first l seat some from below = record { pages = some; seat = record { from = from; below = below }; held = tt; stage = tt }
+
+-- going on after a stop
+stopped_stays : (r : resume.Resuming) (number : ℕ) (b : Bool) → (cond b (resume.at_stage r resume_at.LoadPhase) (record r { stops = number; stage = resume_at.Acknowledge })).seat ≡ r.seat
+stopped_stays r number true = refl
+stopped_stays r number false = refl
+
+phase_stays : (r : resume.Resuming) (number : ℕ) (found : Option RunPhase) → (resume.after_phase r number found).seat ≡ r.seat
+phase_stays r number None = stopped_stays r number (number == r.stops)
+phase_stays r number (Some x) = refl
+
+seat_stays : (r : resume.Resuming) (p : ResumeStage) (found : ℕ) → (resume.goes_at r p found).seat ≡ r.seat
+seat_stays r resume_at.Acknowledge found = refl
+seat_stays r resume_at.LoadPhase found = phase_stays r (phase_of found).stops (run_phase (phase_of found).phase)
+seat_stays r resume_at.LoadGeneration found = refl
+seat_stays r resume_at.LoadBegun found = refl
+seat_stays r resume_at.Ended found = refl
+
+resume_within : (l : Layout) (r : resume.Resuming) → r.seat < l.procs + l.workers → InRange l (cell_of (resume.asks r))
+resume_within l r lt = by r.stage where
+  by : (p : ResumeStage) → InRange l (cell_of (resume.asks_at r p))
+  by resume_at.Acknowledge = lt
+  by resume_at.LoadPhase = tt
+  by resume_at.LoadGeneration = tt
+  by resume_at.LoadBegun = tt
+  by resume_at.Ended = tt
+
+-- an entry that is taken is a reference
+abbrev IsTaken : Layout → Option (Option ℕ) → Type 0
+IsTaken l (Some (Some reference)) = IsReference l reference
+IsTaken l _ = Unit {0}
+
+taken : (l : Layout) → 1 ≤ l.pages → (t : take.EntryTaking) (found : ℕ) → TakeWithin l t → IsTaken l (take.gives t found)
+taken l some t found w = by t.stage where
+  of_end : (b : Bool) → IsTaken l (cond b None (Some None))
+  of_end true = tt
+  of_end false = tt
+
+  of_try : (index : ℕ) (out : Option (Option Held)) → IsTaken l (take.none_of t index out)
+  of_try index None = tt
+  of_try index (Some None) = of_end (take.has_next t.layout index)
+  of_try index (Some (Some h)) = tt
+
+  by : (p : TakeStage) → IsTaken l (take.gives_at t p found)
+  by (take_at.Try tries) = of_try tries.index (try.gives tries found)
+  by (take_at.Take h) = subst (λ (m : Layout). IsReference l (take.entry_of m found)) (sym w.layout_is) (referred l _ some)
+  by (take_at.Ended held) = tt
+
+module _ (w : Working) (f : FitsWhole w) where
+  abbrev l : Layout
+  l = w.layout
+
+  -- at another stage, with this held
+  on : (held : Option Held) (stage : WorkerStage) → IsHeld l held → StageWithin l stage → FitsWhole (record w { held = held; stage = stage })
+  on held stage h s = record { pages = f.pages; seat = f.seat; held = h; stage = s }
+
+  at_stage : (stage : WorkerStage) → StageWithin l stage → FitsWhole (worker.at_stage w stage)
+  at_stage stage s = on w.held stage f.held s
+
+  done_with : (held : Option Held) (words : ℕ) → IsHeld l held → FitsWhole (worker.done_with w held words)
+  done_with held words h = record { pages = f.pages; seat = f.seat; held = h; stage = tt }
+
+  stops_at : (stops : ℕ) (held : Option Held) → IsHeld l held → StageWithin l (worker.stops_at w stops held)
+  stops_at stops None h = f.seat.below
+  stops_at stops (Some held) h = h
+
+  by_phase : (stops : ℕ) (found : Phase) → StageWithin l (worker.by_phase w stops found)
+  by_phase stops phase.Off = tt
+  by_phase stops phase.Mark = take_first l w.seat w.held f.held
+  by_phase stops phase.Stop = stops_at stops w.held f.held
+  by_phase stops phase.Finished = tt
+
+  after_give : (g : give.BufferGiving) (stops : ℕ) (out : Option (Unit {0})) → FitsGiveStage l g.stage → FitsWhole (worker.after_give w g stops out)
+  after_give g stops None s = at_stage (at.GiveBack g stops) s
+  after_give g stops (Some x) s = on None _ tt f.seat.below
+
+  after_resume : (r : resume.Resuming) (out : Option Resumed) → r.seat < l.procs + l.workers → FitsWhole (worker.after_resume w r out)
+  after_resume r None s = at_stage (at.Resuming r) s
+  after_resume r (Some out) s = record { pages = f.pages; seat = f.seat; held = f.held; stage = tt }
+
+  after_take : (t : take.EntryTaking) (out : Option (Option ℕ)) → TakeWithin l t → IsTaken l out → FitsWhole (worker.after_take w t out)
+  after_take t None s r = at_stage (at.Taking t) s
+  after_take t (Some None) s r = on _ at.LoadCursor (take_holds l t s) tt
+  after_take t (Some (Some reference)) s r = on _ _ (take_holds l t s) (scan_first l w.seat reference (take.held_at t.stage) r (take_holds l t s))
+
+  after_scan : (s : scan.Scanning) (out : Option ℕ) → ScanWithin l s → FitsWhole (worker.after_scan w s out)
+  after_scan s None x = at_stage (at.Scanning s) x
+  after_scan s (Some words) x = done_with _ words (scan_holds l s x)
+
+  after_global : (found : ℕ) (b : Bool) → FitsWhole (cond b (worker.done_with w w.held 1) (worker.at_stage w (at.Shading (shade.opening l (scan.reference_in l found) w.held))))
+  after_global found true = done_with w.held 1 f.held
+  after_global found false = at_stage _ (shade_first l (scan.reference_in l found) w.held (referred l (found - 1) f.pages) f.held)
+
+  after_shade : (sh : shade.Shading) (out : Option Shaded) → ShadeWithin l sh → FitsWhole (worker.after_shade w sh out)
+  after_shade sh None s = at_stage (at.Shading sh) s
+  after_shade sh (Some shaded.Done) s = done_with sh.held 1 s.held
+  after_shade sh (Some shaded.WantsRoom) s = at_stage _ (s, room_first l w.seat sh.held s.held)
+
+  after_room : (sh : shade.Shading) (r : room.RoomFinding) (out : Option Held) → ShadeWithin l sh → RoomWithin l r → HasRoom l out → FitsWhole (worker.after_room w sh r out)
+  after_room sh r None s x g = at_stage (at.FindRoom sh r) (s, x)
+  after_room sh r (Some h) s x g = at_stage _ (shade_told l sh h s g)
+
+  cursor_leads : (b : Bool) → StageWithin l (cond b at.Claim at.LoadPhase)
+  cursor_leads true = tt
+  cursor_leads false = tt
+
+  claim_leads : (found : ℕ) (b : Bool) → ltb found l.globals ≡ b → StageWithin l (cond b (at.LoadGlobal found) at.LoadPhase)
+  claim_leads found true e = grind (arith, nat_tests, e)
+  claim_leads found false e = tt
+
+  goes_at : (p : WorkerStage) (found : ℕ) → StageWithin l p → FitsWhole (worker.goes_at w p found)
+  goes_at at.LoadPhase found s = at_stage _ (by_phase (phase_of found).stops (phase_of found).phase)
+  goes_at (at.GiveBack g stops) found s = after_give (give.goes g found) stops (give.gives g found) tt
+  goes_at (at.Resuming r) found s = after_resume (resume.goes r found) (resume.gives r found) (rw (seat_stays r r.stage found) s)
+  goes_at (at.Taking t) found s = after_take (take.goes t found) (take.gives t found) (take_goes l t found s) (taken l f.pages t found s)
+  goes_at (at.Scanning x) found s = after_scan (scan.goes x found) (scan.gives x found) (scan_goes l x found s)
+  goes_at at.LoadCursor found s = at_stage _ (cursor_leads (ltb found l.globals))
+  goes_at at.Claim found s = at_stage _ (claim_leads found (ltb found l.globals) refl)
+  goes_at (at.LoadGlobal i) found s = after_global found (found == 0)
+  goes_at (at.Shading sh) found s = after_shade (shade.goes sh found) (shade.gives sh found) (shade_goes l sh found s)
+  goes_at (at.FindRoom sh r) found s = after_room sh (room.goes r found) (room.gives r found) s.0 (room_goes l r found s.1) (room_gives l r found s.1)
+  goes_at at.Leave found s = at_stage at.Done tt
+  goes_at at.Done found s = f
+
+  within_at : (p : WorkerStage) → StageWithin l p → InRange l (cell_of (worker.asks_at w p))
+  within_at at.LoadPhase s = tt
+  within_at (at.GiveBack g stops) s = give_within l g s
+  within_at (at.Resuming r) s = resume_within l r s
+  within_at (at.Taking t) s = take_within l t s
+  within_at (at.Scanning x) s = scan_within l x s
+  within_at at.LoadCursor s = tt
+  within_at at.Claim s = tt
+  within_at (at.LoadGlobal i) s = s
+  within_at (at.Shading sh) s = shade_within l sh s
+  within_at (at.FindRoom sh r) s = room_within l r s.1
+  within_at at.Leave s = f.seat.below
+  within_at at.Done s = tt
+
+pub goes_on : (w : Working) (found : ℕ) → FitsWhole w → FitsWhole (worker.goes w found)
+goes_on w found f = goes_at w f w.stage found f.stage
+
+pub within : (w : Working) → FitsWhole w → InRange w.layout (cell_of (worker.asks w))
+within w f = within_at w f w.stage f.stage

@@ -1,0 +1,67 @@
+use Rattle.gh_world.proofs.AllActors.Known.{Known}
+use Rattle.gh_world.proofs.AllActors.Lists.{list_stands}
+use Rattle.gh_world.proofs.AllActors.OfLists.{LawsOfLists, lists_known, parties}
+use Rattle.gh_world.proofs.AllActors.Wanted.{Wanted}
+use Rattle.gh_world.specs.Actors.{may_of}
+use Rattle.gh_world.specs.HoldVocabulary.{arena, processor_kind}
+use Rattle.gh_world.proofs.actors.every_list_of_actors_stands.Goals as goal
+
+pub returns : goal.returns
+returns c shapes l pacing counts es good limits fit legal keeps =
+    let known : Known = record {
+      one = c.a_step_changes_one_cell.ensures;
+      apart = c.the_heap_is_apart.ensures;
+      keeps = c.each_move_keeps.ensures;
+      leaves = c.each_move_leaves.ensures;
+      last = c.facts_last.ensures.last;
+      sweeps = c.sweeps_among_others.ensures;
+      exact = c.counts_are_exact.ensures;
+      runs = c.a_processor_runs_by_its_rights.ensures;
+      marks = c.a_processor_marks_by_moves.ensures;
+      writes = c.a_processor_writes_its_own.ensures;
+      calm = c.calm_processors_mark_nothing.ensures;
+      notes = c.stacks_are_noted.ensures;
+      points = c.only_points_change.ensures;
+      places = c.the_processor_keeps_the_handshake.ensures;
+      workers_write = c.a_worker_writes_its_own.ensures;
+      workers_calm = c.calm_workers_mark_nothing.ensures;
+      packed = c.words_are_packed.ensures.pages;
+      mark_words = c.words_are_packed.ensures.marks;
+      slots = c.slots_are_read.ensures.slots;
+      spans_last = c.slots_are_read.ensures.last;
+      ends = c.cycles_end.ensures.end;
+      heaps_open = c.cycles_end.ensures.open;
+      begins = c.sweeping_keeps_the_heap.ensures.begins;
+      keeps_heap = c.sweeping_keeps_the_heap.ensures.keeps;
+      sweep_ends = c.sweeping_keeps_the_heap.ensures.ends;
+      only = c.only_the_reached_are_left.ensures;
+      goes_on = c.allocation_goes_on.ensures.goes;
+      found = c.allocation_goes_on.ensures.calm;
+      calm_lasts = c.calm_lasts.ensures.calm;
+      counted_lasts = c.calm_lasts.ensures.counted;
+      told = c.counts_are_told.ensures;
+      sweeps_move = c.sweeping_keeps_the_heap.ensures.moves;
+      decided = c.reach_is_decided.ensures.places;
+      made = c.reach_is_decided.ensures.made;
+      bounds = c.bounds_last.ensures;
+      opens = c.cycles_open.ensures.open;
+      objects = c.objects_are_known.ensures;
+      cycle_lasts = c.the_cycle_lasts.ensures;
+      reached = c.the_reached_are_marked.ensures.reached;
+      marked = c.the_reached_are_marked.ensures.marked;
+      marking = c.marking_begins.ensures;
+      fit = c.the_processors_deeds_fit.ensures;
+    } in
+    let wanted : Wanted = record { read = c.packed_words_are_read_back.ensures; whole = c.size_class_laws.ensures.whole_words; steps = c.steps_go_by_moves.ensures } in
+    let laws : LawsOfLists = record {
+      places = known.places;
+      writes = known.writes;
+      keeps = c.every_list_keeps_the_handshake.ensures;
+      steps = c.every_step_keeps_the_handshake.ensures;
+      counts = c.every_list_counts_cycles.ensures;
+      numbers = c.every_list_numbers_stacks.ensures;
+      rests = c.every_list_rests_workers.ensures;
+      few = c.cycles_are_few.ensures;
+      begins_few = c.processors_begin_few.ensures;
+    } in
+    list_stands shapes l pacing counts good limits known wanted (lists_known laws shapes l pacing counts fit) (c.every_list_marks.ensures (arena shapes l pacing (may_of shapes l counts)) (processor_kind shapes l) pacing (may_of shapes l counts) limits (parties laws shapes l pacing counts fit)) es legal keeps

@@ -1,0 +1,259 @@
+-- What holds after every list of all actors, by the coordinator's stage: between two cycles the heap is calm; while a cycle is marked it is known to marking; and while it is swept the world is stopped.
+use Rattle.std.specs.Prelude.{◌≡◌, ◌↔◌, ℕ, ◌*◌, ◌<◌, ◌≤◌, ◌⊎◌, Bool, true, false, List, ◌++◌, slice_index, Option, Some, None}
+use Rattle.std.specs.Option.{option_to_list}
+use Rattle.gh_base.specs.declared.cell.Cell.TheVariants as cell
+use Rattle.gh_base.specs.declared.pack.PageWord.TheVariants.{Head}
+use Rattle.gh_base.specs.declared.pack.SpanHead.{SpanHead}
+use Rattle.gh_base.specs.declared.pack.TheConstants.{END}
+use Rattle.gh_base.specs.declared.operation.Op.TheVariants as op
+use Rattle.gh_base.specs.Lists.{by}
+use Rattle.gh_alloc.specs.declared.place.PlaceStage.{PlaceStage}
+use Rattle.gh_alloc.specs.declared.place.PlaceStage.TheVariants as making
+use Rattle.gh_coord.specs.declared.coord.CoordStage.TheVariants.{Check, Close, Count, Done, LoadAck, LoadWant, MarkOn, Open, Stop, StopAgain, Sweep, Tell, Watch}
+use Rattle.gh_coord.specs.declared.count.CountStage.{CountStage}
+use Rattle.gh_coord.specs.declared.count.CountStage.TheVariants as counting
+use Rattle.gh_coord.specs.declared.open.OpenStage.{OpenStage}
+use Rattle.gh_coord.specs.declared.open.OpenStage.TheVariants as opening
+use Rattle.gh_coord.specs.declared.sweep_all.SweepAllStage.{SweepAllStage}
+use Rattle.gh_coord.specs.declared.sweep_all.SweepAllStage.TheVariants as all
+use Rattle.gh_coord.specs.declared.tell.TellStage.{TellStage}
+use Rattle.gh_coord.specs.declared.tell.TellStage.TheVariants as telling
+use Rattle.gh_mutator.specs.declared.new.NewStage.TheVariants as new
+use Rattle.gh_mutator.specs.declared.task.Task.TheVariants as task
+use Rattle.gh_sweep.specs.declared.sweep.SweepStage.{SweepStage}
+use Rattle.gh_sweep.specs.declared.sweep.SweepStage.TheVariants.{Begin}
+use Rattle.gh_sweep.specs.Listing as sweep
+use Rattle.gh_sweep.specs.Sweepers as sweepers
+use Rattle.gh_world.specs.HoldVocabulary.{acks_of, alloc_at, alloc_words, AllWereCounted, Answer, answers_of, arena, Arena, ArePacked, AreWords, BeginsCycle, birth_words, By, Coordinating, CountsAreExact, CoordStage, Cycle, CycleEnd, deeds, ended_in, EndsAllMarked, EndsCycle, Entry, ever, Fine, FreesTheUnreached, FullOnlyThere, generation_of, given_of, Good, head_word, Heap, IsAtRest, IsBeginning, IsBounded, IsCalm, IsCounted, IsCycleOf, IsLed, IsMade, IsOf, IsSound, IsStartOf, Layout, LeavesTheReached, Marking, mark_words, marks_at, MarksNothing, Name, NewStage, Op, opening_words, Pacing, page_of, page_words, Placed, Processor, processor_kind, Reach, Right, Shape, Spans, state_of, SweepingAll, SweepsBeside, tally_of, Task, view, words}
+
+-- The bytes that a processor has placed and not counted yet: those of the slot in which it has made an object.
+
+abbrev pub uncounted_place : (slot : ℕ) → PlaceStage → ℕ
+uncounted_place slot (making.Give g) = 8 * slot
+uncounted_place slot making.Count = 8 * slot
+uncounted_place slot _ = 0
+
+abbrev pub uncounted_new : NewStage → ℕ
+uncounted_new (new.Place p) = uncounted_place p.slot p.stage
+uncounted_new _ = 0
+
+abbrev pub uncounted : Task → ℕ
+uncounted (task.New x) = uncounted_new x.stage
+uncounted _ = 0
+
+-- it leaves, or has left
+abbrev pub is_last_task : Task → Bool
+is_last_task (task.Leave x) = true
+is_last_task task.Left = true
+is_last_task _ = false
+
+-- The coordinator sweeps all spans, alone.
+
+-- the head of the page, if it has one, has the number of the sweep generation
+abbrev pub IsPassed : CycleEnd → Spans → (p : ℕ) → Type 0
+IsPassed e v p = (h : SpanHead) → page_of (v.words (cell.Page p)) ≡ Head h → h.number ≡ generation_of e
+
+module _ (e : CycleEnd) (a : ℕ) (v : Spans) where
+  -- where it is about to take the span, the page's word is as it has found it
+  abbrev pub IsFoundStill : sweep.Sweeping → SweepStage → Type 0
+  IsFoundStill m Begin = v.words (cell.Page m.page) ≡ head_word m.head
+  IsFoundStill m _ = Unit {0}
+
+  pub record SweepsSpan (page : ℕ) (m : sweep.Sweeping) : Type 0 where
+    pub page_is : m.page ≡ page
+    pub within : page < e.layout.pages
+    pub busy : sweep.is_busy m.stage ≡ true
+    pub fine : sweepers.Fine e a v m
+    pub found : IsFoundStill m m.stage
+
+  -- it waits for nobody, since nobody else sweeps
+  abbrev pub SweepsAt : SweepAllStage → Type 0
+  SweepsAt (all.LoadPage page) = (page < e.layout.pages) × IsAtRest a v
+  SweepsAt (all.Sweep page m) = SweepsSpan page m
+  SweepsAt (all.Await page) = ⊥
+  SweepsAt all.Ended = IsAtRest a v
+
+  abbrev pub page_at : SweepAllStage → ℕ
+  page_at (all.LoadPage page) = page
+  page_at (all.Sweep page m) = page
+  page_at (all.Await page) = page
+  page_at all.Ended = e.layout.pages
+
+  pub record SweepsAll (w : SweepingAll) : Type 0 where
+    pub layout_is : w.layout ≡ e.layout
+    pub generation_is : w.generation ≡ generation_of e
+    pub alone : (p b : ℕ) → v.far p ≡ By b → b ≡ a
+    pub owes_none : (b : ℕ) → v.pend b ≡ 0
+    pub passed : (p : ℕ) → p < page_at w.stage → IsPassed e v p
+    pub stage_is : SweepsAt w.stage
+
+-- how far the words are prepared for marking while a cycle is opened
+abbrev pub HasCursor : (cursor : ℕ) → OpenStage → Type 0
+HasCursor cursor opening.ClearWant = Unit {0}
+HasCursor cursor opening.ClearGcur = Unit {0}
+HasCursor cursor _ = cursor ≡ 0
+
+module _ (shapes : List Shape) (l : Layout) (pacing : Pacing) (may : ℕ → List (Entry Op) → Op → Bool) where
+  abbrev z : Arena
+  z = arena shapes l pacing may
+
+  -- the processor at a seat after the list
+  abbrev pub processor_at : List (Entry Op) → (a : ℕ) → Processor
+  processor_at es a = state_of (processor_kind shapes l) a es
+
+  -- At every moment.
+
+  -- what holds of a processor: all that is known of it, and that it was answered as the heap that never frees answers; what it has noted of its stacks; and that it leaves once its goroutines have ended
+  pub record IsAsItShould (es : List (Entry Op)) (h : Heap) (a : ℕ) (m : Processor) : Type 0 where
+    pub sound : IsSound m
+    pub pending : Option Answer
+    pub fine : Fine z a (view h) m pending
+    pub answers : answers_of z (opening_words pacing.trigger) a es ≡ option_to_list pending ++ given_of z (opening_words pacing.trigger) a es
+    pub notes : (g : ℕ) → IsOf z a g → slice_index m.poll.local.scanned g ≡ h.words (cell.Scanned g)
+    -- a goroutine of its own has ended, or ends now, exactly where that was begun
+    pub ended : (g : ℕ) → IsOf z a g → ((deeds shapes).unacted m ≡ Some (op.End g)) ⊎ (h.ever.ended g ≡ true) → ended_in (by a es) g ≡ true
+    pub ends : (g : ℕ) → IsOf z a g → ended_in (by a es) g ≡ true → ((deeds shapes).unacted m ≡ Some (op.End g)) ⊎ (h.ever.ended g ≡ true)
+    pub left : is_last_task m.task ≡ true → (g : ℕ) → IsOf z a g → h.ever.ended g ≡ true
+
+  -- a state of the heap is that of this list
+  pub record IsHeapOf (es : List (Entry Op)) (h : Heap) : Type 0 where
+    pub words_are : h.words ≡ words shapes l pacing may es
+    pub ever_is : h.ever ≡ ever shapes l pacing may es
+    pub bounded : IsBounded z h.ever
+    pub processors : (a : ℕ) → a < l.procs → IsAsItShould es h a (processor_at es a)
+    -- nobody else has a right
+    pub others : (a : ℕ) → l.procs ≤ a → Right a (view h) false (λ p. false) None
+    -- a stack says that its goroutine has ended exactly where it has, and no global beyond these names an object
+    pub stacks : (g : ℕ) → (h.words (cell.Scanned g) ≡ END) ↔ (h.ever.ended g ≡ true)
+    pub globals : (i : ℕ) → l.globals ≤ i → h.words (cell.Global i) ≡ 0
+
+  -- what was said before of the list's starts
+  pub record WasSo (es : List (Entry Op)) : Type 0 where
+    pub full : FullOnlyThere z (opening_words pacing.trigger) es
+    pub frees : FreesTheUnreached shapes l pacing may es
+    pub ends : EndsAllMarked shapes l pacing may es
+
+  -- The cycle that is marked or swept, or the last that was.
+
+  -- it is about to begin
+  pub record IsToBegin (es : List (Entry Op)) (k : ℕ) : Type 0 where
+    pub lead : Coordinating
+    pub led : IsLed shapes l pacing may es lead
+    pub stage : IsBeginning lead.stage
+    pub cycle : lead.begun ≡ k
+
+  -- it has begun, and no value has changed since
+  pub record IsInCycle (es : List (Entry Op)) (k : ℕ) : Type 0 where
+    pub begun : List (Entry Op)
+    pub start : IsStartOf begun es
+    pub begins : BeginsCycle shapes l pacing may k begun
+    pub ever_is : ever shapes l pacing may es ≡ ever shapes l pacing may begun
+
+  -- where it ended, the bits were these, and no value has changed since
+  pub record EndedSo (es : List (Entry Op)) (k : ℕ) (e : CycleEnd) : Type 0 where
+    pub ended : List (Entry Op)
+    pub start : IsStartOf ended es
+    pub ends : EndsCycle shapes l pacing may k ended
+    pub alloc : alloc_at e ≡ alloc_words (words shapes l pacing may ended)
+    pub marks : marks_at e ≡ mark_words (words shapes l pacing may ended)
+    pub ever_is : ever shapes l pacing may es ≡ ever shapes l pacing may ended
+
+  -- While a cycle is marked.
+  pub record IsKnown (c : Cycle) (s : Marking) (es : List (Entry Op)) : Type 0 where
+    pub arena_is : c.arena ≡ z
+    pub heap : Heap
+    pub of_list : IsHeapOf es heap
+    pub good : Good z (view heap)
+    pub of_heap : IsCycleOf z heap s
+    pub cycle : IsToBegin es c.number ⊎ IsInCycle es c.number
+    pub packed : ArePacked (page_words heap.words)
+    pub counted : IsCounted l heap.words
+    pub marks_fit : AreWords (mark_words heap.words)
+
+  -- While it is swept.
+  pub record IsSweeping (es : List (Entry Op)) (c : Coordinating) (w : SweepingAll) : Type 0 where
+    pub heap : Heap
+    pub of_list : IsHeapOf es heap
+    pub end : CycleEnd
+    pub spans : Spans
+    pub beside : SweepsBeside z end heap spans
+    pub sweeps : SweepsAll end (acks_of l) spans w
+    pub cycle : IsInCycle es c.begun
+    pub ended : EndedSo es c.begun end
+    pub buffers : (b : ℕ) → heap.words (cell.Buffer b) ≡ 0
+    pub stacks : (g : ℕ) → (heap.words (cell.Scanned g) ≤ c.begun) ⊎ (heap.words (cell.Scanned g) ≡ END)
+    pub processors : (a : ℕ) → a < l.procs → MarksNothing (processor_at es a)
+
+  -- Between two cycles.
+
+  pub record IsQuiet (es : List (Entry Op)) (c : Coordinating) : Type 0 where
+    pub heap : Heap
+    pub of_list : IsHeapOf es heap
+    pub end : CycleEnd
+    pub spans : Spans
+    pub calm : IsCalm z end heap spans
+    pub placing : (a : ℕ) → a < l.procs → spans.pend a ≡ uncounted (processor_at es a).task
+    pub others_place : (a : ℕ) → l.procs ≤ a → spans.pend a ≡ 0
+    pub buffers : (b : ℕ) → heap.words (cell.Buffer b) ≡ 0
+    pub stacks : (g : ℕ) → (heap.words (cell.Scanned g) ≤ c.begun) ⊎ (heap.words (cell.Scanned g) ≡ END)
+    pub processors : (a : ℕ) → a < l.procs → MarksNothing (processor_at es a)
+
+  -- The world is stopped, and a cycle is opened: no mark is set, no buffer has an entry, each stack was scanned in a cycle before, if at all, and what stands is counted.
+  pub record IsReady (es : List (Entry Op)) (c : Coordinating) : Type 0 where
+    pub heap : Heap
+    pub of_list : IsHeapOf es heap
+    pub good : Good z (view heap)
+    pub packed : ArePacked (page_words heap.words)
+    pub counted : IsCounted l heap.words
+    pub marks : (i : ℕ) → heap.words (cell.Mark i) ≡ 0
+    pub buffers : (b : ℕ) → heap.words (cell.Buffer b) ≡ 0
+    pub stacks : (g : ℕ) → (heap.words (cell.Scanned g) < c.begun) ⊎ (heap.words (cell.Scanned g) ≡ END)
+    pub processors : (a : ℕ) → a < l.procs → MarksNothing (processor_at es a)
+
+  -- the cycle is just swept: the objects that stand are those that a script reaches, and the counts are exact
+  pub record IsJustSwept (es : List (Entry Op)) (c : Coordinating) (h : Heap) (e : CycleEnd) : Type 0 where
+    pub cycle : IsInCycle es c.begun
+    pub ended : EndedSo es c.begun e
+    pub left : (n : Name) → IsMade h.ever.made n → Placed (alloc_words h.words) (birth_words h.words) h.place n ↔ Reach h.ever n
+    pub told : CountsAreExact e h.words
+
+  -- it has read what is counted
+  abbrev pub HasRead : (tally : ℕ) → CountStage → Type 0
+  HasRead tally counting.LoadTally = Unit {0}
+  HasRead tally (counting.LoadLive t) = t ≡ tally_of tally
+  HasRead tally (counting.Ended t) = Unit {0}
+
+  -- By the coordinator's stage.
+
+  abbrev pub IsOpening : List (Entry Op) → Coordinating → OpenStage → Type 0
+  IsOpening es c stage = IsReady es c × HasCursor (words shapes l pacing may es cell.Gcur) stage
+
+  abbrev pub IsCounting : List (Entry Op) → Coordinating → CountStage → Type 0
+  IsCounting es c stage = (q : IsQuiet es c) × IsJustSwept es c q.heap q.end × HasRead (words shapes l pacing may es cell.Tally) stage
+
+  abbrev pub IsTelling : List (Entry Op) → Coordinating → TellStage → Type 0
+  IsTelling es c telling.Ended = ⊥
+  IsTelling es c _ = (q : IsQuiet es c) × IsJustSwept es c q.heap q.end
+
+  module _ (es : List (Entry Op)) (c : Coordinating) where
+    abbrev pub HoldsAt : CoordStage → Type 0
+    HoldsAt (LoadAck i) = IsQuiet es c
+    HoldsAt LoadWant = IsQuiet es c
+    HoldsAt (Stop st) = IsQuiet es c
+    HoldsAt (Open o) = IsOpening es c o.stage
+    -- of these says IsKnown
+    HoldsAt (Watch w) = Unit {0}
+    HoldsAt (StopAgain st) = Unit {0}
+    HoldsAt (Check w) = Unit {0}
+    HoldsAt MarkOn = Unit {0}
+    HoldsAt (Close x) = Unit {0}
+    HoldsAt (Sweep w) = IsSweeping es c w
+    HoldsAt (Count x) = IsCounting es c x.stage
+    HoldsAt (Tell t) = IsTelling es c t.stage
+    HoldsAt Done = IsQuiet es c
+
+    pub record Holds : Type 0 where
+      pub at : HoldsAt c.stage
+      pub was : WasSo es
+      pub counted : AllWereCounted shapes l pacing may es c
+      pub last : c.stage ≡ Done → LeavesTheReached shapes l pacing may es c

@@ -1,0 +1,44 @@
+-- The names of what holds after every list of all actors, which its files share.
+pub use Rattle.gh_base.specs.Cells.{opening_words, Words}
+pub use Rattle.gh_base.specs.Lists.{Legal, started, state_of}
+pub use Rattle.gh_base.specs.Packing.{head_word, page_of, tally_of}
+pub use Rattle.gh_base.specs.Rows.{alloc_words, birth_words, mark_words, page_words, row_bit}
+pub use Rattle.gh_base.specs.declared.layout.Layout.{Layout}
+pub use Rattle.gh_base.specs.declared.machine.Entry.{Entry}
+pub use Rattle.gh_base.specs.declared.operation.Op.{Op}
+pub use Rattle.gh_base.specs.declared.pack.TallyWord.{TallyWord}
+pub use Rattle.gh_base.specs.declared.shape.Shape.{Shape}
+pub use Rattle.gh_base.specs.declared.value.Answer.{Answer}
+pub use Rattle.gh_base.specs.declared.value.Name.{Name}
+pub use Rattle.gh_model.specs.Ever.{Ever, Reach}
+pub use Rattle.gh_heap.specs.Objects.{IsMade, Placed}
+pub use Rattle.gh_heap.specs.Rights.{Arena, Good, IsOf, Right, View, view}
+pub use Rattle.gh_heap.specs.Rights.{Shared as Heap}
+pub use Rattle.gh_marks.specs.Colours.{Cycle}
+pub use Rattle.gh_marks.specs.Colours.{Shared as Marking}
+pub use Rattle.gh_sweep.specs.Counts.{AreWords, marked_objects, unmarked_objects}
+pub use Rattle.gh_sweep.specs.Shared.{alloc_at, By, CycleEnd, generation_of, marks_at, placed}
+pub use Rattle.gh_sweep.specs.Shared.{Shared as Spans}
+pub use Rattle.gh_sweep.specs.Sweepers.{IsAtRest}
+pub use Rattle.gh_cycle.specs.Ending.{ArePacked, IsCounted, slot_row}
+pub use Rattle.gh_cycle.specs.Opening.{IsCycleOf}
+pub use Rattle.gh_cycle.specs.Reached.{IsBounded}
+pub use Rattle.gh_cycle.specs.Sweeping.{IsCalm, IsTold as CountsAreExact, SweepsBeside}
+pub use Rattle.gh_coord.specs.Listing.{Coordinating}
+pub use Rattle.gh_coord.specs.Stopping.{acks_of}
+pub use Rattle.gh_coord.specs.SweepingAll.{SweepingAll}
+pub use Rattle.gh_coord.specs.declared.coord.CoordStage.{CoordStage}
+pub use Rattle.gh_mutator.specs.Calm.{IsCalm as MarksNothing}
+pub use Rattle.gh_mutator.specs.Deeds.{deeds, processor_kind}
+pub use Rattle.gh_mutator.specs.Facts.{Fine, ShapesAreGood}
+pub use Rattle.gh_mutator.specs.ProcessorMarks.{MarkFacts, only_polls}
+pub use Rattle.gh_mutator.specs.ProcessorPlaces.{stage_of}
+pub use Rattle.gh_mutator.specs.Writing.{IsSound}
+pub use Rattle.gh_mutator.specs.declared.new.NewStage.{NewStage}
+pub use Rattle.gh_mutator.specs.declared.processor.Processor.{Processor}
+pub use Rattle.gh_mutator.specs.declared.task.Task.{Task}
+pub use Rattle.gh_world.specs.Actors.{AllWereCounted, arena, BeginsCycle, EndsAllMarked, EndsCycle, ever, FreesTheUnreached, IsLed, LeavesTheReached, may_of, words}
+pub use Rattle.gh_world.specs.Handshake.{Pacing}
+pub use Rattle.gh_world.specs.Marking.{actors_after, IsBeginning, IsInLimits, IsStartOf}
+pub use Rattle.gh_world.specs.Order.{ended_in}
+pub use Rattle.gh_world.specs.Processors.{answers_of, FullOnlyThere, given_of}

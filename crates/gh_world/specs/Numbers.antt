@@ -1,0 +1,218 @@
+-- The numbers of cycles over every legal list of processors of any kind, workers and the coordinator: in the words, with the coordinator, and in its list of cycles.
+use Rattle.std.specs.Prelude.{◌≡◌, ℕ, suc, ◌+◌, ◌*◌, ◌^◌, ◌≤◌, ◌<◌, ◌⊎◌, ◌↔◌, Bool, true, false, if◌then◌else◌, min, List, [], ◌∷◌, length, slice_get, Some}
+use Rattle.gh_base.specs.declared.cell.Ask.{Ask}
+use Rattle.gh_base.specs.declared.cell.Ask.TheVariants.{Load, Store, Or, And, Add, Swap}
+use Rattle.gh_base.specs.declared.cell.Cell.{Cell}
+use Rattle.gh_base.specs.declared.cell.Cell.TheVariants as cell
+use Rattle.gh_base.specs.Packing.{tally_of}
+use Rattle.gh_coord.specs.declared.close.CloseStage.{CloseStage}
+use Rattle.gh_coord.specs.declared.close.CloseStage.TheVariants as close_stage
+use Rattle.gh_coord.specs.declared.coord.CoordStage.TheVariants.{LoadAck, LoadWant, Stop, Open, Watch, StopAgain, Check, MarkOn, Close, Sweep, Count, Tell, Done}
+use Rattle.gh_coord.specs.declared.open.OpenStage.TheVariants as open_stage
+use Rattle.gh_coord.specs.declared.tell.TellStage.{TellStage}
+use Rattle.gh_coord.specs.declared.tell.TellStage.TheVariants as tell_stage
+use Rattle.gh_coord.specs.Handshake as leading
+use Rattle.gh_world.specs.declared.handshake.Actor.TheVariants as actor
+use Rattle.gh_world.specs.Handshake.{AreParties, heap, Pacing}
+use Rattle.gh_world.specs.Marking.{IsBeginning}
+use Rattle.gh_world.specs.Vocabulary.{acks_of, Actor, CoordStage, Coordinating, Cycle, cycle_of, Entry, Kept, Kind, Layout, Legal, OpenStage, Party, Setting, Stage, state_of, Words, words_after}
+
+-- What is asked of processors.
+
+-- none of the words of a cycle: its phase, its numbers and the request for one, the cursor, what the sweep counts, and the pacing
+abbrev pub IsNoNumber : Cell → Type 0
+IsNoNumber cell.Phase = ⊥
+IsNoNumber cell.Gen = ⊥
+IsNoNumber cell.Begun = ⊥
+IsNoNumber cell.Swept = ⊥
+IsNoNumber cell.Want = ⊥
+IsNoNumber cell.Bank = ⊥
+IsNoNumber cell.Gcur = ⊥
+IsNoNumber cell.Trigger = ⊥
+IsNoNumber cell.Work = ⊥
+IsNoNumber cell.Slack = ⊥
+IsNoNumber cell.Tally = ⊥
+IsNoNumber cell.Live = ⊥
+IsNoNumber _ = Unit {0}
+
+-- a step that writes none of them, but that it may ask for a cycle
+abbrev pub LeavesNumbers : Ask → Type 0
+LeavesNumbers (Load c) = Unit {0}
+LeavesNumbers (Store c value) = IsNoNumber c
+LeavesNumbers (Or c bits) = IsNoNumber c ⊎ ((c ≡ cell.Want) × (bits ≡ 1))
+LeavesNumbers (And c bits) = IsNoNumber c
+LeavesNumbers (Add c more) = IsNoNumber c
+LeavesNumbers (Swap c old new) = IsNoNumber c
+
+pub record WritesNoNumbers {P O : Type 0} (k : Kind P O) (sound : P → Type 0) : Type 0 where
+  pub leaves : (m : P) → sound m → k.busy m ≡ true → LeavesNumbers (k.asks m)
+
+-- Where the coordinator is in a cycle.
+
+pub data Part : Type 0 where
+  -- the last cycle is told, and the next has no number yet
+  Outside : Part
+  -- the next has its number, and is still asked for
+  Numbered : Part
+  -- the request is cleared
+  Opened : Part
+  -- and the number of the objects counted
+  TallyCleared : Part
+  -- and that of the bytes counted
+  LiveCleared : Part
+  -- its number stands as begun
+  Begun : Part
+  -- it is checked that nothing is left to be marked, and the next sweep generation has its number
+  Checked : Part
+  -- which stands
+  Ended : Part
+  -- what the sweep has counted is read
+  Counted : Part
+
+abbrev pub open_part : OpenStage → Part
+open_part open_stage.ClearWant = Numbered
+open_part open_stage.ClearGcur = Opened
+open_part open_stage.ClearTally = Opened
+open_part open_stage.ClearLive = TallyCleared
+open_part open_stage.StorePhase = Begun
+open_part open_stage.Ended = Begun
+open_part _ = LiveCleared
+
+abbrev pub close_part : CloseStage → Part
+close_part close_stage.Ended = Ended
+close_part _ = Checked
+
+abbrev pub tell_part : TellStage → Part
+tell_part tell_stage.StoreTrigger = Counted
+tell_part tell_stage.StoreSwept = Counted
+tell_part _ = Outside
+
+abbrev pub part_of : CoordStage → Part
+part_of (LoadAck i) = Outside
+part_of LoadWant = Outside
+part_of (Stop st) = Outside
+part_of (Open o) = open_part o.stage
+part_of (Watch w) = Begun
+part_of (StopAgain st) = Begun
+part_of (Check w) = Begun
+part_of MarkOn = Begun
+part_of (Close c) = close_part c.stage
+part_of (Sweep w) = Ended
+part_of (Count c) = Ended
+part_of (Tell t) = tell_part t.stage
+part_of Done = Outside
+
+-- How many cycles more than are swept have a number, are opened, have begun, have a sweep generation, have ended, and are kept.
+pub record Ahead : Type 0 where
+  pub numbered : ℕ
+  pub opened : ℕ
+  pub begun : ℕ
+  pub generation : ℕ
+  pub ended : ℕ
+  pub kept : ℕ
+
+abbrev pub ahead_at : Part → Ahead
+ahead_at Outside = record { numbered = 0; opened = 0; begun = 0; generation = 0; ended = 0; kept = 0 }
+ahead_at Numbered = record { numbered = 1; opened = 0; begun = 0; generation = 0; ended = 0; kept = 0 }
+ahead_at Opened = record { numbered = 1; opened = 1; begun = 0; generation = 0; ended = 0; kept = 0 }
+ahead_at TallyCleared = record { numbered = 1; opened = 1; begun = 0; generation = 0; ended = 0; kept = 0 }
+ahead_at LiveCleared = record { numbered = 1; opened = 1; begun = 0; generation = 0; ended = 0; kept = 0 }
+ahead_at Begun = record { numbered = 1; opened = 1; begun = 1; generation = 0; ended = 0; kept = 0 }
+ahead_at Checked = record { numbered = 1; opened = 1; begun = 1; generation = 1; ended = 0; kept = 0 }
+ahead_at Ended = record { numbered = 1; opened = 1; begun = 1; generation = 1; ended = 1; kept = 0 }
+ahead_at Counted = record { numbered = 1; opened = 1; begun = 1; generation = 1; ended = 1; kept = 1 }
+
+-- the objects counted, and the bytes counted, are cleared, from their stores up to that of the sweep generation
+abbrev pub IsTallyClear : Part → Type 0
+IsTallyClear TallyCleared = Unit {0}
+IsTallyClear LiveCleared = Unit {0}
+IsTallyClear Begun = Unit {0}
+IsTallyClear Checked = Unit {0}
+IsTallyClear _ = ⊥
+
+abbrev pub IsLiveClear : Part → Type 0
+IsLiveClear LiveCleared = Unit {0}
+IsLiveClear Begun = Unit {0}
+IsLiveClear Checked = Unit {0}
+IsLiveClear _ = ⊥
+
+-- they stand as counted, from the reading of the counts on until they are cleared
+abbrev pub IsTallyCounted : Part → Type 0
+IsTallyCounted Counted = Unit {0}
+IsTallyCounted Outside = Unit {0}
+IsTallyCounted Numbered = Unit {0}
+IsTallyCounted Opened = Unit {0}
+IsTallyCounted _ = ⊥
+
+abbrev pub IsLiveCounted : Part → Type 0
+IsLiveCounted TallyCleared = Unit {0}
+IsLiveCounted part = IsTallyCounted part
+
+-- the generation of the heap once so many cycles have ended
+abbrev pub generation_of : (ended : ℕ) → ℕ
+generation_of ended = 2 + 2 * ended
+
+-- So many cycles are kept: in their order, by their numbers from 1 on, and none is left out as long as there is room.
+pub record KeepsCycles (room many : ℕ) (c : Kept) : Type 0 where
+  pub room_is : c.room ≡ room
+  pub many_are : length c.items ≡ min many room
+  pub numbered : (i : ℕ) (x : Cycle) → slice_get c.items i ≡ Some x → x.k ≡ suc i
+
+-- How often a cycle was opened, and how often one was asked for.
+
+abbrev pub opens_one : Ask → Bool
+opens_one (Store cell.Want value) = true
+opens_one _ = false
+
+abbrev pub asks_for_one : Ask → Bool
+asks_for_one (Or cell.Want bits) = true
+asks_for_one _ = false
+
+abbrev pub opened_after : Ask → (before : ℕ) → ℕ
+opened_after ask before = if opens_one ask then suc before else before
+
+abbrev pub asked_after : Ask → (before : ℕ) → ℕ
+asked_after ask before = if asks_for_one ask then suc before else before
+
+module _ {O : Type 0} where
+  abbrev pub opened_in : List (Entry O) → ℕ
+  opened_in [] = 0
+  opened_in (e ∷ es) = opened_after e.ask (opened_in es)
+
+  abbrev pub asked_in : List (Entry O) → ℕ
+  asked_in [] = 0
+  asked_in (e ∷ es) = asked_after e.ask (asked_in es)
+
+  -- so few that no number begins anew
+  abbrev pub IsFew : List (Entry O) → Type 0
+  IsFew es = opened_in es + 2 ≤ 2 ^ 33
+
+-- What every legal list keeps, as long as the cycles are so few.
+module _ {P O : Type 0} (s : Setting (Actor P) O) (room : ℕ) (es : List (Entry O)) (c : Coordinating) where
+  abbrev words : Words
+  words = words_after s.opening es
+
+  abbrev ahead : Ahead
+  ahead = ahead_at (part_of c.stage)
+
+  pub record CountsCycles : Type 0 where
+    pub opened : opened_in es ≡ words cell.Swept + ahead.opened
+    -- the words, and the coordinator's own numbers
+    pub begun : words cell.Begun ≡ words cell.Swept + ahead.begun
+    pub gen : words cell.Gen ≡ generation_of (words cell.Swept + ahead.ended)
+    pub number : c.begun ≡ words cell.Swept + ahead.numbered
+    pub generation : c.generation ≡ generation_of (words cell.Swept + ahead.generation)
+    -- one cycle more has begun than has ended exactly while it is marked, and where the store of that phase is next
+    pub marks : words cell.Gen ≡ 2 * words cell.Begun ↔ (leading.Marks c.stage ⊎ IsBeginning c.stage)
+    -- what is counted
+    pub no_tally : IsTallyClear (part_of c.stage) → words cell.Tally ≡ 0
+    pub no_live : IsLiveClear (part_of c.stage) → words cell.Live ≡ 0
+    pub live : IsLiveCounted (part_of c.stage) → words cell.Live ≡ c.live
+    pub cycles : KeepsCycles room (words cell.Swept + ahead.kept) c.cycles
+    -- the last cycle, where there is room for it, is as the word says
+    pub tally : (n : ℕ) → IsTallyCounted (part_of c.stage) → suc n ≡ words cell.Swept + ahead.kept → n < room → slice_get c.cycles.items n ≡ Some (cycle_of (suc n) (tally_of (words cell.Tally)))
+
+module _ {P : Type 0} (O : Type 0) (sound : Layout → P → Type 0) (party : P → Party) (stage : P → Stage) where
+  abbrev pub EveryListCountsCycles : Type 0
+  EveryListCountsCycles = (l : Layout) (k : Kind P O) (pacing : Pacing) (may_begin : ℕ → List (Entry O) → O → Bool) → AreParties l k (sound l) party stage → WritesNoNumbers k (sound l) →
+      (es : List (Entry O)) (c : Coordinating) → Legal (heap l k pacing may_begin) es → IsFew es → state_of (heap l k pacing may_begin).kind (acks_of l) es ≡ actor.Leads c → CountsCycles (heap l k pacing may_begin) pacing.room es c

@@ -1,0 +1,134 @@
+//! All actors of a heap, in one list of steps: processors, workers and the coordinator.
+//!
+//! A script cannot tell the heap from one that never frees. Between two cycles that is so by the rights of processors
+//! (`gh_heap`), and all spans are swept. Where the coordinator begins a cycle the world is stopped, and what a script
+//! reaches then are the objects of the cycle: marking finds them all (`marking`), whoever marks in which order. For
+//! now processors only poll and wait while it does, so that no value changes until the cycle is swept; what the sweep
+//! frees is then what no script reached where the cycle began. It runs while the world is stopped: no object that a
+//! script reaches is freed, and behind it each head has the sweep generation's number again, as between two cycles.
+//!
+//! So one invariant goes through every list, by the coordinator's stage. Where marking ends it is that of the sweep,
+//! with the bits and the count of bytes as they stand; where the sweep ends it is that of a calm heap, with the
+//! counts as the coordinator finds them; and where the next cycle begins, that of marking, with no mark set.
+
+ghost use Rattle.gh_world.specs.Actors.{EveryListOfActorsStands};
+ghost use Rattle.gh_world.specs.KeepsToPolls.{OneProcessorKeepsToPolls};
+
+use crate::handshake::{
+    PartyToHandshake, every_list_keeps_the_handshake, every_step_keeps_the_handshake,
+};
+use crate::marking::{MarksBeside, every_list_marks};
+use crate::numbers::{
+    cycles_are_few, every_list_counts_cycles, every_list_numbers_stacks, every_list_rests_workers,
+    processors_begin_few,
+};
+use gh_base::Op;
+use gh_base::laws::{a_step_changes_one_cell, packed_words_are_read_back};
+use gh_class::size_class_laws;
+use gh_cycle::closing::{
+    allocation_goes_on, calm_lasts, counts_are_told, cycles_end, only_the_reached_are_left,
+    slots_are_read, sweeping_keeps_the_heap, words_are_packed,
+};
+use gh_cycle::opening::{
+    bounds_last, cycles_open, objects_are_known, reach_is_decided, the_cycle_lasts,
+    the_reached_are_marked,
+};
+use gh_heap::laws::{each_move_keeps, each_move_leaves, facts_last, the_heap_is_apart};
+use gh_marks::laws::{marking_begins, steps_go_by_moves};
+use gh_mutator::Processor;
+use gh_mutator::laws::{
+    a_processor_marks_by_moves, a_processor_runs_by_its_rights, a_processor_writes_its_own,
+    calm_processors_mark_nothing, only_points_change, stacks_are_noted,
+    the_processor_keeps_the_handshake, the_processors_deeds_fit,
+};
+use gh_sweep::laws::{counts_are_exact, sweeps_among_others};
+use gh_worker::laws::{a_worker_writes_its_own, calm_workers_mark_nothing};
+
+impl PartyToHandshake for Processor<'_> {
+    ghost use Rattle.gh_mutator.specs.ProcessorPlaces.{party_of, stage_of};
+    ghost use Rattle.gh_world.specs.ActorsMark.{Sound};
+
+    ghost sound = { Sound };
+
+    ghost party = { party_of };
+
+    ghost stage = { stage_of };
+}
+
+impl MarksBeside<Op> for Processor<'_> {
+    ghost use Rattle.gh_mutator.specs.ProcessorMarks.{MarkFacts};
+    ghost use Rattle.gh_world.specs.ActorsMark.{IsMeant, Knows};
+
+    ghost facts = { MarkFacts };
+
+    ghost knows = { Knows };
+
+    ghost meant = { IsMeant };
+}
+
+/// With one processor each legal list is one in which processors keep to polls while a cycle is marked: a cycle
+/// is begun only where the processor waits for it, or is gone.
+pub fn one_processor_keeps_to_polls()
+    ensures { OneProcessorKeepsToPolls }
+{
+    a_step_changes_one_cell();
+    a_processor_writes_its_own();
+    a_worker_writes_its_own();
+    the_processor_keeps_the_handshake();
+    every_list_keeps_the_handshake::<Processor<'_>, Op>();
+}
+
+/// After every legal list of steps of all actors, in every order, in which processors keep to polls while a cycle is
+/// marked: the words stand for the heap that never frees, and each processor was answered as that heap answers, save
+/// `full`, which stands only where there was no room. Each step that a processor may make next is on a word that there
+/// is. An object that was placed where a cycle began, and that no script reached then, is placed nowhere once the cycle
+/// is swept. Where a cycle's marking ends nothing is grey, and the marked objects are those that a script reaches; the
+/// numbers that the coordinator keeps for it are those of the objects placed and marked there, and of those placed and
+/// not marked. Once all is over the objects that stand are those that the globals reach.
+pub fn every_list_of_actors_stands()
+    ensures { EveryListOfActorsStands }
+{
+    a_step_changes_one_cell();
+    packed_words_are_read_back();
+    size_class_laws();
+    the_heap_is_apart();
+    each_move_keeps();
+    each_move_leaves();
+    facts_last();
+    sweeps_among_others();
+    counts_are_exact();
+    a_processor_runs_by_its_rights();
+    a_processor_marks_by_moves();
+    a_processor_writes_its_own();
+    calm_processors_mark_nothing();
+    stacks_are_noted();
+    only_points_change();
+    the_processors_deeds_fit();
+    marking_begins();
+    steps_go_by_moves();
+    the_processor_keeps_the_handshake();
+    a_worker_writes_its_own();
+    calm_workers_mark_nothing();
+    words_are_packed();
+    slots_are_read();
+    cycles_end();
+    sweeping_keeps_the_heap();
+    only_the_reached_are_left();
+    counts_are_told();
+    allocation_goes_on();
+    calm_lasts();
+    reach_is_decided();
+    bounds_last();
+    cycles_open();
+    objects_are_known();
+    the_cycle_lasts();
+    the_reached_are_marked();
+    every_list_keeps_the_handshake::<Processor<'_>, Op>();
+    every_step_keeps_the_handshake::<Processor<'_>, Op>();
+    every_list_marks::<Op, Processor<'_>>();
+    every_list_counts_cycles::<Processor<'_>, Op>();
+    every_list_numbers_stacks::<Processor<'_>, Op>();
+    every_list_rests_workers::<Processor<'_>, Op>();
+    cycles_are_few::<Processor<'_>>();
+    processors_begin_few();
+}

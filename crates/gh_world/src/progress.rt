@@ -1,0 +1,87 @@
+//! How far a world is among its turns.
+
+ghost use Rattle.std.specs.Prelude.{◌≡◌, ◌+◌, ◌++◌, ◌^◌, ◌<◌, slice_index, false, vec_len, IsTrue, Some, None, if◌then◌else◌};
+ghost use Rattle.std.specs.Vec.{vec_capacity};
+ghost use Rattle.gh_base.specs.Packing.{bit};
+ghost use Rattle.gh_base.specs.declared.limits.TheConstants.{MOST_GOROUTINES};
+ghost use Rattle.gh_mutator.specs.Serving.{is_statement};
+ghost use Rattle.gh_world.specs.Turns.{goroutine_at, is_over, later, next_point, to_come, Stands};
+ghost use Rattle.gh_world.specs.World.{opening_progress, progress_after};
+
+use crate::turns::{Next, next_turn};
+use gh_base::Op;
+use gh_base::limits::MOST_GOROUTINES;
+use gh_script::Script;
+
+/// How far a world is among its turns.
+#[derive(Drop)]
+pub struct Progress {
+    // What it begins next.
+    pub next: Next,
+    // How many statements of each goroutine have begun, and how many of all.
+    pub begun: [u32; MOST_GOROUTINES as usize],
+    pub stated: u32,
+    // The goroutine of the statement begun last.
+    pub last: u32,
+}
+
+/// The goroutine of a statement; none for a step of the processor's own.
+fn statement_goroutine(op: Op) -> Option<u32>
+    ensures { result ≡ (if is_statement op then Some (goroutine_at op) else None) }
+{
+    match op {
+        Op::New { g, .. }
+        | Op::Load { g, .. }
+        | Op::Store { g, .. }
+        | Op::GetGlobal { g, .. }
+        | Op::SetGlobal { g, .. }
+        | Op::Int { g, .. }
+        | Op::Move { g, .. }
+        | Op::Nil { g, .. }
+        | Op::Gc { g } => Some(g),
+        Op::Poll | Op::End(_) | Op::Leave => None,
+    }
+}
+
+impl Progress {
+    /// Before the first turn of the script.
+    pub fn opening(script: &Script) -> Progress
+        ensures is { result ≡ opening_progress result.next }
+        ensures come { to_come script.now result.next ≡ later script.now 0 0 }
+        ensures stands { Stands script.now result.next }
+        ensures going { is_over result.next ≡ false }
+    {
+        Progress {
+            next: next_turn(script, 0, 0),
+            begun: [0; MOST_GOROUTINES as usize],
+            stated: 0,
+            last: 0,
+        }
+    }
+
+    /// Counts an operation that has begun, where it is a statement.
+    pub fn count(&mut self, op: Op)
+        requires there { IsTrue (is_statement op) → goroutine_at op < MOST_GOROUTINES }
+        requires few { slice_index self.old.begun (goroutine_at op) + 1 < 2 ^ 32 }
+        requires fits { self.old.stated + 1 < 2 ^ 32 }
+        ensures { self.new ≡ progress_after self.old (Some op) self.old.next }
+    {
+        if let Some(g) = statement_goroutine(op) {
+            self.begun[g as usize] += 1;
+            self.stated += 1;
+            self.last = g;
+        }
+    }
+}
+
+/// Notes that the statement has its point.
+pub fn note(points: &mut Vec<(u32, u32)>, statement: (u32, u32), is_point: bool)
+    requires { IsTrue is_point → vec_len points.old < vec_capacity points.old }
+    ensures points { points.new.items ≡ points.old.items ++ next_point is_point statement }
+    ensures count { vec_len points.new ≡ vec_len points.old + bit is_point }
+    ensures reserved { vec_capacity points.new ≡ vec_capacity points.old }
+{
+    if is_point {
+        points.push_reserved(statement);
+    }
+}
