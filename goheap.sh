@@ -93,7 +93,7 @@ build() {
   log=$out/build-$$.log rt=''
   crates=$(crates_below)
   : >"$log"
-  say "proving and building the program. The first time takes about 10 minutes on 4 processors; here are $(nproc)."
+  say "proving and building the program. The first time takes about 15 minutes on 4 processors; here are $(nproc)."
   say "The log is $log"
   trap stopped INT TERM HUP
   set -m
