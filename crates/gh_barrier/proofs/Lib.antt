@@ -1,0 +1,5 @@
+pub mod Alone
+pub mod Markers
+pub mod Others
+pub mod Room
+pub mod Told

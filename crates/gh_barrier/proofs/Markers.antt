@@ -1,0 +1,266 @@
+-- While marking is on the steps of a write behind the barrier are moves that its seat may make. Of the moves and of shading it is known what their laws say.
+use Rattle.std.proofs.Common.{◌≡◌, ◌≢◌, ℕ, ◌+◌, ◌-◌, ◌*◌, ◌%◌, ◌<◌, ◌≤◌, ◌⊎◌, Bool, true, false, cond, eqb, Option, Some, None, inl, inr, refl, sym, ap, subst, ◌∙◌, arith}
+use Rattle.std.proofs.Math.Nat.{mod-eq_of_lt}
+use Rattle.std.proofs.lemmas.Bool.{eqb-true, eq-eqb}
+use Rattle.gh_base.specs.declared.cell.Ask.{Ask}
+use Rattle.gh_base.specs.declared.cell.Ask.TheVariants as ask
+use Rattle.gh_base.specs.declared.cell.Cell.{Cell}
+use Rattle.gh_base.specs.declared.cell.Cell.TheVariants as cell
+use Rattle.gh_base.specs.declared.held.Held.{Held}
+use Rattle.gh_base.specs.Cells.{put}
+use Rattle.gh_base.specs.Rows.{bitmap_words, mark_words}
+use Rattle.gh_base.specs.Steps.{cell_of, effect}
+use Rattle.gh_marks.specs.Colours.{Cycle, IsClean, IsMarked, IsSince, Shared}
+use Rattle.gh_marks.specs.Good.{Good}
+use Rattle.gh_marks.specs.Knows.{KnowsObject, KnowsObjects}
+use Rattle.gh_marks.specs.Laws.{EachFactLasts, EachHandFollows, EachHandLasts, EachOwnMoveLeaves, FactsLast, WhatIsKeptGoesOn}
+use Rattle.gh_marks.specs.Moves as move
+use Rattle.gh_marks.specs.Moves.{BehindBarrier, Keeps, Lands, Others, Steps, Went, landing, landing_on, lands_by, lands_still}
+use Rattle.gh_marks.specs.Seats.{Hands, InHand}
+use Rattle.gh_barrier.specs.declared.pointer_cell.PointerCell.{PointerCell}
+use Rattle.gh_barrier.specs.declared.pointer_cell.PointerCell.TheVariants.{Field, Global}
+use Rattle.gh_barrier.specs.declared.write_pointer.WriteStage.{WriteStage}
+use Rattle.gh_barrier.specs.declared.write_pointer.WriteStage.TheVariants.{LoadOld, ShadeOld, ShadeNew, Store, Ended}
+use Rattle.gh_barrier.specs.Facts.{Facts, IsCell, IsKnown, StageFacts, Stands, WritesByMoves}
+use Rattle.gh_barrier.specs.Listing.{after_new, after_old, asks_at, at_stage, behind_old, cell_at, gives_at, goes_at, read_as, shades_new, shades_old, with_old, word_of, Writing}
+use Rattle.gh_barrier.specs.Sound.{HasTwo}
+use Rattle.gh_barrier.proofs.Room.{held-stays, never-wants, place-of, place-then}
+use Rattle.gh_shade.specs.declared.shade.Shaded.{Shaded}
+use Rattle.gh_shade.specs.declared.shade.Shaded.TheVariants.{Done, WantsRoom}
+use Rattle.gh_shade.specs.Facts as shade_facts
+use Rattle.gh_shade.specs.Facts.{in_hand}
+use Rattle.gh_shade.specs.Listing.{object_of}
+use Rattle.gh_shade.specs.Listing as shade
+use Rattle.gh_shade.specs.Sound.{HasPlace}
+
+pub record Known : Type 0 where
+  pub facts : EachFactLasts
+  pub last : EachHandLasts
+  pub follow : EachHandFollows
+  pub leave : EachOwnMoveLeaves
+  pub go_on : WhatIsKeptGoesOn
+  pub shade : shade_facts.ShadesByMoves
+
+-- What lasts under what others leave, and under the seat's own shading.
+module _ (k : Known) (z : Cycle) (a : ℕ) (s t : Shared) (keeps : Keeps z a s t) where
+  last : FactsLast z a s t
+  last = k.facts z a s t keeps
+
+  cell-kept : (at : PointerCell) → IsCell s at → IsCell t at
+  cell-kept (Field x) h = record { o = h.o; k = h.k; at_is = h.at_is; known = keeps.since h.o h.known; pointer = last.pointer h.o h.k h.known h.pointer }
+  cell-kept (Global i) h = tt
+
+  known-kept : (pointer : Option ℕ) → IsKnown s pointer → IsKnown t pointer
+  known-kept None h = tt
+  known-kept (Some r) h = (h.0, keeps.since (object_of r) h.1)
+
+  -- the word is as it was, or is clean
+  word-kept : (at : PointerCell) → IsCell s at → (t.words (cell_at at) ≡ s.words (cell_at at)) ⊎ IsClean (mark_words t.words) (t.words (cell_at at))
+  word-kept (Field x) h = subst (λ (i : ℕ). (t.words (cell.Field i) ≡ s.words (cell.Field i)) ⊎ IsClean (mark_words t.words) (t.words (cell.Field i))) (sym h.at_is) (keeps.fields h.o h.k h.known h.pointer)
+  word-kept (Global i) h = keeps.globals i
+
+  stands-kept : (at : PointerCell) (reference : ℕ) → IsCell s at → Stands s (cell_at at) reference → Stands t (cell_at at) reference
+  stands-kept at reference is h = by (word-kept at is) h where
+    by : (t.words (cell_at at) ≡ s.words (cell_at at)) ⊎ IsClean (mark_words t.words) (t.words (cell_at at)) → Stands s (cell_at at) reference → Stands t (cell_at at) reference
+    by (inr c) h = inr c
+    by (inl e) (inl f) = inl (e ∙ f)
+    by (inl e) (inr c) = inr (λ p x. keeps.marks p (c p (sym e ∙ x)))
+
+  clean-kept : (at : PointerCell) → IsCell s at → IsClean (mark_words s.words) (s.words (cell_at at)) → IsClean (mark_words t.words) (t.words (cell_at at))
+  clean-kept at is c = by (word-kept at is) where
+    by : (t.words (cell_at at) ≡ s.words (cell_at at)) ⊎ IsClean (mark_words t.words) (t.words (cell_at at)) → IsClean (mark_words t.words) (t.words (cell_at at))
+    by (inr d) = d
+    by (inl e) = λ p x. keeps.marks p (c p (sym e ∙ x))
+
+-- nil names nothing
+nil-clean : (s : Shared) (v : ℕ) → v ≡ 0 → IsClean (mark_words s.words) v
+nil-clean s v e o is = absurd (omega arith)
+
+-- a reference of a marked object
+marked-clean : (s : Shared) (r : ℕ) → 1 ≤ r → IsMarked (mark_words s.words) (object_of r) → IsClean (mark_words s.words) r
+marked-clean s r some m o is = let same : object_of r ≡ o = omega arith in subst (λ (x : ℕ). IsMarked (mark_words s.words) x) same m
+
+-- the cell is clean once what was loaded is marked
+shaded-clean : (s : Shared) (c : Cell) (r : ℕ) → 1 ≤ r → IsMarked (mark_words s.words) (object_of r) → Stands s c r → IsClean (mark_words s.words) (s.words c)
+shaded-clean s c r some m (inl e) = subst (λ (v : ℕ). IsClean (mark_words s.words) v) (sym e) (marked-clean s r some m)
+shaded-clean s c r some m (inr d) = d
+
+since-of : (s : Shared) (pointer : Option ℕ) → IsKnown s pointer → IsSince s.since (word_of pointer)
+since-of s None h o is = absurd (omega arith)
+since-of s (Some r) h o is = let some : 1 ≤ r = h.0 in let same : object_of r ≡ o = omega arith in subst (λ (x : ℕ). s.since x ≡ true) same h.1
+
+module _ (k : Known) (z : Cycle) (a : ℕ) (s : Shared) (rest : InHand) where
+  -- the old value is shaded, and the new one comes next
+  new-facts : (w : Writing) → w.layout ≡ z.arena.layout → IsCell s w.at → IsKnown s w.pointer → HasPlace w.held → IsClean (mark_words s.words) (s.words (cell_at w.at)) → Hands a s (in_hand rest w.held None) → Facts z a s rest (behind_old w)
+  new-facts w layout_is is known place clean x = by w.pointer refl where
+    by : (p : Option ℕ) → w.pointer ≡ p → Facts z a s rest (shades_new w p)
+    by None e = record { layout_is = layout_is; is_cell = is; known = known; stage_is = (clean, nil-clean s (word_of w.pointer) (ap word_of e), x) }
+    by (Some r) e =
+        let is-known : IsKnown s (Some r) = subst (λ (p : Option ℕ). IsKnown s p) e known in
+        record { layout_is = layout_is; is_cell = is; known = known; stage_is = (place, clean, e, k.shade.begins z a s rest w.layout r w.held is-known.0 is-known.1 x) }
+
+  -- the new value is shaded, and the store comes next
+  store-facts : (w : Writing) (r : ℕ) → w.layout ≡ z.arena.layout → IsCell s w.at → IsKnown s w.pointer → IsClean (mark_words s.words) (s.words (cell_at w.at)) → w.pointer ≡ Some r → 1 ≤ r → IsMarked (mark_words s.words) (object_of r) → Hands a s (in_hand rest w.held None) → Facts z a s rest (at_stage w Store)
+  store-facts w r layout_is is known clean e some m x = record { layout_is = layout_is; is_cell = is; known = known; stage_is = (clean, subst (λ (v : ℕ). IsClean (mark_words s.words) v) (sym (ap word_of e)) (marked-clean s r some m), x) }
+
+  behind : (w : Writing) → IsKnown s w.pointer → StageFacts z a s rest w Store → BehindBarrier s (s.words (cell_at w.at)) (word_of w.pointer)
+  behind w known f = record { old = f.0; new = f.1; since = since-of s w.pointer known }
+
+module _ (k : Known) (z : Cycle) (a : ℕ) (s : Shared) (rest : InHand) (g : Good z s) (objects : KnowsObjects z s) (w : Writing) (layout_is : w.layout ≡ z.arena.layout) (is : IsCell s w.at) (known : IsKnown s w.pointer) where
+  abbrev c : Cell
+  c = cell_at w.at
+
+  abbrev Leads : Ask → Writing → Type 0
+  Leads step n = Steps z a s step (λ t. Keeps z a s t × Facts z a t rest n)
+
+  still : (d : Cell) (n : Writing) → Facts z a s rest n → Leads (ask.Load d) n
+  still d n f = lands_still z a s s.words (λ t. Keeps z a s t × Facts z a t rest n) refl ((k.go_on z a).stays s, f)
+
+  -- what a pointer cell holds is of the cycle
+  since-at : (at : PointerCell) → IsCell s at → IsSince s.since (s.words (cell_at at))
+  since-at (Field x) h = subst (λ (i : ℕ). IsSince s.since (s.words (cell.Field i))) (sym h.at_is) (g.values.fields h.o h.k h.known h.pointer)
+  since-at (Global i) h = g.values.globals i
+
+  loads : HasTwo w.held → Hands a s (in_hand rest w.held None) → Leads (ask.Load c) (with_old w (s.words c))
+  loads two x = by (eqb v 0) refl where
+    v : ℕ
+    v = s.words c
+
+    by : (b : Bool) → eqb v 0 ≡ b → Leads (ask.Load c) (shades_old w (cond b None (Some ((v - 1) % (1024 * w.layout.pages) + 1))))
+    by true e = still c (behind_old w) (new-facts k z a s rest w layout_is is known (place-of w.held two) (nil-clean s v (eqb-true _ _ e)) x)
+    by false e =
+        let some : v ≢ 0 = λ n. absurd (cc (e, eq-eqb _ _ n)) in
+        let plus : v ≡ (v - 1) + 1 = omega arith in
+        let since : s.since (v - 1) ≡ true = since-at w.at is (v - 1) plus in
+        let there : KnowsObject z.arena.layout.pages (λ p. s.words (cell.Page p)) (bitmap_words s.words) s.extents (v - 1) = objects (v - 1) since in
+        let within : v - 1 < 1024 * z.arena.layout.pages = omega (arith, there.within, there.some) in
+        let inside : v - 1 < 1024 * w.layout.pages = rw layout_is within in
+        let reference : (v - 1) % (1024 * w.layout.pages) + 1 ≡ v = ap (λ (n : ℕ). n + 1) (mod-eq_of_lt inside) ∙ sym plus in
+        still c (at_stage w (ShadeOld (shade.opening w.layout ((v - 1) % (1024 * w.layout.pages) + 1) w.held))) (record {
+          layout_is = layout_is;
+          is_cell = is;
+          known = known;
+          stage_is = (two, inl (sym reference), k.shade.begins z a s rest w.layout ((v - 1) % (1024 * w.layout.pages) + 1) w.held (omega arith) (ap (λ (n : ℕ). s.since (n - 1)) reference ∙ since) x);
+        })
+
+  -- a step of shading
+  module _ (t : Shared) (went : Went z a s t) (keeps : Keeps z a s t) where
+    is-then : IsCell t w.at
+    is-then = cell-kept k z a s t keeps w.at is
+
+    known-then : IsKnown t w.pointer
+    known-then = known-kept k z a s t keeps w.pointer known
+
+    landed : (n : Writing) → Facts z a t rest n → Lands z a t t.words (λ u. Keeps z a s u × Facts z a u rest n)
+    landed n f = lands_still z a t t.words (λ u. Keeps z a s u × Facts z a u rest n) refl (keeps, f)
+
+    old-after : (sh : shade.Shading) (f : ℕ) (out : Option Shaded) → shade.gives sh f ≡ out → HasTwo sh.held → Stands t c (shade.goes sh f).reference → shade_facts.Facts z a t rest (shade.goes sh f) →
+        Lands z a t t.words (λ u. Keeps z a s u × Facts z a u rest (after_old w (shade.goes sh f) out))
+    old-after sh f None e two stands facts =
+        let two-then : HasTwo (shade.goes sh f).held = subst (λ (h : Option Held). HasTwo h) (sym (held-stays sh f e)) two in
+        landed (at_stage w (ShadeOld (shade.goes sh f))) (record { layout_is = layout_is; is_cell = is-then; known = known-then; stage_is = (two-then, stands, facts) })
+    old-after sh f (Some Done) e two stands facts =
+        let shaded : shade_facts.IsShaded a t rest (shade.goes sh f) = k.shade.ends z a t rest sh f e facts in
+        landed (behind_old (record w { held = (shade.goes sh f).held })) (new-facts k z a t rest (record w { held = (shade.goes sh f).held }) layout_is is-then known-then (place-then sh f two) (shaded-clean t c (shade.goes sh f).reference facts.some shaded.marked stands) shaded.hands)
+    old-after sh f (Some WantsRoom) e two stands facts = absurd (never-wants sh f (place-of sh.held two) e)
+
+    new-after : (sh : shade.Shading) (f : ℕ) (out : Option Shaded) → shade.gives sh f ≡ out → HasPlace sh.held → IsClean (mark_words t.words) (t.words c) → w.pointer ≡ Some (shade.goes sh f).reference → shade_facts.Facts z a t rest (shade.goes sh f) →
+        Lands z a t t.words (λ u. Keeps z a s u × Facts z a u rest (after_new w (shade.goes sh f) out))
+    new-after sh f None e place clean same facts =
+        let place-on : HasPlace (shade.goes sh f).held = subst (λ (h : Option Held). HasPlace h) (sym (held-stays sh f e)) place in
+        landed (at_stage w (ShadeNew (shade.goes sh f))) (record { layout_is = layout_is; is_cell = is-then; known = known-then; stage_is = (place-on, clean, same, facts) })
+    new-after sh f (Some Done) e place clean same facts =
+        let shaded : shade_facts.IsShaded a t rest (shade.goes sh f) = k.shade.ends z a t rest sh f e facts in
+        landed (record w { held = (shade.goes sh f).held; stage = Store }) (store-facts k z a t rest (record w { held = (shade.goes sh f).held }) (shade.goes sh f).reference layout_is is-then known-then clean same facts.some shaded.marked shaded.hands)
+    new-after sh f (Some WantsRoom) e place clean same facts = absurd (never-wants sh f place e)
+
+  shades-old : (sh : shade.Shading) → HasTwo sh.held → Stands s c sh.reference → shade_facts.Facts z a s rest sh → Leads (shade.asks sh) (goes_at w (ShadeOld sh) (s.words (cell_of (shade.asks sh))))
+  shades-old sh two stands facts =
+      let f : ℕ = s.words (cell_of (shade.asks sh)) in
+      landing_on z a s (effect s.words (shade.asks sh)) (λ t. Keeps z a s t × shade_facts.Facts z a t rest (shade.goes sh f)) (λ u. Keeps z a s u × Facts z a u rest (after_old w (shade.goes sh f) (shade.gives sh f)))
+      (λ t went h. old-after t went h.0 sh f (shade.gives sh f) refl two (subst (λ (r : ℕ). Stands t c r) (sym (k.shade.same sh f)) (stands-kept k z a s t h.0 w.at sh.reference is stands)) h.1)
+      (k.shade.keeps.own_step z a s rest sh g objects facts)
+
+  shades-new : (sh : shade.Shading) → HasPlace sh.held → IsClean (mark_words s.words) (s.words c) → w.pointer ≡ Some sh.reference → shade_facts.Facts z a s rest sh → Leads (shade.asks sh) (goes_at w (ShadeNew sh) (s.words (cell_of (shade.asks sh))))
+  shades-new sh place clean same facts =
+      let f : ℕ = s.words (cell_of (shade.asks sh)) in
+      landing_on z a s (effect s.words (shade.asks sh)) (λ t. Keeps z a s t × shade_facts.Facts z a t rest (shade.goes sh f)) (λ u. Keeps z a s u × Facts z a u rest (after_new w (shade.goes sh f) (shade.gives sh f)))
+      (λ t went h. new-after t went h.0 sh f (shade.gives sh f) refl place (clean-kept k z a s t h.0 w.at is clean) (same ∙ sym (ap (λ (r : ℕ). Some r) (k.shade.same sh f))) h.1)
+      (k.shade.keeps.own_step z a s rest sh g objects facts)
+
+  -- the store is a move behind the barrier
+  puts : (at : PointerCell) (v : ℕ) (h : InHand) → BehindBarrier s (s.words (cell_at at)) v → Hands a s h → Lands z a s (put s.words (cell_at at) v) (λ t. Keeps z a s t × Hands a t h)
+  puts (Field x) v h b hands = lands_by z a s (put s.words (cell.Field x) v) (λ t. Keeps z a s t × Hands a t h) (move.PutField x v) b refl (k.leave z a s (move.PutField x v) g b tt, (k.follow z a s h g hands).put_field x v)
+  puts (Global i) v h b hands = lands_by z a s (put s.words (cell.Global i) v) (λ t. Keeps z a s t × Hands a t h) (move.PutGlobal i v) b refl (k.leave z a s (move.PutGlobal i v) g b tt, (k.follow z a s h g hands).put_global i v)
+
+  stores : StageFacts z a s rest w Store → Leads (ask.Store c (word_of w.pointer)) (at_stage w Ended)
+  stores f = landing z a s (put s.words c (word_of w.pointer)) (λ t. Keeps z a s t × Hands a t (in_hand rest w.held None)) (λ t. Keeps z a s t × Facts z a t rest (at_stage w Ended))
+      (λ t went h. (h.0, record { layout_is = layout_is; is_cell = cell-kept k z a s t h.0 w.at is; known = known-kept k z a s t h.0 w.pointer known; stage_is = h.1 }))
+      (puts w.at (word_of w.pointer) (in_hand rest w.held None) (behind k z a s rest w known f) f.2)
+
+  own-at : (p : WriteStage) → Facts z a s rest w → StageFacts z a s rest w p → Leads (asks_at w p) (goes_at w p (s.words (cell_of (asks_at w p))))
+  own-at LoadOld f x = loads x.0 x.1
+  own-at (ShadeOld sh) f x = shades-old sh x.0 x.1 x.2
+  own-at (ShadeNew sh) f x = shades-new sh x.0 x.1 x.2 x.3
+  own-at Store f x = stores x
+  own-at Ended f x = still cell.Touch w f
+
+module _ (k : Known) (z : Cycle) (a : ℕ) (s t : Shared) (rest : InHand) (w : Writing) (o : Others z a s t) (is : IsCell s w.at) where
+  stage-lasts : (p : WriteStage) → StageFacts z a s rest w p → StageFacts z a t rest w p
+  stage-lasts LoadOld f = (f.0, k.last z a s t (in_hand rest w.held None) o f.1)
+  stage-lasts (ShadeOld sh) f = (f.0, stands-kept k z a s t o.keeps w.at sh.reference is f.1, k.shade.keeps.lasts z a s t rest sh o f.2)
+  stage-lasts (ShadeNew sh) f = (f.0, clean-kept k z a s t o.keeps w.at is f.1, f.2, k.shade.keeps.lasts z a s t rest sh o f.3)
+  stage-lasts Store f = (clean-kept k z a s t o.keeps w.at is f.0, (k.facts z a s t o.keeps).clean (word_of w.pointer) f.1, k.last z a s t (in_hand rest w.held None) o f.2)
+  stage-lasts Ended f = k.last z a s t (in_hand rest w.held None) o f
+
+-- it writes the same pointer to the same cell
+pub record Same (w n : Writing) : Type 0 where
+  pub at : n.at ≡ w.at
+  pub pointer : n.pointer ≡ w.pointer
+
+new-same : (w : Writing) (p : Option ℕ) → Same w (shades_new w p)
+new-same w None = record { at = refl; pointer = refl }
+new-same w (Some r) = record { at = refl; pointer = refl }
+
+old-same : (w : Writing) (p : Option ℕ) → Same w (shades_old w p)
+old-same w None = new-same w w.pointer
+old-same w (Some r) = record { at = refl; pointer = refl }
+
+pub same-at : (w : Writing) (p : WriteStage) (found : ℕ) → Same w (goes_at w p found)
+same-at w LoadOld found = old-same w (read_as w.layout found)
+same-at w (ShadeOld sh) found = by (shade.goes sh found) (shade.gives sh found) where
+  by : (n : shade.Shading) (out : Option Shaded) → Same w (after_old w n out)
+  by n None = record { at = refl; pointer = refl }
+  by n (Some out) = let h : Same (record w { held = n.held }) (behind_old (record w { held = n.held })) = new-same (record w { held = n.held }) w.pointer in record { at = h.at; pointer = h.pointer }
+same-at w (ShadeNew sh) found = by (shade.goes sh found) (shade.gives sh found) where
+  by : (n : shade.Shading) (out : Option Shaded) → Same w (after_new w n out)
+  by n None = record { at = refl; pointer = refl }
+  by n (Some out) = record { at = refl; pointer = refl }
+same-at w Store found = record { at = refl; pointer = refl }
+same-at w Ended found = record { at = refl; pointer = refl }
+
+-- it ends with the store
+ended-then : (z : Cycle) (a : ℕ) (s : Shared) (rest : InHand) (w : Writing) (p : WriteStage) (found : ℕ) → gives_at p ≡ Some tt → StageFacts z a s rest (goes_at w p found) (goes_at w p found).stage → Hands a s (in_hand rest (goes_at w p found).held None)
+ended-then z a s rest w LoadOld found e f = absurd (cc)
+ended-then z a s rest w (ShadeOld sh) found e f = absurd (cc)
+ended-then z a s rest w (ShadeNew sh) found e f = absurd (cc)
+ended-then z a s rest w Store found e f = f
+ended-then z a s rest w Ended found e f = absurd (cc)
+
+pub writes-by-moves : Known → WritesByMoves
+writes-by-moves k = record {
+  keeps = record {
+    own_step = λ z a s rest w g objects f. own-at k z a s rest g objects w f.layout_is f.is_cell f.known w.stage f f.stage_is;
+    lasts = λ z a s t rest w o f. record {
+      layout_is = f.layout_is;
+      is_cell = cell-kept k z a s t o.keeps w.at f.is_cell;
+      known = known-kept k z a s t o.keeps w.pointer f.known;
+      stage_is = stage-lasts k z a s t rest w o f.is_cell w.stage f.stage_is;
+    };
+  };
+  begins = λ z a s rest at pointer held is known two x. record { layout_is = refl; is_cell = is; known = known; stage_is = (two, x) };
+  stores = λ z a s rest w e f. behind k z a s rest w f.known (subst (λ (p : WriteStage). StageFacts z a s rest w p) e f.stage_is);
+  ends = λ z a s rest w found e f. ended-then z a s rest w w.stage found e f.stage_is;
+  same_cell = λ w found. (same-at w w.stage found).at;
+  same_pointer = λ w found. (same-at w w.stage found).pointer;
+}

@@ -1,0 +1,6 @@
+pub mod Alone
+pub mod Ends
+pub mod Facts
+pub mod Listing
+pub mod Sound
+pub mod Writes

@@ -1,0 +1,113 @@
+-- The writing of a pointer behind the write barrier: what is asked for at each stage, where that leads, and what it gives.
+use Rattle.std.specs.Prelude.{ℕ, ◌+◌, ◌-◌, ◌*◌, ◌%◌, Bool, true, false, ◌==◌, if◌then◌else◌, Option, Some, None}
+use Rattle.gh_base.specs.declared.cell.Ask.{Ask}
+use Rattle.gh_base.specs.declared.cell.Ask.TheVariants as ask
+use Rattle.gh_base.specs.declared.cell.Cell.{Cell}
+use Rattle.gh_base.specs.declared.cell.Cell.TheVariants as cell
+use Rattle.gh_base.specs.declared.held.Held.{Held}
+use Rattle.gh_base.specs.declared.layout.Layout.{Layout}
+use Rattle.gh_base.specs.Routines.{Listing}
+use Rattle.gh_barrier.specs.declared.pointer_cell.PointerCell.{PointerCell}
+use Rattle.gh_barrier.specs.declared.pointer_cell.PointerCell.TheVariants.{Field, Global}
+use Rattle.gh_barrier.specs.declared.write_pointer.WriteStage.{WriteStage}
+use Rattle.gh_barrier.specs.declared.write_pointer.WriteStage.TheVariants.{LoadOld, ShadeOld, ShadeNew, Store, Ended}
+use Rattle.gh_shade.specs.declared.shade.Shaded.{Shaded}
+use Rattle.gh_shade.specs.Listing as shade
+
+-- the cell of the pointer
+abbrev pub cell_at : PointerCell → Cell
+cell_at (Field x) = cell.Field x
+cell_at (Global i) = cell.Global i
+
+-- the word of a pointer: 0 is nil
+abbrev pub word_of : (pointer : Option ℕ) → ℕ
+word_of None = 0
+word_of (Some reference) = reference
+
+-- a found word as a pointer: a reference is taken modulo the heap's words
+abbrev pub read_as : Layout → (found : ℕ) → Option ℕ
+read_as l found = if found == 0 then None else Some ((found - 1) % (1024 * l.pages) + 1)
+
+-- the writing of a pointer: the cell, what it is to hold, the buffer that is held between shadings, and its stage
+pub record Writing : Type 0 where
+  pub layout : Layout
+  pub at : PointerCell
+  pub pointer : Option ℕ
+  pub held : Option Held
+  pub stage : WriteStage
+
+abbrev pub opening : Layout → PointerCell → (pointer : Option ℕ) → Option Held → Writing
+opening l at pointer held = record { layout = l; at = at; pointer = pointer; held = held; stage = LoadOld }
+
+abbrev pub at_stage : Writing → WriteStage → Writing
+at_stage w stage = record w { stage = stage }
+
+-- what is held at each stage
+abbrev pub held_at : Option Held → WriteStage → Option Held
+held_at held (ShadeOld sh) = sh.held
+held_at held (ShadeNew sh) = sh.held
+held_at held _ = held
+
+module _ (w : Writing) where
+  abbrev pub asks_at : WriteStage → Ask
+  asks_at LoadOld = ask.Load (cell_at w.at)
+  asks_at (ShadeOld sh) = shade.asks sh
+  asks_at (ShadeNew sh) = shade.asks sh
+  asks_at Store = ask.Store (cell_at w.at) (word_of w.pointer)
+  asks_at Ended = ask.Load cell.Touch
+
+  -- the shading of what is named; nil needs none
+  abbrev pub shades_new : (pointer : Option ℕ) → Writing
+  shades_new None = at_stage w Store
+  shades_new (Some reference) = at_stage w (ShadeNew (shade.opening w.layout reference w.held))
+
+-- it is done with the old value
+abbrev pub behind_old : Writing → Writing
+behind_old w = shades_new w w.pointer
+
+abbrev pub shades_old : Writing → (old : Option ℕ) → Writing
+shades_old w None = behind_old w
+shades_old w (Some reference) = at_stage w (ShadeOld (shade.opening w.layout reference w.held))
+
+-- the cell held this
+abbrev pub with_old : Writing → (found : ℕ) → Writing
+with_old w found = shades_old w (read_as w.layout found)
+
+-- After a step of shading, by whether that ended. There is room for both objects, so neither waits for it.
+abbrev pub after_old : Writing → shade.Shading → Option Shaded → Writing
+after_old w sh None = at_stage w (ShadeOld sh)
+after_old w sh (Some out) = behind_old (record w { held = sh.held })
+
+abbrev pub after_new : Writing → shade.Shading → Option Shaded → Writing
+after_new w sh None = at_stage w (ShadeNew sh)
+after_new w sh (Some out) = record w { held = sh.held; stage = Store }
+
+abbrev pub goes_at : Writing → WriteStage → ℕ → Writing
+goes_at w LoadOld found = with_old w found
+goes_at w (ShadeOld sh) found = after_old w (shade.goes sh found) (shade.gives sh found)
+goes_at w (ShadeNew sh) found = after_new w (shade.goes sh found) (shade.gives sh found)
+goes_at w Store found = at_stage w Ended
+goes_at w Ended found = w
+
+abbrev pub is_busy : WriteStage → Bool
+is_busy (ShadeOld sh) = shade.is_busy sh.stage
+is_busy (ShadeNew sh) = shade.is_busy sh.stage
+is_busy Ended = false
+is_busy _ = true
+
+-- it ends with the store
+abbrev pub gives_at : WriteStage → Option (Unit {0})
+gives_at Store = Some tt
+gives_at _ = None
+
+abbrev pub asks : Writing → Ask
+asks w = asks_at w w.stage
+
+abbrev pub goes : Writing → ℕ → Writing
+goes w found = goes_at w w.stage found
+
+abbrev pub gives : Writing → ℕ → Option (Unit {0})
+gives w found = gives_at w.stage
+
+abbrev pub listing : Listing Writing (Unit {0})
+listing = record { layout = λ w. w.layout; busy = λ w. is_busy w.stage; asks = asks; goes = goes; gives = gives }
