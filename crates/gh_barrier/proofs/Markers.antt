@@ -15,13 +15,13 @@ use Rattle.gh_marks.specs.Good.{Good}
 use Rattle.gh_marks.specs.Knows.{KnowsObject, KnowsObjects}
 use Rattle.gh_marks.specs.Laws.{EachFactLasts, EachHandFollows, EachHandLasts, EachOwnMoveLeaves, FactsLast, WhatIsKeptGoesOn}
 use Rattle.gh_marks.specs.Moves as move
-use Rattle.gh_marks.specs.Moves.{BehindBarrier, Keeps, Lands, Others, Steps, Went, landing, landing_on, lands_by, lands_still}
+use Rattle.gh_marks.specs.Moves.{BehindBarrier, Keeps, Lands, Others, Steps, Went, landing, landing_on, lands_by, lands_still, moved}
 use Rattle.gh_marks.specs.Seats.{Hands, InHand}
 use Rattle.gh_barrier.specs.declared.pointer_cell.PointerCell.{PointerCell}
 use Rattle.gh_barrier.specs.declared.pointer_cell.PointerCell.TheVariants.{Field, Global}
 use Rattle.gh_barrier.specs.declared.write_pointer.WriteStage.{WriteStage}
 use Rattle.gh_barrier.specs.declared.write_pointer.WriteStage.TheVariants.{LoadOld, ShadeOld, ShadeNew, Store, Ended}
-use Rattle.gh_barrier.specs.Facts.{Facts, IsCell, IsKnown, StageFacts, Stands, WritesByMoves}
+use Rattle.gh_barrier.specs.Facts.{Facts, IsCell, IsKnown, put_of, StageFacts, Stands, WritesByMoves}
 use Rattle.gh_barrier.specs.Listing.{after_new, after_old, asks_at, at_stage, behind_old, cell_at, gives_at, goes_at, read_as, shades_new, shades_old, with_old, word_of, Writing}
 use Rattle.gh_barrier.specs.Sound.{HasTwo}
 use Rattle.gh_barrier.proofs.Room.{held-stays, never-wants, place-of, place-then}
@@ -105,6 +105,11 @@ module _ (k : Known) (z : Cycle) (a : ℕ) (s : Shared) (rest : InHand) where
 
   behind : (w : Writing) → IsKnown s w.pointer → StageFacts z a s rest w Store → BehindBarrier s (s.words (cell_at w.at)) (word_of w.pointer)
   behind w known f = record { old = f.0; new = f.1; since = since-of s w.pointer known }
+
+  -- the store is this move
+  stores-by : (at : PointerCell) (v : ℕ) → BehindBarrier s (s.words (cell_at at)) v → Lands z a s (put s.words (cell_at at) v) (λ t. t ≡ moved z a s (put_of at v))
+  stores-by (Field x) v b = lands_by z a s (put s.words (cell.Field x) v) (λ t. t ≡ moved z a s (move.PutField x v)) (move.PutField x v) b refl refl
+  stores-by (Global i) v b = lands_by z a s (put s.words (cell.Global i) v) (λ t. t ≡ moved z a s (move.PutGlobal i v)) (move.PutGlobal i v) b refl refl
 
 module _ (k : Known) (z : Cycle) (a : ℕ) (s : Shared) (rest : InHand) (g : Good z s) (objects : KnowsObjects z s) (w : Writing) (layout_is : w.layout ≡ z.arena.layout) (is : IsCell s w.at) (known : IsKnown s w.pointer) where
   abbrev c : Cell
@@ -260,6 +265,7 @@ writes-by-moves k = record {
   };
   begins = λ z a s rest at pointer held is known two x. record { layout_is = refl; is_cell = is; known = known; stage_is = (two, x) };
   stores = λ z a s rest w e f. behind k z a s rest w f.known (subst (λ (p : WriteStage). StageFacts z a s rest w p) e f.stage_is);
+  stores_by = λ z a s rest w e f. subst (λ (p : WriteStage). Steps z a s (asks_at w p) (λ t. t ≡ moved z a s (put_of w.at (word_of w.pointer)))) (sym e) (stores-by k z a s rest w.at (word_of w.pointer) (behind k z a s rest w f.known (subst (λ (p : WriteStage). StageFacts z a s rest w p) e f.stage_is)));
   ends = λ z a s rest w found e f. ended-then z a s rest w w.stage found e f.stage_is;
   same_cell = λ w found. (same-at w w.stage found).at;
   same_pointer = λ w found. (same-at w w.stage found).pointer;

@@ -4,14 +4,14 @@ use Rattle.gh_base.specs.declared.cell.Cell.{Cell}
 use Rattle.gh_base.specs.declared.held.Held.{Held}
 use Rattle.gh_base.specs.Rows.{mark_words}
 use Rattle.gh_marks.specs.Colours.{Cycle, IsClean, IsPointer, Shared}
-use Rattle.gh_marks.specs.Moves.{BehindBarrier}
+use Rattle.gh_marks.specs.Moves.{BehindBarrier, Move, PutField, PutGlobal, Steps, moved}
 use Rattle.gh_marks.specs.Routines.{KeepsItsFacts}
 use Rattle.gh_marks.specs.Seats.{Hands, InHand}
 use Rattle.gh_barrier.specs.declared.pointer_cell.PointerCell.{PointerCell}
 use Rattle.gh_barrier.specs.declared.pointer_cell.PointerCell.TheVariants.{Field, Global}
 use Rattle.gh_barrier.specs.declared.write_pointer.WriteStage.{WriteStage}
 use Rattle.gh_barrier.specs.declared.write_pointer.WriteStage.TheVariants.{LoadOld, ShadeOld, ShadeNew, Store, Ended}
-use Rattle.gh_barrier.specs.Listing.{cell_at, gives, goes, listing, opening, word_of, Writing}
+use Rattle.gh_barrier.specs.Listing.{asks, cell_at, gives, goes, listing, opening, word_of, Writing}
 use Rattle.gh_barrier.specs.Sound.{HasTwo}
 use Rattle.gh_shade.specs.Facts.{in_hand}
 use Rattle.gh_shade.specs.Facts as shade_facts
@@ -29,6 +29,11 @@ pub record IsField (s : Shared) (x : ℕ) : Type 0 where
 abbrev pub IsCell : Shared → PointerCell → Type 0
 IsCell s (Field x) = IsField s x
 IsCell s (Global i) = Unit {0}
+
+-- the move that is a store to the cell
+abbrev pub put_of : PointerCell → (value : ℕ) → Move
+put_of (Field x) value = PutField x value
+put_of (Global i) value = PutGlobal i value
 
 -- nil, or an object of the cycle
 abbrev pub IsKnown : Shared → (pointer : Option ℕ) → Type 0
@@ -63,6 +68,10 @@ module _ (z : Cycle) (a : ℕ) (s : Shared) (rest : InHand) where
   abbrev pub Stores : Type 0
   Stores = (w : Writing) → w.stage ≡ Store → Facts z a s rest w → BehindBarrier s (s.words (cell_at w.at)) (word_of w.pointer)
 
+  -- and that step is this move, and nothing besides
+  abbrev pub StoresBy : Type 0
+  StoresBy = (w : Writing) → w.stage ≡ Store → Facts z a s rest w → Steps z a s (asks w) (λ t. t ≡ moved z a s (put_of w.at (word_of w.pointer)))
+
   -- where it has ended, the seat has nothing more in hand by it than its buffer
   abbrev pub Ends : Type 0
   Ends = (w : Writing) (found : ℕ) → gives w found ≡ Some tt → Facts z a s rest (goes w found) → Hands a s (in_hand rest (goes w found).held None)
@@ -71,6 +80,7 @@ pub record WritesByMoves : Type 0 where
   pub keeps : KeepsItsFacts listing Facts
   pub begins : (z : Cycle) (a : ℕ) (s : Shared) (rest : InHand) → Begins z a s rest
   pub stores : (z : Cycle) (a : ℕ) (s : Shared) (rest : InHand) → Stores z a s rest
+  pub stores_by : (z : Cycle) (a : ℕ) (s : Shared) (rest : InHand) → StoresBy z a s rest
   pub ends : (z : Cycle) (a : ℕ) (s : Shared) (rest : InHand) → Ends z a s rest
   -- it writes the same pointer to the same cell all the time
   pub same_cell : (w : Writing) (found : ℕ) → (goes w found).at ≡ w.at

@@ -34,7 +34,7 @@ pub fn writing_leaves_the_rest()
 /// Whatever any number of actors do beside it while marking is on, also stores to the same cell: each step of the
 /// write is a move that its seat may make, leaves all that its caller knows, and what is known at each stage holds
 /// then and lasts. Where it stores, the value that it overwrites then and the one that it writes are marked, if
-/// they are not nil, so its store is one behind the write barrier.
+/// they are not nil, and that step is the move of a store behind the write barrier.
 pub fn writes_by_moves()
     ensures { WritesByMoves }
 {
