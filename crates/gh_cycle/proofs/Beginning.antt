@@ -36,7 +36,7 @@ names-it place made ever.Nil word o holds is = absurd (omega (arith, holds.1, is
 names-it place made (ever.Int i) word o holds is = absurd (let e = holds.0 in cc)
 names-it place made (ever.Ref n) word o holds is = (n, refl, omega (arith, holds.1, is))
 
-names-reference : (place : Place) (v : EverValue) (o : ℕ) → reference_of place v ≡ o + 1 → (n : Name) × (v ≡ ever.Ref n) × (place n ≡ o)
+pub names-reference : (place : Place) (v : EverValue) (o : ℕ) → reference_of place v ≡ o + 1 → (n : Name) × (v ≡ ever.Ref n) × (place n ≡ o)
 names-reference place ever.Nil o is = absurd (omega (arith, is))
 names-reference place (ever.Int i) o is = absurd (omega (arith, is))
 names-reference place (ever.Ref n) o is = (n, refl, omega (arith, is))

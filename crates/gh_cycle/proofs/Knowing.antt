@@ -9,11 +9,14 @@ use Rattle.gh_class.specs.declared.class.SizeClass.{SizeClass}
 use Rattle.gh_class.specs.declared.class.SizeClass.TheVariants as size
 use Rattle.gh_class.specs.Classes.{IsSizeClass, slot_of, slots_of}
 use Rattle.gh_heap.specs.Spans.{IsSlotOf, body_at, is_own_class, number_of}
-use Rattle.gh_marks.specs.Knows.{KnowsObject}
+use Rattle.gh_marks.specs.Knows.{KnowsObject, KnowsObjects}
+use Rattle.gh_cycle.specs.Beside.{IsBeside, ObjectsAreKnownBeside}
 use Rattle.gh_cycle.specs.Marked.{ObjectsAreKnown}
-use Rattle.gh_cycle.specs.Opening.{IsCycleOf}
-use Rattle.gh_cycle.specs.Reached.{IsBounded, TheReachedWereMade}
-use Rattle.gh_cycle.specs.Vocabulary.{Name, Words, Reach, TheHeapIsApart, size_for, Arena, Good, view, Heap, Marking}
+use Rattle.gh_cycle.specs.Reached.{TheReachedWereMade}
+use Rattle.gh_cycle.specs.Sweeping.{with_words}
+use Rattle.gh_cycle.specs.Vocabulary.{alloc_words, birth_words, IsMade, Name, Placed, Words, TheHeapIsApart, size_for, Arena, Good, view, Heap, Marking}
+use Rattle.gh_cycle.proofs.Said.{IsSaid, said-beside, said-of-reached}
+use Rattle.gh_cycle.proofs.Going.Objects.{here, name-at}
 
 -- of the smallest slot, 8 bytes
 abbrev LeastSlot : Type 0
@@ -63,34 +66,43 @@ module _ (pages : ℕ) (row : Row) (p : ℕ) (h : SpanHead) (i a n : ℕ) (o : I
   noscan-read : page_noscan (page_of (row (a / 1024))) ≡ h.noscan
   noscan-read = elim page-read [ inl head ↦ ap page_noscan head | inr w ↦ ap page_noscan w.2 ]
 
-module _ (least : LeastSlot) (apart : TheHeapIsApart) (made : TheReachedWereMade) where
-  module _ (z : Arena) (h : Heap) (s : Marking) (g : Good z (view h)) (b : IsBounded z h.ever) (c : IsCycleOf z h s) where
-    abbrev Known : (o : ℕ) → Type 0
-    Known o = KnowsObject z.layout.pages (page_words h.words) (bitmap_words h.words) s.extents o
+module _ (least : LeastSlot) (apart : TheHeapIsApart) (z : Arena) (h : Heap) (s : Marking) (g : Good z (view h)) where
+  abbrev Known : (o : ℕ) → Type 0
+  Known o = KnowsObject z.layout.pages (page_words h.words) (bitmap_words h.words) s.extents o
 
-    known-at : (n : Name) → Reach h.ever n → Known (h.place n)
-    known-at n r =
-        let was-made = made z h.ever b n r in
-        let x = g.slots n was-made (g.reached n r) in
-        let sized = c.size n r in
-        let some : 1 ≤ size_for z.shapes h.ever.type_of n = subst (λ (w : ℕ). 1 ≤ w) (sym x.slot.size_is) (some-slot least x.h.class x.h.pages x.slot.span.fits.class x.slot.span.fits.some) in
-        let inside = λ (k : ℕ). (apart z (view h) g).inside x.p x.i (h.place n) (size_for z.shapes h.ever.type_of n) k x.h x.slot in
-        let first = inside 0 (omega (arith, some)) in
-        let last = inside (size_for z.shapes h.ever.type_of n - 1) (omega (arith, some)) in
-        let low : 1024 * x.p ≤ h.place n = omega (arith, first.0) in
-        let high : h.place n < 1024 * (x.p + x.h.pages) = omega (arith, first.1) in
-        record {
-          within = omega (arith, sized, some, last.1, x.slot.span.within);
-          some = omega (arith, sized, some);
-          size_is = slot-read z.layout.pages (page_words h.words) x.p x.h x.i (h.place n) (size_for z.shapes h.ever.type_of n) x.slot low high ∙ sym sized;
-          noscan_is = noscan-read z.layout.pages (page_words h.words) x.p x.h x.i (h.place n) (size_for z.shapes h.ever.type_of n) x.slot low high ∙ x.noscan ∙ sym (c.noscan n r);
-          pointers_are = λ k l.
-              let within : k < size_for z.shapes h.ever.type_of n = subst (λ (w : ℕ). k < w) sized l in
-              g.pointers n k was-made (g.reached n r) within ∙ ap bit (sym (c.pointer n k r within));
-        }
+  known-at : (n : Name) → IsMade h.ever.made n → Placed (alloc_words h.words) (birth_words h.words) h.place n → IsSaid z h s n → Known (h.place n)
+  known-at n was-made placed said =
+      let x = g.slots n was-made placed in
+      let sized = said.size in
+      let some : 1 ≤ size_for z.shapes h.ever.type_of n = subst (λ (w : ℕ). 1 ≤ w) (sym x.slot.size_is) (some-slot least x.h.class x.h.pages x.slot.span.fits.class x.slot.span.fits.some) in
+      let inside = λ (k : ℕ). (apart z (view h) g).inside x.p x.i (h.place n) (size_for z.shapes h.ever.type_of n) k x.h x.slot in
+      let first = inside 0 (omega (arith, some)) in
+      let last = inside (size_for z.shapes h.ever.type_of n - 1) (omega (arith, some)) in
+      let low : 1024 * x.p ≤ h.place n = omega (arith, first.0) in
+      let high : h.place n < 1024 * (x.p + x.h.pages) = omega (arith, first.1) in
+      record {
+        within = omega (arith, sized, some, last.1, x.slot.span.within);
+        some = omega (arith, sized, some);
+        size_is = slot-read z.layout.pages (page_words h.words) x.p x.h x.i (h.place n) (size_for z.shapes h.ever.type_of n) x.slot low high ∙ sym sized;
+        noscan_is = noscan-read z.layout.pages (page_words h.words) x.p x.h x.i (h.place n) (size_for z.shapes h.ever.type_of n) x.slot low high ∙ x.noscan ∙ sym said.noscan;
+        pointers_are = λ k l.
+            let within : k < size_for z.shapes h.ever.type_of n = subst (λ (w : ℕ). k < w) sized l in
+            g.pointers n k was-made placed within ∙ ap bit (sym (said.pointer k within));
+      }
 
-    known : (o : ℕ) → s.since o ≡ true → Known o
-    known o since = let w = (c.since o).0 since in subst Known w.2 (known-at w.0 w.1)
+  -- of all objects of the cycle, where marking has the words of the heap
+  known-all : s.words ≡ h.words → ((o : ℕ) → s.since o ≡ true → Known o) → (o : ℕ) → s.since o ≡ true → KnowsObject z.layout.pages (page_words s.words) (bitmap_words s.words) s.extents o
+  known-all same known o since = subst (λ (w : Words). KnowsObject z.layout.pages (page_words w) (bitmap_words w) s.extents o) (sym same) (known o since)
 
-  pub objects-known : ObjectsAreKnown
-  objects-known z h s g b c o since = subst (λ (w : Words). KnowsObject z.arena.layout.pages (page_words w) (bitmap_words w) s.extents o) (sym c.words) (known z.arena h s g b c o since)
+pub objects-known : LeastSlot → TheHeapIsApart → TheReachedWereMade → ObjectsAreKnown
+objects-known least apart made z h s g b c = known-all least apart z.arena h s g c.words (λ o since.
+    let w = (c.since o).0 since in
+    subst (Known least apart z.arena h s g) w.2 (known-at least apart z.arena h s g w.0 (made z.arena h.ever b w.0 w.1) (g.reached w.0 w.1) (said-of-reached z.arena h s c w.0 w.1)))
+
+-- and while processors go on, those that were made since among them
+pub objects-known-beside : LeastSlot → TheHeapIsApart → ObjectsAreKnownBeside
+objects-known-beside least apart z h s g m c =
+    subst (λ (u : Words). Good z.arena (view (with_words h u)) → IsBeside z.arena (with_words h u) s → KnowsObjects z s) c.words
+    (λ good beside. known-all least apart z.arena (here h s) s good refl (λ o since.
+    let n = name-at z h s good m o since in
+    subst (Known least apart z.arena (here h s) s good) n.at (known-at least apart z.arena (here h s) s good n.name n.of.made n.of.placed (said-beside z.arena (here h s) s beside n.name n.of)))) g c

@@ -1,7 +1,9 @@
 mod Beginning
 mod Bounding
 pub mod Endings
+pub mod Going
 mod Knowing
 mod Marked
 mod Reaching
+mod Said
 mod Searching

@@ -13,10 +13,12 @@ use Rattle.gh_marks.specs.Colours.{Black, Buffered, Colour, IsShaded, Pending, P
 use Rattle.gh_marks.specs.Ends.{Reached}
 use Rattle.gh_marks.specs.Ends.{from_field as path_field, from_global as path_global, from_register as path_register}
 use Rattle.gh_marks.specs.Moves.{SameExtent}
+use Rattle.gh_cycle.specs.Beside.{TheReachedAreMarkedBeside}
 use Rattle.gh_cycle.specs.Marked.{OnlyWordsChange, RegistersFit, TheCycleLasts, TheMarkedAreReached, TheReachedAreMarked}
 use Rattle.gh_cycle.specs.Opening.{IsCycleOf, reference_of}
 use Rattle.gh_cycle.specs.Reached.{IsBounded, TheReachedWereMade}
 use Rattle.gh_cycle.specs.Vocabulary.{Name, Words, EverValue, Ever, Reach, Holds, Place, points, shape_for, size_for, Arena, Good, view, Heap, Cycle, IsPointer, Marking}
+use Rattle.gh_cycle.proofs.Said.{IsSaid, said-beside, said-of-reached}
 
 module _ (z : Arena) (h k : Heap) (s t : Marking) (c : IsCycleOf z h s) (o : OnlyWordsChange h k s t) where
   place-is : (n : Name) → k.place n ≡ h.place n
@@ -73,13 +75,13 @@ pointing-scans shapes fit t k pointer = by (ltb t (length shapes)) refl where
 holds-name : (place : Place) (made : ℕ → ℕ) (p : Bool) (v : EverValue) (n : Name) (word : ℕ) → v ≡ ever.Ref n → Holds place made p v word → (p ≡ true) × (word ≡ place n + 1)
 holds-name place made p v n word is holds = let w = subst (λ (x : EverValue). Holds place made p x word) is holds in (w.0, w.1)
 
-module _ (z : Cycle) (h : Heap) (s : Marking) (g : Good z.arena (view h)) (fit : ShapesFit z.arena.shapes) (b : IsBounded z.arena h.ever) (c : IsCycleOf z.arena h s) (registers : RegistersFit z.arena h s) (made : TheReachedWereMade) where
+module _ (z : Cycle) (h : Heap) (s : Marking) (g : Good z.arena (view h)) (fit : ShapesFit z.arena.shapes) (b : IsBounded z.arena h.ever) (same : s.words ≡ h.words) (said : (n : Name) → Reach h.ever n → IsSaid z.arena h s n) (registers : RegistersFit z.arena h s) (made : TheReachedWereMade) where
   -- a path of names is a path of words
   path : (n : Name) → Reach h.ever n → Reached z s (h.place n)
   path n (from_global k n' is) =
       let within = (b.globals k n is).0 in
       let w = holds-name h.place h.ever.made true (h.ever.global k) n (h.words (cell.Global k)) is (g.globals k within) in
-      path_global k (h.place n) within (ap (λ (u : Words). u (cell.Global k)) c.words ∙ w.1)
+      path_global k (h.place n) within (ap (λ (u : Words). u (cell.Global k)) same ∙ w.1)
   path n (from_register j d n' runs is) =
       let w = b.registers j d n is in
       path_register j d (h.place n) w.0 w.1 (registers j d w.0 w.1 runs ∙ ap (reference_of h.place) is)
@@ -87,14 +89,19 @@ module _ (z : Cycle) (h : Heap) (s : Marking) (g : Good z.arena (view h)) (fit :
       let within = (b.fields m k n is).0 in
       let w = holds-name h.place h.ever.made (points z.arena.shapes h.ever.type_of m k) (h.ever.field m k) n (h.words (cell.Field (h.place m + k))) is (g.fields m k (made z.arena h.ever b m r) (g.reached m r) within) in
       let pointer : IsPointer s.extents (h.place m) k = (
-        subst (λ (x : ℕ). k < x) (sym (c.size m r)) within,
-        c.pointer m k r within ∙ w.0,
-        c.noscan m r ∙ pointing-scans z.arena.shapes fit (h.ever.type_of m) k w.0,
+        subst (λ (x : ℕ). k < x) (sym (said m r).size) within,
+        (said m r).pointer k within ∙ w.0,
+        (said m r).noscan ∙ pointing-scans z.arena.shapes fit (h.ever.type_of m) k w.0,
       ) in
-      path_field (h.place m) k (h.place n) (path m r) pointer (ap (λ (u : Words). u (cell.Field (h.place m + k))) c.words ∙ w.1)
+      path_field (h.place m) k (h.place n) (path m r) pointer (ap (λ (u : Words). u (cell.Field (h.place m + k))) same ∙ w.1)
 
 pub reached-marked : TheReachedWereMade → TheReachedAreMarked
-reached-marked made z h s g fit b c registers each n r = each (h.place n) (path z h s g fit b c registers made n r)
+reached-marked made z h s g fit b c registers each n r = each (h.place n) (path z h s g fit b c.words (said-of-reached z.arena h s c) registers made n r)
+
+-- and so they are while processors went on
+pub reached-marked-beside : TheReachedWereMade → TheReachedAreMarkedBeside
+reached-marked-beside made z h s g fit b c each n r =
+    each (h.place n) (path z h s g fit b c.words (λ m reached. said-beside z.arena h s c m (record { made = made z.arena h.ever b m reached; placed = g.reached m reached; since = c.reached m reached })) c.registers made n r)
 
 -- what is marked, and no slot that is being filled, is grey or black
 shaded-of : (k : Colour) → 1 ≡ mark_of k → ((a : ℕ) → k ≢ Placing a) → IsShaded k

@@ -27,7 +27,7 @@ name-tells n m h =
     let q : n.k ≡ m.k = grind (arith, nat_tests) in
     λ i. record { g = p i; k = q i }
 
-name-itself : (n : Name) → same_name n n ≡ true
+pub name-itself : (n : Name) → same_name n n ≡ true
 name-itself n = grind (arith, nat_tests)
 
 -- 1 for a name that a set lacks

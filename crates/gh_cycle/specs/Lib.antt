@@ -1,4 +1,5 @@
 pub mod Allocating
+pub mod Beside
 pub mod Ending
 pub mod Marked
 pub mod Opening

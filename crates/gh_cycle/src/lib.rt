@@ -10,8 +10,11 @@
 //!   test: a heap names finitely many objects, and from what globals and registers name a search follows
 //!   their fields until a round finds nothing new. What a path leads to is placed and has the words of its
 //!   type, so marking may rely on what page words and pointer bits say of it.
-//! * **While it is marked**, no object is made and no value changes; so what a script reaches stays, though
-//!   the words of marks and buffers change.
+//! * **While it is marked**, with processors at rest, no object is made and no value changes; so what a script
+//!   reaches stays, though the words of marks and buffers change.
+//! * **While it is marked, processors go on** (`beside`): what a script reaches is of the cycle still, and each
+//!   object of the cycle that stands has the words of its type. That is enough for the end: what a script reaches
+//!   then is marked.
 //! * **Where marking ends**, each object that a script reaches is marked, since a path of names is a path of
 //!   words; and a marked word is that of an object which a script reached where the cycle began.
 //! * **Where a cycle ends** (`closing`), the world is stopped and nobody holds a span; so each span is whole,
@@ -26,5 +29,6 @@
 //!   This ends where the next cycle clears the counts of the last; from there on it is said of words again.
 #![tactic(auto)]
 
+pub mod beside;
 pub mod closing;
 pub mod opening;

@@ -1,0 +1,66 @@
+-- While a cycle is marked processors go on. What holds of the heap and of marking together then, and what each move over the heap is to marking.
+use Rattle.std.specs.Prelude.{◌≡◌, ◌≢◌, ℕ, ◌<◌, true, false}
+use Rattle.gh_base.specs.declared.cell.Cell.TheVariants as cell
+use Rattle.gh_base.specs.declared.pack.TheConstants.{END}
+use Rattle.gh_base.specs.Shapes.{ShapesFit}
+use Rattle.gh_heap.specs.Rights.{Claims}
+use Rattle.gh_marks.specs.Ends.{EachReachedIsMarked}
+use Rattle.gh_marks.specs.Good.{Good as MarkingGood}
+use Rattle.gh_marks.specs.Knows.{KnowsObjects}
+use Rattle.gh_marks.specs.Moves as marks
+use Rattle.gh_cycle.specs.Marked.{RegistersFit}
+use Rattle.gh_cycle.specs.Opening.{IsAtRest, IsCycleOf, RegistersAre}
+use Rattle.gh_cycle.specs.Reached.{IsBounded}
+use Rattle.gh_cycle.specs.Vocabulary.{alloc_words, Arena, birth_words, Cycle, Good, Heap, IsMade, IsMarked, mark_words, Marking, Name, Placed, Placing, points, Reach, shape_for, size_for, view, View, Words}
+
+-- the object was made, stands, and is one of the cycle
+pub record IsOfCycle (h : Heap) (s : Marking) (n : Name) : Type 0 where
+  pub made : IsMade h.ever.made n
+  pub placed : Placed (alloc_words h.words) (birth_words h.words) h.place n
+  pub since : s.since (h.place n) ≡ true
+
+-- the seat claims a slot that begins there
+pub record ClaimsSlot (z : Arena) (v : View) (a at : ℕ) : Type 0 where
+  pub size : ℕ
+  pub claim : Claims z v a at size
+
+-- The state of marking is one of this heap, whatever processors do meanwhile. The words are the same. What a script reaches is of the cycle: more may be, since a script may lose what it reached when the cycle began. Each object of the cycle has the words of its type, those of objects that were made since among them. A slot whose mark is set before its object is made is claimed by who fills it.
+pub record IsBeside (z : Arena) (h : Heap) (s : Marking) : Type 0 where
+  pub words : s.words ≡ h.words
+  pub reached : (n : Name) → Reach h.ever n → s.since (h.place n) ≡ true
+  pub size : (n : Name) → IsOfCycle h s n → s.extents.size (h.place n) ≡ size_for z.shapes h.ever.type_of n
+  pub pointer : (n : Name) (k : ℕ) → IsOfCycle h s n → k < size_for z.shapes h.ever.type_of n → s.extents.pointer (h.place n) k ≡ points z.shapes h.ever.type_of n k
+  pub noscan : (n : Name) → IsOfCycle h s n → s.extents.noscan (h.place n) ≡ (shape_for z.shapes h.ever.type_of n).noscan
+  pub filling : (o a : ℕ) → s.colour o ≡ Placing a → ClaimsSlot z (view h) a o
+  pub registers : RegistersFit z h s
+  -- the word of a stack says that its goroutine has ended only where it has
+  pub goes_on : (g : ℕ) → g < z.layout.goroutines → h.ever.ended g ≡ false → s.words (cell.Scanned g) ≢ END
+
+-- so it is where a cycle begins
+abbrev pub CyclesBeginBeside : Type 0
+CyclesBeginBeside = (z : Cycle) (h : Heap) (s : Marking) → Good z.arena (view h) → IsBounded z.arena h.ever → IsAtRest z.arena z.number h → IsCycleOf z.arena h s → RegistersAre h s → ((o a : ℕ) → s.colour o ≢ Placing a) → IsBeside z.arena h s
+
+-- page words and pointer bits say of each object of the cycle what marking relies on
+abbrev pub ObjectsAreKnownBeside : Type 0
+ObjectsAreKnownBeside = (z : Cycle) (h : Heap) (s : Marking) → Good z.arena (view h) → MarkingGood z s → IsBeside z.arena h s → KnowsObjects z s
+
+-- The steps of marking.
+
+-- A step of marking changes no object, no value and no span: marks, buffers, the cursor and words of stacks alone, and no slot is begun to be filled.
+pub record OnlyMarks (z : Arena) (h : Heap) (s t : Marking) (words : Words) : Type 0 where
+  pub words_are : t.words ≡ words
+  pub view_is : view (record h { words = words }) ≡ view h
+  pub since : (o : ℕ) → t.since o ≡ s.since o
+  pub extents : (o : ℕ) → s.since o ≡ true → marks.SameExtent s.extents t.extents o
+  pub registers : (g d : ℕ) → t.registers g d ≡ s.registers g d
+  pub filling : (o a : ℕ) → t.colour o ≡ Placing a → s.colour o ≡ Placing a
+  pub ends : (g : ℕ) → g < z.layout.goroutines → t.words (cell.Scanned g) ≡ END → s.words (cell.Scanned g) ≡ END
+
+abbrev pub MarkingGoesBeside : Type 0
+MarkingGoesBeside = (z : Arena) (h : Heap) (s t : Marking) (words : Words) → IsBeside z h s → OnlyMarks z h s t words → IsBeside z (record h { words = words }) t
+
+-- The end of marking.
+
+-- each object that a script reaches is marked then
+abbrev pub TheReachedAreMarkedBeside : Type 0
+TheReachedAreMarkedBeside = (z : Cycle) (h : Heap) (s : Marking) → Good z.arena (view h) → ShapesFit z.arena.shapes → IsBounded z.arena h.ever → IsBeside z.arena h s → EachReachedIsMarked z s → (n : Name) → Reach h.ever n → IsMarked (mark_words s.words) (h.place n)

@@ -1,0 +1,43 @@
+//! While a cycle is marked processors go on: they load, store, make objects and give spans back. What the heap and
+//! marking are to each other then. The functions do nothing; what they ensure is proved.
+//!
+//! With the world stopped, what a script reaches and what marking takes for an object of the cycle are the same.
+//! Once processors go on they are not: a script loses what it reached, and makes what marking has never seen. So less
+//! is said. What a script reaches is of the cycle; each object of the cycle that stands has the words of its type;
+//! and a slot whose mark is set before its object is claimed by the seat that fills it. Each of these lasts under
+//! every step of marking, and at the end it is enough.
+
+ghost use Rattle.gh_cycle.specs.Beside.{CyclesBeginBeside, MarkingGoesBeside, ObjectsAreKnownBeside, TheReachedAreMarkedBeside};
+
+use crate::opening::reach_is_decided;
+use gh_class::size_class_laws;
+use gh_heap::laws::the_heap_is_apart;
+
+/// Where a cycle begins, the state of marking is one beside which processors may go on.
+pub fn cycles_begin_beside()
+    ensures { CyclesBeginBeside }
+{
+    the_heap_is_apart();
+    reach_is_decided();
+}
+
+/// Page words and pointer bits say what marking relies on of each object of the cycle, those among them that were
+/// made since it began.
+pub fn objects_are_known_beside()
+    ensures { ObjectsAreKnownBeside }
+{
+    size_class_laws();
+    the_heap_is_apart();
+}
+
+/// A step of marking, of whichever actor, leaves the two states together.
+pub fn marking_goes_beside()
+    ensures { MarkingGoesBeside }
+{}
+
+/// At the end of marking each object that a script reaches is marked, whatever processors did meanwhile.
+pub fn the_reached_are_marked_beside()
+    ensures { TheReachedAreMarkedBeside }
+{
+    reach_is_decided();
+}
