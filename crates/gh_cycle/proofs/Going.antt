@@ -1,3 +1,11 @@
 pub mod Beginning
+pub mod Known
 pub mod Lasting
+pub mod Making
+pub mod Moves
 pub mod Objects
+pub mod Plain
+pub mod Slots
+pub mod Spans
+pub mod Steps
+pub mod Writing

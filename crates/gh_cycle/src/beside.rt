@@ -1,17 +1,19 @@
 //! While a cycle is marked processors go on: they load, store, make objects and give spans back. What the heap and
-//! marking are to each other then. The functions do nothing; what they ensure is proved.
+//! marking are to each other then, and what each move over the heap is to marking. The functions do nothing; what
+//! they ensure is proved.
 //!
 //! With the world stopped, what a script reaches and what marking takes for an object of the cycle are the same.
 //! Once processors go on they are not: a script loses what it reached, and makes what marking has never seen. So less
 //! is said. What a script reaches is of the cycle; each object of the cycle that stands has the words of its type;
 //! and a slot whose mark is set before its object is claimed by the seat that fills it. Each of these lasts under
-//! every step of marking, and at the end it is enough.
+//! every move over the heap and under every step of marking, and at the end it is enough.
 
-ghost use Rattle.gh_cycle.specs.Beside.{CyclesBeginBeside, MarkingGoesBeside, ObjectsAreKnownBeside, TheReachedAreMarkedBeside};
+ghost use Rattle.gh_cycle.specs.Beside.{CyclesBeginBeside, MarkingGoesBeside, MovesGoBeside, ObjectsAreKnownBeside, TheReachedAreMarkedBeside};
 
 use crate::opening::reach_is_decided;
+use gh_base::laws::rows_are_written;
 use gh_class::size_class_laws;
-use gh_heap::laws::the_heap_is_apart;
+use gh_heap::laws::{facts_last, no_more_is_reached, the_heap_is_apart};
 
 /// Where a cycle begins, the state of marking is one beside which processors may go on.
 pub fn cycles_begin_beside()
@@ -28,6 +30,26 @@ pub fn objects_are_known_beside()
 {
     size_class_laws();
     the_heap_is_apart();
+}
+
+/// Each move of a processor over the heap is made of moves of marking that its seat may make, and the two states
+/// belong together behind it. The processor has to meet what `MeetsMarking` asks: the write barrier, a mark that is
+/// set before the object is made, and nothing else while a slot is being filled.
+pub fn moves_go_beside()
+    ensures { MovesGoBeside }
+{
+    rows_are_written();
+    the_heap_is_apart();
+    reach_is_decided();
+    no_more_is_reached();
+    gh_heap::laws::each_move_keeps();
+    gh_heap::laws::each_move_leaves();
+    facts_last();
+    gh_marks::laws::each_move_keeps();
+    gh_marks::laws::each_move_leaves();
+    gh_marks::laws::own_moves_leave();
+    gh_marks::laws::each_move_guards();
+    gh_marks::laws::hands_follow();
 }
 
 /// A step of marking, of whichever actor, leaves the two states together.

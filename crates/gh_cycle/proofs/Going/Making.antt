@@ -1,0 +1,204 @@
+-- An object is made beside marking: it is black from the first, since its slot was marked before and its pointer fields are clear.
+use Rattle.std.proofs.Common.{◌≡◌, ◌≢◌, ℕ, ◌+◌, ◌<◌, ◌⊎◌, Bool, true, false, cond, refl, sym, ap, subst, ◌∙◌, inl, inr, arith}
+use Rattle.std.proofs.lemmas.Bool.{eq-eqb}
+use Rattle.std.proofs.lemmas.Bool.Decides.{eqb_tells}
+use Rattle.gh_base.specs.declared.shape.Shape.{Shape}
+use Rattle.gh_base.specs.Shapes.{is_pointer, shape_at}
+use Rattle.gh_model.specs.declared.EverValue.TheVariants as ever
+use Rattle.gh_model.specs.Ever.{field_count, next_name, same_name, with_object}
+use Rattle.gh_heap.specs.Moves as heap
+use Rattle.gh_heap.specs.Moves.{placed_at, update}
+use Rattle.gh_marks.specs.Colours.{Black, mark_of}
+use Rattle.gh_marks.specs.Moves as marks
+use Rattle.gh_marks.specs.Seats.{Hands, InHand}
+use Rattle.gh_cycle.specs.Beside.{ClaimsSlot, GoesBeside, hand_after, IsOfCycle}
+use Rattle.gh_cycle.specs.Marked.{RegistersFit}
+use Rattle.gh_cycle.specs.Opening.{reference_of}
+use Rattle.gh_cycle.specs.Vocabulary.{alloc_words, Cycle, EverValue, Good, Heap, IsMade, IsMarked, mark_words, Marking, Name, Placed, Placing, points, Reach, row_bit, shape_for, size_for, view}
+use Rattle.gh_cycle.proofs.Reaching.{name-itself, name-tells}
+use Rattle.gh_cycle.proofs.Going.Known.{Known}
+use Rattle.gh_cycle.proofs.Going.Objects.{here}
+use Rattle.gh_cycle.proofs.Going.Plain.{fills-still, there, Together}
+use Rattle.gh_cycle.proofs.Going.Steps.{set-fits}
+
+update-here : {A : Type 0} (f : ℕ → A) (i : ℕ) (x : A) → update f i x i ≡ x
+update-here f i x = rw (eq-eqb i i refl) refl
+
+update-other : {A : Type 0} (f : ℕ → A) (i j : ℕ) (x : A) → i ≢ j → update f i x j ≡ f j
+update-other f i j x ne = elim (eqb_tells i j) [ inl y ↦ absurd (ne y.1) | inr n ↦ rw (n.0) refl ]
+
+module _ (k : Known) (z : Cycle) (a : ℕ) (h : Heap) (s : Marking) (w : Together z h s) (at g d t : ℕ) (may : heap.May z.arena a (view (here h s)) (heap.Make at g d t)) (reserved : s.colour at ≡ Placing a) where
+  abbrev move : heap.Move
+  move = heap.Make at g d t
+
+  abbrev shape : Shape
+  shape = shape_at z.arena.shapes t
+
+  abbrev new : Name
+  new = next_name h.ever g
+
+  abbrev after : Heap
+  after = there z a h s move
+
+  -- The moves of marking.
+
+  abbrev placed : Marking
+  placed = marks.moved z a s (marks.Place at (field_count shape) (is_pointer shape) shape.noscan)
+
+  abbrev then : Marking
+  then = marks.moved z a placed (marks.SetRegister g d (at + 1))
+
+  is-marked : IsMarked (mark_words s.words) at
+  is-marked = w.marking.marks at ∙ ap mark_of reserved
+
+  may-place : marks.May z a s (marks.Place at (field_count shape) (is_pointer shape) shape.noscan)
+  may-place = record { reserved = reserved; clear = λ i l p. may.ready.fields i l }
+
+  may-set : marks.MaySetRegister z a placed g (at + 1)
+  may-set = record {
+    own = may.runs.of;
+    goes_on = w.beside.goes_on g may.runs.of.0 may.runs.goes_on;
+    since = λ o is. subst (λ (x : ℕ). update s.since at true x ≡ true) (omega (arith, is)) (update-here s.since at true);
+    safe = λ e o is. inl (subst (λ (x : ℕ). IsMarked (mark_words s.words) x) (omega (arith, is)) is-marked);
+  }
+
+  went : marks.Went z a s then
+  went = marks.goes placed (marks.SetRegister g d (at + 1)) (marks.goes s (marks.Place at (field_count shape) (is_pointer shape) shape.noscan) marks.stays may-place) may-set
+
+  hands : (x : InHand) → Hands a s x → Hands a then (hand_after move x)
+  hands x is = (k.hands z a placed (hand_after move x) (k.keeps z a s (marks.Place at (field_count shape) (is_pointer shape) shape.noscan) w.marking may-place)
+      ((k.hands z a s x w.marking is).placed at (field_count shape) (is_pointer shape) shape.noscan ((is.has.is_reserved at).1 reserved))).set g d (at + 1)
+
+  -- The new name, and the others.
+
+  good-then : Good z.arena (view after)
+  good-then = k.heap_keeps z.arena a (here h s) move w.heap may
+
+  at-new : after.place new ≡ at
+  at-new = ap (λ (b : Bool). cond b at (h.place new)) (name-itself new)
+
+  new-made : IsMade after.ever.made new
+  new-made = rw (eq-eqb g g refl) (omega arith)
+
+  new-placed : Placed (alloc_words after.words) (view after).birth after.place new
+  new-placed = record { set = ap (λ (x : ℕ). row_bit (alloc_words after.words) x) at-new ∙ k.rows.sets_one (alloc_words s.words) at; says = ap (view after).birth at-new ∙ may.ready.birth }
+
+  other : (n : Name) → IsMade h.ever.made n → same_name n new ≡ false
+  other n made = by (same_name n new) refl where
+    by : (b : Bool) → same_name n new ≡ b → b ≡ false
+    by true e = let same = name-tells n new e in let lt : new.k < h.ever.made new.g = subst (λ (m : Name). IsMade h.ever.made m) same made in absurd (omega (arith, lt))
+    by false e = refl
+
+  place-old : (n : Name) → IsMade h.ever.made n → after.place n ≡ h.place n
+  place-old n made = ap (λ (b : Bool). cond b at (h.place n)) (other n made)
+
+  made-before : (n : Name) → IsMade after.ever.made n → n ≢ new → IsMade h.ever.made n
+  made-before n made ne = elim (eqb_tells n.g g) [
+    | inr o ↦ subst (λ (b : Bool). n.k < cond b (h.ever.made g + 1) (h.ever.made n.g)) o.0 made
+    | inl y ↦
+        let below : n.k < h.ever.made g + 1 = subst (λ (b : Bool). n.k < cond b (h.ever.made g + 1) (h.ever.made n.g)) y.0 made in
+        let another : n.k ≢ h.ever.made g = λ e. ne (λ i. record { g = y.1 i; k = e i }) in
+        subst (λ (x : ℕ). n.k < h.ever.made x) (sym y.1) (omega (arith, below, another))
+  ]
+
+  -- an object of the cycle behind the move is the new one, or was one before, elsewhere
+  record Old (n : Name) : Type 0 where
+    of : IsOfCycle (here h s) s n
+    other_place : at ≢ h.place n
+
+  Cases : Name → Type 0
+  Cases n = (n ≡ new) ⊎ Old n
+
+  cases-of : (n : Name) → IsOfCycle after then n → Cases n
+  unfolding Cases
+  cases-of n o = elim (eqb_tells at (after.place n)) [
+    | inl y ↦ inl ((k.apart z.arena (view after) good-then).once n new o.made new-made o.placed new-placed (sym y.1 ∙ sym at-new))
+    | inr ne ↦ inr (old (made-before n o.made (λ e. ne.1 (sym (ap after.place e ∙ at-new)))) ne.1)
+  ] where
+    old : IsMade h.ever.made n → at ≢ after.place n → Old n
+    old made ne =
+        let apart : at ≢ h.place n = λ e. ne (e ∙ sym (place-old n made)) in
+        record {
+          of = record {
+            made = made;
+            placed = record {
+              set = sym (k.rows.sets_no_other (alloc_words s.words) at (h.place n) apart) ∙ ap (λ (x : ℕ). row_bit (alloc_words after.words) x) (sym (place-old n made)) ∙ o.placed.set;
+              says = ap (view after).birth (sym (place-old n made)) ∙ o.placed.says;
+            };
+            since = sym (update-other s.since at (h.place n) true apart) ∙ ap then.since (sym (place-old n made)) ∙ o.since;
+          };
+          other_place = apart;
+        }
+
+  type-new : after.ever.type_of new ≡ t
+  type-new = ap (λ (b : Bool). cond b t (h.ever.type_of new)) (name-itself new)
+
+  type-old : (n : Name) → IsMade h.ever.made n → after.ever.type_of n ≡ h.ever.type_of n
+  type-old n made = ap (λ (b : Bool). cond b t (h.ever.type_of n)) (other n made)
+
+  -- The words of its type.
+
+  size : (n : Name) → IsOfCycle after then n → then.extents.size (after.place n) ≡ size_for z.arena.shapes after.ever.type_of n
+  unfolding Cases
+  size n o = elim (cases-of n o) [
+    | inl e ↦ subst (λ (m : Name). then.extents.size (after.place m) ≡ size_for z.arena.shapes after.ever.type_of m) (sym e)
+        (ap then.extents.size at-new ∙ update-here s.extents.size at (field_count shape) ∙ ap (λ (x : ℕ). field_count (shape_at z.arena.shapes x)) (sym type-new))
+    | inr p ↦ ap then.extents.size (place-old n p.of.made) ∙ update-other s.extents.size at (h.place n) (field_count shape) p.other_place ∙ w.beside.size n p.of ∙ ap (λ (x : ℕ). field_count (shape_at z.arena.shapes x)) (sym (type-old n p.of.made))
+  ]
+
+  pointer : (n : Name) (j : ℕ) → IsOfCycle after then n → j < size_for z.arena.shapes after.ever.type_of n → then.extents.pointer (after.place n) j ≡ points z.arena.shapes after.ever.type_of n j
+  unfolding Cases
+  pointer n j o l = elim (cases-of n o) [
+    | inl e ↦ subst (λ (m : Name). then.extents.pointer (after.place m) j ≡ points z.arena.shapes after.ever.type_of m j) (sym e)
+        (ap (λ (x : ℕ). then.extents.pointer x j) at-new ∙ ap (λ (f : ℕ → Bool). f j) (update-here s.extents.pointer at (is_pointer shape)) ∙ ap (λ (x : ℕ). is_pointer (shape_at z.arena.shapes x) j) (sym type-new))
+    | inr p ↦ ap (λ (x : ℕ). then.extents.pointer x j) (place-old n p.of.made) ∙ ap (λ (f : ℕ → Bool). f j) (update-other s.extents.pointer at (h.place n) (is_pointer shape) p.other_place)
+        ∙ w.beside.pointer n j p.of (subst (λ (x : ℕ). j < field_count (shape_at z.arena.shapes x)) (type-old n p.of.made) l) ∙ ap (λ (x : ℕ). is_pointer (shape_at z.arena.shapes x) j) (sym (type-old n p.of.made))
+  ]
+
+  noscan : (n : Name) → IsOfCycle after then n → then.extents.noscan (after.place n) ≡ (shape_for z.arena.shapes after.ever.type_of n).noscan
+  unfolding Cases
+  noscan n o = elim (cases-of n o) [
+    | inl e ↦ subst (λ (m : Name). then.extents.noscan (after.place m) ≡ (shape_for z.arena.shapes after.ever.type_of m).noscan) (sym e)
+        (ap then.extents.noscan at-new ∙ update-here s.extents.noscan at shape.noscan ∙ ap (λ (x : ℕ). (shape_at z.arena.shapes x).noscan) (sym type-new))
+    | inr p ↦ ap then.extents.noscan (place-old n p.of.made) ∙ update-other s.extents.noscan at (h.place n) shape.noscan p.other_place ∙ w.beside.noscan n p.of ∙ ap (λ (x : ℕ). (shape_at z.arena.shapes x).noscan) (sym (type-old n p.of.made))
+  ]
+
+  -- What is reached, what is claimed, and registers.
+
+  still-since : (x : ℕ) → s.since x ≡ true → then.since x ≡ true
+  still-since x is = elim (eqb_tells at x) [ inl y ↦ rw (y.0) refl | inr n ↦ rw (n.0) is ]
+
+  reached : (n : Name) → Reach after.ever n → then.since (after.place n) ≡ true
+  reached n r = elim (k.reaches z.arena a (here h s) move may n r) [
+    | inl was ↦ ap then.since (place-old n (k.made z.arena h.ever w.bounded n was)) ∙ still-since (h.place n) (w.beside.reached n was)
+    | inr e ↦ let is : new ≡ n = cc in subst (λ (m : Name). then.since (after.place m) ≡ true) is (ap then.since at-new ∙ update-here s.since at true)
+  ]
+
+  filling : (o b : ℕ) → then.colour o ≡ Placing b → ClaimsSlot z.arena (view after) b o
+  filling o b is = elim (eqb_tells at o) [
+    | inl y ↦ absurd (let black : Black ≡ Placing b = sym (update-here s.colour at Black) ∙ ap then.colour y.1 ∙ is in cc)
+    | inr ne ↦ of ne.1 (sym (update-other s.colour at o Black ne.1) ∙ is)
+  ] where
+    of : at ≢ o → s.colour o ≡ Placing b → ClaimsSlot z.arena (view after) b o
+    of ne was = elim (eqb_tells b a) [
+      | inr other ↦ fills-still k z a h s w move may o b other.1 was
+      | inl y ↦ let c = w.beside.filling o b was in record { size = c.size; claim = record { p = c.claim.p; h = c.claim.h; i = c.claim.i; held = c.claim.held; slot = c.claim.slot; clear = k.rows.sets_no_other (alloc_words s.words) at o ne ∙ c.claim.clear } }
+    ]
+
+  reference-same : (v : EverValue) → ((n : Name) → v ≡ ever.Ref n → IsMade h.ever.made n) → reference_of h.place v ≡ reference_of after.place v
+  reference-same ever.Nil made = refl
+  reference-same (ever.Int i) made = refl
+  reference-same (ever.Ref n) made = ap (λ (x : ℕ). x + 1) (sym (place-old n (made n refl)))
+
+  fit : RegistersFit z.arena after then
+  fit j c lj lc runs = ap (λ (x : ℕ). heap.update_at s.registers g d x j c) (ap (λ (x : ℕ). x + 1) (sym at-new))
+      ∙ set-fits s.registers (with_object z.arena.shapes h.ever g t) after.place g d (ever.Ref new) j c (w.beside.registers j c lj lc runs ∙ reference-same (h.ever.register j c) (λ n is. (w.bounded.registers j c n is).2))
+
+  pub makes : GoesBeside z a (here h s) s move
+  makes = record {
+    then = then;
+    went = went;
+    beside = record { words = refl; reached = reached; size = size; pointer = pointer; noscan = noscan; filling = filling; registers = fit; goes_on = w.beside.goes_on };
+    hands = hands;
+    marked = λ o is. is;
+  }

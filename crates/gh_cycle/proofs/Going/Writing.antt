@@ -1,0 +1,82 @@
+-- Fields and globals take values beside marking: pointers behind the write barrier, and a number where no object of the cycle has a pointer field.
+use Rattle.std.proofs.Common.{◌≡◌, ◌≢◌, ℕ, ◌+◌, ◌<◌, Bool, true, false, refl, sym, ap, subst, ◌∙◌, inl, inr, arith}
+use Rattle.std.proofs.lemmas.Bool.Decides.{eqb_tells}
+use Rattle.gh_base.specs.declared.cell.Ask.TheVariants as ask
+use Rattle.gh_base.specs.declared.cell.Cell.TheVariants as cell
+use Rattle.gh_heap.specs.Moves as heap
+use Rattle.gh_heap.specs.Moves.{IsReached}
+use Rattle.gh_marks.specs.Moves as marks
+use Rattle.gh_marks.specs.Seats.{Hands, InHand}
+use Rattle.gh_cycle.specs.Beside.{ClaimsSlot, GoesBeside, IsOfCycle, MeetsMarking}
+use Rattle.gh_cycle.specs.Vocabulary.{Cycle, EverValue, Heap, Holds, IsPointer, IsSince, Marking, Name, Placing, points, put, size_for, view}
+use Rattle.gh_cycle.proofs.Beginning.{names-it}
+use Rattle.gh_cycle.proofs.Going.Known.{Known}
+use Rattle.gh_cycle.proofs.Going.Objects.{apart-from, here, name-at}
+use Rattle.gh_cycle.proofs.Going.Plain.{goes-along, GoesAlong, there, Together}
+
+module _ (k : Known) (z : Cycle) (a : ℕ) (h : Heap) (s : Marking) (w : Together z h s) where
+  -- a word that holds a reached value names what is of the cycle
+  word-since : (value : EverValue) (word : ℕ) → IsReached h.ever value → Holds h.place h.ever.made true value word → IsSince s.since word
+  word-since value word reached holds o is =
+      let m = names-it h.place h.ever.made value word o holds is in
+      subst (λ (x : ℕ). s.since x ≡ true) m.2 (w.beside.reached m.0 (subst (λ (v : EverValue). IsReached h.ever v) m.1 reached))
+
+  -- what the seat claims it claims still: neither pages nor alloc bits change
+  abbrev Claimed : heap.Move → Type 0
+  Claimed m = (o : ℕ) → s.colour o ≡ Placing a → ClaimsSlot z.arena (view (there z a h s m)) a o
+
+  module _ (n : Name) (i : ℕ) (value : EverValue) (word : ℕ) (may : heap.May z.arena a (view (here h s)) (heap.Write n i value word)) where
+    abbrev x : ℕ
+    x = h.place n + i
+
+    abbrev written : Marking
+    written = record s { words = put s.words (cell.Field x) word }
+
+    -- a field that is no pointer is no pointer field of an object of the cycle
+    aside : points z.arena.shapes h.ever.type_of n i ≡ false → (o j : ℕ) → s.since o ≡ true → IsPointer s.extents o j → x ≢ o + j
+    aside number o j since =
+        let m = name-at z h s w.heap w.marking o since in
+        subst (λ (y : ℕ). IsPointer s.extents y j → x ≢ y + j) m.at (from m.name m.of) where
+          same : (m : Name) → IsOfCycle (here h s) s m → IsPointer s.extents (h.place m) j → n ≡ m → x ≢ h.place m + j
+          same m of l is e =
+              let at : h.place n ≡ h.place m = ap h.place is in
+              let field : j ≡ i = omega (arith, at, e) in
+              let within : j < size_for z.arena.shapes h.ever.type_of m = subst (λ (y : ℕ). j < y) (w.beside.size m of) l.0 in
+              let pointer : points z.arena.shapes h.ever.type_of m j ≡ true = sym (w.beside.pointer m j of within) ∙ l.1 in
+              let here-too : points z.arena.shapes h.ever.type_of n i ≡ true = ap (λ (p : Name). points z.arena.shapes h.ever.type_of p i) is ∙ ap (λ (f : ℕ). points z.arena.shapes h.ever.type_of m f) (sym field) ∙ pointer in
+              absurd (cc)
+
+          from : (m : Name) → IsOfCycle (here h s) s m → IsPointer s.extents (h.place m) j → x ≢ h.place m + j
+          from m of l = elim (eqb_tells (h.place n) (h.place m)) [
+            | inl y ↦ same m of l ((k.apart z.arena (view (here h s)) w.heap).once n m may.made of.made (w.heap.reached n may.reached) of.placed y.1)
+            | inr ne ↦
+                let own = w.heap.slots n may.made (w.heap.reached n may.reached) in
+                apart-from z h s w.heap w.marking k.apart w.beside m of j l own.p own.i (h.place n) (size_for z.arena.shapes h.ever.type_of n) i own.h own.slot ne.1 may.within
+          ]
+
+    along : marks.Went z a s written → ((y : InHand) → Hands a s y → Hands a written y) → GoesAlong z a h s (heap.Write n i value word) written
+    along went hands = record { went = went; words = refl; since = refl; extents = refl; colour = refl; marked = λ o is. is; hands = hands }
+
+    along-by : (b : Bool) → points z.arena.shapes h.ever.type_of n i ≡ b → MeetsMarking z a (here h s) s (heap.Write n i value word) → GoesAlong z a h s (heap.Write n i value word) written
+    along-by true e meets = along (marks.goes s (marks.PutField x word) marks.stays behind) (λ y is. (k.hands z a s y w.marking is).put_field x word) where
+      behind : marks.BehindBarrier s (s.words (cell.Field x)) word
+      behind = record { old = (meets e).0; new = (meets e).1; since = word-since value word may.value_reached (subst (λ (p : Bool). Holds h.place h.ever.made p value word) e may.holds) }
+    along-by false e meets = along (marks.goes s (marks.Quiet (ask.Store (cell.Field x) word)) marks.stays (aside e)) (λ y is. (k.hands z a s y w.marking is).quiet (ask.Store (cell.Field x) word) (aside e))
+
+    pub writes : MeetsMarking z a (here h s) s (heap.Write n i value word) → GoesBeside z a (here h s) s (heap.Write n i value word)
+    writes meets = goes-along k z a h s w (heap.Write n i value word) may (record { none = refl; hand = λ y. refl; place = refl; types = refl; made = refl; alloc = refl }) written (along-by (points z.arena.shapes h.ever.type_of n i) refl meets) (λ m p. p) claims w.beside.registers w.beside.goes_on where
+      claims : Claimed (heap.Write n i value word)
+      claims o is = let c = w.beside.filling o a is in record { size = c.size; claim = c.claim }
+
+  pub writes-global : (i : ℕ) (value : EverValue) (word : ℕ) → heap.May z.arena a (view (here h s)) (heap.WriteGlobal i value word) → MeetsMarking z a (here h s) s (heap.WriteGlobal i value word) → GoesBeside z a (here h s) s (heap.WriteGlobal i value word)
+  writes-global i value word may meets = goes-along k z a h s w (heap.WriteGlobal i value word) may (record { none = refl; hand = λ y. refl; place = refl; types = refl; made = refl; alloc = refl }) (marks.moved z a s (marks.PutGlobal i word)) (record {
+    went = marks.goes s (marks.PutGlobal i word) marks.stays (record { old = meets.0; new = meets.1; since = word-since value word may.value_reached may.holds });
+    words = refl;
+    since = refl;
+    extents = refl;
+    colour = refl;
+    marked = λ o is. is;
+    hands = λ y is. (k.hands z a s y w.marking is).put_global i word;
+  }) (λ m p. p) claims w.beside.registers w.beside.goes_on where
+    claims : Claimed (heap.WriteGlobal i value word)
+    claims o is = let c = w.beside.filling o a is in record { size = c.size; claim = c.claim }
