@@ -5,6 +5,7 @@ pub mod Making
 pub mod Moves
 pub mod Objects
 pub mod Plain
+pub mod Reserving
 pub mod Slots
 pub mod Spans
 pub mod Steps

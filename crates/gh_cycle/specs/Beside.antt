@@ -82,6 +82,10 @@ pub record GoesBeside (z : Cycle) (a : ℕ) (h : Heap) (s : Marking) (m : heap.M
 abbrev pub MovesGoBeside : Type 0
 MovesGoBeside = (z : Cycle) (a : ℕ) (h : Heap) (s : Marking) (m : heap.Move) → Good z.arena (view h) → MarkingGood z s → IsBounded z.arena h.ever → IsBeside z.arena h s → heap.May z.arena a (view h) m → MeetsMarking z a h s m → GoesBeside z a h s m
 
+-- A claimed slot may be marked before its object is made: nobody else fills it, and it is white.
+abbrev pub SlotsAreReserved : Type 0
+SlotsAreReserved = (z : Cycle) (a at size : ℕ) (h : Heap) (s : Marking) → Good z.arena (view h) → MarkingGood z s → IsBeside z.arena h s → Claims z.arena (view h) a at size → FillsNone a s → marks.May z a s (marks.Reserve at) × IsBeside z.arena (record h { words = (marks.moved z a s (marks.Reserve at)).words }) (marks.moved z a s (marks.Reserve at))
+
 -- The steps of marking.
 
 -- A step of marking changes no object, no value and no span: marks, buffers, the cursor and words of stacks alone, and no slot is begun to be filled.

@@ -8,7 +8,7 @@
 //! and a slot whose mark is set before its object is claimed by the seat that fills it. Each of these lasts under
 //! every move over the heap and under every step of marking, and at the end it is enough.
 
-ghost use Rattle.gh_cycle.specs.Beside.{CyclesBeginBeside, MarkingGoesBeside, MovesGoBeside, ObjectsAreKnownBeside, TheReachedAreMarkedBeside};
+ghost use Rattle.gh_cycle.specs.Beside.{CyclesBeginBeside, MarkingGoesBeside, MovesGoBeside, ObjectsAreKnownBeside, SlotsAreReserved, TheReachedAreMarkedBeside};
 
 use crate::opening::reach_is_decided;
 use gh_base::laws::rows_are_written;
@@ -50,6 +50,14 @@ pub fn moves_go_beside()
     gh_marks::laws::own_moves_leave();
     gh_marks::laws::each_move_guards();
     gh_marks::laws::hands_follow();
+}
+
+/// The mark of a claimed slot may be set before its object is made: the slot is white, and nobody else fills it.
+pub fn slots_are_reserved()
+    ensures { SlotsAreReserved }
+{
+    size_class_laws();
+    the_heap_is_apart();
 }
 
 /// A step of marking, of whichever actor, leaves the two states together.
