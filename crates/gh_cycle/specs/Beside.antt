@@ -55,7 +55,7 @@ ObjectsAreKnownBeside = (z : Cycle) (h : Heap) (s : Marking) → Good z.arena (v
 abbrev pub FillsNone : (a : ℕ) → Marking → Type 0
 FillsNone a s = (o : ℕ) → s.colour o ≢ Placing a
 
--- What marking asks of a move of this seat, besides what the heap asks. A step on a word that no right guards is on none that marking reads. A register whose stack is scanned takes what is marked or protected. An object is made where its mark was set before. A pointer is written behind the write barrier: the word that it overwrites is clean, and so is the new one. While a slot is being filled its seat does nothing else.
+-- What marking asks of a move of this seat, besides what the heap asks. A step on a word that no right guards is on none that marking reads. A register whose stack is scanned takes what is marked or protected. An object is made where its mark was set before. A pointer is written behind the write barrier: the word that it overwrites is clean, and so is the new one. While its seat fills a slot it makes no other move of slots, and none of spans or of the lock.
 abbrev pub MeetsMarking : Cycle → (a : ℕ) → Heap → Marking → heap.Move → Type 0
 MeetsMarking z a h s (heap.Quiet step) = marks.IsQuiet s step
 MeetsMarking z a h s (heap.Takes step g d value) = marks.IsQuiet s step × (s.words (cell.Scanned g) ≡ z.number → IsSafe z.arena.layout.globals (rows s) (reference_of h.place value))

@@ -34,7 +34,7 @@ pub fn objects_are_known_beside()
 
 /// Each move of a processor over the heap is made of moves of marking that its seat may make, and the two states
 /// belong together behind it. The processor has to meet what `MeetsMarking` asks: the write barrier, a mark that is
-/// set before the object is made, and nothing else while a slot is being filled.
+/// set before the object is made, and no other move of slots, and none of spans or of the lock, while it fills one.
 pub fn moves_go_beside()
     ensures { MovesGoBeside }
 {
