@@ -26,9 +26,9 @@ use Rattle.gh_bitmap.specs.SetPointers as setter
 use Rattle.gh_central.specs.GiveBack.{Giving}
 use Rattle.gh_central.specs.GiveFacts as giving
 use Rattle.gh_alloc.specs.declared.place.PlaceStage.{PlaceStage}
-use Rattle.gh_alloc.specs.declared.place.PlaceStage.TheVariants.{Clear, Birth, Bits, Alloc, Give, Count, Ended}
-use Rattle.gh_alloc.specs.Place.{Placing, acts_at, asks, asks_at, at_stage, gives_at, goes, made}
-use Rattle.gh_alloc.specs.PlaceFacts.{Born, Changes, Comes, FactsAt, FieldsClear, For, GivesUp, IsItsSpan, Lasts, Made, Opens, OwnStep, PlacesByItsRights, Unmade, Within, base, held_by, setting}
+use Rattle.gh_alloc.specs.declared.place.PlaceStage.TheVariants.{Clear, Birth, Bits, Mark, Alloc, Give, Count, Ended}
+use Rattle.gh_alloc.specs.Place.{Placing, acts_at, asks, asks_at, at_stage, filled, gives_at, goes, made}
+use Rattle.gh_alloc.specs.PlaceFacts.{Born, Changes, Comes, FactsAt, FieldsClear, Filled, For, GivesUp, IsItsSpan, Lasts, Made, Opens, OwnStep, PlacesByItsRights, Unmade, Within, base, held_by, setting}
 
 pub record Known : Type 0 where
   pub rows : RowsAreWritten
@@ -80,6 +80,9 @@ unmade-lasts z a v w f p o u = record {
 born-lasts : (z : Arena) (a : ℕ) (v w : View) (f : For) (p : Placing) → Others z a v w → Unmade z a v f p → Born v p → Born w p
 born-lasts z a v w f p o u b = record { fields = λ j lt. o.fields p.at p.slot j u.claim lt ∙ b.fields j lt; birth = o.births p.at p.slot u.claim ∙ b.birth }
 
+filled-lasts : (z : Arena) (a : ℕ) (v w : View) (f : For) (p : Placing) → Others z a v w → Filled z a v f p → Filled z a w f p
+filled-lasts z a v w f p o x = (unmade-lasts z a v w f p o x.0, born-lasts z a v w f p o x.0 x.1, λ j few low. o.pointers p.at p.slot j x.0.claim few ∙ x.2 j few low)
+
 made-lasts : (z : Arena) (a : ℕ) (v w : View) (p : Placing) → Others z a v w → Made v p → Made w p
 made-lasts z a v w p o m = record { made = o.made p.name m.made; at = o.places p.name m.made ∙ m.at }
 
@@ -104,7 +107,8 @@ stage-lasts : Known → (z : Arena) (a : ℕ) (v w : View) (f : For) (p : Placin
 stage-lasts k z a v w f p (Clear i) good o x = (unmade-lasts z a v w f p o x.0, x.1, λ j lt. o.fields p.at p.slot j x.0.claim (omega (arith, x.1)) ∙ x.2 j lt)
 stage-lasts k z a v w f p Birth good o x = (unmade-lasts z a v w f p o x.0, λ j lt. o.fields p.at p.slot j x.0.claim lt ∙ x.1 j lt)
 stage-lasts k z a v w f p (Bits s) good o x = (unmade-lasts z a v w f p o x.0, born-lasts z a v w f p o x.0 x.1, x.2, k.bits.lasts z a v w s o x.3)
-stage-lasts k z a v w f p Alloc good o x = (unmade-lasts z a v w f p o x.0, born-lasts z a v w f p o x.0 x.1, λ j few low. o.pointers p.at p.slot j x.0.claim few ∙ x.2 j few low)
+stage-lasts k z a v w f p Mark good o x = filled-lasts z a v w f p o x
+stage-lasts k z a v w f p Alloc good o x = filled-lasts z a v w f p o x
 stage-lasts k z a v w f p (Give g) good o x = (made-lasts z a v w p o x.0, gives-last k z a v w p g o x.1)
 stage-lasts k z a v w f p Count good o x = made-lasts z a v w p o x
 stage-lasts k z a v w f p Ended good o x = x
@@ -189,17 +193,31 @@ module _ (k : Known) (z : Arena) (a : ℕ) (s : Shared) (f : For) (held : ℕ �
     born : Born (view t) (base p)
     born = record { fields = x.1; birth = put-here p.at (birth_word p.name) (now.birth p.at) }
 
-  -- the bits are set: what its routine comes to
+  -- the bits are set, and it goes on to the mark or to the alloc bit
+  filled-then : (t : Shared) → Right a (view t) false held None → Filled z a (view t) f (base p) → (marking : Bool) → Comes z a (view t) f held None (at_stage p (filled marking))
+  filled-then t right x true = (right, x)
+  filled-then t right x false = (right, x)
+
+  -- what its routine comes to
   bits-then : (q : SetStage) (t : Shared) → Unmade z a now f (base p) → Born now (base p) → view t ≡ record now { bitmap = (view t).bitmap } → Right a (view t) false held None → (b : Bool) → setter.is_busy (setter.goes_at (setting p q) q) ≡ b →
       bits.Comes z a (view t) (setter.gives_at b) (setter.at_stage (setting p q) (setter.goes_at (setting p q) q)) →
-      Comes z a (view t) f held None (at_stage p (cond b (Bits (setter.at_stage (setting p q) (setter.goes_at (setting p q) q))) Alloc))
+      Comes z a (view t) f held None (at_stage p (cond b (Bits (setter.at_stage (setting p q) (setter.goes_at (setting p q) q))) (filled p.marking)))
   bits-then q t u born e right true busy x = (right, (subst (λ (w : View). Unmade z a w f (base p)) (sym e) (unmade-rows z a now f (base p) now.field now.birth (view t).bitmap u), subst (λ (w : View). Born w (base p)) (sym e) (record { fields = born.fields; birth = born.birth }), refl, x))
-  bits-then q t u born e right false busy x = (right, (subst (λ (w : View). Unmade z a w f (base p)) (sym e) (unmade-rows z a now f (base p) now.field now.birth (view t).bitmap u), subst (λ (w : View). Born w (base p)) (sym e) (record { fields = born.fields; birth = born.birth }), x.1))
+  bits-then q t u born e right false busy x = filled-then t right (subst (λ (w : View). Unmade z a w f (base p)) (sym e) (unmade-rows z a now f (base p) now.field now.birth (view t).bitmap u), subst (λ (w : View). Born w (base p)) (sym e) (record { fields = born.fields; birth = born.birth }), x.1) p.marking
 
   bits-at : (q : SetStage) → Good z now → Right a now false held None → Unmade z a now f (base p) → Born now (base p) → bits.Facts z a now (setting p q) → Step (Bits (setting p q))
   bits-at q g right u born x =
       landing z a s _ _ _ (λ t r. ((ap (λ (w : View). w.ever) r.0, ap (λ (w : View). w.place) r.0), bits-then q t u born r.0 r.1 (setter.is_busy (setter.goes_at (setting p q) q)) refl r.2))
       (k.bits.own_step z a s false held None (setting p q) g right x)
+
+  -- the mark is no word that a right guards
+  mark : Right a now false held None → Knows Mark → Step Mark
+  mark right x = record {
+    move = Quiet (asks_at p Mark);
+    may = tt;
+    words_are = refl;
+    after = ((refl, refl), (record { locked = right.locked; holds = right.holds; laying = right.laying; freeing = right.freeing }, (unmade-rows z a now f (base p) now.field now.birth now.bitmap x.0, record { fields = x.1.fields; birth = x.1.birth }, x.2)));
+  }
 
   make : Good z now → Right a now false held None → Knows Alloc → Step Alloc
   make g right x = record {
@@ -310,6 +328,7 @@ module _ (k : Known) (z : Arena) (a : ℕ) (s : Shared) (f : For) (held : ℕ �
   own-at (Clear i) g right x = clear i right x
   own-at Birth g right x = birth right x
   own-at (Bits m) g right x = subst (λ (y : setter.PointerSetting). Step (Bits y)) (sym x.2) (bits-at m.stage g right x.0 x.1 (subst (λ (y : setter.PointerSetting). bits.Facts z a now y) x.2 x.3))
+  own-at Mark g right x = mark right x
   own-at Alloc g right x = make g right x
   own-at (Give g) good right x = give g good right x
   own-at Count g right x = count right x
@@ -329,6 +348,7 @@ module _ (k : Known) (z : Arena) (a : ℕ) (v : View) (f : For) (p : Placing) (g
   within-at (Clear i) x = inside i x.0 x.1
   within-at Birth x = let first = inside 0 x.0 x.0.places.some in omega (arith, first)
   within-at (Bits m) x = k.bits.within z a v m x.3
+  within-at Mark x = let first = inside 0 x.0 x.0.places.some in omega (arith, first)
   within-at Alloc x = let first = inside 0 x.0 x.0.places.some in omega (arith, first)
   within-at (Give g) x = k.give.within z a v g good x.1.back
   within-at Count x = tt

@@ -79,6 +79,7 @@ place_quiet : (p : place.Placing) (stage : PlaceStage) → IsQuiet (place.asks_a
 place_quiet p (place_stage.Clear k) = tt
 place_quiet p place_stage.Birth = tt
 place_quiet p (place_stage.Bits s) = bits_quiet s s.stage
+place_quiet p place_stage.Mark = tt
 place_quiet p place_stage.Alloc = tt
 place_quiet p (place_stage.Give g) = give_quiet g g.stage
 place_quiet p place_stage.Count = tt

@@ -4,6 +4,7 @@ pub mod FindFacts
 pub mod FindSound
 pub mod Locking
 pub mod Making
+pub mod Marking
 pub mod Place
 pub mod PlaceEnds
 pub mod PlaceFacts

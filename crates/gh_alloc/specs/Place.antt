@@ -12,9 +12,9 @@ use Rattle.gh_base.specs.Routines.{Listing}
 use Rattle.gh_bitmap.specs.SetPointers as bits
 use Rattle.gh_central.specs.GiveBack as give
 use Rattle.gh_alloc.specs.declared.place.PlaceStage.{PlaceStage}
-use Rattle.gh_alloc.specs.declared.place.PlaceStage.TheVariants.{Clear, Birth, Bits, Alloc, Give, Count, Ended}
+use Rattle.gh_alloc.specs.declared.place.PlaceStage.TheVariants.{Clear, Birth, Bits, Mark, Alloc, Give, Count, Ended}
 
--- the making of an object: of which shape and name, in the slot at which heap word and of how many words, a large one's span, and its stage
+-- the making of an object: of which shape and name, in the slot at which heap word and of how many words, a large one's span, whether marking is on, and its stage
 pub record Placing : Type 0 where
   pub layout : Layout
   pub shape : Shape
@@ -22,19 +22,25 @@ pub record Placing : Type 0 where
   pub slot : ℕ
   pub name : Name
   pub span : Option SpanHead
+  pub marking : Bool
   pub stage : PlaceStage
 
 abbrev pub at_stage : Placing → PlaceStage → Placing
 at_stage p stage = record p { stage = stage }
 
-abbrev pub opening : Layout → Shape → (at slot : ℕ) → Name → Option SpanHead → Placing
-opening l shape at slot name span = record { layout = l; shape = shape; at = at; slot = slot; name = name; span = span; stage = Clear 0 }
+abbrev pub opening : Layout → Shape → (at slot : ℕ) → Name → Option SpanHead → (marking : Bool) → Placing
+opening l shape at slot name span marking = record { layout = l; shape = shape; at = at; slot = slot; name = name; span = span; marking = marking; stage = Clear 0 }
+
+-- the object is marked before it is made, where marking is on
+abbrev pub filled : (marking : Bool) → PlaceStage
+filled marking = if marking then Mark else Alloc
 
 module _ (p : Placing) where
   abbrev pub asks_at : PlaceStage → Ask
   asks_at (Clear k) = Store (cell.Field (p.at + k)) 0
   asks_at Birth = Store (cell.Birth p.at) (birth_word p.name)
   asks_at (Bits s) = bits.asks s
+  asks_at Mark = Or (cell.Mark (p.at / 64)) (2 ^ (p.at % 64))
   asks_at Alloc = Or (cell.Alloc (p.at / 64)) (2 ^ (p.at % 64))
   asks_at (Give g) = give.asks g
   asks_at Count = Add cell.Heap (8 * p.slot)
@@ -48,7 +54,8 @@ module _ (p : Placing) where
   abbrev pub goes_at : PlaceStage → ℕ → PlaceStage
   goes_at (Clear k) found = if nat_lt (k + 1) p.slot then Clear (k + 1) else Birth
   goes_at Birth found = Bits (bits.opening p.layout p.shape p.at p.slot)
-  goes_at (Bits s) found = if bits.is_busy (bits.goes s found).stage then Bits (bits.goes s found) else Alloc
+  goes_at (Bits s) found = if bits.is_busy (bits.goes s found).stage then Bits (bits.goes s found) else filled p.marking
+  goes_at Mark found = Alloc
   goes_at Alloc found = made p.span
   goes_at (Give g) found = Count
   goes_at Count found = Ended

@@ -23,7 +23,7 @@ use Rattle.gh_bitmap.specs.Stepping.{FitsSlot}
 use Rattle.gh_central.specs.GiveBack.{Giving}
 use Rattle.gh_central.specs.GiveFacts.{CanGiveBack}
 use Rattle.gh_alloc.specs.declared.place.PlaceStage.{PlaceStage}
-use Rattle.gh_alloc.specs.declared.place.PlaceStage.TheVariants.{Clear, Birth, Bits, Alloc, Give, Count, Ended}
+use Rattle.gh_alloc.specs.declared.place.PlaceStage.TheVariants.{Clear, Birth, Bits, Mark, Alloc, Give, Count, Ended}
 use Rattle.gh_alloc.specs.Place.{Placing, acts, asks, at_stage, gives, goes}
 
 -- The routine before its first step. What is known is said of it and of the stage.
@@ -80,6 +80,10 @@ pub record Made (v : View) (p : Placing) : Type 0 where
 abbrev pub setting : Placing → SetStage → PointerSetting
 setting p q = bits_at (begin_bits p.layout p.shape p.at p.slot) q
 
+-- the slot is as the object's is to be: its fields, its birth word and its pointer bits
+abbrev pub Filled : Arena → (a : ℕ) → View → For → Placing → Type 0
+Filled z a v f p = Unmade z a v f p × Born v p × bits.ToldBelow (setting p bits_stage.Ended) v.bitmap (p.at + p.slot)
+
 -- a large object's span is given back next
 pub record GivesUp (z : Arena) (a : ℕ) (v : View) (p : Placing) (g : Giving) : Type 0 where
   pub head : SpanHead
@@ -93,7 +97,8 @@ abbrev pub FactsAt : Arena → (a : ℕ) → View → For → Placing → PlaceS
 FactsAt z a v f p (Clear k) = Unmade z a v f p × (k < p.slot) × FieldsClear v.field p.at k
 FactsAt z a v f p Birth = Unmade z a v f p × FieldsClear v.field p.at p.slot
 FactsAt z a v f p (Bits s) = Unmade z a v f p × Born v p × (s ≡ setting p s.stage) × bits.Facts z a v s
-FactsAt z a v f p Alloc = Unmade z a v f p × Born v p × bits.ToldBelow (setting p bits_stage.Ended) v.bitmap (p.at + p.slot)
+FactsAt z a v f p Mark = Filled z a v f p
+FactsAt z a v f p Alloc = Filled z a v f p
 FactsAt z a v f p (Give g) = Made v p × GivesUp z a v p g
 FactsAt z a v f p Count = Made v p
 FactsAt z a v f p Ended = ⊥

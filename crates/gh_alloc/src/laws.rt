@@ -3,6 +3,7 @@
 ghost use Rattle.gh_alloc.specs.FindFacts.{FindsByItsRights};
 ghost use Rattle.gh_alloc.specs.Locking.{PagesAreFreedWithTheLock, PagesAreWrittenWithTheLock};
 ghost use Rattle.gh_alloc.specs.Making.{ObjectsAreMade};
+ghost use Rattle.gh_alloc.specs.Marking.{AnObjectIsMarkedBeforeItIsMade};
 ghost use Rattle.gh_alloc.specs.PlaceFacts.{PlacesByItsRights};
 ghost use Rattle.gh_alloc.specs.Quiet.{AllocationIsQuiet};
 ghost use Rattle.gh_alloc.specs.Refusing.{NoRoomIsTrue};
@@ -35,8 +36,8 @@ pub fn no_room_is_true()
 {}
 
 /// Run to its end over any words, the making of an object leaves the slot's fields clear, the birth
-/// word, the pointer bits of the type and the alloc bit, the heap's bytes grown by the slot's, and a
-/// large object's span cached by nobody. Every other cell is as it was.
+/// word, the pointer bits of the type, the alloc bit and, where marking is on, the mark bit, the heap's
+/// bytes grown by the slot's, and a large object's span cached by nobody. Every other cell is as it was.
 pub fn objects_are_made()
     ensures { ObjectsAreMade }
 {
@@ -45,6 +46,12 @@ pub fn objects_are_made()
     steps_are_folded::<Place<'_>, ()>();
     steps_are_folded::<SetPointers<'_>, ()>();
 }
+
+/// Whatever the making of an object is told: while marking is on, the step that sets its alloc bit comes
+/// behind one that has set the same bit of the marks. While marking is off, no step of it is on a mark word.
+pub fn an_object_is_marked_before_it_is_made()
+    ensures { AnObjectIsMarkedBeforeItIsMade }
+{}
 
 /// Whatever any number of processors do beside it: each step of the search, short of the one that finds no
 /// room, is a move that its seat may make, and each is on a word that there is; what is known at each stage holds

@@ -1,7 +1,7 @@
 //! The routine that makes an object in its slot.
 
 ghost use Rattle.std.specs.Prelude.{◌≡◌, ℕ, ◌+◌, ◌*◌, ◌^◌, ◌<◌, ◌≤◌};
-ghost use Rattle.gh_alloc.specs.Place.{acts, made, opening};
+ghost use Rattle.gh_alloc.specs.Place.{acts, filled, made, opening};
 ghost use Rattle.gh_alloc.specs.PlaceSound.{FitsSpanHead};
 ghost use Rattle.gh_alloc.specs.declared.place.PlaceStage.TheVariants.{Bits};
 ghost use Rattle.gh_bitmap.specs.SetPointers as setting;
@@ -20,6 +20,8 @@ pub enum PlaceStage<'s> {
     Birth,
     /// It writes the pointer bits.
     Bits(SetPointers<'s>),
+    /// It sets the mark bit, where marking is on.
+    Mark,
     /// It sets the alloc bit: by this step the object is made.
     Alloc,
     /// It gives a large object's span back.
@@ -37,6 +39,12 @@ pub enum PlaceStage<'s> {
 /// word: from that step on the object is there, and whoever sees it sees its fields clear and its
 /// pointer bits as they are to be. A large object's span is given back, so that nobody has it cached,
 /// and the slot's bytes are counted.
+///
+/// While marking is on the object is made black (`gcmarknewobject` in mgcmark.go): its mark bit is set
+/// by the step before. The mark comes first because the alloc bit shows the slot to everyone. Whoever
+/// loads it from then on takes the object for one of the cycle, and a sweep keeps it by its mark alone,
+/// so that it has to be marked by then; marked later, it could be swept in between. Before the alloc
+/// bit is set nothing refers to the slot, and its fields are clear: a mark alone harms nobody.
 #[derive(Drop)]
 pub struct Place<'s> {
     layout: Layout,
@@ -45,6 +53,7 @@ pub struct Place<'s> {
     slot: u32,
     name: Name,
     span: Option<SpanHead>,
+    marking: bool,
     stage: PlaceStage<'s>,
 }
 
@@ -54,14 +63,15 @@ impl<'s> Model for Place<'s> {
 
     ghost Value = { Placing };
 
-    ghost view = { λ p. record { layout = p.layout; shape = p.shape.now; at = p.at; slot = p.slot; name = p.name; span = p.span; stage = p.stage } };
+    ghost view = { λ p. record { layout = p.layout; shape = p.shape.now; at = p.at; slot = p.slot; name = p.name; span = p.span; marking = p.marking; stage = p.stage } };
 
-    ghost invariant = { λ p. Sound (record { layout = p.layout; shape = p.shape.now; at = p.at; slot = p.slot; name = p.name; span = p.span; stage = p.stage }) };
+    ghost invariant = { λ p. Sound (record { layout = p.layout; shape = p.shape.now; at = p.at; slot = p.slot; name = p.name; span = p.span; marking = p.marking; stage = p.stage }) };
 }
 
 impl<'s> Place<'s> {
     /// Makes an object of this shape and name in the slot of `slot` words, 1 to `MOST_TYPE_WORDS`, whose first heap
-    /// word is `at`. A large object has a span of its own, and `span` is what that span's head word says.
+    /// word is `at`. A large object has a span of its own, and `span` is what that span's head word says. Where
+    /// marking is on it is marked.
     pub fn new(
         layout: &Layout,
         shape: &'s Shape,
@@ -69,12 +79,13 @@ impl<'s> Place<'s> {
         slot: u32,
         name: Name,
         span: Option<SpanHead>,
+        marking: bool,
     ) -> Place<'s>
         requires some { 1 ≤ slot }
         requires within { at + slot ≤ 1024 * layout.now.pages }
         requires name { name.g + 1 < 2 ^ 32 }
         requires span { FitsSpanHead span }
-        ensures { result ≡ opening layout.now shape.now at slot name span }
+        ensures { result ≡ opening layout.now shape.now at slot name span marking }
     {
         Place {
             layout: *layout,
@@ -83,6 +94,7 @@ impl<'s> Place<'s> {
             slot,
             name,
             span,
+            marking,
             stage: PlaceStage::Clear(0),
         }
     }
@@ -110,6 +122,17 @@ impl<'s> Place<'s> {
         match self.stage {
             PlaceStage::Alloc => true,
             _ => false,
+        }
+    }
+
+    /// What follows once the pointer bits are written: the mark, where marking is on.
+    fn filled(&self) -> PlaceStage<'s>
+        ensures { result ≡ filled self.now.marking }
+    {
+        if self.marking {
+            PlaceStage::Mark
+        } else {
+            PlaceStage::Alloc
         }
     }
 
@@ -153,6 +176,7 @@ impl<'s> Machine for Place<'s> {
             PlaceStage::Clear(k) => Ask::Store(Cell::Field(self.at + *k), 0),
             PlaceStage::Birth => Ask::Store(Cell::Birth(self.at), self.name.pack()),
             PlaceStage::Bits(bits) => return bits.next(),
+            PlaceStage::Mark => Ask::Or(Cell::Mark(self.at / 64), 1 << (self.at % 64)),
             PlaceStage::Alloc => Ask::Or(Cell::Alloc(self.at / 64), 1 << (self.at % 64)),
             PlaceStage::Give(give) => return give.next(),
             PlaceStage::Count => Ask::Add(Cell::Heap, 8 * u64::from(self.slot)),
@@ -174,9 +198,10 @@ impl<'s> Machine for Place<'s> {
             PlaceStage::Birth => self.stage = self.bits(),
             PlaceStage::Bits(bits) => {
                 if bits.take(found).is_some() {
-                    self.stage = PlaceStage::Alloc;
+                    self.stage = self.filled();
                 }
             }
+            PlaceStage::Mark => self.stage = PlaceStage::Alloc,
             PlaceStage::Alloc => self.stage = self.made(),
             PlaceStage::Give(_) => self.stage = PlaceStage::Count,
             PlaceStage::Count => {

@@ -108,12 +108,12 @@ fn finds_pages_for_a_large_object(rt: HostRuntime) -> Result<(), Fail> {
     Ok(())
 }
 
-/// It makes just these steps, and the sixth is the one that makes the object.
-fn makes(place: &mut Place, steps: &[Req; 8]) -> bool
+/// It makes just these steps, and the one of this index is the one that makes the object.
+fn makes(place: &mut Place, steps: &[Req; 8], made: usize) -> bool
     requires { placing.is_busy place.old.stage ≡ true }
 {
     for i in 0..8usize {
-        if place.acts() != (i == 5) || place.next() != steps[i] {
+        if place.acts() != (i == made) || place.next() != steps[i] {
             return false;
         }
         if place.take(0).is_some() {
@@ -123,16 +123,21 @@ fn makes(place: &mut Place, steps: &[Req; 8]) -> bool
     false
 }
 
-#[test]
-fn makes_an_object(rt: HostRuntime) -> Result<(), Fail> {
-    let layout = Layout::new(16, 1, 1, 1, 1)?;
-    let mut bits = Vec::new(rt.alloc());
+/// A type of two words, of which the first is a pointer field.
+fn of_two_words(alloc: Global) -> Result<Shape, AllocError> {
+    let mut bits = Vec::new(alloc);
     bits.push(1)?;
-    let shape = Shape {
+    Ok(Shape {
         words: 2,
         noscan: false,
         bits: Bits { words: bits },
-    };
+    })
+}
+
+#[test]
+fn makes_an_object(rt: HostRuntime) -> Result<(), Fail> {
+    let layout = Layout::new(16, 1, 1, 1, 1)?;
+    let shape = of_two_words(rt.alloc())?;
     let span = SpanHead {
         class: SizeClass::Large,
         noscan: false,
@@ -142,7 +147,7 @@ fn makes_an_object(rt: HostRuntime) -> Result<(), Fail> {
     };
     let given = PageWord::Head(SpanHead { owner: 0, ..span }).pack();
     let name = Name { g: 0, k: 7 };
-    let mut place = Place::new(&layout, &shape, 1024, 2, name, Some(span));
+    let mut place = Place::new(&layout, &shape, 1024, 2, name, Some(span), false);
     assert_eq!(rt; (place.word(), place.name()), (1024, name));
     let steps = [
         Req::Store(17_183 + 1024, 0),
@@ -154,7 +159,28 @@ fn makes_an_object(rt: HostRuntime) -> Result<(), Fail> {
         Req::Store(15 + 1, given),
         Req::Add(9, 16),
     ];
-    assert!(rt; makes(&mut place, &steps));
+    assert!(rt; makes(&mut place, &steps, 5));
+    Ok(())
+}
+
+#[test]
+fn marks_an_object_before_it_is_made(rt: HostRuntime) -> Result<(), Fail> {
+    let layout = Layout::new(16, 1, 1, 1, 1)?;
+    let shape = of_two_words(rt.alloc())?;
+    let name = Name { g: 0, k: 7 };
+    let mut place = Place::new(&layout, &shape, 66, 2, name, None, true);
+    let steps = [
+        Req::Store(17_183 + 66, 0),
+        Req::Store(17_183 + 67, 0),
+        Req::Store(799 + 66, (1 << 32) + 7),
+        Req::And(543 + 1, u64::MAX - 12),
+        Req::Or(543 + 1, 4),
+        Req::Or(287 + 1, 4),
+        Req::Or(31 + 1, 4),
+        Req::Add(9, 16),
+    ];
+    assert!(rt; makes(&mut place, &steps, 6));
+    laws::an_object_is_marked_before_it_is_made();
     Ok(())
 }
 
