@@ -116,9 +116,13 @@ module _ (shapes : List Shape) (m : Processor) where
     go false = refl
   place_acts w p found making.Birth = refl
   place_acts w p found (making.Bits s) = go (bits.is_busy (bits.goes s found).stage) refl where
-    go : (b : Bool) → bits.is_busy (bits.goes s found).stage ≡ b → PlaceActs w p (making.Bits s) (cond b (making.Bits (bits.goes s found)) making.Alloc)
+    go : (b : Bool) → bits.is_busy (bits.goes s found).stage ≡ b → PlaceActs w p (making.Bits s) (cond b (making.Bits (bits.goes s found)) (place.filled p.marking))
     go true e = rw e refl
-    go false e = refl
+    go false e = filled p.marking where
+      filled : (marking : Bool) → PlaceActs w p (making.Bits s) (place.filled marking)
+      filled true = refl
+      filled false = refl
+  place_acts w p found making.Mark = refl
   place_acts w p found making.Alloc = go p.span where
     go : (s : Option SpanHead) → PlaceActs w p making.Alloc (place.made p s)
     go None = (refl, refl)

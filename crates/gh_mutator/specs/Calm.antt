@@ -1,8 +1,9 @@
--- A processor while marking is off: it holds no buffer, knows of no marking, and marks nothing.
+-- A processor while marking is off: it holds no buffer, knows of no marking, and marks nothing, also no object that it makes.
 use Rattle.std.specs.Prelude.{◌≡◌, ◌≢◌, ℕ, true, false, List, Some, None}
 use Rattle.gh_base.specs.declared.cell.Ask.TheVariants as ask
 use Rattle.gh_base.specs.declared.cell.Cell.TheVariants as cell
 use Rattle.gh_base.specs.Packing.{phase_of}
+use Rattle.gh_alloc.specs.Marking.{MarksNothing}
 use Rattle.gh_phase.specs.declared.resume.ResumeStage.TheVariants.{Acknowledge, LoadPhase}
 use Rattle.gh_phase.specs.declared.view.RunPhase.TheVariants as run
 use Rattle.gh_phase.specs.Handshake.{Gone, Resumes}
@@ -16,7 +17,7 @@ use Rattle.gh_mutator.specs.Give as give
 use Rattle.gh_mutator.specs.Listing.{asks, is_busy_at, takes}
 use Rattle.gh_mutator.specs.MarkVocabulary.{Party, Stage, Cell, Cycle, GiveStage, IsParked, LeaveStage, PollStage, Shared, SoundPlace, WaitStage, Words, effect, opening_processor, party_of, processor_kind, stage_of}
 use Rattle.gh_mutator.specs.ProcessorMarks.{MarkFacts}
-use Rattle.gh_mutator.specs.Vocabulary.{Ask, Layout, NewStage, Op, Polling, Processor, Shape, Task, Wait}
+use Rattle.gh_mutator.specs.Vocabulary.{Ask, Layout, NewStage, Op, Place, Polling, Processor, Shape, Task, Wait}
 use Rattle.gh_mutator.specs.Writing.{EndsStack, WritesOf}
 
 -- No buffer is held, also within the giving back.
@@ -43,8 +44,10 @@ module _ (p : Polling) where
   WaitsWithNone wait_stage.Polling = PollsWithNone p.stage
   WaitsWithNone _ = Unit {0}
 
+  -- an object whose making has begun is not marked
   abbrev pub MakesWithNone : NewStage → Type 0
   MakesWithNone (Wait x) = WaitsWithNone x.stage
+  MakesWithNone (Place y) = MarksNothing y
   MakesWithNone _ = Unit {0}
 
   abbrev pub RunsWithNone : Task → Type 0

@@ -1,5 +1,5 @@
 -- What a processor alone knows: its registers, the spans that it has cached, and the scans of its stacks. It is kept with the poll, which reads and changes it too.
-use Rattle.std.specs.Prelude.{ℕ, List, [], Option, Some, None, replicate, slice_index_or, slice_set}
+use Rattle.std.specs.Prelude.{ℕ, Bool, true, false, List, [], Option, Some, None, replicate, slice_index_or, slice_set}
 use Rattle.gh_base.specs.declared.limits.TheConstants.{MOST_GOROUTINES, REGISTERS}
 use Rattle.gh_base.specs.declared.pack.TheConstants.{END}
 use Rattle.gh_base.specs.declared.value.Value.{Value}
@@ -8,6 +8,8 @@ use Rattle.gh_class.specs.Classes.{span_index}
 use Rattle.gh_alloc.specs.declared.sought.CachedSpan.{CachedSpan}
 use Rattle.gh_alloc.specs.declared.sought.Sought.{Sought}
 use Rattle.gh_alloc.specs.declared.sought.Sought.TheVariants.{Small, Large}
+use Rattle.gh_phase.specs.declared.view.RunPhase.{RunPhase}
+use Rattle.gh_phase.specs.declared.view.RunPhase.TheVariants as run
 use Rattle.gh_phase.specs.Views.{first_view}
 use Rattle.gh_mutator.specs.declared.poll.Local.{Local}
 use Rattle.gh_mutator.specs.Give.{none_cached}
@@ -24,6 +26,14 @@ first_local = record {
   scanned = replicate MOST_GOROUTINES 0;
   stacks = replicate MOST_GOROUTINES (replicate REGISTERS value.Nil);
 }
+
+-- Marking is on, as it knows: it finds out between two statements alone, so that this stays until a statement ends.
+abbrev pub is_mark : RunPhase → Bool
+is_mark run.Mark = true
+is_mark _ = false
+
+abbrev pub marking_at : Polling → Bool
+marking_at p = is_mark p.local.view.phase
 
 -- Registers.
 

@@ -12,6 +12,7 @@ use Rattle.gh_alloc.specs.declared.place.PlaceStage.TheVariants as making
 use Rattle.gh_alloc.specs.Place as place
 use Rattle.gh_alloc.specs.Search as search
 use Rattle.gh_mutator.specs.declared.task.Task.TheVariants as task
+use Rattle.gh_mutator.specs.Local.{marking_at}
 use Rattle.gh_mutator.specs.Processor.{at_poll, at_task, cache_span, cached_for, made_by, set_register}
 use Rattle.gh_mutator.specs.Wait as wait
 
@@ -46,9 +47,9 @@ own_span seat generation (Large pages noscan) = Some (record { class = size.Larg
 abbrev pub seeking : Processor → Wanted → Seeking
 seeking m w = search.opening m.poll.layout m.poll.seat m.poll.local.view.generation w.sought (cached_for m w.sought)
 
--- the making of the object in the slot at heap word a
+-- the making of the object in the slot at heap word a; while marking is on it is marked
 abbrev pub placing : List Shape → Processor → Wanted → (a : ℕ) → Placing
-placing shapes m w a = place.opening m.poll.layout (shape_at shapes w.t) a w.slot (next_of m w) (own_span m.poll.seat m.poll.local.view.generation w.sought)
+placing shapes m w a = place.opening m.poll.layout (shape_at shapes w.t) a w.slot (next_of m w) (own_span m.poll.seat m.poll.local.view.generation w.sought) (marking_at m.poll)
 
 -- the object is made
 abbrev pub is_made : PlaceStage → Bool

@@ -20,7 +20,10 @@ ghost use Rattle.gh_mutator.specs.Waits.{WaitsEndWithACycle};
 ghost use Rattle.gh_mutator.specs.Writing.{ProcessorWritesItsOwn, StacksAreNoted};
 
 use crate::heap_laws::{leaves_by_rights, polls_by_rights, waits_by_rights};
-use gh_alloc::laws::{allocation_is_quiet, making_keeps_its_facts, searching_keeps_its_facts};
+use gh_alloc::laws::{
+    allocation_is_quiet, an_object_is_marked_before_it_is_made, making_keeps_its_facts,
+    searching_keeps_its_facts,
+};
 use gh_base::laws::{cells_are_told, packed_words_are_read_back, rows_are_written};
 use gh_class::size_class_laws;
 use gh_heap::laws::{rights_follow, the_heap_is_apart};
@@ -238,12 +241,13 @@ pub fn stacks_are_noted()
 {}
 
 /// A processor that holds no buffer, and does not know that marking is on, writes no mark bit, no buffer and no entry,
-/// and of a stack that its goroutine has ended alone. So it goes on as long as the phases that it finds are not that of
+/// and of a stack that its goroutine has ended alone; an object that it makes it has not marked. So it goes on as long as the phases that it finds are not that of
 /// marking; and it holds no buffer still where it first finds that one.
 pub fn calm_processors_mark_nothing()
     ensures { CalmProcessorsMarkNothing }
 {
     cells_are_told();
+    an_object_is_marked_before_it_is_made();
     the_processor_keeps_the_handshake();
     a_processor_marks_by_moves();
 }

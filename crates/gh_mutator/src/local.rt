@@ -7,7 +7,7 @@
 ghost use Rattle.std.specs.Prelude.{◌≡◌, ◌^◌, ◌<◌, true};
 ghost use Rattle.gh_alloc.specs.FindSound.{IsCached};
 ghost use Rattle.gh_mutator.specs.Leave.{is_busy};
-ghost use Rattle.gh_mutator.specs.Local.{cached_at, first_local, leaving, register_at, with_cached, with_ended, with_nothing, with_register};
+ghost use Rattle.gh_mutator.specs.Local.{cached_at, first_local, leaving, marking_at, register_at, with_cached, with_ended, with_nothing, with_register};
 ghost use Rattle.gh_mutator.specs.PollSound.{FitsLocal};
 ghost use Rattle.gh_mutator.specs.Sound.{IsRegister};
 
@@ -18,7 +18,7 @@ use gh_alloc::{CachedSpan, Sought};
 use gh_base::limits::MOST_GOROUTINES;
 use gh_base::{END, Layout, Value};
 use gh_class::size_class_laws;
-use gh_phase::View;
+use gh_phase::{RunPhase, View};
 use gh_stack::REGISTER_COUNT;
 
 impl Local {
@@ -64,6 +64,13 @@ impl Poll {
         ensures fits { result < 2 ^ 34 }
     {
         self.local.view.generation
+    }
+
+    /// Marking is on, as the processor knows.
+    pub(crate) fn marking(&self) -> bool
+        ensures { result ≡ marking_at self.now }
+    {
+        matches!(self.local.view.phase, RunPhase::Mark)
     }
 
     /// What register `d` of goroutine `g` holds.

@@ -198,8 +198,9 @@ impl<'s> Processor<'s> {
         }
     }
 
-    /// The search, before or behind the wait, has ended and has found this: the object is made in the slot;
-    /// where there is no room, a cycle is waited for, and behind that the statement ends.
+    /// The search, before or behind the wait, has ended and has found this: the object is made in the slot, and
+    /// marked where the processor knows that marking is on, which it does not change its mind of before the
+    /// statement ends; where there is no room, a cycle is waited for, and behind that the statement ends.
     fn end_search(
         &mut self,
         shapes: &'s Shapes,
@@ -217,7 +218,8 @@ impl<'s> Processor<'s> {
                 let shape = &shapes.rows[wanted.t as usize];
                 let name = self.next_name(&wanted);
                 let span = self.own_span(&wanted.sought);
-                let place = Place::new(self.poll.layout(), shape, at, wanted.slot, name, span);
+                let (layout, marking) = (self.poll.layout(), self.poll.marking());
+                let place = Place::new(layout, shape, at, wanted.slot, name, span, marking);
                 let stage = NewStage::Place(place);
                 self.task = Task::New(New { wanted, stage });
                 None

@@ -1,6 +1,7 @@
--- A processor that holds no buffer, and does not know that marking is on, holds none behind its step.
+-- A processor that holds no buffer, and does not know that marking is on, holds none behind its step; and an object that it then makes is not marked.
 use Rattle.std.proofs.Common.{◌≡◌, ◌≢◌, ℕ, ◌+◌, Bool, true, false, cond, eqb, ltb, List, [], ◌∷◌, drop, Option, Some, None, refl, subst}
 use Rattle.gh_base.specs.Packing.{phase_of}
+use Rattle.gh_alloc.specs.Marking.{AnObjectIsMarkedBeforeItIsMade, MarksNothing}
 use Rattle.gh_alloc.specs.Place as place
 use Rattle.gh_alloc.specs.Search as search
 use Rattle.gh_phase.specs.declared.resume.ResumeStage.{ResumeStage}
@@ -22,7 +23,7 @@ use Rattle.gh_mutator.specs.Handshake.{poller_at, polls_at, waiter_at, waits_at}
 use Rattle.gh_mutator.specs.Leave as leave
 use Rattle.gh_mutator.specs.Listing.{after_gc, after_leave, after_poll, applied, follows, takes_at}
 use Rattle.gh_mutator.specs.Load as load
-use Rattle.gh_mutator.specs.Local.{leaving}
+use Rattle.gh_mutator.specs.Local.{is_mark, leaving}
 use Rattle.gh_mutator.specs.MarkVocabulary.{CachedSpan, GiveStage, Held, Layout, LeaveStage, PollStage, Value, WaitStage}
 use Rattle.gh_mutator.specs.New as new
 use Rattle.gh_mutator.specs.Poll as poll
@@ -143,23 +144,28 @@ applied_none {S} into m g d step plain e = record { none = taking_none m g d ste
   by (GoesOn y) = plain y
   by (Ends a) = λ p. tt
 
-found_none : (shapes : List Shape) (m : Processor) (w : Wanted) (waited : Bool) (c : Option CachedSpan) (s : Seeking) (out : Option Found) → m.poll.local.held ≡ None → HoldsNoBuffer (new.after_search shapes (cache_span m w.sought c) w waited s out)
-found_none shapes m w waited c s None e = record { none = e; runs = tt }
-found_none shapes m w waited c s (Some (At a)) e = record { none = e; runs = tt }
-found_none shapes m w true c s (Some NoRoom) e = record { none = e; runs = tt }
-found_none shapes m w false c s (Some NoRoom) e = record { none = e; runs = tt }
+not_mark : (phase : RunPhase) → phase ≢ run.Mark → is_mark phase ≡ false
+not_mark run.Off off = refl
+not_mark run.Mark off = absurd (off refl)
+not_mark run.Finished off = refl
 
-made_none : (m : Processor) (w : Wanted) (made : Bool) (a : ℕ) (y : Placing) → m.poll.local.held ≡ None → HoldsNoBuffer (new.after_place m w made a y)
-made_none m w made a y e = by made (place.is_busy y.stage) where
+found_none : (shapes : List Shape) (m : Processor) (w : Wanted) (waited : Bool) (c : Option CachedSpan) (s : Seeking) (out : Option Found) → m.poll.local.view.phase ≢ run.Mark → m.poll.local.held ≡ None → HoldsNoBuffer (new.after_search shapes (cache_span m w.sought c) w waited s out)
+found_none shapes m w waited c s None off e = record { none = e; runs = tt }
+found_none shapes m w waited c s (Some (At a)) off e = record { none = e; runs = record { off = not_mark m.poll.local.view.phase off; stage = λ x. absurd (cc) } }
+found_none shapes m w true c s (Some NoRoom) off e = record { none = e; runs = tt }
+found_none shapes m w false c s (Some NoRoom) off e = record { none = e; runs = tt }
+
+made_none : (m : Processor) (w : Wanted) (made : Bool) (a : ℕ) (y : Placing) → MarksNothing y → m.poll.local.held ≡ None → HoldsNoBuffer (new.after_place m w made a y)
+made_none m w made a y off e = by made (place.is_busy y.stage) where
   runs : (more : Bool) (p : Polling) → RunsWithNone p (cond more (new.makes w y) task.Idle)
-  runs true p = tt
+  runs true p = off
   runs false p = tt
 
   by : (made more : Bool) → HoldsNoBuffer (record (cond made (new.made_object m w a) m) { task = cond more (new.makes w y) task.Idle })
   by true more = record { none = e; runs = runs more (new.made_object m w a).poll }
   by false more = record { none = e; runs = runs more m.poll }
 
-module _ (shapes : List Shape) (m : Processor) (found : ℕ) (e : m.poll.local.held ≡ None) where
+module _ (marks : AnObjectIsMarkedBeforeItIsMade) (shapes : List Shape) (m : Processor) (found : ℕ) (e : m.poll.local.held ≡ None) where
   gc_none : (g : ℕ) (w : Waiting) (out : Option (Unit {0})) → WaitHoldsNone w → HoldsNoBuffer (after_gc m g w out)
   gc_none g w None h = record { none = h.0; runs = h.1 }
   gc_none g w (Some u) h = record { none = h.0; runs = tt }
@@ -177,9 +183,9 @@ module _ (shapes : List Shape) (m : Processor) (found : ℕ) (e : m.poll.local.h
   gone_none x (Some u) h = record { none = e; runs = tt }
 
   new_none : (n : Wanted) (q : NewStage) → MakesWithNone m.poll q → KnowsNoMarking (party_at m.poll (task.New (record { wanted = n; stage = q }))) (stage_at m.poll (task.New (record { wanted = n; stage = q }))) → HoldsNoBuffer (new.takes_at shapes m n q found)
-  new_none n (Search waited y) x off = found_none shapes m n waited (search.goes y found).find.cached (search.goes y found) (search.gives y found) e
+  new_none n (Search waited y) x off = found_none shapes m n waited (search.goes y found).find.cached (search.goes y found) (search.gives y found) off e
   new_none n (Wait y) x off = let w : Waiting = wait.waiting y m.poll in waited_none n (wait.goes w found) (wait.gives w found) (wait_none w y.stage found e x off)
-  new_none n (Place y) x off = made_none m n (place.acts y) y.at (place.goes y found) e
+  new_none n (Place y) x off = made_none m n (place.acts y) y.at (place.goes y found) (marks.stays_off y found x) e
 
   pub holds_at : (t : Task) → RunsWithNone m.poll t → KnowsNoMarking (party_at m.poll t) (stage_at m.poll t) → t ≡ m.task → HoldsNoBuffer (takes_at shapes m t found)
   holds_at task.Idle x off is = record { none = e; runs = subst (λ (t : Task). RunsWithNone m.poll t) is tt }

@@ -5,6 +5,7 @@ use Rattle.gh_base.specs.declared.cell.Cell.TheVariants as cell
 use Rattle.gh_base.specs.declared.operation.Op.TheVariants as op
 use Rattle.gh_base.specs.Packing.{phase_of}
 use Rattle.gh_base.specs.Rows.{CellsAreTold}
+use Rattle.gh_alloc.specs.Marking.{AnObjectIsMarkedBeforeItIsMade}
 use Rattle.gh_phase.specs.declared.resume.ResumeStage.{ResumeStage}
 use Rattle.gh_phase.specs.declared.resume.ResumeStage.TheVariants as resume_stage
 use Rattle.gh_phase.specs.declared.view.RunPhase.{RunPhase}
@@ -134,7 +135,7 @@ module _ (stops : ℕ) (p : Polling) where
   new_still : (q : NewStage) → IsParked stops (new_stage_at p q) → MakesWithNone p q
   new_still (Search waited y) still = tt
   new_still (Wait y) still = wait_still (wait.waiting y p) y.stage refl still
-  new_still (Place y) still = tt
+  new_still (Place y) still = absurd still
 
   leave_still : (q : LeaveStage) → IsParked stops (leaves_at q) → LeavesWithNone q
   leave_still (leave_stage.Giving g) still = absurd still
@@ -154,12 +155,12 @@ module _ (stops : ℕ) (p : Polling) where
   runs_still (task.End g) still = tt
   runs_still (task.Leave y) still = leave_still y.stage still
 
-pub calm_marks_nothing : CellsAreTold → ProcessorInHandshake → MarksByMoves → CalmProcessorsMarkNothing
-calm_marks_nothing told h k = record {
+pub calm_marks_nothing : CellsAreTold → AnObjectIsMarkedBeforeItIsMade → ProcessorInHandshake → MarksByMoves → CalmProcessorsMarkNothing
+calm_marks_nothing told marks h k = record {
   first = λ l seat. record { holds = record { none = refl; runs = tt }; knows = λ e. cc };
   begins = λ shapes l m o sound rests c. record { holds = begun shapes l m o c.holds; knows = begins_on (party_of m) (stage_of m) _ _ (h.begins_so shapes l m o sound rests) c.knows };
-  lasts = λ shapes m found sound busy c off. record { holds = holds_at shapes m found c.holds.none m.task c.holds.runs c.knows refl; knows = goes_on found (party_of m) (stage_of m) (asks m) _ _ (h.takes_so shapes m found sound busy) c.knows off };
-  holds = λ shapes m found c. holds_at shapes m found c.holds.none m.task c.holds.runs c.knows refl;
+  lasts = λ shapes m found sound busy c off. record { holds = holds_at marks shapes m found c.holds.none m.task c.holds.runs c.knows refl; knows = goes_on found (party_of m) (stage_of m) (asks m) _ _ (h.takes_so shapes m found sound busy) c.knows off };
+  holds = λ shapes m found c. holds_at marks shapes m found c.holds.none m.task c.holds.runs c.knows refl;
   writes = λ m c. writes_calmly m.poll m.made m.task c.holds.runs;
   leaves = λ m words c calm off. leaves_others told (IsWrittenCalmly m) (asks m) words c (writes_calmly m.poll m.made m.task calm.holds.runs) off;
   behind = λ z a s m stops still f. record { holds = record { none = (k.waits z a s m stops still f).no_buffer; runs = runs_still stops m.poll m.task still }; knows = still_knows (party_of m) (stage_of m) stops still };

@@ -58,7 +58,7 @@ module _ (m : Processor) where
   makes : (q : NewStage) → MakesWithNone m.poll q → WritesOf (IsWrittenCalmly m) (new.asks_at m q)
   makes (Search waited s) x = search_writes (IsWrittenCalmly m) (heap_written m) s
   makes (Wait y) x = waits (wait.waiting y m.poll) y.stage x
-  makes (Place y) x = place_writes (IsWrittenCalmly m) (heap_written m) y (λ e. tt)
+  makes (Place y) x = place_writes (IsWrittenCalmly m) (heap_written m) y (λ e. absurd (x.stage e)) (λ e. tt)
 
 pub writes_calmly : (p : Polling) (made : List ℕ) (t : Task) → RunsWithNone p t → WritesOf (IsWrittenCalmly (running p made t)) (asks (running p made t))
 writes_calmly p made task.Idle x = tt

@@ -31,6 +31,14 @@ data Kind (p : placer.Placing) (q : PlaceStage) (found : ℕ) : Type 0 where
   making-it : placer.acts_at q ≡ true → placer.gives_at q ≡ None → placer.is_busy (placer.goes_at p q found) ≡ true → is_made (placer.goes_at p q found) ≡ true → is_made q ≡ false → Kind p q found
   ending : placer.acts_at q ≡ false → placer.gives_at q ≡ Some tt → placer.is_busy (placer.goes_at p q found) ≡ false → is_made q ≡ true → placer.goes_at p q found ≡ making.Ended → Kind p q found
 
+filled-busy : (marking : Bool) → placer.is_busy (placer.filled marking) ≡ true
+filled-busy true = refl
+filled-busy false = refl
+
+filled-unmade : (marking : Bool) → is_made (placer.filled marking) ≡ false
+filled-unmade true = refl
+filled-unmade false = refl
+
 kind-of : (p : placer.Placing) (q : PlaceStage) (found : ℕ) → (q ≡ making.Ended → ⊥) → Kind p q found
 kind-of p (making.Clear i) found busy = go (ltb (i + 1) p.slot) refl where
   go : (b : Bool) → ltb (i + 1) p.slot ≡ b → Kind p (making.Clear i) found
@@ -39,8 +47,9 @@ kind-of p (making.Clear i) found busy = go (ltb (i + 1) p.slot) refl where
 kind-of p making.Birth found busy = onward refl refl refl refl
 kind-of p (making.Bits s) found busy = go (setter.is_busy (setter.goes s found).stage) refl where
   go : (b : Bool) → setter.is_busy (setter.goes s found).stage ≡ b → Kind p (making.Bits s) found
-  go true e = onward refl refl (ap (λ (b : Bool). placer.is_busy (cond b (making.Bits (setter.goes s found)) making.Alloc)) e ∙ e) (ap (λ (b : Bool). is_made (cond b (making.Bits (setter.goes s found)) making.Alloc)) e)
-  go false e = onward refl refl (ap (λ (b : Bool). placer.is_busy (cond b (making.Bits (setter.goes s found)) making.Alloc)) e) (ap (λ (b : Bool). is_made (cond b (making.Bits (setter.goes s found)) making.Alloc)) e)
+  go true e = onward refl refl (ap (λ (b : Bool). placer.is_busy (cond b (making.Bits (setter.goes s found)) (placer.filled p.marking))) e ∙ e) (ap (λ (b : Bool). is_made (cond b (making.Bits (setter.goes s found)) (placer.filled p.marking))) e)
+  go false e = onward refl refl (ap (λ (b : Bool). placer.is_busy (cond b (making.Bits (setter.goes s found)) (placer.filled p.marking))) e ∙ filled-busy p.marking) (ap (λ (b : Bool). is_made (cond b (making.Bits (setter.goes s found)) (placer.filled p.marking))) e ∙ filled-unmade p.marking)
+kind-of p making.Mark found busy = onward refl refl refl refl
 kind-of p making.Alloc found busy = go p.span refl where
   go : (x : Option SpanHead) → p.span ≡ x → Kind p making.Alloc found
   go None e = making-it refl refl (ap (λ (y : Option SpanHead). placer.is_busy (placer.made p y)) e) (ap (λ (y : Option SpanHead). is_made (placer.made p y)) e) refl
@@ -55,6 +64,7 @@ held-cases : (q : PlaceStage) (span : Option SpanHead) (n : ℕ) (base : ℕ →
 held-cases (making.Clear i) span n base y = inl refl
 held-cases making.Birth span n base y = inl refl
 held-cases (making.Bits s) span n base y = inl refl
+held-cases making.Mark span n base y = inl refl
 held-cases making.Alloc span n base y = inl refl
 held-cases (making.Give g) span n base y = inl refl
 held-cases making.Count None n base y = inl refl

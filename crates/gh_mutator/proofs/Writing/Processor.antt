@@ -86,7 +86,7 @@ module _ (p : Polling) (made : List ℕ) (scan : SoundScanAt p p.stage) where
   new_writes : (w : Wanted) (q : NewStage) → SoundNewAt p q → WritesOf (IsWritten (running p made (task.New (record { wanted = w; stage = q })))) (new.asks_at (running p made (task.New (record { wanted = w; stage = q }))) q)
   new_writes w (Search waited s) sound = let m : Processor = running p made (task.New (record { wanted = w; stage = Search waited s })) in search_writes (IsWritten m) (heap_written m) s
   new_writes w (Wait x) sound = wait_writes (running p made (task.New (record { wanted = w; stage = Wait x }))) x refl (λ e. e) scan x.stage refl sound.0.1
-  new_writes w (Place y) sound = let m : Processor = running p made (task.New (record { wanted = w; stage = Place y })) in place_writes (IsWritten m) (heap_written m) y (λ e. (e, ap (λ (q : _). place.asks_at y q) e))
+  new_writes w (Place y) sound = let m : Processor = running p made (task.New (record { wanted = w; stage = Place y })) in place_writes (IsWritten m) (heap_written m) y (λ e. tt) (λ e. (e, ap (λ (q : _). place.asks_at y q) e))
 
   leave_writes : (x : Leaving) (q : LeaveStage) → x.seat ≡ p.seat → WritesOf (IsWritten (running p made (task.Leave x))) (leave.asks_at x q)
   leave_writes x (leave_stage.Giving g) own = gives_written (running p made (task.Leave x)) g

@@ -1,5 +1,5 @@
 -- Which rows the routines of allocation and of marking write: by their stages.
-use Rattle.std.proofs.Common.{◌≡◌, ℕ, Bool, true, false, cond, eqb, Option, Some, None, refl, subst}
+use Rattle.std.proofs.Common.{◌≡◌, ℕ, ◌/◌, Bool, true, false, cond, eqb, Option, Some, None, refl, subst}
 use Rattle.gh_base.specs.declared.cell.Ask.TheVariants as ask
 use Rattle.gh_base.specs.declared.cell.Cell.{Cell}
 use Rattle.gh_base.specs.declared.cell.Cell.TheVariants as cell
@@ -113,18 +113,19 @@ module _ (P : Cell → Type 0) (r : OfHeap P) where
   pub search_writes : (s : search.Seeking) → WritesOf P (search.asks s)
   search_writes s = search_writes_at s.find s.stage
 
-  -- the making of an object counts it too
-  place_writes_at : (p : place.Placing) (q : PlaceStage) → (q ≡ place_stage.Count → P cell.Heap) → WritesOf P (place.asks_at p q)
-  place_writes_at p (place_stage.Clear n) count = r.field _
-  place_writes_at p place_stage.Birth count = r.birth p.at
-  place_writes_at p (place_stage.Bits s) count = bits_write s s.stage
-  place_writes_at p place_stage.Alloc count = r.alloc _
-  place_writes_at p (place_stage.Give g) count = give_writes g g.stage
-  place_writes_at p place_stage.Count count = count refl
-  place_writes_at p place_stage.Ended count = tt
+  -- the making of an object counts it too, and marks it while marking is on
+  place_writes_at : (p : place.Placing) (q : PlaceStage) → (q ≡ place_stage.Mark → P (cell.Mark (p.at / 64))) → (q ≡ place_stage.Count → P cell.Heap) → WritesOf P (place.asks_at p q)
+  place_writes_at p (place_stage.Clear n) mark count = r.field _
+  place_writes_at p place_stage.Birth mark count = r.birth p.at
+  place_writes_at p (place_stage.Bits s) mark count = bits_write s s.stage
+  place_writes_at p place_stage.Mark mark count = mark refl
+  place_writes_at p place_stage.Alloc mark count = r.alloc _
+  place_writes_at p (place_stage.Give g) mark count = give_writes g g.stage
+  place_writes_at p place_stage.Count mark count = count refl
+  place_writes_at p place_stage.Ended mark count = tt
 
-  pub place_writes : (p : place.Placing) → (p.stage ≡ place_stage.Count → P cell.Heap) → WritesOf P (place.asks p)
-  place_writes p count = place_writes_at p p.stage count
+  pub place_writes : (p : place.Placing) → (p.stage ≡ place_stage.Mark → P (cell.Mark (p.at / 64))) → (p.stage ≡ place_stage.Count → P cell.Heap) → WritesOf P (place.asks p)
+  place_writes p mark count = place_writes_at p p.stage mark count
 
 -- Marking.
 module _ (P : Cell → Type 0) (r : OfMarking P) where
