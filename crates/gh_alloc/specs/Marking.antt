@@ -18,7 +18,7 @@ pub record IsMarkedBefore (p : Placing) (found : ℕ → ℕ) (step i bits : ℕ
   pub marks : asks (told listing p found earlier) ≡ Or (Mark i) bits
 
 -- the object is made while marking is off
-pub record MarksNothing (p : Placing) : Type 0 where
+pub record IsMadeUnmarked (p : Placing) : Type 0 where
   pub off : p.marking ≡ false
   pub stage : p.stage ≢ stage.Mark
 
@@ -29,6 +29,6 @@ pub record AnObjectIsMarkedBeforeItIsMade : Type 0 where
       let p = opening l shape at slot name span true in
       asks (told listing p found step) ≡ Or (Alloc i) bits → IsMarkedBefore p found step i bits
   -- while it is off, at its first step and behind each, no step is on a mark word
-  pub opens_off : (l : Layout) (shape : Shape) (at slot : ℕ) (name : Name) (span : Option SpanHead) → MarksNothing (opening l shape at slot name span false)
-  pub stays_off : (p : Placing) (found : ℕ) → MarksNothing p → MarksNothing (goes p found)
-  pub unmarked : (p : Placing) (i : ℕ) → MarksNothing p → cell_of (asks p) ≢ Mark i
+  pub opens_off : (l : Layout) (shape : Shape) (at slot : ℕ) (name : Name) (span : Option SpanHead) → IsMadeUnmarked (opening l shape at slot name span false)
+  pub stays_off : (p : Placing) (found : ℕ) → IsMadeUnmarked p → IsMadeUnmarked (goes p found)
+  pub unmarked : (p : Placing) (i : ℕ) → IsMadeUnmarked p → cell_of (asks p) ≢ Mark i

@@ -3,7 +3,7 @@ use Rattle.std.specs.Prelude.{◌≡◌, ◌≢◌, ℕ, true, false, List, Some
 use Rattle.gh_base.specs.declared.cell.Ask.TheVariants as ask
 use Rattle.gh_base.specs.declared.cell.Cell.TheVariants as cell
 use Rattle.gh_base.specs.Packing.{phase_of}
-use Rattle.gh_alloc.specs.Marking.{MarksNothing}
+use Rattle.gh_alloc.specs.Marking.{IsMadeUnmarked}
 use Rattle.gh_phase.specs.declared.resume.ResumeStage.TheVariants.{Acknowledge, LoadPhase}
 use Rattle.gh_phase.specs.declared.view.RunPhase.TheVariants as run
 use Rattle.gh_phase.specs.Handshake.{Gone, Resumes}
@@ -47,7 +47,7 @@ module _ (p : Polling) where
   -- an object whose making has begun is not marked
   abbrev pub MakesWithNone : NewStage → Type 0
   MakesWithNone (Wait x) = WaitsWithNone x.stage
-  MakesWithNone (Place y) = MarksNothing y
+  MakesWithNone (Place y) = IsMadeUnmarked y
   MakesWithNone _ = Unit {0}
 
   abbrev pub RunsWithNone : Task → Type 0

@@ -245,6 +245,40 @@ fn a_full_heap_is_answered_behind_a_cycle(rt: HostRuntime) -> Result<(), Fail> {
 }
 
 #[test]
+fn an_object_is_marked_while_marking_is_on(rt: HostRuntime) -> Result<(), Fail> {
+    let layout = Layout::new(16, 1, 1, 1, 1)?;
+    let shapes = node_type(rt.alloc())?;
+    // no room; a cycle is asked for, and the poll finds stop 1 and acknowledges it
+    let mut full = full_words(rt.alloc(), &layout)?;
+    full[layout.word(Cell::Phase) as usize] = 6;
+    let mut mutator = Mutator::new(&layout, 0, &shapes);
+    mutator.begin(Op::New { g: 0, d: 1, t: 0 });
+    let steps = run_alone(rt.alloc(), &mut mutator, &layout, &mut full, 40)?;
+    assert_eq!(rt; (steps.out, steps.lines.len()), (None, 40));
+    assert!(rt; steps.lines[39].as_str() == "store ack 0 1: 0");
+    // behind it the second cycle is marked, and all pages are free
+    let mut free = vec![in rt.alloc(); 0u64; layout.words() as usize]?;
+    free[layout.word(Cell::Phase) as usize] = 5;
+    free[layout.word(Cell::Gen) as usize] = 2;
+    free[layout.word(Cell::Begun) as usize] = 2;
+    free[layout.word(Cell::Swept) as usize] = 1;
+    assert!(rt; mutator.is_busy());
+    let steps = run_alone(rt.alloc(), &mut mutator, &layout, &mut free, 999)?;
+    assert_eq!(rt; steps.out, Some(Answer::Ref(Name { g: 0, k: 0 })));
+    // the phase, the generation, the cycle, the stack's scan and the last swept cycle; then as with marking off, but
+    // for the mark
+    assert_eq!(rt; steps.lines.len(), 34);
+    for (line, stored) in steps.lines.iter().skip(5).zip(&FIRST_NEW[..26]) {
+        assert_eq!(rt; line.as_str(), *stored);
+    }
+    assert!(rt; steps.lines[31].as_str() == "or mark 0 1: 0");
+    assert!(rt; steps.lines[32].as_str() == "or alloc 0 1: 0");
+    assert!(rt; steps.lines[33].as_str() == "add heap 16: 0");
+    laws::calm_processors_mark_nothing();
+    Ok(())
+}
+
+#[test]
 fn polls_are_not_counted(rt: HostRuntime) -> Result<(), Fail> {
     let layout = Layout::new(16, 1, 1, 1, 1)?;
     let shapes = one_type(rt.alloc())?;

@@ -1,7 +1,7 @@
 -- A processor that holds no buffer, and does not know that marking is on, holds none behind its step; and an object that it then makes is not marked.
 use Rattle.std.proofs.Common.{◌≡◌, ◌≢◌, ℕ, ◌+◌, Bool, true, false, cond, eqb, ltb, List, [], ◌∷◌, drop, Option, Some, None, refl, subst}
 use Rattle.gh_base.specs.Packing.{phase_of}
-use Rattle.gh_alloc.specs.Marking.{AnObjectIsMarkedBeforeItIsMade, MarksNothing}
+use Rattle.gh_alloc.specs.Marking.{AnObjectIsMarkedBeforeItIsMade, IsMadeUnmarked}
 use Rattle.gh_alloc.specs.Place as place
 use Rattle.gh_alloc.specs.Search as search
 use Rattle.gh_phase.specs.declared.resume.ResumeStage.{ResumeStage}
@@ -155,7 +155,7 @@ found_none shapes m w waited c s (Some (At a)) off e = record { none = e; runs =
 found_none shapes m w true c s (Some NoRoom) off e = record { none = e; runs = tt }
 found_none shapes m w false c s (Some NoRoom) off e = record { none = e; runs = tt }
 
-made_none : (m : Processor) (w : Wanted) (made : Bool) (a : ℕ) (y : Placing) → MarksNothing y → m.poll.local.held ≡ None → HoldsNoBuffer (new.after_place m w made a y)
+made_none : (m : Processor) (w : Wanted) (made : Bool) (a : ℕ) (y : Placing) → IsMadeUnmarked y → m.poll.local.held ≡ None → HoldsNoBuffer (new.after_place m w made a y)
 made_none m w made a y off e = by made (place.is_busy y.stage) where
   runs : (more : Bool) (p : Polling) → RunsWithNone p (cond more (new.makes w y) task.Idle)
   runs true p = off
