@@ -5,7 +5,10 @@ pub mod Answers
 pub mod Numbers
 pub mod Waiting
 pub mod Known
+pub mod Waited
+pub mod Acting
 pub mod NoRoom
+pub mod Swept
 pub mod Cycles
 pub mod Listing
 pub mod Slots

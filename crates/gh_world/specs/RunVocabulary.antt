@@ -43,7 +43,7 @@ pub use Rattle.gh_world.specs.Marking.{IsStartOf}
 pub use Rattle.gh_world.specs.Numbers.{Checked, IsFew, LiveCleared, Outside, Part, WritesNoNumbers, generation_of, opened_in, part_of}
 pub use Rattle.gh_world.specs.Order.{answered, before_step, begun_in, ever_of, order_of}
 pub use Rattle.gh_world.specs.Processors.{FullOnlyThere, IsFullFor, IsPlacedAt, arena_of, ever_after_list}
-pub use Rattle.gh_world.specs.Runs.{EveryRunIsExplained, FoundNoRoom, FullMeansNoRoom, IsExplained, IsRun, answers_given, marked_by, outcome_by, swept_cycle, words_in}
+pub use Rattle.gh_world.specs.Runs.{ActedBehind, EachGcWaits, EveryRunIsExplained, FoundNoRoom, FoundSwept, FullMeansNoRoom, IsExplained, IsRun, answers_given, marked_by, outcome_by, swept_cycle, WaitedForCycle, words_in}
 pub use Rattle.gh_world.specs.Schedule.{has_ended}
 pub use Rattle.gh_world.specs.Turns.{count_of, is_statement_of, total_of, turns_of}
 pub use Rattle.gh_world.specs.Wants.{AreFew, CyclesAreFew, ProcessorsBeginFew, total}

@@ -1,14 +1,16 @@
 -- Whole runs: a list of the steps of all actors in which the processor's operations are the script's turns, and at whose end all are done; and what such a list says of a script's answers, its cycles and what is live.
-use Rattle.std.specs.Prelude.{◌≡◌, ℕ, ◌+◌, ◌<◌, ◌≤◌, true, false, List, [], ◌∷◌, ◌++◌, length, map, reverse, slice_get, Option, Some, None}
+use Rattle.std.specs.Prelude.{◌≡◌, ℕ, ◌+◌, ◌<◌, ◌≤◌, Bool, true, false, List, [], ◌∷◌, ◌++◌, length, map, reverse, slice_get, Option, Some, None}
 use Rattle.std.specs.List.{filter}
 use Rattle.gh_world.specs.Vocabulary.{acts, AllAnswer, Answer, answers_by, Entry, Layout, Legal, Op, opening_ever, Processor, Program, state_of, statements_of, WellFormed, Words, words_after}
 use Rattle.gh_base.specs.declared.cell.Cell.TheVariants as cell
+use Rattle.gh_base.specs.declared.operation.Op.TheVariants as op
 use Rattle.gh_base.specs.declared.value.Answer.TheVariants as answer
 use Rattle.gh_coord.specs.declared.cycles.Cycle.{Cycle}
 use Rattle.gh_coord.specs.Keeping.{last_kept}
 use Rattle.gh_coord.specs.Listing.{Coordinating}
 use Rattle.gh_lines.specs.Text.{Outcome, SweptCycle}
 use Rattle.gh_mutator.specs.Deeds.{processor_kind}
+use Rattle.gh_mutator.specs.Listing.{gives}
 use Rattle.gh_script.specs.Program.{op_of}
 use Rattle.gh_world.specs.declared.handshake.Actor.TheVariants.{Leads}
 use Rattle.gh_world.specs.Cycles.{AreLive, cycles_in}
@@ -74,29 +76,47 @@ pub record AreItsStatements (p : Program) (g : ℕ) (acted : List Answered) (ans
   pub answered : map (λ (a : Answered). a.answer) acted ≡ answers
 
 module _ (p : Program) (l : Layout) where
-  -- The operation acted in the list, behind i others, where there was no room: and a cycle that began after the operation did was swept by then.
-  pub record FoundNoRoom (es : List (Entry Op)) (i : ℕ) (o : Op) : Type 0 where
+  -- The operation acted in the list, behind i others, by this step of the list; and it found no room there, or did not.
+  pub record ActedBehind (es : List (Entry Op)) (i : ℕ) (o : Op) (full : Bool) : Type 0 where
     pub before : List (Entry Op)
     pub entry : Entry Op
     pub later : List (Entry Op)
     pub there : es ≡ later ++ entry ∷ before
     pub behind : length (order_of p.shapes l before) ≡ i
-    pub acted : acts (before_step p.shapes l before entry) entry.found ≡ Some (record { op = o; full = true })
-    pub no_room : IsFullFor (arena_of p.shapes l) entry.actor (words_in p l before) (state_of (processor_kind p.shapes l) entry.actor before) o
-    -- where the operation began
+    pub acted : acts (before_step p.shapes l before entry) entry.found ≡ Some (record { op = o; full = full })
+
+  -- The operation is the last that began in the list, and a cycle that began after it did is swept: more cycles are swept than had begun there.
+  pub record WaitedForCycle (es : List (Entry Op)) (o : Op) : Type 0 where
     pub earlier : List (Entry Op)
     pub first : Entry Op
     pub since : List (Entry Op)
-    pub began_there : before ≡ since ++ first ∷ earlier
+    pub there : es ≡ since ++ first ∷ earlier
     pub began : first.begun ≡ Some o
     pub none_since : begun_in since ≡ []
-    pub waited : words_in p l earlier cell.Begun < words_in p l before cell.Swept
+    pub swept : words_in p l earlier cell.Begun < words_in p l es cell.Swept
+
+  -- The operation acted in the list, behind i others, where there was no room; and a cycle that began after it did was swept by then.
+  pub record FoundNoRoom (es : List (Entry Op)) (i : ℕ) (o : Op) : Type 0 where
+    pub step : ActedBehind es i o true
+    pub no_room : IsFullFor (arena_of p.shapes l) step.entry.actor (words_in p l step.before) (state_of (processor_kind p.shapes l) step.entry.actor step.before) o
+    pub waited : WaitedForCycle step.before o
 
   -- whichever operation is answered `full`, it acted where there was no room
   abbrev pub FullMeansNoRoom : List (Entry Op) → Type 0
   FullMeansNoRoom es = (i : ℕ) (a : Answered) → slice_get (acted_in p.shapes l es) i ≡ Some a → a.answer ≡ answer.Full → FoundNoRoom es i a.op
 
-  -- The operations of the run are the script's turns, in the order of their points, and among them each goroutine's statements stand each once and in their order. Their answers are exactly those of the heap that never frees, save `full`, and whichever is answered `full`, there was no room where it acted, and a cycle was waited for. The statements' answers are those given, in the order of the turns. What the coordinator tells is so: each cycle kept what was marked where it ended, and freed what was white there. What is live is what the globals of the heap that never frees hold at the end.
+  -- The operation acted in the list, behind i others, where a cycle that began after it did was swept; and its answer is `swept`, given by that very step.
+  pub record FoundSwept (es : List (Entry Op)) (i : ℕ) (a : Answered) : Type 0 where
+    pub step : ActedBehind es i a.op false
+    pub waited : WaitedForCycle step.before a.op
+    pub given : gives (before_step p.shapes l step.before step.entry) step.entry.found ≡ Some answer.Swept
+    pub answer : a.answer ≡ answer.Swept
+
+  -- whichever operation is a `gc`, it acted where a cycle that began after it did was swept
+  abbrev pub EachGcWaits : List (Entry Op) → Type 0
+  EachGcWaits es = (i g : ℕ) (a : Answered) → slice_get (acted_in p.shapes l es) i ≡ Some a → a.op ≡ op.Gc g → FoundSwept es i a
+
+  -- The operations of the run are the script's turns, in the order of their points, and among them each goroutine's statements stand each once and in their order. Their answers are exactly those of the heap that never frees, save `full`, and whichever is answered `full`, there was no room where it acted, and a cycle was waited for. Each `gc` is answered `swept`, where a cycle that began after it did was swept. The statements' answers are those given, in the order of the turns. What the coordinator tells is so: each cycle kept what was marked where it ended, and freed what was white there. What is live is what the globals of the heap that never frees hold at the end.
   pub record IsExplained (es : List (Entry Op)) (o : Outcome) : Type 0 where
     pub run : IsRun p l es
     -- what was answered, and what the coordinator tells at the end
@@ -111,6 +131,7 @@ module _ (p : Program) (l : Layout) where
     pub each : (g : ℕ) → AreItsStatements p g (acted_by g (acted_in p.shapes l es)) (answers_by g o.answers)
     pub others : (g : ℕ) → length p.goroutines ≤ g → acted_by g (acted_in p.shapes l es) ≡ []
     pub full : FullMeansNoRoom es
+    pub swept : EachGcWaits es
     pub cycles : o.cycles ≡ cycles_in l (setting_of p l).opening es
     pub live : AreLive p.shapes (ever_of p.shapes l es) o.objects o.bytes
 

@@ -19,8 +19,9 @@ use gh_sweep::laws::set_bits_are_counted;
 use gh_worker::laws::a_worker_writes_its_own;
 
 /// The answers of every whole run of a script are those of the heap that never frees, save `full`, which
-/// stands only where nothing fitted and a cycle was waited for. Each cycle keeps what was marked where it
-/// ended, and frees what was white there. What is live at the end is what the globals then hold.
+/// stands only where nothing fitted and a cycle was waited for. Each `gc` is answered `swept`, where a cycle
+/// that began after it did was swept. Each cycle keeps what was marked where it ended, and frees what was white
+/// there. What is live at the end is what the globals then hold.
 pub fn every_run_is_explained()
     ensures { EveryRunIsExplained }
 {

@@ -12,7 +12,7 @@ use Rattle.gh_world.specs.RunVocabulary.{actor_after, Add, alloc_words, AllWereC
 use Rattle.gh_world.proofs.CycleNumbers.Frames.{numbers_of}
 use Rattle.gh_world.proofs.CycleNumbers.Parts.{At, own_of}
 use Rattle.gh_world.proofs.Explained.Known.{Changes, changes, counted, Known}
-use Rattle.gh_world.proofs.Explained.NoRoom.{one_more_at}
+use Rattle.gh_world.proofs.Explained.Acting.{one_more_at}
 use Rattle.gh_world.proofs.Explained.Numbers.{begins, ends, same, Spares, tells}
 
 -- ---- of lists

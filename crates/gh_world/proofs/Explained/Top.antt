@@ -25,6 +25,7 @@ use Rattle.gh_world.proofs.Explained.Made.{grows, made_all}
 use Rattle.gh_world.proofs.Explained.Naming.{IsNamed, named-acted, named-opening, reached-made}
 use Rattle.gh_world.proofs.Explained.NoRoom.{full_means}
 use Rattle.gh_world.proofs.Explained.Slots.{Classes}
+use Rattle.gh_world.proofs.Explained.Swept.{gcs_wait}
 use Rattle.gh_world.proofs.Explained.Totals.{are_live}
 
 pub record Laws : Type 0 where
@@ -162,6 +163,7 @@ module _ (laws : Laws) (p : Program) (l : Layout) (formed : WellFormed p) (out :
       each = answers.each_is p l (single p l formed out) laws.each laws.points es run stands.stands;
       others = answers.others_none p l (single p l formed out) laws.each laws.points es run stands.stands;
       full = full_means p l known es run.legal stands.stands.full;
+      swept = gcs_wait p l known es run.legal stands.stands.full;
       cycles = cycles_are p l known es c run.legal led done (stands.counts c led);
       live = lives;
     }

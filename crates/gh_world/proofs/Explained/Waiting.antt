@@ -1,13 +1,17 @@
--- A `new` that finds no room has waited: behind its begin a later cycle was swept before it searched once more.
-use Rattle.std.proofs.Common.{◌≡◌, ℕ, ◌<◌, ◌≤◌, Bool, true, false, cond, ltb, List, Option, Some, None, refl, ap, ◌∙◌, arith}
+-- A `new` that finds no room has waited, and so has a `gc` that ends: behind its begin a later cycle was swept before.
+use Rattle.std.proofs.Common.{◌≡◌, ℕ, ◌<◌, ◌≤◌, Bool, true, false, cond, ltb, List, Option, Some, None, refl, sym, ap, ◌∙◌, arith}
 use Rattle.std.specs.Prelude.{is_some}
 use Rattle.std.proofs.lemmas.Bool.{ltb-true}
-use Rattle.gh_world.specs.Vocabulary.{Act, acting, acts_at, after_place, after_search, after_wait, asks, At, begins_at, cache_span, Ends, follows, Found, GoesOn, is_busy_at, makes, NewStage, Op, Place, Placing, Processor, register_of, Search, Shape, takes_at, Task, Then, Wait, Wanted}
+use Rattle.gh_world.specs.Vocabulary.{Act, acting, acts_at, after_place, after_search, after_wait, asks, At, begins_at, cache_span, Ends, follows, Found, gives_at, Global, GlobalStage, GoesOn, is_busy_at, makes, NewStage, Op, Place, Placing, Processor, Register, register_of, Search, Shape, Source, takes_at, Task, Then, Wait, Wanted}
 use Rattle.gh_base.specs.declared.cell.Ask.TheVariants as ask
 use Rattle.gh_base.specs.declared.cell.Cell.TheVariants as cell
 use Rattle.gh_base.specs.declared.operation.Op.TheVariants as op
+use Rattle.gh_base.specs.declared.value.Answer.TheVariants as answer
+use Rattle.gh_mutator.specs.Listing.{once_ended}
 use Rattle.gh_alloc.specs.Place as place
 use Rattle.gh_alloc.specs.Search as search
+use Rattle.gh_mutator.specs.declared.global.GlobalStage.TheVariants as global_stage
+use Rattle.gh_mutator.specs.declared.register.Source.TheVariants as source
 use Rattle.gh_mutator.specs.declared.task.Task.TheVariants as task
 use Rattle.gh_mutator.specs.declared.wait.Wait.{Wait as WaitState}
 use Rattle.gh_mutator.specs.declared.wait.WaitStage.TheVariants as wait_stage
@@ -19,7 +23,7 @@ use Rattle.gh_mutator.specs.Poll as poll
 use Rattle.gh_mutator.specs.Register as register
 use Rattle.gh_mutator.specs.Store as store
 use Rattle.gh_mutator.specs.Wait as wait
-use Rattle.gh_world.specs.RunVocabulary.{after_gc, after_leave, after_poll, asks_at, Leaving, NoRoom, Polling, Seeking, Waiting, WaitStage}
+use Rattle.gh_world.specs.RunVocabulary.{after_gc, after_leave, after_poll, asks_at, Leaving, NoRoom, Polling, Seeking, WaitStage}
 use Rattle.gh_world.proofs.Explained.Steps.{not_full}
 
 -- Where so many cycles had begun when the operation did, and so many are swept: a wait knows as many at least, and behind it more are swept.
@@ -31,6 +35,7 @@ HasWaitedAt low swept (Place p) = Unit {0}
 
 abbrev pub HasWaited : (low swept : ℕ) → Task → Type 0
 HasWaited low swept (task.New x) = HasWaitedAt low swept x.stage
+HasWaited low swept (task.Gc g x) = low ≤ x.known
 HasWaited low swept _ = Unit {0}
 
 -- it searches for a slot, or for one once more
@@ -46,12 +51,17 @@ abbrev pub SearchesAgainAt : NewStage → Type 0
 SearchesAgainAt (Search true s) = Unit {0}
 SearchesAgainAt _ = ⊥
 
--- it searches once more for the object of this operation
-abbrev pub SearchesAgain : Task → Op → Type 0
-SearchesAgain (task.New x) o = (new.op_of x.wanted ≡ o) × SearchesAgainAt x.stage
-SearchesAgain _ o = ⊥
+-- the load of the number of the last swept cycle ends the wait
+abbrev pub EndsWaitAt : (known found : ℕ) → WaitStage → Type 0
+EndsWaitAt known found st = (st ≡ wait_stage.LoadSwept) × (known < found)
 
--- what acts, and finds no room, does
+-- the wait of this operation is over: it searches once more for its object, or ends with the step that finds this
+abbrev pub HasSeenCycle : (found : ℕ) → Task → Op → Type 0
+HasSeenCycle found (task.New x) o = (new.op_of x.wanted ≡ o) × SearchesAgainAt x.stage
+HasSeenCycle found (task.Gc g x) o = (op.Gc g ≡ o) × EndsWaitAt x.known found x.stage
+HasSeenCycle found _ o = ⊥
+
+-- what acts, and finds no room, has waited
 none_at : (o : Op) (full : Bool) (x : Act) → acting false o full ≡ Some x → ⊥
 none_at o full x e = cc
 
@@ -65,7 +75,7 @@ new_searches w (Search false s) found x e f = absurd (none_at (new.op_of w) true
 new_searches w (Wait y) found x e f = absurd (none_at (new.op_of w) true x e)
 new_searches w (Place p) found x e f = absurd (not_full (place.acts p) (new.op_of w) x e f)
 
-pub full_searches : (m : Processor) (t : Task) (found : ℕ) (x : Act) → acts_at m t found ≡ Some x → x.full ≡ true → SearchesAgain t x.op
+pub full_searches : (m : Processor) (t : Task) (found : ℕ) (x : Act) → acts_at m t found ≡ Some x → x.full ≡ true → HasSeenCycle found t x.op
 full_searches m task.Idle found x e f = absurd cc
 full_searches m task.Left found x e f = absurd cc
 full_searches m (task.Load y) found x e f = absurd (not_full (load.step m.poll.layout y found).acts (load.op_of y) x e f)
@@ -78,34 +88,80 @@ full_searches m task.Poll found x e f = absurd (not_full (is_some (poll.gives m.
 full_searches m (task.End g) found x e f = absurd (not_full true (op.End g) x e f)
 full_searches m (task.Leave y) found x e f = absurd (not_full (is_some (leave.gives y found)) op.Leave x e f)
 
--- an operation that begins does not
-pub first_searches : (shapes : List Shape) (m : Processor) (o q : Op) → SearchesAgain (begins_at shapes m o) q → ⊥
-first_searches shapes m (op.New g d t) q h = h.1
-first_searches shapes m (op.Load g d b k) q h = h
-first_searches shapes m (op.Store g b k v) q h = h
-first_searches shapes m (op.GetGlobal g d k) q h = h
-first_searches shapes m (op.SetGlobal g k v) q h = h
-first_searches shapes m (op.Int g d n) q h = h
-first_searches shapes m (op.Move g d s) q h = h
-first_searches shapes m (op.Nil g d) q h = h
-first_searches shapes m (op.Gc g) q h = h
-first_searches shapes m op.Poll q h = h
-first_searches shapes m (op.End g) q h = h
-first_searches shapes m op.Leave q h = h
+-- and so has a `gc` that acts, by the step that answers it
 
-pub first_waits : (shapes : List Shape) (m : Processor) (o : Op) (low swept : ℕ) → HasWaited low swept (begins_at shapes m o)
-first_waits shapes m (op.New g d t) low swept = tt
-first_waits shapes m (op.Load g d b k) low swept = tt
-first_waits shapes m (op.Store g b k v) low swept = tt
-first_waits shapes m (op.GetGlobal g d k) low swept = tt
-first_waits shapes m (op.SetGlobal g k v) low swept = tt
-first_waits shapes m (op.Int g d n) low swept = tt
-first_waits shapes m (op.Move g d s) low swept = tt
-first_waits shapes m (op.Nil g d) low swept = tt
-first_waits shapes m (op.Gc g) low swept = tt
-first_waits shapes m op.Poll low swept = tt
-first_waits shapes m (op.End g) low swept = tt
-first_waits shapes m op.Leave low swept = tt
+abbrev is_gc : Op → Bool
+is_gc (op.Gc g) = true
+is_gc _ = false
+
+other_acts : (b full : Bool) (o : Op) (g : ℕ) (x : Act) → is_gc o ≡ false → acting b o full ≡ Some x → x.op ≡ op.Gc g → ⊥
+other_acts b full o g x other e f = let no : false ≡ true = sym other ∙ ap is_gc (same_op b full o x e ∙ f) in cc
+
+global_other : (y : Global) (st : GlobalStage) → is_gc (global.op_in y st) ≡ false
+global_other y global_stage.Load = refl
+global_other y (global_stage.Birth a) = refl
+global_other y global_stage.Store = refl
+global_other y global_stage.Number = refl
+
+register_other : (y : Register) (from : Source) → is_gc (register.op_from y from) ≡ false
+register_other y (source.Int n) = refl
+register_other y (source.Move s) = refl
+register_other y source.Nil = refl
+
+ends_later : (st : WaitStage) (known found : ℕ) (u : Unit {0}) → wait.gives_at known st found ≡ Some u → EndsWaitAt known found st
+ends_later wait_stage.Want known found u e = absurd cc
+ends_later wait_stage.Polling known found u e = absurd cc
+ends_later wait_stage.LoadSwept known found u e = (refl, go (wait.is_later known found) refl e) where
+  go : (b : Bool) → ltb known found ≡ b → wait.given b ≡ Some u → known < found
+  go true t e = ltb-true known found t
+  go false t e = absurd cc
+ends_later wait_stage.Ended known found u e = absurd cc
+
+gc_waited : (y : WaitState) (found : ℕ) (out : Option (Unit {0})) → wait.gives_at y.known y.stage found ≡ out → (g : ℕ) (x : Act) → acting (is_some out) (op.Gc g) false ≡ Some x → ((op.Gc g ≡ x.op) × EndsWaitAt y.known found y.stage) × (once_ended out answer.Swept ≡ Some answer.Swept)
+gc_waited y found (Some u) is g x e = ((same_op true false (op.Gc g) x e, ends_later y.stage y.known found u is), refl)
+gc_waited y found None is g x e = absurd (none_at (op.Gc g) false x e)
+
+pub gc_acts : (m : Processor) (t : Task) (found g : ℕ) (x : Act) → acts_at m t found ≡ Some x → x.op ≡ op.Gc g → HasSeenCycle found t x.op × (gives_at m t found ≡ Some answer.Swept)
+gc_acts m task.Idle found g x e f = absurd cc
+gc_acts m task.Left found g x e f = absurd cc
+gc_acts m (task.Load y) found g x e f = absurd (other_acts (load.step m.poll.layout y found).acts false (load.op_of y) g x refl e f)
+gc_acts m (task.Store y) found g x e f = absurd (other_acts (store.step m.poll.layout (register_of m y.g y.v) y found).acts false (store.op_of y) g x refl e f)
+gc_acts m (task.Global y) found g x e f = absurd (other_acts (global.step m.poll.layout (register_of m y.g y.r) y found).acts false (global.op_of y) g x (global_other y y.stage) e f)
+gc_acts m (task.Register y) found g x e f = absurd (other_acts (register.step (register_of m y.g (register.read_of y)) y).acts false (register.op_of y) g x (register_other y y.source) e f)
+gc_acts m (task.New y) found g x e f = absurd (other_acts (new.acts_at y.stage found) (new.is_full_at y.stage) (new.op_of y.wanted) g x refl e f)
+gc_acts m (task.Gc h y) found g x e f = gc_waited y found (wait.gives (wait.waiting y m.poll) found) refl h x e
+gc_acts m task.Poll found g x e f = absurd (other_acts (is_some (poll.gives m.poll found)) false op.Poll g x refl e f)
+gc_acts m (task.End h) found g x e f = absurd (other_acts true false (op.End h) g x refl e f)
+gc_acts m (task.Leave y) found g x e f = absurd (other_acts (is_some (leave.gives y found)) false op.Leave g x refl e f)
+
+-- an operation that begins has not
+pub first_sees_none : (shapes : List Shape) (m : Processor) (found : ℕ) (o q : Op) → HasSeenCycle found (begins_at shapes m o) q → ⊥
+first_sees_none shapes m found (op.New g d t) q h = h.1
+first_sees_none shapes m found (op.Load g d b k) q h = h
+first_sees_none shapes m found (op.Store g b k v) q h = h
+first_sees_none shapes m found (op.GetGlobal g d k) q h = h
+first_sees_none shapes m found (op.SetGlobal g k v) q h = h
+first_sees_none shapes m found (op.Int g d n) q h = h
+first_sees_none shapes m found (op.Move g d s) q h = h
+first_sees_none shapes m found (op.Nil g d) q h = h
+first_sees_none shapes m found (op.Gc g) q h = let no = h.1.0 in cc
+first_sees_none shapes m found op.Poll q h = h
+first_sees_none shapes m found (op.End g) q h = h
+first_sees_none shapes m found op.Leave q h = h
+
+pub first_waits : (shapes : List Shape) (m : Processor) (o : Op) (low swept : ℕ) → low ≤ m.poll.local.view.begun → HasWaited low swept (begins_at shapes m o)
+first_waits shapes m (op.New g d t) low swept knows = tt
+first_waits shapes m (op.Load g d b k) low swept knows = tt
+first_waits shapes m (op.Store g b k v) low swept knows = tt
+first_waits shapes m (op.GetGlobal g d k) low swept knows = tt
+first_waits shapes m (op.SetGlobal g k v) low swept knows = tt
+first_waits shapes m (op.Int g d n) low swept knows = tt
+first_waits shapes m (op.Move g d s) low swept knows = tt
+first_waits shapes m (op.Nil g d) low swept knows = tt
+first_waits shapes m (op.Gc g) low swept knows = knows
+first_waits shapes m op.Poll low swept knows = tt
+first_waits shapes m (op.End g) low swept knows = tt
+first_waits shapes m op.Leave low swept knows = tt
 
 -- more cycles are swept
 pub more_swept : (low swept then : ℕ) (t : Task) → swept ≤ then → HasWaited low swept t → HasWaited low then t
@@ -121,10 +177,14 @@ more_swept low swept then (task.New x) le h = go x.stage h where
   go (Search true s) h = omega (arith, le, h)
   go (Wait x) h = h
   go (Place p) h = tt
-more_swept low swept then (task.Gc g x) le h = tt
+more_swept low swept then (task.Gc g x) le h = h
 more_swept low swept then task.Poll le h = tt
 more_swept low swept then (task.End g) le h = tt
 more_swept low swept then (task.Leave x) le h = tt
+
+-- the step that ends a wait loads the number of the last swept cycle
+pub loads_swept : (m : Processor) (x : WaitState) → x.stage ≡ wait_stage.LoadSwept → wait.asks (wait.waiting x m.poll) ≡ ask.Load cell.Swept
+loads_swept m x e = ap (wait.asks_at (wait.waiting x m.poll)) e
 
 -- One step.
 
@@ -158,18 +218,9 @@ module _ (shapes : List Shape) (m : Processor) (low swept found : ℕ) where
     go false = refl
   still_knows x p wait_stage.Ended = refl
 
-  ends_later : (x : WaitState) (p : Polling) (st : WaitStage) (u : Unit {0}) → wait.gives_at x.known st found ≡ Some u → (wait.asks_at (wait.waiting x p) st ≡ ask.Load cell.Swept) × (x.known < found)
-  ends_later x p wait_stage.Want u e = absurd cc
-  ends_later x p wait_stage.Polling u e = absurd cc
-  ends_later x p wait_stage.LoadSwept u e = (refl, go (wait.is_later x.known found) refl e) where
-    go : (b : Bool) → ltb x.known found ≡ b → wait.given b ≡ Some u → x.known < found
-    go true t e = ltb-true x.known found t
-    go false t e = absurd cc
-  ends_later x p wait_stage.Ended u e = absurd cc
-
   waited : (w : Wanted) (x : WaitState) (out : Option (Unit {0})) → wait.gives (wait.waiting x m.poll) found ≡ out → low ≤ x.known → (wait.asks (wait.waiting x m.poll) ≡ ask.Load cell.Swept → found ≤ swept) → HasWaited low swept (after_wait m w (wait.goes (wait.waiting x m.poll) found) out).task
   waited w x None is h so = let same = still_knows x m.poll x.stage in omega (arith, same, h)
-  waited w x (Some u) is h so = let e = ends_later x m.poll x.stage u is in let le = so e.0 in let lt = e.1 in omega (arith, le, lt, h)
+  waited w x (Some u) is h so = let e = ends_later x.stage x.known found u is in let le = so (loads_swept m x e.0) in let lt = e.1 in omega (arith, le, lt, h)
 
   placed : (w : Wanted) (made : Bool) (a : ℕ) (p : Placing) → HasWaited low swept (after_place m w made a p).task
   placed w made a p = go (place.is_busy p.stage) where
@@ -182,9 +233,9 @@ module _ (shapes : List Shape) (m : Processor) (low swept found : ℕ) where
   new_steps w (Wait x) h knows so = waited w x (wait.gives (wait.waiting x m.poll) found) refl h so
   new_steps w (Place p) h knows so = placed w (place.acts p) p.at (place.goes p found)
 
-  gc_ends : (g : ℕ) (x : Waiting) (out : Option (Unit {0})) → HasWaited low swept (after_gc m g x out).task
-  gc_ends g x None = tt
-  gc_ends g x (Some u) = tt
+  gc_waits : (g : ℕ) (x : WaitState) (out : Option (Unit {0})) → low ≤ x.known → HasWaited low swept (after_gc m g (wait.goes (wait.waiting x m.poll) found) out).task
+  gc_waits g x None h = let same = still_knows x m.poll x.stage in omega (arith, same, h)
+  gc_waits g x (Some u) h = tt
 
   poll_ends : (p : Polling) (out : Option (Unit {0})) → HasWaited low swept (after_poll m p out).task
   poll_ends p None = tt
@@ -202,7 +253,7 @@ module _ (shapes : List Shape) (m : Processor) (low swept found : ℕ) where
   steps_on (task.Global x) is busy h knows so = statement task.Global (global.step m.poll.layout (register_of m x.g x.r) x found).then (λ y. tt)
   steps_on (task.Register x) is busy h knows so = statement task.Register (register.step (register_of m x.g (register.read_of x)) x).then (λ y. tt)
   steps_on (task.New x) is busy h knows so = new_steps x.wanted x.stage h knows (λ e. so (ap (asks_at m) is ∙ e))
-  steps_on (task.Gc g x) is busy h knows so = gc_ends g (wait.goes (wait.waiting x m.poll) found) (wait.gives (wait.waiting x m.poll) found)
+  steps_on (task.Gc g x) is busy h knows so = gc_waits g x (wait.gives (wait.waiting x m.poll) found) h
   steps_on task.Poll is busy h knows so = poll_ends (poll.goes m.poll found) (poll.gives m.poll found)
   steps_on (task.End g) is busy h knows so = tt
   steps_on (task.Leave x) is busy h knows so = leave_ends (leave.goes x found) (leave.gives x found)
