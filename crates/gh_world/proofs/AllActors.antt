@@ -49,6 +49,7 @@ pub mod Counting
 pub mod Endings
 pub mod Globals
 pub mod StackWords
+pub mod OwnEntries
 pub mod OwnSide
 pub mod Quieting
 pub mod Unmade

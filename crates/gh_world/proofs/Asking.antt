@@ -1,21 +1,19 @@
 -- Among a script's turns each goroutine asks as often as it has `new` and `gc`, and each has ended before the leave.
 use Rattle.std.proofs.Common.{◌≡◌, ℕ, zero, suc, ◌+◌, ◌<◌, ◌≤◌, Bool, true, false, cond, eqb, leb, ltb, ◌&&◌, ◌||◌, List, [], ◌∷◌, ◌++◌, map, length, reverse, Option, Some, None, refl, sym, ap, ◌∙◌, arith, inl, inr}
-use Rattle.std.specs.Prelude.{slice_get, not}
+use Rattle.std.specs.Prelude.{not}
 use Rattle.std.specs.List.{filter, flat_map, range_with_len}
-use Rattle.std.specs.Option.{option_to_list}
-use Rattle.std.proofs.lemmas.Bool.{eq-eqb, cases_lt, le-leb, lt-ltb}
+use Rattle.std.proofs.lemmas.Bool.{cases_lt, le-leb, lt-ltb}
 use Rattle.std.proofs.lemmas.Grind.{reverse_onto}
 use Rattle.std.proofs.lemmas.List.Elements.{filter-append}
 use Rattle.std.proofs.lemmas.List.{length-append}
-use Rattle.std.proofs.lemmas.Option.{slice_get_past}
-use Rattle.gh_world.specs.Vocabulary.{Arena, Entry, Op, Program, statements_of, Stmt, work_at}
+use Rattle.gh_world.specs.Vocabulary.{statements_of, Stmt, work_at}
 use Rattle.gh_base.specs.declared.operation.Op.TheVariants as op
 use Rattle.gh_script.specs.declared.statement.Stmt.TheVariants as stmts
 use Rattle.gh_script.specs.Program.{op_of}
-use Rattle.gh_world.specs.Order.{begun_in, ended_in, ends, has_left, leaves}
-use Rattle.gh_world.specs.Processors.{all_ended, asked_by, asks_collector}
-use Rattle.gh_world.specs.Turns.{count_of, is_statement_of, round_of, total_of, turn_of, turns_of}
+use Rattle.gh_world.specs.Processors.{asked_by, asks_collector}
+use Rattle.gh_world.specs.Turns.{count_of, is_statement_of, round_of, turn_of}
 use Rattle.gh_world.specs.Wishes.{may_ask, wishes_among, wishes_of}
+use Rattle.gh_world.proofs.Vocabulary.{all_ended, Arena, begun_in, ended_in, ends, Entry, eq-eqb, has_left, leaves, Op, option_to_list, Program, slice_get, slice_get_past, total_of, turns_of}
 use Rattle.gh_world.proofs.EachOnce.{turns_mine}
 use Rattle.gh_world.proofs.Turning.{count-le}
 

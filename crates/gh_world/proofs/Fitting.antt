@@ -1,33 +1,20 @@
 -- What a world keeps, whichever list it is the state of: once an operation is begun, after a step, and as it opens.
 use Rattle.std.proofs.Common.{◌≡◌, ℕ, ◌+◌, ◌^◌, ◌<◌, ◌≤◌, Bool, true, false, cond, eqb, List, length, replicate, get_or, length-set, refl, sym, ◌∙◌, ap, subst, Option, Some, None, arith}
-use Rattle.std.specs.Prelude.{is_some, slice_get}
-use Rattle.std.proofs.lemmas.Bool.{eqb-true, eqb-false}
-use Rattle.std.proofs.lemmas.List.{get_or-set_same, get_or-set_other}
-use Rattle.std.proofs.lemmas.List.FromFn.{get_or-map-range_with_len, length-map-range_with_len}
-use Rattle.std.proofs.lemmas.Option.{get_or_from_slice_get, slice_get-get_or, slice_get_within}
-use Rattle.std.proofs.Math.ListN.{set}
-use Rattle.gh_world.specs.Vocabulary.{Op, Answer, Shape, Layout, bit, Program, WellFormed, Next, has_names, Progress, Mutating, is_statement, is_point, statement_answer, has_left_at, acts, begins_at, gives_at, is_busy_at, op_at}
 use Rattle.gh_mutator.specs.Sound.{SoundOp}
-use Rattle.gh_world.specs.Turns.{total_of, turns_of, to_come, later, Stands, is_over, op_due, Follows, goroutine_at, statements_among, is_unacted}
+use Rattle.gh_world.specs.Turns.{Stands}
 use Rattle.gh_base.specs.declared.operation.Op.TheVariants as op
 use Rattle.gh_base.specs.declared.cell.Req.{Req}
 use Rattle.gh_coord.specs.Ends.{room_stays, stays as coord_stays}
-use Rattle.gh_coord.specs.GoingOn.{GoesOnUntilDone}
 use Rattle.gh_coord.specs.Listing as coord
 use Rattle.gh_worker.specs.Ends.{stays as worker_stays}
 use Rattle.gh_worker.specs.Listing as worker
-use Rattle.gh_world.specs.Wishes.{most_cycles}
-use Rattle.gh_base.specs.Cells.{InRange}
-use Rattle.gh_base.specs.Steps.{cell_of, changed, request, target}
-use Rattle.gh_world.specs.World.{progress_after, FitOthers, FitTurns, FitWords, LaysOut, op_at_turn, opening_progress, counts_after, last_after, begun_as, done_or, found_by, GoesOn, IsStepOfWorker, State, workers_at}
-use Rattle.gh_world.specs.declared.event.Event.{Event}
+use Rattle.gh_world.specs.World.{FitOthers, FitTurns, FitWords, LaysOut, op_at_turn, counts_after, last_after, begun_as, done_or, found_by, GoesOn, IsStepOfWorker, State, workers_at}
 use Rattle.gh_world.specs.declared.event.Event.TheVariants as event
-use Rattle.gh_base.specs.Reading.{read_after_set, read_replicate}
+use Rattle.gh_world.proofs.Vocabulary.{acts, Answer, begins_at, bit, cell_of, changed, eqb-false, eqb-true, Event, Follows, get_or-map-range_with_len, get_or-set_other, get_or-set_same, get_or_from_slice_get, gives_at, GoesOnUntilDone, goroutine_at, has_left_at, has_names, InRange, is_busy_at, is_over, is_point, is_some, is_statement, is_unacted, later, Layout, length-map-range_with_len, most_cycles, Mutating, Next, Op, op_at, op_due, opening_progress, Program, Progress, progress_after, read_after_set, read_replicate, request, set, Shape, slice_get, slice_get-get_or, slice_get_within, statement_answer, statements_among, takes, target, to_come, total_of, turns_of, WellFormed}
 use Rattle.gh_world.proofs.StepFacts.{step_facts, begin_facts, StepFacts, BeginFacts, begins_busy}
 use Rattle.gh_world.proofs.Turning.{opens_at, turns_say}
 use Rattle.gh_mutator.specs.Mutating as mutating
 use Rattle.gh_mutator.specs.Ends.{stays}
-use Rattle.gh_mutator.specs.Listing.{takes}
 use Rattle.gh_world.proofs.Due.{due_goroutine, due_runs, due_statement, few_statements, has_due, has_name_at, idle_not_leaving}
 
 counts_long : (t : Progress) (o : Op) → length t.begun ≡ 32 → length (counts_after t (Some o)) ≡ 32

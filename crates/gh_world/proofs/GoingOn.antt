@@ -1,24 +1,17 @@
 -- A run of a script so far goes on by a step of any actor that has not ended: the processor's next step is that of its turns, and each step is on a word that there is. It is whole when all have ended.
 use Rattle.std.proofs.Common.{◌≡◌, ℕ, ◌<◌, ◌≤◌, Bool, true, false, cond, ltb, eqb, not, ◌||◌, List, [], ◌∷◌, ◌++◌, reverse, refl, sym, ap, subst, ◌∙◌, Option, Some, None, arith}
-use Rattle.std.specs.Option.{option_to_list}
-use Rattle.std.proofs.lemmas.Bool.{eqb-true, eqb-false}
 use Rattle.std.proofs.lemmas.List.{append_cancel_left, append-nil}
-use Rattle.gh_base.specs.Lists.{Begins, by, Kind}
-use Rattle.gh_coord.specs.GoingOn.{GoesOnUntilDone, HasNext}
+use Rattle.gh_coord.specs.GoingOn.{HasNext}
 use Rattle.gh_coord.specs.Listing as coord
-use Rattle.gh_coord.specs.Stopping.{acks_of}
 use Rattle.gh_mutator.specs.Mutating as mutating
 use Rattle.gh_worker.specs.Listing as worker
-use Rattle.gh_world.specs.declared.handshake.Actor.{Actor}
 use Rattle.gh_world.specs.declared.handshake.Actor.TheVariants as actor
 use Rattle.gh_world.specs.Actors.{AllStands}
 use Rattle.gh_world.specs.Handshake.{takes as takes_by}
-use Rattle.gh_world.specs.Order.{begun_in, ended_in, ends, has_left, leaves}
 use Rattle.gh_world.specs.Runs.{GoesOnBy, has_ended_in, IsRun, IsRunSoFar}
 use Rattle.gh_world.specs.Schedule.{ended_after as ended_at, has_ended}
-use Rattle.gh_world.specs.Turns.{is_over, MayBeOver, op_due, to_come, total_of, turns_of}
-use Rattle.gh_world.specs.Vocabulary.{cell_of, Entry, has_left_at, InRange, is_busy_at, is_leaving, Layout, Legal, Mutating, Op, Processor, processor_kind, Program, Progress, started, state_of, takes, Task, WellFormed, words_after}
-use Rattle.gh_world.specs.World.{actor_after, FitTurns, LaysOut, may_begin_of, opening_progress, pacing_of, progress_after, setting_of}
+use Rattle.gh_world.specs.World.{FitTurns, LaysOut, may_begin_of, pacing_of}
+use Rattle.gh_world.proofs.Vocabulary.{acks_of, Actor, actor_after, Begins, begun_in, by, cell_of, ended_in, ends, Entry, eqb-false, eqb-true, GoesOnUntilDone, has_left, has_left_at, InRange, is_busy_at, is_leaving, is_over, Kind, Layout, leaves, Legal, MayBeOver, Mutating, Op, op_due, opening_progress, option_to_list, Processor, processor_kind, Program, Progress, progress_after, setting_of, started, state_of, takes, Task, to_come, total_of, turns_of, WellFormed, words_after}
 use Rattle.gh_world.proofs.CycleMarking.Seats.{IsSeated, seated}
 use Rattle.gh_world.proofs.Due.{false_unless, has_due, idle_not_leaving, none_to_come, not_over}
 use Rattle.gh_world.proofs.Fitting.{begun_busy, fit_begun, fit_opens, fit_stepped}

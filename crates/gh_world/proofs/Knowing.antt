@@ -1,33 +1,20 @@
 -- What every legal list of processors, workers and a coordinator keeps of the handshake.
 use Rattle.std.proofs.Common.{◌≡◌, ℕ, ◌<◌, ◌⊎◌, Bool, refl, sym, ap, subst, ◌∙◌, arith, inl, inr, List, [], ◌∷◌}
-use Rattle.std.specs.Prelude.{◌↔◌}
 use Rattle.gh_base.specs.declared.cell.Cell.TheVariants as cell
-use Rattle.gh_base.specs.declared.layout.Layout.{Layout}
-use Rattle.gh_base.specs.declared.machine.Entry.{Entry}
-use Rattle.gh_base.specs.declared.pack.PhaseWord.{PhaseWord}
-use Rattle.gh_base.specs.declared.pack.TheConstants.{GONE}
-use Rattle.gh_base.specs.Lists.{Kind, Legal}
-use Rattle.gh_base.specs.Packing.{phase_of, phase_word}
-use Rattle.gh_phase.specs.declared.resume.ResumeStage.{ResumeStage}
 use Rattle.gh_phase.specs.declared.resume.ResumeStage.TheVariants.{Acknowledge, LoadPhase, LoadGeneration, LoadBegun, Ended}
-use Rattle.gh_phase.specs.declared.view.RunPhase.{RunPhase}
 use Rattle.gh_phase.specs.declared.view.RunPhase.TheVariants as run
-use Rattle.gh_phase.specs.Handshake.{Acts, Awake, Gives, Gone, last_of, Lead, Leads, Leaves, Party, Place, Resumes, Stage, Stopped}
+use Rattle.gh_phase.specs.Handshake.{Place}
 use Rattle.gh_phase.specs.Listing as resume
 use Rattle.gh_phase.specs.ResumePlaces as resumes
-use Rattle.gh_phase.specs.Shakes.{FinishedStays, GoneStay, IsAwake, IsCurrent, IsParked, last_phase, Shakes}
-use Rattle.gh_coord.specs.Handshake.{LeadsHandshake}
+use Rattle.gh_phase.specs.Shakes.{FinishedStays, GoneStay, IsCurrent, Shakes}
 use Rattle.gh_coord.specs.Handshake as leading
 use Rattle.gh_coord.specs.Listing as coord
-use Rattle.gh_coord.specs.Stopping.{acks_of}
-use Rattle.gh_worker.specs.declared.worker.WorkerStage.{WorkerStage}
 use Rattle.gh_worker.specs.declared.worker.WorkerStage.TheVariants as work
-use Rattle.gh_worker.specs.Handshake.{WorkersKeepHandshake}
 use Rattle.gh_worker.specs.Handshake as working
 use Rattle.gh_worker.specs.Listing as worker
-use Rattle.gh_world.specs.declared.handshake.Actor.{Actor}
 use Rattle.gh_world.specs.declared.handshake.Actor.TheVariants as actor
-use Rattle.gh_world.specs.Handshake.{IsExact, KeepsIt, Pacing, place_of, Sound, WaitsWithNone}
+use Rattle.gh_world.specs.Handshake.{IsExact, Sound}
+use Rattle.gh_world.proofs.Vocabulary.{acks_of, Actor, Acts, Awake, Entry, Gives, GONE, Gone, IsAwake, IsParked, KeepsIt, Kind, last_of, last_phase, Layout, Lead, Leads, LeadsHandshake, Leaves, Legal, Pacing, Party, phase_of, phase_word, PhaseWord, place_of, Resumes, ResumeStage, RunPhase, Stage, Stopped, WaitsWithNone, WorkersKeepHandshake, WorkerStage, ◌↔◌}
 use Rattle.gh_world.proofs.LastCycle.{Ends, follows, IsAt, it, opens, state, words}
 
 -- who is awake does not wait at a stop

@@ -1,31 +1,19 @@
 -- The last cycle over every legal list: no worker leaves before it is swept, and every processor has left by then.
 use Rattle.std.proofs.Common.{◌≡◌, ℕ, ◌<◌, ◌≤◌, ◌⊎◌, Bool, true, false, cond, ltb, ◌==◌, refl, sym, ap, subst, ◌∙◌, inl, inr, arith, List, [], ◌∷◌, Option, Some, None, eq-eqb}
-use Rattle.std.proofs.lemmas.Bool.Decides.{nat_tests}
-use Rattle.gh_base.specs.declared.cell.Ask.{Ask}
-use Rattle.gh_base.specs.declared.cell.Ask.TheVariants.{Load}
 use Rattle.gh_base.specs.declared.cell.Cell.TheVariants as cell
 use Rattle.gh_base.specs.declared.pack.Phase.TheVariants as kind
-use Rattle.gh_base.specs.declared.pack.PhaseWord.{PhaseWord}
-use Rattle.gh_base.specs.declared.pack.TheConstants.{GONE}
-use Rattle.gh_base.specs.Lists.{Kind, MayFollow, Setting, started, state_of, words_after}
-use Rattle.gh_base.specs.Packing.{phase_of, phase_word}
-use Rattle.gh_base.specs.Steps.{cell_of}
-use Rattle.gh_phase.specs.declared.view.RunPhase.{RunPhase}
+use Rattle.gh_base.specs.Lists.{MayFollow, Setting}
 use Rattle.gh_phase.specs.declared.view.RunPhase.TheVariants as run
-use Rattle.gh_phase.specs.declared.view.View.{View}
-use Rattle.gh_phase.specs.Handshake.{is_stop, Lead, phase_while, Place, run_word, stop_word}
-use Rattle.gh_phase.specs.Shakes.{FinishedStays, GoneStay, IsCurrent, IsLed, last_phase}
-use Rattle.gh_phase.specs.Views.{run_phase}
-use Rattle.gh_coord.specs.Handshake.{FindsGone, gone_to, IsFoundGone, LeadsHandshake}
+use Rattle.gh_phase.specs.Handshake.{is_stop, phase_while, Place, run_word}
+use Rattle.gh_phase.specs.Shakes.{FinishedStays, GoneStay, IsCurrent, IsLed}
+use Rattle.gh_coord.specs.Handshake.{FindsGone, gone_to, IsFoundGone}
 use Rattle.gh_coord.specs.Listing as coord
-use Rattle.gh_coord.specs.Stopping.{acks_of}
 use Rattle.gh_worker.specs.declared.worker.WorkerStage.TheVariants as work
-use Rattle.gh_worker.specs.Handshake.{IsLeaving, IsMarking, WorkersKeepHandshake}
+use Rattle.gh_worker.specs.Handshake.{IsLeaving, IsMarking}
 use Rattle.gh_worker.specs.Listing as worker
-use Rattle.gh_world.specs.declared.handshake.Actor.{Actor}
 use Rattle.gh_world.specs.declared.handshake.Actor.TheVariants as actor
-use Rattle.gh_world.specs.Vocabulary.{Entry, Layout, Words}
-use Rattle.gh_world.specs.Handshake.{actors, asks, heap, is_busy, Pacing, start, takes}
+use Rattle.gh_world.specs.Handshake.{asks, heap, start, takes}
+use Rattle.gh_world.proofs.Vocabulary.{acks_of, Actor, actors, Ask, cell_of, Entry, GONE, is_busy, Kind, last_phase, Layout, Lead, LeadsHandshake, Load, nat_tests, Pacing, phase_of, phase_word, PhaseWord, run_phase, RunPhase, started, state_of, stop_word, View, Words, words_after, WorkersKeepHandshake}
 
 -- which seats each kind of actor has
 abbrev pub IsAt : {P : Type 0} → Layout → (a : ℕ) → Actor P → Type 0

@@ -1,3 +1,4 @@
+pub mod Vocabulary
 pub mod Polling
 pub mod Knowing
 pub mod LastCycle

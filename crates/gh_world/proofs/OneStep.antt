@@ -1,30 +1,13 @@
 -- A step of the code, from what its parts did.
 use Rattle.std.proofs.Common.{◌≡◌, ℕ, suc, ◌<◌, ◌≤◌, Bool, true, false, not, cond, List, ◌∷◌, length, refl, sym, ◌∙◌, ap, subst, Option, Some, None, arith}
-use Rattle.std.specs.Prelude.{slice_get}
-use Rattle.std.proofs.lemmas.Option.{slice_get_past, slice_get_within}
-use Rattle.gh_base.specs.declared.operation.Op.{Op}
-use Rattle.gh_base.specs.declared.layout.Layout.{Layout}
-use Rattle.gh_base.specs.declared.machine.Entry.{Entry}
-use Rattle.gh_base.specs.Lists.{by, started, state_of}
-use Rattle.gh_base.specs.Steps.{StepsAreShown}
-use Rattle.gh_script.specs.Program.{Program}
-use Rattle.gh_base.specs.declared.shape.Shape.{Shape}
-use Rattle.gh_mutator.specs.declared.processor.Processor.{Processor}
-use Rattle.gh_mutator.specs.Deeds.{processor_kind}
-use Rattle.gh_mutator.specs.Mutating.{Mutating}
 use Rattle.gh_coord.specs.Listing as coord
 use Rattle.gh_worker.specs.Listing as worker
-use Rattle.gh_world.specs.declared.turns.Next.{Next}
-use Rattle.gh_world.specs.declared.event.Event.{Event}
-use Rattle.gh_world.specs.declared.progress.Progress.{Progress}
-use Rattle.gh_world.specs.World.{After, IsAfter, Appends, Begins, Fit, State, Advances, IsStepOfCoordinator, IsStepOfWorker, begun_as, found_in, is_done, progress_after, event_of, worker_or, answer_in, answered_in, now_in, with_goroutine}
-use Rattle.gh_coord.specs.Stopping.{acks_of}
+use Rattle.gh_world.specs.World.{IsAfter, Appends, Begins, Fit, State, Advances, IsStepOfCoordinator, IsStepOfWorker, begun_as, found_in, is_done, worker_or, now_in}
 use Rattle.gh_world.specs.Schedule.{has_ended}
+use Rattle.gh_world.proofs.Vocabulary.{acks_of, After, answer_in, answered_in, begins, by, Entry, Event, event_of, has_left_at, is_busy_at, Layout, Mutating, Next, Op, Processor, processor_kind, Program, Progress, progress_after, Shape, slice_get, slice_get_past, slice_get_within, started, state_of, statement_answer, StepsAreShown, with_goroutine}
 use Rattle.gh_world.proofs.Fitting.{ready, marks_few, marks_more}
 use Rattle.gh_world.proofs.OtherSteps.{lead_entry, lead_says, lead_tells, led, work_entry, work_says, work_tells, worked}
 use Rattle.gh_world.proofs.WorldFacts.{follows, says, tells, entry_of, Knows}
-use Rattle.gh_mutator.specs.Listing.{begins, is_busy_at}
-use Rattle.gh_mutator.specs.Serving.{has_left_at, statement_answer}
 
 -- what a world keeps, with so many points noted and room for so many
 pub record Kept (w : State) : Type 0 where

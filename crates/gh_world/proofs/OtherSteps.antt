@@ -1,27 +1,16 @@
 -- One step of a worker, or of the coordinator, in a world is one entry more of a legal list; and what a world is before its first step.
 use Rattle.std.proofs.Common.{◌≡◌, ℕ, suc, ◌+◌, ◌<◌, ◌≤◌, Bool, true, false, eqb, ltb, List, [], ◌∷◌, ◌++◌, length, get_or, length-set, refl, sym, ◌∙◌, ap, Option, Some, None, arith}
-use Rattle.std.specs.Prelude.{is_some, slice_get}
-use Rattle.std.proofs.Math.ListN.{set}
-use Rattle.std.proofs.lemmas.Bool.{eq-eqb, eqb-true, eqb-false}
-use Rattle.std.proofs.lemmas.Bool.Decides.{nat_tests}
-use Rattle.std.proofs.lemmas.List.{append-nil, get_or-set_same, get_or-set_other}
-use Rattle.std.proofs.lemmas.List.FromFn.{get_or-map-range_with_len, length-map-range_with_len}
-use Rattle.std.proofs.lemmas.Option.{get_or_from_slice_get, slice_get-get_or, slice_get_within}
-use Rattle.gh_world.specs.Vocabulary.{acts, bit, cell_of, changed, Entry, InRange, Layout, Legal, Next, Op, opening_processor, Processor, processor_kind, Program, Progress, request, Shows, state_of, statement_answer, StepsAreShown, target, words_after, is_point}
-use Rattle.gh_base.specs.declared.cell.Ask.{Ask}
-use Rattle.gh_base.specs.Reading.{read_replicate}
+use Rattle.std.proofs.lemmas.List.{append-nil}
+use Rattle.gh_world.specs.Vocabulary.{Shows}
 use Rattle.gh_base.specs.Steps.{IsShown}
 use Rattle.gh_coord.specs.Listing as coord
-use Rattle.gh_coord.specs.Stopping.{acks_of}
 use Rattle.gh_worker.specs.Listing as worker
-use Rattle.gh_world.specs.declared.handshake.Actor.{Actor}
 use Rattle.gh_world.specs.declared.handshake.Actor.TheVariants as actor
-use Rattle.gh_world.specs.Turns.{to_come, later, next_point}
-use Rattle.gh_world.specs.Wishes.{most_cycles}
+use Rattle.gh_world.specs.Turns.{next_point}
 use Rattle.gh_coord.specs.declared.cycles.Cycle.{Cycle}
-use Rattle.gh_world.specs.World.{actor_after, After, answer_in, answered_in, with_goroutine, done_or, event_by, event_of, marks_in, now_in, opening_progress, points_in, setting_of, told_event, workers_at}
-use Rattle.gh_world.specs.declared.event.Event.{Event}
+use Rattle.gh_world.specs.World.{done_or, event_by, marks_in, now_in, points_in, told_event, workers_at}
 use Rattle.gh_world.specs.declared.event.Event.TheVariants as event
+use Rattle.gh_world.proofs.Vocabulary.{acks_of, Actor, actor_after, acts, After, answer_in, answered_in, Ask, bit, cell_of, changed, Entry, eq-eqb, eqb-false, eqb-true, Event, event_of, get_or-map-range_with_len, get_or-set_other, get_or-set_same, get_or_from_slice_get, InRange, is_point, is_some, later, Layout, Legal, length-map-range_with_len, most_cycles, nat_tests, Next, Op, opening_processor, opening_progress, Processor, processor_kind, Program, Progress, read_replicate, request, set, setting_of, slice_get, slice_get-get_or, slice_get_within, state_of, statement_answer, StepsAreShown, target, to_come, with_goroutine, words_after}
 use Rattle.gh_world.proofs.Resting.{rests}
 use Rattle.gh_world.proofs.Turning.{opens_at}
 

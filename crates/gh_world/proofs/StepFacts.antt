@@ -1,17 +1,13 @@
 -- What each step, and each beginning, is to a statement: it acts once, it is answered last, and its object is counted once.
 use Rattle.std.proofs.Common.{◌≡◌, ℕ, ◌+◌, ◌-◌, ◌≤◌, Bool, true, false, cond, ltb, not, ◌&&◌, List, get_or, refl, sym, ap, ◌∙◌, Option, Some, None, arith}
-use Rattle.std.specs.Prelude.{is_some}
-use Rattle.std.proofs.Math.ListN.{set}
-use Rattle.gh_world.specs.Vocabulary.{Act, acting, acts_at, after_place, after_search, after_wait, Answer, applied, At, at_task, begins_at, bit, cache_span, Ends, ends, follows, Found, gives_at, Global, GlobalStage, goes_on, GoesOn, is_busy_at, is_leaving, is_made, is_point, is_pointer_by, is_serving, is_statement, kinds_differ, Layout, Load, LoadStage, made_by, made_object, makes, NewStage, Op, op_at, Place, PlaceStage, Placing, Processor, Register, register_of, Search, searches, Shape, Source, SpanHead, Step, Store, StoreStage, takes_at, taking, Task, Then, Value, value_of, Wait, Wanted}
+use Rattle.gh_world.specs.Vocabulary.{after_place, after_search, after_wait, applied, at_task, ends, goes_on, is_made, is_pointer_by, is_serving, kinds_differ, Load, LoadStage, made_object, makes, searches, Step, Store, StoreStage, taking, value_of}
 use Rattle.gh_base.specs.declared.operation.Op.TheVariants as op
 use Rattle.gh_base.specs.declared.value.Answer.TheVariants as answer
 use Rattle.gh_base.specs.declared.value.Fault.TheVariants as fault
 use Rattle.gh_base.specs.declared.value.Value.TheVariants as value
 use Rattle.gh_bitmap.specs.SetPointers as bits
-use Rattle.gh_alloc.specs.declared.sought.Found.TheVariants.{NoRoom}
 use Rattle.gh_alloc.specs.declared.place.PlaceStage.TheVariants as place_stage
 use Rattle.gh_alloc.specs.Search as search
-use Rattle.gh_alloc.specs.Search.{Seeking}
 use Rattle.gh_alloc.specs.Place as place
 use Rattle.gh_mutator.specs.declared.global.GlobalStage.TheVariants as global_stage
 use Rattle.gh_mutator.specs.declared.load.LoadStage.TheVariants as load_stage
@@ -24,19 +20,13 @@ use Rattle.gh_mutator.specs.Global as global
 use Rattle.gh_mutator.specs.Load as load
 use Rattle.gh_mutator.specs.New.{answer_search, op_of as new_op, refuses}
 use Rattle.gh_mutator.specs.Leave as leave
-use Rattle.gh_mutator.specs.Leave.{Leaving}
-use Rattle.gh_mutator.specs.Listing.{after_gc, after_leave, after_poll, once_ended}
 use Rattle.gh_mutator.specs.Poll as poll
-use Rattle.gh_mutator.specs.Poll.{Polling}
 use Rattle.gh_mutator.specs.Wait as wait
-use Rattle.gh_mutator.specs.Wait.{Waiting}
 use Rattle.gh_mutator.specs.Serving.{answer_at}
 use Rattle.gh_mutator.specs.Step.{answered}
 use Rattle.gh_mutator.specs.Store as store
-use Rattle.gh_world.specs.Order.{in_range}
-use Rattle.gh_world.specs.Turns.{is_unacted, is_leave}
 use Rattle.gh_world.specs.World.{making}
-use Rattle.gh_base.specs.Reading.{read_after_set}
+use Rattle.gh_world.proofs.Vocabulary.{Act, acting, acts_at, after_gc, after_leave, after_poll, Answer, At, begins_at, bit, cache_span, Ends, follows, Found, gives_at, Global, GlobalStage, GoesOn, in_range, is_busy_at, is_leave, is_leaving, is_point, is_some, is_statement, is_unacted, Layout, Leaving, made_by, NewStage, NoRoom, once_ended, Op, op_at, Place, PlaceStage, Placing, Polling, Processor, read_after_set, Register, register_of, Search, Seeking, set, Shape, Source, SpanHead, takes_at, Task, Then, Value, Wait, Waiting, Wanted}
 
 -- from task t and the processor m to the next one, with the act and the answer of the step
 pub record StepFacts (m : Processor) (t : Task) (next : Processor) (act : Option Act) (given : Option Answer) : Type 0 where

@@ -1,23 +1,18 @@
 -- The turns of the processor: what is still to come at each of them.
 use Rattle.std.proofs.Common.{◌≡◌, ℕ, zero, suc, ◌+◌, ◌-◌, ◌<◌, ◌≤◌, Bool, true, false, cond, ltb, leb, List, [], ◌∷◌, ◌++◌, length, get_or, drop, min, Option, Some, None, refl, sym, ap, subst, ◌∙◌, append_assoc, arith, inl, inr}
-use Rattle.std.specs.Prelude.{slice_get, sum_by}
+use Rattle.std.specs.Prelude.{sum_by}
 use Rattle.std.specs.List.{flat_map, range_with_len}
-use Rattle.std.proofs.lemmas.Bool.{leb-true, leb-false, le-leb, ltb-true, lt-ltb, cases_lt}
-use Rattle.std.proofs.lemmas.Bool.Decides.{nat_tests}
+use Rattle.std.proofs.lemmas.Bool.{leb-true, leb-false, le-leb, lt-ltb, cases_lt}
 use Rattle.std.proofs.lemmas.List.{at_drop_more, drop_all}
 use Rattle.std.proofs.lemmas.List.Sums.{get_or-le-sum_by, sum_by-cons}
-use Rattle.std.proofs.lemmas.Option.{slice_get-get_or, slice_get_past}
-use Rattle.gh_base.specs.declared.operation.Op.{Op}
 use Rattle.gh_base.specs.declared.operation.Op.TheVariants as op
-use Rattle.gh_base.specs.Packing.{bit}
 use Rattle.gh_script.specs.declared.statement.Stmt.{Stmt}
 use Rattle.gh_script.specs.declared.statement.Stmt.TheVariants as stmts
-use Rattle.gh_script.specs.Program.{Program, no_goroutine, statements_of, statements_in, op_of}
-use Rattle.gh_world.specs.declared.turns.Next.{Next}
+use Rattle.gh_script.specs.Program.{no_goroutine, statements_of, statements_in, op_of}
 use Rattle.gh_world.specs.declared.turns.Next.TheVariants as next
-use Rattle.gh_world.specs.Turns.{count_of, total_of, turn_of, round_of, turns_of, later, to_come, goroutine_at, statements_among, Stands, IsPast, MayBeOver, Follows, op_due, is_over, is_leave}
-use Rattle.gh_mutator.specs.Serving.{is_statement}
+use Rattle.gh_world.specs.Turns.{count_of, turn_of, round_of, Stands, IsPast}
 use Rattle.gh_interp.specs.Working.{work_at, work_of}
+use Rattle.gh_world.proofs.Vocabulary.{bit, Follows, goroutine_at, is_leave, is_over, is_statement, later, ltb-true, MayBeOver, nat_tests, Next, Op, op_due, Program, slice_get, slice_get-get_or, slice_get_past, statements_among, to_come, total_of, turns_of}
 
 -- ---- statements
 

@@ -1,28 +1,19 @@
 -- One step of the processor in a world is one entry more of a legal list.
 use Rattle.std.proofs.Common.{◌≡◌, ℕ, suc, ◌+◌, ◌<◌, ◌≤◌, Bool, true, false, not, cond, eqb, ◌&&◌, ◌||◌, List, ◌∷◌, ◌++◌, length, reverse, get_or, refl, sym, ◌∙◌, ap, subst, Option, Some, None, arith}
-use Rattle.std.specs.Prelude.{is_some, ◌%◌}
-use Rattle.std.specs.Option.{option_to_list}
-use Rattle.std.proofs.Math.ListN.{set}
-use Rattle.std.proofs.lemmas.Bool.Decides.{nat_tests}
-use Rattle.std.proofs.lemmas.Bool.{eq-eqb, eqb-true, eqb-false}
-use Rattle.std.proofs.lemmas.List.{get_or-set_same, get_or-set_other}
 use Rattle.gh_mutator.specs.declared.task.Task.TheVariants as task
 use Rattle.gh_mutator.specs.Serving.{answer_at as answer_at_task}
-use Rattle.gh_world.specs.Vocabulary.{Answer, gives_at, is_serving, Task, Op, Layout, Entry, IsLayoutOf, InRange, cell_of, request, target, changed, StepsAreShown, by, state_of, started, words_after, Legal, bit, Program, WellFormed, Processor, processor_kind, Next, most_objects, Progress, has_names, is_last, is_statement, is_point, statement_answer, acts, is_busy_at}
+use Rattle.gh_world.specs.Vocabulary.{is_serving, IsLayoutOf, most_objects, is_last}
 use Rattle.gh_base.specs.declared.operation.Op.TheVariants as op
 use Rattle.gh_base.specs.Steps.{IsShown}
-use Rattle.gh_base.specs.Lists.{Begins}
 use Rattle.gh_coord.specs.Listing as coord
-use Rattle.gh_coord.specs.Stopping.{acks_of}
 use Rattle.gh_worker.specs.Listing as worker
-use Rattle.gh_world.specs.declared.handshake.Actor.{Actor}
 use Rattle.gh_world.specs.declared.handshake.Actor.TheVariants as actor
-use Rattle.gh_world.specs.Order.{ends, ended_in, goroutine_of, leaves, has_left, begun_in}
-use Rattle.gh_world.specs.Processors.{arena_of, has_more, is_of, may_begin, may_leave}
-use Rattle.gh_world.specs.Turns.{total_of, turns_of, to_come, Follows, Stands, MayBeOver, is_over, op_due, goroutine_at, statements_among, statements_by, statement_now, next_point}
+use Rattle.gh_world.specs.Order.{goroutine_of}
+use Rattle.gh_world.specs.Processors.{arena_of, has_more, is_of, may_begin}
+use Rattle.gh_world.specs.Turns.{Stands, statements_by, statement_now, next_point}
 use Rattle.gh_world.specs.Wishes.{wishes_of}
-use Rattle.gh_world.specs.World.{actor_after, After, answer_in, answered_in, with_goroutine, counts_after, event_at, event_by, event_of, GoesOn, last_after, MadeAtMost, op_at_turn, points_in, progress_after, setting_of}
-use Rattle.gh_mutator.specs.Listing.{asks, takes}
+use Rattle.gh_world.specs.World.{counts_after, event_at, event_by, GoesOn, last_after, MadeAtMost, op_at_turn, points_in}
+use Rattle.gh_world.proofs.Vocabulary.{acks_of, Actor, actor_after, acts, After, Answer, answer_in, answered_in, asks, Begins, begun_in, bit, by, cell_of, changed, ended_in, ends, Entry, eq-eqb, eqb-false, eqb-true, event_of, Follows, get_or-set_other, get_or-set_same, gives_at, goroutine_at, has_left, has_names, InRange, is_busy_at, is_over, is_point, is_some, is_statement, Layout, leaves, Legal, may_leave, MayBeOver, nat_tests, Next, Op, op_due, option_to_list, Processor, processor_kind, Program, Progress, progress_after, request, set, setting_of, started, state_of, statement_answer, statements_among, StepsAreShown, takes, target, Task, to_come, total_of, turns_of, WellFormed, with_goroutine, words_after, ◌%◌}
 use Rattle.gh_world.proofs.Asking.{all_then, has_wish, same_ended, same_left}
 use Rattle.gh_world.proofs.Due.{both_true, due_goroutine, due_runs, due_statement, ends_is, false_unless, few_statements, has_name_at, leaves_is, none_to_come, not_ended, not_over}
 use Rattle.gh_world.proofs.OneRun.{one_more}

@@ -1,40 +1,23 @@
 -- A processor of the heap asks for a cycle once in an operation, at the begin of its wait, and only a `new` or a `gc` waits.
 use Rattle.std.proofs.Common.{◌≡◌, ℕ, suc, ◌+◌, ◌≤◌, ◌⊎◌, inl, inr, Bool, true, false, cond, refl, ap, arith, List, Option, Some, None}
-use Rattle.gh_base.specs.declared.cell.Ask.{Ask}
-use Rattle.gh_base.specs.declared.cell.Ask.TheVariants.{Add, And, Load, Or, Store, Swap}
-use Rattle.gh_base.specs.declared.cell.Cell.{Cell}
 use Rattle.gh_base.specs.declared.cell.Cell.TheVariants as cell
 use Rattle.gh_base.specs.declared.operation.Op.TheVariants as op
-use Rattle.gh_alloc.specs.declared.sought.Found.{Found}
-use Rattle.gh_alloc.specs.declared.sought.Found.TheVariants.{At, NoRoom}
 use Rattle.gh_alloc.specs.Place as place
 use Rattle.gh_alloc.specs.Search as search
-use Rattle.gh_mutator.specs.declared.new.Wanted.{Wanted}
-use Rattle.gh_mutator.specs.declared.new.NewStage.{NewStage}
-use Rattle.gh_mutator.specs.declared.new.NewStage.TheVariants.{Place, Search, Wait}
-use Rattle.gh_mutator.specs.declared.task.Task.{Task}
 use Rattle.gh_mutator.specs.declared.task.Task.TheVariants as task
-use Rattle.gh_mutator.specs.declared.wait.WaitStage.{WaitStage}
 use Rattle.gh_mutator.specs.declared.wait.WaitStage.TheVariants as waiting
 use Rattle.gh_mutator.specs.Global as global
 use Rattle.gh_mutator.specs.Leave as leave
-use Rattle.gh_mutator.specs.Listing.{after_gc, after_leave, after_poll, asks, begins, begins_at, follows, takes, takes_at}
 use Rattle.gh_mutator.specs.Load as load
 use Rattle.gh_mutator.specs.New as new
 use Rattle.gh_mutator.specs.Poll as poll
 use Rattle.gh_mutator.specs.Register as register
-use Rattle.gh_mutator.specs.Serving.{has_left_at}
-use Rattle.gh_mutator.specs.declared.step.Then.{Then}
-use Rattle.gh_mutator.specs.declared.step.Then.TheVariants.{Ends, GoesOn}
 use Rattle.gh_mutator.specs.Store as store
-use Rattle.gh_mutator.specs.Processor.{cache_span, register_of}
-use Rattle.gh_mutator.specs.Vocabulary.{Leaving, Placing, Polling, Seeking}
 use Rattle.gh_mutator.specs.Wait as wait
-use Rattle.gh_mutator.specs.Writing.{IsWanting, IsWritten, ProcessorWritesItsOwn, WantsAt, WritesOf}
-use Rattle.gh_world.specs.ActorsMark.{Sound}
-use Rattle.gh_world.specs.HoldVocabulary.{Layout, Op, Processor, processor_kind, Shape}
-use Rattle.gh_world.specs.Numbers.{asked_after, asks_for_one}
+use Rattle.gh_mutator.specs.Writing.{WantsAt}
+use Rattle.gh_world.specs.Numbers.{asks_for_one}
 use Rattle.gh_world.specs.Wants.{AsksOncePerOperation, most_asks}
+use Rattle.gh_world.proofs.Vocabulary.{Add, after_gc, after_leave, after_poll, And, Ask, asked_after, asks, At, begins, begins_at, cache_span, Cell, Ends, follows, Found, GoesOn, has_left_at, IsWanting, IsWritten, Layout, Leaving, Load, NewStage, NoRoom, Op, Or, Place, Placing, Polling, Processor, processor_kind, ProcessorWritesItsOwn, register_of, Search, Seeking, Shape, Sound, Store, Swap, takes, takes_at, Task, Then, Wait, WaitStage, Wanted, WritesOf}
 
 -- how often it may still ask
 

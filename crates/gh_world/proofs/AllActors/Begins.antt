@@ -1,35 +1,21 @@
 -- Where a cycle is about to begin the heap is known to marking, and each processor stands still with nothing in hand.
 use Rattle.std.proofs.Common.{◌≡◌, ◌≢◌, inl, ℕ, ◌+◌, ◌^◌, ◌<◌, ◌≤◌, Bool, true, false, cond, refl, sym, ap, subst, ◌∙◌, arith, List, [], length, slice_index_or}
 use Rattle.std.proofs.lemmas.Nat.Bits.{bit_at-zero}
-use Rattle.std.specs.Int.{bit_at}
-use Rattle.std.specs.Prelude.{◌/◌, ◌%◌}
+use Rattle.std.specs.Prelude.{◌/◌}
 use Rattle.gh_base.specs.declared.cell.Cell.TheVariants as cell
-use Rattle.gh_base.specs.declared.limits.TheConstants.{MOST_GOROUTINES, REGISTERS}
-use Rattle.gh_base.specs.declared.pack.TheConstants.{END}
-use Rattle.gh_base.specs.declared.value.Value.{Value}
+use Rattle.gh_base.specs.declared.limits.TheConstants.{MOST_GOROUTINES}
 use Rattle.gh_base.specs.declared.value.Value.TheVariants as value
-use Rattle.gh_base.specs.Rows.{row_bit}
-use Rattle.gh_coord.specs.declared.coord.CoordStage.{CoordStage}
-use Rattle.gh_coord.specs.declared.coord.CoordStage.TheVariants.{Check, Close, Count, Done, LoadAck, LoadWant, MarkOn, Open, Stop, StopAgain, Sweep, Tell, Watch}
 use Rattle.gh_coord.specs.Handshake as leading
-use Rattle.gh_cycle.specs.Opening.{IsAtRest, IsOpened, reference_of}
-use Rattle.gh_heap.specs.Objects.{Means, Place}
-use Rattle.gh_marks.specs.Seats.{Hands, nothing}
-use Rattle.gh_model.specs.declared.EverValue.{EverValue}
+use Rattle.gh_cycle.specs.Opening.{IsAtRest, IsOpened}
+use Rattle.gh_heap.specs.Objects.{Place}
 use Rattle.gh_model.specs.declared.EverValue.TheVariants as ever_value
-use Rattle.gh_mutator.specs.Local.{register_at}
 use Rattle.gh_mutator.specs.MarkFacts.{KnowsStacks}
-use Rattle.gh_mutator.specs.PollHeap.{Stands}
 use Rattle.gh_mutator.specs.ProcessorMarks.{StandsWithNothing}
 use Rattle.gh_phase.specs.declared.view.RunPhase.TheVariants as run
-use Rattle.gh_stack.specs.Facts.{AreRegisters, named}
+use Rattle.gh_stack.specs.Facts.{named}
 use Rattle.gh_world.specs.declared.handshake.Actor.TheVariants as actor
-use Rattle.gh_world.specs.ActorsHold.{HasCursor, HoldsAt, IsAsItShould, IsReady, processor_at}
-use Rattle.gh_world.specs.ActorsMark.{IsMeant, Knows}
-use Rattle.gh_world.specs.HoldVocabulary.{actors_after, Arena, arena, Coordinating, Cycle, Entry, IsInLimits, IsLed, IsOf, Layout, Legal, MarkFacts, Marking, mark_words, Op, Pacing, Processor, processor_kind, Shape, stage_of, view, Words, words}
-use Rattle.gh_world.specs.KeepsToPolls.{those}
-use Rattle.gh_world.specs.Marking.{IsBeginning, MayBegin}
-use Rattle.gh_world.specs.Numbers.{Ahead, ahead_at, Begun, open_part, part_of}
+use Rattle.gh_world.specs.Numbers.{open_part}
+use Rattle.gh_world.proofs.Vocabulary.{actors_after, ahead_at, Arena, arena, AreRegisters, Begun, bit_at, Check, Close, Coordinating, CoordStage, Count, Cycle, Done, END, Entry, EverValue, Hands, HasCursor, HoldsAt, IsAsItShould, IsBeginning, IsInLimits, IsLed, IsMeant, IsOf, IsReady, Knows, Layout, Legal, LoadAck, LoadWant, mark_words, MarkFacts, Marking, MarkOn, MayBegin, Means, nothing, Op, Open, Pacing, part_of, Processor, processor_at, processor_kind, reference_of, register_at, REGISTERS, row_bit, Shape, stage_of, Stands, Stop, StopAgain, Sweep, Tell, those, Value, view, Watch, Words, words, ◌%◌}
 use Rattle.gh_world.proofs.AllActors.Known.{Known, ListsKnown}
 use Rattle.gh_world.proofs.AllActors.Resting.{run_is}
 use Rattle.gh_world.proofs.CycleMarking.Moving.{begin_post}

@@ -1,38 +1,24 @@
 -- Between two cycles what is said of the sweep goes on beside a processor's step: the step that makes an object leaves the bytes of its slot uncounted, and the one that counts them leaves none.
 use Rattle.std.proofs.Common.{◌≡◌, ◌≢◌, ℕ, ◌+◌, ◌*◌, ◌/◌, ◌%◌, ◌^◌, ◌<◌, ◌==◌, Bool, true, false, cond, refl, sym, ap, subst, ◌∙◌, arith, ◌⊎◌, inl, inr, Option, Some, None, eq-eqb}
-use Rattle.std.proofs.lemmas.Bool.Decides.{nat_tests}
-use Rattle.gh_base.specs.declared.cell.Ask.{Ask}
-use Rattle.gh_base.specs.declared.cell.Ask.TheVariants.{Add, And, Load, Or, Store, Swap}
-use Rattle.gh_base.specs.declared.cell.Cell.{Cell}
 use Rattle.gh_base.specs.declared.cell.Cell.TheVariants as cell
-use Rattle.gh_base.specs.declared.pack.SpanHead.{SpanHead}
-use Rattle.gh_base.specs.Cells.{same_cell, seats_of}
-use Rattle.gh_base.specs.Rows.{Row, with_word}
-use Rattle.gh_base.specs.Steps.{cell_of, ChangesOneCell, effect}
+use Rattle.gh_base.specs.Rows.{with_word}
 use Rattle.gh_class.specs.declared.class.SizeClass.{SizeClass}
 use Rattle.gh_class.specs.declared.class.SizeClass.TheVariants.{Large, Small}
 use Rattle.gh_class.specs.Classes.{IsSizeClass, slot_of}
-use Rattle.gh_heap.specs.Moves.{Disown, Ends, FreeBody, FreeHead, IsAside, IsQuiet, LayBody, LayHead, LeaveLock, Make, May, Move, moved, Own, placed_at, Publish, Quiet, Refuse, SetBirth, SetBits, ClearField, TakeLock, Takes, Write, WriteGlobal}
+use Rattle.gh_heap.specs.Moves.{Disown, Ends, FreeBody, FreeHead, IsAside, IsQuiet, LayBody, LayHead, LeaveLock, Make, May, Move, Own, placed_at, Publish, Quiet, Refuse, SetBirth, SetBits, ClearField, TakeLock, Takes, Write, WriteGlobal}
 use Rattle.gh_heap.specs.Rights.{Claims}
 use Rattle.gh_heap.specs.Spans.{is_own_class, number_of}
 use Rattle.gh_cycle.specs.Allocating.{GoesOn, pend_after, SweepStays, TellsInMove, with_count}
-use Rattle.gh_cycle.specs.Sweeping.{with_words}
 use Rattle.gh_sweep.specs.Listing.{slot_bytes_of}
 use Rattle.gh_sweep.specs.Shared.{InSpan}
 use Rattle.gh_model.specs.Ever.{next_name}
-use Rattle.gh_alloc.specs.declared.place.PlaceStage.{PlaceStage}
 use Rattle.gh_alloc.specs.declared.place.PlaceStage.TheVariants as making
 use Rattle.gh_alloc.specs.Place as place
-use Rattle.gh_alloc.specs.Place.{Placing}
 use Rattle.gh_alloc.specs.PlaceFacts as facts_of
-use Rattle.gh_mutator.specs.declared.new.NewStage.TheVariants.{Place}
-use Rattle.gh_mutator.specs.declared.new.Wanted.{Wanted}
 use Rattle.gh_mutator.specs.declared.task.Task.TheVariants as task
-use Rattle.gh_mutator.specs.Deeds.{acted}
 use Rattle.gh_mutator.specs.Facts.{Does, FactsAt, for_whom}
-use Rattle.gh_mutator.specs.Listing.{acts, acts_at, asks, is_busy_at, takes, takes_at}
-use Rattle.gh_world.specs.ActorsHold.{uncounted}
-use Rattle.gh_world.specs.HoldVocabulary.{Answer, Arena, CycleEnd, Ever, Fine, Good, Heap, IsCalm, IsSound, MarksNothing, Name, page_words, Processor, slot_row, Spans, Task, View, view, Words}
+use Rattle.gh_world.specs.HoldVocabulary.{IsCalm, View}
+use Rattle.gh_world.proofs.Vocabulary.{acted, acts, acts_at, Add, And, Answer, Arena, Ask, asks, Cell, cell_of, ChangesOneCell, CycleEnd, effect, Ever, Fine, Good, Heap, is_busy_at, IsSound, Load, MarksNothing, moved, Name, nat_tests, Or, page_words, Place, PlaceStage, Placing, Processor, Row, same_cell, seats_of, slot_row, SpanHead, Spans, Store, Swap, takes, takes_at, Task, uncounted, view, Wanted, with_words, Words}
 use Rattle.gh_world.proofs.AllActors.Known.{Known}
 use Rattle.gh_world.proofs.AllActors.Placing.{Counts, Keeps, kind, Makes}
 

@@ -1,41 +1,20 @@
 -- A goroutine ends with the step of its end alone, and has ended for good. A processor that leaves does nothing else any more.
 use Rattle.std.proofs.Common.{◌≡◌, ℕ, ◌==◌, ◌⊎◌, inl, inr, Bool, true, false, cond, refl, sym, ap, ◌∙◌, arith, List, Option, Some, None, eq-eqb}
-use Rattle.std.proofs.lemmas.Bool.Decides.{nat_tests}
-use Rattle.std.specs.Prelude.{is_some}
 use Rattle.gh_base.specs.declared.operation.Op.TheVariants as op
-use Rattle.gh_base.specs.declared.value.Answer.{Answer}
-use Rattle.gh_model.specs.Ever.{Ever, ever_after}
-use Rattle.gh_alloc.specs.declared.sought.Found.{Found}
-use Rattle.gh_alloc.specs.declared.sought.Found.TheVariants.{At, NoRoom}
 use Rattle.gh_alloc.specs.Place as place
 use Rattle.gh_alloc.specs.Search as search
-use Rattle.gh_mutator.specs.declared.global.Global.{Global}
-use Rattle.gh_mutator.specs.declared.global.GlobalStage.{GlobalStage}
 use Rattle.gh_mutator.specs.declared.global.GlobalStage.TheVariants as global_stage
-use Rattle.gh_mutator.specs.declared.new.NewStage.{NewStage}
-use Rattle.gh_mutator.specs.declared.new.NewStage.TheVariants.{Place, Search, Wait}
-use Rattle.gh_mutator.specs.declared.new.Wanted.{Wanted}
-use Rattle.gh_mutator.specs.declared.register.Register.{Register}
-use Rattle.gh_mutator.specs.declared.register.Source.{Source}
 use Rattle.gh_mutator.specs.declared.register.Source.TheVariants as source
-use Rattle.gh_mutator.specs.declared.step.Then.{Then}
-use Rattle.gh_mutator.specs.declared.step.Then.TheVariants.{Ends, GoesOn}
-use Rattle.gh_mutator.specs.declared.task.Task.{Task}
 use Rattle.gh_mutator.specs.declared.task.Task.TheVariants as task
-use Rattle.gh_mutator.specs.Deeds.{acted, answer_at}
 use Rattle.gh_mutator.specs.Global as global
 use Rattle.gh_mutator.specs.Leave as leave
-use Rattle.gh_mutator.specs.Listing.{Act, acting, acts, acts_at, after_gc, after_poll, begins_at, follows, is_busy_at, takes_at}
 use Rattle.gh_mutator.specs.Load as load
 use Rattle.gh_mutator.specs.New as new
 use Rattle.gh_mutator.specs.Poll as poll
-use Rattle.gh_mutator.specs.Processor.{cache_span, register_of}
 use Rattle.gh_mutator.specs.Register as register
 use Rattle.gh_mutator.specs.Store as store
-use Rattle.gh_mutator.specs.Vocabulary.{Placing, Polling, Seeking}
 use Rattle.gh_mutator.specs.Wait as wait
-use Rattle.gh_world.specs.ActorsHold.{is_last_task}
-use Rattle.gh_world.specs.HoldVocabulary.{Op, Processor, Shape}
+use Rattle.gh_world.proofs.Vocabulary.{Act, acted, acting, acts, acts_at, after_gc, after_poll, Answer, answer_at, At, begins_at, cache_span, Ends, Ever, ever_after, follows, Found, Global, GlobalStage, GoesOn, is_busy_at, is_last_task, is_some, nat_tests, NewStage, NoRoom, Op, Place, Placing, Polling, Processor, Register, register_of, Search, Seeking, Shape, Source, takes_at, Task, Then, Wait, Wanted}
 use Rattle.gh_world.proofs.AllActors.Beginning.{ends-by, keeps-end, makes-end, sets-end, stores-end}
 
 -- Its step is that of its end, or is not.

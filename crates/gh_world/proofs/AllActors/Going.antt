@@ -1,27 +1,16 @@
 -- The coordinator is never seen where its ending of marking has ended: with its last step it goes on to sweep.
 use Rattle.std.proofs.Common.{◌≡◌, ℕ, ◌+◌, ◌==◌, Bool, true, false, cond, ltb, refl, sym, ap, subst, ◌∙◌, arith, List, [], ◌∷◌, Option, Some, None}
-use Rattle.std.proofs.lemmas.Bool.Decides.{nat_tests}
-use Rattle.std.specs.Prelude.{nat_lt}
-use Rattle.gh_base.specs.declared.pack.TheConstants.{GONE}
-use Rattle.gh_coord.specs.declared.close.CloseStage.{CloseStage}
 use Rattle.gh_coord.specs.declared.close.CloseStage.TheVariants as close_stage
-use Rattle.gh_coord.specs.declared.coord.CoordStage.{CoordStage}
-use Rattle.gh_coord.specs.declared.coord.CoordStage.TheVariants.{Check, Close, Count, Done, LoadAck, LoadWant, MarkOn, Open, Stop, StopAgain, Sweep, Tell, Watch}
-use Rattle.gh_coord.specs.declared.watch.Watched.{Watched}
-use Rattle.gh_coord.specs.declared.watch.Watched.TheVariants.{All, NotYet}
-use Rattle.gh_coord.specs.declared.count.Counted.{Counted}
 use Rattle.gh_coord.specs.Closing as close
 use Rattle.gh_coord.specs.Counting as count
 use Rattle.gh_coord.specs.Listing as coord
-use Rattle.gh_coord.specs.Listing.{after_check, after_close, after_count, after_open, after_stop, after_stop_again, after_sweep, after_tell, after_watch, at_stage, Coordinating, counted, goes, goes_at, stops_world}
 use Rattle.gh_coord.specs.Opening as open_
 use Rattle.gh_coord.specs.Stopping as stop
 use Rattle.gh_coord.specs.SweepingAll as sweep
 use Rattle.gh_coord.specs.Telling as tell
 use Rattle.gh_coord.specs.Watching as watch
-use Rattle.gh_world.specs.declared.handshake.Actor.{Actor}
 use Rattle.gh_world.specs.declared.handshake.Actor.TheVariants as actor
-use Rattle.gh_world.specs.HoldVocabulary.{acks_of, actors_after, arena, Entry, IsLed, Layout, Op, Pacing, Processor, processor_kind, Shape}
+use Rattle.gh_world.proofs.Vocabulary.{acks_of, Actor, actors_after, after_check, after_close, after_count, after_open, after_stop, after_stop_again, after_sweep, after_tell, after_watch, All, arena, at_stage, Check, Close, CloseStage, Coordinating, CoordStage, Count, Counted, counted, Done, Entry, goes, goes_at, GONE, IsLed, Layout, LoadAck, LoadWant, MarkOn, nat_lt, nat_tests, NotYet, Op, Open, Pacing, Processor, processor_kind, Shape, Stop, StopAgain, stops_world, Sweep, Tell, Watch, Watched}
 use Rattle.gh_world.proofs.CycleMarking.Seats.{leads, other}
 
 -- where it ends marking it has a step to make

@@ -1,8 +1,6 @@
 -- What lower crates say, as the lemmas of lists of all actors use it.
 use Rattle.std.proofs.Common.{ℕ, Bool, List, ◌∷◌}
-use Rattle.gh_base.specs.Steps.{ChangesOneCell}
 use Rattle.gh_heap.specs.Laws.{EachFactLasts, EachMoveKeeps, EachMoveLeaves, TheHeapIsApart}
-use Rattle.gh_marks.specs.Laws.{MarkingBegins}
 use Rattle.gh_sweep.specs.Runs.{EachCountIsExact}
 use Rattle.gh_sweep.specs.Sweepers.{SweepsAmongOthers}
 use Rattle.gh_cycle.specs.Allocating.{AllocationGoesOn, CalmIsFound, CalmLasts, CountedLasts}
@@ -14,18 +12,11 @@ use Rattle.gh_cycle.specs.Sweeping.{CountsAreTold, OnlyTheReachedAreLeft, Sweepi
 use Rattle.gh_mutator.specs.Calm.{CalmProcessorsMarkNothing}
 use Rattle.gh_mutator.specs.Deeds.{OnlyPointsChange, ProcessorsDeedsFit}
 use Rattle.gh_mutator.specs.ProcessorMarks.{MarksByMoves}
-use Rattle.gh_mutator.specs.ProcessorPlaces.{party_of, ProcessorInHandshake, stage_of}
 use Rattle.gh_mutator.specs.Runs.{RunsByItsRights}
-use Rattle.gh_mutator.specs.Writing.{ProcessorWritesItsOwn, StacksAreNoted}
-use Rattle.gh_worker.specs.Writing.{CalmWorkersMarkNothing, WorkersWriteTheirOwn}
-use Rattle.gh_world.specs.ActorsMark.{Sound}
-use Rattle.gh_world.specs.Handshake.{KeepsIt, StepKeepsIt}
-use Rattle.gh_world.specs.HoldVocabulary.{Entry, IsLed, Layout, Legal, Op, Pacing, Shape}
-use Rattle.gh_world.specs.KeepsToPolls.{those}
-use Rattle.gh_world.specs.Numbers.{CountsCycles, IsFew}
+use Rattle.gh_mutator.specs.Writing.{StacksAreNoted}
+use Rattle.gh_worker.specs.Writing.{CalmWorkersMarkNothing}
 use Rattle.gh_world.specs.Waits.{StacksAreNumbered, WorkersRest}
-use Rattle.gh_base.specs.Lists.{words_after}
-use Rattle.gh_coord.specs.Listing.{Coordinating}
+use Rattle.gh_world.proofs.Vocabulary.{ChangesOneCell, Coordinating, CountsCycles, Entry, IsFew, IsLed, KeepsIt, Layout, Legal, MarkingBegins, Op, Pacing, party_of, ProcessorInHandshake, ProcessorWritesItsOwn, Shape, Sound, stage_of, StepKeepsIt, those, words_after, WorkersWriteTheirOwn}
 
 -- of steps and moves
 pub record Known : Type 0 where

@@ -1,16 +1,7 @@
 -- The coordinator between two cycles, and while it opens one: what holds behind each of its steps, up to the store of the phase of marking.
 use Rattle.std.proofs.Common.{◌≡◌, ◌⊎◌, inl, inr, ℕ, ◌+◌, ◌<◌, ◌≤◌, ◌==◌, Bool, true, false, cond, ltb, refl, sym, ap, subst, ◌∙◌, arith, List, ◌∷◌, Option, Some, None}
-use Rattle.std.proofs.lemmas.Bool.Decides.{nat_tests}
-use Rattle.gh_base.specs.declared.cell.Ask.{Ask}
 use Rattle.gh_base.specs.declared.cell.Cell.TheVariants as cell
-use Rattle.gh_base.specs.declared.pack.TheConstants.{END, GONE}
-use Rattle.gh_base.specs.Cells.{Words}
-use Rattle.gh_base.specs.Steps.{effect}
-use Rattle.gh_coord.specs.declared.coord.CoordStage.{CoordStage}
-use Rattle.gh_coord.specs.declared.coord.CoordStage.TheVariants.{LoadAck, LoadWant, Open, Stop}
-use Rattle.gh_coord.specs.declared.open.OpenStage.{OpenStage}
 use Rattle.gh_coord.specs.declared.open.OpenStage.TheVariants as opening
-use Rattle.gh_coord.specs.declared.stop.StopStage.{StopStage}
 use Rattle.gh_coord.specs.declared.stop.StopStage.TheVariants as stopping
 use Rattle.gh_coord.specs.Handshake as leading
 use Rattle.gh_coord.specs.Listing as coord
@@ -18,12 +9,8 @@ use Rattle.gh_coord.specs.Opening as opens_by
 use Rattle.gh_coord.specs.Stopping as stop
 use Rattle.gh_cycle.specs.Allocating.{IsFoundCalm}
 use Rattle.gh_phase.specs.declared.view.RunPhase.TheVariants as run
-use Rattle.gh_phase.specs.Handshake.{Stopped}
-use Rattle.gh_world.specs.Numbers.{ahead_at, part_of}
-use Rattle.gh_world.specs.Handshake.{Pacing}
-use Rattle.gh_world.specs.ActorsHold.{HasCursor, HoldsAt, IsOpening, IsQuiet, IsReady}
-use Rattle.gh_world.specs.HoldVocabulary.{acks_of, arena, Arena, Coordinating, Entry, IsLed, Layout, Legal, Op, Shape, words}
-use Rattle.gh_world.specs.KeepsToPolls.{those}
+use Rattle.gh_world.specs.ActorsHold.{IsOpening}
+use Rattle.gh_world.proofs.Vocabulary.{acks_of, ahead_at, Arena, arena, Ask, Coordinating, CoordStage, effect, END, Entry, GONE, HasCursor, HoldsAt, IsLed, IsQuiet, IsReady, Layout, Legal, LoadAck, LoadWant, nat_tests, Op, Open, OpenStage, Pacing, part_of, Shape, Stop, Stopped, StopStage, those, Words, words}
 use Rattle.gh_world.proofs.AllActors.Aside.{IsAside, loads, loads_only, phase_only, stores_begun, stores_cursor, stores_live, stores_phase, stores_slack, stores_tally, stores_trigger, stores_want, stores_work, TellsNothing}
 use Rattle.gh_world.proofs.AllActors.Known.{Known, ListsKnown}
 use Rattle.gh_world.proofs.AllActors.LeadingSeat.{asked_at, from, is_still, led_then, goes_at as goes_by, owes_nothing}

@@ -1,33 +1,18 @@
 -- The store of the next sweep generation ends a cycle: what holds then is what the sweep begins with.
 use Rattle.std.proofs.Common.{◌≡◌, ◌≢◌, ◌⊎◌, inl, inr, ℕ, ◌+◌, ◌*◌, ◌^◌, ◌<◌, ◌≤◌, Bool, refl, sym, ap, subst, ◌∙◌, arith, List, ◌∷◌}
-use Rattle.gh_base.specs.declared.cell.Ask.TheVariants.{Store}
 use Rattle.gh_base.specs.declared.cell.Cell.TheVariants as cell
-use Rattle.gh_base.specs.declared.pack.PageWord.{PageWord}
-use Rattle.gh_base.specs.declared.pack.PageWord.TheVariants.{Body, Free, Head}
-use Rattle.gh_base.specs.declared.pack.TheConstants.{END}
-use Rattle.gh_base.specs.Cells.{put, Words}
-use Rattle.gh_base.specs.Steps.{effect}
 use Rattle.gh_coord.specs.declared.close.CloseStage.TheVariants as closing
-use Rattle.gh_coord.specs.declared.coord.CoordStage.{CoordStage}
-use Rattle.gh_coord.specs.declared.coord.CoordStage.TheVariants.{Close}
 use Rattle.gh_coord.specs.Closing as close
 use Rattle.gh_coord.specs.Handshake as leading
 use Rattle.gh_coord.specs.Listing as coord
-use Rattle.gh_coord.specs.Stopping.{acks_of}
 use Rattle.gh_coord.specs.SweepingAll as over_all
 use Rattle.gh_cycle.specs.Ending.{end_of, IsOver, with_next_generation}
-use Rattle.gh_cycle.specs.Sweeping.{with_words}
 use Rattle.gh_phase.specs.declared.view.RunPhase.TheVariants as run
-use Rattle.gh_phase.specs.Handshake.{Stopped}
-use Rattle.gh_sweep.specs.Runs.{at_end, far_in}
-use Rattle.gh_world.specs.Handshake.{Pacing, Sound as ActorSound}
-use Rattle.gh_world.specs.Actors.{IsEnding}
-use Rattle.gh_world.specs.ActorsHold.{EndedSo, IsInCycle, IsSweeping, IsToBegin, processor_at, SweepsAll}
-use Rattle.gh_world.specs.ActorsMark.{IsMeant, Knows, Sound}
-use Rattle.gh_world.specs.HoldVocabulary.{alloc_words, arena, Arena, By, Coordinating, Cycle, CycleEnd, Entry, Heap, IsBeginning, IsCounted, IsInLimits, IsLed, Layout, Legal, MarkFacts, Marking, mark_words, MarksNothing, Op, page_of, processor_kind, Shape, ShapesAreGood, Spans, stage_of, SweepsBeside, words}
-use Rattle.gh_world.specs.KeepsToPolls.{those}
-use Rattle.gh_world.specs.Marking.{MarksToTheEnd}
-use Rattle.gh_world.specs.Numbers.{ahead_at, Checked, close_part, IsLiveClear, IsTallyClear, Part, part_of}
+use Rattle.gh_sweep.specs.Runs.{at_end}
+use Rattle.gh_world.specs.Handshake.{Sound as ActorSound}
+use Rattle.gh_world.specs.HoldVocabulary.{IsCounted}
+use Rattle.gh_world.specs.Numbers.{IsLiveClear, IsTallyClear}
+use Rattle.gh_world.proofs.Vocabulary.{acks_of, ahead_at, alloc_words, Arena, arena, Body, By, Checked, Close, close_part, Coordinating, CoordStage, Cycle, CycleEnd, effect, END, EndedSo, Entry, far_in, Free, Head, Heap, IsBeginning, IsEnding, IsInCycle, IsInLimits, IsLed, IsMeant, IsSweeping, IsToBegin, Knows, Layout, Legal, mark_words, MarkFacts, Marking, MarksNothing, MarksToTheEnd, Op, Pacing, page_of, PageWord, Part, part_of, processor_at, processor_kind, put, Shape, ShapesAreGood, Sound, Spans, stage_of, Stopped, Store, SweepsAll, SweepsBeside, those, with_words, Words, words}
 use Rattle.gh_world.proofs.AllActors.Known.{Known, ListsKnown}
 use Rattle.gh_world.proofs.AllActors.LeadingEnds.{arena_is, buffers, cycle_there, facts, good_there, none_placing, post, reached_are_marked, still_at}
 use Rattle.gh_world.proofs.AllActors.LeadingSeat.{asked_at, from, is_still}

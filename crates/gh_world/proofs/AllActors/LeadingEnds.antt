@@ -1,43 +1,17 @@
 -- Where a cycle's marking ends: nobody has anything in hand, the marked objects are those that a script reaches, and with the store of the next sweep generation they are swept.
 use Rattle.std.proofs.Common.{◌≡◌, ◌≢◌, ℕ, zero, suc, ◌-◌, ◌%◌, ◌<◌, Bool, true, false, refl, sym, ap, subst, ◌∙◌, arith, List, [], slice_index_or, Some, None}
-use Rattle.std.proofs.lemmas.Nat.{mod_below}
 use Rattle.gh_base.specs.declared.cell.Cell.TheVariants as cell
-use Rattle.gh_base.specs.declared.limits.TheConstants.{REGISTERS}
-use Rattle.gh_base.specs.declared.pack.PageWord.{PageWord}
-use Rattle.gh_base.specs.declared.pack.PageWord.TheVariants.{Body, Free, Head}
-use Rattle.gh_base.specs.declared.pack.TheConstants.{END}
-use Rattle.gh_base.specs.Cells.{Words}
-use Rattle.gh_base.specs.Holding.{holder_in}
-use Rattle.gh_base.specs.Rows.{Row}
 use Rattle.gh_base.specs.Shapes.{ShapesFit}
-use Rattle.gh_coord.specs.declared.coord.CoordStage.TheVariants.{Close}
 use Rattle.gh_coord.specs.Closing as close
 use Rattle.gh_coord.specs.Handshake as leading
 use Rattle.gh_cycle.specs.Marked.{RegistersFit}
-use Rattle.gh_cycle.specs.Opening.{reference_of}
 use Rattle.gh_cycle.specs.Reached.{IsReachedAt}
-use Rattle.gh_heap.specs.Objects.{Means}
 use Rattle.gh_marks.specs.Colours.{IsGrey, IsMarked, Placing}
-use Rattle.gh_marks.specs.Seats.{Hands, nothing}
-use Rattle.gh_model.specs.Ever.{Ever}
-use Rattle.gh_mutator.specs.Local.{register_at}
-use Rattle.gh_mutator.specs.PollHeap.{Stands}
 use Rattle.gh_phase.specs.declared.view.RunPhase.TheVariants as run
-use Rattle.gh_phase.specs.Handshake.{Stopped}
-use Rattle.gh_phase.specs.Shakes.{IsParked}
-use Rattle.gh_stack.specs.Facts.{AreRegisters}
-use Rattle.gh_sweep.specs.Runs.{far_in}
 use Rattle.gh_worker.specs.Listing as worker
 use Rattle.gh_worker.specs.MarkFacts as worker_marks
-use Rattle.gh_world.specs.declared.handshake.Actor.{Actor}
 use Rattle.gh_world.specs.declared.handshake.Actor.TheVariants as actor
-use Rattle.gh_world.specs.Handshake.{Pacing, WaitsWithNone}
-use Rattle.gh_world.specs.Actors.{EndsMarked, IsMarkedObject}
-use Rattle.gh_world.specs.ActorsHold.{IsHeapOf, IsKnown, processor_at}
-use Rattle.gh_world.specs.ActorsMark.{IsMeant, Knows}
-use Rattle.gh_world.specs.HoldVocabulary.{acks_of, actors_after, alloc_words, arena, Arena, birth_words, By, Coordinating, Cycle, Entry, ever, Good, Heap, IsBounded, IsCycleOf, IsInLimits, IsLed, IsMade, IsOf, Layout, Legal, MarkFacts, Marking, mark_words, Name, Op, Placed, Processor, processor_kind, Reach, row_bit, Shape, ShapesAreGood, stage_of, view, words}
-use Rattle.gh_world.specs.KeepsToPolls.{those}
-use Rattle.gh_world.specs.Marking.{EndsClean, IsChecked, MarksToTheEnd}
+use Rattle.gh_world.proofs.Vocabulary.{acks_of, Actor, actors_after, alloc_words, Arena, arena, AreRegisters, birth_words, Body, By, Close, Coordinating, Cycle, END, EndsClean, EndsMarked, Entry, Ever, ever, far_in, Free, Good, Hands, Head, Heap, holder_in, IsBounded, IsChecked, IsCycleOf, IsHeapOf, IsInLimits, IsKnown, IsLed, IsMade, IsMarkedObject, IsMeant, IsOf, IsParked, Knows, Layout, Legal, mark_words, MarkFacts, Marking, MarksToTheEnd, Means, mod_below, Name, nothing, Op, Pacing, PageWord, Placed, Processor, processor_at, processor_kind, Reach, reference_of, register_at, REGISTERS, Row, row_bit, Shape, ShapesAreGood, stage_of, Stands, Stopped, those, view, WaitsWithNone, Words, words}
 use Rattle.gh_world.proofs.AllActors.Begins.{same_name}
 use Rattle.gh_world.proofs.AllActors.Known.{Known, ListsKnown}
 use Rattle.gh_world.proofs.AllActors.LeadingNames.{placed_there}

@@ -1,11 +1,5 @@
 -- The cycles that the coordinator keeps behind its step are those that were counted; and where it is done with its step, what is left is what a script reaches.
 use Rattle.std.proofs.Common.{◌≡◌, ◌≢◌, ℕ, ◌+◌, ◌==◌, Bool, true, false, cond, ltb, refl, subst, List, ◌∷◌, slice_get, Option, Some, None}
-use Rattle.gh_base.specs.declared.pack.TheConstants.{GONE}
-use Rattle.gh_coord.specs.declared.coord.CoordStage.{CoordStage}
-use Rattle.gh_coord.specs.declared.coord.CoordStage.TheVariants.{Check, Close, Count, Done, LoadAck, LoadWant, MarkOn, Open, Stop, StopAgain, Sweep, Tell, Watch}
-use Rattle.gh_coord.specs.declared.count.Counted.{Counted}
-use Rattle.gh_coord.specs.declared.watch.Watched.{Watched}
-use Rattle.gh_coord.specs.declared.watch.Watched.TheVariants.{All, NotYet}
 use Rattle.gh_coord.specs.Closing as close
 use Rattle.gh_coord.specs.Counting as count
 use Rattle.gh_coord.specs.Keeping.{Kept}
@@ -15,10 +9,8 @@ use Rattle.gh_coord.specs.Stopping as stop
 use Rattle.gh_coord.specs.SweepingAll as over
 use Rattle.gh_coord.specs.Telling as tell
 use Rattle.gh_coord.specs.Watching as watch
-use Rattle.gh_world.specs.Handshake.{Pacing}
-use Rattle.gh_world.specs.ActorsHold.{HoldsAt}
-use Rattle.gh_world.specs.HoldVocabulary.{acks_of, AllWereCounted, Coordinating, EndsAllMarked, Entry, IsInLimits, IsLed, Layout, LeavesTheReached, Legal, Op, Shape}
-use Rattle.gh_world.specs.KeepsToPolls.{those}
+use Rattle.gh_world.specs.HoldVocabulary.{AllWereCounted}
+use Rattle.gh_world.proofs.Vocabulary.{acks_of, All, Check, Close, Coordinating, CoordStage, Count, Counted, Done, EndsAllMarked, Entry, GONE, HoldsAt, IsInLimits, IsLed, Layout, LeavesTheReached, Legal, LoadAck, LoadWant, MarkOn, NotYet, Op, Open, Pacing, Shape, Stop, StopAgain, Sweep, Tell, those, Watch, Watched}
 use Rattle.gh_world.proofs.AllActors.Known.{Known, ListsKnown}
 use Rattle.gh_world.proofs.AllActors.LeadingLast.{leaves}
 use Rattle.gh_world.proofs.AllActors.LeadingSeat.{busy, goes_at as goes_by, led_then}

@@ -1,42 +1,18 @@
 -- Once all is over: every processor is gone, so each goroutine has ended, and the objects that stand are those that a script reaches.
 use Rattle.std.proofs.Common.{◌≡◌, ◌≢◌, ◌↔◌, ℕ, ◌*◌, ◌%◌, ◌<◌, Bool, true, refl, sym, ap, subst, ◌∙◌, arith, List, [], ◌∷◌}
-use Rattle.std.proofs.lemmas.Nat.{mod_below}
-use Rattle.gh_base.specs.declared.cell.Ask.{Ask}
-use Rattle.gh_base.specs.declared.cell.Ask.TheVariants.{Store}
 use Rattle.gh_base.specs.declared.cell.Cell.TheVariants as cell
-use Rattle.gh_base.specs.declared.machine.Entry.{Entry}
-use Rattle.gh_base.specs.Cells.{Words}
-use Rattle.gh_base.specs.Steps.{effect}
-use Rattle.gh_coord.specs.declared.coord.CoordStage.{CoordStage}
-use Rattle.gh_coord.specs.declared.coord.CoordStage.TheVariants.{Check, Close, Count, Done, LoadAck, LoadWant, MarkOn, Open, Stop, StopAgain, Sweep, Tell, Watch}
 use Rattle.gh_coord.specs.Closing as close
 use Rattle.gh_coord.specs.Handshake as leading
 use Rattle.gh_coord.specs.Listing as coord
-use Rattle.gh_model.specs.Ever.{Ever}
-use Rattle.gh_mutator.specs.declared.poll.PollStage.{PollStage}
 use Rattle.gh_mutator.specs.declared.poll.PollStage.TheVariants as poll_stage
 use Rattle.gh_mutator.specs.declared.new.NewStage.TheVariants as new
 use Rattle.gh_mutator.specs.declared.task.Task.TheVariants as task
-use Rattle.gh_mutator.specs.declared.wait.WaitStage.{WaitStage}
 use Rattle.gh_mutator.specs.declared.wait.WaitStage.TheVariants as wait_stage
-use Rattle.gh_mutator.specs.Handshake.{polls_at, waits_at}
-use Rattle.gh_mutator.specs.ProcessorPlaces.{new_stage_at, party_of, stage_at}
-use Rattle.gh_mutator.specs.Vocabulary.{Polling}
-use Rattle.gh_mutator.specs.Wait.{waiting, Waiting}
-use Rattle.gh_phase.specs.declared.resume.ResumeStage.{ResumeStage}
 use Rattle.gh_phase.specs.declared.resume.ResumeStage.TheVariants as resume_stage
 use Rattle.gh_phase.specs.declared.view.RunPhase.TheVariants as run
-use Rattle.gh_phase.specs.Handshake.{Gone, last_of, Lead, Leads}
 use Rattle.gh_phase.specs.ResumePlaces.{stands_at}
-use Rattle.gh_phase.specs.Shakes.{last_phase}
-use Rattle.gh_sweep.specs.Shared.{placed}
-use Rattle.gh_world.specs.Handshake.{Pacing, place_of}
-use Rattle.gh_world.specs.Actors.{EndsCycle, IsEnding, IsMarkedObject, IsStepIn}
-use Rattle.gh_world.specs.ActorsHold.{IsJustSwept, IsQuiet, is_last_task, processor_at}
-use Rattle.gh_world.specs.HoldVocabulary.{alloc_words, arena, Arena, birth_words, Coordinating, EndsAllMarked, ever, Heap, IsInLimits, IsLed, IsMade, IsOf, IsStartOf, Layout, LeavesTheReached, Legal, Name, NewStage, Op, page_words, Placed, Reach, Shape, slot_row, stage_of, Task, view, words}
-use Rattle.gh_world.specs.KeepsToPolls.{those}
-use Rattle.gh_world.specs.Numbers.{part_of, IsLiveCounted}
-use Rattle.gh_world.specs.Processors.{IsPlacedAt}
+use Rattle.gh_world.specs.Numbers.{IsLiveCounted}
+use Rattle.gh_world.proofs.Vocabulary.{alloc_words, Arena, arena, Ask, birth_words, Check, Close, Coordinating, CoordStage, Count, Done, effect, EndsAllMarked, EndsCycle, Entry, Ever, ever, Gone, Heap, is_last_task, IsEnding, IsInLimits, IsJustSwept, IsLed, IsMade, IsMarkedObject, IsOf, IsPlacedAt, IsQuiet, IsStartOf, IsStepIn, last_of, last_phase, Layout, Lead, Leads, LeavesTheReached, Legal, LoadAck, LoadWant, MarkOn, mod_below, Name, new_stage_at, NewStage, Op, Open, Pacing, page_words, part_of, party_of, place_of, Placed, placed, Polling, polls_at, PollStage, processor_at, Reach, ResumeStage, Shape, slot_row, stage_at, stage_of, Stop, StopAgain, Store, Sweep, Task, Tell, those, view, Waiting, waiting, waits_at, WaitStage, Watch, Words, words}
 use Rattle.gh_world.proofs.AllActors.Known.{Known, ListsKnown}
 use Rattle.gh_world.proofs.AllActors.LeadingNames.{placed_there}
 use Rattle.gh_world.proofs.AllActors.LeadingNumbers.{ends_once, legal_start}

@@ -1,25 +1,12 @@
 -- A cycle begins once, ends once and is swept once: by the numbers of cycles, which only rise.
 use Rattle.std.proofs.Common.{◌≡◌, ◌⊎◌, inl, inr, ℕ, ◌+◌, ◌≤◌, ◌==◌, Bool, true, false, refl, sym, ap, subst, ◌∙◌, arith, List, [], ◌∷◌}
-use Rattle.std.proofs.lemmas.Bool.Decides.{nat_tests}
-use Rattle.gh_base.specs.declared.cell.Ask.{Ask}
 use Rattle.gh_base.specs.declared.cell.Cell.TheVariants as cell
-use Rattle.gh_base.specs.Cells.{Words}
-use Rattle.gh_base.specs.Steps.{effect}
-use Rattle.gh_coord.specs.declared.close.CloseStage.{CloseStage}
 use Rattle.gh_coord.specs.declared.close.CloseStage.TheVariants as close_stage
-use Rattle.gh_coord.specs.declared.coord.CoordStage.{CoordStage}
-use Rattle.gh_coord.specs.declared.coord.CoordStage.TheVariants.{Check, Close, Count, Done, LoadAck, LoadWant, MarkOn, Open, Stop, StopAgain, Sweep, Tell, Watch}
-use Rattle.gh_coord.specs.declared.count.CountStage.{CountStage}
 use Rattle.gh_coord.specs.declared.count.CountStage.TheVariants as count_stage
-use Rattle.gh_coord.specs.declared.open.OpenStage.{OpenStage}
 use Rattle.gh_coord.specs.declared.open.OpenStage.TheVariants as open_stage
-use Rattle.gh_coord.specs.declared.stop.StopStage.{StopStage}
 use Rattle.gh_coord.specs.declared.stop.StopStage.TheVariants as stop_stage
-use Rattle.gh_coord.specs.declared.sweep_all.SweepAllStage.{SweepAllStage}
 use Rattle.gh_coord.specs.declared.sweep_all.SweepAllStage.TheVariants as all
-use Rattle.gh_coord.specs.declared.tell.TellStage.{TellStage}
 use Rattle.gh_coord.specs.declared.tell.TellStage.TheVariants as tell_stage
-use Rattle.gh_coord.specs.declared.watch.WatchStage.{WatchStage}
 use Rattle.gh_coord.specs.declared.watch.WatchStage.TheVariants as watch_stage
 use Rattle.gh_coord.specs.Closing as close
 use Rattle.gh_coord.specs.Counting as count
@@ -29,11 +16,8 @@ use Rattle.gh_coord.specs.Stopping as stop
 use Rattle.gh_coord.specs.SweepingAll as over
 use Rattle.gh_coord.specs.Telling as tell
 use Rattle.gh_coord.specs.Watching as watch
-use Rattle.gh_world.specs.Handshake.{Pacing}
-use Rattle.gh_world.specs.Actors.{EndsCycle, IsEnding, IsTelling, SweepsCycle}
-use Rattle.gh_world.specs.HoldVocabulary.{acks_of, Coordinating, Entry, IsBeginning, IsLed, IsStartOf, Layout, Legal, Op, processor_kind, Shape, words}
-use Rattle.gh_world.specs.KeepsToPolls.{those}
-use Rattle.gh_world.specs.Numbers.{ahead_at, generation_of, opened_in, part_of}
+use Rattle.gh_world.specs.Actors.{IsTelling, SweepsCycle}
+use Rattle.gh_world.proofs.Vocabulary.{acks_of, ahead_at, Ask, Check, Close, CloseStage, Coordinating, CoordStage, Count, CountStage, Done, effect, EndsCycle, Entry, generation_of, IsBeginning, IsEnding, IsLed, IsStartOf, Layout, Legal, LoadAck, LoadWant, MarkOn, nat_tests, Op, Open, opened_in, OpenStage, Pacing, part_of, processor_kind, Shape, Stop, StopAgain, StopStage, Sweep, SweepAllStage, Tell, TellStage, those, Watch, WatchStage, Words, words}
 use Rattle.gh_world.proofs.AllActors.Known.{Known, ListsKnown}
 use Rattle.gh_world.proofs.AllActors.LeadingSeat.{asked_at, goes_at as goes_by, led_then}
 use Rattle.gh_world.proofs.AllActors.LeadingSweep.{numbers_stay}

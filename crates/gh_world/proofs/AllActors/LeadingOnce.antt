@@ -1,14 +1,6 @@
 -- A cycle begins once: from the store of its phase on the coordinator opens none before the next request is cleared.
 use Rattle.std.proofs.Common.{◌≡◌, ◌⊎◌, inl, inr, ℕ, suc, ◌+◌, ◌≤◌, ◌==◌, Bool, true, false, cond, refl, sym, ap, subst, ◌∙◌, arith, List, [], ◌∷◌, Option, Some, None}
-use Rattle.std.proofs.lemmas.Bool.Decides.{nat_tests}
-use Rattle.gh_base.specs.declared.cell.Ask.{Ask}
-use Rattle.gh_coord.specs.declared.coord.CoordStage.{CoordStage}
-use Rattle.gh_coord.specs.declared.coord.CoordStage.TheVariants.{Check, Close, Count, Done, LoadAck, LoadWant, MarkOn, Open, Stop, StopAgain, Sweep, Tell, Watch}
-use Rattle.gh_coord.specs.declared.count.Counted.{Counted}
-use Rattle.gh_coord.specs.declared.open.OpenStage.{OpenStage}
 use Rattle.gh_coord.specs.declared.open.OpenStage.TheVariants as open_stage
-use Rattle.gh_coord.specs.declared.watch.Watched.{Watched}
-use Rattle.gh_coord.specs.declared.watch.Watched.TheVariants.{All, NotYet}
 use Rattle.gh_coord.specs.Closing as close
 use Rattle.gh_coord.specs.Counting as count
 use Rattle.gh_coord.specs.Listing as coord
@@ -17,11 +9,8 @@ use Rattle.gh_coord.specs.Stopping as stop
 use Rattle.gh_coord.specs.SweepingAll as over
 use Rattle.gh_coord.specs.Telling as tell
 use Rattle.gh_coord.specs.Watching as watch
-use Rattle.gh_world.specs.Handshake.{Pacing}
 use Rattle.gh_world.specs.Actors.{BeginsCycle}
-use Rattle.gh_world.specs.HoldVocabulary.{acks_of, Coordinating, Entry, IsBeginning, IsLed, IsStartOf, Layout, Legal, Op, processor_kind, Shape}
-use Rattle.gh_world.specs.KeepsToPolls.{those}
-use Rattle.gh_world.specs.Numbers.{opened_after, opened_in}
+use Rattle.gh_world.proofs.Vocabulary.{acks_of, All, Ask, Check, Close, Coordinating, CoordStage, Count, Counted, Done, Entry, IsBeginning, IsLed, IsStartOf, Layout, Legal, LoadAck, LoadWant, MarkOn, nat_tests, NotYet, Op, Open, opened_after, opened_in, OpenStage, Pacing, processor_kind, Shape, Stop, StopAgain, Sweep, Tell, those, Watch, Watched}
 use Rattle.gh_world.proofs.AllActors.Known.{Known, ListsKnown}
 use Rattle.gh_world.proofs.AllActors.LeadingNumbers.{beginning, compared, legal_start, numbers_at}
 use Rattle.gh_world.proofs.AllActors.LeadingSeat.{asked_at, busy, goes_at as goes_by, led_then}

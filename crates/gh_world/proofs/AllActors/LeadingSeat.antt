@@ -1,25 +1,14 @@
 -- The entry of the coordinator: which step it is, where it leads, and what of the processors it leaves; and a world that is stopped, in which nobody holds anything.
 use Rattle.std.proofs.Common.{◌≡◌, ℕ, ◌<◌, ◌≤◌, Bool, true, false, ltb, refl, sym, ap, ◌∙◌, arith, List, ◌∷◌, None}
-use Rattle.std.proofs.lemmas.Bool.Decides.{nat_tests}
-use Rattle.gh_base.specs.declared.cell.Ask.{Ask}
-use Rattle.gh_base.specs.Steps.{cell_of}
-use Rattle.gh_coord.specs.declared.coord.CoordStage.{CoordStage}
 use Rattle.gh_coord.specs.Handshake as leading
 use Rattle.gh_coord.specs.Listing as coord
 use Rattle.gh_cycle.specs.Ending.{IsStill}
 use Rattle.gh_mutator.specs.declared.new.NewStage.TheVariants as new
 use Rattle.gh_mutator.specs.declared.task.Task.TheVariants as task
-use Rattle.gh_mutator.specs.ProcessorPlaces.{new_stage_at, stage_at}
-use Rattle.gh_mutator.specs.Vocabulary.{Polling}
-use Rattle.gh_phase.specs.declared.view.RunPhase.{RunPhase}
-use Rattle.gh_phase.specs.Handshake.{Stopped}
-use Rattle.gh_phase.specs.Shakes.{IsParked}
-use Rattle.gh_world.specs.declared.handshake.Actor.{Actor}
 use Rattle.gh_world.specs.declared.handshake.Actor.TheVariants as actor
-use Rattle.gh_world.specs.Handshake.{actors, is_busy, asks, Pacing}
-use Rattle.gh_world.specs.ActorsHold.{IsHeapOf, processor_at, uncounted, uncounted_new}
-use Rattle.gh_world.specs.HoldVocabulary.{acks_of, actors_after, arena, Arena, Coordinating, Entry, Heap, IsLed, Layout, Legal, NewStage, Op, Processor, processor_kind, Right, Shape, stage_of, started, Task, view, words}
-use Rattle.gh_world.specs.KeepsToPolls.{those}
+use Rattle.gh_world.specs.Handshake.{asks}
+use Rattle.gh_world.specs.ActorsHold.{uncounted_new}
+use Rattle.gh_world.proofs.Vocabulary.{acks_of, Actor, actors, actors_after, Arena, arena, Ask, cell_of, Coordinating, CoordStage, Entry, Heap, is_busy, IsHeapOf, IsLed, IsParked, Layout, Legal, nat_tests, new_stage_at, NewStage, Op, Pacing, Polling, Processor, processor_at, processor_kind, Right, RunPhase, Shape, stage_at, stage_of, started, Stopped, Task, those, uncounted, view, words}
 use Rattle.gh_world.proofs.AllActors.Known.{Known, ListsKnown}
 use Rattle.gh_world.proofs.AllActors.Resting.{runs_are}
 use Rattle.gh_world.proofs.CycleMarking.Seats.{lead_started, leads}

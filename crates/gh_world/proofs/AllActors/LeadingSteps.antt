@@ -1,20 +1,12 @@
 -- One entry more of the coordinator, at whatever stage: all that holds of lists holds then.
 use Rattle.std.proofs.Common.{◌≡◌, ℕ, Bool, true, refl, sym, ap, subst, List, ◌∷◌, Option, Some, None}
-use Rattle.gh_coord.specs.declared.close.CloseStage.{CloseStage}
 use Rattle.gh_coord.specs.declared.close.CloseStage.TheVariants as closing
-use Rattle.gh_coord.specs.declared.coord.CoordStage.{CoordStage}
-use Rattle.gh_coord.specs.declared.coord.CoordStage.TheVariants.{Check, Close, Count, Done, LoadAck, LoadWant, MarkOn, Open, Stop, StopAgain, Sweep, Tell, Watch}
-use Rattle.gh_coord.specs.declared.watch.Watched.{Watched}
-use Rattle.gh_coord.specs.declared.watch.Watched.TheVariants.{All, NotYet}
 use Rattle.gh_coord.specs.Closing as close
 use Rattle.gh_coord.specs.Handshake as leading
 use Rattle.gh_coord.specs.Listing as coord
 use Rattle.gh_coord.specs.Stopping as stop
 use Rattle.gh_coord.specs.Watching as watch
-use Rattle.gh_world.specs.Handshake.{Pacing}
-use Rattle.gh_world.specs.ActorsHold.{Holds, HoldsAt, WasSo}
-use Rattle.gh_world.specs.HoldVocabulary.{acks_of, Coordinating, Entry, IsInLimits, IsLed, Layout, Legal, Op, Shape, ShapesAreGood}
-use Rattle.gh_world.specs.KeepsToPolls.{those}
+use Rattle.gh_world.proofs.Vocabulary.{acks_of, All, Check, Close, CloseStage, Coordinating, CoordStage, Count, Done, Entry, Holds, HoldsAt, IsInLimits, IsLed, Layout, Legal, LoadAck, LoadWant, MarkOn, NotYet, Op, Open, Pacing, Shape, ShapesAreGood, Stop, StopAgain, Sweep, Tell, those, WasSo, Watch, Watched}
 use Rattle.gh_world.proofs.AllActors.Known.{Known, ListsKnown}
 use Rattle.gh_world.proofs.AllActors.LeadingCalm as calm
 use Rattle.gh_world.proofs.AllActors.LeadingCloses.{sweeping}

@@ -1,28 +1,16 @@
 -- The coordinator sweeps all spans in a stopped world: what holds behind each of its steps.
 use Rattle.std.proofs.Common.{◌≡◌, ◌≢◌, ℕ, ◌+◌, ◌<◌, ◌≤◌, ◌==◌, Bool, true, false, cond, ltb, refl, sym, ap, subst, ◌∙◌, arith, Option, Some, None, eq-eqb}
-use Rattle.std.proofs.lemmas.Bool.Decides.{nat_tests}
-use Rattle.gh_base.specs.declared.cell.Ask.{Ask}
-use Rattle.gh_base.specs.declared.cell.Ask.TheVariants.{Load}
 use Rattle.gh_base.specs.declared.cell.Cell.TheVariants as cell
-use Rattle.gh_base.specs.declared.pack.PageWord.{PageWord}
-use Rattle.gh_base.specs.declared.pack.PageWord.TheVariants.{Body, Free, Head}
-use Rattle.gh_base.specs.declared.pack.SpanHead.{SpanHead}
-use Rattle.gh_base.specs.Cells.{put, seats_of, Words}
-use Rattle.gh_base.specs.Steps.{cell_of, effect}
-use Rattle.gh_coord.specs.declared.sweep_all.SweepAllStage.{SweepAllStage}
 use Rattle.gh_coord.specs.declared.sweep_all.SweepAllStage.TheVariants as all
 use Rattle.gh_coord.specs.SweepingAll as over
-use Rattle.gh_cycle.specs.Sweeping.{with_words}
-use Rattle.gh_sweep.specs.declared.sweep.SweepEnd.{SweepEnd}
-use Rattle.gh_sweep.specs.declared.sweep.SweepEnd.TheVariants.{Lost, Swept}
-use Rattle.gh_sweep.specs.declared.sweep.SweepStage.{SweepStage}
 use Rattle.gh_sweep.specs.declared.sweep.SweepStage.TheVariants as sweep_stage
 use Rattle.gh_sweep.specs.Listing as sweep
 use Rattle.gh_sweep.specs.Moves as moves
 use Rattle.gh_sweep.specs.Shared.{Done, Far, IsNumbered, SaysFar, Unswept}
 use Rattle.gh_sweep.specs.Sweepers as sweepers
-use Rattle.gh_world.specs.ActorsHold.{IsFoundStill, IsPassed, page_at, SweepsAll, SweepsAt, SweepsSpan}
-use Rattle.gh_world.specs.HoldVocabulary.{Arena, By, CycleEnd, generation_of, head_word, Heap, IsAtRest, page_of, Spans, SweepingAll, SweepsBeside}
+use Rattle.gh_world.specs.ActorsHold.{IsFoundStill, IsPassed, page_at, SweepsAt, SweepsSpan}
+use Rattle.gh_world.specs.HoldVocabulary.{generation_of, head_word, IsAtRest, SweepingAll}
+use Rattle.gh_world.proofs.Vocabulary.{Arena, Ask, Body, By, cell_of, CycleEnd, effect, Free, Head, Heap, Load, Lost, nat_tests, page_of, PageWord, put, seats_of, SpanHead, Spans, SweepAllStage, SweepEnd, SweepsAll, SweepsBeside, SweepStage, Swept, with_words, Words}
 use Rattle.gh_world.proofs.AllActors.Known.{Known}
 
 -- what the step leaves of the words, whatever these are

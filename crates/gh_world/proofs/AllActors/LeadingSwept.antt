@@ -1,29 +1,17 @@
 -- The coordinator sweeps all spans: over lists, what holds behind each of its steps; and once all are swept the heap is calm, with the counts of the cycle.
 use Rattle.std.proofs.Common.{◌≡◌, ◌⊎◌, inl, inr, ℕ, ◌<◌, ◌≤◌, ◌==◌, Bool, true, false, refl, sym, ap, subst, ◌∙◌, arith, List, ◌∷◌, ◌++◌, None}
-use Rattle.std.proofs.lemmas.Bool.Decides.{nat_tests}
-use Rattle.std.specs.Option.{option_to_list}
-use Rattle.gh_base.specs.declared.cell.Ask.{Ask}
 use Rattle.gh_base.specs.declared.cell.Cell.TheVariants as cell
-use Rattle.gh_base.specs.declared.pack.TheConstants.{END}
-use Rattle.gh_base.specs.Cells.{seats_of, Words}
-use Rattle.gh_base.specs.Lists.{by}
-use Rattle.gh_base.specs.Steps.{cell_of, effect}
-use Rattle.gh_coord.specs.declared.coord.CoordStage.{CoordStage}
-use Rattle.gh_coord.specs.declared.coord.CoordStage.TheVariants.{Sweep}
 use Rattle.gh_coord.specs.declared.count.CountStage.TheVariants as counting
-use Rattle.gh_coord.specs.declared.sweep_all.SweepAllStage.{SweepAllStage}
 use Rattle.gh_coord.specs.declared.sweep_all.SweepAllStage.TheVariants as all
 use Rattle.gh_coord.specs.Handshake as leading
 use Rattle.gh_coord.specs.Listing as coord
 use Rattle.gh_coord.specs.SweepingAll as over
-use Rattle.gh_cycle.specs.Sweeping.{AreSwept, with_words}
+use Rattle.gh_cycle.specs.Sweeping.{AreSwept}
 use Rattle.gh_phase.specs.declared.view.RunPhase.TheVariants as run
-use Rattle.gh_phase.specs.Handshake.{Stopped}
 use Rattle.gh_sweep.specs.Listing as sweep
-use Rattle.gh_world.specs.Handshake.{Pacing}
-use Rattle.gh_world.specs.ActorsHold.{EndedSo, HoldsAt, IsAsItShould, IsCounting, IsHeapOf, IsInCycle, IsPassed, IsSweeping, page_at, processor_at, SweepsAll, SweepsAt}
-use Rattle.gh_world.specs.HoldVocabulary.{acks_of, Answer, arena, Arena, Coordinating, CycleEnd, ended_in, Entry, Heap, IsLed, Layout, Legal, MarksNothing, Op, page_of, Processor, Right, Shape, Spans, SweepingAll, SweepsBeside, view, words}
-use Rattle.gh_world.specs.KeepsToPolls.{those}
+use Rattle.gh_world.specs.ActorsHold.{IsCounting, IsPassed, page_at, SweepsAt}
+use Rattle.gh_world.specs.HoldVocabulary.{SweepingAll}
+use Rattle.gh_world.proofs.Vocabulary.{acks_of, Answer, Arena, arena, Ask, by, cell_of, Coordinating, CoordStage, CycleEnd, effect, END, ended_in, EndedSo, Entry, Heap, HoldsAt, IsAsItShould, IsHeapOf, IsInCycle, IsLed, IsSweeping, Layout, Legal, MarksNothing, nat_tests, Op, option_to_list, Pacing, page_of, Processor, processor_at, Right, seats_of, Shape, Spans, Stopped, Sweep, SweepAllStage, SweepsAll, SweepsBeside, those, view, with_words, Words, words}
 use Rattle.gh_world.proofs.AllActors.Known.{Known, ListsKnown}
 use Rattle.gh_world.proofs.AllActors.LeadingSeat.{asked_at, busy, from, goes_at as goes_by, led_then, owes_nothing, parked}
 use Rattle.gh_world.proofs.AllActors.LeadingSweep.{beside_then, IsOfSpans, lands, loaded, spans_only, stepped, then as swept_then}

@@ -1,25 +1,16 @@
 -- The coordinator reads what the sweep has counted, keeps it, and tells that the cycle is swept: what holds behind each of its steps.
 use Rattle.std.proofs.Common.{◌≡◌, ◌⊎◌, inl, inr, ℕ, zero, suc, ◌+◌, ◌≤◌, Bool, true, false, cond, ltb, refl, sym, ap, subst, ◌∙◌, List, [], ◌∷◌, ◌++◌, length, slice_get, Some}
-use Rattle.gh_base.specs.declared.cell.Ask.{Ask}
-use Rattle.gh_base.specs.declared.cell.Ask.TheVariants.{Load}
 use Rattle.gh_base.specs.declared.cell.Cell.TheVariants as cell
-use Rattle.gh_base.specs.Cells.{Words}
-use Rattle.gh_base.specs.Steps.{cell_of, effect}
-use Rattle.gh_coord.specs.declared.coord.CoordStage.{CoordStage}
-use Rattle.gh_coord.specs.declared.coord.CoordStage.TheVariants.{Count, Done, LoadAck, Tell}
-use Rattle.gh_coord.specs.declared.count.CountStage.{CountStage}
 use Rattle.gh_coord.specs.declared.count.CountStage.TheVariants as counting
 use Rattle.gh_coord.specs.declared.cycles.Cycle.{Cycle as CycleNumbers}
-use Rattle.gh_coord.specs.declared.tell.TellStage.{TellStage}
 use Rattle.gh_coord.specs.declared.tell.TellStage.TheVariants as telling
 use Rattle.gh_coord.specs.Counting as count
 use Rattle.gh_coord.specs.Listing as coord
 use Rattle.gh_coord.specs.Telling as tell
-use Rattle.gh_world.specs.Handshake.{Pacing}
 use Rattle.gh_world.specs.Actors.{standing_objects, WasCounted}
-use Rattle.gh_world.specs.ActorsHold.{HasRead, HoldsAt, IsCounting, IsJustSwept, IsQuiet, IsTelling}
-use Rattle.gh_world.specs.HoldVocabulary.{acks_of, alloc_at, alloc_words, AllWereCounted, arena, Arena, Coordinating, Entry, IsLed, Layout, Legal, mark_words, marked_objects, marks_at, Op, Shape, TallyWord, tally_of, unmarked_objects, words}
-use Rattle.gh_world.specs.KeepsToPolls.{those}
+use Rattle.gh_world.specs.ActorsHold.{HasRead, IsCounting}
+use Rattle.gh_world.specs.HoldVocabulary.{alloc_at, AllWereCounted, marked_objects, marks_at, TallyWord, tally_of, unmarked_objects}
+use Rattle.gh_world.proofs.Vocabulary.{acks_of, alloc_words, Arena, arena, Ask, cell_of, Coordinating, CoordStage, Count, CountStage, Done, effect, Entry, HoldsAt, IsJustSwept, IsLed, IsQuiet, IsTelling, Layout, Legal, Load, LoadAck, mark_words, Op, Pacing, Shape, Tell, TellStage, those, Words, words}
 use Rattle.gh_world.proofs.AllActors.Aside.{loads_only, phase_only, swept_only, TellsNothing, trigger_only}
 use Rattle.gh_world.proofs.AllActors.Known.{Known, ListsKnown}
 use Rattle.gh_world.proofs.AllActors.LeadingSeat.{asked_at, busy, from}

@@ -1,18 +1,9 @@
 -- What was said of the starts of a list goes on to be so behind the coordinator's step: where it tells that a cycle is swept, what was not reached is freed; and where it ends one, the marked objects are those that a script reaches.
 use Rattle.std.proofs.Common.{◌≡◌, inr, ℕ, Bool, refl, sym, ap, subst, ◌∙◌, List, ◌∷◌}
-use Rattle.gh_base.specs.Cells.{Words}
-use Rattle.gh_coord.specs.declared.coord.CoordStage.{CoordStage}
-use Rattle.gh_coord.specs.declared.coord.CoordStage.TheVariants.{Check, Close, Count, Done, LoadAck, LoadWant, MarkOn, Open, Stop, StopAgain, Sweep, Tell, Watch}
 use Rattle.gh_coord.specs.Closing as close
 use Rattle.gh_coord.specs.Handshake as leading
-use Rattle.gh_model.specs.Ever.{Ever}
-use Rattle.gh_world.specs.Handshake.{Pacing}
-use Rattle.gh_world.specs.Actors.{BeginsCycle, EndsMarked, IsEnding, IsStepIn, IsTelling}
-use Rattle.gh_world.specs.ActorsHold.{HoldsAt, WasSo}
-use Rattle.gh_world.specs.ActorsMark.{IsMeant, Knows}
-use Rattle.gh_world.specs.HoldVocabulary.{acks_of, alloc_words, arena, Arena, birth_words, Coordinating, Entry, ever, IsInLimits, IsLed, IsMade, IsStartOf, Layout, Legal, MarkFacts, Op, Placed, processor_kind, Reach, Shape, ShapesAreGood, stage_of, view}
-use Rattle.gh_world.specs.KeepsToPolls.{those}
-use Rattle.gh_world.specs.Marking.{WasMarked}
+use Rattle.gh_world.specs.Actors.{BeginsCycle, IsTelling}
+use Rattle.gh_world.proofs.Vocabulary.{acks_of, alloc_words, Arena, arena, birth_words, Check, Close, Coordinating, CoordStage, Count, Done, EndsMarked, Entry, Ever, ever, HoldsAt, IsEnding, IsInLimits, IsLed, IsMade, IsMeant, IsStartOf, IsStepIn, Knows, Layout, Legal, LoadAck, LoadWant, MarkFacts, MarkOn, Op, Open, Pacing, Placed, processor_kind, Reach, Shape, ShapesAreGood, stage_of, Stop, StopAgain, Sweep, Tell, those, view, WasMarked, WasSo, Watch, Words}
 use Rattle.gh_world.proofs.AllActors.Known.{Known, ListsKnown}
 use Rattle.gh_world.proofs.AllActors.LeadingEnds.{ends_marked}
 use Rattle.gh_world.proofs.AllActors.LeadingNames.{placed_there}

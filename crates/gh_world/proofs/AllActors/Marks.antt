@@ -1,37 +1,22 @@
 -- While a cycle is marked: what is known of the heap says what is known of its objects, and lasts while workers and the coordinator step.
 use Rattle.std.proofs.Common.{◌≡◌, ◌≢◌, ℕ, Bool, false, cond, refl, sym, ap, subst, ◌∙◌, List}
-use Rattle.gh_base.specs.declared.cell.Ask.{Ask}
-use Rattle.gh_base.specs.declared.cell.Ask.TheVariants.{Add, And, Load, Or, Store, Swap}
-use Rattle.gh_base.specs.declared.cell.Cell.{Cell}
 use Rattle.gh_base.specs.declared.cell.Cell.TheVariants as cell
-use Rattle.gh_base.specs.Cells.{same_cell, Words}
-use Rattle.gh_base.specs.Steps.{cell_of, ChangesOneCell, effect, left}
 use Rattle.gh_heap.specs.Moves.{IsAside as IsAsideCell}
 use Rattle.gh_marks.specs.Knows.{KnowsObjects}
-use Rattle.gh_marks.specs.Moves.{goes, stays, Went}
+use Rattle.gh_marks.specs.Moves.{goes, stays}
 use Rattle.gh_cycle.specs.Ending.{MarksStayWords}
-use Rattle.gh_coord.specs.declared.close.CloseStage.{CloseStage}
 use Rattle.gh_coord.specs.declared.close.CloseStage.TheVariants as close_stage
-use Rattle.gh_coord.specs.declared.coord.CoordStage.{CoordStage}
-use Rattle.gh_coord.specs.declared.coord.CoordStage.TheVariants.{Check, Close, Count, Done, LoadAck, LoadWant, MarkOn, Open, Stop, StopAgain, Sweep, Tell, Watch}
-use Rattle.gh_coord.specs.declared.open.OpenStage.{OpenStage}
 use Rattle.gh_coord.specs.declared.open.OpenStage.TheVariants as open_stage
-use Rattle.gh_coord.specs.declared.stop.StopStage.{StopStage}
 use Rattle.gh_coord.specs.declared.stop.StopStage.TheVariants as stop_stage
-use Rattle.gh_coord.specs.declared.watch.WatchStage.{WatchStage}
 use Rattle.gh_coord.specs.declared.watch.WatchStage.TheVariants as watch_stage
 use Rattle.gh_coord.specs.Closing as close
 use Rattle.gh_coord.specs.Handshake as leading
 use Rattle.gh_coord.specs.Listing as coord
-use Rattle.gh_coord.specs.Listing.{Coordinating}
 use Rattle.gh_coord.specs.Opening as opens_by
 use Rattle.gh_coord.specs.Stopping as stop
 use Rattle.gh_coord.specs.Watching as watch
-use Rattle.gh_world.specs.Marking.{IsBeginning}
-use Rattle.gh_sweep.specs.Counts.{AreWords}
-use Rattle.gh_worker.specs.Writing.{IsWritten, WritesItsOwn}
-use Rattle.gh_world.specs.ActorsHold.{IsKnown}
-use Rattle.gh_world.specs.HoldVocabulary.{Arena, arena, Cycle, Entry, Good, IsBounded, IsCycleOf, Layout, Marking, mark_words, Op, Pacing, Shape, view}
+use Rattle.gh_worker.specs.Writing.{IsWritten}
+use Rattle.gh_world.proofs.Vocabulary.{Add, And, Arena, arena, AreWords, Ask, Cell, cell_of, ChangesOneCell, Check, Close, CloseStage, Coordinating, CoordStage, Count, Cycle, Done, effect, Entry, Good, IsBeginning, IsBounded, IsCycleOf, IsKnown, Layout, left, Load, LoadAck, LoadWant, mark_words, Marking, MarkOn, Op, Open, OpenStage, Or, Pacing, same_cell, Shape, Stop, StopAgain, StopStage, Store, Swap, Sweep, Tell, view, Watch, WatchStage, Went, Words, WritesItsOwn}
 use Rattle.gh_world.proofs.AllActors.Aside.{beside_of, IsBeside, loads, stores_bank, stores_phase}
 use Rattle.gh_world.proofs.AllActors.Known.{Known}
 

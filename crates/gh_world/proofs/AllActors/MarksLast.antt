@@ -1,22 +1,14 @@
 -- While a cycle is marked, what is known of the heap lasts behind an entry of a worker or of the coordinator.
 use Rattle.std.proofs.Common.{◌≡◌, ◌⊎◌, inl, inr, ℕ, ◌+◌, ◌<◌, ◌≤◌, ◌==◌, Bool, true, false, refl, sym, ap, subst, ◌∙◌, arith, List, ◌∷◌}
-use Rattle.std.proofs.lemmas.Bool.Decides.{nat_tests}
-use Rattle.gh_base.specs.declared.cell.Ask.{Ask}
-use Rattle.gh_base.specs.Steps.{cell_of}
 use Rattle.gh_coord.specs.Handshake as leading
 use Rattle.gh_coord.specs.Listing as coord
 use Rattle.gh_cycle.specs.Ending.{SpansStay}
-use Rattle.gh_marks.specs.Moves.{Went}
 use Rattle.gh_worker.specs.Handshake as working
 use Rattle.gh_worker.specs.Listing as worker
-use Rattle.gh_world.specs.declared.handshake.Actor.{Actor}
 use Rattle.gh_world.specs.declared.handshake.Actor.TheVariants as actor
-use Rattle.gh_world.specs.ActorsHold.{IsInCycle, IsKnown, IsToBegin}
-use Rattle.gh_world.specs.ActorsMark.{Sound}
-use Rattle.gh_world.specs.Handshake.{actors, asks, is_busy, Sound as SoundActor}
-use Rattle.gh_world.specs.HoldVocabulary.{acks_of, actors_after, Arena, arena, AreWords, Coordinating, Cycle, Entry, Heap, IsLed, Layout, Legal, Marking, mark_words, Op, Pacing, Processor, processor_kind, Shape, started, Words, words}
-use Rattle.gh_world.specs.KeepsToPolls.{those}
+use Rattle.gh_world.specs.Handshake.{asks, Sound as SoundActor}
 use Rattle.gh_world.specs.Marking.{LeavesObjects}
+use Rattle.gh_world.proofs.Vocabulary.{acks_of, Actor, actors, actors_after, Arena, arena, AreWords, Ask, cell_of, Coordinating, Cycle, Entry, Heap, is_busy, IsInCycle, IsKnown, IsLed, IsToBegin, Layout, Legal, mark_words, Marking, nat_tests, Op, Pacing, Processor, processor_kind, Shape, Sound, started, those, Went, Words, words}
 use Rattle.gh_world.proofs.AllActors.Aside as aside
 use Rattle.gh_world.proofs.AllActors.Aside.{IsBeside}
 use Rattle.gh_world.proofs.AllActors.Known.{Known, ListsKnown}

@@ -1,25 +1,12 @@
 -- What was said of the starts of a list, behind an entry of another than the coordinator; and what is left once all is over.
 use Rattle.std.proofs.Common.{◌≡◌, ◌↔◌, ℕ, zero, suc, ◌-◌, ◌*◌, ◌/◌, ◌%◌, ◌<◌, ◌≤◌, Bool, true, refl, sym, ap, subst, ◌∙◌, arith, inl, inr, List, ◌∷◌, Some, None}
-use Rattle.std.specs.Int.{bit_at}
 use Rattle.std.specs.Prelude.{count_ones}
 use Rattle.gh_base.specs.declared.cell.Cell.TheVariants as cell
-use Rattle.gh_base.specs.declared.pack.PageWord.{PageWord}
-use Rattle.gh_base.specs.declared.pack.PageWord.TheVariants.{Body, Free, Head}
-use Rattle.gh_base.specs.Orders.{done_at}
-use Rattle.gh_base.specs.Packing.{page_of}
-use Rattle.gh_base.specs.Rows.{Row, row_bit}
-use Rattle.gh_coord.specs.declared.coord.CoordStage.{CoordStage}
-use Rattle.gh_cycle.specs.Ending.{bytes_at, bytes_at_head, slot_row}
-use Rattle.gh_mutator.specs.Deeds.{deeds}
-use Rattle.gh_mutator.specs.Listing.{Act}
+use Rattle.gh_cycle.specs.Ending.{bytes_at, bytes_at_head}
 use Rattle.gh_sweep.specs.Bits.{sum_below}
-use Rattle.gh_sweep.specs.Shared.{placed, placed_in}
-use Rattle.gh_world.specs.Actors.{EndsCycle, ever, IsEnding, IsMarkedObject, IsStepIn, IsTelling, LeavesTheReached, words}
-use Rattle.gh_world.specs.Marking.{IsBeginning, IsStartOf}
-use Rattle.gh_world.specs.ActorsHold.{processor_at, WasSo}
-use Rattle.gh_world.specs.HoldVocabulary.{acks_of, alloc_words, arena, Coordinating, Entry, Ever, IsMade, Layout, Legal, Name, Op, Pacing, page_words, Processor, processor_kind, Reach, Shape, Words}
-use Rattle.gh_world.specs.KeepsToPolls.{those}
-use Rattle.gh_world.specs.Processors.{IsFullFor, IsPlacedAt}
+use Rattle.gh_sweep.specs.Shared.{placed_in}
+use Rattle.gh_world.specs.Actors.{IsTelling}
+use Rattle.gh_world.proofs.Vocabulary.{acks_of, Act, alloc_words, arena, bit_at, Body, Coordinating, CoordStage, deeds, done_at, EndsCycle, Entry, Ever, ever, Free, Head, IsBeginning, IsEnding, IsFullFor, IsMade, IsMarkedObject, IsPlacedAt, IsStartOf, IsStepIn, Layout, LeavesTheReached, Legal, Name, Op, Pacing, page_of, page_words, PageWord, placed, Processor, processor_at, processor_kind, Reach, Row, row_bit, Shape, slot_row, those, WasSo, Words, words}
 use Rattle.gh_world.proofs.AllActors.Aside.{TellsNothing}
 use Rattle.gh_world.proofs.AllActors.Known.{Known}
 use Rattle.gh_world.proofs.AllActors.Resting.{ever_stays, rests, rests_on}

@@ -1,58 +1,25 @@
 -- A processor's step by its rights: it is a move over the heap, and what is said of the processor, of its stacks and of the globals holds behind it. So it is between two cycles, and while one is marked.
-use Rattle.std.proofs.Common.{◌≡◌, ◌≢◌, ◌↔◌, ℕ, ◌<◌, ◌≤◌, ◌==◌, ◌⊎◌, inl, inr, zero, suc, not, Bool, true, false, cond, refl, sym, ap, subst, ◌∙◌, arith, List, [], ◌∷◌, ◌++◌, append_assoc, map, slice_index, length, Option, Some, None, eq-eqb}
-use Rattle.std.proofs.lemmas.Bool.Decides.{nat_tests}
-use Rattle.std.specs.Prelude.{◌%◌, ◌||◌}
-use Rattle.std.specs.Option.{option_to_list}
-use Rattle.gh_base.specs.declared.cell.Ask.{Ask}
+use Rattle.std.proofs.Common.{◌≡◌, ◌≢◌, ◌↔◌, ℕ, ◌<◌, ◌≤◌, ◌⊎◌, inl, inr, Bool, true, false, cond, refl, sym, ap, subst, ◌∙◌, arith, List, ◌∷◌, ◌++◌, append_assoc, map, slice_index, length, Option, Some, None, eq-eqb}
+use Rattle.std.specs.Prelude.{◌||◌}
 use Rattle.gh_base.specs.declared.cell.Cell.TheVariants as cell
 use Rattle.gh_base.specs.declared.operation.Op.TheVariants as op
-use Rattle.gh_base.specs.declared.pack.TheConstants.{END}
-use Rattle.gh_base.specs.Cells.{InRange}
-use Rattle.gh_base.specs.declared.machine.Entry.{Entry as EntryOf}
-use Rattle.gh_base.specs.Lists.{by, Kind}
-use Rattle.gh_base.specs.Orders.{answered, Answered, answered_by, DeedsFit}
-use Rattle.gh_base.specs.Steps.{cell_of, effect, left as left_by}
-use Rattle.gh_cycle.specs.Reached.{IsBounded}
-use Rattle.gh_heap.specs.Moves.{moved, Steps}
-use Rattle.gh_model.specs.Ever.{Ever}
 use Rattle.gh_mutator.specs.declared.task.Task.TheVariants as task
-use Rattle.gh_mutator.specs.Deeds.{acted, given_at, has_point, meaning, pointed, point_of}
+use Rattle.gh_mutator.specs.Deeds.{meaning, pointed}
 use Rattle.gh_mutator.specs.Facts.{answered_at, Does, FactsAt, MayBegin}
-use Rattle.gh_mutator.specs.PollHeap.{Stands}
-use Rattle.gh_mutator.specs.Listing.{Act, acts, asks, begins, gives, is_busy_at, op_at, takes}
-use Rattle.gh_mutator.specs.Runs.{DoesPoints}
-use Rattle.gh_mutator.specs.Serving.{has_left_at}
-use Rattle.gh_mutator.specs.Writing.{TellsScan}
-use Rattle.gh_world.specs.declared.handshake.Actor.{Actor}
-use Rattle.gh_world.specs.Actors.{may_of}
-use Rattle.gh_world.specs.ActorsHold.{IsAsItShould, IsHeapOf, is_last_task, processor_at}
-use Rattle.gh_world.specs.Handshake.{actors, asks as asks_by}
-use Rattle.gh_world.specs.HoldVocabulary.{Answer, answers_of, arena, Arena, deeds, ended_in, Entry, ever, Fine, given_of, Good, Heap, IsInLimits, IsOf, IsSound, Layout, Legal, Op, opening_words, Pacing, Processor, processor_kind, Shape, ShapesAreGood, started, state_of, Task, view, words, Words}
-use Rattle.gh_world.specs.KeepsToPolls.{those}
-use Rattle.gh_world.specs.Order.{ends}
-use Rattle.gh_world.specs.Processors.{all_ended, may_leave}
-use Rattle.gh_world.specs.Vocabulary.{made_by}
-use Rattle.gh_world.proofs.AllActors.Beginning.{both, may-begin}
+use Rattle.gh_world.specs.Handshake.{asks as asks_by}
+use Rattle.gh_world.specs.HoldVocabulary.{answers_of, given_of, opening_words}
+use Rattle.gh_world.proofs.Vocabulary.{Act, acted, Actor, actors, acts, Answer, Answered, answered, answered_by, Arena, arena, Ask, asks, begins, by, cell_of, deeds, DeedsFit, DoesPoints, effect, END, ended_in, ends, Entry, Ever, ever, Fine, given_at, gives, Good, has_left_at, has_point, Heap, InRange, is_busy_at, is_last_task, IsAsItShould, IsBounded, IsHeapOf, IsInLimits, IsOf, IsSound, Kind, Layout, left as left_by, Legal, made_by, may_leave, may_of, moved, Op, op_at, option_to_list, Pacing, point_of, Processor, processor_at, processor_kind, Shape, ShapesAreGood, Stands, started, state_of, Steps, takes, Task, TellsScan, those, view, Words, words, ◌%◌}
+use Rattle.gh_world.proofs.AllActors.Beginning.{may-begin, or-true}
 use Rattle.gh_world.proofs.AllActors.Endings.{acted_stays, acts_end, end_ends, ended_by, is_end, last_before, last_begun}
 use Rattle.gh_world.proofs.AllActors.Globals.{no_global}
 use Rattle.gh_world.proofs.AllActors.Known.{Known}
 use Rattle.gh_world.proofs.AllActors.Moves.{moves_on, OwnSide}
+use Rattle.gh_world.proofs.AllActors.OwnEntries.{all_ended_at, began_end, or_cases, or_left, state_by}
 use Rattle.gh_world.proofs.AllActors.Ranging.{begins_so, bounded_then, busy_now, may_parts, unacted_begun}
 use Rattle.gh_world.proofs.AllActors.Refusals.{point_is}
 use Rattle.gh_world.proofs.AllActors.Resting.{runs_are}
 use Rattle.gh_world.proofs.AllActors.StackWords.{TellsStacks}
 use Rattle.gh_world.proofs.CycleMarking.Seats.{run_started}
-
--- a state depends on its actor's own entries alone
-pub state_by : {M O : Type 0} (k : Kind M O) (a : ℕ) (es : List (EntryOf O)) → state_of k a (by a es) ≡ state_of k a es
-state_by k a [] = refl
-state_by k a (e ∷ es) = go (e.actor == a) refl (state_by k a es) where
-  go : (b : Bool) → (e.actor == a) ≡ b → state_of k a (by a es) ≡ state_of k a es → state_of k a (cond b (e ∷ by a es) (by a es)) ≡ cond b (k.takes (started k e.begun (state_of k a es)) e.found) (state_of k a es)
-  go true x before = rw x (ap (λ m. k.takes (started k e.begun m) e.found) before)
-  go false x before = before
-
-less_than : (n g : ℕ) → g < suc n → (n == g) ≡ false → g < n
-less_than n g below other = grind (arith, nat_tests)
 
 module _ (shapes : List Shape) (l : Layout) (pacing : Pacing) (counts : ℕ → ℕ) (good : ShapesAreGood shapes) (limits : IsInLimits l) (known : Known) where
   abbrev may : ℕ → List (Entry Op) → Op → Bool
@@ -259,20 +226,9 @@ module _ (shapes : List Shape) (l : Layout) (pacing : Pacing) (counts : ℕ → 
     ended_here : (g : ℕ) → ended_in (by a (e ∷ es)) g ≡ (ends e.begun g || ended_in (by a es) g)
     ended_here g = ap (λ (ys : List (Entry Op)). ended_in ys g) own_entries
 
-    or_left : (b c : Bool) → b ≡ true → (b || c) ≡ true
-    or_left b c x = ap (λ (y : Bool). y || c) x
-
-    or_right : (b c : Bool) → c ≡ true → (b || c) ≡ true
-    or_right true c x = refl
-    or_right false c x = x
-
-    or_cases : (b c : Bool) → (b || c) ≡ true → (b ≡ true) ⊎ (c ≡ true)
-    or_cases true c x = inl refl
-    or_cases false c x = inr x
-
     ended_there : (g : ℕ) → IsOf z a g → unacted now ≡ Some (op.End g) → ended_in (by a (e ∷ es)) g ≡ true
     ended_there g its x = ended_here g ∙ elim (waits_or_begins g x) [
-      | inl y ↦ or_right (ends e.begun g) (ended_in (by a es) g) (is.ended g its (inl y))
+      | inl y ↦ or-true (ends e.begun g) (ended_in (by a es) g) (is.ended g its (inl y))
       | inr y ↦ or_left (ends e.begun g) (ended_in (by a es) g) (ap (λ (o : Option Op). ends o g) y ∙ eq-eqb g g refl)
     ]
 
@@ -282,24 +238,9 @@ module _ (shapes : List Shape) (l : Layout) (pacing : Pacing) (counts : ℕ → 
     ended : (g : ℕ) → IsOf z a g → (unacted then ≡ Some (op.End g)) ⊎ (t.ever.ended g ≡ true) → ended_in (by a (e ∷ es)) g ≡ true
     ended g its (inl x) = ended_there g its (was_waiting g x)
     ended g its (inr x) = elim (ended_was g x) [
-      | inl y ↦ ended_here g ∙ or_right (ends e.begun g) (ended_in (by a es) g) (is.ended g its (inr y))
+      | inl y ↦ ended_here g ∙ or-true (ends e.begun g) (ended_in (by a es) g) (is.ended g its (inr y))
       | inr y ↦ ended_there g its (end_acts g y)
     ]
-
-    began_end : (o : Option Op) (g : ℕ) → ends o g ≡ true → o ≡ Some (op.End g)
-    began_end (Some (op.End h)) g x = let same : h ≡ g = grind (arith, nat_tests) in ap (λ (n : ℕ). Some (op.End n)) same
-    began_end None g x = absurd (cc)
-    began_end (Some (op.New h d i)) g x = absurd (cc)
-    began_end (Some (op.Load h d b i)) g x = absurd (cc)
-    began_end (Some (op.Store h b i c)) g x = absurd (cc)
-    began_end (Some (op.GetGlobal h d i)) g x = absurd (cc)
-    began_end (Some (op.SetGlobal h i c)) g x = absurd (cc)
-    began_end (Some (op.Int h d n)) g x = absurd (cc)
-    began_end (Some (op.Move h d c)) g x = absurd (cc)
-    began_end (Some (op.Nil h d)) g x = absurd (cc)
-    began_end (Some (op.Gc h)) g x = absurd (cc)
-    began_end (Some op.Poll) g x = absurd (cc)
-    began_end (Some op.Leave) g x = absurd (cc)
 
     -- where none begins, what is still to act is as it was
     still_waits : (g : ℕ) → unacted m ≡ Some (op.End g) → unacted now ≡ Some (op.End g)
@@ -316,19 +257,6 @@ module _ (shapes : List Shape) (l : Layout) (pacing : Pacing) (counts : ℕ → 
 
     -- One that leaves has begun to do so where all its goroutines had ended.
 
-    all_ended_at : (n g : ℕ) → g < n → (z.seat_of g == a) ≡ true → all_ended z a (by a es) n ≡ true → ended_in (by a es) g ≡ true
-    all_ended_at zero g below seat x = absurd (omega (arith, below))
-    all_ended_at (suc n) g below seat x = go (n == g) refl (λ less. all_ended_at n g less seat (both (not (z.seat_of n == a) || ended_in (by a es) n) (all_ended z a (by a es) n) x).1) where
-      parts : ((not (z.seat_of n == a) || ended_in (by a es) n) ≡ true) × (all_ended z a (by a es) n ≡ true)
-      parts = both (not (z.seat_of n == a) || ended_in (by a es) n) (all_ended z a (by a es) n) x
-
-      go : (b : Bool) → (n == g) ≡ b → (g < n → ended_in (by a es) g ≡ true) → ended_in (by a es) g ≡ true
-      go false y before = before (less_than n g below y)
-      go true y before =
-          let same : n ≡ g = grind (arith, nat_tests) in
-          let one = subst (λ (j : ℕ). (not (z.seat_of j == a) || ended_in (by a es) j) ≡ true) same parts.0 in
-          sym (ap (λ (b : Bool). not b || ended_in (by a es) g) seat) ∙ one
-
     left_now : is_last_task now.task ≡ true → (g : ℕ) → IsOf z a g → h.ever.ended g ≡ true
     left_now last g its = go e.begun refl where
       left_begun : (o : Op) → e.begun ≡ Some o → (b : Bool) → has_left_at m.task ≡ b → is_last_task (cond b m (begins shapes m o)).task ≡ true → h.ever.ended g ≡ true
@@ -337,7 +265,7 @@ module _ (shapes : List Shape) (l : Layout) (pacing : Pacing) (counts : ℕ → 
           let leave : o ≡ op.Leave = last_begun shapes m o last in
           let m_may = may_parts z counts a (state_of k a (by a es)) (by a es) o (may_now o some) in
           let leaves = subst (λ (y : Op). may_leave z a (by a es) y ≡ true) leave m_may.leaves in
-          let said = all_ended_at l.goroutines g its.0 (eq-eqb (z.seat_of g) a its.1) leaves in
+          let said = all_ended_at z a (by a es) l.goroutines g its.0 (eq-eqb (z.seat_of g) a its.1) leaves in
           elim (is.ends g its said) [ inl w ↦ absurd (let no : None ≡ Some (op.End g) = sym (fit.idle m (idle o some)) ∙ w in cc) | inr w ↦ w ]
 
       go : (o : Option Op) → e.begun ≡ o → h.ever.ended g ≡ true

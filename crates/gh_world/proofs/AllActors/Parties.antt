@@ -1,37 +1,24 @@
 -- A processor of the heap among the actors: it is in the handshake, it writes none of the numbers of cycles, and the word of a stack by the number that it knows.
 use Rattle.std.proofs.Common.{◌≡◌, ℕ, ◌⊎◌, inl, inr, true, refl, sym, ap, ◌∙◌, List}
-use Rattle.gh_base.specs.declared.cell.Ask.{Ask}
-use Rattle.gh_base.specs.declared.cell.Ask.TheVariants.{Add, And, Load, Or, Store, Swap}
-use Rattle.gh_base.specs.declared.cell.Cell.{Cell}
 use Rattle.gh_base.specs.declared.cell.Cell.TheVariants as cell
-use Rattle.gh_base.specs.declared.pack.TheConstants.{END}
-use Rattle.gh_phase.specs.declared.resume.ResumeStage.{ResumeStage}
 use Rattle.gh_phase.specs.declared.resume.ResumeStage.TheVariants as resuming
-use Rattle.gh_phase.specs.declared.view.View.{View}
-use Rattle.gh_phase.specs.Handshake.{Awake, Gives, Gone, Leaves, Party, resume_asks, Resumes, Stage, StageGoes}
+use Rattle.gh_phase.specs.Handshake.{resume_asks}
 use Rattle.gh_phase.specs.Listing as resume
-use Rattle.gh_phase.specs.Shakes.{IsAwake}
-use Rattle.gh_mutator.specs.declared.new.NewStage.{NewStage}
 use Rattle.gh_mutator.specs.declared.new.NewStage.TheVariants as making
-use Rattle.gh_mutator.specs.declared.poll.PollStage.{PollStage}
 use Rattle.gh_mutator.specs.declared.poll.PollStage.TheVariants as polling
-use Rattle.gh_mutator.specs.declared.task.Task.{Task}
 use Rattle.gh_mutator.specs.declared.task.Task.TheVariants as task
 use Rattle.gh_mutator.specs.declared.wait.Wait.{Wait}
-use Rattle.gh_mutator.specs.declared.wait.WaitStage.{WaitStage}
 use Rattle.gh_mutator.specs.declared.wait.WaitStage.TheVariants as waiting
 use Rattle.gh_mutator.specs.Handshake.{poller_at, waiter_at}
-use Rattle.gh_mutator.specs.Listing.{asks, asks_at, is_busy_at, takes}
+use Rattle.gh_mutator.specs.Listing.{asks_at}
 use Rattle.gh_mutator.specs.New as new
 use Rattle.gh_mutator.specs.Poll as poll
-use Rattle.gh_mutator.specs.ProcessorPlaces.{new_party_at, party_at, party_of, ProcessorInHandshake, stage_of}
+use Rattle.gh_mutator.specs.ProcessorPlaces.{new_party_at}
 use Rattle.gh_mutator.specs.Wait as wait
-use Rattle.gh_mutator.specs.Writing.{EndsStack, IsSound, IsWritten, ProcessorWritesItsOwn, TellsScan, WritesOf}
-use Rattle.gh_world.specs.ActorsMark.{Sound}
-use Rattle.gh_world.specs.Handshake.{AreParties}
-use Rattle.gh_world.specs.HoldVocabulary.{Layout, Processor, processor_kind, Shape}
-use Rattle.gh_world.specs.Numbers.{IsNoNumber, LeavesNumbers, WritesNoNumbers}
+use Rattle.gh_mutator.specs.Writing.{EndsStack}
+use Rattle.gh_world.specs.Numbers.{IsNoNumber, LeavesNumbers}
 use Rattle.gh_world.specs.Waits.{NumbersStack, NumbersStacks}
+use Rattle.gh_world.proofs.Vocabulary.{Add, And, AreParties, Ask, asks, Awake, Cell, END, Gives, Gone, is_busy_at, IsAwake, IsSound, IsWritten, Layout, Leaves, Load, NewStage, Or, Party, party_at, party_of, PollStage, Processor, processor_kind, ProcessorInHandshake, ProcessorWritesItsOwn, Resumes, ResumeStage, Shape, Sound, Stage, stage_of, StageGoes, Store, Swap, takes, Task, TellsScan, View, WaitStage, WritesNoNumbers, WritesOf}
 
 -- what it writes is none of the numbers, but that it asks for a cycle
 no_number : (m : Processor) (c : Cell) → IsWritten m c → IsNoNumber c ⊎ ((c ≡ cell.Want) × (asks m ≡ Or cell.Want 1))

@@ -1,48 +1,27 @@
 -- What a processor has placed and not counted, over a step of it: the step that makes an object adds the bytes of its slot, the one that counts them takes them off, and no other changes that or makes anything.
 use Rattle.std.proofs.Common.{◌≡◌, ℕ, ◌+◌, Bool, true, false, cond, refl, ◌⊎◌, inl, inr, List, Option, Some, None}
-use Rattle.std.specs.Prelude.{is_some, nat_lt}
-use Rattle.gh_base.specs.declared.cell.Ask.TheVariants.{Add}
 use Rattle.gh_base.specs.declared.cell.Cell.TheVariants as cell
 use Rattle.gh_base.specs.declared.operation.Op.TheVariants as op
 use Rattle.gh_base.specs.declared.value.Answer.TheVariants as answer
-use Rattle.gh_model.specs.declared.EverValue.{EverValue}
 use Rattle.gh_model.specs.declared.EverValue.TheVariants as ever_value
-use Rattle.gh_model.specs.Ever.{answer_of, Ever, ever_after, sets_global, stores_value, takes_answer}
-use Rattle.gh_alloc.specs.declared.place.PlaceStage.{PlaceStage}
+use Rattle.gh_model.specs.Ever.{answer_of, sets_global, stores_value, takes_answer}
 use Rattle.gh_alloc.specs.declared.place.PlaceStage.TheVariants as making
-use Rattle.gh_alloc.specs.declared.sought.Found.{Found}
-use Rattle.gh_alloc.specs.declared.sought.Found.TheVariants.{At, NoRoom}
 use Rattle.gh_alloc.specs.Place as place
-use Rattle.gh_alloc.specs.Place.{Placing}
 use Rattle.gh_alloc.specs.Search as search
 use Rattle.gh_bitmap.specs.SetPointers as bits
-use Rattle.gh_mutator.specs.declared.global.Global.{Global}
-use Rattle.gh_mutator.specs.declared.global.GlobalStage.{GlobalStage}
 use Rattle.gh_mutator.specs.declared.global.GlobalStage.TheVariants as global_stage
-use Rattle.gh_mutator.specs.declared.new.NewStage.{NewStage}
-use Rattle.gh_mutator.specs.declared.new.NewStage.TheVariants.{Place, Search, Wait}
-use Rattle.gh_mutator.specs.declared.new.Wanted.{Wanted}
-use Rattle.gh_mutator.specs.declared.register.Register.{Register}
-use Rattle.gh_mutator.specs.declared.register.Source.{Source}
 use Rattle.gh_mutator.specs.declared.register.Source.TheVariants as source
-use Rattle.gh_mutator.specs.declared.step.Then.{Then}
-use Rattle.gh_mutator.specs.declared.step.Then.TheVariants.{Ends, GoesOn}
-use Rattle.gh_mutator.specs.declared.task.Task.{Task}
 use Rattle.gh_mutator.specs.declared.task.Task.TheVariants as task
-use Rattle.gh_mutator.specs.Deeds.{acted}
 use Rattle.gh_mutator.specs.Global as global
 use Rattle.gh_mutator.specs.Leave as leave
-use Rattle.gh_mutator.specs.Listing.{acting, acts_at, after_gc, after_leave, after_poll, asks_at, begins_at, follows, is_busy_at, takes_at}
+use Rattle.gh_mutator.specs.Listing.{asks_at}
 use Rattle.gh_mutator.specs.Load as load
 use Rattle.gh_mutator.specs.New as new
 use Rattle.gh_mutator.specs.Poll as poll
-use Rattle.gh_mutator.specs.Processor.{cache_span, register_of}
 use Rattle.gh_mutator.specs.Register as register
 use Rattle.gh_mutator.specs.Store as store
 use Rattle.gh_mutator.specs.Wait as wait
-use Rattle.gh_mutator.specs.Writing.{CountsObject}
-use Rattle.gh_world.specs.ActorsHold.{uncounted}
-use Rattle.gh_world.specs.HoldVocabulary.{Answer, Op, Processor, Shape}
+use Rattle.gh_world.proofs.Vocabulary.{acted, acting, acts_at, Add, after_gc, after_leave, after_poll, Answer, At, begins_at, cache_span, CountsObject, Ends, Ever, ever_after, EverValue, follows, Found, Global, GlobalStage, GoesOn, is_busy_at, is_some, nat_lt, NewStage, NoRoom, Op, Place, PlaceStage, Placing, Processor, Register, register_of, Search, Shape, Source, takes_at, Task, Then, uncounted, Wait, Wanted}
 
 -- No object is made but by a `new`.
 

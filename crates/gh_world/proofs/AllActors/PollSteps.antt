@@ -1,28 +1,14 @@
 -- A step of a poll, a wait or a leave counts nothing, and acts on nothing in the heap that never frees. And which cell is that of a stack, and when a processor rests.
 use Rattle.std.proofs.Common.{◌≡◌, ℕ, Bool, true, false, refl, ap, arith, List}
-use Rattle.std.proofs.lemmas.Bool.Decides.{nat_tests}
-use Rattle.std.specs.Prelude.{is_some}
-use Rattle.gh_base.specs.declared.cell.Ask.{Ask}
-use Rattle.gh_base.specs.declared.cell.Cell.{Cell}
 use Rattle.gh_base.specs.declared.cell.Cell.TheVariants as cell
 use Rattle.gh_base.specs.declared.operation.Op.TheVariants as op
-use Rattle.gh_base.specs.Cells.{same_cell}
-use Rattle.gh_model.specs.Ever.{Ever, ever_after}
-use Rattle.gh_mutator.specs.declared.new.New.{New}
-use Rattle.gh_mutator.specs.declared.new.NewStage.{NewStage}
-use Rattle.gh_mutator.specs.declared.new.NewStage.TheVariants.{Place, Search, Wait}
-use Rattle.gh_mutator.specs.declared.task.Task.{Task}
 use Rattle.gh_mutator.specs.declared.task.Task.TheVariants as task
-use Rattle.gh_mutator.specs.Deeds.{acted, answer_at}
 use Rattle.gh_mutator.specs.Leave as leave
-use Rattle.gh_mutator.specs.Listing.{acting, acts_at, is_busy_at}
 use Rattle.gh_mutator.specs.New as new
 use Rattle.gh_mutator.specs.Poll as poll
-use Rattle.gh_mutator.specs.ProcessorMarks.{new_polls}
-use Rattle.gh_mutator.specs.Serving.{has_left_at}
 use Rattle.gh_mutator.specs.Wait as wait
-use Rattle.gh_mutator.specs.Writing.{CountsAt, CountsObject}
-use Rattle.gh_world.specs.HoldVocabulary.{only_polls, Op, Processor, Shape}
+use Rattle.gh_mutator.specs.Writing.{CountsAt}
+use Rattle.gh_world.proofs.Vocabulary.{acted, acting, acts_at, answer_at, Ask, Cell, CountsObject, Ever, ever_after, has_left_at, is_busy_at, is_some, nat_tests, New, new_polls, NewStage, only_polls, Op, Place, Processor, same_cell, Search, Shape, Task, Wait}
 
 -- the cell of a stack
 pub is_stack : (c : Cell) (g : ℕ) → same_cell c (cell.Scanned g) ≡ true → c ≡ cell.Scanned g

@@ -1,35 +1,13 @@
 -- A step of a processor while a cycle is marked, its operation begun: it is one of a poll, a wait or a leave, by moves of marking; and where it writes the word of a stack it tells that the stack is scanned, of a goroutine that goes on.
 use Rattle.std.proofs.Common.{◌≡◌, ◌≢◌, ◌⊎◌, inl, inr, ℕ, ◌<◌, Bool, true, false, cond, refl, sym, ap, subst, ◌∙◌, arith, List, ◌∷◌, Option, Some, None, eq-eqb}
-use Rattle.gh_base.specs.declared.cell.Ask.{Ask}
-use Rattle.gh_base.specs.declared.cell.Ask.TheVariants.{Add, And, Load, Or, Store, Swap}
 use Rattle.gh_base.specs.declared.cell.Cell.TheVariants as cell
 use Rattle.gh_base.specs.declared.operation.Op.TheVariants as op
-use Rattle.gh_base.specs.declared.pack.TheConstants.{END}
-use Rattle.gh_base.specs.Cells.{same_cell}
-use Rattle.gh_base.specs.Lists.{Kind}
-use Rattle.gh_base.specs.Steps.{cell_of, effect, left}
-use Rattle.gh_coord.specs.declared.close.CloseStage.{CloseStage}
 use Rattle.gh_coord.specs.declared.close.CloseStage.TheVariants as close_stage
-use Rattle.gh_coord.specs.declared.coord.CoordStage.{CoordStage}
-use Rattle.gh_coord.specs.declared.coord.CoordStage.TheVariants.{Check, Close, Count, Done, LoadAck, LoadWant, MarkOn, Open, Stop, StopAgain, Sweep, Tell, Watch}
 use Rattle.gh_coord.specs.Closing as close
 use Rattle.gh_coord.specs.Handshake as leading
-use Rattle.gh_marks.specs.Good.{Good as MarkingGood}
 use Rattle.gh_marks.specs.Moves.{Steps}
 use Rattle.gh_mutator.specs.declared.task.Task.TheVariants as task
-use Rattle.gh_mutator.specs.Listing.{asks, begins, is_busy_at, takes}
-use Rattle.gh_mutator.specs.Serving.{has_left_at}
-use Rattle.gh_mutator.specs.Writing.{IsWritten, TellsScan, WritesOf}
-use Rattle.gh_phase.specs.declared.view.View.{View}
-use Rattle.gh_phase.specs.Shakes.{IsAwake}
-use Rattle.gh_mutator.specs.ProcessorPlaces.{party_at, party_of, stage_at, stage_of}
-use Rattle.gh_world.specs.declared.handshake.Actor.{Actor}
-use Rattle.gh_world.specs.Actors.{may_of}
-use Rattle.gh_world.specs.ActorsHold.{IsKnown, processor_at}
-use Rattle.gh_world.specs.Handshake.{actors}
-use Rattle.gh_world.specs.HoldVocabulary.{arena, Arena, Coordinating, Cycle, Entry, Heap, IsLed, IsSound, Layout, Legal, MarkFacts, Marking, only_polls, Op, Pacing, Processor, processor_kind, Shape, started, Task, words, Words}
-use Rattle.gh_world.specs.KeepsToPolls.{IsPolled, KeepsToPolls, those}
-use Rattle.gh_world.specs.Numbers.{ahead_at, close_part, part_of}
+use Rattle.gh_world.proofs.Vocabulary.{Actor, actors, Add, ahead_at, And, Arena, arena, Ask, asks, begins, cell_of, Check, Close, close_part, CloseStage, Coordinating, CoordStage, Count, Cycle, Done, effect, END, Entry, has_left_at, Heap, is_busy_at, IsAwake, IsKnown, IsLed, IsPolled, IsSound, IsWritten, KeepsToPolls, Kind, Layout, left, Legal, Load, LoadAck, LoadWant, MarkFacts, Marking, MarkingGood, MarkOn, may_of, only_polls, Op, Open, Or, Pacing, part_of, party_at, party_of, Processor, processor_at, processor_kind, same_cell, Shape, stage_at, stage_of, started, Stop, StopAgain, Store, Swap, Sweep, takes, Task, Tell, TellsScan, those, View, Watch, Words, words, WritesOf}
 use Rattle.gh_world.proofs.AllActors.EndedStays.{ended_stays}
 use Rattle.gh_world.proofs.AllActors.Known.{Known, ListsKnown}
 use Rattle.gh_world.proofs.AllActors.Marks as marks

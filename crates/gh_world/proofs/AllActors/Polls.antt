@@ -1,21 +1,9 @@
 -- While a cycle is marked, a step of a processor is made of moves of marking and is a move over the heap at once, which changes no value: what is known of the heap and of the cycle lasts.
 use Rattle.std.proofs.Common.{◌≡◌, ◌⊎◌, inl, inr, ℕ, ◌<◌, ◌==◌, Bool, true, false, refl, sym, ap, subst, ◌∙◌, arith, List, ◌∷◌}
-use Rattle.std.proofs.lemmas.Bool.{eqb-true}
 use Rattle.gh_base.specs.declared.cell.Cell.TheVariants as cell
-use Rattle.gh_base.specs.Lists.{Kind}
-use Rattle.gh_base.specs.Steps.{cell_of, effect}
 use Rattle.gh_coord.specs.Handshake as leading
-use Rattle.gh_heap.specs.Moves.{Steps as HeapSteps}
-use Rattle.gh_marks.specs.Good.{Good as MarkingGood}
 use Rattle.gh_marks.specs.Moves.{Steps}
-use Rattle.gh_mutator.specs.Listing.{asks, takes}
-use Rattle.gh_mutator.specs.Runs.{DoesPoints}
-use Rattle.gh_world.specs.Actors.{may_of}
-use Rattle.gh_world.specs.ActorsHold.{IsInCycle, IsKnown, IsToBegin, processor_at}
-use Rattle.gh_world.specs.ActorsMark.{IsMeant, Knows}
-use Rattle.gh_world.specs.HoldVocabulary.{acks_of, arena, Arena, AreWords, Coordinating, Cycle, Entry, ever, Heap, IsInLimits, IsLed, Layout, Legal, MarkFacts, Marking, mark_words, Op, Pacing, Processor, processor_kind, Shape, ShapesAreGood, stage_of, started, Words}
-use Rattle.gh_world.specs.KeepsToPolls.{KeepsToPolls, those}
-use Rattle.gh_world.specs.Marking.{PollsByMoves}
+use Rattle.gh_world.proofs.Vocabulary.{acks_of, Arena, arena, AreWords, asks, cell_of, Coordinating, Cycle, DoesPoints, effect, Entry, eqb-true, ever, Heap, Steps as HeapSteps, IsInCycle, IsInLimits, IsKnown, IsLed, IsMeant, IsToBegin, KeepsToPolls, Kind, Knows, Layout, Legal, mark_words, MarkFacts, Marking, MarkingGood, may_of, Op, Pacing, PollsByMoves, Processor, processor_at, processor_kind, Shape, ShapesAreGood, stage_of, started, takes, those, Words}
 use Rattle.gh_world.proofs.AllActors.Known.{Known, ListsKnown}
 use Rattle.gh_world.proofs.AllActors.Marks.{words_stay}
 use Rattle.gh_world.proofs.AllActors.OwnSide as own

@@ -1,32 +1,14 @@
 -- One entry more of a processor: what holds after every list holds then, if it does so between two cycles.
 use Rattle.std.proofs.Common.{◌≡◌, ℕ, ◌<◌, Bool, true, false, refl, sym, ap, subst, ◌∙◌, arith, inl, inr, List, ◌∷◌, Option, Some, None}
-use Rattle.gh_base.specs.declared.cell.Ask.{Ask}
-use Rattle.gh_base.specs.Lists.{Begins, Kind}
-use Rattle.gh_base.specs.Packing.{PackedWordsAreReadBack}
-use Rattle.gh_phase.specs.declared.view.RunPhase.{RunPhase}
 use Rattle.gh_phase.specs.declared.view.RunPhase.TheVariants as run
-use Rattle.gh_phase.specs.Handshake.{Awake, Gone, last_of, Lead, Leads, Party, Stage, StageGoes, Stopped}
-use Rattle.gh_phase.specs.Shakes.{last_phase}
-use Rattle.gh_coord.specs.declared.coord.CoordStage.{CoordStage}
-use Rattle.gh_coord.specs.declared.coord.CoordStage.TheVariants.{Check, Close, Count, Done, LoadAck, LoadWant, MarkOn, Open, Stop, StopAgain, Sweep, Tell, Watch}
-use Rattle.gh_coord.specs.declared.open.OpenStage.{OpenStage}
 use Rattle.gh_coord.specs.declared.open.OpenStage.TheVariants as opening
-use Rattle.gh_coord.specs.declared.tell.TellStage.{TellStage}
 use Rattle.gh_coord.specs.declared.tell.TellStage.TheVariants as telling
 use Rattle.gh_coord.specs.Handshake as leading
 use Rattle.gh_coord.specs.Opening as opens_by
 use Rattle.gh_coord.specs.Telling as tells_by
-use Rattle.gh_mutator.specs.Listing.{asks, is_busy_at, takes}
-use Rattle.gh_mutator.specs.ProcessorPlaces.{party_of, SoundPlace, stage_of}
-use Rattle.gh_world.specs.declared.handshake.Actor.{Actor}
 use Rattle.gh_world.specs.declared.handshake.Actor.TheVariants as actor
-use Rattle.gh_world.specs.Actors.{LeavesTheReached}
-use Rattle.gh_world.specs.ActorsHold.{Holds, HoldsAt, IsQuiet, IsTelling, processor_at}
-use Rattle.gh_world.specs.ActorsMark.{Sound}
-use Rattle.gh_world.specs.Handshake.{actors, is_busy, KeepsIt, place_of}
 use Rattle.gh_world.specs.Handshake as handshake
-use Rattle.gh_world.specs.HoldVocabulary.{acks_of, Coordinating, Entry, IsLed, Layout, Legal, Op, Pacing, Processor, processor_kind, Shape, ShapesAreGood, started, state_of, Words, words}
-use Rattle.gh_world.specs.KeepsToPolls.{KeepsToPolls, those}
+use Rattle.gh_world.proofs.Vocabulary.{acks_of, Actor, actors, Ask, asks, Awake, Begins, Check, Close, Coordinating, CoordStage, Count, Done, Entry, Gone, Holds, HoldsAt, is_busy, is_busy_at, IsLed, IsQuiet, IsTelling, KeepsIt, KeepsToPolls, Kind, last_of, last_phase, Layout, Lead, Leads, LeavesTheReached, Legal, LoadAck, LoadWant, MarkOn, Op, Open, OpenStage, Pacing, PackedWordsAreReadBack, Party, party_of, place_of, Processor, processor_at, processor_kind, RunPhase, Shape, ShapesAreGood, Sound, SoundPlace, Stage, stage_of, StageGoes, started, state_of, Stop, StopAgain, Stopped, Sweep, takes, Tell, TellStage, those, Watch, Words, words}
 use Rattle.gh_world.proofs.AllActors.Known.{Known, ListsKnown}
 use Rattle.gh_world.proofs.AllActors.Others.{was_by_others}
 use Rattle.gh_world.proofs.AllActors.Quieting.{IsCalmStage}

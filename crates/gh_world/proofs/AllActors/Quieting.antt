@@ -1,31 +1,13 @@
 -- One entry more of a processor between two cycles: the heap stays calm.
 use Rattle.std.proofs.Common.{◌≡◌, ◌≢◌, ℕ, ◌<◌, ◌≤◌, ◌==◌, ◌⊎◌, inl, inr, Bool, true, false, cond, refl, sym, ap, subst, ◌∙◌, Option, Some, arith, List, ◌∷◌}
-use Rattle.std.proofs.lemmas.Bool.Decides.{nat_tests}
-use Rattle.gh_base.specs.declared.cell.Ask.{Ask}
 use Rattle.gh_base.specs.declared.cell.Cell.TheVariants as cell
-use Rattle.gh_base.specs.declared.pack.TheConstants.{END}
-use Rattle.gh_base.specs.Steps.{cell_of}
-use Rattle.gh_coord.specs.declared.coord.CoordStage.{CoordStage}
-use Rattle.gh_coord.specs.declared.coord.CoordStage.TheVariants.{Check, Close, Count, Done, LoadAck, LoadWant, MarkOn, Open, Stop, StopAgain, Sweep, Tell, Watch}
-use Rattle.gh_coord.specs.declared.stop.StopStage.{StopStage}
 use Rattle.gh_coord.specs.declared.stop.StopStage.TheVariants as stop_stage
 use Rattle.gh_coord.specs.Handshake as leading
-use Rattle.gh_heap.specs.Moves.{Steps}
 use Rattle.gh_phase.specs.declared.view.RunPhase.TheVariants as run
-use Rattle.gh_phase.specs.Handshake.{is_stop, last_of, Lead, Leads, run_word, stop_word}
-use Rattle.gh_phase.specs.Shakes.{last_phase}
+use Rattle.gh_phase.specs.Handshake.{is_stop, run_word}
 use Rattle.gh_mutator.specs.declared.task.Task.TheVariants as task
 use Rattle.gh_mutator.specs.Calm.{FindsNoMarking}
-use Rattle.gh_mutator.specs.Listing.{asks, begins, is_busy_at}
-use Rattle.gh_mutator.specs.ProcessorPlaces.{party_of, stage_of}
-use Rattle.gh_mutator.specs.Runs.{DoesPoints}
-use Rattle.gh_mutator.specs.Serving.{has_left_at}
-use Rattle.gh_world.specs.Actors.{may_of}
-use Rattle.gh_world.specs.ActorsHold.{IsQuiet, processor_at, uncounted}
-use Rattle.gh_world.specs.ActorsMark.{Sound}
-use Rattle.gh_world.specs.Handshake.{KeepsIt, place_of}
-use Rattle.gh_world.specs.HoldVocabulary.{Answer, Fine, view, arena, Arena, Coordinating, Entry, Heap, IsInLimits, IsLed, IsSound, Layout, Legal, MarksNothing, Op, Pacing, Processor, processor_kind, Shape, ShapesAreGood, started, Words}
-use Rattle.gh_world.specs.KeepsToPolls.{those}
+use Rattle.gh_world.proofs.Vocabulary.{Answer, Arena, arena, Ask, asks, begins, cell_of, Check, Close, Coordinating, CoordStage, Count, DoesPoints, Done, END, Entry, Fine, has_left_at, Heap, is_busy_at, IsInLimits, IsLed, IsQuiet, IsSound, KeepsIt, last_of, last_phase, Layout, Lead, Leads, Legal, LoadAck, LoadWant, MarkOn, MarksNothing, may_of, nat_tests, Op, Open, Pacing, party_of, place_of, Processor, processor_at, processor_kind, Shape, ShapesAreGood, Sound, stage_of, started, Steps, Stop, stop_word, StopAgain, StopStage, Sweep, Tell, those, uncounted, view, Watch, Words}
 use Rattle.gh_world.proofs.AllActors.Endings.{is_end}
 use Rattle.gh_world.proofs.AllActors.Counting as counting
 use Rattle.gh_world.proofs.AllActors.Known.{Known, ListsKnown}

@@ -1,27 +1,15 @@
 -- An operation that is still to act is one of those that may begin: its goroutine, registers and global are there. So the heap that never frees stays bounded.
 use Rattle.std.proofs.Common.{◌≡◌, ℕ, ◌<◌, ◌⊎◌, inl, inr, ◌==◌, Bool, true, false, not, cond, ltb, refl, sym, ap, subst, ◌∙◌, arith, List, [], ◌∷◌, length, Option, Some, None, eq-eqb}
-use Rattle.std.proofs.lemmas.Bool.Decides.{nat_tests}
-use Rattle.std.proofs.lemmas.Bool.{ltb-true}
 use Rattle.std.specs.Prelude.{◌&&◌}
-use Rattle.gh_base.specs.declared.limits.TheConstants.{REGISTERS}
 use Rattle.gh_base.specs.declared.operation.Op.TheVariants as op
 use Rattle.gh_base.specs.declared.value.Answer.TheVariants as answers
-use Rattle.gh_base.specs.Lists.{Begins, by, Kind}
-use Rattle.gh_base.specs.Orders.{DeedsFit, with_point}
-use Rattle.gh_cycle.specs.Reached.{IsBounded, IsInRange}
-use Rattle.gh_model.specs.Ever.{answer_of, Ever}
-use Rattle.gh_mutator.specs.Deeds.{acted, answer_at, has_point, point_of}
-use Rattle.gh_mutator.specs.Listing.{Act, acts, is_busy_at, takes}
-use Rattle.gh_world.specs.declared.handshake.Actor.{Actor}
+use Rattle.gh_base.specs.Orders.{with_point}
+use Rattle.gh_cycle.specs.Reached.{IsInRange}
+use Rattle.gh_model.specs.Ever.{answer_of}
 use Rattle.gh_world.specs.declared.handshake.Actor.TheVariants as actor
-use Rattle.gh_world.specs.Actors.{may_of}
-use Rattle.gh_world.specs.ActorsHold.{processor_at}
-use Rattle.gh_world.specs.Handshake.{actors, is_busy}
-use Rattle.gh_world.specs.HoldVocabulary.{arena, Arena, deeds, Entry, Layout, Legal, Op, Pacing, Processor, processor_kind, Shape, started, state_of}
-use Rattle.gh_world.specs.KeepsToPolls.{those}
-use Rattle.gh_world.specs.Order.{goroutine_of, in_range, is_over, has_left}
-use Rattle.gh_world.specs.Processors.{has_more, is_of, may_begin, may_leave, may_run}
-use Rattle.gh_world.specs.Vocabulary.{has_names}
+use Rattle.gh_world.specs.Order.{goroutine_of, is_over}
+use Rattle.gh_world.specs.Processors.{has_more, is_of, may_begin, may_run}
+use Rattle.gh_world.proofs.Vocabulary.{Act, acted, Actor, actors, acts, answer_at, Arena, arena, Begins, by, deeds, DeedsFit, Entry, Ever, has_left, has_names, has_point, in_range, is_busy, is_busy_at, IsBounded, Kind, Layout, Legal, ltb-true, may_leave, may_of, nat_tests, Op, Pacing, point_of, Processor, processor_at, processor_kind, REGISTERS, Shape, started, state_of, takes, those}
 use Rattle.gh_world.proofs.AllActors.Beginning.{both}
 use Rattle.gh_world.proofs.AllActors.Known.{Known}
 use Rattle.gh_world.proofs.AllActors.Resting.{runs_are, state_stays}

@@ -1,37 +1,26 @@
 -- An operation that is answered `full` acted where there was no room for its object: the search behind its wait saw that.
 use Rattle.std.proofs.Common.{◌≡◌, ◌≢◌, ℕ, ◌+◌, ◌-◌, ◌<◌, ◌≤◌, ◌⊎◌, inl, inr, Bool, true, false, cond, eqb, ltb, refl, sym, ap, ◌∙◌, arith, List, Option, Some, None}
-use Rattle.std.proofs.lemmas.Bool.{eqb-true, eqb-false, ltb-true, ltb-false}
-use Rattle.std.specs.Prelude.{is_some}
 use Rattle.gh_base.specs.declared.operation.Op.TheVariants as op
-use Rattle.gh_base.specs.declared.pack.PageWord.TheVariants.{Head}
-use Rattle.gh_base.specs.declared.pack.SpanHead.{SpanHead}
 use Rattle.gh_base.specs.Shapes.{shape_at}
 use Rattle.gh_class.specs.declared.class.SizeClass.TheVariants as size
 use Rattle.gh_heap.specs.Spans.{IsFull, owner_at, owner_in}
 use Rattle.gh_alloc.specs.declared.sought.Sought.{Sought}
 use Rattle.gh_alloc.specs.declared.sought.Sought.TheVariants.{Large, Small}
 use Rattle.gh_alloc.specs.Find.{span_for}
-use Rattle.gh_mutator.specs.declared.new.NewStage.{NewStage}
-use Rattle.gh_mutator.specs.declared.new.NewStage.TheVariants.{Place, Search, Wait}
-use Rattle.gh_mutator.specs.declared.task.Task.{Task}
 use Rattle.gh_mutator.specs.declared.task.Task.TheVariants as task
-use Rattle.gh_mutator.specs.Deeds.{has_point, point_of}
 use Rattle.gh_mutator.specs.Facts.{FoundNone, FullAt}
 use Rattle.gh_mutator.specs.Global as global
 use Rattle.gh_mutator.specs.Leave as leave
-use Rattle.gh_mutator.specs.Listing.{Act, acting, acts_at, begins}
 use Rattle.gh_mutator.specs.Load as load
 use Rattle.gh_mutator.specs.New as new
 use Rattle.gh_mutator.specs.New.{sought_for}
 use Rattle.gh_mutator.specs.Poll as poll
-use Rattle.gh_mutator.specs.Processor.{register_of}
-use Rattle.gh_mutator.specs.ProcessorMarks.{new_polls, only_polls}
 use Rattle.gh_mutator.specs.Register as register
-use Rattle.gh_mutator.specs.Serving.{has_left_at}
 use Rattle.gh_mutator.specs.Store as store
 use Rattle.gh_mutator.specs.Wait as wait
-use Rattle.gh_world.specs.HoldVocabulary.{Arena, Good, Heap, Layout, Op, page_of, Processor, processor_kind, Right, Shape, started, View, view}
-use Rattle.gh_world.specs.Processors.{IsAnothers, IsFullFor, NoRoomFor}
+use Rattle.gh_world.specs.HoldVocabulary.{View}
+use Rattle.gh_world.specs.Processors.{IsAnothers, NoRoomFor}
+use Rattle.gh_world.proofs.Vocabulary.{Act, acting, acts_at, Arena, begins, eqb-false, eqb-true, Good, has_left_at, has_point, Head, Heap, is_some, IsFullFor, Layout, ltb-false, ltb-true, new_polls, NewStage, only_polls, Op, page_of, Place, point_of, Processor, processor_kind, register_of, Right, Search, Shape, SpanHead, started, Task, view, Wait}
 
 -- a slot is searched for once more, behind the wait
 abbrev Searched : NewStage → Type 0

@@ -1,22 +1,15 @@
 -- A state of the heap of a list says that the words stand for the heap that never frees: also while spans are swept, with their heads' numbers read as if all were.
 use Rattle.std.proofs.Common.{◌≡◌, ℕ, ◌+◌, ◌^◌, ◌<◌, Bool, true, false, eqb, refl, sym, ap, subst, ◌∙◌, arith, List}
-use Rattle.std.proofs.lemmas.Nat.{mod_below}
-use Rattle.gh_base.specs.declared.pack.PageWord.{PageWord}
-use Rattle.gh_base.specs.declared.pack.PageWord.TheVariants.{Body, Free, Head}
 use Rattle.gh_base.specs.declared.pack.SpanBody.{SpanBody}
-use Rattle.gh_base.specs.declared.pack.SpanHead.{SpanHead}
-use Rattle.gh_base.specs.Packing.{bit, FitsHead, PackedWordsAreReadBack}
-use Rattle.gh_base.specs.Rows.{Row, row_bit}
-use Rattle.gh_cycle.specs.Sweeping.{numbered, SweepsBeside}
+use Rattle.gh_base.specs.Packing.{FitsHead}
+use Rattle.gh_cycle.specs.Sweeping.{numbered}
 use Rattle.gh_heap.specs.Laws.{HeapIsApart}
-use Rattle.gh_heap.specs.Objects.{Holds, InSlot, IsMade, points, size_for}
+use Rattle.gh_heap.specs.Objects.{Holds, InSlot, points, size_for}
 use Rattle.gh_heap.specs.Spans.{body_at, IsSlotOf}
-use Rattle.gh_model.specs.Ever.{Ever}
-use Rattle.gh_mutator.specs.PollHeap.{Stands}
 use Rattle.gh_world.specs.Actors.{AreNamed}
-use Rattle.gh_world.specs.ActorsHold.{IsHeapOf, processor_at}
-use Rattle.gh_world.specs.HoldVocabulary.{arena, Arena, CycleEnd, Entry, ever, generation_of, Good, Heap, IsInLimits, IsOf, Layout, Name, Op, Pacing, page_of, page_words, Processor, Reach, Shape, Spans, View, view, Words, words}
+use Rattle.gh_world.specs.HoldVocabulary.{generation_of, View}
 use Rattle.gh_world.specs.Processors.{StandsFor, StandsForThese}
+use Rattle.gh_world.proofs.Vocabulary.{Arena, arena, bit, Body, CycleEnd, Entry, Ever, ever, Free, Good, Head, Heap, IsHeapOf, IsInLimits, IsMade, IsOf, Layout, mod_below, Name, Op, Pacing, PackedWordsAreReadBack, page_of, page_words, PageWord, Processor, processor_at, Reach, Row, row_bit, Shape, SpanHead, Spans, Stands, SweepsBeside, view, Words, words}
 use Rattle.gh_world.proofs.AllActors.Known.{Known}
 use Rattle.gh_world.proofs.AllActors.LeadingNames.{same_name}
 

@@ -2,14 +2,8 @@
 use Rattle.std.proofs.Common.{◌≡◌, ℕ, ◌<◌, ◌≤◌, Bool, arith, List, [], ◌∷◌}
 use Rattle.gh_coord.specs.Listing as coord
 use Rattle.gh_worker.specs.Listing as worker
-use Rattle.gh_world.specs.declared.handshake.Actor.{Actor}
 use Rattle.gh_world.specs.declared.handshake.Actor.TheVariants as actor
-use Rattle.gh_world.specs.Actors.{may_of}
-use Rattle.gh_world.specs.ActorsHold.{Holds}
-use Rattle.gh_world.specs.ActorsMark.{IsMeant, Knows}
-use Rattle.gh_world.specs.HoldVocabulary.{acks_of, actors_after, Arena, arena, Coordinating, Entry, IsInLimits, IsLed, Layout, Legal, MarkFacts, Op, Pacing, Processor, processor_kind, Shape, ShapesAreGood, stage_of}
-use Rattle.gh_world.specs.KeepsToPolls.{KeepsToPolls, those}
-use Rattle.gh_world.specs.Marking.{IsBeginning, MayBegin, PollsByMoves, WasMarked}
+use Rattle.gh_world.proofs.Vocabulary.{acks_of, Actor, actors_after, Arena, arena, Coordinating, Entry, Holds, IsBeginning, IsInLimits, IsLed, IsMeant, KeepsToPolls, Knows, Layout, Legal, MarkFacts, may_of, MayBegin, Op, Pacing, PollsByMoves, Processor, processor_kind, Shape, ShapesAreGood, stage_of, those, WasMarked}
 use Rattle.gh_world.proofs.AllActors.Begins as begins_by
 use Rattle.gh_world.proofs.AllActors.Known.{Known, ListsKnown}
 use Rattle.gh_world.proofs.AllActors.LeadingSteps as leads_by

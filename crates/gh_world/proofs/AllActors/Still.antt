@@ -1,33 +1,14 @@
 -- One entry more of a processor or a worker where the world is stopped: it leaves everything as it was.
 use Rattle.std.proofs.Common.{◌≡◌, ℕ, ◌<◌, ◌≤◌, ◌==◌, Bool, true, false, cond, ltb, refl, sym, ap, subst, ◌∙◌, arith, inl, inr, List, ◌∷◌, ◌++◌, map, Option, Some, None, eq-eqb}
-use Rattle.std.proofs.lemmas.Bool.Decides.{nat_tests}
-use Rattle.std.specs.Option.{option_to_list}
-use Rattle.gh_base.specs.declared.cell.Ask.TheVariants.{Load}
 use Rattle.gh_base.specs.declared.cell.Cell.TheVariants as cell
-use Rattle.gh_base.specs.Lists.{Begins, by, Kind}
-use Rattle.gh_base.specs.Orders.{answered, Answered, answered_by, before_step, done_at, left_at}
-use Rattle.gh_base.specs.Packing.{PackedWordsAreReadBack}
-use Rattle.gh_base.specs.Steps.{effect}
-use Rattle.gh_phase.specs.declared.view.RunPhase.{RunPhase}
-use Rattle.gh_phase.specs.Handshake.{stop_word, Stopped}
-use Rattle.gh_phase.specs.Shakes.{IsParked}
+use Rattle.gh_base.specs.Orders.{before_step, left_at}
 use Rattle.gh_coord.specs.Handshake as leading
-use Rattle.gh_mutator.specs.declared.task.Task.{Task}
 use Rattle.gh_mutator.specs.declared.task.Task.TheVariants as task
-use Rattle.gh_mutator.specs.Deeds.{given_at, meaning, point_of}
-use Rattle.gh_mutator.specs.Listing.{Act, acts, begins as begun_at, gives, is_busy_at, takes}
-use Rattle.gh_mutator.specs.Processor.{opening_processor}
-use Rattle.gh_mutator.specs.ProcessorPlaces.{party_of, stage_of}
-use Rattle.gh_mutator.specs.Serving.{has_left_at}
-use Rattle.gh_world.specs.declared.handshake.Actor.{Actor}
+use Rattle.gh_mutator.specs.Deeds.{meaning}
 use Rattle.gh_world.specs.declared.handshake.Actor.TheVariants as actor
-use Rattle.gh_world.specs.Actors.{arena, ever, IsLed, words}
-use Rattle.gh_world.specs.ActorsHold.{processor_at}
-use Rattle.gh_world.specs.ActorsMark.{Sound}
-use Rattle.gh_world.specs.Handshake.{actors, is_busy, Pacing, place_of}
 use Rattle.gh_world.specs.Handshake as handshake
-use Rattle.gh_world.specs.HoldVocabulary.{acks_of, actors_after, Answer, Coordinating, deeds, ended_in, Entry, given_of, Layout, Legal, Op, opening_words, Processor, processor_kind, Shape, started, Words}
-use Rattle.gh_world.specs.KeepsToPolls.{those}
+use Rattle.gh_world.specs.HoldVocabulary.{given_of, opening_words}
+use Rattle.gh_world.proofs.Vocabulary.{acks_of, Act, Actor, actors, actors_after, acts, Answer, Answered, answered, answered_by, arena, Begins, begins as begun_at, by, Coordinating, deeds, done_at, effect, ended_in, Entry, ever, given_at, gives, has_left_at, is_busy, is_busy_at, IsLed, IsParked, Kind, Layout, Legal, Load, nat_tests, Op, opening_processor, option_to_list, Pacing, PackedWordsAreReadBack, party_of, place_of, point_of, Processor, processor_at, processor_kind, RunPhase, Shape, Sound, stage_of, started, stop_word, Stopped, takes, Task, those, Words, words}
 use Rattle.gh_world.proofs.AllActors.Known.{ListsKnown}
 use Rattle.gh_world.proofs.AllActors.Resting.{begins_nothing, rests, rests_on, runs_are, state_stays}
 use Rattle.gh_world.proofs.AllActors.Stay.{ChangesNothing}

@@ -1,44 +1,26 @@
 -- A processor that waits at a stop: the step that finds that stop leaves it as it is, is no point and gives no answer.
 use Rattle.std.proofs.Common.{◌≡◌, ℕ, Bool, true, false, cond, refl, sym, ap, ◌∙◌, ◌⊎◌, inl, inr, List, Option, None, eq-eqb}
-use Rattle.std.specs.Prelude.{is_some}
-use Rattle.gh_base.specs.declared.cell.Ask.TheVariants.{Load}
 use Rattle.gh_base.specs.declared.cell.Cell.TheVariants as cell
 use Rattle.gh_base.specs.declared.operation.Op.TheVariants as op
 use Rattle.gh_base.specs.declared.pack.Phase.TheVariants as kind
-use Rattle.gh_base.specs.declared.pack.PhaseWord.{PhaseWord}
 use Rattle.gh_base.specs.declared.value.Answer.TheVariants as answer
-use Rattle.gh_base.specs.Packing.{PackedWordsAreReadBack}
-use Rattle.gh_phase.specs.declared.resume.Resumed.{Resumed}
-use Rattle.gh_phase.specs.declared.resume.ResumeStage.{ResumeStage}
 use Rattle.gh_phase.specs.declared.resume.ResumeStage.TheVariants as resuming
-use Rattle.gh_phase.specs.Handshake.{stop_word}
 use Rattle.gh_phase.specs.Listing as resume
 use Rattle.gh_phase.specs.ResumePlaces as places
-use Rattle.gh_phase.specs.Shakes.{IsParked}
-use Rattle.gh_phase.specs.Views.{run_phase}
-use Rattle.gh_mutator.specs.declared.leave.LeaveStage.{LeaveStage}
 use Rattle.gh_mutator.specs.declared.leave.LeaveStage.TheVariants as leaving
-use Rattle.gh_mutator.specs.declared.new.NewStage.{NewStage}
 use Rattle.gh_mutator.specs.declared.new.NewStage.TheVariants as making
-use Rattle.gh_mutator.specs.declared.poll.PollStage.{PollStage}
 use Rattle.gh_mutator.specs.declared.poll.PollStage.TheVariants as polling
-use Rattle.gh_mutator.specs.declared.processor.Processor.{Processor}
-use Rattle.gh_mutator.specs.declared.task.Task.{Task}
 use Rattle.gh_mutator.specs.declared.task.Task.TheVariants as task
 use Rattle.gh_mutator.specs.declared.wait.Wait.{Wait}
-use Rattle.gh_mutator.specs.declared.wait.WaitStage.{WaitStage}
 use Rattle.gh_mutator.specs.declared.wait.WaitStage.TheVariants as waiting
-use Rattle.gh_mutator.specs.Deeds.{given_at}
-use Rattle.gh_mutator.specs.Handshake.{leaves_at, polls_at, poll_stage_of, waits_at, wait_stage_of}
+use Rattle.gh_mutator.specs.Handshake.{poll_stage_of, wait_stage_of}
 use Rattle.gh_mutator.specs.Leave as leave
-use Rattle.gh_mutator.specs.Listing.{acting, acts, acts_at, asks, asks_at, after_gc, after_poll, gives, gives_at, is_busy_at, once_ended, takes, takes_at}
+use Rattle.gh_mutator.specs.Listing.{asks_at}
 use Rattle.gh_mutator.specs.New as new
 use Rattle.gh_mutator.specs.Poll as poll
 use Rattle.gh_mutator.specs.Processor.{at_poll, at_task}
-use Rattle.gh_mutator.specs.ProcessorPlaces.{new_stage_at, SoundAt, SoundPlace, stage_at, stage_of}
-use Rattle.gh_mutator.specs.declared.new.New.{New}
-use Rattle.gh_mutator.specs.Vocabulary.{Leaving, Polling, Shape}
 use Rattle.gh_mutator.specs.Wait as wait
+use Rattle.gh_world.proofs.Vocabulary.{acting, acts, acts_at, after_gc, after_poll, asks, given_at, gives, gives_at, is_busy_at, is_some, IsParked, leaves_at, LeaveStage, Leaving, Load, New, new_stage_at, NewStage, once_ended, PackedWordsAreReadBack, PhaseWord, Polling, polls_at, PollStage, Processor, Resumed, ResumeStage, run_phase, Shape, SoundAt, SoundPlace, stage_at, stage_of, stop_word, takes, takes_at, Task, waits_at, WaitStage}
 
 -- where the poll waits
 pub record WaitsAt (stops : ℕ) (p : Polling) : Type 0 where

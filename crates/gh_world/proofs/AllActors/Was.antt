@@ -1,20 +1,9 @@
 -- Where an entry of a processor says `full`, there was no room: a search that finds none does so by its rights, behind its wait; polls, waits and leaves say nothing of it, and in a stopped world nobody does.
 use Rattle.std.proofs.Common.{◌≡◌, ℕ, ◌<◌, Bool, true, sym, ap, subst, ◌∙◌, List, ◌∷◌, Option, Some, None}
-use Rattle.gh_base.specs.declared.cell.Ask.{Ask}
-use Rattle.gh_base.specs.Lists.{Kind}
-use Rattle.gh_base.specs.Orders.{done_at}
-use Rattle.gh_base.specs.Steps.{cell_of}
 use Rattle.gh_coord.specs.Handshake as leading
-use Rattle.gh_heap.specs.Moves.{Steps}
-use Rattle.gh_mutator.specs.Listing.{Act, acts, asks, is_busy_at}
-use Rattle.gh_mutator.specs.Runs.{DoesPoints}
-use Rattle.gh_world.specs.declared.handshake.Actor.{Actor}
 use Rattle.gh_world.specs.declared.handshake.Actor.TheVariants as actor
-use Rattle.gh_world.specs.ActorsHold.{IsHeapOf, processor_at}
-use Rattle.gh_world.specs.Handshake.{actors, asks as asks_by, is_busy}
-use Rattle.gh_world.specs.HoldVocabulary.{arena, Arena, Coordinating, deeds, Entry, Good, Heap, IsLed, Layout, Legal, only_polls, Op, Pacing, Processor, processor_kind, Shape, ShapesAreGood, started, state_of, view, words, Words}
-use Rattle.gh_world.specs.KeepsToPolls.{IsPolled, KeepsToPolls, those}
-use Rattle.gh_world.specs.Processors.{IsFullFor}
+use Rattle.gh_world.specs.Handshake.{asks as asks_by}
+use Rattle.gh_world.proofs.Vocabulary.{Act, Actor, actors, acts, Arena, arena, Ask, asks, cell_of, Coordinating, deeds, DoesPoints, done_at, Entry, Good, Heap, is_busy, is_busy_at, IsFullFor, IsHeapOf, IsLed, IsPolled, KeepsToPolls, Kind, Layout, Legal, only_polls, Op, Pacing, Processor, processor_at, processor_kind, Shape, ShapesAreGood, started, state_of, Steps, those, view, Words, words}
 use Rattle.gh_world.proofs.AllActors.Known.{Known}
 use Rattle.gh_world.proofs.AllActors.Refusals.{full_for, full_searches, goes_on, IsSearchedAgain, point_is, polls_refuse_nothing}
 use Rattle.gh_world.proofs.AllActors.Resting.{runs_are}

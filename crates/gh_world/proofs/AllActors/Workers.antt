@@ -1,23 +1,13 @@
 -- One entry more of a worker, outside of marking.
 use Rattle.std.proofs.Common.{◌≡◌, ◌≢◌, ℕ, ◌<◌, ◌≤◌, Bool, refl, sym, ap, subst, ◌∙◌, List, ◌∷◌}
 use Rattle.gh_base.specs.declared.cell.Cell.TheVariants as cell
-use Rattle.gh_base.specs.Steps.{effect}
-use Rattle.gh_coord.specs.declared.coord.CoordStage.{CoordStage}
-use Rattle.gh_coord.specs.declared.coord.CoordStage.TheVariants.{Check, Close, Count, Done, LoadAck, LoadWant, MarkOn, Open, Stop, StopAgain, Sweep, Tell, Watch}
-use Rattle.gh_coord.specs.declared.tell.TellStage.{TellStage}
 use Rattle.gh_coord.specs.declared.tell.TellStage.TheVariants as telling
 use Rattle.gh_coord.specs.Handshake as leading
-use Rattle.gh_mutator.specs.ProcessorPlaces.{party_of}
-use Rattle.gh_phase.specs.declared.view.RunPhase.{RunPhase}
 use Rattle.gh_phase.specs.declared.view.RunPhase.TheVariants as run
-use Rattle.gh_phase.specs.Handshake.{Stopped}
 use Rattle.gh_worker.specs.Listing as worker
 use Rattle.gh_worker.specs.Writing.{IsCalm}
 use Rattle.gh_world.specs.declared.handshake.Actor.TheVariants as actor
-use Rattle.gh_world.specs.ActorsHold.{HasCursor, Holds, HoldsAt, IsTelling}
-use Rattle.gh_world.specs.Handshake.{place_of}
-use Rattle.gh_world.specs.HoldVocabulary.{acks_of, actors_after, arena, Coordinating, Entry, IsLed, Layout, LeavesTheReached, Legal, Op, Pacing, processor_kind, Shape, stage_of, Words, words}
-use Rattle.gh_world.specs.KeepsToPolls.{those}
+use Rattle.gh_world.proofs.Vocabulary.{acks_of, actors_after, arena, Check, Close, Coordinating, CoordStage, Count, Done, effect, Entry, HasCursor, Holds, HoldsAt, IsLed, IsTelling, Layout, LeavesTheReached, Legal, LoadAck, LoadWant, MarkOn, Op, Open, Pacing, party_of, place_of, processor_kind, RunPhase, Shape, stage_of, Stop, StopAgain, Stopped, Sweep, Tell, TellStage, those, Watch, Words, words}
 use Rattle.gh_world.proofs.AllActors.Aside.{acks_aside, TellsNothing}
 use Rattle.gh_world.proofs.AllActors.Known.{Known, ListsKnown}
 use Rattle.gh_world.proofs.AllActors.MarksLast as last

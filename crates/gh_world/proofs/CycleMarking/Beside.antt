@@ -1,36 +1,23 @@
 -- The steps of a worker: they write no word of pages, slots and pointer bits.
 use Rattle.std.proofs.Common.{◌≡◌, ℕ, Bool, true, false, cond, eqb, refl, Option, Some, None}
-use Rattle.gh_base.specs.declared.cell.Ask.{Ask}
-use Rattle.gh_base.specs.declared.cell.Ask.TheVariants.{Add, Load, Or, Store, Swap}
-use Rattle.gh_base.specs.declared.cell.Cell.{Cell}
 use Rattle.gh_base.specs.declared.cell.Cell.TheVariants as cell
-use Rattle.gh_base.specs.declared.held.Held.{Held}
-use Rattle.gh_base.specs.Cells.{put, Words}
-use Rattle.gh_base.specs.Steps.{effect}
-use Rattle.gh_phase.specs.declared.resume.ResumeStage.{ResumeStage}
 use Rattle.gh_phase.specs.declared.resume.ResumeStage.TheVariants as resuming
 use Rattle.gh_phase.specs.Listing as resume
-use Rattle.gh_scan.specs.declared.scan.ScanStage.{ScanStage}
 use Rattle.gh_scan.specs.declared.scan.ScanStage.TheVariants as scanning
 use Rattle.gh_scan.specs.Listing as scan
-use Rattle.gh_shade.specs.declared.shade.ShadeStage.{ShadeStage}
 use Rattle.gh_shade.specs.declared.shade.ShadeStage.TheVariants as shading
 use Rattle.gh_shade.specs.Listing as shade
-use Rattle.gh_wbuf.specs.declared.find_room.RoomStage.{RoomStage}
 use Rattle.gh_wbuf.specs.declared.find_room.RoomStage.TheVariants as finding
-use Rattle.gh_wbuf.specs.declared.give_buffer.GiveStage.{GiveStage}
 use Rattle.gh_wbuf.specs.declared.give_buffer.GiveStage.TheVariants as giving
-use Rattle.gh_wbuf.specs.declared.take_entry.TakeStage.{TakeStage}
 use Rattle.gh_wbuf.specs.declared.take_entry.TakeStage.TheVariants as taking
-use Rattle.gh_wbuf.specs.declared.try_buffer.TryStage.{TryStage}
 use Rattle.gh_wbuf.specs.declared.try_buffer.TryStage.TheVariants as trying
 use Rattle.gh_wbuf.specs.BufferGiving as give
 use Rattle.gh_wbuf.specs.EntryTaking as take
 use Rattle.gh_wbuf.specs.RoomFinding as room
 use Rattle.gh_wbuf.specs.Trying as try
-use Rattle.gh_worker.specs.declared.worker.WorkerStage.{WorkerStage}
 use Rattle.gh_worker.specs.declared.worker.WorkerStage.TheVariants as work
-use Rattle.gh_worker.specs.Listing.{asks, asks_at, is_busy, Working}
+use Rattle.gh_worker.specs.Listing.{asks, asks_at, is_busy}
+use Rattle.gh_world.proofs.Vocabulary.{Add, Ask, Cell, effect, GiveStage, Held, Load, Or, put, ResumeStage, RoomStage, ScanStage, ShadeStage, Store, Swap, TakeStage, TryStage, Words, WorkerStage, Working}
 
 -- no word of pages, slots and pointer bits is written
 pub record LeavesHeap (ask : Ask) : Type 0 where

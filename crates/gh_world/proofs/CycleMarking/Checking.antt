@@ -1,29 +1,8 @@
 -- What the coordinator's stage says while a cycle is marked: in its check, that the words which it has looked at are as wanted; and behind it, that all are. And where each step of it leads.
 use Rattle.std.proofs.Common.{◌≡◌, ℕ, ◌+◌, ◌-◌, ◌<◌, ◌≤◌, ◌==◌, Bool, true, false, cond, ltb, leb, not, ◌||◌, refl, sym, ap, subst, arith, Option, Some, None, eq-eqb}
-use Rattle.std.proofs.lemmas.Bool.{ltb-true, ltb-false}
-use Rattle.std.proofs.lemmas.Bool.Decides.{nat_tests}
-use Rattle.gh_base.specs.declared.cell.Ask.{Ask}
-use Rattle.gh_base.specs.declared.cell.Cell.{Cell}
 use Rattle.gh_base.specs.declared.cell.Cell.TheVariants as cell
-use Rattle.gh_base.specs.declared.layout.Layout.{Layout}
-use Rattle.gh_base.specs.Cells.{buffers_of, Words}
-use Rattle.gh_base.specs.Holding.{holder_in}
-use Rattle.gh_base.specs.Packing.{buffer_of}
-use Rattle.gh_base.specs.Steps.{cell_of, effect}
-use Rattle.gh_marks.specs.Colours.{Shared}
 use Rattle.gh_marks.specs.Moves.{IsQuiet}
-use Rattle.gh_phase.specs.declared.view.RunPhase.{RunPhase}
 use Rattle.gh_phase.specs.declared.view.RunPhase.TheVariants as run
-use Rattle.gh_phase.specs.Handshake.{Stopped}
-use Rattle.gh_coord.specs.declared.close.CloseStage.{CloseStage}
-use Rattle.gh_coord.specs.declared.coord.CoordStage.{CoordStage}
-use Rattle.gh_coord.specs.declared.coord.CoordStage.TheVariants.{Check, Close, Count, Done, LoadAck, LoadWant, MarkOn, Open, Stop, StopAgain, Sweep, Tell, Watch}
-use Rattle.gh_coord.specs.declared.count.Counted.{Counted}
-use Rattle.gh_coord.specs.declared.open.OpenStage.{OpenStage}
-use Rattle.gh_coord.specs.declared.stop.StopStage.{StopStage}
-use Rattle.gh_coord.specs.declared.watch.Watched.{Watched}
-use Rattle.gh_coord.specs.declared.watch.Watched.TheVariants.{All, NotYet}
-use Rattle.gh_coord.specs.declared.watch.WatchStage.{WatchStage}
 use Rattle.gh_coord.specs.declared.close.CloseStage.TheVariants as close_stage
 use Rattle.gh_coord.specs.declared.open.OpenStage.TheVariants as open_stage
 use Rattle.gh_coord.specs.declared.stop.StopStage.TheVariants as stop_stage
@@ -31,14 +10,14 @@ use Rattle.gh_coord.specs.declared.watch.WatchStage.TheVariants as watch_stage
 use Rattle.gh_coord.specs.Handshake.{Marks, post_at}
 use Rattle.gh_coord.specs.Closing as close
 use Rattle.gh_coord.specs.Counting as count
-use Rattle.gh_coord.specs.Listing.{after_check, after_close, after_count, after_open, after_stop, after_stop_again, after_sweep, after_tell, after_watch, asks_at, at_stage, Coordinating, goes_at, is_busy, stops_world}
+use Rattle.gh_coord.specs.Listing.{is_busy}
 use Rattle.gh_coord.specs.Opening as opens_by
 use Rattle.gh_coord.specs.Stopping as stop
 use Rattle.gh_coord.specs.SweepingAll as all
 use Rattle.gh_coord.specs.Telling as tell
 use Rattle.gh_coord.specs.Watching as watch
 use Rattle.gh_coord.specs.Watching.{cell_at, is_wanted, words_of}
-use Rattle.gh_world.specs.Marking.{IsBeginning}
+use Rattle.gh_world.proofs.Vocabulary.{after_check, after_close, after_count, after_open, after_stop, after_stop_again, after_sweep, after_tell, after_watch, All, Ask, asks_at, at_stage, buffer_of, buffers_of, Cell, cell_of, Check, Close, CloseStage, Coordinating, CoordStage, Count, Counted, Done, effect, goes_at, holder_in, IsBeginning, Layout, LoadAck, LoadWant, ltb-false, ltb-true, MarkOn, nat_tests, NotYet, Open, OpenStage, RunPhase, Marking as Shared, Stop, StopAgain, Stopped, stops_world, StopStage, Sweep, Tell, Watch, Watched, WatchStage, Words}
 use Rattle.gh_world.proofs.CycleMarking.Beside.{LeavesHeap, loads, stores_bank, stores_phase}
 
 -- all watched words are as wanted

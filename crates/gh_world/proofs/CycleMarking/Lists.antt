@@ -1,37 +1,18 @@
 -- What holds while a cycle is marked, after every legal list; and what holds behind the coordinator's check.
 use Rattle.std.proofs.Common.{◌≡◌, ◌≢◌, ℕ, ◌+◌, ◌<◌, ◌≤◌, ◌==◌, Bool, true, false, cond, ltb, refl, sym, ap, subst, ◌∙◌, arith, inl, inr, Some, None, List, [], ◌∷◌}
-use Rattle.std.proofs.lemmas.Bool.{ltb-true, ltb-false}
-use Rattle.std.proofs.lemmas.Bool.Decides.{nat_tests}
-use Rattle.gh_base.specs.declared.cell.Ask.{Ask}
-use Rattle.gh_base.specs.declared.cell.Cell.{Cell}
 use Rattle.gh_base.specs.declared.cell.Cell.TheVariants as cell
-use Rattle.gh_base.specs.declared.layout.Layout.{Layout}
-use Rattle.gh_base.specs.declared.machine.Entry.{Entry}
-use Rattle.gh_base.specs.Cells.{buffers_of, Words}
-use Rattle.gh_base.specs.Holding.{holder_in}
-use Rattle.gh_base.specs.Lists.{Kind, Legal, started}
-use Rattle.gh_base.specs.Packing.{buffer_of}
-use Rattle.gh_base.specs.Rows.{mark_words, row_bit}
-use Rattle.gh_base.specs.Steps.{cell_of, ChangesOneCell, effect}
-use Rattle.gh_heap.specs.Rights.{Arena}
-use Rattle.gh_marks.specs.Colours.{Black, Buffered, Colour, Cycle, IsShaded, mark_of, Pending, Placing, Shared, Taken, White}
+use Rattle.gh_marks.specs.Colours.{Black, Buffered, Colour, IsShaded, mark_of, Pending, Placing, Taken, White}
 use Rattle.gh_marks.specs.Ends.{IsDone, IsFound}
 use Rattle.gh_marks.specs.Laws.{MarkingEndsClean, WhatIsFoundIsDone}
-use Rattle.gh_marks.specs.Seats.{Hands, nothing}
-use Rattle.gh_phase.specs.declared.view.RunPhase.{RunPhase}
 use Rattle.gh_phase.specs.declared.view.RunPhase.TheVariants as run
-use Rattle.gh_phase.specs.Handshake.{Party, Stage, Stopped}
-use Rattle.gh_coord.specs.declared.coord.CoordStage.{CoordStage}
-use Rattle.gh_coord.specs.declared.coord.CoordStage.TheVariants.{Check, Close, Count, Done, LoadAck, LoadWant, MarkOn, Open, Stop, StopAgain, Sweep, Tell, Watch}
 use Rattle.gh_coord.specs.Handshake as leading
 use Rattle.gh_coord.specs.Listing as coord
-use Rattle.gh_coord.specs.Stopping.{acks_of}
 use Rattle.gh_worker.specs.Listing as worker
 use Rattle.gh_worker.specs.MarkFacts as marks
-use Rattle.gh_world.specs.declared.handshake.Actor.{Actor}
 use Rattle.gh_world.specs.declared.handshake.Actor.TheVariants as actor
-use Rattle.gh_world.specs.Handshake.{actors, asks, is_busy, KeepsIt, Pacing, place_of, StepKeepsIt, WaitsWithNone}
-use Rattle.gh_world.specs.Marking.{actors_after, EndsClean, IsChecked, IsInLimits, IsInMarking, IsLedBy, IsStartOf, KnowsHeap, MarksToTheEnd, PollsByMoves, setting, StartsAreMeant, WasMarked, words}
+use Rattle.gh_world.specs.Handshake.{asks}
+use Rattle.gh_world.specs.Marking.{IsInMarking, IsLedBy, KnowsHeap, setting, StartsAreMeant, words}
+use Rattle.gh_world.proofs.Vocabulary.{acks_of, Actor, actors, actors_after, Arena, Ask, buffer_of, buffers_of, Cell, cell_of, ChangesOneCell, Check, Close, CoordStage, Count, Cycle, Done, effect, EndsClean, Entry, Hands, holder_in, is_busy, IsChecked, IsInLimits, IsStartOf, KeepsIt, Kind, Layout, Legal, LoadAck, LoadWant, ltb-false, ltb-true, mark_words, MarkOn, MarksToTheEnd, nat_tests, nothing, Open, Pacing, Party, place_of, PollsByMoves, row_bit, RunPhase, Marking as Shared, Stage, started, StepKeepsIt, Stop, StopAgain, Stopped, Sweep, Tell, WaitsWithNone, WasMarked, Watch, Words}
 use Rattle.gh_world.proofs.CycleMarking.Apart.{stays_clear}
 use Rattle.gh_world.proofs.CycleMarking.Checking.{begins as begins_cycle, checked_lasts, CheckedAt, Found, Goes, goes_on, goes_so, leaves}
 use Rattle.gh_world.proofs.CycleMarking.Moving as moving

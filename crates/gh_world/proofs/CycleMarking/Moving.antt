@@ -1,38 +1,20 @@
 -- One entry more while a cycle is marked, by the actor that makes it: its step is made of moves of marking, and what is known of all others lasts. And the begin of a cycle.
 use Rattle.std.proofs.Common.{◌≡◌, ◌≢◌, ℕ, suc, ◌/◌, ◌%◌, ◌<◌, ◌≤◌, ◌==◌, Bool, true, false, refl, sym, ap, subst, ◌∙◌, arith, List, ◌∷◌}
-use Rattle.std.specs.Int.{bit_at}
-use Rattle.std.proofs.lemmas.Bool.Decides.{nat_tests}
-use Rattle.gh_base.specs.declared.cell.Ask.{Ask}
 use Rattle.gh_base.specs.declared.cell.Cell.TheVariants as cell
-use Rattle.gh_base.specs.declared.layout.Layout.{Layout}
-use Rattle.gh_base.specs.declared.machine.Entry.{Entry}
-use Rattle.gh_base.specs.Cells.{seats_of, Words}
-use Rattle.gh_base.specs.Lists.{Kind, Legal, started}
-use Rattle.gh_base.specs.Rows.{alloc_words, Row, row_bit}
-use Rattle.gh_base.specs.Steps.{cell_of, effect}
-use Rattle.gh_heap.specs.Rights.{Arena}
-use Rattle.gh_marks.specs.Colours.{Cycle, Shared}
-use Rattle.gh_marks.specs.Good.{Good}
-use Rattle.gh_marks.specs.Laws.{Begins, EachHandFollows, EachHandLasts, EachStepGoesByMoves, MarkingBegins, StepsGoByMoves}
-use Rattle.gh_marks.specs.Moves.{goes, moved, Others, Quiet, SameExtent, stays, Steps, Went}
-use Rattle.gh_marks.specs.Seats.{Hands, nothing}
+use Rattle.gh_marks.specs.Laws.{Begins, EachHandFollows, EachHandLasts, EachStepGoesByMoves, StepsGoByMoves}
+use Rattle.gh_marks.specs.Moves.{goes, moved, Others, Quiet, SameExtent, stays, Steps}
 use Rattle.gh_phase.specs.declared.view.RunPhase.TheVariants as run
-use Rattle.gh_phase.specs.Handshake.{Acts, Party, Stage, Stopped}
 use Rattle.gh_phase.specs.Listing as resume
-use Rattle.gh_coord.specs.declared.coord.CoordStage.{CoordStage}
-use Rattle.gh_coord.specs.declared.coord.CoordStage.TheVariants.{Check, Close, Count, Done, LoadAck, LoadWant, MarkOn, Open, Stop, StopAgain, Sweep, Tell, Watch}
 use Rattle.gh_coord.specs.Handshake as leading
 use Rattle.gh_coord.specs.Listing as coord
-use Rattle.gh_coord.specs.Stopping.{acks_of}
-use Rattle.gh_worker.specs.declared.worker.WorkerStage.{WorkerStage}
 use Rattle.gh_worker.specs.declared.worker.WorkerStage.TheVariants.{Resuming}
 use Rattle.gh_worker.specs.Handshake as working
 use Rattle.gh_worker.specs.Listing as worker
 use Rattle.gh_worker.specs.MarkFacts as marks
-use Rattle.gh_world.specs.declared.handshake.Actor.{Actor}
 use Rattle.gh_world.specs.declared.handshake.Actor.TheVariants as actor
-use Rattle.gh_world.specs.Handshake.{actors, asks, is_busy, KeepsIt, Pacing, place_of, Sound, WaitsWithNone}
-use Rattle.gh_world.specs.Marking.{actors_after, IsBeginning, IsInMarking, IsLedBy, KnowsHeap, LeavesObjects, MayBegin, PollsByMoves, setting, WasMarked, words}
+use Rattle.gh_world.specs.Handshake.{asks, Sound}
+use Rattle.gh_world.specs.Marking.{IsInMarking, IsLedBy, KnowsHeap, LeavesObjects, setting, words}
+use Rattle.gh_world.proofs.Vocabulary.{acks_of, Actor, actors, actors_after, Acts, alloc_words, Arena, Ask, bit_at, cell_of, Check, Close, CoordStage, Count, Cycle, Done, effect, Entry, MarkingGood as Good, Hands, is_busy, IsBeginning, KeepsIt, Kind, Layout, Legal, LoadAck, LoadWant, MarkingBegins, MarkOn, MayBegin, nat_tests, nothing, Open, Pacing, Party, place_of, PollsByMoves, Row, row_bit, seats_of, Marking as Shared, Stage, started, Stop, StopAgain, Stopped, Sweep, Tell, WaitsWithNone, WasMarked, Watch, Went, Words, WorkerStage}
 use Rattle.gh_world.proofs.CycleMarking.Beside.{LeavesHeap, works_so}
 use Rattle.gh_world.proofs.CycleMarking.Checking.{IsLight}
 use Rattle.gh_world.proofs.CycleMarking.Seats.{IsSeated, lead_started, leads, other, runs, seated, worker_started, works}

@@ -1,26 +1,13 @@
 -- How few cycles there are: no more than statements that may ask for one, and the last.
 use Rattle.std.proofs.Common.{◌≡◌, ◌≢◌, ℕ, suc, ◌+◌, ◌<◌, ◌≤◌, ◌==◌, nat_lt, zero, Bool, true, false, cond, refl, sym, ap, subst, ◌∙◌, arith, List, [], ◌∷◌, Option, Some, None}
-use Rattle.std.proofs.lemmas.Bool.Decides.{nat_tests}
-use Rattle.gh_base.specs.declared.cell.Ask.{Ask}
-use Rattle.gh_base.specs.declared.layout.Layout.{Layout}
-use Rattle.gh_base.specs.declared.machine.Entry.{Entry}
-use Rattle.gh_base.specs.declared.operation.Op.{Op}
 use Rattle.gh_base.specs.declared.operation.Op.TheVariants as op
-use Rattle.gh_base.specs.Lists.{Begins, by, Kind, Legal, started}
-use Rattle.gh_base.specs.Packing.{bit}
-use Rattle.gh_phase.specs.Handshake.{Party, Stage}
-use Rattle.gh_coord.specs.declared.coord.CoordStage.{CoordStage}
-use Rattle.gh_coord.specs.declared.coord.CoordStage.TheVariants.{Check, Close, Count, Done, LoadAck, LoadWant, MarkOn, Open, Stop, StopAgain, Sweep, Tell, Watch}
-use Rattle.gh_coord.specs.declared.open.OpenStage.{OpenStage}
 use Rattle.gh_coord.specs.declared.open.OpenStage.TheVariants as open_stage
 use Rattle.gh_coord.specs.Listing as coord
-use Rattle.gh_worker.specs.Writing.{WorkersWriteTheirOwn}
-use Rattle.gh_world.specs.declared.handshake.Actor.{Actor}
 use Rattle.gh_world.specs.declared.handshake.Actor.TheVariants as actor
-use Rattle.gh_world.specs.Handshake.{AreParties, is_busy, KeepsIt, Pacing}
-use Rattle.gh_world.specs.Numbers.{asked_after, asked_in, asks_for_one, opened_in}
+use Rattle.gh_world.specs.Numbers.{asked_in, asks_for_one}
 use Rattle.gh_world.specs.Processors.{asked_by, asks_collector}
 use Rattle.gh_world.specs.Wants.{AreFew, AsksOncePerOperation, BeginsFew, CountsWants, last_at, MayAsk, most_asks, opened_last, total}
+use Rattle.gh_world.proofs.Vocabulary.{Actor, AreParties, Ask, asked_after, Begins, bit, by, Check, Close, CoordStage, Count, Done, Entry, is_busy, KeepsIt, Kind, Layout, Legal, LoadAck, LoadWant, MarkOn, nat_tests, Op, Open, opened_in, OpenStage, Pacing, Party, Stage, started, Stop, StopAgain, Sweep, Tell, Watch, WorkersWriteTheirOwn}
 use Rattle.gh_world.proofs.CycleMarking.Seats.{other}
 use Rattle.gh_world.proofs.CycleNumbers.Frames.{worker_asks_none}
 use Rattle.gh_world.proofs.CycleNumbers.Sums.{total_at, total_below, total_same}

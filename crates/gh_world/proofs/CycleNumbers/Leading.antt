@@ -1,32 +1,21 @@
 -- The coordinator's steps: where each leads, by the parts of a cycle.
 use Rattle.std.proofs.Common.{◌≡◌, ℕ, ◌+◌, ◌^◌, ◌≤◌, Bool, true, false, cond, refl, ap, Option, Some, None}
-use Rattle.gh_base.specs.declared.cell.Ask.{Ask}
 use Rattle.gh_base.specs.declared.cell.Cell.TheVariants as cell
-use Rattle.gh_base.specs.Cells.{Words}
 use Rattle.gh_base.specs.Packing.{tally_of}
-use Rattle.gh_base.specs.Steps.{cell_of, effect}
-use Rattle.gh_coord.specs.declared.close.CloseStage.{CloseStage}
 use Rattle.gh_coord.specs.declared.close.CloseStage.TheVariants as close_stage
-use Rattle.gh_coord.specs.declared.coord.CoordStage.{CoordStage}
-use Rattle.gh_coord.specs.declared.coord.CoordStage.TheVariants.{Check, Close, Count, Done, LoadAck, LoadWant, MarkOn, Open, Stop, StopAgain, Sweep, Tell, Watch}
-use Rattle.gh_coord.specs.declared.count.CountStage.{CountStage}
 use Rattle.gh_coord.specs.declared.count.CountStage.TheVariants as count_stage
-use Rattle.gh_coord.specs.declared.open.OpenStage.{OpenStage}
 use Rattle.gh_coord.specs.declared.open.OpenStage.TheVariants as open_stage
-use Rattle.gh_coord.specs.declared.tell.TellStage.{TellStage}
 use Rattle.gh_coord.specs.declared.tell.TellStage.TheVariants as tell_stage
-use Rattle.gh_coord.specs.declared.watch.Watched.{Watched}
-use Rattle.gh_coord.specs.declared.watch.Watched.TheVariants.{All, NotYet}
 use Rattle.gh_coord.specs.Closing as close
 use Rattle.gh_coord.specs.Counting as count
 use Rattle.gh_coord.specs.Handshake.{SoundAt}
-use Rattle.gh_coord.specs.Listing.{after_check, after_close, after_count, after_open, after_stop, after_stop_again, after_sweep, after_tell, after_watch, asks_at, at_stage, Coordinating, goes_at, is_busy, stops_world}
+use Rattle.gh_coord.specs.Listing.{is_busy}
 use Rattle.gh_coord.specs.Opening as opens_by
 use Rattle.gh_coord.specs.Stopping as stop
 use Rattle.gh_coord.specs.SweepingAll as all
 use Rattle.gh_coord.specs.Telling as tell
 use Rattle.gh_coord.specs.Watching as watch
-use Rattle.gh_world.specs.Numbers.{Begun, Checked, Ended, Numbered, opened_after, Outside, Part, part_of}
+use Rattle.gh_world.proofs.Vocabulary.{after_check, after_close, after_count, after_open, after_stop, after_stop_again, after_sweep, after_tell, after_watch, All, Ask, asks_at, at_stage, Begun, cell_of, Check, Checked, Close, CloseStage, Coordinating, CoordStage, Count, CountStage, Done, effect, Ended, goes_at, LoadAck, LoadWant, MarkOn, NotYet, Numbered, Open, opened_after, OpenStage, Outside, Part, part_of, Stop, StopAgain, stops_world, Sweep, Tell, TellStage, Watch, Watched, Words}
 use Rattle.gh_world.proofs.CycleNumbers.Frames.{Numbers, numbers_of}
 use Rattle.gh_world.proofs.CycleNumbers.Quiet.{all_quiet, Quiet, Still, stop_still, watch_still}
 use Rattle.gh_world.proofs.CycleNumbers.Parts.{At, Own, own_of, to_begun, to_checked, to_counted, to_ended, to_live_cleared, to_numbered, to_opened, to_outside, to_swept, to_tally_cleared}

@@ -1,29 +1,16 @@
 -- The numbers of cycles after every legal list.
 use Rattle.std.proofs.Common.{◌≡◌, ℕ, suc, ◌+◌, ◌*◌, ◌≤◌, ◌⊎◌, inl, inr, Bool, true, false, cond, refl, sym, subst, ◌∙◌, arith, List, [], ◌∷◌}
-use Rattle.std.specs.Prelude.{◌↔◌}
-use Rattle.gh_base.specs.declared.cell.Ask.{Ask}
-use Rattle.gh_base.specs.declared.layout.Layout.{Layout}
-use Rattle.gh_base.specs.declared.machine.Entry.{Entry}
-use Rattle.gh_base.specs.Lists.{Kind, Legal, started}
-use Rattle.gh_base.specs.Steps.{effect}
-use Rattle.gh_phase.specs.Handshake.{Party, Stage}
-use Rattle.gh_coord.specs.declared.close.CloseStage.{CloseStage}
 use Rattle.gh_coord.specs.declared.close.CloseStage.TheVariants as close_stage
-use Rattle.gh_coord.specs.declared.coord.CoordStage.{CoordStage}
-use Rattle.gh_coord.specs.declared.coord.CoordStage.TheVariants.{Check, Close, Count, Done, LoadAck, LoadWant, MarkOn, Open, Stop, StopAgain, Sweep, Tell, Watch}
-use Rattle.gh_coord.specs.declared.open.OpenStage.{OpenStage}
 use Rattle.gh_coord.specs.declared.open.OpenStage.TheVariants as open_stage
-use Rattle.gh_coord.specs.declared.tell.TellStage.{TellStage}
 use Rattle.gh_coord.specs.declared.tell.TellStage.TheVariants as tell_stage
 use Rattle.gh_coord.specs.Closing as close
 use Rattle.gh_coord.specs.Opening as opens_by
 use Rattle.gh_coord.specs.Handshake as leading
 use Rattle.gh_coord.specs.Listing as coord
-use Rattle.gh_worker.specs.Writing.{WorkersWriteTheirOwn}
 use Rattle.gh_world.specs.declared.handshake.Actor.TheVariants as actor
-use Rattle.gh_world.specs.Handshake.{AreParties, KeepsIt, Pacing, Sound}
-use Rattle.gh_world.specs.Marking.{IsBeginning}
-use Rattle.gh_world.specs.Numbers.{ahead_at, close_part, CountsCycles, generation_of, IsFew, open_part, opened_after, opened_in, opens_one, Part, part_of, tell_part, WritesNoNumbers}
+use Rattle.gh_world.specs.Handshake.{Sound}
+use Rattle.gh_world.specs.Numbers.{open_part, opens_one, tell_part}
+use Rattle.gh_world.proofs.Vocabulary.{ahead_at, AreParties, Ask, Check, Close, close_part, CloseStage, CoordStage, Count, CountsCycles, Done, effect, Entry, generation_of, IsBeginning, IsFew, KeepsIt, Kind, Layout, Legal, LoadAck, LoadWant, MarkOn, Open, opened_after, opened_in, OpenStage, Pacing, Part, part_of, Party, Stage, started, Stop, StopAgain, Sweep, Tell, TellStage, Watch, WorkersWriteTheirOwn, WritesNoNumbers, ◌↔◌}
 use Rattle.gh_world.proofs.CycleNumbers.Frames.{Leaves, leaves, Numbers, numbers_of, worker_leaves}
 use Rattle.gh_world.proofs.CycleNumbers.Leading.{goes_so, Is}
 use Rattle.gh_world.proofs.CycleNumbers.Seats as seats

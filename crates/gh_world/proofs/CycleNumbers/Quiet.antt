@@ -1,27 +1,18 @@
 -- The coordinator's steps that write none of the words of cycles: of its stops, its looks and checks, and its loads of what was counted; and those of its sweep, which counts.
 use Rattle.std.proofs.Common.{◌≡◌, ℕ, Bool, true, false, eqb, refl}
-use Rattle.gh_base.specs.declared.cell.Ask.{Ask}
-use Rattle.gh_base.specs.declared.cell.Ask.TheVariants.{Swap}
 use Rattle.gh_base.specs.declared.cell.Cell.TheVariants as cell
-use Rattle.gh_base.specs.Cells.{Words}
 use Rattle.gh_base.specs.Packing.{head_word}
-use Rattle.gh_base.specs.Steps.{effect}
-use Rattle.gh_coord.specs.declared.count.CountStage.{CountStage}
 use Rattle.gh_coord.specs.declared.count.CountStage.TheVariants as count_stage
-use Rattle.gh_coord.specs.declared.stop.StopStage.{StopStage}
 use Rattle.gh_coord.specs.declared.stop.StopStage.TheVariants as stop_stage
-use Rattle.gh_coord.specs.declared.sweep_all.SweepAllStage.{SweepAllStage}
 use Rattle.gh_coord.specs.declared.sweep_all.SweepAllStage.TheVariants as all_stage
-use Rattle.gh_coord.specs.declared.watch.WatchStage.{WatchStage}
 use Rattle.gh_coord.specs.declared.watch.WatchStage.TheVariants as watch_stage
 use Rattle.gh_coord.specs.Counting as count
 use Rattle.gh_coord.specs.Stopping as stop
 use Rattle.gh_coord.specs.SweepingAll as all
 use Rattle.gh_coord.specs.Watching as watch
-use Rattle.gh_sweep.specs.declared.sweep.SweepStage.{SweepStage}
 use Rattle.gh_sweep.specs.declared.sweep.SweepStage.TheVariants as sweep_stage
 use Rattle.gh_sweep.specs.Listing as sweep
-use Rattle.gh_world.specs.Numbers.{asked_after, opened_after}
+use Rattle.gh_world.proofs.Vocabulary.{Ask, asked_after, CountStage, effect, opened_after, StopStage, Swap, SweepAllStage, SweepStage, WatchStage, Words}
 use Rattle.gh_world.proofs.CycleNumbers.Frames.{numbers_of}
 
 -- no cycle is opened, asked for, begun, ended or told, and no stack's word is written; what is counted may be

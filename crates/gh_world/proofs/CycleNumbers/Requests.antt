@@ -1,20 +1,12 @@
 -- The requests for cycles after every legal list.
 use Rattle.std.proofs.Common.{◌≡◌, ℕ, suc, zero, ◌≤◌, ◌⊎◌, inl, inr, Bool, refl, sym, subst, ◌∙◌, arith, List, [], ◌∷◌}
 use Rattle.std.specs.Prelude.{bit_or}
-use Rattle.gh_base.specs.declared.cell.Ask.{Ask}
 use Rattle.gh_base.specs.declared.cell.Cell.TheVariants as cell
-use Rattle.gh_base.specs.declared.layout.Layout.{Layout}
-use Rattle.gh_base.specs.declared.machine.Entry.{Entry}
-use Rattle.gh_base.specs.Lists.{Kind, Legal, started}
-use Rattle.gh_base.specs.Steps.{effect}
-use Rattle.gh_phase.specs.Handshake.{Party, Stage}
-use Rattle.gh_coord.specs.declared.coord.CoordStage.{CoordStage}
 use Rattle.gh_coord.specs.Listing as coord
-use Rattle.gh_worker.specs.Writing.{WorkersWriteTheirOwn}
 use Rattle.gh_world.specs.declared.handshake.Actor.TheVariants as actor
-use Rattle.gh_world.specs.Handshake.{AreParties, KeepsIt, Pacing}
-use Rattle.gh_world.specs.Numbers.{asked_after, asked_in, opened_after, opened_in, WritesNoNumbers}
+use Rattle.gh_world.specs.Numbers.{asked_in}
 use Rattle.gh_world.specs.Wants.{CountsWants}
+use Rattle.gh_world.proofs.Vocabulary.{AreParties, Ask, asked_after, CoordStage, effect, Entry, KeepsIt, Kind, Layout, Legal, opened_after, opened_in, Pacing, Party, Stage, started, WorkersWriteTheirOwn, WritesNoNumbers}
 use Rattle.gh_world.proofs.CycleNumbers.Frames.{Leaves, leaves, worker_leaves}
 use Rattle.gh_world.proofs.CycleNumbers.Wanting.{goes_so, WantsAt}
 use Rattle.gh_world.proofs.CycleNumbers.Seats as seats

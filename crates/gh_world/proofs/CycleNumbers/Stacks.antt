@@ -1,24 +1,14 @@
 -- The numbers at the stacks after every legal list.
 use Rattle.std.proofs.Common.{◌≡◌, ℕ, ◌≤◌, ◌<◌, ◌==◌, ◌⊎◌, inl, inr, Bool, true, false, cond, eqb, refl, sym, ap, subst, ◌∙◌, arith, List, [], ◌∷◌, Option, Some, None}
-use Rattle.gh_base.specs.declared.cell.Ask.{Ask}
-use Rattle.gh_base.specs.declared.cell.Ask.TheVariants.{Add, And, Load, Or, Store, Swap}
-use Rattle.gh_base.specs.declared.cell.Cell.{Cell}
 use Rattle.gh_base.specs.declared.cell.Cell.TheVariants as cell
-use Rattle.gh_base.specs.declared.layout.Layout.{Layout}
-use Rattle.gh_base.specs.declared.machine.Entry.{Entry}
-use Rattle.gh_base.specs.declared.pack.TheConstants.{END}
-use Rattle.gh_base.specs.Cells.{put, same_cell, Words}
-use Rattle.gh_base.specs.Lists.{Begins, Kind, Legal, started}
-use Rattle.gh_base.specs.Steps.{effect}
-use Rattle.gh_phase.specs.Handshake.{Acts, Awake, Party, PlaceBegins, Stage}
-use Rattle.gh_phase.specs.Shakes.{IsAwake}
+use Rattle.gh_phase.specs.Handshake.{PlaceBegins}
 use Rattle.gh_coord.specs.Listing as coord
 use Rattle.gh_worker.specs.Listing as worker
-use Rattle.gh_worker.specs.Writing.{IsWritten, WorkersWriteTheirOwn, WritesItsOwn}
+use Rattle.gh_worker.specs.Writing.{IsWritten}
 use Rattle.gh_world.specs.declared.handshake.Actor.TheVariants as actor
-use Rattle.gh_world.specs.Handshake.{AreParties, is_busy, KeepsIt, Pacing}
-use Rattle.gh_world.specs.Numbers.{ahead_at, CountsCycles, IsFew, opened_in, Part, Outside, Numbered, Opened, TallyCleared, LiveCleared, Begun, Checked, Ended, Counted, part_of, WritesNoNumbers}
+use Rattle.gh_world.specs.Numbers.{Opened, TallyCleared, LiveCleared, Counted}
 use Rattle.gh_world.specs.Waits.{IsNumberOf, NumbersStack, NumbersStacks, StacksAreNumbered}
+use Rattle.gh_world.proofs.Vocabulary.{Acts, Add, ahead_at, And, AreParties, Ask, Awake, Begins, Begun, Cell, Checked, CountsCycles, effect, END, Ended, Entry, is_busy, IsAwake, IsFew, KeepsIt, Kind, Layout, Legal, Load, Numbered, opened_in, Or, Outside, Pacing, Part, part_of, Party, put, same_cell, Stage, started, Store, Swap, Words, WorkersWriteTheirOwn, WritesItsOwn, WritesNoNumbers}
 use Rattle.gh_world.proofs.CycleNumbers.Frames.{Leaves as Leaves_, leaves, Numbers, worker_leaves}
 use Rattle.gh_world.proofs.CycleNumbers.Lists.{rises}
 use Rattle.gh_world.proofs.CycleNumbers.Wanting.{Aside, aside as lead_aside}

@@ -1,23 +1,12 @@
 -- Who has waited for a cycle has seen a whole one.
 use Rattle.std.proofs.Common.{◌≡◌, ℕ, suc, ◌+◌, ◌<◌, ◌≤◌, ◌==◌, ◌⊎◌, inl, inr, Bool, true, false, cond, ltb, refl, sym, ap, subst, ◌∙◌, arith, List, [], ◌∷◌, ◌++◌, append_assoc, Option, Some, None}
-use Rattle.std.proofs.lemmas.Bool.Decides.{nat_tests}
-use Rattle.gh_base.specs.declared.cell.Ask.{Ask}
-use Rattle.gh_base.specs.declared.cell.Ask.TheVariants.{Load, Store}
 use Rattle.gh_base.specs.declared.cell.Cell.TheVariants as cell
-use Rattle.gh_base.specs.declared.layout.Layout.{Layout}
-use Rattle.gh_base.specs.declared.machine.Entry.{Entry}
-use Rattle.gh_base.specs.Cells.{Words}
-use Rattle.gh_base.specs.Lists.{Begins, Kind, Legal, started}
-use Rattle.gh_base.specs.Steps.{cell_of, effect}
-use Rattle.gh_phase.specs.Handshake.{Party, Stage}
 use Rattle.gh_coord.specs.Listing as coord
 use Rattle.gh_worker.specs.Listing as worker
-use Rattle.gh_worker.specs.Writing.{WorkersWriteTheirOwn}
-use Rattle.gh_world.specs.declared.handshake.Actor.{Actor}
 use Rattle.gh_world.specs.declared.handshake.Actor.TheVariants as actor
-use Rattle.gh_world.specs.Handshake.{AreParties, is_busy, KeepsIt, Pacing}
-use Rattle.gh_world.specs.Numbers.{ahead_at, Begun, Checked, Counted, CountsCycles, Ended, IsFew, LiveCleared, Numbered, Opened, opened_in, Outside, Part, part_of, TallyCleared, WritesNoNumbers}
+use Rattle.gh_world.specs.Numbers.{Counted, LiveCleared, Opened, TallyCleared}
 use Rattle.gh_world.specs.Waits.{AskedBefore, EndsWait, HasCycle, WaitedForOne, WaitsForCycles}
+use Rattle.gh_world.proofs.Vocabulary.{Actor, ahead_at, AreParties, Ask, Begins, Begun, cell_of, Checked, CountsCycles, effect, Ended, Entry, is_busy, IsFew, KeepsIt, Kind, Layout, Legal, Load, nat_tests, Numbered, opened_in, Outside, Pacing, Part, part_of, Party, Stage, started, Store, Words, WorkersWriteTheirOwn, WritesNoNumbers}
 use Rattle.gh_world.proofs.CycleMarking.Seats.{IsSeated, other, seated}
 use Rattle.gh_world.proofs.CycleNumbers.Crossing.{crosses, Crossing}
 use Rattle.gh_world.proofs.CycleNumbers.Frames.{Leaves, leaves, Numbers, worker_leaves}

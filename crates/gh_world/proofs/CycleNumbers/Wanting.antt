@@ -1,33 +1,19 @@
 -- The coordinator's steps: what each leaves of the request for a cycle, and of how many are opened.
 use Rattle.std.proofs.Common.{◌≡◌, ℕ, suc, ◌+◌, ◌≤◌, ◌==◌, ◌⊎◌, inl, inr, Bool, true, false, cond, refl, ap, arith, Option, Some, None}
-use Rattle.std.proofs.lemmas.Bool.Decides.{nat_tests}
-use Rattle.gh_base.specs.declared.cell.Ask.{Ask}
-use Rattle.gh_base.specs.declared.cell.Ask.TheVariants.{Store}
 use Rattle.gh_base.specs.declared.cell.Cell.TheVariants as cell
-use Rattle.gh_base.specs.Cells.{Words}
-use Rattle.gh_base.specs.Packing.{bit}
-use Rattle.gh_base.specs.Steps.{cell_of, effect}
-use Rattle.gh_coord.specs.declared.close.CloseStage.{CloseStage}
 use Rattle.gh_coord.specs.declared.close.CloseStage.TheVariants as close_stage
-use Rattle.gh_coord.specs.declared.coord.CoordStage.{CoordStage}
-use Rattle.gh_coord.specs.declared.coord.CoordStage.TheVariants.{Check, Close, Count, Done, LoadAck, LoadWant, MarkOn, Open, Stop, StopAgain, Sweep, Tell, Watch}
-use Rattle.gh_coord.specs.declared.count.Counted.{Counted}
-use Rattle.gh_coord.specs.declared.open.OpenStage.{OpenStage}
 use Rattle.gh_coord.specs.declared.open.OpenStage.TheVariants as open_stage
-use Rattle.gh_coord.specs.declared.tell.TellStage.{TellStage}
 use Rattle.gh_coord.specs.declared.tell.TellStage.TheVariants as tell_stage
-use Rattle.gh_coord.specs.declared.watch.Watched.{Watched}
-use Rattle.gh_coord.specs.declared.watch.Watched.TheVariants.{All, NotYet}
 use Rattle.gh_coord.specs.Closing as close
 use Rattle.gh_coord.specs.Counting as count
 use Rattle.gh_coord.specs.Handshake.{SoundAt}
-use Rattle.gh_coord.specs.Listing.{after_check, after_close, after_count, after_open, after_stop, after_stop_again, after_sweep, after_tell, after_watch, asks_at, at_stage, Coordinating, goes_at, is_busy, stops_world}
+use Rattle.gh_coord.specs.Listing.{is_busy}
 use Rattle.gh_coord.specs.Opening as opens_by
 use Rattle.gh_coord.specs.Stopping as stop
 use Rattle.gh_coord.specs.SweepingAll as all
 use Rattle.gh_coord.specs.Telling as tell
 use Rattle.gh_coord.specs.Watching as watch
-use Rattle.gh_world.specs.Numbers.{asked_after, opened_after}
+use Rattle.gh_world.proofs.Vocabulary.{after_check, after_close, after_count, after_open, after_stop, after_stop_again, after_sweep, after_tell, after_watch, All, Ask, asked_after, asks_at, at_stage, bit, cell_of, Check, Close, CloseStage, Coordinating, CoordStage, Count, Counted, Done, effect, goes_at, LoadAck, LoadWant, MarkOn, nat_tests, NotYet, Open, opened_after, OpenStage, Stop, StopAgain, stops_world, Store, Sweep, Tell, TellStage, Watch, Watched, Words}
 use Rattle.gh_world.proofs.CycleNumbers.Frames.{Numbers}
 use Rattle.gh_world.proofs.CycleNumbers.Quiet.{all_quiet, count_still, Quiet, stop_still, watch_still}
 use Rattle.gh_world.specs.Wants.{IsIdle, IsToOpen, last_at}

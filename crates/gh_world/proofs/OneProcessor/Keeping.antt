@@ -1,37 +1,13 @@
 -- What the processor is at fits where the coordinator is, after every legal list of one processor; so it keeps to polls while a cycle is marked.
 use Rattle.std.proofs.Common.{◌≡◌, ◌≢◌, ℕ, ◌<◌, ◌⊎◌, Bool, true, false, cond, ltb, refl, sym, ap, subst, ◌∙◌, inl, inr, arith, List, [], ◌∷◌, Option, Some, None}
-use Rattle.std.proofs.lemmas.Bool.Decides.{nat_tests}
-use Rattle.gh_base.specs.declared.cell.Ask.{Ask}
 use Rattle.gh_base.specs.declared.cell.Cell.TheVariants as cell
-use Rattle.gh_base.specs.declared.layout.Layout.{Layout}
-use Rattle.gh_base.specs.declared.machine.Entry.{Entry}
-use Rattle.gh_base.specs.declared.operation.Op.{Op}
-use Rattle.gh_base.specs.declared.pack.TheConstants.{GONE}
-use Rattle.gh_base.specs.declared.shape.Shape.{Shape}
-use Rattle.gh_base.specs.Cells.{Words}
-use Rattle.gh_base.specs.Lists.{Begins, Kind, Legal, started, state_of, words_after}
-use Rattle.gh_base.specs.Steps.{cell_of, ChangesOneCell, effect}
-use Rattle.gh_phase.specs.Handshake.{Awake, Gives, Gone, Lead, Leads, Leaves, Party, Resumes, Stage}
-use Rattle.gh_phase.specs.Shakes.{IsAwake, IsParked}
 use Rattle.gh_coord.specs.Handshake as leading
 use Rattle.gh_coord.specs.Listing as coord
-use Rattle.gh_coord.specs.Stopping.{acks_of}
-use Rattle.gh_mutator.specs.declared.processor.Processor.{Processor}
-use Rattle.gh_mutator.specs.declared.task.Task.{Task}
 use Rattle.gh_mutator.specs.declared.task.Task.TheVariants as task
-use Rattle.gh_mutator.specs.Deeds.{processor_kind}
-use Rattle.gh_mutator.specs.Handshake.{knower}
-use Rattle.gh_mutator.specs.Listing.{asks, begins, is_busy_at, takes}
-use Rattle.gh_mutator.specs.Processor.{opening_processor}
-use Rattle.gh_mutator.specs.ProcessorPlaces.{party_of, stage_of}
-use Rattle.gh_mutator.specs.Serving.{has_left_at}
-use Rattle.gh_mutator.specs.Writing.{IsSound, ProcessorWritesItsOwn}
 use Rattle.gh_worker.specs.Listing as worker
-use Rattle.gh_worker.specs.Writing.{WorkersWriteTheirOwn, WritesItsOwn}
-use Rattle.gh_world.specs.declared.handshake.Actor.{Actor}
 use Rattle.gh_world.specs.declared.handshake.Actor.TheVariants as actor
-use Rattle.gh_world.specs.Handshake.{actors, asks as actor_asks, is_busy, KeepsIt, Pacing, place_of, Sound}
-use Rattle.gh_world.specs.KeepsToPolls.{IsPolled, KeepsToPolls, those}
+use Rattle.gh_world.specs.Handshake.{asks as actor_asks, Sound}
+use Rattle.gh_world.proofs.Vocabulary.{acks_of, Actor, actors, Ask, asks, Awake, Begins, begins, cell_of, ChangesOneCell, effect, Entry, Gives, GONE, Gone, has_left_at, is_busy, is_busy_at, IsAwake, IsParked, IsPolled, IsSound, KeepsIt, KeepsToPolls, Kind, knower, Layout, Lead, Leads, Leaves, Legal, nat_tests, Op, opening_processor, Pacing, Party, party_of, place_of, Processor, processor_kind, ProcessorWritesItsOwn, Resumes, Shape, Stage, stage_of, started, state_of, takes, Task, those, Words, words_after, WorkersWriteTheirOwn, WritesItsOwn}
 use Rattle.gh_world.proofs.CycleMarking.Seats.{IsSeated, lead_started, leads, other, run_started, runs, seated, worker_started}
 use Rattle.gh_world.proofs.OneProcessor.Asking.{IsCalm, IsTold}
 use Rattle.gh_world.proofs.OneProcessor.Lists.{apart, awake, begins_fit, begins_unread, begun_view, calm_begun, gone_left, led, not_swept, not_want, open_calm, polled, reads, search_calm, still}

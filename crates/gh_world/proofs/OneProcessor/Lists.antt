@@ -1,52 +1,29 @@
 -- With one processor each legal list keeps to polls: what the processor is at fits where the coordinator is, after every list.
 use Rattle.std.proofs.Common.{◌≡◌, ◌≢◌, ℕ, Bool, true, false, cond, refl, sym, ap, ◌∙◌, inl, inr, List}
-use Rattle.gh_base.specs.declared.cell.Ask.{Ask}
 use Rattle.gh_base.specs.declared.cell.Ask.TheVariants as ask
-use Rattle.gh_base.specs.declared.cell.Cell.{Cell}
 use Rattle.gh_base.specs.declared.cell.Cell.TheVariants as cell
-use Rattle.gh_base.specs.declared.layout.Layout.{Layout}
-use Rattle.gh_base.specs.declared.operation.Op.{Op}
 use Rattle.gh_base.specs.declared.operation.Op.TheVariants as op
-use Rattle.gh_base.specs.declared.pack.TheConstants.{GONE}
-use Rattle.gh_base.specs.declared.shape.Shape.{Shape}
-use Rattle.gh_base.specs.Cells.{same_cell, Words}
-use Rattle.gh_base.specs.Steps.{cell_of, ChangesOneCell, effect, left}
-use Rattle.gh_phase.specs.declared.resume.ResumeStage.{ResumeStage}
 use Rattle.gh_phase.specs.declared.resume.ResumeStage.TheVariants as resume_stage
-use Rattle.gh_phase.specs.declared.view.RunPhase.{RunPhase}
 use Rattle.gh_phase.specs.declared.view.RunPhase.TheVariants as run
 use Rattle.gh_phase.specs.ResumePlaces as resumes
-use Rattle.gh_phase.specs.Handshake.{Gone, Stage, Stopped}
-use Rattle.gh_phase.specs.Shakes.{IsAwake}
-use Rattle.gh_coord.specs.declared.coord.CoordStage.{CoordStage}
-use Rattle.gh_coord.specs.declared.coord.CoordStage.TheVariants.{Check, Close, Count, Done, LoadAck, LoadWant, MarkOn, Open, Stop, StopAgain, Sweep, Tell, Watch}
-use Rattle.gh_coord.specs.declared.tell.TellStage.{TellStage}
 use Rattle.gh_coord.specs.declared.tell.TellStage.TheVariants as tell_stage
 use Rattle.gh_coord.specs.Handshake as leading
 use Rattle.gh_coord.specs.Listing as coord
-use Rattle.gh_mutator.specs.declared.leave.LeaveStage.{LeaveStage}
 use Rattle.gh_mutator.specs.declared.leave.LeaveStage.TheVariants as leave_stage
 use Rattle.gh_mutator.specs.declared.new.NewStage.TheVariants as new
-use Rattle.gh_mutator.specs.declared.poll.PollStage.{PollStage}
 use Rattle.gh_mutator.specs.declared.poll.PollStage.TheVariants as poll_stage
 use Rattle.gh_mutator.specs.declared.task.Task.TheVariants as task
-use Rattle.gh_mutator.specs.declared.wait.WaitStage.{WaitStage}
 use Rattle.gh_mutator.specs.declared.wait.WaitStage.TheVariants as wait_stage
-use Rattle.gh_mutator.specs.Deeds.{processor_kind}
 use Rattle.gh_mutator.specs.declared.wait.Wait.{Wait}
-use Rattle.gh_mutator.specs.Handshake.{knower, leaves_at, polls_at, waits_at}
 use Rattle.gh_mutator.specs.Leave as leave
-use Rattle.gh_mutator.specs.Listing.{asks_at, begins, is_busy_at}
+use Rattle.gh_mutator.specs.Listing.{asks_at}
 use Rattle.gh_mutator.specs.New.{asks_at as new_asks}
-use Rattle.gh_mutator.specs.ProcessorMarks.{new_polls, only_polls}
-use Rattle.gh_mutator.specs.ProcessorPlaces.{new_party_at, new_stage_at, party_at, SoundAt, SoundNewAt, stage_at}
-use Rattle.gh_mutator.specs.declared.new.NewStage.{NewStage}
-use Rattle.gh_mutator.specs.declared.processor.Processor.{Processor}
-use Rattle.gh_mutator.specs.declared.task.Task.{Task}
-use Rattle.gh_mutator.specs.Poll.{Polling}
-use Rattle.gh_mutator.specs.Wait.{asks_at as wait_asks, waiting}
+use Rattle.gh_mutator.specs.ProcessorPlaces.{new_party_at, SoundNewAt}
+use Rattle.gh_mutator.specs.Wait.{asks_at as wait_asks}
 use Rattle.gh_worker.specs.Writing as writing
-use Rattle.gh_world.proofs.OneProcessor.Asking.{asked_goes, calm_goes, calm_still, CalmAt, IsCalm, IsTelling, told_goes, ToldAt}
+use Rattle.gh_world.proofs.Vocabulary.{Ask, begins, Cell, cell_of, ChangesOneCell, Check, Close, CoordStage, Count, Done, effect, GONE, Gone, is_busy_at, IsAwake, knower, Layout, leaves_at, LeaveStage, left, LoadAck, LoadWant, MarkOn, new_polls, new_stage_at, NewStage, only_polls, Op, Open, party_at, Polling, polls_at, PollStage, Processor, processor_kind, ResumeStage, RunPhase, same_cell, Shape, SoundAt, Stage, stage_at, Stop, StopAgain, Stopped, Sweep, Task, Tell, TellStage, waiting, waits_at, WaitStage, Watch, Words}
+use Rattle.gh_world.proofs.OneProcessor.Asking.{CalmAt, IsCalm, IsTelling, ToldAt}
+use Rattle.gh_world.proofs.OneProcessor.Leading.{asked_goes, calm_goes, calm_still, told_goes}
 use Rattle.gh_world.proofs.OneProcessor.Steps.{IsServed, NewFits, Reads, Searches, TaskFits, TaskReads, TaskSearches, TaskStill, WaitAt, WaitsStill}
 
 -- By the processor's task.

@@ -1,44 +1,23 @@
 -- What the processor is at, by its task: whether it waits for a cycle that it has asked for. And where each of its steps leads.
 use Rattle.std.proofs.Common.{◌≡◌, ℕ, ◌<◌, ◌⊎◌, Bool, true, false, cond, ltb, refl, sym, ap, ◌∙◌, inl, inr, arith, List, Option, Some, None}
-use Rattle.std.proofs.lemmas.Bool.{ltb-true}
-use Rattle.gh_base.specs.declared.cell.Ask.{Ask}
 use Rattle.gh_base.specs.declared.cell.Ask.TheVariants as ask
-use Rattle.gh_base.specs.declared.cell.Cell.{Cell}
 use Rattle.gh_base.specs.declared.cell.Cell.TheVariants as cell
-use Rattle.gh_base.specs.Cells.{same_cell, Words}
-use Rattle.gh_base.specs.Steps.{ChangesOneCell, effect, left}
-use Rattle.gh_alloc.specs.declared.sought.Found.{Found}
-use Rattle.gh_alloc.specs.declared.sought.Found.TheVariants.{At, NoRoom}
-use Rattle.gh_alloc.specs.Place.{Placing, is_busy as places_still}
+use Rattle.gh_alloc.specs.Place.{is_busy as places_still}
 use Rattle.gh_alloc.specs.Place as place
-use Rattle.gh_alloc.specs.Search.{Seeking}
 use Rattle.gh_alloc.specs.Search as search
-use Rattle.gh_coord.specs.Listing.{Coordinating}
 use Rattle.gh_mutator.specs.declared.new.NewStage.TheVariants as new
-use Rattle.gh_mutator.specs.declared.new.Wanted.{Wanted}
-use Rattle.gh_mutator.specs.declared.step.Then.{Then}
-use Rattle.gh_mutator.specs.declared.step.Then.TheVariants.{Ends, GoesOn}
 use Rattle.gh_mutator.specs.declared.task.Task.TheVariants as task
 use Rattle.gh_mutator.specs.declared.wait.Wait.{Wait}
-use Rattle.gh_mutator.specs.declared.wait.WaitStage.{WaitStage}
 use Rattle.gh_mutator.specs.declared.wait.WaitStage.TheVariants.{Ended, LoadSwept, Polling as Polls, Want}
-use Rattle.gh_mutator.specs.Leave.{Leaving}
-use Rattle.gh_mutator.specs.Listing.{after_gc, after_leave, after_poll, asks, follows, is_busy_at, takes_at}
 use Rattle.gh_mutator.specs.Global as global
 use Rattle.gh_mutator.specs.Leave as leave
 use Rattle.gh_mutator.specs.Load as load
 use Rattle.gh_mutator.specs.New.{after_search, after_wait, takes_at as new_takes}
-use Rattle.gh_mutator.specs.Poll.{Polling}
 use Rattle.gh_mutator.specs.Poll as poll
-use Rattle.gh_mutator.specs.Processor.{cache_span, register_of}
 use Rattle.gh_mutator.specs.Register as register
 use Rattle.gh_mutator.specs.Store as store
-use Rattle.gh_base.specs.declared.shape.Shape.{Shape}
-use Rattle.gh_mutator.specs.declared.new.NewStage.{NewStage}
-use Rattle.gh_mutator.specs.declared.processor.Processor.{Processor}
-use Rattle.gh_mutator.specs.declared.task.Task.{Task}
 use Rattle.gh_mutator.specs.Wait as wait
-use Rattle.gh_mutator.specs.Writing.{IsWanting, IsWritten, WritesOf}
+use Rattle.gh_world.proofs.Vocabulary.{after_gc, after_leave, after_poll, Ask, asks, At, cache_span, Cell, ChangesOneCell, Coordinating, effect, Ends, follows, Found, GoesOn, is_busy_at, IsWanting, IsWritten, Leaving, left, ltb-true, NewStage, NoRoom, Placing, Polling, Processor, register_of, same_cell, Seeking, Shape, takes_at, Task, Then, WaitStage, Wanted, Words, WritesOf}
 use Rattle.gh_world.proofs.OneProcessor.Asking.{IsAsked, IsCalm, IsTold, asked_so, calm_asked, calm_so, told_so}
 
 module _ (c : Coordinating) (w : Words) where

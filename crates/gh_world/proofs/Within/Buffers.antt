@@ -1,30 +1,20 @@
 -- The steps of the routines on buffers are on words that there are, whatever is found.
 use Rattle.std.proofs.Common.{◌≡◌, ℕ, ◌+◌, ◌<◌, ◌≤◌, ◌==◌, ◌&&◌, Bool, true, false, cond, ltb, Option, Some, None, refl, sym, subst, ◌∙◌, arith}
-use Rattle.std.proofs.lemmas.Bool.Decides.{nat_tests}
-use Rattle.gh_base.specs.declared.held.Held.{Held}
-use Rattle.gh_base.specs.declared.layout.Layout.{Layout}
 use Rattle.gh_base.specs.declared.pack.TheConstants.{ENTRIES}
-use Rattle.gh_base.specs.Cells.{buffers_of, InRange}
-use Rattle.gh_base.specs.Holding.{FitsBuffers, IsHeld}
-use Rattle.gh_base.specs.Packing.{buffer_of}
-use Rattle.gh_base.specs.Steps.{cell_of}
-use Rattle.gh_wbuf.specs.declared.find_room.RoomStage.{RoomStage}
+use Rattle.gh_base.specs.Holding.{FitsBuffers}
 use Rattle.gh_wbuf.specs.declared.find_room.RoomStage.TheVariants as room_at
-use Rattle.gh_wbuf.specs.declared.give_buffer.GiveStage.{GiveStage}
 use Rattle.gh_wbuf.specs.declared.give_buffer.GiveStage.TheVariants as give_at
-use Rattle.gh_wbuf.specs.declared.take_entry.TakeStage.{TakeStage}
 use Rattle.gh_wbuf.specs.declared.take_entry.TakeStage.TheVariants as take_at
-use Rattle.gh_wbuf.specs.declared.try_buffer.TryStage.{TryStage}
 use Rattle.gh_wbuf.specs.declared.try_buffer.TryStage.TheVariants.{Look, GiveBack, Claim, Ended}
 use Rattle.gh_wbuf.specs.declared.try_buffer.Wish.{Wish}
 use Rattle.gh_wbuf.specs.declared.try_buffer.Wish.TheVariants.{Room, Entry}
 use Rattle.gh_wbuf.specs.BufferGiving as give
 use Rattle.gh_wbuf.specs.EntryTaking as take
 use Rattle.gh_wbuf.specs.RoomFinding as room
-use Rattle.gh_wbuf.specs.Sound.{FitsGiveStage}
 use Rattle.gh_wbuf.specs.Trying as try
 use Rattle.gh_wbuf.specs.Trying.{Trying}
 use Rattle.gh_wbuf.specs.TrySound.{FitsTryStage, GivesServing}
+use Rattle.gh_world.proofs.Vocabulary.{buffer_of, buffers_of, cell_of, FitsGiveStage, GiveStage, Held, InRange, IsHeld, Layout, nat_tests, RoomStage, TakeStage, TryStage}
 
 -- a try of a buffer that there is
 pub record TryWithin (l : Layout) (t : Trying) : Type 0 where

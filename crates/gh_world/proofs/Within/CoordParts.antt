@@ -1,29 +1,14 @@
 -- The parts of the coordinator ask for words that there are, whatever they were told.
 use Rattle.std.proofs.Common.{◌≡◌, ℕ, ◌+◌, ◌*◌, ◌<◌, Bool, true, false, cond, ◌==◌, refl, sym, subst, ◌∙◌, arith, Option, Some, None}
-use Rattle.std.proofs.lemmas.Bool.Decides.{nat_tests}
-use Rattle.std.proofs.lemmas.Nat.{mod_below}
-use Rattle.std.specs.Prelude.{nat_lt, ◌-◌}
+use Rattle.std.specs.Prelude.{◌-◌}
 use Rattle.gh_base.specs.declared.cell.Cell.TheVariants as cell
-use Rattle.gh_base.specs.declared.layout.Layout.{Layout}
-use Rattle.gh_base.specs.declared.pack.PageWord.{PageWord}
 use Rattle.gh_base.specs.declared.pack.PageWord.TheVariants as page
-use Rattle.gh_base.specs.Cells.{buffers_of, InRange}
-use Rattle.gh_base.specs.Packing.{page_of}
-use Rattle.gh_base.specs.Steps.{cell_of}
-use Rattle.gh_coord.specs.declared.close.CloseStage.{CloseStage}
 use Rattle.gh_coord.specs.declared.close.CloseStage.TheVariants as close_stage
-use Rattle.gh_coord.specs.declared.count.CountStage.{CountStage}
 use Rattle.gh_coord.specs.declared.count.CountStage.TheVariants as count_stage
-use Rattle.gh_coord.specs.declared.open.OpenStage.{OpenStage}
 use Rattle.gh_coord.specs.declared.open.OpenStage.TheVariants as open_stage
-use Rattle.gh_coord.specs.declared.stop.StopStage.{StopStage}
 use Rattle.gh_coord.specs.declared.stop.StopStage.TheVariants as stop_stage
-use Rattle.gh_coord.specs.declared.sweep_all.SweepAllStage.{SweepAllStage}
 use Rattle.gh_coord.specs.declared.sweep_all.SweepAllStage.TheVariants as all_stage
-use Rattle.gh_coord.specs.declared.tell.TellStage.{TellStage}
 use Rattle.gh_coord.specs.declared.tell.TellStage.TheVariants as tell_stage
-use Rattle.gh_coord.specs.declared.watch.Watched.TheVariants.{All, NotYet}
-use Rattle.gh_coord.specs.declared.watch.WatchStage.{WatchStage}
 use Rattle.gh_coord.specs.declared.watch.WatchStage.TheVariants as watch_stage
 use Rattle.gh_coord.specs.Closing as close
 use Rattle.gh_coord.specs.Counting as count
@@ -33,12 +18,10 @@ use Rattle.gh_coord.specs.Stopping as stop
 use Rattle.gh_coord.specs.SweepingAll as all
 use Rattle.gh_coord.specs.Telling as tell
 use Rattle.gh_coord.specs.Watching as watch
-use Rattle.gh_sweep.specs.declared.sweep.SweepEnd.{SweepEnd}
-use Rattle.gh_sweep.specs.declared.sweep.SweepEnd.TheVariants.{Lost, Swept}
-use Rattle.gh_sweep.specs.declared.sweep.SweepStage.{SweepStage}
 use Rattle.gh_sweep.specs.declared.sweep.SweepStage.TheVariants as span
 use Rattle.gh_sweep.specs.Ends as sweep_ends
 use Rattle.gh_sweep.specs.Listing as sweep
+use Rattle.gh_world.proofs.Vocabulary.{All, buffers_of, cell_of, CloseStage, CountStage, InRange, Layout, Lost, mod_below, nat_lt, nat_tests, NotYet, OpenStage, page_of, PageWord, StopStage, SweepAllStage, SweepEnd, SweepStage, Swept, TellStage, WatchStage}
 
 -- Of each part, that it is of this heap, and that the word that is next lies in its row.
 

@@ -1,24 +1,15 @@
 -- The coordinator asks for words that there are, whatever it was told.
 use Rattle.std.proofs.Common.{◌≡◌, ℕ, ◌+◌, ◌<◌, Bool, true, false, cond, ◌==◌, refl, sym, subst, arith}
-use Rattle.std.proofs.lemmas.Bool.Decides.{nat_tests}
-use Rattle.std.specs.Prelude.{nat_lt}
-use Rattle.gh_base.specs.declared.layout.Layout.{Layout}
-use Rattle.gh_base.specs.declared.pack.TheConstants.{GONE}
-use Rattle.gh_base.specs.Cells.{InRange}
-use Rattle.gh_base.specs.Steps.{cell_of}
-use Rattle.gh_coord.specs.declared.coord.CoordStage.{CoordStage}
-use Rattle.gh_coord.specs.declared.coord.CoordStage.TheVariants.{Check, Close, Count, Done, LoadAck, LoadWant, MarkOn, Open, Stop, StopAgain, Sweep, Tell, Watch}
 use Rattle.gh_coord.specs.Closing as close
 use Rattle.gh_coord.specs.Counting as count
 use Rattle.gh_coord.specs.Ends.{by_last, by_out, by_want, by_watched, stays}
 use Rattle.gh_coord.specs.Listing as coord
-use Rattle.gh_coord.specs.Listing.{after_check, after_close, after_count, after_open, after_stop, after_stop_again, after_sweep, after_tell, after_watch, asks_at, at_stage, Coordinating, counted, goes, goes_at, stops_world}
 use Rattle.gh_coord.specs.Opening as opens
 use Rattle.gh_coord.specs.Stopping as stop
 use Rattle.gh_coord.specs.SweepingAll as all
 use Rattle.gh_coord.specs.Telling as tell
 use Rattle.gh_coord.specs.Watching as watch
-use Rattle.gh_world.specs.Marking.{IsInLimits}
+use Rattle.gh_world.proofs.Vocabulary.{after_check, after_close, after_count, after_open, after_stop, after_stop_again, after_sweep, after_tell, after_watch, asks_at, at_stage, cell_of, Check, Close, Coordinating, CoordStage, Count, counted, Done, goes, goes_at, GONE, InRange, IsInLimits, Layout, LoadAck, LoadWant, MarkOn, nat_lt, nat_tests, Open, Stop, StopAgain, stops_world, Sweep, Tell, Watch}
 use Rattle.gh_world.proofs.Within.CoordParts.{all_goes, all_within, close_within, count_within, FitsStopping, FitsSweeping, FitsWatching, open_within, stop_goes, stop_within, tell_within, watch_goes, watch_within}
 
 -- at the stages of which nothing is asked it asks for a word that stands in no row

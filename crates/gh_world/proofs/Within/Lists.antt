@@ -1,23 +1,10 @@
 -- After every list each worker's step is on a word that there is, whatever the processors are and whatever was found.
 use Rattle.std.proofs.Common.{◌≡◌, ℕ, ◌≤◌, ◌==◌, Bool, true, false, cond, ltb, Option, Some, None, refl, subst, arith, List, [], ◌∷◌}
-use Rattle.std.proofs.lemmas.Bool.Decides.{nat_tests}
-use Rattle.gh_base.specs.declared.layout.Layout.{Layout}
-use Rattle.gh_base.specs.declared.machine.Entry.{Entry}
-use Rattle.gh_base.specs.declared.operation.Op.{Op}
-use Rattle.gh_base.specs.declared.shape.Shape.{Shape}
-use Rattle.gh_base.specs.Cells.{InRange}
-use Rattle.gh_base.specs.Lists.{Kind, started, state_of}
-use Rattle.gh_base.specs.Steps.{cell_of}
 use Rattle.gh_coord.specs.Listing as coord
-use Rattle.gh_coord.specs.Stopping.{acks_of}
-use Rattle.gh_mutator.specs.Deeds.{processor_kind}
 use Rattle.gh_worker.specs.Listing as worker
-use Rattle.gh_worker.specs.Listing.{Working}
-use Rattle.gh_world.specs.declared.handshake.Actor.{Actor}
 use Rattle.gh_world.specs.declared.handshake.Actor.TheVariants as actor
-use Rattle.gh_world.specs.Handshake.{actors, Pacing, start, takes}
-use Rattle.gh_world.specs.KeepsToPolls.{those}
-use Rattle.gh_world.specs.Marking.{IsInLimits}
+use Rattle.gh_world.specs.Handshake.{start, takes}
+use Rattle.gh_world.proofs.Vocabulary.{acks_of, Actor, actors, cell_of, Entry, InRange, IsInLimits, Kind, Layout, nat_tests, Op, Pacing, processor_kind, Shape, started, state_of, those, Working}
 use Rattle.gh_world.proofs.CycleMarking.Seats.{IsSeated, seated}
 use Rattle.gh_world.proofs.Within.Workers.{first, FitsWhole, goes_on, within}
 

@@ -1,36 +1,18 @@
 -- The next step of a processor is on a word that there is: by its rights where they are known, and while spans are swept since it loads the phase.
 use Rattle.std.proofs.Common.{◌≡◌, ℕ, ◌<◌, Bool, true, false, refl, sym, ap, subst, ◌∙◌, arith, inl, inr, List, Option, Some, None}
-use Rattle.gh_base.specs.declared.cell.Ask.{Ask}
-use Rattle.gh_base.specs.Cells.{InRange}
-use Rattle.gh_base.specs.Lists.{Begins, by, Kind}
-use Rattle.gh_base.specs.Packing.{PackedWordsAreReadBack}
-use Rattle.gh_base.specs.Steps.{cell_of}
-use Rattle.gh_phase.specs.declared.view.RunPhase.{RunPhase}
 use Rattle.gh_phase.specs.declared.view.RunPhase.TheVariants as phases
-use Rattle.gh_phase.specs.Handshake.{Stopped}
-use Rattle.gh_phase.specs.Shakes.{IsParked}
-use Rattle.gh_coord.specs.declared.coord.CoordStage.{CoordStage}
-use Rattle.gh_coord.specs.declared.coord.CoordStage.TheVariants.{Check, Close, Count, Done, LoadAck, LoadWant, MarkOn, Open, Stop, StopAgain, Sweep, Tell, Watch}
-use Rattle.gh_coord.specs.declared.tell.TellStage.{TellStage}
 use Rattle.gh_coord.specs.declared.tell.TellStage.TheVariants as telling
 use Rattle.gh_coord.specs.Handshake as leading
 use Rattle.gh_mutator.specs.declared.task.Task.TheVariants as task
 use Rattle.gh_mutator.specs.Facts.{MayBegin}
-use Rattle.gh_mutator.specs.Listing.{asks, is_busy_at}
-use Rattle.gh_mutator.specs.ProcessorPlaces.{stage_of}
 use Rattle.gh_world.specs.declared.handshake.Actor.TheVariants as actor
-use Rattle.gh_world.specs.Actors.{may_of, MayStep}
-use Rattle.gh_world.specs.ActorsHold.{HoldsAt, IsAsItShould, IsHeapOf, IsQuiet, IsTelling, processor_at}
-use Rattle.gh_world.specs.ActorsMark.{Sound}
-use Rattle.gh_world.specs.Handshake.{actors, is_busy}
+use Rattle.gh_world.specs.Actors.{MayStep}
 use Rattle.gh_world.specs.Handshake as handshake
-use Rattle.gh_world.specs.HoldVocabulary.{acks_of, arena, Arena, Coordinating, Entry, Fine, Good, Heap, IsLed, Layout, Legal, Op, Pacing, Processor, processor_kind, Shape, ShapesAreGood, started, state_of, view}
-use Rattle.gh_world.specs.KeepsToPolls.{those}
-use Rattle.gh_world.specs.Vocabulary.{made_by}
+use Rattle.gh_world.proofs.Vocabulary.{acks_of, actors, Arena, arena, Ask, asks, Begins, by, cell_of, Check, Close, Coordinating, CoordStage, Count, Done, Entry, Fine, Good, Heap, HoldsAt, InRange, is_busy, is_busy_at, IsAsItShould, IsHeapOf, IsLed, IsParked, IsQuiet, IsTelling, Kind, Layout, Legal, LoadAck, LoadWant, made_by, MarkOn, may_of, Op, Open, Pacing, PackedWordsAreReadBack, Processor, processor_at, processor_kind, RunPhase, Shape, ShapesAreGood, Sound, stage_of, started, state_of, Stop, StopAgain, Stopped, Sweep, Tell, TellStage, those, view, Watch}
 use Rattle.gh_world.proofs.AllActors.Beginning.{may-begin}
 use Rattle.gh_world.proofs.AllActors.Going.{goes_then, IsGoing}
 use Rattle.gh_world.proofs.AllActors.Known.{Known, ListsKnown}
-use Rattle.gh_world.proofs.AllActors.OwnSide.{state_by}
+use Rattle.gh_world.proofs.AllActors.OwnEntries.{state_by}
 use Rattle.gh_world.proofs.AllActors.Ranging.{may_parts}
 use Rattle.gh_world.proofs.AllActors.Resting.{runs_are}
 use Rattle.gh_world.proofs.AllActors.Saying.{Marked}

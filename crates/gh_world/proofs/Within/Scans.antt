@@ -1,23 +1,14 @@
 -- The steps of shading and of the scan of an object are on words that there are, whatever is found.
 use Rattle.std.proofs.Common.{◌≡◌, ℕ, ◌+◌, ◌-◌, ◌*◌, ◌/◌, ◌%◌, ◌<◌, ◌≤◌, ◌==◌, Bool, true, false, cond, ltb, Option, Some, None, refl, sym, subst, arith}
-use Rattle.std.proofs.lemmas.Bool.Decides.{nat_tests}
-use Rattle.std.proofs.lemmas.Nat.{mod_below}
-use Rattle.gh_base.specs.declared.held.Held.{Held}
-use Rattle.gh_base.specs.declared.layout.Layout.{Layout}
 use Rattle.gh_base.specs.declared.pack.TheConstants.{ENTRIES}
-use Rattle.gh_base.specs.Cells.{InRange}
-use Rattle.gh_base.specs.Holding.{IsHeld}
-use Rattle.gh_base.specs.Steps.{cell_of}
-use Rattle.gh_scan.specs.declared.scan.ScanStage.{ScanStage}
 use Rattle.gh_scan.specs.declared.scan.ScanStage.TheVariants as scan_at
 use Rattle.gh_scan.specs.Listing as scan
-use Rattle.gh_shade.specs.declared.shade.Shaded.{Shaded}
 use Rattle.gh_shade.specs.declared.shade.Shaded.TheVariants as shaded
-use Rattle.gh_shade.specs.declared.shade.ShadeStage.{ShadeStage}
 use Rattle.gh_shade.specs.declared.shade.ShadeStage.TheVariants as shade_at
 use Rattle.gh_shade.specs.Listing as shade
-use Rattle.gh_shade.specs.Sound.{FitsStage, HasPlace, IsReference}
+use Rattle.gh_shade.specs.Sound.{FitsStage, HasPlace}
 use Rattle.gh_wbuf.specs.RoomFinding as room
+use Rattle.gh_world.proofs.Vocabulary.{cell_of, Held, InRange, IsHeld, IsReference, Layout, mod_below, nat_tests, ScanStage, Shaded, ShadeStage}
 use Rattle.gh_world.proofs.Within.Buffers.{HasRoom, room_first, room_gives, room_goes, room_holds, room_within, RoomWithin}
 
 pub record ShadeWithin (l : Layout) (s : shade.Shading) : Type 0 where

@@ -1,38 +1,22 @@
 -- Each step of a worker is on a word that there is, whatever is found.
 use Rattle.std.proofs.Common.{◌≡◌, ℕ, ◌+◌, ◌-◌, ◌<◌, ◌≤◌, ◌==◌, Bool, true, false, cond, ltb, Option, Some, None, refl, sym, subst, arith}
-use Rattle.std.proofs.lemmas.Bool.Decides.{nat_tests}
-use Rattle.gh_base.specs.declared.held.Held.{Held}
-use Rattle.gh_base.specs.declared.layout.Layout.{Layout}
 use Rattle.gh_base.specs.declared.pack.Phase.{Phase}
 use Rattle.gh_base.specs.declared.pack.Phase.TheVariants as phase
-use Rattle.gh_base.specs.Cells.{InRange}
-use Rattle.gh_base.specs.Holding.{IsHeld}
-use Rattle.gh_base.specs.Packing.{phase_of}
-use Rattle.gh_base.specs.Steps.{cell_of}
-use Rattle.gh_phase.specs.declared.resume.Resumed.{Resumed}
-use Rattle.gh_phase.specs.declared.resume.ResumeStage.{ResumeStage}
 use Rattle.gh_phase.specs.declared.resume.ResumeStage.TheVariants as resume_at
-use Rattle.gh_phase.specs.declared.view.RunPhase.{RunPhase}
 use Rattle.gh_phase.specs.Listing as resume
-use Rattle.gh_phase.specs.Views.{run_phase}
 use Rattle.gh_scan.specs.Listing as scan
-use Rattle.gh_shade.specs.declared.shade.Shaded.{Shaded}
 use Rattle.gh_shade.specs.declared.shade.Shaded.TheVariants as shaded
 use Rattle.gh_shade.specs.Listing as shade
-use Rattle.gh_shade.specs.Sound.{IsReference}
-use Rattle.gh_wbuf.specs.declared.take_entry.TakeStage.{TakeStage}
 use Rattle.gh_wbuf.specs.declared.take_entry.TakeStage.TheVariants as take_at
 use Rattle.gh_wbuf.specs.BufferGiving as give
 use Rattle.gh_wbuf.specs.EntryTaking as take
 use Rattle.gh_wbuf.specs.RoomFinding as room
-use Rattle.gh_wbuf.specs.Sound.{FitsGiveStage}
 use Rattle.gh_wbuf.specs.Trying as try
-use Rattle.gh_worker.specs.declared.worker.WorkerStage.{WorkerStage}
 use Rattle.gh_worker.specs.declared.worker.WorkerStage.TheVariants as at
 use Rattle.gh_worker.specs.Ends as worker_ends
 use Rattle.gh_worker.specs.Listing as worker
-use Rattle.gh_worker.specs.Listing.{Working}
 use Rattle.gh_worker.specs.Sound.{IsWorkersSeat}
+use Rattle.gh_world.proofs.Vocabulary.{cell_of, FitsGiveStage, Held, InRange, IsHeld, IsReference, Layout, nat_tests, phase_of, Resumed, ResumeStage, run_phase, RunPhase, Shaded, TakeStage, WorkerStage, Working}
 use Rattle.gh_world.proofs.Within.Buffers.{give_within, HasRoom, room_first, room_gives, room_goes, room_within, RoomWithin, take_first, take_goes, take_holds, take_within, TakeWithin}
 use Rattle.gh_world.proofs.Within.Scans.{referred, scan_first, scan_goes, scan_holds, scan_within, ScanWithin, shade_first, shade_goes, shade_told, shade_within, ShadeWithin}
 
