@@ -63,16 +63,7 @@ asked_begun g (e ∷ es) = go e.begun (asked_begun g es) where
 asks_mine : (g : ℕ) (o : Op) → asks g o ≡ true → is_statement_of g o ≡ true
 asks_mine g (op.New h d t) e = e
 asks_mine g (op.Gc h) e = e
-asks_mine g (op.Load h d b k) e = absurd cc
-asks_mine g (op.Store h b k v) e = absurd cc
-asks_mine g (op.GetGlobal h d k) e = absurd cc
-asks_mine g (op.SetGlobal h k v) e = absurd cc
-asks_mine g (op.Int h d n) e = absurd cc
-asks_mine g (op.Move h d s) e = absurd cc
-asks_mine g (op.Nil h d) e = absurd cc
-asks_mine g op.Poll e = absurd cc
-asks_mine g (op.End h) e = absurd cc
-asks_mine g op.Leave e = absurd cc
+asks_mine g _ e = absurd cc
 
 asked_mine : (g : ℕ) (os : List Op) → asked_among g os ≡ asked_among g (filter (is_statement_of g) os)
 asked_mine g [] = refl
@@ -87,13 +78,7 @@ asked_mine g (o ∷ os) = go (is_statement_of g o) refl (asked_mine g os) where
 asks_is : (g : ℕ) (s : Stmt) → asks g (op_of g s) ≡ may_ask s
 asks_is g (stmts.New d t) = eq-eqb g g refl
 asks_is g stmts.Gc = eq-eqb g g refl
-asks_is g (stmts.Load d b k) = refl
-asks_is g (stmts.Store b k v) = refl
-asks_is g (stmts.GetGlobal d k) = refl
-asks_is g (stmts.SetGlobal k v) = refl
-asks_is g (stmts.Int d n) = refl
-asks_is g (stmts.Move d s) = refl
-asks_is g (stmts.Nil d) = refl
+asks_is g _ = refl
 
 asked_map : (g : ℕ) (ss : List Stmt) → asked_among g (map (op_of g) ss) ≡ wishes_among ss
 asked_map g [] = refl

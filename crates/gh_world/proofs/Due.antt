@@ -77,17 +77,7 @@ due_goroutine p next.Over o r h e sure = absurd cc
 -- there is a name for an object that is made by this operation
 pub has_name_at : (m : Processor) (n : ℕ) (o : Op) → MadeAtMost n m → (is_statement o ≡ true → n < most_objects) → has_names m o ≡ true
 has_name_at m n (op.New g d t) made lt = let few = made g in let below = lt refl in lt-ltb (made_by m g) most_objects (omega arith)
-has_name_at m n (op.Load g d b k) made lt = refl
-has_name_at m n (op.Store g b k v) made lt = refl
-has_name_at m n (op.GetGlobal g d k) made lt = refl
-has_name_at m n (op.SetGlobal g k v) made lt = refl
-has_name_at m n (op.Int g d x) made lt = refl
-has_name_at m n (op.Move g d s) made lt = refl
-has_name_at m n (op.Nil g d) made lt = refl
-has_name_at m n (op.Gc g) made lt = refl
-has_name_at m n op.Poll made lt = refl
-has_name_at m n (op.End g) made lt = refl
-has_name_at m n op.Leave made lt = refl
+has_name_at m n _ made lt = refl
 
 pub false_unless : (b : Bool) → (b ≡ true → ⊥) → b ≡ false
 false_unless true h = absurd (h refl)
@@ -98,15 +88,8 @@ not_past_here p n g h past = let never : ltb g g ≡ false = grind (arith, nat_t
 
 work_goroutine : (g : ℕ) (s : Option Stmt) → goroutine_of (work_at g s) ≡ Some g
 work_goroutine g None = refl
-work_goroutine g (Some (New d t)) = refl
-work_goroutine g (Some (Load d b x)) = refl
-work_goroutine g (Some (Store b x v)) = refl
-work_goroutine g (Some (GetGlobal d x)) = refl
-work_goroutine g (Some (SetGlobal x v)) = refl
-work_goroutine g (Some (Int d x)) = refl
-work_goroutine g (Some (Move d s)) = refl
-work_goroutine g (Some (Nil d)) = refl
 work_goroutine g (Some Gc) = refl
+work_goroutine g _ = refl
 
 -- its goroutine has not ended
 pub not_ended : (p : Program) (t : Next) (o : Op) (es : List (Entry Op)) → Stands p t → op_due p t ≡ Some o → ((g : ℕ) → ended_in es g ≡ true → MayBeOver p t g) → is_ended es (goroutine_of o) ≡ false
@@ -131,31 +114,11 @@ due_statement p next.Over o e sure = absurd cc
 
 pub ends_is : (o : Op) (g : ℕ) → ends (Some o) g ≡ true → o ≡ op.End g
 ends_is (op.End h) g e = ap op.End (eqb-true h g e)
-ends_is (op.New h d t) g e = absurd cc
-ends_is (op.Load h d b k) g e = absurd cc
-ends_is (op.Store h b k v) g e = absurd cc
-ends_is (op.GetGlobal h d k) g e = absurd cc
-ends_is (op.SetGlobal h k v) g e = absurd cc
-ends_is (op.Int h d x) g e = absurd cc
-ends_is (op.Move h d s) g e = absurd cc
-ends_is (op.Nil h d) g e = absurd cc
-ends_is (op.Gc h) g e = absurd cc
-ends_is op.Poll g e = absurd cc
-ends_is op.Leave g e = absurd cc
+ends_is _ g e = absurd cc
 
 pub leaves_is : (o : Op) → leaves (Some o) ≡ is_leave o
 leaves_is (op.End h) = refl
-leaves_is (op.New h d t) = refl
-leaves_is (op.Load h d b k) = refl
-leaves_is (op.Store h b k v) = refl
-leaves_is (op.GetGlobal h d k) = refl
-leaves_is (op.SetGlobal h k v) = refl
-leaves_is (op.Int h d x) = refl
-leaves_is (op.Move h d s) = refl
-leaves_is (op.Nil h d) = refl
-leaves_is (op.Gc h) = refl
-leaves_is op.Poll = refl
-leaves_is op.Leave = refl
+leaves_is _ = refl
 
 pub idle_not_leaving : (t : Task) → is_busy_at t ≡ false → has_left_at t ≡ false → is_leaving t ≡ false
 idle_not_leaving Idle h k = refl

@@ -121,16 +121,7 @@ module _ {P O : Type 0} (sound : Layout → P → Type 0) (party : P → Party) 
           let at = routine_parked stops r r.stage p in
           record { none = sound_it.none; routine = r; is_at = e; loads = at.0; stop_is = at.1 }
       waits stops w work.Done e sound_it on p = absurd (on tt)
-      waits stops w work.Leave e sound_it on p = absurd p
-      waits stops w work.LoadPhase e sound_it on p = absurd p
-      waits stops w (work.GiveBack g t) e sound_it on p = absurd p
-      waits stops w (work.Taking t) e sound_it on p = absurd p
-      waits stops w (work.Scanning t) e sound_it on p = absurd p
-      waits stops w work.LoadCursor e sound_it on p = absurd p
-      waits stops w work.Claim e sound_it on p = absurd p
-      waits stops w (work.LoadGlobal t) e sound_it on p = absurd p
-      waits stops w (work.Shading t) e sound_it on p = absurd p
-      waits stops w (work.FindRoom t r) e sound_it on p = absurd p
+      waits stops w _ e sound_it on p = absurd p
 
       -- who is awake is not where the world is stopped
       running : (c : coord.Coordinating) (a : ℕ) (p : Party) (s : Stage) → state l k pacing may es n ≡ actor.Leads c → a < n → place (state l k pacing may es a) ≡ Acts p s → IsAwake s → (phase : RunPhase) → leading.post_at c.stage ≡ Stopped phase → ⊥
@@ -153,18 +144,12 @@ module _ {P O : Type 0} (sound : Layout → P → Type 0) (party : P → Party) 
 
       -- a worker that marks is awake
       marks_awake : (w : worker.Working) (s : WorkerStage) → working.IsMarking s → IsAwake (working.stands_at s) × (working.party_at w s ≡ record { seat = w.seat; view = w.view })
-      marks_awake w (work.Taking t) m = (tt, refl)
-      marks_awake w (work.Scanning t) m = (tt, refl)
-      marks_awake w work.LoadCursor m = (tt, refl)
-      marks_awake w work.Claim m = (tt, refl)
-      marks_awake w (work.LoadGlobal t) m = (tt, refl)
-      marks_awake w (work.Shading t) m = (tt, refl)
-      marks_awake w (work.FindRoom t r) m = (tt, refl)
       marks_awake w work.LoadPhase m = absurd m
       marks_awake w (work.GiveBack g t) m = absurd m
       marks_awake w (work.Resuming r) m = absurd m
       marks_awake w work.Leave m = absurd m
       marks_awake w work.Done m = absurd m
+      marks_awake w _ m = (tt, refl)
 
       marking : (c : coord.Coordinating) (a : ℕ) (w : worker.Working) → state l k pacing may es n ≡ actor.Leads c → a < n → state l k pacing may es a ≡ actor.Marks w → working.IsMarking w.stage → leading.Marks c.stage
       marking c a w e lt at m =

@@ -246,30 +246,12 @@ global_store_facts g k v (value.Ref n) = record { made = omega arith; leaves = r
 
 -- an operation that is begun
 pub begin_facts : (shapes : List Shape) (m : Processor) (o : Op) → is_busy_at (begins_at shapes m o) ≡ true → BeginFacts o (begins_at shapes m o)
-begin_facts shapes m (op.New g d t) busy = record { made = omega arith; leaves = refl; serves = refl; is = refl }
 begin_facts shapes m (op.Load g d b k) busy = load_facts g d b k (register_of m g b)
 begin_facts shapes m (op.Store g b k v) busy = store_facts g b k v (register_of m g b)
-begin_facts shapes m (op.GetGlobal g d k) busy = record { made = omega arith; leaves = refl; serves = refl; is = refl }
 begin_facts shapes m (op.SetGlobal g k v) busy = global_store_facts g k v (register_of m g v)
-begin_facts shapes m (op.Int g d n) busy = record { made = omega arith; leaves = refl; serves = refl; is = refl }
-begin_facts shapes m (op.Move g d x) busy = record { made = omega arith; leaves = refl; serves = refl; is = refl }
-begin_facts shapes m (op.Nil g d) busy = record { made = omega arith; leaves = refl; serves = refl; is = refl }
-begin_facts shapes m (op.Gc g) busy = record { made = omega arith; leaves = refl; serves = refl; is = refl }
-begin_facts shapes m op.Poll busy = record { made = omega arith; leaves = refl; serves = refl; is = refl }
-begin_facts shapes m (op.End g) busy = record { made = omega arith; leaves = refl; serves = refl; is = refl }
-begin_facts shapes m op.Leave busy = record { made = omega arith; leaves = refl; serves = refl; is = refl }
+begin_facts shapes m _ busy = record { made = omega arith; leaves = refl; serves = refl; is = refl }
 
 -- one that is in range is begun
 pub begins_busy : (shapes : List Shape) (m : Processor) (goroutines globals types : ℕ) (o : Op) → in_range goroutines globals types o ≡ true → is_busy_at (begins_at shapes m o) ≡ true
 begins_busy shapes m gs gl ts (op.Gc g) h = refl
-begins_busy shapes m gs gl ts (op.New g d t) h = refl
-begins_busy shapes m gs gl ts (op.Load g d b k) h = refl
-begins_busy shapes m gs gl ts (op.Store g b k v) h = refl
-begins_busy shapes m gs gl ts (op.GetGlobal g d k) h = refl
-begins_busy shapes m gs gl ts (op.SetGlobal g k v) h = refl
-begins_busy shapes m gs gl ts (op.Int g d n) h = refl
-begins_busy shapes m gs gl ts (op.Move g d s) h = refl
-begins_busy shapes m gs gl ts (op.Nil g d) h = refl
-begins_busy shapes m gs gl ts op.Poll h = refl
-begins_busy shapes m gs gl ts (op.End g) h = refl
-begins_busy shapes m gs gl ts op.Leave h = refl
+begins_busy shapes m gs gl ts _ h = refl

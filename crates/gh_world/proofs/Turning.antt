@@ -18,47 +18,19 @@ use Rattle.gh_world.proofs.Vocabulary.{bit, Follows, goroutine_at, is_leave, is_
 
 pub statement_is : (g : ℕ) (s : Stmt) → is_statement (op_of g s) ≡ true
 statement_is g (stmts.New d t) = refl
-statement_is g (stmts.Load d b k) = refl
-statement_is g (stmts.Store b k v) = refl
-statement_is g (stmts.GetGlobal d k) = refl
-statement_is g (stmts.SetGlobal k v) = refl
-statement_is g (stmts.Int d n) = refl
-statement_is g (stmts.Move d s) = refl
-statement_is g (stmts.Nil d) = refl
-statement_is g stmts.Gc = refl
+statement_is g _ = refl
 
 pub goroutine_is : (g : ℕ) (s : Stmt) → goroutine_at (op_of g s) ≡ g
 goroutine_is g (stmts.New d t) = refl
-goroutine_is g (stmts.Load d b k) = refl
-goroutine_is g (stmts.Store b k v) = refl
-goroutine_is g (stmts.GetGlobal d k) = refl
-goroutine_is g (stmts.SetGlobal k v) = refl
-goroutine_is g (stmts.Int d n) = refl
-goroutine_is g (stmts.Move d s) = refl
-goroutine_is g (stmts.Nil d) = refl
-goroutine_is g stmts.Gc = refl
+goroutine_is g _ = refl
 
 pub statement_no_leave : (g : ℕ) (s : Stmt) → is_leave (op_of g s) ≡ false
 statement_no_leave g (stmts.New d t) = refl
-statement_no_leave g (stmts.Load d b k) = refl
-statement_no_leave g (stmts.Store b k v) = refl
-statement_no_leave g (stmts.GetGlobal d k) = refl
-statement_no_leave g (stmts.SetGlobal k v) = refl
-statement_no_leave g (stmts.Int d n) = refl
-statement_no_leave g (stmts.Move d s) = refl
-statement_no_leave g (stmts.Nil d) = refl
-statement_no_leave g stmts.Gc = refl
+statement_no_leave g _ = refl
 
 no_end : (g h : ℕ) (s : Stmt) → op_of g s ≡ op.End h → ⊥
 no_end g h (stmts.New d t) e = absurd cc
-no_end g h (stmts.Load d b k) e = absurd cc
-no_end g h (stmts.Store b k v) e = absurd cc
-no_end g h (stmts.GetGlobal d k) e = absurd cc
-no_end g h (stmts.SetGlobal k v) e = absurd cc
-no_end g h (stmts.Int d n) e = absurd cc
-no_end g h (stmts.Move d s) e = absurd cc
-no_end g h (stmts.Nil d) e = absurd cc
-no_end g h stmts.Gc e = absurd cc
+no_end g h _ e = absurd cc
 
 pub work_no_leave : (g : ℕ) (s : Option Stmt) → is_leave (work_at g s) ≡ false
 work_no_leave g None = refl

@@ -96,30 +96,11 @@ module _ (p : Program) (l : Layout) (runnable : WellFormed p) (laid : IsLayoutOf
   more_of : (fs : List (Entry Op)) (o : Op) (rest : List Op) → turns_of p ≡ reverse (begun_in fs) ++ o ∷ rest → has_more (wishes_of p) fs o ≡ true
   more_of fs (op.New g d t) rest turns = has_wish p g fs (op.New g d t) rest turns (eq-eqb g g refl)
   more_of fs (op.Gc g) rest turns = has_wish p g fs (op.Gc g) rest turns (eq-eqb g g refl)
-  more_of fs (op.Load g d b k) rest turns = refl
-  more_of fs (op.Store g b k v) rest turns = refl
-  more_of fs (op.GetGlobal g d k) rest turns = refl
-  more_of fs (op.SetGlobal g k v) rest turns = refl
-  more_of fs (op.Int g d n) rest turns = refl
-  more_of fs (op.Move g d v) rest turns = refl
-  more_of fs (op.Nil g d) rest turns = refl
-  more_of fs op.Poll rest turns = refl
-  more_of fs (op.End g) rest turns = refl
-  more_of fs op.Leave rest turns = refl
+  more_of fs _ rest turns = refl
 
   leaves_so : (fs : List (Entry Op)) (o : Op) (new : Next) → turns_of p ≡ reverse (begun_in fs) ++ o ∷ to_come p new → is_over new ≡ leaves (Some o) → may_leave (arena_of p.shapes l) 0 fs o ≡ true
-  leaves_so fs (op.New g d t) new turns over = refl
-  leaves_so fs (op.Gc g) new turns over = refl
-  leaves_so fs (op.Load g d b k) new turns over = refl
-  leaves_so fs (op.Store g b k v) new turns over = refl
-  leaves_so fs (op.GetGlobal g d k) new turns over = refl
-  leaves_so fs (op.SetGlobal g k v) new turns over = refl
-  leaves_so fs (op.Int g d n) new turns over = refl
-  leaves_so fs (op.Move g d v) new turns over = refl
-  leaves_so fs (op.Nil g d) new turns over = refl
-  leaves_so fs op.Poll new turns over = refl
-  leaves_so fs (op.End g) new turns over = refl
   leaves_so fs op.Leave new turns over = all_then p (arena_of p.shapes l) 0 fs l.goroutines (omega (arith, laid.goroutines_are)) (turns ∙ ap (λ (os : List Op). reverse (begun_in fs) ++ op.Leave ∷ os) (none_to_come p new over))
+  leaves_so fs _ new turns over = refl
 
   -- where nothing is begun
   pub begins_due : ((es : List (Entry Op)) → state_of (processor_kind p.shapes l) 0 es ≡ state_of (processor_kind p.shapes l) 0 (by 0 es)) → (es : List (Entry Op)) (t : Progress) (o : Op) (new : Next) → is_busy_at (state_of (processor_kind p.shapes l) 0 es).task ≡ false → op_due p t.next ≡ Some o → Follows p t.next o new →

@@ -1,7 +1,7 @@
 -- Steps of workers and of the coordinator outside of marking: they are on no word of which anything is said of the heap, its spans, stacks and buffers.
 use Rattle.std.proofs.Common.{◌≡◌, ℕ, ◌≤◌, Bool, false, refl, sym, ap, ◌∙◌, arith, List, ◌∷◌, None}
 use Rattle.gh_base.specs.declared.cell.Ask.{Ask}
-use Rattle.gh_base.specs.declared.cell.Ask.TheVariants.{Add, And, Load, Or, Store, Swap}
+use Rattle.gh_base.specs.declared.cell.Ask.TheVariants.{Load, Store}
 use Rattle.gh_base.specs.declared.cell.Cell.{Cell}
 use Rattle.gh_base.specs.declared.cell.Cell.TheVariants as cell
 use Rattle.gh_base.specs.Cells.{Words}
@@ -108,35 +108,7 @@ swept_only x = record { aside = stores_swept x; untold = λ p. tt; pends = λ p.
 pub acks_aside : (seat : ℕ) (ask : Ask) → AcksAlone seat ask → TellsNothing ask
 acks_aside seat (Load c) is = loads_only c
 acks_aside seat (Store (cell.Ack a) x) is = acks_only a x
-acks_aside seat (Store cell.Touch x) is = absurd is
-acks_aside seat (Store cell.Phase x) is = absurd is
-acks_aside seat (Store cell.Gen x) is = absurd is
-acks_aside seat (Store cell.Begun x) is = absurd is
-acks_aside seat (Store cell.Swept x) is = absurd is
-acks_aside seat (Store cell.Lock x) is = absurd is
-acks_aside seat (Store cell.Want x) is = absurd is
-acks_aside seat (Store cell.Bank x) is = absurd is
-acks_aside seat (Store cell.Gcur x) is = absurd is
-acks_aside seat (Store cell.Heap x) is = absurd is
-acks_aside seat (Store cell.Trigger x) is = absurd is
-acks_aside seat (Store cell.Work x) is = absurd is
-acks_aside seat (Store cell.Slack x) is = absurd is
-acks_aside seat (Store cell.Tally x) is = absurd is
-acks_aside seat (Store cell.Live x) is = absurd is
-acks_aside seat (Store (cell.Page i) x) is = absurd is
-acks_aside seat (Store (cell.Alloc i) x) is = absurd is
-acks_aside seat (Store (cell.Mark i) x) is = absurd is
-acks_aside seat (Store (cell.Bitmap i) x) is = absurd is
-acks_aside seat (Store (cell.Birth i) x) is = absurd is
-acks_aside seat (Store (cell.Field i) x) is = absurd is
-acks_aside seat (Store (cell.Global i) x) is = absurd is
-acks_aside seat (Store (cell.Buffer i) x) is = absurd is
-acks_aside seat (Store (cell.Entry i j) x) is = absurd is
-acks_aside seat (Store (cell.Scanned i) x) is = absurd is
-acks_aside seat (Or c bits) is = absurd is
-acks_aside seat (And c bits) is = absurd is
-acks_aside seat (Add c more) is = absurd is
-acks_aside seat (Swap c old new) is = absurd is
+acks_aside seat _ is = absurd is
 
 module _ (shapes : List Shape) (l : Layout) (pacing : Pacing) (may : ℕ → List (Entry Op) → Op → Bool) (known : Known) where
   abbrev z : Arena

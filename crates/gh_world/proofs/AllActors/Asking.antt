@@ -17,7 +17,7 @@ use Rattle.gh_mutator.specs.Wait as wait
 use Rattle.gh_mutator.specs.Writing.{WantsAt}
 use Rattle.gh_world.specs.Numbers.{asks_for_one}
 use Rattle.gh_world.specs.Wants.{AsksOncePerOperation, most_asks}
-use Rattle.gh_world.proofs.Vocabulary.{Add, after_gc, after_leave, after_poll, And, Ask, asked_after, asks, At, begins, begins_at, cache_span, Cell, Ends, follows, Found, GoesOn, has_left_at, IsWanting, IsWritten, Layout, Leaving, Load, NewStage, NoRoom, Op, Or, Place, Placing, Polling, Processor, processor_kind, ProcessorWritesItsOwn, register_of, Search, Seeking, Shape, Sound, Store, Swap, takes, takes_at, Task, Then, Wait, WaitStage, Wanted, WritesOf}
+use Rattle.gh_world.proofs.Vocabulary.{after_gc, after_leave, after_poll, Ask, asked_after, asks, At, begins, begins_at, cache_span, Cell, Ends, follows, Found, GoesOn, has_left_at, IsWanting, IsWritten, Layout, Leaving, NewStage, NoRoom, Op, Or, Place, Placing, Polling, Processor, processor_kind, ProcessorWritesItsOwn, register_of, Search, Seeking, Shape, Sound, takes, takes_at, Task, Then, Wait, WaitStage, Wanted, WritesOf}
 
 -- how often it may still ask
 
@@ -53,31 +53,13 @@ new_once (Place p) = omega arith
 once : (t : Task) → left_at t ≤ 1
 once (task.New x) = new_once x.stage
 once (task.Gc g w) = wait_once w.stage
-once task.Idle = omega arith
-once task.Left = omega arith
-once (task.Load x) = omega arith
-once (task.Store x) = omega arith
-once (task.Global x) = omega arith
-once (task.Register x) = omega arith
-once task.Poll = omega arith
-once (task.End g) = omega arith
-once (task.Leave x) = omega arith
+once _ = omega arith
 
 -- Where an operation begins.
 
 begin_asks : (shapes : List Shape) (m : Processor) (o : Op) → left_at (begins_at shapes m o) ≤ most_asks o
 begin_asks shapes m (op.New g d t) = omega arith
-begin_asks shapes m (op.Gc g) = omega arith
-begin_asks shapes m (op.Load g d b i) = omega arith
-begin_asks shapes m (op.Store g b i c) = omega arith
-begin_asks shapes m (op.GetGlobal g d i) = omega arith
-begin_asks shapes m (op.SetGlobal g i c) = omega arith
-begin_asks shapes m (op.Int g d n) = omega arith
-begin_asks shapes m (op.Move g d c) = omega arith
-begin_asks shapes m (op.Nil g d) = omega arith
-begin_asks shapes m op.Poll = omega arith
-begin_asks shapes m (op.End g) = omega arith
-begin_asks shapes m op.Leave = omega arith
+begin_asks shapes m _ = omega arith
 
 more : (a b c : ℕ) → a ≤ c → a ≤ b + c
 more a b c le = omega (arith, le)
@@ -168,52 +150,16 @@ module _ (shapes : List Shape) (m : Processor) (found : ℕ) where
   wants_at : (t : Task) → IsWanting t → (left_at t ≡ 1) × (left (takes_at shapes m t found) ≡ 0)
   wants_at (task.New x) is = new_wants x.wanted x.stage is
   wants_at (task.Gc g x) is = (ap left_wait is, gc_asks g (wait.goes (wait.waiting x m.poll) found) (wait.gives (wait.waiting x m.poll) found) (waits_on (wait.waiting x m.poll) x.stage))
-  wants_at task.Idle is = absurd is
-  wants_at task.Left is = absurd is
-  wants_at (task.Load x) is = absurd is
-  wants_at (task.Store x) is = absurd is
-  wants_at (task.Global x) is = absurd is
-  wants_at (task.Register x) is = absurd is
-  wants_at task.Poll is = absurd is
-  wants_at (task.End g) is = absurd is
-  wants_at (task.Leave x) is = absurd is
+  wants_at _ is = absurd is
 
   -- the step asks for a cycle there alone
   or_asks : (c : Cell) (bits : ℕ) → WritesOf (IsWritten m) (Or c bits) → asks_for_one (Or c bits) ≡ true → IsWanting m.task
-  or_asks cell.Touch bits w is = absurd (cc)
-  or_asks cell.Phase bits w is = absurd (cc)
-  or_asks cell.Gen bits w is = absurd (cc)
-  or_asks cell.Begun bits w is = absurd (cc)
-  or_asks cell.Swept bits w is = absurd (cc)
-  or_asks cell.Lock bits w is = absurd (cc)
   or_asks cell.Want bits w is = w.0
-  or_asks cell.Bank bits w is = absurd (cc)
-  or_asks cell.Gcur bits w is = absurd (cc)
-  or_asks cell.Heap bits w is = absurd (cc)
-  or_asks cell.Trigger bits w is = absurd (cc)
-  or_asks cell.Work bits w is = absurd (cc)
-  or_asks cell.Slack bits w is = absurd (cc)
-  or_asks cell.Tally bits w is = absurd (cc)
-  or_asks cell.Live bits w is = absurd (cc)
-  or_asks (cell.Page i) bits w is = absurd (cc)
-  or_asks (cell.Alloc i) bits w is = absurd (cc)
-  or_asks (cell.Mark i) bits w is = absurd (cc)
-  or_asks (cell.Bitmap i) bits w is = absurd (cc)
-  or_asks (cell.Birth i) bits w is = absurd (cc)
-  or_asks (cell.Field i) bits w is = absurd (cc)
-  or_asks (cell.Global i) bits w is = absurd (cc)
-  or_asks (cell.Buffer i) bits w is = absurd (cc)
-  or_asks (cell.Entry i j) bits w is = absurd (cc)
-  or_asks (cell.Ack i) bits w is = absurd (cc)
-  or_asks (cell.Scanned i) bits w is = absurd (cc)
+  or_asks _ bits w is = absurd (cc)
 
   asks_there : (q : Ask) → WritesOf (IsWritten m) q → asks_for_one q ≡ true → IsWanting m.task
-  asks_there (Load c) w is = absurd (cc)
-  asks_there (Store c value) w is = absurd (cc)
-  asks_there (And c bits) w is = absurd (cc)
-  asks_there (Add c much) w is = absurd (cc)
-  asks_there (Swap c old now) w is = absurd (cc)
   asks_there (Or c bits) w is = or_asks c bits w is
+  asks_there _ w is = absurd (cc)
 
   asked_once : WritesOf (IsWritten m) (asks m) → asked_after (asks m) (left (takes shapes m found)) ≤ left m
   asked_once w = go (asks_for_one (asks m)) refl where

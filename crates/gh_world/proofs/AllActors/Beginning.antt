@@ -101,12 +101,7 @@ module _ (z : Arena) (a : ℕ) (v : View) (m : Processor) (es : List (Entry Op))
 
 pub keeps-end : (e : Ever) (g d h : ℕ) (x : Answer) → (takes_answer e g d x).ended h ≡ e.ended h
 keeps-end e g d h answer.Done = refl
-keeps-end e g d h answer.Nil = refl
-keeps-end e g d h (answer.Int n) = refl
-keeps-end e g d h (answer.Ref n) = refl
-keeps-end e g d h answer.Swept = refl
-keeps-end e g d h answer.Full = refl
-keeps-end e g d h (answer.Fault f) = refl
+keeps-end e g d h _ = refl
 
 pub stores-end : (e : Ever) (b : EverValue) (k h : ℕ) (v : EverValue) (x : Answer) → (stores_value e b k v x).ended h ≡ e.ended h
 stores-end e ever.Nil k h v x = refl
@@ -121,21 +116,11 @@ stores-end e (ever.Ref n) k h v (answer.Fault f) = refl
 
 pub sets-end : (e : Ever) (k h : ℕ) (v : EverValue) (x : Answer) → (sets_global e k v x).ended h ≡ e.ended h
 sets-end e k h v answer.Done = refl
-sets-end e k h v answer.Nil = refl
-sets-end e k h v (answer.Int n) = refl
-sets-end e k h v (answer.Ref n) = refl
-sets-end e k h v answer.Swept = refl
-sets-end e k h v answer.Full = refl
-sets-end e k h v (answer.Fault f) = refl
+sets-end e k h v _ = refl
 
 pub makes-end : (shapes : List Shape) (e : Ever) (g d t h : ℕ) (x : Answer) → (makes_object shapes e g d t x).ended h ≡ e.ended h
 makes-end shapes e g d t h answer.Done = refl
-makes-end shapes e g d t h answer.Nil = refl
-makes-end shapes e g d t h (answer.Int n) = refl
-makes-end shapes e g d t h (answer.Ref n) = refl
-makes-end shapes e g d t h answer.Swept = refl
-makes-end shapes e g d t h answer.Full = refl
-makes-end shapes e g d t h (answer.Fault f) = refl
+makes-end shapes e g d t h _ = refl
 
 pub ends-by : (shapes : List Shape) (e : Ever) (o : Op) (x : Answer) (g : ℕ) → (ever_after shapes e o x).ended g ≡ true → (e.ended g ≡ true) ⊎ (o ≡ op.End g)
 ends-by shapes e (op.New h d t) x g is = inl (sym (makes-end shapes e h d t g x) ∙ is)
@@ -143,13 +128,8 @@ ends-by shapes e (op.Load h d b k) x g is = inl (sym (keeps-end e h d g x) ∙ i
 ends-by shapes e (op.Store h b k v) x g is = inl (sym (stores-end e (e.register h b) k g (e.register h v) x) ∙ is)
 ends-by shapes e (op.GetGlobal h d k) x g is = inl (sym (keeps-end e h d g x) ∙ is)
 ends-by shapes e (op.SetGlobal h k v) x g is = inl (sym (sets-end e k g (e.register h v) x) ∙ is)
-ends-by shapes e (op.Int h d n) x g is = inl is
-ends-by shapes e (op.Move h d c) x g is = inl is
-ends-by shapes e (op.Nil h d) x g is = inl is
-ends-by shapes e (op.Gc h) x g is = inl is
-ends-by shapes e op.Poll x g is = inl is
 ends-by shapes e (op.End h) x g is = go (eqb g h) refl is where
   go : (b : Bool) → eqb g h ≡ b → cond b true (e.ended g) ≡ true → (e.ended g ≡ true) ⊎ (op.End h ≡ op.End g)
   go true t f = inr (ap op.End (sym (eqb-true g h t)))
   go false t f = inl f
-ends-by shapes e op.Leave x g is = inl is
+ends-by shapes e _ x g is = inl is

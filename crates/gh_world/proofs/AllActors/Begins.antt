@@ -15,7 +15,7 @@ use Rattle.gh_phase.specs.declared.view.RunPhase.TheVariants as run
 use Rattle.gh_stack.specs.Facts.{named}
 use Rattle.gh_world.specs.declared.handshake.Actor.TheVariants as actor
 use Rattle.gh_world.specs.Numbers.{open_part}
-use Rattle.gh_world.proofs.Vocabulary.{actors_after, ahead_at, Arena, arena, AreRegisters, Begun, bit_at, Check, Close, Coordinating, CoordStage, Count, Cycle, Done, END, Entry, EverValue, Hands, HasCursor, HoldsAt, IsAsItShould, IsBeginning, IsInLimits, IsLed, IsMeant, IsOf, IsReady, Knows, Layout, Legal, LoadAck, LoadWant, mark_words, MarkFacts, Marking, MarkOn, MayBegin, Means, nothing, Op, Open, Pacing, part_of, Processor, processor_at, processor_kind, reference_of, register_at, REGISTERS, row_bit, Shape, stage_of, Stands, Stop, StopAgain, Sweep, Tell, those, Value, view, Watch, Words, words, ◌%◌}
+use Rattle.gh_world.proofs.Vocabulary.{actors_after, ahead_at, Arena, arena, AreRegisters, Begun, bit_at, Coordinating, CoordStage, Cycle, END, Entry, EverValue, Hands, HasCursor, HoldsAt, IsAsItShould, IsBeginning, IsInLimits, IsLed, IsMeant, IsOf, IsReady, Knows, Layout, Legal, mark_words, MarkFacts, Marking, MayBegin, Means, nothing, Op, Open, Pacing, part_of, Processor, processor_at, processor_kind, reference_of, register_at, REGISTERS, row_bit, Shape, stage_of, Stands, those, Value, view, Words, words, ◌%◌}
 use Rattle.gh_world.proofs.AllActors.Known.{Known, ListsKnown}
 use Rattle.gh_world.proofs.AllActors.Resting.{run_is}
 use Rattle.gh_world.proofs.CycleMarking.Moving.{begin_post}
@@ -43,18 +43,7 @@ clear_bit w o is = ap (λ (v : ℕ). bit_at v (o % 64)) is ∙ bit_at-zero (o % 
 
 begun_part : (p : CoordStage) → IsBeginning p → part_of p ≡ Begun
 begun_part (Open o) b = ap open_part b
-begun_part (LoadAck i) b = absurd b
-begun_part LoadWant b = absurd b
-begun_part (Stop st) b = absurd b
-begun_part (Watch w) b = absurd b
-begun_part (StopAgain st) b = absurd b
-begun_part (Check w) b = absurd b
-begun_part MarkOn b = absurd b
-begun_part (Close c) b = absurd b
-begun_part (Sweep w) b = absurd b
-begun_part (Count x) b = absurd b
-begun_part (Tell t) b = absurd b
-begun_part Done b = absurd b
+begun_part _ b = absurd b
 
 module _ (shapes : List Shape) (l : Layout) (pacing : Pacing) (may : ℕ → List (Entry Op) → Op → Bool) (limits : IsInLimits l) (known : Known) (lists : ListsKnown shapes l pacing may)
     (es : List (Entry Op)) (c : Coordinating) (legal : Legal (those shapes l pacing may) es) (led : IsLed shapes l pacing may es c) (b : IsBeginning c.stage) where
@@ -63,18 +52,7 @@ module _ (shapes : List Shape) (l : Layout) (pacing : Pacing) (may : ℕ → Lis
 
   pub is_ready : (p : CoordStage) → IsBeginning p → HoldsAt shapes l pacing may es c p → IsReady shapes l pacing may es c × (words shapes l pacing may es cell.Gcur ≡ 0)
   is_ready (Open o) x h = (h.0, subst (HasCursor (words shapes l pacing may es cell.Gcur)) x h.1)
-  is_ready (LoadAck i) x h = absurd x
-  is_ready LoadWant x h = absurd x
-  is_ready (Stop st) x h = absurd x
-  is_ready (Watch w) x h = absurd x
-  is_ready (StopAgain st) x h = absurd x
-  is_ready (Check w) x h = absurd x
-  is_ready MarkOn x h = absurd x
-  is_ready (Close y) x h = absurd x
-  is_ready (Sweep w) x h = absurd x
-  is_ready (Count y) x h = absurd x
-  is_ready (Tell t) x h = absurd x
-  is_ready Done x h = absurd x
+  is_ready _ x h = absurd x
 
   few : c.begun < 2 ^ 48
   few =

@@ -71,32 +71,15 @@ moves_by z a h (WriteGlobal k value word) may = inr (inr (record { told = λ p. 
 -- A step that no right guards leaves page and alloc words.
 
 apart_cell : (c : Cell) → IsAside c → (i : ℕ) → (same_cell c (cell.Page i) ≡ false) × (same_cell c (cell.Alloc i) ≡ false)
-apart_cell cell.Touch is i = (refl, refl)
-apart_cell cell.Phase is i = (refl, refl)
 apart_cell cell.Gen is i = absurd is
-apart_cell cell.Begun is i = (refl, refl)
-apart_cell cell.Swept is i = (refl, refl)
 apart_cell cell.Lock is i = absurd is
-apart_cell cell.Want is i = (refl, refl)
-apart_cell cell.Bank is i = (refl, refl)
-apart_cell cell.Gcur is i = (refl, refl)
-apart_cell cell.Heap is i = (refl, refl)
-apart_cell cell.Trigger is i = (refl, refl)
-apart_cell cell.Work is i = (refl, refl)
-apart_cell cell.Slack is i = (refl, refl)
-apart_cell cell.Tally is i = (refl, refl)
-apart_cell cell.Live is i = (refl, refl)
 apart_cell (cell.Page j) is i = absurd is
 apart_cell (cell.Alloc j) is i = absurd is
-apart_cell (cell.Mark j) is i = (refl, refl)
 apart_cell (cell.Bitmap j) is i = absurd is
 apart_cell (cell.Birth j) is i = absurd is
 apart_cell (cell.Field j) is i = absurd is
 apart_cell (cell.Global j) is i = absurd is
-apart_cell (cell.Buffer j) is i = (refl, refl)
-apart_cell (cell.Entry j k) is i = (refl, refl)
-apart_cell (cell.Ack j) is i = (refl, refl)
-apart_cell (cell.Scanned j) is i = (refl, refl)
+apart_cell _ is i = (refl, refl)
 
 module _ (one : ChangesOneCell) (w : Words) (i : ℕ) where
   abbrev Leaves : Ask → Type 0

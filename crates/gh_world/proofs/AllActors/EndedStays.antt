@@ -13,32 +13,8 @@ use Rattle.gh_world.specs.HoldVocabulary.{Cycle, Marking}
 
 -- a row that marking does not read is not that of stacks
 no_stack : (s : Marking) (c : Cell) (g : ℕ) → IsAside s c → same_cell c (cell.Scanned g) ≡ false
-no_stack s cell.Touch g aside = refl
-no_stack s cell.Phase g aside = refl
-no_stack s cell.Gen g aside = refl
-no_stack s cell.Begun g aside = refl
-no_stack s cell.Swept g aside = refl
-no_stack s cell.Lock g aside = refl
-no_stack s cell.Want g aside = refl
-no_stack s cell.Bank g aside = refl
-no_stack s cell.Gcur g aside = refl
-no_stack s cell.Heap g aside = refl
-no_stack s cell.Trigger g aside = refl
-no_stack s cell.Work g aside = refl
-no_stack s cell.Slack g aside = refl
-no_stack s cell.Tally g aside = refl
-no_stack s cell.Live g aside = refl
-no_stack s (cell.Page j) g aside = refl
-no_stack s (cell.Alloc j) g aside = refl
-no_stack s (cell.Mark j) g aside = refl
-no_stack s (cell.Bitmap j) g aside = refl
-no_stack s (cell.Birth j) g aside = refl
-no_stack s (cell.Field j) g aside = refl
-no_stack s (cell.Global j) g aside = refl
-no_stack s (cell.Buffer j) g aside = refl
-no_stack s (cell.Ack j) g aside = refl
-no_stack s (cell.Entry j k) g aside = refl
 no_stack s (cell.Scanned j) g aside = absurd aside
+no_stack s _ g aside = refl
 
 module _ (one : ChangesOneCell) (z : Cycle) (a g : ℕ) where
   leaves : (w : Words) (step : Ask) → same_cell (cell_of step) (cell.Scanned g) ≡ false → effect w step (cell.Scanned g) ≡ w (cell.Scanned g)

@@ -23,16 +23,7 @@ is_end (task.End h) g = go (h == g) refl where
   go : (b : Bool) → (h == g) ≡ b → (task.End h ≡ task.End g) ⊎ (task.End h ≡ task.End g → ⊥)
   go true x = let same : h ≡ g = grind (arith, nat_tests) in inl (ap task.End same)
   go false x = inr (λ is. let same : h ≡ g = cc in absurd (let yes = eq-eqb h g same in let no : false ≡ true = sym x ∙ yes in cc))
-is_end task.Idle g = inr (λ is. absurd (cc))
-is_end task.Left g = inr (λ is. absurd (cc))
-is_end (task.Load x) g = inr (λ is. absurd (cc))
-is_end (task.Store x) g = inr (λ is. absurd (cc))
-is_end (task.Global x) g = inr (λ is. absurd (cc))
-is_end (task.Register x) g = inr (λ is. absurd (cc))
-is_end (task.New x) g = inr (λ is. absurd (cc))
-is_end (task.Gc h x) g = inr (λ is. absurd (cc))
-is_end task.Poll g = inr (λ is. absurd (cc))
-is_end (task.Leave x) g = inr (λ is. absurd (cc))
+is_end _ g = inr (λ is. absurd (cc))
 
 -- the operation that acts is that of the task
 acting_op : (b : Bool) (o : Op) (full : Bool) (p : Act) → acting b o full ≡ Some p → p.op ≡ o
@@ -70,16 +61,11 @@ ends_stay shapes e (op.Load h d b k) x g is = keeps-end e h d g x ∙ is
 ends_stay shapes e (op.Store h b k v) x g is = stores-end e (e.register h b) k g (e.register h v) x ∙ is
 ends_stay shapes e (op.GetGlobal h d k) x g is = keeps-end e h d g x ∙ is
 ends_stay shapes e (op.SetGlobal h k v) x g is = sets-end e k g (e.register h v) x ∙ is
-ends_stay shapes e (op.Int h d n) x g is = is
-ends_stay shapes e (op.Move h d c) x g is = is
-ends_stay shapes e (op.Nil h d) x g is = is
-ends_stay shapes e (op.Gc h) x g is = is
-ends_stay shapes e op.Poll x g is = is
 ends_stay shapes e (op.End h) x g is = go (g == h) where
   go : (b : Bool) → cond b true (e.ended g) ≡ true
   go true = refl
   go false = is
-ends_stay shapes e op.Leave x g is = is
+ends_stay shapes e _ x g is = is
 
 module _ (shapes : List Shape) (m : Processor) (found : ℕ) (e : Ever) (g : ℕ) where
   pub acted_stays : (p : Option Act) → e.ended g ≡ true → (acted shapes e p).ended g ≡ true
@@ -157,14 +143,4 @@ module _ (shapes : List Shape) (m : Processor) (found : ℕ) where
 -- and began to leave with a leave
 pub last_begun : (shapes : List Shape) (m : Processor) (o : Op) → is_last_task (begins_at shapes m o) ≡ true → o ≡ op.Leave
 last_begun shapes m op.Leave is = refl
-last_begun shapes m (op.New g d t) is = absurd (cc)
-last_begun shapes m (op.Load g d b i) is = absurd (cc)
-last_begun shapes m (op.Store g b i c) is = absurd (cc)
-last_begun shapes m (op.GetGlobal g d i) is = absurd (cc)
-last_begun shapes m (op.SetGlobal g i c) is = absurd (cc)
-last_begun shapes m (op.Int g d n) is = absurd (cc)
-last_begun shapes m (op.Move g d c) is = absurd (cc)
-last_begun shapes m (op.Nil g d) is = absurd (cc)
-last_begun shapes m (op.Gc g) is = absurd (cc)
-last_begun shapes m op.Poll is = absurd (cc)
-last_begun shapes m (op.End g) is = absurd (cc)
+last_begun shapes m _ is = absurd (cc)

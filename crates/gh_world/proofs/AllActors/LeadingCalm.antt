@@ -34,15 +34,7 @@ opens_aside o opening.Ended = loads _
 opens_cursor : (o : opens_by.CycleOpening) (p : OpenStage) (w : Words) → HasCursor (w cell.Gcur) p → HasCursor (effect w (opens_by.asks_at o p) cell.Gcur) (opens_by.behind p)
 opens_cursor o opening.ClearWant w h = tt
 opens_cursor o opening.ClearGcur w h = refl
-opens_cursor o opening.ClearTally w h = h
-opens_cursor o opening.ClearLive w h = h
-opens_cursor o opening.StoreTrigger w h = h
-opens_cursor o opening.LoadHeap w h = h
-opens_cursor o opening.StoreWork w h = h
-opens_cursor o opening.StoreSlack w h = h
-opens_cursor o opening.StoreBegun w h = h
-opens_cursor o opening.StorePhase w h = h
-opens_cursor o opening.Ended w h = h
+opens_cursor o _ w h = h
 
 -- each request of a stop is a load, or stores the phase
 stops_tell : (st : stop.Stopping) (p : StopStage) → TellsNothing (stop.asks_at st p)
@@ -57,17 +49,8 @@ module _ (shapes : List Shape) (l : Layout) (pacing : Pacing) (may : ℕ → Lis
   -- In a world that is stopped for it, a cycle is ready to be opened, with the next number.
   module _ (es : List (Entry Op)) (legal : Legal (those shapes l pacing may) es) (c d : Coordinating) (o : opens_by.CycleOpening) (led : IsLed shapes l pacing may es d) (at : d.stage ≡ Open o) (early : opens_by.is_busy o.stage ≡ true) (later : d.begun ≡ c.begun + 1) (q : IsQuiet shapes l pacing may es c) where
     stopped : (p : OpenStage) → opens_by.is_busy p ≡ true → leading.open_post p ≡ Stopped run.Off
-    stopped opening.ClearWant b = refl
-    stopped opening.ClearGcur b = refl
-    stopped opening.ClearTally b = refl
-    stopped opening.ClearLive b = refl
-    stopped opening.StoreTrigger b = refl
-    stopped opening.LoadHeap b = refl
-    stopped opening.StoreWork b = refl
-    stopped opening.StoreSlack b = refl
-    stopped opening.StoreBegun b = refl
-    stopped opening.StorePhase b = refl
     stopped opening.Ended b = absurd cc
+    stopped _ b = refl
 
     post : leading.post_at d.stage ≡ Stopped run.Off
     post = ap leading.post_at at ∙ stopped o.stage early
@@ -181,17 +164,9 @@ module _ (shapes : List Shape) (l : Layout) (pacing : Pacing) (may : ℕ → Lis
       there p x d same = subst (λ (y : OpenStage). IsOpening shapes l pacing may (e ∷ es) d (opens_by.behind y)) x (so d same)
 
       by_stage : (p : OpenStage) → o.stage ≡ p → To (coord.after_open (coord.at_stage u (Open (record o { stage = opens_by.behind p }))) (opens_by.given_at (opens_by.behind p)))
-      by_stage opening.ClearWant x = there _ x _ refl
-      by_stage opening.ClearGcur x = there _ x _ refl
-      by_stage opening.ClearTally x = there _ x _ refl
-      by_stage opening.ClearLive x = there _ x _ refl
-      by_stage opening.StoreTrigger x = there _ x _ refl
-      by_stage opening.LoadHeap x = there _ x _ refl
-      by_stage opening.StoreWork x = there _ x _ refl
-      by_stage opening.StoreSlack x = there _ x _ refl
-      by_stage opening.StoreBegun x = there _ x _ refl
       by_stage opening.StorePhase x = tt
       by_stage opening.Ended x = tt
+      by_stage _ x = there _ x _ refl
 
       go : (p : OpenStage) → o.stage ≡ p → To (coord.goes_at u (Open o) e.found)
       go p x = subst (λ (y : OpenStage). To (coord.after_open (coord.at_stage u (Open (record o { stage = opens_by.behind y }))) (opens_by.given_at (opens_by.behind y)))) (sym x) (by_stage p x)

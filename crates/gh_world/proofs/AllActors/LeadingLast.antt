@@ -12,7 +12,7 @@ use Rattle.gh_phase.specs.declared.resume.ResumeStage.TheVariants as resume_stag
 use Rattle.gh_phase.specs.declared.view.RunPhase.TheVariants as run
 use Rattle.gh_phase.specs.ResumePlaces.{stands_at}
 use Rattle.gh_world.specs.Numbers.{IsLiveCounted}
-use Rattle.gh_world.proofs.Vocabulary.{alloc_words, Arena, arena, Ask, birth_words, Check, Close, Coordinating, CoordStage, Count, Done, effect, EndsAllMarked, EndsCycle, Entry, Ever, ever, Gone, Heap, is_last_task, IsEnding, IsInLimits, IsJustSwept, IsLed, IsMade, IsMarkedObject, IsOf, IsPlacedAt, IsQuiet, IsStartOf, IsStepIn, last_of, last_phase, Layout, Lead, Leads, LeavesTheReached, Legal, LoadAck, LoadWant, MarkOn, mod_below, Name, new_stage_at, NewStage, Op, Open, Pacing, page_words, part_of, party_of, place_of, Placed, placed, Polling, polls_at, PollStage, processor_at, Reach, ResumeStage, Shape, slot_row, stage_at, stage_of, Stop, StopAgain, Store, Sweep, Task, Tell, those, view, Waiting, waiting, waits_at, WaitStage, Watch, Words, words}
+use Rattle.gh_world.proofs.Vocabulary.{alloc_words, Arena, arena, Ask, birth_words, Close, Coordinating, CoordStage, Done, effect, EndsAllMarked, EndsCycle, Entry, Ever, ever, Gone, Heap, is_last_task, IsEnding, IsInLimits, IsJustSwept, IsLed, IsMade, IsMarkedObject, IsOf, IsPlacedAt, IsQuiet, IsStartOf, IsStepIn, last_of, last_phase, Layout, Lead, Leads, LeavesTheReached, Legal, mod_below, Name, new_stage_at, NewStage, Op, Pacing, page_words, part_of, party_of, place_of, Placed, placed, Polling, polls_at, PollStage, processor_at, Reach, ResumeStage, Shape, slot_row, stage_at, stage_of, Store, Task, those, view, Waiting, waiting, waits_at, WaitStage, Words, words}
 use Rattle.gh_world.proofs.AllActors.Known.{Known, ListsKnown}
 use Rattle.gh_world.proofs.AllActors.LeadingNames.{placed_there}
 use Rattle.gh_world.proofs.AllActors.LeadingNumbers.{ends_once, legal_start}
@@ -23,10 +23,7 @@ use Rattle.gh_world.proofs.AllActors.Resting.{ever_stays, runs_are}
 
 resumes_on : (stops : ℕ) (p : ResumeStage) → stands_at stops p ≢ Gone
 resumes_on stops resume_stage.Acknowledge is = absurd cc
-resumes_on stops resume_stage.LoadPhase is = absurd cc
-resumes_on stops resume_stage.LoadGeneration is = absurd cc
-resumes_on stops resume_stage.LoadBegun is = absurd cc
-resumes_on stops resume_stage.Ended is = absurd cc
+resumes_on stops _ is = absurd cc
 
 polls_on : (p : Polling) (q : PollStage) → polls_at p q ≢ Gone
 polls_on p (poll_stage.Resuming r) is = resumes_on r.stops r.stage is
@@ -48,28 +45,12 @@ has_left p (task.Leave x) is = refl
 has_left p (task.New x) is = absurd (makes_on p x.stage is)
 has_left p (task.Gc g x) is = absurd (waits_on (waiting x p) x.stage is)
 has_left p task.Poll is = absurd (polls_on p p.stage is)
-has_left p task.Idle is = absurd cc
-has_left p (task.Load x) is = absurd cc
-has_left p (task.Store x) is = absurd cc
-has_left p (task.Global x) is = absurd cc
-has_left p (task.Register x) is = absurd cc
-has_left p (task.End g) is = absurd cc
+has_left p _ is = absurd cc
 
 -- the request that ends a cycle
 ends_by : (c : Coordinating) (p : CoordStage) → IsEnding p → (x : ℕ) × (coord.asks_at c p ≡ Store cell.Gen x)
 ends_by c (Close y) is = (y.generation, ap (close.asks_at y) is)
-ends_by c (Open o) is = absurd is
-ends_by c (LoadAck i) is = absurd is
-ends_by c LoadWant is = absurd is
-ends_by c (Stop st) is = absurd is
-ends_by c (Watch w) is = absurd is
-ends_by c (StopAgain st) is = absurd is
-ends_by c (Check w) is = absurd is
-ends_by c MarkOn is = absurd is
-ends_by c (Sweep w) is = absurd is
-ends_by c (Count w) is = absurd is
-ends_by c (Tell t) is = absurd is
-ends_by c Done is = absurd is
+ends_by c _ is = absurd is
 
 module _ (shapes : List Shape) (l : Layout) (pacing : Pacing) (may : ℕ → List (Entry Op) → Op → Bool) (limits : IsInLimits l) (known : Known) (lists : ListsKnown shapes l pacing may) where
   abbrev z : Arena

@@ -17,7 +17,7 @@ use Rattle.gh_coord.specs.SweepingAll as over
 use Rattle.gh_coord.specs.Telling as tell
 use Rattle.gh_coord.specs.Watching as watch
 use Rattle.gh_world.specs.Actors.{IsTelling, SweepsCycle}
-use Rattle.gh_world.proofs.Vocabulary.{acks_of, ahead_at, Ask, Check, Close, CloseStage, Coordinating, CoordStage, Count, CountStage, Done, effect, EndsCycle, Entry, generation_of, IsBeginning, IsEnding, IsLed, IsStartOf, Layout, Legal, LoadAck, LoadWant, MarkOn, nat_tests, Op, Open, opened_in, OpenStage, Pacing, part_of, processor_kind, Shape, Stop, StopAgain, StopStage, Sweep, SweepAllStage, Tell, TellStage, those, Watch, WatchStage, Words, words}
+use Rattle.gh_world.proofs.Vocabulary.{acks_of, ahead_at, Ask, Check, Close, CloseStage, Coordinating, CoordStage, Count, CountStage, effect, EndsCycle, Entry, generation_of, IsBeginning, IsEnding, IsLed, IsStartOf, Layout, Legal, nat_tests, Op, Open, opened_in, OpenStage, Pacing, part_of, processor_kind, Shape, Stop, StopAgain, StopStage, Sweep, SweepAllStage, Tell, TellStage, those, Watch, WatchStage, Words, words}
 use Rattle.gh_world.proofs.AllActors.Known.{Known, ListsKnown}
 use Rattle.gh_world.proofs.AllActors.LeadingSeat.{asked_at, goes_at as goes_by, led_then}
 use Rattle.gh_world.proofs.AllActors.LeadingSweep.{numbers_stay}
@@ -41,16 +41,7 @@ Keeps w q = (effect w q cell.Swept ≡ w cell.Swept) × (effect w q cell.Gen ≡
 
 opens_keep : (w : Words) (o : opens_by.CycleOpening) (p : OpenStage) → Keeps w (opens_by.asks_at o p)
 opens_keep w o open_stage.ClearWant = (refl, refl)
-opens_keep w o open_stage.ClearGcur = (refl, refl)
-opens_keep w o open_stage.ClearTally = (refl, refl)
-opens_keep w o open_stage.ClearLive = (refl, refl)
-opens_keep w o open_stage.StoreTrigger = (refl, refl)
-opens_keep w o open_stage.LoadHeap = (refl, refl)
-opens_keep w o open_stage.StoreWork = (refl, refl)
-opens_keep w o open_stage.StoreSlack = (refl, refl)
-opens_keep w o open_stage.StoreBegun = (refl, refl)
-opens_keep w o open_stage.StorePhase = (refl, refl)
-opens_keep w o open_stage.Ended = (refl, refl)
+opens_keep w o _ = (refl, refl)
 
 stops_keep : (w : Words) (st : stop.Stopping) (p : StopStage) → Keeps w (stop.asks_at st p)
 stops_keep w st stop_stage.StorePhase = (refl, refl)
@@ -85,14 +76,11 @@ tells_keep w x tell_stage.StorePhase = inr (refl, refl)
 tells_keep w x tell_stage.Ended = inr (refl, refl)
 
 keeps_at : (w : Words) (c : Coordinating) (p : CoordStage) → IsEnding p ⊎ (IsTelling p ⊎ Keeps w (coord.asks_at c p))
-keeps_at w c (LoadAck i) = inr (inr (refl, refl))
-keeps_at w c LoadWant = inr (inr (refl, refl))
 keeps_at w c (Stop st) = inr (inr (stops_keep w st st.stage))
 keeps_at w c (Open o) = inr (inr (opens_keep w o o.stage))
 keeps_at w c (Watch x) = inr (inr (watches_keep w x x.stage))
 keeps_at w c (StopAgain st) = inr (inr (stops_keep w st st.stage))
 keeps_at w c (Check x) = inr (inr (watches_keep w x x.stage))
-keeps_at w c MarkOn = inr (inr (refl, refl))
 keeps_at w c (Close x) = go (closes_keep w x x.stage) where
   go : (x.stage ≡ close_stage.StoreGen) ⊎ Keeps w (close.asks_at x x.stage) → IsEnding (Close x) ⊎ (IsTelling (Close x) ⊎ Keeps w (close.asks_at x x.stage))
   go (inl is) = inl is
@@ -103,7 +91,7 @@ keeps_at w c (Tell x) = go (tells_keep w x x.stage) where
   go : (x.stage ≡ tell_stage.StoreSwept) ⊎ Keeps w (tell.asks_at x x.stage) → IsEnding (Tell x) ⊎ (IsTelling (Tell x) ⊎ Keeps w (tell.asks_at x x.stage))
   go (inl is) = inr (inl is)
   go (inr is) = inr (inr is)
-keeps_at w c Done = inr (inr (refl, refl))
+keeps_at w c _ = inr (inr (refl, refl))
 
 -- Where a cycle ends, is told and begins, and where those steps lead.
 
@@ -123,18 +111,7 @@ pub record Numbered (p : CoordStage) (opened numbered ended : ℕ) : Type 0 wher
 
 pub beginning : (p : CoordStage) → IsBeginning p → Numbered p 1 1 0
 beginning (Open o) is = rw is (record { opened_is = refl; numbered_is = refl; ended_is = refl })
-beginning (LoadAck i) is = absurd is
-beginning LoadWant is = absurd is
-beginning (Stop st) is = absurd is
-beginning (Watch w) is = absurd is
-beginning (StopAgain st) is = absurd is
-beginning (Check w) is = absurd is
-beginning MarkOn is = absurd is
-beginning (Close c) is = absurd is
-beginning (Sweep w) is = absurd is
-beginning (Count c) is = absurd is
-beginning (Tell t) is = absurd is
-beginning Done is = absurd is
+beginning _ is = absurd is
 
 pub record Leads (u : Coordinating) (p : CoordStage) (found opened numbered ended opened_then numbered_then ended_then : ℕ) : Type 0 where
   pub now : Numbered p opened numbered ended
@@ -143,33 +120,11 @@ pub record Leads (u : Coordinating) (p : CoordStage) (found opened numbered ende
 
 ending : (u : Coordinating) (p : CoordStage) (found : ℕ) → IsEnding p → Leads u p found 1 1 0 1 1 1
 ending u (Close c) found is = rw is (record { now = record { opened_is = refl; numbered_is = refl; ended_is = refl }; after = record { opened_is = refl; numbered_is = refl; ended_is = refl }; begun = refl })
-ending u (Open o) found is = absurd is
-ending u (LoadAck i) found is = absurd is
-ending u LoadWant found is = absurd is
-ending u (Stop st) found is = absurd is
-ending u (Watch w) found is = absurd is
-ending u (StopAgain st) found is = absurd is
-ending u (Check w) found is = absurd is
-ending u MarkOn found is = absurd is
-ending u (Sweep w) found is = absurd is
-ending u (Count c) found is = absurd is
-ending u (Tell t) found is = absurd is
-ending u Done found is = absurd is
+ending u _ found is = absurd is
 
 telling : (u : Coordinating) (p : CoordStage) (found : ℕ) → IsTelling p → Leads u p found 1 1 1 0 0 0
 telling u (Tell t) found is = rw is (record { now = record { opened_is = refl; numbered_is = refl; ended_is = refl }; after = record { opened_is = refl; numbered_is = refl; ended_is = refl }; begun = refl })
-telling u (Open o) found is = absurd is
-telling u (LoadAck i) found is = absurd is
-telling u LoadWant found is = absurd is
-telling u (Stop st) found is = absurd is
-telling u (Watch w) found is = absurd is
-telling u (StopAgain st) found is = absurd is
-telling u (Check w) found is = absurd is
-telling u MarkOn found is = absurd is
-telling u (Close c) found is = absurd is
-telling u (Sweep w) found is = absurd is
-telling u (Count c) found is = absurd is
-telling u Done found is = absurd is
+telling u _ found is = absurd is
 
 module _ (shapes : List Shape) (l : Layout) (pacing : Pacing) (may : ℕ → List (Entry Op) → Op → Bool) (known : Known) (lists : ListsKnown shapes l pacing may) where
   abbrev Lawful : List (Entry Op) → Type 0

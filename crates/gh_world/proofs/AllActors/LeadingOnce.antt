@@ -77,16 +77,7 @@ module _ (u : Coordinating) where
   -- a step that clears the request counts one cycle more
   clears : (o : opens_by.CycleOpening) (p : OpenStage) → o.stage ≡ p → IsToClear p → (before : ℕ) → opened_after (opens_by.asks_at o o.stage) before ≡ suc before
   clears o open_stage.ClearWant is past before = ap (λ (q : OpenStage). opened_after (opens_by.asks_at o q) before) is
-  clears o open_stage.ClearGcur is past before = absurd past
-  clears o open_stage.ClearTally is past before = absurd past
-  clears o open_stage.ClearLive is past before = absurd past
-  clears o open_stage.StoreTrigger is past before = absurd past
-  clears o open_stage.LoadHeap is past before = absurd past
-  clears o open_stage.StoreWork is past before = absurd past
-  clears o open_stage.StoreSlack is past before = absurd past
-  clears o open_stage.StoreBegun is past before = absurd past
-  clears o open_stage.StorePhase is past before = absurd past
-  clears o open_stage.Ended is past before = absurd past
+  clears o _ is past before = absurd past
 
   stays_past : (c : Coordinating) (p : CoordStage) (found : ℕ) → coord.is_busy p ≡ true → IsPast p → IsPast (coord.goes_at u p found).stage ⊎ ((before : ℕ) → opened_after (coord.asks_at c p) before ≡ suc before)
   stays_past c (LoadAck i) found b past = inl (acks i _ _)
@@ -106,48 +97,15 @@ module _ (u : Coordinating) where
   -- where a cycle begins
   begins_past : (p : CoordStage) (found : ℕ) → IsBeginning p → IsPast (coord.goes_at u p found).stage
   begins_past (Open o) found is = rw is tt
-  begins_past (LoadAck i) found is = absurd is
-  begins_past LoadWant found is = absurd is
-  begins_past (Stop st) found is = absurd is
-  begins_past (Watch w) found is = absurd is
-  begins_past (StopAgain st) found is = absurd is
-  begins_past (Check w) found is = absurd is
-  begins_past MarkOn found is = absurd is
-  begins_past (Close x) found is = absurd is
-  begins_past (Sweep w) found is = absurd is
-  begins_past (Count w) found is = absurd is
-  begins_past (Tell t) found is = absurd is
-  begins_past Done found is = absurd is
+  begins_past _ found is = absurd is
 
 begins_none : (c : Coordinating) (p : CoordStage) → IsBeginning p → (before : ℕ) → opened_after (coord.asks_at c p) before ≡ before
 begins_none c (Open o) is before = ap (λ (q : OpenStage). opened_after (opens_by.asks_at o q) before) is
-begins_none c (LoadAck i) is before = absurd is
-begins_none c LoadWant is before = absurd is
-begins_none c (Stop st) is before = absurd is
-begins_none c (Watch w) is before = absurd is
-begins_none c (StopAgain st) is before = absurd is
-begins_none c (Check w) is before = absurd is
-begins_none c MarkOn is before = absurd is
-begins_none c (Close x) is before = absurd is
-begins_none c (Sweep w) is before = absurd is
-begins_none c (Count w) is before = absurd is
-begins_none c (Tell t) is before = absurd is
-begins_none c Done is before = absurd is
+begins_none c _ is before = absurd is
 
 not_past : (p : CoordStage) → IsBeginning p → IsPast p → ⊥
 not_past (Open o) is past = subst IsToClear is past
-not_past (LoadAck i) is past = is
-not_past LoadWant is past = is
-not_past (Stop st) is past = is
-not_past (Watch w) is past = is
-not_past (StopAgain st) is past = is
-not_past (Check w) is past = is
-not_past MarkOn is past = is
-not_past (Close x) is past = is
-not_past (Sweep w) is past = is
-not_past (Count w) is past = is
-not_past (Tell t) is past = is
-not_past Done is past = is
+not_past _ is past = is
 
 module _ (shapes : List Shape) (l : Layout) (pacing : Pacing) (may : ℕ → List (Entry Op) → Op → Bool) (known : Known) (lists : ListsKnown shapes l pacing may) where
   abbrev Lawful : List (Entry Op) → Type 0

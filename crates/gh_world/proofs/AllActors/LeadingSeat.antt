@@ -21,16 +21,7 @@ parked_new p stops (new.Place x) parked = absurd parked
 
 parked_at : (p : Polling) (stops : ℕ) (q : Task) → IsParked stops (stage_at p q) → uncounted q ≡ 0
 parked_at p stops (task.New x) parked = parked_new p stops x.stage parked
-parked_at p stops task.Idle parked = refl
-parked_at p stops task.Left parked = refl
-parked_at p stops (task.Load x) parked = refl
-parked_at p stops (task.Store x) parked = refl
-parked_at p stops (task.Global x) parked = refl
-parked_at p stops (task.Register x) parked = refl
-parked_at p stops (task.Gc g x) parked = refl
-parked_at p stops task.Poll parked = refl
-parked_at p stops (task.End g) parked = refl
-parked_at p stops (task.Leave x) parked = refl
+parked_at p stops _ parked = refl
 
 module _ (shapes : List Shape) (l : Layout) (pacing : Pacing) (may : ℕ → List (Entry Op) → Op → Bool) where
   abbrev at : List (Entry Op) → ℕ → Actor Processor

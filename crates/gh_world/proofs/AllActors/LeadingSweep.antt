@@ -29,35 +29,18 @@ module _ (m : sweep.Sweeping) where
   spans_only (sweep_stage.LoadMarks i) = record { scanned = λ w i. refl; global = λ w i. refl; buffer = λ w i. refl }
   spans_only (sweep_stage.ClearBits i marks) = record { scanned = λ w i. refl; global = λ w i. refl; buffer = λ w i. refl }
   spans_only (sweep_stage.ClearMarks i) = record { scanned = λ w i. refl; global = λ w i. refl; buffer = λ w i. refl }
-  spans_only sweep_stage.AddTally = record { scanned = λ w i. refl; global = λ w i. refl; buffer = λ w i. refl }
-  spans_only sweep_stage.AddLive = record { scanned = λ w i. refl; global = λ w i. refl; buffer = λ w i. refl }
-  spans_only sweep_stage.AddHeap = record { scanned = λ w i. refl; global = λ w i. refl; buffer = λ w i. refl }
-  spans_only sweep_stage.Finish = record { scanned = λ w i. refl; global = λ w i. refl; buffer = λ w i. refl }
-  spans_only sweep_stage.Ended = record { scanned = λ w i. refl; global = λ w i. refl; buffer = λ w i. refl }
+  spans_only _ = record { scanned = λ w i. refl; global = λ w i. refl; buffer = λ w i. refl }
 
   -- nor are the numbers of cycles
   pub numbers_stay : (q : SweepStage) (w : Words) → (effect w (sweep.asks_at m q) cell.Swept ≡ w cell.Swept) × (effect w (sweep.asks_at m q) cell.Gen ≡ w cell.Gen)
   numbers_stay sweep_stage.Begin w = (swapped _ (put w (cell.Page m.page) _) w _ refl, swapped _ (put w (cell.Page m.page) _) w _ refl)
-  numbers_stay (sweep_stage.LoadMarks i) w = (refl, refl)
-  numbers_stay (sweep_stage.ClearBits i marks) w = (refl, refl)
-  numbers_stay (sweep_stage.ClearMarks i) w = (refl, refl)
-  numbers_stay sweep_stage.AddTally w = (refl, refl)
-  numbers_stay sweep_stage.AddLive w = (refl, refl)
-  numbers_stay sweep_stage.AddHeap w = (refl, refl)
-  numbers_stay sweep_stage.Finish w = (refl, refl)
-  numbers_stay sweep_stage.Ended w = (refl, refl)
+  numbers_stay _ w = (refl, refl)
 
   -- another page's word is let alone
   other_page : (q : SweepStage) (w : Words) (p : ℕ) → (m.page == p) ≡ false → effect w (sweep.asks_at m q) (cell.Page p) ≡ w (cell.Page p)
   other_page sweep_stage.Begin w p x = swapped _ (put w (cell.Page m.page) _) w _ (rw x refl)
-  other_page (sweep_stage.LoadMarks i) w p x = refl
-  other_page (sweep_stage.ClearBits i marks) w p x = refl
-  other_page (sweep_stage.ClearMarks i) w p x = refl
-  other_page sweep_stage.AddTally w p x = refl
-  other_page sweep_stage.AddLive w p x = refl
-  other_page sweep_stage.AddHeap w p x = refl
   other_page sweep_stage.Finish w p x = rw x refl
-  other_page sweep_stage.Ended w p x = refl
+  other_page _ w p x = refl
 
 -- Whoever makes the moves of a sweep, the spans that are being swept are its own, and nothing is placed.
 module _ (a : ℕ) (v : Spans) (m : sweep.Sweeping) where
@@ -76,14 +59,8 @@ module _ (a : ℕ) (v : Spans) (m : sweep.Sweeping) where
 
   pub alone_on : Alone v → (q : SweepStage) (found : ℕ) → Alone (moves.moved a v (sweepers.move_at m q found))
   alone_on alone sweep_stage.Begin found = alone_begins alone (sweep.wrote m found)
-  alone_on alone (sweep_stage.LoadMarks i) found = alone
-  alone_on alone (sweep_stage.ClearBits i marks) found = alone
-  alone_on alone (sweep_stage.ClearMarks i) found = alone
-  alone_on alone sweep_stage.AddTally found = alone
-  alone_on alone sweep_stage.AddLive found = alone
-  alone_on alone sweep_stage.AddHeap found = alone
   alone_on alone sweep_stage.Finish found = alone_starts alone m.page Done (λ b is. absurd cc)
-  alone_on alone sweep_stage.Ended found = alone
+  alone_on alone _ found = alone
 
   abbrev OwesNone : Spans → Type 0
   OwesNone s = (b : ℕ) → s.pend b ≡ 0
@@ -94,14 +71,7 @@ module _ (a : ℕ) (v : Spans) (m : sweep.Sweeping) where
 
   pub owes_on : OwesNone v → (q : SweepStage) (found : ℕ) → OwesNone (moves.moved a v (sweepers.move_at m q found))
   owes_on owes sweep_stage.Begin found = owes_begins owes (sweep.wrote m found)
-  owes_on owes (sweep_stage.LoadMarks i) found = owes
-  owes_on owes (sweep_stage.ClearBits i marks) found = owes
-  owes_on owes (sweep_stage.ClearMarks i) found = owes
-  owes_on owes sweep_stage.AddTally found = owes
-  owes_on owes sweep_stage.AddLive found = owes
-  owes_on owes sweep_stage.AddHeap found = owes
-  owes_on owes sweep_stage.Finish found = owes
-  owes_on owes sweep_stage.Ended found = owes
+  owes_on owes _ found = owes
 
 module _ (z : Arena) (e : CycleEnd) (a : ℕ) (known : Known) (w : SweepingAll) where
   abbrev Sweeps : Spans → SweepingAll → Type 0

@@ -3,7 +3,7 @@ use Rattle.std.proofs.Common.{◌≡◌, inr, ℕ, Bool, refl, sym, ap, subst, �
 use Rattle.gh_coord.specs.Closing as close
 use Rattle.gh_coord.specs.Handshake as leading
 use Rattle.gh_world.specs.Actors.{BeginsCycle, IsTelling}
-use Rattle.gh_world.proofs.Vocabulary.{acks_of, alloc_words, Arena, arena, birth_words, Check, Close, Coordinating, CoordStage, Count, Done, EndsMarked, Entry, Ever, ever, HoldsAt, IsEnding, IsInLimits, IsLed, IsMade, IsMeant, IsStartOf, IsStepIn, Knows, Layout, Legal, LoadAck, LoadWant, MarkFacts, MarkOn, Op, Open, Pacing, Placed, processor_kind, Reach, Shape, ShapesAreGood, stage_of, Stop, StopAgain, Sweep, Tell, those, view, WasMarked, WasSo, Watch, Words}
+use Rattle.gh_world.proofs.Vocabulary.{acks_of, alloc_words, Arena, arena, birth_words, Close, Coordinating, CoordStage, EndsMarked, Entry, Ever, ever, HoldsAt, IsEnding, IsInLimits, IsLed, IsMade, IsMeant, IsStartOf, IsStepIn, Knows, Layout, Legal, MarkFacts, Op, Pacing, Placed, processor_kind, Reach, Shape, ShapesAreGood, stage_of, Tell, those, view, WasMarked, WasSo, Words}
 use Rattle.gh_world.proofs.AllActors.Known.{Known, ListsKnown}
 use Rattle.gh_world.proofs.AllActors.LeadingEnds.{ends_marked}
 use Rattle.gh_world.proofs.AllActors.LeadingNames.{placed_there}
@@ -42,18 +42,7 @@ module _ (shapes : List Shape) (l : Layout) (pacing : Pacing) (may : ℕ → Lis
 
     just_then : (p : CoordStage) → c.stage ≡ p → IsTelling p → Just shapes l pacing may known lists (e ∷ es) c
     just_then (Tell t) is x = told_then shapes l pacing may known lists e es legal c led by t is (just_at shapes l pacing may known lists es c t.stage (subst (HoldsAt shapes l pacing may es c) is at))
-    just_then (Open o) is x = absurd x
-    just_then (LoadAck i) is x = absurd x
-    just_then LoadWant is x = absurd x
-    just_then (Stop st) is x = absurd x
-    just_then (Watch w) is x = absurd x
-    just_then (StopAgain st) is x = absurd x
-    just_then (Check w) is x = absurd x
-    just_then MarkOn is x = absurd x
-    just_then (Close y) is x = absurd x
-    just_then (Sweep w) is x = absurd x
-    just_then (Count y) is x = absurd x
-    just_then Done is x = absurd x
+    just_then _ is x = absurd x
 
     frees_now : (k : ℕ) (begun : List (Entry Op)) → IsStartOf begun es → BeginsCycle shapes l pacing may k begun → IsStepIn shapes l pacing may IsTelling k e es → Frees shapes l pacing may begun (e ∷ es)
     frees_now k begun start begins step =
@@ -64,18 +53,7 @@ module _ (shapes : List Shape) (l : Layout) (pacing : Pacing) (may : ℕ → Lis
 
     ends_at : (p : CoordStage) → c.stage ≡ p → IsEnding p → EndsMarked shapes l pacing may es c
     ends_at (Close y) is x = ends_marked shapes l pacing may good limits known lists es legal.0 c led y is (was es c (whole es) led (subst leading.Marks (sym is) (ap close.is_busy x)))
-    ends_at (Open o) is x = absurd x
-    ends_at (LoadAck i) is x = absurd x
-    ends_at LoadWant is x = absurd x
-    ends_at (Stop st) is x = absurd x
-    ends_at (Watch w) is x = absurd x
-    ends_at (StopAgain st) is x = absurd x
-    ends_at (Check w) is x = absurd x
-    ends_at MarkOn is x = absurd x
-    ends_at (Sweep w) is x = absurd x
-    ends_at (Count y) is x = absurd x
-    ends_at (Tell t) is x = absurd x
-    ends_at Done is x = absurd x
+    ends_at _ is x = absurd x
 
     ends_now : (k : ℕ) (step : IsStepIn shapes l pacing may IsEnding k e es) → EndsMarked shapes l pacing may es step.lead
     ends_now k step =

@@ -16,7 +16,7 @@ use Rattle.gh_coord.specs.Opening as opens_by
 use Rattle.gh_coord.specs.Stopping as stop
 use Rattle.gh_coord.specs.Watching as watch
 use Rattle.gh_worker.specs.Writing.{IsWritten}
-use Rattle.gh_world.proofs.Vocabulary.{Add, And, Arena, arena, AreWords, Ask, Cell, cell_of, ChangesOneCell, Check, Close, CloseStage, Coordinating, CoordStage, Count, Cycle, Done, effect, Entry, Good, IsBeginning, IsBounded, IsCycleOf, IsKnown, Layout, left, Load, LoadAck, LoadWant, mark_words, Marking, MarkOn, Op, Open, OpenStage, Or, Pacing, same_cell, Shape, Stop, StopAgain, StopStage, Store, Swap, Sweep, Tell, view, Watch, WatchStage, Went, Words, WritesItsOwn}
+use Rattle.gh_world.proofs.Vocabulary.{Add, And, Arena, arena, AreWords, Ask, Cell, cell_of, ChangesOneCell, Check, Close, CloseStage, Coordinating, CoordStage, Cycle, effect, Entry, Good, IsBeginning, IsBounded, IsCycleOf, IsKnown, Layout, left, Load, mark_words, Marking, MarkOn, Op, Open, OpenStage, Or, Pacing, same_cell, Shape, StopAgain, StopStage, Store, Swap, view, Watch, WatchStage, Went, Words, WritesItsOwn}
 use Rattle.gh_world.proofs.AllActors.Aside.{beside_of, IsBeside, loads, stores_bank, stores_phase}
 use Rattle.gh_world.proofs.AllActors.Known.{Known}
 
@@ -36,28 +36,7 @@ apart_cell seat (cell.Buffer b) is = record { aside = tt; heap = refl; page = λ
 apart_cell seat (cell.Entry b j) is = record { aside = tt; heap = refl; page = λ i. refl; alloc = λ i. refl; global = λ i. refl; scanned = λ i. refl }
 apart_cell seat (cell.Mark m) is = record { aside = tt; heap = refl; page = λ i. refl; alloc = λ i. refl; global = λ i. refl; scanned = λ i. refl }
 apart_cell seat (cell.Ack a) is = record { aside = tt; heap = refl; page = λ i. refl; alloc = λ i. refl; global = λ i. refl; scanned = λ i. refl }
-apart_cell seat cell.Touch is = absurd is
-apart_cell seat cell.Phase is = absurd is
-apart_cell seat cell.Gen is = absurd is
-apart_cell seat cell.Begun is = absurd is
-apart_cell seat cell.Swept is = absurd is
-apart_cell seat cell.Lock is = absurd is
-apart_cell seat cell.Want is = absurd is
-apart_cell seat cell.Bank is = absurd is
-apart_cell seat cell.Gcur is = absurd is
-apart_cell seat cell.Heap is = absurd is
-apart_cell seat cell.Trigger is = absurd is
-apart_cell seat cell.Work is = absurd is
-apart_cell seat cell.Slack is = absurd is
-apart_cell seat cell.Tally is = absurd is
-apart_cell seat cell.Live is = absurd is
-apart_cell seat (cell.Page i) is = absurd is
-apart_cell seat (cell.Alloc i) is = absurd is
-apart_cell seat (cell.Bitmap i) is = absurd is
-apart_cell seat (cell.Birth i) is = absurd is
-apart_cell seat (cell.Field i) is = absurd is
-apart_cell seat (cell.Global i) is = absurd is
-apart_cell seat (cell.Scanned i) is = absurd is
+apart_cell seat _ is = absurd is
 
 module _ (one : ChangesOneCell) where
   leaves : (ask : Ask) (w : Words) (at : Cell) → same_cell (cell_of ask) at ≡ false → effect w ask at ≡ w at
@@ -134,29 +113,11 @@ module _ (shapes : List Shape) (l : Layout) (pacing : Pacing) (may : ℕ → Lis
     marks_beside (Check w) on still = watch_beside w w.stage
     marks_beside MarkOn on still = asks_phase _
     marks_beside (Close c) on still = close_beside c c.stage still
-    marks_beside (LoadAck i) on still = absurd on
-    marks_beside LoadWant on still = absurd on
-    marks_beside (Stop st) on still = absurd on
-    marks_beside (Open o) on still = absurd on
-    marks_beside (Sweep w) on still = absurd on
-    marks_beside (Count x) on still = absurd on
-    marks_beside (Tell t) on still = absurd on
-    marks_beside Done on still = absurd on
+    marks_beside _ on still = absurd on
 
     pub begins_beside : (p : CoordStage) → IsBeginning p → IsBeside (coord.asks_at s p)
     begins_beside (Open o) b = opens_beside o o.stage b
-    begins_beside (LoadAck i) b = absurd b
-    begins_beside LoadWant b = absurd b
-    begins_beside (Stop st) b = absurd b
-    begins_beside (Watch w) b = absurd b
-    begins_beside (StopAgain st) b = absurd b
-    begins_beside (Check w) b = absurd b
-    begins_beside MarkOn b = absurd b
-    begins_beside (Close c) b = absurd b
-    begins_beside (Sweep w) b = absurd b
-    begins_beside (Count x) b = absurd b
-    begins_beside (Tell t) b = absurd b
-    begins_beside Done b = absurd b
+    begins_beside _ b = absurd b
 
     -- where the store of the next sweep generation leads, no cycle is marked
     closes_off : (c : close.Closing) (found : ℕ) (p : CloseStage) → p ≡ close_stage.StoreGen → leading.Marks (coord.after_close (coord.at_stage s (Close (close.goes_at c p found))) (close.given (close.goes_at c p found))).stage → ⊥
@@ -166,15 +127,4 @@ module _ (shapes : List Shape) (l : Layout) (pacing : Pacing) (may : ℕ → Lis
 
     pub stays_marked : (p : CoordStage) (found : ℕ) → leading.Marks (coord.goes_at s p found).stage → StaysMarked p
     stays_marked (Close c) found on = λ is. closes_off c found c.stage is on
-    stays_marked (LoadAck i) found on = tt
-    stays_marked LoadWant found on = tt
-    stays_marked (Stop st) found on = tt
-    stays_marked (Open o) found on = tt
-    stays_marked (Watch w) found on = tt
-    stays_marked (StopAgain st) found on = tt
-    stays_marked (Check w) found on = tt
-    stays_marked MarkOn found on = tt
-    stays_marked (Sweep w) found on = tt
-    stays_marked (Count x) found on = tt
-    stays_marked (Tell t) found on = tt
-    stays_marked Done found on = tt
+    stays_marked _ found on = tt

@@ -1,5 +1,5 @@
 -- What an actor's own entries say: its state, and which goroutines they end.
-use Rattle.std.proofs.Common.{◌≡◌, ℕ, ◌<◌, ◌==◌, ◌⊎◌, inl, inr, zero, suc, not, Bool, true, false, cond, refl, sym, ap, subst, ◌∙◌, arith, List, [], ◌∷◌, Option, Some, None}
+use Rattle.std.proofs.Common.{◌≡◌, ℕ, ◌<◌, ◌==◌, ◌⊎◌, inl, inr, zero, suc, not, Bool, true, false, cond, refl, sym, ap, subst, ◌∙◌, arith, List, [], ◌∷◌, Option, Some}
 use Rattle.std.specs.Prelude.{◌||◌}
 use Rattle.gh_base.specs.declared.operation.Op.TheVariants as op
 use Rattle.gh_world.proofs.Vocabulary.{all_ended, Arena, by, ended_in, ends, Entry, Entry as EntryOf, Kind, nat_tests, Op, started, state_of}
@@ -28,18 +28,7 @@ or_cases false c x = inr x
 -- an operation that ends a goroutine is its end
 pub began_end : (o : Option Op) (g : ℕ) → ends o g ≡ true → o ≡ Some (op.End g)
 began_end (Some (op.End h)) g x = let same : h ≡ g = grind (arith, nat_tests) in ap (λ (n : ℕ). Some (op.End n)) same
-began_end None g x = absurd (cc)
-began_end (Some (op.New h d i)) g x = absurd (cc)
-began_end (Some (op.Load h d b i)) g x = absurd (cc)
-began_end (Some (op.Store h b i c)) g x = absurd (cc)
-began_end (Some (op.GetGlobal h d i)) g x = absurd (cc)
-began_end (Some (op.SetGlobal h i c)) g x = absurd (cc)
-began_end (Some (op.Int h d n)) g x = absurd (cc)
-began_end (Some (op.Move h d c)) g x = absurd (cc)
-began_end (Some (op.Nil h d)) g x = absurd (cc)
-began_end (Some (op.Gc h)) g x = absurd (cc)
-began_end (Some op.Poll) g x = absurd (cc)
-began_end (Some op.Leave) g x = absurd (cc)
+began_end _ g x = absurd (cc)
 
 -- each goroutine of the seat has ended
 pub all_ended_at : (z : Arena) (a : ℕ) (es : List (Entry Op)) (n g : ℕ) → g < n → (z.seat_of g == a) ≡ true → all_ended z a es n ≡ true → ended_in es g ≡ true

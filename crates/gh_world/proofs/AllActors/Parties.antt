@@ -22,32 +22,19 @@ use Rattle.gh_world.proofs.Vocabulary.{Add, And, AreParties, Ask, asks, Awake, C
 
 -- what it writes is none of the numbers, but that it asks for a cycle
 no_number : (m : Processor) (c : Cell) → IsWritten m c → IsNoNumber c ⊎ ((c ≡ cell.Want) × (asks m ≡ Or cell.Want 1))
-no_number m cell.Touch is = inl tt
 no_number m cell.Phase is = absurd is
 no_number m cell.Gen is = absurd is
 no_number m cell.Begun is = absurd is
 no_number m cell.Swept is = absurd is
-no_number m cell.Lock is = inl tt
 no_number m cell.Want is = inr (refl, is.1)
 no_number m cell.Bank is = absurd is
 no_number m cell.Gcur is = absurd is
-no_number m cell.Heap is = inl tt
 no_number m cell.Trigger is = absurd is
 no_number m cell.Work is = absurd is
 no_number m cell.Slack is = absurd is
 no_number m cell.Tally is = absurd is
 no_number m cell.Live is = absurd is
-no_number m (cell.Page i) is = inl tt
-no_number m (cell.Alloc i) is = inl tt
-no_number m (cell.Mark i) is = inl tt
-no_number m (cell.Bitmap i) is = inl tt
-no_number m (cell.Birth i) is = inl tt
-no_number m (cell.Field i) is = inl tt
-no_number m (cell.Global i) is = inl tt
-no_number m (cell.Buffer i) is = inl tt
-no_number m (cell.Entry i j) is = inl tt
-no_number m (cell.Ack i) is = inl tt
-no_number m (cell.Scanned i) is = inl tt
+no_number m _ is = inl tt
 
 -- where it does not ask for one, it is none of them
 others_number : (m : Processor) (c : Cell) → IsWritten m c → (asks m ≡ Or cell.Want 1 → ⊥) → IsNoNumber c
@@ -69,17 +56,11 @@ leaves_numbers m (Or c bits) is w = elim (no_number m c w) [
 -- a step on the word of a stack is none of those of going on after a stop
 resume_other : (seat stops : ℕ) (s : ResumeStage) (g value : ℕ) → Store (cell.Scanned g) value ≡ resume_asks seat stops s → ⊥
 resume_other seat stops resuming.Acknowledge g value is = cc
-resume_other seat stops resuming.LoadPhase g value is = cc
-resume_other seat stops resuming.LoadGeneration g value is = cc
-resume_other seat stops resuming.LoadBegun g value is = cc
-resume_other seat stops resuming.Ended g value is = cc
+resume_other seat stops _ g value is = cc
 
 resumes_other : (r : resume.Resuming) (s : ResumeStage) (g value : ℕ) → Store (cell.Scanned g) value ≡ resume.asks_at r s → ⊥
 resumes_other r resuming.Acknowledge g value is = cc
-resumes_other r resuming.LoadPhase g value is = cc
-resumes_other r resuming.LoadGeneration g value is = cc
-resumes_other r resuming.LoadBegun g value is = cc
-resumes_other r resuming.Ended g value is = cc
+resumes_other r _ g value is = cc
 
 -- so it is awake then
 pub awake_at : (found : ℕ) (from : Party) (s : Stage) (q : Ask) (to : Party) (then : Stage) (g value : ℕ) → q ≡ Store (cell.Scanned g) value → StageGoes found from s q to then → IsAwake s
@@ -93,11 +74,7 @@ awake_at found from Gone q to then g value is goes = absurd goes
 module _ (m : Processor) (g value : ℕ) where
   polls_know : (s : PollStage) → Store (cell.Scanned g) value ≡ poll.asks_at s → (poller_at m.poll s).view ≡ m.poll.local.view
   polls_know (polling.Resuming r) is = absurd (resumes_other r r.stage g value is)
-  polls_know polling.LoadPhase is = refl
-  polls_know (polling.Giving x stops) is = refl
-  polls_know (polling.Marking h x) is = refl
-  polls_know (polling.FindRoom r) is = refl
-  polls_know polling.Ended is = refl
+  polls_know _ is = refl
 
   waits_know : (w : Wait) (s : WaitStage) → Store (cell.Scanned g) value ≡ wait.asks_at (wait.waiting w m.poll) s → (waiter_at (wait.waiting w m.poll) s).view ≡ m.poll.local.view
   waits_know w waiting.Polling is = polls_know m.poll.stage is
@@ -114,14 +91,7 @@ module _ (m : Processor) (g value : ℕ) where
   knows_at (task.New x) is = new_knows x.stage is
   knows_at (task.Gc h x) is = waits_know x x.stage is
   knows_at task.Poll is = polls_know m.poll.stage is
-  knows_at task.Idle is = refl
-  knows_at task.Left is = refl
-  knows_at (task.Load x) is = refl
-  knows_at (task.Store x) is = refl
-  knows_at (task.Global x) is = refl
-  knows_at (task.Register x) is = refl
-  knows_at (task.End h) is = refl
-  knows_at (task.Leave x) is = refl
+  knows_at _ is = refl
 
 module _ (places : ProcessorInHandshake) (writes : ProcessorWritesItsOwn) (shapes : List Shape) (l : Layout) where
   pub are_parties : AreParties l (processor_kind shapes l) (Sound l) party_of stage_of
@@ -150,32 +120,8 @@ module _ (places : ProcessorInHandshake) (writes : ProcessorWritesItsOwn) (shape
         )
 
     numbers_cell : (c : Cell) (value : ℕ) → asks m ≡ Store c value → IsWritten m c → NumbersStack (party_of m) (stage_of m) (Store c value)
-    numbers_cell cell.Touch value is w = tt
-    numbers_cell cell.Phase value is w = tt
-    numbers_cell cell.Gen value is w = tt
-    numbers_cell cell.Begun value is w = tt
-    numbers_cell cell.Swept value is w = tt
-    numbers_cell cell.Lock value is w = tt
-    numbers_cell cell.Want value is w = tt
-    numbers_cell cell.Bank value is w = tt
-    numbers_cell cell.Gcur value is w = tt
-    numbers_cell cell.Heap value is w = tt
-    numbers_cell cell.Trigger value is w = tt
-    numbers_cell cell.Work value is w = tt
-    numbers_cell cell.Slack value is w = tt
-    numbers_cell cell.Tally value is w = tt
-    numbers_cell cell.Live value is w = tt
-    numbers_cell (cell.Page i) value is w = tt
-    numbers_cell (cell.Alloc i) value is w = tt
-    numbers_cell (cell.Mark i) value is w = tt
-    numbers_cell (cell.Bitmap i) value is w = tt
-    numbers_cell (cell.Birth i) value is w = tt
-    numbers_cell (cell.Field i) value is w = tt
-    numbers_cell (cell.Global i) value is w = tt
-    numbers_cell (cell.Buffer i) value is w = tt
-    numbers_cell (cell.Entry i j) value is w = tt
-    numbers_cell (cell.Ack i) value is w = tt
     numbers_cell (cell.Scanned i) value is w = number_is i value is w
+    numbers_cell _ value is w = tt
 
     -- no word of a stack is changed but by a store
     stores_only : (g : ℕ) (q : Ask) → asks m ≡ q → ((value : ℕ) → q ≡ Store (cell.Scanned g) value → ⊥) → EndsStack m g ⊎ TellsScan m g → ⊥
@@ -183,116 +129,20 @@ module _ (places : ProcessorInHandshake) (writes : ProcessorWritesItsOwn) (shape
     stores_only g q is other (inr x) = other m.poll.local.view.begun (sym is ∙ x.tells)
 
     or_cell : (c : Cell) (bits : ℕ) → asks m ≡ Or c bits → IsWritten m c → NumbersStack (party_of m) (stage_of m) (Or c bits)
-    or_cell cell.Touch bits is w = tt
-    or_cell cell.Phase bits is w = tt
-    or_cell cell.Gen bits is w = tt
-    or_cell cell.Begun bits is w = tt
-    or_cell cell.Swept bits is w = tt
-    or_cell cell.Lock bits is w = tt
-    or_cell cell.Want bits is w = tt
-    or_cell cell.Bank bits is w = tt
-    or_cell cell.Gcur bits is w = tt
-    or_cell cell.Heap bits is w = tt
-    or_cell cell.Trigger bits is w = tt
-    or_cell cell.Work bits is w = tt
-    or_cell cell.Slack bits is w = tt
-    or_cell cell.Tally bits is w = tt
-    or_cell cell.Live bits is w = tt
-    or_cell (cell.Page i) bits is w = tt
-    or_cell (cell.Alloc i) bits is w = tt
-    or_cell (cell.Mark i) bits is w = tt
-    or_cell (cell.Bitmap i) bits is w = tt
-    or_cell (cell.Birth i) bits is w = tt
-    or_cell (cell.Field i) bits is w = tt
-    or_cell (cell.Global i) bits is w = tt
-    or_cell (cell.Buffer i) bits is w = tt
-    or_cell (cell.Entry i j) bits is w = tt
-    or_cell (cell.Ack i) bits is w = tt
     or_cell (cell.Scanned i) bits is w = stores_only i (Or (cell.Scanned i) bits) is (λ value x. cc) w
+    or_cell _ bits is w = tt
 
     and_cell : (c : Cell) (bits : ℕ) → asks m ≡ And c bits → IsWritten m c → NumbersStack (party_of m) (stage_of m) (And c bits)
-    and_cell cell.Touch bits is w = tt
-    and_cell cell.Phase bits is w = tt
-    and_cell cell.Gen bits is w = tt
-    and_cell cell.Begun bits is w = tt
-    and_cell cell.Swept bits is w = tt
-    and_cell cell.Lock bits is w = tt
-    and_cell cell.Want bits is w = tt
-    and_cell cell.Bank bits is w = tt
-    and_cell cell.Gcur bits is w = tt
-    and_cell cell.Heap bits is w = tt
-    and_cell cell.Trigger bits is w = tt
-    and_cell cell.Work bits is w = tt
-    and_cell cell.Slack bits is w = tt
-    and_cell cell.Tally bits is w = tt
-    and_cell cell.Live bits is w = tt
-    and_cell (cell.Page i) bits is w = tt
-    and_cell (cell.Alloc i) bits is w = tt
-    and_cell (cell.Mark i) bits is w = tt
-    and_cell (cell.Bitmap i) bits is w = tt
-    and_cell (cell.Birth i) bits is w = tt
-    and_cell (cell.Field i) bits is w = tt
-    and_cell (cell.Global i) bits is w = tt
-    and_cell (cell.Buffer i) bits is w = tt
-    and_cell (cell.Entry i j) bits is w = tt
-    and_cell (cell.Ack i) bits is w = tt
     and_cell (cell.Scanned i) bits is w = stores_only i (And (cell.Scanned i) bits) is (λ value x. cc) w
+    and_cell _ bits is w = tt
 
     add_cell : (c : Cell) (more : ℕ) → asks m ≡ Add c more → IsWritten m c → NumbersStack (party_of m) (stage_of m) (Add c more)
-    add_cell cell.Touch more is w = tt
-    add_cell cell.Phase more is w = tt
-    add_cell cell.Gen more is w = tt
-    add_cell cell.Begun more is w = tt
-    add_cell cell.Swept more is w = tt
-    add_cell cell.Lock more is w = tt
-    add_cell cell.Want more is w = tt
-    add_cell cell.Bank more is w = tt
-    add_cell cell.Gcur more is w = tt
-    add_cell cell.Heap more is w = tt
-    add_cell cell.Trigger more is w = tt
-    add_cell cell.Work more is w = tt
-    add_cell cell.Slack more is w = tt
-    add_cell cell.Tally more is w = tt
-    add_cell cell.Live more is w = tt
-    add_cell (cell.Page i) more is w = tt
-    add_cell (cell.Alloc i) more is w = tt
-    add_cell (cell.Mark i) more is w = tt
-    add_cell (cell.Bitmap i) more is w = tt
-    add_cell (cell.Birth i) more is w = tt
-    add_cell (cell.Field i) more is w = tt
-    add_cell (cell.Global i) more is w = tt
-    add_cell (cell.Buffer i) more is w = tt
-    add_cell (cell.Entry i j) more is w = tt
-    add_cell (cell.Ack i) more is w = tt
     add_cell (cell.Scanned i) more is w = stores_only i (Add (cell.Scanned i) more) is (λ value x. cc) w
+    add_cell _ more is w = tt
 
     swap_cell : (c : Cell) (old now : ℕ) → asks m ≡ Swap c old now → IsWritten m c → NumbersStack (party_of m) (stage_of m) (Swap c old now)
-    swap_cell cell.Touch old now is w = tt
-    swap_cell cell.Phase old now is w = tt
-    swap_cell cell.Gen old now is w = tt
-    swap_cell cell.Begun old now is w = tt
-    swap_cell cell.Swept old now is w = tt
-    swap_cell cell.Lock old now is w = tt
-    swap_cell cell.Want old now is w = tt
-    swap_cell cell.Bank old now is w = tt
-    swap_cell cell.Gcur old now is w = tt
-    swap_cell cell.Heap old now is w = tt
-    swap_cell cell.Trigger old now is w = tt
-    swap_cell cell.Work old now is w = tt
-    swap_cell cell.Slack old now is w = tt
-    swap_cell cell.Tally old now is w = tt
-    swap_cell cell.Live old now is w = tt
-    swap_cell (cell.Page i) old now is w = tt
-    swap_cell (cell.Alloc i) old now is w = tt
-    swap_cell (cell.Mark i) old now is w = tt
-    swap_cell (cell.Bitmap i) old now is w = tt
-    swap_cell (cell.Birth i) old now is w = tt
-    swap_cell (cell.Field i) old now is w = tt
-    swap_cell (cell.Global i) old now is w = tt
-    swap_cell (cell.Buffer i) old now is w = tt
-    swap_cell (cell.Entry i j) old now is w = tt
-    swap_cell (cell.Ack i) old now is w = tt
     swap_cell (cell.Scanned i) old now is w = stores_only i (Swap (cell.Scanned i) old now) is (λ value x. cc) w
+    swap_cell _ old now is w = tt
 
     numbers : (q : Ask) → asks m ≡ q → WritesOf (IsWritten m) q → NumbersStack (party_of m) (stage_of m) q
     numbers (Load c) is w = tt

@@ -32,12 +32,7 @@ IsNoNew _ = Unit {0}
 module _ (shapes : List Shape) where
   takes_made : (e : Ever) (g d : ℕ) (x : Answer) (h : ℕ) → (takes_answer e g d x).made h ≡ e.made h
   takes_made e g d answer.Done h = refl
-  takes_made e g d answer.Nil h = refl
-  takes_made e g d (answer.Int n) h = refl
-  takes_made e g d (answer.Ref n) h = refl
-  takes_made e g d answer.Swept h = refl
-  takes_made e g d answer.Full h = refl
-  takes_made e g d (answer.Fault f) h = refl
+  takes_made e g d _ h = refl
 
   stores_made : (e : Ever) (b : EverValue) (k : ℕ) (v : EverValue) (x : Answer) (h : ℕ) → (stores_value e b k v x).made h ≡ e.made h
   stores_made e ever_value.Nil k v x h = refl
@@ -52,12 +47,7 @@ module _ (shapes : List Shape) where
 
   sets_made : (e : Ever) (k : ℕ) (v : EverValue) (x : Answer) (h : ℕ) → (sets_global e k v x).made h ≡ e.made h
   sets_made e k v answer.Done h = refl
-  sets_made e k v answer.Nil h = refl
-  sets_made e k v (answer.Int n) h = refl
-  sets_made e k v (answer.Ref n) h = refl
-  sets_made e k v answer.Swept h = refl
-  sets_made e k v answer.Full h = refl
-  sets_made e k v (answer.Fault f) h = refl
+  sets_made e k v _ h = refl
 
   after_made : (e : Ever) (o : Op) (x : Answer) → IsNoNew o → (h : ℕ) → (ever_after shapes e o x).made h ≡ e.made h
   after_made e (op.New g d t) x plain h = absurd plain
@@ -65,13 +55,7 @@ module _ (shapes : List Shape) where
   after_made e (op.Store g b k v) x plain h = stores_made e (e.register g b) k (e.register g v) x h
   after_made e (op.GetGlobal g d k) x plain h = takes_made e g d x h
   after_made e (op.SetGlobal g k v) x plain h = sets_made e k (e.register g v) x h
-  after_made e (op.Int g d n) x plain h = refl
-  after_made e (op.Move g d s) x plain h = refl
-  after_made e (op.Nil g d) x plain h = refl
-  after_made e (op.Gc g) x plain h = refl
-  after_made e op.Poll x plain h = refl
-  after_made e (op.End g) x plain h = refl
-  after_made e op.Leave x plain h = refl
+  after_made e _ x plain h = refl
 
   acting_made : (b : Bool) (o : Op) → IsNoNew o → (e : Ever) (h : ℕ) → (acted shapes e (acting b o false)).made h ≡ e.made h
   acting_made true o plain e h = after_made e o (answer_of shapes e o) plain h
@@ -189,27 +173,8 @@ module _ (shapes : List Shape) (m : Processor) (found : ℕ) where
 -- An operation that begins leaves it so.
 pub begins_plain : (shapes : List Shape) (m : Processor) (o : Op) → uncounted (begins_at shapes m o) ≡ 0
 begins_plain shapes m (op.New g d t) = refl
-begins_plain shapes m (op.Load g d b k) = refl
-begins_plain shapes m (op.Store g b k v) = refl
-begins_plain shapes m (op.GetGlobal g d k) = refl
-begins_plain shapes m (op.SetGlobal g k v) = refl
-begins_plain shapes m (op.Int g d n) = refl
-begins_plain shapes m (op.Move g d s) = refl
-begins_plain shapes m (op.Nil g d) = refl
-begins_plain shapes m (op.Gc g) = refl
-begins_plain shapes m op.Poll = refl
-begins_plain shapes m (op.End g) = refl
-begins_plain shapes m op.Leave = refl
+begins_plain shapes m _ = refl
 
 pub idle_plain : (t : Task) → is_busy_at t ≡ false → uncounted t ≡ 0
-idle_plain task.Idle idle = refl
-idle_plain task.Left idle = refl
-idle_plain (task.Load x) idle = refl
-idle_plain (task.Store x) idle = refl
-idle_plain (task.Global x) idle = refl
-idle_plain (task.Register x) idle = refl
 idle_plain (task.New x) idle = absurd (cc)
-idle_plain (task.Gc g x) idle = refl
-idle_plain task.Poll idle = refl
-idle_plain (task.End g) idle = refl
-idle_plain (task.Leave x) idle = refl
+idle_plain _ idle = refl

@@ -12,46 +12,13 @@ use Rattle.gh_world.proofs.Vocabulary.{acted, acting, acts_at, answer_at, Ask, C
 
 -- the cell of a stack
 pub is_stack : (c : Cell) (g : ℕ) → same_cell c (cell.Scanned g) ≡ true → c ≡ cell.Scanned g
-is_stack cell.Touch g is = absurd (cc)
-is_stack cell.Phase g is = absurd (cc)
-is_stack cell.Gen g is = absurd (cc)
-is_stack cell.Begun g is = absurd (cc)
-is_stack cell.Swept g is = absurd (cc)
-is_stack cell.Lock g is = absurd (cc)
-is_stack cell.Want g is = absurd (cc)
-is_stack cell.Bank g is = absurd (cc)
-is_stack cell.Gcur g is = absurd (cc)
-is_stack cell.Heap g is = absurd (cc)
-is_stack cell.Trigger g is = absurd (cc)
-is_stack cell.Work g is = absurd (cc)
-is_stack cell.Slack g is = absurd (cc)
-is_stack cell.Tally g is = absurd (cc)
-is_stack cell.Live g is = absurd (cc)
-is_stack (cell.Page j) g is = absurd (cc)
-is_stack (cell.Alloc j) g is = absurd (cc)
-is_stack (cell.Mark j) g is = absurd (cc)
-is_stack (cell.Bitmap j) g is = absurd (cc)
-is_stack (cell.Birth j) g is = absurd (cc)
-is_stack (cell.Field j) g is = absurd (cc)
-is_stack (cell.Global j) g is = absurd (cc)
-is_stack (cell.Buffer j) g is = absurd (cc)
-is_stack (cell.Ack j) g is = absurd (cc)
-is_stack (cell.Entry j k) g is = absurd (cc)
 is_stack (cell.Scanned j) g is = let same : j ≡ g = grind (arith, nat_tests) in ap cell.Scanned same
+is_stack _ g is = absurd (cc)
 
 -- it rests, and has not left
 pub idle_is : (t : Task) → is_busy_at t ≡ false → has_left_at t ≡ false → t ≡ task.Idle
 idle_is task.Idle idle going = refl
-idle_is task.Left idle going = absurd (cc)
-idle_is (task.Load x) idle going = absurd (cc)
-idle_is (task.Store x) idle going = absurd (cc)
-idle_is (task.Global x) idle going = absurd (cc)
-idle_is (task.Register x) idle going = absurd (cc)
-idle_is (task.New x) idle going = absurd (cc)
-idle_is (task.Gc g x) idle going = absurd (cc)
-idle_is task.Poll idle going = absurd (cc)
-idle_is (task.End g) idle going = absurd (cc)
-idle_is (task.Leave x) idle going = absurd (cc)
+idle_is _ idle going = absurd (cc)
 
 new_counts : (step : Ask) (s : NewStage) → new_polls s ≡ true → CountsAt step s → ⊥
 new_counts step (Wait x) polls w = w
@@ -59,17 +26,8 @@ new_counts step (Search waited q) polls w = w
 new_counts step (Place p) polls w = absurd (cc)
 
 pub counts_none : (step : Ask) (t : Task) → only_polls t ≡ true → CountsObject step t → ⊥
-counts_none step task.Idle polls w = w
-counts_none step task.Left polls w = w
-counts_none step (task.Load x) polls w = w
-counts_none step (task.Store x) polls w = w
-counts_none step (task.Global x) polls w = w
-counts_none step (task.Register x) polls w = w
 counts_none step (task.New x) polls w = absurd (new_counts step x.stage polls w)
-counts_none step (task.Gc g x) polls w = w
-counts_none step task.Poll polls w = w
-counts_none step (task.End g) polls w = w
-counts_none step (task.Leave x) polls w = w
+counts_none step _ polls w = w
 
 once : (shapes : List Shape) (e : Ever) (o : Op) → ((b : Bool) → ever_after shapes e o (answer_at shapes e (record { op = o; full = b })) ≡ e) → (b : Bool) → acted shapes e (acting b o false) ≡ e
 once shapes e o stays true = stays false
@@ -81,14 +39,8 @@ new_acts shapes x (Search waited q) found e polls = absurd (cc)
 new_acts shapes x (Place p) found e polls = absurd (cc)
 
 pub acts_none : (shapes : List Shape) (m : Processor) (t : Task) (found : ℕ) (e : Ever) → only_polls t ≡ true → acted shapes e (acts_at m t found) ≡ e
-acts_none shapes m task.Idle found e polls = absurd (cc)
-acts_none shapes m task.Left found e polls = absurd (cc)
-acts_none shapes m (task.Load x) found e polls = absurd (cc)
-acts_none shapes m (task.Store x) found e polls = absurd (cc)
-acts_none shapes m (task.Global x) found e polls = absurd (cc)
-acts_none shapes m (task.Register x) found e polls = absurd (cc)
 acts_none shapes m (task.New x) found e polls = new_acts shapes x x.stage found e polls
 acts_none shapes m (task.Gc g x) found e polls = once shapes e (op.Gc g) (λ b. refl) (is_some (wait.gives (wait.waiting x m.poll) found))
 acts_none shapes m task.Poll found e polls = once shapes e op.Poll (λ b. refl) (is_some (poll.gives m.poll found))
-acts_none shapes m (task.End g) found e polls = absurd (cc)
 acts_none shapes m (task.Leave x) found e polls = once shapes e op.Leave (λ b. refl) (is_some (leave.gives x found))
+acts_none shapes m _ found e polls = absurd (cc)

@@ -7,7 +7,7 @@ use Rattle.gh_coord.specs.Closing as close
 use Rattle.gh_coord.specs.Handshake as leading
 use Rattle.gh_marks.specs.Moves.{Steps}
 use Rattle.gh_mutator.specs.declared.task.Task.TheVariants as task
-use Rattle.gh_world.proofs.Vocabulary.{Actor, actors, Add, ahead_at, And, Arena, arena, Ask, asks, begins, cell_of, Check, Close, close_part, CloseStage, Coordinating, CoordStage, Count, Cycle, Done, effect, END, Entry, has_left_at, Heap, is_busy_at, IsAwake, IsKnown, IsLed, IsPolled, IsSound, IsWritten, KeepsToPolls, Kind, Layout, left, Legal, Load, LoadAck, LoadWant, MarkFacts, Marking, MarkingGood, MarkOn, may_of, only_polls, Op, Open, Or, Pacing, part_of, party_at, party_of, Processor, processor_at, processor_kind, same_cell, Shape, stage_at, stage_of, started, Stop, StopAgain, Store, Swap, Sweep, takes, Task, Tell, TellsScan, those, View, Watch, Words, words, WritesOf}
+use Rattle.gh_world.proofs.Vocabulary.{Actor, actors, ahead_at, Arena, arena, Ask, asks, begins, cell_of, Check, Close, close_part, CloseStage, Coordinating, CoordStage, Cycle, effect, END, Entry, has_left_at, Heap, is_busy_at, IsAwake, IsKnown, IsLed, IsPolled, IsSound, IsWritten, KeepsToPolls, Kind, Layout, left, Legal, Load, MarkFacts, Marking, MarkingGood, MarkOn, may_of, only_polls, Op, Pacing, part_of, party_at, party_of, Processor, processor_at, processor_kind, same_cell, Shape, stage_at, stage_of, started, StopAgain, Store, takes, Task, TellsScan, those, View, Watch, Words, words, WritesOf}
 use Rattle.gh_world.proofs.AllActors.EndedStays.{ended_stays}
 use Rattle.gh_world.proofs.AllActors.Known.{Known, ListsKnown}
 use Rattle.gh_world.proofs.AllActors.Marks as marks
@@ -30,29 +30,12 @@ marks_begun (StopAgain st) on = (refl, refl)
 marks_begun (Check w) on = (refl, refl)
 marks_begun MarkOn on = (refl, refl)
 marks_begun (Close x) on = close_begun x.stage on
-marks_begun (LoadAck i) on = absurd on
-marks_begun LoadWant on = absurd on
-marks_begun (Stop st) on = absurd on
-marks_begun (Open o) on = absurd on
-marks_begun (Sweep w) on = absurd on
-marks_begun (Count x) on = absurd on
-marks_begun (Tell t) on = absurd on
-marks_begun Done on = absurd on
+marks_begun _ on = absurd on
 
 -- what begins leaves what is known of the phase
 same_view : (shapes : List Shape) (m : Processor) (o : Op) → (begins shapes m o).poll.local.view ≡ m.poll.local.view
 same_view shapes m (op.New g d t) = refl
-same_view shapes m (op.Load g d b i) = refl
-same_view shapes m (op.Store g b i v) = refl
-same_view shapes m (op.GetGlobal g d i) = refl
-same_view shapes m (op.SetGlobal g i v) = refl
-same_view shapes m (op.Int g d n) = refl
-same_view shapes m (op.Move g d s) = refl
-same_view shapes m (op.Nil g d) = refl
-same_view shapes m (op.Gc g) = refl
-same_view shapes m op.Poll = refl
-same_view shapes m (op.End g) = refl
-same_view shapes m op.Leave = refl
+same_view shapes m _ = refl
 
 module _ (shapes : List Shape) (l : Layout) (pacing : Pacing) (counts : ℕ → ℕ) (known : Known) (lists : ListsKnown shapes l pacing (may_of shapes l counts)) where
   abbrev may : ℕ → List (Entry Op) → Op → Bool
@@ -184,11 +167,7 @@ module _ (shapes : List Shape) (l : Layout) (pacing : Pacing) (counts : ℕ → 
 
       by_ask : (q : Ask) → asks now ≡ q → cell_of q ≡ cell.Scanned g → WritesOf (IsWritten now) q → LeavesStack h.words now g ⊎ ScansStack h.words now g
       by_ask (Load d) is at w = inl (record { same = ap (λ (q : Ask). effect h.words q (cell.Scanned g)) is; untold = λ number y. absurd (let no : Load d ≡ Store (cell.Scanned g) number = sym is ∙ y in cc) })
-      by_ask (Store d v) is at w = scans (subst (IsWritten now) at w)
-      by_ask (Or d v) is at w = scans (subst (IsWritten now) at w)
-      by_ask (And d v) is at w = scans (subst (IsWritten now) at w)
-      by_ask (Add d v) is at w = scans (subst (IsWritten now) at w)
-      by_ask (Swap d v u) is at w = scans (subst (IsWritten now) at w)
+      by_ask _ is at w = scans (subst (IsWritten now) at w)
 
       go : (b : Bool) → same_cell (cell_of (asks now)) (cell.Scanned g) ≡ b → LeavesStack h.words now g ⊎ ScansStack h.words now g
       go true is = by_ask (asks now) refl (is_stack (cell_of (asks now)) g is) (known.writes.writes now sound_now)

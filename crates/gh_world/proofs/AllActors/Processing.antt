@@ -21,17 +21,8 @@ use Rattle.gh_world.proofs.CycleMarking.Seats.{run_started}
 
 -- while a cycle is opened, and told, the world is stopped
 open_stopped : (p : OpenStage) → opens_by.is_busy p ≡ true → leading.open_post p ≡ Stopped run.Off
-open_stopped opening.ClearWant busy = refl
-open_stopped opening.ClearGcur busy = refl
-open_stopped opening.ClearTally busy = refl
-open_stopped opening.ClearLive busy = refl
-open_stopped opening.StoreTrigger busy = refl
-open_stopped opening.LoadHeap busy = refl
-open_stopped opening.StoreWork busy = refl
-open_stopped opening.StoreSlack busy = refl
-open_stopped opening.StoreBegun busy = refl
-open_stopped opening.StorePhase busy = refl
 open_stopped opening.Ended busy = absurd (cc)
+open_stopped _ busy = refl
 
 module _ (shapes : List Shape) (l : Layout) (pacing : Pacing) (may : ℕ → List (Entry Op) → Op → Bool) (good : ShapesAreGood shapes) (back : PackedWordsAreReadBack) (known : Known) (lists : ListsKnown shapes l pacing may)
     (e : Entry Op) (es : List (Entry Op)) (legal : Legal (those shapes l pacing may) (e ∷ es)) (meant : KeepsToPolls shapes l pacing may (e ∷ es)) (c : Coordinating) (led : IsLed shapes l pacing may es c) (among : e.actor < acks_of l) where

@@ -7,7 +7,7 @@ use Rattle.gh_phase.specs.declared.view.RunPhase.TheVariants as run
 use Rattle.gh_phase.specs.Handshake.{is_stop, run_word}
 use Rattle.gh_mutator.specs.declared.task.Task.TheVariants as task
 use Rattle.gh_mutator.specs.Calm.{FindsNoMarking}
-use Rattle.gh_world.proofs.Vocabulary.{Answer, Arena, arena, Ask, asks, begins, cell_of, Check, Close, Coordinating, CoordStage, Count, DoesPoints, Done, END, Entry, Fine, has_left_at, Heap, is_busy_at, IsInLimits, IsLed, IsQuiet, IsSound, KeepsIt, last_of, last_phase, Layout, Lead, Leads, Legal, LoadAck, LoadWant, MarkOn, MarksNothing, may_of, nat_tests, Op, Open, Pacing, party_of, place_of, Processor, processor_at, processor_kind, Shape, ShapesAreGood, Sound, stage_of, started, Steps, Stop, stop_word, StopAgain, StopStage, Sweep, Tell, those, uncounted, view, Watch, Words}
+use Rattle.gh_world.proofs.Vocabulary.{Answer, Arena, arena, Ask, asks, begins, cell_of, Coordinating, CoordStage, DoesPoints, Done, END, Entry, Fine, has_left_at, Heap, is_busy_at, IsInLimits, IsLed, IsQuiet, IsSound, KeepsIt, last_of, last_phase, Layout, Lead, Leads, Legal, LoadAck, LoadWant, MarksNothing, may_of, nat_tests, Op, Pacing, party_of, place_of, Processor, processor_at, processor_kind, Shape, ShapesAreGood, Sound, stage_of, started, Steps, Stop, stop_word, StopStage, those, uncounted, view, Words}
 use Rattle.gh_world.proofs.AllActors.Endings.{is_end}
 use Rattle.gh_world.proofs.AllActors.Counting as counting
 use Rattle.gh_world.proofs.AllActors.Known.{Known, ListsKnown}
@@ -38,15 +38,7 @@ not_marking (LoadAck i) calm is = absurd (cc)
 not_marking LoadWant calm is = absurd (cc)
 not_marking (Stop st) calm is = absurd (let no : run.Off ≡ run.Mark = sym (stop_off st.stage) ∙ is in cc)
 not_marking Done calm is = absurd (cc)
-not_marking (Open o) calm is = calm
-not_marking (Watch w) calm is = calm
-not_marking (StopAgain st) calm is = calm
-not_marking (Check w) calm is = calm
-not_marking MarkOn calm is = calm
-not_marking (Close y) calm is = calm
-not_marking (Sweep w) calm is = calm
-not_marking (Count y) calm is = calm
-not_marking (Tell t) calm is = calm
+not_marking _ calm is = calm
 
 -- what begins has placed nothing
 begun_places : (shapes : List Shape) (m : Processor) (o : Op) (b : Bool) → is_busy_at m.task ≡ false → uncounted (cond b m (begins shapes m o)).task ≡ 0

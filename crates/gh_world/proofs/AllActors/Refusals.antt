@@ -72,43 +72,15 @@ polls_refuse_nothing (task.New x) polls again = go x.stage polls again where
   go (Search w q) polls again = absurd (cc)
   go (Wait w) polls again = again
   go (Place p) polls again = again
-polls_refuse_nothing (task.Gc g x) polls again = again
-polls_refuse_nothing task.Poll polls again = again
-polls_refuse_nothing (task.Leave x) polls again = again
-polls_refuse_nothing task.Idle polls again = again
-polls_refuse_nothing task.Left polls again = again
-polls_refuse_nothing (task.Load x) polls again = again
-polls_refuse_nothing (task.Store x) polls again = again
-polls_refuse_nothing (task.Global x) polls again = again
-polls_refuse_nothing (task.Register x) polls again = again
-polls_refuse_nothing (task.End g) polls again = again
+polls_refuse_nothing _ polls again = again
 
 left_refuses_nothing : (t : Task) → has_left_at t ≡ true → IsSearchedAgain t → ⊥
 left_refuses_nothing (task.New x) left again = absurd (cc)
-left_refuses_nothing (task.Gc g x) left again = again
-left_refuses_nothing task.Poll left again = again
-left_refuses_nothing (task.Leave x) left again = again
-left_refuses_nothing task.Idle left again = again
-left_refuses_nothing task.Left left again = again
-left_refuses_nothing (task.Load x) left again = again
-left_refuses_nothing (task.Store x) left again = again
-left_refuses_nothing (task.Global x) left again = again
-left_refuses_nothing (task.Register x) left again = again
-left_refuses_nothing (task.End g) left again = again
+left_refuses_nothing _ left again = again
 
 begun_refuses_nothing : (shapes : List Shape) (m : Processor) (o : Op) → IsSearchedAgain (begins shapes m o).task → ⊥
 begun_refuses_nothing shapes m (op.New g d t) again = absurd (cc)
-begun_refuses_nothing shapes m (op.Load g d b i) again = again
-begun_refuses_nothing shapes m (op.Store g b i c) again = again
-begun_refuses_nothing shapes m (op.GetGlobal g d i) again = again
-begun_refuses_nothing shapes m (op.SetGlobal g i c) again = again
-begun_refuses_nothing shapes m (op.Int g d n) again = again
-begun_refuses_nothing shapes m (op.Move g d c) again = again
-begun_refuses_nothing shapes m (op.Nil g d) again = again
-begun_refuses_nothing shapes m (op.Gc g) again = again
-begun_refuses_nothing shapes m op.Poll again = again
-begun_refuses_nothing shapes m (op.End g) again = again
-begun_refuses_nothing shapes m op.Leave again = again
+begun_refuses_nothing shapes m _ again = again
 
 pub goes_on : (shapes : List Shape) (l : Layout) (o : Option Op) (m : Processor) → IsSearchedAgain (started (processor_kind shapes l) o m).task → o ≡ None
 goes_on shapes l None m again = refl
@@ -161,14 +133,4 @@ module _ (z : Arena) (h : Heap) (good : Good z (view h)) (others : (a : ℕ) →
 
   pub full_for : (a : ℕ) (y : Processor) (o : Op) → FullAt z a v y o → IsFullFor z a h.words y o
   full_for a y (op.New g d t) f = no_room a y (sought_for (shape_at z.shapes t)) f
-  full_for a y (op.Load g d b i) f = f
-  full_for a y (op.Store g b i c) f = f
-  full_for a y (op.GetGlobal g d i) f = f
-  full_for a y (op.SetGlobal g i c) f = f
-  full_for a y (op.Int g d n) f = f
-  full_for a y (op.Move g d c) f = f
-  full_for a y (op.Nil g d) f = f
-  full_for a y (op.Gc g) f = f
-  full_for a y op.Poll f = f
-  full_for a y (op.End g) f = f
-  full_for a y op.Leave f = f
+  full_for a y _ f = f

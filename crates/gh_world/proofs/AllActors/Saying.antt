@@ -2,7 +2,7 @@
 use Rattle.std.proofs.Common.{◌≡◌, ℕ, Bool, sym, ap, subst, ◌∙◌, List}
 use Rattle.gh_base.specs.Packing.{PackedWordsAreReadBack}
 use Rattle.gh_coord.specs.declared.coord.CoordStage.{CoordStage}
-use Rattle.gh_coord.specs.declared.coord.CoordStage.TheVariants.{Check, Close, Count, Done, LoadAck, LoadWant, MarkOn, Open, Stop, StopAgain, Sweep, Tell, Watch}
+use Rattle.gh_coord.specs.declared.coord.CoordStage.TheVariants.{Check, Close, Count, MarkOn, Open, StopAgain, Sweep, Tell, Watch}
 use Rattle.gh_coord.specs.declared.tell.TellStage.{TellStage}
 use Rattle.gh_coord.specs.declared.tell.TellStage.TheVariants as telling
 use Rattle.gh_coord.specs.Handshake as leading
@@ -47,9 +47,6 @@ module _ (shapes : List Shape) (l : Layout) (pacing : Pacing) (may : ℕ → Lis
 
     -- at each stage of the coordinator
     heap_at : (p : CoordStage) → IsGoing p → (leading.Marks p → Marked) → HoldsAt shapes l pacing may es c p → HeapStands
-    heap_at (LoadAck i) going marked q = quiet_stands q
-    heap_at LoadWant going marked q = quiet_stands q
-    heap_at (Stop st) going marked q = quiet_stands q
     heap_at (Open o) going marked h = let r = h.0 in record { heap = r.heap; of_list = r.of_list; stands = stands_now shapes l pacing may limits known es r.heap r.of_list r.good; named = named_now shapes l pacing may limits known es r.heap r.of_list r.good }
     heap_at (Watch w) going marked h = marked_stands (marked tt)
     heap_at (StopAgain st) going marked h = marked_stands (marked tt)
@@ -59,7 +56,7 @@ module _ (shapes : List Shape) (l : Layout) (pacing : Pacing) (may : ℕ → Lis
     heap_at (Sweep w) going marked s = record { heap = s.heap; of_list = s.of_list; stands = stands_swept shapes l pacing may limits known es s.heap s.of_list back s.end s.spans s.beside; named = named_swept shapes l pacing may limits known es s.heap s.of_list s.end s.spans s.beside }
     heap_at (Count y) going marked h = quiet_stands h.0
     heap_at (Tell t) going marked h = told_stands t.stage h
-    heap_at Done going marked q = quiet_stands q
+    heap_at _ going marked q = quiet_stands q
 
     module _ (h : Holds shapes l pacing may es c) (marked : leading.Marks c.stage → Marked) (within : StepsWithin shapes l pacing may es) where
       now : HeapStands

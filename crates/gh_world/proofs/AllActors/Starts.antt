@@ -1,7 +1,7 @@
 -- What was said of a list's starts is said of them still behind one entry more; and what has to be said of the entry.
 use Rattle.std.proofs.Common.{◌≡◌, ℕ, Bool, refl, sym, ap, subst, ◌∙◌, inl, inr, List, [], ◌∷◌}
 use Rattle.gh_coord.specs.declared.coord.CoordStage.{CoordStage}
-use Rattle.gh_coord.specs.declared.coord.CoordStage.TheVariants.{Check, Close, Count, Done, LoadAck, LoadWant, MarkOn, Open, Stop, StopAgain, Sweep, Tell, Watch}
+use Rattle.gh_coord.specs.declared.coord.CoordStage.TheVariants.{Open}
 use Rattle.gh_world.specs.Actors.{AllWereCounted, BeginsCycle, EndsAllMarked, EndsMarked, ever, FreesTheUnreached, IsEnding, IsLed, IsStepIn, IsTelling, SweepsCycle, words}
 use Rattle.gh_world.specs.HoldVocabulary.{Coordinating, Entry, IsMade, Layout, Name, Op, Pacing, Reach, Shape}
 use Rattle.gh_world.specs.Marking.{IsBeginning, IsStartOf}
@@ -20,18 +20,7 @@ start_of_start first start (e ∷ es) of (inr in_it) = inr (start_of_start first
 -- it does not both begin a cycle and tell that one is swept
 differs : (p : CoordStage) → IsBeginning p → IsTelling p → ⊥
 differs (Open o) b t = t
-differs (LoadAck i) b t = b
-differs LoadWant b t = b
-differs (Stop st) b t = b
-differs (Watch w) b t = b
-differs (StopAgain st) b t = b
-differs (Check w) b t = b
-differs MarkOn b t = b
-differs (Close c) b t = b
-differs (Sweep w) b t = b
-differs (Count c) b t = b
-differs (Tell x) b t = b
-differs Done b t = b
+differs _ b t = b
 
 module _ (shapes : List Shape) (l : Layout) (pacing : Pacing) (may : ℕ → List (Entry Op) → Op → Bool) where
   abbrev pub Frees : List (Entry Op) → List (Entry Op) → Type 0

@@ -2,7 +2,7 @@
 use Rattle.std.proofs.Common.{ℕ, Bool, refl, sym, subst, List, ◌∷◌}
 use Rattle.gh_base.specs.declared.cell.Cell.TheVariants as cell
 use Rattle.gh_coord.specs.declared.coord.CoordStage.{CoordStage}
-use Rattle.gh_coord.specs.declared.coord.CoordStage.TheVariants.{Check, Close, Count, Done, LoadAck, LoadWant, MarkOn, Open, Stop, StopAgain, Sweep, Tell, Watch}
+use Rattle.gh_coord.specs.declared.coord.CoordStage.TheVariants.{Count, Done, LoadAck, LoadWant, Open, Stop, Sweep, Tell}
 use Rattle.gh_coord.specs.declared.count.CountStage.{CountStage}
 use Rattle.gh_coord.specs.declared.open.OpenStage.{OpenStage}
 use Rattle.gh_coord.specs.declared.tell.TellStage.{TellStage}
@@ -37,12 +37,8 @@ module _ (shapes : List Shape) (l : Layout) (pacing : Pacing) (may : ℕ → Lis
   holds_still LoadWant q = quiet_still q
   holds_still (Stop st) q = quiet_still q
   holds_still (Open o) x = (ready_stays shapes l pacing may e es still c c refl x.0, cursor_still o.stage x.1)
-  holds_still (Watch w) u = tt
-  holds_still (StopAgain st) u = tt
-  holds_still (Check w) u = tt
-  holds_still MarkOn u = tt
-  holds_still (Close y) u = tt
   holds_still (Sweep w) s = sweeping_stays shapes l pacing may e es still c w s
   holds_still (Count y) x = let b = both_still (x.0, x.1) in (b.0, b.1, read_still y.stage x.2)
   holds_still (Tell t) x = telling_still t.stage x
   holds_still Done q = quiet_still q
+  holds_still _ u = tt

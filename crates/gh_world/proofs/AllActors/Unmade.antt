@@ -14,32 +14,15 @@ use Rattle.gh_world.specs.HoldVocabulary.{Arena, Heap, view}
 
 -- a row that no right guards is not that of alloc bits, nor that of globals
 apart : (c : Cell) → IsAside c → ((i : ℕ) → same_cell c (cell.Alloc i) ≡ false) × ((i : ℕ) → same_cell c (cell.Global i) ≡ false)
-apart cell.Touch is = (λ i. refl, λ i. refl)
-apart cell.Phase is = (λ i. refl, λ i. refl)
 apart cell.Gen is = absurd is
-apart cell.Begun is = (λ i. refl, λ i. refl)
-apart cell.Swept is = (λ i. refl, λ i. refl)
 apart cell.Lock is = absurd is
-apart cell.Want is = (λ i. refl, λ i. refl)
-apart cell.Bank is = (λ i. refl, λ i. refl)
-apart cell.Gcur is = (λ i. refl, λ i. refl)
-apart cell.Heap is = (λ i. refl, λ i. refl)
-apart cell.Trigger is = (λ i. refl, λ i. refl)
-apart cell.Work is = (λ i. refl, λ i. refl)
-apart cell.Slack is = (λ i. refl, λ i. refl)
-apart cell.Tally is = (λ i. refl, λ i. refl)
-apart cell.Live is = (λ i. refl, λ i. refl)
 apart (cell.Page j) is = absurd is
 apart (cell.Alloc j) is = absurd is
-apart (cell.Mark j) is = (λ i. refl, λ i. refl)
 apart (cell.Bitmap j) is = absurd is
 apart (cell.Birth j) is = absurd is
 apart (cell.Field j) is = absurd is
 apart (cell.Global j) is = absurd is
-apart (cell.Buffer j) is = (λ i. refl, λ i. refl)
-apart (cell.Ack j) is = (λ i. refl, λ i. refl)
-apart (cell.Scanned j) is = (λ i. refl, λ i. refl)
-apart (cell.Entry j k) is = (λ i. refl, λ i. refl)
+apart _ is = (λ i. refl, λ i. refl)
 
 -- what the move leaves
 pub record MakesNone (z : Arena) (a : ℕ) (h : Heap) (m : Move) : Type 0 where

@@ -31,10 +31,7 @@ pub record WaitsAt (stops : ℕ) (p : Polling) : Type 0 where
 
 at_load : (number stops : ℕ) (s : ResumeStage) → IsParked stops (places.stands_at number s) → (s ≡ resuming.LoadPhase) × (number ≡ stops)
 at_load number stops resuming.LoadPhase p = (refl, p)
-at_load number stops resuming.Acknowledge p = absurd p
-at_load number stops resuming.LoadGeneration p = absurd p
-at_load number stops resuming.LoadBegun p = absurd p
-at_load number stops resuming.Ended p = absurd p
+at_load number stops _ p = absurd p
 
 polls_parked : (stops : ℕ) (p : Polling) → IsParked stops (poll_stage_of p) → WaitsAt stops p
 polls_parked stops p k = go p.stage refl k where
@@ -160,9 +157,4 @@ module _ (back : PackedWordsAreReadBack) (stops : ℕ) where
       go (task.Gc g x) is s k = let w = waits_parked (wait.waiting x m.poll) k in inl (gc_still g x is w.0 w.1)
       go task.Poll is s k = inl (polls_still is (polls_parked stops m.poll k))
       go (task.Leave x) is s k = absurd (in_leave x x.stage refl s.busy k)
-      go task.Idle is s k = absurd k
-      go (task.Load x) is s k = absurd k
-      go (task.Store x) is s k = absurd k
-      go (task.Global x) is s k = absurd k
-      go (task.Register x) is s k = absurd k
-      go (task.End g) is s k = absurd k
+      go _ is s k = absurd k

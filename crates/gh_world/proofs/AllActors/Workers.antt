@@ -7,7 +7,7 @@ use Rattle.gh_phase.specs.declared.view.RunPhase.TheVariants as run
 use Rattle.gh_worker.specs.Listing as worker
 use Rattle.gh_worker.specs.Writing.{IsCalm}
 use Rattle.gh_world.specs.declared.handshake.Actor.TheVariants as actor
-use Rattle.gh_world.proofs.Vocabulary.{acks_of, actors_after, arena, Check, Close, Coordinating, CoordStage, Count, Done, effect, Entry, HasCursor, Holds, HoldsAt, IsLed, IsTelling, Layout, LeavesTheReached, Legal, LoadAck, LoadWant, MarkOn, Op, Open, Pacing, party_of, place_of, processor_kind, RunPhase, Shape, stage_of, Stop, StopAgain, Stopped, Sweep, Tell, TellStage, those, Watch, Words, words}
+use Rattle.gh_world.proofs.Vocabulary.{acks_of, actors_after, arena, Coordinating, CoordStage, Count, Done, effect, Entry, HasCursor, Holds, HoldsAt, IsLed, IsTelling, Layout, LeavesTheReached, Legal, LoadAck, LoadWant, Op, Open, Pacing, party_of, place_of, processor_kind, RunPhase, Shape, stage_of, Stop, Stopped, Sweep, Tell, TellStage, those, Words, words}
 use Rattle.gh_world.proofs.AllActors.Aside.{acks_aside, TellsNothing}
 use Rattle.gh_world.proofs.AllActors.Known.{Known, ListsKnown}
 use Rattle.gh_world.proofs.AllActors.MarksLast as last
@@ -59,17 +59,13 @@ module _ (shapes : List Shape) (l : Layout) (pacing : Pacing) (may : ℕ → Lis
     at_then (Open o) x h =
         let t = tells (subst (λ (q : CoordStage). leading.Marks q → ⊥) (sym x) (λ y. y)) in
         (ready_goes_on shapes l pacing may known e es legal ge t.aside c c refl h.0, subst (λ (v : ℕ). HasCursor v o.stage) (sym (t.cursor (told es))) h.1)
-    at_then (Watch v) x h = tt
-    at_then (StopAgain st) x h = tt
-    at_then (Check v) x h = tt
-    at_then MarkOn x h = tt
-    at_then (Close y) x h = tt
     at_then (Sweep v) x h = sweeping_stays shapes l pacing may e es (nothing (post_is (Sweep v) x refl)) c v h
     at_then (Count y) x h =
         let s = nothing (post_is (Count y) x refl) in
         let b = both_stay shapes l pacing may e es s c c refl (h.0, h.1) in
         (b.0, b.1, subst (λ (v : Words). Rattle.gh_world.specs.ActorsHold.HasRead shapes l pacing may (v cell.Tally) y.stage) (sym s.words_are) h.2)
     at_then (Tell t) x h = tell_then t.stage (λ other. nothing (post_is (Tell t) x (tell_post_is t.is_last t.stage other))) h
+    at_then _ x h = tt
 
     last_then : Holds shapes l pacing may es c → c.stage ≡ Done → LeavesTheReached shapes l pacing may (e ∷ es) c
     last_then h done = left_lasts shapes l pacing may known e es legal ge among c (tells (subst (λ (q : CoordStage). leading.Marks q → ⊥) (sym done) (λ y. y))) (h.last done)

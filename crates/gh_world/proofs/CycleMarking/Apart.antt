@@ -10,35 +10,11 @@ use Rattle.gh_base.specs.Lists.{Legal, Setting, words_after}
 use Rattle.gh_base.specs.Steps.{cell_of, ChangesOneCell, left}
 
 differs : (l : Layout) (b : ℕ) (c : Cell) → buffers_of l ≤ b → InRange l c → same_cell c (cell.Buffer b) ≡ false
-differs l b cell.Touch m r = refl
-differs l b cell.Phase m r = refl
-differs l b cell.Gen m r = refl
-differs l b cell.Begun m r = refl
-differs l b cell.Swept m r = refl
-differs l b cell.Lock m r = refl
-differs l b cell.Want m r = refl
-differs l b cell.Bank m r = refl
-differs l b cell.Gcur m r = refl
-differs l b cell.Heap m r = refl
-differs l b cell.Trigger m r = refl
-differs l b cell.Work m r = refl
-differs l b cell.Slack m r = refl
-differs l b cell.Tally m r = refl
-differs l b cell.Live m r = refl
-differs l b (cell.Page i) m r = refl
-differs l b (cell.Alloc i) m r = refl
-differs l b (cell.Mark i) m r = refl
-differs l b (cell.Bitmap i) m r = refl
-differs l b (cell.Birth i) m r = refl
-differs l b (cell.Field i) m r = refl
-differs l b (cell.Global i) m r = refl
-differs l b (cell.Entry i j) m r = refl
-differs l b (cell.Ack i) m r = refl
-differs l b (cell.Scanned i) m r = refl
 differs l b (cell.Buffer i) m r = go (i == b) refl where
   go : (t : Bool) → (i == b) ≡ t → (i == b) ≡ false
   go false e = e
   go true e = absurd (let is : i ≡ b = grind (arith, nat_tests) in let lt : i < buffers_of l = r in omega (arith, is, lt, m))
+differs l b _ m r = refl
 
 pub stays_clear : {M O : Type 0} (s : Setting M O) (one : ChangesOneCell) (b : ℕ) → buffers_of s.layout ≤ b → s.opening (cell.Buffer b) ≡ 0 → (es : List (Entry O)) → Legal s es → words_after s.opening es (cell.Buffer b) ≡ 0
 stays_clear s one b m h [] legal = h

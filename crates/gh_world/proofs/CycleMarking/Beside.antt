@@ -101,19 +101,13 @@ shades s shading.Enter = enters s.reference s.held
 shades s shading.Ended = loads _
 
 scans : (s : scan.Scanning) (p : ScanStage) → LeavesHeap (scan.asks_at s p)
-scans s scanning.LoadPage = loads _
-scans s scanning.LoadBitmap = loads _
-scans s scanning.LoadField = loads _
 scans s (scanning.Shading sh) = shades sh sh.stage
 scans s (scanning.FindRoom sh r) = finds_room r r.stage
-scans s scanning.Ended = loads _
+scans s _ = loads _
 
 resumes : (r : resume.Resuming) (p : ResumeStage) → LeavesHeap (resume.asks_at r p)
 resumes r resuming.Acknowledge = stores_ack r.seat _
-resumes r resuming.LoadPhase = loads _
-resumes r resuming.LoadGeneration = loads _
-resumes r resuming.LoadBegun = loads _
-resumes r resuming.Ended = loads _
+resumes r _ = loads _
 
 module _ (w : Working) where
   works_at : (p : WorkerStage) → is_busy p ≡ true → LeavesHeap (asks_at w p)

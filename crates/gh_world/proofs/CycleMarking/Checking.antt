@@ -110,17 +110,9 @@ module _ (l : Layout) (number : ℕ) (words : Words) (s : Coordinating) (marks :
   stopped st (Some x) m = m
 
   opening : (o : opens_by.CycleOpening) (p : OpenStage) (found : ℕ) → o.stage ≡ p → opens_by.is_busy p ≡ true → To (Open o) (after_open (at_stage u (Open (record o { stage = opens_by.behind p }))) (opens_by.given_at (opens_by.behind p)))
-  opening o open_stage.ClearWant found e b = leaves (λ m. m)
-  opening o open_stage.ClearGcur found e b = leaves (λ m. m)
-  opening o open_stage.ClearTally found e b = leaves (λ m. m)
-  opening o open_stage.ClearLive found e b = leaves (λ m. m)
-  opening o open_stage.StoreTrigger found e b = leaves (λ m. m)
-  opening o open_stage.LoadHeap found e b = leaves (λ m. m)
-  opening o open_stage.StoreWork found e b = leaves (λ m. m)
-  opening o open_stage.StoreSlack found e b = leaves (λ m. m)
-  opening o open_stage.StoreBegun found e b = leaves (λ m. m)
   opening o open_stage.StorePhase found e b = begins e (rw e (record { quiet = λ sh. tt; aside = stores_phase _ })) refl tt
   opening o open_stage.Ended found e b = absurd cc
+  opening o _ found e b = leaves (λ m. m)
 
   watching_quiet : (w : watch.Watching) (p : WatchStage) → IsLight (watch.asks_at w p)
   watching_quiet w (watch_stage.Look i) = record { quiet = λ sh. tt; aside = loads _ }
@@ -213,14 +205,4 @@ module _ (l : Layout) (number : ℕ) (words : Words) (s : Coordinating) (marks :
 pub checked_lasts : (l : Layout) (number : ℕ) (words then : Words) (p : CoordStage) → ((phase : RunPhase) → post_at p ≡ Stopped phase → then ≡ words) → CheckedAt l number words p → CheckedAt l number then p
 checked_lasts l number words then (Check w) still h = subst (λ (x : Words). CheckedAt l number x (Check w)) (sym (still run.Mark refl)) h
 checked_lasts l number words then (Close c) still h = subst (λ (x : Words). CheckedAt l number x (Close c)) (sym (still run.Mark refl)) h
-checked_lasts l number words then (LoadAck i) still h = tt
-checked_lasts l number words then LoadWant still h = tt
-checked_lasts l number words then (Stop st) still h = tt
-checked_lasts l number words then (Open o) still h = tt
-checked_lasts l number words then (Watch w) still h = tt
-checked_lasts l number words then (StopAgain st) still h = tt
-checked_lasts l number words then MarkOn still h = tt
-checked_lasts l number words then (Sweep w) still h = tt
-checked_lasts l number words then (Count c) still h = tt
-checked_lasts l number words then (Tell t) still h = tt
-checked_lasts l number words then Done still h = tt
+checked_lasts l number words then _ still h = tt

@@ -12,7 +12,7 @@ use Rattle.gh_worker.specs.MarkFacts as marks
 use Rattle.gh_world.specs.declared.handshake.Actor.TheVariants as actor
 use Rattle.gh_world.specs.Handshake.{asks}
 use Rattle.gh_world.specs.Marking.{IsInMarking, IsLedBy, KnowsHeap, setting, StartsAreMeant, words}
-use Rattle.gh_world.proofs.Vocabulary.{acks_of, Actor, actors, actors_after, Arena, Ask, buffer_of, buffers_of, Cell, cell_of, ChangesOneCell, Check, Close, CoordStage, Count, Cycle, Done, effect, EndsClean, Entry, Hands, holder_in, is_busy, IsChecked, IsInLimits, IsStartOf, KeepsIt, Kind, Layout, Legal, LoadAck, LoadWant, ltb-false, ltb-true, mark_words, MarkOn, MarksToTheEnd, nat_tests, nothing, Open, Pacing, Party, place_of, PollsByMoves, row_bit, RunPhase, Marking as Shared, Stage, started, StepKeepsIt, Stop, StopAgain, Stopped, Sweep, Tell, WaitsWithNone, WasMarked, Watch, Words}
+use Rattle.gh_world.proofs.Vocabulary.{acks_of, Actor, actors, actors_after, Arena, Ask, buffer_of, buffers_of, Cell, cell_of, ChangesOneCell, Close, CoordStage, Cycle, effect, EndsClean, Entry, Hands, holder_in, is_busy, IsChecked, IsInLimits, IsStartOf, KeepsIt, Kind, Layout, Legal, ltb-false, ltb-true, mark_words, MarksToTheEnd, nat_tests, nothing, Pacing, Party, place_of, PollsByMoves, row_bit, RunPhase, Marking as Shared, Stage, started, StepKeepsIt, Stopped, WaitsWithNone, WasMarked, Words}
 use Rattle.gh_world.proofs.CycleMarking.Apart.{stays_clear}
 use Rattle.gh_world.proofs.CycleMarking.Checking.{begins as begins_cycle, checked_lasts, CheckedAt, Found, Goes, goes_on, goes_so, leaves}
 use Rattle.gh_world.proofs.CycleMarking.Moving as moving
@@ -130,18 +130,7 @@ module _ {P O : Type 0} (arena : Arena) (k : Kind P O) (pacing : Pacing) (may : 
   -- behind the check all is found, in a stopped world
   behind : (l : Layout) (number : ℕ) (w : Words) (p : CoordStage) → IsChecked p → CheckedAt l number w p → Found l number w × (leading.post_at p ≡ Stopped run.Mark)
   behind l number w (Close x) y h = (h, refl)
-  behind l number w (LoadAck i) y h = absurd y
-  behind l number w LoadWant y h = absurd y
-  behind l number w (Stop st) y h = absurd y
-  behind l number w (Open o) y h = absurd y
-  behind l number w (Watch x) y h = absurd y
-  behind l number w (StopAgain st) y h = absurd y
-  behind l number w (Check x) y h = absurd y
-  behind l number w MarkOn y h = absurd y
-  behind l number w (Sweep x) y h = absurd y
-  behind l number w (Count x) y h = absurd y
-  behind l number w (Tell t) y h = absurd y
-  behind l number w Done y h = absurd y
+  behind l number w _ y h = absurd y
 
   to_the_end : (es : List (Entry O)) (c : coord.Coordinating) → Lawful es → Led es c → Holds es c → MarksToTheEnd arena k pacing may stage facts knows meant es c
   to_the_end es c legal led h = record {

@@ -14,7 +14,7 @@ use Rattle.gh_worker.specs.MarkFacts as marks
 use Rattle.gh_world.specs.declared.handshake.Actor.TheVariants as actor
 use Rattle.gh_world.specs.Handshake.{asks, Sound}
 use Rattle.gh_world.specs.Marking.{IsInMarking, IsLedBy, KnowsHeap, LeavesObjects, setting, words}
-use Rattle.gh_world.proofs.Vocabulary.{acks_of, Actor, actors, actors_after, Acts, alloc_words, Arena, Ask, bit_at, cell_of, Check, Close, CoordStage, Count, Cycle, Done, effect, Entry, MarkingGood as Good, Hands, is_busy, IsBeginning, KeepsIt, Kind, Layout, Legal, LoadAck, LoadWant, MarkingBegins, MarkOn, MayBegin, nat_tests, nothing, Open, Pacing, Party, place_of, PollsByMoves, Row, row_bit, seats_of, Marking as Shared, Stage, started, Stop, StopAgain, Stopped, Sweep, Tell, WaitsWithNone, WasMarked, Watch, Went, Words, WorkerStage}
+use Rattle.gh_world.proofs.Vocabulary.{acks_of, Actor, actors, actors_after, Acts, alloc_words, Arena, Ask, bit_at, cell_of, CoordStage, Cycle, effect, Entry, MarkingGood as Good, Hands, is_busy, IsBeginning, KeepsIt, Kind, Layout, Legal, MarkingBegins, MayBegin, nat_tests, nothing, Open, Pacing, Party, place_of, PollsByMoves, Row, row_bit, seats_of, Marking as Shared, Stage, started, Stopped, WaitsWithNone, WasMarked, Went, Words, WorkerStage}
 use Rattle.gh_world.proofs.CycleMarking.Beside.{LeavesHeap, works_so}
 use Rattle.gh_world.proofs.CycleMarking.Checking.{IsLight}
 use Rattle.gh_world.proofs.CycleMarking.Seats.{IsSeated, lead_started, leads, other, runs, seated, worker_started, works}
@@ -56,18 +56,7 @@ pub record Known : Type 0 where
 
 pub begin_post : (p : CoordStage) → IsBeginning p → leading.post_at p ≡ Stopped run.Off
 begin_post (Open o) b = ap leading.open_post b
-begin_post (LoadAck i) b = absurd b
-begin_post LoadWant b = absurd b
-begin_post (Stop st) b = absurd b
-begin_post (Watch w) b = absurd b
-begin_post (StopAgain st) b = absurd b
-begin_post (Check w) b = absurd b
-begin_post MarkOn b = absurd b
-begin_post (Close c) b = absurd b
-begin_post (Sweep w) b = absurd b
-begin_post (Count c) b = absurd b
-begin_post (Tell t) b = absurd b
-begin_post Done b = absurd b
+begin_post _ b = absurd b
 
 module _ {P O : Type 0} (arena : Arena) (k : Kind P O) (pacing : Pacing) (may : ℕ → List (Entry O) → O → Bool) (stage : P → Stage) (facts : Cycle → (a : ℕ) → Shared → P → Type 0) (knows : Cycle → Shared → List (Entry O) → Type 0) (meant : List (Entry O) → Type 0)
     (known : Known) (polls : PollsByMoves arena k pacing may stage facts knows meant) (heap : KnowsHeap arena k pacing may stage facts knows meant) where

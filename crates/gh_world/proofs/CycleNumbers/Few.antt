@@ -7,7 +7,7 @@ use Rattle.gh_world.specs.declared.handshake.Actor.TheVariants as actor
 use Rattle.gh_world.specs.Numbers.{asked_in, asks_for_one}
 use Rattle.gh_world.specs.Processors.{asked_by, asks_collector}
 use Rattle.gh_world.specs.Wants.{AreFew, AsksOncePerOperation, BeginsFew, CountsWants, last_at, MayAsk, most_asks, opened_last, total}
-use Rattle.gh_world.proofs.Vocabulary.{Actor, AreParties, Ask, asked_after, Begins, bit, by, Check, Close, CoordStage, Count, Done, Entry, is_busy, KeepsIt, Kind, Layout, Legal, LoadAck, LoadWant, MarkOn, nat_tests, Op, Open, opened_in, OpenStage, Pacing, Party, Stage, started, Stop, StopAgain, Sweep, Tell, Watch, WorkersWriteTheirOwn}
+use Rattle.gh_world.proofs.Vocabulary.{Actor, AreParties, Ask, asked_after, Begins, bit, by, CoordStage, Entry, is_busy, KeepsIt, Kind, Layout, Legal, LoadAck, LoadWant, nat_tests, Op, Open, opened_in, OpenStage, Pacing, Party, Stage, started, Stop, WorkersWriteTheirOwn}
 use Rattle.gh_world.proofs.CycleMarking.Seats.{other}
 use Rattle.gh_world.proofs.CycleNumbers.Frames.{worker_asks_none}
 use Rattle.gh_world.proofs.CycleNumbers.Sums.{total_at, total_below, total_same}
@@ -36,31 +36,14 @@ bit_few false = omega arith
 
 open_few : (last : Bool) (p : OpenStage) → opened_last last p ≤ 1
 open_few last open_stage.ClearWant = omega arith
-open_few last open_stage.ClearGcur = bit_few last
-open_few last open_stage.ClearTally = bit_few last
-open_few last open_stage.ClearLive = bit_few last
-open_few last open_stage.StoreTrigger = bit_few last
-open_few last open_stage.LoadHeap = bit_few last
-open_few last open_stage.StoreWork = bit_few last
-open_few last open_stage.StoreSlack = bit_few last
-open_few last open_stage.StoreBegun = bit_few last
-open_few last open_stage.StorePhase = bit_few last
-open_few last open_stage.Ended = bit_few last
+open_few last _ = bit_few last
 
 last_few : (last : Bool) (p : CoordStage) → last_at last p ≤ 1
 last_few last (LoadAck i) = omega arith
 last_few last LoadWant = omega arith
 last_few last (Stop st) = omega arith
 last_few last (Open o) = open_few last o.stage
-last_few last (Watch v) = bit_few last
-last_few last (StopAgain st) = bit_few last
-last_few last (Check v) = bit_few last
-last_few last MarkOn = bit_few last
-last_few last (Close c) = bit_few last
-last_few last (Sweep v) = bit_few last
-last_few last (Count c) = bit_few last
-last_few last (Tell t) = bit_few last
-last_few last Done = bit_few last
+last_few last _ = bit_few last
 
 module _ {P : Type 0} (l : Layout) (k : Kind P Op) (pacing : Pacing) (may : ℕ → List (Entry Op) → Op → Bool) (sound : Layout → P → Type 0) (party : P → Party) (stage : P → Stage)
     (parties : AreParties l k (sound l) party stage) (works : WorkersWriteTheirOwn)
@@ -176,19 +159,9 @@ module _ {P : Type 0} (l : Layout) (k : Kind P Op) (pacing : Pacing) (may : ℕ 
   none_of es = let same = total_same (begun_by es) (λ h. 0 + asked_by h es) l.goroutines (λ i m. omega arith) in omega (arith, same)
 
   begun_so : (e : Entry Op) (es : List (Entry Op)) (o : Option Op) → Begins (seats.it l k pacing may) e.actor es o → total (λ h. cond (asks_collector h o) 1 0 + asked_by h es) l.goroutines ≡ may_ask o + total (begun_by es) l.goroutines
-  begun_so e es None b = none_of es
   begun_so e es (Some (op.New g d t)) b = one_of es g (may_so e.actor es (Some (op.New g d t)) g b (grind (arith, nat_tests))).there
   begun_so e es (Some (op.Gc g)) b = one_of es g (may_so e.actor es (Some (op.Gc g)) g b (grind (arith, nat_tests))).there
-  begun_so e es (Some (op.Load g d f i)) b = none_of es
-  begun_so e es (Some (op.Store g f i v)) b = none_of es
-  begun_so e es (Some (op.GetGlobal g d i)) b = none_of es
-  begun_so e es (Some (op.SetGlobal g i v)) b = none_of es
-  begun_so e es (Some (op.Int g d i)) b = none_of es
-  begun_so e es (Some (op.Move g d i)) b = none_of es
-  begun_so e es (Some (op.Nil g d)) b = none_of es
-  begun_so e es (Some (op.End g)) b = none_of es
-  begun_so e es (Some op.Poll) b = none_of es
-  begun_so e es (Some op.Leave) b = none_of es
+  begun_so e es _ b = none_of es
 
   begun_all : (es : List (Entry Op)) → Lawful es → total (begun_by es) l.goroutines ≡ may_ask_in es
   begun_all [] legal = total_none (begun_by []) l.goroutines (λ i m. refl)

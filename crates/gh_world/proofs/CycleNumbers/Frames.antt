@@ -36,20 +36,6 @@ abbrev IsApart : Cell → Type 0
 IsApart c = ((words : Words) (value : ℕ) → Apart words c value) × ((value before : ℕ) → opened_after (Store c value) before ≡ before) × ((bits before : ℕ) → asked_after (Or c bits) before ≡ before)
 
 apart : (c : Cell) → IsNoNumber c → IsApart c
-apart cell.Touch h = (λ w v. record { numbers = refl; want = refl }, λ v b. refl, λ v b. refl)
-apart cell.Lock h = (λ w v. record { numbers = refl; want = refl }, λ v b. refl, λ v b. refl)
-apart cell.Heap h = (λ w v. record { numbers = refl; want = refl }, λ v b. refl, λ v b. refl)
-apart (cell.Page i) h = (λ w v. record { numbers = refl; want = refl }, λ v b. refl, λ v b. refl)
-apart (cell.Alloc i) h = (λ w v. record { numbers = refl; want = refl }, λ v b. refl, λ v b. refl)
-apart (cell.Mark i) h = (λ w v. record { numbers = refl; want = refl }, λ v b. refl, λ v b. refl)
-apart (cell.Bitmap i) h = (λ w v. record { numbers = refl; want = refl }, λ v b. refl, λ v b. refl)
-apart (cell.Birth i) h = (λ w v. record { numbers = refl; want = refl }, λ v b. refl, λ v b. refl)
-apart (cell.Field i) h = (λ w v. record { numbers = refl; want = refl }, λ v b. refl, λ v b. refl)
-apart (cell.Global i) h = (λ w v. record { numbers = refl; want = refl }, λ v b. refl, λ v b. refl)
-apart (cell.Buffer i) h = (λ w v. record { numbers = refl; want = refl }, λ v b. refl, λ v b. refl)
-apart (cell.Entry i j) h = (λ w v. record { numbers = refl; want = refl }, λ v b. refl, λ v b. refl)
-apart (cell.Ack i) h = (λ w v. record { numbers = refl; want = refl }, λ v b. refl, λ v b. refl)
-apart (cell.Scanned i) h = (λ w v. record { numbers = refl; want = refl }, λ v b. refl, λ v b. refl)
 apart cell.Phase h = absurd h
 apart cell.Gen h = absurd h
 apart cell.Begun h = absurd h
@@ -62,34 +48,14 @@ apart cell.Work h = absurd h
 apart cell.Slack h = absurd h
 apart cell.Tally h = absurd h
 apart cell.Live h = absurd h
+apart _ h = (λ w v. record { numbers = refl; want = refl }, λ v b. refl, λ v b. refl)
 
 written : (seat : ℕ) (c : Cell) → IsWritten seat c → IsNoNumber c
 written seat (cell.Buffer i) h = tt
 written seat (cell.Entry i j) h = tt
 written seat (cell.Mark i) h = tt
 written seat (cell.Ack i) h = tt
-written seat cell.Touch h = absurd h
-written seat cell.Lock h = absurd h
-written seat cell.Heap h = absurd h
-written seat (cell.Page i) h = absurd h
-written seat (cell.Alloc i) h = absurd h
-written seat (cell.Bitmap i) h = absurd h
-written seat (cell.Birth i) h = absurd h
-written seat (cell.Field i) h = absurd h
-written seat (cell.Global i) h = absurd h
-written seat (cell.Scanned i) h = absurd h
-written seat cell.Phase h = absurd h
-written seat cell.Gen h = absurd h
-written seat cell.Begun h = absurd h
-written seat cell.Swept h = absurd h
-written seat cell.Want h = absurd h
-written seat cell.Bank h = absurd h
-written seat cell.Gcur h = absurd h
-written seat cell.Trigger h = absurd h
-written seat cell.Work h = absurd h
-written seat cell.Slack h = absurd h
-written seat cell.Tally h = absurd h
-written seat cell.Live h = absurd h
+written seat _ h = absurd h
 
 module _ (words : Words) where
   swapped : (c : Cell) (old new : ℕ) → IsApart c → (yes : Bool) → eqb (words c) old ≡ yes → Leaves words (Swap c old new)
@@ -119,9 +85,5 @@ module _ (words : Words) where
 
 -- a worker asks for no cycle
 pub worker_asks_none : (seat : ℕ) (ask : Ask) → WritesItsOwn seat ask → (before : ℕ) → asked_after ask before ≡ before
-worker_asks_none seat (Load c) h before = refl
-worker_asks_none seat (Store c value) h before = refl
 worker_asks_none seat (Or c bits) h before = (apart c (written seat c h)).2 bits before
-worker_asks_none seat (And c bits) h before = refl
-worker_asks_none seat (Add c more) h before = refl
-worker_asks_none seat (Swap c old new) h before = refl
+worker_asks_none seat _ h before = refl

@@ -72,16 +72,11 @@ module _ (room : ℕ) where
     opening : (o : opens_by.CycleOpening) (p : OpenStage) → opens_by.is_busy p ≡ true → o.cycle ≡ s.begun → In (part_of (Open (record o { stage = p }))) →
         Next (opens_by.asks_at o p) (after_open (at_stage u (Open (record o { stage = opens_by.behind p }))) (opens_by.given_at (opens_by.behind p)))
     opening o open_stage.ClearWant b e h = record { at = to_opened room opened n (own_of s) h; reads = tt }
-    opening o open_stage.ClearGcur b e h = record { at = h; reads = tt }
     opening o open_stage.ClearTally b e h = record { at = to_tally_cleared room opened n (own_of s) h; reads = tt }
     opening o open_stage.ClearLive b e h = record { at = to_live_cleared room opened n (own_of s) h; reads = tt }
-    opening o open_stage.StoreTrigger b e h = record { at = h; reads = tt }
-    opening o open_stage.LoadHeap b e h = record { at = h; reads = tt }
-    opening o open_stage.StoreWork b e h = record { at = h; reads = tt }
-    opening o open_stage.StoreSlack b e h = record { at = h; reads = tt }
     opening o open_stage.StoreBegun b e h = rw e (record { at = to_begun room opened n (own_of s) h; reads = tt })
-    opening o open_stage.StorePhase b e h = record { at = h; reads = tt }
     opening o open_stage.Ended b e h = absurd cc
+    opening o _ b e h = record { at = h; reads = tt }
 
     -- it is marked
     watching : (v next : watch.Watching) (out : Option Watched) → In Begun → Next (watch.asks v) (after_watch (at_stage u (Watch next)) out)

@@ -3,7 +3,7 @@ use Rattle.std.proofs.Common.{◌≡◌, ℕ, ◌⊎◌, inl, inr, true, refl, O
 use Rattle.gh_phase.specs.declared.view.RunPhase.TheVariants as run
 use Rattle.gh_phase.specs.Handshake.{Stopped}
 use Rattle.gh_coord.specs.declared.coord.CoordStage.{CoordStage}
-use Rattle.gh_coord.specs.declared.coord.CoordStage.TheVariants.{Check, Close, Count, Done, LoadAck, LoadWant, MarkOn, Open, Stop, StopAgain, Sweep, Tell, Watch}
+use Rattle.gh_coord.specs.declared.coord.CoordStage.TheVariants.{Check, Close, MarkOn, StopAgain, Watch}
 use Rattle.gh_coord.specs.declared.watch.Watched.{Watched}
 use Rattle.gh_coord.specs.declared.watch.Watched.TheVariants.{All, NotYet}
 use Rattle.gh_coord.specs.Handshake.{Marks, post_at}
@@ -26,19 +26,12 @@ module _ (u : Coordinating) where
   stop_goes_on st (Some x) = tt
 
   leaves_at : (p : CoordStage) (found : ℕ) → is_busy p ≡ true → (Marks (goes_at u p found).stage → ⊥) → Leaving p
-  leaves_at (LoadAck i) found b off = inl (λ m. m)
-  leaves_at LoadWant found b off = inl (λ m. m)
-  leaves_at (Stop st) found b off = inl (λ m. m)
-  leaves_at (Open o) found b off = inl (λ m. m)
   leaves_at (Watch v) found b off = absurd (off (watch_goes_on (watch.goes v found) (watch.gives v found)))
   leaves_at (StopAgain st) found b off = absurd (off (stop_goes_on (stop.goes st found) (stop.gives st found)))
   leaves_at (Check v) found b off = inr refl
   leaves_at MarkOn found b off = inr refl
   leaves_at (Close c) found b off = inr refl
-  leaves_at (Sweep v) found b off = inl (λ m. m)
-  leaves_at (Count c) found b off = inl (λ m. m)
-  leaves_at (Tell t) found b off = inl (λ m. m)
-  leaves_at Done found b off = inl (λ m. m)
+  leaves_at _ found b off = inl (λ m. m)
 
 pub leaves_marking : (s : Coordinating) (found : ℕ) → is_busy s.stage ≡ true → (Marks (goes s found).stage → ⊥) → Leaving s.stage
 leaves_marking s found b off = leaves_at (counted s) s.stage found b off

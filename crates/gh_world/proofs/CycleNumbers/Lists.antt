@@ -10,7 +10,7 @@ use Rattle.gh_coord.specs.Listing as coord
 use Rattle.gh_world.specs.declared.handshake.Actor.TheVariants as actor
 use Rattle.gh_world.specs.Handshake.{Sound}
 use Rattle.gh_world.specs.Numbers.{open_part, opens_one, tell_part}
-use Rattle.gh_world.proofs.Vocabulary.{ahead_at, AreParties, Ask, Check, Close, close_part, CloseStage, CoordStage, Count, CountsCycles, Done, effect, Entry, generation_of, IsBeginning, IsFew, KeepsIt, Kind, Layout, Legal, LoadAck, LoadWant, MarkOn, Open, opened_after, opened_in, OpenStage, Pacing, Part, part_of, Party, Stage, started, Stop, StopAgain, Sweep, Tell, TellStage, Watch, WorkersWriteTheirOwn, WritesNoNumbers, ◌↔◌}
+use Rattle.gh_world.proofs.Vocabulary.{ahead_at, AreParties, Ask, Check, Close, close_part, CloseStage, CoordStage, Count, CountsCycles, effect, Entry, generation_of, IsBeginning, IsFew, KeepsIt, Kind, Layout, Legal, MarkOn, Open, opened_after, opened_in, OpenStage, Pacing, Part, part_of, Party, Stage, started, StopAgain, Sweep, Tell, TellStage, Watch, WorkersWriteTheirOwn, WritesNoNumbers, ◌↔◌}
 use Rattle.gh_world.proofs.CycleNumbers.Frames.{Leaves, leaves, Numbers, numbers_of, worker_leaves}
 use Rattle.gh_world.proofs.CycleNumbers.Leading.{goes_so, Is}
 use Rattle.gh_world.proofs.CycleNumbers.Seats as seats
@@ -40,17 +40,9 @@ module _ (swept begun gen : ℕ) where
   neither (inr x) = x
 
   open_marked : (p : OpenStage) → opens_by.is_busy p ≡ true → IsAt (open_part p) → MarkedWhere (⊥ ⊎ (p ≡ open_stage.StorePhase))
-  open_marked open_stage.ClearWant s h = alike 0 h.0 h.1 (λ x. elim x [ inl y ↦ y | inr y ↦ cc ])
-  open_marked open_stage.ClearGcur s h = alike 0 h.0 h.1 (λ x. elim x [ inl y ↦ y | inr y ↦ cc ])
-  open_marked open_stage.ClearTally s h = alike 0 h.0 h.1 (λ x. elim x [ inl y ↦ y | inr y ↦ cc ])
-  open_marked open_stage.ClearLive s h = alike 0 h.0 h.1 (λ x. elim x [ inl y ↦ y | inr y ↦ cc ])
-  open_marked open_stage.StoreTrigger s h = alike 0 h.0 h.1 (λ x. elim x [ inl y ↦ y | inr y ↦ cc ])
-  open_marked open_stage.LoadHeap s h = alike 0 h.0 h.1 (λ x. elim x [ inl y ↦ y | inr y ↦ cc ])
-  open_marked open_stage.StoreWork s h = alike 0 h.0 h.1 (λ x. elim x [ inl y ↦ y | inr y ↦ cc ])
-  open_marked open_stage.StoreSlack s h = alike 0 h.0 h.1 (λ x. elim x [ inl y ↦ y | inr y ↦ cc ])
-  open_marked open_stage.StoreBegun s h = alike 0 h.0 h.1 (λ x. elim x [ inl y ↦ y | inr y ↦ cc ])
   open_marked open_stage.StorePhase s h = one_more h.0 h.1 (inr refl)
   open_marked open_stage.Ended s h = absurd cc
+  open_marked _ s h = alike 0 h.0 h.1 (λ x. elim x [ inl y ↦ y | inr y ↦ cc ])
 
   close_marked : (p : CloseStage) → IsAt (close_part p) → MarkedWhere ((close.is_busy p ≡ true) ⊎ ⊥)
   close_marked close_stage.LoadBank h = one_more h.0 h.1 (inl refl)
@@ -65,9 +57,6 @@ module _ (swept begun gen : ℕ) where
   tell_marked tell_stage.Ended h = alike 0 h.0 h.1 neither
 
   marked : (c : coord.Coordinating) (p : CoordStage) → leading.SoundAt c p → IsAt (part_of p) → MarkedWhere (leading.Marks p ⊎ IsBeginning p)
-  marked c (LoadAck i) s h = alike 0 h.0 h.1 neither
-  marked c LoadWant s h = alike 0 h.0 h.1 neither
-  marked c (Stop st) s h = alike 0 h.0 h.1 neither
   marked c (Open o) s h = open_marked o.stage s.1 h
   marked c (Watch w) s h = one_more h.0 h.1 (inl tt)
   marked c (StopAgain st) s h = one_more h.0 h.1 (inl tt)
@@ -77,7 +66,7 @@ module _ (swept begun gen : ℕ) where
   marked c (Sweep w) s h = alike 1 h.0 h.1 neither
   marked c (Count x) s h = alike 1 h.0 h.1 neither
   marked c (Tell t) s h = tell_marked t.stage h
-  marked c Done s h = alike 0 h.0 h.1 neither
+  marked c _ s h = alike 0 h.0 h.1 neither
 
 module _ {P O : Type 0} (l : Layout) (k : Kind P O) (pacing : Pacing) (may : ℕ → List (Entry O) → O → Bool) (sound : Layout → P → Type 0) (party : P → Party) (stage : P → Stage)
     (parties : AreParties l k (sound l) party stage) (quiet : WritesNoNumbers k (sound l)) (works : WorkersWriteTheirOwn)

@@ -49,14 +49,7 @@ module _ (w : Words) where
 
   span_quiet : (v : sweep.Sweeping) (p : SweepStage) → Quiet w (sweep.asks_at v p)
   span_quiet v sweep_stage.Begin = swap_quiet v.page (head_word v.head) (head_word (sweep.in_sweep v.head)) (eqb (w (cell.Page v.page)) (head_word v.head)) refl
-  span_quiet v (sweep_stage.LoadMarks i) = record { opens_none = λ b. refl; asks_none = λ b. refl; want = refl; scanned = λ g. refl; counts = refl }
-  span_quiet v (sweep_stage.ClearBits i m) = record { opens_none = λ b. refl; asks_none = λ b. refl; want = refl; scanned = λ g. refl; counts = refl }
-  span_quiet v (sweep_stage.ClearMarks i) = record { opens_none = λ b. refl; asks_none = λ b. refl; want = refl; scanned = λ g. refl; counts = refl }
-  span_quiet v sweep_stage.AddTally = record { opens_none = λ b. refl; asks_none = λ b. refl; want = refl; scanned = λ g. refl; counts = refl }
-  span_quiet v sweep_stage.AddLive = record { opens_none = λ b. refl; asks_none = λ b. refl; want = refl; scanned = λ g. refl; counts = refl }
-  span_quiet v sweep_stage.AddHeap = record { opens_none = λ b. refl; asks_none = λ b. refl; want = refl; scanned = λ g. refl; counts = refl }
-  span_quiet v sweep_stage.Finish = record { opens_none = λ b. refl; asks_none = λ b. refl; want = refl; scanned = λ g. refl; counts = refl }
-  span_quiet v sweep_stage.Ended = record { opens_none = λ b. refl; asks_none = λ b. refl; want = refl; scanned = λ g. refl; counts = refl }
+  span_quiet v _ = record { opens_none = λ b. refl; asks_none = λ b. refl; want = refl; scanned = λ g. refl; counts = refl }
 
   pub all_quiet : (v : all.SweepingAll) (p : SweepAllStage) → Quiet w (all.asks_at v p)
   all_quiet v (all_stage.LoadPage i) = record { opens_none = λ b. refl; asks_none = λ b. refl; want = refl; scanned = λ g. refl; counts = refl }

@@ -29,32 +29,8 @@ abbrev IsStack : Cell → Type 0
 IsStack c = (h : ℕ) × (c ≡ cell.Scanned h)
 
 which : (c : Cell) (g : ℕ) → (same_cell c (cell.Scanned g) ≡ false) ⊎ IsStack c
-which cell.Touch g = inl refl
-which cell.Phase g = inl refl
-which cell.Gen g = inl refl
-which cell.Begun g = inl refl
-which cell.Swept g = inl refl
-which cell.Lock g = inl refl
-which cell.Want g = inl refl
-which cell.Bank g = inl refl
-which cell.Gcur g = inl refl
-which cell.Heap g = inl refl
-which cell.Trigger g = inl refl
-which cell.Work g = inl refl
-which cell.Slack g = inl refl
-which cell.Tally g = inl refl
-which cell.Live g = inl refl
-which (cell.Page i) g = inl refl
-which (cell.Alloc i) g = inl refl
-which (cell.Mark i) g = inl refl
-which (cell.Bitmap i) g = inl refl
-which (cell.Birth i) g = inl refl
-which (cell.Field i) g = inl refl
-which (cell.Global i) g = inl refl
-which (cell.Buffer i) g = inl refl
-which (cell.Entry i j) g = inl refl
-which (cell.Ack i) g = inl refl
 which (cell.Scanned i) g = inr (i, refl)
+which _ g = inl refl
 
 module _ (words : Words) (g : ℕ) where
   abbrev Same : Ask → Type 0

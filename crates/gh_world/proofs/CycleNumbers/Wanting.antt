@@ -74,16 +74,9 @@ module _ (opened asked : ℕ) (w : Words) (s : Coordinating) (marks : ℕ) where
   opening : (o : opens_by.CycleOpening) (p : OpenStage) → opens_by.is_busy p ≡ true → In (Open (record o { stage = p })) →
       Next (opens_by.asks_at o p) (after_open (at_stage u (Open (record o { stage = opens_by.behind p }))) (opens_by.given_at (opens_by.behind p)))
   opening o open_stage.ClearWant b h = clearing o h
-  opening o open_stage.ClearGcur b h = within _ _ refl refl (λ x. x) (λ x. cc) h
-  opening o open_stage.ClearTally b h = within _ _ refl refl (λ x. x) (λ x. cc) h
-  opening o open_stage.ClearLive b h = within _ _ refl refl (λ x. x) (λ x. cc) h
-  opening o open_stage.StoreTrigger b h = within _ _ refl refl (λ x. x) (λ x. cc) h
-  opening o open_stage.LoadHeap b h = within _ _ refl refl (λ x. x) (λ x. cc) h
-  opening o open_stage.StoreWork b h = within _ _ refl refl (λ x. x) (λ x. cc) h
-  opening o open_stage.StoreSlack b h = within _ _ refl refl (λ x. x) (λ x. cc) h
-  opening o open_stage.StoreBegun b h = within _ _ refl refl (λ x. x) (λ x. cc) h
   opening o open_stage.StorePhase b h = within (Open (record o { stage = open_stage.StorePhase })) (Watch (watch.opening s.layout s.begun)) refl refl (λ x. x) (λ x. x) h
   opening o open_stage.Ended b h = absurd cc
+  opening o _ b h = within _ _ refl refl (λ x. x) (λ x. cc) h
 
   -- it is marked
   watching : (v next : watch.Watching) (out : Option Watched) → In (Watch v) → Next (watch.asks v) (after_watch (at_stage u (Watch next)) out)
@@ -147,17 +140,8 @@ module _ (opened asked : ℕ) (w : Words) (s : Coordinating) (marks : ℕ) where
   alike ask q = record { asks_none = q.asks_none; scanned = q.scanned; begun = inl (ap (λ (n : Numbers). n.begun) q.counts); swept = inl (ap (λ (n : Numbers). n.swept) q.counts) }
 
   open_aside : (o : opens_by.CycleOpening) (p : OpenStage) → o.cycle ≡ s.begun → Aside w s.begun (opens_by.asks_at o p)
-  open_aside o open_stage.ClearWant e = record { asks_none = λ b. refl; scanned = λ g. refl; begun = inl refl; swept = inl refl }
-  open_aside o open_stage.ClearGcur e = record { asks_none = λ b. refl; scanned = λ g. refl; begun = inl refl; swept = inl refl }
-  open_aside o open_stage.ClearTally e = record { asks_none = λ b. refl; scanned = λ g. refl; begun = inl refl; swept = inl refl }
-  open_aside o open_stage.ClearLive e = record { asks_none = λ b. refl; scanned = λ g. refl; begun = inl refl; swept = inl refl }
-  open_aside o open_stage.StoreTrigger e = record { asks_none = λ b. refl; scanned = λ g. refl; begun = inl refl; swept = inl refl }
-  open_aside o open_stage.LoadHeap e = record { asks_none = λ b. refl; scanned = λ g. refl; begun = inl refl; swept = inl refl }
-  open_aside o open_stage.StoreWork e = record { asks_none = λ b. refl; scanned = λ g. refl; begun = inl refl; swept = inl refl }
-  open_aside o open_stage.StoreSlack e = record { asks_none = λ b. refl; scanned = λ g. refl; begun = inl refl; swept = inl refl }
   open_aside o open_stage.StoreBegun e = record { asks_none = λ b. refl; scanned = λ g. refl; begun = inr (ap (λ (v : ℕ). Store cell.Begun v) e); swept = inl refl }
-  open_aside o open_stage.StorePhase e = record { asks_none = λ b. refl; scanned = λ g. refl; begun = inl refl; swept = inl refl }
-  open_aside o open_stage.Ended e = record { asks_none = λ b. refl; scanned = λ g. refl; begun = inl refl; swept = inl refl }
+  open_aside o _ e = record { asks_none = λ b. refl; scanned = λ g. refl; begun = inl refl; swept = inl refl }
 
   close_aside : (c : close.Closing) (p : CloseStage) → Aside w s.begun (close.asks_at c p)
   close_aside c close_stage.LoadBank = record { asks_none = λ b. refl; scanned = λ g. refl; begun = inl refl; swept = inl refl }
@@ -172,16 +156,13 @@ module _ (opened asked : ℕ) (w : Words) (s : Coordinating) (marks : ℕ) where
   tell_aside t tell_stage.Ended = record { asks_none = λ b. refl; scanned = λ g. refl; begun = inl refl; swept = inl refl }
 
   pub aside : (p : CoordStage) → SoundAt s p → Aside w s.begun (asks_at s p)
-  aside (LoadAck i) e = record { asks_none = λ b. refl; scanned = λ g. refl; begun = inl refl; swept = inl refl }
-  aside LoadWant e = record { asks_none = λ b. refl; scanned = λ g. refl; begun = inl refl; swept = inl refl }
   aside (Stop st) e = alike (stop.asks st) (stop_still w st st.stage).quiet
   aside (Open o) e = open_aside o o.stage (ap (λ (x : opens_by.CycleOpening). x.cycle) e.0)
   aside (Watch v) e = alike (watch.asks v) (watch_still w v v.stage).quiet
   aside (StopAgain st) e = alike (stop.asks st) (stop_still w st st.stage).quiet
   aside (Check v) e = alike (watch.asks v) (watch_still w v v.stage).quiet
-  aside MarkOn e = record { asks_none = λ b. refl; scanned = λ g. refl; begun = inl refl; swept = inl refl }
   aside (Close c) e = close_aside c c.stage
   aside (Sweep v) e = alike (all.asks v) (all_quiet w v v.stage)
   aside (Count c) e = alike (count.asks c) (count_still w c.stage).quiet
   aside (Tell t) e = tell_aside t t.stage
-  aside Done e = record { asks_none = λ b. refl; scanned = λ g. refl; begun = inl refl; swept = inl refl }
+  aside _ e = record { asks_none = λ b. refl; scanned = λ g. refl; begun = inl refl; swept = inl refl }

@@ -73,61 +73,27 @@ pub record IsCalm (c : Coordinating) (w : Words) : Type 0 where
 module _ (c : Coordinating) (w v : Words) (want : v cell.Want ≡ w cell.Want) (swept : v cell.Swept ≡ w cell.Swept) where
   cleared_so : (p : OpenStage) → IsCleared w p → IsCleared v p
   cleared_so open_stage.ClearWant x = tt
-  cleared_so open_stage.ClearGcur x = want ∙ x
-  cleared_so open_stage.ClearTally x = want ∙ x
-  cleared_so open_stage.ClearLive x = want ∙ x
-  cleared_so open_stage.StoreTrigger x = want ∙ x
-  cleared_so open_stage.LoadHeap x = want ∙ x
-  cleared_so open_stage.StoreWork x = want ∙ x
-  cleared_so open_stage.StoreSlack x = want ∙ x
-  cleared_so open_stage.StoreBegun x = want ∙ x
-  cleared_so open_stage.StorePhase x = want ∙ x
-  cleared_so open_stage.Ended x = want ∙ x
+  cleared_so _ x = want ∙ x
 
   asked_at_so : (p : CoordStage) → AskedAt c w p → AskedAt c v p
   asked_at_so (LoadAck i) x = x
   asked_at_so LoadWant x = x
   asked_at_so (Stop st) x = x
   asked_at_so (Open o) x = cleared_so o.stage x
-  asked_at_so (Watch y) x = want ∙ x
-  asked_at_so (StopAgain st) x = want ∙ x
-  asked_at_so (Check y) x = want ∙ x
-  asked_at_so MarkOn x = want ∙ x
-  asked_at_so (Close y) x = want ∙ x
-  asked_at_so (Sweep y) x = want ∙ x
-  asked_at_so (Count y) x = want ∙ x
   asked_at_so (Tell t) x = (want ∙ x.0, x.1, x.2)
   asked_at_so Done x = x
+  asked_at_so _ x = want ∙ x
 
   told_at_so : (p : CoordStage) → ToldAt c w p → ToldAt c v p
   told_at_so (LoadAck i) x = x
   told_at_so LoadWant x = x
   told_at_so (Tell t) x = x
-  told_at_so (Stop st) x = absurd x
-  told_at_so (Open o) x = absurd x
-  told_at_so (Watch y) x = absurd x
-  told_at_so (StopAgain st) x = absurd x
-  told_at_so (Check y) x = absurd x
-  told_at_so MarkOn x = absurd x
-  told_at_so (Close y) x = absurd x
-  told_at_so (Sweep y) x = absurd x
-  told_at_so (Count y) x = absurd x
-  told_at_so Done x = absurd x
+  told_at_so _ x = absurd x
 
   calm_at_so : (p : CoordStage) → CalmAt c w p → CalmAt c v p
   calm_at_so (LoadAck i) x = x
   calm_at_so LoadWant x = x
-  calm_at_so (Tell t) x = absurd x
-  calm_at_so (Stop st) x = absurd x
-  calm_at_so (Open o) x = absurd x
-  calm_at_so (Watch y) x = absurd x
-  calm_at_so (StopAgain st) x = absurd x
-  calm_at_so (Check y) x = absurd x
-  calm_at_so MarkOn x = absurd x
-  calm_at_so (Close y) x = absurd x
-  calm_at_so (Sweep y) x = absurd x
-  calm_at_so (Count y) x = absurd x
-  calm_at_so Done x = absurd x
+  calm_at_so _ x = absurd x
 
   pub asked_so : (k : ℕ) → IsAsked k c w → IsAsked k c v
   asked_so k x = record { stage = asked_at_so c.stage x.stage; swept = swept ∙ x.swept; more = x.more }

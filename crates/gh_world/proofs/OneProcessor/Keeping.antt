@@ -25,15 +25,7 @@ parked_sleeps stops Gone x y = y
 rests : (t : Task) → is_busy_at t ≡ false → (t ≡ task.Idle) ⊎ (t ≡ task.Left)
 rests task.Idle b = inl refl
 rests task.Left b = inr refl
-rests (task.Load x) b = absurd cc
-rests (task.Store x) b = absurd cc
-rests (task.Global x) b = absurd cc
-rests (task.Register x) b = absurd cc
-rests (task.New x) b = absurd cc
-rests (task.Gc g x) b = absurd cc
-rests task.Poll b = absurd cc
-rests (task.End g) b = absurd cc
-rests (task.Leave x) b = absurd cc
+rests _ b = absurd cc
 
 module _ (shapes : List Shape) (l : Layout) (pacing : Pacing) (may : ℕ → List (Entry Op) → Op → Bool) (only : l.procs ≡ 1) (one : ChangesOneCell) (writes : ProcessorWritesItsOwn) (workers : WorkersWriteTheirOwn)
     (sound : Layout → Processor → Type 0) (is_sound : (m : Processor) → sound l m → IsSound m)

@@ -43,17 +43,7 @@ module _ (one : ChangesOneCell) (c : Coordinating) (w : Words) where
   calm_at : (p : CoordStage) (found : ℕ) → CalmAt c w p → w cell.Want ≡ 0 → w cell.Swept ≡ c.begun → c.is_last ≡ false → w (cell.Ack 0) ≢ GONE → found ≡ w (cell_of (asks_at c p)) → IsCalm (goes_at u p found) (effect w (asks_at c p))
   calm_at (LoadAck i) found is none swept more here f = rw (not_gone i found is f here) (record { stage = tt; none = none; swept = swept; more = more })
   calm_at LoadWant found is none swept more here f = rw (none_wanted found (f ∙ none)) (record { stage = refl; none = none; swept = swept; more = more })
-  calm_at (Stop st) found is none swept more here f = absurd is
-  calm_at (Open o) found is none swept more here f = absurd is
-  calm_at (Watch y) found is none swept more here f = absurd is
-  calm_at (StopAgain st) found is none swept more here f = absurd is
-  calm_at (Check y) found is none swept more here f = absurd is
-  calm_at MarkOn found is none swept more here f = absurd is
-  calm_at (Close y) found is none swept more here f = absurd is
-  calm_at (Sweep y) found is none swept more here f = absurd is
-  calm_at (Count y) found is none swept more here f = absurd is
-  calm_at (Tell t) found is none swept more here f = absurd is
-  calm_at Done found is none swept more here f = absurd is
+  calm_at _ found is none swept more here f = absurd is
 
   pub calm_goes : (found : ℕ) → IsCalm c w → w (cell.Ack 0) ≢ GONE → found ≡ w (cell_of (asks c)) → IsCalm (goes c found) (effect w (asks c))
   calm_goes found x here f = calm_at c.stage found x.stage x.none x.swept x.more here f
@@ -62,17 +52,7 @@ module _ (one : ChangesOneCell) (c : Coordinating) (w : Words) where
   still_at : (p : CoordStage) → CalmAt c w p → effect w (asks_at c p) ≡ w
   still_at (LoadAck i) is = refl
   still_at LoadWant is = refl
-  still_at (Stop st) is = absurd is
-  still_at (Open o) is = absurd is
-  still_at (Watch y) is = absurd is
-  still_at (StopAgain st) is = absurd is
-  still_at (Check y) is = absurd is
-  still_at MarkOn is = absurd is
-  still_at (Close y) is = absurd is
-  still_at (Sweep y) is = absurd is
-  still_at (Count y) is = absurd is
-  still_at (Tell t) is = absurd is
-  still_at Done is = absurd is
+  still_at _ is = absurd is
 
   pub calm_still : IsCalm c w → effect w (asks c) ≡ w
   calm_still x = still_at c.stage x.stage
@@ -89,16 +69,7 @@ module _ (one : ChangesOneCell) (c : Coordinating) (w : Words) where
   told_at (LoadAck i) found is none swept more here f = rw (not_gone i found is f here) (record { stage = tt; none = none; swept = swept; more = more })
   told_at LoadWant found is none swept more here f = rw (none_wanted found (f ∙ none)) (record { stage = refl; none = none; swept = swept; more = more })
   told_at (Tell t) found is none swept more here f = tells_on t t.stage refl is.1 none swept more
-  told_at (Stop st) found is none swept more here f = absurd is
-  told_at (Open o) found is none swept more here f = absurd is
-  told_at (Watch y) found is none swept more here f = absurd is
-  told_at (StopAgain st) found is none swept more here f = absurd is
-  told_at (Check y) found is none swept more here f = absurd is
-  told_at MarkOn found is none swept more here f = absurd is
-  told_at (Close y) found is none swept more here f = absurd is
-  told_at (Sweep y) found is none swept more here f = absurd is
-  told_at (Count y) found is none swept more here f = absurd is
-  told_at Done found is none swept more here f = absurd is
+  told_at _ found is none swept more here f = absurd is
 
   pub told_goes : (found : ℕ) → IsTold c w → w (cell.Ack 0) ≢ GONE → found ≡ w (cell_of (asks c)) → IsTold (goes c found) (effect w (asks c))
   told_goes found x here f = told_at c.stage found x.stage x.none x.swept x.more here f
@@ -128,14 +99,7 @@ module _ (one : ChangesOneCell) (c : Coordinating) (w : Words) where
 
   sweep_leaves : (s : sweep.Sweeping) (q : SweepStage) → Leaves (sweep.asks_at s q)
   sweep_leaves s sweep_stage.Begin = by_cell _ refl refl
-  sweep_leaves s (sweep_stage.LoadMarks i) = by_cell _ refl refl
-  sweep_leaves s (sweep_stage.ClearBits i marks) = by_cell _ refl refl
-  sweep_leaves s (sweep_stage.ClearMarks i) = by_cell _ refl refl
-  sweep_leaves s sweep_stage.AddTally = by_cell _ refl refl
-  sweep_leaves s sweep_stage.AddLive = by_cell _ refl refl
-  sweep_leaves s sweep_stage.AddHeap = by_cell _ refl refl
-  sweep_leaves s sweep_stage.Finish = by_cell _ refl refl
-  sweep_leaves s sweep_stage.Ended = by_cell _ refl refl
+  sweep_leaves s _ = by_cell _ refl refl
 
   all_leave : (y : all.SweepingAll) (q : SweepAllStage) → Leaves (all.asks_at y q)
   all_leave y (all_stage.LoadPage page) = record { want = refl; swept = refl }
@@ -162,16 +126,8 @@ module _ (one : ChangesOneCell) (c : Coordinating) (w : Words) where
 
     opening : (o : opens_by.CycleOpening) (q : OpenStage) → opens_by.is_busy q ≡ true → IsCleared w q → Or (after_open (at_stage u (Open (record o { stage = opens_by.behind q }))) (opens_by.given_at (opens_by.behind q))) (opens_by.asks_at o q)
     opening o open_stage.ClearWant b x = inl (record { stage = refl; swept = swept; more = more })
-    opening o open_stage.ClearGcur b x = inl (record { stage = x; swept = swept; more = more })
-    opening o open_stage.ClearTally b x = inl (record { stage = x; swept = swept; more = more })
-    opening o open_stage.ClearLive b x = inl (record { stage = x; swept = swept; more = more })
-    opening o open_stage.StoreTrigger b x = inl (record { stage = x; swept = swept; more = more })
-    opening o open_stage.LoadHeap b x = inl (record { stage = x; swept = swept; more = more })
-    opening o open_stage.StoreWork b x = inl (record { stage = x; swept = swept; more = more })
-    opening o open_stage.StoreSlack b x = inl (record { stage = x; swept = swept; more = more })
-    opening o open_stage.StoreBegun b x = inl (record { stage = x; swept = swept; more = more })
-    opening o open_stage.StorePhase b x = inl (record { stage = x; swept = swept; more = more })
     opening o open_stage.Ended b x = absurd cc
+    opening o _ b x = inl (record { stage = x; swept = swept; more = more })
 
     stopping : (st next : stop.Stopping) (out : Option (Unit {0})) → Or (after_stop (at_stage u (Stop next)) out) (stop.asks st)
     stopping st next None = goes_on _ _ (stops_leave st st.stage).swept tt more

@@ -21,7 +21,7 @@ use Rattle.gh_mutator.specs.New.{asks_at as new_asks}
 use Rattle.gh_mutator.specs.ProcessorPlaces.{new_party_at, SoundNewAt}
 use Rattle.gh_mutator.specs.Wait.{asks_at as wait_asks}
 use Rattle.gh_worker.specs.Writing as writing
-use Rattle.gh_world.proofs.Vocabulary.{Ask, begins, Cell, cell_of, ChangesOneCell, Check, Close, CoordStage, Count, Done, effect, GONE, Gone, is_busy_at, IsAwake, knower, Layout, leaves_at, LeaveStage, left, LoadAck, LoadWant, MarkOn, new_polls, new_stage_at, NewStage, only_polls, Op, Open, party_at, Polling, polls_at, PollStage, Processor, processor_kind, ResumeStage, RunPhase, same_cell, Shape, SoundAt, Stage, stage_at, Stop, StopAgain, Stopped, Sweep, Task, Tell, TellStage, waiting, waits_at, WaitStage, Watch, Words}
+use Rattle.gh_world.proofs.Vocabulary.{Ask, begins, Cell, cell_of, ChangesOneCell, CoordStage, effect, GONE, Gone, is_busy_at, IsAwake, knower, Layout, leaves_at, LeaveStage, left, LoadAck, LoadWant, new_polls, new_stage_at, NewStage, only_polls, Op, party_at, Polling, polls_at, PollStage, Processor, processor_kind, ResumeStage, RunPhase, same_cell, Shape, SoundAt, Stage, stage_at, Stopped, Task, Tell, TellStage, waiting, waits_at, WaitStage, Words}
 use Rattle.gh_world.proofs.OneProcessor.Asking.{CalmAt, IsCalm, IsTelling, ToldAt}
 use Rattle.gh_world.proofs.OneProcessor.Leading.{asked_goes, calm_goes, calm_still, told_goes}
 use Rattle.gh_world.proofs.OneProcessor.Steps.{IsServed, NewFits, Reads, Searches, TaskFits, TaskReads, TaskSearches, TaskStill, WaitAt, WaitsStill}
@@ -34,19 +34,12 @@ not_gone s = s ≡ Gone → ⊥
 
 resumes_here : (stops : ℕ) (q : ResumeStage) → not_gone (resumes.stands_at stops q)
 resumes_here stops resume_stage.Acknowledge e = absurd cc
-resumes_here stops resume_stage.LoadPhase e = absurd cc
-resumes_here stops resume_stage.LoadGeneration e = absurd cc
-resumes_here stops resume_stage.LoadBegun e = absurd cc
-resumes_here stops resume_stage.Ended e = absurd cc
+resumes_here stops _ e = absurd cc
 
 module _ (p : Polling) where
   polls_here : (q : PollStage) → not_gone (polls_at p q)
-  polls_here poll_stage.LoadPhase e = absurd cc
-  polls_here (poll_stage.Giving g stops) e = absurd cc
   polls_here (poll_stage.Resuming r) e = resumes_here r.stops r.stage e
-  polls_here (poll_stage.Marking g m) e = absurd cc
-  polls_here (poll_stage.FindRoom r) e = absurd cc
-  polls_here poll_stage.Ended e = absurd cc
+  polls_here _ e = absurd cc
 
   wait_here : (x : Wait) (q : WaitStage) → not_gone (waits_at (waiting x p) q)
   wait_here x wait_stage.Want e = absurd cc
@@ -67,16 +60,11 @@ module _ (p : Polling) where
   -- it is gone where it has left, and nowhere else
   pub gone_left : (t : Task) → SoundAt p t → stage_at p t ≡ Gone → t ≡ task.Left
   gone_left task.Left s e = refl
-  gone_left task.Idle s e = absurd cc
-  gone_left (task.Load x) s e = absurd cc
-  gone_left (task.Store x) s e = absurd cc
-  gone_left (task.Global x) s e = absurd cc
-  gone_left (task.Register x) s e = absurd cc
   gone_left (task.New x) s e = absurd (new_here x.stage e)
   gone_left (task.Gc g x) s e = absurd (wait_here x x.stage e)
   gone_left task.Poll s e = absurd (polls_here p.stage e)
-  gone_left (task.End g) s e = absurd cc
   gone_left (task.Leave x) s e = absurd (leave_here x.stage s.busy e)
+  gone_left _ s e = absurd cc
 
   new_still : (q : NewStage) → SoundNewAt p q → WaitsStill q
   new_still (new.Wait x) s = s.1
@@ -86,15 +74,7 @@ module _ (p : Polling) where
   pub still : (t : Task) → SoundAt p t → TaskStill t
   still (task.New x) s = new_still x.stage s
   still (task.Gc g x) s = s.1
-  still task.Left s = tt
-  still task.Idle s = tt
-  still (task.Load x) s = tt
-  still (task.Store x) s = tt
-  still (task.Global x) s = tt
-  still (task.Register x) s = tt
-  still task.Poll s = tt
-  still (task.End g) s = tt
-  still (task.Leave x) s = tt
+  still _ s = tt
 
 -- A step of the coordinator.
 module _ (one : ChangesOneCell) (c : coord.Coordinating) (w : Words) (found : ℕ) (busy : coord.is_busy c.stage ≡ true) (told : found ≡ w (cell_of (coord.asks c))) where
@@ -127,14 +107,7 @@ module _ (one : ChangesOneCell) (c : coord.Coordinating) (w : Words) (found : �
   led task.Left here x = tt
   led (task.New y) here x = new_led (here (λ e. cc)) y.stage x
   led (task.Gc g y) here x = wait_led (here (λ e. cc)) y.known y.stage x
-  led task.Idle here x = calm (here (λ e. cc)) x
-  led (task.Load y) here x = calm (here (λ e. cc)) x
-  led (task.Store y) here x = calm (here (λ e. cc)) x
-  led (task.Global y) here x = calm (here (λ e. cc)) x
-  led (task.Register y) here x = calm (here (λ e. cc)) x
-  led task.Poll here x = calm (here (λ e. cc)) x
-  led (task.End g) here x = calm (here (λ e. cc)) x
-  led (task.Leave y) here x = calm (here (λ e. cc)) x
+  led _ here x = calm (here (λ e. cc)) x
 
 -- A step of a worker.
 module _ (one : ChangesOneCell) (w : Words) (seat : ℕ) where
@@ -164,17 +137,7 @@ module _ (one : ChangesOneCell) (w : Words) (seat : ℕ) where
 calm_marks : (c : coord.Coordinating) (w : Words) (p : CoordStage) → CalmAt c w p → leading.Marks p → ⊥
 calm_marks c w (LoadAck i) x y = y
 calm_marks c w LoadWant x y = y
-calm_marks c w (Stop st) x y = x
-calm_marks c w (Open o) x y = x
-calm_marks c w (Watch z) x y = x
-calm_marks c w (StopAgain st) x y = x
-calm_marks c w (Check z) x y = x
-calm_marks c w MarkOn x y = x
-calm_marks c w (Close z) x y = x
-calm_marks c w (Sweep z) x y = x
-calm_marks c w (Count z) x y = x
-calm_marks c w (Tell t) x y = x
-calm_marks c w Done x y = x
+calm_marks c w _ x y = x
 
 module _ (c : coord.Coordinating) (w : Words) (marks : leading.Marks c.stage) where
   abbrev no_calm : IsCalm c w → ⊥
@@ -190,13 +153,9 @@ module _ (c : coord.Coordinating) (w : Words) (marks : leading.Marks c.stage) wh
   polled (task.New y) b x = new_polled y.stage x
   polled (task.Gc g y) b x = refl
   polled task.Idle b x = absurd cc
-  polled (task.Load y) b x = absurd (no_calm x)
-  polled (task.Store y) b x = absurd (no_calm x)
-  polled (task.Global y) b x = absurd (no_calm x)
-  polled (task.Register y) b x = absurd (no_calm x)
   polled task.Poll b x = refl
-  polled (task.End g) b x = absurd (no_calm x)
   polled (task.Leave y) b x = refl
+  polled _ b x = absurd (no_calm x)
 
 -- Where all is told and the world is not stopped, it is calm.
 pub open_calm : (c : coord.Coordinating) (w : Words) (p : CoordStage) → ToldAt c w p → ((phase : RunPhase) → leading.post_at p ≡ Stopped phase → ⊥) → CalmAt c w p
@@ -208,32 +167,13 @@ open_calm c w (Tell t) x free = absurd (told t.stage x.1 (free run.Mark)) where
   told tell_stage.StoreTrigger y never = y
   told tell_stage.StoreSwept y never = y
   told tell_stage.Ended y never = y
-open_calm c w (Stop st) x free = absurd x
-open_calm c w (Open o) x free = absurd x
-open_calm c w (Watch z) x free = absurd x
-open_calm c w (StopAgain st) x free = absurd x
-open_calm c w (Check z) x free = absurd x
-open_calm c w MarkOn x free = absurd x
-open_calm c w (Close z) x free = absurd x
-open_calm c w (Sweep z) x free = absurd x
-open_calm c w (Count z) x free = absurd x
-open_calm c w Done x free = absurd x
+open_calm c w _ x free = absurd x
 
 -- the coordinator's number of cycles is that in the word while it is calm
 pub calm_begun : (c : coord.Coordinating) (w : Words) (p : CoordStage) → CalmAt c w p → leading.begun_at c.begun p ≡ c.begun
 calm_begun c w (LoadAck i) x = refl
 calm_begun c w LoadWant x = refl
-calm_begun c w (Stop st) x = absurd x
-calm_begun c w (Open o) x = absurd x
-calm_begun c w (Watch z) x = absurd x
-calm_begun c w (StopAgain st) x = absurd x
-calm_begun c w (Check z) x = absurd x
-calm_begun c w MarkOn x = absurd x
-calm_begun c w (Close z) x = absurd x
-calm_begun c w (Sweep z) x = absurd x
-calm_begun c w (Count z) x = absurd x
-calm_begun c w (Tell t) x = absurd x
-calm_begun c w Done x = absurd x
+calm_begun c w _ x = absurd x
 
 -- An operation begins where nobody asks for a cycle.
 module _ (shapes : List Shape) (l : Layout) (c : coord.Coordinating) (w : Words) (m : Processor) where
@@ -243,46 +183,16 @@ module _ (shapes : List Shape) (l : Layout) (c : coord.Coordinating) (w : Words)
   -- what the processor knows of the phase is the same
   pub begun_view : (o : Op) → (begins shapes m o).poll.local.view ≡ m.poll.local.view
   begun_view (op.New g d t) = refl
-  begun_view (op.Load g d b k) = refl
-  begun_view (op.Store g b k v) = refl
-  begun_view (op.GetGlobal g d k) = refl
-  begun_view (op.SetGlobal g k v) = refl
-  begun_view (op.Int g d n) = refl
-  begun_view (op.Move g d s) = refl
-  begun_view (op.Nil g d) = refl
-  begun_view (op.Gc g) = refl
-  begun_view op.Poll = refl
-  begun_view (op.End g) = refl
-  begun_view op.Leave = refl
+  begun_view _ = refl
 
   pub begins_fit : (o : Op) → IsCalm c w → m.poll.local.view.begun ≡ w cell.Swept → TaskFits c w (begins shapes m o).task
-  begins_fit (op.New g d t) x known = x
-  begins_fit (op.Load g d b k) x known = x
-  begins_fit (op.Store g b k v) x known = x
-  begins_fit (op.GetGlobal g d k) x known = x
-  begins_fit (op.SetGlobal g k v) x known = x
-  begins_fit (op.Int g d n) x known = x
-  begins_fit (op.Move g d s) x known = x
-  begins_fit (op.Nil g d) x known = x
   begins_fit (op.Gc g) x known = (x, known)
-  begins_fit op.Poll x known = x
-  begins_fit (op.End g) x known = x
-  begins_fit op.Leave x known = x
+  begins_fit _ x known = x
 
   -- no operation begins with a load of the number of swept cycles
   pub begins_unread : (o : Op) → TaskReads (begins shapes m o).task → ⊥
-  begins_unread (op.New g d t) x = x
-  begins_unread (op.Load g d b k) x = x
-  begins_unread (op.Store g b k v) x = x
-  begins_unread (op.GetGlobal g d k) x = x
-  begins_unread (op.SetGlobal g k v) x = x
-  begins_unread (op.Int g d n) x = x
-  begins_unread (op.Move g d s) x = x
-  begins_unread (op.Nil g d) x = x
   begins_unread (op.Gc g) x = absurd cc
-  begins_unread op.Poll x = x
-  begins_unread (op.End g) x = x
-  begins_unread op.Leave x = x
+  begins_unread _ x = x
 
 -- where a number of swept cycles is read, it asks for that, and is awake
 module _ (m : Processor) where
@@ -304,15 +214,7 @@ module _ (m : Processor) where
     gc_reads wait_stage.Want e = absurd cc
     gc_reads wait_stage.Polling e = absurd cc
     gc_reads wait_stage.Ended e = absurd cc
-  reads task.Left e = absurd e
-  reads task.Idle e = absurd e
-  reads (task.Load x) e = absurd e
-  reads (task.Store x) e = absurd e
-  reads (task.Global x) e = absurd e
-  reads (task.Register x) e = absurd e
-  reads task.Poll e = absurd e
-  reads (task.End g) e = absurd e
-  reads (task.Leave x) e = absurd e
+  reads _ e = absurd e
 
   -- it searches awake, and knows then what it keeps
   new_awake : (q : NewStage) → Searches q → IsAwake (new_stage_at m.poll q) × (new_party_at m.poll q ≡ knower m.poll)
@@ -322,16 +224,7 @@ module _ (m : Processor) where
 
   pub awake : (t : Task) → TaskSearches t → IsAwake (stage_at m.poll t) × (party_at m.poll t ≡ knower m.poll)
   awake (task.New x) y = new_awake x.stage y
-  awake (task.Gc g x) y = absurd y
-  awake task.Left y = absurd y
-  awake task.Idle y = absurd y
-  awake (task.Load x) y = absurd y
-  awake (task.Store x) y = absurd y
-  awake (task.Global x) y = absurd y
-  awake (task.Register x) y = absurd y
-  awake task.Poll y = absurd y
-  awake (task.End g) y = absurd y
-  awake (task.Leave x) y = absurd y
+  awake _ y = absurd y
 
 new_calm : (c : coord.Coordinating) (w : Words) (q : NewStage) → Searches q → NewFits c w q → IsCalm c w
 new_calm c w (new.Search waited s) x y = y
@@ -340,13 +233,4 @@ new_calm c w (new.Place p) y z = absurd y
 
 pub search_calm : (c : coord.Coordinating) (w : Words) (t : Task) → TaskSearches t → TaskFits c w t → IsCalm c w
 search_calm c w (task.New x) y z = new_calm c w x.stage y z
-search_calm c w (task.Gc g x) y z = absurd y
-search_calm c w task.Left y z = absurd y
-search_calm c w task.Idle y z = absurd y
-search_calm c w (task.Load x) y z = absurd y
-search_calm c w (task.Store x) y z = absurd y
-search_calm c w (task.Global x) y z = absurd y
-search_calm c w (task.Register x) y z = absurd y
-search_calm c w task.Poll y z = absurd y
-search_calm c w (task.End g) y z = absurd y
-search_calm c w (task.Leave x) y z = absurd y
+search_calm c w _ y z = absurd y

@@ -65,14 +65,7 @@ module _ (c : Coordinating) (w v : Words) (want : v cell.Want ≡ w cell.Want) (
   fits_so (task.New x) y = new_so x.stage y
   fits_so (task.Gc g x) y = wait_so x.known x.stage y
   fits_so task.Left y = y
-  fits_so task.Idle y = calm_so c w v want swept y
-  fits_so (task.Load x) y = calm_so c w v want swept y
-  fits_so (task.Store x) y = calm_so c w v want swept y
-  fits_so (task.Global x) y = calm_so c w v want swept y
-  fits_so (task.Register x) y = calm_so c w v want swept y
-  fits_so task.Poll y = calm_so c w v want swept y
-  fits_so (task.End g) y = calm_so c w v want swept y
-  fits_so (task.Leave x) y = calm_so c w v want swept y
+  fits_so _ y = calm_so c w v want swept y
 
 -- What the steps of a task rest on: a wait goes on; a slot is searched for; the number of the last swept cycle is read.
 

@@ -80,14 +80,7 @@ watch_goes l w found f = subst (λ (k : Layout). FitsWatching k (watch.goes w fo
 
 page_stays : (m : sweep.Sweeping) (p : SweepStage) (found : ℕ) → (sweep.goes_at m p found).page ≡ m.page
 page_stays m span.Begin found = refl
-page_stays m (span.LoadMarks i) found = refl
-page_stays m (span.ClearBits i marks) found = refl
-page_stays m (span.ClearMarks i) found = refl
-page_stays m span.AddTally found = refl
-page_stays m span.AddLive found = refl
-page_stays m span.AddHeap found = refl
-page_stays m span.Finish found = refl
-page_stays m span.Ended found = refl
+page_stays m _ found = refl
 
 span_goes : (l : Layout) (m : sweep.Sweeping) (found : ℕ) → FitsSpan l m → FitsSpan l (sweep.goes m found)
 span_goes l m found f = (sweep_ends.stays m found ∙ f.0, subst (λ (p : ℕ). p < l.pages) (sym (page_stays m m.stage found)) f.1)
@@ -157,11 +150,8 @@ span_within m p f = go p where
   go (span.LoadMarks i) = word i
   go (span.ClearBits i marks) = word i
   go (span.ClearMarks i) = word i
-  go span.AddTally = tt
-  go span.AddLive = tt
-  go span.AddHeap = tt
   go span.Finish = f
-  go span.Ended = tt
+  go _ = tt
 
 pub all_within : (s : all.SweepingAll) (p : SweepAllStage) → FitsSpans s.layout p → InRange s.layout (cell_of (all.asks_at s p))
 all_within s (all_stage.LoadPage p) f = f
@@ -173,16 +163,7 @@ all_within s all_stage.Ended f = tt
 
 pub open_within : (l : Layout) (o : opens.CycleOpening) (p : OpenStage) → InRange l (cell_of (opens.asks_at o p))
 open_within l o open_stage.ClearWant = tt
-open_within l o open_stage.ClearGcur = tt
-open_within l o open_stage.ClearTally = tt
-open_within l o open_stage.ClearLive = tt
-open_within l o open_stage.StoreTrigger = tt
-open_within l o open_stage.LoadHeap = tt
-open_within l o open_stage.StoreWork = tt
-open_within l o open_stage.StoreSlack = tt
-open_within l o open_stage.StoreBegun = tt
-open_within l o open_stage.StorePhase = tt
-open_within l o open_stage.Ended = tt
+open_within l o _ = tt
 
 pub close_within : (l : Layout) (c : close.Closing) (p : CloseStage) → InRange l (cell_of (close.asks_at c p))
 close_within l c close_stage.LoadBank = tt

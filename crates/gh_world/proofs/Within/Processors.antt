@@ -8,7 +8,7 @@ use Rattle.gh_mutator.specs.Facts.{MayBegin}
 use Rattle.gh_world.specs.declared.handshake.Actor.TheVariants as actor
 use Rattle.gh_world.specs.Actors.{MayStep}
 use Rattle.gh_world.specs.Handshake as handshake
-use Rattle.gh_world.proofs.Vocabulary.{acks_of, actors, Arena, arena, Ask, asks, Begins, by, cell_of, Check, Close, Coordinating, CoordStage, Count, Done, Entry, Fine, Good, Heap, HoldsAt, InRange, is_busy, is_busy_at, IsAsItShould, IsHeapOf, IsLed, IsParked, IsQuiet, IsTelling, Kind, Layout, Legal, LoadAck, LoadWant, made_by, MarkOn, may_of, Op, Open, Pacing, PackedWordsAreReadBack, Processor, processor_at, processor_kind, RunPhase, Shape, ShapesAreGood, Sound, stage_of, started, state_of, Stop, StopAgain, Stopped, Sweep, Tell, TellStage, those, view, Watch}
+use Rattle.gh_world.proofs.Vocabulary.{acks_of, actors, Arena, arena, Ask, asks, Begins, by, cell_of, Check, Close, Coordinating, CoordStage, Count, Entry, Fine, Good, Heap, HoldsAt, InRange, is_busy, is_busy_at, IsAsItShould, IsHeapOf, IsLed, IsParked, IsQuiet, IsTelling, Kind, Layout, Legal, made_by, MarkOn, may_of, Op, Open, Pacing, PackedWordsAreReadBack, Processor, processor_at, processor_kind, RunPhase, Shape, ShapesAreGood, Sound, stage_of, started, state_of, StopAgain, Stopped, Sweep, Tell, TellStage, those, view, Watch}
 use Rattle.gh_world.proofs.AllActors.Beginning.{may-begin}
 use Rattle.gh_world.proofs.AllActors.Going.{goes_then, IsGoing}
 use Rattle.gh_world.proofs.AllActors.Known.{Known, ListsKnown}
@@ -106,9 +106,6 @@ module _ (shapes : List Shape) (l : Layout) (pacing : Pacing) (counts : ℕ → 
       told_within telling.Ended h = absurd h
 
       within_at : (p : CoordStage) → c.stage ≡ p → IsGoing p → (leading.Marks p → Marked shapes l pacing may es c) → HoldsAt shapes l pacing may es c p → IsWithin o
-      within_at (LoadAck i) at going marked q = quiet_within q
-      within_at LoadWant at going marked q = quiet_within q
-      within_at (Stop st) at going marked q = quiet_within q
       within_at (Open x) at going marked h = by_rights h.0.heap h.0.of_list h.0.good
       within_at (Watch w) at going marked h = marked_within (marked tt)
       within_at (StopAgain st) at going marked h = marked_within (marked tt)
@@ -118,7 +115,7 @@ module _ (shapes : List Shape) (l : Layout) (pacing : Pacing) (counts : ℕ → 
       within_at (Sweep w) at going marked h = at_stop legal c phases.Mark led (ap leading.post_at at)
       within_at (Count x) at going marked h = quiet_within h.0
       within_at (Tell t) at going marked h = told_within t.stage h
-      within_at Done at going marked q = quiet_within q
+      within_at _ at going marked q = quiet_within q
 
       pub steps_within : (leading.Marks c.stage → Marked shapes l pacing may es c) → HoldsAt shapes l pacing may es c c.stage → IsWithin o
       steps_within marked h = within_at c.stage refl (goes_then shapes l pacing may es c led) marked h

@@ -53,11 +53,8 @@ phase_stays r number None = stopped_stays r number (number == r.stops)
 phase_stays r number (Some x) = refl
 
 seat_stays : (r : resume.Resuming) (p : ResumeStage) (found : ℕ) → (resume.goes_at r p found).seat ≡ r.seat
-seat_stays r resume_at.Acknowledge found = refl
 seat_stays r resume_at.LoadPhase found = phase_stays r (phase_of found).stops (run_phase (phase_of found).phase)
-seat_stays r resume_at.LoadGeneration found = refl
-seat_stays r resume_at.LoadBegun found = refl
-seat_stays r resume_at.Ended found = refl
+seat_stays r _ found = refl
 
 resume_within : (l : Layout) (r : resume.Resuming) → r.seat < l.procs + l.workers → InRange l (cell_of (resume.asks r))
 resume_within l r lt = by r.stage where
@@ -166,18 +163,15 @@ module _ (w : Working) (f : FitsWhole w) where
   goes_at at.Done found s = f
 
   within_at : (p : WorkerStage) → StageWithin l p → InRange l (cell_of (worker.asks_at w p))
-  within_at at.LoadPhase s = tt
   within_at (at.GiveBack g stops) s = give_within l g s
   within_at (at.Resuming r) s = resume_within l r s
   within_at (at.Taking t) s = take_within l t s
   within_at (at.Scanning x) s = scan_within l x s
-  within_at at.LoadCursor s = tt
-  within_at at.Claim s = tt
   within_at (at.LoadGlobal i) s = s
   within_at (at.Shading sh) s = shade_within l sh s
   within_at (at.FindRoom sh r) s = room_within l r s.1
   within_at at.Leave s = f.seat.below
-  within_at at.Done s = tt
+  within_at _ s = tt
 
 pub goes_on : (w : Working) (found : ℕ) → FitsWhole w → FitsWhole (worker.goes w found)
 goes_on w found f = goes_at w f w.stage found f.stage
