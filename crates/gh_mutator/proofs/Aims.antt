@@ -1,6 +1,6 @@
 -- Which of the steps that laws of polls and waits ask for each routine makes.
 use Rattle.std.proofs.Common.{◌≡◌, ℕ, Bool, true, false, Option, Some, None, refl, sym, ap, ◌∙◌}
-use Rattle.gh_base.specs.declared.cell.Ask.TheVariants.{Load, Store, Or, Swap}
+use Rattle.gh_base.specs.declared.cell.Ask.TheVariants.{Or}
 use Rattle.gh_base.specs.declared.cell.Cell.TheVariants.{Swept, Mark, Buffer, Ack, Scanned}
 use Rattle.gh_phase.specs.declared.resume.ResumeStage.TheVariants as resume_stage
 use Rattle.gh_phase.specs.Listing as resume
@@ -9,17 +9,16 @@ use Rattle.gh_shade.specs.Listing as shade
 use Rattle.gh_stack.specs.declared.scan_stack.StackStage.TheVariants as stack_stage
 use Rattle.gh_stack.specs.Listing as stack
 use Rattle.gh_wbuf.specs.declared.find_room.RoomStage.TheVariants as room_stage
-use Rattle.gh_wbuf.specs.declared.give_buffer.GiveStage.{GiveStage as BufferStage}
 use Rattle.gh_wbuf.specs.declared.give_buffer.GiveStage.TheVariants as buffer_stage
 use Rattle.gh_wbuf.specs.declared.try_buffer.TryStage.TheVariants as try_stage
 use Rattle.gh_wbuf.specs.BufferGiving as buffer
 use Rattle.gh_wbuf.specs.RoomFinding as room
 use Rattle.gh_wbuf.specs.Trying as try
-use Rattle.gh_mutator.specs.Collecting.{Ask, Held, ResumeStage, ShadeStage, StackStage, RoomStage, TryStage, GiveStage, MarkStackStage}
 use Rattle.gh_mutator.specs.declared.give.GiveStage.TheVariants as give_stage
 use Rattle.gh_mutator.specs.declared.mark_stack.MarkStackStage.TheVariants as mark_stage
 use Rattle.gh_mutator.specs.Give as give
 use Rattle.gh_mutator.specs.MarkStack as mark
+use Rattle.gh_mutator.proofs.Vocabulary.{Ask, BufferStage, GiveStage, Held, Load, MarkStackStage, ResumeStage, RoomStage, ShadeStage, StackStage, Store, Swap, TryStage}
 
 -- it acknowledges a stop, tells that a stack is scanned, sets a mark bit, takes a buffer, or loads the last swept cycle
 pub data Aim : Type 0 where
@@ -44,11 +43,8 @@ buffer_aim (buffer_stage.Give h) = refl
 buffer_aim buffer_stage.Ended = refl
 
 pub give_aim : (g : give.Giving) (stage : GiveStage) → aim (give.asks_at g stage) ≡ Else
-give_aim g give_stage.Lock = refl
-give_aim g (give_stage.GiveSpan class s) = refl
-give_aim g give_stage.Unlock = refl
 give_aim g (give_stage.GiveBuffer b) = buffer_aim b.stage
-give_aim g give_stage.Ended = refl
+give_aim g _ = refl
 
 -- going on after a stop acknowledges, for its seat
 abbrev pub is_ack : Aim → Bool
@@ -58,17 +54,11 @@ is_ack _ = false
 
 pub resume_aim : (r : resume.Resuming) (stage : ResumeStage) → is_ack (aim (resume.asks_at r stage)) ≡ true
 resume_aim r resume_stage.Acknowledge = refl
-resume_aim r resume_stage.LoadPhase = refl
-resume_aim r resume_stage.LoadGeneration = refl
-resume_aim r resume_stage.LoadBegun = refl
-resume_aim r resume_stage.Ended = refl
+resume_aim r _ = refl
 
 pub resume_ack : (r : resume.Resuming) (stage : ResumeStage) (i number : ℕ) → resume.asks_at r stage ≡ Store (Ack i) number → i ≡ r.seat
 resume_ack r resume_stage.Acknowledge i number e = let is : r.seat ≡ i = cc in sym is
-resume_ack r resume_stage.LoadPhase i number e = absurd (cc)
-resume_ack r resume_stage.LoadGeneration i number e = absurd (cc)
-resume_ack r resume_stage.LoadBegun i number e = absurd (cc)
-resume_ack r resume_stage.Ended i number e = absurd (cc)
+resume_ack r _ i number e = absurd (cc)
 
 -- the search for room takes buffers
 abbrev pub is_take : Aim → Bool
@@ -102,11 +92,8 @@ enters_aim reference None = refl
 enters_aim reference (Some h) = refl
 
 pub shade_aim : (s : shade.Shading) (stage : ShadeStage) → is_mark (aim (shade.asks_at s stage)) ≡ true
-shade_aim s shade_stage.LoadPage = refl
-shade_aim s (shade_stage.SetMark noscan) = refl
-shade_aim s shade_stage.WaitForRoom = refl
 shade_aim s shade_stage.Enter = enters_aim s.reference s.held
-shade_aim s shade_stage.Ended = refl
+shade_aim s _ = refl
 
 -- and the scan of a stack does all that marking does
 abbrev pub is_marking : Aim → Bool

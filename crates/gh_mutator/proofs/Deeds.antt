@@ -1,6 +1,6 @@
 -- Each operation of the processor acts once before it ends, and only those with a point change the heap that never frees.
 use Rattle.std.proofs.Common.{◌≡◌, ℕ, ◌+◌, Bool, true, false, cond, ltb, is_some, List, refl, sym, ap, ◌∙◌, Option, Some, None}
-use Rattle.gh_mutator.specs.Vocabulary.{Layout, Op, Shape, Value, Found, At, NoRoom, Leaving, PlaceStage, Placing, Polling, Seeking, Global, LoadStage, NewStage, Search, Wait, Place, Waiting, Wanted, Processor, StoreStage, Task}
+use Rattle.gh_mutator.specs.Vocabulary.{Polling}
 use Rattle.gh_base.specs.declared.operation.Op.TheVariants as op
 use Rattle.gh_base.specs.declared.pack.SpanHead.{SpanHead}
 use Rattle.gh_base.specs.declared.value.Answer.TheVariants as answer
@@ -12,28 +12,25 @@ use Rattle.gh_alloc.specs.declared.place.PlaceStage.TheVariants as making
 use Rattle.gh_alloc.specs.Place as place
 use Rattle.gh_alloc.specs.Search as search
 use Rattle.gh_model.specs.Ever.{Ever}
-use Rattle.gh_mutator.specs.declared.global.GlobalStage.{GlobalStage}
 use Rattle.gh_mutator.specs.declared.global.GlobalStage.TheVariants as global_stage
 use Rattle.gh_mutator.specs.declared.load.Load.{Load}
 use Rattle.gh_mutator.specs.declared.load.LoadStage.TheVariants as load_stage
-use Rattle.gh_mutator.specs.declared.step.Step.{Step}
 use Rattle.gh_mutator.specs.declared.store.Store.{Store}
 use Rattle.gh_mutator.specs.declared.store.StoreStage.TheVariants as store_stage
 use Rattle.gh_mutator.specs.declared.task.Task.TheVariants as task
 use Rattle.gh_mutator.specs.Acting.{ActsOnce, EachOperationActsOnce}
-use Rattle.gh_mutator.specs.Deeds.{OnlyPointsChange, ProcessorsDeedsFit, acted, deeds, has_point, meaning, point_of, pointed, processor_kind}
+use Rattle.gh_mutator.specs.Deeds.{OnlyPointsChange, ProcessorsDeedsFit, acted, deeds, has_point, meaning, point_of, pointed}
 use Rattle.gh_mutator.specs.Fields.{has_field, is_pointer_by, kinds_differ, takes as takes_value, value_of}
 use Rattle.gh_mutator.specs.Global as global
 use Rattle.gh_mutator.specs.Leave as leave
-use Rattle.gh_mutator.specs.Listing.{Act, acting, acts, acts_at, after_gc, after_leave, after_poll, begins, begins_at, follows, is_busy_at, op_at, takes, takes_at}
+use Rattle.gh_mutator.specs.Listing.{Act, acting, acts, acts_at, begins_at, op_at}
 use Rattle.gh_mutator.specs.Load as load
-use Rattle.gh_mutator.specs.New.{after_place, after_search, after_wait, op_of as new_op, refuses, searches, unacted}
+use Rattle.gh_mutator.specs.New.{op_of as new_op, refuses, searches, unacted}
 use Rattle.gh_mutator.specs.Poll as poll
-use Rattle.gh_mutator.specs.Processor.{cache_span, register_of}
-use Rattle.gh_mutator.specs.Serving.{has_left_at}
 use Rattle.gh_mutator.specs.Step.{ends, goes_on}
 use Rattle.gh_mutator.specs.Store as store
 use Rattle.gh_mutator.specs.Wait as wait
+use Rattle.gh_mutator.proofs.Vocabulary.{after_gc, after_leave, after_place, after_poll, after_search, after_wait, At, begins, cache_span, follows, Found, Global, GlobalStage, has_left_at, is_busy_at, Layout, Leaving, LoadStage, NewStage, NoRoom, Op, Place, PlaceStage, Placing, Processor, processor_kind, register_of, Search, Seeking, Shape, Step, StoreStage, takes, takes_at, Task, Value, Wait, Waiting, Wanted}
 
 -- ---- a step of a statement acts once
 
@@ -114,7 +111,6 @@ module _ (shapes : List Shape) (m : Processor) where
     go : (b : Bool) → PlaceActs w p (making.Clear k) (cond b (making.Clear (k + 1)) making.Birth)
     go true = refl
     go false = refl
-  place_acts w p found making.Birth = refl
   place_acts w p found (making.Bits s) = go (bits.is_busy (bits.goes s found).stage) refl where
     go : (b : Bool) → bits.is_busy (bits.goes s found).stage ≡ b → PlaceActs w p (making.Bits s) (cond b (making.Bits (bits.goes s found)) (place.filled p.marking))
     go true e = rw e refl
@@ -127,9 +123,7 @@ module _ (shapes : List Shape) (m : Processor) where
     go : (s : Option SpanHead) → PlaceActs w p making.Alloc (place.made p s)
     go None = (refl, refl)
     go (Some h) = (refl, refl)
-  place_acts w p found (making.Give g) = refl
-  place_acts w p found making.Count = refl
-  place_acts w p found making.Ended = refl
+  place_acts w p found _ = refl
 
   new_acts : (w : Wanted) (s : NewStage) (found : ℕ) → ActsAt (task.New (record { wanted = w; stage = s })) found
   new_acts w (Search waited s) found = search_acts w waited s found
@@ -180,31 +174,15 @@ set_global_to_act g k v (value.Int n) = refl
 set_global_to_act g k v (value.Ref r) = refl
 
 to_act : (shapes : List Shape) (m : Processor) (o : Op) → is_busy_at (begins_at shapes m o) ≡ true → op_at (begins_at shapes m o) ≡ Some o
-to_act shapes m (op.New g d t) busy = refl
 to_act shapes m (op.Load g d b k) busy = load_to_act g d b k (register_of m g b)
 to_act shapes m (op.Store g b k v) busy = store_to_act g b k v (register_of m g b)
-to_act shapes m (op.GetGlobal g d k) busy = refl
 to_act shapes m (op.SetGlobal g k v) busy = set_global_to_act g k v (register_of m g v)
-to_act shapes m (op.Int g d n) busy = refl
-to_act shapes m (op.Move g d s) busy = refl
-to_act shapes m (op.Nil g d) busy = refl
-to_act shapes m (op.Gc g) busy = refl
-to_act shapes m op.Poll busy = refl
-to_act shapes m (op.End g) busy = refl
-to_act shapes m op.Leave busy = refl
+to_act shapes m _ busy = refl
 
 none_at_rest : (t : Task) → is_busy_at t ≡ false → op_at t ≡ None
 none_at_rest task.Idle idle = refl
 none_at_rest task.Left idle = refl
-none_at_rest (task.Load x) idle = absurd (cc)
-none_at_rest (task.Store x) idle = absurd (cc)
-none_at_rest (task.Global x) idle = absurd (cc)
-none_at_rest (task.Register x) idle = absurd (cc)
-none_at_rest (task.New x) idle = absurd (cc)
-none_at_rest (task.Gc g x) idle = absurd (cc)
-none_at_rest task.Poll idle = absurd (cc)
-none_at_rest (task.End g) idle = absurd (cc)
-none_at_rest (task.Leave x) idle = absurd (cc)
+none_at_rest _ idle = absurd (cc)
 
 -- ---- those with a point
 

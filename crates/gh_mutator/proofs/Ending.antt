@@ -43,17 +43,12 @@ from_step most into t (GoesOn y) plain is some h = record { plain = plain y; few
 
 module _ (shapes : List Shape) where
   fewer_at : (m : Processor) (t : Task) (found : ℕ) → is_long t ≡ false → is_busy_at t ≡ true → Fewer t (takes_at shapes m t found).task
-  fewer_at m task.Idle found plain busy = absurd (cc)
-  fewer_at m task.Left found plain busy = absurd (cc)
   fewer_at m (task.Load x) found plain busy = let h = load.nears m.poll.layout x found in from_step load.left task.Load (task.Load x) _ (λ y. refl) (λ y. refl) h.0 h.1
   fewer_at m (task.Store x) found plain busy = let h = store.nears m.poll.layout (register_of m x.g x.v) x found in from_step store.left task.Store (task.Store x) _ (λ y. refl) (λ y. refl) h.0 h.1
   fewer_at m (task.Global x) found plain busy = let h = global.nears m.poll.layout (register_of m x.g x.r) x found in from_step global.left task.Global (task.Global x) _ (λ y. refl) (λ y. refl) h.0 h.1
   fewer_at m (task.Register x) found plain busy = record { plain = refl; fewer = omega arith }
-  fewer_at m (task.New x) found plain busy = absurd (cc)
-  fewer_at m (task.Gc g x) found plain busy = absurd (cc)
-  fewer_at m task.Poll found plain busy = absurd (cc)
   fewer_at m (task.End g) found plain busy = record { plain = refl; fewer = omega arith }
-  fewer_at m (task.Leave x) found plain busy = absurd (cc)
+  fewer_at m _ found plain busy = absurd (cc)
 
 -- one step more
 later : (most : ℕ) (m : Mutating) (found : ℕ → ℕ) → EndsWithin listing most (goes m (found 0)) (λ i. found (suc i)) → EndsWithin listing (suc most) m found
@@ -78,15 +73,11 @@ begins_few : (shapes : List Shape) (m : Processor) (o : Op) → may_wait o ≡ f
 begins_few shapes m (op.New g d t) h = absurd (cc)
 begins_few shapes m (op.Load g d b k) h = (refl, load.begins_left g d b k (register_of m g b))
 begins_few shapes m (op.Store g b k v) h = (refl, store.begins_left g b k v (register_of m g b))
-begins_few shapes m (op.GetGlobal g d k) h = (refl, omega arith)
 begins_few shapes m (op.SetGlobal g k v) h = (refl, global.begins_store_left g k v (register_of m g v))
-begins_few shapes m (op.Int g d n) h = (refl, omega arith)
-begins_few shapes m (op.Move g d s) h = (refl, omega arith)
-begins_few shapes m (op.Nil g d) h = (refl, omega arith)
 begins_few shapes m (op.Gc g) h = absurd (cc)
 begins_few shapes m op.Poll h = absurd (cc)
-begins_few shapes m (op.End g) h = (refl, omega arith)
 begins_few shapes m op.Leave h = absurd (cc)
+begins_few shapes m _ h = (refl, omega arith)
 
 pub operations_end : OperationsEnd
 operations_end m o found h = let few = begins_few m.shapes m.processor o h in ends_within (most_steps o) (begins m o) found few.0 few.1

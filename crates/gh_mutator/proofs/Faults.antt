@@ -1,27 +1,25 @@
 -- A statement that is answered a fault has loaded words alone, and has changed nothing of the processor.
 use Rattle.std.proofs.Common.{◌≡◌, ℕ, zero, suc, ◌≤◌, Bool, true, false, cond, List, refl, sym, ap, ◌∙◌, Option, Some, None, arith}
-use Rattle.gh_mutator.specs.Vocabulary.{Op, Shape, Answer, Name, Value, Found, At, NoRoom, Leaving, Placing, Polling, Seeking, NewStage, Search, Wait, Place, Waiting, Wanted, Processor, Step, Then, GoesOn, Ends, Task}
+use Rattle.gh_mutator.specs.Vocabulary.{Answer, Polling}
 use Rattle.gh_base.specs.declared.operation.Op.TheVariants as op
 use Rattle.gh_base.specs.declared.value.Answer.TheVariants as answer
 use Rattle.gh_base.specs.declared.value.Fault.{Fault as Cause}
 use Rattle.gh_alloc.specs.Place as place
 use Rattle.gh_alloc.specs.Search as search
 use Rattle.gh_mutator.specs.declared.task.Task.TheVariants as task
-use Rattle.gh_mutator.specs.Faults.{FaultsChangeNothing, is_load, rested}
+use Rattle.gh_mutator.specs.Faults.{FaultsChangeNothing, is_load}
 use Rattle.gh_mutator.specs.Global as global_listing
 use Rattle.gh_mutator.specs.Leave as leave
-use Rattle.gh_mutator.specs.Listing.{after_gc, after_leave, after_poll, applied, asks_at, begins_at, begun_with, follows, gives_at, once_ended, takes_at}
+use Rattle.gh_mutator.specs.Listing.{begins_at, once_ended}
 use Rattle.gh_mutator.specs.Load as load_listing
 use Rattle.gh_mutator.specs.Mutating.{begins, gives, goes, listing, marks_after, Mutating}
-use Rattle.gh_mutator.specs.New.{after_search, after_wait, answer_search, makes}
 use Rattle.gh_mutator.specs.New as new
 use Rattle.gh_mutator.specs.Poll as poll
-use Rattle.gh_mutator.specs.Processor.{at_poll, at_task, cache_span, register_of, taking}
 use Rattle.gh_mutator.specs.Serving.{answer_at, is_serving}
 use Rattle.gh_mutator.specs.Step.{answered}
 use Rattle.gh_mutator.specs.Store as store_listing
 use Rattle.gh_mutator.specs.Wait as wait
-use Rattle.gh_base.specs.Routines.{told}
+use Rattle.gh_mutator.proofs.Vocabulary.{after_gc, after_leave, after_poll, after_search, after_wait, answer_search, applied, asks_at, At, at_poll, at_task, begun_with, cache_span, Ends, follows, Found, gives_at, GoesOn, Leaving, makes, Name, NewStage, NoRoom, Op, Place, Placing, Processor, register_of, rested, Search, Seeking, Shape, Step, takes_at, taking, Task, Then, told, Value, Wait, Waiting, Wanted}
 use Rattle.gh_mutator.proofs.GlobalSteps as global
 use Rattle.gh_mutator.proofs.LoadSteps as load
 use Rattle.gh_mutator.proofs.Steps.{FaultsFrom, GoesTo}
@@ -103,17 +101,14 @@ leave_faults n m t x (Some y) = none_at n t _ _ (λ cause e. absurd (cc)) refl
 
 module _ (shapes : List Shape) where
   faults_at : (m : Processor) (t : Task) (found : ℕ) → FaultsAt m t (takes_at shapes (at_task m t) t found) (gives_at (at_task m t) t found)
-  faults_at m task.Idle found = none_at m _ _ _ (λ cause e. absurd (cc)) refl
-  faults_at m task.Left found = none_at m _ _ _ (λ cause e. absurd (cc)) refl
   faults_at m (task.Load x) found = from_step load.may_fault task.Load m x.g x.d x (load_listing.step m.poll.layout x found) (λ y. refl) (load.faults m.poll.layout x found)
   faults_at m (task.Store x) found = from_step store.may_fault task.Store m x.g x.v x (store_listing.step m.poll.layout (register_of m x.g x.v) x found) (λ y. refl) (store.faults m.poll.layout (register_of m x.g x.v) x found)
   faults_at m (task.Global x) found = from_step global.may_fault task.Global m x.g x.r x (global_listing.step m.poll.layout (register_of m x.g x.r) x found) (λ y. refl) (global.faults m.poll.layout (register_of m x.g x.r) x found)
-  faults_at m (task.Register x) found = none_at m _ _ _ (λ cause e. absurd (cc)) refl
   faults_at m (task.New x) found = new_faults shapes m (at_task m (task.New x)) (task.New x) x.wanted x.stage found
   faults_at m (task.Gc g x) found = gc_faults m (at_task m (task.Gc g x)) (task.Gc g x) g (wait.goes (wait.waiting x m.poll) found) (wait.gives (wait.waiting x m.poll) found)
   faults_at m task.Poll found = poll_faults m (at_task m task.Poll) task.Poll (poll.goes m.poll found) (poll.gives m.poll found)
-  faults_at m (task.End g) found = none_at m _ _ _ (λ cause e. absurd (cc)) refl
   faults_at m (task.Leave x) found = leave_faults m (at_task m (task.Leave x)) (task.Leave x) (leave.goes x found) (leave.gives x found)
+  faults_at m _ found = none_at m _ _ _ (λ cause e. absurd (cc)) refl
 
 loads_at : (m : Processor) (t : Task) → may_fault t ≡ true → is_load (asks_at m t) ≡ true
 loads_at m (task.Load x) e = load.loads m.poll.layout x e

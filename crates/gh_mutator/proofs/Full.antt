@@ -1,29 +1,21 @@
 -- A `new` that is answered `full` has waited for a cycle, and has found no slot before and behind that.
 use Rattle.std.proofs.Common.{◌≡◌, ℕ, zero, suc, ◌<◌, ◌≤◌, Bool, true, false, not, cond, ltb, List, [], ◌∷◌, get_or, refl, sym, ap, ◌∙◌, subst, ◌⊎◌, inl, inr, Option, Some, None, arith}
-use Rattle.std.proofs.Math.ListN.{set}
-use Rattle.std.proofs.lemmas.Bool.{ltb-true}
-use Rattle.gh_base.specs.declared.cell.Ask.TheVariants.{Load}
 use Rattle.gh_base.specs.declared.cell.Cell.TheVariants as cell
 use Rattle.gh_base.specs.declared.operation.Op.TheVariants as op
 use Rattle.gh_base.specs.declared.value.Answer.TheVariants as answer
 use Rattle.gh_base.specs.declared.value.Value.TheVariants as value
 use Rattle.gh_alloc.specs.Place as place
 use Rattle.gh_alloc.specs.Search as search
-use Rattle.gh_alloc.specs.declared.sought.Sought.TheVariants.{Small, Large}
 use Rattle.gh_mutator.specs.declared.task.Task.TheVariants as task
-use Rattle.gh_mutator.specs.declared.wait.Wait.{Wait as WaitState}
-use Rattle.gh_mutator.specs.declared.wait.WaitStage.{WaitStage}
 use Rattle.gh_mutator.specs.declared.wait.WaitStage.TheVariants as wait_stage
-use Rattle.gh_mutator.specs.Faults.{rested}
-use Rattle.gh_mutator.specs.Full.{after, FullChangesLittle, HasWaited, is_looking, is_waiting}
-use Rattle.gh_mutator.specs.Listing.{gives_at, takes_at}
-use Rattle.gh_mutator.specs.Local.{cache_with, cached_in, stacks_with}
+use Rattle.gh_mutator.specs.Full.{after, FullChangesLittle, HasWaited, is_waiting}
+use Rattle.gh_mutator.specs.Local.{cached_in, stacks_with}
 use Rattle.gh_mutator.specs.Mutating.{asks, begins, gives, goes, listing, marks_after, Mutating}
-use Rattle.gh_mutator.specs.New.{after_search, after_wait, answer_search, gives_at as gives_new, makes, seeking, takes_at as takes_new, wanted_of}
-use Rattle.gh_mutator.specs.Processor.{at_poll, cache_span}
-use Rattle.gh_mutator.specs.Vocabulary.{At, CachedSpan, Found, Name, NewStage, NoRoom, Place, Placing, Polling, Processor, Search, Seeking, Shape, Sought, span_index, Task, Wait, Waiting, Wanted}
+use Rattle.gh_mutator.specs.New.{gives_at as gives_new, seeking, takes_at as takes_new}
+use Rattle.gh_mutator.specs.Vocabulary.{Polling}
 use Rattle.gh_mutator.specs.Wait as wait
 use Rattle.gh_mutator.specs.WaitEnds as wait_proved
+use Rattle.gh_mutator.proofs.Vocabulary.{after_search, after_wait, answer_search, At, at_poll, cache_span, cache_with, CachedSpan, Found, gives_at, is_looking, Large, Load, ltb-true, makes, Name, NewStage, NoRoom, Place, Placing, Processor, rested, Search, Seeking, set, Shape, Small, Sought, span_index, takes_at, Task, Wait, Waiting, WaitStage, WaitState, Wanted, wanted_of}
 use Rattle.gh_mutator.proofs.NewSteps.{search_wants}
 use Rattle.gh_mutator.proofs.Refusing.{KeptFor, kept, kept_first, refuses_none, search_looks}
 use Rattle.gh_mutator.proofs.Stacks.{wait_seat, wait_stacks}

@@ -1,3 +1,4 @@
+pub mod Vocabulary
 pub mod Aims
 mod Calm
 pub mod Changes

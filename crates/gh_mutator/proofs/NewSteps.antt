@@ -1,18 +1,13 @@
 -- Own steps of a new object: the search for its slot, the wait for a cycle, and the making of it.
 use Rattle.std.proofs.Common.{◌≡◌, ℕ, ◌+◌, ◌*◌, ◌<◌, ◌≤◌, Bool, true, false, cond, ltb, List, get_or, refl, sym, ◌∙◌, ap, subst, Option, Some, None, IsNone, arith}
-use Rattle.std.proofs.Math.ListN.{set}
-use Rattle.gh_mutator.specs.Vocabulary.{Layout, Shape, slots_of, CachedSpan, FindStage, Found, At, NoRoom, Sought, PlaceStage, Finding, Placing, Seeking, NewStage, Search, Wait, Place, Wanted, Waiting, Processor, Task}
 use Rattle.gh_base.specs.declared.value.Value.TheVariants as value
 use Rattle.gh_cache.specs.Listing as slots
 use Rattle.gh_central.specs.GiveBack as give
-use Rattle.gh_central.specs.Reclaim.{Reclaiming}
 use Rattle.gh_central.specs.Reclaim as reclaim
 use Rattle.gh_central.specs.SweptPass as pass
 use Rattle.gh_pages.specs.Listing as carve
 use Rattle.gh_alloc.specs.declared.find.FindStage.TheVariants as finding
-use Rattle.gh_alloc.specs.declared.search.SearchStage.{SearchStage}
 use Rattle.gh_alloc.specs.declared.search.SearchStage.TheVariants as search_stage
-use Rattle.gh_alloc.specs.declared.sought.Sought.TheVariants.{Small, Large}
 use Rattle.gh_alloc.specs.declared.place.PlaceStage.TheVariants as making
 use Rattle.gh_alloc.specs.SearchEnds as search_proved
 use Rattle.gh_alloc.specs.Find as find
@@ -20,18 +15,16 @@ use Rattle.gh_alloc.specs.Place as place
 use Rattle.gh_alloc.specs.Search as search
 use Rattle.gh_mutator.specs.declared.task.Task.TheVariants as task
 use Rattle.gh_mutator.specs.declared.new.New.{New}
-use Rattle.gh_mutator.specs.Listing.{takes, takes_at as takes_by}
-use Rattle.gh_mutator.specs.New.{after_found, after_search, after_wait, is_made, made_object, makes, placing, searches, seeking, takes_at, waits}
+use Rattle.gh_mutator.specs.New.{after_found, is_made, placing, searches, seeking, takes_at, waits}
 use Rattle.gh_mutator.specs.NewParts.{made_at, MakingFits}
-use Rattle.gh_mutator.specs.Processor.{at_poll, at_task, cache_span, cached_for, made_by, set_register}
+use Rattle.gh_mutator.specs.Processor.{cached_for, made_by, set_register}
 use Rattle.gh_mutator.specs.Sound.{most_objects, Sound, SoundSearch, SoundTask, SoundWanted}
 use Rattle.gh_mutator.specs.Wait as wait
 use Rattle.gh_mutator.specs.WaitEnds as wait_proved
-use Rattle.gh_mutator.specs.WaitSound.{FitsWait}
+use Rattle.gh_mutator.proofs.Vocabulary.{after_search, after_wait, At, at_poll, at_task, cache_span, CachedSpan, Finding, FindStage, FitsWait, Found, Large, Layout, made_object, makes, NewStage, NoRoom, Place, PlaceStage, Placing, Processor, read_after_set, Reclaiming, Search, SearchStage, Seeking, set, Shape, slots_of, Small, Sought, takes, takes_at as takes_by, Task, Wait, Waiting, Wanted}
 use Rattle.gh_mutator.proofs.Changes.{moved, polled, taken}
 use Rattle.gh_mutator.proofs.Stacks.{wait_stacks}
 use Rattle.gh_mutator.proofs.Waits.{wait_fits}
-use Rattle.gh_base.specs.Reading.{read_after_set}
 
 -- What the search keeps, and where the making of an object goes.
 
@@ -85,37 +78,21 @@ search_wants s found = search_wants_at s.find s.stage found
 
 -- an object that is not made yet was not made before
 unmade_before : (p : Placing) (q : PlaceStage) (found : ℕ) → is_made (place.goes_at p q found) ≡ false → is_made q ≡ false
-unmade_before p (making.Clear k) found e = refl
-unmade_before p making.Birth found e = refl
-unmade_before p (making.Bits s) found e = refl
-unmade_before p making.Mark found e = refl
-unmade_before p making.Alloc found e = refl
 unmade_before p (making.Give g) found e = absurd (cc)
 unmade_before p making.Count found e = absurd (cc)
 unmade_before p making.Ended found e = absurd (cc)
+unmade_before p _ found e = refl
 
 acts_unmade : (q : PlaceStage) → place.acts_at q ≡ true → is_made q ≡ false
 acts_unmade making.Alloc e = refl
-acts_unmade (making.Clear k) e = absurd (cc)
-acts_unmade making.Birth e = absurd (cc)
-acts_unmade (making.Bits s) e = absurd (cc)
-acts_unmade making.Mark e = absurd (cc)
-acts_unmade (making.Give g) e = absurd (cc)
-acts_unmade making.Count e = absurd (cc)
-acts_unmade making.Ended e = absurd (cc)
+acts_unmade _ e = absurd (cc)
 
 made_after : (p : Placing) (q : PlaceStage) (found : ℕ) → place.acts_at q ≡ true → is_made (place.goes_at p q found) ≡ true
 made_after p making.Alloc found e = by p.span where
   by : (s : Option _) → is_made (place.made p s) ≡ true
   by None = refl
   by (Some h) = refl
-made_after p (making.Clear k) found e = absurd (cc)
-made_after p making.Birth found e = absurd (cc)
-made_after p (making.Bits s) found e = absurd (cc)
-made_after p making.Mark found e = absurd (cc)
-made_after p (making.Give g) found e = absurd (cc)
-made_after p making.Count found e = absurd (cc)
-made_after p making.Ended found e = absurd (cc)
+made_after p _ found e = absurd (cc)
 
 -- ---- its numbers stay in their ranges
 

@@ -1,21 +1,20 @@
 -- A poll, step by step: that a stack which is due is scanned, and that the poll is counted.
 use Rattle.std.proofs.Common.{◌≡◌, ◌≢◌, ℕ, zero, suc, ◌+◌, ◌%◌, ◌^◌, ◌<◌, ◌≤◌, ◌⊎◌, Bool, true, false, cond, not, eqb, List, [], length, set, Option, Some, None, refl, sym, ap, subst, ◌∙◌, arith, inl, inr}
-use Rattle.std.specs.Prelude.{slice_index_or}
-use Rattle.std.proofs.lemmas.Bool.{eq-eqb, eqb-true}
-use Rattle.std.proofs.lemmas.Bool.Decides.{nat_tests}
-use Rattle.gh_base.specs.declared.cell.Ask.TheVariants.{Store, Or, Swap}
+use Rattle.std.proofs.lemmas.Bool.{eq-eqb}
+use Rattle.gh_base.specs.declared.cell.Ask.TheVariants.{Or}
 use Rattle.gh_base.specs.declared.cell.Cell.TheVariants as cell
 use Rattle.gh_phase.specs.declared.view.RunPhase.TheVariants as run
 use Rattle.gh_phase.specs.Listing as resume
 use Rattle.gh_wbuf.specs.RoomFinding as room
-use Rattle.gh_mutator.specs.Collecting.{Ask, Held, Layout, Value, phase_of, Resumed, RunPhase, View, run_phase, Local, PollStage}
+use Rattle.gh_mutator.specs.Collecting.{View}
 use Rattle.gh_mutator.specs.declared.poll.PollStage.TheVariants.{LoadPhase, Giving, Resuming, Marking, FindRoom, Ended}
 use Rattle.gh_mutator.specs.Give as give
 use Rattle.gh_mutator.specs.MarkStack as mark
 use Rattle.gh_mutator.specs.Poll.{after_mark, after_resume, after_room, asks, asks_at, at_stage, by_phase, counted, due, given, giving, goes, has_two, marks_then, Polling, resumed, room_stage, scans, stops_then}
 use Rattle.gh_mutator.specs.ShadeSteps.{ShadesEach}
 use Rattle.gh_mutator.specs.StackMarks.{named}
-use Rattle.gh_mutator.specs.Polls.{after, EndsBy, HasScanned, IsScanning, learns, learnt, polls_behind, ScansOne, StagesOnTheWay, TellsScanned}
+use Rattle.gh_mutator.specs.Polls.{after, EndsBy, HasScanned, IsScanning, learns, learnt, polls_behind, StagesOnTheWay, TellsScanned}
+use Rattle.gh_mutator.proofs.Vocabulary.{Ask, eqb-true, Held, Layout, Local, nat_tests, phase_of, PollStage, Resumed, run_phase, RunPhase, ScansOne, slice_index_or, Store, Swap, Value}
 use Rattle.gh_mutator.proofs.Aims.{aim, differs, give_aim, is_ack, is_take, Marks, resume_aim, room_aim, Scans, Takes}
 use Rattle.gh_mutator.proofs.Due.{due_scans, none_scans, one_due, scans_by}
 use Rattle.gh_mutator.proofs.Resuming.{another_is, begun_stays}

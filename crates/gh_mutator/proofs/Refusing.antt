@@ -1,30 +1,23 @@
 -- What the search for a slot asks for, and that it has no span cached where it refuses.
 use Rattle.std.proofs.Common.{◌≡◌, ℕ, Bool, true, false, cond, eqb, ltb, refl, sym, ◌∙◌, subst, Option, Some, None}
-use Rattle.gh_mutator.specs.Vocabulary.{SpanClass, slots_of, CachedSpan, FindStage, At, NoRoom, Sought, Finding, Seeking}
-use Rattle.gh_cache.specs.declared.next_slot.SlotStage.{SlotStage}
+use Rattle.gh_mutator.specs.Vocabulary.{SpanClass}
 use Rattle.gh_cache.specs.declared.next_slot.SlotStage.TheVariants as slot_stage
 use Rattle.gh_cache.specs.Listing as slots
 use Rattle.gh_central.specs.declared.give.GiveStage.{GiveStage}
 use Rattle.gh_central.specs.declared.give.GiveStage.TheVariants as give_stage
-use Rattle.gh_central.specs.declared.pass.PassStage.{PassStage}
 use Rattle.gh_central.specs.declared.pass.PassStage.TheVariants as pass_stage
-use Rattle.gh_central.specs.declared.reclaim.ReclaimStage.{ReclaimStage}
 use Rattle.gh_central.specs.declared.reclaim.ReclaimStage.TheVariants as reclaim_stage
 use Rattle.gh_central.specs.GiveBack as give
-use Rattle.gh_central.specs.Reclaim.{Reclaiming}
 use Rattle.gh_central.specs.Reclaim as reclaim
 use Rattle.gh_central.specs.SweptPass as pass
-use Rattle.gh_pages.specs.declared.carve.CarveStage.{CarveStage}
 use Rattle.gh_pages.specs.declared.carve.CarveStage.TheVariants as carve_stage
 use Rattle.gh_pages.specs.Listing as carve
 use Rattle.gh_alloc.specs.declared.find.After.TheVariants.{Again, End}
 use Rattle.gh_alloc.specs.declared.find.FindStage.TheVariants as seek
-use Rattle.gh_alloc.specs.declared.search.SearchStage.{SearchStage}
 use Rattle.gh_alloc.specs.declared.search.SearchStage.TheVariants as search_stage
-use Rattle.gh_alloc.specs.declared.sought.Sought.TheVariants.{Small, Large}
 use Rattle.gh_alloc.specs.Find as find
 use Rattle.gh_alloc.specs.Search as search
-use Rattle.gh_mutator.specs.Full.{is_looking}
+use Rattle.gh_mutator.proofs.Vocabulary.{CachedSpan, CarveStage, Finding, FindStage, is_looking, Large, NoRoom, PassStage, Reclaiming, ReclaimStage, SearchStage, Seeking, slots_of, SlotStage, Small, Sought}
 
 -- ---- the search
 
@@ -124,21 +117,12 @@ slot_says f (Some (Some slot)) e = absurd (cc)
 
 refuses_at : (x : Sought) (f : Finding) (p : FindStage) (found : ℕ) → find.gives_at f p found ≡ Some NoRoom → NoneCached p f.cached → (f.cached ≡ None) × ((find.goes_at f p found).cached ≡ f.cached)
 refuses_at x f (seek.Slots s) found e h = absurd (slot_says (find.searched f (slots.goes s found)) (slots.gives s found) e)
-refuses_at x f seek.Lock found e h = absurd (cc)
-refuses_at x f (seek.Give g) found e h = absurd (cc)
-refuses_at x f (seek.Pass p) found e h = absurd (cc)
-refuses_at x f (seek.Carve c) found e h = absurd (cc)
-refuses_at x f (seek.Unlock Again) found e h = absurd (cc)
-refuses_at x f (seek.Unlock (End (At a))) found e h = absurd (cc)
 refuses_at x f (seek.Unlock (End NoRoom)) found e h = (h, refl)
-refuses_at x f seek.Ended found e h = absurd (cc)
+refuses_at x f _ found e h = absurd (cc)
 
 reclaim_look : (r : Reclaiming) (p : ReclaimStage) → is_looking (reclaim.asks_at r p) ≡ true
 reclaim_look r (reclaim_stage.Look page) = refl
-reclaim_look r (reclaim_stage.Bits page pages i) = refl
-reclaim_look r (reclaim_stage.Body page pages distance) = refl
-reclaim_look r (reclaim_stage.Head page pages) = refl
-reclaim_look r reclaim_stage.Ended = refl
+reclaim_look r _ = refl
 
 search_look : (f : Finding) (p : SearchStage) → is_looking (search.asks_at f p) ≡ true
 search_look f (search_stage.Free r) = reclaim_look r r.stage
@@ -160,14 +144,7 @@ KeptFor (Large pages noscan) s = Unit {0}
 -- about to say that there is no room, it has none cached
 refusing : (p : FindStage) (cached : Option CachedSpan) → find.refuses_at p ≡ true → NoneCached p cached → cached ≡ None
 refusing (seek.Unlock (End NoRoom)) cached e h = h
-refusing (seek.Unlock (End (At a))) cached e h = absurd (cc)
-refusing (seek.Unlock Again) cached e h = absurd (cc)
-refusing (seek.Slots s) cached e h = absurd (cc)
-refusing seek.Lock cached e h = absurd (cc)
-refusing (seek.Give g) cached e h = absurd (cc)
-refusing (seek.Pass p) cached e h = absurd (cc)
-refusing (seek.Carve c) cached e h = absurd (cc)
-refusing seek.Ended cached e h = absurd (cc)
+refusing _ cached e h = absurd (cc)
 
 first_kept : (f : Finding) → Kept f → KeptAt f (search.after_first f)
 first_kept f h = by (find.refuses f) refl where

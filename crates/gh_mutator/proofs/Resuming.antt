@@ -18,11 +18,8 @@ phase_seat r number None = stopped_seat r number (eqb number r.stops)
 phase_seat r number (Some phase) = refl
 
 pub seat_at : (r : resume.Resuming) (stage : ResumeStage) (found : ℕ) → (resume.goes_at r stage found).seat ≡ r.seat
-seat_at r resume_stage.Acknowledge found = refl
 seat_at r resume_stage.LoadPhase found = phase_seat r (phase_of found).stops (run_phase (phase_of found).phase)
-seat_at r resume_stage.LoadGeneration found = refl
-seat_at r resume_stage.LoadBegun found = refl
-seat_at r resume_stage.Ended found = refl
+seat_at r _ found = refl
 
 -- until it ends it keeps the number of cycles that it knows
 phase_begun : (r : resume.Resuming) (number : ℕ) (phase : Option RunPhase) → (resume.after_phase r number phase).view.begun ≡ r.view.begun
@@ -41,7 +38,4 @@ begun_stays r resume_stage.Ended v e = refl
 
 pub another_is : (r : resume.Resuming) (stage : ResumeStage) (v : ℕ) (out : Resumed) → resume.gives_at r stage v ≡ Some out → out.another_cycle ≡ not (eqb out.view.begun r.view.begun)
 another_is r resume_stage.LoadBegun v out e = let is : resume.resumed r.view v ≡ out = cc in subst (λ (o : Resumed). o.another_cycle ≡ not (eqb o.view.begun r.view.begun)) is refl
-another_is r resume_stage.Acknowledge v out e = absurd (cc)
-another_is r resume_stage.LoadPhase v out e = absurd (cc)
-another_is r resume_stage.LoadGeneration v out e = absurd (cc)
-another_is r resume_stage.Ended v out e = absurd (cc)
+another_is r _ v out e = absurd (cc)

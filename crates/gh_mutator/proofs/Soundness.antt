@@ -1,7 +1,6 @@
 -- Each step, and each beginning, keeps what the processor knows of its own state, whatever was found.
 use Rattle.std.proofs.Common.{◌≡◌, ℕ, zero, suc, ◌≤◌, ◌⊎◌, inl, inr, true, false, List, [], get_or, replicate, refl, sym, ◌∙◌, subst, Option, Some, None, IsNone, arith}
-use Rattle.std.proofs.lemmas.Bool.{ltb-true}
-use Rattle.gh_mutator.specs.Vocabulary.{Layout, Op, Shape, Value, Leaving, Polling, Processor, Register, Source, Task, ShapesFit, Waiting}
+use Rattle.gh_mutator.specs.Vocabulary.{Polling, Register, Source, ShapesFit}
 use Rattle.gh_base.specs.declared.operation.Op.TheVariants as op
 use Rattle.gh_base.specs.declared.value.Value.TheVariants as value
 use Rattle.gh_mutator.specs.declared.register.Source.TheVariants as source
@@ -11,24 +10,21 @@ use Rattle.gh_mutator.specs.Global as global_listing
 use Rattle.gh_mutator.specs.Leave as leave
 use Rattle.gh_mutator.specs.LeaveEnds as leave_proved
 use Rattle.gh_mutator.specs.LeaveEnds.{stage_busy}
-use Rattle.gh_mutator.specs.Listing.{after_gc, after_leave, after_poll, begins, takes, takes_at}
 use Rattle.gh_mutator.specs.Load as load_listing
-use Rattle.gh_mutator.specs.Local.{leaving, register_in, with_ended, with_nothing}
-use Rattle.gh_mutator.specs.New.{wanted_of}
+use Rattle.gh_mutator.specs.Local.{register_in, with_nothing}
 use Rattle.gh_mutator.specs.Poll as poll
 use Rattle.gh_mutator.specs.PollEnds as poll_proved
-use Rattle.gh_mutator.specs.Processor.{opening_processor, register_of}
+use Rattle.gh_mutator.specs.Processor.{opening_processor}
 use Rattle.gh_mutator.specs.Register.{read_of, step, value_from}
 use Rattle.gh_mutator.specs.Serving.{is_making}
 use Rattle.gh_mutator.specs.Sound.{has_names, IsNear, most_objects, Sound, SoundGlobal, SoundLoad, SoundOp, SoundRegister, SoundStore, SoundTask}
 use Rattle.gh_mutator.specs.Store as store_listing
 use Rattle.gh_mutator.specs.Wait as wait
 use Rattle.gh_mutator.specs.WaitEnds as wait_proved
-use Rattle.gh_mutator.specs.WaitSound.{FitsWait}
+use Rattle.gh_mutator.proofs.Vocabulary.{after_gc, after_leave, after_poll, begins, FitsWait, Layout, Leaving, leaving, ltb-true, Op, Processor, read_replicate, register_of, Shape, takes, takes_at, Task, Value, Waiting, wanted_of, with_ended}
 use Rattle.gh_mutator.proofs.Changes.{applied_sound, moved, polled}
 use Rattle.gh_mutator.proofs.ClassFacts.{ClassLaws, wanted_sound}
 use Rattle.gh_mutator.proofs.GlobalSteps as global
-use Rattle.gh_base.specs.Reading.{read_replicate}
 use Rattle.gh_mutator.proofs.LoadSteps as load
 use Rattle.gh_mutator.proofs.NewSteps as new
 use Rattle.gh_mutator.proofs.Stacks.{poll_stacks, wait_stacks}

@@ -1,8 +1,5 @@
 -- The scan of a stack with the shading, step by step: what is shaded so far, and what is left.
 use Rattle.std.proofs.Common.{◌≡◌, ℕ, zero, suc, ◌+◌, ◌<◌, ◌≤◌, Bool, true, false, cond, eqb, ◌||◌, List, [], ◌∷◌, ◌++◌, map, drop, Option, Some, None, refl, sym, ap, subst, ◌∙◌, arith}
-use Rattle.std.proofs.lemmas.Bool.{eqb-true}
-use Rattle.std.proofs.lemmas.List.{append-nil, append_assoc}
-use Rattle.std.proofs.lemmas.Bool.Decides.{nat_tests}
 use Rattle.gh_base.specs.declared.cell.Ask.TheVariants as ask
 use Rattle.gh_base.specs.declared.cell.Cell.TheVariants as cell
 use Rattle.gh_base.specs.declared.value.Value.TheVariants as value
@@ -15,11 +12,12 @@ use Rattle.gh_wbuf.specs.declared.find_room.RoomStage.TheVariants as room_stage
 use Rattle.gh_wbuf.specs.declared.try_buffer.TryStage.TheVariants as try_stage
 use Rattle.gh_wbuf.specs.RoomFinding as room
 use Rattle.gh_wbuf.specs.Trying as try
-use Rattle.gh_mutator.specs.Collecting.{Ask, Held, Layout, Value, page_noscan, page_of, reference_in, Shaded, ShadeStage, StackStage, references, RoomStage, TryStage, MarkStackStage}
+use Rattle.gh_mutator.specs.Collecting.{page_noscan, page_of, reference_in, references}
 use Rattle.gh_mutator.specs.declared.mark_stack.MarkStackStage.TheVariants.{Shading, FindRoom, Store, Ended}
 use Rattle.gh_mutator.specs.MarkStack.{after_room, after_shade, asks, asks_at, by_wish, gives_at, goes, goes_on, opening, StackMarking}
 use Rattle.gh_mutator.specs.ShadeSteps.{IsOfRoom, Marks, Shades, ShadesEach, is_whole}
 use Rattle.gh_mutator.specs.StackMarks.{after, IsWished, MarksStack, named, WishesOnTheWay}
+use Rattle.gh_mutator.proofs.Vocabulary.{append-nil, append_assoc, Ask, eqb-true, Held, Layout, MarkStackStage, nat_tests, RoomStage, Shaded, ShadeStage, StackStage, TryStage, Value}
 use Rattle.gh_mutator.proofs.Aims.{aim, Scans, differs, is_mark, is_take, room_aim, shade_aim}
 use Rattle.gh_mutator.proofs.Lists.{drop_next}
 use Rattle.gh_mutator.proofs.StackMarking.{first_going}

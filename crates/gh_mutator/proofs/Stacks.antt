@@ -1,23 +1,15 @@
 -- A poll and a wait leave the registers, and the seat, as they are.
 use Rattle.std.proofs.Common.{◌≡◌, ℕ, Bool, true, false, cond, List, refl, ap, ◌∙◌, Option, Some, None, ltb}
-use Rattle.gh_base.specs.declared.held.Held.{Held}
-use Rattle.gh_base.specs.declared.value.Value.{Value}
-use Rattle.gh_base.specs.Packing.{phase_of}
-use Rattle.gh_phase.specs.declared.resume.Resumed.{Resumed}
-use Rattle.gh_phase.specs.declared.view.RunPhase.{RunPhase}
 use Rattle.gh_phase.specs.declared.view.RunPhase.TheVariants as run
 use Rattle.gh_phase.specs.Listing as resume
-use Rattle.gh_phase.specs.Views.{run_phase}
 use Rattle.gh_wbuf.specs.RoomFinding as room
-use Rattle.gh_mutator.specs.declared.poll.PollStage.{PollStage}
 use Rattle.gh_mutator.specs.declared.poll.PollStage.TheVariants.{LoadPhase, Giving, Resuming, Marking, FindRoom, Ended}
-use Rattle.gh_mutator.specs.declared.wait.WaitStage.{WaitStage}
 use Rattle.gh_mutator.specs.declared.wait.WaitStage.TheVariants as wait_stage
 use Rattle.gh_mutator.specs.Give as give
 use Rattle.gh_mutator.specs.MarkStack as mark
 use Rattle.gh_mutator.specs.Poll.{after_mark, after_resume, after_room, by_phase, due, gives, giving, goes, goes_at, marks_then, Polling, resumed, scans, stops_then}
 use Rattle.gh_mutator.specs.Wait as wait
-use Rattle.gh_mutator.specs.Wait.{Waiting}
+use Rattle.gh_mutator.proofs.Vocabulary.{Held, phase_of, PollStage, Resumed, run_phase, RunPhase, Value, Waiting, WaitStage}
 
 abbrev stacks : Polling → List (List Value) × ℕ
 stacks p = (p.local.stacks, p.seat)

@@ -1,24 +1,19 @@
 -- A wait, step by step.
 use Rattle.std.proofs.Common.{◌≡◌, ℕ, zero, suc, ◌+◌, ◌<◌, ◌≤◌, Bool, true, false, cond, ltb, ◌↔◌, length, Option, Some, None, refl, sym, ap, subst, ◌∙◌, arith}
 use Rattle.std.specs.Prelude.{IsNone}
-use Rattle.std.proofs.lemmas.Bool.Decides.{nat_tests}
 use Rattle.gh_base.specs.declared.cell.Cell.TheVariants as cell
-use Rattle.gh_base.specs.declared.cell.Ask.TheVariants.{Load, Store}
-use Rattle.gh_base.specs.declared.layout.Layout.{Layout}
 use Rattle.gh_class.specs.declared.class.TheConstants.{SPAN_CLASSES}
 use Rattle.gh_phase.specs.Listing as resume
 use Rattle.gh_wbuf.specs.RoomFinding as room
-use Rattle.gh_mutator.specs.declared.poll.Local.{Local}
-use Rattle.gh_mutator.specs.declared.poll.PollStage.{PollStage}
 use Rattle.gh_mutator.specs.declared.poll.PollStage.TheVariants as poll_stage
-use Rattle.gh_mutator.specs.declared.wait.WaitStage.{WaitStage}
 use Rattle.gh_mutator.specs.declared.wait.WaitStage.TheVariants.{Want, Polling, LoadSwept, Ended}
 use Rattle.gh_mutator.specs.MarkStack as mark
 use Rattle.gh_mutator.specs.Poll as poll
-use Rattle.gh_mutator.specs.Wait.{after_poll, asks, asks_at, at_stage, given, gives, gives_at, goes, is_later, polling, Waiting}
+use Rattle.gh_mutator.specs.Wait.{after_poll, asks, asks_at, at_stage, given, gives, gives_at, goes, is_later, polling}
 use Rattle.gh_mutator.specs.PollEnds as poll_proved
 use Rattle.gh_mutator.specs.Polls.{HoldsNothing}
 use Rattle.gh_mutator.specs.Waits.{Acknowledges, after, polled, PollsFrom, WaitsSo}
+use Rattle.gh_mutator.proofs.Vocabulary.{Layout, Load, Local, nat_tests, PollStage, Store, Waiting, WaitStage}
 use Rattle.gh_mutator.proofs.Aims.{aim, differs, give_aim, is_ack, is_marking, is_take, Looks, mark_aim, resume_aim, room_aim}
 use Rattle.gh_mutator.proofs.Polling as polls
 
@@ -33,12 +28,8 @@ poll_looks poll_stage.Ended e = cc
 
 -- a poll that asks for a step has asked for one before
 was_busy : (p : poll.Polling) (stage : PollStage) (v : ℕ) → poll.is_busy (poll.goes_at p stage v).stage ≡ true → poll.is_busy stage ≡ true
-was_busy p poll_stage.LoadPhase v e = refl
-was_busy p (poll_stage.Giving g stops) v e = refl
-was_busy p (poll_stage.Resuming r) v e = refl
-was_busy p (poll_stage.Marking g m) v e = refl
-was_busy p (poll_stage.FindRoom r) v e = refl
 was_busy p poll_stage.Ended v e = absurd (cc)
+was_busy p _ v e = refl
 
 none_of : (o : Option (Unit {0})) → IsNone o → o ≡ None
 none_of None n = refl

@@ -1,38 +1,30 @@
 -- A processor that holds no buffer, and does not know that marking is on, holds none behind its step; and an object that it then makes is not marked.
 use Rattle.std.proofs.Common.{◌≡◌, ◌≢◌, ℕ, ◌+◌, Bool, true, false, cond, eqb, ltb, List, [], ◌∷◌, drop, Option, Some, None, refl, subst}
-use Rattle.gh_base.specs.Packing.{phase_of}
 use Rattle.gh_alloc.specs.Marking.{AnObjectIsMarkedBeforeItIsMade, IsMadeUnmarked}
 use Rattle.gh_alloc.specs.Place as place
 use Rattle.gh_alloc.specs.Search as search
-use Rattle.gh_phase.specs.declared.resume.ResumeStage.{ResumeStage}
 use Rattle.gh_phase.specs.declared.resume.ResumeStage.TheVariants as resume_stage
-use Rattle.gh_phase.specs.declared.view.RunPhase.{RunPhase}
 use Rattle.gh_phase.specs.declared.view.RunPhase.TheVariants as run
 use Rattle.gh_phase.specs.Listing as resume
 use Rattle.gh_phase.specs.ResumePlaces as resumes
-use Rattle.gh_phase.specs.Views.{run_phase}
 use Rattle.gh_mutator.specs.declared.give.GiveStage.TheVariants as give_stage
 use Rattle.gh_mutator.specs.declared.leave.LeaveStage.TheVariants as leave_stage
 use Rattle.gh_mutator.specs.declared.poll.PollStage.TheVariants as poll_stage
 use Rattle.gh_mutator.specs.declared.task.Task.TheVariants as task
 use Rattle.gh_mutator.specs.declared.wait.WaitStage.TheVariants as wait_stage
-use Rattle.gh_mutator.specs.Calm.{GivesNoBuffer, HoldsNoBuffer, IsNoBuffer, KnowsNoMarking, LeavesWithNone, MakesWithNone, PollsWithNone, RunsWithNone, WaitsWithNone}
 use Rattle.gh_mutator.specs.Give as give
 use Rattle.gh_mutator.specs.Global as global
-use Rattle.gh_mutator.specs.Handshake.{poller_at, polls_at, waiter_at, waits_at}
+use Rattle.gh_mutator.specs.Handshake.{poller_at, waiter_at}
 use Rattle.gh_mutator.specs.Leave as leave
-use Rattle.gh_mutator.specs.Listing.{after_gc, after_leave, after_poll, applied, follows, takes_at}
 use Rattle.gh_mutator.specs.Load as load
-use Rattle.gh_mutator.specs.Local.{is_mark, leaving}
-use Rattle.gh_mutator.specs.MarkVocabulary.{CachedSpan, GiveStage, Held, Layout, LeaveStage, PollStage, Value, WaitStage}
+use Rattle.gh_mutator.specs.Local.{is_mark}
 use Rattle.gh_mutator.specs.New as new
 use Rattle.gh_mutator.specs.Poll as poll
-use Rattle.gh_mutator.specs.Processor.{cache_span, register_of, taking}
-use Rattle.gh_mutator.specs.ProcessorPlaces.{party_at, stage_at}
 use Rattle.gh_mutator.specs.Register as register
 use Rattle.gh_mutator.specs.Store as store
-use Rattle.gh_mutator.specs.Vocabulary.{At, Ends, Found, GoesOn, Leaving, NewStage, NoRoom, Place, Placing, Polling, Processor, Search, Seeking, Shape, Step, Task, Then, Wait, Waiting, Wanted}
+use Rattle.gh_mutator.specs.Vocabulary.{Polling}
 use Rattle.gh_mutator.specs.Wait as wait
+use Rattle.gh_mutator.proofs.Vocabulary.{after_gc, after_leave, after_poll, applied, At, cache_span, CachedSpan, Ends, follows, Found, GivesNoBuffer, GiveStage, GoesOn, Held, HoldsNoBuffer, IsNoBuffer, KnowsNoMarking, Layout, LeaveStage, LeavesWithNone, Leaving, leaving, MakesWithNone, NewStage, NoRoom, party_at, phase_of, Place, Placing, polls_at, PollStage, PollsWithNone, Processor, register_of, ResumeStage, run_phase, RunPhase, RunsWithNone, Search, Seeking, Shape, stage_at, Step, takes_at, taking, Task, Then, Value, Wait, Waiting, waits_at, WaitStage, WaitsWithNone, Wanted}
 
 -- The giving back.
 first_none : (class : ℕ) (spans : List (Option CachedSpan)) → IsNoBuffer (give.first_of class spans)
@@ -45,11 +37,8 @@ buffer_none l None e = tt
 buffer_none l (Some h) e = absurd (cc)
 
 begins_none : (l : Layout) (held : Option Held) (q : GiveStage) → held ≡ None → IsNoBuffer (give.begins l held q)
-begins_none l held give_stage.Lock e = tt
-begins_none l held (give_stage.GiveSpan class s) e = tt
 begins_none l held give_stage.Unlock e = buffer_none l held e
-begins_none l held (give_stage.GiveBuffer b) e = tt
-begins_none l held give_stage.Ended e = tt
+begins_none l held _ e = tt
 
 opening_none : (l : Layout) (seat generation : ℕ) (cache : List (Option CachedSpan)) (held : Option Held) → held ≡ None → GivesNoBuffer (give.opening l seat generation cache held)
 opening_none l seat generation cache held e = (e, begins_none l held (give.stage_from cache 0) e)
@@ -84,11 +73,8 @@ phases_none p stops None off e = stops_none p (poll.giving p) stops e (opening_n
 phases_none p stops (Some phase) off e = marks_none p p.local.view.phase off e
 
 resume_none : (p : Polling) (r : resume.Resuming) (q : ResumeStage) (found : ℕ) → p.local.held ≡ None → KnowsNoMarking (resumes.party_of r) (resumes.stands_at r.stops q) → PollHoldsNone (poll.after_resume p (resume.goes_at r q found) (resume.gives_at r q found))
-resume_none p r resume_stage.Acknowledge found e off = (e, tt)
-resume_none p r resume_stage.LoadPhase found e off = (e, tt)
-resume_none p r resume_stage.LoadGeneration found e off = (e, tt)
 resume_none p r resume_stage.LoadBegun found e off = marks_none (poll.resumed p (resume.resumed r.view found)) r.view.phase off e
-resume_none p r resume_stage.Ended found e off = (e, tt)
+resume_none p r _ found e off = (e, tt)
 
 poll_none : (p : Polling) (q : PollStage) (found : ℕ) → p.local.held ≡ None → PollsWithNone q → KnowsNoMarking (poller_at p q) (polls_at p q) → PollHoldsNone (poll.goes_at p q found)
 poll_none p poll_stage.LoadPhase found e x off = phases_none p (phase_of found).stops (run_phase (phase_of found).phase) off e

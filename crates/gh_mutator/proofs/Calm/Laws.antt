@@ -1,32 +1,23 @@
 -- A calm processor marks nothing, and stays calm as long as it does not find that marking is on.
 use Rattle.std.proofs.Common.{◌≡◌, ◌≢◌, ℕ, Bool, true, false, cond, eqb, List, Option, Some, None, refl, ap, subst, inl, inr, sym}
-use Rattle.gh_base.specs.declared.cell.Ask.TheVariants.{Load}
 use Rattle.gh_base.specs.declared.cell.Cell.TheVariants as cell
 use Rattle.gh_base.specs.declared.operation.Op.TheVariants as op
-use Rattle.gh_base.specs.Packing.{phase_of}
-use Rattle.gh_base.specs.Rows.{CellsAreTold}
 use Rattle.gh_alloc.specs.Marking.{AnObjectIsMarkedBeforeItIsMade}
-use Rattle.gh_phase.specs.declared.resume.ResumeStage.{ResumeStage}
 use Rattle.gh_phase.specs.declared.resume.ResumeStage.TheVariants as resume_stage
-use Rattle.gh_phase.specs.declared.view.RunPhase.{RunPhase}
 use Rattle.gh_phase.specs.declared.view.RunPhase.TheVariants as run
-use Rattle.gh_phase.specs.Handshake.{Acts, Awake, by_phase, Gives, Gone, Leaves, Party, PlaceBegins, resume_goes, Resumes, resume_view, Stage, StageGoes, with_phase}
+use Rattle.gh_phase.specs.Handshake.{by_phase, Gives, Gone, Leaves, Party, resume_goes, Resumes, resume_view, Stage, with_phase}
 use Rattle.gh_phase.specs.Shakes.{IsParked}
-use Rattle.gh_phase.specs.Views.{run_phase}
 use Rattle.gh_mutator.specs.declared.leave.LeaveStage.TheVariants as leave_stage
 use Rattle.gh_mutator.specs.declared.poll.PollStage.TheVariants as poll_stage
 use Rattle.gh_mutator.specs.declared.task.Task.TheVariants as task
 use Rattle.gh_mutator.specs.declared.wait.WaitStage.TheVariants as wait_stage
-use Rattle.gh_mutator.specs.Calm.{CalmProcessorsMarkNothing, FindsNoMarking, HoldsNoBuffer, IsWrittenCalmly, KnowsNoMarking, LeavesWithNone, MakesWithNone, PollsWithNone, RunsWithNone, WaitsWithNone}
-use Rattle.gh_mutator.specs.Deeds.{processor_kind}
-use Rattle.gh_mutator.specs.Handshake.{leaves_at, polls_at, waits_at}
-use Rattle.gh_mutator.specs.Listing.{asks, begins}
-use Rattle.gh_mutator.specs.MarkVocabulary.{Ask, LeaveStage, PollStage, View, WaitStage}
+use Rattle.gh_mutator.specs.Calm.{CalmProcessorsMarkNothing, FindsNoMarking, IsWrittenCalmly}
+use Rattle.gh_mutator.specs.MarkVocabulary.{View}
 use Rattle.gh_mutator.specs.ProcessorMarks.{MarksByMoves}
-use Rattle.gh_mutator.specs.ProcessorPlaces.{new_stage_at, party_of, ProcessorInHandshake, stage_at, stage_of}
-use Rattle.gh_mutator.specs.Serving.{has_left_at}
-use Rattle.gh_mutator.specs.Vocabulary.{Layout, NewStage, Op, Place, Polling, Processor, Search, Shape, Task, Wait, Waiting}
+use Rattle.gh_mutator.specs.ProcessorPlaces.{new_stage_at, party_of, stage_of}
+use Rattle.gh_mutator.specs.Vocabulary.{Polling}
 use Rattle.gh_mutator.specs.Wait as wait
+use Rattle.gh_mutator.proofs.Vocabulary.{Acts, Ask, asks, Awake, begins, CellsAreTold, has_left_at, HoldsNoBuffer, KnowsNoMarking, Layout, leaves_at, LeaveStage, LeavesWithNone, Load, MakesWithNone, NewStage, Op, phase_of, Place, PlaceBegins, polls_at, PollStage, PollsWithNone, Processor, processor_kind, ProcessorInHandshake, ResumeStage, run_phase, RunPhase, RunsWithNone, Search, Shape, stage_at, StageGoes, Task, Wait, Waiting, waits_at, WaitStage, WaitsWithNone}
 use Rattle.gh_mutator.proofs.Calm.Holding.{begins_leave, holds_at}
 use Rattle.gh_mutator.proofs.Calm.Writes.{writes_calmly}
 use Rattle.gh_mutator.proofs.Writing.Rows.{leaves_others}
@@ -84,18 +75,8 @@ begins_on from stage to next (inr e) k =
 
 module _ (m : Processor) (e : m.poll.local.held ≡ None) where
   begun_at : (shapes : List Shape) (o : Op) → HoldsNoBuffer (begins shapes m o)
-  begun_at shapes (op.New g d t) = record { none = e; runs = tt }
-  begun_at shapes (op.Load g d b n) = record { none = e; runs = tt }
-  begun_at shapes (op.Store g b n x) = record { none = e; runs = tt }
-  begun_at shapes (op.GetGlobal g d n) = record { none = e; runs = tt }
-  begun_at shapes (op.SetGlobal g n x) = record { none = e; runs = tt }
-  begun_at shapes (op.Int g d n) = record { none = e; runs = tt }
-  begun_at shapes (op.Move g d n) = record { none = e; runs = tt }
-  begun_at shapes (op.Nil g d) = record { none = e; runs = tt }
-  begun_at shapes (op.Gc g) = record { none = e; runs = tt }
-  begun_at shapes op.Poll = record { none = e; runs = tt }
-  begun_at shapes (op.End g) = record { none = e; runs = tt }
   begun_at shapes op.Leave = record { none = refl; runs = begins_leave m.poll e }
+  begun_at shapes _ = record { none = e; runs = tt }
 
 begun : (shapes : List Shape) (l : Layout) (m : Processor) (o : Op) → HoldsNoBuffer m → HoldsNoBuffer ((processor_kind shapes l).begins m o)
 begun shapes l m o h = by (has_left_at m.task) where
@@ -143,17 +124,11 @@ module _ (stops : ℕ) (p : Polling) where
   leave_still leave_stage.Left still = tt
 
   runs_still : (t : Task) → IsParked stops (stage_at p t) → RunsWithNone p t
-  runs_still task.Idle still = tt
-  runs_still task.Left still = tt
-  runs_still (task.Load y) still = tt
-  runs_still (task.Store y) still = tt
-  runs_still (task.Global y) still = tt
-  runs_still (task.Register y) still = tt
   runs_still (task.New y) still = new_still y.stage still
   runs_still (task.Gc g y) still = wait_still (wait.waiting y p) y.stage refl still
   runs_still task.Poll still = poll_still p.stage still
-  runs_still (task.End g) still = tt
   runs_still (task.Leave y) still = leave_still y.stage still
+  runs_still _ still = tt
 
 pub calm_marks_nothing : CellsAreTold → AnObjectIsMarkedBeforeItIsMade → ProcessorInHandshake → MarksByMoves → CalmProcessorsMarkNothing
 calm_marks_nothing told marks h k = record {

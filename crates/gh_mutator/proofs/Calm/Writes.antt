@@ -1,23 +1,19 @@
 -- A calm processor writes no word of marking: by its tasks.
 use Rattle.std.proofs.Common.{ℕ, List, refl, subst}
-use Rattle.gh_phase.specs.declared.resume.ResumeStage.{ResumeStage}
 use Rattle.gh_phase.specs.declared.resume.ResumeStage.TheVariants as resume_stage
 use Rattle.gh_phase.specs.Listing as resume
 use Rattle.gh_mutator.specs.declared.leave.LeaveStage.TheVariants as leave_stage
 use Rattle.gh_mutator.specs.declared.poll.PollStage.TheVariants as poll_stage
 use Rattle.gh_mutator.specs.declared.task.Task.TheVariants as task
 use Rattle.gh_mutator.specs.declared.wait.WaitStage.TheVariants as wait_stage
-use Rattle.gh_mutator.specs.Calm.{GivesNoBuffer, IsNoBuffer, IsWrittenCalmly, LeavesWithNone, MakesWithNone, PollsWithNone, RunsWithNone, WaitsWithNone}
+use Rattle.gh_mutator.specs.Calm.{IsWrittenCalmly}
 use Rattle.gh_mutator.specs.Give as give
 use Rattle.gh_mutator.specs.Leave as leave
-use Rattle.gh_mutator.specs.Listing.{asks}
-use Rattle.gh_mutator.specs.MarkVocabulary.{GiveStage, LeaveStage, PollStage, WaitStage}
 use Rattle.gh_mutator.specs.New as new
 use Rattle.gh_mutator.specs.Poll as poll
-use Rattle.gh_mutator.specs.Processor.{register_of}
-use Rattle.gh_mutator.specs.Vocabulary.{Leaving, NewStage, Place, Polling, Processor, Search, Task, Wait, Waiting}
+use Rattle.gh_mutator.specs.Vocabulary.{Polling}
 use Rattle.gh_mutator.specs.Wait as wait
-use Rattle.gh_mutator.specs.Writing.{WritesOf}
+use Rattle.gh_mutator.proofs.Vocabulary.{asks, GivesNoBuffer, GiveStage, IsNoBuffer, LeaveStage, LeavesWithNone, Leaving, MakesWithNone, NewStage, Place, PollStage, PollsWithNone, Processor, register_of, ResumeStage, RunsWithNone, Search, Task, Wait, Waiting, WaitStage, WaitsWithNone, WritesOf}
 use Rattle.gh_mutator.proofs.Writing.Processor.{running}
 use Rattle.gh_mutator.proofs.Writing.Routines.{gives_write, global_writes, load_writes, store_writes}
 use Rattle.gh_mutator.proofs.Writing.Rows.{OfHeap, place_writes, search_writes}
@@ -31,10 +27,7 @@ module _ (m : Processor) where
 
   resumes : (r : resume.Resuming) (q : ResumeStage) → WritesOf (IsWrittenCalmly m) (resume.asks_at r q)
   resumes r resume_stage.Acknowledge = tt
-  resumes r resume_stage.LoadPhase = tt
-  resumes r resume_stage.LoadGeneration = tt
-  resumes r resume_stage.LoadBegun = tt
-  resumes r resume_stage.Ended = tt
+  resumes r _ = tt
 
   polls : (q : PollStage) → PollsWithNone q → WritesOf (IsWrittenCalmly m) (poll.asks_at q)
   polls poll_stage.LoadPhase x = tt

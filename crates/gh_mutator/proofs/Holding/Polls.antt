@@ -237,10 +237,7 @@ polls_last z a v w p o f = record { stands = stands_last z a v w o p f.stands; s
 
 resume_within : (z : Arena) (a : ℕ) (r : resume.Resuming) (q : ResumeStage) → a < z.layout.procs → r.seat ≡ a → InRange z.layout (cell_of (resume.asks_at r q))
 resume_within z a r resume_stage.Acknowledge few e = subst (λ (b : ℕ). b < z.layout.procs + z.layout.workers) (sym e) (omega (arith, few))
-resume_within z a r resume_stage.LoadPhase few e = tt
-resume_within z a r resume_stage.LoadGeneration few e = tt
-resume_within z a r resume_stage.LoadBegun few e = tt
-resume_within z a r resume_stage.Ended few e = tt
+resume_within z a r _ few e = tt
 
 within_at : (z : Arena) (a : ℕ) (v : View) (p : Polling) (q : PollStage) → Good z v → a < z.layout.procs → PollStageFacts z a v p q → InRange z.layout (cell_of (asks_at q))
 within_at z a v p LoadPhase good few x = tt

@@ -32,11 +32,8 @@ enter_quiet reference None = tt
 enter_quiet reference (Some h) = tt
 
 shade_quiet : (s : shade.Shading) (q : ShadeStage) → IsQuiet (shade.asks_at s q)
-shade_quiet s shade_stage.LoadPage = tt
-shade_quiet s (shade_stage.SetMark noscan) = tt
-shade_quiet s shade_stage.WaitForRoom = tt
 shade_quiet s shade_stage.Enter = enter_quiet s.reference s.held
-shade_quiet s shade_stage.Ended = tt
+shade_quiet s _ = tt
 
 stack_quiet : (s : stack.StackScan) (q : StackStage) → IsQuiet (stack.asks_at s q)
 stack_quiet s stack_stage.Store = tt

@@ -17,11 +17,7 @@ use Rattle.gh_mutator.proofs.Holding.Vocabulary.{Arena, Good, Has, InRange, IsAt
 -- a poll that has given something has ended
 ended : (stage : PollStage) (x : Unit {0}) → poll.given stage ≡ Some x → poll.is_busy stage ≡ false
 ended poll_stage.Ended x e = refl
-ended poll_stage.LoadPhase x e = absurd (cc)
-ended (poll_stage.Giving g stops) x e = absurd (cc)
-ended (poll_stage.Resuming r) x e = absurd (cc)
-ended (poll_stage.Marking g m) x e = absurd (cc)
-ended (poll_stage.FindRoom r) x e = absurd (cc)
+ended _ x e = absurd (cc)
 
 module _ (k : Known) (h : PollsByRights) (z : Arena) (a : ℕ) where
   module _ (s : Shared) (good : Good z (view s)) (w : Waiting) where

@@ -1,28 +1,19 @@
 -- While marking is on, each step of a poll is made of moves that its seat may make.
 use Rattle.std.proofs.Common.{◌≡◌, ◌≢◌, ℕ, ◌+◌, ◌%◌, ◌^◌, ◌<◌, ◌≤◌, Bool, true, false, cond, Option, Some, None, refl, sym, subst, ◌∙◌, arith}
-use Rattle.std.proofs.lemmas.Bool.Decides.{nat_tests}
-use Rattle.std.specs.Prelude.{slice_index_or, slice_set, []}
-use Rattle.gh_base.specs.declared.cell.Ask.TheVariants.{Store}
+use Rattle.std.specs.Prelude.{[]}
 use Rattle.gh_base.specs.declared.cell.Cell.TheVariants as cell
 use Rattle.gh_base.specs.declared.pack.TheConstants.{END, ENTRIES}
-use Rattle.gh_base.specs.Packing.{phase_of}
-use Rattle.gh_phase.specs.declared.resume.Resumed.{Resumed}
-use Rattle.gh_phase.specs.declared.resume.ResumeStage.{ResumeStage}
 use Rattle.gh_phase.specs.declared.resume.ResumeStage.TheVariants as resume_stage
-use Rattle.gh_phase.specs.declared.view.RunPhase.{RunPhase}
 use Rattle.gh_phase.specs.declared.view.RunPhase.TheVariants as run
-use Rattle.gh_phase.specs.Handshake.{IsQuiet}
 use Rattle.gh_phase.specs.Listing as resume
-use Rattle.gh_phase.specs.Views.{run_phase}
 use Rattle.gh_wbuf.specs.Facts as buffer_facts
 use Rattle.gh_wbuf.specs.RoomFinding as room
 use Rattle.gh_mutator.specs.declared.poll.PollStage.TheVariants.{LoadPhase, Giving, Resuming, Marking, FindRoom, Ended}
 use Rattle.gh_mutator.specs.Give as give
-use Rattle.gh_mutator.specs.MarkFacts.{GiveFacts, HasRoom, IsBetween, KnowsCycle, KnowsNumber, KnowsStacks, PollFacts, PollStageFacts, PollsByMoves, ScanFacts, holding}
+use Rattle.gh_mutator.specs.MarkFacts.{GiveFacts, HasRoom, IsBetween, KnowsCycle, KnowsNumber, KnowsStacks, PollFacts, PollStageFacts, PollsByMoves, ScanFacts}
 use Rattle.gh_mutator.specs.MarkStack as mark
-use Rattle.gh_mutator.specs.MarkVocabulary.{Ask, Cycle, Good, Hands, Held, IsOf, Keeps, KnowsObjects, Layout, Local, MarkingIsQuiet, Others, PollStage, ProcessorIsQuiet, ScanStack, Shared, Steps, cell_of, effect, landing, moved, nothing}
 use Rattle.gh_mutator.specs.Poll.{after_mark, after_resume, after_room, asks_at, at_stage, by_phase, counted, due, giving, goes_at, has_two, is_busy, marks_then, Polling, resumed, room_stage, scanned, scans, stops_then}
-use Rattle.gh_mutator.specs.Polls.{ScansOne}
+use Rattle.gh_mutator.proofs.Vocabulary.{Ask, cell_of, Cycle, effect, Good, Hands, Held, holding, IsOf, IsQuiet, Keeps, KnowsObjects, landing, Layout, Local, MarkingIsQuiet, moved, nat_tests, nothing, Others, phase_of, PollStage, ProcessorIsQuiet, Resumed, ResumeStage, run_phase, RunPhase, ScansOne, ScanStack, Shared, slice_index_or, slice_set, Steps, Store}
 use Rattle.gh_mutator.proofs.Due.{due_scans}
 use Rattle.gh_mutator.proofs.Marking.Gives.{gives_begin, gives_last, gives_on, nothing_left}
 use Rattle.gh_mutator.proofs.Marking.Known.{by_load, by_quiet, Known, stacks_last, stacks_scanned}

@@ -5,19 +5,16 @@ use Rattle.gh_phase.specs.Shakes.{IsParked}
 use Rattle.gh_mutator.specs.declared.leave.LeaveStage.TheVariants as leave_stage
 use Rattle.gh_mutator.specs.declared.poll.PollStage.TheVariants as poll_stage
 use Rattle.gh_mutator.specs.declared.task.Task.TheVariants as task
-use Rattle.gh_mutator.specs.declared.wait.Wait.{Wait as WaitState}
 use Rattle.gh_mutator.specs.declared.wait.WaitStage.TheVariants as wait_stage
-use Rattle.gh_mutator.specs.Handshake.{leaves_at, polls_at, waits_at}
 use Rattle.gh_mutator.specs.Leave as leave
-use Rattle.gh_mutator.specs.Listing.{after_gc, after_leave, after_poll, asks_at, begins, takes_at}
-use Rattle.gh_mutator.specs.MarkFacts.{IsBetween, KnowsCycle, KnowsStacks, LeaveFacts, LeavesByMoves, PollFacts, PollsByMoves, PollStageFacts, RestFacts, WaitFacts, WaitsByMoves, WaitStageFacts, holding}
-use Rattle.gh_mutator.specs.MarkVocabulary.{Cycle, Good, Hands, Keeps, KnowsObjects, LeaveStage, Local, Others, PollStage, Shared, Steps, WaitStage, cell_of, effect, landing, nothing}
+use Rattle.gh_mutator.specs.MarkFacts.{IsBetween, KnowsCycle, KnowsStacks, LeaveFacts, LeavesByMoves, PollFacts, PollsByMoves, PollStageFacts, RestFacts, WaitFacts, WaitsByMoves, WaitStageFacts}
 use Rattle.gh_mutator.specs.New as new
 use Rattle.gh_mutator.specs.Poll as poll
 use Rattle.gh_mutator.specs.ProcessorMarks.{MarkFacts, MarksByMoves, new_polls, NewFacts, only_polls, TaskFacts}
-use Rattle.gh_mutator.specs.ProcessorPlaces.{new_stage_at, stage_at}
-use Rattle.gh_mutator.specs.Vocabulary.{Leaving, NewStage, Op, Place, Polling, Processor, Search, Shape, Task, Wait, Waiting, Wanted}
+use Rattle.gh_mutator.specs.ProcessorPlaces.{new_stage_at}
+use Rattle.gh_mutator.specs.Vocabulary.{Polling}
 use Rattle.gh_mutator.specs.Wait as wait
+use Rattle.gh_mutator.proofs.Vocabulary.{after_gc, after_leave, after_poll, asks_at, begins, cell_of, Cycle, effect, Good, Hands, holding, Keeps, KnowsObjects, landing, leaves_at, LeaveStage, Leaving, Local, NewStage, nothing, Op, Others, Place, polls_at, PollStage, Processor, Search, Shape, Shared, stage_at, Steps, takes_at, Task, Wait, Waiting, waits_at, WaitStage, WaitState, Wanted}
 use Rattle.gh_mutator.proofs.Marking.Known.{Known, stacks_last}
 use Rattle.gh_mutator.proofs.Marking.Waits.{ended}
 
@@ -102,17 +99,11 @@ module _ (k : Known) (h : PollsByMoves) (v : WaitsByMoves) (l : LeavesByMoves) (
         (l.own_step z a s x good objects f)
 
     steps_at : (t : Task) → only_polls t ≡ true → TaskFacts z a s m.poll t → Leads t
-    steps_at task.Idle only x = absurd (cc)
-    steps_at task.Left only x = absurd (cc)
-    steps_at (task.Load y) only x = absurd (cc)
-    steps_at (task.Store y) only x = absurd (cc)
-    steps_at (task.Global y) only x = absurd (cc)
-    steps_at (task.Register y) only x = absurd (cc)
     steps_at (task.New y) only x = new_steps y.wanted y.stage only x
     steps_at (task.Gc g y) only x = waits g y x
     steps_at task.Poll only x = polls x
-    steps_at (task.End g) only x = absurd (cc)
     steps_at (task.Leave y) only x = leaves y x.0 x.1
+    steps_at _ only x = absurd (cc)
 
   -- what others do
   between_lasts : (s t : Shared) (local : Local) → Others z a s t → IsBetween z a s local → IsBetween z a t local
@@ -124,29 +115,20 @@ module _ (k : Known) (h : PollsByMoves) (v : WaitsByMoves) (l : LeavesByMoves) (
   new_lasts s t p (Place y) o x = between_lasts s t p.local o x
 
   task_lasts : (s t : Shared) (p : Polling) (q : Task) → Others z a s t → TaskFacts z a s p q → TaskFacts z a t p q
-  task_lasts s t p task.Idle o x = between_lasts s t p.local o x
   task_lasts s t p task.Left o x = (x.0, k.last z a s t nothing o x.1)
-  task_lasts s t p (task.Load y) o x = between_lasts s t p.local o x
-  task_lasts s t p (task.Store y) o x = between_lasts s t p.local o x
-  task_lasts s t p (task.Global y) o x = between_lasts s t p.local o x
-  task_lasts s t p (task.Register y) o x = between_lasts s t p.local o x
   task_lasts s t p (task.New y) o x = new_lasts s t p y.stage o x
   task_lasts s t p (task.Gc g y) o x = v.lasts z a s t (wait.waiting y p) o x
   task_lasts s t p task.Poll o x = h.lasts z a s t p o x
-  task_lasts s t p (task.End g) o x = between_lasts s t p.local o x
   task_lasts s t p (task.Leave y) o x = (x.0, l.lasts z a s t y o x.1)
+  task_lasts s t p _ o x = between_lasts s t p.local o x
 
   -- where it stands still
   abbrev HasNothing : Shared → Polling → Type 0
   HasNothing s p = (p.local.held ≡ None) × Hands a s nothing
 
   poll_stands : (s : Shared) (p : Polling) (q : PollStage) (stops : ℕ) → IsParked stops (polls_at p q) → PollStageFacts z a s p.waits p.local q → HasNothing s p
-  poll_stands s p poll_stage.LoadPhase stops still x = absurd still
-  poll_stands s p (poll_stage.Giving g n) stops still x = absurd still
   poll_stands s p (poll_stage.Resuming r) stops still x = (x.1, x.0)
-  poll_stands s p (poll_stage.Marking g n) stops still x = absurd still
-  poll_stands s p (poll_stage.FindRoom r) stops still x = absurd still
-  poll_stands s p poll_stage.Ended stops still x = absurd still
+  poll_stands s p _ stops still x = absurd still
 
   wait_stands : (s : Shared) (w : Waiting) (q : WaitStage) (stops : ℕ) → IsParked stops (waits_at w q) → WaitStageFacts z a s w.poll q → HasNothing s w.poll
   wait_stands s w wait_stage.Want stops still x = absurd still
@@ -165,27 +147,18 @@ module _ (k : Known) (h : PollsByMoves) (v : WaitsByMoves) (l : LeavesByMoves) (
   leave_stands s leave_stage.Left stops still x = x
 
   stands : (s : Shared) (p : Polling) (t : Task) (stops : ℕ) → IsParked stops (stage_at p t) → TaskFacts z a s p t → HasNothing s p
-  stands s p task.Idle stops still x = absurd still
   stands s p task.Left stops still x = x
-  stands s p (task.Load y) stops still x = absurd still
-  stands s p (task.Store y) stops still x = absurd still
-  stands s p (task.Global y) stops still x = absurd still
-  stands s p (task.Register y) stops still x = absurd still
   stands s p (task.New y) stops still x = new_stands s p y.stage stops still x
   stands s p (task.Gc g y) stops still x = wait_stands s (wait.waiting y p) y.stage stops still x
   stands s p task.Poll stops still x = poll_stands s p p.stage stops still x.stage_is
-  stands s p (task.End g) stops still x = absurd still
   stands s p (task.Leave y) stops still x = (x.0, leave_stands s y.stage stops still x.1)
+  stands s p _ stops still x = absurd still
 
   -- where a cycle begins
   module _ (s : Shared) (p : Polling) (stops : ℕ) (layout_is : p.layout ≡ z.arena.layout) (seat_is : p.seat ≡ a) (none : p.local.held ≡ None) (stacks : KnowsStacks z a s p.local.stacks p.local.scanned) (x : Hands a s nothing) where
     poll_opens : (q : PollStage) → IsParked stops (polls_at p q) → PollStageFacts z a s p.waits p.local q
-    poll_opens poll_stage.LoadPhase still = absurd still
-    poll_opens (poll_stage.Giving g n) still = absurd still
     poll_opens (poll_stage.Resuming r) still = (x, none)
-    poll_opens (poll_stage.Marking g n) still = absurd still
-    poll_opens (poll_stage.FindRoom r) still = absurd still
-    poll_opens poll_stage.Ended still = absurd still
+    poll_opens _ still = absurd still
 
     polling_opens : IsParked stops (polls_at p p.stage) → PollFacts z a s p
     polling_opens still = record { layout_is = layout_is; seat_is = seat_is; stacks = stacks; stage_is = poll_opens p.stage still }
@@ -207,37 +180,24 @@ module _ (k : Known) (h : PollsByMoves) (v : WaitsByMoves) (l : LeavesByMoves) (
     leave_opens leave_stage.Left still = x
 
     task_opens : (t : Task) → IsParked stops (stage_at p t) → TaskFacts z a s p t
-    task_opens task.Idle still = absurd still
     task_opens task.Left still = (none, x)
-    task_opens (task.Load y) still = absurd still
-    task_opens (task.Store y) still = absurd still
-    task_opens (task.Global y) still = absurd still
-    task_opens (task.Register y) still = absurd still
     task_opens (task.New y) still = new_opens y.stage still
     task_opens (task.Gc g y) still = wait_opens y y.stage still
     task_opens task.Poll still = polling_opens still
-    task_opens (task.End g) still = absurd still
     task_opens (task.Leave y) still = (none, leave_opens y.stage still)
+    task_opens _ still = absurd still
 
   -- what an idle processor begins
   begins_facts : (shapes : List Shape) (s : Shared) (m : Processor) (o : Op) → only_polls (begins shapes m o).task ≡ true → RestFacts z a s m.poll → MarkFacts z a s (begins shapes m o)
-  begins_facts shapes s m (op.New g d t) only r = absurd (cc)
-  begins_facts shapes s m (op.Load g d b n) only r = absurd (cc)
-  begins_facts shapes s m (op.Store g b n x) only r = absurd (cc)
-  begins_facts shapes s m (op.GetGlobal g d n) only r = absurd (cc)
-  begins_facts shapes s m (op.SetGlobal g n x) only r = absurd (cc)
-  begins_facts shapes s m (op.Int g d n) only r = absurd (cc)
-  begins_facts shapes s m (op.Move g d n) only r = absurd (cc)
-  begins_facts shapes s m (op.Nil g d) only r = absurd (cc)
   begins_facts shapes s m (op.Gc g) only r = record { layout_is = r.layout_is; seat_is = r.seat_is; stacks = r.between.stacks; task_is = v.begins z a s m.poll r }
   begins_facts shapes s m op.Poll only r = record { layout_is = r.layout_is; seat_is = r.seat_is; stacks = r.between.stacks; task_is = h.begins z a s m.poll false r }
-  begins_facts shapes s m (op.End g) only r = absurd (cc)
   begins_facts shapes s m op.Leave only r = record {
     layout_is = r.layout_is;
     seat_is = r.seat_is;
     stacks = r.between.stacks;
     task_is = (refl, l.begins z a m.poll.seat m.poll.local.view.generation s m.poll.layout m.poll.local.cache m.poll.local.held r.layout_is r.between.hands);
   }
+  begins_facts shapes s m _ only r = absurd (cc)
 
 pub marks_by_moves : Known → PollsByMoves → WaitsByMoves → LeavesByMoves → MarksByMoves
 marks_by_moves k h v l = record {

@@ -4,20 +4,19 @@ use Rattle.std.proofs.Math.Nat.{mod-eq_of_lt}
 use Rattle.gh_base.specs.declared.cell.Cell.TheVariants as cell
 use Rattle.gh_base.specs.declared.pack.TheConstants.{END}
 use Rattle.gh_scan.specs.Listing.{reference_in}
-use Rattle.gh_shade.specs.declared.shade.Shaded.{Shaded}
 use Rattle.gh_shade.specs.declared.shade.Shaded.TheVariants as shaded
 use Rattle.gh_shade.specs.Facts as shade_facts
 use Rattle.gh_shade.specs.Listing as shade
-use Rattle.gh_stack.specs.declared.scan_stack.StackStage.{StackStage}
 use Rattle.gh_stack.specs.declared.scan_stack.StackStage.TheVariants as stack_stage
 use Rattle.gh_stack.specs.Facts as stack_facts
 use Rattle.gh_stack.specs.Listing as stack
 use Rattle.gh_wbuf.specs.Facts as buffer_facts
 use Rattle.gh_wbuf.specs.RoomFinding as room
 use Rattle.gh_mutator.specs.declared.mark_stack.MarkStackStage.TheVariants.{Shading, FindRoom, Store, Ended}
-use Rattle.gh_mutator.specs.MarkFacts.{LooksForRoom, ScanFacts, ScanStageFacts, ShadesWish, holding, pending}
+use Rattle.gh_mutator.specs.MarkFacts.{LooksForRoom, ScanFacts, ScanStageFacts, ShadesWish, pending}
 use Rattle.gh_mutator.specs.MarkStack.{after_room, after_shade, asks, asks_at, by_wish, gives, gives_at, goes, goes_at, goes_on, opening, StackMarking}
-use Rattle.gh_mutator.specs.MarkVocabulary.{Cycle, Good, Hands, Held, IsOf, Keeps, KnowsObject, KnowsObjects, Layout, MarkStackStage, Others, ScanStack, Shared, Steps, Value, cell_of, effect, landing, moved, nothing}
+use Rattle.gh_mutator.specs.MarkVocabulary.{KnowsObject}
+use Rattle.gh_mutator.proofs.Vocabulary.{cell_of, Cycle, effect, Good, Hands, Held, holding, IsOf, Keeps, KnowsObjects, landing, Layout, MarkStackStage, moved, nothing, Others, ScanStack, Shaded, Shared, StackStage, Steps, Value}
 use Rattle.gh_mutator.proofs.Marking.Known.{by_load, Known}
 use Rattle.gh_mutator.proofs.StackMarking.{begins_going, told_going, waits_then}
 

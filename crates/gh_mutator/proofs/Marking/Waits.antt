@@ -26,11 +26,7 @@ rest_lasts k z a s t p o r = record {
 -- a poll that has given something has ended
 pub ended : (stage : PollStage) (x : Unit {0}) → poll.given stage ≡ Some x → poll.is_busy stage ≡ false
 ended poll_stage.Ended x e = refl
-ended poll_stage.LoadPhase x e = absurd (cc)
-ended (poll_stage.Giving g stops) x e = absurd (cc)
-ended (poll_stage.Resuming r) x e = absurd (cc)
-ended (poll_stage.Marking g m) x e = absurd (cc)
-ended (poll_stage.FindRoom r) x e = absurd (cc)
+ended _ x e = absurd (cc)
 
 module _ (k : Known) (h : PollsByMoves) (z : Cycle) (a : ℕ) where
   module _ (s : Shared) (good : Good z s) (objects : KnowsObjects z s) (now : KnowsCycle z s) (w : Waiting) where

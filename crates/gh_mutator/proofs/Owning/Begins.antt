@@ -84,15 +84,7 @@ module _ (k : Known) (z : Arena) (a : ℕ) (v : View) (m : Processor) (o : Op) (
   begun_at : (q : Task) → m.task ≡ q → is_busy_at q ≡ false → Begun (has_left_at m.task)
   begun_at task.Idle e rest = subst (λ (q : Task). Begun (has_left_at q)) (sym e) (begun_idle e)
   begun_at task.Left e rest = subst (λ (q : Task). Begun (has_left_at q)) (sym e) fine
-  begun_at (task.Load x) e rest = absurd (cc)
-  begun_at (task.Store x) e rest = absurd (cc)
-  begun_at (task.Global x) e rest = absurd (cc)
-  begun_at (task.Register x) e rest = absurd (cc)
-  begun_at (task.New x) e rest = absurd (cc)
-  begun_at (task.Gc g x) e rest = absurd (cc)
-  begun_at task.Poll e rest = absurd (cc)
-  begun_at (task.End g) e rest = absurd (cc)
-  begun_at (task.Leave x) e rest = absurd (cc)
+  begun_at _ e rest = absurd (cc)
 
 pub begins_well : Known → Begins
 begins_well k z a v m o sg good fine rest may = begun_at k z a v m o sg fine may m.task refl rest

@@ -102,17 +102,12 @@ module _ (z : Arena) (a : ℕ) (v w : View) (o : Others z a v w) where
     new_knows (Place x) h = rests_last h
 
     known_lasts : (q : Task) → KnowsAt z a v m.poll q → KnowsAt z a w m.poll q
-    known_lasts task.Idle h = rests_last h
     known_lasts task.Left h = stands_last z a v w o m.poll h
-    known_lasts (task.Load x) h = rests_last h
-    known_lasts (task.Store x) h = rests_last h
-    known_lasts (task.Global x) h = rests_last h
-    known_lasts (task.Register x) h = rests_last h
     known_lasts (task.New x) h = new_knows x.stage h
     known_lasts (task.Gc g x) h = k.waits.lasts z a v w (waiting x m.poll) o h
     known_lasts task.Poll h = k.polls.lasts z a v w m.poll o h
-    known_lasts (task.End g) h = rests_last h
     known_lasts (task.Leave x) h = k.leaves.lasts z a v w m.poll x o h
+    known_lasts _ h = rests_last h
 
     -- The operation that it is at.
 
@@ -128,17 +123,13 @@ module _ (z : Arena) (a : ℕ) (v w : View) (o : Others z a v w) where
     new_lasts x pending (Place p) has s = makes_last x p pending s
 
     task_lasts : (pending : Option Answer) (q : Task) → HasAt a v m q → FactsAt z a v m pending q → FactsAt z a w m pending q
-    task_lasts pending task.Idle has f = f
-    task_lasts pending task.Left has f = f
     task_lasts pending (task.Load x) has f = load_lasts x pending x.stage f
     task_lasts pending (task.Store x) has f = store_lasts x pending x.stage f
     task_lasts pending (task.Global x) has f = global_lasts x pending x.stage f
     task_lasts pending (task.Register x) has f = register_lasts x pending x.source f
     task_lasts pending (task.New x) has f = new_lasts x.wanted pending x.stage has f
-    task_lasts pending (task.Gc g x) has f = f
-    task_lasts pending task.Poll has f = f
     task_lasts pending (task.End g) has f = (runs_lasts g f.0, f.1)
-    task_lasts pending (task.Leave x) has f = f
+    task_lasts pending _ has f = f
 
 pub facts_last : Known → Lasts
 facts_last k z a v w m pending good o x = record {

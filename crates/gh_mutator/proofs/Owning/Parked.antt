@@ -33,17 +33,10 @@ module _ (z : Arena) (a : ℕ) (v : View) (p : Polling) where
   new_stands (Place x) h = h.stands
 
   stands_at : (q : Task) → KnowsAt z a v p q → Stands z a v p
-  stands_at task.Idle h = h.stands
   stands_at task.Left h = h
-  stands_at (task.Load x) h = h.stands
-  stands_at (task.Store x) h = h.stands
-  stands_at (task.Global x) h = h.stands
-  stands_at (task.Register x) h = h.stands
   stands_at (task.New x) h = new_stands x.stage h
   stands_at (task.Gc g x) h = wait_stands x.stage h
-  stands_at task.Poll h = h.stands
-  stands_at (task.End g) h = h.stands
-  stands_at (task.Leave x) h = h.stands
+  stands_at _ h = h.stands
 
 pub stands_always : StandsAlways
 stands_always z a v m pending fine = stands_at z a v m.poll m.task fine.knows
@@ -56,17 +49,12 @@ module _ (k : Known) (z : Arena) (a : ℕ) (v : View) (m : Processor) (pending :
   new_parked w (Place x) is knows right h = absurd is
 
   parked_at : (q : Task) → IsParked stops (stage_at m.poll q) → KnowsAt z a v m.poll q → HasAt a v m q → FactsAt z a v m pending q → Has a v false no_page × (pending ≡ None)
-  parked_at task.Idle is knows right h = absurd is
   parked_at task.Left is knows right h = (right, h)
-  parked_at (task.Load x) is knows right h = absurd is
-  parked_at (task.Store x) is knows right h = absurd is
-  parked_at (task.Global x) is knows right h = absurd is
-  parked_at (task.Register x) is knows right h = absurd is
   parked_at (task.New x) is knows right h = new_parked x.wanted x.stage is knows right h
   parked_at (task.Gc g x) is knows right h = (k.waits.parked z a v (waiting x m.poll) stops is (right, knows), h)
   parked_at task.Poll is knows right h = (k.polls.parked z a v m.poll stops is (right, knows), h)
-  parked_at (task.End g) is knows right h = absurd is
   parked_at (task.Leave x) is knows right h = (k.leaves.parked z a v m.poll x stops is (right, knows), h)
+  parked_at _ is knows right h = absurd is
 
   -- What lasts.
   module _ (w : View) (keeps : KeepsGhosts a v w) where
@@ -82,17 +70,12 @@ module _ (k : Known) (z : Arena) (a : ℕ) (v : View) (m : Processor) (pending :
     new_stopped x (Place y) is knows h = absurd is
 
     stopped_at : (q : Task) → IsParked stops (stage_at m.poll q) → KnowsAt z a v m.poll q → FactsAt z a v m pending q → KnowsAt z a w m.poll q × FactsAt z a w m pending q
-    stopped_at task.Idle is knows h = absurd is
     stopped_at task.Left is knows h = (stands_stopped z a v w m.poll keeps knows, h)
-    stopped_at (task.Load x) is knows h = absurd is
-    stopped_at (task.Store x) is knows h = absurd is
-    stopped_at (task.Global x) is knows h = absurd is
-    stopped_at (task.Register x) is knows h = absurd is
     stopped_at (task.New x) is knows h = new_stopped x.wanted x.stage is knows h
     stopped_at (task.Gc g x) is knows h = (k.waits.stopped z a v w (waiting x m.poll) stops is keeps knows, h)
     stopped_at task.Poll is knows h = (k.polls.stopped z a v w m.poll stops is keeps knows, h)
-    stopped_at (task.End g) is knows h = absurd is
     stopped_at (task.Leave x) is knows h = (k.leaves.stopped z a v w m.poll x stops is keeps knows, h)
+    stopped_at _ is knows h = absurd is
 
 pub parked : Known → Parked
 parked k z a v m pending stops is fine = parked_at k z a v m pending stops m.task is fine.knows fine.right fine.task

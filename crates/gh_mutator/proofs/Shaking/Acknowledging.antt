@@ -1,26 +1,16 @@
 -- The processor acknowledges a stop with nothing held: by its tasks.
 use Rattle.std.proofs.Common.{◌≡◌, ℕ, subst, ◌∙◌}
-use Rattle.gh_base.specs.declared.cell.Ask.{Ask}
-use Rattle.gh_base.specs.declared.cell.Ask.TheVariants.{Store}
 use Rattle.gh_base.specs.declared.cell.Cell.TheVariants.{Ack}
-use Rattle.gh_phase.specs.Handshake.{IsQuiet}
-use Rattle.gh_scan.specs.Quiet.{MarkingIsQuiet}
-use Rattle.gh_mutator.specs.declared.leave.LeaveStage.{LeaveStage}
 use Rattle.gh_mutator.specs.declared.leave.LeaveStage.TheVariants as leave_stage
-use Rattle.gh_mutator.specs.declared.poll.PollStage.{PollStage}
 use Rattle.gh_mutator.specs.declared.poll.PollStage.TheVariants as poll_stage
 use Rattle.gh_mutator.specs.declared.task.Task.TheVariants as task
-use Rattle.gh_mutator.specs.declared.wait.WaitStage.{WaitStage}
 use Rattle.gh_mutator.specs.declared.wait.WaitStage.TheVariants as wait_stage
-use Rattle.gh_mutator.specs.Handshake.{PollsSoundAt, WaitsSoundAt}
 use Rattle.gh_mutator.specs.Leave as leave
-use Rattle.gh_mutator.specs.Listing.{asks_at}
 use Rattle.gh_mutator.specs.Poll as poll
-use Rattle.gh_mutator.specs.Processor.{register_of}
-use Rattle.gh_mutator.specs.ProcessorPlaces.{HoldsNothing, LeavesOn, SoundAt}
-use Rattle.gh_mutator.specs.Quiet.{ProcessorIsQuiet}
-use Rattle.gh_mutator.specs.Vocabulary.{Leaving, NewStage, Place, Polling, Processor, Search, Task, Wait, Waiting}
+use Rattle.gh_mutator.specs.ProcessorPlaces.{HoldsNothing, LeavesOn}
+use Rattle.gh_mutator.specs.Vocabulary.{Polling}
 use Rattle.gh_mutator.specs.Wait as wait
+use Rattle.gh_mutator.proofs.Vocabulary.{Ask, asks_at, IsQuiet, LeaveStage, Leaving, MarkingIsQuiet, NewStage, Place, PollsSoundAt, PollStage, Processor, ProcessorIsQuiet, register_of, Search, SoundAt, Store, Task, Wait, Waiting, WaitsSoundAt, WaitStage}
 use Rattle.gh_mutator.proofs.Aims.{resume_ack}
 
 -- what writes no word of the handshake acknowledges nothing

@@ -1,31 +1,22 @@
 -- Each step of a poll is one of the handshake of a stop: by its stages.
 use Rattle.std.proofs.Common.{◌≡◌, ℕ, ◌+◌, ◌%◌, ◌^◌, ◌⊎◌, Bool, true, false, cond, refl, ◌∙◌, inl, inr, Option, Some, None}
-use Rattle.gh_base.specs.declared.cell.Ask.{Ask}
-use Rattle.gh_base.specs.declared.cell.Ask.TheVariants.{Load}
 use Rattle.gh_base.specs.declared.cell.Cell.TheVariants as cell
-use Rattle.gh_base.specs.declared.held.Held.{Held}
-use Rattle.gh_base.specs.Packing.{phase_of}
-use Rattle.gh_phase.specs.declared.resume.Resumed.{Resumed}
 use Rattle.gh_phase.specs.declared.resume.ResumeStage.TheVariants.{Acknowledge}
-use Rattle.gh_phase.specs.declared.view.RunPhase.{RunPhase}
 use Rattle.gh_phase.specs.declared.view.RunPhase.TheVariants as run
 use Rattle.gh_phase.specs.Ends as resume_ends
-use Rattle.gh_phase.specs.Handshake.{Awake, FromAwake, Gives, IsQuiet, Resumes, Stage, StageGoes}
+use Rattle.gh_phase.specs.Handshake.{FromAwake, Gives, Resumes, Stage}
 use Rattle.gh_phase.specs.Listing as resume
 use Rattle.gh_phase.specs.ResumePlaces.{ResumesInHandshake}
 use Rattle.gh_phase.specs.ResumePlaces as resumes
 use Rattle.gh_phase.specs.Resumes.{IsStop}
-use Rattle.gh_phase.specs.Views.{run_phase}
-use Rattle.gh_scan.specs.Quiet.{MarkingIsQuiet}
 use Rattle.gh_wbuf.specs.RoomFinding as room
-use Rattle.gh_mutator.specs.declared.poll.PollStage.{PollStage}
 use Rattle.gh_mutator.specs.declared.poll.PollStage.TheVariants.{LoadPhase, Giving, Resuming, Marking, FindRoom, Ended}
 use Rattle.gh_mutator.specs.Give.{none_cached}
 use Rattle.gh_mutator.specs.Give as give
-use Rattle.gh_mutator.specs.Handshake.{GivesSo, GoesOnWithNothing, HasPlaces, IsPlace, poll_stage_of, poller_at, poller_of, polls_at, PollsInHandshake, PollsSoundAt, SoundPoll}
+use Rattle.gh_mutator.specs.Handshake.{GivesSo, GoesOnWithNothing, HasPlaces, IsPlace, poll_stage_of, poller_at, poller_of, PollsInHandshake, SoundPoll}
 use Rattle.gh_mutator.specs.MarkStack as mark
 use Rattle.gh_mutator.specs.Poll.{after_mark, after_resume, after_room, asks_at, at_stage, by_phase, counted, due, giving, goes, goes_at, has_two, is_busy, marks_then, Polling, resumed, room_stage, scanned, scans, stops_then}
-use Rattle.gh_mutator.specs.Quiet.{ProcessorIsQuiet}
+use Rattle.gh_mutator.proofs.Vocabulary.{Ask, Awake, Held, IsQuiet, Load, MarkingIsQuiet, phase_of, polls_at, PollsSoundAt, PollStage, ProcessorIsQuiet, Resumed, run_phase, RunPhase, StageGoes}
 use Rattle.gh_mutator.proofs.Giving.{fine_done, goes_fine, opening_fine}
 
 -- it is awake, of the same seat, and knows the same

@@ -1,37 +1,25 @@
 -- Each step of the whole processor is one of the handshake of a stop: by its tasks.
 use Rattle.std.proofs.Common.{◌≡◌, ℕ, Bool, true, false, cond, ◌↔◌, List, refl, sym, subst, ◌∙◌, inl, Option, Some, None, IsNone}
-use Rattle.std.proofs.lemmas.List.{length-set}
 use Rattle.gh_base.specs.declared.operation.Op.TheVariants as op
-use Rattle.gh_class.specs.Classes.{span_index}
-use Rattle.gh_alloc.specs.declared.sought.Sought.TheVariants.{Large, Small}
 use Rattle.gh_alloc.specs.Search as search
 use Rattle.gh_alloc.specs.Place as place
-use Rattle.gh_phase.specs.Handshake.{Acts, Awake, IsQuiet, PlaceBegins, StageGoes}
-use Rattle.gh_scan.specs.Quiet.{MarkingIsQuiet}
-use Rattle.gh_mutator.specs.declared.leave.LeaveStage.{LeaveStage}
 use Rattle.gh_mutator.specs.declared.leave.LeaveStage.TheVariants as leave_stage
 use Rattle.gh_mutator.specs.declared.task.Task.TheVariants as task
-use Rattle.gh_mutator.specs.declared.wait.Wait.{Wait as WaitState}
 use Rattle.gh_mutator.specs.Give as give
 use Rattle.gh_mutator.specs.Global as global
-use Rattle.gh_mutator.specs.Handshake.{HasPlaces, knower, leaver, leaves_at, LeavesInHandshake, PollsInHandshake, PollsOn, SoundWait, wait_stage_of, waiter_of, WaitsInHandshake}
+use Rattle.gh_mutator.specs.Handshake.{HasPlaces, knower, leaver, LeavesInHandshake, PollsInHandshake, PollsOn, SoundWait, wait_stage_of, waiter_of, WaitsInHandshake}
 use Rattle.gh_mutator.specs.Leave as leave
 use Rattle.gh_mutator.specs.LeaveEnds as leave_proved
-use Rattle.gh_mutator.specs.Listing.{after_gc, after_leave, after_poll, applied, asks_at, begins, follows, is_busy_at, takes, takes_at}
 use Rattle.gh_mutator.specs.Load as load
-use Rattle.gh_mutator.specs.Local.{cache_with}
-use Rattle.gh_mutator.specs.New.{after_place, after_search, after_wait, made_object, makes}
 use Rattle.gh_mutator.specs.Poll as poll
 use Rattle.gh_mutator.specs.PollEnds as poll_proved
-use Rattle.gh_mutator.specs.Processor.{cache_span, register_of}
-use Rattle.gh_mutator.specs.ProcessorPlaces.{LeavesOn, party_at, party_of, ProcessorInHandshake, SoundAt, SoundPlace, stage_at, stage_of}
-use Rattle.gh_mutator.specs.Quiet.{ProcessorIsQuiet}
+use Rattle.gh_mutator.specs.ProcessorPlaces.{LeavesOn, party_of, SoundPlace, stage_of}
 use Rattle.gh_mutator.specs.Register as register
-use Rattle.gh_mutator.specs.Serving.{has_left_at}
 use Rattle.gh_mutator.specs.Store as store
-use Rattle.gh_mutator.specs.Vocabulary.{At, CachedSpan, Ends, Found, GoesOn, Leaving, NewStage, NoRoom, Op, Place, Placing, Polling, Processor, Search, Seeking, Shape, Sought, Step, Task, Then, Value, Wait, Waiting, Wanted}
+use Rattle.gh_mutator.specs.Vocabulary.{Polling}
 use Rattle.gh_mutator.specs.Wait as wait
 use Rattle.gh_mutator.specs.WaitEnds as wait_proved
+use Rattle.gh_mutator.proofs.Vocabulary.{Acts, after_gc, after_leave, after_place, after_poll, after_search, after_wait, applied, asks_at, At, Awake, begins, cache_span, cache_with, CachedSpan, Ends, follows, Found, GoesOn, has_left_at, is_busy_at, IsQuiet, Large, leaves_at, LeaveStage, Leaving, length-set, made_object, makes, MarkingIsQuiet, NewStage, NoRoom, Op, party_at, Place, PlaceBegins, Placing, Processor, ProcessorInHandshake, ProcessorIsQuiet, register_of, Search, Seeking, Shape, Small, Sought, SoundAt, span_index, stage_at, StageGoes, Step, takes, takes_at, Task, Then, Value, Wait, Waiting, WaitState, Wanted}
 use Rattle.gh_mutator.proofs.Shaking.Acknowledging.{acks}
 
 -- a step at this task leads here

@@ -1,17 +1,11 @@
 -- What a processor runs while it is awake writes no word of the handshake: by its stages.
 use Rattle.gh_alloc.specs.Quiet.{AllocationIsQuiet}
-use Rattle.gh_phase.specs.Handshake.{IsQuiet}
-use Rattle.gh_scan.specs.Quiet.{MarkingIsQuiet}
-use Rattle.gh_stack.specs.declared.scan_stack.StackStage.{StackStage}
 use Rattle.gh_stack.specs.declared.scan_stack.StackStage.TheVariants as stack_stage
 use Rattle.gh_stack.specs.Listing as stack
-use Rattle.gh_mutator.specs.declared.give.GiveStage.{GiveStage}
 use Rattle.gh_mutator.specs.declared.give.GiveStage.TheVariants as give_stage
-use Rattle.gh_mutator.specs.declared.global.GlobalStage.{GlobalStage}
 use Rattle.gh_mutator.specs.declared.global.GlobalStage.TheVariants as global_stage
 use Rattle.gh_mutator.specs.declared.load.Load.{Load}
 use Rattle.gh_mutator.specs.declared.load.LoadStage.TheVariants as load_stage
-use Rattle.gh_mutator.specs.declared.mark_stack.MarkStackStage.{MarkStackStage}
 use Rattle.gh_mutator.specs.declared.mark_stack.MarkStackStage.TheVariants as mark_stage
 use Rattle.gh_mutator.specs.declared.store.Store.{Store}
 use Rattle.gh_mutator.specs.declared.store.StoreStage.TheVariants as store_stage
@@ -19,9 +13,8 @@ use Rattle.gh_mutator.specs.Give as give
 use Rattle.gh_mutator.specs.Global as global
 use Rattle.gh_mutator.specs.Load as load
 use Rattle.gh_mutator.specs.MarkStack as mark
-use Rattle.gh_mutator.specs.Quiet.{ProcessorIsQuiet}
 use Rattle.gh_mutator.specs.Store as store
-use Rattle.gh_mutator.specs.Vocabulary.{Global, Layout, LoadStage, StoreStage, Value}
+use Rattle.gh_mutator.proofs.Vocabulary.{GiveStage, Global, GlobalStage, IsQuiet, Layout, LoadStage, MarkingIsQuiet, MarkStackStage, ProcessorIsQuiet, StackStage, StoreStage, Value}
 
 stacks : (s : stack.StackScan) (stage : StackStage) → IsQuiet (stack.asks_at s stage)
 stacks s (stack_stage.Shade register reference) = tt
@@ -30,10 +23,7 @@ stacks s stack_stage.Ended = tt
 
 loads : (l : Layout) (x : Load) (stage : LoadStage) → IsQuiet (load.asks_at l x stage)
 loads l x load_stage.NilBase = tt
-loads l x load_stage.Page = tt
-loads l x load_stage.Bits = tt
-loads l x (load_stage.Field pointer) = tt
-loads l x (load_stage.Birth at) = tt
+loads l x _ = tt
 
 stores : (l : Layout) (held : Value) (x : Store) (stage : StoreStage) → IsQuiet (store.asks_at l held x stage)
 stores l held x store_stage.NilBase = tt
@@ -49,11 +39,8 @@ globals l held x global_stage.Number = tt
 
 module _ (q : MarkingIsQuiet) (a : AllocationIsQuiet) where
   gives : (g : give.Giving) (stage : GiveStage) → IsQuiet (give.asks_at g stage)
-  gives g give_stage.Lock = tt
-  gives g (give_stage.GiveSpan class s) = tt
-  gives g give_stage.Unlock = tt
   gives g (give_stage.GiveBuffer b) = q.gives b
-  gives g give_stage.Ended = tt
+  gives g _ = tt
 
   marks : (m : mark.StackMarking) (stage : MarkStackStage) → IsQuiet (mark.asks_at m stage)
   marks m (mark_stage.Shading sh) = q.shades sh

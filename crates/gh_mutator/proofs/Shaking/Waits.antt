@@ -33,11 +33,7 @@ either found w has false = record { sound = polls_on w has; goes = (refl, tt, tt
 -- a poll that has given something has ended
 pub ended : (p : poll.Polling) (stage : PollStage) (x : Unit {0}) → poll.given stage ≡ Some x → poll.is_busy stage ≡ false
 ended p poll_stage.Ended x e = refl
-ended p poll_stage.LoadPhase x e = absurd cc
-ended p (poll_stage.Giving g stops) x e = absurd cc
-ended p (poll_stage.Resuming r) x e = absurd cc
-ended p (poll_stage.Marking g m) x e = absurd cc
-ended p (poll_stage.FindRoom r) x e = absurd cc
+ended p _ x e = absurd cc
 
 module _ (h : PollsInHandshake) where
   polled : (found : ℕ) (w : Waiting) → PollsOn w.poll → (out : Option (Unit {0})) → poll.gives w.poll found ≡ out → Goes found w Polling (after_poll w (poll.goes w.poll found) out)

@@ -1,26 +1,20 @@
 -- A processor writes its own words, and notes those of its stacks.
 use Rattle.std.proofs.Common.{◌≡◌, ◌≢◌, ℕ, zero, suc, Bool, true, false, cond, ltb, List, Option, Some, None, refl, ap, subst, sym}
-use Rattle.std.specs.Prelude.{replicate, slice_index}
-use Rattle.gh_base.specs.Rows.{CellsAreTold}
+use Rattle.std.specs.Prelude.{replicate}
 use Rattle.gh_alloc.specs.Place as place
 use Rattle.gh_mutator.specs.declared.task.Task.TheVariants as task
 use Rattle.gh_mutator.specs.declared.wait.WaitStage.TheVariants as wait_stage
-use Rattle.gh_mutator.specs.Deeds.{processor_kind}
 use Rattle.gh_mutator.specs.Global as global
 use Rattle.gh_mutator.specs.Leave as leave
-use Rattle.gh_mutator.specs.Listing.{after_gc, after_leave, after_poll, asks, asks_at, begins, follows, takes_at}
-use Rattle.gh_mutator.specs.MarkVocabulary.{WaitStage}
 use Rattle.gh_mutator.specs.Load as load
 use Rattle.gh_mutator.specs.New as new
 use Rattle.gh_mutator.specs.Poll as poll
-use Rattle.gh_mutator.specs.Processor.{register_of}
-use Rattle.gh_mutator.specs.ProcessorPlaces.{ProcessorInHandshake}
 use Rattle.gh_mutator.specs.Register as register
-use Rattle.gh_mutator.specs.Serving.{has_left_at}
 use Rattle.gh_mutator.specs.Store as store
-use Rattle.gh_mutator.specs.Vocabulary.{Ends, GoesOn, Layout, Leaving, MOST_GOROUTINES, NewStage, Op, Place, Placing, Polling, Processor, Search, Shape, Task, Then, Wait, Waiting, Wanted}
+use Rattle.gh_mutator.specs.Vocabulary.{MOST_GOROUTINES, Polling}
 use Rattle.gh_mutator.specs.Wait as wait
-use Rattle.gh_mutator.specs.Writing.{IsSearching, IsWanting, IsWritten, ProcessorWritesItsOwn, SearchesAt, SoundScanAt, StacksAreNoted}
+use Rattle.gh_mutator.specs.Writing.{IsSearching, IsWanting, IsWritten, ProcessorWritesItsOwn, SearchesAt, StacksAreNoted}
+use Rattle.gh_mutator.proofs.Vocabulary.{after_gc, after_leave, after_poll, asks, asks_at, begins, CellsAreTold, Ends, follows, GoesOn, has_left_at, Layout, Leaving, NewStage, Op, Place, Placing, Processor, processor_kind, ProcessorInHandshake, register_of, Search, Shape, slice_index, SoundScanAt, takes_at, Task, Then, Wait, Waiting, WaitStage, Wanted}
 use Rattle.gh_mutator.proofs.Writing.Polls.{Stays, stays_so}
 use Rattle.gh_mutator.proofs.Writing.Processor.{writes_at}
 use Rattle.gh_mutator.proofs.Writing.Rows.{leaves_others}

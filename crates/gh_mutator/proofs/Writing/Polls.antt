@@ -1,23 +1,13 @@
 -- What a step of a poll leaves: its heap and its seat, what it knows of the stack that it scans, and the notes.
 use Rattle.std.proofs.Common.{◌≡◌, ◌≢◌, ℕ, ◌+◌, ◌<◌, Bool, true, false, cond, List, [], ◌∷◌, drop, length, Option, Some, None, refl, sym, ap, subst, ◌∙◌}
-use Rattle.std.specs.Prelude.{slice_index, slice_index_or, slice_set}
-use Rattle.std.proofs.lemmas.List.{get_or-set_other, get_or-set_same, length-set}
-use Rattle.gh_base.specs.declared.cell.Ask.TheVariants.{Store as Stores}
-use Rattle.gh_base.specs.declared.cell.Cell.{Cell}
+use Rattle.std.proofs.lemmas.List.{get_or-set_other, get_or-set_same}
 use Rattle.gh_base.specs.declared.cell.Cell.TheVariants as cell
 use Rattle.gh_base.specs.declared.value.Value.TheVariants as value
-use Rattle.gh_base.specs.Packing.{phase_of}
-use Rattle.gh_phase.specs.declared.resume.Resumed.{Resumed}
-use Rattle.gh_phase.specs.declared.resume.ResumeStage.{ResumeStage}
 use Rattle.gh_phase.specs.declared.resume.ResumeStage.TheVariants as resume_stage
-use Rattle.gh_phase.specs.declared.view.RunPhase.{RunPhase}
 use Rattle.gh_phase.specs.declared.view.RunPhase.TheVariants as run
 use Rattle.gh_phase.specs.Listing as resume
-use Rattle.gh_phase.specs.Views.{run_phase}
-use Rattle.gh_shade.specs.declared.shade.Shaded.{Shaded}
 use Rattle.gh_shade.specs.declared.shade.Shaded.TheVariants as shaded
 use Rattle.gh_shade.specs.Listing as shade
-use Rattle.gh_stack.specs.declared.scan_stack.StackStage.{StackStage}
 use Rattle.gh_stack.specs.declared.scan_stack.StackStage.TheVariants as stack_stage
 use Rattle.gh_stack.specs.Listing as stack
 use Rattle.gh_wbuf.specs.RoomFinding as room
@@ -25,9 +15,9 @@ use Rattle.gh_mutator.specs.declared.mark_stack.MarkStackStage.TheVariants.{Shad
 use Rattle.gh_mutator.specs.declared.poll.PollStage.TheVariants as poll_stage
 use Rattle.gh_mutator.specs.Give as give
 use Rattle.gh_mutator.specs.MarkStack as mark
-use Rattle.gh_mutator.specs.MarkVocabulary.{Ask, Held, Layout, Local, MarkStackStage, PollStage, Value}
 use Rattle.gh_mutator.specs.Poll.{after_mark, after_resume, after_room, asks_at, at_stage, by_phase, counted, due, giving, goes_at, has_two, marks_then, Polling, resumed, room_stage, scanned, scans, stops_then}
-use Rattle.gh_mutator.specs.Writing.{ScansItsOwn, ShadesByWish, SoundScanAt, WritesOf}
+use Rattle.gh_mutator.specs.Writing.{ScansItsOwn, ShadesByWish}
+use Rattle.gh_mutator.proofs.Vocabulary.{Ask, Cell, Held, Layout, length-set, Local, MarkStackStage, phase_of, PollStage, Resumed, ResumeStage, run_phase, RunPhase, Shaded, slice_index, slice_index_or, slice_set, SoundScanAt, StackStage, Store as Stores, Value, WritesOf}
 use Rattle.gh_mutator.proofs.Due.{due_scans}
 use Rattle.gh_mutator.proofs.Writing.Routines.{gives_write}
 use Rattle.gh_mutator.proofs.Writing.Rows.{buffer_writes, OfHeap, OfMarking, room_writes, shade_writes}
@@ -85,12 +75,8 @@ goes_by step p to w s = record { layout = s.layout; seat = s.seat; noted = not_n
 
 -- its stage is the same, and so is what it knows of the phase
 pub carried : (p : Polling) (local : Local) → local.view ≡ p.local.view → (q : PollStage) → SoundScanAt p q → SoundScanAt (record p { local = local }) q
-carried p local e poll_stage.LoadPhase s = tt
-carried p local e (poll_stage.Giving g stops) s = tt
-carried p local e (poll_stage.Resuming r) s = tt
 carried p local e (poll_stage.Marking g m) s = record { there = s.there; own = s.own; marking = rw e s.marking; of = s.of; cycle_is = rw e s.cycle_is; by_wish = s.by_wish }
-carried p local e (poll_stage.FindRoom r) s = tt
-carried p local e poll_stage.Ended s = tt
+carried p local e _ s = tt
 
 pub stays_with : (p : Polling) (local : Local) → local.view ≡ p.local.view → local.scanned ≡ p.local.scanned → SoundScanAt p p.stage → Stays p (record p { local = local })
 stays_with p local e f s = record { layout = refl; seat = refl; scanned = f; scan = carried p local e p.stage s }
@@ -157,10 +143,7 @@ resume_stays p r (Some out) = let s = marks_stay (resumed p out) out.view.phase 
 
 resume_not : (r : resume.Resuming) (q : ResumeStage) → WritesOf NotStack (resume.asks_at r q)
 resume_not r resume_stage.Acknowledge = tt
-resume_not r resume_stage.LoadPhase = tt
-resume_not r resume_stage.LoadGeneration = tt
-resume_not r resume_stage.LoadBegun = tt
-resume_not r resume_stage.Ended = tt
+resume_not r _ = tt
 
 room_stays : (p : Polling) (r : room.RoomFinding) (out : Option Held) → Stays p (after_room p r out)
 room_stays p r None = record { layout = refl; seat = refl; scanned = refl; scan = tt }

@@ -1,7 +1,6 @@
 -- Which words a whole processor writes, and what its step leaves: by its tasks.
 use Rattle.std.proofs.Common.{◌≡◌, ℕ, List, refl, sym, ap, subst, ◌∙◌, inl, inr}
 use Rattle.gh_alloc.specs.Place as place
-use Rattle.gh_phase.specs.declared.resume.ResumeStage.{ResumeStage}
 use Rattle.gh_phase.specs.declared.resume.ResumeStage.TheVariants as resume_stage
 use Rattle.gh_phase.specs.Listing as resume
 use Rattle.gh_stack.specs.Listing as stack
@@ -9,21 +8,17 @@ use Rattle.gh_mutator.specs.declared.leave.LeaveStage.TheVariants as leave_stage
 use Rattle.gh_mutator.specs.declared.mark_stack.MarkStackStage.TheVariants as mark_stage
 use Rattle.gh_mutator.specs.declared.poll.PollStage.TheVariants as poll_stage
 use Rattle.gh_mutator.specs.declared.task.Task.TheVariants as task
-use Rattle.gh_mutator.specs.declared.wait.Wait.{Wait as WaitState}
 use Rattle.gh_mutator.specs.declared.wait.WaitStage.TheVariants as wait_stage
 use Rattle.gh_mutator.specs.Give as give
-use Rattle.gh_mutator.specs.Handshake.{PollsSoundAt, WaitsSoundAt}
 use Rattle.gh_mutator.specs.Leave as leave
-use Rattle.gh_mutator.specs.Listing.{asks}
 use Rattle.gh_mutator.specs.MarkStack as mark
-use Rattle.gh_mutator.specs.MarkVocabulary.{Ask, LeaveStage, MarkStackStage, PollStage, WaitStage}
 use Rattle.gh_mutator.specs.New as new
 use Rattle.gh_mutator.specs.Poll as poll
-use Rattle.gh_mutator.specs.Processor.{register_of}
-use Rattle.gh_mutator.specs.ProcessorPlaces.{SoundAt, SoundNewAt}
-use Rattle.gh_mutator.specs.Vocabulary.{Leaving, NewStage, Place, Polling, Processor, Search, Task, Wait, Waiting, Wanted}
+use Rattle.gh_mutator.specs.ProcessorPlaces.{SoundNewAt}
+use Rattle.gh_mutator.specs.Vocabulary.{Polling}
 use Rattle.gh_mutator.specs.Wait as wait
-use Rattle.gh_mutator.specs.Writing.{IsWanting, IsWritten, ScansItsOwn, SoundScanAt, TellsScan, WritesOf}
+use Rattle.gh_mutator.specs.Writing.{IsWanting, IsWritten, ScansItsOwn, TellsScan}
+use Rattle.gh_mutator.proofs.Vocabulary.{Ask, asks, LeaveStage, Leaving, MarkStackStage, NewStage, Place, PollsSoundAt, PollStage, Processor, register_of, ResumeStage, Search, SoundAt, SoundScanAt, Task, Wait, Waiting, WaitsSoundAt, WaitStage, WaitState, Wanted, WritesOf}
 use Rattle.gh_mutator.proofs.Writing.Polls.{scan_asks}
 use Rattle.gh_mutator.proofs.Writing.Routines.{gives_write, global_writes, load_writes, store_writes}
 use Rattle.gh_mutator.proofs.Writing.Rows.{buffer_writes, OfHeap, OfMarking, place_writes, room_writes, search_writes, shade_writes}
@@ -41,10 +36,7 @@ gives_written m g = gives_write (IsWritten m) (heap_written m) g g.stage (λ b e
 module _ (m : Processor) (is : asks m ≡ poll.asks m.poll) where
   resume_writes : (r : resume.Resuming) (q : ResumeStage) → r.seat ≡ m.poll.seat → WritesOf (IsWritten m) (resume.asks_at r q)
   resume_writes r resume_stage.Acknowledge own = own
-  resume_writes r resume_stage.LoadPhase own = tt
-  resume_writes r resume_stage.LoadGeneration own = tt
-  resume_writes r resume_stage.LoadBegun own = tt
-  resume_writes r resume_stage.Ended own = tt
+  resume_writes r _ own = tt
 
   module _ (g : ℕ) (n : mark.StackMarking) (at : m.poll.stage ≡ poll_stage.Marking g n) (s : ScansItsOwn m.poll g n) where
     tells_scan : n.stage ≡ mark_stage.Store → WritesOf (IsWritten m) (stack.asks n.scan)

@@ -18,10 +18,7 @@ use Rattle.gh_mutator.proofs.Writing.Rows.{OfHeap}
 module _ (P : Cell → Type 0) (r : OfHeap P) where
   load_writes_at : (l : Layout) (x : Load) (q : LoadStage) → WritesOf P (load.asks_at l x q)
   load_writes_at l x load_stage.NilBase = tt
-  load_writes_at l x load_stage.Page = tt
-  load_writes_at l x load_stage.Bits = tt
-  load_writes_at l x (load_stage.Field pointer) = tt
-  load_writes_at l x (load_stage.Birth at) = tt
+  load_writes_at l x _ = tt
 
   pub load_writes : (l : Layout) (x : Load) → WritesOf P (load.asks l x)
   load_writes l x = load_writes_at l x x.stage

@@ -1,51 +1,37 @@
 -- Which rows the routines of allocation and of marking write: by their stages.
 use Rattle.std.proofs.Common.{◌≡◌, ℕ, ◌/◌, Bool, true, false, cond, eqb, Option, Some, None, refl, subst}
 use Rattle.gh_base.specs.declared.cell.Ask.TheVariants as ask
-use Rattle.gh_base.specs.declared.cell.Cell.{Cell}
 use Rattle.gh_base.specs.declared.cell.Cell.TheVariants as cell
-use Rattle.gh_base.specs.declared.held.Held.{Held}
 use Rattle.gh_base.specs.Cells.{put, Words}
-use Rattle.gh_base.specs.Rows.{CellsAreTold}
-use Rattle.gh_base.specs.Steps.{effect}
 use Rattle.gh_bitmap.specs.declared.set_pointers.SetStage.{SetStage}
 use Rattle.gh_bitmap.specs.declared.set_pointers.SetStage.TheVariants as set_stage
 use Rattle.gh_bitmap.specs.SetPointers as bits
-use Rattle.gh_cache.specs.declared.next_slot.SlotStage.{SlotStage}
 use Rattle.gh_cache.specs.declared.next_slot.SlotStage.TheVariants as slot_stage
 use Rattle.gh_cache.specs.Listing as slots
 use Rattle.gh_central.specs.declared.give.GiveStage.{GiveStage}
 use Rattle.gh_central.specs.declared.give.GiveStage.TheVariants as give_stage
-use Rattle.gh_central.specs.declared.pass.PassStage.{PassStage}
 use Rattle.gh_central.specs.declared.pass.PassStage.TheVariants as pass_stage
-use Rattle.gh_central.specs.declared.reclaim.ReclaimStage.{ReclaimStage}
 use Rattle.gh_central.specs.declared.reclaim.ReclaimStage.TheVariants as reclaim_stage
 use Rattle.gh_central.specs.GiveBack as give
 use Rattle.gh_central.specs.Reclaim as reclaim
 use Rattle.gh_central.specs.SweptPass as pass
-use Rattle.gh_pages.specs.declared.carve.CarveStage.{CarveStage}
 use Rattle.gh_pages.specs.declared.carve.CarveStage.TheVariants as carve_stage
 use Rattle.gh_pages.specs.Listing as carve
 use Rattle.gh_alloc.specs.declared.find.FindStage.TheVariants as find_stage
 use Rattle.gh_alloc.specs.declared.place.PlaceStage.TheVariants as place_stage
-use Rattle.gh_alloc.specs.declared.search.SearchStage.{SearchStage}
 use Rattle.gh_alloc.specs.declared.search.SearchStage.TheVariants as search_stage
 use Rattle.gh_alloc.specs.Find as find
 use Rattle.gh_alloc.specs.Place as place
 use Rattle.gh_alloc.specs.Search as search
-use Rattle.gh_shade.specs.declared.shade.ShadeStage.{ShadeStage}
 use Rattle.gh_shade.specs.declared.shade.ShadeStage.TheVariants as shade_stage
 use Rattle.gh_shade.specs.Listing as shade
-use Rattle.gh_wbuf.specs.declared.find_room.RoomStage.{RoomStage}
 use Rattle.gh_wbuf.specs.declared.find_room.RoomStage.TheVariants as room_stage
-use Rattle.gh_wbuf.specs.declared.give_buffer.GiveStage.{GiveStage as BufferStage}
 use Rattle.gh_wbuf.specs.declared.give_buffer.GiveStage.TheVariants as buffer_stage
-use Rattle.gh_wbuf.specs.declared.try_buffer.TryStage.{TryStage}
 use Rattle.gh_wbuf.specs.declared.try_buffer.TryStage.TheVariants as try_stage
 use Rattle.gh_wbuf.specs.BufferGiving as buffer
 use Rattle.gh_wbuf.specs.RoomFinding as room
 use Rattle.gh_wbuf.specs.Trying as try
-use Rattle.gh_mutator.specs.Vocabulary.{Ask, FindStage, PlaceStage}
-use Rattle.gh_mutator.specs.Writing.{WritesOf}
+use Rattle.gh_mutator.proofs.Vocabulary.{Ask, BufferStage, CarveStage, Cell, CellsAreTold, effect, FindStage, Held, PassStage, PlaceStage, ReclaimStage, RoomStage, SearchStage, ShadeStage, SlotStage, TryStage, WritesOf}
 
 -- these rows may be written
 pub record OfHeap (P : Cell → Type 0) : Type 0 where

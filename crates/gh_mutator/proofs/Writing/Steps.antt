@@ -5,22 +5,17 @@ use Rattle.gh_alloc.specs.Place as place
 use Rattle.gh_alloc.specs.Search as search
 use Rattle.gh_mutator.specs.declared.leave.LeaveStage.TheVariants as leave_stage
 use Rattle.gh_mutator.specs.declared.task.Task.TheVariants as task
-use Rattle.gh_mutator.specs.declared.wait.Wait.{Wait as WaitState}
 use Rattle.gh_mutator.specs.declared.wait.WaitStage.TheVariants as wait_stage
 use Rattle.gh_mutator.specs.Global as global
 use Rattle.gh_mutator.specs.Leave as leave
-use Rattle.gh_mutator.specs.Listing.{after_gc, after_leave, after_poll, asks_at, begun_with, takes_at}
 use Rattle.gh_mutator.specs.Load as load
-use Rattle.gh_mutator.specs.Local.{with_ended}
-use Rattle.gh_mutator.specs.MarkVocabulary.{LeaveStage, Value, WaitStage}
 use Rattle.gh_mutator.specs.New as new
 use Rattle.gh_mutator.specs.Poll as poll
-use Rattle.gh_mutator.specs.Processor.{cache_span, register_of, taking}
 use Rattle.gh_mutator.specs.Register as register
 use Rattle.gh_mutator.specs.Store as store
-use Rattle.gh_mutator.specs.Vocabulary.{At, CachedSpan, Found, Leaving, NewStage, NoRoom, Op, Place, Placing, Polling, Processor, Search, Seeking, Shape, Task, Wait, Waiting, Wanted}
+use Rattle.gh_mutator.specs.Vocabulary.{Polling}
 use Rattle.gh_mutator.specs.Wait as wait
-use Rattle.gh_mutator.specs.Writing.{SoundScanAt, WritesOf}
+use Rattle.gh_mutator.proofs.Vocabulary.{after_gc, after_leave, after_poll, asks_at, At, begun_with, cache_span, CachedSpan, Found, LeaveStage, Leaving, NewStage, NoRoom, Op, Place, Placing, Processor, register_of, Search, Seeking, Shape, SoundScanAt, takes_at, taking, Task, Value, Wait, Waiting, WaitStage, WaitState, Wanted, with_ended, WritesOf}
 use Rattle.gh_mutator.proofs.Writing.Polls.{carried, Goes, goes_by, gives_not, heap_not, NotStack, poll_goes, Stays, stays_so, stays_with, told_noted}
 use Rattle.gh_mutator.proofs.Writing.Routines.{global_writes, load_writes, store_writes}
 use Rattle.gh_mutator.proofs.Writing.Rows.{place_writes, search_writes}
@@ -109,13 +104,4 @@ module _ (shapes : List Shape) (m : Processor) (found : ℕ) (s : SoundScanAt m.
 pub begun_stays : (p : Polling) (o : Op) → SoundScanAt p p.stage → Stays p (begun_with p o)
 begun_stays p op.Poll s = record { layout = refl; seat = refl; scanned = refl; scan = tt }
 begun_stays p op.Leave s = stays_with p _ refl refl s
-begun_stays p (op.New g d t) s = stays_so p s
-begun_stays p (op.Load g d b n) s = stays_so p s
-begun_stays p (op.Store g b n x) s = stays_so p s
-begun_stays p (op.GetGlobal g d n) s = stays_so p s
-begun_stays p (op.SetGlobal g n x) s = stays_so p s
-begun_stays p (op.Int g d n) s = stays_so p s
-begun_stays p (op.Move g d n) s = stays_so p s
-begun_stays p (op.Nil g d) s = stays_so p s
-begun_stays p (op.Gc g) s = stays_so p s
-begun_stays p (op.End g) s = stays_so p s
+begun_stays p _ s = stays_so p s
