@@ -1,11 +1,11 @@
 //! A store of a pointer while marking is on, behind its write barrier.
 //!
-//! Goroutines go on while others mark, and change the paths along which marking goes. It must not be fooled by
-//! that: an object that a goroutine can reach when marking ends is to be marked by then. What is scanned is not
-//! looked at again, be it an object, a global or a stack. So a goroutine could hide a white object in two ways.
-//! It could put the object's only pointer into a field that was scanned, and drop it where it was still to be
-//! found. Or it could load the object into a stack that was scanned, and overwrite the field from which marking
-//! would have found it. The barrier is two shades and then the store, and each shade is against one of these:
+//! Goroutines go on while others mark, and change the paths along which marking goes. Still each object that a
+//! goroutine can reach when marking ends is to be marked by then. What is scanned is not looked at again, be it an
+//! object, a global or a stack. So without a barrier marking could miss a white object in two ways. A goroutine puts
+//! the object's only pointer into a field that was scanned, and drops it where it was still to be found. Or it loads
+//! the object into a stack that was scanned, and overwrites the field from which marking would have found it. The
+//! barrier is two shades and then the store, and each shade is against one of these:
 //!
 //! ```text
 //! writePointer(slot, ptr):
@@ -30,21 +30,19 @@
 //! that the value which is overwritten is not the one that was shaded. It is marked nevertheless, just because the
 //! other's barrier shaded it before it was put there. So what is known of the slot behind the load is that it holds
 //! what was loaded, or a value that is marked; and after the first shade that it holds a marked value, or nil. That
-//! lasts whatever others store. A test of the stack's colour would save little besides, and would have to be one
-//! with the store.
+//! lasts whatever others store.
 //!
 //! **Both come before the store.** At each moment what is scanned names what is marked, and a scanned stack what is
-//! marked or protected. With the store first there were moments at which this is false, and all that stood against
-//! the loss of an object were what one processor still had in mind to do; who looks whether marking is over cannot
-//! see that.
+//! marked or protected. With the store first there would be moments at which this is false, and the object would
+//! depend on steps that one processor is still to make, of which the shared words say nothing.
 //!
 //! **What is shaded is grey, not black.** Its mark bit keeps it from the sweep, but what its own fields name is
 //! found only where somebody scans them. So it becomes an entry of the work buffer that the processor holds, unless
 //! it has no pointer fields, or somebody has marked it before and had it in hand.
 //!
-//! A store ends in one piece: it is no safe point, and waits for nobody. So it is begun with two free entries in
-//! the buffer that is held, one for each shade, and the poll before the statement has seen to that. It makes eight
-//! steps at the most.
+//! There is no safe point within a store, and it waits for nobody. So it is begun with two free entries in the
+//! buffer that is held, one for each shade; the poll before the statement sees to that. It makes eight steps at the
+//! most.
 //!
 //! This is the hybrid write barrier of proposal 17503 and of Go's `mbarrier.go`. Go keeps the two pointers in a
 //! buffer (`mwbbuf.go`) and shades them later, before the next safe point; here each is shaded at once.
