@@ -72,17 +72,7 @@ module _ (p : Program) (l : Layout) (script : WellFormed p) (layout : LaysOut p 
       } where
         begun_laid : (o : Op) → (mutating.begins m o).processor.poll.layout ≡ l
         begun_laid op.Poll = f.laid
-        begun_laid op.Leave = f.laid
-        begun_laid (op.New g d k) = f.laid
-        begun_laid (op.Load g d b k) = f.laid
-        begun_laid (op.Store g b k v) = f.laid
-        begun_laid (op.GetGlobal g d k) = f.laid
-        begun_laid (op.SetGlobal g k v) = f.laid
-        begun_laid (op.Int g d n) = f.laid
-        begun_laid (op.Move g d v) = f.laid
-        begun_laid (op.Nil g d) = f.laid
-        begun_laid (op.Gc g) = f.laid
-        begun_laid (op.End g) = f.laid
+        begun_laid _ = f.laid
 
   pub fit_stepped : (found : ℕ) → is_busy_at m.processor.task ≡ true → FitTurns p l (mutating.goes m found) t (points + bit (is_point (acts m.processor found))) room
   fit_stepped found busy =

@@ -2,11 +2,11 @@
 use Rattle.std.proofs.Common.{◌≡◌, ℕ, ◌<◌, ◌==◌, ◌⊎◌, inl, inr, zero, suc, not, Bool, true, false, cond, refl, sym, ap, subst, ◌∙◌, arith, List, [], ◌∷◌, Option, Some}
 use Rattle.std.specs.Prelude.{◌||◌}
 use Rattle.gh_base.specs.declared.operation.Op.TheVariants as op
-use Rattle.gh_world.proofs.Vocabulary.{all_ended, Arena, by, ended_in, ends, Entry, Entry as EntryOf, Kind, nat_tests, Op, started, state_of}
+use Rattle.gh_world.proofs.Vocabulary.{all_ended, Arena, by, ended_in, ends, Entry, Kind, nat_tests, Op, started, state_of}
 use Rattle.gh_world.proofs.AllActors.Beginning.{both}
 
 -- a state depends on its actor's own entries alone
-pub state_by : {M O : Type 0} (k : Kind M O) (a : ℕ) (es : List (EntryOf O)) → state_of k a (by a es) ≡ state_of k a es
+pub state_by : {M O : Type 0} (k : Kind M O) (a : ℕ) (es : List (Entry O)) → state_of k a (by a es) ≡ state_of k a es
 state_by k a [] = refl
 state_by k a (e ∷ es) = go (e.actor == a) refl (state_by k a es) where
   go : (b : Bool) → (e.actor == a) ≡ b → state_of k a (by a es) ≡ state_of k a es → state_of k a (cond b (e ∷ by a es) (by a es)) ≡ cond b (k.takes (started k e.begun (state_of k a es)) e.found) (state_of k a es)

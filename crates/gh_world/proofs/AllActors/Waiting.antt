@@ -37,11 +37,7 @@ polls_parked : (stops : ℕ) (p : Polling) → IsParked stops (poll_stage_of p) 
 polls_parked stops p k = go p.stage refl k where
   go : (s : PollStage) → p.stage ≡ s → IsParked stops (polls_at p s) → WaitsAt stops p
   go (polling.Resuming r) is k = let x = at_load r.stops stops r.stage k in record { routine = r; is_at = is; loads = x.0; stop_is = x.1 }
-  go polling.LoadPhase is k = absurd k
-  go (polling.Giving g n) is k = absurd k
-  go (polling.Marking g m) is k = absurd k
-  go (polling.FindRoom r) is k = absurd k
-  go polling.Ended is k = absurd k
+  go _ is k = absurd k
 
 module _ (back : PackedWordsAreReadBack) (stops : ℕ) where
   abbrev found : ℕ

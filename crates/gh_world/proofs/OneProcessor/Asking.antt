@@ -4,7 +4,7 @@ use Rattle.gh_base.specs.declared.cell.Cell.TheVariants as cell
 use Rattle.gh_coord.specs.declared.open.OpenStage.TheVariants as open_stage
 use Rattle.gh_coord.specs.declared.tell.TellStage.TheVariants as tell_stage
 use Rattle.gh_coord.specs.Telling as tell
-use Rattle.gh_world.proofs.Vocabulary.{Check, Close, Coordinating, CoordStage, Count, Done, LoadAck, LoadWant, MarkOn, Open, OpenStage, Stop, StopAgain, Sweep, Tell, TellStage, Watch, Words}
+use Rattle.gh_world.proofs.Vocabulary.{Coordinating, CoordStage, Done, LoadAck, LoadWant, Open, OpenStage, Stop, Tell, TellStage, Words}
 
 -- the request of a cycle is cleared, or is cleared by the next step
 abbrev pub IsCleared : Words → OpenStage → Type 0
@@ -110,17 +110,7 @@ calm_told c w x = record { stage = go c.stage x.stage; none = x.none; swept = x.
   go : (p : CoordStage) → CalmAt c w p → ToldAt c w p
   go (LoadAck i) y = y
   go LoadWant y = y
-  go (Tell t) y = absurd y
-  go (Stop st) y = absurd y
-  go (Open o) y = absurd y
-  go (Watch z) y = absurd y
-  go (StopAgain st) y = absurd y
-  go (Check z) y = absurd y
-  go MarkOn y = absurd y
-  go (Close z) y = absurd y
-  go (Sweep z) y = absurd y
-  go (Count z) y = absurd y
-  go Done y = absurd y
+  go _ y = absurd y
 
 -- and so one is asked for, whatever the word of requests says then
 pub calm_asked : (c : Coordinating) (w v : Words) (k : ℕ) → IsCalm c w → k ≡ w cell.Swept → v cell.Swept ≡ w cell.Swept → IsAsked k c v
@@ -128,14 +118,4 @@ calm_asked c w v k x is same = record { stage = go c.stage x.stage; swept = same
   go : (p : CoordStage) → CalmAt c w p → AskedAt c v p
   go (LoadAck i) y = y
   go LoadWant y = y
-  go (Tell t) y = absurd y
-  go (Stop st) y = absurd y
-  go (Open o) y = absurd y
-  go (Watch z) y = absurd y
-  go (StopAgain st) y = absurd y
-  go (Check z) y = absurd y
-  go MarkOn y = absurd y
-  go (Close z) y = absurd y
-  go (Sweep z) y = absurd y
-  go (Count z) y = absurd y
-  go Done y = absurd y
+  go _ y = absurd y

@@ -137,12 +137,9 @@ module _ (l : Layout) where
   pub scan_holds : (s : scan.Scanning) → ScanWithin l s → IsHeld l (scan.held_at s.held s.stage)
   scan_holds s w = by s.stage w.stage where
     by : (p : ScanStage) → ScanStageWithin l p → IsHeld l (scan.held_at s.held p)
-    by scan_at.LoadPage o = w.held
-    by scan_at.LoadBitmap o = w.held
-    by scan_at.LoadField o = w.held
     by (scan_at.Shading sh) o = o.held
     by (scan_at.FindRoom sh r) o = room_holds l r o.1
-    by scan_at.Ended o = w.held
+    by _ o = w.held
 
   bitmap_there : (m : Layout) (x : ℕ) → m ≡ l → 1 ≤ l.pages → x % (16 * m.pages) < 16 * l.pages
   bitmap_there m x e some = rw e (mod_below x (16 * l.pages) (omega (arith, some)))

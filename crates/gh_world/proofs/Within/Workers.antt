@@ -60,10 +60,7 @@ resume_within : (l : Layout) (r : resume.Resuming) → r.seat < l.procs + l.work
 resume_within l r lt = by r.stage where
   by : (p : ResumeStage) → InRange l (cell_of (resume.asks_at r p))
   by resume_at.Acknowledge = lt
-  by resume_at.LoadPhase = tt
-  by resume_at.LoadGeneration = tt
-  by resume_at.LoadBegun = tt
-  by resume_at.Ended = tt
+  by _ = tt
 
 -- an entry that is taken is a reference
 abbrev IsTaken : Layout → Option (Option ℕ) → Type 0
