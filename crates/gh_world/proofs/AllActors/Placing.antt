@@ -133,9 +133,13 @@ module _ (shapes : List Shape) (m : Processor) (found : ℕ) where
     by false = refl
   placed w p making.Birth = inr (inr (record { same = goes_on w (place.at_stage p (making.Bits (bits.opening p.layout p.shape p.at p.slot))) (bits.is_busy (bits.opening p.layout p.shape p.at p.slot).stage) m refl; silent = λ y. absurd (let x = y.0 in cc); nothing = λ e g. refl }))
   placed w p (making.Bits q) = inr (inr (record { same = by (bits.is_busy (bits.goes q found).stage) refl; silent = λ y. absurd (let x = y.0 in cc); nothing = λ e g. refl })) where
-    by : (b : Bool) → bits.is_busy (bits.goes q found).stage ≡ b → uncounted (cond (place.is_busy (cond b (making.Bits (bits.goes q found)) making.Alloc)) (placing_at w (place.at_stage p (cond b (making.Bits (bits.goes q found)) making.Alloc))) task.Idle) ≡ 0
+    by : (b : Bool) → bits.is_busy (bits.goes q found).stage ≡ b → uncounted (cond (place.is_busy (cond b (making.Bits (bits.goes q found)) (place.filled p.marking))) (placing_at w (place.at_stage p (cond b (making.Bits (bits.goes q found)) (place.filled p.marking)))) task.Idle) ≡ 0
     by true is = goes_on w (place.at_stage p (making.Bits (bits.goes q found))) (bits.is_busy (bits.goes q found).stage) m refl
-    by false is = refl
+    by false is = filled p.marking where
+      filled : (marking : Bool) → uncounted (cond (place.is_busy (place.filled marking)) (placing_at w (place.at_stage p (place.filled marking))) task.Idle) ≡ 0
+      filled true = refl
+      filled false = refl
+  placed w p making.Mark = inr (inr (record { same = refl; silent = λ y. absurd (let x = y.0 in cc); nothing = λ e g. refl }))
   placed w p making.Alloc = inr (inl (record { wanted = w; placing = place.at_stage p making.Alloc; is = refl; stage = refl }))
   placed w p (making.Give g) = inr (inr (record { same = refl; silent = λ y. absurd (let x = y.0 in cc); nothing = λ e g. refl }))
   placed w p making.Count = inl (record { asks_is = refl; then = refl; nothing = λ e g. refl })
