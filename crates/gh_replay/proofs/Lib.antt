@@ -1,5 +1,12 @@
+pub mod Choosing
 pub mod EitherOne
+pub mod Going
+pub mod InTurn
+pub mod Numbers
 pub mod OneOutcome
+pub mod OneRun
 pub mod Owning
+pub mod Pieces
 pub mod Rows
 pub mod Running
+pub mod Seen

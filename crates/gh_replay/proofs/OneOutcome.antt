@@ -1,7 +1,6 @@
--- A script's run ends within a budget or does not, and it comes to one outcome.
-use Rattle.std.proofs.Common.{◌≡◌, ℕ, ◌<◌, true, false, List, [], reverse, refl, sym, ap, subst, ◌∙◌, arith}
+-- By one schedule a script's run ends within a budget or does not, and it comes to one outcome.
+use Rattle.std.proofs.Common.{◌≡◌, ℕ, ◌<◌, true, false, List, refl, sym, ap, subst, ◌∙◌, arith}
 use Rattle.std.specs.Coded.{le_prop}
-use Rattle.std.proofs.lemmas.List.{append-nil}
 use Rattle.gh_base.specs.Limits.{InLimits}
 use Rattle.gh_base.specs.declared.operation.Op.{Op}
 use Rattle.gh_base.specs.declared.layout.Layout.{Layout}
@@ -12,11 +11,13 @@ use Rattle.gh_lines.specs.Text.{Outcome}
 use Rattle.gh_mutator.specs.declared.processor.Processor.{Processor}
 use Rattle.gh_world.specs.declared.handshake.Actor.{Actor}
 use Rattle.gh_world.specs.declared.handshake.Actor.TheVariants.{Leads}
-use Rattle.gh_world.specs.Order.{begun_in}
-use Rattle.gh_world.specs.Schedule.{ended_after, IsInTurn}
+use Rattle.gh_world.specs.Schedule.{ended_after}
 use Rattle.gh_world.specs.World.{LaysOut, setting_of}
-use Rattle.gh_world.specs.Runs.{IsRun, IsRunSoFar, IsExplained, EveryRunIsOne, NoneIsLonger, answers_given, outcome_by}
+use Rattle.gh_world.specs.Runs.{IsRun, IsRunSoFar, IsExplained, EveryOrderHasOneRun, answers_given, outcome_by}
+use Rattle.gh_replay.specs.Plan.{Plan}
 use Rattle.gh_replay.specs.Replayed.{NotBoth, OneOutcome}
+use Rattle.gh_replay.specs.Scheduled.{IsScheduled}
+use Rattle.gh_replay.proofs.OneRun.{is_so_far, none_is_longer, one_run}
 
 both : {A B : Type 0} (x y : A × B) → x.0 ≡ y.0 → x.1 ≡ y.1 → x ≡ y
 both x y e f = rw (e, f) refl
@@ -48,19 +49,16 @@ same_layout p l k a b =
     layout_is l k.pages k.globals k.procs k.workers k.goroutines (a.pages_are ∙ sym b.pages_are) (a.globals_are ∙ sym b.globals_are) (a.procs_are ∙ sym b.procs_are) (a.workers_are ∙ sym b.workers_are)
     (a.goroutines_are ∙ sym b.goroutines_are) k.limits
 
-is_so_far : (p : Program) (l : Layout) (es : List (Entry Op)) → IsRun p l es → IsRunSoFar p l es
-is_so_far p l es r = record { legal = r.legal; to_come = []; turns = sym (append-nil (reverse (begun_in es)) ∙ r.turns) }
-
 same_lead : (c d : Coordinating) → ◌≡◌ {A = Actor Processor} (Leads c) (Leads d) → c ≡ d
 same_lead c d e = cc
 
-module _ (same : EveryRunIsOne) (longest : NoneIsLonger) where
+module _ (ordered : EveryOrderHasOneRun) where
   -- two whole runs are one
-  one_whole : (p : Program) (l : Layout) (es fs : List (Entry Op)) → IsRun p l es → IsRun p l fs → IsInTurn (setting_of p l) es → IsInTurn (setting_of p l) fs → es ≡ fs
-  one_whole p l es fs r s t u =
-      let a = longest p l es fs r (is_so_far p l fs s) t u in
-      let b = longest p l fs es s (is_so_far p l es r) u t in
-      same p l es fs (is_so_far p l es r) (is_so_far p l fs s) t u (omega (arith, a, b))
+  one_whole : (p : Program) (l : Layout) (plan : Plan) (es fs : List (Entry Op)) → IsRun p l es → IsRun p l fs → IsScheduled p l plan es → IsScheduled p l plan fs → es ≡ fs
+  one_whole p l plan es fs r s t u =
+      let a = none_is_longer ordered p l plan es fs r (is_so_far p l fs s) t u in
+      let b = none_is_longer ordered p l plan fs es s (is_so_far p l es r) u t in
+      one_run ordered p l plan es fs (is_so_far p l es r) (is_so_far p l fs s) t u (omega (arith, a, b))
 
   -- what is explained by one list is one
   one_explained : (p : Program) (l : Layout) (es : List (Entry Op)) (outcome other : Outcome) → IsExplained p l es outcome → IsExplained p l es other → outcome ≡ other
@@ -69,21 +67,21 @@ module _ (same : EveryRunIsOne) (longest : NoneIsLonger) where
       x.given ∙ ap (outcome_by (answers_given p l es)) leads ∙ sym y.given
 
   pub one : OneOutcome
-  one p m n outcome other r s =
+  one p plan m n outcome other r s =
       let layout : s.layout ≡ r.layout = same_layout p s.layout r.layout s.lays_out r.lays_out in
       let e : IsExplained p r.layout s.turns other = subst (λ (l : Layout). IsExplained p l s.turns other) layout s.explained in
-      let turn : IsInTurn (setting_of p r.layout) s.turns = subst (λ (l : Layout). IsInTurn (setting_of p l) s.turns) layout s.in_turn in
-      let turns : s.turns ≡ r.turns = one_whole p r.layout s.turns r.turns e.run r.explained.run turn r.in_turn in
+      let turn : IsScheduled p r.layout plan s.turns = subst (λ (l : Layout). IsScheduled p l plan s.turns) layout s.scheduled in
+      let turns : s.turns ≡ r.turns = one_whole p r.layout plan s.turns r.turns e.run r.explained.run turn r.scheduled in
       one_explained p r.layout r.turns outcome other r.explained (subst (λ (es : List (Entry Op)). IsExplained p r.layout es other) turns e)
 
   pub not_both : NotBoth
-  not_both p budget outcome r u =
+  not_both p plan budget outcome r u =
       let layout : u.layout ≡ r.layout = same_layout p u.layout r.layout u.lays_out r.lays_out in
       let so_far : IsRunSoFar p r.layout u.turns = subst (λ (l : Layout). IsRunSoFar p l u.turns) layout u.so_far in
-      let turn : IsInTurn (setting_of p r.layout) u.turns = subst (λ (l : Layout). IsInTurn (setting_of p l) u.turns) layout u.in_turn in
+      let turn : IsScheduled p r.layout plan u.turns = subst (λ (l : Layout). IsScheduled p l plan u.turns) layout u.scheduled in
       let there : u.who < (setting_of p r.layout).actors = subst (λ (l : Layout). u.who < (setting_of p l).actors) layout u.there in
       let going : ended_after (setting_of p r.layout) u.turns u.who ≡ false = subst (λ (l : Layout). ended_after (setting_of p l) u.turns u.who ≡ false) layout u.going in
-      let within = longest p r.layout r.turns u.turns r.explained.run so_far r.in_turn turn in
-      let turns : r.turns ≡ u.turns = same p r.layout r.turns u.turns (is_so_far p r.layout r.turns r.explained.run) so_far r.in_turn turn (omega (arith, within, r.few, u.long)) in
+      let within = none_is_longer ordered p r.layout plan r.turns u.turns r.explained.run so_far r.scheduled turn in
+      let turns : r.turns ≡ u.turns = one_run ordered p r.layout plan r.turns u.turns (is_so_far p r.layout r.turns r.explained.run) so_far r.scheduled turn (omega (arith, within, r.few, u.long)) in
       let over : ended_after (setting_of p r.layout) u.turns u.who ≡ true = subst (λ (es : List (Entry Op)). ended_after (setting_of p r.layout) es u.who ≡ true) turns (r.explained.run.done u.who there) in
       absurd (let e = sym going ∙ over in cc)

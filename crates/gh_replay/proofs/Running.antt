@@ -1,6 +1,5 @@
 -- What a run has so far, and what it has when the world is done.
-use Rattle.std.proofs.Common.{◌≡◌, ℕ, ◌+◌, ◌<◌, ◌≤◌, Bool, true, false, cond, ltb, List, [], ◌∷◌, ◌++◌, length, map, refl, sym, ◌∙◌, ap, subst, Option, Some, None, is_some, arith}
-use Rattle.std.proofs.lemmas.Bool.Decides.{nat_tests}
+use Rattle.std.proofs.Common.{◌≡◌, ℕ, ◌+◌, ◌<◌, ◌≤◌, true, false, List, [], ◌∷◌, ◌++◌, length, map, refl, sym, ◌∙◌, ap, subst, Option, Some, None, is_some, arith}
 use Rattle.std.proofs.lemmas.List.{length-append}
 use Rattle.gh_base.specs.declared.value.Answer.{Answer}
 use Rattle.gh_base.specs.declared.operation.Op.{Op}
@@ -15,18 +14,24 @@ use Rattle.gh_script.specs.Program.{Program, WellFormed}
 use Rattle.gh_world.specs.declared.event.Event.{Event}
 use Rattle.gh_world.specs.declared.event.Event.TheVariants as event
 use Rattle.gh_world.specs.Runs.{IsRun, IsRunSoFar, IsExplained, EveryRunIsExplained, answers_given, marked_by, outcome_by, swept_cycle}
-use Rattle.gh_world.specs.Schedule.{behind, ended_after, IsInTurn, next_in, turn_from}
+use Rattle.gh_world.specs.Schedule.{ended_after}
 use Rattle.gh_world.specs.Turns.{to_come, total_of}
-use Rattle.gh_world.specs.World.{actors_of, AllDone, answer_in, answered_in, answered_of, Appends, IsAfter, is_done, layout_of, LaysOut, marks_in, now_in, script_of, setting_of, State, turn_in, with_goroutine}
-use Rattle.gh_replay.specs.Replayed.{IsReplayed, IsUnfinished, Ran}
+use Rattle.gh_world.specs.World.{actors_of, AllDone, answer_in, answered_in, answered_of, Appends, IsAfter, is_done, layout_of, LaysOut, marks_in, now_in, script_of, setting_of, State, with_goroutine}
+use Rattle.gh_replay.specs.Places.{Ran, seen_of}
+use Rattle.gh_replay.specs.Plan.{Plan}
+use Rattle.gh_replay.specs.Replayed.{IsReplayed, IsUnfinished}
+use Rattle.gh_replay.specs.Scheduled.{IsScheduled, reached_in, stands_in}
+use Rattle.gh_replay.specs.Standing.{moved, opening, Standing, who}
+use Rattle.gh_replay.proofs.Choosing.{Agree, same_moved, same_who}
+use Rattle.gh_replay.proofs.Seen.{agree}
 
--- so far the world has taken turns of the budget and answered so, and it would be this actor's turn
-pub record Midway (w : State) (budget left next : ℕ) (answers : List (ℕ × Answer)) : Type 0 where
+-- so far the world has taken turns of the budget as the schedule says and answered so, and the schedule stands so
+pub record Midway (w : State) (plan : Plan) (budget left : ℕ) (s : Standing) (answers : List (ℕ × Answer)) : Type 0 where
   pub turns : List (Entry Op)
   pub after : IsAfter w turns
   pub long : length turns + left ≡ budget
-  pub in_turn : IsInTurn (setting_of (script_of w) (layout_of w)) turns
-  pub next_is : next ≡ next_in (setting_of (script_of w) (layout_of w)) turns
+  pub scheduled : IsScheduled (script_of w) (layout_of w) plan turns
+  pub stands : s ≡ stands_in (script_of w) (layout_of w) plan turns
   pub given : answers ≡ answers_given (script_of w) (layout_of w) turns
 
 -- what one turn more is: of this actor, whose turn it is
@@ -42,19 +47,22 @@ given_more p q l k es e told answers script layout says given =
     ap (λ (xs : List (ℕ × Answer)). xs ++ told) before ∙ ap (λ (xs : List (ℕ × Answer)). answers_given q k es ++ xs) says
 
 -- one turn more
-pub more : (w v : State) (happened : Event) (budget left rest next actor after : ℕ) (answers : List (ℕ × Answer)) → Midway w budget left next answers → left ≡ rest + 1 → Turn w v actor happened →
-    ((es : List (Entry Op)) → IsAfter w es → Some actor ≡ turn_in (script_of w) (layout_of w) es next) → actors_of w ≡ seats_of (layout_of w) → after ≡ behind (actors_of w) actor → Midway v budget rest after (answers ++ answered_in happened)
-more w v happened budget left rest next actor after answers m one t turn count behind_is =
+pub more : (w v : State) (happened : Event) (plan : Plan) (budget left rest actor : ℕ) (s after : Standing) (answers : List (ℕ × Answer)) → Midway w plan budget left s answers → left ≡ rest + 1 → Turn w v actor happened →
+    s.next < actors_of w → actors_of w ≡ seats_of (layout_of w) → Some actor ≡ who (seen_of w) s → after ≡ moved (seen_of w) actor s → Midway v plan budget rest after (answers ++ answered_in happened)
+more w v happened plan budget left rest actor s after answers m one t low seats whose moves =
     let a = t.appended m.turns m.after in
-    let here : turn_in (script_of w) (layout_of w) m.turns (next_in (setting_of (script_of w) (layout_of w)) m.turns) ≡ Some a.e.actor =
-    ap (turn_in (script_of w) (layout_of w) m.turns) (sym m.next_is) ∙ sym (turn m.turns m.after) ∙ ap Some (sym a.by) in
-    let grown : IsInTurn (setting_of (script_of w) (layout_of w)) (a.e ∷ m.turns) = (m.in_turn, here) in
+    let same : Agree (seen_of w) (reached_in (script_of w) (layout_of w) m.turns) = agree w m.turns m.after seats in
+    let here : who (reached_in (script_of w) (layout_of w) m.turns) (stands_in (script_of w) (layout_of w) plan m.turns) ≡ Some a.e.actor =
+    ap (who (reached_in (script_of w) (layout_of w) m.turns)) (sym m.stands) ∙ sym (same_who (seen_of w) (reached_in (script_of w) (layout_of w) m.turns) same s low) ∙ sym whose ∙ ap Some (sym a.by) in
+    let grown : IsScheduled (script_of w) (layout_of w) plan (a.e ∷ m.turns) = (m.scheduled, here) in
+    let then' : after ≡ stands_in (script_of w) (layout_of w) plan (a.e ∷ m.turns) =
+    moves ∙ same_moved (seen_of w) (reached_in (script_of w) (layout_of w) m.turns) same actor s ∙ ap (λ (b : ℕ). moved (reached_in (script_of w) (layout_of w) m.turns) b s) (sym a.by) ∙ ap (moved (reached_in (script_of w) (layout_of w) m.turns) a.e.actor) m.stands in
     record {
       turns = a.e ∷ m.turns;
       after = a.after;
       long = omega (arith, m.long, one);
-      in_turn = subst (λ (q : Program). IsInTurn (setting_of q (layout_of v)) (a.e ∷ m.turns)) (sym t.script) (subst (λ (k : Layout). IsInTurn (setting_of (script_of w) k) (a.e ∷ m.turns)) (sym t.layout) grown);
-      next_is = behind_is ∙ ap (λ (n : ℕ). behind n actor) count ∙ ap (λ (k : Layout). behind (seats_of k) actor) (sym t.layout) ∙ ap (behind (seats_of (layout_of v))) (sym a.by);
+      scheduled = subst (λ (q : Program). IsScheduled q (layout_of v) plan (a.e ∷ m.turns)) (sym t.script) (subst (λ (k : Layout). IsScheduled (script_of w) k plan (a.e ∷ m.turns)) (sym t.layout) grown);
+      stands = then' ∙ ap (λ (k : Layout). stands_in (script_of w) k plan (a.e ∷ m.turns)) (sym t.layout) ∙ ap (λ (q : Program). stands_in q (layout_of v) plan (a.e ∷ m.turns)) (sym t.script);
       given = given_more (script_of w) (script_of v) (layout_of w) (layout_of v) m.turns a.e (answered_in happened) answers t.script t.layout a.answers m.given;
     }
 
@@ -67,44 +75,44 @@ answers_long p l (e ∷ es) = length-append (answers_given p l es) (with_gorouti
   one (Some a) = refl
 
 -- no more answers than statements
-pub roomy : (w : State) (budget left next : ℕ) (answers : List (ℕ × Answer)) → answered_of w ≤ total_of (script_of w) → Midway w budget left next answers → length answers ≤ total_of (script_of w)
-roomy w budget left next answers few m =
+pub roomy : (w : State) (plan : Plan) (budget left : ℕ) (s : Standing) (answers : List (ℕ × Answer)) → answered_of w ≤ total_of (script_of w) → Midway w plan budget left s answers → length answers ≤ total_of (script_of w)
+roomy w plan budget left s answers few m =
     let many : length answers ≡ answered_of w = ap (λ (xs : List (ℕ × Answer)). length xs) m.given ∙ answers_long (script_of w) (layout_of w) m.turns ∙ sym m.after.marked in
     omega (arith, many, few)
 
 -- one answer more has room
-pub room_for : (v : State) (happened : Event) (budget rest after : ℕ) (answers : List (ℕ × Answer)) (room total g n : ℕ) (a : Answer) → Midway v budget rest after (answers ++ answered_in happened) → answered_of v ≤ total_of (script_of v) → happened ≡ event.Answered g n a → total_of (script_of v) ≡ total → total ≤ room → length answers < room
-room_for v happened budget rest after answers room total g n a m sound is same few =
-    let within : length (answers ++ answered_in happened) ≤ total_of (script_of v) = roomy v budget rest after (answers ++ answered_in happened) sound m in
+pub room_for : (v : State) (happened : Event) (plan : Plan) (budget rest : ℕ) (after : Standing) (answers : List (ℕ × Answer)) (room total g n : ℕ) (a : Answer) → Midway v plan budget rest after (answers ++ answered_in happened) → answered_of v ≤ total_of (script_of v) → happened ≡ event.Answered g n a → total_of (script_of v) ≡ total → total ≤ room → length answers < room
+room_for v happened plan budget rest after answers room total g n a m sound is same few =
+    let within : length (answers ++ answered_in happened) ≤ total_of (script_of v) = roomy v plan budget rest after (answers ++ answered_in happened) sound m in
     let grown : length (answers ++ answered_in happened) ≡ length answers + 1 = ap (λ (e : Event). length (answers ++ answered_in e)) is ∙ length-append answers ((g, a) ∷ []) in
     omega (arith, within, grown, same, few)
 
-pub opens : (w : State) (budget : ℕ) (answers : List (ℕ × Answer)) → IsAfter w [] → answers ≡ [] → Midway w budget budget 0 answers
-opens w budget answers after empty = record { turns = []; after = after; long = omega arith; in_turn = tt; next_is = refl; given = empty }
+pub opens : (w : State) (plan : Plan) (budget : ℕ) (s : Standing) (answers : List (ℕ × Answer)) → IsAfter w [] → s ≡ opening plan → answers ≡ [] → Midway w plan budget budget s answers
+opens w plan budget s answers after stands empty = record { turns = []; after = after; long = omega arith; scheduled = tt; stands = stands; given = empty }
 
-pub ran : (w : State) (budget left next : ℕ) (answers : List (ℕ × Answer)) → Midway w budget left next answers → (¬ AllDone w → left ≡ 0) → Ran w budget answers
-ran w budget left next answers m none = record {
+pub ran : (w : State) (plan : Plan) (budget left : ℕ) (s : Standing) (answers : List (ℕ × Answer)) → Midway w plan budget left s answers → (¬ AllDone w → left ≡ 0) → Ran w plan budget answers
+ran w plan budget left s answers m none = record {
   turns = m.turns;
   after = m.after;
   few = omega (arith, m.long);
-  in_turn = m.in_turn;
+  scheduled = m.scheduled;
   all = λ going. let z = none going in omega (arith, m.long, z);
   given = m.given;
 }
 
 -- the world's script and layout, where they are these
-pub finished : EveryRunIsExplained → (w : State) (p : Program) (budget : ℕ) (answers : List (ℕ × Answer)) → WellFormed p → script_of w ≡ p → LaysOut p (layout_of w) → Ran w budget answers → ((es : List (Entry Op)) → IsAfter w es → IsRun (script_of w) (layout_of w) es) → IsReplayed p budget (outcome_by answers w.coord)
-finished law w p budget answers formed script lays r whole = subst Goal script (λ lays formed. here lays formed) lays formed where
+pub finished : EveryRunIsExplained → (w : State) (p : Program) (plan : Plan) (budget : ℕ) (answers : List (ℕ × Answer)) → WellFormed p → script_of w ≡ p → LaysOut p (layout_of w) → Ran w plan budget answers → ((es : List (Entry Op)) → IsAfter w es → IsRun (script_of w) (layout_of w) es) → IsReplayed p plan budget (outcome_by answers w.coord)
+finished law w p plan budget answers formed script lays r whole = subst Goal script (λ lays formed. here lays formed) lays formed where
   Goal : Program → Type 0
-  Goal q = LaysOut q (layout_of w) → WellFormed q → IsReplayed q budget (outcome_by answers w.coord)
+  Goal q = LaysOut q (layout_of w) → WellFormed q → IsReplayed q plan budget (outcome_by answers w.coord)
 
-  here : LaysOut (script_of w) (layout_of w) → WellFormed (script_of w) → IsReplayed (script_of w) budget (outcome_by answers w.coord)
+  here : LaysOut (script_of w) (layout_of w) → WellFormed (script_of w) → IsReplayed (script_of w) plan budget (outcome_by answers w.coord)
   here lays formed = record {
     layout = layout_of w;
     lays_out = lays;
     turns = r.turns;
     few = r.few;
-    in_turn = r.in_turn;
+    scheduled = r.scheduled;
     explained = subst (λ (xs : List (ℕ × Answer)). IsExplained (script_of w) (layout_of w) r.turns (outcome_by xs w.coord)) (sym r.given)
         (law (script_of w) (layout_of w) r.turns w.coord formed lays (whole r.turns r.after) r.after.coordinator);
   }
@@ -123,29 +131,23 @@ pub record Going (w : State) : Type 0 where
   pub there : who < seats_of (layout_of w)
   pub going : (es : List (Entry Op)) → IsAfter w es → ended_after (setting_of (script_of w) (layout_of w)) es who ≡ false
 
-pub unfinished : (w : State) (p : Program) (budget : ℕ) (answers : List (ℕ × Answer)) → script_of w ≡ p → LaysOut p (layout_of w) → Ran w budget answers → ¬ AllDone w → Going w → IsUnfinished p budget
-unfinished w p budget answers script lays r going g = subst Goal script here lays where
+pub unfinished : (w : State) (p : Program) (plan : Plan) (budget : ℕ) (answers : List (ℕ × Answer)) → script_of w ≡ p → LaysOut p (layout_of w) → Ran w plan budget answers → ¬ AllDone w → Going w → IsUnfinished p plan budget
+unfinished w p plan budget answers script lays r going g = subst Goal script here lays where
   Goal : Program → Type 0
-  Goal q = LaysOut q (layout_of w) → IsUnfinished q budget
+  Goal q = LaysOut q (layout_of w) → IsUnfinished q plan budget
 
-  here : LaysOut (script_of w) (layout_of w) → IsUnfinished (script_of w) budget
+  here : LaysOut (script_of w) (layout_of w) → IsUnfinished (script_of w) plan budget
   here lays = record {
     layout = layout_of w;
     lays_out = lays;
     turns = r.turns;
     so_far = so_far w r.turns r.after;
-    in_turn = r.in_turn;
+    scheduled = r.scheduled;
     long = r.all going;
     who = g.who;
     there = g.there;
     going = g.going r.turns r.after;
   }
-
-pub behind_low : (n a : ℕ) → a < n → behind n a < n
-behind_low n a lt = go (ltb (a + 1) n) refl where
-  go : (b : Bool) → ltb (a + 1) n ≡ b → cond b (a + 1) 0 < n
-  go true e = grind (arith, nat_tests)
-  go false e = omega (arith, lt)
 
 -- the outcome, by its numbers
 pub outcome_is : (o : Outcome) (answers : List (ℕ × Answer)) (c : Coordinating) → o.answers ≡ answers → o.cycles ≡ map swept_cycle c.cycles.items → o.objects ≡ marked_by (last_kept c.cycles) → o.bytes ≡ c.live → o ≡ outcome_by answers c

@@ -1,2 +1,7 @@
+pub mod Plan
+pub mod ListText
+pub mod Standing
+pub mod Scheduled
 pub mod Replayed
 pub mod Report
+pub mod Places

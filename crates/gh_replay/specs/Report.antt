@@ -5,6 +5,7 @@ use Rattle.gh_base.specs.declared.value.Answer.{Answer}
 use Rattle.gh_lines.specs.Text.{answers_by, has_line, Outcome}
 use Rattle.gh_script.specs.Program.{Program}
 use Rattle.gh_replay.specs.declared.row.Row.{Row}
+use Rattle.gh_replay.specs.Plan.{Plan}
 use Rattle.gh_replay.specs.Replayed.{IsReplayed}
 
 -- what a whole run comes to, and how many goroutines the script has
@@ -15,8 +16,9 @@ pub record ReportState : Type 0 where
 -- the report is of a replay of this script
 pub record IsReportOf (p : Program) (report : ReportState) : Type 0 where
   pub goroutines_are : report.goroutines ≡ length p.goroutines
+  pub plan : Plan
   pub budget : ℕ
-  pub replayed : IsReplayed p budget report.outcome
+  pub replayed : IsReplayed p plan budget report.outcome
 
 -- Of the code's own.
 

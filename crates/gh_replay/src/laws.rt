@@ -1,11 +1,12 @@
 //! What is true of runs under a budget, whatever the code does.
 
 ghost use Rattle.gh_replay.specs.Replayed.{EitherOne, NotBoth, OneOutcome};
+ghost use Rattle.gh_replay.specs.Scheduled.{NothingSaidIsInTurn};
 
 use gh_world::{a_script_has_one_run, every_run_is_explained, runs_go_on};
 
-/// A script's run ends within a budget or does not, one of the two and never both, and it comes to one
-/// outcome, whatever the budget.
+/// By one schedule a script's run ends within a budget or does not, one of the two and never both, and it
+/// comes to one outcome, whatever the budget.
 pub fn one_outcome()
     ensures either { EitherOne }
     ensures not_both { NotBoth }
@@ -15,3 +16,9 @@ pub fn one_outcome()
     every_run_is_explained();
     runs_go_on();
 }
+
+/// Where a schedule has no list and no seed, the actors take turns in ascending order, from actor 0 on, again
+/// and again, passing over those that are done.
+pub fn nothing_said_is_in_turn()
+    ensures { NothingSaidIsInTurn }
+{}

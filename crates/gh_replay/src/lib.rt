@@ -1,21 +1,27 @@
 //! Runs of scripts over a plain list of words, under a budget of turns.
 //!
-//! A turn is one step of one actor: one atomic operation on one word. The actors, which are the processor, the
-//! workers and the coordinator, take turns in ascending order, passing over those that are done. What a run
-//! comes to is explained by the list of its turns. A script has one such list, so that a run ends within
-//! the budget or runs out of turns, and never both ([`one_outcome`]). The lines of the answers, of the cycles
+//! A turn is one step of one actor, the processor, a worker or the coordinator: one atomic operation on one
+//! word. Who steps when a schedule says ([`Schedule`]); one that says nothing has the actors take turns in
+//! ascending order ([`nothing_said_is_in_turn`]). What a run comes to is explained by the list of its turns. By
+//! one schedule a script has one such list, so that a run ends within the budget or runs out of turns, and
+//! never both ([`one_outcome`]). [`parse_list`] reads the list of a schedule from a text. The lines of the answers, of the cycles
 //! and of what is live are told one by one, in the order in which they are written ([`Report`]).
 #![tactic(auto)]
 
 mod fault;
 mod laws;
+mod list;
+mod place;
 mod report;
 mod row;
+mod schedule;
 mod turns;
 
 pub use fault::ReplayFault;
-pub use laws::one_outcome;
+pub use laws::{nothing_said_is_in_turn, one_outcome};
+pub use list::{MOST_ITEMS, parse_list};
 pub use report::Report;
+pub use schedule::{Schedule, Turn, Until};
 pub use turns::replay;
 
 #[cfg(test)]

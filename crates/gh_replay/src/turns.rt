@@ -1,31 +1,39 @@
-//! A script's run, in which the actors take turns.
+//! A script's run, in which the actors step as a schedule says.
 
 ghost use Rattle.std.specs.Prelude.{◌≡◌, ◌++◌, ℕ, ◌+◌, ◌<◌, ◌≤◌, [], length, IfOk, Err};
 ghost use Rattle.std.specs.Vec.{vec_capacity};
 ghost use Rattle.gh_lines.specs.Text.{Outcome};
 ghost use Rattle.gh_replay.specs.declared.fault.ReplayFault.TheVariants.{OutOfTurns};
-ghost use Rattle.gh_replay.specs.Replayed.{IsReplayed, IsUnfinished, Ran};
-ghost use Rattle.gh_world.specs.Schedule.{behind};
+ghost use Rattle.gh_replay.specs.Places.{Ran};
+ghost use Rattle.gh_replay.specs.Replayed.{IsReplayed, IsUnfinished};
 ghost use Rattle.gh_world.specs.Turns.{total_of};
-ghost use Rattle.gh_world.specs.World.{actors_of, layout_of, script_of, IsAfter};
+ghost use Rattle.gh_world.specs.World.{layout_of, script_of, IsAfter};
 
 use crate::fault::ReplayFault;
 use crate::laws::one_outcome;
+use crate::place::Place;
 use crate::report::Report;
+use crate::schedule::Schedule;
 use gh_base::Answer;
 use gh_coord::Cycle;
 use gh_script::Script;
 use gh_world::{Event, World, every_run_is_explained, most_cycles, total_of};
 use std::alloc::Global;
 
-/// The report of the script's run, in which the actors take turns, where it takes at most `budget` of them,
-/// and `OutOfTurns` where it takes more. All memory is taken before the first turn.
-pub fn replay(alloc: Global, script: &Script, budget: u64) -> Result<Report, ReplayFault>
-    ensures explained { IfOk result (λ report. IsReplayed script.now budget report.outcome) }
+/// The report of the script's run, in which the actors step as the schedule says, where it takes at most
+/// `budget` turns, which are single steps, and `OutOfTurns` where it takes more. All memory is taken before
+/// the first turn.
+pub fn replay(
+    alloc: Global,
+    script: &Script,
+    schedule: Schedule,
+    budget: u64,
+) -> Result<Report, ReplayFault>
+    ensures explained { IfOk result (λ report. IsReplayed script.now schedule budget report.outcome) }
     ensures goroutines { IfOk result (λ report. report.goroutines ≡ length script.now.goroutines) }
-    ensures out_of_turns { (n : ℕ) → result ≡ Err (OutOfTurns n) → (n ≡ budget) × IsUnfinished script.now n }
-    ensures runs_out { IsUnfinished script.now budget → IfOk result (λ report. ⊥) }
-    ensures ends { (outcome : Outcome) (n : ℕ) → IsReplayed script.now budget outcome → result ≡ Err (OutOfTurns n) → ⊥ }
+    ensures out_of_turns { (n : ℕ) → result ≡ Err (OutOfTurns n) → (n ≡ budget) × IsUnfinished script.now schedule n }
+    ensures runs_out { IsUnfinished script.now schedule budget → IfOk result (λ report. ⊥) }
+    ensures ends { (outcome : Outcome) (n : ℕ) → IsReplayed script.now schedule budget outcome → result ≡ Err (OutOfTurns n) → ⊥ }
 {
     every_run_is_explained();
     one_outcome();
@@ -34,7 +42,7 @@ pub fn replay(alloc: Global, script: &Script, budget: u64) -> Result<Report, Rep
     let mut answers = Vec::with_capacity(alloc, total_of(script))?;
     let rows = Vec::with_capacity(alloc, total_of(script))?;
     let mut cycles = Vec::with_capacity(alloc, most_cycles(script) as usize)?;
-    run(&mut world, &mut answers, budget);
+    run(&mut world, &mut answers, schedule, budget);
     match world.turn_from(0) {
         Some(_) => Err(ReplayFault::OutOfTurns(budget)),
         None => {
@@ -45,20 +53,20 @@ pub fn replay(alloc: Global, script: &Script, budget: u64) -> Result<Report, Rep
     }
 }
 
-/// Steps the world until it is done, or has taken so many turns.
-fn run(world: &mut World, answers: &mut Vec<(u32, Answer)>, budget: u64)
+/// Steps the world as the schedule says until it is done, or has taken so many turns.
+fn run(world: &mut World, answers: &mut Vec<(u32, Answer)>, schedule: Schedule, budget: u64)
     requires opens { IsAfter world.old [] }
     requires empty { answers.old.items ≡ [] }
     requires room { total_of (script_of world.old) ≤ vec_capacity answers.old }
     ensures script { script_of world.new ≡ script_of world.old }
     ensures layout { layout_of world.new ≡ layout_of world.old }
-    ensures ran { Ran world.new budget answers.new.items }
+    ensures ran { Ran world.new schedule budget answers.new.items }
     ensures few { length answers.new.items ≤ total_of (script_of world.new) }
 {
+    let mut place = Place::opening(schedule);
     let mut left = budget;
-    let mut next = 0;
     while left > 0 {
-        let actor = match world.turn_from(next) {
+        let actor = match place.take_turn(world) {
             Some(actor) => actor,
             None => return,
         };
@@ -68,18 +76,8 @@ fn run(world: &mut World, answers: &mut Vec<(u32, Answer)>, budget: u64)
             Event::Swept { .. } => {}
             Event::Finished => {}
         }
-        next = behind(world, actor);
         left -= 1;
     }
-}
-
-/// The actor behind this one.
-fn behind(world: &World, actor: u8) -> u8
-    requires { actor < actors_of world.now }
-    ensures { result ≡ behind (actors_of world.now) actor }
-{
-    let actors = world.actors();
-    if actor + 1 < actors { actor + 1 } else { 0 }
 }
 
 /// Appends the cycles.

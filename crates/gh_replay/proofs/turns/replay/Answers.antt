@@ -1,14 +1,14 @@
-use Rattle.std.proofs.Common.{◌≡◌, ℕ, ◌+◌, ◌++◌, ◌<◌, ◌≤◌, false, List, length, map, refl, sym, ◌∙◌, ap, subst, arith}
+use Rattle.std.proofs.Common.{◌≡◌, ℕ, ◌++◌, ◌≤◌, length, map, refl, sym, ◌∙◌, ap, subst, arith}
 use Rattle.gh_base.specs.declared.layout.Layout.{Layout}
 use Rattle.gh_lines.specs.Text.{Outcome}
 use Rattle.gh_script.specs.Program.{Program}
 use Rattle.gh_world.specs.Runs.{outcome_by, swept_cycle}
 use Rattle.gh_world.specs.Schedule.{ended_after, in_order_from}
 use Rattle.gh_world.specs.Turns.{total_of}
-use Rattle.gh_world.specs.World.{actors_of, layout_of, LaysOut, script_of, setting_of}
+use Rattle.gh_world.specs.World.{layout_of, LaysOut, script_of, setting_of}
 use Rattle.gh_world.specs.Wishes.{most_cycles}
 use Rattle.gh_replay.specs.Replayed.{IsReplayed, IsUnfinished}
-use Rattle.gh_replay.proofs.EitherOne.{some_going}
+use Rattle.gh_replay.proofs.Choosing.{some_going}
 use Rattle.gh_replay.proofs.Running.{finished, not_all, outcome_is, unfinished}
 use Rattle.gh_replay.proofs.turns.replay.Goals as goal
 
@@ -19,8 +19,8 @@ returns-in-Some-clause-out_of_turns c = λ n e.
     let here = c.in-Some.ensures.going in
     let there = here.0 in (
       sym same,
-      subst (λ (k : ℕ). IsUnfinished c.args.script.now k) same
-          (unfinished c.run.new.world c.args.script.now c.args.budget c.run.new.answers.items
+      subst (λ (k : ℕ). IsUnfinished c.args.script.now c.args.schedule k) same
+          (unfinished c.run.new.world c.args.script.now c.args.schedule c.args.budget c.run.new.answers.items
           (c.run.ensures.script ∙ c.in_ok-world.ensures.script) lays c.run.ensures.ran (not_all c.run.new.world _ here.0 here.1)
           (record { who = _; there = omega (arith, there, c.in-Some.ensures.seats); going = λ es after. some_going (ended_after (setting_of (script_of c.run.new.world) (layout_of c.run.new.world)) es) (in_order_from 0 (setting_of (script_of c.run.new.world) (layout_of c.run.new.world)).actors) _ (sym (c.in-Some.ensures.in_lists es after)) })),
     )
@@ -30,8 +30,8 @@ returns-in-Some-clause-ends c = λ outcome n r e.
     let lays : LaysOut c.args.script.now (layout_of c.run.new.world) = subst (λ (l : Layout). LaysOut c.args.script.now l) (sym c.run.ensures.layout) c.in_ok-world.ensures.layout in
     let here = c.in-Some.ensures.going in
     let there = here.0 in
-    c.one_outcome.ensures.not_both c.args.script.now c.args.budget outcome r
-    (unfinished c.run.new.world c.args.script.now c.args.budget c.run.new.answers.items
+    c.one_outcome.ensures.not_both c.args.script.now c.args.schedule c.args.budget outcome r
+    (unfinished c.run.new.world c.args.script.now c.args.schedule c.args.budget c.run.new.answers.items
     (c.run.ensures.script ∙ c.in_ok-world.ensures.script) lays c.run.ensures.ran (not_all c.run.new.world _ here.0 here.1)
     (record { who = _; there = omega (arith, there, c.in-Some.ensures.seats); going = λ es after. some_going (ended_after (setting_of (script_of c.run.new.world) (layout_of c.run.new.world)) es) (in_order_from 0 (setting_of (script_of c.run.new.world) (layout_of c.run.new.world)).actors) _ (sym (c.in-Some.ensures.in_lists es after)) }))
 
@@ -48,13 +48,13 @@ returns-clause-explained c =
     let lays : LaysOut c.args.script.now (layout_of c.run.new.world) = subst (λ (l : Layout). LaysOut c.args.script.now l) (sym c.run.ensures.layout) c.in_ok-world.ensures.layout in
     let is : c.new-in-None.result.outcome ≡ outcome_by c.run.new.answers.items c.run.new.world.coord = outcome_is c.new-in-None.result.outcome c.run.new.answers.items c.run.new.world.coord c.new-in-None.ensures.answers
     (c.new-in-None.ensures.cycles ∙ ap (map swept_cycle) (c.copy.ensures ∙ ap (λ xs. xs ++ c.cycles.result.now) c.in_ok-cycles.ensures.items ∙ c.cycles.ensures.are)) (c.new-in-None.ensures.live.0 ∙ c.totals.ensures.objects) (c.new-in-None.ensures.live.1 ∙ c.totals.ensures.live) in
-    subst (λ (o : Outcome). IsReplayed c.args.script.now c.args.budget o) (sym is)
-    (finished c.every_run_is_explained.ensures c.run.new.world c.args.script.now c.args.budget c.run.new.answers.items c.is_well_formed.ensures
+    subst (λ (o : Outcome). IsReplayed c.args.script.now c.args.schedule c.args.budget o) (sym is)
+    (finished c.every_run_is_explained.ensures c.run.new.world c.args.script.now c.args.schedule c.args.budget c.run.new.answers.items c.is_well_formed.ensures
     (c.run.ensures.script ∙ c.in_ok-world.ensures.script) lays c.run.ensures.ran (c.in-None.ensures.whole refl))
 
 pub returns-clause-runs_out : goal.returns-clause-runs_out
 returns-clause-runs_out c = λ u.
     let lays : LaysOut c.args.script.now (layout_of c.run.new.world) = subst (λ (l : Layout). LaysOut c.args.script.now l) (sym c.run.ensures.layout) c.in_ok-world.ensures.layout in
-    c.one_outcome.ensures.not_both c.args.script.now c.args.budget (outcome_by c.run.new.answers.items c.run.new.world.coord)
-    (finished c.every_run_is_explained.ensures c.run.new.world c.args.script.now c.args.budget c.run.new.answers.items c.is_well_formed.ensures
+    c.one_outcome.ensures.not_both c.args.script.now c.args.schedule c.args.budget (outcome_by c.run.new.answers.items c.run.new.world.coord)
+    (finished c.every_run_is_explained.ensures c.run.new.world c.args.script.now c.args.schedule c.args.budget c.run.new.answers.items c.is_well_formed.ensures
     (c.run.ensures.script ∙ c.in_ok-world.ensures.script) lays c.run.ensures.ran (c.in-None.ensures.whole refl)) u

@@ -1,7 +1,8 @@
-use Rattle.std.proofs.Common.{◌≡◌, ◌<◌, ◌≤◌}
+use Rattle.std.proofs.Common.{◌≡◌, ◌<◌, ◌≤◌, length}
 use Rattle.std.specs.Vec.{vec_capacity}
 use Rattle.gh_world.specs.Turns.{total_of}
 use Rattle.gh_world.specs.World.{actors_of, answered_of, layout_of, script_of}
+use Rattle.gh_replay.specs.Places.{standing_at}
 use Rattle.gh_replay.proofs.Running.{Midway}
 use Rattle.gh_replay.proofs.turns.run.Given as goal
 
@@ -9,9 +10,10 @@ abbrev pub invariant-loop-left : goal.invariant-loop-left
 invariant-loop-left l = record {
   script : script_of l.world ≡ script_of l.initial.world;
   layout : layout_of l.world ≡ layout_of l.initial.world;
-  midway : Midway l.world l.budget l.left l.next l.answers.items;
+  midway : Midway l.world l.fn.schedule l.budget l.left (standing_at l.place) l.answers.items;
+  within : l.place.at ≤ length l.place.list.items;
   few : answered_of l.world ≤ total_of (script_of l.world);
-  next : l.next < actors_of l.world;
+  next : l.place.next < actors_of l.world;
   room : total_of (script_of l.world) ≤ vec_capacity l.answers;
 }
 

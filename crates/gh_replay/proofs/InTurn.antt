@@ -1,0 +1,33 @@
+-- Where a schedule says nothing the actors take turns in ascending order.
+use Rattle.std.proofs.Common.{◌≡◌, ℕ, List, [], ◌∷◌, None, refl, sym, ap, ◌∙◌}
+use Rattle.gh_base.specs.declared.operation.Op.{Op}
+use Rattle.gh_base.specs.declared.layout.Layout.{Layout}
+use Rattle.gh_base.specs.declared.machine.Entry.{Entry}
+use Rattle.gh_script.specs.Program.{Program}
+use Rattle.gh_world.specs.Schedule.{IsInTurn, next_in}
+use Rattle.gh_world.specs.World.{setting_of, turn_in}
+use Rattle.gh_replay.specs.Plan.{no_plan}
+use Rattle.gh_replay.specs.Scheduled.{IsScheduled, NothingSaidIsInTurn, reached_in, stands_in}
+use Rattle.gh_replay.specs.Standing.{moved, Standing, who}
+
+module _ (p : Program) (l : Layout) where
+  abbrev alone : ℕ → Standing
+  alone next = record { items = []; next = next; drawn = None }
+
+  stands_alone : (es : List (Entry Op)) → stands_in p l no_plan es ≡ alone (next_in (setting_of p l) es)
+  stands_alone [] = refl
+  stands_alone (e ∷ es) = ap (moved (reached_in p l es) e.actor) (stands_alone es)
+
+  same_turn : (es : List (Entry Op)) → who (reached_in p l es) (stands_in p l no_plan es) ≡ turn_in p l es (next_in (setting_of p l) es)
+  same_turn es = ap (who (reached_in p l es)) (stands_alone es)
+
+  to : (es : List (Entry Op)) → IsScheduled p l no_plan es → IsInTurn (setting_of p l) es
+  to [] h = tt
+  to (e ∷ es) h = (to es h.0, sym (same_turn es) ∙ h.1)
+
+  from : (es : List (Entry Op)) → IsInTurn (setting_of p l) es → IsScheduled p l no_plan es
+  from [] h = tt
+  from (e ∷ es) h = (from es h.0, same_turn es ∙ h.1)
+
+pub said_nothing : NothingSaidIsInTurn
+said_nothing p l es = (to p l es, from p l es)

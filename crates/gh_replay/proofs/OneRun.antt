@@ -1,0 +1,70 @@
+-- By one schedule a script has one run: as many steps of it are the same steps, and none follows when it is over.
+use Rattle.std.proofs.Common.{◌≡◌, ℕ, ◌<◌, ◌≤◌, true, false, List, [], ◌∷◌, ◌++◌, length, reverse, Option, Some, None, refl, sym, ap, subst, ◌∙◌, append_assoc, arith}
+use Rattle.std.specs.Option.{option_to_list}
+use Rattle.std.proofs.lemmas.Grind.{reverse_onto}
+use Rattle.std.proofs.lemmas.List.{append-nil}
+use Rattle.gh_base.specs.declared.operation.Op.{Op}
+use Rattle.gh_base.specs.declared.layout.Layout.{Layout}
+use Rattle.gh_base.specs.declared.machine.Entry.{Entry}
+use Rattle.gh_script.specs.Program.{Program}
+use Rattle.gh_world.specs.Order.{begun_in}
+use Rattle.gh_world.specs.Runs.{actors_in, EveryOrderHasOneRun, IsRun, IsRunSoFar}
+use Rattle.gh_world.specs.Schedule.{ended_after}
+use Rattle.gh_world.specs.Turns.{turns_of}
+use Rattle.gh_world.specs.World.{setting_of}
+use Rattle.gh_replay.specs.Plan.{Plan}
+use Rattle.gh_replay.specs.Scheduled.{IsScheduled, reached_in, stands_in}
+use Rattle.gh_replay.specs.Standing.{who}
+use Rattle.gh_replay.proofs.Choosing.{moved_low, who_there}
+
+-- ---- a run so far, before its last step
+
+-- what had begun, and what was to come
+earlier : (o : Option Op) (bs rest turns : List Op) → turns ≡ reverse (option_to_list o ++ bs) ++ rest → turns ≡ reverse bs ++ (option_to_list o ++ rest)
+earlier None bs rest turns h = h
+earlier (Some o) bs rest turns h = h ∙ ap (λ ys. ys ++ rest) (reverse_onto bs o []) ∙ append_assoc (reverse bs) (o ∷ []) rest
+
+before : (p : Program) (l : Layout) (e : Entry Op) (es : List (Entry Op)) → IsRunSoFar p l (e ∷ es) → IsRunSoFar p l es
+before p l e es r = record { legal = r.legal.0; to_come = option_to_list e.begun ++ r.to_come; turns = earlier e.begun (begun_in es) r.to_come (turns_of p) r.turns }
+
+pub is_so_far : (p : Program) (l : Layout) (es : List (Entry Op)) → IsRun p l es → IsRunSoFar p l es
+is_so_far p l es r = record { legal = r.legal; to_come = []; turns = sym (append-nil (reverse (begun_in es)) ∙ r.turns) }
+
+-- the turn behind the list of a schedule is that of an actor that there is
+pub stands_low : (p : Program) (l : Layout) (plan : Plan) (es : List (Entry Op)) → (stands_in p l plan es).next < (setting_of p l).actors
+stands_low p l plan [] = omega arith
+stands_low p l plan (e ∷ es) = moved_low (reached_in p l es) e.actor (stands_in p l plan es) (stands_low p l plan es)
+
+insides : (a b : ℕ) → Some a ≡ Some b → a ≡ b
+insides a b e = cc
+
+module _ (ordered : EveryOrderHasOneRun) (p : Program) (l : Layout) (plan : Plan) where
+  pub one_run : (es fs : List (Entry Op)) → IsRunSoFar p l es → IsRunSoFar p l fs → IsScheduled p l plan es → IsScheduled p l plan fs → length es ≡ length fs → es ≡ fs
+  one_run [] [] r s t u long = refl
+  one_run [] (f ∷ fs) r s t u long = absurd (omega arith)
+  one_run (e ∷ es) [] r s t u long = absurd (omega arith)
+  one_run (e ∷ es) (f ∷ fs) r s t u long =
+      let same : es ≡ fs = one_run es fs (before p l e es r) (before p l f fs s) t.0 u.0 (omega arith) in
+      let turn : who (reached_in p l es) (stands_in p l plan es) ≡ Some f.actor = subst (λ (gs : List (Entry Op)). who (reached_in p l gs) (stands_in p l plan gs) ≡ Some f.actor) (sym same) u.1 in
+      let first : e.actor ≡ f.actor = insides e.actor f.actor (sym t.1 ∙ turn) in
+      let actors : actors_in (e ∷ es) ≡ actors_in (f ∷ fs) = rw (first, same) refl in
+      ordered p l (e ∷ es) (f ∷ fs) r s actors
+
+  nothing_follows : (e : Entry Op) (es : List (Entry Op)) → IsRun p l es → IsRunSoFar p l (e ∷ es) → IsScheduled p l plan (e ∷ es) → ⊥
+  nothing_follows e es run r t =
+      let going : ended_after (setting_of p l) es e.actor ≡ false = (who_there (reached_in p l es) (stands_in p l plan es) e.actor (stands_low p l plan es) t.1).1 in
+      let done : ended_after (setting_of p l) es e.actor ≡ true = run.done e.actor r.legal.1.actor in
+      let no : true ≡ false = sym done ∙ going in
+      absurd cc
+
+  not_as_long : (e : Entry Op) (es fs : List (Entry Op)) → IsRun p l es → IsRunSoFar p l (e ∷ fs) → IsScheduled p l plan es → IsScheduled p l plan (e ∷ fs) → length es ≡ length fs → ⊥
+  not_as_long e es fs run r t u long =
+      let same : es ≡ fs = one_run es fs (is_so_far p l es run) (before p l e fs r) t u.0 long in
+      nothing_follows e es run (subst (λ (gs : List (Entry Op)). IsRunSoFar p l (e ∷ gs)) (sym same) r) (subst (λ (gs : List (Entry Op)). IsScheduled p l plan (e ∷ gs)) (sym same) u)
+
+  pub none_is_longer : (es fs : List (Entry Op)) → IsRun p l es → IsRunSoFar p l fs → IsScheduled p l plan es → IsScheduled p l plan fs → length fs ≤ length es
+  none_is_longer es [] run r t u = omega arith
+  none_is_longer es (f ∷ fs) run r t u =
+      let within : length fs ≤ length es = none_is_longer es fs run (before p l f fs r) t u.0 in
+      let apart = not_as_long f es fs run r t u in
+      omega (arith, within, apart)

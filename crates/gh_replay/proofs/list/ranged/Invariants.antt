@@ -1,0 +1,11 @@
+use Rattle.std.proofs.Common.{◌≡◌, ◌≤◌, drop}
+use Rattle.std.specs.List.{list_all}
+use Rattle.gh_script.specs.Words.{is_digit, value_from}
+use Rattle.gh_replay.proofs.list.ranged.Given as goal
+
+abbrev pub invariant-loop-b : goal.invariant-loop-b
+invariant-loop-b l = record {
+  few : l.value ≤ l.most;
+  digits : list_all is_digit (drop l.b-index l.word) ≡ list_all is_digit l.word;
+  value : value_from l.value (drop l.b-index l.word) ≡ value_from 0 l.word;
+}

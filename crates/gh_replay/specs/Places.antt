@@ -1,0 +1,28 @@
+-- What the code knows of a world and of where a schedule stands.
+use Rattle.std.specs.Prelude.{◌≡◌, ℕ, ◌≤◌, List, drop, length}
+use Rattle.gh_base.specs.declared.operation.Op.{Op}
+use Rattle.gh_base.specs.declared.value.Answer.{Answer}
+use Rattle.gh_base.specs.declared.machine.Entry.{Entry}
+use Rattle.gh_world.specs.Runs.{answers_given}
+use Rattle.gh_world.specs.World.{actors_of, AllDone, is_done, IsAfter, layout_of, marks_of, script_of, State}
+use Rattle.gh_replay.specs.declared.place.Place.{Place}
+use Rattle.gh_replay.specs.Plan.{Plan}
+use Rattle.gh_replay.specs.Scheduled.{IsScheduled}
+use Rattle.gh_replay.specs.Standing.{Reached, Standing}
+
+-- what the actors of a world have come to
+abbrev pub seen_of : State → Reached
+seen_of w = record { actors = actors_of w; ended = is_done w; marks = marks_of w }
+
+-- where the schedule stands there
+abbrev pub standing_at : Place → Standing
+standing_at c = record { items = drop c.at c.list.items; next = c.next; drawn = c.drawn }
+
+-- the world has taken turns within the budget, all of it where it is not done, and has answered so
+pub record Ran (w : State) (plan : Plan) (budget : ℕ) (answers : List (ℕ × Answer)) : Type 0 where
+  pub turns : List (Entry Op)
+  pub after : IsAfter w turns
+  pub few : length turns ≤ budget
+  pub scheduled : IsScheduled (script_of w) (layout_of w) plan turns
+  pub all : ¬ AllDone w → length turns ≡ budget
+  pub given : answers ≡ answers_given (script_of w) (layout_of w) turns

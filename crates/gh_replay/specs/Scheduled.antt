@@ -1,0 +1,29 @@
+-- The lists of steps that a schedule gives.
+use Rattle.std.specs.Prelude.{◌≡◌, ◌↔◌, List, [], ◌∷◌, Some}
+use Rattle.gh_base.specs.declared.operation.Op.{Op}
+use Rattle.gh_base.specs.declared.layout.Layout.{Layout}
+use Rattle.gh_base.specs.declared.machine.Entry.{Entry}
+use Rattle.gh_script.specs.Program.{Program}
+use Rattle.gh_world.specs.Schedule.{ended_after, IsInTurn}
+use Rattle.gh_world.specs.World.{actor_after, marks_by, marks_in, setting_of}
+use Rattle.gh_replay.specs.Plan.{no_plan, Plan}
+use Rattle.gh_replay.specs.Standing.{moved, opening, Reached, Standing, who}
+
+module _ (p : Program) (l : Layout) where
+  -- what the actors have come to after the list
+  abbrev pub reached_in : List (Entry Op) → Reached
+  reached_in es = record { actors = (setting_of p l).actors; ended = ended_after (setting_of p l) es; marks = λ a. marks_by (marks_in p.shapes l es) (actor_after p l es a) }
+
+  -- where the schedule stands after the list
+  abbrev pub stands_in : Plan → List (Entry Op) → Standing
+  stands_in plan [] = opening plan
+  stands_in plan (e ∷ es) = moved (reached_in es) e.actor (stands_in plan es)
+
+  -- Each step is by whoever the schedule says then.
+  abbrev pub IsScheduled : Plan → List (Entry Op) → Type 0
+  IsScheduled plan [] = Unit {0}
+  IsScheduled plan (e ∷ es) = IsScheduled plan es × (who (reached_in es) (stands_in plan es) ≡ Some e.actor)
+
+-- Where a schedule says nothing the actors take turns in ascending order.
+abbrev pub NothingSaidIsInTurn : Type 0
+NothingSaidIsInTurn = (p : Program) (l : Layout) (es : List (Entry Op)) → IsScheduled p l no_plan es ↔ IsInTurn (setting_of p l) es

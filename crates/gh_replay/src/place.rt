@@ -1,0 +1,183 @@
+//! Where a schedule stands in a run.
+
+ghost use Rattle.std.specs.Prelude.{◌≡◌, ◌<◌, ◌≤◌, ◌%◌, false, IfSome, None, drop, length, option_map, slice_get};
+ghost use Rattle.gh_base.specs.Cells.{seats_of};
+ghost use Rattle.rand_xoshiro.specs.SplitMix64.{mix_u64};
+ghost use Rattle.gh_world.specs.Schedule.{behind};
+ghost use Rattle.gh_world.specs.World.{actors_of, is_done, layout_of, AllDone};
+ghost use Rattle.gh_replay.specs.Places.{seen_of, standing_at};
+ghost use Rattle.gh_replay.specs.Standing.{
+  going,
+  is_over,
+  moved,
+  one_less,
+  opening,
+  to_come,
+  who,
+  who_behind,
+};
+
+use crate::schedule::{Schedule, Turn, Until};
+use gh_world::World;
+use rand_core::SeedableRng;
+use rand_core::utils::NextWord;
+use rand_xoshiro::SplitMix64;
+
+/// Where a schedule stands: the items from place `at` on are to come, the first of them with the steps that
+/// it has left; behind them it would be the turn of `next`, or the generator draws.
+#[derive(Drop)]
+pub struct Place {
+    list: Vec<Turn>,
+    at: usize,
+    next: u8,
+    drawn: Option<SplitMix64>,
+}
+
+impl Place {
+    /// Before the first step.
+    pub fn opening(schedule: Schedule) -> Place
+        ensures stands { standing_at result ≡ opening schedule }
+        ensures within { result.at ≤ length result.list.items }
+    {
+        let Schedule { list, seed } = schedule;
+        let drawn = match seed {
+            Some(seed) => Some(SplitMix64::seed_from_u64(seed)),
+            None => None,
+        };
+        Place {
+            list,
+            at: 0,
+            next: 0,
+            drawn,
+        }
+    }
+
+    /// Who steps next, where anybody does; the place is then that behind this step.
+    pub fn take_turn(&mut self, world: &World) -> Option<u8>
+        requires within { self.old.at ≤ length self.old.list.items }
+        requires next { self.old.next < actors_of world.now }
+        ensures who { result ≡ who (seen_of world.now) (standing_at self.old) }
+        ensures moved { IfSome result (λ a. standing_at self.new ≡ moved (seen_of world.now) a (standing_at self.old)) }
+        ensures within { self.new.at ≤ length self.new.list.items }
+        ensures next { self.new.next < actors_of world.now }
+        ensures going { IfSome result (λ a. (a < actors_of world.now) × (is_done world.now a ≡ false)) }
+        ensures over { result ≡ None → AllDone world.now }
+        ensures seats { actors_of world.now ≡ seats_of (layout_of world.now) }
+    {
+        let actors = world.actors();
+        self.at = first_to_come(world, &self.list, self.at);
+        if self.at < self.list.len() {
+            let turn = self.list[self.at];
+            self.list[self.at] = one_less(turn);
+            return Some(turn.actor);
+        }
+        match who_behind(world, self.next, &mut self.drawn) {
+            Some(actor) => {
+                self.next = behind(actors, actor);
+                Some(actor)
+            }
+            None => None,
+        }
+    }
+}
+
+/// The actor behind this one.
+fn behind(actors: u8, actor: u8) -> u8
+    requires { actor < actors }
+    ensures { result ≡ behind actors actor }
+{
+    if actor + 1 < actors { actor + 1 } else { 0 }
+}
+
+/// What an item has left once its actor has stepped.
+fn one_less(turn: Turn) -> Turn
+    ensures { result ≡ one_less turn }
+{
+    let until = match turn.until {
+        Until::Steps(n) => Until::Steps(n.saturating_sub(1)),
+        Until::Marks(m) => Until::Marks(m),
+    };
+    Turn {
+        actor: turn.actor,
+        until,
+    }
+}
+
+/// The item has ended: its actor does not exist or is done, or has its steps or its marks.
+fn is_over(world: &World, turn: Turn) -> bool
+    ensures { result ≡ is_over (seen_of world.now) turn }
+{
+    if turn.actor >= world.actors() || world.is_done(turn.actor) {
+        return true;
+    }
+    match turn.until {
+        Until::Steps(n) => n == 0,
+        Until::Marks(m) => world.marks(turn.actor) >= m,
+    }
+}
+
+/// Where the first item that has not ended stands, from this place on, or the length.
+fn first_to_come(world: &World, list: &[Turn], at: usize) -> usize
+    requires { at ≤ length list.now }
+    ensures items { drop result list.now ≡ to_come (seen_of world.now) (drop at list.now) }
+    ensures within { result ≤ length list.now }
+{
+    for i in at..list.len() {
+        if !is_over(world, list[i]) {
+            return i;
+        }
+    }
+    list.len()
+}
+
+/// Who steps next behind the items.
+fn who_behind(world: &World, next: u8, drawn: &mut Option<SplitMix64>) -> Option<u8>
+    requires { next < actors_of world.now }
+    ensures who { result ≡ who_behind (seen_of world.now) next drawn.old }
+    ensures drawn { drawn.new ≡ option_map (λ x. (mix_u64 x).1) drawn.old }
+{
+    match drawn {
+        Some(generator) => chosen(world, generator.next_word()),
+        None => world.turn_from(next),
+    }
+}
+
+/// The actor that a word says among those that are not done.
+fn chosen(world: &World, word: u64) -> Option<u8>
+    ensures { result ≡ slice_get (going (seen_of world.now)) (word % length (going (seen_of world.now))) }
+{
+    let count = count_going(world);
+    if count == 0 {
+        return None;
+    }
+    going_at(world, word % count)
+}
+
+/// How many actors are not done.
+fn count_going(world: &World) -> u64
+    ensures { result ≡ length (going (seen_of world.now)) }
+{
+    let mut count = 0;
+    for a in 0..world.actors() {
+        if !world.is_done(a) {
+            count += 1;
+        }
+    }
+    count
+}
+
+/// The actor of this number, counted from 0, among those that are not done.
+fn going_at(world: &World, number: u64) -> Option<u8>
+    ensures { result ≡ slice_get (going (seen_of world.now)) number }
+{
+    let mut left = number;
+    for a in 0..world.actors() {
+        if !world.is_done(a) {
+            if left == 0 {
+                return Some(a);
+            }
+            left -= 1;
+        }
+    }
+    None
+}
