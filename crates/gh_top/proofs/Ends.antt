@@ -1,6 +1,7 @@
 -- How a call ends, by what it found.
 use Rattle.std.proofs.Common.{◌≡◌, ℕ, ◌⊎◌, inl, inr, List, Some, refl, sym, subst, ◌∙◌}
 use Rattle.gh_lines.specs.Text.{Outcome}
+use Rattle.gh_replay.specs.Plan.{no_plan}
 use Rattle.gh_replay.specs.Replayed.{IsReplayed, IsUnfinished, NotBoth}
 use Rattle.gh_script.specs.declared.fault.Why.{Why}
 use Rattle.gh_script.specs.Program.{Program}
@@ -75,23 +76,23 @@ module _ (not_both : (text : List ℕ) (p : Program) (line : ℕ) (why : Why) �
 
 module _ (one_script : (text : List ℕ) (p q : Program) → Spells text p → Spells text q → p ≡ q) (never : NotBoth) where
   -- a run that ends within the budget is not out of turns
-  pub replayed-tells : (words : List (List ℕ)) (text : List ℕ) (budget : ℕ) (p : Program) (outcome : Outcome) (f : Found) → Matches words text f → IsReplay words budget → Spells text p → IsReplayed p budget outcome → status_of f ≡ statuses.OutOfTurns → ⊥
+  pub replayed-tells : (words : List (List ℕ)) (text : List ℕ) (budget : ℕ) (p : Program) (outcome : Outcome) (f : Found) → Matches words text f → IsReplay words budget → Spells text p → IsReplayed p no_plan budget outcome → status_of f ≡ statuses.OutOfTurns → ⊥
   replayed-tells words text budget p outcome BadWords m replay spelled r e = absurd cc
   replayed-tells words text budget p outcome (BadScript fault) m replay spelled r e = absurd cc
   replayed-tells words text budget p outcome (Ran q report) m replay spelled r e = absurd cc
   replayed-tells words text budget p outcome (OutOfTurns n) m replay spelled r e =
-      let u : IsUnfinished p m.0 = subst (λ (q : Program). IsUnfinished q m.0) (one_script text m.2.1 p m.2.2 spelled) m.2.3 in
-      never p budget outcome r (subst (λ (n : ℕ). IsUnfinished p n) (same-budget words m.0 budget m.1 replay) u)
+      let u : IsUnfinished p no_plan m.0 = subst (λ (q : Program). IsUnfinished q no_plan m.0) (one_script text m.2.1 p m.2.2 spelled) m.2.3 in
+      never p no_plan budget outcome r (subst (λ (n : ℕ). IsUnfinished p no_plan n) (same-budget words m.0 budget m.1 replay) u)
   replayed-tells words text budget p outcome ReadFault m replay spelled r e = absurd cc
   replayed-tells words text budget p outcome NoMemory m replay spelled r e = absurd cc
 
   -- and one that does not is not told
-  pub unfinished-tells : (words : List (List ℕ)) (text : List ℕ) (budget : ℕ) (p : Program) (f : Found) → Matches words text f → IsReplay words budget → Spells text p → IsUnfinished p budget → status_of f ≡ statuses.Ok → ⊥
+  pub unfinished-tells : (words : List (List ℕ)) (text : List ℕ) (budget : ℕ) (p : Program) (f : Found) → Matches words text f → IsReplay words budget → Spells text p → IsUnfinished p no_plan budget → status_of f ≡ statuses.Ok → ⊥
   unfinished-tells words text budget p BadWords m replay spelled u e = absurd cc
   unfinished-tells words text budget p (BadScript fault) m replay spelled u e = absurd cc
   unfinished-tells words text budget p (Ran q report) m replay spelled u e =
-      let r : IsReplayed p m.0 report.outcome = subst (λ (x : Program). IsReplayed x m.0 report.outcome) (one_script text q p m.2.0 spelled) m.2.1 in
-      never p budget report.outcome (subst (λ (n : ℕ). IsReplayed p n report.outcome) (same-budget words m.0 budget m.1 replay) r) u
+      let r : IsReplayed p no_plan m.0 report.outcome = subst (λ (x : Program). IsReplayed x no_plan m.0 report.outcome) (one_script text q p m.2.0 spelled) m.2.1 in
+      never p no_plan budget report.outcome (subst (λ (n : ℕ). IsReplayed p no_plan n report.outcome) (same-budget words m.0 budget m.1 replay) r) u
   unfinished-tells words text budget p (OutOfTurns n) m replay spelled u e = absurd cc
   unfinished-tells words text budget p ReadFault m replay spelled u e = absurd cc
   unfinished-tells words text budget p NoMemory m replay spelled u e = absurd cc

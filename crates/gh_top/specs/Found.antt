@@ -1,6 +1,7 @@
 -- What a call has found before it writes anything.
 use Rattle.std.specs.Prelude.{◌≡◌, ℕ, List, []}
 use Rattle.gh_lines.specs.Text.{outcome_text, refusal_line, turns_line, words_refused_line}
+use Rattle.gh_replay.specs.Plan.{no_plan}
 use Rattle.gh_replay.specs.Replayed.{IsReplayed, IsUnfinished}
 use Rattle.gh_replay.specs.Report.{IsReportOf}
 use Rattle.gh_script.specs.Program.{Program}
@@ -14,8 +15,8 @@ use Rattle.gh_top.specs.Outcome.{IsReplay, AreRefused}
 -- a script that was run is the one that the text spells, run under this budget, and a text that was refused spells none
 abbrev pub MatchesText : ℕ → List ℕ → Found → Type 0
 MatchesText budget text (BadScript f) = Refused text f.line f.why
-MatchesText budget text (Ran p report) = Spells text p × IsReplayed p budget report.outcome
-MatchesText budget text (OutOfTurns n) = (n ≡ budget) × (p : Program) × Spells text p × IsUnfinished p budget
+MatchesText budget text (Ran p report) = Spells text p × IsReplayed p no_plan budget report.outcome
+MatchesText budget text (OutOfTurns n) = (n ≡ budget) × (p : Program) × Spells text p × IsUnfinished p no_plan budget
 MatchesText budget text BadWords = ⊥
 MatchesText budget text ReadFault = Unit {0}
 MatchesText budget text NoMemory = Unit {0}

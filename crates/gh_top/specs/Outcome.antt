@@ -3,6 +3,7 @@ use Rattle.std.specs.Prelude.{◌≡◌, ℕ, List, Option, Some, None}
 use Rattle.std.specs.Io.KnownBytes.{Appends}
 use Rattle.gh_io.specs.Streams.{TookPart}
 use Rattle.gh_lines.specs.Text.{Outcome, outcome_text, refusal_line, turns_line, words_refused_line}
+use Rattle.gh_replay.specs.Plan.{no_plan}
 use Rattle.gh_replay.specs.Replayed.{IsReplayed, IsUnfinished}
 use Rattle.gh_script.specs.declared.fault.Why.{Why}
 use Rattle.gh_script.specs.Program.{Program}
@@ -32,8 +33,8 @@ IsTelling _ = ⊥
 abbrev pub Says : List (List ℕ) → List ℕ → Status → List ℕ → Type 0
 Says words text BadWords written = AreRefused words × (written ≡ words_refused_line)
 Says words text BadScript written = (budget : ℕ) × IsReplay words budget × (line : ℕ) × (why : Why) × Refused text line why × (written ≡ refusal_line line why)
-Says words text Ok written = (budget : ℕ) × IsReplay words budget × (p : Program) × Spells text p × (outcome : Outcome) × IsReplayed p budget outcome × (written ≡ outcome_text p outcome)
-Says words text OutOfTurns written = (budget : ℕ) × IsReplay words budget × (p : Program) × Spells text p × IsUnfinished p budget × (written ≡ turns_line budget)
+Says words text Ok written = (budget : ℕ) × IsReplay words budget × (p : Program) × Spells text p × (outcome : Outcome) × IsReplayed p no_plan budget outcome × (written ≡ outcome_text p outcome)
+Says words text OutOfTurns written = (budget : ℕ) × IsReplay words budget × (p : Program) × Spells text p × IsUnfinished p no_plan budget × (written ≡ turns_line budget)
 Says words text _ written = ⊥
 
 -- the sink took all that there was to say

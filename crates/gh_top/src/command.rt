@@ -6,6 +6,7 @@ ghost use Rattle.gh_script.specs.declared.fault.Why.{Why};
 ghost use Rattle.gh_script.specs.Program.{Program};
 ghost use Rattle.gh_script.specs.Grammar.{Spells, Refused};
 ghost use Rattle.gh_lines.specs.Text.{Outcome};
+ghost use Rattle.gh_replay.specs.Plan.{no_plan};
 ghost use Rattle.gh_replay.specs.Replayed.{IsReplayed, IsUnfinished};
 ghost use Rattle.gh_top.specs.CommandLine.{texts};
 ghost use Rattle.gh_top.specs.Outcome.{AreRefused, IsReplay, IsTelling, Said, SaidPart};
@@ -55,10 +56,10 @@ pub fn top<S: Source, K: Sink>(alloc: Global, words: &[&str], src: &mut S, out: 
     // A run that ends within the budget is told, and one that does not is out of turns.
     ensures ok_exactly { (text : List ℕ) (budget : ℕ) (p : Program) (outcome : Outcome) →
         S.left src.old ≡ Some text → IsReplay (texts words.now) budget → Spells text p →
-        IsReplayed p budget outcome → result ≡ Status.OutOfTurns → ⊥ }
+        IsReplayed p no_plan budget outcome → result ≡ Status.OutOfTurns → ⊥ }
     ensures out_of_turns_exactly { (text : List ℕ) (budget : ℕ) (p : Program) →
         S.left src.old ≡ Some text → IsReplay (texts words.now) budget → Spells text p →
-        IsUnfinished p budget → result ≡ Status.Ok → ⊥ }
+        IsUnfinished p no_plan budget → result ≡ Status.Ok → ⊥ }
     ensures read_fault { result ≡ Status.ReadFault →
         ¬ AreRefused (texts words.now) × Rose (S.faults src.old) (S.faults src.new) × (K.taken out.new ≡ K.taken out.old) }
     ensures write_fault { result ≡ Status.WriteFault → Rose (K.faults out.old) (K.faults out.new) }

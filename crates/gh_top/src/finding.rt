@@ -9,7 +9,7 @@ ghost use Rattle.gh_top.specs.Found.{Matches, MatchesText, IsRead, IsRan, IsTell
 use crate::found::Found;
 use crate::line::{Line, read_line};
 use gh_io::{ReadError, Source, read_up_to};
-use gh_replay::{ReplayFault, replay};
+use gh_replay::{ReplayFault, Schedule, replay};
 use gh_script::{MOST_BYTES, ParseError, one_reading, parse, script_form};
 use std::alloc::Global;
 
@@ -63,7 +63,8 @@ fn run(alloc: Global, budget: u64, text: &[u8]) -> Found
         Err(ParseError::Script(fault)) => return Found::BadScript(fault),
         Err(ParseError::NoMemory) => return Found::NoMemory,
     };
-    match replay(alloc, &script, budget) {
+    let schedule = Schedule::unsaid(alloc);
+    match replay(alloc, &script, schedule, budget) {
         Ok(report) => Found::Ran(script, report),
         Err(ReplayFault::OutOfTurns(turns)) => Found::OutOfTurns(turns),
         Err(ReplayFault::NoMemory) => Found::NoMemory,
