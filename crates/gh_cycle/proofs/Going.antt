@@ -1,5 +1,5 @@
 pub mod Beginning
-pub mod Known
+pub mod Deeds
 pub mod Lasting
 pub mod Making
 pub mod Moves

@@ -1,6 +1,8 @@
 pub mod Allocating
 pub mod Beside
+pub mod Deeds
 pub mod Ending
+pub mod Known
 pub mod Marked
 pub mod Opening
 pub mod Reached

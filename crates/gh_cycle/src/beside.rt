@@ -9,6 +9,8 @@
 //! every move over the heap and under every step of marking, and at the end it is enough.
 
 ghost use Rattle.gh_cycle.specs.Beside.{CyclesBeginBeside, MarkingGoesBeside, MovesGoBeside, ObjectsAreKnownBeside, SlotsAreReserved, TheReachedAreMarkedBeside};
+ghost use Rattle.gh_cycle.specs.Deeds.{DeedsGoBeside};
+ghost use Rattle.gh_cycle.specs.Known.{Known};
 
 use crate::opening::reach_is_decided;
 use gh_base::laws::rows_are_written;
@@ -32,11 +34,9 @@ pub fn objects_are_known_beside()
     the_heap_is_apart();
 }
 
-/// Each move of a processor over the heap is made of moves of marking that its seat may make, and the two states
-/// belong together behind it. The processor has to meet what `MeetsMarking` asks: the write barrier, a mark that is
-/// set before the object is made, and no other move of slots, and none of spans or of the lock, while it fills one.
-pub fn moves_go_beside()
-    ensures { MovesGoBeside }
+/// The laws of lower crates on which the next two rest: those of moves over the heap and of moves of marking.
+fn laws_are_known()
+    ensures { Known }
 {
     rows_are_written();
     the_heap_is_apart();
@@ -50,6 +50,24 @@ pub fn moves_go_beside()
     gh_marks::laws::own_moves_leave();
     gh_marks::laws::each_move_guards();
     gh_marks::laws::hands_follow();
+}
+
+/// Each move of a processor over the heap is made of moves of marking that its seat may make, and the two states
+/// belong together behind it. The processor has to meet what `MeetsMarking` asks: the write barrier, a mark that is
+/// set before the object is made, and no other move of slots, and none of spans or of the lock, while it fills one.
+pub fn moves_go_beside()
+    ensures { MovesGoBeside }
+{
+    laws_are_known();
+}
+
+/// The same by what a step does. A routine's law hides by which move it goes, and tells only the words that it writes
+/// and how the heap that never frees changes; that is all that marking asks about. So whichever move it is, it is made
+/// of moves of marking, and the two states belong together behind it, if what it does meets `MeetsByDeed`.
+pub fn deeds_go_beside()
+    ensures { DeedsGoBeside }
+{
+    laws_are_known();
 }
 
 /// The mark of a claimed slot may be set before its object is made: the slot is white, and nobody else fills it.

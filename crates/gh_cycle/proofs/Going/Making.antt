@@ -16,7 +16,7 @@ use Rattle.gh_cycle.specs.Marked.{RegistersFit}
 use Rattle.gh_cycle.specs.Opening.{reference_of}
 use Rattle.gh_cycle.specs.Vocabulary.{alloc_words, Cycle, EverValue, Good, Heap, IsMade, IsMarked, mark_words, Marking, Name, Placed, Placing, points, Reach, row_bit, shape_for, size_for, view}
 use Rattle.gh_cycle.proofs.Reaching.{name-itself, name-tells}
-use Rattle.gh_cycle.proofs.Going.Known.{Known}
+use Rattle.gh_cycle.specs.Known.{Known}
 use Rattle.gh_cycle.proofs.Going.Objects.{here}
 use Rattle.gh_cycle.proofs.Going.Plain.{fills-still, there, Together}
 use Rattle.gh_cycle.proofs.Going.Steps.{set-fits}

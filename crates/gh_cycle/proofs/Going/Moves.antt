@@ -5,7 +5,7 @@ use Rattle.gh_heap.specs.Moves as heap
 use Rattle.gh_cycle.specs.Beside.{GoesBeside, IsBeside, MeetsMarking, MovesGoBeside}
 use Rattle.gh_cycle.specs.Sweeping.{with_words}
 use Rattle.gh_cycle.specs.Vocabulary.{Cycle, Good, Heap, Marking, view, Words}
-use Rattle.gh_cycle.proofs.Going.Known.{Known}
+use Rattle.gh_cycle.specs.Known.{Known}
 use Rattle.gh_cycle.proofs.Going.Making.{makes}
 use Rattle.gh_cycle.proofs.Going.Objects.{here}
 use Rattle.gh_cycle.proofs.Going.Plain.{Together}

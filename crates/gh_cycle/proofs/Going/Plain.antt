@@ -13,7 +13,7 @@ use Rattle.gh_cycle.specs.Marked.{RegistersFit}
 use Rattle.gh_cycle.specs.Opening.{reference_of}
 use Rattle.gh_cycle.specs.Reached.{IsBounded}
 use Rattle.gh_cycle.specs.Vocabulary.{alloc_words, Ask, birth_words, Cycle, effect, Good, Heap, IsMade, IsMarked, mark_words, Marking, Name, Placed, Placing, Reach, Row, view}
-use Rattle.gh_cycle.proofs.Going.Known.{Known}
+use Rattle.gh_cycle.specs.Known.{Known}
 use Rattle.gh_cycle.proofs.Going.Lasting.{beside-lasts}
 use Rattle.gh_cycle.proofs.Going.Objects.{here}
 

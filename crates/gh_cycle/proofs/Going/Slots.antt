@@ -8,7 +8,7 @@ use Rattle.gh_heap.specs.Rights.{Claims}
 use Rattle.gh_cycle.specs.Beside.{FillsNone, GoesBeside}
 use Rattle.gh_cycle.specs.Vocabulary.{alloc_words, birth_word, birth_words, Cycle, Heap, IsPointer, Marking, Name, Placed, row_bit, view}
 use Rattle.gh_cycle.proofs.Endings.Ended.{zero_one}
-use Rattle.gh_cycle.proofs.Going.Known.{Known}
+use Rattle.gh_cycle.specs.Known.{Known}
 use Rattle.gh_cycle.proofs.Going.Objects.{apart-from, here, name-at}
 use Rattle.gh_cycle.proofs.Going.Plain.{goes-quiet, there, Together}
 

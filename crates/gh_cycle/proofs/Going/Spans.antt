@@ -7,7 +7,7 @@ use Rattle.gh_heap.specs.Moves as heap
 use Rattle.gh_heap.specs.Spans.{Freeing, owned_by}
 use Rattle.gh_cycle.specs.Beside.{FillsNone, GoesBeside}
 use Rattle.gh_cycle.specs.Vocabulary.{body_at, body_word, Cycle, Heap, head_word, Laying, Marking, SpanHead, view}
-use Rattle.gh_cycle.proofs.Going.Known.{Known}
+use Rattle.gh_cycle.specs.Known.{Known}
 use Rattle.gh_cycle.proofs.Going.Objects.{here}
 use Rattle.gh_cycle.proofs.Going.Plain.{goes-quiet, Together}
 

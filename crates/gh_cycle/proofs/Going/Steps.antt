@@ -18,7 +18,7 @@ use Rattle.gh_cycle.specs.Sweeping.{with_words}
 use Rattle.gh_cycle.specs.Vocabulary.{alloc_words, Ask, birth_words, Cycle, effect, Ever, EverValue, Heap, IsSince, Marking, Name, Place, Placed, Placing, view, View}
 use Rattle.gh_cycle.proofs.Beginning.{names-reference}
 use Rattle.gh_cycle.proofs.Endings.Quiet.{quiet_view}
-use Rattle.gh_cycle.proofs.Going.Known.{Known}
+use Rattle.gh_cycle.specs.Known.{Known}
 use Rattle.gh_cycle.proofs.Going.Objects.{here}
 use Rattle.gh_cycle.proofs.Going.Plain.{along-quiet, goes-along, goes-quiet, GoesAlong, IsPlain, stacks-stay, there, Together}
 

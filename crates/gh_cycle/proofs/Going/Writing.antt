@@ -10,7 +10,7 @@ use Rattle.gh_marks.specs.Seats.{Hands, InHand}
 use Rattle.gh_cycle.specs.Beside.{ClaimsSlot, GoesBeside, IsOfCycle, MeetsMarking}
 use Rattle.gh_cycle.specs.Vocabulary.{Cycle, EverValue, Heap, Holds, IsPointer, IsSince, Marking, Name, Placing, points, put, size_for, view}
 use Rattle.gh_cycle.proofs.Beginning.{names-it}
-use Rattle.gh_cycle.proofs.Going.Known.{Known}
+use Rattle.gh_cycle.specs.Known.{Known}
 use Rattle.gh_cycle.proofs.Going.Objects.{apart-from, here, name-at}
 use Rattle.gh_cycle.proofs.Going.Plain.{goes-along, GoesAlong, there, Together}
 

@@ -1,4 +1,4 @@
--- What the laws of lower crates say, as far as the proofs on moves beside marking use it.
+-- What the laws of lower crates say, as far as those on processors that go on beside marking use it.
 use Rattle.gh_base.specs.Rows.{RowsAreWritten}
 use Rattle.gh_heap.specs.Laws as heap
 use Rattle.gh_marks.specs.Laws as marks

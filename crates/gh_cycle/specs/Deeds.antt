@@ -1,0 +1,77 @@
+-- While a cycle is marked: what a step of a processor does, whichever move over the heap it is, and what marking asks of it. A routine's law tells which words it writes and how the heap that never frees changes, and not by which move.
+use Rattle.std.specs.Prelude.{◌≡◌, ℕ, ◌+◌, ◌/◌, ◌%◌, ◌^◌, ◌<◌, true, None}
+use Rattle.gh_base.specs.declared.cell.Ask.{Ask}
+use Rattle.gh_base.specs.declared.cell.Ask.TheVariants as ask
+use Rattle.gh_base.specs.declared.cell.Cell.TheVariants as cell
+use Rattle.gh_base.specs.declared.limits.TheConstants.{REGISTERS}
+use Rattle.gh_base.specs.declared.pack.TheConstants.{END}
+use Rattle.gh_base.specs.Rows.{field_words, global_words}
+use Rattle.gh_base.specs.Steps.{effect}
+use Rattle.gh_model.specs.Ever.{next_name, with_end, with_field, with_global, with_object, with_register}
+use Rattle.gh_model.specs.declared.EverValue.TheVariants as values
+use Rattle.gh_heap.specs.Moves as heap
+use Rattle.gh_marks.specs.Colours.{IsClean, IsSafe, rows}
+use Rattle.gh_marks.specs.Good.{Good as MarkingGood}
+use Rattle.gh_marks.specs.Moves as marks
+use Rattle.gh_marks.specs.Seats.{Hands, InHand}
+use Rattle.gh_cycle.specs.Beside.{FillsNone, IsBeside}
+use Rattle.gh_cycle.specs.Opening.{reference_of}
+use Rattle.gh_cycle.specs.Reached.{IsBounded}
+use Rattle.gh_cycle.specs.Vocabulary.{Arena, Cycle, Ever, EverValue, Good, Heap, IsMarked, mark_words, Marking, Name, Place, Placing, points, view}
+
+-- What a step does to objects and values.
+pub data Deed : Type 0 where
+  -- nothing: it may still take, lay out, free or give back a span, or clear a slot
+  Rests : Deed
+  -- register d of goroutine g takes a value, or the goroutine ends
+  Sets : (g d : ℕ) → (value : EverValue) → Deed
+  Ends : (g : ℕ) → Deed
+  -- an object of type t is made at a heap word, and register d of goroutine g names it
+  Makes : (at g d t : ℕ) → Deed
+  -- field k of an object, or a global, takes a value, written as a word
+  Puts : (n : Name) → (k : ℕ) → (value : EverValue) → (word : ℕ) → Deed
+  PutsGlobal : (k : ℕ) → (value : EverValue) → (word : ℕ) → Deed
+
+abbrev pub ever_by : Arena → Ever → Deed → Ever
+ever_by z e Rests = e
+ever_by z e (Sets g d value) = with_register e g d value
+ever_by z e (Ends g) = with_end e g
+ever_by z e (Makes at g d t) = with_register (with_object z.shapes e g t) g d (values.Ref (next_name e g))
+ever_by z e (Puts n k value word) = with_field e n k value
+ever_by z e (PutsGlobal k value word) = with_global e k value
+
+abbrev pub place_by : Ever → Place → Deed → Place
+place_by e place (Makes at g d t) = heap.placed_at place (next_name e g) at
+place_by e place _ = place
+
+-- The heap behind such a step.
+pub record ComesBy (z : Arena) (h k : Heap) (step : Ask) (d : Deed) : Type 0 where
+  pub words : k.words ≡ effect h.words step
+  pub ever : k.ever ≡ ever_by z h.ever d
+  pub place : k.place ≡ place_by h.ever h.place d
+
+-- What marking asks of a step of this seat that does so. It writes no word that marking reads, save by the deed: the end of a goroutine is its stack's word, an object is its alloc bit, set where its mark was set before, and a pointer is written behind the write barrier. A register whose stack is scanned takes what is marked or protected.
+abbrev pub MeetsByDeed : Cycle → (a : ℕ) → Heap → Marking → Ask → Deed → Type 0
+MeetsByDeed z a h s step Rests = marks.IsQuiet s step × FillsNone a s
+MeetsByDeed z a h s step (Sets g d value) = marks.IsQuiet s step × FillsNone a s × heap.Runs z.arena (view h) a g × (d < REGISTERS) × heap.IsReached h.ever value × (s.words (cell.Scanned g) ≡ z.number → IsSafe z.arena.layout.globals (rows s) (reference_of h.place value))
+MeetsByDeed z a h s step (Ends g) = (step ≡ ask.Store (cell.Scanned g) END) × FillsNone a s × heap.Runs z.arena (view h) a g
+MeetsByDeed z a h s step (Makes at g d t) = (step ≡ ask.Or (cell.Alloc (at / 64)) (2 ^ (at % 64))) × (s.colour at ≡ Placing a) × heap.MayMake z.arena (view h) a at g d t
+MeetsByDeed z a h s step (Puts n k value word) = (step ≡ ask.Store (cell.Field (h.place n + k)) word) × FillsNone a s × heap.MayWrite z.arena (view h) a n k value word × (points z.arena.shapes h.ever.type_of n k ≡ true → IsClean (mark_words s.words) (field_words h.words (h.place n + k)) × IsClean (mark_words s.words) word)
+MeetsByDeed z a h s step (PutsGlobal k value word) = (step ≡ ask.Store (cell.Global k) word) × FillsNone a s × heap.MayWriteGlobal z.arena (view h) k value word × IsClean (mark_words s.words) (global_words h.words k) × IsClean (mark_words s.words) word
+
+abbrev pub hand_behind : Deed → InHand → InHand
+hand_behind (Makes at g d t) hand = record hand { placing = None }
+hand_behind _ hand = hand
+
+-- The step is made of moves of marking, and the two states belong together behind it.
+pub record StepsBeside (z : Cycle) (a : ℕ) (h k : Heap) (s : Marking) (d : Deed) : Type 0 where
+  pub then : Marking
+  pub went : marks.Went z a s then
+  pub beside : IsBeside z.arena k then
+  pub hands : (hand : InHand) → Hands a s hand → Hands a then (hand_behind d hand)
+  pub marked : (o : ℕ) → IsMarked (mark_words s.words) o → IsMarked (mark_words then.words) o
+
+-- whichever move of its seat it is
+abbrev pub DeedsGoBeside : Type 0
+DeedsGoBeside = (z : Cycle) (a : ℕ) (h : Heap) (s : Marking) (m : heap.Move) (step : Ask) (d : Deed) → Good z.arena (view h) → MarkingGood z s → IsBounded z.arena h.ever → IsBeside z.arena h s → heap.May z.arena a (view h) m →
+    ComesBy z.arena h (heap.moved z.arena a h m) step d → MeetsByDeed z a h s step d → StepsBeside z a h (heap.moved z.arena a h m) s d
