@@ -4,7 +4,7 @@ ghost use Rattle.std.specs.Prelude.{◌<◌, length, IsTrue};
 ghost use Rattle.gh_ever.specs.Applied.{NamesType};
 ghost use Rattle.gh_lines.specs.Text.{MakerStands};
 
-use super::replay;
+use super::{Schedule, replay};
 use gh_base::Answer;
 use gh_ever::Ever;
 use gh_interp::tell;
@@ -144,7 +144,7 @@ fn compare(
 
 /// The text of the report of the script's run.
 fn told(alloc: Global, script: &Script) -> Result<Vec<u8>, Fail> {
-    let report = replay(alloc, script, 100_000_000)?;
+    let report = replay(alloc, script, Schedule::unsaid(alloc), 100_000_000)?;
     let mut text = Vec::new(alloc);
     let mut line = LineBuf::new();
     for i in 0..report.lines() {
