@@ -213,8 +213,8 @@ fn the_first_object_is_made_in_these_steps(rt: HostRuntime) -> Result<(), Fail> 
     Ok(())
 }
 
-/// Words in which one span, of 16 pages that are never swept, fills the arena, and cycle 1 is swept.
-fn full_words(alloc: Global, layout: &Layout) -> Result<Vec<u64>, AllocError>
+/// Words in which one span, of 16 pages that are never swept, fills the arena, cycle 1 is swept, and this is the phase.
+fn full_words(alloc: Global, layout: &Layout, phase: u64) -> Result<Vec<u64>, AllocError>
     requires { layout.now.pages ≡ 16 }
 {
     let mut words = vec![in alloc; 0u64; layout.words() as usize]?;
@@ -222,6 +222,7 @@ fn full_words(alloc: Global, layout: &Layout) -> Result<Vec<u64>, AllocError>
         words[layout.word(Cell::Page(page)) as usize] = 8289;
     }
     words[layout.word(Cell::Swept) as usize] = 1;
+    words[layout.word(Cell::Phase) as usize] = phase;
     Ok(words)
 }
 
@@ -229,7 +230,7 @@ fn full_words(alloc: Global, layout: &Layout) -> Result<Vec<u64>, AllocError>
 fn a_full_heap_is_answered_behind_a_cycle(rt: HostRuntime) -> Result<(), Fail> {
     let layout = Layout::new(16, 1, 1, 1, 1)?;
     let shapes = one_type(rt.alloc())?;
-    let mut words = full_words(rt.alloc(), &layout)?;
+    let mut words = full_words(rt.alloc(), &layout, 0)?;
     let mut mutator = Mutator::new(&layout, 0, &shapes);
     mutator.begin(Op::New { g: 0, d: 1, t: 0 });
     let steps = run_alone(rt.alloc(), &mut mutator, &layout, &mut words, 999)?;
@@ -249,8 +250,7 @@ fn an_object_is_marked_while_marking_is_on(rt: HostRuntime) -> Result<(), Fail> 
     let layout = Layout::new(16, 1, 1, 1, 1)?;
     let shapes = node_type(rt.alloc())?;
     // no room; a cycle is asked for, and the poll finds stop 1 and acknowledges it
-    let mut full = full_words(rt.alloc(), &layout)?;
-    full[layout.word(Cell::Phase) as usize] = 6;
+    let mut full = full_words(rt.alloc(), &layout, 6)?;
     let mut mutator = Mutator::new(&layout, 0, &shapes);
     mutator.begin(Op::New { g: 0, d: 1, t: 0 });
     let steps = run_alone(rt.alloc(), &mut mutator, &layout, &mut full, 40)?;
