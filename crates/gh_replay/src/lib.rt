@@ -27,4 +27,8 @@ pub use turns::replay;
 #[cfg(test)]
 mod ever_tests;
 #[cfg(test)]
+mod list_tests;
+#[cfg(test)]
+mod schedule_tests;
+#[cfg(test)]
 mod tests;

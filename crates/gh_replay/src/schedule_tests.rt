@@ -1,0 +1,146 @@
+//! Replays by schedules.
+
+use super::{ReplayFault, Schedule, parse_list, replay};
+use gh_lines::LineBuf;
+use gh_script::{Script, parse};
+use std::alloc::Global;
+use std::process::Abort;
+use std::test::Fail;
+
+const HEADER: &str = "procs 1\nworkers 1\narena 16\nglobals 1\ngogc 0\ntype node pn\n";
+
+/// The script of this text behind the header, its lines parted by `|`.
+fn script_of(alloc: Global, goroutines: &str) -> Result<Script, Fail> {
+    let text = format!(in alloc; "{HEADER}{goroutines}")?;
+    let text = text.replace(alloc, "|", "\n")?;
+    Ok(parse(alloc, text.as_bytes())?)
+}
+
+/// A schedule without a list, with this seed.
+fn by_seed(alloc: Global, seed: u64) -> Schedule {
+    Schedule {
+        list: Vec::new(alloc),
+        seed: Some(seed),
+    }
+}
+
+/// Replays the goroutines, whose lines are parted by `|`, as a schedule says, and looks at the lines of the
+/// answers and at the last one, parted so too.
+fn answers(
+    rt: &impl Abort,
+    alloc: Global,
+    goroutines: &str,
+    schedule: Schedule,
+    want: &str,
+) -> Result<(), Fail> {
+    let script = script_of(alloc, goroutines)?;
+    let report = replay(alloc, &script, schedule, 1_000_000)?;
+    let want = want.replace(alloc, "|", "\n")?;
+    let mut told = Vec::new(alloc);
+    let mut line = LineBuf::new();
+    for i in 0..report.lines() {
+        report.line(&script, i, &mut line);
+        if !line.bytes().starts_with(b"cycle") {
+            told.extend_from_slice(line.bytes())?;
+        }
+    }
+    assert_eq!(rt; told.as_slice(), want.as_bytes(), "{goroutines}");
+    Ok(())
+}
+
+/// The schedule of this list.
+fn by_list(alloc: Global, text: &str) -> Result<Schedule, Fail> {
+    match parse_list(alloc, text)? {
+        Some(list) => Ok(Schedule { list, seed: None }),
+        None => Err(Fail::new("no list")),
+    }
+}
+
+#[test]
+fn a_seed_changes_no_answer(rt: HostRuntime) -> Result<(), Fail> {
+    let alloc = rt.alloc();
+    // Scripts whose answers and last line are the same in each order of steps.
+    let rows = [
+        (
+            "go a|new r0 node|int r1 7|store r0 1 r1|load r2 r0 1|end",
+            "a 1 ref a.0|a 4 int 7|live 0 bytes 0|",
+        ),
+        ("go a|end", "live 0 bytes 0|"),
+        (
+            "go a|new r0 node|gstore 0 r0|new r1 node|store r0 0 r1|nil r1|nil r0|gc|gload r0 0|load r1 r0 0|end",
+            "a 1 ref a.0|a 3 ref a.1|a 7 swept|a 8 ref a.0|a 9 ref a.1|live 2 bytes 32|",
+        ),
+        (
+            "go a|new r0 node|new r1 node|store r0 0 r1|store r1 0 r0|nil r0|nil r1|gc|end",
+            "a 1 ref a.0|a 2 ref a.1|a 7 swept|live 0 bytes 0|",
+        ),
+        (
+            "type big n*4096|go a|new r0 big|new r1 big|new r2 big|new r3 big|new r4 big|end",
+            "a 1 ref a.0|a 2 ref a.1|a 3 ref a.2|a 4 ref a.3|a 5 full|live 0 bytes 0|",
+        ),
+        (
+            "type big n*4096|go a|new r0 big|new r1 big|new r2 big|new r3 big|nil r0|new r4 big|end",
+            "a 1 ref a.0|a 2 ref a.1|a 3 ref a.2|a 4 ref a.3|a 6 ref a.4|live 0 bytes 0|",
+        ),
+        (
+            "go a|load r1 r0 0|new r0 node|load r1 r0 2|store r0 1 r0|store r0 0 r0|load r1 r0 1|gstore 0 r1|end",
+            "a 1 fault nil|a 2 ref a.0|a 3 fault field|a 4 fault kind|a 6 int 0|a 7 fault kind|live 0 bytes 0|",
+        ),
+    ];
+    let seeds = [0, 1, 2, 3, 7, 8, 42, 1000, 4_294_967_296, u64::MAX];
+    for (goroutines, want) in rows {
+        for seed in seeds {
+            answers(&rt, alloc, goroutines, by_seed(alloc, seed), want)?;
+        }
+    }
+    Ok(())
+}
+
+#[test]
+fn a_list_comes_first(rt: HostRuntime) -> Result<(), Fail> {
+    let alloc = rt.alloc();
+    let first = "go a|new r0 node|int r1 7|store r0 1 r1|load r2 r0 1|end";
+    let told = "a 1 ref a.0|a 4 int 7|live 0 bytes 0|";
+    let kept =
+        "go a|new r0 node|gstore 0 r0|new r1 node|store r0 0 r1|nil r1|nil r0|gc|gload r0 0|load r1 r0 0|end";
+    let swept = "a 1 ref a.0|a 3 ref a.1|a 7 swept|a 8 ref a.0|a 9 ref a.1|live 2 bytes 32|";
+    // Steps and marks of the processor, the worker and the coordinator, and an actor that is not there.
+    for list in [
+        "0*9",
+        "1*100,0*1",
+        "0@4",
+        "2*3,1*3,0*3",
+        "9*100000",
+        "255@4294967296,0@2",
+    ] {
+        answers(&rt, alloc, first, by_list(alloc, list)?, told)?;
+    }
+    // The processor asks for a cycle and waits; then the coordinator begins it.
+    answers(
+        &rt,
+        alloc,
+        kept,
+        by_list(alloc, "0@6,0*90,2@1,1*30")?,
+        swept,
+    )
+}
+
+#[test]
+fn an_item_goes_on_until_it_ends(rt: HostRuntime) -> Result<(), Fail> {
+    let alloc = rt.alloc();
+    let script = script_of(alloc, "go a|gc|end")?;
+    // Alone the processor ends no cycle, the worker marks nothing, and the coordinator is not asked.
+    for list in ["0@1", "1@1", "2@1", "1*1000000"] {
+        let outcome = replay(alloc, &script, by_list(alloc, list)?, 10_000);
+        match outcome {
+            Err(ReplayFault::OutOfTurns(n)) => assert_eq!(&rt; n, 10_000),
+            _ => assert!(&rt; false, "{list}"),
+        }
+    }
+    // An item for an actor that is not there takes no turn.
+    for list in ["3*1000000", "3@1", "0*500,1*200,2*200"] {
+        let outcome = replay(alloc, &script, by_list(alloc, list)?, 10_000);
+        assert!(&rt; outcome.is_ok(), "{list}");
+    }
+    Ok(())
+}
