@@ -8,8 +8,8 @@ use Rattle.clap.specs.Matches.{ReadsOne, found_of, one_text}
 use Rattle.clap.specs.Walk.{rows_of}
 use Rattle.clap.specs.declared.parser.matches.ArgMatches.{ArgMatches}
 use Rattle.clap.proofs.WalkLemmas.{both, one_text-rows}
-use Rattle.gh_top.specs.CommandLine.{is_numeral}
-use Rattle.gh_top.specs.CommandLineParser.{found_number, u64_of}
+use Rattle.gh_top.specs.CommandLine.{is_numeral, u64_of}
+use Rattle.gh_top.specs.CommandLineParser.{found_number}
 
 digits_pass : (ds : List ℕ) → AllDigits 10 ds → list_all (λ d. nat_lt (digit_value d) 10) ds ≡ true
 digits_pass [] h = refl

@@ -1,6 +1,9 @@
+pub mod CommandLineBudget
 pub mod CommandLineNumbers
-pub mod CommandLineWords
+pub mod CommandLineRows
+pub mod CommandLineEnd
 pub mod CommandLineWalk
+pub mod CommandLineChoices
 pub mod CommandLineParsed
 pub mod Texts
 pub mod Lines

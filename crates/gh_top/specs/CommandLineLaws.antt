@@ -1,6 +1,8 @@
 -- What follows from the form of the command line.
 use Rattle.std.specs.Prelude.{◌≡◌, ◌≤◌, ℕ, List, [], ◌∷◌, Some, None, codes}
 use Rattle.std.specs.List.{AllByRecursion}
+use Rattle.gh_replay.specs.Plan.{Plan, no_plan}
+use Rattle.gh_replay.specs.declared.schedule.Until.TheVariants.{Steps, Marks}
 use Rattle.gh_top.specs.CommandLine.{Text, command_line}
 use Rattle.gh_top.specs.declared.line.Line.TheVariants.{Replay}
 
@@ -12,7 +14,7 @@ called words = codes "goheap" ∷ words
 abbrev pub replayed : List Text → List Text
 replayed words = called (codes "replay" ∷ words)
 
--- lines that are taken, each with its budget
+-- lines that are taken and say nothing of a schedule, each with its budget
 abbrev pub taken_lines : List (List Text × ℕ)
 taken_lines =
     (replayed [], 50000000)
@@ -26,6 +28,25 @@ taken_lines =
     ∷ (replayed (codes "--budget" ∷ codes "05" ∷ []), 5)
     ∷ (replayed (codes "--budget=00000000000000000000000000000005" ∷ []), 5)
     ∷ (codes "" ∷ codes "replay" ∷ [], 50000000) ∷ []
+
+-- a list of one item
+abbrev pub nine_steps : Plan
+nine_steps = record { list = record { actor = 0; until = Steps 9 } ∷ []; seed = None }
+
+-- lines that are taken and say more, each with its schedule and its budget
+abbrev pub scheduled_lines : List (List Text × Plan × ℕ)
+scheduled_lines =
+    (replayed (codes "--seed" ∷ codes "7" ∷ []), record { list = []; seed = Some 7 }, 50000000)
+    ∷ (replayed (codes "--seed=0" ∷ []), record { list = []; seed = Some 0 }, 50000000)
+    ∷ (replayed (codes "--seed" ∷ codes "18446744073709551615" ∷ codes "--" ∷ []), record { list = []; seed = Some 18446744073709551615 }, 50000000)
+    ∷ (replayed (codes "--list" ∷ codes "0*9" ∷ []), nine_steps, 50000000)
+    ∷ (replayed (codes "--list=0*9" ∷ codes "--budget" ∷ codes "8" ∷ []), nine_steps, 8)
+    ∷ (replayed (codes "--budget=8" ∷ codes "--list" ∷ codes "0*9" ∷ []), nine_steps, 8)
+    ∷ (
+      replayed (codes "--list" ∷ codes "0@4,2*1" ∷ codes "--seed" ∷ codes "1" ∷ codes "--budget" ∷ codes "100000" ∷ []),
+      record { list = record { actor = 0; until = Marks 4 } ∷ record { actor = 2; until = Steps 1 } ∷ []; seed = Some 1 },
+      100000,
+    ) ∷ []
 
 -- lines that are refused
 abbrev pub refused_lines : List (List Text)
@@ -47,14 +68,22 @@ refused_lines =
     ∷ replayed (codes "--budg" ∷ codes "5" ∷ []) ∷ replayed (codes "--Budget" ∷ codes "5" ∷ []) ∷ replayed (codes "-budget" ∷ codes "5" ∷ [])
     ∷ replayed (codes "-b" ∷ codes "5" ∷ []) ∷ replayed (codes "budget" ∷ codes "5" ∷ []) ∷ replayed (codes "5" ∷ [])
     ∷ replayed (codes "--budget" ∷ codes "5" ∷ codes "--budget" ∷ codes "5" ∷ []) ∷ replayed (codes "--budget=5" ∷ codes "--budget=5" ∷ [])
-    ∷ replayed (codes "--budget" ∷ codes "5" ∷ codes "now" ∷ []) ∷ []
+    ∷ replayed (codes "--budget" ∷ codes "5" ∷ codes "now" ∷ [])
+    ∷ replayed (codes "--seed" ∷ []) ∷ replayed (codes "--seed" ∷ codes "x" ∷ []) ∷ replayed (codes "--seed=" ∷ [])
+    ∷ replayed (codes "--seed" ∷ codes "18446744073709551616" ∷ []) ∷ replayed (codes "--seed" ∷ codes "-1" ∷ [])
+    ∷ replayed (codes "--seed" ∷ codes "1" ∷ codes "--seed" ∷ codes "1" ∷ []) ∷ replayed (codes "--seed=1" ∷ codes "--budget=1" ∷ codes "--seed=1" ∷ [])
+    ∷ replayed (codes "--list" ∷ []) ∷ replayed (codes "--list" ∷ codes "0-7" ∷ []) ∷ replayed (codes "--list" ∷ codes "" ∷ []) ∷ replayed (codes "--list=" ∷ [])
+    ∷ replayed (codes "--list" ∷ codes "-" ∷ []) ∷ replayed (codes "--list" ∷ codes "--" ∷ codes "0*9" ∷ []) ∷ replayed (codes "--list" ∷ codes "0*9," ∷ [])
+    ∷ replayed (codes "--list" ∷ codes "--seed" ∷ codes "1" ∷ []) ∷ replayed (codes "--list" ∷ codes "0*9" ∷ codes "0*9" ∷ [])
+    ∷ replayed (codes "--list" ∷ codes "0*9" ∷ codes "--list" ∷ codes "0*9" ∷ []) ∷ []
 
 -- each of these lines is read so
 abbrev pub KnownLines : Type 0
 KnownLines =
-    AllByRecursion (λ row. command_line row.0 ≡ Some (Replay row.1)) taken_lines
+    AllByRecursion (λ row. command_line row.0 ≡ Some (Replay no_plan row.1)) taken_lines
+    × AllByRecursion (λ row. command_line row.0 ≡ Some (Replay row.1 row.2)) scheduled_lines
     × AllByRecursion (λ words. command_line words ≡ None) refused_lines
 
 -- the budget of a line that is taken is in its range
 abbrev pub BudgetIsInRange : Type 0
-BudgetIsInRange = (words : List Text) (budget : ℕ) → command_line words ≡ Some (Replay budget) → (1 ≤ budget) × (budget ≤ 1000000000)
+BudgetIsInRange = (words : List Text) (plan : Plan) (budget : ℕ) → command_line words ≡ Some (Replay plan budget) → (1 ≤ budget) × (budget ≤ 1000000000)

@@ -1,13 +1,12 @@
 -- The command as clap's parser reads it.
-use Rattle.std.specs.Prelude.{ℕ, Bool, true, false, List, [], ◌∷◌, Option, Some, None, codes, ◌&&◌, nat_lt, if◌then◌else◌, option_and_then, option_map, ◌^◌}
+use Rattle.std.specs.Prelude.{ℕ, Bool, true, false, List, [], ◌∷◌, Option, Some, None, codes, if◌then◌else◌, option_and_then}
 use Rattle.std.specs.Str.{bytes_eq}
-use Rattle.std.specs.Str.Parse.{digits_value, without_leading_plus}
-use Rattle.clap.specs.Words.{App, Kinds, Row, Rule, Shape, fault_of, new_app, new_rule, one_of, subcommand_of, with_rule, with_subcommand}
+use Rattle.clap.specs.Words.{App, Kinds, Row, Rule, Shape, fault_of, first_of, new_app, new_rule, one_of, subcommand_of, with_rule, with_subcommand}
 use Rattle.clap.specs.declared.builder.action.ArgAction.TheVariants.{Set}
 use Rattle.clap.specs.declared.builder.value_parser.ValueParser.TheVariants as vp
-use Rattle.gh_top.specs.CommandLine.{NumberOption, Text, budget, is_numeral}
+use Rattle.gh_replay.specs.declared.schedule.Turn.{Turn}
+use Rattle.gh_top.specs.CommandLine.{NumberOption, Text, budget, default_budget, list_said, replay_by, seed, u64_of}
 use Rattle.gh_top.specs.declared.line.Line.{Line}
-use Rattle.gh_top.specs.declared.line.Line.TheVariants as line
 
 -- an option that takes a number
 abbrev pub number_rule : NumberOption → Rule
@@ -15,12 +14,22 @@ number_rule option = record (new_rule option.name) {
   long = Some option.name;
   action = Some Set;
   parser = Some (vp.Unsigned option.least option.most);
-  defaults = option.default ∷ [];
 }
 
--- a subcommand with one option
-abbrev pub subcommand_shape : Text → Rule → Shape
-subcommand_shape name rule = (with_rule (new_app name) rule).top
+-- the option `--budget`, which has a default
+abbrev pub budget_rule : Rule
+budget_rule = record (number_rule budget) { defaults = default_budget ∷ [] }
+
+-- the option `--list`, which takes a text
+abbrev pub list_rule : Rule
+list_rule = record (new_rule (codes "list")) {
+  long = Some (codes "list");
+  action = Some Set;
+}
+
+-- the subcommand `replay` with its options
+abbrev pub replay_shape : Shape
+replay_shape = (with_rule (with_rule (with_rule (new_app (codes "replay")) budget_rule) (number_rule seed)) list_rule).top
 
 -- the command without its subcommands: it requires one, and has no help and no version
 abbrev pub goheap_top : App
@@ -36,25 +45,24 @@ goheap_top = record {
 
 -- the command
 abbrev pub goheap_app : App
-goheap_app = with_subcommand goheap_top (subcommand_shape (codes "replay") (number_rule budget))
-
--- the number of a word: decimal digits, after at most one plus sign, below 2 ^ 64
-abbrev pub u64_of : Text → Option ℕ
-u64_of word =
-    let digits = without_leading_plus word in
-    if is_numeral digits && nat_lt (digits_value 10 digits) (2 ^ 64)
-    then Some (digits_value 10 digits) else None
+goheap_app = with_subcommand goheap_top replay_shape
 
 -- the number that was found for an option
 abbrev pub found_number : Text → List Row → Option ℕ
 found_number name rows = option_and_then u64_of (one_of name rows)
 
+-- the list that was found
+abbrev pub found_list : List Row → Option (List Turn)
+found_list rows = list_said (first_of (codes "list") rows)
+
+-- the replay that was found
+abbrev pub found_replay : List Row → Option Line
+found_replay rows = replay_by (found_number (codes "budget") rows) (found_number (codes "seed") rows) (found_list rows)
+
 -- the line that a subcommand and what was found for it say
 abbrev pub found_line : Option (Text × List Row) → Option Line
 found_line None = None
-found_line (Some found) =
-    if bytes_eq found.0 (codes "replay") then option_map line.Replay (found_number (codes "budget") found.1)
-    else None
+found_line (Some found) = if bytes_eq found.0 (codes "replay") then found_replay found.1 else None
 
 -- no kind of error comes
 abbrev pub passes : Kinds → Bool

@@ -1,7 +1,7 @@
 -- What a call has found before it writes anything.
 use Rattle.std.specs.Prelude.{◌≡◌, ℕ, List, []}
 use Rattle.gh_lines.specs.Text.{outcome_text, refusal_line, turns_line, words_refused_line}
-use Rattle.gh_replay.specs.Plan.{no_plan}
+use Rattle.gh_replay.specs.Plan.{Plan}
 use Rattle.gh_replay.specs.Replayed.{IsReplayed, IsUnfinished}
 use Rattle.gh_replay.specs.Report.{IsReportOf}
 use Rattle.gh_script.specs.Program.{Program}
@@ -12,20 +12,20 @@ use Rattle.gh_top.specs.declared.found.Found.{Found}
 use Rattle.gh_top.specs.declared.found.Found.TheVariants.{BadWords, BadScript, Ran, OutOfTurns, ReadFault, NoMemory}
 use Rattle.gh_top.specs.Outcome.{IsReplay, AreRefused}
 
--- a script that was run is the one that the text spells, run under this budget, and a text that was refused spells none
-abbrev pub MatchesText : ℕ → List ℕ → Found → Type 0
-MatchesText budget text (BadScript f) = Refused text f.line f.why
-MatchesText budget text (Ran p report) = Spells text p × IsReplayed p no_plan budget report.outcome
-MatchesText budget text (OutOfTurns n) = (n ≡ budget) × (p : Program) × Spells text p × IsUnfinished p no_plan budget
-MatchesText budget text BadWords = ⊥
-MatchesText budget text ReadFault = Unit {0}
-MatchesText budget text NoMemory = Unit {0}
+-- a script that was run is the one that the text spells, run by this schedule and under this budget, and a text that was refused spells none
+abbrev pub MatchesText : Plan → ℕ → List ℕ → Found → Type 0
+MatchesText plan budget text (BadScript f) = Refused text f.line f.why
+MatchesText plan budget text (Ran p report) = Spells text p × IsReplayed p plan budget report.outcome
+MatchesText plan budget text (OutOfTurns n) = (n ≡ budget) × (p : Program) × Spells text p × IsUnfinished p plan budget
+MatchesText plan budget text BadWords = ⊥
+MatchesText plan budget text ReadFault = Unit {0}
+MatchesText plan budget text NoMemory = Unit {0}
 
 -- what was found is so for the words and the text
 abbrev pub Matches : List (List ℕ) → List ℕ → Found → Type 0
 Matches words text BadWords = AreRefused words
 Matches words text NoMemory = Unit {0}
-Matches words text found = (budget : ℕ) × IsReplay words budget × MatchesText budget text found
+Matches words text found = (plan : Plan) × (budget : ℕ) × IsReplay words plan budget × MatchesText plan budget text found
 
 -- a text was read to its end
 abbrev pub IsRead : Found → Type 0

@@ -3,7 +3,7 @@ use Rattle.std.specs.Prelude.{◌≡◌, ℕ, List, Option, Some, None}
 use Rattle.std.specs.Io.KnownBytes.{Appends}
 use Rattle.gh_io.specs.Streams.{TookPart}
 use Rattle.gh_lines.specs.Text.{Outcome, outcome_text, refusal_line, turns_line, words_refused_line}
-use Rattle.gh_replay.specs.Plan.{no_plan}
+use Rattle.gh_replay.specs.Plan.{Plan}
 use Rattle.gh_replay.specs.Replayed.{IsReplayed, IsUnfinished}
 use Rattle.gh_script.specs.declared.fault.Why.{Why}
 use Rattle.gh_script.specs.Program.{Program}
@@ -13,9 +13,9 @@ use Rattle.gh_top.specs.declared.status.Status.{Status}
 use Rattle.gh_top.specs.declared.status.Status.TheVariants.{Ok, BadWords, BadScript, ReadFault, WriteFault, NoMemory, OutOfTurns}
 use Rattle.gh_top.specs.CommandLine.{command_line}
 
--- the command takes the words as a replay of at most so many turns
-abbrev pub IsReplay : List (List ℕ) → ℕ → Type 0
-IsReplay words budget = command_line words ≡ Some (Replay budget)
+-- the command takes the words as a replay by this schedule, of at most so many turns
+abbrev pub IsReplay : List (List ℕ) → Plan → ℕ → Type 0
+IsReplay words plan budget = command_line words ≡ Some (Replay plan budget)
 
 -- the command does not take the words
 abbrev pub AreRefused : List (List ℕ) → Type 0
@@ -32,9 +32,9 @@ IsTelling _ = ⊥
 -- a call with these words and this text may end so, having this to say
 abbrev pub Says : List (List ℕ) → List ℕ → Status → List ℕ → Type 0
 Says words text BadWords written = AreRefused words × (written ≡ words_refused_line)
-Says words text BadScript written = (budget : ℕ) × IsReplay words budget × (line : ℕ) × (why : Why) × Refused text line why × (written ≡ refusal_line line why)
-Says words text Ok written = (budget : ℕ) × IsReplay words budget × (p : Program) × Spells text p × (outcome : Outcome) × IsReplayed p no_plan budget outcome × (written ≡ outcome_text p outcome)
-Says words text OutOfTurns written = (budget : ℕ) × IsReplay words budget × (p : Program) × Spells text p × IsUnfinished p no_plan budget × (written ≡ turns_line budget)
+Says words text BadScript written = (plan : Plan) × (budget : ℕ) × IsReplay words plan budget × (line : ℕ) × (why : Why) × Refused text line why × (written ≡ refusal_line line why)
+Says words text Ok written = (plan : Plan) × (budget : ℕ) × IsReplay words plan budget × (p : Program) × Spells text p × (outcome : Outcome) × IsReplayed p plan budget outcome × (written ≡ outcome_text p outcome)
+Says words text OutOfTurns written = (plan : Plan) × (budget : ℕ) × IsReplay words plan budget × (p : Program) × Spells text p × IsUnfinished p plan budget × (written ≡ turns_line budget)
 Says words text _ written = ⊥
 
 -- the sink took all that there was to say

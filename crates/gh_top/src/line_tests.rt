@@ -1,6 +1,17 @@
 //! Lines that are taken and lines that are refused.
 use super::*;
+use gh_replay::{Turn, Until};
 use std::test::Fail;
+
+/// What a line asks for: the items of its list, its seed and its budget.
+type Asked = (Vec<Turn>, Option<u64>, u64);
+
+fn asked(rt: &HostRuntime, words: &[&str]) -> Result<Option<Asked>, Fail> {
+    match read_line(rt.alloc(), words)? {
+        Some(Line::Replay { schedule, budget }) => Ok(Some((schedule.list, schedule.seed, budget))),
+        None => Ok(None),
+    }
+}
 
 #[test]
 fn each_line_asks_for_its_budget(rt: HostRuntime) -> Result<(), Fail> {
@@ -20,15 +31,88 @@ fn each_line_asks_for_its_budget(rt: HostRuntime) -> Result<(), Fail> {
         (&["goheap", "replay", "--budget", "05"], 5),
     ];
     for (words, budget) in rows {
-        let line = read_line(rt.alloc(), words)?;
-        assert_eq!(rt; line, Some(Line::Replay { budget }), "{words:?}");
+        let line = asked(&rt, words)?;
+        assert_eq!(rt;
+            line,
+            Some((Vec::new(rt.alloc()), None, budget)),
+            "{words:?}"
+        );
+    }
+    Ok(())
+}
+
+#[test]
+fn each_line_asks_for_its_schedule(rt: HostRuntime) -> Result<(), Fail> {
+    let nine = Turn {
+        actor: 0,
+        until: Until::Steps(9),
+    };
+    let four = Turn {
+        actor: 0,
+        until: Until::Marks(4),
+    };
+    let rows: [(&[&str], &[Turn], Option<u64>, u64); 6] = [
+        (
+            &["goheap", "replay", "--seed", "7"],
+            &[],
+            Some(7),
+            50_000_000,
+        ),
+        (
+            &["goheap", "replay", "--seed=18446744073709551615"],
+            &[],
+            Some(u64::MAX),
+            50_000_000,
+        ),
+        (
+            &["goheap", "replay", "--list", "0*9"],
+            &[nine],
+            None,
+            50_000_000,
+        ),
+        (
+            &["goheap", "replay", "--list=0*9", "--budget", "8", "--"],
+            &[nine],
+            None,
+            8,
+        ),
+        (
+            &[
+                "goheap",
+                "replay",
+                "--budget=8",
+                "--seed",
+                "0",
+                "--list",
+                "0*9",
+            ],
+            &[nine],
+            Some(0),
+            8,
+        ),
+        (
+            &[
+                "goheap", "replay", "--list", "0@4,0*9", "--seed", "1", "--budget", "100000",
+            ],
+            &[four, nine],
+            Some(1),
+            100_000,
+        ),
+    ];
+    for (words, list, seed, budget) in rows {
+        let line = asked(&rt, words)?;
+        assert_eq!(rt;
+            line,
+            Some((list.to_vec(rt.alloc())?, seed, budget)),
+            "{words:?}"
+        );
     }
     Ok(())
 }
 
 #[test]
 fn each_other_line_is_refused(rt: HostRuntime) -> Result<(), Fail> {
-    let rows: [&[&str]; 26] = [
+    let rows: [&[&str]; 40] = [
         &[],
         &["goheap"],
         &["goheap", "run"],
@@ -55,9 +139,25 @@ fn each_other_line_is_refused(rt: HostRuntime) -> Result<(), Fail> {
         &["goheap", "replay", "--budg", "5"],
         &["goheap", "replay", "--budget", "5", "--budget", "5"],
         &["goheap", "replay", "--budget=5", "--budget=5"],
+        &["goheap", "replay", "--seed"],
+        &["goheap", "replay", "--seed="],
+        &["goheap", "replay", "--seed", "x"],
+        &["goheap", "replay", "--seed", "-1"],
+        &["goheap", "replay", "--seed", "18446744073709551616"],
+        &[
+            "goheap", "replay", "--seed", "1", "--budget", "2", "--seed", "1",
+        ],
+        &["goheap", "replay", "--list"],
+        &["goheap", "replay", "--list", ""],
+        &["goheap", "replay", "--list", "0-7"],
+        &["goheap", "replay", "--list", "-"],
+        &["goheap", "replay", "--list=0*9,"],
+        &["goheap", "replay", "--list", "--", "0*9"],
+        &["goheap", "replay", "--list", "--seed", "1"],
+        &["goheap", "replay", "--list", "0*9", "--list", "0*9"],
     ];
     for words in rows {
-        let line = read_line(rt.alloc(), words)?;
+        let line = asked(&rt, words)?;
         assert_eq!(rt; line, None, "{words:?}");
     }
     Ok(())

@@ -140,13 +140,17 @@ fn each_fault_of_the_outside_has_its_status(rt: HostRuntime) -> Result<(), Fail>
 #[test]
 fn each_refusal_has_its_line(rt: HostRuntime) -> Result<(), Fail> {
     let text = script(&rt, FIRST)?;
-    let words: [&[&str]; 6] = [
+    let words: [&[&str]; 10] = [
         &["goheap"],
         &[],
         &["goheap", "run"],
         &["goheap", "replay", "now"],
         &["replay", "goheap"],
         &["goheap", "replays"],
+        &["goheap", "replay", "--list", "0-7"],
+        &["goheap", "replay", "--seed", "many"],
+        &["goheap", "replay", "--seed", "1", "--seed", "1"],
+        &["goheap", "replay", "--list", "0*9", "--list", "0*9"],
     ];
     for word in words {
         let (status, taken) = outcome(&rt, word, &text, &[1], 1000, &[])?;
@@ -268,5 +272,42 @@ fn turns_run_out(rt: HostRuntime) -> Result<(), Fail> {
     let (status, taken) = outcome(&rt, &words, &text, &[], 1000, &[1])?;
     assert_eq!(rt; status.code(), 5);
     assert_eq!(rt; taken.as_slice(), b"".as_slice());
+    Ok(())
+}
+
+#[test]
+fn a_schedule_changes_no_answer_of_one_processor(rt: HostRuntime) -> Result<(), Fail> {
+    let text = script(&rt, FIRST)?;
+    let rows: [&[&str]; 3] = [
+        &["goheap", "replay", "--seed", "7"],
+        &["goheap", "replay", "--list", "0*9"],
+        &[
+            "goheap", "replay", "--list", "0@4", "--seed", "1", "--budget", "100000",
+        ],
+    ];
+    for words in rows {
+        let (status, taken) = outcome(&rt, words, &text, &[], 1000, &[])?;
+        assert_eq!(rt; status.code(), 0, "{words:?}");
+        let lines = b"a 1 ref a.0\na 4 int 7\ncycle 1 marked 0 freed 1\nlive 0 bytes 0\n";
+        assert_eq!(rt; taken.as_slice(), lines.as_slice(), "{words:?}");
+    }
+    Ok(())
+}
+
+#[test]
+fn a_schedule_says_who_steps(rt: HostRuntime) -> Result<(), Fail> {
+    let text = script(&rt, FIRST)?;
+    // the coordinator alone never ends
+    let words = [
+        "goheap",
+        "replay",
+        "--list",
+        "2*1000000",
+        "--budget",
+        "1000",
+    ];
+    let (status, taken) = outcome(&rt, &words, &text, &[], 1000, &[])?;
+    assert_eq!(rt; status.code(), 8);
+    assert_eq!(rt; taken.as_slice(), b"turns 1000\n".as_slice());
     Ok(())
 }
