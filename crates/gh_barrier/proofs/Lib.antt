@@ -3,3 +3,4 @@ pub mod Markers
 pub mod Others
 pub mod Room
 pub mod Told
+pub mod Within

@@ -3,4 +3,5 @@ pub mod Ends
 pub mod Facts
 pub mod Listing
 pub mod Sound
+pub mod Within
 pub mod Writes

@@ -2,6 +2,7 @@
 
 ghost use Rattle.gh_barrier.specs.Alone.{WritingLeavesTheRest};
 ghost use Rattle.gh_barrier.specs.Facts.{WritesByMoves};
+ghost use Rattle.gh_barrier.specs.Within.{WritingIsWithin};
 ghost use Rattle.gh_barrier.specs.Writes.{PointersAreWritten};
 
 use crate::write_pointer::WritePointer;
@@ -43,3 +44,9 @@ pub fn writes_by_moves()
     own_moves_leave();
     shades_by_moves();
 }
+
+/// Begun with a cell, an object and a buffer of a heap's layout, each step of the write is on a word that there is,
+/// and what it holds is a buffer of that layout, whatever it is told.
+pub fn writing_is_within()
+    ensures { WritingIsWithin }
+{}
