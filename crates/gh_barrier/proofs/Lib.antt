@@ -1,4 +1,5 @@
 pub mod Alone
+pub mod Ending
 pub mod Markers
 pub mod Others
 pub mod Room

@@ -1,4 +1,5 @@
 pub mod Alone
+pub mod Ending
 pub mod Ends
 pub mod Facts
 pub mod Listing

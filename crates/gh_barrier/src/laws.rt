@@ -1,6 +1,7 @@
 //! Laws of the routine. The functions do nothing; what they ensure is proved.
 
 ghost use Rattle.gh_barrier.specs.Alone.{WritingLeavesTheRest};
+ghost use Rattle.gh_barrier.specs.Ending.{WritingEnds};
 ghost use Rattle.gh_barrier.specs.Facts.{WritesByMoves};
 ghost use Rattle.gh_barrier.specs.Within.{WritingIsWithin};
 ghost use Rattle.gh_barrier.specs.Writes.{PointersAreWritten};
@@ -49,4 +50,10 @@ pub fn writes_by_moves()
 /// and what it holds is a buffer of that layout, whatever it is told.
 pub fn writing_is_within()
     ensures { WritingIsWithin }
+{}
+
+/// Each step of the write leaves fewer steps than there were, and there are eight from its begin: whatever it is told,
+/// and also where it was begun without room.
+pub fn writing_ends()
+    ensures { WritingEnds }
 {}

@@ -1,0 +1,27 @@
+-- How many steps the writing of a pointer has left at the most, at each of its stages: also where it was begun without room.
+use Rattle.std.specs.Prelude.{◌≡◌, ℕ, ◌+◌, ◌≤◌, true}
+use Rattle.gh_barrier.specs.declared.write_pointer.WriteStage.{WriteStage}
+use Rattle.gh_barrier.specs.declared.write_pointer.WriteStage.TheVariants.{LoadOld, ShadeOld, ShadeNew, Store, Ended}
+use Rattle.gh_barrier.specs.Listing.{goes, is_busy, Writing}
+use Rattle.gh_shade.specs.declared.shade.ShadeStage.{ShadeStage}
+use Rattle.gh_shade.specs.declared.shade.ShadeStage.TheVariants.{LoadPage, SetMark, Enter}
+
+-- a shading loads the page word, sets the mark bit, and makes the entry
+abbrev pub shade_left : ShadeStage → ℕ
+shade_left LoadPage = 3
+shade_left (SetMark noscan) = 2
+shade_left Enter = 1
+shade_left _ = 0
+
+-- the load, two shadings and the store
+abbrev pub left : WriteStage → ℕ
+left LoadOld = 8
+left (ShadeOld sh) = shade_left sh.stage + 4
+left (ShadeNew sh) = shade_left sh.stage + 1
+left Store = 1
+left Ended = 0
+
+pub record WritingEnds : Type 0 where
+  pub some : (w : Writing) → is_busy w.stage ≡ true → 1 ≤ left w.stage
+  -- each step leaves fewer
+  pub fewer : (w : Writing) (found : ℕ) → is_busy w.stage ≡ true → left (goes w found).stage + 1 ≤ left w.stage
