@@ -1,23 +1,13 @@
 -- Spans, slots and objects by themselves: no two spans share a page, no two slots a heap word, and no object stands where no span is.
-use Rattle.std.proofs.Common.{◌≡◌, ◌≢◌, ℕ, suc, ◌+◌, ◌*◌, ◌/◌, ◌-◌, ◌%◌, ◌^◌, ◌<◌, ◌≤◌, ◌⊎◌, Bool, true, false, cond, eqb, ltb, refl, sym, ap, subst, ◌∙◌, arith, inl, inr, Some, None}
-use Rattle.std.proofs.lemmas.Nat.{mul-add-lt}
+use Rattle.std.proofs.Common.{◌≡◌, ◌≢◌, ℕ, suc, ◌+◌, ◌*◌, ◌/◌, ◌-◌, ◌%◌, ◌^◌, ◌<◌, ◌≤◌, ◌⊎◌, Bool, true, false, cond, eqb, ltb, refl, sym, ap, subst, ◌∙◌, arith, inl, inr, Some, None, eqb-true, ltb-true, ltb-false}
 use Rattle.std.proofs.lemmas.Nat.Bits.{bit_at-lt}
 use Rattle.std.proofs.Math.Nat.{mul-le-mul_right}
-use Rattle.std.proofs.lemmas.Bool.{eqb-true, ltb-true, ltb-false}
 use Rattle.std.proofs.lemmas.Bool.Decides.{nat_tests}
 use Rattle.gh_base.specs.declared.pack.PageWord.TheVariants as page
 use Rattle.gh_base.specs.declared.pack.SpanBody.{SpanBody}
-use Rattle.gh_base.specs.declared.pack.SpanHead.{SpanHead}
-use Rattle.gh_base.specs.declared.value.Name.{Name}
-use Rattle.gh_base.specs.Packing.{birth_word, page_of}
-use Rattle.gh_base.specs.Rows.{Row, row_bit}
 use Rattle.gh_class.specs.declared.class.SizeClass.{SizeClass}
 use Rattle.gh_class.specs.declared.class.SizeClass.TheVariants as size
-use Rattle.gh_class.specs.Classes.{IsSizeClass, slot_of, pages_of, slots_of}
-use Rattle.gh_heap.specs.Laws.{TheHeapIsApart}
-use Rattle.gh_heap.specs.Objects.{IsMade, NamesGood, Placed}
-use Rattle.gh_heap.specs.Rights.{Arena, View, Good, IsKept}
-use Rattle.gh_heap.specs.Spans.{FitsClass, IsInUse, IsSpan, IsSlotOf, Laying, LaidOut, Freeing, body_at, is_own_class, number_of, owner_at, owner_in, slot_count, slot_size}
+use Rattle.gh_heap.proofs.Vocabulary.{Arena, birth_word, body_at, FitsClass, Freeing, Good, is_own_class, IsInUse, IsKept, IsMade, IsSizeClass, IsSlotOf, IsSpan, LaidOut, Laying, mul-add-lt, Name, NamesGood, number_of, owner_at, owner_in, page_of, pages_of, Placed, Row, row_bit, slot_count, slot_of, slot_size, slots_of, SpanHead, TheHeapIsApart, View}
 use Rattle.gh_heap.proofs.Known.{Table}
 
 pub head_is : (g h : SpanHead) → page.Head g ≡ page.Head h → g ≡ h

@@ -1,16 +1,8 @@
 -- Each move keeps what holds at every moment. A group over rows that a move does not touch is kept by its bare name.
 use Rattle.std.proofs.Common.{◌≡◌, ◌≢◌, ℕ, ◌+◌, true, refl, sym, ap, subst, ◌∙◌, arith, lit<}
 use Rattle.gh_base.specs.declared.pack.PageWord.TheVariants as page
-use Rattle.gh_base.specs.declared.pack.SpanHead.{SpanHead}
-use Rattle.gh_base.specs.declared.value.Name.{Name}
-use Rattle.gh_base.specs.Packing.{birth_word, body_word, head_word, page_of}
-use Rattle.gh_model.specs.declared.EverValue.{EverValue}
 use Rattle.gh_model.specs.declared.EverValue.TheVariants as ever
-use Rattle.gh_model.specs.Ever.{with_end, with_register}
-use Rattle.gh_heap.specs.Laws.{EachMoveKeeps}
-use Rattle.gh_heap.specs.Moves.{Move, Quiet, Takes, Ends, TakeLock, LeaveLock, Refuse, LayBody, LayHead, FreeBody, FreeHead, Own, Disown, Publish, ClearField, SetBirth, SetBits, Make, Write, WriteGlobal, May, IsReached, moved}
-use Rattle.gh_heap.specs.Rights.{Arena, Shared, View, Good, view}
-use Rattle.gh_heap.specs.Spans.{Laying, body_at, owned_by, owner_at, owner_in}
+use Rattle.gh_heap.proofs.Vocabulary.{Arena, birth_word, body_at, body_word, ClearField, Disown, EachMoveKeeps, Ends, EverValue, FreeBody, FreeHead, Good, head_word, IsReached, LayBody, LayHead, Laying, LeaveLock, Make, May, Move, moved, Name, Own, owned_by, owner_at, owner_in, page_of, Publish, Quiet, Refuse, SetBirth, SetBits, Shared, SpanHead, TakeLock, Takes, View, view, with_end, with_register, Write, WriteGlobal}
 use Rattle.gh_heap.proofs.KeepsFree.{body_kept, head_kept}
 use Rattle.gh_heap.proofs.Apart.{held_whole, locked_whole}
 use Rattle.gh_heap.proofs.KeepsFreeing.{freeing_left, freeing_none, freeing_off, freeing_taken}

@@ -1,22 +1,10 @@
 -- What is said of objects holds once one more is made: the alloc bit of its claimed slot is set.
-use Rattle.std.proofs.Common.{◌≡◌, ◌≢◌, ℕ, ◌+◌, ◌/◌, ◌%◌, ◌^◌, ◌<◌, ◌≤◌, ◌⊎◌, Bool, true, false, cond, eqb, refl, sym, ap, subst, ◌∙◌, arith, inl, inr}
-use Rattle.std.specs.Prelude.{bit_or}
+use Rattle.std.proofs.Common.{◌≡◌, ◌≢◌, ℕ, ◌+◌, ◌/◌, ◌%◌, ◌^◌, ◌<◌, ◌≤◌, ◌⊎◌, Bool, true, false, cond, eqb, refl, sym, ap, subst, ◌∙◌, arith, inl, inr, bit_or, eqb-true, eq-eqb, ne_eqb}
 use Rattle.std.proofs.Math.Pow.{pow-lt}
-use Rattle.std.proofs.lemmas.Nat.{or_lt}
-use Rattle.std.proofs.lemmas.Bool.{eqb-true, eq-eqb, ne_eqb}
 use Rattle.gh_base.specs.declared.limits.TheConstants.{MOST_STATEMENTS}
-use Rattle.gh_base.specs.declared.value.Name.{Name}
-use Rattle.gh_base.specs.Packing.{bit, birth_word}
-use Rattle.gh_base.specs.Rows.{Row, row_bit, with_word}
 use Rattle.gh_base.specs.Shapes.{is_pointer, shape_at}
-use Rattle.gh_class.specs.Classes.{size_class_of}
-use Rattle.gh_model.specs.declared.EverValue.{EverValue}
 use Rattle.gh_model.specs.declared.EverValue.TheVariants as ever
-use Rattle.gh_model.specs.Ever.{Ever, Reach, field_count, first_value, next_name, same_name, with_object}
-use Rattle.gh_heap.specs.Moves.{MayMake, placed_at}
-use Rattle.gh_heap.specs.Objects.{BitsGood, FieldsGood, GlobalsGood, Holds, InSlot, IsMade, NamesGood, Place, Placed, PointersGood, ReachedGood, SlotsGood}
-use Rattle.gh_heap.specs.Rights.{Arena, View, Good, FreeingGood, FullGood, StaysGood, WordsGood}
-use Rattle.gh_heap.specs.Spans.{IsSlotOf, owner_at, owner_in}
+use Rattle.gh_heap.proofs.Vocabulary.{Arena, birth_word, bit, BitsGood, Ever, EverValue, field_count, FieldsGood, first_value, FreeingGood, FullGood, GlobalsGood, Good, Holds, InSlot, IsMade, IsSlotOf, MayMake, Name, NamesGood, next_name, or_lt, owner_at, owner_in, Place, Placed, placed_at, PointersGood, Reach, ReachedGood, Row, row_bit, same_name, size_class_of, SlotsGood, StaysGood, View, with_object, with_word, WordsGood}
 use Rattle.gh_heap.proofs.Known.{Known}
 use Rattle.gh_heap.proofs.KeepsFreeing.{freeing_set}
 use Rattle.gh_heap.proofs.Apart.{slot_inside, slot_some, few_made, same_name_is, birth_tells, zero_one}

@@ -1,3 +1,4 @@
+mod Vocabulary
 mod Apart
 mod Follows
 mod Keeps

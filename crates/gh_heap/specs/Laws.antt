@@ -1,19 +1,10 @@
 -- What holds of the moves.
 use Rattle.std.specs.Prelude.{◌≡◌, ◌≢◌, ℕ, ◌+◌, ◌*◌, ◌/◌, ◌<◌, ◌≤◌, ◌⊎◌, Bool, true, false, Option, Some, None}
-use Rattle.gh_base.specs.declared.cell.Ask.{Ask}
-use Rattle.gh_base.specs.declared.pack.PageWord.TheVariants.{Free, Head, Body}
 use Rattle.gh_base.specs.declared.pack.SpanBody.{SpanBody}
-use Rattle.gh_base.specs.declared.pack.SpanHead.{SpanHead}
-use Rattle.gh_base.specs.declared.value.Name.{Name}
-use Rattle.gh_base.specs.Packing.{page_of}
-use Rattle.gh_base.specs.Rows.{row_bit}
-use Rattle.gh_class.specs.declared.class.SizeClass.TheVariants.{Large}
-use Rattle.gh_model.specs.declared.EverValue.{EverValue}
-use Rattle.gh_model.specs.Ever.{Ever, Reach, next_name}
 use Rattle.gh_heap.specs.Moves.{Move, Quiet, Takes, Ends, TakeLock, LeaveLock, Refuse, LayBody, LayHead, FreeBody, FreeHead, Own, Disown, Publish, ClearField, SetBirth, SetBits, Make, Write, WriteGlobal, moved, May, Others, Leaves, update}
 use Rattle.gh_heap.specs.Objects.{IsMade, Placed}
 use Rattle.gh_heap.specs.Rights.{Arena, Shared, View, view, Right, Rights, Good, Claims, FullBefore, TidyBefore, FullGood, StaysGood}
-use Rattle.gh_heap.specs.Spans.{IsInUse, IsSpan, IsSlotOf, Laying, LaidOut, Freeing, BeingFreed}
+use Rattle.gh_heap.specs.Vocabulary.{Ask, BeingFreed, Body, Ever, EverValue, Free, Freeing, Head, IsInUse, IsSlotOf, IsSpan, LaidOut, Large, Laying, Name, next_name, page_of, Reach, row_bit, SpanHead}
 
 -- what holds at every moment holds after each move that may be made
 abbrev pub EachMoveKeeps : Type 0

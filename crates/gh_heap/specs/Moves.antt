@@ -1,27 +1,15 @@
 -- The moves by which an actor changes the shared state, when it may make them, and what they leave to the others.
 use Rattle.std.specs.Prelude.{◌≡◌, ◌≢◌, ℕ, ◌+◌, ◌*◌, ◌/◌, ◌%◌, ◌^◌, ◌<◌, ◌≤◌, true, false, ◌==◌, if◌then◌else◌, bit_or, length, Option, Some, None, ◌⊎◌}
 use Rattle.std.specs.Int.{bit_at}
-use Rattle.gh_base.specs.declared.cell.Ask.{Ask}
 use Rattle.gh_base.specs.declared.cell.Ask.TheVariants as ask
 use Rattle.gh_base.specs.declared.cell.Cell.{Cell}
 use Rattle.gh_base.specs.declared.cell.Cell.TheVariants as cell
-use Rattle.gh_base.specs.declared.limits.TheConstants.{MOST_STATEMENTS, REGISTERS}
-use Rattle.gh_base.specs.declared.pack.PageWord.TheVariants.{Head}
-use Rattle.gh_base.specs.declared.pack.SpanHead.{SpanHead}
-use Rattle.gh_base.specs.declared.value.Name.{Name}
 use Rattle.gh_base.specs.Cells.{Words, put}
-use Rattle.gh_base.specs.Packing.{FitsHead, bit, birth_word, body_word, head_word, page_of}
-use Rattle.gh_base.specs.Rows.{Row, row_bit}
-use Rattle.gh_base.specs.Shapes.{is_pointer, shape_at}
 use Rattle.gh_base.specs.Steps.{cell_of, effect}
-use Rattle.gh_class.specs.declared.class.SizeClass.TheVariants.{Large}
-use Rattle.gh_class.specs.Classes.{size_class_of}
-use Rattle.gh_model.specs.declared.EverValue.{EverValue}
 use Rattle.gh_model.specs.declared.EverValue.TheVariants as ever
-use Rattle.gh_model.specs.Ever.{Ever, Reach, field_count, next_name, same_name, with_end, with_field, with_global, with_object, with_register}
 use Rattle.gh_heap.specs.Objects.{Holds, IsMade, Place, points, size_for}
 use Rattle.gh_heap.specs.Rights.{Arena, Shared, View, view, Claims, IsOf}
-use Rattle.gh_heap.specs.Spans.{FitsClass, IsEmpty, IsFull, IsSpan, Laying, LaidOut, Freeing, BeingFreed, body_at, owned_by}
+use Rattle.gh_heap.specs.Vocabulary.{Ask, BeingFreed, birth_word, bit, body_at, body_word, Ever, EverValue, field_count, FitsClass, FitsHead, Freeing, Head, head_word, is_pointer, IsEmpty, IsFull, IsSpan, LaidOut, Large, Laying, MOST_STATEMENTS, Name, next_name, owned_by, page_of, Reach, REGISTERS, Row, row_bit, same_name, shape_at, size_class_of, SpanHead, with_end, with_field, with_global, with_object, with_register}
 
 -- A change of the shared state by one step, words and ghosts together.
 pub data Move : Type 0 where
