@@ -1,21 +1,7 @@
 -- Shading alone, where the mark bit is clear.
-use Rattle.std.proofs.Common.{◌≡◌, ℕ, zero, suc, ◌/◌, ◌%◌, ◌^◌, ◌<◌, Bool, true, false, Option, Some, None, refl, sym, ap, subst, ◌∙◌, arith}
-use Rattle.std.specs.Prelude.{bit_or, ◌||◌}
-use Rattle.std.specs.Int.{bit_at}
-use Rattle.std.proofs.lemmas.Bool.{eqb-true}
-use Rattle.gh_base.specs.declared.cell.Cell.{Cell}
-use Rattle.gh_base.specs.declared.cell.Cell.TheVariants.{Page, Mark, Entry}
-use Rattle.gh_base.specs.declared.held.Held.{Held}
-use Rattle.gh_base.specs.declared.layout.Layout.{Layout}
-use Rattle.gh_base.specs.Cells.{put, Words}
-use Rattle.gh_base.specs.Packing.{page_noscan, page_of}
-use Rattle.gh_base.specs.Routines.{Alone, alone, Leaves, steps_alone}
-use Rattle.gh_base.specs.Rows.{CellsAreTold, mark_bit, mark_words, RowsAreWritten}
-use Rattle.gh_shade.specs.declared.shade.ShadeStage.{ShadeStage}
-use Rattle.gh_shade.specs.declared.shade.ShadeStage.TheVariants.{WaitForRoom, Enter}
+use Rattle.std.proofs.Common.{◌≡◌, ℕ, zero, suc, ◌/◌, ◌%◌, ◌^◌, ◌<◌, Bool, true, false, Option, Some, None, refl, sym, ap, subst, ◌∙◌, arith, bit_or, ◌||◌, eqb-true}
 use Rattle.gh_shade.specs.Alone.{IsNoscanHere, IsShaded, run, run_told, ShadesAlone}
-use Rattle.gh_shade.specs.Listing.{has_place, is_busy, is_set, listing, object_of, Shading}
-use Rattle.gh_shade.specs.Sound.{HasPlace}
+use Rattle.gh_shade.proofs.Vocabulary.{Alone, alone, bit_at, Cell, CellsAreTold, Enter, Entry, has_place, HasPlace, Held, is_busy, is_set, Layout, Leaves, listing, Mark, mark_bit, mark_words, object_of, Page, page_noscan, page_of, put, RowsAreWritten, ShadeStage, Shading, steps_alone, WaitForRoom, Words}
 use Rattle.gh_shade.proofs.Told.{behind, place_no, place_yes}
 
 module _ (rows : RowsAreWritten) (cells : CellsAreTold) (l : Layout) (reference : ℕ) (held : Option Held) (words : Words) (clear : mark_bit words (object_of reference) ≡ 0) where

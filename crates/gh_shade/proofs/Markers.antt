@@ -1,16 +1,7 @@
 -- While marking is on the steps of shading are moves that its seat may make. Of the moves it is known what the laws of gh_marks say.
-use Rattle.std.proofs.Common.{◌≡◌, ◌≢◌, ℕ, ◌+◌, ◌/◌, ◌%◌, ◌^◌, ◌<◌, ◌≤◌, Bool, true, false, cond, eqb, Option, Some, None, refl, sym, ap, subst, ◌∙◌, arith}
-use Rattle.std.specs.Int.{bit_at}
-use Rattle.std.specs.Prelude.{◌||◌}
-use Rattle.std.proofs.lemmas.Bool.{eqb-true, eq-eqb}
+use Rattle.std.proofs.Common.{◌≡◌, ◌≢◌, ℕ, ◌+◌, ◌/◌, ◌%◌, ◌^◌, ◌<◌, ◌≤◌, Bool, true, false, cond, eqb, Option, Some, None, refl, sym, ap, subst, ◌∙◌, arith, ◌||◌, eqb-true, eq-eqb}
 use Rattle.std.proofs.lemmas.Nat.Bits.{bit_at-lt}
 use Rattle.gh_base.specs.declared.cell.Ask.TheVariants.{Load, Or}
-use Rattle.gh_base.specs.declared.cell.Cell.{Cell}
-use Rattle.gh_base.specs.declared.cell.Cell.TheVariants.{Touch, Page, Mark, Entry}
-use Rattle.gh_base.specs.declared.held.Held.{Held}
-use Rattle.gh_base.specs.Cells.{put}
-use Rattle.gh_base.specs.Packing.{page_noscan, page_of}
-use Rattle.gh_base.specs.Rows.{RowsAreWritten, mark_words, row_bit}
 use Rattle.gh_base.specs.Steps.{cell_of}
 use Rattle.gh_marks.specs.Colours.{Cycle, IsMarked, Shared}
 use Rattle.gh_marks.specs.Good.{Good}
@@ -20,12 +11,8 @@ use Rattle.gh_marks.specs.Moves as move
 use Rattle.gh_marks.specs.Moves.{Keeps, MayEnter, Others, Steps, lands_by, lands_still, moved, set_mark}
 use Rattle.gh_marks.specs.Seats.{Hands, InHand}
 use Rattle.gh_shade.specs.declared.shade.Shaded.{Shaded}
-use Rattle.gh_shade.specs.declared.shade.Shaded.TheVariants.{Done, WantsRoom}
-use Rattle.gh_shade.specs.declared.shade.ShadeStage.{ShadeStage}
-use Rattle.gh_shade.specs.declared.shade.ShadeStage.TheVariants.{LoadPage, SetMark, WaitForRoom, Enter, Ended}
 use Rattle.gh_shade.specs.Facts.{Facts, IsShaded, ShadesByMoves, StageFacts, WaitsForRoom, in_hand, pending_at}
-use Rattle.gh_shade.specs.Listing.{after_mark, asks_at, at_stage, enters, gives_at, gives_mark, goes, goes_at, has_place, is_whole, object_of, raised, Shading}
-use Rattle.gh_shade.specs.Sound.{HasPlace}
+use Rattle.gh_shade.proofs.Vocabulary.{after_mark, asks_at, at_stage, bit_at, Cell, Done, Ended, Enter, enters, Entry, gives_at, gives_mark, goes, goes_at, has_place, HasPlace, Held, is_whole, LoadPage, Mark, mark_words, object_of, Page, page_noscan, page_of, put, raised, row_bit, RowsAreWritten, SetMark, ShadeStage, Shading, Touch, WaitForRoom, WantsRoom}
 use Rattle.gh_shade.proofs.Knowing.{placed}
 
 pub record Known : Type 0 where

@@ -1,20 +1,9 @@
 -- Shading, by what it is told.
-use Rattle.std.proofs.Common.{◌≡◌, ℕ, zero, suc, ◌%◌, ◌≤◌, ◌⊎◌, Bool, true, false, cond, ltb, Option, Some, None, refl, sym, ap, subst, ◌∙◌, arith, inl, inr}
-use Rattle.std.specs.Prelude.{◌||◌}
-use Rattle.std.specs.Int.{bit_at}
-use Rattle.std.proofs.lemmas.Bool.{eqb-true, eq-eqb, ltb-true}
+use Rattle.std.proofs.Common.{◌≡◌, ℕ, zero, suc, ◌%◌, ◌≤◌, ◌⊎◌, Bool, true, false, cond, ltb, Option, Some, None, refl, sym, ap, subst, ◌∙◌, arith, inl, inr, ◌||◌, eqb-true, eq-eqb, ltb-true}
 use Rattle.std.proofs.lemmas.Bool.Decides.{nat_tests}
-use Rattle.gh_base.specs.declared.held.Held.{Held}
-use Rattle.gh_base.specs.declared.layout.Layout.{Layout}
 use Rattle.gh_base.specs.declared.pack.TheConstants.{ENTRIES}
-use Rattle.gh_base.specs.Packing.{page_noscan, page_of}
-use Rattle.gh_base.specs.Routines.{GoesOn, told}
-use Rattle.gh_shade.specs.declared.shade.Shaded.TheVariants.{Done, WantsRoom}
-use Rattle.gh_shade.specs.declared.shade.ShadeStage.{ShadeStage}
-use Rattle.gh_shade.specs.declared.shade.ShadeStage.TheVariants.{LoadPage, SetMark, WaitForRoom, Enter, Ended}
-use Rattle.gh_shade.specs.Listing.{gives_mark, goes, goes_at, has_place, is_busy, is_set, listing, object_of, opening, Shading}
 use Rattle.gh_shade.specs.Shades.{Enters, NoneIsBegun, ShadesObject}
-use Rattle.gh_shade.specs.Sound.{HasPlace}
+use Rattle.gh_shade.proofs.Vocabulary.{bit_at, Done, Ended, Enter, gives_mark, goes, goes_at, GoesOn, has_place, HasPlace, Held, is_busy, is_set, Layout, listing, LoadPage, object_of, opening, page_noscan, page_of, SetMark, ShadeStage, Shading, told, WaitForRoom, WantsRoom}
 
 -- the stage behind the mark, by its two tests
 abbrev pub behind : (whole place : Bool) → ShadeStage
