@@ -1,24 +1,15 @@
 -- The taking of an entry, by what its tries answer.
-use Rattle.std.proofs.Common.{◌≡◌, ℕ, zero, suc, ◌+◌, ◌-◌, ◌*◌, ◌<◌, ◌≤◌, ◌⊎◌, Bool, true, false, cond, eqb, ltb, Option, Some, None, refl, sym, ap, subst, ◌∙◌, arith, inl, inr}
-use Rattle.std.proofs.lemmas.Bool.{ltb-true, ltb-false}
-use Rattle.std.proofs.lemmas.Bool.Decides.{nat_tests}
+use Rattle.std.proofs.Common.{◌≡◌, ℕ, zero, suc, ◌+◌, ◌-◌, ◌*◌, ◌<◌, ◌≤◌, ◌⊎◌, Bool, true, false, cond, eqb, ltb, Option, Some, None, refl, sym, ap, subst, ◌∙◌, arith, inl, inr, ltb-true, ltb-false}
 use Rattle.gh_base.specs.declared.cell.Cell.TheVariants as cell
-use Rattle.gh_base.specs.declared.cell.Ask.TheVariants.{Load, Store}
-use Rattle.gh_base.specs.declared.held.Held.{Held}
-use Rattle.gh_base.specs.declared.layout.Layout.{Layout}
 use Rattle.gh_base.specs.Cells.{buffers_of}
-use Rattle.gh_base.specs.Routines.{EndsWith, GoesOn, IsFolded, told}
-use Rattle.gh_wbuf.specs.declared.take_entry.TakeStage.{TakeStage}
 use Rattle.gh_wbuf.specs.declared.take_entry.TakeStage.TheVariants.{Try, Take, Ended}
-use Rattle.gh_wbuf.specs.declared.try_buffer.TryStage.{TryStage}
 use Rattle.gh_wbuf.specs.declared.try_buffer.TryStage.TheVariants as stage
-use Rattle.gh_wbuf.specs.declared.try_buffer.Wish.TheVariants.{Entry}
 use Rattle.gh_wbuf.specs.Entries.{AreLost, Becomes, entry_try, HasNoEntry, held_behind, TakesEntry, TakesLast, taking, TriesForEntry, trying}
 use Rattle.gh_wbuf.specs.Entries as law
 use Rattle.gh_wbuf.specs.EntryTaking.{after_try, asks, at_stage, begin, behind, entry_of, EntryTaking, gives, gives_at, goes, goes_at, has_next, held_at, less, listing, none_of, opening, try_at}
 use Rattle.gh_wbuf.specs.Tries.{Took}
 use Rattle.gh_wbuf.specs.Trying as try
-use Rattle.gh_wbuf.specs.Trying.{Trying}
+use Rattle.gh_wbuf.proofs.Vocabulary.{EndsWith, Entry, GoesOn, Held, IsFolded, Layout, Load, nat_tests, Store, TakeStage, told, Trying, TryStage}
 use Rattle.gh_wbuf.proofs.Taking.{FineTry, fine_try, took}
 use Rattle.gh_wbuf.proofs.Tries.{tries}
 use Rattle.gh_wbuf.proofs.Trying.{busy_before, gives_busy, gives_nothing, same, still_busy}

@@ -1,31 +1,14 @@
 -- Each step of the routines is a move, and leads to what the next stage knows.
-use Rattle.std.proofs.Common.{◌≡◌, ◌≢◌, ℕ, ◌+◌, ◌<◌, Bool, true, false, cond, eqb, ltb, Option, Some, None, refl, sym, ap, subst, ◌∙◌}
-use Rattle.std.proofs.lemmas.Bool.{eqb-true, eq-eqb, ltb-true}
-use Rattle.gh_base.specs.declared.cell.Ask.TheVariants.{Swap}
-use Rattle.gh_base.specs.declared.cell.Cell.TheVariants.{Buffer}
-use Rattle.gh_base.specs.declared.held.Held.{Held}
-use Rattle.gh_base.specs.declared.layout.Layout.{Layout}
-use Rattle.gh_base.specs.Cells.{Words}
-use Rattle.gh_base.specs.Holding.{AreBuffersOf, AreCounted, Buffers, BuffersAreHeld, Facts, Holds, KeepsItsBuffer, May, Move, moved, Moves, OwnStep, StepsAreMoves}
-use Rattle.gh_base.specs.Packing.{buffer_of, buffer_word}
-use Rattle.gh_base.specs.Routines.{Listing}
-use Rattle.gh_base.specs.Steps.{cell_of}
-use Rattle.gh_wbuf.specs.declared.find_room.RoomStage.{RoomStage}
+use Rattle.std.proofs.Common.{◌≡◌, ◌≢◌, ℕ, ◌+◌, ◌<◌, Bool, true, false, cond, eqb, ltb, Option, Some, None, refl, sym, ap, subst, ◌∙◌, eqb-true, eq-eqb, ltb-true}
+use Rattle.gh_base.specs.Holding.{moved}
 use Rattle.gh_wbuf.specs.declared.find_room.RoomStage.TheVariants as room
-use Rattle.gh_wbuf.specs.declared.give_buffer.GiveStage.{GiveStage}
 use Rattle.gh_wbuf.specs.declared.give_buffer.GiveStage.TheVariants as give
-use Rattle.gh_wbuf.specs.declared.take_entry.TakeStage.{TakeStage}
 use Rattle.gh_wbuf.specs.declared.take_entry.TakeStage.TheVariants as take
-use Rattle.gh_wbuf.specs.declared.try_buffer.TryStage.{TryStage}
-use Rattle.gh_wbuf.specs.declared.try_buffer.TryStage.TheVariants.{Look, GiveBack, Claim, Ended}
-use Rattle.gh_wbuf.specs.declared.try_buffer.Wish.TheVariants.{Room, Entry}
 use Rattle.gh_wbuf.specs.BufferGiving as giving
 use Rattle.gh_wbuf.specs.EntryTaking as taking
-use Rattle.gh_wbuf.specs.Knowing.{BuffersAreKept, GiveKnows, IsFreeAt, RoomKnows, RoomStageKnows, RoomTryKnows, TakeKnows, TakeStageKnows, TakeTryKnows, TryKnows}
 use Rattle.gh_wbuf.specs.RoomFinding as finding
 use Rattle.gh_wbuf.specs.Trying as try
-use Rattle.gh_wbuf.specs.Trying.{Trying}
-use Rattle.gh_wbuf.specs.TrySound.{FitsTryStage}
+use Rattle.gh_wbuf.proofs.Vocabulary.{AreBuffersOf, AreCounted, Buffer, buffer_of, buffer_word, Buffers, BuffersAreHeld, BuffersAreKept, cell_of, Claim, Ended, Entry, Facts, FitsTryStage, GiveBack, GiveKnows, GiveStage, Held, Holds, IsFreeAt, KeepsItsBuffer, Layout, Listing, Look, May, Move, Moves, OwnStep, Room, RoomKnows, RoomStage, RoomStageKnows, RoomTryKnows, StepsAreMoves, Swap, TakeKnows, TakeStage, TakeStageKnows, TakeTryKnows, Trying, TryKnows, TryStage, Words}
 use Rattle.gh_wbuf.proofs.Taking.{fine_try, took}
 use Rattle.gh_wbuf.proofs.Tries.{open_yes}
 use Rattle.gh_wbuf.proofs.Trying.{same_step}

@@ -1,3 +1,4 @@
+pub mod Vocabulary
 pub mod Entries
 pub mod Knowing
 pub mod Markers

@@ -1,36 +1,15 @@
 -- While marking is on the steps of a try, of the search for room and of giving back are moves that their seat may make. Of the moves it is known what the laws of gh_marks say.
-use Rattle.std.proofs.Common.{◌≡◌, ℕ, ◌+◌, ◌%◌, ◌≤◌, Bool, true, false, cond, eqb, Option, Some, None, refl, sym, ap, subst, ◌∙◌, arith}
-use Rattle.std.proofs.lemmas.Bool.{eqb-true, eq-eqb}
-use Rattle.std.proofs.lemmas.Bool.Decides.{nat_tests}
+use Rattle.std.proofs.Common.{◌≡◌, ℕ, ◌+◌, ◌%◌, ◌≤◌, Bool, true, false, cond, eqb, Option, Some, None, refl, sym, ap, subst, ◌∙◌, arith, eqb-true, eq-eqb}
 use Rattle.gh_base.specs.declared.cell.Ask.{Ask}
-use Rattle.gh_base.specs.declared.cell.Ask.TheVariants.{Load, Swap}
 use Rattle.gh_base.specs.declared.cell.Cell.{Cell}
-use Rattle.gh_base.specs.declared.cell.Cell.TheVariants.{Touch, Buffer}
-use Rattle.gh_base.specs.declared.held.Held.{Held}
-use Rattle.gh_base.specs.declared.pack.TheConstants.{ENTRIES}
-use Rattle.gh_base.specs.Cells.{put}
-use Rattle.gh_base.specs.Holding.{AreBuffersOf, BuffersAreHeld, holder_in}
-use Rattle.gh_base.specs.Packing.{buffer_of, buffer_word}
-use Rattle.gh_base.specs.Steps.{cell_of, effect}
-use Rattle.gh_marks.specs.Colours.{Cycle, Shared, buffers_of}
-use Rattle.gh_marks.specs.Good.{Good}
 use Rattle.gh_marks.specs.Laws.{EachHandFollows, EachHandLasts, EachOwnMoveLeaves, WhatIsKeptGoesOn}
-use Rattle.gh_marks.specs.Moves.{GiveBuffer, HasBuffer, Keeps, Steps, TakeBuffer, landing, lands_by, lands_still, moved}
 use Rattle.gh_marks.specs.Routines.{KeepsItsFacts}
-use Rattle.gh_marks.specs.Seats.{Hands, InHand}
-use Rattle.gh_wbuf.specs.declared.find_room.RoomStage.{RoomStage}
 use Rattle.gh_wbuf.specs.declared.find_room.RoomStage.TheVariants as room
-use Rattle.gh_wbuf.specs.declared.give_buffer.GiveStage.{GiveStage}
 use Rattle.gh_wbuf.specs.declared.give_buffer.GiveStage.TheVariants as give
-use Rattle.gh_wbuf.specs.declared.try_buffer.TryStage.{TryStage}
-use Rattle.gh_wbuf.specs.declared.try_buffer.TryStage.TheVariants.{Look, GiveBack, Claim, Ended}
 use Rattle.gh_wbuf.specs.BufferGiving as giving
-use Rattle.gh_wbuf.specs.Facts.{GiveFacts, RoomFacts, TryFacts, holding}
-use Rattle.gh_wbuf.specs.Knowing.{BuffersAreKept, IsFreeAt, RoomStageKnows, TryKnows}
 use Rattle.gh_wbuf.specs.RoomFinding as finding
 use Rattle.gh_wbuf.specs.Trying as try
-use Rattle.gh_wbuf.specs.Trying.{Trying}
-use Rattle.gh_wbuf.specs.TrySound.{FitsTryStage}
+use Rattle.gh_wbuf.proofs.Vocabulary.{AreBuffersOf, Buffer, buffer_of, buffer_word, buffers_of, BuffersAreHeld, BuffersAreKept, cell_of, Claim, Cycle, effect, Ended, ENTRIES, FitsTryStage, GiveBack, GiveBuffer, GiveFacts, GiveStage, Good, Hands, HasBuffer, Held, holder_in, holding, InHand, IsFreeAt, Keeps, landing, lands_by, lands_still, Load, Look, moved, nat_tests, put, RoomFacts, RoomStage, RoomStageKnows, Shared, Steps, Swap, TakeBuffer, Touch, TryFacts, Trying, TryKnows, TryStage}
 use Rattle.gh_wbuf.proofs.Knowing.{given_held, lost_none, room_holds}
 use Rattle.gh_wbuf.proofs.Tries.{open_yes}
 

@@ -1,27 +1,14 @@
 -- While marking is on an entry is taken out by a move that the seat may make, and names an object that nobody else has then. And all of it together.
-use Rattle.std.proofs.Common.{◌≡◌, ℕ, ◌+◌, ◌-◌, ◌*◌, ◌%◌, ◌<◌, ◌≤◌, Bool, true, false, cond, Option, Some, None, refl, sym, ap, subst, ◌∙◌, arith}
-use Rattle.std.specs.Prelude.{max}
+use Rattle.std.proofs.Common.{◌≡◌, ℕ, ◌+◌, ◌-◌, ◌*◌, ◌%◌, ◌<◌, ◌≤◌, Bool, true, false, cond, Option, Some, None, refl, sym, ap, subst, ◌∙◌, arith, max}
 use Rattle.std.proofs.Math.Nat.{mod-eq_of_lt}
-use Rattle.gh_base.specs.declared.cell.Cell.TheVariants.{Touch, Entry}
-use Rattle.gh_base.specs.declared.held.Held.{Held}
-use Rattle.gh_base.specs.declared.pack.TheConstants.{ENTRIES}
-use Rattle.gh_base.specs.Steps.{cell_of, effect}
-use Rattle.gh_marks.specs.Colours.{Buffered, Cycle, Shared, buffers_of}
-use Rattle.gh_marks.specs.Good.{Good}
+use Rattle.gh_base.specs.declared.cell.Cell.TheVariants.{Entry}
 use Rattle.gh_marks.specs.Knows.{KnowsObjects}
-use Rattle.gh_marks.specs.Moves.{Keeps, MayTakeEntry, Steps, TakeEntry, landing, lands_by, moved}
-use Rattle.gh_marks.specs.Seats.{Hands, InHand}
-use Rattle.gh_wbuf.specs.declared.find_room.RoomStage.{RoomStage}
 use Rattle.gh_wbuf.specs.declared.find_room.RoomStage.TheVariants as room
-use Rattle.gh_wbuf.specs.declared.take_entry.TakeStage.{TakeStage}
 use Rattle.gh_wbuf.specs.declared.take_entry.TakeStage.TheVariants as take
-use Rattle.gh_wbuf.specs.declared.try_buffer.Wish.TheVariants.{Room}
 use Rattle.gh_wbuf.specs.EntryTaking as taking
-use Rattle.gh_wbuf.specs.Facts.{BuffersPassByMoves, FactsBegin, TakeComes, TakeFacts, TakesByMoves, Took, holding}
-use Rattle.gh_wbuf.specs.Knowing.{RoomKnows, RoomStageKnows, TakeKnows, TakeStageKnows}
 use Rattle.gh_wbuf.specs.RoomFinding as finding
 use Rattle.gh_wbuf.specs.Trying as try
-use Rattle.gh_wbuf.specs.Trying.{Trying}
+use Rattle.gh_wbuf.proofs.Vocabulary.{Buffered, buffers_of, BuffersPassByMoves, cell_of, Cycle, effect, ENTRIES, FactsBegin, Good, Hands, Held, holding, InHand, Keeps, landing, lands_by, MayTakeEntry, moved, Room, RoomKnows, RoomStage, RoomStageKnows, Shared, Steps, TakeComes, TakeEntry, TakeFacts, TakeKnows, TakesByMoves, TakeStage, TakeStageKnows, Took, Touch, Trying}
 use Rattle.gh_wbuf.proofs.Knowing.{given_held}
 use Rattle.gh_wbuf.proofs.Markers.{Known, keep-finds, keep-gives, keep-tries, loads, shown, tries}
 use Rattle.gh_wbuf.proofs.Taking.{took}
