@@ -1,29 +1,10 @@
 -- The writing of a pointer alone: what it is told is what the words hold then.
 use Rattle.std.proofs.Common.{◌≡◌, ◌≢◌, ℕ, zero, suc, ◌≤◌, Bool, true, false, Option, Some, None, refl, sym, ap, subst, ◌∙◌, arith}
-use Rattle.gh_base.specs.declared.cell.Ask.{Ask}
-use Rattle.gh_base.specs.declared.cell.Cell.{Cell}
-use Rattle.gh_base.specs.declared.held.Held.{Held}
-use Rattle.gh_base.specs.declared.layout.Layout.{Layout}
-use Rattle.gh_base.specs.Cells.{put, Words}
-use Rattle.gh_base.specs.Routines.{Alone, alone, IsFolded, Leaves, told}
-use Rattle.gh_base.specs.Rows.{CellsAreTold, mark_bit, mark_words, RowsAreWritten}
-use Rattle.gh_base.specs.Steps.{cell_of, effect}
-use Rattle.gh_barrier.specs.declared.pointer_cell.PointerCell.{PointerCell}
-use Rattle.gh_barrier.specs.declared.pointer_cell.PointerCell.TheVariants.{Field, Global}
-use Rattle.gh_barrier.specs.declared.write_pointer.WriteStage.{WriteStage}
-use Rattle.gh_barrier.specs.declared.write_pointer.WriteStage.TheVariants.{LoadOld, ShadeOld, ShadeNew, Store, Ended}
-use Rattle.gh_barrier.specs.Alone.{IsObjectOf, IsOther, IsWritten}
-use Rattle.gh_barrier.specs.Listing.{after_new, after_old, asks, asks_at, cell_at, gives_at, goes, goes_at, is_busy, listing, opening, read_as, shades_new, shades_old, word_of, Writing}
-use Rattle.gh_barrier.specs.Sound.{HasTwo}
-use Rattle.gh_barrier.specs.Writes.{WritesPointer}
+use Rattle.gh_barrier.proofs.Vocabulary.{after_new, after_old, Alone, alone, Ask, asks, asks_at, Cell, cell_at, cell_of, CellsAreTold, Done, effect, Ended, Field, gives_at, Global, goes, goes_at, HasTwo, Held, is_busy, IsFolded, IsObjectOf, IsOther, IsWritten, Layout, Leaves, listing, LoadOld, mark_bit, mark_words, opening, PointerCell, put, read_as, RowsAreWritten, Shaded, ShadeNew, ShadeOld, shades_new, shades_old, ShadesByMoves, ShadeStage, Store, told, WantsRoom, word_of, Words, WritesPointer, WriteStage, Writing}
 use Rattle.gh_barrier.proofs.Markers.{same-at}
 use Rattle.gh_barrier.proofs.Others.{each-step}
 use Rattle.gh_barrier.proofs.Told.{writes}
-use Rattle.gh_shade.specs.declared.shade.Shaded.{Shaded}
-use Rattle.gh_shade.specs.declared.shade.Shaded.TheVariants.{Done, WantsRoom}
-use Rattle.gh_shade.specs.declared.shade.ShadeStage.{ShadeStage}
 use Rattle.gh_shade.specs.declared.shade.ShadeStage.TheVariants as shade_stage
-use Rattle.gh_shade.specs.Facts.{ShadesByMoves}
 use Rattle.gh_shade.specs.Listing as shade
 use Rattle.gh_shade.specs.Marks.{KnowsMark, MarksGrow, MarkStep, ShadingKeepsItsMark, StageKnowsMark}
 
@@ -99,14 +80,12 @@ module _ (k : Known) where
 
   -- and other marks stay
   shade-leaves : (words : Words) (x : ℕ) (sh : shade.Shading) (p : ShadeStage) → shade.object_of sh.reference ≢ x → mark_bit (effect words (shade.asks_at sh p)) x ≡ mark_bit words x
-  shade-leaves words x sh shade_stage.LoadPage ne = refl
   shade-leaves words x sh (shade_stage.SetMark noscan) ne = k.rows.sets_no_other (mark_words words) (shade.object_of sh.reference) x ne
-  shade-leaves words x sh shade_stage.WaitForRoom ne = refl
   shade-leaves words x sh shade_stage.Enter ne = by sh.held where
     by : (held : Option Held) → mark_bit (effect words (shade.enters sh.reference held)) x ≡ mark_bit words x
     by None = refl
     by (Some h) = refl
-  shade-leaves words x sh shade_stage.Ended ne = refl
+  shade-leaves words x sh _ ne = refl
 
   step-leaves : (old : Option ℕ) (words : Words) (w : Writing) (p : WriteStage) (x : ℕ) → Marks old words w p → (¬ IsObjectOf old x) → (¬ IsObjectOf w.pointer x) → mark_bit (effect words (asks_at w p)) x ≡ mark_bit words x
   step-leaves old words w LoadOld x h no-old no-new = refl
@@ -117,11 +96,8 @@ module _ (k : Known) where
 
   -- both are marked where it stores
   at-store : (old : Option ℕ) (words : Words) (w : Writing) (p : WriteStage) → gives_at p ≡ Some tt → Marks old words w p → IsMarked words old × IsMarked words w.pointer
-  at-store old words w LoadOld e h = absurd (cc)
-  at-store old words w (ShadeOld sh) e h = absurd (cc)
-  at-store old words w (ShadeNew sh) e h = absurd (cc)
   at-store old words w Store e h = h
-  at-store old words w Ended e h = absurd (cc)
+  at-store old words w _ e h = absurd (cc)
 
   module _ (l : Layout) (at : PointerCell) (pointer : Option ℕ) (held : Option Held) (words : Words) (two : HasTwo held) where
     abbrev run : Alone Writing

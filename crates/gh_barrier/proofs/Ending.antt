@@ -10,11 +10,9 @@ use Rattle.gh_barrier.specs.Ending.{left, shade_left, WritingEnds}
 use Rattle.gh_barrier.specs.Listing.{after_new, after_old, goes_at, is_busy, read_as, shades_new, shades_old, Writing}
 
 shade-some : (q : ShadeStage) → shade.is_busy q ≡ true → 1 ≤ shade_left q
-shade-some shade_stage.LoadPage e = omega arith
-shade-some (shade_stage.SetMark noscan) e = omega arith
 shade-some shade_stage.WaitForRoom e = absurd (cc)
-shade-some shade_stage.Enter e = omega arith
 shade-some shade_stage.Ended e = absurd (cc)
+shade-some _ e = omega arith
 
 marked-left : (held : _) (ends : Bool) → shade_left (shade.after_mark held ends) ≤ 1
 marked-left held true = omega arith
@@ -47,11 +45,8 @@ after-new-left w sh None = omega arith
 after-new-left w sh (Some out) = omega arith
 
 some-at : (q : WriteStage) → is_busy q ≡ true → 1 ≤ left q
-some-at LoadOld e = omega arith
-some-at (ShadeOld sh) e = omega arith
-some-at (ShadeNew sh) e = omega arith
-some-at Store e = omega arith
 some-at Ended e = absurd (cc)
+some-at _ e = omega arith
 
 fewer-at : (w : Writing) (q : WriteStage) (found : ℕ) → is_busy q ≡ true → left (goes_at w q found).stage + 1 ≤ left q
 fewer-at w LoadOld found e = let few = old-left w (read_as w.layout found) in omega arith

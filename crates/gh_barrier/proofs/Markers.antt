@@ -1,15 +1,8 @@
 -- While marking is on the steps of a write behind the barrier are moves that its seat may make. Of the moves and of shading it is known what their laws say.
-use Rattle.std.proofs.Common.{◌≡◌, ◌≢◌, ℕ, ◌+◌, ◌-◌, ◌*◌, ◌%◌, ◌<◌, ◌≤◌, ◌⊎◌, Bool, true, false, cond, eqb, Option, Some, None, inl, inr, refl, sym, ap, subst, ◌∙◌, arith}
+use Rattle.std.proofs.Common.{◌≡◌, ◌≢◌, ℕ, ◌+◌, ◌-◌, ◌*◌, ◌%◌, ◌<◌, ◌≤◌, ◌⊎◌, Bool, true, false, cond, eqb, Option, Some, None, inl, inr, refl, sym, ap, subst, ◌∙◌, arith, eqb-true, eq-eqb}
 use Rattle.std.proofs.Math.Nat.{mod-eq_of_lt}
-use Rattle.std.proofs.lemmas.Bool.{eqb-true, eq-eqb}
-use Rattle.gh_base.specs.declared.cell.Ask.{Ask}
 use Rattle.gh_base.specs.declared.cell.Ask.TheVariants as ask
-use Rattle.gh_base.specs.declared.cell.Cell.{Cell}
 use Rattle.gh_base.specs.declared.cell.Cell.TheVariants as cell
-use Rattle.gh_base.specs.declared.held.Held.{Held}
-use Rattle.gh_base.specs.Cells.{put}
-use Rattle.gh_base.specs.Rows.{bitmap_words, mark_words}
-use Rattle.gh_base.specs.Steps.{cell_of, effect}
 use Rattle.gh_marks.specs.Colours.{Cycle, IsClean, IsMarked, IsSince, Shared}
 use Rattle.gh_marks.specs.Good.{Good}
 use Rattle.gh_marks.specs.Knows.{KnowsObject, KnowsObjects}
@@ -17,18 +10,10 @@ use Rattle.gh_marks.specs.Laws.{EachFactLasts, EachHandFollows, EachHandLasts, E
 use Rattle.gh_marks.specs.Moves as move
 use Rattle.gh_marks.specs.Moves.{BehindBarrier, Keeps, Lands, Others, Steps, Went, landing, landing_on, lands_by, lands_still, moved}
 use Rattle.gh_marks.specs.Seats.{Hands, InHand}
-use Rattle.gh_barrier.specs.declared.pointer_cell.PointerCell.{PointerCell}
-use Rattle.gh_barrier.specs.declared.pointer_cell.PointerCell.TheVariants.{Field, Global}
-use Rattle.gh_barrier.specs.declared.write_pointer.WriteStage.{WriteStage}
-use Rattle.gh_barrier.specs.declared.write_pointer.WriteStage.TheVariants.{LoadOld, ShadeOld, ShadeNew, Store, Ended}
 use Rattle.gh_barrier.specs.Facts.{Facts, IsCell, IsKnown, put_of, StageFacts, Stands, WritesByMoves}
-use Rattle.gh_barrier.specs.Listing.{after_new, after_old, asks_at, at_stage, behind_old, cell_at, gives_at, goes_at, read_as, shades_new, shades_old, with_old, word_of, Writing}
-use Rattle.gh_barrier.specs.Sound.{HasTwo}
+use Rattle.gh_barrier.proofs.Vocabulary.{after_new, after_old, Ask, asks_at, at_stage, behind_old, bitmap_words, Cell, cell_at, cell_of, Done, effect, Ended, Field, gives_at, Global, goes_at, HasTwo, Held, in_hand, LoadOld, mark_words, PointerCell, put, read_as, Shaded, ShadeNew, ShadeOld, shades_new, shades_old, Store, WantsRoom, with_old, word_of, WriteStage, Writing}
 use Rattle.gh_barrier.proofs.Room.{held-stays, never-wants, place-of, place-then}
-use Rattle.gh_shade.specs.declared.shade.Shaded.{Shaded}
-use Rattle.gh_shade.specs.declared.shade.Shaded.TheVariants.{Done, WantsRoom}
 use Rattle.gh_shade.specs.Facts as shade_facts
-use Rattle.gh_shade.specs.Facts.{in_hand}
 use Rattle.gh_shade.specs.Listing.{object_of}
 use Rattle.gh_shade.specs.Listing as shade
 use Rattle.gh_shade.specs.Sound.{HasPlace}
@@ -246,11 +231,8 @@ same-at w Ended found = record { at = refl; pointer = refl }
 
 -- it ends with the store
 ended-then : (z : Cycle) (a : ℕ) (s : Shared) (rest : InHand) (w : Writing) (p : WriteStage) (found : ℕ) → gives_at p ≡ Some tt → StageFacts z a s rest (goes_at w p found) (goes_at w p found).stage → Hands a s (in_hand rest (goes_at w p found).held None)
-ended-then z a s rest w LoadOld found e f = absurd (cc)
-ended-then z a s rest w (ShadeOld sh) found e f = absurd (cc)
-ended-then z a s rest w (ShadeNew sh) found e f = absurd (cc)
 ended-then z a s rest w Store found e f = f
-ended-then z a s rest w Ended found e f = absurd (cc)
+ended-then z a s rest w _ found e f = absurd (cc)
 
 pub writes-by-moves : Known → WritesByMoves
 writes-by-moves k = record {

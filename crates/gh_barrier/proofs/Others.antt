@@ -1,23 +1,9 @@
 -- No step of the writing of a pointer changes another cell.
-use Rattle.std.proofs.Common.{◌≡◌, ◌≢◌, ℕ, zero, suc, ◌+◌, Bool, true, false, eqb, Option, Some, None, inl, inr, refl, sym, ap, subst, ◌∙◌, arith}
-use Rattle.std.proofs.lemmas.Bool.{eqb-true, eq-eqb}
-use Rattle.gh_base.specs.declared.cell.Cell.{Cell}
+use Rattle.std.proofs.Common.{◌≡◌, ◌≢◌, ℕ, zero, suc, ◌+◌, Bool, true, false, eqb, Option, Some, None, inl, inr, refl, sym, ap, subst, ◌∙◌, arith, eqb-true, eq-eqb}
 use Rattle.gh_base.specs.declared.cell.Cell.TheVariants.{Mark, Entry}
-use Rattle.gh_base.specs.declared.held.Held.{Held}
-use Rattle.gh_base.specs.declared.layout.Layout.{Layout}
-use Rattle.gh_base.specs.Cells.{Words}
-use Rattle.gh_base.specs.Routines.{told}
-use Rattle.gh_base.specs.Rows.{CellsAreTold}
-use Rattle.gh_base.specs.Steps.{effect}
-use Rattle.gh_barrier.specs.declared.pointer_cell.PointerCell.{PointerCell}
-use Rattle.gh_barrier.specs.declared.write_pointer.WriteStage.{WriteStage}
-use Rattle.gh_barrier.specs.declared.write_pointer.WriteStage.TheVariants.{LoadOld, ShadeOld, ShadeNew, Store, Ended}
-use Rattle.gh_barrier.specs.Alone.{IsEntry, IsMark, IsOther}
-use Rattle.gh_barrier.specs.Listing.{asks, asks_at, cell_at, listing, opening, Writing}
-use Rattle.gh_barrier.specs.Writes.{TakesAtMost}
+use Rattle.gh_barrier.proofs.Vocabulary.{asks, asks_at, Cell, cell_at, CellsAreTold, effect, Ended, Held, IsEntry, IsMark, IsOther, Layout, listing, LoadOld, opening, PointerCell, ShadeNew, ShadeOld, ShadeStage, Store, TakesAtMost, told, Words, WriteStage, Writing}
 use Rattle.gh_barrier.proofs.Markers.{same-at}
 use Rattle.gh_barrier.proofs.Room.{same-takes, Within, within-told}
-use Rattle.gh_shade.specs.declared.shade.ShadeStage.{ShadeStage}
 use Rattle.gh_shade.specs.declared.shade.ShadeStage.TheVariants as shade_stage
 use Rattle.gh_shade.specs.Listing as shade
 
@@ -44,11 +30,9 @@ module _ (cells : CellsAreTold) (words : Words) (c : Cell) (before : Option Held
   enters-off reference (Some i) h = cells.put_elsewhere words (Entry i.index i.count) c reference (entry-of before i h c no-entry)
 
   shade-off : (sh : shade.Shading) (p : ShadeStage) → TakesAtMost 1 before sh.held → effect words (shade.asks_at sh p) c ≡ words c
-  shade-off sh shade_stage.LoadPage h = refl
   shade-off sh (shade_stage.SetMark noscan) h = cells.put_elsewhere words (Mark (shade.mark_at (shade.object sh))) c _ (mark-apart (shade.mark_at (shade.object sh)) c no-mark)
-  shade-off sh shade_stage.WaitForRoom h = refl
   shade-off sh shade_stage.Enter h = enters-off sh.reference sh.held h
-  shade-off sh shade_stage.Ended h = refl
+  shade-off sh _ h = refl
 
 step-off : (cells : CellsAreTold) (at : PointerCell) (before : Option Held) (w : Writing) (p : WriteStage) (words : Words) (c : Cell) → w.at ≡ at → Within before w p → IsOther at before c → effect words (asks_at w p) c ≡ words c
 step-off cells at before w LoadOld words c same h o = refl

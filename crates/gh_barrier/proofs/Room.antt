@@ -5,7 +5,7 @@ use Rattle.gh_base.specs.declared.held.Held.{Held}
 use Rattle.gh_shade.specs.declared.shade.Shaded.{Shaded}
 use Rattle.gh_shade.specs.declared.shade.Shaded.TheVariants.{Done, WantsRoom}
 use Rattle.gh_shade.specs.declared.shade.ShadeStage.{ShadeStage}
-use Rattle.gh_shade.specs.declared.shade.ShadeStage.TheVariants.{LoadPage, SetMark, WaitForRoom, Enter, Ended}
+use Rattle.gh_shade.specs.declared.shade.ShadeStage.TheVariants.{SetMark, WaitForRoom, Enter}
 use Rattle.gh_barrier.specs.declared.pointer_cell.PointerCell.{PointerCell}
 use Rattle.gh_barrier.specs.declared.write_pointer.WriteStage.{WriteStage}
 use Rattle.gh_barrier.specs.declared.write_pointer.WriteStage.TheVariants.{LoadOld, ShadeOld, ShadeNew, Store}
@@ -21,11 +21,8 @@ use Rattle.gh_barrier.specs.Sound.{HasTwo}
 
 -- until it ends, what is held stays
 held-at : (sh : Shading) (stage : ShadeStage) (found : ℕ) → gives_at sh stage found ≡ None → (goes_at sh stage found).held ≡ sh.held
-held-at sh LoadPage found e = refl
-held-at sh (SetMark noscan) found e = refl
-held-at sh WaitForRoom found e = refl
 held-at sh Enter found e = absurd (cc)
-held-at sh Ended found e = refl
+held-at sh _ found e = refl
 
 pub held-stays : (sh : Shading) (found : ℕ) → gives sh found ≡ None → (goes sh found).held ≡ sh.held
 held-stays sh found e = held-at sh sh.stage found e
@@ -39,11 +36,8 @@ place-raised None two = absurd two
 place-raised (Some h) two = omega arith
 
 place-at : (sh : Shading) (stage : ShadeStage) (found : ℕ) → HasTwo sh.held → HasPlace (goes_at sh stage found).held
-place-at sh LoadPage found two = place-of sh.held two
-place-at sh (SetMark noscan) found two = place-of sh.held two
-place-at sh WaitForRoom found two = place-of sh.held two
 place-at sh Enter found two = place-raised sh.held two
-place-at sh Ended found two = place-of sh.held two
+place-at sh _ found two = place-of sh.held two
 
 -- one is left for the second behind the first
 pub place-then : (sh : Shading) (found : ℕ) → HasTwo sh.held → HasPlace (goes sh found).held
@@ -57,11 +51,9 @@ mark-never false held e is =
     absurd (cc)
 
 never-at : (sh : Shading) (stage : ShadeStage) (found : ℕ) → has_place sh.held ≡ true → gives_at sh stage found ≢ Some WantsRoom
-never-at sh LoadPage found e is = absurd (cc)
 never-at sh (SetMark noscan) found e is = mark-never (is_whole sh noscan found) sh.held e is
-never-at sh WaitForRoom found e is = absurd (cc)
 never-at sh Enter found e is = absurd (let same : Done ≡ WantsRoom = cc in cc)
-never-at sh Ended found e is = absurd (cc)
+never-at sh _ found e is = absurd (cc)
 
 pub place-yes : (held : Option Held) → HasPlace held → has_place held ≡ true
 place-yes None h = absurd h
@@ -96,11 +88,8 @@ place-behind (Some b) (Some i) two h = omega (arith, h.2)
 
 -- a step of shading takes one at the most
 step-takes : (most : ℕ) (before : Option Held) (sh : Shading) (stage : ShadeStage) (found : ℕ) → TakesAtMost most before sh.held → TakesAtMost (most + 1) before (goes_at sh stage found).held
-step-takes most before sh LoadPage found h = more-takes most before sh.held h
-step-takes most before sh (SetMark noscan) found h = more-takes most before sh.held h
-step-takes most before sh WaitForRoom found h = more-takes most before sh.held h
 step-takes most before sh Enter found h = raised-takes most before sh.held h
-step-takes most before sh Ended found h = more-takes most before sh.held h
+step-takes most before sh _ found h = more-takes most before sh.held h
 
 -- What is held at each stage of the writing: as it began, until the old value is shaded, and an entry more at the most, until the new one is.
 abbrev pub Within : (before : Option Held) → Writing → WriteStage → Type 0

@@ -130,11 +130,9 @@ within-at l w Store there f = there
 within-at l w Ended there f = tt
 
 holds-at : (l : Layout) (held : Option Held) (q : WriteStage) → IsHeld l held → StageWithin l q → IsHeld l (held_at held q)
-holds-at l held LoadOld is f = is
 holds-at l held (ShadeOld sh) is f = shade-held l sh f
 holds-at l held (ShadeNew sh) is f = shade-held l sh f
-holds-at l held Store is f = is
-holds-at l held Ended is f = is
+holds-at l held _ is f = is
 
 pub is-within : WritingIsWithin
 is-within = record {
