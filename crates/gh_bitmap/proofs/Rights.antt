@@ -1,27 +1,14 @@
 -- Its own steps are moves that the claim of the slot allows, and what it knows lasts. Of the heap it is known what the laws of gh_heap say.
-use Rattle.std.proofs.Common.{◌≡◌, ℕ, ◌+◌, ◌-◌, ◌*◌, ◌/◌, ◌%◌, ◌^◌, ◌<◌, ◌≤◌, ◌⊎◌, Bool, true, false, cond, eqb, ltb, inl, inr, Option, refl, sym, ap, subst, ◌∙◌, arith}
+use Rattle.std.proofs.Common.{◌≡◌, ℕ, ◌+◌, ◌-◌, ◌*◌, ◌/◌, ◌%◌, ◌^◌, ◌<◌, ◌≤◌, ◌⊎◌, Bool, true, false, cond, eqb, ltb, inl, inr, Option, refl, sym, ap, subst, ◌∙◌, arith, bit_and, bit_or, eqb-true, eq-eqb, ltb-true, ltb-false}
 use Rattle.std.specs.Int.{bit_at}
-use Rattle.std.specs.Prelude.{bit_and, bit_or}
 use Rattle.std.proofs.Math.Nat.{mod-lt}
-use Rattle.std.proofs.lemmas.Bool.{eqb-true, eq-eqb, ltb-true, ltb-false}
 use Rattle.gh_base.specs.declared.cell.Cell.TheVariants as cell
-use Rattle.gh_base.specs.declared.layout.Layout.{Layout}
-use Rattle.gh_base.specs.Cells.{InRange, put}
-use Rattle.gh_base.specs.Packing.{bit}
-use Rattle.gh_base.specs.Rows.{Row, bitmap_words, row_bit}
-use Rattle.gh_base.specs.Shapes.{is_pointer}
-use Rattle.gh_base.specs.Steps.{cell_of}
 use Rattle.gh_heap.specs.Laws.{EachFactLasts, EachRightFollows, TheHeapIsApart}
 use Rattle.gh_heap.specs.Moves.{KeepsOthers, Others, SetBits, Steps, moved}
 use Rattle.gh_heap.specs.Rights.{Arena, Claims, Good, Right, Shared, View, view}
 use Rattle.gh_heap.specs.Spans.{Laying}
-use Rattle.gh_bitmap.specs.declared.set_pointers.SetStage.{SetStage}
-use Rattle.gh_bitmap.specs.declared.set_pointers.SetStage.TheVariants.{Clear, Set, Ended}
-use Rattle.gh_bitmap.specs.Bits.{pointer_bits, slot_bits}
 use Rattle.gh_bitmap.specs.Facts.{ClearIn, Comes, Facts, FactsAt, Lasts, Opens, OwnStep, SetsByItsRights, ToldBelow, Within}
-use Rattle.gh_bitmap.specs.SetPointers.{PointerSetting, asks, at_stage, gives, gives_at, goes, is_busy, next_stage, word_at}
-use Rattle.gh_bitmap.specs.Sound.{Touches}
-use Rattle.gh_bitmap.specs.Stepping.{EachStepIsOnItsBits, FitsSlot, IsHere, StepsOn}
+use Rattle.gh_bitmap.proofs.Vocabulary.{asks, at_stage, bit, bitmap_words, cell_of, Clear, EachStepIsOnItsBits, Ended, FitsSlot, gives, gives_at, goes, InRange, is_busy, is_pointer, IsHere, Layout, next_stage, pointer_bits, PointerSetting, put, Row, row_bit, Set, SetStage, slot_bits, StepsOn, Touches, word_at}
 
 pub record Known : Type 0 where
   pub last : EachFactLasts

@@ -1,23 +1,11 @@
 -- The routine that sets pointer bits, run to its end: word after word of the bitmap.
-use Rattle.std.proofs.Common.{◌≡◌, ◌≢◌, ℕ, zero, suc, ◌+◌, ◌-◌, ◌*◌, ◌/◌, ◌<◌, ◌≤◌, ◌⊎◌, Bool, true, false, cond, eqb, ltb, refl, sym, ap, subst, ◌∙◌, arith, inl, inr}
-use Rattle.std.proofs.lemmas.Bool.{eqb-true, ltb-true, ltb-false}
+use Rattle.std.proofs.Common.{◌≡◌, ◌≢◌, ℕ, zero, suc, ◌+◌, ◌-◌, ◌*◌, ◌/◌, ◌<◌, ◌≤◌, ◌⊎◌, Bool, true, false, cond, eqb, ltb, refl, sym, ap, subst, ◌∙◌, arith, inl, inr, eqb-true, ltb-true, ltb-false}
 use Rattle.gh_base.specs.declared.cell.Cell.{Cell}
 use Rattle.gh_base.specs.declared.cell.Cell.TheVariants.{Bitmap}
-use Rattle.gh_base.specs.declared.layout.Layout.{Layout}
 use Rattle.gh_base.specs.declared.shape.Shape.{Shape}
-use Rattle.gh_base.specs.Cells.{Words}
-use Rattle.gh_base.specs.Packing.{bit}
 use Rattle.gh_base.specs.Routines.{Alone, alone, IsFolded, Leaves, steps_alone}
-use Rattle.gh_base.specs.Rows.{CellsAreTold, pointer_bit, RowsAreWritten}
-use Rattle.gh_base.specs.Shapes.{is_pointer}
-use Rattle.gh_base.specs.Steps.{effect}
-use Rattle.gh_bitmap.specs.declared.set_pointers.SetStage.{SetStage}
-use Rattle.gh_bitmap.specs.declared.set_pointers.SetStage.TheVariants.{Clear, Set, Ended}
-use Rattle.gh_bitmap.specs.Bits.{pointer_bits}
 use Rattle.gh_bitmap.specs.Pointers.{AreSet}
-use Rattle.gh_bitmap.specs.SetPointers.{PointerSetting, asks_at, is_busy, listing, next_stage, opening, word_at}
-use Rattle.gh_bitmap.specs.Sound.{Touches}
-use Rattle.gh_bitmap.specs.Stepping.{FitsSlot, IsHere, StepsOn}
+use Rattle.gh_bitmap.proofs.Vocabulary.{asks_at, bit, CellsAreTold, Clear, effect, Ended, FitsSlot, is_busy, is_pointer, IsHere, Layout, listing, next_stage, opening, pointer_bit, pointer_bits, PointerSetting, RowsAreWritten, Set, SetStage, StepsOn, Touches, word_at, Words}
 use Rattle.gh_bitmap.proofs.PointerSetting.Steps.{steps_on, word_is}
 
 -- a word that has bits of the slot has that of one of its words
