@@ -1,19 +1,11 @@
 -- After each load the routine looks at the next slot, or has ended.
-use Rattle.std.proofs.Common.{◌≡◌, ◌≢◌, ℕ, zero, suc, ◌+◌, ◌-◌, ◌%◌, ◌<◌, ◌≤◌, ◌⊎◌, Bool, true, false, cond, eqb, ltb, Some, None, refl, sym, ap, subst, ◌∙◌, arith, inl, inr}
-use Rattle.std.specs.Int.{bit_at}
-use Rattle.std.proofs.lemmas.Nat.Bits.{bit_at-lt}
-use Rattle.std.proofs.lemmas.Bool.{eqb-true, eq-eqb, ltb-true, ltb-false}
-use Rattle.gh_base.specs.declared.layout.Layout.{Layout}
+use Rattle.std.proofs.Common.{◌≡◌, ◌≢◌, ℕ, zero, suc, ◌+◌, ◌-◌, ◌%◌, ◌<◌, ◌≤◌, ◌⊎◌, Bool, true, false, cond, eqb, ltb, Some, None, refl, sym, ap, subst, ◌∙◌, arith, inl, inr, eqb-true, eq-eqb, ltb-true, ltb-false}
 use Rattle.gh_base.specs.declared.cell.Cell.TheVariants.{Alloc}
 use Rattle.gh_base.specs.declared.cell.Ask.TheVariants.{Load}
 use Rattle.gh_base.specs.Routines.{EndsWith, GoesOn, told}
-use Rattle.gh_class.specs.Classes.{slots_of}
-use Rattle.gh_cache.specs.declared.next_slot.Cached.{Cached}
-use Rattle.gh_cache.specs.declared.next_slot.SlotStage.{SlotStage}
-use Rattle.gh_cache.specs.declared.next_slot.SlotStage.TheVariants.{Look, Ended}
-use Rattle.gh_cache.specs.Listing.{Searching, asks, gives, goes, goes_at, is_busy, is_clear, listing, opening, slot_at}
 use Rattle.gh_cache.specs.Sound.{FitsArena}
 use Rattle.gh_cache.specs.NextClear.{AreTaken, FindsNextClear, IsNextClear, slot_bit}
+use Rattle.gh_cache.proofs.Vocabulary.{asks, bit_at, bit_at-lt, Cached, Ended, gives, goes, goes_at, is_busy, is_clear, Layout, listing, Look, opening, Searching, slot_at, slots_of, SlotStage}
 use Rattle.gh_cache.proofs.Slots.{IsCut, slot_word}
 
 module _ (l : Layout) (span : Cached) (found : ℕ → ℕ) where

@@ -1,3 +1,4 @@
+pub mod Vocabulary
 pub mod Finding
 mod Rights
 pub mod Slots

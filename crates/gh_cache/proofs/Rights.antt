@@ -1,27 +1,20 @@
 -- Its own steps change nothing, and what it knows lasts. Of the heap it is known what the laws of gh_heap say.
-use Rattle.std.proofs.Common.{◌≡◌, ◌≢◌, ℕ, ◌+◌, ◌*◌, ◌/◌, ◌%◌, ◌<◌, ◌≤◌, Bool, true, false, cond, eqb, ltb, inl, inr, Option, Some, None, refl, sym, ap, subst, ◌∙◌, arith}
-use Rattle.std.specs.Int.{bit_at}
+use Rattle.std.proofs.Common.{◌≡◌, ◌≢◌, ℕ, ◌+◌, ◌*◌, ◌/◌, ◌%◌, ◌<◌, ◌≤◌, Bool, true, false, cond, eqb, ltb, inl, inr, Option, Some, None, refl, sym, ap, subst, ◌∙◌, arith, eqb-true, ltb-true, ltb-false}
 use Rattle.std.proofs.Math.Nat.{mod-eq_of_lt, mod-lt}
-use Rattle.std.proofs.lemmas.Bool.{eqb-true, eqb-false, ltb-true, ltb-false}
+use Rattle.std.proofs.lemmas.Bool.{eqb-false}
 use Rattle.std.proofs.lemmas.Bool.Decides.{eqb_tells}
-use Rattle.std.proofs.lemmas.Nat.Bits.{bit_at-lt}
 use Rattle.gh_base.specs.declared.cell.Cell.TheVariants as cell
-use Rattle.gh_base.specs.declared.layout.Layout.{Layout}
 use Rattle.gh_base.specs.Cells.{InRange}
 use Rattle.gh_base.specs.Rows.{row_bit}
 use Rattle.gh_base.specs.Steps.{cell_of}
 use Rattle.gh_class.specs.declared.class.SizeClass.{SizeClass}
 use Rattle.gh_class.specs.declared.class.SizeClass.TheVariants as size
-use Rattle.gh_class.specs.Classes.{IsSizeClass, slot_of, slot_words_of, slots_of}
 use Rattle.gh_heap.specs.Laws.{TheHeapIsApart}
 use Rattle.gh_heap.specs.Moves.{KeepsObjects, Others, Quiet, Steps}
 use Rattle.gh_heap.specs.Rights.{Arena, Good, Right, Shared, View, view}
 use Rattle.gh_heap.specs.Spans.{IsFull, IsSlotOf, Laying, slot_size}
-use Rattle.gh_cache.specs.declared.next_slot.Cached.{Cached}
-use Rattle.gh_cache.specs.declared.next_slot.SlotStage.{SlotStage}
-use Rattle.gh_cache.specs.declared.next_slot.SlotStage.TheVariants.{Look, Ended}
 use Rattle.gh_cache.specs.Facts.{Comes, Facts, IsHeld, Lasts, OwnStep, SearchesByItsRights, TakenBelow, Within}
-use Rattle.gh_cache.specs.Listing.{Searching, alloc_word, asks, at_stage, gives, gives_at, goes, goes_at, has_next, passed, slot_at}
+use Rattle.gh_cache.proofs.Vocabulary.{alloc_word, asks, at_stage, bit_at, bit_at-lt, Cached, Ended, gives, gives_at, goes, goes_at, has_next, IsSizeClass, Layout, Look, passed, Searching, slot_at, slot_of, slot_words_of, slots_of, SlotStage}
 
 pub record Known : Type 0 where
   pub apart : TheHeapIsApart
