@@ -1,3 +1,4 @@
+pub mod Vocabulary
 mod GiveRights
 mod Heads
 pub mod Lacking

@@ -1,34 +1,12 @@
 -- The pass's own steps are moves that its rights allow, and what it knows lasts. Of the heap it is known what the laws of gh_heap say.
-use Rattle.std.proofs.Common.{◌≡◌, ◌≢◌, ℕ, ◌+◌, ◌*◌, ◌/◌, ◌%◌, ◌^◌, ◌<◌, ◌≤◌, ◌&&◌, Bool, true, false, cond, eqb, ltb, inl, inr, Option, Some, None, refl, sym, ap, subst, ◌∙◌, arith}
-use Rattle.std.specs.Bool.{beq}
-use Rattle.std.specs.Int.{bit_at}
-use Rattle.std.proofs.Math.Nat.{mod-eq_of_lt, mod-lt}
-use Rattle.std.proofs.lemmas.Bool.{eqb-true, eq-eqb, ltb-true, ltb-false}
-use Rattle.std.proofs.lemmas.Bool.Decides.{eqb_tells}
-use Rattle.std.proofs.lemmas.Nat.Bits.{bit_at-lt}
+use Rattle.std.proofs.Common.{◌≡◌, ◌≢◌, ℕ, ◌+◌, ◌*◌, ◌/◌, ◌%◌, ◌^◌, ◌<◌, ◌≤◌, ◌&&◌, Bool, true, false, cond, eqb, ltb, inl, inr, Option, Some, None, refl, sym, ap, subst, ◌∙◌, arith, eqb-true, eq-eqb, ltb-true, ltb-false}
 use Rattle.gh_base.specs.declared.cell.Ask.TheVariants as ask
 use Rattle.gh_base.specs.declared.cell.Cell.TheVariants as cell
-use Rattle.gh_base.specs.declared.layout.Layout.{Layout}
-use Rattle.gh_base.specs.declared.pack.PageWord.{PageWord}
 use Rattle.gh_base.specs.declared.pack.PageWord.TheVariants as page
-use Rattle.gh_base.specs.declared.pack.SpanHead.{SpanHead}
-use Rattle.gh_base.specs.Cells.{InRange}
-use Rattle.gh_base.specs.Packing.{PackedWordsAreReadBack, head_word, page_of}
-use Rattle.gh_base.specs.Rows.{row_bit}
-use Rattle.gh_base.specs.Steps.{cell_of, effect}
-use Rattle.gh_class.specs.declared.class.SizeClass.{SizeClass}
-use Rattle.gh_class.specs.declared.class.SizeClass.TheVariants.{Small, Large}
-use Rattle.gh_class.specs.Classes.{slot_of, slot_words_of, slots_of}
-use Rattle.gh_heap.specs.Laws.{EachFactLasts, EachMoveKeeps, EachOwnMoveLeaves, EachRightFollows, TheHeapIsApart}
-use Rattle.gh_heap.specs.Moves.{KeepsObjects, Leaves, MayPass, Others, Own, Quiet, Steps, moved, update}
-use Rattle.gh_heap.specs.Rights.{Arena, FullBefore, Good, Right, Shared, View, view}
-use Rattle.gh_heap.specs.Spans.{IsFull, IsSpan, Laying, owned_by, owner_at, owner_in, slot_count, slot_size}
-use Rattle.gh_central.specs.declared.pass.PassStage.{PassStage}
-use Rattle.gh_central.specs.declared.pass.PassStage.TheVariants.{Look, Bits, Take, Ended}
+use Rattle.gh_central.proofs.Vocabulary.{after_page, alloc_word, Arena, asks, at_stage, beq, bit_at, bit_at-lt, Bits, cell_of, EachFactLasts, EachMoveKeeps, EachOwnMoveLeaves, EachRightFollows, effect, Ended, eqb_tells, FullBefore, given, gives, goes, goes_at, Good, head_word, InRange, is_busy, is_small, is_wanted, IsFull, IsSpan, KeepsObjects, lacks_at, Large, Laying, Layout, Leaves, Look, look_from, MayPass, mod-eq_of_lt, mod-lt, moved, Others, Own, owned_by, owner_at, owner_in, PackedWordsAreReadBack, page_of, PageWord, Pass, PassStage, Quiet, Right, row_bit, Shared, SizeClass, slot_count, slot_of, slot_size, slot_words_of, slots_of, Small, SpanHead, Steps, Take, TheHeapIsApart, update, View, view}
 use Rattle.gh_central.proofs.Heads.{past-page, past-span}
 use Rattle.gh_central.specs.PassFacts.{Comes, Facts, FactsAt, IsUnowned, Lasts, LooksAt, LooksInto, Opens, OwnStep, Passes, PassesByItsRights, TakenBelow, Within, sought}
 use Rattle.gh_central.specs.Slots.{TheTestSaysIt}
-use Rattle.gh_central.specs.SweptPass.{Pass, after_page, alloc_word, asks, at_stage, given, gives, goes, goes_at, is_busy, is_small, is_wanted, lacks_at, look_from}
 
 pub record Known : Type 0 where
   pub packed : PackedWordsAreReadBack

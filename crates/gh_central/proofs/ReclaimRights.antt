@@ -1,27 +1,12 @@
 -- The steps of the freeing of empty spans are moves that its rights allow, and what it knows lasts. Of the heap it is known what the laws of gh_heap say.
-use Rattle.std.proofs.Common.{◌≡◌, ◌≢◌, ℕ, ◌+◌, ◌-◌, ◌*◌, ◌/◌, ◌%◌, ◌<◌, ◌≤◌, Bool, true, false, cond, eqb, ltb, inl, inr, Option, Some, None, refl, sym, ap, subst, ◌∙◌, arith, w64}
-use Rattle.std.specs.Int.{bit_at, trailing_zeros}
-use Rattle.std.proofs.Math.Nat.{mod-eq_of_lt, mod-lt}
-use Rattle.std.proofs.lemmas.Bool.{eqb-true, eqb-false, ltb-true, ltb-false, ne_eqb}
-use Rattle.std.proofs.lemmas.Bool.Decides.{eqb_tells}
-use Rattle.std.proofs.lemmas.Nat.Bits.{bit_at-trailing_zeros, bit_at-zero}
+use Rattle.std.proofs.Common.{◌≡◌, ◌≢◌, ℕ, ◌+◌, ◌-◌, ◌*◌, ◌/◌, ◌%◌, ◌<◌, ◌≤◌, Bool, true, false, cond, eqb, ltb, inl, inr, Option, Some, None, refl, sym, ap, subst, ◌∙◌, arith, w64, eqb-true, ltb-true, ltb-false, ne_eqb}
 use Rattle.gh_base.specs.declared.cell.Cell.TheVariants as cell
-use Rattle.gh_base.specs.declared.layout.Layout.{Layout}
-use Rattle.gh_base.specs.declared.pack.PageWord.{PageWord}
 use Rattle.gh_base.specs.declared.pack.PageWord.TheVariants as page
-use Rattle.gh_base.specs.declared.pack.SpanHead.{SpanHead}
-use Rattle.gh_base.specs.Cells.{InRange, put}
-use Rattle.gh_base.specs.Packing.{page_of}
-use Rattle.gh_base.specs.Rows.{row_bit}
-use Rattle.gh_base.specs.Steps.{cell_of}
-use Rattle.gh_heap.specs.Laws.{EachFactLasts, EachFreeingFollows, EachOwnMoveLeaves, TheHeapIsApart, WalksGoOn}
-use Rattle.gh_heap.specs.Moves.{FreeBody, FreeHead, KeepsObjects, Leaves, MayFree, Others, Quiet, Steps, freed_yet, moved}
-use Rattle.gh_heap.specs.Rights.{Arena, Good, Right, Rights, Shared, TidyBefore, View, view}
-use Rattle.gh_heap.specs.Spans.{BeingFreed, Freeing, IsEmpty, IsInUse, IsSpan}
 use Rattle.gh_central.specs.declared.reclaim.ReclaimStage.{ReclaimStage}
 use Rattle.gh_central.specs.declared.reclaim.ReclaimStage.TheVariants.{Look, Bits, Body, Head, Ended}
 use Rattle.gh_central.specs.Reclaim.{Reclaiming, after_page, alloc_word, asks, at_stage, body_page, free_from, given, gives, goes, goes_at, is_busy, look_from}
 use Rattle.gh_central.specs.ReclaimFacts.{ClearBelow, Comes, Facts, FactsAt, FreesFrom, IsIdle, IsReady, Lasts, LooksAt, LooksInto, Opens, OwnStep, ReclaimsByItsRights, Reclaims, Within, freed_to, freeing_at}
+use Rattle.gh_central.proofs.Vocabulary.{Arena, BeingFreed, bit_at, bit_at-trailing_zeros, bit_at-zero, cell_of, EachFactLasts, EachFreeingFollows, EachOwnMoveLeaves, eqb-false, eqb_tells, FreeBody, freed_yet, FreeHead, Freeing, Good, InRange, IsEmpty, IsInUse, IsSpan, KeepsObjects, Layout, Leaves, MayFree, mod-eq_of_lt, mod-lt, moved, Others, page_of, PageWord, put, Quiet, Right, Rights, row_bit, Shared, SpanHead, Steps, TheHeapIsApart, TidyBefore, trailing_zeros, View, view, WalksGoOn}
 use Rattle.gh_central.proofs.Heads.{past-page, past-span}
 
 pub record Known : Type 0 where

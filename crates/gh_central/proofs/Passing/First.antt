@@ -1,23 +1,12 @@
 -- The pass takes the first span that it may take.
-use Rattle.std.proofs.Common.{◌≡◌, ◌≢◌, ℕ, zero, suc, ◌+◌, ◌*◌, ◌<◌, ◌≤◌, ◌⊎◌, inl, inr, Bool, true, false, cond, eqb, eq-eqb, ltb, ◌&&◌, Option, Some, None, refl, sym, ap, subst, ◌∙◌, arith}
-use Rattle.std.specs.Bool.{beq}
-use Rattle.std.proofs.lemmas.Bool.{cases_lt, cases_order, eqb-true}
-use Rattle.std.proofs.lemmas.Bool.Decides.{nat_tests}
+use Rattle.std.proofs.Common.{◌≡◌, ◌≢◌, ℕ, zero, suc, ◌+◌, ◌*◌, ◌<◌, ◌≤◌, ◌⊎◌, inl, inr, Bool, true, false, cond, eqb, eq-eqb, ltb, ◌&&◌, Option, Some, None, refl, sym, ap, subst, ◌∙◌, arith, eqb-true}
 use Rattle.gh_base.specs.declared.cell.Cell.TheVariants.{Page, Alloc}
 use Rattle.gh_base.specs.declared.cell.Ask.{Ask}
 use Rattle.gh_base.specs.declared.cell.Ask.TheVariants.{Load}
-use Rattle.gh_base.specs.declared.pack.PageWord.{PageWord}
 use Rattle.gh_base.specs.declared.pack.PageWord.TheVariants.{Free, Head, Body}
-use Rattle.gh_base.specs.declared.pack.SpanHead.{SpanHead}
-use Rattle.gh_base.specs.Packing.{page_of}
 use Rattle.gh_base.specs.Routines.{EndsWith, told}
-use Rattle.gh_class.specs.declared.class.SizeClass.{SizeClass}
-use Rattle.gh_class.specs.declared.class.SizeClass.TheVariants.{Small, Large}
-use Rattle.gh_class.specs.Classes.{slot_words_of, slots_of}
-use Rattle.gh_central.specs.declared.pass.PassStage.{PassStage}
-use Rattle.gh_central.specs.declared.pass.PassStage.TheVariants.{Look, Bits, Take, Ended}
 use Rattle.gh_central.specs.Passing.{IsBits, IsFull, IsHead, IsMet, IsTold, IsWanted, LacksAt, Passes, Takes, TakesTheFirst}
-use Rattle.gh_central.specs.SweptPass.{Pass, after_page, alloc_word, asks, at_stage, gives, goes, goes_at, is_busy, is_small, is_wanted, lacks_at, listing, look_from, pages_gone}
+use Rattle.gh_central.proofs.Vocabulary.{after_page, alloc_word, asks, at_stage, beq, Bits, cases_lt, cases_order, Ended, gives, goes, goes_at, is_busy, is_small, is_wanted, lacks_at, Large, listing, Look, look_from, nat_tests, page_of, pages_gone, PageWord, Pass, PassStage, SizeClass, slot_words_of, slots_of, Small, SpanHead, Take}
 use Rattle.gh_central.proofs.Lacking.{lacks_is, lacks_means}
 use Rattle.gh_central.proofs.Passing.Walking.{some_gone, some_pages}
 
@@ -313,10 +302,8 @@ module _ (m : Pass) (found : ℕ → ℕ) where
   IsAt n (Take page h) = Lacks n page h
 
   arrived : (n : ℕ) (p : PassStage) → Arrives n p → IsAt n p
-  arrived n (Look page) k = k
-  arrived n (Bits page h i) k = k
-  arrived n (Take page h) k = k
   arrived n Ended k = tt
+  arrived n _ k = k
 
   abbrev Stands : ℕ → Type 0
   Stands n = (p : PassStage) × (told listing m found n ≡ at_stage m p) × IsAt n p
@@ -340,10 +327,8 @@ module _ (m : Pass) (found : ℕ → ℕ) where
   -- What it gives.
 
   none_given : (n : ℕ) (q : PassStage) → Arrives n q → cond {A = Option (Option ℕ)} (is_busy q) None (Some None) ≡ Some None → Passes m found n m.layout.pages
-  none_given n (Look page) k e = absurd (cc)
-  none_given n (Bits page h i) k e = absurd (cc)
-  none_given n (Take page h) k e = absurd (cc)
   none_given n Ended k e = k
+  none_given n _ k e = absurd (cc)
 
   no_page_given : (q : PassStage) (page : ℕ) → cond (is_busy q) None (Some None) ≢ Some (Some page)
   no_page_given q page = go (is_busy q) where

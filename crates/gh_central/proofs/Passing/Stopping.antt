@@ -60,10 +60,8 @@ module _ (m : Pass) where
   shrinks Ended w = inl refl
 
   stops_at : (p : PassStage) → left p ≡ 0 → p ≡ Ended
-  stops_at (Look page) e = absurd (omega arith)
-  stops_at (Bits page h i) e = absurd (omega arith)
-  stops_at (Take page h) e = absurd (omega arith)
   stops_at Ended e = refl
+  stops_at _ e = absurd (omega arith)
 
   module _ (found : ℕ → ℕ) where
     abbrev Shrunk : ℕ → Type 0

@@ -323,11 +323,8 @@ module _ (m : Reclaiming) (found : ℕ → ℕ) where
   IsAt n Ended = Unit {0}
 
   arrived : (n : ℕ) (p : ReclaimStage) → Arrives n p → IsAt n p
-  arrived n (Look page) k = k
-  arrived n (Bits page pages i) k = k
-  arrived n (Body page pages distance) k = k
-  arrived n (Head page pages) k = k
   arrived n Ended k = tt
+  arrived n _ k = k
 
   -- a stage that asks for a step leads on
   next_arrives : (n : ℕ) (p : ReclaimStage) → told listing m found n ≡ at_stage m p → is_busy p ≡ true → IsAt n p → Arrives (suc n) (goes_at m p (found n))
@@ -391,11 +388,8 @@ module _ (m : Reclaiming) (found : ℕ → ℕ) where
   ends_by q = cond (is_busy q) None (Some tt)
 
   given_ends : (n : ℕ) (q : ReclaimStage) → Arrives n q → ends_by q ≡ Some tt → Passes m found n m.layout.pages
-  given_ends n (Look page) k e = absurd (cc)
-  given_ends n (Bits page pages i) k e = absurd (cc)
-  given_ends n (Body page pages distance) k e = absurd (cc)
-  given_ends n (Head page pages) k e = absurd (cc)
   given_ends n Ended k e = k
+  given_ends n _ k e = absurd (cc)
 
   gives_at : (n : ℕ) (p : ReclaimStage) → told listing m found n ≡ at_stage m p → EndsWith listing m found n tt → given p (goes_at m p (found n)) ≡ Some tt
   gives_at n p e g = sym (ap (λ (x : Reclaiming). gives x (found n)) e) ∙ g

@@ -78,11 +78,8 @@ module _ (m : Reclaiming) where
   shrinks Ended w = inl refl
 
   stops_at : (p : ReclaimStage) → left p ≡ 0 → p ≡ Ended
-  stops_at (Look page) e = absurd (omega arith)
-  stops_at (Bits page pages i) e = absurd (omega arith)
-  stops_at (Body page pages distance) e = absurd (omega arith)
-  stops_at (Head page pages) e = absurd (omega arith)
   stops_at Ended e = refl
+  stops_at _ e = absurd (omega arith)
 
   module _ (found : ℕ → ℕ) where
     abbrev Shrunk : ℕ → Type 0
