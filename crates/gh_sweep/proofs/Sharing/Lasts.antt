@@ -32,11 +32,8 @@ module _ (e : CycleEnd) (a : ℕ) (s t : Shared) (o : OthersLeave e a s t) (m : 
   reached_lasts (LoadMarks i) r = sweeps_last i i r
   reached_lasts (ClearBits i marks) r = sweeps_last i i r
   reached_lasts (ClearMarks i) r = sweeps_last (i + 1) i r
-  reached_lasts AddTally r = sweeps_last (bit_words m.head) (bit_words m.head) r
-  reached_lasts AddLive r = sweeps_last (bit_words m.head) (bit_words m.head) r
-  reached_lasts AddHeap r = sweeps_last (bit_words m.head) (bit_words m.head) r
-  reached_lasts Finish r = sweeps_last (bit_words m.head) (bit_words m.head) r
   reached_lasts Ended r = tt
+  reached_lasts _ r = sweeps_last (bit_words m.head) (bit_words m.head) r
 
   -- what another sweep leaves, as the routine by itself asks for it
   others_at : m.head.number + 2 ≡ generation_of e → (stage : SweepStage) → HasReached a s m stage → OthersAt m s.words t.words stage
@@ -44,11 +41,8 @@ module _ (e : CycleEnd) (a : ℕ) (s t : Shared) (o : OthersLeave e a s t) (m : 
   others_at n (LoadMarks i) r = stays i i r
   others_at n (ClearBits i marks) r = stays i i r
   others_at n (ClearMarks i) r = stays (i + 1) i r
-  others_at n AddTally r = stays (bit_words m.head) (bit_words m.head) r
-  others_at n AddLive r = stays (bit_words m.head) (bit_words m.head) r
-  others_at n AddHeap r = stays (bit_words m.head) (bit_words m.head) r
-  others_at n Finish r = stays (bit_words m.head) (bit_words m.head) r
   others_at n Ended r = tt
+  others_at n _ r = stays (bit_words m.head) (bit_words m.head) r
 
   fine_lasts : SweepKeepsItsFacts → Fine e a s m → Fine e a t m
   fine_lasts laws f = record {
@@ -104,15 +98,9 @@ rests e a s m f ended = record { none = λ p by. none m.stage ended ((f.right p)
   none Ended is has = cc
 
   told : (stage : SweepStage) → is_busy stage ≡ false → owes_at m stage ≡ nothing
-  told Begin is = absurd (cc)
-  told (LoadMarks i) is = absurd (cc)
-  told (ClearBits i marks) is = absurd (cc)
-  told (ClearMarks i) is = absurd (cc)
-  told AddTally is = absurd (cc)
-  told AddLive is = absurd (cc)
-  told AddHeap is = absurd (cc)
   told Finish is = refl
   told Ended is = refl
+  told _ is = absurd (cc)
 
 pub among_others : Known → SweepKeepsItsFacts → SweepsAmongOthers
 among_others k laws = record {

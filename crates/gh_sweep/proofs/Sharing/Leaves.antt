@@ -212,17 +212,6 @@ ends_there : (s : Shared) (q p : ℕ) → s.far p ≡ Done → update s.far q Do
 ends_there s q p is = elim (eqb_tells q p) [ inl y ↦ rw (y.0) refl | inr n ↦ rw (n.0) is ]
 
 pub done_stays : DoneStays
-done_stays e a s (Quiet step) p g may is = is
 done_stays e a s (Starts q h) p g may is = starts_elsewhere e a s q h p g may is
-done_stays e a s (Cuts q h i) p g may is = is
-done_stays e a s (Clears q h i) p g may is = is
-done_stays e a s TellsTally p g may is = is
-done_stays e a s TellsLive p g may is = is
-done_stays e a s TellsHeap p g may is = is
 done_stays e a s (Ends q h) p g may is = ends_there s q p is
-done_stays e a s (Passes q h owner) p g may is = is
-done_stays e a s (Lays q h) p g may is = is
-done_stays e a s (Frees q h) p g may is = is
-done_stays e a s (Turns q word) p g may is = is
-done_stays e a s (Places x) p g may is = is
-done_stays e a s Counts p g may is = is
+done_stays e a s _ p g may is = is

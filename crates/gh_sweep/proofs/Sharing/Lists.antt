@@ -9,7 +9,7 @@ use Rattle.gh_base.specs.Rows.{RowsAreWritten}
 use Rattle.gh_base.specs.Steps.{effect}
 use Rattle.gh_heap.specs.Moves.{update}
 use Rattle.gh_sweep.specs.Listing.{asks, goes, is_busy, opening, Sweeping}
-use Rattle.gh_sweep.specs.Moves.{Clears, Counts, Cuts, EachMoveKeeps, EachMoveLeaves, Ends, Frees, Lands, Lays, May, Move, moved, OthersLeave, Passes, Places, Quiet, Starts, TellsHeap, TellsLive, TellsTally, Turns}
+use Rattle.gh_sweep.specs.Moves.{Clears, Cuts, EachMoveKeeps, EachMoveLeaves, Ends, Lands, May, Move, moved, OthersLeave, Starts, TellsHeap, TellsLive, TellsTally}
 use Rattle.gh_sweep.specs.Runs.{after, Begins, EveryListKeeps, far_in, found, Holds, IsOfOthers, Legal, MayTurn, Moves, RunsFine, Steps, stepped, still, Turn, turned, World}
 use Rattle.gh_sweep.specs.Shared.{By, CycleEnd, Good, HasEnded, Shared, view}
 use Rattle.gh_sweep.specs.Sweepers.{Fine, IsAtRest, move_of, SweepsAmongOthers}
@@ -81,7 +81,6 @@ module _ (laws : Laws) (e : CycleEnd) (ended : HasEnded e) where
       ]
 
   rest_stays : (a : ℕ) (s : Shared) (m : Move) → IsOfOthers m → IsAtRest a s → IsAtRest a (moved a s m)
-  rest_stays a s (Quiet step) is r = record { none = r.none; told = r.told }
   rest_stays a s (Starts p h) is r = absurd is
   rest_stays a s (Cuts p h i) is r = absurd is
   rest_stays a s (Clears p h i) is r = absurd is
@@ -89,12 +88,7 @@ module _ (laws : Laws) (e : CycleEnd) (ended : HasEnded e) where
   rest_stays a s TellsLive is r = absurd is
   rest_stays a s TellsHeap is r = absurd is
   rest_stays a s (Ends p h) is r = absurd is
-  rest_stays a s (Passes p h owner) is r = record { none = r.none; told = r.told }
-  rest_stays a s (Lays p h) is r = record { none = r.none; told = r.told }
-  rest_stays a s (Frees p h) is r = record { none = r.none; told = r.told }
-  rest_stays a s (Turns p word) is r = record { none = r.none; told = r.told }
-  rest_stays a s (Places x) is r = record { none = r.none; told = r.told }
-  rest_stays a s Counts is r = record { none = r.none; told = r.told }
+  rest_stays a s _ is r = record { none = r.none; told = r.told }
 
   moves : (a : ℕ) (m : Move) (w : World) → Holds e w → MayTurn e w (Moves a m) → Holds e (turned e (Moves a m) w)
   moves a m w holds may = record { good = laws.keeps e a w.shared m ended holds.good may.2; fine = each } where

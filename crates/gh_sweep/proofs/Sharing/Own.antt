@@ -1,23 +1,13 @@
 -- The steps of a sweep among others are moves that it may make, and what holds of it lasts.
-use Rattle.std.proofs.Common.{◌≡◌, ◌≢◌, ℕ, ◌+◌, ◌*◌, ◌%◌, ◌^◌, ◌<◌, Bool, true, false, cond, eqb, ltb, refl, sym, ap, subst, ◌∙◌, arith, inl, inr}
-use Rattle.std.specs.Prelude.{bit_and, ◌↔◌}
-use Rattle.std.proofs.lemmas.Bool.{eqb-true, lt-ltb, le-ltb, ltb-false, ltb-true}
+use Rattle.std.proofs.Common.{◌≡◌, ◌≢◌, ℕ, ◌+◌, ◌*◌, ◌%◌, ◌^◌, ◌<◌, Bool, true, false, cond, eqb, ltb, refl, sym, ap, subst, ◌∙◌, arith, inl, inr, bit_and, ◌↔◌, eqb-true, lt-ltb, le-ltb, ltb-false, ltb-true}
 use Rattle.std.proofs.lemmas.Bool.Decides.{eqb_tells, nat_tests}
 use Rattle.std.proofs.Math.Nat.{add-mul}
 use Rattle.gh_base.specs.declared.cell.Cell.TheVariants as cell
-use Rattle.gh_base.specs.declared.pack.PageWord.TheVariants.{Head}
-use Rattle.gh_base.specs.Cells.{seats_of}
-use Rattle.gh_base.specs.Packing.{head_word, page_of, tally_word}
 use Rattle.gh_base.specs.Steps.{cell_of, effect}
 use Rattle.gh_heap.specs.Moves.{update}
-use Rattle.gh_sweep.specs.Bits.{freed_in, kept_in}
 use Rattle.gh_sweep.specs.Facts.{Facts, SweepKeepsItsFacts}
-use Rattle.gh_sweep.specs.Listing.{asks, at_stage, bit_words, counted, goes, in_sweep, is_busy, negative, slot_bytes, Sweeping, word_at}
-use Rattle.gh_sweep.specs.Moves.{Clears, Lands, moved, Quiet, Starts, Sweeps, TellsHeap, TellsLive, TellsTally, with_word_cut}
-use Rattle.gh_sweep.specs.Shared.{By, CycleEnd, Done, Due, Good, HasEnded, InSpan, Shared, Unswept, view}
 use Rattle.gh_sweep.specs.Steps.{IsInArena}
-use Rattle.gh_sweep.specs.Sweepers.{all_owed, Fine, move_at, move_of}
-use Rattle.gh_sweep.specs.Vocabulary.{AddHeap, AddLive, AddTally, Begin, ClearBits, ClearMarks, Ended, Finish, Load, LoadMarks, put, SpanHead, SweepStage, Words}
+use Rattle.gh_sweep.proofs.Vocabulary.{AddHeap, AddLive, AddTally, all_owed, asks, at_stage, Begin, bit_words, By, ClearBits, ClearMarks, Clears, counted, CycleEnd, Done, Due, Ended, Fine, Finish, freed_in, goes, Good, HasEnded, Head, head_word, in_sweep, InSpan, is_busy, kept_in, Lands, Load, LoadMarks, move_at, move_of, moved, negative, page_of, put, Quiet, seats_of, Shared, slot_bytes, SpanHead, Starts, Sweeping, Sweeps, SweepStage, tally_word, TellsHeap, TellsLive, TellsTally, Unswept, view, with_word_cut, word_at, Words}
 use Rattle.gh_sweep.proofs.Sharing.KeepsPages.{fits_then, fresh_before, Known, reads}
 use Rattle.gh_sweep.proofs.Sharing.Pages.{by_done}
 use Rattle.gh_sweep.proofs.Sharing.Sums.{at_entry}

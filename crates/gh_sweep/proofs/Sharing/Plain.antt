@@ -1,23 +1,13 @@
 -- The laws in plain words, of every list of turns.
-use Rattle.std.proofs.Common.{◌≡◌, ◌≢◌, ℕ, ◌+◌, ◌-◌, ◌*◌, ◌/◌, ◌<◌, ◌≤◌, ◌⊎◌, Bool, true, false, cond, eqb, ltb, refl, sym, ap, subst, ◌∙◌, arith, inl, inr, ◌∷◌, Option, Some, None}
-use Rattle.std.specs.Prelude.{◌&&◌, not}
+use Rattle.std.proofs.Common.{◌≡◌, ◌≢◌, ℕ, ◌+◌, ◌-◌, ◌*◌, ◌/◌, ◌<◌, ◌≤◌, ◌⊎◌, Bool, true, false, cond, eqb, ltb, refl, sym, ap, subst, ◌∙◌, arith, inl, inr, ◌∷◌, Option, Some, None, ◌&&◌, not, lt-ltb, le-ltb, ltb-false, ltb-true}
 use Rattle.std.specs.Int.{bit_at}
-use Rattle.std.proofs.lemmas.Bool.{lt-ltb, le-ltb, ltb-false, ltb-true}
 use Rattle.gh_base.specs.declared.cell.Cell.TheVariants as cell
 use Rattle.gh_base.specs.declared.pack.PageWord.{PageWord}
-use Rattle.gh_base.specs.declared.pack.PageWord.TheVariants.{Free, Head, Body}
-use Rattle.gh_base.specs.Cells.{seats_of}
-use Rattle.gh_base.specs.Packing.{bit, page_of}
 use Rattle.gh_base.specs.Rows.{Row, row_bit, RowsAreWritten}
-use Rattle.gh_sweep.specs.Bits.{sum_below}
 use Rattle.gh_sweep.specs.Counts.{is_set, marked_objects, unmarked_objects}
-use Rattle.gh_sweep.specs.Listing.{bit_words, in_sweep, Sweeping}
-use Rattle.gh_sweep.specs.Moves.{DoneStays, Sweeps}
 use Rattle.gh_sweep.specs.Runs.{after, AllAreSwept, Begins, BitsAreObjects, CountsAreExact, EachCountIsExact, EveryListKeeps, found, HeadsSayWhoSweeps, Holds, IsAhead, IsBehind, IsInSweep, IsOf, IsPassed, IsPast, MayTurn, Moves, NothingIsLost, NothingMarkedIsFreed, OneSweeps, OnlySinceIsLeft, owes_now, PassedStays, RunsFine, Steps, SweepsAt, Turn, turned, UnsweptIsAsItWas, UnsweptStays, World}
-use Rattle.gh_sweep.specs.Shared.{alloc_at, bit_words_of, By, CycleEnd, Done, Due, Far, freed_at, generation_of, HasEnded, in_all, InSpan, IsLeft, IsNumbered, kept_at, left, live_at, marks_at, nothing, owed, SaysFar, Shared, Unswept, view}
 use Rattle.gh_sweep.specs.Sound.{reached}
-use Rattle.gh_sweep.specs.Sweepers.{Fine, has_span, HasReached, marks_cleared, move_of, SweepsAmongOthers}
-use Rattle.gh_sweep.specs.Vocabulary.{AddHeap, AddLive, AddTally, Begin, ClearBits, ClearMarks, Ended, Finish, LoadMarks, SpanHead, SweepStage}
+use Rattle.gh_sweep.proofs.Vocabulary.{alloc_at, Begin, bit, bit_words, bit_words_of, Body, By, CycleEnd, Done, DoneStays, Due, Ended, Far, Fine, Free, freed_at, generation_of, has_span, HasEnded, HasReached, Head, in_all, in_sweep, InSpan, IsLeft, IsNumbered, kept_at, left, live_at, marks_at, marks_cleared, move_of, nothing, owed, page_of, SaysFar, seats_of, Shared, SpanHead, sum_below, Sweeping, Sweeps, SweepsAmongOthers, SweepStage, Unswept, view}
 use Rattle.gh_sweep.proofs.Bits.{freed_bits, kept_bits, sum_of_two, sum_same}
 use Rattle.gh_sweep.proofs.Sharing.Pages.{by_done, far_done, far_unswept, numbered, numbered_done, same_by, same_head, swept_clear}
 use Rattle.gh_sweep.proofs.Sharing.Sums.{left_none, sum_zero}
@@ -27,25 +17,12 @@ use Rattle.gh_sweep.proofs.Sweeping.Counts.{bit_is, by_words}
 
 sweeps_of : (a : ℕ) (s : Shared) (m : Sweeping) (stage : SweepStage) → has_span stage ≡ true → HasReached a s m stage → Sweeps a m.page m.head (reached m.head stage) (marks_cleared m.head stage) s
 sweeps_of a s m Begin has r = absurd (cc)
-sweeps_of a s m (LoadMarks i) has r = r
-sweeps_of a s m (ClearBits i marks) has r = r
-sweeps_of a s m (ClearMarks i) has r = r
-sweeps_of a s m AddTally has r = r
-sweeps_of a s m AddLive has r = r
-sweeps_of a s m AddHeap has r = r
-sweeps_of a s m Finish has r = r
 sweeps_of a s m Ended has r = absurd (cc)
+sweeps_of a s m _ has r = r
 
 cleared_behind : (h : SpanHead) (stage : SweepStage) → marks_cleared h stage ≤ reached h stage
 cleared_behind h Begin = omega arith
-cleared_behind h (LoadMarks i) = omega arith
-cleared_behind h (ClearBits i marks) = omega arith
-cleared_behind h (ClearMarks i) = omega arith
-cleared_behind h AddTally = omega arith
-cleared_behind h AddLive = omega arith
-cleared_behind h AddHeap = omega arith
-cleared_behind h Finish = omega arith
-cleared_behind h Ended = omega arith
+cleared_behind h _ = omega arith
 
 module _ (e : CycleEnd) (w : World) (holds : Holds e w) where
   abbrev s : Shared

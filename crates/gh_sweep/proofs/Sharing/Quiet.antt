@@ -12,32 +12,14 @@ abbrev pub with_words : Shared → Words → Shared
 with_words s w = record s { words = w }
 
 put_beside : (s : Shared) (c : Cell) (v : ℕ) → IsBeside c → view (with_words s (put s.words c v)) ≡ view s
-put_beside s cell.Touch v q = refl
-put_beside s cell.Phase v q = refl
 put_beside s cell.Gen v q = absurd q
-put_beside s cell.Begun v q = refl
-put_beside s cell.Swept v q = refl
-put_beside s cell.Lock v q = refl
-put_beside s cell.Want v q = refl
-put_beside s cell.Bank v q = refl
-put_beside s cell.Gcur v q = refl
 put_beside s cell.Heap v q = absurd q
-put_beside s cell.Trigger v q = refl
-put_beside s cell.Work v q = refl
-put_beside s cell.Slack v q = refl
 put_beside s cell.Tally v q = absurd q
 put_beside s cell.Live v q = absurd q
 put_beside s (cell.Page i) v q = absurd q
 put_beside s (cell.Alloc i) v q = absurd q
 put_beside s (cell.Mark i) v q = absurd q
-put_beside s (cell.Bitmap i) v q = refl
-put_beside s (cell.Birth i) v q = refl
-put_beside s (cell.Field i) v q = refl
-put_beside s (cell.Global i) v q = refl
-put_beside s (cell.Buffer i) v q = refl
-put_beside s (cell.Entry i j) v q = refl
-put_beside s (cell.Ack i) v q = refl
-put_beside s (cell.Scanned i) v q = refl
+put_beside s _ v q = refl
 
 pub quiet_view : (s : Shared) (step : Ask) → ChangesNothing step → view (with_words s (effect s.words step)) ≡ view s
 quiet_view s (ask.Load c) q = refl

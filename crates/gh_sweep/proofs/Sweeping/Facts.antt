@@ -58,11 +58,8 @@ module _ (s : Sweeping) (before after : Words) where
   lasts_at (LoadMarks i) is o h = swept_lasts i (omega arith) o h
   lasts_at (ClearBits i marks) is o h = (swept_lasts i (omega arith) o h.0, o.marks_stay i is ∙ h.1)
   lasts_at (ClearMarks i) is o h = cleared_lasts i is o h
-  lasts_at AddTally is o h = swept_lasts (bit_words s.head) (omega arith) o h
-  lasts_at AddLive is o h = swept_lasts (bit_words s.head) (omega arith) o h
-  lasts_at AddHeap is o h = swept_lasts (bit_words s.head) (omega arith) o h
-  lasts_at Finish is o h = swept_lasts (bit_words s.head) (omega arith) o h
   lasts_at Ended is o h = tt
+  lasts_at _ is o h = swept_lasts (bit_words s.head) (omega arith) o h
 
 -- A step leaves each cell but its own.
 
@@ -80,14 +77,8 @@ module _ (changes : ChangesOneCell) (cells : CellsAreTold) where
 
   stays_to_others : (t : Sweeping) (before after : Words) (stage : SweepStage) → SpanStays t before after → OthersAt t before after stage
   stays_to_others t before after Begin o = inl o.head_stays
-  stays_to_others t before after (LoadMarks i) o = o
-  stays_to_others t before after (ClearBits i marks) o = o
-  stays_to_others t before after (ClearMarks i) o = o
-  stays_to_others t before after AddTally o = o
-  stays_to_others t before after AddLive o = o
-  stays_to_others t before after AddHeap o = o
-  stays_to_others t before after Finish o = o
   stays_to_others t before after Ended o = tt
+  stays_to_others t before after _ o = o
 
   module _ (s t : Sweeping) (words : Words) (placed : IsPlaced s) (apart : AreApart s t) (there : IsInArena t.layout t.page t.head) where
     pages_apart : s.page ≢ t.page
@@ -133,14 +124,8 @@ module _ (changes : ChangesOneCell) (cells : CellsAreTold) where
 
     head_stays_at : (stage : SweepStage) → HeadStaysAt stage
     head_stays_at Begin = swap_stays _ refl
-    head_stays_at (LoadMarks i) = inl refl
-    head_stays_at (ClearBits i marks) = inl refl
-    head_stays_at (ClearMarks i) = inl refl
-    head_stays_at AddTally = inl refl
-    head_stays_at AddLive = inl refl
-    head_stays_at AddHeap = inl refl
     head_stays_at Finish = inr (subst (λ (w : ℕ). HasNotNumber s.head.number w) (sym (cells.put_here words (cell.Page s.page) (head_word (once_swept s.head)))) swept_gone)
-    head_stays_at Ended = inl refl
+    head_stays_at _ = inl refl
 
     behind_stays : (t : Sweeping) → IsBehind s t → Others t words (effect words (asks_at s s.stage))
     behind_stays t b = subst (λ (stage : SweepStage). OthersAt t words (effect words (asks_at s s.stage)) stage) (sym b.not_begun) (subst (λ (p : ℕ). HeadAt p t.head.number) b.same_page (subst (λ (n : ℕ). HeadAt s.page n) b.same_number (head_stays_at s.stage))) where
