@@ -1,23 +1,9 @@
 -- The scan of an object has loaded the bitmap word of each word of the slot and the field of each pointer once it ends, by rows that agree with what it was told.
-use Rattle.std.proofs.Common.{◌≡◌, ◌≢◌, ℕ, zero, suc, ◌+◌, ◌-◌, ◌*◌, ◌/◌, ◌%◌, ◌<◌, ◌≤◌, ◌==◌, ◌||◌, ltb, Bool, true, false, cond, List, Option, Some, None, refl, sym, ap, subst, ◌∙◌, arith}
-use Rattle.std.proofs.Math.Nat.{mul-mod_right}
-use Rattle.std.proofs.lemmas.Bool.{eqb-true, eq-eqb, ltb-true, ltb-false}
-use Rattle.gh_base.specs.declared.cell.Ask.TheVariants.{Load}
-use Rattle.gh_base.specs.declared.cell.Cell.{Cell}
-use Rattle.gh_base.specs.declared.cell.Cell.TheVariants.{Bitmap, Field}
-use Rattle.gh_base.specs.declared.held.Held.{Held}
-use Rattle.gh_base.specs.declared.layout.Layout.{Layout}
-use Rattle.gh_base.specs.Routines.{EndsWith}
-use Rattle.gh_base.specs.Rows.{Row}
-use Rattle.gh_scan.specs.declared.scan.ScanStage.{ScanStage}
-use Rattle.gh_scan.specs.declared.scan.ScanStage.TheVariants.{LoadPage, LoadBitmap, LoadField, Shading, FindRoom, Ended}
-use Rattle.gh_scan.specs.Listing.{after_room, after_shade, asks, at_next, behind, goes, is_loaded, is_pointer, listing, next_in, object_of, reference_in, Scanning}
-use Rattle.gh_scan.specs.Scans.{after, AreTold, begun, bits_of, from, slot_told}
+use Rattle.std.proofs.Common.{◌≡◌, ◌≢◌, ℕ, zero, suc, ◌+◌, ◌-◌, ◌*◌, ◌/◌, ◌%◌, ◌<◌, ◌≤◌, ◌==◌, ◌||◌, ltb, Bool, true, false, cond, List, Option, Some, None, refl, sym, ap, subst, ◌∙◌, arith, eqb-true, eq-eqb, ltb-true, ltb-false}
+use Rattle.gh_scan.proofs.Vocabulary.{after, after_room, after_shade, AreTold, asks, at_next, begun, behind, Bitmap, bits_of, Cell, Done, Ended, EndsWith, Field, FindRoom, from, goes, Held, is_loaded, is_pointer, Layout, listing, Load, LoadBitmap, LoadField, LoadPage, mul-mod_right, next_in, object_of, reference_in, Row, Scanning, ScanStage, Shaded, Shading, slot_told, WantsRoom}
 use Rattle.gh_scan.proofs.Order.{in_order}
 use Rattle.gh_scan.proofs.Ending.{has_ended}
 use Rattle.gh_scan.proofs.Scanning.{AtField, Finds, Is, is_at, Knows}
-use Rattle.gh_shade.specs.declared.shade.Shaded.{Shaded}
-use Rattle.gh_shade.specs.declared.shade.Shaded.TheVariants.{Done, WantsRoom}
 use Rattle.gh_shade.specs.Listing as shade
 use Rattle.gh_wbuf.specs.RoomFinding as room
 

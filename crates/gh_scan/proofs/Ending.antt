@@ -72,7 +72,6 @@ on_field s v b = cond b (behind s) (record s { stage = Shading (shade.opening s.
 
 -- it ends where it is done with the word that it is at, and nothing is left
 ends_at : (s : Scanning) (stage : ScanStage) (v : ℕ) → IsDone stage s.at v → Quiet s (goes_at s stage v).bits → given (goes_at s stage v) ≡ Some s.slot
-ends_at s LoadPage v done quiet = absurd done
 ends_at s LoadBitmap v done quiet = by (is_pointer v s.at) done quiet where
   by : (b : Bool) → b ≡ false → Quiet s (on_bit s v b).bits → given (on_bit s v b) ≡ Some s.slot
   by true never q = absurd (cc)
@@ -86,8 +85,7 @@ ends_at s (Shading sh) v done quiet = by (shade.gives sh v) done quiet where
   by None never q = absurd (cc)
   by (Some Done) e q = behind_ends (record s { held = (shade.goes sh v).held }) (subst (λ (w : ℕ). Quiet s w) (bits_stay (record s { held = (shade.goes sh v).held }) (next_from s.bits (end s) (s.at + 1))) q)
   by (Some WantsRoom) never q = absurd (cc)
-ends_at s (FindRoom sh r) v done quiet = absurd done
-ends_at s Ended v done quiet = absurd done
+ends_at s _ v done quiet = absurd done
 
 -- and only there
 only_at : (s : Scanning) (stage : ScanStage) (v out : ℕ) → is_busy stage ≡ true → given (goes_at s stage v) ≡ Some out → IsDone stage s.at v × Quiet s (goes_at s stage v).bits
@@ -114,11 +112,7 @@ only_at s Ended v out busy e = absurd (cc)
 -- once it has given something it has ended, and stays as it is
 pub has_ended : (slot : ℕ) (stage : ScanStage) (out : ℕ) → given_at slot stage ≡ Some out → stage ≡ Ended
 has_ended slot Ended out e = refl
-has_ended slot LoadPage out e = absurd (cc)
-has_ended slot LoadBitmap out e = absurd (cc)
-has_ended slot LoadField out e = absurd (cc)
-has_ended slot (Shading sh) out e = absurd (cc)
-has_ended slot (FindRoom sh r) out e = absurd (cc)
+has_ended slot _ out e = absurd (cc)
 
 module _ (l : Layout) (seat reference : ℕ) (held : Option Held) (found : ℕ → ℕ) where
   abbrev state_n : ℕ → Scanning

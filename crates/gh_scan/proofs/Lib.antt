@@ -1,3 +1,4 @@
+pub mod Vocabulary
 pub mod Covering
 pub mod Ending
 pub mod Markers

@@ -1,33 +1,20 @@
 -- While marking is on the steps of the scan are moves that its seat may make. Of the moves, of shading and of the search for room it is known what their laws say.
-use Rattle.std.proofs.Common.{◌≡◌, ◌≢◌, ℕ, ◌+◌, ◌-◌, ◌*◌, ◌/◌, ◌%◌, ◌<◌, ◌≤◌, Bool, true, false, cond, eqb, Option, Some, None, inl, inr, refl, sym, ap, subst, ◌∙◌, arith}
-use Rattle.std.specs.Int.{bit_at}
-use Rattle.std.proofs.Math.Nat.{mod-eq_of_lt}
-use Rattle.std.proofs.lemmas.Bool.{eqb-true, eq-eqb}
+use Rattle.std.proofs.Common.{◌≡◌, ◌≢◌, ℕ, ◌+◌, ◌-◌, ◌*◌, ◌/◌, ◌%◌, ◌<◌, ◌≤◌, Bool, true, false, cond, eqb, Option, Some, None, inl, inr, refl, sym, ap, subst, ◌∙◌, arith, eqb-true, eq-eqb}
 use Rattle.gh_base.specs.declared.cell.Ask.{Ask}
-use Rattle.gh_base.specs.declared.cell.Ask.TheVariants.{Load}
-use Rattle.gh_base.specs.declared.cell.Cell.{Cell}
 use Rattle.gh_base.specs.declared.cell.Cell.TheVariants as cell
-use Rattle.gh_base.specs.declared.held.Held.{Held}
-use Rattle.gh_base.specs.declared.layout.Layout.{Layout}
 use Rattle.gh_base.specs.Packing.{bit}
-use Rattle.gh_base.specs.Rows.{RowsAreWritten, bitmap_words, mark_words}
-use Rattle.gh_base.specs.Steps.{cell_of, effect}
 use Rattle.gh_marks.specs.Colours.{Cycle, IsClean, IsMarked, IsPointer, Shared, Taken}
 use Rattle.gh_marks.specs.Good.{Good}
 use Rattle.gh_marks.specs.Knows.{KnowsObject, KnowsObjects}
 use Rattle.gh_marks.specs.Laws.{EachHandLasts, EachStepGoesByMoves}
 use Rattle.gh_marks.specs.Moves.{Keeps, Lands, Others, Steps, Went, landing, landing_on, lands_still}
 use Rattle.gh_marks.specs.Seats.{Hands, InHand}
-use Rattle.gh_shade.specs.declared.shade.Shaded.{Shaded}
-use Rattle.gh_shade.specs.declared.shade.Shaded.TheVariants.{Done, WantsRoom}
 use Rattle.gh_shade.specs.Facts as shade_facts
 use Rattle.gh_shade.specs.Listing as shade
 use Rattle.gh_wbuf.specs.Facts as room_facts
 use Rattle.gh_wbuf.specs.RoomFinding as room
-use Rattle.gh_scan.specs.declared.scan.ScanStage.{ScanStage}
-use Rattle.gh_scan.specs.declared.scan.ScanStage.TheVariants.{LoadPage, LoadBitmap, LoadField, Shading, FindRoom, Ended}
 use Rattle.gh_scan.specs.Facts.{BitsAre, Facts, IsAt, IsField, ScansByMoves, Shades, StageFacts, besides, in_hand}
-use Rattle.gh_scan.specs.Listing.{after_room, after_shade, asks_at, at_stage, behind, given_at, goes, goes_at, is_pointer, object_of, reference_in, Scanning, with_bits, with_field}
+use Rattle.gh_scan.proofs.Vocabulary.{after_room, after_shade, asks_at, at_stage, behind, bit_at, bitmap_words, Cell, cell_of, Done, effect, Ended, FindRoom, given_at, goes, goes_at, Held, is_pointer, Layout, Load, LoadBitmap, LoadField, LoadPage, mark_words, mod-eq_of_lt, object_of, reference_in, RowsAreWritten, Scanning, ScanStage, Shaded, Shading, WantsRoom, with_bits, with_field}
 use Rattle.gh_scan.proofs.MarkersAt.{IsDone, KnownOfFacts, at-kept, field-kept, goes-behind, shades-kept}
 
 pub record Known : Type 0 where
@@ -290,12 +277,8 @@ stage-lasts k z a s t rest m (FindRoom sh r) o known x = (
 stage-lasts k z a s t rest m Ended o known x = k.last z a s t (in_hand rest m.held None) o x
 
 ended-at : (z : Cycle) (a : ℕ) (s : Shared) (rest : InHand) (n : Scanning) (p : ScanStage) (words : ℕ) → given_at n.slot p ≡ Some words → StageFacts z a s rest n p → Hands a s (in_hand rest n.held None)
-ended-at z a s rest n LoadPage words e x = absurd (cc)
-ended-at z a s rest n LoadBitmap words e x = absurd (cc)
-ended-at z a s rest n LoadField words e x = absurd (cc)
-ended-at z a s rest n (Shading sh) words e x = absurd (cc)
-ended-at z a s rest n (FindRoom sh r) words e x = absurd (cc)
 ended-at z a s rest n Ended words e x = x
+ended-at z a s rest n _ words e x = absurd (cc)
 
 pub scans-by-moves : Known → ScansByMoves
 scans-by-moves k = record {

@@ -1,21 +1,6 @@
 -- The law of the scan of an object, put together.
-use Rattle.std.proofs.Common.{◌≡◌, ◌≢◌, ◌↔◌, ℕ, zero, suc, ◌+◌, ◌*◌, ◌/◌, ◌%◌, ◌<◌, ◌≤◌, ltb, Bool, true, false, Option, refl, sym, ap, subst, ◌∙◌, arith}
-use Rattle.std.proofs.Math.Nat.{mod-eq_of_lt}
-use Rattle.std.proofs.lemmas.Bool.{eqb-true, eq-eqb, ltb-true, ltb-false}
-use Rattle.std.specs.Int.{bit_at}
-use Rattle.gh_base.specs.declared.cell.Ask.TheVariants.{Load}
-use Rattle.gh_base.specs.declared.cell.Cell.{Cell}
-use Rattle.gh_base.specs.declared.cell.Cell.TheVariants.{Touch, Bitmap, Field}
-use Rattle.gh_base.specs.declared.held.Held.{Held}
-use Rattle.gh_base.specs.declared.layout.Layout.{Layout}
-use Rattle.gh_base.specs.Cells.{Words}
-use Rattle.gh_base.specs.Routines.{EndsWith}
-use Rattle.gh_base.specs.Rows.{bitmap_words, CellsAreTold, field_words, pointer_bit, row_bit}
-use Rattle.gh_base.specs.Steps.{cell_of}
-use Rattle.gh_scan.specs.declared.scan.ScanStage.{ScanStage}
-use Rattle.gh_scan.specs.declared.scan.ScanStage.TheVariants.{LoadPage, LoadBitmap, LoadField, Shading, FindRoom, Ended}
-use Rattle.gh_scan.specs.Listing.{asks, asks_at, is_busy, is_pointer, listing, object_of, Scanning}
-use Rattle.gh_scan.specs.Scans.{after, AreTold, from, InSlot, LiesInHeap, ScansInOrder, ScansObject, ShadesAsTold, slot_told, WasLoaded, words_told}
+use Rattle.std.proofs.Common.{◌≡◌, ◌≢◌, ◌↔◌, ℕ, zero, suc, ◌+◌, ◌*◌, ◌/◌, ◌%◌, ◌<◌, ◌≤◌, ltb, Bool, true, false, Option, refl, sym, ap, subst, ◌∙◌, arith, eqb-true, eq-eqb, ltb-true, ltb-false}
+use Rattle.gh_scan.proofs.Vocabulary.{after, AreTold, asks, asks_at, bit_at, Bitmap, bitmap_words, Cell, cell_of, CellsAreTold, Ended, EndsWith, Field, field_words, FindRoom, from, Held, InSlot, is_busy, is_pointer, Layout, LiesInHeap, listing, Load, LoadBitmap, LoadField, mod-eq_of_lt, object_of, pointer_bit, row_bit, Scanning, ScansInOrder, ScansObject, ScanStage, ShadesAsTold, Shading, slot_told, Touch, WasLoaded, Words, words_told}
 use Rattle.gh_scan.proofs.Covering.{covered, Has, IsCovered, pointer_at}
 use Rattle.gh_scan.proofs.Ending.{at_once, rests}
 use Rattle.gh_scan.proofs.Order.{end_is, in_order, layout_is, slot_is}
@@ -28,20 +13,16 @@ bit_is words x = refl
 
 -- where a bitmap word is loaded, and where a field is
 bits_asked : (s : Scanning) (stage : ScanStage) (i : ℕ) → asks_at s stage ≡ Load (Bitmap i) → (stage ≡ LoadBitmap) × (s.at / 64 % (16 * s.layout.pages) ≡ i)
-bits_asked s LoadPage i e = absurd (cc)
 bits_asked s LoadBitmap i e = (refl, cc)
-bits_asked s LoadField i e = absurd (cc)
 bits_asked s (Shading sh) i e = absurd (off_slot _ _ (shade_off sh sh.stage) refl (ap cell_of e))
 bits_asked s (FindRoom sh r) i e = absurd (off_slot _ _ (room_off r r.stage) refl (ap cell_of e))
-bits_asked s Ended i e = absurd (cc)
+bits_asked s _ i e = absurd (cc)
 
 field_asked : (s : Scanning) (stage : ScanStage) (i : ℕ) → asks_at s stage ≡ Load (Field i) → (stage ≡ LoadField) × (s.at % (1024 * s.layout.pages) ≡ i)
-field_asked s LoadPage i e = absurd (cc)
-field_asked s LoadBitmap i e = absurd (cc)
 field_asked s LoadField i e = (refl, cc)
 field_asked s (Shading sh) i e = absurd (off_slot _ _ (shade_off sh sh.stage) refl (ap cell_of e))
 field_asked s (FindRoom sh r) i e = absurd (off_slot _ _ (room_off r r.stage) refl (ap cell_of e))
-field_asked s Ended i e = absurd (cc)
+field_asked s _ i e = absurd (cc)
 
 module _ (l : Layout) (seat reference : ℕ) (held : Option Held) (found : ℕ → ℕ) (some : 1 ≤ slot_told l seat reference held found) where
   abbrev slot : ℕ

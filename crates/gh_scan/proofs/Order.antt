@@ -95,19 +95,12 @@ module _ (l : Layout) (seat reference slot : ℕ) where
 
   ended : (stage : ScanStage) (out : ℕ) → given_at slot stage ≡ Some out → out ≡ slot
   ended Ended out e = sym (some_is e)
-  ended LoadPage out e = absurd (cc)
-  ended LoadBitmap out e = absurd (cc)
-  ended LoadField out e = absurd (cc)
-  ended (Shading sh) out e = absurd (cc)
-  ended (FindRoom sh r) out e = absurd (cc)
+  ended _ out e = absurd (cc)
 
   busy_below : (x : ℕ) (stage : ScanStage) → Lies x stage → is_busy stage ≡ true → x < stop
   busy_below x Ended k e = absurd (cc)
   busy_below x LoadPage k e = absurd k
-  busy_below x LoadBitmap k e = k
-  busy_below x LoadField k e = k
-  busy_below x (Shading sh) k e = k
-  busy_below x (FindRoom sh r) k e = k
+  busy_below x _ k e = k
 
 module _ (l : Layout) (seat reference : ℕ) (held : Option Held) (found : ℕ → ℕ) (some : 1 ≤ slot_told l seat reference held found) where
   abbrev slot : ℕ

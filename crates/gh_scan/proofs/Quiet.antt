@@ -1,26 +1,22 @@
 -- The routines of marking write no word of the handshake: by their stages.
-use Rattle.std.specs.Prelude.{ℕ, Option, Some, None}
-use Rattle.gh_base.specs.declared.held.Held.{Held}
+use Rattle.std.proofs.Common.{ℕ, Option, Some, None}
 use Rattle.gh_phase.specs.Handshake.{IsQuiet}
-use Rattle.gh_scan.specs.declared.scan.ScanStage.{ScanStage}
 use Rattle.gh_scan.specs.declared.scan.ScanStage.TheVariants as scan_stage
 use Rattle.gh_scan.specs.Listing as scan
 use Rattle.gh_scan.specs.Quiet.{MarkingIsQuiet}
-use Rattle.gh_shade.specs.declared.shade.ShadeStage.{ShadeStage}
 use Rattle.gh_shade.specs.declared.shade.ShadeStage.TheVariants as shade_stage
 use Rattle.gh_shade.specs.Listing as shade
-use Rattle.gh_wbuf.specs.declared.find_room.RoomStage.{RoomStage}
 use Rattle.gh_wbuf.specs.declared.find_room.RoomStage.TheVariants as room_stage
 use Rattle.gh_wbuf.specs.declared.give_buffer.GiveStage.{GiveStage}
 use Rattle.gh_wbuf.specs.declared.give_buffer.GiveStage.TheVariants as give_stage
 use Rattle.gh_wbuf.specs.declared.take_entry.TakeStage.{TakeStage}
 use Rattle.gh_wbuf.specs.declared.take_entry.TakeStage.TheVariants as take_stage
-use Rattle.gh_wbuf.specs.declared.try_buffer.TryStage.{TryStage}
 use Rattle.gh_wbuf.specs.declared.try_buffer.TryStage.TheVariants as try_stage
 use Rattle.gh_wbuf.specs.BufferGiving as give
 use Rattle.gh_wbuf.specs.EntryTaking as take
 use Rattle.gh_wbuf.specs.RoomFinding as room
 use Rattle.gh_wbuf.specs.Trying as try
+use Rattle.gh_scan.proofs.Vocabulary.{Held, RoomStage, ScanStage, ShadeStage, TryStage}
 
 gives : (stage : GiveStage) → IsQuiet (give.asks_at stage)
 gives (give_stage.Give h) = tt
@@ -31,10 +27,8 @@ gives_back t None = tt
 gives_back t (Some h) = tt
 
 tries : (t : try.Trying) (stage : TryStage) → IsQuiet (try.asks_at t stage)
-tries t try_stage.Look = tt
 tries t (try_stage.GiveBack word) = gives_back t t.held
-tries t (try_stage.Claim word) = tt
-tries t try_stage.Ended = tt
+tries t _ = tt
 
 takes : (t : take.EntryTaking) (stage : TakeStage) → IsQuiet (take.asks_at t stage)
 takes t (take_stage.Try a) = tries a a.stage
@@ -51,19 +45,13 @@ enters reference None = tt
 enters reference (Some h) = tt
 
 shades : (s : shade.Shading) (stage : ShadeStage) → IsQuiet (shade.asks_at s stage)
-shades s shade_stage.LoadPage = tt
-shades s (shade_stage.SetMark noscan) = tt
-shades s shade_stage.WaitForRoom = tt
 shades s shade_stage.Enter = enters s.reference s.held
-shades s shade_stage.Ended = tt
+shades s _ = tt
 
 scans : (s : scan.Scanning) (stage : ScanStage) → IsQuiet (scan.asks_at s stage)
-scans s scan_stage.LoadPage = tt
-scans s scan_stage.LoadBitmap = tt
-scans s scan_stage.LoadField = tt
 scans s (scan_stage.Shading sh) = shades sh sh.stage
 scans s (scan_stage.FindRoom sh r) = finds_room r r.stage
-scans s scan_stage.Ended = tt
+scans s _ = tt
 
 pub is_quiet : MarkingIsQuiet
 is_quiet = record { gives = λ g. gives g.stage; takes = λ t. takes t t.stage; finds_room = λ r. finds_room r r.stage; shades = λ s. shades s s.stage; scans = λ s. scans s s.stage }

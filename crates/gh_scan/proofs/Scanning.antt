@@ -219,11 +219,7 @@ module _ (l : Layout) (seat reference : ℕ) (held : Option Held) (found : ℕ �
 
     ended : (x w : ℕ) (done : List ℕ) (stage : ScanStage) (out : ℕ) → Knows bits fields l seat reference slot x w done stage → given_at slot stage ≡ Some out → done ≡ all bits fields l seat reference slot
     ended x w done Ended out k e = k
-    ended x w done LoadPage out k e = absurd (cc)
-    ended x w done LoadBitmap out k e = absurd (cc)
-    ended x w done LoadField out k e = absurd (cc)
-    ended x w done (Shading sh) out k e = absurd (cc)
-    ended x w done (FindRoom sh r) out k e = absurd (cc)
+    ended x w done _ out k e = absurd (cc)
 
     pub all_begun : (n w : ℕ) → EndsWith listing (from l seat reference held found) found n w → begun_n (suc n) ≡ all bits fields l seat reference slot
     all_begun n w e =

@@ -1,28 +1,10 @@
 -- In a slot that lies in the heap each bitmap word and each field is asked for once, so that what was told is what some rows hold.
-use Rattle.std.proofs.Common.{◌≡◌, ◌≢◌, ℕ, zero, suc, ◌+◌, ◌-◌, ◌*◌, ◌/◌, ◌%◌, ◌<◌, ◌≤◌, ◌==◌, Bool, true, false, cond, Option, Some, None, refl, sym, ap, ◌∙◌, arith, below_more}
-use Rattle.std.proofs.Math.Nat.{mod-eq_of_lt}
-use Rattle.std.proofs.lemmas.Bool.{eqb-true}
-use Rattle.gh_base.specs.declared.cell.Ask.TheVariants.{Load}
-use Rattle.gh_base.specs.declared.cell.Cell.{Cell}
-use Rattle.gh_base.specs.declared.cell.Cell.TheVariants.{Bitmap, Field}
-use Rattle.gh_base.specs.declared.held.Held.{Held}
-use Rattle.gh_base.specs.declared.layout.Layout.{Layout}
-use Rattle.gh_base.specs.Cells.{put, Words}
-use Rattle.gh_base.specs.Rows.{CellsAreTold}
-use Rattle.gh_base.specs.Steps.{cell_of}
-use Rattle.gh_scan.specs.declared.scan.ScanStage.{ScanStage}
-use Rattle.gh_scan.specs.declared.scan.ScanStage.TheVariants.{LoadPage, LoadBitmap, LoadField, Shading, FindRoom, Ended}
-use Rattle.gh_scan.specs.Listing.{after_room, after_shade, asks, asks_at, at_next, behind, end, goes_at, is_busy, is_pointer, next_from, object_of, reference_in, Scanning}
-use Rattle.gh_scan.specs.Scans.{after, LiesInHeap, ScansInOrder, slot_told, words_told}
+use Rattle.std.proofs.Common.{◌≡◌, ◌≢◌, ℕ, zero, suc, ◌+◌, ◌-◌, ◌*◌, ◌/◌, ◌%◌, ◌<◌, ◌≤◌, ◌==◌, Bool, true, false, cond, Option, Some, None, refl, sym, ap, ◌∙◌, arith, below_more, eqb-true}
+use Rattle.gh_scan.proofs.Vocabulary.{after, after_room, after_shade, asks, asks_at, at_next, behind, Bitmap, Cell, cell_of, CellsAreTold, Done, end, Ended, Field, FindRoom, goes_at, Held, is_busy, is_pointer, Layout, LiesInHeap, Load, LoadBitmap, LoadField, LoadPage, mod-eq_of_lt, next_from, object_of, put, reference_in, RoomStage, Scanning, ScansInOrder, ScanStage, Shaded, ShadeStage, Shading, slot_told, TryStage, WantsRoom, Words, words_told}
 use Rattle.gh_scan.proofs.Order.{Between, next_between}
-use Rattle.gh_shade.specs.declared.shade.Shaded.{Shaded}
-use Rattle.gh_shade.specs.declared.shade.Shaded.TheVariants.{Done, WantsRoom}
-use Rattle.gh_shade.specs.declared.shade.ShadeStage.{ShadeStage}
 use Rattle.gh_shade.specs.declared.shade.ShadeStage.TheVariants as shade_stage
 use Rattle.gh_shade.specs.Listing as shade
-use Rattle.gh_wbuf.specs.declared.find_room.RoomStage.{RoomStage}
 use Rattle.gh_wbuf.specs.declared.find_room.RoomStage.TheVariants as room_stage
-use Rattle.gh_wbuf.specs.declared.try_buffer.TryStage.{TryStage}
 use Rattle.gh_wbuf.specs.declared.try_buffer.TryStage.TheVariants as try_stage
 use Rattle.gh_wbuf.specs.RoomFinding as room
 use Rattle.gh_wbuf.specs.Trying as try
@@ -39,21 +21,16 @@ enters_off reference None = refl
 enters_off reference (Some h) = refl
 
 pub shade_off : (sh : shade.Shading) (stage : ShadeStage) → is_of_slot (cell_of (shade.asks_at sh stage)) ≡ false
-shade_off sh shade_stage.LoadPage = refl
-shade_off sh (shade_stage.SetMark noscan) = refl
-shade_off sh shade_stage.WaitForRoom = refl
 shade_off sh shade_stage.Enter = enters_off sh.reference sh.held
-shade_off sh shade_stage.Ended = refl
+shade_off sh _ = refl
 
 back_off : (t : try.Trying) (held : Option Held) → is_of_slot (cell_of (try.back_at t held)) ≡ false
 back_off t None = refl
 back_off t (Some h) = refl
 
 try_off : (t : try.Trying) (stage : TryStage) → is_of_slot (cell_of (try.asks_at t stage)) ≡ false
-try_off t try_stage.Look = refl
 try_off t (try_stage.GiveBack word) = back_off t t.held
-try_off t (try_stage.Claim word) = refl
-try_off t try_stage.Ended = refl
+try_off t _ = refl
 
 pub room_off : (r : room.RoomFinding) (stage : RoomStage) → is_of_slot (cell_of (room.asks_at r stage)) ≡ false
 room_off r (room_stage.GiveBack h) = refl
@@ -145,18 +122,13 @@ passes_at s Ended v is =
 bits_rise : (x : ℕ) (stage : ScanStage) → bits_front x stage ≤ bits_passed x stage
 bits_rise x LoadPage = same 0
 bits_rise x LoadBitmap = one_more (x / 64)
-bits_rise x LoadField = same (x / 64 + 1)
-bits_rise x (Shading sh) = same (x / 64 + 1)
-bits_rise x (FindRoom sh r) = same (x / 64 + 1)
-bits_rise x Ended = same (x / 64 + 1)
+bits_rise x _ = same (x / 64 + 1)
 
 fields_rise : (x : ℕ) (stage : ScanStage) → fields_front x stage ≤ fields_passed x stage
 fields_rise x LoadPage = same 0
 fields_rise x LoadBitmap = same x
 fields_rise x LoadField = one_more x
-fields_rise x (Shading sh) = same (x + 1)
-fields_rise x (FindRoom sh r) = same (x + 1)
-fields_rise x Ended = same (x + 1)
+fields_rise x _ = same (x + 1)
 
 -- index i of a row is asked for here: it is not below the front, and is afterwards
 record AtFront (front passed i : ℕ) : Type 0 where
@@ -182,20 +154,16 @@ module _ (s : Scanning) where
   Inside stage = is_busy stage ≡ true → s.at < 1024 * s.layout.pages
 
   bits_at : (stage : ScanStage) (i : ℕ) → Inside stage → cell_of (asks_at s stage) ≡ Bitmap i → AtFront (bits_front s.at stage) (bits_passed s.at stage) i
-  bits_at LoadPage i inside e = absurd (cc)
   bits_at LoadBitmap i inside e = bitmap_index s.at s.layout.pages i (inside refl) e
-  bits_at LoadField i inside e = absurd (cc)
   bits_at (Shading sh) i inside e = absurd (off_slot _ _ (shade_off sh sh.stage) refl e)
   bits_at (FindRoom sh r) i inside e = absurd (off_slot _ _ (room_off r r.stage) refl e)
-  bits_at Ended i inside e = absurd (cc)
+  bits_at _ i inside e = absurd (cc)
 
   fields_at : (stage : ScanStage) (i : ℕ) → Inside stage → cell_of (asks_at s stage) ≡ Field i → AtFront (fields_front s.at stage) (fields_passed s.at stage) i
-  fields_at LoadPage i inside e = absurd (cc)
-  fields_at LoadBitmap i inside e = absurd (cc)
   fields_at LoadField i inside e = field_index s.at s.layout.pages i (inside refl) e
   fields_at (Shading sh) i inside e = absurd (off_slot _ _ (shade_off sh sh.stage) refl e)
   fields_at (FindRoom sh r) i inside e = absurd (off_slot _ _ (room_off r r.stage) refl e)
-  fields_at Ended i inside e = absurd (cc)
+  fields_at _ i inside e = absurd (cc)
 
 module _ (cells : CellsAreTold) (l : Layout) (seat reference : ℕ) (held : Option Held) (found : ℕ → ℕ) where
   abbrev state_n : ℕ → Scanning
