@@ -67,11 +67,7 @@ setting_small draft key line x h e =
 
 most_small : (x : Setting) → most x ≤ 8388608
 most_small settings.Procs = omega arith
-most_small settings.Workers = omega arith
-most_small settings.Arena = omega arith
-most_small settings.Globals = omega arith
-most_small settings.Gogc = omega arith
-most_small settings.Minheap = omega arith
+most_small _ = omega arith
 
 pub setting_fits : (draft : Draft) (key : Key) (line : Sentence) (x : Setting) → cause_at draft key line ≡ None → key ≡ keys.Setting x → number_in line.second < 2 ^ 32
 setting_fits draft key line x h e = omega (arith, setting_small draft key line x h e, most_small x)

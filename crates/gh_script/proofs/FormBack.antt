@@ -1,35 +1,12 @@
 -- A text that has the form of a script spells it: each of its lines is taken in its turn.
-use Rattle.std.proofs.Common.{◌≡◌, ℕ, zero, suc, ◌+◌, ◌<◌, ◌≤◌, Bool, true, false, not, cond, eqb, leb, ◌&&◌, List, [], ◌∷◌, ◌++◌, length, map, Option, Some, None, Result, Ok, refl, sym, ap, ◌∙◌, subst, append_assoc, arith, get_or}
-use Rattle.std.specs.Prelude.{All, is_some, fold, ◌≢◌, AllPairs, sum_by}
-use Rattle.std.specs.Option.{option_map, option_to_list}
-use Rattle.std.specs.List.{flat_map, list_any, repeat, position_or_len}
-use Rattle.std.specs.Str.{bytes_eq}
-use Rattle.std.proofs.lemmas.Bool.{lt-leb, le-ltb}
-use Rattle.std.proofs.lemmas.List.{append-nil, length-append, length-map, length_push, get_or_at, get_or_append_left}
-use Rattle.std.proofs.lemmas.List.Elements.{All-head, All-tail}
-use Rattle.std.proofs.lemmas.List.Sums.{position_or_len_is, sum_by-append}
-use Rattle.std.proofs.lemmas.Slice.Eq.{bytes_eq-Decides}
-use Rattle.gh_script.specs.declared.fault.ScriptFault.{ScriptFault}
+use Rattle.std.proofs.Common.{◌≡◌, ℕ, zero, suc, ◌+◌, ◌<◌, ◌≤◌, Bool, true, false, not, cond, eqb, leb, ◌&&◌, List, [], ◌∷◌, ◌++◌, length, map, Option, Some, None, Result, Ok, refl, sym, ap, ◌∙◌, subst, append_assoc, arith, get_or, All, is_some, fold, ◌≢◌, AllPairs, sum_by, le-ltb, append-nil, length-append}
 use Rattle.gh_base.specs.declared.shape.Shape.{Shape}
-use Rattle.gh_script.specs.declared.statement.Settings.{Settings}
-use Rattle.gh_script.specs.declared.given.Given.{Given}
-use Rattle.gh_script.specs.declared.goroutine.Repeat.{Repeat}
-use Rattle.gh_script.specs.declared.key.Setting.{Setting}
-use Rattle.gh_script.specs.declared.key.Setting.TheVariants.{Procs, Workers, Arena, Globals, Gogc, Minheap}
-use Rattle.gh_script.specs.declared.key.Key.{Key}
 use Rattle.gh_script.specs.declared.key.Key.TheVariants as keys
-use Rattle.gh_script.specs.declared.statement.Stmt.{Stmt}
-use Rattle.gh_script.specs.Program.{Program, Goroutine, AreNamedApart, statements_in}
-use Rattle.gh_script.specs.Text.{Sentence, lines_of}
-use Rattle.gh_script.specs.Words.{key_of}
-use Rattle.gh_script.specs.ShapeText.{fits_limits, fields_of, shape_with}
-use Rattle.gh_script.specs.Draft.{Draft, blank_draft, with_given, given_at, type_of, has_goroutine, goroutines_begun, program_in, settings_in, Open, kept, with_statement, written_out, are_too_many}
-use Rattle.gh_script.specs.Grammar.{cause_at, continued, number_in, is_skipped, statement_of, read_cause, read_key, read_line, read_lines, go_on, read_end, then_end, Spells}
-use Rattle.gh_script.specs.Form.{said_in, sayings, inside, IsTaken, IsHeadKey, IsHead, AreApart, given_by_key, settings_by, names_by, shapes_by, statement_by_key, IsTakenAs, Block, Nothing, Say, Repeated, lines_in, statements_by, IsBlock, Routine, routine_lines, IsRoutine, goroutine_by, HasForm}
+use Rattle.gh_script.proofs.Vocabulary.{All-head, All-tail, are_too_many, AreApart, Arena, AreNamedApart, blank_draft, Block, bytes_eq, bytes_eq-Decides, cause_at, continued, Draft, fields_of, fits_limits, flat_map, get_or_append_left, get_or_at, Given, given_at, given_by_key, Globals, go_on, Gogc, Goroutine, goroutine_by, goroutines_begun, has_goroutine, HasForm, inside, is_skipped, IsBlock, IsHead, IsHeadKey, IsRoutine, IsTaken, IsTakenAs, kept, Key, key_of, length-map, length_push, lines_in, lines_of, list_any, lt-leb, Minheap, names_by, Nothing, number_in, Open, option_map, option_to_list, position_or_len, position_or_len_is, Procs, Program, program_in, read_cause, read_end, read_key, read_line, read_lines, Repeat, repeat, Repeated, Routine, routine_lines, said_in, Say, sayings, ScriptFault, Sentence, Setting, Settings, settings_by, settings_in, shape_with, shapes_by, Spells, statement_by_key, statement_of, statements_by, statements_in, Stmt, sum_by-append, then_end, type_of, with_given, with_statement, Workers, written_out}
 use Rattle.gh_script.proofs.Allowed.{allowed, left_false, times_fit}
 use Rattle.gh_script.proofs.Written.{kept_some, written_behind, not_zero, some_repeat, ended_repeat}
 use Rattle.gh_script.proofs.Readings.{reading_of-text}
-use Rattle.gh_script.proofs.FormLaw.{cause_none, or_false, none_given}
+use Rattle.gh_script.proofs.FormSaid.{cause_none, or_false, none_given}
 
 -- each line is taken in its turn
 abbrev Steps : Draft → List Sentence → Draft → Type 0

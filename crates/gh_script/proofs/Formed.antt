@@ -1,35 +1,14 @@
 -- A text that spells a program spells a well-formed one; each text has one reading.
-use Rattle.std.proofs.Common.{◌≡◌, ℕ, ◌+◌, ◌*◌, ◌<◌, ◌≤◌, Bool, true, false, cond, eqb, ltb, not, List, [], ◌∷◌, length, take, Option, Some, None, Result, Ok, Err, refl, sym, ap, subst, arith, inl, inr, ◌⊎◌}
-use Rattle.std.specs.Prelude.{unwrap_or, All, is_some, IfOk}
-use Rattle.std.specs.Str.{is_utf8}
-use Rattle.std.proofs.lemmas.Bool.{eqb-false, lt-ltb, cases_lt}
-use Rattle.std.proofs.lemmas.List.{take_all, length-take-le}
-use Rattle.std.proofs.lemmas.List.Elements.{All-nil}
-use Rattle.gh_base.specs.Shapes.{FitsShape}
-use Rattle.gh_script.specs.declared.fault.Why.{Why}
-use Rattle.gh_script.specs.declared.fault.Why.TheVariants.{Size, Utf8, Nesting, Missing}
-use Rattle.gh_script.specs.declared.fault.ScriptFault.{ScriptFault}
+use Rattle.std.proofs.Common.{◌≡◌, ℕ, ◌+◌, ◌*◌, ◌<◌, ◌≤◌, Bool, true, false, cond, eqb, ltb, not, List, [], ◌∷◌, length, take, Option, Some, None, Result, Ok, Err, refl, sym, ap, subst, arith, inl, inr, ◌⊎◌, unwrap_or, All, is_some, IfOk, lt-ltb, take_all, length-take-le}
 use Rattle.gh_script.specs.declared.fault.ParseError.{ParseError}
-use Rattle.gh_script.specs.declared.given.Given.{Given}
-use Rattle.gh_script.specs.declared.key.Setting.{Setting}
-use Rattle.gh_script.specs.declared.key.Setting.TheVariants.{Procs, Workers, Arena, Globals, Gogc, Minheap}
-use Rattle.gh_script.specs.declared.statement.Settings.{Settings}
-use Rattle.gh_script.specs.Limits.{least, most, most_bytes}
-use Rattle.gh_script.specs.Program.{Program, AreWithin, AreStatements, IsNamed, IsPacked, WellFormed}
-use Rattle.gh_script.specs.Text.{lines_of, words_of, sentence_of}
-use Rattle.gh_script.specs.Draft.{Draft, IsSound, IsOpenNamed, IsNewName, AreOpenStatements, blank_draft, nothing_given, given_at, globals_in, settings_in, program_in}
-use Rattle.gh_script.specs.Grammar.{read_line, read_lines, go_on, read_end, then_end, reading_of, line_fault, Spells, Refused}
 use Rattle.gh_script.specs.Outcome.{Ends}
+use Rattle.gh_script.proofs.Vocabulary.{All-nil, Arena, AreOpenStatements, AreStatements, AreWithin, blank_draft, cases_lt, Draft, eqb-false, FitsShape, Given, given_at, Globals, globals_in, go_on, Gogc, is_utf8, IsNamed, IsNewName, IsOpenNamed, IsPacked, IsSound, least, line_fault, lines_of, Minheap, Missing, most, most_bytes, Nesting, nothing_given, Procs, Program, program_in, read_end, read_line, read_lines, reading_of, Refused, ScriptFault, sentence_of, Setting, Settings, settings_in, Size, Spells, then_end, Utf8, WellFormed, Why, words_of, Workers}
 use Rattle.gh_script.proofs.ShapeLaws.{All-ShapesFit}
 use Rattle.gh_script.proofs.Sound.{IsSound-read_line}
 
 nothing : (x : Setting) (n : ℕ) → given_at nothing_given x ≡ Some n → (least x ≤ n) × (n ≤ most x)
 nothing Procs n h = absurd cc
-nothing Workers n h = absurd cc
-nothing Arena n h = absurd cc
-nothing Globals n h = absurd cc
-nothing Gogc n h = absurd cc
-nothing Minheap n h = absurd cc
+nothing _ n h = absurd cc
 
 pub IsSound-blank : IsSound blank_draft
 IsSound-blank = record {

@@ -1,3 +1,4 @@
+pub mod Vocabulary
 pub mod Repeated
 pub mod Written
 pub mod Pieces
@@ -11,5 +12,8 @@ pub mod Lines
 pub mod Readings
 pub mod ShapeLaws
 pub mod Formed
+pub mod FormSaid
+pub mod FormHead
+pub mod FormOpen
 pub mod FormLaw
 pub mod FormBack

@@ -1,30 +1,7 @@
 -- Each line that is read keeps the draft sound.
-use Rattle.std.proofs.Common.{◌≡◌, ℕ, ◌+◌, ◌-◌, ◌^◌, ◌<◌, ◌≤◌, Bool, true, false, not, cond, eqb, ltb, leb, ◌&&◌, ◌||◌, List, [], ◌∷◌, ◌++◌, length, take, drop, Option, Some, None, Result, Ok, refl, sym, ap, ◌∙◌, subst, arith, inl, inr, ◌⊎◌}
-use Rattle.std.specs.Prelude.{unwrap_or, is_some, All, ◌≢◌, sum_by}
-use Rattle.std.specs.Option.{option_map, option_and_then, option_to_list}
-use Rattle.std.specs.List.{list_all, list_any, repeat}
-use Rattle.std.specs.Str.{bytes_eq}
-use Rattle.std.proofs.lemmas.Slice.Eq.{bytes_eq-Decides}
-use Rattle.std.proofs.lemmas.List.Quantifiers.{all_pairs_push}
-use Rattle.std.proofs.lemmas.Bool.{leb-true, leb-false, ltb-false, ltb-true}
-use Rattle.std.proofs.lemmas.List.{length_push, nil_from_length}
-use Rattle.std.proofs.lemmas.List.Elements.{All-nil, All-cons, All-append, All-push, All-head, All-take, All-drop}
-use Rattle.std.proofs.lemmas.List.Sums.{sum_by-append}
-use Rattle.gh_base.specs.Shapes.{FitsShape}
-use Rattle.gh_script.specs.declared.fault.Why.{Why}
-use Rattle.gh_script.specs.declared.given.Given.{Given}
-use Rattle.gh_script.specs.declared.goroutine.Repeat.{Repeat}
-use Rattle.gh_script.specs.declared.key.Setting.{Setting}
-use Rattle.gh_script.specs.declared.key.Setting.TheVariants.{Procs, Workers, Arena, Globals, Gogc, Minheap}
-use Rattle.gh_script.specs.declared.key.Key.{Key}
+use Rattle.std.proofs.Common.{◌≡◌, ℕ, ◌+◌, ◌-◌, ◌^◌, ◌<◌, ◌≤◌, Bool, true, false, not, cond, eqb, ltb, leb, ◌&&◌, ◌||◌, List, [], ◌∷◌, ◌++◌, length, take, drop, Option, Some, None, Result, Ok, refl, sym, ap, ◌∙◌, subst, arith, inl, inr, ◌⊎◌, unwrap_or, is_some, All, ◌≢◌, sum_by, leb-true, leb-false, ltb-false, ltb-true}
 use Rattle.gh_script.specs.declared.key.Key.TheVariants as keys
-use Rattle.gh_script.specs.declared.statement.Stmt.{Stmt}
-use Rattle.gh_script.specs.Program.{Goroutine, IsPacked, IsStatement, AreStatements, AreNamedApart, IsNamed, statements_in}
-use Rattle.gh_script.specs.Text.{Sentence}
-use Rattle.gh_script.specs.Words.{is_digit, register_of, number_of, digits_value_of, value_from, key_of, is_name}
-use Rattle.gh_script.specs.ShapeText.{are_letters, fields_of, shape_with}
-use Rattle.gh_script.specs.Draft.{Draft, IsSound, given_at, with_given, globals_in, goroutines_begun, Open, IsOpenNamed, IsNewName, AreOpenStatements, has_goroutine, begun, kept, with_statement, with_repeat, written_out, with_closed, goroutine_of, ended, are_too_many, is_too_long}
-use Rattle.gh_script.specs.Grammar.{number_in, register_in, cause_at, statement_of, continued, is_skipped, read_cause, read_key, read_line}
+use Rattle.gh_script.proofs.Vocabulary.{All-append, All-cons, All-drop, All-head, All-nil, All-push, All-take, all_pairs_push, are_letters, are_too_many, Arena, AreNamedApart, AreOpenStatements, AreStatements, begun, bytes_eq, bytes_eq-Decides, cause_at, continued, digits_value_of, Draft, ended, fields_of, FitsShape, Given, given_at, Globals, globals_in, Gogc, Goroutine, goroutine_of, goroutines_begun, has_goroutine, is_digit, is_name, is_skipped, is_too_long, IsNamed, IsNewName, IsOpenNamed, IsPacked, IsSound, IsStatement, kept, Key, key_of, length_push, list_all, list_any, Minheap, nil_from_length, number_in, number_of, Open, option_and_then, option_map, option_to_list, Procs, read_cause, read_key, read_line, register_in, register_of, Repeat, repeat, Sentence, Setting, shape_with, statement_of, statements_in, Stmt, sum_by-append, value_from, Why, with_closed, with_given, with_repeat, with_statement, Workers, written_out}
 use Rattle.gh_script.proofs.Allowed.{allowed, left_false, right_false, not_false, setting_small, load_small, store_small, get_small, set_small, type_fits, type_few, type_of-lt}
 use Rattle.gh_script.proofs.Names.{and_right}
 use Rattle.gh_script.proofs.Repeated.{All-repeat}
@@ -39,11 +16,9 @@ digit_small d n false h = omega arith
 
 register_small : (word : List ℕ) → register_in word < 16
 unfolding register_of
-register_small [] = omega arith
-register_small (r ∷ []) = omega arith
 register_small (r ∷ d ∷ []) = digit_small d (d - 48) (eqb r 114 && is_digit d) (λ h. omega (arith, leb-true d 57 (and_right (leb 48 d) (leb d 57) (and_right (eqb r 114) (is_digit d) h))))
 register_small (r ∷ t ∷ d ∷ []) = digit_small d (10 + (d - 48)) (((eqb r 114 && eqb t 49) && leb 48 d) && leb d 53) (λ h. omega (arith, leb-true d 53 (and_right ((eqb r 114 && eqb t 49) && leb 48 d) (leb d 53) h)))
-register_small (r ∷ t ∷ d ∷ e ∷ more) = omega arith
+register_small _ = omega arith
 
 value_small : (limit v : ℕ) (b : Bool) → 0 < limit → unwrap_or (cond (b && ltb v limit) (Some v) None) 0 < limit
 value_small limit v b pos = go (b && ltb v limit) refl where
