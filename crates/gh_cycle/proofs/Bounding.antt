@@ -126,7 +126,6 @@ module _ (z : Arena) (e : Ever) (h : IsBounded z e) where
   answered : (o : Op) (full : Bool) → IsInRange z o → IsBounded z (ever_after z.shapes e o (cond full answer.Full (answer_of z.shapes e o)))
   answered (op.New g d t) true r = register z e h g d ever.Nil r.0 r.1 (λ n is. absurd (cc))
   answered (op.New g d t) false r = news g d t r.0 r.1
-  answered (op.Load g d b k) true r = h
   answered (op.Load g d b k) false r = loads g d (e.register g b) k r.0 r.1
   answered (op.Store g b k v) true r = full-store (e.register g b) where
     full-store : (x : EverValue) → IsBounded z (stores_value e x k (e.register g v) answer.Full)
@@ -134,9 +133,7 @@ module _ (z : Arena) (e : Ever) (h : IsBounded z e) where
     full-store (ever.Int i) = h
     full-store (ever.Ref m) = h
   answered (op.Store g b k v) false r = stores (e.register g b) k (e.register g v) (λ n is. (h.registers g v n is).2)
-  answered (op.GetGlobal g d k) true r = h
   answered (op.GetGlobal g d k) false r = takes g d (e.global k) r.0 r.1 (λ n is. (h.globals k n is).1)
-  answered (op.SetGlobal g k v) true r = h
   answered (op.SetGlobal g k v) false r = sets k (e.register g v) r.1 (λ n is. (h.registers g v n is).2)
   answered (op.Int g d i) full r = register z e h g d (ever.Int i) r.0 r.1 (λ n is. absurd (cc))
   answered (op.Move g d c) full r = register z e h g d (e.register g c) r.0 r.1 (λ n is. (h.registers g c n is).2)
@@ -145,6 +142,7 @@ module _ (z : Arena) (e : Ever) (h : IsBounded z e) where
   answered op.Poll full r = h
   answered (op.End g) full r = end z e h g
   answered op.Leave full r = h
+  answered _ true r = h
 
 pub bounds-last : BoundsLast
 bounds-last = record {

@@ -1,3 +1,4 @@
+mod Vocabulary
 mod Beginning
 mod Bounding
 pub mod Endings

@@ -9,7 +9,7 @@ use Rattle.gh_base.specs.declared.shape.Shape.{Shape}
 use Rattle.gh_base.specs.Shapes.{FitsShape, ShapesFit, is_pointer, no_shape, shape_at}
 use Rattle.gh_model.specs.declared.EverValue.TheVariants as ever
 use Rattle.gh_model.specs.Ever.{from_field, from_global, from_register}
-use Rattle.gh_marks.specs.Colours.{Black, Buffered, Colour, IsShaded, Pending, Placing, Taken, White, mark_of}
+use Rattle.gh_marks.specs.Colours.{Colour, IsShaded, Placing, White, mark_of}
 use Rattle.gh_marks.specs.Ends.{Reached}
 use Rattle.gh_marks.specs.Ends.{from_field as path_field, from_global as path_global, from_register as path_register}
 use Rattle.gh_marks.specs.Moves.{SameExtent}
@@ -107,10 +107,7 @@ reached-marked-beside made z h s g fit b c each n r =
 shaded-of : (k : Colour) → 1 ≡ mark_of k → ((a : ℕ) → k ≢ Placing a) → IsShaded k
 shaded-of White e none = absurd (omega (arith, e))
 shaded-of (Placing a) e none = absurd (none a refl)
-shaded-of (Pending a) e none = tt
-shaded-of (Buffered i j) e none = tt
-shaded-of (Taken a) e none = tt
-shaded-of Black e none = tt
+shaded-of _ e none = tt
 
 pub marked-reached : TheMarkedAreReached
 marked-reached z h s c g none o marked = (c.since o).0 (g.objects.shaded o (shaded-of (s.colour o) (sym marked ∙ g.marks o) (none o)))

@@ -53,7 +53,6 @@ module _ (k : Known) (e : CycleEnd) (a : ℕ) (v : Sweep) (seat : a < seats_of e
   adds : (c : Cell) (more : ℕ) → IsTold (v.pend a) (ask.Add c more) → Told (ask.Add c more)
   adds cell.Touch more t = beside (ask.Add cell.Touch more) t refl
   adds cell.Phase more t = beside (ask.Add cell.Phase more) t refl
-  adds cell.Gen more t = absurd t
   adds cell.Begun more t = beside (ask.Add cell.Begun more) t refl
   adds cell.Swept more t = beside (ask.Add cell.Swept more) t refl
   adds cell.Lock more t = beside (ask.Add cell.Lock more) t refl
@@ -64,11 +63,6 @@ module _ (k : Known) (e : CycleEnd) (a : ℕ) (v : Sweep) (seat : a < seats_of e
   adds cell.Trigger more t = beside (ask.Add cell.Trigger more) t refl
   adds cell.Work more t = beside (ask.Add cell.Work more) t refl
   adds cell.Slack more t = beside (ask.Add cell.Slack more) t refl
-  adds cell.Tally more t = absurd t
-  adds cell.Live more t = absurd t
-  adds (cell.Page i) more t = absurd t
-  adds (cell.Alloc i) more t = absurd t
-  adds (cell.Mark i) more t = absurd t
   adds (cell.Bitmap i) more t = beside (ask.Add (cell.Bitmap i) more) t refl
   adds (cell.Birth i) more t = beside (ask.Add (cell.Birth i) more) t refl
   adds (cell.Field i) more t = beside (ask.Add (cell.Field i) more) t refl
@@ -77,6 +71,7 @@ module _ (k : Known) (e : CycleEnd) (a : ℕ) (v : Sweep) (seat : a < seats_of e
   adds (cell.Entry i j) more t = beside (ask.Add (cell.Entry i j) more) t refl
   adds (cell.Ack i) more t = beside (ask.Add (cell.Ack i) more) t refl
   adds (cell.Scanned i) more t = beside (ask.Add (cell.Scanned i) more) t refl
+  adds _ more t = absurd t
 
   told : (step : Ask) → IsTold (v.pend a) step → Told step
   told (ask.Load c) t = beside (ask.Load c) t refl

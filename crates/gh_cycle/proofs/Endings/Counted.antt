@@ -80,16 +80,6 @@ module _ (z : Arena) (a : ℕ) (h : Heap) where
   stays (heap.Quiet step) is may = quiet step may
   stays (heap.Takes step g d value) is may = let q = quiet step may.0 in record { alloc = q.alloc; birth = q.birth; made = refl; types = refl; place = refl }
   stays (heap.Ends step g) is may = let q = quiet step may.0 in record { alloc = q.alloc; birth = q.birth; made = refl; types = refl; place = refl }
-  stays heap.TakeLock is may = record { alloc = λ i. refl; birth = λ x set. refl; made = refl; types = refl; place = refl }
-  stays heap.LeaveLock is may = record { alloc = λ i. refl; birth = λ x set. refl; made = refl; types = refl; place = refl }
-  stays (heap.Refuse g d) is may = record { alloc = λ i. refl; birth = λ x set. refl; made = refl; types = refl; place = refl }
-  stays (heap.LayBody y) is may = record { alloc = λ i. refl; birth = λ x set. refl; made = refl; types = refl; place = refl }
-  stays (heap.LayHead y) is may = record { alloc = λ i. refl; birth = λ x set. refl; made = refl; types = refl; place = refl }
-  stays (heap.FreeBody y) is may = record { alloc = λ i. refl; birth = λ x set. refl; made = refl; types = refl; place = refl }
-  stays (heap.FreeHead y) is may = record { alloc = λ i. refl; birth = λ x set. refl; made = refl; types = refl; place = refl }
-  stays (heap.Own p g) is may = record { alloc = λ i. refl; birth = λ x set. refl; made = refl; types = refl; place = refl }
-  stays (heap.Disown p g) is may = record { alloc = λ i. refl; birth = λ x set. refl; made = refl; types = refl; place = refl }
-  stays (heap.Publish p g) is may = record { alloc = λ i. refl; birth = λ x set. refl; made = refl; types = refl; place = refl }
   stays (heap.ClearField at size i) is may = record { alloc = λ i. refl; birth = λ x set. refl; made = refl; types = refl; place = refl }
   stays (heap.SetBirth at size n) is may = record { alloc = λ i. refl; birth = elsewhere; made = refl; types = refl; place = refl } where
     elsewhere : (x : ℕ) → row_bit v.alloc x ≡ 1 → with_word v.birth at (birth_word n) x ≡ v.birth x
@@ -101,6 +91,7 @@ module _ (z : Arena) (a : ℕ) (h : Heap) where
   stays (heap.Make at g d t) is may = absurd is
   stays (heap.Write n i value word) is may = record { alloc = λ i. refl; birth = λ x set. refl; made = refl; types = refl; place = refl }
   stays (heap.WriteGlobal i value word) is may = record { alloc = λ i. refl; birth = λ x set. refl; made = refl; types = refl; place = refl }
+  stays _ is may = record { alloc = λ i. refl; birth = λ x set. refl; made = refl; types = refl; place = refl }
 
   module _ (k : Known) (m : heap.Move) (good : Good z v) (may : heap.May z a v m) (is : MakesNothing m) where
     abbrev then : View

@@ -3,7 +3,7 @@ use Rattle.std.proofs.Common.{◌≡◌, ◌≢◌, ℕ, ◌+◌, ◌-◌, ◌*�
 use Rattle.std.specs.Int.{bit_at}
 use Rattle.std.proofs.lemmas.Bool.Decides.{eqb_tells}
 use Rattle.std.proofs.lemmas.Nat.Bits.{bit_at-lt, bit_at-zero, same_from_bits_below}
-use Rattle.gh_marks.specs.Colours.{Black, Buffered, Colour, IsShaded, mark_of, Pending, Taken, White}
+use Rattle.gh_marks.specs.Colours.{Colour, IsShaded, mark_of, White}
 use Rattle.gh_cycle.specs.Ending.{bytes_at, bytes_at_head, end_of, IsOver, opening_end, SlotsAreRead}
 use Rattle.gh_cycle.specs.Vocabulary.{alloc_words, Arena, AreWhole, birth_word, Body, Cycle, FitsHead, Free, Good, HasEnded, Head, Heap, InSlot, InSpan, is_own_class, IsMade, IsSizeClass, Large, Layout, mark_words, Marking, Name, number_of, opening_words, owner_at, owner_in, page_of, page_words, PageWord, placed_in, Placing, Row, row_bit, RowsAreWritten, size_for, SizeClass, slot_bytes_of, slot_of, slot_size, Small, SpanHead, SpansFit, TheHeapIsApart, View, view, Words}
 use Rattle.gh_cycle.proofs.Endings.Packed.{no_head}
@@ -91,10 +91,7 @@ module _ (k : Known) (z : Cycle) (h : Heap) (s : Marking) (o : IsOver z h s) whe
     go : (c : Colour) → s.colour x ≡ c → mark_of c ≡ 1 → IsShaded c
     go White e m = absurd (zero_one 0 refl m)
     go (Placing a) e m = absurd (o.none_placing x a e)
-    go (Pending a) e m = tt
-    go (Buffered b j) e m = tt
-    go (Taken a) e m = tt
-    go Black e m = tt
+    go _ e m = tt
 
   stands : (x : ℕ) → row_bit (mark_words h.words) x ≡ 1 → row_bit (alloc_words h.words) x ≡ 1
   stands x set = ap (λ (w : Words). row_bit (alloc_words w) x) (sym o.of_heap.words) ∙ o.marking.objects.placed x (shaded_since x set)

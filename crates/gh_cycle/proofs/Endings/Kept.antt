@@ -12,7 +12,7 @@ use Rattle.gh_sweep.specs.Shared as spans
 use Rattle.gh_sweep.specs.Shared.{HeadsGood}
 use Rattle.gh_sweep.specs.Sweepers.{move_at}
 use Rattle.gh_sweep.specs.declared.sweep.SweepStage.{SweepStage}
-use Rattle.gh_sweep.specs.declared.sweep.SweepStage.TheVariants.{AddHeap, AddLive, AddTally, Begin, ClearBits, ClearMarks, Ended, Finish, LoadMarks}
+use Rattle.gh_sweep.specs.declared.sweep.SweepStage.TheVariants.{Begin}
 use Rattle.gh_cycle.specs.Ending.{ArePacked, CyclesEnd, end_of, IsOver, IsStill, with_next_generation}
 use Rattle.gh_cycle.specs.Sweeping.{AreSwept, IsCalm, IsOfSweep, numbered, renumbered, SweepsBeside, SweepsMoveSo, with_words}
 use Rattle.gh_cycle.specs.Vocabulary.{alloc_words, Arena, at_end, Body, By, Cycle, CycleEnd, EveryListKeeps, Far, FitsHead, Free, generation_of, Good, Head, head_word, Heap, IsMarked, mark_words, Marking, Name, PackedWordsAreReadBack, page_of, page_words, PageWord, Reach, Row, row_bit, RowsAreWritten, SaysFar, SpanHead, Sweep, SweepGood, Sweeping, View, view, with_word, Words}
@@ -192,12 +192,7 @@ module _ (k : Known) (z : Arena) (e : CycleEnd) (h : Heap) (v : Sweep) (b : Swee
       since = refl;
       slots = refl;
     })
-    moved_beside (sweep.Passes p head owner) is may = absurd is
-    moved_beside (sweep.Lays p head) is may = absurd is
-    moved_beside (sweep.Frees p head) is may = absurd is
-    moved_beside (sweep.Turns p word) is may = absurd is
-    moved_beside (sweep.Places x) is may = absurd is
-    moved_beside sweep.Counts is may = absurd is
+    moved_beside _ is may = absurd is
 
   -- The end.
 
@@ -250,14 +245,7 @@ move_is m Begin found = go (wrote m found) where
   go : (b : Bool) → IsOfSweep (cond b (sweep.Starts m.page m.head) (sweep.Quiet (Load (cell.Page m.page))))
   go true = tt
   go false = tt
-move_is m (LoadMarks i) found = tt
-move_is m (ClearBits i marks) found = tt
-move_is m (ClearMarks i) found = tt
-move_is m AddTally found = tt
-move_is m AddLive found = tt
-move_is m AddHeap found = tt
-move_is m Finish found = tt
-move_is m Ended found = tt
+move_is m _ found = tt
 
 pub sweeps_move_so : SweepsMoveSo
 sweeps_move_so m found = move_is m m.stage found

@@ -43,9 +43,6 @@ module _ (packed : PackedWordsAreReadBack) where
   packed_after z a h (heap.Quiet step) may old = subst ArePacked (sym (ap (λ (v : View). v.page) (quiet_view h step may))) old
   packed_after z a h (heap.Takes step g d value) may old = subst ArePacked (sym (ap (λ (v : View). v.page) (quiet_view h step may.0))) old
   packed_after z a h (heap.Ends step g) may old = subst ArePacked (sym (ap (λ (v : View). v.page) (quiet_view h step may.0))) old
-  packed_after z a h heap.TakeLock may old = old
-  packed_after z a h heap.LeaveLock may old = old
-  packed_after z a h (heap.Refuse g d) may old = old
   packed_after z a h (heap.LayBody y) may old = written (page_words h.words) (y.first + y.next) (body_word (body_at y.head y.next)) (body_written y may.0.word may.0.laid.some may.1) old
   packed_after z a h (heap.LayHead y) may old = written (page_words h.words) y.first (head_word y.head) (head_written y.head may.0.word) old
   packed_after z a h (heap.FreeBody y) may old = written (page_words h.words) (y.first + y.next) 0 (λ g e. absurd (no_head g e)) old
@@ -53,12 +50,7 @@ module _ (packed : PackedWordsAreReadBack) where
   packed_after z a h (heap.Own p k) may old = written (page_words h.words) p (head_word (owned_by (a + 1) k)) (head_written (owned_by (a + 1) k) (owned (a + 1) k may.2 (old p k may.0.head).fits)) old
   packed_after z a h (heap.Disown p k) may old = written (page_words h.words) p (head_word (owned_by 0 k)) (head_written (owned_by 0 k) (owned 0 k (omega arith) (old p k may.0.head).fits)) old
   packed_after z a h (heap.Publish p k) may old = written (page_words h.words) p (head_word (owned_by 0 k)) (head_written (owned_by 0 k) (owned 0 k (omega arith) (old p k may.1).fits)) old
-  packed_after z a h (heap.ClearField at size k) may old = old
-  packed_after z a h (heap.SetBirth at size n) may old = old
-  packed_after z a h (heap.SetBits at size i word) may old = old
-  packed_after z a h (heap.Make at g d t) may old = old
-  packed_after z a h (heap.Write n k value word) may old = old
-  packed_after z a h (heap.WriteGlobal k value word) may old = old
+  packed_after z a h _ may old = old
 
 pub pages_stay : PackedWordsAreReadBack → PagesStayPacked
 pages_stay packed = record {
@@ -70,32 +62,8 @@ pages_stay packed = record {
 -- Mark words.
 
 put_aside : (s : Marking) (c : Cell) (v i : ℕ) → marks.IsAside s c → put s.words c v (cell.Mark i) ≡ s.words (cell.Mark i)
-put_aside s cell.Touch v i q = refl
-put_aside s cell.Phase v i q = refl
-put_aside s cell.Gen v i q = refl
-put_aside s cell.Begun v i q = refl
-put_aside s cell.Swept v i q = refl
-put_aside s cell.Lock v i q = refl
-put_aside s cell.Want v i q = refl
-put_aside s cell.Bank v i q = refl
-put_aside s cell.Gcur v i q = refl
-put_aside s cell.Heap v i q = refl
-put_aside s cell.Trigger v i q = refl
-put_aside s cell.Work v i q = refl
-put_aside s cell.Slack v i q = refl
-put_aside s cell.Tally v i q = refl
-put_aside s cell.Live v i q = refl
-put_aside s (cell.Page p) v i q = refl
-put_aside s (cell.Alloc p) v i q = refl
 put_aside s (cell.Mark p) v i q = absurd q
-put_aside s (cell.Bitmap p) v i q = refl
-put_aside s (cell.Birth p) v i q = refl
-put_aside s (cell.Field p) v i q = refl
-put_aside s (cell.Global p) v i q = refl
-put_aside s (cell.Buffer p) v i q = refl
-put_aside s (cell.Entry p j) v i q = refl
-put_aside s (cell.Ack p) v i q = refl
-put_aside s (cell.Scanned p) v i q = refl
+put_aside s _ v i q = refl
 
 quiet_marks : (s : Marking) (step : Ask) (i : ℕ) → marks.IsQuiet s step → effect s.words step (cell.Mark i) ≡ s.words (cell.Mark i)
 quiet_marks s (ask.Load c) i q = refl
@@ -122,22 +90,8 @@ words_after z a s (marks.Quiet step) may old = λ i. subst (λ (w : ℕ). w < 2 
 words_after z a s (marks.Shade o) may old = set_mark s.words o old
 words_after z a s (marks.ShadeFlat o) may old = set_mark s.words o old
 words_after z a s (marks.ShadeAgain o) may old = set_mark s.words o old
-words_after z a s (marks.TakeBuffer b) may old = old
-words_after z a s (marks.GiveBuffer b) may old = old
-words_after z a s (marks.Enter b o) may old = old
-words_after z a s (marks.TakeEntry b o) may old = old
-words_after z a s (marks.Blacken o) may old = old
-words_after z a s (marks.PutField x value) may old = old
-words_after z a s (marks.PutGlobal i value) may old = old
-words_after z a s (marks.ClaimGlobal i) may old = old
-words_after z a s (marks.PassGlobals i) may old = old
-words_after z a s (marks.ReadGlobal i) may old = old
-words_after z a s (marks.ScanGlobal i value) may old = old
-words_after z a s (marks.SetRegister g d value) may old = old
-words_after z a s (marks.ScanStack g) may old = old
-words_after z a s (marks.EndStack g) may old = old
 words_after z a s (marks.Reserve o) may old = set_mark s.words o old
-words_after z a s (marks.Place o size pointer noscan) may old = old
+words_after z a s _ may old = old
 
 pub marks_stay : MarksStayWords
 marks_stay = record { opening = λ trigger i. omega arith; moves = words_after }

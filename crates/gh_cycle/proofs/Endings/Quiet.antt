@@ -13,32 +13,15 @@ use Rattle.gh_heap.specs.Rights.{Shared as Heap}
 use Rattle.gh_cycle.specs.Sweeping.{with_words}
 
 put_aside : (h : Heap) (c : Cell) (v : ℕ) → IsAside c → view (with_words h (put h.words c v)) ≡ view h
-put_aside h cell.Touch v q = refl
-put_aside h cell.Phase v q = refl
 put_aside h cell.Gen v q = absurd q
-put_aside h cell.Begun v q = refl
-put_aside h cell.Swept v q = refl
 put_aside h cell.Lock v q = absurd q
-put_aside h cell.Want v q = refl
-put_aside h cell.Bank v q = refl
-put_aside h cell.Gcur v q = refl
-put_aside h cell.Heap v q = refl
-put_aside h cell.Trigger v q = refl
-put_aside h cell.Work v q = refl
-put_aside h cell.Slack v q = refl
-put_aside h cell.Tally v q = refl
-put_aside h cell.Live v q = refl
 put_aside h (cell.Page i) v q = absurd q
 put_aside h (cell.Alloc i) v q = absurd q
-put_aside h (cell.Mark i) v q = refl
 put_aside h (cell.Bitmap i) v q = absurd q
 put_aside h (cell.Birth i) v q = absurd q
 put_aside h (cell.Field i) v q = absurd q
 put_aside h (cell.Global i) v q = absurd q
-put_aside h (cell.Buffer i) v q = refl
-put_aside h (cell.Entry i j) v q = refl
-put_aside h (cell.Ack i) v q = refl
-put_aside h (cell.Scanned i) v q = refl
+put_aside h _ v q = refl
 
 pub quiet_view : (h : Heap) (step : Ask) → IsQuiet step → view (with_words h (effect h.words step)) ≡ view h
 quiet_view h (ask.Load c) q = refl

@@ -1,18 +1,11 @@
 -- Each step of a processor beside marking, by what it does. The move over the heap is not told: where an object is made or a value written, a move that is told leaves the same words, values and places; and where a step leaves objects alone, so does every move by which it may come.
-use Rattle.std.proofs.Common.{◌≡◌, ℕ, ◌<◌, refl, sym, ap, subst, ◌∙◌, inl, inr, arith, None}
-use Rattle.std.proofs.lemmas.Bool.{eq-eqb}
-use Rattle.std.proofs.lemmas.Bool.Decides.{eqb_tells}
+use Rattle.std.proofs.Common.{◌≡◌, ℕ, ◌<◌, refl, sym, ap, subst, ◌∙◌, inl, inr, arith, None, eq-eqb}
 use Rattle.gh_heap.specs.Laws.{name_made}
 use Rattle.gh_heap.specs.Moves as heap
 use Rattle.gh_heap.specs.Spans.{IsSlotOf}
-use Rattle.gh_marks.specs.Seats.{Hands, InHand}
-use Rattle.gh_cycle.specs.Beside.{ClaimsSlot, GoesBeside, hand_after, IsBeside, IsOfCycle, MeetsMarking}
 use Rattle.gh_cycle.specs.Deeds as deed
 use Rattle.gh_cycle.specs.Deeds.{ComesBy, Deed, DeedsGoBeside, hand_behind, MeetsByDeed, StepsBeside}
-use Rattle.gh_cycle.specs.Known.{Known}
-use Rattle.gh_cycle.specs.Opening.{reference_of}
-use Rattle.gh_cycle.specs.Sweeping.{with_words}
-use Rattle.gh_cycle.specs.Vocabulary.{alloc_words, Arena, Ask, birth_words, Cycle, effect, Ever, Good, Heap, IsMade, Marking, Name, owner_at, page_words, Place, Placed, Reach, row_bit, view, View, Words}
+use Rattle.gh_cycle.proofs.Vocabulary.{alloc_words, Arena, Ask, birth_words, ClaimsSlot, Cycle, effect, eqb_tells, Ever, GoesBeside, Good, hand_after, Hands, Heap, InHand, IsBeside, IsMade, IsOfCycle, Known, Marking, MeetsMarking, Name, owner_at, page_words, Place, Placed, Reach, reference_of, row_bit, View, view, with_words, Words}
 use Rattle.gh_cycle.proofs.Endings.Ended.{zero_one}
 use Rattle.gh_cycle.proofs.Endings.Quiet.{quiet_view}
 use Rattle.gh_cycle.proofs.Going.Lasting.{beside-lasts}

@@ -1,22 +1,12 @@
 -- An object is made beside marking: it is black from the first, since its slot was marked before and its pointer fields are clear.
-use Rattle.std.proofs.Common.{◌≡◌, ◌≢◌, ℕ, ◌+◌, ◌<◌, ◌⊎◌, Bool, true, false, cond, refl, sym, ap, subst, ◌∙◌, inl, inr, arith}
-use Rattle.std.proofs.lemmas.Bool.{eq-eqb}
-use Rattle.std.proofs.lemmas.Bool.Decides.{eqb_tells}
+use Rattle.std.proofs.Common.{◌≡◌, ◌≢◌, ℕ, ◌+◌, ◌<◌, ◌⊎◌, Bool, true, false, cond, refl, sym, ap, subst, ◌∙◌, inl, inr, arith, eq-eqb}
 use Rattle.gh_base.specs.declared.shape.Shape.{Shape}
 use Rattle.gh_base.specs.Shapes.{is_pointer, shape_at}
 use Rattle.gh_model.specs.declared.EverValue.TheVariants as ever
-use Rattle.gh_model.specs.Ever.{field_count, next_name, same_name, with_object}
 use Rattle.gh_heap.specs.Moves as heap
-use Rattle.gh_heap.specs.Moves.{placed_at, update}
-use Rattle.gh_marks.specs.Colours.{Black, mark_of}
 use Rattle.gh_marks.specs.Moves as marks
-use Rattle.gh_marks.specs.Seats.{Hands, InHand}
-use Rattle.gh_cycle.specs.Beside.{ClaimsSlot, GoesBeside, hand_after, IsOfCycle}
-use Rattle.gh_cycle.specs.Marked.{RegistersFit}
-use Rattle.gh_cycle.specs.Opening.{reference_of}
-use Rattle.gh_cycle.specs.Vocabulary.{alloc_words, Cycle, EverValue, Good, Heap, IsMade, IsMarked, mark_words, Marking, Name, Placed, Placing, points, Reach, row_bit, shape_for, size_for, view}
+use Rattle.gh_cycle.proofs.Vocabulary.{alloc_words, Black, ClaimsSlot, Cycle, eqb_tells, EverValue, field_count, GoesBeside, Good, hand_after, Hands, Heap, InHand, IsMade, IsMarked, IsOfCycle, Known, mark_of, mark_words, Marking, Name, next_name, Placed, placed_at, Placing, points, Reach, reference_of, RegistersFit, row_bit, same_name, shape_for, size_for, update, view, with_object}
 use Rattle.gh_cycle.proofs.Reaching.{name-itself, name-tells}
-use Rattle.gh_cycle.specs.Known.{Known}
 use Rattle.gh_cycle.proofs.Going.Objects.{here}
 use Rattle.gh_cycle.proofs.Going.Plain.{fills-still, there, Together}
 use Rattle.gh_cycle.proofs.Going.Steps.{set-fits}

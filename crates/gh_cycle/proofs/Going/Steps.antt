@@ -1,24 +1,15 @@
 -- Steps beside marking that no right guards, those by which a register takes a value, and the end of a goroutine.
 use Rattle.std.proofs.Common.{◌≡◌, ◌≢◌, ℕ, ◌<◌, Bool, true, false, cond, eqb, refl, sym, ap, subst, ◌∙◌, inl, inr, arith}
-use Rattle.std.proofs.lemmas.Bool.Decides.{eqb_tells, nat_tests}
 use Rattle.gh_base.specs.declared.cell.Ask.TheVariants as ask
 use Rattle.gh_base.specs.declared.cell.Cell.TheVariants as cell
 use Rattle.gh_base.specs.declared.pack.TheConstants.{END}
 use Rattle.gh_base.specs.Rows.{Row}
 use Rattle.gh_model.specs.declared.EverValue.TheVariants as ever
-use Rattle.gh_model.specs.Ever.{with_end, with_register}
 use Rattle.gh_heap.specs.Moves as heap
-use Rattle.gh_heap.specs.Moves.{IsReached, Runs, update, update_at}
-use Rattle.gh_marks.specs.Colours.{IsSafe, rows}
 use Rattle.gh_marks.specs.Moves as marks
-use Rattle.gh_cycle.specs.Beside.{ClaimsSlot, FillsNone, GoesBeside, MeetsMarking}
-use Rattle.gh_cycle.specs.Marked.{RegistersFit}
-use Rattle.gh_cycle.specs.Opening.{reference_of}
-use Rattle.gh_cycle.specs.Sweeping.{with_words}
-use Rattle.gh_cycle.specs.Vocabulary.{alloc_words, Ask, birth_words, Cycle, effect, Ever, EverValue, Heap, IsSince, Marking, Name, Place, Placed, Placing, view, View}
+use Rattle.gh_cycle.proofs.Vocabulary.{alloc_words, Ask, birth_words, ClaimsSlot, Cycle, effect, eqb_tells, Ever, EverValue, FillsNone, GoesBeside, Heap, IsReached, IsSafe, IsSince, Known, Marking, MeetsMarking, Name, nat_tests, Place, Placed, Placing, reference_of, RegistersFit, rows, Runs, update, update_at, View, view, with_end, with_register, with_words}
 use Rattle.gh_cycle.proofs.Beginning.{names-reference}
 use Rattle.gh_cycle.proofs.Endings.Quiet.{quiet_view}
-use Rattle.gh_cycle.specs.Known.{Known}
 use Rattle.gh_cycle.proofs.Going.Objects.{here}
 use Rattle.gh_cycle.proofs.Going.Plain.{along-quiet, goes-along, goes-quiet, GoesAlong, IsPlain, stacks-stay, there, Together}
 
