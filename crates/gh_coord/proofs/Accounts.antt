@@ -25,13 +25,9 @@ open_at opens.ClearWant a = a
 open_at opens.ClearGcur a = record a { want = suc a.want }
 open_at opens.ClearTally a = record a { want = suc a.want; gcur = suc a.gcur }
 open_at opens.ClearLive a = record a { want = suc a.want; gcur = suc a.gcur; tally = suc a.tally }
-open_at opens.StoreTrigger a = record a { want = suc a.want; gcur = suc a.gcur; tally = suc a.tally; live = suc a.live }
-open_at opens.LoadHeap a = record a { want = suc a.want; gcur = suc a.gcur; tally = suc a.tally; live = suc a.live }
-open_at opens.StoreWork a = record a { want = suc a.want; gcur = suc a.gcur; tally = suc a.tally; live = suc a.live }
-open_at opens.StoreSlack a = record a { want = suc a.want; gcur = suc a.gcur; tally = suc a.tally; live = suc a.live }
-open_at opens.StoreBegun a = record a { want = suc a.want; gcur = suc a.gcur; tally = suc a.tally; live = suc a.live }
 open_at opens.StorePhase a = marked a
 open_at opens.Ended a = marked a
+open_at _ a = record a { want = suc a.want; gcur = suc a.gcur; tally = suc a.tally; live = suc a.live }
 
 abbrev pub close_at : CloseStage → Account → Account
 close_at close.Ended a = ended a

@@ -1,23 +1,19 @@
 -- The second stop of a cycle and its check, step by step.
-use Rattle.std.proofs.Common.{◌≡◌, ℕ, zero, suc, ◌+◌, ◌<◌, ◌≤◌, Bool, true, false, cond, ltb, ◌==◌, Option, Some, None, refl, sym, ap, subst, ◌∙◌, arith}
-use Rattle.std.proofs.lemmas.Bool.{ltb-true, ltb-false}
+use Rattle.std.proofs.Common.{◌≡◌, ℕ, zero, suc, ◌+◌, ◌<◌, ◌≤◌, Bool, true, false, cond, ltb, ◌==◌, Option, Some, None, refl, sym, ap, subst, ◌∙◌, arith, ltb-true, ltb-false}
 use Rattle.gh_base.specs.declared.cell.Cell.TheVariants as cell
 use Rattle.gh_base.specs.declared.pack.Phase.TheVariants as phase
-use Rattle.gh_base.specs.Packing.{phase_word}
 use Rattle.gh_coord.specs.declared.close.CloseStage.TheVariants as c
 use Rattle.gh_coord.specs.declared.stop.StopStage.TheVariants as p
 use Rattle.gh_coord.specs.declared.watch.WatchStage.TheVariants as w
 use Rattle.gh_coord.specs.Checks.{FindsAsWanted, HasAcknowledged, HaveAcknowledged, HaveFound, LoadsOne, OnLoad, state}
 use Rattle.gh_coord.specs.Closing as close
 use Rattle.gh_coord.specs.Counting as count
-use Rattle.gh_coord.specs.Ends.{by_ack, by_last, by_out, by_want}
-use Rattle.gh_coord.specs.Listing.{after_check, after_close, after_count, after_open, after_stop, after_stop_again, after_sweep, after_tell, after_watch, asks, asks_at, at_stage, Coordinating, counted, goes_at}
 use Rattle.gh_coord.specs.Opening as opens
 use Rattle.gh_coord.specs.Stopping as stop
 use Rattle.gh_coord.specs.SweepingAll as all
 use Rattle.gh_coord.specs.Telling as tell
 use Rattle.gh_coord.specs.Watching as watch
-use Rattle.gh_coord.specs.Vocabulary.{All, Ask, Check, Close, CloseStage, CoordStage, Count, Done, GONE, Layout, Load, LoadAck, LoadWant, MarkOn, NotYet, Open, Stop, StopAgain, StopStage, Store, Sweep, Tell, Watch, Watched, WatchStage}
+use Rattle.gh_coord.proofs.Vocabulary.{after_check, after_close, after_count, after_open, after_stop, after_stop_again, after_sweep, after_tell, after_watch, All, Ask, asks, asks_at, at_stage, by_ack, by_last, by_out, by_want, Check, Close, CloseStage, Coordinating, CoordStage, Count, counted, Done, goes_at, GONE, Layout, Load, LoadAck, LoadWant, MarkOn, NotYet, Open, phase_word, Stop, StopAgain, StopStage, Store, Sweep, Tell, Watch, Watched, WatchStage}
 use Rattle.gh_coord.proofs.Quiet.{IsPlain, open_at, stop_at, sweep_at, tell_at, watch_at}
 use Rattle.gh_coord.proofs.Stepping.{same_ask}
 
@@ -124,10 +120,8 @@ module _ (l : Layout) (seat gogc minheap room : ℕ) (found : ℕ → ℕ) where
     watch_step x (Some NotYet) = record { layout_is = here; knows = tt }
 
     close_step : (cl : close.Closing) (stage : CloseStage) (v : ℕ) → cl.stage ≡ stage → Has (suc n) (after_close (at_stage s (Close (close.goes_at cl stage v))) (close.given (close.goes_at cl stage v)))
-    close_step cl c.LoadBank v e = record { layout_is = here; knows = tt }
-    close_step cl c.ClearBank v e = record { layout_is = here; knows = tt }
-    close_step cl c.StoreGen v e = record { layout_is = here; knows = tt }
     close_step cl c.Ended v e = subst (λ (stage : CloseStage). Has (suc n) (after_close (at_stage s (Close cl)) (close.given_at cl stage))) (sym e) (record { layout_is = here; knows = tt })
+    close_step cl _ v e = record { layout_is = here; knows = tt }
 
     -- the second stop
     module _ (st : stop.Stopping) (st_in : st.layout ≡ l) (numbered : st.stops ≡ s.stops) where
@@ -227,27 +221,22 @@ module _ (l : Layout) (seat gogc minheap room : ℕ) (found : ℕ → ℕ) where
 
     close_load : (n : ℕ) (s : Coordinating) (cl : close.Closing) (stage : CloseStage) → CloseKnows s.stops s.begun n stage → On s n (close.asks_at cl stage)
     close_load n s cl c.LoadBank k = k
-    close_load n s cl c.ClearBank k = tt
-    close_load n s cl c.StoreGen k = tt
-    close_load n s cl c.Ended k = tt
+    close_load n s cl _ k = tt
 
     plain_on : (n : ℕ) (s : Coordinating) (stores : Bool) (ask : Ask) → IsPlain stores ask → On s n ask
     plain_on n s stores ask p = p.loads (Found s.stops s.begun n (watch.words_of l)) (tally s.generation n)
 
     checked_at : (n : ℕ) (s : Coordinating) (stage : CoordStage) → Knows s.stops s.begun n stage → ((co : count.Counting) → stage ≡ Count co → On s n (count.asks co)) → On s n (asks_at s stage)
-    checked_at n s (LoadAck i) k counts = tt
-    checked_at n s LoadWant k counts = tt
     checked_at n s (Stop st) k counts = plain_on n s _ _ (stop_at st).plain
     checked_at n s (Open op) k counts = plain_on n s _ _ (open_at op op.stage)
     checked_at n s (Watch x) k counts = plain_on n s _ _ (watch_at x).quiet.plain
     checked_at n s (StopAgain st) k counts = plain_on n s _ _ (stop_at st).plain
     checked_at n s (Check x) k counts = plain_on n s _ _ (watch_at x).quiet.plain
-    checked_at n s MarkOn k counts = tt
     checked_at n s (Close cl) k counts = close_load n s cl cl.stage k
     checked_at n s (Sweep sw) k counts = plain_on n s _ _ (sweep_at sw).quiet.plain
     checked_at n s (Count co) k counts = counts co refl
     checked_at n s (Tell te) k counts = plain_on n s _ _ (tell_at te te.stage)
-    checked_at n s Done k counts = tt
+    checked_at n s _ k counts = tt
 
     pub is_checked : (n : ℕ) → ((co : count.Counting) → (now n).stage ≡ Count co → On (now n) n (count.asks co)) → On (now n) n (asks (now n))
     is_checked n counts = checked_at n (now n) (now n).stage (has n).knows counts

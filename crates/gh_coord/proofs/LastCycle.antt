@@ -1,26 +1,19 @@
 -- The last cycle is begun once each processor was found gone: by the coordinator's stages.
-use Rattle.std.proofs.Common.{◌≡◌, ◌≢◌, ℕ, ◌+◌, ◌<◌, inl, inr, Bool, true, false, cond, ltb, ◌==◌, refl, sym, ap, subst, ◌∙◌, arith}
-use Rattle.std.specs.Prelude.{◌↔◌}
-use Rattle.std.proofs.lemmas.Bool.Decides.{nat_tests}
+use Rattle.std.proofs.Common.{◌≡◌, ◌≢◌, ℕ, ◌+◌, ◌<◌, inl, inr, Bool, true, false, cond, ltb, ◌==◌, refl, sym, ap, subst, ◌∙◌, arith, ◌↔◌}
 use Rattle.gh_base.specs.declared.cell.Cell.TheVariants as cell
 use Rattle.gh_phase.specs.declared.view.RunPhase.{RunPhase}
 use Rattle.gh_phase.specs.declared.view.RunPhase.TheVariants as run
-use Rattle.gh_phase.specs.Handshake.{last_of, Post, Stopped}
 use Rattle.gh_coord.specs.declared.open.OpenStage.TheVariants as open_stage
-use Rattle.gh_coord.specs.declared.stop.StopStage.{StopStage}
 use Rattle.gh_coord.specs.declared.stop.StopStage.TheVariants as stop_stage
 use Rattle.gh_coord.specs.declared.tell.TellStage.TheVariants as tell_stage
 use Rattle.gh_coord.specs.Closing as close
 use Rattle.gh_coord.specs.Counting as count
-use Rattle.gh_coord.specs.Ends.{by_last, by_out, by_want, by_watched}
-use Rattle.gh_coord.specs.Handshake.{FindsGone, gone_to, IsFoundGone, Marks, open_post, post_at, SoundAt, stop_post, tell_post, told_phase}
-use Rattle.gh_coord.specs.Listing.{after_ack, after_check, after_close, after_count, after_open, after_stop, after_stop_again, after_sweep, after_tell, after_watch, at_stage, Coordinating, counted, goes, goes_at, is_busy, stops_world}
 use Rattle.gh_coord.specs.Opening as opens_by
 use Rattle.gh_coord.specs.Stopping as stop
 use Rattle.gh_coord.specs.SweepingAll as all
 use Rattle.gh_coord.specs.Telling as tell
 use Rattle.gh_coord.specs.Watching as watch
-use Rattle.gh_coord.specs.Vocabulary.{Check, Close, CoordStage, Count, Done, GONE, Load, LoadAck, LoadWant, MarkOn, Open, OpenStage, Stop, StopAgain, Sweep, Tell, TellStage, Watch}
+use Rattle.gh_coord.proofs.Vocabulary.{after_ack, after_check, after_close, after_count, after_open, after_stop, after_stop_again, after_sweep, after_tell, after_watch, at_stage, by_last, by_out, by_want, by_watched, Check, Close, Coordinating, CoordStage, Count, counted, Done, FindsGone, goes, goes_at, GONE, gone_to, is_busy, IsFoundGone, last_of, Load, LoadAck, LoadWant, MarkOn, Marks, nat_tests, Open, open_post, OpenStage, Post, post_at, SoundAt, Stop, stop_post, StopAgain, Stopped, stops_world, StopStage, Sweep, Tell, tell_post, TellStage, told_phase, Watch}
 use Rattle.gh_coord.proofs.Stepping.{same_ask}
 
 -- a step that finds no processor gone, and leaves whether this is the last cycle
@@ -73,41 +66,23 @@ stop_goes_on phase stop_stage.Ended = refl
 
 open_goes_on : (stage : OpenStage) → last_of (open_post stage) ≡ run.Finished → ⊥
 open_goes_on open_stage.ClearWant e = cc
-open_goes_on open_stage.ClearGcur e = cc
-open_goes_on open_stage.ClearTally e = cc
-open_goes_on open_stage.ClearLive e = cc
-open_goes_on open_stage.StoreTrigger e = cc
-open_goes_on open_stage.LoadHeap e = cc
-open_goes_on open_stage.StoreWork e = cc
-open_goes_on open_stage.StoreSlack e = cc
-open_goes_on open_stage.StoreBegun e = cc
-open_goes_on open_stage.StorePhase e = cc
-open_goes_on open_stage.Ended e = cc
+open_goes_on _ e = cc
 
 told_last : (last : Bool) → told_phase last ≡ run.Finished → last ≡ true
 told_last true e = refl
 told_last false e = absurd cc
 
 tell_finishes : (last : Bool) (stage : TellStage) → last_of (tell_post last stage) ≡ run.Finished → last ≡ true
-tell_finishes last tell_stage.StoreTrigger e = absurd cc
-tell_finishes last tell_stage.StoreSwept e = absurd cc
-tell_finishes last tell_stage.StorePhase e = absurd cc
 tell_finishes last tell_stage.Ended e = told_last last e
+tell_finishes last _ e = absurd cc
 
 pub finishes_at : (s : Coordinating) (stage : CoordStage) → SoundAt s stage → last_of (post_at stage) ≡ run.Finished → s.is_last ≡ true
-finishes_at s (LoadAck i) f e = absurd cc
-finishes_at s LoadWant f e = absurd cc
 finishes_at s (Stop st) f e = absurd (let no : run.Off ≡ run.Finished = sym (stop_goes_on run.Off st.stage) ∙ e in cc)
 finishes_at s (Open o) f e = absurd (open_goes_on o.stage e)
-finishes_at s (Watch w) f e = absurd cc
 finishes_at s (StopAgain st) f e = absurd (let no : run.Mark ≡ run.Finished = sym (stop_goes_on run.Mark st.stage) ∙ e in cc)
-finishes_at s (Check w) f e = absurd cc
-finishes_at s MarkOn f e = absurd cc
-finishes_at s (Close c) f e = absurd cc
-finishes_at s (Sweep w) f e = absurd cc
-finishes_at s (Count c) f e = absurd cc
 finishes_at s (Tell t) f e = sym (ap (λ (x : tell.Telling). x.is_last) f) ∙ tell_finishes t.is_last t.stage e
 finishes_at s Done f e = f
+finishes_at s _ f e = absurd cc
 
 -- the world is stopped behind a phase that is off, or that of marking
 abbrev GoesOn : Post → Type 0
@@ -120,23 +95,12 @@ stop_so (stop_stage.Await ack) = (tt, tt)
 stop_so stop_stage.Ended = (λ e. cc, λ e. cc)
 
 open_so : (stage : OpenStage) → GoesOn (open_post stage)
-open_so open_stage.ClearWant = λ e. cc
-open_so open_stage.ClearGcur = λ e. cc
-open_so open_stage.ClearTally = λ e. cc
-open_so open_stage.ClearLive = λ e. cc
-open_so open_stage.StoreTrigger = λ e. cc
-open_so open_stage.LoadHeap = λ e. cc
-open_so open_stage.StoreWork = λ e. cc
-open_so open_stage.StoreSlack = λ e. cc
-open_so open_stage.StoreBegun = λ e. cc
-open_so open_stage.StorePhase = λ e. cc
 open_so open_stage.Ended = tt
+open_so _ = λ e. cc
 
 tell_so : (last : Bool) (stage : TellStage) → GoesOn (tell_post last stage)
-tell_so last tell_stage.StoreTrigger = λ e. cc
-tell_so last tell_stage.StoreSwept = λ e. cc
-tell_so last tell_stage.StorePhase = λ e. cc
 tell_so last tell_stage.Ended = tt
+tell_so last _ = λ e. cc
 
 post_so : (stage : CoordStage) → GoesOn (post_at stage)
 post_so (LoadAck i) = tt
@@ -145,13 +109,9 @@ post_so (Stop st) = (stop_so st.stage).0
 post_so (Open o) = open_so o.stage
 post_so (Watch w) = tt
 post_so (StopAgain st) = (stop_so st.stage).1
-post_so (Check w) = λ e. cc
-post_so MarkOn = λ e. cc
-post_so (Close c) = λ e. cc
-post_so (Sweep w) = λ e. cc
-post_so (Count c) = λ e. cc
 post_so (Tell t) = tell_so t.is_last t.stage
 post_so Done = tt
+post_so _ = λ e. cc
 
 pub stops_go_on : (s : Coordinating) (phase : RunPhase) → post_at s.stage ≡ Stopped phase → phase ≢ run.Finished
 stops_go_on s phase e = subst GoesOn e (post_so s.stage)
@@ -169,27 +129,16 @@ stop_mark st (stop_stage.Await ack) r = (λ x. tt, λ y. refl)
 stop_mark st stop_stage.Ended r = absurd (r run.Mark refl)
 
 open_mark : (stage : OpenStage) → opens_by.is_busy stage ≡ true → Runs (open_post stage) → ⊥
-open_mark open_stage.ClearWant b r = r run.Off refl
-open_mark open_stage.ClearGcur b r = r run.Off refl
-open_mark open_stage.ClearTally b r = r run.Off refl
-open_mark open_stage.ClearLive b r = r run.Off refl
-open_mark open_stage.StoreTrigger b r = r run.Off refl
-open_mark open_stage.LoadHeap b r = r run.Off refl
-open_mark open_stage.StoreWork b r = r run.Off refl
-open_mark open_stage.StoreSlack b r = r run.Off refl
-open_mark open_stage.StoreBegun b r = r run.Off refl
-open_mark open_stage.StorePhase b r = r run.Off refl
 open_mark open_stage.Ended b r = cc
+open_mark _ b r = r run.Off refl
 
 told_mark : (last : Bool) → told_phase last ≡ run.Mark → ⊥
 told_mark true e = cc
 told_mark false e = cc
 
 tell_mark : (last : Bool) (stage : TellStage) → Runs (tell_post last stage) → last_of (tell_post last stage) ≡ run.Mark → ⊥
-tell_mark last tell_stage.StoreTrigger r e = r run.Mark refl
-tell_mark last tell_stage.StoreSwept r e = r run.Mark refl
-tell_mark last tell_stage.StorePhase r e = r run.Mark refl
 tell_mark last tell_stage.Ended r e = told_mark last e
+tell_mark last _ r e = r run.Mark refl
 
 pub marks_at : (s : Coordinating) (stage : CoordStage) → SoundAt s stage → Runs (post_at stage) → last_of (post_at stage) ≡ run.Mark ↔ Marks stage
 marks_at s (LoadAck i) f r = not_mark run.Off (λ e. cc) (LoadAck i) refl (λ y. y)
@@ -198,10 +147,6 @@ marks_at s (Stop st) f r = not_mark run.Off (λ e. cc) (Stop st) (stop_goes_on r
 marks_at s (Open o) f r = absurd (open_mark o.stage f.1 r)
 marks_at s (Watch w) f r = (λ x. tt, λ y. refl)
 marks_at s (StopAgain st) f r = stop_mark st st.stage r
-marks_at s (Check w) f r = absurd (r run.Mark refl)
-marks_at s MarkOn f r = absurd (r run.Mark refl)
-marks_at s (Close c) f r = absurd (r run.Mark refl)
-marks_at s (Sweep w) f r = absurd (r run.Mark refl)
-marks_at s (Count c) f r = absurd (r run.Mark refl)
 marks_at s (Tell t) f r = (λ x. absurd (tell_mark t.is_last t.stage r x), λ y. absurd y)
 marks_at s Done f r = not_mark run.Finished (λ e. cc) Done refl (λ y. y)
+marks_at s _ f r = absurd (r run.Mark refl)

@@ -1,3 +1,4 @@
+pub mod Vocabulary
 pub mod Accounts
 pub mod Checks
 pub mod GoingOn
@@ -5,6 +6,7 @@ pub mod LastCycle
 pub mod Numbering
 pub mod Phasing
 pub mod Quiet
+pub mod QuietParts
 pub mod Running
 pub mod Shaking
 pub mod Stepping

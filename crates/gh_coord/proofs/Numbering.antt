@@ -1,7 +1,6 @@
 -- The numbers of the coordinator's stops, after each of its steps.
 use Rattle.std.proofs.Common.{◌≡◌, ℕ, zero, suc, ◌+◌, Bool, true, false, cond, ltb, ◌==◌, Option, Some, None, refl, sym, ap, subst, ◌∙◌}
 use Rattle.gh_base.specs.declared.pack.Phase.TheVariants as phase
-use Rattle.gh_base.specs.Packing.{phase_of, phase_word}
 use Rattle.gh_coord.specs.declared.close.CloseStage.TheVariants as c
 use Rattle.gh_coord.specs.declared.count.CountStage.TheVariants as n
 use Rattle.gh_coord.specs.declared.open.OpenStage.TheVariants as o
@@ -11,14 +10,13 @@ use Rattle.gh_coord.specs.declared.tell.TellStage.TheVariants as t
 use Rattle.gh_coord.specs.declared.watch.WatchStage.TheVariants as w
 use Rattle.gh_coord.specs.Closing as close
 use Rattle.gh_coord.specs.Counting as count
-use Rattle.gh_coord.specs.Listing.{after_check, after_close, after_count, after_open, after_stop, after_stop_again, after_sweep, after_tell, after_watch, asks, asks_at, at_stage, Coordinating, counted, goes, goes_at, next_stop, stops_world}
 use Rattle.gh_coord.specs.Opening as opens
 use Rattle.gh_coord.specs.Phases.{CountsPhases, IsNumbered, number_of, state, stops, stops_after, StoresNumber}
 use Rattle.gh_coord.specs.Stopping as stop
 use Rattle.gh_coord.specs.SweepingAll as all
 use Rattle.gh_coord.specs.Telling as tell
 use Rattle.gh_coord.specs.Watching as watch
-use Rattle.gh_coord.specs.Vocabulary.{AddHeap, AddLive, AddTally, All, Ask, Begin, Check, ClearBits, ClearMarks, Close, CloseStage, CoordStage, Count, Counted, CountStage, Done, Ended, Finish, GONE, Layout, LoadAck, LoadMarks, LoadWant, MarkOn, NotYet, Open, OpenStage, PhaseWord, Stop, StopAgain, StopStage, Sweep, SweepAllStage, SweepStage, Tell, TellStage, Watch, Watched, WatchStage}
+use Rattle.gh_coord.proofs.Vocabulary.{after_check, after_close, after_count, after_open, after_stop, after_stop_again, after_sweep, after_tell, after_watch, All, Ask, asks, asks_at, at_stage, Begin, Check, Close, CloseStage, Coordinating, CoordStage, Count, Counted, counted, CountStage, Done, goes, goes_at, GONE, Layout, LoadAck, LoadWant, MarkOn, next_stop, NotYet, Open, OpenStage, phase_of, phase_word, PhaseWord, Stop, StopAgain, stops_world, StopStage, Sweep, SweepAllStage, SweepStage, Tell, TellStage, Watch, Watched, WatchStage}
 use Rattle.gh_coord.proofs.Phasing.{marks}
 use Rattle.gh_coord.proofs.Stepping.{same_ask}
 use Rattle.gh_sweep.specs.Listing as sweep
@@ -46,9 +44,7 @@ watch_quiet x (w.Ended watched) u = (refl, tt)
 
 close_quiet : (cl : close.Closing) (stage : CloseStage) (u : ℕ) → IsQuiet u (close.asks_at cl stage)
 close_quiet cl c.LoadBank u = (refl, tt)
-close_quiet cl c.ClearBank u = (refl, tt)
-close_quiet cl c.StoreGen u = (refl, tt)
-close_quiet cl c.Ended u = (refl, tt)
+close_quiet cl _ u = (refl, tt)
 
 count_quiet : (stage : CountStage) (u : ℕ) → IsQuiet u (count.asks_at stage)
 count_quiet n.LoadTally u = (refl, tt)
@@ -57,20 +53,11 @@ count_quiet (n.Ended read) u = (refl, tt)
 
 span_quiet : (s : sweep.Sweeping) (stage : SweepStage) (u : ℕ) → IsQuiet u (sweep.asks_at s stage)
 span_quiet s Begin u = (refl, tt)
-span_quiet s (LoadMarks i) u = (refl, tt)
-span_quiet s (ClearBits i marks) u = (refl, tt)
-span_quiet s (ClearMarks i) u = (refl, tt)
-span_quiet s AddTally u = (refl, tt)
-span_quiet s AddLive u = (refl, tt)
-span_quiet s AddHeap u = (refl, tt)
-span_quiet s Finish u = (refl, tt)
-span_quiet s Ended u = (refl, tt)
+span_quiet s _ u = (refl, tt)
 
 sweep_quiet : (s : all.SweepingAll) (stage : SweepAllStage) (u : ℕ) → IsQuiet u (all.asks_at s stage)
-sweep_quiet s (a.LoadPage page) u = (refl, tt)
 sweep_quiet s (a.Sweep page sw) u = span_quiet sw sw.stage u
-sweep_quiet s (a.Await page) u = (refl, tt)
-sweep_quiet s a.Ended u = (refl, tt)
+sweep_quiet s _ u = (refl, tt)
 
 module _ (reads : (word : PhaseWord) → phase_of (phase_word word) ≡ word) where
   reads_stops : (word : PhaseWord) (u : ℕ) → word.stops ≡ u → (phase_of (phase_word word)).stops ≡ u
@@ -124,17 +111,9 @@ module _ (reads : (word : PhaseWord) → phase_of (phase_word word) ≡ word) wh
     again_step st u p.Ended is k e = e ∙ ap (λ (stage : StopStage). stop_number stage u) is
 
     open_step : (op : opens.CycleOpening) (stage : OpenStage) (u : ℕ) → op.stops ≡ s.stops → s.stops ≡ u → Has (after_open (at_stage s (Open (record op { stage = opens.behind stage }))) (opens.given_at (opens.behind stage))) (stops_after (opens.asks_at op stage) u)
-    open_step op o.ClearWant u k e = (k, e)
-    open_step op o.ClearGcur u k e = (k, e)
-    open_step op o.ClearTally u k e = (k, e)
-    open_step op o.ClearLive u k e = (k, e)
-    open_step op o.StoreTrigger u k e = (k, e)
-    open_step op o.LoadHeap u k e = (k, e)
-    open_step op o.StoreWork u k e = (k, e)
-    open_step op o.StoreSlack u k e = (k, e)
-    open_step op o.StoreBegun u k e = (k, e)
     open_step op o.StorePhase u k e = sym (reads_stops (record { stops = op.stops; phase = phase.Mark }) s.stops k)
     open_step op o.Ended u k e = e
+    open_step op _ u k e = (k, e)
 
     watch_step : (x : watch.Watching) (u : ℕ) (out : Option Watched) → s.stops ≡ u → Has (after_watch (at_stage s (Watch x)) out) u
     watch_step x u None e = e
@@ -184,31 +163,18 @@ module _ (reads : (word : PhaseWord) → phase_of (phase_word word) ≡ word) wh
     step_at Done u v is k = subst (λ (stage : CoordStage). Knows s.stops u stage) (sym is) k
 
     open_stores : (op : opens.CycleOpening) (stage : OpenStage) (u : ℕ) → op.stops ≡ u → StoresNumber u (opens.asks_at op stage)
-    open_stores op o.ClearWant u e = tt
-    open_stores op o.ClearGcur u e = tt
-    open_stores op o.ClearTally u e = tt
-    open_stores op o.ClearLive u e = tt
-    open_stores op o.StoreTrigger u e = tt
-    open_stores op o.LoadHeap u e = tt
-    open_stores op o.StoreWork u e = tt
-    open_stores op o.StoreSlack u e = tt
-    open_stores op o.StoreBegun u e = tt
     open_stores op o.StorePhase u e = is_numbered u (record { stops = op.stops; phase = phase.Mark }) e
-    open_stores op o.Ended u e = tt
+    open_stores op _ u e = tt
 
     off_or_done : (te : tell.Telling) (u : ℕ) (last : Bool) → te.stops ≡ u → te.stops ≡ number_of (cond last phase.Finished phase.Off) u
     off_or_done te u true e = e
     off_or_done te u false e = e
 
     tell_stores : (te : tell.Telling) (stage : TellStage) (u : ℕ) → te.stops ≡ u → StoresNumber u (tell.asks_at te stage)
-    tell_stores te t.StoreTrigger u e = tt
-    tell_stores te t.StoreSwept u e = tt
     tell_stores te t.StorePhase u e = is_numbered u (tell.phase_at te) (off_or_done te u te.is_last e)
-    tell_stores te t.Ended u e = tt
+    tell_stores te _ u e = tt
 
     stores : (stage : CoordStage) (u : ℕ) → Knows s.stops u stage → StoresNumber u (asks_at s stage)
-    stores (LoadAck i) u k = tt
-    stores LoadWant u k = tt
     stores (Stop st) u k = stop_stores st st.stage u (k.0 ∙ k.1)
     stores (Open op) u k = open_stores op op.stage u (k.0 ∙ k.1)
     stores (Watch x) u k = (watch_quiet x x.stage u).1
@@ -219,7 +185,7 @@ module _ (reads : (word : PhaseWord) → phase_of (phase_word word) ≡ word) wh
     stores (Sweep sw) u k = (sweep_quiet sw sw.stage u).1
     stores (Count co) u k = (count_quiet co.stage u).1
     stores (Tell te) u k = tell_stores te te.stage u (k.0 ∙ k.1)
-    stores Done u k = tt
+    stores _ u k = tt
 
   step : (s : Coordinating) (u v : ℕ) → Knows s.stops u s.stage → Knows (goes s v).stops (stops_after (asks s) u) (goes s v).stage
   step s u v k = subst (λ (ask : Ask). Knows (goes s v).stops (stops_after ask u) (goes s v).stage) (same_ask s s.stage) (step_at (counted s) s.stage u v refl k)

@@ -9,15 +9,13 @@ use Rattle.gh_coord.specs.Listing.{asks, asks_at, Coordinating, counted, goes}
 use Rattle.gh_coord.specs.Ends.{marks_stay}
 use Rattle.gh_coord.specs.Listing as coord
 use Rattle.gh_coord.specs.Phases.{phases, state, stores_phase}
-use Rattle.gh_coord.specs.Vocabulary.{Check, Close, CloseStage, CoordStage, Count, CountStage, Done, Layout, LoadAck, LoadWant, MarkOn, Open, Stop, StopAgain, Sweep, Tell, Watch}
+use Rattle.gh_coord.specs.Vocabulary.{Check, Close, CloseStage, CoordStage, Count, CountStage, Layout, Open, Stop, StopAgain, Sweep, Tell, Watch}
 use Rattle.gh_coord.proofs.Quiet.{open_at, stop_at, sweep_at, tell_at, watch_at}
 
 -- which steps store the phase word
 close_phase : (cl : close.Closing) (stage : CloseStage) → stores_phase (close.asks_at cl stage) ≡ false
 close_phase cl c.LoadBank = refl
-close_phase cl c.ClearBank = refl
-close_phase cl c.StoreGen = refl
-close_phase cl c.Ended = refl
+close_phase cl _ = refl
 
 count_phase : (stage : CountStage) → stores_phase (count.asks_at stage) ≡ false
 count_phase n.LoadTally = refl
@@ -25,19 +23,16 @@ count_phase (n.LoadLive tally) = refl
 count_phase (n.Ended read) = refl
 
 phase_at : (s : Coordinating) (stage : CoordStage) → stores_phase (asks_at s stage) ≡ coord.stores_phase stage
-phase_at s (LoadAck i) = refl
-phase_at s LoadWant = refl
 phase_at s (Stop st) = (stop_at st).plain.phase
 phase_at s (Open op) = (open_at op op.stage).phase
 phase_at s (Watch x) = (watch_at x).quiet.plain.phase
 phase_at s (StopAgain st) = (stop_at st).plain.phase
 phase_at s (Check x) = (watch_at x).quiet.plain.phase
-phase_at s MarkOn = refl
 phase_at s (Close cl) = close_phase cl cl.stage
 phase_at s (Sweep sw) = (sweep_at sw).quiet.plain.phase
 phase_at s (Count co) = count_phase co.stage
 phase_at s (Tell te) = (tell_at te te.stage).phase
-phase_at s Done = refl
+phase_at s _ = refl
 
 marks_step : (s : Coordinating) (v : ℕ) → (goes s v).marks ≡ min (s.marks + bit (stores_phase (asks s))) (2 ^ 64 - 1)
 marks_step s v = marks_stay (counted s) s.stage v ∙ ap (λ (b : Bool). min (s.marks + bit b) (2 ^ 64 - 1)) (sym (phase_at s s.stage))

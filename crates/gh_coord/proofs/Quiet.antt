@@ -13,7 +13,7 @@ use Rattle.gh_coord.specs.Phases.{stores_phase}
 use Rattle.gh_coord.specs.Stopping as stops
 use Rattle.gh_coord.specs.SweepingAll as sweeps
 use Rattle.gh_coord.specs.Telling as tell
-use Rattle.gh_coord.specs.Vocabulary.{Ask, Load, OpenStage, StopStage, SweepAllStage, TellStage, WatchStage, SweepStage, Begin, LoadMarks, ClearBits, ClearMarks, AddTally, AddLive, AddHeap, Finish, Ended}
+use Rattle.gh_coord.specs.Vocabulary.{Ask, Load, OpenStage, StopStage, SweepAllStage, TellStage, WatchStage, SweepStage, Begin}
 use Rattle.gh_coord.specs.Watching as watches
 use Rattle.gh_sweep.specs.Listing as sweep
 
@@ -35,23 +35,12 @@ pub record IsAside (ask : Ask) : Type 1 where
 -- a cycle is opened
 pub open_at : (op : opens.CycleOpening) (stage : OpenStage) → IsPlain (opens.stores_phase stage) (opens.asks_at op stage)
 open_at op o.ClearWant = record { phase = refl; loads = λ b c. tt }
-open_at op o.ClearGcur = record { phase = refl; loads = λ b c. tt }
-open_at op o.ClearTally = record { phase = refl; loads = λ b c. tt }
-open_at op o.ClearLive = record { phase = refl; loads = λ b c. tt }
-open_at op o.StoreTrigger = record { phase = refl; loads = λ b c. tt }
-open_at op o.LoadHeap = record { phase = refl; loads = λ b c. tt }
-open_at op o.StoreWork = record { phase = refl; loads = λ b c. tt }
-open_at op o.StoreSlack = record { phase = refl; loads = λ b c. tt }
-open_at op o.StoreBegun = record { phase = refl; loads = λ b c. tt }
-open_at op o.StorePhase = record { phase = refl; loads = λ b c. tt }
-open_at op o.Ended = record { phase = refl; loads = λ b c. tt }
+open_at op _ = record { phase = refl; loads = λ b c. tt }
 
 -- it is told that a cycle is swept
 pub tell_at : (te : tell.Telling) (stage : TellStage) → IsPlain (tell.stores_phase stage) (tell.asks_at te stage)
 tell_at te t.StoreTrigger = record { phase = refl; loads = λ b c. tt }
-tell_at te t.StoreSwept = record { phase = refl; loads = λ b c. tt }
-tell_at te t.StorePhase = record { phase = refl; loads = λ b c. tt }
-tell_at te t.Ended = record { phase = refl; loads = λ b c. tt }
+tell_at te _ = record { phase = refl; loads = λ b c. tt }
 
 -- a stop
 stop_stage : (s : stops.Stopping) (stage : StopStage) → IsQuiet (stops.stores_phase stage) (stops.asks_at s stage)
@@ -78,20 +67,11 @@ watch_at w = watch_stage w w.stage
 -- the sweep of a span, and of all of them
 span_stage : (s : sweep.Sweeping) (stage : SweepStage) → IsAside (sweep.asks_at s stage)
 span_stage s Begin = record { quiet = record { plain = record { phase = refl; loads = λ b c. tt }; account = λ a v. refl }; listed = λ a. tt }
-span_stage s (LoadMarks i) = record { quiet = record { plain = record { phase = refl; loads = λ b c. tt }; account = λ a v. refl }; listed = λ a. tt }
-span_stage s (ClearBits i marks) = record { quiet = record { plain = record { phase = refl; loads = λ b c. tt }; account = λ a v. refl }; listed = λ a. tt }
-span_stage s (ClearMarks i) = record { quiet = record { plain = record { phase = refl; loads = λ b c. tt }; account = λ a v. refl }; listed = λ a. tt }
-span_stage s AddTally = record { quiet = record { plain = record { phase = refl; loads = λ b c. tt }; account = λ a v. refl }; listed = λ a. tt }
-span_stage s AddLive = record { quiet = record { plain = record { phase = refl; loads = λ b c. tt }; account = λ a v. refl }; listed = λ a. tt }
-span_stage s AddHeap = record { quiet = record { plain = record { phase = refl; loads = λ b c. tt }; account = λ a v. refl }; listed = λ a. tt }
-span_stage s Finish = record { quiet = record { plain = record { phase = refl; loads = λ b c. tt }; account = λ a v. refl }; listed = λ a. tt }
-span_stage s Ended = record { quiet = record { plain = record { phase = refl; loads = λ b c. tt }; account = λ a v. refl }; listed = λ a. tt }
+span_stage s _ = record { quiet = record { plain = record { phase = refl; loads = λ b c. tt }; account = λ a v. refl }; listed = λ a. tt }
 
 sweep_stage : (s : sweeps.SweepingAll) (stage : SweepAllStage) → IsAside (sweeps.asks_at s stage)
-sweep_stage s (all.LoadPage page) = record { quiet = record { plain = record { phase = refl; loads = λ b c. tt }; account = λ a v. refl }; listed = λ a. tt }
 sweep_stage s (all.Sweep page sw) = span_stage sw sw.stage
-sweep_stage s (all.Await page) = record { quiet = record { plain = record { phase = refl; loads = λ b c. tt }; account = λ a v. refl }; listed = λ a. tt }
-sweep_stage s all.Ended = record { quiet = record { plain = record { phase = refl; loads = λ b c. tt }; account = λ a v. refl }; listed = λ a. tt }
+sweep_stage s _ = record { quiet = record { plain = record { phase = refl; loads = λ b c. tt }; account = λ a v. refl }; listed = λ a. tt }
 
 pub sweep_at : (s : sweeps.SweepingAll) → IsAside (sweeps.asks s)
 sweep_at s = sweep_stage s s.stage

@@ -14,7 +14,7 @@ use Rattle.gh_coord.specs.Listing.{asks_at, Coordinating, lapsed_at}
 use Rattle.gh_coord.specs.Opening as opens
 use Rattle.gh_coord.specs.Stopping as stop
 use Rattle.gh_coord.specs.Telling as tell
-use Rattle.gh_coord.specs.Vocabulary.{Check, Close, CloseStage, CoordStage, Count, CountStage, Done, Layout, LoadAck, LoadWant, MarkOn, NEVER, Open, OpenStage, PhaseWord, Stop, StopAgain, StopStage, Sweep, Tell, TellStage, Watch}
+use Rattle.gh_coord.specs.Vocabulary.{Check, Close, CloseStage, CoordStage, Count, CountStage, Layout, MarkOn, NEVER, Open, OpenStage, PhaseWord, Stop, StopAgain, StopStage, Sweep, Tell, TellStage, Watch}
 use Rattle.gh_coord.proofs.Accounts.{account_at, base, close_at, ended, Has, IsNumbered, marked, open_at, shape_at, tell_at, tell_number}
 use Rattle.gh_coord.proofs.Quiet.{sweep_at, watch_at}
 use Rattle.gh_coord.proofs.Stepping.{step}
@@ -59,19 +59,13 @@ module _ (s : Coordinating) (lapsed objects w : ℕ) where
   open_order o.ClearGcur = want_order
   open_order o.ClearTally = gcur_order
   open_order o.ClearLive = tally_order
-  open_order o.StoreTrigger = live_order
-  open_order o.LoadHeap = live_order
-  open_order o.StoreWork = live_order
-  open_order o.StoreSlack = live_order
-  open_order o.StoreBegun = live_order
   open_order o.StorePhase = marked_order
   open_order o.Ended = marked_order
+  open_order _ = live_order
 
   close_order : (stage : CloseStage) → AreInOrder (close_at stage idle)
-  close_order c.LoadBank = marked_order
-  close_order c.ClearBank = marked_order
-  close_order c.StoreGen = marked_order
   close_order c.Ended = ended_order
+  close_order _ = marked_order
 
   tell_order : (stage : TellStage) → AreInOrder (tell_at stage idle)
   tell_order t.StoreTrigger = ended_order
@@ -80,9 +74,6 @@ module _ (s : Coordinating) (lapsed objects w : ℕ) where
   tell_order t.Ended = idle_order
 
   order : (stage : CoordStage) → AreInOrder (shape_at stage idle)
-  order (LoadAck i) = idle_order
-  order LoadWant = idle_order
-  order (Stop st) = idle_order
   order (Open op) = open_order op.stage
   order (Watch x) = marked_order
   order (StopAgain st) = marked_order
@@ -92,7 +83,7 @@ module _ (s : Coordinating) (lapsed objects w : ℕ) where
   order (Sweep sw) = ended_order
   order (Count co) = ended_order
   order (Tell te) = tell_order te.stage
-  order Done = idle_order
+  order _ = idle_order
 
 -- what the loads have found stands in each shape of the account
 record ReadsAs (b a : Account) : Type 0 where
@@ -112,22 +103,13 @@ module _ (a : Account) where
 
   open_reads : (stage : OpenStage) → ReadsAs (open_at stage a) a
   open_reads o.ClearWant = reads_same
-  open_reads o.ClearGcur = record { cycles = refl; bytes = refl; lapsed = refl }
-  open_reads o.ClearTally = record { cycles = refl; bytes = refl; lapsed = refl }
-  open_reads o.ClearLive = record { cycles = refl; bytes = refl; lapsed = refl }
-  open_reads o.StoreTrigger = record { cycles = refl; bytes = refl; lapsed = refl }
-  open_reads o.LoadHeap = record { cycles = refl; bytes = refl; lapsed = refl }
-  open_reads o.StoreWork = record { cycles = refl; bytes = refl; lapsed = refl }
-  open_reads o.StoreSlack = record { cycles = refl; bytes = refl; lapsed = refl }
-  open_reads o.StoreBegun = record { cycles = refl; bytes = refl; lapsed = refl }
   open_reads o.StorePhase = reads_marked
   open_reads o.Ended = reads_marked
+  open_reads _ = record { cycles = refl; bytes = refl; lapsed = refl }
 
   close_reads : (stage : CloseStage) → ReadsAs (close_at stage a) a
-  close_reads c.LoadBank = reads_marked
-  close_reads c.ClearBank = reads_marked
-  close_reads c.StoreGen = reads_marked
   close_reads c.Ended = reads_ended
+  close_reads _ = reads_marked
 
   tell_reads : (stage : TellStage) → ReadsAs (tell_at stage a) a
   tell_reads t.StoreTrigger = reads_ended
@@ -136,9 +118,6 @@ module _ (a : Account) where
   tell_reads t.Ended = reads_same
 
   reads_at : (stage : CoordStage) → ReadsAs (shape_at stage a) a
-  reads_at (LoadAck i) = reads_same
-  reads_at LoadWant = reads_same
-  reads_at (Stop st) = reads_same
   reads_at (Open op) = open_reads op.stage
   reads_at (Watch x) = reads_marked
   reads_at (StopAgain st) = reads_marked
@@ -148,7 +127,7 @@ module _ (a : Account) where
   reads_at (Sweep sw) = reads_ended
   reads_at (Count co) = reads_ended
   reads_at (Tell te) = tell_reads te.stage
-  reads_at Done = reads_same
+  reads_at _ = reads_same
 
 -- what is stored
 module _ (reads : (p : PhaseWord) → phase_of (phase_word p) ≡ p) where
@@ -162,17 +141,11 @@ module _ (reads : (p : PhaseWord) → phase_of (phase_word p) ≡ p) where
 
   module _ (s : Coordinating) (objects w : ℕ) where
     open_stores : (op : opens.CycleOpening) (stage : OpenStage) → op.cycle ≡ suc w % 2 ^ 64 → StoresAsListed (open_at stage (base s s.lapsed objects w)) (opens.asks_at op stage)
-    open_stores op o.ClearWant e = refl
-    open_stores op o.ClearGcur e = refl
-    open_stores op o.ClearTally e = refl
-    open_stores op o.ClearLive e = refl
-    open_stores op o.StoreTrigger e = refl
     open_stores op o.LoadHeap e = tt
-    open_stores op o.StoreWork e = refl
-    open_stores op o.StoreSlack e = refl
     open_stores op o.StoreBegun e = e
     open_stores op o.StorePhase e = reads_phase (marked (base s s.lapsed objects w)) (record { stops = op.stops; phase = phase.Mark }) (refl, refl)
     open_stores op o.Ended e = tt
+    open_stores op _ e = refl
 
     close_stores : (cl : close.Closing) (stage : CloseStage) → cl.generation ≡ (2 * suc w + 2) % 2 ^ 34 → StoresAsListed (close_at stage (base s cl.lapsed objects w)) (close.asks_at cl stage)
     close_stores cl c.LoadBank e = tt
@@ -196,8 +169,6 @@ module _ (reads : (p : PhaseWord) → phase_of (phase_word p) ≡ p) where
     tell_stores te t.Ended e q = tt
 
     stores : (stage : CoordStage) → IsNumbered s stage w objects → StoresAsListed (account_at s stage w objects) (asks_at s stage)
-    stores (LoadAck i) k = tt
-    stores LoadWant k = tt
     stores (Stop st) k = stop_stores (base s s.lapsed objects w) st st.stage (refl, refl)
     stores (Open op) k = open_stores op op.stage (k.part ∙ k.begun_is)
     stores (Watch x) k = (watch_at x).listed (marked (base s s.lapsed objects w))
@@ -208,7 +179,7 @@ module _ (reads : (p : PhaseWord) → phase_of (phase_word p) ≡ p) where
     stores (Sweep sw) k = (sweep_at sw).listed (ended (base s s.lapsed objects w))
     stores (Count co) k = count_stores (ended (base s s.lapsed objects w)) co.stage
     stores (Tell te) k = tell_stores te te.stage (k.part.0 ∙ k.begun_is) k.part.1
-    stores Done k = tt
+    stores _ k = tt
 
 module _ (reads : (p : PhaseWord) → phase_of (phase_word p) ≡ p) (l : Layout) (seat gogc minheap room : ℕ) (found : ℕ → ℕ) where
   abbrev state : ℕ → Coordinating

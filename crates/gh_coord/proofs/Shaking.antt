@@ -1,34 +1,24 @@
 -- Each step of the coordinator is one of the handshake of a stop: by its stages.
 use Rattle.std.proofs.Common.{◌≡◌, ℕ, ◌+◌, ◌^◌, ◌<◌, inl, inr, Bool, true, false, cond, ltb, ◌==◌, ◌||◌, refl, sym, ap, subst, arith, Option, Some, None}
-use Rattle.std.proofs.lemmas.Bool.Decides.{nat_tests}
 use Rattle.gh_base.specs.declared.cell.Cell.TheVariants as cell
 use Rattle.gh_base.specs.declared.pack.Phase.TheVariants as kind
-use Rattle.gh_base.specs.Packing.{phase_word}
 use Rattle.gh_phase.specs.declared.view.RunPhase.TheVariants as run
-use Rattle.gh_phase.specs.Handshake.{begins, Calm, ends, goes, IsAcked, IsQuiet, LeadGoes, Looks, next_cycle, next_generation, next_stop, quiet, sees, stop_before, stop_word, Stopped, stops}
+use Rattle.gh_phase.specs.Handshake.{goes, next_stop}
 use Rattle.gh_coord.specs.declared.close.CloseStage.TheVariants as close_stage
-use Rattle.gh_coord.specs.declared.count.CountStage.TheVariants as count_stage
 use Rattle.gh_coord.specs.declared.open.OpenStage.TheVariants as open_stage
-use Rattle.gh_coord.specs.declared.stop.StopStage.{StopStage}
 use Rattle.gh_coord.specs.declared.stop.StopStage.TheVariants as stop_stage
-use Rattle.gh_coord.specs.declared.sweep_all.SweepAllStage.TheVariants as all_stage
 use Rattle.gh_coord.specs.declared.tell.TellStage.TheVariants as tell_stage
-use Rattle.gh_coord.specs.declared.watch.WatchStage.TheVariants as watch_stage
 use Rattle.gh_coord.specs.Closing as close
 use Rattle.gh_coord.specs.Counting as count
-use Rattle.gh_coord.specs.Handshake.{cycle_before, FitsNumbers, generation_before, lead_at, lead_of, LeadsHandshake, Sound, SoundAt}
-use Rattle.gh_coord.specs.Listing.{after_ack, after_check, after_count, after_stop, after_stop_again, after_sweep, after_want, after_watch, asks_at, at_stage, Coordinating, counted, goes_at, is_busy, stops_world}
 use Rattle.gh_coord.specs.Opening as opens_by
 use Rattle.gh_coord.specs.Stopping as stop
-use Rattle.gh_coord.specs.Stopping.{acks_of, is_acknowledged}
 use Rattle.gh_coord.specs.SweepingAll as all
 use Rattle.gh_coord.specs.Telling as tell
 use Rattle.gh_coord.specs.Watching as watch
-use Rattle.gh_coord.specs.Vocabulary.{All, Ask, Check, Close, CloseStage, CoordStage, Count, Counted, CountStage, Done, GONE, Layout, Load, LoadAck, LoadWant, MarkOn, NotYet, Open, OpenStage, Stop, StopAgain, Store, Sweep, SweepAllStage, SweepStage, Tell, TellStage, Watch, Watched, WatchStage}
+use Rattle.gh_coord.proofs.Vocabulary.{acks_of, after_ack, after_check, after_count, after_stop, after_stop_again, after_sweep, after_want, after_watch, All, Ask, asks_at, at_stage, begins, Calm, Check, Close, CloseStage, Coordinating, CoordStage, Count, Counted, counted, cycle_before, Done, ends, FitsNumbers, generation_before, goes_at, GONE, is_acknowledged, is_busy, IsAcked, IsQuiet, Layout, lead_at, lead_of, LeadGoes, LeadsHandshake, Load, LoadAck, LoadWant, Looks, MarkOn, nat_tests, next_cycle, next_generation, NotYet, Open, OpenStage, phase_word, quiet, sees, Sound, SoundAt, Stop, stop_before, stop_word, StopAgain, Stopped, stops, stops_world, StopStage, Store, Sweep, Tell, TellStage, Watch, Watched}
 use Rattle.gh_coord.proofs.LastCycle.{finds_gone, finishes_at, marks_at, stops_go_on}
+use Rattle.gh_coord.proofs.QuietParts.{count_quiet, sweep_quiet, watch_quiet}
 use Rattle.gh_coord.proofs.Stepping.{same_ask}
-use Rattle.gh_sweep.specs.declared.sweep.SweepStage.TheVariants as sweep_stage
-use Rattle.gh_sweep.specs.Listing as sweep
 
 -- numbers that go round
 stop_behind : (s : ℕ) → s < 2 ^ 62 → stop_before (next_stop s) ≡ s
@@ -57,33 +47,6 @@ raised_cycle number begun generation f = record { stops_fit = f.stops_fit; begun
 
 raised_generation : (number begun generation : ℕ) → FitsNumbers number begun generation → FitsNumbers number begun (next_generation generation)
 raised_generation number begun generation f = record { stops_fit = f.stops_fit; begun_fits = f.begun_fits; generation_fits = omega arith }
-
--- the parts that write no word of the handshake
-watch_quiet : (w : watch.Watching) (stage : WatchStage) → IsQuiet (watch.asks_at w stage)
-watch_quiet w (watch_stage.Look i) = tt
-watch_quiet w (watch_stage.Ended watched) = tt
-
-span_quiet : (s : sweep.Sweeping) (stage : SweepStage) → IsQuiet (sweep.asks_at s stage)
-span_quiet s sweep_stage.Begin = tt
-span_quiet s (sweep_stage.LoadMarks i) = tt
-span_quiet s (sweep_stage.ClearBits i marks) = tt
-span_quiet s (sweep_stage.ClearMarks i) = tt
-span_quiet s sweep_stage.AddTally = tt
-span_quiet s sweep_stage.AddLive = tt
-span_quiet s sweep_stage.AddHeap = tt
-span_quiet s sweep_stage.Finish = tt
-span_quiet s sweep_stage.Ended = tt
-
-sweep_quiet : (s : all.SweepingAll) (stage : SweepAllStage) → IsQuiet (all.asks_at s stage)
-sweep_quiet s (all_stage.LoadPage page) = tt
-sweep_quiet s (all_stage.Sweep page sw) = span_quiet sw sw.stage
-sweep_quiet s (all_stage.Await page) = tt
-sweep_quiet s all_stage.Ended = tt
-
-count_quiet : (stage : CountStage) → IsQuiet (count.asks_at stage)
-count_quiet count_stage.LoadTally = tt
-count_quiet (count_stage.LoadLive tally) = tt
-count_quiet (count_stage.Ended read) = tt
 
 -- a step at this stage leads here
 abbrev Goes : (found : ℕ) → Coordinating → CoordStage → (to : Coordinating) → Type 0
@@ -229,19 +192,13 @@ goes_so found s Done f e busy = absurd cc
 
 -- counting the steps that store the phase word leaves the place
 counted_sound : (s : Coordinating) (stage : CoordStage) → SoundAt s stage → SoundAt (counted s) stage
-counted_sound s (LoadAck i) e = tt
-counted_sound s LoadWant e = tt
 counted_sound s (Stop st) e = e
 counted_sound s (Open o) e = e
-counted_sound s (Watch w) e = tt
 counted_sound s (StopAgain st) e = e
-counted_sound s (Check w) e = tt
-counted_sound s MarkOn e = tt
 counted_sound s (Close c) e = e
-counted_sound s (Sweep w) e = tt
-counted_sound s (Count c) e = tt
 counted_sound s (Tell t) e = e
 counted_sound s Done e = e
+counted_sound s _ e = tt
 
 pub leads_handshake : LeadsHandshake
 leads_handshake = record {

@@ -165,18 +165,7 @@ step_at s Done w objects v e k = done_step s w objects k.begun_is k.generation_i
 -- counting the steps that store the phase word leaves what is asked for
 pub same_ask : (s : Coordinating) (stage : CoordStage) → asks_at (counted s) stage ≡ asks_at s stage
 same_ask s (LoadAck i) = refl
-same_ask s LoadWant = refl
-same_ask s (Stop st) = refl
-same_ask s (Open op) = refl
-same_ask s (Watch x) = refl
-same_ask s (StopAgain st) = refl
-same_ask s (Check x) = refl
-same_ask s MarkOn = refl
-same_ask s (Close cl) = refl
-same_ask s (Sweep sw) = refl
-same_ask s (Count co) = refl
-same_ask s (Tell te) = refl
-same_ask s Done = refl
+same_ask s _ = refl
 
 pub step : (s : Coordinating) (a : Account) (v : ℕ) → Has s a → Has (goes s v) (with_step a (asks s) v)
 step s a v h =

@@ -21,25 +21,11 @@ use Rattle.gh_sweep.specs.Listing as sweep
 
 keeps_page : (s : sweep.Sweeping) (stage : SweepStage) (v : ℕ) → (sweep.goes_at s stage v).page ≡ s.page
 keeps_page s span.Begin v = refl
-keeps_page s (span.LoadMarks i) v = refl
-keeps_page s (span.ClearBits i marks) v = refl
-keeps_page s (span.ClearMarks i) v = refl
-keeps_page s span.AddTally v = refl
-keeps_page s span.AddLive v = refl
-keeps_page s span.AddHeap v = refl
-keeps_page s span.Finish v = refl
-keeps_page s span.Ended v = refl
+keeps_page s _ v = refl
 
 loads_no_page : (s : sweep.Sweeping) (stage : SweepStage) (page : ℕ) → sweep.asks_at s stage ≡ Load (Page page) → ⊥
 loads_no_page s span.Begin page e = cc
-loads_no_page s (span.LoadMarks i) page e = cc
-loads_no_page s (span.ClearBits i marks) page e = cc
-loads_no_page s (span.ClearMarks i) page e = cc
-loads_no_page s span.AddTally page e = cc
-loads_no_page s span.AddLive page e = cc
-loads_no_page s span.AddHeap page e = cc
-loads_no_page s span.Finish page e = cc
-loads_no_page s span.Ended page e = cc
+loads_no_page s _ page e = cc
 
 module _ (l : Layout) (generation : ℕ) (found : ℕ → ℕ) where
   abbrev at : SweepAllStage → SweepingAll
@@ -185,10 +171,8 @@ module _ (l : Layout) (generation : ℕ) (found : ℕ → ℕ) where
     by Ended k a = absurd (cc)
 
   all_at : (n : ℕ) (stage : SweepAllStage) → Knows n stage → given_at stage ≡ Some tt → Done l.pages n
-  all_at n (LoadPage p) k e = absurd (cc)
-  all_at n (Sweep p sw) k e = absurd (cc)
-  all_at n (Await p) k e = absurd (cc)
   all_at n Ended k e = k
+  all_at n _ k e = absurd (cc)
 
   all : (n : ℕ) → EndsWith listing (from l generation found) found n tt → (p : ℕ) → p < l.pages → WasDoneWith l generation found (n + 1) p
   all n e p lt =

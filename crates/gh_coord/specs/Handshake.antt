@@ -1,26 +1,18 @@
 -- Where the coordinator stands in the handshake of a stop.
 use Rattle.std.specs.Prelude.{◌≡◌, ◌≢◌, ℕ, ◌+◌, ◌-◌, ◌%◌, ◌^◌, ◌<◌, ◌⊎◌, ◌↔◌, Bool, true, if◌then◌else◌}
-use Rattle.gh_base.specs.declared.cell.Ask.TheVariants.{Load}
 use Rattle.gh_base.specs.declared.cell.Cell.TheVariants as cell
-use Rattle.gh_base.specs.declared.layout.Layout.{Layout}
-use Rattle.gh_base.specs.declared.pack.TheConstants.{GONE}
 use Rattle.gh_phase.specs.declared.view.RunPhase.{RunPhase}
 use Rattle.gh_phase.specs.declared.view.RunPhase.TheVariants as run
 use Rattle.gh_phase.specs.Handshake.{Calm, first_lead, last_of, Lead, LeadGoes, Looks, Post, stop_before, Stopped}
-use Rattle.gh_coord.specs.declared.close.CloseStage.{CloseStage}
 use Rattle.gh_coord.specs.declared.close.CloseStage.TheVariants as close_stage
-use Rattle.gh_coord.specs.declared.coord.CoordStage.{CoordStage}
-use Rattle.gh_coord.specs.declared.coord.CoordStage.TheVariants.{LoadAck, LoadWant, Stop, Open, Watch, StopAgain, Check, MarkOn, Close, Sweep, Count, Tell, Done}
-use Rattle.gh_coord.specs.declared.open.OpenStage.{OpenStage}
 use Rattle.gh_coord.specs.declared.open.OpenStage.TheVariants as open_stage
-use Rattle.gh_coord.specs.declared.stop.StopStage.{StopStage}
 use Rattle.gh_coord.specs.declared.stop.StopStage.TheVariants as stop_stage
-use Rattle.gh_coord.specs.declared.tell.TellStage.{TellStage}
 use Rattle.gh_coord.specs.declared.tell.TellStage.TheVariants as tell_stage
 use Rattle.gh_coord.specs.Closing as close
 use Rattle.gh_coord.specs.Opening as open_
 use Rattle.gh_coord.specs.Listing.{asks, asks_at, Coordinating, goes, is_busy, opening}
 use Rattle.gh_coord.specs.Stopping.{acks_of}
+use Rattle.gh_coord.specs.Vocabulary.{Check, Close, CloseStage, CoordStage, Count, Done, GONE, Layout, Load, LoadAck, LoadWant, MarkOn, Open, OpenStage, Stop, StopAgain, StopStage, Sweep, Tell, TellStage, Watch}
 
 -- the numbers before these
 abbrev pub cycle_before : ℕ → ℕ

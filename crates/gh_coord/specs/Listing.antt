@@ -1,21 +1,8 @@
 -- The coordinator: what it asks for at each stage, where that leads, and what it gives.
 use Rattle.std.specs.Prelude.{ℕ, ◌+◌, ◌-◌, ◌%◌, ◌^◌, Bool, true, false, min, nat_lt, ◌==◌, if◌then◌else◌, [], Option, Some, None}
 use Rattle.gh_base.specs.declared.cell.Cell.TheVariants as cell
-use Rattle.gh_base.specs.declared.cell.Ask.{Ask}
-use Rattle.gh_base.specs.declared.cell.Ask.TheVariants.{Load, Store}
-use Rattle.gh_base.specs.declared.layout.Layout.{Layout}
 use Rattle.gh_base.specs.declared.pack.Phase.TheVariants as phase
-use Rattle.gh_base.specs.declared.pack.TallyWord.{TallyWord}
-use Rattle.gh_base.specs.declared.pack.TheConstants.{GONE}
-use Rattle.gh_base.specs.Packing.{bit, phase_word}
 use Rattle.gh_base.specs.Routines.{Listing}
-use Rattle.gh_coord.specs.declared.coord.CoordStage.{CoordStage}
-use Rattle.gh_coord.specs.declared.coord.CoordStage.TheVariants.{LoadAck, LoadWant, Stop, Open, Watch, StopAgain, Check, MarkOn, Close, Sweep, Count, Tell, Done}
-use Rattle.gh_coord.specs.declared.count.Counted.{Counted}
-use Rattle.gh_coord.specs.declared.cycles.Cycle.{Cycle}
-use Rattle.gh_coord.specs.declared.pacing.TheConstants.{NEVER}
-use Rattle.gh_coord.specs.declared.watch.Watched.{Watched}
-use Rattle.gh_coord.specs.declared.watch.Watched.TheVariants.{All, NotYet}
 use Rattle.gh_coord.specs.Closing as close
 use Rattle.gh_coord.specs.Counting as count
 use Rattle.gh_coord.specs.Keeping.{Kept, kept, last_kept}
@@ -24,6 +11,7 @@ use Rattle.gh_coord.specs.Stopping as stop
 use Rattle.gh_coord.specs.SweepingAll as sweep
 use Rattle.gh_coord.specs.Telling as tell
 use Rattle.gh_coord.specs.Watching as watch
+use Rattle.gh_coord.specs.Vocabulary.{All, Ask, bit, Check, Close, CoordStage, Count, Counted, Cycle, Done, GONE, Layout, Load, LoadAck, LoadWant, MarkOn, NEVER, NotYet, Open, phase_word, Stop, StopAgain, Store, Sweep, TallyWord, Tell, Watch, Watched}
 
 -- What the coordinator knows: its heap, seat and pacing; the numbers of the stops and of the cycle, and the sweep generation; the bytes marked of the last swept cycle; the credit that had lapsed by the last cycle; that each processor is done; how often it has stored the phase word; the cycles that it keeps; and its stage.
 pub record Coordinating : Type 0 where
