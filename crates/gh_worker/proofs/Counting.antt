@@ -13,7 +13,7 @@ use Rattle.gh_wbuf.specs.BufferGiving as give
 use Rattle.gh_wbuf.specs.EntryTaking as take
 use Rattle.gh_wbuf.specs.RoomFinding as room
 use Rattle.gh_worker.specs.declared.worker.WorkerStage.{WorkerStage}
-use Rattle.gh_worker.specs.declared.worker.WorkerStage.TheVariants.{LoadPhase, GiveBack, Resuming, Taking, Scanning, LoadCursor, Claim, LoadGlobal, Shading, FindRoom, Leave, Done}
+use Rattle.gh_worker.specs.declared.worker.WorkerStage.TheVariants.{GiveBack, Resuming, Taking, Scanning, LoadGlobal, Shading, FindRoom}
 use Rattle.gh_worker.specs.Listing.{Working, after_give, after_resume, after_room, after_scan, after_shade, after_take, at_stage, done_with, goes_at}
 use Rattle.gh_worker.specs.Works.{CountsWords, after, scanned, word_of, words_done, words_of}
 
@@ -62,18 +62,14 @@ module _ (w : Working) (s : ℕ) (e : w.marks ≡ count s) where
   room_so sh r (Some h) = none_more w.marks s e
 
   step_so : (stage : WorkerStage) (found : ℕ) → Counts (words_done stage found) (goes_at w stage found)
-  step_so LoadPhase found = none_more w.marks s e
   step_so (GiveBack g stops) found = give_so (give.goes g found) stops (give.gives g found)
   step_so (Resuming r) found = resume_so (resume.goes r found) (resume.gives r found)
   step_so (Taking t) found = take_so (take.goes t found) (take.gives t found)
   step_so (Scanning sc) found = scan_so (scan.goes sc found) (scan.gives sc found)
-  step_so LoadCursor found = none_more w.marks s e
-  step_so Claim found = none_more w.marks s e
   step_so (LoadGlobal i) found = global_so _ (eqb found 0)
   step_so (Shading sh) found = shade_so (shade.goes sh found) (shade.gives sh found)
   step_so (FindRoom sh r) found = room_so sh (room.goes r found) (room.gives r found)
-  step_so Leave found = none_more w.marks s e
-  step_so Done found = none_more w.marks s e
+  step_so _ found = none_more w.marks s e
 
 module _ (l : Layout) (seat : ℕ) (found : ℕ → ℕ) where
   counts_so : (n : ℕ) → (after l seat found n).marks ≡ count (scanned l seat found n)

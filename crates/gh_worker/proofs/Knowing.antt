@@ -1,29 +1,16 @@
 -- What each stage of a worker says of the words that it was told.
-use Rattle.std.proofs.Common.{◌≡◌, ◌≢◌, ℕ, zero, suc, ◌^◌, ◌<◌, Bool, true, false, cond, eqb, ltb, Option, Some, None, refl, sym, ap, subst, ◌∙◌, arith}
-use Rattle.std.proofs.lemmas.Bool.{ltb-true}
-use Rattle.gh_base.specs.declared.held.Held.{Held}
-use Rattle.gh_base.specs.declared.layout.Layout.{Layout}
-use Rattle.gh_base.specs.declared.pack.Phase.{Phase}
-use Rattle.gh_base.specs.declared.pack.Phase.TheVariants.{Off, Mark, Stop, Finished}
-use Rattle.gh_base.specs.Packing.{phase_of}
-use Rattle.gh_phase.specs.declared.resume.ResumeStage.{ResumeStage}
+use Rattle.std.proofs.Common.{◌≡◌, ◌≢◌, ℕ, zero, suc, ◌^◌, ◌<◌, Bool, true, false, cond, eqb, ltb, Option, Some, None, refl, sym, ap, subst, ◌∙◌, arith, ltb-true}
 use Rattle.gh_phase.specs.declared.resume.ResumeStage.TheVariants as resuming
 use Rattle.gh_phase.specs.declared.view.RunPhase.{RunPhase}
-use Rattle.gh_phase.specs.declared.view.View.{View}
 use Rattle.gh_phase.specs.Listing as resume
-use Rattle.gh_phase.specs.Views.{run_phase}
 use Rattle.gh_scan.specs.Listing as scan
-use Rattle.gh_shade.specs.declared.shade.Shaded.{Shaded}
 use Rattle.gh_shade.specs.declared.shade.Shaded.TheVariants as shaded
 use Rattle.gh_shade.specs.Listing as shade
 use Rattle.gh_wbuf.specs.BufferGiving as give
 use Rattle.gh_wbuf.specs.EntryTaking as take
 use Rattle.gh_wbuf.specs.RoomFinding as room
-use Rattle.gh_worker.specs.declared.worker.WorkerStage.{WorkerStage}
-use Rattle.gh_worker.specs.declared.worker.WorkerStage.TheVariants.{LoadPhase, GiveBack, Resuming, Taking, Scanning, LoadCursor, Claim, LoadGlobal, Shading, FindRoom, Leave, Done}
-use Rattle.gh_worker.specs.Listing.{Working, after_resume, after_room, after_scan, after_shade, after_take, asks, by_phase, done_with, goes, stops_at}
-use Rattle.gh_worker.specs.Works.{AreWords, phase_by}
 use Rattle.gh_worker.specs.Works as works
+use Rattle.gh_worker.proofs.Vocabulary.{after_resume, after_room, after_scan, after_shade, after_take, AreWords, asks, by_phase, Claim, Done, done_with, FindRoom, Finished, GiveBack, goes, Held, Layout, Leave, LoadCursor, LoadGlobal, LoadPhase, Mark, Off, Phase, phase_by, phase_of, ResumeStage, Resuming, run_phase, Scanning, Shaded, Shading, Stop, stops_at, Taking, View, WorkerStage, Working}
 use Rattle.gh_worker.proofs.Marking.{Marks, room_marks, scan_marks, shade_marks, take_marks}
 
 module _ (l : Layout) (seat : ℕ) (found : ℕ → ℕ) where

@@ -1,29 +1,17 @@
 -- While marking is on a worker shades the global that it has read; with its mark the global is scanned. And all of a worker's steps together.
 use Rattle.std.proofs.Common.{◌≡◌, ℕ, ◌≤◌, Bool, true, false, cond, Option, Some, None, inl, inr, refl, sym, subst, arith, ◌<◌, ◌∙◌}
 use Rattle.gh_base.specs.declared.cell.Cell.TheVariants as cell
-use Rattle.gh_base.specs.declared.held.Held.{Held}
-use Rattle.gh_base.specs.declared.layout.Layout.{Layout}
-use Rattle.gh_base.specs.Cells.{seats_of}
 use Rattle.gh_base.specs.Rows.{mark_words}
-use Rattle.gh_base.specs.Steps.{cell_of, effect}
-use Rattle.gh_marks.specs.Colours.{Cycle, IsClean, IsMarked, Shared}
-use Rattle.gh_marks.specs.Good.{Good}
-use Rattle.gh_marks.specs.Knows.{KnowsObjects}
-use Rattle.gh_marks.specs.Moves.{Keeps, Lands, Others, Quiet, ScanGlobal, Steps, landing, landing_on, lands_by, lands_still}
-use Rattle.gh_marks.specs.Seats.{Claim, ClaimOf, Hands, InHand, NoClaim, ReadOf, nothing}
+use Rattle.gh_marks.specs.Seats.{Claim}
 use Rattle.gh_phase.specs.Listing as resume
-use Rattle.gh_shade.specs.declared.shade.Shaded.{Shaded}
 use Rattle.gh_shade.specs.declared.shade.Shaded.TheVariants as shaded
-use Rattle.gh_shade.specs.declared.shade.ShadeStage.{ShadeStage}
 use Rattle.gh_shade.specs.declared.shade.ShadeStage.TheVariants.{LoadPage, SetMark, WaitForRoom, Enter, Ended}
 use Rattle.gh_shade.specs.Facts as shade_facts
 use Rattle.gh_shade.specs.Listing as shade
 use Rattle.gh_wbuf.specs.Facts as buffer_facts
 use Rattle.gh_wbuf.specs.RoomFinding as room
-use Rattle.gh_worker.specs.declared.worker.WorkerStage.{WorkerStage}
 use Rattle.gh_worker.specs.declared.worker.WorkerStage.TheVariants as worker
-use Rattle.gh_worker.specs.Listing.{Working, after_room, after_shade, asks_at, at_stage, goes_at}
-use Rattle.gh_worker.specs.MarkFacts.{Facts, StageFacts, WorksByMoves, claim_at, in_hand}
+use Rattle.gh_worker.proofs.Vocabulary.{after_room, after_shade, asks_at, at_stage, cell_of, claim_at, ClaimOf, Cycle, effect, Facts, goes_at, Good, Hands, Held, in_hand, InHand, IsClean, IsMarked, Keeps, KnowsObjects, landing, landing_on, Lands, lands_by, lands_still, Layout, NoClaim, nothing, Others, Quiet, ReadOf, ScanGlobal, seats_of, Shaded, ShadeStage, Shared, StageFacts, Steps, WorkerStage, Working, WorksByMoves}
 use Rattle.gh_worker.proofs.MarkSteps.{Known, claims, gives, load-cursor, load-phase, read-global, resumed, resumes, scans, still, takes}
 
 -- what shading leaves to be known at its next stage, with the global that the worker has then
@@ -134,18 +122,15 @@ module _ (k : Known) (z : Cycle) (a : ℕ) (s : Shared) (g : Good z s) (objects 
   own-at worker.Done whole x = still k z a s g objects w layout_is seat_is seat_in cell.Touch w whole
 
 stage-lasts : (k : Known) (z : Cycle) (a : ℕ) (s t : Shared) (held : Option Held) (p : WorkerStage) → Others z a s t → StageFacts z a s held p → StageFacts z a t held p
-stage-lasts k z a s t held worker.LoadPhase o x = k.last z a s t (in_hand held NoClaim) o x
 stage-lasts k z a s t held (worker.GiveBack m number) o x = k.buffers.gives.lasts z a s t nothing m o x
 stage-lasts k z a s t held (worker.Resuming r) o x = (k.last z a s t nothing o x.0, x.1)
 stage-lasts k z a s t held (worker.Taking m) o x = k.buffers.takes.lasts z a s t nothing m o x
 stage-lasts k z a s t held (worker.Scanning m) o x = k.scan.keeps.lasts z a s t nothing m o x
-stage-lasts k z a s t held worker.LoadCursor o x = k.last z a s t (in_hand held NoClaim) o x
 stage-lasts k z a s t held worker.Claim o x = (o.passes ∙ x.0, k.last z a s t (in_hand held NoClaim) o x.1)
 stage-lasts k z a s t held (worker.LoadGlobal i) o x = (x.0, k.last z a s t (in_hand held (ClaimOf i)) o x.1)
 stage-lasts k z a s t held (worker.Shading sh) o x = (x.0, k.shade.keeps.lasts z a s t (in_hand None (claim_at x.0 sh.reference sh.stage)) sh o x.1)
 stage-lasts k z a s t held (worker.FindRoom sh r) o x = (x.0, o.keeps.marks (shade.object_of sh.reference) x.1, k.buffers.finds.lasts z a s t (record nothing { pending = Some (shade.object_of sh.reference) }) r o x.2)
-stage-lasts k z a s t held worker.Leave o x = k.last z a s t (in_hand held NoClaim) o x
-stage-lasts k z a s t held worker.Done o x = k.last z a s t (in_hand held NoClaim) o x
+stage-lasts k z a s t held _ o x = k.last z a s t (in_hand held NoClaim) o x
 
 pub works-by-moves : Known → WorksByMoves
 works-by-moves k = record {

@@ -1,42 +1,20 @@
 -- While marking is on a worker's steps are moves that its seat may make. Of the moves and of its routines it is known what their laws say.
-use Rattle.std.proofs.Common.{◌≡◌, ◌≢◌, ℕ, ◌+◌, ◌-◌, ◌*◌, ◌<◌, ◌≤◌, Bool, true, false, cond, eqb, ltb, Option, Some, None, refl, sym, ap, subst, ◌∙◌, arith}
+use Rattle.std.proofs.Common.{◌≡◌, ◌≢◌, ℕ, ◌+◌, ◌-◌, ◌*◌, ◌<◌, ◌≤◌, Bool, true, false, cond, eqb, ltb, Option, Some, None, refl, sym, ap, subst, ◌∙◌, arith, eqb-true, eq-eqb, ltb-true, ltb-false}
 use Rattle.std.proofs.Math.Nat.{mod-eq_of_lt}
-use Rattle.std.proofs.lemmas.Bool.{eqb-true, eq-eqb, ltb-true, ltb-false}
-use Rattle.gh_base.specs.declared.cell.Ask.{Ask}
-use Rattle.gh_base.specs.declared.cell.Ask.TheVariants.{Load, Store, Add}
-use Rattle.gh_base.specs.declared.cell.Cell.{Cell}
 use Rattle.gh_base.specs.declared.cell.Cell.TheVariants as cell
-use Rattle.gh_base.specs.declared.held.Held.{Held}
-use Rattle.gh_base.specs.declared.layout.Layout.{Layout}
-use Rattle.gh_base.specs.declared.pack.Phase.{Phase}
-use Rattle.gh_base.specs.declared.pack.Phase.TheVariants.{Off, Mark, Stop, Finished}
-use Rattle.gh_base.specs.Cells.{put, seats_of}
-use Rattle.gh_base.specs.Packing.{phase_of}
-use Rattle.gh_base.specs.Steps.{cell_of, effect}
-use Rattle.gh_marks.specs.Colours.{Cycle, Shared, Taken}
-use Rattle.gh_marks.specs.Good.{Good}
-use Rattle.gh_marks.specs.Knows.{KnowsObject, KnowsObjects}
 use Rattle.gh_marks.specs.Laws.{EachHandFollows, EachHandLasts, EachStepGoesByMoves, TheCursorIsSmall}
-use Rattle.gh_marks.specs.Moves.{ClaimGlobal, IsQuiet, Keeps, Lands, PassGlobals, Quiet, ReadGlobal, ScanGlobal, Steps, Went, landing, landing_on, lands_by, lands_still, moved}
-use Rattle.gh_marks.specs.Seats.{ClaimOf, Hands, InHand, NoClaim, ReadOf, nothing}
-use Rattle.gh_phase.specs.declared.resume.Resumed.{Resumed}
-use Rattle.gh_phase.specs.declared.resume.ResumeStage.{ResumeStage}
 use Rattle.gh_phase.specs.declared.resume.ResumeStage.TheVariants as resume_stage
 use Rattle.gh_phase.specs.Listing as resume
-use Rattle.gh_scan.specs.declared.scan.ScanStage.{ScanStage}
 use Rattle.gh_scan.specs.declared.scan.ScanStage.TheVariants as scan_stage
 use Rattle.gh_scan.specs.Facts as scan_facts
 use Rattle.gh_scan.specs.Listing as scan
-use Rattle.gh_scan.specs.Listing.{reference_in}
 use Rattle.gh_shade.specs.Facts as shade_facts
 use Rattle.gh_shade.specs.Listing as shade
 use Rattle.gh_wbuf.specs.BufferGiving as give
 use Rattle.gh_wbuf.specs.EntryTaking as take
 use Rattle.gh_wbuf.specs.Facts as buffer_facts
-use Rattle.gh_worker.specs.declared.worker.WorkerStage.{WorkerStage}
 use Rattle.gh_worker.specs.declared.worker.WorkerStage.TheVariants as worker
-use Rattle.gh_worker.specs.Listing.{Working, after_give, after_global, after_resume, after_scan, after_take, at_stage, by_phase, done_with, goes_at, stops_at}
-use Rattle.gh_worker.specs.MarkFacts.{Facts, StageFacts, in_hand}
+use Rattle.gh_worker.proofs.Vocabulary.{Add, after_give, after_global, after_resume, after_scan, after_take, Ask, at_stage, by_phase, Cell, cell_of, ClaimGlobal, ClaimOf, Cycle, done_with, effect, Facts, Finished, goes_at, Good, Hands, Held, in_hand, InHand, IsQuiet, Keeps, KnowsObject, KnowsObjects, landing, landing_on, Lands, lands_by, lands_still, Layout, Load, Mark, moved, NoClaim, nothing, Off, PassGlobals, Phase, phase_of, put, Quiet, ReadGlobal, ReadOf, reference_in, Resumed, ResumeStage, ScanGlobal, ScanStage, seats_of, Shared, StageFacts, Steps, Stop, stops_at, Store, Taken, Went, WorkerStage, Working}
 
 pub record Known : Type 0 where
   pub last : EachHandLasts
@@ -128,12 +106,9 @@ module _ (k : Known) (z : Cycle) (a : ℕ) (s : Shared) (g : Good z s) (objects 
 
   -- it is scanned
   held-given : (slot words : ℕ) (held : Option Held) (p : ScanStage) → scan.given_at slot p ≡ Some words → scan.held_at held p ≡ held
-  held-given slot words held scan_stage.LoadPage e = refl
-  held-given slot words held scan_stage.LoadBitmap e = refl
-  held-given slot words held scan_stage.LoadField e = refl
   held-given slot words held (scan_stage.Shading sh) e = absurd (cc)
   held-given slot words held (scan_stage.FindRoom sh r) e = absurd (cc)
-  held-given slot words held scan_stage.Ended e = refl
+  held-given slot words held _ e = refl
 
   scanned-then : (t : Shared) (m : scan.Scanning) (n : ℕ) (out : Option ℕ) → scan.gives m n ≡ out → scan_facts.Facts z a t nothing (scan.goes m n) → Facts z a t (after_scan w (scan.goes m n) out)
   scanned-then t m n None e f = same t w.held w.marks (worker.Scanning (scan.goes m n)) f

@@ -1,27 +1,17 @@
 -- The steps of the routines of marking: none loads the phase, acknowledges, or is on a global or their count.
 use Rattle.std.proofs.Common.{◌≡◌, ◌≢◌, ℕ, Option, Some, None, refl}
-use Rattle.gh_base.specs.declared.cell.Cell.{Cell}
 use Rattle.gh_base.specs.declared.cell.Cell.TheVariants as cell
-use Rattle.gh_base.specs.declared.cell.Ask.{Ask}
-use Rattle.gh_base.specs.declared.cell.Ask.TheVariants.{Load, Store, Or, Add, Swap}
-use Rattle.gh_base.specs.declared.held.Held.{Held}
-use Rattle.gh_base.specs.declared.pack.Phase.{Phase}
-use Rattle.gh_scan.specs.declared.scan.ScanStage.{ScanStage}
 use Rattle.gh_scan.specs.declared.scan.ScanStage.TheVariants as scanning
 use Rattle.gh_scan.specs.Listing as scan
-use Rattle.gh_shade.specs.declared.shade.ShadeStage.{ShadeStage}
 use Rattle.gh_shade.specs.declared.shade.ShadeStage.TheVariants as shading
 use Rattle.gh_shade.specs.Listing as shade
-use Rattle.gh_wbuf.specs.declared.find_room.RoomStage.{RoomStage}
 use Rattle.gh_wbuf.specs.declared.find_room.RoomStage.TheVariants as finding
-use Rattle.gh_wbuf.specs.declared.take_entry.TakeStage.{TakeStage}
 use Rattle.gh_wbuf.specs.declared.take_entry.TakeStage.TheVariants as taking
-use Rattle.gh_wbuf.specs.declared.try_buffer.TryStage.{TryStage}
 use Rattle.gh_wbuf.specs.declared.try_buffer.TryStage.TheVariants as trying
 use Rattle.gh_wbuf.specs.EntryTaking as take
 use Rattle.gh_wbuf.specs.RoomFinding as room
 use Rattle.gh_wbuf.specs.Trying as try
-use Rattle.gh_worker.specs.Works.{phase_by}
+use Rattle.gh_worker.proofs.Vocabulary.{Add, Ask, Cell, Held, Load, Or, Phase, phase_by, RoomStage, ScanStage, ShadeStage, Store, Swap, TakeStage, TryStage}
 
 pub record Marks (a : Ask) : Type 0 where
   pub phase : (word : ℕ) (before : Option Phase) → phase_by a word before ≡ before

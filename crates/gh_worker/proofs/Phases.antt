@@ -1,27 +1,15 @@
 -- A worker leaves only where it finds the last phase, and marks only where it finds that marking is on: by its stages.
 use Rattle.std.proofs.Common.{◌≡◌, ℕ, Bool, true, false, cond, ltb, ◌==◌, ◌⊎◌, refl, ap, inl, inr, Option, Some, None}
-use Rattle.gh_base.specs.declared.cell.Ask.TheVariants.{Load}
 use Rattle.gh_base.specs.declared.cell.Cell.TheVariants as cell
-use Rattle.gh_base.specs.declared.held.Held.{Held}
-use Rattle.gh_base.specs.declared.pack.Phase.{Phase}
-use Rattle.gh_base.specs.declared.pack.Phase.TheVariants.{Off, Mark, Stop, Finished}
-use Rattle.gh_base.specs.Packing.{phase_of}
-use Rattle.gh_phase.specs.declared.resume.Resumed.{Resumed}
 use Rattle.gh_phase.specs.declared.view.RunPhase.TheVariants as run
 use Rattle.gh_phase.specs.Listing as resume
-use Rattle.gh_phase.specs.Views.{run_phase}
 use Rattle.gh_scan.specs.Listing as scan
-use Rattle.gh_scan.specs.Listing.{reference_in}
-use Rattle.gh_shade.specs.declared.shade.Shaded.{Shaded}
 use Rattle.gh_shade.specs.declared.shade.Shaded.TheVariants as shaded
 use Rattle.gh_shade.specs.Listing as shade
 use Rattle.gh_wbuf.specs.BufferGiving as give
 use Rattle.gh_wbuf.specs.EntryTaking as take
 use Rattle.gh_wbuf.specs.RoomFinding as room
-use Rattle.gh_worker.specs.declared.worker.WorkerStage.{WorkerStage}
-use Rattle.gh_worker.specs.declared.worker.WorkerStage.TheVariants.{LoadPhase, GiveBack, Resuming, Taking, Scanning, LoadCursor, Claim, LoadGlobal, Shading, FindRoom, Leave, Done}
-use Rattle.gh_worker.specs.Handshake.{FindsMarking, IsLeaving, IsMarking}
-use Rattle.gh_worker.specs.Listing.{after_give, after_resume, after_room, after_scan, after_shade, after_take, asks_at, at_stage, by_phase, done_with, goes_at, is_busy, stops_at, Working}
+use Rattle.gh_worker.proofs.Vocabulary.{after_give, after_resume, after_room, after_scan, after_shade, after_take, asks_at, at_stage, by_phase, Claim, Done, done_with, FindRoom, FindsMarking, Finished, GiveBack, goes_at, Held, is_busy, IsLeaving, IsMarking, Leave, Load, LoadCursor, LoadGlobal, LoadPhase, Mark, Off, Phase, phase_of, reference_in, Resumed, Resuming, run_phase, Scanning, Shaded, Shading, Stop, stops_at, Taking, WorkerStage, Working}
 
 -- Where a step does not find the last phase, the worker goes on.
 module _ (found : ℕ) (w : Working) where

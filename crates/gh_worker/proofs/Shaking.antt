@@ -1,32 +1,19 @@
 -- Each step of a worker is one of the handshake of a stop: by its stages.
 use Rattle.std.proofs.Common.{◌≡◌, ℕ, Bool, true, false, cond, ltb, ◌==◌, refl, ap, ◌∙◌, inl, inr, Option, Some, None}
-use Rattle.gh_base.specs.declared.cell.Ask.{Ask}
-use Rattle.gh_base.specs.declared.cell.Ask.TheVariants.{Load, Add}
 use Rattle.gh_base.specs.declared.cell.Cell.TheVariants as cell
-use Rattle.gh_base.specs.declared.held.Held.{Held}
-use Rattle.gh_base.specs.declared.pack.Phase.{Phase}
-use Rattle.gh_base.specs.declared.pack.Phase.TheVariants.{Off, Mark, Stop, Finished}
-use Rattle.gh_base.specs.Packing.{phase_of}
-use Rattle.gh_phase.specs.declared.resume.Resumed.{Resumed}
 use Rattle.gh_phase.specs.Ends.{ends}
 use Rattle.gh_phase.specs.Handshake.{Awake, FromAwake, IsQuiet, StageGoes}
 use Rattle.gh_phase.specs.Listing as resume
 use Rattle.gh_phase.specs.ResumePlaces.{ResumesInHandshake}
 use Rattle.gh_phase.specs.ResumePlaces as resumes
-use Rattle.gh_phase.specs.Views.{run_phase}
 use Rattle.gh_scan.specs.Listing as scan
-use Rattle.gh_scan.specs.Listing.{reference_in}
 use Rattle.gh_scan.specs.Quiet.{MarkingIsQuiet}
-use Rattle.gh_shade.specs.declared.shade.Shaded.{Shaded}
 use Rattle.gh_shade.specs.declared.shade.Shaded.TheVariants as shaded
 use Rattle.gh_shade.specs.Listing as shade
 use Rattle.gh_wbuf.specs.BufferGiving as give
 use Rattle.gh_wbuf.specs.EntryTaking as take
 use Rattle.gh_wbuf.specs.RoomFinding as room
-use Rattle.gh_worker.specs.declared.worker.WorkerStage.{WorkerStage}
-use Rattle.gh_worker.specs.declared.worker.WorkerStage.TheVariants.{LoadPhase, GiveBack, Resuming, Taking, Scanning, LoadCursor, Claim, LoadGlobal, Shading, FindRoom, Leave, Done}
-use Rattle.gh_worker.specs.Handshake.{GoesOnWithNone, party_at, party_of, Sound, SoundAt, stage_of, stands_at, WorkersKeepHandshake}
-use Rattle.gh_worker.specs.Listing.{after_give, after_resume, after_room, after_scan, after_shade, after_take, asks_at, at_stage, by_phase, done_with, goes_at, is_busy, stops_at, Working}
+use Rattle.gh_worker.proofs.Vocabulary.{Add, after_give, after_resume, after_room, after_scan, after_shade, after_take, Ask, asks_at, at_stage, by_phase, Claim, Done, done_with, FindRoom, GiveBack, goes_at, GoesOnWithNone, Held, is_busy, Leave, Load, LoadCursor, LoadGlobal, LoadPhase, party_at, party_of, Phase, phase_of, reference_in, Resumed, Resuming, run_phase, Scanning, Shaded, Shading, Sound, SoundAt, stage_of, stands_at, Stop, stops_at, Taking, WorkersKeepHandshake, WorkerStage, Working}
 use Rattle.gh_worker.proofs.Phases.{leaves_at, marks_at}
 
 -- the worker that a step leads to, from one that is awake
@@ -44,10 +31,8 @@ module _ (found : ℕ) (w : Working) where
   stops (Some h) some e = (tt, refl, (refl, record { stops = ap run_phase e; number_is = refl }))
 
   phases : (phase : Phase) → (phase_of found).phase ≡ phase → FromAwakeTo found (Load cell.Phase) w (at_stage w (by_phase w (phase_of found).stops phase))
-  phases Off e = (tt, refl, tt)
-  phases Mark e = (tt, refl, tt)
   phases Stop e = stops w.held refl e
-  phases Finished e = (tt, refl, tt)
+  phases _ e = (tt, refl, tt)
 
   takes : (ask : Ask) (t : take.EntryTaking) (out : Option (Option ℕ)) → FromAwakeTo found ask w (after_take w t out)
   takes ask t None = (tt, refl, tt)

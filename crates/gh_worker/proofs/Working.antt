@@ -1,34 +1,18 @@
 -- The laws of a worker, by what each stage says.
-use Rattle.std.proofs.Common.{◌≡◌, ◌≢◌, ℕ, zero, suc, ◌^◌, ◌<◌, ◌≤◌, ◌⊎◌, Bool, true, false, cond, eqb, leb, ltb, Option, Some, None, refl, sym, ap, subst, ◌∙◌, arith, inl, inr}
-use Rattle.std.proofs.lemmas.Bool.{eqb-true}
+use Rattle.std.proofs.Common.{◌≡◌, ◌≢◌, ℕ, zero, suc, ◌^◌, ◌<◌, ◌≤◌, ◌⊎◌, Bool, true, false, cond, eqb, leb, ltb, Option, Some, None, refl, sym, ap, subst, ◌∙◌, arith, inl, inr, eqb-true}
 use Rattle.std.proofs.lemmas.Bool.Decides.{nat_tests}
-use Rattle.gh_base.specs.declared.cell.Cell.{Cell}
 use Rattle.gh_base.specs.declared.cell.Cell.TheVariants as cell
-use Rattle.gh_base.specs.declared.cell.Ask.TheVariants.{Load, Store, Add}
-use Rattle.gh_base.specs.declared.held.Held.{Held}
-use Rattle.gh_base.specs.declared.layout.Layout.{Layout}
-use Rattle.gh_base.specs.declared.pack.Phase.{Phase}
-use Rattle.gh_base.specs.declared.pack.Phase.TheVariants.{Off, Mark, Stop, Finished}
 use Rattle.gh_base.specs.declared.pack.TheConstants.{GONE}
-use Rattle.gh_base.specs.Packing.{phase_of}
-use Rattle.gh_phase.specs.declared.resume.Resumed.{Resumed}
-use Rattle.gh_phase.specs.declared.resume.ResumeStage.{ResumeStage}
 use Rattle.gh_phase.specs.declared.resume.ResumeStage.TheVariants as resuming
-use Rattle.gh_phase.specs.declared.view.View.{View}
 use Rattle.gh_phase.specs.Listing as resume
 use Rattle.gh_scan.specs.Listing as scan
-use Rattle.gh_scan.specs.Listing.{reference_in}
-use Rattle.gh_shade.specs.declared.shade.Shaded.{Shaded}
 use Rattle.gh_shade.specs.declared.shade.Shaded.TheVariants as shaded
 use Rattle.gh_shade.specs.Listing as shade
 use Rattle.gh_wbuf.specs.BufferGiving as give
 use Rattle.gh_wbuf.specs.EntryTaking as take
 use Rattle.gh_wbuf.specs.RoomFinding as room
-use Rattle.gh_worker.specs.declared.worker.WorkerStage.{WorkerStage}
-use Rattle.gh_worker.specs.declared.worker.WorkerStage.TheVariants.{LoadPhase, GiveBack, Resuming, Taking, Scanning, LoadCursor, Claim, LoadGlobal, Shading, FindRoom, Leave, Done}
-use Rattle.gh_worker.specs.Listing.{Working, after_resume, after_room, after_scan, after_shade, after_take, asks, at_stage, by_phase, done_with, gives_at, goes, goes_at, held_at, is_busy}
-use Rattle.gh_worker.specs.Works.{AreWords, ClaimsGlobals, KeepsToPhases, LeavesOnce, OnlyLooks, OnlyStops, ScansObjects, StepsOfResuming, StepsOfRoom, StepsOfScanning, StepsOfShading, StepsOfTaking, StopsThen, StopsWithNoBuffer}
 use Rattle.gh_worker.specs.Works as works
+use Rattle.gh_worker.proofs.Vocabulary.{Add, after_resume, after_room, after_scan, after_shade, after_take, AreWords, asks, at_stage, by_phase, Cell, Claim, ClaimsGlobals, Done, done_with, FindRoom, Finished, GiveBack, gives_at, goes, goes_at, Held, held_at, is_busy, KeepsToPhases, Layout, Leave, LeavesOnce, Load, LoadCursor, LoadGlobal, LoadPhase, Mark, Off, OnlyLooks, OnlyStops, Phase, phase_of, reference_in, Resumed, ResumeStage, Resuming, Scanning, ScansObjects, Shaded, Shading, StepsOfResuming, StepsOfRoom, StepsOfScanning, StepsOfShading, StepsOfTaking, Stop, StopsThen, StopsWithNoBuffer, Store, Taking, View, WorkerStage, Working}
 use Rattle.gh_worker.proofs.Knowing.{ClaimsOne, HasFinished, HasOne, IsStopped, Knows, KnowsResume, after, is_at, last, resuming_at, state}
 use Rattle.gh_worker.proofs.Marking.{Apart, is_apart, loads_begun, loads_gen, loads_phase, Marks, room_marks, scan_marks, shade_marks, stores_buffer, take_marks, touches}
 
@@ -189,17 +173,7 @@ module _ (l : Layout) (seat : ℕ) (found : ℕ → ℕ) where
 
   leaves : (w : Working) (stage : WorkerStage) (v : ℕ) → gives_at stage ≡ Some tt → (goes_at w stage v).stage ≡ Done
   leaves w Leave v e = refl
-  leaves w LoadPhase v e = absurd (cc)
-  leaves w (GiveBack g stops) v e = absurd (cc)
-  leaves w (Resuming r) v e = absurd (cc)
-  leaves w (Taking t) v e = absurd (cc)
-  leaves w (Scanning s) v e = absurd (cc)
-  leaves w LoadCursor v e = absurd (cc)
-  leaves w Claim v e = absurd (cc)
-  leaves w (LoadGlobal i) v e = absurd (cc)
-  leaves w (Shading sh) v e = absurd (cc)
-  leaves w (FindRoom sh r) v e = absurd (cc)
-  leaves w Done v e = absurd (cc)
+  leaves w _ v e = absurd (cc)
 
   stays_done : (n m : ℕ) → (after l seat found n).stage ≡ Done → n ≤ m → (after l seat found m).stage ≡ Done
   stays_done n zero e le =

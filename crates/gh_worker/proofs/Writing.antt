@@ -1,36 +1,24 @@
 -- Which words a worker writes, routine by routine; and that it writes none of marking while it is calm.
 use Rattle.std.proofs.Common.{◌≡◌, ℕ, ◌⊎◌, inl, inr, true, refl, subst, sym, Option, Some, None}
-use Rattle.gh_base.specs.declared.held.Held.{Held}
-use Rattle.gh_base.specs.declared.pack.Phase.{Phase}
 use Rattle.gh_base.specs.declared.pack.Phase.TheVariants as kind
-use Rattle.gh_base.specs.Packing.{phase_of}
-use Rattle.gh_phase.specs.declared.resume.Resumed.{Resumed}
-use Rattle.gh_phase.specs.declared.resume.ResumeStage.{ResumeStage}
 use Rattle.gh_phase.specs.declared.resume.ResumeStage.TheVariants as resuming
 use Rattle.gh_phase.specs.Listing as resume
-use Rattle.gh_scan.specs.declared.scan.ScanStage.{ScanStage}
 use Rattle.gh_scan.specs.declared.scan.ScanStage.TheVariants as scanning
 use Rattle.gh_scan.specs.Listing as scan
-use Rattle.gh_shade.specs.declared.shade.ShadeStage.{ShadeStage}
 use Rattle.gh_shade.specs.declared.shade.ShadeStage.TheVariants as shading
 use Rattle.gh_shade.specs.Listing as shade
-use Rattle.gh_wbuf.specs.declared.find_room.RoomStage.{RoomStage}
 use Rattle.gh_wbuf.specs.declared.find_room.RoomStage.TheVariants as finding
 use Rattle.gh_wbuf.specs.declared.give_buffer.GiveStage.{GiveStage}
 use Rattle.gh_wbuf.specs.declared.give_buffer.GiveStage.TheVariants as giving
-use Rattle.gh_wbuf.specs.declared.take_entry.TakeStage.{TakeStage}
 use Rattle.gh_wbuf.specs.declared.take_entry.TakeStage.TheVariants as taking
-use Rattle.gh_wbuf.specs.declared.try_buffer.TryStage.{TryStage}
 use Rattle.gh_wbuf.specs.declared.try_buffer.TryStage.TheVariants as trying
 use Rattle.gh_wbuf.specs.BufferGiving as give
 use Rattle.gh_wbuf.specs.EntryTaking as take
 use Rattle.gh_wbuf.specs.RoomFinding as room
 use Rattle.gh_wbuf.specs.Trying as try
-use Rattle.gh_worker.specs.declared.worker.WorkerStage.{WorkerStage}
 use Rattle.gh_worker.specs.declared.worker.WorkerStage.TheVariants as work
-use Rattle.gh_worker.specs.Handshake.{GoesOnWithNone, IsMarking, Sound, SoundAt}
-use Rattle.gh_worker.specs.Listing.{after_resume, asks_at, by_phase, goes_at, is_busy, stops_at, Working}
 use Rattle.gh_worker.specs.Writing.{AcksAlone, CalmWorkersMarkNothing, IsCalm, Rests, WorkersWriteTheirOwn, WritesItsOwn}
+use Rattle.gh_worker.proofs.Vocabulary.{after_resume, asks_at, by_phase, goes_at, GoesOnWithNone, Held, is_busy, IsMarking, Phase, phase_of, Resumed, ResumeStage, RoomStage, ScanStage, ShadeStage, Sound, SoundAt, stops_at, TakeStage, TryStage, WorkerStage, Working}
 
 module _ (seat : ℕ) where
   backs : (t : try.Trying) (held : Option Held) → WritesItsOwn seat (try.back_at t held)
@@ -38,10 +26,8 @@ module _ (seat : ℕ) where
   backs t (Some h) = tt
 
   tries : (t : try.Trying) (p : TryStage) → WritesItsOwn seat (try.asks_at t p)
-  tries t trying.Look = tt
   tries t (trying.GiveBack word) = backs t t.held
-  tries t (trying.Claim word) = tt
-  tries t trying.Ended = tt
+  tries t _ = tt
 
   gives : (p : GiveStage) → WritesItsOwn seat (give.asks_at p)
   gives (giving.Give h) = tt
@@ -62,40 +48,29 @@ module _ (seat : ℕ) where
   enters reference (Some h) = tt
 
   shades : (s : shade.Shading) (p : ShadeStage) → WritesItsOwn seat (shade.asks_at s p)
-  shades s shading.LoadPage = tt
-  shades s (shading.SetMark noscan) = tt
-  shades s shading.WaitForRoom = tt
   shades s shading.Enter = enters s.reference s.held
-  shades s shading.Ended = tt
+  shades s _ = tt
 
   scans : (s : scan.Scanning) (p : ScanStage) → WritesItsOwn seat (scan.asks_at s p)
-  scans s scanning.LoadPage = tt
-  scans s scanning.LoadBitmap = tt
-  scans s scanning.LoadField = tt
   scans s (scanning.Shading sh) = shades sh sh.stage
   scans s (scanning.FindRoom sh r) = finds_room r r.stage
-  scans s scanning.Ended = tt
+  scans s _ = tt
 
   resumes : (r : resume.Resuming) (p : ResumeStage) → r.seat ≡ seat → WritesItsOwn seat (resume.asks_at r p)
   resumes r resuming.Acknowledge e = e
-  resumes r resuming.LoadPhase e = tt
-  resumes r resuming.LoadGeneration e = tt
-  resumes r resuming.LoadBegun e = tt
-  resumes r resuming.Ended e = tt
+  resumes r _ e = tt
 
 writes_at : (w : Working) (p : WorkerStage) → SoundAt w p → is_busy p ≡ true → WritesItsOwn w.seat (asks_at w p)
-writes_at w work.LoadPhase s b = tt
 writes_at w (work.GiveBack g stops) s b = gives w.seat g.stage
 writes_at w (work.Resuming r) s b = resumes w.seat r r.stage s.seat_is
 writes_at w (work.Taking t) s b = takes w.seat t t.stage
 writes_at w (work.Scanning m) s b = scans w.seat m m.stage
-writes_at w work.LoadCursor s b = tt
 writes_at w work.Claim s b = (refl, refl)
-writes_at w (work.LoadGlobal i) s b = tt
 writes_at w (work.Shading sh) s b = shades w.seat sh sh.stage
 writes_at w (work.FindRoom sh r) s b = finds_room w.seat r r.stage
 writes_at w work.Leave s b = refl
 writes_at w work.Done s b = absurd cc
+writes_at w _ s b = tt
 
 pub writes_its_own : WorkersWriteTheirOwn
 writes_its_own w s b = writes_at w w.stage s b
@@ -104,24 +79,14 @@ writes_its_own w s b = writes_at w w.stage s b
 
 acks : (seat : ℕ) (r : resume.Resuming) (p : ResumeStage) → r.seat ≡ seat → AcksAlone seat (resume.asks_at r p)
 acks seat r resuming.Acknowledge e = e
-acks seat r resuming.LoadPhase e = tt
-acks seat r resuming.LoadGeneration e = tt
-acks seat r resuming.LoadBegun e = tt
-acks seat r resuming.Ended e = tt
+acks seat r _ e = tt
 
 acks_at : (w : Working) (p : WorkerStage) → SoundAt w p → Rests p → is_busy p ≡ true → AcksAlone w.seat (asks_at w p)
 acks_at w work.LoadPhase s c b = tt
 acks_at w (work.Resuming r) s c b = acks w.seat r r.stage s.seat_is
 acks_at w work.Leave s c b = refl
 acks_at w work.Done s c b = absurd cc
-acks_at w (work.GiveBack g stops) s c b = absurd c
-acks_at w (work.Taking t) s c b = absurd c
-acks_at w (work.Scanning m) s c b = absurd c
-acks_at w work.LoadCursor s c b = absurd c
-acks_at w work.Claim s c b = absurd c
-acks_at w (work.LoadGlobal i) s c b = absurd c
-acks_at w (work.Shading sh) s c b = absurd c
-acks_at w (work.FindRoom sh r) s c b = absurd c
+acks_at w _ s c b = absurd c
 
 stops_calm : (w : Working) (stops : ℕ) (held : Option Held) → w.held ≡ None → held ≡ None → Rests (stops_at w stops held)
 stops_calm w stops None e x = tt
@@ -145,14 +110,7 @@ stays_at w work.LoadPhase found e c b = elim (loads_calm w (phase_of found).stop
 stays_at w (work.Resuming r) found e c b = inl (resumes_calm w (resume.goes r found) (resume.gives r found) e)
 stays_at w work.Leave found e c b = inl (record { none = e; rests = tt })
 stays_at w work.Done found e c b = absurd cc
-stays_at w (work.GiveBack g stops) found e c b = absurd c
-stays_at w (work.Taking t) found e c b = absurd c
-stays_at w (work.Scanning m) found e c b = absurd c
-stays_at w work.LoadCursor found e c b = absurd c
-stays_at w work.Claim found e c b = absurd c
-stays_at w (work.LoadGlobal i) found e c b = absurd c
-stays_at w (work.Shading sh) found e c b = absurd c
-stays_at w (work.FindRoom sh r) found e c b = absurd c
+stays_at w _ found e c b = absurd c
 
 stopped : (w : Working) (r : resume.Resuming) → Sound w → w.stage ≡ work.Resuming r → IsCalm w
 stopped w r s e = let x : GoesOnWithNone w.seat w.held r = subst (SoundAt w) e s in record { none = x.none; rests = subst Rests (sym e) tt }

@@ -1,3 +1,4 @@
+pub mod Vocabulary
 pub mod Ends
 pub mod Handshake
 pub mod Listing

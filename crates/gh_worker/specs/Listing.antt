@@ -1,29 +1,16 @@
 -- The worker: what it asks for at each stage, where that leads, and when it is done.
 use Rattle.std.specs.Prelude.{ℕ, ◌+◌, ◌-◌, ◌^◌, Bool, true, false, min, nat_lt, ◌==◌, if◌then◌else◌, Option, Some, None}
 use Rattle.gh_base.specs.declared.cell.Cell.TheVariants as cell
-use Rattle.gh_base.specs.declared.cell.Ask.{Ask}
-use Rattle.gh_base.specs.declared.cell.Ask.TheVariants.{Load, Store, Add}
-use Rattle.gh_base.specs.declared.held.Held.{Held}
-use Rattle.gh_base.specs.declared.layout.Layout.{Layout}
-use Rattle.gh_base.specs.declared.pack.Phase.{Phase}
-use Rattle.gh_base.specs.declared.pack.Phase.TheVariants.{Off, Mark, Stop, Finished}
-use Rattle.gh_base.specs.declared.pack.TheConstants.{GONE}
-use Rattle.gh_base.specs.Packing.{phase_of}
-use Rattle.gh_base.specs.Routines.{Listing}
-use Rattle.gh_phase.specs.declared.resume.Resumed.{Resumed}
 use Rattle.gh_phase.specs.declared.view.View.{View}
 use Rattle.gh_phase.specs.Listing as resume
 use Rattle.gh_phase.specs.Views.{first_view}
 use Rattle.gh_scan.specs.Listing as scan
-use Rattle.gh_scan.specs.Listing.{reference_in}
-use Rattle.gh_shade.specs.declared.shade.Shaded.{Shaded}
 use Rattle.gh_shade.specs.declared.shade.Shaded.TheVariants as shaded
 use Rattle.gh_shade.specs.Listing as shade
 use Rattle.gh_wbuf.specs.BufferGiving as give
 use Rattle.gh_wbuf.specs.EntryTaking as take
 use Rattle.gh_wbuf.specs.RoomFinding as room
-use Rattle.gh_worker.specs.declared.worker.WorkerStage.{WorkerStage}
-use Rattle.gh_worker.specs.declared.worker.WorkerStage.TheVariants.{LoadPhase, GiveBack, Resuming, Taking, Scanning, LoadCursor, Claim, LoadGlobal, Shading, FindRoom, Leave, Done}
+use Rattle.gh_worker.specs.Vocabulary.{Add, Ask, Claim, Done, FindRoom, Finished, GiveBack, GONE, Held, Layout, Leave, Listing, Load, LoadCursor, LoadGlobal, LoadPhase, Mark, Off, Phase, phase_of, reference_in, Resumed, Resuming, Scanning, Shaded, Shading, Stop, Store, Taking, WorkerStage}
 
 -- a worker: the buffer that it holds between its routines, what it knows of the phase, the words that it has scanned, and its stage
 pub record Working : Type 0 where

@@ -2,27 +2,14 @@
 use Rattle.std.specs.Prelude.{◌≡◌, ◌≢◌, ℕ, zero, suc, ◌+◌, ◌-◌, ◌^◌, ◌<◌, min, ◌==◌, if◌then◌else◌, ◌⊎◌, Option, Some, None}
 use Rattle.gh_base.specs.declared.cell.Cell.{Cell}
 use Rattle.gh_base.specs.declared.cell.Cell.TheVariants as cell
-use Rattle.gh_base.specs.declared.cell.Ask.{Ask}
-use Rattle.gh_base.specs.declared.cell.Ask.TheVariants.{Load, Store, Add}
-use Rattle.gh_base.specs.declared.held.Held.{Held}
-use Rattle.gh_base.specs.declared.layout.Layout.{Layout}
-use Rattle.gh_base.specs.declared.pack.Phase.{Phase}
-use Rattle.gh_base.specs.declared.pack.Phase.TheVariants.{Off, Mark, Stop, Finished}
-use Rattle.gh_base.specs.declared.pack.TheConstants.{GONE}
-use Rattle.gh_base.specs.Packing.{buffer_word, phase_of}
-use Rattle.gh_base.specs.Routines.{EndsWith, GoesOn, told}
-use Rattle.gh_phase.specs.declared.resume.Resumed.{Resumed}
 use Rattle.gh_phase.specs.Listing as resume
 use Rattle.gh_scan.specs.Listing as scan
-use Rattle.gh_scan.specs.Listing.{reference_in}
-use Rattle.gh_shade.specs.declared.shade.Shaded.{Shaded}
 use Rattle.gh_shade.specs.declared.shade.Shaded.TheVariants as shaded
 use Rattle.gh_shade.specs.Listing as shade
 use Rattle.gh_wbuf.specs.EntryTaking as take
 use Rattle.gh_wbuf.specs.RoomFinding as room
-use Rattle.gh_worker.specs.declared.worker.WorkerStage.{WorkerStage}
-use Rattle.gh_worker.specs.declared.worker.WorkerStage.TheVariants.{LoadPhase, Resuming, Taking, Scanning, LoadGlobal, Shading, FindRoom}
 use Rattle.gh_worker.specs.Listing.{Working, asks, held_at, listing, opening}
+use Rattle.gh_worker.specs.Vocabulary.{Add, Ask, buffer_word, EndsWith, FindRoom, Finished, GoesOn, GONE, Held, Layout, Load, LoadGlobal, LoadPhase, Mark, Off, Phase, phase_of, reference_in, Resumed, Resuming, Scanning, Shaded, Shading, Stop, Store, Taking, told, WorkerStage}
 
 -- the phase that was found last, after a step
 abbrev pub phase_by : Ask → (word : ℕ) → Option Phase → Option Phase
