@@ -9,31 +9,7 @@ use Rattle.gh_base.specs.Cells.{word_of, InRange, same_cell, length_of, alloc_ro
 -- each word number of the layout is below its length
 pub word_below : (l : Layout) (c : Cell) → InRange l c → word_of l c < length_of l
 word_below l Touch h = omega arith
-word_below l Phase h = omega arith
-word_below l Gen h = omega arith
-word_below l Begun h = omega arith
-word_below l Swept h = omega arith
-word_below l Lock h = omega arith
-word_below l Want h = omega arith
-word_below l Bank h = omega arith
-word_below l Gcur h = omega arith
-word_below l Heap h = omega arith
-word_below l Trigger h = omega arith
-word_below l Work h = omega arith
-word_below l Slack h = omega arith
-word_below l Tally h = omega arith
-word_below l Live h = omega arith
-word_below l (Page i) h = omega arith
-word_below l (Alloc i) h = omega arith
-word_below l (Mark i) h = omega arith
-word_below l (Bitmap i) h = omega arith
-word_below l (Birth i) h = omega arith
-word_below l (Field i) h = omega arith
-word_below l (Global i) h = omega arith
-word_below l (Buffer i) h = omega arith
-word_below l (Entry i j) h = omega arith
-word_below l (Ack i) h = omega arith
-word_below l (Scanned i) h = omega arith
+word_below l _ h = omega arith
 
 -- the control word of this number
 abbrev control_at : ℕ → Cell
@@ -57,21 +33,6 @@ cell_at l w =
     else Scanned (w - scanned_row l)
 
 cell_at-word_of : (l : Layout) (c : Cell) → InRange l c → cell_at l (word_of l c) ≡ c
-cell_at-word_of l Touch h = refl
-cell_at-word_of l Phase h = refl
-cell_at-word_of l Gen h = refl
-cell_at-word_of l Begun h = refl
-cell_at-word_of l Swept h = refl
-cell_at-word_of l Lock h = refl
-cell_at-word_of l Want h = refl
-cell_at-word_of l Bank h = refl
-cell_at-word_of l Gcur h = refl
-cell_at-word_of l Heap h = refl
-cell_at-word_of l Trigger h = refl
-cell_at-word_of l Work h = refl
-cell_at-word_of l Slack h = refl
-cell_at-word_of l Tally h = refl
-cell_at-word_of l Live h = refl
 cell_at-word_of l (Page i) h = grind (arith, nat_tests)
 cell_at-word_of l (Alloc i) h = grind (arith, nat_tests)
 cell_at-word_of l (Mark i) h = grind (arith, nat_tests)
@@ -83,27 +44,13 @@ cell_at-word_of l (Buffer i) h = grind (arith, nat_tests)
 cell_at-word_of l (Entry i j) h = grind (arith, nat_tests)
 cell_at-word_of l (Ack i) h = grind (arith, nat_tests)
 cell_at-word_of l (Scanned i) h = grind (arith, nat_tests)
+cell_at-word_of l _ h = refl
 
 -- one word, one cell
 pub word_of-injective : (l : Layout) (c d : Cell) → InRange l c → InRange l d → word_of l c ≡ word_of l d → c ≡ d
 word_of-injective l c d hc hd e = sym (cell_at-word_of l c hc) ∙ ap (cell_at l) e ∙ cell_at-word_of l d hd
 
 pub same_cell_self : (c : Cell) → same_cell c c ≡ true
-same_cell_self Touch = refl
-same_cell_self Phase = refl
-same_cell_self Gen = refl
-same_cell_self Begun = refl
-same_cell_self Swept = refl
-same_cell_self Lock = refl
-same_cell_self Want = refl
-same_cell_self Bank = refl
-same_cell_self Gcur = refl
-same_cell_self Heap = refl
-same_cell_self Trigger = refl
-same_cell_self Work = refl
-same_cell_self Slack = refl
-same_cell_self Tally = refl
-same_cell_self Live = refl
 same_cell_self (Page i) = grind (arith, nat_tests)
 same_cell_self (Alloc i) = grind (arith, nat_tests)
 same_cell_self (Mark i) = grind (arith, nat_tests)
@@ -115,6 +62,7 @@ same_cell_self (Buffer i) = grind (arith, nat_tests)
 same_cell_self (Entry i j) = grind (arith, nat_tests)
 same_cell_self (Ack i) = grind (arith, nat_tests)
 same_cell_self (Scanned i) = grind (arith, nat_tests)
+same_cell_self _ = refl
 
 -- what `same_cell` tells
 pub same_cell_tells : (c d : Cell) → same_cell c d ≡ true → c ≡ d

@@ -38,11 +38,7 @@ shows_put l list words c value h shows = record {
 -- a request is on the word of its cell
 pub target-request : (l : Layout) (ask : Ask) → target (request l ask) ≡ word_of l (cell_of ask)
 target-request l (Load c) = refl
-target-request l (Store c v) = refl
-target-request l (Or c v) = refl
-target-request l (And c v) = refl
-target-request l (Add c v) = refl
-target-request l (Swap c old new) = refl
+target-request l _ = refl
 
 -- what is found there is what the cell holds
 pub found-request : (l : Layout) (list : List ℕ) (words : Words) (ask : Ask) → InRange l (cell_of ask) → Shows l list words →
@@ -71,11 +67,8 @@ stays words c at = go (same_cell c at) refl where
 
 pub effect_at : (words : Words) (ask : Ask) (at : Cell) → effect words ask at ≡ cond (same_cell (cell_of ask) at) (left ask (words (cell_of ask))) (words at)
 effect_at words (Load c) at = stays words c at
-effect_at words (Store c v) at = refl
-effect_at words (Or c v) at = refl
-effect_at words (And c v) at = refl
-effect_at words (Add c v) at = refl
 effect_at words (Swap c old new) at = go (eqb (words c) old) where
   go : (b : Bool) → (cond b (put words c new) words) at ≡ cond (same_cell c at) (cond b new (words c)) (words at)
   go true = refl
   go false = stays words c at
+effect_at words _ at = refl

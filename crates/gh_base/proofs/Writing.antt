@@ -6,7 +6,7 @@ use Rattle.std.proofs.lemmas.Nat.Bits.{bit_at_or, bit_at-lt, bit_at-pow_same, bi
 use Rattle.std.proofs.lemmas.Bool.{eqb-true, eq-eqb}
 use Rattle.std.proofs.lemmas.Bool.Decides.{nat_tests}
 use Rattle.gh_base.specs.declared.cell.Cell.{Cell}
-use Rattle.gh_base.specs.declared.cell.Cell.TheVariants.{Touch, Phase, Gen, Begun, Swept, Lock, Want, Bank, Gcur, Heap, Trigger, Work, Slack, Tally, Live, Page, Alloc, Mark, Bitmap, Birth, Field, Global, Buffer, Entry, Ack, Scanned}
+use Rattle.gh_base.specs.declared.cell.Cell.TheVariants.{Page, Alloc, Mark, Bitmap, Birth, Field, Global, Buffer, Entry, Ack, Scanned}
 use Rattle.gh_base.specs.Cells.{same_cell}
 use Rattle.gh_base.specs.Rows.{CellsAreTold, Row, row_bit, RowsAreWritten, with_word}
 use Rattle.gh_base.proofs.Apart.{same_cell_tells}
@@ -57,21 +57,6 @@ rows = record { here = here; elsewhere = elsewhere; bit_here = bit_here; bit_els
 
 -- a cell is the same as itself
 itself : (c : Cell) → same_cell c c ≡ true
-itself Touch = refl
-itself Phase = refl
-itself Gen = refl
-itself Begun = refl
-itself Swept = refl
-itself Lock = refl
-itself Want = refl
-itself Bank = refl
-itself Gcur = refl
-itself Heap = refl
-itself Trigger = refl
-itself Work = refl
-itself Slack = refl
-itself Tally = refl
-itself Live = refl
 itself (Page i) = eq-eqb i i refl
 itself (Alloc i) = eq-eqb i i refl
 itself (Mark i) = eq-eqb i i refl
@@ -83,6 +68,7 @@ itself (Buffer i) = eq-eqb i i refl
 itself (Entry i j) = grind (arith, nat_tests)
 itself (Ack i) = eq-eqb i i refl
 itself (Scanned i) = eq-eqb i i refl
+itself _ = refl
 
 other : (c d : Cell) → c ≢ d → same_cell c d ≡ false
 other c d ne = go (same_cell c d) refl where

@@ -6,7 +6,7 @@ use Rattle.gh_base.specs.declared.pack.SpanHead.{SpanHead}
 use Rattle.gh_base.specs.Packing.{body_word, head_word, page_of}
 use Rattle.gh_base.specs.Rows.{Row, row_bit, with_word}
 use Rattle.gh_heap.specs.Laws.{EachMoveKeepsItsOwn, KeepsItsOwn}
-use Rattle.gh_heap.specs.Moves.{Quiet, Takes, Ends, TakeLock, LeaveLock, Refuse, LayBody, LayHead, FreeBody, FreeHead, Own, Disown, Publish, ClearField, SetBirth, SetBits, Make, Write, WriteGlobal, update_at}
+use Rattle.gh_heap.specs.Moves.{Quiet, Takes, Ends, LayBody, LayHead, FreeBody, FreeHead, Own, Disown, Publish, Make, update_at}
 use Rattle.gh_heap.specs.Rights.{Shared, View, view}
 use Rattle.gh_heap.specs.Spans.{body_at, owned_by, owner_at, owner_in}
 use Rattle.gh_heap.proofs.LeavesPages.{Known, bits-grow}
@@ -40,9 +40,6 @@ pub keeps-its-own : Known → EachMoveKeepsItsOwn
 keeps-its-own k z a s (Quiet step) g may = quiet a s _ (ap (λ (v : View). v.page) (quiet-view s step may)) (ap (λ (v : View). v.alloc) (quiet-view s step may)) (ap (λ (v : View). v.generation) (quiet-view s step may))
 keeps-its-own k z a s (Takes step c d value) g may = quiet a s _ (ap (λ (v : View). v.page) (quiet-view s step may.0)) (ap (λ (v : View). v.alloc) (quiet-view s step may.0)) (ap (λ (v : View). v.generation) (quiet-view s step may.0))
 keeps-its-own k z a s (Ends step c) g may = quiet a s _ (ap (λ (v : View). v.page) (quiet-view s step may.0)) (ap (λ (v : View). v.alloc) (quiet-view s step may.0)) (ap (λ (v : View). v.generation) (quiet-view s step may.0))
-keeps-its-own k z a s TakeLock g may = unchanged a (view s) _ refl refl (λ x e. e)
-keeps-its-own k z a s LeaveLock g may = unchanged a (view s) _ refl refl (λ x e. e)
-keeps-its-own k z a s (Refuse c d) g may = unchanged a (view s) _ refl refl (λ x e. e)
 keeps-its-own k z a s (LayBody y) g may = written k a (view s) _ (y.first + y.next) (body_word (body_at y.head y.next)) (λ q. refl) refl (λ x e. e) (λ h held still head. let free = may.0.laid.free y.next (omega arith) may.1 in absurd (cc (free, head)))
 keeps-its-own k z a s (LayHead y) g may = written k a (view s) _ y.first (head_word y.head) (λ q. refl) refl (λ x e. e) (λ h held still head. absurd (cc (may.0.laid.head, head)))
 keeps-its-own k z a s (FreeBody y) g may = written k a (view s) _ (y.first + y.next) 0 (λ q. refl) refl (λ x e. e) (λ h held still head. let body = may.0.being.standing y.next (omega arith) may.1 in absurd (cc (body, head)))
@@ -60,9 +57,5 @@ keeps-its-own k z a s (Own p f) g may = written k a (view s) _ p (head_word (own
       omega (arith, owner, none, may.1)
 keeps-its-own k z a s (Disown p f) g may = written k a (view s) _ p (head_word (owned_by 0 f)) (λ q. refl) refl (λ x e. e) (λ h held still head. given-row s.holds a p still)
 keeps-its-own k z a s (Publish p f) g may = written k a (view s) _ p (head_word (owned_by 0 f)) (λ q. refl) refl (λ x e. e) (λ h held still head. given-row s.holds a p still)
-keeps-its-own k z a s (ClearField at size i) g may = unchanged a (view s) _ refl refl (λ x e. e)
-keeps-its-own k z a s (SetBirth at size n) g may = unchanged a (view s) _ refl refl (λ x e. e)
-keeps-its-own k z a s (SetBits at size i word) g may = unchanged a (view s) _ refl refl (λ x e. e)
 keeps-its-own k z a s (Make at c d t) g may = unchanged a (view s) _ refl refl (bits-grow k (view s).alloc at)
-keeps-its-own k z a s (Write n i value word) g may = unchanged a (view s) _ refl refl (λ x e. e)
-keeps-its-own k z a s (WriteGlobal i value word) g may = unchanged a (view s) _ refl refl (λ x e. e)
+keeps-its-own k z a s _ g may = unchanged a (view s) _ refl refl (λ x e. e)

@@ -17,11 +17,7 @@ two-ways e f = let clash : true ≡ false = sym e ∙ f in cc
 -- by the colour a mark bit is 0 or 1
 mark_of_two : (c : Colour) → (mark_of c ≡ 0) ⊎ (mark_of c ≡ 1)
 mark_of_two White = inl refl
-mark_of_two (Placing a) = inr refl
-mark_of_two (Pending a) = inr refl
-mark_of_two (Buffered b j) = inr refl
-mark_of_two (Taken a) = inr refl
-mark_of_two Black = inr refl
+mark_of_two _ = inr refl
 
 pub bits-of : (mark : Row) (colour : ℕ → Colour) → MarksGood mark colour → (o : ℕ) → (row_bit mark o ≡ 0) ⊎ (row_bit mark o ≡ 1)
 bits-of mark colour g o = elim (mark_of_two (colour o)) [ inl e ↦ inl (g o ∙ e) | inr e ↦ inr (g o ∙ e) ]
@@ -37,20 +33,15 @@ white-colour mark colour g o zero = go (colour o) refl (sym (g o) ∙ zero) wher
   go Black e f = one-zero refl f
 
 pub grey-shaded : (c : Colour) → IsGrey c → IsShaded c
-grey-shaded White h = absurd h
-grey-shaded (Placing a) h = absurd h
 grey-shaded (Pending a) h = tt
 grey-shaded (Buffered b j) h = tt
 grey-shaded (Taken a) h = tt
-grey-shaded Black h = absurd h
+grey-shaded _ h = absurd h
 
 pub shaded-mark : (c : Colour) → IsShaded c → mark_of c ≡ 1
 shaded-mark White h = absurd h
 shaded-mark (Placing a) h = absurd h
-shaded-mark (Pending a) h = refl
-shaded-mark (Buffered b j) h = refl
-shaded-mark (Taken a) h = refl
-shaded-mark Black h = refl
+shaded-mark _ h = refl
 
 pub clean-grows : (m n : Row) (v : ℕ) → ((o : ℕ) → IsMarked m o → IsMarked n o) → IsClean m v → IsClean n v
 clean-grows m n v grow h o e = grow o (h o e)

@@ -12,7 +12,7 @@ use Rattle.gh_marks.specs.Colours.{Black, Buffered, Claimed, Colour, Cycle, IsGr
 use Rattle.gh_marks.specs.Ends.{IsDone, IsFound, Reached, from_field, from_global, from_register}
 use Rattle.gh_marks.specs.Good.{Good, count_of}
 use Rattle.gh_marks.specs.Laws.{EachMoveLeavesTheDead, MarkingEndsClean, TheCursorIsSmall, TheDeadAreWhite, WhatIsFoundIsDone}
-use Rattle.gh_marks.specs.Moves.{Blacken, ClaimGlobal, EndStack, Enter, GiveBuffer, IsDead, May, Move, PassGlobals, Place, PutField, PutGlobal, Quiet, ReadGlobal, Reserve, ScanGlobal, ScanStack, SetRegister, Shade, ShadeAgain, ShadeFlat, TakeBuffer, TakeEntry, moved}
+use Rattle.gh_marks.specs.Moves.{IsDead, May, Move, Place, Quiet, moved}
 use Rattle.gh_marks.specs.Seats.{ClaimOf, NoClaim, ReadOf}
 use Rattle.gh_marks.proofs.Bits.{alloc-other, one-zero, two-ways}
 use Rattle.gh_marks.proofs.Paths.{none-protected}
@@ -138,25 +138,8 @@ module _ (k : RowsAreWritten) (z : Cycle) (a : ℕ) (s : Shared) (g : Good z s) 
 
   dead-moved : (m : Move) → May z a s m → IsDead (moved z a s m) o
   dead-moved (Quiet step) may = dead-quiet step may
-  dead-moved (Shade p) may = record { placed = h.placed; dead = h.dead }
-  dead-moved (ShadeFlat p) may = record { placed = h.placed; dead = h.dead }
-  dead-moved (ShadeAgain p) may = record { placed = h.placed; dead = h.dead }
-  dead-moved (TakeBuffer b) may = record { placed = h.placed; dead = h.dead }
-  dead-moved (GiveBuffer b) may = record { placed = h.placed; dead = h.dead }
-  dead-moved (Enter b p) may = record { placed = h.placed; dead = h.dead }
-  dead-moved (TakeEntry b p) may = record { placed = h.placed; dead = h.dead }
-  dead-moved (Blacken p) may = record { placed = h.placed; dead = h.dead }
-  dead-moved (PutField x v) may = record { placed = h.placed; dead = h.dead }
-  dead-moved (PutGlobal i v) may = record { placed = h.placed; dead = h.dead }
-  dead-moved (ClaimGlobal i) may = record { placed = h.placed; dead = h.dead }
-  dead-moved (PassGlobals i) may = record { placed = h.placed; dead = h.dead }
-  dead-moved (ReadGlobal i) may = record { placed = h.placed; dead = h.dead }
-  dead-moved (ScanGlobal i v) may = record { placed = h.placed; dead = h.dead }
-  dead-moved (SetRegister f d v) may = record { placed = h.placed; dead = h.dead }
-  dead-moved (ScanStack f) may = record { placed = h.placed; dead = h.dead }
-  dead-moved (EndStack f) may = record { placed = h.placed; dead = h.dead }
-  dead-moved (Reserve p) may = record { placed = h.placed; dead = h.dead }
   dead-moved (Place p size pointer noscan) may = dead-place p size pointer noscan may
+  dead-moved _ may = record { placed = h.placed; dead = h.dead }
 
 pub each-move-leaves-the-dead : RowsAreWritten → EachMoveLeavesTheDead
 each-move-leaves-the-dead k z a s m g may o h = dead-moved k z a s g o h m may

@@ -7,7 +7,7 @@ use Rattle.gh_heap.specs.Moves.{update}
 use Rattle.gh_marks.specs.Colours.{Black, Buffered, Claimed, Colour, Cycle, IsGrey, IsMarked, Pending, Placing, Progress, Read, Rows, Shared, Taken, Waits, mark_of, rows}
 use Rattle.gh_marks.specs.Good.{Good}
 use Rattle.gh_marks.specs.Laws.{EachMoveGuards}
-use Rattle.gh_marks.specs.Moves.{Blacken, ClaimGlobal, EndStack, Enter, GiveBuffer, May, MayReserve, MayShade, Move, PassGlobals, Place, PutField, PutGlobal, Quiet, ReadGlobal, Reserve, ScanGlobal, ScanStack, SetRegister, Shade, ShadeAgain, ShadeFlat, TakeBuffer, TakeEntry, moved, set_mark}
+use Rattle.gh_marks.specs.Moves.{Blacken, ClaimGlobal, Enter, May, MayReserve, MayShade, Move, Place, PutField, PutGlobal, Quiet, ReadGlobal, Reserve, ScanGlobal, Shade, ShadeAgain, ShadeFlat, TakeEntry, moved, set_mark}
 use Rattle.gh_marks.proofs.Bits.{bits-of, grey-shaded, mark-other, marked-set, marked-still, marks-grow, one-zero, shaded-mark}
 use Rattle.gh_marks.proofs.Paths.{Guards, guarded-kept}
 use Rattle.gh_marks.proofs.Quiet.{ReadRows, Unread, unread}
@@ -177,22 +177,17 @@ module _ (z : Cycle) (s : Shared) (g : Good z s) where
     guards-moved a (Shade o) may = guards-shade o a may.0
     guards-moved a (ShadeFlat o) may = guards-flat o may.0 may.1
     guards-moved a (ShadeAgain o) may = guards-again a o may
-    guards-moved a (TakeBuffer b) may = guards-same
-    guards-moved a (GiveBuffer b) may = guards-same
     guards-moved a (Enter b o) may = guards-placed o (Buffered b (s.filled b)) tt
     guards-moved a (TakeEntry b o) may = guards-placed o (Taken a) tt
     guards-moved a (Blacken o) may = guards-blackens a o may
     guards-moved a (PutField x v) may = guards-puts a x v may
     guards-moved a (PutGlobal i v) may = guards-globals a i v may
     guards-moved a (ClaimGlobal i) may = guards-waits i (Claimed a) tt
-    guards-moved a (PassGlobals i) may = guards-same
     guards-moved a (ReadGlobal i) may = guards-waits i (Read a (s.words (cell.Global i))) tt
     guards-moved a (ScanGlobal i v) may = guards-scans a i v may
-    guards-moved a (SetRegister h d v) may = guards-same
-    guards-moved a (ScanStack h) may = guards-same
-    guards-moved a (EndStack h) may = guards-same
     guards-moved a (Reserve o) may = guards-reserve o a may
     guards-moved a (Place o size pointer noscan) may = guards-places a o size pointer noscan may
+    guards-moved a _ may = guards-same
 
 pub each-move-guards : RowsAreWritten → EachMoveGuards
 each-move-guards w z a s m g may o known h = guarded-kept z s g (rows (moved z a s m)) (guards-moved z s g w a m may) o h

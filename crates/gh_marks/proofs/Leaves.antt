@@ -186,11 +186,9 @@ module _ (k : RowsAreWritten) (z : Cycle) (a c : ℕ) (s : Shared) (g : Good z s
   keeps-moved (PassGlobals i) may x = plain (PassGlobals i) (words-same z a s) (objects-same z a s) (stacks-same z a s)
   keeps-moved (ReadGlobal i) may x = plain (ReadGlobal i) (words-same z a s) (objects-same z a s) (stacks-same z a s)
   keeps-moved (ScanGlobal i v) may x = plain (ScanGlobal i v) (words-same z a s) (objects-same z a s) (stacks-same z a s)
-  keeps-moved (SetRegister h d v) may x = absurd x
-  keeps-moved (ScanStack h) may x = absurd x
-  keeps-moved (EndStack h) may x = absurd x
   keeps-moved (Reserve o) may x = plain (Reserve o) (marks-set o) (objects-same z a s) (stacks-same z a s)
   keeps-moved (Place o size pointer noscan) may x = keeps-place o size pointer noscan may
+  keeps-moved _ may x = absurd x
 
   -- To another seat: what it has in hand stays, and its stacks.
   module _ (ne : a ≢ c) where

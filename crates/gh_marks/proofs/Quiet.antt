@@ -39,21 +39,7 @@ put-field s x v q = record {
 }
 
 put-aside : (s : Shared) (c : Cell) (v : ℕ) → IsAside s c → Unread s (put s.words c v)
-put-aside s cell.Touch v q = record { rows_are = refl; fields = λ o k i l. refl }
-put-aside s cell.Phase v q = record { rows_are = refl; fields = λ o k i l. refl }
-put-aside s cell.Gen v q = record { rows_are = refl; fields = λ o k i l. refl }
-put-aside s cell.Begun v q = record { rows_are = refl; fields = λ o k i l. refl }
-put-aside s cell.Swept v q = record { rows_are = refl; fields = λ o k i l. refl }
-put-aside s cell.Lock v q = record { rows_are = refl; fields = λ o k i l. refl }
-put-aside s cell.Want v q = record { rows_are = refl; fields = λ o k i l. refl }
-put-aside s cell.Bank v q = record { rows_are = refl; fields = λ o k i l. refl }
 put-aside s cell.Gcur v q = absurd q
-put-aside s cell.Heap v q = record { rows_are = refl; fields = λ o k i l. refl }
-put-aside s cell.Trigger v q = record { rows_are = refl; fields = λ o k i l. refl }
-put-aside s cell.Work v q = record { rows_are = refl; fields = λ o k i l. refl }
-put-aside s cell.Slack v q = record { rows_are = refl; fields = λ o k i l. refl }
-put-aside s cell.Tally v q = record { rows_are = refl; fields = λ o k i l. refl }
-put-aside s cell.Live v q = record { rows_are = refl; fields = λ o k i l. refl }
 put-aside s (cell.Page i) v q = record { rows_are = refl; fields = λ o k i l. refl }
 put-aside s (cell.Alloc i) v q = absurd q
 put-aside s (cell.Mark i) v q = absurd q
@@ -65,6 +51,7 @@ put-aside s (cell.Buffer b) v q = absurd q
 put-aside s (cell.Entry b j) v q = absurd q
 put-aside s (cell.Ack i) v q = record { rows_are = refl; fields = λ o k i l. refl }
 put-aside s (cell.Scanned g) v q = absurd q
+put-aside s _ v q = record { rows_are = refl; fields = λ o k i l. refl }
 
 pub unread : (s : Shared) (step : Ask) → IsQuiet s step → Unread s (effect s.words step)
 unread s (ask.Load c) q = same s

@@ -214,9 +214,7 @@ module _ (l : Layout) (seat stops : ℕ) (view : View) (found : ℕ → ℕ) whe
       let known : v ≡ record { phase = v.phase; generation = generation_of (found (suc k.before)); begun = view.begun } = with_read v _ _ k.generation k.begun in
       (k.before, k.n_is, (v.phase, k.loaded, k.runs, sym is ∙ ap (λ (u : View). resumed u (found n)) known ∙ ap (λ (i : ℕ). resumed (record { phase = v.phase; generation = generation_of (found (suc k.before)); begun = view.begun }) (found i)) k.n_is))
   out_of n s v Acknowledge out k e = absurd (cc)
-  out_of n s v LoadPhase out k e = absurd (cc)
-  out_of n s v LoadGeneration out k e = absurd (cc)
-  out_of n s v Ended out k e = absurd (cc)
+  out_of n s v _ out k e = absurd (cc)
 
   module _ (n s : ℕ) (v : View) (phase : RunPhase) (e : after n ≡ state s v LoadPhase) (runs : Runs (found n) phase) where
     read_generation : after (suc (suc n)) ≡ state s (record { phase = phase; generation = generation_of (found (suc n)); begun = v.begun }) LoadBegun
@@ -232,10 +230,7 @@ module _ (l : Layout) (seat stops : ℕ) (view : View) (found : ℕ → ℕ) whe
   ends_at : (n s : ℕ) (v : View) (stage : ResumeStage) (out : Resumed) → after n ≡ state s v stage → Knows n s v stage → ResumesAt l seat stops view found n out →
       EndsWith listing (opening l seat stops view) found (suc (suc n)) out
   ends_at n s v LoadPhase out e k h = ends_so n s v h.0 e h.2 k.1 ∙ ap (λ (o : Resumed). Some o) (sym h.3)
-  ends_at n s v Acknowledge out e k h = absurd (let no = sym (ap asks e) ∙ h.1 in cc)
-  ends_at n s v LoadGeneration out e k h = absurd (let no = sym (ap asks e) ∙ h.1 in cc)
-  ends_at n s v LoadBegun out e k h = absurd (let no = sym (ap asks e) ∙ h.1 in cc)
-  ends_at n s v Ended out e k h = absurd (let no = sym (ap asks e) ∙ h.1 in cc)
+  ends_at n s v _ out e k h = absurd (let no = sym (ap asks e) ∙ h.1 in cc)
 
   ends_then : (n : ℕ) (out : Resumed) → (before : ℕ) × (n ≡ suc (suc before)) × ResumesAt l seat stops view found before out → EndsWith listing (opening l seat stops view) found n out
   ends_then n out h =

@@ -40,11 +40,9 @@ module _ (law : BuffersAreHeld) where
     enters_it reference (Some h) place holds = steps.puts_entry h reference holds place
 
     moves_at : (s : Shading) (p : ShadeStage) → FitsStage s.held p → Holds b seat s.held → Moves seat b words (asks_at s p) (goes_at s p (words (cell_of (asks_at s p)))).held
-    moves_at s LoadPage fits holds = steps.loads _ s.held holds
     moves_at s (SetMark noscan) fits holds = steps.marks _ _ s.held holds
-    moves_at s WaitForRoom fits holds = steps.loads _ s.held holds
     moves_at s Enter fits holds = enters_it s.reference s.held fits holds
-    moves_at s Ended fits holds = steps.loads _ s.held holds
+    moves_at s _ fits holds = steps.loads _ s.held holds
 
   own : (b : Buffers) (seat : ℕ) (words : Words) (s : Shading) → AreCounted b → AreBuffersOf words b → Facts listing (λ t. t.held) ShadeKnows b seat s → OwnStep listing (λ t. t.held) ShadeKnows b seat words s
   own b seat words s counted shown f = record {

@@ -110,32 +110,22 @@ stage-lasts z a s t o held Ended k f = k.marks o f
 
 -- what is given says at which stage it is then
 gives-mark : (q : ShadeStage) (out : Shaded) → gives_mark q ≡ Some out → ((out ≡ Done) → q ≡ Ended) × ((out ≡ WantsRoom) → q ≡ WaitForRoom)
-gives-mark LoadPage out e = absurd (cc)
-gives-mark (SetMark noscan) out e = absurd (cc)
 gives-mark WaitForRoom out e = ((λ d. cc), (λ d. refl))
-gives-mark Enter out e = absurd (cc)
 gives-mark Ended out e = ((λ d. refl), (λ d. cc))
+gives-mark _ out e = absurd (cc)
 
 ended-at : (m : Shading) (p : ShadeStage) (f : ℕ) → gives_at m p f ≡ Some Done → (goes_at m p f).stage ≡ Ended
-ended-at m LoadPage f e = absurd (cc)
 ended-at m (SetMark noscan) f e = (gives-mark (after_mark m.held (is_whole m noscan f)) Done e).0 refl
-ended-at m WaitForRoom f e = absurd (cc)
 ended-at m Enter f e = refl
-ended-at m Ended f e = absurd (cc)
+ended-at m _ f e = absurd (cc)
 
 waits-at : (m : Shading) (p : ShadeStage) (f : ℕ) → gives_at m p f ≡ Some WantsRoom → (goes_at m p f).stage ≡ WaitForRoom
-waits-at m LoadPage f e = absurd (cc)
 waits-at m (SetMark noscan) f e = (gives-mark (after_mark m.held (is_whole m noscan f)) WantsRoom e).1 refl
-waits-at m WaitForRoom f e = absurd (cc)
-waits-at m Enter f e = absurd (cc)
-waits-at m Ended f e = absurd (cc)
+waits-at m _ f e = absurd (cc)
 
 same-at : (m : Shading) (p : ShadeStage) (f : ℕ) → (goes_at m p f).reference ≡ m.reference
 same-at m LoadPage f = refl
-same-at m (SetMark noscan) f = refl
-same-at m WaitForRoom f = refl
-same-at m Enter f = refl
-same-at m Ended f = refl
+same-at m _ f = refl
 
 shaded-then : (z : Cycle) (a : ℕ) (s : Shared) (rest : InHand) (n : Shading) → n.stage ≡ Ended → Facts z a s rest n → IsShaded a s rest n
 shaded-then z a s rest n e f = record {

@@ -26,16 +26,12 @@ enters_none words reference (Some h) x = refl
 lasts_at : (before after : Words) (reference : ℕ) (p : ShadeStage) → MarksGrow before after → StageKnowsMark before reference p → StageKnowsMark after reference p
 lasts_at before after reference LoadPage grow k = tt
 lasts_at before after reference (SetMark noscan) grow k = tt
-lasts_at before after reference WaitForRoom grow k = grow (object_of reference) k
-lasts_at before after reference Enter grow k = grow (object_of reference) k
-lasts_at before after reference Ended grow k = grow (object_of reference) k
+lasts_at before after reference _ grow k = grow (object_of reference) k
 
 told_at : (words : Words) (reference : ℕ) (p : ShadeStage) → p ≡ WaitForRoom → StageKnowsMark words reference p → mark_bit words (object_of reference) ≡ 1
 told_at words reference LoadPage e k = absurd (cc)
 told_at words reference (SetMark noscan) e k = absurd (cc)
-told_at words reference WaitForRoom e k = k
-told_at words reference Enter e k = k
-told_at words reference Ended e k = k
+told_at words reference _ e k = k
 
 module _ (rows : RowsAreWritten) (words : Words) where
   abbrev set_at : ℕ → Words
@@ -48,11 +44,9 @@ module _ (rows : RowsAreWritten) (words : Words) where
     by false e = let ne : object ≢ x = λ z. absurd (cc (e, eq-eqb _ _ z)) in rows.sets_no_other (mark_words words) object x ne ∙ set
 
   grows_at : (s : Shading) (p : ShadeStage) → MarksGrow words (effect words (asks_at s p))
-  grows_at s LoadPage x set = set
   grows_at s (SetMark noscan) x set = grows (object_of s.reference) x set
-  grows_at s WaitForRoom x set = set
   grows_at s Enter x set = enters_none words s.reference s.held x ∙ set
-  grows_at s Ended x set = set
+  grows_at s _ x set = set
 
   knows_at : (s : Shading) (p : ShadeStage) (f : ℕ) → KnowsMark words s → StageKnowsMark words s.reference p → KnowsMark (effect words (asks_at s p)) (goes_at s p f)
   knows_at s LoadPage f whole k = tt

@@ -3,7 +3,7 @@ use Rattle.std.proofs.Common.{◌≡◌, ℕ, zero, suc, ◌%◌, ◌≤◌, ◌
 use Rattle.std.proofs.lemmas.Bool.Decides.{nat_tests}
 use Rattle.gh_base.specs.declared.pack.TheConstants.{ENTRIES}
 use Rattle.gh_shade.specs.Shades.{Enters, NoneIsBegun, ShadesObject}
-use Rattle.gh_shade.proofs.Vocabulary.{bit_at, Done, Ended, Enter, gives_mark, goes, goes_at, GoesOn, has_place, HasPlace, Held, is_busy, is_set, Layout, listing, LoadPage, object_of, opening, page_noscan, page_of, SetMark, ShadeStage, Shading, told, WaitForRoom, WantsRoom}
+use Rattle.gh_shade.proofs.Vocabulary.{bit_at, Done, Ended, Enter, gives_mark, goes, goes_at, GoesOn, has_place, HasPlace, Held, is_busy, is_set, Layout, listing, object_of, opening, page_noscan, page_of, ShadeStage, Shading, told, WaitForRoom, WantsRoom}
 
 -- the stage behind the mark, by its two tests
 abbrev pub behind : (whole place : Bool) → ShadeStage
@@ -40,11 +40,9 @@ place_holds None e = absurd (cc)
 place_holds (Some h) e = ltb-true _ _ e
 
 idle : (s : Shading) (p : ShadeStage) (found : ℕ) → is_busy p ≡ false → is_busy s.stage ≡ false → is_busy (goes_at s p found).stage ≡ false
-idle s LoadPage found e f = absurd (cc)
-idle s (SetMark noscan) found e f = absurd (cc)
 idle s WaitForRoom found e f = f
-idle s Enter found e f = absurd (cc)
 idle s Ended found e f = f
+idle s _ found e f = absurd (cc)
 
 module _ (l : Layout) (reference : ℕ) (held : Option Held) (found : ℕ → ℕ) where
   abbrev from : Shading

@@ -5,25 +5,21 @@ use Rattle.std.proofs.lemmas.Bool.{eqb-true, eq-eqb, ltb-true, ltb-false}
 use Rattle.gh_base.specs.declared.held.Held.{Held}
 use Rattle.gh_base.specs.Routines.{EndsWith, GoesOn, told}
 use Rattle.gh_wbuf.specs.declared.try_buffer.TryStage.{TryStage}
-use Rattle.gh_wbuf.specs.declared.try_buffer.TryStage.TheVariants.{Look, GiveBack, Claim, Ended}
+use Rattle.gh_wbuf.specs.declared.try_buffer.TryStage.TheVariants.{Claim, Ended}
 use Rattle.gh_wbuf.specs.Trying.{at_stage, gives, gives_at, goes, goes_at, is_busy, listing, taken, Trying}
 use Rattle.gh_wbuf.specs.TryEnds.{ends}
 
 still_at : (t : Trying) (stage : TryStage) (found : ℕ) → is_busy t.stage ≡ is_busy stage → is_busy (goes_at t stage found).stage ≡ true → is_busy stage ≡ true
-still_at t Look found e h = refl
-still_at t (GiveBack word) found e h = refl
-still_at t (Claim word) found e h = refl
 still_at t Ended found e h = sym e ∙ h
+still_at t _ found e h = refl
 
 -- it was busy before, if it is
 pub still_busy : (t : Trying) (found : ℕ) → is_busy (goes t found).stage ≡ true → is_busy t.stage ≡ true
 still_busy t found h = still_at t t.stage found refl h
 
 gives_busy_at : (t : Trying) (stage : TryStage) (found : ℕ) (out : Option Held) → gives_at t stage found ≡ Some out → is_busy stage ≡ true
-gives_busy_at t Look found out e = refl
-gives_busy_at t (GiveBack word) found out e = refl
-gives_busy_at t (Claim word) found out e = refl
 gives_busy_at t Ended found out e = absurd (cc)
+gives_busy_at t _ found out e = refl
 
 -- it is busy, if it ends
 pub gives_busy : (t : Trying) (found : ℕ) (out : Option Held) → gives t found ≡ Some out → is_busy t.stage ≡ true
@@ -79,13 +75,11 @@ pub record IsSame (s t : Trying) : Type 0 where
   pub wish : s.wish ≡ t.wish
 
 same_at : (t : Trying) (stage : TryStage) (found : ℕ) → IsSame (goes_at t stage found) t
-same_at t Look found = record { index = refl; seat = refl; wish = refl }
-same_at t (GiveBack word) found = record { index = refl; seat = refl; wish = refl }
 same_at t (Claim word) found = by (eqb found word) where
   by : (wrote : Bool) → IsSame (cond wrote (record t { held = Some (taken t.index word); stage = Ended }) (at_stage t Ended)) t
   by true = record { index = refl; seat = refl; wish = refl }
   by false = record { index = refl; seat = refl; wish = refl }
-same_at t Ended found = record { index = refl; seat = refl; wish = refl }
+same_at t _ found = record { index = refl; seat = refl; wish = refl }
 
 pub same_step : (t : Trying) (found : ℕ) → IsSame (goes t found) t
 same_step t found = same_at t t.stage found

@@ -2,7 +2,7 @@
 use Rattle.std.proofs.Common.{bit_or, bit_and, ◌^◌, ◌≡◌, ℕ, ◌+◌, ◌%◌, ◌⊎◌, inl, inr, Bool, true, false, cond, ◌==◌, refl, sym, ◌∙◌, ap, arith}
 use Rattle.std.proofs.lemmas.Bool.Decides.{nat_tests}
 use Rattle.gh_base.specs.declared.cell.Cell.{Cell}
-use Rattle.gh_base.specs.declared.cell.Cell.TheVariants.{Touch, Phase, Gen, Begun, Swept, Lock, Want, Bank, Gcur, Heap, Trigger, Work, Slack, Tally, Live, Page, Alloc, Mark, Bitmap, Birth, Field, Global, Buffer, Entry, Ack, Scanned}
+use Rattle.gh_base.specs.declared.cell.Cell.TheVariants.{Phase, Gen, Begun, Ack}
 use Rattle.gh_base.specs.declared.cell.Ask.{Ask}
 use Rattle.gh_base.specs.declared.cell.Ask.TheVariants.{Load, Store, Or, And, Add, Swap}
 use Rattle.gh_base.specs.declared.pack.PhaseWord.{PhaseWord}
@@ -48,60 +48,15 @@ record Same (w u : Words) : Type 0 where
   begun : u Begun ≡ w Begun
 
 put_free : (w : Words) (c : Cell) (x : ℕ) → IsFree c → Same w (put w c x)
-put_free w Touch x q = record { acks = λ b. refl; phase = refl; generation = refl; begun = refl }
 put_free w Phase x q = absurd q
 put_free w Gen x q = absurd q
 put_free w Begun x q = absurd q
-put_free w Swept x q = record { acks = λ b. refl; phase = refl; generation = refl; begun = refl }
-put_free w Lock x q = record { acks = λ b. refl; phase = refl; generation = refl; begun = refl }
-put_free w Want x q = record { acks = λ b. refl; phase = refl; generation = refl; begun = refl }
-put_free w Bank x q = record { acks = λ b. refl; phase = refl; generation = refl; begun = refl }
-put_free w Gcur x q = record { acks = λ b. refl; phase = refl; generation = refl; begun = refl }
-put_free w Heap x q = record { acks = λ b. refl; phase = refl; generation = refl; begun = refl }
-put_free w Trigger x q = record { acks = λ b. refl; phase = refl; generation = refl; begun = refl }
-put_free w Work x q = record { acks = λ b. refl; phase = refl; generation = refl; begun = refl }
-put_free w Slack x q = record { acks = λ b. refl; phase = refl; generation = refl; begun = refl }
-put_free w Tally x q = record { acks = λ b. refl; phase = refl; generation = refl; begun = refl }
-put_free w Live x q = record { acks = λ b. refl; phase = refl; generation = refl; begun = refl }
-put_free w (Page i) x q = record { acks = λ b. refl; phase = refl; generation = refl; begun = refl }
-put_free w (Alloc i) x q = record { acks = λ b. refl; phase = refl; generation = refl; begun = refl }
-put_free w (Mark i) x q = record { acks = λ b. refl; phase = refl; generation = refl; begun = refl }
-put_free w (Bitmap i) x q = record { acks = λ b. refl; phase = refl; generation = refl; begun = refl }
-put_free w (Birth i) x q = record { acks = λ b. refl; phase = refl; generation = refl; begun = refl }
-put_free w (Field i) x q = record { acks = λ b. refl; phase = refl; generation = refl; begun = refl }
-put_free w (Global i) x q = record { acks = λ b. refl; phase = refl; generation = refl; begun = refl }
-put_free w (Buffer i) x q = record { acks = λ b. refl; phase = refl; generation = refl; begun = refl }
-put_free w (Entry i j) x q = record { acks = λ b. refl; phase = refl; generation = refl; begun = refl }
 put_free w (Ack i) x q = absurd q
-put_free w (Scanned i) x q = record { acks = λ b. refl; phase = refl; generation = refl; begun = refl }
+put_free w _ x q = record { acks = λ b. refl; phase = refl; generation = refl; begun = refl }
 
 store_last : (c : Cell) (x : ℕ) (p : RunPhase) → IsFree c → phase_stored (Store c x) p ≡ p
-store_last Touch x p q = refl
 store_last Phase x p q = absurd q
-store_last Gen x p q = refl
-store_last Begun x p q = refl
-store_last Swept x p q = refl
-store_last Lock x p q = refl
-store_last Want x p q = refl
-store_last Bank x p q = refl
-store_last Gcur x p q = refl
-store_last Heap x p q = refl
-store_last Trigger x p q = refl
-store_last Work x p q = refl
-store_last Slack x p q = refl
-store_last Tally x p q = refl
-store_last Live x p q = refl
-store_last (Page i) x p q = refl
-store_last (Alloc i) x p q = refl
-store_last (Mark i) x p q = refl
-store_last (Bitmap i) x p q = refl
-store_last (Birth i) x p q = refl
-store_last (Field i) x p q = refl
-store_last (Global i) x p q = refl
-store_last (Buffer i) x p q = refl
-store_last (Entry i j) x p q = refl
-store_last (Ack i) x p q = refl
-store_last (Scanned i) x p q = refl
+store_last _ x p q = refl
 
 same_still : (w u : Words) (ask : Ask) → ((p : RunPhase) → phase_stored ask p ≡ p) → Same w u → IsStill w u ask
 same_still w u ask k s = record { acks = s.acks; phase = s.phase; generation = s.generation; begun = s.begun; last = k }
@@ -157,12 +112,8 @@ module _ (back : (p : PhaseWord) → phase_of (phase_word p) ≡ p) (v : Announc
       let at = at_stop found ask e g.0 in
       let on = is_on back v found at g.1.stops in
       (on, sym g.1.number_is ∙ number_told back v found at, f.0 ∙ owed_on v on)
-  from_awake found ask from (Resumes stops LoadPhase) e g f = absurd g
-  from_awake found ask from (Resumes stops LoadGeneration) e g f = absurd g
-  from_awake found ask from (Resumes stops LoadBegun) e g f = absurd g
-  from_awake found ask from (Resumes stops Ended) e g f = absurd g
   from_awake found ask from Leaves e g f = f
-  from_awake found ask from Gone e g f = absurd g
+  from_awake found ask from _ e g f = absurd g
 
   finds : (seat stops : ℕ) (stage : ResumeStage) (found : ℕ) → found ≡ w (cell_of (resume_asks seat stops stage)) → Finds v stage found
   finds seat stops Acknowledge found e = tt

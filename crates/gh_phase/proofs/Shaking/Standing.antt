@@ -161,13 +161,11 @@ copies_finished v known off c = record { phase = reads_finished v.phase known.ph
 pub keeps_finish : (v : Announced) (ack : ℕ) (known : View) (stage : Stage) → v.phase ≡ Off → Stands v ack known stage → Stands (finished v) ack known stage
 keeps_finish v ack known Awake off f = (f.0, copies_finished v known off f.1)
 keeps_finish v ack known (Gives stops) off f = (f.0, f.1, f.2, copies_finished v known off f.3)
-keeps_finish v ack known (Resumes stops Acknowledge) off f = f
-keeps_finish v ack known (Resumes stops LoadPhase) off f = f
 keeps_finish v ack known (Resumes stops LoadGeneration) off f = (f.0, reads_finished v.phase known.phase off f.1)
 keeps_finish v ack known (Resumes stops LoadBegun) off f = (f.0, reads_finished v.phase known.phase off f.1, f.2)
 keeps_finish v ack known (Resumes stops Ended) off f = absurd f
 keeps_finish v ack known Leaves off f = (f.0, copies_finished v known off f.1)
-keeps_finish v ack known Gone off f = f
+keeps_finish v ack known _ off f = f
 
 -- who has acknowledged the stop waits at it, or is gone
 owes : (v : Announced) (ack : ℕ) → Fits v → v.on ≡ true → ack ≡ owed v → IsAcked v.stops ack → ⊥
@@ -175,27 +173,18 @@ owes v ack h on e (inl a) = before_differs v.stops h.stops (sym (owed_on v on) �
 owes v ack h on e (inr a) = let l = before_fits v.stops in let is : stop_before v.stops ≡ GONE = sym (owed_on v on) ∙ (sym e ∙ a) in omega arith
 
 pub parked : (v : Announced) (ack : ℕ) (known : View) (stage : Stage) → Fits v → v.on ≡ true → IsAcked v.stops ack → Stands v ack known stage → IsParked v.stops stage
-parked v ack known Awake h on a f = absurd (owes v ack h on f.0 a)
 parked v ack known (Gives stops) h on a f = absurd (owes v ack h on f.2 a)
 parked v ack known (Resumes stops Acknowledge) h on a f = absurd (owes v ack h on (f.2 ∙ sym (owed_on v on)) a)
 parked v ack known (Resumes stops LoadPhase) h on a f = elim f.1 [ inl e ↦ e | inr e ↦ absurd (owes v ack h on (f.0 ∙ (e.1 ∙ sym (owed_on v on))) a) ]
-parked v ack known (Resumes stops LoadGeneration) h on a f = absurd (owes v ack h on f.0 a)
-parked v ack known (Resumes stops LoadBegun) h on a f = absurd (owes v ack h on f.0 a)
 parked v ack known (Resumes stops Ended) h on a f = absurd f
-parked v ack known Leaves h on a f = absurd (owes v ack h on f.0 a)
 parked v ack known Gone h on a f = tt
+parked v ack known _ h on a f = absurd (owes v ack h on f.0 a)
 
 -- whatever is announced to those who wait, while the number of the stop stays
 pub keeps_parked : (v u : Announced) (ack : ℕ) (known : View) (stage : Stage) → u.stops ≡ v.stops → IsParked v.stops stage → Stands v ack known stage → Stands u ack known stage
 keeps_parked v u ack known (Resumes stops LoadPhase) e p f = (f.0, inl (p ∙ sym e))
 keeps_parked v u ack known Gone e p f = f
-keeps_parked v u ack known Awake e p f = absurd p
-keeps_parked v u ack known (Gives stops) e p f = absurd p
-keeps_parked v u ack known (Resumes stops Acknowledge) e p f = absurd p
-keeps_parked v u ack known (Resumes stops LoadGeneration) e p f = absurd p
-keeps_parked v u ack known (Resumes stops LoadBegun) e p f = absurd p
-keeps_parked v u ack known (Resumes stops Ended) e p f = absurd p
-keeps_parked v u ack known Leaves e p f = absurd p
+keeps_parked v u ack known _ e p f = absurd p
 
 owed_fits : (v : Announced) → Fits v → owed v < 2 ^ 62
 owed_fits v h = go v.on refl where
@@ -213,14 +202,11 @@ waited_fits v stops h (inr e) = let l = before_fits v.stops in let is = e.1 in o
 
 pub is_gone : (v : Announced) (ack : ℕ) (known : View) (stage : Stage) → Fits v → Stands v ack known stage → ack ≡ GONE → stage ≡ Gone
 is_gone v ack known Gone h f e = refl
-is_gone v ack known Awake h f e = absurd (no_number ack (owed v) f.0 (owed_fits v h) e)
 is_gone v ack known (Gives stops) h f e = absurd (no_number ack (owed v) f.2 (owed_fits v h) e)
 is_gone v ack known (Resumes stops Acknowledge) h f e = absurd (no_number ack (stop_before v.stops) f.2 (before_fits v.stops) e)
 is_gone v ack known (Resumes stops LoadPhase) h f e = absurd (no_number ack stops f.0 (waited_fits v stops h f.1) e)
-is_gone v ack known (Resumes stops LoadGeneration) h f e = absurd (no_number ack (owed v) f.0 (owed_fits v h) e)
-is_gone v ack known (Resumes stops LoadBegun) h f e = absurd (no_number ack (owed v) f.0 (owed_fits v h) e)
 is_gone v ack known (Resumes stops Ended) h f e = absurd f
-is_gone v ack known Leaves h f e = absurd (no_number ack (owed v) f.0 (owed_fits v h) e)
+is_gone v ack known _ h f e = absurd (no_number ack (owed v) f.0 (owed_fits v h) e)
 
 -- an acknowledgement becomes that of the stop, or of one that is gone, and nothing else
 abbrev pub Moves : Announced → (old new : ℕ) → Type 0

@@ -10,10 +10,10 @@ use Rattle.gh_base.specs.declared.pack.TheConstants.{GONE}
 use Rattle.gh_base.specs.Lists.{Legal, Setting, started, state_of, words_after}
 use Rattle.gh_base.specs.Packing.{phase_of, phase_word}
 use Rattle.gh_base.specs.Steps.{cell_of}
-use Rattle.gh_phase.specs.declared.resume.ResumeStage.TheVariants.{Acknowledge, LoadPhase, LoadGeneration, LoadBegun, Ended}
+use Rattle.gh_phase.specs.declared.resume.ResumeStage.TheVariants.{Acknowledge, LoadPhase, LoadGeneration}
 use Rattle.gh_phase.specs.declared.view.RunPhase.{RunPhase}
 use Rattle.gh_phase.specs.declared.view.RunPhase.TheVariants.{Finished}
-use Rattle.gh_phase.specs.Handshake.{Acts, Awake, Gives, Gone, IsAcked, IsHandshake, is_stop, Lead, LeadGoes, Leads, Leaves, Place, PlaceBegins, PlaceGoes, Resumes, Stage, StageGoes, stop_word, Stopped, with_phase}
+use Rattle.gh_phase.specs.Handshake.{Acts, Awake, Gone, IsAcked, IsHandshake, is_stop, Lead, LeadGoes, Leads, Place, PlaceBegins, PlaceGoes, Resumes, Stage, StageGoes, stop_word, Stopped, with_phase}
 use Rattle.gh_phase.specs.Shakes.{FinishedStays, GoneStay, IsParked, last_phase, NobodyMoves, phase_stored}
 use Rattle.gh_phase.specs.Views.{run_phase}
 use Rattle.gh_phase.proofs.Shaking.Leading.{announced, led_finished}
@@ -100,13 +100,7 @@ module _ (back : (p : PhaseWord) → phase_of (phase_word p) ≡ p) {M O : Type 
       go None false c d z w = absurd (let s = same in grind (arith, nat_tests))
       go (Some phase) b c d z w = absurd cc
     rest Gone y g = absurd g
-    rest Awake y g = absurd y
-    rest (Gives stops) y g = absurd y
-    rest (Resumes stops Acknowledge) y g = absurd y
-    rest (Resumes stops LoadGeneration) y g = absurd y
-    rest (Resumes stops LoadBegun) y g = absurd y
-    rest (Resumes stops Ended) y g = absurd y
-    rest Leaves y g = absurd y
+    rest _ y g = absurd y
   waits v (Acts party stage) (Leads l) x on a ack f k found phase g = absurd g
   waits v (Leads l) to x on a ack f k found phase g = absurd f
 
