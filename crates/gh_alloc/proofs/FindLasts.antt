@@ -11,7 +11,7 @@ use Rattle.gh_cache.specs.Listing as slots
 use Rattle.gh_central.specs.GiveFacts as giving
 use Rattle.gh_central.specs.PassFacts as passing
 use Rattle.gh_pages.specs.Facts as carving
-use Rattle.gh_alloc.specs.Vocabulary.{SpanClass, Sought, Small, Large, CachedSpan, At, NoRoom, Again, End, FindStage, Slots, Lock, Give, Pass, Carve, Unlock, Ended}
+use Rattle.gh_alloc.specs.Vocabulary.{SpanClass, Sought, Small, Large, CachedSpan, At, NoRoom, End, FindStage, Pass, Carve, Unlock}
 use Rattle.gh_alloc.specs.Find.{Finding, span_at}
 use Rattle.gh_alloc.specs.FindFacts.{Caches, FactsAt, IsCached, Lasts, NoneLeft, OwnsLarge, Seeks, head_for, is_locked}
 
@@ -76,19 +76,15 @@ large-lasts z a v w f at o x = record {
   head noscan pages number = record { class = size.Large; noscan = noscan; pages = pages; owner = a + 1; number = number }
 
 stage-lasts : Known → (z : Arena) (a : ℕ) (v w : View) (f : Finding) (q : FindStage) → Others z a v w → v.locked a ≡ is_locked q → FactsAt z a v f q → FactsAt z a w f q
-stage-lasts k z a v w f (Slots s) o l x = x
-stage-lasts k z a v w f Lock o l x = x
-stage-lasts k z a v w f (Give g) o l x = x
 stage-lasts k z a v w f (Pass p) o l x = record { c = x.c; wanted = x.wanted; cached = x.cached; is = x.is; facts = k.pass.lasts z a v w p o l x.facts }
 stage-lasts k z a v w f (Carve m) o l x = record { cached = x.cached; none = none-left-lasts k z a v w f f.wanted o l x.none; is = x.is; facts = k.carve.lasts z a v w m o l x.facts }
-stage-lasts k z a v w f (Unlock Again) o l x = x
 stage-lasts k z a v w f (Unlock (End (At y))) o l x = large-lasts z a v w f y o x
 stage-lasts k z a v w f (Unlock (End NoRoom)) o l x = record {
   cached = x.cached;
   none = none-left-lasts k z a v w f f.wanted o l x.none;
   no_run = λ first le. let y = x.no_run first le in (y.0, y.1, (k.last z a v w o).taken (first + y.0) l y.2);
 }
-stage-lasts k z a v w f Ended o l x = x
+stage-lasts k z a v w f _ o l x = x
 
 pub lasts : Known → Lasts
 lasts k z a v w rest f g o l x = record {

@@ -1,142 +1,23 @@
--- The search's own steps are moves that its rights allow, and where it finds no room there is none. Of the heap and of its routines it is known what their laws say.
-use Rattle.std.proofs.Common.{◌≡◌, ℕ, ◌+◌, ◌*◌, ◌/◌, ◌^◌, ◌<◌, ◌≤◌, Bool, true, false, cond, eqb, ltb, inl, inr, Option, Some, None, refl, sym, ap, subst, ◌∙◌, arith}
-use Rattle.std.proofs.lemmas.Bool.{eqb-true, eq-eqb, le-leb, ltb-true, ltb-false}
-use Rattle.std.proofs.lemmas.Bool.Decides.{eqb_tells}
+-- The search's own steps are moves that its rights allow. Of the heap and of its routines it is known what their laws say.
+use Rattle.std.proofs.Common.{◌≡◌, ℕ, ◌+◌, ◌*◌, ◌/◌, ◌<◌, ◌≤◌, Bool, true, false, cond, eqb, ltb, inl, inr, Option, Some, None, refl, sym, ap, subst, ◌∙◌, arith, eqb-true, eq-eqb, ltb-false}
 use Rattle.gh_base.specs.declared.cell.Ask.TheVariants as ask
 use Rattle.gh_base.specs.declared.cell.Cell.TheVariants as cell
-use Rattle.gh_base.specs.declared.layout.Layout.{Layout}
-use Rattle.gh_base.specs.declared.pack.SpanHead.{SpanHead}
-use Rattle.gh_base.specs.Cells.{Words, put}
-use Rattle.gh_base.specs.Rows.{Row, row_bit}
-use Rattle.gh_base.specs.Steps.{cell_of}
 use Rattle.gh_class.specs.declared.class.SizeClass.{SizeClass}
 use Rattle.gh_class.specs.declared.class.SizeClass.TheVariants as size
-use Rattle.gh_class.specs.Classes.{pages_of, slot_words_of, slots_of}
-use Rattle.gh_heap.specs.Moves.{KeepsObjects, Lands, Leaves, LeaveLock, May, Move, Quiet, Steps, TakeLock, moved, update}
-use Rattle.gh_heap.specs.Rights.{Arena, FullBefore, Good, Right, Shared, View, view}
-use Rattle.gh_heap.specs.Spans.{FitsClass, IsFull, IsSpan, number_of, owned_by, slot_count, slot_size}
+use Rattle.gh_heap.specs.Moves.{Leaves}
 use Rattle.gh_cache.specs.Facts as searching
 use Rattle.gh_cache.specs.Listing as slots
 use Rattle.gh_cache.specs.declared.next_slot.SlotStage.TheVariants as slot_stage
 use Rattle.gh_central.specs.GiveBack as give
 use Rattle.gh_central.specs.PassFacts as passing
 use Rattle.gh_central.specs.SweptPass as pass
-use Rattle.gh_pages.specs.declared.carve.CarveStage.{CarveStage}
 use Rattle.gh_pages.specs.Facts as carving
 use Rattle.gh_pages.specs.Listing as carve
-use Rattle.gh_alloc.specs.Vocabulary.{SpanClass, Sought, Small, Large, CachedSpan, At, NoRoom, Again, End, FindStage, Slots, Lock, Give, Pass, Carve, Unlock, Ended}
-use Rattle.gh_alloc.specs.Find.{Finding, after_carve, after_pass, after_slots, asks, begin, first_page, given_head, gives, goes, locked_for, refuses_at, searched, slot_found, span_at, span_for, spans_for, taken_for}
-use Rattle.gh_alloc.specs.FindFacts.{Caches, Comes, Facts, FactsAt, FindsByItsRights, FindsNone, IsCached, IsCachedFor, IsUsedUp, LooksAgain, NoneIsTrue, NoneLeft, Opens, OwnsLarge, OwnStep, Seeks, carve_at, head_for, head_of, held, is_locked, laying, looks, own, pass_at, with_span}
-use Rattle.gh_alloc.specs.FindSound.{IsSought}
+use Rattle.gh_alloc.specs.FindFacts.{Caches, Comes, Facts, FactsAt, FindsByItsRights, IsCached, IsCachedFor, IsUsedUp, LooksAgain, NoneLeft, OwnsLarge, OwnStep, Seeks, carve_at, head_for, head_of, held, is_locked, laying, looks, own, pass_at, with_span}
+use Rattle.gh_alloc.proofs.Vocabulary.{after_carve, after_pass, after_slots, Again, Arena, asks, At, begin, CachedSpan, Carve, CarveStage, cell_of, End, Ended, eqb_tells, Finding, FindStage, first_page, FitsClass, FullBefore, Give, given_head, gives, goes, Good, IsSpan, KeepsObjects, Lands, Large, Layout, LeaveLock, Lock, locked_for, moved, NoRoom, number_of, owned_by, pages_of, Pass, put, Quiet, refuses_at, Right, searched, Shared, slot_found, Slots, slots_of, Small, Sought, span_at, span_for, SpanClass, SpanHead, spans_for, Steps, TakeLock, taken_for, Unlock, update, View, view}
 use Rattle.gh_alloc.proofs.FindLasts.{Known, lasts}
 use Rattle.gh_alloc.proofs.FindWithin.{within}
-
--- What its own steps keep.
-
--- the sweep generation is as it was
-abbrev Kept : Shared → Shared → Type 0
-Kept s t = (view t).generation ≡ (view s).generation
-
-kept : Known → (z : Arena) (a : ℕ) (s : Shared) (m : Move) → Good z (view s) → May z a (view s) m → Kept s (moved z a s m)
-kept k z a s m g may = (k.own z a s m g may).generation
-
--- what follows from a routine's step
-lands : Known → (z : Arena) (a : ℕ) (s : Shared) (words : Words) (Then So : Shared → Type 0) → Good z (view s) → ((t : Shared) → Kept s t → Then t → So t) → Lands z a s words Then → Lands z a s words So
-lands k z a s words Then So g f x = record { move = x.move; may = x.may; words_are = x.words_are; after = f (moved z a s x.move) (kept k z a s x.move g x.may) x.after }
-
--- Where it finds none.
-
-refuses-at : (z : Arena) (a : ℕ) (v : View) (f : Finding) (q : FindStage) → refuses_at q ≡ true → FactsAt z a v f q → FindsNone z v f × (q ≡ Unlock (End NoRoom))
-refuses-at z a v f (Slots s) e x = absurd (cc)
-refuses-at z a v f Lock e x = absurd (cc)
-refuses-at z a v f (Give g) e x = absurd (cc)
-refuses-at z a v f (Pass p) e x = absurd (cc)
-refuses-at z a v f (Carve m) e x = absurd (cc)
-refuses-at z a v f (Unlock Again) e x = absurd (cc)
-refuses-at z a v f (Unlock (End (At y))) e x = absurd (cc)
-refuses-at z a v f (Unlock (End NoRoom)) e x = (x, refl)
-refuses-at z a v f Ended e x = absurd x
-
-finds-none : NoneIsTrue
-finds-none z a v rest f x e = let y = refuses-at z a v f f.stage e x.stage in record { none = y.0; stage = y.1 }
-
--- Numbers.
-
-fits-class : Known → (seat generation : ℕ) (wanted : Sought) → IsSought wanted → FitsClass (record { class = (span_for wanted).class; noscan = (span_for wanted).noscan; pages = (span_for wanted).pages; owner = seat; number = generation })
-fits-class k seat generation (Small c) x = record { some = k.some_page c.class x; class = x; small = λ ne. refl }
-fits-class k seat generation (Large pages noscan) x = record { some = x.0; class = tt; small = λ ne. absurd (ne refl) }
-
-few-pages : Known → (wanted : Sought) → IsSought wanted → (span_for wanted).pages < 2 ^ 13
-few-pages k (Small c) x = omega (arith, k.few_pages c.class x)
-few-pages k (Large pages noscan) x = omega (arith, x.1)
-
-is-class : (wanted : Sought) → (c : SpanClass) → wanted ≡ Small c → IsSought wanted → c.class < 25
-is-class wanted c e x = subst IsSought e x
-
--- a page from which the span fits is read as it is
-first-is : (f : Finding) (pages at : ℕ) → at + pages ≤ f.layout.pages → first_page f pages at ≡ at
-first-is f pages at le = ap (λ (b : Bool). cond b at 0) (le-leb (at + pages) f.layout.pages le)
-
--- Slots.
-
-some-is : (x y : CachedSpan) → Some x ≡ Some y → x ≡ y
-some-is x y e = cc
-
-abbrev Apart : (ℕ → Bool) → Option CachedSpan → Type 0
-Apart rest cached = (x : CachedSpan) → cached ≡ Some x → rest x.head ≡ false
-
-is-apart : (rest : ℕ → Bool) (x : CachedSpan) → rest x.head ≡ false → Apart rest (Some x)
-is-apart rest x e y f = subst (λ (c : CachedSpan). rest c.head ≡ false) (some-is x y f) e
-
-none-apart : (rest : ℕ → Bool) → Apart rest None
-none-apart rest y f = absurd (cc)
-
-abbrev OwnApart : (ℕ → Bool) → Option ℕ → Type 0
-OwnApart rest p = (q : ℕ) → p ≡ Some q → rest q ≡ false
-
-none-own : (rest : ℕ → Bool) → OwnApart rest None
-none-own rest q e = absurd (cc)
-
-is-own : (rest : ℕ → Bool) (p : ℕ) → rest p ≡ false → OwnApart rest (Some p)
-is-own rest p e q f = subst (λ (i : ℕ). rest i ≡ false) (same p q f) e where
-  same : (p q : ℕ) → Some p ≡ Some q → p ≡ q
-  same p q f = cc
-
--- of a span that is full the slots are taken, and the other way
-taken-of : (alloc : Row) (h : SpanHead) (p c : ℕ) → h.class ≡ size.Small c → IsFull alloc p h → (j : ℕ) → j < slots_of c → row_bit alloc (1024 * p + j * slot_words_of c) ≡ 1
-taken-of alloc h p c e full j few =
-    let counted : slot_count h ≡ slots_of c = rw (e) refl in
-    let sized : slot_size h ≡ slot_words_of c = rw (e) refl in
-    subst (λ (n : ℕ). row_bit alloc (1024 * p + j * n) ≡ 1) sized (full j (subst (λ (n : ℕ). j < n) (sym counted) few))
-
-full-of : (alloc : Row) (h : SpanHead) (p c : ℕ) → h.class ≡ size.Small c → ((j : ℕ) → j < slots_of c → row_bit alloc (1024 * p + j * slot_words_of c) ≡ 1) → IsFull alloc p h
-full-of alloc h p c e taken j few =
-    let counted : slot_count h ≡ slots_of c = rw (e) refl in
-    let sized : slot_size h ≡ slot_words_of c = rw (e) refl in
-    subst (λ (n : ℕ). row_bit alloc (1024 * p + j * n) ≡ 1) (sym sized) (taken j (subst (λ (n : ℕ). j < n) counted few))
-
-used-up : (w v : Sought) (c d : Option CachedSpan) → w ≡ v → c ≡ d → IsUsedUp v d → IsUsedUp w c
-used-up w v c d e f x = subst (λ (u : Sought). IsUsedUp u c) (sym e) (subst (λ (b : Option CachedSpan). IsUsedUp v b) (sym f) x)
-
--- a search begins with the cached span, or else with the lock
-module _ (z : Arena) (a : ℕ) (v : View) (rest : ℕ → Bool) (f : Finding) where
-  abbrev Stands : FindStage → Type 0
-  Stands q = Right a v (is_locked q) (with_span (own q) (with_span (head_of f.cached) rest)) (laying q) × FactsAt z a v f q × OwnApart rest (own q)
-
-  begins : (wanted : Sought) (cached : Option CachedSpan) → f.wanted ≡ wanted → f.cached ≡ cached → Caches a v wanted cached → Right a v false (with_span (head_of f.cached) rest) None → Stands (begin f.layout wanted cached)
-  begins (Small c) (Some x) w y caches right = go (ltb x.cursor (slots_of c.class)) refl where
-    go : (b : Bool) → ltb x.cursor (slots_of c.class) ≡ b → Stands (cond b (Slots (slots.opening f.layout (span_at c.class x))) Lock)
-    go true e = (right, record { c = c; k = x; for = record { wanted = w; cached = y }; is = refl; left = ltb-true x.cursor (slots_of c.class) e }, none-own rest)
-    go false e = (right, used-up f.wanted (Small c) f.cached (Some x) w y (ltb-false x.cursor (slots_of c.class) e), none-own rest)
-  begins (Small c) None w y caches right = (right, used-up f.wanted (Small c) f.cached None w y tt, none-own rest)
-  begins (Large pages noscan) (Some x) w y caches right = absurd caches
-  begins (Large pages noscan) None w y caches right = (right, used-up f.wanted (Large pages noscan) f.cached None w y tt, none-own rest)
-
-opens : Opens
-opens z a v rest f seeks caches apart right e =
-    let at : f.stage ≡ begin f.layout f.wanted f.cached = ap (λ (g : Finding). g.stage) e in
-    let x : Stands z a v rest f f.stage = subst (λ (q : FindStage). Stands z a v rest f q) (sym at) (begins z a v rest f f.wanted f.cached refl refl caches right) in
-    (x.0, record { seeks = seeks; caches = caches; apart = apart; own_apart = x.2; stage = x.1 })
+use Rattle.gh_alloc.proofs.FindParts.{Apart, begins, few-pages, finds-none, first-is, fits-class, full-of, is-apart, is-own, Kept, lands, none-apart, none-own, opens, OwnApart, Stands, taken-of}
 
 -- The own steps.
 

@@ -1,6 +1,8 @@
+pub mod Vocabulary
 pub mod Finding
 pub mod Placing
 mod FindLasts
+mod FindParts
 mod FindRights
 mod FindWithin
 mod PlaceRights

@@ -1,34 +1,18 @@
 -- The making's own steps are moves that its rights allow, and what it knows lasts. Of the heap and of its routines it is known what their laws say.
-use Rattle.std.proofs.Common.{◌≡◌, ℕ, ◌+◌, ◌*◌, ◌/◌, ◌<◌, Bool, true, false, cond, eqb, ltb, inl, inr, Option, Some, None, refl, sym, ap, subst, ◌∙◌, arith}
-use Rattle.std.proofs.lemmas.Bool.{eq-eqb, ltb-true, ltb-false}
-use Rattle.std.proofs.lemmas.Bool.Decides.{eqb_tells}
-use Rattle.gh_base.specs.declared.pack.SpanHead.{SpanHead}
+use Rattle.std.proofs.Common.{◌≡◌, ℕ, ◌+◌, ◌*◌, ◌/◌, ◌<◌, Bool, true, false, cond, eqb, ltb, inl, inr, Option, Some, None, refl, sym, ap, subst, ◌∙◌, arith, eq-eqb, ltb-true, ltb-false}
 use Rattle.gh_base.specs.declared.limits.TheConstants.{MOST_STATEMENTS}
 use Rattle.gh_base.specs.declared.pack.PageWord.TheVariants as page
-use Rattle.gh_base.specs.declared.shape.Shape.{Shape}
-use Rattle.gh_base.specs.declared.value.Name.{Name}
-use Rattle.gh_base.specs.Cells.{InRange}
-use Rattle.gh_base.specs.Packing.{bit, birth_word, page_of}
-use Rattle.gh_base.specs.Rows.{Row, RowsAreWritten, row_bit}
-use Rattle.gh_base.specs.Shapes.{is_pointer, shape_at}
-use Rattle.gh_base.specs.Steps.{cell_of}
 use Rattle.gh_class.specs.declared.class.SizeClass.TheVariants as size
-use Rattle.gh_class.specs.Classes.{size_class_of}
 use Rattle.gh_model.specs.Ever.{field_count, next_name, same_name}
-use Rattle.gh_heap.specs.Laws.{EachRightFollows, TheHeapIsApart}
-use Rattle.gh_heap.specs.Moves.{ClearField, Make, May, Others, Quiet, Runs, SetBirth, Steps, landing, moved, placed_at, update}
-use Rattle.gh_heap.specs.Rights.{Arena, Claims, Good, Right, Shared, View, view}
-use Rattle.gh_heap.specs.Spans.{IsFull, slot_count, slot_size}
-use Rattle.gh_bitmap.specs.declared.set_pointers.SetStage.{SetStage}
 use Rattle.gh_bitmap.specs.declared.set_pointers.SetStage.TheVariants as bits_stage
 use Rattle.gh_bitmap.specs.Facts as bits
 use Rattle.gh_bitmap.specs.SetPointers as setter
 use Rattle.gh_central.specs.GiveBack.{Giving}
 use Rattle.gh_central.specs.GiveFacts as giving
-use Rattle.gh_alloc.specs.declared.place.PlaceStage.{PlaceStage}
-use Rattle.gh_alloc.specs.declared.place.PlaceStage.TheVariants.{Clear, Birth, Bits, Mark, Alloc, Give, Count, Ended}
-use Rattle.gh_alloc.specs.Place.{Placing, acts_at, asks, asks_at, at_stage, filled, gives_at, goes, made}
+use Rattle.gh_alloc.specs.declared.place.PlaceStage.TheVariants.{Give, Ended}
+use Rattle.gh_alloc.specs.Place.{asks, asks_at, at_stage, gives_at, goes}
 use Rattle.gh_alloc.specs.PlaceFacts.{Born, Changes, Comes, FactsAt, FieldsClear, Filled, For, GivesUp, IsItsSpan, Lasts, Made, Opens, OwnStep, PlacesByItsRights, Unmade, Within, base, held_by, setting}
+use Rattle.gh_alloc.proofs.Vocabulary.{acts_at, Alloc, Arena, Birth, birth_word, bit, Bits, cell_of, Claims, Clear, ClearField, Count, EachRightFollows, eqb_tells, filled, Good, InRange, is_pointer, IsFull, landing, made, Make, Mark, May, moved, Name, Others, page_of, placed_at, PlaceStage, Placing, Quiet, Right, Row, row_bit, RowsAreWritten, Runs, SetBirth, SetStage, Shape, shape_at, Shared, size_class_of, slot_count, slot_size, SpanHead, Steps, TheHeapIsApart, update, View, view}
 
 pub record Known : Type 0 where
   pub rows : RowsAreWritten
@@ -346,13 +330,11 @@ module _ (k : Known) (z : Arena) (a : ℕ) (v : View) (f : For) (p : Placing) (g
 
   within-at : (q : PlaceStage) → FactsAt z a v f (base p) q → InRange z.layout (cell_of (asks (at_stage p q)))
   within-at (Clear i) x = inside i x.0 x.1
-  within-at Birth x = let first = inside 0 x.0 x.0.places.some in omega (arith, first)
   within-at (Bits m) x = k.bits.within z a v m x.3
-  within-at Mark x = let first = inside 0 x.0 x.0.places.some in omega (arith, first)
-  within-at Alloc x = let first = inside 0 x.0 x.0.places.some in omega (arith, first)
   within-at (Give g) x = k.give.within z a v g good x.1.back
   within-at Count x = tt
   within-at Ended x = absurd x
+  within-at _ x = let first = inside 0 x.0 x.0.places.some in omega (arith, first)
 
 within : Known → Within
 within k z a v f p good x = within-at k z a v f p good p.stage x

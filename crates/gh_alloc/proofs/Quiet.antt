@@ -1,33 +1,23 @@
 -- The routines of allocation write no word of the handshake of a stop: by their stages.
-use Rattle.gh_bitmap.specs.declared.set_pointers.SetStage.{SetStage}
 use Rattle.gh_bitmap.specs.declared.set_pointers.SetStage.TheVariants as set_stage
 use Rattle.gh_bitmap.specs.SetPointers as bits
-use Rattle.gh_cache.specs.declared.next_slot.SlotStage.{SlotStage}
 use Rattle.gh_cache.specs.declared.next_slot.SlotStage.TheVariants as slot_stage
 use Rattle.gh_cache.specs.Listing as slots
-use Rattle.gh_central.specs.declared.give.GiveStage.{GiveStage}
 use Rattle.gh_central.specs.declared.give.GiveStage.TheVariants as give_stage
-use Rattle.gh_central.specs.declared.reclaim.ReclaimStage.{ReclaimStage}
 use Rattle.gh_central.specs.declared.reclaim.ReclaimStage.TheVariants as reclaim_stage
-use Rattle.gh_central.specs.declared.pass.PassStage.{PassStage}
 use Rattle.gh_central.specs.declared.pass.PassStage.TheVariants as pass_stage
 use Rattle.gh_central.specs.GiveBack as give
 use Rattle.gh_central.specs.Reclaim as reclaim
 use Rattle.gh_central.specs.SweptPass as pass
-use Rattle.gh_pages.specs.declared.carve.CarveStage.{CarveStage}
 use Rattle.gh_pages.specs.declared.carve.CarveStage.TheVariants as carve_stage
 use Rattle.gh_pages.specs.Listing as carve
-use Rattle.gh_phase.specs.Handshake.{IsQuiet}
-use Rattle.gh_alloc.specs.declared.find.FindStage.{FindStage}
 use Rattle.gh_alloc.specs.declared.find.FindStage.TheVariants as find_stage
-use Rattle.gh_alloc.specs.declared.place.PlaceStage.{PlaceStage}
 use Rattle.gh_alloc.specs.declared.place.PlaceStage.TheVariants as place_stage
-use Rattle.gh_alloc.specs.declared.search.SearchStage.{SearchStage}
 use Rattle.gh_alloc.specs.declared.search.SearchStage.TheVariants as search_stage
 use Rattle.gh_alloc.specs.Find as find
 use Rattle.gh_alloc.specs.Place as place
-use Rattle.gh_alloc.specs.Quiet.{AllocationIsQuiet}
 use Rattle.gh_alloc.specs.Search as search
+use Rattle.gh_alloc.proofs.Vocabulary.{AllocationIsQuiet, CarveStage, FindStage, GiveStage, IsQuiet, PassStage, PlaceStage, ReclaimStage, SearchStage, SetStage, SlotStage}
 
 slots_quiet : (s : slots.Searching) (stage : SlotStage) → IsQuiet (slots.asks_at s stage)
 slots_quiet s slot_stage.Look = tt
@@ -39,22 +29,15 @@ give_quiet g give_stage.Ended = tt
 
 pass_quiet : (p : pass.Pass) (stage : PassStage) → IsQuiet (pass.asks_at p stage)
 pass_quiet p (pass_stage.Look page) = tt
-pass_quiet p (pass_stage.Bits page h i) = tt
-pass_quiet p (pass_stage.Take page h) = tt
-pass_quiet p pass_stage.Ended = tt
+pass_quiet p _ = tt
 
 carve_quiet : (c : carve.Carving) (stage : CarveStage) → IsQuiet (carve.asks_at c stage)
 carve_quiet c (carve_stage.Look page run) = tt
-carve_quiet c (carve_stage.Body first distance) = tt
-carve_quiet c (carve_stage.Head first) = tt
-carve_quiet c carve_stage.Ended = tt
+carve_quiet c _ = tt
 
 reclaim_quiet : (r : reclaim.Reclaiming) (stage : ReclaimStage) → IsQuiet (reclaim.asks_at r stage)
 reclaim_quiet r (reclaim_stage.Look page) = tt
-reclaim_quiet r (reclaim_stage.Bits page pages i) = tt
-reclaim_quiet r (reclaim_stage.Body page pages distance) = tt
-reclaim_quiet r (reclaim_stage.Head page pages) = tt
-reclaim_quiet r reclaim_stage.Ended = tt
+reclaim_quiet r _ = tt
 
 bits_quiet : (s : bits.PointerSetting) (stage : SetStage) → IsQuiet (bits.asks_at s stage)
 bits_quiet s (set_stage.Clear i) = tt
@@ -63,12 +46,10 @@ bits_quiet s set_stage.Ended = tt
 
 find_quiet : (f : find.Finding) (stage : FindStage) → IsQuiet (find.asks_at f stage)
 find_quiet f (find_stage.Slots s) = slots_quiet s s.stage
-find_quiet f find_stage.Lock = tt
 find_quiet f (find_stage.Give g) = give_quiet g g.stage
 find_quiet f (find_stage.Pass p) = pass_quiet p p.stage
 find_quiet f (find_stage.Carve c) = carve_quiet c c.stage
-find_quiet f (find_stage.Unlock after) = tt
-find_quiet f find_stage.Ended = tt
+find_quiet f _ = tt
 
 search_quiet : (f : find.Finding) (stage : SearchStage) → IsQuiet (search.asks_at f stage)
 search_quiet f search_stage.First = find_quiet f f.stage
@@ -76,14 +57,9 @@ search_quiet f (search_stage.Free r) = reclaim_quiet r r.stage
 search_quiet f search_stage.Second = find_quiet f f.stage
 
 place_quiet : (p : place.Placing) (stage : PlaceStage) → IsQuiet (place.asks_at p stage)
-place_quiet p (place_stage.Clear k) = tt
-place_quiet p place_stage.Birth = tt
 place_quiet p (place_stage.Bits s) = bits_quiet s s.stage
-place_quiet p place_stage.Mark = tt
-place_quiet p place_stage.Alloc = tt
 place_quiet p (place_stage.Give g) = give_quiet g g.stage
-place_quiet p place_stage.Count = tt
-place_quiet p place_stage.Ended = tt
+place_quiet p _ = tt
 
 pub is_quiet : AllocationIsQuiet
 is_quiet = record { finds = λ f. find_quiet f f.stage; searches = λ s. search_quiet s.find s.stage; places = λ p. place_quiet p p.stage }

@@ -1,27 +1,14 @@
 -- The steps of the search where a collector runs are moves that its rights allow, what it knows lasts, and where it finds no room there is none. Of the heap and of its routines it is known what their laws say.
 use Rattle.std.proofs.Common.{◌≡◌, ℕ, Bool, true, false, cond, ltb, Option, Some, None, refl, sym, ap, subst, ◌∙◌, arith}
-use Rattle.gh_base.specs.declared.pack.SpanHead.{SpanHead}
-use Rattle.gh_base.specs.Cells.{InRange}
-use Rattle.gh_base.specs.Steps.{cell_of}
-use Rattle.gh_class.specs.Classes.{slots_of}
-use Rattle.gh_heap.specs.Laws.{EachFactLasts, EachMoveKeeps, EachMoveKeepsItsOwn, WalksGoOn}
-use Rattle.gh_heap.specs.Moves.{KeepsObjects, Others, Steps, moved}
-use Rattle.gh_heap.specs.Rights.{Arena, Good, Right, Shared, TidyBefore, View, view}
-use Rattle.gh_heap.specs.Spans.{IsSpan, IsVacant}
 use Rattle.gh_cache.specs.Listing as slots
-use Rattle.gh_central.specs.Reclaim.{Reclaiming}
 use Rattle.gh_central.specs.Reclaim as reclaim
 use Rattle.gh_central.specs.ReclaimFacts as reclaiming
 use Rattle.gh_central.specs.SweptPass as pass
 use Rattle.gh_pages.specs.Listing as carve
-use Rattle.gh_alloc.specs.declared.search.SearchStage.{SearchStage}
-use Rattle.gh_alloc.specs.declared.search.SearchStage.TheVariants.{First, Free, Second}
-use Rattle.gh_alloc.specs.Vocabulary.{Layout, Sought, Small, Large, CachedSpan, Found, At, NoRoom, Again, End, FindStage, Slots, Lock, Give, Pass, Carve, Unlock, Ended}
-use Rattle.gh_alloc.specs.Find.{Finding, after_carve, after_pass, at_stage, begin, span_for, spans_for, taken_for}
 use Rattle.gh_alloc.specs.Find as find
 use Rattle.gh_alloc.specs.FindFacts as finding
-use Rattle.gh_alloc.specs.Search.{Seeking, after_first, after_free, asks_at, frees_at, gives_at, goes_at, reclaiming as begin_freeing, refuses}
 use Rattle.gh_alloc.specs.SearchFacts.{Comes, FactsAt, FindsNone, Frees, Has, Lasts, LooksAgain, LooksFirst, NoneIsTrue, Opens, OwnStep, Refuses, SeeksByItsRights, Within, reclaim_at}
+use Rattle.gh_alloc.proofs.Vocabulary.{after_carve, after_first, after_free, after_pass, Again, Arena, asks_at, At, at_stage, begin, CachedSpan, Carve, cell_of, EachFactLasts, EachMoveKeeps, EachMoveKeepsItsOwn, End, Ended, Finding, FindStage, First, Found, Free, frees_at, gives_at, goes_at, Good, InRange, IsSpan, IsVacant, KeepsObjects, Large, Layout, Lock, moved, NoRoom, Others, Pass, Reclaiming, reclaiming as begin_freeing, refuses, Right, SearchStage, Second, Seeking, Shared, Slots, slots_of, Small, Sought, SpanHead, spans_for, Steps, taken_for, TidyBefore, Unlock, View, view, WalksGoOn}
 use Rattle.gh_alloc.proofs.FindLasts.{seeks-last}
 
 pub record Known : Type 0 where
@@ -46,14 +33,9 @@ begins-on l (Large pages noscan) None = refl
 
 -- nor does one that has freed the lock
 unlocked-on : (f : Finding) (q : FindStage) (found : ℕ) → frees_at q ≡ true → find.refuses_at (find.goes_at f q found).stage ≡ false
-unlocked-on f (Slots s) found e = absurd (cc)
-unlocked-on f Lock found e = absurd (cc)
-unlocked-on f (Give g) found e = absurd (cc)
-unlocked-on f (Pass p) found e = absurd (cc)
-unlocked-on f (Carve c) found e = absurd (cc)
 unlocked-on f (Unlock Again) found e = begins-on f.layout f.wanted f.cached
 unlocked-on f (Unlock (End out)) found e = refl
-unlocked-on f Ended found e = absurd (cc)
+unlocked-on f _ found e = absurd (cc)
 
 taken-looks : (f : Finding) (w : Sought) (p : ℕ) → finding.looks (taken_for f w p).stage ≡ true
 taken-looks f (Small c) p = refl
@@ -65,9 +47,6 @@ spans-look f (Large pages noscan) = refl
 
 -- one that looks for a span does so until it frees the lock
 looks-on : (f : Finding) (q : FindStage) (found : ℕ) → finding.looks q ≡ true → frees_at q ≡ false → finding.looks (find.goes_at f q found).stage ≡ true
-looks-on f (Slots s) found e u = absurd (cc)
-looks-on f Lock found e u = absurd (cc)
-looks-on f (Give g) found e u = absurd (cc)
 looks-on f (Pass p) found e u = go (pass.gives p found) where
   go : (out : Option (Option ℕ)) → finding.looks (after_pass (at_stage f (Pass (pass.goes p found))) out).stage ≡ true
   go None = refl
@@ -78,17 +57,13 @@ looks-on f (Carve c) found e u = go (carve.gives c found) where
   go None = refl
   go (Some None) = refl
   go (Some (Some n)) = taken-looks (at_stage f (Carve (carve.goes c found))) f.wanted n
-looks-on f (Unlock after) found e u = absurd (cc)
-looks-on f Ended found e u = absurd (cc)
+looks-on f _ found e u = absurd (cc)
 
 looks-locked : (q : FindStage) → finding.looks q ≡ true → finding.is_locked q ≡ true
 looks-locked (Slots s) e = absurd (cc)
 looks-locked Lock e = absurd (cc)
-looks-locked (Give g) e = refl
-looks-locked (Pass p) e = refl
-looks-locked (Carve c) e = refl
-looks-locked (Unlock after) e = refl
 looks-locked Ended e = absurd (cc)
+looks-locked _ e = refl
 
 opens : Known → Opens
 opens k z a v rest q seeks caches apart right e =

@@ -1,13 +1,6 @@
 -- What is known at each stage of the search for a slot while any number of processors change the heap, under which rights, and the laws: what each step of its own is, that it is on a word that there is, that what is known lasts whatever others do, and what is true where it finds no room.
 use Rattle.std.specs.Prelude.{◌≡◌, ℕ, ◌+◌, ◌*◌, ◌/◌, ◌^◌, ◌<◌, ◌≤◌, Bool, true, false, Option, Some, None}
-use Rattle.gh_base.specs.declared.pack.SpanHead.{SpanHead}
-use Rattle.gh_base.specs.Cells.{InRange}
-use Rattle.gh_base.specs.Steps.{cell_of}
 use Rattle.gh_class.specs.declared.class.SizeClass.TheVariants as size
-use Rattle.gh_class.specs.Classes.{slot_words_of, slots_of}
-use Rattle.gh_heap.specs.Moves.{KeepsObjects, Leaves, Others, Steps, update}
-use Rattle.gh_heap.specs.Rights.{Arena, Claims, FullBefore, Good, Right, Shared, View, view}
-use Rattle.gh_heap.specs.Spans.{Laying}
 use Rattle.gh_cache.specs.Facts.{IsHeld, TakenBelow}
 use Rattle.gh_cache.specs.Listing as slots
 use Rattle.gh_central.specs.declared.pass.PassStage.{PassStage}
@@ -20,6 +13,7 @@ use Rattle.gh_pages.specs.Listing as carve
 use Rattle.gh_alloc.specs.Vocabulary.{SpanClass, Sought, Small, Large, CachedSpan, Found, At, NoRoom, Again, End, FindStage, Slots, Lock, Give, Pass, Carve, Unlock, Ended}
 use Rattle.gh_alloc.specs.Find.{Finding, asks, at_stage, given_head, gives, goes, opening, refuses, span_at, span_for, spans_for}
 use Rattle.gh_alloc.specs.FindSound.{IsSought}
+use Rattle.gh_alloc.specs.Vocabulary.{Arena, cell_of, Claims, FullBefore, Good, InRange, KeepsObjects, Laying, Leaves, Others, Right, Shared, slot_words_of, slots_of, SpanHead, Steps, update, View, view}
 
 -- The cached span.
 

@@ -1,20 +1,13 @@
 -- What is known at each stage of the making of an object while any number of processors change the heap, under which rights, and the laws: what each step of its own is, that it is on a word that there is, and that what is known lasts whatever others do.
 use Rattle.std.specs.Prelude.{◌≡◌, ℕ, ◌+◌, ◌/◌, ◌<◌, Bool, true, false, length, Option, Some, None}
 use Rattle.gh_base.specs.declared.limits.TheConstants.{MOST_STATEMENTS, REGISTERS}
-use Rattle.gh_base.specs.declared.pack.SpanHead.{SpanHead}
-use Rattle.gh_base.specs.Cells.{InRange}
 use Rattle.gh_base.specs.Packing.{birth_word}
 use Rattle.gh_base.specs.Rows.{Row}
 use Rattle.gh_base.specs.Shapes.{shape_at}
-use Rattle.gh_base.specs.Steps.{cell_of}
 use Rattle.gh_class.specs.declared.class.SizeClass.TheVariants as size
-use Rattle.gh_class.specs.Classes.{size_class_of}
 use Rattle.gh_model.specs.declared.EverValue.TheVariants as ever
 use Rattle.gh_model.specs.Ever.{field_count, next_name, with_object, with_register}
-use Rattle.gh_heap.specs.Moves.{Others, Runs, Steps, placed_at, update}
 use Rattle.gh_heap.specs.Objects.{IsMade}
-use Rattle.gh_heap.specs.Rights.{Arena, Claims, Good, Right, Shared, View, view}
-use Rattle.gh_heap.specs.Spans.{IsFull, owned_by}
 use Rattle.gh_bitmap.specs.declared.set_pointers.SetStage.{SetStage}
 use Rattle.gh_bitmap.specs.declared.set_pointers.SetStage.TheVariants as bits_stage
 use Rattle.gh_bitmap.specs.Facts as bits
@@ -25,6 +18,7 @@ use Rattle.gh_central.specs.GiveFacts.{CanGiveBack}
 use Rattle.gh_alloc.specs.declared.place.PlaceStage.{PlaceStage}
 use Rattle.gh_alloc.specs.declared.place.PlaceStage.TheVariants.{Clear, Birth, Bits, Mark, Alloc, Give, Count, Ended}
 use Rattle.gh_alloc.specs.Place.{Placing, acts, asks, at_stage, gives, goes}
+use Rattle.gh_alloc.specs.Vocabulary.{Arena, cell_of, Claims, Good, InRange, IsFull, Others, owned_by, placed_at, Right, Runs, Shared, size_class_of, SpanHead, Steps, update, View, view}
 
 -- The routine before its first step. What is known is said of it and of the stage.
 abbrev pub base : Placing → Placing

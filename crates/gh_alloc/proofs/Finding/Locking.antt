@@ -23,11 +23,8 @@ use Rattle.gh_alloc.specs.Locking.{WritesWithTheLock, holds, lock_after}
 abbrev pub has_lock : FindStage → Bool
 has_lock (Slots s) = false
 has_lock Lock = false
-has_lock (Give g) = true
-has_lock (Pass p) = true
-has_lock (Carve c) = true
-has_lock (Unlock after) = true
 has_lock Ended = false
+has_lock _ = true
 
 -- the steps of the routines that it runs neither take the lock nor free it
 slots_asks : (s : slots.Searching) (p : SlotStage) (held : Bool) (w : ℕ) → lock_after held (slots.asks_at s p) w ≡ held
@@ -40,15 +37,11 @@ give_asks g give_stage.Ended held w = refl
 
 pass_asks : (m : pass.Pass) (p : PassStage) (held : Bool) (w : ℕ) → lock_after held (pass.asks_at m p) w ≡ held
 pass_asks m (pass_stage.Look page) held w = refl
-pass_asks m (pass_stage.Bits page h i) held w = refl
-pass_asks m (pass_stage.Take page h) held w = refl
-pass_asks m pass_stage.Ended held w = refl
+pass_asks m _ held w = refl
 
 carve_asks : (c : carve.Carving) (p : CarveStage) (held : Bool) (w : ℕ) → lock_after held (carve.asks_at c p) w ≡ held
 carve_asks c (carve_stage.Look page run) held w = refl
-carve_asks c (carve_stage.Body first distance) held w = refl
-carve_asks c (carve_stage.Head first) held w = refl
-carve_asks c carve_stage.Ended held w = refl
+carve_asks c _ held w = refl
 
 -- where it goes
 pub begin_without : (l : Layout) (w : Sought) (s : Option CachedSpan) → has_lock (begin l w s) ≡ false
@@ -116,11 +109,8 @@ slots_store s slots_stage.Ended page word e = absurd (cc)
 pub store_with : (f : Finding) (p : FindStage) (page word : ℕ) → asks_at f p ≡ Store (cell.Page page) word → has_lock p ≡ true
 store_with f (Slots s) page word e = slots_store s s.stage page word e
 store_with f Lock page word e = absurd (cc)
-store_with f (Give g) page word e = refl
-store_with f (Pass m) page word e = refl
-store_with f (Carve c) page word e = refl
-store_with f (Unlock after) page word e = refl
 store_with f Ended page word e = absurd (cc)
+store_with f _ page word e = refl
 
 slots_free : (s : slots.Searching) (p : SlotStage) (word : ℕ) → slots.asks_at s p ≡ Store cell.Lock word → false ≡ true
 slots_free s slots_stage.Look word e = absurd (cc)
@@ -129,11 +119,8 @@ slots_free s slots_stage.Ended word e = absurd (cc)
 pub free_with : (f : Finding) (p : FindStage) (word : ℕ) → asks_at f p ≡ Store cell.Lock word → has_lock p ≡ true
 free_with f (Slots s) word e = slots_free s s.stage word e
 free_with f Lock word e = absurd (cc)
-free_with f (Give g) word e = refl
-free_with f (Pass m) word e = refl
-free_with f (Carve c) word e = refl
-free_with f (Unlock after) word e = refl
 free_with f Ended word e = absurd (cc)
+free_with f _ word e = refl
 
 give_swap : (g : give.Giving) (p : GiveStage) (old new : ℕ) → give.asks_at g p ≡ Swap cell.Lock old new → true ≡ false
 give_swap g give_stage.Write old new e = absurd (cc)
@@ -141,33 +128,23 @@ give_swap g give_stage.Ended old new e = absurd (cc)
 
 pass_swap : (m : pass.Pass) (p : PassStage) (old new : ℕ) → pass.asks_at m p ≡ Swap cell.Lock old new → true ≡ false
 pass_swap m (pass_stage.Look page) old new e = absurd (cc)
-pass_swap m (pass_stage.Bits page h i) old new e = absurd (cc)
-pass_swap m (pass_stage.Take page h) old new e = absurd (cc)
-pass_swap m pass_stage.Ended old new e = absurd (cc)
+pass_swap m _ old new e = absurd (cc)
 
 carve_swap : (c : carve.Carving) (p : CarveStage) (old new : ℕ) → carve.asks_at c p ≡ Swap cell.Lock old new → true ≡ false
 carve_swap c (carve_stage.Look page run) old new e = absurd (cc)
-carve_swap c (carve_stage.Body first distance) old new e = absurd (cc)
-carve_swap c (carve_stage.Head first) old new e = absurd (cc)
-carve_swap c carve_stage.Ended old new e = absurd (cc)
+carve_swap c _ old new e = absurd (cc)
 
 pub swap_without : (f : Finding) (p : FindStage) (old new : ℕ) → asks_at f p ≡ Swap cell.Lock old new → has_lock p ≡ false
-swap_without f (Slots s) old new e = refl
-swap_without f Lock old new e = refl
 swap_without f (Give g) old new e = give_swap g g.stage old new e
 swap_without f (Pass m) old new e = pass_swap m m.stage old new e
 swap_without f (Carve c) old new e = carve_swap c c.stage old new e
 swap_without f (Unlock after) old new e = absurd (cc)
-swap_without f Ended old new e = refl
+swap_without f _ old new e = refl
 
 pub end_without : (f : Finding) (p : FindStage) (w : ℕ) (out : Found) → gives_at f p w ≡ Some out → has_lock (goes_at f p w).stage ≡ false
 end_without f (Slots s) w out e = slots_without (searched f (slots.goes s w)) (slots.gives s w) refl
-end_without f Lock w out e = absurd (cc)
-end_without f (Give g) w out e = absurd (cc)
-end_without f (Pass m) w out e = absurd (cc)
-end_without f (Carve c) w out e = absurd (cc)
 end_without f (Unlock after) w out e = unlocked_without f after
-end_without f Ended w out e = absurd (cc)
+end_without f _ w out e = absurd (cc)
 
 module _ (f : Finding) (found : ℕ → ℕ) (start : has_lock f.stage ≡ false) where
   held_is : (n : ℕ) → holds listing f found n ≡ has_lock (told listing f found n).stage

@@ -32,22 +32,13 @@ after_refuses (End (At x)) e = absurd (cc)
 after_refuses (End NoRoom) e = refl
 
 refusal_gives : (f : Finding) (p : FindStage) (w : ℕ) → IsTrue (refuses_at p) → gives_at f p w ≡ Some NoRoom
-refusal_gives f (Slots s) w h = absurd (cc)
-refusal_gives f Lock w h = absurd (cc)
-refusal_gives f (Give x) w h = absurd (cc)
-refusal_gives f (Pass m) w h = absurd (cc)
-refusal_gives f (Carve c) w h = absurd (cc)
 refusal_gives f (Unlock after) w h = after_gives after h
-refusal_gives f Ended w h = absurd (cc)
+refusal_gives f _ w h = absurd (cc)
 
 pub giver_refuses : (f : Finding) (p : FindStage) (w : ℕ) → gives_at f p w ≡ Some NoRoom → IsTrue (refuses_at p)
 giver_refuses f (Slots s) w e = absurd (slot_is_room (searched f (slots.goes s w)) (slots.gives s w) e)
-giver_refuses f Lock w e = absurd (cc)
-giver_refuses f (Give x) w e = absurd (cc)
-giver_refuses f (Pass m) w e = absurd (cc)
-giver_refuses f (Carve c) w e = absurd (cc)
 giver_refuses f (Unlock after) w e = after_refuses after e
-giver_refuses f Ended w e = absurd (cc)
+giver_refuses f _ w e = absurd (cc)
 
 pub refuses_exactly : (f : Finding) (b : Bool) → b ≡ refuses f → (w : ℕ) → IsTrue b ↔ (gives f w ≡ Some NoRoom)
 refuses_exactly f b is w = (λ h. refusal_gives f f.stage w (sym is ∙ h), λ e. is ∙ giver_refuses f f.stage w e)
@@ -87,12 +78,10 @@ carve_base g (Some (Some page)) = taken_base g g.wanted page
 
 pub goes_base : (g : Finding) (p : FindStage) (w : ℕ) → base (goes_at g p w) ≡ base g
 goes_base g (Slots s) w = slots_base (searched g (slots.goes s w)) (slots.gives s w)
-goes_base g Lock w = refl
 goes_base g (Give x) w = give_base (at_stage g (Give (give.goes x w))) (give.gives x w)
 goes_base g (Pass m) w = pass_base (at_stage g (Pass (pass.goes m w))) (pass.gives m w)
 goes_base g (Carve c) w = carve_base (at_stage g (Carve (carve.goes c w))) (carve.gives c w)
-goes_base g (Unlock after) w = refl
-goes_base g Ended w = refl
+goes_base g _ w = refl
 
 module _ (f : Finding) (found : ℕ → ℕ) where
   abbrev now : ℕ → Finding
@@ -312,12 +301,8 @@ module _ (f : Finding) (found : ℕ → ℕ) where
 
   no_room_at : (n : ℕ) (p : FindStage) → gives_at (now n) p (found n) ≡ Some NoRoom → Track n p → Refuses n
   no_room_at n (Slots s) e t = absurd (slot_is_room (searched (now n) (slots.goes s (found n))) (slots.gives s (found n)) e)
-  no_room_at n Lock e t = absurd (cc)
-  no_room_at n (Give x) e t = absurd (cc)
-  no_room_at n (Pass m) e t = absurd (cc)
-  no_room_at n (Carve c) e t = absurd (cc)
   no_room_at n (Unlock after) e t = refused n after e t
-  no_room_at n Ended e t = absurd (cc)
+  no_room_at n _ e t = absurd (cc)
 
   no_room : Track 0 f.stage → (n : ℕ) → gives (now n) (found n) ≡ Some NoRoom → Refuses n
   no_room start n e = let t = tracks start n in no_room_at n t.0 (subst (λ (p : FindStage). gives_at (now n) p (found n) ≡ Some NoRoom) t.1 e) t.2

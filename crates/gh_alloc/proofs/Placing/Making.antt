@@ -1,28 +1,15 @@
 -- The making of an object, run to its end.
-use Rattle.std.proofs.Common.{◌≡◌, ◌≢◌, ℕ, zero, suc, ◌+◌, ◌*◌, ◌/◌, ◌%◌, ◌^◌, ◌<◌, ◌≤◌, Bool, true, false, cond, eqb, ltb, bit_or, ◌⊎◌, Option, Some, None, refl, sym, ap, subst, ◌∙◌, arith}
-use Rattle.std.proofs.lemmas.Bool.{ltb-true, ltb-false}
-use Rattle.std.proofs.lemmas.Bool.Decides.{nat_tests}
+use Rattle.std.proofs.Common.{◌≡◌, ◌≢◌, ℕ, zero, suc, ◌+◌, ◌*◌, ◌/◌, ◌%◌, ◌^◌, ◌<◌, ◌≤◌, Bool, true, false, cond, eqb, ltb, bit_or, ◌⊎◌, Option, Some, None, refl, sym, ap, subst, ◌∙◌, arith, ltb-true, ltb-false}
 use Rattle.gh_base.specs.declared.cell.Cell.{Cell}
 use Rattle.gh_base.specs.declared.cell.Cell.TheVariants as cell
-use Rattle.gh_base.specs.declared.layout.Layout.{Layout}
-use Rattle.gh_base.specs.declared.pack.SpanHead.{SpanHead}
-use Rattle.gh_base.specs.declared.shape.Shape.{Shape}
-use Rattle.gh_base.specs.declared.value.Name.{Name}
-use Rattle.gh_base.specs.Cells.{Words, put}
-use Rattle.gh_base.specs.Packing.{birth_word, bit, head_word}
-use Rattle.gh_base.specs.Routines.{Alone, alone, IsFolded, Leaves, steps_alone}
-use Rattle.gh_base.specs.Rows.{CellsAreTold, pointer_bit}
-use Rattle.gh_base.specs.Shapes.{is_pointer}
-use Rattle.gh_base.specs.Steps.{effect}
 use Rattle.gh_bitmap.specs.Pointers.{AreSet, PointersAreSet}
 use Rattle.gh_bitmap.specs.SetPointers as bits
 use Rattle.gh_bitmap.specs.Stepping.{FitsSlot}
 use Rattle.gh_central.specs.GiveBack as give
 use Rattle.gh_central.specs.SweptPass.{owned_by}
-use Rattle.gh_alloc.specs.declared.place.PlaceStage.{PlaceStage}
-use Rattle.gh_alloc.specs.declared.place.PlaceStage.TheVariants.{Clear, Birth, Bits, Mark, Alloc, Give, Count, Ended}
-use Rattle.gh_alloc.specs.Place.{Placing, filled, is_busy, listing, made, opening}
+use Rattle.gh_alloc.specs.declared.place.PlaceStage.TheVariants.{Give, Ended}
 use Rattle.gh_alloc.specs.Making.{IsOther, LeavesObject}
+use Rattle.gh_alloc.proofs.Vocabulary.{Alloc, Alone, alone, Birth, birth_word, bit, Bits, CellsAreTold, Clear, Count, effect, filled, head_word, is_busy, is_pointer, IsFolded, Layout, Leaves, listing, made, Mark, Name, nat_tests, opening, PlaceStage, Placing, pointer_bit, put, Shape, SpanHead, steps_alone, Words}
 
 module _ (folded : IsFolded listing) where
   busy_more : (r : Alone Placing) → is_busy r.routine.stage ≡ true → (steps : ℕ) → ((n : ℕ) → n < steps → is_busy (alone listing (steps_alone listing r) n).routine.stage ≡ true) →

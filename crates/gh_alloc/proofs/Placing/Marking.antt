@@ -12,7 +12,7 @@ use Rattle.gh_central.specs.declared.give.GiveStage.{GiveStage}
 use Rattle.gh_central.specs.declared.give.GiveStage.TheVariants as give_stage
 use Rattle.gh_central.specs.GiveBack as give
 use Rattle.gh_alloc.specs.declared.place.PlaceStage.{PlaceStage}
-use Rattle.gh_alloc.specs.declared.place.PlaceStage.TheVariants.{Clear, Birth, Bits, Mark, Alloc, Give, Count, Ended}
+use Rattle.gh_alloc.specs.declared.place.PlaceStage.TheVariants.{Clear, Birth, Bits, Mark, Alloc, Give}
 use Rattle.gh_alloc.specs.Marking.{AnObjectIsMarkedBeforeItIsMade, IsMarkedBefore}
 use Rattle.gh_alloc.specs.Place.{Placing, asks, asks_at, filled, goes_at, listing, made, opening}
 
@@ -28,14 +28,10 @@ give_sets_none g give_stage.Write i w e = absurd (cc)
 give_sets_none g give_stage.Ended i w e = absurd (cc)
 
 sets_alloc : (p : Placing) (q : PlaceStage) (i w : ℕ) → asks_at p q ≡ Or (cell.Alloc i) w → q ≡ Alloc
-sets_alloc p (Clear k) i w e = absurd (cc)
-sets_alloc p Birth i w e = absurd (cc)
 sets_alloc p (Bits s) i w e = absurd (bits_set_none s s.stage i w e)
-sets_alloc p Mark i w e = absurd (cc)
 sets_alloc p Alloc i w e = refl
 sets_alloc p (Give g) i w e = absurd (give_sets_none g g.stage i w e)
-sets_alloc p Count i w e = absurd (cc)
-sets_alloc p Ended i w e = absurd (cc)
+sets_alloc p _ i w e = absurd (cc)
 
 bits_mark_none : (s : bits.PointerSetting) (q : SetStage) (i : ℕ) → cell_of (bits.asks_at s q) ≢ cell.Mark i
 bits_mark_none s (set_stage.Clear k) i e = absurd (cc)
@@ -47,14 +43,10 @@ give_marks_none g give_stage.Write i e = absurd (cc)
 give_marks_none g give_stage.Ended i e = absurd (cc)
 
 sets_mark : (p : Placing) (q : PlaceStage) (i : ℕ) → cell_of (asks_at p q) ≡ cell.Mark i → q ≡ Mark
-sets_mark p (Clear k) i e = absurd (cc)
-sets_mark p Birth i e = absurd (cc)
 sets_mark p (Bits s) i e = absurd (bits_mark_none s s.stage i e)
 sets_mark p Mark i e = refl
-sets_mark p Alloc i e = absurd (cc)
 sets_mark p (Give g) i e = absurd (give_marks_none g g.stage i e)
-sets_mark p Count i e = absurd (cc)
-sets_mark p Ended i e = absurd (cc)
+sets_mark p _ i e = absurd (cc)
 
 -- Where marking is on, the stage before that of the alloc bit is that of the mark bit.
 
@@ -72,13 +64,10 @@ not_made p (Some head) e = absurd (cc)
 
 from_mark : (p : Placing) (q : PlaceStage) (w : ℕ) → p.marking ≡ true → goes_at p q w ≡ Alloc → q ≡ Mark
 from_mark p (Clear k) w on e = absurd (not_cleared (nat_lt (k + 1) p.slot) (k + 1) e)
-from_mark p Birth w on e = absurd (cc)
 from_mark p (Bits s) w on e = absurd (not_filled (bits.is_busy (bits.goes s w).stage) (bits.goes s w) (ap (λ (m : Bool). cond (bits.is_busy (bits.goes s w).stage) (Bits (bits.goes s w)) (filled m)) (sym on) ∙ e))
 from_mark p Mark w on e = refl
 from_mark p Alloc w on e = absurd (not_made p p.span e)
-from_mark p (Give g) w on e = absurd (cc)
-from_mark p Count w on e = absurd (cc)
-from_mark p Ended w on e = absurd (cc)
+from_mark p _ w on e = absurd (cc)
 
 -- Where it is off, no stage leads to that of the mark bit.
 
@@ -96,13 +85,9 @@ unmarked_made p (Some head) e = absurd (cc)
 
 no_mark : (p : Placing) (q : PlaceStage) (w : ℕ) → p.marking ≡ false → goes_at p q w ≢ Mark
 no_mark p (Clear k) w off e = absurd (unmarked_cleared (nat_lt (k + 1) p.slot) (k + 1) e)
-no_mark p Birth w off e = absurd (cc)
 no_mark p (Bits s) w off e = absurd (unmarked_filled (bits.is_busy (bits.goes s w).stage) (bits.goes s w) (ap (λ (m : Bool). cond (bits.is_busy (bits.goes s w).stage) (Bits (bits.goes s w)) (filled m)) (sym off) ∙ e))
-no_mark p Mark w off e = absurd (cc)
 no_mark p Alloc w off e = absurd (unmarked_made p p.span e)
-no_mark p (Give g) w off e = absurd (cc)
-no_mark p Count w off e = absurd (cc)
-no_mark p Ended w off e = absurd (cc)
+no_mark p _ w off e = absurd (cc)
 
 same_bits : (i j w x : ℕ) → Or (cell.Alloc i) w ≡ Or (cell.Alloc j) x → Or (cell.Mark i) w ≡ Or (cell.Mark j) x
 same_bits i j w x e = cc

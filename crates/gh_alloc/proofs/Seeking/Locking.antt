@@ -9,7 +9,7 @@ use Rattle.gh_central.specs.declared.reclaim.ReclaimStage.{ReclaimStage}
 use Rattle.gh_central.specs.declared.reclaim.ReclaimStage.TheVariants as reclaim_stage
 use Rattle.gh_alloc.specs.declared.search.SearchStage.{SearchStage}
 use Rattle.gh_alloc.specs.declared.search.SearchStage.TheVariants.{First, Free, Second}
-use Rattle.gh_alloc.specs.Vocabulary.{Layout, Sought, CachedSpan, Found, FindStage, Slots, Lock, Give, Pass, Carve, Unlock, Ended}
+use Rattle.gh_alloc.specs.Vocabulary.{Layout, Sought, CachedSpan, Found, FindStage, Slots, Lock, Ended}
 use Rattle.gh_alloc.specs.Find.{Finding}
 use Rattle.gh_alloc.specs.Find as find
 use Rattle.gh_alloc.specs.Locking.{WritesWithTheLock, holds, lock_after}
@@ -23,19 +23,13 @@ has_lock_at p _ = has_lock p
 
 pub reclaim_asks : (r : Reclaiming) (p : ReclaimStage) (held : Bool) (w : ℕ) → lock_after held (reclaim.asks_at r p) w ≡ held
 reclaim_asks r (reclaim_stage.Look page) held w = refl
-reclaim_asks r (reclaim_stage.Bits page pages i) held w = refl
-reclaim_asks r (reclaim_stage.Body page pages distance) held w = refl
-reclaim_asks r (reclaim_stage.Head page pages) held w = refl
-reclaim_asks r reclaim_stage.Ended held w = refl
+reclaim_asks r _ held w = refl
 
 refusing_with : (p : FindStage) → find.refuses_at p ≡ true → has_lock p ≡ true
 refusing_with (Slots s) e = absurd (cc)
 refusing_with Lock e = absurd (cc)
-refusing_with (Give g) e = refl
-refusing_with (Pass m) e = refl
-refusing_with (Carve c) e = refl
-refusing_with (Unlock after) e = refl
 refusing_with Ended e = absurd (cc)
+refusing_with _ e = refl
 
 first_with : (g : Finding) (b : Bool) → find.refuses g ≡ b → has_lock g.stage ≡ has_lock_at g.stage (cond b (Free (reclaiming g)) First)
 first_with g true e = refusing_with g.stage e
@@ -67,10 +61,7 @@ unlock_with f Second word e = finding.free_with f f.stage word e
 
 reclaim_swap : (r : Reclaiming) (p : ReclaimStage) (old new : ℕ) → reclaim.asks_at r p ≡ Swap cell.Lock old new → true ≡ false
 reclaim_swap r (reclaim_stage.Look page) old new e = absurd (cc)
-reclaim_swap r (reclaim_stage.Bits page pages i) old new e = absurd (cc)
-reclaim_swap r (reclaim_stage.Body page pages distance) old new e = absurd (cc)
-reclaim_swap r (reclaim_stage.Head page pages) old new e = absurd (cc)
-reclaim_swap r reclaim_stage.Ended old new e = absurd (cc)
+reclaim_swap r _ old new e = absurd (cc)
 
 swap_without : (f : Finding) (p : SearchStage) (old new : ℕ) → asks_at f p ≡ Swap cell.Lock old new → has_lock_at f.stage p ≡ false
 swap_without f First old new e = finding.swap_without f f.stage old new e

@@ -1,27 +1,20 @@
 -- The search where a collector runs says that there is no room only where it has found none twice, and freed empty spans between.
-use Rattle.std.proofs.Common.{◌≡◌, ℕ, zero, suc, ◌+◌, ◌<◌, ◌≤◌, ◌⊎◌, inl, inr, Bool, true, false, cond, nat_eq, Option, Some, None, refl, sym, ap, subst, ◌∙◌, arith}
-use Rattle.std.proofs.lemmas.Bool.{cases_order, eqb-true}
+use Rattle.std.proofs.Common.{◌≡◌, ℕ, zero, suc, ◌+◌, ◌<◌, ◌≤◌, ◌⊎◌, inl, inr, Bool, true, false, cond, nat_eq, Option, Some, None, refl, sym, ap, subst, ◌∙◌, arith, eqb-true}
+use Rattle.std.proofs.lemmas.Bool.{cases_order}
 use Rattle.gh_base.specs.declared.cell.Ask.{Ask}
 use Rattle.gh_base.specs.declared.cell.Ask.TheVariants.{Store, Swap}
 use Rattle.gh_base.specs.declared.cell.Cell.TheVariants as cell
-use Rattle.gh_base.specs.Packing.{head_word}
-use Rattle.gh_base.specs.Routines.{EndsWith, told}
 use Rattle.gh_cache.specs.Listing as slots
 use Rattle.gh_central.specs.GiveBack as give
-use Rattle.gh_central.specs.declared.give.GiveStage.{GiveStage}
 use Rattle.gh_central.specs.declared.give.GiveStage.TheVariants.{Write}
-use Rattle.gh_central.specs.Reclaim.{Reclaiming}
 use Rattle.gh_central.specs.Reclaim as reclaim
 use Rattle.gh_central.specs.SweptPass as pass
 use Rattle.gh_pages.specs.Listing as carve
-use Rattle.gh_alloc.specs.declared.search.SearchStage.{SearchStage}
-use Rattle.gh_alloc.specs.declared.search.SearchStage.TheVariants.{First, Free, Second}
-use Rattle.gh_alloc.specs.Vocabulary.{Layout, SpanClass, Sought, Small, Large, CachedSpan, At, NoRoom, Again, End, FindStage, Slots, Lock, Give, Pass, Carve, Unlock, Ended}
-use Rattle.gh_alloc.specs.Find.{Finding, after_carve, after_give, after_pass, at_stage, carving, given_head, locked_for, refuses_at, searched, span_for, spans_for, taken_for, unlocked}
 use Rattle.gh_alloc.specs.Find as find
 use Rattle.gh_alloc.specs.Locking.{holds}
 use Rattle.gh_alloc.specs.Rounds.{FindsNone, Follows as FollowsLock, FreesSpans, GivesBack, HasFoundNoneTwice, Passed}
-use Rattle.gh_alloc.specs.Search.{Seeking, after_first, after_free, again, asks, asks_at, frees_at, gives_at, goes_at, listing, opening, reclaiming}
+use Rattle.gh_alloc.specs.Search.{asks, listing, opening}
+use Rattle.gh_alloc.proofs.Vocabulary.{after_carve, after_first, after_free, after_give, after_pass, Again, again, asks_at, At, at_stage, CachedSpan, Carve, carving, End, Ended, EndsWith, Finding, FindStage, First, Free, frees_at, Give, given_head, gives_at, GiveStage, goes_at, head_word, Large, Layout, Lock, locked_for, NoRoom, Pass, Reclaiming, reclaiming, refuses_at, searched, SearchStage, Second, Seeking, Slots, Small, Sought, span_for, SpanClass, spans_for, taken_for, told, Unlock, unlocked}
 use Rattle.gh_alloc.proofs.Finding.Locking.{has_lock}
 use Rattle.gh_alloc.proofs.Finding.Locking as finding
 use Rattle.gh_alloc.proofs.Finding.Refusing.{Base, base, giver_refuses, goes_base}
@@ -39,22 +32,12 @@ search_base f (Free r) w = free_base f (reclaim.goes r w) (reclaim.gives r w)
 search_base f Second w = goes_base f f.stage w
 
 without_refuses : (p : FindStage) → has_lock p ≡ false → refuses_at p ≡ false
-without_refuses (Slots x) h = refl
-without_refuses Lock h = refl
-without_refuses (Give x) h = refl
-without_refuses (Pass x) h = refl
-without_refuses (Carve x) h = refl
 without_refuses (Unlock after) h = absurd (cc)
-without_refuses Ended h = refl
+without_refuses _ h = refl
 
 refusing_asks : (f : Finding) (p : FindStage) → refuses_at p ≡ true → find.asks_at f p ≡ Store cell.Lock 0
-refusing_asks f (Slots x) h = absurd (cc)
-refusing_asks f Lock h = absurd (cc)
-refusing_asks f (Give x) h = absurd (cc)
-refusing_asks f (Pass x) h = absurd (cc)
-refusing_asks f (Carve x) h = absurd (cc)
 refusing_asks f (Unlock after) h = refl
-refusing_asks f Ended h = absurd (cc)
+refusing_asks f _ h = absurd (cc)
 
 module _ (s : Seeking) (found : ℕ → ℕ) where
   abbrev now : ℕ → Seeking
@@ -144,24 +127,18 @@ module _ (s : Seeking) (found : ℕ → ℕ) where
       by (Some (Some page)) g = taken_round (suc n) (carve_on n f x) f.wanted page
 
     round_with : (n : ℕ) (p : FindStage) → Round n p → has_lock p ≡ true
-    round_with n (Slots x) k = absurd k
-    round_with n Lock k = absurd k
-    round_with n (Give x) k = absurd k
     round_with n (Pass x) k = refl
     round_with n (Carve x) k = refl
     round_with n (Unlock after) k = refl
-    round_with n Ended k = absurd k
+    round_with n _ k = absurd k
 
     refused : (n : ℕ) (p : FindStage) → refuses_at p ≡ true → Round n p → RoundEnds n
-    refused n (Slots x) h k = absurd k
-    refused n Lock h k = absurd k
-    refused n (Give x) h k = absurd k
     refused n (Pass x) h k = absurd (cc)
     refused n (Carve x) h k = absurd (cc)
     refused n (Unlock Again) h k = absurd (cc)
     refused n (Unlock (End (At x))) h k = absurd (cc)
     refused n (Unlock (End NoRoom)) h k = k
-    refused n Ended h k = absurd k
+    refused n _ h k = absurd k
 
   -- What is known at each stage, since the lock was taken at this step.
 
@@ -210,11 +187,8 @@ module _ (s : Seeking) (found : ℕ → ℕ) where
   first_with : (lock n : ℕ) (p : FindStage) → WithFirst lock n p → has_lock p ≡ true
   first_with lock n (Slots x) k = absurd k
   first_with lock n Lock k = absurd k
-  first_with lock n (Give x) k = refl
-  first_with lock n (Pass x) k = refl
-  first_with lock n (Carve x) k = refl
-  first_with lock n (Unlock after) k = refl
   first_with lock n Ended k = absurd k
+  first_with lock n _ k = refl
 
   has_with : (lock n : ℕ) (p : FindStage) (q : SearchStage) → WithLock lock n p q → has_lock_at p q ≡ true
   has_with lock n p First k = first_with lock n p k
@@ -236,9 +210,6 @@ module _ (s : Seeking) (found : ℕ → ℕ) where
 
   -- a round that was the first leads to the freeing
   leads_on : (lock n : ℕ) (g : Finding) → base g ≡ base s.find → (p : FindStage) → Round (Follows lock) n p → WithLock lock n p (cond (refuses_at p) (Free (reclaiming g)) First)
-  leads_on lock n g e (Slots x) k = absurd k
-  leads_on lock n g e Lock k = absurd k
-  leads_on lock n g e (Give x) k = absurd k
   leads_on lock n g e (Pass x) k = k
   leads_on lock n g e (Carve x) k = k
   leads_on lock n g e (Unlock Again) k = tt
@@ -247,7 +218,7 @@ module _ (s : Seeking) (found : ℕ → ℕ) where
     past = record { first = k.first; follows = k.before; last = k.last; none = k.none };
     runs = subst (λ (j : ℕ). Running asked found reclaim.listing (reclaim.opening s.find.layout s.find.generation) j n (reclaiming g)) (sym k.next) (begins asked found reclaim.listing _ n (reclaiming g) (ap (λ (b : Base). reclaim.opening b.layout b.generation) e));
   }
-  leads_on lock n g e Ended k = absurd k
+  leads_on lock n g e _ k = absurd k
 
   -- where a step of the search leads, by the stage that it is at
   abbrev first_to : ℕ → FindStage → Seeking
@@ -320,11 +291,8 @@ module _ (s : Seeking) (found : ℕ → ℕ) where
     without_step : (n : ℕ) (p : FindStage) → (now n).stage ≡ First → (now n).find.stage ≡ p → has_lock p ≡ false → Tracks (suc n)
     without_step n (Slots x) e at h = unlocks_first n (find.goes_at (now n).find (Slots x) (found n)) (first_is n (Slots x) e at) (finding.slots_without (searched (now n).find (slots.goes x (found n))) (slots.gives x (found n)) refl)
     without_step n Lock e at h = lock_step n e at
-    without_step n (Give x) e at h = absurd (cc)
-    without_step n (Pass x) e at h = absurd (cc)
-    without_step n (Carve x) e at h = absurd (cc)
-    without_step n (Unlock after) e at h = absurd (cc)
     without_step n Ended e at h = unlocks_first n (at_stage (now n).find Ended) (first_is n Ended e at) refl
+    without_step n _ e at h = absurd (cc)
 
     module _ (n : ℕ) (t : Locked n) where
       abbrev goes_to : (z : Seeking) → now (suc n) ≡ z → WithLock t.lock (suc n) z.find.stage z.stage → Tracks (suc n)
@@ -348,8 +316,6 @@ module _ (s : Seeking) (found : ℕ → ℕ) where
         begun = leads_on t.lock (suc n) (given_on x) (base_is n) (spans_for (give_on x) (give_on x).wanted) (round_begins (Follows t.lock) (suc n) (give_on x) (give_on x).wanted (base_is n) refl (inr (given_back, let at = k.follows in omega arith)))
 
       first_step : (p : FindStage) → (now n).stage ≡ First → (now n).find.stage ≡ p → WithFirst t.lock n p → Tracks (suc n)
-      first_step (Slots x) e at k = absurd k
-      first_step Lock e at k = absurd k
       first_step (Give x) e at k = give_step x e at k
       first_step (Pass x) e at k = goes_to (first_to n (Pass x)) (first_is n (Pass x) e at)
           (leads_on t.lock (suc n) (find.goes_at (now n).find (Pass x) (found n)) (goes_base (now n).find (Pass x) (found n) ∙ base_is n) (find.goes_at (now n).find (Pass x) (found n)).stage (passes_on (Follows t.lock) n (now n).find (base_is n) x k (first_asks n (Pass x) e at)))
@@ -357,8 +323,7 @@ module _ (s : Seeking) (found : ℕ → ℕ) where
           (leads_on t.lock (suc n) (find.goes_at (now n).find (Carve x) (found n)) (goes_base (now n).find (Carve x) (found n) ∙ base_is n) (find.goes_at (now n).find (Carve x) (found n)).stage (carves_on (Follows t.lock) n (now n).find x k (first_asks n (Carve x) e at)))
       first_step (Unlock Again) e at k = unlocks_first n (at_stage (now n).find (unlocked (now n).find Again)) (first_is n (Unlock Again) e at) (finding.unlocked_without (now n).find Again)
       first_step (Unlock (End (At x))) e at k = unlocks_first n (at_stage (now n).find Ended) (first_is n (Unlock (End (At x))) e at) refl
-      first_step (Unlock (End NoRoom)) e at k = absurd k
-      first_step Ended e at k = absurd k
+      first_step _ e at k = absurd k
 
       free_step : (r : Reclaiming) → (now n).stage ≡ Free r → FreeRuns t.lock n r → Tracks (suc n)
       free_step r e k = by (reclaim.gives r (found n)) refl where
@@ -378,13 +343,10 @@ module _ (s : Seeking) (found : ℕ → ℕ) where
             (round_begins (HasFreed t.lock) (suc n) (now n).find (now n).find.wanted (base_is n) refl (has_freed g))
 
       second_step : (p : FindStage) → (now n).stage ≡ Second → (now n).find.stage ≡ p → Round (HasFreed t.lock) n p → Tracks (suc n)
-      second_step (Slots x) e at k = absurd k
-      second_step Lock e at k = absurd k
-      second_step (Give x) e at k = absurd k
       second_step (Pass x) e at k = goes_to (second_to n (Pass x)) (second_is n (Pass x) e at) (passes_on (HasFreed t.lock) n (now n).find (base_is n) x k (second_asks n (Pass x) e at))
       second_step (Carve x) e at k = goes_to (second_to n (Carve x)) (second_is n (Carve x) e at) (carves_on (HasFreed t.lock) n (now n).find x k (second_asks n (Carve x) e at))
       second_step (Unlock after) e at k = unlocks n (at_stage (now n).find (unlocked (now n).find after)) (second_is n (Unlock after) e at) (finding.unlocked_without (now n).find after)
-      second_step Ended e at k = absurd k
+      second_step _ e at k = absurd k
 
       with_step : (q : SearchStage) → (now n).stage ≡ q → WithLock t.lock n (now n).find.stage q → Tracks (suc n)
       with_step First e k = first_step (now n).find.stage e refl k
@@ -401,13 +363,9 @@ module _ (s : Seeking) (found : ℕ → ℕ) where
     never_first : (lock n : ℕ) (p : FindStage) → refuses_at p ≡ true → WithFirst lock n p → ⊥
     never_first lock n (Slots x) h k = k
     never_first lock n Lock h k = k
-    never_first lock n (Give x) h k = cc
-    never_first lock n (Pass x) h k = cc
-    never_first lock n (Carve x) h k = cc
-    never_first lock n (Unlock Again) h k = cc
-    never_first lock n (Unlock (End (At x))) h k = cc
     never_first lock n (Unlock (End NoRoom)) h k = k
     never_first lock n Ended h k = k
+    never_first lock n _ h k = cc
 
     abbrev Refuses : ℕ → Type 0
     Refuses n = HasFoundNoneTwice s found s.find.layout s.find.seat s.find.generation s.find.wanted n
