@@ -1,23 +1,12 @@
 -- What the code leaves in a `Kept` is sound.
 use Rattle.std.proofs.Common.{◌≡◌, ℕ, ◌+◌, ◌-◌, ◌<◌, ◌≤◌, List, [], ◌∷◌, ◌++◌, length, get_or, sym, ◌∙◌, ap, subst, arith, sum, vec_len, vec_capacity, Vec, Global}
 use Rattle.std.specs.Vec.{with_item}
-use Rattle.std.proofs.Math.ListN.{set}
 use Rattle.std.proofs.lemmas.List.{get_or_read}
-use Rattle.gh_base.specs.declared.value.Name.{Name}
-use Rattle.gh_model.specs.declared.EverValue.{EverValue}
 use Rattle.gh_model.specs.declared.EverValue.TheVariants as values
-use Rattle.gh_model.specs.Ever.{with_register, with_object, next_name}
-use Rattle.gh_ever.specs.declared.cell.Place.{Place}
-use Rattle.gh_ever.specs.declared.cell.Place.TheVariants.{Register}
 use Rattle.gh_ever.specs.declared.cell.Cell.{Cell}
-use Rattle.gh_ever.specs.declared.object.Object.{Object}
 use Rattle.gh_ever.specs.declared.kept.Kept.TheInside.{Inside}
-use Rattle.gh_ever.specs.Cells.{put}
-use Rattle.gh_ever.specs.Objects.{IsKnown, IsInKnown}
-use Rattle.gh_ever.specs.Lists.{Lists, ever_of}
-use Rattle.gh_ever.specs.Applied.{spent, with_value}
-use Rattle.gh_ever.specs.Sound.{Sound}
 use Rattle.gh_ever.specs.Inside.{lists_of, IsSound}
+use Rattle.gh_ever.proofs.Vocabulary.{ever_of, EverValue, IsInKnown, IsKnown, Lists, Name, next_name, Object, Place, put, Register, set, Sound, spent, with_object, with_register, with_value}
 use Rattle.gh_ever.proofs.Writing.{ever-with_cell, sound_put, sound_spend, sum-spent}
 use Rattle.gh_ever.proofs.Making.{fresh-next, ever-new, sound_new}
 

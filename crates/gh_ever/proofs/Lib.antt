@@ -1,3 +1,4 @@
+pub mod Vocabulary
 pub mod Closing
 pub mod Ending
 pub mod Making

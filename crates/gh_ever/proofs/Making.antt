@@ -1,24 +1,12 @@
 -- An object that is added to the lists is made in the heap.
-use Rattle.std.proofs.Common.{◌≡◌, ℕ, ◌+◌, ◌-◌, ◌<◌, ◌≤◌, ◌^◌, Bool, true, false, cond, eqb, List, [], ◌∷◌, ◌++◌, length, get_or, Option, Some, None, refl, sym, ◌∙◌, ap, subst, arith, inl, inr, ◌⊎◌}
-use Rattle.std.proofs.Math.ListN.{set}
+use Rattle.std.proofs.Common.{◌≡◌, ℕ, ◌+◌, ◌-◌, ◌<◌, ◌≤◌, ◌^◌, Bool, true, false, cond, eqb, List, [], ◌∷◌, ◌++◌, length, get_or, Option, Some, None, refl, sym, ◌∙◌, ap, subst, arith, inl, inr, ◌⊎◌, true≢false, length-set, get_or-set_same, get_or-set_other}
 use Rattle.std.specs.Option.{unwrap_or, is_some, IsSome}
-use Rattle.std.proofs.lemmas.Bool.{cases_Bool, cases_eq, true≢false, cond-true}
+use Rattle.std.proofs.lemmas.Bool.{cases_Bool, cases_eq, cond-true}
 use Rattle.std.proofs.lemmas.Bool.Decides.{nat_tests}
 use Rattle.std.proofs.lemmas.Option.{same_Some}
-use Rattle.std.proofs.lemmas.List.{length-set, get_or-set_same, get_or-set_other}
-use Rattle.gh_base.specs.declared.value.Name.{Name}
 use Rattle.gh_base.specs.Shapes.{shape_at, is_pointer}
-use Rattle.gh_model.specs.declared.EverValue.{EverValue}
 use Rattle.gh_model.specs.declared.EverValue.TheVariants as values
-use Rattle.gh_model.specs.Ever.{Ever, same_name, with_register, with_object, next_name, first_value}
-use Rattle.gh_ever.specs.declared.cell.Place.{Place}
-use Rattle.gh_ever.specs.declared.cell.Place.TheVariants.{Global, Register, Field}
-use Rattle.gh_ever.specs.declared.object.Object.{Object}
-use Rattle.gh_ever.specs.Cells.{held}
-use Rattle.gh_ever.specs.Objects.{IsKnown, IsInKnown, kind_of}
-use Rattle.gh_ever.specs.Lists.{Lists, ever_of, unstored}
-use Rattle.gh_ever.specs.Applied.{spent}
-use Rattle.gh_ever.specs.Sound.{Sound}
+use Rattle.gh_ever.proofs.Vocabulary.{Ever, ever_of, EverValue, Field, first_value, Global, held, IsInKnown, IsKnown, kind_of, Lists, Name, next_name, Object, Place, Register, same_name, set, Sound, spent, unstored, with_object, with_register}
 use Rattle.gh_ever.proofs.Places.{name_tells, name_itself}
 use Rattle.gh_ever.proofs.Same.{same_ever}
 use Rattle.gh_ever.proofs.Writing.{with_cell, ever-with_cell, sound_put, spent_le, length-spent}
