@@ -1,5 +1,5 @@
 -- The phase words of the coordinator, after each of its steps.
-use Rattle.std.proofs.Common.{◌≡◌, ℕ, zero, suc, ◌+◌, ◌-◌, ◌^◌, min, Bool, false, cond, ltb, refl, sym, ap, ◌∙◌, arith}
+use Rattle.std.proofs.Common.{◌≡◌, ℕ, zero, suc, ◌+◌, ◌-◌, ◌^◌, min, Bool, false, refl, sym, ap, ◌∙◌, arith}
 use Rattle.gh_base.specs.Packing.{bit}
 use Rattle.gh_coord.specs.declared.close.CloseStage.TheVariants as c
 use Rattle.gh_coord.specs.declared.count.CountStage.TheVariants as n

@@ -41,17 +41,8 @@ stop_stays s found = stop_stays_at s s.stage found
 
 -- the opening of a cycle
 open_given : (stage : OpenStage) → IsNone (opens.given_at stage) ↔ (opens.is_busy stage ≡ true)
-open_given o.ClearWant = (λ _. refl, λ _. refl)
-open_given o.ClearGcur = (λ _. refl, λ _. refl)
-open_given o.ClearTally = (λ _. refl, λ _. refl)
-open_given o.ClearLive = (λ _. refl, λ _. refl)
-open_given o.StoreTrigger = (λ _. refl, λ _. refl)
-open_given o.LoadHeap = (λ _. refl, λ _. refl)
-open_given o.StoreWork = (λ _. refl, λ _. refl)
-open_given o.StoreSlack = (λ _. refl, λ _. refl)
-open_given o.StoreBegun = (λ _. refl, λ _. refl)
-open_given o.StorePhase = (λ _. refl, λ _. refl)
 open_given o.Ended = (λ (e : true ≡ false). cc, λ (e : false ≡ true). cc)
+open_given _ = (λ _. refl, λ _. refl)
 
 pub open_ends : (s : opens.CycleOpening) (found : ℕ) → opens.is_busy s.stage ≡ true → IsNone (opens.gives s found) ↔ (opens.is_busy (opens.goes s found).stage ≡ true)
 open_ends s found busy = open_given (opens.goes s found).stage
@@ -76,19 +67,15 @@ watch_stays s found = watch_stays_at s s.stage found
 
 -- the end of marking
 close_given : (s : close.Closing) (stage : CloseStage) → IsNone (close.given_at s stage) ↔ (close.is_busy stage ≡ true)
-close_given s c.LoadBank = (λ _. refl, λ _. refl)
-close_given s c.ClearBank = (λ _. refl, λ _. refl)
-close_given s c.StoreGen = (λ _. refl, λ _. refl)
 close_given s c.Ended = (λ (e : true ≡ false). cc, λ (e : false ≡ true). cc)
+close_given s _ = (λ _. refl, λ _. refl)
 
 pub close_ends : (s : close.Closing) (found : ℕ) → close.is_busy s.stage ≡ true → IsNone (close.gives s found) ↔ (close.is_busy (close.goes s found).stage ≡ true)
 close_ends s found busy = close_given (close.goes s found) (close.goes s found).stage
 
 close_stays_at : (s : close.Closing) (stage : CloseStage) (found : ℕ) → (close.goes_at s stage found).layout ≡ s.layout
 close_stays_at s c.LoadBank found = refl
-close_stays_at s c.ClearBank found = refl
-close_stays_at s c.StoreGen found = refl
-close_stays_at s c.Ended found = refl
+close_stays_at s _ found = refl
 
 pub close_stays : (s : close.Closing) (found : ℕ) → (close.goes s found).layout ≡ s.layout
 close_stays s found = close_stays_at s s.stage found
@@ -170,10 +157,8 @@ count_stays s found = count_stays_at s s.stage found
 
 -- the telling
 tell_given : (stage : TellStage) → IsNone (tell.given_at stage) ↔ (tell.is_busy stage ≡ true)
-tell_given t.StoreTrigger = (λ _. refl, λ _. refl)
-tell_given t.StoreSwept = (λ _. refl, λ _. refl)
-tell_given t.StorePhase = (λ _. refl, λ _. refl)
 tell_given t.Ended = (λ (e : true ≡ false). cc, λ (e : false ≡ true). cc)
+tell_given _ = (λ _. refl, λ _. refl)
 
 pub tell_ends : (s : tell.Telling) (found : ℕ) → tell.is_busy s.stage ≡ true → IsNone (tell.gives s found) ↔ (tell.is_busy (tell.goes s found).stage ≡ true)
 tell_ends s found busy = tell_given (tell.goes s found).stage

@@ -1,7 +1,7 @@
 -- The names that files of proofs with many imports share.
 pub use Rattle.std.proofs.lemmas.Bool.Decides.{eqb_tells, nat_tests}
 pub use Rattle.gh_model.specs.Ever.{field_count, next_name, same_name, with_end, with_object, with_register}
-pub use Rattle.gh_heap.specs.Moves.{IsReached, placed_at, Runs, update, update_at}
+pub use Rattle.gh_heap.specs.Moves.{IsReached, Runs, update, update_at}
 pub use Rattle.gh_marks.specs.Colours.{Black, IsSafe, mark_of, rows}
 pub use Rattle.gh_marks.specs.Seats.{Hands, InHand}
 pub use Rattle.gh_cycle.specs.Beside.{ClaimsSlot, FillsNone, GoesBeside, hand_after, IsBeside, IsOfCycle, MeetsMarking}

@@ -1,6 +1,6 @@
 -- A text that spells a program has the form of a script: its lines one after the other, and its end.
 use Rattle.std.proofs.Common.{◌≡◌, ℕ, ◌+◌, ◌≤◌, Bool, true, false, not, cond, eqb, ltb, List, [], ◌∷◌, ◌++◌, length, map, Option, Some, None, Result, Ok, Err, refl, sym, ap, ◌∙◌, subst, append_assoc, arith, inl, inr, is_some, append-nil}
-use Rattle.gh_script.proofs.Vocabulary.{All-nil, blank_draft, cases_lt, cause_at, continued, Draft, ended, go_on, goroutine_by, HasForm, is_skipped, is_utf8, IsHead, IsRoutine, IsTaken, Key, key_of, length-map, line_fault, lines_of, Missing, most_bytes, names_by, Nesting, nothing_given, Program, program_in, read_cause, read_end, read_key, read_line, read_lines, reading_of, said_in, sayings, ScriptFault, Sentence, settings_in, Size, Spells, then_end, Utf8, Why}
+use Rattle.gh_script.proofs.Vocabulary.{All-nil, blank_draft, cases_lt, cause_at, continued, Draft, go_on, goroutine_by, HasForm, is_skipped, is_utf8, IsHead, IsRoutine, IsTaken, Key, key_of, length-map, line_fault, lines_of, Missing, most_bytes, names_by, Nesting, nothing_given, Program, program_in, read_cause, read_end, read_key, read_line, read_lines, reading_of, said_in, sayings, ScriptFault, Sentence, settings_in, Size, Spells, then_end, Utf8, Why}
 use Rattle.gh_script.proofs.Formed.{WellFormed-Spells}
 use Rattle.gh_script.proofs.Readings.{reading_of-long, reading_of-bytes}
 use Rattle.gh_script.proofs.FormSaid.{Between, IsSeen, Story}

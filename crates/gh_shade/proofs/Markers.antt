@@ -8,7 +8,7 @@ use Rattle.gh_marks.specs.Good.{Good}
 use Rattle.gh_marks.specs.Knows.{KnowsObjects}
 use Rattle.gh_marks.specs.Laws.{EachHandFollows, EachHandLasts, EachOwnMoveLeaves, WhatIsKeptGoesOn}
 use Rattle.gh_marks.specs.Moves as move
-use Rattle.gh_marks.specs.Moves.{Keeps, MayEnter, Others, Steps, lands_by, lands_still, moved, set_mark}
+use Rattle.gh_marks.specs.Moves.{Keeps, MayEnter, Steps, lands_by, lands_still, moved, set_mark}
 use Rattle.gh_marks.specs.Seats.{Hands, InHand}
 use Rattle.gh_shade.specs.declared.shade.Shaded.{Shaded}
 use Rattle.gh_shade.specs.Facts.{Facts, IsShaded, ShadesByMoves, StageFacts, WaitsForRoom, in_hand, pending_at}

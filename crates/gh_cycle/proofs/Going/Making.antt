@@ -5,7 +5,7 @@ use Rattle.gh_base.specs.Shapes.{is_pointer, shape_at}
 use Rattle.gh_model.specs.declared.EverValue.TheVariants as ever
 use Rattle.gh_heap.specs.Moves as heap
 use Rattle.gh_marks.specs.Moves as marks
-use Rattle.gh_cycle.proofs.Vocabulary.{alloc_words, Black, ClaimsSlot, Cycle, eqb_tells, EverValue, field_count, GoesBeside, Good, hand_after, Hands, Heap, InHand, IsMade, IsMarked, IsOfCycle, Known, mark_of, mark_words, Marking, Name, next_name, Placed, placed_at, Placing, points, Reach, reference_of, RegistersFit, row_bit, same_name, shape_for, size_for, update, view, with_object}
+use Rattle.gh_cycle.proofs.Vocabulary.{alloc_words, Black, ClaimsSlot, Cycle, eqb_tells, EverValue, field_count, GoesBeside, Good, hand_after, Hands, Heap, InHand, IsMade, IsMarked, IsOfCycle, Known, mark_of, mark_words, Marking, Name, next_name, Placed, Placing, points, Reach, reference_of, RegistersFit, row_bit, same_name, shape_for, size_for, update, view, with_object}
 use Rattle.gh_cycle.proofs.Reaching.{name-itself, name-tells}
 use Rattle.gh_cycle.proofs.Going.Objects.{here}
 use Rattle.gh_cycle.proofs.Going.Plain.{fills-still, there, Together}

@@ -7,7 +7,7 @@ use Rattle.gh_base.specs.Rows.{Row}
 use Rattle.gh_model.specs.declared.EverValue.TheVariants as ever
 use Rattle.gh_heap.specs.Moves as heap
 use Rattle.gh_marks.specs.Moves as marks
-use Rattle.gh_cycle.proofs.Vocabulary.{alloc_words, Ask, birth_words, ClaimsSlot, Cycle, effect, eqb_tells, Ever, EverValue, FillsNone, GoesBeside, Heap, IsReached, IsSafe, IsSince, Known, Marking, MeetsMarking, Name, nat_tests, Place, Placed, Placing, reference_of, RegistersFit, rows, Runs, update, update_at, View, view, with_end, with_register, with_words}
+use Rattle.gh_cycle.proofs.Vocabulary.{alloc_words, Ask, birth_words, ClaimsSlot, Cycle, effect, eqb_tells, Ever, EverValue, FillsNone, GoesBeside, Heap, IsReached, IsSafe, IsSince, Known, Marking, MeetsMarking, Name, nat_tests, Place, Placed, Placing, reference_of, RegistersFit, rows, Runs, update_at, View, view, with_end, with_register, with_words}
 use Rattle.gh_cycle.proofs.Beginning.{names-reference}
 use Rattle.gh_cycle.proofs.Endings.Quiet.{quiet_view}
 use Rattle.gh_cycle.proofs.Going.Objects.{here}
