@@ -1,5 +1,5 @@
 -- The sweep of a cycle in the coordinator, step by step.
-use Rattle.std.proofs.Common.{◌≡◌, ℕ, zero, suc, ◌+◌, ◌<◌, ◌≤◌, Bool, true, false, cond, ltb, ◌==◌, Option, Some, None, refl, sym, ap, subst, ◌∙◌, arith}
+use Rattle.std.proofs.Common.{◌≡◌, ℕ, zero, suc, ◌+◌, ◌<◌, ◌≤◌, Bool, true, false, ltb, ◌==◌, Option, Some, None, refl, sym, ap, subst, ◌∙◌, arith}
 use Rattle.std.proofs.lemmas.Bool.{ltb-true, ltb-false}
 use Rattle.gh_coord.specs.declared.count.CountStage.TheVariants as r
 use Rattle.gh_coord.specs.Checks.{HaveSweptAll, IsChecked, IsSweptAll, OnLoad, state, swept_by}

@@ -1,5 +1,5 @@
 -- What the lines so far say of a script: its head, the goroutines that have ended, and one that is open.
-use Rattle.std.proofs.Common.{◌≡◌, ℕ, ◌+◌, ◌<◌, ◌≤◌, Bool, true, false, not, cond, ◌||◌, List, [], ◌∷◌, ◌++◌, length, map, Option, Some, None, refl, sym, ap, ◌∙◌, subst, ◌⊎◌, All, is_some, fold, ◌≢◌, AllPairs}
+use Rattle.std.proofs.Common.{◌≡◌, ℕ, ◌<◌, ◌≤◌, Bool, true, false, not, cond, ◌||◌, List, [], ◌∷◌, ◌++◌, length, map, Option, Some, None, refl, sym, ap, ◌∙◌, subst, ◌⊎◌, All, is_some, fold, ◌≢◌, AllPairs}
 use Rattle.gh_script.specs.declared.key.Key.TheVariants as keys
 use Rattle.gh_script.proofs.Vocabulary.{AreApart, blank_draft, Block, cause_at, Draft, fits_limits, flat_map, Given, given_at, goroutine_by, has_goroutine, inside, is_limit_fault, is_nesting_fault, is_number_fault, is_twice_fault, is_type_key, is_unknown_fault, is_word_fault, IsBlock, IsHead, IsRoutine, IsTaken, IsTakenAs, Key, key_of, Limit, lines_in, names_by, Nesting, nothing_given, Number, number_in, Open, Procs, Repeat, Routine, routine_lines, Sentence, Setting, settings_by, shapes_by, statements_by, Stmt, Twice, type_of, types_in, Unknown, Word}
 use Rattle.gh_script.proofs.Allowed.{Allowed, allowed, left_false}
