@@ -1,25 +1,13 @@
 -- By one schedule a script's run ends within a budget, or so many turns of it are taken and an actor is not done.
-use Rattle.std.proofs.Common.{◌≡◌, ℕ, zero, suc, ◌+◌, ◌≤◌, Bool, true, false, eqb, ltb, List, [], ◌∷◌, length, Option, Some, None, refl, sym, ap, ◌∙◌, arith, inl, inr}
-use Rattle.std.specs.Prelude.{◌⊎◌}
+use Rattle.std.proofs.Common.{◌≡◌, ℕ, zero, suc, ◌+◌, ◌≤◌, Bool, true, false, eqb, ltb, List, [], ◌∷◌, length, Option, Some, None, refl, sym, ap, ◌∙◌, arith, inl, inr, ◌⊎◌}
 use Rattle.std.proofs.lemmas.Bool.Decides.{nat_tests}
-use Rattle.gh_base.specs.declared.operation.Op.{Op}
-use Rattle.gh_base.specs.declared.layout.Layout.{Layout}
-use Rattle.gh_base.specs.declared.machine.Entry.{Entry}
 use Rattle.gh_base.specs.Lists.{started}
 use Rattle.gh_coord.specs.Listing as coord
-use Rattle.gh_coord.specs.Listing.{Coordinating}
 use Rattle.gh_mutator.specs.declared.processor.Processor.{Processor}
 use Rattle.gh_world.specs.declared.handshake.Actor.{Actor}
 use Rattle.gh_world.specs.Wishes.{most_cycles}
-use Rattle.gh_script.specs.Program.{Program, WellFormed}
 use Rattle.gh_world.specs.declared.handshake.Actor.TheVariants.{Leads}
-use Rattle.gh_world.specs.Runs.{EveryRunIsExplained, IsRun, IsRunSoFar, RunsEndWhole, RunsGoOn, answers_given, outcome_by}
-use Rattle.gh_world.specs.Turns.{turns_of}
-use Rattle.gh_world.specs.World.{actor_after, LaysOut, setting_of}
-use Rattle.gh_replay.specs.Plan.{Plan}
-use Rattle.gh_replay.specs.Replayed.{EitherOne}
-use Rattle.gh_replay.specs.Scheduled.{IsScheduled, reached_in, stands_in}
-use Rattle.gh_replay.specs.Standing.{who}
+use Rattle.gh_replay.proofs.Vocabulary.{actor_after, answers_given, Coordinating, EitherOne, Entry, EveryRunIsExplained, IsRun, IsRunSoFar, IsScheduled, Layout, LaysOut, Op, outcome_by, Plan, Program, reached_in, RunsEndWhole, RunsGoOn, setting_of, stands_in, turns_of, WellFormed, who}
 use Rattle.gh_replay.proofs.Choosing.{none_left, who_there}
 use Rattle.gh_replay.proofs.OneRun.{stands_low}
 

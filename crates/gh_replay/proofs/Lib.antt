@@ -1,3 +1,4 @@
+pub mod Vocabulary
 pub mod Choosing
 pub mod EitherOne
 pub mod Going

@@ -1,28 +1,23 @@
 -- Each name that the heap that never frees answers is one that a goroutine of the script gave.
-use Rattle.std.proofs.Common.{◌≡◌, ℕ, ◌+◌, ◌<◌, zero, suc, Bool, true, false, cond, ◌==◌, ◌&&◌, List, [], ◌∷◌, ◌++◌, length, Option, Some, None, sym, subst, inl, inr, arith}
+use Rattle.std.proofs.Common.{◌≡◌, ℕ, ◌+◌, ◌<◌, zero, suc, Bool, true, false, cond, ◌==◌, ◌&&◌, List, [], ◌∷◌, ◌++◌, length, Option, Some, None, sym, subst, inl, inr, arith, slice_get}
 use Rattle.std.specs.List.{AllByRecursion}
 use Rattle.gh_base.specs.declared.value.Name.{Name}
-use Rattle.gh_base.specs.declared.value.Answer.{Answer}
 use Rattle.gh_base.specs.declared.value.Fault.TheVariants.{Field, Kind}
 use Rattle.gh_base.specs.declared.value.Answer.TheVariants as answers
-use Rattle.gh_base.specs.declared.operation.Op.{Op}
 use Rattle.gh_base.specs.declared.operation.Op.TheVariants as ops
 use Rattle.gh_base.specs.declared.shape.Shape.{Shape}
 use Rattle.gh_base.specs.Shapes.{shape_at, is_pointer}
 use Rattle.std.specs.List.{flat_map, range_with_len}
-use Rattle.std.specs.Prelude.{slice_get}
-use Rattle.gh_lines.specs.Text.{MakerStands}
 use Rattle.gh_interp.specs.Working.{work_at, work_of}
 use Rattle.gh_mutator.specs.Serving.{is_statement}
-use Rattle.gh_world.specs.Turns.{total_of, has_turn, turn_of, round_of, turns_of, goroutine_at, answers_to}
 use Rattle.gh_replay.specs.Report.{IsReportOf, ReportState}
 use Rattle.gh_script.specs.declared.statement.Stmt.{Stmt}
 use Rattle.gh_script.specs.declared.statement.Stmt.TheVariants as stmts
-use Rattle.gh_script.specs.Program.{Program, statements_of, op_of}
 use Rattle.gh_model.specs.declared.EverValue.{EverValue}
 use Rattle.gh_model.specs.declared.EverValue.TheVariants as values
 use Rattle.gh_model.specs.Ever.{Ever, opening_ever, ever_after, told, load_answer, store_answer, has_field, is_pointer_field, fits, first_value, is_number, same_name, next_name, with_register, with_field, with_object, takes_answer, stores_value, sets_global, makes_object}
 use Rattle.gh_model.specs.Answers.{Answers, AllAnswer}
+use Rattle.gh_replay.proofs.Vocabulary.{Answer, answers_to, goroutine_at, has_turn, MakerStands, Op, op_of, Program, round_of, statements_of, total_of, turn_of, turns_of}
 
 module _ (shapes : List Shape) (n : ℕ) where
   abbrev pub Own : EverValue → Type 0
@@ -86,13 +81,7 @@ module _ (shapes : List Shape) (n : ℕ) where
   answer_own e (ops.Store g b k v) a h own q = as_own a _ q (store_own e (e.register g b) k (e.register g v))
   answer_own e (ops.GetGlobal g d k) a h own q = as_own a _ q (told_own (e.global k) (h.globals k))
   answer_own e (ops.SetGlobal g k v) a h own q = as_own a _ q (set_own (is_number (e.register g v)))
-  answer_own e (ops.Int g d i) a h own q = as_own a _ q tt
-  answer_own e (ops.Move g d s) a h own q = as_own a _ q tt
-  answer_own e (ops.Nil g d) a h own q = as_own a _ q tt
-  answer_own e (ops.Gc g) a h own q = as_own a _ q tt
-  answer_own e ops.Poll a h own q = as_own a _ q tt
-  answer_own e (ops.End g) a h own q = as_own a _ q tt
-  answer_own e ops.Leave a h own q = as_own a _ q tt
+  answer_own e _ a h own q = as_own a _ q tt
 
   register_own : (e : Ever) (g d : ℕ) (v : EverValue) → AllOwn e → Own v → AllOwn (with_register e g d v)
   register_own e g d v x o = record {
@@ -105,10 +94,7 @@ module _ (shapes : List Shape) (n : ℕ) where
   takes_own e g d answers.Nil x o = register_own e g d values.Nil x tt
   takes_own e g d (answers.Int i) x o = register_own e g d (values.Int i) x tt
   takes_own e g d (answers.Ref m) x o = register_own e g d (values.Ref m) x o
-  takes_own e g d answers.Done x o = x
-  takes_own e g d answers.Swept x o = x
-  takes_own e g d answers.Full x o = x
-  takes_own e g d (answers.Fault f) x o = x
+  takes_own e g d _ x o = x
 
   field_own : (e : Ever) (m : Name) (k : ℕ) (v : EverValue) → AllOwn e → Own v → AllOwn (with_field e m k v)
   field_own e m k v x o = record {
@@ -130,12 +116,7 @@ module _ (shapes : List Shape) (n : ℕ) where
 
   sets_own : (e : Ever) (k : ℕ) (v : EverValue) (a : Answer) → AllOwn e → Own v → AllOwn (sets_global e k v a)
   sets_own e k v answers.Done x o = record { registers = x.registers; fields = x.fields; globals = λ c. own_if (c == k) v (e.global c) o (x.globals c) }
-  sets_own e k v answers.Nil x o = x
-  sets_own e k v (answers.Int i) x o = x
-  sets_own e k v (answers.Ref q) x o = x
-  sets_own e k v answers.Swept x o = x
-  sets_own e k v answers.Full x o = x
-  sets_own e k v (answers.Fault f) x o = x
+  sets_own e k v _ x o = x
 
   object_own : (e : Ever) (g t : ℕ) → AllOwn e → AllOwn (with_object shapes e g t)
   object_own e g t x = record {
@@ -149,12 +130,7 @@ module _ (shapes : List Shape) (n : ℕ) where
 
   makes_own : (e : Ever) (g d t : ℕ) (a : Answer) → AllOwn e → g < n → AllOwn (makes_object shapes e g d t a)
   makes_own e g d t answers.Full x o = register_own e g d values.Nil x tt
-  makes_own e g d t answers.Done x o = made_own e g d t x o
-  makes_own e g d t answers.Nil x o = made_own e g d t x o
-  makes_own e g d t (answers.Int i) x o = made_own e g d t x o
-  makes_own e g d t (answers.Ref q) x o = made_own e g d t x o
-  makes_own e g d t answers.Swept x o = made_own e g d t x o
-  makes_own e g d t (answers.Fault f) x o = made_own e g d t x o
+  makes_own e g d t _ x o = made_own e g d t x o
 
   after_own : (e : Ever) (o : Op) (a : Answer) → AllOwn e → OwnOp o → OwnAnswer a → AllOwn (ever_after shapes e o a)
   after_own e (ops.New g d t) a x own q = makes_own e g d t a x own
@@ -165,10 +141,8 @@ module _ (shapes : List Shape) (n : ℕ) where
   after_own e (ops.Int g d i) a x own q = register_own e g d (values.Int i) x tt
   after_own e (ops.Move g d s) a x own q = register_own e g d (e.register g s) x (x.registers g s)
   after_own e (ops.Nil g d) a x own q = register_own e g d values.Nil x tt
-  after_own e (ops.Gc g) a x own q = x
-  after_own e ops.Poll a x own q = x
   after_own e (ops.End g) a x own q = record { registers = x.registers; fields = x.fields; globals = x.globals }
-  after_own e ops.Leave a x own q = x
+  after_own e _ a x own q = x
 
   -- the answers to operations of goroutines that there are
   pub all_own : (e : Ever) (os : List Op) (told_so : List Answer) → AllOwn e → AllByRecursion OwnOp os → AllAnswer shapes e os told_so → AllByRecursion OwnAnswer told_so
@@ -184,14 +158,7 @@ module _ (shapes : List Shape) (n : ℕ) where
 
   statement_own : (g : ℕ) (s : Stmt) → g < n → OwnOp (op_of g s)
   statement_own g (stmts.New d t) some = some
-  statement_own g (stmts.Load d b k) some = tt
-  statement_own g (stmts.Store b k v) some = tt
-  statement_own g (stmts.GetGlobal d k) some = tt
-  statement_own g (stmts.SetGlobal k v) some = tt
-  statement_own g (stmts.Int d i) some = tt
-  statement_own g (stmts.Move d s) some = tt
-  statement_own g (stmts.Nil d) some = tt
-  statement_own g stmts.Gc some = tt
+  statement_own g _ some = tt
 
   work_own : (g : ℕ) (s : Option Stmt) → g < n → OwnOp (work_at g s)
   work_own g None some = tt
@@ -227,12 +194,7 @@ module _ (p : Program) where
 -- each answer that names an object has a goroutine of the script that made it
 maker_stands : (p : Program) (b : Answer) → OwnAnswer p.shapes (length p.goroutines) b → MakerStands p b
 maker_stands p (answers.Ref m) o = o
-maker_stands p answers.Done o = tt
-maker_stands p answers.Nil o = tt
-maker_stands p (answers.Int i) o = tt
-maker_stands p answers.Swept o = tt
-maker_stands p answers.Full o = tt
-maker_stands p (answers.Fault f) o = tt
+maker_stands p _ o = tt
 
 -- among the answers of the turns are those of the statements
 stand_append : (p : Program) (xs ys : List (ℕ × Answer)) → AllByRecursion (λ (x : ℕ × Answer). MakerStands p x.1) xs → AllByRecursion (λ (x : ℕ × Answer). MakerStands p x.1) ys → AllByRecursion (λ (x : ℕ × Answer). MakerStands p x.1) (xs ++ ys)

@@ -1,27 +1,13 @@
 -- What a run has so far, and what it has when the world is done.
-use Rattle.std.proofs.Common.{◌≡◌, ℕ, ◌+◌, ◌<◌, ◌≤◌, true, false, List, [], ◌∷◌, ◌++◌, length, map, refl, sym, ◌∙◌, ap, subst, Option, Some, None, is_some, arith}
-use Rattle.std.proofs.lemmas.List.{length-append}
-use Rattle.gh_base.specs.declared.value.Answer.{Answer}
-use Rattle.gh_base.specs.declared.operation.Op.{Op}
-use Rattle.gh_base.specs.declared.layout.Layout.{Layout}
-use Rattle.gh_base.specs.declared.machine.Entry.{Entry}
+use Rattle.std.proofs.Common.{◌≡◌, ℕ, ◌+◌, ◌<◌, ◌≤◌, true, false, List, [], ◌∷◌, ◌++◌, length, map, refl, sym, ◌∙◌, ap, subst, Option, Some, None, is_some, arith, length-append}
 use Rattle.gh_base.specs.Cells.{seats_of}
 use Rattle.gh_base.specs.Packing.{bit}
 use Rattle.gh_coord.specs.Keeping.{last_kept}
-use Rattle.gh_coord.specs.Listing.{Coordinating}
-use Rattle.gh_lines.specs.Text.{Outcome}
-use Rattle.gh_script.specs.Program.{Program, WellFormed}
 use Rattle.gh_world.specs.declared.event.Event.{Event}
 use Rattle.gh_world.specs.declared.event.Event.TheVariants as event
-use Rattle.gh_world.specs.Runs.{IsRun, IsRunSoFar, IsExplained, EveryRunIsExplained, answers_given, marked_by, outcome_by, swept_cycle}
 use Rattle.gh_world.specs.Schedule.{ended_after}
-use Rattle.gh_world.specs.Turns.{to_come, total_of}
-use Rattle.gh_world.specs.World.{actors_of, AllDone, answer_in, answered_in, answered_of, Appends, IsAfter, is_done, layout_of, LaysOut, marks_in, now_in, script_of, setting_of, State, with_goroutine}
 use Rattle.gh_replay.specs.Places.{Ran, seen_of}
-use Rattle.gh_replay.specs.Plan.{Plan}
-use Rattle.gh_replay.specs.Replayed.{IsReplayed, IsUnfinished}
-use Rattle.gh_replay.specs.Scheduled.{IsScheduled, reached_in, stands_in}
-use Rattle.gh_replay.specs.Standing.{moved, opening, Standing, who}
+use Rattle.gh_replay.proofs.Vocabulary.{actors_of, AllDone, Answer, answer_in, answered_in, answered_of, answers_given, Appends, Coordinating, Entry, EveryRunIsExplained, is_done, IsAfter, IsExplained, IsReplayed, IsRun, IsRunSoFar, IsScheduled, IsUnfinished, Layout, layout_of, LaysOut, marked_by, marks_in, moved, now_in, Op, opening, Outcome, outcome_by, Plan, Program, reached_in, script_of, setting_of, Standing, stands_in, State, swept_cycle, to_come, total_of, WellFormed, who, with_goroutine}
 use Rattle.gh_replay.proofs.Choosing.{Agree, same_moved, same_who}
 use Rattle.gh_replay.proofs.Seen.{agree}
 
