@@ -1,9 +1,7 @@
 -- The parser's line is the command line.
-use Rattle.std.proofs.Common.{◌≡◌, ◌∙◌, ◌++◌, ℕ, Bool, true, false, refl, sym, ap, ap₂, subst, true≢false, List, [], ◌∷◌, codes, is_some, Option, Some, None, inl, inr, ◌⊎◌}
-use Rattle.std.specs.Prelude.{if◌then◌else◌, slice_get}
+use Rattle.std.proofs.Common.{◌≡◌, ◌∙◌, ◌++◌, ℕ, Bool, true, false, refl, sym, ap, ap₂, subst, true≢false, List, [], ◌∷◌, codes, is_some, Option, Some, None, inl, inr, ◌⊎◌, if◌then◌else◌, slice_get, append-nil, append_assoc}
 use Rattle.std.specs.List.{fold}
 use Rattle.std.specs.Str.{bytes_eq, chars}
-use Rattle.std.proofs.lemmas.List.{append-nil, append_assoc}
 use Rattle.std.proofs.lemmas.Slice.Eq.{bytes_eq-Decides}
 use Rattle.clap.specs.Faults.{check_fault, defaults_fault, entered_fault, fault_of, flags_fault, is_simple_and_free, level_fault, settle_fault, turn_fault, walk_fault}
 use Rattle.clap.specs.Kinds.{IsAmong, Kinds, or_else}

@@ -25,36 +25,21 @@ same-plan words a b m n v w = let e : Some (Replay a m) ≡ Some (Replay b n) = 
 -- words that are not taken
 pub words-end : (words : List (List ℕ)) (text : List ℕ) (f : Found) → Matches words text f → AreRefused words → (status_of f ≡ statuses.BadWords) ⊎ (status_of f ≡ statuses.NoMemory)
 words-end words text BadWords m r = inl refl
-words-end words text (BadScript fault) m r = absurd (taken-not-refused words m.0 m.1 m.2 r)
-words-end words text (Ran p report) m r = absurd (taken-not-refused words m.0 m.1 m.2 r)
-words-end words text (OutOfTurns n) m r = absurd (taken-not-refused words m.0 m.1 m.2 r)
-words-end words text ReadFault m r = absurd (taken-not-refused words m.0 m.1 m.2 r)
 words-end words text NoMemory m r = inr refl
+words-end words text _ m r = absurd (taken-not-refused words m.0 m.1 m.2 r)
 
 pub words-refused : (words : List (List ℕ)) (text : List ℕ) (f : Found) → Matches words text f → status_of f ≡ statuses.BadWords → AreRefused words
 words-refused words text BadWords m e = m
-words-refused words text (BadScript fault) m e = absurd cc
-words-refused words text (Ran p report) m e = absurd cc
-words-refused words text (OutOfTurns n) m e = absurd cc
-words-refused words text ReadFault m e = absurd cc
-words-refused words text NoMemory m e = absurd cc
+words-refused words text _ m e = absurd cc
 
 -- a read follows words that are taken
 pub read-taken : (words : List (List ℕ)) (text : List ℕ) (f : Found) → Matches words text f → status_of f ≡ statuses.ReadFault → AreRefused words → ⊥
-read-taken words text BadWords m e r = absurd cc
-read-taken words text (BadScript fault) m e r = absurd cc
-read-taken words text (Ran p report) m e r = absurd cc
-read-taken words text (OutOfTurns n) m e r = absurd cc
 read-taken words text ReadFault m e r = taken-not-refused words m.0 m.1 m.2 r
-read-taken words text NoMemory m e r = absurd cc
+read-taken words text _ m e r = absurd cc
 
 pub is-read-fault : (f : Found) → status_of f ≡ statuses.ReadFault → f ≡ ReadFault
-is-read-fault BadWords e = absurd cc
-is-read-fault (BadScript fault) e = absurd cc
-is-read-fault (Ran p report) e = absurd cc
-is-read-fault (OutOfTurns n) e = absurd cc
 is-read-fault ReadFault e = refl
-is-read-fault NoMemory e = absurd cc
+is-read-fault _ e = absurd cc
 
 module _ (not_both : (text : List ℕ) (p : Program) (line : ℕ) (why : Why) → Spells text p → Refused text line why → ⊥) where
   -- a text that spells a script
@@ -111,9 +96,6 @@ says words text NoMemory m telling = absurd telling
 
 -- what is not silent tells
 pub telling : (f : Found) → (IsSilent f → ⊥) → IsTelling (status_of f)
-telling BadWords loud = tt
-telling (BadScript fault) loud = tt
-telling (Ran p report) loud = tt
-telling (OutOfTurns n) loud = tt
 telling ReadFault loud = absurd (loud tt)
 telling NoMemory loud = absurd (loud tt)
+telling _ loud = tt

@@ -7,7 +7,7 @@ use Rattle.gh_script.specs.Limits.{most_bytes}
 use Rattle.gh_script.specs.Program.{Program}
 use Rattle.gh_script.specs.Grammar.{reading_of, Spells}
 use Rattle.gh_top.specs.declared.found.Found.{Found}
-use Rattle.gh_top.specs.declared.found.Found.TheVariants.{BadWords, BadScript, Ran, OutOfTurns, ReadFault, NoMemory}
+use Rattle.gh_top.specs.declared.found.Found.TheVariants.{BadWords, BadScript, Ran, OutOfTurns, NoMemory}
 use Rattle.gh_top.specs.Found.{Matches, MatchesText, IsRan}
 use Rattle.gh_top.specs.Outcome.{IsReplay}
 
@@ -15,12 +15,10 @@ use Rattle.gh_top.specs.Outcome.{IsReplay}
 
 -- what is found of a text is found of any that is read the same
 pub matches-same : (plan : Plan) (budget : ℕ) (a b : List ℕ) (f : Found) → reading_of a ≡ reading_of b → MatchesText plan budget a f → MatchesText plan budget b f
-matches-same plan budget a b BadWords e h = h
 matches-same plan budget a b (BadScript f) e h = sym e ∙ h
 matches-same plan budget a b (Ran p report) e h = (sym e ∙ h.0, h.1)
 matches-same plan budget a b (OutOfTurns n) e h = (h.0, h.1, sym e ∙ h.2, h.3)
-matches-same plan budget a b ReadFault e h = h
-matches-same plan budget a b NoMemory e h = h
+matches-same plan budget a b _ e h = h
 
 -- a source that told its bytes tells that none are left
 pub end-told : (before after : Option (List ℕ)) (text bytes : List ℕ) → before ≡ Some text → Consumes before after bytes → IsAtEnd after → after ≡ Some []
@@ -31,18 +29,12 @@ end-told before after text bytes told consumed end = go after (subst (λ o. Cons
 
 -- a text that was run ended before the limit
 pub ran-short : (spelled-short : (text : List ℕ) (p : Program) → Spells text p → length text ≤ most_bytes) (plan : Plan) (budget : ℕ) (bytes : List ℕ) (f : Found) → MatchesText plan budget bytes f → IsRan f → length bytes < MOST_BYTES + 1
-ran-short short plan budget bytes BadWords h r = absurd r
-ran-short short plan budget bytes (BadScript f) h r = absurd r
 ran-short short plan budget bytes (Ran p report) h r = omega (arith, short bytes p h.0)
 ran-short short plan budget bytes (OutOfTurns n) h r = omega (arith, short bytes h.1 h.2)
-ran-short short plan budget bytes ReadFault h r = absurd r
-ran-short short plan budget bytes NoMemory h r = absurd r
+ran-short short plan budget bytes _ h r = absurd r
 
 -- what is found of a text under the budget of the words is found for the words
 pub matches-words : (words : List (List ℕ)) (text : List ℕ) (plan : Plan) (budget : ℕ) (f : Found) → IsReplay words plan budget → MatchesText plan budget text f → Matches words text f
 matches-words words text plan budget BadWords w h = absurd h
-matches-words words text plan budget (BadScript f) w h = (plan, budget, w, h)
-matches-words words text plan budget (Ran p report) w h = (plan, budget, w, h)
-matches-words words text plan budget (OutOfTurns n) w h = (plan, budget, w, h)
-matches-words words text plan budget ReadFault w h = (plan, budget, w, h)
 matches-words words text plan budget NoMemory w h = tt
+matches-words words text plan budget _ w h = (plan, budget, w, h)
