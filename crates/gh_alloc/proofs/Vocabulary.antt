@@ -23,6 +23,7 @@ pub use Rattle.gh_central.specs.declared.give.GiveStage.{GiveStage}
 pub use Rattle.gh_central.specs.declared.pass.PassStage.{PassStage}
 pub use Rattle.gh_central.specs.declared.reclaim.ReclaimStage.{ReclaimStage}
 pub use Rattle.gh_alloc.specs.Find.{after_carve, after_give, after_pass, after_slots, asks, at_stage, begin, carving, Finding, first_page, given_head, gives, goes, locked_for, refuses_at, searched, slot_found, span_at, span_for, spans_for, taken_for, unlocked}
+pub use Rattle.gh_alloc.specs.Locking.{holds}
 pub use Rattle.gh_alloc.specs.Place.{acts_at, filled, is_busy, listing, made, opening, Placing}
 pub use Rattle.gh_alloc.specs.Quiet.{AllocationIsQuiet}
 pub use Rattle.gh_alloc.specs.Search.{after_first, after_free, again, asks_at, frees_at, gives_at, goes_at, reclaiming, refuses, Seeking}

@@ -1,7 +1,5 @@
 -- Each part of the coordinator has given nothing exactly where it asks for a further step, and its layout stays.
 use Rattle.std.specs.Prelude.{◌≡◌, ℕ, Bool, true, false, cond, ◌↔◌, Option, Some, None, IsNone, refl}
-use Rattle.gh_base.specs.declared.pack.PageWord.{PageWord}
-use Rattle.gh_base.specs.declared.pack.PageWord.TheVariants.{Free, Head, Body}
 use Rattle.gh_coord.specs.declared.close.CloseStage.TheVariants as c
 use Rattle.gh_coord.specs.declared.count.CountStage.TheVariants as n
 use Rattle.gh_coord.specs.declared.open.OpenStage.TheVariants as o
@@ -16,11 +14,9 @@ use Rattle.gh_coord.specs.Stopping as stop
 use Rattle.gh_coord.specs.SweepingAll as all
 use Rattle.gh_coord.specs.Telling as tell
 use Rattle.gh_coord.specs.Watching as watch
-use Rattle.gh_sweep.specs.declared.sweep.SweepEnd.{SweepEnd}
-use Rattle.gh_sweep.specs.declared.sweep.SweepEnd.TheVariants.{Lost, Swept}
 use Rattle.gh_sweep.specs.Ends as sweep_proved
 use Rattle.gh_sweep.specs.Listing as sweep
-use Rattle.gh_coord.specs.Vocabulary.{CloseStage, CountStage, OpenStage, page_of, StopStage, SweepAllStage, TellStage, WatchStage}
+use Rattle.gh_coord.specs.Vocabulary.{Body, CloseStage, CountStage, Free, Head, Lost, OpenStage, page_of, PageWord, StopStage, SweepAllStage, SweepEnd, Swept, TellStage, WatchStage}
 
 -- a stop
 stop_given : (stage : StopStage) → IsNone (stop.given_at stage) ↔ (stop.is_busy stage ≡ true)

@@ -3,9 +3,13 @@ pub use Rattle.gh_base.specs.Packing.{bit, page_of, phase_word}
 pub use Rattle.gh_base.specs.declared.cell.Ask.{Ask}
 pub use Rattle.gh_base.specs.declared.cell.Ask.TheVariants.{Load, Store}
 pub use Rattle.gh_base.specs.declared.layout.Layout.{Layout}
+pub use Rattle.gh_base.specs.declared.pack.PageWord.{PageWord}
+pub use Rattle.gh_base.specs.declared.pack.PageWord.TheVariants.{Body, Free, Head}
 pub use Rattle.gh_base.specs.declared.pack.PhaseWord.{PhaseWord}
 pub use Rattle.gh_base.specs.declared.pack.TallyWord.{TallyWord}
 pub use Rattle.gh_base.specs.declared.pack.TheConstants.{GONE}
+pub use Rattle.gh_sweep.specs.declared.sweep.SweepEnd.{SweepEnd}
+pub use Rattle.gh_sweep.specs.declared.sweep.SweepEnd.TheVariants.{Lost, Swept}
 pub use Rattle.gh_sweep.specs.declared.sweep.SweepStage.{SweepStage}
 pub use Rattle.gh_sweep.specs.declared.sweep.SweepStage.TheVariants.{Begin}
 pub use Rattle.gh_coord.specs.declared.close.CloseStage.{CloseStage}

@@ -11,10 +11,9 @@ use Rattle.gh_central.specs.Reclaim as reclaim
 use Rattle.gh_central.specs.SweptPass as pass
 use Rattle.gh_pages.specs.Listing as carve
 use Rattle.gh_alloc.specs.Find as find
-use Rattle.gh_alloc.specs.Locking.{holds}
 use Rattle.gh_alloc.specs.Rounds.{FindsNone, Follows as FollowsLock, FreesSpans, GivesBack, HasFoundNoneTwice, Passed}
 use Rattle.gh_alloc.specs.Search.{asks, listing, opening}
-use Rattle.gh_alloc.proofs.Vocabulary.{after_carve, after_first, after_free, after_give, after_pass, Again, again, asks_at, At, at_stage, CachedSpan, Carve, carving, End, Ended, EndsWith, Finding, FindStage, First, Free, frees_at, Give, given_head, gives_at, GiveStage, goes_at, head_word, Large, Layout, Lock, locked_for, NoRoom, Pass, Reclaiming, reclaiming, refuses_at, searched, SearchStage, Second, Seeking, Slots, Small, Sought, span_for, SpanClass, spans_for, taken_for, told, Unlock, unlocked}
+use Rattle.gh_alloc.proofs.Vocabulary.{after_carve, after_first, after_free, after_give, after_pass, Again, again, asks_at, At, at_stage, CachedSpan, Carve, carving, End, Ended, EndsWith, Finding, FindStage, First, Free, frees_at, Give, given_head, gives_at, GiveStage, goes_at, head_word, holds, Large, Layout, Lock, locked_for, NoRoom, Pass, Reclaiming, reclaiming, refuses_at, searched, SearchStage, Second, Seeking, Slots, Small, Sought, span_for, SpanClass, spans_for, taken_for, told, Unlock, unlocked}
 use Rattle.gh_alloc.proofs.Finding.Locking.{has_lock}
 use Rattle.gh_alloc.proofs.Finding.Locking as finding
 use Rattle.gh_alloc.proofs.Finding.Refusing.{Base, base, giver_refuses, goes_base}
