@@ -1,6 +1,8 @@
+pub mod Alone
 pub mod Beginning
 pub mod Deeds
 pub mod Lasting
+pub mod Leaving
 pub mod Making
 pub mod Moves
 pub mod Objects

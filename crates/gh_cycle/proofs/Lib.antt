@@ -3,6 +3,7 @@ mod Beginning
 mod Bounding
 pub mod Endings
 pub mod Going
+mod GoneOn
 mod Knowing
 mod Marked
 mod Reaching

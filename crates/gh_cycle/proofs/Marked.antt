@@ -12,12 +12,13 @@ use Rattle.gh_model.specs.Ever.{from_field, from_global, from_register}
 use Rattle.gh_marks.specs.Colours.{Colour, IsShaded, Placing, White, mark_of}
 use Rattle.gh_marks.specs.Ends.{Reached}
 use Rattle.gh_marks.specs.Ends.{from_field as path_field, from_global as path_global, from_register as path_register}
+use Rattle.gh_marks.specs.Good.{Good as MarkingGood}
 use Rattle.gh_marks.specs.Moves.{SameExtent}
 use Rattle.gh_cycle.specs.Beside.{TheReachedAreMarkedBeside}
 use Rattle.gh_cycle.specs.Marked.{OnlyWordsChange, RegistersFit, TheCycleLasts, TheMarkedAreReached, TheReachedAreMarked}
 use Rattle.gh_cycle.specs.Opening.{IsCycleOf, reference_of}
 use Rattle.gh_cycle.specs.Reached.{IsBounded, TheReachedWereMade}
-use Rattle.gh_cycle.specs.Vocabulary.{Name, Words, EverValue, Ever, Reach, Holds, Place, points, shape_for, size_for, Arena, Good, view, Heap, Cycle, IsPointer, Marking}
+use Rattle.gh_cycle.specs.Vocabulary.{Name, Words, EverValue, Ever, Reach, Holds, Place, points, shape_for, size_for, Arena, Good, view, Heap, Cycle, IsMarked, IsPointer, mark_words, Marking}
 use Rattle.gh_cycle.proofs.Said.{IsSaid, said-beside, said-of-reached}
 
 module _ (z : Arena) (h k : Heap) (s t : Marking) (c : IsCycleOf z h s) (o : OnlyWordsChange h k s t) where
@@ -109,5 +110,9 @@ shaded-of White e none = absurd (omega (arith, e))
 shaded-of (Placing a) e none = absurd (none a refl)
 shaded-of _ e none = tt
 
+-- so it is of the cycle
+pub marked-since : (z : Cycle) (s : Marking) → MarkingGood z s → ((o a : ℕ) → s.colour o ≢ Placing a) → (o : ℕ) → IsMarked (mark_words s.words) o → s.since o ≡ true
+marked-since z s g none o marked = g.objects.shaded o (shaded-of (s.colour o) (sym marked ∙ g.marks o) (none o))
+
 pub marked-reached : TheMarkedAreReached
-marked-reached z h s c g none o marked = (c.since o).0 (g.objects.shaded o (shaded-of (s.colour o) (sym marked ∙ g.marks o) (none o)))
+marked-reached z h s c g none o marked = (c.since o).0 (marked-since z s g none o marked)

@@ -2,6 +2,7 @@
 use Rattle.std.specs.Prelude.{◌≡◌, ◌≢◌, ℕ, ◌+◌, ◌<◌, true, false, None}
 use Rattle.gh_base.specs.declared.cell.Ask.TheVariants as ask
 use Rattle.gh_base.specs.declared.cell.Cell.TheVariants as cell
+use Rattle.gh_base.specs.declared.limits.TheConstants.{REGISTERS}
 use Rattle.gh_base.specs.declared.pack.TheConstants.{END}
 use Rattle.gh_base.specs.Rows.{field_words, global_words}
 use Rattle.gh_base.specs.Shapes.{ShapesFit}
@@ -86,7 +87,24 @@ MovesGoBeside = (z : Cycle) (a : ℕ) (h : Heap) (s : Marking) (m : heap.Move) �
 abbrev pub SlotsAreReserved : Type 0
 SlotsAreReserved = (z : Cycle) (a at size : ℕ) (h : Heap) (s : Marking) → Good z.arena (view h) → MarkingGood z s → IsBeside z.arena h s → Claims z.arena (view h) a at size → FillsNone a s → marks.May z a s (marks.Reserve at) × IsBeside z.arena (record h { words = (marks.moved z a s (marks.Reserve at)).words }) (marks.moved z a s (marks.Reserve at))
 
+-- A field of a claimed slot is none that marking reads: no object of the cycle has a word there.
+abbrev pub ClaimedFieldsAreAside : Type 0
+ClaimedFieldsAreAside = (z : Cycle) (a at size k : ℕ) (h : Heap) (s : Marking) → Good z.arena (view h) → MarkingGood z s → IsBeside z.arena h s → Claims z.arena (view h) a at size → k < size → marks.IsQuiet s (ask.Store (cell.Field (at + k)) 0)
+
 -- The steps of marking.
+
+-- What a step of this seat leaves that is made of moves of marking, whichever they are, with the words as they are behind a move over the heap. The slots that it fills then it claims then. The registers of its own goroutines that go on are as they were, and no stack of theirs says that it has ended.
+pub record MarksAlone (z : Cycle) (a : ℕ) (h k : Heap) (s t : Marking) : Type 0 where
+  pub went : marks.Went z a s t
+  pub words_are : t.words ≡ k.words
+  pub fills : (o : ℕ) → t.colour o ≡ Placing a → ClaimsSlot z.arena (view k) a o
+  pub registers : (g d : ℕ) → heap.Runs z.arena (view h) a g → d < REGISTERS → t.registers g d ≡ s.registers g d
+  pub goes_on : (g : ℕ) → heap.Runs z.arena (view h) a g → t.words (cell.Scanned g) ≢ END
+
+-- Over the heap such a step may be any move of its seat that leaves the heap that never frees as it is: a span may be given back by it, and no object is made.
+abbrev pub MarkingAloneGoesBeside : Type 0
+MarkingAloneGoesBeside = (z : Cycle) (a : ℕ) (h : Heap) (s t : Marking) (m : heap.Move) → Good z.arena (view h) → MarkingGood z s → IsBeside z.arena h s → heap.May z.arena a (view h) m → (heap.moved z.arena a h m).ever ≡ h.ever →
+    MarksAlone z a h (heap.moved z.arena a h m) s t → IsBeside z.arena (heap.moved z.arena a h m) t
 
 -- A step of marking changes no object, no value and no span: marks, buffers, the cursor and words of stacks alone, and no slot is begun to be filled.
 pub record OnlyMarks (z : Arena) (h : Heap) (s t : Marking) (words : Words) : Type 0 where

@@ -17,7 +17,7 @@ use Rattle.gh_marks.specs.Seats.{Hands, InHand}
 use Rattle.gh_cycle.specs.Beside.{FillsNone, IsBeside}
 use Rattle.gh_cycle.specs.Opening.{reference_of}
 use Rattle.gh_cycle.specs.Reached.{IsBounded}
-use Rattle.gh_cycle.specs.Vocabulary.{Arena, Cycle, Ever, EverValue, Good, Heap, IsMarked, mark_words, Marking, Name, Place, Placing, points, view}
+use Rattle.gh_cycle.specs.Vocabulary.{Arena, Cycle, Ever, EverValue, Good, Heap, IsMarked, mark_words, Marking, Name, Placing, points, view}
 
 -- What a step does to objects and values.
 pub data Deed : Type 0 where
@@ -40,15 +40,10 @@ ever_by z e (Makes at g d t) = with_register (with_object z.shapes e g t) g d (v
 ever_by z e (Puts n k value word) = with_field e n k value
 ever_by z e (PutsGlobal k value word) = with_global e k value
 
-abbrev pub place_by : Ever → Place → Deed → Place
-place_by e place (Makes at g d t) = heap.placed_at place (next_name e g) at
-place_by e place _ = place
-
--- The heap behind such a step.
+-- The heap behind such a step: its words, and what the heap that never frees is then. Where its objects are follows.
 pub record ComesBy (z : Arena) (h k : Heap) (step : Ask) (d : Deed) : Type 0 where
   pub words : k.words ≡ effect h.words step
   pub ever : k.ever ≡ ever_by z h.ever d
-  pub place : k.place ≡ place_by h.ever h.place d
 
 -- What marking asks of a step of this seat that does so. It writes no word that marking reads, save by the deed: the end of a goroutine is its stack's word, an object is its alloc bit, set where its mark was set before, and a pointer is written behind the write barrier. A register whose stack is scanned takes what is marked or protected.
 abbrev pub MeetsByDeed : Cycle → (a : ℕ) → Heap → Marking → Ask → Deed → Type 0

@@ -4,9 +4,9 @@ use Rattle.gh_base.specs.declared.cell.Cell.TheVariants as cell
 use Rattle.gh_heap.specs.Moves as heap
 use Rattle.gh_marks.specs.Good.{Good as MarkingGood}
 use Rattle.gh_marks.specs.Moves as marks
+use Rattle.gh_sweep.specs.Counts.{is_set}
 use Rattle.gh_sweep.specs.Listing.{slot_bytes}
 use Rattle.gh_sweep.specs.Shared as sweep
-use Rattle.gh_cycle.specs.Opening.{IsCycleOf}
 use Rattle.gh_cycle.specs.Vocabulary.{alloc_words, Arena, AreWords, Body, Cycle, CycleEnd, FitsHead, Free, Good, HasEnded, Head, head_word, Heap, InSpan, IsSpan, Layout, mark_words, Marking, opening_words, page_of, page_words, PageWord, placed, Placing, put, Row, SpanHead, Sweep, SweepGood, view, Words}
 
 -- Words.
@@ -80,7 +80,7 @@ pub record IsStill (h : Heap) : Type 0 where
 pub record IsOver (z : Cycle) (h : Heap) (s : Marking) : Type 0 where
   pub heap : Good z.arena (view h)
   pub marking : MarkingGood z s
-  pub of_heap : IsCycleOf z.arena h s
+  pub words : s.words ≡ h.words
   pub still : IsStill h
   pub none_placing : (o a : ℕ) → s.colour o ≢ Placing a
   pub packed : ArePacked (page_words h.words)
@@ -94,8 +94,9 @@ pub record IsOver (z : Cycle) (h : Heap) (s : Marking) : Type 0 where
 abbrev pub with_next_generation : Words → Words
 with_next_generation words = put words cell.Gen (words cell.Gen + 2)
 
+-- The objects of since are those that are marked then: the sweep frees all others.
 abbrev pub end_of : Arena → Heap → Marking → CycleEnd
-end_of z h s = record { layout = z.layout; words = with_next_generation h.words; slot = slot_row (page_words h.words); since = s.since }
+end_of z h s = record { layout = z.layout; words = with_next_generation h.words; slot = slot_row (page_words h.words); since = λ x. is_set (mark_words h.words) x }
 
 abbrev pub CyclesEnd : Type 0
 CyclesEnd = (z : Cycle) (h : Heap) (s : Marking) → IsOver z h s → HasEnded (end_of z.arena h s)

@@ -15,5 +15,6 @@ pub record Known : Type 0 where
   pub keeps : marks.EachMoveKeeps
   pub leaves : marks.EachMoveLeaves
   pub own : marks.EachOwnMoveLeaves
+  pub steps : marks.EachStepGoesByMoves
   pub guards : marks.EachMoveGuards
   pub hands : marks.EachHandFollows

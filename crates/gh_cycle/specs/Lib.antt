@@ -6,5 +6,6 @@ pub mod Known
 pub mod Marked
 pub mod Opening
 pub mod Reached
+pub mod Since
 pub mod Sweeping
 pub mod Vocabulary

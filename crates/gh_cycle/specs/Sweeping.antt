@@ -1,5 +1,5 @@
 -- The heap while it is swept, and what is left of it then.
-use Rattle.std.specs.Prelude.{◌≡◌, ℕ, ◌*◌, ◌<◌, ◌↔◌, true}
+use Rattle.std.specs.Prelude.{◌≡◌, ℕ, ◌*◌, ◌<◌, true}
 use Rattle.gh_base.specs.declared.cell.Cell.TheVariants as cell
 use Rattle.gh_base.specs.Packing.{tally_of}
 use Rattle.gh_heap.specs.Moves as heap
@@ -8,7 +8,6 @@ use Rattle.gh_sweep.specs.Moves as sweep
 use Rattle.gh_sweep.specs.Shared as spans
 use Rattle.gh_sweep.specs.Sweepers.{move_of}
 use Rattle.gh_cycle.specs.Ending.{end_of, IsOver, IsStill, slot_row, with_next_generation}
-use Rattle.gh_cycle.specs.Reached.{IsBounded, IsReachedAt}
 use Rattle.gh_cycle.specs.Vocabulary.{alloc_at, alloc_words, Arena, at_end, birth_words, Body, Cycle, CycleEnd, Free, generation_of, Good, HasEnded, Head, head_word, Heap, IsMade, IsMarked, mark_words, Marking, marks_at, Name, page_of, page_words, PageWord, placed, Placed, Reach, row_bit, SpanHead, Sweep, SweepGood, Sweeping, View, view, Words}
 
 -- The pages as they will read once all spans are swept.
@@ -30,9 +29,9 @@ pub record SweepsBeside (z : Arena) (e : CycleEnd) (h : Heap) (v : Sweep) : Type
   pub spans : SweepGood e (spans.view v)
   pub heap : Good z (renumbered (generation_of e) (view h))
   pub still : IsStill h
-  -- each object that a script reaches was marked where the cycle ended, and no other object is of the cycle
+  -- each object that a script reaches was marked where the cycle ended, and no other object is of since: what is left was marked
   pub marked : (n : Name) → Reach h.ever n → row_bit (marks_at e) (h.place n) ≡ 1
-  pub since : (x : ℕ) → (v.since x ≡ true) ↔ IsReachedAt h x
+  pub since : (x : ℕ) → v.since x ≡ true → row_bit (marks_at e) x ≡ 1
   -- no span is laid out
   pub slots : (i : ℕ) → v.slot i ≡ e.slot i
 
@@ -82,10 +81,10 @@ pub record IsCalm (z : Arena) (e : CycleEnd) (h : Heap) (v : Sweep) : Type 0 whe
 abbrev pub SweepingEnds : Type 0
 SweepingEnds = (z : Arena) (e : CycleEnd) (h : Heap) (v : Sweep) → SweepsBeside z e h v → AreSwept e h.words → IsCalm z e h v
 
--- Of the objects that were made, those that a script reaches stand then, and no others.
-abbrev pub OnlyTheReachedAreLeft : Type 0
-OnlyTheReachedAreLeft = (z : Arena) (e : CycleEnd) (h : Heap) (v : Sweep) → SweepsBeside z e h v → AreSwept e h.words → IsBounded z h.ever →
-    (n : Name) → IsMade h.ever.made n → Placed (alloc_words h.words) (birth_words h.words) h.place n ↔ Reach h.ever n
+-- Of the objects that were made, those alone stand then that were marked where the cycle ended. What a script reaches stands, since the heap is good.
+abbrev pub OnlyTheMarkedAreLeft : Type 0
+OnlyTheMarkedAreLeft = (z : Arena) (e : CycleEnd) (h : Heap) (v : Sweep) → SweepsBeside z e h v → AreSwept e h.words →
+    (n : Name) → IsMade h.ever.made n → Placed (alloc_words h.words) (birth_words h.words) h.place n → row_bit (marks_at e) (h.place n) ≡ 1
 
 -- The counts once all is swept: the objects that were marked where the cycle ended and those that were not, and the bytes of the slots that are taken.
 pub record IsTold (e : CycleEnd) (words : Words) : Type 0 where

@@ -8,7 +8,7 @@
 //! and a slot whose mark is set before its object is claimed by the seat that fills it. Each of these lasts under
 //! every move over the heap and under every step of marking, and at the end it is enough.
 
-ghost use Rattle.gh_cycle.specs.Beside.{CyclesBeginBeside, MarkingGoesBeside, MovesGoBeside, ObjectsAreKnownBeside, SlotsAreReserved, TheReachedAreMarkedBeside};
+ghost use Rattle.gh_cycle.specs.Beside.{ClaimedFieldsAreAside, CyclesBeginBeside, MarkingAloneGoesBeside, MarkingGoesBeside, MovesGoBeside, ObjectsAreKnownBeside, SlotsAreReserved, TheReachedAreMarkedBeside};
 ghost use Rattle.gh_cycle.specs.Deeds.{DeedsGoBeside};
 ghost use Rattle.gh_cycle.specs.Known.{Known};
 
@@ -34,7 +34,7 @@ pub fn objects_are_known_beside()
     the_heap_is_apart();
 }
 
-/// The laws of lower crates on which the next two rest: those of moves over the heap and of moves of marking.
+/// The laws of lower crates on which those of steps beside marking rest: of moves over the heap and of moves of marking.
 fn laws_are_known()
     ensures { Known }
 {
@@ -48,6 +48,7 @@ fn laws_are_known()
     gh_marks::laws::each_move_keeps();
     gh_marks::laws::each_move_leaves();
     gh_marks::laws::own_moves_leave();
+    gh_marks::laws::steps_go_by_moves();
     gh_marks::laws::each_move_guards();
     gh_marks::laws::hands_follow();
 }
@@ -76,6 +77,22 @@ pub fn slots_are_reserved()
 {
     size_class_laws();
     the_heap_is_apart();
+}
+
+/// A claimed slot is cleared beside marking, which reads none of its fields.
+pub fn claimed_fields_are_aside()
+    ensures { ClaimedFieldsAreAside }
+{
+    the_heap_is_apart();
+}
+
+/// A step of a processor that is made of moves of marking, and leaves the heap that never frees as it is, leaves the
+/// two states together: that of a poll, of a wait or of a leave, of a store that shades, and that which marks the slot
+/// of an object that is to be made. A routine's law hides by which moves it goes; so this is said of all.
+pub fn marking_alone_goes_beside()
+    ensures { MarkingAloneGoesBeside }
+{
+    laws_are_known();
 }
 
 /// A step of marking, of whichever actor, leaves the two states together.

@@ -3,9 +3,8 @@
 
 ghost use Rattle.gh_cycle.specs.Allocating.{AllocationGoesOn, CalmIsFound, CalmLasts, CountedLasts};
 ghost use Rattle.gh_cycle.specs.Ending.{CyclesEnd, HeapsOpen, MarksStayWords, PagesStayPacked, SlotsAreRead, SpansLast};
-ghost use Rattle.gh_cycle.specs.Sweeping.{CountsAreTold, OnlyTheReachedAreLeft, SweepingBegins, SweepingEnds, SweepingKeepsTheHeap, SweepsMoveSo};
+ghost use Rattle.gh_cycle.specs.Sweeping.{CountsAreTold, OnlyTheMarkedAreLeft, SweepingBegins, SweepingEnds, SweepingKeepsTheHeap, SweepsMoveSo};
 
-use crate::opening::reach_is_decided;
 use gh_base::laws::{packed_words_are_read_back, rows_are_written};
 use gh_class::size_class_laws;
 use gh_heap::laws::{each_move_keeps, the_heap_is_apart};
@@ -55,14 +54,11 @@ pub fn sweeping_keeps_the_heap()
     every_list_keeps();
 }
 
-/// Once all is swept the objects that stand are those that a script reaches.
-pub fn only_the_reached_are_left()
-    ensures { OnlyTheReachedAreLeft }
-{
-    the_heap_is_apart();
-    reach_is_decided();
-    sweeping_keeps_the_heap();
-}
+/// Once all is swept only objects stand that were marked where marking ended. Those that a script reaches are among
+/// them; others may be, which a script lost while processors went on.
+pub fn only_the_marked_are_left()
+    ensures { OnlyTheMarkedAreLeft }
+{}
 
 /// What the counts tell once all is swept.
 pub fn counts_are_told()

@@ -12,7 +12,7 @@ use Rattle.gh_sweep.specs.Bits.{freed_in, kept_in, sum_below}
 use Rattle.gh_sweep.specs.Counts.{AreWords}
 use Rattle.gh_sweep.specs.Listing.{slot_bytes}
 
--- Where a cycle ended, when the next sweep generation was stored: the words, the bytes of a slot of the span that each word of bits lies in, and which objects are of since, by the heap word that they begin at. Those are the objects that a script reached where the cycle began, and those made since then.
+-- Where a cycle ended, when the next sweep generation was stored: the words, the bytes of a slot of the span that each word of bits lies in, and which objects are of since, by the heap word that they begin at. Those are what the sweep may leave: each marked object is one, and so may others be that a script reached where the cycle began, or that were made since then.
 pub record CycleEnd : Type 0 where
   pub layout : Layout
   pub words : Words

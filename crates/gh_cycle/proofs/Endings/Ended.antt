@@ -1,13 +1,14 @@
 -- Where marking has ended and the world is stopped a cycle has ended.
 use Rattle.std.proofs.Common.{◌≡◌, ◌≢◌, ℕ, ◌+◌, ◌-◌, ◌*◌, ◌/◌, ◌%◌, ◌^◌, ◌<◌, ◌≤◌, true, refl, sym, ap, subst, ◌∙◌, arith, inl, inr, cond}
 use Rattle.std.specs.Int.{bit_at}
+use Rattle.std.proofs.lemmas.Bool.{eq-eqb}
 use Rattle.std.proofs.lemmas.Bool.Decides.{eqb_tells}
 use Rattle.std.proofs.lemmas.Nat.Bits.{bit_at-lt, bit_at-zero, same_from_bits_below}
-use Rattle.gh_marks.specs.Colours.{Colour, IsShaded, mark_of, White}
 use Rattle.gh_cycle.specs.Ending.{bytes_at, bytes_at_head, end_of, IsOver, opening_end, SlotsAreRead}
-use Rattle.gh_cycle.specs.Vocabulary.{alloc_words, Arena, AreWhole, birth_word, Body, Cycle, FitsHead, Free, Good, HasEnded, Head, Heap, InSlot, InSpan, is_own_class, IsMade, IsSizeClass, Large, Layout, mark_words, Marking, Name, number_of, opening_words, owner_at, owner_in, page_of, page_words, PageWord, placed_in, Placing, Row, row_bit, RowsAreWritten, size_for, SizeClass, slot_bytes_of, slot_of, slot_size, Small, SpanHead, SpansFit, TheHeapIsApart, View, view, Words}
+use Rattle.gh_cycle.specs.Vocabulary.{alloc_words, Arena, AreWhole, birth_word, Body, Cycle, FitsHead, Free, Good, HasEnded, Head, Heap, InSlot, InSpan, is_own_class, IsMade, IsSizeClass, Large, Layout, mark_words, Marking, Name, number_of, opening_words, owner_at, owner_in, page_of, page_words, PageWord, placed_in, Row, row_bit, RowsAreWritten, size_for, SizeClass, slot_bytes_of, slot_of, slot_size, Small, SpanHead, SpansFit, TheHeapIsApart, View, view, Words}
 use Rattle.gh_cycle.proofs.Endings.Packed.{no_head}
 use Rattle.gh_cycle.proofs.Endings.Slots.{sum_none}
+use Rattle.gh_cycle.proofs.Marked.{marked-since}
 
 -- what the laws of lower crates say, as far as a proof here uses it
 pub record Known : Type 0 where
@@ -84,17 +85,10 @@ module _ (k : Known) (z : Cycle) (h : Heap) (s : Marking) (o : IsOver z h s) whe
 
   -- what is marked is placed, and of the cycle
   shaded_since : (x : ℕ) → row_bit (mark_words h.words) x ≡ 1 → s.since x ≡ true
-  shaded_since x set = o.marking.objects.shaded x (go (s.colour x) refl is) where
-    is : mark_of (s.colour x) ≡ 1
-    is = sym (o.marking.marks x) ∙ (ap (λ (w : Words). row_bit (mark_words w) x) o.of_heap.words ∙ set)
-
-    go : (c : Colour) → s.colour x ≡ c → mark_of c ≡ 1 → IsShaded c
-    go White e m = absurd (zero_one 0 refl m)
-    go (Placing a) e m = absurd (o.none_placing x a e)
-    go _ e m = tt
+  shaded_since x set = marked-since z s o.marking o.none_placing x (ap (λ (w : Words). row_bit (mark_words w) x) o.words ∙ set)
 
   stands : (x : ℕ) → row_bit (mark_words h.words) x ≡ 1 → row_bit (alloc_words h.words) x ≡ 1
-  stands x set = ap (λ (w : Words). row_bit (alloc_words w) x) (sym o.of_heap.words) ∙ o.marking.objects.placed x (shaded_since x set)
+  stands x set = ap (λ (w : Words). row_bit (alloc_words w) x) (sym o.words) ∙ o.marking.objects.placed x (shaded_since x set)
 
   in_span : (x i : ℕ) → x / 64 ≡ i → row_bit (alloc_words h.words) x ≡ 1 → InSpan page i
   in_span x i at set = subst (λ (j : ℕ). InSpan page j) at (bit_in_span k z.arena (view h) o.heap x set)
@@ -124,7 +118,7 @@ module _ (k : Known) (z : Cycle) (h : Heap) (s : Marking) (o : IsOver z h s) whe
     alloc_fits = o.heap.words;
     marks_fit = o.marks_fit;
     stand = stands;
-    known = shaded_since;
+    known = λ x set. eq-eqb (row_bit (mark_words h.words) x) 1 set;
     tally = o.tally;
     live = o.live;
     heap = o.counted;

@@ -2,6 +2,7 @@
 use Rattle.std.proofs.Common.{◌≡◌, ℕ, ◌+◌, ◌*◌, ◌/◌, ◌%◌, ◌^◌, ◌<◌, min, Bool, true, false, cond, refl, sym, ap, subst, ◌∙◌, arith, inl, inr, []}
 use Rattle.std.specs.Prelude.{bit_and}
 use Rattle.std.specs.Int.{bit_at}
+use Rattle.std.proofs.lemmas.Bool.{eqb-true}
 use Rattle.std.proofs.lemmas.Bool.Decides.{eqb_tells}
 use Rattle.std.proofs.lemmas.Nat.Bits.{bit_at_and, bit_at-lt}
 use Rattle.gh_base.specs.declared.cell.Ask.TheVariants.{Load}
@@ -36,7 +37,7 @@ module _ (k : Known) (z : Cycle) (h : Heap) (s : Marking) (o : IsOver z h s) (ma
   next = h.words cell.Gen + 2
 
   reached_now : (n : Name) → Reach h.ever n → row_bit (mark_words h.words) (h.place n) ≡ 1
-  reached_now n r = ap (λ (w : Words). row_bit (mark_words w) (h.place n)) (sym o.of_heap.words) ∙ marked n r
+  reached_now n r = ap (λ (w : Words). row_bit (mark_words w) (h.place n)) (sym o.words) ∙ marked n r
 
   pub begins : SweepsBeside z.arena (end_of z.arena h s) (with_words h (with_next_generation h.words)) (at_end (end_of z.arena h s)).shared
   begins = let ended = k.ends z h s o in record {
@@ -55,7 +56,7 @@ module _ (k : Known) (z : Cycle) (h : Heap) (s : Marking) (o : IsOver z h s) (ma
     });
     still = still_with h (with_next_generation h.words) o.still;
     marked = reached_now;
-    since = o.of_heap.since;
+    since = λ x is. eqb-true (row_bit (mark_words h.words) x) 1 is;
     slots = λ i. refl;
   }
 
@@ -124,7 +125,7 @@ module _ (k : Known) (z : Arena) (e : CycleEnd) (h : Heap) (v : Sweep) (b : Swee
       heap = good;
       still = still_with h t.words b.still;
       marked = b.marked;
-      since = λ x. (λ is. (b.since x).0 (ap (λ (f : ℕ → Bool). f x) (sym since) ∙ is), λ r. ap (λ (f : ℕ → Bool). f x) since ∙ (b.since x).1 r);
+      since = λ x is. b.since x (ap (λ (f : ℕ → Bool). f x) (sym since) ∙ is);
       slots = λ i. ap (λ (f : Row). f i) slots ∙ b.slots i;
     }
 

@@ -16,7 +16,7 @@ use Rattle.gh_sweep.specs.Shared.{Shared as Sweep}
 use Rattle.gh_cycle.specs.Ending.{slot_row, SlotsAreRead}
 use Rattle.gh_cycle.specs.Sweeping.{AreSwept, CountsAreTold, IsCalm, IsTold, SweepingEnds, SweepsBeside}
 use Rattle.gh_cycle.proofs.Endings.Exact.{none_left, none_owed, same_bytes}
-use Rattle.gh_cycle.proofs.Endings.Left.{left_since}
+use Rattle.gh_cycle.proofs.Endings.Left.{left_marked}
 use Rattle.gh_cycle.proofs.Endings.Slots.{sum_same}
 
 pub record Known : Type 0 where
@@ -45,9 +45,6 @@ module _ (k : Known) (z : Arena) (e : CycleEnd) (h : Heap) (v : Sweep) (b : Swee
   calm : IsCalm z e h v
   calm = k.ends z e h v b swept_h
 
-  swept_v : AreSwept e v.words
-  swept_v = subst (λ (w : Words). AreSwept e w) (sym b.words) swept_h
-
   objects : BitsAreObjects e
   objects = k.counts.objects e b.ended
 
@@ -57,9 +54,7 @@ module _ (k : Known) (z : Arena) (e : CycleEnd) (h : Heap) (v : Sweep) (b : Swee
   marked_stands x set = b.spans.stand x set
 
   stands_marked : (x : ℕ) → row_bit (alloc_words v.words) x ≡ 1 → row_bit (marks_at e) x ≡ 1
-  stands_marked x set =
-      let at = (b.since x).0 (left_since e v b.spans swept_v x set) in
-      ap (λ (y : ℕ). row_bit (marks_at e) y) (sym at.2) ∙ b.marked at.0 at.1
+  stands_marked = left_marked z e h v b swept_h
 
   both_marked : (i j : ℕ) → j < 64 → bit_at (bit_and (alloc_at e i) (marks_at e i)) j ≡ bit_at (marks_at e i) j
   both_marked i j low =

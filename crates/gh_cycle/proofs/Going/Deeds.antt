@@ -1,14 +1,17 @@
 -- Each step of a processor beside marking, by what it does. The move over the heap is not told: where an object is made or a value written, a move that is told leaves the same words, values and places; and where a step leaves objects alone, so does every move by which it may come.
-use Rattle.std.proofs.Common.{◌≡◌, ℕ, ◌<◌, refl, sym, ap, subst, ◌∙◌, inl, inr, arith, None, eq-eqb}
-use Rattle.gh_heap.specs.Laws.{name_made}
+use Rattle.std.proofs.Common.{◌≡◌, ℕ, refl, sym, ap, subst, ◌∙◌}
 use Rattle.gh_heap.specs.Moves as heap
 use Rattle.gh_heap.specs.Spans.{IsSlotOf}
+use Rattle.gh_marks.specs.Seats.{Hands, InHand}
+use Rattle.gh_cycle.specs.Beside.{ClaimsSlot, GoesBeside, hand_after, IsBeside, IsOfCycle, MeetsMarking}
 use Rattle.gh_cycle.specs.Deeds as deed
 use Rattle.gh_cycle.specs.Deeds.{ComesBy, Deed, DeedsGoBeside, hand_behind, MeetsByDeed, StepsBeside}
-use Rattle.gh_cycle.proofs.Vocabulary.{alloc_words, Arena, Ask, birth_words, ClaimsSlot, Cycle, effect, eqb_tells, Ever, GoesBeside, Good, hand_after, Hands, Heap, InHand, IsBeside, IsMade, IsOfCycle, Known, Marking, MeetsMarking, Name, owner_at, page_words, Place, Placed, Reach, reference_of, row_bit, View, view, with_words, Words}
-use Rattle.gh_cycle.proofs.Endings.Ended.{zero_one}
-use Rattle.gh_cycle.proofs.Endings.Quiet.{quiet_view}
+use Rattle.gh_cycle.specs.Known.{Known}
+use Rattle.gh_cycle.specs.Opening.{reference_of}
+use Rattle.gh_cycle.specs.Sweeping.{with_words}
+use Rattle.gh_cycle.specs.Vocabulary.{alloc_words, Arena, Ask, birth_words, Cycle, effect, Ever, Good, Heap, IsMade, Marking, Name, owner_at, page_words, Place, Placed, Reach, row_bit, view, Words}
 use Rattle.gh_cycle.proofs.Going.Lasting.{beside-lasts}
+use Rattle.gh_cycle.proofs.Going.Leaving.{leaves, LeavesObjects, made-there, stood}
 use Rattle.gh_cycle.proofs.Going.Moves.{moves-go}
 use Rattle.gh_cycle.proofs.Going.Objects.{here}
 use Rattle.gh_cycle.proofs.Going.Plain.{goes-quiet, IsPlain, there, Together}
@@ -50,49 +53,6 @@ module _ (z : Arena) (h k : Heap) (t : Marking) (good : Good z (view h)) (well :
     goes_on = λ g lg runs. c.goes_on g lg (sym (ap (λ (e : Ever). e.ended g) ever) ∙ runs);
   })
 
--- What a move leaves that makes no object.
-record LeavesObjects (z : Cycle) (a : ℕ) (h : Heap) (s : Marking) (m : heap.Move) : Type 0 where
-  none : name_made h.ever m ≡ None
-  hand : (x : InHand) → hand_after m x ≡ x
-  alloc : alloc_words (there z a h s m).words ≡ alloc_words s.words
-  birth : (x : ℕ) → row_bit (alloc_words s.words) x ≡ 1 → birth_words (there z a h s m).words x ≡ birth_words s.words x
-
-module _ (z : Cycle) (a : ℕ) (h : Heap) (s : Marking) where
-  same-view : (step : Ask) → heap.IsQuiet step → view (with_words (here h s) (effect s.words step)) ≡ view (here h s)
-  same-view step q = quiet_view (here h s) step q
-
-  leaves : (m : heap.Move) → heap.May z.arena a (view (here h s)) m → (there z a h s m).ever.made ≡ h.ever.made → LeavesObjects z a h s m
-  leaves (heap.Quiet step) may same = record { none = refl; hand = λ x. refl; alloc = ap (λ (v : View). v.alloc) (same-view step may); birth = λ x set. ap (λ (v : View). v.birth x) (same-view step may) }
-  leaves (heap.Takes step g d value) may same = record { none = refl; hand = λ x. refl; alloc = ap (λ (v : View). v.alloc) (same-view step may.0); birth = λ x set. ap (λ (v : View). v.birth x) (same-view step may.0) }
-  leaves (heap.Ends step g) may same = record { none = refl; hand = λ x. refl; alloc = ap (λ (v : View). v.alloc) (same-view step may.0); birth = λ x set. ap (λ (v : View). v.birth x) (same-view step may.0) }
-  leaves heap.TakeLock may same = record { none = refl; hand = λ x. refl; alloc = refl; birth = λ x set. refl }
-  leaves heap.LeaveLock may same = record { none = refl; hand = λ x. refl; alloc = refl; birth = λ x set. refl }
-  leaves (heap.Refuse g d) may same = record { none = refl; hand = λ x. refl; alloc = refl; birth = λ x set. refl }
-  leaves (heap.LayBody y) may same = record { none = refl; hand = λ x. refl; alloc = refl; birth = λ x set. refl }
-  leaves (heap.LayHead y) may same = record { none = refl; hand = λ x. refl; alloc = refl; birth = λ x set. refl }
-  leaves (heap.FreeBody y) may same = record { none = refl; hand = λ x. refl; alloc = refl; birth = λ x set. refl }
-  leaves (heap.FreeHead y) may same = record { none = refl; hand = λ x. refl; alloc = refl; birth = λ x set. refl }
-  leaves (heap.Own p g) may same = record { none = refl; hand = λ x. refl; alloc = refl; birth = λ x set. refl }
-  leaves (heap.Disown p g) may same = record { none = refl; hand = λ x. refl; alloc = refl; birth = λ x set. refl }
-  leaves (heap.Publish p g) may same = record { none = refl; hand = λ x. refl; alloc = refl; birth = λ x set. refl }
-  leaves (heap.ClearField at size i) may same = record { none = refl; hand = λ x. refl; alloc = refl; birth = λ x set. refl }
-  leaves (heap.SetBirth at size n) may same = record {
-    none = refl;
-    hand = λ x. refl;
-    alloc = refl;
-    birth = λ x set. elim (eqb_tells at x) [
-      | inl y ↦ absurd (zero_one (row_bit (alloc_words s.words) x) (ap (λ (i : ℕ). row_bit (alloc_words s.words) i) (sym y.1) ∙ may.clear) set)
-      | inr ne ↦ rw (ne.0) refl
-    ];
-  }
-  leaves (heap.SetBits at size i word) may same = record { none = refl; hand = λ x. refl; alloc = refl; birth = λ x set. refl }
-  leaves (heap.Make at g d t) may same =
-      let more : h.ever.made g < (there z a h s (heap.Make at g d t)).ever.made g = rw (eq-eqb g g refl) (omega arith) in
-      let none : h.ever.made g < h.ever.made g = subst (λ (f : ℕ → ℕ). h.ever.made g < f g) same more in
-      absurd (omega (arith, none))
-  leaves (heap.Write n i value word) may same = record { none = refl; hand = λ x. refl; alloc = refl; birth = λ x set. refl }
-  leaves (heap.WriteGlobal i value word) may same = record { none = refl; hand = λ x. refl; alloc = refl; birth = λ x set. refl }
-
 module _ (k : Known) (z : Cycle) (a : ℕ) (h : Heap) (s : Marking) (w : Together z h s) (m : heap.Move) (may : heap.May z.arena a (view (here h s)) m) where
   abbrev after : Heap
   after = there z a h s m
@@ -116,34 +76,37 @@ module _ (k : Known) (z : Cycle) (a : ℕ) (h : Heap) (s : Marking) (w : Togethe
       (λ t c. same-beside z.arena (there z a h s n) after t (k.heap_keeps z.arena a (here h s) n w.heap allowed) (k.heap_keeps z.arena a (here h s) m w.heap may) words ever place c) hand
 
   -- The step leaves objects alone.
-  module _ (same : after.ever.made ≡ h.ever.made) (types : after.ever.type_of ≡ h.ever.type_of) (place : after.place ≡ h.place) where
+  module _ (same : after.ever.made ≡ h.ever.made) (types : after.ever.type_of ≡ h.ever.type_of) where
     abbrev left : LeavesObjects z a h s m
     left = leaves z a h s m may same
 
     plain : IsPlain z a h s m
-    plain = record { none = left.none; hand = left.hand; place = place; types = types; made = same; alloc = left.alloc }
-
-    placed : (n : Name) → Placed (alloc_words s.words) (birth_words after.words) h.place n → Placed (alloc_words s.words) (birth_words s.words) h.place n
-    placed n p = record { set = p.set; says = sym (left.birth (h.place n) p.set) ∙ p.says }
+    plain = record { none = left.none; hand = left.hand; place = left.place; types = types; made = same; alloc = left.alloc }
 
     by-itself : (d : Deed) → ((x : InHand) → x ≡ hand_behind d x) → GoesBeside z a (here h s) s m → Steps d
     by-itself d hand b = steps-by d m b (λ t c. c) (λ x. left.hand x ∙ hand x)
+
+    -- and so does a move that is told
+    by-other : (d : Deed) (n : heap.Move) → heap.May z.arena a (view (here h s)) n → MeetsMarking z a (here h s) s n → ((x : InHand) → hand_after n x ≡ hand_behind d x) →
+        after.words ≡ (there z a h s n).words → after.ever ≡ (there z a h s n).ever → (there z a h s n).place ≡ h.place → Steps d
+    by-other d n allowed meets hand words ever place = by-move d n allowed meets hand words ever (left.place ∙ sym place)
 
   steps-go : (step : Ask) (d : Deed) → ComesBy z.arena (here h s) after step d → MeetsByDeed z a (here h s) s step d → Steps d
   steps-go step deed.Rests by meets =
       let made = ap (λ (e : Ever). e.made) by.ever in
       let types = ap (λ (e : Ever). e.type_of) by.ever in
-      by-itself made types by.place deed.Rests (λ x. refl)
-      (goes-quiet k z a h s w m step may meets.0 (sym by.words) by.ever (plain made types by.place) (placed made types by.place) (λ o is. absurd (meets.1 o is)))
+      by-itself made types deed.Rests (λ x. refl)
+      (goes-quiet k z a h s w m step may meets.0 (sym by.words) by.ever (plain made types) (stood z a h s m (left made types)) (λ o is. absurd (meets.1 o is)))
   steps-go step (deed.Sets g d value) by meets =
       let made = ap (λ (e : Ever). e.made) by.ever in
       let types = ap (λ (e : Ever). e.type_of) by.ever in
-      by-itself made types by.place (deed.Sets g d value) (λ x. refl)
-      (takes-value k z a h s w m may step meets.0 g d value meets.2 meets.4 meets.5 (plain made types by.place) (sym by.words) by.ever (placed made types by.place) (λ o is. absurd (meets.1 o is)))
-  steps-go step (deed.Ends g) by meets = by-move (deed.Ends g) (heap.Ends step g) (subst (λ (t : Ask). heap.IsQuiet t) (sym meets.0) tt, meets.2) meets.0 (λ x. refl) by.words by.ever by.place
-  steps-go step (deed.Makes at g d t) by meets = by-move (deed.Makes at g d t) (heap.Make at g d t) meets.2 meets.1 (λ x. refl) (by.words ∙ ap (effect s.words) meets.0) by.ever by.place
-  steps-go step (deed.Puts n i value word) by meets = by-move (deed.Puts n i value word) (heap.Write n i value word) meets.2 meets.3 (λ x. refl) (by.words ∙ ap (effect s.words) meets.0) by.ever by.place
-  steps-go step (deed.PutsGlobal i value word) by meets = by-move (deed.PutsGlobal i value word) (heap.WriteGlobal i value word) meets.2 (meets.3, meets.4) (λ x. refl) (by.words ∙ ap (effect s.words) meets.0) by.ever by.place
+      by-itself made types (deed.Sets g d value) (λ x. refl)
+      (takes-value k z a h s w m may step meets.0 g d value meets.2 meets.4 meets.5 (plain made types) (sym by.words) by.ever (stood z a h s m (left made types)) (λ o is. absurd (meets.1 o is)))
+  steps-go step (deed.Ends g) by meets = by-other (ap (λ (e : Ever). e.made) by.ever) (ap (λ (e : Ever). e.type_of) by.ever) (deed.Ends g) (heap.Ends step g) (subst (λ (t : Ask). heap.IsQuiet t) (sym meets.0) tt, meets.2) meets.0 (λ x. refl) by.words by.ever refl
+  steps-go step (deed.Makes at g d t) by meets = by-move (deed.Makes at g d t) (heap.Make at g d t) meets.2 meets.1 (λ x. refl) (by.words ∙ ap (effect s.words) meets.0) by.ever
+      (made-there z a h s k.rows at g t meets.2.ready.claim.clear m (by.words ∙ ap (effect s.words) meets.0) (ap (λ (e : Ever). e.made) by.ever))
+  steps-go step (deed.Puts n i value word) by meets = by-other (ap (λ (e : Ever). e.made) by.ever) (ap (λ (e : Ever). e.type_of) by.ever) (deed.Puts n i value word) (heap.Write n i value word) meets.2 meets.3 (λ x. refl) (by.words ∙ ap (effect s.words) meets.0) by.ever refl
+  steps-go step (deed.PutsGlobal i value word) by meets = by-other (ap (λ (e : Ever). e.made) by.ever) (ap (λ (e : Ever). e.type_of) by.ever) (deed.PutsGlobal i value word) (heap.WriteGlobal i value word) meets.2 (meets.3, meets.4) (λ x. refl) (by.words ∙ ap (effect s.words) meets.0) by.ever refl
 
 pub deeds-go : Known → DeedsGoBeside
 deeds-go k z a h s m step d good marking bounded beside may by meets =

@@ -171,7 +171,7 @@ module _ (k : Known) (z : Cycle) (a : ℕ) (h : Heap) (s : Marking) (w : Togethe
   ] where
     of : at ≢ o → s.colour o ≡ Placing b → ClaimsSlot z.arena (view after) b o
     of ne was = elim (eqb_tells b a) [
-      | inr other ↦ fills-still k z a h s w move may o b other.1 was
+      | inr other ↦ fills-still k z a h s w.heap w.beside move may o b other.1 was
       | inl y ↦ let c = w.beside.filling o b was in record { size = c.size; claim = record { p = c.claim.p; h = c.claim.h; i = c.claim.i; held = c.claim.held; slot = c.claim.slot; clear = k.rows.sets_no_other (alloc_words s.words) at o ne ∙ c.claim.clear } }
     ]
 

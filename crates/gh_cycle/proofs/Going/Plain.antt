@@ -47,21 +47,22 @@ pub record GoesAlong (z : Cycle) (a : ℕ) (h : Heap) (s : Marking) (m : heap.Mo
   pub marked : (o : ℕ) → IsMarked (mark_words s.words) o → IsMarked (mark_words t.words) o
   pub hands : (x : InHand) → Hands a s x → Hands a t x
 
+-- the slots that others fill they claim still
+pub fills-still : Known → (z : Cycle) (a : ℕ) (h : Heap) (s : Marking) → Good z.arena (view (here h s)) → IsBeside z.arena (here h s) s → (m : heap.Move) → heap.May z.arena a (view (here h s)) m →
+    (o b : ℕ) → b ≢ a → s.colour o ≡ Placing b → ClaimsSlot z.arena (view (there z a h s m)) b o
+fills-still k z a h s g c m may o b ne is =
+    let d = c.filling o b is in
+    record { size = d.size; claim = (k.heap_facts z.arena b (view (here h s)) (view (there z a h s m)) (k.heap_leaves z.arena b a (here h s) m ne g may)).claim o d.size d.claim }
+
 module _ (k : Known) (z : Cycle) (a : ℕ) (h : Heap) (s : Marking) (w : Together z h s) where
   pub reaches-no-more : (m : heap.Move) → heap.May z.arena a (view (here h s)) m → name_made h.ever m ≡ None → (n : Name) → Reach (there z a h s m).ever n → Reach h.ever n
   reaches-no-more m may none n r = elim (k.reaches z.arena a (here h s) m may n r) [ inl was ↦ was | inr new ↦ absurd (cc (none, new)) ]
-
-  -- the slots that others fill they claim still
-  pub fills-still : (m : heap.Move) → heap.May z.arena a (view (here h s)) m → (o b : ℕ) → b ≢ a → s.colour o ≡ Placing b → ClaimsSlot z.arena (view (there z a h s m)) b o
-  fills-still m may o b ne is =
-      let c = w.beside.filling o b is in
-      record { size = c.size; claim = (k.heap_facts z.arena b (view (here h s)) (view (there z a h s m)) (k.heap_leaves z.arena b a (here h s) m ne w.heap may)).claim o c.size c.claim }
 
   -- and those that the seat fills, if it claims them still
   pub all-fill : (m : heap.Move) → heap.May z.arena a (view (here h s)) m → ((o : ℕ) → s.colour o ≡ Placing a → ClaimsSlot z.arena (view (there z a h s m)) a o) → (o b : ℕ) → s.colour o ≡ Placing b → ClaimsSlot z.arena (view (there z a h s m)) b o
   all-fill m may own o b is = elim (eqb_tells b a) [
     | inl y ↦ subst (λ (i : ℕ). ClaimsSlot z.arena (view (there z a h s m)) i o) (sym y.1) (own o (is ∙ ap Placing y.1))
-    | inr n ↦ fills-still m may o b n.1 is
+    | inr n ↦ fills-still k z a h s w.heap w.beside m may o b n.1 is
   ]
 
   module _ (m : heap.Move) (may : heap.May z.arena a (view (here h s)) m) (p : IsPlain z a h s m) (t : Marking) (g : GoesAlong z a h s m t) where

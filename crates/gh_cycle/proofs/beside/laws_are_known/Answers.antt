@@ -12,6 +12,7 @@ returns c = record {
   keeps = c.each_move_keeps-2.ensures;
   leaves = c.each_move_leaves-2.ensures;
   own = c.own_moves_leave.ensures.leave;
+  steps = c.steps_go_by_moves.ensures;
   guards = c.each_move_guards.ensures;
   hands = c.hands_follow.ensures;
 }

@@ -1,0 +1,133 @@
+-- What has become of a heap since a cycle began in it: how it begins, that it lasts, and what is marked at the end.
+use Rattle.std.proofs.Common.{◌≡◌, ℕ, suc, ◌<◌, true, cond, Bool, refl, sym, ap, subst, ◌∙◌, inl, inr, arith, Some}
+use Rattle.std.proofs.lemmas.Bool.{cases_Bool, eq-eqb}
+use Rattle.std.proofs.lemmas.Bool.Decides.{eqb_tells}
+use Rattle.gh_model.specs.Ever.{next_name}
+use Rattle.gh_heap.specs.Laws as heap_laws
+use Rattle.gh_heap.specs.Laws.{name_made}
+use Rattle.gh_heap.specs.Moves as heap
+use Rattle.gh_marks.specs.Good.{Good as MarkingGood}
+use Rattle.gh_marks.specs.Laws as marks_laws
+use Rattle.gh_marks.specs.Moves as marks
+use Rattle.gh_cycle.specs.Beside.{IsOfCycle}
+use Rattle.gh_cycle.specs.Reached.{TheReachedWereMade}
+use Rattle.gh_cycle.specs.Since.{CyclesBeginSo, HasGoneOn, TheLostAreNotMarked, TheMarkedWereReached, WhatHasGoneOnLasts}
+use Rattle.gh_cycle.specs.Vocabulary.{alloc_words, birth_word, birth_words, Cycle, Ever, Good, Heap, IsMade, Marking, Name, Placed, Reach, row_bit, RowsAreWritten, TheHeapIsApart, view, View, Words}
+use Rattle.gh_cycle.proofs.Endings.Ended.{zero_one}
+use Rattle.gh_cycle.proofs.Endings.Quiet.{quiet_view}
+use Rattle.gh_cycle.proofs.Marked.{marked-since}
+use Rattle.gh_cycle.proofs.Reaching.{name-itself}
+
+pub cycles-begin-so : TheHeapIsApart → TheReachedWereMade → CyclesBeginSo
+cycles-begin-so apart were_made z h s good bounds c = record {
+  made = λ n made. made;
+  lost = λ n made none reached. none reached;
+  of_cycle = λ n o made.
+      let w = (c.since (h.place n)).0 o.since in
+      subst (λ (m : Name). Reach h.ever m) ((apart z.arena (view h) good).once w.0 n (were_made z.arena h.ever bounds w.0 w.1) made (good.reached w.0 w.1) o.placed w.2) w.1;
+}
+
+pub record Known : Type 0 where
+  pub rows : RowsAreWritten
+  pub apart : TheHeapIsApart
+  pub keeps : heap_laws.EachMoveKeeps
+  pub leaves : heap_laws.EachMoveLeaves
+  pub reaches : heap_laws.EachMoveReachesNoMore
+  pub steps : marks_laws.EachStepGoesByMoves
+
+-- the name that a move makes was not made before
+not-new : (e : Ever) (m : heap.Move) (n : Name) → IsMade e.made n → name_made e m ≡ Some n → ⊥
+not-new e (heap.Make at g d t) n made is =
+    let same : next_name e g ≡ n = cc in
+    let below : e.made g < e.made g = subst (λ (x : Name). IsMade e.made x) (sym same) made in
+    omega (arith, below)
+not-new e _ n made is = cc
+
+module _ (k : Known) (z : Cycle) (a : ℕ) (h : Heap) (good : Good z.arena (view h)) where
+  abbrev after : heap.Move → Heap
+  after m = heap.moved z.arena a h m
+
+  -- what a move leaves to any other seat it leaves of objects
+  left : (m : heap.Move) → heap.May z.arena a (view h) m → heap.Others z.arena (suc a) (view h) (view (after m))
+  left m may = k.leaves z.arena (suc a) a h m (λ e. omega (arith, e)) good may
+
+  -- an object that was made before stands behind a move only where it stood before
+  abbrev StoodBefore : heap.Move → Type 0
+  StoodBefore m = (n : Name) → IsMade h.ever.made n → Placed (alloc_words (after m).words) (birth_words (after m).words) h.place n → Placed (alloc_words h.words) (birth_words h.words) h.place n
+
+  module _ (at g d t : ℕ) (may : heap.May z.arena a (view h) (heap.Make at g d t)) where
+    abbrev move : heap.Move
+    move = heap.Make at g d t
+
+    abbrev new : Name
+    new = next_name h.ever g
+
+    at-new : (after move).place new ≡ at
+    at-new = ap (λ (b : Bool). cond b at (h.place new)) (name-itself new)
+
+    new-made : IsMade (after move).ever.made new
+    new-made = rw (eq-eqb g g refl) (omega arith)
+
+    new-placed : Placed (alloc_words (after move).words) (birth_words h.words) (after move).place new
+    new-placed = record { set = ap (λ (x : ℕ). row_bit (alloc_words (after move).words) x) at-new ∙ k.rows.sets_one (alloc_words h.words) at; says = ap (birth_words h.words) at-new ∙ may.ready.birth }
+
+    -- what stands at the new object's place is the new object
+    same : (n : Name) → IsMade h.ever.made n → Placed (alloc_words (after move).words) (birth_words h.words) h.place n → at ≡ h.place n → n ≡ new
+    same n made p is = (k.apart z.arena (view (after move)) (k.keeps z.arena a h move good may)).once n new ((left move may).made n made) new-made old-placed new-placed (place-old ∙ sym is ∙ sym at-new) where
+      place-old : (after move).place n ≡ h.place n
+      place-old = (left move may).places n made
+
+      old-placed : Placed (alloc_words (after move).words) (birth_words h.words) (after move).place n
+      old-placed = record { set = ap (λ (x : ℕ). row_bit (alloc_words (after move).words) x) place-old ∙ p.set; says = ap (birth_words h.words) place-old ∙ p.says }
+
+    by-making : StoodBefore move
+    by-making n made p = elim (eqb_tells at (h.place n)) [
+      | inr ne ↦ record { set = sym (k.rows.sets_no_other (alloc_words h.words) at (h.place n) ne.1) ∙ p.set; says = p.says }
+      | inl y ↦ absurd (not-new h.ever move n made (ap (λ (x : Name). Some x) (sym (same n made p y.1))))
+    ]
+
+  stood-before : (m : heap.Move) → heap.May z.arena a (view h) m → StoodBefore m
+  stood-before (heap.Quiet step) may n made p = subst (λ (v : View). Placed v.alloc v.birth h.place n) (quiet_view h step may) p
+  stood-before (heap.Takes step g d value) may n made p = subst (λ (v : View). Placed v.alloc v.birth h.place n) (quiet_view h step may.0) p
+  stood-before (heap.Ends step g) may n made p = subst (λ (v : View). Placed v.alloc v.birth h.place n) (quiet_view h step may.0) p
+  stood-before (heap.SetBirth at size name) may n made p = elim (eqb_tells at (h.place n)) [
+    | inl y ↦ absurd (zero_one (row_bit (alloc_words h.words) at) may.clear (ap (λ (x : ℕ). row_bit (alloc_words h.words) x) y.1 ∙ p.set))
+    | inr ne ↦ record { set = p.set; says = subst (λ (b : Bool). cond b (birth_word name) (birth_words h.words (h.place n)) ≡ birth_word n) ne.0 p.says }
+  ]
+  stood-before (heap.Make at g d t) may n made p = by-making at g d t may n made p
+  stood-before _ may n made p = p
+
+  module _ (s t : Marking) (m : heap.Move) (began : Ever) (marking : MarkingGood z s) (may : heap.May z.arena a (view h) m) (went : marks.Went z a s t) (same : s.words ≡ h.words) (gone : HasGoneOn began h s) where
+    -- what stood is of the cycle only if it was before
+    since-before : (x : ℕ) → row_bit (alloc_words s.words) x ≡ 1 → t.since x ≡ true → s.since x ≡ true
+    since-before x set is = elim (cases_Bool (s.since x)) [
+      | inl y ↦ y
+      | inr dead ↦ absurd (let still = ((k.steps z a s t marking went).dead x (record { placed = set; dead = dead })).dead in cc)
+    ]
+
+    of-cycle-before : (n : Name) → IsMade h.ever.made n → IsOfCycle (after m) t n → IsOfCycle h s n
+    of-cycle-before n made o = record { made = made; placed = stood; since = since-before (h.place n) (ap (λ (w : Words). row_bit (alloc_words w) (h.place n)) same ∙ stood.set) (ap t.since (sym place-old) ∙ o.since) } where
+      place-old : (after m).place n ≡ h.place n
+      place-old = (left m may).places n made
+
+      stood : Placed (alloc_words h.words) (birth_words h.words) h.place n
+      stood = stood-before m may n made (record {
+        set = ap (λ (x : ℕ). row_bit (alloc_words (after m).words) x) (sym place-old) ∙ o.placed.set;
+        says = ap (birth_words (after m).words) (sym place-old) ∙ o.placed.says;
+      })
+
+    pub lasts : HasGoneOn began (after m) t
+    lasts = record {
+      made = λ n was. (left m may).made n (gone.made n was);
+      lost = λ n was none r. elim (k.reaches z.arena a h m may n r) [ inl before ↦ gone.lost n was none before | inr new ↦ not-new h.ever m n (gone.made n was) new ];
+      of_cycle = λ n o was. gone.of_cycle n (of-cycle-before n (gone.made n was) o) was;
+    }
+
+pub has-gone-on : Known → WhatHasGoneOnLasts
+has-gone-on k z a h s t m began good marking may went words same gone = lasts k z a h good s t m began marking may went same gone
+
+pub marked-were-reached : TheMarkedWereReached
+marked-were-reached z h s began good same none gone n placed marked made = gone.of_cycle n (record { made = gone.made n made; placed = placed; since = marked-since z s good none (h.place n) marked }) made
+
+pub lost-are-not-marked : TheMarkedWereReached → TheLostAreNotMarked
+lost-are-not-marked reached z h s began good same none gone n made lost placed marked = lost (reached z h s began good same none gone n placed marked made)
