@@ -22,6 +22,11 @@ pub registers_after : (P : Value → Type 0) (stacks : List (List Value)) (g d i
 registers_after P stacks g d i j v new nil old own =
     read_after_set (λ (stack : List Value). P (get_or stack j value.Nil)) stacks g i (set (get_or stacks g []) d v) [] (λ e. read_after_set P (get_or stacks g []) d j v value.Nil (λ f. new) (own j)) old
 
+-- it knows the same of the phase, and holds the same buffer
+pub record SameBuffer (p q : Polling) : Type 0 where
+  pub view : p.local.view ≡ q.local.view
+  pub held : p.local.held ≡ q.local.held
+
 module _ (shapes : List Shape) where
   -- it is at another task
   pub moved : (m : Processor) (t : Task) → Sound shapes m → SoundTask shapes m.poll m.made t → Sound shapes (at_task m t)
@@ -37,15 +42,19 @@ module _ (shapes : List Shape) where
   taken m g d (Some v) t s near h = record { registers = λ i j. registers_after (IsNear m.poll.layout.pages) m.poll.local.stacks g d i j v near tt (s.registers i j) (s.registers g); few = s.few; task = h }
 
   -- a statement's step was made
-  pub applied_sound : {S : Type 0} (P : S → Type 0) (goes : S → Task) (m : Processor) (g d : ℕ) (step : Step S) → Sound shapes m → StepSound P m.poll.layout.pages step → ((x : S) (p : Polling) → p.layout ≡ m.poll.layout → P x → SoundTask shapes p m.made (goes x)) → Sound shapes (applied goes m g d step)
+  pub applied_sound : {S : Type 0} (P : S → Type 0) (goes : S → Task) (m : Processor) (g d : ℕ) (step : Step S) → Sound shapes m → StepSound P m.poll.layout.pages step → ((x : S) (p : Polling) → p.layout ≡ m.poll.layout → SameBuffer p m.poll → P x → SoundTask shapes p m.made (goes x)) → Sound shapes (applied goes m g d step)
   applied_sound {S} P goes m g d step s h sound = by step.then h.next where
     same : (v : Option Value) → (taking m g d v).poll.layout ≡ m.poll.layout
     same None = refl
     same (Some v) = refl
 
+    buffer : (v : Option Value) → SameBuffer (taking m g d v).poll m.poll
+    buffer None = record { view = refl; held = refl }
+    buffer (Some v) = record { view = refl; held = refl }
+
     by : (t : Then S) → GoesTo P t → Sound shapes (at_task (taking m g d step.sets) (follows goes t))
     by (Ends a) p = taken m g d step.sets Idle s h.sets tt
-    by (GoesOn x) p = taken m g d step.sets (goes x) s h.sets (sound x (taking m g d step.sets).poll (same step.sets) p)
+    by (GoesOn x) p = taken m g d step.sets (goes x) s h.sets (sound x (taking m g d step.sets).poll (same step.sets) (buffer step.sets) p)
 
 -- the cached span of a span class is this now
 half : (c : SpanClass) (i : ℕ) → span_index c ≡ i → c.class ≡ i / 2

@@ -12,6 +12,9 @@ use Rattle.gh_alloc.specs.declared.place.PlaceStage.TheVariants as making
 use Rattle.gh_alloc.specs.Place as place
 use Rattle.gh_alloc.specs.Search as search
 use Rattle.gh_model.specs.Ever.{Ever}
+use Rattle.gh_barrier.specs.declared.pointer_cell.PointerCell.TheVariants as pointer_cell
+use Rattle.gh_barrier.specs.Listing.{Writing as PointerWrite}
+use Rattle.gh_barrier.specs.Listing as write
 use Rattle.gh_mutator.specs.declared.global.GlobalStage.TheVariants as global_stage
 use Rattle.gh_mutator.specs.declared.load.Load.{Load}
 use Rattle.gh_mutator.specs.declared.load.LoadStage.TheVariants as load_stage
@@ -19,18 +22,20 @@ use Rattle.gh_mutator.specs.declared.store.Store.{Store}
 use Rattle.gh_mutator.specs.declared.store.StoreStage.TheVariants as store_stage
 use Rattle.gh_mutator.specs.declared.task.Task.TheVariants as task
 use Rattle.gh_mutator.specs.Acting.{ActsOnce, EachOperationActsOnce}
+use Rattle.gh_mutator.specs.Barrier.{written}
 use Rattle.gh_mutator.specs.Deeds.{OnlyPointsChange, ProcessorsDeedsFit, acted, deeds, has_point, meaning, point_of, pointed}
 use Rattle.gh_mutator.specs.Fields.{has_field, is_pointer_by, kinds_differ, takes as takes_value, value_of}
 use Rattle.gh_mutator.specs.Global as global
 use Rattle.gh_mutator.specs.Leave as leave
 use Rattle.gh_mutator.specs.Listing.{Act, acting, acts, acts_at, begins_at, op_at}
 use Rattle.gh_mutator.specs.Load as load
+use Rattle.gh_mutator.specs.Local.{is_mark}
 use Rattle.gh_mutator.specs.New.{op_of as new_op, refuses, searches, unacted}
 use Rattle.gh_mutator.specs.Poll as poll
 use Rattle.gh_mutator.specs.Step.{ends, goes_on}
 use Rattle.gh_mutator.specs.Store as store
 use Rattle.gh_mutator.specs.Wait as wait
-use Rattle.gh_mutator.proofs.Vocabulary.{after_gc, after_leave, after_place, after_poll, after_search, after_wait, At, begins, cache_span, follows, Found, Global, GlobalStage, has_left_at, is_busy_at, Layout, Leaving, LoadStage, NewStage, NoRoom, Op, Place, PlaceStage, Placing, Processor, processor_kind, register_of, Search, Seeking, Shape, Step, StoreStage, takes, takes_at, Task, Value, Wait, Waiting, Wanted}
+use Rattle.gh_mutator.proofs.Vocabulary.{Local, after_gc, after_leave, after_place, after_poll, after_search, after_wait, At, begins, cache_span, follows, Found, Global, GlobalStage, has_left_at, is_busy_at, Layout, Leaving, LoadStage, NewStage, NoRoom, Op, Place, PlaceStage, Placing, Processor, processor_kind, register_of, Search, Seeking, Shape, Step, StoreStage, takes, takes_at, Task, Value, Wait, Waiting, Wanted}
 
 -- ---- a step of a statement acts once
 
@@ -65,20 +70,31 @@ store_page_acts : (x : Store) (b : Bool) → StoreActs x (cond b (goes_on (store
 store_page_acts x true = refl
 store_page_acts x false = (refl, refl)
 
-store_bits_acts : (x : Store) (b : Bool) → StoreActs x (cond b (ends (answer.Fault fault.Kind)) (goes_on (store.at_stage x store_stage.Field)))
-store_bits_acts x true = (refl, refl)
-store_bits_acts x false = refl
+store_bits_acts : (x : Store) (b : Bool) (s : StoreStage) → StoreActs x (cond b (ends (answer.Fault fault.Kind)) (goes_on (store.at_stage x s)))
+store_bits_acts x true s = (refl, refl)
+store_bits_acts x false s = refl
 
-store_acts : (l : Layout) (held : Value) (x : Store) (s : StoreStage) (found : ℕ) → StoreActs x (store.step_at l held x s found)
-store_acts l held x store_stage.NilBase found = (refl, refl)
-store_acts l held x store_stage.Page found = store_page_acts x (has_field x.k found)
-store_acts l held x store_stage.Bits found = store_bits_acts x (kinds_differ (is_pointer_by l (x.at + x.k) found) held)
-store_acts l held x store_stage.Field found = (refl, refl)
+-- the store of a pointer acts where its write ends
+store_write_acts : (x : Store) (w : PointerWrite) (out : Option (Unit {0})) → StoreActs x (store.after_write x w out)
+store_write_acts x w None = refl
+store_write_acts x w (Some y) = (refl, refl)
+
+store_acts : (l : Layout) (own : Local) (held : Value) (x : Store) (s : StoreStage) (found : ℕ) → StoreActs x (store.step_at l own held x s found)
+store_acts l own held x store_stage.NilBase found = (refl, refl)
+store_acts l own held x store_stage.Page found = store_page_acts x (has_field x.k found)
+store_acts l own held x store_stage.Bits found = let p = is_pointer_by l (x.at + x.k) found in store_bits_acts x (kinds_differ p held) (store.stores l own held x p)
+store_acts l own held x store_stage.Field found = (refl, refl)
+store_acts l own held x (store_stage.Writing w) found = store_write_acts x (write.goes w found) (write.gives w found)
+
+global_write_acts : (x : Global) (v w : PointerWrite) (out : Option (Unit {0})) → StepActs task.Global (Some (global.op_in x (global_stage.Writing v))) (global.op_in x (global_stage.Writing v)) (global.after_write x w out)
+global_write_acts x v w None = refl
+global_write_acts x v w (Some y) = (refl, refl)
 
 global_acts : (l : Layout) (held : Value) (x : Global) (s : GlobalStage) (found : ℕ) → StepActs task.Global (global.unacted x s) (global.op_in x s) (global.step_at l held x s found)
 global_acts l held x global_stage.Load found = value_acts (global.naming x) task.Global (global.op_in x global_stage.Load) (value_of l.pages true found) (λ a. refl)
 global_acts l held x (global_stage.Birth a) found = refl
 global_acts l held x global_stage.Store found = (refl, refl)
+global_acts l held x (global_stage.Writing w) found = global_write_acts x w (write.goes w found) (write.gives w found)
 global_acts l held x global_stage.Number found = (refl, refl)
 
 -- ---- each step acts once
@@ -147,7 +163,7 @@ module _ (shapes : List Shape) (m : Processor) where
   acts_once_at task.Idle found busy = absurd (cc)
   acts_once_at task.Left found busy = absurd (cc)
   acts_once_at (task.Load x) found busy = load_acts m.poll.layout x x.stage found
-  acts_once_at (task.Store x) found busy = store_acts m.poll.layout (register_of m x.g x.v) x x.stage found
+  acts_once_at (task.Store x) found busy = store_acts m.poll.layout m.poll.local (register_of m x.g x.v) x x.stage found
   acts_once_at (task.Global x) found busy = global_acts m.poll.layout (register_of m x.g x.r) x x.stage found
   acts_once_at (task.Register x) found busy = (refl, refl)
   acts_once_at (task.New x) found busy = new_acts x.wanted x.stage found
@@ -168,15 +184,21 @@ store_to_act g b k v value.Nil = refl
 store_to_act g b k v (value.Int n) = refl
 store_to_act g b k v (value.Ref r) = refl
 
-set_global_to_act : (g k v : ℕ) (x : Value) → op_at (task.Global (global.begins_store g k v x)) ≡ Some (op.SetGlobal g k v)
-set_global_to_act g k v value.Nil = refl
-set_global_to_act g k v (value.Int n) = refl
-set_global_to_act g k v (value.Ref r) = refl
+set_global_to_act : (l : Layout) (own : Local) (g k v : ℕ) (x : Value) → op_at (task.Global (global.begins_store l own g k v x)) ≡ Some (op.SetGlobal g k v)
+set_global_to_act l own g k v x = by x where
+  stores : (w : PointerWrite) (b : Bool) → op_at (task.Global (record { g = g; r = v; k = k; stage = cond b (global_stage.Writing w) global_stage.Store })) ≡ Some (op.SetGlobal g k v)
+  stores w true = refl
+  stores w false = refl
+
+  by : (x : Value) → op_at (task.Global (global.begins_store l own g k v x)) ≡ Some (op.SetGlobal g k v)
+  by value.Nil = stores (written l own (pointer_cell.Global k) value.Nil) (is_mark own.view.phase)
+  by (value.Int n) = refl
+  by (value.Ref r) = stores (written l own (pointer_cell.Global k) (value.Ref r)) (is_mark own.view.phase)
 
 to_act : (shapes : List Shape) (m : Processor) (o : Op) → is_busy_at (begins_at shapes m o) ≡ true → op_at (begins_at shapes m o) ≡ Some o
 to_act shapes m (op.Load g d b k) busy = load_to_act g d b k (register_of m g b)
 to_act shapes m (op.Store g b k v) busy = store_to_act g b k v (register_of m g b)
-to_act shapes m (op.SetGlobal g k v) busy = set_global_to_act g k v (register_of m g v)
+to_act shapes m (op.SetGlobal g k v) busy = set_global_to_act m.poll.layout m.poll.local g k v (register_of m g v)
 to_act shapes m _ busy = refl
 
 none_at_rest : (t : Task) → is_busy_at t ≡ false → op_at t ≡ None

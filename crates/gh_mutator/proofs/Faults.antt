@@ -14,12 +14,13 @@ use Rattle.gh_mutator.specs.Listing.{begins_at, once_ended}
 use Rattle.gh_mutator.specs.Load as load_listing
 use Rattle.gh_mutator.specs.Mutating.{begins, gives, goes, listing, marks_after, Mutating}
 use Rattle.gh_mutator.specs.New as new
+use Rattle.gh_mutator.specs.Processor.{keeping}
 use Rattle.gh_mutator.specs.Poll as poll
 use Rattle.gh_mutator.specs.Serving.{answer_at, is_serving}
 use Rattle.gh_mutator.specs.Step.{answered}
 use Rattle.gh_mutator.specs.Store as store_listing
 use Rattle.gh_mutator.specs.Wait as wait
-use Rattle.gh_mutator.proofs.Vocabulary.{after_gc, after_leave, after_poll, after_search, after_wait, answer_search, applied, asks_at, At, at_poll, at_task, begun_with, cache_span, Ends, follows, Found, gives_at, GoesOn, Leaving, makes, Name, NewStage, NoRoom, Op, Place, Placing, Processor, register_of, rested, Search, Seeking, Shape, Step, takes_at, taking, Task, Then, told, Value, Wait, Waiting, Wanted}
+use Rattle.gh_mutator.proofs.Vocabulary.{Held, after_gc, after_leave, after_poll, after_search, after_wait, answer_search, applied, asks_at, At, at_poll, at_task, begun_with, cache_span, Ends, follows, Found, gives_at, GoesOn, Leaving, makes, Name, NewStage, NoRoom, Op, Place, Placing, Processor, register_of, rested, Search, Seeking, Shape, Step, takes_at, taking, Task, Then, told, Value, Wait, Waiting, Wanted}
 use Rattle.gh_mutator.proofs.GlobalSteps as global
 use Rattle.gh_mutator.proofs.LoadSteps as load
 use Rattle.gh_mutator.proofs.Steps.{FaultsFrom, GoesTo}
@@ -51,6 +52,15 @@ from_step {S} may into m g d x step is f = by step.then step.sets f.here f.keeps
     here = λ cause e. absurd (cc);
     before = λ e. let h = before (sym (is y) ∙ e) in (is x ∙ h.0, ap (λ (v : Option Value). at_task (taking m g d v) (into y)) h.1, refl);
   }
+
+-- what a step leaves that may hold another buffer then: where a fault is answered, or may be, it holds the same
+keeps_buffer : (m : Processor) (t : Task) (held : Option Held) (next : Processor) (given : Option Answer) → (may_fault t ≡ true → held ≡ m.poll.local.held) → (with : Option Held → Processor) → with m.poll.local.held ≡ next → (with held).task ≡ next.task → FaultsAt m t next given → FaultsAt m t (with held) given
+keeps_buffer m t held next given still with same task_is f = record {
+  here = λ cause e. let h = f.here cause e in (h.0, ap with (still h.0) ∙ same ∙ h.1);
+  before = λ e.
+      let h = f.before (ap may_fault (sym task_is) ∙ e) in
+      (h.0, ap with (still h.0) ∙ same ∙ h.1 ∙ ap (λ (q : Task). at_task m q) (sym task_is), h.2);
+}
 
 -- an object is looked for or made: no fault is answered
 
@@ -102,8 +112,10 @@ leave_faults n m t x (Some y) = none_at n t _ _ (λ cause e. absurd (cc)) refl
 module _ (shapes : List Shape) where
   faults_at : (m : Processor) (t : Task) (found : ℕ) → FaultsAt m t (takes_at shapes (at_task m t) t found) (gives_at (at_task m t) t found)
   faults_at m (task.Load x) found = from_step load.may_fault task.Load m x.g x.d x (load_listing.step m.poll.layout x found) (λ y. refl) (load.faults m.poll.layout x found)
-  faults_at m (task.Store x) found = from_step store.may_fault task.Store m x.g x.v x (store_listing.step m.poll.layout (register_of m x.g x.v) x found) (λ y. refl) (store.faults m.poll.layout (register_of m x.g x.v) x found)
-  faults_at m (task.Global x) found = from_step global.may_fault task.Global m x.g x.r x (global_listing.step m.poll.layout (register_of m x.g x.r) x found) (λ y. refl) (global.faults m.poll.layout (register_of m x.g x.r) x found)
+  faults_at m (task.Store x) found = keeps_buffer m (task.Store x) (store_listing.held_behind m.poll.local.held x.stage found) (applied task.Store m x.g x.v (store_listing.step m.poll.layout m.poll.local (register_of m x.g x.v) x found)) _ (store.holds_still m.poll.local.held x.stage found) (λ held. applied task.Store (keeping m held) x.g x.v (store_listing.step m.poll.layout m.poll.local (register_of m x.g x.v) x found)) refl refl
+      (from_step store.may_fault task.Store m x.g x.v x (store_listing.step m.poll.layout m.poll.local (register_of m x.g x.v) x found) (λ y. refl) (store.faults m.poll.layout m.poll.local (register_of m x.g x.v) x found))
+  faults_at m (task.Global x) found = keeps_buffer m (task.Global x) (global_listing.held_behind m.poll.local.held x.stage found) (applied task.Global m x.g x.r (global_listing.step m.poll.layout (register_of m x.g x.r) x found)) _ (global.holds_still m.poll.local.held x.stage found) (λ held. applied task.Global (keeping m held) x.g x.r (global_listing.step m.poll.layout (register_of m x.g x.r) x found)) refl refl
+      (from_step global.may_fault task.Global m x.g x.r x (global_listing.step m.poll.layout (register_of m x.g x.r) x found) (λ y. refl) (global.faults m.poll.layout (register_of m x.g x.r) x found))
   faults_at m (task.New x) found = new_faults shapes m (at_task m (task.New x)) (task.New x) x.wanted x.stage found
   faults_at m (task.Gc g x) found = gc_faults m (at_task m (task.Gc g x)) (task.Gc g x) g (wait.goes (wait.waiting x m.poll) found) (wait.gives (wait.waiting x m.poll) found)
   faults_at m task.Poll found = poll_faults m (at_task m task.Poll) task.Poll (poll.goes m.poll found) (poll.gives m.poll found)

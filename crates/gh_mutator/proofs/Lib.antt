@@ -15,9 +15,11 @@ pub mod Leaving
 pub mod Lists
 pub mod LoadSteps
 pub mod NewSteps
+mod Going
 mod Holding
 mod Marking
 mod Owning
+pub mod PollRoom
 pub mod PollScans
 pub mod Polling
 pub mod Refusing

@@ -1,3 +1,4 @@
+pub mod Barrier
 pub mod Begins
 pub mod Cache
 pub mod End

@@ -1,10 +1,14 @@
 -- Each step, and each beginning, keeps what the processor knows of its own state, whatever was found.
 use Rattle.std.proofs.Common.{◌≡◌, ℕ, zero, suc, ◌≤◌, ◌⊎◌, inl, inr, true, false, List, [], get_or, replicate, refl, sym, ◌∙◌, subst, Option, Some, None, IsNone, arith}
-use Rattle.gh_mutator.specs.Vocabulary.{Polling, Register, Source, ShapesFit}
+use Rattle.gh_mutator.specs.Vocabulary.{Global, GlobalStage, Polling, Register, ShapesFit, Source, Store, StoreStage}
 use Rattle.gh_base.specs.declared.operation.Op.TheVariants as op
 use Rattle.gh_base.specs.declared.value.Value.TheVariants as value
+use Rattle.gh_base.specs.declared.held.Held.{Held}
+use Rattle.gh_mutator.specs.declared.global.GlobalStage.TheVariants as global_stage
+use Rattle.gh_mutator.specs.declared.store.StoreStage.TheVariants as store_stage
 use Rattle.gh_mutator.specs.declared.register.Source.TheVariants as source
 use Rattle.gh_mutator.specs.declared.task.Task.TheVariants as task
+use Rattle.gh_mutator.specs.Barrier.{with_held}
 use Rattle.gh_mutator.specs.Give as give
 use Rattle.gh_mutator.specs.Global as global_listing
 use Rattle.gh_mutator.specs.Leave as leave
@@ -14,21 +18,21 @@ use Rattle.gh_mutator.specs.Load as load_listing
 use Rattle.gh_mutator.specs.Local.{register_in, with_nothing}
 use Rattle.gh_mutator.specs.Poll as poll
 use Rattle.gh_mutator.specs.PollEnds as poll_proved
-use Rattle.gh_mutator.specs.Processor.{opening_processor}
+use Rattle.gh_mutator.specs.Processor.{at_task, keeping, opening_processor}
 use Rattle.gh_mutator.specs.Register.{read_of, step, value_from}
 use Rattle.gh_mutator.specs.Serving.{is_making}
-use Rattle.gh_mutator.specs.Sound.{has_names, IsNear, most_objects, Sound, SoundGlobal, SoundLoad, SoundOp, SoundRegister, SoundStore, SoundTask}
+use Rattle.gh_mutator.specs.Sound.{GlobalRoom, has_names, has_room, IsNear, most_objects, Sound, SoundGlobal, SoundLoad, SoundOp, SoundRegister, SoundStore, SoundTask, StoreRoom}
 use Rattle.gh_mutator.specs.Store as store_listing
 use Rattle.gh_mutator.specs.Wait as wait
 use Rattle.gh_mutator.specs.WaitEnds as wait_proved
 use Rattle.gh_mutator.proofs.Vocabulary.{after_gc, after_leave, after_poll, begins, FitsWait, Layout, Leaving, leaving, ltb-true, Op, Processor, read_replicate, register_of, Shape, takes, takes_at, Task, Value, Waiting, wanted_of, with_ended}
-use Rattle.gh_mutator.proofs.Changes.{applied_sound, moved, polled}
+use Rattle.gh_mutator.proofs.Changes.{applied_sound, moved, polled, SameBuffer}
 use Rattle.gh_mutator.proofs.ClassFacts.{ClassLaws, wanted_sound}
 use Rattle.gh_mutator.proofs.GlobalSteps as global
 use Rattle.gh_mutator.proofs.LoadSteps as load
 use Rattle.gh_mutator.proofs.NewSteps as new
 use Rattle.gh_mutator.proofs.Stacks.{poll_stacks, wait_stacks}
-use Rattle.gh_mutator.proofs.Steps.{StepSound}
+use Rattle.gh_mutator.proofs.Steps.{goes_both, StepSound}
 use Rattle.gh_mutator.proofs.StoreSteps as store
 use Rattle.gh_mutator.proofs.Waits.{wait_fits}
 
@@ -67,14 +71,54 @@ leave_sound shapes m x None s layout busy = moved shapes m (task.Leave x) s (rec
 leave_sound shapes m x (Some y) s layout busy = moved shapes m task.Left s tt
 
 module _ (shapes : List Shape) where
+  -- with another buffer
+  kept : (m : Processor) (held : Option Held) → Sound shapes m → Sound shapes (at_task (keeping m held) task.Idle)
+  kept m held s = record { registers = s.registers; few = s.few; task = tt }
+
+  same_store : (p q : Polling) (s : StoreStage) → p.layout ≡ q.layout → SameBuffer p q → StoreRoom q s → StoreRoom p s
+  same_store p q store_stage.Page layout same h = rw (same.view, same.held) h
+  same_store p q store_stage.Bits layout same h = rw (same.view, same.held) h
+  same_store p q store_stage.Field layout same h = tt
+  same_store p q (store_stage.Writing w) layout same h = rw layout h
+  same_store p q store_stage.NilBase layout same h = tt
+
+  same_global : (p q : Polling) (s : GlobalStage) → p.layout ≡ q.layout → GlobalRoom q s → GlobalRoom p s
+  same_global p q global_stage.Load layout h = tt
+  same_global p q (global_stage.Birth at) layout h = tt
+  same_global p q global_stage.Store layout h = tt
+  same_global p q (global_stage.Writing w) layout h = rw layout h
+  same_global p q global_stage.Number layout h = tt
+
+  store_at : ClassLaws → (m : Processor) (x : Store) (found : ℕ) → Sound shapes m → SoundStore m.poll.layout.pages x → StoreRoom m.poll x.stage → Sound shapes (takes_at shapes m (task.Store x) found)
+  store_at laws m x found s h room =
+      let held = store_listing.held_behind m.poll.local.held x.stage found in
+      let step = store_listing.step m.poll.layout m.poll.local (register_of m x.g x.v) x found in
+      let sound = store.step_sound laws m.poll.layout m.poll.local (register_of m x.g x.v) x found h in
+      let Own : Store → Type 0 = λ y. SoundStore m.poll.layout.pages y in
+      let Room : Store → Type 0 = λ y. StoreRoom (with_held m.poll held) y.stage in
+      applied_sound shapes (λ y. Own y × Room y) task.Store (at_task (keeping m held) task.Idle) x.g x.v step (kept m held s)
+      (record { next = goes_both Own Room step.then sound.next (store.step_room m.poll (register_of m x.g x.v) x found room); sets = sound.sets })
+      (λ y p e b f. (rw e f.0, same_store p (with_held m.poll held) y.stage e b f.1))
+
+  global_at : (m : Processor) (x : Global) (found : ℕ) → Sound shapes m → SoundGlobal m.poll.layout.globals x → GlobalRoom m.poll x.stage → Sound shapes (takes_at shapes m (task.Global x) found)
+  global_at m x found s h room =
+      let held = global_listing.held_behind m.poll.local.held x.stage found in
+      let step = global_listing.step m.poll.layout (register_of m x.g x.r) x found in
+      let sound = global.step_sound m.poll.layout (register_of m x.g x.r) x found h in
+      let Own : Global → Type 0 = λ y. SoundGlobal m.poll.layout.globals y in
+      let Room : Global → Type 0 = λ y. GlobalRoom (with_held m.poll held) y.stage in
+      applied_sound shapes (λ y. Own y × Room y) task.Global (at_task (keeping m held) task.Idle) x.g x.r step (kept m held s)
+      (record { next = goes_both Own Room step.then sound.next (global.step_room m.poll (register_of m x.g x.r) x found room); sets = sound.sets })
+      (λ y p e b f. (rw e f.0, same_global p (with_held m.poll held) y.stage e f.1))
+
   -- where no object is looked for or made
   plain_at : ClassLaws → (m : Processor) (t : Task) (found : ℕ) → is_making t ≡ false → Sound shapes m → SoundTask shapes m.poll m.made t → Sound shapes (takes_at shapes m t found)
   plain_at laws m task.Idle found q s h = s
   plain_at laws m task.Left found q s h = s
-  plain_at laws m (task.Load x) found q s h = applied_sound shapes (SoundLoad m.poll.layout.pages) task.Load m x.g x.d (load_listing.step m.poll.layout x found) s (load.step_sound laws m.poll.layout x found h) (λ y p e f. rw e f)
-  plain_at laws m (task.Store x) found q s h = applied_sound shapes (SoundStore m.poll.layout.pages) task.Store m x.g x.v (store_listing.step m.poll.layout (register_of m x.g x.v) x found) s (store.step_sound laws m.poll.layout (register_of m x.g x.v) x found h) (λ y p e f. rw e f)
-  plain_at laws m (task.Global x) found q s h = applied_sound shapes (SoundGlobal m.poll.layout.globals) task.Global m x.g x.r (global_listing.step m.poll.layout (register_of m x.g x.r) x found) s (global.step_sound m.poll.layout (register_of m x.g x.r) x found h) (λ y p e f. rw e f)
-  plain_at laws m (task.Register x) found q s h = applied_sound shapes SoundRegister task.Register m x.g x.d (step (register_of m x.g (read_of x)) x) s (register_sound m.poll.layout.pages (register_of m x.g (read_of x)) x (s.registers _ _)) (λ y p e f. f)
+  plain_at laws m (task.Load x) found q s h = applied_sound shapes (SoundLoad m.poll.layout.pages) task.Load m x.g x.d (load_listing.step m.poll.layout x found) s (load.step_sound laws m.poll.layout x found h) (λ y p e b f. rw e f)
+  plain_at laws m (task.Store x) found q s h = store_at laws m x found s h.0 h.1
+  plain_at laws m (task.Global x) found q s h = global_at m x found s h.0 h.1
+  plain_at laws m (task.Register x) found q s h = applied_sound shapes SoundRegister task.Register m x.g x.d (step (register_of m x.g (read_of x)) x) s (register_sound m.poll.layout.pages (register_of m x.g (read_of x)) x (s.registers _ _)) (λ y p e b f. f)
   plain_at laws m (task.New x) found q s h = absurd (cc)
   plain_at laws m (task.Gc g x) found q s h = gc_sound shapes m g (wait.goes (wait.waiting x m.poll) found) (wait.gives (wait.waiting x m.poll) found) s (wait_proved.stays (wait.waiting x m.poll) found) (wait_stacks (wait.waiting x m.poll) found) (λ e. wait_fits (wait.waiting x m.poll) found h e)
   plain_at laws m task.Poll found q s h = poll_sound shapes m (poll.goes m.poll found) (poll.gives m.poll found) s (poll_proved.stays m.poll found) (poll_stacks m.poll found) (λ e. (poll_proved.ends m.poll found h).0 e)
@@ -88,19 +132,19 @@ module _ (shapes : List Shape) where
   pub plain_next : ClassLaws → (m : Processor) (found : ℕ) (next : Processor) → is_making m.task ≡ false → Sound shapes m → next ≡ takes shapes m found → Sound shapes next
   plain_next laws m found next plain s goes = subst (λ (n : Processor). Sound shapes n) (sym goes) (plain_sound laws m found plain s)
 
-  pub begins_sound : ClassLaws → (m : Processor) (o : Op) → ShapesFit shapes → Sound shapes m → SoundOp shapes m.poll.layout o → has_names m o ≡ true → Sound shapes (begins shapes m o)
-  begins_sound laws m (op.New g d t) fit s h n = new.begins_sound shapes m (wanted_of shapes g d t) s (wanted_sound laws shapes g d t fit h.1 h.0) (ltb-true _ _ n)
-  begins_sound laws m (op.Load g d b k) fit s h n = moved shapes m _ s (load.begins_sound m.poll.layout g d b k (register_of m g b) h.0 (s.registers _ _))
-  begins_sound laws m (op.Store g b k v) fit s h n = moved shapes m _ s (store.begins_sound m.poll.layout g b k v (register_of m g b) (h.0.0, h.1) (s.registers _ _))
-  begins_sound laws m (op.GetGlobal g d k) fit s h n = moved shapes m _ s (record { register = h.0; global = h.1 })
-  begins_sound laws m (op.SetGlobal g k v) fit s h n = moved shapes m _ s (global.begins_store_sound m.poll.layout g k v (register_of m g v) h.0 h.1)
-  begins_sound laws m (op.Int g d x) fit s h n = moved shapes m _ s (record { register = h; read = h.1 })
-  begins_sound laws m (op.Move g d x) fit s h n = moved shapes m _ s (record { register = h.0; read = h.1 })
-  begins_sound laws m (op.Nil g d) fit s h n = moved shapes m _ s (record { register = h; read = h.1 })
-  begins_sound laws m (op.Gc g) fit s h n = moved shapes m _ s (record { busy = refl; polls = tt })
-  begins_sound laws m op.Poll fit s h n = polled shapes m (poll.begins m.poll false) task.Poll s refl refl refl
-  begins_sound laws m (op.End g) fit s h n = moved shapes m _ s h
-  begins_sound laws m op.Leave fit s h n = polled shapes m (with_nothing m.poll) (task.Leave (leaving m.poll)) s refl refl (record { busy = stage_busy (give.opening m.poll.layout m.poll.seat m.poll.local.view.generation m.poll.local.cache m.poll.local.held); layout = refl })
+  pub begins_sound : ClassLaws → (m : Processor) (o : Op) → ShapesFit shapes → Sound shapes m → SoundOp shapes m.poll.layout o → has_names m o ≡ true → has_room m o ≡ true → Sound shapes (begins shapes m o)
+  begins_sound laws m (op.New g d t) fit s h n r = new.begins_sound shapes m (wanted_of shapes g d t) s (wanted_sound laws shapes g d t fit h.1 h.0) (ltb-true _ _ n)
+  begins_sound laws m (op.Load g d b k) fit s h n r = moved shapes m _ s (load.begins_sound m.poll.layout g d b k (register_of m g b) h.0 (s.registers _ _))
+  begins_sound laws m (op.Store g b k v) fit s h n r = moved shapes m _ s (store.begins_sound m.poll.layout g b k v (register_of m g b) (h.0.0, h.1) (s.registers _ _), store.begins_room m.poll g b k v (register_of m g b) r)
+  begins_sound laws m (op.GetGlobal g d k) fit s h n r = moved shapes m _ s (record { register = h.0; global = h.1 }, tt)
+  begins_sound laws m (op.SetGlobal g k v) fit s h n r = moved shapes m _ s (global.begins_store_sound m.poll.layout m.poll.local g k v (register_of m g v) h.0 h.1, global.begins_room m.poll g k v (register_of m g v))
+  begins_sound laws m (op.Int g d x) fit s h n r = moved shapes m _ s (record { register = h; read = h.1 })
+  begins_sound laws m (op.Move g d x) fit s h n r = moved shapes m _ s (record { register = h.0; read = h.1 })
+  begins_sound laws m (op.Nil g d) fit s h n r = moved shapes m _ s (record { register = h; read = h.1 })
+  begins_sound laws m (op.Gc g) fit s h n r = moved shapes m _ s (record { busy = refl; polls = tt })
+  begins_sound laws m op.Poll fit s h n r = polled shapes m (poll.begins m.poll false) task.Poll s refl refl refl
+  begins_sound laws m (op.End g) fit s h n r = moved shapes m _ s h
+  begins_sound laws m op.Leave fit s h n r = polled shapes m (with_nothing m.poll) (task.Leave (leaving m.poll)) s refl refl (record { busy = stage_busy (give.opening m.poll.layout m.poll.seat m.poll.local.view.generation m.poll.local.cache m.poll.local.held); layout = refl })
 
   pub opening_sound : (l : Layout) (seat : ℕ) → Sound shapes (opening_processor l seat)
   opening_sound l seat = record {

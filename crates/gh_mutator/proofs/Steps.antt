@@ -20,6 +20,10 @@ module _ {S : Type 0} where
   GoesTo P (GoesOn s) = P s
   GoesTo P (Ends a) = Unit {0}
 
+  pub goes_both : (P Q : S → Type 0) (t : Then S) → GoesTo P t → GoesTo Q t → GoesTo (λ (s : S). P s × Q s) t
+  goes_both P Q (GoesOn s) p q = (p, q)
+  goes_both P Q (Ends a) p q = tt
+
   -- the numbers of the statement stay in their ranges, and so do those of the register
   pub record StepSound (P : S → Type 0) (pages : ℕ) (step : Step S) : Type 0 where
     pub next : GoesTo P step.then

@@ -9,15 +9,17 @@ use Rattle.gh_phase.specs.declared.view.RunPhase.TheVariants as run
 use Rattle.gh_phase.specs.Handshake.{Gone, Resumes}
 use Rattle.gh_phase.specs.Views.{run_phase}
 use Rattle.gh_mutator.specs.declared.give.GiveStage.TheVariants.{GiveBuffer}
+use Rattle.gh_mutator.specs.declared.global.GlobalStage.TheVariants as global_stage
 use Rattle.gh_mutator.specs.declared.leave.LeaveStage.TheVariants as leave_stage
 use Rattle.gh_mutator.specs.declared.poll.PollStage.TheVariants.{FindRoom, Giving, Marking}
+use Rattle.gh_mutator.specs.declared.store.StoreStage.TheVariants as store_stage
 use Rattle.gh_mutator.specs.declared.task.Task.TheVariants as task
 use Rattle.gh_mutator.specs.declared.wait.WaitStage.TheVariants as wait_stage
 use Rattle.gh_mutator.specs.Give as give
 use Rattle.gh_mutator.specs.Listing.{asks, is_busy_at, takes}
 use Rattle.gh_mutator.specs.MarkVocabulary.{Party, Stage, Cell, Cycle, GiveStage, IsParked, LeaveStage, PollStage, Shared, SoundPlace, WaitStage, Words, effect, opening_processor, party_of, processor_kind, stage_of}
 use Rattle.gh_mutator.specs.ProcessorMarks.{MarkFacts}
-use Rattle.gh_mutator.specs.Vocabulary.{Ask, Layout, NewStage, Op, Place, Polling, Processor, Shape, Task, Wait}
+use Rattle.gh_mutator.specs.Vocabulary.{Ask, GlobalStage, Layout, NewStage, StoreStage, Op, Place, Polling, Processor, Shape, Task, Wait}
 use Rattle.gh_mutator.specs.Writing.{EndsStack, WritesOf}
 
 -- No buffer is held, also within the giving back.
@@ -39,6 +41,15 @@ abbrev pub LeavesWithNone : LeaveStage → Type 0
 LeavesWithNone (leave_stage.Giving g) = GivesNoBuffer g
 LeavesWithNone _ = Unit {0}
 
+-- no write of a pointer is begun
+abbrev pub StoresWithNone : StoreStage → Type 0
+StoresWithNone (store_stage.Writing w) = ⊥
+StoresWithNone _ = Unit {0}
+
+abbrev pub SetsWithNone : GlobalStage → Type 0
+SetsWithNone (global_stage.Writing w) = ⊥
+SetsWithNone _ = Unit {0}
+
 module _ (p : Polling) where
   abbrev pub WaitsWithNone : WaitStage → Type 0
   WaitsWithNone wait_stage.Polling = PollsWithNone p.stage
@@ -51,6 +62,8 @@ module _ (p : Polling) where
   MakesWithNone _ = Unit {0}
 
   abbrev pub RunsWithNone : Task → Type 0
+  RunsWithNone (task.Store x) = StoresWithNone x.stage
+  RunsWithNone (task.Global x) = SetsWithNone x.stage
   RunsWithNone task.Poll = PollsWithNone p.stage
   RunsWithNone (task.New x) = MakesWithNone x.stage
   RunsWithNone (task.Gc g x) = WaitsWithNone x.stage

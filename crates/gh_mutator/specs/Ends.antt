@@ -14,7 +14,7 @@ use Rattle.gh_mutator.specs.New.{after_found, after_place, after_search, after_w
 use Rattle.gh_mutator.specs.New as new
 use Rattle.gh_mutator.specs.Poll as poll
 use Rattle.gh_mutator.specs.PollEnds as poll_proved
-use Rattle.gh_mutator.specs.Processor.{cache_span, register_of, taking}
+use Rattle.gh_mutator.specs.Processor.{cache_span, keeping, register_of, taking}
 use Rattle.gh_mutator.specs.Step.{answered}
 use Rattle.gh_mutator.specs.Store as store
 use Rattle.gh_mutator.specs.Wait as wait
@@ -70,7 +70,7 @@ ends_at : (shapes : List Shape) (m : Processor) (t : Task) (found : ℕ) → is_
 ends_at shapes m task.Idle found busy = absurd (cc)
 ends_at shapes m task.Left found busy = absurd (cc)
 ends_at shapes m (task.Load x) found busy = then_ends task.Load (load.step m.poll.layout x found).then (λ s. refl)
-ends_at shapes m (task.Store x) found busy = then_ends task.Store (store.step m.poll.layout (register_of m x.g x.v) x found).then (λ s. refl)
+ends_at shapes m (task.Store x) found busy = then_ends task.Store (store.step m.poll.layout m.poll.local (register_of m x.g x.v) x found).then (λ s. refl)
 ends_at shapes m (task.Global x) found busy = then_ends task.Global (global.step m.poll.layout (register_of m x.g x.r) x found).then (λ s. refl)
 ends_at shapes m (task.Register x) found busy = ended answer.Done
 ends_at shapes m (task.New x) found busy = new_ends shapes m x.wanted x.stage found
@@ -123,8 +123,8 @@ pub stays_at : (shapes : List Shape) (m : Processor) (t : Task) (found : ℕ) �
 stays_at shapes m task.Idle found = refl
 stays_at shapes m task.Left found = refl
 stays_at shapes m (task.Load x) found = takes_stay m x.g x.d (load.step m.poll.layout x found).sets
-stays_at shapes m (task.Store x) found = takes_stay m x.g x.v (store.step m.poll.layout (register_of m x.g x.v) x found).sets
-stays_at shapes m (task.Global x) found = takes_stay m x.g x.r (global.step m.poll.layout (register_of m x.g x.r) x found).sets
+stays_at shapes m (task.Store x) found = takes_stay (keeping m (store.held_behind m.poll.local.held x.stage found)) x.g x.v (store.step m.poll.layout m.poll.local (register_of m x.g x.v) x found).sets
+stays_at shapes m (task.Global x) found = takes_stay (keeping m (global.held_behind m.poll.local.held x.stage found)) x.g x.r (global.step m.poll.layout (register_of m x.g x.r) x found).sets
 stays_at shapes m (task.Register x) found = refl
 stays_at shapes m (task.New x) found = new_stays shapes m x.wanted x.stage found
 stays_at shapes m (task.Gc g x) found = rw (gc_stays m g (wait.goes (wait.waiting x m.poll) found) (wait.gives (wait.waiting x m.poll) found)) (wait_proved.stays (wait.waiting x m.poll) found)

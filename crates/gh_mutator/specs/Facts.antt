@@ -15,17 +15,20 @@ use Rattle.gh_alloc.specs.Find.{span_for}
 use Rattle.gh_alloc.specs.FindFacts.{own_found, with_span}
 use Rattle.gh_alloc.specs.PlaceFacts as place
 use Rattle.gh_alloc.specs.SearchFacts as search
+use Rattle.gh_barrier.specs.declared.pointer_cell.PointerCell.TheVariants as pointer_cell
 use Rattle.gh_mutator.specs.declared.global.GlobalStage.TheVariants as global_stage
 use Rattle.gh_mutator.specs.declared.load.LoadStage.TheVariants as load_stage
 use Rattle.gh_mutator.specs.declared.register.Source.TheVariants as source
 use Rattle.gh_mutator.specs.declared.store.StoreStage.TheVariants as store_stage
 use Rattle.gh_mutator.specs.declared.task.Task.TheVariants as task
+use Rattle.gh_mutator.specs.Barrier.{WritesIt}
 use Rattle.gh_mutator.specs.Deeds.{acted, answer_at}
 use Rattle.gh_mutator.specs.Listing.{Act, acts, asks, gives, takes}
-use Rattle.gh_mutator.specs.Local.{cache_with}
+use Rattle.gh_mutator.specs.Local.{cache_with, register_at}
 use Rattle.gh_mutator.specs.New.{is_made, own_span, sought_for, wanted_of}
 use Rattle.gh_mutator.specs.PollHeap.{leave_held, leave_locked, LeaveFacts, lists, no_page, poll_held, poll_locked, PollFacts, Rests, Stands, WaitFacts, waits_held, waits_locked}
 use Rattle.gh_mutator.specs.Processor.{cached_for}
+use Rattle.gh_mutator.specs.Store.{pointer_cell_at}
 use Rattle.gh_mutator.specs.Wait.{waiting}
 
 -- what is answered where it acts, in the heap that never frees
@@ -152,17 +155,22 @@ pub record Stores (z : Arena) (a : ℕ) (v : View) (x : Store) (pending : Option
   pub register : x.v < REGISTERS
   pub unanswered : pending ≡ None
 
-abbrev pub StoreFacts : Arena → (a : ℕ) → View → Store → Option Answer → StoreStage → Type 0
-StoreFacts z a v x pending store_stage.Page = Stores z a v x pending
-StoreFacts z a v x pending store_stage.Bits = (l : Stores z a v x pending) × (x.k < size_for z.shapes v.ever.type_of l.n)
-StoreFacts z a v x pending store_stage.Field = (l : Stores z a v x pending) × (x.k < size_for z.shapes v.ever.type_of l.n) × (fits (points z.shapes v.ever.type_of l.n x.k) (v.ever.register x.g x.v) ≡ true)
-StoreFacts z a v x pending store_stage.NilBase = Runs z v a x.g × (x.b < REGISTERS) × IsPlain (v.ever.register x.g x.b) × (pending ≡ None)
+-- behind the barrier it writes what its register holds
+abbrev pub StoreFacts : Arena → (a : ℕ) → View → Polling → Store → Option Answer → StoreStage → Type 0
+StoreFacts z a v p x pending store_stage.Page = Stores z a v x pending
+StoreFacts z a v p x pending store_stage.Bits = (l : Stores z a v x pending) × (x.k < size_for z.shapes v.ever.type_of l.n)
+StoreFacts z a v p x pending store_stage.Field = (l : Stores z a v x pending) × (x.k < size_for z.shapes v.ever.type_of l.n) × (fits (points z.shapes v.ever.type_of l.n x.k) (v.ever.register x.g x.v) ≡ true)
+StoreFacts z a v p x pending (store_stage.Writing w) =
+    (l : Stores z a v x pending) × (x.k < size_for z.shapes v.ever.type_of l.n) × (fits (points z.shapes v.ever.type_of l.n x.k) (v.ever.register x.g x.v) ≡ true) × WritesIt z.layout (pointer_cell_at p.layout (x.at + x.k)) (register_at p x.g x.v) w
+StoreFacts z a v p x pending store_stage.NilBase = Runs z v a x.g × (x.b < REGISTERS) × IsPlain (v.ever.register x.g x.b) × (pending ≡ None)
 
-abbrev pub GlobalFacts : Arena → (a : ℕ) → View → Global → Option Answer → GlobalStage → Type 0
-GlobalFacts z a v x pending global_stage.Load = Runs z v a x.g × (x.r < REGISTERS) × (x.k < z.layout.globals) × (pending ≡ None)
-GlobalFacts z a v x pending (global_stage.Birth at) = Takes z a v x.g x.r at pending
-GlobalFacts z a v x pending global_stage.Store = Runs z v a x.g × (x.r < REGISTERS) × (x.k < z.layout.globals) × (is_number (v.ever.register x.g x.r) ≡ false) × (pending ≡ None)
-GlobalFacts z a v x pending global_stage.Number = Runs z v a x.g × (is_number (v.ever.register x.g x.r) ≡ true) × (pending ≡ None)
+abbrev pub GlobalFacts : Arena → (a : ℕ) → View → Polling → Global → Option Answer → GlobalStage → Type 0
+GlobalFacts z a v p x pending global_stage.Load = Runs z v a x.g × (x.r < REGISTERS) × (x.k < z.layout.globals) × (pending ≡ None)
+GlobalFacts z a v p x pending (global_stage.Birth at) = Takes z a v x.g x.r at pending
+GlobalFacts z a v p x pending global_stage.Store = Runs z v a x.g × (x.r < REGISTERS) × (x.k < z.layout.globals) × (is_number (v.ever.register x.g x.r) ≡ false) × (pending ≡ None)
+GlobalFacts z a v p x pending (global_stage.Writing w) =
+    Runs z v a x.g × (x.r < REGISTERS) × (x.k < z.layout.globals) × (is_number (v.ever.register x.g x.r) ≡ false) × WritesIt z.layout (pointer_cell.Global x.k) (register_at p x.g x.r) w × (pending ≡ None)
+GlobalFacts z a v p x pending global_stage.Number = Runs z v a x.g × (is_number (v.ever.register x.g x.r) ≡ true) × (pending ≡ None)
 
 abbrev pub RegisterFacts : Arena → (a : ℕ) → View → Register → Option Answer → Source → Type 0
 RegisterFacts z a v x pending (source.Move s) = Runs z v a x.g × (x.d < REGISTERS) × (s < REGISTERS) × (pending ≡ None)
@@ -208,8 +216,8 @@ NewFacts z a v m w pending (Place p) = Makes z a v m w p pending
 
 abbrev pub FactsAt : Arena → (a : ℕ) → View → Processor → Option Answer → Task → Type 0
 FactsAt z a v m pending (task.Load x) = LoadFacts z a v x pending x.stage
-FactsAt z a v m pending (task.Store x) = StoreFacts z a v x pending x.stage
-FactsAt z a v m pending (task.Global x) = GlobalFacts z a v x pending x.stage
+FactsAt z a v m pending (task.Store x) = StoreFacts z a v m.poll x pending x.stage
+FactsAt z a v m pending (task.Global x) = GlobalFacts z a v m.poll x pending x.stage
 FactsAt z a v m pending (task.Register x) = RegisterFacts z a v x pending x.source
 FactsAt z a v m pending (task.New x) = NewFacts z a v m x.wanted pending x.stage
 FactsAt z a v m pending (task.End g) = Runs z v a g × (pending ≡ None)

@@ -1,4 +1,6 @@
 pub mod Acting
+pub mod Barrier
+pub mod Beside
 pub mod Cached
 pub mod Calm
 pub mod Collecting
@@ -34,6 +36,7 @@ pub mod Poll
 pub mod PollEnds
 pub mod PollHeap
 pub mod PollHeapLaws
+pub mod PollRoom
 pub mod PollSound
 pub mod PollWithin
 pub mod Polls

@@ -15,7 +15,7 @@ use Rattle.gh_mutator.specs.Local.{leaving, with_ended, with_nothing}
 use Rattle.gh_mutator.specs.New as new
 use Rattle.gh_mutator.specs.New.{searches, seeking, wanted_of}
 use Rattle.gh_mutator.specs.Poll as poll
-use Rattle.gh_mutator.specs.Processor.{at_poll, at_task, register_of, taking}
+use Rattle.gh_mutator.specs.Processor.{at_poll, at_task, keeping, register_of, taking}
 use Rattle.gh_mutator.specs.Register as register
 use Rattle.gh_mutator.specs.Step.{answered}
 use Rattle.gh_mutator.specs.Store as store
@@ -33,7 +33,7 @@ begins_at shapes m (op.New g d t) = searches (wanted_of shapes g d t) false (see
 begins_at shapes m (op.Load g d b k) = task.Load (load.begins g d b k (register_of m g b))
 begins_at shapes m (op.Store g b k v) = task.Store (store.begins g b k v (register_of m g b))
 begins_at shapes m (op.GetGlobal g d k) = task.Global (global.begins_load g d k)
-begins_at shapes m (op.SetGlobal g k v) = task.Global (global.begins_store g k v (register_of m g v))
+begins_at shapes m (op.SetGlobal g k v) = task.Global (global.begins_store m.poll.layout m.poll.local g k v (register_of m g v))
 begins_at shapes m (op.Int g d n) = task.Register (register.begins g d (source.Int n))
 begins_at shapes m (op.Move g d s) = task.Register (register.begins g d (source.Move s))
 begins_at shapes m (op.Nil g d) = task.Register (register.begins g d source.Nil)
@@ -97,8 +97,8 @@ abbrev pub takes_at : List Shape → Processor → Task → (found : ℕ) → Pr
 takes_at shapes m task.Idle found = m
 takes_at shapes m task.Left found = m
 takes_at shapes m (task.Load x) found = applied task.Load m x.g x.d (load.step m.poll.layout x found)
-takes_at shapes m (task.Store x) found = applied task.Store m x.g x.v (store.step m.poll.layout (register_of m x.g x.v) x found)
-takes_at shapes m (task.Global x) found = applied task.Global m x.g x.r (global.step m.poll.layout (register_of m x.g x.r) x found)
+takes_at shapes m (task.Store x) found = applied task.Store (keeping m (store.held_behind m.poll.local.held x.stage found)) x.g x.v (store.step m.poll.layout m.poll.local (register_of m x.g x.v) x found)
+takes_at shapes m (task.Global x) found = applied task.Global (keeping m (global.held_behind m.poll.local.held x.stage found)) x.g x.r (global.step m.poll.layout (register_of m x.g x.r) x found)
 takes_at shapes m (task.Register x) found = applied task.Register m x.g x.d (register.step (register_of m x.g (register.read_of x)) x)
 takes_at shapes m (task.New x) found = new.takes_at shapes m x.wanted x.stage found
 takes_at shapes m (task.Gc g x) found = after_gc m g (wait.goes (wait.waiting x m.poll) found) (wait.gives (wait.waiting x m.poll) found)
@@ -120,7 +120,7 @@ abbrev pub gives_at : Processor → Task → (found : ℕ) → Option Answer
 gives_at m task.Idle found = None
 gives_at m task.Left found = None
 gives_at m (task.Load x) found = answered (load.step m.poll.layout x found).then
-gives_at m (task.Store x) found = answered (store.step m.poll.layout (register_of m x.g x.v) x found).then
+gives_at m (task.Store x) found = answered (store.step m.poll.layout m.poll.local (register_of m x.g x.v) x found).then
 gives_at m (task.Global x) found = answered (global.step m.poll.layout (register_of m x.g x.r) x found).then
 gives_at m (task.Register x) found = answered (register.step (register_of m x.g (register.read_of x)) x).then
 gives_at m (task.New x) found = new.gives_at x.stage found
@@ -146,7 +146,7 @@ abbrev pub acts_at : Processor → Task → (found : ℕ) → Option Act
 acts_at m task.Idle found = None
 acts_at m task.Left found = None
 acts_at m (task.Load x) found = acting (load.step m.poll.layout x found).acts (load.op_of x) false
-acts_at m (task.Store x) found = acting (store.step m.poll.layout (register_of m x.g x.v) x found).acts (store.op_of x) false
+acts_at m (task.Store x) found = acting (store.step m.poll.layout m.poll.local (register_of m x.g x.v) x found).acts (store.op_of x) false
 acts_at m (task.Global x) found = acting (global.step m.poll.layout (register_of m x.g x.r) x found).acts (global.op_of x) false
 acts_at m (task.Register x) found = acting (register.step (register_of m x.g (register.read_of x)) x).acts (register.op_of x) false
 acts_at m (task.New x) found = acting (new.acts_at x.stage found) (new.op_of x.wanted) (new.is_full_at x.stage)

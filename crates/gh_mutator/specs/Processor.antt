@@ -1,5 +1,6 @@
 -- The processor's private state: what it alone knows, which is kept with its poll; the numbers of objects; and its task.
 use Rattle.std.specs.Prelude.{ℕ, Option, slice_index, replicate}
+use Rattle.gh_base.specs.declared.held.Held.{Held}
 use Rattle.gh_base.specs.declared.layout.Layout.{Layout}
 use Rattle.gh_base.specs.declared.limits.TheConstants.{MOST_GOROUTINES}
 use Rattle.gh_base.specs.declared.value.Value.{Value}
@@ -8,6 +9,7 @@ use Rattle.gh_alloc.specs.declared.sought.Sought.{Sought}
 use Rattle.gh_mutator.specs.declared.processor.Processor.{Processor}
 use Rattle.gh_mutator.specs.declared.task.Task.{Task}
 use Rattle.gh_mutator.specs.declared.task.Task.TheVariants.{Idle}
+use Rattle.gh_mutator.specs.Barrier.{with_held}
 use Rattle.gh_mutator.specs.Local.{cached_at, first_local, register_at, with_cached, with_register, with_value}
 use Rattle.gh_mutator.specs.Poll.{Polling, resting}
 
@@ -27,6 +29,10 @@ set_register m g d v = at_poll m (with_register m.poll g d v)
 -- register d of goroutine g takes the value, if there is one
 abbrev pub taking : Processor → (g d : ℕ) → Option Value → Processor
 taking m g d v = at_poll m (with_value m.poll g d v)
+
+-- the buffer that it holds is this, if it holds one
+abbrev pub keeping : Processor → Option Held → Processor
+keeping m held = at_poll m (with_held m.poll held)
 
 -- how many objects goroutine g has made
 abbrev pub made_by : Processor → ℕ → ℕ

@@ -1,21 +1,67 @@
--- What is known of the whole processor while marking is on, by its task, and what each step of its own is then. It polls, waits for a cycle, or leaves.
-use Rattle.std.specs.Prelude.{◌≡◌, ℕ, Bool, true, false, List, None}
+-- What is known of the whole processor while marking is on, by its task, and what each step of its own is where it polls, waits for a cycle, or leaves.
+use Rattle.std.specs.Prelude.{◌≡◌, ◌≢◌, ℕ, Bool, true, false, List, Option, Some, None}
+use Rattle.gh_alloc.specs.declared.place.PlaceStage.{PlaceStage}
+use Rattle.gh_alloc.specs.declared.place.PlaceStage.TheVariants as place_stage
+use Rattle.gh_alloc.specs.Place.{Placing}
+use Rattle.gh_barrier.specs.Facts as write_facts
+use Rattle.gh_barrier.specs.Listing.{Writing}
+use Rattle.gh_phase.specs.declared.view.RunPhase.TheVariants.{Mark}
+use Rattle.gh_mutator.specs.declared.global.GlobalStage.TheVariants as global_stage
+use Rattle.gh_mutator.specs.declared.store.StoreStage.TheVariants as store_stage
 use Rattle.gh_mutator.specs.declared.task.Task.TheVariants as task
+use Rattle.gh_mutator.specs.Barrier.{has_entries}
+use Rattle.gh_mutator.specs.Fields.{is_number_value}
 use Rattle.gh_mutator.specs.Listing.{asks, begins, takes}
-use Rattle.gh_mutator.specs.MarkFacts.{IsBetween, KnowsCycle, KnowsStacks, LeaveFacts, PollFacts, WaitFacts}
-use Rattle.gh_mutator.specs.MarkVocabulary.{Cycle, Good, Hands, IsParked, KnowsObjects, Others, Shared, Steps, cell_of, nothing, stage_of}
-use Rattle.gh_mutator.specs.Vocabulary.{NewStage, Op, Polling, Processor, Shape, Task, Wait}
+use Rattle.gh_mutator.specs.Local.{register_at}
+use Rattle.gh_mutator.specs.MarkFacts.{IsBetween, holding, KnowsCycle, KnowsNumber, KnowsStacks, LeaveFacts, PollFacts, WaitFacts}
+use Rattle.gh_mutator.specs.MarkVocabulary.{Cycle, Good, Hands, IsParked, KnowsObjects, Local, Others, Shared, Steps, cell_of, nothing, stage_of}
+use Rattle.gh_mutator.specs.Vocabulary.{GlobalStage, NewStage, Op, Place, Polling, Processor, Search, Shape, Store, StoreStage, Task, Wait}
 use Rattle.gh_mutator.specs.Wait.{waiting}
+
+-- a write behind the write barrier, beside what is known between two polls
+pub record IsWriting (z : Cycle) (a : ℕ) (s : Shared) (local : Local) (w : Writing) : Type 0 where
+  pub stacks : KnowsStacks z a s local.stacks local.scanned
+  pub number : KnowsNumber z local.view
+  pub writes : write_facts.Facts z a s nothing w
+
+-- the slot that is marked, and in which no object is made yet
+abbrev pub reserved_at : (at : ℕ) → PlaceStage → Option ℕ
+reserved_at at place_stage.Alloc = Some at
+reserved_at at _ = None
+
+-- an object that is marked before it is made
+pub record IsPlacing (z : Cycle) (a : ℕ) (s : Shared) (local : Local) (x : Placing) : Type 0 where
+  pub marking : x.marking ≡ true
+  pub stacks : KnowsStacks z a s local.stacks local.scanned
+  pub number : KnowsNumber z local.view
+  pub hands : Hands a s (record (holding local.held) { placing = reserved_at x.at x.stage })
 
 module _ (z : Cycle) (a : ℕ) (s : Shared) (p : Polling) where
   -- a new object
   abbrev pub NewFacts : NewStage → Type 0
   NewFacts (Wait x) = WaitFacts z a s (waiting x p)
-  NewFacts _ = IsBetween z a s p.local
+  NewFacts (Place x) = IsPlacing z a s p.local x
+  NewFacts (Search waited y) = IsBetween z a s p.local
+
+  -- a store has room for its write barrier until it writes, by which word of the bitmap it finds; without the barrier it writes numbers alone
+  abbrev pub StoreFacts : Store → StoreStage → Type 0
+  StoreFacts x store_stage.Page = IsBetween z a s p.local × (has_entries p ≡ true)
+  StoreFacts x store_stage.Bits = IsBetween z a s p.local × (has_entries p ≡ true)
+  StoreFacts x store_stage.Field = IsBetween z a s p.local × (p.local.view.phase ≡ Mark → is_number_value (register_at p x.g x.v) ≡ true)
+  StoreFacts x (store_stage.Writing w) = IsWriting z a s p.local w
+  StoreFacts x store_stage.NilBase = IsBetween z a s p.local
+
+  -- a global is written without the barrier where marking is off, as the processor knows
+  abbrev pub GlobalFacts : GlobalStage → Type 0
+  GlobalFacts global_stage.Store = IsBetween z a s p.local × (p.local.view.phase ≢ Mark)
+  GlobalFacts (global_stage.Writing w) = IsWriting z a s p.local w
+  GlobalFacts _ = IsBetween z a s p.local
 
   abbrev pub TaskFacts : Task → Type 0
   TaskFacts task.Poll = PollFacts z a s p
   TaskFacts (task.New x) = NewFacts x.stage
+  TaskFacts (task.Store x) = StoreFacts x x.stage
+  TaskFacts (task.Global x) = GlobalFacts x.stage
   TaskFacts (task.Gc g x) = WaitFacts z a s (waiting x p)
   TaskFacts (task.Leave x) = (p.local.held ≡ None) × LeaveFacts z a s x.stage
   -- what it knew of the phase is of no account any more

@@ -1,6 +1,6 @@
 -- What the processor knows of its own state, whatever words it finds: its numbers are in their ranges.
 use Rattle.std.specs.Prelude.{◌≡◌, ℕ, ◌*◌, ◌^◌, ◌<◌, ◌≤◌, nat_lt, Bool, true, false, List, length, slice_index}
-use Rattle.gh_mutator.specs.Vocabulary.{MOST_GOROUTINES, REGISTERS, Layout, Op, Shape, Value, Seeking, Placing, Global, LoadStage, NewStage, Wanted, Polling, Processor, Register, StoreStage, Task}
+use Rattle.gh_mutator.specs.Vocabulary.{MOST_GOROUTINES, REGISTERS, Layout, Op, Shape, Value, Seeking, Placing, Global, GlobalStage, LoadStage, NewStage, Wanted, Polling, Processor, Register, StoreStage, Task}
 use Rattle.gh_base.specs.declared.limits.TheConstants.{MOST_STATEMENTS}
 use Rattle.gh_base.specs.declared.operation.Op.TheVariants as op
 use Rattle.gh_base.specs.declared.value.Value.TheVariants as value
@@ -8,12 +8,16 @@ use Rattle.gh_alloc.specs.Place as place
 use Rattle.gh_alloc.specs.Search as search
 use Rattle.gh_alloc.specs.FindSound.{IsSought}
 use Rattle.gh_alloc.specs.Within.{words_of}
+use Rattle.gh_barrier.specs.Listing as write
+use Rattle.gh_mutator.specs.declared.global.GlobalStage.TheVariants as global
 use Rattle.gh_mutator.specs.declared.load.Load.{Load}
 use Rattle.gh_mutator.specs.declared.load.LoadStage.TheVariants as load
 use Rattle.gh_mutator.specs.declared.new.NewStage.TheVariants as new
 use Rattle.gh_mutator.specs.declared.store.Store.{Store}
 use Rattle.gh_mutator.specs.declared.store.StoreStage.TheVariants as store
 use Rattle.gh_mutator.specs.declared.task.Task.TheVariants as task
+use Rattle.gh_mutator.specs.Barrier.{has_entries}
+use Rattle.gh_mutator.specs.GiveSound.{Runs}
 use Rattle.gh_mutator.specs.Leave as leave
 use Rattle.gh_mutator.specs.New.{is_made}
 use Rattle.gh_mutator.specs.Poll as poll
@@ -57,6 +61,12 @@ IsNear pages _ = Unit {0}
 abbrev pub IsField : (k : ℕ) → Type 0
 IsField k = k < 2 ^ 23
 
+-- a store of a pointer makes two entries at the most, while marking is on
+abbrev pub has_room : Processor → Op → Bool
+has_room m (op.Store g b k v) = has_entries m.poll
+has_room m (op.SetGlobal g k v) = has_entries m.poll
+has_room m _ = true
+
 -- Statement by statement.
 
 -- behind the page word the field is known to be there
@@ -80,9 +90,20 @@ pub record SoundStore (pages : ℕ) (x : Store) : Type 0 where
   pub within : x.at < 1024 * pages
   pub stage : SoundStoreStage x.k x.stage
 
+-- there is room for its write, until that is begun; the write is of this heap, and it is not over
+abbrev pub StoreRoom : Polling → StoreStage → Type 0
+StoreRoom p store.Page = has_entries p ≡ true
+StoreRoom p store.Bits = has_entries p ≡ true
+StoreRoom p (store.Writing w) = Runs p.layout w.layout (write.is_busy w.stage)
+StoreRoom p _ = Unit {0}
+
 pub record SoundGlobal (globals : ℕ) (x : Global) : Type 0 where
   pub register : IsRegister x.g x.r
   pub global : x.k < globals
+
+abbrev pub GlobalRoom : Polling → GlobalStage → Type 0
+GlobalRoom p (global.Writing w) = Runs p.layout w.layout (write.is_busy w.stage)
+GlobalRoom p _ = Unit {0}
 
 pub record SoundRegister (x : Register) : Type 0 where
   pub register : IsRegister x.g x.d
@@ -128,8 +149,8 @@ abbrev pub SoundTask : List Shape → Polling → (made : List ℕ) → Task →
 SoundTask shapes p made task.Idle = Unit {0}
 SoundTask shapes p made task.Left = Unit {0}
 SoundTask shapes p made (task.Load x) = SoundLoad p.layout.pages x
-SoundTask shapes p made (task.Store x) = SoundStore p.layout.pages x
-SoundTask shapes p made (task.Global x) = SoundGlobal p.layout.globals x
+SoundTask shapes p made (task.Store x) = SoundStore p.layout.pages x × StoreRoom p x.stage
+SoundTask shapes p made (task.Global x) = SoundGlobal p.layout.globals x × GlobalRoom p x.stage
 SoundTask shapes p made (task.Register x) = SoundRegister x
 SoundTask shapes p made (task.New x) = SoundWanted shapes x.wanted × SoundStage p x.wanted x.stage × HasName (slice_index made x.wanted.g) x.stage
 SoundTask shapes p made (task.Gc g x) = FitsWait p x

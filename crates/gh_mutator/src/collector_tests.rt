@@ -10,7 +10,7 @@ use crate::give::no_spans;
 use crate::{Cache, Give, Leave, Mutator, laws};
 use gh_alloc::CachedSpan;
 use gh_base::trace::{Steps, run_alone};
-use gh_base::{Answer, Held, Layout, Machine, Op, Req, Shapes};
+use gh_base::{Answer, Held, Layout, Machine, Name, Op, Req, Shapes};
 use gh_class::size_class_laws;
 use std::alloc::{AllocError, Global};
 use std::test::Fail;
@@ -22,6 +22,24 @@ const ACK_ROW: u32 = 51_094;
 const SCANNED_ROW: u32 = 51_096;
 
 const BUFFER_ROW: u32 = 33_568;
+
+/// And those of the rows of pages, marks, bitmap, births and fields, of the globals, and of the entries.
+const PAGE_ROW: u32 = 15;
+
+const MARK_ROW: u32 = 287;
+
+const BITMAP_ROW: u32 = 543;
+
+const BIRTH_ROW: u32 = 799;
+
+const FIELD_ROW: u32 = 17_183;
+
+const GLOBAL_ROW: u32 = 33_567;
+
+const ENTRY_ROW: u32 = 33_637;
+
+/// The page word of a head of the class of 16 bytes, with pointers.
+const HEAD: u64 = 517;
 
 /// The cache with this span for the span class of this number.
 fn with_span(layout: &Layout, cache: &Cache, number: u32, head: u32) -> Cache
@@ -174,5 +192,81 @@ fn a_cycle_is_waited_for(rt: HostRuntime) -> Result<(), Fail> {
     laws::polls_hold_nothing_at_stops();
     laws::waits_end_with_a_cycle();
     laws::the_processor_keeps_the_handshake();
+    Ok(())
+}
+
+#[test]
+fn stores_have_a_barrier_while_marking_is_on(rt: HostRuntime) -> Result<(), Fail> {
+    let layout = Layout::new(16, 1, 1, 1, 1)?;
+    let shapes = no_types(rt.alloc());
+    let mut mutator = Mutator::new(&layout, 0, &shapes);
+    // stop 1 for cycle 1; the stack is scanned in it, and a buffer is taken
+    mutator.begin(Op::Poll);
+    let steps = [
+        (Req::Load(1), 6),
+        (Req::Store(ACK_ROW, 1), 0),
+        (Req::Load(1), 5),
+        (Req::Load(2), 2),
+        (Req::Load(3), 1),
+        (Req::Store(SCANNED_ROW, 1), 0),
+        (Req::Load(BUFFER_ROW), 0),
+        (Req::Swap(BUFFER_ROW, 0, 256), 0),
+    ];
+    assert!(rt; tell(&layout, &mut mutator, &steps, Answer::Done));
+    mutator.begin(Op::GetGlobal { g: 0, d: 0, k: 0 });
+    let steps = [
+        (Req::Load(GLOBAL_ROW), 1),
+        (Req::Load(BIRTH_ROW), 4_294_967_296),
+    ];
+    assert!(rt;
+        tell(
+            &layout,
+            &mut mutator,
+            &steps,
+            Answer::Ref(Name { g: 0, k: 0 })
+        )
+    );
+    // the global held another object by now: both are shaded
+    assert!(rt; mutator.has_room());
+    mutator.begin(Op::SetGlobal { g: 0, k: 0, v: 0 });
+    let steps = [
+        (Req::Load(GLOBAL_ROW), 65),
+        (Req::Load(PAGE_ROW), HEAD),
+        (Req::Or(MARK_ROW + 1, 1), 0),
+        (Req::Store(ENTRY_ROW, 65), 0),
+        (Req::Load(PAGE_ROW), HEAD),
+        (Req::Or(MARK_ROW, 1), 0),
+        (Req::Store(ENTRY_ROW + 1, 1), 0),
+        (Req::Store(GLOBAL_ROW, 1), 65),
+    ];
+    assert!(rt; tell(&layout, &mut mutator, &steps, Answer::Done));
+    // a pointer field that holds nil; the new object is marked already
+    assert!(rt; mutator.has_room());
+    let store = Op::Store {
+        g: 0,
+        b: 0,
+        k: 0,
+        v: 0,
+    };
+    mutator.begin(store);
+    let steps = [
+        (Req::Load(PAGE_ROW), HEAD),
+        (Req::Load(BITMAP_ROW), 1),
+        (Req::Load(FIELD_ROW), 0),
+        (Req::Load(PAGE_ROW), HEAD),
+        (Req::Or(MARK_ROW, 1), 1),
+        (Req::Store(FIELD_ROW, 1), 0),
+    ];
+    assert!(rt; tell(&layout, &mut mutator, &steps, Answer::Done));
+    // the buffer is given back with the two entries
+    mutator.begin(Op::Leave);
+    let steps = [
+        (Req::Store(BUFFER_ROW, 2), 256),
+        (Req::Store(ACK_ROW, u64::MAX), 1),
+    ];
+    assert!(rt; tell(&layout, &mut mutator, &steps, Answer::Done));
+    laws::operations_end();
+    laws::polls_make_room();
+    laws::a_processor_runs_by_its_rights();
     Ok(())
 }

@@ -7,8 +7,11 @@
 ghost use Rattle.std.specs.Prelude.{◌≡◌, ◌%◌, ◌<◌, ◌≤◌};
 ghost use Rattle.gh_base.specs.Cells.{InRange};
 ghost use Rattle.gh_mutator.specs.Fields.{birth_cell, field_cell, has_field, is_pointer_by, kinds_differ, page_cell, value_of, word_of_value};
+ghost use Rattle.gh_barrier.specs.Listing.{cell_at};
 ghost use Rattle.gh_mutator.specs.Sound.{IsNear};
+ghost use Rattle.gh_mutator.specs.Store.{pointer_cell_at};
 
+use gh_barrier::PointerCell;
 use gh_base::{Cell, Layout, Machine, PageWord, Value, modulo};
 use gh_bitmap::ReadPointer;
 
@@ -26,6 +29,14 @@ pub(crate) fn field_cell(layout: &Layout, x: u32) -> Cell
     ensures within { InRange layout.now result }
 {
     Cell::Field(modulo(x, 1024 * layout.pages))
+}
+
+/// Heap word `x`, as a cell that holds a pointer.
+pub(crate) fn pointer_cell(layout: &Layout, x: u32) -> PointerCell
+    ensures is { result ≡ pointer_cell_at layout.now x }
+    ensures within { InRange layout.now (cell_at result) }
+{
+    PointerCell::Field(modulo(x, 1024 * layout.pages))
 }
 
 /// The birth word of the object whose first heap word is `at`.

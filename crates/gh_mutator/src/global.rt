@@ -1,17 +1,27 @@
 //! The load and the store of a global.
 
-ghost use Rattle.std.specs.Prelude.{◌≡◌, ℕ, ◌<◌};
+ghost use Rattle.std.specs.Prelude.{◌≡◌, ℕ, ◌<◌, true};
 ghost use Rattle.gh_base.specs.Cells.{InRange};
-ghost use Rattle.gh_base.specs.Steps.{cell_of};
+ghost use Rattle.gh_base.specs.Steps.{cell_of, request};
 ghost use Rattle.gh_base.specs.declared.layout.Layout.{Layout};
 ghost use Rattle.gh_base.specs.declared.value.Value.{Value};
 ghost use Rattle.gh_mutator.specs.Fields.{told};
-ghost use Rattle.gh_mutator.specs.Global.{asks, at_stage, begins_load, begins_store, naming, step};
-ghost use Rattle.gh_mutator.specs.Sound.{IsNear};
+ghost use Rattle.gh_barrier.specs.Listing as writes;
+ghost use Rattle.gh_mutator.specs.Barrier.{has_entries, held_then, with_held};
+ghost use Rattle.gh_mutator.specs.GiveSound.{Runs};
+ghost use Rattle.gh_mutator.specs.Global.{after_write, asks, at_stage, begins_load, begins_store, held_behind, naming, step, stores};
+ghost use Rattle.gh_mutator.specs.Listing.{applied};
+ghost use Rattle.gh_mutator.specs.Processor.{keeping, register_of};
+ghost use Rattle.gh_mutator.specs.Step.{answered};
+ghost use Rattle.gh_mutator.specs.declared.task.Task.TheVariants as task;
+ghost use Rattle.gh_mutator.specs.Sound.{GlobalRoom, IsNear, IsRegister};
 
 use crate::field::{birth_cell, value_of, word_of_value};
+use crate::poll::Poll;
+use crate::processor::Processor;
 use crate::step::{Step, Then};
-use gh_base::{Answer, Ask, Cell, Fault, Layout, Name, Value};
+use gh_barrier::{PointerCell, WritePointer};
+use gh_base::{Answer, Ask, Cell, Fault, Machine, Name, Req, Value};
 
 /// Where the load or the store of a global stands.
 #[derive(Clone, Copy, Debug, PartialEq, Eq)]
@@ -23,8 +33,10 @@ pub enum GlobalStage {
         /// That object's first heap word.
         at: u32,
     },
-    /// The store: it stores the global.
+    /// The store while marking is off: it stores the global.
     Store,
+    /// The store while marking is on: it writes the global behind the write barrier.
+    Writing(WritePointer),
     /// The store, where the register holds a number: a fault, for which it loads the touch word.
     Number,
 }
@@ -53,41 +65,62 @@ impl Global {
     }
 
     /// Begins the store of global `k` from register `v`, which holds this.
-    pub(crate) fn begin_store(g: u32, k: u32, v: u32, held: Value) -> Global
-        ensures { result ≡ begins_store g k v held }
+    pub(crate) fn begin_store(poll: &Poll, g: u32, k: u32, v: u32, held: Value) -> Global
+        requires global { k < poll.now.layout.globals }
+        requires near { IsNear poll.now.layout.pages held }
+        requires room { has_entries poll.now ≡ true }
+        ensures { result ≡ begins_store poll.now.layout poll.now.local g k v held }
     {
         let stage = match held {
             Value::Int(_) => GlobalStage::Number,
-            _ => GlobalStage::Store,
+            _ => Global::stores(poll, k, held),
         };
         Global { g, r: v, k, stage }
     }
 
-    /// The same statement at another stage.
-    fn at_stage(self, stage: GlobalStage) -> Global
-        ensures { result ≡ at_stage self stage }
+    /// Where the store of a pointer begins.
+    fn stores(poll: &Poll, k: u32, held: Value) -> GlobalStage
+        requires global { k < poll.now.layout.globals }
+        requires near { IsNear poll.now.layout.pages held }
+        requires room { has_entries poll.now ≡ true }
+        ensures { result ≡ stores poll.now.layout poll.now.local k held }
     {
-        Global { stage, ..self }
-    }
-
-    /// The step that it asks for, where its register holds this.
-    pub(crate) fn ask(&self, layout: &Layout, held: Value) -> Ask
-        requires { self.now.k < layout.now.globals }
-        ensures asks { result ≡ asks layout.now held self.now }
-        ensures within { InRange layout.now (cell_of result) }
-    {
-        match self.stage {
-            GlobalStage::Load => Ask::Load(Cell::Global(self.k)),
-            GlobalStage::Birth { at } => Ask::Load(birth_cell(layout, at)),
-            GlobalStage::Store => Ask::Store(Cell::Global(self.k), word_of_value(held)),
-            GlobalStage::Number => Ask::Load(Cell::Touch),
+        if poll.marking() {
+            GlobalStage::Writing(poll.write(PointerCell::Global(k), held))
+        } else {
+            GlobalStage::Store
         }
     }
 
+    /// The same statement at another stage.
+    fn at_stage(&self, stage: GlobalStage) -> Global
+        ensures { result ≡ at_stage self.now stage }
+    {
+        Global { stage, ..*self }
+    }
+
+    /// The step that it asks for, where its register holds this.
+    pub(crate) fn next(&self, poll: &Poll, held: Value) -> Req
+        requires global { self.now.k < poll.now.layout.globals }
+        requires room { GlobalRoom poll.now self.now.stage }
+        ensures asks { result ≡ request poll.now.layout (asks poll.now.layout held self.now) }
+        ensures within { InRange poll.now.layout (cell_of (asks poll.now.layout held self.now)) }
+    {
+        let layout = poll.layout();
+        let ask = match &self.stage {
+            GlobalStage::Load => Ask::Load(Cell::Global(self.k)),
+            GlobalStage::Birth { at } => Ask::Load(birth_cell(layout, *at)),
+            GlobalStage::Store => Ask::Store(Cell::Global(self.k), word_of_value(held)),
+            GlobalStage::Writing(write) => return write.next(),
+            GlobalStage::Number => Ask::Load(Cell::Touch),
+        };
+        layout.request(ask)
+    }
+
     /// What a found value is told as; of a reference the name is loaded first.
-    fn told(self, value: Value) -> Then<Global>
+    fn told(&self, value: Value) -> Then<Global>
         requires { IsNear 1024 value }
-        ensures { result ≡ told (naming self) value }
+        ensures { result ≡ told (naming self.now) value }
     {
         match value {
             Value::Nil => Then::Ends(Answer::Nil),
@@ -99,13 +132,28 @@ impl Global {
         }
     }
 
-    /// What its step does that found this.
-    pub(crate) fn step(self, layout: &Layout, held: Value, found: u64) -> Step<Global>
-        ensures { result ≡ step layout.now held self found }
+    /// A step of its write.
+    fn write(&self, poll: &mut Poll, write: &WritePointer, found: u64) -> Step<Global>
+        requires { Runs poll.old.layout write.now.layout (writes.is_busy write.now.stage) }
+        ensures is { result ≡ after_write self.now (writes.goes write.now found) (writes.gives write.now found) }
+        ensures holds { poll.new ≡ with_held poll.old (held_then write.now found) }
     {
-        match self.stage {
+        let mut write = *write;
+        match poll.take_write(&mut write, found) {
+            None => Step::goes_on(self.at_stage(GlobalStage::Writing(write))),
+            Some(()) => Step::ends(Answer::Done),
+        }
+    }
+
+    /// What its step does that found this. What its write holds is what the processor holds then.
+    pub(crate) fn step(&self, poll: &mut Poll, held: Value, found: u64) -> Step<Global>
+        requires { GlobalRoom poll.old self.now.stage }
+        ensures is { result ≡ step poll.old.layout held self.now found }
+        ensures holds { poll.new ≡ with_held poll.old (held_behind poll.old.local.held self.now.stage found) }
+    {
+        match &self.stage {
             GlobalStage::Load => {
-                let value = value_of(layout.pages, true, found);
+                let value = value_of(poll.layout().pages, true, found);
                 Step {
                     then: self.told(value),
                     sets: Some(value),
@@ -113,11 +161,12 @@ impl Global {
                 }
             }
             GlobalStage::Birth { at: _ } => Step {
-                then: Then::Ends(Answer::Ref(Name::unpack(found, layout.goroutines))),
+                then: Then::Ends(Answer::Ref(Name::unpack(found, poll.layout().goroutines))),
                 sets: None,
                 acts: false,
             },
             GlobalStage::Store => Step::ends(Answer::Done),
+            GlobalStage::Writing(write) => self.write(poll, write, found),
             GlobalStage::Number => Step::ends(Answer::Fault(Fault::Kind)),
         }
     }
@@ -126,9 +175,26 @@ impl Global {
     pub(crate) fn acts(&self) -> bool
         ensures { (l : Layout) → (held : Value) → (found : ℕ) → result ≡ (step l held self.now found).acts }
     {
-        match self.stage {
+        match &self.stage {
             GlobalStage::Birth { .. } => false,
+            GlobalStage::Writing(write) => write.is_point(),
             _ => true,
         }
+    }
+}
+
+impl<'s> Processor<'s> {
+    /// Goes on with this load or store of a global.
+    pub(crate) fn take_global(&mut self, x: &Global, found: u64) -> Option<Answer>
+        requires register { IsRegister x.now.g x.now.r }
+        requires room { GlobalRoom self.old.poll x.now.stage }
+        ensures goes { self.new ≡ applied task.Global (keeping self.old (held_behind self.old.poll.local.held x.now.stage found)) x.now.g x.now.r (step self.old.poll.layout (register_of self.old x.now.g x.now.r) x.now found) }
+        ensures gives { result ≡ answered (step self.old.poll.layout (register_of self.old x.now.g x.now.r) x.now found).then }
+    {
+        // The stage's type has to be named here: the prover builds no plan for `apply` without.
+        let _stage = &x.stage;
+        let held = self.poll.register(x.g, x.r);
+        let step = x.step(&mut self.poll, held, found);
+        self.apply(x.g, x.r, step)
     }
 }

@@ -10,6 +10,7 @@ ghost use Rattle.gh_mutator.specs.Gives.{GivesLeaveNothing};
 ghost use Rattle.gh_mutator.specs.Handshake.{LeavesInHandshake, PollsInHandshake, WaitsInHandshake};
 ghost use Rattle.gh_mutator.specs.Leaves.{NothingIsHeldAtLeave};
 ghost use Rattle.gh_mutator.specs.MarkFacts.{LeavesByMoves, PollsByMoves, WaitsByMoves};
+ghost use Rattle.gh_mutator.specs.PollRoom.{PollsMakeRoom};
 ghost use Rattle.gh_mutator.specs.Polls.{PollsHoldNothingAtStops};
 ghost use Rattle.gh_mutator.specs.ProcessorMarks.{MarksByMoves};
 ghost use Rattle.gh_mutator.specs.ProcessorPlaces.{ProcessorInHandshake};
@@ -24,6 +25,7 @@ use gh_alloc::laws::{
     allocation_is_quiet, an_object_is_marked_before_it_is_made, making_keeps_its_facts,
     searching_keeps_its_facts,
 };
+use gh_barrier::laws::{writes_by_moves, writing_ends, writing_is_within};
 use gh_base::laws::{cells_are_told, packed_words_are_read_back, rows_are_written};
 use gh_class::size_class_laws;
 use gh_heap::laws::{rights_follow, the_heap_is_apart};
@@ -36,10 +38,13 @@ use gh_wbuf::laws::buffers_pass_by_moves;
 
 /// Whatever its steps find, an operation that neither makes an object nor waits for others ends after a few of
 /// them: a load after at most 4, a store after 3, a load of a global after 2, and each other statement, and the
-/// end of a goroutine, after 1.
+/// end of a goroutine, after 1. While marking is on, as the processor knows, a store ends after at most 10, and one of a
+/// global after 8: there they have a write barrier.
 pub fn operations_end()
     ensures { OperationsEnd }
-{}
+{
+    writing_ends();
+}
 
 /// A statement that is answered a fault has loaded words alone, and leaves the processor as it was.
 pub fn faults_change_nothing()
@@ -93,6 +98,13 @@ pub fn nothing_is_held_at_leave()
 /// cycle has begun, the polls are counted anew.
 pub fn polls_hold_nothing_at_stops()
     ensures { PollsHoldNothingAtStops }
+{}
+
+/// Whatever it is told, a poll that is no part of a wait ends where marking is off, as the processor knows, or two
+/// entries go into the buffer that is held. So a processor that has polled may begin a store, or any other operation,
+/// until it has begun another one.
+pub fn polls_make_room()
+    ensures { PollsMakeRoom }
 {}
 
 /// A wait asks for a cycle first. Then its steps are those of a poll and a load of the number of the last
@@ -214,6 +226,7 @@ pub fn a_processor_marks_by_moves()
     polls_by_moves();
     waits_by_moves();
     leaves_by_moves();
+    writes_by_moves();
     facts_last();
     hands_follow();
     own_moves_leave();
@@ -267,6 +280,8 @@ pub fn a_processor_runs_by_its_rights()
     rights_follow();
     searching_keeps_its_facts();
     making_keeps_its_facts();
+    writes_by_moves();
+    writing_is_within();
     polls_by_rights();
     waits_by_rights();
     leaves_by_rights();

@@ -21,7 +21,8 @@
 //! not marked by then. Whatever a stopped processor kept to itself would be missed: an object in its buffer
 //! would not be scanned, and the free slots of its spans would not be seen. So a [`Poll`] gives all back, by
 //! [`Give`], before it acknowledges a stop. While marking is on it scans the stacks of the processor's
-//! goroutines, one at a time, by [`MarkStack`]. A `gc`, and a `new` that finds no room, run a [`Wait`], which
+//! goroutines, one at a time, by [`MarkStack`], and a store of a pointer runs the write barrier of `gh_barrier`, with
+//! the buffer that the processor holds: a poll that is no part of a wait ends with room in it. A `gc`, and a `new` that finds no room, run a [`Wait`], which
 //! polls until a cycle that began later is swept; and [`Leave`] gives all back for good. A processor has one
 //! `Poll` for its whole life: that keeps its registers, its cached spans and its buffer, and each routine
 //! reads and changes them there.
@@ -29,6 +30,8 @@
 //! The words and the steps follow Go's `malloc.go`, `mcache.go` and `mbitmap.go`.
 #![tactic(auto)]
 
+mod barrier;
+pub mod beside;
 #[cfg(test)]
 mod collector_tests;
 mod field;

@@ -2,9 +2,10 @@
 
 ghost use Rattle.std.specs.Prelude.{◌≡◌, ◌<◌, true, false};
 ghost use Rattle.gh_mutator.specs.Mutating.{acts, begins, is_busy, opening};
+ghost use Rattle.gh_mutator.specs.Barrier.{has_entries};
 ghost use Rattle.gh_mutator.specs.Serving.{has_left_at, is_last, is_point, is_serving};
 ghost use Rattle.gh_base.specs.Shapes.{ShapesFit};
-ghost use Rattle.gh_mutator.specs.Sound.{has_names, SoundOp};
+ghost use Rattle.gh_mutator.specs.Sound.{has_names, has_room, SoundOp};
 
 use crate::processor::Processor;
 use crate::task::Task;
@@ -52,11 +53,13 @@ impl<'s> Mutator<'s> {
     }
 
     /// Begins an operation, where none is begun. Its goroutine, registers, type and global are there, and a
-    /// goroutine that is to make an object has made fewer than 200,000.
+    /// goroutine that is to make an object has made fewer than 200,000. While marking is on, as it knows, a store is
+    /// begun where two entries go into the buffer that it holds: [`Mutator::has_room`] says so, and a poll sees to it.
     pub fn begin(&mut self, op: Op)
         requires idle { is_busy self.old ≡ false }
         requires op { SoundOp self.old.shapes self.old.processor.poll.layout op }
         requires names { has_names self.old.processor op ≡ true }
+        requires room { has_room self.old.processor op ≡ true }
         ensures { self.new ≡ begins self.old op }
     {
         self.processor.begin(self.shapes, op);
@@ -67,6 +70,13 @@ impl<'s> Mutator<'s> {
         ensures { result ≡ is_busy self.now }
     {
         self.processor.is_busy()
+    }
+
+    /// A store may be begun: marking is off, as it knows, or there is room for the entries of a write barrier.
+    pub fn has_room(&self) -> bool
+        ensures { result ≡ has_entries self.now.processor.poll }
+    {
+        self.processor.poll.has_entries()
     }
 
     /// It has left.

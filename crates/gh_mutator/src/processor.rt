@@ -5,7 +5,7 @@ ghost use Rattle.gh_mutator.specs.Listing.{begins, is_busy_at};
 ghost use Rattle.gh_mutator.specs.Processor.{at_task, opening_processor};
 ghost use Rattle.gh_mutator.specs.Register as register;
 ghost use Rattle.gh_base.specs.Shapes.{ShapesFit};
-ghost use Rattle.gh_mutator.specs.Sound.{has_names, Sound, SoundOp};
+ghost use Rattle.gh_mutator.specs.Sound.{has_names, has_room, Sound, SoundOp};
 
 use crate::global::Global;
 use crate::load::Load;
@@ -66,6 +66,7 @@ impl<'s> Processor<'s> {
         requires fit { ShapesFit shapes.now }
         requires op { SoundOp shapes.now self.old.poll.layout op }
         requires names { has_names self.old op ≡ true }
+        requires room { has_room self.old op ≡ true }
         ensures begins { self.new ≡ begins shapes.now self.old op }
         ensures sound { Sound shapes.now self.new }
     {
@@ -83,7 +84,8 @@ impl<'s> Processor<'s> {
             Op::GetGlobal { g, d, k } => self.start(Global::begin_load(g, d, k)),
             Op::SetGlobal { g, k, v } => {
                 let held = self.poll.register(g, v);
-                self.start(Global::begin_store(g, k, v, held));
+                let global = Global::begin_store(&self.poll, g, k, v, held);
+                self.start(global);
             }
             Op::Int { g, d, n } => self.start(begin_register(g, d, Source::Int(n))),
             Op::Move { g, d, s } => self.start(begin_register(g, d, Source::Move(s))),

@@ -6,7 +6,6 @@ ghost use Rattle.gh_base.specs.declared.shape.Shape.{Shape};
 ghost use Rattle.gh_base.specs.Cells.{InRange};
 ghost use Rattle.gh_base.specs.Steps.{cell_of, request};
 ghost use Rattle.gh_base.specs.declared.value.Answer.TheVariants.{Done, Swept};
-ghost use Rattle.gh_mutator.specs.Global as global;
 ghost use Rattle.gh_mutator.specs.Listing.{acts, after_gc, after_poll, applied, asks, gives, is_busy_at, once_ended, takes};
 ghost use Rattle.gh_mutator.specs.Load as load;
 ghost use Rattle.gh_mutator.specs.Local.{with_ended};
@@ -14,20 +13,17 @@ ghost use Rattle.gh_mutator.specs.Poll as polls;
 ghost use Rattle.gh_mutator.specs.Processor.{at_poll, at_task, register_of};
 ghost use Rattle.gh_mutator.specs.Register as register;
 ghost use Rattle.gh_mutator.specs.Serving.{is_point, is_serving};
-ghost use Rattle.gh_mutator.specs.Sound.{IsRegister, LeavesSo, Sound, SoundLoad, SoundRegister, SoundStore};
+ghost use Rattle.gh_mutator.specs.Sound.{IsRegister, LeavesSo, Sound, SoundLoad, SoundRegister};
 ghost use Rattle.gh_mutator.specs.Step.{answered};
-ghost use Rattle.gh_mutator.specs.Store as store;
 ghost use Rattle.gh_mutator.specs.Wait as waits;
 ghost use Rattle.gh_mutator.specs.WaitSound.{FitsWait};
 ghost use Rattle.gh_mutator.specs.declared.task.Task.TheVariants as task;
 
-use crate::global::Global;
 use crate::load::Load;
 use crate::new::NewStage;
 use crate::processor::Processor;
 use crate::register::Register;
 use crate::step::{Step, Then};
-use crate::store::Store;
 use crate::task::{Statement, Task};
 use crate::wait::Wait;
 use gh_base::{Answer, Ask, Cell, END, Machine, Req, Shapes};
@@ -45,8 +41,8 @@ impl<'s> Processor<'s> {
         let ask = match &self.task {
             Task::Idle | Task::Left | Task::Register(_) => Ask::Load(Cell::Touch),
             Task::Load(load) => load.ask(layout),
-            Task::Store(store) => store.ask(layout, self.poll.register(store.g, store.v)),
-            Task::Global(global) => global.ask(layout, self.poll.register(global.g, global.r)),
+            Task::Store(x) => return x.next(&self.poll, self.poll.register(x.g, x.v)),
+            Task::Global(x) => return x.next(&self.poll, self.poll.register(x.g, x.r)),
             Task::New(new) => match &new.stage {
                 NewStage::Search { search, .. } => return search.next(),
                 NewStage::Wait(wait) => return wait.next(&self.poll),
@@ -61,7 +57,12 @@ impl<'s> Processor<'s> {
     }
 
     /// A statement's step is made: its register takes a value, if any, and the statement goes on or ends.
-    fn apply<S: Statement<'s>>(&mut self, g: u32, d: u32, step: Step<S>) -> Option<Answer>
+    pub(crate) fn apply<S: Statement<'s>>(
+        &mut self,
+        g: u32,
+        d: u32,
+        step: Step<S>,
+    ) -> Option<Answer>
         requires { IsRegister g d }
         ensures goes { self.new ≡ applied S.as_task self.old g d step }
         ensures gives { result ≡ answered step.then }
@@ -93,8 +94,8 @@ impl<'s> Processor<'s> {
         match self.task {
             Task::Idle | Task::Left => None,
             Task::Load(x) => self.take_load(x, found),
-            Task::Store(x) => self.take_store(x, found),
-            Task::Global(x) => self.take_global(x, found),
+            Task::Store(x) => self.take_store(&x, found),
+            Task::Global(x) => self.take_global(&x, found),
             Task::Register(x) => self.take_register(x),
             Task::New(_) => self.take_new(shapes, found),
             Task::Gc(g, wait) => self.take_gc(g, wait, found),
@@ -114,28 +115,6 @@ impl<'s> Processor<'s> {
     {
         let step = x.step(self.poll.layout(), found);
         self.apply(x.g, x.d, step)
-    }
-
-    /// Goes on with this store.
-    fn take_store(&mut self, x: Store, found: u64) -> Option<Answer>
-        requires { SoundStore self.old.poll.layout.pages x }
-        ensures goes { self.new ≡ applied task.Store self.old x.g x.v (store.step self.old.poll.layout (register_of self.old x.g x.v) x found) }
-        ensures gives { result ≡ answered (store.step self.old.poll.layout (register_of self.old x.g x.v) x found).then }
-    {
-        let held = self.poll.register(x.g, x.v);
-        let step = x.step(self.poll.layout(), held, found);
-        self.apply(x.g, x.v, step)
-    }
-
-    /// Goes on with this load or store of a global.
-    fn take_global(&mut self, x: Global, found: u64) -> Option<Answer>
-        requires { IsRegister x.g x.r }
-        ensures goes { self.new ≡ applied task.Global self.old x.g x.r (global.step self.old.poll.layout (register_of self.old x.g x.r) x found) }
-        ensures gives { result ≡ answered (global.step self.old.poll.layout (register_of self.old x.g x.r) x found).then }
-    {
-        let held = self.poll.register(x.g, x.r);
-        let step = x.step(self.poll.layout(), held, found);
-        self.apply(x.g, x.r, step)
     }
 
     /// Makes this statement on registers.
@@ -227,11 +206,10 @@ impl<'s> Processor<'s> {
         requires { Sound shapes.now self.now }
         ensures { result ≡ is_point (acts self.now found) }
     {
-        let layout = self.poll.layout();
         match &self.task {
             Task::Idle | Task::Left | Task::Poll | Task::End(_) | Task::Leave(_) => false,
             Task::Load(x) => x.acts(found),
-            Task::Store(x) => x.acts(layout, self.poll.register(x.g, x.v), found),
+            Task::Store(x) => x.acts(&self.poll, self.poll.register(x.g, x.v), found),
             Task::Global(x) => x.acts(),
             Task::Register(_) => true,
             Task::New(new) => match &new.stage {

@@ -1,14 +1,26 @@
 //! A store: the page word of its object, the bit that tells a pointer from a number, and the field.
 
-ghost use Rattle.std.specs.Prelude.{◌≡◌};
+ghost use Rattle.std.specs.Prelude.{◌≡◌, true};
+ghost use Rattle.gh_barrier.specs.Listing as writes;
 ghost use Rattle.gh_base.specs.Cells.{InRange};
-ghost use Rattle.gh_base.specs.Steps.{cell_of};
-ghost use Rattle.gh_mutator.specs.Sound.{IsNear, SoundStore};
-ghost use Rattle.gh_mutator.specs.Store.{asks, at_stage, begins, step};
+ghost use Rattle.gh_base.specs.Steps.{cell_of, request};
+ghost use Rattle.gh_mutator.specs.Barrier.{has_entries, held_then, with_held};
+ghost use Rattle.gh_mutator.specs.GiveSound.{Runs};
+ghost use Rattle.gh_mutator.specs.Listing.{applied};
+ghost use Rattle.gh_mutator.specs.Processor.{keeping, register_of};
+ghost use Rattle.gh_mutator.specs.Step.{answered};
+ghost use Rattle.gh_mutator.specs.declared.task.Task.TheVariants as task;
+ghost use Rattle.gh_mutator.specs.Sound.{IsField, IsNear, SoundStore, StoreRoom};
+ghost use Rattle.gh_mutator.specs.Store.{after_write, asks, at_stage, begins, by_kind, held_behind, step, stores};
 
-use crate::field::{field_cell, has_field, is_pointer_by, kinds_differ, page_cell, word_of_value};
+use crate::field::{
+    field_cell, has_field, is_pointer_by, kinds_differ, page_cell, pointer_cell, word_of_value,
+};
+use crate::poll::Poll;
+use crate::processor::Processor;
 use crate::step::Step;
-use gh_base::{Answer, Ask, Cell, Fault, Layout, Value};
+use gh_barrier::WritePointer;
+use gh_base::{Answer, Ask, Cell, Fault, Layout, Machine, Req, Value};
 use gh_bitmap::ReadPointer;
 
 /// Where a store stands.
@@ -18,8 +30,10 @@ pub enum StoreStage {
     Page,
     /// The word of the bitmap that has the field's bit.
     Bits,
-    /// It stores the field.
+    /// It stores the field: a number, or any value while marking is off.
     Field,
+    /// It writes the field behind the write barrier: a pointer while marking is on.
+    Writing(WritePointer),
     /// The base register holds no reference: a fault, for which it loads the touch word.
     NilBase,
 }
@@ -58,19 +72,21 @@ impl Store {
     }
 
     /// The same store at another stage.
-    fn at_stage(self, stage: StoreStage) -> Store
-        ensures { result ≡ at_stage self stage }
+    fn at_stage(&self, stage: StoreStage) -> Store
+        ensures { result ≡ at_stage self.now stage }
     {
-        Store { stage, ..self }
+        Store { stage, ..*self }
     }
 
     /// The step that it asks for, where register `v` holds this.
-    pub(crate) fn ask(&self, layout: &Layout, held: Value) -> Ask
-        requires { SoundStore layout.now.pages self.now }
-        ensures asks { result ≡ asks layout.now held self.now }
-        ensures within { InRange layout.now (cell_of result) }
+    pub(crate) fn next(&self, poll: &Poll, held: Value) -> Req
+        requires sound { SoundStore poll.now.layout.pages self.now }
+        requires room { StoreRoom poll.now self.now.stage }
+        ensures asks { result ≡ request poll.now.layout (asks poll.now.layout held self.now) }
+        ensures within { InRange poll.now.layout (cell_of (asks poll.now.layout held self.now)) }
     {
-        match self.stage {
+        let layout = poll.layout();
+        let ask = match &self.stage {
             StoreStage::NilBase => Ask::Load(Cell::Touch),
             StoreStage::Page => Ask::Load(page_cell(layout, self.at)),
             StoreStage::Bits => ReadPointer::new(layout, self.at + self.k).ask(),
@@ -78,15 +94,53 @@ impl Store {
                 let word = word_of_value(held);
                 Ask::Store(field_cell(layout, self.at + self.k), word)
             }
+            StoreStage::Writing(write) => return write.next(),
+        };
+        layout.request(ask)
+    }
+
+    /// Behind the bitmap word, which says whether the field is a pointer.
+    fn by_kind(&self, poll: &Poll, held: Value, pointer: bool) -> Step<Store>
+        requires sound { SoundStore poll.now.layout.pages self.now }
+        requires field { IsField self.now.k }
+        requires room { has_entries poll.now ≡ true }
+        requires near { IsNear poll.now.layout.pages held }
+        ensures { result ≡ by_kind poll.now.layout poll.now.local held self.now pointer }
+    {
+        if kinds_differ(pointer, held) {
+            return Step::ends(Answer::Fault(Fault::Kind));
+        }
+        let stage = if pointer && poll.marking() {
+            let at = pointer_cell(poll.layout(), self.at + self.k);
+            StoreStage::Writing(poll.write(at, held))
+        } else {
+            StoreStage::Field
+        };
+        Step::goes_on(self.at_stage(stage))
+    }
+
+    /// A step of its write.
+    fn write(&self, poll: &mut Poll, write: &WritePointer, found: u64) -> Step<Store>
+        requires { Runs poll.old.layout write.now.layout (writes.is_busy write.now.stage) }
+        ensures is { result ≡ after_write self.now (writes.goes write.now found) (writes.gives write.now found) }
+        ensures holds { poll.new ≡ with_held poll.old (held_then write.now found) }
+    {
+        let mut write = *write;
+        match poll.take_write(&mut write, found) {
+            None => Step::goes_on(self.at_stage(StoreStage::Writing(write))),
+            Some(()) => Step::ends(Answer::Done),
         }
     }
 
-    /// What its step does that found this.
-    pub(crate) fn step(self, layout: &Layout, held: Value, found: u64) -> Step<Store>
-        requires { SoundStore layout.now.pages self }
-        ensures { result ≡ step layout.now held self found }
+    /// What its step does that found this. What its write holds is what the processor holds then.
+    pub(crate) fn step(&self, poll: &mut Poll, held: Value, found: u64) -> Step<Store>
+        requires sound { SoundStore poll.old.layout.pages self.now }
+        requires room { StoreRoom poll.old self.now.stage }
+        requires near { IsNear poll.old.layout.pages held }
+        ensures is { result ≡ step poll.old.layout poll.old.local held self.now found }
+        ensures holds { poll.new ≡ with_held poll.old (held_behind poll.old.local.held self.now.stage found) }
     {
-        match self.stage {
+        match &self.stage {
             StoreStage::NilBase => Step::ends(Answer::Fault(Fault::NilBase)),
             StoreStage::Page => {
                 if has_field(self.k, found) {
@@ -96,26 +150,43 @@ impl Store {
                 }
             }
             StoreStage::Bits => {
-                let pointer = is_pointer_by(layout, self.at + self.k, found);
-                if kinds_differ(pointer, held) {
-                    Step::ends(Answer::Fault(Fault::Kind))
-                } else {
-                    Step::goes_on(self.at_stage(StoreStage::Field))
-                }
+                let pointer = is_pointer_by(poll.layout(), self.at + self.k, found);
+                self.by_kind(poll, held, pointer)
             }
             StoreStage::Field => Step::ends(Answer::Done),
+            StoreStage::Writing(write) => self.write(poll, write, found),
         }
     }
 
     /// That it acts by the step that finds this, where register `v` holds this.
-    pub(crate) fn acts(&self, layout: &Layout, held: Value, found: u64) -> bool
-        requires { SoundStore layout.now.pages self.now }
-        ensures { result ≡ (step layout.now held self.now found).acts }
+    pub(crate) fn acts(&self, poll: &Poll, held: Value, found: u64) -> bool
+        requires { SoundStore poll.now.layout.pages self.now }
+        ensures { result ≡ (step poll.now.layout poll.now.local held self.now found).acts }
     {
-        match self.stage {
+        match &self.stage {
             StoreStage::NilBase | StoreStage::Field => true,
             StoreStage::Page => !has_field(self.k, found),
-            StoreStage::Bits => kinds_differ(is_pointer_by(layout, self.at + self.k, found), held),
+            StoreStage::Bits => {
+                kinds_differ(is_pointer_by(poll.layout(), self.at + self.k, found), held)
+            }
+            StoreStage::Writing(write) => write.is_point(),
         }
+    }
+}
+
+impl<'s> Processor<'s> {
+    /// Goes on with this store.
+    pub(crate) fn take_store(&mut self, x: &Store, found: u64) -> Option<Answer>
+        requires sound { SoundStore self.old.poll.layout.pages x.now }
+        requires room { StoreRoom self.old.poll x.now.stage }
+        requires near { IsNear self.old.poll.layout.pages (register_of self.old x.now.g x.now.v) }
+        ensures goes { self.new ≡ applied task.Store (keeping self.old (held_behind self.old.poll.local.held x.now.stage found)) x.now.g x.now.v (step self.old.poll.layout self.old.poll.local (register_of self.old x.now.g x.now.v) x.now found) }
+        ensures gives { result ≡ answered (step self.old.poll.layout self.old.poll.local (register_of self.old x.now.g x.now.v) x.now found).then }
+    {
+        // The stage's type has to be named here: the prover builds no plan for `apply` without.
+        let _stage = &x.stage;
+        let held = self.poll.register(x.g, x.v);
+        let step = x.step(&mut self.poll, held, found);
+        self.apply(x.g, x.v, step)
     }
 }

@@ -4,7 +4,7 @@
 ghost use Rattle.std.specs.Prelude.{◌≡◌, ◌<◌, true, IfOk, length};
 ghost use Rattle.gh_mutator.specs.Processor.{opening_processor};
 ghost use Rattle.gh_base.specs.Shapes.{ShapesFit};
-ghost use Rattle.gh_mutator.specs.Sound.{has_names, SoundOp};
+ghost use Rattle.gh_mutator.specs.Sound.{has_names, has_room, SoundOp};
 
 use super::*;
 use gh_base::trace::run_alone;
@@ -25,6 +25,7 @@ fn first(
     requires shapes { ShapesFit shapes.now }
     requires op { SoundOp shapes.now layout.now op }
     requires names { has_names (opening_processor layout.now 0) op ≡ true }
+    requires room { has_room (opening_processor layout.now 0) op ≡ true }
 {
     let mut mutator = Mutator::new(layout, 0, shapes);
     mutator.begin(op);
@@ -40,6 +41,7 @@ fn marks(alloc: Global, shapes: &Shapes, layout: &Layout, op: Op) -> Result<u64,
     requires shapes { ShapesFit shapes.now }
     requires op { SoundOp shapes.now layout.now op }
     requires names { has_names (opening_processor layout.now 0) op ≡ true }
+    requires room { has_room (opening_processor layout.now 0) op ≡ true }
 {
     let mut mutator = Mutator::new(layout, 0, shapes);
     mutator.begin(op);

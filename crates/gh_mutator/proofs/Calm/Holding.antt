@@ -1,5 +1,11 @@
 -- A processor that holds no buffer, and does not know that marking is on, holds none behind its step; and an object that it then makes is not marked.
+use Rattle.std.specs.Prelude.{◌&&◌}
 use Rattle.std.proofs.Common.{◌≡◌, ◌≢◌, ℕ, ◌+◌, Bool, true, false, cond, eqb, ltb, List, [], ◌∷◌, drop, Option, Some, None, refl, subst}
+use Rattle.gh_base.specs.declared.value.Answer.TheVariants as answer
+use Rattle.gh_base.specs.declared.value.Fault.TheVariants as fault
+use Rattle.gh_base.specs.declared.value.Value.TheVariants as value
+use Rattle.gh_barrier.specs.declared.pointer_cell.PointerCell.TheVariants as pointer_cell
+use Rattle.gh_barrier.specs.Listing.{Writing as PointerWrite}
 use Rattle.gh_alloc.specs.Marking.{AnObjectIsMarkedBeforeItIsMade, IsMadeUnmarked}
 use Rattle.gh_alloc.specs.Place as place
 use Rattle.gh_alloc.specs.Search as search
@@ -8,10 +14,15 @@ use Rattle.gh_phase.specs.declared.view.RunPhase.TheVariants as run
 use Rattle.gh_phase.specs.Listing as resume
 use Rattle.gh_phase.specs.ResumePlaces as resumes
 use Rattle.gh_mutator.specs.declared.give.GiveStage.TheVariants as give_stage
+use Rattle.gh_mutator.specs.declared.global.GlobalStage.TheVariants as global_stage
 use Rattle.gh_mutator.specs.declared.leave.LeaveStage.TheVariants as leave_stage
 use Rattle.gh_mutator.specs.declared.poll.PollStage.TheVariants as poll_stage
+use Rattle.gh_mutator.specs.declared.store.StoreStage.TheVariants as store_stage
 use Rattle.gh_mutator.specs.declared.task.Task.TheVariants as task
 use Rattle.gh_mutator.specs.declared.wait.WaitStage.TheVariants as wait_stage
+use Rattle.gh_mutator.specs.Barrier.{written}
+use Rattle.gh_mutator.specs.Calm.{SetsWithNone, StoresWithNone}
+use Rattle.gh_mutator.specs.Fields.{has_field, is_pointer_by, kinds_differ, told as told_by, value_of}
 use Rattle.gh_mutator.specs.Give as give
 use Rattle.gh_mutator.specs.Global as global
 use Rattle.gh_mutator.specs.Handshake.{poller_at, waiter_at}
@@ -20,11 +31,13 @@ use Rattle.gh_mutator.specs.Load as load
 use Rattle.gh_mutator.specs.Local.{is_mark}
 use Rattle.gh_mutator.specs.New as new
 use Rattle.gh_mutator.specs.Poll as poll
+use Rattle.gh_mutator.specs.Processor.{keeping}
 use Rattle.gh_mutator.specs.Register as register
+use Rattle.gh_mutator.specs.Step.{ends, goes_on}
 use Rattle.gh_mutator.specs.Store as store
-use Rattle.gh_mutator.specs.Vocabulary.{Polling}
+use Rattle.gh_mutator.specs.Vocabulary.{Load, Polling, Register, Store}
 use Rattle.gh_mutator.specs.Wait as wait
-use Rattle.gh_mutator.proofs.Vocabulary.{after_gc, after_leave, after_poll, applied, At, cache_span, CachedSpan, Ends, follows, Found, GivesNoBuffer, GiveStage, GoesOn, Held, HoldsNoBuffer, IsNoBuffer, KnowsNoMarking, Layout, LeaveStage, LeavesWithNone, Leaving, leaving, MakesWithNone, NewStage, NoRoom, party_at, phase_of, Place, Placing, polls_at, PollStage, PollsWithNone, Processor, register_of, ResumeStage, run_phase, RunPhase, RunsWithNone, Search, Seeking, Shape, stage_at, Step, takes_at, taking, Task, Then, Value, Wait, Waiting, waits_at, WaitStage, WaitsWithNone, Wanted}
+use Rattle.gh_mutator.proofs.Vocabulary.{Global, GlobalStage, Local, StoreStage, after_gc, after_leave, after_poll, applied, At, cache_span, CachedSpan, Ends, follows, Found, GivesNoBuffer, GiveStage, GoesOn, Held, HoldsNoBuffer, IsNoBuffer, KnowsNoMarking, Layout, LeaveStage, LeavesWithNone, Leaving, leaving, MakesWithNone, NewStage, NoRoom, party_at, phase_of, Place, Placing, polls_at, PollStage, PollsWithNone, Processor, register_of, ResumeStage, run_phase, RunPhase, RunsWithNone, Search, Seeking, Shape, stage_at, Step, takes_at, taking, Task, Then, Value, Wait, Waiting, waits_at, WaitStage, WaitsWithNone, Wanted}
 
 -- The giving back.
 first_none : (class : ℕ) (spans : List (Option CachedSpan)) → IsNoBuffer (give.first_of class spans)
@@ -116,6 +129,27 @@ pub begins_leave : (p : Polling) → p.local.held ≡ None → LeavesWithNone (l
 begins_leave p e = left_none (give.opening p.layout p.seat p.local.view.generation p.local.cache p.local.held) (opening_none p.layout p.seat p.local.view.generation p.local.cache p.local.held e)
 
 -- By its tasks.
+pub not_mark : (phase : RunPhase) → phase ≢ run.Mark → is_mark phase ≡ false
+not_mark run.Off off = refl
+not_mark run.Mark off = absurd (off refl)
+not_mark run.Finished off = refl
+
+-- a store of a global begins no write while marking is off
+pub begins_set : (l : Layout) (own : Local) (g k v : ℕ) (held : Value) → is_mark own.view.phase ≡ false → SetsWithNone (global.begins_store l own g k v held).stage
+begins_set l own g k v held off = by held where
+  stores : (w : PointerWrite) (b : Bool) → b ≡ false → SetsWithNone (cond b (global_stage.Writing w) global_stage.Store)
+  stores w b e = rw e tt
+
+  by : (held : Value) → SetsWithNone (global.begins_store l own g k v held).stage
+  by value.Nil = stores (written l own (pointer_cell.Global k) value.Nil) (is_mark own.view.phase) off
+  by (value.Int n) = tt
+  by (value.Ref r) = stores (written l own (pointer_cell.Global k) (value.Ref r)) (is_mark own.view.phase) off
+
+pub begins_store_none : (g b k v : ℕ) (base : Value) → StoresWithNone (store.begins g b k v base).stage
+begins_store_none g b k v value.Nil = tt
+begins_store_none g b k v (value.Int n) = tt
+begins_store_none g b k v (value.Ref r) = tt
+
 taking_none : (m : Processor) (g d : ℕ) (v : Option Value) → m.poll.local.held ≡ None → (taking m g d v).poll.local.held ≡ None
 taking_none m g d None e = e
 taking_none m g d (Some v) e = e
@@ -124,16 +158,70 @@ taking_none m g d (Some v) e = e
 abbrev RunsNone : Task → Type 0
 RunsNone t = (p : Polling) → RunsWithNone p t
 
-applied_none : {S : Type 0} (into : S → Task) (m : Processor) (g d : ℕ) (step : Step S) → ((y : S) → RunsNone (into y)) → m.poll.local.held ≡ None → HoldsNoBuffer (applied into m g d step)
-applied_none {S} into m g d step plain e = record { none = taking_none m g d step.sets e; runs = by step.then (taking m g d step.sets).poll } where
-  by : (then : Then S) → RunsNone (follows into then)
-  by (GoesOn y) = plain y
-  by (Ends a) = λ p. tt
+abbrev GoesNone : {S : Type 0} (into : S → Task) → Then S → Type 0
+GoesNone into (GoesOn y) = RunsNone (into y)
+GoesNone into (Ends a) = Unit {0}
 
-not_mark : (phase : RunPhase) → phase ≢ run.Mark → is_mark phase ≡ false
-not_mark run.Off off = refl
-not_mark run.Mark off = absurd (off refl)
-not_mark run.Finished off = refl
+applied_none : {S : Type 0} (into : S → Task) (m : Processor) (g d : ℕ) (step : Step S) → GoesNone into step.then → m.poll.local.held ≡ None → HoldsNoBuffer (applied into m g d step)
+applied_none {S} into m g d step plain e = record { none = taking_none m g d step.sets e; runs = by step.then plain (taking m g d step.sets).poll } where
+  by : (then : Then S) → GoesNone into then → RunsNone (follows into then)
+  by (GoesOn y) plain = plain
+  by (Ends a) plain = λ p. tt
+
+load_goes : (then : Then Load) → GoesNone task.Load then
+load_goes (GoesOn y) = λ p. tt
+load_goes (Ends a) = tt
+
+register_goes : (then : Then Register) → GoesNone task.Register then
+register_goes (GoesOn y) = λ p. tt
+register_goes (Ends a) = tt
+
+-- while marking is off a store leads to no write
+module _ (l : Layout) (own : Local) (off : is_mark own.view.phase ≡ false) (held : Value) where
+  store_goes : (x : Store) (q : StoreStage) (found : ℕ) → StoresWithNone q → GoesNone task.Store (store.step_at l own held x q found).then
+  store_goes x store_stage.NilBase found h = tt
+  store_goes x store_stage.Page found h = by (has_field x.k found) where
+    by : (b : Bool) → GoesNone task.Store (cond b (goes_on (store.at_stage x store_stage.Bits)) (ends (answer.Fault fault.Field))).then
+    by true = λ p. tt
+    by false = tt
+  store_goes x store_stage.Bits found h = go (is_pointer_by l (x.at + x.k) found) where
+    stores : (w : PointerWrite) (p b : Bool) → b ≡ false → StoresWithNone (cond (p && b) (store_stage.Writing w) store_stage.Field)
+    stores w true b e = rw e tt
+    stores w false b e = tt
+
+    go : (p : Bool) → GoesNone task.Store (store.by_kind l own held x p).then
+    go p = by (kinds_differ p held) where
+      by : (b : Bool) → GoesNone task.Store (cond b (ends (answer.Fault fault.Kind)) (goes_on (store.at_stage x (store.stores l own held x p)))).then
+      by true = tt
+      by false = λ q. stores (written l own (store.pointer_cell_at l (x.at + x.k)) held) p (is_mark own.view.phase) off
+  store_goes x store_stage.Field found h = tt
+  store_goes x (store_stage.Writing w) found h = absurd h
+
+global_goes : (l : Layout) (held : Value) (x : Global) (q : GlobalStage) (found : ℕ) → SetsWithNone q → GoesNone task.Global (global.step_at l held x q found).then
+global_goes l held x global_stage.Load found h = by (value_of l.pages true found) where
+  by : (v : Value) → GoesNone task.Global (told_by (global.naming x) v)
+  by value.Nil = tt
+  by (value.Int n) = tt
+  by (value.Ref r) = λ p. tt
+global_goes l held x (global_stage.Birth at) found h = tt
+global_goes l held x global_stage.Store found h = tt
+global_goes l held x (global_stage.Writing w) found h = absurd h
+global_goes l held x global_stage.Number found h = tt
+
+-- and the buffer stays
+store_keeps : (held : Option Held) (q : StoreStage) (found : ℕ) → StoresWithNone q → held ≡ None → store.held_behind held q found ≡ None
+store_keeps held (store_stage.Writing w) found h e = absurd h
+store_keeps held store_stage.NilBase found h e = e
+store_keeps held store_stage.Page found h e = e
+store_keeps held store_stage.Bits found h e = e
+store_keeps held store_stage.Field found h e = e
+
+global_keeps : (held : Option Held) (q : GlobalStage) (found : ℕ) → SetsWithNone q → held ≡ None → global.held_behind held q found ≡ None
+global_keeps held (global_stage.Writing w) found h e = absurd h
+global_keeps held global_stage.Load found h e = e
+global_keeps held (global_stage.Birth at) found h e = e
+global_keeps held global_stage.Store found h e = e
+global_keeps held global_stage.Number found h e = e
 
 found_none : (shapes : List Shape) (m : Processor) (w : Wanted) (waited : Bool) (c : Option CachedSpan) (s : Seeking) (out : Option Found) → m.poll.local.view.phase ≢ run.Mark → m.poll.local.held ≡ None → HoldsNoBuffer (new.after_search shapes (cache_span m w.sought c) w waited s out)
 found_none shapes m w waited c s None off e = record { none = e; runs = tt }
@@ -176,10 +264,10 @@ module _ (marks : AnObjectIsMarkedBeforeItIsMade) (shapes : List Shape) (m : Pro
   pub holds_at : (t : Task) → RunsWithNone m.poll t → KnowsNoMarking (party_at m.poll t) (stage_at m.poll t) → t ≡ m.task → HoldsNoBuffer (takes_at shapes m t found)
   holds_at task.Idle x off is = record { none = e; runs = subst (λ (t : Task). RunsWithNone m.poll t) is tt }
   holds_at task.Left x off is = record { none = e; runs = subst (λ (t : Task). RunsWithNone m.poll t) is tt }
-  holds_at (task.Load y) x off is = applied_none task.Load m y.g y.d (load.step m.poll.layout y found) (λ y p. tt) e
-  holds_at (task.Store y) x off is = applied_none task.Store m y.g y.v (store.step m.poll.layout (register_of m y.g y.v) y found) (λ y p. tt) e
-  holds_at (task.Global y) x off is = applied_none task.Global m y.g y.r (global.step m.poll.layout (register_of m y.g y.r) y found) (λ y p. tt) e
-  holds_at (task.Register y) x off is = applied_none task.Register m y.g y.d (register.step (register_of m y.g (register.read_of y)) y) (λ y p. tt) e
+  holds_at (task.Load y) x off is = applied_none task.Load m y.g y.d (load.step m.poll.layout y found) (load_goes _) e
+  holds_at (task.Store y) x off is = applied_none task.Store (keeping m (store.held_behind m.poll.local.held y.stage found)) y.g y.v (store.step m.poll.layout m.poll.local (register_of m y.g y.v) y found) (store_goes m.poll.layout m.poll.local (not_mark m.poll.local.view.phase off) (register_of m y.g y.v) y y.stage found x) (store_keeps m.poll.local.held y.stage found x e)
+  holds_at (task.Global y) x off is = applied_none task.Global (keeping m (global.held_behind m.poll.local.held y.stage found)) y.g y.r (global.step m.poll.layout (register_of m y.g y.r) y found) (global_goes m.poll.layout (register_of m y.g y.r) y y.stage found x) (global_keeps m.poll.local.held y.stage found x e)
+  holds_at (task.Register y) x off is = applied_none task.Register m y.g y.d (register.step (register_of m y.g (register.read_of y)) y) (register_goes (register.step (register_of m y.g (register.read_of y)) y).then) e
   holds_at (task.New y) x off is = new_none y.wanted y.stage x off
   holds_at (task.Gc g y) x off is = let w : Waiting = wait.waiting y m.poll in gc_none g (wait.goes w found) (wait.gives w found) (wait_none w y.stage found e x off)
   holds_at task.Poll x off is = polled_none (poll.goes m.poll found) (poll.gives m.poll found) (poll_none m.poll m.poll.stage found e x off)

@@ -11,14 +11,14 @@ use Rattle.gh_mutator.specs.declared.leave.LeaveStage.TheVariants as leave_stage
 use Rattle.gh_mutator.specs.declared.poll.PollStage.TheVariants as poll_stage
 use Rattle.gh_mutator.specs.declared.task.Task.TheVariants as task
 use Rattle.gh_mutator.specs.declared.wait.WaitStage.TheVariants as wait_stage
-use Rattle.gh_mutator.specs.Calm.{CalmProcessorsMarkNothing, FindsNoMarking, IsWrittenCalmly}
+use Rattle.gh_mutator.specs.Calm.{CalmProcessorsMarkNothing, FindsNoMarking, IsCalm, IsWrittenCalmly}
 use Rattle.gh_mutator.specs.MarkVocabulary.{View}
 use Rattle.gh_mutator.specs.ProcessorMarks.{MarksByMoves}
 use Rattle.gh_mutator.specs.ProcessorPlaces.{new_stage_at, party_of, stage_of}
 use Rattle.gh_mutator.specs.Vocabulary.{Polling}
 use Rattle.gh_mutator.specs.Wait as wait
-use Rattle.gh_mutator.proofs.Vocabulary.{Acts, Ask, asks, Awake, begins, CellsAreTold, has_left_at, HoldsNoBuffer, KnowsNoMarking, Layout, leaves_at, LeaveStage, LeavesWithNone, Load, MakesWithNone, NewStage, Op, phase_of, Place, PlaceBegins, polls_at, PollStage, PollsWithNone, Processor, processor_kind, ProcessorInHandshake, ResumeStage, run_phase, RunPhase, RunsWithNone, Search, Shape, stage_at, StageGoes, Task, Wait, Waiting, waits_at, WaitStage, WaitsWithNone}
-use Rattle.gh_mutator.proofs.Calm.Holding.{begins_leave, holds_at}
+use Rattle.gh_mutator.proofs.Vocabulary.{is_busy_at, party_at, register_of, Acts, Ask, asks, Awake, begins, CellsAreTold, has_left_at, HoldsNoBuffer, KnowsNoMarking, Layout, leaves_at, LeaveStage, LeavesWithNone, Load, MakesWithNone, NewStage, Op, phase_of, Place, PlaceBegins, polls_at, PollStage, PollsWithNone, Processor, processor_kind, ProcessorInHandshake, ResumeStage, run_phase, RunPhase, RunsWithNone, Search, Shape, stage_at, StageGoes, Task, Wait, Waiting, waits_at, WaitStage, WaitsWithNone}
+use Rattle.gh_mutator.proofs.Calm.Holding.{begins_leave, begins_set, begins_store_none, holds_at, not_mark}
 use Rattle.gh_mutator.proofs.Calm.Writes.{writes_calmly}
 use Rattle.gh_mutator.proofs.Writing.Rows.{leaves_others}
 
@@ -73,16 +73,22 @@ begins_on from stage to next (inr e) k =
     let leaves : next ≡ Leaves = cc in
     rw (same, leaves) (subst (λ (s : Stage). KnowsNoMarking from s) was k)
 
-module _ (m : Processor) (e : m.poll.local.held ≡ None) where
+module _ (m : Processor) (e : m.poll.local.held ≡ None) (off : m.poll.local.view.phase ≢ run.Mark) where
   begun_at : (shapes : List Shape) (o : Op) → HoldsNoBuffer (begins shapes m o)
   begun_at shapes op.Leave = record { none = refl; runs = begins_leave m.poll e }
+  begun_at shapes (op.Store g b k v) = record { none = e; runs = begins_store_none g b k v (register_of m g b) }
+  begun_at shapes (op.SetGlobal g k v) = record { none = e; runs = begins_set m.poll.layout m.poll.local g k v (register_of m g v) (not_mark m.poll.local.view.phase off) }
   begun_at shapes _ = record { none = e; runs = tt }
 
-begun : (shapes : List Shape) (l : Layout) (m : Processor) (o : Op) → HoldsNoBuffer m → HoldsNoBuffer ((processor_kind shapes l).begins m o)
-begun shapes l m o h = by (has_left_at m.task) where
-  by : (left : Bool) → HoldsNoBuffer (cond left m (begins shapes m o))
-  by true = h
-  by false = begun_at m h.none shapes o
+begun : (shapes : List Shape) (l : Layout) (m : Processor) (o : Op) → is_busy_at m.task ≡ false → IsCalm m → HoldsNoBuffer ((processor_kind shapes l).begins m o)
+begun shapes l m o rests c = by m.task refl rests where
+  here : m.task ≡ task.Idle → HoldsNoBuffer (begins shapes m o)
+  here e = begun_at m c.holds.none (subst (λ (t : Task). KnowsNoMarking (party_at m.poll t) (stage_at m.poll t)) e c.knows) shapes o
+
+  by : (t : Task) → m.task ≡ t → is_busy_at t ≡ false → HoldsNoBuffer (cond (has_left_at t) m (begins shapes m o))
+  by task.Idle e rests = here e
+  by task.Left e rests = c.holds
+  by _ e rests = absurd (cc)
 
 -- One that stands still at a stop, or is gone.
 still_knows : (party : Party) (stage : Stage) (stops : ℕ) → IsParked stops stage → KnowsNoMarking party stage
@@ -124,6 +130,8 @@ module _ (stops : ℕ) (p : Polling) where
   leave_still leave_stage.Left still = tt
 
   runs_still : (t : Task) → IsParked stops (stage_at p t) → RunsWithNone p t
+  runs_still (task.Store y) still = absurd still
+  runs_still (task.Global y) still = absurd still
   runs_still (task.New y) still = new_still y.stage still
   runs_still (task.Gc g y) still = wait_still (wait.waiting y p) y.stage refl still
   runs_still task.Poll still = poll_still p.stage still
@@ -133,7 +141,7 @@ module _ (stops : ℕ) (p : Polling) where
 pub calm_marks_nothing : CellsAreTold → AnObjectIsMarkedBeforeItIsMade → ProcessorInHandshake → MarksByMoves → CalmProcessorsMarkNothing
 calm_marks_nothing told marks h k = record {
   first = λ l seat. record { holds = record { none = refl; runs = tt }; knows = λ e. cc };
-  begins = λ shapes l m o sound rests c. record { holds = begun shapes l m o c.holds; knows = begins_on (party_of m) (stage_of m) _ _ (h.begins_so shapes l m o sound rests) c.knows };
+  begins = λ shapes l m o sound rests c. record { holds = begun shapes l m o rests c; knows = begins_on (party_of m) (stage_of m) _ _ (h.begins_so shapes l m o sound rests) c.knows };
   lasts = λ shapes m found sound busy c off. record { holds = holds_at marks shapes m found c.holds.none m.task c.holds.runs c.knows refl; knows = goes_on found (party_of m) (stage_of m) (asks m) _ _ (h.takes_so shapes m found sound busy) c.knows off };
   holds = λ shapes m found c. holds_at marks shapes m found c.holds.none m.task c.holds.runs c.knows refl;
   writes = λ m c. writes_calmly m.poll m.made m.task c.holds.runs;

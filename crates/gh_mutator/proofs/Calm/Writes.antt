@@ -6,14 +6,14 @@ use Rattle.gh_mutator.specs.declared.leave.LeaveStage.TheVariants as leave_stage
 use Rattle.gh_mutator.specs.declared.poll.PollStage.TheVariants as poll_stage
 use Rattle.gh_mutator.specs.declared.task.Task.TheVariants as task
 use Rattle.gh_mutator.specs.declared.wait.WaitStage.TheVariants as wait_stage
-use Rattle.gh_mutator.specs.Calm.{IsWrittenCalmly}
+use Rattle.gh_mutator.specs.Calm.{IsWrittenCalmly, SetsWithNone, StoresWithNone}
 use Rattle.gh_mutator.specs.Give as give
 use Rattle.gh_mutator.specs.Leave as leave
 use Rattle.gh_mutator.specs.New as new
 use Rattle.gh_mutator.specs.Poll as poll
 use Rattle.gh_mutator.specs.Vocabulary.{Polling}
 use Rattle.gh_mutator.specs.Wait as wait
-use Rattle.gh_mutator.proofs.Vocabulary.{asks, GivesNoBuffer, GiveStage, IsNoBuffer, LeaveStage, LeavesWithNone, Leaving, MakesWithNone, NewStage, Place, PollStage, PollsWithNone, Processor, register_of, ResumeStage, RunsWithNone, Search, Task, Wait, Waiting, WaitStage, WaitsWithNone, WritesOf}
+use Rattle.gh_mutator.proofs.Vocabulary.{GlobalStage, StoreStage, asks, GivesNoBuffer, GiveStage, IsNoBuffer, LeaveStage, LeavesWithNone, Leaving, MakesWithNone, NewStage, Place, PollStage, PollsWithNone, Processor, register_of, ResumeStage, RunsWithNone, Search, Task, Wait, Waiting, WaitStage, WaitsWithNone, WritesOf}
 use Rattle.gh_mutator.proofs.Writing.Processor.{running}
 use Rattle.gh_mutator.proofs.Writing.Routines.{gives_write, global_writes, load_writes, store_writes}
 use Rattle.gh_mutator.proofs.Writing.Rows.{OfHeap, place_writes, search_writes}
@@ -57,8 +57,8 @@ pub writes_calmly : (p : Polling) (made : List ℕ) (t : Task) → RunsWithNone 
 writes_calmly p made task.Idle x = tt
 writes_calmly p made task.Left x = tt
 writes_calmly p made (task.Load y) x = let m : Processor = running p made (task.Load y) in load_writes (IsWrittenCalmly m) (heap_written m) p.layout y
-writes_calmly p made (task.Store y) x = let m : Processor = running p made (task.Store y) in store_writes (IsWrittenCalmly m) (heap_written m) p.layout (register_of m y.g y.v) y
-writes_calmly p made (task.Global y) x = let m : Processor = running p made (task.Global y) in global_writes (IsWrittenCalmly m) (heap_written m) p.layout (register_of m y.g y.r) y
+writes_calmly p made (task.Store y) x = let m : Processor = running p made (task.Store y) in store_writes (IsWrittenCalmly m) (heap_written m) p.layout (register_of m y.g y.v) y (λ w e. absurd (subst (λ (q : StoreStage). StoresWithNone q) e x))
+writes_calmly p made (task.Global y) x = let m : Processor = running p made (task.Global y) in global_writes (IsWrittenCalmly m) (heap_written m) p.layout (register_of m y.g y.r) y (λ w e. absurd (subst (λ (q : GlobalStage). SetsWithNone q) e x))
 writes_calmly p made (task.Register y) x = tt
 writes_calmly p made (task.New y) x = makes (running p made (task.New y)) y.stage x
 writes_calmly p made (task.Gc g y) x = waits (running p made (task.Gc g y)) (wait.waiting y p) y.stage x

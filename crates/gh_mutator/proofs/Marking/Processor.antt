@@ -1,18 +1,22 @@
 -- While marking is on, each step of a whole processor that polls, waits or leaves is made of moves that its seat may make: by its tasks.
 use Rattle.std.proofs.Common.{◌≡◌, ℕ, Bool, true, false, cond, ltb, List, Option, Some, None, refl, subst}
 use Rattle.gh_base.specs.declared.operation.Op.TheVariants as op
+use Rattle.gh_barrier.specs.Facts.{WritesByMoves}
+use Rattle.gh_barrier.specs.Listing.{Writing as PointerWrite}
 use Rattle.gh_phase.specs.Shakes.{IsParked}
+use Rattle.gh_mutator.specs.declared.global.GlobalStage.TheVariants as global_stage
 use Rattle.gh_mutator.specs.declared.leave.LeaveStage.TheVariants as leave_stage
 use Rattle.gh_mutator.specs.declared.poll.PollStage.TheVariants as poll_stage
+use Rattle.gh_mutator.specs.declared.store.StoreStage.TheVariants as store_stage
 use Rattle.gh_mutator.specs.declared.task.Task.TheVariants as task
 use Rattle.gh_mutator.specs.declared.wait.WaitStage.TheVariants as wait_stage
 use Rattle.gh_mutator.specs.Leave as leave
 use Rattle.gh_mutator.specs.MarkFacts.{IsBetween, KnowsCycle, KnowsStacks, LeaveFacts, LeavesByMoves, PollFacts, PollsByMoves, PollStageFacts, RestFacts, WaitFacts, WaitsByMoves, WaitStageFacts}
 use Rattle.gh_mutator.specs.New as new
 use Rattle.gh_mutator.specs.Poll as poll
-use Rattle.gh_mutator.specs.ProcessorMarks.{MarkFacts, MarksByMoves, new_polls, NewFacts, only_polls, TaskFacts}
+use Rattle.gh_mutator.specs.ProcessorMarks.{GlobalFacts, IsWriting, MarkFacts, MarksByMoves, new_polls, NewFacts, only_polls, reserved_at, StoreFacts, TaskFacts}
 use Rattle.gh_mutator.specs.ProcessorPlaces.{new_stage_at}
-use Rattle.gh_mutator.specs.Vocabulary.{Polling}
+use Rattle.gh_mutator.specs.Vocabulary.{GlobalStage, Polling, Store, StoreStage}
 use Rattle.gh_mutator.specs.Wait as wait
 use Rattle.gh_mutator.proofs.Vocabulary.{after_gc, after_leave, after_poll, asks_at, begins, cell_of, Cycle, effect, Good, Hands, holding, Keeps, KnowsObjects, landing, leaves_at, LeaveStage, Leaving, Local, NewStage, nothing, Op, Others, Place, polls_at, PollStage, Processor, Search, Shape, Shared, stage_at, Steps, takes_at, Task, Wait, Waiting, waits_at, WaitStage, WaitState, Wanted}
 use Rattle.gh_mutator.proofs.Marking.Known.{Known, stacks_last}
@@ -40,7 +44,7 @@ wait_over w wait_stage.LoadSwept found u e = by (ltb w.wait.known found) e where
   by false e = absurd (cc)
 wait_over w wait_stage.Ended found u e = absurd (cc)
 
-module _ (k : Known) (h : PollsByMoves) (v : WaitsByMoves) (l : LeavesByMoves) (z : Cycle) (a : ℕ) where
+module _ (k : Known) (h : PollsByMoves) (v : WaitsByMoves) (l : LeavesByMoves) (b : WritesByMoves) (z : Cycle) (a : ℕ) where
   -- behind a step
   polled_then : (t : Shared) (m : Processor) (p : Polling) (out : Option (Unit {0})) → poll.given p.stage ≡ out → PollFacts z a t p → MarkFacts z a t (after_poll m p out)
   polled_then t m p None e f = record { layout_is = f.layout_is; seat_is = f.seat_is; stacks = f.stacks; task_is = f }
@@ -112,12 +116,34 @@ module _ (k : Known) (h : PollsByMoves) (v : WaitsByMoves) (l : LeavesByMoves) (
   new_lasts : (s t : Shared) (p : Polling) (q : NewStage) → Others z a s t → NewFacts z a s p q → NewFacts z a t p q
   new_lasts s t p (Search waited y) o x = between_lasts s t p.local o x
   new_lasts s t p (Wait y) o x = v.lasts z a s t (wait.waiting y p) o x
-  new_lasts s t p (Place y) o x = between_lasts s t p.local o x
+  new_lasts s t p (Place y) o x = record {
+    marking = x.marking;
+    stacks = stacks_last z a s t p.local.stacks p.local.scanned o.keeps x.stacks;
+    number = x.number;
+    hands = k.last z a s t (record (holding p.local.held) { placing = reserved_at y.at y.stage }) o x.hands;
+  }
+
+  writing_lasts : (s t : Shared) (local : Local) (w : PointerWrite) → Others z a s t → IsWriting z a s local w → IsWriting z a t local w
+  writing_lasts s t local w o x = record { stacks = stacks_last z a s t local.stacks local.scanned o.keeps x.stacks; number = x.number; writes = b.keeps.lasts z a s t nothing w o x.writes }
+
+  store_lasts : (s t : Shared) (p : Polling) (y : Store) (q : StoreStage) → Others z a s t → StoreFacts z a s p y q → StoreFacts z a t p y q
+  store_lasts s t p y store_stage.Page o x = (between_lasts s t p.local o x.0, x.1)
+  store_lasts s t p y store_stage.Bits o x = (between_lasts s t p.local o x.0, x.1)
+  store_lasts s t p y store_stage.Field o x = (between_lasts s t p.local o x.0, x.1)
+  store_lasts s t p y (store_stage.Writing w) o x = writing_lasts s t p.local w o x
+  store_lasts s t p y store_stage.NilBase o x = between_lasts s t p.local o x
+
+  global_lasts : (s t : Shared) (p : Polling) (q : GlobalStage) → Others z a s t → GlobalFacts z a s p q → GlobalFacts z a t p q
+  global_lasts s t p global_stage.Store o x = (between_lasts s t p.local o x.0, x.1)
+  global_lasts s t p (global_stage.Writing w) o x = writing_lasts s t p.local w o x
+  global_lasts s t p _ o x = between_lasts s t p.local o x
 
   task_lasts : (s t : Shared) (p : Polling) (q : Task) → Others z a s t → TaskFacts z a s p q → TaskFacts z a t p q
   task_lasts s t p task.Left o x = (x.0, k.last z a s t nothing o x.1)
   task_lasts s t p (task.New y) o x = new_lasts s t p y.stage o x
   task_lasts s t p (task.Gc g y) o x = v.lasts z a s t (wait.waiting y p) o x
+  task_lasts s t p (task.Store y) o x = store_lasts s t p y y.stage o x
+  task_lasts s t p (task.Global y) o x = global_lasts s t p y.stage o x
   task_lasts s t p task.Poll o x = h.lasts z a s t p o x
   task_lasts s t p (task.Leave y) o x = (x.0, l.lasts z a s t y o x.1)
   task_lasts s t p _ o x = between_lasts s t p.local o x
@@ -199,11 +225,11 @@ module _ (k : Known) (h : PollsByMoves) (v : WaitsByMoves) (l : LeavesByMoves) (
   }
   begins_facts shapes s m _ only r = absurd (cc)
 
-pub marks_by_moves : Known → PollsByMoves → WaitsByMoves → LeavesByMoves → MarksByMoves
-marks_by_moves k h v l = record {
-  opens = λ z a s m n. record { layout_is = n.layout_is; seat_is = n.seat_is; stacks = n.stacks; task_is = task_opens k h v l z a s m.poll n.stops n.layout_is n.seat_is n.no_buffer n.stacks n.nothing_in_hand m.task n.parked };
-  begins = λ shapes z a s m o idle only f. begins_facts k h v l z a shapes s m o only (record { layout_is = f.layout_is; seat_is = f.seat_is; between = subst (λ (t : Task). TaskFacts z a s m.poll t) idle f.task_is });
-  own_step = λ shapes z a s m good objects now only f. steps_at k h v l z a s good objects now shapes m f.layout_is f.seat_is f.stacks m.task only f.task_is;
-  lasts = λ z a s t m o f. record { layout_is = f.layout_is; seat_is = f.seat_is; stacks = stacks_last z a s t m.poll.local.stacks m.poll.local.scanned o.keeps f.stacks; task_is = task_lasts k h v l z a s t m.poll m.task o f.task_is };
-  waits = λ z a s m stops still f. let x = stands k h v l z a s m.poll m.task stops still f.task_is in record { stops = stops; parked = still; layout_is = f.layout_is; seat_is = f.seat_is; no_buffer = x.0; stacks = f.stacks; nothing_in_hand = x.1 };
+pub marks_by_moves : Known → PollsByMoves → WaitsByMoves → LeavesByMoves → WritesByMoves → MarksByMoves
+marks_by_moves k h v l b = record {
+  opens = λ z a s m n. record { layout_is = n.layout_is; seat_is = n.seat_is; stacks = n.stacks; task_is = task_opens k h v l b z a s m.poll n.stops n.layout_is n.seat_is n.no_buffer n.stacks n.nothing_in_hand m.task n.parked };
+  begins = λ shapes z a s m o idle only f. begins_facts k h v l b z a shapes s m o only (record { layout_is = f.layout_is; seat_is = f.seat_is; between = subst (λ (t : Task). TaskFacts z a s m.poll t) idle f.task_is });
+  own_step = λ shapes z a s m good objects now only f. steps_at k h v l b z a s good objects now shapes m f.layout_is f.seat_is f.stacks m.task only f.task_is;
+  lasts = λ z a s t m o f. record { layout_is = f.layout_is; seat_is = f.seat_is; stacks = stacks_last z a s t m.poll.local.stacks m.poll.local.scanned o.keeps f.stacks; task_is = task_lasts k h v l b z a s t m.poll m.task o f.task_is };
+  waits = λ z a s m stops still f. let x = stands k h v l b z a s m.poll m.task stops still f.task_is in record { stops = stops; parked = still; layout_is = f.layout_is; seat_is = f.seat_is; no_buffer = x.0; stacks = f.stacks; nothing_in_hand = x.1 };
 }

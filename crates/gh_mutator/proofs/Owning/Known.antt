@@ -1,6 +1,8 @@
 -- What is known of the heap, of packed words, of the size classes and of the routines that the processor runs, by what their laws say.
 use Rattle.gh_base.specs.Rows.{RowsAreWritten}
 use Rattle.gh_heap.specs.Laws.{EachMoveKeepsItsOwn}
+use Rattle.gh_barrier.specs.Facts.{WritesByMoves}
+use Rattle.gh_barrier.specs.Within.{WritingIsWithin}
 use Rattle.gh_alloc.specs.PlaceFacts.{PlacesByItsRights}
 use Rattle.gh_alloc.specs.SearchFacts.{SeeksByItsRights}
 use Rattle.gh_mutator.specs.PollHeapLaws.{LeavesByRights, PollsByRights, WaitsByRights}
@@ -19,3 +21,5 @@ pub record Known : Type 0 where
   pub polls : PollsByRights
   pub waits : WaitsByRights
   pub leaves : LeavesByRights
+  pub writes : WritesByMoves
+  pub within : WritingIsWithin

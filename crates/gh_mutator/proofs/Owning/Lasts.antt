@@ -7,7 +7,7 @@ use Rattle.gh_heap.specs.Moves.{Others}
 use Rattle.gh_heap.specs.Rights.{Rights}
 use Rattle.gh_heap.specs.Spans.{Freeing, Laying}
 use Rattle.gh_alloc.specs.SearchFacts as search
-use Rattle.gh_mutator.specs.Vocabulary.{Answer, Arena, EverValue, fits, Global, GlobalStage, Good, is_number, IsOf, Load, LoadStage, MOST_STATEMENTS, Name, NewStage, Place, Placing, Processor, Register, Runs, Search, Seeking, shape_at, Source, Store, StoreStage, Task, View, Wait, Wanted}
+use Rattle.gh_mutator.specs.Vocabulary.{Polling, Answer, Arena, EverValue, fits, Global, GlobalStage, Good, is_number, IsOf, Load, LoadStage, MOST_STATEMENTS, Name, NewStage, Place, Placing, Processor, Register, Runs, Search, Seeking, shape_at, Source, Store, StoreStage, Task, View, Wait, Wanted}
 use Rattle.gh_mutator.specs.declared.global.GlobalStage.TheVariants as global_stage
 use Rattle.gh_mutator.specs.declared.load.LoadStage.TheVariants as load_stage
 use Rattle.gh_mutator.specs.declared.register.Source.TheVariants as source
@@ -64,23 +64,31 @@ module _ (z : Arena) (a : ℕ) (v w : View) (o : Others z a v w) where
   stores_last : (x : Store) (pending : Option Answer) → Stores z a v x pending → Stores z a w x pending
   stores_last x pending l = record { n = l.n; through = through_lasts x.g x.b x.at l.n l.through; register = l.register; unanswered = l.unanswered }
 
-  store_lasts : (x : Store) (pending : Option Answer) (q : StoreStage) → StoreFacts z a v x pending q → StoreFacts z a w x pending q
+  store_lasts : (p : Polling) (x : Store) (pending : Option Answer) (q : StoreStage) → StoreFacts z a v p x pending q → StoreFacts z a w p x pending q
   unfolding stores_last
-  store_lasts x pending store_stage.Page f = stores_last x pending f
-  store_lasts x pending store_stage.Bits f = (stores_last x pending f.0, has_lasts f.0.n x.k f.0.through.made f.1)
-  store_lasts x pending store_stage.Field f = (
+  store_lasts p x pending store_stage.Page f = stores_last x pending f
+  store_lasts p x pending store_stage.Bits f = (stores_last x pending f.0, has_lasts f.0.n x.k f.0.through.made f.1)
+  store_lasts p x pending store_stage.Field f = (
     stores_last x pending f.0,
     has_lasts f.0.n x.k f.0.through.made f.1,
     kind_lasts (λ (b : Bool). fits b (w.ever.register x.g x.v) ≡ true) f.0.n x.k f.0.through.made
         (of_register (λ (y : EverValue). fits (is_pointer (shape_at z.shapes (v.ever.type_of f.0.n)) x.k) y ≡ true) x.g x.v f.0.through.runs.of f.2),
   )
-  store_lasts x pending store_stage.NilBase f = (runs_lasts x.g f.0, f.1, of_register IsPlain x.g x.b f.0.of f.2, f.3)
+  store_lasts p x pending (store_stage.Writing y) f = (
+    stores_last x pending f.0,
+    has_lasts f.0.n x.k f.0.through.made f.1,
+    kind_lasts (λ (b : Bool). fits b (w.ever.register x.g x.v) ≡ true) f.0.n x.k f.0.through.made
+        (of_register (λ (y : EverValue). fits (is_pointer (shape_at z.shapes (v.ever.type_of f.0.n)) x.k) y ≡ true) x.g x.v f.0.through.runs.of f.2),
+    f.3,
+  )
+  store_lasts p x pending store_stage.NilBase f = (runs_lasts x.g f.0, f.1, of_register IsPlain x.g x.b f.0.of f.2, f.3)
 
-  global_lasts : (x : Global) (pending : Option Answer) (q : GlobalStage) → GlobalFacts z a v x pending q → GlobalFacts z a w x pending q
-  global_lasts x pending global_stage.Load f = (runs_lasts x.g f.0, f.1, f.2, f.3)
-  global_lasts x pending (global_stage.Birth at) f = takes_lasts x.g x.r at pending f
-  global_lasts x pending global_stage.Store f = (runs_lasts x.g f.0, f.1, f.2, of_register (λ (y : EverValue). is_number y ≡ false) x.g x.r f.0.of f.3, f.4)
-  global_lasts x pending global_stage.Number f = (runs_lasts x.g f.0, of_register (λ (y : EverValue). is_number y ≡ true) x.g x.r f.0.of f.1, f.2)
+  global_lasts : (p : Polling) (x : Global) (pending : Option Answer) (q : GlobalStage) → GlobalFacts z a v p x pending q → GlobalFacts z a w p x pending q
+  global_lasts p x pending global_stage.Load f = (runs_lasts x.g f.0, f.1, f.2, f.3)
+  global_lasts p x pending (global_stage.Birth at) f = takes_lasts x.g x.r at pending f
+  global_lasts p x pending global_stage.Store f = (runs_lasts x.g f.0, f.1, f.2, of_register (λ (y : EverValue). is_number y ≡ false) x.g x.r f.0.of f.3, f.4)
+  global_lasts p x pending (global_stage.Writing y) f = (runs_lasts x.g f.0, f.1, f.2, of_register (λ (y : EverValue). is_number y ≡ false) x.g x.r f.0.of f.3, f.4, f.5)
+  global_lasts p x pending global_stage.Number f = (runs_lasts x.g f.0, of_register (λ (y : EverValue). is_number y ≡ true) x.g x.r f.0.of f.1, f.2)
 
   register_lasts : (x : Register) (pending : Option Answer) (q : Source) → RegisterFacts z a v x pending q → RegisterFacts z a w x pending q
   register_lasts x pending (source.Int n) f = (runs_lasts x.g f.0, f.1, f.2)
@@ -124,8 +132,8 @@ module _ (z : Arena) (a : ℕ) (v w : View) (o : Others z a v w) where
 
     task_lasts : (pending : Option Answer) (q : Task) → HasAt a v m q → FactsAt z a v m pending q → FactsAt z a w m pending q
     task_lasts pending (task.Load x) has f = load_lasts x pending x.stage f
-    task_lasts pending (task.Store x) has f = store_lasts x pending x.stage f
-    task_lasts pending (task.Global x) has f = global_lasts x pending x.stage f
+    task_lasts pending (task.Store x) has f = store_lasts m.poll x pending x.stage f
+    task_lasts pending (task.Global x) has f = global_lasts m.poll x pending x.stage f
     task_lasts pending (task.Register x) has f = register_lasts x pending x.source f
     task_lasts pending (task.New x) has f = new_lasts x.wanted pending x.stage has f
     task_lasts pending (task.End g) has f = (runs_lasts g f.0, f.1)

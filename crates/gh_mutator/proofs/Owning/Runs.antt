@@ -92,6 +92,7 @@ global-point : (x : Global) (q : GlobalStage) → has_point (global.op_in x q) �
 global-point x global_stage.Load = refl
 global-point x (global_stage.Birth at) = refl
 global-point x global_stage.Store = refl
+global-point x (global_stage.Writing w) = refl
 global-point x global_stage.Number = refl
 
 register-point : (x : Register) (q : Source) → has_point (register.op_from x q) ≡ true
@@ -109,7 +110,7 @@ points-at : (z : Arena) (a : ℕ) (s t : Shared) (m : Processor) (pending : Opti
 points-at z a s t m pending found task.Idle busy h d = absurd (cc)
 points-at z a s t m pending found task.Left busy h d = absurd (cc)
 points-at z a s t m pending found (task.Load x) busy h d = points-all z a s t (at_task m (task.Load x)) pending found d (acting-point (load.step m.poll.layout x found).acts (load.op_of x) false refl)
-points-at z a s t m pending found (task.Store x) busy h d = points-all z a s t (at_task m (task.Store x)) pending found d (acting-point (store.step m.poll.layout (register_of m x.g x.v) x found).acts (store.op_of x) false refl)
+points-at z a s t m pending found (task.Store x) busy h d = points-all z a s t (at_task m (task.Store x)) pending found d (acting-point (store.step m.poll.layout m.poll.local (register_of m x.g x.v) x found).acts (store.op_of x) false refl)
 points-at z a s t m pending found (task.Global x) busy h d = points-all z a s t (at_task m (task.Global x)) pending found d (acting-point (global.step m.poll.layout (register_of m x.g x.r) x found).acts (global.op_of x) false (global-point x x.stage))
 points-at z a s t m pending found (task.Register x) busy h d = points-all z a s t (at_task m (task.Register x)) pending found d (acting-point (register.step (register_of m x.g (register.read_of x)) x).acts (register.op_of x) false (register-point x x.source))
 points-at z a s t m pending found (task.New x) busy h d = points-all z a s t (at_task m (task.New x)) pending found d (acting-point (new.acts_at x.stage found) (new.op_of x.wanted) (new.is_full_at x.stage) refl)

@@ -34,7 +34,7 @@ pub record IsFor (z : Arena) (a : ℕ) (w : View) (m : Processor) (x : Wanted) (
   pub own : place.IsItsSpan (own_span m.poll.seat m.poll.local.view.generation x.sought) claim.p claim.h y
   pub apart : (p : ℕ) → find.own_found x.sought y ≡ Some p → (claim.h.class ≡ size.Large) × (claim.p ≡ p)
 
-abbrev sized : (z : Arena) (a : ℕ) (w : View) (y n l : ℕ) (c : Claims z w a y n) → n ≡ l → Claims z w a y l
+abbrev pub sized : (z : Arena) (a : ℕ) (w : View) (y n l : ℕ) (c : Claims z w a y n) → n ≡ l → Claims z w a y l
 sized z a w y n l c e = record {
   p = c.p;
   h = c.h;

@@ -1,7 +1,7 @@
 -- Each step of the processor is on a word that there is.
 use Rattle.std.proofs.Common.{◌≡◌, ℕ, ◌+◌, ◌*◌, ◌/◌, ◌%◌, ◌<◌, Option, ap, arith}
 use Rattle.std.proofs.Math.Nat.{mod-lt}
-use Rattle.gh_mutator.proofs.Owning.Vocabulary.{FactsAt, for_whom, GlobalFacts, HasAt, KnowsAt, NewFacts, register_of, rest, Sits}
+use Rattle.gh_mutator.proofs.Owning.Vocabulary.{FactsAt, for_whom, GlobalFacts, HasAt, KnowsAt, NewFacts, register_of, rest, Sits, StoreFacts}
 use Rattle.gh_base.specs.Cells.{InRange}
 use Rattle.gh_mutator.specs.Vocabulary.{Answer, Arena, cell_of, Global, GlobalStage, Good, Layout, Load, LoadStage, NewStage, Place, Processor, Search, Store, StoreStage, Task, View, Wait, Wanted}
 use Rattle.gh_heap.specs.Rights.{Rights}
@@ -44,16 +44,18 @@ module _ (k : Known) (z : Arena) (a : ℕ) (v : View) (m : Processor) (pending :
   load_within x (load_stage.Field p) = heap (x.at + x.k)
   load_within x (load_stage.Birth at) = heap at
 
-  store_within : (x : Store) (q : StoreStage) → InRange z.layout (cell_of (store.asks_at m.poll.layout (register_of m x.g x.v) x q))
-  store_within x store_stage.NilBase = tt
-  store_within x store_stage.Page = page (x.at / 1024)
-  store_within x store_stage.Bits = bits ((x.at + x.k) / 64)
-  store_within x store_stage.Field = heap (x.at + x.k)
+  store_within : (x : Store) (q : StoreStage) → StoreFacts z a v m.poll x pending q → InRange z.layout (cell_of (store.asks_at m.poll.layout (register_of m x.g x.v) x q))
+  store_within x store_stage.NilBase h = tt
+  store_within x store_stage.Page h = page (x.at / 1024)
+  store_within x store_stage.Bits h = bits ((x.at + x.k) / 64)
+  store_within x store_stage.Field h = heap (x.at + x.k)
+  store_within x (store_stage.Writing w) h = k.within.within z.layout w h.3.within
 
-  global_within : (x : Global) (q : GlobalStage) → GlobalFacts z a v x pending q → InRange z.layout (cell_of (global.asks_at m.poll.layout (register_of m x.g x.r) x q))
+  global_within : (x : Global) (q : GlobalStage) → GlobalFacts z a v m.poll x pending q → InRange z.layout (cell_of (global.asks_at m.poll.layout (register_of m x.g x.r) x q))
   global_within x global_stage.Load h = h.2
   global_within x (global_stage.Birth at) h = heap at
   global_within x global_stage.Store h = h.2
+  global_within x (global_stage.Writing w) h = k.within.within z.layout w h.4.within
   global_within x global_stage.Number h = tt
 
   new_within : (w : Wanted) (q : NewStage) → KnowsNew z a v m.poll q → Rights a v (locked_new m q) (held_new m w q) (laying_new q) (freeing_new q) → NewFacts z a v m w pending q → InRange z.layout (cell_of (new.asks_at m q))
@@ -65,7 +67,7 @@ module _ (k : Known) (z : Arena) (a : ℕ) (v : View) (m : Processor) (pending :
   within-at task.Idle knows right h = tt
   within-at task.Left knows right h = tt
   within-at (task.Load x) knows right h = load_within x x.stage
-  within-at (task.Store x) knows right h = store_within x x.stage
+  within-at (task.Store x) knows right h = store_within x x.stage h
   within-at (task.Global x) knows right h = global_within x x.stage h
   within-at (task.Register x) knows right h = tt
   within-at (task.New x) knows right h = new_within x.wanted x.stage knows right h

@@ -13,6 +13,7 @@ use Rattle.gh_mutator.specs.LeaveEnds as leave_proved
 use Rattle.gh_mutator.specs.Load as load
 use Rattle.gh_mutator.specs.Poll as poll
 use Rattle.gh_mutator.specs.PollEnds as poll_proved
+use Rattle.gh_mutator.specs.Processor.{keeping}
 use Rattle.gh_mutator.specs.ProcessorPlaces.{LeavesOn, party_of, SoundPlace, stage_of}
 use Rattle.gh_mutator.specs.Register as register
 use Rattle.gh_mutator.specs.Store as store
@@ -48,16 +49,16 @@ idle_plain = record { sound = λ p. tt; party = λ p. refl; stage = λ p. refl }
 lands : (m to : Processor) → HasPlaces to.poll.local.cache → knower to.poll ≡ knower m.poll → Plain to.task → Lands m to
 lands m to has same plain = record { sound = (has, plain.sound to.poll); party = plain.party to.poll ∙ same; stage = plain.stage to.poll }
 
--- a statement's step
-applied_lands : {S : Type 0} (into : S → Task) (m : Processor) (g d : ℕ) (step : Step S) → HasPlaces m.poll.local.cache → ((y : S) → Plain (into y)) → Lands m (applied into m g d step)
-applied_lands {S} into m g d step has plain = by step.sets step.then where
+-- a statement's step, behind which another buffer may be held
+applied_lands : {S : Type 0} (into : S → Task) (m n : Processor) (g d : ℕ) (step : Step S) → HasPlaces n.poll.local.cache → knower n.poll ≡ knower m.poll → ((y : S) → Plain (into y)) → Lands m (applied into n g d step)
+applied_lands {S} into m n g d step has same plain = by step.sets step.then where
   follows_plain : (then : Then S) → Plain (follows into then)
   follows_plain (GoesOn y) = plain y
   follows_plain (Ends a) = idle_plain
 
-  by : (sets : Option Value) (then : Then S) → Lands m (applied into m g d (record { then = then; sets = sets; acts = step.acts }))
-  by None then = lands m _ has refl (follows_plain then)
-  by (Some v) then = lands m _ has refl (follows_plain then)
+  by : (sets : Option Value) (then : Then S) → Lands m (applied into n g d (record { then = then; sets = sets; acts = step.acts }))
+  by None then = lands m _ has same (follows_plain then)
+  by (Some v) then = lands m _ has same (follows_plain then)
 
 load_plain : (x : _) → Plain (task.Load x)
 load_plain x = record { sound = λ p. tt; party = λ p. refl; stage = λ p. refl }
@@ -178,10 +179,10 @@ module _ (q : ProcessorIsQuiet) (k : MarkingIsQuiet) (h : PollsInHandshake) (v :
     goes_at : (found : ℕ) (m : Processor) (t : Task) → HasPlaces m.poll.local.cache → SoundAt m.poll t → is_busy_at t ≡ true → Goes found m t (takes_at shapes m t found)
     goes_at found m task.Idle has s busy = absurd cc
     goes_at found m task.Left has s busy = absurd cc
-    goes_at found m (task.Load x) has s busy = awake found m _ _ refl refl (q.loads m.poll.layout x) (applied_lands task.Load m x.g x.d (load.step m.poll.layout x found) has load_plain)
-    goes_at found m (task.Store x) has s busy = awake found m _ _ refl refl (q.stores m.poll.layout (register_of m x.g x.v) x) (applied_lands task.Store m x.g x.v (store.step m.poll.layout (register_of m x.g x.v) x found) has store_plain)
-    goes_at found m (task.Global x) has s busy = awake found m _ _ refl refl (q.globals m.poll.layout (register_of m x.g x.r) x) (applied_lands task.Global m x.g x.r (global.step m.poll.layout (register_of m x.g x.r) x found) has global_plain)
-    goes_at found m (task.Register x) has s busy = awake found m _ _ refl refl (q.registers x) (applied_lands task.Register m x.g x.d (register.step (register_of m x.g (register.read_of x)) x) has register_plain)
+    goes_at found m (task.Load x) has s busy = awake found m _ _ refl refl (q.loads m.poll.layout x) (applied_lands task.Load m m x.g x.d (load.step m.poll.layout x found) has refl load_plain)
+    goes_at found m (task.Store x) has s busy = awake found m _ _ refl refl (q.stores m.poll.layout (register_of m x.g x.v) x) (applied_lands task.Store m (keeping m (store.held_behind m.poll.local.held x.stage found)) x.g x.v (store.step m.poll.layout m.poll.local (register_of m x.g x.v) x found) has refl store_plain)
+    goes_at found m (task.Global x) has s busy = awake found m _ _ refl refl (q.globals m.poll.layout (register_of m x.g x.r) x) (applied_lands task.Global m (keeping m (global.held_behind m.poll.local.held x.stage found)) x.g x.r (global.step m.poll.layout (register_of m x.g x.r) x found) has refl global_plain)
+    goes_at found m (task.Register x) has s busy = awake found m _ _ refl refl (q.registers x) (applied_lands task.Register m m x.g x.d (register.step (register_of m x.g (register.read_of x)) x) has refl register_plain)
     goes_at found m (task.New x) has s busy = new_goes found m x.wanted x.stage has s
     goes_at found m (task.Gc g x) has s busy = gc_goes found m g x s.0 s.1 (wait.gives (wait.waiting x m.poll) found) refl
     goes_at found m task.Poll has s busy = poll_goes found m s (poll.gives m.poll found) refl

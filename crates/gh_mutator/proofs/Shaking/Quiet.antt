@@ -1,5 +1,12 @@
 -- What a processor runs while it is awake writes no word of the handshake: by its stages.
+use Rattle.std.specs.Prelude.{ℕ}
+use Rattle.gh_base.specs.declared.cell.Ask.TheVariants as ask
 use Rattle.gh_alloc.specs.Quiet.{AllocationIsQuiet}
+use Rattle.gh_barrier.specs.declared.pointer_cell.PointerCell.{PointerCell}
+use Rattle.gh_barrier.specs.declared.pointer_cell.PointerCell.TheVariants as pointer_cell
+use Rattle.gh_barrier.specs.declared.write_pointer.WriteStage.{WriteStage}
+use Rattle.gh_barrier.specs.declared.write_pointer.WriteStage.TheVariants as write_stage
+use Rattle.gh_barrier.specs.Listing as write
 use Rattle.gh_stack.specs.declared.scan_stack.StackStage.TheVariants as stack_stage
 use Rattle.gh_stack.specs.Listing as stack
 use Rattle.gh_mutator.specs.declared.give.GiveStage.TheVariants as give_stage
@@ -25,19 +32,33 @@ loads : (l : Layout) (x : Load) (stage : LoadStage) → IsQuiet (load.asks_at l 
 loads l x load_stage.NilBase = tt
 loads l x _ = tt
 
-stores : (l : Layout) (held : Value) (x : Store) (stage : StoreStage) → IsQuiet (store.asks_at l held x stage)
-stores l held x store_stage.NilBase = tt
-stores l held x store_stage.Page = tt
-stores l held x store_stage.Bits = tt
-stores l held x store_stage.Field = tt
-
-globals : (l : Layout) (held : Value) (x : Global) (stage : GlobalStage) → IsQuiet (global.asks_at l held x stage)
-globals l held x global_stage.Load = tt
-globals l held x (global_stage.Birth at) = tt
-globals l held x global_stage.Store = tt
-globals l held x global_stage.Number = tt
+-- a cell that holds a pointer is no word of the handshake
+cells : (c : PointerCell) (word : ℕ) → IsQuiet (ask.Store (write.cell_at c) word)
+cells (pointer_cell.Field x) word = tt
+cells (pointer_cell.Global i) word = tt
 
 module _ (q : MarkingIsQuiet) (a : AllocationIsQuiet) where
+  writes : (w : write.Writing) (stage : WriteStage) → IsQuiet (write.asks_at w stage)
+  writes w write_stage.LoadOld = tt
+  writes w (write_stage.ShadeOld sh) = q.shades sh
+  writes w (write_stage.ShadeNew sh) = q.shades sh
+  writes w write_stage.Store = cells w.at (write.word_of w.pointer)
+  writes w write_stage.Ended = tt
+
+  stores : (l : Layout) (held : Value) (x : Store) (stage : StoreStage) → IsQuiet (store.asks_at l held x stage)
+  stores l held x store_stage.NilBase = tt
+  stores l held x store_stage.Page = tt
+  stores l held x store_stage.Bits = tt
+  stores l held x store_stage.Field = tt
+  stores l held x (store_stage.Writing w) = writes w w.stage
+
+  globals : (l : Layout) (held : Value) (x : Global) (stage : GlobalStage) → IsQuiet (global.asks_at l held x stage)
+  globals l held x global_stage.Load = tt
+  globals l held x (global_stage.Birth at) = tt
+  globals l held x global_stage.Store = tt
+  globals l held x (global_stage.Writing w) = writes w w.stage
+  globals l held x global_stage.Number = tt
+
   gives : (g : give.Giving) (stage : GiveStage) → IsQuiet (give.asks_at g stage)
   gives g (give_stage.GiveBuffer b) = q.gives b
   gives g _ = tt

@@ -74,7 +74,7 @@ module _ (shapes : List Shape) (m : Processor) (found : ℕ) where
   once_at task.Idle is wants = subst (λ (t : Task). IsWanting t) (sym is) wants
   once_at task.Left is wants = subst (λ (t : Task). IsWanting t) (sym is) wants
   once_at (task.Load x) is wants = into_on task.Load (load.step m.poll.layout x found).then (λ y e. e) wants
-  once_at (task.Store x) is wants = into_on task.Store (store.step m.poll.layout (register_of m x.g x.v) x found).then (λ y e. e) wants
+  once_at (task.Store x) is wants = into_on task.Store (store.step m.poll.layout m.poll.local (register_of m x.g x.v) x found).then (λ y e. e) wants
   once_at (task.Global x) is wants = into_on task.Global (global.step m.poll.layout (register_of m x.g x.r) x found).then (λ y e. e) wants
   once_at (task.Register x) is wants = into_on task.Register (register.step (register_of m x.g (register.read_of x)) x).then (λ y e. e) wants
   once_at (task.New x) is wants = making_once x.wanted x.stage wants

@@ -89,8 +89,8 @@ module _ (p : Polling) (made : List ℕ) (scan : SoundScanAt p p.stage) where
   writes_at task.Idle sound = tt
   writes_at task.Left sound = tt
   writes_at (task.Load x) sound = load_writes (IsWritten (running p made (task.Load x))) (heap_written (running p made (task.Load x))) p.layout x
-  writes_at (task.Store x) sound = let m : Processor = running p made (task.Store x) in store_writes (IsWritten m) (heap_written m) p.layout (register_of m x.g x.v) x
-  writes_at (task.Global x) sound = let m : Processor = running p made (task.Global x) in global_writes (IsWritten m) (heap_written m) p.layout (register_of m x.g x.r) x
+  writes_at (task.Store x) sound = let m : Processor = running p made (task.Store x) in store_writes (IsWritten m) (heap_written m) p.layout (register_of m x.g x.v) x (λ w e. marking_written m)
+  writes_at (task.Global x) sound = let m : Processor = running p made (task.Global x) in global_writes (IsWritten m) (heap_written m) p.layout (register_of m x.g x.r) x (λ w e. marking_written m)
   writes_at (task.Register x) sound = tt
   writes_at (task.New x) sound = new_writes x.wanted x.stage sound
   writes_at (task.Gc g x) sound = wait_writes (running p made (task.Gc g x)) x refl (λ e. e) scan x.stage refl sound.0.1

@@ -43,13 +43,18 @@ pub record OfHeap (P : Cell → Type 0) : Type 0 where
   pub field : (i : ℕ) → P (cell.Field i)
   pub global : (i : ℕ) → P (cell.Global i)
 
+-- those among them that the search for a slot writes
+pub record OfSpans (P : Cell → Type 0) : Type 0 where
+  pub lock : P cell.Lock
+  pub page : (i : ℕ) → P (cell.Page i)
+
 pub record OfMarking (P : Cell → Type 0) : Type 0 where
   pub mark : (i : ℕ) → P (cell.Mark i)
   pub buffer : (i : ℕ) → P (cell.Buffer i)
   pub entry : (i j : ℕ) → P (cell.Entry i j)
 
 -- Allocation.
-module _ (P : Cell → Type 0) (r : OfHeap P) where
+module _ (P : Cell → Type 0) (r : OfSpans P) where
   slots_write : (s : slots.Searching) (q : SlotStage) → WritesOf P (slots.asks_at s q)
   slots_write s slot_stage.Look = tt
   slots_write s slot_stage.Ended = tt
@@ -77,11 +82,6 @@ module _ (P : Cell → Type 0) (r : OfHeap P) where
   reclaim_writes m (reclaim_stage.Head page pages) = r.page page
   reclaim_writes m reclaim_stage.Ended = tt
 
-  bits_write : (s : bits.PointerSetting) (q : SetStage) → WritesOf P (bits.asks_at s q)
-  bits_write s (set_stage.Clear i) = r.bitmap _
-  bits_write s (set_stage.Set i) = r.bitmap _
-  bits_write s set_stage.Ended = tt
-
   find_writes : (f : find.Finding) (q : FindStage) → WritesOf P (find.asks_at f q)
   find_writes f (find_stage.Slots s) = slots_write s s.stage
   find_writes f find_stage.Lock = r.lock
@@ -96,8 +96,20 @@ module _ (P : Cell → Type 0) (r : OfHeap P) where
   search_writes_at f (search_stage.Free m) = reclaim_writes m m.stage
   search_writes_at f search_stage.Second = find_writes f f.stage
 
+  pub seeking_writes : (s : search.Seeking) → WritesOf P (search.asks s)
+  seeking_writes s = search_writes_at s.find s.stage
+
+module _ (P : Cell → Type 0) (r : OfHeap P) where
+  spans : OfSpans P
+  spans = record { lock = r.lock; page = r.page }
+
   pub search_writes : (s : search.Seeking) → WritesOf P (search.asks s)
-  search_writes s = search_writes_at s.find s.stage
+  search_writes s = seeking_writes P spans s
+
+  bits_write : (s : bits.PointerSetting) (q : SetStage) → WritesOf P (bits.asks_at s q)
+  bits_write s (set_stage.Clear i) = r.bitmap _
+  bits_write s (set_stage.Set i) = r.bitmap _
+  bits_write s set_stage.Ended = tt
 
   -- the making of an object counts it too, and marks it while marking is on
   place_writes_at : (p : place.Placing) (q : PlaceStage) → (q ≡ place_stage.Mark → P (cell.Mark (p.at / 64))) → (q ≡ place_stage.Count → P cell.Heap) → WritesOf P (place.asks_at p q)
@@ -106,7 +118,7 @@ module _ (P : Cell → Type 0) (r : OfHeap P) where
   place_writes_at p (place_stage.Bits s) mark count = bits_write s s.stage
   place_writes_at p place_stage.Mark mark count = mark refl
   place_writes_at p place_stage.Alloc mark count = r.alloc _
-  place_writes_at p (place_stage.Give g) mark count = give_writes g g.stage
+  place_writes_at p (place_stage.Give g) mark count = give_writes P spans g g.stage
   place_writes_at p place_stage.Count mark count = count refl
   place_writes_at p place_stage.Ended mark count = tt
 

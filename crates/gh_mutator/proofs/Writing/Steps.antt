@@ -11,12 +11,13 @@ use Rattle.gh_mutator.specs.Leave as leave
 use Rattle.gh_mutator.specs.Load as load
 use Rattle.gh_mutator.specs.New as new
 use Rattle.gh_mutator.specs.Poll as poll
+use Rattle.gh_mutator.specs.Processor.{keeping}
 use Rattle.gh_mutator.specs.Register as register
 use Rattle.gh_mutator.specs.Store as store
 use Rattle.gh_mutator.specs.Vocabulary.{Polling}
 use Rattle.gh_mutator.specs.Wait as wait
-use Rattle.gh_mutator.proofs.Vocabulary.{after_gc, after_leave, after_poll, asks_at, At, begun_with, cache_span, CachedSpan, Found, LeaveStage, Leaving, NewStage, NoRoom, Op, Place, Placing, Processor, register_of, Search, Seeking, Shape, SoundScanAt, takes_at, taking, Task, Value, Wait, Waiting, WaitStage, WaitState, Wanted, with_ended, WritesOf}
-use Rattle.gh_mutator.proofs.Writing.Polls.{carried, Goes, goes_by, gives_not, heap_not, NotStack, poll_goes, Stays, stays_so, stays_with, told_noted}
+use Rattle.gh_mutator.proofs.Vocabulary.{Held, after_gc, after_leave, after_poll, asks_at, At, begun_with, cache_span, CachedSpan, Found, LeaveStage, Leaving, NewStage, NoRoom, Op, Place, Placing, Processor, register_of, Search, Seeking, Shape, SoundScanAt, takes_at, taking, Task, Value, Wait, Waiting, WaitStage, WaitState, Wanted, with_ended, WritesOf}
+use Rattle.gh_mutator.proofs.Writing.Polls.{carried, Goes, goes_by, gives_not, heap_not, marking_not, NotStack, poll_goes, Stays, stays_so, stays_with, told_noted}
 use Rattle.gh_mutator.proofs.Writing.Routines.{global_writes, load_writes, store_writes}
 use Rattle.gh_mutator.proofs.Writing.Rows.{place_writes, search_writes}
 
@@ -24,6 +25,11 @@ use Rattle.gh_mutator.proofs.Writing.Rows.{place_writes, search_writes}
 taking_stays : (m : Processor) (g d : ℕ) (v : Option Value) → SoundScanAt m.poll m.poll.stage → Stays m.poll (taking m g d v).poll
 taking_stays m g d None s = stays_so m.poll s
 taking_stays m g d (Some v) s = stays_with m.poll _ refl refl s
+
+-- and another buffer is held
+kept_stays : (m : Processor) (g d : ℕ) (held : Option Held) (v : Option Value) → SoundScanAt m.poll m.poll.stage → Stays m.poll (taking (keeping m held) g d v).poll
+kept_stays m g d held None s = stays_with m.poll _ refl refl s
+kept_stays m g d held (Some v) s = stays_with m.poll _ refl refl s
 
 -- a new object
 found_stays : (shapes : List Shape) (m : Processor) (w : Wanted) (waited : Bool) (c : Option CachedSpan) (s : Seeking) (out : Option Found) → SoundScanAt m.poll m.poll.stage → Stays m.poll (new.after_search shapes (cache_span m w.sought c) w waited s out).poll
@@ -91,8 +97,8 @@ module _ (shapes : List Shape) (m : Processor) (found : ℕ) (s : SoundScanAt m.
   goes_at task.Idle = goes_by _ m.poll _ tt (stays_so m.poll s)
   goes_at task.Left = goes_by _ m.poll _ tt (stays_so m.poll s)
   goes_at (task.Load x) = goes_by _ m.poll _ (load_writes NotStack heap_not m.poll.layout x) (taking_stays m x.g x.d (load.step m.poll.layout x found).sets s)
-  goes_at (task.Store x) = goes_by _ m.poll _ (store_writes NotStack heap_not m.poll.layout (register_of m x.g x.v) x) (taking_stays m x.g x.v (store.step m.poll.layout (register_of m x.g x.v) x found).sets s)
-  goes_at (task.Global x) = goes_by _ m.poll _ (global_writes NotStack heap_not m.poll.layout (register_of m x.g x.r) x) (taking_stays m x.g x.r (global.step m.poll.layout (register_of m x.g x.r) x found).sets s)
+  goes_at (task.Store x) = goes_by _ m.poll _ (store_writes NotStack heap_not m.poll.layout (register_of m x.g x.v) x (λ w e. marking_not)) (kept_stays m x.g x.v (store.held_behind m.poll.local.held x.stage found) (store.step m.poll.layout m.poll.local (register_of m x.g x.v) x found).sets s)
+  goes_at (task.Global x) = goes_by _ m.poll _ (global_writes NotStack heap_not m.poll.layout (register_of m x.g x.r) x (λ w e. marking_not)) (kept_stays m x.g x.r (global.held_behind m.poll.local.held x.stage found) (global.step m.poll.layout (register_of m x.g x.r) x found).sets s)
   goes_at (task.Register x) = goes_by _ m.poll _ tt (taking_stays m x.g x.d (register.step (register_of m x.g (register.read_of x)) x).sets s)
   goes_at (task.New x) = new_goes x.wanted x.stage
   goes_at (task.Gc g x) = gc_goes g x

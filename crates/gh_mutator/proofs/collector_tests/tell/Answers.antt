@@ -1,9 +1,9 @@
-use Rattle.std.proofs.Common.{rules, ◌≡◌, ℕ, Bool, true, false, sym, ap, ◌∙◌, Option, Some, None}
+use Rattle.std.proofs.Common.{rules, ◌≡◌, ℕ, true, false, sym, ap, ◌∙◌, Option}
 use Rattle.std.specs.Prelude.{is_some, IsNone}
 use Rattle.std.proofs.lemmas.Bool.{false_from_ne_true}
 use Rattle.gh_base.specs.declared.value.Answer.{Answer}
 use Rattle.gh_mutator.specs.Ends.{ends, stays}
-use Rattle.gh_mutator.specs.Mutating.{Mutating, gives, goes, is_busy, layout}
+use Rattle.gh_mutator.specs.Mutating.{Mutating, gives, goes, is_busy}
 use Rattle.gh_mutator.proofs.collector_tests.tell.Goals as goal
 
 -- once it has answered it is idle, and else it goes on

@@ -1,0 +1,146 @@
+-- A poll of a turn's own makes room for the store behind it, whatever words it is told.
+use Rattle.std.proofs.Common.{◌≡◌, ℕ, Bool, true, false, cond, eqb, List, Option, Some, None, refl, sym, ap, subst, arith}
+use Rattle.std.proofs.lemmas.Bool.Decides.{nat_tests}
+use Rattle.gh_base.specs.declared.held.Held.{Held}
+use Rattle.gh_base.specs.declared.operation.Op.TheVariants as op
+use Rattle.gh_phase.specs.declared.view.RunPhase.{RunPhase}
+use Rattle.gh_phase.specs.declared.view.RunPhase.TheVariants as run
+use Rattle.gh_phase.specs.Listing as resume
+use Rattle.gh_wbuf.specs.declared.find_room.RoomStage.{RoomStage}
+use Rattle.gh_wbuf.specs.declared.find_room.RoomStage.TheVariants as room_stage
+use Rattle.gh_wbuf.specs.declared.try_buffer.TryStage.{TryStage}
+use Rattle.gh_wbuf.specs.declared.try_buffer.TryStage.TheVariants as try_stage
+use Rattle.gh_wbuf.specs.declared.try_buffer.Wish.{Wish}
+use Rattle.gh_wbuf.specs.declared.try_buffer.Wish.TheVariants.{Room}
+use Rattle.gh_wbuf.specs.RoomFinding as room
+use Rattle.gh_wbuf.specs.Trying as try
+use Rattle.gh_wbuf.specs.TrySound.{FitsTryStage}
+use Rattle.gh_mutator.specs.Collecting.{phase_of, Resumed, run_phase, Local, PollStage}
+use Rattle.gh_mutator.specs.declared.poll.PollStage.TheVariants as poll_stage
+use Rattle.gh_mutator.specs.declared.task.Task.TheVariants as task
+use Rattle.gh_mutator.specs.Barrier.{has_entries}
+use Rattle.gh_mutator.specs.Give as give
+use Rattle.gh_mutator.specs.Listing.{after_poll, is_busy_at, takes_at}
+use Rattle.gh_mutator.specs.Local.{is_mark}
+use Rattle.gh_mutator.specs.MarkStack as mark
+use Rattle.gh_mutator.specs.Poll as poll
+use Rattle.gh_mutator.specs.Poll.{after_mark, after_resume, after_room, at_stage, by_phase, counted, due, given, giving, goes, goes_at, has_two, marks_then, resumed, scanned, scans, stops_then}
+use Rattle.gh_mutator.specs.PollRoom.{MakesRoom, MayStore, PollsMakeRoom, RoomAt, RoomBehind, TriesForRoom}
+use Rattle.gh_mutator.specs.Sound.{has_room}
+use Rattle.gh_mutator.specs.Vocabulary.{Op, Polling, Processor, Shape, Task}
+
+-- The search.
+
+-- what serves has two free entries
+serving : (word index : ℕ) → try.is_open Room word ≡ true → has_two (Some (try.taken index word)) ≡ true
+serving word index serves = grind (arith, nat_tests, serves)
+
+module _ (r : room.RoomFinding) where
+  abbrev Searches : room.RoomFinding → Option Held → Type 0
+  Searches n None = TriesForRoom n.stage
+  Searches n (Some h) = has_two (Some h) ≡ true
+
+  tried : (t : try.Trying) (p : TryStage) (found : ℕ) → t.stage ≡ p → t.wish ≡ Room → FitsTryStage t.wish p →
+      Searches (room.after_try (room.at_stage r (room_stage.Try (try.goes_at t p found))) t.index (try.gives_at t p found)) (room.room_of (try.gives_at t p found))
+  tried t try_stage.Look found is wish fits = by (try.is_open t.wish found) refl where
+    opened : (held : Option Held) → try.is_open t.wish found ≡ true → FitsTryStage t.wish (try.claims t held found)
+    opened None e = e
+    opened (Some h) e = e
+
+    by : (b : Bool) → try.is_open t.wish found ≡ b →
+        Searches (room.after_try (room.at_stage r (room_stage.Try (try.at_stage t (cond b (try.claims t t.held found) try_stage.Ended)))) t.index (cond b None (Some None))) (room.room_of (cond b None (Some None)))
+    by true e = (wish, opened t.held e)
+    by false e = (refl, tt)
+  tried t (try_stage.GiveBack word) found is wish fits = (wish, fits)
+  tried t (try_stage.Claim word) found is wish fits = by (eqb found word) where
+    by : (b : Bool) → Searches (room.after_try (room.at_stage r (room_stage.Try (cond b (record t { held = Some (try.taken t.index word); stage = try_stage.Ended }) (try.at_stage t try_stage.Ended)))) t.index (Some (cond b (Some (try.taken t.index word)) None))) (room.room_of (Some (cond b (Some (try.taken t.index word)) None)))
+    by true = serving word t.index (subst (λ (w : Wish). try.is_open w word ≡ true) wish fits)
+    by false = (refl, tt)
+  tried t try_stage.Ended found is wish fits = (wish, subst (FitsTryStage t.wish) (sym is) tt)
+
+  searched : (p : RoomStage) (found : ℕ) → r.stage ≡ p → TriesForRoom p → Searches (room.goes_at r p found) (room.gives_at p found)
+  searched (room_stage.GiveBack h) found is k = (refl, tt)
+  searched (room_stage.Try t) found is k = tried t t.stage found refl k.0 k.1
+  searched (room_stage.Ended h) found is k = subst TriesForRoom (sym is) tt
+
+-- The poll.
+
+entries_if : (own : Local) (b : Bool) → has_two own.held ≡ true → cond b (has_two own.held) true ≡ true
+entries_if own true two = two
+entries_if own false two = refl
+
+counts : (p : Polling) → p.waits ≡ false → MakesRoom (counted p)
+counts p turn = record { no_wait = turn; stage = subst (λ (w : Bool). RoomAt (counted p) (poll.room_stage p.layout p.seat w p.local.held)) (sym turn) (by (has_two p.local.held) refl) } where
+  opens : (held : Option Held) → TriesForRoom (room.begin p.layout p.seat held)
+  opens None = (refl, tt)
+  opens (Some h) = tt
+
+  by : (b : Bool) → has_two p.local.held ≡ b → RoomAt (counted p) (cond b poll_stage.Ended (poll_stage.FindRoom (room.opening p.layout p.seat p.local.held)))
+  by true two = entries_if p.local (is_mark p.local.view.phase) two
+  by false two = opens p.local.held
+
+marks : (p : Polling) (phase : RunPhase) → p.local.view.phase ≡ phase → p.waits ≡ false → MakesRoom (marks_then p phase)
+marks p run.Off is turn = record { no_wait = turn; stage = ap (λ (y : RunPhase). cond (is_mark y) (has_two p.local.held) true) is }
+marks p run.Finished is turn = record { no_wait = turn; stage = ap (λ (y : RunPhase). cond (is_mark y) (has_two p.local.held) true) is }
+marks p run.Mark is turn = by (due p) where
+  by : (g : Option ℕ) → MakesRoom (scans p g)
+  by None = counts p turn
+  by (Some g) = record { no_wait = turn; stage = tt }
+
+stops : (p : Polling) (g : give.Giving) (number : ℕ) → p.waits ≡ false → MakesRoom (stops_then p g number)
+stops p g number turn = by (give.is_busy g.stage) where
+  by : (b : Bool) → MakesRoom (cond b (at_stage p (poll_stage.Giving g number)) (record p { local = record (p.local) { cache = g.cache; held = g.held }; stage = poll_stage.Resuming (resume.opening p.layout p.seat number p.local.view) }))
+  by true = record { no_wait = turn; stage = tt }
+  by false = record { no_wait = turn; stage = tt }
+
+goes_so : (p : Polling) (q : PollStage) (found : ℕ) → p.waits ≡ false → p.stage ≡ q → RoomAt p q → MakesRoom (goes_at p q found)
+goes_so p poll_stage.LoadPhase found turn is k = by (run_phase (phase_of found).phase) where
+  by : (phase : Option RunPhase) → MakesRoom (by_phase p (phase_of found).stops phase)
+  by None = stops p (giving p) (phase_of found).stops turn
+  by (Some phase) = marks p p.local.view.phase refl turn
+goes_so p (poll_stage.Giving g number) found turn is k = stops p (give.goes g found) number turn
+goes_so p (poll_stage.Resuming r) found turn is k = by (resume.gives r found) where
+  by : (out : Option Resumed) → MakesRoom (after_resume p (resume.goes r found) out)
+  by None = record { no_wait = turn; stage = tt }
+  by (Some out) = marks (resumed p out) out.view.phase refl turn
+goes_so p (poll_stage.Marking g m) found turn is k = by (mark.gives m found) where
+  by : (out : Option (Unit {0})) → MakesRoom (after_mark p g (mark.goes m found) out)
+  by None = record { no_wait = turn; stage = tt }
+  by (Some x) = counts (scanned p g (mark.goes m found).held) turn
+goes_so p (poll_stage.FindRoom r) found turn is k = by (room.gives r found) (searched r r.stage found refl k) where
+  by : (out : Option Held) → Searches r (room.goes r found) out → MakesRoom (after_room p (room.goes r found) out)
+  by None h = record { no_wait = turn; stage = h }
+  by (Some own) h = record { no_wait = turn; stage = entries_if (record (p.local) { held = Some own }) (is_mark p.local.view.phase) h }
+goes_so p poll_stage.Ended found turn is k = record { no_wait = turn; stage = k }
+
+-- The processor.
+
+polled : (m : Processor) (p : Polling) (q : PollStage) → p.stage ≡ q → MakesRoom p → MayStore (after_poll m p (given q))
+polled m p poll_stage.Ended is k = subst (RoomAt p) is k.stage
+polled m p poll_stage.LoadPhase is k = k
+polled m p (poll_stage.Giving g number) is k = k
+polled m p (poll_stage.Resuming r) is k = k
+polled m p (poll_stage.Marking g x) is k = k
+polled m p (poll_stage.FindRoom r) is k = k
+
+goes_on : (shapes : List Shape) (m : Processor) (found : ℕ) (t : Task) → m.task ≡ t → RoomBehind m.poll t → MayStore (takes_at shapes m t found)
+goes_on shapes m found task.Idle is k = subst (RoomBehind m.poll) (sym is) k
+goes_on shapes m found task.Poll is k = polled m (goes m.poll found) (goes m.poll found).stage refl (goes_so m.poll m.poll.stage found k.no_wait refl k.stage)
+goes_on shapes m found _ is k = absurd k
+
+any_room : (m : Processor) (o : Op) → has_entries m.poll ≡ true → has_room m o ≡ true
+any_room m (op.Store g b k v) e = e
+any_room m (op.SetGlobal g k v) e = e
+any_room m _ e = refl
+
+idle_room : (m : Processor) (o : Op) (t : Task) → is_busy_at t ≡ false → RoomBehind m.poll t → has_room m o ≡ true
+idle_room m o task.Idle idle k = any_room m o k
+idle_room m o task.Poll idle k = absurd (cc)
+idle_room m o _ idle k = absurd k
+
+pub polls_make_room : PollsMakeRoom
+polls_make_room = record {
+  begins = λ shapes m. record { no_wait = refl; stage = tt };
+  goes_on = λ shapes m found k. goes_on shapes m found m.task refl k;
+  room = λ m o idle k. idle_room m o m.task idle k;
+}

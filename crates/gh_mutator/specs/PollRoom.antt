@@ -1,0 +1,46 @@
+-- A poll of a turn's own makes room for the store behind it: whatever words it is told, where it has ended marking is off, as the processor knows, or two entries go into the buffer that is held.
+use Rattle.std.specs.Prelude.{◌≡◌, ℕ, true, false, List}
+use Rattle.gh_base.specs.declared.operation.Op.TheVariants as op
+use Rattle.gh_wbuf.specs.declared.find_room.RoomStage.{RoomStage}
+use Rattle.gh_wbuf.specs.declared.find_room.RoomStage.TheVariants.{Try}
+use Rattle.gh_wbuf.specs.declared.try_buffer.Wish.TheVariants.{Room}
+use Rattle.gh_wbuf.specs.TrySound.{FitsTryStage}
+use Rattle.gh_mutator.specs.declared.poll.PollStage.{PollStage}
+use Rattle.gh_mutator.specs.declared.poll.PollStage.TheVariants.{FindRoom, Ended}
+use Rattle.gh_mutator.specs.declared.task.Task.TheVariants as task
+use Rattle.gh_mutator.specs.Barrier.{has_entries}
+use Rattle.gh_mutator.specs.Listing.{begins, is_busy_at, takes}
+use Rattle.gh_mutator.specs.Sound.{has_room}
+use Rattle.gh_mutator.specs.Vocabulary.{Op, Polling, Processor, Shape, Task}
+
+-- the search tries for room, and what it is to take had some
+abbrev pub TriesForRoom : RoomStage → Type 0
+TriesForRoom (Try t) = (t.wish ≡ Room) × FitsTryStage t.wish t.stage
+TriesForRoom _ = Unit {0}
+
+-- where the poll has ended there is room
+abbrev pub RoomAt : Polling → PollStage → Type 0
+RoomAt p (FindRoom r) = TriesForRoom r.stage
+RoomAt p Ended = has_entries p ≡ true
+RoomAt p _ = Unit {0}
+
+-- the poll is no part of a wait
+pub record MakesRoom (p : Polling) : Type 0 where
+  pub no_wait : p.waits ≡ false
+  pub stage : RoomAt p p.stage
+
+-- A processor that polls, or whose last operation was such a poll.
+abbrev pub RoomBehind : Polling → Task → Type 0
+RoomBehind p task.Idle = has_entries p ≡ true
+RoomBehind p task.Poll = MakesRoom p
+RoomBehind p _ = ⊥
+
+abbrev pub MayStore : Processor → Type 0
+MayStore m = RoomBehind m.poll m.task
+
+pub record PollsMakeRoom : Type 0 where
+  -- it is so from the begin of the poll on, until another operation begins
+  pub begins : (shapes : List Shape) (m : Processor) → MayStore (begins shapes m op.Poll)
+  pub goes_on : (shapes : List Shape) (m : Processor) (found : ℕ) → MayStore m → MayStore (takes shapes m found)
+  -- and then any operation may begin
+  pub room : (m : Processor) (o : Op) → is_busy_at m.task ≡ false → MayStore m → has_room m o ≡ true
