@@ -1,6 +1,7 @@
--- After every legal list of all actors in which processors keep to polls while a cycle is marked.
+-- After every legal list of all actors.
 pub mod Starts
 pub mod Known
+pub mod Bare
 pub mod Wanted
 pub mod Resting
 pub mod Moves
@@ -50,10 +51,10 @@ pub mod Endings
 pub mod Globals
 pub mod StackWords
 pub mod OwnEntries
+pub mod OwnStep
 pub mod OwnSide
 pub mod Quieting
-pub mod Unmade
 pub mod EndedStays
-pub mod PollSteps
-pub mod PollTells
-pub mod Polls
+pub mod Gone
+pub mod Beside
+pub mod BesideThen

@@ -3,5 +3,6 @@ pub mod Seats
 pub mod Apart
 pub mod Beside
 pub mod Checking
+pub mod Placing
 pub mod Moving
 pub mod Lists

@@ -1,16 +1,18 @@
 -- What a world keeps, whichever list it is the state of: once an operation is begun, after a step, and as it opens.
 use Rattle.std.proofs.Common.{◌≡◌, ℕ, ◌+◌, ◌^◌, ◌<◌, ◌≤◌, Bool, true, false, cond, eqb, List, length, replicate, get_or, length-set, refl, sym, ◌∙◌, ap, subst, Option, Some, None, arith}
-use Rattle.gh_mutator.specs.Sound.{SoundOp}
-use Rattle.gh_world.specs.Turns.{Stands}
+use Rattle.gh_mutator.specs.PollRoom.{MayStore, PollsMakeRoom}
+use Rattle.gh_mutator.specs.Sound.{has_room, SoundOp}
+use Rattle.gh_world.specs.Turns.{is_poll_due, is_run_due, Stands}
+use Rattle.gh_world.specs.declared.turns.Next.TheVariants as next
 use Rattle.gh_base.specs.declared.operation.Op.TheVariants as op
 use Rattle.gh_base.specs.declared.cell.Req.{Req}
 use Rattle.gh_coord.specs.Ends.{room_stays, stays as coord_stays}
 use Rattle.gh_coord.specs.Listing as coord
 use Rattle.gh_worker.specs.Ends.{stays as worker_stays}
 use Rattle.gh_worker.specs.Listing as worker
-use Rattle.gh_world.specs.World.{FitOthers, FitTurns, FitWords, LaysOut, op_at_turn, counts_after, last_after, begun_as, done_or, found_by, GoesOn, IsStepOfWorker, State, workers_at}
+use Rattle.gh_world.specs.World.{FitOthers, FitTurns, FitWords, LaysOut, op_at_turn, counts_after, last_after, begun_as, done_or, found_by, GoesOn, IsStepOfWorker, Polled, State, workers_at}
 use Rattle.gh_world.specs.declared.event.Event.TheVariants as event
-use Rattle.gh_world.proofs.Vocabulary.{acts, Answer, begins_at, bit, cell_of, changed, eqb-false, eqb-true, Event, Follows, get_or-map-range_with_len, get_or-set_other, get_or-set_same, get_or_from_slice_get, gives_at, GoesOnUntilDone, goroutine_at, has_left_at, has_names, InRange, is_busy_at, is_over, is_point, is_some, is_statement, is_unacted, later, Layout, length-map-range_with_len, most_cycles, Mutating, Next, Op, op_at, op_due, opening_progress, Program, Progress, progress_after, read_after_set, read_replicate, request, set, Shape, slice_get, slice_get-get_or, slice_get_within, statement_answer, statements_among, takes, target, to_come, total_of, turns_of, WellFormed}
+use Rattle.gh_world.proofs.Vocabulary.{acts, Answer, begins_at, begins, bit, cell_of, changed, eqb-false, eqb-true, Event, Follows, get_or-map-range_with_len, get_or-set_other, get_or-set_same, get_or_from_slice_get, gives_at, GoesOnUntilDone, goroutine_at, has_left_at, has_names, InRange, is_busy_at, is_over, is_point, is_some, is_statement, is_unacted, later, Layout, length-map-range_with_len, most_cycles, Mutating, Next, Op, op_at, op_due, opening_processor, opening_progress, Processor, Program, Progress, progress_after, read_after_set, read_replicate, request, set, Shape, slice_get, slice_get-get_or, slice_get_within, statement_answer, statements_among, takes, target, to_come, total_of, turns_of, WellFormed}
 use Rattle.gh_world.proofs.StepFacts.{step_facts, begin_facts, StepFacts, BeginFacts, begins_busy}
 use Rattle.gh_world.proofs.Turning.{opens_at, turns_say}
 use Rattle.gh_mutator.specs.Mutating as mutating
@@ -121,6 +123,39 @@ module _ (p : Program) (l : Layout) (script : WellFormed p) (layout : LaysOut p 
     go false idle None e same = absurd (never (has_due p t.next (sym f.leaves ∙ idle_not_leaving m.processor.task idle going))) where
       never : (o : Op) × (op_due p t.next ≡ Some o) → ⊥
       never w = let none : None ≡ Some w.0 = e ∙ w.1 in cc
+
+-- ---- the poll before a statement
+
+-- there is room for what is due
+pub due_room : PollsMakeRoom → (p : Program) (m : Processor) (t : Next) (o : Op) → is_busy_at m.task ≡ false → op_due p t ≡ Some o → Polled t m → has_room m o ≡ true
+due_room k p m (next.Poll r g) o idle due polled = let same : op.Poll ≡ o = cc in subst (λ (x : Op). has_room m x ≡ true) same refl
+due_room k p m (next.Run r g) o idle due polled = k.room m o idle polled
+due_room k p m next.Leave o idle due polled = let same : op.Leave ≡ o = cc in subst (λ (x : Op). has_room m x ≡ true) same refl
+due_room k p m next.Over o idle due polled = absurd (cc)
+
+pub polled_begun : PollsMakeRoom → (p : Program) (shapes : List Shape) (m : Processor) (t new : Next) (o : Op) → op_due p t ≡ Some o → is_run_due new ≡ is_poll_due t → Polled new (begins shapes m o)
+polled_begun k p shapes m t (next.Run r g) o due behind = by t due behind where
+  by : (t : Next) → op_due p t ≡ Some o → true ≡ is_poll_due t → MayStore (begins shapes m o)
+  by (next.Poll r g) due behind = let same : op.Poll ≡ o = cc in subst (λ (x : Op). MayStore (begins shapes m x)) same (k.begins shapes m)
+  by (next.Run r g) due behind = absurd (cc)
+  by next.Leave due behind = absurd (cc)
+  by next.Over due behind = absurd (cc)
+polled_begun k p shapes m t (next.Poll r g) o due behind = tt
+polled_begun k p shapes m t next.Leave o due behind = tt
+polled_begun k p shapes m t next.Over o due behind = tt
+
+pub polled_stepped : PollsMakeRoom → (shapes : List Shape) (m : Processor) (t : Next) (found : ℕ) → Polled t m → Polled t (takes shapes m found)
+polled_stepped k shapes m (next.Run r g) found polled = k.goes_on shapes m found polled
+polled_stepped k shapes m (next.Poll r g) found polled = tt
+polled_stepped k shapes m next.Leave found polled = tt
+polled_stepped k shapes m next.Over found polled = tt
+
+-- where nothing is begun yet marking is off, as the processor knows
+pub polled_opens : (l : Layout) (t : Next) → Polled t (opening_processor l 0)
+polled_opens l (next.Run r g) = refl
+polled_opens l (next.Poll r g) = tt
+polled_opens l next.Leave = tt
+polled_opens l next.Over = tt
 
 pub fit_opens : (p : Program) (l : Layout) (first : Next) (room : ℕ) → total_of p ≤ room → to_come p first ≡ later p 0 0 → Stands p first → is_over first ≡ false → FitTurns p l (mutating.opening l 0 p.shapes) (opening_progress first) 0 room
 fit_opens p l first room reserved come stands over =

@@ -4,7 +4,7 @@ use Rattle.std.proofs.lemmas.Bool.{cases_lt}
 use Rattle.gh_base.specs.declared.operation.Op.TheVariants as op
 use Rattle.gh_interp.specs.Working.{work_of}
 use Rattle.gh_world.specs.declared.turns.Next.TheVariants as next
-use Rattle.gh_world.specs.Turns.{count_of, Follows, is_over, IsPast, later, MayBeOver, op_due, Stands, to_come}
+use Rattle.gh_world.specs.Turns.{count_of, Follows, is_over, is_poll_due, is_run_due, IsPast, later, MayBeOver, op_due, Stands, to_come}
 use Rattle.gh_world.specs.Vocabulary.{Next, Op, Program}
 use Rattle.gh_world.proofs.Turning.{count-le, follows_run, has_one, later_after, later_here, later_none, none_from, over_here, over_next, passed, turns_from}
 
@@ -33,13 +33,14 @@ pub record Coming (p : Program) (r g : ℕ) : Type 0 where
   pub stands : Stands p turn
   pub over : (h : ℕ) → IsPast p r g h → MayBeOver p turn h
   pub going : is_over turn ≡ false
+  pub no_run : is_run_due turn ≡ false
 
 pub coming : (p : Program) (r g : ℕ) → g ≤ length p.goroutines → Coming p r g
 coming p r g le = elim (first_turn p r (length p.goroutines - g) g (omega (arith, le))) [
-  | inl f ↦ record { turn = next.Poll r f.h; come = later_here p r g f.h f.turns; stands = (f.here, f.live); over = λ k past. over_here p r g f.h k f.low past; going = refl }
+  | inl f ↦ record { turn = next.Poll r f.h; come = later_here p r g f.h f.turns; stands = (f.here, f.live); over = λ k past. over_here p r g f.h k f.low past; going = refl; no_run = refl }
   | inr none ↦ elim (first_turn p (r + 1) (length p.goroutines) 0 (omega arith)) [
-    | inl f ↦ let live = f.live in let most = count-le p f.h f.here in record { turn = next.Poll (r + 1) f.h; come = later_after p r g f.h (omega (arith, live, most)) none f.turns; stands = (f.here, f.live); over = λ k past. over_next p r g f.h k past; going = refl }
-    | inr done ↦ record { turn = next.Leave; come = later_none p r g none done; stands = tt; over = λ k past. tt; going = refl }
+    | inl f ↦ let live = f.live in let most = count-le p f.h f.here in record { turn = next.Poll (r + 1) f.h; come = later_after p r g f.h (omega (arith, live, most)) none f.turns; stands = (f.here, f.live); over = λ k past. over_next p r g f.h k past; going = refl; no_run = refl }
+    | inr done ↦ record { turn = next.Leave; come = later_none p r g none done; stands = tt; over = λ k past. tt; going = refl; no_run = refl }
   ]
 ]
 
@@ -47,18 +48,19 @@ coming p r g le = elim (first_turn p r (length p.goroutines - g) g (omega (arith
 pub record Following (p : Program) (t : Next) (o : Op) : Type 0 where
   pub turn : Next
   pub follows : Follows p t o turn
+  pub polled : is_run_due turn ≡ is_poll_due t
 
 pub following : (p : Program) (t : Next) (o : Op) → Stands p t → op_due p t ≡ Some o → Following p t o
 following p (next.Poll r g) o stands due =
     let same : op.Poll ≡ o = cc in
-    subst (λ (x : Op). Following p (next.Poll r g) x) same (record { turn = next.Run r g; follows = record { come = refl; stands = stands; over = λ h past. past; ends = λ h e. absurd cc; leaves = refl } })
+    subst (λ (x : Op). Following p (next.Poll r g) x) same (record { turn = next.Run r g; follows = record { come = refl; stands = stands; over = λ h past. past; ends = λ h e. absurd cc; leaves = refl }; polled = refl })
 following p (next.Run r g) o stands due =
     let here = stands.0 in
     let c = coming p r (g + 1) (omega (arith, here)) in
-    record { turn = c.turn; follows = follows_run p (next.Run r g) r g o c.turn refl stands due c.come c.stands c.over c.going }
+    record { turn = c.turn; follows = follows_run p (next.Run r g) r g o c.turn refl stands due c.come c.stands c.over c.going; polled = c.no_run }
 following p next.Leave o stands due =
     let same : op.Leave ≡ o = cc in
-    subst (λ (x : Op). Following p next.Leave x) same (record { turn = next.Over; follows = record { come = refl; stands = tt; over = λ h past. tt; ends = λ h e. absurd cc; leaves = refl } })
+    subst (λ (x : Op). Following p next.Leave x) same (record { turn = next.Over; follows = record { come = refl; stands = tt; over = λ h past. tt; ends = λ h e. absurd cc; leaves = refl }; polled = refl })
 following p next.Over o stands due = absurd cc
 
 -- what is due is the first that is to come

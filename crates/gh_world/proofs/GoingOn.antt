@@ -4,17 +4,18 @@ use Rattle.std.proofs.lemmas.List.{append_cancel_left, append-nil}
 use Rattle.gh_coord.specs.GoingOn.{HasNext}
 use Rattle.gh_coord.specs.Listing as coord
 use Rattle.gh_mutator.specs.Mutating as mutating
+use Rattle.gh_mutator.specs.PollRoom.{PollsMakeRoom}
 use Rattle.gh_worker.specs.Listing as worker
 use Rattle.gh_world.specs.declared.handshake.Actor.TheVariants as actor
 use Rattle.gh_world.specs.Actors.{AllStands}
 use Rattle.gh_world.specs.Handshake.{takes as takes_by}
 use Rattle.gh_world.specs.Runs.{GoesOnBy, has_ended_in, IsRun, IsRunSoFar}
 use Rattle.gh_world.specs.Schedule.{ended_after as ended_at, has_ended}
-use Rattle.gh_world.specs.World.{FitTurns, LaysOut, may_begin_of, pacing_of}
+use Rattle.gh_world.specs.World.{FitTurns, LaysOut, Polled, may_begin_of, pacing_of}
 use Rattle.gh_world.proofs.Vocabulary.{acks_of, Actor, actor_after, Begins, begun_in, by, cell_of, ended_in, ends, Entry, eqb-false, eqb-true, GoesOnUntilDone, has_left, has_left_at, InRange, is_busy_at, is_leaving, is_over, Kind, Layout, leaves, Legal, MayBeOver, Mutating, Op, op_due, opening_progress, option_to_list, Processor, processor_kind, Program, Progress, progress_after, setting_of, started, state_of, takes, Task, to_come, total_of, turns_of, WellFormed, words_after}
 use Rattle.gh_world.proofs.CycleMarking.Seats.{IsSeated, seated}
 use Rattle.gh_world.proofs.Due.{false_unless, has_due, idle_not_leaving, none_to_come, not_over}
-use Rattle.gh_world.proofs.Fitting.{begun_busy, fit_begun, fit_opens, fit_stepped}
+use Rattle.gh_world.proofs.Fitting.{begun_busy, due_room, fit_begun, fit_opens, fit_stepped, polled_begun, polled_opens, polled_stepped}
 use Rattle.gh_world.proofs.Following.{coming, due_first, following}
 use Rattle.gh_world.proofs.OfScripts.{single}
 use Rattle.gh_world.proofs.OneRun.{before, before_turns}
@@ -45,6 +46,7 @@ module _ (p : Program) (l : Layout) where
   pub record Laws : Type 0 where
     pub own : (es : List (Entry Op)) → state_of one 0 es ≡ state_of one 0 (by 0 es)
     pub on : GoesOnUntilDone
+    pub polls : PollsMakeRoom
     pub stands : (es : List (Entry Op)) → Lawful es → AllStands p.shapes l (pacing_of p) (may_begin_of p l) es
 
   -- ---- the coordinator has a further step as long as it is not done
@@ -99,6 +101,7 @@ module _ (p : Program) (l : Layout) (formed : WellFormed p) (lays : LaysOut p l)
     noted : ℕ
     room : ℕ
     fit : FitTurns p l (machine m marks) progress noted room
+    polled : Polled progress.next m
     turns : turns_of p ≡ reverse bs ++ to_come p progress.next
     ended : (g : ℕ) → over g ≡ true → MayBeOver p progress.next g
     left : gone ≡ true → is_over progress.next ≡ true
@@ -120,6 +123,7 @@ module _ (p : Program) (l : Layout) (formed : WellFormed p) (lays : LaysOut p l)
         noted = 0;
         room = total_of p;
         fit = fit_opens p l c.turn (total_of p) (omega arith) c.come c.stands c.going;
+        polled = polled_opens l c.turn;
         turns = opens_at p ∙ sym c.come;
         ended = λ g e. absurd cc;
         left = λ e. absurd cc;
@@ -127,7 +131,7 @@ module _ (p : Program) (l : Layout) (formed : WellFormed p) (lays : LaysOut p l)
 
   begin_none : (es : List (Entry Op)) → Behind es → is_busy_at (after_list es).task ≡ true → Begun es None
   begin_none es k busy = record {
-    keeps = record { progress = k.progress; marks = k.marks; noted = k.noted; room = k.room; fit = k.fit; turns = k.turns; ended = k.ended; left = k.left };
+    keeps = record { progress = k.progress; marks = k.marks; noted = k.noted; room = k.room; fit = k.fit; polled = k.polled; turns = k.turns; ended = k.ended; left = k.left };
     busy = busy;
   }
 
@@ -147,6 +151,7 @@ module _ (p : Program) (l : Layout) (formed : WellFormed p) (lays : LaysOut p l)
           noted = k.noted;
           room = k.room;
           fit = subst (λ (n : Mutating). FitTurns p l n (progress_after k.progress (Some o) f.turn) k.noted k.room) begun (fit_begun p l formed lays m k.progress k.noted k.room k.fit o f.turn due f.follows);
+          polled = subst (λ (n : Mutating). Polled f.turn n.processor) begun (polled_begun laws.polls p p.shapes (after_list es) k.progress.next f.turn o due f.polled);
           turns = turns_next p l formed lays one_seat k.progress (Some o) f.turn (begun_in es) f.follows k.turns;
           ended = ended_after p k.progress.next (Some o) f.turn es f.follows k.ended;
           left = left_after p k.progress.next (Some o) f.turn es f.follows (λ q e. due ∙ e) k.left;
@@ -161,11 +166,11 @@ module _ (p : Program) (l : Layout) (formed : WellFormed p) (lays : LaysOut p l)
       let m = started (one p l) e.begun (after_list es) in
       let is : takes p.shapes m e.found ≡ after_list (e ∷ es) = ap (λ (c : Bool). cond c (takes p.shapes m e.found) (after_list es)) (sym own) in
       subst (λ (n : Processor). Keeps n (begun_in (e ∷ es)) (ended_in (e ∷ es)) (has_left (e ∷ es))) is
-      (record { progress = k.progress; marks = _; noted = _; room = k.room; fit = fit_stepped p l formed lays (machine m k.marks) k.progress k.noted k.room k.fit e.found b.busy; turns = k.turns; ended = k.ended; left = k.left })
+      (record { progress = k.progress; marks = _; noted = _; room = k.room; fit = fit_stepped p l formed lays (machine m k.marks) k.progress k.noted k.room k.fit e.found b.busy; polled = polled_stepped laws.polls p.shapes m k.progress.next e.found k.polled; turns = k.turns; ended = k.ended; left = k.left })
 
   -- a step of another actor
   passed_by : (es : List (Entry Op)) (e : Entry Op) → eqb e.actor 0 ≡ false → e.begun ≡ None → Behind es → Behind (e ∷ es)
-  passed_by es e other none k = rw (other, none) (record { progress = k.progress; marks = k.marks; noted = k.noted; room = k.room; fit = k.fit; turns = k.turns; ended = k.ended; left = k.left })
+  passed_by es e other none k = rw (other, none) (record { progress = k.progress; marks = k.marks; noted = k.noted; room = k.room; fit = k.fit; polled = k.polled; turns = k.turns; ended = k.ended; left = k.left })
 
   busy_is : (es : List (Entry Op)) → (all p l).busy (actor_after p l es 0) ≡ is_busy_at (after_list es).task
   busy_is es = ap (λ (x : Actor Processor). (all p l).busy x) (is_processor p l 0 seat es)
@@ -220,7 +225,7 @@ module _ (p : Program) (l : Layout) (formed : WellFormed p) (lays : LaysOut p l)
       go false idle k =
           let due = has_due p k.progress.next (sym k.fit.leaves ∙ idle_not_leaving (after_list es).task idle going) in
           let f = following p k.progress.next due.0 k.fit.stands due.1 in
-          by_processor (Some due.0) (begins_due p l formed lays one_seat laws.own es k.progress due.0 f.turn idle due.1 f.follows k.fit.made k.fit.stands k.fit.all r.legal k.turns k.ended k.left) (begin_some es due.0 k due.1)
+          by_processor (Some due.0) (begins_due p l formed lays one_seat laws.own es k.progress due.0 f.turn idle due.1 f.follows k.fit.made k.fit.stands k.fit.all r.legal k.turns k.ended k.left (due_room laws.polls p (after_list es) k.progress.next due.0 idle due.1 k.polled)) (begin_some es due.0 k due.1)
 
     -- an actor's that begins nothing
     of_other : (a : ℕ) (x : Actor Processor) → actor_after p l es a ≡ x → a < (setting_of p l).actors → (all p l).busy x ≡ true → InRange l (cell_of ((all p l).asks x)) → GoesOnBy p l es a

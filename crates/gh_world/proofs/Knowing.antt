@@ -180,4 +180,5 @@ module _ {P O : Type 0} (sound : Layout → P → Type 0) (party : P → Party) 
         workers_wait = waiting;
         workers_leave = λ a w lt e y. i.leaves a w e y;
         processors_left = left;
+        processors_gone = λ c e last a lt. i.last c e last a lt;
       }

@@ -17,7 +17,6 @@ pub mod StepFacts
 pub mod Turning
 pub mod WorldFacts
 pub mod Whole
-pub mod OneProcessor
 pub mod Wishing
 pub mod OfScripts
 pub mod AllActors

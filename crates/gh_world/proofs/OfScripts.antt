@@ -4,7 +4,6 @@ use Rattle.std.specs.Prelude.{sum_by}
 use Rattle.gh_base.specs.declared.limits.TheConstants.{MOST_STATEMENTS}
 use Rattle.gh_mutator.specs.Facts.{ShapesAreGood}
 use Rattle.gh_world.specs.Actors.{AllStands, EveryListOfActorsStands}
-use Rattle.gh_world.specs.KeepsToPolls.{OneProcessorKeepsToPolls}
 use Rattle.gh_world.specs.Vocabulary.{Entry, Layout, Legal, Op, Program, WellFormed}
 use Rattle.gh_world.specs.Wants.{total}
 use Rattle.gh_world.specs.Wishes.{wishes_in, wishes_of}
@@ -24,5 +23,5 @@ module _ (p : Program) (l : Layout) (formed : WellFormed p) (out : LaysOut p l) 
   pub few_in_all : total (wishes_of p) l.goroutines ≤ MOST_STATEMENTS
   few_in_all = let many = many_wishes in let few = few_wishes p.goroutines in let most = formed.few_statements in omega (arith, many, few, most)
 
-  pub all_stand : EveryListOfActorsStands → OneProcessorKeepsToPolls → (es : List (Entry Op)) → Legal (setting_of p l) es → AllStands p.shapes l (pacing_of p) (may_begin_of p l) es
-  all_stand every polls es legal = every p.shapes l (pacing_of p) (wishes_of p) es (shapes_good p formed) l.limits few_in_all legal (polls p.shapes l (pacing_of p) (may_begin_of p l) single es legal)
+  pub all_stand : EveryListOfActorsStands → (es : List (Entry Op)) → Legal (setting_of p l) es → AllStands p.shapes l (pacing_of p) (may_begin_of p l) es
+  all_stand every es legal = every p.shapes l (pacing_of p) (wishes_of p) es (shapes_good p formed) l.limits few_in_all legal

@@ -1,13 +1,14 @@
 -- A step of the code, from what its parts did.
 use Rattle.std.proofs.Common.{◌≡◌, ℕ, suc, ◌<◌, ◌≤◌, Bool, true, false, not, cond, List, ◌∷◌, length, refl, sym, ◌∙◌, ap, subst, Option, Some, None, arith}
 use Rattle.gh_coord.specs.Listing as coord
+use Rattle.gh_mutator.specs.PollRoom.{PollsMakeRoom}
 use Rattle.gh_worker.specs.Listing as worker
 use Rattle.gh_world.specs.World.{IsAfter, Appends, Begins, Fit, State, Advances, IsStepOfCoordinator, IsStepOfWorker, begun_as, found_in, is_done, worker_or, now_in}
 use Rattle.gh_world.specs.Schedule.{has_ended}
 use Rattle.gh_world.proofs.Vocabulary.{acks_of, After, answer_in, answered_in, begins, by, Entry, Event, event_of, has_left_at, is_busy_at, Layout, Mutating, Next, Op, Processor, processor_kind, Program, Progress, progress_after, Shape, slice_get, slice_get_past, slice_get_within, started, state_of, statement_answer, StepsAreShown, with_goroutine}
-use Rattle.gh_world.proofs.Fitting.{ready, marks_few, marks_more}
+use Rattle.gh_world.proofs.Fitting.{due_room, ready, marks_few, marks_more}
 use Rattle.gh_world.proofs.OtherSteps.{lead_entry, lead_says, lead_tells, led, work_entry, work_says, work_tells, worked}
-use Rattle.gh_world.proofs.WorldFacts.{follows, says, tells, entry_of, Knows}
+use Rattle.gh_world.proofs.WorldFacts.{due_at, follows, says, tells, entry_of, Knows}
 
 -- what a world keeps, with so many points noted and room for so many
 pub record Kept (w : State) : Type 0 where
@@ -62,8 +63,8 @@ appends_begun w v b new es happened own shown f k a after =
           ∙ ap (λ (x : State). with_goroutine (now_in (entry_of w.script w.layout f.fit.base.script f.fit.base.layout f.fit.base.one w.words w.mutator.processor b ∷ es)).0 (answer_in x.script.shapes x.layout es (entry_of w.script w.layout f.fit.base.script f.fit.base.layout f.fit.base.one w.words w.mutator.processor b))) (sym a.others);
     }
 
-knows : (w x v : State) (happened : Event) (k : Begins w x) (f : Kept w) → is_done w 0 ≡ false → Advances (with_begun w k.o x.progress.next) v happened → Knows w.script w.layout f.fit.base.script f.fit.base.layout f.fit.base.one w.mutator.processor w.progress k.o x.progress.next
-knows w x v happened k f going a = record {
+knows : PollsMakeRoom → (w x v : State) (happened : Event) (k : Begins w x) (f : Kept w) → is_done w 0 ≡ false → Advances (with_begun w k.o x.progress.next) v happened → Knows w.script w.layout f.fit.base.script f.fit.base.layout f.fit.base.one w.mutator.processor w.progress k.o x.progress.next
+knows polls w x v happened k f going a = record {
   is = k.is;
   goes = k.next;
   busy = busy_at w x f going k;
@@ -72,13 +73,14 @@ knows w x v happened k f going a = record {
   stands = f.fit.turns.stands;
   all = f.fit.turns.all;
   columns = f.fit.turns.columns;
+  room = λ o some. let due = due_at w.script w.layout f.fit.base.script f.fit.base.layout f.fit.base.one w.mutator.processor w.progress.next k.o o k.is some in due_room polls w.script w.mutator.processor w.progress.next o due.0 due.1 f.fit.polled;
 }
 
 -- a step of the processor
-pub appends : (w x v : State) (es : List (Entry Op)) (happened : Event) → OwnEntries w.script w.layout → StepsAreShown w.layout → Kept w → is_done w 0 ≡ false → Begins w x → Advances x v happened → IsAfter w es → Appends v 0 es happened
-appends w x v es happened own shown f going k a after =
+pub appends : PollsMakeRoom → (w x v : State) (es : List (Entry Op)) (happened : Event) → OwnEntries w.script w.layout → StepsAreShown w.layout → Kept w → is_done w 0 ≡ false → Begins w x → Advances x v happened → IsAfter w es → Appends v 0 es happened
+appends polls w x v es happened own shown f going k a after =
     let b : Advances (with_begun w k.o x.progress.next) v happened = subst (λ (y : State). Advances y v happened) (begun_is w x k f.fit.turns.shapes going) a in
-    appends_begun w v k.o x.progress.next es happened own shown f (knows w x v happened k f going b) b after
+    appends_begun w v k.o x.progress.next es happened own shown f (knows polls w x v happened k f going b) b after
 
 not_false : (b : Bool) → not b ≡ false → b ≡ true
 not_false true e = refl

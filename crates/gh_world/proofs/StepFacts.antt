@@ -9,17 +9,24 @@ use Rattle.gh_bitmap.specs.SetPointers as bits
 use Rattle.gh_alloc.specs.declared.place.PlaceStage.TheVariants as place_stage
 use Rattle.gh_alloc.specs.Search as search
 use Rattle.gh_alloc.specs.Place as place
+use Rattle.gh_barrier.specs.declared.pointer_cell.PointerCell.TheVariants as pointer_cell
+use Rattle.gh_barrier.specs.Listing.{Writing as PointerWrite}
+use Rattle.gh_barrier.specs.Listing as write
 use Rattle.gh_mutator.specs.declared.global.GlobalStage.TheVariants as global_stage
 use Rattle.gh_mutator.specs.declared.load.LoadStage.TheVariants as load_stage
 use Rattle.gh_mutator.specs.declared.wait.Wait.{Wait as WaitState}
 use Rattle.gh_mutator.specs.declared.register.Source.TheVariants as source
 use Rattle.gh_mutator.specs.declared.store.StoreStage.TheVariants as store_stage
 use Rattle.gh_mutator.specs.declared.task.Task.TheVariants as task
+use Rattle.gh_mutator.specs.declared.poll.Local.{Local}
+use Rattle.gh_mutator.specs.Barrier.{written}
 use Rattle.gh_mutator.specs.Fields.{has_field, takes}
 use Rattle.gh_mutator.specs.Global as global
 use Rattle.gh_mutator.specs.Load as load
 use Rattle.gh_mutator.specs.New.{answer_search, op_of as new_op, refuses}
 use Rattle.gh_mutator.specs.Leave as leave
+use Rattle.gh_mutator.specs.Local.{is_mark}
+use Rattle.gh_mutator.specs.Processor.{keeping}
 use Rattle.gh_mutator.specs.Poll as poll
 use Rattle.gh_mutator.specs.Wait as wait
 use Rattle.gh_mutator.specs.Serving.{answer_at}
@@ -54,14 +61,15 @@ point_bit : (acts : Bool) (o : Op) → is_statement o ≡ true → bit (is_point
 point_bit true o e = ap bit e
 point_bit false o e = refl
 
-from_step : {S : Type 0} (into : S → Task) (m : Processor) (g d : ℕ) (x : S) (step : Step S) (o : Op) → IsServed into → is_statement o ≡ true → ActsOnce into x step → StepFacts m (into x) (applied into m g d step) (acting step.acts o false) (answered step.then)
-from_step {S} into m g d x step o h is once = by step.then once where
+-- from m, behind which a step of a statement leaves another buffer held in n
+from_step : {S : Type 0} (into : S → Task) (m n : Processor) (g d : ℕ) (x : S) (step : Step S) (o : Op) → IsServed into → is_statement o ≡ true → ActsOnce into x step → ((k : ℕ) → made_by n k ≡ made_by m k) → StepFacts m (into x) (applied into n g d step) (acting step.acts o false) (answered step.then)
+from_step {S} into m n g d x step o h is once same = by step.then once where
   point : bit (is_point (acting step.acts o false)) ≡ bit step.acts
   point = point_bit step.acts o is
 
-  by : (then : Then S) → bit (is_unacted (op_at (into x))) ≡ bit (is_unacted (op_at (follows into then))) + bit step.acts → StepFacts m (into x) (at_task (taking m g d step.sets) (follows into then)) (acting step.acts o false) (answered then)
+  by : (then : Then S) → bit (is_unacted (op_at (into x))) ≡ bit (is_unacted (op_at (follows into then))) + bit step.acts → StepFacts m (into x) (at_task (taking n g d step.sets) (follows into then)) (acting step.acts o false) (answered then)
   by (Ends a) once = record {
-    counted = λ k. omega arith;
+    counted = λ k. omega (arith, same k);
     leaves = sym (h.leaves x);
     answered = rw (h.serves x) (omega arith);
     once = once ∙ ap (λ (n : ℕ). 0 + n) (sym point);
@@ -69,7 +77,7 @@ from_step {S} into m g d x step o h is once = by step.then once where
     serves = refl;
   }
   by (GoesOn y) once = record {
-    counted = λ k. rw (h.makes y) (omega arith);
+    counted = λ k. rw (h.makes y) (omega (arith, same k));
     leaves = h.leaves y ∙ sym (h.leaves x);
     answered = rw (h.serves x, h.serves y) (omega arith);
     once = once ∙ ap (λ (n : ℕ). bit (is_unacted (op_at (into y))) + n) (sym point);
@@ -104,15 +112,21 @@ store_page_once : (x : Store) (b : Bool) → ActsOnce task.Store (store.at_stage
 store_page_once x true = refl
 store_page_once x false = refl
 
-store_bits_once : (x : Store) (b : Bool) → ActsOnce task.Store (store.at_stage x store_stage.Bits) (cond b (ends (answer.Fault fault.Kind)) (goes_on (store.at_stage x store_stage.Field)))
-store_bits_once x true = refl
-store_bits_once x false = refl
+store_bits_once : (x : Store) (next : StoreStage) (b : Bool) → ActsOnce task.Store (store.at_stage x store_stage.Bits) (cond b (ends (answer.Fault fault.Kind)) (goes_on (store.at_stage x next)))
+store_bits_once x next true = refl
+store_bits_once x next false = refl
 
-store_once : (l : Layout) (held : Value) (x : Store) (s : StoreStage) (found : ℕ) → ActsOnce task.Store (store.at_stage x s) (store.step_at l held x s found)
-store_once l held x store_stage.NilBase found = refl
-store_once l held x store_stage.Page found = store_page_once x (has_field x.k found)
-store_once l held x store_stage.Bits found = store_bits_once x (kinds_differ (is_pointer_by l (x.at + x.k) found) held)
-store_once l held x store_stage.Field found = refl
+store_once : (l : Layout) (own : Local) (held : Value) (x : Store) (s : StoreStage) (found : ℕ) → ActsOnce task.Store (store.at_stage x s) (store.step_at l own held x s found)
+store_once l own held x store_stage.NilBase found = refl
+store_once l own held x store_stage.Page found = store_page_once x (has_field x.k found)
+store_once l own held x store_stage.Bits found =
+    let pointer = is_pointer_by l (x.at + x.k) found in
+    store_bits_once x (store.stores l own held x pointer) (kinds_differ pointer held)
+store_once l own held x store_stage.Field found = refl
+store_once l own held x (store_stage.Writing w) found = by (write.gives w found) where
+  by : (out : Option (Unit {0})) → ActsOnce task.Store (store.at_stage x (store_stage.Writing w)) (store.after_write x (write.goes w found) out)
+  by None = refl
+  by (Some y) = refl
 
 global_served : IsServed task.Global
 global_served = record { serves = λ x. refl; leaves = λ x. refl; makes = λ x. refl; busy = λ x. refl }
@@ -121,12 +135,17 @@ global_once : (l : Layout) (held : Value) (x : Global) (s : GlobalStage) (found 
 global_once l held x global_stage.Load found = value_once (global.naming x) task.Global (value_of l.pages true found) (λ a. refl)
 global_once l held x (global_stage.Birth a) found = refl
 global_once l held x global_stage.Store found = refl
+global_once l held x (global_stage.Writing w) found = by (write.gives w found) where
+  by : (out : Option (Unit {0})) → ActsOnce task.Global (global.at_stage x (global_stage.Writing w)) (global.after_write x (write.goes w found) out)
+  by None = refl
+  by (Some y) = refl
 global_once l held x global_stage.Number found = refl
 
 global_statement : (x : Global) (s : GlobalStage) → is_statement (global.op_in x s) ≡ true
 global_statement x global_stage.Load = refl
 global_statement x (global_stage.Birth a) = refl
 global_statement x global_stage.Store = refl
+global_statement x (global_stage.Writing w) = refl
 global_statement x global_stage.Number = refl
 
 -- ---- each step
@@ -214,9 +233,9 @@ module _ (shapes : List Shape) (m : Processor) where
   pub step_facts : (t : Task) (found : ℕ) → is_busy_at t ≡ true → FactsAt t found
   step_facts task.Idle found busy = absurd (cc)
   step_facts task.Left found busy = absurd (cc)
-  step_facts (task.Load x) found busy = from_step task.Load m x.g x.d x (load.step m.poll.layout x found) (load.op_of x) load_served refl (load_once m.poll.layout x x.stage found)
-  step_facts (task.Store x) found busy = from_step task.Store m x.g x.v x (store.step m.poll.layout (register_of m x.g x.v) x found) (store.op_of x) store_served refl (store_once m.poll.layout (register_of m x.g x.v) x x.stage found)
-  step_facts (task.Global x) found busy = from_step task.Global m x.g x.r x (global.step m.poll.layout (register_of m x.g x.r) x found) (global.op_of x) global_served (global_statement x x.stage) (global_once m.poll.layout (register_of m x.g x.r) x x.stage found)
+  step_facts (task.Load x) found busy = from_step task.Load m m x.g x.d x (load.step m.poll.layout x found) (load.op_of x) load_served refl (load_once m.poll.layout x x.stage found) (λ k. refl)
+  step_facts (task.Store x) found busy = from_step task.Store m (keeping m (store.held_behind m.poll.local.held x.stage found)) x.g x.v x (store.step m.poll.layout m.poll.local (register_of m x.g x.v) x found) (store.op_of x) store_served refl (store_once m.poll.layout m.poll.local (register_of m x.g x.v) x x.stage found) (λ k. refl)
+  step_facts (task.Global x) found busy = from_step task.Global m (keeping m (global.held_behind m.poll.local.held x.stage found)) x.g x.r x (global.step m.poll.layout (register_of m x.g x.r) x found) (global.op_of x) global_served (global_statement x x.stage) (global_once m.poll.layout (register_of m x.g x.r) x x.stage found) (λ k. refl)
   step_facts (task.Register x) found busy = register_facts x x.source found
   step_facts (task.New x) found busy = new_facts x.wanted x.stage found
   step_facts (task.Gc g x) found busy = gc_facts g x (wait.goes (wait.waiting x m.poll) found) (wait.gives (wait.waiting x m.poll) found)
@@ -243,16 +262,22 @@ store_facts g b k v value.Nil = record { made = omega arith; leaves = refl; serv
 store_facts g b k v (value.Int n) = record { made = omega arith; leaves = refl; serves = refl; is = refl }
 store_facts g b k v (value.Ref n) = record { made = omega arith; leaves = refl; serves = refl; is = refl }
 
-global_store_facts : (g k v : ℕ) (x : Value) → BeginFacts (op.SetGlobal g k v) (task.Global (global.begins_store g k v x))
-global_store_facts g k v value.Nil = record { made = omega arith; leaves = refl; serves = refl; is = refl }
-global_store_facts g k v (value.Int n) = record { made = omega arith; leaves = refl; serves = refl; is = refl }
-global_store_facts g k v (value.Ref n) = record { made = omega arith; leaves = refl; serves = refl; is = refl }
+global_store_facts : (l : Layout) (own : Local) (g k v : ℕ) (x : Value) → BeginFacts (op.SetGlobal g k v) (task.Global (global.begins_store l own g k v x))
+global_store_facts l own g k v x = by x where
+  stored : (w : PointerWrite) (b : Bool) → BeginFacts (op.SetGlobal g k v) (task.Global (record { g = g; r = v; k = k; stage = cond b (global_stage.Writing w) global_stage.Store }))
+  stored w true = record { made = omega arith; leaves = refl; serves = refl; is = refl }
+  stored w false = record { made = omega arith; leaves = refl; serves = refl; is = refl }
+
+  by : (x : Value) → BeginFacts (op.SetGlobal g k v) (task.Global (global.begins_store l own g k v x))
+  by value.Nil = stored (written l own (pointer_cell.Global k) value.Nil) (is_mark own.view.phase)
+  by (value.Int n) = record { made = omega arith; leaves = refl; serves = refl; is = refl }
+  by (value.Ref n) = stored (written l own (pointer_cell.Global k) (value.Ref n)) (is_mark own.view.phase)
 
 -- an operation that is begun
 pub begin_facts : (shapes : List Shape) (m : Processor) (o : Op) → is_busy_at (begins_at shapes m o) ≡ true → BeginFacts o (begins_at shapes m o)
 begin_facts shapes m (op.Load g d b k) busy = load_facts g d b k (register_of m g b)
 begin_facts shapes m (op.Store g b k v) busy = store_facts g b k v (register_of m g b)
-begin_facts shapes m (op.SetGlobal g k v) busy = global_store_facts g k v (register_of m g v)
+begin_facts shapes m (op.SetGlobal g k v) busy = global_store_facts m.poll.layout m.poll.local g k v (register_of m g v)
 begin_facts shapes m _ busy = record { made = omega arith; leaves = refl; serves = refl; is = refl }
 
 -- one that is in range is begun

@@ -9,6 +9,7 @@ use Rattle.gh_coord.specs.Listing as coord
 use Rattle.gh_worker.specs.Listing as worker
 use Rattle.gh_world.specs.declared.handshake.Actor.TheVariants as actor
 use Rattle.gh_world.specs.Order.{goroutine_of}
+use Rattle.gh_mutator.specs.Sound.{has_room}
 use Rattle.gh_world.specs.Processors.{arena_of, has_more, is_of, may_begin}
 use Rattle.gh_world.specs.Turns.{Stands, statements_by, statement_now, next_point}
 use Rattle.gh_world.specs.Wishes.{wishes_of}
@@ -105,8 +106,8 @@ module _ (p : Program) (l : Layout) (runnable : WellFormed p) (laid : IsLayoutOf
   -- where nothing is begun
   pub begins_due : ((es : List (Entry Op)) → state_of (processor_kind p.shapes l) 0 es ≡ state_of (processor_kind p.shapes l) 0 (by 0 es)) → (es : List (Entry Op)) (t : Progress) (o : Op) (new : Next) → is_busy_at (state_of (processor_kind p.shapes l) 0 es).task ≡ false → op_due p t.next ≡ Some o → Follows p t.next o new →
       MadeAtMost t.stated (state_of (processor_kind p.shapes l) 0 es) → Stands p t.next → t.stated + statements_among (to_come p t.next) ≡ total_of p → Legal (setting_of p l) es → turns_of p ≡ reverse (begun_in es) ++ to_come p t.next →
-      ((g : ℕ) → ended_in es g ≡ true → MayBeOver p t.next g) → (has_left es ≡ true → is_over t.next ≡ true) → Begins (setting_of p l) 0 es (Some o)
-  begins_due own es t o new idle due follows made stands all legal turns over left =
+      ((g : ℕ) → ended_in es g ≡ true → MayBeOver p t.next g) → (has_left es ≡ true → is_over t.next ≡ true) → has_room (state_of (processor_kind p.shapes l) 0 es) o ≡ true → Begins (setting_of p l) 0 es (Some o)
+  begins_due own es t o new idle due follows made stands all legal turns over left room =
       let m = state_of (processor_kind p.shapes l) 0 es in
       let fs = by 0 es in
       let begun : begun_in fs ≡ begun_in es = begun_own p l single es legal in
@@ -117,7 +118,7 @@ module _ (p : Program) (l : Layout) (runnable : WellFormed p) (laid : IsLayoutOf
       let stays : has_left fs ≡ false = same_left es fs begun ∙ false_unless (has_left es) (λ h. not_over p t.next o due (left h)) in
       let come : turns_of p ≡ reverse (begun_in fs) ++ o ∷ to_come p new = turns ∙ ap (λ (os : List Op). reverse (begun_in es) ++ os) follows.come ∙ ap (λ (os : List Op). reverse os ++ o ∷ to_come p new) (sym begun) in
       let may : may_begin (arena_of p.shapes l) (wishes_of p) 0 (state_of (processor_kind p.shapes l) 0 fs) fs o ≡ true =
-      both_true _ _ (both_true _ _ (both_true _ _ (both_true _ _ (both_true _ _ (both_true _ _ ranged (of_it o)) names) (not_true _ runs_on)) (not_true _ stays)) (more_of fs o (to_come p new) come)) (leaves_so fs o new come (follows.leaves ∙ sym (leaves_is o))) in
+      both_true _ _ (both_true _ _ (both_true _ _ (both_true _ _ (both_true _ _ (both_true _ _ (both_true _ _ ranged (of_it o)) names) (not_true _ runs_on)) (not_true _ stays)) (more_of fs o (to_come p new) come)) (leaves_so fs o new come (follows.leaves ∙ sym (leaves_is o)))) (subst (λ (n : Processor). has_room n o ≡ true) (own es) room) in
       (ap (λ (x : Actor Processor). (setting_of p l).kind.busy x) (is_processor p l 0 (omega (arith, single)) es) ∙ idle, may)
 
 -- ---- one step is one entry more
@@ -142,6 +143,7 @@ module _ (p : Program) (l : Layout) (runnable : WellFormed p) (laid : IsLayoutOf
     pub stands : Stands p t.next
     pub all : t.stated + statements_among (to_come p t.next) ≡ total_of p
     pub columns : length t.begun ≡ 32
+    pub room : (o : Op) → b ≡ Some o → has_room m o ≡ true
 
   -- what follows the list by one step more
   abbrev pub Goes : List ℕ → List worker.Working → coord.Coordinating → Progress → List (ℕ × ℕ) → ℕ → List (Entry Op) → Option Op → Next → Processor → Type 0
@@ -152,7 +154,7 @@ module _ (p : Program) (l : Layout) (runnable : WellFormed p) (laid : IsLayoutOf
       (entry_of list m b ∷ es)
 
   -- an operation that begins is the one that is due
-  due_at : (m : Processor) (t : Next) (b : Option Op) (o : Op) → b ≡ op_at_turn p (is_busy_at m.task) t → b ≡ Some o → (is_busy_at m.task ≡ false) × (op_due p t ≡ Some o)
+  pub due_at : (m : Processor) (t : Next) (b : Option Op) (o : Op) → b ≡ op_at_turn p (is_busy_at m.task) t → b ≡ Some o → (is_busy_at m.task ≡ false) × (op_due p t ≡ Some o)
   due_at m t b o is some = go (is_busy_at m.task) refl where
     go : (c : Bool) → is_busy_at m.task ≡ c → (is_busy_at m.task ≡ false) × (op_due p t ≡ Some o)
     go true e = absurd (let none : Some o ≡ None = sym some ∙ is ∙ ap (λ (c : Bool). op_at_turn p c t) e in cc)
@@ -166,7 +168,7 @@ module _ (p : Program) (l : Layout) (runnable : WellFormed p) (laid : IsLayoutOf
   begins_next own es t None new k legal turns over left = ap (λ (x : Actor Processor). (setting_of p l).kind.busy x) (is_processor p l 0 (omega (arith, single)) es) ∙ k.busy
   begins_next own es t (Some o) new k legal turns over left =
       let due = due_at (state_of (processor_kind p.shapes l) 0 es) t.next (Some o) o k.is refl in
-      begins_due p l runnable laid single own es t o new due.0 due.1 k.goes k.made k.stands k.all legal turns over left
+      begins_due p l runnable laid single own es t o new due.0 due.1 k.goes k.made k.stands k.all legal turns over left (k.room o refl)
 
   pub turns_next : (t : Progress) (b : Option Op) (new : Next) (bs : List Op) → GoesOn p t.next b new → turns_of p ≡ reverse bs ++ to_come p t.next → turns_of p ≡ reverse (option_to_list b ++ bs) ++ to_come p new
   turns_next t None new bs goes turns = turns ∙ ap (λ (x : Next). reverse bs ++ to_come p x) (sym goes)

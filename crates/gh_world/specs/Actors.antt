@@ -19,7 +19,7 @@ use Rattle.gh_mutator.specs.Facts.{ShapesAreGood}
 use Rattle.gh_sweep.specs.Counts.{AreWords, count_below, is_set, marked_objects, unmarked_objects}
 use Rattle.gh_sweep.specs.Shared.{placed}
 use Rattle.gh_world.specs.Handshake.{Pacing}
-use Rattle.gh_world.specs.KeepsToPolls.{KeepsToPolls, those}
+use Rattle.gh_world.specs.Those.{those}
 use Rattle.gh_world.specs.Marking.{EndsClean, IsBeginning, IsInLimits, IsLedBy, IsStartOf, IsStateOf}
 use Rattle.gh_world.specs.Processors.{arena_of, ever_after_list, IsPlacedAt, ListStands, may_begin}
 use Rattle.gh_world.specs.Wants.{total}
@@ -96,13 +96,17 @@ module _ (shapes : List Shape) (l : Layout) (pacing : Pacing) (may : ℕ → Lis
   abbrev pub IsMarkedObject : Words → Name → Type 0
   IsMarkedObject words n = (a : ℕ) × IsPlacedAt words n a × (row_bit (mark_words words) a ≡ 1)
 
-  -- Where marking ends nothing is grey, each global and each stack that has not ended is scanned; and the objects that are marked are those that a script reaches.
+  -- Where marking ends nothing is grey, each global and each stack that has not ended is scanned; and each object that a script reaches is marked. One that is marked was reached where the cycle began, or was made since: a script may have lost it meanwhile.
   pub record EndsMarked (es : List (Entry Op)) (c : Coordinating) : Type 0 where
     pub cycle : Cycle
     pub shared : Shared
     pub is : IsStateOf arena (processor_kind shapes l) pacing may es c cycle shared
     pub clean : EndsClean cycle shared
-    pub marked : (n : Name) → IsMade (ever es).made n → IsMarkedObject (words es) n ↔ Reach (ever es) n
+    pub reached : (n : Name) → Reach (ever es) n → IsMarkedObject (words es) n
+    pub begun : List (Entry Op)
+    pub start : IsStartOf begun es
+    pub begins : BeginsCycle c.begun begun
+    pub marked : (n : Name) → IsMade (ever begun).made n → IsMarkedObject (words es) n → Reach (ever begun) n
 
   abbrev pub EndsAllMarked : List (Entry Op) → Type 0
   EndsAllMarked es = (e : Entry Op) (before : List (Entry Op)) (k : ℕ) → IsStartOf (e ∷ before) es → (step : IsStepIn IsEnding k e before) → EndsMarked before step.lead
@@ -123,6 +127,8 @@ module _ (shapes : List Shape) (l : Layout) (pacing : Pacing) (may : ℕ → Lis
   pub record LeavesTheReached (es : List (Entry Op)) (c : Coordinating) : Type 0 where
     pub over : (g : ℕ) → g < l.goroutines → (ever es).ended g ≡ true
     pub left : (n : Name) → IsMade (ever es).made n → ((a : ℕ) × IsPlacedAt (words es) n a) ↔ Reach (ever es) n
+    -- where the last cycle's marking ended no value was another than now
+    pub unchanged : (ended : List (Entry Op)) → IsStartOf ended es → EndsCycle c.begun ended → ever es ≡ ever ended
     pub marked : (ended : List (Entry Op)) → IsStartOf ended es → EndsCycle c.begun ended → (n : Name) → IsMade (ever es).made n → IsMarkedObject (words ended) n ↔ Reach (ever es) n
     pub live : c.live ≡ placed (alloc_words (words es)) (slot_row (page_words (words es))) (16 * l.pages)
 
@@ -151,7 +157,7 @@ module _ (shapes : List Shape) (l : Layout) (pacing : Pacing) (may : ℕ → Lis
     pub counts : (c : Coordinating) → IsLed es c → AllWereCounted es c
     pub last : (c : Coordinating) → IsLed es c → c.stage ≡ Done → LeavesTheReached es c
 
--- Whatever the types' shapes, the heap's layout, its pacing, how many objects and cycles each goroutine may ask for, and however many processors and workers there are: after every legal list of their steps, in every order, in which processors keep to polls while a cycle is marked.
+-- Whatever the types' shapes, the heap's layout, its pacing, how many objects and cycles each goroutine may ask for, and however many processors and workers there are: after every legal list of their steps, in every order, also while a cycle is marked.
 abbrev pub EveryListOfActorsStands : Type 0
 EveryListOfActorsStands = (shapes : List Shape) (l : Layout) (pacing : Pacing) (counts : ℕ → ℕ) (es : List (Entry Op)) → ShapesAreGood shapes → IsInLimits l → total counts l.goroutines ≤ MOST_STATEMENTS →
-    Legal (those shapes l pacing (may_of shapes l counts)) es → KeepsToPolls shapes l pacing (may_of shapes l counts) es → AllStands shapes l pacing (may_of shapes l counts) es
+    Legal (those shapes l pacing (may_of shapes l counts)) es → AllStands shapes l pacing (may_of shapes l counts) es

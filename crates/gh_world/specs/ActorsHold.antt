@@ -1,6 +1,7 @@
 -- What holds after every list of all actors, by the coordinator's stage: between two cycles the heap is calm; while a cycle is marked it is known to marking; and while it is swept the world is stopped.
 use Rattle.std.specs.Prelude.{◌≡◌, ◌↔◌, ℕ, ◌*◌, ◌<◌, ◌≤◌, ◌⊎◌, Bool, true, false, List, ◌++◌, slice_index, Option, Some, None}
 use Rattle.std.specs.Option.{option_to_list}
+use Rattle.std.proofs.Common.{inl, inr}
 use Rattle.gh_base.specs.declared.cell.Cell.TheVariants as cell
 use Rattle.gh_base.specs.declared.pack.PageWord.TheVariants.{Head}
 use Rattle.gh_base.specs.declared.pack.SpanHead.{SpanHead}
@@ -24,7 +25,7 @@ use Rattle.gh_sweep.specs.declared.sweep.SweepStage.{SweepStage}
 use Rattle.gh_sweep.specs.declared.sweep.SweepStage.TheVariants.{Begin}
 use Rattle.gh_sweep.specs.Listing as sweep
 use Rattle.gh_sweep.specs.Sweepers as sweepers
-use Rattle.gh_world.specs.HoldVocabulary.{acks_of, alloc_at, alloc_words, AllWereCounted, Answer, answers_of, arena, Arena, ArePacked, AreWords, BeginsCycle, birth_words, By, Coordinating, CountsAreExact, CoordStage, Cycle, CycleEnd, deeds, ended_in, EndsAllMarked, EndsCycle, Entry, ever, Fine, FreesTheUnreached, FullOnlyThere, generation_of, given_of, Good, head_word, Heap, IsAtRest, IsBeginning, IsBounded, IsCalm, IsCounted, IsCycleOf, IsLed, IsMade, IsOf, IsSound, IsStartOf, Layout, LeavesTheReached, Marking, mark_words, marks_at, MarksNothing, Name, NewStage, Op, opening_words, Pacing, page_of, page_words, Placed, Processor, processor_kind, Reach, Right, Shape, Spans, state_of, SweepingAll, SweepsBeside, tally_of, Task, view, words}
+use Rattle.gh_world.specs.HoldVocabulary.{acks_of, alloc_at, alloc_words, AllWereCounted, Answer, answers_of, arena, Arena, AreWords, BeginsCycle, birth_words, By, Coordinating, CountsAreExact, CoordStage, Cycle, CycleEnd, deeds, ended_in, EndsAllMarked, EndsCycle, Entry, Ever, ever, Fine, FreesTheUnreached, FullOnlyThere, generation_of, given_of, Good, HasGoneOn, head_word, Heap, IsAtRest, IsBeginning, IsBeside, IsBounded, IsCalm, IsLed, IsMade, IsOf, IsSound, IsStartOf, Layout, LeavesTheReached, Marking, mark_words, marks_at, MarksNothing, Name, NewStage, Op, opening_words, Pacing, page_of, Placed, Processor, processor_kind, Right, row_bit, Shape, Spans, state_of, SweepingAll, SweepsBeside, tally_of, Task, view, with_words, Words, words}
 
 -- The bytes that a processor has placed and not counted yet: those of the slot in which it has made an object.
 
@@ -46,6 +47,16 @@ abbrev pub is_last_task : Task → Bool
 is_last_task (task.Leave x) = true
 is_last_task task.Left = true
 is_last_task _ = false
+
+-- What is said of a sweep goes on to be so of what stands while the next cycle is opened and marked, though marks are set and what the sweep has told is cleared: it is said of the words with no mark set, and with the two counts as they were told.
+abbrev pub unmarked : (tally live : ℕ) → Words → Words
+unmarked tally live words (cell.Mark i) = 0
+unmarked tally live words cell.Tally = tally
+unmarked tally live words cell.Live = live
+unmarked tally live words c = words c
+
+abbrev pub bare : (tally live : ℕ) → Heap → Heap
+bare tally live h = with_words h (unmarked tally live h.words)
 
 -- The coordinator sweeps all spans, alone.
 
@@ -142,32 +153,44 @@ module _ (shapes : List Shape) (l : Layout) (pacing : Pacing) (may : ℕ → Lis
     pub stage : IsBeginning lead.stage
     pub cycle : lead.begun ≡ k
 
-  -- it has begun, and no value has changed since
+  -- it has begun; in the last one no value has changed since
   pub record IsInCycle (es : List (Entry Op)) (k : ℕ) : Type 0 where
     pub begun : List (Entry Op)
     pub start : IsStartOf begun es
     pub begins : BeginsCycle shapes l pacing may k begun
-    pub ever_is : ever shapes l pacing may es ≡ ever shapes l pacing may begun
+    pub last : (c : Coordinating) → IsLed shapes l pacing may es c → c.is_last ≡ true → ever shapes l pacing may es ≡ ever shapes l pacing may begun
 
-  -- where it ended, the bits were these, and no value has changed since
+  -- the heap that never frees where it began, or is about to
+  abbrev pub began : (es : List (Entry Op)) (k : ℕ) → IsToBegin es k ⊎ IsInCycle es k → Ever
+  began es k (inl b) = ever shapes l pacing may es
+  began es k (inr i) = ever shapes l pacing may i.begun
+
+  -- where it ended, the bits were these, and no value and no name has changed since
   pub record EndedSo (es : List (Entry Op)) (k : ℕ) (e : CycleEnd) : Type 0 where
     pub ended : List (Entry Op)
     pub start : IsStartOf ended es
     pub ends : EndsCycle shapes l pacing may k ended
     pub alloc : alloc_at e ≡ alloc_words (words shapes l pacing may ended)
     pub marks : marks_at e ≡ mark_words (words shapes l pacing may ended)
+    pub births : (i : ℕ) → words shapes l pacing may es (cell.Birth i) ≡ words shapes l pacing may ended (cell.Birth i)
     pub ever_is : ever shapes l pacing may es ≡ ever shapes l pacing may ended
 
-  -- While a cycle is marked.
+  -- While a cycle is marked. What stands is counted beside the marks, as between two cycles: what a processor has placed and not counted yet is told.
   pub record IsKnown (c : Cycle) (s : Marking) (es : List (Entry Op)) : Type 0 where
     pub arena_is : c.arena ≡ z
     pub heap : Heap
     pub of_list : IsHeapOf es heap
     pub good : Good z (view heap)
-    pub of_heap : IsCycleOf z heap s
+    pub beside : IsBeside z heap s
     pub cycle : IsToBegin es c.number ⊎ IsInCycle es c.number
-    pub packed : ArePacked (page_words heap.words)
-    pub counted : IsCounted l heap.words
+    pub gone_on : HasGoneOn (began es c.number cycle) heap s
+    pub end : CycleEnd
+    pub spans : Spans
+    pub tally : ℕ
+    pub live : ℕ
+    pub calm : IsCalm z end (bare tally live heap) spans
+    pub placing : (a : ℕ) → a < l.procs → spans.pend a ≡ uncounted (processor_at es a).task
+    pub others_place : (a : ℕ) → l.procs ≤ a → spans.pend a ≡ 0
     pub marks_fit : AreWords (mark_words heap.words)
 
   -- While it is swept.
@@ -203,18 +226,22 @@ module _ (shapes : List Shape) (l : Layout) (pacing : Pacing) (may : ℕ → Lis
     pub heap : Heap
     pub of_list : IsHeapOf es heap
     pub good : Good z (view heap)
-    pub packed : ArePacked (page_words heap.words)
-    pub counted : IsCounted l heap.words
+    pub end : CycleEnd
+    pub spans : Spans
+    pub tally : ℕ
+    pub live : ℕ
+    pub calm : IsCalm z end (bare tally live heap) spans
+    pub owes_none : (a : ℕ) → spans.pend a ≡ 0
     pub marks : (i : ℕ) → heap.words (cell.Mark i) ≡ 0
     pub buffers : (b : ℕ) → heap.words (cell.Buffer b) ≡ 0
     pub stacks : (g : ℕ) → (heap.words (cell.Scanned g) < c.begun) ⊎ (heap.words (cell.Scanned g) ≡ END)
     pub processors : (a : ℕ) → a < l.procs → MarksNothing (processor_at es a)
 
-  -- the cycle is just swept: the objects that stand are those that a script reaches, and the counts are exact
+  -- the cycle is just swept: the objects that stand are those that were marked where it ended, and the counts are exact
   pub record IsJustSwept (es : List (Entry Op)) (c : Coordinating) (h : Heap) (e : CycleEnd) : Type 0 where
     pub cycle : IsInCycle es c.begun
     pub ended : EndedSo es c.begun e
-    pub left : (n : Name) → IsMade h.ever.made n → Placed (alloc_words h.words) (birth_words h.words) h.place n ↔ Reach h.ever n
+    pub left : (n : Name) → IsMade h.ever.made n → Placed (alloc_words h.words) (birth_words h.words) h.place n → row_bit (marks_at e) (h.place n) ≡ 1
     pub told : CountsAreExact e h.words
 
   -- it has read what is counted

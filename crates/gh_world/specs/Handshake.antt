@@ -121,6 +121,8 @@ module _ {P : Type 0} (sound : Layout → P → Type 0) (party : P → Party) (s
     -- no worker leaves before the last cycle is swept, and every processor has left by then
     pub workers_leave : (a : ℕ) (w : worker.Working) → a < acks_of s.layout → state_of s.kind a es ≡ actor.Marks w → working.IsLeaving w.stage → last_phase es ≡ Finished
     pub processors_left : (a : ℕ) → a < s.layout.procs → last_phase es ≡ Finished → words_after s.opening es (cell.Ack a) ≡ GONE
+    -- and by when the last cycle begins
+    pub processors_gone : (c : coord.Coordinating) → state_of s.kind (acks_of s.layout) es ≡ actor.Leads c → c.is_last ≡ true → (a : ℕ) → a < s.layout.procs → words_after s.opening es (cell.Ack a) ≡ GONE
 
   abbrev pub EveryListKeepsIt : (O : Type 0) → Type 0
   EveryListKeepsIt O = (l : Layout) (k : Kind P O) (pacing : Pacing) (may_begin : ℕ → List (Entry O) → O → Bool) → AreParties l k (sound l) party stage → (es : List (Entry O)) → Legal (heap l k pacing may_begin) es →

@@ -20,10 +20,11 @@ pub use Rattle.gh_sweep.specs.Counts.{AreWords, marked_objects, unmarked_objects
 pub use Rattle.gh_sweep.specs.Shared.{alloc_at, By, CycleEnd, generation_of, marks_at, placed}
 pub use Rattle.gh_sweep.specs.Shared.{Shared as Spans}
 pub use Rattle.gh_sweep.specs.Sweepers.{IsAtRest}
-pub use Rattle.gh_cycle.specs.Ending.{ArePacked, IsCounted, slot_row}
-pub use Rattle.gh_cycle.specs.Opening.{IsCycleOf}
+pub use Rattle.gh_cycle.specs.Beside.{IsBeside}
+pub use Rattle.gh_cycle.specs.Ending.{slot_row}
 pub use Rattle.gh_cycle.specs.Reached.{IsBounded}
-pub use Rattle.gh_cycle.specs.Sweeping.{IsCalm, IsTold as CountsAreExact, SweepsBeside}
+pub use Rattle.gh_cycle.specs.Since.{HasGoneOn}
+pub use Rattle.gh_cycle.specs.Sweeping.{IsCalm, IsTold as CountsAreExact, SweepsBeside, with_words}
 pub use Rattle.gh_coord.specs.Listing.{Coordinating}
 pub use Rattle.gh_coord.specs.Stopping.{acks_of}
 pub use Rattle.gh_coord.specs.SweepingAll.{SweepingAll}

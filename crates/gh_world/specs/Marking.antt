@@ -1,5 +1,5 @@
 -- Processors of any kind whose steps are moves of marking, workers and the coordinator: what holds while a cycle is marked, and where its marking ends, after every legal list of their steps.
-use Rattle.std.specs.Prelude.{◌≡◌, ℕ, ◌<◌, ◌≤◌, ◌⊎◌, Bool, true, false, List, [], ◌∷◌}
+use Rattle.std.specs.Prelude.{◌≡◌, ◌≢◌, ℕ, ◌<◌, ◌≤◌, ◌⊎◌, Bool, true, false, List, [], ◌∷◌}
 use Rattle.gh_base.specs.declared.cell.Cell.TheVariants as cell
 use Rattle.gh_base.specs.declared.layout.Layout.{Layout}
 use Rattle.gh_base.specs.declared.machine.Entry.{Entry}
@@ -8,7 +8,7 @@ use Rattle.gh_base.specs.Limits.{InLimits}
 use Rattle.gh_base.specs.Lists.{Kind, Legal, Setting, started, state_of, words_after}
 use Rattle.gh_base.specs.Rows.{mark_words, row_bit}
 use Rattle.gh_heap.specs.Rights.{Arena}
-use Rattle.gh_marks.specs.Colours.{Cycle, Shared}
+use Rattle.gh_marks.specs.Colours.{Cycle, Placing, Shared}
 use Rattle.gh_marks.specs.Ends.{EachReachedIsMarked, IsDone, Opens}
 use Rattle.gh_marks.specs.Good.{Good}
 use Rattle.gh_marks.specs.Knows.{KnowsObjects}
@@ -138,10 +138,10 @@ module _ {P O : Type 0} (arena : Arena) (k : Kind P O) (pacing : Pacing) (may_be
       -- where a cycle begins; what was marked before may be used for that
       pub begins : (es : List (Entry O)) (c : coord.Coordinating) → Legal setting es → meant es → IsLedBy es c → IsBeginning c.stage → WasMarked es → MayBegin es c
       -- while it is marked, the words that are read of an object of the cycle say what its words are
-      pub objects : (z : Cycle) (s : Shared) (es : List (Entry O)) → knows z s es → KnowsObjects z s
-      -- and what is known of it lasts while workers and the coordinator step, by moves of theirs, as long as the cycle is marked
+      pub objects : (z : Cycle) (s : Shared) (es : List (Entry O)) → Good z s → knows z s es → KnowsObjects z s
+      -- and what is known of it lasts while workers and the coordinator step, by moves of theirs that fill no slot, as long as the cycle is marked
       pub lasts : (e : Entry O) (es : List (Entry O)) (c then : coord.Coordinating) → Legal setting (e ∷ es) → meant (e ∷ es) → IsLedBy es c → IsLedBy (e ∷ es) then → leading.Marks then.stage → (z : Cycle) (s t : Shared) → IsStateOf es c z s → Good z s → Good z t → knows z s es →
-          arena.layout.procs ≤ e.actor → Went z e.actor s t → LeavesObjects s t → t.words ≡ words (e ∷ es) → knows z t (e ∷ es)
+          arena.layout.procs ≤ e.actor → Went z e.actor s t → LeavesObjects s t → ((o : ℕ) → t.colour o ≢ Placing e.actor) → t.words ≡ words (e ∷ es) → knows z t (e ∷ es)
 
 module _ {P O : Type 0} (arena : Arena) (k : Kind P O) (pacing : Pacing) (may_begin : ℕ → List (Entry O) → O → Bool) (stage : P → Stage) (facts : Cycle → (a : ℕ) → Shared → P → Type 0) (knows : Cycle → Shared → List (Entry O) → Type 0) (meant : List (Entry O) → Type 0) where
   -- Of every legal list of this heap that is meant, while a cycle is marked: from the store of the phase that begins it to that of the next sweep generation.

@@ -10,13 +10,14 @@ use Rattle.gh_base.specs.Rows.{alloc_words, birth_words, bitmap_words, field_wor
 use Rattle.gh_class.specs.declared.class.SizeClass.TheVariants as size
 use Rattle.gh_heap.specs.Objects.{GlobalsGood, InSlot, Means, Place}
 use Rattle.gh_heap.specs.Spans.{IsVacant}
+use Rattle.gh_mutator.specs.Sound.{has_room}
 use Rattle.gh_world.specs.Order.{ended_in, goroutine_of, has_left, in_range, is_over}
 
 -- goroutine i is of processor i modulo their number; spans are given back whether or not each slot is taken
 abbrev pub arena_of : List Shape → Layout → Arena
 arena_of shapes l = record { layout = l; shapes = shapes; seat_of = λ g. g % l.procs; full_only = false }
 
--- Which operations may begin, by an actor's own entries: of a goroutine of this processor that has not ended; with registers, global and type in range; fewer `new` and `gc` of a goroutine than it has; no goroutine left before the leave; nothing after it.
+-- Which operations may begin, by an actor's own entries: of a goroutine of this processor that has not ended; with registers, global and type in range; fewer `new` and `gc` of a goroutine than it has; no goroutine left before the leave; nothing after it; and a store where there is room for the two entries of its write barrier, as a poll sees to it.
 
 abbrev pub is_of : Arena → (a : ℕ) → Option ℕ → Bool
 is_of z a None = true
@@ -52,7 +53,7 @@ abbrev pub may_run : Arena → (a : ℕ) → Processor → List (Entry Op) → O
 may_run z a m es o = in_range z.layout.goroutines z.layout.globals (length z.shapes) o && is_of z a (goroutine_of o) && has_names m o && not (is_over es (goroutine_of o))
 
 abbrev pub may_begin : Arena → (counts : ℕ → ℕ) → (a : ℕ) → Processor → List (Entry Op) → Op → Bool
-may_begin z counts a m es o = may_run z a m es o && not (has_left es) && has_more counts es o && may_leave z a es o
+may_begin z counts a m es o = may_run z a m es o && not (has_left es) && has_more counts es o && may_leave z a es o && has_room m o
 
 -- what a list is of: the processors of a heap, each at its seat
 abbrev pub setting : Arena → (counts : ℕ → ℕ) → Words → Setting Processor Op

@@ -38,7 +38,6 @@ pub use Rattle.gh_world.specs.Actors.{AllStands, AllWereCounted, EndsCycle, Ever
 pub use Rattle.gh_world.specs.ActorsMark.{Sound}
 pub use Rattle.gh_world.specs.Cycles.{AreLive, IsAmong, IsHeld, by_field, by_global, cycles_in, ended_by}
 pub use Rattle.gh_world.specs.Handshake.{AreParties, EveryListKeepsIt, KeepsIt, Pacing}
-pub use Rattle.gh_world.specs.KeepsToPolls.{OneProcessorKeepsToPolls}
 pub use Rattle.gh_world.specs.Marking.{IsStartOf}
 pub use Rattle.gh_world.specs.Numbers.{Checked, IsFew, LiveCleared, Outside, Part, WritesNoNumbers, generation_of, opened_in, part_of}
 pub use Rattle.gh_world.specs.Order.{answered, before_step, begun_in, ever_of, order_of}

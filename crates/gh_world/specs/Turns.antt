@@ -112,6 +112,15 @@ abbrev pub is_over : Next → Bool
 is_over next.Over = true
 is_over _ = false
 
+-- a poll comes next, or what a turn has behind its poll
+abbrev pub is_poll_due : Next → Bool
+is_poll_due (next.Poll r g) = true
+is_poll_due _ = false
+
+abbrev pub is_run_due : Next → Bool
+is_run_due (next.Run r g) = true
+is_run_due _ = false
+
 -- what the processor begins next
 abbrev pub op_due : Program → Next → Option Op
 op_due p (next.Poll r g) = Some op.Poll

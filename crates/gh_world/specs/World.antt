@@ -9,10 +9,12 @@ use Rattle.gh_coord.specs.Stopping.{acks_of}
 use Rattle.gh_mutator.specs.declared.task.Task.TheVariants.{New}
 use Rattle.gh_mutator.specs.Deeds.{processor_kind}
 use Rattle.gh_mutator.specs.Mutating.{asks, begins}
+use Rattle.gh_mutator.specs.PollRoom.{MayStore}
 use Rattle.gh_worker.specs.Listing as worker
 use Rattle.gh_world.specs.declared.handshake.Actor.{Actor}
 use Rattle.gh_world.specs.declared.handshake.Actor.TheVariants as actor
 use Rattle.gh_world.specs.declared.event.Event.TheVariants as event
+use Rattle.gh_world.specs.declared.turns.Next.TheVariants as next
 use Rattle.gh_world.specs.Handshake.{heap, Pacing}
 use Rattle.gh_world.specs.Order.{before_step, begun_in, ended_in, has_left}
 use Rattle.gh_world.specs.Processors.{arena_of, may_begin}
@@ -185,6 +187,11 @@ pub record FitTurns (p : Program) (l : Layout) (m : Mutating) (t : Progress) (po
   pub pointed : points + bit (is_unacted (op_at m.processor.task)) ≤ t.stated
   pub reserved : total_of p ≤ room
 
+-- of the poll before a statement: the processor polls, or has polled and begun nothing since,
+abbrev pub Polled : Next → Processor → Type 0
+Polled (next.Run r g) m = MayStore m
+Polled _ m = Unit {0}
+
 -- and of the others.
 pub record FitOthers (p : Program) (l : Layout) (workers : List worker.Working) (c : coord.Coordinating) : Type 0 where
   pub many : length workers ≡ l.workers
@@ -196,6 +203,7 @@ pub record FitOthers (p : Program) (l : Layout) (workers : List worker.Working) 
 pub record Fit (w : State) (points room : ℕ) : Type 0 where
   pub base : FitWords w.script w.layout w.words
   pub turns : FitTurns w.script w.layout w.mutator w.progress points room
+  pub polled : Polled w.progress.next w.mutator.processor
   pub others : FitOthers w.script w.layout w.workers w.coord
 
 -- ---- what a world shows

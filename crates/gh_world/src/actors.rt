@@ -2,17 +2,21 @@
 //!
 //! A script cannot tell the heap from one that never frees. Between two cycles that is so by the rights of processors
 //! (`gh_heap`), and all spans are swept. Where the coordinator begins a cycle the world is stopped, and what a script
-//! reaches then are the objects of the cycle: marking finds them all (`marking`), whoever marks in which order. For
-//! now processors only poll and wait while it does, so that no value changes until the cycle is swept; what the sweep
-//! frees is then what no script reached where the cycle began. It runs while the world is stopped: no object that a
-//! script reaches is freed, and behind it each head has the sweep generation's number again, as between two cycles.
+//! reaches then are the objects of the cycle. While it is marked, processors go on: they load, store, make objects and
+//! give spans back, and each of their steps is one of the heap and one of marking at once (`gh_mutator`, `beside`). So a
+//! script may lose what it reached when the cycle began, and make what nobody has seen; but what it had lost by then it
+//! never reaches again (`gh_cycle`, `since`). Where marking ends, all that a script reaches is marked, whoever marked and
+//! stored in which order, and nothing that was lost when the cycle began is. The sweep runs while the world is stopped: no
+//! object that a script reaches is freed, and behind it each head has the sweep generation's number again, as between two
+//! cycles.
 //!
 //! So one invariant goes through every list, by the coordinator's stage. Where marking ends it is that of the sweep,
 //! with the bits and the count of bytes as they stand; where the sweep ends it is that of a calm heap, with the
-//! counts as the coordinator finds them; and where the next cycle begins, that of marking, with no mark set.
+//! counts as the coordinator finds them; and where the next cycle begins, that of marking, with no mark set. What is
+//! said of a sweep goes on to be so beside the next cycle, of the words without its marks: so what a processor has
+//! placed and not counted yet is told then too, and what stands is counted exactly where its marking ends.
 
 ghost use Rattle.gh_world.specs.Actors.{EveryListOfActorsStands};
-ghost use Rattle.gh_world.specs.KeepsToPolls.{OneProcessorKeepsToPolls};
 
 use crate::handshake::{
     PartyToHandshake, every_list_keeps_the_handshake, every_step_keeps_the_handshake,
@@ -25,17 +29,20 @@ use crate::numbers::{
 use gh_base::Op;
 use gh_base::laws::{a_step_changes_one_cell, packed_words_are_read_back};
 use gh_class::size_class_laws;
+use gh_cycle::beside::{
+    cycles_begin_beside, marking_alone_goes_beside, objects_are_known_beside,
+    the_reached_are_marked_beside,
+};
 use gh_cycle::closing::{
-    allocation_goes_on, calm_lasts, counts_are_told, cycles_end, only_the_reached_are_left,
+    allocation_goes_on, calm_lasts, counts_are_told, cycles_end, only_the_marked_are_left,
     slots_are_read, sweeping_keeps_the_heap, words_are_packed,
 };
-use gh_cycle::opening::{
-    bounds_last, cycles_open, objects_are_known, reach_is_decided, the_cycle_lasts,
-    the_reached_are_marked,
-};
+use gh_cycle::opening::{bounds_last, cycles_open, reach_is_decided};
+use gh_cycle::since::{cycles_begin_so, the_marked_were_reached, what_has_gone_on_lasts};
 use gh_heap::laws::{each_move_keeps, each_move_leaves, facts_last, the_heap_is_apart};
 use gh_marks::laws::{marking_begins, steps_go_by_moves};
 use gh_mutator::Processor;
+use gh_mutator::beside::a_processor_goes_on_beside_marking;
 use gh_mutator::laws::{
     a_processor_marks_by_moves, a_processor_runs_by_its_rights, a_processor_writes_its_own,
     calm_processors_mark_nothing, only_points_change, stacks_are_noted,
@@ -66,25 +73,13 @@ impl MarksBeside<Op> for Processor<'_> {
     ghost meant = { IsMeant };
 }
 
-/// With one processor each legal list is one in which processors keep to polls while a cycle is marked: a cycle
-/// is begun only where the processor waits for it, or is gone.
-pub fn one_processor_keeps_to_polls()
-    ensures { OneProcessorKeepsToPolls }
-{
-    a_step_changes_one_cell();
-    a_processor_writes_its_own();
-    a_worker_writes_its_own();
-    the_processor_keeps_the_handshake();
-    every_list_keeps_the_handshake::<Processor<'_>, Op>();
-}
-
-/// After every legal list of steps of all actors, in every order, in which processors keep to polls while a cycle is
-/// marked: the words stand for the heap that never frees, and each processor was answered as that heap answers, save
-/// `full`, which stands only where there was no room. Each step that a processor may make next is on a word that there
-/// is. An object that was placed where a cycle began, and that no script reached then, is placed nowhere once the cycle
-/// is swept. Where a cycle's marking ends nothing is grey, and the marked objects are those that a script reaches; the
-/// numbers that the coordinator keeps for it are those of the objects placed and marked there, and of those placed and
-/// not marked. Once all is over the objects that stand are those that the globals reach.
+/// After every legal list of steps of all actors, in every order: the words stand for the heap that never frees, and each
+/// processor was answered as that heap answers, save `full`, which stands only where there was no room. Each step that a
+/// processor may make next is on a word that there is. An object that was placed where a cycle began, and that no script
+/// reached then, is placed nowhere once the cycle is swept. Where a cycle's marking ends nothing is grey, all that a
+/// script reaches is marked, and what is marked was reached where the cycle began or was made since; the numbers that
+/// the coordinator keeps for it are those of the objects placed and marked there, and of those placed and not marked.
+/// Once all is over the objects that stand are those that the globals reach.
 pub fn every_list_of_actors_stands()
     ensures { EveryListOfActorsStands }
 {
@@ -99,6 +94,7 @@ pub fn every_list_of_actors_stands()
     counts_are_exact();
     a_processor_runs_by_its_rights();
     a_processor_marks_by_moves();
+    a_processor_goes_on_beside_marking();
     a_processor_writes_its_own();
     calm_processors_mark_nothing();
     stacks_are_noted();
@@ -113,16 +109,20 @@ pub fn every_list_of_actors_stands()
     slots_are_read();
     cycles_end();
     sweeping_keeps_the_heap();
-    only_the_reached_are_left();
+    only_the_marked_are_left();
     counts_are_told();
     allocation_goes_on();
     calm_lasts();
     reach_is_decided();
     bounds_last();
     cycles_open();
-    objects_are_known();
-    the_cycle_lasts();
-    the_reached_are_marked();
+    cycles_begin_beside();
+    cycles_begin_so();
+    objects_are_known_beside();
+    marking_alone_goes_beside();
+    what_has_gone_on_lasts();
+    the_reached_are_marked_beside();
+    the_marked_were_reached();
     every_list_keeps_the_handshake::<Processor<'_>, Op>();
     every_step_keeps_the_handshake::<Processor<'_>, Op>();
     every_list_marks::<Op, Processor<'_>>();

@@ -8,7 +8,7 @@ ghost use Rattle.std.specs.Prelude.{◌≡◌, ◌+◌, ◌<◌, ◌≤◌, leng
 ghost use Rattle.gh_base.specs.Cells.{length_of};
 ghost use Rattle.gh_coord.specs.Listing as coord;
 ghost use Rattle.gh_mutator.specs.Mutating.{is_busy, layout as layout_of};
-ghost use Rattle.gh_mutator.specs.Sound.{SoundOp};
+ghost use Rattle.gh_mutator.specs.Sound.{has_room, SoundOp};
 ghost use Rattle.gh_world.specs.World.{MadeAtMost};
 
 use crate::World;
@@ -166,6 +166,7 @@ fn turn(actors: &mut Actors<'_>, op: Op) -> Option<Answer>
     requires processor { layout_of actors.old.processor ≡ actors.old.layout }
     requires made { MadeAtMost actors.old.begun actors.old.processor.processor }
     requires op { SoundOp actors.old.processor.shapes actors.old.layout op }
+    requires room { has_room actors.old.processor.processor op ≡ true }
     ensures words { length actors.new.words ≡ length_of actors.new.layout }
     ensures worker { actors.new.worker.layout ≡ actors.new.layout }
     ensures coord { (IsTrue actors.new.leads → coord.is_busy actors.new.coord.stage ≡ true) × (actors.new.coord.layout ≡ actors.new.layout) }

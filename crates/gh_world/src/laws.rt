@@ -2,7 +2,7 @@
 
 ghost use Rattle.gh_world.specs.Runs.{EveryOrderHasOneRun, EveryRunIsExplained, EveryRunIsOne, NoneIsLonger, RunsEndWhole, RunsGoOn};
 
-use crate::actors::{every_list_of_actors_stands, one_processor_keeps_to_polls};
+use crate::actors::every_list_of_actors_stands;
 use crate::handshake::every_list_keeps_the_handshake;
 use crate::numbers::{cycles_are_few, processors_begin_few};
 use gh_base::Op;
@@ -12,7 +12,7 @@ use gh_coord::laws::it_goes_on_until_done;
 use gh_cycle::closing::slots_are_read;
 use gh_mutator::Processor;
 use gh_mutator::laws::{
-    a_processor_writes_its_own, each_operation_acts_once, only_points_change,
+    a_processor_writes_its_own, each_operation_acts_once, only_points_change, polls_make_room,
     the_processor_keeps_the_handshake,
 };
 use gh_sweep::laws::set_bits_are_counted;
@@ -26,7 +26,6 @@ pub fn every_run_is_explained()
     ensures { EveryRunIsExplained }
 {
     every_list_of_actors_stands();
-    one_processor_keeps_to_polls();
     each_operation_acts_once();
     only_points_change();
     the_processor_keeps_the_handshake();
@@ -55,6 +54,6 @@ pub fn runs_go_on()
 {
     a_state_is_of_its_own_entries::<Processor<'_>, Op>();
     it_goes_on_until_done();
+    polls_make_room();
     every_list_of_actors_stands();
-    one_processor_keeps_to_polls();
 }

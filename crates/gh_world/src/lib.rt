@@ -34,7 +34,7 @@ mod turns;
 mod wishes;
 mod world;
 
-pub use actors::{every_list_of_actors_stands, one_processor_keeps_to_polls};
+pub use actors::every_list_of_actors_stands;
 pub use event::{Event, Totals};
 pub use handshake::{
     Actor, PartyToHandshake, every_list_keeps_the_handshake, every_step_keeps_the_handshake,

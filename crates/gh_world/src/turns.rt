@@ -6,7 +6,7 @@ ghost use Rattle.std.specs.List.{flat_map, range_with_len};
 ghost use Rattle.gh_base.specs.declared.operation.Op.{Op};
 ghost use Rattle.gh_base.specs.declared.operation.Op.TheVariants as ops;
 ghost use Rattle.gh_interp.specs.Working.{work_of};
-ghost use Rattle.gh_world.specs.Turns.{count_of, later, op_due, to_come, total_of, turn_of, is_over, Follows, IsPast, MayBeOver, Stands};
+ghost use Rattle.gh_world.specs.Turns.{count_of, later, op_due, to_come, total_of, turn_of, is_over, is_poll_due, is_run_due, Follows, IsPast, MayBeOver, Stands};
 
 use gh_base::Op;
 use gh_interp::work;
@@ -51,6 +51,7 @@ pub fn next_turn(script: &Script, round: u32, g: u32) -> Next
     ensures stands { Stands script.now result }
     ensures over { (h : ℕ) → IsPast script.now round g h → MayBeOver script.now result h }
     ensures going { is_over result ≡ false }
+    ensures polls { is_run_due result ≡ false }
 {
     if let Some(g) = first_turn(script, round, g) {
         return Next::Poll { round, g };
@@ -78,10 +79,11 @@ pub fn due(script: &Script, next: Next) -> Option<Op>
     }
 }
 
-/// The turn behind this one.
+/// The turn behind this one. A statement comes behind a poll alone.
 pub fn following(script: &Script, next: Next) -> Next
     requires { Stands script.now next }
-    ensures { (o : Op) → op_due script.now next ≡ Some o → Follows script.now next o result }
+    ensures follows { (o : Op) → op_due script.now next ≡ Some o → Follows script.now next o result }
+    ensures polled { is_run_due result ≡ is_poll_due next }
 {
     script.is_well_formed();
     match next {

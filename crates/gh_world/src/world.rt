@@ -27,6 +27,7 @@ use gh_base::laws::{a_state_is_of_its_own_entries, steps_are_shown};
 use gh_base::{Layout, Machine, Op};
 use gh_coord::laws::it_goes_on_until_done;
 use gh_coord::{Coord, Cycle, NEVER};
+use gh_mutator::laws::polls_make_room;
 use gh_mutator::{Mutator, Processor};
 use gh_script::Script;
 use gh_words::{Plain, Words};
@@ -154,6 +155,7 @@ impl<'s> World<'s> {
     {
         steps_are_shown(&self.layout);
         a_state_is_of_its_own_entries::<Processor<'_>, Op>();
+        polls_make_room();
         if actor == 0 {
             self.begin_next();
             return self.advance();
@@ -276,6 +278,7 @@ impl<'s> World<'s> {
     fn begin_next(&mut self)
         ensures { Begins self.old self.new }
     {
+        polls_make_room();
         if self.mutator.is_busy() {
             return;
         }
@@ -292,6 +295,7 @@ impl<'s> World<'s> {
         ensures advances { Advances self.old self.new result }
         ensures few { answered_of self.new ≤ total_of (script_of self.new) }
     {
+        polls_make_room();
         let is_serving = self.mutator.is_serving();
         let is_last = self.mutator.is_last();
         let found = self.words.step(self.mutator.next());

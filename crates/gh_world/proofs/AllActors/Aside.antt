@@ -12,7 +12,7 @@ use Rattle.gh_worker.specs.Writing.{AcksAlone}
 use Rattle.gh_world.specs.Handshake.{Pacing}
 use Rattle.gh_world.specs.ActorsHold.{IsHeapOf}
 use Rattle.gh_world.specs.HoldVocabulary.{arena, Arena, Entry, Good, Heap, Layout, Legal, Op, Right, Shape, view}
-use Rattle.gh_world.specs.KeepsToPolls.{those}
+use Rattle.gh_world.specs.Those.{those}
 use Rattle.gh_world.proofs.AllActors.Known.{Known}
 use Rattle.gh_world.proofs.AllActors.Moves.{moves_on}
 use Rattle.gh_world.proofs.AllActors.Resting.{ever_stays}
@@ -20,6 +20,7 @@ use Rattle.gh_world.proofs.AllActors.Resting.{ever_stays}
 -- what the step leaves, whatever the words are
 pub record IsAside (ask : Ask) : Type 0 where
   pub quiet : IsQuiet ask
+  pub generation : (w : Words) → effect w ask cell.Gen ≡ w cell.Gen
   pub heap : (w : Words) → effect w ask cell.Heap ≡ w cell.Heap
   pub page : (w : Words) (i : ℕ) → effect w ask (cell.Page i) ≡ w (cell.Page i)
   pub alloc : (w : Words) (i : ℕ) → effect w ask (cell.Alloc i) ≡ w (cell.Alloc i)
@@ -35,11 +36,17 @@ pub record IsBeside (ask : Ask) : Type 0 where
   pub heap : (w : Words) → effect w ask cell.Heap ≡ w cell.Heap
   pub page : (w : Words) (i : ℕ) → effect w ask (cell.Page i) ≡ w (cell.Page i)
   pub alloc : (w : Words) (i : ℕ) → effect w ask (cell.Alloc i) ≡ w (cell.Alloc i)
+  pub birth : (w : Words) (i : ℕ) → effect w ask (cell.Birth i) ≡ w (cell.Birth i)
   pub global : (w : Words) (i : ℕ) → effect w ask (cell.Global i) ≡ w (cell.Global i)
   pub scanned : (w : Words) (i : ℕ) → effect w ask (cell.Scanned i) ≡ w (cell.Scanned i)
 
+-- while a cycle is marked it leaves the sweep generation besides
+pub record IsOfMarking (ask : Ask) : Type 0 where
+  pub beside : IsBeside ask
+  pub generation : (w : Words) → effect w ask cell.Gen ≡ w cell.Gen
+
 pub beside_of : (ask : Ask) → IsAside ask → IsBeside ask
-beside_of ask is = record { quiet = is.quiet; heap = is.heap; page = is.page; alloc = is.alloc; global = is.global; scanned = is.scanned }
+beside_of ask is = record { quiet = is.quiet; heap = is.heap; page = is.page; alloc = is.alloc; birth = is.birth; global = is.global; scanned = is.scanned }
 
 -- it leaves the counts of the sweep too, and tells nothing
 pub record TellsNothing (ask : Ask) : Type 0 where
@@ -51,43 +58,43 @@ pub record TellsNothing (ask : Ask) : Type 0 where
   pub cursor : (w : Words) → effect w ask cell.Gcur ≡ w cell.Gcur
 
 pub loads : (c : Cell) → IsAside (Load c)
-loads c = record { quiet = tt; heap = λ w. refl; page = λ w i. refl; alloc = λ w i. refl; mark = λ w i. refl; birth = λ w i. refl; global = λ w i. refl; buffer = λ w i. refl; scanned = λ w i. refl }
+loads c = record { quiet = tt; generation = λ w. refl; heap = λ w. refl; page = λ w i. refl; alloc = λ w i. refl; mark = λ w i. refl; birth = λ w i. refl; global = λ w i. refl; buffer = λ w i. refl; scanned = λ w i. refl }
 
 pub stores_bank : (x : ℕ) → IsAside (Store cell.Bank x)
-stores_bank x = record { quiet = tt; heap = λ w. refl; page = λ w i. refl; alloc = λ w i. refl; mark = λ w i. refl; birth = λ w i. refl; global = λ w i. refl; buffer = λ w i. refl; scanned = λ w i. refl }
+stores_bank x = record { quiet = tt; generation = λ w. refl; heap = λ w. refl; page = λ w i. refl; alloc = λ w i. refl; mark = λ w i. refl; birth = λ w i. refl; global = λ w i. refl; buffer = λ w i. refl; scanned = λ w i. refl }
 
 pub stores_ack : (a x : ℕ) → IsAside (Store (cell.Ack a) x)
-stores_ack a x = record { quiet = tt; heap = λ w. refl; page = λ w i. refl; alloc = λ w i. refl; mark = λ w i. refl; birth = λ w i. refl; global = λ w i. refl; buffer = λ w i. refl; scanned = λ w i. refl }
+stores_ack a x = record { quiet = tt; generation = λ w. refl; heap = λ w. refl; page = λ w i. refl; alloc = λ w i. refl; mark = λ w i. refl; birth = λ w i. refl; global = λ w i. refl; buffer = λ w i. refl; scanned = λ w i. refl }
 
 pub stores_phase : (x : ℕ) → IsAside (Store cell.Phase x)
-stores_phase x = record { quiet = tt; heap = λ w. refl; page = λ w i. refl; alloc = λ w i. refl; mark = λ w i. refl; birth = λ w i. refl; global = λ w i. refl; buffer = λ w i. refl; scanned = λ w i. refl }
+stores_phase x = record { quiet = tt; generation = λ w. refl; heap = λ w. refl; page = λ w i. refl; alloc = λ w i. refl; mark = λ w i. refl; birth = λ w i. refl; global = λ w i. refl; buffer = λ w i. refl; scanned = λ w i. refl }
 
 pub stores_trigger : (x : ℕ) → IsAside (Store cell.Trigger x)
-stores_trigger x = record { quiet = tt; heap = λ w. refl; page = λ w i. refl; alloc = λ w i. refl; mark = λ w i. refl; birth = λ w i. refl; global = λ w i. refl; buffer = λ w i. refl; scanned = λ w i. refl }
+stores_trigger x = record { quiet = tt; generation = λ w. refl; heap = λ w. refl; page = λ w i. refl; alloc = λ w i. refl; mark = λ w i. refl; birth = λ w i. refl; global = λ w i. refl; buffer = λ w i. refl; scanned = λ w i. refl }
 
 pub stores_swept : (x : ℕ) → IsAside (Store cell.Swept x)
-stores_swept x = record { quiet = tt; heap = λ w. refl; page = λ w i. refl; alloc = λ w i. refl; mark = λ w i. refl; birth = λ w i. refl; global = λ w i. refl; buffer = λ w i. refl; scanned = λ w i. refl }
+stores_swept x = record { quiet = tt; generation = λ w. refl; heap = λ w. refl; page = λ w i. refl; alloc = λ w i. refl; mark = λ w i. refl; birth = λ w i. refl; global = λ w i. refl; buffer = λ w i. refl; scanned = λ w i. refl }
 
 pub stores_begun : (x : ℕ) → IsAside (Store cell.Begun x)
-stores_begun x = record { quiet = tt; heap = λ w. refl; page = λ w i. refl; alloc = λ w i. refl; mark = λ w i. refl; birth = λ w i. refl; global = λ w i. refl; buffer = λ w i. refl; scanned = λ w i. refl }
+stores_begun x = record { quiet = tt; generation = λ w. refl; heap = λ w. refl; page = λ w i. refl; alloc = λ w i. refl; mark = λ w i. refl; birth = λ w i. refl; global = λ w i. refl; buffer = λ w i. refl; scanned = λ w i. refl }
 
 pub stores_want : (x : ℕ) → IsAside (Store cell.Want x)
-stores_want x = record { quiet = tt; heap = λ w. refl; page = λ w i. refl; alloc = λ w i. refl; mark = λ w i. refl; birth = λ w i. refl; global = λ w i. refl; buffer = λ w i. refl; scanned = λ w i. refl }
+stores_want x = record { quiet = tt; generation = λ w. refl; heap = λ w. refl; page = λ w i. refl; alloc = λ w i. refl; mark = λ w i. refl; birth = λ w i. refl; global = λ w i. refl; buffer = λ w i. refl; scanned = λ w i. refl }
 
 pub stores_cursor : (x : ℕ) → IsAside (Store cell.Gcur x)
-stores_cursor x = record { quiet = tt; heap = λ w. refl; page = λ w i. refl; alloc = λ w i. refl; mark = λ w i. refl; birth = λ w i. refl; global = λ w i. refl; buffer = λ w i. refl; scanned = λ w i. refl }
+stores_cursor x = record { quiet = tt; generation = λ w. refl; heap = λ w. refl; page = λ w i. refl; alloc = λ w i. refl; mark = λ w i. refl; birth = λ w i. refl; global = λ w i. refl; buffer = λ w i. refl; scanned = λ w i. refl }
 
 pub stores_tally : (x : ℕ) → IsAside (Store cell.Tally x)
-stores_tally x = record { quiet = tt; heap = λ w. refl; page = λ w i. refl; alloc = λ w i. refl; mark = λ w i. refl; birth = λ w i. refl; global = λ w i. refl; buffer = λ w i. refl; scanned = λ w i. refl }
+stores_tally x = record { quiet = tt; generation = λ w. refl; heap = λ w. refl; page = λ w i. refl; alloc = λ w i. refl; mark = λ w i. refl; birth = λ w i. refl; global = λ w i. refl; buffer = λ w i. refl; scanned = λ w i. refl }
 
 pub stores_live : (x : ℕ) → IsAside (Store cell.Live x)
-stores_live x = record { quiet = tt; heap = λ w. refl; page = λ w i. refl; alloc = λ w i. refl; mark = λ w i. refl; birth = λ w i. refl; global = λ w i. refl; buffer = λ w i. refl; scanned = λ w i. refl }
+stores_live x = record { quiet = tt; generation = λ w. refl; heap = λ w. refl; page = λ w i. refl; alloc = λ w i. refl; mark = λ w i. refl; birth = λ w i. refl; global = λ w i. refl; buffer = λ w i. refl; scanned = λ w i. refl }
 
 pub stores_work : (x : ℕ) → IsAside (Store cell.Work x)
-stores_work x = record { quiet = tt; heap = λ w. refl; page = λ w i. refl; alloc = λ w i. refl; mark = λ w i. refl; birth = λ w i. refl; global = λ w i. refl; buffer = λ w i. refl; scanned = λ w i. refl }
+stores_work x = record { quiet = tt; generation = λ w. refl; heap = λ w. refl; page = λ w i. refl; alloc = λ w i. refl; mark = λ w i. refl; birth = λ w i. refl; global = λ w i. refl; buffer = λ w i. refl; scanned = λ w i. refl }
 
 pub stores_slack : (x : ℕ) → IsAside (Store cell.Slack x)
-stores_slack x = record { quiet = tt; heap = λ w. refl; page = λ w i. refl; alloc = λ w i. refl; mark = λ w i. refl; birth = λ w i. refl; global = λ w i. refl; buffer = λ w i. refl; scanned = λ w i. refl }
+stores_slack x = record { quiet = tt; generation = λ w. refl; heap = λ w. refl; page = λ w i. refl; alloc = λ w i. refl; mark = λ w i. refl; birth = λ w i. refl; global = λ w i. refl; buffer = λ w i. refl; scanned = λ w i. refl }
 
 pub loads_only : (c : Cell) → TellsNothing (Load c)
 loads_only c = record { aside = loads c; untold = λ p. tt; pends = λ p. refl; tally = λ w. refl; live = λ w. refl; cursor = λ w. refl }

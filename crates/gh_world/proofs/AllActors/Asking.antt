@@ -129,7 +129,7 @@ module _ (shapes : List Shape) (m : Processor) (found : ℕ) where
   adds_nothing task.Idle = inr (omega arith)
   adds_nothing task.Left = inr (omega arith)
   adds_nothing (task.Load x) = inl (at_most _ 0 (follows_asks task.Load (λ s. refl) (load.step m.poll.layout x found).then))
-  adds_nothing (task.Store x) = inl (at_most _ 0 (follows_asks task.Store (λ s. refl) (store.step m.poll.layout (register_of m x.g x.v) x found).then))
+  adds_nothing (task.Store x) = inl (at_most _ 0 (follows_asks task.Store (λ s. refl) (store.step m.poll.layout m.poll.local (register_of m x.g x.v) x found).then))
   adds_nothing (task.Global x) = inl (at_most _ 0 (follows_asks task.Global (λ s. refl) (global.step m.poll.layout (register_of m x.g x.r) x found).then))
   adds_nothing (task.Register x) = inl (at_most _ 0 (follows_asks task.Register (λ s. refl) (register.step (register_of m x.g (register.read_of x)) x).then))
   adds_nothing (task.New x) = inl (new_adds x.wanted x.stage)

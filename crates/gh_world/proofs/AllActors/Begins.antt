@@ -1,12 +1,14 @@
 -- Where a cycle is about to begin the heap is known to marking, and each processor stands still with nothing in hand.
-use Rattle.std.proofs.Common.{◌≡◌, ◌≢◌, inl, ℕ, ◌+◌, ◌^◌, ◌<◌, ◌≤◌, Bool, true, false, cond, refl, sym, ap, subst, ◌∙◌, arith, List, [], length, slice_index_or}
+use Rattle.std.proofs.Common.{◌≡◌, ◌≢◌, inl, ℕ, ◌+◌, ◌^◌, ◌<◌, ◌≤◌, Bool, true, false, cond, refl, sym, ap, subst, ◌∙◌, arith, List, [], length, slice_index_or, Some, None}
 use Rattle.std.proofs.lemmas.Nat.Bits.{bit_at-zero}
 use Rattle.std.specs.Prelude.{◌/◌}
 use Rattle.gh_base.specs.declared.cell.Cell.TheVariants as cell
 use Rattle.gh_base.specs.declared.limits.TheConstants.{MOST_GOROUTINES}
 use Rattle.gh_base.specs.declared.value.Value.TheVariants as value
 use Rattle.gh_coord.specs.Handshake as leading
+use Rattle.gh_cycle.specs.Beside.{IsBeside}
 use Rattle.gh_cycle.specs.Opening.{IsAtRest, IsOpened}
+use Rattle.gh_cycle.specs.Since.{HasGoneOn}
 use Rattle.gh_heap.specs.Objects.{Place}
 use Rattle.gh_model.specs.declared.EverValue.TheVariants as ever_value
 use Rattle.gh_mutator.specs.MarkFacts.{KnowsStacks}
@@ -15,8 +17,9 @@ use Rattle.gh_phase.specs.declared.view.RunPhase.TheVariants as run
 use Rattle.gh_stack.specs.Facts.{named}
 use Rattle.gh_world.specs.declared.handshake.Actor.TheVariants as actor
 use Rattle.gh_world.specs.Numbers.{open_part}
-use Rattle.gh_world.proofs.Vocabulary.{actors_after, ahead_at, Arena, arena, AreRegisters, Begun, bit_at, Coordinating, CoordStage, Cycle, END, Entry, EverValue, Hands, HasCursor, HoldsAt, IsAsItShould, IsBeginning, IsInLimits, IsLed, IsMeant, IsOf, IsReady, Knows, Layout, Legal, mark_words, MarkFacts, Marking, MayBegin, Means, nothing, Op, Open, Pacing, part_of, Processor, processor_at, processor_kind, reference_of, register_at, REGISTERS, row_bit, Shape, stage_of, Stands, those, Value, view, Words, words, ◌%◌}
+use Rattle.gh_world.proofs.Vocabulary.{actors_after, ahead_at, Arena, arena, AreRegisters, Begun, bit_at, Coordinating, CoordStage, Cycle, END, Entry, Ever, EverValue, Hands, HasCursor, HoldsAt, IsAsItShould, IsBeginning, IsInLimits, IsLed, IsMeant, IsOf, IsReady, Knows, Layout, Legal, mark_words, MarkFacts, Marking, MayBegin, Means, nothing, Op, Open, Pacing, part_of, Processor, processor_at, processor_kind, reference_of, register_at, REGISTERS, row_bit, Shape, stage_of, Stands, those, Value, view, Words, words, ◌%◌}
 use Rattle.gh_world.proofs.AllActors.Known.{Known, ListsKnown}
+use Rattle.gh_world.proofs.AllActors.LeadingSeat.{owes_nothing}
 use Rattle.gh_world.proofs.AllActors.Resting.{run_is}
 use Rattle.gh_world.proofs.CycleMarking.Moving.{begin_post}
 
@@ -86,6 +89,9 @@ module _ (shapes : List Shape) (l : Layout) (pacing : Pacing) (may : ℕ → Lis
     seats : (a : ℕ) → Hands a s nothing
     seats = (known.marking cycle s opened.opens).seats
 
+    beside : IsBeside z r.heap s
+    beside = known.beside_begins cycle r.heap s r.good r.of_list.bounded rest opened.of_heap opened.registers (λ o a is. absurd (let none : None ≡ Some o = ((seats a).has.is_reserved o).1 is in cc))
+
     module _ (a : ℕ) (m : Processor) (lt : a < l.procs) (is : actors_after z (processor_kind shapes l) pacing may es a ≡ actor.Runs m) where
       same : processor_at shapes l pacing may es a ≡ m
       same = run_is shapes l pacing may es a m lt is
@@ -153,10 +159,16 @@ module _ (shapes : List Shape) (l : Layout) (pacing : Pacing) (may : ℕ → Lis
         heap = r.heap;
         of_list = r.of_list;
         good = r.good;
-        of_heap = opened.of_heap;
+        beside = beside;
         cycle = inl (record { lead = c; led = led; stage = b; cycle = refl });
-        packed = r.packed;
-        counted = r.counted;
+        gone_on = subst (λ (v : Ever). HasGoneOn v r.heap s) r.of_list.ever_is (known.begins_so cycle r.heap s r.good r.of_list.bounded opened.of_heap);
+        end = r.end;
+        spans = r.spans;
+        tally = r.tally;
+        live = r.live;
+        calm = r.calm;
+        placing = λ a lt. r.owes_none a ∙ sym (owes_nothing shapes l pacing may known lists es legal c led run.Off (begin_post c.stage b) a lt);
+        others_place = λ a le. r.owes_none a;
         marks_fit = λ i. let none = r.marks i in omega (arith, none);
       };
       processors = knows;

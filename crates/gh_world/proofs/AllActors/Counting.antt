@@ -17,20 +17,27 @@ use Rattle.gh_alloc.specs.Place as place
 use Rattle.gh_alloc.specs.PlaceFacts as facts_of
 use Rattle.gh_mutator.specs.declared.task.Task.TheVariants as task
 use Rattle.gh_mutator.specs.Facts.{Does, FactsAt, for_whom}
+use Rattle.gh_world.specs.ActorsHold.{bare, unmarked}
 use Rattle.gh_world.specs.HoldVocabulary.{IsCalm, View}
-use Rattle.gh_world.proofs.Vocabulary.{acted, acts, acts_at, Add, And, Answer, Arena, Ask, asks, Cell, cell_of, ChangesOneCell, CycleEnd, effect, Ever, Fine, Good, Heap, is_busy_at, IsSound, Load, MarksNothing, moved, Name, nat_tests, Or, page_words, Place, PlaceStage, Placing, Processor, Row, same_cell, seats_of, slot_row, SpanHead, Spans, Store, Swap, takes, takes_at, Task, uncounted, view, Wanted, with_words, Words}
+use Rattle.gh_world.proofs.Vocabulary.{acted, acts, acts_at, Add, And, Answer, Arena, Ask, asks, Cell, cell_of, ChangesOneCell, CycleEnd, effect, Ever, Fine, Good, Heap, is_busy_at, IsSound, Load, moved, Name, nat_tests, Or, page_words, Place, PlaceStage, Placing, Processor, Row, same_cell, seats_of, slot_row, SpanHead, Spans, Store, Swap, takes, takes_at, Task, uncounted, view, Wanted, with_words, Words}
+use Rattle.gh_world.proofs.AllActors.Bare.{bare_stays}
 use Rattle.gh_world.proofs.AllActors.Known.{Known}
 use Rattle.gh_world.proofs.AllActors.Placing.{Counts, Keeps, kind, Makes}
 
 -- The moves.
 
-module _ (z : Arena) (a : ℕ) (h : Heap) (m : Move) where
+module _ (tally live : ℕ) (z : Arena) (a : ℕ) (h : Heap) (m : Move) where
   -- by a step that no right guards
   pub record ByStep : Type 0 where
     pub step : Ask
     pub quiet : IsQuiet step
     pub words : (moved z a h m).words ≡ effect h.words step
     pub made : (g : ℕ) → (moved z a h m).ever.made g ≡ h.ever.made g
+
+  -- with no mark set it leaves the same, but for marks
+  pub record IsBared : Type 0 where
+    pub words : SweepStays (moved z a (bare tally live h) m).words (unmarked tally live (moved z a h m).words)
+    pub good : Good z (view (moved z a h m)) → Good z (view (with_words (moved z a (bare tally live h) m) (unmarked tally live (moved z a h m).words)))
 
   -- by the making of an object
   pub record ByMaking : Type 0 where
@@ -39,6 +46,7 @@ module _ (z : Arena) (a : ℕ) (h : Heap) (m : Move) where
     pub d : ℕ
     pub t : ℕ
     pub is : m ≡ Make at g d t
+    pub bared : IsBared
 
   -- by a right, on a word that it guards
   pub record ByRight : Type 0 where
@@ -46,27 +54,28 @@ module _ (z : Arena) (a : ℕ) (h : Heap) (m : Move) where
     pub same : (slot : Row) (pend : ℕ) → pend_after slot m pend ≡ pend
     pub heap : (moved z a h m).words cell.Heap ≡ h.words cell.Heap
     pub made : (g : ℕ) → (moved z a h m).ever.made g ≡ h.ever.made g
+    pub bared : IsBared
 
-moves_by : (z : Arena) (a : ℕ) (h : Heap) (m : Move) → May z a (view h) m → ByStep z a h m ⊎ (ByMaking z a h m ⊎ ByRight z a h m)
-moves_by z a h (Quiet step) may = inl (record { step = step; quiet = may; words = refl; made = λ g. refl })
-moves_by z a h (Takes step g d value) may = inl (record { step = step; quiet = may.0; words = refl; made = λ g. refl })
-moves_by z a h (Ends step g) may = inl (record { step = step; quiet = may.0; words = refl; made = λ g. refl })
-moves_by z a h (Make at g d t) may = inr (inl (record { at = at; g = g; d = d; t = t; is = refl }))
-moves_by z a h TakeLock may = inr (inr (record { told = λ p. tt; same = λ s p. refl; heap = refl; made = λ g. refl }))
-moves_by z a h LeaveLock may = inr (inr (record { told = λ p. tt; same = λ s p. refl; heap = refl; made = λ g. refl }))
-moves_by z a h (Refuse g d) may = inr (inr (record { told = λ p. tt; same = λ s p. refl; heap = refl; made = λ g. refl }))
-moves_by z a h (LayBody y) may = inr (inr (record { told = λ p. tt; same = λ s p. refl; heap = refl; made = λ g. refl }))
-moves_by z a h (LayHead y) may = inr (inr (record { told = λ p. tt; same = λ s p. refl; heap = refl; made = λ g. refl }))
-moves_by z a h (FreeBody y) may = inr (inr (record { told = λ p. tt; same = λ s p. refl; heap = refl; made = λ g. refl }))
-moves_by z a h (FreeHead y) may = inr (inr (record { told = λ p. tt; same = λ s p. refl; heap = refl; made = λ g. refl }))
-moves_by z a h (Own p x) may = inr (inr (record { told = λ p. tt; same = λ s p. refl; heap = refl; made = λ g. refl }))
-moves_by z a h (Disown p x) may = inr (inr (record { told = λ p. tt; same = λ s p. refl; heap = refl; made = λ g. refl }))
-moves_by z a h (Publish p x) may = inr (inr (record { told = λ p. tt; same = λ s p. refl; heap = refl; made = λ g. refl }))
-moves_by z a h (ClearField at size k) may = inr (inr (record { told = λ p. tt; same = λ s p. refl; heap = refl; made = λ g. refl }))
-moves_by z a h (SetBirth at size n) may = inr (inr (record { told = λ p. tt; same = λ s p. refl; heap = refl; made = λ g. refl }))
-moves_by z a h (SetBits at size i word) may = inr (inr (record { told = λ p. tt; same = λ s p. refl; heap = refl; made = λ g. refl }))
-moves_by z a h (Write n k value word) may = inr (inr (record { told = λ p. tt; same = λ s p. refl; heap = refl; made = λ g. refl }))
-moves_by z a h (WriteGlobal k value word) may = inr (inr (record { told = λ p. tt; same = λ s p. refl; heap = refl; made = λ g. refl }))
+moves_by : (tally live : ℕ) (z : Arena) (a : ℕ) (h : Heap) (m : Move) → May z a (view h) m → ByStep tally live z a h m ⊎ (ByMaking tally live z a h m ⊎ ByRight tally live z a h m)
+moves_by tally live z a h (Quiet step) may = inl (record { step = step; quiet = may; words = refl; made = λ g. refl })
+moves_by tally live z a h (Takes step g d value) may = inl (record { step = step; quiet = may.0; words = refl; made = λ g. refl })
+moves_by tally live z a h (Ends step g) may = inl (record { step = step; quiet = may.0; words = refl; made = λ g. refl })
+moves_by tally live z a h (Make at g d t) may = inr (inl (record { at = at; g = g; d = d; t = t; is = refl; bared = record { words = record { generation = refl; heap = refl; tally = refl; live = refl; pages = λ p. refl; alloc = λ i. refl; marks = λ i. refl }; good = λ g. g } }))
+moves_by tally live z a h TakeLock may = inr (inr (record { told = λ p. tt; same = λ s p. refl; heap = refl; made = λ g. refl; bared = record { words = record { generation = refl; heap = refl; tally = refl; live = refl; pages = λ p. refl; alloc = λ i. refl; marks = λ i. refl }; good = λ g. g } }))
+moves_by tally live z a h LeaveLock may = inr (inr (record { told = λ p. tt; same = λ s p. refl; heap = refl; made = λ g. refl; bared = record { words = record { generation = refl; heap = refl; tally = refl; live = refl; pages = λ p. refl; alloc = λ i. refl; marks = λ i. refl }; good = λ g. g } }))
+moves_by tally live z a h (Refuse g d) may = inr (inr (record { told = λ p. tt; same = λ s p. refl; heap = refl; made = λ g. refl; bared = record { words = record { generation = refl; heap = refl; tally = refl; live = refl; pages = λ p. refl; alloc = λ i. refl; marks = λ i. refl }; good = λ g. g } }))
+moves_by tally live z a h (LayBody y) may = inr (inr (record { told = λ p. tt; same = λ s p. refl; heap = refl; made = λ g. refl; bared = record { words = record { generation = refl; heap = refl; tally = refl; live = refl; pages = λ p. refl; alloc = λ i. refl; marks = λ i. refl }; good = λ g. g } }))
+moves_by tally live z a h (LayHead y) may = inr (inr (record { told = λ p. tt; same = λ s p. refl; heap = refl; made = λ g. refl; bared = record { words = record { generation = refl; heap = refl; tally = refl; live = refl; pages = λ p. refl; alloc = λ i. refl; marks = λ i. refl }; good = λ g. g } }))
+moves_by tally live z a h (FreeBody y) may = inr (inr (record { told = λ p. tt; same = λ s p. refl; heap = refl; made = λ g. refl; bared = record { words = record { generation = refl; heap = refl; tally = refl; live = refl; pages = λ p. refl; alloc = λ i. refl; marks = λ i. refl }; good = λ g. g } }))
+moves_by tally live z a h (FreeHead y) may = inr (inr (record { told = λ p. tt; same = λ s p. refl; heap = refl; made = λ g. refl; bared = record { words = record { generation = refl; heap = refl; tally = refl; live = refl; pages = λ p. refl; alloc = λ i. refl; marks = λ i. refl }; good = λ g. g } }))
+moves_by tally live z a h (Own p x) may = inr (inr (record { told = λ p. tt; same = λ s p. refl; heap = refl; made = λ g. refl; bared = record { words = record { generation = refl; heap = refl; tally = refl; live = refl; pages = λ p. refl; alloc = λ i. refl; marks = λ i. refl }; good = λ g. g } }))
+moves_by tally live z a h (Disown p x) may = inr (inr (record { told = λ p. tt; same = λ s p. refl; heap = refl; made = λ g. refl; bared = record { words = record { generation = refl; heap = refl; tally = refl; live = refl; pages = λ p. refl; alloc = λ i. refl; marks = λ i. refl }; good = λ g. g } }))
+moves_by tally live z a h (Publish p x) may = inr (inr (record { told = λ p. tt; same = λ s p. refl; heap = refl; made = λ g. refl; bared = record { words = record { generation = refl; heap = refl; tally = refl; live = refl; pages = λ p. refl; alloc = λ i. refl; marks = λ i. refl }; good = λ g. g } }))
+moves_by tally live z a h (ClearField at size k) may = inr (inr (record { told = λ p. tt; same = λ s p. refl; heap = refl; made = λ g. refl; bared = record { words = record { generation = refl; heap = refl; tally = refl; live = refl; pages = λ p. refl; alloc = λ i. refl; marks = λ i. refl }; good = λ g. g } }))
+moves_by tally live z a h (SetBirth at size n) may = inr (inr (record { told = λ p. tt; same = λ s p. refl; heap = refl; made = λ g. refl; bared = record { words = record { generation = refl; heap = refl; tally = refl; live = refl; pages = λ p. refl; alloc = λ i. refl; marks = λ i. refl }; good = λ g. g } }))
+moves_by tally live z a h (SetBits at size i word) may = inr (inr (record { told = λ p. tt; same = λ s p. refl; heap = refl; made = λ g. refl; bared = record { words = record { generation = refl; heap = refl; tally = refl; live = refl; pages = λ p. refl; alloc = λ i. refl; marks = λ i. refl }; good = λ g. g } }))
+moves_by tally live z a h (Write n k value word) may = inr (inr (record { told = λ p. tt; same = λ s p. refl; heap = refl; made = λ g. refl; bared = record { words = record { generation = refl; heap = refl; tally = refl; live = refl; pages = λ p. refl; alloc = λ i. refl; marks = λ i. refl }; good = λ g. g } }))
+moves_by tally live z a h (WriteGlobal k value word) may = inr (inr (record { told = λ p. tt; same = λ s p. refl; heap = refl; made = λ g. refl; bared = record { words = record { generation = refl; heap = refl; tally = refl; live = refl; pages = λ p. refl; alloc = λ i. refl; marks = λ i. refl }; good = λ g. g } }))
 
 -- A step that no right guards leaves page and alloc words.
 
@@ -114,8 +123,8 @@ slot_bytes_are known whole z v good a at size some c =
     known.slots z.layout.pages v.page (at / 64) span c.slot.span ∙ bytes_of_words whole c.h.class c.h.pages c.slot.span.fits.class ∙ ap (λ (m : ℕ). 8 * m) (sym c.slot.size_is)
 
 -- A step of a processor.
-module _ (known : Known) (whole : WholeWords) (z : Arena) (end : CycleEnd) (a : ℕ) (h : Heap) (v : Spans) (calm : IsCalm z end h v) (seat : a < seats_of z.layout)
-    (m : Processor) (found : ℕ) (pending : Option Answer) (busy : is_busy_at m.task ≡ true) (sound : IsSound m) (off : MarksNothing m) (fine : Fine z a (view h) m pending) (pends : v.pend a ≡ uncounted m.task)
+module _ (known : Known) (whole : WholeWords) (z : Arena) (end : CycleEnd) (a : ℕ) (h : Heap) (v : Spans) (tally live : ℕ) (calm : IsCalm z end (bare tally live h) v) (seat : a < seats_of z.layout)
+    (m : Processor) (found : ℕ) (pending : Option Answer) (busy : is_busy_at m.task ≡ true) (sound : IsSound m) (fine : Fine z a (view h) m pending) (pends : v.pend a ≡ uncounted m.task)
     (move : Move) (may : May z a (view h) move) (words : (moved z a h move).words ≡ effect h.words (asks m)) (does : Does z a h (moved z a h move) m pending found) where
   abbrev t : Heap
   t = moved z a h move
@@ -125,7 +134,7 @@ module _ (known : Known) (whole : WholeWords) (z : Arena) (end : CycleEnd) (a : 
 
   pub record Counted : Type 0 where
     pub then : Spans
-    pub so : IsCalm z end t then
+    pub so : IsCalm z end (bare tally live t) then
     pub own : then.pend a ≡ uncounted to.task
     pub others : (b : ℕ) → b ≢ a → then.pend b ≡ v.pend b
 
@@ -136,41 +145,45 @@ module _ (known : Known) (whole : WholeWords) (z : Arena) (end : CycleEnd) (a : 
   left_by : (c : Cell) → effect h.words (asks m) c ≡ h.words c → t.words c ≡ h.words c
   left_by c same = ap (λ (w : Words). w c) words ∙ same
 
-  made_more : (x : ByMaking z a h move) → t.ever.made x.g ≡ h.ever.made x.g + 1
+  made_more : (x : ByMaking tally live z a h move) → t.ever.made x.g ≡ h.ever.made x.g + 1
   made_more x = ap (λ (y : Move). (moved z a h y).ever.made x.g) x.is ∙ rw (eq-eqb x.g x.g refl) refl
 
   -- where it makes nothing the move is no making
-  made_none : ((e : Ever) (g : ℕ) → (acted z.shapes e (acts m found)).made g ≡ e.made g) → ByMaking z a h move → ⊥
+  made_none : ((e : Ever) (g : ℕ) → (acted z.shapes e (acts m found)).made g ≡ e.made g) → ByMaking tally live z a h move → ⊥
   made_none nothing x =
       let more : t.ever.made x.g ≡ h.ever.made x.g + 1 = made_more x in
       let none : t.ever.made x.g ≡ h.ever.made x.g = ap (λ (e : Ever). e.made x.g) does.ever ∙ nothing h.ever x.g in
       omega (arith, more, none)
 
-  stays : ByStep z a h move → Keeps z.shapes m found m.task → SweepStays h.words t.words
+  stays : ByStep tally live z a h move → Keeps z.shapes m found m.task → SweepStays (unmarked tally live h.words) (unmarked tally live t.words)
   stays x k = record {
     generation = left_by cell.Gen (known.writes.leaves m h.words cell.Gen sound (λ y. y));
     heap = left_by cell.Heap (known.writes.leaves m h.words cell.Heap sound k.silent);
-    tally = left_by cell.Tally (known.writes.leaves m h.words cell.Tally sound (λ y. y));
-    live = left_by cell.Live (known.writes.leaves m h.words cell.Live sound (λ y. y));
+    tally = refl;
+    live = refl;
     pages = λ p. ap (λ (w : Words). w (cell.Page p)) x.words ∙ (quiet_leaves known.one h.words p x.step x.quiet).0;
     alloc = λ i. ap (λ (w : Words). w (cell.Alloc i)) x.words ∙ (quiet_leaves known.one h.words i x.step x.quiet).1;
-    marks = λ i. left_by (cell.Mark i) (known.calm.leaves m h.words (cell.Mark i) off (λ y. y));
+    marks = λ i. refl;
   }
 
   -- the words alone changed
-  good_words : ByStep z a h move → Good z (view (with_words h t.words))
+  good_words : ByStep tally live z a h move → Good z (view (with_words h t.words))
   good_words x = subst (λ (w : Words). Good z (view (with_words h w))) (sym x.words) (known.keeps z a h (Quiet x.step) calm.heap x.quiet)
 
-  keeps_by_step : ByStep z a h move → Keeps z.shapes m found m.task → Counted
-  keeps_by_step x k =
-      let c : IsCalm z end (with_words h t.words) (record v { words = t.words }) = known.calm_lasts.stays z end h v t.words calm (stays x k) (good_words x) in
-      record { then = record v { words = t.words }; so = record { words = refl; layout = c.layout; ended = c.ended; spans = c.spans; heap = good_then }; own = pends ∙ sym k.same; others = λ b differs. refl }
+  keeps_by_step : ByStep tally live z a h move → Keeps z.shapes m found m.task → Counted
+  keeps_by_step x k = record { then = record v { words = unmarked tally live t.words }; so = bare_stays known z end tally live h v t calm (stays x k) good_then (good_words x); own = pends ∙ sym k.same; others = λ b differs. refl }
 
-  goes : ((pend : ℕ) → TellsInMove pend move) → GoesOn z end a h v move
-  goes told = known.goes_on z end a h v move seat calm may (told (v.pend a))
+  goes : ((pend : ℕ) → TellsInMove pend move) → GoesOn z end a (bare tally live h) v move
+  goes told = known.goes_on z end a (bare tally live h) v move seat calm may (told (v.pend a))
 
-  keeps_by_right : ByRight z a h move → Keeps z.shapes m found m.task → Counted
-  keeps_by_right x k = let g = goes x.told in record { then = g.then; so = g.calm; own = g.own ∙ x.same (slot_row (page_words h.words)) (v.pend a) ∙ pends ∙ sym k.same; others = g.others }
+  -- what holds of the words without marks behind the move
+  bares : (g : GoesOn z end a (bare tally live h) v move) → IsBared tally live z a h move → IsCalm z end (bare tally live t) (record g.then { words = unmarked tally live t.words })
+  bares g same =
+      let c : IsCalm z end (with_words (moved z a (bare tally live h) move) (unmarked tally live t.words)) (record g.then { words = unmarked tally live t.words }) = known.calm_lasts.stays z end (moved z a (bare tally live h) move) g.then (unmarked tally live t.words) g.calm same.words (same.good good_then) in
+      record { words = refl; layout = c.layout; ended = c.ended; spans = c.spans; heap = good_then }
+
+  keeps_by_right : ByRight tally live z a h move → Keeps z.shapes m found m.task → Counted
+  keeps_by_right x k = let g = goes x.told in record { then = record g.then { words = unmarked tally live t.words }; so = bares g x.bared; own = g.own ∙ x.same (slot_row (page_words h.words)) (v.pend a) ∙ pends ∙ sym k.same; others = g.others }
 
   -- The bytes are counted.
   counts_words : Counts z.shapes m found m.task → t.words ≡ with_count h.words (v.pend a)
@@ -179,16 +192,20 @@ module _ (known : Known) (whole : WholeWords) (z : Arena) (end : CycleEnd) (a : 
   not_a : (b : ℕ) → b ≢ a → (a == b) ≡ false
   not_a b differs = grind (arith, nat_tests)
 
-  as_counted : (w u : Words) → u ≡ w → SweepStays w u
+  as_counted : (w u : Words) → u ≡ w → SweepStays (unmarked tally live w) (unmarked tally live u)
   as_counted w u same = record {
     generation = ap (λ (x : Words). x cell.Gen) same;
     heap = ap (λ (x : Words). x cell.Heap) same;
-    tally = ap (λ (x : Words). x cell.Tally) same;
-    live = ap (λ (x : Words). x cell.Live) same;
+    tally = refl;
+    live = refl;
     pages = λ p. ap (λ (x : Words). x (cell.Page p)) same;
     alloc = λ i. ap (λ (x : Words). x (cell.Alloc i)) same;
-    marks = λ i. ap (λ (x : Words). x (cell.Mark i)) same;
+    marks = λ i. refl;
   }
+
+  -- marks are none of what is counted
+  counted_bare : (w u : Words) (pend : ℕ) → SweepStays (unmarked tally live (with_count w pend)) u → SweepStays (with_count (unmarked tally live w) pend) u
+  counted_bare w u pend x = record { generation = x.generation; heap = x.heap; tally = x.tally; live = x.live; pages = x.pages; alloc = x.alloc; marks = x.marks }
 
   none_left : (row : Row) → with_word row a 0 a ≡ 0
   none_left row = rw (eq-eqb a a refl) refl
@@ -196,19 +213,21 @@ module _ (known : Known) (whole : WholeWords) (z : Arena) (end : CycleEnd) (a : 
   others_left : (row : Row) (b : ℕ) → b ≢ a → with_word row a 0 b ≡ row b
   others_left row b differs = rw (not_a b differs) refl
 
-  counts_by_step : ByStep z a h move → Counts z.shapes m found m.task → Counted
+  counts_by_step : ByStep tally live z a h move → Counts z.shapes m found m.task → Counted
   counts_by_step x c =
-      let y : IsCalm z end (with_words h t.words) (record v { words = t.words; pend = with_word v.pend a 0 }) = known.calm_lasts.counts z end a h v t.words seat calm (as_counted (with_count h.words (v.pend a)) t.words (counts_words c)) (good_words x) in
-      record { then = record v { words = t.words; pend = with_word v.pend a 0 }; so = record { words = refl; layout = y.layout; ended = y.ended; spans = y.spans; heap = good_then }; own = none_left v.pend ∙ sym c.then; others = others_left v.pend }
+      let stay : SweepStays (with_count (unmarked tally live h.words) (v.pend a)) (unmarked tally live t.words) = counted_bare h.words (unmarked tally live t.words) (v.pend a) (as_counted (with_count h.words (v.pend a)) t.words (counts_words c)) in
+      let y : IsCalm z end (with_words (bare tally live h) (unmarked tally live t.words)) (record v { words = unmarked tally live t.words; pend = with_word v.pend a 0 }) = known.calm_lasts.counts z end a (bare tally live h) v (unmarked tally live t.words) seat calm stay (good_words x) in
+      record { then = record v { words = unmarked tally live t.words; pend = with_word v.pend a 0 }; so = record { words = refl; layout = y.layout; ended = y.ended; spans = y.spans; heap = good_then }; own = none_left v.pend ∙ sym c.then; others = others_left v.pend }
 
-  counts_by_right : ByRight z a h move → Counts z.shapes m found m.task → Counted
+  counts_by_right : ByRight tally live z a h move → Counts z.shapes m found m.task → Counted
   counts_by_right x c =
       let g = goes x.told in
       let owed : g.then.pend a ≡ v.pend a = g.own ∙ x.same (slot_row (page_words h.words)) (v.pend a) in
-      let heap : t.words cell.Heap ≡ (t.words cell.Heap + g.then.pend a) % 2 ^ 64 = ap (λ (w : Words). w cell.Heap) (counts_words c) ∙ (ap (λ (n : ℕ). (n + v.pend a) % 2 ^ 64) (sym x.heap) ∙ ap (λ (n : ℕ). (t.words cell.Heap + n) % 2 ^ 64) (sym owed)) in
-      let stay : SweepStays (with_count t.words (g.then.pend a)) t.words = record { generation = refl; heap = heap; tally = refl; live = refl; pages = λ p. refl; alloc = λ i. refl; marks = λ i. refl } in
-      let y : IsCalm z end (with_words t t.words) (record g.then { words = t.words; pend = with_word g.then.pend a 0 }) = known.calm_lasts.counts z end a t g.then t.words seat g.calm stay good_then in
-      record { then = record g.then { words = t.words; pend = with_word g.then.pend a 0 }; so = record { words = refl; layout = y.layout; ended = y.ended; spans = y.spans; heap = good_then }; own = none_left g.then.pend ∙ sym c.then; others = λ b differs. others_left g.then.pend b differs ∙ g.others b differs }
+      let there : Words = (moved z a (bare tally live h) move).words in
+      let heap : t.words cell.Heap ≡ (there cell.Heap + g.then.pend a) % 2 ^ 64 = ap (λ (w : Words). w cell.Heap) (counts_words c) ∙ (ap (λ (n : ℕ). (n + v.pend a) % 2 ^ 64) (sym x.heap ∙ x.bared.words.heap) ∙ ap (λ (n : ℕ). (there cell.Heap + n) % 2 ^ 64) (sym owed)) in
+      let stay : SweepStays (with_count there (g.then.pend a)) (unmarked tally live t.words) = record { generation = x.bared.words.generation; heap = heap; tally = x.bared.words.tally; live = x.bared.words.live; pages = x.bared.words.pages; alloc = x.bared.words.alloc; marks = x.bared.words.marks } in
+      let y : IsCalm z end (with_words (moved z a (bare tally live h) move) (unmarked tally live t.words)) (record g.then { words = unmarked tally live t.words; pend = with_word g.then.pend a 0 }) = known.calm_lasts.counts z end a (moved z a (bare tally live h) move) g.then (unmarked tally live t.words) seat g.calm stay (x.bared.good good_then) in
+      record { then = record g.then { words = unmarked tally live t.words; pend = with_word g.then.pend a 0 }; so = record { words = refl; layout = y.layout; ended = y.ended; spans = y.spans; heap = good_then }; own = none_left g.then.pend ∙ sym c.then; others = λ b differs. others_left g.then.pend b differs ∙ g.others b differs }
 
   -- An object is made.
   module _ (x : Makes z.shapes m found m.task) where
@@ -267,7 +286,7 @@ module _ (known : Known) (whole : WholeWords) (z : Arena) (end : CycleEnd) (a : 
     moves_none : ((g : ℕ) → t.ever.made g ≡ h.ever.made g) → ⊥
     moves_none same = let none = same w.g in let one = made_one in omega (arith, none, one)
 
-    same_goroutine : (y : ByMaking z a h move) → w.g ≡ y.g
+    same_goroutine : (y : ByMaking tally live z a h move) → w.g ≡ y.g
     same_goroutine y = go (y.g == w.g) refl where
       by : t.ever.made y.g ≡ cond (y.g == w.g) (h.ever.made w.g + 1) (h.ever.made y.g)
       by = ap (λ (e : Ever). e.made y.g) ever_is
@@ -277,27 +296,27 @@ module _ (known : Known) (whole : WholeWords) (z : Arena) (end : CycleEnd) (a : 
       go false is = absurd (let none : t.ever.made y.g ≡ h.ever.made y.g = by ∙ rw is refl in let more = made_more y in omega (arith, none, more))
 
     -- its name's place is the slot that is claimed
-    there : (y : ByMaking z a h move) → y.at ≡ p.at
+    there : (y : ByMaking tally live z a h move) → y.at ≡ p.at
     there y =
         let name : p.name ≡ next_name h.ever y.g = unmade.name ∙ ap (next_name h.ever) (same_goroutine y) in
         let by : t.place p.name ≡ y.at = ap (λ (k : Move). (moved z a h k).place p.name) y.is ∙ (ap (placed_at h.place (next_name h.ever y.g) y.at) name ∙ at_its_place (next_name h.ever y.g) y.at) in
         let made : t.place p.name ≡ p.at = made_now.made (view t) (subst (λ (k : Task). FactsAt z a (view t) to does.after k) made_now.task_is does.fine.task).facts in
         sym by ∙ made
 
-    by_making : ByMaking z a h move → Counted
+    by_making : ByMaking tally live z a h move → Counted
     by_making y =
         let g = goes (λ pend. subst (TellsInMove pend) (sym y.is) tt) in
         let owed : g.then.pend a ≡ v.pend a + slot_row (page_words h.words) (y.at / 64) = g.own ∙ ap (λ (k : Move). pend_after (slot_row (page_words h.words)) k (v.pend a)) y.is in
         let bytes : slot_row (page_words h.words) (y.at / 64) ≡ 8 * p.slot = ap (λ (n : ℕ). slot_row (page_words h.words) (n / 64)) (there y) ∙ slot_bytes_are known whole z (view h) calm.heap a p.at p.slot unmade.places.some unmade.claim in
         let before : v.pend a ≡ 0 = pends ∙ none_before in
         let after : uncounted to.task ≡ 8 * p.slot = ap uncounted made_now.task_is ∙ made_now.bytes in
-        record { then = g.then; so = g.calm; own = omega (arith, owed, bytes, before, after); others = g.others }
+        record { then = record g.then { words = unmarked tally live t.words }; so = bares g y.bared; own = omega (arith, owed, bytes, before, after); others = g.others }
 
     makes : Counted
-    makes = elim (moves_by z a h move may) [ inl y ↦ absurd (moves_none y.made) | inr k ↦ elim k [ inl y ↦ by_making y | inr y ↦ absurd (moves_none y.made) ] ]
+    makes = elim (moves_by tally live z a h move may) [ inl y ↦ absurd (moves_none y.made) | inr k ↦ elim k [ inl y ↦ by_making y | inr y ↦ absurd (moves_none y.made) ] ]
 
   pub counted : Counted
   counted = elim (kind z.shapes m found m.task busy) [
-    | inl c ↦ elim (moves_by z a h move may) [ inl x ↦ counts_by_step x c | inr y ↦ elim y [ inl x ↦ absurd (made_none c.nothing x) | inr x ↦ counts_by_right x c ] ]
-    | inr k ↦ elim k [ inl x ↦ makes x | inr k ↦ elim (moves_by z a h move may) [ inl x ↦ keeps_by_step x k | inr y ↦ elim y [ inl x ↦ absurd (made_none k.nothing x) | inr x ↦ keeps_by_right x k ] ] ]
+    | inl c ↦ elim (moves_by tally live z a h move may) [ inl x ↦ counts_by_step x c | inr y ↦ elim y [ inl x ↦ absurd (made_none c.nothing x) | inr x ↦ counts_by_right x c ] ]
+    | inr k ↦ elim k [ inl x ↦ makes x | inr k ↦ elim (moves_by tally live z a h move may) [ inl x ↦ keeps_by_step x k | inr y ↦ elim y [ inl x ↦ absurd (made_none k.nothing x) | inr x ↦ keeps_by_right x k ] ] ]
   ]

@@ -34,6 +34,7 @@ not_global : (x : Global) (s : GlobalStage) (g : ℕ) → global.op_in x s ≡ o
 not_global x global_stage.Load g is = cc
 not_global x (global_stage.Birth at) g is = cc
 not_global x global_stage.Store g is = cc
+not_global x (global_stage.Writing w) g is = cc
 not_global x global_stage.Number g is = cc
 
 not_register : (x : Register) (s : Source) (g : ℕ) → register.op_from x s ≡ op.End g → ⊥
@@ -45,7 +46,7 @@ pub acts_end : (m : Processor) (t : Task) (found : ℕ) (p : Act) (g : ℕ) → 
 acts_end m task.Idle found p g is end = absurd (cc)
 acts_end m task.Left found p g is end = absurd (cc)
 acts_end m (task.Load y) found p g is end = absurd (let same : load.op_of y ≡ op.End g = sym (acting_op (load.step m.poll.layout y found).acts (load.op_of y) false p is) ∙ end in cc)
-acts_end m (task.Store y) found p g is end = absurd (let same : store.op_of y ≡ op.End g = sym (acting_op (store.step m.poll.layout (register_of m y.g y.v) y found).acts (store.op_of y) false p is) ∙ end in cc)
+acts_end m (task.Store y) found p g is end = absurd (let same : store.op_of y ≡ op.End g = sym (acting_op (store.step m.poll.layout m.poll.local (register_of m y.g y.v) y found).acts (store.op_of y) false p is) ∙ end in cc)
 acts_end m (task.Global y) found p g is end = absurd (not_global y y.stage g (sym (acting_op (global.step m.poll.layout (register_of m y.g y.r) y found).acts (global.op_of y) false p is) ∙ end))
 acts_end m (task.Register y) found p g is end = absurd (not_register y y.source g (sym (acting_op (register.step (register_of m y.g (register.read_of y)) y).acts (register.op_of y) false p is) ∙ end))
 acts_end m (task.New y) found p g is end = absurd (let same : new.op_of y.wanted ≡ op.End g = sym (acting_op (new.acts_at y.stage found) (new.op_of y.wanted) (new.is_full_at y.stage) p is) ∙ end in cc)
@@ -131,7 +132,7 @@ module _ (shapes : List Shape) (m : Processor) (found : ℕ) where
   last_before task.Idle busy is = absurd (cc)
   last_before task.Left busy is = absurd (cc)
   last_before (task.Load x) busy is = absurd (other (follows_none task.Load (λ s. refl) (load.step m.poll.layout x found).then) is)
-  last_before (task.Store x) busy is = absurd (other (follows_none task.Store (λ s. refl) (store.step m.poll.layout (register_of m x.g x.v) x found).then) is)
+  last_before (task.Store x) busy is = absurd (other (follows_none task.Store (λ s. refl) (store.step m.poll.layout m.poll.local (register_of m x.g x.v) x found).then) is)
   last_before (task.Global x) busy is = absurd (other (follows_none task.Global (λ s. refl) (global.step m.poll.layout (register_of m x.g x.r) x found).then) is)
   last_before (task.Register x) busy is = absurd (other (follows_none task.Register (λ s. refl) (register.step (register_of m x.g (register.read_of x)) x).then) is)
   last_before (task.New x) busy is = absurd (other (new_none x.wanted x.stage) is)

@@ -3,6 +3,7 @@ use Rattle.std.proofs.Common.{◌≡◌, ℕ, ◌+◌, ◌==◌, Bool, true, fal
 use Rattle.gh_coord.specs.declared.close.CloseStage.TheVariants as close_stage
 use Rattle.gh_coord.specs.Closing as close
 use Rattle.gh_coord.specs.Counting as count
+use Rattle.gh_coord.specs.Handshake as leading
 use Rattle.gh_coord.specs.Listing as coord
 use Rattle.gh_coord.specs.Opening as open_
 use Rattle.gh_coord.specs.Stopping as stop
@@ -86,6 +87,85 @@ goes_on u (Sweep w) found g = sweeps_on u (sweep.goes w found) (sweep.gives w fo
 goes_on u (Count c) found g = counts_on u (count.goes c found) (count.gives c found)
 goes_on u (Tell t) found g = tells_on u (tell.goes t found) (tell.gives t found)
 goes_on u Done found g = g
+
+-- Whether the cycle is the last one it finds while it looks for acknowledgements, and keeps from then on.
+
+abbrev pub NotAcks : CoordStage → Type 0
+NotAcks (LoadAck i) = ⊥
+NotAcks _ = Unit {0}
+
+abbrev Kept : Coordinating → Coordinating → Type 0
+Kept u d = d.is_last ≡ u.is_last
+
+wants_last : (u : Coordinating) (b : Bool) → Kept u (cond b (at_stage u (LoadAck 0)) (stops_world u))
+wants_last u true = refl
+wants_last u false = refl
+
+stops_last : (u : Coordinating) (st : stop.Stopping) (out : Option (Unit {0})) → Kept u (after_stop (at_stage u (Stop st)) out)
+stops_last u st None = refl
+stops_last u st (Some x) = refl
+
+opens_last : (u : Coordinating) (o : open_.CycleOpening) (out : Option (Unit {0})) → Kept u (after_open (at_stage u (Open o)) out)
+opens_last u o None = refl
+opens_last u o (Some x) = refl
+
+watches_last : (u : Coordinating) (w : watch.Watching) (out : Option Watched) → Kept u (after_watch (at_stage u (Watch w)) out)
+watches_last u w None = refl
+watches_last u w (Some All) = refl
+watches_last u w (Some NotYet) = refl
+
+stops_again_last : (u : Coordinating) (st : stop.Stopping) (out : Option (Unit {0})) → Kept u (after_stop_again (at_stage u (StopAgain st)) out)
+stops_again_last u st None = refl
+stops_again_last u st (Some x) = refl
+
+checks_last : (u : Coordinating) (w : watch.Watching) (out : Option Watched) → Kept u (after_check (at_stage u (Check w)) out)
+checks_last u w None = refl
+checks_last u w (Some All) = refl
+checks_last u w (Some NotYet) = refl
+
+closes_last : (u : Coordinating) (c : close.Closing) (out : Option ℕ) → Kept u (after_close (at_stage u (Close c)) out)
+closes_last u c None = refl
+closes_last u c (Some lapsed) = refl
+
+sweeps_last : (u : Coordinating) (w : sweep.SweepingAll) (out : Option (Unit {0})) → Kept u (after_sweep (at_stage u (Sweep w)) out)
+sweeps_last u w None = refl
+sweeps_last u w (Some x) = refl
+
+counts_last : (u : Coordinating) (c : count.Counting) (out : Option Counted) → Kept u (after_count (at_stage u (Count c)) out)
+counts_last u c None = refl
+counts_last u c (Some x) = refl
+
+tells_last : (u : Coordinating) (t : tell.Telling) (out : Option (Unit {0})) → Kept u (after_tell (at_stage u (Tell t)) out)
+tells_last u t None = refl
+tells_last u t (Some x) = refl
+
+pub keeps_last : (u : Coordinating) (p : CoordStage) (found : ℕ) → NotAcks p → Kept u (goes_at u p found)
+keeps_last u (LoadAck i) found other = absurd other
+keeps_last u LoadWant found other = wants_last u (found == 0)
+keeps_last u (Stop st) found other = stops_last u (stop.goes st found) (stop.gives st found)
+keeps_last u (Open o) found other = opens_last u (open_.goes o found) (open_.gives o found)
+keeps_last u (Watch w) found other = watches_last u (watch.goes w found) (watch.gives w found)
+keeps_last u (StopAgain st) found other = stops_again_last u (stop.goes st found) (stop.gives st found)
+keeps_last u (Check w) found other = checks_last u (watch.goes w found) (watch.gives w found)
+keeps_last u MarkOn found other = refl
+keeps_last u (Close c) found other = closes_last u (close.goes c found) (close.gives c found)
+keeps_last u (Sweep w) found other = sweeps_last u (sweep.goes w found) (sweep.gives w found)
+keeps_last u (Count c) found other = counts_last u (count.goes c found) (count.gives c found)
+keeps_last u (Tell t) found other = tells_last u (tell.goes t found) (tell.gives t found)
+keeps_last u Done found other = refl
+
+-- so it was so before a step behind which a cycle is marked
+no_marks : (u : Coordinating) (b d : Bool) (i : ℕ) → leading.Marks (cond b (cond d (at_stage u (LoadAck (i + 1))) (stops_world (record u { is_last = true }))) (at_stage u LoadWant)).stage → ⊥
+no_marks u true true i on = on
+no_marks u true false i on = on
+no_marks u false d i on = on
+
+no_acks : (u : Coordinating) (p : CoordStage) (found : ℕ) → leading.Marks (goes_at u p found).stage → NotAcks p
+no_acks u (LoadAck i) found on = no_marks u (found == GONE) (nat_lt (i + 1) u.layout.procs) i on
+no_acks u _ found on = tt
+
+pub last_was : (u : Coordinating) (p : CoordStage) (found : ℕ) → leading.Marks (goes_at u p found).stage → (goes_at u p found).is_last ≡ true → u.is_last ≡ true
+last_was u p found on is = sym (keeps_last u p found (no_acks u p found on)) ∙ is
 
 module _ (shapes : List Shape) (l : Layout) (pacing : Pacing) (may : ℕ → List (Entry Op) → Op → Bool) where
   abbrev n : ℕ

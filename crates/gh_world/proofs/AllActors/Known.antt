@@ -3,12 +3,14 @@ use Rattle.std.proofs.Common.{ℕ, Bool, List, ◌∷◌}
 use Rattle.gh_heap.specs.Laws.{EachFactLasts, EachMoveKeeps, EachMoveLeaves, TheHeapIsApart}
 use Rattle.gh_sweep.specs.Runs.{EachCountIsExact}
 use Rattle.gh_sweep.specs.Sweepers.{SweepsAmongOthers}
-use Rattle.gh_cycle.specs.Allocating.{AllocationGoesOn, CalmIsFound, CalmLasts, CountedLasts}
-use Rattle.gh_cycle.specs.Ending.{CyclesEnd, HeapsOpen, MarksStayWords, PagesStayPacked, SlotsAreRead, SpansLast}
-use Rattle.gh_cycle.specs.Marked.{ObjectsAreKnown, TheCycleLasts, TheMarkedAreReached, TheReachedAreMarked}
+use Rattle.gh_cycle.specs.Allocating.{AllocationGoesOn, CalmIsFound, CalmLasts}
+use Rattle.gh_cycle.specs.Ending.{CyclesEnd, HeapsOpen, MarksStayWords, PagesStayPacked, SlotsAreRead}
+use Rattle.gh_cycle.specs.Beside.{CyclesBeginBeside, MarkingAloneGoesBeside, ObjectsAreKnownBeside, TheReachedAreMarkedBeside}
 use Rattle.gh_cycle.specs.Opening.{CyclesOpen}
 use Rattle.gh_cycle.specs.Reached.{BoundsLast, PlacesAreDecided, TheReachedWereMade}
-use Rattle.gh_cycle.specs.Sweeping.{CountsAreTold, OnlyTheReachedAreLeft, SweepingBegins, SweepingEnds, SweepingKeepsTheHeap, SweepsMoveSo}
+use Rattle.gh_cycle.specs.Since.{CyclesBeginSo, TheMarkedWereReached, WhatHasGoneOnLasts}
+use Rattle.gh_cycle.specs.Sweeping.{CountsAreTold, OnlyTheMarkedAreLeft, SweepingBegins, SweepingEnds, SweepingKeepsTheHeap, SweepsMoveSo}
+use Rattle.gh_mutator.specs.Beside.{GoesOnBesideMarking}
 use Rattle.gh_mutator.specs.Calm.{CalmProcessorsMarkNothing}
 use Rattle.gh_mutator.specs.Deeds.{OnlyPointsChange, ProcessorsDeedsFit}
 use Rattle.gh_mutator.specs.ProcessorMarks.{MarksByMoves}
@@ -39,27 +41,29 @@ pub record Known : Type 0 where
   pub packed : PagesStayPacked
   pub mark_words : MarksStayWords
   pub slots : SlotsAreRead
-  pub spans_last : SpansLast
   pub ends : CyclesEnd
   pub heaps_open : HeapsOpen
   pub begins : SweepingBegins
   pub keeps_heap : SweepingKeepsTheHeap
   pub sweep_ends : SweepingEnds
-  pub only : OnlyTheReachedAreLeft
+  pub only : OnlyTheMarkedAreLeft
   pub goes_on : AllocationGoesOn
   pub found : CalmIsFound
   pub calm_lasts : CalmLasts
-  pub counted_lasts : CountedLasts
   pub told : CountsAreTold
   pub sweeps_move : SweepsMoveSo
   pub decided : PlacesAreDecided
   pub made : TheReachedWereMade
   pub bounds : BoundsLast
   pub opens : CyclesOpen
-  pub objects : ObjectsAreKnown
-  pub cycle_lasts : TheCycleLasts
-  pub reached : TheReachedAreMarked
-  pub marked : TheMarkedAreReached
+  pub beside_begins : CyclesBeginBeside
+  pub beside_lasts : MarkingAloneGoesBeside
+  pub begins_so : CyclesBeginSo
+  pub gone_on : WhatHasGoneOnLasts
+  pub objects : ObjectsAreKnownBeside
+  pub reached : TheReachedAreMarkedBeside
+  pub marked : TheMarkedWereReached
+  pub beside : GoesOnBesideMarking
   pub marking : MarkingBegins
   pub fit : ProcessorsDeedsFit
 

@@ -9,11 +9,12 @@ use Rattle.gh_coord.specs.Opening as opens_by
 use Rattle.gh_coord.specs.Stopping as stop
 use Rattle.gh_cycle.specs.Allocating.{IsFoundCalm}
 use Rattle.gh_phase.specs.declared.view.RunPhase.TheVariants as run
-use Rattle.gh_world.specs.ActorsHold.{IsOpening}
+use Rattle.gh_world.specs.ActorsHold.{IsOpening, unmarked}
 use Rattle.gh_world.proofs.Vocabulary.{acks_of, ahead_at, Arena, arena, Ask, Coordinating, CoordStage, effect, END, Entry, GONE, HasCursor, HoldsAt, IsLed, IsQuiet, IsReady, Layout, Legal, LoadAck, LoadWant, nat_tests, Op, Open, OpenStage, Pacing, part_of, Shape, Stop, Stopped, StopStage, those, Words, words}
 use Rattle.gh_world.proofs.AllActors.Aside.{IsAside, loads, loads_only, phase_only, stores_begun, stores_cursor, stores_live, stores_phase, stores_slack, stores_tally, stores_trigger, stores_want, stores_work, TellsNothing}
+use Rattle.gh_world.proofs.AllActors.Bare.{baring}
 use Rattle.gh_world.proofs.AllActors.Known.{Known, ListsKnown}
-use Rattle.gh_world.proofs.AllActors.LeadingSeat.{asked_at, from, is_still, led_then, goes_at as goes_by, owes_nothing}
+use Rattle.gh_world.proofs.AllActors.LeadingSeat.{asked_at, from, led_then, goes_at as goes_by, owes_nothing}
 use Rattle.gh_world.proofs.AllActors.Quiet.{quiet_goes_on, ready_goes_on}
 
 -- each request of an opening leaves the heap as it is
@@ -73,8 +74,12 @@ module _ (shapes : List Shape) (l : Layout) (pacing : Pacing) (may : ℕ → Lis
       heap = q.heap;
       of_list = q.of_list;
       good = q.calm.heap;
-      packed = found.packed;
-      counted = found.counted (is_still shapes l pacing may known lists es legal d led run.Off post q.heap q.of_list) pends;
+      end = q.end;
+      spans = record (q.spans) { words = unmarked (q.heap.words cell.Tally) (q.heap.words cell.Live) q.heap.words };
+      tally = q.heap.words cell.Tally;
+      live = q.heap.words cell.Live;
+      calm = baring known z q.end q.heap q.spans q.calm found.marks;
+      owes_none = pends;
       marks = found.marks;
       buffers = q.buffers;
       stacks = λ g. older g (q.stacks g);

@@ -1,21 +1,23 @@
 -- The store of the next sweep generation ends a cycle: what holds then is what the sweep begins with.
-use Rattle.std.proofs.Common.{◌≡◌, ◌≢◌, ◌⊎◌, inl, inr, ℕ, ◌+◌, ◌*◌, ◌^◌, ◌<◌, ◌≤◌, Bool, refl, sym, ap, subst, ◌∙◌, arith, List, ◌∷◌}
+use Rattle.std.proofs.Common.{◌≡◌, ◌≢◌, ◌⊎◌, inl, inr, ℕ, ◌+◌, ◌*◌, ◌^◌, ◌<◌, ◌≤◌, Bool, true, false, ltb, refl, sym, ap, subst, ◌∙◌, arith, List, ◌∷◌}
 use Rattle.gh_base.specs.declared.cell.Cell.TheVariants as cell
 use Rattle.gh_coord.specs.declared.close.CloseStage.TheVariants as closing
 use Rattle.gh_coord.specs.Closing as close
 use Rattle.gh_coord.specs.Handshake as leading
 use Rattle.gh_coord.specs.Listing as coord
 use Rattle.gh_coord.specs.SweepingAll as over_all
-use Rattle.gh_cycle.specs.Ending.{end_of, IsOver, with_next_generation}
+use Rattle.gh_cycle.specs.Allocating.{IsFoundCalm}
+use Rattle.gh_cycle.specs.Ending.{end_of, IsCounted, IsOver, IsStill, with_next_generation}
 use Rattle.gh_phase.specs.declared.view.RunPhase.TheVariants as run
 use Rattle.gh_sweep.specs.Runs.{at_end}
 use Rattle.gh_world.specs.Handshake.{Sound as ActorSound}
-use Rattle.gh_world.specs.HoldVocabulary.{IsCounted}
+use Rattle.gh_world.specs.ActorsHold.{bare}
 use Rattle.gh_world.specs.Numbers.{IsLiveClear, IsTallyClear}
-use Rattle.gh_world.proofs.Vocabulary.{acks_of, ahead_at, alloc_words, Arena, arena, Body, By, Checked, Close, close_part, Coordinating, CoordStage, Cycle, CycleEnd, effect, END, EndedSo, Entry, far_in, Free, Head, Heap, IsBeginning, IsEnding, IsInCycle, IsInLimits, IsLed, IsMeant, IsSweeping, IsToBegin, Knows, Layout, Legal, mark_words, MarkFacts, Marking, MarksNothing, MarksToTheEnd, Op, Pacing, page_of, PageWord, Part, part_of, processor_at, processor_kind, put, Shape, ShapesAreGood, Sound, Spans, stage_of, Stopped, Store, SweepsAll, SweepsBeside, those, with_words, Words, words}
+use Rattle.gh_world.proofs.Vocabulary.{acks_of, ahead_at, alloc_words, Arena, arena, Body, By, Checked, Close, close_part, Coordinating, CoordStage, Cycle, CycleEnd, effect, END, EndedSo, Entry, far_in, Free, Head, Heap, IsBeginning, IsEnding, IsInCycle, IsInLimits, IsLed, IsMeant, IsSweeping, IsToBegin, Knows, Layout, Legal, mark_words, MarkFacts, Marking, MarksNothing, MarksToTheEnd, nat_tests, Op, Pacing, page_of, PageWord, Part, part_of, processor_at, processor_kind, put, Shape, ShapesAreGood, Sound, Spans, stage_of, Stopped, Store, SweepsAll, SweepsBeside, those, with_words, Words, words}
+use Rattle.gh_world.proofs.AllActors.Going.{NotAcks}
 use Rattle.gh_world.proofs.AllActors.Known.{Known, ListsKnown}
-use Rattle.gh_world.proofs.AllActors.LeadingEnds.{arena_is, buffers, cycle_there, facts, good_there, none_placing, post, reached_are_marked, still_at}
-use Rattle.gh_world.proofs.AllActors.LeadingSeat.{asked_at, from, is_still}
+use Rattle.gh_world.proofs.AllActors.LeadingEnds.{arena_is, buffers, facts, good_there, none_placing, post, reached_are_marked, still_at}
+use Rattle.gh_world.proofs.AllActors.LeadingSeat.{asked_at, from, is_still, owes_nothing}
 use Rattle.gh_world.proofs.AllActors.LeadingSweep.{IsOfSpans}
 use Rattle.gh_world.proofs.AllActors.LeadingSwept.{apart, buffer, heap_on, in_cycle_on}
 use Rattle.gh_world.proofs.AllActors.Resting.{state_stays}
@@ -38,7 +40,7 @@ module _ (shapes : List Shape) (l : Layout) (pacing : Pacing) (may : ℕ → Lis
   abbrev Ends : List (Entry Op) → Coordinating → Type 0
   Ends es c = MarksToTheEnd z (processor_kind shapes l) pacing may stage_of MarkFacts (Knows z pacing may) (IsMeant z pacing may) es c
 
-  module _ (e : Entry Op) (es : List (Entry Op)) (legal : Legal (those shapes l pacing may) (e ∷ es)) (c : Coordinating) (led : IsLed shapes l pacing may es c) (by : e.actor ≡ acks_of l) (x : close.Closing) (is : c.stage ≡ Close x) (at : x.stage ≡ closing.StoreGen) (mark : Ends es c) where
+  module _ (e : Entry Op) (es : List (Entry Op)) (legal : Legal (those shapes l pacing may) (e ∷ es)) (c : Coordinating) (led : IsLed shapes l pacing may es c) (by : e.actor ≡ acks_of l) (x : close.Closing) (is : c.stage ≡ Close x) (at : x.stage ≡ closing.StoreGen) (on : leading.Marks c.stage) (mark : Ends es c) where
     abbrev y : Cycle
     y = mark.marking.cycle
 
@@ -52,7 +54,7 @@ module _ (shapes : List Shape) (l : Layout) (pacing : Pacing) (may : ℕ → Lis
     words_here = mark.marking.known.of_list.words_are
 
     there : mark.marking.cycle.arena ≡ z
-    there = arena_is shapes l pacing may good limits known lists es legal.0 c led x is mark
+    there = arena_is shapes l pacing may good limits known lists es legal.0 c led x is on mark
 
     -- The numbers.
 
@@ -98,20 +100,41 @@ module _ (shapes : List Shape) (l : Layout) (pacing : Pacing) (may : ℕ → Lis
     words_so = ap (put h.words cell.Gen) next ∙ sym (ap (effect h.words) asked)
 
     only : IsOfSpans e.ask
-    only = subst IsOfSpans (sym asked) (record { scanned = λ w i. refl; global = λ w i. refl; buffer = λ w i. refl })
+    only = subst IsOfSpans (sym asked) (record { scanned = λ w i. refl; birth = λ w i. refl; global = λ w i. refl; buffer = λ w i. refl })
 
-    -- Marking is over.
+    -- Marking is over: nobody holds anything, and each processor has counted what it placed.
+
+    abbrev bared : Heap
+    bared = bare mark.marking.known.tally mark.marking.known.live h
+
+    found : IsFoundCalm z bared mark.marking.known.spans
+    found = known.found.finds z mark.marking.known.end bared mark.marking.known.spans mark.marking.known.calm
+
+    stopped : leading.post_at c.stage ≡ Stopped run.Mark
+    stopped = post shapes l pacing may good limits known lists es legal.0 c led x is on mark
+
+    still : IsStill h
+    still = is_still shapes l pacing may known lists es legal.0 c led run.Mark stopped h mark.marking.known.of_list
+
+    still_bare : IsStill bared
+    still_bare = record { unlocked = still.unlocked; none_held = still.none_held; none_laid = still.none_laid; none_freed = still.none_freed }
+
+    pends : (a : ℕ) → mark.marking.known.spans.pend a ≡ 0
+    pends a = go (ltb a l.procs) refl where
+      go : (b : Bool) → ltb a l.procs ≡ b → mark.marking.known.spans.pend a ≡ 0
+      go true y = let lt : a < l.procs = grind (arith, nat_tests) in mark.marking.known.placing a lt ∙ owes_nothing shapes l pacing may known lists es legal.0 c led run.Mark stopped a lt
+      go false y = mark.marking.known.others_place a (grind (arith, nat_tests))
 
     is_over : IsOver mark.marking.cycle h mark.marking.shared
     is_over = record {
-      heap = good_there shapes l pacing may good limits known lists es legal.0 c led x is mark;
+      heap = good_there shapes l pacing may good limits known lists es legal.0 c led x is on mark;
       marking = mark.marking.good;
-      of_heap = cycle_there shapes l pacing may good limits known lists es legal.0 c led x is mark;
-      still = is_still shapes l pacing may known lists es legal.0 c led run.Mark (post shapes l pacing may good limits known lists es legal.0 c led x is mark) h mark.marking.known.of_list;
-      none_placing = none_placing shapes l pacing may good limits known lists es legal.0 c led x is mark;
-      packed = mark.marking.known.packed;
+      words = mark.marking.known.beside.words;
+      still = still;
+      none_placing = none_placing shapes l pacing may good limits known lists es legal.0 c led x is on mark;
+      packed = found.packed;
       marks_fit = mark.marking.known.marks_fit;
-      counted = subst (λ (r : Arena). IsCounted r.layout h.words) (sym there) mark.marking.known.counted;
+      counted = subst (λ (r : Arena). IsCounted r.layout h.words) (sym there) (found.counted still_bare pends);
       tally = ap (λ (w : Words). w cell.Tally) words_here ∙ (lists.counts es c legal.0 led).no_tally (subst IsTallyClear (sym checked) tt);
       live = ap (λ (w : Words). w cell.Live) words_here ∙ (lists.counts es c legal.0 led).no_live (subst IsLiveClear (sym checked) tt);
       room = room;
@@ -124,7 +147,7 @@ module _ (shapes : List Shape) (l : Layout) (pacing : Pacing) (may : ℕ → Lis
     spans = (at_end (end_of z h mark.marking.shared)).shared
 
     beside : SweepsBeside z (end_of z h mark.marking.shared) (with_words h (with_next_generation h.words)) (at_end (end_of z h mark.marking.shared)).shared
-    beside = subst (λ (r : Arena). SweepsBeside r (end_of r h mark.marking.shared) (with_words h (with_next_generation h.words)) (at_end (end_of r h mark.marking.shared)).shared) there (known.begins mark.marking.cycle h mark.marking.shared is_over (reached_are_marked shapes l pacing may good limits known lists es legal.0 c led x is mark))
+    beside = subst (λ (r : Arena). SweepsBeside r (end_of r h mark.marking.shared) (with_words h (with_next_generation h.words)) (at_end (end_of r h mark.marking.shared)).shared) there (known.begins mark.marking.cycle h mark.marking.shared is_over (reached_are_marked shapes l pacing may good limits known lists es legal.0 c led x is on mark))
 
     abbrev u : Coordinating
     u = coord.counted c
@@ -155,6 +178,7 @@ module _ (shapes : List Shape) (l : Layout) (pacing : Pacing) (may : ℕ → Lis
       ends = record { lead = c; led = led; by = by; stage = subst IsEnding (sym is) at; cycle = refl };
       alloc = ap alloc_words (words_so ∙ ap (λ (w : Words). effect w e.ask) words_here);
       marks = ap mark_words (words_so ∙ ap (λ (w : Words). effect w e.ask) words_here);
+      births = λ i. refl;
       ever_is = refl;
     }
 
@@ -175,7 +199,7 @@ module _ (shapes : List Shape) (l : Layout) (pacing : Pacing) (may : ℕ → Lis
     now_old now was same (inr i) = inr (same ∙ i)
 
     calm_now : (a : ℕ) → a < l.procs → MarksNothing (processor_at shapes l pacing may es a)
-    calm_now a lt = known.calm.behind mark.marking.cycle a mark.marking.shared (processor_at shapes l pacing may es a) _ (still_at shapes l pacing may good limits known lists es legal.0 c led x is mark a lt) (facts shapes l pacing may good limits known lists es legal.0 c led x is mark a lt)
+    calm_now a lt = known.calm.behind mark.marking.cycle a mark.marking.shared (processor_at shapes l pacing may es a) _ (still_at shapes l pacing may good limits known lists es legal.0 c led x is on mark a lt) (facts shapes l pacing may good limits known lists es legal.0 c led x is on mark a lt)
 
     pub sweeping : (d : Coordinating) → d.begun ≡ c.begun → IsSweeping shapes l pacing may (e ∷ es) d (over_all.opening c.layout c.generation)
     sweeping d same = record {
@@ -185,11 +209,9 @@ module _ (shapes : List Shape) (l : Layout) (pacing : Pacing) (may : ℕ → Lis
       spans = spans;
       beside = beside;
       sweeps = sweeps_all;
-      cycle = subst (IsInCycle shapes l pacing may (e ∷ es)) (sym same) (in_cycle_on shapes l pacing may known lists e es legal seat_from c.begun in_cycle);
+      cycle = subst (IsInCycle shapes l pacing may (e ∷ es)) (sym same) (in_cycle_on shapes l pacing may known lists e es legal seat_from c led by (subst NotAcks (sym is) tt) c.begun in_cycle);
       ended = subst (λ (k : ℕ). EndedSo shapes l pacing may (e ∷ es) k end) (sym same) ended;
-      buffers = λ b. buffer shapes l pacing may known lists e es legal c led by stopped h mark.marking.known.of_list (with_next_generation h.words) words_so only b ∙ buffers shapes l pacing may good limits known lists es legal.0 c led x is mark b;
+      buffers = λ b. buffer shapes l pacing may known lists e es legal c led by stopped h mark.marking.known.of_list (with_next_generation h.words) words_so only b ∙ buffers shapes l pacing may good limits known lists es legal.0 c led x is on mark b;
       stacks = λ g. subst (λ (k : ℕ). (h.words (cell.Scanned g) ≤ k) ⊎ (h.words (cell.Scanned g) ≡ END)) (sym same) (old g);
       processors = λ a lt. subst MarksNothing (sym (state_stays shapes l pacing may e es a (apart shapes l pacing may known lists e es legal seat_from a lt))) (calm_now a lt);
-    } where
-      stopped : leading.post_at c.stage ≡ Stopped run.Mark
-      stopped = post shapes l pacing may good limits known lists es legal.0 c led x is mark
+    }

@@ -1,18 +1,20 @@
 -- Where a cycle's marking ends: nobody has anything in hand, the marked objects are those that a script reaches, and with the store of the next sweep generation they are swept.
-use Rattle.std.proofs.Common.{◌≡◌, ◌≢◌, ℕ, zero, suc, ◌-◌, ◌%◌, ◌<◌, Bool, true, false, refl, sym, ap, subst, ◌∙◌, arith, List, [], slice_index_or, Some, None}
+use Rattle.std.proofs.Common.{◌≡◌, ◌≢◌, ◌⊎◌, inl, inr, ℕ, zero, suc, ◌-◌, ◌<◌, refl, sym, ap, subst, ◌∙◌, arith, List, Some, None, Bool}
 use Rattle.gh_base.specs.declared.cell.Cell.TheVariants as cell
 use Rattle.gh_base.specs.Shapes.{ShapesFit}
 use Rattle.gh_coord.specs.Closing as close
 use Rattle.gh_coord.specs.Handshake as leading
-use Rattle.gh_cycle.specs.Marked.{RegistersFit}
-use Rattle.gh_cycle.specs.Reached.{IsReachedAt}
+use Rattle.gh_cycle.specs.Beside.{IsBeside}
+use Rattle.gh_cycle.specs.Since.{HasGoneOn}
 use Rattle.gh_marks.specs.Colours.{IsGrey, IsMarked, Placing}
 use Rattle.gh_phase.specs.declared.view.RunPhase.TheVariants as run
 use Rattle.gh_worker.specs.Listing as worker
 use Rattle.gh_worker.specs.MarkFacts as worker_marks
 use Rattle.gh_world.specs.declared.handshake.Actor.TheVariants as actor
-use Rattle.gh_world.proofs.Vocabulary.{acks_of, Actor, actors_after, alloc_words, Arena, arena, AreRegisters, birth_words, Body, By, Close, Coordinating, Cycle, END, EndsClean, EndsMarked, Entry, Ever, ever, far_in, Free, Good, Hands, Head, Heap, holder_in, IsBounded, IsChecked, IsCycleOf, IsHeapOf, IsInLimits, IsKnown, IsLed, IsMade, IsMarkedObject, IsMeant, IsOf, IsParked, Knows, Layout, Legal, mark_words, MarkFacts, Marking, MarksToTheEnd, Means, mod_below, Name, nothing, Op, Pacing, PageWord, Placed, Processor, processor_at, processor_kind, Reach, reference_of, register_at, REGISTERS, Row, row_bit, Shape, ShapesAreGood, stage_of, Stands, Stopped, those, view, WaitsWithNone, Words, words}
-use Rattle.gh_world.proofs.AllActors.Begins.{same_name}
+use Rattle.gh_world.proofs.Vocabulary.{acks_of, Actor, actors_after, alloc_words, Arena, arena, birth_words, Body, By, Close, Coordinating, Cycle, EndsClean, EndsMarked, Entry, Ever, ever, far_in, Free, Good, Hands, Head, Heap, holder_in, IsBeginning, IsBounded, IsChecked, IsHeapOf, IsInCycle, IsInLimits, IsKnown, IsLed, IsMade, IsMarkedObject, IsMeant, IsParked, IsToBegin, Knows, Layout, Legal, mark_words, MarkFacts, Marking, MarksToTheEnd, Name, nothing, Op, Pacing, PageWord, Placed, Processor, processor_at, processor_kind, Reach, Row, row_bit, Shape, ShapesAreGood, stage_of, Stopped, those, view, WaitsWithNone, Words, words}
+use Rattle.gh_world.specs.Actors.{BeginsCycle}
+use Rattle.gh_world.specs.ActorsHold.{began}
+use Rattle.gh_world.proofs.AllActors.Beside.{not_beginning}
 use Rattle.gh_world.proofs.AllActors.Known.{Known, ListsKnown}
 use Rattle.gh_world.proofs.AllActors.LeadingNames.{placed_there}
 use Rattle.gh_world.proofs.AllActors.LeadingSeat.{parked}
@@ -36,7 +38,7 @@ module _ (shapes : List Shape) (l : Layout) (pacing : Pacing) (may : ℕ → Lis
   Ends es c = MarksToTheEnd z (processor_kind shapes l) pacing may stage_of MarkFacts (Knows z pacing may) (IsMeant z pacing may) es c
 
   -- Where the coordinator has checked that nothing is left to be marked.
-  module _ (es : List (Entry Op)) (legal : Legal (those shapes l pacing may) es) (c : Coordinating) (led : IsLed shapes l pacing may es c) (x : close.Closing) (is : c.stage ≡ Close x) (mark : Ends es c) where
+  module _ (es : List (Entry Op)) (legal : Legal (those shapes l pacing may) es) (c : Coordinating) (led : IsLed shapes l pacing may es c) (x : close.Closing) (is : c.stage ≡ Close x) (on : leading.Marks c.stage) (mark : Ends es c) where
     abbrev y : Cycle
     y = mark.marking.cycle
 
@@ -87,7 +89,7 @@ module _ (shapes : List Shape) (l : Layout) (pacing : Pacing) (may : ℕ → Lis
 
     -- no buffer has an entry
     buffer_words_are : (b : ℕ) → mark.marking.shared.words (cell.Buffer b) ≡ h.words (cell.Buffer b)
-    buffer_words_are b = ap (λ (w : Words). w (cell.Buffer b)) mark.marking.known.of_heap.words
+    buffer_words_are b = ap (λ (w : Words). w (cell.Buffer b)) mark.marking.known.beside.words
 
     free_buffer : (b : ℕ) → holder_in (mark.marking.shared.words (cell.Buffer b)) ≡ 0
     free_buffer b = go (holder_in (mark.marking.shared.words (cell.Buffer b))) refl where
@@ -119,59 +121,34 @@ module _ (shapes : List Shape) (l : Layout) (pacing : Pacing) (may : ℕ → Lis
     bounded_there : IsBounded mark.marking.cycle.arena h.ever
     bounded_there = subst (λ (r : Arena). IsBounded r h.ever) (sym arena_is) of.bounded
 
-    pub cycle_there : IsCycleOf mark.marking.cycle.arena h mark.marking.shared
-    cycle_there = subst (λ (r : Arena). IsCycleOf r h mark.marking.shared) (sym arena_is) mark.marking.known.of_heap
-
-    module _ (g d : ℕ) (few : g < l.goroutines) (below : d < REGISTERS) (goes_on : h.ever.ended g ≡ false) where
-      abbrev a : ℕ
-      a = g % l.procs
-
-      a_fits : g % l.procs < l.procs
-      a_fits = mod_below g l.procs (let some = limits.procs_fit.0 in omega (arith, some))
-
-      stands : Stands z (g % l.procs) (view h) (processor_at shapes l pacing may es (g % l.procs)).poll
-      stands = let it = of.processors (g % l.procs) a_fits in known.runs.stands z (g % l.procs) (view h) (processor_at shapes l pacing may es (g % l.procs)) it.pending it.fine
-
-      other : mark.marking.shared.words (cell.Scanned g) ≢ END
-      other i = absurd (let ended : h.ever.ended g ≡ true = (of.stacks g).0 (sym (ap (λ (w : Words). w (cell.Scanned g)) mark.marking.known.of_heap.words) ∙ i) in let both : true ≡ false = sym ended ∙ goes_on in cc)
-
-      its : IsOf mark.marking.cycle.arena (g % l.procs) g
-      its = subst (λ (r : Arena). IsOf r (g % l.procs) g) (sym arena_is) (few, refl)
-
-      registers : AreRegisters (mark.marking.shared.registers g) (slice_index_or (processor_at shapes l pacing may es (g % l.procs)).poll.local.stacks g [])
-      registers = (facts (g % l.procs) a_fits).stacks.registers g its other
-
-      means : Means h.place h.ever.made (h.ever.register g d) (register_at (processor_at shapes l pacing may es (g % l.procs)).poll g d)
-      means = stands.registers g d (few, refl) below
-
-      register_is : mark.marking.shared.registers g d ≡ reference_of h.place (h.ever.register g d)
-      register_is = registers.each d (subst (λ (n : ℕ). d < n) (sym registers.whole) below) ∙ sym (same_name h.place h.ever.made (h.ever.register g d) (register_at (processor_at shapes l pacing may es (g % l.procs)).poll g d) means)
-
-    fit_there : RegistersFit mark.marking.cycle.arena h mark.marking.shared
-    fit_there = subst (λ (r : Arena). RegistersFit r h mark.marking.shared) (sym arena_is) (λ g d few below goes_on. register_is g d few below goes_on)
+    beside_there : IsBeside mark.marking.cycle.arena h mark.marking.shared
+    beside_there = subst (λ (r : Arena). IsBeside r h mark.marking.shared) (sym arena_is) mark.marking.known.beside
 
     pub reached_are_marked : (n : Name) → Reach h.ever n → IsMarked (mark_words mark.marking.shared.words) (h.place n)
-    reached_are_marked = known.reached mark.marking.cycle h mark.marking.shared good_there (subst (λ (r : Arena). ShapesFit r.shapes) (sym arena_is) good.fit) bounded_there cycle_there fit_there clean.reached
-
-    marked_are_reached : (o : ℕ) → IsMarked (mark_words mark.marking.shared.words) o → IsReachedAt h o
-    marked_are_reached = known.marked mark.marking.cycle h mark.marking.shared cycle_there mark.marking.good none_placing
+    reached_are_marked = known.reached mark.marking.cycle h mark.marking.shared good_there (subst (λ (r : Arena). ShapesFit r.shapes) (sym arena_is) good.fit) bounded_there beside_there clean.reached
 
     marks_are : mark_words mark.marking.shared.words ≡ mark_words (words shapes l pacing may es)
     marks_are = ap mark_words mark.marking.is.words_are
 
-    module _ (n : Name) (made : IsMade (ever shapes l pacing may es).made n) where
-      made_there : IsMade h.ever.made n
-      made_there = subst (λ (v : Ever). IsMade v.made n) (sym of.ever_is) made
+    -- where the cycle began, and what has become of the heap since
+    record Began : Type 0 where
+      cycle_is : IsInCycle shapes l pacing may es c.begun
+      since : HasGoneOn (ever shapes l pacing may cycle_is.begun) h mark.marking.shared
 
-      reaches : IsMarkedObject shapes l pacing may (words shapes l pacing may es) n → Reach (ever shapes l pacing may es) n
-      reaches (a, at_a, set) =
-          let r = marked_are_reached a (subst (λ (w : Row). row_bit w a ≡ 1) (sym marks_are) set) in
-          let placed_r = mark.marking.known.good.reached r.0 r.1 in
-          let made_r = known.made z h.ever of.bounded r.0 r.1 in
+    began_at : Began
+    began_at = go mark.marking.known.cycle mark.marking.known.gone_on where
+      go : (y : IsToBegin shapes l pacing may es mark.marking.cycle.number ⊎ IsInCycle shapes l pacing may es mark.marking.cycle.number) → HasGoneOn (began shapes l pacing may es mark.marking.cycle.number y) h mark.marking.shared → Began
+      go (inl b) g = let same : b.lead ≡ c = (let both = sym b.led ∙ led in cc) in absurd (not_beginning c.stage on (subst (λ (d : Coordinating). IsBeginning d.stage) same b.stage))
+      go (inr i) g = record { cycle_is = record { begun = i.begun; start = i.start; begins = subst (λ (k : ℕ). BeginsCycle shapes l pacing may k i.begun) mark.marking.is.number_is i.begins; last = i.last }; since = g }
+
+    module _ (n : Name) where
+      -- what stands there and is marked was reached where the cycle began, or made since
+      was_reached : IsMade (ever shapes l pacing may began_at.cycle_is.begun).made n → IsMarkedObject shapes l pacing may (words shapes l pacing may es) n → Reach (ever shapes l pacing may began_at.cycle_is.begun) n
+      was_reached made (a, at_a, set) =
           let there : Placed (alloc_words h.words) (birth_words h.words) (λ m. a) n = subst (λ (w : Words). Placed (alloc_words w) (birth_words w) (λ m. a) n) (sym of.words_are) at_a in
-          let here = placed_there z (view h) mark.marking.known.good n a made_there there.set there.says in
-          let same : n ≡ r.0 = (known.apart z (view h) mark.marking.known.good).once n r.0 made_there made_r here.1 placed_r (here.0 ∙ sym r.2) in
-          subst (λ (v : Ever). Reach v n) of.ever_is (subst (Reach h.ever) (sym same) r.1)
+          let here = placed_there z (view h) mark.marking.known.good n a (began_at.since.made n made) there.set there.says in
+          known.marked mark.marking.cycle h mark.marking.shared (ever shapes l pacing may began_at.cycle_is.begun) mark.marking.good mark.marking.known.beside.words none_placing began_at.since n here.1
+          (subst (λ (o : ℕ). IsMarked (mark_words mark.marking.shared.words) o) (sym here.0) (subst (λ (w : Row). row_bit w a ≡ 1) (sym marks_are) set)) made
 
       is_marked : Reach (ever shapes l pacing may es) n → IsMarkedObject shapes l pacing may (words shapes l pacing may es) n
       is_marked r =
@@ -185,5 +162,9 @@ module _ (shapes : List Shape) (l : Layout) (pacing : Pacing) (may : ℕ → Lis
       shared = mark.marking.shared;
       is = mark.marking.is;
       clean = clean;
-      marked = λ n made. (reaches n made, is_marked n made);
+      reached = is_marked;
+      begun = began_at.cycle_is.begun;
+      start = began_at.cycle_is.start;
+      begins = began_at.cycle_is.begins;
+      marked = was_reached;
     }

@@ -1,5 +1,5 @@
 -- Once all is over: every processor is gone, so each goroutine has ended, and the objects that stand are those that a script reaches.
-use Rattle.std.proofs.Common.{◌≡◌, ◌≢◌, ◌↔◌, ℕ, ◌*◌, ◌%◌, ◌<◌, Bool, true, refl, sym, ap, subst, ◌∙◌, arith, List, [], ◌∷◌}
+use Rattle.std.proofs.Common.{◌≡◌, ◌≢◌, ◌↔◌, inl, inr, ℕ, ◌*◌, ◌%◌, ◌<◌, ◌≤◌, Bool, true, refl, sym, ap, subst, ◌∙◌, arith, List, [], ◌∷◌}
 use Rattle.gh_base.specs.declared.cell.Cell.TheVariants as cell
 use Rattle.gh_coord.specs.Closing as close
 use Rattle.gh_coord.specs.Handshake as leading
@@ -11,13 +11,19 @@ use Rattle.gh_mutator.specs.declared.wait.WaitStage.TheVariants as wait_stage
 use Rattle.gh_phase.specs.declared.resume.ResumeStage.TheVariants as resume_stage
 use Rattle.gh_phase.specs.declared.view.RunPhase.TheVariants as run
 use Rattle.gh_phase.specs.ResumePlaces.{stands_at}
+use Rattle.gh_world.specs.Actors.{BeginsCycle}
+use Rattle.gh_world.specs.Handshake.{Sound as ActorSound}
+use Rattle.gh_world.specs.HoldVocabulary.{IsCalm, marks_at}
 use Rattle.gh_world.specs.Numbers.{IsLiveCounted}
-use Rattle.gh_world.proofs.Vocabulary.{alloc_words, Arena, arena, Ask, birth_words, Close, Coordinating, CoordStage, Done, effect, EndsAllMarked, EndsCycle, Entry, Ever, ever, Gone, Heap, is_last_task, IsEnding, IsInLimits, IsJustSwept, IsLed, IsMade, IsMarkedObject, IsOf, IsPlacedAt, IsQuiet, IsStartOf, IsStepIn, last_of, last_phase, Layout, Lead, Leads, LeavesTheReached, Legal, mod_below, Name, new_stage_at, NewStage, Op, Pacing, page_words, part_of, party_of, place_of, Placed, placed, Polling, polls_at, PollStage, processor_at, Reach, ResumeStage, Shape, slot_row, stage_at, stage_of, Store, Task, those, view, Waiting, waiting, waits_at, WaitStage, Words, words}
+use Rattle.gh_world.proofs.Vocabulary.{acks_of, acts, alloc_words, Arena, arena, Ask, birth_words, Close, Coordinating, CoordStage, CycleEnd, Done, effect, EndedSo, EndsAllMarked, EndsCycle, Entry, Ever, ever, Gone, Heap, is_last_task, IsEnding, IsInLimits, IsJustSwept, IsHeapOf, IsLed, IsMade, IsMarkedObject, IsOf, IsPlacedAt, IsQuiet, IsStartOf, IsStepIn, last_of, last_phase, Layout, Lead, Leads, LeavesTheReached, Legal, mark_words, mod_below, Name, new_stage_at, NewStage, Op, Pacing, page_words, part_of, party_of, place_of, Placed, placed, Polling, polls_at, PollStage, processor_at, processor_kind, Reach, ResumeStage, Row, row_bit, Shape, slot_row, Sound, Spans, stage_at, stage_of, started, Store, Task, those, view, Waiting, waiting, waits_at, WaitStage, Words, words}
 use Rattle.gh_world.proofs.AllActors.Known.{Known, ListsKnown}
 use Rattle.gh_world.proofs.AllActors.LeadingNames.{placed_there}
 use Rattle.gh_world.proofs.AllActors.LeadingNumbers.{ends_once, legal_start}
+use Rattle.gh_world.proofs.AllActors.LeadingOnce.{begins_once}
 use Rattle.gh_world.proofs.AllActors.LeadingSeat.{asked_at, from}
 use Rattle.gh_world.proofs.AllActors.Resting.{ever_stays, runs_are}
+use Rattle.gh_world.proofs.AllActors.Starts.{start_of_start}
+use Rattle.gh_world.proofs.Explained.Made.{acted_no_fewer}
 
 -- Who is gone has left.
 
@@ -56,6 +62,19 @@ module _ (shapes : List Shape) (l : Layout) (pacing : Pacing) (may : ℕ → Lis
   abbrev z : Arena
   z = arena shapes l pacing may
 
+  -- no fewer objects were made behind more entries
+  made_grows : (g : ℕ) (start es : List (Entry Op)) → IsStartOf start es → (ever shapes l pacing may start).made g ≤ (ever shapes l pacing may es).made g
+  made_grows g start [] is = let same = ap (λ (xs : List (Entry Op)). (ever shapes l pacing may xs).made g) is in omega (arith, same)
+  made_grows g start (e ∷ es) (inl is) = let same = ap (λ (xs : List (Entry Op)). (ever shapes l pacing may xs).made g) is in omega (arith, same)
+  made_grows g start (e ∷ es) (inr is) =
+      let before = made_grows g start es is in
+      let more = acted_no_fewer shapes g (ever shapes l pacing may es) (acts (started (processor_kind shapes l) e.begun (processor_at shapes l pacing may es e.actor)) e.found) in
+      let follows = ap (λ (v : Ever). v.made g) ((known.points shapes l).follows es e) in
+      omega (arith, before, more, follows)
+
+  pub still_made : (start es : List (Entry Op)) → IsStartOf start es → (n : Name) → IsMade (ever shapes l pacing may start).made n → IsMade (ever shapes l pacing may es).made n
+  still_made start es is n made = let more = made_grows n.g start es is in omega (arith, made, more)
+
   -- the objects that are marked where a cycle ends are so behind the store that ends it
   module _ (d : Entry Op) (ds : List (Entry Op)) (legal : Legal (those shapes l pacing may) (d ∷ ds)) (k : ℕ) (x : IsStepIn shapes l pacing may IsEnding k d ds) (n : Name) where
     stores : (i : ℕ) × (d.ask ≡ Store cell.Gen i)
@@ -72,6 +91,42 @@ module _ (shapes : List Shape) (l : Layout) (pacing : Pacing) (may : ℕ → Lis
 
     ever_then : ever shapes l pacing may (d ∷ ds) ≡ ever shapes l pacing may ds
     ever_then = ever_stays shapes l pacing may known.points d ds legal (from shapes l pacing may known lists d ds legal x.lead x.led x.by)
+
+  -- What stands once a cycle is swept was marked where it ended; so, if it had been made by then, a script reached it where the cycle began.
+  module _ (es : List (Entry Op)) (legal : Legal (those shapes l pacing may) es) (k : ℕ) (h : Heap) (of : IsHeapOf shapes l pacing may es h) (x : CycleEnd) (v : Spans) (calm : IsCalm z x h v) (so : EndedSo shapes l pacing may es k x)
+      (left : (n : Name) → IsMade h.ever.made n → Placed (alloc_words h.words) (birth_words h.words) h.place n → row_bit (marks_at x) (h.place n) ≡ 1) (ends : EndsAllMarked shapes l pacing may es) where
+    module _ (n : Name) (made : IsMade (ever shapes l pacing may es).made n) (a : ℕ) (at : IsPlacedAt (words shapes l pacing may es) n a) where
+      made_there : IsMade h.ever.made n
+      made_there = subst (λ (u : Ever). IsMade u.made n) (sym of.ever_is) made
+
+      there : Placed (alloc_words h.words) (birth_words h.words) (λ m. a) n
+      there = subst (λ (w : Words). Placed (alloc_words w) (birth_words w) (λ m. a) n) (sym of.words_are) at
+
+      here : (h.place n ≡ a) × Placed (alloc_words h.words) (birth_words h.words) h.place n
+      here = placed_there z (view h) calm.heap n a made_there there.set there.says
+
+      set_at : row_bit (marks_at x) a ≡ 1
+      set_at = ap (λ (i : ℕ). row_bit (marks_at x) i) (sym here.0) ∙ left n made_there here.1
+
+      marked_there : IsMarkedObject shapes l pacing may (words shapes l pacing may so.ended) n
+      marked_there = (
+        a,
+        record { set = ap (λ (r : Row). row_bit r a) (sym so.alloc) ∙ calm.ended.stand a set_at; says = sym (so.births a) ∙ at.says },
+        ap (λ (r : Row). row_bit r a) (sym so.marks) ∙ set_at,
+      )
+
+    -- by the list where it ended
+    by_end : (ended : List (Entry Op)) → IsStartOf ended es → EndsCycle shapes l pacing may k ended → (begun : List (Entry Op)) → IsStartOf begun es → BeginsCycle shapes l pacing may k begun → (n : Name) → IsMade (ever shapes l pacing may begun).made n → IsMarkedObject shapes l pacing may (words shapes l pacing may ended) n → Reach (ever shapes l pacing may begun) n
+    by_end [] start step begun of_begun begins n made set = absurd step
+    by_end (d ∷ ds) start step begun of_begun begins n made set =
+        let legal_d = legal_start shapes l pacing may known lists (d ∷ ds) es start legal in
+        let m = ends d ds k start step in
+        let one : m.begun ≡ begun = begins_once shapes l pacing may known lists k m.begun begun es legal (start_of_start m.begun (d ∷ ds) es (inr m.start) start) of_begun (subst (λ (i : ℕ). BeginsCycle shapes l pacing may i m.begun) step.cycle m.begins) begins in
+        let here : IsMade (ever shapes l pacing may m.begun).made n = subst (λ (ys : List (Entry Op)). IsMade (ever shapes l pacing may ys).made n) (sym one) made in
+        subst (λ (ys : List (Entry Op)). Reach (ever shapes l pacing may ys) n) one (m.marked n here (marked_then d ds legal_d k step n set))
+
+    pub marked_were : (begun : List (Entry Op)) → IsStartOf begun es → BeginsCycle shapes l pacing may k begun → (n : Name) → IsMade (ever shapes l pacing may begun).made n → (a : ℕ) → IsPlacedAt (words shapes l pacing may es) n a → Reach (ever shapes l pacing may begun) n
+    marked_were begun of_begun begins n made a at = by_end so.ended so.start so.ends begun of_begun begins n made (marked_there n (still_made begun es of_begun n made) a at)
 
   module _ (es : List (Entry Op)) (legal : Legal (those shapes l pacing may) es) (c : Coordinating) (led : IsLed shapes l pacing may es c) (done : c.stage ≡ Done) (q : IsQuiet shapes l pacing may es c) (j : IsJustSwept shapes l pacing may es c q.heap q.end) (ends : EndsAllMarked shapes l pacing may es) where
     abbrev h : Heap
@@ -100,19 +155,32 @@ module _ (shapes : List Shape) (l : Layout) (pacing : Pacing) (may : ℕ → Lis
     over : (g : ℕ) → g < l.goroutines → (ever shapes l pacing may es).ended g ≡ true
     over g lt = all_ended (g % l.procs) (mod_below g l.procs (let some = limits.procs_fit.0 in omega (arith, some))) g (lt, refl)
 
-    made_there : (n : Name) → IsMade (ever shapes l pacing may es).made n → IsMade h.ever.made n
-    made_there n made = subst (λ (v : Ever). IsMade v.made n) (sym q.of_list.ever_is) made
+    -- it was the last
+    was_last : c.is_last ≡ true
+    was_last =
+        let sound = subst (ActorSound Sound l) led ((lists.keeps es legal).shakes.all_sound (acks_of l) (omega arith)) in
+        subst (leading.SoundAt c) done sound.1.1
+
+    -- the last cycle has changed no value
+    same_ever : ever shapes l pacing may es ≡ ever shapes l pacing may j.cycle.begun
+    same_ever = j.cycle.last c led was_last
+
+    -- nothing has since its marking ended
+    unchanged : (ended : List (Entry Op)) → IsStartOf ended es → EndsCycle shapes l pacing may c.begun ended → ever shapes l pacing may es ≡ ever shapes l pacing may ended
+    unchanged ended start x =
+        let one : ended ≡ j.ended.ended = ends_once shapes l pacing may known lists c.begun ended j.ended.ended es legal start j.ended.start x j.ended.ends in
+        j.ended.ever_is ∙ sym (ap (ever shapes l pacing may) one)
 
     module _ (n : Name) (made : IsMade (ever shapes l pacing may es).made n) where
+      made_then : IsMade (ever shapes l pacing may j.cycle.begun).made n
+      made_then = subst (λ (v : Ever). IsMade v.made n) same_ever made
+
       stands : ((a : ℕ) × IsPlacedAt (words shapes l pacing may es) n a) → Reach (ever shapes l pacing may es) n
-      stands (a, at) =
-          let there : Placed (alloc_words h.words) (birth_words h.words) (λ m. a) n = subst (λ (w : Words). Placed (alloc_words w) (birth_words w) (λ m. a) n) (sym q.of_list.words_are) at in
-          let here = placed_there z (view h) q.calm.heap n a (made_there n made) there.set there.says in
-          subst (λ (v : Ever). Reach v n) q.of_list.ever_is ((j.left n (made_there n made)).0 here.1)
+      stands (a, at) = subst (λ (v : Ever). Reach v n) (sym same_ever) (marked_were es legal c.begun q.heap q.of_list q.end q.spans q.calm j.ended j.left ends j.cycle.begun j.cycle.start j.cycle.begins n made_then a at)
 
       is_left : Reach (ever shapes l pacing may es) n → ((a : ℕ) × IsPlacedAt (words shapes l pacing may es) n a)
       is_left r =
-          let p = (j.left n (made_there n made)).1 (subst (λ (v : Ever). Reach v n) (sym q.of_list.ever_is) r) in
+          let p = q.calm.heap.reached n (subst (λ (v : Ever). Reach v n) (sym q.of_list.ever_is) r) in
           (h.place n, subst (λ (w : Words). Placed (alloc_words w) (birth_words w) (λ m. h.place n) n) q.of_list.words_are (record { set = p.set; says = p.says }))
 
       -- the last cycle's
@@ -120,15 +188,13 @@ module _ (shapes : List Shape) (l : Layout) (pacing : Pacing) (may : ℕ → Lis
       marked_at [] start x same = absurd x
       marked_at (d ∷ ds) start x same =
           let legal_d = legal_start shapes l pacing may known lists (d ∷ ds) es start legal in
-          let same_d = same ∙ ever_then d ds legal_d c.begun x n in
-          let made_d : IsMade (ever shapes l pacing may ds).made n = subst (λ (v : Ever). IsMade v.made n) same_d made in
-          let e = (ends d ds c.begun start x).marked n made_d in
-          ((λ i. subst (λ (v : Ever). Reach v n) (sym same_d) (e.0 (marked_then d ds legal_d c.begun x n i))), (λ r. marked_now d ds legal_d c.begun x n (e.1 (subst (λ (v : Ever). Reach v n) same_d r))))
+          let same_d = same ∙ ever_then d ds legal_d c.begun x n in (
+            (λ i. subst (λ (v : Ever). Reach v n) (sym same_ever) (by_end es legal c.begun q.heap q.of_list q.end q.spans q.calm j.ended j.left ends (d ∷ ds) start x j.cycle.begun j.cycle.start j.cycle.begins n made_then i)),
+            (λ r. marked_now d ds legal_d c.begun x n ((ends d ds c.begun start x).reached n (subst (λ (v : Ever). Reach v n) same_d r))),
+          )
 
       marked : (ended : List (Entry Op)) → IsStartOf ended es → EndsCycle shapes l pacing may c.begun ended → IsMarkedObject shapes l pacing may (words shapes l pacing may ended) n ↔ Reach (ever shapes l pacing may es) n
-      marked ended start x =
-          let one : ended ≡ j.ended.ended = ends_once shapes l pacing may known lists c.begun ended j.ended.ended es legal start j.ended.start x j.ended.ends in
-          marked_at ended start x (j.ended.ever_is ∙ sym (ap (ever shapes l pacing may) one))
+      marked ended start x = marked_at ended start x (unchanged ended start x)
 
     live_is : c.live ≡ placed (alloc_words (words shapes l pacing may es)) (slot_row (page_words (words shapes l pacing may es))) (16 * l.pages)
     live_is =
@@ -141,6 +207,7 @@ module _ (shapes : List Shape) (l : Layout) (pacing : Pacing) (may : ℕ → Lis
     leaves = record {
       over = over;
       left = λ n made. (stands n made, is_left n made);
+      unchanged = λ ended start x. unchanged ended start x;
       marked = λ ended start x n made. marked n made ended start x;
       live = live_is;
     }

@@ -44,7 +44,7 @@ module _ (shapes : List Shape) (l : Layout) (pacing : Pacing) (may : ℕ → Lis
     closes : (x : close.Closing) → c.stage ≡ Close x → (p : CloseStage) → x.stage ≡ p → close.is_busy p ≡ true → To (coord.after_close (coord.at_stage u (Close (close.goes_at x p e.found))) (close.given (close.goes_at x p e.found)))
     closes x is closing.LoadBank at b = tt
     closes x is closing.ClearBank at b = tt
-    closes x is closing.StoreGen at b = sweeping shapes l pacing may good limits known lists e es legal c led by x is at (was es c (whole es) led (subst leading.Marks (sym is) (ap close.is_busy at))) _ refl
+    closes x is closing.StoreGen at b = sweeping shapes l pacing may good limits known lists e es legal c led by x is at (subst leading.Marks (sym is) (ap close.is_busy at)) (was es c (whole es) led (subst leading.Marks (sym is) (ap close.is_busy at))) _ refl
     closes x is closing.Ended at b = absurd cc
 
     busy_at : (p : CoordStage) → c.stage ≡ p → coord.is_busy p ≡ true

@@ -16,6 +16,7 @@ use Rattle.gh_world.proofs.AllActors.Known.{Known}
 -- what the step leaves of the words, whatever these are
 pub record IsOfSpans (ask : Ask) : Type 0 where
   pub scanned : (w : Words) (i : ℕ) → effect w ask (cell.Scanned i) ≡ w (cell.Scanned i)
+  pub birth : (w : Words) (i : ℕ) → effect w ask (cell.Birth i) ≡ w (cell.Birth i)
   pub global : (w : Words) (i : ℕ) → effect w ask (cell.Global i) ≡ w (cell.Global i)
   pub buffer : (w : Words) (i : ℕ) → effect w ask (cell.Buffer i) ≡ w (cell.Buffer i)
 
@@ -25,11 +26,11 @@ module _ (m : sweep.Sweeping) where
   swapped false f w x is = refl
 
   pub spans_only : (q : SweepStage) → IsOfSpans (sweep.asks_at m q)
-  spans_only sweep_stage.Begin = record { scanned = λ w i. swapped _ (put w (cell.Page m.page) _) w _ refl; global = λ w i. swapped _ (put w (cell.Page m.page) _) w _ refl; buffer = λ w i. swapped _ (put w (cell.Page m.page) _) w _ refl }
-  spans_only (sweep_stage.LoadMarks i) = record { scanned = λ w i. refl; global = λ w i. refl; buffer = λ w i. refl }
-  spans_only (sweep_stage.ClearBits i marks) = record { scanned = λ w i. refl; global = λ w i. refl; buffer = λ w i. refl }
-  spans_only (sweep_stage.ClearMarks i) = record { scanned = λ w i. refl; global = λ w i. refl; buffer = λ w i. refl }
-  spans_only _ = record { scanned = λ w i. refl; global = λ w i. refl; buffer = λ w i. refl }
+  spans_only sweep_stage.Begin = record { scanned = λ w i. swapped _ (put w (cell.Page m.page) _) w _ refl; birth = λ w i. swapped _ (put w (cell.Page m.page) _) w _ refl; global = λ w i. swapped _ (put w (cell.Page m.page) _) w _ refl; buffer = λ w i. swapped _ (put w (cell.Page m.page) _) w _ refl }
+  spans_only (sweep_stage.LoadMarks i) = record { scanned = λ w i. refl; birth = λ w i. refl; global = λ w i. refl; buffer = λ w i. refl }
+  spans_only (sweep_stage.ClearBits i marks) = record { scanned = λ w i. refl; birth = λ w i. refl; global = λ w i. refl; buffer = λ w i. refl }
+  spans_only (sweep_stage.ClearMarks i) = record { scanned = λ w i. refl; birth = λ w i. refl; global = λ w i. refl; buffer = λ w i. refl }
+  spans_only _ = record { scanned = λ w i. refl; birth = λ w i. refl; global = λ w i. refl; buffer = λ w i. refl }
 
   -- nor are the numbers of cycles
   pub numbers_stay : (q : SweepStage) (w : Words) → (effect w (sweep.asks_at m q) cell.Swept ≡ w cell.Swept) × (effect w (sweep.asks_at m q) cell.Gen ≡ w cell.Gen)

@@ -12,6 +12,7 @@ use Rattle.gh_sweep.specs.Listing as sweep
 use Rattle.gh_world.specs.ActorsHold.{IsCounting, IsPassed, page_at, SweepsAt}
 use Rattle.gh_world.specs.HoldVocabulary.{SweepingAll}
 use Rattle.gh_world.proofs.Vocabulary.{acks_of, Answer, Arena, arena, Ask, by, cell_of, Coordinating, CoordStage, CycleEnd, effect, END, ended_in, EndedSo, Entry, Heap, HoldsAt, IsAsItShould, IsHeapOf, IsInCycle, IsLed, IsSweeping, Layout, Legal, MarksNothing, nat_tests, Op, option_to_list, Pacing, page_of, Processor, processor_at, Right, seats_of, Shape, Spans, Stopped, Sweep, SweepAllStage, SweepsAll, SweepsBeside, those, view, with_words, Words, words}
+use Rattle.gh_world.proofs.AllActors.Going.{keeps_last, NotAcks}
 use Rattle.gh_world.proofs.AllActors.Known.{Known, ListsKnown}
 use Rattle.gh_world.proofs.AllActors.LeadingSeat.{asked_at, busy, from, goes_at as goes_by, led_then, owes_nothing, parked}
 use Rattle.gh_world.proofs.AllActors.LeadingSweep.{beside_then, IsOfSpans, lands, loaded, spans_only, stepped, then as swept_then}
@@ -45,7 +46,7 @@ module _ (shapes : List Shape) (l : Layout) (pacing : Pacing) (may : ℕ → Lis
       record {
         cycle = s.cycle;
         ended = s.ended;
-        left = known.only z s.end s.heap s.spans s.beside swept s.of_list.bounded;
+        left = known.only z s.end s.heap s.spans s.beside swept;
         told = known.told z s.end s.heap s.spans s.beside swept;
       },
       tt,
@@ -53,11 +54,16 @@ module _ (shapes : List Shape) (l : Layout) (pacing : Pacing) (may : ℕ → Lis
 
   -- The entry of the coordinator leaves the cycle as it is.
   module _ (e : Entry Op) (es : List (Entry Op)) (legal : Legal (those shapes l pacing may) (e ∷ es)) (ge : l.procs ≤ e.actor) where
-    pub in_cycle_on : (k : ℕ) → IsInCycle shapes l pacing may es k → IsInCycle shapes l pacing may (e ∷ es) k
-    in_cycle_on k c = record { begun = c.begun; start = inr c.start; begins = c.begins; ever_is = ever_stays shapes l pacing may known.points e es legal ge ∙ c.ever_is }
+    pub in_cycle_on : (c : Coordinating) → IsLed shapes l pacing may es c → e.actor ≡ acks_of l → NotAcks c.stage → (k : ℕ) → IsInCycle shapes l pacing may es k → IsInCycle shapes l pacing may (e ∷ es) k
+    in_cycle_on c led by_it other k i = record { begun = i.begun; start = inr i.start; begins = i.begins; last = λ d led_d is. ever_stays shapes l pacing may known.points e es legal ge ∙ i.last c led (last_so d led_d is) } where
+      last_so : (d : Coordinating) → IsLed shapes l pacing may (e ∷ es) d → d.is_last ≡ true → c.is_last ≡ true
+      last_so d led_d is =
+          let then : IsLed shapes l pacing may (e ∷ es) (coord.goes_at (coord.counted c) c.stage e.found) = subst (IsLed shapes l pacing may (e ∷ es)) (goes_by shapes l pacing may known lists e es legal c led by_it c.stage refl) (led_then shapes l pacing may known lists e es legal c led by_it) in
+          let one : coord.goes_at (coord.counted c) c.stage e.found ≡ d = (let both = sym then ∙ led_d in cc) in
+          sym (keeps_last (coord.counted c) c.stage e.found other) ∙ (ap (λ (x : Coordinating). x.is_last) one ∙ is)
 
-    pub ended_on : (k : ℕ) (end : CycleEnd) → EndedSo shapes l pacing may es k end → EndedSo shapes l pacing may (e ∷ es) k end
-    ended_on k end x = record { ended = x.ended; start = inr x.start; ends = x.ends; alloc = x.alloc; marks = x.marks; ever_is = ever_stays shapes l pacing may known.points e es legal ge ∙ x.ever_is }
+    pub ended_on : ((i : ℕ) → words shapes l pacing may (e ∷ es) (cell.Birth i) ≡ words shapes l pacing may es (cell.Birth i)) → (k : ℕ) (end : CycleEnd) → EndedSo shapes l pacing may es k end → EndedSo shapes l pacing may (e ∷ es) k end
+    ended_on births k end x = record { ended = x.ended; start = inr x.start; ends = x.ends; alloc = x.alloc; marks = x.marks; births = λ i. births i ∙ x.births i; ever_is = ever_stays shapes l pacing may known.points e es legal ge ∙ x.ever_is }
 
     pub apart : (a : ℕ) → a < l.procs → (e.actor == a) ≡ false
     apart a lt = go (e.actor == a) refl where
@@ -154,8 +160,8 @@ module _ (shapes : List Shape) (l : Layout) (pacing : Pacing) (may : ℕ → Lis
         spans = spans;
         beside = beside;
         sweeps = sweeps;
-        cycle = subst (IsInCycle shapes l pacing may (e ∷ es)) (sym same) (in_cycle_on e es legal seat_from c.begun s.cycle);
-        ended = subst (λ (k : ℕ). EndedSo shapes l pacing may (e ∷ es) k s.end) (sym same) (ended_on e es legal seat_from c.begun s.end s.ended);
+        cycle = subst (IsInCycle shapes l pacing may (e ∷ es)) (sym same) (in_cycle_on e es legal seat_from c led by_it (subst NotAcks (sym is) tt) c.begun s.cycle);
+        ended = subst (λ (k : ℕ). EndedSo shapes l pacing may (e ∷ es) k s.end) (sym same) (ended_on e es legal seat_from (λ i. only.birth (words shapes l pacing may es) i) c.begun s.end s.ended);
         buffers = λ b. buffer e es legal c led by_it stopped s.heap s.of_list v words_are only b ∙ s.buffers b;
         stacks = λ g. old (s.heap.words (cell.Scanned g)) _ c.begun d.begun (scanned e es legal c led by_it stopped s.heap s.of_list v words_are only g) same (s.stacks g);
         processors = λ a lt. subst MarksNothing (sym (state_stays shapes l pacing may e es a (apart e es legal seat_from a lt))) (s.processors a lt);
@@ -171,7 +177,7 @@ module _ (shapes : List Shape) (l : Layout) (pacing : Pacing) (may : ℕ → Lis
         (here ∙ ap (λ (y : Words). y (cell_of e.ask)) same) ∙ ap (λ (q : Ask). s.spans.words (cell_of q)) (asks_so p x)
 
     loads_page : (page : ℕ) → w.stage ≡ all.LoadPage page → Still (over.goes_at w (all.LoadPage page) e.found)
-    loads_page page x = goes_on s.heap.words (sym (ap (effect s.heap.words) (asks_so (all.LoadPage page) x))) (subst IsOfSpans (sym (asks_so (all.LoadPage page) x)) (record { scanned = λ y i. refl; global = λ y i. refl; buffer = λ y i. refl })) s.spans s.beside _ (loaded z s.end (acks_of l) known w s.heap s.spans s.beside s.sweeps page x e.found (found_so (all.LoadPage page) x))
+    loads_page page x = goes_on s.heap.words (sym (ap (effect s.heap.words) (asks_so (all.LoadPage page) x))) (subst IsOfSpans (sym (asks_so (all.LoadPage page) x)) (record { scanned = λ y i. refl; birth = λ y i. refl; global = λ y i. refl; buffer = λ y i. refl })) s.spans s.beside _ (loaded z s.end (acks_of l) known w s.heap s.spans s.beside s.sweeps page x e.found (found_so (all.LoadPage page) x))
 
     module _ (page : ℕ) (m : sweep.Sweeping) (x : w.stage ≡ all.Sweep page m) where
       asks_m : e.ask ≡ sweep.asks m

@@ -12,8 +12,9 @@ use Rattle.gh_world.specs.ActorsHold.{HasRead, IsCounting}
 use Rattle.gh_world.specs.HoldVocabulary.{alloc_at, AllWereCounted, marked_objects, marks_at, TallyWord, tally_of, unmarked_objects}
 use Rattle.gh_world.proofs.Vocabulary.{acks_of, alloc_words, Arena, arena, Ask, cell_of, Coordinating, CoordStage, Count, CountStage, Done, effect, Entry, HoldsAt, IsJustSwept, IsLed, IsQuiet, IsTelling, Layout, Legal, Load, LoadAck, mark_words, Op, Pacing, Shape, Tell, TellStage, those, Words, words}
 use Rattle.gh_world.proofs.AllActors.Aside.{loads_only, phase_only, swept_only, TellsNothing, trigger_only}
+use Rattle.gh_world.proofs.AllActors.Going.{keeps_last, NotAcks}
 use Rattle.gh_world.proofs.AllActors.Known.{Known, ListsKnown}
-use Rattle.gh_world.proofs.AllActors.LeadingSeat.{asked_at, busy, from}
+use Rattle.gh_world.proofs.AllActors.LeadingSeat.{asked_at, busy, from, goes_at as goes_by, led_then}
 use Rattle.gh_world.proofs.AllActors.Quiet.{quiet_goes_on, swept_goes_on}
 use Rattle.gh_world.proofs.AllActors.Starts.{counted_on}
 
@@ -66,19 +67,29 @@ module _ (shapes : List Shape) (l : Layout) (pacing : Pacing) (may : ℕ → Lis
     asks_so : (p : CoordStage) → c.stage ≡ p → e.ask ≡ coord.asks_at c p
     asks_so p is = asked_at shapes l pacing may known lists e es legal c led by p is
 
+    -- it keeps whether the cycle is the last
+    keeps_so : NotAcks c.stage → (x : Coordinating) → IsLed shapes l pacing may (e ∷ es) x → x.is_last ≡ true → (y : Coordinating) × IsLed shapes l pacing may es y × (y.is_last ≡ true)
+    keeps_so other x led_x is =
+        let then : IsLed shapes l pacing may (e ∷ es) (coord.goes_at u c.stage e.found) = subst (IsLed shapes l pacing may (e ∷ es)) (goes_by shapes l pacing may known lists e es legal c led by c.stage refl) (led_then shapes l pacing may known lists e es legal c led by) in
+        let one : coord.goes_at u c.stage e.found ≡ x = (let both = sym then ∙ led_x in cc) in
+        (c, led, sym (keeps_last u c.stage e.found other) ∙ (ap (λ (d : Coordinating). d.is_last) one ∙ is))
+
     -- the cycle is just swept still
-    module _ (tells_none : TellsNothing e.ask) where
+    module _ (other : NotAcks c.stage) (tells_none : TellsNothing e.ask) where
       quiet_on : (d : Coordinating) → d.begun ≡ c.begun → IsQuiet shapes l pacing may es c → IsQuiet shapes l pacing may (e ∷ es) d
       quiet_on d same q = quiet_goes_on shapes l pacing may known e es legal ge tells_none c d same q
 
       telling_on : (d : Coordinating) → d.begun ≡ c.begun → Just es c → Just (e ∷ es) d
-      telling_on d same x = swept_goes_on shapes l pacing may known e es legal ge tells_none c d same x
+      telling_on d same x = swept_goes_on shapes l pacing may known e es legal ge tells_none c d same (keeps_so other) x
 
       counting_on : (d : Coordinating) (p : CountStage) → d.begun ≡ c.begun → Just es c → HasRead shapes l pacing may (words shapes l pacing may (e ∷ es) cell.Tally) p → IsCounting shapes l pacing may (e ∷ es) d p
       counting_on d p same x read = let k = telling_on d same x in (k.0, k.1, read)
 
     -- What is counted is read.
     module _ (x : count.Counting) (is : c.stage ≡ Count x) (k : IsCounting shapes l pacing may es c x.stage) where
+      counts_no_acks : NotAcks c.stage
+      counts_no_acks = subst NotAcks (sym is) tt
+
       none_counted : TellsNothing e.ask
       none_counted = subst TellsNothing (sym (asks_so (Count x) is)) (counts_tell x.stage)
 
@@ -94,8 +105,8 @@ module _ (shapes : List Shape) (l : Layout) (pacing : Pacing) (may : ℕ → Lis
       count_busy = subst (λ (p : CoordStage). coord.is_busy p ≡ true) is (busy shapes l pacing may known lists e es legal c led by)
 
       count_goes : (p : CountStage) → x.stage ≡ p → count.is_busy p ≡ true → To (coord.after_count (coord.at_stage u (Count (count.goes_at x p e.found))) (count.given (count.goes_at x p e.found)))
-      count_goes counting.LoadTally y b = counting_on none_counted _ (counting.LoadLive (tally_of e.found)) refl just (ap tally_of (found_tally y))
-      count_goes (counting.LoadLive t) y b = telling_on none_counted _ refl just
+      count_goes counting.LoadTally y b = counting_on counts_no_acks none_counted _ (counting.LoadLive (tally_of e.found)) refl just (ap tally_of (found_tally y))
+      count_goes (counting.LoadLive t) y b = telling_on counts_no_acks none_counted _ refl just
       count_goes (counting.Ended t) y b = absurd cc
 
       pub counts : To (coord.goes_at u (Count x) e.found)
@@ -160,22 +171,25 @@ module _ (shapes : List Shape) (l : Layout) (pacing : Pacing) (may : ℕ → Lis
 
     -- It is told.
     module _ (t : tell.Telling) (is : c.stage ≡ Tell t) (k : Just es c) where
+      tells_no_acks : NotAcks c.stage
+      tells_no_acks = subst NotAcks (sym is) tt
+
       none_told : TellsNothing e.ask
       none_told = subst TellsNothing (sym (asks_so (Tell t) is)) (tells_tell t t.stage)
 
       pub told_to : (d : Coordinating) → d.begun ≡ c.begun → Just (e ∷ es) d
-      told_to d same = telling_on none_told d same k
+      told_to d same = telling_on tells_no_acks none_told d same k
 
       pub told_then : Just (e ∷ es) c
       told_then = told_to c refl
 
       ended_goes : (b : Bool) → To (coord.at_stage (coord.at_stage u (Tell (record t { stage = telling.Ended }))) (cond b Done (LoadAck 0)))
-      ended_goes true = quiet_on none_told _ refl k.0
-      ended_goes false = quiet_on none_told _ refl k.0
+      ended_goes true = quiet_on tells_no_acks none_told _ refl k.0
+      ended_goes false = quiet_on tells_no_acks none_told _ refl k.0
 
       tell_goes : (p : TellStage) → To (coord.after_tell (coord.at_stage u (Tell (record t { stage = tell.behind p }))) (tell.given_at (tell.behind p)))
-      tell_goes telling.StoreTrigger = telling_on none_told _ refl k
-      tell_goes telling.StoreSwept = telling_on none_told _ refl k
+      tell_goes telling.StoreTrigger = telling_on tells_no_acks none_told _ refl k
+      tell_goes telling.StoreSwept = telling_on tells_no_acks none_told _ refl k
       tell_goes telling.StorePhase = ended_goes u.is_last
       tell_goes telling.Ended = ended_goes u.is_last
 

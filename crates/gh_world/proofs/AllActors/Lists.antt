@@ -1,4 +1,4 @@
--- After every legal list of all actors in which processors keep to polls while a cycle is marked all stands: by the law of the end of marking, whose premises hold of processors of the heap.
+-- After every legal list of all actors all stands: by the law of the end of marking, whose premises hold of processors of the heap.
 use Rattle.std.proofs.Common.{ℕ, sym, subst, List, [], ◌∷◌, inl, inr}
 use Rattle.gh_base.specs.declared.machine.Entry.{Entry as EntryOf}
 use Rattle.gh_coord.specs.Handshake as leading
@@ -33,15 +33,15 @@ module _ (shapes : List Shape) (l : Layout) (pacing : Pacing) (counts : ℕ → 
 
   -- while a cycle is marked
   marked : (es : List (Entry Op)) (c : Coordinating) → Lawful es → Meant es → Led es c → leading.Marks c.stage → Marked shapes l pacing (may_of shapes l counts) es c
-  marked es c legal meant led on = marks (λ e es meant. meant.0) (steps.polls shapes l pacing counts good limits known wanted lists) (top.knows_heap shapes l pacing counts good limits known wanted lists) es c legal meant led on
+  marked es c legal meant led on = marks (λ e es meant. tt) (steps.polls shapes l pacing counts good limits known wanted lists) (top.knows_heap shapes l pacing counts good limits known wanted lists) es c legal meant led on
 
   -- and at each start where one was marked
   was_marked : (es : List (Entry Op)) → Lawful es → Meant es → steps.Was shapes l pacing counts good limits known wanted lists es
-  was_marked es legal meant start c of led on = marked start c (starts_keep Lawful (λ e es x. x.0) start es of legal) (starts_keep Meant (λ e es x. x.0) start es of meant) led on
+  was_marked es legal meant start c of led on = marked start c (starts_keep Lawful (λ e es x. x.0) start es of legal) tt led on
 
-  pub list_stands : (es : List (Entry Op)) → Lawful es → Meant es → AllStands shapes l pacing (may_of shapes l counts) es
-  list_stands es legal meant =
+  pub list_stands : (es : List (Entry Op)) → Lawful es → AllStands shapes l pacing (may_of shapes l counts) es
+  list_stands es legal =
       let x = led_then shapes l pacing (may_of shapes l counts) es in
-      let held = top.holds shapes l pacing counts good limits known wanted lists es legal meant (was_marked es legal meant) x.lead x.led_by in
-      let marking : leading.Marks x.lead.stage → Marked shapes l pacing (may_of shapes l counts) es x.lead = λ on. marked es x.lead legal meant x.led_by on in
+      let held = top.holds shapes l pacing counts good limits known wanted lists es legal tt (was_marked es legal tt) x.lead x.led_by in
+      let marking : leading.Marks x.lead.stage → Marked shapes l pacing (may_of shapes l counts) es x.lead = λ on. marked es x.lead legal tt x.led_by on in
       all_stands shapes l pacing (may_of shapes l counts) es x.lead limits wanted.read known x.led_by held marking (λ a o step. steps_within shapes l pacing counts good known wanted.read lists es a o step legal x.lead x.led_by marking held.at)

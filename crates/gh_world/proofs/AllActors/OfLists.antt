@@ -7,7 +7,7 @@ use Rattle.gh_world.specs.Actors.{may_of}
 use Rattle.gh_world.specs.ActorsMark.{Sound}
 use Rattle.gh_world.specs.Handshake.{AreParties, EveryListKeepsIt, EveryStepKeepsIt}
 use Rattle.gh_world.specs.HoldVocabulary.{Entry, Layout, Legal, Op, Pacing, processor_kind, Shape, state_of}
-use Rattle.gh_world.specs.KeepsToPolls.{those}
+use Rattle.gh_world.specs.Those.{those}
 use Rattle.gh_world.specs.Numbers.{EveryListCountsCycles, IsFew, WritesNoNumbers}
 use Rattle.gh_world.specs.Processors.{arena_of}
 use Rattle.gh_world.specs.Waits.{EveryListNumbersStacks, EveryListRestsWorkers}

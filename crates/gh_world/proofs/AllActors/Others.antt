@@ -82,10 +82,15 @@ module _ (shapes : List Shape) (l : Layout) (pacing : Pacing) (may : ℕ → Lis
       marked_then ended (inr of) ends n made = x.marked ended of ends n made
       marked_then ended (inl of) ends n made = absurd (no_step among IsEnding c.begun (subst (λ (y : List (Entry Op)). EndsCycle shapes l pacing may c.begun y) of ends))
 
+      unchanged_then : (ended : List (Entry Op)) → IsStartOf ended (e ∷ es) → EndsCycle shapes l pacing may c.begun ended → ever shapes l pacing may (e ∷ es) ≡ ever shapes l pacing may ended
+      unchanged_then ended (inr of) ends = ever_is ∙ x.unchanged ended of ends
+      unchanged_then ended (inl of) ends = absurd (no_step among IsEnding c.begun (subst (λ (y : List (Entry Op)). EndsCycle shapes l pacing may c.begun y) of ends))
+
       pub left_lasts : LeavesTheReached shapes l pacing may (e ∷ es) c
       left_lasts = record {
         over = λ g below. ap (λ (y : Ever). y.ended g) ever_is ∙ x.over g below;
         left = λ n. subst (λ (y : Ever). IsMade y.made n → ((a : ℕ) × IsPlacedAt (told (e ∷ es)) n a) ↔ Reach y n) (sym ever_is) (placed_then n);
+        unchanged = unchanged_then;
         marked = λ ended of ends n. subst (λ (y : Ever). IsMade y.made n → IsMarkedObject shapes l pacing may (told ended) n ↔ Reach y n) (sym ever_is) (marked_then ended of ends n);
         live = x.live ∙ same_placed (alloc_words (told es)) (alloc_words (told (e ∷ es))) (page_words (told es)) (page_words (told (e ∷ es))) (λ i. sym (tells.aside.alloc (told es) i)) (λ i. sym (tells.aside.page (told es) i)) (16 * l.pages);
       }

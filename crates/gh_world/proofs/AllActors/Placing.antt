@@ -69,6 +69,7 @@ no_new_global : (x : Global) (s : GlobalStage) → IsNoNew (global.op_in x s)
 no_new_global x global_stage.Load = tt
 no_new_global x (global_stage.Birth at) = tt
 no_new_global x global_stage.Store = tt
+no_new_global x (global_stage.Writing w) = tt
 no_new_global x global_stage.Number = tt
 
 no_new_register : (x : Register) (s : Source) → IsNoNew (register.op_from x s)
@@ -161,7 +162,7 @@ module _ (shapes : List Shape) (m : Processor) (found : ℕ) where
   kind task.Idle busy = absurd (cc)
   kind task.Left busy = absurd (cc)
   kind (task.Load x) busy = inr (inr (record { same = followed task.Load (λ s. refl) (load.step m.poll.layout x found).then; silent = λ y. y; nothing = acting_made shapes (load.step m.poll.layout x found).acts (load.op_of x) tt }))
-  kind (task.Store x) busy = inr (inr (record { same = followed task.Store (λ s. refl) (store.step m.poll.layout (register_of m x.g x.v) x found).then; silent = λ y. y; nothing = acting_made shapes (store.step m.poll.layout (register_of m x.g x.v) x found).acts (store.op_of x) tt }))
+  kind (task.Store x) busy = inr (inr (record { same = followed task.Store (λ s. refl) (store.step m.poll.layout m.poll.local (register_of m x.g x.v) x found).then; silent = λ y. y; nothing = acting_made shapes (store.step m.poll.layout m.poll.local (register_of m x.g x.v) x found).acts (store.op_of x) tt }))
   kind (task.Global x) busy = inr (inr (record { same = followed task.Global (λ s. refl) (global.step m.poll.layout (register_of m x.g x.r) x found).then; silent = λ y. y; nothing = acting_made shapes (global.step m.poll.layout (register_of m x.g x.r) x found).acts (global.op_of x) (no_new_global x x.stage) }))
   kind (task.Register x) busy = inr (inr (record { same = refl; silent = λ y. y; nothing = acting_made shapes true (register.op_of x) (no_new_register x x.source) }))
   kind (task.New x) busy = new_kind x.wanted x.stage where

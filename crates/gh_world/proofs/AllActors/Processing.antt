@@ -8,15 +8,16 @@ use Rattle.gh_coord.specs.Opening as opens_by
 use Rattle.gh_coord.specs.Telling as tells_by
 use Rattle.gh_world.specs.declared.handshake.Actor.TheVariants as actor
 use Rattle.gh_world.specs.Handshake as handshake
-use Rattle.gh_world.proofs.Vocabulary.{acks_of, Actor, actors, Ask, asks, Awake, Begins, Check, Close, Coordinating, CoordStage, Count, Done, Entry, Gone, Holds, HoldsAt, is_busy, is_busy_at, IsLed, IsQuiet, IsTelling, KeepsIt, KeepsToPolls, Kind, last_of, last_phase, Layout, Lead, Leads, LeavesTheReached, Legal, LoadAck, LoadWant, MarkOn, Op, Open, OpenStage, Pacing, PackedWordsAreReadBack, Party, party_of, place_of, Processor, processor_at, processor_kind, RunPhase, Shape, ShapesAreGood, Sound, SoundPlace, Stage, stage_of, StageGoes, started, state_of, Stop, StopAgain, Stopped, Sweep, takes, Tell, TellStage, those, Watch, Words, words}
+use Rattle.gh_world.proofs.Vocabulary.{acks_of, Actor, actors, arena, Ask, asks, Awake, Begins, Check, Close, Coordinating, CoordStage, Count, Done, Entry, Gone, Holds, HoldsAt, is_busy, is_busy_at, IsLed, IsMeant, IsQuiet, IsTelling, KeepsIt, Kind, Knows, last_of, last_phase, Layout, Lead, Leads, LeavesTheReached, Legal, LoadAck, LoadWant, MarkFacts, MarkOn, Op, Open, OpenStage, Pacing, PackedWordsAreReadBack, Party, party_of, place_of, Processor, processor_at, processor_kind, RunPhase, Shape, ShapesAreGood, Sound, SoundPlace, Stage, stage_of, StageGoes, started, state_of, Stop, StopAgain, Stopped, Sweep, takes, Tell, TellStage, those, WasMarked, Watch, Words, words}
+use Rattle.gh_world.proofs.AllActors.Gone.{gone_rests}
 use Rattle.gh_world.proofs.AllActors.Known.{Known, ListsKnown}
 use Rattle.gh_world.proofs.AllActors.Others.{was_by_others}
 use Rattle.gh_world.proofs.AllActors.Quieting.{IsCalmStage}
 use Rattle.gh_world.proofs.AllActors.Resting.{runs_are}
-use Rattle.gh_world.proofs.AllActors.Starts.{counted_on}
+use Rattle.gh_world.proofs.AllActors.Starts.{counted_on, whole}
 use Rattle.gh_world.proofs.AllActors.Still.{IsStill, is_still}
 use Rattle.gh_world.proofs.AllActors.StillHolds.{holds_still}
-use Rattle.gh_world.proofs.AllActors.Was.{heap_refuses, meant_refuses, RefusesRightly, still_refuses}
+use Rattle.gh_world.proofs.AllActors.Was.{heap_refuses, RefusesRightly, still_refuses}
 use Rattle.gh_world.proofs.CycleMarking.Seats.{run_started}
 
 -- while a cycle is opened, and told, the world is stopped
@@ -25,7 +26,7 @@ open_stopped opening.Ended busy = absurd (cc)
 open_stopped _ busy = refl
 
 module _ (shapes : List Shape) (l : Layout) (pacing : Pacing) (may : ℕ → List (Entry Op) → Op → Bool) (good : ShapesAreGood shapes) (back : PackedWordsAreReadBack) (known : Known) (lists : ListsKnown shapes l pacing may)
-    (e : Entry Op) (es : List (Entry Op)) (legal : Legal (those shapes l pacing may) (e ∷ es)) (meant : KeepsToPolls shapes l pacing may (e ∷ es)) (c : Coordinating) (led : IsLed shapes l pacing may es c) (among : e.actor < acks_of l) where
+    (e : Entry Op) (es : List (Entry Op)) (legal : Legal (those shapes l pacing may) (e ∷ es)) (was : WasMarked (arena shapes l pacing may) (processor_kind shapes l) pacing may stage_of MarkFacts (Knows (arena shapes l pacing may) pacing may) (IsMeant (arena shapes l pacing may) pacing may) es) (c : Coordinating) (led : IsLed shapes l pacing may es c) (among : e.actor < acks_of l) where
   abbrev H : List (Entry Op) → Type 0
   H xs = Holds shapes l pacing may xs c
 
@@ -55,44 +56,8 @@ module _ (shapes : List Shape) (l : Layout) (pacing : Pacing) (may : ℕ → Lis
       let same : keeps.shakes.lead ≡ leading.lead_of c = cc in
       keeps.shakes.led.last_is ∙ (ap (λ (x : Lead). last_of x.post) same ∙ ap (λ (p : CoordStage). last_of (leading.post_at p)) done)
 
-  module _ (lt : e.actor < l.procs) where
-    abbrev m : Processor
-    m = processor_at shapes l pacing may es e.actor
-
-    abbrev now : Processor
-    now = started (processor_kind shapes l) e.begun m
-
-    at_is : state_of all e.actor es ≡ actor.Runs m
-    at_is = runs_are shapes l pacing may es e.actor lt
-
-    sound : SoundPlace m
-    sound = (subst (handshake.Sound Sound l) at_is (keeps.shakes.all_sound e.actor (omega (arith, among)))).0.place
-
-    runs : is_busy_at now.task ≡ true
-    runs = sym (ap (is_busy (processor_kind shapes l)) (ap (started all e.begun) at_is ∙ run_started l (processor_kind shapes l) pacing e.begun m)) ∙ legal.1.runs
-
-    gone_goes : (party : Party) (stage : Stage) (to : Processor) → stage ≡ Gone → (x : Ask) → StageGoes e.found party stage x (party_of to) (stage_of to) → ⊥
-    gone_goes party stage to is x goes = subst (λ (s : Stage). StageGoes e.found party s x (party_of to) (stage_of to)) is goes
-
-    gone_begins : (o : Option Op) → e.begun ≡ o → stage_of m ≡ Gone → (stage_of now ≡ Gone) × SoundPlace now
-    gone_begins None is gone = (ap (λ (x : Option Op). stage_of (started (processor_kind shapes l) x m)) is ∙ gone, subst (λ (x : Option Op). SoundPlace (started (processor_kind shapes l) x m)) (sym is) sound)
-    gone_begins (Some o) is gone =
-        let b = subst (λ (x : Option Op). Begins (those shapes l pacing may) e.actor es x) is legal.1.begins in
-        let idle : is_busy_at m.task ≡ false = sym (ap (is_busy (processor_kind shapes l)) at_is) ∙ b.0 in
-        let begins = known.places.begins_so shapes l m o sound idle in
-        let stage : stage_of ((processor_kind shapes l).begins m o) ≡ Gone = elim begins [
-          | inl same ↦ (let parts : stage_of ((processor_kind shapes l).begins m o) ≡ stage_of m = cc in parts ∙ gone)
-          | inr x ↦ absurd (let awake : stage_of m ≡ Awake = cc in let no : Awake ≡ Gone = sym awake ∙ gone in cc)
-        ] in
-        (ap (λ (x : Option Op). stage_of (started (processor_kind shapes l) x m)) is ∙ stage, subst (λ (x : Option Op). SoundPlace (started (processor_kind shapes l) x m)) (sym is) (known.places.sound_begins shapes l m o sound idle))
-
-    stage_gone : c.stage ≡ Done → stage_of m ≡ Gone
-    stage_gone done = (keeps.shakes.gone e.actor (party_of m) (stage_of m) among (ap (place_of party_of stage_of) at_is)).0 (keeps.processors_left e.actor lt (phase_is done))
-
-    not_done : c.stage ≡ Done → ⊥
-    not_done done =
-        let then = gone_begins e.begun refl (stage_gone done) in
-        gone_goes (party_of now) (stage_of now) (takes shapes now e.found) then.0 (asks now) (known.places.takes_so shapes now e.found then.1 runs)
+  not_done : e.actor < l.procs → c.stage ≡ Done → ⊥
+  not_done lt done = gone_rests shapes l pacing may known lists e es legal lt (keeps.processors_left e.actor lt (phase_is done))
 
   -- Where the world is stopped nothing changes.
   module _ (phase : RunPhase) (post : leading.post_at c.stage ≡ Stopped phase) where
@@ -117,7 +82,7 @@ module _ (shapes : List Shape) (l : Layout) (pacing : Pacing) (may : ℕ → Lis
     quiet_now calm q = (quiet calm q, heap_refuses shapes l pacing may e es legal lt known good q.heap q.of_list q.calm.heap)
 
     marks_now : leading.Marks c.stage → RefusesRightly shapes l pacing may e es
-    marks_now on = meant_refuses shapes l pacing may e es legal lt c meant led on
+    marks_now on = let k = (was es c (whole es) led on).marking.known in heap_refuses shapes l pacing may e es legal lt known good k.heap k.of_list k.good
 
     calm_at : (p : CoordStage) → c.stage ≡ p → IsCalmStage p → IsCalmStage c.stage
     calm_at p is calm = subst IsCalmStage (sym is) calm

@@ -4,13 +4,13 @@ use Rattle.std.proofs.lemmas.Bool.Decides.{nat_tests}
 use Rattle.gh_base.specs.declared.cell.Cell.TheVariants as cell
 use Rattle.gh_base.specs.declared.pack.TheConstants.{END}
 use Rattle.gh_base.specs.Steps.{effect}
-use Rattle.gh_cycle.specs.Allocating.{GoesOn}
-use Rattle.gh_cycle.specs.Ending.{SpansStay}
+use Rattle.gh_cycle.specs.Allocating.{GoesOn, SweepStays}
 use Rattle.gh_heap.specs.Moves.{Quiet}
-use Rattle.gh_world.specs.ActorsHold.{EndedSo, IsInCycle, IsJustSwept, IsQuiet, IsReady, processor_at, uncounted}
-use Rattle.gh_world.specs.HoldVocabulary.{alloc_words, arena, Arena, BeginsCycle, birth_words, Coordinating, CountsAreExact, CycleEnd, EndsCycle, Entry, Heap, Layout, Legal, MarksNothing, Name, Op, Pacing, page_words, Placed, Processor, Shape, tally_of, Words}
-use Rattle.gh_world.specs.KeepsToPolls.{those}
+use Rattle.gh_world.specs.ActorsHold.{bare, EndedSo, IsInCycle, IsJustSwept, IsQuiet, IsReady, processor_at, uncounted, unmarked}
+use Rattle.gh_world.specs.HoldVocabulary.{alloc_words, arena, Arena, BeginsCycle, birth_words, Coordinating, CountsAreExact, CycleEnd, EndsCycle, Entry, Heap, IsLed, Layout, Legal, MarksNothing, Name, Op, Pacing, page_words, Placed, Processor, Shape, tally_of, Words, words}
+use Rattle.gh_world.specs.Those.{those}
 use Rattle.gh_world.proofs.AllActors.Aside.{beside_of, good_goes_on, heap_goes_on, IsAside, TellsNothing, then}
+use Rattle.gh_world.proofs.AllActors.Bare.{bare_stays}
 use Rattle.gh_world.proofs.AllActors.Known.{Known}
 use Rattle.gh_world.proofs.AllActors.Others.{same_bit, same_placed}
 use Rattle.gh_world.proofs.AllActors.Resting.{ever_stays, state_stays}
@@ -68,11 +68,20 @@ module _ (shapes : List Shape) (l : Layout) (pacing : Pacing) (may : ℕ → Lis
     abbrev next : IsQuiet shapes l pacing may es c → Heap
     next q = then shapes l pacing may known e es legal ge (beside_of e.ask tells.aside) q.heap q.of_list q.calm.heap
 
-    in_cycle : IsInCycle shapes l pacing may es c.begun → IsInCycle shapes l pacing may (e ∷ es) d.begun
-    in_cycle i = record { begun = i.begun; start = inr i.start; begins = subst (λ (k : ℕ). BeginsCycle shapes l pacing may k i.begun) (sym same) i.begins; ever_is = ever_stays shapes l pacing may known.points e es legal ge ∙ i.ever_is }
+    -- the coordinator, where it is its step, keeps whether the cycle is the last
+    abbrev KeepsLast : Type 0
+    KeepsLast = (x : Coordinating) → IsLed shapes l pacing may (e ∷ es) x → x.is_last ≡ true → (y : Coordinating) × IsLed shapes l pacing may es y × (y.is_last ≡ true)
+
+    in_cycle : KeepsLast → IsInCycle shapes l pacing may es c.begun → IsInCycle shapes l pacing may (e ∷ es) d.begun
+    in_cycle lasts i = record {
+      begun = i.begun;
+      start = inr i.start;
+      begins = subst (λ (k : ℕ). BeginsCycle shapes l pacing may k i.begun) (sym same) i.begins;
+      last = λ x led_x is. let y = lasts x led_x is in ever_stays shapes l pacing may known.points e es legal ge ∙ i.last y.0 y.1 y.2;
+    }
 
     ended : (x : CycleEnd) → EndedSo shapes l pacing may es c.begun x → EndedSo shapes l pacing may (e ∷ es) d.begun x
-    ended x i = record { ended = i.ended; start = inr i.start; ends = subst (λ (k : ℕ). EndsCycle shapes l pacing may k i.ended) (sym same) i.ends; alloc = i.alloc; marks = i.marks; ever_is = ever_stays shapes l pacing may known.points e es legal ge ∙ i.ever_is }
+    ended x i = record { ended = i.ended; start = inr i.start; ends = subst (λ (k : ℕ). EndsCycle shapes l pacing may k i.ended) (sym same) i.ends; alloc = i.alloc; marks = i.marks; births = λ j. tells.aside.birth (words shapes l pacing may es) j ∙ i.births j; ever_is = ever_stays shapes l pacing may known.points e es legal ge ∙ i.ever_is }
 
     -- the same objects stand
     placed_is : (h : Heap) (n : Name) → Placed (alloc_words h.words) (birth_words h.words) h.place n ↔ Placed (alloc_words (effect h.words e.ask)) (birth_words (effect h.words e.ask)) h.place n
@@ -88,30 +97,37 @@ module _ (shapes : List Shape) (l : Layout) (pacing : Pacing) (may : ℕ → Lis
       live = tells.live w ∙ (t.live ∙ same_placed (alloc_words w) (alloc_words (effect w e.ask)) (page_words w) (page_words (effect w e.ask)) (λ i. sym (tells.aside.alloc w i)) (λ i. sym (tells.aside.page w i)) (16 * x.layout.pages));
     }
 
-    pub swept_goes_on : IsSwept es c → IsSwept (e ∷ es) d
+    pub swept_goes_on : KeepsLast → IsSwept es c → IsSwept (e ∷ es) d
     unfolding quiet_goes_on
-    swept_goes_on h = (
+    swept_goes_on lasts h = (
       quiet_goes_on tells c d same h.0,
       record {
-        cycle = in_cycle h.1.cycle;
+        cycle = in_cycle lasts h.1.cycle;
         ended = ended h.0.end h.1.ended;
-        left = λ n made. ((λ p. (h.1.left n made).0 ((placed_is h.0.heap n).1 p)), (λ r. (placed_is h.0.heap n).0 ((h.1.left n made).1 r)));
+        left = λ n made p. h.1.left n made ((placed_is h.0.heap n).1 p);
         told = exact h.0.end h.0.heap.words h.1.told;
       },
     )
 
   -- while a cycle is opened
   module _ (aside : IsAside e.ask) (c d : Coordinating) (same : d.begun ≡ c.begun) (r : IsReady shapes l pacing may es c) where
-    spans_stay : SpansStay r.heap.words (then shapes l pacing may known e es legal ge (beside_of e.ask aside) r.heap r.of_list r.good).words
-    spans_stay = record { pages = λ p. aside.page r.heap.words p; alloc = λ i. aside.alloc r.heap.words i; heap = aside.heap r.heap.words }
+    abbrev opened : Heap
+    opened = then shapes l pacing may known e es legal ge (beside_of e.ask aside) r.heap r.of_list r.good
+
+    counts_stay : SweepStays (unmarked r.tally r.live r.heap.words) (unmarked r.tally r.live opened.words)
+    counts_stay = record { generation = aside.generation r.heap.words; heap = aside.heap r.heap.words; tally = refl; live = refl; pages = λ p. aside.page r.heap.words p; alloc = λ i. aside.alloc r.heap.words i; marks = λ i. refl }
 
     pub ready_goes_on : IsReady shapes l pacing may (e ∷ es) d
     ready_goes_on = record {
-      heap = then shapes l pacing may known e es legal ge (beside_of e.ask aside) r.heap r.of_list r.good;
+      heap = opened;
       of_list = heap_goes_on shapes l pacing may known e es legal ge (beside_of e.ask aside) r.heap r.of_list r.good;
       good = good_goes_on shapes l pacing may known e es legal ge (beside_of e.ask aside) r.heap r.of_list r.good;
-      packed = known.spans_last.packed r.heap.words _ spans_stay r.packed;
-      counted = known.spans_last.counted l r.heap.words _ spans_stay r.counted;
+      end = r.end;
+      spans = record (r.spans) { words = unmarked r.tally r.live opened.words };
+      tally = r.tally;
+      live = r.live;
+      calm = bare_stays known z r.end r.tally r.live r.heap r.spans opened r.calm counts_stay (good_goes_on shapes l pacing may known e es legal ge (beside_of e.ask aside) r.heap r.of_list r.good) (good_goes_on shapes l pacing may known e es legal ge (beside_of e.ask aside) r.heap r.of_list r.good);
+      owes_none = r.owes_none;
       marks = λ i. aside.mark r.heap.words i ∙ r.marks i;
       buffers = λ b. aside.buffer r.heap.words b ∙ r.buffers b;
       stacks = λ g. older (r.heap.words (cell.Scanned g)) _ c.begun d.begun (aside.scanned r.heap.words g) same (r.stacks g);

@@ -7,8 +7,11 @@ use Rattle.gh_phase.specs.declared.view.RunPhase.TheVariants as run
 use Rattle.gh_phase.specs.Handshake.{is_stop, run_word}
 use Rattle.gh_mutator.specs.declared.task.Task.TheVariants as task
 use Rattle.gh_mutator.specs.Calm.{FindsNoMarking}
-use Rattle.gh_world.proofs.Vocabulary.{Answer, Arena, arena, Ask, asks, begins, cell_of, Coordinating, CoordStage, DoesPoints, Done, END, Entry, Fine, has_left_at, Heap, is_busy_at, IsInLimits, IsLed, IsQuiet, IsSound, KeepsIt, last_of, last_phase, Layout, Lead, Leads, Legal, LoadAck, LoadWant, MarksNothing, may_of, nat_tests, Op, Pacing, party_of, place_of, Processor, processor_at, processor_kind, Shape, ShapesAreGood, Sound, stage_of, started, Steps, Stop, stop_word, StopStage, those, uncounted, view, Words}
+use Rattle.gh_world.proofs.Vocabulary.{Answer, Arena, arena, Ask, asks, begins, Cell, cell_of, Coordinating, CoordStage, DoesPoints, Done, END, Entry, Fine, has_left_at, Heap, is_busy_at, IsInLimits, IsLed, IsQuiet, IsSound, IsWritten, KeepsIt, last_of, last_phase, Layout, Lead, Leads, Legal, LoadAck, LoadWant, MarksNothing, may_of, nat_tests, Op, Pacing, party_of, place_of, Processor, processor_at, processor_kind, Shape, ShapesAreGood, Sound, Spans, stage_of, started, Steps, Stop, stop_word, StopStage, those, uncounted, view, Words}
 use Rattle.gh_world.proofs.AllActors.Endings.{is_end}
+use Rattle.gh_world.specs.ActorsHold.{bare, unmarked}
+use Rattle.gh_world.specs.HoldVocabulary.{IsCalm}
+use Rattle.gh_world.proofs.AllActors.Bare.{baring, clothing}
 use Rattle.gh_world.proofs.AllActors.Counting as counting
 use Rattle.gh_world.proofs.AllActors.Known.{Known, ListsKnown}
 use Rattle.gh_world.proofs.AllActors.OwnSide as own_side
@@ -41,7 +44,7 @@ not_marking Done calm is = absurd (cc)
 not_marking _ calm is = calm
 
 -- what begins has placed nothing
-begun_places : (shapes : List Shape) (m : Processor) (o : Op) (b : Bool) → is_busy_at m.task ≡ false → uncounted (cond b m (begins shapes m o)).task ≡ 0
+pub begun_places : (shapes : List Shape) (m : Processor) (o : Op) (b : Bool) → is_busy_at m.task ≡ false → uncounted (cond b m (begins shapes m o)).task ≡ 0
 begun_places shapes m o true idle = idle_plain m.task idle
 begun_places shapes m o false idle = begins_plain shapes m o
 
@@ -120,8 +123,37 @@ module _ (shapes : List Shape) (l : Layout) (pacing : Pacing) (counts : ℕ → 
   fine_now : Fine z a (view h) now pending
   fine_now = own_side.fine_now shapes l pacing counts good limits known e es legal lt q.heap q.of_list q.calm.heap tells
 
-  goes : counting.Counted known wanted.whole z q.end a h q.spans q.calm legal.1.actor now found pending busy_now sound_now calm_now fine_now pend_is land.move land.may land.words_are land.after.does
-  goes = counting.counted known wanted.whole z q.end a h q.spans q.calm legal.1.actor now found pending busy_now sound_now calm_now fine_now pend_is land.move land.may land.words_are land.after.does
+  -- no mark is set
+  none_marked : (i : ℕ) → h.words (cell.Mark i) ≡ 0
+  none_marked = (known.found.finds z q.end q.heap q.spans q.calm).marks
+
+  abbrev tally : ℕ
+  tally = h.words cell.Tally
+
+  abbrev live : ℕ
+  live = h.words cell.Live
+
+  abbrev spans : Spans
+  spans = record (q.spans) { words = unmarked tally live h.words }
+
+  bare_calm : IsCalm z q.end (bare tally live h) (record (q.spans) { words = unmarked tally live q.heap.words })
+  bare_calm = baring known z q.end q.heap q.spans q.calm none_marked
+
+  goes : counting.Counted known wanted.whole z q.end a h spans tally live bare_calm legal.1.actor now found pending busy_now sound_now fine_now pend_is land.move land.may land.words_are land.after.does
+  goes = counting.counted known wanted.whole z q.end a h spans tally live bare_calm legal.1.actor now found pending busy_now sound_now fine_now pend_is land.move land.may land.words_are land.after.does
+
+  none_marked_then : (i : ℕ) → t.words (cell.Mark i) ≡ 0
+  none_marked_then i = ap (λ (w : Words). w (cell.Mark i)) land.words_are ∙ (known.calm.leaves now h.words (cell.Mark i) calm_now (λ w. w) ∙ none_marked i)
+
+  -- no processor writes the counts of the sweep
+  left_so : (x : Cell) → (IsWritten now x → ⊥) → t.words x ≡ h.words x
+  left_so x none = ap (λ (w : Words). w x) land.words_are ∙ known.writes.leaves now h.words x sound_now none
+
+  abbrev spans_then : Spans
+  spans_then = record (goes.then) { words = t.words }
+
+  calm_so : IsCalm z q.end t spans_then
+  calm_so = clothing known z q.end tally live t goes.then goes.so (left_so cell.Tally (λ w. w)) (left_so cell.Live (λ w. w)) none_marked_then
 
   own_pend : goes.then.pend a ≡ uncounted (processor_at shapes l pacing may (e ∷ es) a).task
   own_pend = goes.own ∙ ap (λ (p : Processor). uncounted p.task) (sym (own_side.then_is shapes l pacing counts good limits known e es legal lt q.heap q.of_list q.calm.heap tells))
@@ -176,8 +208,8 @@ module _ (shapes : List Shape) (l : Layout) (pacing : Pacing) (counts : ℕ → 
     heap = t;
     of_list = own_side.heap_then shapes l pacing counts good limits known e es legal lt q.heap q.of_list q.calm.heap tells;
     end = q.end;
-    spans = goes.then;
-    calm = goes.so;
+    spans = spans_then;
+    calm = calm_so;
     placing = placing;
     others_place = λ b le. goes.others b (λ x. omega (arith, x, le, lt)) ∙ q.others_place b le;
     buffers = buffers;

@@ -7,6 +7,7 @@ use Rattle.gh_base.specs.Orders.{with_point}
 use Rattle.gh_cycle.specs.Reached.{IsInRange}
 use Rattle.gh_model.specs.Ever.{answer_of}
 use Rattle.gh_world.specs.declared.handshake.Actor.TheVariants as actor
+use Rattle.gh_mutator.specs.Sound.{has_room}
 use Rattle.gh_world.specs.Order.{goroutine_of, is_over}
 use Rattle.gh_world.specs.Processors.{has_more, is_of, may_begin, may_run}
 use Rattle.gh_world.proofs.Vocabulary.{Act, acted, Actor, actors, acts, answer_at, Arena, arena, Begins, by, deeds, DeedsFit, Entry, Ever, has_left, has_names, has_point, in_range, is_busy, is_busy_at, IsBounded, Kind, Layout, Legal, ltb-true, may_leave, may_of, nat_tests, Op, Pacing, point_of, Processor, processor_at, processor_kind, REGISTERS, Shape, started, state_of, takes, those}
@@ -20,15 +21,17 @@ pub record MayParts (z : Arena) (counts : ℕ → ℕ) (a : ℕ) (m : Processor)
   pub runs : may_run z a m es o ≡ true
   pub leaves : may_leave z a es o ≡ true
   pub range : in_range z.layout.goroutines z.layout.globals (length z.shapes) o ≡ true
+  pub room : has_room m o ≡ true
 
 pub may_parts : (z : Arena) (counts : ℕ → ℕ) (a : ℕ) (m : Processor) (es : List (Entry Op)) (o : Op) → may_begin z counts a m es o ≡ true → MayParts z counts a m es o
 may_parts z counts a m es o may =
-    let x = both (may_run z a m es o && not (has_left es) && has_more counts es o) (may_leave z a es o) may in
+    let v = both (may_run z a m es o && not (has_left es) && has_more counts es o && may_leave z a es o) (has_room m o) may in
+    let x = both (may_run z a m es o && not (has_left es) && has_more counts es o) (may_leave z a es o) v.0 in
     let y = both (may_run z a m es o && not (has_left es)) (has_more counts es o) x.0 in
     let w = both (may_run z a m es o) (not (has_left es)) y.0 in
     let r = both (in_range z.layout.goroutines z.layout.globals (length z.shapes) o && is_of z a (goroutine_of o) && has_names m o) (not (is_over es (goroutine_of o))) w.0 in
     let s = both (in_range z.layout.goroutines z.layout.globals (length z.shapes) o && is_of z a (goroutine_of o)) (has_names m o) r.0 in
-    record { runs = w.0; leaves = x.1; range = (both (in_range z.layout.goroutines z.layout.globals (length z.shapes) o) (is_of z a (goroutine_of o)) s.0).0 }
+    record { runs = w.0; leaves = x.1; range = (both (in_range z.layout.goroutines z.layout.globals (length z.shapes) o) (is_of z a (goroutine_of o)) s.0).0; room = v.1 }
 
 module _ (z : Arena) where
   abbrev InRange : Op → Type 0

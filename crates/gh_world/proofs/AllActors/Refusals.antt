@@ -48,7 +48,7 @@ pub full_searches : (m : Processor) (t : Task) (found : ℕ) (x : Act) → acts_
 full_searches m task.Idle found x is full = absurd (cc)
 full_searches m task.Left found x is full = absurd (cc)
 full_searches m (task.Load y) found x is full = absurd (plain (load.step m.poll.layout y found).acts (load.op_of y) x is full)
-full_searches m (task.Store y) found x is full = absurd (plain (store.step m.poll.layout (register_of m y.g y.v) y found).acts (store.op_of y) x is full)
+full_searches m (task.Store y) found x is full = absurd (plain (store.step m.poll.layout m.poll.local (register_of m y.g y.v) y found).acts (store.op_of y) x is full)
 full_searches m (task.Global y) found x is full = absurd (plain (global.step m.poll.layout (register_of m y.g y.r) y found).acts (global.op_of y) x is full)
 full_searches m (task.Register y) found x is full = absurd (plain (register.step (register_of m y.g (register.read_of y)) y).acts (register.op_of y) x is full)
 full_searches m (task.New y) found x is full = refuses_again y.stage (new.op_of y.wanted) found x is full
@@ -66,13 +66,6 @@ point_is (Some y) x is = go (has_point y.op) is where
   go false is = absurd (cc)
 
 -- so it is no step of a poll, a wait or a leave, and none with which an operation begins
-pub polls_refuse_nothing : (t : Task) → only_polls t ≡ true → IsSearchedAgain t → ⊥
-polls_refuse_nothing (task.New x) polls again = go x.stage polls again where
-  go : (s : NewStage) → new_polls s ≡ true → Searched s → ⊥
-  go (Search w q) polls again = absurd (cc)
-  go (Wait w) polls again = again
-  go (Place p) polls again = again
-polls_refuse_nothing _ polls again = again
 
 left_refuses_nothing : (t : Task) → has_left_at t ≡ true → IsSearchedAgain t → ⊥
 left_refuses_nothing (task.New x) left again = absurd (cc)

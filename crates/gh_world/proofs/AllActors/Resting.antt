@@ -13,7 +13,7 @@ use Rattle.gh_world.specs.declared.handshake.Actor.TheVariants as actor
 use Rattle.gh_world.specs.Actors.{arena, ever}
 use Rattle.gh_world.specs.Handshake.{actors, is_busy, Pacing, takes as takes_actor}
 use Rattle.gh_world.specs.HoldVocabulary.{acks_of, actors_after, answers_of, Entry, given_of, Layout, Legal, Op, opening_words, Processor, Shape, started, state_of}
-use Rattle.gh_world.specs.KeepsToPolls.{those}
+use Rattle.gh_world.specs.Those.{those}
 use Rattle.gh_world.proofs.CycleMarking.Seats.{IsSeated, run_started, seated}
 
 module _ (shapes : List Shape) (l : Layout) (pacing : Pacing) (may : ℕ → List (Entry Op) → Op → Bool) where

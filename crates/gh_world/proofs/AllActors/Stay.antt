@@ -6,10 +6,11 @@ use Rattle.gh_base.specs.declared.cell.Cell.TheVariants as cell
 use Rattle.gh_base.specs.declared.pack.TheConstants.{END}
 use Rattle.gh_base.specs.Lists.{by}
 use Rattle.gh_world.specs.ActorsHold.{IsAsItShould, IsHeapOf, IsInCycle, IsJustSwept, IsQuiet, IsReady, IsSweeping, EndedSo, processor_at, uncounted}
-use Rattle.gh_world.specs.HoldVocabulary.{Answer, answers_of, arena, Arena, Coordinating, CycleEnd, ended_in, Entry, ever, given_of, Heap, Layout, Legal, MarksNothing, Op, opening_words, Pacing, Processor, Shape, SweepingAll, words}
-use Rattle.gh_world.specs.KeepsToPolls.{those}
+use Rattle.gh_world.specs.HoldVocabulary.{acks_of, Answer, answers_of, arena, Arena, Coordinating, CycleEnd, ended_in, Entry, ever, given_of, Heap, IsLed, Layout, Legal, MarksNothing, Op, opening_words, Pacing, Processor, processor_kind, Shape, SweepingAll, Words, words}
+use Rattle.gh_world.specs.Those.{those}
 use Rattle.gh_world.proofs.AllActors.Known.{Known}
 use Rattle.gh_world.proofs.AllActors.Resting.{answers_stay, ever_stays, given_stay, own_stay, state_stays}
+use Rattle.gh_world.proofs.CycleMarking.Seats.{other}
 
 module _ (shapes : List Shape) (l : Layout) (pacing : Pacing) (may : ℕ → List (Entry Op) → Op → Bool) (e : Entry Op) (es : List (Entry Op)) where
   abbrev z : Arena
@@ -22,16 +23,25 @@ module _ (shapes : List Shape) (l : Layout) (pacing : Pacing) (may : ℕ → Lis
     pub answers : (a : ℕ) → a < l.procs → answers_of z (opening_words pacing.trigger) a (e ∷ es) ≡ answers_of z (opening_words pacing.trigger) a es
     pub given : (a : ℕ) → a < l.procs → given_of z (opening_words pacing.trigger) a (e ∷ es) ≡ given_of z (opening_words pacing.trigger) a es
     pub ended : (a : ℕ) → a < l.procs → (g : ℕ) → ended_in (by a (e ∷ es)) g ≡ ended_in (by a es) g
+    -- nor is it the coordinator's
+    pub led : (c : Coordinating) → IsLed shapes l pacing may (e ∷ es) c → IsLed shapes l pacing may es c
+
+  pub led_by_it : e.actor < acks_of l → (c : Coordinating) → IsLed shapes l pacing may (e ∷ es) c → IsLed shapes l pacing may es c
+  led_by_it among c is = sym (other l (processor_kind shapes l) pacing e es (acks_of l) (apart (e.actor == acks_of l) refl)) ∙ is where
+    apart : (b : Bool) → (e.actor == acks_of l) ≡ b → (e.actor == acks_of l) ≡ false
+    apart false x = x
+    apart true x = absurd (let same : e.actor ≡ acks_of l = grind (arith, nat_tests) in omega (arith, same, among))
 
   -- a step of another than a processor that changes no word
-  pub changes_nothing : (known : Known) → Legal (those shapes l pacing may) (e ∷ es) → l.procs ≤ e.actor → words shapes l pacing may (e ∷ es) ≡ words shapes l pacing may es → ChangesNothing
-  changes_nothing known legal ge same = record {
+  pub changes_nothing : (known : Known) → Legal (those shapes l pacing may) (e ∷ es) → l.procs ≤ e.actor → e.actor < acks_of l → words shapes l pacing may (e ∷ es) ≡ words shapes l pacing may es → ChangesNothing
+  changes_nothing known legal ge among same = record {
     words_are = same;
     ever_is = ever_stays shapes l pacing may known.points e es legal ge;
     processors = λ a lt. state_stays shapes l pacing may e es a (apart a lt (e.actor == a) refl);
     answers = λ a lt. answers_stay shapes l pacing may e es a (apart a lt (e.actor == a) refl);
     given = λ a lt. given_stay shapes l pacing may e es a (apart a lt (e.actor == a) refl);
     ended = λ a lt g. ap (λ (ys : List (Entry Op)). ended_in ys g) (own_stay shapes l pacing may e es a (apart a lt (e.actor == a) refl));
+    led = led_by_it among;
   } where
     apart : (a : ℕ) → a < l.procs → (b : Bool) → (e.actor == a) ≡ b → (e.actor == a) ≡ false
     apart a lt false x = x
@@ -62,10 +72,10 @@ module _ (shapes : List Shape) (l : Layout) (pacing : Pacing) (may : ℕ → Lis
     }
 
     pub in_cycle_stays : (k : ℕ) → IsInCycle shapes l pacing may es k → IsInCycle shapes l pacing may (e ∷ es) k
-    in_cycle_stays k i = record { begun = i.begun; start = inr i.start; begins = i.begins; ever_is = still.ever_is ∙ i.ever_is }
+    in_cycle_stays k i = record { begun = i.begun; start = inr i.start; begins = i.begins; last = λ c led is. still.ever_is ∙ i.last c (still.led c led) is }
 
     pub ended_stays : (k : ℕ) (x : CycleEnd) → EndedSo shapes l pacing may es k x → EndedSo shapes l pacing may (e ∷ es) k x
-    ended_stays k x i = record { ended = i.ended; start = inr i.start; ends = i.ends; alloc = i.alloc; marks = i.marks; ever_is = still.ever_is ∙ i.ever_is }
+    ended_stays k x i = record { ended = i.ended; start = inr i.start; ends = i.ends; alloc = i.alloc; marks = i.marks; births = λ j. ap (λ (w : Words). w (cell.Birth j)) still.words_are ∙ i.births j; ever_is = still.ever_is ∙ i.ever_is }
 
     pub quiet_stays : (c d : Coordinating) → d.begun ≡ c.begun → (q : IsQuiet shapes l pacing may es c) → IsQuiet shapes l pacing may (e ∷ es) d
     quiet_stays c d same q = record {
@@ -86,8 +96,12 @@ module _ (shapes : List Shape) (l : Layout) (pacing : Pacing) (may : ℕ → Lis
       heap = r.heap;
       of_list = heap_stays r.heap r.of_list;
       good = r.good;
-      packed = r.packed;
-      counted = r.counted;
+      end = r.end;
+      spans = r.spans;
+      tally = r.tally;
+      live = r.live;
+      calm = r.calm;
+      owes_none = r.owes_none;
       marks = r.marks;
       buffers = r.buffers;
       stacks = λ g. subst (λ (k : ℕ). (r.heap.words (cell.Scanned g) < k) ⊎ (r.heap.words (cell.Scanned g) ≡ END)) (sym same) (r.stacks g);

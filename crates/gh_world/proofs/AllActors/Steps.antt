@@ -3,12 +3,12 @@ use Rattle.std.proofs.Common.{◌≡◌, ℕ, ◌<◌, ◌≤◌, Bool, arith, L
 use Rattle.gh_coord.specs.Listing as coord
 use Rattle.gh_worker.specs.Listing as worker
 use Rattle.gh_world.specs.declared.handshake.Actor.TheVariants as actor
-use Rattle.gh_world.proofs.Vocabulary.{acks_of, Actor, actors_after, Arena, arena, Coordinating, Entry, Holds, IsBeginning, IsInLimits, IsLed, IsMeant, KeepsToPolls, Knows, Layout, Legal, MarkFacts, may_of, MayBegin, Op, Pacing, PollsByMoves, Processor, processor_kind, Shape, ShapesAreGood, stage_of, those, WasMarked}
+use Rattle.gh_world.proofs.Vocabulary.{acks_of, Actor, actors_after, Arena, arena, Coordinating, Entry, Holds, IsBeginning, IsInLimits, IsLed, IsMeant, Knows, Layout, Legal, MarkFacts, may_of, MayBegin, Op, Pacing, PollsByMoves, Processor, processor_kind, Shape, ShapesAreGood, stage_of, those, WasMarked}
 use Rattle.gh_world.proofs.AllActors.Begins as begins_by
+use Rattle.gh_world.proofs.AllActors.BesideThen as marked
 use Rattle.gh_world.proofs.AllActors.Known.{Known, ListsKnown}
 use Rattle.gh_world.proofs.AllActors.LeadingSteps as leads_by
 use Rattle.gh_world.proofs.AllActors.Opening as opening
-use Rattle.gh_world.proofs.AllActors.Polls as polling
 use Rattle.gh_world.proofs.AllActors.Processing as processing
 use Rattle.gh_world.proofs.AllActors.Quieting as quieting
 use Rattle.gh_world.proofs.AllActors.Wanted.{Wanted}
@@ -25,7 +25,7 @@ module _ (shapes : List Shape) (l : Layout) (pacing : Pacing) (counts : ℕ → 
   Lawful es = Legal (those shapes l pacing may) es
 
   abbrev pub Meant : List (Entry Op) → Type 0
-  Meant es = KeepsToPolls shapes l pacing may es
+  Meant es = IsMeant z pacing may es
 
   abbrev pub Led : List (Entry Op) → Coordinating → Type 0
   Led es c = IsLed shapes l pacing may es c
@@ -46,10 +46,10 @@ module _ (shapes : List Shape) (l : Layout) (pacing : Pacing) (counts : ℕ → 
 
   module _ (e : Entry Op) (es : List (Entry Op)) (legal : Lawful (e ∷ es)) (meant : Meant (e ∷ es)) (was : Was es) where
     pub by_processor : (c : Coordinating) (m : Processor) → Led es c → e.actor < l.procs → at es e.actor ≡ actor.Runs m → H es c → H (e ∷ es) c
-    by_processor c m led lt is h = processing.by_processor shapes l pacing may good wanted.read known lists e es legal meant c led (omega (arith, lt)) lt (λ calm q. quieting.quiet_then shapes l pacing counts good limits known wanted lists e es legal lt c led calm q) h
+    by_processor c m led lt is h = processing.by_processor shapes l pacing may good wanted.read known lists e es legal was c led (omega (arith, lt)) lt (λ calm q. quieting.quiet_then shapes l pacing counts good limits known wanted lists e es legal lt c led calm q) h
 
     pub by_worker : (c : Coordinating) (w : worker.Working) → Led es c → l.procs ≤ e.actor → e.actor < acks_of l → at es e.actor ≡ actor.Marks w → H es c → H (e ∷ es) c
-    by_worker c w led ge lt is h = workers.holds_on shapes l pacing may known lists e es legal c led lt w ge is h
+    by_worker c w led ge lt is h = workers.holds_on shapes l pacing may limits known lists e es legal c led lt w ge is h
 
     pub by_lead : (c : Coordinating) → Led es c → e.actor ≡ acks_of l → Led (e ∷ es) (coord.goes c e.found) → H es c → H (e ∷ es) (coord.goes c e.found)
     by_lead c led is then h = leads_by.leads shapes l pacing may good limits known lists e es legal was c led is h
@@ -60,4 +60,4 @@ module _ (shapes : List Shape) (l : Layout) (pacing : Pacing) (counts : ℕ → 
 
   -- while a cycle is marked
   pub polls : PollsByMoves z (processor_kind shapes l) pacing may stage_of MarkFacts (Knows z pacing may) (IsMeant z pacing may)
-  polls = polling.polls shapes l pacing counts good limits known wanted lists
+  polls = marked.marked shapes l pacing counts good limits known wanted lists

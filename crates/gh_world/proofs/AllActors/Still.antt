@@ -11,7 +11,7 @@ use Rattle.gh_world.specs.HoldVocabulary.{given_of, opening_words}
 use Rattle.gh_world.proofs.Vocabulary.{acks_of, Act, Actor, actors, actors_after, acts, Answer, Answered, answered, answered_by, arena, Begins, begins as begun_at, by, Coordinating, deeds, done_at, effect, ended_in, Entry, ever, given_at, gives, has_left_at, is_busy, is_busy_at, IsLed, IsParked, Kind, Layout, Legal, Load, nat_tests, Op, opening_processor, option_to_list, Pacing, PackedWordsAreReadBack, party_of, place_of, point_of, Processor, processor_at, processor_kind, RunPhase, Shape, Sound, stage_of, started, stop_word, Stopped, takes, Task, those, Words, words}
 use Rattle.gh_world.proofs.AllActors.Known.{ListsKnown}
 use Rattle.gh_world.proofs.AllActors.Resting.{begins_nothing, rests, rests_on, runs_are, state_stays}
-use Rattle.gh_world.proofs.AllActors.Stay.{ChangesNothing}
+use Rattle.gh_world.proofs.AllActors.Stay.{ChangesNothing, led_by_it}
 use Rattle.gh_world.proofs.AllActors.Waiting.{StandsStill, stands_still}
 use Rattle.gh_world.proofs.CycleMarking.Seats.{run_started}
 
@@ -47,7 +47,7 @@ module _ (shapes : List Shape) (l : Layout) (pacing : Pacing) (may : ℕ → Lis
       pub no_answer : (deeds shapes).gives (before_step k (deeds shapes) es e) e.found ≡ None
       pub own : e.actor < l.procs → processor_at shapes l pacing may (e ∷ es) e.actor ≡ processor_at shapes l pacing may es e.actor
 
-    module _ (x : LeavesAll) where
+    module _ (among : e.actor < acks_of l) (x : LeavesAll) where
       pub leaves_all : IsStill e es
       leaves_all = record { changes = changes; no_point = x.no_point } where
         answered_before : ℕ → List (Answered Act Answer)
@@ -73,6 +73,7 @@ module _ (shapes : List Shape) (l : Layout) (pacing : Pacing) (may : ℕ → Lis
           answers = λ a lt. ap (λ (o : Option Act). map (λ (y : Answered Act Answer). y.answer) (cond (e.actor == a) (option_to_list (answered (meaning shapes) (ever shapes l pacing may es) o) ++ answered_before a) (answered_before a))) x.no_point ∙ ap (map (λ (y : Answered Act Answer). y.answer)) (either (e.actor == a) (answered_before a));
           given = λ a lt. ap (λ (o : Option Answer). cond (e.actor == a) (option_to_list o ++ given_of (arena shapes l pacing may) first a es) (given_of (arena shapes l pacing may) first a es)) x.no_answer ∙ either (e.actor == a) (given_of (arena shapes l pacing may) first a es);
           ended = λ a lt g. ends a g (e.actor == a);
+          led = led_by_it shapes l pacing may e es among;
         }
 
   module _ (back : PackedWordsAreReadBack) (lists : ListsKnown shapes l pacing may) (e : Entry Op) (es : List (Entry Op)) (legal : Legal (those shapes l pacing may) (e ∷ es))
@@ -139,7 +140,7 @@ module _ (shapes : List Shape) (l : Layout) (pacing : Pacing) (may : ℕ → Lis
       }
 
     pub is_still : IsStill e es
-    is_still = leaves_all e es (go (ltb e.actor l.procs) refl) where
+    is_still = leaves_all e es among (go (ltb e.actor l.procs) refl) where
       go : (b : Bool) → ltb e.actor l.procs ≡ b → LeavesAll e es
       go true x = by_processor (grind (arith, nat_tests))
       go false x = by_worker (grind (arith, nat_tests))

@@ -77,11 +77,12 @@ module _ (shapes : List Shape) (l : Layout) (pacing : Pacing) (counts : ℕ → 
 
   pub holds : (es : List (Entry Op)) → Lawful es → Meant es → Was es → (c : Coordinating) → Led es c → H es c
   holds [] legal meant was c led = steps.opens shapes l pacing counts good limits known wanted lists c led
-  holds (e ∷ es) legal meant was c led = one_more e es legal meant (was_before e es was) (λ d x. holds es legal.0 meant.0 (was_before e es was) d x) c led
+  holds (e ∷ es) legal meant was c led = one_more e es legal meant (was_before e es was) (λ d x. holds es legal.0 tt (was_before e es was) d x) c led
 
   pub knows_heap : KnowsHeap (steps.z shapes l pacing counts good limits known wanted lists) (processor_kind shapes l) pacing (may_of shapes l counts) stage_of MarkFacts (Knows (steps.z shapes l pacing counts good limits known wanted lists) pacing (may_of shapes l counts)) (IsMeant (steps.z shapes l pacing counts good limits known wanted lists) pacing (may_of shapes l counts))
   knows_heap = record {
     begins = λ es c legal meant led b was. steps.begins shapes l pacing counts good limits known wanted lists es c legal meant led b (holds es legal meant was c led);
     objects = marks.objects shapes l pacing (may_of shapes l counts) known;
-    lasts = λ e es c then legal meant led led_then on x s t is was_good good_then k ge went left words_are. last.lasts shapes l pacing (may_of shapes l counts) known lists e es legal ge (last.is_beside shapes l pacing (may_of shapes l counts) known lists e es legal ge then led_then on) x s t k went left words_are;
+    lasts = λ e es c then legal meant led led_then on x s t is was_good good_then k ge went left none words_are.
+        last.lasts shapes l pacing (may_of shapes l counts) limits known lists e es legal ge (last.is_beside shapes l pacing (may_of shapes l counts) limits known lists e es legal ge then led_then on) x s t k was_good went none words_are then led_then on;
   }

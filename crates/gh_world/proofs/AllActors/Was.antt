@@ -3,9 +3,9 @@ use Rattle.std.proofs.Common.{◌≡◌, ℕ, ◌<◌, Bool, true, sym, ap, subs
 use Rattle.gh_coord.specs.Handshake as leading
 use Rattle.gh_world.specs.declared.handshake.Actor.TheVariants as actor
 use Rattle.gh_world.specs.Handshake.{asks as asks_by}
-use Rattle.gh_world.proofs.Vocabulary.{Act, Actor, actors, acts, Arena, arena, Ask, asks, cell_of, Coordinating, deeds, DoesPoints, done_at, Entry, Good, Heap, is_busy, is_busy_at, IsFullFor, IsHeapOf, IsLed, IsPolled, KeepsToPolls, Kind, Layout, Legal, only_polls, Op, Pacing, Processor, processor_at, processor_kind, Shape, ShapesAreGood, started, state_of, Steps, those, view, Words, words}
+use Rattle.gh_world.proofs.Vocabulary.{Act, Actor, actors, acts, Arena, arena, Ask, asks, cell_of, Coordinating, deeds, DoesPoints, done_at, Entry, Good, Heap, is_busy, is_busy_at, IsFullFor, IsHeapOf, IsLed, Kind, Layout, Legal, Op, Pacing, Processor, processor_at, processor_kind, Shape, ShapesAreGood, started, state_of, Steps, those, view, Words, words}
 use Rattle.gh_world.proofs.AllActors.Known.{Known}
-use Rattle.gh_world.proofs.AllActors.Refusals.{full_for, full_searches, goes_on, IsSearchedAgain, point_is, polls_refuse_nothing}
+use Rattle.gh_world.proofs.AllActors.Refusals.{full_for, full_searches, goes_on, IsSearchedAgain, point_is}
 use Rattle.gh_world.proofs.AllActors.Resting.{runs_are}
 use Rattle.gh_world.proofs.AllActors.Still.{IsStill}
 use Rattle.gh_world.proofs.CycleMarking.Seats.{run_started}
@@ -47,13 +47,6 @@ module _ (shapes : List Shape) (l : Layout) (pacing : Pacing) (may : ℕ → Lis
 
       searched : (x : Act) → point ≡ Some x → x.full ≡ true → IsSearchedAgain now.task
       searched x is full = full_searches now now.task e.found x (point_is (acts now e.found) x is) full
-
-      -- nor do polls, waits and leaves refuse anything
-      pub polls_refuse : only_polls now.task ≡ true → RefusesRightly
-      polls_refuse polls x is full = absurd (polls_refuse_nothing now.task polls (searched x is full))
-
-      pub meant_refuses : (c : Coordinating) → KeepsToPolls shapes l pacing may (e ∷ es) → IsLed shapes l pacing may es c → leading.Marks c.stage → RefusesRightly
-      meant_refuses c meant led on = polls_refuse (subst (IsPolled shapes l pacing may e.begun) (runs_are shapes l pacing may es e.actor lt) (meant.1 c led on))
 
       -- and a search by its rights sees what there is
       module _ (known : Known) (shapes_good : ShapesAreGood shapes) (h : Heap) (of : IsHeapOf shapes l pacing may es h) (good : Good z (view h)) where

@@ -7,7 +7,7 @@ use Rattle.gh_phase.specs.declared.view.RunPhase.TheVariants as run
 use Rattle.gh_worker.specs.Listing as worker
 use Rattle.gh_worker.specs.Writing.{IsCalm}
 use Rattle.gh_world.specs.declared.handshake.Actor.TheVariants as actor
-use Rattle.gh_world.proofs.Vocabulary.{acks_of, actors_after, arena, Coordinating, CoordStage, Count, Done, effect, Entry, HasCursor, Holds, HoldsAt, IsLed, IsTelling, Layout, LeavesTheReached, Legal, LoadAck, LoadWant, Op, Open, Pacing, party_of, place_of, processor_kind, RunPhase, Shape, stage_of, Stop, Stopped, Sweep, Tell, TellStage, those, Words, words}
+use Rattle.gh_world.proofs.Vocabulary.{acks_of, actors_after, arena, Coordinating, CoordStage, Count, Done, effect, Entry, HasCursor, Holds, HoldsAt, IsInLimits, IsLed, IsTelling, Layout, LeavesTheReached, Legal, LoadAck, LoadWant, Op, Open, Pacing, party_of, place_of, processor_kind, RunPhase, Shape, stage_of, Stop, Stopped, Sweep, Tell, TellStage, those, Words, words}
 use Rattle.gh_world.proofs.AllActors.Aside.{acks_aside, TellsNothing}
 use Rattle.gh_world.proofs.AllActors.Known.{Known, ListsKnown}
 use Rattle.gh_world.proofs.AllActors.MarksLast as last
@@ -16,7 +16,7 @@ use Rattle.gh_world.proofs.AllActors.Quiet.{quiet_goes_on, ready_goes_on}
 use Rattle.gh_world.proofs.AllActors.Starts.{counted_on}
 use Rattle.gh_world.proofs.AllActors.Stay.{both_stay, changes_nothing, ChangesNothing, sweeping_stays}
 
-module _ (shapes : List Shape) (l : Layout) (pacing : Pacing) (may : ℕ → List (Entry Op) → Op → Bool) (known : Known) (lists : ListsKnown shapes l pacing may)
+module _ (shapes : List Shape) (l : Layout) (pacing : Pacing) (may : ℕ → List (Entry Op) → Op → Bool) (limits : IsInLimits l) (known : Known) (lists : ListsKnown shapes l pacing may)
     (e : Entry Op) (es : List (Entry Op)) (legal : Legal (those shapes l pacing may) (e ∷ es)) (c : Coordinating) (led : IsLed shapes l pacing may es c) (among : e.actor < acks_of l) where
   abbrev told : List (Entry Op) → Words
   told xs = words shapes l pacing may xs
@@ -39,11 +39,11 @@ module _ (shapes : List Shape) (l : Layout) (pacing : Pacing) (may : ℕ → Lis
     tells : (leading.Marks c.stage → ⊥) → TellsNothing e.ask
     tells off =
         let calm : IsCalm w = lists.rests es legal.0 c e.actor w led off is in
-        let asked : e.ask ≡ worker.asks w = last.asked shapes l pacing may known lists e es legal ge w is in
-        subst TellsNothing (sym asked) (acks_aside w.seat (worker.asks w) (known.workers_calm.writes w (last.sound shapes l pacing may known lists e es legal ge w is) calm (last.busy shapes l pacing may known lists e es legal ge w is)))
+        let asked : e.ask ≡ worker.asks w = last.asked shapes l pacing may limits known lists e es legal ge w is in
+        subst TellsNothing (sym asked) (acks_aside w.seat (worker.asks w) (known.workers_calm.writes w (last.sound shapes l pacing may limits known lists e es legal ge w is) calm (last.busy shapes l pacing may limits known lists e es legal ge w is)))
 
     nothing : leading.post_at c.stage ≡ Stopped run.Mark → ChangesNothing shapes l pacing may e es
-    nothing post = changes_nothing shapes l pacing may e es known legal ge (told_stays run.Mark post)
+    nothing post = changes_nothing shapes l pacing may e es known legal ge among (told_stays run.Mark post)
 
     tell_then : (t : TellStage) → (t ≢ telling.Ended → ChangesNothing shapes l pacing may e es) → IsTelling shapes l pacing may es c t → IsTelling shapes l pacing may (e ∷ es) c t
     tell_then telling.StoreTrigger still h = both_stay shapes l pacing may e es (still (λ x. absurd cc)) c c refl h

@@ -1,5 +1,5 @@
 -- One entry more while a cycle is marked, by the actor that makes it: its step is made of moves of marking, and what is known of all others lasts. And the begin of a cycle.
-use Rattle.std.proofs.Common.{◌≡◌, ◌≢◌, ℕ, suc, ◌/◌, ◌%◌, ◌<◌, ◌≤◌, ◌==◌, Bool, true, false, refl, sym, ap, subst, ◌∙◌, arith, List, ◌∷◌}
+use Rattle.std.proofs.Common.{◌≡◌, ◌≢◌, ℕ, suc, ◌/◌, ◌%◌, ◌<◌, ◌≤◌, ◌==◌, Bool, true, false, refl, sym, ap, subst, ◌∙◌, arith, List, ◌∷◌, Some, None}
 use Rattle.gh_base.specs.declared.cell.Cell.TheVariants as cell
 use Rattle.gh_marks.specs.Laws.{Begins, EachHandFollows, EachHandLasts, EachStepGoesByMoves, StepsGoByMoves}
 use Rattle.gh_marks.specs.Moves.{goes, moved, Others, Quiet, SameExtent, stays, Steps}
@@ -17,6 +17,7 @@ use Rattle.gh_world.specs.Marking.{IsInMarking, IsLedBy, KnowsHeap, LeavesObject
 use Rattle.gh_world.proofs.Vocabulary.{acks_of, Actor, actors, actors_after, Acts, alloc_words, Arena, Ask, bit_at, cell_of, CoordStage, Cycle, effect, Entry, MarkingGood as Good, Hands, is_busy, IsBeginning, KeepsIt, Kind, Layout, Legal, MarkingBegins, MayBegin, nat_tests, nothing, Open, Pacing, Party, place_of, PollsByMoves, Row, row_bit, seats_of, Marking as Shared, Stage, started, Stopped, WaitsWithNone, WasMarked, Went, Words, WorkerStage}
 use Rattle.gh_world.proofs.CycleMarking.Beside.{LeavesHeap, works_so}
 use Rattle.gh_world.proofs.CycleMarking.Checking.{IsLight}
+use Rattle.gh_world.proofs.CycleMarking.Placing.{places_none}
 use Rattle.gh_world.proofs.CycleMarking.Seats.{IsSeated, lead_started, leads, other, runs, seated, worker_started, works}
 
 -- a bit is that of its word
@@ -156,12 +157,12 @@ module _ {P O : Type 0} (arena : Arena) (k : Kind P O) (pacing : Pacing) (may : 
 
     -- by a worker
     pub by_worker : (w : worker.Working) → arena.layout.procs ≤ a → a < n → at es a ≡ actor.Marks w → In (e ∷ es) to
-    by_worker w ge lt is = next land.then land.went then_words (heap.lasts e es c to legal is_meant led led_then on_then z s land.then i.is i.good (known.steps z a s land.then i.good land.went).good i.known ge land.went (leaves_objects land.then (worker.asks w) land.went land.words_are (works_so w busy)) then_words)
+    by_worker w ge lt is = next land.then land.went then_words (heap.lasts e es c to legal is_meant led led_then on_then z s land.then i.is i.good (known.steps z a s land.then i.good land.went).good i.known ge land.went (leaves_objects land.then (worker.asks w) land.went land.words_are (works_so w busy)) (places_none z a land.then (worker.goes w (s.words (cell_of (worker.asks w)))) land.after) then_words)
         (λ p now. absurd (let both : actor.Marks (worker.goes w e.found) ≡ actor.Runs p = sym then ∙ now in cc))
         (λ v now. subst (marks.Facts z a land.then) (let both : actor.Marks (worker.goes w e.found) ≡ actor.Marks v = sym then ∙ now in cc) (subst (λ (x : ℕ). marks.Facts z a land.then (worker.goes w x)) (sym found) land.after))
         (λ le. absurd (omega arith)) where
           land : Steps z a s (worker.asks w) (λ t. marks.Facts z a t (worker.goes w (s.words (cell_of (worker.asks w)))))
-          land = known.workers.own_step z a s w i.good (heap.objects z s es i.known) (i.workers a w lt is)
+          land = known.workers.own_step z a s w i.good (heap.objects z s es i.good i.known) (i.workers a w lt is)
 
           asked : e.ask ≡ worker.asks w
           asked = legal.1.asks ∙ ap (asks k) (ap (started (actors arena.layout k pacing) e.begun) is ∙ worker_started arena.layout k pacing e.begun w)
@@ -183,7 +184,7 @@ module _ {P O : Type 0} (arena : Arena) (k : Kind P O) (pacing : Pacing) (may : 
 
     -- by the coordinator
     pub by_coordinator : a ≡ n → at es a ≡ actor.Leads c → IsLight (coord.asks c) → In (e ∷ es) to
-    by_coordinator end is light = next t went then_words (heap.lasts e es c to legal is_meant led led_then on_then z s t i.is i.good (known.steps z a s t i.good went).good i.known (omega (arith, end)) went (leaves_objects t (coord.asks c) went refl light.aside) then_words)
+    by_coordinator end is light = next t went then_words (heap.lasts e es c to legal is_meant led led_then on_then z s t i.is i.good (known.steps z a s t i.good went).good i.known (omega (arith, end)) went (leaves_objects t (coord.asks c) went refl light.aside) (λ o is. absurd (let none : None ≡ Some o = ((i.coordinator a (omega (arith, end))).has.is_reserved o).1 is in cc)) then_words)
         (λ p now. absurd (let both : actor.Leads (coord.goes c e.found) ≡ actor.Runs p = sym then ∙ now in cc))
         (λ v now. absurd (let both : actor.Leads (coord.goes c e.found) ≡ actor.Marks v = sym then ∙ now in cc))
         (λ le. (known.follow z a s nothing i.good (i.coordinator a le)).quiet (coord.asks c) (light.quiet s)) where

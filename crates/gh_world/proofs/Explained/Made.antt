@@ -99,7 +99,7 @@ module _ (shapes : List Shape) (g : ℕ) where
     go true few rest = omega (arith, few, rest)
     go false few rest = omega (arith, few, rest)
 
-  acted_no_fewer : (e : Ever) (x : Option Act) → e.made g ≤ (acted shapes e x).made g
+  pub acted_no_fewer : (e : Ever) (x : Option Act) → e.made g ≤ (acted shapes e x).made g
   acted_no_fewer e None = omega arith
   acted_no_fewer e (Some x) = (made_by e x.op (answer_at shapes e x)).no_fewer
 

@@ -133,7 +133,7 @@ pub full_pointed : (m : Processor) (t : Task) (found : ℕ) (x : Act) → acts_a
 full_pointed m task.Idle found x e f = absurd cc
 full_pointed m task.Left found x e f = absurd cc
 full_pointed m (task.Load y) found x e f = absurd (not_full (load.step m.poll.layout y found).acts (load.op_of y) x e f)
-full_pointed m (task.Store y) found x e f = absurd (not_full (store.step m.poll.layout (register_of m y.g y.v) y found).acts (store.op_of y) x e f)
+full_pointed m (task.Store y) found x e f = absurd (not_full (store.step m.poll.layout m.poll.local (register_of m y.g y.v) y found).acts (store.op_of y) x e f)
 full_pointed m (task.Global y) found x e f = absurd (not_full (global.step m.poll.layout (register_of m y.g y.r) y found).acts (global.op_of y) x e f)
 full_pointed m (task.Register y) found x e f = absurd (not_full (register.step (register_of m y.g (register.read_of y)) y).acts (register.op_of y) x e f)
 full_pointed m (task.New y) found x e f = new_pointed (new.acts_at y.stage found) (new.is_full_at y.stage) y.wanted.g y.wanted.d y.wanted.t x e

@@ -7,7 +7,7 @@ use Rattle.gh_model.specs.declared.EverValue.TheVariants as values
 use Rattle.gh_world.specs.declared.handshake.Actor.TheVariants as actor
 use Rattle.gh_world.specs.Order.{Answered}
 use Rattle.gh_world.specs.Vocabulary.{acts, Coordinating, CoordStage, Entry, Ever, Layout, Legal, Name, Op, opening_ever, processor_kind, Program, Reach, state_of, statements_of, WellFormed}
-use Rattle.gh_world.specs.RunVocabulary.{actor_after, AllStands, answers_given, AreFew, AreLive, arena_of, before_step, Check, Close, Count, count_of, CyclesAreFew, Done, EachOperationActsOnce, ever_after_list, ever_of, EveryListKeepsIt, EveryListOfActorsStands, EveryRunIsExplained, has_ended, is_statement_of, IsExplained, IsHeld, IsMade, IsRun, IsStartOf, LaysOut, LeavesTheReached, LoadAck, LoadWant, MarkOn, may_begin_of, OneProcessorKeepsToPolls, OnlyPointsChange, op_of, Open, order_of, outcome_by, pacing_of, party_of, ProcessorInHandshake, ProcessorsBeginFew, ProcessorWritesItsOwn, SetBitsAreCounted, setting_of, SlotsAreRead, Sound, stage_of, Stop, StopAgain, Sweep, Tell, total_of, turns_of, Watch, wishes_of, WorkersWriteTheirOwn}
+use Rattle.gh_world.specs.RunVocabulary.{actor_after, AllStands, answers_given, AreFew, AreLive, arena_of, before_step, Check, Close, Count, count_of, CyclesAreFew, Done, EachOperationActsOnce, ever_after_list, ever_of, EveryListKeepsIt, EveryListOfActorsStands, EveryRunIsExplained, has_ended, is_statement_of, IsExplained, IsHeld, IsMade, IsRun, IsStartOf, LaysOut, LeavesTheReached, LoadAck, LoadWant, MarkOn, may_begin_of, OnlyPointsChange, op_of, Open, order_of, outcome_by, pacing_of, party_of, ProcessorInHandshake, ProcessorsBeginFew, ProcessorWritesItsOwn, SetBitsAreCounted, setting_of, SlotsAreRead, Sound, stage_of, Stop, StopAgain, Sweep, Tell, total_of, turns_of, Watch, wishes_of, WorkersWriteTheirOwn}
 use Rattle.gh_world.proofs.AllActors.Asking.{asks_once, left}
 use Rattle.gh_world.proofs.AllActors.Parties.{are_parties, writes_no_numbers}
 use Rattle.gh_world.proofs.Asking.{asked_among, asked_turns}
@@ -30,7 +30,6 @@ use Rattle.gh_world.proofs.Explained.Totals.{are_live}
 
 pub record Laws : Type 0 where
   pub every : EveryListOfActorsStands
-  pub polls : OneProcessorKeepsToPolls
   pub each : EachOperationActsOnce
   pub points : OnlyPointsChange
   pub places : ProcessorInHandshake
@@ -87,7 +86,7 @@ module _ (laws : Laws) (p : Program) (l : Layout) (formed : WellFormed p) (out :
   }
 
   every : (es : List (Entry Op)) → Legal (setting_of p l) es → AllStands p.shapes l (pacing_of p) (may_begin_of p l) es
-  every es legal = all_stand p l formed out laws.every laws.polls es legal
+  every es legal = all_stand p l formed out laws.every es legal
 
   -- ---- the heap that never frees
 

@@ -14,6 +14,7 @@ use Rattle.gh_world.proofs.Explained.Listing.{are_apart, no_more, sum_same}
 use Rattle.gh_world.proofs.Explained.Live as live
 use Rattle.gh_world.proofs.Explained.Live.{bytes_by_bits, set_is}
 use Rattle.gh_world.proofs.AllActors.LeadingNames.{same_name}
+use Rattle.gh_world.proofs.AllActors.Resting.{ever_stays}
 use Rattle.gh_world.proofs.Explained.Slots.{AreNamed, Classes, is_made, is_placed, name_at}
 
 reached_of_held : (e : Ever) (n : Name) → IsHeld e n → Reach e n
@@ -158,10 +159,12 @@ module _ (classes : Classes) (read : SlotsAreRead) (bits : SetBitsAreCounted) (p
         let legal_ended = legal_start p l k (e ∷ before) es start legal in
         let stores = ends_by p l k newest.k e before legal_ended ends in
         let begun : EndsCycle p.shapes l (pacing_of p) (may_begin_of p l) c.begun (e ∷ before) = subst (λ (n : ℕ). EndsCycle p.shapes l (pacing_of p) (may_begin_of p l) n (e ∷ before)) number_is ends in
-        let there = (every es legal).ends e before newest.k start ends in
+        let beyond : l.procs ≤ e.actor = let it = ends.by in omega (arith, it) in
+        let stays : ever es ≡ ever before = last.unchanged (e ∷ before) start begun ∙ ever_stays p.shapes l (pacing_of p) (may_begin_of p l) k.points e before legal_ended beyond in
         let now : (n : Name) → IsMade (ever es).made n → IsMarked (effect (words before) e.ask) n ↔ Reach (ever es) n = last.marked (e ∷ before) start begun in
+        let was : (n : Name) → IsMade (ever es).made n → IsMarked (words before) n ↔ Reach (ever es) n = subst (λ (q : Ask). (n : Name) → IsMade (ever es).made n → IsMarked (effect (words before) q) n ↔ Reach (ever es) n) stores.1 now in
         ap (λ (q : Ask). marked_objects (alloc_words (effect (words before) q)) (mark_words (effect (words before) q)) 0 l.pages) stores.1
-        ∙ marked_are es legal last.left before legal_ended.0 (grows before (shorter e before es start)) few (subst (λ (q : Ask). (n : Name) → IsMade (ever es).made n → IsMarked (effect (words before) q) n ↔ Reach (ever es) n) stores.1 now) there.marked
+        ∙ marked_are es legal last.left before legal_ended.0 (grows before (shorter e before es start)) few was (subst (λ (y : Ever). (n : Name) → IsMade y.made n → IsMarked (words before) n ↔ Reach y n) stays was)
 
     objects_are : marked_by (last_kept c.cycles) ≡ length names
     objects_are =

@@ -79,7 +79,7 @@ pub full_searches : (m : Processor) (t : Task) (found : ℕ) (x : Act) → acts_
 full_searches m task.Idle found x e f = absurd cc
 full_searches m task.Left found x e f = absurd cc
 full_searches m (task.Load y) found x e f = absurd (not_full (load.step m.poll.layout y found).acts (load.op_of y) x e f)
-full_searches m (task.Store y) found x e f = absurd (not_full (store.step m.poll.layout (register_of m y.g y.v) y found).acts (store.op_of y) x e f)
+full_searches m (task.Store y) found x e f = absurd (not_full (store.step m.poll.layout m.poll.local (register_of m y.g y.v) y found).acts (store.op_of y) x e f)
 full_searches m (task.Global y) found x e f = absurd (not_full (global.step m.poll.layout (register_of m y.g y.r) y found).acts (global.op_of y) x e f)
 full_searches m (task.Register y) found x e f = absurd (not_full (register.step (register_of m y.g (register.read_of y)) y).acts (register.op_of y) x e f)
 full_searches m (task.New y) found x e f = new_searches y.wanted y.stage found x e f
@@ -101,6 +101,7 @@ global_other : (y : Global) (st : GlobalStage) → is_gc (global.op_in y st) ≡
 global_other y global_stage.Load = refl
 global_other y (global_stage.Birth a) = refl
 global_other y global_stage.Store = refl
+global_other y (global_stage.Writing w) = refl
 global_other y global_stage.Number = refl
 
 register_other : (y : Register) (from : Source) → is_gc (register.op_from y from) ≡ false
@@ -125,7 +126,7 @@ pub gc_acts : (m : Processor) (t : Task) (found g : ℕ) (x : Act) → acts_at m
 gc_acts m task.Idle found g x e f = absurd cc
 gc_acts m task.Left found g x e f = absurd cc
 gc_acts m (task.Load y) found g x e f = absurd (other_acts (load.step m.poll.layout y found).acts false (load.op_of y) g x refl e f)
-gc_acts m (task.Store y) found g x e f = absurd (other_acts (store.step m.poll.layout (register_of m y.g y.v) y found).acts false (store.op_of y) g x refl e f)
+gc_acts m (task.Store y) found g x e f = absurd (other_acts (store.step m.poll.layout m.poll.local (register_of m y.g y.v) y found).acts false (store.op_of y) g x refl e f)
 gc_acts m (task.Global y) found g x e f = absurd (other_acts (global.step m.poll.layout (register_of m y.g y.r) y found).acts false (global.op_of y) g x (global_other y y.stage) e f)
 gc_acts m (task.Register y) found g x e f = absurd (other_acts (register.step (register_of m y.g (register.read_of y)) y).acts false (register.op_of y) g x (register_other y y.source) e f)
 gc_acts m (task.New y) found g x e f = absurd (other_acts (new.acts_at y.stage found) (new.is_full_at y.stage) (new.op_of y.wanted) g x refl e f)
@@ -249,7 +250,7 @@ module _ (shapes : List Shape) (m : Processor) (low swept found : ℕ) where
   steps_on task.Idle is busy h knows so = absurd cc
   steps_on task.Left is busy h knows so = absurd cc
   steps_on (task.Load x) is busy h knows so = statement task.Load (load.step m.poll.layout x found).then (λ y. tt)
-  steps_on (task.Store x) is busy h knows so = statement task.Store (store.step m.poll.layout (register_of m x.g x.v) x found).then (λ y. tt)
+  steps_on (task.Store x) is busy h knows so = statement task.Store (store.step m.poll.layout m.poll.local (register_of m x.g x.v) x found).then (λ y. tt)
   steps_on (task.Global x) is busy h knows so = statement task.Global (global.step m.poll.layout (register_of m x.g x.r) x found).then (λ y. tt)
   steps_on (task.Register x) is busy h knows so = statement task.Register (register.step (register_of m x.g (register.read_of x)) x).then (λ y. tt)
   steps_on (task.New x) is busy h knows so = new_steps x.wanted x.stage h knows (λ e. so (ap (asks_at m) is ∙ e))

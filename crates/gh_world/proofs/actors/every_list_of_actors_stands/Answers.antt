@@ -7,7 +7,7 @@ use Rattle.gh_world.specs.HoldVocabulary.{arena, processor_kind}
 use Rattle.gh_world.proofs.actors.every_list_of_actors_stands.Goals as goal
 
 pub returns : goal.returns
-returns c shapes l pacing counts es good limits fit legal keeps =
+returns c shapes l pacing counts es good limits fit legal =
     let known : Known = record {
       one = c.a_step_changes_one_cell.ensures;
       apart = c.the_heap_is_apart.ensures;
@@ -28,27 +28,29 @@ returns c shapes l pacing counts es good limits fit legal keeps =
       packed = c.words_are_packed.ensures.pages;
       mark_words = c.words_are_packed.ensures.marks;
       slots = c.slots_are_read.ensures.slots;
-      spans_last = c.slots_are_read.ensures.last;
       ends = c.cycles_end.ensures.end;
       heaps_open = c.cycles_end.ensures.open;
       begins = c.sweeping_keeps_the_heap.ensures.begins;
       keeps_heap = c.sweeping_keeps_the_heap.ensures.keeps;
       sweep_ends = c.sweeping_keeps_the_heap.ensures.ends;
-      only = c.only_the_reached_are_left.ensures;
+      only = c.only_the_marked_are_left.ensures;
       goes_on = c.allocation_goes_on.ensures.goes;
       found = c.allocation_goes_on.ensures.calm;
       calm_lasts = c.calm_lasts.ensures.calm;
-      counted_lasts = c.calm_lasts.ensures.counted;
       told = c.counts_are_told.ensures;
       sweeps_move = c.sweeping_keeps_the_heap.ensures.moves;
       decided = c.reach_is_decided.ensures.places;
       made = c.reach_is_decided.ensures.made;
       bounds = c.bounds_last.ensures;
       opens = c.cycles_open.ensures.open;
-      objects = c.objects_are_known.ensures;
-      cycle_lasts = c.the_cycle_lasts.ensures;
-      reached = c.the_reached_are_marked.ensures.reached;
-      marked = c.the_reached_are_marked.ensures.marked;
+      beside_begins = c.cycles_begin_beside.ensures;
+      beside_lasts = c.marking_alone_goes_beside.ensures;
+      begins_so = c.cycles_begin_so.ensures;
+      gone_on = c.what_has_gone_on_lasts.ensures;
+      objects = c.objects_are_known_beside.ensures;
+      reached = c.the_reached_are_marked_beside.ensures;
+      marked = c.the_marked_were_reached.ensures;
+      beside = c.a_processor_goes_on_beside_marking.ensures;
       marking = c.marking_begins.ensures;
       fit = c.the_processors_deeds_fit.ensures;
     } in
@@ -64,4 +66,4 @@ returns c shapes l pacing counts es good limits fit legal keeps =
       few = c.cycles_are_few.ensures;
       begins_few = c.processors_begin_few.ensures;
     } in
-    list_stands shapes l pacing counts good limits known wanted (lists_known laws shapes l pacing counts fit) (c.every_list_marks.ensures (arena shapes l pacing (may_of shapes l counts)) (processor_kind shapes l) pacing (may_of shapes l counts) limits (parties laws shapes l pacing counts fit)) es legal keeps
+    list_stands shapes l pacing counts good limits known wanted (lists_known laws shapes l pacing counts fit) (c.every_list_marks.ensures (arena shapes l pacing (may_of shapes l counts)) (processor_kind shapes l) pacing (may_of shapes l counts) limits (parties laws shapes l pacing counts fit)) es legal

@@ -5,7 +5,6 @@ pub returns : goal.returns
 returns c =
     all_explained (record {
       every = c.every_list_of_actors_stands.ensures;
-      polls = c.one_processor_keeps_to_polls.ensures;
       each = c.each_operation_acts_once.ensures;
       points = c.only_points_change.ensures;
       places = c.the_processor_keeps_the_handshake.ensures;

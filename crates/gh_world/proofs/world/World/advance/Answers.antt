@@ -1,11 +1,11 @@
-use Rattle.std.proofs.Common.{◌≡◌, ◌+◌, true, ◌∙◌, ap, vec_len, rules}
+use Rattle.std.proofs.Common.{◌≡◌, ◌+◌, true, ◌∙◌, ap, subst, sym, vec_len, rules}
 use Rattle.gh_base.specs.Packing.{bit}
 use Rattle.gh_base.specs.Steps.{changed, request}
 use Rattle.gh_mutator.specs.Listing.{acts, is_busy_at}
-use Rattle.gh_mutator.specs.Mutating.{asks, goes}
+use Rattle.gh_mutator.specs.Mutating.{asks, goes, Mutating}
 use Rattle.gh_mutator.specs.Serving.{is_point}
-use Rattle.gh_world.specs.World.{State}
-use Rattle.gh_world.proofs.Fitting.{fit_stepped, fits_again, point_room, turns_same}
+use Rattle.gh_world.specs.World.{Polled, State}
+use Rattle.gh_world.proofs.Fitting.{fit_stepped, fits_again, point_room, polled_stepped, turns_same}
 use Rattle.gh_world.proofs.world.World.advance.Goals as goal
 
 pub note-requires : goal.note-requires
@@ -22,5 +22,6 @@ invariant_of-self c =
     record {
       base = fits_again _ _ _ _ (request c.self.inside.layout (asks c.self.inside.mutator)) words c.self.invariant.base;
       turns = turns_same _ _ _ _ _ _ _ _ _ after count c.note.ensures.reserved (fit_stepped _ _ c.self.invariant.base.script c.self.invariant.base.layout _ _ _ _ c.self.invariant.turns c.step-found.result busy);
+      polled = subst (λ (m : Mutating). Polled c.self.inside.progress.next m.processor) (sym after) (polled_stepped c.polls_make_room.ensures _ _ c.self.inside.progress.next c.step-found.result c.self.invariant.polled);
       others = c.self.invariant.others;
     }

@@ -6,7 +6,7 @@ use Rattle.gh_coord.specs.Stopping.{acks_of}
 use Rattle.gh_script.specs.declared.statement.Settings.{Settings}
 use Rattle.gh_world.specs.Turns.{total_of}
 use Rattle.gh_world.specs.Wishes.{most_cycles}
-use Rattle.gh_world.proofs.Fitting.{fit_opens, others_open}
+use Rattle.gh_world.proofs.Fitting.{fit_opens, others_open, polled_opens}
 use Rattle.gh_world.proofs.OtherSteps.{after_opens}
 use Rattle.gh_world.proofs.world.World.new.Goals as goal
 
@@ -27,6 +27,7 @@ invariant_of-result c =
     rw (c.new-mutator.ensures, c.shapes.ensures, c.opening-progress.ensures.is, c.in_ok-workers.ensures, leads, empty) (record {
       base = record { script = c.is_well_formed.ensures; layout = laid; one = single; long = c.in_ok-words.ensures.long };
       turns = fit_opens p l c.opening-progress.result.next (vec_capacity c.in_ok-points.points) reserved c.opening-progress.ensures.come c.opening-progress.ensures.stands c.opening-progress.ensures.going;
+      polled = polled_opens l c.opening-progress.result.next;
       others = others_open p l (p.settings.procs + p.settings.workers);
     })
 

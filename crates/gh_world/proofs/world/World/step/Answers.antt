@@ -13,7 +13,7 @@ returns-then-actor-eq0-clause-appended c es after =
     let zeroth : c.args.actor ≡ 0 = omega (arith, c.if-actor-eq0.true) in
     let going : is_done c.args.self.now 0 ≡ false = ap (is_done c.args.self.now) (sym zeroth) ∙ c.requires.going in
     subst (λ (a : ℕ). Appends c.advance.new.self a es c.advance.result) (sym zeroth)
-    (appends c.args.self.now c.begin_next.new.self _ es _ (λ fs. c.a_state_is_of_its_own_entries.ensures (processor_kind c.args.self.now.script.shapes c.args.self.now.layout) 0 fs) shown kept going c.begin_next.ensures c.advance.ensures.advances after)
+    (appends c.polls_make_room.ensures c.args.self.now c.begin_next.new.self _ es _ (λ fs. c.a_state_is_of_its_own_entries.ensures (processor_kind c.args.self.now.script.shapes c.args.self.now.layout) 0 fs) shown kept going c.begin_next.ensures c.advance.ensures.advances after)
 
 pub lead-requires : goal.lead-requires
 lead-requires c =

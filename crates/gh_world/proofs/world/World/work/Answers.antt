@@ -32,6 +32,7 @@ invariant_of-self c =
     record {
       base = fits_again _ _ _ _ (request c.self.inside.layout (asks c.index.result.now)) words c.self.invariant.base;
       turns = c.self.invariant.turns;
+      polled = c.self.invariant.polled;
       others = subst (λ (x : Working). FitOthers c.self.inside.script.now c.self.inside.layout (set c.self.inside.workers.items c.args.i x) c.self.inside.coord) (sym c.step_on-out.ensures.machine)
           (others_worked _ _ _ _ _ _ c.index.result.now there c.self.invariant.others);
     }

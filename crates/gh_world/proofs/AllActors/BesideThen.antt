@@ -1,0 +1,194 @@
+-- What holds behind a step of a processor while a cycle is marked: what is known of the heap and of the cycle, with the processor as it is then.
+use Rattle.std.proofs.Common.{◌≡◌, ◌≢◌, ◌⊎◌, inl, inr, ℕ, ◌^◌, ◌<◌, ◌≤◌, ◌==◌, Bool, true, false, refl, sym, ap, subst, ◌∙◌, arith, List, ◌∷◌, Option, Some}
+use Rattle.gh_base.specs.declared.cell.Cell.TheVariants as cell
+use Rattle.gh_coord.specs.Handshake as leading
+use Rattle.gh_cycle.specs.Since.{HasGoneOn}
+use Rattle.gh_marks.specs.Moves.{Steps}
+use Rattle.gh_mutator.specs.Beside.{StepsOn}
+use Rattle.gh_world.specs.ActorsHold.{began}
+use Rattle.gh_world.proofs.Vocabulary.{acks_of, Answer, Arena, arena, AreWords, asks, cell_of, Coordinating, Cycle, DoesPoints, effect, Entry, eqb-true, Ever, ever, Fine, has_left_at, Heap, is_busy_at, IsBeginning, IsInCycle, IsInLimits, IsKnown, IsLed, IsMeant, IsSound, IsToBegin, Kind, Knows, Layout, Legal, mark_words, MarkFacts, Marking, MarkingGood, may_of, moved, nat_tests, Op, Pacing, PollsByMoves, Processor, processor_at, processor_kind, Shape, ShapesAreGood, stage_of, started, Steps as HeapSteps, takes, those, uncounted, view, Words}
+use Rattle.gh_world.proofs.AllActors.Beside as beside
+use Rattle.gh_world.proofs.AllActors.Beside.{not_beginning}
+use Rattle.gh_world.proofs.AllActors.Counting as counting
+use Rattle.gh_world.proofs.AllActors.Gone.{gone_rests}
+use Rattle.gh_world.proofs.AllActors.Known.{Known, ListsKnown}
+use Rattle.gh_world.proofs.AllActors.Marks.{words_stay}
+use Rattle.gh_world.proofs.AllActors.OwnSide as own
+use Rattle.gh_world.proofs.AllActors.OwnStep as step
+use Rattle.gh_world.proofs.AllActors.Placing.{idle_plain}
+use Rattle.gh_world.proofs.AllActors.Quieting.{begun_places}
+use Rattle.gh_world.proofs.AllActors.Resting.{run_is, state_stays}
+use Rattle.gh_world.proofs.AllActors.StackWords.{TellsStacks}
+use Rattle.gh_world.proofs.AllActors.Wanted.{Wanted}
+use Rattle.gh_world.proofs.CycleMarking.Seats.{other}
+
+apart : (a b : ℕ) → (a == b) ≡ false → b ≢ a
+apart a b x y = grind (arith, nat_tests)
+
+module _ (shapes : List Shape) (l : Layout) (pacing : Pacing) (counts : ℕ → ℕ) (good : ShapesAreGood shapes) (limits : IsInLimits l) (known : Known) (wanted : Wanted) (lists : ListsKnown shapes l pacing (may_of shapes l counts)) where
+  abbrev may : ℕ → List (Entry Op) → Op → Bool
+  may = may_of shapes l counts
+
+  abbrev z : Arena
+  z = arena shapes l pacing may
+
+  abbrev k : Kind Processor Op
+  k = processor_kind shapes l
+
+  abbrev cycle : (number : ℕ) → number < 2 ^ 48 → Cycle
+  cycle number few = record { arena = z; number = number; few = few }
+
+  module _ (e : Entry Op) (es : List (Entry Op)) (legal : Legal (those shapes l pacing may) (e ∷ es)) (c : Coordinating) (led : IsLed shapes l pacing may es c) (on : leading.Marks c.stage) (lt : e.actor < l.procs)
+      (number : ℕ) (few : number < 2 ^ 48) (s : Marking) (number_is : number ≡ c.begun) (fine : MarkingGood (cycle number few) s) (kn : IsKnown shapes l pacing may (cycle number few) s es) (facts : MarkFacts (cycle number few) e.actor s (processor_at shapes l pacing may es e.actor)) where
+    abbrev a : ℕ
+    a = e.actor
+
+    abbrev m : Processor
+    m = processor_at shapes l pacing may es a
+
+    abbrev now : Processor
+    now = started k e.begun m
+
+    abbrev h : Heap
+    h = kn.heap
+
+    tells : TellsStacks h.words now
+    tells = beside.tells shapes l pacing counts good limits known lists e es legal c led on lt number few s number_is fine kn facts
+
+    abbrev pending : Option Answer
+    pending = (step.is shapes l pacing counts good limits known e es legal lt h kn.of_list kn.good).pending
+
+    abbrev land : HeapSteps z a h (asks now) (λ t. DoesPoints z a h t now pending (h.words (cell_of (asks now))))
+    land = step.land shapes l pacing counts good limits known e es legal lt h kn.of_list kn.good
+
+    goes : StepsOn (cycle number few) a (moved z a h land.move) s (takes shapes now (h.words (cell_of (asks now))))
+    goes = beside.goes shapes l pacing counts good limits known lists e es legal c led on lt number few s number_is fine kn facts
+
+    abbrev t : Heap
+    t = own.t shapes l pacing counts good limits known e es legal lt h kn.of_list kn.good tells
+
+    abbrev found : ℕ
+    found = h.words (cell_of (asks now))
+
+    abbrev then : Processor
+    then = takes shapes now found
+
+    -- The cycle, and what has become of the heap since it began.
+
+    other_seat : (e.actor == acks_of l) ≡ false
+    other_seat = go (a == acks_of l) refl where
+      go : (b : Bool) → (a == acks_of l) ≡ b → (a == acks_of l) ≡ false
+      go false is = is
+      go true is = absurd (let same = eqb-true a (acks_of l) is in omega (arith, same, lt))
+
+    -- in the last cycle each processor is gone, so that none steps
+    not_last : (d : Coordinating) → IsLed shapes l pacing may (e ∷ es) d → d.is_last ≡ true → ⊥
+    not_last d led_d is =
+        let led_was : IsLed shapes l pacing may es d = sym (other l k pacing e es (acks_of l) other_seat) ∙ led_d in
+        gone_rests shapes l pacing may known lists e es legal lt ((lists.keeps es legal.0).processors_gone d led_was is a lt)
+
+    gone_on : (v : Ever) → HasGoneOn v h s → HasGoneOn v t goes.then
+    gone_on v x = known.gone_on (cycle number few) a h s goes.then land.move v kn.good fine land.may goes.went goes.beside.words kn.beside.words x
+
+    abbrev Cycles : List (Entry Op) → Type 0
+    Cycles xs = IsToBegin shapes l pacing may xs number ⊎ IsInCycle shapes l pacing may xs number
+
+    abbrev Since : Type 0
+    Since = (x : Cycles (e ∷ es)) × HasGoneOn (began shapes l pacing may (e ∷ es) number x) t goes.then
+
+    -- a cycle that is about to begin is not marked yet
+    to_begin : IsToBegin shapes l pacing may es number → ⊥
+    to_begin b = let same : b.lead ≡ c = (let both = sym b.led ∙ led in cc) in not_beginning c.stage on (subst (λ (d : Coordinating). IsBeginning d.stage) same b.stage)
+
+    cycle_then : (x : Cycles es) → HasGoneOn (began shapes l pacing may es number x) h s → Since
+    cycle_then (inr i) g = (inr (record { begun = i.begun; start = inr i.start; begins = i.begins; last = λ d led_d is. absurd (not_last d led_d is) }), gone_on (ever shapes l pacing may i.begun) g)
+    cycle_then (inl b) g = absurd (to_begin b)
+
+    -- What is placed and not counted.
+
+    begun_counts : uncounted now.task ≡ uncounted m.task
+    begun_counts = step.begins_with shapes l pacing counts good limits known e es legal lt h kn.of_list kn.good (λ p. uncounted p.task ≡ uncounted m.task) refl (λ o x.
+        let idle = step.idle shapes l pacing counts good limits known e es legal lt h kn.of_list kn.good o x in
+        begun_places shapes m o (has_left_at m.task) idle ∙ sym (idle_plain m.task idle))
+
+    busy_now : is_busy_at now.task ≡ true
+    busy_now = step.busy shapes l pacing counts good limits known e es legal lt h kn.of_list kn.good
+
+    sound_now : IsSound now
+    sound_now = step.sound_now shapes l pacing counts good limits known e es legal lt h kn.of_list kn.good
+
+    fine_now : Fine z a (view h) now pending
+    fine_now = step.fine_now shapes l pacing counts good limits known e es legal lt h kn.of_list kn.good
+
+    pend_is : kn.spans.pend a ≡ uncounted now.task
+    pend_is = kn.placing a lt ∙ sym begun_counts
+
+    counted : counting.Counted known wanted.whole z kn.end a h kn.spans kn.tally kn.live kn.calm legal.1.actor now found pending busy_now sound_now fine_now pend_is land.move land.may land.words_are land.after.does
+    counted = counting.counted known wanted.whole z kn.end a h kn.spans kn.tally kn.live kn.calm legal.1.actor now found pending busy_now sound_now fine_now pend_is land.move land.may land.words_are land.after.does
+
+    then_is : processor_at shapes l pacing may (e ∷ es) a ≡ then
+    then_is = own.then_is shapes l pacing counts good limits known e es legal lt h kn.of_list kn.good tells
+
+    placing : (b : ℕ) → b < l.procs → counted.then.pend b ≡ uncounted (processor_at shapes l pacing may (e ∷ es) b).task
+    placing b less = go (a == b) refl where
+      go : (x : Bool) → (a == b) ≡ x → counted.then.pend b ≡ uncounted (processor_at shapes l pacing may (e ∷ es) b).task
+      go true x = subst (λ (n : ℕ). counted.then.pend n ≡ uncounted (processor_at shapes l pacing may (e ∷ es) n).task) (eqb-true a b x) (counted.own ∙ ap (λ (p : Processor). uncounted p.task) (sym then_is))
+      go false x = counted.others b (apart a b x) ∙ (kn.placing b less ∙ ap (λ (p : Processor). uncounted p.task) (sym (state_stays shapes l pacing may e es b x)))
+
+    abbrev since : Since
+    since = cycle_then kn.cycle kn.gone_on
+
+    known_then : IsKnown shapes l pacing may (cycle number few) goes.then (e ∷ es)
+    known_then = record {
+      arena_is = refl;
+      heap = t;
+      of_list = own.heap_then shapes l pacing counts good limits known e es legal lt h kn.of_list kn.good tells;
+      good = own.good_then shapes l pacing counts good limits known e es legal lt h kn.of_list kn.good tells;
+      beside = goes.beside;
+      cycle = since.0;
+      gone_on = since.1;
+      end = kn.end;
+      spans = counted.then;
+      tally = kn.tally;
+      live = kn.live;
+      calm = counted.so;
+      placing = placing;
+      others_place = λ b le. counted.others b (λ x. omega (arith, x, le, lt)) ∙ kn.others_place b le;
+      marks_fit = subst (λ (w : Words). AreWords (mark_words w)) goes.beside.words (words_stay known.mark_words (cycle number few) a s goes.then goes.went (subst (λ (w : Words). AreWords (mark_words w)) (sym kn.beside.words) kn.marks_fit));
+    }
+
+    asked : e.ask ≡ asks now
+    asked = step.asked shapes l pacing counts good limits known e es legal lt h kn.of_list kn.good
+
+    abbrev After : Cycle → Type 0
+    After x = Steps x a s e.ask (λ t. MarkFacts x a t (takes shapes now e.found) × Knows z pacing may x t (e ∷ es))
+
+    pub steps : Steps (cycle number few) a s e.ask (λ t. MarkFacts (cycle number few) a t (takes shapes now e.found) × Knows z pacing may (cycle number few) t (e ∷ es))
+    steps = record {
+      then = goes.then;
+      went = goes.went;
+      words_are = goes.beside.words ∙ (land.words_are ∙ (ap (λ (w : Words). effect w (asks now)) (sym kn.beside.words) ∙ ap (effect s.words) (sym asked)));
+      after = (subst (λ (n : ℕ). MarkFacts (cycle number few) a goes.then (takes shapes now n)) (sym (step.found_is shapes l pacing counts good limits known e es legal lt h kn.of_list kn.good)) goes.facts, known_then);
+    }
+
+  -- The cycle is one of this arena.
+  module _ (e : Entry Op) (es : List (Entry Op)) (legal : Legal (those shapes l pacing may) (e ∷ es)) (c : Coordinating) (led : IsLed shapes l pacing may es c) (on : leading.Marks c.stage) (lt : e.actor < l.procs) (x : Cycle) (s : Marking) (number_is : x.number ≡ c.begun) where
+    abbrev in_arena : Arena → Cycle
+    in_arena r = record { arena = r; number = x.number; few = x.few }
+
+    abbrev Goes : Cycle → Type 0
+    Goes y = MarkingGood y s → IsKnown shapes l pacing may y s es → MarkFacts y e.actor s (processor_at shapes l pacing may es e.actor) →
+        Steps y e.actor s e.ask (λ t. MarkFacts y e.actor t (takes shapes (started k e.begun (processor_at shapes l pacing may es e.actor)) e.found) × Knows z pacing may y t (e ∷ es))
+
+    pub goes_so : Goes x
+    goes_so fine kn facts = subst (λ (r : Arena). Goes (in_arena r)) (sym kn.arena_is) (λ f i m. steps e es legal c led on lt x.number x.few s number_is f i m) fine kn facts
+
+  pub marked : PollsByMoves z k pacing may stage_of MarkFacts (Knows z pacing may) (IsMeant z pacing may)
+  marked = record {
+    own_step = λ e es c legal meant led on x s m is fine kn lt at facts.
+        let same = run_is shapes l pacing may es e.actor m lt at in
+        subst (λ (p : Processor). Steps x e.actor s e.ask (λ t. MarkFacts x e.actor t (takes shapes (started k e.begun p) e.found) × Knows z pacing may x t (e ∷ es))) same
+        (goes_so e es legal c led on lt x s is.number_is fine kn (subst (MarkFacts x e.actor s) (sym same) facts));
+    lasts = λ x a s t m others facts. known.marks.lasts x a s t m others facts;
+    waits = λ x a s m stops parked facts. (known.marks.waits x a s m stops parked facts).nothing_in_hand;
+  }
