@@ -95,7 +95,7 @@ module _ (on : RunsGoOn) (whole : RunsEndWhole) (p : Program) (l : Layout) (plan
       then_on (suc n) (g.e ∷ s.turns) g.more (s.scheduled, s.turn ∙ ap Some (sym g.by)) (omega (arith, s.long))
 
   either : (n : ℕ) → Ends n ⊎ Goes n
-  either zero = then_on 0 [] (record { legal = tt; to_come = turns_of p; turns = refl }) tt refl
+  either zero = then_on 0 [] (record { legal = tt; to_come = turns_of p; turns = λ a lt. refl }) tt refl
   either (suc n) = elim (either n) [
     | inl w ↦ inl (record { turns = w.turns; few = omega (arith, w.few); scheduled = w.scheduled; run = w.run })
     | inr s ↦ one_more n s

@@ -1,11 +1,12 @@
 -- By one schedule a script has one run: as many steps of it are the same steps, and none follows when it is over.
-use Rattle.std.proofs.Common.{◌≡◌, ℕ, ◌<◌, ◌≤◌, true, false, List, [], ◌∷◌, ◌++◌, length, reverse, Option, Some, None, refl, sym, ap, subst, ◌∙◌, append_assoc, arith}
+use Rattle.std.proofs.Common.{◌≡◌, ℕ, ◌<◌, ◌≤◌, Bool, true, false, cond, eqb, List, [], ◌∷◌, ◌++◌, length, reverse, Option, Some, None, refl, sym, ap, subst, ◌∙◌, append_assoc, arith}
 use Rattle.std.specs.Option.{option_to_list}
 use Rattle.std.proofs.lemmas.Grind.{reverse_onto}
 use Rattle.std.proofs.lemmas.List.{append-nil}
 use Rattle.gh_base.specs.declared.operation.Op.{Op}
 use Rattle.gh_base.specs.declared.layout.Layout.{Layout}
 use Rattle.gh_base.specs.declared.machine.Entry.{Entry}
+use Rattle.gh_base.specs.Lists.{by}
 use Rattle.gh_script.specs.Program.{Program}
 use Rattle.gh_world.specs.Order.{begun_in}
 use Rattle.gh_world.specs.Runs.{actors_in, EveryOrderHasOneRun, IsRun, IsRunSoFar}
@@ -25,10 +26,13 @@ earlier None bs rest turns h = h
 earlier (Some o) bs rest turns h = h ∙ ap (λ ys. ys ++ rest) (reverse_onto bs o []) ∙ append_assoc (reverse bs) (o ∷ []) rest
 
 before : (p : Program) (l : Layout) (e : Entry Op) (es : List (Entry Op)) → IsRunSoFar p l (e ∷ es) → IsRunSoFar p l es
-before p l e es r = record { legal = r.legal.0; to_come = option_to_list e.begun ++ r.to_come; turns = earlier e.begun (begun_in es) r.to_come (turns_of p) r.turns }
+before p l e es r = record { legal = r.legal.0; to_come = λ a. cond (eqb e.actor a) (option_to_list e.begun) [] ++ r.to_come a; turns = λ a lt. go a (eqb e.actor a) (r.turns a lt) } where
+  go : (a : ℕ) (b : Bool) → turns_of p a ≡ reverse (begun_in (cond b (e ∷ by a es) (by a es))) ++ r.to_come a → turns_of p a ≡ reverse (begun_in (by a es)) ++ (cond b (option_to_list e.begun) [] ++ r.to_come a)
+  go a true h = earlier e.begun (begun_in (by a es)) (r.to_come a) (turns_of p a) h
+  go a false h = h
 
 pub is_so_far : (p : Program) (l : Layout) (es : List (Entry Op)) → IsRun p l es → IsRunSoFar p l es
-is_so_far p l es r = record { legal = r.legal; to_come = []; turns = sym (append-nil (reverse (begun_in es)) ∙ r.turns) }
+is_so_far p l es r = record { legal = r.legal; to_come = λ a. []; turns = λ a lt. sym (append-nil (reverse (begun_in (by a es))) ∙ r.turns a lt) }
 
 -- the turn behind the list of a schedule is that of an actor that there is
 pub stands_low : (p : Program) (l : Layout) (plan : Plan) (es : List (Entry Op)) → (stands_in p l plan es).next < (setting_of p l).actors

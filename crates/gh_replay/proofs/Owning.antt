@@ -1,23 +1,22 @@
 -- Each name that the heap that never frees answers is one that a goroutine of the script gave.
-use Rattle.std.proofs.Common.{◌≡◌, ℕ, ◌+◌, ◌<◌, zero, suc, Bool, true, false, cond, ◌==◌, ◌&&◌, List, [], ◌∷◌, ◌++◌, length, Option, Some, None, sym, subst, inl, inr, arith, slice_get}
-use Rattle.std.specs.List.{AllByRecursion}
+use Rattle.std.proofs.Common.{◌≡◌, ℕ, ◌+◌, ◌<◌, ◌≤◌, zero, suc, Bool, true, false, cond, ◌==◌, ◌&&◌, List, [], ◌∷◌, ◌++◌, length, map, Option, Some, None, refl, sym, subst, ◌∙◌, inl, inr, arith, slice_get}
+use Rattle.std.proofs.lemmas.Bool.{cases_lt, eq-eqb}
+use Rattle.std.specs.List.{AllByRecursion, filter}
 use Rattle.gh_base.specs.declared.value.Name.{Name}
 use Rattle.gh_base.specs.declared.value.Fault.TheVariants.{Field, Kind}
 use Rattle.gh_base.specs.declared.value.Answer.TheVariants as answers
 use Rattle.gh_base.specs.declared.operation.Op.TheVariants as ops
 use Rattle.gh_base.specs.declared.shape.Shape.{Shape}
 use Rattle.gh_base.specs.Shapes.{shape_at, is_pointer}
-use Rattle.std.specs.List.{flat_map, range_with_len}
-use Rattle.gh_interp.specs.Working.{work_at, work_of}
-use Rattle.gh_mutator.specs.Serving.{is_statement}
+use Rattle.gh_lines.specs.Text.{answers_by}
+use Rattle.gh_world.specs.Order.{acted_in, Answered}
+use Rattle.gh_world.specs.Turns.{is_statement_of}
 use Rattle.gh_replay.specs.Report.{IsReportOf, ReportState}
-use Rattle.gh_script.specs.declared.statement.Stmt.{Stmt}
-use Rattle.gh_script.specs.declared.statement.Stmt.TheVariants as stmts
 use Rattle.gh_model.specs.declared.EverValue.{EverValue}
 use Rattle.gh_model.specs.declared.EverValue.TheVariants as values
 use Rattle.gh_model.specs.Ever.{Ever, opening_ever, ever_after, told, load_answer, store_answer, has_field, is_pointer_field, fits, first_value, is_number, same_name, next_name, with_register, with_field, with_object, takes_answer, stores_value, sets_global, makes_object}
 use Rattle.gh_model.specs.Answers.{Answers, AllAnswer}
-use Rattle.gh_replay.proofs.Vocabulary.{Answer, answers_to, goroutine_at, has_turn, MakerStands, Op, op_of, Program, round_of, statements_of, total_of, turn_of, turns_of}
+use Rattle.gh_replay.proofs.Vocabulary.{Answer, MakerStands, Op, Program}
 
 module _ (shapes : List Shape) (n : ℕ) where
   abbrev pub Own : EverValue → Type 0
@@ -156,61 +155,61 @@ module _ (shapes : List Shape) (n : ℕ) where
   pub opening_own : AllOwn opening_ever
   opening_own = record { registers = λ g d. tt; fields = λ m k. tt; globals = λ k. tt }
 
-  statement_own : (g : ℕ) (s : Stmt) → g < n → OwnOp (op_of g s)
-  statement_own g (stmts.New d t) some = some
-  statement_own g _ some = tt
+  -- operations that are statements of no other goroutine
+  abbrev NoOthers : List Answered → Type 0
+  NoOthers xs = (g : ℕ) → n ≤ g → filter (λ (x : Answered). is_statement_of g x.op) xs ≡ []
 
-  work_own : (g : ℕ) (s : Option Stmt) → g < n → OwnOp (work_at g s)
-  work_own g None some = tt
-  work_own g (Some s) some = statement_own g s some
+  none_here : (x : Answered) (xs : List Answered) (b : Bool) → cond b (x ∷ xs) xs ≡ [] → (b ≡ false) × (xs ≡ [])
+  none_here x xs true e = absurd cc
+  none_here x xs false e = (refl, e)
 
-  own_append : (xs ys : List Op) → AllByRecursion OwnOp xs → AllByRecursion OwnOp ys → AllByRecursion OwnOp (xs ++ ys)
-  own_append [] ys own more = more
-  own_append (x ∷ xs) ys own more = (own.0, own_append xs ys own.1 more)
+  op_own : (o : Op) → ((g : ℕ) → n ≤ g → is_statement_of g o ≡ false) → OwnOp o
+  op_own (ops.New g d t) none = elim (cases_lt g n) [
+    | inl lt ↦ lt
+    | inr le ↦ absurd (let no : true ≡ false = sym (eq-eqb g g refl) ∙ none g le in cc)
+  ]
+  op_own _ none = tt
 
--- the turns of a script are of goroutines that it has
-module _ (p : Program) where
-  abbrev own : List Op → Type 0
-  own os = AllByRecursion (OwnOp p.shapes (length p.goroutines)) os
+  pub ops_own : (xs : List Answered) → NoOthers xs → AllByRecursion OwnOp (map (λ (x : Answered). x.op) xs)
+  ops_own [] none = tt
+  ops_own (x ∷ xs) none =
+      let parts : (g : ℕ) → n ≤ g → (is_statement_of g x.op ≡ false) × (filter (λ (y : Answered). is_statement_of g y.op) xs ≡ []) = λ g le. none_here x (filter (λ (y : Answered). is_statement_of g y.op) xs) (is_statement_of g x.op) (none g le) in
+      (op_own x.op (λ g le. (parts g le).0), ops_own xs (λ g le. (parts g le).1))
 
-  turn_own : (r g : ℕ) → g < length p.goroutines → own (turn_of p r g)
-  turn_own r g lt = go (has_turn p r g) where
-    go : (b : Bool) → own (cond b (ops.Poll ∷ work_of p r g ∷ []) [])
-    go true = (tt, (work_own p.shapes (length p.goroutines) g (slice_get (statements_of p g) r) lt, tt))
-    go false = tt
-
-  round_own : (r n g : ℕ) → g + n ≡ length p.goroutines → own (flat_map (turn_of p r) (range_with_len g n))
-  round_own r zero g e = tt
-  round_own r (suc n) g e = own_append p.shapes (length p.goroutines) (turn_of p r g) (flat_map (turn_of p r) (range_with_len (g + 1) n)) (turn_own r g (omega arith)) (round_own r n (g + 1) (omega arith))
-
-  rounds_own : (n r : ℕ) → own (flat_map (round_of p) (range_with_len r n))
-  rounds_own zero r = tt
-  rounds_own (suc n) r = own_append p.shapes (length p.goroutines) (round_of p r) (flat_map (round_of p) (range_with_len (r + 1) n)) (round_own r (length p.goroutines) 0 (omega arith)) (rounds_own n (r + 1))
-
-  turns_own : own (turns_of p)
-  unfolding turns_of
-  turns_own = own_append p.shapes (length p.goroutines) (flat_map (round_of p) (range_with_len 0 (total_of p + 1))) (ops.Leave ∷ []) (rounds_own (total_of p + 1) 0) (tt, tt)
+  -- what all say, some of them say
+  pub some_own : (q : Answered → Bool) (xs : List Answered) → AllByRecursion OwnAnswer (map (λ (x : Answered). x.answer) xs) → AllByRecursion OwnAnswer (map (λ (x : Answered). x.answer) (filter q xs))
+  some_own q [] h = tt
+  some_own q (x ∷ xs) h = go (q x) (some_own q xs h.1) where
+    go : (b : Bool) → AllByRecursion OwnAnswer (map (λ (y : Answered). y.answer) (filter q xs)) → AllByRecursion OwnAnswer (map (λ (y : Answered). y.answer) (cond b (x ∷ filter q xs) (filter q xs)))
+    go true rest = (h.0, rest)
+    go false rest = rest
 
 -- each answer that names an object has a goroutine of the script that made it
 maker_stands : (p : Program) (b : Answer) → OwnAnswer p.shapes (length p.goroutines) b → MakerStands p b
 maker_stands p (answers.Ref m) o = o
 maker_stands p _ o = tt
 
--- among the answers of the turns are those of the statements
-stand_append : (p : Program) (xs ys : List (ℕ × Answer)) → AllByRecursion (λ (x : ℕ × Answer). MakerStands p x.1) xs → AllByRecursion (λ (x : ℕ × Answer). MakerStands p x.1) ys → AllByRecursion (λ (x : ℕ × Answer). MakerStands p x.1) (xs ++ ys)
-stand_append p [] ys h k = k
-stand_append p (x ∷ xs) ys h k = (h.0, stand_append p xs ys h.1 k)
+-- what is so of each goroutine's answers is so of all
+by_goroutine : (p : Program) (told_so : List (ℕ × Answer)) → ((g : ℕ) → AllByRecursion (OwnAnswer p.shapes (length p.goroutines)) (answers_by g told_so)) → AllByRecursion (λ (x : ℕ × Answer). MakerStands p x.1) told_so
+by_goroutine p [] each = tt
+by_goroutine p (x ∷ more) each = (maker_stands p x.1 here, by_goroutine p more (λ g. rest g (x.0 == g) (each g))) where
+  rest : (g : ℕ) (b : Bool) → AllByRecursion (OwnAnswer p.shapes (length p.goroutines)) (cond b (x.1 ∷ []) [] ++ answers_by g more) → AllByRecursion (OwnAnswer p.shapes (length p.goroutines)) (answers_by g more)
+  rest g true h = h.1
+  rest g false h = h
 
-statements_stand : (p : Program) (os : List Op) (told_so : List Answer) → AllByRecursion (OwnAnswer p.shapes (length p.goroutines)) told_so → AllByRecursion (λ (x : ℕ × Answer). MakerStands p x.1) (answers_to os told_so)
-statements_stand p [] told_so h = tt
-statements_stand p (o ∷ os) [] h = tt
-statements_stand p (o ∷ os) (a ∷ more) h = stand_append p (cond (is_statement o) ((goroutine_at o, a) ∷ []) []) (answers_to os more) (go (is_statement o)) (statements_stand p os more h.1) where
-  go : (b : Bool) → AllByRecursion (λ (x : ℕ × Answer). MakerStands p x.1) (cond b ((goroutine_at o, a) ∷ []) [])
-  go true = (maker_stands p a h.0, tt)
-  go false = tt
+  here : OwnAnswer p.shapes (length p.goroutines) x.1
+  here = (subst (λ (b : Bool). AllByRecursion (OwnAnswer p.shapes (length p.goroutines)) (cond b (x.1 ∷ []) [] ++ answers_by x.0 more)) (eq-eqb x.0 x.0 refl) (each x.0)).0
 
 pub answers_stand : (p : Program) (report : ReportState) → IsReportOf p report → AllByRecursion (λ (x : ℕ × Answer). MakerStands p x.1) report.outcome.answers
-answers_stand p report r =
-    let e = r.replayed.explained in
-    subst (AllByRecursion (λ (x : ℕ × Answer). MakerStands p x.1)) (sym e.among)
-    (statements_stand p (turns_of p) e.all (all_own p.shapes (length p.goroutines) opening_ever (turns_of p) e.all (opening_own p.shapes (length p.goroutines)) (turns_own p) e.ever))
+answers_stand p report r = by_goroutine p report.outcome.answers of_each where
+  acted : List Answered
+  acted = acted_in p.shapes r.replayed.layout r.replayed.turns
+
+  all_answers : AllByRecursion (OwnAnswer p.shapes (length p.goroutines)) (map (λ (x : Answered). x.answer) acted)
+  all_answers =
+      let e = r.replayed.explained in
+      subst (AllByRecursion (OwnAnswer p.shapes (length p.goroutines))) (sym e.answered)
+      (all_own p.shapes (length p.goroutines) opening_ever (map (λ (x : Answered). x.op) acted) e.all (opening_own p.shapes (length p.goroutines)) (ops_own p.shapes (length p.goroutines) acted e.others) e.ever)
+
+  of_each : (g : ℕ) → AllByRecursion (OwnAnswer p.shapes (length p.goroutines)) (answers_by g report.outcome.answers)
+  of_each g = subst (AllByRecursion (OwnAnswer p.shapes (length p.goroutines))) ((r.replayed.explained.each g).answered) (some_own p.shapes (length p.goroutines) (λ (x : Answered). is_statement_of g x.op) acted all_answers)

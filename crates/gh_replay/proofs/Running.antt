@@ -1,13 +1,15 @@
 -- What a run has so far, and what it has when the world is done.
-use Rattle.std.proofs.Common.{◌≡◌, ℕ, ◌+◌, ◌<◌, ◌≤◌, true, false, List, [], ◌∷◌, ◌++◌, length, map, refl, sym, ◌∙◌, ap, subst, Option, Some, None, is_some, arith, length-append}
+use Rattle.std.proofs.Common.{◌≡◌, ℕ, ◌+◌, ◌<◌, ◌≤◌, true, false, List, [], ◌∷◌, ◌++◌, length, map, reverse, refl, sym, ◌∙◌, ap, subst, Option, Some, None, is_some, arith, length-append}
 use Rattle.gh_base.specs.Cells.{seats_of}
+use Rattle.gh_base.specs.Lists.{by}
 use Rattle.gh_base.specs.Packing.{bit}
 use Rattle.gh_coord.specs.Keeping.{last_kept}
 use Rattle.gh_world.specs.declared.event.Event.{Event}
 use Rattle.gh_world.specs.declared.event.Event.TheVariants as event
+use Rattle.gh_world.specs.Order.{begun_in}
 use Rattle.gh_world.specs.Schedule.{ended_after}
 use Rattle.gh_replay.specs.Places.{Ran, seen_of}
-use Rattle.gh_replay.proofs.Vocabulary.{actors_of, AllDone, Answer, answer_in, answered_in, answered_of, answers_given, Appends, Coordinating, Entry, EveryRunIsExplained, is_done, IsAfter, IsExplained, IsReplayed, IsRun, IsRunSoFar, IsScheduled, IsUnfinished, Layout, layout_of, LaysOut, marked_by, marks_in, moved, now_in, Op, opening, Outcome, outcome_by, Plan, Program, reached_in, script_of, setting_of, Standing, stands_in, State, swept_cycle, to_come, total_of, WellFormed, who, with_goroutine}
+use Rattle.gh_replay.proofs.Vocabulary.{actors_of, AllDone, Answer, answer_in, answered_in, answered_of, answers_given, Appends, Coordinating, Entry, EveryRunIsExplained, is_done, IsAfter, IsExplained, IsReplayed, IsRun, IsRunSoFar, IsScheduled, IsUnfinished, Layout, layout_of, LaysOut, marked_by, marks_in, moved, now_in, Op, opening, Outcome, outcome_by, Plan, Program, reached_in, script_of, setting_of, Standing, stands_in, State, swept_cycle, to_come, total_of, turns_of, WellFormed, who, with_goroutine}
 use Rattle.gh_replay.proofs.Choosing.{Agree, same_moved, same_who}
 use Rattle.gh_replay.proofs.Seen.{agree}
 
@@ -103,13 +105,14 @@ finished law w p plan budget answers formed script lays r whole = subst Goal scr
         (law (script_of w) (layout_of w) r.turns w.coord formed lays (whole r.turns r.after) r.after.coordinator);
   }
 
--- what has begun is the first of the turns
-so_far : (w : State) (es : List (Entry Op)) → IsAfter w es → IsRunSoFar (script_of w) (layout_of w) es
-so_far w es after = record {
-  legal = after.legal;
-  to_come = to_come (script_of w) w.progress.next;
-  turns = after.turns;
-}
+-- what the one processor has begun is the first of its turns
+so_far : (w : State) (es : List (Entry Op)) → WellFormed (script_of w) → LaysOut (script_of w) (layout_of w) → IsAfter w es → IsRunSoFar (script_of w) (layout_of w) es
+so_far w es formed lays after = record { legal = after.legal; to_come = λ a. to_come (script_of w) a w.progress.next; turns = λ a lt. subst Begun (first a lt) after.turns } where
+  Begun : ℕ → Type 0
+  Begun a = turns_of (script_of w) a ≡ reverse (begun_in (by a es)) ++ to_come (script_of w) a w.progress.next
+
+  first : (a : ℕ) → a < (layout_of w).procs → 0 ≡ a
+  first a lt = let most = formed.settings.procs.1 in let is = lays.procs_are in omega (arith, most, is, lt)
 
 -- an actor that is not done, by the lists that the world is the state of
 pub record Going (w : State) : Type 0 where
@@ -117,17 +120,17 @@ pub record Going (w : State) : Type 0 where
   pub there : who < seats_of (layout_of w)
   pub going : (es : List (Entry Op)) → IsAfter w es → ended_after (setting_of (script_of w) (layout_of w)) es who ≡ false
 
-pub unfinished : (w : State) (p : Program) (plan : Plan) (budget : ℕ) (answers : List (ℕ × Answer)) → script_of w ≡ p → LaysOut p (layout_of w) → Ran w plan budget answers → ¬ AllDone w → Going w → IsUnfinished p plan budget
-unfinished w p plan budget answers script lays r going g = subst Goal script here lays where
+pub unfinished : (w : State) (p : Program) (plan : Plan) (budget : ℕ) (answers : List (ℕ × Answer)) → WellFormed p → script_of w ≡ p → LaysOut p (layout_of w) → Ran w plan budget answers → ¬ AllDone w → Going w → IsUnfinished p plan budget
+unfinished w p plan budget answers formed script lays r going g = subst Goal script here lays formed where
   Goal : Program → Type 0
-  Goal q = LaysOut q (layout_of w) → IsUnfinished q plan budget
+  Goal q = LaysOut q (layout_of w) → WellFormed q → IsUnfinished q plan budget
 
-  here : LaysOut (script_of w) (layout_of w) → IsUnfinished (script_of w) plan budget
-  here lays = record {
+  here : LaysOut (script_of w) (layout_of w) → WellFormed (script_of w) → IsUnfinished (script_of w) plan budget
+  here lays formed = record {
     layout = layout_of w;
     lays_out = lays;
     turns = r.turns;
-    so_far = so_far w r.turns r.after;
+    so_far = so_far w r.turns formed lays r.after;
     scheduled = r.scheduled;
     long = r.all going;
     who = g.who;

@@ -1,4 +1,4 @@
--- Among a script's turns each goroutine asks as often as it has `new` and `gc`, and each has ended before the leave.
+-- Among the turns of a processor each of its goroutines asks as often as it has `new` and `gc`, and each has ended before the leave.
 use Rattle.std.proofs.Common.{◌≡◌, ℕ, zero, suc, ◌+◌, ◌<◌, ◌≤◌, Bool, true, false, cond, eqb, leb, ltb, ◌&&◌, ◌||◌, List, [], ◌∷◌, ◌++◌, map, length, reverse, Option, Some, None, refl, sym, ap, ◌∙◌, arith, inl, inr}
 use Rattle.std.specs.Prelude.{not}
 use Rattle.std.specs.List.{filter, flat_map, range_with_len}
@@ -11,10 +11,10 @@ use Rattle.gh_base.specs.declared.operation.Op.TheVariants as op
 use Rattle.gh_script.specs.declared.statement.Stmt.TheVariants as stmts
 use Rattle.gh_script.specs.Program.{op_of}
 use Rattle.gh_world.specs.Processors.{asked_by, asks_collector}
-use Rattle.gh_world.specs.Turns.{count_of, is_statement_of, round_of, turn_of}
+use Rattle.gh_world.specs.Turns.{count_of, is_of_seat, is_statement_of, round_of, turn_of}
 use Rattle.gh_world.specs.Wishes.{may_ask, wishes_among, wishes_of}
-use Rattle.gh_world.proofs.Vocabulary.{all_ended, Arena, begun_in, ended_in, ends, Entry, eq-eqb, has_left, leaves, Op, option_to_list, Program, slice_get, slice_get_past, total_of, turns_of}
-use Rattle.gh_world.proofs.EachOnce.{turns_mine}
+use Rattle.gh_world.proofs.Vocabulary.{all_ended, Arena, begun_in, ended_in, ends, Entry, eq-eqb, Op, option_to_list, Program, slice_get, slice_get_past, total_of, turns_of}
+use Rattle.gh_world.proofs.EachOnce.{turns_away, turns_mine}
 use Rattle.gh_world.proofs.Turning.{count-le}
 
 more : {A : Type 0} (x : A) (xs : List A) → reverse (x ∷ xs) ≡ reverse xs ++ x ∷ []
@@ -90,15 +90,22 @@ asked_map g (s ∷ ss) =
       go true = omega arith
       go false = omega arith
 
-pub asked_turns : (p : Program) (g : ℕ) → asked_among g (turns_of p) ≡ wishes_of p g
-asked_turns p g = asked_mine g (turns_of p) ∙ ap (asked_among g) (turns_mine p g) ∙ asked_map g (statements_of p g)
+pub asked_of : (p : Program) (g : ℕ) (os : List Op) → filter (is_statement_of g) os ≡ map (op_of g) (statements_of p g) → asked_among g os ≡ wishes_of p g
+asked_of p g os mine = asked_mine g os ∙ ap (asked_among g) mine ∙ asked_map g (statements_of p g)
+
+-- a goroutine asks as often among the turns of its processor, and never among another's
+asked_turns : (p : Program) (a g : ℕ) → asked_among g (turns_of p a) ≤ wishes_of p g
+asked_turns p a g = go (is_of_seat p a g) refl where
+  go : (b : Bool) → is_of_seat p a g ≡ b → asked_among g (turns_of p a) ≤ wishes_of p g
+  go true its = let all = asked_of p g (turns_of p a) (turns_mine p g a its) in omega (arith, all)
+  go false others = let none = asked_mine g (turns_of p a) ∙ ap (asked_among g) (turns_away p g a others) in omega (arith, none)
 
 -- an operation that asks may begin
-pub has_wish : (p : Program) (g : ℕ) (es : List (Entry Op)) (o : Op) (rest : List Op) → turns_of p ≡ reverse (begun_in es) ++ o ∷ rest → asks g o ≡ true → ltb (asked_by g es) (wishes_of p g) ≡ true
-has_wish p g es o rest turns e =
+pub has_wish : (p : Program) (a g : ℕ) (es : List (Entry Op)) (o : Op) (rest : List Op) → turns_of p a ≡ reverse (begun_in es) ++ o ∷ rest → asks g o ≡ true → ltb (asked_by g es) (wishes_of p g) ≡ true
+has_wish p a g es o rest turns e =
     let all = ap (asked_among g) turns ∙ asked_append g (reverse (begun_in es)) (o ∷ rest) in
     let one : one_if (asks g o) ≡ 1 = ap one_if e in
-    lt-ltb (asked_by g es) (wishes_of p g) (omega (arith, asked_turns p g, all, asked_more g o rest, one, asked_begun g es, asked_reverse g (begun_in es)))
+    lt-ltb (asked_by g es) (wishes_of p g) (omega (arith, asked_turns p a g, all, asked_more g o rest, one, asked_begun g es, asked_reverse g (begun_in es)))
 
 -- ---- ending
 
@@ -148,55 +155,31 @@ among_pieces g f (suc n) a i low high e = ended_append g (f a) (flat_map f (rang
   | inr le ↦ let same : i ≡ a = omega arith in ap (λ (b : Bool). b || ended_among g (flat_map f (range_with_len (a + 1) n))) (ap (λ (k : ℕ). ended_among g (f k)) (sym same) ∙ e)
 ]
 
-module _ (p : Program) (g : ℕ) (there : g < length p.goroutines) where
-  turn_ends : ended_among g (turn_of p (count_of p g) g) ≡ true
+-- a goroutine of the processor
+module _ (p : Program) (a g : ℕ) (there : g < length p.goroutines) (its : is_of_seat p a g ≡ true) where
+  turn_ends : ended_among g (turn_of p a (count_of p g) g) ≡ true
   turn_ends =
       let live : leb (count_of p g) (count_of p g) ≡ true = le-leb (count_of p g) (count_of p g) (omega arith) in
       let none = slice_get_past (statements_of p g) (count_of p g) (omega arith) in
-      ap (λ (b : Bool). ended_among g (cond b (op.Poll ∷ work_at g (slice_get (statements_of p g) (count_of p g)) ∷ []) [])) live
+      ap (λ (b : Bool). ended_among g (cond b (op.Poll ∷ work_at g (slice_get (statements_of p g) (count_of p g)) ∷ []) [])) (ap (λ (b : Bool). b && leb (count_of p g) (count_of p g)) its ∙ live)
       ∙ ap (λ (s : Option Stmt). ended_among g (op.Poll ∷ work_at g s ∷ [])) none
       ∙ ap (λ (b : Bool). b || false) (eq-eqb g g refl)
 
-  pub turns_end : ended_among g (turns_of p) ≡ true
+  pub turns_end : ended_among g (turns_of p a) ≡ true
   unfolding turns_of
   turns_end =
-      let round : ended_among g (round_of p (count_of p g)) ≡ true = among_pieces g (turn_of p (count_of p g)) (length p.goroutines) 0 g (omega arith) (omega arith) turn_ends in
-      let rounds = among_pieces g (round_of p) (total_of p + 1) 0 (count_of p g) (omega arith) (omega (arith, count-le p g there)) round in
-      ended_append g (flat_map (round_of p) (range_with_len 0 (total_of p + 1))) (op.Leave ∷ []) ∙ ap (λ (b : Bool). b || false) rounds
+      let round : ended_among g (round_of p a (count_of p g)) ≡ true = among_pieces g (turn_of p a (count_of p g)) (length p.goroutines) 0 g (omega arith) (omega arith) turn_ends in
+      let rounds = among_pieces g (round_of p a) (total_of p + 1) 0 (count_of p g) (omega arith) (omega (arith, count-le p g there)) round in
+      ended_append g (flat_map (round_of p a) (range_with_len 0 (total_of p + 1))) (op.Leave ∷ []) ∙ ap (λ (b : Bool). b || false) rounds
 
   -- where the leave is what comes next, it has ended
-  pub ended_then : (es : List (Entry Op)) → turns_of p ≡ reverse (begun_in es) ++ op.Leave ∷ [] → ended_in es g ≡ true
+  pub ended_then : (es : List (Entry Op)) → turns_of p a ≡ reverse (begun_in es) ++ op.Leave ∷ [] → ended_in es g ≡ true
   ended_then es turns =
       ended_begun g es ∙ sym (ended_reverse g (begun_in es)) ∙ sym (or_false (ended_among g (reverse (begun_in es)))) ∙ sym (ended_append g (reverse (begun_in es)) (op.Leave ∷ [])) ∙ ap (ended_among g) (sym turns) ∙ turns_end
 
-pub all_then : (p : Program) (z : Arena) (a : ℕ) (es : List (Entry Op)) (n : ℕ) → n ≤ length p.goroutines → turns_of p ≡ reverse (begun_in es) ++ op.Leave ∷ [] → all_ended z a es n ≡ true
-all_then p z a es zero le turns = refl
-all_then p z a es (suc n) le turns =
-    let here : ended_in es n ≡ true = ended_then p n (omega arith) es turns in
-    let rest = all_then p z a es n (omega arith) turns in
-    go (not (eqb (z.seat_of n) a)) (ended_in es n) (all_ended z a es n) here rest where
-      go : (b c d : Bool) → c ≡ true → d ≡ true → ((b || c) && d) ≡ true
-      go true true true e f = refl
-      go false true true e f = refl
-      go b false d e f = absurd cc
-      go b c false e f = absurd cc
-
--- ---- leaving
-
-abbrev left_among : List Op → Bool
-left_among [] = false
-left_among (o ∷ os) = leaves (Some o) || left_among os
-
-left_begun : (es : List (Entry Op)) → has_left es ≡ left_among (begun_in es)
-left_begun [] = refl
-left_begun (e ∷ es) = go e.begun (left_begun es) where
-  go : (b : Option Op) → has_left es ≡ left_among (begun_in es) → (leaves b || has_left es) ≡ left_among (option_to_list b ++ begun_in es)
-  go None ih = ih
-  go (Some o) ih = ap (λ (b : Bool). leaves (Some o) || b) ih
-
--- who has ended, and who has left, is settled by what has begun
-pub same_ended : (es fs : List (Entry Op)) (g : ℕ) → begun_in fs ≡ begun_in es → ended_in fs g ≡ ended_in es g
-same_ended es fs g e = ended_begun g fs ∙ ap (ended_among g) e ∙ sym (ended_begun g es)
-
-pub same_left : (es fs : List (Entry Op)) → begun_in fs ≡ begun_in es → has_left fs ≡ has_left es
-same_left es fs e = left_begun fs ∙ ap left_among e ∙ sym (left_begun es)
+pub all_then : (p : Program) (z : Arena) (a : ℕ) (es : List (Entry Op)) → ((g : ℕ) → eqb (z.seat_of g) a ≡ is_of_seat p a g) → (n : ℕ) → n ≤ length p.goroutines → turns_of p a ≡ reverse (begun_in es) ++ op.Leave ∷ [] → all_ended z a es n ≡ true
+all_then p z a es seats zero le turns = refl
+all_then p z a es seats (suc n) le turns = go (eqb (z.seat_of n) a) (all_ended z a es n) refl (all_then p z a es seats n (omega arith) turns) where
+  go : (b c : Bool) → eqb (z.seat_of n) a ≡ b → c ≡ true → ((not b || ended_in es n) && c) ≡ true
+  go false c e rest = rest
+  go true c e rest = ap (λ (b : Bool). b && c) (ended_then p a n (omega arith) (sym (seats n) ∙ e) es turns) ∙ rest

@@ -55,24 +55,24 @@ module _ (p : Program) (l : Layout) (r : WellFormed p) (lay : IsLayoutOf p.setti
       statement_runs p l g s (subst (IsStatement p.settings.globals (length p.shapes)) (get_or_from_slice_get (statements_of p g) n s s e) (All-get_or (IsStatement p.settings.globals (length p.shapes)) (statements_of p g) n s within (are_statements p g lt r))) few there lay.globals_are
 
   -- what is due is in range
-  pub due_runs : (t : Next) (o : Op) → Stands p t → op_due p t ≡ Some o → Runs p.shapes l o
-  due_runs (next.Poll n g) o h e = let same : op.Poll ≡ o = cc in subst (Runs p.shapes l) same (record { sound = tt; ranged = refl })
-  due_runs (next.Run n g) o h e = let same : work_of p n g ≡ o = cc in subst (Runs p.shapes l) same (work_runs g n (slice_get (statements_of p g) n) h.0 refl)
-  due_runs next.Leave o h e = let same : op.Leave ≡ o = cc in subst (Runs p.shapes l) same (record { sound = tt; ranged = refl })
-  due_runs next.Over o h e = absurd cc
+  pub due_runs : (a : ℕ) (t : Next) (o : Op) → Stands p a t → op_due p t ≡ Some o → Runs p.shapes l o
+  due_runs a (next.Poll n g) o h e = let same : op.Poll ≡ o = cc in subst (Runs p.shapes l) same (record { sound = tt; ranged = refl })
+  due_runs a (next.Run n g) o h e = let same : work_of p n g ≡ o = cc in subst (Runs p.shapes l) same (work_runs g n (slice_get (statements_of p g) n) h.there refl)
+  due_runs a next.Leave o h e = let same : op.Leave ≡ o = cc in subst (Runs p.shapes l) same (record { sound = tt; ranged = refl })
+  due_runs a next.Over o h e = absurd cc
 
 -- a statement that is due is one of a goroutine that there is
-pub due_goroutine : (p : Program) (t : Next) (o : Op) → WellFormed p → Stands p t → op_due p t ≡ Some o → is_statement o ≡ true → goroutine_at o < 32
-due_goroutine p (next.Poll n g) o r h e sure = absurd (let same : op.Poll ≡ o = cc in let no : false ≡ is_statement o = ap is_statement same in cc)
-due_goroutine p (next.Run n g) o r h e sure = go (slice_get (statements_of p g) n) e where
+pub due_goroutine : (p : Program) (a : ℕ) (t : Next) (o : Op) → WellFormed p → Stands p a t → op_due p t ≡ Some o → is_statement o ≡ true → goroutine_at o < 32
+due_goroutine p a (next.Poll n g) o r h e sure = absurd (let same : op.Poll ≡ o = cc in let no : false ≡ is_statement o = ap is_statement same in cc)
+due_goroutine p a (next.Run n g) o r h e sure = go (slice_get (statements_of p g) n) e where
   go : (s : Option Stmt) → Some (work_at g s) ≡ Some o → goroutine_at o < 32
   go None q = absurd (let same : op.End g ≡ o = cc in let no : false ≡ is_statement o = ap is_statement same in cc)
   go (Some s) q =
       let same : op_of g s ≡ o = cc in
       let is : goroutine_at o ≡ g = ap goroutine_at (sym same) ∙ goroutine_is g s in
-      omega (arith, is, h.0, r.few_goroutines)
-due_goroutine p next.Leave o r h e sure = absurd (let same : op.Leave ≡ o = cc in let no : false ≡ is_statement o = ap is_statement same in cc)
-due_goroutine p next.Over o r h e sure = absurd cc
+      omega (arith, is, h.there, r.few_goroutines)
+due_goroutine p a next.Leave o r h e sure = absurd (let same : op.Leave ≡ o = cc in let no : false ≡ is_statement o = ap is_statement same in cc)
+due_goroutine p a next.Over o r h e sure = absurd cc
 
 -- there is a name for an object that is made by this operation
 pub has_name_at : (m : Processor) (n : ℕ) (o : Op) → MadeAtMost n m → (is_statement o ≡ true → n < most_objects) → has_names m o ≡ true
@@ -86,19 +86,19 @@ false_unless false h = refl
 not_past_here : (p : Program) (n g : ℕ) → n ≤ count_of p g → IsPast p n g g → ⊥
 not_past_here p n g h past = let never : ltb g g ≡ false = grind (arith, nat_tests) in let q : count_of p g < n + bit false = subst (λ (b : Bool). count_of p g < n + bit b) never past in omega (arith, q, h)
 
-work_goroutine : (g : ℕ) (s : Option Stmt) → goroutine_of (work_at g s) ≡ Some g
+pub work_goroutine : (g : ℕ) (s : Option Stmt) → goroutine_of (work_at g s) ≡ Some g
 work_goroutine g None = refl
 work_goroutine g (Some Gc) = refl
 work_goroutine g _ = refl
 
 -- its goroutine has not ended
-pub not_ended : (p : Program) (t : Next) (o : Op) (es : List (Entry Op)) → Stands p t → op_due p t ≡ Some o → ((g : ℕ) → ended_in es g ≡ true → MayBeOver p t g) → is_ended es (goroutine_of o) ≡ false
-not_ended p (next.Poll n g) o es h e over = let same : op.Poll ≡ o = cc in ap (λ (x : Op). is_ended es (goroutine_of x)) (sym same)
-not_ended p (next.Run n g) o es h e over =
+pub not_ended : (p : Program) (a : ℕ) (t : Next) (o : Op) (es : List (Entry Op)) → Stands p a t → op_due p t ≡ Some o → ((g : ℕ) → ended_in es g ≡ true → MayBeOver p t g) → is_ended es (goroutine_of o) ≡ false
+not_ended p a (next.Poll n g) o es h e over = let same : op.Poll ≡ o = cc in ap (λ (x : Op). is_ended es (goroutine_of x)) (sym same)
+not_ended p a (next.Run n g) o es h e over =
     let same : work_of p n g ≡ o = cc in
-    ap (λ (x : Op). is_ended es (goroutine_of x)) (sym same) ∙ ap (is_ended es) (work_goroutine g (slice_get (statements_of p g) n)) ∙ false_unless (ended_in es g) (λ t. not_past_here p n g h.1 (over g t))
-not_ended p next.Leave o es h e over = let same : op.Leave ≡ o = cc in ap (λ (x : Op). is_ended es (goroutine_of x)) (sym same)
-not_ended p next.Over o es h e over = absurd cc
+    ap (λ (x : Op). is_ended es (goroutine_of x)) (sym same) ∙ ap (is_ended es) (work_goroutine g (slice_get (statements_of p g) n)) ∙ false_unless (ended_in es g) (λ t. not_past_here p n g h.going (over g t))
+not_ended p a next.Leave o es h e over = let same : op.Leave ≡ o = cc in ap (λ (x : Op). is_ended es (goroutine_of x)) (sym same)
+not_ended p a next.Over o es h e over = absurd cc
 
 pub not_over : (p : Program) (t : Next) (o : Op) → op_due p t ≡ Some o → is_over t ≡ true → ⊥
 not_over p (next.Poll n g) o e h = absurd cc
@@ -106,11 +106,11 @@ not_over p (next.Run n g) o e h = absurd cc
 not_over p next.Leave o e h = absurd cc
 not_over p next.Over o e h = absurd cc
 
-pub due_statement : (p : Program) (t : Next) (o : Op) → op_due p t ≡ Some o → is_statement o ≡ true → 1 ≤ statements_among (to_come p t)
-due_statement p (next.Poll n g) o e sure = absurd (let same : op.Poll ≡ o = cc in let no : false ≡ is_statement o = ap is_statement same in cc)
-due_statement p (next.Run n g) o e sure = let same : work_of p n g ≡ o = cc in let one : bit (is_statement (work_of p n g)) ≡ 1 = ap bit (ap is_statement same ∙ sure) in omega (arith, one)
-due_statement p next.Leave o e sure = absurd (let same : op.Leave ≡ o = cc in let no : false ≡ is_statement o = ap is_statement same in cc)
-due_statement p next.Over o e sure = absurd cc
+pub due_statement : (p : Program) (a : ℕ) (t : Next) (o : Op) → op_due p t ≡ Some o → is_statement o ≡ true → 1 ≤ statements_among (to_come p a t)
+due_statement p a (next.Poll n g) o e sure = absurd (let same : op.Poll ≡ o = cc in let no : false ≡ is_statement o = ap is_statement same in cc)
+due_statement p a (next.Run n g) o e sure = let same : work_of p n g ≡ o = cc in let one : bit (is_statement (work_of p n g)) ≡ 1 = ap bit (ap is_statement same ∙ sure) in omega (arith, one)
+due_statement p a next.Leave o e sure = absurd (let same : op.Leave ≡ o = cc in let no : false ≡ is_statement o = ap is_statement same in cc)
+due_statement p a next.Over o e sure = absurd cc
 
 pub ends_is : (o : Op) (g : ℕ) → ends (Some o) g ≡ true → o ≡ op.End g
 ends_is (op.End h) g e = ap op.End (eqb-true h g e)
@@ -130,8 +130,8 @@ has_due p (next.Run n g) h = (work_of p n g, refl)
 has_due p next.Leave h = (op.Leave, refl)
 has_due p next.Over h = absurd cc
 
-pub none_to_come : (p : Program) (t : Next) → is_over t ≡ true → to_come p t ≡ []
-none_to_come p (next.Poll r g) e = absurd cc
-none_to_come p (next.Run r g) e = absurd cc
-none_to_come p next.Leave e = absurd cc
-none_to_come p next.Over e = refl
+pub none_to_come : (p : Program) (a : ℕ) (t : Next) → is_over t ≡ true → to_come p a t ≡ []
+none_to_come p a (next.Poll r g) e = absurd cc
+none_to_come p a (next.Run r g) e = absurd cc
+none_to_come p a next.Leave e = absurd cc
+none_to_come p a next.Over e = refl

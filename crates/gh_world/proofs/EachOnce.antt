@@ -1,9 +1,9 @@
--- Each goroutine's statements stand among the turns each once and in their order, and its answers are theirs.
+-- Each goroutine's statements stand among the turns of its processor each once and in their order, and its answers are theirs.
 use Rattle.std.proofs.Common.{◌≡◌, ℕ, zero, suc, ◌+◌, ◌<◌, ◌≤◌, Bool, true, false, cond, eqb, leb, ◌&&◌, List, [], ◌∷◌, ◌++◌, map, length, drop, Option, Some, None, refl, sym, ap, subst, ◌∙◌, arith, inl, inr}
 use Rattle.std.specs.Prelude.{slice_get}
 use Rattle.std.specs.List.{filter, flat_map, range_with_len}
 use Rattle.std.specs.Option.{option_to_list}
-use Rattle.std.proofs.lemmas.Bool.{leb-false, eq-eqb, cases_lt}
+use Rattle.std.proofs.lemmas.Bool.{leb-false, eq-eqb, eqb-false, eqb-true, cases_lt}
 use Rattle.std.proofs.lemmas.Bool.Decides.{nat_tests}
 use Rattle.std.proofs.lemmas.List.{append-nil, drop_all, drop_more, get_or_past}
 use Rattle.std.proofs.lemmas.List.Elements.{filter-append}
@@ -13,7 +13,7 @@ use Rattle.gh_base.specs.declared.operation.Op.TheVariants as op
 use Rattle.gh_script.specs.declared.statement.Stmt.TheVariants as stmts
 use Rattle.gh_script.specs.Program.{Goroutine, op_of}
 use Rattle.gh_world.specs.Order.{Answered}
-use Rattle.gh_world.specs.Turns.{count_of, total_of, turn_of, round_of, turns_of, answers_to, goroutine_at, is_statement_of}
+use Rattle.gh_world.specs.Turns.{count_of, has_turn, is_of_seat, total_of, turn_of, round_of, turns_of, answers_to, goroutine_at, is_statement_of}
 use Rattle.gh_world.specs.Runs.{acted_by}
 use Rattle.gh_world.proofs.Turning.{statement_is, goroutine_is, has_statement, count-le}
 
@@ -39,60 +39,9 @@ module _ (p : Program) (g : ℕ) where
       let apart : eqb h g ≡ false = grind (arith, nat_tests) in
       ap (λ (b : Bool). b && eqb (goroutine_at (op_of h s)) g) (statement_is h s) ∙ ap (λ (k : ℕ). eqb k g) (goroutine_is h s) ∙ apart
 
-  turn_mine : (r : ℕ) → mine (turn_of p r g) ≡ piece (slice_get (statements_of p g) r)
-  turn_mine r = go (leb r (count_of p g)) (slice_get (statements_of p g) r) refl refl where
-    go : (b : Bool) (s : Option Stmt) → leb r (count_of p g) ≡ b → slice_get (statements_of p g) r ≡ s → mine (cond b (op.Poll ∷ work_at g s ∷ []) []) ≡ piece s
-    go false None e t = refl
-    go false (Some s) e t = absurd (let past = leb-false r (count_of p g) e in let lt = has_statement p (statements_of p g) r s t in omega arith)
-    go true None e t = refl
-    go true (Some s) e t = ap (λ (b : Bool). cond b (op_of g s ∷ []) []) (mine_is s)
-
-  turn_other : (r h : ℕ) → (h ≡ g → ⊥) → mine (turn_of p r h) ≡ []
-  turn_other r h ne = go (leb r (count_of p h)) (slice_get (statements_of p h) r) where
-    go : (b : Bool) (s : Option Stmt) → mine (cond b (op.Poll ∷ work_at h s ∷ []) []) ≡ []
-    go false s = refl
-    go true None = refl
-    go true (Some s) = ap (λ (b : Bool). cond b (op_of h s ∷ []) []) (not_mine h s ne)
-
-  -- the turns of other goroutines
-  others : (r n h : ℕ) → ((k : ℕ) → h ≤ k → k < h + n → k ≡ g → ⊥) → mine (flat_map (turn_of p r) (range_with_len h n)) ≡ []
-  others r zero h ne = refl
-  others r (suc n) h ne =
-      filter-append (is_statement_of g) (turn_of p r h) (flat_map (turn_of p r) (range_with_len (h + 1) n))
-      ∙ ap (λ (os : List Op). os ++ mine (flat_map (turn_of p r) (range_with_len (h + 1) n))) (turn_other r h (ne h (omega arith) (omega arith)))
-      ∙ others r n (h + 1) (λ k low high same. ne k (omega arith) (omega arith) same)
-
-  here : (r n h : ℕ) → h ≤ g → g < h + n → mine (flat_map (turn_of p r) (range_with_len h n)) ≡ piece (slice_get (statements_of p g) r)
-  here r zero h low high = absurd (omega arith)
-  here r (suc n) h low high = elim (cases_lt h g) [
-    | inl lt ↦ filter-append (is_statement_of g) (turn_of p r h) (flat_map (turn_of p r) (range_with_len (h + 1) n))
-        ∙ ap (λ (os : List Op). os ++ mine (flat_map (turn_of p r) (range_with_len (h + 1) n))) (turn_other r h (λ same. omega arith))
-        ∙ here r n (h + 1) (omega arith) (omega arith)
-    | inr le ↦ let same : g ≡ h = omega arith in subst (λ (k : ℕ). mine (flat_map (turn_of p r) (range_with_len k (suc n))) ≡ piece (slice_get (statements_of p g) r)) same
-        (filter-append (is_statement_of g) (turn_of p r g) (flat_map (turn_of p r) (range_with_len (g + 1) n))
-        ∙ ap (λ (os : List Op). os ++ mine (flat_map (turn_of p r) (range_with_len (g + 1) n))) (turn_mine r)
-        ∙ ap (λ (os : List Op). piece (slice_get (statements_of p g) r) ++ os) (others r n (g + 1) (λ k low high same. omega arith))
-        ∙ append-nil (piece (slice_get (statements_of p g) r)))
-  ]
-
   -- a goroutine that there is not has no statement
   pub none_beyond : length p.goroutines ≤ g → statements_of p g ≡ []
   none_beyond le = ap (λ (x : Goroutine). x.statements) (get_or_past p.goroutines g no_goroutine le)
-
-  round_mine : (r : ℕ) → mine (round_of p r) ≡ piece (slice_get (statements_of p g) r)
-  round_mine r = elim (cases_lt g (length p.goroutines)) [
-    | inl lt ↦ here r (length p.goroutines) 0 (omega arith) (omega arith)
-    | inr le ↦ others r (length p.goroutines) 0 (λ k low high same. omega arith)
-        ∙ sym (ap (λ (xs : List Stmt). piece (slice_get xs r)) (none_beyond le) ∙ ap piece (slice_get_past [] r (omega arith)))
-  ]
-
-  rounds_mine : (n r : ℕ) → count_of p g ≤ r + n → mine (flat_map (round_of p) (range_with_len r n)) ≡ map (op_of g) (drop r (statements_of p g))
-  rounds_mine zero r few = ap (map (op_of g)) (sym (drop_all r (statements_of p g) (omega arith)))
-  rounds_mine (suc n) r few =
-      filter-append (is_statement_of g) (round_of p r) (flat_map (round_of p) (range_with_len (r + 1) n))
-      ∙ ap (λ (os : List Op). os ++ mine (flat_map (round_of p) (range_with_len (r + 1) n))) (round_mine r)
-      ∙ ap (λ (os : List Op). piece (slice_get (statements_of p g) r) ++ os) (rounds_mine n (r + 1) (omega arith))
-      ∙ pieces (op_of g) (statements_of p g) r
 
   few_statements : count_of p g ≤ total_of p
   few_statements = elim (cases_lt g (length p.goroutines)) [
@@ -100,13 +49,91 @@ module _ (p : Program) (g : ℕ) where
     | inr le ↦ let none = ap (λ (xs : List Stmt). length xs) (none_beyond le) in omega (arith, none)
   ]
 
-  -- the statements of the goroutine among the turns are those of the script
-  pub turns_mine : mine (turns_of p) ≡ map (op_of g) (statements_of p g)
-  unfolding turns_of
-  turns_mine =
-      filter-append (is_statement_of g) (flat_map (round_of p) (range_with_len 0 (total_of p + 1))) (op.Leave ∷ [])
-      ∙ append-nil (mine (flat_map (round_of p) (range_with_len 0 (total_of p + 1))))
-      ∙ rounds_mine (total_of p + 1) 0 (omega (arith, few_statements))
+  -- Among the turns of one processor.
+  module _ (a : ℕ) where
+    turn_other : (r h : ℕ) → (h ≡ g → ⊥) → mine (turn_of p a r h) ≡ []
+    turn_other r h ne = go (has_turn p a r h) (slice_get (statements_of p h) r) where
+      go : (b : Bool) (s : Option Stmt) → mine (cond b (op.Poll ∷ work_at h s ∷ []) []) ≡ []
+      go false s = refl
+      go true None = refl
+      go true (Some s) = ap (λ (b : Bool). cond b (op_of h s ∷ []) []) (not_mine h s ne)
+
+    -- turns in which it has no statement
+    none_of : (r n h : ℕ) → ((k : ℕ) → h ≤ k → k < h + n → mine (turn_of p a r k) ≡ []) → mine (flat_map (turn_of p a r) (range_with_len h n)) ≡ []
+    none_of r zero h none = refl
+    none_of r (suc n) h none =
+        filter-append (is_statement_of g) (turn_of p a r h) (flat_map (turn_of p a r) (range_with_len (h + 1) n))
+        ∙ ap (λ (os : List Op). os ++ mine (flat_map (turn_of p a r) (range_with_len (h + 1) n))) (none h (omega arith) (omega arith))
+        ∙ none_of r n (h + 1) (λ k low high. none k (omega arith) (omega arith))
+
+    -- where it is of that processor
+    module _ (its : is_of_seat p a g ≡ true) where
+      turn_mine : (r : ℕ) → mine (turn_of p a r g) ≡ piece (slice_get (statements_of p g) r)
+      turn_mine r = ap (λ (b : Bool). mine (cond (b && leb r (count_of p g)) (op.Poll ∷ work_at g (slice_get (statements_of p g) r) ∷ []) [])) its ∙ go (leb r (count_of p g)) (slice_get (statements_of p g) r) refl refl where
+        go : (b : Bool) (s : Option Stmt) → leb r (count_of p g) ≡ b → slice_get (statements_of p g) r ≡ s → mine (cond b (op.Poll ∷ work_at g s ∷ []) []) ≡ piece s
+        go false None e t = refl
+        go false (Some s) e t = absurd (let past = leb-false r (count_of p g) e in let lt = has_statement p (statements_of p g) r s t in omega arith)
+        go true None e t = refl
+        go true (Some s) e t = ap (λ (b : Bool). cond b (op_of g s ∷ []) []) (mine_is s)
+
+      here : (r n h : ℕ) → h ≤ g → g < h + n → mine (flat_map (turn_of p a r) (range_with_len h n)) ≡ piece (slice_get (statements_of p g) r)
+      here r zero h low high = absurd (omega arith)
+      here r (suc n) h low high = elim (cases_lt h g) [
+        | inl lt ↦ filter-append (is_statement_of g) (turn_of p a r h) (flat_map (turn_of p a r) (range_with_len (h + 1) n))
+            ∙ ap (λ (os : List Op). os ++ mine (flat_map (turn_of p a r) (range_with_len (h + 1) n))) (turn_other r h (λ same. omega arith))
+            ∙ here r n (h + 1) (omega arith) (omega arith)
+        | inr le ↦ let same : g ≡ h = omega arith in subst (λ (k : ℕ). mine (flat_map (turn_of p a r) (range_with_len k (suc n))) ≡ piece (slice_get (statements_of p g) r)) same
+            (filter-append (is_statement_of g) (turn_of p a r g) (flat_map (turn_of p a r) (range_with_len (g + 1) n))
+            ∙ ap (λ (os : List Op). os ++ mine (flat_map (turn_of p a r) (range_with_len (g + 1) n))) (turn_mine r)
+            ∙ ap (λ (os : List Op). piece (slice_get (statements_of p g) r) ++ os) (none_of r n (g + 1) (λ k low high. turn_other r k (λ same. omega arith)))
+            ∙ append-nil (piece (slice_get (statements_of p g) r)))
+      ]
+
+      round_mine : (r : ℕ) → mine (round_of p a r) ≡ piece (slice_get (statements_of p g) r)
+      round_mine r = elim (cases_lt g (length p.goroutines)) [
+        | inl lt ↦ here r (length p.goroutines) 0 (omega arith) (omega arith)
+        | inr le ↦ none_of r (length p.goroutines) 0 (λ k low high. turn_other r k (λ same. omega arith))
+            ∙ sym (ap (λ (xs : List Stmt). piece (slice_get xs r)) (none_beyond le) ∙ ap piece (slice_get_past [] r (omega arith)))
+      ]
+
+      rounds_mine : (n r : ℕ) → count_of p g ≤ r + n → mine (flat_map (round_of p a) (range_with_len r n)) ≡ map (op_of g) (drop r (statements_of p g))
+      rounds_mine zero r few = ap (map (op_of g)) (sym (drop_all r (statements_of p g) (omega arith)))
+      rounds_mine (suc n) r few =
+          filter-append (is_statement_of g) (round_of p a r) (flat_map (round_of p a) (range_with_len (r + 1) n))
+          ∙ ap (λ (os : List Op). os ++ mine (flat_map (round_of p a) (range_with_len (r + 1) n))) (round_mine r)
+          ∙ ap (λ (os : List Op). piece (slice_get (statements_of p g) r) ++ os) (rounds_mine n (r + 1) (omega arith))
+          ∙ pieces (op_of g) (statements_of p g) r
+
+      -- its statements among the turns are those of the script
+      pub turns_mine : mine (turns_of p a) ≡ map (op_of g) (statements_of p g)
+      unfolding turns_of
+      turns_mine =
+          filter-append (is_statement_of g) (flat_map (round_of p a) (range_with_len 0 (total_of p + 1))) (op.Leave ∷ [])
+          ∙ append-nil (mine (flat_map (round_of p a) (range_with_len 0 (total_of p + 1))))
+          ∙ rounds_mine (total_of p + 1) 0 (omega (arith, few_statements))
+
+    -- where it is of another
+    module _ (others : is_of_seat p a g ≡ false) where
+      turn_away : (r h : ℕ) → mine (turn_of p a r h) ≡ []
+      turn_away r h = go (eqb h g) refl where
+        go : (b : Bool) → eqb h g ≡ b → mine (turn_of p a r h) ≡ []
+        go false ne = turn_other r h (eqb-false h g ne)
+        go true e = ap (λ (k : ℕ). mine (turn_of p a r k)) (eqb-true h g e) ∙ ap (λ (b : Bool). mine (cond (b && leb r (count_of p g)) (op.Poll ∷ work_at g (slice_get (statements_of p g) r) ∷ []) [])) others
+
+      rounds_away : (n r : ℕ) → mine (flat_map (round_of p a) (range_with_len r n)) ≡ []
+      rounds_away zero r = refl
+      rounds_away (suc n) r =
+          filter-append (is_statement_of g) (round_of p a r) (flat_map (round_of p a) (range_with_len (r + 1) n))
+          ∙ ap (λ (os : List Op). os ++ mine (flat_map (round_of p a) (range_with_len (r + 1) n))) (none_of r (length p.goroutines) 0 (λ k low high. turn_away r k))
+          ∙ rounds_away n (r + 1)
+
+      -- it has no statement among the turns
+      pub turns_away : mine (turns_of p a) ≡ []
+      unfolding turns_of
+      turns_away =
+          filter-append (is_statement_of g) (flat_map (round_of p a) (range_with_len 0 (total_of p + 1))) (op.Leave ∷ [])
+          ∙ append-nil (mine (flat_map (round_of p a) (range_with_len 0 (total_of p + 1))))
+          ∙ rounds_away (total_of p + 1) 0
 
   -- which operations are the goroutine's
   pub acted_ops : (xs : List Answered) → map (λ (a : Answered). a.op) (acted_by g xs) ≡ mine (map (λ (a : Answered). a.op) xs)

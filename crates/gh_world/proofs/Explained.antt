@@ -1,5 +1,6 @@
 pub mod Steps
 pub mod Acted
+pub mod Seats
 pub mod Told
 pub mod Answers
 pub mod Numbers

@@ -14,7 +14,7 @@ use Rattle.gh_world.specs.World.{FitOthers, FitTurns, FitWords, LaysOut, op_at_t
 use Rattle.gh_world.specs.declared.event.Event.TheVariants as event
 use Rattle.gh_world.proofs.Vocabulary.{acts, Answer, begins_at, begins, bit, cell_of, changed, eqb-false, eqb-true, Event, Follows, get_or-map-range_with_len, get_or-set_other, get_or-set_same, get_or_from_slice_get, gives_at, GoesOnUntilDone, goroutine_at, has_left_at, has_names, InRange, is_busy_at, is_over, is_point, is_some, is_statement, is_unacted, later, Layout, length-map-range_with_len, most_cycles, Mutating, Next, Op, op_at, op_due, opening_processor, opening_progress, Processor, Program, Progress, progress_after, read_after_set, read_replicate, request, set, Shape, slice_get, slice_get-get_or, slice_get_within, statement_answer, statements_among, takes, target, to_come, total_of, turns_of, WellFormed}
 use Rattle.gh_world.proofs.StepFacts.{step_facts, begin_facts, StepFacts, BeginFacts, begins_busy}
-use Rattle.gh_world.proofs.Turning.{opens_at, turns_say}
+use Rattle.gh_world.proofs.Turning.{opens_at, total_by-single, turns_say}
 use Rattle.gh_mutator.specs.Mutating as mutating
 use Rattle.gh_mutator.specs.Ends.{stays}
 use Rattle.gh_world.proofs.Due.{due_goroutine, due_runs, due_statement, few_statements, has_due, has_name_at, idle_not_leaving}
@@ -45,7 +45,7 @@ marks_more marks (Some a) few = omega arith
 module _ (p : Program) (l : Layout) (script : WellFormed p) (layout : LaysOut p l) (m : Mutating) (t : Progress) (points room : ℕ) (f : FitTurns p l m t points room) where
   -- what is due is begun
   pub begun_busy : (o : Op) → op_due p t.next ≡ Some o → is_busy_at (begins_at m.shapes m.processor o) ≡ true
-  begun_busy o due = begins_busy m.shapes m.processor l.goroutines l.globals (length p.shapes) o (due_runs p l script layout t.next o f.stands due).ranged
+  begun_busy o due = begins_busy m.shapes m.processor l.goroutines l.globals (length p.shapes) o (due_runs p l script layout 0 t.next o f.stands due).ranged
 
   stated_few : t.stated ≤ 200000
   stated_few = omega (arith, f.all, few_statements p script)
@@ -53,11 +53,11 @@ module _ (p : Program) (l : Layout) (script : WellFormed p) (layout : LaysOut p 
   pub marks_few : m.marks + 1 < 2 ^ 32
   marks_few = omega (arith, f.marked, stated_few)
 
-  pub fit_begun : (o : Op) (new : Next) → op_due p t.next ≡ Some o → Follows p t.next o new → FitTurns p l (mutating.begins m o) (progress_after t (Some o) new) points room
+  pub fit_begun : (o : Op) (new : Next) → op_due p t.next ≡ Some o → Follows p 0 t.next o new → FitTurns p l (mutating.begins m o) (progress_after t (Some o) new) points room
   fit_begun o new due follows =
       let b : BeginFacts o (begins_at m.shapes m.processor o) = begin_facts m.shapes m.processor o (begun_busy o due) in
       let unacted : is_unacted (op_at (begins_at m.shapes m.processor o)) ≡ is_statement o = ap is_unacted b.is in
-      let come : statements_among (to_come p t.next) ≡ bit (is_statement o) + statements_among (to_come p new) = ap statements_among follows.come in
+      let come : statements_among (to_come p 0 t.next) ≡ bit (is_statement o) + statements_among (to_come p 0 new) = ap statements_among follows.come in
       record {
         shapes = f.shapes;
         laid = begun_laid o;
@@ -66,7 +66,7 @@ module _ (p : Program) (l : Layout) (script : WellFormed p) (layout : LaysOut p 
         all = omega (arith, f.all, come);
         columns = counts_long t o f.columns;
         few_begun = counts_few t o f.few_begun;
-        last = last_few t o f.last (due_goroutine p t.next o script f.stands due);
+        last = last_few t o f.last (due_goroutine p 0 t.next o script f.stands due);
         leaves = b.leaves ∙ sym follows.leaves;
         marked = rw b.serves (omega (arith, f.marked));
         pointed = rw unacted (omega (arith, f.pointed));
@@ -104,10 +104,10 @@ module _ (p : Program) (l : Layout) (script : WellFormed p) (layout : LaysOut p 
 
   pub due_sound : (o : Op) → op_due p t.next ≡ Some o → SoundOp m.shapes m.processor.poll.layout o
   due_sound o due =
-      subst (λ (shapes : List Shape). SoundOp shapes m.processor.poll.layout o) (sym f.shapes) (subst (λ (k : Layout). SoundOp p.shapes k o) (sym f.laid) (due_runs p l script layout t.next o f.stands due).sound)
+      subst (λ (shapes : List Shape). SoundOp shapes m.processor.poll.layout o) (sym f.shapes) (subst (λ (k : Layout). SoundOp p.shapes k o) (sym f.laid) (due_runs p l script layout 0 t.next o f.stands due).sound)
 
   pub due_named : (o : Op) → op_due p t.next ≡ Some o → has_names m.processor o ≡ true
-  due_named o due = has_name_at m.processor t.stated o f.made (λ sure. omega (arith, due_statement p t.next o due sure, f.all, few_statements p script))
+  due_named o due = has_name_at m.processor t.stated o f.made (λ sure. omega (arith, due_statement p 0 t.next o due sure, f.all, few_statements p script))
 
   -- what a step begins with
   pub record Ready (n : Mutating) (later : Progress) : Type 0 where
@@ -157,10 +157,10 @@ polled_opens l (next.Poll r g) = tt
 polled_opens l next.Leave = tt
 polled_opens l next.Over = tt
 
-pub fit_opens : (p : Program) (l : Layout) (first : Next) (room : ℕ) → total_of p ≤ room → to_come p first ≡ later p 0 0 → Stands p first → is_over first ≡ false → FitTurns p l (mutating.opening l 0 p.shapes) (opening_progress first) 0 room
-fit_opens p l first room reserved come stands over =
-    let turns : to_come p first ≡ turns_of p = come ∙ sym (opens_at p) in
-    let all : statements_among (to_come p first) ≡ total_of p = ap statements_among turns ∙ turns_say p in
+pub fit_opens : (p : Program) (l : Layout) (first : Next) (room : ℕ) → p.settings.procs ≡ 1 → total_of p ≤ room → to_come p 0 first ≡ later p 0 0 0 → Stands p 0 first → is_over first ≡ false → FitTurns p l (mutating.opening l 0 p.shapes) (opening_progress first) 0 room
+fit_opens p l first room single reserved come stands over =
+    let turns : to_come p 0 first ≡ turns_of p 0 = come ∙ sym (opens_at p 0) in
+    let all : statements_among (to_come p 0 first) ≡ total_of p = ap statements_among turns ∙ turns_say p 0 ∙ total_by-single p single in
     record {
       shapes = refl;
       laid = refl;

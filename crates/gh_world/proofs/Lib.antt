@@ -23,4 +23,5 @@ pub mod AllActors
 pub mod Within
 pub mod Explained
 pub mod Following
+pub mod MayBegin
 pub mod GoingOn

@@ -1,4 +1,4 @@
--- The lists of a script are lists of all actors, of one processor, with few `new` and `gc`; so all stands after each.
+-- The lists of a script are lists of all actors, with few `new` and `gc`; so all stands after each.
 use Rattle.std.proofs.Common.{◌≡◌, ◌≤◌, List, ap, ◌∙◌, arith}
 use Rattle.std.specs.Prelude.{sum_by}
 use Rattle.gh_base.specs.declared.limits.TheConstants.{MOST_STATEMENTS}
@@ -14,9 +14,6 @@ pub shapes_good : (p : Program) → WellFormed p → ShapesAreGood p.shapes
 shapes_good p formed = record { fit = λ t lt. formed.shapes_fit t lt; narrow = λ t i lt. (formed.shapes_packed t _ lt).narrow i }
 
 module _ (p : Program) (l : Layout) (formed : WellFormed p) (out : LaysOut p l) where
-  pub single : l.procs ≡ 1
-  single = let is = out.procs_are in let low = formed.settings.procs.0 in let high = formed.settings.procs.1 in omega (arith, is, low, high)
-
   pub many_wishes : total (wishes_of p) l.goroutines ≡ sum_by wishes_in p.goroutines
   many_wishes = ap (total (wishes_of p)) out.goroutines_are ∙ total_wishes p.goroutines
 

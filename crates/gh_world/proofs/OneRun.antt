@@ -1,29 +1,38 @@
 -- Over a plain list of words a script has one run in each order of steps, and one where the actors take turns.
-use Rattle.std.proofs.Common.{◌≡◌, ℕ, ◌≤◌, Bool, true, false, cond, List, [], ◌∷◌, ◌++◌, length, reverse, Option, Some, None, refl, sym, ap, subst, ◌∙◌, append_assoc, arith}
+use Rattle.std.proofs.Common.{◌≡◌, ℕ, ◌≤◌, Bool, true, false, cond, eqb, List, [], ◌∷◌, ◌++◌, length, reverse, Option, Some, None, refl, sym, ap, subst, ◌∙◌, append_assoc, arith, inl, inr}
 use Rattle.std.specs.Option.{option_to_list}
+use Rattle.std.proofs.lemmas.Bool.{cases_lt, eq-eqb}
 use Rattle.std.proofs.lemmas.Grind.{reverse_onto}
 use Rattle.std.proofs.lemmas.List.{append_cancel_left, append-nil}
 use Rattle.gh_base.specs.declared.operation.Op.{Op}
 use Rattle.gh_base.specs.declared.layout.Layout.{Layout}
 use Rattle.gh_base.specs.declared.machine.Entry.{Entry}
-use Rattle.gh_base.specs.Lists.{MayFollow, Begins}
+use Rattle.gh_base.specs.Lists.{Begins, by, MayFollow}
 use Rattle.gh_script.specs.Program.{Program}
 use Rattle.gh_world.specs.Order.{begun_in}
 use Rattle.gh_world.specs.Schedule.{ended_after, first_going, in_order_from, IsInTurn, next_in}
 use Rattle.gh_world.specs.Turns.{turns_of}
 use Rattle.gh_world.specs.World.{actor_after, setting_of}
 use Rattle.gh_world.specs.Runs.{actors_in, IsRun, IsRunSoFar, EveryOrderHasOneRun, EveryRunIsOne, NoneIsLonger}
+use Rattle.gh_world.proofs.Resting.{other_none}
 
 pub one_more : {A : Type 0} (x : A) (xs rest : List A) → reverse (x ∷ xs) ++ rest ≡ reverse xs ++ x ∷ rest
 one_more x xs rest = ap (λ ys. ys ++ rest) (reverse_onto xs x []) ∙ append_assoc (reverse xs) (x ∷ []) rest
 
--- what had begun before the last step
+-- what was to come before the last step
 pub before_turns : (o : Option Op) (bs to_come turns : List Op) → turns ≡ reverse (option_to_list o ++ bs) ++ to_come → turns ≡ reverse bs ++ (option_to_list o ++ to_come)
 before_turns None bs to_come turns h = h
 before_turns (Some o) bs to_come turns h = h ∙ one_more o bs to_come
 
+-- what the actor begins with this entry
+abbrev begins_by : (a : ℕ) → Entry Op → List Op
+begins_by a e = cond (eqb e.actor a) (option_to_list e.begun) []
+
 pub before : (p : Program) (l : Layout) (e : Entry Op) (es : List (Entry Op)) → IsRunSoFar p l (e ∷ es) → IsRunSoFar p l es
-before p l e es r = record { legal = r.legal.0; to_come = option_to_list e.begun ++ r.to_come; turns = before_turns e.begun (begun_in es) r.to_come (turns_of p) r.turns }
+before p l e es r = record { legal = r.legal.0; to_come = λ a. begins_by a e ++ r.to_come a; turns = λ a lt. go a (eqb e.actor a) (r.turns a lt) } where
+  go : (a : ℕ) (b : Bool) → turns_of p a ≡ reverse (begun_in (cond b (e ∷ by a es) (by a es))) ++ r.to_come a → turns_of p a ≡ reverse (begun_in (by a es)) ++ (cond b (option_to_list e.begun) [] ++ r.to_come a)
+  go a true h = before_turns e.begun (begun_in (by a es)) (r.to_come a) (turns_of p a) h
+  go a false h = h
 
 -- the same operations, where both begin one or neither does
 same_begun : (busy : Bool) (o q : Option Op) (bs xs ys turns : List Op) → (o ≡ None → busy ≡ true) → ((x : Op) → o ≡ Some x → busy ≡ false) → (q ≡ None → busy ≡ true) → ((x : Op) → q ≡ Some x → busy ≡ false)
@@ -48,15 +57,24 @@ module _ (p : Program) (l : Layout) where
       let found : e.found ≡ f.found = m.found ∙ rw ask (sym n.found) in
       rw (actor, begun, ask, found) refl
 
+  -- what a processor begins now, and what is to come behind it
+  pub begins_now : (a : ℕ) (e : Entry Op) (es : List (Entry Op)) (xs : List Op) → e.actor ≡ a → turns_of p a ≡ reverse (begun_in (by a (e ∷ es))) ++ xs → turns_of p a ≡ reverse (begun_in (by a es)) ++ (option_to_list e.begun ++ xs)
+  begins_now a e es xs same h =
+      let own : by a (e ∷ es) ≡ e ∷ by a es = ap (λ (b : Bool). cond b (e ∷ by a es) (by a es)) (eq-eqb e.actor a same) in
+      before_turns e.begun (begun_in (by a es)) xs (turns_of p a) (h ∙ ap (λ (fs : List (Entry Op)). reverse (begun_in fs) ++ xs) own)
+
   -- the entries of one actor that may follow a list, and continue the run, are one
-  same_entry : (es : List (Entry Op)) (e f : Entry Op) (xs ys : List Op) → e.actor ≡ f.actor → MayFollow (setting_of p l) es e → MayFollow (setting_of p l) es f
-      → turns_of p ≡ reverse (begun_in (e ∷ es)) ++ xs → turns_of p ≡ reverse (begun_in (f ∷ es)) ++ ys → e ≡ f
-  same_entry es e f xs ys same m n h k =
-      let there : Begins (setting_of p l) e.actor es f.begun = subst (λ (a : ℕ). Begins (setting_of p l) a es f.begun) (sym same) n.begins in
-      let begun : e.begun ≡ f.begun =
-      same_begun ((setting_of p l).kind.busy (actor_after p l es e.actor)) e.begun f.begun (begun_in es) xs ys (turns_of p) (none_busy e.actor es e.begun m.begins) (some_idle e.actor es e.begun m.begins)
-      (none_busy e.actor es f.begun there) (some_idle e.actor es f.begun there) (before_turns e.begun (begun_in es) xs (turns_of p) h) (before_turns f.begun (begun_in es) ys (turns_of p) k) in
-      same_step es e f same begun m n
+  same_entry : (es : List (Entry Op)) (e f : Entry Op) → e.actor ≡ f.actor → IsRunSoFar p l (e ∷ es) → IsRunSoFar p l (f ∷ es) → e ≡ f
+  same_entry es e f same r s = same_step es e f same begun r.legal.1 s.legal.1 where
+    there : Begins (setting_of p l) e.actor es f.begun
+    there = subst (λ (a : ℕ). Begins (setting_of p l) a es f.begun) (sym same) s.legal.1.begins
+
+    begun : e.begun ≡ f.begun
+    begun = elim (cases_lt e.actor l.procs) [
+      | inl lt ↦ same_begun ((setting_of p l).kind.busy (actor_after p l es e.actor)) e.begun f.begun (begun_in (by e.actor es)) (r.to_come e.actor) (s.to_come e.actor) (turns_of p e.actor) (none_busy e.actor es e.begun r.legal.1.begins)
+          (some_idle e.actor es e.begun r.legal.1.begins) (none_busy e.actor es f.begun there) (some_idle e.actor es f.begun there) (begins_now e.actor e es (r.to_come e.actor) refl (r.turns e.actor lt)) (begins_now e.actor f es (s.to_come e.actor) (sym same) (s.turns e.actor lt))
+      | inr le ↦ other_none p l e.actor es e.begun le r.legal.1.begins r.legal.1.runs ∙ sym (other_none p l f.actor es f.begun (subst (λ (a : ℕ). l.procs ≤ a) same le) s.legal.1.begins s.legal.1.runs)
+    ]
 
   heads : (a b : ℕ) (as' bs : List ℕ) → a ∷ as' ≡ b ∷ bs → a ≡ b
   heads a b as' bs e = cc
@@ -71,7 +89,7 @@ module _ (p : Program) (l : Layout) where
   one_order (e ∷ es) (f ∷ fs) r s who =
       let same : es ≡ fs = one_order es fs (before p l e es r) (before p l f fs s) (tails e.actor f.actor (actors_in es) (actors_in fs) who) in
       let other : IsRunSoFar p l (f ∷ es) = subst (λ (gs : List (Entry Op)). IsRunSoFar p l (f ∷ gs)) (sym same) s in
-      let first : e ≡ f = same_entry es e f r.to_come other.to_come (heads e.actor f.actor (actors_in es) (actors_in fs) who) r.legal.1 other.legal.1 r.turns other.turns in
+      let first : e ≡ f = same_entry es e f (heads e.actor f.actor (actors_in es) (actors_in fs) who) r other in
       rw (first, same) refl
 
   insides : (a b : ℕ) → Some a ≡ Some b → a ≡ b
@@ -88,7 +106,7 @@ module _ (p : Program) (l : Layout) where
       let other : IsRunSoFar p l (f ∷ es) = subst (λ (gs : List (Entry Op)). IsRunSoFar p l (f ∷ gs)) (sym same) s in
       let turn : IsInTurn (setting_of p l) (f ∷ es) = subst (λ (gs : List (Entry Op)). IsInTurn (setting_of p l) (f ∷ gs)) (sym same) u in
       let who : Some e.actor ≡ Some f.actor = sym t.1 ∙ turn.1 in
-      let first : e ≡ f = same_entry es e f r.to_come other.to_come (insides e.actor f.actor who) r.legal.1 other.legal.1 r.turns other.turns in
+      let first : e ≡ f = same_entry es e f (insides e.actor f.actor who) r other in
       rw (first, same) refl
 
 pub every_order_has_one_run : EveryOrderHasOneRun
@@ -115,7 +133,7 @@ nothing_follows p l e es run r t =
     absurd cc
 
 is_so_far : (p : Program) (l : Layout) (es : List (Entry Op)) → IsRun p l es → IsRunSoFar p l es
-is_so_far p l es r = record { legal = r.legal; to_come = []; turns = sym (append-nil (reverse (begun_in es)) ∙ r.turns) }
+is_so_far p l es r = record { legal = r.legal; to_come = λ a. []; turns = λ a lt. sym (append-nil (reverse (begun_in (by a es))) ∙ r.turns a lt) }
 
 not_as_long : (p : Program) (l : Layout) (e : Entry Op) (es fs : List (Entry Op)) → IsRun p l es → IsRunSoFar p l (e ∷ fs) → IsInTurn (setting_of p l) es → IsInTurn (setting_of p l) (e ∷ fs) → length es ≡ length fs → ⊥
 not_as_long p l e es fs run r t u long =

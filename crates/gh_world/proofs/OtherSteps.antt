@@ -1,16 +1,16 @@
 -- One step of a worker, or of the coordinator, in a world is one entry more of a legal list; and what a world is before its first step.
-use Rattle.std.proofs.Common.{◌≡◌, ℕ, suc, ◌+◌, ◌<◌, ◌≤◌, Bool, true, false, eqb, ltb, List, [], ◌∷◌, ◌++◌, length, get_or, length-set, refl, sym, ◌∙◌, ap, Option, Some, None, arith}
+use Rattle.std.proofs.Common.{◌≡◌, ℕ, suc, ◌+◌, ◌<◌, ◌≤◌, Bool, true, false, eqb, ltb, List, [], ◌∷◌, ◌++◌, length, get_or, reverse, length-set, refl, sym, ◌∙◌, ap, Option, Some, None, arith}
 use Rattle.std.proofs.lemmas.List.{append-nil}
 use Rattle.gh_world.specs.Vocabulary.{Shows}
 use Rattle.gh_base.specs.Steps.{IsShown}
 use Rattle.gh_coord.specs.Listing as coord
 use Rattle.gh_worker.specs.Listing as worker
 use Rattle.gh_world.specs.declared.handshake.Actor.TheVariants as actor
-use Rattle.gh_world.specs.Turns.{next_point}
+use Rattle.gh_world.specs.Turns.{next_point, statements_by, statement_now}
 use Rattle.gh_coord.specs.declared.cycles.Cycle.{Cycle}
 use Rattle.gh_world.specs.World.{done_or, event_by, marks_in, now_in, points_in, told_event, workers_at}
 use Rattle.gh_world.specs.declared.event.Event.TheVariants as event
-use Rattle.gh_world.proofs.Vocabulary.{acks_of, Actor, actor_after, acts, After, answer_in, answered_in, Ask, bit, cell_of, changed, Entry, eq-eqb, eqb-false, eqb-true, Event, event_of, get_or-map-range_with_len, get_or-set_other, get_or-set_same, get_or_from_slice_get, InRange, is_point, is_some, later, Layout, Legal, length-map-range_with_len, most_cycles, nat_tests, Next, Op, opening_processor, opening_progress, Processor, processor_kind, Program, Progress, read_replicate, request, set, setting_of, slice_get, slice_get-get_or, slice_get_within, state_of, statement_answer, StepsAreShown, target, to_come, with_goroutine, words_after}
+use Rattle.gh_world.proofs.Vocabulary.{acks_of, Actor, actor_after, acts, After, answer_in, answered_in, Ask, begun_in, bit, by, cell_of, changed, ended_in, Entry, eq-eqb, eqb-false, eqb-true, Event, event_of, get_or-map-range_with_len, get_or-set_other, get_or-set_same, get_or_from_slice_get, has_left, InRange, is_point, is_some, later, Layout, Legal, length-map-range_with_len, most_cycles, nat_tests, Next, Op, opening_processor, opening_progress, Processor, processor_kind, Program, Progress, read_replicate, request, set, setting_of, slice_get, slice_get-get_or, slice_get_within, state_of, statement_answer, StepsAreShown, target, to_come, with_goroutine, words_after}
 use Rattle.gh_world.proofs.Resting.{rests}
 use Rattle.gh_world.proofs.Turning.{opens_at}
 
@@ -22,21 +22,25 @@ module _ (p : Program) (l : Layout) (single : l.procs ≡ 1) where
   abbrev pub found_by : List ℕ → Ask → ℕ
   found_by list ask = get_or list (target (request l ask)) 0
 
+  -- it is none of the processor's own
+  not_own : (a found : ℕ) (ask : Ask) → 1 ≤ a → (es : List (Entry Op)) → by 0 es ≡ by 0 (entry_by a ask found ∷ es)
+  not_own a found ask le es = let f : eqb a 0 ≡ false = grind (arith, nat_tests) in rw f refl
+
   -- it is no point, and answers no statement
   before_is : (a : ℕ) → 1 ≤ a → (es : List (Entry Op)) → Legal (setting_of p l) es → state_of (processor_kind p.shapes l) a es ≡ opening_processor l a
   before_is a le es legal = rests p l a (omega (arith, single)) es legal
 
   same_points : (a found : ℕ) (ask : Ask) → 1 ≤ a → (es : List (Entry Op)) → Legal (setting_of p l) es → points_in p.shapes l es ≡ points_in p.shapes l (entry_by a ask found ∷ es)
   same_points a found ask le es legal =
-      sym (append-nil (points_in p.shapes l es)) ∙ ap (λ (m : Processor). points_in p.shapes l es ++ next_point (is_point (acts m found)) (now_in es)) (sym (before_is a le es legal))
+      sym (append-nil (points_in p.shapes l es)) ∙ ap (λ (m : Processor). points_in p.shapes l es ++ next_point (is_point (acts m found)) (now_in (entry_by a ask found ∷ es))) (sym (before_is a le es legal))
 
   same_marks : (a found : ℕ) (ask : Ask) → 1 ≤ a → (es : List (Entry Op)) → Legal (setting_of p l) es → marks_in p.shapes l es ≡ marks_in p.shapes l (entry_by a ask found ∷ es)
   same_marks a found ask le es legal =
       let zeroth : marks_in p.shapes l es ≡ marks_in p.shapes l es + 0 = omega arith in
       zeroth ∙ ap (λ (m : Processor). marks_in p.shapes l es + bit (is_some (statement_answer m found))) (sym (before_is a le es legal))
 
-  none_answered : (a found : ℕ) (ask : Ask) → 1 ≤ a → (es : List (Entry Op)) → Legal (setting_of p l) es → [] ≡ with_goroutine (now_in es).0 (answer_in p.shapes l es (entry_by a ask found))
-  none_answered a found ask le es legal = ap (λ (m : Processor). with_goroutine (now_in es).0 (statement_answer m found)) (sym (before_is a le es legal))
+  none_answered : (a found : ℕ) (ask : Ask) → 1 ≤ a → (es : List (Entry Op)) → Legal (setting_of p l) es → [] ≡ with_goroutine (now_in (entry_by a ask found ∷ es)).0 (answer_in p.shapes l es (entry_by a ask found))
+  none_answered a found ask le es legal = ap (λ (m : Processor). with_goroutine (now_in (entry_by a ask found ∷ es)).0 (statement_answer m found)) (sym (before_is a le es legal))
 
   no_answer : (out : Option (Unit {0})) (told : Option Cycle) → answered_in (done_or out (told_event told)) ≡ []
   no_answer None None = refl
@@ -111,19 +115,19 @@ module _ (p : Program) (l : Layout) (single : l.procs ≡ 1) where
             processor = a.processor ∙ processor_stays (suc i) (omega arith) (found_by list (worker.asks x)) (worker.asks x);
             marking = works_on;
             coordinator = other_at (suc i) (acks_of l) (found_by list (worker.asks x)) (worker.asks x) es (λ q. omega (arith, single)) ∙ a.coordinator;
-            turns = a.turns;
-            counted = a.counted;
-            now = a.now;
-            ended = a.ended;
-            left = a.left;
+            turns = a.turns ∙ ap (λ (own : List (Entry Op)). reverse (begun_in own) ++ to_come p 0 t.next) (not_own (suc i) (found_by list (worker.asks x)) (worker.asks x) (omega arith) es);
+            counted = λ g lt. a.counted g lt ∙ ap (λ (own : List (Entry Op)). statements_by g (begun_in own)) (not_own (suc i) (found_by list (worker.asks x)) (worker.asks x) (omega arith) es);
+            now = a.now ∙ ap (λ (own : List (Entry Op)). statement_now (begun_in own)) (not_own (suc i) (found_by list (worker.asks x)) (worker.asks x) (omega arith) es);
+            ended = λ g e. a.ended g (ap (λ (own : List (Entry Op)). ended_in own g) (not_own (suc i) (found_by list (worker.asks x)) (worker.asks x) (omega arith) es) ∙ e);
+            left = λ e. a.left (ap has_left (not_own (suc i) (found_by list (worker.asks x)) (worker.asks x) (omega arith) es) ∙ e);
             pointed = a.pointed ∙ same_points (suc i) (found_by list (worker.asks x)) (worker.asks x) (omega arith) es a.legal;
             marked = a.marked ∙ same_marks (suc i) (found_by list (worker.asks x)) (worker.asks x) (omega arith) es a.legal;
           }
 
       pub work_says : done_or (worker.gives x (found_by list (worker.asks x))) event.Moved ≡ event_of p l es work_entry
-      work_says = ap (λ (n : Actor Processor). event_by (now_in es) n (found_by list (worker.asks x))) (sym (a.marking i x is))
+      work_says = ap (λ (n : Actor Processor). event_by (now_in (work_entry ∷ es)) n (found_by list (worker.asks x))) (sym (a.marking i x is))
 
-      pub work_tells : (happened : Event) → happened ≡ done_or (worker.gives x (found_by list (worker.asks x))) event.Moved → answered_in happened ≡ with_goroutine (now_in es).0 (answer_in p.shapes l es work_entry)
+      pub work_tells : (happened : Event) → happened ≡ done_or (worker.gives x (found_by list (worker.asks x))) event.Moved → answered_in happened ≡ with_goroutine (now_in (work_entry ∷ es)).0 (answer_in p.shapes l es work_entry)
       work_tells happened says = ap answered_in says ∙ no_answer (worker.gives x (found_by list (worker.asks x))) None ∙ none_answered (suc i) (found_by list (worker.asks x)) (worker.asks x) (omega arith) es a.legal
 
     -- ---- the coordinator
@@ -158,19 +162,19 @@ module _ (p : Program) (l : Layout) (single : l.procs ≡ 1) where
             processor = a.processor ∙ processor_stays (acks_of l) high (found_by list (coord.asks c)) (coord.asks c);
             marking = marks_on many;
             coordinator = own_at (acks_of l) (acks_of l) (found_by list (coord.asks c)) (coord.asks c) es refl ∙ ap (λ (n : Actor Processor). (setting_of p l).kind.takes n (found_by list (coord.asks c))) mine;
-            turns = a.turns;
-            counted = a.counted;
-            now = a.now;
-            ended = a.ended;
-            left = a.left;
+            turns = a.turns ∙ ap (λ (own : List (Entry Op)). reverse (begun_in own) ++ to_come p 0 t.next) (not_own (acks_of l) (found_by list (coord.asks c)) (coord.asks c) high es);
+            counted = λ g lt. a.counted g lt ∙ ap (λ (own : List (Entry Op)). statements_by g (begun_in own)) (not_own (acks_of l) (found_by list (coord.asks c)) (coord.asks c) high es);
+            now = a.now ∙ ap (λ (own : List (Entry Op)). statement_now (begun_in own)) (not_own (acks_of l) (found_by list (coord.asks c)) (coord.asks c) high es);
+            ended = λ g e. a.ended g (ap (λ (own : List (Entry Op)). ended_in own g) (not_own (acks_of l) (found_by list (coord.asks c)) (coord.asks c) high es) ∙ e);
+            left = λ e. a.left (ap has_left (not_own (acks_of l) (found_by list (coord.asks c)) (coord.asks c) high es) ∙ e);
             pointed = a.pointed ∙ same_points (acks_of l) (found_by list (coord.asks c)) (coord.asks c) high es a.legal;
             marked = a.marked ∙ same_marks (acks_of l) (found_by list (coord.asks c)) (coord.asks c) high es a.legal;
           }
 
       pub lead_says : done_or (coord.gives c (found_by list (coord.asks c))) (told_event (coord.told_at c.cycles c.stage)) ≡ event_of p l es lead_entry
-      lead_says = ap (λ (n : Actor Processor). event_by (now_in es) n (found_by list (coord.asks c))) (sym a.coordinator)
+      lead_says = ap (λ (n : Actor Processor). event_by (now_in (lead_entry ∷ es)) n (found_by list (coord.asks c))) (sym a.coordinator)
 
-      pub lead_tells : (happened : Event) → happened ≡ done_or (coord.gives c (found_by list (coord.asks c))) (told_event (coord.told_at c.cycles c.stage)) → answered_in happened ≡ with_goroutine (now_in es).0 (answer_in p.shapes l es lead_entry)
+      pub lead_tells : (happened : Event) → happened ≡ done_or (coord.gives c (found_by list (coord.asks c))) (told_event (coord.told_at c.cycles c.stage)) → answered_in happened ≡ with_goroutine (now_in (lead_entry ∷ es)).0 (answer_in p.shapes l es lead_entry)
       lead_tells happened says = ap answered_in says ∙ no_answer (coord.gives c (found_by list (coord.asks c))) (coord.told_at c.cycles c.stage) ∙ none_answered (acks_of l) (found_by list (coord.asks c)) (coord.asks c) (omega (arith, single)) es a.legal
 
   -- ---- before the first step
@@ -190,7 +194,7 @@ module _ (p : Program) (l : Layout) (single : l.procs ≡ 1) where
       let same : ltb (acks_of l) (acks_of l) ≡ false = grind (arith, nat_tests) in
       rw (above, same) refl
 
-  pub after_opens : (list : List ℕ) (first : Next) → Shows l list (setting_of p l).opening → to_come p first ≡ later p 0 0 →
+  pub after_opens : (list : List ℕ) (first : Next) → Shows l list (setting_of p l).opening → to_come p 0 first ≡ later p 0 0 0 →
       After p l list (opening_processor l 0) (workers_at l) (coord.opening l (acks_of l) p.settings.gogc p.settings.minheap (most_cycles p)) (opening_progress first) [] 0 []
   after_opens list first shows come = record {
     legal = tt;
@@ -198,7 +202,7 @@ module _ (p : Program) (l : Layout) (single : l.procs ≡ 1) where
     processor = refl;
     marking = first_worker;
     coordinator = first_lead;
-    turns = opens_at p ∙ sym come;
+    turns = opens_at p 0 ∙ sym come;
     counted = λ g lt. read_replicate {A = ℕ} 32 g 0;
     now = refl;
     ended = λ g e. absurd cc;

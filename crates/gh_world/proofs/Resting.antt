@@ -1,10 +1,8 @@
--- In each legal list a processor is at seat 0 alone; who is at another seat begins nothing.
-use Rattle.std.proofs.Common.{◌≡◌, ℕ, ◌<◌, ◌≤◌, Bool, true, false, cond, ltb, eqb, List, [], ◌∷◌, ◌++◌, Option, Some, None, refl, sym, ap, ◌∙◌, arith}
+-- In each legal list the processors are at the first seats; who is at another begins nothing.
+use Rattle.std.proofs.Common.{◌≡◌, ℕ, ◌<◌, ◌≤◌, Bool, true, false, cond, ltb, eqb, List, [], ◌∷◌, Option, Some, None, refl, sym, ap, ◌∙◌, arith}
 use Rattle.std.proofs.lemmas.Bool.Decides.{nat_tests}
-use Rattle.std.proofs.lemmas.Bool.{eqb-true, eqb-false}
-use Rattle.std.specs.Option.{option_to_list}
-use Rattle.gh_world.specs.Order.{begun_in}
-use Rattle.gh_world.specs.Vocabulary.{by, Entry, Layout, Legal, Op, opening_processor, Processor, processor_kind, Program, started, state_of, takes}
+use Rattle.std.proofs.lemmas.Bool.{eqb-true}
+use Rattle.gh_world.specs.Vocabulary.{Entry, Layout, Legal, Op, opening_processor, Processor, processor_kind, Program, started, state_of, takes}
 use Rattle.gh_base.specs.Lists.{Begins, Kind}
 use Rattle.gh_coord.specs.Listing as coord
 use Rattle.gh_coord.specs.Stopping.{acks_of}
@@ -89,15 +87,3 @@ module _ (p : Program) (l : Layout) where
         let same : e.actor ≡ a = eqb-true e.actor a x in
         let none : e.begun ≡ None = other_none e.actor es e.begun (rw same le) legal.1.begins legal.1.runs in
         ap (λ (o : Option Op). takes p.shapes (started one o (state_of one a es)) e.found) none ∙ ap (λ (m : Processor). takes p.shapes m e.found) before
-
-  -- what all have begun the processor has, where there is one
-  pub begun_own : l.procs ≡ 1 → (es : List (Entry Op)) → Legal (setting_of p l) es → begun_in (by 0 es) ≡ begun_in es
-  begun_own single [] legal = refl
-  begun_own single (e ∷ es) legal = go (eqb e.actor 0) refl (begun_own single es legal.0) where
-    go : (b : Bool) → eqb e.actor 0 ≡ b → begun_in (by 0 es) ≡ begun_in es → begun_in (cond b (e ∷ by 0 es) (by 0 es)) ≡ option_to_list e.begun ++ begun_in es
-    go true x rest = ap (λ (os : List Op). option_to_list e.begun ++ os) rest
-    go false x rest =
-        let apart : e.actor ≡ 0 → ⊥ = eqb-false e.actor 0 x in
-        let high : l.procs ≤ e.actor = omega (arith, single, apart) in
-        let none : e.begun ≡ None = other_none e.actor es e.begun high legal.1.begins legal.1.runs in
-        rest ∙ ap (λ (o : Option Op). option_to_list o ++ begun_in es) (sym none)

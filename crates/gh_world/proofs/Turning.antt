@@ -1,7 +1,8 @@
--- The turns of the processor: what is still to come at each of them.
-use Rattle.std.proofs.Common.{◌≡◌, ℕ, zero, suc, ◌+◌, ◌-◌, ◌<◌, ◌≤◌, Bool, true, false, cond, ltb, leb, List, [], ◌∷◌, ◌++◌, length, get_or, drop, min, Option, Some, None, refl, sym, ap, subst, ◌∙◌, append_assoc, arith, inl, inr}
+-- The turns of a processor: what is still to come at each of them.
+use Rattle.std.proofs.Common.{◌≡◌, ℕ, zero, suc, ◌+◌, ◌-◌, ◌<◌, ◌≤◌, ◌&&◌, Bool, true, false, cond, if◌then◌else◌, ltb, leb, List, [], ◌∷◌, ◌++◌, length, get_or, drop, min, Option, Some, None, refl, sym, ap, subst, ◌∙◌, append_assoc, arith, inl, inr}
 use Rattle.std.specs.Prelude.{sum_by}
 use Rattle.std.specs.List.{flat_map, range_with_len}
+use Rattle.std.proofs.Math.Nat.{mod-one}
 use Rattle.std.proofs.lemmas.Bool.{leb-true, leb-false, le-leb, lt-ltb, cases_lt}
 use Rattle.std.proofs.lemmas.List.{at_drop_more, drop_all}
 use Rattle.std.proofs.lemmas.List.Sums.{get_or-le-sum_by, sum_by-cons}
@@ -10,9 +11,9 @@ use Rattle.gh_script.specs.declared.statement.Stmt.{Stmt}
 use Rattle.gh_script.specs.declared.statement.Stmt.TheVariants as stmts
 use Rattle.gh_script.specs.Program.{no_goroutine, statements_of, statements_in, op_of}
 use Rattle.gh_world.specs.declared.turns.Next.TheVariants as next
-use Rattle.gh_world.specs.Turns.{count_of, turn_of, round_of, Stands, IsPast}
+use Rattle.gh_world.specs.Turns.{count_of, has_turn, HasTurn, is_of_seat, IsPast, round_of, Stands, total_by, turn_of}
 use Rattle.gh_interp.specs.Working.{work_at, work_of}
-use Rattle.gh_world.proofs.Vocabulary.{bit, Follows, goroutine_at, is_leave, is_over, is_statement, later, ltb-true, MayBeOver, nat_tests, Next, Op, op_due, Program, slice_get, slice_get-get_or, slice_get_past, statements_among, to_come, total_of, turns_of}
+use Rattle.gh_world.proofs.Vocabulary.{bit, Follows, eq-eqb, goroutine_at, is_leave, is_over, is_statement, later, ltb-true, MayBeOver, nat_tests, Next, Op, op_due, Program, slice_get, slice_get-get_or, slice_get_past, statements_among, to_come, total_of, turns_of, ◌%◌}
 
 -- ---- statements
 
@@ -38,86 +39,115 @@ work_no_leave g (Some s) = statement_no_leave g s
 
 -- ---- the turns of a round, from a goroutine on
 
-module _ (p : Program) (r : ℕ) where
+module _ (p : Program) (a r : ℕ) where
   abbrev pub turns_from : ℕ → List Op
-  turns_from g = flat_map (turn_of p r) (range_with_len g (length p.goroutines - g))
+  turns_from g = flat_map (turn_of p a r) (range_with_len g (length p.goroutines - g))
 
   pub none_from : (g : ℕ) → length p.goroutines ≤ g → turns_from g ≡ []
   none_from g h = let none : length p.goroutines - g ≡ 0 = omega arith in rw none refl
 
-  one_more : (g : ℕ) → g < length p.goroutines → turns_from g ≡ turn_of p r g ++ turns_from (g + 1)
+  one_more : (g : ℕ) → g < length p.goroutines → turns_from g ≡ turn_of p a r g ++ turns_from (g + 1)
   one_more g h = let more : length p.goroutines - g ≡ suc (length p.goroutines - (g + 1)) = omega arith in rw more refl
 
-  pub passed : (g : ℕ) → g < length p.goroutines → count_of p g < r → turns_from g ≡ turns_from (g + 1)
-  passed g h over = let none : leb r (count_of p g) ≡ false = grind (arith, nat_tests) in one_more g h ∙ rw none refl
+  -- it has no turn where it has ended
+  ended_before : (g : ℕ) → count_of p g < r → has_turn p a r g ≡ false
+  ended_before g over = let none : leb r (count_of p g) ≡ false = grind (arith, nat_tests) in go (is_of_seat p a g) none where
+    go : (its : Bool) → leb r (count_of p g) ≡ false → (its && leb r (count_of p g)) ≡ false
+    go true e = e
+    go false e = refl
 
-  pub has_one : (g : ℕ) → g < length p.goroutines → r ≤ count_of p g → turns_from g ≡ op.Poll ∷ work_of p r g ∷ turns_from (g + 1)
-  has_one g h live = let one : leb r (count_of p g) ≡ true = le-leb r (count_of p g) live in one_more g h ∙ rw one refl
+  -- nor where it is another processor's
+  of_another : (g : ℕ) → is_of_seat p a g ≡ false → has_turn p a r g ≡ false
+  of_another g other = ap (λ (its : Bool). its && leb r (count_of p g)) other
 
-  -- where no turn stands, every goroutine has ended
+  takes_turn : (g : ℕ) → r ≤ count_of p g → is_of_seat p a g ≡ true → has_turn p a r g ≡ true
+  takes_turn g live its = ap (λ (b : Bool). b && leb r (count_of p g)) its ∙ le-leb r (count_of p g) live
+
+  pub turn_stands : (g : ℕ) → g < length p.goroutines → has_turn p a r g ≡ true → HasTurn p a r g
+  turn_stands g lt turn = go (is_of_seat p a g) (leb r (count_of p g)) refl refl turn where
+    go : (its live : Bool) → is_of_seat p a g ≡ its → leb r (count_of p g) ≡ live → (its && live) ≡ true → HasTurn p a r g
+    go true true e f q = record { there = lt; going = leb-true r (count_of p g) f; its = e }
+    go true false e f q = absurd cc
+    go false live e f q = absurd cc
+
+  pub passed : (g : ℕ) → g < length p.goroutines → has_turn p a r g ≡ false → turns_from g ≡ turns_from (g + 1)
+  passed g h none = one_more g h ∙ rw none refl
+
+  pub has_one : (g : ℕ) → g < length p.goroutines → has_turn p a r g ≡ true → turns_from g ≡ op.Poll ∷ work_of p r g ∷ turns_from (g + 1)
+  has_one g h one = one_more g h ∙ rw one refl
+
+  -- where no turn stands, each goroutine of the processor has ended
   not_cons : (x y : Op) (xs : List Op) → x ∷ y ∷ xs ≡ [] → ⊥
   not_cons x y xs e = absurd cc
 
-  past_here : (n g : ℕ) (b : Bool) → leb r (count_of p g) ≡ b → cond b (op.Poll ∷ work_of p r g ∷ []) [] ++ flat_map (turn_of p r) (range_with_len (g + 1) n) ≡ [] → (h : ℕ) → g ≤ h → h < length p.goroutines
-      → (flat_map (turn_of p r) (range_with_len (g + 1) n) ≡ [] → g + 1 ≤ h → count_of p h < r) → count_of p h < r
-  past_here n g true t q h le lt ih = absurd (not_cons op.Poll (work_of p r g) _ q)
-  past_here n g false t q h le lt ih = elim (cases_lt g h) [
+  past_here : (n g : ℕ) (b : Bool) → has_turn p a r g ≡ b → cond b (op.Poll ∷ work_of p r g ∷ []) [] ++ flat_map (turn_of p a r) (range_with_len (g + 1) n) ≡ [] → (h : ℕ) → g ≤ h → h < length p.goroutines → is_of_seat p a h ≡ true
+      → (flat_map (turn_of p a r) (range_with_len (g + 1) n) ≡ [] → g + 1 ≤ h → count_of p h < r) → count_of p h < r
+  past_here n g true t q h le lt its ih = absurd (not_cons op.Poll (work_of p r g) _ q)
+  past_here n g false t q h le lt its ih = elim (cases_lt g h) [
     | inl more ↦ ih q (omega arith)
-    | inr here ↦ let same : h ≡ g = omega arith in rw same (leb-false r (count_of p g) t)
+    | inr here ↦
+        let same : h ≡ g = omega arith in
+        elim (cases_lt (count_of p h) r) [
+          | inl past ↦ past
+          | inr live ↦ absurd (let turn : has_turn p a r h ≡ true = takes_turn h live its in let none : has_turn p a r h ≡ false = ap (has_turn p a r) same ∙ t in cc)
+        ]
   ]
 
-  pub all_past : (n g : ℕ) → g + n ≡ length p.goroutines → flat_map (turn_of p r) (range_with_len g n) ≡ [] → (h : ℕ) → g ≤ h → h < length p.goroutines → count_of p h < r
-  all_past zero g e none h le lt = absurd (omega arith)
-  all_past (suc n) g e none h le lt = past_here n g (leb r (count_of p g)) refl none h le lt (λ q more. all_past n (g + 1) (omega arith) q h more lt)
+  pub all_past : (n g : ℕ) → g + n ≡ length p.goroutines → flat_map (turn_of p a r) (range_with_len g n) ≡ [] → (h : ℕ) → g ≤ h → h < length p.goroutines → is_of_seat p a h ≡ true → count_of p h < r
+  all_past zero g e none h le lt its = absurd (omega arith)
+  all_past (suc n) g e none h le lt its = past_here n g (has_turn p a r g) refl none h le lt its (λ q more. all_past n (g + 1) (omega arith) q h more lt its)
 
-  -- a round in which every goroutine has ended has no turn
-  no_turns : ((h : ℕ) → h < length p.goroutines → count_of p h < r) → (n g : ℕ) → g + n ≡ length p.goroutines → flat_map (turn_of p r) (range_with_len g n) ≡ []
+  -- a round in which each goroutine of the processor has ended has no turn
+  no_turns : ((h : ℕ) → h < length p.goroutines → is_of_seat p a h ≡ true → count_of p h < r) → (n g : ℕ) → g + n ≡ length p.goroutines → flat_map (turn_of p a r) (range_with_len g n) ≡ []
   no_turns past zero g e = refl
-  no_turns past (suc n) g e =
-      let none : leb r (count_of p g) ≡ false = let h = past g (omega arith) in grind (arith, nat_tests) in
-      rw none (no_turns past n (g + 1) (omega arith))
+  no_turns past (suc n) g e = rw (none (is_of_seat p a g) refl) (no_turns past n (g + 1) (omega arith)) where
+    none : (its : Bool) → is_of_seat p a g ≡ its → has_turn p a r g ≡ false
+    none true its = ended_before g (past g (omega arith) its)
+    none false other = of_another g other
 
 module _ (p : Program) where
   pub count-le : (g : ℕ) → g < length p.goroutines → count_of p g ≤ total_of p
   count-le g h = get_or-le-sum_by statements_in p.goroutines g no_goroutine h
 
-  -- when every goroutine has ended, no round follows
-  no_rounds : (n r : ℕ) → ((h : ℕ) → h < length p.goroutines → count_of p h < r) → flat_map (round_of p) (range_with_len r n) ≡ []
+module _ (p : Program) (a : ℕ) where
+  -- when each goroutine of the processor has ended, no round follows
+  no_rounds : (n r : ℕ) → ((h : ℕ) → h < length p.goroutines → is_of_seat p a h ≡ true → count_of p h < r) → flat_map (round_of p a) (range_with_len r n) ≡ []
   no_rounds zero r past = refl
   no_rounds (suc n) r past =
-      let here : round_of p r ≡ [] = no_turns p r past (length p.goroutines) 0 (omega arith) in
-      rw here (no_rounds n (r + 1) (λ h lt. let q = past h lt in omega arith))
+      let here : round_of p a r ≡ [] = no_turns p a r past (length p.goroutines) 0 (omega arith) in
+      rw here (no_rounds n (r + 1) (λ h lt its. let q = past h lt its in omega arith))
 
   -- the first turn in the round
-  pub later_here : (r g h : ℕ) → turns_from p r g ≡ op.Poll ∷ work_of p r h ∷ turns_from p r (h + 1) → to_come p (next.Poll r h) ≡ later p r g
-  later_here r g h e = sym (ap (λ (xs : List Op). xs ++ (flat_map (round_of p) (range_with_len (r + 1) (total_of p - r)) ++ op.Leave ∷ [])) e)
+  pub later_here : (r g h : ℕ) → turns_from p a r g ≡ op.Poll ∷ work_of p r h ∷ turns_from p a r (h + 1) → to_come p a (next.Poll r h) ≡ later p a r g
+  later_here r g h e = sym (ap (λ (xs : List Op). xs ++ (flat_map (round_of p a) (range_with_len (r + 1) (total_of p - r)) ++ op.Leave ∷ [])) e)
 
   -- none in the round: the next one
-  later_next : (r g : ℕ) → r < total_of p → turns_from p r g ≡ [] → later p r g ≡ later p (r + 1) 0
+  later_next : (r g : ℕ) → r < total_of p → turns_from p a r g ≡ [] → later p a r g ≡ later p a (r + 1) 0
   later_next r g lt e =
       let more : total_of p - r ≡ suc (total_of p - (r + 1)) = omega arith in
       let whole : length p.goroutines - 0 ≡ length p.goroutines = omega arith in
-      ap (λ (xs : List Op). xs ++ (flat_map (round_of p) (range_with_len (r + 1) (total_of p - r)) ++ op.Leave ∷ [])) e
-      ∙ rw (more, whole) (append_assoc (round_of p (r + 1)) (flat_map (round_of p) (range_with_len ((r + 1) + 1) (total_of p - (r + 1)))) (op.Leave ∷ []))
+      ap (λ (xs : List Op). xs ++ (flat_map (round_of p a) (range_with_len (r + 1) (total_of p - r)) ++ op.Leave ∷ [])) e
+      ∙ rw (more, whole) (append_assoc (round_of p a (r + 1)) (flat_map (round_of p a) (range_with_len ((r + 1) + 1) (total_of p - (r + 1)))) (op.Leave ∷ []))
 
-  pub later_after : (r g h : ℕ) → r < total_of p → turns_from p r g ≡ [] → turns_from p (r + 1) 0 ≡ op.Poll ∷ work_of p (r + 1) h ∷ turns_from p (r + 1) (h + 1) → to_come p (next.Poll (r + 1) h) ≡ later p r g
+  pub later_after : (r g h : ℕ) → r < total_of p → turns_from p a r g ≡ [] → turns_from p a (r + 1) 0 ≡ op.Poll ∷ work_of p (r + 1) h ∷ turns_from p a (r + 1) (h + 1) → to_come p a (next.Poll (r + 1) h) ≡ later p a r g
   later_after r g h lt none e = later_here (r + 1) 0 h e ∙ sym (later_next r g lt none)
 
-  pub later_none : (r g : ℕ) → turns_from p r g ≡ [] → turns_from p (r + 1) 0 ≡ [] → to_come p next.Leave ≡ later p r g
+  pub later_none : (r g : ℕ) → turns_from p a r g ≡ [] → turns_from p a (r + 1) 0 ≡ [] → to_come p a next.Leave ≡ later p a r g
   later_none r g none e =
       let whole : length p.goroutines - 0 ≡ length p.goroutines = omega arith in
-      let past : (h : ℕ) → h < length p.goroutines → count_of p h < r + 1 = λ h lt. all_past p (r + 1) (length p.goroutines) 0 (omega arith) (subst (λ (n : ℕ). flat_map (turn_of p (r + 1)) (range_with_len 0 n) ≡ []) whole e) h (omega arith) lt in
-      let rest : flat_map (round_of p) (range_with_len (r + 1) (total_of p - r)) ≡ [] = no_rounds (total_of p - r) (r + 1) past in
+      let past : (h : ℕ) → h < length p.goroutines → is_of_seat p a h ≡ true → count_of p h < r + 1 = λ h lt its. all_past p a (r + 1) (length p.goroutines) 0 (omega arith) (subst (λ (n : ℕ). flat_map (turn_of p a (r + 1)) (range_with_len 0 n) ≡ []) whole e) h (omega arith) lt its in
+      let rest : flat_map (round_of p a) (range_with_len (r + 1) (total_of p - r)) ≡ [] = no_rounds (total_of p - r) (r + 1) past in
       rw (none, rest) refl
 
-  pub opens_at : turns_of p ≡ later p 0 0
+  pub opens_at : turns_of p a ≡ later p a 0 0
   unfolding turns_of
   opens_at =
       let whole : length p.goroutines - 0 ≡ length p.goroutines = omega arith in
       let all : total_of p - 0 ≡ total_of p = omega arith in
       let more : total_of p + 1 ≡ suc (total_of p) = omega arith in
-      rw (whole, all, more) (append_assoc (round_of p 0) (flat_map (round_of p) (range_with_len (0 + 1) (total_of p))) (op.Leave ∷ []))
+      rw (whole, all, more) (append_assoc (round_of p a 0) (flat_map (round_of p a) (range_with_len (0 + 1) (total_of p))) (op.Leave ∷ []))
 
+module _ (p : Program) where
   -- ---- a goroutine is over once its last turn is
 
   past_more : (r g h k : ℕ) → g ≤ h → IsPast p r g k → IsPast p r h k
@@ -162,88 +192,136 @@ module _ (p : Program) where
         rw (lt, ← same) (omega arith)
     go (Some s) t q = absurd (no_end g k s q)
 
-  -- ---- the statements among the turns are those of the script
-
-  among_append : (xs ys : List Op) → statements_among (xs ++ ys) ≡ statements_among xs + statements_among ys
-  among_append [] ys = omega arith
-  among_append (x ∷ xs) ys = let ih = among_append xs ys in omega (arith, ih)
-
-  -- so many statements of the goroutines from g on stand before round r
-  before_round : ℕ → (g n : ℕ) → ℕ
-  before_round r g zero = 0
-  before_round r g (suc n) = min (count_of p g) r + before_round r (g + 1) n
-
-  before_none : (g n : ℕ) → before_round 0 g n ≡ 0
-  unfolding before_round
-  before_none g zero = refl
-  before_none g (suc n) = let ih = before_none (g + 1) n in omega (arith, ih)
-
   pub has_statement : (xs : List Stmt) (n : ℕ) (s : Stmt) → slice_get xs n ≡ Some s → n < length xs
   has_statement xs n s e = elim (cases_lt n (length xs)) [
     | inl lt ↦ lt
     | inr le ↦ absurd (let none = slice_get_past xs n le in cc)
   ]
 
-  one_turn : (r g : ℕ) → min (count_of p g) r + statements_among (turn_of p r g) ≡ min (count_of p g) (r + 1)
-  one_turn r g = go (leb r (count_of p g)) (slice_get (statements_of p g) r) refl refl where
-    go : (b : Bool) (s : Option Stmt) → leb r (count_of p g) ≡ b → slice_get (statements_of p g) r ≡ s → min (count_of p g) r + statements_among (cond b (op.Poll ∷ work_at g s ∷ []) []) ≡ min (count_of p g) (r + 1)
-    go false s e t = let past = leb-false r (count_of p g) e in omega arith
-    go true None e t = let live = leb-true r (count_of p g) e in let none = no_statement (statements_of p g) r t in omega arith
-    go true (Some s) e t =
-        let lt : r < count_of p g = has_statement (statements_of p g) r s t in
+-- ---- the statements among the turns are those of the processor's goroutines
+
+among_append : (xs ys : List Op) → statements_among (xs ++ ys) ≡ statements_among xs + statements_among ys
+among_append [] ys = omega arith
+among_append (x ∷ xs) ys = let ih = among_append xs ys in omega (arith, ih)
+
+-- how many statements goroutine g has, where it is of processor a
+abbrev own_count : Program → (a g : ℕ) → ℕ
+own_count p a g = if is_of_seat p a g then count_of p g else 0
+
+module _ (p : Program) (a : ℕ) where
+  -- so many statements of the goroutines from g on stand before round r
+  before_round : ℕ → (g n : ℕ) → ℕ
+  before_round r g zero = 0
+  before_round r g (suc n) = min (own_count p a g) r + before_round r (g + 1) n
+
+  before_none : (g n : ℕ) → before_round 0 g n ≡ 0
+  unfolding before_round
+  before_none g zero = refl
+  before_none g (suc n) = let ih = before_none (g + 1) n in omega (arith, ih)
+
+  one_turn : (r g : ℕ) → min (own_count p a g) r + statements_among (turn_of p a r g) ≡ min (own_count p a g) (r + 1)
+  one_turn r g = go (is_of_seat p a g) (leb r (count_of p g)) (slice_get (statements_of p g) r) refl refl where
+    go : (its b : Bool) (s : Option Stmt) → leb r (count_of p g) ≡ b → slice_get (statements_of p g) r ≡ s → min (cond its (count_of p g) 0) r + statements_among (cond (its && b) (op.Poll ∷ work_at g s ∷ []) []) ≡ min (cond its (count_of p g) 0) (r + 1)
+    go false b s e t = omega arith
+    go true false s e t = let past = leb-false r (count_of p g) e in omega arith
+    go true true None e t = let live = leb-true r (count_of p g) e in let none = no_statement p (statements_of p g) r t in omega arith
+    go true true (Some s) e t =
+        let lt : r < count_of p g = has_statement p (statements_of p g) r s t in
         let one : bit (is_statement (op_of g s)) ≡ 1 = ap bit (statement_is g s) in
         omega (arith, one, lt)
 
-  one_round : (r n g : ℕ) → before_round r g n + statements_among (flat_map (turn_of p r) (range_with_len g n)) ≡ before_round (r + 1) g n
+  one_round : (r n g : ℕ) → before_round r g n + statements_among (flat_map (turn_of p a r) (range_with_len g n)) ≡ before_round (r + 1) g n
   unfolding before_round
   one_round r zero g = refl
   one_round r (suc n) g =
       let here = one_turn r g in
       let rest = one_round r n (g + 1) in
-      let both = among_append (turn_of p r g) (flat_map (turn_of p r) (range_with_len (g + 1) n)) in
+      let both = among_append (turn_of p a r g) (flat_map (turn_of p a r) (range_with_len (g + 1) n)) in
       omega (arith, here, rest, both)
 
-  rounds_say : (n r : ℕ) → before_round r 0 (length p.goroutines) + statements_among (flat_map (round_of p) (range_with_len r n)) ≡ before_round (r + n) 0 (length p.goroutines)
+  rounds_say : (n r : ℕ) → before_round r 0 (length p.goroutines) + statements_among (flat_map (round_of p a) (range_with_len r n)) ≡ before_round (r + n) 0 (length p.goroutines)
   rounds_say zero r = let same : r + 0 ≡ r = omega arith in rw same (omega arith)
   rounds_say (suc n) r =
       let here = one_round r (length p.goroutines) 0 in
       let rest = rounds_say n (r + 1) in
-      let both = among_append (round_of p r) (flat_map (round_of p) (range_with_len (r + 1) n)) in
+      let both = among_append (round_of p a r) (flat_map (round_of p a) (range_with_len (r + 1) n)) in
       let same : r + suc n ≡ (r + 1) + n = omega arith in
       rw same (omega (arith, here, rest, both))
 
-  all_before : (n g : ℕ) → g + n ≡ length p.goroutines → before_round (total_of p + 1) g n ≡ sum_by statements_in (drop g p.goroutines)
-  unfolding before_round
-  all_before zero g e = sym (ap (sum_by statements_in) (drop_all g p.goroutines (omega arith)))
-  all_before (suc n) g e =
-      let few = count-le g (omega arith) in
-      let whole : min (count_of p g) (total_of p + 1) ≡ count_of p g = omega arith in
-      let ih = all_before n (g + 1) (omega arith) in
-      let more = at_drop_more (sum_by statements_in) p.goroutines g no_goroutine (omega arith) in
-      let head = sum_by-cons statements_in (get_or p.goroutines g no_goroutine) (drop (g + 1) p.goroutines) in
-      omega (arith, whole, ih, more, head)
+  own_le : (g : ℕ) → own_count p a g ≤ count_of p g
+  own_le g = go (is_of_seat p a g) where
+    go : (its : Bool) → cond its (count_of p g) 0 ≤ count_of p g
+    go true = omega arith
+    go false = omega arith
 
-  pub turns_say : statements_among (turns_of p) ≡ total_of p
+  all_before : (n g : ℕ) → g + n ≡ length p.goroutines → before_round (total_of p + 1) g n ≡ sum_by (own_count p a) (range_with_len g n)
+  unfolding before_round
+  all_before zero g e = refl
+  all_before (suc n) g e =
+      let own = own_le g in
+      let few = count-le p g (omega arith) in
+      let whole : min (own_count p a g) (total_of p + 1) ≡ own_count p a g = omega (arith, own, few) in
+      let ih = all_before n (g + 1) (omega arith) in
+      let head = sum_by-cons (own_count p a) g (range_with_len (g + 1) n) in
+      omega (arith, whole, ih, head)
+
+  pub turns_say : statements_among (turns_of p a) ≡ total_by p a
   unfolding turns_of
   turns_say =
       let rounds = rounds_say (total_of p + 1) 0 in
       let none = before_none 0 (length p.goroutines) in
-      let all : before_round (total_of p + 1) 0 (length p.goroutines) ≡ total_of p = all_before (length p.goroutines) 0 (omega arith) in
+      let all : before_round (total_of p + 1) 0 (length p.goroutines) ≡ total_by p a = all_before (length p.goroutines) 0 (omega arith) in
       let same : 0 + (total_of p + 1) ≡ total_of p + 1 = omega arith in
-      let both = among_append (flat_map (round_of p) (range_with_len 0 (total_of p + 1))) (op.Leave ∷ []) in
+      let both = among_append (flat_map (round_of p a) (range_with_len 0 (total_of p + 1))) (op.Leave ∷ []) in
       omega (arith, rw same at rounds, none, all, both)
 
+  -- they are at most those of the script
+  from_here : (n g : ℕ) → g + n ≡ length p.goroutines → sum_by (own_count p a) (range_with_len g n) ≤ sum_by statements_in (drop g p.goroutines)
+  from_here zero g e = omega arith
+  from_here (suc n) g e =
+      let own = own_le g in
+      let ih = from_here n (g + 1) (omega arith) in
+      let head = sum_by-cons (own_count p a) g (range_with_len (g + 1) n) in
+      let more = at_drop_more (sum_by statements_in) p.goroutines g no_goroutine (omega arith) in
+      let first = sum_by-cons statements_in (get_or p.goroutines g no_goroutine) (drop (g + 1) p.goroutines) in
+      omega (arith, own, ih, head, more, first)
+
+  pub total_by-le : total_by p a ≤ total_of p
+  total_by-le = from_here (length p.goroutines) 0 (omega arith)
+
+-- and all of them where the script has one processor
+module _ (p : Program) (single : p.settings.procs ≡ 1) where
+  of_first : (g : ℕ) → is_of_seat p 0 g ≡ true
+  of_first g = let none : g % p.settings.procs ≡ 0 = rw single (mod-one g) in eq-eqb (g % p.settings.procs) 0 none
+
+  own_all : (g : ℕ) → own_count p 0 g ≡ count_of p g
+  own_all g = let its = of_first g in rw its refl
+
+  all_here : (n g : ℕ) → g + n ≡ length p.goroutines → sum_by (own_count p 0) (range_with_len g n) ≡ sum_by statements_in (drop g p.goroutines)
+  all_here zero g e = sym (ap (sum_by statements_in) (drop_all g p.goroutines (omega arith)))
+  all_here (suc n) g e =
+      let own = own_all g in
+      let ih = all_here n (g + 1) (omega arith) in
+      let head = sum_by-cons (own_count p 0) g (range_with_len (g + 1) n) in
+      let more = at_drop_more (sum_by statements_in) p.goroutines g no_goroutine (omega arith) in
+      let first = sum_by-cons statements_in (get_or p.goroutines g no_goroutine) (drop (g + 1) p.goroutines) in
+      omega (arith, own, ih, head, more, first)
+
+  pub total_by-single : total_by p 0 ≡ total_of p
+  total_by-single = all_here (length p.goroutines) 0 (omega arith)
+
+module _ (p : Program) (a : ℕ) where
   -- the turn behind a statement, or behind a goroutine's end
-  pub follows_run : (before : Next) (r g : ℕ) (o : Op) (new : Next) → before ≡ next.Run r g → Stands p before → op_due p before ≡ Some o → to_come p new ≡ later p r (g + 1) → Stands p new → ((h : ℕ) → IsPast p r (g + 1) h → MayBeOver p new h) → is_over new ≡ false → Follows p before o new
+  pub follows_run : (before : Next) (r g : ℕ) (o : Op) (new : Next) → before ≡ next.Run r g → Stands p a before → op_due p before ≡ Some o → to_come p a new ≡ later p a r (g + 1) → Stands p a new → ((h : ℕ) → IsPast p r (g + 1) h → MayBeOver p new h) → is_over new ≡ false → Follows p a before o new
   follows_run before r g o new is stands due come stood over going =
-      subst (λ (b : Next). Follows p b o new) (sym is) (go (subst (Stands p) is stands) (subst (λ (b : Next). op_due p b ≡ Some o) is due)) where
-        go : Stands p (next.Run r g) → Some (work_of p r g) ≡ Some o → Follows p (next.Run r g) o new
+      subst (λ (b : Next). Follows p a b o new) (sym is) (go (subst (Stands p a) is stands) (subst (λ (b : Next). op_due p b ≡ Some o) is due)) where
+        go : Stands p a (next.Run r g) → Some (work_of p r g) ≡ Some o → Follows p a (next.Run r g) o new
         go here e =
             let same : work_of p r g ≡ o = cc in
             record {
-              come = ap (λ (x : Op). x ∷ later p r (g + 1)) same ∙ ap (λ (xs : List Op). o ∷ xs) (sym come);
+              come = ap (λ (x : Op). x ∷ later p a r (g + 1)) same ∙ ap (λ (xs : List Op). o ∷ xs) (sym come);
               stands = stood;
-              over = λ h past. over h (over_more r g h past);
-              ends = λ h ended. over h (ends_over r g h here.1 (same ∙ ended));
+              over = λ h past. over h (over_more p r g h past);
+              ends = λ h ended. over h (ends_over p r g h here.going (same ∙ ended));
               leaves = going ∙ sym (ap is_leave (sym same) ∙ work_no_leave g (slice_get (statements_of p g) r));
             }

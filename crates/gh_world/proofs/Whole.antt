@@ -1,17 +1,18 @@
 -- A world's actors are those of the list that it is the state of; and where all are done the list is a whole run.
-use Rattle.std.proofs.Common.{◌≡◌, ℕ, zero, suc, ◌+◌, ◌-◌, ◌<◌, ◌≤◌, Bool, true, cond, List, [], ◌++◌, length, get_or, reverse, refl, sym, ◌∙◌, ap, Option, Some, None, arith, inl, inr}
+use Rattle.std.proofs.Common.{◌≡◌, ℕ, zero, suc, ◌+◌, ◌-◌, ◌<◌, ◌≤◌, Bool, true, cond, List, [], ◌++◌, length, get_or, reverse, refl, sym, ◌∙◌, ap, subst, Option, Some, None, arith, inl, inr}
 use Rattle.std.specs.Prelude.{slice_get}
 use Rattle.std.specs.List.{range_with_len}
 use Rattle.std.proofs.lemmas.Bool.{cases_lt}
 use Rattle.std.proofs.lemmas.List.{append-nil}
 use Rattle.std.proofs.lemmas.Option.{slice_get-get_or}
-use Rattle.gh_world.specs.Vocabulary.{Entry, has_left_at, is_leaving, Layout, Op, Program, Task}
+use Rattle.gh_world.specs.Vocabulary.{by, Entry, has_left_at, is_leaving, Layout, Op, Program, Task}
 use Rattle.gh_coord.specs.Stopping.{acks_of}
 use Rattle.gh_worker.specs.Listing as worker
 use Rattle.gh_world.specs.declared.handshake.Actor.TheVariants as actor
 use Rattle.gh_world.specs.Order.{begun_in}
 use Rattle.gh_world.specs.Runs.{IsRun}
 use Rattle.gh_world.specs.Schedule.{ended_after, first_going, has_ended, turn_from}
+use Rattle.gh_world.specs.Turns.{turns_of}
 use Rattle.gh_world.specs.World.{actor_after, actor_of, actors_of, AllDone, is_done, IsAfter, setting_of, State, turn_in, worker_or}
 use Rattle.gh_world.proofs.Due.{none_to_come}
 use Rattle.gh_world.proofs.OneStep.{Kept}
@@ -55,10 +56,13 @@ module _ (w : State) (f : Kept w) (es : List (Entry Op)) (after : IsAfter w es) 
   pub whole : AllDone w → IsRun p l es
   whole all =
       let left : has_left_at w.mutator.processor.task ≡ true = all 0 (omega arith) in
-      let none = none_to_come p w.progress.next (sym f.fit.turns.leaves ∙ left_leaves w.mutator.processor.task left) in
+      let none = none_to_come p 0 w.progress.next (sym f.fit.turns.leaves ∙ left_leaves w.mutator.processor.task left) in
       record {
         legal = after.legal;
-        turns = sym (after.turns ∙ ap (λ (os : List Op). reverse (begun_in es) ++ os) none ∙ append-nil (reverse (begun_in es)));
+        turns = λ a lt.
+            let single = f.fit.base.one in
+            let first : 0 ≡ a = omega (arith, single, lt) in
+            subst (λ (b : ℕ). reverse (begun_in (by b es)) ≡ turns_of p b) first (sym (after.turns ∙ ap (λ (os : List Op). reverse (begun_in (by 0 es)) ++ os) none ∙ append-nil (reverse (begun_in (by 0 es)))));
         done = λ a lt. let low : a < actors_of w = omega (arith, lt, same_count) in same_end a low ∙ all a low;
       }
 

@@ -1,39 +1,29 @@
 -- One step of the processor in a world is one entry more of a legal list.
-use Rattle.std.proofs.Common.{◌≡◌, ℕ, suc, ◌+◌, ◌<◌, ◌≤◌, Bool, true, false, not, cond, eqb, ◌&&◌, ◌||◌, List, ◌∷◌, ◌++◌, length, reverse, get_or, refl, sym, ◌∙◌, ap, subst, Option, Some, None, arith}
+use Rattle.std.proofs.Common.{◌≡◌, ℕ, suc, ◌+◌, ◌<◌, ◌≤◌, Bool, true, false, cond, eqb, ◌&&◌, ◌||◌, List, ◌∷◌, ◌++◌, length, reverse, get_or, refl, sym, ◌∙◌, ap, subst, Option, Some, None, arith}
 use Rattle.gh_mutator.specs.declared.task.Task.TheVariants as task
 use Rattle.gh_mutator.specs.Serving.{answer_at as answer_at_task}
-use Rattle.gh_world.specs.Vocabulary.{is_serving, IsLayoutOf, most_objects, is_last}
-use Rattle.gh_base.specs.declared.operation.Op.TheVariants as op
+use Rattle.gh_world.specs.Vocabulary.{is_serving, IsLayoutOf, is_last}
 use Rattle.gh_base.specs.Steps.{IsShown}
 use Rattle.gh_coord.specs.Listing as coord
 use Rattle.gh_worker.specs.Listing as worker
 use Rattle.gh_world.specs.declared.handshake.Actor.TheVariants as actor
-use Rattle.gh_world.specs.Order.{goroutine_of}
 use Rattle.gh_mutator.specs.Sound.{has_room}
-use Rattle.gh_world.specs.Processors.{arena_of, has_more, is_of, may_begin}
 use Rattle.gh_world.specs.Turns.{Stands, statements_by, statement_now, next_point}
-use Rattle.gh_world.specs.Wishes.{wishes_of}
 use Rattle.gh_world.specs.World.{counts_after, event_at, event_by, GoesOn, last_after, MadeAtMost, op_at_turn, points_in}
-use Rattle.gh_world.proofs.Vocabulary.{acks_of, Actor, actor_after, acts, After, Answer, answer_in, answered_in, asks, Begins, begun_in, bit, by, cell_of, changed, ended_in, ends, Entry, eq-eqb, eqb-false, eqb-true, event_of, Follows, get_or-set_other, get_or-set_same, gives_at, goroutine_at, has_left, has_names, InRange, is_busy_at, is_over, is_point, is_some, is_statement, Layout, leaves, Legal, may_leave, MayBeOver, nat_tests, Next, Op, op_due, option_to_list, Processor, processor_kind, Program, Progress, progress_after, request, set, setting_of, started, state_of, statement_answer, statements_among, StepsAreShown, takes, target, Task, to_come, total_of, turns_of, WellFormed, with_goroutine, words_after, ◌%◌}
-use Rattle.gh_world.proofs.Asking.{all_then, has_wish, same_ended, same_left}
-use Rattle.gh_world.proofs.Due.{both_true, due_goroutine, due_runs, due_statement, ends_is, false_unless, few_statements, has_name_at, leaves_is, none_to_come, not_ended, not_over}
+use Rattle.gh_world.proofs.Vocabulary.{acks_of, Actor, actor_after, acts, After, Answer, answer_in, answered_in, asks, Begins, begun_in, bit, by, cell_of, changed, ended_in, ends, Entry, eqb-false, eqb-true, event_of, get_or-set_other, get_or-set_same, gives_at, goroutine_at, has_left, InRange, is_busy_at, is_over, is_point, is_some, is_statement, Layout, leaves, MayBeOver, nat_tests, Next, Op, op_due, option_to_list, Processor, processor_kind, Program, Progress, progress_after, request, set, setting_of, started, state_of, statement_answer, statements_among, StepsAreShown, takes, target, Task, to_come, total_of, turns_of, WellFormed, with_goroutine, words_after}
+use Rattle.gh_world.proofs.Due.{due_goroutine}
+use Rattle.gh_world.proofs.MayBegin.{due_begins, ended_then, left_then}
 use Rattle.gh_world.proofs.OneRun.{one_more}
-use Rattle.gh_world.proofs.Resting.{begun_is, begun_own, is_processor}
+use Rattle.gh_world.proofs.Resting.{begun_is, is_processor}
 
 -- what has ended may be over behind the turn that is begun
-pub ended_after : (p : Program) (t : Next) (b : Option Op) (new : Next) (es : List (Entry Op)) → GoesOn p t b new → ((g : ℕ) → ended_in es g ≡ true → MayBeOver p t g) → (g : ℕ) → (ends b g || ended_in es g) ≡ true → MayBeOver p new g
+ended_after : (p : Program) (t : Next) (b : Option Op) (new : Next) (es : List (Entry Op)) → GoesOn p t b new → ((g : ℕ) → ended_in es g ≡ true → MayBeOver p t g) → (g : ℕ) → (ends b g || ended_in es g) ≡ true → MayBeOver p new g
 ended_after p t None new es follows over g h = subst (λ (x : Next). MayBeOver p x g) (sym follows) (over g h)
-ended_after p t (Some o) new es follows over g h = go (ends (Some o) g) refl h where
-  go : (c : Bool) → ends (Some o) g ≡ c → (c || ended_in es g) ≡ true → MayBeOver p new g
-  go true e q = follows.ends g (ends_is o g e)
-  go false e q = follows.over g (over g q)
+ended_after p t (Some o) new es follows over g h = ended_then p 0 t o new (ended_in es) follows over g h
 
-pub left_after : (p : Program) (t : Next) (b : Option Op) (new : Next) (es : List (Entry Op)) → GoesOn p t b new → ((o : Op) → b ≡ Some o → op_due p t ≡ Some o) → (has_left es ≡ true → is_over t ≡ true) → (leaves b || has_left es) ≡ true → is_over new ≡ true
+left_after : (p : Program) (t : Next) (b : Option Op) (new : Next) (es : List (Entry Op)) → GoesOn p t b new → ((o : Op) → b ≡ Some o → op_due p t ≡ Some o) → (has_left es ≡ true → is_over t ≡ true) → (leaves b || has_left es) ≡ true → is_over new ≡ true
 left_after p t None new es follows due left h = ap is_over follows ∙ left h
-left_after p t (Some o) new es follows due left h = go (leaves (Some o)) refl h where
-  go : (c : Bool) → leaves (Some o) ≡ c → (c || has_left es) ≡ true → is_over new ≡ true
-  go true e q = follows.leaves ∙ sym (leaves_is o) ∙ e
-  go false e q = absurd (not_over p t o (due o refl) (left q))
+left_after p t (Some o) new es follows due left h = left_then p 0 t o new (has_left es) follows (due o refl) left h
 
 -- the statements begun are counted
 counted_after : (t : Progress) (b : Option Op) (bs : List Op) → length t.begun ≡ 32 → ((o : Op) → b ≡ Some o → is_statement o ≡ true → goroutine_at o < 32) → ((g : ℕ) → g < 32 → get_or t.begun g 0 ≡ statements_by g bs) → (g : ℕ) → g < 32 → get_or (counts_after t b) g 0 ≡ statements_by g (option_to_list b ++ bs)
@@ -81,46 +71,6 @@ told_by now false false a quiet = refl
 told_at : (now : ℕ × ℕ) (t : Task) (a : Option Answer) → answered_in (event_at now (is_last t) (answer_at_task t a)) ≡ with_goroutine now.0 (answer_at_task t a)
 told_at now t a = told_by now (is_last t) (is_serving t) a (last_is_none t)
 
--- ---- what is due may begin
-
-not_true : (b : Bool) → b ≡ false → not b ≡ true
-not_true true e = absurd cc
-not_true false e = refl
-
-module _ (p : Program) (l : Layout) (runnable : WellFormed p) (laid : IsLayoutOf p.settings.arena p.settings.globals p.settings.procs p.settings.workers (length p.goroutines) l) (single : l.procs ≡ 1) where
-  of_it : (o : Op) → is_of (arena_of p.shapes l) 0 (goroutine_of o) ≡ true
-  of_it o = go (goroutine_of o) where
-    go : (g : Option ℕ) → is_of (arena_of p.shapes l) 0 g ≡ true
-    go None = refl
-    go (Some g) = let zeroth : g % l.procs ≡ 0 = rw single (omega arith) in eq-eqb (g % l.procs) 0 zeroth
-
-  more_of : (fs : List (Entry Op)) (o : Op) (rest : List Op) → turns_of p ≡ reverse (begun_in fs) ++ o ∷ rest → has_more (wishes_of p) fs o ≡ true
-  more_of fs (op.New g d t) rest turns = has_wish p g fs (op.New g d t) rest turns (eq-eqb g g refl)
-  more_of fs (op.Gc g) rest turns = has_wish p g fs (op.Gc g) rest turns (eq-eqb g g refl)
-  more_of fs _ rest turns = refl
-
-  leaves_so : (fs : List (Entry Op)) (o : Op) (new : Next) → turns_of p ≡ reverse (begun_in fs) ++ o ∷ to_come p new → is_over new ≡ leaves (Some o) → may_leave (arena_of p.shapes l) 0 fs o ≡ true
-  leaves_so fs op.Leave new turns over = all_then p (arena_of p.shapes l) 0 fs l.goroutines (omega (arith, laid.goroutines_are)) (turns ∙ ap (λ (os : List Op). reverse (begun_in fs) ++ op.Leave ∷ os) (none_to_come p new over))
-  leaves_so fs _ new turns over = refl
-
-  -- where nothing is begun
-  pub begins_due : ((es : List (Entry Op)) → state_of (processor_kind p.shapes l) 0 es ≡ state_of (processor_kind p.shapes l) 0 (by 0 es)) → (es : List (Entry Op)) (t : Progress) (o : Op) (new : Next) → is_busy_at (state_of (processor_kind p.shapes l) 0 es).task ≡ false → op_due p t.next ≡ Some o → Follows p t.next o new →
-      MadeAtMost t.stated (state_of (processor_kind p.shapes l) 0 es) → Stands p t.next → t.stated + statements_among (to_come p t.next) ≡ total_of p → Legal (setting_of p l) es → turns_of p ≡ reverse (begun_in es) ++ to_come p t.next →
-      ((g : ℕ) → ended_in es g ≡ true → MayBeOver p t.next g) → (has_left es ≡ true → is_over t.next ≡ true) → has_room (state_of (processor_kind p.shapes l) 0 es) o ≡ true → Begins (setting_of p l) 0 es (Some o)
-  begins_due own es t o new idle due follows made stands all legal turns over left room =
-      let m = state_of (processor_kind p.shapes l) 0 es in
-      let fs = by 0 es in
-      let begun : begun_in fs ≡ begun_in es = begun_own p l single es legal in
-      let ranged = (due_runs p l runnable laid t.next o stands due).ranged in
-      let few : is_statement o ≡ true → t.stated < most_objects = λ sure. omega (arith, due_statement p t.next o due sure, all, few_statements p runnable) in
-      let names : has_names (state_of (processor_kind p.shapes l) 0 fs) o ≡ true = subst (λ (n : Processor). has_names n o ≡ true) (own es) (has_name_at m t.stated o made few) in
-      let runs_on = not_ended p t.next o fs stands due (λ g e. over g (sym (same_ended es fs g begun) ∙ e)) in
-      let stays : has_left fs ≡ false = same_left es fs begun ∙ false_unless (has_left es) (λ h. not_over p t.next o due (left h)) in
-      let come : turns_of p ≡ reverse (begun_in fs) ++ o ∷ to_come p new = turns ∙ ap (λ (os : List Op). reverse (begun_in es) ++ os) follows.come ∙ ap (λ (os : List Op). reverse os ++ o ∷ to_come p new) (sym begun) in
-      let may : may_begin (arena_of p.shapes l) (wishes_of p) 0 (state_of (processor_kind p.shapes l) 0 fs) fs o ≡ true =
-      both_true _ _ (both_true _ _ (both_true _ _ (both_true _ _ (both_true _ _ (both_true _ _ (both_true _ _ ranged (of_it o)) names) (not_true _ runs_on)) (not_true _ stays)) (more_of fs o (to_come p new) come)) (leaves_so fs o new come (follows.leaves ∙ sym (leaves_is o)))) (subst (λ (n : Processor). has_room n o ≡ true) (own es) room) in
-      (ap (λ (x : Actor Processor). (setting_of p l).kind.busy x) (is_processor p l 0 (omega (arith, single)) es) ∙ idle, may)
-
 -- ---- one step is one entry more
 
 module _ (p : Program) (l : Layout) (runnable : WellFormed p) (laid : IsLayoutOf p.settings.arena p.settings.globals p.settings.procs p.settings.workers (length p.goroutines) l) (single : l.procs ≡ 1) where
@@ -140,8 +90,8 @@ module _ (p : Program) (l : Layout) (runnable : WellFormed p) (laid : IsLayoutOf
     pub busy : is_busy_at (begun m b).task ≡ true
     pub within : InRange l (cell_of (asks (begun m b)))
     pub made : MadeAtMost t.stated m
-    pub stands : Stands p t.next
-    pub all : t.stated + statements_among (to_come p t.next) ≡ total_of p
+    pub stands : Stands p 0 t.next
+    pub all : t.stated + statements_among (to_come p 0 t.next) ≡ total_of p
     pub columns : length t.begun ≡ 32
     pub room : (o : Op) → b ≡ Some o → has_room m o ≡ true
 
@@ -163,16 +113,16 @@ module _ (p : Program) (l : Layout) (runnable : WellFormed p) (laid : IsLayoutOf
   abbrev OwnEntries : Type 0
   OwnEntries = (es : List (Entry Op)) → state_of (processor_kind p.shapes l) 0 es ≡ state_of (processor_kind p.shapes l) 0 (by 0 es)
 
-  begins_next : OwnEntries → (es : List (Entry Op)) (t : Progress) (b : Option Op) (new : Next) → Knows (state_of (processor_kind p.shapes l) 0 es) t b new → Legal (setting_of p l) es → turns_of p ≡ reverse (begun_in es) ++ to_come p t.next →
-      ((g : ℕ) → ended_in es g ≡ true → MayBeOver p t.next g) → (has_left es ≡ true → is_over t.next ≡ true) → Begins (setting_of p l) 0 es b
-  begins_next own es t None new k legal turns over left = ap (λ (x : Actor Processor). (setting_of p l).kind.busy x) (is_processor p l 0 (omega (arith, single)) es) ∙ k.busy
-  begins_next own es t (Some o) new k legal turns over left =
+  begins_next : OwnEntries → (es : List (Entry Op)) (t : Progress) (b : Option Op) (new : Next) → Knows (state_of (processor_kind p.shapes l) 0 es) t b new → turns_of p 0 ≡ reverse (begun_in (by 0 es)) ++ to_come p 0 t.next →
+      ((g : ℕ) → ended_in (by 0 es) g ≡ true → MayBeOver p t.next g) → (has_left (by 0 es) ≡ true → is_over t.next ≡ true) → Begins (setting_of p l) 0 es b
+  begins_next own es t None new k turns over left = ap (λ (x : Actor Processor). (setting_of p l).kind.busy x) (is_processor p l 0 (omega (arith, single)) es) ∙ k.busy
+  begins_next own es t (Some o) new k turns over left =
       let due = due_at (state_of (processor_kind p.shapes l) 0 es) t.next (Some o) o k.is refl in
-      begins_due p l runnable laid single own es t o new due.0 due.1 k.goes k.made k.stands k.all legal turns over left (k.room o refl)
+      due_begins p l runnable laid 0 (omega (arith, single)) own es t.next o new t.stated due.0 due.1 k.goes k.made k.stands (let all = k.all in omega (arith, all)) turns over left (k.room o refl)
 
-  pub turns_next : (t : Progress) (b : Option Op) (new : Next) (bs : List Op) → GoesOn p t.next b new → turns_of p ≡ reverse bs ++ to_come p t.next → turns_of p ≡ reverse (option_to_list b ++ bs) ++ to_come p new
-  turns_next t None new bs goes turns = turns ∙ ap (λ (x : Next). reverse bs ++ to_come p x) (sym goes)
-  turns_next t (Some o) new bs goes turns = turns ∙ ap (λ (xs : List Op). reverse bs ++ xs) goes.come ∙ sym (one_more o bs (to_come p new))
+  pub turns_next : (t : Progress) (b : Option Op) (new : Next) (bs : List Op) → GoesOn p t.next b new → turns_of p 0 ≡ reverse bs ++ to_come p 0 t.next → turns_of p 0 ≡ reverse (option_to_list b ++ bs) ++ to_come p 0 new
+  turns_next t None new bs goes turns = turns ∙ ap (λ (x : Next). reverse bs ++ to_come p 0 x) (sym goes)
+  turns_next t (Some o) new bs goes turns = turns ∙ ap (λ (xs : List Op). reverse bs ++ xs) goes.come ∙ sym (one_more o bs (to_come p 0 new))
 
   -- the entry's actor is the processor
   runs_so : (es : List (Entry Op)) (b : Option Op) → started (setting_of p l).kind b (actor_after p l es 0) ≡ actor.Runs (begun (state_of (processor_kind p.shapes l) 0 es) b)
@@ -183,15 +133,15 @@ module _ (p : Program) (l : Layout) (runnable : WellFormed p) (laid : IsLayoutOf
   follows_at own shown list workers c t points marks es b new a k =
       let m = state_of (processor_kind p.shapes l) 0 es in
       let due : (o : Op) → b ≡ Some o → op_due p t.next ≡ Some o = λ o e. (due_at m t.next b o k.is e).1 in
-      let here : (o : Op) → b ≡ Some o → is_statement o ≡ true → goroutine_at o < 32 = λ o e sure. due_goroutine p t.next o runnable k.stands (due o e) sure in
-      let now = now_after t b (begun_in es) k.columns here a.counted a.now in
+      let here : (o : Op) → b ≡ Some o → is_statement o ≡ true → goroutine_at o < 32 = λ o e sure. due_goroutine p 0 t.next o runnable k.stands (due o e) sure in
+      let now = now_after t b (begun_in (by 0 es)) k.columns here a.counted a.now in
       let step : IsShown l list (words_after (setting_of p l).opening es) (asks (begun m b)) = shown list (words_after (setting_of p l).opening es) (asks (begun m b)) k.within a.words in
       record {
         legal = (
           a.legal,
           record {
             actor = omega (arith, single);
-            begins = begins_next own es t b new k a.legal a.turns a.ended a.left;
+            begins = begins_next own es t b new k a.turns a.ended a.left;
             runs = ap (λ (x : Actor Processor). (setting_of p l).kind.busy x) (runs_so es b) ∙ k.busy;
             asks = sym (ap (λ (x : Actor Processor). (setting_of p l).kind.asks x) (runs_so es b));
             within = k.within;
@@ -202,11 +152,11 @@ module _ (p : Program) (l : Layout) (runnable : WellFormed p) (laid : IsLayoutOf
         processor = refl;
         marking = λ i x e. apart (suc i) (omega arith) (a.marking i x e);
         coordinator = apart (acks_of l) (omega (arith, single)) a.coordinator;
-        turns = turns_next t b new (begun_in es) k.goes a.turns;
-        counted = counted_after t b (begun_in es) k.columns here a.counted;
+        turns = turns_next t b new (begun_in (by 0 es)) k.goes a.turns;
+        counted = counted_after t b (begun_in (by 0 es)) k.columns here a.counted;
         now = now;
-        ended = ended_after p t.next b new es k.goes a.ended;
-        left = left_after p t.next b new es k.goes due a.left;
+        ended = ended_after p t.next b new (by 0 es) k.goes a.ended;
+        left = left_after p t.next b new (by 0 es) k.goes due a.left;
         pointed = ap (λ (ps : List (ℕ × ℕ)). ps ++ next_point (is_point (acts (begun m b) (found_at list (begun m b)))) (pair_of (last_after t b) (get_or (counts_after t b) (last_after t b) 0))) a.pointed
             ∙ ap (λ (x : ℕ × ℕ). points_in p.shapes l es ++ next_point (is_point (acts (begun m b) (found_at list (begun m b)))) x) now;
         marked = ap (λ (n : ℕ). n + bit (is_some (statement_answer (begun m b) (found_at list (begun m b))))) a.marked;
@@ -224,31 +174,31 @@ module _ (p : Program) (l : Layout) (runnable : WellFormed p) (laid : IsLayoutOf
     back g = subst Goal (sym a.processor) g
 
   -- what the step says
-  says_at : (list : List ℕ) (t : Progress) (es : List (Entry Op)) (b : Option Op) → pair_of (last_after t b) (get_or (counts_after t b) (last_after t b) 0) ≡ statement_now (option_to_list b ++ begun_in es) →
+  says_at : (list : List ℕ) (t : Progress) (es : List (Entry Op)) (b : Option Op) → pair_of (last_after t b) (get_or (counts_after t b) (last_after t b) 0) ≡ statement_now (option_to_list b ++ begun_in (by 0 es)) →
       event_at (pair_of (last_after t b) (get_or (counts_after t b) (last_after t b) 0)) (is_last (begun (state_of (processor_kind p.shapes l) 0 es) b).task) (statement_answer (begun (state_of (processor_kind p.shapes l) 0 es) b) (found_at list (begun (state_of (processor_kind p.shapes l) 0 es) b)))
       ≡ event_of p l es (entry_of list (state_of (processor_kind p.shapes l) 0 es) b)
   says_at list t es b same =
       let m = state_of (processor_kind p.shapes l) 0 es in
       ap (λ (x : ℕ × ℕ). event_at x (is_last (begun m b).task) (statement_answer (begun m b) (found_at list (begun m b)))) same
-      ∙ ap (λ (x : Actor Processor). event_by (statement_now (option_to_list b ++ begun_in es)) x (found_at list (begun m b))) (sym (runs_so es b))
+      ∙ ap (λ (x : Actor Processor). event_by (statement_now (option_to_list b ++ begun_in (by 0 es))) x (found_at list (begun m b))) (sym (runs_so es b))
 
   pub says : (list : List ℕ) (m : Processor) (workers : List worker.Working) (c : coord.Coordinating) (t : Progress) (points : List (ℕ × ℕ)) (marks : ℕ) (es : List (Entry Op)) (b : Option Op) (new : Next) → After p l list m workers c t points marks es → Knows m t b new →
       event_at (pair_of (last_after t b) (get_or (counts_after t b) (last_after t b) 0)) (is_last (begun m b).task) (statement_answer (begun m b) (found_at list (begun m b))) ≡ event_of p l es (entry_of list m b)
   says list m workers c t points marks es b new a k =
-      let here : (o : Op) → b ≡ Some o → is_statement o ≡ true → goroutine_at o < 32 = λ o e sure. due_goroutine p t.next o runnable k.stands (due_at m t.next b o k.is e).1 sure in
-      let now = now_after t b (begun_in es) k.columns here a.counted a.now in
+      let here : (o : Op) → b ≡ Some o → is_statement o ≡ true → goroutine_at o < 32 = λ o e sure. due_goroutine p 0 t.next o runnable k.stands (due_at m t.next b o k.is e).1 sure in
+      let now = now_after t b (begun_in (by 0 es)) k.columns here a.counted a.now in
       subst Goal (sym a.processor) (says_at list t es b now) where
         Goal : Processor → Type 0
         Goal n = event_at (pair_of (last_after t b) (get_or (counts_after t b) (last_after t b) 0)) (is_last (begun n b).task) (statement_answer (begun n b) (found_at list (begun n b))) ≡ event_of p l es (entry_of list n b)
 
   -- and the answer in it
-  tells_at : (list : List ℕ) (es : List (Entry Op)) (b : Option Op) → answered_in (event_of p l es (entry_of list (state_of (processor_kind p.shapes l) 0 es) b)) ≡ with_goroutine (statement_now (option_to_list b ++ begun_in es)).0 (answer_in p.shapes l es (entry_of list (state_of (processor_kind p.shapes l) 0 es) b))
+  tells_at : (list : List ℕ) (es : List (Entry Op)) (b : Option Op) → answered_in (event_of p l es (entry_of list (state_of (processor_kind p.shapes l) 0 es) b)) ≡ with_goroutine (statement_now (option_to_list b ++ begun_in (by 0 es))).0 (answer_in p.shapes l es (entry_of list (state_of (processor_kind p.shapes l) 0 es) b))
   tells_at list es b =
       let m = begun (state_of (processor_kind p.shapes l) 0 es) b in
       let found = found_at list m in
-      ap (λ (x : Actor Processor). answered_in (event_by (statement_now (option_to_list b ++ begun_in es)) x found)) (runs_so es b) ∙ told_at (statement_now (option_to_list b ++ begun_in es)) m.task (gives_at m m.task found)
+      ap (λ (x : Actor Processor). answered_in (event_by (statement_now (option_to_list b ++ begun_in (by 0 es))) x found)) (runs_so es b) ∙ told_at (statement_now (option_to_list b ++ begun_in (by 0 es))) m.task (gives_at m m.task found)
 
-  pub tells : (list : List ℕ) (m : Processor) (es : List (Entry Op)) (b : Option Op) → m ≡ state_of (processor_kind p.shapes l) 0 es → answered_in (event_of p l es (entry_of list m b)) ≡ with_goroutine (statement_now (option_to_list b ++ begun_in es)).0 (answer_in p.shapes l es (entry_of list m b))
+  pub tells : (list : List ℕ) (m : Processor) (es : List (Entry Op)) (b : Option Op) → m ≡ state_of (processor_kind p.shapes l) 0 es → answered_in (event_of p l es (entry_of list m b)) ≡ with_goroutine (statement_now (option_to_list b ++ begun_in (by 0 es))).0 (answer_in p.shapes l es (entry_of list m b))
   tells list m es b is = subst Goal (sym is) (tells_at list es b) where
     Goal : Processor → Type 0
-    Goal n = answered_in (event_of p l es (entry_of list n b)) ≡ with_goroutine (statement_now (option_to_list b ++ begun_in es)).0 (answer_in p.shapes l es (entry_of list n b))
+    Goal n = answered_in (event_of p l es (entry_of list n b)) ≡ with_goroutine (statement_now (option_to_list b ++ begun_in (by 0 es))).0 (answer_in p.shapes l es (entry_of list n b))

@@ -1,5 +1,5 @@
 -- Lists of steps of all actors, the newest first: what was begun, where each statement acted, what was answered, and what the heap that never frees is after them. Operations are begun by the processor alone; at the seat of a worker or of the coordinator these words speak of a processor that rests.
-use Rattle.std.specs.Prelude.{ℕ, nat_lt, Bool, true, false, ◌==◌, ◌&&◌, ◌||◌, List, [], ◌∷◌, ◌++◌, reverse, Option, Some, None}
+use Rattle.std.specs.Prelude.{ℕ, nat_lt, Bool, true, false, if◌then◌else◌, ◌==◌, ◌&&◌, ◌||◌, List, [], ◌∷◌, ◌++◌, reverse, Option, Some, None}
 use Rattle.std.specs.Option.{option_to_list}
 use Rattle.gh_base.specs.declared.value.Answer.{Answer}
 use Rattle.gh_base.specs.declared.operation.Op.{Op}
@@ -102,7 +102,15 @@ module _ (shapes : List Shape) (l : Layout) where
   abbrev pub acted_in : List (Entry Op) → List Answered
   acted_in es = reverse (order_of es)
 
-  -- what the processor answered
+  -- those of one actor, the newest first and the first of them first
+  abbrev pub order_at : (a : ℕ) → List (Entry Op) → List Answered
+  order_at a [] = []
+  order_at a (e ∷ es) = (if e.actor == a then option_to_list (answered (ever_of es) (acts (before_step es e) e.found)) else []) ++ order_at a es
+
+  abbrev pub acted_at : (a : ℕ) → List (Entry Op) → List Answered
+  acted_at a es = reverse (order_at a es)
+
+  -- what the processors answered
   abbrev pub given_in : List (Entry Op) → List Answer
   given_in [] = []
   given_in (e ∷ es) = option_to_list (gives (before_step es e) e.found) ++ given_in es

@@ -1,8 +1,9 @@
--- Whole runs: a list of the steps of all actors in which the processor's operations are the script's turns, and at whose end all are done; and what such a list says of a script's answers, its cycles and what is live.
+-- Whole runs: a list of the steps of all actors in which each processor's operations are its turns, and at whose end all are done; and what such a list says of a script's answers, its cycles and what is live.
 use Rattle.std.specs.Prelude.{◌≡◌, ℕ, ◌+◌, ◌<◌, ◌≤◌, Bool, true, false, List, [], ◌∷◌, ◌++◌, length, map, reverse, slice_get, Option, Some, None}
 use Rattle.std.specs.List.{filter}
 use Rattle.gh_world.specs.Vocabulary.{acts, AllAnswer, Answer, answers_by, Entry, Layout, Legal, Op, opening_ever, Processor, Program, state_of, statements_of, WellFormed, Words, words_after}
 use Rattle.gh_base.specs.declared.cell.Cell.TheVariants as cell
+use Rattle.gh_base.specs.Lists.{by}
 use Rattle.gh_base.specs.declared.operation.Op.TheVariants as op
 use Rattle.gh_base.specs.declared.value.Answer.TheVariants as answer
 use Rattle.gh_coord.specs.declared.cycles.Cycle.{Cycle}
@@ -14,10 +15,10 @@ use Rattle.gh_mutator.specs.Listing.{gives}
 use Rattle.gh_script.specs.Program.{op_of}
 use Rattle.gh_world.specs.declared.handshake.Actor.TheVariants.{Leads}
 use Rattle.gh_world.specs.Cycles.{AreLive, cycles_in}
-use Rattle.gh_world.specs.Order.{acted_in, Answered, before_step, begun_in, ever_of, order_of}
+use Rattle.gh_world.specs.Order.{acted_at, acted_in, Answered, before_step, begun_in, ever_of, order_of}
 use Rattle.gh_world.specs.Processors.{arena_of, IsFullFor}
 use Rattle.gh_world.specs.Schedule.{ended_after, IsInTurn}
-use Rattle.gh_world.specs.Turns.{turns_of, answers_to, is_statement_of}
+use Rattle.gh_world.specs.Turns.{turns_of, answers_to, is_of_seat, is_statement_of}
 use Rattle.gh_world.specs.World.{actor_after, answer_in, LaysOut, now_in, setting_of, with_goroutine}
 
 module _ (p : Program) (l : Layout) where
@@ -25,9 +26,9 @@ module _ (p : Program) (l : Layout) where
   abbrev pub words_in : List (Entry Op) → Words
   words_in es = words_after (setting_of p l).opening es
 
-  -- the processor after the list
-  abbrev pub processor_after : List (Entry Op) → Processor
-  processor_after es = state_of (processor_kind p.shapes l) 0 es
+  -- the processor at seat a after the list
+  abbrev pub processor_after : (a : ℕ) → List (Entry Op) → Processor
+  processor_after a es = state_of (processor_kind p.shapes l) a es
 
   -- the actor has ended after the list
   abbrev pub has_ended_in : List (Entry Op) → ℕ → Type 0
@@ -36,14 +37,14 @@ module _ (p : Program) (l : Layout) where
   -- the list is one whole run of the script
   pub record IsRun (es : List (Entry Op)) : Type 0 where
     pub legal : Legal (setting_of p l) es
-    pub turns : reverse (begun_in es) ≡ turns_of p
+    pub turns : (a : ℕ) → a < l.procs → reverse (begun_in (by a es)) ≡ turns_of p a
     pub done : (a : ℕ) → a < (setting_of p l).actors → has_ended_in es a
 
-  -- the list is a run of the script so far: what has begun is the first of its turns
+  -- the list is a run of the script so far: what each processor has begun is the first of its turns
   pub record IsRunSoFar (es : List (Entry Op)) : Type 0 where
     pub legal : Legal (setting_of p l) es
-    pub to_come : List Op
-    pub turns : turns_of p ≡ reverse (begun_in es) ++ to_come
+    pub to_come : (a : ℕ) → List Op
+    pub turns : (a : ℕ) → a < l.procs → turns_of p a ≡ reverse (begun_in (by a es)) ++ to_come a
 
 -- what the statements were answered, in the order of their ends, each answer with its goroutine
 abbrev pub answers_given : Program → Layout → List (Entry Op) → List (ℕ × Answer)
@@ -66,6 +67,10 @@ outcome_by answers c = record { answers = answers; cycles = map swept_cycle c.cy
 
 -- ---- explained runs
 
+-- the answers of the goroutines of processor a, among answers each with its goroutine
+abbrev pub answers_at : Program → (a : ℕ) → List (ℕ × Answer) → List (ℕ × Answer)
+answers_at p a answers = filter (λ (x : ℕ × Answer). is_of_seat p a x.0) answers
+
 -- the statements of goroutine g among operations with their answers
 abbrev pub acted_by : ℕ → List Answered → List Answered
 acted_by g acted = filter (λ (a : Answered). is_statement_of g a.op) acted
@@ -85,21 +90,22 @@ module _ (p : Program) (l : Layout) where
     pub behind : length (order_of p.shapes l before) ≡ i
     pub acted : acts (before_step p.shapes l before entry) entry.found ≡ Some (record { op = o; full = full })
 
-  -- The operation is the last that began in the list, and a cycle that began after it did is swept: more cycles are swept than had begun there.
-  pub record WaitedForCycle (es : List (Entry Op)) (o : Op) : Type 0 where
+  -- The operation is the last that the actor began in the list, and a cycle that began after it did is swept: more cycles are swept than had begun there.
+  pub record WaitedForCycle (a : ℕ) (es : List (Entry Op)) (o : Op) : Type 0 where
     pub earlier : List (Entry Op)
     pub first : Entry Op
     pub since : List (Entry Op)
     pub there : es ≡ since ++ first ∷ earlier
+    pub by_it : first.actor ≡ a
     pub began : first.begun ≡ Some o
-    pub none_since : begun_in since ≡ []
+    pub none_since : begun_in (by a since) ≡ []
     pub swept : words_in p l earlier cell.Begun < words_in p l es cell.Swept
 
   -- The operation acted in the list, behind i others, where there was no room; and a cycle that began after it did was swept by then.
   pub record FoundNoRoom (es : List (Entry Op)) (i : ℕ) (o : Op) : Type 0 where
     pub step : ActedBehind es i o true
     pub no_room : IsFullFor (arena_of p.shapes l) step.entry.actor (words_in p l step.before) (state_of (processor_kind p.shapes l) step.entry.actor step.before) o
-    pub waited : WaitedForCycle step.before o
+    pub waited : WaitedForCycle step.entry.actor step.before o
 
   -- whichever operation is answered `full`, it acted where there was no room
   abbrev pub FullMeansNoRoom : List (Entry Op) → Type 0
@@ -108,7 +114,7 @@ module _ (p : Program) (l : Layout) where
   -- The operation acted in the list, behind i others, where a cycle that began after it did was swept; and its answer is `swept`, given by that very step.
   pub record FoundSwept (es : List (Entry Op)) (i : ℕ) (a : Answered) : Type 0 where
     pub step : ActedBehind es i a.op false
-    pub waited : WaitedForCycle step.before a.op
+    pub waited : WaitedForCycle step.entry.actor step.before a.op
     pub given : gives (before_step p.shapes l step.before step.entry) step.entry.found ≡ Some answer.Swept
     pub answer : a.answer ≡ answer.Swept
 
@@ -116,7 +122,7 @@ module _ (p : Program) (l : Layout) where
   abbrev pub EachGcWaits : List (Entry Op) → Type 0
   EachGcWaits es = (i g : ℕ) (a : Answered) → slice_get (acted_in p.shapes l es) i ≡ Some a → a.op ≡ op.Gc g → FoundSwept es i a
 
-  -- The operations of the run are the script's turns, in the order of their points, and among them each goroutine's statements stand each once and in their order. Their answers are exactly those of the heap that never frees, save `full`, and whichever is answered `full`, there was no room where it acted, and a cycle was waited for. Each `gc` is answered `swept`, where a cycle that began after it did was swept. The statements' answers are those given, in the order of the turns. What the coordinator tells is so: each cycle kept what was marked where it ended, and freed what was white there. What is live is what the globals of the heap that never frees hold at the end.
+  -- The operations of each processor are its turns, in the order of their points, and nobody else acts; so the order of all points is one interleaving of the processors' turns. In it each goroutine's statements stand each once and in their order. Their answers are exactly those of the heap that never frees, save `full`, and whichever is answered `full`, there was no room where it acted, and a cycle was waited for. Each `gc` is answered `swept`, where a cycle that began after it did was swept. The statements' answers are those given, of each processor in the order of its turns. What the coordinator tells is so: each cycle kept what was marked where it ended, and freed what was white there. What is live is what the globals of the heap that never frees hold at the end.
   pub record IsExplained (es : List (Entry Op)) (o : Outcome) : Type 0 where
     pub run : IsRun p l es
     -- what was answered, and what the coordinator tells at the end
@@ -124,10 +130,11 @@ module _ (p : Program) (l : Layout) where
     pub led : actor_after p l es (l.procs + l.workers) ≡ Leads coordinator
     pub given : o ≡ outcome_by (answers_given p l es) coordinator
     pub all : List Answer
-    pub acted : map (λ (a : Answered). a.op) (acted_in p.shapes l es) ≡ turns_of p
+    pub acted : (a : ℕ) → a < l.procs → map (λ (x : Answered). x.op) (acted_at p.shapes l a es) ≡ turns_of p a
+    pub alone : (a : ℕ) → l.procs ≤ a → acted_at p.shapes l a es ≡ []
     pub answered : map (λ (a : Answered). a.answer) (acted_in p.shapes l es) ≡ all
-    pub ever : AllAnswer p.shapes opening_ever (turns_of p) all
-    pub among : o.answers ≡ answers_to (turns_of p) all
+    pub ever : AllAnswer p.shapes opening_ever (map (λ (a : Answered). a.op) (acted_in p.shapes l es)) all
+    pub among : (a : ℕ) → a < l.procs → answers_at p a o.answers ≡ answers_to (turns_of p a) (map (λ (x : Answered). x.answer) (acted_at p.shapes l a es))
     pub each : (g : ℕ) → AreItsStatements p g (acted_by g (acted_in p.shapes l es)) (answers_by g o.answers)
     pub others : (g : ℕ) → length p.goroutines ≤ g → acted_by g (acted_in p.shapes l es) ≡ []
     pub full : FullMeansNoRoom es

@@ -1,5 +1,5 @@
--- The processor's turns, and what a step is to a statement.
-use Rattle.std.specs.Prelude.{◌≡◌, ℕ, ◌+◌, ◌-◌, ◌<◌, ◌≤◌, nat_le, nat_lt, ◌==◌, ◌&&◌, Bool, true, false, if◌then◌else◌, List, [], ◌∷◌, ◌++◌, length, sum_by, Option, Some, None, unwrap_or}
+-- The turns of each processor, and what a step is to a statement.
+use Rattle.std.specs.Prelude.{◌≡◌, ℕ, ◌+◌, ◌-◌, ◌%◌, ◌<◌, ◌≤◌, nat_le, nat_lt, ◌==◌, ◌&&◌, Bool, true, false, if◌then◌else◌, List, [], ◌∷◌, ◌++◌, length, sum_by, Option, Some, None, unwrap_or}
 use Rattle.std.specs.List.{flat_map, range_with_len}
 use Rattle.gh_base.specs.declared.value.Answer.{Answer}
 use Rattle.gh_base.specs.declared.operation.Op.{Op}
@@ -21,20 +21,28 @@ count_of p g = length (statements_of p g)
 abbrev pub total_of : Program → ℕ
 total_of p = sum_by statements_in p.goroutines
 
--- it has not ended before round r
-abbrev pub has_turn : Program → (r g : ℕ) → Bool
-has_turn p r g = nat_le r (count_of p g)
+-- goroutine g is of processor g modulo their number
+abbrev pub is_of_seat : Program → (a g : ℕ) → Bool
+is_of_seat p a g = g % p.settings.procs == a
+
+-- how many statements the goroutines of processor a have, all together
+abbrev pub total_by : Program → (a : ℕ) → ℕ
+total_by p a = sum_by (λ (g : ℕ). if is_of_seat p a g then count_of p g else 0) (range_with_len 0 (length p.goroutines))
+
+-- it is of processor a, and has not ended before round r
+abbrev pub has_turn : Program → (a r g : ℕ) → Bool
+has_turn p a r g = is_of_seat p a g && nat_le r (count_of p g)
 
 -- a turn is a poll and a statement, or a poll and the goroutine's end
-abbrev pub turn_of : Program → (r g : ℕ) → List Op
-turn_of p r g = if has_turn p r g then op.Poll ∷ work_of p r g ∷ [] else []
+abbrev pub turn_of : Program → (a r g : ℕ) → List Op
+turn_of p a r g = if has_turn p a r g then op.Poll ∷ work_of p r g ∷ [] else []
 
-abbrev pub round_of : Program → ℕ → List Op
-round_of p r = flat_map (turn_of p r) (range_with_len 0 (length p.goroutines))
+abbrev pub round_of : Program → (a r : ℕ) → List Op
+round_of p a r = flat_map (turn_of p a r) (range_with_len 0 (length p.goroutines))
 
--- Round after round each goroutine that has not ended has a turn, in ascending order; at last the processor leaves.
-unfoldable pub turns_of : Program → List Op
-turns_of p = flat_map (round_of p) (range_with_len 0 (total_of p + 1)) ++ op.Leave ∷ []
+-- Round after round each goroutine of the processor that has not ended has a turn, in ascending order; at last the processor leaves.
+unfoldable pub turns_of : Program → (a : ℕ) → List Op
+turns_of p a = flat_map (round_of p a) (range_with_len 0 (total_of p + 1)) ++ op.Leave ∷ []
 
 -- ---- statements among operations
 
@@ -78,25 +86,30 @@ abbrev pub next_point : Bool → ℕ × ℕ → List (ℕ × ℕ)
 next_point true now = now ∷ []
 next_point false now = []
 
--- ---- where the processor stands among its turns
+-- ---- where a processor stands among its turns
 
 -- the turns of goroutines from g on in round r, and all that follow
-abbrev pub later : Program → (r g : ℕ) → List Op
-later p r g =
-    flat_map (turn_of p r) (range_with_len g (length p.goroutines - g)) ++ (flat_map (round_of p) (range_with_len (r + 1) (total_of p - r)) ++ op.Leave ∷ [])
+abbrev pub later : Program → (a r g : ℕ) → List Op
+later p a r g =
+    flat_map (turn_of p a r) (range_with_len g (length p.goroutines - g)) ++ (flat_map (round_of p a) (range_with_len (r + 1) (total_of p - r)) ++ op.Leave ∷ [])
 
 -- what is still to begin
-abbrev pub to_come : Program → Next → List Op
-to_come p (next.Poll r g) = op.Poll ∷ work_of p r g ∷ later p r (g + 1)
-to_come p (next.Run r g) = work_of p r g ∷ later p r (g + 1)
-to_come p next.Leave = op.Leave ∷ []
-to_come p next.Over = []
+abbrev pub to_come : Program → (a : ℕ) → Next → List Op
+to_come p a (next.Poll r g) = op.Poll ∷ work_of p r g ∷ later p a r (g + 1)
+to_come p a (next.Run r g) = work_of p r g ∷ later p a r (g + 1)
+to_come p a next.Leave = op.Leave ∷ []
+to_come p a next.Over = []
 
--- the goroutine has the turn
-abbrev pub Stands : Program → Next → Type 0
-Stands p (next.Poll r g) = (g < length p.goroutines) × (r ≤ count_of p g)
-Stands p (next.Run r g) = (g < length p.goroutines) × (r ≤ count_of p g)
-Stands p _ = Unit {0}
+-- the goroutine is of processor a, and has the turn
+pub record HasTurn (p : Program) (a r g : ℕ) : Type 0 where
+  pub there : g < length p.goroutines
+  pub going : r ≤ count_of p g
+  pub its : is_of_seat p a g ≡ true
+
+abbrev pub Stands : Program → (a : ℕ) → Next → Type 0
+Stands p a (next.Poll r g) = HasTurn p a r g
+Stands p a (next.Run r g) = HasTurn p a r g
+Stands p a _ = Unit {0}
 
 -- the goroutine's last turn is over, where the next turn is that of g in round r
 abbrev pub IsPast : Program → (r g h : ℕ) → Type 0
@@ -133,9 +146,9 @@ is_leave op.Leave = true
 is_leave _ = false
 
 -- the turn behind the one that begins this operation
-pub record Follows (p : Program) (before : Next) (o : Op) (new : Next) : Type 0 where
-  pub come : to_come p before ≡ o ∷ to_come p new
-  pub stands : Stands p new
+pub record Follows (p : Program) (a : ℕ) (before : Next) (o : Op) (new : Next) : Type 0 where
+  pub come : to_come p a before ≡ o ∷ to_come p a new
+  pub stands : Stands p a new
   pub over : (g : ℕ) → MayBeOver p before g → MayBeOver p new g
   pub ends : (g : ℕ) → o ≡ op.End g → MayBeOver p new g
   pub leaves : is_over new ≡ is_leave o

@@ -9,6 +9,7 @@ use Rattle.gh_coord.specs.Stopping.{acks_of}
 use Rattle.gh_mutator.specs.declared.task.Task.TheVariants.{New}
 use Rattle.gh_mutator.specs.Deeds.{processor_kind}
 use Rattle.gh_mutator.specs.Mutating.{asks, begins}
+use Rattle.gh_base.specs.Lists.{by}
 use Rattle.gh_mutator.specs.PollRoom.{MayStore}
 use Rattle.gh_worker.specs.Listing as worker
 use Rattle.gh_world.specs.declared.handshake.Actor.{Actor}
@@ -64,9 +65,14 @@ event_by now (actor.Runs m) found = event_at now (is_last m.task) (statement_ans
 event_by now (actor.Marks w) found = done_or (worker.gives w found) event.Moved
 event_by now (actor.Leads c) found = done_or (coord.gives c found) (told_event (coord.told_at c.cycles c.stage))
 
--- the goroutine and the number of the statement begun last, before or with the entry
+-- the goroutine and the number of the statement that the actor began last
+abbrev pub now_by : (a : ℕ) → List (Entry Op) → ℕ × ℕ
+now_by a es = statement_now (begun_in (by a es))
+
+-- of the actor of the newest entry, before or with that
 abbrev pub now_in : List (Entry Op) → ℕ × ℕ
-now_in es = statement_now (begun_in es)
+now_in [] = (0, 0)
+now_in (e ∷ es) = now_by e.actor (e ∷ es)
 
 -- an answer with its goroutine
 abbrev pub with_goroutine : ℕ → Option Answer → List (ℕ × Answer)
@@ -124,11 +130,11 @@ pub record After (p : Program) (l : Layout) (list : List ℕ) (m : Processor) (w
   pub processor : m ≡ state_of (processor_kind p.shapes l) 0 es
   pub marking : (i : ℕ) (x : worker.Working) → slice_get workers i ≡ Some x → actor_after p l es (suc i) ≡ actor.Marks x
   pub coordinator : actor_after p l es (acks_of l) ≡ actor.Leads c
-  pub turns : turns_of p ≡ reverse (begun_in es) ++ to_come p t.next
-  pub counted : (g : ℕ) → g < MOST_GOROUTINES → slice_index t.begun g ≡ statements_by g (begun_in es)
-  pub now : (t.last, slice_index t.begun t.last) ≡ now_in es
-  pub ended : (g : ℕ) → ended_in es g ≡ true → MayBeOver p t.next g
-  pub left : has_left es ≡ true → is_over t.next ≡ true
+  pub turns : turns_of p 0 ≡ reverse (begun_in (by 0 es)) ++ to_come p 0 t.next
+  pub counted : (g : ℕ) → g < MOST_GOROUTINES → slice_index t.begun g ≡ statements_by g (begun_in (by 0 es))
+  pub now : (t.last, slice_index t.begun t.last) ≡ now_by 0 es
+  pub ended : (g : ℕ) → ended_in (by 0 es) g ≡ true → MayBeOver p t.next g
+  pub left : has_left (by 0 es) ≡ true → is_over t.next ≡ true
   pub pointed : points ≡ points_in p.shapes l es
   pub marked : marks ≡ marks_in p.shapes l es
 
@@ -177,8 +183,8 @@ pub record FitTurns (p : Program) (l : Layout) (m : Mutating) (t : Progress) (po
   pub shapes : m.shapes ≡ p.shapes
   pub laid : m.processor.poll.layout ≡ l
   pub made : MadeAtMost t.stated m.processor
-  pub stands : Stands p t.next
-  pub all : t.stated + statements_among (to_come p t.next) ≡ total_of p
+  pub stands : Stands p 0 t.next
+  pub all : t.stated + statements_among (to_come p 0 t.next) ≡ total_of p
   pub columns : length t.begun ≡ MOST_GOROUTINES
   pub few_begun : (g : ℕ) → slice_index t.begun g ≤ t.stated
   pub last : t.last < MOST_GOROUTINES
@@ -292,7 +298,7 @@ progress_after t o new = record { next = new; begun = counts_after t o; stated =
 -- what comes next once it is begun
 abbrev pub GoesOn : Program → Next → Option Op → Next → Type 0
 GoesOn p before None new = new ≡ before
-GoesOn p before (Some o) new = Follows p before o new
+GoesOn p before (Some o) new = Follows p 0 before o new
 
 abbrev pub begun_as : Mutating → Option Op → Mutating
 begun_as m None = m

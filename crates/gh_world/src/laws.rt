@@ -18,10 +18,12 @@ use gh_mutator::laws::{
 use gh_sweep::laws::set_bits_are_counted;
 use gh_worker::laws::a_worker_writes_its_own;
 
-/// The answers of every whole run of a script are those of the heap that never frees, save `full`, which
-/// stands only where nothing fitted and a cycle was waited for. Each `gc` is answered `swept`, where a cycle
-/// that began after it did was swept. Each cycle keeps what was marked where it ended, and frees what was white
-/// there. What is live at the end is what the globals then hold.
+/// Whatever the number of processors, each one's operations in a whole run of a script are its turns, and each
+/// goroutine's statements stand among them once and in their order. The answers of such a run are those of the
+/// heap that never frees, in the order of all points, save `full`, which stands only where nothing fitted and a
+/// cycle was waited for. Each `gc` is answered `swept`, where a cycle that began after it did was swept. Each
+/// cycle keeps what was marked where it ended, and frees what was white there. What is live at the end is what
+/// the globals then hold.
 pub fn every_run_is_explained()
     ensures { EveryRunIsExplained }
 {
@@ -39,8 +41,8 @@ pub fn every_run_is_explained()
     size_class_laws();
 }
 
-/// With one processor a script has one run in each order of the actors' steps: what each finds in the words
-/// settles its step. So where they take turns there is one.
+/// A script has one run in each order of the actors' steps, with however many processors: what each has begun
+/// and what it finds in the words settle its step. So where they take turns there is one.
 pub fn a_script_has_one_run()
     ensures ordered { EveryOrderHasOneRun }
     ensures same { EveryRunIsOne }

@@ -44,15 +44,15 @@ fn statement_goroutine(op: Op) -> Option<u32>
 }
 
 impl Progress {
-    /// Before the first turn of the script.
-    pub fn opening(script: &Script) -> Progress
+    /// Before the first turn of the processor at this seat.
+    pub fn opening(script: &Script, seat: u32) -> Progress
         ensures is { result ≡ opening_progress result.next }
-        ensures come { to_come script.now result.next ≡ later script.now 0 0 }
-        ensures stands { Stands script.now result.next }
+        ensures come { to_come script.now seat result.next ≡ later script.now seat 0 0 }
+        ensures stands { Stands script.now seat result.next }
         ensures going { is_over result.next ≡ false }
     {
         Progress {
-            next: next_turn(script, 0, 0),
+            next: next_turn(script, seat, 0, 0),
             begun: [0; MOST_GOROUTINES as usize],
             stated: 0,
             last: 0,

@@ -1,4 +1,4 @@
-//! The turns of the processor: round after round each goroutine that has not ended polls, and then
+//! The turns of a processor: round after round each of its goroutines that has not ended polls, and then
 //! runs its next statement, or ends where it has none left. At last the processor leaves.
 
 ghost use Rattle.std.specs.Prelude.{◌≡◌, ℕ, ◌+◌, ◌-◌, ◌^◌, ◌<◌, ◌≤◌, [], ◌∷◌, length, false, IfSome, Some, None, MatchOption};
@@ -6,7 +6,7 @@ ghost use Rattle.std.specs.List.{flat_map, range_with_len};
 ghost use Rattle.gh_base.specs.declared.operation.Op.{Op};
 ghost use Rattle.gh_base.specs.declared.operation.Op.TheVariants as ops;
 ghost use Rattle.gh_interp.specs.Working.{work_of};
-ghost use Rattle.gh_world.specs.Turns.{count_of, later, op_due, to_come, total_of, turn_of, is_over, is_poll_due, is_run_due, Follows, IsPast, MayBeOver, Stands};
+ghost use Rattle.gh_world.specs.Turns.{has_turn, later, op_due, to_come, total_of, turn_of, is_over, is_poll_due, is_run_due, Follows, HasTurn, IsPast, MayBeOver, Stands};
 
 use gh_base::Op;
 use gh_interp::work;
@@ -25,38 +25,47 @@ pub enum Next {
     Over,
 }
 
-/// The first goroutine from `g` on that has a turn in the round.
-fn first_turn(script: &Script, round: u32, g: u32) -> Option<u32>
+/// Goroutine `g` is of the processor at this seat, and has not ended before the round.
+fn has_turn(script: &Script, seat: u32, round: u32, g: u32) -> bool
+    requires { g < length script.now.goroutines }
+    ensures { result ≡ has_turn script.now seat round g }
+{
+    script.is_well_formed();
+    g % script.settings().procs == seat && round <= script.count(g)
+}
+
+/// The first goroutine from `g` on that has a turn of the processor at this seat in the round.
+fn first_turn(script: &Script, seat: u32, round: u32, g: u32) -> Option<u32>
     requires { g ≤ length script.now.goroutines }
-    ensures stands { IfSome result (λ h. (g ≤ h) × (h < length script.now.goroutines) × (round ≤ count_of script.now h)) }
+    ensures stands { IfSome result (λ h. (g ≤ h) × HasTurn script.now seat round h) }
     ensures turns { MatchOption result
-        (flat_map (turn_of script.now round) (range_with_len g (length script.now.goroutines - g)) ≡ [])
-        (λ h. flat_map (turn_of script.now round) (range_with_len g (length script.now.goroutines - g)) ≡
-        ops.Poll ∷ work_of script.now round h ∷ flat_map (turn_of script.now round) (range_with_len (h + 1) (length script.now.goroutines - (h + 1)))) }
+        (flat_map (turn_of script.now seat round) (range_with_len g (length script.now.goroutines - g)) ≡ [])
+        (λ h. flat_map (turn_of script.now seat round) (range_with_len g (length script.now.goroutines - g)) ≡
+        ops.Poll ∷ work_of script.now round h ∷ flat_map (turn_of script.now seat round) (range_with_len (h + 1) (length script.now.goroutines - (h + 1)))) }
 {
     for h in g..script.goroutines() {
-        if round <= script.count(h) {
+        if has_turn(script, seat, round, h) {
             return Some(h);
         }
     }
     None
 }
 
-/// The first turn from that of goroutine `g` in the round on.
-pub fn next_turn(script: &Script, round: u32, g: u32) -> Next
+/// The first turn of the processor at this seat, from that of goroutine `g` in the round on.
+pub fn next_turn(script: &Script, seat: u32, round: u32, g: u32) -> Next
     requires goroutine { g ≤ length script.now.goroutines }
     requires round { round ≤ total_of script.now }
     requires fits { round + 1 < 2 ^ 32 }
-    ensures come { to_come script.now result ≡ later script.now round g }
-    ensures stands { Stands script.now result }
+    ensures come { to_come script.now seat result ≡ later script.now seat round g }
+    ensures stands { Stands script.now seat result }
     ensures over { (h : ℕ) → IsPast script.now round g h → MayBeOver script.now result h }
     ensures going { is_over result ≡ false }
     ensures polls { is_run_due result ≡ false }
 {
-    if let Some(g) = first_turn(script, round, g) {
+    if let Some(g) = first_turn(script, seat, round, g) {
         return Next::Poll { round, g };
     }
-    match first_turn(script, round + 1, 0) {
+    match first_turn(script, seat, round + 1, 0) {
         Some(g) => Next::Poll {
             round: round + 1,
             g,
@@ -65,9 +74,9 @@ pub fn next_turn(script: &Script, round: u32, g: u32) -> Next
     }
 }
 
-/// What the processor begins next.
+/// What the processor at some seat begins next.
 pub fn due(script: &Script, next: Next) -> Option<Op>
-    requires { Stands script.now next }
+    requires { (seat : ℕ) × Stands script.now seat next }
     ensures { result ≡ op_due script.now next }
 {
     script.is_well_formed();
@@ -79,16 +88,16 @@ pub fn due(script: &Script, next: Next) -> Option<Op>
     }
 }
 
-/// The turn behind this one. A statement comes behind a poll alone.
-pub fn following(script: &Script, next: Next) -> Next
-    requires { Stands script.now next }
-    ensures follows { (o : Op) → op_due script.now next ≡ Some o → Follows script.now next o result }
+/// The turn behind this one, of the processor at this seat. A statement comes behind a poll alone.
+pub fn following(script: &Script, seat: u32, next: Next) -> Next
+    requires { Stands script.now seat next }
+    ensures follows { (o : Op) → op_due script.now next ≡ Some o → Follows script.now seat next o result }
     ensures polled { is_run_due result ≡ is_poll_due next }
 {
     script.is_well_formed();
     match next {
         Next::Poll { round, g } => Next::Run { round, g },
-        Next::Run { round, g } => next_turn(script, round, g + 1),
+        Next::Run { round, g } => next_turn(script, seat, round, g + 1),
         Next::Leave | Next::Over => Next::Over,
     }
 }

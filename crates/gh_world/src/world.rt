@@ -121,7 +121,7 @@ impl<'s> World<'s> {
         )?;
         let points = Vec::with_capacity(alloc, total_of(script))?;
         let mutator = Mutator::new(&layout, 0, script.shapes());
-        let progress = Progress::opening(script);
+        let progress = Progress::opening(script, 0);
         Ok(World {
             script,
             layout,
@@ -283,7 +283,7 @@ impl<'s> World<'s> {
             return;
         }
         if let Some(op) = due(self.script, self.progress.next) {
-            self.progress.next = following(self.script, self.progress.next);
+            self.progress.next = following(self.script, 0, self.progress.next);
             self.mutator.begin(op);
             self.progress.count(op);
         }

@@ -1,11 +1,11 @@
--- What has acted in a run: the operations that began, in their order, each answered as the heap that never frees answers it there.
-use Rattle.std.proofs.Common.{◌≡◌, ℕ, Bool, true, false, cond, eqb, eq-eqb, arith, List, [], ◌∷◌, ◌++◌, map, reverse, Option, Some, None, refl, sym, ap, subst, ◌∙◌, inl, inr}
+-- What has acted in a run: of each processor the operations that it began, in their order, each answered as the heap that never frees answers it there.
+use Rattle.std.proofs.Common.{◌≡◌, ℕ, ◌<◌, ◌≤◌, Bool, true, false, cond, eqb, arith, List, [], ◌∷◌, ◌++◌, map, reverse, Option, Some, None, refl, sym, ap, subst, ◌∙◌, inl, inr}
 use Rattle.std.specs.Option.{option_to_list}
 use Rattle.std.specs.List.{filter}
-use Rattle.std.proofs.lemmas.Bool.Decides.{nat_tests}
+use Rattle.std.proofs.lemmas.Bool.{eqb-true}
 use Rattle.std.proofs.lemmas.Grind.{reverse_onto}
 use Rattle.std.proofs.lemmas.List.{map-append}
-use Rattle.gh_world.specs.Vocabulary.{Act, acts, AllAnswer, Answer, answer_at, answer_of, answered_by, Answered as Deed, begins, deeds, Entry, Ever, ever_after, is_busy_at, Layout, Legal, meaning, model_after, Op, op_at, opening_ever, Processor, processor_kind, Program, Shape, started, state_of, takes, Words, words_after}
+use Rattle.gh_world.specs.Vocabulary.{Act, acts, AllAnswer, Answer, answer_at, answer_of, answered_by, Answered as Deed, begins, by, deeds, Entry, Ever, ever_after, is_busy_at, Layout, Legal, meaning, model_after, Op, op_at, opening_ever, Processor, processor_kind, Program, Shape, started, state_of, takes, Words, words_after}
 use Rattle.gh_base.specs.declared.value.Answer.TheVariants as answer
 use Rattle.gh_base.specs.declared.operation.Op.TheVariants as op
 use Rattle.gh_base.specs.Orders.{answered as answered_deed, done_at}
@@ -13,10 +13,10 @@ use Rattle.gh_model.specs.Answers.{Answers, ever_after_all}
 use Rattle.gh_mutator.specs.Acting.{ActsOnce, EachOperationActsOnce}
 use Rattle.gh_mutator.specs.Deeds.{acted, has_point, OnlyPointsChange, point_of}
 use Rattle.gh_mutator.specs.Serving.{has_left_at}
-use Rattle.gh_world.specs.Order.{answered, Answered, before_step, begun_in, ever_of, order_of}
+use Rattle.gh_world.specs.Order.{answered, Answered, before_step, begun_in, ever_of, order_at, order_of}
 use Rattle.gh_world.specs.Processors.{arena_of, FullOnlyThere, IsFullFor}
 use Rattle.gh_world.specs.World.{setting_of}
-use Rattle.gh_world.proofs.Explained.Steps.{full_pointed, IsAnothersStep, IsItsOwn, who_steps}
+use Rattle.gh_world.proofs.Explained.Steps.{full_pointed, IsAnothers, IsItsOwn, no_processors, who_steps}
 
 pub reverse_more : {A : Type 0} (x : A) (xs : List A) → reverse (x ∷ xs) ≡ reverse xs ++ x ∷ []
 reverse_more x xs = reverse_onto xs x []
@@ -40,8 +40,8 @@ ever_more shapes e (p ∷ ps) [] o a all = absurd all
 ever_more shapes e (p ∷ ps) (b ∷ bs) o a all = ever_more shapes (ever_after shapes e p b) ps bs o a all.1
 
 module _ (p : Program) (l : Layout) where
-  abbrev own : List (Entry Op) → Processor
-  own es = state_of (processor_kind p.shapes l) 0 es
+  abbrev own : (a : ℕ) → List (Entry Op) → Processor
+  own a es = state_of (processor_kind p.shapes l) a es
 
   abbrev opening : Words
   opening = (setting_of p l).opening
@@ -51,6 +51,29 @@ module _ (p : Program) (l : Layout) where
 
   abbrev pub answers_in : List (Entry Op) → List Answer
   answers_in es = map (λ (a : Answered). a.answer) (order_of p.shapes l es)
+
+  -- those of one processor
+  abbrev pub ops_by : (a : ℕ) → List (Entry Op) → List Op
+  ops_by a es = map (λ (x : Answered). x.op) (order_at p.shapes l a es)
+
+  abbrev pub ever_answers_by : (a : ℕ) → List (Entry Op) → List Answer
+  ever_answers_by a es = map (λ (x : Answered). x.answer) (order_at p.shapes l a es)
+
+  -- what the entry is to the operations of one processor
+  abbrev pub acts_here : List (Entry Op) → Entry Op → List Answered
+  acts_here es e = option_to_list (answered p.shapes l (ever_of p.shapes l es) (acts (before_step p.shapes l es e) e.found))
+
+  order_own : (a : ℕ) (es : List (Entry Op)) (e : Entry Op) → eqb e.actor a ≡ true → order_at p.shapes l a (e ∷ es) ≡ acts_here es e ++ order_at p.shapes l a es
+  order_own a es e here = ap (λ (b : Bool). cond b (acts_here es e) [] ++ order_at p.shapes l a es) here
+
+  order_aside : (a : ℕ) (es : List (Entry Op)) (e : Entry Op) → eqb e.actor a ≡ false → order_at p.shapes l a (e ∷ es) ≡ order_at p.shapes l a es
+  order_aside a es e apart = ap (λ (b : Bool). cond b (acts_here es e) [] ++ order_at p.shapes l a es) apart
+
+  pub begun_own : (a : ℕ) (es : List (Entry Op)) (e : Entry Op) → eqb e.actor a ≡ true → begun_in (by a (e ∷ es)) ≡ option_to_list e.begun ++ begun_in (by a es)
+  begun_own a es e here = ap (λ (b : Bool). begun_in (cond b (e ∷ by a es) (by a es))) here
+
+  pub begun_aside : (a : ℕ) (es : List (Entry Op)) (e : Entry Op) → eqb e.actor a ≡ false → begun_in (by a (e ∷ es)) ≡ begun_in (by a es)
+  begun_aside a es e apart = ap (λ (b : Bool). begun_in (cond b (e ∷ by a es) (by a es))) apart
 
   -- points alone change the heap that never frees
   pub ever_is : OnlyPointsChange → (es : List (Entry Op)) → model_after (processor_kind p.shapes l) (deeds p.shapes) (meaning p.shapes) es ≡ ever_of p.shapes l es
@@ -121,9 +144,9 @@ module _ (p : Program) (l : Layout) where
   acted_all [] full = record { every = tt; ever = refl }
   acted_all (e ∷ es) full = acted_more es e (acts (before_step p.shapes l es e) e.found) refl (acted_all es full.0) (λ x is f. full_there es e full x is f)
 
-  -- ---- what has begun has acted, but for what is to act
+  -- ---- what a processor has begun has acted, but for what is to act
 
-  module _ (single : l.procs ≡ 1) (each : EachOperationActsOnce) where
+  module _ (each : EachOperationActsOnce) where
     begun_op : (m : Processor) (o : Op) → is_busy_at m.task ≡ false → is_busy_at ((processor_kind p.shapes l).begins m o).task ≡ true → op_at ((processor_kind p.shapes l).begins m o).task ≡ Some o
     begun_op m o idle busy = go (has_left_at m.task) refl where
       go : (b : Bool) → has_left_at m.task ≡ b → op_at ((processor_kind p.shapes l).begins m o).task ≡ Some o
@@ -131,12 +154,12 @@ module _ (p : Program) (l : Layout) where
       go false left = rw left (each.begins p.shapes m o (subst (λ (x : Bool). is_busy_at (cond x m (begins p.shapes m o)).task ≡ true) left busy))
 
     -- what is to act once this is begun, if anything is
-    to_act : (es : List (Entry Op)) (b : Option Op) → ((o : Op) → b ≡ Some o → is_busy_at (own es).task ≡ false) → is_busy_at (started (processor_kind p.shapes l) b (own es)).task ≡ true → begun_in es ≡ option_to_list (op_at (own es).task) ++ ops_in es →
-        option_to_list b ++ begun_in es ≡ option_to_list (op_at (started (processor_kind p.shapes l) b (own es)).task) ++ ops_in es
-    to_act es None rested busy h = h
-    to_act es (Some o) rested busy h =
-        let none : begun_in es ≡ ops_in es = h ∙ ap (λ (x : Option Op). option_to_list x ++ ops_in es) (each.rests (own es).task (rested o refl)) in
-        ap (λ (xs : List Op). o ∷ xs) none ∙ sym (ap (λ (x : Option Op). option_to_list x ++ ops_in es) (begun_op (own es) o (rested o refl) busy))
+    to_act : (m : Processor) (before acted : List Op) (b : Option Op) → ((o : Op) → b ≡ Some o → is_busy_at m.task ≡ false) → is_busy_at (started (processor_kind p.shapes l) b m).task ≡ true → before ≡ option_to_list (op_at m.task) ++ acted →
+        option_to_list b ++ before ≡ option_to_list (op_at (started (processor_kind p.shapes l) b m).task) ++ acted
+    to_act m before acted None rested busy h = h
+    to_act m before acted (Some o) rested busy h =
+        let none : before ≡ acted = h ∙ ap (λ (x : Option Op). option_to_list x ++ acted) (each.rests m.task (rested o refl)) in
+        ap (λ (xs : List Op). o ∷ xs) none ∙ sym (ap (λ (x : Option Op). option_to_list x ++ acted) (begun_op m o (rested o refl) busy))
 
     -- what acts goes over to what has acted
     acts_once : (before after : Option Op) (v : Ever) (x : Option Act) (xs : List Answered) → ActsOnce before after x →
@@ -144,24 +167,51 @@ module _ (p : Program) (l : Layout) where
     acts_once before after v None xs h = ap (λ (b : Option Op). option_to_list b ++ map (λ (y : Answered). y.op) xs) (sym h)
     acts_once before after v (Some x) xs h = rw (h.0, h.1) refl
 
-    pub ops_are : (es : List (Entry Op)) → Legal (setting_of p l) es → begun_in es ≡ option_to_list (op_at (own es).task) ++ ops_in es
-    ops_are [] legal = refl
-    ops_are (e ∷ es) legal = elim (who_steps p l single es e legal) [ inl x ↦ mine x (ops_are es legal.0) | inr x ↦ other x (ops_are es legal.0) ] where
-      mine : IsItsOwn p l single es e legal → begun_in es ≡ option_to_list (op_at (own es).task) ++ ops_in es → begun_in (e ∷ es) ≡ option_to_list (op_at (own (e ∷ es)).task) ++ ops_in (e ∷ es)
+    abbrev IsDone : (a : ℕ) → List (Entry Op) → Type 0
+    IsDone a es = begun_in (by a es) ≡ option_to_list (op_at (own a es).task) ++ ops_by a es
+
+    -- where the entry is its own, so it is with the operation that is begun
+    begun_with : (a : ℕ) (lt : a < l.procs) (es : List (Entry Op)) (e : Entry Op) (legal : Legal (setting_of p l) (e ∷ es)) → IsItsOwn p l es e legal a lt → IsDone a es → begun_in (by a (e ∷ es)) ≡ option_to_list (op_at (before_step p.shapes l es e).task) ++ ops_by a es
+    begun_with a lt es e legal x before =
+        let busy : is_busy_at (started (processor_kind p.shapes l) e.begun (own a es)).task ≡ true = ap (λ (y : Processor). is_busy_at y.task) (sym x.before) ∙ x.busy in
+        begun_own a es e x.here
+        ∙ to_act (own a es) (begun_in (by a es)) (ops_by a es) e.begun x.rested busy before
+        ∙ ap (λ (y : Processor). option_to_list (op_at y.task) ++ ops_by a es) (sym x.before)
+
+    pub ops_are : (a : ℕ) → a < l.procs → (es : List (Entry Op)) → Legal (setting_of p l) es → IsDone a es
+    ops_are a lt [] legal = refl
+    ops_are a lt (e ∷ es) legal = elim (who_steps p l es e legal a lt) [ inl x ↦ mine x (ops_are a lt es legal.0) | inr x ↦ other x (ops_are a lt es legal.0) ] where
+      mine : IsItsOwn p l es e legal a lt → IsDone a es → IsDone a (e ∷ es)
       mine x before =
           let m = before_step p.shapes l es e in
-          let busy : is_busy_at (started (processor_kind p.shapes l) e.begun (own es)).task ≡ true = ap (λ (y : Processor). is_busy_at y.task) (sym x.before) ∙ x.busy in
-          to_act es e.begun x.rested busy before
-          ∙ ap (λ (y : Processor). option_to_list (op_at y.task) ++ ops_in es) (sym x.before)
-          ∙ acts_once (op_at m.task) (op_at (takes p.shapes m e.found).task) (ever_of p.shapes l es) (acts m e.found) (order_of p.shapes l es) (each.steps p.shapes m e.found x.busy)
-          ∙ ap (λ (y : Processor). option_to_list (op_at y.task) ++ ops_in (e ∷ es)) (sym x.after)
+          begun_with a lt es e legal x before
+          ∙ acts_once (op_at m.task) (op_at (takes p.shapes m e.found).task) (ever_of p.shapes l es) (acts m e.found) (order_at p.shapes l a es) (each.steps p.shapes m e.found x.busy)
+          ∙ ap (λ (y : Processor). option_to_list (op_at y.task) ++ map (λ (z : Answered). z.op) (acts_here es e ++ order_at p.shapes l a es)) (sym x.after)
+          ∙ ap (λ (xs : List Answered). option_to_list (op_at (own a (e ∷ es)).task) ++ map (λ (z : Answered). z.op) xs) (sym (order_own a es e x.here))
 
-      other : IsAnothersStep p l single es e legal → begun_in es ≡ option_to_list (op_at (own es).task) ++ ops_in es → begun_in (e ∷ es) ≡ option_to_list (op_at (own (e ∷ es)).task) ++ ops_in (e ∷ es)
+      other : IsAnothers p l es e legal a lt → IsDone a es → IsDone a (e ∷ es)
       other x before =
-          let same : order_of p.shapes l (e ∷ es) ≡ order_of p.shapes l es = ap (λ (a : Option Act). option_to_list (answered p.shapes l (ever_of p.shapes l es) a) ++ order_of p.shapes l es) x.acts_not in
-          ap (λ (b : Option Op). option_to_list b ++ begun_in es) x.none ∙ before
-          ∙ ap (λ (y : Processor). option_to_list (op_at y.task) ++ ops_in es) (sym x.after)
-          ∙ ap (λ (xs : List Answered). option_to_list (op_at (own (e ∷ es)).task) ++ map (λ (a : Answered). a.op) xs) (sym same)
+          begun_aside a es e x.apart ∙ before
+          ∙ ap (λ (y : Processor). option_to_list (op_at y.task) ++ ops_by a es) (sym x.after)
+          ∙ ap (λ (xs : List Answered). option_to_list (op_at (own a (e ∷ es)).task) ++ map (λ (z : Answered). z.op) xs) (sym (order_aside a es e x.apart))
+
+    -- what acts is what was begun last
+    pub acts_last : (a : ℕ) (lt : a < l.procs) (es : List (Entry Op)) (e : Entry Op) (legal : Legal (setting_of p l) (e ∷ es)) → IsItsOwn p l es e legal a lt → (act : Act) → acts (before_step p.shapes l es e) e.found ≡ Some act → begun_in (by a (e ∷ es)) ≡ act.op ∷ ops_by a es
+    acts_last a lt es e legal x act is =
+        let m = before_step p.shapes l es e in
+        let once = subst (λ (q : Option Act). ActsOnce (op_at m.task) (op_at (takes p.shapes m e.found).task) q) is (each.steps p.shapes m e.found x.busy) in
+        begun_with a lt es e legal x (ops_are a lt es legal.0) ∙ ap (λ (o : Option Op). option_to_list o ++ ops_by a es) once.0
+
+  -- nothing acts at the seat of a worker or of the coordinator
+  pub none_acts : (a : ℕ) → l.procs ≤ a → (es : List (Entry Op)) → Legal (setting_of p l) es → order_at p.shapes l a es ≡ []
+  none_acts a le [] legal = refl
+  none_acts a le (e ∷ es) legal = go (eqb e.actor a) refl (none_acts a le es legal.0) where
+    go : (b : Bool) → eqb e.actor a ≡ b → order_at p.shapes l a es ≡ [] → cond b (acts_here es e) [] ++ order_at p.shapes l a es ≡ []
+    go false apart ih = ih
+    go true here ih =
+        let same : e.actor ≡ a = eqb-true e.actor a here in
+        let x = no_processors p l es e legal (omega (arith, same, le)) in
+        ap (λ (y : Option Act). option_to_list (answered p.shapes l (ever_of p.shapes l es) y) ++ order_at p.shapes l a es) x.acts_not ∙ ih
 
   -- ---- the points among what has acted
 
@@ -171,8 +221,11 @@ module _ (p : Program) (l : Layout) where
   abbrev as_answered : Deed Act Answer → Answered
   as_answered y = record { op = y.deed.op; answer = y.answer }
 
-  abbrev pub points_by : List (Entry Op) → List Answered
-  points_by es = map as_answered (answered_by (processor_kind p.shapes l) (deeds p.shapes) (meaning p.shapes) 0 es)
+  abbrev deeds_by : (a : ℕ) → List (Entry Op) → List (Deed Act Answer)
+  deeds_by a es = answered_by (processor_kind p.shapes l) (deeds p.shapes) (meaning p.shapes) a es
+
+  abbrev pub points_by : (a : ℕ) → List (Entry Op) → List Answered
+  points_by a es = map as_answered (deeds_by a es)
 
   one_point : (v w : Ever) (x : Option Act) (xs : List Answered) → w ≡ v → map as_answered (option_to_list (answered_deed (meaning p.shapes) w (point_of x))) ++ filter is_point_of xs ≡ filter is_point_of (option_to_list (answered p.shapes l v x) ++ xs)
   one_point v w None xs e = refl
@@ -181,26 +234,15 @@ module _ (p : Program) (l : Layout) where
     go true t = rw t refl
     go false t = rw t refl
 
-  abbrev deeds_by : List (Entry Op) → List (Deed Act Answer)
-  deeds_by es = answered_by (processor_kind p.shapes l) (deeds p.shapes) (meaning p.shapes) 0 es
-
   abbrev deed_here : List (Entry Op) → Entry Op → List (Deed Act Answer)
   deed_here es e = option_to_list (answered_deed (meaning p.shapes) (model_after (processor_kind p.shapes l) (deeds p.shapes) (meaning p.shapes) es) (done_at (processor_kind p.shapes l) (deeds p.shapes) es e))
 
-  pub points_are : l.procs ≡ 1 → OnlyPointsChange → (es : List (Entry Op)) → Legal (setting_of p l) es → points_by es ≡ filter is_point_of (order_of p.shapes l es)
-  points_are single points [] legal = refl
-  points_are single points (e ∷ es) legal = elim (who_steps p l single es e legal) [ inl x ↦ mine x (points_are single points es legal.0) | inr x ↦ other x (points_are single points es legal.0) ] where
-    mine : IsItsOwn p l single es e legal → points_by es ≡ filter is_point_of (order_of p.shapes l es) → points_by (e ∷ es) ≡ filter is_point_of (order_of p.shapes l (e ∷ es))
-    mine x ih =
-        ap (λ (b : Bool). map as_answered (cond b (deed_here es e ++ deeds_by es) (deeds_by es))) (eq-eqb e.actor 0 x.zeroth)
-        ∙ map-append as_answered (deed_here es e) (deeds_by es)
+  pub points_are : OnlyPointsChange → (a : ℕ) (es : List (Entry Op)) → points_by a es ≡ filter is_point_of (order_at p.shapes l a es)
+  points_are points a [] = refl
+  points_are points a (e ∷ es) = go (eqb e.actor a) (points_are points a es) where
+    go : (b : Bool) → points_by a es ≡ filter is_point_of (order_at p.shapes l a es) → map as_answered (cond b (deed_here es e ++ deeds_by a es) (deeds_by a es)) ≡ filter is_point_of (cond b (acts_here es e) [] ++ order_at p.shapes l a es)
+    go true ih =
+        map-append as_answered (deed_here es e) (deeds_by a es)
         ∙ ap (λ (xs : List Answered). map as_answered (deed_here es e) ++ xs) ih
-        ∙ one_point (ever_of p.shapes l es) (model_after (processor_kind p.shapes l) (deeds p.shapes) (meaning p.shapes) es) (acts (before_step p.shapes l es e) e.found) (order_of p.shapes l es) (ever_is points es)
-
-    other : IsAnothersStep p l single es e legal → points_by es ≡ filter is_point_of (order_of p.shapes l es) → points_by (e ∷ es) ≡ filter is_point_of (order_of p.shapes l (e ∷ es))
-    other x ih =
-        let apart : eqb e.actor 0 ≡ false = eqb-false-of x.other in
-        let same : order_of p.shapes l (e ∷ es) ≡ order_of p.shapes l es = ap (λ (a : Option Act). option_to_list (answered p.shapes l (ever_of p.shapes l es) a) ++ order_of p.shapes l es) x.acts_not in
-        ap (λ (b : Bool). map as_answered (cond b (deed_here es e ++ deeds_by es) (deeds_by es))) apart ∙ ih ∙ ap (filter is_point_of) (sym same) where
-          eqb-false-of : (e.actor ≡ 0 → ⊥) → eqb e.actor 0 ≡ false
-          eqb-false-of ne = grind (arith, nat_tests)
+        ∙ one_point (ever_of p.shapes l es) (model_after (processor_kind p.shapes l) (deeds p.shapes) (meaning p.shapes) es) (acts (before_step p.shapes l es e) e.found) (order_at p.shapes l a es) (ever_is points es)
+    go false ih = ih

@@ -1,22 +1,25 @@
 -- What the statements of a whole run are answered.
-use Rattle.std.proofs.Common.{◌≡◌, ℕ, ◌≤◌, Bool, true, false, cond, List, [], ◌∷◌, ◌++◌, map, length, reverse, Option, Some, None, refl, sym, ap, subst, ◌∙◌, arith}
+use Rattle.std.proofs.Common.{◌≡◌, ℕ, ◌<◌, ◌≤◌, ◌%◌, Bool, true, false, cond, eqb, eq-eqb, List, [], ◌∷◌, ◌++◌, map, length, reverse, Option, Some, None, refl, sym, ap, subst, ◌∙◌, arith}
 use Rattle.std.specs.Option.{option_to_list}
 use Rattle.std.specs.List.{filter}
+use Rattle.std.proofs.lemmas.Bool.{eqb-true}
 use Rattle.std.proofs.lemmas.List.{length-map}
-use Rattle.gh_world.specs.Vocabulary.{Act, AllAnswer, Answer, Answered as Deed, answered_by, answers_by, deeds, Entry, has_left_at, is_busy_at, Layout, meaning, Op, opening_ever, Processor, processor_kind, Program, state_of, statements_of, Task}
+use Rattle.std.proofs.lemmas.Nat.{mod_below}
+use Rattle.gh_world.specs.Vocabulary.{Act, AllAnswer, Answer, Answered as Deed, answered_by, answers_by, by, deeds, Entry, has_left_at, is_busy_at, Layout, meaning, Op, opening_ever, Processor, processor_kind, Program, state_of, statements_of, Task}
 use Rattle.gh_mutator.specs.Acting.{EachOperationActsOnce}
 use Rattle.gh_mutator.specs.declared.task.Task.TheVariants as task
 use Rattle.gh_mutator.specs.Deeds.{has_point, OnlyPointsChange}
 use Rattle.gh_script.specs.Program.{op_of}
-use Rattle.gh_world.specs.Order.{acted_in, Answered, begun_in, order_of}
+use Rattle.gh_world.specs.Order.{acted_at, acted_in, Answered, begun_in, order_at, order_of}
 use Rattle.gh_world.specs.Processors.{answers_of, arena_of, ListStands}
-use Rattle.gh_world.specs.Runs.{acted_by, answers_given, AreItsStatements, IsRun}
+use Rattle.gh_world.specs.Runs.{acted_by, answers_at, answers_given, AreItsStatements, IsRun}
 use Rattle.gh_world.specs.Schedule.{has_ended}
-use Rattle.gh_world.specs.Turns.{answers_to, is_statement_of, turns_of}
+use Rattle.gh_world.specs.Turns.{answers_to, is_of_seat, is_statement_of, turns_of}
 use Rattle.gh_world.specs.World.{setting_of}
 use Rattle.gh_world.proofs.EachOnce.{acted_answers, acted_ops, none_beyond, turns_mine}
 use Rattle.gh_world.proofs.Resting.{is_processor}
-use Rattle.gh_world.proofs.Explained.Acted.{acted_all, answers_in, map-reverse, ops_are, ops_in, points_are, points_by}
+use Rattle.gh_world.proofs.Explained.Acted.{acted_all, answers_in, ever_answers_by, map-reverse, none_acts, ops_are, ops_by, points_are, points_by}
+use Rattle.gh_world.proofs.Explained.Seats.{acted_its}
 use Rattle.gh_world.proofs.Explained.Told.{given, rests_told, told_backwards, told_of, told_points}
 
 -- where no operation is listed, none acted
@@ -54,75 +57,115 @@ none_pending : (o : Option Answer) (xs ys : List Answer) → xs ≡ option_to_li
 none_pending None xs ys e long = e
 none_pending (Some a) xs ys e long = let more = ap length e in absurd (omega (arith, more, long))
 
-module _ (p : Program) (l : Layout) (single : l.procs ≡ 1) (each : EachOperationActsOnce) (points : OnlyPointsChange) (es : List (Entry Op)) (run : IsRun p l es) (stands : ListStands (arena_of p.shapes l) (setting_of p l).opening es) where
-  abbrev own : Processor
-  own = state_of (processor_kind p.shapes l) 0 es
+-- a goroutine's answers are among those of its processor's goroutines
+by_seat : (p : Program) (a g : ℕ) → is_of_seat p a g ≡ true → (xs : List (ℕ × Answer)) → answers_by g (answers_at p a xs) ≡ answers_by g xs
+by_seat p a g its [] = refl
+by_seat p a g its (x ∷ xs) = go (is_of_seat p a x.0) refl (by_seat p a g its xs) where
+  apart : is_of_seat p a x.0 ≡ false → (b : Bool) → eqb x.0 g ≡ b → eqb x.0 g ≡ false
+  apart e false ne = ne
+  apart e true same = absurd (let no : true ≡ false = sym its ∙ ap (is_of_seat p a) (sym (eqb-true x.0 g same)) ∙ e in cc)
 
+  go : (b : Bool) → is_of_seat p a x.0 ≡ b → answers_by g (answers_at p a xs) ≡ answers_by g xs → answers_by g (cond b (x ∷ answers_at p a xs) (answers_at p a xs)) ≡ cond (eqb x.0 g) (x.1 ∷ []) [] ++ answers_by g xs
+  go true e ih = ap (λ (ys : List Answer). cond (eqb x.0 g) (x.1 ∷ []) [] ++ ys) ih
+  go false e ih = ih ∙ sym (ap (λ (b : Bool). cond b (x.1 ∷ []) [] ++ answers_by g xs) (apart e (eqb x.0 g) refl))
+
+module _ (p : Program) (l : Layout) (procs : l.procs ≡ p.settings.procs) (each : EachOperationActsOnce) (points : OnlyPointsChange) (es : List (Entry Op)) (run : IsRun p l es) (stands : ListStands (arena_of p.shapes l) (setting_of p l).opening es) where
   abbrev in_order : List Answered
   in_order = acted_in p.shapes l es
 
   abbrev pub all_answers : List Answer
   all_answers = map (λ (a : Answered). a.answer) in_order
 
-  idle : is_busy_at own.task ≡ false
-  idle = left_idle own.task (sym (ap has_ended (is_processor p l 0 (omega (arith, single)) es)) ∙ run.done 0 (omega (arith, single)))
-
-  begun : begun_in es ≡ ops_in p l es
-  begun = ops_are p l single each es run.legal ∙ ap (λ (o : Option Op). option_to_list o ++ ops_in p l es) (each.rests own.task idle)
-
-  pub acted_are : map (λ (a : Answered). a.op) in_order ≡ turns_of p
-  acted_are = map-reverse (λ (a : Answered). a.op) (order_of p.shapes l es) ∙ ap (λ (os : List Op). reverse os) (sym begun) ∙ run.turns
-
-  pub ever_answers : AllAnswer p.shapes opening_ever (turns_of p) all_answers
+  pub ever_answers : AllAnswer p.shapes opening_ever (map (λ (a : Answered). a.op) in_order) all_answers
   ever_answers =
       let acted = acted_all p l es stands.full in
-      subst (λ (xs : List Op). AllAnswer p.shapes opening_ever xs all_answers) acted_are
-      (subst (λ (as' : List Answer). AllAnswer p.shapes opening_ever (map (λ (a : Answered). a.op) in_order) as') (sym (map-reverse (λ (a : Answered). a.answer) (order_of p.shapes l es)))
-      (subst (λ (xs : List Op). AllAnswer p.shapes opening_ever xs (reverse (answers_in p l es))) (sym (map-reverse (λ (a : Answered). a.op) (order_of p.shapes l es))) acted.every))
+      subst (λ (as' : List Answer). AllAnswer p.shapes opening_ever (map (λ (a : Answered). a.op) in_order) as') (sym (map-reverse (λ (a : Answered). a.answer) (order_of p.shapes l es)))
+      (subst (λ (xs : List Op). AllAnswer p.shapes opening_ever xs (reverse (answers_in p l es))) (sym (map-reverse (λ (a : Answered). a.op) (order_of p.shapes l es))) acted.every)
 
-  -- the operations with a point, and their answers
-  abbrev pointed : List Answered
-  pointed = filter (λ (a : Answered). has_point a.op) (order_of p.shapes l es)
+  pub alone : (a : ℕ) → l.procs ≤ a → acted_at p.shapes l a es ≡ []
+  alone a le = ap (λ (xs : List Answered). reverse xs) (none_acts p l a le es run.legal)
 
-  abbrev point_answers : List Answer
-  point_answers = map (λ (a : Answered). a.answer) pointed
+  -- The processor at a seat.
+  module _ (a : ℕ) (lt : a < l.procs) where
+    abbrev own : Processor
+    own = state_of (processor_kind p.shapes l) a es
 
-  pointed_ops : map (λ (a : Answered). a.op) pointed ≡ filter has_point (begun_in es)
-  pointed_ops = ops_filtered (order_of p.shapes l es) ∙ ap (filter has_point) (sym begun)
+    abbrev its_order : List Answered
+    its_order = acted_at p.shapes l a es
 
-  pointed_is : map (λ (a : Answered). a.answer) (points_by p l es) ≡ point_answers
-  pointed_is = ap (map (λ (a : Answered). a.answer)) (points_are p l single points es run.legal)
+    abbrev its_answers : List Answer
+    its_answers = map (λ (x : Answered). x.answer) its_order
 
-  given_are : point_answers ≡ given p l single es
-  given_are =
-      let own_answers = stands.answers 0 (omega (arith, single)) in
-      let said : point_answers ≡ answers_of (arena_of p.shapes l) (setting_of p l).opening 0 es = sym pointed_is ∙ deed_answers (answered_by (processor_kind p.shapes l) (deeds p.shapes) (meaning p.shapes) 0 es) in
-      let long = (rests_told p l single es run.legal idle).long in
-      let one = length-map pointed (λ (a : Answered). a.answer) in
-      let two = length-map pointed (λ (a : Answered). a.op) in
-      let ops = ap length pointed_ops in
-      none_pending own_answers.pending point_answers (given p l single es) (said ∙ own_answers.answers) (omega (arith, long, one, two, ops))
+    idle : is_busy_at own.task ≡ false
+    idle = left_idle own.task (sym (ap has_ended (is_processor p l a lt es)) ∙ run.done a (omega (arith, lt)))
 
-  pub among_are : answers_given p l es ≡ answers_to (turns_of p) all_answers
-  among_are =
-      let t = rests_told p l single es run.legal idle in
-      let all = told_backwards (ops_in p l es) (answers_in p l es) (length-map (order_of p.shapes l es) (λ (a : Answered). a.op) ∙ sym (length-map (order_of p.shapes l es) (λ (a : Answered). a.answer))) in
-      t.answers
-      ∙ ap (λ (xs : List Op). told_of xs (given p l single es)) (sym pointed_ops)
-      ∙ ap (λ (as' : List Answer). told_of (map (λ (a : Answered). a.op) pointed) as') (sym given_are)
-      ∙ told_points (order_of p.shapes l es)
-      ∙ sym all
-      ∙ ap (λ (xs : List Op). answers_to xs (reverse (answers_in p l es))) (sym (map-reverse (λ (a : Answered). a.op) (order_of p.shapes l es)) ∙ acted_are)
-      ∙ ap (λ (as' : List Answer). answers_to (turns_of p) as') (sym (map-reverse (λ (a : Answered). a.answer) (order_of p.shapes l es)))
+    begun : begun_in (by a es) ≡ ops_by p l a es
+    begun = ops_are p l each a lt es run.legal ∙ ap (λ (o : Option Op). option_to_list o ++ ops_by p l a es) (each.rests own.task idle)
 
-  mine : (g : ℕ) → map (λ (a : Answered). a.op) (acted_by g in_order) ≡ map (op_of g) (statements_of p g)
-  mine g = acted_ops p g in_order ∙ ap (λ (xs : List Op). filter (is_statement_of g) xs) acted_are ∙ turns_mine p g
+    pub acted_are : map (λ (x : Answered). x.op) its_order ≡ turns_of p a
+    acted_are = map-reverse (λ (x : Answered). x.op) (order_at p.shapes l a es) ∙ ap (λ (os : List Op). reverse os) (sym begun) ∙ run.turns a lt
 
-  pub each_is : (g : ℕ) → AreItsStatements p g (acted_by g in_order) (answers_by g (answers_given p l es))
-  each_is g = record {
-    statements = mine g;
-    answered = acted_answers p g in_order ∙ ap (λ (xs : List Op). answers_by g (answers_to xs all_answers)) acted_are ∙ ap (answers_by g) (sym among_are);
-  }
+    -- the operations with a point, and their answers
+    abbrev pointed : List Answered
+    pointed = filter (λ (x : Answered). has_point x.op) (order_at p.shapes l a es)
 
-  pub others_none : (g : ℕ) → length p.goroutines ≤ g → acted_by g in_order ≡ []
-  others_none g le = none_acted (acted_by g in_order) (mine g ∙ ap (map (op_of g)) (none_beyond p g le))
+    abbrev point_answers : List Answer
+    point_answers = map (λ (x : Answered). x.answer) pointed
+
+    pointed_ops : map (λ (x : Answered). x.op) pointed ≡ filter has_point (begun_in (by a es))
+    pointed_ops = ops_filtered (order_at p.shapes l a es) ∙ ap (filter has_point) (sym begun)
+
+    pointed_is : map (λ (x : Answered). x.answer) (points_by p l a es) ≡ point_answers
+    pointed_is = ap (map (λ (x : Answered). x.answer)) (points_are p l points a es)
+
+    given_are : point_answers ≡ given p l procs a es
+    given_are =
+        let own_answers = stands.answers a lt in
+        let said : point_answers ≡ answers_of (arena_of p.shapes l) (setting_of p l).opening a es = sym pointed_is ∙ deed_answers (answered_by (processor_kind p.shapes l) (deeds p.shapes) (meaning p.shapes) a es) in
+        let long = (rests_told p l procs es run.legal a lt idle).long in
+        let one = length-map pointed (λ (x : Answered). x.answer) in
+        let two = length-map pointed (λ (x : Answered). x.op) in
+        let ops = ap length pointed_ops in
+        none_pending own_answers.pending point_answers (given p l procs a es) (said ∙ own_answers.answers) (omega (arith, long, one, two, ops))
+
+    pub among_are : answers_at p a (answers_given p l es) ≡ answers_to (turns_of p a) its_answers
+    among_are =
+        let t = rests_told p l procs es run.legal a lt idle in
+        let all = told_backwards (ops_by p l a es) (ever_answers_by p l a es) (length-map (order_at p.shapes l a es) (λ (x : Answered). x.op) ∙ sym (length-map (order_at p.shapes l a es) (λ (x : Answered). x.answer))) in
+        t.answers
+        ∙ ap (λ (xs : List Op). told_of xs (given p l procs a es)) (sym pointed_ops)
+        ∙ ap (λ (as' : List Answer). told_of (map (λ (x : Answered). x.op) pointed) as') (sym given_are)
+        ∙ told_points (order_at p.shapes l a es)
+        ∙ sym all
+        ∙ ap (λ (xs : List Op). answers_to xs (reverse (ever_answers_by p l a es))) (sym (map-reverse (λ (x : Answered). x.op) (order_at p.shapes l a es)) ∙ acted_are)
+        ∙ ap (λ (as' : List Answer). answers_to (turns_of p a) as') (sym (map-reverse (λ (x : Answered). x.answer) (order_at p.shapes l a es)))
+
+  -- A goroutine, and its processor.
+  module _ (g : ℕ) where
+    abbrev seat : ℕ
+    seat = g % p.settings.procs
+
+    there : seat < l.procs
+    there = let some = l.limits.procs_fit.0 in let below = mod_below g p.settings.procs (omega (arith, procs, some)) in omega (arith, procs, below)
+
+    its : is_of_seat p seat g ≡ true
+    its = eq-eqb seat seat refl
+
+    own_acted : acted_by g in_order ≡ acted_by g (acted_at p.shapes l seat es)
+    own_acted = acted_its p l procs each seat g its es run.legal
+
+    pub mine : map (λ (x : Answered). x.op) (acted_by g in_order) ≡ map (op_of g) (statements_of p g)
+    mine = ap (map (λ (x : Answered). x.op)) own_acted ∙ acted_ops p g (acted_at p.shapes l seat es) ∙ ap (filter (is_statement_of g)) (acted_are seat there) ∙ turns_mine p g seat its
+
+    pub each_is : AreItsStatements p g (acted_by g in_order) (answers_by g (answers_given p l es))
+    each_is = record {
+      statements = mine;
+      answered = ap (map (λ (x : Answered). x.answer)) own_acted
+          ∙ acted_answers p g (acted_at p.shapes l seat es)
+          ∙ ap (λ (xs : List Op). answers_by g (answers_to xs (its_answers seat there))) (acted_are seat there)
+          ∙ ap (answers_by g) (sym (among_are seat there))
+          ∙ by_seat p seat g its (answers_given p l es);
+    }
+
+    pub others_none : length p.goroutines ≤ g → acted_by g in_order ≡ []
+    others_none le = none_acted (acted_by g in_order) (mine ∙ ap (map (op_of g)) (none_beyond p g le))

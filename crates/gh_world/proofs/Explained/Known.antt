@@ -20,7 +20,6 @@ use Rattle.gh_world.proofs.CycleNumbers.Parts.{At, own_of}
 use Rattle.gh_world.proofs.Explained.Numbers.{Change, change, rise, Rises}
 
 pub record Known (p : Program) (l : Layout) : Type 0 where
-  pub single : l.procs ≡ 1
   pub each : EachOperationActsOnce
   pub points : OnlyPointsChange
   pub parties : AreParties l (processor_kind p.shapes l) (Sound l) party_of stage_of

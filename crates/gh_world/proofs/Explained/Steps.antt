@@ -1,8 +1,7 @@
--- What the entries of a run are to the script: they are steps of its one processor, or of an actor that runs none of it.
+-- What the entries of a run are to the script: each is a step of a processor on an operation, or of an actor that runs none of it.
 use Rattle.std.proofs.Common.{◌≡◌, ℕ, ◌<◌, ◌≤◌, ◌⊎◌, Bool, true, false, cond, eqb, ◌&&◌, List, ◌∷◌, Option, Some, None, refl, sym, ap, subst, ◌∙◌, arith, inl, inr, eq-eqb}
 use Rattle.std.specs.Prelude.{is_some}
-use Rattle.std.proofs.lemmas.Bool.{cases_lt}
-use Rattle.std.proofs.lemmas.Bool.Decides.{nat_tests}
+use Rattle.std.proofs.lemmas.Bool.{eqb-false, eqb-true}
 use Rattle.gh_world.specs.Vocabulary.{Act, acting, Actor, acts, acts_at, Answer, asks, Begins, begins_at, Entry, has_point, is_busy_at, is_leaving, is_serving, is_statement, Kind, Layout, Legal, Op, opening_processor, Processor, processor_kind, Program, register_of, Shape, started, state_of, takes, takes_at, Task}
 use Rattle.gh_base.specs.declared.operation.Op.TheVariants as op
 use Rattle.gh_mutator.specs.declared.task.Task.TheVariants as task
@@ -144,61 +143,80 @@ full_pointed m (task.Leave y) found x e f = absurd (not_full (is_some (leave.giv
 
 -- ---- who steps
 
-module _ (p : Program) (l : Layout) (single : l.procs ≡ 1) (es : List (Entry Op)) (e : Entry Op) (legal : Legal (setting_of p l) (e ∷ es)) where
+module _ (p : Program) (l : Layout) (es : List (Entry Op)) (e : Entry Op) (legal : Legal (setting_of p l) (e ∷ es)) where
   abbrev m : Processor
   m = before_step p.shapes l es e
 
   abbrev everyone : Kind (Actor Processor) Op
   everyone = (setting_of p l).kind
 
-  -- the processor, with an operation begun
-  pub record IsItsOwn : Type 0 where
-    pub zeroth : e.actor ≡ 0
-    pub before : m ≡ started (processor_kind p.shapes l) e.begun (state_of (processor_kind p.shapes l) 0 es)
-    pub busy : is_busy_at m.task ≡ true
-    pub asked : e.ask ≡ asks m
-    pub rested : (o : Op) → e.begun ≡ Some o → is_busy_at (state_of (processor_kind p.shapes l) 0 es).task ≡ false
-    pub after : state_of (processor_kind p.shapes l) 0 (e ∷ es) ≡ takes p.shapes m e.found
-
-  -- or another, which has none
-  pub record IsAnothersStep : Type 0 where
-    pub other : e.actor ≡ 0 → ⊥
+  -- who is no processor has no operation begun
+  pub record IsNoProcessors : Type 0 where
     pub none : e.begun ≡ None
     pub acts_not : acts m e.found ≡ None
     pub gives_not : gives m e.found ≡ None
     pub idle : is_serving m.task ≡ false
-    pub after : state_of (processor_kind p.shapes l) 0 (e ∷ es) ≡ state_of (processor_kind p.shapes l) 0 es
 
-  its_own : e.actor < l.procs → IsItsOwn
-  its_own lt =
-      let zeroth : e.actor ≡ 0 = omega (arith, single, lt) in
-      let before : m ≡ started (processor_kind p.shapes l) e.begun (state_of (processor_kind p.shapes l) 0 es) = ap (λ (a : ℕ). started (processor_kind p.shapes l) e.begun (state_of (processor_kind p.shapes l) a es)) zeroth in
-      record {
-        zeroth = zeroth;
-        before = before;
-        busy = sym (ap everyone.busy (begun_is p l e.actor lt es e.begun)) ∙ legal.1.runs;
-        asked = legal.1.asks ∙ ap everyone.asks (begun_is p l e.actor lt es e.begun);
-        rested = λ o is. rested zeroth o is;
-        after = ap (λ (b : Bool). cond b (takes p.shapes (started (processor_kind p.shapes l) e.begun (state_of (processor_kind p.shapes l) 0 es)) e.found) (state_of (processor_kind p.shapes l) 0 es)) (eq-eqb e.actor 0 zeroth) ∙ ap (λ (y : Processor). takes p.shapes y e.found) (sym before);
-      } where
-        rested : e.actor ≡ 0 → (o : Op) → e.begun ≡ Some o → is_busy_at (state_of (processor_kind p.shapes l) 0 es).task ≡ false
-        rested zeroth o is =
-            let begins = subst (λ (b : Option Op). Begins (setting_of p l) e.actor es b) is legal.1.begins in
-            ap (λ (a : ℕ). is_busy_at (state_of (processor_kind p.shapes l) a es).task) (sym zeroth) ∙ sym (ap everyone.busy (is_processor p l e.actor lt es)) ∙ begins.0
-
-  anothers : l.procs ≤ e.actor → IsAnothersStep
-  anothers le =
+  pub no_processors : l.procs ≤ e.actor → IsNoProcessors
+  no_processors le =
       let none = other_none p l e.actor es e.begun le legal.1.begins legal.1.runs in
       let rest : m ≡ opening_processor l e.actor = ap (λ (o : Option Op). started (processor_kind p.shapes l) o (state_of (processor_kind p.shapes l) e.actor es)) none ∙ rests p l e.actor le es legal.0 in
-      let past : eqb e.actor 0 ≡ false = grind (arith, nat_tests, single, le) in
       record {
-        other = λ zeroth. omega (arith, single, le, zeroth);
         none = none;
         acts_not = ap (λ (y : Processor). acts y e.found) rest;
         gives_not = ap (λ (y : Processor). gives y e.found) rest;
         idle = ap (λ (y : Processor). is_serving y.task) rest;
-        after = ap (λ (b : Bool). cond b (takes p.shapes (started (processor_kind p.shapes l) e.begun (state_of (processor_kind p.shapes l) 0 es)) e.found) (state_of (processor_kind p.shapes l) 0 es)) past;
       }
 
-  pub who_steps : IsItsOwn ⊎ IsAnothersStep
-  who_steps = elim (cases_lt e.actor l.procs) [ inl lt ↦ inl (its_own lt) | inr le ↦ inr (anothers le) ]
+  -- The processor at a seat.
+  module _ (a : ℕ) (lt : a < l.procs) where
+    abbrev own : List (Entry Op) → Processor
+    own xs = state_of (processor_kind p.shapes l) a xs
+
+    -- the step is its own, on an operation that is begun
+    pub record IsItsOwn : Type 0 where
+      pub its : e.actor ≡ a
+      pub here : eqb e.actor a ≡ true
+      pub before : m ≡ started (processor_kind p.shapes l) e.begun (own es)
+      pub busy : is_busy_at m.task ≡ true
+      pub asked : e.ask ≡ asks m
+      pub rested : (o : Op) → e.begun ≡ Some o → is_busy_at (own es).task ≡ false
+      pub after : own (e ∷ es) ≡ takes p.shapes m e.found
+
+    -- or another's
+    pub record IsAnothers : Type 0 where
+      pub other : e.actor ≡ a → ⊥
+      pub apart : eqb e.actor a ≡ false
+      pub after : own (e ∷ es) ≡ own es
+
+    pub its_own : e.actor ≡ a → IsItsOwn
+    its_own same =
+        let here : eqb e.actor a ≡ true = eq-eqb e.actor a same in
+        let there : e.actor < l.procs = omega (arith, same, lt) in
+        let before : m ≡ started (processor_kind p.shapes l) e.begun (own es) = ap (λ (b : ℕ). started (processor_kind p.shapes l) e.begun (state_of (processor_kind p.shapes l) b es)) same in
+        record {
+          its = same;
+          here = here;
+          before = before;
+          busy = sym (ap everyone.busy (begun_is p l e.actor there es e.begun)) ∙ legal.1.runs;
+          asked = legal.1.asks ∙ ap everyone.asks (begun_is p l e.actor there es e.begun);
+          rested = λ o is. rested same there o is;
+          after = ap (λ (b : Bool). cond b (takes p.shapes (started (processor_kind p.shapes l) e.begun (own es)) e.found) (own es)) here ∙ ap (λ (y : Processor). takes p.shapes y e.found) (sym before);
+        } where
+          rested : e.actor ≡ a → e.actor < l.procs → (o : Op) → e.begun ≡ Some o → is_busy_at (own es).task ≡ false
+          rested same there o is =
+              let begins = subst (λ (b : Option Op). Begins (setting_of p l) e.actor es b) is legal.1.begins in
+              ap (λ (b : ℕ). is_busy_at (state_of (processor_kind p.shapes l) b es).task) (sym same) ∙ sym (ap everyone.busy (is_processor p l e.actor there es)) ∙ begins.0
+
+    anothers : eqb e.actor a ≡ false → IsAnothers
+    anothers apart = record {
+      other = eqb-false e.actor a apart;
+      apart = apart;
+      after = ap (λ (b : Bool). cond b (takes p.shapes (started (processor_kind p.shapes l) e.begun (own es)) e.found) (own es)) apart;
+    }
+
+    pub who_steps : IsItsOwn ⊎ IsAnothers
+    who_steps = go (eqb e.actor a) refl where
+      go : (b : Bool) → eqb e.actor a ≡ b → IsItsOwn ⊎ IsAnothers
+      go true here = inl (its_own (eqb-true e.actor a here))
+      go false apart = inr (anothers apart)

@@ -1,21 +1,23 @@
--- Each statement's answer is given at its end: what a run's statements are given are the answers of the operations with a point, statement by statement.
-use Rattle.std.proofs.Common.{◌≡◌, ℕ, suc, Bool, true, false, not, cond, eqb, eq-eqb, ◌&&◌, List, [], ◌∷◌, ◌++◌, map, length, reverse, Option, Some, None, refl, sym, ap, subst, ◌∙◌, append_assoc, arith, inl, inr}
+-- Each statement's answer is given at its end: what the statements of a processor are given are the answers of its operations with a point, statement by statement.
+use Rattle.std.proofs.Common.{◌≡◌, ℕ, suc, ◌<◌, Bool, true, false, not, cond, eqb, ◌&&◌, List, [], ◌∷◌, ◌++◌, map, length, reverse, Option, Some, None, refl, sym, ap, subst, ◌∙◌, append_assoc, arith, inl, inr}
 use Rattle.std.specs.Prelude.{is_some}
 use Rattle.std.specs.Option.{option_to_list}
 use Rattle.std.specs.List.{filter}
-use Rattle.std.proofs.lemmas.Bool.Decides.{nat_tests}
+use Rattle.std.proofs.lemmas.Bool.{cases_lt}
 use Rattle.std.proofs.lemmas.List.{append-nil, length-reverse}
-use Rattle.gh_world.specs.Vocabulary.{Answer, begins, deeds, Entry, given_by, gives_at, is_busy_at, is_serving, is_statement, Layout, Legal, Op, Processor, processor_kind, Program, started, state_of, takes}
+use Rattle.std.proofs.lemmas.List.Elements.{filter-append}
+use Rattle.gh_world.specs.Vocabulary.{Answer, begins, by, deeds, Entry, given_by, gives_at, is_busy_at, is_serving, is_statement, Layout, Legal, Op, Processor, processor_kind, Program, started, state_of, takes}
 use Rattle.gh_mutator.specs.Deeds.{given_at, has_point}
 use Rattle.gh_mutator.specs.Listing.{gives}
 use Rattle.gh_mutator.specs.Serving.{answer_at, has_left_at}
 use Rattle.gh_world.specs.Order.{Answered, before_step, begun_in}
-use Rattle.gh_world.specs.Runs.{answers_given}
-use Rattle.gh_world.specs.Turns.{answers_to, goroutine_at, statement_now}
+use Rattle.gh_world.specs.Runs.{answers_at, answers_given}
+use Rattle.gh_world.specs.Turns.{answers_to, goroutine_at, is_of_seat, statement_now}
 use Rattle.gh_world.specs.World.{answer_in, now_in, setting_of, with_goroutine}
 use Rattle.gh_world.proofs.StepFacts.{begin_facts, step_facts}
-use Rattle.gh_world.proofs.Explained.Acted.{reverse_more}
-use Rattle.gh_world.proofs.Explained.Steps.{begins_pointed, given_is, is_pointed, IsAnothersStep, IsItsOwn, statement_pointed, stays_pointed, who_steps}
+use Rattle.gh_world.proofs.Explained.Acted.{begun_aside, begun_own, reverse_more}
+use Rattle.gh_world.proofs.Explained.Seats.{all_its, AreOf, its_seat, not_another}
+use Rattle.gh_world.proofs.Explained.Steps.{begins_pointed, given_is, is_pointed, IsAnothers, IsItsOwn, its_own, no_processors, statement_pointed, stays_pointed, who_steps}
 
 -- an answer, where the operation is a statement
 abbrev told : Op → Answer → List (ℕ × Answer)
@@ -62,28 +64,32 @@ no_answer : (b : Bool) → cond {A = Option Answer} b None None ≡ None
 no_answer true = refl
 no_answer false = refl
 
-module _ (p : Program) (l : Layout) (single : l.procs ≡ 1) where
-  abbrev own : List (Entry Op) → Processor
-  own es = state_of (processor_kind p.shapes l) 0 es
+module _ (p : Program) (l : Layout) (procs : l.procs ≡ p.settings.procs) where
+  abbrev own : (a : ℕ) → List (Entry Op) → Processor
+  own a es = state_of (processor_kind p.shapes l) a es
 
-  abbrev pub given : List (Entry Op) → List Answer
-  given es = given_by (processor_kind p.shapes l) (deeds p.shapes) 0 es
+  abbrev pub given : (a : ℕ) → List (Entry Op) → List Answer
+  given a es = given_by (processor_kind p.shapes l) (deeds p.shapes) a es
+
+  -- what the statements of the processor's goroutines were answered
+  abbrev pub given_to : (a : ℕ) → List (Entry Op) → List (ℕ × Answer)
+  given_to a es = answers_at p a (answers_given p l es)
 
   -- the operation o is begun and not ended, and what stood before it is answered
-  record Runs (es : List (Entry Op)) (o : Op) (os : List Op) (m : Processor) : Type 0 where
+  record Runs (a : ℕ) (es : List (Entry Op)) (o : Op) (os : List Op) (m : Processor) : Type 0 where
     serving : is_serving m.task ≡ is_statement o
     pointed : is_pointed m.task ≡ has_point o
-    answers : answers_given p l es ≡ told_of (filter has_point os) (given es)
-    long : length (filter has_point os) ≡ length (given es)
+    answers : given_to a es ≡ told_of (filter has_point os) (given a es)
+    long : length (filter has_point os) ≡ length (given a es)
 
-  pub record Rests (es : List (Entry Op)) : Type 0 where
-    pub answers : answers_given p l es ≡ told_of (filter has_point (begun_in es)) (given es)
-    pub long : length (filter has_point (begun_in es)) ≡ length (given es)
+  pub record Rests (a : ℕ) (es : List (Entry Op)) : Type 0 where
+    pub answers : given_to a es ≡ told_of (filter has_point (begun_in (by a es))) (given a es)
+    pub long : length (filter has_point (begun_in (by a es))) ≡ length (given a es)
 
-  -- what the list has answered
-  record Told (es : List (Entry Op)) : Type 0 where
-    idle : is_busy_at (own es).task ≡ false → Rests es
-    busy : is_busy_at (own es).task ≡ true → (o : Op) × (os : List Op) × (begun_in es ≡ o ∷ os) × Runs es o os (own es)
+  -- what the processor has answered
+  record Told (a : ℕ) (es : List (Entry Op)) : Type 0 where
+    idle : is_busy_at (own a es).task ≡ false → Rests a es
+    busy : is_busy_at (own a es).task ≡ true → (o : Op) × (os : List Op) × (begun_in (by a es) ≡ o ∷ os) × Runs a es o os (own a es)
 
   -- before the entry's step an operation is begun
   begun_op : (m : Processor) (o : Op) → is_busy_at m.task ≡ false → is_busy_at ((processor_kind p.shapes l).begins m o).task ≡ true → (is_serving ((processor_kind p.shapes l).begins m o).task ≡ is_statement o) × (is_pointed ((processor_kind p.shapes l).begins m o).task ≡ has_point o)
@@ -92,14 +98,14 @@ module _ (p : Program) (l : Layout) (single : l.procs ≡ 1) where
     go true b = absurd (let no : true ≡ false = sym b ∙ idle in cc)
     go false b = ((begin_facts p.shapes m o b).serves, begins_pointed p.shapes m o b)
 
-  starts : (es : List (Entry Op)) (b : Option Op) → ((o : Op) → b ≡ Some o → is_busy_at (own es).task ≡ false) → is_busy_at (started (processor_kind p.shapes l) b (own es)).task ≡ true → Told es →
-      (o : Op) × (os : List Op) × (option_to_list b ++ begun_in es ≡ o ∷ os) × Runs es o os (started (processor_kind p.shapes l) b (own es))
-  starts es None rested busy t = t.busy busy
-  starts es (Some o) rested busy t =
+  starts : (a : ℕ) (es : List (Entry Op)) (b : Option Op) → ((o : Op) → b ≡ Some o → is_busy_at (own a es).task ≡ false) → is_busy_at (started (processor_kind p.shapes l) b (own a es)).task ≡ true → Told a es →
+      (o : Op) × (os : List Op) × (option_to_list b ++ begun_in (by a es) ≡ o ∷ os) × Runs a es o os (started (processor_kind p.shapes l) b (own a es))
+  starts a es None rested busy t = t.busy busy
+  starts a es (Some o) rested busy t =
       let idle = rested o refl in
       let here = t.idle idle in
-      let first = begun_op (own es) o idle busy in
-      (o, begun_in es, refl, record { serving = first.0; pointed = first.1; answers = here.answers; long = here.long })
+      let first = begun_op (own a es) o idle busy in
+      (o, begun_in (by a es), refl, record { serving = first.0; pointed = first.1; answers = here.answers; long = here.long })
 
   module _ (es : List (Entry Op)) (e : Entry Op) (legal : Legal (setting_of p l) (e ∷ es)) where
     abbrev m : Processor
@@ -109,75 +115,126 @@ module _ (p : Program) (l : Layout) (single : l.procs ≡ 1) where
     abbrev gave : Option Answer
     gave = given_at m.task (gives m e.found)
 
-    given_own : IsItsOwn p l single es e legal → given (e ∷ es) ≡ option_to_list gave ++ given es
-    given_own x = ap (λ (b : Bool). cond b (option_to_list gave ++ given es) (given es)) (eq-eqb e.actor 0 x.zeroth)
+    -- and to which goroutine
+    abbrev now : List (ℕ × Answer)
+    now = with_goroutine (now_in (e ∷ es)).0 (answer_in p.shapes l es e)
 
-    goes_on : (x : IsItsOwn p l single es e legal) (o : Op) (os : List Op) → gives_at m m.task e.found ≡ None → begun_in (e ∷ es) ≡ o ∷ os → Runs es o os m → Told (e ∷ es)
-    goes_on x o os is begun r =
-        let s = step_facts p.shapes m m.task e.found x.busy in
-        let next : is_busy_at (takes p.shapes m e.found).task ≡ true = s.ends ∙ ap (λ (y : Option Answer). not (is_some y)) is in
-        let still : is_busy_at (own (e ∷ es)).task ≡ true = ap (λ (n : Processor). is_busy_at n.task) x.after ∙ next in
-        let serving : is_serving (takes p.shapes m e.found).task ≡ is_statement o = s.serves ∙ ap (λ (b : Bool). b && is_serving m.task) next ∙ r.serving in
-        let none : gave ≡ None = ap (λ (y : Option Answer). given_at m.task y) is ∙ given_is m.task None ∙ no_answer (is_pointed m.task) in
-        let same : given (e ∷ es) ≡ given es = given_own x ∙ ap (λ (y : Option Answer). option_to_list y ++ given es) none in
-        let no : answer_in p.shapes l es e ≡ None = ap (λ (y : Option Answer). answer_at m.task y) is ∙ no_answer (is_serving m.task) in
-        let answers : answers_given p l (e ∷ es) ≡ answers_given p l es = ap (λ (y : Option Answer). answers_given p l es ++ with_goroutine (now_in (e ∷ es)).0 y) no ∙ append-nil (answers_given p l es) in
-        record {
-          idle = λ h. absurd (let q : true ≡ false = sym still ∙ h in cc);
-          busy = λ h. (
-            o,
-            os,
-            begun,
-            record {
-              serving = ap (λ (n : Processor). is_serving n.task) x.after ∙ serving;
-              pointed = ap (λ (n : Processor). is_pointed n.task) x.after ∙ stays_pointed p.shapes m m.task e.found x.busy next ∙ r.pointed;
-              answers = answers ∙ r.answers ∙ ap (λ (xs : List Answer). told_of (filter has_point os) xs) (sym same);
-              long = r.long ∙ ap length (sym same);
-            },
-          );
-        }
+    answered_more : (a : ℕ) → given_to a (e ∷ es) ≡ given_to a es ++ answers_at p a now
+    answered_more a = filter-append (λ (x : ℕ × Answer). is_of_seat p a x.0) (answers_given p l es) now
 
-    -- one operation more is answered, if it has a point
-    one_more : (o : Op) (os : List Op) (a : Answer) (gs : List Answer) → length (filter has_point os) ≡ length gs →
-        (told_of (filter has_point os) gs ++ told o a ≡ told_of (filter has_point (o ∷ os)) (option_to_list (cond (has_point o) (Some a) None) ++ gs)) × (length (filter has_point (o ∷ os)) ≡ length (option_to_list (cond (has_point o) (Some a) None) ++ gs))
-    one_more o os a gs long = go (has_point o) refl where
-      go : (b : Bool) → has_point o ≡ b →
-          (told_of (filter has_point os) gs ++ told o a ≡ told_of (cond b (o ∷ filter has_point os) (filter has_point os)) (option_to_list (cond b (Some a) None) ++ gs)) × (length (cond b (o ∷ filter has_point os) (filter has_point os)) ≡ length (option_to_list (cond b (Some a) None) ++ gs))
-      go true t = (refl, ap suc long)
-      go false t = (ap (λ (b : Bool). told_of (filter has_point os) gs ++ cond b ((goroutine_at o, a) ∷ []) []) (statement_pointed o t) ∙ append-nil (told_of (filter has_point os) gs), long)
+    -- The processor at a seat, by whom the entry is.
+    module _ (a : ℕ) (lt : a < l.procs) where
+      -- what is begun before its step
+      runs : IsItsOwn p l es e legal a lt → Told a es → (o : Op) × (os : List Op) × (begun_in (by a (e ∷ es)) ≡ o ∷ os) × Runs a es o os m
+      runs x t =
+          let busy : is_busy_at (started (processor_kind p.shapes l) e.begun (own a es)).task ≡ true = ap (λ (y : Processor). is_busy_at y.task) (sym x.before) ∙ x.busy in
+          let w = starts a es e.begun x.rested busy t in
+          (w.0, w.1, begun_own p l a es e x.here ∙ w.2, subst (λ (y : Processor). Runs a es w.0 w.1 y) (sym x.before) w.3)
 
-    ends : (x : IsItsOwn p l single es e legal) (o : Op) (os : List Op) (a : Answer) → gives_at m m.task e.found ≡ Some a → begun_in (e ∷ es) ≡ o ∷ os → Runs es o os m → Told (e ∷ es)
-    ends x o os a is begun r =
-        let s = step_facts p.shapes m m.task e.found x.busy in
-        let next : is_busy_at (takes p.shapes m e.found).task ≡ false = s.ends ∙ ap (λ (y : Option Answer). not (is_some y)) is in
-        let over : is_busy_at (own (e ∷ es)).task ≡ false = ap (λ (n : Processor). is_busy_at n.task) x.after ∙ next in
-        let some : gave ≡ cond (has_point o) (Some a) None = ap (λ (y : Option Answer). given_at m.task y) is ∙ given_is m.task (Some a) ∙ ap (λ (b : Bool). cond b (Some a) None) r.pointed in
-        let then : given (e ∷ es) ≡ option_to_list (cond (has_point o) (Some a) None) ++ given es = given_own x ∙ ap (λ (y : Option Answer). option_to_list y ++ given es) some in
-        let answer : answer_in p.shapes l es e ≡ cond (is_statement o) (Some a) None = ap (λ (y : Option Answer). answer_at m.task y) is ∙ ap (λ (b : Bool). cond b (Some a) None) r.serving in
-        let more : answers_given p l (e ∷ es) ≡ answers_given p l es ++ told o a =
-        ap (λ (y : Option Answer). answers_given p l es ++ with_goroutine (now_in (e ∷ es)).0 y) answer
-        ∙ ap (λ (y : ℕ × ℕ). answers_given p l es ++ with_goroutine y.0 (cond (is_statement o) (Some a) None)) (ap statement_now begun)
-        ∙ ap (λ (xs : List (ℕ × Answer)). answers_given p l es ++ xs) (one_answer o os a) in
-        let one = one_more o os a (given es) r.long in
-        record {
-          idle = λ h. record {
-            answers = more ∙ ap (λ (xs : List (ℕ × Answer)). xs ++ told o a) r.answers ∙ one.0 ∙ ap (λ (xs : List Op). told_of (filter has_point xs) (option_to_list (cond (has_point o) (Some a) None) ++ given es)) (sym begun) ∙ ap (λ (xs : List Answer). told_of (filter has_point (begun_in (e ∷ es))) xs) (sym then);
-            long = ap (λ (xs : List Op). length (filter has_point xs)) begun ∙ one.1 ∙ ap length (sym then);
-          };
-          busy = λ h. absurd (let q : false ≡ true = sym over ∙ h in cc);
-        }
+      -- a statement's answer is its goroutine's, which is of that processor
+      told_at : (o : Op) (os : List Op) → begun_in (by a (e ∷ es)) ≡ o ∷ os → (b : Answer) → answers_at p a (told o b) ≡ told o b
+      told_at o os begun b = go (is_statement o) refl where
+        go : (s : Bool) → is_statement o ≡ s → answers_at p a (cond s ((goroutine_at o, b) ∷ []) []) ≡ cond s ((goroutine_at o, b) ∷ []) []
+        go false other = refl
+        go true is =
+            let its = its_seat p l procs a o (subst (AreOf p l procs a) begun (all_its p l procs a (e ∷ es) legal)).0 is in
+            ap (λ (c : Bool). cond c ((goroutine_at o, b) ∷ []) []) its
+
+      -- what the step answers, where it ends the operation or not
+      now_is : (x : IsItsOwn p l es e legal a lt) (o : Op) (os : List Op) → begun_in (by a (e ∷ es)) ≡ o ∷ os → is_serving m.task ≡ is_statement o → (b : Option Answer) → gives_at m m.task e.found ≡ b → now ≡ with_goroutine (statement_now (o ∷ os)).0 (cond (is_statement o) b None)
+      now_is x o os begun serving b is =
+          ap (λ (y : Option Answer). with_goroutine (now_in (e ∷ es)).0 y) (ap (λ (y : Option Answer). answer_at m.task y) is ∙ ap (λ (c : Bool). cond c b None) serving)
+          ∙ ap (λ (y : ℕ × ℕ). with_goroutine y.0 (cond (is_statement o) b None)) (ap (λ (c : ℕ). statement_now (begun_in (by c (e ∷ es)))) x.its ∙ ap statement_now begun)
+
+      now_some : (x : IsItsOwn p l es e legal a lt) (o : Op) (os : List Op) → begun_in (by a (e ∷ es)) ≡ o ∷ os → is_serving m.task ≡ is_statement o → (b : Answer) → gives_at m m.task e.found ≡ Some b → now ≡ told o b
+      now_some x o os begun serving b is = now_is x o os begun serving (Some b) is ∙ one_answer o os b
+
+      now_none : (x : IsItsOwn p l es e legal a lt) (o : Op) (os : List Op) → begun_in (by a (e ∷ es)) ≡ o ∷ os → is_serving m.task ≡ is_statement o → gives_at m m.task e.found ≡ None → now ≡ []
+      now_none x o os begun serving is = now_is x o os begun serving None is ∙ ap (λ (y : Option Answer). with_goroutine (statement_now (o ∷ os)).0 y) (no_answer (is_statement o))
+
+      given_own : IsItsOwn p l es e legal a lt → given a (e ∷ es) ≡ option_to_list gave ++ given a es
+      given_own x = ap (λ (b : Bool). cond b (option_to_list gave ++ given a es) (given a es)) x.here
+
+      goes_on : (x : IsItsOwn p l es e legal a lt) (o : Op) (os : List Op) → gives_at m m.task e.found ≡ None → begun_in (by a (e ∷ es)) ≡ o ∷ os → Runs a es o os m → Told a (e ∷ es)
+      goes_on x o os is begun r =
+          let s = step_facts p.shapes m m.task e.found x.busy in
+          let next : is_busy_at (takes p.shapes m e.found).task ≡ true = s.ends ∙ ap (λ (y : Option Answer). not (is_some y)) is in
+          let still : is_busy_at (own a (e ∷ es)).task ≡ true = ap (λ (n : Processor). is_busy_at n.task) x.after ∙ next in
+          let serving : is_serving (takes p.shapes m e.found).task ≡ is_statement o = s.serves ∙ ap (λ (b : Bool). b && is_serving m.task) next ∙ r.serving in
+          let none : gave ≡ None = ap (λ (y : Option Answer). given_at m.task y) is ∙ given_is m.task None ∙ no_answer (is_pointed m.task) in
+          let same : given a (e ∷ es) ≡ given a es = given_own x ∙ ap (λ (y : Option Answer). option_to_list y ++ given a es) none in
+          let answers : given_to a (e ∷ es) ≡ given_to a es = answered_more a ∙ ap (λ (xs : List (ℕ × Answer)). given_to a es ++ answers_at p a xs) (now_none x o os begun r.serving is) ∙ append-nil (given_to a es) in
+          record {
+            idle = λ h. absurd (let q : true ≡ false = sym still ∙ h in cc);
+            busy = λ h. (
+              o,
+              os,
+              begun,
+              record {
+                serving = ap (λ (n : Processor). is_serving n.task) x.after ∙ serving;
+                pointed = ap (λ (n : Processor). is_pointed n.task) x.after ∙ stays_pointed p.shapes m m.task e.found x.busy next ∙ r.pointed;
+                answers = answers ∙ r.answers ∙ ap (λ (xs : List Answer). told_of (filter has_point os) xs) (sym same);
+                long = r.long ∙ ap length (sym same);
+              },
+            );
+          }
+
+      -- one operation more is answered, if it has a point
+      one_more : (o : Op) (os : List Op) (b : Answer) (gs : List Answer) → length (filter has_point os) ≡ length gs →
+          (told_of (filter has_point os) gs ++ told o b ≡ told_of (filter has_point (o ∷ os)) (option_to_list (cond (has_point o) (Some b) None) ++ gs)) × (length (filter has_point (o ∷ os)) ≡ length (option_to_list (cond (has_point o) (Some b) None) ++ gs))
+      one_more o os b gs long = go (has_point o) refl where
+        go : (c : Bool) → has_point o ≡ c →
+            (told_of (filter has_point os) gs ++ told o b ≡ told_of (cond c (o ∷ filter has_point os) (filter has_point os)) (option_to_list (cond c (Some b) None) ++ gs)) × (length (cond c (o ∷ filter has_point os) (filter has_point os)) ≡ length (option_to_list (cond c (Some b) None) ++ gs))
+        go true t = (refl, ap suc long)
+        go false t = (ap (λ (c : Bool). told_of (filter has_point os) gs ++ cond c ((goroutine_at o, b) ∷ []) []) (statement_pointed o t) ∙ append-nil (told_of (filter has_point os) gs), long)
+
+      ends : (x : IsItsOwn p l es e legal a lt) (o : Op) (os : List Op) (b : Answer) → gives_at m m.task e.found ≡ Some b → begun_in (by a (e ∷ es)) ≡ o ∷ os → Runs a es o os m → Told a (e ∷ es)
+      ends x o os b is begun r =
+          let s = step_facts p.shapes m m.task e.found x.busy in
+          let next : is_busy_at (takes p.shapes m e.found).task ≡ false = s.ends ∙ ap (λ (y : Option Answer). not (is_some y)) is in
+          let over : is_busy_at (own a (e ∷ es)).task ≡ false = ap (λ (n : Processor). is_busy_at n.task) x.after ∙ next in
+          let some : gave ≡ cond (has_point o) (Some b) None = ap (λ (y : Option Answer). given_at m.task y) is ∙ given_is m.task (Some b) ∙ ap (λ (c : Bool). cond c (Some b) None) r.pointed in
+          let then : given a (e ∷ es) ≡ option_to_list (cond (has_point o) (Some b) None) ++ given a es = given_own x ∙ ap (λ (y : Option Answer). option_to_list y ++ given a es) some in
+          let more : given_to a (e ∷ es) ≡ given_to a es ++ told o b = answered_more a ∙ ap (λ (xs : List (ℕ × Answer)). given_to a es ++ xs) (ap (answers_at p a) (now_some x o os begun r.serving b is) ∙ told_at o os begun b) in
+          let one = one_more o os b (given a es) r.long in
+          record {
+            idle = λ h. record {
+              answers = more ∙ ap (λ (xs : List (ℕ × Answer)). xs ++ told o b) r.answers ∙ one.0 ∙ ap (λ (xs : List Op). told_of (filter has_point xs) (option_to_list (cond (has_point o) (Some b) None) ++ given a es)) (sym begun) ∙ ap (λ (xs : List Answer). told_of (filter has_point (begun_in (by a (e ∷ es)))) xs) (sym then);
+              long = ap (λ (xs : List Op). length (filter has_point xs)) begun ∙ one.1 ∙ ap length (sym then);
+            };
+            busy = λ h. absurd (let q : false ≡ true = sym over ∙ h in cc);
+          }
+
+      by_own : IsItsOwn p l es e legal a lt → Told a es → Told a (e ∷ es)
+      by_own x t = let w = runs x t in go (gives_at m m.task e.found) refl w.0 w.1 w.2 w.3 where
+        go : (b : Option Answer) → gives_at m m.task e.found ≡ b → (o : Op) (os : List Op) → begun_in (by a (e ∷ es)) ≡ o ∷ os → Runs a es o os m → Told a (e ∷ es)
+        go None is o os begun r = goes_on x o os is begun r
+        go (Some b) is o os begun r = ends x o os b is begun r
+
+    -- what another answers is none of its goroutines'
+    elsewhere : (a b : ℕ) (lt : b < l.procs) → IsItsOwn p l es e legal b lt → Told b es → eqb b a ≡ false → answers_at p a now ≡ []
+    elsewhere a b lt x t apart = let w = runs b lt x t in go (gives_at m m.task e.found) refl w.0 w.1 w.2 w.3 where
+      no_told : (o : Op) (os : List Op) → begun_in (by b (e ∷ es)) ≡ o ∷ os → (c : Answer) → answers_at p a (told o c) ≡ []
+      no_told o os begun c = by_kind (is_statement o) refl where
+        by_kind : (s : Bool) → is_statement o ≡ s → answers_at p a (cond s ((goroutine_at o, c) ∷ []) []) ≡ []
+        by_kind false other = refl
+        by_kind true is =
+            let its = its_seat p l procs b o (subst (AreOf p l procs b) begun (all_its p l procs b (e ∷ es) legal)).0 is in
+            ap (λ (d : Bool). cond d ((goroutine_at o, c) ∷ []) []) (not_another p a b (goroutine_at o) apart its)
+
+      go : (c : Option Answer) → gives_at m m.task e.found ≡ c → (o : Op) (os : List Op) → begun_in (by b (e ∷ es)) ≡ o ∷ os → Runs b es o os m → answers_at p a now ≡ []
+      go None is o os begun r = ap (answers_at p a) (now_none b lt x o os begun r.serving is)
+      go (Some c) is o os begun r = ap (answers_at p a) (now_some b lt x o os begun r.serving c is) ∙ no_told o os begun c
 
     -- a step of another leaves it so
-    aside : IsAnothersStep p l single es e legal → Told es → Told (e ∷ es)
-    aside x t =
-        let apart : eqb e.actor 0 ≡ false = grind (arith, nat_tests, x.other) in
-        let same : given (e ∷ es) ≡ given es = ap (λ (b : Bool). cond b (option_to_list gave ++ given es) (given es)) apart in
-        let begun : begun_in (e ∷ es) ≡ begun_in es = ap (λ (o : Option Op). option_to_list o ++ begun_in es) x.none in
-        let no : answer_in p.shapes l es e ≡ None = ap (λ (b : Bool). cond b (gives_at m m.task e.found) None) x.idle in
-        let answers : answers_given p l (e ∷ es) ≡ answers_given p l es = ap (λ (y : Option Answer). answers_given p l es ++ with_goroutine (now_in (e ∷ es)).0 y) no ∙ append-nil (answers_given p l es) in
+    aside : (a : ℕ) (lt : a < l.procs) → IsAnothers p l es e legal a lt → answers_at p a now ≡ [] → Told a es → Told a (e ∷ es)
+    aside a lt x none t =
+        let same : given a (e ∷ es) ≡ given a es = ap (λ (b : Bool). cond b (option_to_list gave ++ given a es) (given a es)) x.apart in
+        let begun : begun_in (by a (e ∷ es)) ≡ begun_in (by a es) = begun_aside p l a es e x.apart in
+        let answers : given_to a (e ∷ es) ≡ given_to a es = answered_more a ∙ ap (λ (xs : List (ℕ × Answer)). given_to a es ++ xs) none ∙ append-nil (given_to a es) in
         record {
           idle = λ h. let r = t.idle (ap (λ (n : Processor). is_busy_at n.task) (sym x.after) ∙ h) in record {
-            answers = answers ∙ r.answers ∙ ap (λ (xs : List Op). told_of (filter has_point xs) (given es)) (sym begun) ∙ ap (λ (xs : List Answer). told_of (filter has_point (begun_in (e ∷ es))) xs) (sym same);
+            answers = answers ∙ r.answers ∙ ap (λ (xs : List Op). told_of (filter has_point xs) (given a es)) (sym begun) ∙ ap (λ (xs : List Answer). told_of (filter has_point (begun_in (by a (e ∷ es)))) xs) (sym same);
             long = ap (λ (xs : List Op). length (filter has_point xs)) begun ∙ r.long ∙ ap length (sym same);
           };
           busy = λ h. let w = t.busy (ap (λ (n : Processor). is_busy_at n.task) (sym x.after) ∙ h) in (
@@ -193,22 +250,19 @@ module _ (p : Program) (l : Layout) (single : l.procs ≡ 1) where
           );
         }
 
-    by_own : IsItsOwn p l single es e legal → Told es → Told (e ∷ es)
-    by_own x t =
-        let busy : is_busy_at (started (processor_kind p.shapes l) e.begun (own es)).task ≡ true = ap (λ (y : Processor). is_busy_at y.task) (sym x.before) ∙ x.busy in
-        let w = starts es e.begun x.rested busy t in
-        go (gives_at m m.task e.found) refl w.0 w.1 w.2 (subst (λ (y : Processor). Runs es w.0 w.1 y) (sym x.before) w.3) where
-          go : (a : Option Answer) → gives_at m m.task e.found ≡ a → (o : Op) (os : List Op) → begun_in (e ∷ es) ≡ o ∷ os → Runs es o os m → Told (e ∷ es)
-          go None is o os begun r = goes_on x o os is begun r
-          go (Some a) is o os begun r = ends x o os a is begun r
+    none_now : (a : ℕ) → eqb e.actor a ≡ false → ((b : ℕ) → b < l.procs → Told b es) → answers_at p a now ≡ []
+    none_now a apart before = elim (cases_lt e.actor l.procs) [
+      | inl lt ↦ elsewhere a e.actor lt (its_own p l es e legal e.actor lt refl) (before e.actor lt) apart
+      | inr le ↦ ap (λ (b : Bool). answers_at p a (with_goroutine (now_in (e ∷ es)).0 (cond b (gives_at m m.task e.found) None))) (no_processors p l es e legal le).idle
+    ]
 
-    step : Told es → Told (e ∷ es)
-    step t = elim (who_steps p l single es e legal) [ inl x ↦ by_own x t | inr x ↦ aside x t ]
+    step : ((b : ℕ) → b < l.procs → Told b es) → (a : ℕ) → a < l.procs → Told a (e ∷ es)
+    step before a lt = elim (who_steps p l es e legal a lt) [ inl x ↦ by_own a lt x (before a lt) | inr x ↦ aside a lt x (none_now a x.apart before) (before a lt) ]
 
-  all_told : (es : List (Entry Op)) → Legal (setting_of p l) es → Told es
-  all_told [] legal = record { idle = λ h. record { answers = refl; long = refl }; busy = λ h. absurd cc }
-  all_told (e ∷ es) legal = step es e legal (all_told es legal.0)
+  all_told : (es : List (Entry Op)) → Legal (setting_of p l) es → (a : ℕ) → a < l.procs → Told a es
+  all_told [] legal a lt = record { idle = λ h. record { answers = refl; long = refl }; busy = λ h. absurd cc }
+  all_told (e ∷ es) legal a lt = step es e legal (all_told es legal.0) a lt
 
-  -- where nothing is begun all is told
-  pub rests_told : (es : List (Entry Op)) → Legal (setting_of p l) es → is_busy_at (own es).task ≡ false → Rests es
-  rests_told es legal idle = (all_told es legal).idle idle
+  -- where it has nothing begun all is told
+  pub rests_told : (es : List (Entry Op)) → Legal (setting_of p l) es → (a : ℕ) → a < l.procs → is_busy_at (own a es).task ≡ false → Rests a es
+  rests_told es legal a lt idle = (all_told es legal a lt).idle idle

@@ -5,14 +5,14 @@ use Rattle.std.proofs.lemmas.Bool.{cases_lt}
 use Rattle.gh_coord.specs.Listing as coord
 use Rattle.gh_model.specs.declared.EverValue.TheVariants as values
 use Rattle.gh_world.specs.declared.handshake.Actor.TheVariants as actor
-use Rattle.gh_world.specs.Order.{Answered}
+use Rattle.gh_world.specs.Order.{acted_in, Answered}
 use Rattle.gh_world.specs.Vocabulary.{acts, Coordinating, CoordStage, Entry, Ever, Layout, Legal, Name, Op, opening_ever, processor_kind, Program, Reach, state_of, statements_of, WellFormed}
-use Rattle.gh_world.specs.RunVocabulary.{actor_after, AllStands, answers_given, AreFew, AreLive, arena_of, before_step, Check, Close, Count, count_of, CyclesAreFew, Done, EachOperationActsOnce, ever_after_list, ever_of, EveryListKeepsIt, EveryListOfActorsStands, EveryRunIsExplained, has_ended, is_statement_of, IsExplained, IsHeld, IsMade, IsRun, IsStartOf, LaysOut, LeavesTheReached, LoadAck, LoadWant, MarkOn, may_begin_of, OnlyPointsChange, op_of, Open, order_of, outcome_by, pacing_of, party_of, ProcessorInHandshake, ProcessorsBeginFew, ProcessorWritesItsOwn, SetBitsAreCounted, setting_of, SlotsAreRead, Sound, stage_of, Stop, StopAgain, Sweep, Tell, total_of, turns_of, Watch, wishes_of, WorkersWriteTheirOwn}
+use Rattle.gh_world.specs.RunVocabulary.{actor_after, AllStands, answers_given, AreFew, AreLive, arena_of, before_step, Check, Close, Count, count_of, CyclesAreFew, Done, EachOperationActsOnce, ever_after_list, ever_of, EveryListKeepsIt, EveryListOfActorsStands, EveryRunIsExplained, has_ended, is_statement_of, IsExplained, IsHeld, IsMade, IsRun, IsStartOf, LaysOut, LeavesTheReached, LoadAck, LoadWant, MarkOn, may_begin_of, OnlyPointsChange, op_of, Open, order_of, outcome_by, pacing_of, party_of, ProcessorInHandshake, ProcessorsBeginFew, ProcessorWritesItsOwn, SetBitsAreCounted, setting_of, SlotsAreRead, Sound, stage_of, Stop, StopAgain, Sweep, Tell, total_of, Watch, wishes_of, WorkersWriteTheirOwn}
 use Rattle.gh_world.proofs.AllActors.Asking.{asks_once, left}
 use Rattle.gh_world.proofs.AllActors.Parties.{are_parties, writes_no_numbers}
-use Rattle.gh_world.proofs.Asking.{asked_among, asked_turns}
-use Rattle.gh_world.proofs.EachOnce.{none_beyond, turns_mine}
-use Rattle.gh_world.proofs.OfScripts.{all_stand, few_in_all, many_wishes, single}
+use Rattle.gh_world.proofs.Asking.{asked_of}
+use Rattle.gh_world.proofs.EachOnce.{acted_ops, none_beyond}
+use Rattle.gh_world.proofs.OfScripts.{all_stand, few_in_all, many_wishes}
 use Rattle.gh_world.proofs.Turning.{count-le}
 use Rattle.gh_world.proofs.Wishing.{filter_few}
 use Rattle.gh_world.proofs.Explained.Acted.{Acted, acted_all, answers_in, ever_is, map-reverse, ops_in}
@@ -74,7 +74,6 @@ module _ (laws : Laws) (p : Program) (l : Layout) (formed : WellFormed p) (out :
 
   known : Known p l
   known = record {
-    single = single p l formed out;
     each = laws.each;
     points = laws.points;
     parties = are_parties laws.places laws.writes p.shapes l;
@@ -124,13 +123,17 @@ module _ (laws : Laws) (p : Program) (l : Layout) (formed : WellFormed p) (out :
     last : LeavesTheReached p.shapes l (pacing_of p) (may_begin_of p l) es c
     last = stands.last c led (is_done c.stage done)
 
-    in_turn : reverse (ops_in p l es) ≡ turns_of p
-    in_turn = sym (map-reverse (λ (a : Answered). a.op) (order_of p.shapes l es)) ∙ answers.acted_are p l (single p l formed out) laws.each laws.points es run stands.stands
+    ops : map (λ (a : Answered). a.op) (acted_in p.shapes l es) ≡ reverse (ops_in p l es)
+    ops = map-reverse (λ (a : Answered). a.op) (order_of p.shapes l es)
+
+    -- the statements of a goroutine among all that acted
+    mine : (g : ℕ) → filter (is_statement_of g) (reverse (ops_in p l es)) ≡ map (op_of g) (statements_of p g)
+    mine g = ap (filter (is_statement_of g)) (sym ops) ∙ sym (acted_ops p g (acted_in p.shapes l es)) ∙ answers.mine p l out.procs_are laws.each laws.points es run stands.stands g
 
     beyond : (g d : ℕ) → l.goroutines ≤ g → (ever es).register g d ≡ values.Nil
     beyond g d le =
         let past : length p.goroutines ≤ g = let is = out.goroutines_are in omega (arith, le, is) in
-        let none : filter (is_statement_of g) (reverse (ops_in p l es)) ≡ [] = ap (filter (is_statement_of g)) in_turn ∙ turns_mine p g ∙ ap (map (op_of g)) (none_beyond p g past) in
+        let none : filter (is_statement_of g) (reverse (ops_in p l es)) ≡ [] = mine g ∙ ap (map (op_of g)) (none_beyond p g past) in
         ap (λ (e : Ever). e.register g d) (same_ever es ∙ sym has.ever) ∙ all_leave p.shapes g d opening_ever (reverse (ops_in p l es)) (reverse (answers_in p l es)) none
 
     held : (n : Name) → Reach (ever es) n → IsHeld (ever es) n
@@ -140,7 +143,7 @@ module _ (laws : Laws) (p : Program) (l : Layout) (formed : WellFormed p) (out :
     few_made n lt =
         let most = made_all p.shapes n.g opening_ever (reverse (ops_in p l es)) (reverse (answers_in p l es)) in
         let same = ap (λ (e : Ever). e.made n.g) (same_ever es ∙ sym has.ever) in
-        let asks : asked_among n.g (reverse (ops_in p l es)) ≡ wishes_of p n.g = ap (asked_among n.g) in_turn ∙ asked_turns p n.g in
+        let asks = asked_of p n.g (reverse (ops_in p l es)) (mine n.g) in
         let few = few_of p n.g formed in
         omega (arith, most, same, asks, few, lt)
 
@@ -154,13 +157,14 @@ module _ (laws : Laws) (p : Program) (l : Layout) (formed : WellFormed p) (out :
       coordinator = c;
       led = led;
       given = refl;
-      all = answers.all_answers p l (single p l formed out) laws.each laws.points es run stands.stands;
-      acted = answers.acted_are p l (single p l formed out) laws.each laws.points es run stands.stands;
+      all = answers.all_answers p l out.procs_are laws.each laws.points es run stands.stands;
+      acted = answers.acted_are p l out.procs_are laws.each laws.points es run stands.stands;
+      alone = answers.alone p l out.procs_are laws.each laws.points es run stands.stands;
       answered = refl;
-      ever = answers.ever_answers p l (single p l formed out) laws.each laws.points es run stands.stands;
-      among = answers.among_are p l (single p l formed out) laws.each laws.points es run stands.stands;
-      each = answers.each_is p l (single p l formed out) laws.each laws.points es run stands.stands;
-      others = answers.others_none p l (single p l formed out) laws.each laws.points es run stands.stands;
+      ever = answers.ever_answers p l out.procs_are laws.each laws.points es run stands.stands;
+      among = answers.among_are p l out.procs_are laws.each laws.points es run stands.stands;
+      each = answers.each_is p l out.procs_are laws.each laws.points es run stands.stands;
+      others = answers.others_none p l out.procs_are laws.each laws.points es run stands.stands;
       full = full_means p l known es run.legal stands.stands.full;
       swept = gcs_wait p l known es run.legal stands.stands.full;
       cycles = cycles_are p l known es c run.legal led done (stands.counts c led);

@@ -20,7 +20,7 @@ returns-in-Some-clause-out_of_turns c = λ n e.
     let there = here.0 in (
       sym same,
       subst (λ (k : ℕ). IsUnfinished c.args.script.now c.args.schedule k) same
-          (unfinished c.run.new.world c.args.script.now c.args.schedule c.args.budget c.run.new.answers.items
+          (unfinished c.run.new.world c.args.script.now c.args.schedule c.args.budget c.run.new.answers.items c.is_well_formed.ensures
           (c.run.ensures.script ∙ c.in_ok-world.ensures.script) lays c.run.ensures.ran (not_all c.run.new.world _ here.0 here.1)
           (record { who = _; there = omega (arith, there, c.in-Some.ensures.seats); going = λ es after. some_going (ended_after (setting_of (script_of c.run.new.world) (layout_of c.run.new.world)) es) (in_order_from 0 (setting_of (script_of c.run.new.world) (layout_of c.run.new.world)).actors) _ (sym (c.in-Some.ensures.in_lists es after)) })),
     )
@@ -31,7 +31,7 @@ returns-in-Some-clause-ends c = λ outcome n r e.
     let here = c.in-Some.ensures.going in
     let there = here.0 in
     c.one_outcome.ensures.not_both c.args.script.now c.args.schedule c.args.budget outcome r
-    (unfinished c.run.new.world c.args.script.now c.args.schedule c.args.budget c.run.new.answers.items
+    (unfinished c.run.new.world c.args.script.now c.args.schedule c.args.budget c.run.new.answers.items c.is_well_formed.ensures
     (c.run.ensures.script ∙ c.in_ok-world.ensures.script) lays c.run.ensures.ran (not_all c.run.new.world _ here.0 here.1)
     (record { who = _; there = omega (arith, there, c.in-Some.ensures.seats); going = λ es after. some_going (ended_after (setting_of (script_of c.run.new.world) (layout_of c.run.new.world)) es) (in_order_from 0 (setting_of (script_of c.run.new.world) (layout_of c.run.new.world)).actors) _ (sym (c.in-Some.ensures.in_lists es after)) }))
 

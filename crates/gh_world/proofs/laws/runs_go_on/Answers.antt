@@ -9,7 +9,7 @@ use Rattle.gh_world.proofs.laws.runs_go_on.Goals as goal
 module _ (c : goal.After-every_list_of_actors_stands) where
   laws : (p : Program) (l : Layout) → WellFormed p → LaysOut p l → Laws p l
   laws p l formed lays = record {
-    own = λ es. c.a_state_is_of_its_own_entries.ensures (processor_kind p.shapes l) 0 es;
+    own = λ a es. c.a_state_is_of_its_own_entries.ensures (processor_kind p.shapes l) a es;
     on = c.it_goes_on_until_done.ensures;
     polls = c.polls_make_room.ensures;
     stands = λ es legal. all_stand p l formed lays c.every_list_of_actors_stands.ensures es legal;

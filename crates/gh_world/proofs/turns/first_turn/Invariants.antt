@@ -6,5 +6,5 @@ abbrev pub invariant-loop-h : goal.invariant-loop-h
 invariant-loop-h l = record {
   behind : l.fn.g ≤ l.h;
   within : l.h ≤ length l.script.goroutines;
-  same : turns_from l.script l.round l.fn.g ≡ turns_from l.script l.round l.h;
+  same : turns_from l.script l.seat l.round l.fn.g ≡ turns_from l.script l.seat l.round l.h;
 }

@@ -3,6 +3,9 @@ use Rattle.gh_world.specs.Turns.{op_due}
 use Rattle.gh_world.proofs.Fitting.{due_room, due_sound, due_named, fit_begun, polled_begun}
 use Rattle.gh_world.proofs.world.World.begin_next.Goals as goal
 
+pub due-requires : goal.due-requires
+due-requires c = (0, c.self.invariant.turns.stands)
+
 pub begin-requires-clause-op : goal.begin-requires-clause-op
 begin-requires-clause-op c = due_sound _ _ c.self.invariant.base.script c.self.invariant.base.layout _ _ _ _ c.self.invariant.turns c.in-Some.op (sym c.due.ensures ∙ c.in-Some.is)
 

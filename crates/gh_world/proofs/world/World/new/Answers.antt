@@ -20,13 +20,14 @@ invariant_of-result c =
     subst (λ (s : Settings). IsLayoutOf s.arena s.globals s.procs s.workers (length p.goroutines) l) c.settings-settings.ensures counted in
     let reserved : total_of p ≤ vec_capacity c.in_ok-points.points = omega (arith, c.in_ok-points.ensures.capacity, c.total_of.ensures) in
     let empty : vec_len c.in_ok-points.points ≡ 0 = c.in_ok-points.ensures.len in
-    let single : l.procs ≡ 1 = omega (arith, laid.procs_are, c.is_well_formed.ensures.settings.procs.0, c.is_well_formed.ensures.settings.procs.1) in
+    let alone : p.settings.procs ≡ 1 = omega (arith, c.is_well_formed.ensures.settings.procs.0, c.is_well_formed.ensures.settings.procs.1) in
+    let single : l.procs ≡ 1 = laid.procs_are ∙ alone in
     let leads : c.in_ok-coord.coord ≡ coord.opening l (p.settings.procs + p.settings.workers) p.settings.gogc p.settings.minheap (most_cycles p) =
     c.in_ok-coord.ensures ∙ ap (λ (s : Settings). coord.opening l (s.procs + s.workers) s.gogc s.minheap c.most_cycles-cycles.result) c.settings-settings.ensures
     ∙ ap (λ (k : ℕ). coord.opening l (p.settings.procs + p.settings.workers) p.settings.gogc p.settings.minheap k) c.most_cycles-cycles.ensures.is in
     rw (c.new-mutator.ensures, c.shapes.ensures, c.opening-progress.ensures.is, c.in_ok-workers.ensures, leads, empty) (record {
       base = record { script = c.is_well_formed.ensures; layout = laid; one = single; long = c.in_ok-words.ensures.long };
-      turns = fit_opens p l c.opening-progress.result.next (vec_capacity c.in_ok-points.points) reserved c.opening-progress.ensures.come c.opening-progress.ensures.stands c.opening-progress.ensures.going;
+      turns = fit_opens p l c.opening-progress.result.next (vec_capacity c.in_ok-points.points) alone reserved c.opening-progress.ensures.come c.opening-progress.ensures.stands c.opening-progress.ensures.going;
       polled = polled_opens l c.opening-progress.result.next;
       others = others_open p l (p.settings.procs + p.settings.workers);
     })
