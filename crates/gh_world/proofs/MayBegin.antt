@@ -1,5 +1,5 @@
 -- What is due at a processor's turn may begin, whatever its own entries are.
-use Rattle.std.proofs.Common.{◌≡◌, ℕ, ◌+◌, ◌<◌, ◌≤◌, Bool, true, false, eqb, ◌||◌, List, [], ◌∷◌, ◌++◌, reverse, refl, sym, ◌∙◌, ap, subst, Some, arith}
+use Rattle.std.proofs.Common.{◌≡◌, ℕ, ◌+◌, ◌<◌, ◌≤◌, Bool, true, false, eqb, ◌||◌, List, ◌∷◌, ◌++◌, reverse, refl, sym, ◌∙◌, ap, subst, Some, arith}
 use Rattle.std.specs.Prelude.{not}
 use Rattle.gh_base.specs.declared.operation.Op.TheVariants as op
 use Rattle.gh_interp.specs.Working.{work_of}

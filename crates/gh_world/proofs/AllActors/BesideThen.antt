@@ -1,6 +1,5 @@
 -- What holds behind a step of a processor while a cycle is marked: what is known of the heap and of the cycle, with the processor as it is then.
-use Rattle.std.proofs.Common.{◌≡◌, ◌≢◌, ◌⊎◌, inl, inr, ℕ, ◌^◌, ◌<◌, ◌≤◌, ◌==◌, Bool, true, false, refl, sym, ap, subst, ◌∙◌, arith, List, ◌∷◌, Option, Some}
-use Rattle.gh_base.specs.declared.cell.Cell.TheVariants as cell
+use Rattle.std.proofs.Common.{◌≡◌, ◌≢◌, ◌⊎◌, inl, inr, ℕ, ◌^◌, ◌<◌, ◌==◌, Bool, true, false, refl, sym, ap, subst, ◌∙◌, arith, List, ◌∷◌, Option}
 use Rattle.gh_coord.specs.Handshake as leading
 use Rattle.gh_cycle.specs.Since.{HasGoneOn}
 use Rattle.gh_marks.specs.Moves.{Steps}

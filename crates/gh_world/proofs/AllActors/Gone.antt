@@ -3,7 +3,7 @@ use Rattle.std.proofs.Common.{◌≡◌, ℕ, ◌<◌, Bool, true, false, inl, i
 use Rattle.gh_base.specs.declared.cell.Cell.TheVariants as cell
 use Rattle.gh_world.specs.declared.handshake.Actor.TheVariants as actor
 use Rattle.gh_world.specs.Handshake as handshake
-use Rattle.gh_world.proofs.Vocabulary.{Actor, actors, Ask, asks, Awake, Begins, Entry, GONE, Gone, is_busy, is_busy_at, KeepsIt, Kind, Layout, Legal, Op, Pacing, Party, party_of, place_of, Processor, processor_at, processor_kind, Shape, Sound, SoundPlace, Stage, stage_of, StageGoes, started, state_of, takes, those, Words, words}
+use Rattle.gh_world.proofs.Vocabulary.{Actor, actors, Ask, asks, Awake, Begins, Entry, GONE, Gone, is_busy, is_busy_at, KeepsIt, Kind, Layout, Legal, Op, Pacing, Party, party_of, place_of, Processor, processor_at, processor_kind, Shape, Sound, SoundPlace, Stage, stage_of, StageGoes, started, state_of, takes, those, words}
 use Rattle.gh_world.proofs.AllActors.Known.{Known, ListsKnown}
 use Rattle.gh_world.proofs.AllActors.Resting.{runs_are}
 use Rattle.gh_world.proofs.CycleMarking.Seats.{run_started}

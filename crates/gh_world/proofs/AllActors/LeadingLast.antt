@@ -15,7 +15,7 @@ use Rattle.gh_world.specs.Actors.{BeginsCycle}
 use Rattle.gh_world.specs.Handshake.{Sound as ActorSound}
 use Rattle.gh_world.specs.HoldVocabulary.{IsCalm, marks_at}
 use Rattle.gh_world.specs.Numbers.{IsLiveCounted}
-use Rattle.gh_world.proofs.Vocabulary.{acks_of, acts, alloc_words, Arena, arena, Ask, birth_words, Close, Coordinating, CoordStage, CycleEnd, Done, effect, EndedSo, EndsAllMarked, EndsCycle, Entry, Ever, ever, Gone, Heap, is_last_task, IsEnding, IsInLimits, IsJustSwept, IsHeapOf, IsLed, IsMade, IsMarkedObject, IsOf, IsPlacedAt, IsQuiet, IsStartOf, IsStepIn, last_of, last_phase, Layout, Lead, Leads, LeavesTheReached, Legal, mark_words, mod_below, Name, new_stage_at, NewStage, Op, Pacing, page_words, part_of, party_of, place_of, Placed, placed, Polling, polls_at, PollStage, processor_at, processor_kind, Reach, ResumeStage, Row, row_bit, Shape, slot_row, Sound, Spans, stage_at, stage_of, started, Store, Task, those, view, Waiting, waiting, waits_at, WaitStage, Words, words}
+use Rattle.gh_world.proofs.Vocabulary.{acks_of, acts, alloc_words, Arena, arena, Ask, birth_words, Close, Coordinating, CoordStage, CycleEnd, Done, effect, EndedSo, EndsAllMarked, EndsCycle, Entry, Ever, ever, Gone, Heap, is_last_task, IsEnding, IsInLimits, IsJustSwept, IsHeapOf, IsLed, IsMade, IsMarkedObject, IsOf, IsPlacedAt, IsQuiet, IsStartOf, IsStepIn, last_of, last_phase, Layout, Lead, Leads, LeavesTheReached, Legal, mod_below, Name, new_stage_at, NewStage, Op, Pacing, page_words, part_of, party_of, place_of, Placed, placed, Polling, polls_at, PollStage, processor_at, processor_kind, Reach, ResumeStage, Row, row_bit, Shape, slot_row, Sound, Spans, stage_at, stage_of, started, Store, Task, those, view, Waiting, waiting, waits_at, WaitStage, Words, words}
 use Rattle.gh_world.proofs.AllActors.Known.{Known, ListsKnown}
 use Rattle.gh_world.proofs.AllActors.LeadingNames.{placed_there}
 use Rattle.gh_world.proofs.AllActors.LeadingNumbers.{ends_once, legal_start}

@@ -3,7 +3,7 @@ use Rattle.std.proofs.Common.{◌≡◌, inr, ℕ, Bool, refl, sym, ap, subst, �
 use Rattle.gh_coord.specs.Closing as close
 use Rattle.gh_coord.specs.Handshake as leading
 use Rattle.gh_world.specs.Actors.{BeginsCycle, IsTelling}
-use Rattle.gh_world.proofs.Vocabulary.{acks_of, alloc_words, Arena, arena, birth_words, Close, Coordinating, CoordStage, EndsAllMarked, EndsMarked, Entry, Ever, ever, HoldsAt, IsEnding, IsInLimits, IsLed, IsMade, IsMeant, IsStartOf, IsStepIn, Knows, Layout, Legal, MarkFacts, Op, Pacing, Placed, processor_kind, Reach, Shape, ShapesAreGood, stage_of, Tell, those, view, WasMarked, WasSo, Words}
+use Rattle.gh_world.proofs.Vocabulary.{acks_of, Arena, arena, Close, Coordinating, CoordStage, EndsAllMarked, EndsMarked, Entry, HoldsAt, IsEnding, IsInLimits, IsLed, IsMeant, IsStartOf, IsStepIn, Knows, Layout, Legal, MarkFacts, Op, Pacing, processor_kind, Shape, ShapesAreGood, stage_of, Tell, those, WasMarked, WasSo}
 use Rattle.gh_world.proofs.AllActors.Known.{Known, ListsKnown}
 use Rattle.gh_world.proofs.AllActors.LeadingEnds.{ends_marked}
 use Rattle.gh_world.proofs.AllActors.LeadingLast.{marked_were}

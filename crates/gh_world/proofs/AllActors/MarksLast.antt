@@ -11,7 +11,7 @@ use Rattle.gh_worker.specs.Handshake as working
 use Rattle.gh_worker.specs.Listing as worker
 use Rattle.gh_world.specs.declared.handshake.Actor.TheVariants as actor
 use Rattle.gh_world.specs.Handshake.{asks, Sound as SoundActor}
-use Rattle.gh_world.specs.ActorsHold.{bare, began, unmarked}
+use Rattle.gh_world.specs.ActorsHold.{began, unmarked}
 use Rattle.gh_world.proofs.Vocabulary.{acks_of, Actor, actors, actors_after, Arena, arena, AreWords, Ask, cell_of, Coordinating, Cycle, Entry, Ever, ever, Good, Heap, is_busy, IsInCycle, IsInLimits, IsKnown, IsLed, IsOf, IsToBegin, Layout, Legal, mark_words, Marking, MarkingGood, mod_below, nat_tests, Op, Pacing, Processor, processor_kind, Shape, Sound, started, those, uncounted, view, Went, Words, words}
 use Rattle.gh_world.proofs.AllActors.Aside as aside
 use Rattle.gh_world.proofs.AllActors.Aside.{IsBeside, IsOfMarking}

@@ -5,22 +5,19 @@ use Rattle.gh_base.specs.declared.cell.Cell.TheVariants as cell
 use Rattle.gh_base.specs.declared.operation.Op.TheVariants as op
 use Rattle.gh_mutator.specs.declared.task.Task.TheVariants as task
 use Rattle.gh_mutator.specs.Deeds.{meaning, pointed}
-use Rattle.gh_mutator.specs.Facts.{answered_at, Does, FactsAt, MayBegin}
-use Rattle.gh_world.specs.Handshake.{asks as asks_by}
+use Rattle.gh_mutator.specs.Facts.{answered_at, Does, FactsAt}
 use Rattle.gh_world.specs.HoldVocabulary.{answers_of, given_of, opening_words}
-use Rattle.gh_world.proofs.Vocabulary.{Act, acted, Actor, actors, acts, Answer, Answered, answered, answered_by, Arena, arena, Ask, asks, begins, by, cell_of, deeds, DeedsFit, DoesPoints, effect, END, ended_in, ends, Entry, Ever, ever, Fine, given_at, gives, Good, has_left_at, has_point, Heap, InRange, is_busy_at, is_last_task, IsAsItShould, IsBounded, IsHeapOf, IsInLimits, IsOf, IsSound, Kind, Layout, left as left_by, Legal, made_by, may_leave, may_of, moved, Op, op_at, option_to_list, Pacing, point_of, Processor, processor_at, processor_kind, Shape, ShapesAreGood, Stands, started, state_of, Steps, takes, Task, TellsScan, those, view, Words, words, ◌%◌}
-use Rattle.gh_world.proofs.AllActors.Beginning.{may-begin, or-true}
+use Rattle.gh_world.proofs.Vocabulary.{Act, acted, Actor, actors, acts, Answer, Answered, answered, answered_by, Arena, arena, Ask, asks, begins, by, cell_of, deeds, DeedsFit, DoesPoints, effect, END, ended_in, ends, Entry, Ever, ever, Fine, given_at, gives, Good, has_left_at, has_point, Heap, InRange, is_busy_at, is_last_task, IsAsItShould, IsBounded, IsHeapOf, IsInLimits, IsOf, IsSound, Kind, Layout, left as left_by, Legal, may_leave, may_of, moved, Op, op_at, option_to_list, Pacing, point_of, Processor, processor_at, processor_kind, Shape, ShapesAreGood, Stands, started, state_of, Steps, takes, Task, TellsScan, those, view, Words, words, ◌%◌}
+use Rattle.gh_world.proofs.AllActors.Beginning.{or-true}
 use Rattle.gh_world.proofs.AllActors.Endings.{acted_stays, acts_end, end_ends, ended_by, is_end, last_before, last_begun}
 use Rattle.gh_world.proofs.AllActors.Globals.{no_global}
 use Rattle.gh_world.proofs.AllActors.Known.{Known}
 use Rattle.gh_world.proofs.AllActors.OwnStep as step
 use Rattle.gh_world.proofs.AllActors.Moves.{moves_on, OwnSide}
-use Rattle.gh_world.proofs.AllActors.OwnEntries.{all_ended_at, began_end, or_cases, or_left, state_by}
-use Rattle.gh_world.proofs.AllActors.Ranging.{begins_so, bounded_then, busy_now, may_parts, unacted_begun}
+use Rattle.gh_world.proofs.AllActors.OwnEntries.{all_ended_at, began_end, or_cases, or_left}
+use Rattle.gh_world.proofs.AllActors.Ranging.{bounded_then, may_parts, unacted_begun}
 use Rattle.gh_world.proofs.AllActors.Refusals.{point_is}
-use Rattle.gh_world.proofs.AllActors.Resting.{runs_are}
 use Rattle.gh_world.proofs.AllActors.StackWords.{TellsStacks}
-use Rattle.gh_world.proofs.CycleMarking.Seats.{run_started}
 
 module _ (shapes : List Shape) (l : Layout) (pacing : Pacing) (counts : ℕ → ℕ) (good : ShapesAreGood shapes) (limits : IsInLimits l) (known : Known) where
   abbrev may : ℕ → List (Entry Op) → Op → Bool

@@ -1,24 +1,21 @@
 -- One entry more of a processor: what holds after every list holds then, if it does so between two cycles.
-use Rattle.std.proofs.Common.{◌≡◌, ℕ, ◌<◌, Bool, true, false, refl, sym, ap, subst, ◌∙◌, arith, inl, inr, List, ◌∷◌, Option, Some, None}
+use Rattle.std.proofs.Common.{◌≡◌, ℕ, ◌<◌, Bool, true, refl, sym, ap, subst, ◌∙◌, arith, List, ◌∷◌}
 use Rattle.gh_phase.specs.declared.view.RunPhase.TheVariants as run
 use Rattle.gh_coord.specs.declared.open.OpenStage.TheVariants as opening
 use Rattle.gh_coord.specs.declared.tell.TellStage.TheVariants as telling
 use Rattle.gh_coord.specs.Handshake as leading
 use Rattle.gh_coord.specs.Opening as opens_by
 use Rattle.gh_coord.specs.Telling as tells_by
-use Rattle.gh_world.specs.declared.handshake.Actor.TheVariants as actor
 use Rattle.gh_world.specs.Handshake as handshake
-use Rattle.gh_world.proofs.Vocabulary.{acks_of, Actor, actors, arena, Ask, asks, Awake, Begins, Check, Close, Coordinating, CoordStage, Count, Done, Entry, Gone, Holds, HoldsAt, is_busy, is_busy_at, IsLed, IsMeant, IsQuiet, IsTelling, KeepsIt, Kind, Knows, last_of, last_phase, Layout, Lead, Leads, LeavesTheReached, Legal, LoadAck, LoadWant, MarkFacts, MarkOn, Op, Open, OpenStage, Pacing, PackedWordsAreReadBack, Party, party_of, place_of, Processor, processor_at, processor_kind, RunPhase, Shape, ShapesAreGood, Sound, SoundPlace, Stage, stage_of, StageGoes, started, state_of, Stop, StopAgain, Stopped, Sweep, takes, Tell, TellStage, those, WasMarked, Watch, Words, words}
+use Rattle.gh_world.proofs.Vocabulary.{acks_of, Actor, actors, arena, Check, Close, Coordinating, CoordStage, Count, Done, Entry, Holds, HoldsAt, IsLed, IsMeant, IsQuiet, IsTelling, KeepsIt, Kind, Knows, last_of, last_phase, Layout, Lead, Leads, LeavesTheReached, Legal, LoadAck, LoadWant, MarkFacts, MarkOn, Op, Open, OpenStage, Pacing, PackedWordsAreReadBack, party_of, place_of, Processor, processor_kind, RunPhase, Shape, ShapesAreGood, Sound, stage_of, Stop, StopAgain, Stopped, Sweep, Tell, TellStage, those, WasMarked, Watch, Words, words}
 use Rattle.gh_world.proofs.AllActors.Gone.{gone_rests}
 use Rattle.gh_world.proofs.AllActors.Known.{Known, ListsKnown}
 use Rattle.gh_world.proofs.AllActors.Others.{was_by_others}
 use Rattle.gh_world.proofs.AllActors.Quieting.{IsCalmStage}
-use Rattle.gh_world.proofs.AllActors.Resting.{runs_are}
 use Rattle.gh_world.proofs.AllActors.Starts.{counted_on, whole}
 use Rattle.gh_world.proofs.AllActors.Still.{IsStill, is_still}
 use Rattle.gh_world.proofs.AllActors.StillHolds.{holds_still}
 use Rattle.gh_world.proofs.AllActors.Was.{heap_refuses, RefusesRightly, still_refuses}
-use Rattle.gh_world.proofs.CycleMarking.Seats.{run_started}
 
 -- while a cycle is opened, and told, the world is stopped
 open_stopped : (p : OpenStage) → opens_by.is_busy p ≡ true → leading.open_post p ≡ Stopped run.Off

@@ -6,7 +6,7 @@ use Rattle.gh_base.specs.declared.pack.TheConstants.{END}
 use Rattle.gh_base.specs.Steps.{effect}
 use Rattle.gh_cycle.specs.Allocating.{GoesOn, SweepStays}
 use Rattle.gh_heap.specs.Moves.{Quiet}
-use Rattle.gh_world.specs.ActorsHold.{bare, EndedSo, IsInCycle, IsJustSwept, IsQuiet, IsReady, processor_at, uncounted, unmarked}
+use Rattle.gh_world.specs.ActorsHold.{EndedSo, IsInCycle, IsJustSwept, IsQuiet, IsReady, processor_at, uncounted, unmarked}
 use Rattle.gh_world.specs.HoldVocabulary.{alloc_words, arena, Arena, BeginsCycle, birth_words, Coordinating, CountsAreExact, CycleEnd, EndsCycle, Entry, Heap, IsLed, Layout, Legal, MarksNothing, Name, Op, Pacing, page_words, Placed, Processor, Shape, tally_of, Words, words}
 use Rattle.gh_world.specs.Those.{those}
 use Rattle.gh_world.proofs.AllActors.Aside.{beside_of, good_goes_on, heap_goes_on, IsAside, TellsNothing, then}

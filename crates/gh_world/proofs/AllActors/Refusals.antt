@@ -20,7 +20,7 @@ use Rattle.gh_mutator.specs.Store as store
 use Rattle.gh_mutator.specs.Wait as wait
 use Rattle.gh_world.specs.HoldVocabulary.{View}
 use Rattle.gh_world.specs.Processors.{IsAnothers, NoRoomFor}
-use Rattle.gh_world.proofs.Vocabulary.{Act, acting, acts_at, Arena, begins, eqb-false, eqb-true, Good, has_left_at, has_point, Head, Heap, is_some, IsFullFor, Layout, ltb-false, ltb-true, new_polls, NewStage, only_polls, Op, page_of, Place, point_of, Processor, processor_kind, register_of, Right, Search, Shape, SpanHead, started, Task, view, Wait}
+use Rattle.gh_world.proofs.Vocabulary.{Act, acting, acts_at, Arena, begins, eqb-false, eqb-true, Good, has_left_at, has_point, Head, Heap, is_some, IsFullFor, Layout, ltb-false, ltb-true, NewStage, Op, page_of, Place, point_of, Processor, processor_kind, register_of, Right, Search, Shape, SpanHead, started, Task, view, Wait}
 
 -- a slot is searched for once more, behind the wait
 abbrev Searched : NewStage → Type 0

@@ -1,9 +1,8 @@
 -- Where an entry of a processor says `full`, there was no room: a search that finds none does so by its rights, behind its wait; polls, waits and leaves say nothing of it, and in a stopped world nobody does.
 use Rattle.std.proofs.Common.{◌≡◌, ℕ, ◌<◌, Bool, true, sym, ap, subst, ◌∙◌, List, ◌∷◌, Option, Some, None}
-use Rattle.gh_coord.specs.Handshake as leading
 use Rattle.gh_world.specs.declared.handshake.Actor.TheVariants as actor
 use Rattle.gh_world.specs.Handshake.{asks as asks_by}
-use Rattle.gh_world.proofs.Vocabulary.{Act, Actor, actors, acts, Arena, arena, Ask, asks, cell_of, Coordinating, deeds, DoesPoints, done_at, Entry, Good, Heap, is_busy, is_busy_at, IsFullFor, IsHeapOf, IsLed, Kind, Layout, Legal, Op, Pacing, Processor, processor_at, processor_kind, Shape, ShapesAreGood, started, state_of, Steps, those, view, Words, words}
+use Rattle.gh_world.proofs.Vocabulary.{Act, Actor, actors, acts, Arena, arena, Ask, asks, cell_of, deeds, DoesPoints, done_at, Entry, Good, Heap, is_busy, is_busy_at, IsFullFor, IsHeapOf, Kind, Layout, Legal, Op, Pacing, Processor, processor_at, processor_kind, Shape, ShapesAreGood, started, state_of, Steps, those, view, Words, words}
 use Rattle.gh_world.proofs.AllActors.Known.{Known}
 use Rattle.gh_world.proofs.AllActors.Refusals.{full_for, full_searches, goes_on, IsSearchedAgain, point_is}
 use Rattle.gh_world.proofs.AllActors.Resting.{runs_are}

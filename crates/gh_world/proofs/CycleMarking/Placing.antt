@@ -1,5 +1,5 @@
 -- A worker fills no slot, at whatever stage it is.
-use Rattle.std.proofs.Common.{◌≡◌, ◌≢◌, ℕ, Option, Some, None, refl, subst, sym, ◌∙◌}
+use Rattle.std.proofs.Common.{◌≡◌, ◌≢◌, ℕ, Option, Some, None, refl, sym, ◌∙◌}
 use Rattle.gh_marks.specs.Colours.{Placing}
 use Rattle.gh_scan.specs.Facts as scan
 use Rattle.gh_scan.specs.declared.scan.ScanStage.{ScanStage}
