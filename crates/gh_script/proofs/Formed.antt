@@ -46,7 +46,7 @@ AreWithin-settings_in : (given : Given) → ((x : Setting) (n : ℕ) → given_a
 AreWithin-settings_in given h =
     let arena = within given.arena 256 16 1024 (h Arena) (omega arith) (omega arith) in
     record {
-      procs = within given.procs 1 1 1 (h Procs) (omega arith) (omega arith);
+      procs = within given.procs 1 1 8 (h Procs) (omega arith) (omega arith);
       workers = within given.workers 1 1 4 (h Workers) (omega arith) (omega arith);
       arena = arena;
       globals = within given.globals 1 1 256 (h Globals) (omega arith) (omega arith);

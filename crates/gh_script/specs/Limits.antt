@@ -1,6 +1,6 @@
 -- How much a script may have.
 use Rattle.std.specs.Prelude.{ℕ}
-use Rattle.gh_base.specs.declared.limits.TheConstants.{LEAST_PAGES, MOST_GLOBALS, MOST_GOROUTINES, MOST_PAGES, MOST_STATEMENTS, REGISTERS}
+use Rattle.gh_base.specs.declared.limits.TheConstants.{LEAST_PAGES, MOST_GLOBALS, MOST_GOROUTINES, MOST_PAGES, MOST_PROCS, MOST_STATEMENTS, MOST_WORKERS, REGISTERS}
 use Rattle.gh_script.specs.declared.key.Setting.{Setting}
 use Rattle.gh_script.specs.declared.key.Setting.TheVariants as settings
 
@@ -38,10 +38,9 @@ least settings.Globals = 1
 least settings.Gogc = 0
 least settings.Minheap = 0
 
--- one processor, until several are taken
 abbrev pub most : Setting → ℕ
-most settings.Procs = 1
-most settings.Workers = 4
+most settings.Procs = MOST_PROCS
+most settings.Workers = MOST_WORKERS
 most settings.Arena = MOST_PAGES
 most settings.Globals = MOST_GLOBALS
 most settings.Gogc = 1000

@@ -26,7 +26,7 @@ use crate::line::Sentence;
 use crate::shape_text::{are_counts, are_letters, fits_limits};
 use crate::word::{is_name, number, register};
 use gh_base::limits;
-use gh_base::limits::{LEAST_PAGES, MOST_GLOBALS, MOST_PAGES};
+use gh_base::limits::{LEAST_PAGES, MOST_GLOBALS, MOST_PAGES, MOST_PROCS, MOST_WORKERS};
 
 /// The most types of a script.
 const MOST_TYPES: usize = 64;
@@ -138,8 +138,8 @@ fn most(setting: Setting) -> u64
     ensures { result ≡ most setting }
 {
     match setting {
-        Setting::Procs => 1,
-        Setting::Workers => 4,
+        Setting::Procs => u64::from(MOST_PROCS),
+        Setting::Workers => u64::from(MOST_WORKERS),
         Setting::Arena => u64::from(MOST_PAGES),
         Setting::Globals => u64::from(MOST_GLOBALS),
         Setting::Gogc => 1000,

@@ -9,8 +9,6 @@
 //! [`script_form`] says the same without the reading line by line: which lines a script has, and
 //! what they say (specs/Form.antt).
 //! The heap has no use of the text once it is parsed, so a [`Script`] keeps only what was said.
-//!
-//! More than one processor is refused for now.
 #![tactic(auto)]
 
 mod cause;

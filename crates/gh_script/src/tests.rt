@@ -104,7 +104,7 @@ fn bad_scripts_have_their_line_and_cause(rt: HostRuntime) -> Result<(), Fail> {
             10,
             Why::Nesting,
         ),
-        ("procs 2", 1, Why::Limit),
+        ("procs 9", 1, Why::Limit),
         ("workers 5", 1, Why::Limit),
         ("workers 0", 1, Why::Limit),
         ("\r||# one|\t # two|procs 1\r|procs\t1", 6, Why::Twice),
@@ -122,11 +122,11 @@ fn bad_scripts_have_their_line_and_cause(rt: HostRuntime) -> Result<(), Fail> {
 #[test]
 fn a_script_says_its_settings_types_and_statements(rt: HostRuntime) -> Result<(), Fail> {
     let row =
-        "  type wide p*2n*63p\r||# all|gogc 007|globals 3|workers 4|arena 16|type t n|go a1\t|\tnew r15 t\r|load r0 r1 65535|store r2 3 r4|gload r5 2|gstore 0 r6|int r7 18446744073709551615|move r8 r9|nil r10|gc|end";
+        "  type wide p*2n*63p\r||# all|gogc 007|globals 3|procs 8|workers 4|arena 16|type t n|go a1\t|\tnew r15 t\r|load r0 r1 65535|store r2 3 r4|gload r5 2|gstore 0 r6|int r7 18446744073709551615|move r8 r9|nil r10|gc|end";
     let text = text_of(rt.alloc(), row)?;
     let script = parse(rt.alloc(), &text).ok().ok_or("it is a script")?;
     let settings = Settings {
-        procs: 1,
+        procs: 8,
         workers: 4,
         arena: 16,
         globals: 3,
