@@ -1,8 +1,10 @@
 -- What a world keeps, whichever list it is the state of: once an operation is begun, after a step, and as it opens.
-use Rattle.std.proofs.Common.{◌≡◌, ℕ, ◌+◌, ◌^◌, ◌<◌, ◌≤◌, Bool, true, false, cond, eqb, List, length, replicate, get_or, length-set, refl, sym, ◌∙◌, ap, subst, Option, Some, None, arith}
+use Rattle.std.proofs.Common.{◌≡◌, ℕ, ◌+◌, ◌^◌, ◌<◌, ◌≤◌, Bool, true, false, cond, List, length, replicate, get_or, length-set, refl, sym, ◌∙◌, ap, subst, Option, Some, None, arith}
+use Rattle.std.specs.Prelude.{sum_by}
+use Rattle.std.proofs.lemmas.List.Sums.{sum_by-set}
 use Rattle.gh_mutator.specs.PollRoom.{MayStore, PollsMakeRoom}
 use Rattle.gh_mutator.specs.Sound.{has_room, SoundOp}
-use Rattle.gh_world.specs.Turns.{is_poll_due, is_run_due, Stands}
+use Rattle.gh_world.specs.Turns.{is_poll_due, is_run_due, Stands, total_by}
 use Rattle.gh_world.specs.declared.turns.Next.TheVariants as next
 use Rattle.gh_base.specs.declared.operation.Op.TheVariants as op
 use Rattle.gh_base.specs.declared.cell.Req.{Req}
@@ -10,11 +12,13 @@ use Rattle.gh_coord.specs.Ends.{room_stays, stays as coord_stays}
 use Rattle.gh_coord.specs.Listing as coord
 use Rattle.gh_worker.specs.Ends.{stays as worker_stays}
 use Rattle.gh_worker.specs.Listing as worker
-use Rattle.gh_world.specs.World.{FitOthers, FitTurns, FitWords, LaysOut, op_at_turn, counts_after, last_after, begun_as, done_or, found_by, GoesOn, IsStepOfWorker, Polled, State, workers_at}
+use Rattle.gh_world.specs.declared.runner.Runner.{Runner}
+use Rattle.gh_world.specs.World.{answered_by, AreOpening, Begins, FitOthers, FitRunners, FitTurns, FitWords, IsOpening, LaysOut, op_at_turn, counts_after, last_after, begun_as, done_or, found_by, IsStepOfWorker, Polled, State, stated_after, stated_by, workers_at}
 use Rattle.gh_world.specs.declared.event.Event.TheVariants as event
-use Rattle.gh_world.proofs.Vocabulary.{acts, Answer, begins_at, begins, bit, cell_of, changed, eqb-false, eqb-true, Event, Follows, get_or-map-range_with_len, get_or-set_other, get_or-set_same, get_or_from_slice_get, gives_at, GoesOnUntilDone, goroutine_at, has_left_at, has_names, InRange, is_busy_at, is_over, is_point, is_some, is_statement, is_unacted, later, Layout, length-map-range_with_len, most_cycles, Mutating, Next, Op, op_at, op_due, opening_processor, opening_progress, Processor, Program, Progress, progress_after, read_after_set, read_replicate, request, set, Shape, slice_get, slice_get-get_or, slice_get_within, statement_answer, statements_among, takes, target, to_come, total_of, turns_of, WellFormed}
+use Rattle.gh_world.proofs.Vocabulary.{acts, Answer, begins_at, begins, bit, cell_of, changed, Event, Follows, get_or-map-range_with_len, get_or_from_slice_get, gives_at, GoesOnUntilDone, goroutine_at, has_left_at, has_names, InRange, is_busy_at, is_over, is_point, is_some, is_statement, is_unacted, later, Layout, length-map-range_with_len, most_cycles, Mutating, Next, Op, op_at, op_due, opening_processor, opening_progress, Processor, Program, Progress, progress_after, read_after_set, read_replicate, request, set, Shape, slice_get, slice_get_within, statement_answer, statements_among, takes, target, to_come, total_of, turns_of, WellFormed}
 use Rattle.gh_world.proofs.StepFacts.{step_facts, begin_facts, StepFacts, BeginFacts, begins_busy}
-use Rattle.gh_world.proofs.Turning.{opens_at, total_by-single, turns_say}
+use Rattle.gh_world.proofs.Turning.{opens_at, total_by-le, totals-le, turns_say}
+use Rattle.gh_world.proofs.Runners.{each_set, sum_at, sum_each}
 use Rattle.gh_mutator.specs.Mutating as mutating
 use Rattle.gh_mutator.specs.Ends.{stays}
 use Rattle.gh_world.proofs.Due.{due_goroutine, due_runs, due_statement, few_statements, has_due, has_name_at, idle_not_leaving}
@@ -42,88 +46,6 @@ pub marks_more : (marks : ℕ) (a : Option Answer) → marks + 1 < 2 ^ 32 → mu
 marks_more marks None few = omega arith
 marks_more marks (Some a) few = omega arith
 
-module _ (p : Program) (l : Layout) (script : WellFormed p) (layout : LaysOut p l) (m : Mutating) (t : Progress) (points room : ℕ) (f : FitTurns p l m t points room) where
-  -- what is due is begun
-  pub begun_busy : (o : Op) → op_due p t.next ≡ Some o → is_busy_at (begins_at m.shapes m.processor o) ≡ true
-  begun_busy o due = begins_busy m.shapes m.processor l.goroutines l.globals (length p.shapes) o (due_runs p l script layout 0 t.next o f.stands due).ranged
-
-  stated_few : t.stated ≤ 200000
-  stated_few = omega (arith, f.all, few_statements p script)
-
-  pub marks_few : m.marks + 1 < 2 ^ 32
-  marks_few = omega (arith, f.marked, stated_few)
-
-  pub fit_begun : (o : Op) (new : Next) → op_due p t.next ≡ Some o → Follows p 0 t.next o new → FitTurns p l (mutating.begins m o) (progress_after t (Some o) new) points room
-  fit_begun o new due follows =
-      let b : BeginFacts o (begins_at m.shapes m.processor o) = begin_facts m.shapes m.processor o (begun_busy o due) in
-      let unacted : is_unacted (op_at (begins_at m.shapes m.processor o)) ≡ is_statement o = ap is_unacted b.is in
-      let come : statements_among (to_come p 0 t.next) ≡ bit (is_statement o) + statements_among (to_come p 0 new) = ap statements_among follows.come in
-      record {
-        shapes = f.shapes;
-        laid = begun_laid o;
-        made = λ g. omega (arith, f.made g, b.made);
-        stands = follows.stands;
-        all = omega (arith, f.all, come);
-        columns = counts_long t o f.columns;
-        few_begun = counts_few t o f.few_begun;
-        last = last_few t o f.last (due_goroutine p 0 t.next o script f.stands due);
-        leaves = b.leaves ∙ sym follows.leaves;
-        marked = rw b.serves (omega (arith, f.marked));
-        pointed = rw unacted (omega (arith, f.pointed));
-        reserved = f.reserved;
-      } where
-        begun_laid : (o : Op) → (mutating.begins m o).processor.poll.layout ≡ l
-        begun_laid op.Poll = f.laid
-        begun_laid _ = f.laid
-
-  pub fit_stepped : (found : ℕ) → is_busy_at m.processor.task ≡ true → FitTurns p l (mutating.goes m found) t (points + bit (is_point (acts m.processor found))) room
-  fit_stepped found busy =
-      let s : StepFacts m.processor m.processor.task (takes m.shapes m.processor found) (acts m.processor found) (gives_at m.processor m.processor.task found) = step_facts m.shapes m.processor m.processor.task found busy in
-      record {
-        shapes = f.shapes;
-        laid = stays m found ∙ f.laid;
-        made = λ g. omega (arith, f.made g, s.counted g);
-        stands = f.stands;
-        all = f.all;
-        columns = f.columns;
-        few_begun = f.few_begun;
-        last = f.last;
-        leaves = s.leaves ∙ f.leaves;
-        marked = omega (arith, s.answered, f.marked, marks_more m.marks (statement_answer m.processor found) marks_few);
-        pointed = omega (arith, s.once, f.pointed);
-        reserved = f.reserved;
-      }
-
-  pub point_room : (found : ℕ) (b : Bool) → is_busy_at m.processor.task ≡ true → b ≡ is_point (acts m.processor found) → b ≡ true → points < room
-  point_room found b busy is set =
-      let s : StepFacts m.processor m.processor.task (takes m.shapes m.processor found) (acts m.processor found) (gives_at m.processor m.processor.task found) = step_facts m.shapes m.processor m.processor.task found busy in
-      let one : bit (is_point (acts m.processor found)) ≡ 1 = ap bit (sym is ∙ set) in
-      omega (arith, s.once, f.pointed, f.all, f.reserved, one)
-
-  -- ---- what the processor is asked to begin
-
-  pub due_sound : (o : Op) → op_due p t.next ≡ Some o → SoundOp m.shapes m.processor.poll.layout o
-  due_sound o due =
-      subst (λ (shapes : List Shape). SoundOp shapes m.processor.poll.layout o) (sym f.shapes) (subst (λ (k : Layout). SoundOp p.shapes k o) (sym f.laid) (due_runs p l script layout 0 t.next o f.stands due).sound)
-
-  pub due_named : (o : Op) → op_due p t.next ≡ Some o → has_names m.processor o ≡ true
-  due_named o due = has_name_at m.processor t.stated o f.made (λ sure. omega (arith, due_statement p 0 t.next o due sure, f.all, few_statements p script))
-
-  -- what a step begins with
-  pub record Ready (n : Mutating) (later : Progress) : Type 0 where
-    pub fit : FitTurns p l n later points room
-    pub busy : is_busy_at n.processor.task ≡ true
-
-  pub ready : (b : Option Op) (new : Next) → has_left_at m.processor.task ≡ false → b ≡ op_at_turn p (is_busy_at m.processor.task) t.next → GoesOn p t.next b new → Ready (begun_as m b) (progress_after t b new)
-  ready b new going is goes = go (is_busy_at m.processor.task) refl b is goes where
-    go : (c : Bool) → is_busy_at m.processor.task ≡ c → (b : Option Op) → b ≡ op_at_turn p c t.next → GoesOn p t.next b new → Ready (begun_as m b) (progress_after t b new)
-    go true busy None e same = record { fit = subst (λ (x : Next). FitTurns p l m (progress_after t None x) points room) (sym same) f; busy = busy }
-    go true busy (Some o) e follows = absurd cc
-    go false idle (Some o) e follows = record { fit = fit_begun o new (sym e) follows; busy = begun_busy o (sym e) }
-    go false idle None e same = absurd (never (has_due p t.next (sym f.leaves ∙ idle_not_leaving m.processor.task idle going))) where
-      never : (o : Op) × (op_due p t.next ≡ Some o) → ⊥
-      never w = let none : None ≡ Some w.0 = e ∙ w.1 in cc
-
 -- ---- the poll before a statement
 
 -- there is room for what is due
@@ -150,17 +72,158 @@ polled_stepped k shapes m (next.Poll r g) found polled = tt
 polled_stepped k shapes m next.Leave found polled = tt
 polled_stepped k shapes m next.Over found polled = tt
 
--- where nothing is begun yet marking is off, as the processor knows
-pub polled_opens : (l : Layout) (t : Next) → Polled t (opening_processor l 0)
-polled_opens l (next.Run r g) = refl
-polled_opens l (next.Poll r g) = tt
-polled_opens l next.Leave = tt
-polled_opens l next.Over = tt
+-- ---- one processor
 
-pub fit_opens : (p : Program) (l : Layout) (first : Next) (room : ℕ) → p.settings.procs ≡ 1 → total_of p ≤ room → to_come p 0 first ≡ later p 0 0 0 → Stands p 0 first → is_over first ≡ false → FitTurns p l (mutating.opening l 0 p.shapes) (opening_progress first) 0 room
-fit_opens p l first room single reserved come stands over =
-    let turns : to_come p 0 first ≡ turns_of p 0 = come ∙ sym (opens_at p 0) in
-    let all : statements_among (to_come p 0 first) ≡ total_of p = ap statements_among turns ∙ turns_say p 0 ∙ total_by-single p single in
+module _ (p : Program) (l : Layout) (script : WellFormed p) (layout : LaysOut p l) (a : ℕ) (m : Mutating) (t : Progress) (f : FitTurns p l a m t) where
+  -- what is due is begun
+  pub begun_busy : (o : Op) → op_due p t.next ≡ Some o → is_busy_at (begins_at m.shapes m.processor o) ≡ true
+  begun_busy o due = begins_busy m.shapes m.processor l.goroutines l.globals (length p.shapes) o (due_runs p l script layout a t.next o f.stands due).ranged
+
+  pub stated_few : t.stated ≤ 200000
+  stated_few = omega (arith, f.all, total_by-le p a, few_statements p script)
+
+  pub marks_few : m.marks + 1 < 2 ^ 32
+  marks_few = omega (arith, f.marked, stated_few)
+
+  pub fit_begun : PollsMakeRoom → (o : Op) (new : Next) → op_due p t.next ≡ Some o → is_run_due new ≡ is_poll_due t.next → Follows p a t.next o new → FitTurns p l a (mutating.begins m o) (progress_after t (Some o) new)
+  fit_begun k o new due behind follows =
+      let b : BeginFacts o (begins_at m.shapes m.processor o) = begin_facts m.shapes m.processor o (begun_busy o due) in
+      let come : statements_among (to_come p a t.next) ≡ bit (is_statement o) + statements_among (to_come p a new) = ap statements_among follows.come in
+      record {
+        shapes = f.shapes;
+        laid = begun_laid o;
+        made = λ g. omega (arith, f.made g, b.made);
+        stands = follows.stands;
+        all = omega (arith, f.all, come);
+        columns = counts_long t o f.columns;
+        few_begun = counts_few t o f.few_begun;
+        last = last_few t o f.last (due_goroutine p a t.next o script f.stands due);
+        leaves = b.leaves ∙ sym follows.leaves;
+        marked = rw b.serves (omega (arith, f.marked));
+        polled = polled_begun k p m.shapes m.processor t.next new o due behind;
+      } where
+        begun_laid : (o : Op) → (mutating.begins m o).processor.poll.layout ≡ l
+        begun_laid op.Poll = f.laid
+        begun_laid _ = f.laid
+
+  pub fit_stepped : PollsMakeRoom → (found : ℕ) → is_busy_at m.processor.task ≡ true → FitTurns p l a (mutating.goes m found) t
+  fit_stepped k found busy =
+      let s : StepFacts m.processor m.processor.task (takes m.shapes m.processor found) (acts m.processor found) (gives_at m.processor m.processor.task found) = step_facts m.shapes m.processor m.processor.task found busy in
+      record {
+        shapes = f.shapes;
+        laid = stays m found ∙ f.laid;
+        made = λ g. omega (arith, f.made g, s.counted g);
+        stands = f.stands;
+        all = f.all;
+        columns = f.columns;
+        few_begun = f.few_begun;
+        last = f.last;
+        leaves = s.leaves ∙ f.leaves;
+        marked = omega (arith, s.answered, f.marked, marks_more m.marks (statement_answer m.processor found) marks_few);
+        polled = polled_stepped k m.shapes m.processor t.next found f.polled;
+      }
+
+  -- ---- what the processor is asked to begin
+
+  pub due_sound : (o : Op) → op_due p t.next ≡ Some o → SoundOp m.shapes m.processor.poll.layout o
+  due_sound o due =
+      subst (λ (shapes : List Shape). SoundOp shapes m.processor.poll.layout o) (sym f.shapes) (subst (λ (k : Layout). SoundOp p.shapes k o) (sym f.laid) (due_runs p l script layout a t.next o f.stands due).sound)
+
+  pub due_named : (o : Op) → op_due p t.next ≡ Some o → has_names m.processor o ≡ true
+  due_named o due = has_name_at m.processor t.stated o f.made (λ sure. omega (arith, due_statement p a t.next o due sure, f.all, total_by-le p a, few_statements p script))
+
+  -- where the processor has not left something is due
+  pub never_idle : has_left_at m.processor.task ≡ false → is_busy_at m.processor.task ≡ false → op_due p t.next ≡ None → ⊥
+  never_idle going idle none = never (has_due p t.next (sym f.leaves ∙ idle_not_leaving m.processor.task idle going)) where
+    never : (o : Op) × (op_due p t.next ≡ Some o) → ⊥
+    never w = let no : None ≡ Some w.0 = sym none ∙ w.1 in cc
+
+  -- and so an operation is begun
+  pub busy_begun : (b : Option Op) → has_left_at m.processor.task ≡ false → b ≡ op_at_turn p (is_busy_at m.processor.task) t.next → is_busy_at (begun_as m b).processor.task ≡ true
+  busy_begun b going is = go (is_busy_at m.processor.task) refl b is where
+    go : (c : Bool) → is_busy_at m.processor.task ≡ c → (b : Option Op) → b ≡ op_at_turn p c t.next → is_busy_at (begun_as m b).processor.task ≡ true
+    go true busy None e = busy
+    go true busy (Some o) e = absurd cc
+    go false idle (Some o) e = begun_busy o (sym e)
+    go false idle None e = absurd (never_idle going idle (sym e))
+
+  -- ---- the points
+
+  abbrev pub owes : Mutating → ℕ
+  owes n = bit (is_unacted (op_at n.processor.task))
+
+  -- a statement that begins has its point to come
+  pub owes_begun : (b : Option Op) → b ≡ op_at_turn p (is_busy_at m.processor.task) t.next → owes (begun_as m b) + t.stated ≤ owes m + stated_after t b
+  owes_begun None is = omega arith
+  owes_begun (Some o) is = go (is_busy_at m.processor.task) refl is where
+    go : (c : Bool) → is_busy_at m.processor.task ≡ c → Some o ≡ op_at_turn p c t.next → owes (begun_as m (Some o)) + t.stated ≤ owes m + stated_after t (Some o)
+    go true busy e = absurd cc
+    go false idle e =
+        let b : BeginFacts o (begins_at m.shapes m.processor o) = begin_facts m.shapes m.processor o (begun_busy o (sym e)) in
+        let unacted : is_unacted (op_at (begins_at m.shapes m.processor o)) ≡ is_statement o = ap is_unacted b.is in
+        let once : bit (is_unacted (op_at (begins_at m.shapes m.processor o))) ≡ bit (is_statement o) = ap bit unacted in
+        omega (arith, once)
+
+-- and it comes once
+pub owes_stepped : (m : Mutating) (found : ℕ) → is_busy_at m.processor.task ≡ true → bit (is_unacted (op_at m.processor.task)) ≡ bit (is_unacted (op_at (mutating.goes m found).processor.task)) + bit (is_point (acts m.processor found))
+owes_stepped m found busy = (step_facts m.shapes m.processor m.processor.task found busy).once
+
+-- ---- all processors
+
+module _ (p : Program) (l : Layout) (runners : List Runner) (points room : ℕ) (f : FitRunners p l runners points room) where
+  sum_few : (h : Runner → ℕ) → ((a : ℕ) (x : Runner) → FitTurns p l a x.mutator x.progress → h x ≤ x.progress.stated) → sum_by h runners ≤ total_of p
+  sum_few h le =
+      let each = sum_at h (total_by p) runners 0 (λ a x is. let g = f.each a x is in let one = le a x g in let seat : 0 + a ≡ a = omega arith in let same : total_by p (0 + a) ≡ total_by p a = ap (total_by p) seat in omega (arith, one, g.all, same)) in
+      let all = totals-le p (length runners) in
+      omega (arith, each, all)
+
+  pub stated_all : stated_by runners ≤ total_of p
+  stated_all = sum_few (λ (x : Runner). x.progress.stated) (λ a x g. omega arith)
+
+  pub answered_all : answered_by runners ≤ total_of p
+  answered_all = sum_few (λ (x : Runner). x.mutator.marks) (λ a x g. omega (arith, g.marked))
+
+  module _ (a : ℕ) (x y : Runner) (is : slice_get runners a ≡ Some x) (fits : FitTurns p l a y.mutator y.progress) where
+    changed_sum : (h : Runner → ℕ) → sum_by h (set runners a y) + h x ≡ sum_by h runners + h y
+    changed_sum h = ap (λ (z : Runner). sum_by h (set runners a y) + h z) (sym (get_or_from_slice_get runners a x x is)) ∙ sum_by-set h runners a y x (slice_get_within runners a x is)
+
+    -- a step of one of them, by which so many statements have their points
+    pub fit_run : (count : ℕ) → count + bit (is_unacted (op_at y.mutator.processor.task)) + x.progress.stated ≤ bit (is_unacted (op_at x.mutator.processor.task)) + y.progress.stated → FitRunners p l (set runners a y) (points + count) room
+    fit_run count owed = record {
+      many = simp length-set f.many;
+      each = each_set (λ (b : ℕ) (z : Runner). FitTurns p l b z.mutator z.progress) runners a x y is fits (λ b z apart e. f.each b z e);
+      pointed =
+          let unacted = changed_sum (λ (z : Runner). bit (is_unacted (op_at z.mutator.processor.task))) in
+          let stated = changed_sum (λ (z : Runner). z.progress.stated) in
+          omega (arith, unacted, stated, owed, f.pointed);
+      reserved = f.reserved;
+    }
+
+-- a step of one of them on what it has begun
+module _ (polls : PollsMakeRoom) (p : Program) (l : Layout) (script : WellFormed p) (layout : LaysOut p l) (runners : List Runner) (points room : ℕ) (f : FitRunners p l runners points room) (a : ℕ) (x y : Runner) (is : slice_get runners a ≡ Some x) (begins : Begins p a x y) (fits : FitTurns p l a y.mutator y.progress) (busy : is_busy_at y.mutator.processor.task ≡ true) (found : ℕ) where
+  owed : bit (is_point (acts y.mutator.processor found)) + bit (is_unacted (op_at (mutating.goes y.mutator found).processor.task)) + x.progress.stated ≤ bit (is_unacted (op_at x.mutator.processor.task)) + y.progress.stated
+  owed =
+      let begun = owes_begun p l script layout a x.mutator x.progress (f.each a x is) begins.o begins.is in
+      let mutator : bit (is_unacted (op_at y.mutator.processor.task)) ≡ bit (is_unacted (op_at (begun_as x.mutator begins.o).processor.task)) = ap (λ (m : Mutating). bit (is_unacted (op_at m.processor.task))) begins.mutator in
+      let stated : y.progress.stated ≡ stated_after x.progress begins.o = ap (λ (t : Progress). t.stated) begins.progress in
+      let once = owes_stepped y.mutator found busy in
+      omega (arith, begun, mutator, stated, once)
+
+  pub ran : FitRunners p l (set runners a (record { mutator = mutating.goes y.mutator found; progress = y.progress })) (points + bit (is_point (acts y.mutator.processor found))) room
+  ran = fit_run p l runners points room f a x (record { mutator = mutating.goes y.mutator found; progress = y.progress }) is (fit_stepped p l script layout a y.mutator y.progress fits polls found busy) (bit (is_point (acts y.mutator.processor found))) owed
+
+  -- there is room for a point
+  pub point_room : (b : Bool) → b ≡ is_point (acts y.mutator.processor found) → b ≡ true → points < room
+  point_room b same set =
+      let one : bit (is_point (acts y.mutator.processor found)) ≡ 1 = ap bit (sym same ∙ set) in
+      let few = stated_all p l _ _ room ran in
+      omega (arith, one, few, ran.pointed, ran.reserved)
+
+-- before the first step
+fit_opening : (p : Program) (l : Layout) (a : ℕ) (first : Next) → to_come p a first ≡ later p a 0 0 → Stands p a first → is_over first ≡ false → FitTurns p l a (mutating.opening l a p.shapes) (opening_progress first)
+fit_opening p l a first come stands over =
+    let turns : to_come p a first ≡ turns_of p a = come ∙ sym (opens_at p a) in
+    let all : statements_among (to_come p a first) ≡ total_by p a = ap statements_among turns ∙ turns_say p a in
     record {
       shapes = refl;
       laid = refl;
@@ -172,45 +235,47 @@ fit_opens p l first room single reserved come stands over =
       last = omega arith;
       leaves = sym over;
       marked = omega arith;
-      pointed = omega arith;
-      reserved = reserved;
-    }
+      polled = polled_opens l a first;
+    } where
+      -- where nothing is begun yet marking is off, as the processor knows
+      polled_opens : (l : Layout) (a : ℕ) (t : Next) → Polled t (opening_processor l a)
+      polled_opens l a (next.Run r g) = refl
+      polled_opens l a (next.Poll r g) = tt
+      polled_opens l a next.Leave = tt
+      polled_opens l a next.Over = tt
+
+pub fit_opens : (p : Program) (l : Layout) (a : ℕ) (x : Runner) → IsOpening p l a x → FitTurns p l a x.mutator x.progress
+fit_opens p l a x o =
+    subst (λ (m : Mutating). FitTurns p l a m x.progress) (sym o.mutator) (subst (λ (t : Progress). FitTurns p l a (mutating.opening l a p.shapes) t) (sym o.progress) (fit_opening p l a x.progress.next o.come o.stands o.going))
+
+pub runners_open : (p : Program) (l : Layout) (runners : List Runner) (room : ℕ) → total_of p ≤ room → AreOpening p l runners → FitRunners p l runners 0 room
+runners_open p l runners room reserved o = record {
+  many = o.many;
+  each = λ a x is. fit_opens p l a x (o.each a x is);
+  pointed =
+      let none = sum_each (λ (x : Runner). bit (is_unacted (op_at x.mutator.processor.task))) (λ (x : Runner). x.progress.stated) runners (λ a x is.
+      let idle : bit (is_unacted (op_at x.mutator.processor.task)) ≡ 0 = ap (λ (m : Mutating). bit (is_unacted (op_at m.processor.task))) (o.each a x is).mutator in
+      omega (arith, idle)) in
+      omega (arith, none);
+  reserved = reserved;
+}
 
 -- a step changes no length
 pub fits_again : (p : Program) (l : Layout) (list new : List ℕ) (r : Req) → new ≡ changed r list → FitWords p l list → FitWords p l new
-fits_again p l list new r is f = record { script = f.script; layout = f.layout; one = f.one; long = ap length is ∙ simp length-set f.long }
-
-pub turns_same : (p : Program) (l : Layout) (m n : Mutating) (t : Progress) (points count room space : ℕ) → n ≡ m → count ≡ points → space ≡ room → FitTurns p l m t points room → FitTurns p l n t count space
-turns_same p l m n t points count room space a b c f = rw (a, b, c) f
+fits_again p l list new r is f = record { script = f.script; layout = f.layout; long = ap length is ∙ simp length-set f.long }
 
 -- a step of the coordinator, and of a worker, changes no layout; and the coordinator goes on until it is done
 pub others_led : GoesOnUntilDone → (p : Program) (l : Layout) (workers : List worker.Working) (c : coord.Coordinating) (found : ℕ) → coord.is_busy c.stage ≡ true → FitOthers p l workers c → FitOthers p l workers (coord.goes c found)
 others_led on p l workers c found busy f = record { many = f.many; laid = f.laid; leads = coord_stays c found ∙ f.leads; room = room_stays c found ∙ f.room; goes_on = on.step c found busy }
 
 pub others_worked : (p : Program) (l : Layout) (workers : List worker.Working) (c : coord.Coordinating) (i found : ℕ) (x : worker.Working) → slice_get workers i ≡ Some x → FitOthers p l workers c → FitOthers p l (set workers i (worker.goes x found)) c
-others_worked p l workers c i found x is f = record { many = simp length-set f.many; laid = laid; leads = f.leads; room = f.room; goes_on = f.goes_on } where
-  next : worker.Working
-  next = worker.goes x found
-
-  low : i < length workers
-  low = slice_get_within workers i x is
-
-  laid : (j : ℕ) (y : worker.Working) → slice_get (set workers i (worker.goes x found)) j ≡ Some y → y.layout ≡ l
-  laid j y e = go (eqb i j) refl where
-    read : get_or (set workers i (worker.goes x found)) j x ≡ y
-    read = get_or_from_slice_get (set workers i (worker.goes x found)) j y x e
-
-    go : (b : Bool) → eqb i j ≡ b → y.layout ≡ l
-    go true q =
-        let same : i ≡ j = eqb-true i j q in
-        let now : worker.goes x found ≡ y = sym (get_or-set_same workers i (worker.goes x found) x low) ∙ ap (λ (k : ℕ). get_or (set workers i (worker.goes x found)) k x) same ∙ read in
-        ap (λ (w : worker.Working). w.layout) (sym now) ∙ worker_stays x found ∙ f.laid i x is
-    go false q =
-        let apart : i ≡ j → ⊥ = eqb-false i j q in
-        let within : j < length (set workers i (worker.goes x found)) = slice_get_within (set workers i (worker.goes x found)) j y e in
-        let long : length (set workers i (worker.goes x found)) ≡ length workers = simp length-set refl in
-        let before : get_or workers j x ≡ y = sym (get_or-set_other workers i j (worker.goes x found) x (λ r. apart (sym r))) ∙ read in
-        f.laid j y (slice_get-get_or workers j x (omega (arith, within, long)) ∙ ap Some before)
+others_worked p l workers c i found x is f = record {
+  many = simp length-set f.many;
+  laid = each_set (λ (j : ℕ) (y : worker.Working). y.layout ≡ l) workers i x (worker.goes x found) is (worker_stays x found ∙ f.laid i x is) (λ j y apart e. f.laid j y e);
+  leads = f.leads;
+  room = f.room;
+  goes_on = f.goes_on;
+}
 
 -- the others before the first step
 pub others_open : (p : Program) (l : Layout) (seat : ℕ) → FitOthers p l (workers_at l) (coord.opening l seat p.settings.gogc p.settings.minheap (most_cycles p))

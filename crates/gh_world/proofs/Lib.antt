@@ -13,6 +13,7 @@ pub mod OneRun
 pub mod OneStep
 pub mod OtherSteps
 pub mod Resting
+pub mod Runners
 pub mod StepFacts
 pub mod Turning
 pub mod WorldFacts

@@ -1,14 +1,21 @@
 -- A step of the code, from what its parts did.
-use Rattle.std.proofs.Common.{◌≡◌, ℕ, suc, ◌<◌, ◌≤◌, Bool, true, false, not, cond, List, ◌∷◌, length, refl, sym, ◌∙◌, ap, subst, Option, Some, None, arith}
+use Rattle.std.proofs.Common.{◌≡◌, ℕ, ◌+◌, ◌-◌, ◌<◌, ◌≤◌, Bool, true, false, not, cond, List, ◌∷◌, ◌++◌, length, get_or, refl, sym, ◌∙◌, ap, subst, Option, Some, None, arith}
+use Rattle.gh_base.specs.Cells.{length_of}
 use Rattle.gh_coord.specs.Listing as coord
 use Rattle.gh_mutator.specs.PollRoom.{PollsMakeRoom}
 use Rattle.gh_worker.specs.Listing as worker
-use Rattle.gh_world.specs.World.{IsAfter, Appends, Begins, Fit, State, Advances, IsStepOfCoordinator, IsStepOfWorker, begun_as, found_in, is_done, worker_or, now_in}
+use Rattle.gh_mutator.specs.Mutating.{asks, goes}
+use Rattle.gh_world.specs.declared.handshake.Actor.TheVariants as actor
+use Rattle.gh_world.specs.declared.runner.Runner.{Runner}
+use Rattle.gh_world.specs.Turns.{next_point, total_of}
+use Rattle.gh_world.specs.Vocabulary.{is_last}
+use Rattle.gh_world.specs.World.{actor_of, answered_of, IsAfter, Appends, Begins, event_at, Fit, FitRunners, FitTurns, State, IsStepOfCoordinator, IsStepOfProcessor, IsStepOfWorker, begun_as, found_by, is_done, now_of, runner_or, worker_or}
 use Rattle.gh_world.specs.Schedule.{has_ended}
-use Rattle.gh_world.proofs.Vocabulary.{acks_of, After, answer_in, answered_in, begins, by, Entry, Event, event_of, has_left_at, is_busy_at, Layout, Mutating, Next, Op, Processor, processor_kind, Program, Progress, progress_after, Shape, slice_get, slice_get_past, slice_get_within, started, state_of, statement_answer, StepsAreShown, with_goroutine}
-use Rattle.gh_world.proofs.Fitting.{due_room, ready, marks_few, marks_more}
+use Rattle.gh_world.proofs.Vocabulary.{acts, answered_in, begins, bit, by, cell_of, changed, Entry, Event, has_left_at, InRange, is_busy_at, is_point, Layout, Mutating, Next, Op, Processor, processor_kind, Program, Progress, progress_after, request, set, Shape, slice_get, slice_get_past, slice_get_within, started, state_of, statement_answer, StepsAreShown, takes, target}
+use Rattle.gh_world.proofs.Fitting.{answered_all, busy_begun, due_room, marks_few, marks_more, point_room, ran}
+use Rattle.gh_world.proofs.Turning.{total_by-le}
 use Rattle.gh_world.proofs.OtherSteps.{lead_entry, lead_says, lead_tells, led, work_entry, work_says, work_tells, worked}
-use Rattle.gh_world.proofs.WorldFacts.{due_at, follows, says, tells, entry_of, Knows}
+use Rattle.gh_world.proofs.WorldFacts.{due_at, follows, says, tells, entry_of, Knows, runner_of}
 
 -- what a world keeps, with so many points noted and room for so many
 pub record Kept (w : State) : Type 0 where
@@ -24,101 +31,197 @@ mutator_is : (m : Mutating) (shapes : List Shape) (l : Layout) (b : Option Op) �
 mutator_is m shapes l None same going = ap (λ (s : List Shape). mutating s m.processor m.marks) same
 mutator_is m shapes l (Some o) same going = ap (λ (s : List Shape). mutating s (begins s m.processor o) m.marks) same ∙ ap (λ (b : Bool). mutating shapes (cond b m.processor (begins shapes m.processor o)) m.marks) (sym going)
 
--- the world once an operation is begun, or none
-abbrev with_begun : State → Option Op → Next → State
-with_begun w b new = record w { mutator = mutating w.script.shapes (started (processor_kind w.script.shapes w.layout) b w.mutator.processor) w.mutator.marks; progress = progress_after w.progress b new }
+-- the actors of a world by their numbers
+pub runner_here : (w : State) (a : ℕ) (x : Runner) → slice_get w.runners a ≡ Some x → actor_of w a ≡ actor.Runs x.mutator.processor
+runner_here w a x is = ap (runner_or (worker_or w.coord (slice_get w.workers (a - length w.runners)))) is
 
-begun_is : (w x : State) (k : Begins w x) → w.mutator.shapes ≡ w.script.shapes → is_done w 0 ≡ false → x ≡ with_begun w k.o x.progress.next
-begun_is w x k same going = k.others ∙ rw (k.mutator ∙ mutator_is w.mutator w.script.shapes w.layout k.o same going, k.progress) refl
+pub other_here : (w : State) (a i : ℕ) → a ≡ length w.runners + i → actor_of w a ≡ worker_or w.coord (slice_get w.workers i)
+other_here w a i at =
+    let none = slice_get_past w.runners a (omega (arith, at)) in
+    let place : a - length w.runners ≡ i = omega (arith, at) in
+    ap (runner_or (worker_or w.coord (slice_get w.workers (a - length w.runners)))) none ∙ ap (λ (k : ℕ). worker_or w.coord (slice_get w.workers k)) place
 
-busy_at : (w x : State) → Kept w → is_done w 0 ≡ false → (k : Begins w x) → is_busy_at (with_begun w k.o x.progress.next).mutator.processor.task ≡ true
-busy_at w x f going k =
-    let r = ready w.script w.layout f.fit.base.script f.fit.base.layout w.mutator w.progress f.noted f.room f.fit.turns k.o x.progress.next going k.is k.next in
-    subst (λ (m : Mutating). is_busy_at m.processor.task ≡ true) (mutator_is w.mutator w.script.shapes w.layout k.o f.fit.turns.shapes going) r.busy
+-- a processor that is not done has not left
+pub runner_going : (w : State) (a : ℕ) (x : Runner) → slice_get w.runners a ≡ Some x → is_done w a ≡ false → has_left_at x.mutator.processor.task ≡ false
+runner_going w a x is going = ap has_ended (sym (runner_here w a x is)) ∙ going
 
--- where the processor has not left, an operation is begun
-pub busy_world : (w x : State) → Kept w → is_done w 0 ≡ false → Begins w x → is_busy_at x.mutator.processor.task ≡ true
-busy_world w x f going k = subst (λ (y : State). is_busy_at y.mutator.processor.task ≡ true) (sym (begun_is w x k f.fit.turns.shapes going)) (busy_at w x f going k)
+-- ---- a step of a processor
 
-after_same : (p q : Program) (l k : Layout) (list new : List ℕ) (m n : Processor) (workers others : List worker.Working) (c d : coord.Coordinating) (t later : Progress) (points count : List (ℕ × ℕ)) (marks more : ℕ) (es : List (Entry Op)) → q ≡ p → k ≡ l → new ≡ list → n ≡ m → others ≡ workers → d ≡ c → later ≡ t → count ≡ points → more ≡ marks →
-    After p l list m workers c t points marks es → After q k new n others d later count more es
-after_same p q l k list new m n workers others c d t later points count marks more es a b e f g h i j o after = rw (a, b, e, f, g, h, i, j, o) after
-
-abbrev OwnEntries : Program → Layout → Type 0
-OwnEntries p l = (es : List (Entry Op)) → state_of (processor_kind p.shapes l) 0 es ≡ state_of (processor_kind p.shapes l) 0 (by 0 es)
-
-appends_begun : (w v : State) (b : Option Op) (new : Next) (es : List (Entry Op)) (happened : Event) → OwnEntries w.script w.layout → StepsAreShown w.layout → (f : Kept w) → Knows w.script w.layout f.fit.base.script f.fit.base.layout f.fit.base.one w.mutator.processor w.progress b new → Advances (with_begun w b new) v happened → IsAfter w es → Appends v 0 es happened
-appends_begun w v b new es happened own shown f k a after =
-    let marks = marks_few w.script w.layout f.fit.base.script f.fit.base.layout w.mutator w.progress f.noted f.room f.fit.turns in
-    record {
-      e = entry_of w.script w.layout f.fit.base.script f.fit.base.layout f.fit.base.one w.words w.mutator.processor b;
-      by = refl;
-      after = after_same _ _ _ _ _ _ _ _ _ _ _ _ _ _ _ _ _ _ _ (ap (λ (x : State). x.script) a.others) (ap (λ (x : State). x.layout) a.others) a.words (ap (λ (m : Mutating). m.processor) a.mutator) (ap (λ (x : State). x.workers) a.others) (ap (λ (x : State). x.coord) a.others) (ap (λ (x : State). x.progress) a.others) a.points
-          (ap (λ (m : Mutating). m.marks) a.mutator ∙ marks_more w.mutator.marks (statement_answer (with_begun w b new).mutator.processor (found_in (with_begun w b new))) marks)
-          (follows w.script w.layout f.fit.base.script f.fit.base.layout f.fit.base.one own shown w.words w.mutator.processor w.workers w.coord w.progress w.points w.mutator.marks es b new after k);
-      says = a.says ∙ says w.script w.layout f.fit.base.script f.fit.base.layout f.fit.base.one w.words w.mutator.processor w.workers w.coord w.progress w.points w.mutator.marks es b new after k
-          ∙ ap (λ (x : State). event_of x.script x.layout es (entry_of w.script w.layout f.fit.base.script f.fit.base.layout f.fit.base.one w.words w.mutator.processor b)) (sym a.others);
-      answers = ap answered_in (a.says ∙ says w.script w.layout f.fit.base.script f.fit.base.layout f.fit.base.one w.words w.mutator.processor w.workers w.coord w.progress w.points w.mutator.marks es b new after k)
-          ∙ tells w.script w.layout f.fit.base.script f.fit.base.layout f.fit.base.one w.words w.mutator.processor es b after.processor
-          ∙ ap (λ (x : State). with_goroutine (now_in (entry_of w.script w.layout f.fit.base.script f.fit.base.layout f.fit.base.one w.words w.mutator.processor b ∷ es)).0 (answer_in x.script.shapes x.layout es (entry_of w.script w.layout f.fit.base.script f.fit.base.layout f.fit.base.one w.words w.mutator.processor b))) (sym a.others);
-    }
-
-knows : PollsMakeRoom → (w x v : State) (happened : Event) (k : Begins w x) (f : Kept w) → is_done w 0 ≡ false → Advances (with_begun w k.o x.progress.next) v happened → Knows w.script w.layout f.fit.base.script f.fit.base.layout f.fit.base.one w.mutator.processor w.progress k.o x.progress.next
-knows polls w x v happened k f going a = record {
-  is = k.is;
-  goes = k.next;
-  busy = busy_at w x f going k;
-  within = a.within;
-  made = f.fit.turns.made;
-  stands = f.fit.turns.stands;
-  all = f.fit.turns.all;
-  columns = f.fit.turns.columns;
-  room = λ o some. let due = due_at w.script w.layout f.fit.base.script f.fit.base.layout f.fit.base.one w.mutator.processor w.progress.next k.o o k.is some in due_room polls w.script w.mutator.processor w.progress.next o due.0 due.1 f.fit.polled;
+-- the world behind a step of the processor at seat a on what it has begun, and what that step says
+abbrev stepped : State → (a : ℕ) → Runner → State
+stepped w a y = record w {
+  words = changed (request w.layout (asks y.mutator)) w.words;
+  runners = set w.runners a (record { mutator = goes y.mutator (found_by w (asks y.mutator)); progress = y.progress });
+  points = w.points ++ next_point (is_point (acts y.mutator.processor (found_by w (asks y.mutator)))) (now_of y.progress);
 }
 
--- a step of the processor
-pub appends : PollsMakeRoom → (w x v : State) (es : List (Entry Op)) (happened : Event) → OwnEntries w.script w.layout → StepsAreShown w.layout → Kept w → is_done w 0 ≡ false → Begins w x → Advances x v happened → IsAfter w es → Appends v 0 es happened
-appends polls w x v es happened own shown f going k a after =
-    let b : Advances (with_begun w k.o x.progress.next) v happened = subst (λ (y : State). Advances y v happened) (begun_is w x k f.fit.turns.shapes going) a in
-    appends_begun w v k.o x.progress.next es happened own shown f (knows polls w x v happened k f going b) b after
+abbrev told : State → Runner → Event
+told w y = event_at (now_of y.progress) (is_last y.mutator.processor.task) (statement_answer y.mutator.processor (found_by w (asks y.mutator)))
+
+module _ (w : State) (f : Kept w) (a : ℕ) (x : Runner) (is : slice_get w.runners a ≡ Some x) where
+  abbrev p : Program
+  p = w.script
+
+  abbrev l : Layout
+  l = w.layout
+
+  fits : FitTurns p l a x.mutator x.progress
+  fits = f.fit.running.each a x is
+
+  seat : a < l.procs
+  seat = let low = slice_get_within w.runners a x is in let many = f.fit.running.many in omega (arith, low, many)
+
+  going_on : is_done w a ≡ false → has_left_at x.mutator.processor.task ≡ false
+  going_on = runner_going w a x is
+
+  -- the processor once an operation is begun, or none
+  abbrev with_begun : Option Op → Next → Runner
+  with_begun b new = runner_of p.shapes (started (processor_kind p.shapes l) b x.mutator.processor) x.mutator.marks (progress_after x.progress b new)
+
+  begun_is : (y : Runner) (k : Begins p a x y) → is_done w a ≡ false → y ≡ with_begun k.o y.progress.next
+  begun_is y k going =
+      ap (λ (m : Mutating). record { mutator = m; progress = y.progress }) (k.mutator ∙ mutator_is x.mutator p.shapes l k.o fits.shapes (going_on going))
+      ∙ ap (λ (t : Progress). record { mutator = mutating p.shapes (started (processor_kind p.shapes l) k.o x.mutator.processor) x.mutator.marks; progress = t }) k.progress
+
+  knows : PollsMakeRoom → (y : Runner) (k : Begins p a x y) → is_done w a ≡ false → InRange l (cell_of (asks y.mutator)) → Knows p l f.fit.base.script f.fit.base.layout a seat x.mutator.processor x.progress k.o y.progress.next
+  knows polls y k going within = record {
+    is = k.is;
+    goes = k.goes;
+    busy = subst (λ (m : Mutating). is_busy_at m.processor.task ≡ true) (mutator_is x.mutator p.shapes l k.o fits.shapes (going_on going)) (busy_begun p l f.fit.base.script f.fit.base.layout a x.mutator x.progress fits k.o (going_on going) k.is);
+    within = subst (λ (z : Runner). InRange l (cell_of (asks z.mutator))) (begun_is y k going) within;
+    made = fits.made;
+    stands = fits.stands;
+    all = let all = fits.all in let few = total_by-le p a in omega (arith, all, few);
+    columns = fits.columns;
+    room = λ o some. let due = due_at p l f.fit.base.script f.fit.base.layout a seat x.mutator.processor x.progress.next k.o o k.is some in due_room polls p x.mutator.processor x.progress.next o due.0 due.1 fits.polled;
+  }
+
+  abbrev OwnEntries : Type 0
+  OwnEntries = (es : List (Entry Op)) → state_of (processor_kind p.shapes l) a es ≡ state_of (processor_kind p.shapes l) a (by a es)
+
+  appends_begun : (b : Option Op) (new : Next) (v : State) (es : List (Entry Op)) (happened : Event) → OwnEntries → StepsAreShown l → Knows p l f.fit.base.script f.fit.base.layout a seat x.mutator.processor x.progress b new →
+      v ≡ stepped w a (with_begun b new) → happened ≡ told w (with_begun b new) → IsAfter w es → Appends v a es happened
+  appends_begun b new v es happened own shown k is_so says_so after =
+      let r = after.running a x is in
+      let e = entry_of p l f.fit.base.script f.fit.base.layout a seat w.words x.mutator.processor b in
+      let few = marks_few p l f.fit.base.script f.fit.base.layout a x.mutator x.progress fits in
+      let said = says_so ∙ says p l f.fit.base.script f.fit.base.layout a seat w.words es x.mutator.shapes x.mutator.processor x.mutator.marks x.progress b new r k in
+      let marks = marks_more x.mutator.marks (statement_answer (with_begun b new).mutator.processor (found_by w (asks (with_begun b new).mutator))) few in
+      subst (λ (z : State). Appends z a es happened) (sym is_so) (record {
+        e = e;
+        by = refl;
+        after = subst (λ (n : ℕ). IsAfter (record (stepped w a (with_begun b new)) { runners = set w.runners a (runner_of p.shapes (takes p.shapes (with_begun b new).mutator.processor (found_by w (asks (with_begun b new).mutator))) n (progress_after x.progress b new)) }) (e ∷ es)) (sym marks)
+            (follows p l f.fit.base.script f.fit.base.layout a seat own shown w.words w.runners w.workers w.coord w.points es after x.mutator.shapes x.mutator.processor x.mutator.marks x.progress b new is k);
+        says = said;
+        answers = ap answered_in said ∙ tells p l f.fit.base.script f.fit.base.layout a seat w.words x.mutator.processor es b r.processor;
+      })
+
+pub appends : PollsMakeRoom → (w v : State) (a : ℕ) (es : List (Entry Op)) (happened : Event) → ((es : List (Entry Op)) → state_of (processor_kind w.script.shapes w.layout) a es ≡ state_of (processor_kind w.script.shapes w.layout) a (by a es)) → StepsAreShown w.layout → Kept w → is_done w a ≡ false → IsStepOfProcessor w v a happened → IsAfter w es → Appends v a es happened
+appends polls w v a es happened own shown f going st after =
+    let same = begun_is w f a st.before_it st.is st.begun st.begins going in
+    appends_begun w f a st.before_it st.is st.begins.o st.begun.progress.next v es happened own shown (knows w f a st.before_it st.is polls st.begun st.begins going st.within) (st.others ∙ ap (stepped w a) same) (st.says ∙ ap (told w) same) after
+
+-- ---- what the parts of the code's step of a processor did
+
+module _ (polls : PollsMakeRoom) (w : State) (points room : ℕ) (f : Fit w points room) (a b : ℕ) (seat : b ≡ a) (x y : Runner) (is : slice_get w.runners a ≡ Some x) (going : is_done w a ≡ false)
+    (begins : Begins w.script b x y) (fits : FitTurns w.script x.mutator.processor.poll.layout b y.mutator y.progress) (busy : has_left_at x.mutator.processor.task ≡ false → is_busy_at y.mutator.processor.task ≡ true) where
+  abbrev pub its_layout : Layout
+  its_layout = y.mutator.processor.poll.layout
+
+  pub its_laid : y.mutator.processor.poll.layout ≡ w.layout
+  its_laid = fits.laid ∙ (f.running.each a x is).laid
+
+  pub long_words : length w.words ≡ length_of y.mutator.processor.poll.layout
+  long_words = f.base.long ∙ ap length_of (sym its_laid)
+
+  pub now_busy : is_busy_at y.mutator.processor.task ≡ true
+  now_busy = busy (runner_going w a x is going)
+
+  begins_here : Begins w.script a x y
+  begins_here = subst (λ (c : ℕ). Begins w.script c x y) seat begins
+
+  pub fits_here : FitTurns w.script w.layout a y.mutator y.progress
+  fits_here = subst (λ (l : Layout). FitTurns w.script l a y.mutator y.progress) (f.running.each a x is).laid (subst (λ (c : ℕ). FitTurns w.script x.mutator.processor.poll.layout c y.mutator y.progress) seat fits)
+
+  abbrev pub found_there : ℕ
+  found_there = get_or w.words (target (request y.mutator.processor.poll.layout (asks y.mutator))) 0
+
+  pub room_there : (b : Bool) → b ≡ is_point (acts y.mutator.processor found_there) → b ≡ true → points < room
+  room_there = point_room polls w.script w.layout f.base.script f.base.layout w.runners points room f.running a x y is begins_here fits_here now_busy found_there
+
+  pub ran_there : (z : Runner) (b : Bool) → z ≡ record { mutator = goes y.mutator found_there; progress = y.progress } → b ≡ is_point (acts y.mutator.processor found_there) → FitRunners w.script w.layout (set w.runners a z) (points + bit b) room
+  ran_there z b same point = rw (same, point) (ran polls w.script w.layout f.base.script f.base.layout w.runners points room f.running a x y is begins_here fits_here now_busy found_there)
+
+  pub run_is : (list : List ℕ) (z : Runner) (items : List (ℕ × ℕ)) (now : ℕ × ℕ) (b : Bool) (happened : Event) → InRange y.mutator.processor.poll.layout (cell_of (asks y.mutator)) → list ≡ changed (request y.mutator.processor.poll.layout (asks y.mutator)) w.words →
+      z ≡ record { mutator = goes y.mutator found_there; progress = y.progress } → b ≡ is_point (acts y.mutator.processor found_there) → now ≡ now_of z.progress → items ≡ w.points ++ next_point b now → happened ≡ event_at (now_of y.progress) (is_last y.mutator.processor.task) (statement_answer y.mutator.processor found_there) →
+      IsStepOfProcessor w (record w { words = list; runners = set w.runners a z; points = items }) a happened
+  run_is list z items now b happened within words same point noted items_are says =
+      let found : found_there ≡ found_by w (asks y.mutator) = ap (λ (l : Layout). get_or w.words (target (request l (asks y.mutator))) 0) its_laid in
+      let words_are : list ≡ changed (request w.layout (asks y.mutator)) w.words = words ∙ ap (λ (l : Layout). changed (request l (asks y.mutator)) w.words) its_laid in
+      let runner_is : z ≡ record { mutator = goes y.mutator (found_by w (asks y.mutator)); progress = y.progress } = same ∙ ap (λ (n : ℕ). record { mutator = goes y.mutator n; progress = y.progress }) found in
+      let now_is : now ≡ now_of y.progress = noted ∙ ap (λ (r : Runner). now_of r.progress) same in
+      let point_is : b ≡ is_point (acts y.mutator.processor (found_by w (asks y.mutator))) = point ∙ ap (λ (n : ℕ). is_point (acts y.mutator.processor n)) found in
+      let points_are : items ≡ w.points ++ next_point (is_point (acts y.mutator.processor (found_by w (asks y.mutator)))) (now_of y.progress) =
+      items_are ∙ ap (λ (t : ℕ × ℕ). w.points ++ next_point b t) now_is ∙ ap (λ (c : Bool). w.points ++ next_point c (now_of y.progress)) point_is in
+      record {
+        before_it = x;
+        is = is;
+        begun = y;
+        begins = begins_here;
+        within = subst (λ (l : Layout). InRange l (cell_of (asks y.mutator))) its_laid within;
+        others = rw (words_are, runner_is, points_are) refl;
+        says = says ∙ ap (λ (n : ℕ). event_at (now_of y.progress) (is_last y.mutator.processor.task) (statement_answer y.mutator.processor n)) found;
+      }
+
+-- ---- a step of another actor
 
 not_false : (b : Bool) → not b ≡ false → b ≡ true
 not_false true e = refl
 not_false false e = absurd cc
 
 -- a worker that is not done has a step to make
-pub busy_worker : (w : State) (i : ℕ) (x : worker.Working) → slice_get w.workers i ≡ Some x → is_done w (suc i) ≡ false → worker.is_busy x.stage ≡ true
-busy_worker w i x is going = not_false (worker.is_busy x.stage) (ap (λ (o : Option worker.Working). has_ended (worker_or w.coord o)) (sym is) ∙ going)
+pub busy_worker : (w : State) (a i : ℕ) (x : worker.Working) → a ≡ length w.runners + i → slice_get w.workers i ≡ Some x → is_done w a ≡ false → worker.is_busy x.stage ≡ true
+busy_worker w a i x at is going = not_false (worker.is_busy x.stage) (ap has_ended (sym (other_here w a i at ∙ ap (worker_or w.coord) is)) ∙ going)
 
 -- a step of a worker
-pub appends_work : (w v : State) (i : ℕ) (es : List (Entry Op)) (happened : Event) → StepsAreShown w.layout → Kept w → is_done w (suc i) ≡ false → IsStepOfWorker w v i happened → IsAfter w es → Appends v (suc i) es happened
-appends_work w v i es happened shown f going st after =
+pub appends_work : (w v : State) (a i : ℕ) (es : List (Entry Op)) (happened : Event) → StepsAreShown w.layout → Kept w → a ≡ length w.runners + i → is_done w a ≡ false → IsStepOfWorker w v i happened → IsAfter w es → Appends v a es happened
+appends_work w v a i es happened shown f at going st after =
     let few : i < w.layout.workers = let low = slice_get_within w.workers i st.before_it st.is in let many = f.fit.others.many in omega (arith, low, many) in
-    let busy = busy_worker w i st.before_it st.is going in
-    subst (λ (y : State). Appends y (suc i) es happened) (sym st.others) (record {
-      e = work_entry w.script w.layout f.fit.base.one shown w.words w.mutator.processor w.workers w.coord w.progress w.points w.mutator.marks es after i st.before_it st.is few busy st.within;
-      by = refl;
-      after = worked w.script w.layout f.fit.base.one shown w.words w.mutator.processor w.workers w.coord w.progress w.points w.mutator.marks es after i st.before_it st.is few busy st.within;
-      says = st.says ∙ work_says w.script w.layout f.fit.base.one shown w.words w.mutator.processor w.workers w.coord w.progress w.points w.mutator.marks es after i st.before_it st.is few busy st.within;
-      answers = work_tells w.script w.layout f.fit.base.one shown w.words w.mutator.processor w.workers w.coord w.progress w.points w.mutator.marks es after i st.before_it st.is few busy st.within happened st.says;
+    let busy = busy_worker w a i st.before_it at st.is going in
+    let procs = f.fit.running.many in
+    subst (λ (y : State). Appends y a es happened) (sym st.others) (record {
+      e = work_entry w.script w.layout shown w.words w.runners w.workers w.coord w.points es after procs i st.before_it st.is few busy st.within;
+      by = omega (arith, at, procs);
+      after = worked w.script w.layout shown w.words w.runners w.workers w.coord w.points es after procs i st.before_it st.is few busy st.within;
+      says = st.says ∙ work_says w.script w.layout shown w.words w.runners w.workers w.coord w.points es after procs i st.before_it st.is few busy st.within;
+      answers = work_tells w.script w.layout shown w.words w.runners w.workers w.coord w.points es after procs i st.before_it st.is few busy st.within happened st.says;
     })
 
+-- it answers no statement
+pub few_work : (w v : State) (i : ℕ) (happened : Event) → Kept w → IsStepOfWorker w v i happened → answered_of v ≤ total_of v.script
+few_work w v i happened f st = rw st.others (answered_all w.script w.layout w.runners f.noted f.room f.fit.running)
+
 -- a coordinator that is not done has a step to make
-pub busy_lead : (w : State) (a : ℕ) → Kept w → length w.workers ≤ a → is_done w (suc a) ≡ false → coord.is_busy w.coord.stage ≡ true
+pub busy_lead : (w : State) (a : ℕ) → Kept w → length w.runners + length w.workers ≤ a → is_done w a ≡ false → coord.is_busy w.coord.stage ≡ true
 busy_lead w a f high going =
-    let none = slice_get_past w.workers a high in
-    let not_done : coord.is_done w.coord.stage ≡ false = ap (λ (o : Option worker.Working). has_ended (worker_or w.coord o)) (sym none) ∙ going in
+    let at : a ≡ length w.runners + (a - length w.runners) = omega (arith, high) in
+    let none = slice_get_past w.workers (a - length w.runners) (omega (arith, high)) in
+    let not_done : coord.is_done w.coord.stage ≡ false = ap has_ended (sym (other_here w a (a - length w.runners) at ∙ ap (worker_or w.coord) none)) ∙ going in
     f.fit.others.goes_on ∙ ap not not_done
 
 -- a step of the coordinator
-pub appends_lead : (w v : State) (a : ℕ) (es : List (Entry Op)) (happened : Event) → StepsAreShown w.layout → Kept w → a ≡ length w.workers → is_done w (suc a) ≡ false → IsStepOfCoordinator w v happened → IsAfter w es → Appends v (suc a) es happened
+pub appends_lead : (w v : State) (a : ℕ) (es : List (Entry Op)) (happened : Event) → StepsAreShown w.layout → Kept w → a ≡ length w.runners + length w.workers → is_done w a ≡ false → IsStepOfCoordinator w v happened → IsAfter w es → Appends v a es happened
 appends_lead w v a es happened shown f at going st after =
     let busy = busy_lead w a f (omega (arith, at)) going in
-    let seat : acks_of w.layout ≡ suc a = let single = f.fit.base.one in let many = f.fit.others.many in omega (arith, at, single, many) in
-    subst (λ (y : State). Appends y (suc a) es happened) (sym st.others) (record {
-      e = lead_entry w.script w.layout f.fit.base.one shown w.words w.mutator.processor w.workers w.coord w.progress w.points w.mutator.marks es after busy st.within;
-      by = seat;
-      after = led w.script w.layout f.fit.base.one shown w.words w.mutator.processor w.workers w.coord w.progress w.points w.mutator.marks es after busy st.within f.fit.others.many;
-      says = st.says ∙ lead_says w.script w.layout f.fit.base.one shown w.words w.mutator.processor w.workers w.coord w.progress w.points w.mutator.marks es after busy st.within;
-      answers = lead_tells w.script w.layout f.fit.base.one shown w.words w.mutator.processor w.workers w.coord w.progress w.points w.mutator.marks es after busy st.within happened st.says;
+    let procs = f.fit.running.many in
+    let many = f.fit.others.many in
+    subst (λ (y : State). Appends y a es happened) (sym st.others) (record {
+      e = lead_entry w.script w.layout shown w.words w.runners w.workers w.coord w.points es after procs busy st.within;
+      by = omega (arith, at, procs, many);
+      after = led w.script w.layout shown w.words w.runners w.workers w.coord w.points es after procs busy st.within many;
+      says = st.says ∙ lead_says w.script w.layout shown w.words w.runners w.workers w.coord w.points es after procs busy st.within;
+      answers = lead_tells w.script w.layout shown w.words w.runners w.workers w.coord w.points es after procs busy st.within happened st.says;
     })
+
+pub few_lead : (w v : State) (happened : Event) → Kept w → IsStepOfCoordinator w v happened → answered_of v ≤ total_of v.script
+few_lead w v happened f st = rw st.others (answered_all w.script w.layout w.runners f.noted f.room f.fit.running)

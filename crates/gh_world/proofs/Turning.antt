@@ -1,11 +1,10 @@
 -- The turns of a processor: what is still to come at each of them.
-use Rattle.std.proofs.Common.{◌≡◌, ℕ, zero, suc, ◌+◌, ◌-◌, ◌<◌, ◌≤◌, ◌&&◌, Bool, true, false, cond, if◌then◌else◌, ltb, leb, List, [], ◌∷◌, ◌++◌, length, get_or, drop, min, Option, Some, None, refl, sym, ap, subst, ◌∙◌, append_assoc, arith, inl, inr}
+use Rattle.std.proofs.Common.{◌≡◌, ℕ, zero, suc, ◌+◌, ◌-◌, ◌<◌, ◌≤◌, ◌&&◌, Bool, true, false, cond, if◌then◌else◌, eqb, ltb, leb, List, [], ◌∷◌, ◌++◌, length, get_or, drop, min, Option, Some, None, refl, sym, ap, subst, ◌∙◌, append_assoc, arith, inl, inr}
 use Rattle.std.specs.Prelude.{sum_by}
 use Rattle.std.specs.List.{flat_map, range_with_len}
-use Rattle.std.proofs.Math.Nat.{mod-one}
 use Rattle.std.proofs.lemmas.Bool.{leb-true, leb-false, le-leb, lt-ltb, cases_lt}
-use Rattle.std.proofs.lemmas.List.{at_drop_more, drop_all}
-use Rattle.std.proofs.lemmas.List.Sums.{get_or-le-sum_by, sum_by-cons}
+use Rattle.std.proofs.lemmas.List.{at_drop_more}
+use Rattle.std.proofs.lemmas.List.Sums.{get_or-le-sum_by, sum_by-cons, sum_by-le-sum_by}
 use Rattle.gh_base.specs.declared.operation.Op.TheVariants as op
 use Rattle.gh_script.specs.declared.statement.Stmt.{Stmt}
 use Rattle.gh_script.specs.declared.statement.Stmt.TheVariants as stmts
@@ -13,7 +12,7 @@ use Rattle.gh_script.specs.Program.{no_goroutine, statements_of, statements_in, 
 use Rattle.gh_world.specs.declared.turns.Next.TheVariants as next
 use Rattle.gh_world.specs.Turns.{count_of, has_turn, HasTurn, is_of_seat, IsPast, round_of, Stands, total_by, turn_of}
 use Rattle.gh_interp.specs.Working.{work_at, work_of}
-use Rattle.gh_world.proofs.Vocabulary.{bit, Follows, eq-eqb, goroutine_at, is_leave, is_over, is_statement, later, ltb-true, MayBeOver, nat_tests, Next, Op, op_due, Program, slice_get, slice_get-get_or, slice_get_past, statements_among, to_come, total_of, turns_of, ◌%◌}
+use Rattle.gh_world.proofs.Vocabulary.{bit, Follows, eqb-true, goroutine_at, is_leave, is_over, is_statement, later, ltb-true, MayBeOver, nat_tests, Next, Op, op_due, Program, slice_get, slice_get-get_or, slice_get_past, statements_among, to_come, total_of, turns_of, ◌%◌}
 
 -- ---- statements
 
@@ -275,40 +274,54 @@ module _ (p : Program) (a : ℕ) where
       let both = among_append (flat_map (round_of p a) (range_with_len 0 (total_of p + 1))) (op.Leave ∷ []) in
       omega (arith, rw same at rounds, none, all, both)
 
-  -- they are at most those of the script
-  from_here : (n g : ℕ) → g + n ≡ length p.goroutines → sum_by (own_count p a) (range_with_len g n) ≤ sum_by statements_in (drop g p.goroutines)
-  from_here zero g e = omega arith
-  from_here (suc n) g e =
-      let own = own_le g in
-      let ih = from_here n (g + 1) (omega arith) in
-      let head = sum_by-cons (own_count p a) g (range_with_len (g + 1) n) in
+-- they are at most those of the script
+module _ (p : Program) where
+  from_here : (f : ℕ → ℕ) → ((g : ℕ) → f g ≤ count_of p g) → (n g : ℕ) → g + n ≡ length p.goroutines → sum_by f (range_with_len g n) ≤ sum_by statements_in (drop g p.goroutines)
+  from_here f le zero g e = omega arith
+  from_here f le (suc n) g e =
+      let own = le g in
+      let ih = from_here f le n (g + 1) (omega arith) in
+      let head = sum_by-cons f g (range_with_len (g + 1) n) in
       let more = at_drop_more (sum_by statements_in) p.goroutines g no_goroutine (omega arith) in
       let first = sum_by-cons statements_in (get_or p.goroutines g no_goroutine) (drop (g + 1) p.goroutines) in
       omega (arith, own, ih, head, more, first)
 
-  pub total_by-le : total_by p a ≤ total_of p
-  total_by-le = from_here (length p.goroutines) 0 (omega arith)
+  pub total_by-le : (a : ℕ) → total_by p a ≤ total_of p
+  total_by-le a = from_here (own_count p a) (own_le p a) (length p.goroutines) 0 (omega arith)
 
--- and all of them where the script has one processor
-module _ (p : Program) (single : p.settings.procs ≡ 1) where
-  of_first : (g : ℕ) → is_of_seat p 0 g ≡ true
-  of_first g = let none : g % p.settings.procs ≡ 0 = rw single (mod-one g) in eq-eqb (g % p.settings.procs) 0 none
+  -- and so are those of all processors together, since each goroutine is of one
+  once_at_most : (n k r c : ℕ) → (sum_by (λ (a : ℕ). cond (eqb r a) c 0) (range_with_len k n) ≤ c) × (r < k → sum_by (λ (a : ℕ). cond (eqb r a) c 0) (range_with_len k n) ≡ 0)
+  once_at_most zero k r c = (omega arith, λ lt. refl)
+  once_at_most (suc n) k r c =
+      let head = sum_by-cons (λ (a : ℕ). cond (eqb r a) c 0) k (range_with_len (k + 1) n) in
+      let rest = once_at_most n (k + 1) r c in
+      go (eqb r k) refl head rest where
+        go : (b : Bool) → eqb r k ≡ b → sum_by (λ (a : ℕ). cond (eqb r a) c 0) (k ∷ range_with_len (k + 1) n) ≡ cond b c 0 + sum_by (λ (a : ℕ). cond (eqb r a) c 0) (range_with_len (k + 1) n) →
+            (sum_by (λ (a : ℕ). cond (eqb r a) c 0) (range_with_len (k + 1) n) ≤ c) × (r < k + 1 → sum_by (λ (a : ℕ). cond (eqb r a) c 0) (range_with_len (k + 1) n) ≡ 0) →
+            (sum_by (λ (a : ℕ). cond (eqb r a) c 0) (k ∷ range_with_len (k + 1) n) ≤ c) × (r < k → sum_by (λ (a : ℕ). cond (eqb r a) c 0) (k ∷ range_with_len (k + 1) n) ≡ 0)
+        go true e head rest = let same = eqb-true r k e in let none = rest.1 (omega (arith, same)) in (omega (arith, head, none), λ lt. absurd (omega (arith, same, lt)))
+        go false e head rest = (omega (arith, head, rest.0), λ lt. let none = rest.1 (omega (arith, lt)) in omega (arith, head, none))
 
-  own_all : (g : ℕ) → own_count p 0 g ≡ count_of p g
-  own_all g = let its = of_first g in rw its refl
+  both_sums : (f g : ℕ → ℕ) (xs : List ℕ) → sum_by (λ (a : ℕ). f a + g a) xs ≡ sum_by f xs + sum_by g xs
+  both_sums f g [] = refl
+  both_sums f g (x ∷ xs) = omega (arith, both_sums f g xs, sum_by-cons (λ (a : ℕ). f a + g a) x xs, sum_by-cons f x xs, sum_by-cons g x xs)
 
-  all_here : (n g : ℕ) → g + n ≡ length p.goroutines → sum_by (own_count p 0) (range_with_len g n) ≡ sum_by statements_in (drop g p.goroutines)
-  all_here zero g e = sym (ap (sum_by statements_in) (drop_all g p.goroutines (omega arith)))
-  all_here (suc n) g e =
-      let own = own_all g in
-      let ih = all_here n (g + 1) (omega arith) in
-      let head = sum_by-cons (own_count p 0) g (range_with_len (g + 1) n) in
-      let more = at_drop_more (sum_by statements_in) p.goroutines g no_goroutine (omega arith) in
-      let first = sum_by-cons statements_in (get_or p.goroutines g no_goroutine) (drop (g + 1) p.goroutines) in
-      omega (arith, own, ih, head, more, first)
+  by_goroutines : (m n g : ℕ) → sum_by (λ (a : ℕ). sum_by (own_count p a) (range_with_len g n)) (range_with_len 0 m) ≤ sum_by (count_of p) (range_with_len g n)
+  by_goroutines m zero g = sum_none (range_with_len 0 m) where
+    sum_none : (xs : List ℕ) → sum_by (λ (a : ℕ). 0) xs ≤ 0
+    sum_none [] = omega arith
+    sum_none (x ∷ xs) = omega (arith, sum_none xs, sum_by-cons (λ (a : ℕ). 0) x xs)
+  by_goroutines m (suc n) g =
+      let rest = range_with_len (g + 1) n in
+      let parts = sum_by-le-sum_by (λ (a : ℕ). sum_by (own_count p a) (g ∷ rest)) (λ (a : ℕ). own_count p a g + sum_by (own_count p a) rest) (range_with_len 0 m) (λ a. let head = sum_by-cons (own_count p a) g rest in omega (arith, head)) in
+      let both = both_sums (λ (a : ℕ). own_count p a g) (λ (a : ℕ). sum_by (own_count p a) rest) (range_with_len 0 m) in
+      let once = (once_at_most m 0 (g % p.settings.procs) (count_of p g)).0 in
+      let ih = by_goroutines m n (g + 1) in
+      let head = sum_by-cons (count_of p) g rest in
+      omega (arith, parts, both, once, ih, head)
 
-  pub total_by-single : total_by p 0 ≡ total_of p
-  total_by-single = all_here (length p.goroutines) 0 (omega arith)
+  pub totals-le : (m : ℕ) → sum_by (total_by p) (range_with_len 0 m) ≤ total_of p
+  totals-le m = let apart = by_goroutines m (length p.goroutines) 0 in let all = from_here (count_of p) (λ g. omega arith) (length p.goroutines) 0 (omega arith) in omega (arith, apart, all)
 
 module _ (p : Program) (a : ℕ) where
   -- the turn behind a statement, or behind a goroutine's end

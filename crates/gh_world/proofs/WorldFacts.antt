@@ -1,29 +1,32 @@
--- One step of the processor in a world is one entry more of a legal list.
-use Rattle.std.proofs.Common.{◌≡◌, ℕ, suc, ◌+◌, ◌<◌, ◌≤◌, Bool, true, false, cond, eqb, ◌&&◌, ◌||◌, List, ◌∷◌, ◌++◌, length, reverse, get_or, refl, sym, ◌∙◌, ap, subst, Option, Some, None, arith}
+-- One step of a processor in a world is one entry more of a legal list.
+use Rattle.std.proofs.Common.{◌≡◌, ℕ, ◌+◌, ◌<◌, ◌≤◌, Bool, true, false, cond, eqb, ◌&&◌, ◌||◌, List, ◌∷◌, ◌++◌, length, length-set, reverse, get_or, refl, sym, ◌∙◌, ap, subst, Option, Some, None, arith}
 use Rattle.gh_mutator.specs.declared.task.Task.TheVariants as task
 use Rattle.gh_mutator.specs.Serving.{answer_at as answer_at_task}
-use Rattle.gh_world.specs.Vocabulary.{is_serving, IsLayoutOf, is_last}
+use Rattle.gh_world.specs.Vocabulary.{is_serving, is_last}
 use Rattle.gh_base.specs.Steps.{IsShown}
 use Rattle.gh_coord.specs.Listing as coord
 use Rattle.gh_worker.specs.Listing as worker
 use Rattle.gh_world.specs.declared.handshake.Actor.TheVariants as actor
+use Rattle.gh_world.specs.declared.runner.Runner.{Runner}
 use Rattle.gh_mutator.specs.Sound.{has_room}
 use Rattle.gh_world.specs.Turns.{Stands, statements_by, statement_now, next_point}
-use Rattle.gh_world.specs.World.{counts_after, event_at, event_by, GoesOn, last_after, MadeAtMost, op_at_turn, points_in}
-use Rattle.gh_world.proofs.Vocabulary.{acks_of, Actor, actor_after, acts, After, Answer, answer_in, answered_in, asks, Begins, begun_in, bit, by, cell_of, changed, ended_in, ends, Entry, eqb-false, eqb-true, event_of, get_or-set_other, get_or-set_same, gives_at, goroutine_at, has_left, InRange, is_busy_at, is_over, is_point, is_some, is_statement, Layout, leaves, MayBeOver, nat_tests, Next, Op, op_due, option_to_list, Processor, processor_kind, Program, Progress, progress_after, request, set, setting_of, started, state_of, statement_answer, statements_among, StepsAreShown, takes, target, Task, to_come, total_of, turns_of, WellFormed, with_goroutine, words_after}
-use Rattle.gh_world.proofs.Due.{due_goroutine}
+use Rattle.gh_world.specs.World.{counts_after, event_at, event_by, GoesOn, IsRunnerAt, last_after, LaysOut, MadeAtMost, now_by, now_in, op_at_turn, points_in}
+use Rattle.gh_world.proofs.Vocabulary.{acks_of, Actor, actor_after, acts, After, Answer, answer_in, answered_in, asks, Begins, begun_in, bit, by, cell_of, changed, ended_in, ends, Entry, eq-eqb, eqb-false, eqb-true, event_of, get_or-set_other, get_or-set_same, gives_at, goroutine_at, has_left, InRange, is_busy_at, is_over, is_point, is_some, is_statement, Layout, leaves, MayBeOver, Next, Op, op_due, option_to_list, Processor, processor_kind, Program, Progress, progress_after, request, set, setting_of, Shape, slice_get, started, state_of, statement_answer, statements_among, StepsAreShown, takes, target, Task, to_come, total_of, turns_of, WellFormed, with_goroutine, words_after}
+use Rattle.gh_world.proofs.Due.{due_goroutine, false_unless}
 use Rattle.gh_world.proofs.MayBegin.{due_begins, ended_then, left_then}
 use Rattle.gh_world.proofs.OneRun.{one_more}
 use Rattle.gh_world.proofs.Resting.{begun_is, is_processor}
+use Rattle.gh_world.proofs.Runners.{each_set, runner_stays}
 
--- what has ended may be over behind the turn that is begun
-ended_after : (p : Program) (t : Next) (b : Option Op) (new : Next) (es : List (Entry Op)) → GoesOn p t b new → ((g : ℕ) → ended_in es g ≡ true → MayBeOver p t g) → (g : ℕ) → (ends b g || ended_in es g) ≡ true → MayBeOver p new g
-ended_after p t None new es follows over g h = subst (λ (x : Next). MayBeOver p x g) (sym follows) (over g h)
-ended_after p t (Some o) new es follows over g h = ended_then p 0 t o new (ended_in es) follows over g h
+module _ (p : Program) (a : ℕ) where
+  -- what has ended may be over behind the turn that is begun
+  ended_after : (t : Next) (b : Option Op) (new : Next) (es : List (Entry Op)) → GoesOn p a t b new → ((g : ℕ) → ended_in es g ≡ true → MayBeOver p t g) → (g : ℕ) → (ends b g || ended_in es g) ≡ true → MayBeOver p new g
+  ended_after t None new es follows over g h = subst (λ (x : Next). MayBeOver p x g) (sym follows) (over g h)
+  ended_after t (Some o) new es follows over g h = ended_then p a t o new (ended_in es) follows over g h
 
-left_after : (p : Program) (t : Next) (b : Option Op) (new : Next) (es : List (Entry Op)) → GoesOn p t b new → ((o : Op) → b ≡ Some o → op_due p t ≡ Some o) → (has_left es ≡ true → is_over t ≡ true) → (leaves b || has_left es) ≡ true → is_over new ≡ true
-left_after p t None new es follows due left h = ap is_over follows ∙ left h
-left_after p t (Some o) new es follows due left h = left_then p 0 t o new (has_left es) follows (due o refl) left h
+  left_after : (t : Next) (b : Option Op) (new : Next) (es : List (Entry Op)) → GoesOn p a t b new → ((o : Op) → b ≡ Some o → op_due p t ≡ Some o) → (has_left es ≡ true → is_over t ≡ true) → (leaves b || has_left es) ≡ true → is_over new ≡ true
+  left_after t None new es follows due left h = ap is_over follows ∙ left h
+  left_after t (Some o) new es follows due left h = left_then p a t o new (has_left es) follows (due o refl) left h
 
 -- the statements begun are counted
 counted_after : (t : Progress) (b : Option Op) (bs : List Op) → length t.begun ≡ 32 → ((o : Op) → b ≡ Some o → is_statement o ≡ true → goroutine_at o < 32) → ((g : ℕ) → g < 32 → get_or t.begun g 0 ≡ statements_by g bs) → (g : ℕ) → g < 32 → get_or (counts_after t b) g 0 ≡ statements_by g (option_to_list b ++ bs)
@@ -73,7 +76,11 @@ told_at now t a = told_by now (is_last t) (is_serving t) a (last_is_none t)
 
 -- ---- one step is one entry more
 
-module _ (p : Program) (l : Layout) (runnable : WellFormed p) (laid : IsLayoutOf p.settings.arena p.settings.globals p.settings.procs p.settings.workers (length p.goroutines) l) (single : l.procs ≡ 1) where
+-- a processor, and how far it is
+abbrev pub runner_of : List Shape → Processor → (marks : ℕ) → Progress → Runner
+runner_of shapes m marks t = record { mutator = record { shapes = shapes; processor = m; marks = marks }; progress = t }
+
+module _ (p : Program) (l : Layout) (runnable : WellFormed p) (laid : LaysOut p l) (a : ℕ) (seat : a < l.procs) where
   abbrev pub begun : Processor → Option Op → Processor
   begun m b = started (processor_kind p.shapes l) b m
 
@@ -81,27 +88,26 @@ module _ (p : Program) (l : Layout) (runnable : WellFormed p) (laid : IsLayoutOf
   found_at list m = get_or list (target (request l (asks m))) 0
 
   abbrev pub entry_of : List ℕ → Processor → Option Op → Entry Op
-  entry_of list m b = record { actor = 0; begun = b; ask = asks (begun m b); found = found_at list (begun m b) }
+  entry_of list m b = record { actor = a; begun = b; ask = asks (begun m b); found = found_at list (begun m b) }
 
   -- what a world knows of itself that a further entry rests on
   pub record Knows (m : Processor) (t : Progress) (b : Option Op) (new : Next) : Type 0 where
     pub is : b ≡ op_at_turn p (is_busy_at m.task) t.next
-    pub goes : GoesOn p t.next b new
+    pub goes : GoesOn p a t.next b new
     pub busy : is_busy_at (begun m b).task ≡ true
     pub within : InRange l (cell_of (asks (begun m b)))
     pub made : MadeAtMost t.stated m
-    pub stands : Stands p 0 t.next
-    pub all : t.stated + statements_among (to_come p 0 t.next) ≡ total_of p
+    pub stands : Stands p a t.next
+    pub all : t.stated + statements_among (to_come p a t.next) ≤ total_of p
     pub columns : length t.begun ≡ 32
     pub room : (o : Op) → b ≡ Some o → has_room m o ≡ true
 
-  -- what follows the list by one step more
-  abbrev pub Goes : List ℕ → List worker.Working → coord.Coordinating → Progress → List (ℕ × ℕ) → ℕ → List (Entry Op) → Option Op → Next → Processor → Type 0
-  Goes list workers c t points marks es b new m =
-      After p l (changed (request l (asks (begun m b))) list) (takes p.shapes (begun m b) (found_at list (begun m b))) workers c (progress_after t b new)
-      (points ++ next_point (is_point (acts (begun m b) (found_at list (begun m b)))) (pair_of (last_after t b) (get_or (counts_after t b) (last_after t b) 0)))
-      (marks + bit (is_some (statement_answer (begun m b) (found_at list (begun m b)))))
-      (entry_of list m b ∷ es)
+  -- the statement begun last, and the processor behind the step
+  abbrev pub now_then : Progress → Option Op → ℕ × ℕ
+  now_then t b = pair_of (last_after t b) (get_or (counts_after t b) (last_after t b) 0)
+
+  abbrev pub runner_then : List ℕ → Processor → (marks : ℕ) → Progress → Option Op → Next → Runner
+  runner_then list m marks t b new = runner_of p.shapes (takes p.shapes (begun m b) (found_at list (begun m b))) (marks + bit (is_some (statement_answer (begun m b) (found_at list (begun m b))))) (progress_after t b new)
 
   -- an operation that begins is the one that is due
   pub due_at : (m : Processor) (t : Next) (b : Option Op) (o : Op) → b ≡ op_at_turn p (is_busy_at m.task) t → b ≡ Some o → (is_busy_at m.task ≡ false) × (op_due p t ≡ Some o)
@@ -111,37 +117,77 @@ module _ (p : Program) (l : Layout) (runnable : WellFormed p) (laid : IsLayoutOf
     go false e = (e, sym (ap (λ (c : Bool). op_at_turn p c t) e) ∙ sym is ∙ some)
 
   abbrev OwnEntries : Type 0
-  OwnEntries = (es : List (Entry Op)) → state_of (processor_kind p.shapes l) 0 es ≡ state_of (processor_kind p.shapes l) 0 (by 0 es)
+  OwnEntries = (es : List (Entry Op)) → state_of (processor_kind p.shapes l) a es ≡ state_of (processor_kind p.shapes l) a (by a es)
 
-  begins_next : OwnEntries → (es : List (Entry Op)) (t : Progress) (b : Option Op) (new : Next) → Knows (state_of (processor_kind p.shapes l) 0 es) t b new → turns_of p 0 ≡ reverse (begun_in (by 0 es)) ++ to_come p 0 t.next →
-      ((g : ℕ) → ended_in (by 0 es) g ≡ true → MayBeOver p t.next g) → (has_left (by 0 es) ≡ true → is_over t.next ≡ true) → Begins (setting_of p l) 0 es b
-  begins_next own es t None new k turns over left = ap (λ (x : Actor Processor). (setting_of p l).kind.busy x) (is_processor p l 0 (omega (arith, single)) es) ∙ k.busy
+  begins_next : OwnEntries → (es : List (Entry Op)) (t : Progress) (b : Option Op) (new : Next) → Knows (state_of (processor_kind p.shapes l) a es) t b new → turns_of p a ≡ reverse (begun_in (by a es)) ++ to_come p a t.next →
+      ((g : ℕ) → ended_in (by a es) g ≡ true → MayBeOver p t.next g) → (has_left (by a es) ≡ true → is_over t.next ≡ true) → Begins (setting_of p l) a es b
+  begins_next own es t None new k turns over left = ap (λ (x : Actor Processor). (setting_of p l).kind.busy x) (is_processor p l a seat es) ∙ k.busy
   begins_next own es t (Some o) new k turns over left =
-      let due = due_at (state_of (processor_kind p.shapes l) 0 es) t.next (Some o) o k.is refl in
-      due_begins p l runnable laid 0 (omega (arith, single)) own es t.next o new t.stated due.0 due.1 k.goes k.made k.stands (let all = k.all in omega (arith, all)) turns over left (k.room o refl)
+      let due = due_at (state_of (processor_kind p.shapes l) a es) t.next (Some o) o k.is refl in
+      due_begins p l runnable laid a seat own es t.next o new t.stated due.0 due.1 k.goes k.made k.stands k.all turns over left (k.room o refl)
 
-  pub turns_next : (t : Progress) (b : Option Op) (new : Next) (bs : List Op) → GoesOn p t.next b new → turns_of p 0 ≡ reverse bs ++ to_come p 0 t.next → turns_of p 0 ≡ reverse (option_to_list b ++ bs) ++ to_come p 0 new
-  turns_next t None new bs goes turns = turns ∙ ap (λ (x : Next). reverse bs ++ to_come p 0 x) (sym goes)
-  turns_next t (Some o) new bs goes turns = turns ∙ ap (λ (xs : List Op). reverse bs ++ xs) goes.come ∙ sym (one_more o bs (to_come p 0 new))
+  turns_next : (t : Progress) (b : Option Op) (new : Next) (bs : List Op) → GoesOn p a t.next b new → turns_of p a ≡ reverse bs ++ to_come p a t.next → turns_of p a ≡ reverse (option_to_list b ++ bs) ++ to_come p a new
+  turns_next t None new bs goes turns = turns ∙ ap (λ (x : Next). reverse bs ++ to_come p a x) (sym goes)
+  turns_next t (Some o) new bs goes turns = turns ∙ ap (λ (xs : List Op). reverse bs ++ xs) goes.come ∙ sym (one_more o bs (to_come p a new))
 
   -- the entry's actor is the processor
-  runs_so : (es : List (Entry Op)) (b : Option Op) → started (setting_of p l).kind b (actor_after p l es 0) ≡ actor.Runs (begun (state_of (processor_kind p.shapes l) 0 es) b)
-  runs_so es b = begun_is p l 0 (omega (arith, single)) es b
+  runs_so : (es : List (Entry Op)) (b : Option Op) → started (setting_of p l).kind b (actor_after p l es a) ≡ actor.Runs (begun (state_of (processor_kind p.shapes l) a es) b)
+  runs_so es b = begun_is p l a seat es b
 
-  follows_at : OwnEntries → StepsAreShown l → (list : List ℕ) (workers : List worker.Working) (c : coord.Coordinating) (t : Progress) (points : List (ℕ × ℕ)) (marks : ℕ) (es : List (Entry Op)) (b : Option Op) (new : Next) →
-      After p l list (state_of (processor_kind p.shapes l) 0 es) workers c t points marks es → Knows (state_of (processor_kind p.shapes l) 0 es) t b new → Goes list workers c t points marks es b new (state_of (processor_kind p.shapes l) 0 es)
-  follows_at own shown list workers c t points marks es b new a k =
-      let m = state_of (processor_kind p.shapes l) 0 es in
-      let due : (o : Op) → b ≡ Some o → op_due p t.next ≡ Some o = λ o e. (due_at m t.next b o k.is e).1 in
-      let here : (o : Op) → b ≡ Some o → is_statement o ≡ true → goroutine_at o < 32 = λ o e sure. due_goroutine p 0 t.next o runnable k.stands (due o e) sure in
-      let now = now_after t b (begun_in (by 0 es)) k.columns here a.counted a.now in
-      let step : IsShown l list (words_after (setting_of p l).opening es) (asks (begun m b)) = shown list (words_after (setting_of p l).opening es) (asks (begun m b)) k.within a.words in
+  -- it is one of the processor's own
+  its_own : (e : Entry Op) (es : List (Entry Op)) → e.actor ≡ a → by a (e ∷ es) ≡ e ∷ by a es
+  its_own e es same = ap (λ (b : Bool). cond b (e ∷ by a es) (by a es)) (eq-eqb e.actor a same)
+
+  its_next : (list : List ℕ) (m : Processor) (b : Option Op) (es : List (Entry Op)) → begun_in (by a (entry_of list m b ∷ es)) ≡ option_to_list b ++ begun_in (by a es)
+  its_next list m b es = ap begun_in (its_own (entry_of list m b) es refl)
+
+  now_at : (t : Progress) (b : Option Op) (new : Next) (marks : ℕ) (shapes : List Shape) (es : List (Entry Op)) (m : Processor) → IsRunnerAt p l a (runner_of shapes m marks t) es → Knows m t b new → now_then t b ≡ statement_now (option_to_list b ++ begun_in (by a es))
+  now_at t b new marks shapes es m r k =
+      let here : (o : Op) → b ≡ Some o → is_statement o ≡ true → goroutine_at o < 32 = λ o e sure. due_goroutine p a t.next o runnable k.stands (due_at m t.next b o k.is e).1 sure in
+      now_after t b (begun_in (by a es)) k.columns here r.counted r.now
+
+  -- the processor behind the step
+  runner_at : (list : List ℕ) (shapes : List Shape) (marks : ℕ) (t : Progress) (es : List (Entry Op)) (b : Option Op) (new : Next) → let m = state_of (processor_kind p.shapes l) a es in
+      IsRunnerAt p l a (runner_of shapes m marks t) es → Knows m t b new → IsRunnerAt p l a (runner_then list m marks t b new) (entry_of list m b ∷ es)
+  runner_at list shapes marks t es b new r k =
+      let m = state_of (processor_kind p.shapes l) a es in
+      let e = entry_of list m b in
+      let due : (o : Op) → b ≡ Some o → op_due p t.next ≡ Some o = λ o is. (due_at m t.next b o k.is is).1 in
+      let here : (o : Op) → b ≡ Some o → is_statement o ≡ true → goroutine_at o < 32 = λ o is sure. due_goroutine p a t.next o runnable k.stands (due o is) sure in
+      let same : eqb a a ≡ true = eq-eqb a a refl in
+      let own : by a (e ∷ es) ≡ e ∷ by a es = its_own e es refl in
+      record {
+        processor = rw same refl;
+        turns = turns_next t b new (begun_in (by a es)) k.goes r.turns ∙ ap (λ (fs : List (Entry Op)). reverse (begun_in fs) ++ to_come p a new) (sym own);
+        counted = λ g lt. counted_after t b (begun_in (by a es)) k.columns here r.counted g lt ∙ ap (λ (fs : List (Entry Op)). statements_by g (begun_in fs)) (sym own);
+        now = now_at t b new marks shapes es m r k ∙ ap (λ (fs : List (Entry Op)). statement_now (begun_in fs)) (sym own);
+        ended = λ g h. ended_after p a t.next b new (by a es) k.goes r.ended g (ap (λ (fs : List (Entry Op)). ended_in fs g) (sym own) ∙ h);
+        left = λ h. left_after p a t.next b new (by a es) k.goes due r.left (ap has_left (sym own) ∙ h);
+        marked = rw same (ap (λ (n : ℕ). n + bit (is_some (statement_answer (begun m b) (found_at list (begun m b))))) r.marked);
+      }
+
+  -- what follows the list by one step more
+  abbrev pub Goes : List ℕ → List Runner → List worker.Working → coord.Coordinating → List (ℕ × ℕ) → List (Entry Op) → (marks : ℕ) → Progress → Option Op → Next → Processor → Type 0
+  Goes list runners workers c points es marks t b new m =
+      After p l (changed (request l (asks (begun m b))) list) (set runners a (runner_then list m marks t b new)) workers c (points ++ next_point (is_point (acts (begun m b) (found_at list (begun m b)))) (now_then t b)) (entry_of list m b ∷ es)
+
+  apart : (e : Entry Op) (es : List (Entry Op)) (c : ℕ) → (e.actor ≡ c → ⊥) → {x : Actor Processor} → actor_after p l es c ≡ x → actor_after p l (e ∷ es) c ≡ x
+  apart e es c differ is = let other : eqb e.actor c ≡ false = false_unless (eqb e.actor c) (λ t. differ (eqb-true e.actor c t)) in rw other is
+
+  follows_at : OwnEntries → StepsAreShown l → (list : List ℕ) (runners : List Runner) (workers : List worker.Working) (c : coord.Coordinating) (points : List (ℕ × ℕ)) (es : List (Entry Op)) → After p l list runners workers c points es →
+      (shapes : List Shape) (marks : ℕ) (t : Progress) (b : Option Op) (new : Next) → let m = state_of (processor_kind p.shapes l) a es in slice_get runners a ≡ Some (runner_of shapes m marks t) → Knows m t b new → Goes list runners workers c points es marks t b new m
+  follows_at own shown list runners workers c points es h shapes marks t b new is k =
+      let m = state_of (processor_kind p.shapes l) a es in
+      let e = entry_of list m b in
+      let r = h.running a (runner_of shapes m marks t) is in
+      let step : IsShown l list (words_after (setting_of p l).opening es) (asks (begun m b)) = shown list (words_after (setting_of p l).opening es) (asks (begun m b)) k.within h.words in
+      let now = now_at t b new marks shapes es m r k ∙ sym (ap statement_now (its_next list m b es)) in
       record {
         legal = (
-          a.legal,
+          h.legal,
           record {
-            actor = omega (arith, single);
-            begins = begins_next own es t b new k a.turns a.ended a.left;
+            actor = omega (arith, seat);
+            begins = begins_next own es t b new k r.turns r.ended r.left;
             runs = ap (λ (x : Actor Processor). (setting_of p l).kind.busy x) (runs_so es b) ∙ k.busy;
             asks = sym (ap (λ (x : Actor Processor). (setting_of p l).kind.asks x) (runs_so es b));
             within = k.within;
@@ -149,56 +195,46 @@ module _ (p : Program) (l : Layout) (runnable : WellFormed p) (laid : IsLayoutOf
           },
         );
         words = step.after;
-        processor = refl;
-        marking = λ i x e. apart (suc i) (omega arith) (a.marking i x e);
-        coordinator = apart (acks_of l) (omega (arith, single)) a.coordinator;
-        turns = turns_next t b new (begun_in (by 0 es)) k.goes a.turns;
-        counted = counted_after t b (begun_in (by 0 es)) k.columns here a.counted;
-        now = now;
-        ended = ended_after p t.next b new (by 0 es) k.goes a.ended;
-        left = left_after p t.next b new (by 0 es) k.goes due a.left;
-        pointed = ap (λ (ps : List (ℕ × ℕ)). ps ++ next_point (is_point (acts (begun m b) (found_at list (begun m b)))) (pair_of (last_after t b) (get_or (counts_after t b) (last_after t b) 0))) a.pointed
+        many = length-set runners a (runner_then list m marks t b new) ∙ h.many;
+        running = each_set (λ (d : ℕ) (x : Runner). IsRunnerAt p l d x (e ∷ es)) runners a (runner_of shapes m marks t) (runner_then list m marks t b new) is (runner_at list shapes marks t es b new r k)
+            (λ d x differ there. runner_stays p l d x e es differ (h.running d x there));
+        marking = λ i x there. apart e es (l.procs + i) (λ q. omega (arith, seat, q)) (h.marking i x there);
+        coordinator = apart e es (acks_of l) (λ q. omega (arith, seat, q)) h.coordinator;
+        pointed = ap (λ (ps : List (ℕ × ℕ)). ps ++ next_point (is_point (acts (begun m b) (found_at list (begun m b)))) (now_then t b)) h.pointed
             ∙ ap (λ (x : ℕ × ℕ). points_in p.shapes l es ++ next_point (is_point (acts (begun m b) (found_at list (begun m b)))) x) now;
-        marked = ap (λ (n : ℕ). n + bit (is_some (statement_answer (begun m b) (found_at list (begun m b))))) a.marked;
-      } where
-        apart : (a : ℕ) → 1 ≤ a → {x : Actor Processor} → actor_after p l es a ≡ x → actor_after p l (entry_of list (state_of (processor_kind p.shapes l) 0 es) b ∷ es) a ≡ x
-        apart a le e = let other : eqb 0 a ≡ false = grind (arith, nat_tests) in rw other e
+      }
 
-  pub follows : OwnEntries → StepsAreShown l → (list : List ℕ) (m : Processor) (workers : List worker.Working) (c : coord.Coordinating) (t : Progress) (points : List (ℕ × ℕ)) (marks : ℕ) (es : List (Entry Op)) (b : Option Op) (new : Next) →
-      After p l list m workers c t points marks es → Knows m t b new → Goes list workers c t points marks es b new m
-  follows own shown list m workers c t points marks es b new a = back (follows_at own shown list workers c t points marks es b new) a where
+  pub follows : OwnEntries → StepsAreShown l → (list : List ℕ) (runners : List Runner) (workers : List worker.Working) (c : coord.Coordinating) (points : List (ℕ × ℕ)) (es : List (Entry Op)) → After p l list runners workers c points es →
+      (shapes : List Shape) (m : Processor) (marks : ℕ) (t : Progress) (b : Option Op) (new : Next) → slice_get runners a ≡ Some (runner_of shapes m marks t) → Knows m t b new → Goes list runners workers c points es marks t b new m
+  follows own shown list runners workers c points es h shapes m marks t b new is = subst Goal (sym (h.running a (runner_of shapes m marks t) is).processor) (follows_at own shown list runners workers c points es h shapes marks t b new) is where
     Goal : Processor → Type 0
-    Goal n = After p l list n workers c t points marks es → Knows n t b new → Goes list workers c t points marks es b new n
-
-    back : Goal (state_of (processor_kind p.shapes l) 0 es) → Goal m
-    back g = subst Goal (sym a.processor) g
+    Goal n = slice_get runners a ≡ Some (runner_of shapes n marks t) → Knows n t b new → Goes list runners workers c points es marks t b new n
 
   -- what the step says
-  says_at : (list : List ℕ) (t : Progress) (es : List (Entry Op)) (b : Option Op) → pair_of (last_after t b) (get_or (counts_after t b) (last_after t b) 0) ≡ statement_now (option_to_list b ++ begun_in (by 0 es)) →
-      event_at (pair_of (last_after t b) (get_or (counts_after t b) (last_after t b) 0)) (is_last (begun (state_of (processor_kind p.shapes l) 0 es) b).task) (statement_answer (begun (state_of (processor_kind p.shapes l) 0 es) b) (found_at list (begun (state_of (processor_kind p.shapes l) 0 es) b)))
-      ≡ event_of p l es (entry_of list (state_of (processor_kind p.shapes l) 0 es) b)
+  says_at : (list : List ℕ) (t : Progress) (es : List (Entry Op)) (b : Option Op) → let m = state_of (processor_kind p.shapes l) a es in now_then t b ≡ statement_now (option_to_list b ++ begun_in (by a es)) →
+      event_at (now_then t b) (is_last (begun m b).task) (statement_answer (begun m b) (found_at list (begun m b))) ≡ event_of p l es (entry_of list m b)
   says_at list t es b same =
-      let m = state_of (processor_kind p.shapes l) 0 es in
-      ap (λ (x : ℕ × ℕ). event_at x (is_last (begun m b).task) (statement_answer (begun m b) (found_at list (begun m b)))) same
-      ∙ ap (λ (x : Actor Processor). event_by (statement_now (option_to_list b ++ begun_in (by 0 es))) x (found_at list (begun m b))) (sym (runs_so es b))
+      let m = state_of (processor_kind p.shapes l) a es in
+      let now = same ∙ sym (ap statement_now (its_next list m b es)) in
+      ap (λ (x : ℕ × ℕ). event_at x (is_last (begun m b).task) (statement_answer (begun m b) (found_at list (begun m b)))) now
+      ∙ ap (λ (x : Actor Processor). event_by (now_by a (entry_of list m b ∷ es)) x (found_at list (begun m b))) (sym (runs_so es b))
 
-  pub says : (list : List ℕ) (m : Processor) (workers : List worker.Working) (c : coord.Coordinating) (t : Progress) (points : List (ℕ × ℕ)) (marks : ℕ) (es : List (Entry Op)) (b : Option Op) (new : Next) → After p l list m workers c t points marks es → Knows m t b new →
-      event_at (pair_of (last_after t b) (get_or (counts_after t b) (last_after t b) 0)) (is_last (begun m b).task) (statement_answer (begun m b) (found_at list (begun m b))) ≡ event_of p l es (entry_of list m b)
-  says list m workers c t points marks es b new a k =
-      let here : (o : Op) → b ≡ Some o → is_statement o ≡ true → goroutine_at o < 32 = λ o e sure. due_goroutine p 0 t.next o runnable k.stands (due_at m t.next b o k.is e).1 sure in
-      let now = now_after t b (begun_in (by 0 es)) k.columns here a.counted a.now in
-      subst Goal (sym a.processor) (says_at list t es b now) where
-        Goal : Processor → Type 0
-        Goal n = event_at (pair_of (last_after t b) (get_or (counts_after t b) (last_after t b) 0)) (is_last (begun n b).task) (statement_answer (begun n b) (found_at list (begun n b))) ≡ event_of p l es (entry_of list n b)
+  pub says : (list : List ℕ) (es : List (Entry Op)) (shapes : List Shape) (m : Processor) (marks : ℕ) (t : Progress) (b : Option Op) (new : Next) → IsRunnerAt p l a (runner_of shapes m marks t) es → Knows m t b new →
+      event_at (now_then t b) (is_last (begun m b).task) (statement_answer (begun m b) (found_at list (begun m b))) ≡ event_of p l es (entry_of list m b)
+  says list es shapes m marks t b new r k = subst Goal (sym r.processor) (says_at list t es b (now_at t b new marks shapes es m r k)) where
+    Goal : Processor → Type 0
+    Goal n = event_at (now_then t b) (is_last (begun n b).task) (statement_answer (begun n b) (found_at list (begun n b))) ≡ event_of p l es (entry_of list n b)
 
   -- and the answer in it
-  tells_at : (list : List ℕ) (es : List (Entry Op)) (b : Option Op) → answered_in (event_of p l es (entry_of list (state_of (processor_kind p.shapes l) 0 es) b)) ≡ with_goroutine (statement_now (option_to_list b ++ begun_in (by 0 es))).0 (answer_in p.shapes l es (entry_of list (state_of (processor_kind p.shapes l) 0 es) b))
+  tells_at : (list : List ℕ) (es : List (Entry Op)) (b : Option Op) → let e = entry_of list (state_of (processor_kind p.shapes l) a es) b in answered_in (event_of p l es e) ≡ with_goroutine (now_in (e ∷ es)).0 (answer_in p.shapes l es e)
   tells_at list es b =
-      let m = begun (state_of (processor_kind p.shapes l) 0 es) b in
+      let n = state_of (processor_kind p.shapes l) a es in
+      let m = begun n b in
       let found = found_at list m in
-      ap (λ (x : Actor Processor). answered_in (event_by (statement_now (option_to_list b ++ begun_in (by 0 es))) x found)) (runs_so es b) ∙ told_at (statement_now (option_to_list b ++ begun_in (by 0 es))) m.task (gives_at m m.task found)
+      let now = now_in (entry_of list n b ∷ es) in
+      ap (λ (x : Actor Processor). answered_in (event_by now x found)) (runs_so es b) ∙ told_at now m.task (gives_at m m.task found)
 
-  pub tells : (list : List ℕ) (m : Processor) (es : List (Entry Op)) (b : Option Op) → m ≡ state_of (processor_kind p.shapes l) 0 es → answered_in (event_of p l es (entry_of list m b)) ≡ with_goroutine (statement_now (option_to_list b ++ begun_in (by 0 es))).0 (answer_in p.shapes l es (entry_of list m b))
+  pub tells : (list : List ℕ) (m : Processor) (es : List (Entry Op)) (b : Option Op) → m ≡ state_of (processor_kind p.shapes l) a es → answered_in (event_of p l es (entry_of list m b)) ≡ with_goroutine (now_in (entry_of list m b ∷ es)).0 (answer_in p.shapes l es (entry_of list m b))
   tells list m es b is = subst Goal (sym is) (tells_at list es b) where
     Goal : Processor → Type 0
-    Goal n = answered_in (event_of p l es (entry_of list n b)) ≡ with_goroutine (statement_now (option_to_list b ++ begun_in (by 0 es))).0 (answer_in p.shapes l es (entry_of list n b))
+    Goal n = answered_in (event_of p l es (entry_of list n b)) ≡ with_goroutine (now_in (entry_of list n b ∷ es)).0 (answer_in p.shapes l es (entry_of list n b))

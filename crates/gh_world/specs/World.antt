@@ -1,6 +1,7 @@
--- The world of one processor, its workers and the coordinator: what a list of their steps is answered, and that it is the state of such a list.
-use Rattle.std.specs.Prelude.{◌≡◌, ℕ, zero, suc, ◌+◌, ◌<◌, ◌≤◌, Bool, true, false, if◌then◌else◌, not, List, [], ◌∷◌, ◌++◌, length, map, replicate, reverse, slice_index, slice_set, slice_get, ◌-◌, ◌^◌, Option, Some, None, is_some}
+-- The world of the processors, the workers and the coordinator: what a list of their steps is answered, and that it is the state of such a list.
+use Rattle.std.specs.Prelude.{◌≡◌, ℕ, ◌+◌, ◌<◌, ◌≤◌, Bool, true, false, ◌==◌, if◌then◌else◌, not, List, [], ◌∷◌, ◌++◌, length, map, replicate, reverse, slice_index, slice_set, slice_get, ◌-◌, ◌^◌, Option, Some, None, is_some, sum_by}
 use Rattle.std.specs.List.{range_with_len}
+use Rattle.std.specs.Option.{option_to_list}
 use Rattle.gh_base.specs.declared.cell.Ask.{Ask}
 use Rattle.gh_world.specs.Vocabulary.{Answer, Op, Shape, Layout, MOST_GOROUTINES, Entry, bit, InRange, IsLayoutOf, length_of, Shows, cell_of, changed, request, target, Setting, started, state_of, words_after, Legal, Program, WellFormed, NewStage, Place, Processor, Task, acts, is_busy_at, op_at, is_made, made_by, Mutating, goes, is_last, is_leaving, is_point, is_serving, is_statement, statement_answer, Next, Progress, Event}
 use Rattle.gh_coord.specs.declared.cycles.Cycle.{Cycle}
@@ -8,19 +9,20 @@ use Rattle.gh_coord.specs.Listing as coord
 use Rattle.gh_coord.specs.Stopping.{acks_of}
 use Rattle.gh_mutator.specs.declared.task.Task.TheVariants.{New}
 use Rattle.gh_mutator.specs.Deeds.{processor_kind}
-use Rattle.gh_mutator.specs.Mutating.{asks, begins}
+use Rattle.gh_mutator.specs.Mutating.{asks, begins, opening}
 use Rattle.gh_base.specs.Lists.{by}
 use Rattle.gh_mutator.specs.PollRoom.{MayStore}
 use Rattle.gh_worker.specs.Listing as worker
 use Rattle.gh_world.specs.declared.handshake.Actor.{Actor}
 use Rattle.gh_world.specs.declared.handshake.Actor.TheVariants as actor
 use Rattle.gh_world.specs.declared.event.Event.TheVariants as event
+use Rattle.gh_world.specs.declared.runner.Runner.{Runner}
 use Rattle.gh_world.specs.declared.turns.Next.TheVariants as next
 use Rattle.gh_world.specs.Handshake.{heap, Pacing}
 use Rattle.gh_world.specs.Order.{before_step, begun_in, ended_in, has_left}
 use Rattle.gh_world.specs.Processors.{arena_of, may_begin}
 use Rattle.gh_world.specs.Schedule.{ended_after, has_ended, turn_from}
-use Rattle.gh_world.specs.Turns.{total_of, turns_of, to_come, Stands, MayBeOver, is_over, op_due, Follows, goroutine_at, statements_among, statements_by, statement_now, is_unacted, next_point}
+use Rattle.gh_world.specs.Turns.{total_by, total_of, turns_of, to_come, Stands, MayBeOver, is_over, later, op_due, Follows, goroutine_at, statements_among, statements_by, statement_now, is_unacted, next_point}
 use Rattle.gh_world.specs.Wishes.{most_cycles, wishes_of}
 
 -- ---- the lists of a script
@@ -96,10 +98,10 @@ module _ (shapes : List Shape) (l : Layout) where
   points_in [] = []
   points_in (e ∷ es) = points_in es ++ next_point (is_point (acts (before_step shapes l es e) e.found)) (now_in (e ∷ es))
 
-  -- how many statements were answered
-  abbrev pub marks_in : List (Entry Op) → ℕ
-  marks_in [] = 0
-  marks_in (e ∷ es) = marks_in es + bit (is_some (answer_in es e))
+  -- how many statements the processor at seat a has answered
+  abbrev pub marks_at : (a : ℕ) → List (Entry Op) → ℕ
+  marks_at a [] = 0
+  marks_at a (e ∷ es) = marks_at a es + (if e.actor == a then bit (is_some (answer_in es e)) else 0)
 
 module _ (p : Program) (l : Layout) where
   -- the actor after the list
@@ -112,39 +114,56 @@ module _ (p : Program) (l : Layout) where
 
 -- ---- the world
 
--- what a world is: its script and layout, its words, the processor, the workers and the coordinator, how far the processor is among its turns, and the points
+-- what a world is: its script and layout, its words, the processors by their seats, each with how far it is among its turns, the workers and the coordinator, and the points
 pub record State : Type 0 where
   pub script : Program
   pub layout : Layout
   pub words : List ℕ
-  pub mutator : Mutating
+  pub runners : List Runner
   pub workers : List worker.Working
   pub coord : coord.Coordinating
-  pub progress : Progress
   pub points : List (ℕ × ℕ)
 
--- These are the words, the processor, the workers, the coordinator, the progress, the points and the number of statements answered after the list.
-pub record After (p : Program) (l : Layout) (list : List ℕ) (m : Processor) (workers : List worker.Working) (c : coord.Coordinating) (t : Progress) (points : List (ℕ × ℕ)) (marks : ℕ) (es : List (Entry Op)) : Type 0 where
+-- This is the processor at seat a after the list, how far it is among its turns, and the number of statements that it has answered.
+pub record IsRunnerAt (p : Program) (l : Layout) (a : ℕ) (x : Runner) (es : List (Entry Op)) : Type 0 where
+  pub processor : x.mutator.processor ≡ state_of (processor_kind p.shapes l) a es
+  pub turns : turns_of p a ≡ reverse (begun_in (by a es)) ++ to_come p a x.progress.next
+  pub counted : (g : ℕ) → g < MOST_GOROUTINES → slice_index x.progress.begun g ≡ statements_by g (begun_in (by a es))
+  pub now : (x.progress.last, slice_index x.progress.begun x.progress.last) ≡ now_by a es
+  pub ended : (g : ℕ) → ended_in (by a es) g ≡ true → MayBeOver p x.progress.next g
+  pub left : has_left (by a es) ≡ true → is_over x.progress.next ≡ true
+  pub marked : x.mutator.marks ≡ marks_at p.shapes l a es
+
+-- These are the words, the processors, the workers, the coordinator and the points after the list.
+pub record After (p : Program) (l : Layout) (list : List ℕ) (runners : List Runner) (workers : List worker.Working) (c : coord.Coordinating) (points : List (ℕ × ℕ)) (es : List (Entry Op)) : Type 0 where
   pub legal : Legal (setting_of p l) es
   pub words : Shows l list (words_after (setting_of p l).opening es)
-  pub processor : m ≡ state_of (processor_kind p.shapes l) 0 es
-  pub marking : (i : ℕ) (x : worker.Working) → slice_get workers i ≡ Some x → actor_after p l es (suc i) ≡ actor.Marks x
+  pub running : (a : ℕ) (x : Runner) → slice_get runners a ≡ Some x → IsRunnerAt p l a x es
+  pub marking : (i : ℕ) (x : worker.Working) → slice_get workers i ≡ Some x → actor_after p l es (l.procs + i) ≡ actor.Marks x
+  pub many : length runners ≡ l.procs
   pub coordinator : actor_after p l es (acks_of l) ≡ actor.Leads c
-  pub turns : turns_of p 0 ≡ reverse (begun_in (by 0 es)) ++ to_come p 0 t.next
-  pub counted : (g : ℕ) → g < MOST_GOROUTINES → slice_index t.begun g ≡ statements_by g (begun_in (by 0 es))
-  pub now : (t.last, slice_index t.begun t.last) ≡ now_by 0 es
-  pub ended : (g : ℕ) → ended_in (by 0 es) g ≡ true → MayBeOver p t.next g
-  pub left : has_left (by 0 es) ≡ true → is_over t.next ≡ true
   pub pointed : points ≡ points_in p.shapes l es
-  pub marked : marks ≡ marks_in p.shapes l es
 
 -- the world is the state of the list
 abbrev pub IsAfter : State → List (Entry Op) → Type 0
-IsAfter w es = After w.script w.layout w.words w.mutator.processor w.workers w.coord w.progress w.points w.mutator.marks es
+IsAfter w es = After w.script w.layout w.words w.runners w.workers w.coord w.points es
 
--- how far the processor is among its turns as a world opens
+-- how far a processor is among its turns as a world opens
 abbrev pub opening_progress : Next → Progress
 opening_progress first = record { next = first; begun = replicate MOST_GOROUTINES 0; stated = 0; last = 0 }
+
+-- the processor at seat a before its first step, and how far it is: at the first of its turns
+pub record IsOpening (p : Program) (l : Layout) (a : ℕ) (x : Runner) : Type 0 where
+  pub mutator : x.mutator ≡ opening l a p.shapes
+  pub progress : x.progress ≡ opening_progress x.progress.next
+  pub come : to_come p a x.progress.next ≡ later p a 0 0
+  pub stands : Stands p a x.progress.next
+  pub going : is_over x.progress.next ≡ false
+
+-- the processors of a heap, each before its first step
+pub record AreOpening (p : Program) (l : Layout) (runners : List Runner) : Type 0 where
+  pub many : length runners ≡ l.procs
+  pub each : (a : ℕ) (x : Runner) → slice_get runners a ≡ Some x → IsOpening p l a x
 
 -- the workers of a heap, each before its first step
 abbrev pub workers_at : Layout → List worker.Working
@@ -175,28 +194,43 @@ MadeAtMost n m = (g : ℕ) → made_by m g + making m.task ≤ n
 pub record FitWords (p : Program) (l : Layout) (list : List ℕ) : Type 0 where
   pub script : WellFormed p
   pub layout : LaysOut p l
-  pub one : l.procs ≡ 1
   pub long : length list ≡ length_of l
-
--- of the processor and its turns,
-pub record FitTurns (p : Program) (l : Layout) (m : Mutating) (t : Progress) (points room : ℕ) : Type 0 where
-  pub shapes : m.shapes ≡ p.shapes
-  pub laid : m.processor.poll.layout ≡ l
-  pub made : MadeAtMost t.stated m.processor
-  pub stands : Stands p 0 t.next
-  pub all : t.stated + statements_among (to_come p 0 t.next) ≡ total_of p
-  pub columns : length t.begun ≡ MOST_GOROUTINES
-  pub few_begun : (g : ℕ) → slice_index t.begun g ≤ t.stated
-  pub last : t.last < MOST_GOROUTINES
-  pub leaves : is_leaving m.processor.task ≡ is_over t.next
-  pub marked : m.marks + bit (is_serving m.processor.task) ≤ t.stated
-  pub pointed : points + bit (is_unacted (op_at m.processor.task)) ≤ t.stated
-  pub reserved : total_of p ≤ room
 
 -- of the poll before a statement: the processor polls, or has polled and begun nothing since,
 abbrev pub Polled : Next → Processor → Type 0
 Polled (next.Run r g) m = MayStore m
 Polled _ m = Unit {0}
+
+-- of the processor at seat a and its turns,
+pub record FitTurns (p : Program) (l : Layout) (a : ℕ) (m : Mutating) (t : Progress) : Type 0 where
+  pub shapes : m.shapes ≡ p.shapes
+  pub laid : m.processor.poll.layout ≡ l
+  pub made : MadeAtMost t.stated m.processor
+  pub stands : Stands p a t.next
+  pub all : t.stated + statements_among (to_come p a t.next) ≡ total_by p a
+  pub columns : length t.begun ≡ MOST_GOROUTINES
+  pub few_begun : (g : ℕ) → slice_index t.begun g ≤ t.stated
+  pub last : t.last < MOST_GOROUTINES
+  pub leaves : is_leaving m.processor.task ≡ is_over t.next
+  pub marked : m.marks + bit (is_serving m.processor.task) ≤ t.stated
+  pub polled : Polled t.next m.processor
+
+-- how many statements they have begun, how many of those have not had their point yet, and how many they have answered
+abbrev pub stated_by : List Runner → ℕ
+stated_by runners = sum_by (λ (x : Runner). x.progress.stated) runners
+
+abbrev pub unacted_by : List Runner → ℕ
+unacted_by runners = sum_by (λ (x : Runner). bit (is_unacted (op_at x.mutator.processor.task))) runners
+
+abbrev pub answered_by : List Runner → ℕ
+answered_by runners = sum_by (λ (x : Runner). x.mutator.marks) runners
+
+-- of all processors and the points, of which there are so many, and room for so many,
+pub record FitRunners (p : Program) (l : Layout) (runners : List Runner) (points room : ℕ) : Type 0 where
+  pub many : length runners ≡ l.procs
+  pub each : (a : ℕ) (x : Runner) → slice_get runners a ≡ Some x → FitTurns p l a x.mutator x.progress
+  pub pointed : points + unacted_by runners ≤ stated_by runners
+  pub reserved : total_of p ≤ room
 
 -- and of the others.
 pub record FitOthers (p : Program) (l : Layout) (workers : List worker.Working) (c : coord.Coordinating) : Type 0 where
@@ -208,8 +242,7 @@ pub record FitOthers (p : Program) (l : Layout) (workers : List worker.Working) 
 
 pub record Fit (w : State) (points room : ℕ) : Type 0 where
   pub base : FitWords w.script w.layout w.words
-  pub turns : FitTurns w.script w.layout w.mutator w.progress points room
-  pub polled : Polled w.progress.next w.mutator.processor
+  pub running : FitRunners w.script w.layout w.runners points room
   pub others : FitOthers w.script w.layout w.workers w.coord
 
 -- ---- what a world shows
@@ -220,19 +253,23 @@ script_of w = w.script
 abbrev pub layout_of : State → Layout
 layout_of w = w.layout
 
--- how many actors there are: the processor, the workers and the coordinator
+-- how many actors there are: the processors, the workers and the coordinator
 abbrev pub actors_of : State → ℕ
-actors_of w = length w.workers + 2
+actors_of w = length w.runners + length w.workers + 1
 
 -- the worker, or behind the last of them the coordinator
 abbrev pub worker_or : coord.Coordinating → Option worker.Working → Actor Processor
 worker_or c (Some x) = actor.Marks x
 worker_or c None = actor.Leads c
 
+-- the processor, or behind the last of them who is at this place among the others
+abbrev pub runner_or : Actor Processor → Option Runner → Actor Processor
+runner_or other (Some x) = actor.Runs x.mutator.processor
+runner_or other None = other
+
 -- the actor of this number
 abbrev pub actor_of : State → ℕ → Actor Processor
-actor_of w zero = actor.Runs w.mutator.processor
-actor_of w (suc i) = worker_or w.coord (slice_get w.workers i)
+actor_of w a = runner_or (worker_or w.coord (slice_get w.workers (a - length w.runners))) (slice_get w.runners a)
 
 -- the actor is done
 abbrev pub is_done : State → ℕ → Bool
@@ -253,11 +290,11 @@ marks_by answered (actor.Marks w) = w.marks
 marks_by answered (actor.Leads c) = c.marks
 
 abbrev pub marks_of : State → ℕ → ℕ
-marks_of w a = marks_by w.mutator.marks (actor_of w a)
+marks_of w a = marks_by (sum_by (λ (x : Runner). x.mutator.marks) (option_to_list (slice_get w.runners a))) (actor_of w a)
 
 -- how many statements were answered
 abbrev pub answered_of : State → ℕ
-answered_of w = w.mutator.marks
+answered_of w = answered_by w.runners
 
 -- the goroutine and the number of each statement, in the order of their points
 abbrev pub points_of : State → List (ℕ × ℕ)
@@ -271,7 +308,7 @@ cycles_of w = w.coord.cycles.items
 abbrev pub live_of : State → ℕ
 live_of w = w.coord.live
 
--- ---- how a step of the processor is made
+-- ---- how a step of a processor is made
 
 -- the operation that the next step begins: none while one is begun
 abbrev pub op_at_turn : Program → Bool → Next → Option Op
@@ -296,44 +333,45 @@ abbrev pub progress_after : Progress → Option Op → Next → Progress
 progress_after t o new = record { next = new; begun = counts_after t o; stated = stated_after t o; last = last_after t o }
 
 -- what comes next once it is begun
-abbrev pub GoesOn : Program → Next → Option Op → Next → Type 0
-GoesOn p before None new = new ≡ before
-GoesOn p before (Some o) new = Follows p 0 before o new
+abbrev pub GoesOn : Program → (a : ℕ) → Next → Option Op → Next → Type 0
+GoesOn p a before None new = new ≡ before
+GoesOn p a before (Some o) new = Follows p a before o new
 
 abbrev pub begun_as : Mutating → Option Op → Mutating
 begun_as m None = m
 begun_as m (Some o) = begins m o
 
--- an operation is begun where none is
-pub record Begins (old new : State) : Type 0 where
-  pub o : Option Op
-  pub is : o ≡ op_at_turn old.script (is_busy_at old.mutator.processor.task) old.progress.next
-  pub mutator : new.mutator ≡ begun_as old.mutator o
-  pub next : GoesOn old.script old.progress.next o new.progress.next
-  pub progress : new.progress ≡ progress_after old.progress o new.progress.next
-  pub others : new ≡ record old { mutator = new.mutator; progress = new.progress }
-
--- what the processor's step found in these words
-abbrev pub found_in : State → ℕ
-found_in w = slice_index w.words (target (request w.layout (asks w.mutator)))
-
-abbrev pub now_of : State → ℕ × ℕ
-now_of w = (w.progress.last, slice_index w.progress.begun w.progress.last)
-
--- one step of the processor
-pub record Advances (old new : State) (happened : Event) : Type 0 where
-  pub within : InRange old.layout (cell_of (asks old.mutator))
-  pub words : new.words ≡ changed (request old.layout (asks old.mutator)) old.words
-  pub mutator : new.mutator ≡ goes old.mutator (found_in old)
-  pub points : new.points ≡ old.points ++ next_point (is_point (acts old.mutator.processor (found_in old))) (now_of old)
-  pub others : new ≡ record old { words = new.words; mutator = new.mutator; points = new.points }
-  pub says : happened ≡ event_at (now_of old) (is_last old.mutator.processor.task) (statement_answer old.mutator.processor (found_in old))
-
--- ---- how a step of another actor is made
+-- the goroutine and the number of the statement that it began last
+abbrev pub now_of : Progress → ℕ × ℕ
+now_of t = (t.last, slice_index t.begun t.last)
 
 -- what a step that asks this finds in these words
 abbrev pub found_by : State → Ask → ℕ
 found_by w ask = slice_index w.words (target (request w.layout ask))
+
+-- An operation is begun where none is, by the processor at seat a.
+pub record Begins (p : Program) (a : ℕ) (old new : Runner) : Type 0 where
+  pub o : Option Op
+  pub is : o ≡ op_at_turn p (is_busy_at old.mutator.processor.task) old.progress.next
+  pub mutator : new.mutator ≡ begun_as old.mutator o
+  pub goes : GoesOn p a old.progress.next o new.progress.next
+  pub progress : new.progress ≡ progress_after old.progress o new.progress.next
+
+-- One step of the processor at seat a: an operation is begun where none is, and the processor takes its step.
+pub record IsStepOfProcessor (old new : State) (a : ℕ) (happened : Event) : Type 0 where
+  pub before_it : Runner
+  pub is : slice_get old.runners a ≡ Some before_it
+  pub begun : Runner
+  pub begins : Begins old.script a before_it begun
+  pub within : InRange old.layout (cell_of (asks begun.mutator))
+  pub others : new ≡ record old {
+    words = changed (request old.layout (asks begun.mutator)) old.words;
+    runners = slice_set old.runners a (record { mutator = goes begun.mutator (found_by old (asks begun.mutator)); progress = begun.progress });
+    points = old.points ++ next_point (is_point (acts begun.mutator.processor (found_by old (asks begun.mutator)))) (now_of begun.progress);
+  }
+  pub says : happened ≡ event_at (now_of begun.progress) (is_last begun.mutator.processor.task) (statement_answer begun.mutator.processor (found_by old (asks begun.mutator)))
+
+-- ---- how a step of another actor is made
 
 -- one step of worker i
 pub record IsStepOfWorker (old new : State) (i : ℕ) (happened : Event) : Type 0 where

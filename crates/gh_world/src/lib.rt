@@ -1,6 +1,6 @@
 //! The actors of a heap, the world that runs a script with them, and what every list of their steps keeps.
 //!
-//! A world has the words of a heap, the processor that runs the script's goroutines in turns (`turns`), the
+//! A world has the words of a heap, the processors that run the script's goroutines in turns (`turns`), the
 //! workers that mark, and the coordinator that opens cycles, ends them and has the spans swept. One step of it
 //! is one atomic step of one of these actors, and [`World::step`] is one entry more of whatever list the world
 //! is the state of. Who steps when is for others to say; [`World::turn_from`] says whose turn it is where they
@@ -18,8 +18,8 @@
 //! for the heap that never frees after every single step, and not only between statements.
 //!
 //! [`every_run_is_explained`] says what whole runs come to, [`a_script_has_one_run`] that there is one in each
-//! order of steps, [`runs_go_on`] that it goes on until it is whole. While a cycle is marked the processor
-//! waits or is gone, since it is one: so no store meets marking yet.
+//! order of steps, [`runs_go_on`] that it goes on until it is whole. While a cycle is marked a processor may
+//! wait for it while the others store: their barriers shade what they overwrite and what they write.
 #![tactic(auto)]
 
 mod actors;
@@ -30,6 +30,7 @@ mod marking;
 mod numbers;
 mod pollers;
 mod progress;
+mod runner;
 mod turns;
 mod wishes;
 mod world;

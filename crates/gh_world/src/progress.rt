@@ -1,4 +1,4 @@
-//! How far a world is among its turns.
+//! How far a processor is among its turns.
 
 ghost use Rattle.std.specs.Prelude.{◌≡◌, ◌+◌, ◌++◌, ◌^◌, ◌<◌, slice_index, false, vec_len, IsTrue, Some, None, if◌then◌else◌};
 ghost use Rattle.std.specs.Vec.{vec_capacity};
@@ -6,14 +6,14 @@ ghost use Rattle.gh_base.specs.Packing.{bit};
 ghost use Rattle.gh_base.specs.declared.limits.TheConstants.{MOST_GOROUTINES};
 ghost use Rattle.gh_mutator.specs.Serving.{is_statement};
 ghost use Rattle.gh_world.specs.Turns.{goroutine_at, is_over, later, next_point, to_come, Stands};
-ghost use Rattle.gh_world.specs.World.{opening_progress, progress_after};
+ghost use Rattle.gh_world.specs.World.{now_of, opening_progress, progress_after};
 
 use crate::turns::{Next, next_turn};
 use gh_base::Op;
 use gh_base::limits::MOST_GOROUTINES;
 use gh_script::Script;
 
-/// How far a world is among its turns.
+/// How far a processor is among its turns.
 #[derive(Drop)]
 pub struct Progress {
     // What it begins next.
@@ -71,6 +71,14 @@ impl Progress {
             self.stated += 1;
             self.last = g;
         }
+    }
+
+    /// The goroutine and the number of the statement begun last.
+    pub fn now(&self) -> (u32, u32)
+        requires { self.now.last < MOST_GOROUTINES }
+        ensures { result ≡ now_of self.now }
+    {
+        (self.last, self.begun[self.last as usize])
     }
 }
 

@@ -11,41 +11,40 @@ ghost use Rattle.gh_base.specs.declared.machine.Entry.{Entry};
 ghost use Rattle.gh_base.specs.declared.operation.Op.{Op};
 ghost use Rattle.gh_coord.specs.Keeping.{last_kept};
 ghost use Rattle.gh_coord.specs.Listing as coord;
-ghost use Rattle.gh_mutator.specs.Mutating.{is_busy};
 ghost use Rattle.gh_worker.specs.Listing as worker;
 ghost use Rattle.gh_worker.specs.Listing.{Working};
 ghost use Rattle.gh_world.specs.Runs.{IsRun, marked_by};
 ghost use Rattle.gh_world.specs.Turns.{total_of};
 ghost use Rattle.gh_world.specs.Wishes.{most_cycles};
-ghost use Rattle.gh_world.specs.World.{actors_of, answered_of, cycles_of, is_done, layout_of, live_of, marks_of, points_of, script_of, turn_in, workers_at, Advances, AllDone, Appends, Begins, IsAfter, IsStepOfCoordinator, IsStepOfWorker, LaysOut};
+ghost use Rattle.gh_world.specs.World.{actors_of, answered_of, cycles_of, is_done, layout_of, live_of, marks_of, points_of, script_of, turn_in, workers_at, AllDone, Appends, AreOpening, IsAfter, IsStepOfCoordinator, IsStepOfProcessor, IsStepOfWorker, LaysOut};
 
-use crate::event::{Event, Totals, done_or, event_at, told_event};
-use crate::progress::{Progress, note};
-use crate::turns::{due, following, total_of};
+use crate::event::{Event, Totals, done_or, told_event};
+use crate::progress::note;
+use crate::runner::Runner;
+use crate::turns::total_of;
 use crate::wishes::most_cycles;
 use gh_base::laws::{a_state_is_of_its_own_entries, steps_are_shown};
 use gh_base::{Layout, Machine, Op};
 use gh_coord::laws::it_goes_on_until_done;
 use gh_coord::{Coord, Cycle, NEVER};
+use gh_mutator::Processor;
 use gh_mutator::laws::polls_make_room;
-use gh_mutator::{Mutator, Processor};
 use gh_script::Script;
 use gh_words::{Plain, Words};
 use gh_worker::Worker;
 use std::alloc::{AllocError, Global};
 use std::marker::Model;
 
-/// The words of a heap, and the actors over them that run a script: the processor, which is actor 0, the
-/// workers, and the coordinator behind them.
+/// The words of a heap, and the actors over them that run a script: the processors by their seats from actor 0
+/// on, the workers, and the coordinator behind them.
 #[derive(Drop)]
 pub struct World<'s> {
     script: &'s Script,
     layout: Layout,
     words: Plain,
-    mutator: Mutator<'s>,
+    runners: Vec<Runner<'s>>,
     workers: Vec<Worker>,
     coord: Coord,
-    progress: Progress,
     // The goroutine and the number of each statement, in the order of their points.
     points: Vec<(u32, u32)>,
 }
@@ -57,9 +56,24 @@ impl<'s> Model for World<'s> {
 
     ghost Value = { State };
 
-    ghost view = { λ w. record { script = w.script.now; layout = w.layout; words = w.words; mutator = w.mutator; workers = w.workers.items; coord = w.coord; progress = w.progress; points = w.points.items } };
+    ghost view = { λ w. record { script = w.script.now; layout = w.layout; words = w.words; runners = w.runners.items; workers = w.workers.items; coord = w.coord; points = w.points.items } };
 
-    ghost invariant = { λ w. Fit (record { script = w.script.now; layout = w.layout; words = w.words; mutator = w.mutator; workers = w.workers.items; coord = w.coord; progress = w.progress; points = w.points.items }) (vec_len w.points) (vec_capacity w.points) };
+    ghost invariant = { λ w. Fit (record { script = w.script.now; layout = w.layout; words = w.words; runners = w.runners.items; workers = w.workers.items; coord = w.coord; points = w.points.items }) (vec_len w.points) (vec_capacity w.points) };
+}
+
+/// The processors of a heap that run the script, each before its first step.
+fn runners_of<'s>(
+    alloc: Global,
+    layout: &Layout,
+    script: &'s Script,
+) -> Result<Vec<Runner<'s>>, AllocError>
+    ensures { IfOk result (λ runners. AreOpening script.now layout.now runners.items) }
+{
+    let mut runners = Vec::with_capacity(alloc, layout.procs as usize)?;
+    for seat in 0..layout.procs {
+        runners.push_reserved(Runner::opening(layout, script, seat));
+    }
+    Ok(runners)
 }
 
 /// The workers of a heap, each before its first step.
@@ -108,6 +122,7 @@ impl<'s> World<'s> {
             Err(_) => unreachable!(),
         };
         let words = Plain::new(alloc, &layout, NEVER)?;
+        let runners = runners_of(alloc, &layout, script)?;
         let workers = workers_of(alloc, &layout)?;
         let seat = settings.procs + settings.workers;
         let cycles = most_cycles(script);
@@ -120,16 +135,13 @@ impl<'s> World<'s> {
             cycles,
         )?;
         let points = Vec::with_capacity(alloc, total_of(script))?;
-        let mutator = Mutator::new(&layout, 0, script.shapes());
-        let progress = Progress::opening(script, 0);
         Ok(World {
             script,
             layout,
             words,
-            mutator,
+            runners,
             workers,
             coord,
-            progress,
             points,
         })
     }
@@ -139,7 +151,7 @@ impl<'s> World<'s> {
         ensures are { result ≡ actors_of self.now }
         ensures seats { result ≡ seats_of (layout_of self.now) }
     {
-        (self.workers.len() + 2) as u8
+        (self.runners.len() + self.workers.len() + 1) as u8
     }
 
     /// One step of the actor, which is not done. Whatever legal list of steps this world is the state of,
@@ -156,27 +168,27 @@ impl<'s> World<'s> {
         steps_are_shown(&self.layout);
         a_state_is_of_its_own_entries::<Processor<'_>, Op>();
         polls_make_room();
-        if actor == 0 {
-            self.begin_next();
-            return self.advance();
-        }
-        let i = usize::from(actor) - 1;
-        if i < self.workers.len() {
-            self.work(i)
+        let a = usize::from(actor);
+        let procs = self.runners.len();
+        if a < procs {
+            self.run(actor)
+        } else if a - procs < self.workers.len() {
+            self.work(a - procs)
         } else {
             self.lead()
         }
     }
 
-    /// The actor is done: the processor has left, the worker is gone, the last cycle is swept.
+    /// The actor is done: a processor has left, a worker is gone, the last cycle is swept.
     pub fn is_done(&self, actor: u8) -> bool
         requires { actor < actors_of self.now }
         ensures { result ≡ is_done self.now actor }
     {
-        if actor == 0 {
-            return self.mutator.has_left();
+        let a = usize::from(actor);
+        if let Some(runner) = self.runners.get(a) {
+            return runner.mutator.has_left();
         }
-        match self.workers.get(usize::from(actor) - 1) {
+        match self.workers.get(a - self.runners.len()) {
             Some(worker) => worker.is_done(),
             None => self.coord.is_done(),
         }
@@ -223,16 +235,17 @@ impl<'s> World<'s> {
         true
     }
 
-    /// The actor's marks: how many statements the processor has answered, how many words a worker has
+    /// The actor's marks: how many statements a processor has answered, how many words a worker has
     /// scanned, how often the coordinator has stored the phase word.
     pub fn marks(&self, actor: u8) -> u64
         requires { actor < actors_of self.now }
         ensures { result ≡ marks_of self.now actor }
     {
-        if actor == 0 {
-            return self.mutator.marks();
+        let a = usize::from(actor);
+        if let Some(runner) = self.runners.get(a) {
+            return runner.mutator.marks();
         }
-        match self.workers.get(usize::from(actor) - 1) {
+        match self.workers.get(a - self.runners.len()) {
             Some(worker) => worker.marks(),
             None => self.coord.marks(),
         }
@@ -274,38 +287,20 @@ impl<'s> World<'s> {
         }
     }
 
-    /// Begins the next operation where none is begun.
-    fn begin_next(&mut self)
-        ensures { Begins self.old self.new }
-    {
-        polls_make_room();
-        if self.mutator.is_busy() {
-            return;
-        }
-        if let Some(op) = due(self.script, self.progress.next) {
-            self.progress.next = following(self.script, 0, self.progress.next);
-            self.mutator.begin(op);
-            self.progress.count(op);
-        }
-    }
-
-    /// One step of the processor.
-    fn advance(&mut self) -> Event
-        requires { is_busy self.old.mutator ≡ true }
-        ensures advances { Advances self.old self.new result }
+    /// One step of the processor at this seat: it begins its next operation where none is begun.
+    fn run(&mut self, seat: u8) -> Event
+        requires there { seat < length self.old.runners }
+        requires going { is_done self.old seat ≡ false }
+        ensures steps { IsStepOfProcessor self.old self.new seat result }
         ensures few { answered_of self.new ≤ total_of (script_of self.new) }
     {
         polls_make_room();
-        let is_serving = self.mutator.is_serving();
-        let is_last = self.mutator.is_last();
-        let found = self.words.step(self.mutator.next());
-        let is_point = self.mutator.is_point(found);
-        let ended = self.mutator.take(found);
-        let answer = if is_serving { ended } else { None };
-        let last = self.progress.last;
-        let n = self.progress.begun[last as usize];
-        note(&mut self.points, (last, n), is_point);
-        event_at(last, n, is_last, answer)
+        let runner = &mut self.runners[usize::from(seat)];
+        runner.begin_next(self.script, u32::from(seat));
+        let (event, is_point) = runner.advance(&mut self.words);
+        let now = runner.progress.now();
+        note(&mut self.points, now, is_point);
+        event
     }
 
     /// One step of worker `i`, counted from 0.

@@ -14,7 +14,6 @@ invariant_of-self c =
     c.step_on-out.ensures.words ∙ ap (λ (l : Layout). changed (request l (coord.asks c.self.inside.coord)) c.self.inside.words) laid in
     record {
       base = fits_again _ _ _ _ (request c.self.inside.layout (coord.asks c.self.inside.coord)) words c.self.invariant.base;
-      turns = c.self.invariant.turns;
-      polled = c.self.invariant.polled;
+      running = c.self.invariant.running;
       others = subst (λ (x : coord.Coordinating). FitOthers c.self.inside.script.now c.self.inside.layout c.self.inside.workers.items x) (sym c.step_on-out.ensures.machine) (others_led c.it_goes_on_until_done.ensures _ _ _ _ _ busy c.self.invariant.others);
     }

@@ -6,7 +6,7 @@ use Rattle.gh_coord.specs.Stopping.{acks_of}
 use Rattle.gh_script.specs.declared.statement.Settings.{Settings}
 use Rattle.gh_world.specs.Turns.{total_of}
 use Rattle.gh_world.specs.Wishes.{most_cycles}
-use Rattle.gh_world.proofs.Fitting.{fit_opens, others_open, polled_opens}
+use Rattle.gh_world.proofs.Fitting.{others_open, runners_open}
 use Rattle.gh_world.proofs.OtherSteps.{after_opens}
 use Rattle.gh_world.proofs.world.World.new.Goals as goal
 
@@ -20,15 +20,12 @@ invariant_of-result c =
     subst (λ (s : Settings). IsLayoutOf s.arena s.globals s.procs s.workers (length p.goroutines) l) c.settings-settings.ensures counted in
     let reserved : total_of p ≤ vec_capacity c.in_ok-points.points = omega (arith, c.in_ok-points.ensures.capacity, c.total_of.ensures) in
     let empty : vec_len c.in_ok-points.points ≡ 0 = c.in_ok-points.ensures.len in
-    let alone : p.settings.procs ≡ 1 = omega (arith, c.is_well_formed.ensures.settings.procs.0, c.is_well_formed.ensures.settings.procs.1) in
-    let single : l.procs ≡ 1 = laid.procs_are ∙ alone in
     let leads : c.in_ok-coord.coord ≡ coord.opening l (p.settings.procs + p.settings.workers) p.settings.gogc p.settings.minheap (most_cycles p) =
     c.in_ok-coord.ensures ∙ ap (λ (s : Settings). coord.opening l (s.procs + s.workers) s.gogc s.minheap c.most_cycles-cycles.result) c.settings-settings.ensures
     ∙ ap (λ (k : ℕ). coord.opening l (p.settings.procs + p.settings.workers) p.settings.gogc p.settings.minheap k) c.most_cycles-cycles.ensures.is in
-    rw (c.new-mutator.ensures, c.shapes.ensures, c.opening-progress.ensures.is, c.in_ok-workers.ensures, leads, empty) (record {
-      base = record { script = c.is_well_formed.ensures; layout = laid; one = single; long = c.in_ok-words.ensures.long };
-      turns = fit_opens p l c.opening-progress.result.next (vec_capacity c.in_ok-points.points) alone reserved c.opening-progress.ensures.come c.opening-progress.ensures.stands c.opening-progress.ensures.going;
-      polled = polled_opens l c.opening-progress.result.next;
+    rw (c.in_ok-workers.ensures, leads, empty) (record {
+      base = record { script = c.is_well_formed.ensures; layout = laid; long = c.in_ok-words.ensures.long };
+      running = runners_open p l c.in_ok-runners.runners.items (vec_capacity c.in_ok-points.points) reserved c.in_ok-runners.ensures;
       others = others_open p l (p.settings.procs + p.settings.workers);
     })
 
@@ -40,10 +37,9 @@ returns-clause-opens c =
     subst (λ (g : ℕ). IsLayoutOf c.settings-settings.result.arena c.settings-settings.result.globals c.settings-settings.result.procs c.settings-settings.result.workers g l) c.goroutines-goroutines.ensures c.in-Ok.ensures.numbers in
     let laid : IsLayoutOf p.settings.arena p.settings.globals p.settings.procs p.settings.workers (length p.goroutines) l =
     subst (λ (s : Settings). IsLayoutOf s.arena s.globals s.procs s.workers (length p.goroutines) l) c.settings-settings.ensures counted in
-    let single : l.procs ≡ 1 = omega (arith, laid.procs_are, c.is_well_formed.ensures.settings.procs.0, c.is_well_formed.ensures.settings.procs.1) in
     let seat : p.settings.procs + p.settings.workers ≡ acks_of l = omega (arith, laid.procs_are, laid.workers_are) in
     let leads : c.in_ok-coord.coord ≡ coord.opening l (acks_of l) p.settings.gogc p.settings.minheap (most_cycles p) =
     c.in_ok-coord.ensures ∙ ap (λ (s : Settings). coord.opening l (s.procs + s.workers) s.gogc s.minheap c.most_cycles-cycles.result) c.settings-settings.ensures
     ∙ ap (λ (k : ℕ). coord.opening l (p.settings.procs + p.settings.workers) p.settings.gogc p.settings.minheap k) c.most_cycles-cycles.ensures.is
     ∙ ap (λ (k : ℕ). coord.opening l k p.settings.gogc p.settings.minheap (most_cycles p)) seat in
-    rw (c.new-mutator.ensures, c.opening-progress.ensures.is, c.in_ok-workers.ensures, leads, c.in_ok-points.ensures.items) (after_opens p l single c.in_ok-words.words c.opening-progress.result.next c.in_ok-words.ensures c.opening-progress.ensures.come)
+    rw (c.in_ok-workers.ensures, leads, c.in_ok-points.ensures.items) (after_opens p l c.in_ok-words.words c.in_ok-runners.runners.items c.in_ok-words.ensures c.in_ok-runners.ensures)

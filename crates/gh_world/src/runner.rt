@@ -1,0 +1,84 @@
+//! A processor of a world, and how far it is among its turns.
+
+ghost use Rattle.std.specs.Prelude.{◌≡◌, ◌<◌, length, slice_index, true, false};
+ghost use Rattle.gh_base.specs.Cells.{InRange, length_of};
+ghost use Rattle.gh_base.specs.declared.limits.TheConstants.{MOST_GOROUTINES};
+ghost use Rattle.gh_base.specs.Steps.{cell_of, changed, request, target};
+ghost use Rattle.gh_mutator.specs.Mutating as mutating;
+ghost use Rattle.gh_mutator.specs.Mutating.{asks, goes, is_busy};
+ghost use Rattle.gh_mutator.specs.Serving.{has_left_at, is_last, is_point, statement_answer};
+ghost use Rattle.gh_world.specs.World.{event_at, now_of, Begins, FitTurns, IsOpening, LaysOut};
+
+use crate::event::{Event, event_at};
+use crate::progress::Progress;
+use crate::turns::{due, following};
+use gh_base::{Layout, Machine};
+use gh_mutator::Mutator;
+use gh_mutator::laws::polls_make_room;
+use gh_script::Script;
+use gh_words::{Plain, Words};
+
+/// A processor, and how far it is among its turns.
+#[derive(Drop)]
+pub struct Runner<'s> {
+    pub mutator: Mutator<'s>,
+    pub progress: Progress,
+}
+
+impl<'s> Runner<'s> {
+    /// The processor at this seat, before its first step.
+    pub fn opening(layout: &Layout, script: &'s Script, seat: u32) -> Runner<'s>
+        requires { seat < layout.now.procs }
+        ensures { IsOpening script.now layout.now seat result }
+    {
+        script.is_well_formed();
+        Runner {
+            mutator: Mutator::new(layout, seat, script.shapes()),
+            progress: Progress::opening(script, seat),
+        }
+    }
+
+    /// Begins the next operation of the processor at this seat where none is begun.
+    pub fn begin_next(&mut self, script: &Script, seat: u32)
+        requires layout { LaysOut script.now (mutating.layout self.old.mutator) }
+        requires fits { FitTurns script.now (mutating.layout self.old.mutator) seat self.old.mutator self.old.progress }
+        ensures begins { Begins script.now seat self.old self.new }
+        ensures fits { FitTurns script.now (mutating.layout self.old.mutator) seat self.new.mutator self.new.progress }
+        ensures busy { has_left_at self.old.mutator.processor.task ≡ false → is_busy self.new.mutator ≡ true }
+    {
+        polls_make_room();
+        script.is_well_formed();
+        if self.mutator.is_busy() {
+            return;
+        }
+        if let Some(op) = due(script, self.progress.next) {
+            self.progress.next = following(script, seat, self.progress.next);
+            self.mutator.begin(op);
+            self.progress.count(op);
+        }
+    }
+
+    /// One step of the processor: what it says, and whether it is the point of the statement begun last.
+    pub fn advance(&mut self, words: &mut Plain) -> (Event, bool)
+        requires busy { is_busy self.old.mutator ≡ true }
+        requires long { length words.old ≡ length_of (mutating.layout self.old.mutator) }
+        requires last { self.old.progress.last < MOST_GOROUTINES }
+        ensures within { InRange (mutating.layout self.old.mutator) (cell_of (asks self.old.mutator)) }
+        ensures words { words.new ≡ changed (request (mutating.layout self.old.mutator) (asks self.old.mutator)) words.old }
+        ensures goes { let found = slice_index words.old (target (request (mutating.layout self.old.mutator) (asks self.old.mutator))) in
+            self.new ≡ record self.old { mutator = goes self.old.mutator found } }
+        ensures says { let found = slice_index words.old (target (request (mutating.layout self.old.mutator) (asks self.old.mutator))) in
+            result.0 ≡ event_at (now_of self.old.progress) (is_last self.old.mutator.processor.task) (statement_answer self.old.mutator.processor found) }
+        ensures point { let found = slice_index words.old (target (request (mutating.layout self.old.mutator) (asks self.old.mutator))) in
+            result.1 ≡ is_point (mutating.acts self.old.mutator found) }
+    {
+        let is_serving = self.mutator.is_serving();
+        let is_last = self.mutator.is_last();
+        let found = words.step(self.mutator.next());
+        let is_point = self.mutator.is_point(found);
+        let ended = self.mutator.take(found);
+        let answer = if is_serving { ended } else { None };
+        let (g, n) = self.progress.now();
+        (event_at(g, n, is_last, answer), is_point)
+    }
+}
