@@ -1,4 +1,5 @@
 pub mod Vocabulary
+pub mod Answering
 pub mod Choosing
 pub mod EitherOne
 pub mod Going

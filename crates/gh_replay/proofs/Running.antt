@@ -1,17 +1,21 @@
 -- What a run has so far, and what it has when the world is done.
 use Rattle.std.proofs.Common.{◌≡◌, ℕ, ◌+◌, ◌<◌, ◌≤◌, true, false, List, [], ◌∷◌, ◌++◌, length, map, reverse, refl, sym, ◌∙◌, ap, subst, Option, Some, None, is_some, arith, length-append}
+use Rattle.std.specs.Prelude.{slice_get}
 use Rattle.gh_base.specs.Cells.{seats_of}
 use Rattle.gh_base.specs.Lists.{by}
 use Rattle.gh_base.specs.Packing.{bit}
 use Rattle.gh_coord.specs.Keeping.{last_kept}
 use Rattle.gh_world.specs.declared.event.Event.{Event}
 use Rattle.gh_world.specs.declared.event.Event.TheVariants as event
+use Rattle.gh_world.specs.declared.runner.Runner.{Runner}
 use Rattle.gh_world.specs.Order.{begun_in}
 use Rattle.gh_world.specs.Schedule.{ended_after}
 use Rattle.gh_replay.specs.Places.{Ran, seen_of}
-use Rattle.gh_replay.proofs.Vocabulary.{actors_of, AllDone, Answer, answer_in, answered_in, answered_of, answers_given, Appends, Coordinating, Entry, EveryRunIsExplained, is_done, IsAfter, IsExplained, IsReplayed, IsRun, IsRunSoFar, IsScheduled, IsUnfinished, Layout, layout_of, LaysOut, marked_by, marks_in, moved, now_in, Op, opening, Outcome, outcome_by, Plan, Program, reached_in, script_of, setting_of, Standing, stands_in, State, swept_cycle, to_come, total_of, turns_of, WellFormed, who, with_goroutine}
-use Rattle.gh_replay.proofs.Choosing.{Agree, same_moved, same_who}
-use Rattle.gh_replay.proofs.Seen.{agree}
+use Rattle.gh_replay.proofs.Vocabulary.{actors_of, AllDone, Answer, answer_in, answered_in, answered_of, answers_given, Appends, Coordinating, Entry, EveryRunIsExplained, is_done, IsAfter, IsExplained, IsReplayed, IsRun, IsRunSoFar, IsScheduled, IsUnfinished, Layout, layout_of, LaysOut, marked_by, moved, now_in, Op, opening, Outcome, outcome_by, Plan, Program, reached_in, script_of, setting_of, Standing, stands_in, State, swept_cycle, to_come, total_of, turns_of, WellFormed, who, with_goroutine}
+use Rattle.gh_world.specs.World.{event_of, marks_at}
+use Rattle.gh_replay.proofs.Answering.{none_answered, one_answered}
+use Rattle.gh_replay.proofs.Choosing.{Agree, same_moved, same_who, who_there}
+use Rattle.gh_replay.proofs.Seen.{agree, none_past, quiet}
 
 -- so far the world has taken turns of the budget as the schedule says and answered so, and the schedule stands so
 pub record Midway (w : State) (plan : Plan) (budget left : ℕ) (s : Standing) (answers : List (ℕ × Answer)) : Type 0 where
@@ -21,6 +25,7 @@ pub record Midway (w : State) (plan : Plan) (budget left : ℕ) (s : Standing) (
   pub scheduled : IsScheduled (script_of w) (layout_of w) plan turns
   pub stands : s ≡ stands_in (script_of w) (layout_of w) plan turns
   pub given : answers ≡ answers_given (script_of w) (layout_of w) turns
+  pub counted : length answers ≡ answered_of w
 
 -- what one turn more is: of this actor, whose turn it is
 pub record Turn (w v : State) (actor : ℕ) (happened : Event) : Type 0 where
@@ -34,6 +39,17 @@ given_more p q l k es e told answers script layout says given =
     let before = given ∙ ap (λ (r : Program). answers_given r l es) (sym script) ∙ ap (λ (j : Layout). answers_given q j es) (sym layout) in
     ap (λ (xs : List (ℕ × Answer)). xs ++ told) before ∙ ap (λ (xs : List (ℕ × Answer)). answers_given q k es ++ xs) says
 
+-- and as many answers more as statements were answered
+counted_more : (w v : State) (e : Entry Op) (es : List (Entry Op)) (told : List (ℕ × Answer)) → script_of v ≡ script_of w → layout_of v ≡ layout_of w → IsAfter w es → IsAfter v (e ∷ es) → told ≡ with_goroutine (now_in (e ∷ es)).0 (answer_in (script_of v).shapes (layout_of v) es e)
+    → ((layout_of w).procs ≤ e.actor → told ≡ []) → answered_of v ≡ answered_of w + length told
+counted_more w v e es told script layout before after says silent =
+    let was = before.many in
+    let is = after.many in
+    let procs : (layout_of v).procs ≡ (layout_of w).procs = ap (λ (l : Layout). l.procs) layout in
+    one_answered (script_of v).shapes (layout_of v) w.runners v.runners e es told (now_in (e ∷ es)).0
+    (λ i x at. (before.running i x at).marked ∙ ap (λ (q : Program). marks_at q.shapes (layout_of w) i es) (sym script) ∙ ap (λ (l : Layout). marks_at (script_of v).shapes l i es) (sym layout))
+    (λ i x at. (after.running i x at).marked) (omega (arith, was, is, procs)) says (λ le. silent (omega (arith, was, le)))
+
 -- one turn more
 pub more : (w v : State) (happened : Event) (plan : Plan) (budget left rest actor : ℕ) (s after : Standing) (answers : List (ℕ × Answer)) → Midway w plan budget left s answers → left ≡ rest + 1 → Turn w v actor happened →
     s.next < actors_of w → actors_of w ≡ seats_of (layout_of w) → Some actor ≡ who (seen_of w) s → after ≡ moved (seen_of w) actor s → Midway v plan budget rest after (answers ++ answered_in happened)
@@ -42,6 +58,13 @@ more w v happened plan budget left rest actor s after answers m one t low seats 
     let same : Agree (seen_of w) (reached_in (script_of w) (layout_of w) m.turns) = agree w m.turns m.after seats in
     let here : who (reached_in (script_of w) (layout_of w) m.turns) (stands_in (script_of w) (layout_of w) plan m.turns) ≡ Some a.e.actor =
     ap (who (reached_in (script_of w) (layout_of w) m.turns)) (sym m.stands) ∙ sym (same_who (seen_of w) (reached_in (script_of w) (layout_of w) m.turns) same s low) ∙ sym whose ∙ ap Some (sym a.by) in
+    let there = who_there (seen_of w) s actor low (sym whose) in
+    let silent : (layout_of w).procs ≤ a.e.actor → answered_in happened ≡ [] = λ le.
+    ap answered_in a.says ∙ ap (λ (q : Program). answered_in (event_of q (layout_of v) m.turns a.e)) t.script ∙ ap (λ (k : Layout). answered_in (event_of (script_of w) k m.turns a.e)) t.layout
+    ∙ quiet w m.turns m.after seats a.e.actor (rw a.by there.0) le a.e.begun a.e.found (now_in (a.e ∷ m.turns)) in
+    let more_answers = counted_more w v a.e m.turns (answered_in happened) t.script t.layout m.after a.after a.answers silent in
+    let long = length-append answers (answered_in happened) in
+    let before = m.counted in
     let grown : IsScheduled (script_of w) (layout_of w) plan (a.e ∷ m.turns) = (m.scheduled, here) in
     let then' : after ≡ stands_in (script_of w) (layout_of w) plan (a.e ∷ m.turns) =
     moves ∙ same_moved (seen_of w) (reached_in (script_of w) (layout_of w) m.turns) same actor s ∙ ap (λ (b : ℕ). moved (reached_in (script_of w) (layout_of w) m.turns) b s) (sym a.by) ∙ ap (moved (reached_in (script_of w) (layout_of w) m.turns) a.e.actor) m.stands in
@@ -52,20 +75,13 @@ more w v happened plan budget left rest actor s after answers m one t low seats 
       scheduled = subst (λ (q : Program). IsScheduled q (layout_of v) plan (a.e ∷ m.turns)) (sym t.script) (subst (λ (k : Layout). IsScheduled (script_of w) k plan (a.e ∷ m.turns)) (sym t.layout) grown);
       stands = then' ∙ ap (λ (k : Layout). stands_in (script_of w) k plan (a.e ∷ m.turns)) (sym t.layout) ∙ ap (λ (q : Program). stands_in q (layout_of v) plan (a.e ∷ m.turns)) (sym t.script);
       given = given_more (script_of w) (script_of v) (layout_of w) (layout_of v) m.turns a.e (answered_in happened) answers t.script t.layout a.answers m.given;
+      counted = omega (arith, long, before, more_answers);
     }
-
--- as many answers as statements were answered
-answers_long : (p : Program) (l : Layout) (es : List (Entry Op)) → length (answers_given p l es) ≡ marks_in p.shapes l es
-answers_long p l [] = refl
-answers_long p l (e ∷ es) = length-append (answers_given p l es) (with_goroutine (now_in (e ∷ es)).0 (answer_in p.shapes l es e)) ∙ (rw (answers_long p l es) (one (answer_in p.shapes l es e))) where
-  one : (a : Option Answer) → marks_in p.shapes l es + length (with_goroutine (now_in (e ∷ es)).0 a) ≡ marks_in p.shapes l es + bit (is_some a)
-  one None = refl
-  one (Some a) = refl
 
 -- no more answers than statements
 pub roomy : (w : State) (plan : Plan) (budget left : ℕ) (s : Standing) (answers : List (ℕ × Answer)) → answered_of w ≤ total_of (script_of w) → Midway w plan budget left s answers → length answers ≤ total_of (script_of w)
 roomy w plan budget left s answers few m =
-    let many : length answers ≡ answered_of w = ap (λ (xs : List (ℕ × Answer)). length xs) m.given ∙ answers_long (script_of w) (layout_of w) m.turns ∙ sym m.after.marked in
+    let many = m.counted in
     omega (arith, many, few)
 
 -- one answer more has room
@@ -76,7 +92,10 @@ room_for v happened plan budget rest after answers room total g n a m sound is s
     omega (arith, within, grown, same, few)
 
 pub opens : (w : State) (plan : Plan) (budget : ℕ) (s : Standing) (answers : List (ℕ × Answer)) → IsAfter w [] → s ≡ opening plan → answers ≡ [] → Midway w plan budget budget s answers
-opens w plan budget s answers after stands empty = record { turns = []; after = after; long = omega arith; scheduled = tt; stands = stands; given = empty }
+opens w plan budget s answers after stands empty =
+    let none = none_answered (script_of w).shapes (layout_of w) w.runners (λ i x at. (after.running i x at).marked) in
+    let no_answers : length answers ≡ 0 = ap (λ (xs : List (ℕ × Answer)). length xs) empty in
+    record { turns = []; after = after; long = omega arith; scheduled = tt; stands = stands; given = empty; counted = omega (arith, none, no_answers) }
 
 pub ran : (w : State) (plan : Plan) (budget left : ℕ) (s : Standing) (answers : List (ℕ × Answer)) → Midway w plan budget left s answers → (¬ AllDone w → left ≡ 0) → Ran w plan budget answers
 ran w plan budget left s answers m none = record {
@@ -105,14 +124,16 @@ finished law w p plan budget answers formed script lays r whole = subst Goal scr
         (law (script_of w) (layout_of w) r.turns w.coord formed lays (whole r.turns r.after) r.after.coordinator);
   }
 
--- what the one processor has begun is the first of its turns
-so_far : (w : State) (es : List (Entry Op)) → WellFormed (script_of w) → LaysOut (script_of w) (layout_of w) → IsAfter w es → IsRunSoFar (script_of w) (layout_of w) es
-so_far w es formed lays after = record { legal = after.legal; to_come = λ a. to_come (script_of w) a w.progress.next; turns = λ a lt. subst Begun (first a lt) after.turns } where
-  Begun : ℕ → Type 0
-  Begun a = turns_of (script_of w) a ≡ reverse (begun_in (by a es)) ++ to_come (script_of w) a w.progress.next
+-- what each processor has begun is the first of its turns
+abbrev behind_begun : Program → (a : ℕ) → Option Runner → List Op
+behind_begun p a None = []
+behind_begun p a (Some x) = to_come p a x.progress.next
 
-  first : (a : ℕ) → a < (layout_of w).procs → 0 ≡ a
-  first a lt = let most = formed.settings.procs.1 in let is = lays.procs_are in omega (arith, most, is, lt)
+so_far : (w : State) (es : List (Entry Op)) → IsAfter w es → IsRunSoFar (script_of w) (layout_of w) es
+so_far w es after = record { legal = after.legal; to_come = λ a. behind_begun (script_of w) a (slice_get w.runners a); turns = λ a lt. go a lt (slice_get w.runners a) refl } where
+  go : (a : ℕ) → a < (layout_of w).procs → (o : Option Runner) → slice_get w.runners a ≡ o → turns_of (script_of w) a ≡ reverse (begun_in (by a es)) ++ behind_begun (script_of w) a o
+  go a lt (Some x) e = (after.running a x e).turns
+  go a lt None e = let past = none_past w.runners a e in let many = after.many in absurd (omega (arith, past, many, lt))
 
 -- an actor that is not done, by the lists that the world is the state of
 pub record Going (w : State) : Type 0 where
@@ -130,7 +151,7 @@ unfinished w p plan budget answers formed script lays r going g = subst Goal scr
     layout = layout_of w;
     lays_out = lays;
     turns = r.turns;
-    so_far = so_far w r.turns formed lays r.after;
+    so_far = so_far w r.turns r.after;
     scheduled = r.scheduled;
     long = r.all going;
     who = g.who;

@@ -5,14 +5,14 @@ use Rattle.gh_base.specs.declared.layout.Layout.{Layout}
 use Rattle.gh_base.specs.declared.machine.Entry.{Entry}
 use Rattle.gh_script.specs.Program.{Program}
 use Rattle.gh_world.specs.Schedule.{ended_after, IsInTurn}
-use Rattle.gh_world.specs.World.{actor_after, marks_by, marks_in, setting_of}
+use Rattle.gh_world.specs.World.{actor_after, marks_at, marks_by, setting_of}
 use Rattle.gh_replay.specs.Plan.{no_plan, Plan}
 use Rattle.gh_replay.specs.Standing.{moved, opening, Reached, Standing, who}
 
 module _ (p : Program) (l : Layout) where
   -- what the actors have come to after the list
   abbrev pub reached_in : List (Entry Op) → Reached
-  reached_in es = record { actors = (setting_of p l).actors; ended = ended_after (setting_of p l) es; marks = λ a. marks_by (marks_in p.shapes l es) (actor_after p l es a) }
+  reached_in es = record { actors = (setting_of p l).actors; ended = ended_after (setting_of p l) es; marks = λ a. marks_by (marks_at p.shapes l a es) (actor_after p l es a) }
 
   -- where the schedule stands after the list
   abbrev pub stands_in : Plan → List (Entry Op) → Standing

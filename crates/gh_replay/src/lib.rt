@@ -1,6 +1,6 @@
 //! Runs of scripts over a plain list of words, under a budget of turns.
 //!
-//! A turn is one step of one actor, the processor, a worker or the coordinator: one atomic operation on one
+//! A turn is one step of one actor, a processor, a worker or the coordinator: one atomic operation on one
 //! word. Who steps when a schedule says ([`Schedule`]); one that says nothing has the actors take turns in
 //! ascending order ([`nothing_said_is_in_turn`]). What a run comes to is explained by the list of its turns. By
 //! one schedule a script has one such list, so that a run ends within the budget or runs out of turns, and

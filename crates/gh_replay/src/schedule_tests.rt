@@ -1,5 +1,6 @@
 //! Replays by schedules.
 
+use super::tests::lines;
 use super::{ReplayFault, Schedule, parse_list, replay};
 use gh_lines::LineBuf;
 use gh_script::{Script, parse};
@@ -141,6 +142,41 @@ fn an_item_goes_on_until_it_ends(rt: HostRuntime) -> Result<(), Fail> {
     for list in ["3*1000000", "3@1", "0*500,1*200,2*200"] {
         let outcome = replay(alloc, &script, by_list(alloc, list)?, 10_000);
         assert!(&rt; outcome.is_ok(), "{list}");
+    }
+    Ok(())
+}
+
+#[test]
+fn each_processor_has_its_own_steps(rt: HostRuntime) -> Result<(), Fail> {
+    let alloc = rt.alloc();
+    let rows = [
+        // The second processor loads the last reference to a white object before the first one overwrites it.
+        (
+            "procs 3|go a|new r0 node|gstore 0 r0|new r1 node|store r0 0 r1|int r2 9|store r1 1 r2|nil r1|store r0 0 r3|end|go b|nil r5|gload r0 0|load r1 r0 0|gc|load r2 r1 1|end|go c|gc|end",
+            "0@7,2*2,4@1,0*9,1*9,2*9,3*9,4@2,1@3,0@8",
+            "a 1 ref a.0|a 3 ref a.1|b 2 ref a.0|b 3 ref a.1|b 4 swept|b 5 int 9|c 1 swept|cycle 1 marked 2 freed 0|cycle 2 marked 2 freed 0|cycle 3 marked 1 freed 1|live 1 bytes 16|",
+        ),
+        // A reference of an unscanned stack is stored into a black object and dropped.
+        (
+            "procs 2|go z|repeat 8|nil r0|end|end|go c|gc|end|go a|new r0 node|gstore 0 r0|new r1 node|store r0 0 r1|nil r1|gc|load r1 r0 0|end",
+            "0@7,1*2,3@1,0*9,1*9,2*9,3@2,2@3,0@10",
+            "c 1 swept|a 1 ref a.0|a 3 ref a.1|a 6 swept|a 7 ref a.1|cycle 1 marked 2 freed 0|cycle 2 marked 2 freed 0|cycle 3 marked 2 freed 0|live 2 bytes 32|",
+        ),
+        // Two processors overwrite the same field, and both have read the same old value.
+        (
+            "procs 4|go y|repeat 20|nil r0|end|end|go z|repeat 20|nil r0|end|end|go d|nil r5|gload r0 0|load r1 r0 0|load r2 r0 0|load r3 r0 0|gc|load r4 r1 1|load r4 r2 1|load r4 r3 1|end|go c|gc|end|go a|new r0 node|gstore 0 r0|new r1 node|store r0 0 r1|nil r1|new r1 node|store r0 0 r1|nil r1|end|go b|new r1 node|gload r0 0|store r0 0 r1|nil r1|end",
+            "0@13,1@5,3*2,5@1,0*9,1*9,2*9,3*9,4*9,5@2,2@3,0*10,1*11,0@14,2@4,1@6,2@5,0@16,1@8",
+            "d 2 ref a.0|d 3 ref a.1|d 4 ref a.2|d 5 ref b.0|d 6 swept|d 7 int 0|d 8 int 0|d 9 int 0|c 1 swept|a 1 ref a.0|a 3 ref a.1|a 6 ref a.2|b 1 ref b.0|b 2 ref a.0|cycle 1 marked 4 freed 0|cycle 2 marked 4 freed 0|cycle 3 marked 2 freed 2|live 2 bytes 32|",
+        ),
+        // An object that is made while marking is on, and dropped at once, is freed in the next cycle.
+        (
+            "procs 2|go a|new r0 node|nil r0|gc|end|go c|gc|end",
+            "1*2,3@1,0*9,1*9,2*9,3@2,0@2",
+            "a 1 ref a.0|a 3 swept|c 1 swept|cycle 1 marked 1 freed 0|cycle 2 marked 0 freed 1|cycle 3 marked 0 freed 0|live 0 bytes 0|",
+        ),
+    ];
+    for (goroutines, list, want) in rows {
+        lines(&rt, alloc, goroutines, by_list(alloc, list)?, want)?;
     }
     Ok(())
 }

@@ -7,14 +7,21 @@ use std::alloc::Global;
 use std::process::Abort;
 use std::test::Fail;
 
-const HEADER: &str = "procs 1\nworkers 1\narena 16\nglobals 1\ngogc 0\ntype node pn\n";
+const HEADER: &str = "workers 1\narena 16\nglobals 1\ngogc 0\ntype node pn\n";
 
-/// Replays the goroutines, whose lines are parted by `|`, and looks at the lines of the report, parted so too.
-fn lines(rt: &impl Abort, alloc: Global, goroutines: &str, want: &str) -> Result<(), Fail> {
+/// Replays the goroutines, whose lines are parted by `|`, as a schedule says, and looks at the lines of the report,
+/// parted so too.
+pub fn lines(
+    rt: &impl Abort,
+    alloc: Global,
+    goroutines: &str,
+    schedule: Schedule,
+    want: &str,
+) -> Result<(), Fail> {
     let text = format!(in alloc; "{HEADER}{goroutines}")?;
     let text = text.replace(alloc, "|", "\n")?;
     let script = parse(alloc, text.as_bytes())?;
-    let report = replay(alloc, &script, Schedule::unsaid(alloc), 10_000)?;
+    let report = replay(alloc, &script, schedule, 10_000)?;
     let want = want.replace(alloc, "|", "\n")?;
     let mut told = Vec::new(alloc);
     let mut line = LineBuf::new();
@@ -53,7 +60,13 @@ fn scripts_are_replayed(rt: HostRuntime) -> Result<(), Fail> {
         ),
     ];
     for (goroutines, want) in rows {
-        lines(&rt, rt.alloc(), goroutines, want)?;
+        lines(
+            &rt,
+            rt.alloc(),
+            goroutines,
+            Schedule::unsaid(rt.alloc()),
+            want,
+        )?;
     }
     Ok(())
 }

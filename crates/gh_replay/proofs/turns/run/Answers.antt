@@ -1,12 +1,21 @@
-use Rattle.std.proofs.Common.{◌≡◌, ℕ, ◌+◌, ◌-◌, ◌++◌, ◌<◌, List, length, sym, ◌∙◌, ap, subst, arith}
+use Rattle.std.proofs.Common.{◌≡◌, ℕ, ◌+◌, ◌-◌, ◌++◌, ◌<◌, List, length, refl, sym, ◌∙◌, ap, subst, arith}
 use Rattle.std.proofs.lemmas.List.{append-nil}
 use Rattle.gh_base.specs.declared.value.Answer.{Answer}
 use Rattle.gh_world.specs.Turns.{total_of}
 use Rattle.gh_world.specs.World.{actors_of, answered_in}
 use Rattle.gh_replay.specs.Places.{standing_at}
-use Rattle.gh_replay.proofs.Running.{Midway, more, ran, room_for, roomy}
+use Rattle.gh_replay.specs.Standing.{Standing}
+use Rattle.gh_replay.proofs.Running.{Midway, more, opens, ran, room_for, roomy}
 use Rattle.gh_replay.proofs.turns.run.Goals as goal
 use Rattle.gh_replay.proofs.turns.run.Goals.{in-Answered, in-Moved, in-Swept, in-Finished}
+
+pub loop-left-init : goal.loop-left-init
+loop-left-init c =
+    let first = opens c.args.world.now c.args.schedule c.args.budget (standing_at c.opening-place.result) c.args.answers.now.items c.requires.opens c.opening-place.ensures.stands c.requires.empty in
+    let none = first.counted in
+    let empty : length c.args.answers.now.items ≡ 0 = ap (λ (xs : List (ℕ × Answer)). length xs) c.requires.empty in
+    let start : c.opening-place.result.next ≡ 0 = ap (λ (s : Standing). s.next) c.opening-place.ensures.stands in
+    record { script = refl; layout = refl; midway = first; within = c.opening-place.ensures.within; few = omega (arith, none, empty); next = omega (arith, start); room = c.requires.room }
 
 pub push_reserved-requires : goal.push_reserved-requires
 push_reserved-requires c =
