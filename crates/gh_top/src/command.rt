@@ -22,7 +22,7 @@ use std::alloc::Global;
 /// Runs the command: `words` begins with the program's name, and the one command is `replay`, with at
 /// most one each of `--seed n` and `--list text`, which say who steps when, and `--budget n`, the most atomic
 /// steps that all actors together may make (1 to 1,000,000,000, and 50,000,000 where the words say nothing).
-/// It reads a script from `src`, and runs its goroutines in turns on one processor, among workers and a
+/// It reads a script from `src`, and runs its goroutines in turns on its processors, among workers and a
 /// coordinator, which collect garbage: where the words say nothing of who steps, each of these actors makes a
 /// step in its turn. It writes the lines of the answers to `out`, goroutine by goroutine, then those of the
 /// cycles, and the one of what is live at the end. A command line that is not taken, one whose list is none
