@@ -2,6 +2,7 @@ pub mod Tells
 pub mod Protecting
 pub mod Steps
 pub mod Keeping
+pub mod Going
 pub mod Cells
 pub mod Showing
 pub mod Opens

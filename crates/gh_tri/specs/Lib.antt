@@ -3,6 +3,7 @@ pub mod Colours
 pub mod Tricolour
 pub mod Invariants
 pub mod Changes
+pub mod Steps
 pub mod Opening
 pub mod Runs
 pub mod Shown

@@ -46,11 +46,12 @@
 //!
 //! `specs/Tricolour.antt` has the picture as a record of functions (`Tricolour`), what each move leaves (`moved`), and when it
 //! may be made (`May`). `specs/Invariants.antt` has the invariant in five parts: scanned fields, black stacks, barrier order,
-//! marked objects, and objects that are not made. `specs/Changes.antt` has the changes of registers.
-//! [`a_move_keeps_the_invariants`] and [`a_change_of_registers_keeps_the_invariants`] are the laws of one step, and with
-//! [`an_opening_has_the_invariants`] and [`what_is_reached_is_marked`] they give [`every_list_of_moves`], the theorem over all
-//! lists of moves. [`Picture`] keeps such a picture in tables that are made once; the contract of each of its moves and changes
-//! says that it is that move or change and no other.
+//! marked objects, and objects that are not made. `specs/Changes.antt` has the changes of registers, `specs/Steps.antt` what
+//! leads from one picture to another. [`a_move_keeps_the_invariants`] and [`a_change_of_registers_keeps_the_invariants`] are the
+//! laws of one step. With [`an_opening_has_the_invariants`] and [`what_is_reached_is_marked`] they give [`every_list_of_moves`], the
+//! theorem over all lists of moves, and [`each_step_keeps_the_invariants`] says them of moves and changes in any order: `gh_marks`
+//! shows that each step of marking is such. [`Picture`] keeps such a picture in tables that are made once; the contract of each of
+//! its moves and changes says that it is that move or change and no other.
 #![tactic(auto)]
 
 ghost use Rattle.gh_tri.specs.Changes.{ChangesKeepTheInvariants};
@@ -61,6 +62,7 @@ ghost use Rattle.gh_tri.specs.Invariants.{
   NoWhiteObjectIsReached,
   Opens,
 };
+ghost use Rattle.gh_tri.specs.Steps.{EachStepKeepsTheInvariants};
 
 mod moves;
 mod shades;
@@ -117,8 +119,7 @@ pub enum Move {
     ScanRegister(u32, u32),
 }
 
-/// Each move that may be made keeps the invariants, from whatever picture has them. So who shows that each atomic step of a
-/// machine is a list of moves, each of which may be made, has the invariants after each step.
+/// Each move that may be made keeps the invariants, from whatever picture has them.
 pub fn a_move_keeps_the_invariants()
     ensures { KeepsTheInvariants }
 {}
@@ -148,6 +149,16 @@ pub fn every_list_of_moves()
     ensures invariants { EveryMoveKeepsTheInvariants }
     ensures white { NoWhiteObjectIsReached }
 {}
+
+/// Whatever moves and changes of registers lead from one picture to another, each made where it may be, they keep the
+/// invariants. So who shows that each atomic step of a machine leads from a picture of the one state to a picture of the other
+/// has the invariants in all of its states.
+pub fn each_step_keeps_the_invariants()
+    ensures { EachStepKeepsTheInvariants }
+{
+    a_move_keeps_the_invariants();
+    a_change_of_registers_keeps_the_invariants();
+}
 
 #[cfg(test)]
 mod tests;
