@@ -126,8 +126,8 @@ dead-white z s g o h = go (s.colour o) refl where
   go Black e = clash Black e tt
 
 module _ (k : RowsAreWritten) (z : Cycle) (a : ℕ) (s : Shared) (g : Good z s) (o : ℕ) (h : IsDead s o) where
-  dead-place : (p size : ℕ) (pointer : ℕ → Bool) (noscan : Bool) → May z a s (Place p size pointer noscan) → IsDead (moved z a s (Place p size pointer noscan)) o
-  dead-place p size pointer noscan may = elim (eqb_tells p o) [
+  dead-place : (p size : ℕ) (pointer : ℕ → Bool) (noscan : Bool) (f d : ℕ) → May z a s (Place p size pointer noscan f d) → IsDead (moved z a s (Place p size pointer noscan f d)) o
+  dead-place p size pointer noscan f d may = elim (eqb_tells p o) [
     | inl y ↦ absurd (g.objects.placing p a may.reserved (rw (y.1) h.placed))
     | inr n ↦ record { placed = alloc-other k s.words p o n.1 ∙ h.placed; dead = rw (n.0) h.dead }
   ]
@@ -138,7 +138,7 @@ module _ (k : RowsAreWritten) (z : Cycle) (a : ℕ) (s : Shared) (g : Good z s) 
 
   dead-moved : (m : Move) → May z a s m → IsDead (moved z a s m) o
   dead-moved (Quiet step) may = dead-quiet step may
-  dead-moved (Place p size pointer noscan) may = dead-place p size pointer noscan may
+  dead-moved (Place p size pointer noscan f d) may = dead-place p size pointer noscan f d may
   dead-moved _ may = record { placed = h.placed; dead = h.dead }
 
 pub each-move-leaves-the-dead : RowsAreWritten → EachMoveLeavesTheDead

@@ -183,5 +183,5 @@ hands-follow z a s h g x = record {
   scanned_stack = λ f. record { holds = x.holds; has = x.has };
   ended = λ f. record { holds = x.holds; has = x.has };
   reserved = λ o may none. record { holds = x.holds; has = has-reserve z a s h g x o may.white none };
-  placed = λ o size pointer noscan some. record { holds = x.holds; has = has-place z a s h g x o some };
+  placed = λ o size pointer noscan f d some. record { holds = x.holds; has = has-place z a s h g x o some };
 }

@@ -105,8 +105,8 @@ module _ (z : Cycle) (s : Shared) (g : Good z s) where
     globals_are = λ j. elim (eqb_tells i j) [ inr n ↦ inl (rw (n.0) refl) | inl y ↦ inr (rw (← y.1) may.old) ];
   }
 
-  pub guards-places : (a o size : ℕ) (pointer : ℕ → Bool) (noscan : Bool) → May z a s (Place o size pointer noscan) → ToGuard (rows (moved z a s (Place o size pointer noscan)))
-  guards-places a o size pointer noscan may = record {
+  pub guards-places : (a o size : ℕ) (pointer : ℕ → Bool) (noscan : Bool) (h d : ℕ) → May z a s (Place o size pointer noscan h d) → ToGuard (rows (moved z a s (Place o size pointer noscan h d)))
+  guards-places a o size pointer noscan h d may = record {
     bits = bits;
     marks = λ p x. x;
     greys = λ p i x. elim (eqb_tells o p) [ inl y ↦ absurd (subst IsGrey may.reserved (rw (y.1) x)) | inr n ↦ inl (rw (n.0) x) ];
@@ -186,7 +186,7 @@ module _ (z : Cycle) (s : Shared) (g : Good z s) where
     guards-moved a (ReadGlobal i) may = guards-waits i (Read a (s.words (cell.Global i))) tt
     guards-moved a (ScanGlobal i v) may = guards-scans a i v may
     guards-moved a (Reserve o) may = guards-reserve o a may
-    guards-moved a (Place o size pointer noscan) may = guards-places a o size pointer noscan may
+    guards-moved a (Place o size pointer noscan h d) may = guards-places a o size pointer noscan h d may
     guards-moved a _ may = guards-same
 
 pub each-move-guards : RowsAreWritten → EachMoveGuards

@@ -6,7 +6,7 @@ use Rattle.gh_base.specs.declared.cell.Ask.{Ask}
 use Rattle.gh_base.specs.declared.cell.Cell.TheVariants as cell
 use Rattle.gh_base.specs.Holding.{holder_in}
 use Rattle.gh_base.specs.Rows.{Row, RowsAreWritten, buffer_words, field_words, global_words, mark_words}
-use Rattle.gh_heap.specs.Moves.{update}
+use Rattle.gh_heap.specs.Moves.{update, update_at}
 use Rattle.gh_heap.specs.Rights.{IsOf}
 use Rattle.gh_marks.specs.Colours.{Black, Buffered, Claimed, Colour, Cycle, Extents, IsClean, IsMarked, IsPointer, Pending, Placing, Progress, Read, Scanned, Shared, Taken, White, scanned_words}
 use Rattle.gh_marks.specs.Good.{Good}
@@ -138,16 +138,14 @@ module _ (k : RowsAreWritten) (z : Cycle) (a c : ℕ) (s : Shared) (g : Good z s
       })
       (objects-same z a s) (stacks-same z a s)
 
-  keeps-place : (o size : ℕ) (pointer : ℕ → Bool) (noscan : Bool) → May z c s (Place o size pointer noscan) → Keeps z a s (moved z c s (Place o size pointer noscan))
-  keeps-place o size pointer noscan may = plain (Place o size pointer noscan) (words-same z a s)
-      (record {
-        sinces = λ p h. elim (eqb_tells o p) [ inl y ↦ rw (y.0) refl | inr n ↦ rw (n.0) h ];
-        extents = λ p h. elim (eqb_tells o p) [
-          | inl y ↦ absurd (g.objects.placing o c may.reserved (rw (y.1) (g.objects.placed p h)))
-          | inr n ↦ record { size = rw (n.0) refl; pointer = rw (n.0) refl; noscan = rw (n.0) refl }
-        ];
-      })
-      (stacks-same z a s)
+  objects-placed : (o size : ℕ) (pointer : ℕ → Bool) (noscan : Bool) (h d : ℕ) → May z c s (Place o size pointer noscan h d) → Objects z a s (moved z c s (Place o size pointer noscan h d))
+  objects-placed o size pointer noscan h d may = record {
+    sinces = λ p i. elim (eqb_tells o p) [ inl y ↦ rw (y.0) refl | inr n ↦ rw (n.0) i ];
+    extents = λ p i. elim (eqb_tells o p) [
+      | inl y ↦ absurd (g.objects.placing o c may.reserved (rw (y.1) (g.objects.placed p i)))
+      | inr n ↦ record { size = rw (n.0) refl; pointer = rw (n.0) refl; noscan = rw (n.0) refl }
+    ];
+  }
 
   module _ (step : Ask) (may : May z c s (Quiet step)) where
     u : Unread s (moved z c s (Quiet step)).words
@@ -187,7 +185,6 @@ module _ (k : RowsAreWritten) (z : Cycle) (a c : ℕ) (s : Shared) (g : Good z s
   keeps-moved (ReadGlobal i) may x = plain (ReadGlobal i) (words-same z a s) (objects-same z a s) (stacks-same z a s)
   keeps-moved (ScanGlobal i v) may x = plain (ScanGlobal i v) (words-same z a s) (objects-same z a s) (stacks-same z a s)
   keeps-moved (Reserve o) may x = plain (Reserve o) (marks-set o) (objects-same z a s) (stacks-same z a s)
-  keeps-moved (Place o size pointer noscan) may x = keeps-place o size pointer noscan may
   keeps-moved _ may x = absurd x
 
   -- To another seat: what it has in hand stays, and its stacks.
@@ -232,13 +229,6 @@ module _ (k : RowsAreWritten) (z : Cycle) (a c : ℕ) (s : Shared) (g : Good z s
     leaves-reserve : (o : ℕ) → May z c s (Reserve o) → Others z a s (moved z c s (Reserve o))
     leaves-reserve o may = left (Reserve o) may tt
         (recoloured o (Placing c) (white-other o may.white) ((λ h. cc), (λ h. cc), (λ h. absurd (ne (same h)))))
-        (buffer-same z a s) where
-          same : Placing c ≡ Placing a → a ≡ c
-          same h = cc
-
-    leaves-place : (o size : ℕ) (pointer : ℕ → Bool) (noscan : Bool) → May z c s (Place o size pointer noscan) → Others z a s (moved z c s (Place o size pointer noscan))
-    leaves-place o size pointer noscan may = left (Place o size pointer noscan) may tt
-        (recoloured o Black (rw (may.reserved) ((λ h. cc), (λ h. cc), (λ h. absurd (ne (same h))))) ((λ h. cc), (λ h. cc), (λ h. cc)))
         (buffer-same z a s) where
           same : Placing c ≡ Placing a → a ≡ c
           same h = cc
@@ -329,10 +319,19 @@ module _ (k : RowsAreWritten) (z : Cycle) (a c : ℕ) (s : Shared) (g : Good z s
     of-stack : (m : Move) → Words z a s (moved z c s m) → Objects z a s (moved z c s m) → Stacks z a s (moved z c s m) → Work z a s (moved z c s m) → Buffer z a s (moved z c s m) → Others z a s (moved z c s m)
     of-stack m w o t h b = all-kept z a s (moved z c s m) (plain m w o t) h b
 
+    -- a register of a goroutine of the mover
+    register-set : (h d v : ℕ) → IsOf z.arena c h → StacksKept z a s.registers (update_at s.registers h d v) (scanned_words s.words) (scanned_words s.words)
+    register-set h d v own = record { each_register = λ f q other. elim (eqb_tells h f) [ inl y ↦ apart h f own other y.1 | inr n ↦ rw (n.0) refl ]; each_stack = λ f other. refl }
+
     leaves-set : (h d v : ℕ) → May z c s (SetRegister h d v) → Others z a s (moved z c s (SetRegister h d v))
-    leaves-set h d v may = of-stack (SetRegister h d v) (words-same z a s) (objects-same z a s)
-        (record { each_register = λ f q own. elim (eqb_tells h f) [ inl y ↦ apart h f may.own own y.1 | inr n ↦ rw (n.0) refl ]; each_stack = λ f own. refl })
-        (work-same z a s) (buffer-same z a s)
+    leaves-set h d v may = of-stack (SetRegister h d v) (words-same z a s) (objects-same z a s) (register-set h d v may.own) (work-same z a s) (buffer-same z a s)
+
+    leaves-place : (o size : ℕ) (pointer : ℕ → Bool) (noscan : Bool) (h d : ℕ) → May z c s (Place o size pointer noscan h d) → Others z a s (moved z c s (Place o size pointer noscan h d))
+    leaves-place o size pointer noscan h d may = of-stack (Place o size pointer noscan h d) (words-same z a s) (objects-placed o size pointer noscan h d may) (register-set h d (o + 1) may.own)
+        (recoloured o Black (rw (may.reserved) ((λ x. cc), (λ x. cc), (λ x. absurd (ne (same x))))) ((λ x. cc), (λ x. cc), (λ x. cc)))
+        (buffer-same z a s) where
+          same : Placing c ≡ Placing a → a ≡ c
+          same x = cc
 
     leaves-scan_stack : (h : ℕ) → May z c s (ScanStack h) → Others z a s (moved z c s (ScanStack h))
     leaves-scan_stack h may = of-stack (ScanStack h) (words-same z a s) (objects-same z a s)
@@ -370,7 +369,7 @@ module _ (k : RowsAreWritten) (z : Cycle) (a c : ℕ) (s : Shared) (g : Good z s
     leaves-moved (ScanStack h) may = leaves-scan_stack h may
     leaves-moved (EndStack h) may = leaves-end h may
     leaves-moved (Reserve o) may = leaves-reserve o may
-    leaves-moved (Place o size pointer noscan) may = leaves-place o size pointer noscan may
+    leaves-moved (Place o size pointer noscan h d) may = leaves-place o size pointer noscan h d may
 
 pub each-move-leaves : RowsAreWritten → EachMoveLeaves
 each-move-leaves k z a b s m ne g may = leaves-moved k z a b s g ne m may

@@ -1,4 +1,5 @@
 mod Bits
+mod Drawing
 mod Ending
 mod Example
 mod Follows

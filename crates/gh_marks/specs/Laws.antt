@@ -69,7 +69,7 @@ pub record HandsFollow (z : Cycle) (a : ℕ) (s : Shared) (h : InHand) : Type 0 
   pub scanned_stack : (g : ℕ) → Hands a (moved z a s (ScanStack g)) h
   pub ended : (g : ℕ) → Hands a (moved z a s (EndStack g)) h
   pub reserved : (o : ℕ) → May z a s (Reserve o) → h.placing ≡ None → Hands a (moved z a s (Reserve o)) (record h { placing = Some o })
-  pub placed : (o size : ℕ) (pointer : ℕ → Bool) (noscan : Bool) → h.placing ≡ Some o → Hands a (moved z a s (Place o size pointer noscan)) (record h { placing = None })
+  pub placed : (o size : ℕ) (pointer : ℕ → Bool) (noscan : Bool) (g d : ℕ) → h.placing ≡ Some o → Hands a (moved z a s (Place o size pointer noscan g d)) (record h { placing = None })
 
 abbrev pub EachHandFollows : Type 0
 EachHandFollows = (z : Cycle) (a : ℕ) (s : Shared) (h : InHand) → Good z s → Hands a s h → HandsFollow z a s h

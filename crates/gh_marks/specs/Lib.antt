@@ -5,5 +5,6 @@ pub mod Good
 pub mod Knows
 pub mod Laws
 pub mod Moves
+pub mod Picture
 pub mod Routines
 pub mod Seats

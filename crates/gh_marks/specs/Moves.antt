@@ -1,5 +1,5 @@
 -- The moves by which an actor changes the shared state of marking, when it may make them, and what they leave to the others.
-use Rattle.std.specs.Prelude.{◌≡◌, ◌≢◌, ℕ, ◌+◌, ◌-◌, ◌/◌, ◌%◌, ◌^◌, ◌<◌, ◌≤◌, ◌⊎◌, ◌↔◌, Bool, true, false, bit_or}
+use Rattle.std.specs.Prelude.{◌≡◌, ◌≢◌, ℕ, ◌+◌, ◌*◌, ◌-◌, ◌/◌, ◌%◌, ◌^◌, ◌<◌, ◌≤◌, ◌⊎◌, ◌↔◌, Bool, true, false, bit_or}
 use Rattle.std.proofs.Common.{◌∙◌}
 use Rattle.gh_base.specs.declared.cell.Ask.{Ask}
 use Rattle.gh_base.specs.declared.cell.Ask.TheVariants as ask
@@ -44,9 +44,9 @@ pub data Move : Type 0 where
   SetRegister : (g d value : ℕ) → Move
   ScanStack : (g : ℕ) → Move
   EndStack : (g : ℕ) → Move
-  -- a new object: its mark bit is set while its slot is empty, and then its alloc bit, with its words as the last three say
+  -- A new object: its mark bit is set while its slot is empty, and then its alloc bit, with its words as these say; and register d of goroutine g names it.
   Reserve : (o : ℕ) → Move
-  Place : (o size : ℕ) → (pointer : ℕ → Bool) → (noscan : Bool) → Move
+  Place : (o size : ℕ) → (pointer : ℕ → Bool) → (noscan : Bool) → (g d : ℕ) → Move
 
 -- Rows that marking does not read. A heap word may change in a step of this kind where it is no pointer field of an object of the cycle: in a slot that is being cleared, and where a field holds a number.
 abbrev pub IsAside : Shared → Cell → Type 0
@@ -97,7 +97,13 @@ moved z a s (SetRegister g d value) = record s { registers = update_at s.registe
 moved z a s (ScanStack g) = record s { words = put s.words (cell.Scanned g) z.number }
 moved z a s (EndStack g) = record s { words = put s.words (cell.Scanned g) END; registers = update s.registers g (λ d. 0) }
 moved z a s (Reserve o) = record s { words = set_mark s.words o; colour = update s.colour o (Placing a) }
-moved z a s (Place o size pointer noscan) = record s { words = set_alloc s.words o; colour = update s.colour o Black; since = update s.since o true; extents = with_extent s.extents o size pointer noscan }
+moved z a s (Place o size pointer noscan g d) = record s {
+  words = set_alloc s.words o;
+  registers = update_at s.registers g d (o + 1);
+  colour = update s.colour o Black;
+  since = update s.since o true;
+  extents = with_extent s.extents o size pointer noscan;
+}
 
 -- When a seat may make the move.
 
@@ -132,10 +138,18 @@ pub record MayPassGlobals (z : Cycle) (a : ℕ) (s : Shared) (i : ℕ) : Type 0 
   pub seat : a < seats_of z.arena.layout
   pub first : s.passed a ≡ false
 
+-- What a goroutine can bring into a register: what names no object; what another of its registers holds; a pointer field of an object that one of them names; a global. A new object it gets where that is placed.
+pub data MayBring (z : Cycle) (s : Shared) (g : ℕ) : (value : ℕ) → Type 0 where
+  from_nothing : MayBring z s g 0
+  from_register : (r : ℕ) → r < REGISTERS → MayBring z s g (s.registers g r)
+  from_field : (r o k : ℕ) → r < REGISTERS → s.registers g r ≡ o + 1 → IsPointer s.extents o k → MayBring z s g (s.words (cell.Field (o + k)))
+  from_global : (i : ℕ) → i < z.arena.layout.globals → MayBring z s g (s.words (cell.Global i))
+
 -- a register of a goroutine that goes on, which takes what is safe, if its stack is scanned
 pub record MaySetRegister (z : Cycle) (a : ℕ) (s : Shared) (g value : ℕ) : Type 0 where
   pub own : IsOf z.arena a g
   pub goes_on : s.words (cell.Scanned g) ≢ END
+  pub comes : MayBring z s g value
   pub since : IsSince s.since value
   pub safe : s.words (cell.Scanned g) ≡ z.number → IsSafe z.arena.layout.globals (rows s) value
 
@@ -150,9 +164,13 @@ pub record MayReserve (s : Shared) (o : ℕ) : Type 0 where
   pub white : s.colour o ≡ White
   pub empty : row_bit (alloc_words s.words) o ≢ 1
 
--- its slot is marked, and its pointer fields are clear
-pub record MayPlace (a : ℕ) (s : Shared) (o size : ℕ) (pointer : ℕ → Bool) (noscan : Bool) : Type 0 where
+-- Its slot is marked, lies in the heap, and its pointer fields are clear; and a goroutine that goes on has it in a register.
+pub record MayPlace (z : Cycle) (a : ℕ) (s : Shared) (o size : ℕ) (pointer : ℕ → Bool) (g d : ℕ) : Type 0 where
+  pub own : IsOf z.arena a g
+  pub goes_on : s.words (cell.Scanned g) ≢ END
+  pub register : d < REGISTERS
   pub reserved : s.colour o ≡ Placing a
+  pub within : size ≤ 1024 * z.arena.layout.pages
   pub clear : (k : ℕ) → k < size → pointer k ≡ true → s.words (cell.Field (o + k)) ≡ 0
 
 abbrev pub May : Cycle → (a : ℕ) → Shared → Move → Type 0
@@ -175,7 +193,7 @@ May z a s (SetRegister g d value) = MaySetRegister z a s g value
 May z a s (ScanStack g) = MayScanStack z a s g
 May z a s (EndStack g) = IsOf z.arena a g
 May z a s (Reserve o) = MayReserve s o
-May z a s (Place o size pointer noscan) = MayPlace a s o size pointer noscan
+May z a s (Place o size pointer noscan g d) = MayPlace z a s o size pointer g d
 
 -- What moves leave.
 
@@ -212,6 +230,7 @@ abbrev pub LeavesStacks : Move → Type 0
 LeavesStacks (SetRegister g d value) = ⊥
 LeavesStacks (ScanStack g) = ⊥
 LeavesStacks (EndStack g) = ⊥
+LeavesStacks (Place o size pointer noscan g d) = ⊥
 LeavesStacks _ = Unit {0}
 
 -- what was dead when the cycle began, and is placed still

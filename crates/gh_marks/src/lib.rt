@@ -15,7 +15,9 @@
 //! colours both ways (`specs/Seats.antt`); and a step is one or two of a few moves (`specs/Moves.antt`).
 //! `laws` has what is proved of them: each move keeps what holds, each leaves to the others what they rely
 //! on, and once nothing is grey and all globals and stacks are scanned, each object that a path leads to is
-//! marked (`specs/Ends.antt`).
+//! marked (`specs/Ends.antt`). `picture` has what is proved of the picture of marking (`specs/Picture.antt`):
+//! a state as the argument for the barrier sees it, which `gh_tri` makes.
 #![tactic(auto)]
 
 pub mod laws;
+pub mod picture;

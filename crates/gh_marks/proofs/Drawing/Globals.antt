@@ -1,0 +1,141 @@
+-- The scan of a global. Once all are scanned the globals are black in the picture.
+use Rattle.std.proofs.Common.{◌≡◌, ℕ, zero, suc, ◌+◌, ◌<◌, ◌≤◌, Bool, true, false, arith, refl, sym, ◌∙◌, ap, inl, inr, ◌⊎◌, subst, None}
+use Rattle.std.proofs.lemmas.Bool.Decides.{eqb_tells}
+use Rattle.std.proofs.lemmas.Bool.{cases_lt}
+use Rattle.gh_base.specs.declared.cell.Cell.TheVariants as cell
+use Rattle.gh_base.specs.Rows.{Row, mark_words}
+use Rattle.gh_heap.specs.Moves.{update}
+use Rattle.gh_tri.specs.declared.Colour.TheVariants as shade
+use Rattle.gh_tri.specs.Steps.{stays}
+use Rattle.gh_tri.specs.Tricolour.{Tricolour, NilOrMarked, put, put2}
+use Rattle.gh_marks.specs.Colours.{Cycle, IsClean, Progress, Scanned, Shared}
+use Rattle.gh_marks.specs.Good.{Good}
+use Rattle.gh_marks.specs.Moves.{May, ScanGlobal, moved}
+use Rattle.gh_marks.specs.Picture.{IsDrawn, Shows, is_scanned}
+use Rattle.gh_marks.proofs.Drawing.Reading.{clean-marked, global-none, named-nothing, value-global}
+use Rattle.gh_marks.proofs.Drawing.Runs.{filled-at, filled_to, goes-black, goes-scanned}
+
+-- each of the first n is true, or one is not
+bounded : (test : ℕ → Bool) (n : ℕ) → ((k : ℕ) → k < n → test k ≡ true) ⊎ ((k : ℕ) × (k < n) × (test k ≡ false))
+bounded test zero = inl (λ k l. absurd (omega arith))
+bounded test (suc n) = go (bounded test n) (test n) refl where
+  more : ((k : ℕ) → k < n → test k ≡ true) → test n ≡ true → (k : ℕ) → k < suc n → test k ≡ true
+  more all last k l = elim (cases_lt k n) [ inl below ↦ all k below | inr le ↦ (let same : n ≡ k = omega arith in ap test (sym same) ∙ last) ]
+
+  go : ((k : ℕ) → k < n → test k ≡ true) ⊎ ((k : ℕ) × (k < n) × (test k ≡ false)) → (b : Bool) → test n ≡ b → ((k : ℕ) → k < suc n → test k ≡ true) ⊎ ((k : ℕ) × (k < suc n) × (test k ≡ false))
+  go (inr some) b e = inr (some.0, less some.1, some.2) where
+    less : some.0 < n → some.0 < suc n
+    less l = omega arith
+  go (inl all) true e = inl (more all e)
+  go (inl all) false e = inr (n, omega arith, e)
+
+module _ (z : Cycle) (a : ℕ) (s : Shared) (at : Row) (p : Tricolour) (room : ℕ) (g : Good z s) (sh : Shows z s at p) (fits : p.objects + (room + 1) ≤ p.limit) (i value : ℕ) (may : May z a s (ScanGlobal i value)) where
+  two : {b : Bool} → b ≡ false → b ≡ true → ⊥
+  two e f = cc
+
+  -- a global that is not scanned behind the move was not before
+  was-waiting : (j : ℕ) → is_scanned (update s.progress i Scanned j) ≡ false → is_scanned (s.progress j) ≡ false
+  was-waiting j e = elim (eqb_tells i j) [ inl y ↦ absurd (two (rw (y.0) at e) refl) | inr n ↦ rw (n.0) at e ]
+
+  is-scanned : (progress : Progress) → is_scanned progress ≡ true → progress ≡ Scanned
+  is-scanned Scanned e = refl
+  is-scanned _ e = cc
+
+  within : (f : ℕ) → f < z.arena.layout.globals → f < p.fields
+  within f l = omega (arith, sh.globals_fit)
+
+  clean-global : (f : ℕ) → f < z.arena.layout.globals → IsClean (mark_words s.words) (s.words (cell.Global f)) → NilOrMarked p (p.value 0 f)
+  clean-global f l clean = clean-marked z s at p sh g.marks (p.value 0 f) _ (value-global z s at p sh f l) clean
+
+  -- some global is left
+  module _ (k : ℕ) (below : k < z.arena.layout.globals) (left : is_scanned (update s.progress i Scanned k) ≡ false) where
+    some-left : i < z.arena.layout.globals → IsDrawn z (moved z a s (ScanGlobal i value)) p room
+    some-left l = record {
+      picture = record p { scanned = put2 p.scanned 0 i true };
+      at = at;
+      goes = goes-scanned p p stays 0 i (record { made = sh.numbers.some; within = within i l }) (clean-global i l may.1);
+      shows = record {
+        numbers = sh.numbers;
+        stacks = sh.stacks;
+        globals_fit = sh.globals_fit;
+        objects_fit = sh.objects_fit;
+        sizes = sh.sizes;
+        colours = sh.colours;
+        waits = λ j l' e. sh.waits j l' (was-waiting j e);
+        all_scanned = λ h. absurd (two left (h k below));
+        scanned = λ j l'. elim (eqb_tells i j) [ inl y ↦ rw (y.0) refl | inr n ↦ rw (n.0) (sh.scanned j l') ];
+        globals = sh.globals;
+        fields = sh.fields;
+        registers = sh.registers;
+        seen = sh.seen;
+        reads = sh.reads;
+      };
+      room_left = omega arith;
+    }
+
+  -- all are scanned
+  module _ (all : (k : ℕ) → k < z.arena.layout.globals → is_scanned (update s.progress i Scanned k) ≡ true) where
+    clean : (f : ℕ) → f < p.fields → NilOrMarked p (p.value 0 f)
+    clean f l = elim (cases_lt f z.arena.layout.globals) [
+      | inr le ↦ (λ w e. let none : p.value 0 f ≡ None = named-nothing at p.objects (p.value 0 f) _ (sh.globals f) (global-none z s f le) in cc)
+      | inl below ↦ elim (eqb_tells i f) [
+        | inl y ↦ clean-global f below (subst (λ j. IsClean (mark_words s.words) (s.words (cell.Global j))) y.1 may.1)
+        | inr n ↦ clean-global f below (g.cursor.scanned f (is-scanned (s.progress f) (rw (n.0) at (all f below))))
+      ]
+    ]
+
+    all-done : IsDrawn z (moved z a s (ScanGlobal i value)) p room
+    all-done = record {
+      picture = record p { colour = put p.colour 0 shade.Black; scanned = filled_to true p.scanned 0 p.fields };
+      at = at;
+      goes = goes-black p 0 sh.numbers.some clean;
+      shows = record {
+        numbers = sh.numbers;
+        stacks = sh.stacks;
+        globals_fit = sh.globals_fit;
+        objects_fit = sh.objects_fit;
+        sizes = sh.sizes;
+        colours = λ n some below. other n some ∙ sh.colours n some below;
+        waits = λ j l e. absurd (two e (all j l));
+        all_scanned = λ h. refl;
+        scanned = λ j l. filled-at true p.scanned 0 p.fields j (within j l) ∙ sym (all j l);
+        globals = sh.globals;
+        fields = sh.fields;
+        registers = sh.registers;
+        seen = sh.seen;
+        reads = sh.reads;
+      };
+      room_left = omega arith;
+    } where
+      other : (n : ℕ) → 0 < n → put p.colour 0 shade.Black n ≡ p.colour n
+      other n some = elim (eqb_tells 0 n) [ inl y ↦ absurd (omega (arith, y.1)) | inr x ↦ rw (x.0) refl ]
+
+  -- what is no global of the layout is nothing in the picture
+  past : z.arena.layout.globals ≤ i → Shows z (moved z a s (ScanGlobal i value)) at p
+  past le = record {
+    numbers = sh.numbers;
+    stacks = sh.stacks;
+    globals_fit = sh.globals_fit;
+    objects_fit = sh.objects_fit;
+    sizes = sh.sizes;
+    colours = sh.colours;
+    waits = λ j l e. sh.waits j l (was-waiting j e);
+    all_scanned = λ h. sh.all_scanned (λ j l. sym (ap is_scanned (same j l)) ∙ h j l);
+    scanned = λ j l. sh.scanned j l ∙ sym (ap is_scanned (same j l));
+    globals = sh.globals;
+    fields = sh.fields;
+    registers = sh.registers;
+    seen = sh.seen;
+    reads = sh.reads;
+  } where
+    same : (j : ℕ) → j < z.arena.layout.globals → update s.progress i Scanned j ≡ s.progress j
+    same j l = elim (eqb_tells i j) [ inl y ↦ absurd (omega (arith, y.1)) | inr n ↦ rw (n.0) refl ]
+
+  pub scan_global-drawn : IsDrawn z (moved z a s (ScanGlobal i value)) p room
+  scan_global-drawn = elim (bounded (λ k. is_scanned (update s.progress i Scanned k)) z.arena.layout.globals) [
+    | inl all ↦ all-done all
+    | inr some ↦ elim (cases_lt i z.arena.layout.globals) [
+      | inl l ↦ some-left some.0 some.1 some.2 l
+      | inr le ↦ record { picture = p; at = at; goes = stays; shows = past le; room_left = omega arith }
+    ]
+  ]
