@@ -1,5 +1,6 @@
 -- Where a cycle begins: the state of marking, made of what a script reaches.
-use Rattle.std.proofs.Common.{◌≡◌, ℕ, ◌+◌, ◌%◌, ◌<◌, Bool, true, false, cond, ltb, inl, refl, sym, ap, subst, arith, ◌∙◌}
+use Rattle.std.proofs.Common.{◌≡◌, ℕ, ◌+◌, ◌-◌, ◌*◌, ◌%◌, ◌<◌, ◌≤◌, Bool, true, false, cond, ltb, inl, inr, refl, sym, ap, subst, arith, ◌∙◌}
+use Rattle.std.proofs.lemmas.Bool.Decides.{eqb_tells}
 use Rattle.std.proofs.lemmas.Bool.{ltb-true, ltb-false}
 use Rattle.std.proofs.lemmas.Nat.Bits.{bit_at-zero}
 use Rattle.gh_base.specs.declared.cell.Cell.TheVariants as cell
@@ -10,6 +11,7 @@ use Rattle.gh_model.specs.Ever.{from_field, from_global, from_register}
 use Rattle.gh_heap.specs.Objects.{IsMade}
 use Rattle.gh_marks.specs.Colours.{Extents, Untouched, White}
 use Rattle.gh_marks.specs.Ends.{Opens}
+use Rattle.gh_marks.specs.Picture.{LieInHeap}
 use Rattle.gh_cycle.specs.Marked.{OpenedRegistersFit}
 use Rattle.gh_cycle.specs.Opening.{CyclesOpen, OpenedHeapsAreAtRest, IsAtRest, IsCycleOf, IsOpened, reference_of, register_of}
 use Rattle.gh_cycle.specs.Reached.{Decided, IsBounded, IsReachedAt, PlacesAreDecided, TheReachedWereMade}
@@ -143,8 +145,34 @@ module _ (z : Cycle) (h : Heap) (g : Good z.arena (view h)) (b : IsBounded z.are
     registers = registers-since z.arena h g b made marking of-heap;
   }
 
+  -- each object of the cycle has a slot, and that lies in the heap
+  abbrev InHeap : (o size : ℕ) → Type 0
+  InHeap o size = (o < 1024 * z.arena.layout.pages) × (size ≤ 1024 * z.arena.layout.pages)
+
+  in-heap : (n : Name) → Reach h.ever n → InHeap (h.place n) (size_for z.arena.shapes h.ever.type_of n)
+  in-heap n r =
+      let x = g.slots n (is-made z.arena h g b made n r) (g.reached n r) in
+      let size = size_for z.arena.shapes h.ever.type_of n in
+      let lies = (apart z.arena (view h) g).inside x.p x.i (h.place n) size in
+      let within = x.slot.span.within in
+      let some = x.slot.span.fits.some in
+      let at = x.slot.at in
+      elim (eqb_tells size 0) [
+        | inl y ↦ let none = y.1 in let same : x.i * size ≡ 0 = rw (none) (grind arith) in (omega (arith, at, same, within, some), omega (arith, none))
+        | inr ne ↦
+            let first = lies 0 x.h x.slot (omega (arith, ne.1)) in
+            let last = lies (size - 1) x.h x.slot (omega (arith, ne.1)) in
+            (omega (arith, first.1, within), omega (arith, last.0, last.1, ne.1, within))
+      ]
+
+  lie : LieInHeap z marking
+  lie = record {
+    below = λ o known. let w = (d.tells o).0 known in subst (λ (a : ℕ). a < 1024 * z.arena.layout.pages) w.2 (in-heap w.0 w.1).0;
+    sizes = λ o known. let w = (d.tells o).0 known in subst (λ (a : ℕ). extents.size a ≤ 1024 * z.arena.layout.pages) w.2 (subst (λ (m : ℕ). m ≤ 1024 * z.arena.layout.pages) (sym (of-heap.size w.0 w.1)) (in-heap w.0 w.1).1);
+  }
+
   opened : IsOpened z h
-  opened = record { marking = marking; of_heap = of-heap; registers = λ j c. refl; opens = opens }
+  opened = record { marking = marking; of_heap = of-heap; registers = λ j c. refl; opens = opens; in_heap = lie }
 
 pub cycles-open : PlacesAreDecided → TheReachedWereMade → TheHeapIsApart → CyclesOpen
 cycles-open places made apart z h g b rest = opened z h g b rest made apart (places z.arena h b)

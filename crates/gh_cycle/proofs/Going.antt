@@ -1,14 +1,13 @@
 pub mod Alone
 pub mod Beginning
+pub mod Coming
 pub mod Deeds
 pub mod Lasting
 pub mod Leaving
 pub mod Making
-pub mod Moves
 pub mod Objects
 pub mod Plain
 pub mod Reserving
 pub mod Slots
-pub mod Spans
 pub mod Steps
 pub mod Writing

@@ -11,11 +11,9 @@ use Rattle.gh_class.specs.Classes.{IsSizeClass, slot_of, slots_of}
 use Rattle.gh_heap.specs.Spans.{IsSlotOf, body_at, is_own_class, number_of}
 use Rattle.gh_marks.specs.Knows.{KnowsObject, KnowsObjects}
 use Rattle.gh_cycle.specs.Beside.{IsBeside, ObjectsAreKnownBeside}
-use Rattle.gh_cycle.specs.Marked.{ObjectsAreKnown}
-use Rattle.gh_cycle.specs.Reached.{TheReachedWereMade}
 use Rattle.gh_cycle.specs.Sweeping.{with_words}
 use Rattle.gh_cycle.specs.Vocabulary.{alloc_words, birth_words, IsMade, Name, Placed, Words, TheHeapIsApart, size_for, Arena, Good, view, Heap, Marking}
-use Rattle.gh_cycle.proofs.Said.{IsSaid, said-beside, said-of-reached}
+use Rattle.gh_cycle.proofs.Said.{IsSaid, said-beside}
 use Rattle.gh_cycle.proofs.Going.Objects.{here, name-at}
 
 -- of the smallest slot, 8 bytes
@@ -94,12 +92,7 @@ module _ (least : LeastSlot) (apart : TheHeapIsApart) (z : Arena) (h : Heap) (s 
   known-all : s.words ≡ h.words → ((o : ℕ) → s.since o ≡ true → Known o) → (o : ℕ) → s.since o ≡ true → KnowsObject z.layout.pages (page_words s.words) (bitmap_words s.words) s.extents o
   known-all same known o since = subst (λ (w : Words). KnowsObject z.layout.pages (page_words w) (bitmap_words w) s.extents o) (sym same) (known o since)
 
-pub objects-known : LeastSlot → TheHeapIsApart → TheReachedWereMade → ObjectsAreKnown
-objects-known least apart made z h s g b c = known-all least apart z.arena h s g c.words (λ o since.
-    let w = (c.since o).0 since in
-    subst (Known least apart z.arena h s g) w.2 (known-at least apart z.arena h s g w.0 (made z.arena h.ever b w.0 w.1) (g.reached w.0 w.1) (said-of-reached z.arena h s c w.0 w.1)))
-
--- and while processors go on, those that were made since among them
+-- while processors go on, those that were made since among them
 pub objects-known-beside : LeastSlot → TheHeapIsApart → ObjectsAreKnownBeside
 objects-known-beside least apart z h s g m c =
     subst (λ (u : Words). Good z.arena (view (with_words h u)) → IsBeside z.arena (with_words h u) s → KnowsObjects z s) c.words

@@ -1,4 +1,4 @@
--- While a cycle is marked: what lasts, and what is marked at the end.
+-- What is marked at the end of a cycle.
 use Rattle.std.proofs.Common.{◌≡◌, ◌≢◌, ℕ, ◌+◌, ◌/◌, ◌%◌, ◌<◌, Bool, true, false, eqb, ltb, List, [], length, inl, inr, refl, sym, ap, subst, arith, ◌∙◌}
 use Rattle.std.specs.Int.{bit_at}
 use Rattle.std.proofs.lemmas.Bool.{cases_Bool, ltb-true, ltb-false}
@@ -13,42 +13,12 @@ use Rattle.gh_marks.specs.Colours.{Colour, IsShaded, Placing, White, mark_of}
 use Rattle.gh_marks.specs.Ends.{Reached}
 use Rattle.gh_marks.specs.Ends.{from_field as path_field, from_global as path_global, from_register as path_register}
 use Rattle.gh_marks.specs.Good.{Good as MarkingGood}
-use Rattle.gh_marks.specs.Moves.{SameExtent}
 use Rattle.gh_cycle.specs.Beside.{TheReachedAreMarkedBeside}
-use Rattle.gh_cycle.specs.Marked.{OnlyWordsChange, RegistersFit, TheCycleLasts, TheMarkedAreReached, TheReachedAreMarked}
-use Rattle.gh_cycle.specs.Opening.{IsCycleOf, reference_of}
+use Rattle.gh_cycle.specs.Marked.{RegistersFit}
+use Rattle.gh_cycle.specs.Opening.{reference_of}
 use Rattle.gh_cycle.specs.Reached.{IsBounded, TheReachedWereMade}
-use Rattle.gh_cycle.specs.Vocabulary.{Name, Words, EverValue, Ever, Reach, Holds, Place, points, shape_for, size_for, Arena, Good, view, Heap, Cycle, IsMarked, IsPointer, mark_words, Marking}
-use Rattle.gh_cycle.proofs.Said.{IsSaid, said-beside, said-of-reached}
-
-module _ (z : Arena) (h k : Heap) (s t : Marking) (c : IsCycleOf z h s) (o : OnlyWordsChange h k s t) where
-  place-is : (n : Name) → k.place n ≡ h.place n
-  place-is n = ap (λ (p : Place). p n) o.place
-
-  was : (n : Name) → Reach k.ever n → Reach h.ever n
-  was n r = subst (λ (e : Ever). Reach e n) o.ever r
-
-  types-are : k.ever.type_of ≡ h.ever.type_of
-  types-are = ap (λ (e : Ever). e.type_of) o.ever
-
-  same : (n : Name) → Reach k.ever n → SameExtent s.extents t.extents (h.place n)
-  same n r = o.extents (h.place n) ((c.since (h.place n)).1 (n, was n r, refl))
-
-  lasts : IsCycleOf z k t
-  lasts = record {
-    words = o.words;
-    since = λ x. (
-      (λ known. let w = (c.since x).0 (sym (o.since x) ∙ known) in (w.0, subst (λ (e : Ever). Reach e w.0) (sym o.ever) w.1, place-is w.0 ∙ w.2)),
-      (λ w. o.since x ∙ (c.since x).1 (w.0, was w.0 w.1, sym (place-is w.0) ∙ w.2)),
-    );
-    size = λ n r. ap (λ (x : ℕ). t.extents.size x) (place-is n) ∙ (same n r).size ∙ c.size n (was n r) ∙ ap (λ (f : Name → ℕ). size_for z.shapes f n) (sym types-are);
-    pointer = λ n j r l. ap (λ (x : ℕ). t.extents.pointer x j) (place-is n) ∙ ap (λ (f : ℕ → Bool). f j) (same n r).pointer
-        ∙ c.pointer n j (was n r) (subst (λ (f : Name → ℕ). j < size_for z.shapes f n) types-are l) ∙ ap (λ (f : Name → ℕ). points z.shapes f n j) (sym types-are);
-    noscan = λ n r. ap (λ (x : ℕ). t.extents.noscan x) (place-is n) ∙ (same n r).noscan ∙ c.noscan n (was n r) ∙ ap (λ (f : Name → ℕ). (shape_for z.shapes f n).noscan) (sym types-are);
-  }
-
-pub cycle-lasts : TheCycleLasts
-cycle-lasts z h k s t c o = lasts z h k s t c o
+use Rattle.gh_cycle.specs.Vocabulary.{Name, Words, EverValue, Reach, Holds, Place, points, Good, view, Heap, Cycle, IsMarked, IsPointer, mark_words, Marking}
+use Rattle.gh_cycle.proofs.Said.{IsSaid, said-beside}
 
 -- a bit of no word is not set
 no-bit : (i w : ℕ) → w ≡ 0 → eqb (bit_at w i) 1 ≡ false
@@ -96,10 +66,6 @@ module _ (z : Cycle) (h : Heap) (s : Marking) (g : Good z.arena (view h)) (fit :
       ) in
       path_field (h.place m) k (h.place n) (path m r) pointer (ap (λ (u : Words). u (cell.Field (h.place m + k))) same ∙ w.1)
 
-pub reached-marked : TheReachedWereMade → TheReachedAreMarked
-reached-marked made z h s g fit b c registers each n r = each (h.place n) (path z h s g fit b c.words (said-of-reached z.arena h s c) registers made n r)
-
--- and so they are while processors went on
 pub reached-marked-beside : TheReachedWereMade → TheReachedAreMarkedBeside
 reached-marked-beside made z h s g fit b c each n r =
     each (h.place n) (path z h s g fit b c.words (λ m reached. said-beside z.arena h s c m (record { made = made z.arena h.ever b m reached; placed = g.reached m reached; since = c.reached m reached })) c.registers made n r)
@@ -113,6 +79,3 @@ shaded-of _ e none = tt
 -- so it is of the cycle
 pub marked-since : (z : Cycle) (s : Marking) → MarkingGood z s → ((o a : ℕ) → s.colour o ≢ Placing a) → (o : ℕ) → IsMarked (mark_words s.words) o → s.since o ≡ true
 marked-since z s g none o marked = g.objects.shaded o (shaded-of (s.colour o) (sym marked ∙ g.marks o) (none o))
-
-pub marked-reached : TheMarkedAreReached
-marked-reached z h s c g none o marked = (c.since o).0 (marked-since z s g none o marked)

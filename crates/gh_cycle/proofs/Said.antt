@@ -1,16 +1,12 @@
--- What marking says of the words of an object is what its type says, where a cycle has begun and while processors go on beside it.
+-- What marking says of the words of an object is what its type says, while processors go on beside it.
 use Rattle.std.proofs.Common.{◌≡◌, ℕ, ◌<◌}
 use Rattle.gh_cycle.specs.Beside.{IsBeside, IsOfCycle}
-use Rattle.gh_cycle.specs.Opening.{IsCycleOf}
-use Rattle.gh_cycle.specs.Vocabulary.{Arena, Heap, Marking, Name, points, Reach, shape_for, size_for}
+use Rattle.gh_cycle.specs.Vocabulary.{Arena, Heap, Marking, Name, points, shape_for, size_for}
 
 pub record IsSaid (z : Arena) (h : Heap) (s : Marking) (n : Name) : Type 0 where
   pub size : s.extents.size (h.place n) ≡ size_for z.shapes h.ever.type_of n
   pub pointer : (k : ℕ) → k < size_for z.shapes h.ever.type_of n → s.extents.pointer (h.place n) k ≡ points z.shapes h.ever.type_of n k
   pub noscan : s.extents.noscan (h.place n) ≡ (shape_for z.shapes h.ever.type_of n).noscan
-
-pub said-of-reached : (z : Arena) (h : Heap) (s : Marking) → IsCycleOf z h s → (n : Name) → Reach h.ever n → IsSaid z h s n
-said-of-reached z h s c n r = record { size = c.size n r; pointer = λ k l. c.pointer n k r l; noscan = c.noscan n r }
 
 pub said-beside : (z : Arena) (h : Heap) (s : Marking) → IsBeside z h s → (n : Name) → IsOfCycle h s n → IsSaid z h s n
 said-beside z h s c n o = record { size = c.size n o; pointer = λ k l. c.pointer n k o l; noscan = c.noscan n o }

@@ -4,7 +4,7 @@ pub use Rattle.gh_model.specs.Ever.{field_count, next_name, same_name, with_end,
 pub use Rattle.gh_heap.specs.Moves.{IsReached, Runs, update, update_at}
 pub use Rattle.gh_marks.specs.Colours.{Black, IsSafe, mark_of, rows}
 pub use Rattle.gh_marks.specs.Seats.{Hands, InHand}
-pub use Rattle.gh_cycle.specs.Beside.{ClaimsSlot, FillsNone, GoesBeside, hand_after, IsBeside, IsOfCycle, MeetsMarking}
+pub use Rattle.gh_cycle.specs.Beside.{ClaimsSlot, FillsNone, IsBeside, IsOfCycle}
 pub use Rattle.gh_cycle.specs.Known.{Known}
 pub use Rattle.gh_cycle.specs.Marked.{RegistersFit}
 pub use Rattle.gh_cycle.specs.Opening.{reference_of}

@@ -1,23 +1,20 @@
--- While a cycle is marked processors go on. What holds of the heap and of marking together then, and what each move over the heap is to marking.
-use Rattle.std.specs.Prelude.{◌≡◌, ◌≢◌, ℕ, ◌+◌, ◌<◌, true, false, None}
+-- While a cycle is marked processors go on. What holds of the heap and of marking together then, and what steps leave of it.
+use Rattle.std.specs.Prelude.{◌≡◌, ◌≢◌, ℕ, ◌+◌, ◌<◌, true, false}
 use Rattle.gh_base.specs.declared.cell.Ask.TheVariants as ask
 use Rattle.gh_base.specs.declared.cell.Cell.TheVariants as cell
 use Rattle.gh_base.specs.declared.limits.TheConstants.{REGISTERS}
 use Rattle.gh_base.specs.declared.pack.TheConstants.{END}
-use Rattle.gh_base.specs.Rows.{field_words, global_words}
 use Rattle.gh_base.specs.Shapes.{ShapesFit}
 use Rattle.gh_heap.specs.Moves as heap
 use Rattle.gh_heap.specs.Rights.{Claims}
-use Rattle.gh_marks.specs.Colours.{IsClean, IsSafe, rows}
 use Rattle.gh_marks.specs.Ends.{EachReachedIsMarked}
 use Rattle.gh_marks.specs.Good.{Good as MarkingGood}
 use Rattle.gh_marks.specs.Knows.{KnowsObjects}
 use Rattle.gh_marks.specs.Moves as marks
-use Rattle.gh_marks.specs.Seats.{Hands, InHand}
 use Rattle.gh_cycle.specs.Marked.{RegistersFit}
-use Rattle.gh_cycle.specs.Opening.{IsAtRest, IsCycleOf, reference_of, RegistersAre}
+use Rattle.gh_cycle.specs.Opening.{IsAtRest, IsCycleOf, RegistersAre}
 use Rattle.gh_cycle.specs.Reached.{IsBounded}
-use Rattle.gh_cycle.specs.Vocabulary.{alloc_words, Arena, birth_words, Cycle, Good, Heap, IsMade, IsMarked, mark_words, Marking, Name, Placed, Placing, points, Reach, shape_for, size_for, view, View, Words}
+use Rattle.gh_cycle.specs.Vocabulary.{alloc_words, Arena, birth_words, Cycle, Good, Heap, IsMade, IsMarked, mark_words, Marking, Name, Placed, Placing, points, Reach, shape_for, size_for, view, View}
 
 -- the object was made, stands, and is one of the cycle
 pub record IsOfCycle (h : Heap) (s : Marking) (n : Name) : Type 0 where
@@ -50,38 +47,11 @@ CyclesBeginBeside = (z : Cycle) (h : Heap) (s : Marking) → Good z.arena (view 
 abbrev pub ObjectsAreKnownBeside : Type 0
 ObjectsAreKnownBeside = (z : Cycle) (h : Heap) (s : Marking) → Good z.arena (view h) → MarkingGood z s → IsBeside z.arena h s → KnowsObjects z s
 
--- The moves of processors over the heap.
+-- The steps of processors over the heap.
 
 -- no slot is being filled by this seat
 abbrev pub FillsNone : (a : ℕ) → Marking → Type 0
 FillsNone a s = (o : ℕ) → s.colour o ≢ Placing a
-
--- What marking asks of a move of this seat, besides what the heap asks. A step on a word that no right guards is on none that marking reads. A register whose stack is scanned takes what is marked or protected. An object is made where its mark was set before. A pointer is written behind the write barrier: the word that it overwrites is clean, and so is the new one. While its seat fills a slot it makes no other move of slots, and none of spans or of the lock.
-abbrev pub MeetsMarking : Cycle → (a : ℕ) → Heap → Marking → heap.Move → Type 0
-MeetsMarking z a h s (heap.Quiet step) = marks.IsQuiet s step
-MeetsMarking z a h s (heap.Takes step g d value) = marks.IsQuiet s step × (s.words (cell.Scanned g) ≡ z.number → IsSafe z.arena.layout.globals (rows s) (reference_of h.place value))
-MeetsMarking z a h s (heap.Ends step g) = step ≡ ask.Store (cell.Scanned g) END
-MeetsMarking z a h s (heap.Make at g d t) = s.colour at ≡ Placing a
-MeetsMarking z a h s (heap.Write n k value word) = points z.arena.shapes h.ever.type_of n k ≡ true → IsClean (mark_words s.words) (field_words h.words (h.place n + k)) × IsClean (mark_words s.words) word
-MeetsMarking z a h s (heap.WriteGlobal k value word) = IsClean (mark_words s.words) (global_words h.words k) × IsClean (mark_words s.words) word
-MeetsMarking z a h s _ = FillsNone a s
-
--- what the seat has in hand behind its move: a slot is filled with the object
-abbrev pub hand_after : heap.Move → InHand → InHand
-hand_after (heap.Make at g d t) hand = record hand { placing = None }
-hand_after _ hand = hand
-
--- The move is made of moves of marking, and the two states belong together behind it.
-pub record GoesBeside (z : Cycle) (a : ℕ) (h : Heap) (s : Marking) (m : heap.Move) : Type 0 where
-  pub then : Marking
-  pub went : marks.Went z a s then
-  pub beside : IsBeside z.arena (heap.moved z.arena a h m) then
-  pub hands : (hand : InHand) → Hands a s hand → Hands a then (hand_after m hand)
-  -- no mark is cleared
-  pub marked : (o : ℕ) → IsMarked (mark_words s.words) o → IsMarked (mark_words then.words) o
-
-abbrev pub MovesGoBeside : Type 0
-MovesGoBeside = (z : Cycle) (a : ℕ) (h : Heap) (s : Marking) (m : heap.Move) → Good z.arena (view h) → MarkingGood z s → IsBounded z.arena h.ever → IsBeside z.arena h s → heap.May z.arena a (view h) m → MeetsMarking z a h s m → GoesBeside z a h s m
 
 -- A claimed slot may be marked before its object is made: nobody else fills it, and it is white.
 abbrev pub SlotsAreReserved : Type 0
@@ -105,19 +75,6 @@ pub record MarksAlone (z : Cycle) (a : ℕ) (h k : Heap) (s t : Marking) : Type 
 abbrev pub MarkingAloneGoesBeside : Type 0
 MarkingAloneGoesBeside = (z : Cycle) (a : ℕ) (h : Heap) (s t : Marking) (m : heap.Move) → Good z.arena (view h) → MarkingGood z s → IsBeside z.arena h s → heap.May z.arena a (view h) m → (heap.moved z.arena a h m).ever ≡ h.ever →
     MarksAlone z a h (heap.moved z.arena a h m) s t → IsBeside z.arena (heap.moved z.arena a h m) t
-
--- A step of marking changes no object, no value and no span: marks, buffers, the cursor and words of stacks alone, and no slot is begun to be filled.
-pub record OnlyMarks (z : Arena) (h : Heap) (s t : Marking) (words : Words) : Type 0 where
-  pub words_are : t.words ≡ words
-  pub view_is : view (record h { words = words }) ≡ view h
-  pub since : (o : ℕ) → t.since o ≡ s.since o
-  pub extents : (o : ℕ) → s.since o ≡ true → marks.SameExtent s.extents t.extents o
-  pub registers : (g d : ℕ) → t.registers g d ≡ s.registers g d
-  pub filling : (o a : ℕ) → t.colour o ≡ Placing a → s.colour o ≡ Placing a
-  pub ends : (g : ℕ) → g < z.layout.goroutines → t.words (cell.Scanned g) ≡ END → s.words (cell.Scanned g) ≡ END
-
-abbrev pub MarkingGoesBeside : Type 0
-MarkingGoesBeside = (z : Arena) (h : Heap) (s t : Marking) (words : Words) → IsBeside z h s → OnlyMarks z h s t words → IsBeside z (record h { words = words }) t
 
 -- The end of marking.
 

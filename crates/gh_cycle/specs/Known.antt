@@ -16,5 +16,4 @@ pub record Known : Type 0 where
   pub leaves : marks.EachMoveLeaves
   pub own : marks.EachOwnMoveLeaves
   pub steps : marks.EachStepGoesByMoves
-  pub guards : marks.EachMoveGuards
   pub hands : marks.EachHandFollows

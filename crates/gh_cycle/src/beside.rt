@@ -8,7 +8,7 @@
 //! and a slot whose mark is set before its object is claimed by the seat that fills it. Each of these lasts under
 //! every move over the heap and under every step of marking, and at the end it is enough.
 
-ghost use Rattle.gh_cycle.specs.Beside.{ClaimedFieldsAreAside, CyclesBeginBeside, MarkingAloneGoesBeside, MarkingGoesBeside, MovesGoBeside, ObjectsAreKnownBeside, SlotsAreReserved, TheReachedAreMarkedBeside};
+ghost use Rattle.gh_cycle.specs.Beside.{ClaimedFieldsAreAside, CyclesBeginBeside, MarkingAloneGoesBeside, ObjectsAreKnownBeside, SlotsAreReserved, TheReachedAreMarkedBeside};
 ghost use Rattle.gh_cycle.specs.Deeds.{DeedsGoBeside};
 ghost use Rattle.gh_cycle.specs.Known.{Known};
 
@@ -49,22 +49,14 @@ fn laws_are_known()
     gh_marks::laws::each_move_leaves();
     gh_marks::laws::own_moves_leave();
     gh_marks::laws::steps_go_by_moves();
-    gh_marks::laws::each_move_guards();
     gh_marks::laws::hands_follow();
 }
 
-/// Each move of a processor over the heap is made of moves of marking that its seat may make, and the two states
-/// belong together behind it. The processor has to meet what `MeetsMarking` asks: the write barrier, a mark that is
-/// set before the object is made, and no other move of slots, and none of spans or of the lock, while it fills one.
-pub fn moves_go_beside()
-    ensures { MovesGoBeside }
-{
-    laws_are_known();
-}
-
-/// The same by what a step does. A routine's law hides by which move it goes, and tells only the words that it writes
-/// and how the heap that never frees changes; that is all that marking asks about. So whichever move it is, it is made
-/// of moves of marking, and the two states belong together behind it, if what it does meets `MeetsByDeed`.
+/// Each step of a processor over the heap is made of moves of marking that its seat may make, and the two states
+/// belong together behind it. It is told by what it does: a routine's law hides by which move it goes, and tells only
+/// the words that it writes and how the heap that never frees changes; that is all that marking asks about. It has to
+/// meet what `MeetsByDeed` asks: the write barrier, a mark that is set before the object is made, a register's value
+/// that comes from what the goroutine can see, and no other step of slots, while it fills one.
 pub fn deeds_go_beside()
     ensures { DeedsGoBeside }
 {
@@ -94,11 +86,6 @@ pub fn marking_alone_goes_beside()
 {
     laws_are_known();
 }
-
-/// A step of marking, of whichever actor, leaves the two states together.
-pub fn marking_goes_beside()
-    ensures { MarkingGoesBeside }
-{}
 
 /// At the end of marking each object that a script reaches is marked, whatever processors did meanwhile.
 pub fn the_reached_are_marked_beside()

@@ -1,11 +1,10 @@
-//! Where a cycle begins, and what the heap and marking are to each other while it is marked. The functions do
+//! Where a cycle begins: what a script reaches, and the state of marking in which the cycle opens. The functions do
 //! nothing; what they ensure is proved.
 
-ghost use Rattle.gh_cycle.specs.Marked.{ObjectsAreKnown, OpenedRegistersFit, TheCycleLasts, TheMarkedAreReached, TheReachedAreMarked};
+ghost use Rattle.gh_cycle.specs.Marked.{OpenedRegistersFit};
 ghost use Rattle.gh_cycle.specs.Opening.{CyclesOpen, OpenedHeapsAreAtRest};
 ghost use Rattle.gh_cycle.specs.Reached.{BoundsLast, PlacesAreDecided, ReachIsDecided, TheReachedWereMade};
 
-use gh_class::size_class_laws;
 use gh_heap::laws::the_heap_is_apart;
 
 /// Which objects a script reaches is told by a test, and so is at which heap words they were placed. Each of
@@ -30,26 +29,4 @@ pub fn cycles_open()
 {
     reach_is_decided();
     the_heap_is_apart();
-}
-
-/// Page words and pointer bits say what marking relies on of each object of the cycle.
-pub fn objects_are_known()
-    ensures { ObjectsAreKnown }
-{
-    size_class_laws();
-    the_heap_is_apart();
-    reach_is_decided();
-}
-
-/// While only words change, what the objects of the cycle are lasts.
-pub fn the_cycle_lasts()
-    ensures { TheCycleLasts }
-{}
-
-/// At the end of marking the objects that are marked are those that a script reaches.
-pub fn the_reached_are_marked()
-    ensures reached { TheReachedAreMarked }
-    ensures marked { TheMarkedAreReached }
-{
-    reach_is_decided();
 }

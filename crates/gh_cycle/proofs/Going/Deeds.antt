@@ -3,7 +3,7 @@ use Rattle.std.proofs.Common.{◌≡◌, ℕ, refl, sym, ap, subst, ◌∙◌}
 use Rattle.gh_heap.specs.Moves as heap
 use Rattle.gh_heap.specs.Spans.{IsSlotOf}
 use Rattle.gh_marks.specs.Seats.{Hands, InHand}
-use Rattle.gh_cycle.specs.Beside.{ClaimsSlot, GoesBeside, hand_after, IsBeside, IsOfCycle, MeetsMarking}
+use Rattle.gh_cycle.specs.Beside.{ClaimsSlot, IsBeside, IsOfCycle}
 use Rattle.gh_cycle.specs.Deeds as deed
 use Rattle.gh_cycle.specs.Deeds.{ComesBy, Deed, DeedsGoBeside, hand_behind, MeetsByDeed, StepsBeside}
 use Rattle.gh_cycle.specs.Known.{Known}
@@ -12,10 +12,11 @@ use Rattle.gh_cycle.specs.Sweeping.{with_words}
 use Rattle.gh_cycle.specs.Vocabulary.{alloc_words, Arena, Ask, birth_words, Cycle, effect, Ever, Good, Heap, IsMade, Marking, Name, owner_at, page_words, Place, Placed, Reach, row_bit, view, Words}
 use Rattle.gh_cycle.proofs.Going.Lasting.{beside-lasts}
 use Rattle.gh_cycle.proofs.Going.Leaving.{leaves, LeavesObjects, made-there, stood}
-use Rattle.gh_cycle.proofs.Going.Moves.{moves-go}
+use Rattle.gh_cycle.proofs.Going.Making.{makes}
 use Rattle.gh_cycle.proofs.Going.Objects.{here}
-use Rattle.gh_cycle.proofs.Going.Plain.{goes-quiet, IsPlain, there, Together}
-use Rattle.gh_cycle.proofs.Going.Steps.{takes-value}
+use Rattle.gh_cycle.proofs.Going.Plain.{goes-quiet, GoesBeside, hand_after, IsPlain, there, Together}
+use Rattle.gh_cycle.proofs.Going.Steps.{ends-goes, takes-value}
+use Rattle.gh_cycle.proofs.Going.Writing.{writes, writes-global}
 
 -- Two heaps with the same words, values and places: who holds a span its page says, so that each seat claims the same.
 module _ (z : Arena) (h k : Heap) (t : Marking) (good : Good z (view h)) (well : Good z (view k)) (words : k.words ≡ h.words) (ever : k.ever ≡ h.ever) (place : k.place ≡ h.place) (c : IsBeside z h t) where
@@ -70,10 +71,10 @@ module _ (k : Known) (z : Cycle) (a : ℕ) (h : Heap) (s : Marking) (w : Togethe
   }
 
   -- A move that is told leaves the same words, values and places.
-  by-move : (d : Deed) (n : heap.Move) → heap.May z.arena a (view (here h s)) n → MeetsMarking z a (here h s) s n → ((x : InHand) → hand_after n x ≡ hand_behind d x) →
+  by-move : (d : Deed) (n : heap.Move) → heap.May z.arena a (view (here h s)) n → GoesBeside z a (here h s) s n → ((x : InHand) → hand_after n x ≡ hand_behind d x) →
       after.words ≡ (there z a h s n).words → after.ever ≡ (there z a h s n).ever → after.place ≡ (there z a h s n).place → Steps d
-  by-move d n allowed meets hand words ever place = steps-by d n (moves-go k z a (here h s) s n w.heap w.marking w.bounded w.beside allowed meets)
-      (λ t c. same-beside z.arena (there z a h s n) after t (k.heap_keeps z.arena a (here h s) n w.heap allowed) (k.heap_keeps z.arena a (here h s) m w.heap may) words ever place c) hand
+  by-move d n allowed goes hand words ever place =
+      steps-by d n goes (λ t c. same-beside z.arena (there z a h s n) after t (k.heap_keeps z.arena a (here h s) n w.heap allowed) (k.heap_keeps z.arena a (here h s) m w.heap may) words ever place c) hand
 
   -- The step leaves objects alone.
   module _ (same : after.ever.made ≡ h.ever.made) (types : after.ever.type_of ≡ h.ever.type_of) where
@@ -87,9 +88,9 @@ module _ (k : Known) (z : Cycle) (a : ℕ) (h : Heap) (s : Marking) (w : Togethe
     by-itself d hand b = steps-by d m b (λ t c. c) (λ x. left.hand x ∙ hand x)
 
     -- and so does a move that is told
-    by-other : (d : Deed) (n : heap.Move) → heap.May z.arena a (view (here h s)) n → MeetsMarking z a (here h s) s n → ((x : InHand) → hand_after n x ≡ hand_behind d x) →
+    by-other : (d : Deed) (n : heap.Move) → heap.May z.arena a (view (here h s)) n → GoesBeside z a (here h s) s n → ((x : InHand) → hand_after n x ≡ hand_behind d x) →
         after.words ≡ (there z a h s n).words → after.ever ≡ (there z a h s n).ever → (there z a h s n).place ≡ h.place → Steps d
-    by-other d n allowed meets hand words ever place = by-move d n allowed meets hand words ever (left.place ∙ sym place)
+    by-other d n allowed goes hand words ever place = by-move d n allowed goes hand words ever (left.place ∙ sym place)
 
   steps-go : (step : Ask) (d : Deed) → ComesBy z.arena (here h s) after step d → MeetsByDeed z a (here h s) s step d → Steps d
   steps-go step deed.Rests by meets =
@@ -102,11 +103,13 @@ module _ (k : Known) (z : Cycle) (a : ℕ) (h : Heap) (s : Marking) (w : Togethe
       let types = ap (λ (e : Ever). e.type_of) by.ever in
       by-itself made types (deed.Sets g d value) (λ x. refl)
       (takes-value k z a h s w m may step meets.0 g d value meets.2 meets.4 meets.5 (plain made types) (sym by.words) by.ever (stood z a h s m (left made types)) (λ o is. absurd (meets.1 o is)))
-  steps-go step (deed.Ends g) by meets = by-other (ap (λ (e : Ever). e.made) by.ever) (ap (λ (e : Ever). e.type_of) by.ever) (deed.Ends g) (heap.Ends step g) (subst (λ (t : Ask). heap.IsQuiet t) (sym meets.0) tt, meets.2) meets.0 (λ x. refl) by.words by.ever refl
-  steps-go step (deed.Makes at g d t) by meets = by-move (deed.Makes at g d t) (heap.Make at g d t) meets.2 meets.1 (λ x. refl) (by.words ∙ ap (effect s.words) meets.0) by.ever
+  steps-go step (deed.Ends g) by meets =
+      let ends : heap.May z.arena a (view (here h s)) (heap.Ends step g) = (subst (λ (t : Ask). heap.IsQuiet t) (sym meets.0) tt, meets.2) in
+      by-other (ap (λ (e : Ever). e.made) by.ever) (ap (λ (e : Ever). e.type_of) by.ever) (deed.Ends g) (heap.Ends step g) ends (ends-goes k z a h s w step g ends meets.0) (λ x. refl) by.words by.ever refl
+  steps-go step (deed.Makes at g d t) by meets = by-move (deed.Makes at g d t) (heap.Make at g d t) meets.2 (makes k z a h s w at g d t meets.2 meets.1) (λ x. refl) (by.words ∙ ap (effect s.words) meets.0) by.ever
       (made-there z a h s k.rows at g t meets.2.ready.claim.clear m (by.words ∙ ap (effect s.words) meets.0) (ap (λ (e : Ever). e.made) by.ever))
-  steps-go step (deed.Puts n i value word) by meets = by-other (ap (λ (e : Ever). e.made) by.ever) (ap (λ (e : Ever). e.type_of) by.ever) (deed.Puts n i value word) (heap.Write n i value word) meets.2 meets.3 (λ x. refl) (by.words ∙ ap (effect s.words) meets.0) by.ever refl
-  steps-go step (deed.PutsGlobal i value word) by meets = by-other (ap (λ (e : Ever). e.made) by.ever) (ap (λ (e : Ever). e.type_of) by.ever) (deed.PutsGlobal i value word) (heap.WriteGlobal i value word) meets.2 (meets.3, meets.4) (λ x. refl) (by.words ∙ ap (effect s.words) meets.0) by.ever refl
+  steps-go step (deed.Puts n i value word) by meets = by-other (ap (λ (e : Ever). e.made) by.ever) (ap (λ (e : Ever). e.type_of) by.ever) (deed.Puts n i value word) (heap.Write n i value word) meets.2 (writes k z a h s w n i value word meets.2 meets.3) (λ x. refl) (by.words ∙ ap (effect s.words) meets.0) by.ever refl
+  steps-go step (deed.PutsGlobal i value word) by meets = by-other (ap (λ (e : Ever). e.made) by.ever) (ap (λ (e : Ever). e.type_of) by.ever) (deed.PutsGlobal i value word) (heap.WriteGlobal i value word) meets.2 (writes-global k z a h s w i value word meets.2 meets.3 meets.4) (λ x. refl) (by.words ∙ ap (effect s.words) meets.0) by.ever refl
 
 pub deeds-go : Known → DeedsGoBeside
 deeds-go k z a h s m step d good marking bounded beside may by meets =

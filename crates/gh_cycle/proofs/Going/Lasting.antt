@@ -1,12 +1,12 @@
--- What a step leaves that makes no object: the two states still belong together. And a step of marking is one.
+-- What a step leaves that makes no object: the two states still belong together.
 use Rattle.std.specs.Prelude.{◌≡◌, ◌≢◌, ℕ, ◌<◌, true, false}
-use Rattle.std.proofs.Common.{refl, sym, ap, subst, ◌∙◌, Bool}
+use Rattle.std.proofs.Common.{sym, ap, subst, ◌∙◌, Bool}
 use Rattle.gh_base.specs.declared.cell.Cell.TheVariants as cell
 use Rattle.gh_base.specs.declared.pack.TheConstants.{END}
 use Rattle.gh_marks.specs.Moves.{SameExtent}
-use Rattle.gh_cycle.specs.Beside.{ClaimsSlot, IsBeside, IsOfCycle, MarkingGoesBeside}
+use Rattle.gh_cycle.specs.Beside.{ClaimsSlot, IsBeside, IsOfCycle}
 use Rattle.gh_cycle.specs.Marked.{RegistersFit}
-use Rattle.gh_cycle.specs.Vocabulary.{Arena, Heap, Marking, Name, Place, Placed, Placing, points, Reach, shape_for, size_for, view, View}
+use Rattle.gh_cycle.specs.Vocabulary.{Arena, Heap, Marking, Name, Place, Placing, points, Reach, shape_for, size_for, view}
 
 pub record MakesNone (z : Arena) (h k : Heap) (s t : Marking) : Type 0 where
   pub words : t.words ≡ k.words
@@ -42,18 +42,3 @@ module _ (z : Arena) (h k : Heap) (s t : Marking) (c : IsBeside z h s) (m : Make
 
 pub beside-lasts : (z : Arena) (h k : Heap) (s t : Marking) → IsBeside z h s → MakesNone z h k s t → IsBeside z k t
 beside-lasts z h k s t c m = lasts z h k s t c m
-
--- A step of marking.
-pub marking-goes : MarkingGoesBeside
-marking-goes z h s t words c o = beside-lasts z h (record h { words = words }) s t c (record {
-  words = o.words_are;
-  place = refl;
-  types = refl;
-  reach = λ n r. r;
-  since = λ x is. o.since x ∙ is;
-  of_cycle = λ n is. record { made = is.made; placed = subst (λ (v : View). Placed v.alloc v.birth h.place n) o.view_is is.placed; since = sym (o.since (h.place n)) ∙ is.since };
-  extents = o.extents;
-  filling = λ x a is. subst (λ (v : View). ClaimsSlot z v a x) (sym o.view_is) (c.filling x a (o.filling x a is));
-  registers = λ g d lg ld runs. o.registers g d ∙ c.registers g d lg ld runs;
-  goes_on = λ g lg runs ended. c.goes_on g lg runs (o.ends g lg ended);
-})

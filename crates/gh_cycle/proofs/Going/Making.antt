@@ -1,14 +1,14 @@
 -- An object is made beside marking: it is black from the first, since its slot was marked before and its pointer fields are clear.
-use Rattle.std.proofs.Common.{◌≡◌, ◌≢◌, ℕ, ◌+◌, ◌<◌, ◌⊎◌, Bool, true, false, cond, refl, sym, ap, subst, ◌∙◌, inl, inr, arith, eq-eqb}
+use Rattle.std.proofs.Common.{◌≡◌, ◌≢◌, ℕ, ◌+◌, ◌-◌, ◌*◌, ◌<◌, ◌≤◌, ◌⊎◌, Bool, true, false, cond, refl, sym, ap, subst, ◌∙◌, inl, inr, arith, eq-eqb}
 use Rattle.gh_base.specs.declared.shape.Shape.{Shape}
 use Rattle.gh_base.specs.Shapes.{is_pointer, shape_at}
 use Rattle.gh_model.specs.declared.EverValue.TheVariants as ever
 use Rattle.gh_heap.specs.Moves as heap
 use Rattle.gh_marks.specs.Moves as marks
-use Rattle.gh_cycle.proofs.Vocabulary.{alloc_words, Black, ClaimsSlot, Cycle, eqb_tells, EverValue, field_count, GoesBeside, Good, hand_after, Hands, Heap, InHand, IsMade, IsMarked, IsOfCycle, Known, mark_of, mark_words, Marking, Name, next_name, Placed, Placing, points, Reach, reference_of, RegistersFit, row_bit, same_name, shape_for, size_for, update, view, with_object}
+use Rattle.gh_cycle.proofs.Vocabulary.{alloc_words, Black, ClaimsSlot, Cycle, eqb_tells, EverValue, field_count, Good, Hands, Heap, InHand, IsMade, IsOfCycle, Known, Marking, Name, next_name, Placed, Placing, points, Reach, reference_of, RegistersFit, row_bit, same_name, shape_for, size_for, update, view, with_object}
 use Rattle.gh_cycle.proofs.Reaching.{name-itself, name-tells}
 use Rattle.gh_cycle.proofs.Going.Objects.{here}
-use Rattle.gh_cycle.proofs.Going.Plain.{fills-still, there, Together}
+use Rattle.gh_cycle.proofs.Going.Plain.{fills-still, GoesBeside, hand_after, there, Together}
 use Rattle.gh_cycle.proofs.Going.Steps.{set-fits}
 
 update-here : {A : Type 0} (f : ℕ → A) (i : ℕ) (x : A) → update f i x i ≡ x
@@ -32,32 +32,37 @@ module _ (k : Known) (z : Cycle) (a : ℕ) (h : Heap) (s : Marking) (w : Togethe
 
   -- The moves of marking.
 
-  abbrev placed : Marking
-  placed = marks.moved z a s (marks.Place at (field_count shape) (is_pointer shape) shape.noscan)
+  abbrev place : marks.Move
+  place = marks.Place at (field_count shape) (is_pointer shape) shape.noscan g d
 
   abbrev then : Marking
-  then = marks.moved z a placed (marks.SetRegister g d (at + 1))
+  then = marks.moved z a s place
 
-  is-marked : IsMarked (mark_words s.words) at
-  is-marked = w.marking.marks at ∙ ap mark_of reserved
+  -- the claimed slot lies in the heap
+  within : field_count shape ≤ 1024 * z.arena.layout.pages
+  within = elim (eqb_tells (field_count shape) 0) [
+    | inl y ↦ omega (arith, y.1)
+    | inr n ↦
+        let c = may.ready.claim in
+        let last = (k.apart z.arena (view (here h s)) w.heap).inside c.p c.i at (field_count shape) (field_count shape - 1) c.h c.slot (omega (arith, n.1)) in
+        omega (arith, n.1, last.1, c.slot.span.within)
+  ]
 
-  may-place : marks.May z a s (marks.Place at (field_count shape) (is_pointer shape) shape.noscan)
-  may-place = record { reserved = reserved; clear = λ i l p. may.ready.fields i l }
-
-  may-set : marks.MaySetRegister z a placed g (at + 1)
-  may-set = record {
+  may-place : marks.May z a s place
+  may-place = record {
     own = may.runs.of;
     goes_on = w.beside.goes_on g may.runs.of.0 may.runs.goes_on;
-    since = λ o is. subst (λ (x : ℕ). update s.since at true x ≡ true) (omega (arith, is)) (update-here s.since at true);
-    safe = λ e o is. inl (subst (λ (x : ℕ). IsMarked (mark_words s.words) x) (omega (arith, is)) is-marked);
+    register = may.register;
+    reserved = reserved;
+    within = within;
+    clear = λ i l p. may.ready.fields i l;
   }
 
   went : marks.Went z a s then
-  went = marks.goes placed (marks.SetRegister g d (at + 1)) (marks.goes s (marks.Place at (field_count shape) (is_pointer shape) shape.noscan) marks.stays may-place) may-set
+  went = marks.goes s place marks.stays may-place
 
   hands : (x : InHand) → Hands a s x → Hands a then (hand_after move x)
-  hands x is = (k.hands z a placed (hand_after move x) (k.keeps z a s (marks.Place at (field_count shape) (is_pointer shape) shape.noscan) w.marking may-place)
-      ((k.hands z a s x w.marking is).placed at (field_count shape) (is_pointer shape) shape.noscan ((is.has.is_reserved at).1 reserved))).set g d (at + 1)
+  hands x is = (k.hands z a s x w.marking is).placed at (field_count shape) (is_pointer shape) shape.noscan g d ((is.has.is_reserved at).1 reserved)
 
   -- The new name, and the others.
 

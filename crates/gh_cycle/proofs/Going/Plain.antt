@@ -8,7 +8,7 @@ use Rattle.gh_heap.specs.Moves as heap
 use Rattle.gh_marks.specs.Good.{Good as MarkingGood}
 use Rattle.gh_marks.specs.Moves as marks
 use Rattle.gh_marks.specs.Seats.{Hands, InHand}
-use Rattle.gh_cycle.specs.Beside.{ClaimsSlot, GoesBeside, hand_after, IsBeside}
+use Rattle.gh_cycle.specs.Beside.{ClaimsSlot, IsBeside}
 use Rattle.gh_cycle.specs.Marked.{RegistersFit}
 use Rattle.gh_cycle.specs.Opening.{reference_of}
 use Rattle.gh_cycle.specs.Reached.{IsBounded}
@@ -16,6 +16,20 @@ use Rattle.gh_cycle.specs.Vocabulary.{alloc_words, Ask, birth_words, Cycle, effe
 use Rattle.gh_cycle.specs.Known.{Known}
 use Rattle.gh_cycle.proofs.Going.Lasting.{beside-lasts}
 use Rattle.gh_cycle.proofs.Going.Objects.{here}
+
+-- what the seat has in hand behind its move: a slot is filled with the object
+abbrev pub hand_after : heap.Move → InHand → InHand
+hand_after (heap.Make at g d t) hand = record hand { placing = None }
+hand_after _ hand = hand
+
+-- The move is made of moves of marking, and the two states belong together behind it.
+pub record GoesBeside (z : Cycle) (a : ℕ) (h : Heap) (s : Marking) (m : heap.Move) : Type 0 where
+  pub then : Marking
+  pub went : marks.Went z a s then
+  pub beside : IsBeside z.arena (heap.moved z.arena a h m) then
+  pub hands : (hand : InHand) → Hands a s hand → Hands a then (hand_after m hand)
+  -- no mark is cleared
+  pub marked : (o : ℕ) → IsMarked (mark_words s.words) o → IsMarked (mark_words then.words) o
 
 -- the heap behind a move of this seat
 abbrev pub there : Cycle → (a : ℕ) → Heap → Marking → heap.Move → Heap

@@ -1,17 +1,32 @@
--- Steps beside marking that no right guards, those by which a register takes a value, and the end of a goroutine.
+-- Steps beside marking by which a register takes a value, and the end of a goroutine.
 use Rattle.std.proofs.Common.{◌≡◌, ◌≢◌, ℕ, ◌<◌, Bool, true, false, cond, eqb, refl, sym, ap, subst, ◌∙◌, inl, inr, arith}
 use Rattle.gh_base.specs.declared.cell.Ask.TheVariants as ask
+use Rattle.gh_base.specs.declared.cell.Cell.{Cell}
 use Rattle.gh_base.specs.declared.cell.Cell.TheVariants as cell
 use Rattle.gh_base.specs.declared.pack.TheConstants.{END}
 use Rattle.gh_base.specs.Rows.{Row}
-use Rattle.gh_model.specs.declared.EverValue.TheVariants as ever
 use Rattle.gh_heap.specs.Moves as heap
 use Rattle.gh_marks.specs.Moves as marks
-use Rattle.gh_cycle.proofs.Vocabulary.{alloc_words, Ask, birth_words, ClaimsSlot, Cycle, effect, eqb_tells, Ever, EverValue, FillsNone, GoesBeside, Heap, IsReached, IsSafe, IsSince, Known, Marking, MeetsMarking, Name, nat_tests, Place, Placed, Placing, reference_of, RegistersFit, rows, Runs, update_at, View, view, with_end, with_register, with_words}
+use Rattle.gh_cycle.proofs.Vocabulary.{alloc_words, Ask, birth_words, ClaimsSlot, Cycle, effect, eqb_tells, Ever, EverValue, Heap, IsReached, IsSafe, IsSince, Known, Marking, Name, nat_tests, Place, Placed, Placing, reference_of, RegistersFit, rows, Runs, update_at, View, view, with_end, with_register, with_words}
+use Rattle.gh_cycle.specs.Deeds.{TakesFrom}
 use Rattle.gh_cycle.proofs.Beginning.{names-reference}
 use Rattle.gh_cycle.proofs.Endings.Quiet.{quiet_view}
+use Rattle.gh_cycle.proofs.Going.Coming.{comes, from-reached}
 use Rattle.gh_cycle.proofs.Going.Objects.{here}
-use Rattle.gh_cycle.proofs.Going.Plain.{along-quiet, goes-along, goes-quiet, GoesAlong, IsPlain, stacks-stay, there, Together}
+use Rattle.gh_cycle.proofs.Going.Plain.{along-quiet, goes-along, GoesAlong, GoesBeside, IsPlain, stacks-stay, there, Together}
+
+-- registers make no cell one that marking reads
+aside-with : (s : Marking) (registers : ℕ → Row) (c : Cell) → marks.IsAside s c → marks.IsAside (record s { registers = registers }) c
+aside-with s registers cell.Gcur aside = aside
+aside-with s registers _ aside = aside
+
+quiet-with : (s : Marking) (registers : ℕ → Row) (step : Ask) → marks.IsQuiet s step → marks.IsQuiet (record s { registers = registers }) step
+quiet-with s registers (ask.Load c) quiet = quiet
+quiet-with s registers (ask.Store c value) quiet = aside-with s registers c quiet
+quiet-with s registers (ask.Or c bits) quiet = aside-with s registers c quiet
+quiet-with s registers (ask.And c bits) quiet = aside-with s registers c quiet
+quiet-with s registers (ask.Add c more) quiet = aside-with s registers c quiet
+quiet-with s registers (ask.Swap c old new) quiet = aside-with s registers c quiet
 
 -- a register that takes a value, in both states
 pub set-fits : (f : ℕ → Row) (e : Ever) (place : Place) (g d : ℕ) (value : EverValue) (j c : ℕ) → f j c ≡ reference_of place (e.register j c) → update_at f g d (reference_of place value) j c ≡ reference_of place ((with_register e g d value).register j c)
@@ -46,40 +61,38 @@ module _ (k : Known) (z : Cycle) (a : ℕ) (h : Heap) (s : Marking) (w : Togethe
     same-alloc : alloc_words (effect s.words step) ≡ alloc_words s.words
     same-alloc = ap (λ (v : View). v.alloc) same-view
 
-  pub quiet-goes : (step : Ask) → heap.IsQuiet step → marks.IsQuiet s step → GoesBeside z a (here h s) s (heap.Quiet step)
-  quiet-goes step q mq = goes-quiet k z a h s w (heap.Quiet step) step q mq refl refl (record { none = refl; hand = λ x. refl; place = refl; types = refl; made = refl; alloc = same-alloc step q }) (same-placed step q) (claims-stay step q)
-
   -- A register takes a value by such a step.
-  module _ (m : heap.Move) (may : heap.May z.arena a (view (here h s)) m) (step : Ask) (mq : marks.IsQuiet s step) (g d : ℕ) (value : EverValue) (runs : Runs z.arena (view (here h s)) a g) (reached : IsReached h.ever value)
+  module _ (m : heap.Move) (may : heap.May z.arena a (view (here h s)) m) (step : Ask) (mq : marks.IsQuiet s step) (g d : ℕ) (value : EverValue) (runs : Runs z.arena (view (here h s)) a g) (from : TakesFrom z.arena h.ever g value)
       (safe : s.words (cell.Scanned g) ≡ z.number → IsSafe z.arena.layout.globals (rows s) (reference_of h.place value)) where
     abbrev word : ℕ
     word = reference_of h.place value
 
-    abbrev between : Marking
-    between = marks.moved z a s (marks.Quiet step)
+    abbrev set : Marking
+    set = marks.moved z a s (marks.SetRegister g d word)
 
     abbrev then : Marking
-    then = marks.moved z a between (marks.SetRegister g d word)
+    then = marks.moved z a set (marks.Quiet step)
 
-    may-set : marks.MaySetRegister z a between g word
+    may-set : marks.MaySetRegister z a s g word
     may-set = record {
       own = runs.of;
-      goes_on = λ e. w.beside.goes_on g runs.of.0 runs.goes_on (sym (stacks-stay k z a h s w step mq g runs.of.0) ∙ e);
-      since = reference-since value reached;
-      safe = λ e o is. k.guards z a s (marks.Quiet step) w.marking mq o (reference-since value reached o is) (safe (sym (stacks-stay k z a h s w step mq g runs.of.0) ∙ e) o is);
+      goes_on = w.beside.goes_on g runs.of.0 runs.goes_on;
+      comes = comes k.made z a h s w g runs value from;
+      since = reference-since value (from-reached z.arena h.ever g runs.goes_on value from);
+      safe = safe;
     }
 
     along : effect s.words step ≡ (there z a h s m).words → GoesAlong z a h s m then
     along words =
-        let q = along-quiet k z a h s w m step mq words in
+        let quiet = quiet-with s (update_at s.registers g d word) step mq in
         record {
-          went = marks.goes between (marks.SetRegister g d word) q.went may-set;
+          went = marks.goes set (marks.Quiet step) (marks.goes s (marks.SetRegister g d word) marks.stays may-set) quiet;
           words = words;
           since = refl;
           extents = refl;
           colour = refl;
-          marked = q.marked;
-          hands = λ x is. (k.hands z a between x (k.keeps z a s (marks.Quiet step) w.marking mq) (q.hands x is)).set g d word;
+          marked = (along-quiet k z a h s w m step mq words).marked;
+          hands = λ x is. (k.hands z a set x (k.keeps z a s (marks.SetRegister g d word) w.marking may-set) ((k.hands z a s x w.marking is).set g d word)).quiet step quiet;
         }
 
     pub takes-value : IsPlain z a h s m → effect s.words step ≡ (there z a h s m).words → (there z a h s m).ever ≡ with_register h.ever g d value →
@@ -94,14 +107,6 @@ module _ (k : Known) (z : Cycle) (a : ℕ) (h : Heap) (s : Marking) (w : Togethe
 
       goes_on : (j : ℕ) → j < z.arena.layout.goroutines → (there z a h s m).ever.ended j ≡ false → effect s.words step (cell.Scanned j) ≢ END
       goes_on j l on ended = w.beside.goes_on j l (sym (ap (λ e. e.ended j) same) ∙ on) (sym (stacks-stay k z a h s w step mq j l) ∙ ended)
-
-  pub takes-goes : (step : Ask) (g d : ℕ) (value : EverValue) → heap.May z.arena a (view (here h s)) (heap.Takes step g d value) → MeetsMarking z a (here h s) s (heap.Takes step g d value) → GoesBeside z a (here h s) s (heap.Takes step g d value)
-  takes-goes step g d value may meets = takes-value (heap.Takes step g d value) may step meets.0 g d value may.1 may.3 meets.1 (record { none = refl; hand = λ x. refl; place = refl; types = refl; made = refl; alloc = same-alloc step may.0 }) refl refl (same-placed step may.0) claims where
-    claims : (o : ℕ) → s.colour o ≡ Placing a → ClaimsSlot z.arena (view (there z a h s (heap.Takes step g d value))) a o
-    claims o is = let c = claims-stay step may.0 o is in record { size = c.size; claim = c.claim }
-
-  pub refuses : (g d : ℕ) → heap.May z.arena a (view (here h s)) (heap.Refuse g d) → FillsNone a s → GoesBeside z a (here h s) s (heap.Refuse g d)
-  refuses g d may fills = takes-value (heap.Refuse g d) may (ask.Store cell.Lock 0) tt g d ever.Nil may.3 tt (λ e o is. absurd (omega (arith, is))) (record { none = refl; hand = λ x. refl; place = refl; types = refl; made = refl; alloc = refl }) refl refl (λ n o. o) (λ o is. absurd (fills o is))
 
   abbrev ended-by : (g : ℕ) → Marking
   ended-by g = marks.moved z a s (marks.EndStack g)

@@ -3,16 +3,18 @@ use Rattle.std.proofs.Common.{◌≡◌, ◌≢◌, ℕ, ◌+◌, ◌<◌, Bool,
 use Rattle.std.proofs.lemmas.Bool.Decides.{eqb_tells}
 use Rattle.gh_base.specs.declared.cell.Ask.TheVariants as ask
 use Rattle.gh_base.specs.declared.cell.Cell.TheVariants as cell
+use Rattle.gh_base.specs.Rows.{field_words, global_words}
 use Rattle.gh_heap.specs.Moves as heap
 use Rattle.gh_heap.specs.Moves.{IsReached}
+use Rattle.gh_marks.specs.Colours.{IsClean}
 use Rattle.gh_marks.specs.Moves as marks
 use Rattle.gh_marks.specs.Seats.{Hands, InHand}
-use Rattle.gh_cycle.specs.Beside.{ClaimsSlot, GoesBeside, IsOfCycle, MeetsMarking}
-use Rattle.gh_cycle.specs.Vocabulary.{Cycle, EverValue, Heap, Holds, IsPointer, IsSince, Marking, Name, Placing, points, put, size_for, view}
+use Rattle.gh_cycle.specs.Beside.{ClaimsSlot, IsOfCycle}
+use Rattle.gh_cycle.specs.Vocabulary.{Cycle, EverValue, Heap, Holds, IsPointer, IsSince, mark_words, Marking, Name, Placing, points, put, size_for, view}
 use Rattle.gh_cycle.proofs.Beginning.{names-it}
 use Rattle.gh_cycle.specs.Known.{Known}
 use Rattle.gh_cycle.proofs.Going.Objects.{apart-from, here, name-at}
-use Rattle.gh_cycle.proofs.Going.Plain.{goes-along, GoesAlong, there, Together}
+use Rattle.gh_cycle.proofs.Going.Plain.{goes-along, GoesAlong, GoesBeside, there, Together}
 
 module _ (k : Known) (z : Cycle) (a : ℕ) (h : Heap) (s : Marking) (w : Together z h s) where
   -- a word that holds a reached value names what is of the cycle
@@ -28,6 +30,10 @@ module _ (k : Known) (z : Cycle) (a : ℕ) (h : Heap) (s : Marking) (w : Togethe
   module _ (n : Name) (i : ℕ) (value : EverValue) (word : ℕ) (may : heap.May z.arena a (view (here h s)) (heap.Write n i value word)) where
     abbrev x : ℕ
     x = h.place n + i
+
+    -- a pointer is written behind the write barrier
+    abbrev Barrier : Type 0
+    Barrier = points z.arena.shapes h.ever.type_of n i ≡ true → IsClean (mark_words s.words) (field_words s.words x) × IsClean (mark_words s.words) word
 
     abbrev written : Marking
     written = record s { words = put s.words (cell.Field x) word }
@@ -57,20 +63,20 @@ module _ (k : Known) (z : Cycle) (a : ℕ) (h : Heap) (s : Marking) (w : Togethe
     along : marks.Went z a s written → ((y : InHand) → Hands a s y → Hands a written y) → GoesAlong z a h s (heap.Write n i value word) written
     along went hands = record { went = went; words = refl; since = refl; extents = refl; colour = refl; marked = λ o is. is; hands = hands }
 
-    along-by : (b : Bool) → points z.arena.shapes h.ever.type_of n i ≡ b → MeetsMarking z a (here h s) s (heap.Write n i value word) → GoesAlong z a h s (heap.Write n i value word) written
+    along-by : (b : Bool) → points z.arena.shapes h.ever.type_of n i ≡ b → Barrier → GoesAlong z a h s (heap.Write n i value word) written
     along-by true e meets = along (marks.goes s (marks.PutField x word) marks.stays behind) (λ y is. (k.hands z a s y w.marking is).put_field x word) where
       behind : marks.BehindBarrier s (s.words (cell.Field x)) word
       behind = record { old = (meets e).0; new = (meets e).1; since = word-since value word may.value_reached (subst (λ (p : Bool). Holds h.place h.ever.made p value word) e may.holds) }
     along-by false e meets = along (marks.goes s (marks.Quiet (ask.Store (cell.Field x) word)) marks.stays (aside e)) (λ y is. (k.hands z a s y w.marking is).quiet (ask.Store (cell.Field x) word) (aside e))
 
-    pub writes : MeetsMarking z a (here h s) s (heap.Write n i value word) → GoesBeside z a (here h s) s (heap.Write n i value word)
+    pub writes : Barrier → GoesBeside z a (here h s) s (heap.Write n i value word)
     writes meets = goes-along k z a h s w (heap.Write n i value word) may (record { none = refl; hand = λ y. refl; place = refl; types = refl; made = refl; alloc = refl }) written (along-by (points z.arena.shapes h.ever.type_of n i) refl meets) (λ m p. p) claims w.beside.registers w.beside.goes_on where
       claims : Claimed (heap.Write n i value word)
       claims o is = let c = w.beside.filling o a is in record { size = c.size; claim = c.claim }
 
-  pub writes-global : (i : ℕ) (value : EverValue) (word : ℕ) → heap.May z.arena a (view (here h s)) (heap.WriteGlobal i value word) → MeetsMarking z a (here h s) s (heap.WriteGlobal i value word) → GoesBeside z a (here h s) s (heap.WriteGlobal i value word)
-  writes-global i value word may meets = goes-along k z a h s w (heap.WriteGlobal i value word) may (record { none = refl; hand = λ y. refl; place = refl; types = refl; made = refl; alloc = refl }) (marks.moved z a s (marks.PutGlobal i word)) (record {
-    went = marks.goes s (marks.PutGlobal i word) marks.stays (record { old = meets.0; new = meets.1; since = word-since value word may.value_reached may.holds });
+  pub writes-global : (i : ℕ) (value : EverValue) (word : ℕ) → heap.May z.arena a (view (here h s)) (heap.WriteGlobal i value word) → IsClean (mark_words s.words) (global_words s.words i) → IsClean (mark_words s.words) word → GoesBeside z a (here h s) s (heap.WriteGlobal i value word)
+  writes-global i value word may old new = goes-along k z a h s w (heap.WriteGlobal i value word) may (record { none = refl; hand = λ y. refl; place = refl; types = refl; made = refl; alloc = refl }) (marks.moved z a s (marks.PutGlobal i word)) (record {
+    went = marks.goes s (marks.PutGlobal i word) marks.stays (record { old = old; new = new; since = word-since value word may.value_reached may.holds });
     words = refl;
     since = refl;
     extents = refl;

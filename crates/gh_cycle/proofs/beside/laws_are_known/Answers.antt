@@ -13,6 +13,5 @@ returns c = record {
   leaves = c.each_move_leaves-2.ensures;
   own = c.own_moves_leave.ensures.leave;
   steps = c.steps_go_by_moves.ensures;
-  guards = c.each_move_guards.ensures;
   hands = c.hands_follow.ensures;
 }
