@@ -1,9 +1,10 @@
 //! Words in a plain list.
 
-ghost use Rattle.std.specs.Prelude.{◌≡◌, ◌<◌, IfOk, length, slice_index};
+ghost use Rattle.std.specs.Prelude.{◌≡◌, ◌^◌, ◌<◌, IfOk, length, replicate, slice_index, slice_set};
 ghost use Rattle.gh_base.specs.Cells.{length_of, opening_words, Shows};
 ghost use Rattle.gh_base.specs.Steps.{changed, target};
 
+use crate::block::{BLOCK, Block};
 use gh_base::{Cell, Layout, Req};
 use std::alloc::{AllocError, Global};
 use std::marker::Model;
@@ -23,18 +24,22 @@ pub trait Words {
         ensures left { list self.new ≡ changed request (list self.old) };
 }
 
-/// The words of a heap in a list.
+/// The words of a heap in a list, which is in blocks: those that nothing is done to are never cleared.
 #[derive(Debug, Drop)]
 pub struct Plain {
-    words: Vec<u64>,
+    blocks: Vec<Block>,
+    length: usize,
 }
 
 impl Model for Plain {
     ghost use Rattle.std.specs.Prelude.{List, ℕ};
+    ghost use Rattle.gh_words.specs.Blocks.{spread, FitBlocks};
 
     ghost Value = { List ℕ };
 
-    ghost view = { λ p. p.words.items };
+    ghost view = { λ p. spread p.blocks.items p.length };
+
+    ghost invariant = { λ p. FitBlocks p.blocks.items p.length };
 }
 
 impl Plain {
@@ -43,11 +48,49 @@ impl Plain {
     pub fn new(alloc: Global, layout: &Layout, trigger: u64) -> Result<Plain, AllocError>
         ensures { IfOk result (λ words. Shows layout.now words (opening_words trigger)) }
     {
-        let mut words = vec![in alloc; 0u64; layout.words() as usize]?;
-        words[layout.word(Cell::Gen) as usize] = 2;
-        words[layout.word(Cell::Slack) as usize] = 1;
-        words[layout.word(Cell::Trigger) as usize] = trigger;
-        Ok(Plain { words })
+        let mut words = Plain::cleared(alloc, layout.words() as usize)?;
+        words.set(layout.word(Cell::Gen) as usize, 2);
+        words.set(layout.word(Cell::Slack) as usize, 1);
+        words.set(layout.word(Cell::Trigger) as usize, trigger);
+        Ok(words)
+    }
+
+    /// So many zeros.
+    fn cleared(alloc: Global, length: usize) -> Result<Plain, AllocError>
+        requires { length < 2 ^ 32 }
+        ensures { IfOk result (λ words. words ≡ replicate length 0) }
+    {
+        let count = length / BLOCK + 1;
+        let mut blocks = Vec::with_capacity(alloc, count)?;
+        for _ in 0..count {
+            blocks.push_reserved(Block::new(alloc)?);
+        }
+        Ok(Plain { blocks, length })
+    }
+
+    /// This is the word of this number from now on.
+    fn set(&mut self, at: usize, word: u64)
+        requires { at < length self.old }
+        ensures { self.new ≡ slice_set self.old at word }
+    {
+        self.blocks[at / BLOCK].set(at % BLOCK, word);
+    }
+
+    /// How many words there are.
+    pub fn count(&self) -> usize
+        ensures { result ≡ length self.now }
+    {
+        self.length
+    }
+
+    /// The word of this number.
+    #[inline(always)]
+    pub fn word_at(&self, word: u32) -> u64
+        requires { word < length self.now }
+        ensures { result ≡ slice_index self.now word }
+    {
+        let at = word as usize;
+        self.blocks[at / BLOCK].get(at % BLOCK)
     }
 }
 
@@ -56,9 +99,7 @@ impl Words for Plain {
 
     fn step(&mut self, request: Req) -> u64 {
         let at = request.word() as usize;
-        let found = self.words[at];
-        self.words[at] = request.left(found);
-        found
+        self.blocks[at / BLOCK].step(at % BLOCK, request)
     }
 }
 
@@ -71,14 +112,15 @@ mod tests {
     fn a_heap_opens(rt: HostRuntime) -> Result<(), Fail> {
         let layout = Layout::new(16, 1, 1, 1, 1)?;
         let words = Plain::new(rt.alloc(), &layout, 77)?;
-        assert_eq!(rt; words.words.len(), 51097);
+        assert_eq!(rt; words.count(), 51097);
         let mut others = 0;
-        for (i, word) in words.words.iter().enumerate() {
+        for i in 0..51097 {
+            let word = words.word_at(i);
             match i {
-                2 => assert_eq!(rt; *word, 2),
-                10 => assert_eq!(rt; *word, 77),
-                12 => assert_eq!(rt; *word, 1),
-                _ => others |= *word,
+                2 => assert_eq!(rt; word, 2),
+                10 => assert_eq!(rt; word, 77),
+                12 => assert_eq!(rt; word, 1),
+                _ => others |= word,
             }
         }
         assert_eq!(rt; others, 0);
@@ -107,7 +149,7 @@ mod tests {
             (Req::Load(6), 0),
             (Req::Load(8), 0),
         ] {
-            assert!(rt; (request.word() as usize) < words.words.len());
+            assert!(rt; (request.word() as usize) < words.count());
             assert_eq!(rt; step_on(&mut words, request), found, "{request:?}");
         }
         Ok(())
