@@ -334,7 +334,13 @@ impl Machine for Worker {
 
     fn take(&mut self, found: u64) -> Option<()> {
         match &self.stage {
-            WorkerStage::LoadPhase => self.by_phase(found),
+            WorkerStage::LoadPhase => {
+                // While marking is off the stage is the same again, and is not written.
+                let word = PhaseWord::unpack(found);
+                if !matches!(word.phase, Phase::Off) {
+                    self.by_phase(found);
+                }
+            }
             WorkerStage::GiveBack(_, stops) => {
                 let stops = *stops;
                 self.given_back(stops);
