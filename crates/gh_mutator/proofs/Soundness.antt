@@ -15,10 +15,10 @@ use Rattle.gh_mutator.specs.Leave as leave
 use Rattle.gh_mutator.specs.LeaveEnds as leave_proved
 use Rattle.gh_mutator.specs.LeaveEnds.{stage_busy}
 use Rattle.gh_mutator.specs.Load as load_listing
-use Rattle.gh_mutator.specs.Local.{register_in, with_nothing}
+use Rattle.gh_mutator.specs.Local.{register_in, with_nothing, with_register}
 use Rattle.gh_mutator.specs.Poll as poll
 use Rattle.gh_mutator.specs.PollEnds as poll_proved
-use Rattle.gh_mutator.specs.Processor.{at_task, keeping, opening_processor}
+use Rattle.gh_mutator.specs.Processor.{at_poll, at_task, keeping, opening_processor}
 use Rattle.gh_mutator.specs.Register.{read_of, step, value_from}
 use Rattle.gh_mutator.specs.Serving.{is_making}
 use Rattle.gh_mutator.specs.Sound.{GlobalRoom, has_names, has_room, IsNear, most_objects, Sound, SoundGlobal, SoundLoad, SoundOp, SoundRegister, SoundStore, SoundTask, StoreRoom}
@@ -124,6 +124,13 @@ module _ (shapes : List Shape) where
   plain_at laws m task.Poll found q s h = poll_sound shapes m (poll.goes m.poll found) (poll.gives m.poll found) s (poll_proved.stays m.poll found) (poll_stacks m.poll found) (λ e. (poll_proved.ends m.poll found h).0 e)
   plain_at laws m (task.End g) found q s h = polled shapes m (with_ended m.poll g) task.Idle s refl refl tt
   plain_at laws m (task.Leave x) found q s h = leave_sound shapes m (leave.goes x found) (leave.gives x found) s (leave_proved.stays x found ∙ h.layout) (λ e. (leave_proved.ends x found h.busy).0 e)
+
+  -- once a statement on registers is made
+  set_at : (m : Processor) (x : Register) → Sound shapes m → Sound shapes (takes_at shapes m (task.Register x) 0)
+  set_at m x s = applied_sound shapes SoundRegister task.Register m x.g x.d (step (register_of m x.g (read_of x)) x) s (register_sound m.poll.layout.pages (register_of m x.g (read_of x)) x (s.registers _ _)) (λ y p e b f. f)
+
+  pub set_sound : (m : Processor) (p : Polling) (x : Register) → Sound shapes m → m.task ≡ task.Idle → p ≡ with_register m.poll x.g x.d (value_from (register_of m x.g (read_of x)) x.source) → Sound shapes (at_poll m p)
+  set_sound m p x s idle is = rw is (subst (λ (t : Task). Sound shapes (record { poll = with_register m.poll x.g x.d (value_from (register_of m x.g (read_of x)) x.source); made = m.made; task = t })) (sym idle) (set_at m x s))
 
   plain_sound : ClassLaws → (m : Processor) (found : ℕ) → is_making m.task ≡ false → Sound shapes m → Sound shapes (takes shapes m found)
   plain_sound laws m found plain s = plain_at laws m m.task found plain s s.task

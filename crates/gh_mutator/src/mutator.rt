@@ -1,15 +1,19 @@
 //! The machine of a processor.
 
-ghost use Rattle.std.specs.Prelude.{◌≡◌, ◌<◌, true, false};
-ghost use Rattle.gh_mutator.specs.Mutating.{acts, begins, is_busy, opening};
+ghost use Rattle.std.specs.Prelude.{◌≡◌, ℕ, ◌<◌, IsTrue, Some, true, false};
+ghost use Rattle.gh_base.specs.declared.cell.Ask.TheVariants as ask;
+ghost use Rattle.gh_base.specs.declared.cell.Cell.TheVariants as cell;
+ghost use Rattle.gh_base.specs.declared.operation.Op.TheVariants as ops;
+ghost use Rattle.gh_base.specs.declared.value.Answer.TheVariants as answers;
+ghost use Rattle.gh_mutator.specs.Mutating.{acts, asks, begins, goes, is_busy, opening};
 ghost use Rattle.gh_mutator.specs.Barrier.{has_entries};
-ghost use Rattle.gh_mutator.specs.Serving.{has_left_at, is_last, is_point, is_serving};
+ghost use Rattle.gh_mutator.specs.Serving.{has_left_at, is_last, is_point, is_serving, statement_answer};
 ghost use Rattle.gh_base.specs.Shapes.{ShapesFit};
 ghost use Rattle.gh_mutator.specs.Sound.{has_names, has_room, SoundOp};
 
 use crate::processor::Processor;
 use crate::task::Task;
-use gh_base::{Answer, Layout, Machine, Op, Req, Shapes};
+use gh_base::{Answer, Layout, Machine, Op, Req, Shapes, Value};
 use std::marker::Model;
 
 /// A processor (Go's P with its mcache): it runs the statements of goroutines, one operation at a time.
@@ -65,6 +69,41 @@ impl<'s> Mutator<'s> {
         self.processor.begin(self.shapes, op);
     }
 
+    /// A poll is begun, where nothing is begun, and ended at once by the phase word that it finds, where it has nothing else
+    /// to do. It answers whether that is so; where not, nothing is begun.
+    pub fn passes(&mut self, found: u64) -> bool
+        requires idle { is_busy self.old ≡ false }
+        ensures passed { IsTrue result → self.new ≡ goes (begins self.old ops.Poll) found }
+        ensures stays { result ≡ false → self.new ≡ self.old }
+    {
+        match self.processor.task {
+            Task::Idle => self.processor.poll.passes(found),
+            _ => false,
+        }
+    }
+
+    /// A statement on registers alone is begun, where nothing is begun, and ended at once: its one step is the same whatever
+    /// it finds. It answers whether the operation is such a statement; where not, nothing is begun.
+    pub fn sets(&mut self, op: Op) -> bool
+        requires idle { is_busy self.old ≡ false }
+        requires op { SoundOp self.old.shapes self.old.processor.poll.layout op }
+        ensures set { IsTrue result → (found : ℕ) → (self.new ≡ goes (begins self.old op) found) × (asks (begins self.old op) ≡ ask.Load cell.Touch) × (statement_answer (begins self.old op).processor found ≡ Some answers.Done) × (is_last (begins self.old op).processor.task ≡ false) × (is_point (acts (begins self.old op) found) ≡ true) }
+        ensures stays { result ≡ false → self.new ≡ self.old }
+    {
+        let (g, d, value) = match op {
+            Op::Int { g, d, n } => (g, d, Value::Int(n)),
+            Op::Move { g, d, s } => (g, d, self.processor.poll.register(g, s)),
+            Op::Nil { g, d } => (g, d, Value::Nil),
+            _ => return false,
+        };
+        if !matches!(self.processor.task, Task::Idle) {
+            return false;
+        }
+        self.processor.poll.set_register(g, d, value);
+        self.marks = self.marks.saturating_add(1);
+        true
+    }
+
     /// An operation is begun, and a step is to be made.
     pub fn is_busy(&self) -> bool
         ensures { result ≡ is_busy self.now }
@@ -93,7 +132,7 @@ impl<'s> Mutator<'s> {
     pub fn is_last(&self) -> bool
         ensures { result ≡ is_last self.now.processor.task }
     {
-        match self.processor.task {
+        match &self.processor.task {
             Task::Leave(leave) => leave.is_last(),
             _ => false,
         }

@@ -1,13 +1,13 @@
 //! The poll of a processor among a collector.
 
-ghost use Rattle.std.specs.Prelude.{◌≡◌, ◌^◌, ◌<◌, IfSome, length};
+ghost use Rattle.std.specs.Prelude.{◌≡◌, ◌^◌, ◌<◌, IfSome, IsTrue, Some, false, length};
 ghost use Rattle.gh_base.specs.declared.limits.TheConstants.{MOST_GOROUTINES};
 ghost use Rattle.gh_phase.specs.Listing as resumes;
 ghost use Rattle.gh_wbuf.specs.RoomFinding as rooms;
 ghost use Rattle.gh_mutator.specs.Give as gives;
 ghost use Rattle.gh_mutator.specs.MarkStack as marks;
 ghost use Rattle.gh_mutator.specs.GiveSound.{Runs};
-ghost use Rattle.gh_mutator.specs.Poll.{begins, begins_stack, counted, due, first_due, given, goes_at, has_two, is_due, marks_then, resting, room_stage, stops_then};
+ghost use Rattle.gh_mutator.specs.Poll.{begins, begins_stack, counted, due, first_due, given, gives as gives_by, goes, goes_at, has_two, is_due, marks_then, resting, room_stage, stops_then};
 ghost use Rattle.gh_mutator.specs.PollSound.{FitsLocal, FitsStage};
 
 use crate::give::{Cache, Give};
@@ -144,6 +144,28 @@ impl Poll {
     {
         self.waits = waits;
         self.stage = PollStage::LoadPhase;
+    }
+
+    /// A poll of a turn's own is begun, and ended at once by the phase word that it finds, where nothing is to be done: the
+    /// world runs, and marking is off, as the processor knows. It answers whether that is so; where not, nothing is begun.
+    pub(crate) fn passes(&mut self, found: u64) -> bool
+        ensures passed { IsTrue result → (self.new ≡ goes (begins self.old false) found) × (gives_by (begins self.old false) found ≡ Some tt) }
+        ensures stays { result ≡ false → self.new ≡ self.old }
+    {
+        if !matches!(self.stage, PollStage::Ended) {
+            return false;
+        }
+        let word = PhaseWord::unpack(found);
+        if RunPhase::of(word.phase).is_none() {
+            return false;
+        }
+        match self.local.view.phase {
+            RunPhase::Mark => false,
+            RunPhase::Off | RunPhase::Finished => {
+                self.waits = false;
+                true
+            }
+        }
     }
 
     /// Its last stage: a buffer with room is looked for where the processor is to have one.

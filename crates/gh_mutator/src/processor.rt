@@ -1,11 +1,15 @@
 //! A processor: its private state, and where an operation begins.
 
 ghost use Rattle.std.specs.Prelude.{◌≡◌, ◌<◌, true};
+ghost use Rattle.gh_mutator.specs.Barrier.{has_entries};
+ghost use Rattle.gh_mutator.specs.Global as globals;
+ghost use Rattle.gh_mutator.specs.Local.{leaving, with_nothing};
 ghost use Rattle.gh_mutator.specs.Listing.{begins, is_busy_at};
-ghost use Rattle.gh_mutator.specs.Processor.{at_task, opening_processor};
+ghost use Rattle.gh_mutator.specs.Processor.{at_poll, at_task, opening_processor, register_of};
+ghost use Rattle.gh_mutator.specs.declared.task.Task.TheVariants as task;
 ghost use Rattle.gh_mutator.specs.Register as register;
 ghost use Rattle.gh_base.specs.Shapes.{ShapesFit};
-ghost use Rattle.gh_mutator.specs.Sound.{has_names, has_room, Sound, SoundOp};
+ghost use Rattle.gh_mutator.specs.Sound.{has_names, has_room, IsNear, IsRegister, Sound, SoundOp};
 
 use crate::global::Global;
 use crate::load::Load;
@@ -82,11 +86,7 @@ impl<'s> Processor<'s> {
                 self.start(Store::begin(g, b, k, v, base));
             }
             Op::GetGlobal { g, d, k } => self.start(Global::begin_load(g, d, k)),
-            Op::SetGlobal { g, k, v } => {
-                let held = self.poll.register(g, v);
-                let global = Global::begin_store(&self.poll, g, k, v, held);
-                self.start(global);
-            }
+            Op::SetGlobal { g, k, v } => self.begin_set_global(g, k, v),
             Op::Int { g, d, n } => self.start(begin_register(g, d, Source::Int(n))),
             Op::Move { g, d, s } => self.start(begin_register(g, d, Source::Move(s))),
             Op::Nil { g, d } => self.start(begin_register(g, d, Source::Nil)),
@@ -99,11 +99,35 @@ impl<'s> Processor<'s> {
                 self.task = Task::Poll;
             }
             Op::End(g) => self.task = Task::End(g),
-            Op::Leave => {
-                let leave = self.poll.leave();
-                self.task = Task::Leave(leave);
-            }
+            Op::Leave => self.begin_leave(),
         }
+    }
+
+    // A function for what large values are built in: they are then no part of the others, which would clear them.
+
+    /// A store of global `k` begins from register `v`.
+    #[inline(never)]
+    fn begin_set_global(&mut self, g: u32, k: u32, v: u32)
+        requires global { k < self.old.poll.layout.globals }
+        requires register { IsRegister g v }
+        requires near { IsNear self.old.poll.layout.pages (register_of self.old g v) }
+        requires room { has_entries self.old.poll ≡ true }
+        ensures { self.new ≡ at_task self.old (task.Global (globals.begins_store self.old.poll.layout self.old.poll.local g k v (register_of self.old g v))) }
+    {
+        let held = self.poll.register(g, v);
+        let global = Global::begin_store(&self.poll, g, k, v, held);
+        // The stage's type has to be named here: the prover builds no plan for `start` without.
+        let _stage = &global.stage;
+        self.start(global);
+    }
+
+    /// The leave begins.
+    #[inline(never)]
+    fn begin_leave(&mut self)
+        ensures { self.new ≡ at_task (at_poll self.old (with_nothing self.old.poll)) (task.Leave (leaving self.old.poll)) }
+    {
+        let leave = self.poll.leave();
+        self.task = Task::Leave(leave);
     }
 
     /// It is at this statement from now on.

@@ -72,7 +72,7 @@ impl<'s> Processor<'s> {
         }
         match step.then {
             Then::GoesOn(next) => {
-                self.task = next.as_task();
+                next.put(&mut self.task);
                 None
             }
             Then::Ends(answer) => {
@@ -105,7 +105,8 @@ impl<'s> Processor<'s> {
         }
     }
 
-    // A function for each kind of statement: the step that it makes in memory is then no part of the others.
+    // A function for each kind of statement: the step that it makes in memory is then no part of the others. A task that stays
+    // of its kind is written no further than that kind goes.
 
     /// Goes on with this load.
     fn take_load(&mut self, x: Load, found: u64) -> Option<Answer>
@@ -136,7 +137,13 @@ impl<'s> Processor<'s> {
         let mut wait = wait;
         match wait.take(&mut self.poll, found) {
             None => {
-                self.task = Task::Gc(g, wait);
+                match &mut self.task {
+                    Task::Gc(h, x) => {
+                        *h = g;
+                        *x = wait;
+                    }
+                    task => *task = Task::Gc(g, wait),
+                }
                 None
             }
             Some(()) => {
@@ -154,7 +161,9 @@ impl<'s> Processor<'s> {
     {
         match self.poll.take(found) {
             None => {
-                self.task = Task::Poll;
+                if !matches!(self.task, Task::Poll) {
+                    self.task = Task::Poll;
+                }
                 None
             }
             Some(()) => {

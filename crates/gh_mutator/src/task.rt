@@ -47,6 +47,10 @@ pub(crate) trait Statement<'s> {
     /// The task of a processor that runs it.
     fn as_task(self) -> Task<'s>
         ensures { result ≡ as_task self };
+
+    /// The processor runs it from now on. Where it runs one of this kind already, no more is written than the statement.
+    fn put(self, task: &mut Task<'s>)
+        ensures { task.new ≡ as_task self };
 }
 
 impl<'s> Statement<'s> for Load {
@@ -56,6 +60,13 @@ impl<'s> Statement<'s> for Load {
 
     fn as_task(self) -> Task<'s> {
         Task::Load(self)
+    }
+
+    fn put(self, task: &mut Task<'s>) {
+        match task {
+            Task::Load(x) => *x = self,
+            _ => *task = Task::Load(self),
+        }
     }
 }
 
@@ -67,6 +78,13 @@ impl<'s> Statement<'s> for Store {
     fn as_task(self) -> Task<'s> {
         Task::Store(self)
     }
+
+    fn put(self, task: &mut Task<'s>) {
+        match task {
+            Task::Store(x) => *x = self,
+            _ => *task = Task::Store(self),
+        }
+    }
 }
 
 impl<'s> Statement<'s> for Global {
@@ -77,6 +95,13 @@ impl<'s> Statement<'s> for Global {
     fn as_task(self) -> Task<'s> {
         Task::Global(self)
     }
+
+    fn put(self, task: &mut Task<'s>) {
+        match task {
+            Task::Global(x) => *x = self,
+            _ => *task = Task::Global(self),
+        }
+    }
 }
 
 impl<'s> Statement<'s> for Register {
@@ -86,5 +111,12 @@ impl<'s> Statement<'s> for Register {
 
     fn as_task(self) -> Task<'s> {
         Task::Register(self)
+    }
+
+    fn put(self, task: &mut Task<'s>) {
+        match task {
+            Task::Register(x) => *x = self,
+            _ => *task = Task::Register(self),
+        }
     }
 }

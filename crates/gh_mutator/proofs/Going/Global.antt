@@ -15,7 +15,7 @@ use Rattle.gh_barrier.specs.declared.write_pointer.WriteStage.TheVariants as wri
 use Rattle.gh_barrier.specs.Facts.{Facts}
 use Rattle.gh_barrier.specs.Listing.{Writing as PointerWrite}
 use Rattle.gh_barrier.specs.Listing as write
-use Rattle.gh_cycle.specs.Deeds.{PutsGlobal, Rests, Sets}
+use Rattle.gh_cycle.specs.Deeds.{from_global, PutsGlobal, Rests, Sets}
 use Rattle.gh_heap.specs.Rights.{Shared as Heap}
 use Rattle.gh_marks.specs.Colours.{IsClean}
 use Rattle.gh_marks.specs.Moves.{BehindBarrier}
@@ -39,7 +39,7 @@ use Rattle.gh_mutator.proofs.Going.Values.{global_safe, quits_rests}
 use Rattle.gh_mutator.proofs.Going.Writing.{write_fills, write_goes}
 use Rattle.gh_mutator.proofs.Marking.Known.{stacks_last}
 use Rattle.gh_mutator.proofs.Owning.Barrier.{word_written}
-use Rattle.gh_mutator.proofs.Owning.Objects.{fits_pointer, global_reached, register_reached, takes_told, word_holds}
+use Rattle.gh_mutator.proofs.Owning.Objects.{fits_pointer, register_reached, takes_told, word_holds}
 
 -- a value that was found is named, or the load is over
 named_facts : (z : Cycle) (a : ℕ) (u : Marking) (x : Global) (p : Polling) (v : Value) → IsBetween z a u p.local → TaskFacts z a u p (follows task.Global (told_by (naming x) v))
@@ -118,7 +118,7 @@ at k x stage.Load z a h s m pending t kn l = by_deed k z a h s (here x stage.Loa
   fills_none a s (holding m.poll.local.held) refl t.facts.task_is.hands,
   t.fine.task.0,
   t.fine.task.1,
-  global_reached h.ever x.k (h.ever.global x.k) refl,
+  from_global x.k t.fine.task.2,
   λ scanned. global_safe k.safe z a h s t.shapes t.heap t.marking t.beside x.k t.fine.task.2,
 )
     (λ u hands stacks. named_facts z a u x _ (value_of m.poll.layout.pages true (h.words (cell.Global x.k))) (record { stacks = stacks; number = t.facts.task_is.number; hands = hands (holding m.poll.local.held) t.facts.task_is.hands }))

@@ -4,8 +4,8 @@ use Rattle.std.proofs.lemmas.Bool.{lt-ltb}
 use Rattle.gh_base.specs.declared.value.Answer.TheVariants as answer
 use Rattle.gh_base.specs.declared.value.Fault.TheVariants as fault
 use Rattle.gh_model.specs.declared.EverValue.TheVariants as ever
-use Rattle.gh_model.specs.Ever.{from_register, load_answer, takes_answer}
-use Rattle.gh_cycle.specs.Deeds.{Deed, ever_by, hand_behind, MeetsByDeed, Rests, Sets}
+use Rattle.gh_model.specs.Ever.{load_answer, takes_answer}
+use Rattle.gh_cycle.specs.Deeds.{Deed, ever_by, from_field, hand_behind, MeetsByDeed, Rests, Sets}
 use Rattle.gh_cycle.specs.Beside.{FillsNone}
 use Rattle.gh_heap.specs.Rights.{Shared as Heap}
 use Rattle.gh_marks.specs.Colours.{Shared as Marking}
@@ -23,8 +23,8 @@ use Rattle.gh_mutator.specs.Processor.{at_task}
 use Rattle.gh_mutator.specs.ProcessorMarks.{TaskFacts}
 use Rattle.gh_mutator.specs.Vocabulary.{Answer, Ends, Ever, EverValue, GoesOn, Load, LoadStage, Name, Polling, Processor, size_for, Step, Then, told, view}
 use Rattle.gh_mutator.proofs.Going.Known.{by_deed, EndsNone, fills_none, found_there, heap_then, Known, processor_then, StepAt, StepOf}
-use Rattle.gh_mutator.proofs.Going.Values.{between_then, field_safe, Quits, quits_rests}
-use Rattle.gh_mutator.proofs.Owning.Objects.{field_reached, takes_told}
+use Rattle.gh_mutator.proofs.Going.Values.{between_then, field_safe, pointing_scans, Quits, quits_rests}
+use Rattle.gh_mutator.proofs.Owning.Objects.{takes_told}
 
 follows_facts : (z : Cycle) (a : ℕ) (u : Marking) (p : Polling) (then : Then Load) → IsBetween z a u p.local → TaskFacts z a u p (follows task.Load then)
 follows_facts z a u p (GoesOn y) b = b
@@ -70,7 +70,7 @@ at k x (Field p) z a h s m pending t kn l = by k x (Field p) z a h s m pending t
       fills k x (Field p) z a h s m pending t l,
       f.through.runs,
       f.register,
-      field_reached h.ever f.n x.k (from_register x.g x.b f.n f.through.runs.goes_on f.through.names) (h.ever.field f.n x.k) refl,
+      from_field x.b f.n x.k f.through.register f.through.names t.fine.task.1 (pointing_scans z.arena.shapes t.shapes (h.ever.type_of f.n) x.k),
       λ scanned. field_safe k.safe z a h s t.shapes t.heap t.marking t.beside x.g f.through.runs scanned x.b f.n x.k f.through.register f.through.names f.through.made t.fine.task.1,
     ) where
       f : Loads z.arena a (view h) (at_stage x (Field p)) pending

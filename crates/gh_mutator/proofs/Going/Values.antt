@@ -83,7 +83,7 @@ scans shape k fits e = elim (cases_Bool shape.noscan) [
   | inr f ↦ f
 ]
 
-pointing_scans : (shapes : List Shape) → ShapesAreGood shapes → (t k : ℕ) → is_pointer (shape_at shapes t) k ≡ true → (shape_at shapes t).noscan ≡ false
+pub pointing_scans : (shapes : List Shape) → ShapesAreGood shapes → (t k : ℕ) → is_pointer (shape_at shapes t) k ≡ true → (shape_at shapes t).noscan ≡ false
 pointing_scans shapes good t k pointer = by (ltb t (length shapes)) refl where
   by : (b : Bool) → ltb t (length shapes) ≡ b → (shape_at shapes t).noscan ≡ false
   by true l = scans (shape_at shapes t) k (good.fit t (ltb-true _ _ l)) pointer
