@@ -1,5 +1,6 @@
 -- After every legal list of all actors.
 pub mod Starts
+pub mod Drawing
 pub mod Known
 pub mod Bare
 pub mod Wanted

@@ -23,6 +23,8 @@ pub mod OfScripts
 pub mod AllActors
 pub mod Within
 pub mod Explained
+pub mod Points
 pub mod Following
 pub mod MayBegin
 pub mod GoingOn
+pub mod AtOnce

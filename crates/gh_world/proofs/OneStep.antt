@@ -1,6 +1,5 @@
 -- A step of the code, from what its parts did.
-use Rattle.std.proofs.Common.{◌≡◌, ℕ, ◌+◌, ◌-◌, ◌<◌, ◌≤◌, Bool, true, false, not, cond, List, ◌∷◌, ◌++◌, length, get_or, refl, sym, ◌∙◌, ap, subst, Option, Some, None, arith}
-use Rattle.gh_base.specs.Cells.{length_of}
+use Rattle.std.proofs.Common.{◌≡◌, ℕ, ◌+◌, ◌-◌, ◌<◌, ◌≤◌, Bool, true, false, not, cond, List, ◌∷◌, ◌++◌, length, refl, sym, ◌∙◌, ap, subst, Option, Some, None, arith}
 use Rattle.gh_coord.specs.Listing as coord
 use Rattle.gh_mutator.specs.PollRoom.{PollsMakeRoom}
 use Rattle.gh_worker.specs.Listing as worker
@@ -9,10 +8,10 @@ use Rattle.gh_world.specs.declared.handshake.Actor.TheVariants as actor
 use Rattle.gh_world.specs.declared.runner.Runner.{Runner}
 use Rattle.gh_world.specs.Turns.{next_point, total_of}
 use Rattle.gh_world.specs.Vocabulary.{is_last}
-use Rattle.gh_world.specs.World.{actor_of, answered_of, IsAfter, Appends, Begins, event_at, Fit, FitRunners, FitTurns, State, IsStepOfCoordinator, IsStepOfProcessor, IsStepOfWorker, begun_as, found_by, is_done, now_of, runner_or, worker_or}
+use Rattle.gh_world.specs.World.{actor_of, answered_of, IsAfter, Appends, Begins, event_at, Fit, FitRunners, FitTurns, FitWords, Ran, State, IsStepOfCoordinator, IsStepOfProcessor, IsStepOfWorker, begun_as, found_by, is_done, now_of, runner_or, worker_or}
 use Rattle.gh_world.specs.Schedule.{has_ended}
-use Rattle.gh_world.proofs.Vocabulary.{acts, answered_in, begins, bit, by, cell_of, changed, Entry, Event, has_left_at, InRange, is_busy_at, is_point, Layout, Mutating, Next, Op, Processor, processor_kind, Program, Progress, progress_after, request, set, Shape, slice_get, slice_get_past, slice_get_within, started, state_of, statement_answer, StepsAreShown, takes, target}
-use Rattle.gh_world.proofs.Fitting.{answered_all, busy_begun, due_room, marks_few, marks_more, point_room, ran}
+use Rattle.gh_world.proofs.Vocabulary.{acts, answered_in, begins, bit, by, cell_of, changed, Entry, Event, has_left_at, InRange, is_busy_at, is_point, Layout, Mutating, Next, Op, Processor, processor_kind, Program, Progress, progress_after, request, set, Shape, slice_get, slice_get_past, slice_get_within, started, state_of, statement_answer, StepsAreShown, takes}
+use Rattle.gh_world.proofs.Fitting.{answered_all, busy_begun, due_room, fits_again, marks_few, marks_more, point_room, ran}
 use Rattle.gh_world.proofs.Turning.{total_by-le}
 use Rattle.gh_world.proofs.OtherSteps.{lead_entry, lead_says, lead_tells, led, work_entry, work_says, work_tells, worked}
 use Rattle.gh_world.proofs.WorldFacts.{due_at, follows, says, tells, entry_of, Knows, runner_of}
@@ -121,56 +120,34 @@ appends polls w v a es happened own shown f going st after =
     let same = begun_is w f a st.before_it st.is st.begun st.begins going in
     appends_begun w f a st.before_it st.is st.begins.o st.begun.progress.next v es happened own shown (knows w f a st.before_it st.is polls st.begun st.begins going st.within) (st.others ∙ ap (stepped w a) same) (st.says ∙ ap (told w) same) after
 
--- ---- what the parts of the code's step of a processor did
+-- ---- what the code's step of a processor has done
 
-module _ (polls : PollsMakeRoom) (w : State) (points room : ℕ) (f : Fit w points room) (a b : ℕ) (seat : b ≡ a) (x y : Runner) (is : slice_get w.runners a ≡ Some x) (going : is_done w a ≡ false)
-    (begins : Begins w.script b x y) (fits : FitTurns w.script x.mutator.processor.poll.layout b y.mutator y.progress) (busy : has_left_at x.mutator.processor.task ≡ false → is_busy_at y.mutator.processor.task ≡ true) where
-  abbrev pub its_layout : Layout
-  its_layout = y.mutator.processor.poll.layout
-
-  pub its_laid : y.mutator.processor.poll.layout ≡ w.layout
-  its_laid = fits.laid ∙ (f.running.each a x is).laid
-
-  pub long_words : length w.words ≡ length_of y.mutator.processor.poll.layout
-  long_words = f.base.long ∙ ap length_of (sym its_laid)
-
-  pub now_busy : is_busy_at y.mutator.processor.task ≡ true
-  now_busy = busy (runner_going w a x is going)
-
-  begins_here : Begins w.script a x y
-  begins_here = subst (λ (c : ℕ). Begins w.script c x y) seat begins
-
-  pub fits_here : FitTurns w.script w.layout a y.mutator y.progress
-  fits_here = subst (λ (l : Layout). FitTurns w.script l a y.mutator y.progress) (f.running.each a x is).laid (subst (λ (c : ℕ). FitTurns w.script x.mutator.processor.poll.layout c y.mutator y.progress) seat fits)
-
+module _ (polls : PollsMakeRoom) (w : State) (points room : ℕ) (f : Fit w points room) (a : ℕ) (x z : Runner) (is : slice_get w.runners a ≡ Some x) (list : List ℕ) (happened : Event) (b : Bool) (r : Ran w.script w.layout a w.words list x z happened b) where
   abbrev pub found_there : ℕ
-  found_there = get_or w.words (target (request y.mutator.processor.poll.layout (asks y.mutator))) 0
+  found_there = found_by w (asks r.begun.mutator)
 
-  pub room_there : (b : Bool) → b ≡ is_point (acts y.mutator.processor found_there) → b ≡ true → points < room
-  room_there = point_room polls w.script w.layout f.base.script f.base.layout w.runners points room f.running a x y is begins_here fits_here now_busy found_there
+  pub room_there : b ≡ true → points < room
+  room_there = point_room polls w.script w.layout f.base.script f.base.layout w.runners points room f.running a x r.begun is r.begins r.fits r.busy found_there b r.point
 
-  pub ran_there : (z : Runner) (b : Bool) → z ≡ record { mutator = goes y.mutator found_there; progress = y.progress } → b ≡ is_point (acts y.mutator.processor found_there) → FitRunners w.script w.layout (set w.runners a z) (points + bit b) room
-  ran_there z b same point = rw (same, point) (ran polls w.script w.layout f.base.script f.base.layout w.runners points room f.running a x y is begins_here fits_here now_busy found_there)
+  pub ran_there : FitRunners w.script w.layout (set w.runners a z) (points + bit b) room
+  ran_there = rw (r.goes, r.point) (ran polls w.script w.layout f.base.script f.base.layout w.runners points room f.running a x r.begun is r.begins r.fits r.busy found_there)
 
-  pub run_is : (list : List ℕ) (z : Runner) (items : List (ℕ × ℕ)) (now : ℕ × ℕ) (b : Bool) (happened : Event) → InRange y.mutator.processor.poll.layout (cell_of (asks y.mutator)) → list ≡ changed (request y.mutator.processor.poll.layout (asks y.mutator)) w.words →
-      z ≡ record { mutator = goes y.mutator found_there; progress = y.progress } → b ≡ is_point (acts y.mutator.processor found_there) → now ≡ now_of z.progress → items ≡ w.points ++ next_point b now → happened ≡ event_at (now_of y.progress) (is_last y.mutator.processor.task) (statement_answer y.mutator.processor found_there) →
-      IsStepOfProcessor w (record w { words = list; runners = set w.runners a z; points = items }) a happened
-  run_is list z items now b happened within words same point noted items_are says =
-      let found : found_there ≡ found_by w (asks y.mutator) = ap (λ (l : Layout). get_or w.words (target (request l (asks y.mutator))) 0) its_laid in
-      let words_are : list ≡ changed (request w.layout (asks y.mutator)) w.words = words ∙ ap (λ (l : Layout). changed (request l (asks y.mutator)) w.words) its_laid in
-      let runner_is : z ≡ record { mutator = goes y.mutator (found_by w (asks y.mutator)); progress = y.progress } = same ∙ ap (λ (n : ℕ). record { mutator = goes y.mutator n; progress = y.progress }) found in
-      let now_is : now ≡ now_of y.progress = noted ∙ ap (λ (r : Runner). now_of r.progress) same in
-      let point_is : b ≡ is_point (acts y.mutator.processor (found_by w (asks y.mutator))) = point ∙ ap (λ (n : ℕ). is_point (acts y.mutator.processor n)) found in
-      let points_are : items ≡ w.points ++ next_point (is_point (acts y.mutator.processor (found_by w (asks y.mutator)))) (now_of y.progress) =
-      items_are ∙ ap (λ (t : ℕ × ℕ). w.points ++ next_point b t) now_is ∙ ap (λ (c : Bool). w.points ++ next_point c (now_of y.progress)) point_is in
+  pub words_there : FitWords w.script w.layout list
+  words_there = fits_again _ _ _ _ (request w.layout (asks r.begun.mutator)) r.words f.base
+
+  pub run_is : (items : List (ℕ × ℕ)) (now : ℕ × ℕ) → now ≡ now_of z.progress → items ≡ w.points ++ next_point b now → IsStepOfProcessor w (record w { words = list; runners = set w.runners a z; points = items }) a happened
+  run_is items now noted items_are =
+      let now_is : now ≡ now_of r.begun.progress = noted ∙ ap (λ (y : Runner). now_of y.progress) r.goes in
+      let points_are : items ≡ w.points ++ next_point (is_point (acts r.begun.mutator.processor found_there)) (now_of r.begun.progress) =
+      items_are ∙ ap (λ (t : ℕ × ℕ). w.points ++ next_point b t) now_is ∙ ap (λ (c : Bool). w.points ++ next_point c (now_of r.begun.progress)) r.point in
       record {
         before_it = x;
         is = is;
-        begun = y;
-        begins = begins_here;
-        within = subst (λ (l : Layout). InRange l (cell_of (asks y.mutator))) its_laid within;
-        others = rw (words_are, runner_is, points_are) refl;
-        says = says ∙ ap (λ (n : ℕ). event_at (now_of y.progress) (is_last y.mutator.processor.task) (statement_answer y.mutator.processor n)) found;
+        begun = r.begun;
+        begins = r.begins;
+        within = r.within;
+        others = rw (r.words, r.goes, points_are) refl;
+        says = r.says;
       }
 
 -- ---- a step of another actor

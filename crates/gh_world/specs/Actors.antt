@@ -9,6 +9,7 @@ use Rattle.gh_coord.specs.declared.coord.CoordStage.{CoordStage}
 use Rattle.gh_coord.specs.declared.coord.CoordStage.TheVariants.{Close, Done, Tell}
 use Rattle.gh_coord.specs.declared.cycles.Cycle.{Cycle as CycleNumbers}
 use Rattle.gh_coord.specs.declared.tell.TellStage.TheVariants.{StoreSwept}
+use Rattle.gh_coord.specs.Handshake as leading
 use Rattle.gh_coord.specs.Listing.{Coordinating}
 use Rattle.gh_coord.specs.Stopping.{acks_of}
 use Rattle.gh_cycle.specs.Ending.{slot_row}
@@ -18,6 +19,7 @@ use Rattle.gh_marks.specs.Colours.{Cycle, Shared}
 use Rattle.gh_mutator.specs.Facts.{ShapesAreGood}
 use Rattle.gh_sweep.specs.Counts.{AreWords, count_below, is_set, marked_objects, unmarked_objects}
 use Rattle.gh_sweep.specs.Shared.{placed}
+use Rattle.gh_world.specs.Drawn.{IsDrawn}
 use Rattle.gh_world.specs.Handshake.{Pacing}
 use Rattle.gh_world.specs.Those.{those}
 use Rattle.gh_world.specs.Marking.{EndsClean, IsBeginning, IsInLimits, IsLedBy, IsStartOf, IsStateOf}
@@ -154,6 +156,7 @@ module _ (shapes : List Shape) (l : Layout) (pacing : Pacing) (may : ℕ → Lis
     pub objects : AreNamed (ever es).made (words es)
     pub frees : FreesTheUnreached es
     pub ends : EndsAllMarked es
+    pub drawn : (c : Coordinating) → IsLed es c → leading.Marks c.stage → IsDrawn shapes l pacing may es c
     pub counts : (c : Coordinating) → IsLed es c → AllWereCounted es c
     pub last : (c : Coordinating) → IsLed es c → c.stage ≡ Done → LeavesTheReached es c
 

@@ -25,7 +25,7 @@ use Rattle.gh_sweep.specs.declared.sweep.SweepStage.{SweepStage}
 use Rattle.gh_sweep.specs.declared.sweep.SweepStage.TheVariants.{Begin}
 use Rattle.gh_sweep.specs.Listing as sweep
 use Rattle.gh_sweep.specs.Sweepers as sweepers
-use Rattle.gh_world.specs.HoldVocabulary.{acks_of, alloc_at, alloc_words, AllWereCounted, Answer, answers_of, arena, Arena, AreWords, BeginsCycle, birth_words, By, Coordinating, CountsAreExact, CoordStage, Cycle, CycleEnd, deeds, ended_in, EndsAllMarked, EndsCycle, Entry, Ever, ever, Fine, FreesTheUnreached, FullOnlyThere, generation_of, given_of, Good, HasGoneOn, head_word, Heap, IsAtRest, IsBeginning, IsBeside, IsBounded, IsCalm, IsLed, IsMade, IsOf, IsSound, IsStartOf, Layout, LeavesTheReached, Marking, mark_words, marks_at, MarksNothing, Name, NewStage, Op, opening_words, Pacing, page_of, Placed, Processor, processor_kind, Right, row_bit, Shape, Spans, state_of, SweepingAll, SweepsBeside, tally_of, Task, view, with_words, Words, words}
+use Rattle.gh_world.specs.HoldVocabulary.{acks_of, alloc_at, alloc_words, AllWereCounted, Answer, answers_of, arena, Arena, AreWords, BeginsCycle, birth_words, By, Coordinating, CountsAreExact, CoordStage, Cycle, CycleEnd, deeds, ended_in, EndsAllMarked, EndsCycle, Entry, Ever, ever, Fine, FreesTheUnreached, FullOnlyThere, generation_of, given_of, Good, HasGoneOn, head_word, Heap, IsAtRest, IsBeginning, IsBeside, IsBounded, IsCalm, IsDrawnSo, IsLed, IsMade, IsOf, IsSound, IsStartOf, Layout, LeavesTheReached, Marking, mark_words, marks_at, MarksNothing, Name, NewStage, Op, opening_words, Pacing, page_of, Placed, Processor, processor_kind, Right, row_bit, Shape, Spans, state_of, SweepingAll, SweepsBeside, tally_of, Task, view, with_words, Words, words}
 
 -- The bytes that a processor has placed and not counted yet: those of the slot in which it has made an object.
 
@@ -184,6 +184,7 @@ module _ (shapes : List Shape) (l : Layout) (pacing : Pacing) (may : ℕ → Lis
     pub beside : IsBeside z heap s
     pub cycle : IsToBegin es c.number ⊎ IsInCycle es c.number
     pub gone_on : HasGoneOn (began es c.number cycle) heap s
+    pub drawn : (room : ℕ) → IsDrawnSo shapes l pacing may c s es room
     pub end : CycleEnd
     pub spans : Spans
     pub tally : ℕ

@@ -2,11 +2,13 @@ pub mod Actors
 pub mod ActorsHold
 pub mod ActorsMark
 pub mod Cycles
+pub mod Drawn
 pub mod Handshake
 pub mod HoldVocabulary
 pub mod Marking
 pub mod Numbers
 pub mod Order
+pub mod Points
 pub mod Pollers
 pub mod Processors
 pub mod RunVocabulary

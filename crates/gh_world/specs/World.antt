@@ -357,6 +357,22 @@ pub record Begins (p : Program) (a : ℕ) (old new : Runner) : Type 0 where
   pub goes : GoesOn p a old.progress.next o new.progress.next
   pub progress : new.progress ≡ progress_after old.progress o new.progress.next
 
+-- what the processor's step finds in these words, in a heap of this layout
+abbrev pub found_for : Layout → List ℕ → Runner → ℕ
+found_for l words x = slice_index words (target (request l (asks x.mutator)))
+
+-- What the code of a processor's step has done: what it has begun, the step on that, and what is told of it.
+pub record Ran (p : Program) (l : Layout) (a : ℕ) (before behind : List ℕ) (old new : Runner) (happened : Event) (pointed : Bool) : Type 0 where
+  pub begun : Runner
+  pub begins : Begins p a old begun
+  pub fits : FitTurns p l a begun.mutator begun.progress
+  pub busy : is_busy_at begun.mutator.processor.task ≡ true
+  pub within : InRange l (cell_of (asks begun.mutator))
+  pub words : behind ≡ changed (request l (asks begun.mutator)) before
+  pub goes : new ≡ record begun { mutator = goes begun.mutator (found_for l before begun) }
+  pub says : happened ≡ event_at (now_of begun.progress) (is_last begun.mutator.processor.task) (statement_answer begun.mutator.processor (found_for l before begun))
+  pub point : pointed ≡ is_point (acts begun.mutator.processor (found_for l before begun))
+
 -- One step of the processor at seat a: an operation is begun where none is, and the processor takes its step.
 pub record IsStepOfProcessor (old new : State) (a : ℕ) (happened : Event) : Type 0 where
   pub before_it : Runner

@@ -15,6 +15,10 @@
 //! counts as the coordinator finds them; and where the next cycle begins, that of marking, with no mark set. What is
 //! said of a sweep goes on to be so beside the next cycle, of the words without its marks: so what a processor has
 //! placed and not counted yet is told then too, and what stands is counted exactly where its marking ends.
+//!
+//! Why the write barrier is right is argued of a picture (`gh_tri`), which has eight moves and no words. While a cycle is
+//! marked each step, of whichever actor, is a list of these moves and of changes of registers (`specs/Drawn.antt`), so that
+//! what is proved of the picture holds of every run.
 
 ghost use Rattle.gh_world.specs.Actors.{EveryListOfActorsStands};
 
@@ -41,6 +45,7 @@ use gh_cycle::opening::{bounds_last, cycles_open, reach_is_decided};
 use gh_cycle::since::{cycles_begin_so, the_marked_were_reached, what_has_gone_on_lasts};
 use gh_heap::laws::{each_move_keeps, each_move_leaves, facts_last, the_heap_is_apart};
 use gh_marks::laws::{marking_begins, steps_go_by_moves};
+use gh_marks::picture::{cycles_begin_drawn, marking_is_drawn, the_picture_says};
 use gh_mutator::Processor;
 use gh_mutator::beside::a_processor_goes_on_beside_marking;
 use gh_mutator::laws::{
@@ -49,6 +54,7 @@ use gh_mutator::laws::{
     the_processor_keeps_the_handshake, the_processors_deeds_fit,
 };
 use gh_sweep::laws::{counts_are_exact, sweeps_among_others};
+use gh_tri::{an_opening_has_the_invariants, each_step_keeps_the_invariants};
 use gh_worker::laws::{a_worker_writes_its_own, calm_workers_mark_nothing};
 
 impl PartyToHandshake for Processor<'_> {
@@ -76,10 +82,12 @@ impl MarksBeside<Op> for Processor<'_> {
 /// After every legal list of steps of all actors, in every order: the words stand for the heap that never frees, and each
 /// processor was answered as that heap answers, save `full`, which stands only where there was no room. Each step that a
 /// processor may make next is on a word that there is. An object that was placed where a cycle began, and that no script
-/// reached then, is placed nowhere once the cycle is swept. Where a cycle's marking ends nothing is grey, all that a
-/// script reaches is marked, and what is marked was reached where the cycle began or was made since; the numbers that
-/// the coordinator keeps for it are those of the objects placed and marked there, and of those placed and not marked.
-/// Once all is over the objects that stand are those that the globals reach.
+/// reached then, is placed nowhere once the cycle is swept. While a cycle is marked, each step since it began is a list of
+/// moves of `gh_tri`'s picture and of changes of registers, from a picture as at a cycle's begin; so the picture has its
+/// invariants, and once the coordinator has checked the end of marking it is done in the picture too. Where a cycle's
+/// marking ends nothing is grey, all that a script reaches is marked, and what is marked was reached where the cycle
+/// began or was made since; the numbers that the coordinator keeps for it are those of the objects placed and marked
+/// there, and of those placed and not marked. Once all is over the objects that stand are those that the globals reach.
 pub fn every_list_of_actors_stands()
     ensures { EveryListOfActorsStands }
 {
@@ -102,6 +110,11 @@ pub fn every_list_of_actors_stands()
     the_processors_deeds_fit();
     marking_begins();
     steps_go_by_moves();
+    an_opening_has_the_invariants();
+    each_step_keeps_the_invariants();
+    cycles_begin_drawn();
+    marking_is_drawn();
+    the_picture_says();
     the_processor_keeps_the_handshake();
     a_worker_writes_its_own();
     calm_workers_mark_nothing();

@@ -1,5 +1,6 @@
 //! Laws of the lists of steps of all actors that run a script, whatever the code does.
 
+ghost use Rattle.gh_world.specs.Points.{PointsAreStatements, StatementsAreEnough};
 ghost use Rattle.gh_world.specs.Runs.{EveryOrderHasOneRun, EveryRunIsExplained, EveryRunIsOne, NoneIsLonger, RunsEndWhole, RunsGoOn};
 
 use crate::actors::every_list_of_actors_stands;
@@ -58,4 +59,22 @@ pub fn runs_go_on()
     it_goes_on_until_done();
     polls_make_room();
     every_list_of_actors_stands();
+}
+
+/// The points of a script's run so far are the statements that acted in it, in their order, each with its number:
+/// those of a goroutine are its first ones, from 1 on.
+pub fn points_are_statements()
+    ensures { PointsAreStatements }
+{
+    each_operation_acts_once();
+}
+
+/// Along the statements of a whole run alone, in the order of their points, the heap that never frees answers
+/// what it answers along all that acts there, and it comes to the same once all goroutines have ended behind them.
+pub fn statements_are_enough()
+    ensures { StatementsAreEnough }
+{
+    every_list_of_actors_stands();
+    only_points_change();
+    each_operation_acts_once();
 }

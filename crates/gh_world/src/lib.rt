@@ -18,8 +18,10 @@
 //! for the heap that never frees after every single step, and not only between statements.
 //!
 //! [`every_run_is_explained`] says what whole runs come to, [`a_script_has_one_run`] that there is one in each
-//! order of steps, [`runs_go_on`] that it goes on until it is whole. While a cycle is marked a processor may
-//! wait for it while the others store: their barriers shade what they overwrite and what they write.
+//! order of steps, [`runs_go_on`] that it goes on until it is whole. [`points_are_statements`] says which
+//! statements its points are, and [`statements_are_enough`] that the heap that never frees comes to the same along
+//! these alone. While a cycle is marked a processor may wait for it while the others store: their barriers shade
+//! what they overwrite and what they write.
 #![tactic(auto)]
 
 mod actors;
@@ -40,7 +42,10 @@ pub use event::{Event, Totals};
 pub use handshake::{
     Actor, PartyToHandshake, every_list_keeps_the_handshake, every_step_keeps_the_handshake,
 };
-pub use laws::{a_script_has_one_run, every_run_is_explained, runs_go_on};
+pub use laws::{
+    a_script_has_one_run, every_run_is_explained, points_are_statements, runs_go_on,
+    statements_are_enough,
+};
 pub use marking::{MarksBeside, every_list_marks};
 pub use numbers::{
     cycles_are_few, every_list_counts_cycles, every_list_counts_wants, every_list_numbers_stacks,

@@ -1,18 +1,20 @@
 //! A processor of a world, and how far it is among its turns.
 
-ghost use Rattle.std.specs.Prelude.{◌≡◌, ◌<◌, length, slice_index, true, false};
+ghost use Rattle.std.specs.Prelude.{◌≡◌, ◌<◌, length, slice_index, true, false, IsTrue};
 ghost use Rattle.gh_base.specs.Cells.{InRange, length_of};
 ghost use Rattle.gh_base.specs.declared.limits.TheConstants.{MOST_GOROUTINES};
 ghost use Rattle.gh_base.specs.Steps.{cell_of, changed, request, target};
+ghost use Rattle.gh_base.specs.declared.value.Answer.TheVariants as answers;
+ghost use Rattle.gh_world.specs.declared.event.Event.TheVariants as events;
 ghost use Rattle.gh_mutator.specs.Mutating as mutating;
 ghost use Rattle.gh_mutator.specs.Mutating.{asks, goes, is_busy};
 ghost use Rattle.gh_mutator.specs.Serving.{has_left_at, is_last, is_point, statement_answer};
-ghost use Rattle.gh_world.specs.World.{event_at, now_of, Begins, FitTurns, IsOpening, LaysOut};
+ghost use Rattle.gh_world.specs.World.{event_at, now_of, Begins, FitTurns, IsOpening, LaysOut, Ran};
 
 use crate::event::{Event, event_at};
 use crate::progress::Progress;
-use crate::turns::{due, following};
-use gh_base::{Layout, Machine};
+use crate::turns::{Next, due, following};
+use gh_base::{Answer, Ask, Cell, Layout, Machine};
 use gh_mutator::Mutator;
 use gh_mutator::laws::polls_make_room;
 use gh_script::Script;
@@ -36,6 +38,91 @@ impl<'s> Runner<'s> {
             mutator: Mutator::new(layout, seat, script.shapes()),
             progress: Progress::opening(script, seat),
         }
+    }
+
+    /// One step of the processor at this seat, which begins its next operation where none is begun: what it says, and whether
+    /// it is the point of the statement begun last.
+    // Polls with nothing to do, and statements on registers alone, are most of all operations, and have one step: they are made
+    // at once, and leave the processor's task as it stands.
+    pub fn run(
+        &mut self,
+        script: &Script,
+        layout: &Layout,
+        seat: u32,
+        words: &mut Plain,
+    ) -> (Event, bool)
+        requires layout { LaysOut script.now layout.now }
+        requires laid { mutating.layout self.old.mutator ≡ layout.now }
+        requires fits { FitTurns script.now layout.now seat self.old.mutator self.old.progress }
+        requires going { has_left_at self.old.mutator.processor.task ≡ false }
+        requires long { length words.old ≡ length_of layout.now }
+        ensures { Ran script.now layout.now seat words.old words.new self.old self.new result.0 result.1 }
+    {
+        if self.passes(script, layout, seat, words) {
+            return (Event::Moved, false);
+        }
+        if self.sets(script, layout, seat, words) {
+            let (g, n) = self.progress.now();
+            let answer = Answer::Done;
+            return (Event::Answered { g, n, answer }, true);
+        }
+        self.begin_next(script, seat);
+        self.advance(words)
+    }
+
+    /// The processor's poll, where that is what it begins, and where the poll has nothing to do. It answers whether that is so;
+    /// where not, nothing is done.
+    fn passes(&mut self, script: &Script, layout: &Layout, seat: u32, words: &mut Plain) -> bool
+        requires layout { LaysOut script.now layout.now }
+        requires fits { FitTurns script.now layout.now seat self.old.mutator self.old.progress }
+        requires going { has_left_at self.old.mutator.processor.task ≡ false }
+        requires long { length words.old ≡ length_of layout.now }
+        ensures ran { IsTrue result → Ran script.now layout.now seat words.old words.new self.old self.new events.Moved false }
+        ensures stays { result ≡ false → (self.new ≡ self.old) × (words.new ≡ words.old) }
+    {
+        polls_make_room();
+        script.is_well_formed();
+        if self.mutator.is_busy() {
+            return false;
+        }
+        let Next::Poll { .. } = self.progress.next else {
+            return false;
+        };
+        let request = layout.request(Ask::Load(Cell::Phase));
+        if !self.mutator.passes(words.word_at(request.word())) {
+            return false;
+        }
+        words.step(request);
+        self.progress.next = following(script, seat, self.progress.next);
+        true
+    }
+
+    /// The processor's statement, where it begins one, and where that is on registers alone. It answers whether that is so;
+    /// where not, nothing is done.
+    fn sets(&mut self, script: &Script, layout: &Layout, seat: u32, words: &mut Plain) -> bool
+        requires layout { LaysOut script.now layout.now }
+        requires fits { FitTurns script.now layout.now seat self.old.mutator self.old.progress }
+        requires going { has_left_at self.old.mutator.processor.task ≡ false }
+        requires long { length words.old ≡ length_of layout.now }
+        ensures ran { let now = now_of self.new.progress in
+            IsTrue result → Ran script.now layout.now seat words.old words.new self.old self.new (events.Answered now.0 now.1 answers.Done) true }
+        ensures stays { result ≡ false → (self.new ≡ self.old) × (words.new ≡ words.old) }
+    {
+        polls_make_room();
+        script.is_well_formed();
+        if self.mutator.is_busy() {
+            return false;
+        }
+        let Some(op) = due(script, self.progress.next) else {
+            return false;
+        };
+        if !self.mutator.sets(op) {
+            return false;
+        }
+        words.step(layout.request(Ask::Load(Cell::Touch)));
+        self.progress.next = following(script, seat, self.progress.next);
+        self.progress.count(op);
+        true
     }
 
     /// Begins the next operation of the processor at this seat where none is begun.

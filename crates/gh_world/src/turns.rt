@@ -8,7 +8,7 @@ ghost use Rattle.gh_base.specs.declared.operation.Op.TheVariants as ops;
 ghost use Rattle.gh_interp.specs.Working.{work_of};
 ghost use Rattle.gh_world.specs.Turns.{has_turn, later, op_due, to_come, total_of, turn_of, is_over, is_poll_due, is_run_due, Follows, HasTurn, IsPast, MayBeOver, Stands};
 
-use gh_base::Op;
+use gh_base::{Op, modulo};
 use gh_interp::work;
 use gh_script::Script;
 
@@ -31,7 +31,7 @@ fn has_turn(script: &Script, seat: u32, round: u32, g: u32) -> bool
     ensures { result ≡ has_turn script.now seat round g }
 {
     script.is_well_formed();
-    g % script.settings().procs == seat && round <= script.count(g)
+    modulo(g, script.settings().procs) == seat && round <= script.count(g)
 }
 
 /// The first goroutine from `g` on that has a turn of the processor at this seat in the round.

@@ -296,8 +296,12 @@ impl<'s> World<'s> {
     {
         polls_make_room();
         let runner = &mut self.runners[usize::from(seat)];
-        runner.begin_next(self.script, u32::from(seat));
-        let (event, is_point) = runner.advance(&mut self.words);
+        let (event, is_point) = runner.run(
+            self.script,
+            &self.layout,
+            u32::from(seat),
+            &mut self.words,
+        );
         let now = runner.progress.now();
         note(&mut self.points, now, is_point);
         event
@@ -309,9 +313,8 @@ impl<'s> World<'s> {
         requires busy { (x : Working) → slice_get self.old.workers i ≡ Some x → worker.is_busy x.stage ≡ true }
         ensures { IsStepOfWorker self.old self.new i result }
     {
-        let mut worker = self.workers[i];
-        let out = step_on(&mut self.words, &mut worker);
-        self.workers[i] = worker;
+        let worker = &mut self.workers[i];
+        let out = step_on(&mut self.words, worker);
         done_or(out, Event::Moved)
     }
 

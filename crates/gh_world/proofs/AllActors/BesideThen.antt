@@ -5,10 +5,11 @@ use Rattle.gh_cycle.specs.Since.{HasGoneOn}
 use Rattle.gh_marks.specs.Moves.{Steps}
 use Rattle.gh_mutator.specs.Beside.{StepsOn}
 use Rattle.gh_world.specs.ActorsHold.{began}
-use Rattle.gh_world.proofs.Vocabulary.{acks_of, Answer, Arena, arena, AreWords, asks, cell_of, Coordinating, Cycle, DoesPoints, effect, Entry, eqb-true, Ever, ever, Fine, has_left_at, Heap, is_busy_at, IsBeginning, IsInCycle, IsInLimits, IsKnown, IsLed, IsMeant, IsSound, IsToBegin, Kind, Knows, Layout, Legal, mark_words, MarkFacts, Marking, MarkingGood, may_of, moved, nat_tests, Op, Pacing, PollsByMoves, Processor, processor_at, processor_kind, Shape, ShapesAreGood, stage_of, started, Steps as HeapSteps, takes, those, uncounted, view, Words}
+use Rattle.gh_world.proofs.Vocabulary.{acks_of, Answer, Arena, arena, AreWords, asks, cell_of, Coordinating, Cycle, DoesPoints, effect, Entry, eqb-true, Ever, ever, Fine, has_left_at, Heap, is_busy_at, IsBeginning, IsHeapOf, IsInCycle, IsInLimits, IsKnown, IsLed, IsMeant, IsSound, IsToBegin, Kind, Knows, Layout, Legal, mark_words, MarkFacts, Marking, MarkingGood, may_of, moved, nat_tests, Op, Pacing, PollsByMoves, Processor, processor_at, processor_kind, Shape, ShapesAreGood, stage_of, started, Steps as HeapSteps, takes, those, uncounted, view, Words}
 use Rattle.gh_world.proofs.AllActors.Beside as beside
 use Rattle.gh_world.proofs.AllActors.Beside.{not_beginning}
 use Rattle.gh_world.proofs.AllActors.Counting as counting
+use Rattle.gh_world.proofs.AllActors.Drawing.{drawn_then}
 use Rattle.gh_world.proofs.AllActors.Gone.{gone_rests}
 use Rattle.gh_world.proofs.AllActors.Known.{Known, ListsKnown}
 use Rattle.gh_world.proofs.AllActors.Marks.{words_stay}
@@ -137,15 +138,19 @@ module _ (shapes : List Shape) (l : Layout) (pacing : Pacing) (counts : ℕ → 
     abbrev since : Since
     since = cycle_then kn.cycle kn.gone_on
 
+    of_list : IsHeapOf shapes l pacing may (e ∷ es) t
+    of_list = own.heap_then shapes l pacing counts good limits known e es legal lt h kn.of_list kn.good tells
+
     known_then : IsKnown shapes l pacing may (cycle number few) goes.then (e ∷ es)
     known_then = record {
       arena_is = refl;
       heap = t;
-      of_list = own.heap_then shapes l pacing counts good limits known e es legal lt h kn.of_list kn.good tells;
+      of_list = of_list;
       good = own.good_then shapes l pacing counts good limits known e es legal lt h kn.of_list kn.good tells;
       beside = goes.beside;
       cycle = since.0;
       gone_on = since.1;
+      drawn = drawn_then shapes l pacing may known.drawn (cycle number few) e es s goes.then fine goes.went (goes.beside.words ∙ of_list.words_are) kn.drawn;
       end = kn.end;
       spans = counted.then;
       tally = kn.tally;

@@ -57,7 +57,7 @@ module _ (one : ChangesOneCell) (z : Cycle) (a g : ℕ) where
   by_move v (ScanGlobal i value) may is = is
   by_move v (SetRegister h d value) may is = is
   by_move v (Reserve o) may is = is
-  by_move v (Place o size pointer noscan) may is = is
+  by_move v (Place o size pointer noscan h d) may is = is
 
   pub ended_stays : (s t : Marking) → Went z a s t → s.words (cell.Scanned g) ≡ END → t.words (cell.Scanned g) ≡ END
   ended_stays s t stays is = is

@@ -19,6 +19,7 @@ use Rattle.gh_mutator.specs.Writing.{StacksAreNoted}
 use Rattle.gh_worker.specs.Writing.{CalmWorkersMarkNothing}
 use Rattle.gh_world.specs.Waits.{StacksAreNumbered, WorkersRest}
 use Rattle.gh_world.proofs.Vocabulary.{ChangesOneCell, Coordinating, CountsCycles, Entry, IsFew, IsLed, KeepsIt, Layout, Legal, MarkingBegins, Op, Pacing, party_of, ProcessorInHandshake, ProcessorWritesItsOwn, Shape, Sound, stage_of, StepKeepsIt, those, words_after, WorkersWriteTheirOwn}
+use Rattle.gh_world.proofs.AllActors.Drawing.{DrawnKnown}
 
 -- of steps and moves
 pub record Known : Type 0 where
@@ -66,6 +67,7 @@ pub record Known : Type 0 where
   pub beside : GoesOnBesideMarking
   pub marking : MarkingBegins
   pub fit : ProcessorsDeedsFit
+  pub drawn : DrawnKnown
 
 -- of the lists of this heap
 pub record ListsKnown (shapes : List Shape) (l : Layout) (pacing : Pacing) (may : ℕ → List (Entry Op) → Op → Bool) : Type 0 where

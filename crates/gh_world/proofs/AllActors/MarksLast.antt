@@ -16,6 +16,7 @@ use Rattle.gh_world.proofs.Vocabulary.{acks_of, Actor, actors, actors_after, Are
 use Rattle.gh_world.proofs.AllActors.Aside as aside
 use Rattle.gh_world.proofs.AllActors.Aside.{IsBeside, IsOfMarking}
 use Rattle.gh_world.proofs.AllActors.Bare.{bare_stays}
+use Rattle.gh_world.proofs.AllActors.Drawing.{drawn_then}
 use Rattle.gh_world.proofs.AllActors.Going.{IsLedThen, last_was, led_then as leads_then}
 use Rattle.gh_world.proofs.AllActors.Known.{Known, ListsKnown}
 use Rattle.gh_world.proofs.AllActors.Marks.{begins_beside, marks_beside, stays_marked, words_stay, works_beside}
@@ -183,6 +184,7 @@ module _ (shapes : List Shape) (l : Layout) (pacing : Pacing) (may : ℕ → Lis
         beside = together;
         cycle = since.0;
         gone_on = since.1;
+        drawn = drawn_then shapes l pacing may known.drawn c e es s t good went words_are k.drawn;
         end = k.end;
         spans = record (k.spans) { words = unmarked k.tally k.live h.words };
         tally = k.tally;

@@ -10,9 +10,10 @@ use Rattle.gh_world.specs.declared.handshake.Actor.TheVariants as actor
 use Rattle.gh_world.specs.Actors.{AllStands, AllWereCounted, AreNamed, LeavesTheReached, StepsWithin}
 use Rattle.gh_world.specs.ActorsHold.{Holds, HoldsAt, IsHeapOf, IsQuiet, IsTelling, processor_at}
 use Rattle.gh_world.specs.ActorsMark.{IsMeant, Knows}
-use Rattle.gh_world.specs.HoldVocabulary.{arena, Arena, Coordinating, Entry, ever, Heap, IsInLimits, IsLed, Layout, MarkFacts, Op, opening_words, Pacing, processor_kind, Shape, stage_of, words}
+use Rattle.gh_world.specs.HoldVocabulary.{arena, Arena, Coordinating, Entry, ever, Heap, IsDrawn, IsInLimits, IsLed, Layout, MarkFacts, Op, opening_words, Pacing, processor_kind, Shape, stage_of, words}
 use Rattle.gh_world.specs.Marking.{MarksToTheEnd}
 use Rattle.gh_world.specs.Processors.{ListStands, StandsFor}
+use Rattle.gh_world.proofs.AllActors.Drawing.{is_drawn}
 use Rattle.gh_world.proofs.AllActors.Going.{goes_then, IsGoing}
 use Rattle.gh_world.proofs.AllActors.Known.{Known}
 use Rattle.gh_world.proofs.AllActors.Standing.{named_now, named_swept, stands_now, stands_swept}
@@ -72,6 +73,13 @@ module _ (shapes : List Shape) (l : Layout) (pacing : Pacing) (may : ℕ → Lis
       one_lead : (d : Coordinating) → IsLed shapes l pacing may es d → c ≡ d
       one_lead d led_too = let both : actor.Leads c ≡ actor.Leads d = sym led ∙ led_too in cc
 
+      -- the cycle that is marked
+      drawn : (d : Coordinating) → c ≡ d → leading.Marks d.stage → IsDrawn shapes l pacing may es d
+      drawn d same on = subst (IsDrawn shapes l pacing may es) same (
+          let m = marked (subst (λ (x : Coordinating). leading.Marks x.stage) (sym same) on) in
+          let k = m.marking in
+          is_drawn shapes l pacing may known.drawn k.cycle es c k.shared k.is k.good m.ends (k.known.drawn 0))
+
       pub all_stands : AllStands shapes l pacing may es
       all_stands = record {
         stands = stands;
@@ -79,6 +87,7 @@ module _ (shapes : List Shape) (l : Layout) (pacing : Pacing) (may : ℕ → Lis
         objects = now.named;
         frees = h.was.frees;
         ends = h.was.ends;
+        drawn = λ d too on. drawn d (one_lead d too) on;
         counts = λ d too. subst (AllWereCounted shapes l pacing may es) (one_lead d too) h.counted;
         last = λ d too done. subst (LeavesTheReached shapes l pacing may es) (one_lead d too) (h.last (ap (λ (x : Coordinating). x.stage) (one_lead d too) ∙ done));
       }

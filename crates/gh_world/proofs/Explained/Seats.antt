@@ -19,7 +19,7 @@ use Rattle.gh_world.proofs.AllActors.Beginning.{both}
 use Rattle.gh_world.proofs.Explained.Acted.{acts_here, acts_last, reverse_more}
 use Rattle.gh_world.proofs.Explained.Steps.{its_own, no_processors}
 
-filter-reverse : {A : Type 0} (f : A → Bool) (xs : List A) → filter f (reverse xs) ≡ reverse (filter f xs)
+pub filter-reverse : {A : Type 0} (f : A → Bool) (xs : List A) → filter f (reverse xs) ≡ reverse (filter f xs)
 filter-reverse f [] = refl
 filter-reverse {A} f (x ∷ xs) = ap (filter f) (reverse_more x xs) ∙ filter-append f (reverse xs) (x ∷ []) ∙ ap (λ (ys : List A). ys ++ filter f (x ∷ [])) (filter-reverse f xs) ∙ go (f x) where
   go : (b : Bool) → reverse (filter f xs) ++ cond b (x ∷ []) [] ≡ reverse (cond b (x ∷ filter f xs) (filter f xs))
@@ -102,7 +102,7 @@ module _ (p : Program) (l : Layout) (procs : l.procs ≡ p.settings.procs) where
       go None is = refl
       go (Some x) is = ap (λ (b : Bool). cond b (option_to_list (answered p.shapes l (ever_of p.shapes l es) (Some x))) []) (none_else es e legal apart x is)
 
-    order_its : (es : List (Entry Op)) → Legal (setting_of p l) es → acted_by g (order_of p.shapes l es) ≡ acted_by g (order_at p.shapes l a es)
+    pub order_its : (es : List (Entry Op)) → Legal (setting_of p l) es → acted_by g (order_of p.shapes l es) ≡ acted_by g (order_at p.shapes l a es)
     order_its [] legal = refl
     order_its (e ∷ es) legal = filter-append (λ (x : Answered). is_statement_of g x.op) (acts_here p l es e) (order_of p.shapes l es) ∙ go (eqb e.actor a) refl (order_its es legal.0) where
       go : (b : Bool) → eqb e.actor a ≡ b → acted_by g (order_of p.shapes l es) ≡ acted_by g (order_at p.shapes l a es) →

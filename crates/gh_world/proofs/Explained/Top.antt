@@ -51,7 +51,7 @@ few_of p g formed =
     let all : count_of p g ≤ total_of p = elim (cases_lt g (length p.goroutines)) [ inl lt ↦ count-le p g lt | inr le ↦ let none = ap length (none_beyond p g le) in omega (arith, none) ] in
     omega (arith, one, most, all)
 
-is_done : (st : CoordStage) → coord.is_done st ≡ true → st ≡ Done
+pub is_done : (st : CoordStage) → coord.is_done st ≡ true → st ≡ Done
 is_done Done e = refl
 is_done (LoadAck i) e = absurd cc
 is_done LoadWant e = absurd cc

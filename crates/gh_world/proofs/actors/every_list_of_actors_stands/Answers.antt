@@ -1,3 +1,4 @@
+use Rattle.gh_world.proofs.AllActors.Drawing.{DrawnKnown}
 use Rattle.gh_world.proofs.AllActors.Known.{Known}
 use Rattle.gh_world.proofs.AllActors.Lists.{list_stands}
 use Rattle.gh_world.proofs.AllActors.OfLists.{LawsOfLists, lists_known, parties}
@@ -8,6 +9,14 @@ use Rattle.gh_world.proofs.actors.every_list_of_actors_stands.Goals as goal
 
 pub returns : goal.returns
 returns c shapes l pacing counts es good limits fit legal =
+    let picture : DrawnKnown = record {
+      opens = c.an_opening_has_the_invariants.ensures;
+      keeps = c.each_step_keeps_the_invariants.ensures;
+      begins = c.cycles_begin_drawn.ensures;
+      steps = c.marking_is_drawn.ensures.steps;
+      says = c.the_picture_says.ensures.says;
+      ends = c.the_picture_says.ensures.ends;
+    } in
     let known : Known = record {
       one = c.a_step_changes_one_cell.ensures;
       apart = c.the_heap_is_apart.ensures;
@@ -53,6 +62,7 @@ returns c shapes l pacing counts es good limits fit legal =
       beside = c.a_processor_goes_on_beside_marking.ensures;
       marking = c.marking_begins.ensures;
       fit = c.the_processors_deeds_fit.ensures;
+      drawn = picture;
     } in
     let wanted : Wanted = record { read = c.packed_words_are_read_back.ensures; whole = c.size_class_laws.ensures.whole_words; steps = c.steps_go_by_moves.ensures } in
     let laws : LawsOfLists = record {

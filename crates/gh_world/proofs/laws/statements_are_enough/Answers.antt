@@ -1,0 +1,5 @@
+use Rattle.gh_world.proofs.Points.Along.{statements_are_enough}
+use Rattle.gh_world.proofs.laws.statements_are_enough.Goals as goal
+
+pub returns : goal.returns
+returns c = statements_are_enough c.every_list_of_actors_stands.ensures c.only_points_change.ensures c.each_operation_acts_once.ensures

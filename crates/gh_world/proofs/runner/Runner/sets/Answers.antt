@@ -1,0 +1,46 @@
+use Rattle.std.proofs.Common.{◌≡◌, ℕ, Bool, false, sym, ap, subst, ◌∙◌, Some, arith, slice_index}
+use Rattle.gh_base.specs.Steps.{cell_of, changed, request}
+use Rattle.gh_base.specs.declared.cell.Ask.{Ask}
+use Rattle.gh_base.specs.declared.cell.Req.{Req}
+use Rattle.gh_base.specs.declared.cell.Ask.TheVariants.{Load}
+use Rattle.gh_base.specs.declared.cell.Cell.TheVariants.{Touch}
+use Rattle.gh_mutator.specs.Mutating.{asks, begins, goes, Mutating}
+use Rattle.gh_base.specs.declared.value.Answer.TheVariants.{Done}
+use Rattle.gh_world.specs.declared.event.Event.TheVariants.{Answered}
+use Rattle.gh_world.specs.declared.runner.Runner.{Runner}
+use Rattle.gh_world.specs.World.{event_at, found_for, now_of}
+use Rattle.gh_world.specs.Turns.{goroutine_at, op_due}
+use Rattle.gh_world.proofs.AtOnce.{at_once}
+use Rattle.gh_world.proofs.Fitting.{due_sound, stated_few}
+use Rattle.gh_world.proofs.Vocabulary.{InRange, Progress, progress_after, statement_answer}
+use Rattle.gh_world.proofs.runner.Runner.sets.Goals as goal
+
+pub sets-requires-clause-op : goal.sets-requires-clause-op
+sets-requires-clause-op c = due_sound _ _ c.is_well_formed.ensures c.requires.layout _ _ _ c.requires.fits c.in-Some.op (sym c.due.ensures ∙ c.in-Some.is)
+
+pub count-requires-clause-few : goal.count-requires-clause-few
+count-requires-clause-few c =
+    let few = stated_few _ _ c.is_well_formed.ensures c.requires.layout _ _ _ c.requires.fits in
+    omega (arith, few, c.requires.fits.few_begun (goroutine_at c.in-Some.op))
+
+pub count-requires-clause-fits : goal.count-requires-clause-fits
+count-requires-clause-fits c =
+    let few = stated_few _ _ c.is_well_formed.ensures c.requires.layout _ _ _ c.requires.fits in
+    omega (arith, few)
+
+pub returns-clause-ran : goal.returns-clause-ran
+returns-clause-ran c t =
+    let due : op_due c.args.script.now c.args.self.now.progress.next ≡ Some c.in-Some.op = sym c.due.ensures ∙ c.in-Some.is in
+    let b = begins c.args.self.now.mutator c.in-Some.op in
+    let set = λ (found : ℕ). c.if-not-sets.ensures.set t found in
+    let asked : asks b ≡ Load Touch = (set 0).1 in
+    let within : InRange c.args.layout.now (cell_of (asks b)) = subst (λ (k : Ask). InRange c.args.layout.now (cell_of k)) (sym asked) tt in
+    let words = c.step.ensures.left ∙ ap (λ (r : Req). changed r c.args.words.now) (c.request.ensures.same ∙ ap (request c.args.layout.now) (sym asked)) in
+    let begun : Runner = record { mutator = b; progress = progress_after c.args.self.now.progress (Some c.in-Some.op) c.following-self.result } in
+    let found = found_for c.args.layout.now c.args.words.now begun in
+    let now = now_of begun.progress in
+    let answer = statement_answer b.processor found in
+    let event = ap (λ (x : Bool). event_at now x answer) (set found).3 ∙ ap (event_at now false) (set found).2 in
+    at_once _ _ c.is_well_formed.ensures c.requires.layout _ c.args.self.now c.requires.fits c.polls_make_room.ensures c.in-Some.op c.following-self.result _ _ _ _ _ (sym c.is_busy.ensures ∙ c.if-is_busy.false) c.requires.going due c.following-self.ensures.polled (c.following-self.ensures.follows c.in-Some.op due) within words
+    (ap {B = Runner} (λ (m : Mutating). record { mutator = m; progress = c.count.new.self }) (set found).0 ∙ ap {B = Runner} (λ (n : Progress). record { mutator = goes b found; progress = n }) c.count.ensures)
+    (ap (λ (n : Progress). Answered n.last (slice_index n.begun n.last) Done) c.count.ensures ∙ sym event) (sym (set found).4)

@@ -1,0 +1,50 @@
+-- A cycle in the picture of the argument for the write barrier (`gh_tri`): from where it begins on, each step of the list, of whichever actor, is a list of moves of the picture, each of which may be made, and of changes of registers.
+use Rattle.std.specs.Prelude.{◌≡◌, ℕ, ◌+◌, ◌≤◌, Bool, List, ◌∷◌}
+use Rattle.gh_world.specs.Vocabulary.{Coordinating, Entry, Layout, Op, opening_words, processor_kind, Shape, Words, words_after}
+use Rattle.gh_base.specs.Rows.{Row}
+use Rattle.gh_tri.specs.Invariants.{Invariants, IsMarkingDone, IsOpening}
+use Rattle.gh_tri.specs.Steps.{Goes}
+use Rattle.gh_tri.specs.Tricolour.{Tricolour}
+use Rattle.gh_marks.specs.Colours.{Cycle}
+use Rattle.gh_marks.specs.Colours.{Shared as Marking}
+use Rattle.gh_marks.specs.Moves.{Went}
+use Rattle.gh_marks.specs.Picture.{Shows, ThePictureSays}
+use Rattle.gh_world.specs.Handshake.{Pacing}
+use Rattle.gh_world.specs.Marking.{IsBeginning, IsChecked, IsLedBy, IsStateOf}
+use Rattle.gh_world.specs.Processors.{arena_of}
+
+module _ (shapes : List Shape) (l : Layout) (pacing : Pacing) (may : ℕ → List (Entry Op) → Op → Bool) where
+  -- the words after the list
+  abbrev told : List (Entry Op) → Words
+  told es = words_after (opening_words pacing.trigger) es
+
+  -- with the next entry cycle k begins
+  pub record Begins (es : List (Entry Op)) (k : ℕ) : Type 0 where
+    pub lead : Coordinating
+    pub led : IsLedBy (arena_of shapes l) (processor_kind shapes l) pacing may es lead
+    pub stage : IsBeginning lead.stage
+    pub cycle : lead.begun ≡ k
+
+  -- Behind the list the picture shows this state of marking. Where the cycle begins it comes of one as at a cycle's begin; and each entry since is moves of marking of its actor, which are moves of the picture.
+  pub data Drawing (z : Cycle) : List (Entry Op) → Marking → Tricolour → Type 0 where
+    begins : (es : List (Entry Op)) (s : Marking) (first picture : Tricolour) (at : Row) → Begins es z.number → s.words ≡ told es → IsOpening first → Goes first picture → Shows z s at picture → Drawing z es s picture
+    steps : (e : Entry Op) (es : List (Entry Op)) (s t : Marking) (before picture : Tricolour) (at : Row) → Drawing z es s before → Went z e.actor s t → t.words ≡ told (e ∷ es) → Goes before picture → Shows z t at picture → Drawing z (e ∷ es) t picture
+
+  -- there is such a picture, with room for so many objects more
+  pub record IsDrawnSo (z : Cycle) (s : Marking) (es : List (Entry Op)) (room : ℕ) : Type 0 where
+    pub picture : Tricolour
+    pub at : Row
+    pub drawing : Drawing z es s picture
+    pub shows : Shows z s at picture
+    pub room_left : picture.objects + room ≤ picture.limit
+
+  -- So the cycle that is marked is drawn; the picture has its invariants, and marking has what they say. Where the coordinator has checked that nothing is left to be marked, nothing is in the picture.
+  pub record IsDrawn (es : List (Entry Op)) (c : Coordinating) : Type 0 where
+    pub cycle : Cycle
+    pub shared : Marking
+    pub is : IsStateOf (arena_of shapes l) (processor_kind shapes l) pacing may es c cycle shared
+    pub picture : Tricolour
+    pub drawing : Drawing cycle es shared picture
+    pub invariants : Invariants picture
+    pub says : ThePictureSays cycle shared
+    pub done : IsChecked c.stage → IsMarkingDone picture
