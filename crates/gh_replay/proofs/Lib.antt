@@ -1,5 +1,8 @@
 pub mod Vocabulary
+pub mod Along
 pub mod Answering
+pub mod Beside
+pub mod Checked
 pub mod Choosing
 pub mod EitherOne
 pub mod Going
@@ -10,5 +13,6 @@ pub mod OneRun
 pub mod Owning
 pub mod Pieces
 pub mod Rows
+pub mod Taking
 pub mod Running
 pub mod Seen

@@ -11,11 +11,12 @@ use Rattle.gh_lines.specs.Text.{Outcome}
 use Rattle.gh_mutator.specs.declared.processor.Processor.{Processor}
 use Rattle.gh_world.specs.declared.handshake.Actor.{Actor}
 use Rattle.gh_world.specs.declared.handshake.Actor.TheVariants.{Leads}
+use Rattle.gh_world.specs.Order.{ever_of}
 use Rattle.gh_world.specs.Schedule.{ended_after}
 use Rattle.gh_world.specs.World.{LaysOut, setting_of}
 use Rattle.gh_world.specs.Runs.{IsRun, IsRunSoFar, IsExplained, EveryOrderHasOneRun, answers_given, outcome_by}
 use Rattle.gh_replay.specs.Plan.{Plan}
-use Rattle.gh_replay.specs.Replayed.{NotBoth, OneOutcome}
+use Rattle.gh_replay.specs.Replayed.{IsReplayed, NotBoth, OneOutcome}
 use Rattle.gh_replay.specs.Scheduled.{IsScheduled}
 use Rattle.gh_replay.proofs.OneRun.{is_so_far, none_is_longer, one_run}
 
@@ -73,6 +74,15 @@ module _ (ordered : EveryOrderHasOneRun) where
       let turn : IsScheduled p r.layout plan s.turns = subst (λ (l : Layout). IsScheduled p l plan s.turns) layout s.scheduled in
       let turns : s.turns ≡ r.turns = one_whole p r.layout plan s.turns r.turns e.run r.explained.run turn r.scheduled in
       one_explained p r.layout r.turns outcome other r.explained (subst (λ (es : List (Entry Op)). IsExplained p r.layout es other) turns e)
+
+  -- and so is the heap that never frees behind them
+  pub one_ever : (p : Program) (plan : Plan) (m n : ℕ) (outcome other : Outcome) (r : IsReplayed p plan m outcome) (s : IsReplayed p plan n other) → ever_of p.shapes r.layout r.turns ≡ ever_of p.shapes s.layout s.turns
+  one_ever p plan m n outcome other r s =
+      let layout : s.layout ≡ r.layout = same_layout p s.layout r.layout s.lays_out r.lays_out in
+      let e : IsExplained p r.layout s.turns other = subst (λ (l : Layout). IsExplained p l s.turns other) layout s.explained in
+      let turn : IsScheduled p r.layout plan s.turns = subst (λ (l : Layout). IsScheduled p l plan s.turns) layout s.scheduled in
+      let turns : s.turns ≡ r.turns = one_whole p r.layout plan s.turns r.turns e.run r.explained.run turn r.scheduled in
+      sym (ap (λ (l : Layout). ever_of p.shapes l s.turns) layout ∙ ap (ever_of p.shapes r.layout) turns)
 
   pub not_both : NotBoth
   not_both p plan budget outcome r u =

@@ -1,9 +1,8 @@
 -- What a run has so far, and what it has when the world is done.
-use Rattle.std.proofs.Common.{◌≡◌, ℕ, ◌+◌, ◌<◌, ◌≤◌, true, false, List, [], ◌∷◌, ◌++◌, length, map, reverse, refl, sym, ◌∙◌, ap, subst, Option, Some, None, is_some, arith, length-append}
+use Rattle.std.proofs.Common.{◌≡◌, ℕ, ◌+◌, ◌<◌, ◌≤◌, true, false, List, [], ◌∷◌, ◌++◌, length, map, reverse, refl, sym, ◌∙◌, ap, subst, Option, Some, None, arith, length-append}
 use Rattle.std.specs.Prelude.{slice_get}
 use Rattle.gh_base.specs.Cells.{seats_of}
 use Rattle.gh_base.specs.Lists.{by}
-use Rattle.gh_base.specs.Packing.{bit}
 use Rattle.gh_coord.specs.Keeping.{last_kept}
 use Rattle.gh_world.specs.declared.event.Event.{Event}
 use Rattle.gh_world.specs.declared.event.Event.TheVariants as event
@@ -12,7 +11,9 @@ use Rattle.gh_world.specs.Order.{begun_in}
 use Rattle.gh_world.specs.Schedule.{ended_after}
 use Rattle.gh_replay.specs.Places.{Ran, seen_of}
 use Rattle.gh_replay.proofs.Vocabulary.{actors_of, AllDone, Answer, answer_in, answered_in, answered_of, answers_given, Appends, Coordinating, Entry, EveryRunIsExplained, is_done, IsAfter, IsExplained, IsReplayed, IsRun, IsRunSoFar, IsScheduled, IsUnfinished, Layout, layout_of, LaysOut, marked_by, moved, now_in, Op, opening, Outcome, outcome_by, Plan, Program, reached_in, script_of, setting_of, Standing, stands_in, State, swept_cycle, to_come, total_of, turns_of, WellFormed, who, with_goroutine}
-use Rattle.gh_world.specs.World.{event_of, marks_at}
+use Rattle.gh_world.specs.Points.{PointsAreStatements, StatementsAreEnough}
+use Rattle.gh_world.specs.World.{event_of, marks_at, points_of}
+use Rattle.gh_replay.proofs.Along.{are_along, comes_to, RunsBeside}
 use Rattle.gh_replay.proofs.Answering.{none_answered, one_answered}
 use Rattle.gh_replay.proofs.Choosing.{Agree, same_moved, same_who, who_there}
 use Rattle.gh_replay.proofs.Seen.{agree, none_past, quiet}
@@ -107,14 +108,10 @@ ran w plan budget left s answers m none = record {
   given = m.given;
 }
 
--- the world's script and layout, where they are these
-pub finished : EveryRunIsExplained → (w : State) (p : Program) (plan : Plan) (budget : ℕ) (answers : List (ℕ × Answer)) → WellFormed p → script_of w ≡ p → LaysOut p (layout_of w) → Ran w plan budget answers → ((es : List (Entry Op)) → IsAfter w es → IsRun (script_of w) (layout_of w) es) → IsReplayed p plan budget (outcome_by answers w.coord)
-finished law w p plan budget answers formed script lays r whole = subst Goal script (λ lays formed. here lays formed) lays formed where
-  Goal : Program → Type 0
-  Goal q = LaysOut q (layout_of w) → WellFormed q → IsReplayed q plan budget (outcome_by answers w.coord)
-
-  here : LaysOut (script_of w) (layout_of w) → WellFormed (script_of w) → IsReplayed (script_of w) plan budget (outcome_by answers w.coord)
-  here lays formed = record {
+module _ (law : EveryRunIsExplained) (w : State) (plan : Plan) (budget : ℕ) (answers : List (ℕ × Answer)) (r : Ran w plan budget answers) (whole : (es : List (Entry Op)) → IsAfter w es → IsRun (script_of w) (layout_of w) es) where
+  -- of the world's own script
+  replayed : LaysOut (script_of w) (layout_of w) → WellFormed (script_of w) → IsReplayed (script_of w) plan budget (outcome_by answers w.coord)
+  replayed lays formed = record {
     layout = layout_of w;
     lays_out = lays;
     turns = r.turns;
@@ -123,6 +120,29 @@ finished law w p plan budget answers formed script lays r whole = subst Goal scr
     explained = subst (λ (xs : List (ℕ × Answer)). IsExplained (script_of w) (layout_of w) r.turns (outcome_by xs w.coord)) (sym r.given)
         (law (script_of w) (layout_of w) r.turns w.coord formed lays (whole r.turns r.after) r.after.coordinator);
   }
+
+  -- the statements at the world's points, and their answers
+  beside_own : PointsAreStatements → StatementsAreEnough → LaysOut (script_of w) (layout_of w) → WellFormed (script_of w) → RunsBeside (script_of w) plan budget (outcome_by answers w.coord) (points_of w) answers
+  unfolding replayed
+  beside_own points enough lays formed =
+      let x = replayed lays formed in
+      record {
+        replayed = x;
+        along = are_along points enough (script_of w) (layout_of w) formed lays r.turns (outcome_by answers w.coord) x.explained (points_of w) answers r.after.pointed refl;
+        comes_to = comes_to points enough (script_of w) (layout_of w) formed lays r.turns (outcome_by answers w.coord) x.explained;
+      }
+
+-- the world's script and layout, where they are these
+pub finished : EveryRunIsExplained → (w : State) (p : Program) (plan : Plan) (budget : ℕ) (answers : List (ℕ × Answer)) → WellFormed p → script_of w ≡ p → LaysOut p (layout_of w) → Ran w plan budget answers → ((es : List (Entry Op)) → IsAfter w es → IsRun (script_of w) (layout_of w) es) → IsReplayed p plan budget (outcome_by answers w.coord)
+finished law w p plan budget answers formed script lays r whole = subst Goal script (replayed law w plan budget answers r whole) lays formed where
+  Goal : Program → Type 0
+  Goal q = LaysOut q (layout_of w) → WellFormed q → IsReplayed q plan budget (outcome_by answers w.coord)
+
+pub beside : PointsAreStatements → StatementsAreEnough → EveryRunIsExplained → (w : State) (p : Program) (plan : Plan) (budget : ℕ) (answers : List (ℕ × Answer)) → WellFormed p → script_of w ≡ p → LaysOut p (layout_of w) → Ran w plan budget answers → ((es : List (Entry Op)) → IsAfter w es → IsRun (script_of w) (layout_of w) es) →
+    RunsBeside p plan budget (outcome_by answers w.coord) (points_of w) answers
+beside points enough law w p plan budget answers formed script lays r whole = subst Goal script (beside_own law w plan budget answers r whole points enough) lays formed where
+  Goal : Program → Type 0
+  Goal q = LaysOut q (layout_of w) → WellFormed q → RunsBeside q plan budget (outcome_by answers w.coord) (points_of w) answers
 
 -- what each processor has begun is the first of its turns
 abbrev behind_begun : Program → (a : ℕ) → Option Runner → List Op

@@ -17,7 +17,7 @@ use Rattle.gh_mutator.specs.declared.processor.Processor.{Processor}
 use Rattle.gh_script.specs.Program.{Program}
 use Rattle.gh_worker.specs.Listing as worker
 use Rattle.gh_world.specs.declared.handshake.Actor.{Actor}
-use Rattle.gh_world.specs.declared.handshake.Actor.TheVariants.{Marks, Leads, Runs}
+use Rattle.gh_world.specs.declared.handshake.Actor.TheVariants.{Runs}
 use Rattle.gh_world.specs.declared.runner.Runner.{Runner}
 use Rattle.gh_world.specs.Schedule.{has_ended}
 use Rattle.gh_world.specs.World.{actor_after, actor_of, actors_of, answered_in, done_or, event_by, IsAfter, layout_of, marks_at, marks_by, runner_or, script_of, setting_of, State, told_event, worker_or}

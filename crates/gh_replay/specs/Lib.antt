@@ -4,4 +4,5 @@ pub mod Standing
 pub mod Scheduled
 pub mod Replayed
 pub mod Report
+pub mod Check
 pub mod Places

@@ -1,17 +1,19 @@
 -- What a replay reports: what its run comes to, and in which order the lines stand.
-use Rattle.std.specs.Prelude.{◌≡◌, ℕ, ◌+◌, if◌then◌else◌, List, [], ◌∷◌, ◌++◌, length}
-use Rattle.std.specs.List.{flat_map, range_with_len}
+use Rattle.std.specs.Prelude.{◌≡◌, ℕ, ◌+◌, if◌then◌else◌, Bool, List, [], ◌∷◌, ◌++◌, length, Option, is_some}
+use Rattle.std.specs.List.{concat, flat_map, range_with_len}
 use Rattle.gh_base.specs.declared.value.Answer.{Answer}
-use Rattle.gh_lines.specs.Text.{answers_by, has_line, Outcome}
+use Rattle.gh_ever.specs.Lists.{Lists}
+use Rattle.gh_lines.specs.Text.{agrees_line, answers_by, has_line, Outcome, outcome_lines}
 use Rattle.gh_script.specs.Program.{Program}
 use Rattle.gh_replay.specs.declared.row.Row.{Row}
 use Rattle.gh_replay.specs.Plan.{Plan}
 use Rattle.gh_replay.specs.Replayed.{IsReplayed}
 
--- what a whole run comes to, and how many goroutines the script has
+-- what a whole run comes to, how many goroutines the script has, and the heap that never frees, where that was run beside it
 pub record ReportState : Type 0 where
   pub goroutines : ℕ
   pub outcome : Outcome
+  pub ever : Option Lists
 
 -- the report is of a replay of this script
 pub record IsReportOf (p : Program) (report : ReportState) : Type 0 where
@@ -19,6 +21,18 @@ pub record IsReportOf (p : Program) (report : ReportState) : Type 0 where
   pub plan : Plan
   pub budget : ℕ
   pub replayed : IsReplayed p plan budget report.outcome
+
+-- the lines of a replay: those of what its run comes to, and where it was checked the line `agrees` behind them, which is all that a check has to say
+abbrev pub replay_lines : Program → Outcome → (checked : Bool) → List (List ℕ)
+replay_lines p outcome checked = outcome_lines p outcome ++ (if checked then agrees_line ∷ [] else [])
+
+-- and their text
+abbrev pub replay_text : Program → Outcome → (checked : Bool) → List ℕ
+replay_text p outcome checked = concat (replay_lines p outcome checked)
+
+-- it was run beside it
+abbrev pub is_checked : ReportState → Bool
+is_checked report = is_some report.ever
 
 -- Of the code's own.
 

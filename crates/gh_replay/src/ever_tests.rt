@@ -144,7 +144,7 @@ fn compare(
 
 /// The text of the report of the script's run.
 fn told(alloc: Global, script: &Script) -> Result<Vec<u8>, Fail> {
-    let report = replay(alloc, script, Schedule::unsaid(alloc), 100_000_000)?;
+    let report = replay(alloc, script, Schedule::unsaid(alloc), 100_000_000, false)?;
     let mut text = Vec::new(alloc);
     let mut line = LineBuf::new();
     for i in 0..report.lines() {

@@ -4,10 +4,12 @@
 //! word. Who steps when a schedule says ([`Schedule`]); one that says nothing has the actors take turns in
 //! ascending order ([`nothing_said_is_in_turn`]). What a run comes to is explained by the list of its turns. By
 //! one schedule a script has one such list, so that a run ends within the budget or runs out of turns, and
-//! never both ([`one_outcome`]). [`parse_list`] reads the list of a schedule from a text. The lines of the answers, of the cycles
-//! and of what is live are told one by one, in the order in which they are written ([`Report`]).
+//! never both ([`one_outcome`]). A replay may be checked: then the heap that never frees is run beside it, and
+//! agrees ([`Report::ever`]). [`parse_list`] reads the list of a schedule from a text. The lines of the answers,
+//! of the cycles and of what is live are told one by one, in the order in which they are written ([`Report`]).
 #![tactic(auto)]
 
+mod check;
 mod fault;
 mod laws;
 mod list;
@@ -24,6 +26,8 @@ pub use report::Report;
 pub use schedule::{Schedule, Turn, Until};
 pub use turns::replay;
 
+#[cfg(test)]
+mod check_tests;
 #[cfg(test)]
 mod ever_tests;
 #[cfg(test)]

@@ -6,25 +6,27 @@
 //! without a search, and neither takes memory nor fails. A line is made where it is asked for, since
 //! the lines together are much larger than the answers.
 //!
-//! The line of a check is to follow; there is none yet, and no line on credit, of which nothing is earned.
+//! Where the heap that never frees was run beside it, the report keeps that heap, and has the line `agrees` behind all
+//! others. There is no line on credit, of which nothing is earned.
 
-ghost use Rattle.std.specs.Prelude.{◌≡◌, ◌+◌, ◌++◌, ◌^◌, ◌<◌, ◌≤◌, [], Some, length, map, slice_get};
+ghost use Rattle.std.specs.Prelude.{◌≡◌, ◌+◌, ◌++◌, ◌^◌, ◌<◌, ◌≤◌, [], Some, length, map, option_map, slice_get};
 ghost use Rattle.std.specs.Vec.{vec_capacity};
 ghost use Rattle.gh_script.specs.Program.{Program};
-ghost use Rattle.gh_lines.specs.Text.{answers_by, outcome_lines};
-ghost use Rattle.gh_replay.specs.Report.{IsReportOf, rows_from};
+ghost use Rattle.gh_lines.specs.Text.{answers_by};
+ghost use Rattle.gh_replay.specs.Report.{is_checked, IsReportOf, replay_lines, rows_from};
 ghost use Rattle.gh_world.specs.Runs.{swept_cycle};
 
 use crate::row::Row;
 use gh_base::Answer;
 use gh_coord::Cycle;
+use gh_ever::Ever;
 use gh_interp::tell;
 use gh_lines::{LineBuf, has_line};
 use gh_script::Script;
 use gh_world::Totals;
 use std::marker::Model;
 
-/// What a script's run comes to, and its lines.
+/// What a script's run comes to, its lines, and the heap that never frees, where that was run beside it.
 #[derive(Drop)]
 pub struct Report {
     goroutines: u32,
@@ -32,6 +34,7 @@ pub struct Report {
     rows: Vec<Row>,
     cycles: Vec<Cycle>,
     totals: Totals,
+    ever: Option<Ever>,
 }
 
 impl Model for Report {
@@ -41,28 +44,31 @@ impl Model for Report {
 
     ghost Value = { ReportState };
 
-    ghost view = { λ r. record { goroutines = r.goroutines; outcome = record { answers = r.answers.items; cycles = map swept_cycle r.cycles.items; objects = r.totals.objects; bytes = r.totals.live } } };
+    ghost view = { λ r. record { goroutines = r.goroutines; outcome = record { answers = r.answers.items; cycles = map swept_cycle r.cycles.items; objects = r.totals.objects; bytes = r.totals.live }; ever = r.ever } };
 
-    ghost invariant = { λ r. (r.rows.items ≡ rows_of r.goroutines r.answers.items) × (length r.rows.items + length r.cycles.items + 1 < 2 ^ 32) };
+    ghost invariant = { λ r. (r.rows.items ≡ rows_of r.goroutines r.answers.items) × (length r.rows.items + length r.cycles.items + 2 < 2 ^ 32) };
 }
 
 impl Report {
     /// The report of these answers, each with its goroutine, to a script of so many goroutines, of these
-    /// cycles and these totals. `rows` is empty, and has room for a row for each answer.
+    /// cycles and these totals, and of the heap that never frees beside the run, if there is one. `rows` is empty, and
+    /// has room for a row for each answer.
     pub(crate) fn new(
         goroutines: u32,
         answers: Vec<(u32, Answer)>,
         mut rows: Vec<Row>,
         cycles: Vec<Cycle>,
         totals: Totals,
+        ever: Option<Ever>,
     ) -> Report
         requires empty { rows.items ≡ [] }
-        requires few { length answers.items + length cycles.items + 1 < 2 ^ 32 }
+        requires few { length answers.items + length cycles.items + 2 < 2 ^ 32 }
         requires room { length answers.items ≤ vec_capacity rows }
         ensures goroutines { result.goroutines ≡ goroutines }
         ensures answers { result.outcome.answers ≡ answers.items }
         ensures cycles { result.outcome.cycles ≡ map swept_cycle cycles.items }
         ensures live { (result.outcome.objects ≡ totals.objects) × (result.outcome.bytes ≡ totals.live) }
+        ensures ever { result.ever ≡ ever }
     {
         for g in 0..goroutines {
             add_rows(g, &answers, &mut rows);
@@ -73,25 +79,40 @@ impl Report {
             rows,
             cycles,
             totals,
+            ever,
         }
     }
 
-    /// How many lines there are: one for each answer that has one, which is each but
-    /// [`Answer::Done`], one for each cycle, and the one of what is live.
-    pub fn lines(&self) -> u32
-        ensures { (p : Program) → IsReportOf p self.now → result ≡ length (outcome_lines p self.now.outcome) }
+    /// The heap that never frees, as it is after the run, where the replay was checked, and `None` exactly where it
+    /// was not.
+    pub fn ever(&self) -> Option<&Ever>
+        ensures { option_map (λ ever. ever.now) result ≡ self.now.ever }
     {
-        self.rows.len() as u32 + self.cycles.len() as u32 + 1
+        self.ever.as_ref()
+    }
+
+    /// How many lines there are: one for each answer that has one, which is each but
+    /// [`Answer::Done`], one for each cycle, the one of what is live, and where the replay was checked the line
+    /// `agrees`. Whatever the run, that line is all that a check adds.
+    pub fn lines(&self) -> u32
+        ensures { (p : Program) → IsReportOf p self.now → result ≡ length (replay_lines p self.now.outcome (is_checked self.now)) }
+    {
+        let lines = self.rows.len() as u32 + self.cycles.len() as u32 + 1;
+        if self.ever.is_some() {
+            lines + 1
+        } else {
+            lines
+        }
     }
 
     /// Fills the buffer with line `i`, counted from 0, which ends with LF: `name n answer`, goroutine
     /// by goroutine in the order of the script, each by its statements; then `cycle k marked M freed F`
-    /// for each cycle; then `live N bytes B`. `script` is the one that was replayed, and `i` is below
-    /// [`Report::lines`].
+    /// for each cycle; then `live N bytes B`; and then `agrees`, where the replay was checked. `script` is the one that
+    /// was replayed, and `i` is below [`Report::lines`].
     pub fn line(&self, script: &Script, i: u32, buf: &mut LineBuf)
         requires script { IsReportOf script.now self.now }
-        requires below { i < length (outcome_lines script.now self.now.outcome) }
-        ensures { slice_get (outcome_lines script.now self.now.outcome) i ≡ Some buf.new }
+        requires below { i < length (replay_lines script.now self.now.outcome (is_checked self.now)) }
+        ensures { slice_get (replay_lines script.now self.now.outcome (is_checked self.now)) i ≡ Some buf.new }
     {
         let i = i as usize;
         if i < self.rows.len() {
@@ -103,8 +124,10 @@ impl Report {
         if behind < self.cycles.len() {
             let Cycle { k, marked, freed } = self.cycles[behind];
             buf.cycle(k, marked, freed);
-        } else {
+        } else if behind == self.cycles.len() {
             buf.live(self.totals.objects, self.totals.live);
+        } else {
+            buf.agrees();
         }
     }
 }

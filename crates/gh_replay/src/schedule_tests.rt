@@ -17,6 +17,8 @@ fn script_of(alloc: Global, goroutines: &str) -> Result<Script, Fail> {
     Ok(parse(alloc, text.as_bytes())?)
 }
 
+const SEEDS: [u64; 10] = [0, 1, 2, 3, 7, 8, 42, 1000, 4_294_967_296, u64::MAX];
+
 /// A schedule without a list, with this seed.
 fn by_seed(alloc: Global, seed: u64) -> Schedule {
     Schedule {
@@ -35,7 +37,7 @@ fn answers(
     want: &str,
 ) -> Result<(), Fail> {
     let script = script_of(alloc, goroutines)?;
-    let report = replay(alloc, &script, schedule, 1_000_000)?;
+    let report = replay(alloc, &script, schedule, 1_000_000, false)?;
     let want = want.replace(alloc, "|", "\n")?;
     let mut told = Vec::new(alloc);
     let mut line = LineBuf::new();
@@ -87,12 +89,44 @@ fn a_seed_changes_no_answer(rt: HostRuntime) -> Result<(), Fail> {
             "go a|load r1 r0 0|new r0 node|load r1 r0 2|store r0 1 r0|store r0 0 r0|load r1 r0 1|gstore 0 r1|end",
             "a 1 fault nil|a 2 ref a.0|a 3 fault field|a 4 fault kind|a 6 int 0|a 7 fault kind|live 0 bytes 0|",
         ),
+        (
+            "type edge n*4097|go a|new r0 edge|new r1 edge|new r2 edge|new r3 edge|end",
+            "a 1 ref a.0|a 2 ref a.1|a 3 ref a.2|a 4 full|live 0 bytes 0|",
+        ),
     ];
-    let seeds = [0, 1, 2, 3, 7, 8, 42, 1000, 4_294_967_296, u64::MAX];
     for (goroutines, want) in rows {
-        for seed in seeds {
+        for seed in SEEDS {
             answers(&rt, alloc, goroutines, by_seed(alloc, seed), want)?;
         }
+    }
+    Ok(())
+}
+
+#[test]
+fn a_seed_changes_no_answer_of_many(rt: HostRuntime) -> Result<(), Fail> {
+    let alloc = rt.alloc();
+    // More objects than a span has slots.
+    let spans = "type t n|go a|repeat 1025|new r0 t|end|end";
+    let mut spans_told = String::new(alloc);
+    for k in 0..1025u32 {
+        let n = k + 1;
+        spans_told.push_str(&format!(in alloc; "a {n} ref a.{k}|")?)?;
+    }
+    spans_told.push_str("live 0 bytes 0|")?;
+    // More grey objects than a work buffer has entries.
+    let mut buffers = String::from_str(alloc, "type wide p*300|go a|new r0 wide|gstore 0 r0|")?;
+    let mut buffers_told = String::from_str(alloc, "a 1 ref a.0|")?;
+    for k in 0..300u32 {
+        let n = 3 + 2 * k;
+        let name = k + 1;
+        buffers.push_str(&format!(in alloc; "new r1 node|store r0 {k} r1|")?)?;
+        buffers_told.push_str(&format!(in alloc; "a {n} ref a.{name}|")?)?;
+    }
+    buffers.push_str("gc|end")?;
+    buffers_told.push_str("a 603 swept|live 301 bytes 7872|")?;
+    for seed in SEEDS {
+        answers(&rt, alloc, spans, by_seed(alloc, seed), &spans_told)?;
+        answers(&rt, alloc, &buffers, by_seed(alloc, seed), &buffers_told)?;
     }
     Ok(())
 }
@@ -132,7 +166,7 @@ fn an_item_goes_on_until_it_ends(rt: HostRuntime) -> Result<(), Fail> {
     let script = script_of(alloc, "go a|gc|end")?;
     // Alone the processor ends no cycle, the worker marks nothing, and the coordinator is not asked.
     for list in ["0@1", "1@1", "2@1", "1*1000000"] {
-        let outcome = replay(alloc, &script, by_list(alloc, list)?, 10_000);
+        let outcome = replay(alloc, &script, by_list(alloc, list)?, 10_000, false);
         match outcome {
             Err(ReplayFault::OutOfTurns(n)) => assert_eq!(&rt; n, 10_000),
             _ => assert!(&rt; false, "{list}"),
@@ -140,7 +174,7 @@ fn an_item_goes_on_until_it_ends(rt: HostRuntime) -> Result<(), Fail> {
     }
     // An item for an actor that is not there takes no turn.
     for list in ["3*1000000", "3@1", "0*500,1*200,2*200"] {
-        let outcome = replay(alloc, &script, by_list(alloc, list)?, 10_000);
+        let outcome = replay(alloc, &script, by_list(alloc, list)?, 10_000, false);
         assert!(&rt; outcome.is_ok(), "{list}");
     }
     Ok(())

@@ -21,7 +21,7 @@ pub fn lines(
     let text = format!(in alloc; "{HEADER}{goroutines}")?;
     let text = text.replace(alloc, "|", "\n")?;
     let script = parse(alloc, text.as_bytes())?;
-    let report = replay(alloc, &script, schedule, 10_000)?;
+    let report = replay(alloc, &script, schedule, 10_000, false)?;
     let want = want.replace(alloc, "|", "\n")?;
     let mut told = Vec::new(alloc);
     let mut line = LineBuf::new();
@@ -77,12 +77,12 @@ fn turns_run_out(rt: HostRuntime) -> Result<(), Fail> {
     let text = format!(in alloc; "{HEADER}go a\nint r1 7\nend\n")?;
     let script = parse(alloc, text.as_bytes())?;
     for budget in [0, 1, 2, 5, 100] {
-        let outcome = replay(alloc, &script, Schedule::unsaid(alloc), budget);
+        let outcome = replay(alloc, &script, Schedule::unsaid(alloc), budget, false);
         match outcome {
             Err(ReplayFault::OutOfTurns(n)) => assert_eq!(&rt; n, budget),
             _ => assert!(&rt; false, "budget {budget}"),
         }
     }
-    assert!(&rt; replay(alloc, &script, Schedule::unsaid(alloc), 10_000).is_ok());
+    assert!(&rt; replay(alloc, &script, Schedule::unsaid(alloc), 10_000, false).is_ok());
     Ok(())
 }

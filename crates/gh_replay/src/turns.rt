@@ -1,14 +1,17 @@
 //! A script's run, in which the actors step as a schedule says.
 
-ghost use Rattle.std.specs.Prelude.{◌≡◌, ◌++◌, ℕ, ◌+◌, ◌<◌, ◌≤◌, [], length, IfOk, Err};
+ghost use Rattle.std.specs.Prelude.{◌≡◌, ◌++◌, ℕ, ◌+◌, ◌<◌, ◌≤◌, [], length, IfOk, IfSome, Err};
 ghost use Rattle.std.specs.Vec.{vec_capacity};
 ghost use Rattle.gh_lines.specs.Text.{Outcome};
 ghost use Rattle.gh_replay.specs.declared.fault.ReplayFault.TheVariants.{OutOfTurns};
+ghost use Rattle.gh_replay.specs.Check.{IsEverAfter};
 ghost use Rattle.gh_replay.specs.Places.{Ran};
 ghost use Rattle.gh_replay.specs.Replayed.{IsReplayed, IsUnfinished};
+ghost use Rattle.gh_replay.specs.Report.{is_checked};
 ghost use Rattle.gh_world.specs.Turns.{total_of};
 ghost use Rattle.gh_world.specs.World.{layout_of, script_of, IsAfter};
 
+use crate::check::run_beside;
 use crate::fault::ReplayFault;
 use crate::laws::one_outcome;
 use crate::place::Place;
@@ -16,39 +19,58 @@ use crate::report::Report;
 use crate::schedule::Schedule;
 use gh_base::Answer;
 use gh_coord::Cycle;
+use gh_ever::Ever;
 use gh_script::Script;
-use gh_world::{Event, World, every_run_is_explained, most_cycles, total_of};
+use gh_world::{
+    Event, World, a_script_has_one_run, every_run_is_explained, most_cycles, points_are_statements,
+    statements_are_enough, total_of,
+};
 use std::alloc::Global;
 
 /// The report of the script's run, in which the actors step as the schedule says, where it takes at most
-/// `budget` turns, which are single steps, and `OutOfTurns` where it takes more. All memory is taken before
-/// the first turn.
+/// `budget` turns, which are single steps, and `OutOfTurns` where it takes more. With `check` the heap that never
+/// frees is run beside it, along the statements in the order of their points, and the report keeps it: whatever the
+/// run, it agrees with each answer, and says so in one line more, which is all that a check adds. All memory is taken
+/// before the first turn.
 pub fn replay(
     alloc: Global,
     script: &Script,
     schedule: Schedule,
     budget: u64,
+    check: bool,
 ) -> Result<Report, ReplayFault>
     ensures explained { IfOk result (λ report. IsReplayed script.now schedule budget report.outcome) }
     ensures goroutines { IfOk result (λ report. report.goroutines ≡ length script.now.goroutines) }
+    ensures checked { IfOk result (λ report. is_checked report ≡ check) }
+    // Where it was checked, what is kept stands for the heap that never frees after the list of all turns.
+    ensures ever { IfOk result (λ report. IfSome report.ever (IsEverAfter script.now schedule budget report.outcome)) }
     ensures out_of_turns { (n : ℕ) → result ≡ Err (OutOfTurns n) → (n ≡ budget) × IsUnfinished script.now schedule n }
     ensures runs_out { IsUnfinished script.now schedule budget → IfOk result (λ report. ⊥) }
     ensures ends { (outcome : Outcome) (n : ℕ) → IsReplayed script.now schedule budget outcome → result ≡ Err (OutOfTurns n) → ⊥ }
 {
     every_run_is_explained();
+    points_are_statements();
+    statements_are_enough();
+    a_script_has_one_run();
     one_outcome();
     script.is_well_formed();
     let mut world = World::new(alloc, script)?;
     let mut answers = Vec::with_capacity(alloc, total_of(script))?;
     let rows = Vec::with_capacity(alloc, total_of(script))?;
     let mut cycles = Vec::with_capacity(alloc, most_cycles(script) as usize)?;
+    let ever = if check {
+        Some(Ever::new(alloc, script)?)
+    } else {
+        None
+    };
     run(&mut world, &mut answers, schedule, budget);
     match world.turn_from(0) {
         Some(_) => Err(ReplayFault::OutOfTurns(budget)),
         None => {
             copy(world.cycles(), &mut cycles);
             let goroutines = script.goroutines();
-            Ok(Report::new(goroutines, answers, rows, cycles, world.totals()))
+            let ever = run_beside(ever, script, world.points(), &answers);
+            Ok(Report::new(goroutines, answers, rows, cycles, world.totals(), ever))
         }
     }
 }

@@ -1,5 +1,7 @@
-use Rattle.std.proofs.Common.{◌≡◌, ℕ, ◌++◌, ◌≤◌, length, map, refl, sym, ◌∙◌, ap, subst, arith}
+use Rattle.std.proofs.Common.{◌≡◌, ℕ, ◌++◌, ◌≤◌, length, map, Option, refl, sym, ◌∙◌, ap, subst, arith}
+use Rattle.std.specs.Prelude.{IfSome}
 use Rattle.gh_base.specs.declared.layout.Layout.{Layout}
+use Rattle.gh_ever.specs.Lists.{Lists}
 use Rattle.gh_lines.specs.Text.{Outcome}
 use Rattle.gh_script.specs.Program.{Program}
 use Rattle.gh_world.specs.Runs.{outcome_by, swept_cycle}
@@ -7,9 +9,11 @@ use Rattle.gh_world.specs.Schedule.{ended_after, in_order_from}
 use Rattle.gh_world.specs.Turns.{total_of}
 use Rattle.gh_world.specs.World.{layout_of, LaysOut, script_of, setting_of}
 use Rattle.gh_world.specs.Wishes.{most_cycles}
+use Rattle.gh_replay.specs.Check.{IsEverAfter}
 use Rattle.gh_replay.specs.Replayed.{IsReplayed, IsUnfinished}
+use Rattle.gh_replay.proofs.Along.{ever_after, have_statements}
 use Rattle.gh_replay.proofs.Choosing.{some_going}
-use Rattle.gh_replay.proofs.Running.{finished, not_all, outcome_is, unfinished}
+use Rattle.gh_replay.proofs.Running.{beside, finished, not_all, outcome_is, unfinished}
 use Rattle.gh_replay.proofs.turns.replay.Goals as goal
 
 pub returns-in-Some-clause-out_of_turns : goal.returns-in-Some-clause-out_of_turns
@@ -42,6 +46,24 @@ new-requires-in-None-clause-few c =
     let answers : length c.run.new.answers.items ≤ total_of c.args.script.now = subst (λ (p : Program). length c.run.new.answers.items ≤ total_of p) script c.run.ensures.few in
     let cycles : length c.cycles.result.now ≤ most_cycles c.args.script.now = subst (λ (p : Program). length c.cycles.result.now ≤ most_cycles p) script c.cycles.ensures.few in
     omega (arith, copied, answers, cycles, c.most_cycles.ensures.is, c.most_cycles.ensures.few, c.is_well_formed.ensures.few_statements)
+
+pub run_beside-ever-requires-clause-statements : goal.run_beside-ever-requires-clause-statements
+run_beside-ever-requires-clause-statements c =
+    let lays : LaysOut c.args.script.now (layout_of c.run.new.world) = subst (λ (l : Layout). LaysOut c.args.script.now l) (sym c.run.ensures.layout) c.in_ok-world.ensures.layout in
+    have_statements c.args.script.now c.args.schedule c.args.budget (outcome_by c.run.new.answers.items c.run.new.world.coord) _ c.points.result.now c.run.new.answers.items c.deref.result.now
+    (beside c.points_are_statements.ensures c.statements_are_enough.ensures c.every_run_is_explained.ensures c.run.new.world c.args.script.now c.args.schedule c.args.budget c.run.new.answers.items c.is_well_formed.ensures
+    (c.run.ensures.script ∙ c.in_ok-world.ensures.script) lays c.run.ensures.ran (c.in-None.ensures.whole refl)) c.points.ensures c.deref.ensures.value
+
+pub returns-clause-ever : goal.returns-clause-ever
+returns-clause-ever c =
+    let lays : LaysOut c.args.script.now (layout_of c.run.new.world) = subst (λ (l : Layout). LaysOut c.args.script.now l) (sym c.run.ensures.layout) c.in_ok-world.ensures.layout in
+    let is : c.new-in-None.result.outcome ≡ outcome_by c.run.new.answers.items c.run.new.world.coord = outcome_is c.new-in-None.result.outcome c.run.new.answers.items c.run.new.world.coord c.new-in-None.ensures.answers
+    (c.new-in-None.ensures.cycles ∙ ap (map swept_cycle) (c.copy.ensures ∙ ap (λ xs. xs ++ c.cycles.result.now) c.in_ok-cycles.ensures.items ∙ c.cycles.ensures.are)) (c.new-in-None.ensures.live.0 ∙ c.totals.ensures.objects) (c.new-in-None.ensures.live.1 ∙ c.totals.ensures.live) in
+    let after = ever_after c.a_script_has_one_run.ensures.ordered c.args.script.now c.args.schedule c.args.budget (outcome_by c.run.new.answers.items c.run.new.world.coord) _ c.points.result.now c.run.new.answers.items c.deref.result.now c.run_beside-ever.result
+    (beside c.points_are_statements.ensures c.statements_are_enough.ensures c.every_run_is_explained.ensures c.run.new.world c.args.script.now c.args.schedule c.args.budget c.run.new.answers.items c.is_well_formed.ensures
+    (c.run.ensures.script ∙ c.in_ok-world.ensures.script) lays c.run.ensures.ran (c.in-None.ensures.whole refl)) c.points.ensures c.deref.ensures.value c.run_beside-ever.ensures.ever in
+    subst (λ (ever : Option Lists). IfSome ever (IsEverAfter c.args.script.now c.args.schedule c.args.budget c.new-in-None.result.outcome)) (sym c.new-in-None.ensures.ever)
+    (subst (λ (o : Outcome). IfSome c.run_beside-ever.result (IsEverAfter c.args.script.now c.args.schedule c.args.budget o)) (sym is) after)
 
 pub returns-clause-explained : goal.returns-clause-explained
 returns-clause-explained c =
