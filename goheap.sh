@@ -10,7 +10,7 @@ say() { printf 'goheap.sh: %s\n' "$*" >&2; }
 
 usage() {
   cat >&2 <<'END'
-usage: goheap.sh replay [--seed n] [--list text] [--budget n] < file
+usage: goheap.sh replay [--seed n] [--list text] [--budget n] [--check] < file
   Runs the script of goroutines in the file, and writes a line for each answer.
   For example: ./goheap.sh replay < examples/first.heap
   README.md says what goheap is, docs/SCRIPTS.md what a script may say.

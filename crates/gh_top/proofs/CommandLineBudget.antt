@@ -1,5 +1,5 @@
 -- The budget of a line that is taken is in its range.
-use Rattle.std.proofs.Common.{◌≡◌, ◌∙◌, ◌≤◌, ◌&&◌, ◌++◌, ℕ, Bool, true, false, not, refl, sym, ap, subst, List, [], ◌∷◌, Option, Some, None, codes, nat_le, nat_lt, ◌^◌, arith}
+use Rattle.std.proofs.Common.{◌≡◌, ◌∙◌, ◌≤◌, ◌&&◌, ◌||◌, ◌++◌, ℕ, Bool, true, false, not, refl, sym, ap, subst, List, [], ◌∷◌, Option, Some, None, codes, nat_le, nat_lt, ◌^◌, arith}
 use Rattle.std.specs.Prelude.{find, if◌then◌else◌, option_and_then, option_map, unwrap_or}
 use Rattle.std.specs.Str.{bytes_eq}
 use Rattle.std.specs.Str.Parse.{digits_value, without_leading_plus}
@@ -9,14 +9,21 @@ use Rattle.clap.specs.Lexer.{long_of}
 use Rattle.clap.proofs.WalkLemmas.{both}
 use Rattle.gh_replay.specs.Plan.{Plan}
 use Rattle.gh_replay.specs.declared.schedule.Turn.{Turn}
-use Rattle.gh_top.specs.CommandLine.{Choice, Reading, Text, begun, budget, choices, chosen, default_budget, ended, is_chosen, is_end, is_number_of, is_numeral, is_value, next, replay_by, replay_of, takes, u64_of, with_choice}
+use Rattle.gh_top.specs.CommandLine.{Choice, Reading, Text, begun, budget, choices, chosen, default_budget, ended, flag_value, is_chosen, is_end, is_flag, is_number_of, is_numeral, is_value, next, replay_by, replay_of, takes, u64_of, with_choice, with_flag}
 use Rattle.gh_top.specs.CommandLineLaws.{BudgetIsInRange}
 use Rattle.gh_top.specs.declared.line.Line.TheVariants.{Replay}
 
--- each choice is of a value that its option takes
+-- each choice is a flag, or of a value that its option takes
+abbrev fits : Text → Text → Bool
+fits name value = is_flag name || takes name value
+
 abbrev Taken : List Choice → Type 0
 Taken [] = Unit {0}
-Taken (c ∷ made) = (takes c.0 c.1 ≡ true) × Taken made
+Taken (c ∷ made) = (fits c.0 c.1 ≡ true) × Taken made
+
+fits_taken : (b c : Bool) → c ≡ true → (b || c) ≡ true
+fits_taken true c e = refl
+fits_taken false c e = e
 
 abbrev TakenBy : Option (List Choice) → Type 0
 TakenBy None = Unit {0}
@@ -26,7 +33,7 @@ abbrev TakenIn : Option Reading → Type 0
 TakenIn None = Unit {0}
 TakenIn (Some reading) = Taken reading.0
 
-taken_more : (made : List Choice) (n v : Text) → Taken made → takes n v ≡ true → Taken (made ++ (n, v) ∷ [])
+taken_more : (made : List Choice) (n v : Text) → Taken made → fits n v ≡ true → Taken (made ++ (n, v) ∷ [])
 taken_more [] n v t e = (e, tt)
 taken_more (c ∷ made) n v t e = (t.0, taken_more made n v t.1 e)
 
@@ -34,9 +41,16 @@ taken_choice : (made : List Choice) (n v : Text) → Taken made → TakenBy (wit
 taken_choice made n v t = go (not (is_chosen n made)) (takes n v) refl
   where
     go : (a b : Bool) → takes n v ≡ b → TakenBy (if a && b then Some (made ++ (n, v) ∷ []) else None)
-    go true true e = taken_more made n v t e
+    go true true e = taken_more made n v t (fits_taken (is_flag n) (takes n v) e)
     go true false e = tt
     go false b e = tt
+
+taken_flag : (made : List Choice) (n : Text) → is_flag n ≡ true → Taken made → TakenBy (with_flag made n)
+taken_flag made n is t = go (not (is_chosen n made))
+  where
+    go : (a : Bool) → TakenBy (if a then Some (made ++ (n, flag_value) ∷ []) else None)
+    go true = taken_more made n flag_value t (ap (λ (b : Bool). b || takes n flag_value) is)
+    go false = tt
 
 taken_settled : (o : Option (List Choice)) → TakenBy o → TakenIn (option_map (λ (made : List Choice). (made, None)) o)
 taken_settled None t = tt
@@ -44,7 +58,11 @@ taken_settled (Some made) t = t
 
 taken_begun : (made : List Choice) (l : Option (Text × Option Text)) → Taken made → TakenIn (option_and_then (begun made) l)
 taken_begun made None t = tt
-taken_begun made (Some (n, None)) t = t
+taken_begun made (Some (n, None)) t = go (is_flag n) refl
+  where
+    go : (b : Bool) → is_flag n ≡ b → TakenIn (if b then option_map (λ (made : List Choice). (made, None)) (with_flag made n) else Some (made, Some n))
+    go true is = taken_settled (with_flag made n) (taken_flag made n is t)
+    go false is = t
 taken_begun made (Some (n, Some v)) t = taken_settled (with_choice made n v) (taken_choice made n v t)
 
 taken_next : (made : List Choice) (waiting : Option Text) (word : Text) → Taken made → TakenIn (next made waiting word)
@@ -83,7 +101,7 @@ chosen_taken (c ∷ made) v t e = go (bytes_eq c.0 (codes "budget")) refl (chose
     go : (b : Bool) → bytes_eq c.0 (codes "budget") ≡ b → (chosen (codes "budget") made ≡ Some v → is_number_of budget v ≡ true) → is_number_of budget v ≡ true
     go true b ih =
         let is : c.1 ≡ v = let f : Some c.1 ≡ Some v = subst (λ (o : Option Choice). option_map (λ (d : Choice). d.1) o ≡ Some v) (first b) e in cc in
-        subst (λ (u : Text). is_number_of budget u ≡ true) is (subst (λ (n : Text). takes n c.1 ≡ true) ((bytes_eq-Decides c.0 (codes "budget")).0 b) t.0)
+        subst (λ (u : Text). is_number_of budget u ≡ true) is (subst (λ (n : Text). fits n c.1 ≡ true) ((bytes_eq-Decides c.0 (codes "budget")).0 b) t.0)
       where
         first : bytes_eq c.0 (codes "budget") ≡ true → find (λ (d : Choice). bytes_eq d.0 (codes "budget")) (c ∷ made) ≡ Some c
         first b = rw b refl
@@ -118,23 +136,23 @@ said_in_range None n taken u =
     subst InRange is (omega arith, omega arith)
 said_in_range (Some v) n taken u = number_in_range v n (taken v refl) u
 
-turns_are : (turns drawn : Option ℕ) (list : Option (List Turn)) (plan : Plan) (n : ℕ) → replay_by turns drawn list ≡ Some (Replay plan n) → turns ≡ Some n
-turns_are None drawn list plan n e = absurd cc
-turns_are (Some t) drawn None plan n e = absurd cc
-turns_are (Some t) drawn (Some list) plan n e = cc
+turns_are : (turns drawn : Option ℕ) (list : Option (List Turn)) (given : Bool) (plan : Plan) (n : ℕ) (check : Bool) → replay_by turns drawn list given ≡ Some (Replay plan n check) → turns ≡ Some n
+turns_are None drawn list given plan n check e = absurd cc
+turns_are (Some t) drawn None given plan n check e = absurd cc
+turns_are (Some t) drawn (Some list) given plan n check e = cc
 
-asked_in_range : (o : Option (List Choice)) (plan : Plan) (n : ℕ) → TakenBy o → option_and_then replay_of o ≡ Some (Replay plan n) → InRange n
-asked_in_range None plan n t e = absurd cc
-asked_in_range (Some made) plan n t e =
-    said_in_range (chosen (codes "budget") made) n (λ v is. chosen_taken made v t is) (turns_are _ _ _ plan n e)
+asked_in_range : (o : Option (List Choice)) (plan : Plan) (n : ℕ) (check : Bool) → TakenBy o → option_and_then replay_of o ≡ Some (Replay plan n check) → InRange n
+asked_in_range None plan n check t e = absurd cc
+asked_in_range (Some made) plan n check t e =
+    said_in_range (chosen (codes "budget") made) n (λ v is. chosen_taken made v t is) (turns_are _ _ _ _ plan n check e)
 
 pub budget-in_range : BudgetIsInRange
-budget-in_range [] plan n e = absurd cc
-budget-in_range (program ∷ []) plan n e = absurd cc
-budget-in_range (program ∷ name ∷ words) plan n e = go (bytes_eq name (codes "replay")) refl
+budget-in_range [] plan n check e = absurd cc
+budget-in_range (program ∷ []) plan n check e = absurd cc
+budget-in_range (program ∷ name ∷ words) plan n check e = go (bytes_eq name (codes "replay")) refl
   where
     go : (b : Bool) → bytes_eq name (codes "replay") ≡ b → InRange n
-    go true b = asked_in_range (choices [] None words) plan n (taken_words words [] None tt) (sym (ap (λ (c : Bool). if c then option_and_then replay_of (choices [] None words) else None) b) ∙ e)
+    go true b = asked_in_range (choices [] None words) plan n check (taken_words words [] None tt) (sym (ap (λ (c : Bool). if c then option_and_then replay_of (choices [] None words) else None) b) ∙ e)
     go false b =
-        let none : None ≡ Some (Replay plan n) = sym (ap (λ (c : Bool). if c then option_and_then replay_of (choices [] None words) else None) b) ∙ e in
+        let none : None ≡ Some (Replay plan n check) = sym (ap (λ (c : Bool). if c then option_and_then replay_of (choices [] None words) else None) b) ∙ e in
         absurd cc

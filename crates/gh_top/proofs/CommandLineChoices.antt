@@ -5,12 +5,13 @@ use Rattle.std.specs.Str.{bytes_eq}
 use Rattle.clap.specs.Lexer.{long_of}
 use Rattle.clap.specs.Faults.{settle_fault, use_fault}
 use Rattle.clap.specs.Walk.{Held, Row, has_row, idle, option, reacted, settled, used}
-use Rattle.gh_top.specs.CommandLine.{Choice, Text, begun, choices, is_chosen, is_value, replay_of, takes, with_choice}
+use Rattle.clap.specs.declared.parser.matches.ValueSource.TheVariants.{CommandLine}
+use Rattle.gh_top.specs.CommandLine.{Choice, Text, begun, choices, flag_value, is_chosen, is_flag, is_value, replay_of, takes, with_choice}
 use Rattle.gh_top.specs.CommandLineParser.{passes}
 use Rattle.gh_top.specs.declared.line.Line.{Line}
-use Rattle.gh_top.proofs.CommandLineEnd.{end_fails, end_good, line_from, rules}
-use Rattle.gh_top.proofs.CommandLineRows.{has_made, made_more, rows_made}
-use Rattle.gh_top.proofs.CommandLineWalk.{Named, Which, after_end, alone_line, at, at_alone, at_end, at_given, at_letter, at_other, at_plain, at_value, dashes, doomed, from_start, given_line, held, known, letter_of, long_fails, name_of, parsed_replay, rule_of, settle_is, settled_is, trailed, trailed_fails, unknown, use_passes, used_is, wanting, wanting_fails, which, with_value}
+use Rattle.gh_top.proofs.CommandLineEnd.{check_built, end_fails, end_good, line_from, rules}
+use Rattle.gh_top.proofs.CommandLineRows.{has_made, made_more, row, rows_made}
+use Rattle.gh_top.proofs.CommandLineWalk.{Named, Which, after_end, alone_line, at, at_alone, at_end, at_flag, at_flag_given, at_given, at_letter, at_other, at_plain, at_value, dashes, doomed, flag, flag_line, flag_passes, flag_used, from_start, given_line, held, known, letter_of, long_fails, name_of, parsed_replay, rule_of, settle_is, the_budget, the_list, the_seed, settled_is, trailed, trailed_fails, unknown, use_passes, used_is, wanting, wanting_fails, which, with_value}
 
 -- the line that the choices of the words ask for, behind those that are made
 abbrev asked : List Choice → Option Text → List Text → Option Line
@@ -52,6 +53,12 @@ unknown_waits made n (word ∷ rest) b s t = go (bytes_eq word dashes) refl (is_
     go true e v is (x ∷ xs) = rw e refl
     go false e true is rest = rw (e, is, unknown_chooses made n word b s t) refl
     go false e false is rest = rw (e, is) refl
+
+-- no other option is the flag
+no_flag : (o : Named) → is_flag (name_of o) ≡ false
+no_flag the_budget = refl
+no_flag the_seed = refl
+no_flag the_list = refl
 
 -- what is held stands for the choices
 record Stands (made : List Choice) (h : Held) : Type 0 where
@@ -102,6 +109,26 @@ given_is o made h v rest st idle_is = go (not (is_chosen (name_of o) made) && ta
         }))
     go false e = rw (st.good, uses, e) refl
 
+flag_is : (made : List Choice) (h : Held) (rest : List Text) → Stands made h → FromIdle rest
+    → flag_line h rest ≡ option_and_then (λ (reading : List Choice × Option Text). asked reading.0 reading.1 rest) (begun made (codes "check", None))
+flag_is made h rest st idle_is = go (is_chosen (codes "check") made) refl
+  where
+    there : has_row (codes "check") (settled rules h).rows ≡ is_chosen (codes "check") made
+    there = ap (has_row (codes "check")) st.rows ∙ has_made (codes "check") made
+
+    uses : passes (use_fault false check_built [] (settled rules h).rows) ≡ not (is_chosen (codes "check") made)
+    uses = flag_passes (settled rules h).rows ∙ ap not there
+
+    go : (b : Bool) → is_chosen (codes "check") made ≡ b
+        → flag_line h rest ≡ option_and_then (λ (reading : List Choice × Option Text). asked reading.0 reading.1 rest) (begun made (codes "check", None))
+    go true e = rw (st.good, uses, e) refl
+    go false e =
+        rw (st.good, uses, e) (idle_is (more made (codes "check") flag_value) (reacted rules check_built [] h) (record {
+          good = refl;
+          rows = flag_used (settled rules h).rows (there ∙ e) ∙ ap (λ (rows : List Row). rows ++ row CommandLine (codes "check") flag_value ∷ []) st.rows ∙ sym (made_more made (codes "check", flag_value));
+          skip = st.skip;
+        }))
+
 alone_is : (o : Named) (made : List Choice) (h : Held) (rest : List Text) → Stands made h → FromWanting rest → alone_line o h rest ≡ asked made (Some (name_of o)) rest
 alone_is o made h rest st wanting_is =
     ap (λ (b : Bool). if b then line_from (at (option (name_of o)) (record (settled rules h) { pending = Some (name_of o, []) })) rest else None) st.good
@@ -120,9 +147,11 @@ asked_next made word rest l e is = rw (e, is) (go (option_and_then (begun made) 
 long_is : (made : List Choice) (h : Held) (word : Text) (rest : List Text) (n : Text) (v : Option Text) → Which n → Stands made h → FromIdle rest → FromWanting rest
     → bytes_eq word dashes ≡ false → long_of word ≡ Some (n, v)
     → line_from (at idle h) (word ∷ rest) ≡ option_and_then (λ (reading : List Choice × Option Text). asked reading.0 reading.1 rest) (begun made (n, v))
-long_is made h word rest n None (unknown b s t) st idle_is wanting_is e l = at_other idle h word rest (n, None) e l b s t ∙ sym (unknown_waits made n rest b s t)
-long_is made h word rest n (Some v) (unknown b s t) st idle_is wanting_is e l = at_other idle h word rest (n, Some v) e l b s t ∙ rw (unknown_chooses made n v b s t) refl
-long_is made h word rest _ None (known o) st idle_is wanting_is e l = at_alone o idle h word rest e l ∙ alone_is o made h rest st wanting_is
+long_is made h word rest n None (unknown b s t c) st idle_is wanting_is e l = at_other idle h word rest (n, None) e l b s t c ∙ rw c (sym (unknown_waits made n rest b s t))
+long_is made h word rest n (Some v) (unknown b s t c) st idle_is wanting_is e l = at_other idle h word rest (n, Some v) e l b s t c ∙ rw (unknown_chooses made n v b s t) refl
+long_is made h word rest _ None flag st idle_is wanting_is e l = at_flag idle h word rest e l ∙ flag_is made h rest st idle_is
+long_is made h word rest _ (Some v) flag st idle_is wanting_is e l = at_flag_given idle h word rest v e l ∙ rw (unknown_chooses made (codes "check") v refl refl refl) refl
+long_is made h word rest _ None (known o) st idle_is wanting_is e l = at_alone o idle h word rest e l ∙ rw (no_flag o) (alone_is o made h rest st wanting_is)
 long_is made h word rest _ (Some v) (known o) st idle_is wanting_is e l = at_given o idle h word rest v e l ∙ given_is o made h v rest st idle_is
 
 idle_word : (word : Text) (rest : List Text) → FromIdle rest → FromWanting rest → FromIdle (word ∷ rest)

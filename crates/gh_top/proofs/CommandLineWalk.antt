@@ -9,10 +9,10 @@ use Rattle.clap.specs.Faults.{flags_fault, level_fault, settle_fault, turn_fault
 use Rattle.clap.specs.Kinds.{Kinds, or_else}
 use Rattle.clap.specs.Walk.{Held, Row, Rule, Waiting, Walk, bundle_met, finished, has_row, idle, option, positional, nothing_held, reacted, rows_after, settled, subcommand_met, used, walked}
 use Rattle.clap.specs.declared.parser.matches.ValueSource.TheVariants.{CommandLine}
-use Rattle.gh_top.specs.CommandLine.{Text, takes}
+use Rattle.gh_top.specs.CommandLine.{Text, flag_value, takes}
 use Rattle.gh_top.specs.CommandLineParser.{found_replay, passes}
 use Rattle.gh_top.specs.declared.line.Line.{Line}
-use Rattle.gh_top.proofs.CommandLineEnd.{budget_built, end_fails, end_fault, leaf, line_from, list_built, passes_alone, passes_both, rules, seed_built}
+use Rattle.gh_top.proofs.CommandLineEnd.{budget_built, check_built, end_fails, end_fault, leaf, line_from, list_built, passes_alone, passes_both, rules, seed_built}
 use Rattle.gh_top.proofs.CommandLineRows.{row, used_row}
 
 -- `--`
@@ -83,10 +83,28 @@ unfolding walked
 at_end waiting h word rest e = step (at waiting h) word rest ∙ rw (no_subcommand waiting word, e) refl
 
 pub at_other : (waiting : Waiting) (h : Held) (word : Text) (rest : List Text) (p : Text × Option Text) → bytes_eq word dashes ≡ false
-    → long_of word ≡ Some p → bytes_eq (codes "budget") p.0 ≡ false → bytes_eq (codes "seed") p.0 ≡ false → bytes_eq (codes "list") p.0 ≡ false
+    → long_of word ≡ Some p → bytes_eq (codes "budget") p.0 ≡ false → bytes_eq (codes "seed") p.0 ≡ false → bytes_eq (codes "list") p.0 ≡ false → bytes_eq (codes "check") p.0 ≡ false
     → line_from (at waiting h) (word ∷ rest) ≡ None
 unfolding walked
-at_other waiting h word rest p e l b s t = step (at waiting h) word rest ∙ rw (no_subcommand waiting word, e, l, b, s, t) refl
+at_other waiting h word rest p e l b s t c = step (at waiting h) word rest ∙ rw (no_subcommand waiting word, e, l, b, s, t, c) refl
+
+-- `--check`
+abbrev pub flag_line : Held → List Text → Option Line
+flag_line h rest =
+    if passes (settle_fault rules false h) && passes (use_fault false check_built [] (settled rules h).rows) then line_from (at idle (reacted rules check_built [] h)) rest else None
+
+pub at_flag : (waiting : Waiting) (h : Held) (word : Text) (rest : List Text) → bytes_eq word dashes ≡ false
+    → long_of word ≡ Some (codes "check", None) → line_from (at waiting h) (word ∷ rest) ≡ flag_line h rest
+unfolding walked
+at_flag waiting h word rest e l =
+    step (at waiting h) word rest ∙ rw (no_subcommand waiting word, e, l)
+    (ap (λ (b : Bool). if b then line_from (at idle (reacted rules check_built [] h)) rest else None) (passes_alone _ ∙ passes_both _ _))
+
+-- it takes no value
+pub at_flag_given : (waiting : Waiting) (h : Held) (word : Text) (rest : List Text) (v : Text) → bytes_eq word dashes ≡ false
+    → long_of word ≡ Some (codes "check", Some v) → line_from (at waiting h) (word ∷ rest) ≡ None
+unfolding walked
+at_flag_given waiting h word rest v e l = step (at waiting h) word rest ∙ rw (no_subcommand waiting word, e, l) refl
 
 -- `--name=value`
 abbrev pub given_line : Named → Held → Text → List Text → Option Line
@@ -228,25 +246,41 @@ pub trailed_fails : (waiting : Waiting) (h : Held) (words : List Text) → passe
 trailed_fails waiting h [] bad = end_fails (trailed waiting h) bad
 trailed_fails waiting h (word ∷ rest) bad = after_end waiting h word rest
 
+-- ---- a flag
+
+pub flag_passes : (rows : List Row) → passes (use_fault false check_built [] rows) ≡ not (has_row (codes "check") rows)
+flag_passes rows = go (has_row (codes "check") rows) refl
+  where
+    go : (a : Bool) → has_row (codes "check") rows ≡ a → passes (use_fault false check_built [] rows) ≡ not (has_row (codes "check") rows)
+    go true a = rw a refl
+    go false a = rw a refl
+
+pub flag_used : (rows : List Row) → has_row (codes "check") rows ≡ false → used check_built [] rows ≡ rows ++ row CommandLine (codes "check") flag_value ∷ []
+flag_used rows none = used_row (codes "check") flag_value rows none
+
 -- ---- a name
 
 pub data Which : Text → Type 0 where
   known : (o : Named) → Which (name_of o)
-  unknown : {n : Text} → bytes_eq (codes "budget") n ≡ false → bytes_eq (codes "seed") n ≡ false → bytes_eq (codes "list") n ≡ false → Which n
+  flag : Which (codes "check")
+  unknown : {n : Text} → bytes_eq (codes "budget") n ≡ false → bytes_eq (codes "seed") n ≡ false → bytes_eq (codes "list") n ≡ false → bytes_eq (codes "check") n ≡ false → Which n
 
 pub which : (n : Text) → Which n
-which n = go (bytes_eq (codes "budget") n) refl (bytes_eq (codes "seed") n) refl (bytes_eq (codes "list") n) refl
+which n = go (bytes_eq (codes "budget") n) refl (bytes_eq (codes "seed") n) refl (bytes_eq (codes "list") n) refl (bytes_eq (codes "check") n) refl
   where
-    go : (b : Bool) → bytes_eq (codes "budget") n ≡ b → (s : Bool) → bytes_eq (codes "seed") n ≡ s → (t : Bool) → bytes_eq (codes "list") n ≡ t → Which n
-    go true b s is t it = subst Which ((bytes_eq-Decides (codes "budget") n).0 b) (known the_budget)
-    go false b true is t it = subst Which ((bytes_eq-Decides (codes "seed") n).0 is) (known the_seed)
-    go false b false is true it = subst Which ((bytes_eq-Decides (codes "list") n).0 it) (known the_list)
-    go false b false is false it = unknown b is it
+    go : (b : Bool) → bytes_eq (codes "budget") n ≡ b → (s : Bool) → bytes_eq (codes "seed") n ≡ s → (t : Bool) → bytes_eq (codes "list") n ≡ t → (c : Bool) → bytes_eq (codes "check") n ≡ c → Which n
+    go true b s is t it c ic = subst Which ((bytes_eq-Decides (codes "budget") n).0 b) (known the_budget)
+    go false b true is t it c ic = subst Which ((bytes_eq-Decides (codes "seed") n).0 is) (known the_seed)
+    go false b false is true it c ic = subst Which ((bytes_eq-Decides (codes "list") n).0 it) (known the_list)
+    go false b false is false it true ic = subst Which ((bytes_eq-Decides (codes "check") n).0 ic) flag
+    go false b false is false it false ic = unknown b is it ic
 
 -- what is pending fails at a long option, whatever follows
 pub long_fails : (n : Text) (v : Option Text) (waiting : Waiting) (h : Held) (word : Text) (rest : List Text) → Which n → bytes_eq word dashes ≡ false → long_of word ≡ Some (n, v)
     → passes (settle_fault rules false h) ≡ false → line_from (at waiting h) (word ∷ rest) ≡ None
-long_fails n v waiting h word rest (unknown b s t) e l bad = at_other waiting h word rest (n, v) e l b s t
+long_fails n v waiting h word rest (unknown b s t c) e l bad = at_other waiting h word rest (n, v) e l b s t c
+long_fails _ None waiting h word rest flag e l bad = at_flag waiting h word rest e l ∙ rw bad refl
+long_fails _ (Some v) waiting h word rest flag e l bad = at_flag_given waiting h word rest v e l
 long_fails _ None waiting h word rest (known o) e l bad = at_alone o waiting h word rest e l ∙ rw bad refl
 long_fails _ (Some v) waiting h word rest (known o) e l bad = at_given o waiting h word rest v e l ∙ rw bad refl
 

@@ -65,6 +65,14 @@ is_number_of option word =
     let number = digits_value 10 digits in
     is_numeral digits && (nat_lt number (2 ^ 64) && (nat_le option.least number && nat_le number option.most))
 
+-- `--check`, which takes no value: the heap that never frees is run beside the script
+abbrev pub is_flag : Text → Bool
+is_flag name = bytes_eq (codes "check") name
+
+-- what a flag stands for where it is given
+abbrev pub flag_value : Text
+flag_value = codes "true"
+
 -- the option of this name takes the value: `--budget` and `--seed` their numbers, and `--list` any text
 abbrev pub takes : Text → Text → Bool
 takes name value =
@@ -90,6 +98,11 @@ abbrev pub with_choice : List Choice → Text → Text → Option (List Choice)
 with_choice made name value =
     if not (is_chosen name made) && takes name value then Some (made ++ (name, value) ∷ []) else None
 
+-- one flag more, and none a second time
+abbrev pub with_flag : List Choice → Text → Option (List Choice)
+with_flag made name =
+    if not (is_chosen name made) then Some (made ++ (name, flag_value) ∷ []) else None
+
 -- the word is a value: no `--name`, and no hyphen with a letter behind it
 abbrev pub is_value : Text → Bool
 is_value word = not (is_some (long_of word)) && not (is_some (option_and_then (λ letters. slice_get (chars letters) 0) (short_of word)))
@@ -101,10 +114,11 @@ Reading = List Choice × Option Text
 abbrev pub settled : List Choice → Reading
 settled made = (made, None)
 
--- after `--name=value`, or after `--name`, which waits
+-- after `--name=value`, or after `--name`, which waits where it is no flag
 abbrev pub begun : List Choice → Text × Option Text → Option Reading
 begun made (name, Some value) = option_map settled (with_choice made name value)
-begun made (name, None) = Some (made, Some name)
+begun made (name, None) =
+    if is_flag name then option_map settled (with_flag made name) else Some (made, Some name)
 
 -- after one word more
 abbrev pub next : List Choice → Option Text → Text → Option Reading
@@ -134,17 +148,23 @@ abbrev pub list_said : Option Text → Option (List Turn)
 list_said None = Some []
 list_said (Some text) = list_of text
 
--- a replay under a budget, with a seed or none, and a list
-abbrev pub replay_by : Option ℕ → Option ℕ → Option (List Turn) → Option Line
-replay_by (Some turns) drawn (Some list) = Some (line.Replay (record { list = list; seed = drawn }) turns)
-replay_by (Some turns) drawn None = None
-replay_by None drawn list = None
+-- a flag is given where it has this value
+abbrev pub is_given : Option Text → Bool
+is_given None = false
+is_given (Some value) = bytes_eq value flag_value
+
+-- a replay under a budget, with a seed or none, and a list, which is checked or not
+abbrev pub replay_by : Option ℕ → Option ℕ → Option (List Turn) → Bool → Option Line
+replay_by (Some turns) drawn (Some list) check = Some (line.Replay (record { list = list; seed = drawn }) turns check)
+replay_by (Some turns) drawn None check = None
+replay_by None drawn list check = None
 
 -- the replay that the choices ask for, none where the list is none
 abbrev pub replay_of : List Choice → Option Line
 replay_of made =
     replay_by (u64_of (unwrap_or (chosen (codes "budget") made) default_budget))
     (option_and_then u64_of (chosen (codes "seed") made)) (list_said (chosen (codes "list") made))
+    (is_given (chosen (codes "check") made))
 
 -- the line of a subcommand and the words that follow its name
 abbrev pub subcommand_line : Text → List Text → Option Line

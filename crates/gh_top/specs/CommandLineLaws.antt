@@ -1,5 +1,5 @@
 -- What follows from the form of the command line.
-use Rattle.std.specs.Prelude.{◌≡◌, ◌≤◌, ℕ, List, [], ◌∷◌, Some, None, codes}
+use Rattle.std.specs.Prelude.{◌≡◌, ◌≤◌, ℕ, Bool, true, false, List, [], ◌∷◌, Some, None, codes}
 use Rattle.std.specs.List.{AllByRecursion}
 use Rattle.gh_replay.specs.Plan.{Plan, no_plan}
 use Rattle.gh_replay.specs.declared.schedule.Until.TheVariants.{Steps, Marks}
@@ -48,6 +48,14 @@ scheduled_lines =
       100000,
     ) ∷ []
 
+-- lines that are taken and say that the replay is checked, each with its budget
+abbrev pub checked_lines : List (List Text × ℕ)
+checked_lines =
+    (replayed (codes "--check" ∷ []), 50000000)
+    ∷ (replayed (codes "--check" ∷ codes "--" ∷ []), 50000000)
+    ∷ (replayed (codes "--check" ∷ codes "--budget" ∷ codes "7" ∷ []), 7)
+    ∷ (replayed (codes "--budget=7" ∷ codes "--check" ∷ []), 7) ∷ []
+
 -- lines that are refused
 abbrev pub refused_lines : List (List Text)
 refused_lines =
@@ -75,15 +83,19 @@ refused_lines =
     ∷ replayed (codes "--list" ∷ []) ∷ replayed (codes "--list" ∷ codes "0-7" ∷ []) ∷ replayed (codes "--list" ∷ codes "" ∷ []) ∷ replayed (codes "--list=" ∷ [])
     ∷ replayed (codes "--list" ∷ codes "-" ∷ []) ∷ replayed (codes "--list" ∷ codes "--" ∷ codes "0*9" ∷ []) ∷ replayed (codes "--list" ∷ codes "0*9," ∷ [])
     ∷ replayed (codes "--list" ∷ codes "--seed" ∷ codes "1" ∷ []) ∷ replayed (codes "--list" ∷ codes "0*9" ∷ codes "0*9" ∷ [])
-    ∷ replayed (codes "--list" ∷ codes "0*9" ∷ codes "--list" ∷ codes "0*9" ∷ []) ∷ []
+    ∷ replayed (codes "--list" ∷ codes "0*9" ∷ codes "--list" ∷ codes "0*9" ∷ [])
+    ∷ replayed (codes "--check=true" ∷ []) ∷ replayed (codes "--check=" ∷ []) ∷ replayed (codes "--check" ∷ codes "true" ∷ [])
+    ∷ replayed (codes "--check" ∷ codes "--check" ∷ []) ∷ replayed (codes "--budget" ∷ codes "--check" ∷ codes "5" ∷ [])
+    ∷ replayed (codes "--chec" ∷ []) ∷ replayed (codes "-c" ∷ []) ∷ replayed (codes "check" ∷ []) ∷ []
 
 -- each of these lines is read so
 abbrev pub KnownLines : Type 0
 KnownLines =
-    AllByRecursion (λ row. command_line row.0 ≡ Some (Replay no_plan row.1)) taken_lines
-    × AllByRecursion (λ row. command_line row.0 ≡ Some (Replay row.1 row.2)) scheduled_lines
+    AllByRecursion (λ row. command_line row.0 ≡ Some (Replay no_plan row.1 false)) taken_lines
+    × AllByRecursion (λ row. command_line row.0 ≡ Some (Replay row.1 row.2 false)) scheduled_lines
+    × AllByRecursion (λ row. command_line row.0 ≡ Some (Replay no_plan row.1 true)) checked_lines
     × AllByRecursion (λ words. command_line words ≡ None) refused_lines
 
 -- the budget of a line that is taken is in its range
 abbrev pub BudgetIsInRange : Type 0
-BudgetIsInRange = (words : List Text) (plan : Plan) (budget : ℕ) → command_line words ≡ Some (Replay plan budget) → (1 ≤ budget) × (budget ≤ 1000000000)
+BudgetIsInRange = (words : List Text) (plan : Plan) (budget : ℕ) (check : Bool) → command_line words ≡ Some (Replay plan budget check) → (1 ≤ budget) × (budget ≤ 1000000000)

@@ -2,10 +2,10 @@
 use Rattle.std.specs.Prelude.{ℕ, Bool, true, false, List, [], ◌∷◌, Option, Some, None, codes, if◌then◌else◌, option_and_then}
 use Rattle.std.specs.Str.{bytes_eq}
 use Rattle.clap.specs.Words.{App, Kinds, Row, Rule, Shape, fault_of, first_of, new_app, new_rule, one_of, subcommand_of, with_rule, with_subcommand}
-use Rattle.clap.specs.declared.builder.action.ArgAction.TheVariants.{Set}
+use Rattle.clap.specs.declared.builder.action.ArgAction.TheVariants.{Set, SetTrue}
 use Rattle.clap.specs.declared.builder.value_parser.ValueParser.TheVariants as vp
 use Rattle.gh_replay.specs.declared.schedule.Turn.{Turn}
-use Rattle.gh_top.specs.CommandLine.{NumberOption, Text, budget, default_budget, list_said, replay_by, seed, u64_of}
+use Rattle.gh_top.specs.CommandLine.{NumberOption, Text, budget, default_budget, is_given, list_said, replay_by, seed, u64_of}
 use Rattle.gh_top.specs.declared.line.Line.{Line}
 
 -- an option that takes a number
@@ -27,9 +27,16 @@ list_rule = record (new_rule (codes "list")) {
   action = Some Set;
 }
 
+-- the flag `--check`
+abbrev pub check_rule : Rule
+check_rule = record (new_rule (codes "check")) {
+  long = Some (codes "check");
+  action = Some SetTrue;
+}
+
 -- the subcommand `replay` with its options
 abbrev pub replay_shape : Shape
-replay_shape = (with_rule (with_rule (with_rule (new_app (codes "replay")) budget_rule) (number_rule seed)) list_rule).top
+replay_shape = (with_rule (with_rule (with_rule (with_rule (new_app (codes "replay")) budget_rule) (number_rule seed)) list_rule) check_rule).top
 
 -- the command without its subcommands: it requires one, and has no help and no version
 abbrev pub goheap_top : App
@@ -55,9 +62,13 @@ found_number name rows = option_and_then u64_of (one_of name rows)
 abbrev pub found_list : List Row → Option (List Turn)
 found_list rows = list_said (first_of (codes "list") rows)
 
+-- whether the flag was
+abbrev pub found_check : List Row → Bool
+found_check rows = is_given (first_of (codes "check") rows)
+
 -- the replay that was found
 abbrev pub found_replay : List Row → Option Line
-found_replay rows = replay_by (found_number (codes "budget") rows) (found_number (codes "seed") rows) (found_list rows)
+found_replay rows = replay_by (found_number (codes "budget") rows) (found_number (codes "seed") rows) (found_list rows) (found_check rows)
 
 -- the line that a subcommand and what was found for it say
 abbrev pub found_line : Option (Text × List Row) → Option Line

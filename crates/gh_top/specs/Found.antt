@@ -1,9 +1,9 @@
 -- What a call has found before it writes anything.
-use Rattle.std.specs.Prelude.{◌≡◌, ℕ, List, []}
-use Rattle.gh_lines.specs.Text.{outcome_text, refusal_line, turns_line, words_refused_line}
+use Rattle.std.specs.Prelude.{◌≡◌, ℕ, Bool, List, []}
+use Rattle.gh_lines.specs.Text.{refusal_line, turns_line, words_refused_line}
 use Rattle.gh_replay.specs.Plan.{Plan}
 use Rattle.gh_replay.specs.Replayed.{IsReplayed, IsUnfinished}
-use Rattle.gh_replay.specs.Report.{IsReportOf}
+use Rattle.gh_replay.specs.Report.{is_checked, IsReportOf, replay_text}
 use Rattle.gh_script.specs.Program.{Program}
 use Rattle.gh_script.specs.Grammar.{Spells, Refused}
 use Rattle.gh_top.specs.declared.status.Status.{Status}
@@ -12,20 +12,20 @@ use Rattle.gh_top.specs.declared.found.Found.{Found}
 use Rattle.gh_top.specs.declared.found.Found.TheVariants.{BadWords, BadScript, Ran, OutOfTurns, ReadFault, NoMemory}
 use Rattle.gh_top.specs.Outcome.{IsReplay, AreRefused}
 
--- a script that was run is the one that the text spells, run by this schedule and under this budget, and a text that was refused spells none
-abbrev pub MatchesText : Plan → ℕ → List ℕ → Found → Type 0
-MatchesText plan budget text (BadScript f) = Refused text f.line f.why
-MatchesText plan budget text (Ran p report) = Spells text p × IsReplayed p plan budget report.outcome
-MatchesText plan budget text (OutOfTurns n) = (n ≡ budget) × (p : Program) × Spells text p × IsUnfinished p plan budget
-MatchesText plan budget text BadWords = ⊥
-MatchesText plan budget text ReadFault = Unit {0}
-MatchesText plan budget text NoMemory = Unit {0}
+-- a script that was run is the one that the text spells, run by this schedule and under this budget, and checked or not, and a text that was refused spells none
+abbrev pub MatchesText : Plan → ℕ → Bool → List ℕ → Found → Type 0
+MatchesText plan budget check text (BadScript f) = Refused text f.line f.why
+MatchesText plan budget check text (Ran p report) = Spells text p × IsReplayed p plan budget report.outcome × (is_checked report ≡ check)
+MatchesText plan budget check text (OutOfTurns n) = (n ≡ budget) × (p : Program) × Spells text p × IsUnfinished p plan budget
+MatchesText plan budget check text BadWords = ⊥
+MatchesText plan budget check text ReadFault = Unit {0}
+MatchesText plan budget check text NoMemory = Unit {0}
 
 -- what was found is so for the words and the text
 abbrev pub Matches : List (List ℕ) → List ℕ → Found → Type 0
 Matches words text BadWords = AreRefused words
 Matches words text NoMemory = Unit {0}
-Matches words text found = (plan : Plan) × (budget : ℕ) × IsReplay words plan budget × MatchesText plan budget text found
+Matches words text found = (plan : Plan) × (budget : ℕ) × (check : Bool) × IsReplay words plan budget check × MatchesText plan budget check text found
 
 -- a text was read to its end
 abbrev pub IsRead : Found → Type 0
@@ -56,7 +56,7 @@ IsSilent _ = ⊥
 abbrev pub said_of : Found → List ℕ
 said_of BadWords = words_refused_line
 said_of (BadScript f) = refusal_line f.line f.why
-said_of (Ran p report) = outcome_text p report.outcome
+said_of (Ran p report) = replay_text p report.outcome (is_checked report)
 said_of (OutOfTurns n) = turns_line n
 said_of ReadFault = []
 said_of NoMemory = []

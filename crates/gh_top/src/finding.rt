@@ -27,16 +27,30 @@ pub fn find<S: Source>(alloc: Global, words: &[&str], src: &mut S) -> Found
     ensures tellable { IsTellable result }
 {
     match read_line(alloc, words) {
-        Ok(Some(Line::Replay { schedule, budget })) => replay_text(alloc, schedule, budget, src),
+        Ok(
+            Some(
+                Line::Replay {
+                    schedule,
+                    budget,
+                    check,
+                },
+            ),
+        ) => replay_text(alloc, schedule, budget, check, src),
         Ok(None) => Found::BadWords,
         Err(_) => Found::NoMemory,
     }
 }
 
 // Reads, parses and runs by the schedule, under the budget.
-fn replay_text<S: Source>(alloc: Global, schedule: Schedule, budget: u64, src: &mut S) -> Found
-    ensures found { (text : List ℕ) → S.left src.old ≡ Some text → MatchesText schedule budget text result }
-    ensures explained { (text : List ℕ) × MatchesText schedule budget text result }
+fn replay_text<S: Source>(
+    alloc: Global,
+    schedule: Schedule,
+    budget: u64,
+    check: bool,
+    src: &mut S,
+) -> Found
+    ensures found { (text : List ℕ) → S.left src.old ≡ Some text → MatchesText schedule budget check text result }
+    ensures explained { (text : List ℕ) × MatchesText schedule budget check text result }
     ensures read { (text : List ℕ) → S.left src.old ≡ Some text → IsRan result → S.left src.new ≡ Some [] }
     ensures read_fault { result ≡ Found.ReadFault → Rose (S.faults src.old) (S.faults src.new) }
     ensures read_fault_exactly { S.faults src.old < S.faults src.new → result ≡ Found.ReadFault }
@@ -46,15 +60,15 @@ fn replay_text<S: Source>(alloc: Global, schedule: Schedule, budget: u64, src: &
     one_reading();
     script_form();
     match read_up_to(alloc, src, MOST_BYTES + 1) {
-        Ok(text) => run(alloc, schedule, budget, &text),
+        Ok(text) => run(alloc, schedule, budget, check, &text),
         Err(ReadError::Failed) => Found::ReadFault,
         Err(ReadError::NoMemory) => Found::NoMemory,
     }
 }
 
 // Parses the text, and runs its script.
-fn run(alloc: Global, schedule: Schedule, budget: u64, text: &[u8]) -> Found
-    ensures found { MatchesText schedule budget text.now result }
+fn run(alloc: Global, schedule: Schedule, budget: u64, check: bool, text: &[u8]) -> Found
+    ensures found { MatchesText schedule budget check text.now result }
     ensures read { IsRead result }
     ensures tellable { IsTellable result }
 {
@@ -63,7 +77,7 @@ fn run(alloc: Global, schedule: Schedule, budget: u64, text: &[u8]) -> Found
         Err(ParseError::Script(fault)) => return Found::BadScript(fault),
         Err(ParseError::NoMemory) => return Found::NoMemory,
     };
-    match replay(alloc, &script, schedule, budget) {
+    match replay(alloc, &script, schedule, budget, check) {
         Ok(report) => Found::Ran(script, report),
         Err(ReplayFault::OutOfTurns(turns)) => Found::OutOfTurns(turns),
         Err(ReplayFault::NoMemory) => Found::NoMemory,

@@ -1,7 +1,7 @@
 //! What the command line asks for.
 ghost use Rattle.std.specs.Prelude.{◌≡◌, IfOk, codes, false, option_map};
 ghost use Rattle.gh_top.specs.CommandLine.{command_line, texts};
-ghost use Rattle.gh_top.specs.CommandLineParser.{budget_rule, found_line, found_list, found_number};
+ghost use Rattle.gh_top.specs.CommandLineParser.{budget_rule, check_rule, found_check, found_line, found_list, found_number};
 ghost use Rattle.gh_top.specs.CommandLineParser.{found_replay, goheap_app, list_rule, number_rule, replay_shape};
 ghost use Rattle.clap.specs.Words.{app_of, found_of, rows_of, rule_of, shape_of, subcommand_rows_of};
 ghost use Rattle.clap.specs.declared.builder.command.Command.TheViews.{out-Command as fields_of};
@@ -22,12 +22,14 @@ pub enum Line {
         /// How many turns a run may take: 1 to 1,000,000,000, and 50,000,000 where the words say
         /// nothing.
         budget: u64,
+        /// The heap that never frees is run beside the script.
+        check: bool,
     },
 }
 
 /// What the words ask for, the first of them the program's name: none where the command does not
-/// take them. It takes `replay`, with at most one each of `--seed n`, `--list text` and `--budget n`, in any
-/// order, or `--seed=n` and so on, where `n` is decimal digits after at most one plus sign and `text` spells
+/// take them. It takes `replay`, with at most one each of `--seed n`, `--list text`, `--budget n` and `--check`,
+/// in any order, or `--seed=n` and so on, where `n` is decimal digits after at most one plus sign and `text` spells
 /// a list ([`parse_list`]); one `--` may end the line. A request for help or for the version is refused
 /// like any other word. The only error is want of memory.
 pub fn read_line(alloc: Global, words: &[&str]) -> Result<Option<Line>, AllocError>
@@ -67,10 +69,11 @@ fn replay_in(alloc: Global, found: &ArgMatches<'_>) -> Result<Option<Line>, Allo
         None => return Ok(None),
     };
     match list_in(alloc, found)? {
-        Some(list) => {
-            let schedule = Schedule { list, seed };
-            Ok(Some(Line::Replay { schedule, budget }))
-        }
+        Some(list) => Ok(Some(Line::Replay {
+            schedule: Schedule { list, seed },
+            budget,
+            check: check_in(found),
+        })),
         None => Ok(None),
     }
 }
@@ -82,6 +85,16 @@ fn list_in(alloc: Global, found: &ArgMatches<'_>) -> Result<Option<Vec<Turn>>, A
     match found.get_str("list") {
         Some(text) => parse_list(alloc, text),
         None => Ok(Some(Vec::new(alloc))),
+    }
+}
+
+// The matches of `replay` have the flag `--check`.
+fn check_in(found: &ArgMatches<'_>) -> bool
+    ensures { result ≡ found_check (rows_of (found_of found.now)) }
+{
+    match found.get_str("check") {
+        Some(value) => value == "true",
+        None => false,
     }
 }
 
@@ -114,7 +127,8 @@ fn replay_command<'a>(alloc: Global) -> Result<Command<'a>, AllocError>
     let command = Command::new(alloc, "replay")
         .arg(budget_option(alloc))?
         .arg(number_option(alloc, "seed", 0, u64::MAX))?
-        .arg(list_option(alloc))?;
+        .arg(list_option(alloc))?
+        .arg(check_option(alloc))?;
     Ok(command)
 }
 
@@ -132,6 +146,16 @@ fn list_option<'a>(alloc: Global) -> Arg<'a>
     ensures local { result.global ≡ false }
 {
     Arg::new(alloc, "list").long("list").action(ArgAction::Set)
+}
+
+// The flag `--check`.
+fn check_option<'a>(alloc: Global) -> Arg<'a>
+    ensures rule { rule_of result ≡ check_rule }
+    ensures local { result.global ≡ false }
+{
+    Arg::new(alloc, "check")
+        .long("check")
+        .action(ArgAction::SetTrue)
 }
 
 // An option `--name n` of a number from `least` to `most`.

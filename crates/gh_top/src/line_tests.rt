@@ -3,12 +3,18 @@ use super::*;
 use gh_replay::{Turn, Until};
 use std::test::Fail;
 
-/// What a line asks for: the items of its list, its seed and its budget.
-type Asked = (Vec<Turn>, Option<u64>, u64);
+/// What a line asks for: the items of its list, its seed and its budget, and whether it is checked.
+type Asked = (Vec<Turn>, Option<u64>, u64, bool);
 
 fn asked(rt: &HostRuntime, words: &[&str]) -> Result<Option<Asked>, Fail> {
     match read_line(rt.alloc(), words)? {
-        Some(Line::Replay { schedule, budget }) => Ok(Some((schedule.list, schedule.seed, budget))),
+        Some(
+            Line::Replay {
+                schedule,
+                budget,
+                check,
+            },
+        ) => Ok(Some((schedule.list, schedule.seed, budget, check))),
         None => Ok(None),
     }
 }
@@ -34,7 +40,7 @@ fn each_line_asks_for_its_budget(rt: HostRuntime) -> Result<(), Fail> {
         let line = asked(&rt, words)?;
         assert_eq!(rt;
             line,
-            Some((Vec::new(rt.alloc()), None, budget)),
+            Some((Vec::new(rt.alloc()), None, budget, false)),
             "{words:?}"
         );
     }
@@ -103,7 +109,25 @@ fn each_line_asks_for_its_schedule(rt: HostRuntime) -> Result<(), Fail> {
         let line = asked(&rt, words)?;
         assert_eq!(rt;
             line,
-            Some((list.to_vec(rt.alloc())?, seed, budget)),
+            Some((list.to_vec(rt.alloc())?, seed, budget, false)),
+            "{words:?}"
+        );
+    }
+    Ok(())
+}
+
+#[test]
+fn each_line_asks_for_its_check(rt: HostRuntime) -> Result<(), Fail> {
+    let rows: [(&[&str], u64); 3] = [
+        (&["goheap", "replay", "--check"], 50_000_000),
+        (&["goheap", "replay", "--check", "--budget", "7", "--"], 7),
+        (&["goheap", "replay", "--budget=7", "--check"], 7),
+    ];
+    for (words, budget) in rows {
+        let line = asked(&rt, words)?;
+        assert_eq!(rt;
+            line,
+            Some((Vec::new(rt.alloc()), None, budget, true)),
             "{words:?}"
         );
     }
@@ -112,7 +136,7 @@ fn each_line_asks_for_its_schedule(rt: HostRuntime) -> Result<(), Fail> {
 
 #[test]
 fn each_other_line_is_refused(rt: HostRuntime) -> Result<(), Fail> {
-    let rows: [&[&str]; 40] = [
+    let rows: [&[&str]; 44] = [
         &[],
         &["goheap"],
         &["goheap", "run"],
@@ -155,6 +179,10 @@ fn each_other_line_is_refused(rt: HostRuntime) -> Result<(), Fail> {
         &["goheap", "replay", "--list", "--", "0*9"],
         &["goheap", "replay", "--list", "--seed", "1"],
         &["goheap", "replay", "--list", "0*9", "--list", "0*9"],
+        &["goheap", "replay", "--check", "--check"],
+        &["goheap", "replay", "--check=true"],
+        &["goheap", "replay", "--check", "true"],
+        &["goheap", "replay", "--budget", "--check", "5"],
     ];
     for words in rows {
         let line = asked(&rt, words)?;

@@ -4,8 +4,7 @@ ghost use Rattle.std.specs.Prelude.{◌≡◌, ◌≤◌, IsOk, OnOk, OnErr};
 ghost use Rattle.std.specs.Io.KnownBytes.{Appends};
 ghost use Rattle.gh_io.specs.Counts.{Rose};
 ghost use Rattle.gh_io.specs.Streams.{TookPart};
-ghost use Rattle.gh_lines.specs.Text.{outcome_text};
-ghost use Rattle.gh_replay.specs.Report.{IsReportOf};
+ghost use Rattle.gh_replay.specs.Report.{is_checked, IsReportOf, replay_text};
 ghost use Rattle.gh_top.specs.Found.{IsTellable, IsSilent, said_of, status_of};
 
 use crate::found::Found;
@@ -64,8 +63,8 @@ pub fn say<K: Sink>(found: &Found, out: &mut K) -> Result<(), Failed>
 // The lines of the report, each as one piece.
 fn say_report<K: Sink>(out: &mut K, script: &Script, report: &Report) -> Result<(), Failed>
     requires { IsReportOf script.now report.now }
-    ensures ok { OnOk result (Appends (K.taken out.old) (K.taken out.new) (outcome_text script.now report.now.outcome)) }
-    ensures part { OnErr result (TookPart (K.taken out.old) (K.taken out.new) (outcome_text script.now report.now.outcome)) }
+    ensures ok { OnOk result (Appends (K.taken out.old) (K.taken out.new) (replay_text script.now report.now.outcome (is_checked report.now))) }
+    ensures part { OnErr result (TookPart (K.taken out.old) (K.taken out.new) (replay_text script.now report.now.outcome (is_checked report.now))) }
     ensures failed { OnErr result (Rose (K.faults out.old) (K.faults out.new)) }
     ensures no_fault { OnOk result (K.faults out.new ≡ K.faults out.old) }
     ensures never_falls { K.faults out.old ≤ K.faults out.new }

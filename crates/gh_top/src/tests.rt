@@ -311,3 +311,41 @@ fn a_schedule_says_who_steps(rt: HostRuntime) -> Result<(), Fail> {
     assert_eq!(rt; taken.as_slice(), b"turns 1000\n".as_slice());
     Ok(())
 }
+
+#[test]
+fn a_check_adds_one_line(rt: HostRuntime) -> Result<(), Fail> {
+    // settings and goroutines, their lines parted by `|`, what stands behind the flag, and the lines
+    let rows: [(&str, &[&str], &str); 3] = [
+        (
+            "procs 1|type node pn|go a|new r0 node|int r1 7|store r0 1 r1|load r2 r0 1|end",
+            &["goheap", "replay", "--check"],
+            "a 1 ref a.0|a 4 int 7|cycle 1 marked 0 freed 1|live 0 bytes 0|agrees|",
+        ),
+        (
+            "procs 1|type node pn|go a|new r0 node|gstore 0 r0|new r1 node|store r0 0 r1|nil r1|nil r0|gc|gload r0 0|load r1 r0 0|end",
+            &["goheap", "replay", "--check"],
+            "a 1 ref a.0|a 3 ref a.1|a 7 swept|a 8 ref a.0|a 9 ref a.1|cycle 1 marked 2 freed 0|cycle 2 marked 2 freed 0|live 2 bytes 32|agrees|",
+        ),
+        // The stack of one goroutine is scanned, which then loads an object that another drops.
+        (
+            "procs 3|type node pn|go a|new r0 node|gstore 0 r0|new r1 node|store r0 0 r1|int r2 9|store r1 1 r2|nil r1|store r0 0 r3|end|go b|nil r5|gload r0 0|load r1 r0 0|gc|load r2 r1 1|end|go c|gc|end",
+            &[
+                "goheap",
+                "replay",
+                "--check",
+                "--list",
+                "0@7,2*2,4@1,0*9,1*9,2*9,3*9,4@2,1@3,0@8",
+            ],
+            "a 1 ref a.0|a 3 ref a.1|b 2 ref a.0|b 3 ref a.1|b 4 swept|b 5 int 9|c 1 swept|cycle 1 marked 2 freed 0|cycle 2 marked 2 freed 0|cycle 3 marked 1 freed 1|live 1 bytes 16|agrees|",
+        ),
+    ];
+    for (goroutines, words, lines) in rows {
+        let text = format!(in rt.alloc(); "workers 1|arena 16|globals 1|gogc 0|{goroutines}")?;
+        let text = text.replace(rt.alloc(), "|", "\n")?;
+        let lines = lines.replace(rt.alloc(), "|", "\n")?;
+        let (status, taken) = outcome(&rt, words, &text, &[], 1000, &[])?;
+        assert_eq!(rt; status.code(), 0, "{goroutines}");
+        assert_eq!(rt; taken.as_slice(), lines.as_bytes(), "{goroutines}");
+    }
+    Ok(())
+}

@@ -21,22 +21,22 @@ returns-in-Ok-clause-explained g c = λ tells. (
 )
 
 pub returns-in-Ok-clause-bad_script_exactly : goal.returns-in-Ok-clause-bad_script_exactly
-returns-in-Ok-clause-bad_script_exactly g c = λ text plan budget line why told replay refused read wrote.
+returns-in-Ok-clause-bad_script_exactly g c = λ text plan budget check line why told replay refused read wrote.
     subst (λ s. (s ≡ BadScript) ⊎ (s ≡ NoMemory)) (sym c.ending.ensures)
-    (refused-ends c.one_reading.ensures.not_both (texts c.args.words.now) text plan budget line why c.find-found.result (c.find-found.ensures.found text told) (λ e. read (c.find-found.ensures.read_fault e)) replay refused)
+    (refused-ends c.one_reading.ensures.not_both (texts c.args.words.now) text plan budget line check why c.find-found.result (c.find-found.ensures.found text told) (λ e. read (c.find-found.ensures.read_fault e)) replay refused)
 
 pub returns-in-Ok-clause-complete : goal.returns-in-Ok-clause-complete
-returns-in-Ok-clause-complete g c = λ text plan budget p told replay spelled read wrote.
+returns-in-Ok-clause-complete g c = λ text plan budget check p told replay spelled read wrote.
     subst (λ s. (s ≡ Ok) ⊎ (s ≡ OutOfTurns) ⊎ (s ≡ NoMemory)) (sym c.ending.ensures)
-    (spelled-ends c.one_reading.ensures.not_both (texts c.args.words.now) text plan budget p c.find-found.result (c.find-found.ensures.found text told) (λ e. read (c.find-found.ensures.read_fault e)) replay spelled)
+    (spelled-ends c.one_reading.ensures.not_both (texts c.args.words.now) text plan budget check p c.find-found.result (c.find-found.ensures.found text told) (λ e. read (c.find-found.ensures.read_fault e)) replay spelled)
 
 pub returns-in-Ok-clause-ok_exactly : goal.returns-in-Ok-clause-ok_exactly
-returns-in-Ok-clause-ok_exactly g c = λ text plan budget p outcome told replay spelled replayed e.
-    replayed-tells c.one_reading.ensures.one_script c.one_outcome.ensures.not_both (texts c.args.words.now) text plan budget p outcome c.find-found.result (c.find-found.ensures.found text told) replay spelled replayed (sym c.ending.ensures ∙ e)
+returns-in-Ok-clause-ok_exactly g c = λ text plan budget check p outcome told replay spelled replayed e.
+    replayed-tells c.one_reading.ensures.one_script c.one_outcome.ensures.not_both (texts c.args.words.now) text plan budget check p outcome c.find-found.result (c.find-found.ensures.found text told) replay spelled replayed (sym c.ending.ensures ∙ e)
 
 pub returns-in-Ok-clause-out_of_turns_exactly : goal.returns-in-Ok-clause-out_of_turns_exactly
-returns-in-Ok-clause-out_of_turns_exactly g c = λ text plan budget p told replay spelled unfinished e.
-    unfinished-tells c.one_reading.ensures.one_script c.one_outcome.ensures.not_both (texts c.args.words.now) text plan budget p c.find-found.result (c.find-found.ensures.found text told) replay spelled unfinished (sym c.ending.ensures ∙ e)
+returns-in-Ok-clause-out_of_turns_exactly g c = λ text plan budget check p told replay spelled unfinished e.
+    unfinished-tells c.one_reading.ensures.one_script c.one_outcome.ensures.not_both (texts c.args.words.now) text plan budget check p c.find-found.result (c.find-found.ensures.found text told) replay spelled unfinished (sym c.ending.ensures ∙ e)
 
 pub returns-clause-write_part : goal.returns-clause-write_part
 returns-clause-write_part g c = λ text told same. (
