@@ -10,8 +10,15 @@ set -eu
 . "$(dirname "$0")/timing.sh"
 programs=("$program" "${@:2}")
 
-# The scripts: what each turns on most, and its text.
-names=(statements globals fields small large full)
+# The scripts: what each turns on most, and its text. The last two have the same goroutines, on the fewest actors that there are, which
+# are a processor, a worker and the coordinator, and on 13: 8 processors, 4 workers and the coordinator.
+names=(statements globals fields small large full collected processors actors3 actors13)
+
+# Goroutines that run statements on registers: how many, and how often each.
+registers() {
+  local g
+  for g in $(seq "$1"); do printf 'go g%d\nrepeat %d\nint r0 1\nmove r1 r0\nnil r2\nend\nend\n' "$g" "$2"; done
+}
 says() {
   case $1 in
     statements) printf 'arena 16\ntype t n\ngo a\nrepeat 66666\nint r0 1\nmove r1 r0\nnil r2\nend\nend\n' ;;
@@ -23,6 +30,11 @@ says() {
     large) printf 'arena 1024\ntype big n*65536\ngo a\nrepeat 15\nnew r0 big\nend\nend\n' ;;
     # new objects of two words, where after the first 8,192 of them no slot is left, and each passes over all spans
     full) printf 'arena 16\ntype node pn\ngo a\nrepeat 12000\nnew r0 node\nend\nend\n' ;;
+    # a heap that is collected again and again
+    collected) printf 'arena 16\ntype node pn\ngo a\nrepeat 2000\nnew r0 node\ngc\nend\nend\n' ;;
+    processors) printf 'arena 16\nprocs 4\ntype t n\n' && registers 4 16666 ;;
+    actors3) printf 'arena 16\nprocs 1\nworkers 1\ntype t n\n' && registers 8 8333 ;;
+    actors13) printf 'arena 16\nprocs 8\nworkers 4\ntype t n\n' && registers 8 8333 ;;
   esac
 }
 
