@@ -44,6 +44,9 @@
 //! buffer that is held, one for each shade; the poll before the statement sees to that. It makes eight steps at the
 //! most.
 //!
+//! That the two shades are enough is proved in `gh_tri`, of a picture of a heap; `gh_marks` shows that each state of
+//! marking has such a picture.
+//!
 //! This is the hybrid write barrier of proposal 17503 and of Go's `mbarrier.go`. Go keeps the two pointers in a
 //! buffer (`mwbbuf.go`) and shades them later, before the next safe point; here each is shaded at once.
 #![tactic(auto)]

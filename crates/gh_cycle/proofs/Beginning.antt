@@ -11,7 +11,6 @@ use Rattle.gh_model.specs.Ever.{from_field, from_global, from_register}
 use Rattle.gh_heap.specs.Objects.{IsMade}
 use Rattle.gh_marks.specs.Colours.{Extents, Untouched, White}
 use Rattle.gh_marks.specs.Ends.{Opens}
-use Rattle.gh_marks.specs.Picture.{LieInHeap}
 use Rattle.gh_cycle.specs.Marked.{OpenedRegistersFit}
 use Rattle.gh_cycle.specs.Opening.{CyclesOpen, OpenedHeapsAreAtRest, IsAtRest, IsCycleOf, IsOpened, reference_of, register_of}
 use Rattle.gh_cycle.specs.Reached.{Decided, IsBounded, IsReachedAt, PlacesAreDecided, TheReachedWereMade}
@@ -128,23 +127,6 @@ module _ (z : Cycle) (h : Heap) (g : Good z.arena (view h)) (b : IsBounded z.are
   ended : (j c : ℕ) → h.words (cell.Scanned j) ≡ END → register_of h j c ≡ 0
   ended j c e = rw (rest.over j e) refl
 
-  opens : Opens z marking
-  opens = record {
-    marks = rest.marks;
-    white = λ o. refl;
-    buffers = rest.buffers;
-    filled = λ i. refl;
-    cursor = rest.cursor;
-    untouched = λ i. refl;
-    passed = λ a. refl;
-    scanned = rest.scanned;
-    over = ended;
-    placed = λ o known. let w = (d.tells o).0 known in subst (λ (a : ℕ). row_bit (alloc_words h.words) a ≡ 1) w.2 (g.reached w.0 w.1).set;
-    fields = fields-since z.arena h g b made marking of-heap;
-    globals = globals;
-    registers = registers-since z.arena h g b made marking of-heap;
-  }
-
   -- each object of the cycle has a slot, and that lies in the heap
   abbrev InHeap : (o size : ℕ) → Type 0
   InHeap o size = (o < 1024 * z.arena.layout.pages) × (size ≤ 1024 * z.arena.layout.pages)
@@ -165,14 +147,27 @@ module _ (z : Cycle) (h : Heap) (g : Good z.arena (view h)) (b : IsBounded z.are
             (omega (arith, first.1, within), omega (arith, last.0, last.1, ne.1, within))
       ]
 
-  lie : LieInHeap z marking
-  lie = record {
+  opens : Opens z marking
+  opens = record {
+    marks = rest.marks;
+    white = λ o. refl;
+    buffers = rest.buffers;
+    filled = λ i. refl;
+    cursor = rest.cursor;
+    untouched = λ i. refl;
+    passed = λ a. refl;
+    scanned = rest.scanned;
+    over = ended;
     below = λ o known. let w = (d.tells o).0 known in subst (λ (a : ℕ). a < 1024 * z.arena.layout.pages) w.2 (in-heap w.0 w.1).0;
     sizes = λ o known. let w = (d.tells o).0 known in subst (λ (a : ℕ). extents.size a ≤ 1024 * z.arena.layout.pages) w.2 (subst (λ (m : ℕ). m ≤ 1024 * z.arena.layout.pages) (sym (of-heap.size w.0 w.1)) (in-heap w.0 w.1).1);
+    placed = λ o known. let w = (d.tells o).0 known in subst (λ (a : ℕ). row_bit (alloc_words h.words) a ≡ 1) w.2 (g.reached w.0 w.1).set;
+    fields = fields-since z.arena h g b made marking of-heap;
+    globals = globals;
+    registers = registers-since z.arena h g b made marking of-heap;
   }
 
   opened : IsOpened z h
-  opened = record { marking = marking; of_heap = of-heap; registers = λ j c. refl; opens = opens; in_heap = lie }
+  opened = record { marking = marking; of_heap = of-heap; registers = λ j c. refl; opens = opens }
 
 pub cycles-open : PlacesAreDecided → TheReachedWereMade → TheHeapIsApart → CyclesOpen
 cycles-open places made apart z h g b rest = opened z h g b rest made apart (places z.arena h b)

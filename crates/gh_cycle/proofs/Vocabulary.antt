@@ -2,7 +2,7 @@
 pub use Rattle.std.proofs.lemmas.Bool.Decides.{eqb_tells, nat_tests}
 pub use Rattle.gh_model.specs.Ever.{field_count, next_name, same_name, with_end, with_object, with_register}
 pub use Rattle.gh_heap.specs.Moves.{IsReached, Runs, update, update_at}
-pub use Rattle.gh_marks.specs.Colours.{Black, IsSafe, mark_of, rows}
+pub use Rattle.gh_marks.specs.Colours.{Black, mark_of}
 pub use Rattle.gh_marks.specs.Seats.{Hands, InHand}
 pub use Rattle.gh_cycle.specs.Beside.{ClaimsSlot, FillsNone, IsBeside, IsOfCycle}
 pub use Rattle.gh_cycle.specs.Known.{Known}

@@ -10,12 +10,11 @@ use Rattle.gh_base.specs.Steps.{effect}
 use Rattle.gh_model.specs.Ever.{next_name, with_end, with_field, with_global, with_object, with_register}
 use Rattle.gh_model.specs.declared.EverValue.TheVariants as values
 use Rattle.gh_heap.specs.Moves as heap
-use Rattle.gh_marks.specs.Colours.{IsClean, IsSafe, rows}
+use Rattle.gh_marks.specs.Colours.{IsClean}
 use Rattle.gh_marks.specs.Good.{Good as MarkingGood}
 use Rattle.gh_marks.specs.Moves as marks
 use Rattle.gh_marks.specs.Seats.{Hands, InHand}
 use Rattle.gh_cycle.specs.Beside.{FillsNone, IsBeside}
-use Rattle.gh_cycle.specs.Opening.{reference_of}
 use Rattle.gh_cycle.specs.Reached.{IsBounded}
 use Rattle.gh_cycle.specs.Vocabulary.{Arena, Cycle, Ever, EverValue, Good, Heap, IsMarked, mark_words, Marking, Name, Placing, points, shape_for, size_for, view}
 
@@ -53,10 +52,10 @@ pub data TakesFrom (z : Arena) (e : Ever) (g : ℕ) : (value : EverValue) → Ty
   from_field : (r : ℕ) (n : Name) (k : ℕ) → r < REGISTERS → e.register g r ≡ values.Ref n → k < size_for z.shapes e.type_of n → (points z.shapes e.type_of n k ≡ true → (shape_for z.shapes e.type_of n).noscan ≡ false) → TakesFrom z e g (e.field n k)
   from_global : (k : ℕ) → k < z.layout.globals → TakesFrom z e g (e.global k)
 
--- What marking asks of a step of this seat that does so. It writes no word that marking reads, save by the deed: the end of a goroutine is its stack's word, an object is its alloc bit, set where its mark was set before, and a pointer is written behind the write barrier. A register takes what its goroutine can see, and what is marked or protected if its stack is scanned.
+-- What marking asks of a step of this seat that does so. It writes no word that marking reads, save by the deed: the end of a goroutine is its stack's word, an object is its alloc bit, set where its mark was set before, and a pointer is written behind the write barrier. A register takes what its goroutine can see.
 abbrev pub MeetsByDeed : Cycle → (a : ℕ) → Heap → Marking → Ask → Deed → Type 0
 MeetsByDeed z a h s step Rests = marks.IsQuiet s step × FillsNone a s
-MeetsByDeed z a h s step (Sets g d value) = marks.IsQuiet s step × FillsNone a s × heap.Runs z.arena (view h) a g × (d < REGISTERS) × TakesFrom z.arena h.ever g value × (s.words (cell.Scanned g) ≡ z.number → IsSafe z.arena.layout.globals (rows s) (reference_of h.place value))
+MeetsByDeed z a h s step (Sets g d value) = marks.IsQuiet s step × FillsNone a s × heap.Runs z.arena (view h) a g × (d < REGISTERS) × TakesFrom z.arena h.ever g value
 MeetsByDeed z a h s step (Ends g) = (step ≡ ask.Store (cell.Scanned g) END) × FillsNone a s × heap.Runs z.arena (view h) a g
 MeetsByDeed z a h s step (Makes at g d t) = (step ≡ ask.Or (cell.Alloc (at / 64)) (2 ^ (at % 64))) × (s.colour at ≡ Placing a) × heap.MayMake z.arena (view h) a at g d t
 MeetsByDeed z a h s step (Puts n k value word) = (step ≡ ask.Store (cell.Field (h.place n + k)) word) × FillsNone a s × heap.MayWrite z.arena (view h) a n k value word × (points z.arena.shapes h.ever.type_of n k ≡ true → IsClean (mark_words s.words) (field_words h.words (h.place n + k)) × IsClean (mark_words s.words) word)

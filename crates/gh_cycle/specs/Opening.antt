@@ -14,7 +14,6 @@ use Rattle.gh_heap.specs.Rights.{Shared as Heap}
 use Rattle.gh_marks.specs.Colours.{Cycle}
 use Rattle.gh_marks.specs.Colours.{Shared as Marking}
 use Rattle.gh_marks.specs.Ends.{Opens}
-use Rattle.gh_marks.specs.Picture.{LieInHeap}
 use Rattle.gh_cycle.specs.Reached.{IsBounded, IsReachedAt}
 
 -- The words as they are where the cycle of this number begins: no mark is set, no buffer is held or filled, the cursor is at the first global, and the word of each stack is that of a cycle before, or says that its goroutine has ended.
@@ -57,7 +56,6 @@ pub record IsOpened (z : Cycle) (h : Heap) : Type 0 where
   pub of_heap : IsCycleOf z.arena h marking
   pub registers : RegistersAre h marking
   pub opens : Opens z marking
-  pub in_heap : LieInHeap z marking
 
 abbrev pub CyclesOpen : Type 0
 CyclesOpen = (z : Cycle) (h : Heap) → Good z.arena (view h) → IsBounded z.arena h.ever → IsAtRest z.arena z.number h → IsOpened z h

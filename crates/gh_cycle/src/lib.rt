@@ -14,8 +14,7 @@
 //!   back spans. What a script reaches is of the cycle still, and each object of the cycle that stands has the
 //!   words of its type; so each step over the heap is made of moves of marking, if the processor keeps to the
 //!   write barrier, marks a slot before it makes the object there, and takes into a register only what its
-//!   goroutine can see, and into a scanned stack only what is marked or protected. That is enough for the end:
-//!   what a script reaches then is marked.
+//!   goroutine can see. That is enough for the end: what a script reaches then is marked.
 //! * **Where marking ends**, each object that a script reaches is marked, since a path of names is a path of
 //!   words; and a marked word is that of an object which a script reached where the cycle began, or which was made
 //!   since (`since`). So what was lost by then is not marked; what a script lost later may be.

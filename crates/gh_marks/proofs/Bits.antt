@@ -1,26 +1,18 @@
 -- Bits of the rows once one of them is set, and what is said of marks then.
-use Rattle.std.proofs.Common.{◌≡◌, ◌≢◌, ℕ, Bool, true, false, refl, sym, ◌∙◌, arith, inl, inr, ◌⊎◌}
+use Rattle.std.proofs.Common.{◌≡◌, ◌≢◌, ℕ, Bool, true, false, refl, sym, ◌∙◌, arith, inl, inr}
 use Rattle.std.proofs.lemmas.Bool.Decides.{eqb_tells}
 use Rattle.gh_base.specs.Cells.{Words}
 use Rattle.gh_base.specs.Rows.{Row, RowsAreWritten, alloc_words, mark_words, row_bit}
 use Rattle.gh_heap.specs.Moves.{update}
-use Rattle.gh_marks.specs.Colours.{Black, Buffered, Colour, IsClean, IsGrey, IsMarked, IsShaded, Pending, Placing, Taken, White, mark_of}
+use Rattle.gh_marks.specs.Colours.{Black, Buffered, Colour, IsClean, IsMarked, Pending, Placing, Taken, White, mark_of}
 use Rattle.gh_marks.specs.Good.{MarksGood}
 use Rattle.gh_marks.specs.Moves.{set_alloc, set_mark}
 
-pub one-zero : {P : Type 0} {n : ℕ} → n ≡ 1 → n ≡ 0 → P
+one-zero : {P : Type 0} {n : ℕ} → n ≡ 1 → n ≡ 0 → P
 one-zero e f = absurd (omega arith)
 
 pub two-ways : {P : Type 0} {b : Bool} → b ≡ true → b ≡ false → P
 two-ways e f = let clash : true ≡ false = sym e ∙ f in cc
-
--- by the colour a mark bit is 0 or 1
-mark_of_two : (c : Colour) → (mark_of c ≡ 0) ⊎ (mark_of c ≡ 1)
-mark_of_two White = inl refl
-mark_of_two _ = inr refl
-
-pub bits-of : (mark : Row) (colour : ℕ → Colour) → MarksGood mark colour → (o : ℕ) → (row_bit mark o ≡ 0) ⊎ (row_bit mark o ≡ 1)
-bits-of mark colour g o = elim (mark_of_two (colour o)) [ inl e ↦ inl (g o ∙ e) | inr e ↦ inr (g o ∙ e) ]
 
 pub white-colour : (mark : Row) (colour : ℕ → Colour) → MarksGood mark colour → (o : ℕ) → row_bit mark o ≡ 0 → colour o ≡ White
 white-colour mark colour g o zero = go (colour o) refl (sym (g o) ∙ zero) where
@@ -32,32 +24,18 @@ white-colour mark colour g o zero = go (colour o) refl (sym (g o) ∙ zero) wher
   go (Taken a) e f = one-zero refl f
   go Black e f = one-zero refl f
 
-pub grey-shaded : (c : Colour) → IsGrey c → IsShaded c
-grey-shaded (Pending a) h = tt
-grey-shaded (Buffered b j) h = tt
-grey-shaded (Taken a) h = tt
-grey-shaded _ h = absurd h
-
-pub shaded-mark : (c : Colour) → IsShaded c → mark_of c ≡ 1
-shaded-mark White h = absurd h
-shaded-mark (Placing a) h = absurd h
-shaded-mark _ h = refl
-
 pub clean-grows : (m n : Row) (v : ℕ) → ((o : ℕ) → IsMarked m o → IsMarked n o) → IsClean m v → IsClean n v
 clean-grows m n v grow h o e = grow o (h o e)
-
-pub clean-nil : (m : Row) (v : ℕ) → v ≡ 0 → IsClean m v
-clean-nil m v e o h = absurd (omega arith)
 
 -- an object moves among the colours of one mark bit
 pub marked-again : (mark : Row) (colour : ℕ → Colour) (o : ℕ) (c : Colour) → mark_of c ≡ mark_of (colour o) → MarksGood mark colour → MarksGood mark (update colour o c)
 marked-again mark colour o c h g p = elim (eqb_tells o p) [ inl y ↦ rw (y.0, ← y.1) (g o ∙ sym h) | inr n ↦ rw (n.0) (g p) ]
 
 module _ (k : RowsAreWritten) (w : Words) (o : ℕ) where
-  pub mark-same : IsMarked (mark_words (set_mark w o)) o
+  mark-same : IsMarked (mark_words (set_mark w o)) o
   mark-same = k.sets_one (mark_words w) o
 
-  pub mark-other : (p : ℕ) → o ≢ p → row_bit (mark_words (set_mark w o)) p ≡ row_bit (mark_words w) p
+  mark-other : (p : ℕ) → o ≢ p → row_bit (mark_words (set_mark w o)) p ≡ row_bit (mark_words w) p
   mark-other p ne = k.sets_no_other (mark_words w) o p ne
 
   pub alloc-same : row_bit (alloc_words (set_alloc w o)) o ≡ 1

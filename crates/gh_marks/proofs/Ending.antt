@@ -1,21 +1,19 @@
--- The end of marking: where nothing is left each object that a path leads to is marked, and what is dead is white.
+-- The end of marking: what the coordinator finds, and that what is dead is white.
 use Rattle.std.proofs.Common.{◌≡◌, ℕ, zero, suc, ◌+◌, ◌%◌, ◌<◌, ◌≤◌, Bool, true, false, arith, refl, sym, ◌∙◌, ap, inl, inr, Some, None}
 use Rattle.std.proofs.lemmas.Bool.Decides.{eqb_tells, nat_tests}
 use Rattle.gh_base.specs.declared.cell.Cell.TheVariants as cell
-use Rattle.gh_base.specs.declared.limits.TheConstants.{REGISTERS}
 use Rattle.gh_base.specs.declared.pack.TheConstants.{ENTRIES}
 use Rattle.gh_base.specs.Cells.{seats_of}
 use Rattle.gh_base.specs.Holding.{holder_in}
 use Rattle.gh_base.specs.Packing.{bit, buffer_of}
 use Rattle.gh_base.specs.Rows.{RowsAreWritten, mark_words, row_bit}
-use Rattle.gh_marks.specs.Colours.{Black, Buffered, Claimed, Colour, Cycle, IsGrey, IsMarked, IsShaded, Pending, Placing, Progress, Read, Scanned, Shared, Taken, Untouched, Waits, White, mark_of, rows}
-use Rattle.gh_marks.specs.Ends.{IsDone, IsFound, Reached, from_field, from_global, from_register}
+use Rattle.gh_marks.specs.Colours.{Black, Buffered, Claimed, Colour, Cycle, IsGrey, IsShaded, Pending, Placing, Progress, Read, Scanned, Shared, Taken, Untouched, White, mark_of}
+use Rattle.gh_marks.specs.Ends.{IsFound}
 use Rattle.gh_marks.specs.Good.{Good, count_of}
-use Rattle.gh_marks.specs.Laws.{EachMoveLeavesTheDead, MarkingEndsClean, TheCursorIsSmall, TheDeadAreWhite, WhatIsFoundIsDone}
+use Rattle.gh_marks.specs.Laws.{EachMoveLeavesTheDead, TheCursorIsSmall, TheDeadAreWhite, WhatIsFoundIsDone}
 use Rattle.gh_marks.specs.Moves.{IsDead, May, Move, Place, Quiet, moved}
 use Rattle.gh_marks.specs.Seats.{ClaimOf, NoClaim, ReadOf}
-use Rattle.gh_marks.proofs.Bits.{alloc-other, one-zero, two-ways}
-use Rattle.gh_marks.proofs.Paths.{none-protected}
+use Rattle.gh_marks.proofs.Bits.{alloc-other, two-ways}
 use Rattle.gh_marks.proofs.Quiet.{ReadRows, Unread, unread}
 
 nobody : {P : Type 0} (o : ℕ) → None ≡ Some o → P
@@ -70,46 +68,6 @@ found-done z s g f = record {
   globals = all-scanned z s g f;
   stacks = λ h l. elim (g.stacks.most h) [ inr end ↦ inr end | inl most ↦ inl (omega (arith, most, f.stacks h l)) ];
 }
-
--- Nothing is left: what globals and stacks hold is marked, what is marked is black, and what a black object names is marked.
-module _ (z : Cycle) (s : Shared) (g : Good z s) (d : IsDone z s) where
-  record IsKept (o : ℕ) : Type 0 where
-    pub marked : IsMarked (mark_words s.words) o
-    pub known : s.since o ≡ true
-
-  black : (o : ℕ) → IsKept o → s.colour o ≡ Black
-  black o h = go (s.colour o) refl where
-    grey : {P : Type 0} (c : Colour) → s.colour o ≡ c → IsGrey c → P
-    grey c e x = absurd (d.no_grey o (rw e x))
-
-    go : (c : Colour) → s.colour o ≡ c → s.colour o ≡ Black
-    go White e = one-zero h.marked (g.marks o ∙ ap mark_of e)
-    go (Placing a) e = absurd (g.objects.placing o a e (g.objects.placed o h.known))
-    go (Pending a) e = grey (Pending a) e tt
-    go (Buffered b j) e = grey (Buffered b j) e tt
-    go (Taken a) e = grey (Taken a) e tt
-    go Black e = e
-
-  none-waits : (i : ℕ) → i < z.arena.layout.globals → Waits (s.progress i) → ⊥
-  none-waits i l x = rw (d.globals i l) at x
-
-  register-kept : (h q o : ℕ) → h < z.arena.layout.goroutines → q < REGISTERS → s.registers h q ≡ o + 1 → IsMarked (mark_words s.words) o
-  register-kept h q o n l e = elim (d.stacks h n) [
-    | inr end ↦ absurd (none (g.stacks.over h q end))
-    | inl number ↦ elim (g.stacks.black h q number l o e) [ inl one ↦ one | inr p ↦ absurd (none-protected z.arena.layout.globals (rows s) d.no_grey none-waits o p) ]
-  ] where
-    none : s.registers h q ≡ 0 → ⊥
-    none nil = omega (arith, nil, e)
-
-  reached-kept : (o : ℕ) → Reached z s o → IsKept o
-  reached-kept o (from_global i o' l e) = record { marked = g.cursor.scanned i (d.globals i l) o e; known = g.values.globals i o e }
-  reached-kept o (from_register h q o' n l e) = record { marked = register-kept h q o n l e; known = g.values.stacks h q o e }
-  reached-kept o (from_field p k o' r l e) =
-      let kept : IsKept p = reached-kept p r in
-      record { marked = g.blacks p k (black p kept) l o e; known = g.values.fields p k kept.known l o e }
-
-pub ends-clean : MarkingEndsClean
-ends-clean z s g d o r = (reached-kept z s g d o r).marked
 
 -- What is dead is not of the cycle, and nothing else is shaded.
 pub dead-white : TheDeadAreWhite

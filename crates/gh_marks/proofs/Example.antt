@@ -1,5 +1,5 @@
 -- The small cycle opens as a cycle does, its moves may be made, and all is found at its end.
-use Rattle.std.proofs.Common.{◌≡◌, ◌≢◌, ℕ, ◌+◌, ◌%◌, ◌<◌, Bool, true, false, cond, eqb, arith, refl, sym, ◌∙◌, inl, inr, ◌⊎◌, List, [], ◌∷◌, Some, None}
+use Rattle.std.proofs.Common.{◌≡◌, ◌≢◌, ℕ, ◌+◌, ◌*◌, ◌%◌, ◌<◌, Bool, true, false, cond, eqb, arith, refl, sym, ◌∙◌, inl, inr, ◌⊎◌, List, [], ◌∷◌, Some, None}
 use Rattle.std.specs.Prelude.{◌^◌, ◌↔◌}
 use Rattle.std.proofs.lemmas.Bool.Decides.{eqb_tells}
 use Rattle.std.proofs.lemmas.Nat.Bits.{bit_at-zero}
@@ -17,6 +17,12 @@ unfolding row_bit
 placed o h = elim (eqb_tells o 0) [
   | inl y ↦ rw (y.1) refl
   | inr n ↦ elim (eqb_tells o 1) [ inl y ↦ rw (y.1) refl | inr m ↦ absurd (grind (arith, n, m)) ]
+]
+
+below : (o : ℕ) → start.since o ≡ true → o < 1024 * 16
+below o h = elim (eqb_tells o 0) [
+  | inl y ↦ omega (arith, y.1)
+  | inr n ↦ elim (eqb_tells o 1) [ inl y ↦ omega (arith, y.1) | inr m ↦ absurd (grind (arith, n, m)) ]
 ]
 
 since-below : (v : ℕ) → v < 3 → (o : ℕ) → v ≡ o + 1 → start.since o ≡ true
@@ -45,6 +51,8 @@ module _ (limits : InLimits 16 1 1 1 1) (few : 1 < 2 ^ 48) where
     passed = λ a. refl;
     scanned = λ g. inl (omega arith);
     over = λ g d e. refl;
+    below = λ o h. below o h;
+    sizes = λ o h. omega arith;
     placed = placed;
     fields = λ o k h l. since-below (cond (eqb (o + k) 0) 2 0) (below-three (eqb (o + k) 0) 2 (omega arith));
     globals = λ i. since-below (cond (eqb i 0) 1 0) (below-three (eqb i 0) 1 (omega arith));

@@ -3,11 +3,10 @@ mod Drawing
 mod Ending
 mod Example
 mod Follows
-mod Guarding
 mod Keeps
 mod Lasts
 mod Leaves
 mod Moving
 mod MovingRoots
-mod Paths
+mod Opening
 mod Quiet

@@ -1,34 +1,40 @@
 -- Each move keeps what holds at every moment.
-use Rattle.std.proofs.Common.{◌≡◌, ◌≢◌, ℕ, ◌+◌, ◌-◌, arith, refl, sym, ap, ◌∙◌, inl, inr, subst}
+use Rattle.std.proofs.Common.{◌≡◌, ◌≢◌, ℕ, ◌+◌, ◌-◌, arith, refl, sym, ◌∙◌, inl, inr, subst}
 use Rattle.std.proofs.lemmas.Bool.Decides.{nat_tests, eqb_tells}
 use Rattle.gh_base.specs.declared.cell.Cell.TheVariants as cell
 use Rattle.gh_base.specs.Cells.{seats_of}
 use Rattle.gh_base.specs.Holding.{AreCounted, BuffersAreHeld}
 use Rattle.gh_base.specs.Holding as holding
-use Rattle.gh_base.specs.Rows.{RowsAreWritten, alloc_words, field_words, global_words, mark_words, row_bit}
+use Rattle.gh_base.specs.Rows.{RowsAreWritten, alloc_words, global_words, mark_words}
 use Rattle.gh_heap.specs.Moves.{update}
-use Rattle.gh_marks.specs.Colours.{Black, Buffered, Colour, Cycle, IsSafe, IsSince, Pending, Placing, Shared, Taken, White, buffers_of, entry_words, mark_of, rows, scanned_words}
-use Rattle.gh_marks.specs.Good.{BlacksGood, CursorGood, EntriesGood, Good, MarksGood, ObjectsGood, PassesGood, StacksGood}
+use Rattle.gh_tri.specs.Steps.{EachStepKeepsTheInvariants}
+use Rattle.gh_marks.specs.Colours.{Black, Buffered, Colour, Cycle, IsSince, Pending, Placing, Shared, Taken, White, buffers_of, entry_words, mark_of}
+use Rattle.gh_marks.specs.Good.{CursorGood, EntriesGood, Good, MarksGood, ObjectsGood, PassesGood, StacksGood}
 use Rattle.gh_marks.specs.Moves.{Blacken, Enter, GiveBuffer, May, MayShade, Move, PutField, PutGlobal, Quiet, Reserve, Shade, ShadeAgain, ShadeFlat, TakeBuffer, TakeEntry, moved, set_mark}
-use Rattle.gh_marks.proofs.Bits.{marked-again, marked-set, marked-still, marks-grow, two-ways, white-colour}
-use Rattle.gh_marks.proofs.Guarding.{guards-moved}
-use Rattle.gh_marks.proofs.Keeps.{blacks-apart, blacks-grow, cursor-grows, entries-apart, objects-coloured, objects-shaded, stacks-kept}
+use Rattle.gh_marks.specs.Picture.{IsDrawn}
+use Rattle.gh_marks.specs.Shows.{IsPictured}
+use Rattle.gh_marks.proofs.Bits.{marked-again, marked-set, marked-still, marks-grow, white-colour}
+use Rattle.gh_marks.proofs.Drawing.Moving.{each-move-is-drawn}
+use Rattle.gh_marks.proofs.Keeps.{cursor-grows, entries-apart, objects-coloured, objects-shaded}
 use Rattle.gh_marks.proofs.Quiet.{ReadRows, Unread, unread}
 
 -- what the laws of gh_base say
 pub record Known : Type 0 where
   pub rows : RowsAreWritten
   pub held : BuffersAreHeld
+  -- and that of gh_tri
+  pub steps : EachStepKeepsTheInvariants
 
 module _ (know : Known) (z : Cycle) (a : ℕ) (s : Shared) (g : Good z s) where
   abbrev Kept : Move → Type 0
   Kept m = May z a s m → Good z (moved z a s m)
 
-  abbrev pub StacksOf : Shared → Type 0
-  StacksOf t = StacksGood z.number (scanned_words t.words) t.registers (IsSafe z.arena.layout.globals (rows t))
-
-  pub stacks : (m : Move) → May z a s m → ((h : ℕ) → (moved z a s m).words (cell.Scanned h) ≡ s.words (cell.Scanned h)) → ((h d : ℕ) → (moved z a s m).registers h d ≡ s.registers h d) → StacksOf (moved z a s m)
-  stacks m may same regs = stacks-kept z s (moved z a s m) g (guards-moved z s g know.rows a m may) same regs
+  -- the move is drawn from a picture of the state, with room for one object more; and moves of the picture keep its invariants
+  pub pictured : (m : Move) → May z a s m → (room : ℕ) → IsPictured z (moved z a s m) room
+  pictured m may room =
+      let p : IsPictured z s (room + 1) = g.pictured (room + 1) in
+      let d : IsDrawn z (moved z a s m) p.picture room = each-move-is-drawn z a s m p.at p.picture room g may p.shows p.room_left in
+      record { picture = d.picture; at = d.at; shows = d.shows; invariants = know.steps p.picture d.picture d.goes p.invariants; room_left = d.room_left }
 
   counts : (m : holding.Move) → holding.May a (buffers_of s.words s.filled) m → AreCounted (holding.moved a (buffers_of s.words s.filled) m)
   counts m may = (know.held.keep a (buffers_of s.words s.filled) m g.counts may).counted
@@ -44,54 +50,48 @@ module _ (know : Known) (z : Cycle) (a : ℕ) (s : Shared) (g : Good z s) where
       globals = subst (λ (r : ReadRows). (i : ℕ) → IsSince s.since (r.global i)) (sym u.rows_are) g.values.globals;
       stacks = g.values.stacks;
     };
-    blacks = λ o k h l p e. subst (λ (r : ReadRows). row_bit r.mark p ≡ 1) (sym u.rows_are) (g.blacks o k h l p (sym (u.fields o k (g.objects.shaded o (rw h tt)) l) ∙ e));
     cursor = subst (λ (r : ReadRows). CursorGood z.arena.layout.globals r.gcur r.global s.progress r.mark) (sym u.rows_are) g.cursor;
     passes = subst (λ (r : ReadRows). PassesGood z.arena.layout.globals (seats_of z.arena.layout) r.gcur s.passed) (sym u.rows_are) g.passes;
-    stacks = stacks (Quiet step) may (λ h. ap (λ (r : ReadRows). r.scanned h) u.rows_are) (λ h d. refl);
+    stacks = subst (λ (r : ReadRows). StacksGood z.number r.scanned s.registers) (sym u.rows_are) g.stacks;
+    pictured = pictured (Quiet step) may;
   } where
     u : Unread s (moved z a s (Quiet step)).words
     u = unread s step may
 
+  cursor-set : (o : ℕ) → CursorGood z.arena.layout.globals (s.words cell.Gcur) (global_words s.words) s.progress (mark_words (set_mark s.words o))
+  cursor-set o = cursor-grows z.arena.layout.globals (s.words cell.Gcur) (global_words s.words) s.progress (mark_words s.words) (mark_words (set_mark s.words o)) (marks-grow know.rows s.words o) g.cursor
+
   -- a mark bit is set
-  set : (m : Move) (o : ℕ) (c : Colour) → MarksGood (mark_words s.words) s.colour → s.colour o ≡ White → mark_of c ≡ 1 → ((b j : ℕ) → c ≢ Buffered b j) → ObjectsGood (alloc_words s.words) (update s.colour o c) s.since s.extents →
-      BlacksGood s.extents (field_words s.words) (mark_words (set_mark s.words o)) (update s.colour o c) → StacksOf (record s { words = set_mark s.words o; colour = update s.colour o c }) → Good z (record s { words = set_mark s.words o; colour = update s.colour o c })
-  set m o c marks white one nb objects blacks stacks_are = record {
-    marks = marked-set know.rows s.words o s.colour c one marks;
+  set : (o : ℕ) (c : Colour) → s.colour o ≡ White → mark_of c ≡ 1 → ((b j : ℕ) → c ≢ Buffered b j) → ObjectsGood (alloc_words s.words) (update s.colour o c) s.since s.extents →
+      ((room : ℕ) → IsPictured z (record s { words = set_mark s.words o; colour = update s.colour o c }) room) → Good z (record s { words = set_mark s.words o; colour = update s.colour o c })
+  set o c white one nb objects pictured = record {
+    marks = marked-set know.rows s.words o s.colour c one g.marks;
     objects = objects;
     counts = g.counts;
     entries = entries-apart (entry_words s.words) s.filled s.colour o c (λ b j e. white-buffered (sym white ∙ e)) nb g.entries;
     values = g.values;
-    blacks = blacks;
-    cursor = cursor-grows z.arena.layout.globals (s.words cell.Gcur) (global_words s.words) s.progress (mark_words s.words) (mark_words (set_mark s.words o)) (marks-grow know.rows s.words o) g.cursor;
+    cursor = cursor-set o;
     passes = g.passes;
-    stacks = stacks_are;
+    stacks = g.stacks;
+    pictured = pictured;
   } where
     white-buffered : {b j : ℕ} → White ≡ Buffered b j → ⊥
     white-buffered e = cc
-
-  blacks-set : (o : ℕ) → BlacksGood s.extents (field_words s.words) (mark_words (set_mark s.words o)) s.colour
-  blacks-set o = blacks-grow s.extents (field_words s.words) (mark_words s.words) (mark_words (set_mark s.words o)) s.colour (marks-grow know.rows s.words o) g.blacks
 
   white-of : (o : ℕ) → MayShade s o → s.colour o ≡ White
   white-of o may = white-colour (mark_words s.words) s.colour g.marks o may.white
 
   pub good-shade : (o : ℕ) → Kept (Shade o)
-  good-shade o may = set (Shade o) o (Pending a) g.marks (white-of o may.0) refl (λ b j e. cc)
-      (objects-shaded (alloc_words s.words) s.colour s.since s.extents o (Pending a) may.0.since tt (λ h. may.1) g.objects)
-      (blacks-apart s.extents (field_words s.words) (mark_words (set_mark s.words o)) s.colour o (Pending a) (λ e. cc) (blacks-set o))
-      (stacks (Shade o) may (λ h. refl) (λ h d. refl))
+  good-shade o may = set o (Pending a) (white-of o may.0) refl (λ b j e. cc)
+      (objects-shaded (alloc_words s.words) s.colour s.since s.extents o (Pending a) may.0.since tt (λ h. may.1) g.objects) (pictured (Shade o) may)
 
   pub good-flat : (o : ℕ) → Kept (ShadeFlat o)
-  good-flat o may = set (ShadeFlat o) o Black g.marks (white-of o may.0) refl (λ b j e. cc)
-      (objects-shaded (alloc_words s.words) s.colour s.since s.extents o Black may.0.since tt (λ h. absurd h) g.objects)
-      (λ p k h l. elim (eqb_tells o p) [ inl y ↦ two-ways may.1 (rw (y.1) l.2) | inr n ↦ blacks-set o p k (rw (n.0) at h) l ])
-      (stacks (ShadeFlat o) may (λ h. refl) (λ h d. refl))
+  good-flat o may = set o Black (white-of o may.0) refl (λ b j e. cc)
+      (objects-shaded (alloc_words s.words) s.colour s.since s.extents o Black may.0.since tt (λ h. absurd h) g.objects) (pictured (ShadeFlat o) may)
 
   pub good-reserve : (o : ℕ) → Kept (Reserve o)
-  good-reserve o may = set (Reserve o) o (Placing a) g.marks may.white refl (λ b j e. cc)
-      (objects-coloured (alloc_words s.words) s.colour s.since s.extents o (Placing a) (λ h. absurd h) (λ h. absurd h) (λ c e. may.empty) g.objects)
-      (blacks-apart s.extents (field_words s.words) (mark_words (set_mark s.words o)) s.colour o (Placing a) (λ e. cc) (blacks-set o))
-      (stacks (Reserve o) may (λ h. refl) (λ h d. refl))
+  good-reserve o may = set o (Placing a) may.white refl (λ b j e. cc)
+      (objects-coloured (alloc_words s.words) s.colour s.since s.extents o (Placing a) (λ h. absurd h) (λ h. absurd h) (λ c e. may.empty) g.objects) (pictured (Reserve o) may)
 
   pub good-again : (o : ℕ) → Kept (ShadeAgain o)
   good-again o may = record {
@@ -100,17 +100,17 @@ module _ (know : Known) (z : Cycle) (a : ℕ) (s : Shared) (g : Good z s) where
     counts = g.counts;
     entries = g.entries;
     values = g.values;
-    blacks = blacks-set o;
-    cursor = cursor-grows z.arena.layout.globals (s.words cell.Gcur) (global_words s.words) s.progress (mark_words s.words) (mark_words (set_mark s.words o)) (marks-grow know.rows s.words o) g.cursor;
+    cursor = cursor-set o;
     passes = g.passes;
-    stacks = stacks (ShadeAgain o) may (λ h. refl) (λ h d. refl);
+    stacks = g.stacks;
+    pictured = pictured (ShadeAgain o) may;
   }
 
   pub good-take_buffer : (b : ℕ) → Kept (TakeBuffer b)
-  good-take_buffer b may = record { marks = g.marks; objects = g.objects; counts = counts (holding.TakesBuffer b) may; entries = g.entries; values = g.values; blacks = g.blacks; cursor = g.cursor; passes = g.passes; stacks = g.stacks }
+  good-take_buffer b may = record { marks = g.marks; objects = g.objects; counts = counts (holding.TakesBuffer b) may; entries = g.entries; values = g.values; cursor = g.cursor; passes = g.passes; stacks = g.stacks; pictured = pictured (TakeBuffer b) may }
 
   pub good-give_buffer : (b : ℕ) → Kept (GiveBuffer b)
-  good-give_buffer b may = record { marks = g.marks; objects = g.objects; counts = counts (holding.GivesBuffer b) may; entries = g.entries; values = g.values; blacks = g.blacks; cursor = g.cursor; passes = g.passes; stacks = g.stacks }
+  good-give_buffer b may = record { marks = g.marks; objects = g.objects; counts = counts (holding.GivesBuffer b) may; entries = g.entries; values = g.values; cursor = g.cursor; passes = g.passes; stacks = g.stacks; pictured = pictured (GiveBuffer b) may }
 
   pub good-enter : (b o : ℕ) → Kept (Enter b o)
   good-enter b o may = record {
@@ -123,10 +123,10 @@ module _ (know : Known) (z : Cycle) (a : ℕ) (s : Shared) (g : Good z s) where
       buffered = λ p c k h. grind (arith, nat_tests, g.entries.buffered p c k);
     };
     values = g.values;
-    blacks = blacks-apart s.extents (field_words s.words) (mark_words s.words) s.colour o (Buffered b (s.filled b)) (λ e. cc) g.blacks;
     cursor = g.cursor;
     passes = g.passes;
-    stacks = stacks (Enter b o) may (λ h. refl) (λ h d. refl);
+    stacks = g.stacks;
+    pictured = pictured (Enter b o) may;
   }
 
   pub good-take_entry : (b o : ℕ) → Kept (TakeEntry b o)
@@ -142,10 +142,10 @@ module _ (know : Known) (z : Cycle) (a : ℕ) (s : Shared) (g : Good z s) where
           buffered = λ p c k h. grind (arith, nat_tests, g.entries.buffered p c k, may.entry);
         };
         values = g.values;
-        blacks = blacks-apart s.extents (field_words s.words) (mark_words s.words) s.colour o (Taken a) (λ e. cc) g.blacks;
         cursor = g.cursor;
         passes = g.passes;
-        stacks = stacks (TakeEntry b o) may (λ h. refl) (λ h d. refl);
+        stacks = g.stacks;
+        pictured = pictured (TakeEntry b o) may;
       }
 
   pub good-blacken : (o : ℕ) → Kept (Blacken o)
@@ -155,10 +155,10 @@ module _ (know : Known) (z : Cycle) (a : ℕ) (s : Shared) (g : Good z s) where
     counts = g.counts;
     entries = entries-apart (entry_words s.words) s.filled s.colour o Black (λ b j e. taken-buffered (sym may.0 ∙ e)) (λ b j e. cc) g.entries;
     values = g.values;
-    blacks = λ p k h l. elim (eqb_tells o p) [ inl y ↦ rw (← y.1) (may.1 k (rw (y.1) l)) | inr n ↦ g.blacks p k (rw (n.0) at h) l ];
     cursor = g.cursor;
     passes = g.passes;
-    stacks = stacks (Blacken o) may (λ h. refl) (λ h d. refl);
+    stacks = g.stacks;
+    pictured = pictured (Blacken o) may;
   } where
     taken-buffered : {b j : ℕ} → Taken a ≡ Buffered b j → ⊥
     taken-buffered e = cc
@@ -174,10 +174,10 @@ module _ (know : Known) (z : Cycle) (a : ℕ) (s : Shared) (g : Good z s) where
       globals = g.values.globals;
       stacks = g.values.stacks;
     };
-    blacks = λ p j h l q e. elim (eqb_tells x (p + j)) [ inr n ↦ g.blacks p j h l q (rw (n.0) at e) | inl y ↦ may.new q (rw (y.0) at e) ];
     cursor = g.cursor;
     passes = g.passes;
-    stacks = stacks (PutField x v) may (λ h. refl) (λ h d. refl);
+    stacks = g.stacks;
+    pictured = pictured (PutField x v) may;
   }
 
   pub good-put_global : (i v : ℕ) → Kept (PutGlobal i v)
@@ -191,13 +191,12 @@ module _ (know : Known) (z : Cycle) (a : ℕ) (s : Shared) (g : Good z s) where
       globals = λ j q e. elim (eqb_tells i j) [ inr n ↦ g.values.globals j q (rw (n.0) at e) | inl y ↦ may.since q (rw (y.0) at e) ];
       stacks = g.values.stacks;
     };
-    blacks = g.blacks;
     cursor = record {
       untouched = g.cursor.untouched;
       ahead = g.cursor.ahead;
       read = λ j c w h. elim (eqb_tells i j) [ inl y ↦ inr (rw (y.0) may.new) | inr n ↦ rw (n.0) (g.cursor.read j c w h) ];
-      scanned = λ j h. elim (eqb_tells i j) [ inl y ↦ rw (y.0) may.new | inr n ↦ rw (n.0) (g.cursor.scanned j h) ];
     };
     passes = g.passes;
-    stacks = stacks (PutGlobal i v) may (λ h. refl) (λ h d. refl);
+    stacks = g.stacks;
+    pictured = pictured (PutGlobal i v) may;
   }

@@ -1,20 +1,19 @@
 -- Each move keeps what holds at every moment: those of globals, of stacks and of new objects, and all together.
-use Rattle.std.proofs.Common.{◌≡◌, ◌≢◌, ℕ, zero, suc, ◌+◌, ◌<◌, ◌≤◌, Bool, true, false, eqb, arith, refl, sym, ap, ◌∙◌, inl, inr}
+use Rattle.std.proofs.Common.{◌≡◌, ℕ, zero, suc, ◌+◌, ◌<◌, ◌≤◌, Bool, true, false, eqb, arith, refl, sym, ap, ◌∙◌, inl, inr}
 use Rattle.std.proofs.lemmas.Bool.Decides.{nat_tests, eqb_tells}
 use Rattle.gh_base.specs.declared.cell.Cell.TheVariants as cell
 use Rattle.gh_base.specs.declared.pack.TheConstants.{END}
 use Rattle.gh_base.specs.Cells.{seats_of}
 use Rattle.gh_base.specs.Packing.{bit}
-use Rattle.gh_base.specs.Rows.{mark_words}
-use Rattle.gh_heap.specs.Moves.{update, update_at}
-use Rattle.gh_marks.specs.Colours.{Black, Buffered, Cycle, IsPointer, IsSafe, IsSince, Placing, Shared, entry_words, mark_of, rows}
-use Rattle.gh_marks.specs.Good.{Good, count_of}
+use Rattle.gh_base.specs.Rows.{field_words, global_words, mark_words}
+use Rattle.gh_heap.specs.Moves.{update}
+use Rattle.gh_marks.specs.Colours.{Black, Buffered, Cycle, IsPointer, IsSince, Placing, Shared, entry_words, scanned_words}
+use Rattle.gh_marks.specs.Good.{Good, ValuesGood, count_of}
 use Rattle.gh_marks.specs.Laws.{EachMoveKeeps}
-use Rattle.gh_marks.specs.Moves.{Blacken, ClaimGlobal, EndStack, Enter, GiveBuffer, May, Move, PassGlobals, Place, PutField, PutGlobal, Quiet, ReadGlobal, Reserve, ScanGlobal, ScanStack, SetRegister, Shade, ShadeAgain, ShadeFlat, TakeBuffer, TakeEntry, moved, set_alloc, with_extent}
+use Rattle.gh_marks.specs.Moves.{Blacken, ClaimGlobal, EndStack, Enter, GiveBuffer, May, Move, PassGlobals, Place, PutField, PutGlobal, Quiet, ReadGlobal, Reserve, ScanGlobal, ScanStack, SetRegister, Shade, ShadeAgain, ShadeFlat, TakeBuffer, TakeEntry, moved}
 use Rattle.gh_marks.proofs.Bits.{alloc-other, alloc-same, marked-again}
-use Rattle.gh_marks.proofs.Guarding.{guards-places}
-use Rattle.gh_marks.proofs.Keeps.{entries-apart, stacks-kept}
-use Rattle.gh_marks.proofs.Moving.{Known, good-again, good-blacken, good-enter, good-flat, good-give_buffer, good-put_field, good-put_global, good-quiet, good-reserve, good-shade, good-take_buffer, good-take_entry, stacks}
+use Rattle.gh_marks.proofs.Keeps.{entries-apart, stacks-set, values-set}
+use Rattle.gh_marks.proofs.Moving.{Known, good-again, good-blacken, good-enter, good-flat, good-give_buffer, good-put_field, good-put_global, good-quiet, good-reserve, good-shade, good-take_buffer, good-take_entry, pictured}
 
 -- one seat more is counted, and no seat behind those counted matters
 count-behind : (passed : ℕ → Bool) (a n : ℕ) → n ≤ a → count_of (update passed a true) n ≡ count_of passed n
@@ -28,34 +27,6 @@ count-passed passed a (suc n) lt first = elim (eqb_tells a n) [
   | inr m ↦ (let more : count_of (update passed a true) n ≡ count_of passed n + 1 = count-passed passed a n (omega (arith, m.1)) first in rw (m.0, more) (omega arith))
 ]
 
--- a register of a goroutine that goes on takes what is of the cycle, and safe if the stack is scanned
-register-set : (z : Cycle) (s : Shared) → Good z s → (h d v : ℕ) → s.words (cell.Scanned h) ≢ END → IsSince s.since v → (s.words (cell.Scanned h) ≡ z.number → IsSafe z.arena.layout.globals (rows s) v) → Good z (record s { registers = update_at s.registers h d v })
-register-set z s g h d v goes_on since safe = record {
-  marks = g.marks;
-  objects = g.objects;
-  counts = g.counts;
-  entries = g.entries;
-  values = record {
-    fields = g.values.fields;
-    globals = g.values.globals;
-    stacks = λ f q o e. elim (eqb_tells h f) [
-      | inr n ↦ g.values.stacks f q o (rw (n.0) at e)
-      | inl y ↦ elim (eqb_tells d q) [ inr n ↦ g.values.stacks f q o (rw (y.0, n.0) at e) | inl w ↦ since o (rw (y.0, w.0) at e) ]
-    ];
-  };
-  blacks = g.blacks;
-  cursor = g.cursor;
-  passes = g.passes;
-  stacks = record {
-    black = λ f q black l. elim (eqb_tells h f) [
-      | inr n ↦ rw (n.0) (g.stacks.black f q black l)
-      | inl y ↦ elim (eqb_tells d q) [ inr n ↦ rw (y.0, n.0) (g.stacks.black f q black l) | inl w ↦ rw (y.0, w.0) (safe (rw (y.1) black)) ]
-    ];
-    over = λ f q end. elim (eqb_tells h f) [ inr n ↦ rw (n.0) (g.stacks.over f q end) | inl y ↦ absurd (goes_on (rw (y.1) end)) ];
-    most = g.stacks.most;
-  };
-}
-
 module _ (know : Known) (z : Cycle) (a : ℕ) (s : Shared) (g : Good z s) where
   abbrev Kept : Move → Type 0
   Kept m = May z a s m → Good z (moved z a s m)
@@ -67,15 +38,14 @@ module _ (know : Known) (z : Cycle) (a : ℕ) (s : Shared) (g : Good z s) where
     counts = g.counts;
     entries = g.entries;
     values = g.values;
-    blacks = g.blacks;
     cursor = record {
       untouched = λ j l h. grind (arith, nat_tests, g.cursor.untouched j l, may);
       ahead = λ j l h. grind (arith, nat_tests, g.cursor.ahead j l, may);
       read = λ j c w h. elim (eqb_tells i j) [ inl y ↦ absurd (grind (arith, y)) | inr n ↦ g.cursor.read j c w (rw (n.0) at h) ];
-      scanned = λ j h. elim (eqb_tells i j) [ inl y ↦ absurd (grind (arith, y)) | inr n ↦ g.cursor.scanned j (rw (n.0) at h) ];
     };
     passes = record { behind = λ b h. absurd (omega (arith, g.passes.behind b h, may.0, may.1)); few = omega (arith, may.1) };
-    stacks = stacks know z a s g (ClaimGlobal i) may (λ h. refl) (λ h d. refl);
+    stacks = g.stacks;
+    pictured = pictured know z a s g (ClaimGlobal i) may;
   }
 
   good-pass : (i : ℕ) → Kept (PassGlobals i)
@@ -85,18 +55,17 @@ module _ (know : Known) (z : Cycle) (a : ℕ) (s : Shared) (g : Good z s) where
     counts = g.counts;
     entries = g.entries;
     values = g.values;
-    blacks = g.blacks;
     cursor = record {
       untouched = λ j l h. omega (arith, g.cursor.untouched j l h, may.at, may.behind);
       ahead = λ j l h. absurd (omega (arith, may.at, may.behind));
       read = g.cursor.read;
-      scanned = g.cursor.scanned;
     };
     passes = record {
       behind = λ b h. omega (arith, may.behind);
       few = omega (arith, g.passes.few, may.at, count-passed s.passed a (seats_of z.arena.layout) may.seat may.first);
     };
     stacks = g.stacks;
+    pictured = pictured know z a s g (PassGlobals i) may;
   }
 
   good-read : (i : ℕ) → Kept (ReadGlobal i)
@@ -106,15 +75,14 @@ module _ (know : Known) (z : Cycle) (a : ℕ) (s : Shared) (g : Good z s) where
     counts = g.counts;
     entries = g.entries;
     values = g.values;
-    blacks = g.blacks;
     cursor = record {
       untouched = λ j l h. grind (arith, nat_tests, g.cursor.untouched j l);
       ahead = λ j l h. grind (arith, nat_tests, g.cursor.ahead j l h, may);
       read = λ j c w h. elim (eqb_tells i j) [ inl y ↦ inl (grind (arith, nat_tests)) | inr n ↦ g.cursor.read j c w (rw (n.0) at h) ];
-      scanned = λ j h. elim (eqb_tells i j) [ inl y ↦ absurd (grind (arith, y)) | inr n ↦ g.cursor.scanned j (rw (n.0) at h) ];
     };
     passes = g.passes;
-    stacks = stacks know z a s g (ReadGlobal i) may (λ h. refl) (λ h d. refl);
+    stacks = g.stacks;
+    pictured = pictured know z a s g (ReadGlobal i) may;
   }
 
   good-scan : (i v : ℕ) → Kept (ScanGlobal i v)
@@ -124,19 +92,28 @@ module _ (know : Known) (z : Cycle) (a : ℕ) (s : Shared) (g : Good z s) where
     counts = g.counts;
     entries = g.entries;
     values = g.values;
-    blacks = g.blacks;
     cursor = record {
       untouched = λ j l h. grind (arith, nat_tests, g.cursor.untouched j l);
       ahead = λ j l h. grind (arith, nat_tests, g.cursor.ahead j l h, may.0);
       read = λ j c w h. elim (eqb_tells i j) [ inl y ↦ absurd (grind (arith, y)) | inr n ↦ g.cursor.read j c w (rw (n.0) at h) ];
-      scanned = λ j h. elim (eqb_tells i j) [ inl y ↦ rw (← y.1) may.1 | inr n ↦ g.cursor.scanned j (rw (n.0) at h) ];
     };
     passes = g.passes;
-    stacks = stacks know z a s g (ScanGlobal i v) may (λ h. refl) (λ h d. refl);
+    stacks = g.stacks;
+    pictured = pictured know z a s g (ScanGlobal i v) may;
   }
 
   good-set_register : (h d v : ℕ) → Kept (SetRegister h d v)
-  good-set_register h d v may = register-set z s g h d v may.goes_on may.since may.safe
+  good-set_register h d v may = record {
+    marks = g.marks;
+    objects = g.objects;
+    counts = g.counts;
+    entries = g.entries;
+    values = values-set s.extents (field_words s.words) (global_words s.words) s.registers s.since h d v may.since g.values;
+    cursor = g.cursor;
+    passes = g.passes;
+    stacks = stacks-set z.number (scanned_words s.words) s.registers h d v may.goes_on g.stacks;
+    pictured = pictured know z a s g (SetRegister h d v) may;
+  }
 
   not_end : z.number ≡ END → ⊥
   not_end e = omega (arith, z.few)
@@ -148,14 +125,13 @@ module _ (know : Known) (z : Cycle) (a : ℕ) (s : Shared) (g : Good z s) where
     counts = g.counts;
     entries = g.entries;
     values = g.values;
-    blacks = g.blacks;
     cursor = g.cursor;
     passes = g.passes;
     stacks = record {
-      black = λ f q black l. elim (eqb_tells h f) [ inr n ↦ g.stacks.black f q (rw (n.0) at black) l | inl y ↦ rw (← y.1) (λ o e. inl (may.clean q l o e)) ];
       over = λ f q end. elim (eqb_tells h f) [ inr n ↦ g.stacks.over f q (rw (n.0) at end) | inl y ↦ absurd (not_end (rw (y.0) at end)) ];
       most = λ f. elim (eqb_tells h f) [ inr n ↦ rw (n.0) (g.stacks.most f) | inl y ↦ rw (y.0) (inl (omega arith)) ];
     };
+    pictured = pictured know z a s g (ScanStack h) may;
   }
 
   -- what an ended goroutine's registers hold is nothing
@@ -173,32 +149,42 @@ module _ (know : Known) (z : Cycle) (a : ℕ) (s : Shared) (g : Good z s) where
       globals = g.values.globals;
       stacks = λ f q o e. elim (eqb_tells h f) [ inr n ↦ g.values.stacks f q o (rw (n.0) at e) | inl y ↦ absurd (nil-since o (rw (y.0) at e)) ];
     };
-    blacks = g.blacks;
     cursor = g.cursor;
     passes = g.passes;
     stacks = record {
-      black = λ f q black l o e. elim (eqb_tells h f) [ inr n ↦ g.stacks.black f q (rw (n.0) at black) l o (rw (n.0) at e) | inl y ↦ absurd (nil-since o (rw (y.0) at e)) ];
       over = λ f q end. elim (eqb_tells h f) [ inr n ↦ rw (n.0) (g.stacks.over f q (rw (n.0) at end)) | inl y ↦ rw (y.0) refl ];
       most = λ f. elim (eqb_tells h f) [ inr n ↦ rw (n.0) (g.stacks.most f) | inl y ↦ rw (y.0) (inr refl) ];
     };
+    pictured = pictured know z a s g (EndStack h) may;
   }
 
   since-grows : (o v : ℕ) → IsSince s.since v → IsSince (update s.since o true) v
   since-grows o v h q e = elim (eqb_tells o q) [ inl y ↦ rw (y.0) refl | inr n ↦ rw (n.0) (h q e) ]
 
   good-place : (o size : ℕ) (pointer : ℕ → Bool) (noscan : Bool) (f d : ℕ) → Kept (Place o size pointer noscan f d)
-  good-place o size pointer noscan f d may = register-set z placed good f d (o + 1) may.goes_on since (λ scanned. safe) where
-    -- the object without the register that names it
-    placed : Shared
-    placed = record s { words = set_alloc s.words o; colour = update s.colour o Black; since = update s.since o true; extents = with_extent s.extents o size pointer noscan }
+  good-place o size pointer noscan f d may = record {
+    marks = marked-again (mark_words s.words) s.colour o Black (rw (may.reserved) refl) g.marks;
+    objects = record {
+      placed = λ p h. elim (eqb_tells o p) [ inl y ↦ rw (← y.1) (alloc-same know.rows s.words o) | inr n ↦ alloc-other know.rows s.words o p n.1 ∙ g.objects.placed p (rw (n.0) at h) ];
+      shaded = λ p h. elim (eqb_tells o p) [ inl y ↦ rw (y.0) refl | inr n ↦ rw (n.0) (g.objects.shaded p (rw (n.0) at h)) ];
+      grey = λ p h. elim (eqb_tells o p) [ inl y ↦ absurd (rw (y.0) at h) | inr n ↦ rw (n.0) (g.objects.grey p (rw (n.0) at h)) ];
+      placing = λ p b h. elim (eqb_tells o p) [ inl y ↦ absurd (black-placing (rw (y.0) at h)) | inr n ↦ (λ e. g.objects.placing p b (rw (n.0) at h) (sym (alloc-other know.rows s.words o p n.1) ∙ e)) ];
+    };
+    counts = g.counts;
+    entries = entries-apart (entry_words s.words) s.filled s.colour o Black (λ b j e. placing-buffered (sym may.reserved ∙ e)) (λ b j e. cc) g.entries;
+    values = values-set then.extents (field_words s.words) (global_words s.words) s.registers then.since f d (o + 1) since values;
+    cursor = g.cursor;
+    passes = g.passes;
+    stacks = stacks-set z.number (scanned_words s.words) s.registers f d (o + 1) may.goes_on g.stacks;
+    pictured = pictured know z a s g (Place o size pointer noscan f d) may;
+  } where
+    then : Shared
+    then = moved z a s (Place o size pointer noscan f d)
 
-    since : IsSince placed.since (o + 1)
+    since : IsSince then.since (o + 1)
     since p e = let same : o ≡ p = omega (arith, e) in elim (eqb_tells o p) [ inl y ↦ rw (y.0) refl | inr n ↦ absurd (n.1 same) ]
 
-    safe : IsSafe z.arena.layout.globals (rows placed) (o + 1)
-    safe p e = let same : o ≡ p = omega (arith, e) in inl (rw (← same) (g.marks o ∙ ap mark_of may.reserved))
-
-    nil : (p j : ℕ) → IsPointer placed.extents p j → ((eqb o p ≡ true) × (o ≡ p)) → (q : ℕ) → s.words (cell.Field (p + j)) ≡ q + 1 → ⊥
+    nil : (p j : ℕ) → IsPointer then.extents p j → ((eqb o p ≡ true) × (o ≡ p)) → (q : ℕ) → s.words (cell.Field (p + j)) ≡ q + 1 → ⊥
     nil p j l y q e =
         let zero : s.words (cell.Field (o + j)) ≡ 0 = may.clear j (rw (y.0) at l.0) (rw (y.0) at l.1) in
         let same : s.words (cell.Field (o + j)) ≡ q + 1 = rw (y.1) e in
@@ -210,29 +196,15 @@ module _ (know : Known) (z : Cycle) (a : ℕ) (s : Shared) (g : Good z s) where
     placing-buffered : {b j : ℕ} → Placing a ≡ Buffered b j → ⊥
     placing-buffered e = cc
 
-    good : Good z placed
-    good = record {
-      marks = marked-again (mark_words s.words) s.colour o Black (rw (may.reserved) refl) g.marks;
-      objects = record {
-        placed = λ p h. elim (eqb_tells o p) [ inl y ↦ rw (← y.1) (alloc-same know.rows s.words o) | inr n ↦ alloc-other know.rows s.words o p n.1 ∙ g.objects.placed p (rw (n.0) at h) ];
-        shaded = λ p h. elim (eqb_tells o p) [ inl y ↦ rw (y.0) refl | inr n ↦ rw (n.0) (g.objects.shaded p (rw (n.0) at h)) ];
-        grey = λ p h. elim (eqb_tells o p) [ inl y ↦ absurd (rw (y.0) at h) | inr n ↦ rw (n.0) (g.objects.grey p (rw (n.0) at h)) ];
-        placing = λ p b h. elim (eqb_tells o p) [ inl y ↦ absurd (black-placing (rw (y.0) at h)) | inr n ↦ (λ e. g.objects.placing p b (rw (n.0) at h) (sym (alloc-other know.rows s.words o p n.1) ∙ e)) ];
-      };
-      counts = g.counts;
-      entries = entries-apart (entry_words s.words) s.filled s.colour o Black (λ b j e. placing-buffered (sym may.reserved ∙ e)) (λ b j e. cc) g.entries;
-      values = record {
-        fields = λ p j h l q e. elim (eqb_tells o p) [
-          | inl y ↦ absurd (nil p j l y q e)
-          | inr n ↦ since-grows o (s.words (cell.Field (p + j))) (g.values.fields p j (rw (n.0) at h) (rw (n.0) at l)) q e
-        ];
-        globals = λ j. since-grows o (s.words (cell.Global j)) (g.values.globals j);
-        stacks = λ h r. since-grows o (s.registers h r) (g.values.stacks h r);
-      };
-      blacks = λ p j h l q e. elim (eqb_tells o p) [ inl y ↦ absurd (nil p j l y q e) | inr n ↦ g.blacks p j (rw (n.0) at h) (rw (n.0) at l) q e ];
-      cursor = g.cursor;
-      passes = g.passes;
-      stacks = stacks-kept z s placed g (guards-places z s g a o size pointer noscan f d may) (λ h. refl) (λ h r. refl);
+    -- without the register that names it
+    values : ValuesGood then.extents (field_words s.words) (global_words s.words) s.registers then.since
+    values = record {
+      fields = λ p j h l q e. elim (eqb_tells o p) [
+        | inl y ↦ absurd (nil p j l y q e)
+        | inr n ↦ since-grows o (s.words (cell.Field (p + j))) (g.values.fields p j (rw (n.0) at h) (rw (n.0) at l)) q e
+      ];
+      globals = λ j. since-grows o (s.words (cell.Global j)) (g.values.globals j);
+      stacks = λ h r. since-grows o (s.registers h r) (g.values.stacks h r);
     }
 
   good-moved : (m : Move) → Kept m

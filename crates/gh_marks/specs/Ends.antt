@@ -1,5 +1,5 @@
 -- The begin of marking and its end.
-use Rattle.std.specs.Prelude.{◌≡◌, ℕ, ◌+◌, ◌<◌, ◌≤◌, ◌⊎◌, true, false}
+use Rattle.std.specs.Prelude.{◌≡◌, ℕ, ◌+◌, ◌*◌, ◌<◌, ◌≤◌, ◌⊎◌, true, false}
 use Rattle.gh_base.specs.declared.cell.Cell.TheVariants as cell
 use Rattle.gh_base.specs.declared.limits.TheConstants.{REGISTERS}
 use Rattle.gh_base.specs.declared.pack.TheConstants.{END}
@@ -9,7 +9,7 @@ use Rattle.gh_base.specs.Rows.{alloc_words, mark_words, row_bit}
 use Rattle.gh_marks.specs.Colours.{Cycle, IsGrey, IsMarked, IsPointer, IsSince, Scanned, Shared, Untouched, White}
 use Rattle.gh_marks.specs.Seats.{Hands, nothing}
 
--- As marking is switched on: nothing is marked, in a buffer or scanned, and the objects of the cycle are placed, and closed under what they, globals and registers name.
+-- As marking is switched on: nothing is marked, in a buffer or scanned, and the objects of the cycle lie in the heap, are placed, and closed under what they, globals and registers name.
 pub record Opens (z : Cycle) (s : Shared) : Type 0 where
   pub marks : (o : ℕ) → row_bit (mark_words s.words) o ≡ 0
   pub white : (o : ℕ) → s.colour o ≡ White
@@ -20,6 +20,8 @@ pub record Opens (z : Cycle) (s : Shared) : Type 0 where
   pub passed : (a : ℕ) → s.passed a ≡ false
   pub scanned : (g : ℕ) → (s.words (cell.Scanned g) < z.number) ⊎ (s.words (cell.Scanned g) ≡ END)
   pub over : (g d : ℕ) → s.words (cell.Scanned g) ≡ END → s.registers g d ≡ 0
+  pub below : (o : ℕ) → s.since o ≡ true → o < 1024 * z.arena.layout.pages
+  pub sizes : (o : ℕ) → s.since o ≡ true → s.extents.size o ≤ 1024 * z.arena.layout.pages
   pub placed : (o : ℕ) → s.since o ≡ true → row_bit (alloc_words s.words) o ≡ 1
   pub fields : (o k : ℕ) → s.since o ≡ true → IsPointer s.extents o k → IsSince s.since (s.words (cell.Field (o + k)))
   pub globals : (i : ℕ) → IsSince s.since (s.words (cell.Global i))

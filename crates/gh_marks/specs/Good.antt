@@ -1,13 +1,13 @@
 -- What holds at every moment while marking is on, group by group over the rows that each reads.
 use Rattle.std.specs.Prelude.{◌≡◌, ◌≢◌, ℕ, zero, suc, ◌+◌, ◌<◌, ◌≤◌, ◌⊎◌, Bool, true, false}
 use Rattle.gh_base.specs.declared.cell.Cell.TheVariants as cell
-use Rattle.gh_base.specs.declared.limits.TheConstants.{REGISTERS}
 use Rattle.gh_base.specs.declared.pack.TheConstants.{END}
 use Rattle.gh_base.specs.Cells.{seats_of}
 use Rattle.gh_base.specs.Holding.{AreCounted}
 use Rattle.gh_base.specs.Packing.{bit}
 use Rattle.gh_base.specs.Rows.{Row, row_bit, alloc_words, field_words, global_words, mark_words}
-use Rattle.gh_marks.specs.Colours.{Black, Buffered, Colour, Cycle, Extents, IsClean, IsGrey, IsPointer, IsSafe, IsShaded, IsSince, Placing, Progress, Read, Scanned, Shared, Untouched, buffers_of, entry_words, mark_of, rows, scanned_words}
+use Rattle.gh_marks.specs.Colours.{Buffered, Colour, Cycle, Extents, IsClean, IsGrey, IsPointer, IsShaded, IsSince, Placing, Progress, Read, Shared, Untouched, buffers_of, entry_words, mark_of, scanned_words}
+use Rattle.gh_marks.specs.Shows.{IsPictured}
 
 -- A heap word's mark bit is set exactly where its colour is not white.
 abbrev pub MarksGood : (mark : Row) → (ℕ → Colour) → Type 0
@@ -34,17 +34,12 @@ pub record ValuesGood (extents : Extents) (field global : Row) (registers : ℕ 
   pub globals : (i : ℕ) → IsSince since (global i)
   pub stacks : (g d : ℕ) → IsSince since (registers g d)
 
--- A black object names no white one: nothing will look at it again.
-abbrev pub BlacksGood : Extents → (field mark : Row) → (ℕ → Colour) → Type 0
-BlacksGood extents field mark colour = (o k : ℕ) → colour o ≡ Black → IsPointer extents o k → IsClean mark (field (o + k))
-
 -- The cursor divides the globals: those below it are somebody's or scanned. The cursor alone does not say that a global is scanned, since who raised it reads the global with a later step.
 pub record CursorGood (globals gcur : ℕ) (global : Row) (progress : ℕ → Progress) (mark : Row) : Type 0 where
   pub untouched : (i : ℕ) → i < globals → progress i ≡ Untouched → gcur ≤ i
   pub ahead : (i : ℕ) → i < globals → gcur ≤ i → progress i ≡ Untouched
   -- what was read there stands there still, or the word that came in its place is clean
   pub read : (i a v : ℕ) → progress i ≡ Read a v → (global i ≡ v) ⊎ IsClean mark (global i)
-  pub scanned : (i : ℕ) → progress i ≡ Scanned → IsClean mark (global i)
 
 -- how many of the first so many seats these are
 abbrev pub count_of : (ℕ → Bool) → (seats : ℕ) → ℕ
@@ -56,9 +51,8 @@ pub record PassesGood (globals seats gcur : ℕ) (passed : ℕ → Bool) : Type 
   pub behind : (a : ℕ) → passed a ≡ true → globals < gcur
   pub few : gcur ≤ globals + count_of passed seats
 
--- A scanned stack holds what is marked or protected, and no more than that: after its scan a load may bring it a white object. The stack of a goroutine that has ended holds nothing.
-pub record StacksGood (number : ℕ) (scanned : Row) (registers : ℕ → Row) (Safe : ℕ → Type 0) : Type 0 where
-  pub black : (g d : ℕ) → scanned g ≡ number → d < REGISTERS → Safe (registers g d)
+-- The stack of a goroutine that has ended holds nothing.
+pub record StacksGood (number : ℕ) (scanned : Row) (registers : ℕ → Row) : Type 0 where
   pub over : (g d : ℕ) → scanned g ≡ END → registers g d ≡ 0
   -- a stack's word is that of this cycle or of one before, unless its goroutine has ended
   pub most : (g : ℕ) → (scanned g ≤ number) ⊎ (scanned g ≡ END)
@@ -69,7 +63,8 @@ pub record Good (z : Cycle) (s : Shared) : Type 0 where
   pub counts : AreCounted (buffers_of s.words s.filled)
   pub entries : EntriesGood (entry_words s.words) s.filled s.colour
   pub values : ValuesGood s.extents (field_words s.words) (global_words s.words) s.registers s.since
-  pub blacks : BlacksGood s.extents (field_words s.words) (mark_words s.words) s.colour
   pub cursor : CursorGood z.arena.layout.globals (s.words cell.Gcur) (global_words s.words) s.progress (mark_words s.words)
   pub passes : PassesGood z.arena.layout.globals (seats_of z.arena.layout) (s.words cell.Gcur) s.passed
-  pub stacks : StacksGood z.number (scanned_words s.words) s.registers (IsSafe z.arena.layout.globals (rows s))
+  pub stacks : StacksGood z.number (scanned_words s.words) s.registers
+  -- There is a picture of the state that has the invariants of gh_tri, with room for as many objects more as one likes. They say what black objects, scanned globals and scanned stacks hold.
+  pub pictured : (room : ℕ) → IsPictured z s room

@@ -5,7 +5,7 @@ use Rattle.gh_base.specs.declared.cell.Cell.TheVariants as cell
 use Rattle.gh_base.specs.declared.held.Held.{Held}
 use Rattle.gh_base.specs.Rows.{mark_words, row_bit}
 use Rattle.gh_heap.specs.Rights.{IsOf}
-use Rattle.gh_marks.specs.Colours.{Cycle, IsClean, IsGuarded, IsPointer, IsSafe, IsSince, Shared, rows}
+use Rattle.gh_marks.specs.Colours.{Cycle, IsClean, IsPointer, IsSince, Shared}
 use Rattle.gh_marks.specs.Ends.{EachReachedIsMarked, IsDone, IsFound, Opens}
 use Rattle.gh_marks.specs.Good.{Good}
 use Rattle.gh_marks.specs.Moves.{Blacken, ClaimGlobal, EndStack, Enter, GiveBuffer, IsDead, Keeps, LeavesStacks, May, Move, Others, PassGlobals, Place, PutField, PutGlobal, Quiet, ReadGlobal, Reserve, ScanGlobal, ScanStack, SetRegister, Shade, ShadeAgain, ShadeFlat, TakeBuffer, TakeEntry, Went, moved}
@@ -18,10 +18,6 @@ EachMoveKeeps = (z : Cycle) (a : ℕ) (s : Shared) (m : Move) → Good z s → M
 -- what another's move leaves to a seat
 abbrev pub EachMoveLeaves : Type 0
 EachMoveLeaves = (z : Cycle) (a b : ℕ) (s : Shared) (m : Move) → a ≢ b → Good z s → May z b s m → Others z a s (moved z b s m)
-
--- what is marked or protected stays so
-abbrev pub EachMoveGuards : Type 0
-EachMoveGuards = (z : Cycle) (a : ℕ) (s : Shared) (m : Move) → Good z s → May z a s m → (o : ℕ) → s.since o ≡ true → IsGuarded z.arena.layout.globals (rows s) o → IsGuarded z.arena.layout.globals (rows (moved z a s m)) o
 
 -- what was dead when the cycle began stays placed and dead
 abbrev pub EachMoveLeavesTheDead : Type 0
@@ -92,15 +88,6 @@ EachFactLasts = (z : Cycle) (a : ℕ) (s t : Shared) → Keeps z a s t → Facts
 abbrev pub EachHandLasts : Type 0
 EachHandLasts = (z : Cycle) (a : ℕ) (s t : Shared) (h : InHand) → Others z a s t → Hands a s h → Hands a t h
 
--- What a load brings may go into a register, whatever the stack: a field of a guarded object, and a global, hold what is safe.
-pub record LoadsAreSafe (z : Cycle) (s : Shared) : Type 0 where
-  pub field : (o k : ℕ) → s.since o ≡ true → IsGuarded z.arena.layout.globals (rows s) o → IsPointer s.extents o k → IsSafe z.arena.layout.globals (rows s) (s.words (cell.Field (o + k)))
-  pub global : (i : ℕ) → i < z.arena.layout.globals → IsSafe z.arena.layout.globals (rows s) (s.words (cell.Global i))
-  pub clean : (value : ℕ) → IsClean (mark_words s.words) value → IsSafe z.arena.layout.globals (rows s) value
-
-abbrev pub EachLoadIsSafe : Type 0
-EachLoadIsSafe = (z : Cycle) (s : Shared) → Good z s → LoadsAreSafe z s
-
 -- the cursor's word does not begin anew
 abbrev pub TheCursorIsSmall : Type 0
 TheCursorIsSmall = (z : Cycle) (s : Shared) → Good z s → s.words cell.Gcur + 1 < 2 ^ 64
@@ -113,7 +100,7 @@ pub record Begins (z : Cycle) (s : Shared) : Type 0 where
 abbrev pub MarkingBegins : Type 0
 MarkingBegins = (z : Cycle) (s : Shared) → Opens z s → Begins z s
 
--- The end of marking. Where the coordinator finds all as it should be, nothing is left to be marked; and then each object that a path leads to is marked: globals and stacks hold marked objects alone, a marked object is black, and what a black object names is marked.
+-- The end of marking. Where the coordinator finds all as it should be, nothing is left to be marked; and then each object that a path leads to is marked: so it is in the picture.
 abbrev pub WhatIsFoundIsDone : Type 0
 WhatIsFoundIsDone = (z : Cycle) (s : Shared) → Good z s → IsFound z s → IsDone z s
 

@@ -8,3 +8,4 @@ pub mod Moves
 pub mod Picture
 pub mod Routines
 pub mod Seats
+pub mod Shows

@@ -14,7 +14,7 @@ use Rattle.gh_base.specs.Rows.{alloc_words, mark_words, row_bit}
 use Rattle.gh_base.specs.Steps.{cell_of, effect}
 use Rattle.gh_heap.specs.Moves.{update, update_at}
 use Rattle.gh_heap.specs.Rights.{IsOf}
-use Rattle.gh_marks.specs.Colours.{Black, Buffered, Claimed, Cycle, Extents, IsClean, IsMarked, IsPointer, IsSafe, IsSince, Pending, Placing, Read, Scanned, Shared, Taken, White, rows}
+use Rattle.gh_marks.specs.Colours.{Black, Buffered, Claimed, Cycle, Extents, IsClean, IsMarked, IsPointer, IsSince, Pending, Placing, Read, Scanned, Shared, Taken, White}
 
 -- A change of the shared state by a step, words and ghosts together. A step is one move or two.
 pub data Move : Type 0 where
@@ -145,13 +145,12 @@ pub data MayBring (z : Cycle) (s : Shared) (g : ℕ) : (value : ℕ) → Type 0 
   from_field : (r o k : ℕ) → r < REGISTERS → s.registers g r ≡ o + 1 → IsPointer s.extents o k → MayBring z s g (s.words (cell.Field (o + k)))
   from_global : (i : ℕ) → i < z.arena.layout.globals → MayBring z s g (s.words (cell.Global i))
 
--- a register of a goroutine that goes on, which takes what is safe, if its stack is scanned
+-- a register of a goroutine that goes on, and what that can bring into it
 pub record MaySetRegister (z : Cycle) (a : ℕ) (s : Shared) (g value : ℕ) : Type 0 where
   pub own : IsOf z.arena a g
   pub goes_on : s.words (cell.Scanned g) ≢ END
   pub comes : MayBring z s g value
   pub since : IsSince s.since value
-  pub safe : s.words (cell.Scanned g) ≡ z.number → IsSafe z.arena.layout.globals (rows s) value
 
 -- each register was shaded, by a scan in which no statement of the goroutine ran
 pub record MayScanStack (z : Cycle) (a : ℕ) (s : Shared) (g : ℕ) : Type 0 where

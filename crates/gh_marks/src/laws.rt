@@ -1,28 +1,26 @@
 //! What holds of the moves of marking. The functions do nothing; what they ensure is proved.
 
 ghost use Rattle.gh_marks.specs.Example.{OneCycleIsMade};
-ghost use Rattle.gh_marks.specs.Laws.{EachFactLasts, EachHandFollows, EachHandLasts, EachLoadIsSafe, EachMoveGuards, EachMoveKeeps, EachMoveLeaves, EachMoveLeavesTheDead, EachOwnMoveLeaves, EachStepGoesByMoves, MarkingBegins, MarkingEndsClean, TheCursorIsSmall, TheDeadAreWhite, WhatIsFoundIsDone, WhatIsKeptGoesOn};
+ghost use Rattle.gh_marks.specs.Laws.{EachFactLasts, EachHandFollows, EachHandLasts, EachMoveKeeps, EachMoveLeaves, EachMoveLeavesTheDead, EachOwnMoveLeaves, EachStepGoesByMoves, MarkingBegins, MarkingEndsClean, TheCursorIsSmall, TheDeadAreWhite, WhatIsFoundIsDone, WhatIsKeptGoesOn};
 
 use gh_base::laws::{buffers_are_held, rows_are_written};
+use gh_tri::{
+    an_opening_has_the_invariants, each_step_keeps_the_invariants, what_is_reached_is_marked,
+};
 
-/// What holds at every moment while marking is on holds after each move that may be made.
+/// What holds at every moment while marking is on holds after each move that may be made. Its picture, too, has its
+/// invariants after the move, since the move is drawn and `gh_tri` says that moves of the picture keep them.
 pub fn each_move_keeps()
     ensures { EachMoveKeeps }
 {
     buffers_are_held();
     rows_are_written();
+    each_step_keeps_the_invariants();
 }
 
 /// What another seat's move leaves to a seat.
 pub fn each_move_leaves()
     ensures { EachMoveLeaves }
-{
-    rows_are_written();
-}
-
-/// What is marked or protected stays so, whatever move is made; and so it stays safe in a scanned stack.
-pub fn each_move_guards()
-    ensures { EachMoveGuards }
 {
     rows_are_written();
 }
@@ -63,26 +61,27 @@ pub fn facts_last()
     ensures hands { EachHandLasts }
 {}
 
-/// What a load brings is safe in a scanned stack.
-pub fn loads_are_safe()
-    ensures { EachLoadIsSafe }
-{}
-
 /// The cursor of the globals stays far below where its word would begin anew.
 pub fn the_cursor_is_small()
     ensures { TheCursorIsSmall }
 {}
 
-/// Marking begins with all of it.
+/// Marking begins with all of it, and with a picture that has the invariants.
 pub fn marking_begins()
     ensures { MarkingBegins }
-{}
+{
+    an_opening_has_the_invariants();
+    each_step_keeps_the_invariants();
+}
 
-/// At the end of marking nothing is left to be marked, and each object that a path leads to is marked.
+/// At the end of marking nothing is left to be marked, and each object that a path leads to is marked, as `gh_tri`
+/// says of the picture.
 pub fn marking_ends_clean()
     ensures done { WhatIsFoundIsDone }
     ensures clean { MarkingEndsClean }
-{}
+{
+    what_is_reached_is_marked();
+}
 
 /// There is a cycle that these laws are about: from a heap with two objects, step by step, to the end of
 /// marking, with both marked.

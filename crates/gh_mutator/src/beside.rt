@@ -1,10 +1,10 @@
 //! A processor that goes on while a cycle is marked: it loads, stores, makes objects and gives spans back beside the
 //! workers. The function does nothing; what it ensures is proved.
 //!
-//! Three rules of Go's collector meet here. What a register takes is marked or protected where its stack is scanned
-//! already (`loads_are_safe` of `gh_marks`). A pointer is written behind the write barrier, with what it overwrites and
-//! what it writes shaded before (`gh_barrier`). And an object is marked before it is made (`gh_alloc`). All else that a
-//! processor does is on words that marking does not read.
+//! Three rules of Go's collector meet here. What a register takes is what its goroutine can see: so a stack that was
+//! scanned needs no barrier, as `gh_tri` shows. A pointer is written behind the write barrier, with what it overwrites
+//! and what it writes shaded before (`gh_barrier`). And an object is marked before it is made (`gh_alloc`). All else
+//! that a processor does is on words that marking does not read.
 
 ghost use Rattle.gh_mutator.specs.Beside.{GoesOnBesideMarking};
 
@@ -15,7 +15,7 @@ use gh_cycle::beside::{
     claimed_fields_are_aside, deeds_go_beside, marking_alone_goes_beside, objects_are_known_beside,
     slots_are_reserved,
 };
-use gh_marks::laws::{hands_follow, loads_are_safe, own_moves_leave};
+use gh_marks::laws::{hands_follow, own_moves_leave};
 
 /// Whatever any number of actors do beside it while a cycle is marked: each step of a processor, whatever it runs, is
 /// made of moves of marking that its seat may make, and what the heap and marking are to each other, and what is known
@@ -27,7 +27,6 @@ pub fn a_processor_goes_on_beside_marking()
     rows_are_written();
     hands_follow();
     own_moves_leave();
-    loads_are_safe();
     writes_by_moves();
     objects_are_known_beside();
     claimed_fields_are_aside();

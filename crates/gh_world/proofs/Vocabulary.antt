@@ -90,10 +90,10 @@ pub use Rattle.gh_coord.specs.declared.watch.WatchStage.{WatchStage}
 pub use Rattle.gh_coord.specs.declared.watch.Watched.{Watched}
 pub use Rattle.gh_coord.specs.declared.watch.Watched.TheVariants.{All, NotYet}
 pub use Rattle.gh_world.specs.Actors.{EndsMarked, IsEnding, IsMarkedObject, IsStepIn}
-pub use Rattle.gh_world.specs.ActorsHold.{EndedSo, HasCursor, Holds, HoldsAt, is_last_task, IsAsItShould, IsHeapOf, IsInCycle, IsJustSwept, IsKnown, IsQuiet, IsReady, IsSweeping, IsTelling, IsToBegin, processor_at, SweepsAll, uncounted, WasSo}
+pub use Rattle.gh_world.specs.ActorsHold.{EndedSo, HasCursor, Holds, HoldsAt, is_last_task, IsAsItShould, IsHeapOf, IsInCycle, IsJustSwept, IsKnown, IsQuiet, IsReady, IsSweeping, IsTelling, processor_at, SweepsAll, uncounted, WasSo}
 pub use Rattle.gh_world.specs.ActorsMark.{IsMeant, Knows, Sound}
 pub use Rattle.gh_world.specs.Handshake.{actors, AreParties, is_busy, KeepsIt, place_of, StepKeepsIt, WaitsWithNone}
-pub use Rattle.gh_world.specs.HoldVocabulary.{acks_of, actors_after, alloc_words, Answer, Arena, arena, AreWords, birth_words, By, Coordinating, CoordStage, Cycle, CycleEnd, deeds, ended_in, EndsAllMarked, EndsCycle, Entry, Ever, ever, Fine, Good, Heap, IsBeginning, IsBounded, IsDrawn, IsDrawnSo, IsInLimits, IsLed, IsMade, IsOf, IsSound, IsStartOf, Layout, LeavesTheReached, Legal, mark_words, MarkFacts, Marking, MarksNothing, may_of, Name, NewStage, only_polls, Op, Pacing, page_of, page_words, Placed, placed, Processor, processor_kind, Reach, Right, Shape, ShapesAreGood, slot_row, Spans, stage_of, started, state_of, SweepsBeside, Task, view, Words, words}
+pub use Rattle.gh_world.specs.HoldVocabulary.{acks_of, actors_after, alloc_words, Answer, Arena, arena, AreWords, birth_words, By, Coordinating, CoordStage, Cycle, CycleEnd, deeds, ended_in, EndsAllMarked, EndsCycle, Entry, Ever, ever, Fine, Good, Heap, IsBeginning, IsBounded, IsDrawnSo, IsInLimits, IsLed, IsMade, IsOf, IsSound, IsStartOf, IsToBegin, Layout, LeavesTheReached, Legal, mark_words, MarkFacts, Marking, MarksNothing, may_of, Name, NewStage, only_polls, Op, Pacing, page_of, page_words, Placed, placed, Processor, processor_kind, Reach, Right, Shape, ShapesAreGood, slot_row, Spans, stage_of, started, state_of, SweepsBeside, Task, view, Words, words}
 pub use Rattle.gh_world.specs.Marking.{EndsClean, IsChecked, MarksToTheEnd, MayBegin, PollsByMoves, WasMarked}
 pub use Rattle.gh_world.specs.Numbers.{ahead_at, asked_after, Begun, Checked, close_part, CountsCycles, Ended, generation_of, IsFew, Numbered, opened_after, opened_in, Outside, Part, part_of, WritesNoNumbers}
 pub use Rattle.gh_world.specs.Order.{begun_in, ends, has_left, in_range, leaves}

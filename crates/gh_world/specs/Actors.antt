@@ -19,7 +19,7 @@ use Rattle.gh_marks.specs.Colours.{Cycle, Shared}
 use Rattle.gh_mutator.specs.Facts.{ShapesAreGood}
 use Rattle.gh_sweep.specs.Counts.{AreWords, count_below, is_set, marked_objects, unmarked_objects}
 use Rattle.gh_sweep.specs.Shared.{placed}
-use Rattle.gh_world.specs.Drawn.{IsDrawn}
+use Rattle.gh_world.specs.Drawn.{CycleIsDrawn}
 use Rattle.gh_world.specs.Handshake.{Pacing}
 use Rattle.gh_world.specs.Those.{those}
 use Rattle.gh_world.specs.Marking.{EndsClean, IsBeginning, IsInLimits, IsLedBy, IsStartOf, IsStateOf}
@@ -156,7 +156,7 @@ module _ (shapes : List Shape) (l : Layout) (pacing : Pacing) (may : ℕ → Lis
     pub objects : AreNamed (ever es).made (words es)
     pub frees : FreesTheUnreached es
     pub ends : EndsAllMarked es
-    pub drawn : (c : Coordinating) → IsLed es c → leading.Marks c.stage → IsDrawn shapes l pacing may es c
+    pub drawn : (c : Coordinating) → IsLed es c → leading.Marks c.stage → CycleIsDrawn shapes l pacing may es c
     pub counts : (c : Coordinating) → IsLed es c → AllWereCounted es c
     pub last : (c : Coordinating) → IsLed es c → c.stage ≡ Done → LeavesTheReached es c
 

@@ -25,7 +25,7 @@ use Rattle.gh_sweep.specs.declared.sweep.SweepStage.{SweepStage}
 use Rattle.gh_sweep.specs.declared.sweep.SweepStage.TheVariants.{Begin}
 use Rattle.gh_sweep.specs.Listing as sweep
 use Rattle.gh_sweep.specs.Sweepers as sweepers
-use Rattle.gh_world.specs.HoldVocabulary.{acks_of, alloc_at, alloc_words, AllWereCounted, Answer, answers_of, arena, Arena, AreWords, BeginsCycle, birth_words, By, Coordinating, CountsAreExact, CoordStage, Cycle, CycleEnd, deeds, ended_in, EndsAllMarked, EndsCycle, Entry, Ever, ever, Fine, FreesTheUnreached, FullOnlyThere, generation_of, given_of, Good, HasGoneOn, head_word, Heap, IsAtRest, IsBeginning, IsBeside, IsBounded, IsCalm, IsDrawnSo, IsLed, IsMade, IsOf, IsSound, IsStartOf, Layout, LeavesTheReached, Marking, mark_words, marks_at, MarksNothing, Name, NewStage, Op, opening_words, Pacing, page_of, Placed, Processor, processor_kind, Right, row_bit, Shape, Spans, state_of, SweepingAll, SweepsBeside, tally_of, Task, view, with_words, Words, words}
+use Rattle.gh_world.specs.HoldVocabulary.{acks_of, alloc_at, alloc_words, AllWereCounted, Answer, answers_of, arena, Arena, AreWords, BeginsCycle, birth_words, By, Coordinating, CountsAreExact, CoordStage, Cycle, CycleEnd, deeds, ended_in, EndsAllMarked, EndsCycle, Entry, Ever, ever, Fine, FreesTheUnreached, FullOnlyThere, generation_of, given_of, Good, HasGoneOn, head_word, Heap, IsAtRest, IsBeside, IsBounded, IsCalm, IsDrawnSo, IsLed, IsMade, IsOf, IsSound, IsStartOf, IsToBegin, Layout, LeavesTheReached, Marking, mark_words, marks_at, MarksNothing, Name, NewStage, Op, opening_words, Pacing, page_of, Placed, Processor, processor_kind, Right, row_bit, Shape, Spans, state_of, SweepingAll, SweepsBeside, tally_of, Task, view, with_words, Words, words}
 
 -- The bytes that a processor has placed and not counted yet: those of the slot in which it has made an object.
 
@@ -146,13 +146,6 @@ module _ (shapes : List Shape) (l : Layout) (pacing : Pacing) (may : ℕ → Lis
 
   -- The cycle that is marked or swept, or the last that was.
 
-  -- it is about to begin
-  pub record IsToBegin (es : List (Entry Op)) (k : ℕ) : Type 0 where
-    pub lead : Coordinating
-    pub led : IsLed shapes l pacing may es lead
-    pub stage : IsBeginning lead.stage
-    pub cycle : lead.begun ≡ k
-
   -- it has begun; in the last one no value has changed since
   pub record IsInCycle (es : List (Entry Op)) (k : ℕ) : Type 0 where
     pub begun : List (Entry Op)
@@ -161,7 +154,7 @@ module _ (shapes : List Shape) (l : Layout) (pacing : Pacing) (may : ℕ → Lis
     pub last : (c : Coordinating) → IsLed shapes l pacing may es c → c.is_last ≡ true → ever shapes l pacing may es ≡ ever shapes l pacing may begun
 
   -- the heap that never frees where it began, or is about to
-  abbrev pub began : (es : List (Entry Op)) (k : ℕ) → IsToBegin es k ⊎ IsInCycle es k → Ever
+  abbrev pub began : (es : List (Entry Op)) (k : ℕ) → IsToBegin shapes l pacing may es k ⊎ IsInCycle es k → Ever
   began es k (inl b) = ever shapes l pacing may es
   began es k (inr i) = ever shapes l pacing may i.begun
 
@@ -182,7 +175,7 @@ module _ (shapes : List Shape) (l : Layout) (pacing : Pacing) (may : ℕ → Lis
     pub of_list : IsHeapOf es heap
     pub good : Good z (view heap)
     pub beside : IsBeside z heap s
-    pub cycle : IsToBegin es c.number ⊎ IsInCycle es c.number
+    pub cycle : IsToBegin shapes l pacing may es c.number ⊎ IsInCycle es c.number
     pub gone_on : HasGoneOn (began es c.number cycle) heap s
     pub drawn : (room : ℕ) → IsDrawnSo shapes l pacing may c s es room
     pub end : CycleEnd

@@ -8,7 +8,8 @@ use Rattle.gh_tri.specs.Tricolour.{Tricolour}
 use Rattle.gh_marks.specs.Colours.{Cycle}
 use Rattle.gh_marks.specs.Colours.{Shared as Marking}
 use Rattle.gh_marks.specs.Moves.{Went}
-use Rattle.gh_marks.specs.Picture.{Shows, ThePictureSays}
+use Rattle.gh_marks.specs.Picture.{ThePictureSays}
+use Rattle.gh_marks.specs.Shows.{Shows}
 use Rattle.gh_world.specs.Handshake.{Pacing}
 use Rattle.gh_world.specs.Marking.{IsBeginning, IsChecked, IsLedBy, IsStateOf}
 use Rattle.gh_world.specs.Processors.{arena_of}
@@ -19,7 +20,7 @@ module _ (shapes : List Shape) (l : Layout) (pacing : Pacing) (may : ℕ → Lis
   told es = words_after (opening_words pacing.trigger) es
 
   -- with the next entry cycle k begins
-  pub record Begins (es : List (Entry Op)) (k : ℕ) : Type 0 where
+  pub record IsToBegin (es : List (Entry Op)) (k : ℕ) : Type 0 where
     pub lead : Coordinating
     pub led : IsLedBy (arena_of shapes l) (processor_kind shapes l) pacing may es lead
     pub stage : IsBeginning lead.stage
@@ -27,7 +28,7 @@ module _ (shapes : List Shape) (l : Layout) (pacing : Pacing) (may : ℕ → Lis
 
   -- Behind the list the picture shows this state of marking. Where the cycle begins it comes of one as at a cycle's begin; and each entry since is moves of marking of its actor, which are moves of the picture.
   pub data Drawing (z : Cycle) : List (Entry Op) → Marking → Tricolour → Type 0 where
-    begins : (es : List (Entry Op)) (s : Marking) (first picture : Tricolour) (at : Row) → Begins es z.number → s.words ≡ told es → IsOpening first → Goes first picture → Shows z s at picture → Drawing z es s picture
+    begins : (es : List (Entry Op)) (s : Marking) (first picture : Tricolour) (at : Row) → IsToBegin es z.number → s.words ≡ told es → IsOpening first → Goes first picture → Shows z s at picture → Drawing z es s picture
     steps : (e : Entry Op) (es : List (Entry Op)) (s t : Marking) (before picture : Tricolour) (at : Row) → Drawing z es s before → Went z e.actor s t → t.words ≡ told (e ∷ es) → Goes before picture → Shows z t at picture → Drawing z (e ∷ es) t picture
 
   -- there is such a picture, with room for so many objects more
@@ -39,7 +40,7 @@ module _ (shapes : List Shape) (l : Layout) (pacing : Pacing) (may : ℕ → Lis
     pub room_left : picture.objects + room ≤ picture.limit
 
   -- So the cycle that is marked is drawn; the picture has its invariants, and marking has what they say. Where the coordinator has checked that nothing is left to be marked, nothing is in the picture.
-  pub record IsDrawn (es : List (Entry Op)) (c : Coordinating) : Type 0 where
+  pub record CycleIsDrawn (es : List (Entry Op)) (c : Coordinating) : Type 0 where
     pub cycle : Cycle
     pub shared : Marking
     pub is : IsStateOf (arena_of shapes l) (processor_kind shapes l) pacing may es c cycle shared

@@ -39,7 +39,7 @@ pub use Rattle.gh_mutator.specs.declared.new.NewStage.{NewStage}
 pub use Rattle.gh_mutator.specs.declared.processor.Processor.{Processor}
 pub use Rattle.gh_mutator.specs.declared.task.Task.{Task}
 pub use Rattle.gh_world.specs.Actors.{AllWereCounted, arena, BeginsCycle, EndsAllMarked, EndsCycle, ever, FreesTheUnreached, IsLed, LeavesTheReached, may_of, words}
-pub use Rattle.gh_world.specs.Drawn.{IsDrawn, IsDrawnSo}
+pub use Rattle.gh_world.specs.Drawn.{IsDrawnSo, IsToBegin}
 pub use Rattle.gh_world.specs.Handshake.{Pacing}
 pub use Rattle.gh_world.specs.Marking.{actors_after, IsBeginning, IsInLimits, IsStartOf}
 pub use Rattle.gh_world.specs.Order.{ended_in}

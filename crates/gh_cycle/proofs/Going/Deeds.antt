@@ -102,7 +102,7 @@ module _ (k : Known) (z : Cycle) (a : ℕ) (h : Heap) (s : Marking) (w : Togethe
       let made = ap (λ (e : Ever). e.made) by.ever in
       let types = ap (λ (e : Ever). e.type_of) by.ever in
       by-itself made types (deed.Sets g d value) (λ x. refl)
-      (takes-value k z a h s w m may step meets.0 g d value meets.2 meets.4 meets.5 (plain made types) (sym by.words) by.ever (stood z a h s m (left made types)) (λ o is. absurd (meets.1 o is)))
+      (takes-value k z a h s w m may step meets.0 g d value meets.2 meets.4 (plain made types) (sym by.words) by.ever (stood z a h s m (left made types)) (λ o is. absurd (meets.1 o is)))
   steps-go step (deed.Ends g) by meets =
       let ends : heap.May z.arena a (view (here h s)) (heap.Ends step g) = (subst (λ (t : Ask). heap.IsQuiet t) (sym meets.0) tt, meets.2) in
       by-other (ap (λ (e : Ever). e.made) by.ever) (ap (λ (e : Ever). e.type_of) by.ever) (deed.Ends g) (heap.Ends step g) ends (ends-goes k z a h s w step g ends meets.0) (λ x. refl) by.words by.ever refl

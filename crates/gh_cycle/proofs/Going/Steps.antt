@@ -7,7 +7,7 @@ use Rattle.gh_base.specs.declared.pack.TheConstants.{END}
 use Rattle.gh_base.specs.Rows.{Row}
 use Rattle.gh_heap.specs.Moves as heap
 use Rattle.gh_marks.specs.Moves as marks
-use Rattle.gh_cycle.proofs.Vocabulary.{alloc_words, Ask, birth_words, ClaimsSlot, Cycle, effect, eqb_tells, Ever, EverValue, Heap, IsReached, IsSafe, IsSince, Known, Marking, Name, nat_tests, Place, Placed, Placing, reference_of, RegistersFit, rows, Runs, update_at, View, view, with_end, with_register, with_words}
+use Rattle.gh_cycle.proofs.Vocabulary.{alloc_words, Ask, birth_words, ClaimsSlot, Cycle, effect, eqb_tells, Ever, EverValue, Heap, IsReached, IsSince, Known, Marking, Name, nat_tests, Place, Placed, Placing, reference_of, RegistersFit, Runs, update_at, View, view, with_end, with_register, with_words}
 use Rattle.gh_cycle.specs.Deeds.{TakesFrom}
 use Rattle.gh_cycle.proofs.Beginning.{names-reference}
 use Rattle.gh_cycle.proofs.Endings.Quiet.{quiet_view}
@@ -62,8 +62,7 @@ module _ (k : Known) (z : Cycle) (a : ℕ) (h : Heap) (s : Marking) (w : Togethe
     same-alloc = ap (λ (v : View). v.alloc) same-view
 
   -- A register takes a value by such a step.
-  module _ (m : heap.Move) (may : heap.May z.arena a (view (here h s)) m) (step : Ask) (mq : marks.IsQuiet s step) (g d : ℕ) (value : EverValue) (runs : Runs z.arena (view (here h s)) a g) (from : TakesFrom z.arena h.ever g value)
-      (safe : s.words (cell.Scanned g) ≡ z.number → IsSafe z.arena.layout.globals (rows s) (reference_of h.place value)) where
+  module _ (m : heap.Move) (may : heap.May z.arena a (view (here h s)) m) (step : Ask) (mq : marks.IsQuiet s step) (g d : ℕ) (value : EverValue) (runs : Runs z.arena (view (here h s)) a g) (from : TakesFrom z.arena h.ever g value) where
     abbrev word : ℕ
     word = reference_of h.place value
 
@@ -79,7 +78,6 @@ module _ (k : Known) (z : Cycle) (a : ℕ) (h : Heap) (s : Marking) (w : Togethe
       goes_on = w.beside.goes_on g runs.of.0 runs.goes_on;
       comes = comes k.made z a h s w g runs value from;
       since = reference-since value (from-reached z.arena h.ever g runs.goes_on value from);
-      safe = safe;
     }
 
     along : effect s.words step ≡ (there z a h s m).words → GoesAlong z a h s m then

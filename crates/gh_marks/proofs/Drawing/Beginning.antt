@@ -13,7 +13,8 @@ use Rattle.gh_tri.specs.Steps.{Goes, stays}
 use Rattle.gh_tri.specs.Tricolour.{Tricolour, NilOrMade, NilOrMarked, put}
 use Rattle.gh_marks.specs.Colours.{Cycle, IsSince, Shared}
 use Rattle.gh_marks.specs.Ends.{Opens}
-use Rattle.gh_marks.specs.Picture.{CyclesBeginDrawn, LieInHeap, Names, Shows, global_at, is_black_stack, is_scanned, pointer_at, shade_of}
+use Rattle.gh_marks.specs.Picture.{CyclesBeginDrawn}
+use Rattle.gh_marks.specs.Shows.{Names, Shows, global_at, is_black_stack, is_scanned, pointer_at, shade_of}
 use Rattle.gh_marks.proofs.Drawing.Numbering.{count, names-value, nth, numbers, value_of}
 use Rattle.gh_marks.proofs.Drawing.Reading.{global-none, global-word, lt-tells, named-some, pointer-none, pointer-tells, pointer-word}
 use Rattle.gh_marks.proofs.Drawing.Runs.{filled_to, goes-sees, goes-then}
@@ -32,7 +33,7 @@ module _ (over : ℕ → Bool) where
   rows-all : (n g d : ℕ) → g < n → d < 16 → rows_to n g d ≡ over g
   rows-all n g d l few = grind (arith, nat_tests)
 
-module _ (z : Cycle) (s : Shared) (room : ℕ) (opens : Opens z s) (lie : LieInHeap z s) where
+module _ (z : Cycle) (s : Shared) (room : ℕ) (opens : Opens z s) where
   abbrev words : ℕ
   words = 1024 * z.arena.layout.pages
 
@@ -62,7 +63,7 @@ module _ (z : Cycle) (s : Shared) (room : ℕ) (opens : Opens z s) (lie : LieInH
   }
 
   named : (w : ℕ) → IsSince s.since w → Names at objects (value_of s.since w) w
-  named = names-value s.since words lie.below
+  named = names-value s.since words opens.below
 
   nil-since : (w : ℕ) → w ≡ 0 → IsSince s.since w
   nil-since w e o h = absurd (omega arith)
@@ -85,7 +86,7 @@ module _ (z : Cycle) (s : Shared) (room : ℕ) (opens : Opens z s) (lie : LieInH
   fields : (n k : ℕ) → 0 < n → n < objects → Names at objects (value n k) (pointer_at s (at n) k)
   fields zero k some below = absurd (omega arith)
   fields (suc n) k some below = elim (lt-tells (suc n) objects) [
-    | inl y ↦ is-some n ((numbers s.since words lie.below).of_cycle (suc n) some below) y.0 k
+    | inl y ↦ is-some n ((numbers s.since words opens.below).of_cycle (suc n) some below) y.0 k
     | inr x ↦ absurd (omega (arith, x.1))
   ]
 
@@ -167,11 +168,11 @@ module _ (z : Cycle) (s : Shared) (room : ℕ) (opens : Opens z s) (lie : LieInH
 
   shows : Shows z s at (Ended z.arena.layout.goroutines)
   shows = record {
-    numbers = numbers s.since words lie.below;
+    numbers = numbers s.since words opens.below;
     stacks = refl;
     globals_fit = omega arith;
     objects_fit = omega arith;
-    sizes = lie.sizes;
+    sizes = opens.sizes;
     colours = λ n some below. white n some ∙ sym (ap shade_of (opens.white (at n)));
     waits = λ i l e. refl;
     all_scanned = λ all. absurd (two (sym (ap is_scanned (opens.untouched 0)) ∙ all 0 some-global));
@@ -195,14 +196,14 @@ module _ (z : Cycle) (s : Shared) (room : ℕ) (opens : Opens z s) (lie : LieInH
     seen g d l few = rows-all over z.arena.layout.goroutines g d l few
 
 pub cycles-begin-drawn : CyclesBeginDrawn
-cycles-begin-drawn z s room opens lie = record {
-  first = first z s room opens lie;
-  opens = opening z s room opens lie;
+cycles-begin-drawn z s room opens = record {
+  first = first z s room opens;
+  opens = opening z s room opens;
   drawn = record {
-    picture = Ended z s room opens lie z.arena.layout.goroutines;
-    at = at z s room opens lie;
-    goes = ends-seen z s room opens lie z.arena.layout.goroutines (omega arith);
-    shows = shows z s room opens lie;
+    picture = Ended z s room opens z.arena.layout.goroutines;
+    at = at z s room opens;
+    goes = ends-seen z s room opens z.arena.layout.goroutines (omega arith);
+    shows = shows z s room opens;
     room_left = omega arith;
   };
 }

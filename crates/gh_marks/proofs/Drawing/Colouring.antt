@@ -13,7 +13,8 @@ use Rattle.gh_tri.specs.Tricolour.{Tricolour, NilOrMarked, greyed, put, shaded}
 use Rattle.gh_marks.specs.Colours.{Black, Cycle, IsClean, IsPointer, Pending, Shared, White}
 use Rattle.gh_marks.specs.Good.{Good}
 use Rattle.gh_marks.specs.Moves.{Blacken, May, Move, Shade as Shades, ShadeFlat, moved}
-use Rattle.gh_marks.specs.Picture.{IsDrawn, Shows, shade_of}
+use Rattle.gh_marks.specs.Picture.{IsDrawn}
+use Rattle.gh_marks.specs.Shows.{Shows, shade_of}
 use Rattle.gh_marks.proofs.Bits.{two-ways, white-colour}
 use Rattle.gh_marks.proofs.Drawing.Reading.{clean-marked, named-nothing, pointer-none, pointer-tells, value-field}
 use Rattle.gh_marks.proofs.Drawing.Runs.{filled-other, filled_to, goes-black}

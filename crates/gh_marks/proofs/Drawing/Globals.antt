@@ -11,9 +11,11 @@ use Rattle.gh_tri.specs.Tricolour.{Tricolour, NilOrMarked, put, put2}
 use Rattle.gh_marks.specs.Colours.{Cycle, IsClean, Progress, Scanned, Shared}
 use Rattle.gh_marks.specs.Good.{Good}
 use Rattle.gh_marks.specs.Moves.{May, ScanGlobal, moved}
-use Rattle.gh_marks.specs.Picture.{IsDrawn, Shows, is_scanned}
+use Rattle.gh_marks.specs.Picture.{IsDrawn}
+use Rattle.gh_marks.specs.Shows.{Shows, is_scanned}
 use Rattle.gh_marks.proofs.Drawing.Reading.{clean-marked, global-none, named-nothing, value-global}
 use Rattle.gh_marks.proofs.Drawing.Runs.{filled-at, filled_to, goes-black, goes-scanned}
+use Rattle.gh_marks.proofs.Drawing.Saying.{the-picture-says}
 
 -- each of the first n is true, or one is not
 bounded : (test : ℕ → Bool) (n : ℕ) → ((k : ℕ) → k < n → test k ≡ true) ⊎ ((k : ℕ) × (k < n) × (test k ≡ false))
@@ -80,7 +82,7 @@ module _ (z : Cycle) (a : ℕ) (s : Shared) (at : Row) (p : Tricolour) (room : �
       | inr le ↦ (λ w e. let none : p.value 0 f ≡ None = named-nothing at p.objects (p.value 0 f) _ (sh.globals f) (global-none z s f le) in cc)
       | inl below ↦ elim (eqb_tells i f) [
         | inl y ↦ clean-global f below (subst (λ j. IsClean (mark_words s.words) (s.words (cell.Global j))) y.1 may.1)
-        | inr n ↦ clean-global f below (g.cursor.scanned f (is-scanned (s.progress f) (rw (n.0) at (all f below))))
+        | inr n ↦ clean-global f below ((the-picture-says z s g).globals f below (is-scanned (s.progress f) (rw (n.0) at (all f below))))
       ]
     ]
 

@@ -5,7 +5,8 @@ use Rattle.gh_tri.specs.Tricolour.{Tricolour}
 use Rattle.gh_marks.specs.Colours.{Cycle, Shared}
 use Rattle.gh_marks.specs.Good.{Good}
 use Rattle.gh_marks.specs.Laws.{EachMoveKeeps}
-use Rattle.gh_marks.specs.Picture.{EachMoveIsDrawn, EachStepIsDrawn, IsDrawn, Shows, many}
+use Rattle.gh_marks.specs.Picture.{EachMoveIsDrawn, EachStepIsDrawn, IsDrawn, many}
+use Rattle.gh_marks.specs.Shows.{Shows}
 use Rattle.gh_marks.specs.Moves.{Blacken, May, Went, ClaimGlobal, EndStack, Enter, GiveBuffer, PassGlobals, Place, PutField, PutGlobal, Quiet, ReadGlobal, Reserve, ScanGlobal, ScanStack, SetRegister, Shade, ShadeAgain, ShadeFlat, TakeBuffer, TakeEntry, goes, moved, stays}
 use Rattle.gh_marks.proofs.Drawing.Still.{again-drawn, claim-drawn, enter-drawn, give_buffer-drawn, pass-drawn, quiet-drawn, read-drawn, reserve-drawn, take_buffer-drawn, take_entry-drawn}
 use Rattle.gh_tri.specs.Steps as tri

@@ -6,7 +6,7 @@ use Rattle.std.proofs.lemmas.Bool.Decides.{eqb_tells}
 use Rattle.gh_base.specs.Packing.{bit}
 use Rattle.gh_base.specs.Rows.{Row}
 use Rattle.gh_marks.specs.Colours.{IsSince}
-use Rattle.gh_marks.specs.Picture.{Names, Numbers, nothing, object}
+use Rattle.gh_marks.specs.Shows.{Names, Numbers, nothing, object}
 
 module _ (since : ℕ → Bool) where
   -- how many lie below a heap word

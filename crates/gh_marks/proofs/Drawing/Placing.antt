@@ -13,7 +13,8 @@ use Rattle.gh_tri.specs.Tricolour as tri
 use Rattle.gh_marks.specs.Colours.{Black, Cycle, IsPointer, Shared}
 use Rattle.gh_marks.specs.Good.{Good}
 use Rattle.gh_marks.specs.Moves.{MayPlace, Place, moved}
-use Rattle.gh_marks.specs.Picture.{IsDrawn, Names, Numbers, Shows, global_at, nothing, object, pointer_at, shade_of}
+use Rattle.gh_marks.specs.Picture.{IsDrawn}
+use Rattle.gh_marks.specs.Shows.{Names, Numbers, Shows, global_at, nothing, object, pointer_at, shade_of}
 use Rattle.gh_marks.proofs.Drawing.Reading.{pointer-none, pointer-tells, pointer-word}
 use Rattle.gh_marks.proofs.Drawing.Showing.{names-put}
 

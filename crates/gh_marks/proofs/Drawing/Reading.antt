@@ -9,7 +9,7 @@ use Rattle.gh_tri.specs.Tricolour.{Tricolour, NilOrMade, NilOrMarked}
 use Rattle.gh_tri.specs.Tricolour as tri
 use Rattle.gh_marks.specs.Colours.{Black, Buffered, Claimed, Colour, Cycle, Extents, IsClean, IsGrey, IsMarked, IsPointer, IsSince, Pending, Placing, Progress, Read, Scanned, Shared, Taken, Untouched, Waits, White, mark_of}
 use Rattle.gh_marks.specs.Good.{MarksGood}
-use Rattle.gh_marks.specs.Picture.{Names, Numbers, Shows, global_at, is_scanned, nothing, object, pointer_at, shade_of}
+use Rattle.gh_marks.specs.Shows.{Names, Numbers, Shows, global_at, is_scanned, nothing, object, pointer_at, shade_of}
 
 -- ---- tests
 

@@ -11,10 +11,12 @@ use Rattle.gh_tri.specs.Invariants.{Edge, Invariants, IsMarkingDone, IsReached, 
 use Rattle.gh_tri.specs.Invariants as tri
 use Rattle.gh_tri.specs.Tricolour.{Tricolour}
 use Rattle.gh_marks.specs.Colours.{Cycle, IsClean, IsMarked, IsPointer, IsSafe, Protected, Shared, from_global, from_grey, from_white, rows}
-use Rattle.gh_marks.specs.Ends.{EachReachedIsMarked, IsDone, Reached}
+use Rattle.gh_marks.specs.Ends.{IsDone, Reached}
 use Rattle.gh_marks.specs.Ends as ends
-use Rattle.gh_marks.specs.Good.{MarksGood}
-use Rattle.gh_marks.specs.Picture.{MarkingEndsDrawn, Shows, WhatThePictureSays, is_black_stack, is_scanned, shade_of}
+use Rattle.gh_marks.specs.Good.{Good, MarksGood}
+use Rattle.gh_marks.specs.Laws.{MarkingEndsClean}
+use Rattle.gh_marks.specs.Picture.{MarkingEndsDrawn, ThePictureSays, WhatThePictureSays}
+use Rattle.gh_marks.specs.Shows.{IsPictured, Shows, is_black_stack, is_scanned, shade_of}
 use Rattle.gh_marks.proofs.Drawing.Reading.{global-none, is-grey, is-waiting, is-white, marked-clean, marked-object, named-some, named-word, pointer-some, pointer-word, value-field, value-global, within-fields}
 
 module _ (z : Cycle) (s : Shared) (at : Row) (p : Tricolour) (marks : MarksGood (mark_words s.words) s.colour) (sh : Shows z s at p) (i : Invariants p) where
@@ -104,64 +106,72 @@ module _ (z : Cycle) (s : Shared) (at : Row) (p : Tricolour) (marks : MarksGood 
         | inr known ↦ inr (subst (Protected z.arena.layout.globals (rows s)) n.3 (guarded n.0 known).2)
       ]
 
-  -- nothing is left in the picture
-  module _ (d : IsDone z s) where
-    all-scanned : p.colour 0 ≡ shade.Black
-    all-scanned = sh.all_scanned (λ k l. ap is_scanned (d.globals k l))
+-- Nothing is left to be marked: nothing is left in the picture.
+module _ (z : Cycle) (s : Shared) (at : Row) (p : Tricolour) (sh : Shows z s at p) (i : Invariants p) (d : IsDone z s) where
+  all-scanned : p.colour 0 ≡ shade.Black
+  all-scanned = sh.all_scanned (λ k l. ap is_scanned (d.globals k l))
 
-    none-grey : (n : ℕ) → n < p.objects → p.colour n ≢ shade.Grey
-    none-grey zero below e = black-grey (sym all-scanned ∙ e) where
-      black-grey : shade.Black ≡ shade.Grey → ⊥
-      black-grey x = cc
-    none-grey (suc n) below e = d.no_grey (at (suc n)) (is-grey (s.colour (at (suc n))) (sym (sh.colours (suc n) (omega arith) below) ∙ e))
+  none-grey : (n : ℕ) → n < p.objects → p.colour n ≢ shade.Grey
+  none-grey zero below e = black-grey (sym all-scanned ∙ e) where
+    black-grey : shade.Black ≡ shade.Grey → ⊥
+    black-grey x = cc
+  none-grey (suc n) below e = d.no_grey (at (suc n)) (is-grey (s.colour (at (suc n))) (sym (sh.colours (suc n) (omega arith) below) ∙ e))
 
-    ended : (word : ℕ) → (word ≡ z.number) ⊎ (word ≡ END) → is_black_stack z word ≡ true
-    ended word (inl e) = grind (arith, nat_tests)
-    ended word (inr e) = grind (arith, nat_tests)
+  ended : (word : ℕ) → (word ≡ z.number) ⊎ (word ≡ END) → is_black_stack z word ≡ true
+  ended word (inl e) = grind (arith, nat_tests)
+  ended word (inr e) = grind (arith, nat_tests)
 
-    pub picture-done : IsMarkingDone p
-    picture-done = record {
-      greys = none-grey;
-      globals = λ k l. i.marked_objects.black 0 k all-scanned l;
-      stacks = λ g l d' few. sh.seen g d' (rw (← sh.stacks) l) few ∙ ended (s.words (cell.Scanned g)) (d.stacks g (rw (← sh.stacks) l));
-    }
+  pub picture-done : IsMarkingDone p
+  picture-done = record {
+    greys = none-grey;
+    globals = λ k l. i.marked_objects.black 0 k all-scanned l;
+    stacks = λ g l d' few. sh.seen g d' (rw (← sh.stacks) l) few ∙ ended (s.words (cell.Scanned g)) (d.stacks g (rw (← sh.stacks) l));
+  }
 
-    abbrev Shown : ℕ → Type 0
-    Shown o = (n : ℕ) × (0 < n) × (n < p.objects) × (at n ≡ o) × IsReached p n
+-- and each object that a path leads to is reached in it
+module _ (z : Cycle) (s : Shared) (at : Row) (p : Tricolour) (sh : Shows z s at p) where
+  abbrev Shown : ℕ → Type 0
+  Shown o = (n : ℕ) × (0 < n) × (n < p.objects) × (at n ≡ o) × IsReached p n
 
-    shown : (o : ℕ) → Reached z s o → Shown o
-    shown o (ends.from_global k o' l e) =
-        let n = named-word at p.objects o (p.value 0 k) _ (value-global z s at p sh k l) e in
-        (n.0, n.1, n.2, n.3, tri.field 0 k n.0 tri.globals (record { within = within k l; holds = n.4 }))
-      where
-        within : (k : ℕ) → k < z.arena.layout.globals → k < p.fields
-        within k l = omega (arith, sh.globals_fit)
-    shown o (ends.from_register g d' o' l few e) =
-        let n = named-word at p.objects o (p.register g d') _ (sh.registers g d' l few) e in
-        (n.0, n.1, n.2, n.3, tri.held g d' n.0 (rw (sh.stacks) l) few n.4)
-    shown o (ends.from_field q k o' r l e) = next (shown q r) where
-      next : Shown q → Shown o
-      next t =
-          let l' : IsPointer s.extents (at t.0) k = subst (λ x. IsPointer s.extents x k) (sym t.3) l in
-          let e' : s.words (cell.Field (at t.0 + k)) ≡ o + 1 = ap (λ x. s.words (cell.Field (x + k))) t.3 ∙ e in
-          let n = named-word at p.objects o (p.value t.0 k) _ (value-field z s at p sh t.0 k t.1 t.2 l') e' in
-          (n.0, n.1, n.2, n.3, tri.field t.0 k n.0 t.4 (record { within = within-fields z s at p sh t.0 k t.1 t.2 l'; holds = n.4 }))
+  shown : (o : ℕ) → Reached z s o → Shown o
+  shown o (ends.from_global k o' l e) =
+      let n = named-word at p.objects o (p.value 0 k) _ (value-global z s at p sh k l) e in
+      (n.0, n.1, n.2, n.3, tri.field 0 k n.0 tri.globals (record { within = within k l; holds = n.4 }))
+    where
+      within : (k : ℕ) → k < z.arena.layout.globals → k < p.fields
+      within k l = omega (arith, sh.globals_fit)
+  shown o (ends.from_register g d' o' l few e) =
+      let n = named-word at p.objects o (p.register g d') _ (sh.registers g d' l few) e in
+      (n.0, n.1, n.2, n.3, tri.held g d' n.0 (rw (sh.stacks) l) few n.4)
+  shown o (ends.from_field q k o' r l e) = next (shown q r) where
+    next : Shown q → Shown o
+    next t =
+        let l' : IsPointer s.extents (at t.0) k = subst (λ x. IsPointer s.extents x k) (sym t.3) l in
+        let e' : s.words (cell.Field (at t.0 + k)) ≡ o + 1 = ap (λ x. s.words (cell.Field (x + k))) t.3 ∙ e in
+        let n = named-word at p.objects o (p.value t.0 k) _ (value-field z s at p sh t.0 k t.1 t.2 l') e' in
+        (n.0, n.1, n.2, n.3, tri.field t.0 k n.0 t.4 (record { within = within-fields z s at p sh t.0 k t.1 t.2 l'; holds = n.4 }))
 
-    pub reached-marked : MarkedWhatIsReached → EachReachedIsMarked z s
-    reached-marked law o r =
-        let n = shown o r in
-        subst (IsMarked (mark_words s.words)) n.3 (marked-object z s at p sh marks n.0 n.1 n.2 (λ white. law p i picture-done n.0 white n.4))
-
-pub the-picture-says : WhatThePictureSays
-the-picture-says z s at p marks sh i = record {
-  globals = λ k l e. global-clean z s at p marks sh i k l (ap is_scanned e);
-  blacks = λ o k known e l. let n = sh.numbers.all o known in
+says : (z : Cycle) (s : Shared) (at : Row) (p : Tricolour) → Good z s → Shows z s at p → Invariants p → ThePictureSays z s
+says z s at p good sh i = record {
+  globals = λ k l e. global-clean z s at p good.marks sh i k l (ap is_scanned e);
+  blacks = λ o k e l. let n = sh.numbers.all o (good.objects.shaded o (rw e tt)) in
       subst (λ x. IsClean (mark_words s.words) (s.words (cell.Field (x + k)))) n.3
-      (black-clean z s at p marks sh i n.0 k n.1 n.2 (sh.colours n.0 n.1 n.2 ∙ ap shade_of (ap s.colour n.3 ∙ e)) (subst (λ x. IsPointer s.extents x k) (sym n.3) l));
-  stacks = λ g d l few e. stack-safe z s at p marks sh i g d l few (number (s.words (cell.Scanned g)) e);
+      (black-clean z s at p good.marks sh i n.0 k n.1 n.2 (sh.colours n.0 n.1 n.2 ∙ ap shade_of (ap s.colour n.3 ∙ e)) (subst (λ x. IsPointer s.extents x k) (sym n.3) l));
+  stacks = λ g d l few e. stack-safe z s at p good.marks sh i g d l few (number (s.words (cell.Scanned g)) e);
 } where
   number : (word : ℕ) → word ≡ z.number → is_black_stack z word ≡ true
   number word e = grind (arith, nat_tests)
 
-pub marking-ends-drawn : MarkedWhatIsReached → MarkingEndsDrawn
-marking-ends-drawn law z s at p marks d sh i = record { done = picture-done z s at p marks sh i d; marked = reached-marked z s at p marks sh i d law }
+pub the-picture-says : WhatThePictureSays
+the-picture-says z s good = let x : IsPictured z s 0 = good.pictured 0 in says z s x.at x.picture good x.shows x.invariants
+
+pub marking-ends-drawn : MarkingEndsDrawn
+marking-ends-drawn z s at p d sh i = picture-done z s at p sh i d
+
+-- At the end each object that a path leads to is marked, since in the picture no white one is reached.
+pub marking-ends-clean : MarkedWhatIsReached → MarkingEndsClean
+marking-ends-clean law z s good d o r =
+    let x : IsPictured z s 0 = good.pictured 0 in
+    let n = shown z s x.at x.picture x.shows o r in
+    subst (IsMarked (mark_words s.words)) n.3
+    (marked-object z s x.at x.picture x.shows good.marks n.0 n.1 n.2 (λ white. law x.picture x.invariants (picture-done z s x.at x.picture x.shows x.invariants d) n.0 white n.4))

@@ -9,7 +9,7 @@ use Rattle.gh_base.specs.Rows.{Row}
 use Rattle.gh_heap.specs.Moves.{update, update_at}
 use Rattle.gh_tri.specs.Tricolour.{Tricolour, put, put2}
 use Rattle.gh_marks.specs.Colours.{Colour, Cycle, IsPointer, Progress, Shared}
-use Rattle.gh_marks.specs.Picture.{Names, Shows, is_black_stack, is_scanned, pointer_at, shade_of}
+use Rattle.gh_marks.specs.Shows.{Names, Shows, is_black_stack, is_scanned, pointer_at, shade_of}
 use Rattle.gh_marks.proofs.Drawing.Reading.{global-same, pointer-same}
 
 -- a table and a row that agree do so once both have taken a value

@@ -14,7 +14,8 @@ use Rattle.gh_tri.specs.Tricolour.{Tricolour, IsBlackStack, IsGreyStack, put2}
 use Rattle.gh_marks.specs.Colours.{Cycle, IsPointer, Shared}
 use Rattle.gh_marks.specs.Good.{Good}
 use Rattle.gh_marks.specs.Moves.{EndStack, May, MayBring, ScanStack, SetRegister, from_field, from_global, from_nothing, from_register, moved}
-use Rattle.gh_marks.specs.Picture.{IsDrawn, Names, Shows, is_black_stack, nothing}
+use Rattle.gh_marks.specs.Picture.{IsDrawn}
+use Rattle.gh_marks.specs.Shows.{Names, Shows, is_black_stack, nothing}
 use Rattle.gh_marks.proofs.Drawing.Reading.{clean-marked, named-word, value-field, value-global, within-fields}
 use Rattle.gh_marks.proofs.Drawing.Runs.{filled-at, filled-other, filled_to, goes-drops, goes-sees, goes-then}
 use Rattle.gh_marks.proofs.Drawing.Showing.{names-put, shows-stacks}

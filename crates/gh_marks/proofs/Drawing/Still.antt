@@ -9,7 +9,8 @@ use Rattle.gh_tri.specs.Tricolour.{Tricolour}
 use Rattle.gh_marks.specs.Colours.{Buffered, Claimed, Colour, Cycle, Placing, Progress, Read, Shared, Taken, Untouched}
 use Rattle.gh_marks.specs.Good.{Good}
 use Rattle.gh_marks.specs.Moves.{ClaimGlobal, Enter, GiveBuffer, May, Move, PassGlobals, Quiet, ReadGlobal, Reserve, ShadeAgain, TakeBuffer, TakeEntry, moved}
-use Rattle.gh_marks.specs.Picture.{IsDrawn, Shows, is_scanned, shade_of}
+use Rattle.gh_marks.specs.Picture.{IsDrawn}
+use Rattle.gh_marks.specs.Shows.{Shows, is_scanned, shade_of}
 use Rattle.gh_marks.proofs.Drawing.Showing.{shows-still}
 use Rattle.gh_marks.proofs.Quiet.{ReadRows, Unread, unread}
 

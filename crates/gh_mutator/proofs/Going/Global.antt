@@ -1,4 +1,4 @@
--- Steps of the load and the store of a global beside marking. A global holds what is safe, whatever its register; and it is written behind the barrier.
+-- Steps of the load and the store of a global beside marking. It is written behind the barrier.
 use Rattle.std.proofs.Common.{◌≡◌, ℕ, Bool, true, false, cond, Option, None, inr, refl, sym, ap, subst, ◌∙◌}
 use Rattle.gh_base.specs.declared.cell.Ask.TheVariants as ask
 use Rattle.gh_base.specs.declared.cell.Cell.{Cell}
@@ -35,7 +35,7 @@ use Rattle.gh_mutator.specs.Processor.{at_task, keeping, register_of}
 use Rattle.gh_mutator.specs.ProcessorMarks.{MarkFacts, TaskFacts}
 use Rattle.gh_mutator.specs.Vocabulary.{Answer, EverValue, Global, GlobalStage, Holds, Polling, Processor, Value}
 use Rattle.gh_mutator.proofs.Going.Known.{by_deed, fills_none, found_there, heap_then, Known, processor_then, StepAt, StepOf}
-use Rattle.gh_mutator.proofs.Going.Values.{global_safe, quits_rests}
+use Rattle.gh_mutator.proofs.Going.Values.{quits_rests}
 use Rattle.gh_mutator.proofs.Going.Writing.{write_fills, write_goes}
 use Rattle.gh_mutator.proofs.Marking.Known.{stacks_last}
 use Rattle.gh_mutator.proofs.Owning.Barrier.{word_written}
@@ -119,7 +119,6 @@ at k x stage.Load z a h s m pending t kn l = by_deed k z a h s (here x stage.Loa
   t.fine.task.0,
   t.fine.task.1,
   from_global x.k t.fine.task.2,
-  λ scanned. global_safe k.safe z a h s t.shapes t.heap t.marking t.beside x.k t.fine.task.2,
 )
     (λ u hands stacks. named_facts z a u x _ (value_of m.poll.layout.pages true (h.words (cell.Global x.k))) (record { stacks = stacks; number = t.facts.task_is.number; hands = hands (holding m.poll.local.held) t.facts.task_is.hands }))
 at k x (stage.Birth i) z a h s m pending t kn l = by_deed k z a h s (here x (stage.Birth i) m) pending t l Rests tt refl

@@ -22,7 +22,7 @@ use Rattle.gh_heap.specs.Objects.{Place}
 use Rattle.gh_heap.specs.Rights.{Shared as Heap}
 use Rattle.gh_marks.specs.Colours.{Placing}
 use Rattle.gh_marks.specs.Colours.{Shared as Marking}
-use Rattle.gh_marks.specs.Laws.{EachHandFollows, EachLoadIsSafe, EachOwnMoveLeaves}
+use Rattle.gh_marks.specs.Laws.{EachHandFollows, EachOwnMoveLeaves}
 use Rattle.gh_marks.specs.Moves as marks
 use Rattle.gh_stack.specs.Facts.{AreRegisters, named}
 use Rattle.gh_mutator.specs.Beside.{KnowsMarking, StepsOn, Together}
@@ -46,7 +46,6 @@ pub record Known : Type 0 where
   pub objects : ObjectsAreKnownBeside
   pub aside : ClaimedFieldsAreAside
   pub reserve : SlotsAreReserved
-  pub safe : EachLoadIsSafe
   pub follow : EachHandFollows
   pub leave : EachOwnMoveLeaves
   pub writes : WritesByMoves

@@ -1,4 +1,4 @@
--- Steps of a load beside marking. At its point its register takes what the field held, which is safe where the register is of a scanned stack.
+-- Steps of a load beside marking. At its point its register takes what the field held.
 use Rattle.std.proofs.Common.{◌≡◌, ℕ, ◌<◌, Bool, true, false, cond, Option, None, inl, inr, refl, ap, ◌∙◌}
 use Rattle.std.proofs.lemmas.Bool.{lt-ltb}
 use Rattle.gh_base.specs.declared.value.Answer.TheVariants as answer
@@ -23,7 +23,7 @@ use Rattle.gh_mutator.specs.Processor.{at_task}
 use Rattle.gh_mutator.specs.ProcessorMarks.{TaskFacts}
 use Rattle.gh_mutator.specs.Vocabulary.{Answer, Ends, Ever, EverValue, GoesOn, Load, LoadStage, Name, Polling, Processor, size_for, Step, Then, told, view}
 use Rattle.gh_mutator.proofs.Going.Known.{by_deed, EndsNone, fills_none, found_there, heap_then, Known, processor_then, StepAt, StepOf}
-use Rattle.gh_mutator.proofs.Going.Values.{between_then, field_safe, pointing_scans, Quits, quits_rests}
+use Rattle.gh_mutator.proofs.Going.Values.{between_then, pointing_scans, Quits, quits_rests}
 use Rattle.gh_mutator.proofs.Owning.Objects.{takes_told}
 
 follows_facts : (z : Cycle) (a : ℕ) (u : Marking) (p : Polling) (then : Then Load) → IsBetween z a u p.local → TaskFacts z a u p (follows task.Load then)
@@ -71,7 +71,6 @@ at k x (Field p) z a h s m pending t kn l = by k x (Field p) z a h s m pending t
       f.through.runs,
       f.register,
       from_field x.b f.n x.k f.through.register f.through.names t.fine.task.1 (pointing_scans z.arena.shapes t.shapes (h.ever.type_of f.n) x.k),
-      λ scanned. field_safe k.safe z a h s t.shapes t.heap t.marking t.beside x.g f.through.runs scanned x.b f.n x.k f.through.register f.through.names f.through.made t.fine.task.1,
     ) where
       f : Loads z.arena a (view h) (at_stage x (Field p)) pending
       f = t.fine.task.0

@@ -9,12 +9,10 @@ use Rattle.gh_mutator.specs.Processor.{at_task}
 use Rattle.gh_mutator.specs.Register.{begins}
 use Rattle.gh_mutator.specs.Vocabulary.{Register, Source}
 use Rattle.gh_mutator.proofs.Going.Known.{by_deed, fills_none, Known, StepAt}
-use Rattle.gh_mutator.proofs.Going.Values.{nothing_safe, register_safe}
-use Rattle.gh_marks.specs.Colours.{rows}
 
 at : Known → (g d : ℕ) (from : Source) → StepAt (task.Register (begins g d from))
 at k g d (source.Int n) z a h s m pending t kn l = by_deed k z a h s (at_task m (task.Register (begins g d (source.Int n)))) pending t l (Sets g d (ever.Int n)) tt refl
-    (tt, fills_none a s (holding m.poll.local.held) refl t.facts.task_is.hands, t.fine.task.0, t.fine.task.1, from_number n, λ scanned. nothing_safe z.arena.layout.globals (rows s))
+    (tt, fills_none a s (holding m.poll.local.held) refl t.facts.task_is.hands, t.fine.task.0, t.fine.task.1, from_number n)
     (λ u hands stacks. record { stacks = stacks; number = t.facts.task_is.number; hands = hands (holding m.poll.local.held) t.facts.task_is.hands })
 at k g d (source.Move r) z a h s m pending t kn l = by_deed k z a h s (at_task m (task.Register (begins g d (source.Move r)))) pending t l (Sets g d (h.ever.register g r)) tt refl (
   tt,
@@ -22,11 +20,10 @@ at k g d (source.Move r) z a h s m pending t kn l = by_deed k z a h s (at_task m
   t.fine.task.0,
   t.fine.task.1,
   from_register r t.fine.task.2,
-  λ scanned. register_safe k.safe z a h s t.shapes t.heap t.marking t.beside g t.fine.task.0 scanned r t.fine.task.2,
 )
     (λ u hands stacks. record { stacks = stacks; number = t.facts.task_is.number; hands = hands (holding m.poll.local.held) t.facts.task_is.hands })
 at k g d source.Nil z a h s m pending t kn l = by_deed k z a h s (at_task m (task.Register (begins g d source.Nil))) pending t l (Sets g d ever.Nil) tt refl
-    (tt, fills_none a s (holding m.poll.local.held) refl t.facts.task_is.hands, t.fine.task.0, t.fine.task.1, from_nil, λ scanned. nothing_safe z.arena.layout.globals (rows s))
+    (tt, fills_none a s (holding m.poll.local.held) refl t.facts.task_is.hands, t.fine.task.0, t.fine.task.1, from_nil)
     (λ u hands stacks. record { stacks = stacks; number = t.facts.task_is.number; hands = hands (holding m.poll.local.held) t.facts.task_is.hands })
 
 pub register_step : Known → (x : Register) → StepAt (task.Register x)

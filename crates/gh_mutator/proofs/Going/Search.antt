@@ -7,7 +7,6 @@ use Rattle.gh_alloc.specs.Search as search
 use Rattle.gh_cycle.specs.Beside.{FillsNone}
 use Rattle.gh_cycle.specs.Deeds.{from_nil, Rests, Sets}
 use Rattle.gh_heap.specs.Rights.{Shared as Heap}
-use Rattle.gh_marks.specs.Colours.{rows}
 use Rattle.gh_marks.specs.Colours.{Shared as Marking}
 use Rattle.gh_marks.specs.Moves.{IsAside, IsQuiet}
 use Rattle.gh_model.specs.declared.EverValue.TheVariants as ever
@@ -23,7 +22,6 @@ use Rattle.gh_mutator.specs.Processor.{at_task, cache_span}
 use Rattle.gh_mutator.specs.ProcessorMarks.{TaskFacts}
 use Rattle.gh_mutator.specs.Vocabulary.{Answer, At, Found, NoRoom, Op, Processor, Seeking, Wanted, cell_of}
 use Rattle.gh_mutator.proofs.Going.Known.{by_deed, fills_none, found_there, heap_then, Known, processor_then, StepAt, StepOf}
-use Rattle.gh_mutator.proofs.Going.Values.{nothing_safe}
 use Rattle.gh_mutator.proofs.Vocabulary.{WritesOf}
 use Rattle.gh_mutator.proofs.Writing.Rows.{seeking_writes}
 
@@ -77,7 +75,7 @@ module _ (k : Known) (v : Wanted) (waited : Bool) (y : Seeking) (z : Cycle) (a :
     refused : search.gives y n ≡ Some NoRoom → waited ≡ true → Goes
     refused e last = by_deed k z a h s here pending t l (Sets v.g v.d ever.Nil) tt
         (ap (λ (x : Option Found). acted z.arena.shapes h.ever (acting (refuses waited x) op_now true)) e ∙ ap (λ (b : Bool). acted z.arena.shapes h.ever (acting (refuses b (Some NoRoom)) op_now true)) last)
-        (quiet, fills, t.fine.task.wants.runs, t.fine.task.wants.register, from_nil, λ scanned. nothing_safe z.arena.layout.globals (rows s))
+        (quiet, fills, t.fine.task.wants.runs, t.fine.task.wants.register, from_nil)
         (λ u hands stacks. knows_at (Some NoRoom) e (nil waited last) u (hands (holding m.poll.local.held) t.facts.task_is.hands) stacks) where
           nil : (b : Bool) → b ≡ true → (u : Marking) → Hands a u (holding m.poll.local.held) → KnowsStacks z a u (after_search z.arena.shapes cached v b (search.goes y n) (Some NoRoom)).poll.local.stacks (after_search z.arena.shapes cached v b (search.goes y n) (Some NoRoom)).poll.local.scanned →
               TaskFacts z a u (after_search z.arena.shapes cached v b (search.goes y n) (Some NoRoom)).poll (after_search z.arena.shapes cached v b (search.goes y n) (Some NoRoom)).task

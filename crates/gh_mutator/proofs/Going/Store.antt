@@ -120,7 +120,7 @@ module _ (k : Known) (x : Store) (z : Cycle) (a : ℕ) (h : Heap) (s : Marking) 
       seat_is = t.facts.seat_is;
       stacks = t.facts.stacks;
       task_is = write_begins k z a h s t.shapes t.heap t.marking t.beside m.poll there held t.facts.layout_is
-          (record { o = h.place f.n; k = x.k; at_is = word_there k z a h s t.shapes t.heap t.marking t.beside f.n f.through.made reach x.k t.fine.task.1 m.poll.layout x.at t.facts.layout_is f.through.here; known = t.beside.reached f.n reach; pointer = is_pointer_there k.safe z a h s t.shapes t.heap t.marking t.beside f.n x.k f.through.made reach t.fine.task.1 kind })
+          (record { o = h.place f.n; k = x.k; at_is = word_there k z a h s t.shapes t.heap t.marking t.beside f.n f.through.made reach x.k t.fine.task.1 m.poll.layout x.at t.facts.layout_is f.through.here; known = t.beside.reached f.n reach; pointer = is_pointer_there z h s t.shapes t.heap t.beside f.n x.k f.through.made reach t.fine.task.1 kind })
           (known_pointer k z a h s t.shapes t.heap t.marking t.beside (h.ever.register x.g x.v) held (register_reached h.ever x.g x.v f.through.runs.goes_on (h.ever.register x.g x.v) refl) (t.fine.knows.stands.registers x.g x.v f.through.runs.of f.register))
           (room_for_two m.poll t.facts.task_is.1 on) t.facts.task_is.0;
     }

@@ -1,33 +1,25 @@
--- What a register takes beside marking names nothing, or what is marked or protected, if its stack is scanned; and what a statement's step changes in the heap that never frees.
-use Rattle.std.proofs.Common.{◌≡◌, ℕ, ◌+◌, ◌/◌, ◌%◌, ◌<◌, Bool, true, false, eqb, ltb, List, [], ◌∷◌, ◌++◌, length, Option, Some, None, inl, inr, ◌⊎◌, refl, sym, ap, subst, ◌∙◌, arith}
+-- What a statement's step changes in the heap that never frees, and the pointer fields of objects that a script reaches, beside marking.
+use Rattle.std.proofs.Common.{◌≡◌, ℕ, ◌/◌, ◌%◌, ◌<◌, Bool, true, false, eqb, ltb, List, [], ◌∷◌, ◌++◌, length, Option, Some, None, inl, inr, ◌⊎◌, refl, sym, ap, subst, ◌∙◌, arith}
 use Rattle.std.specs.Int.{bit_at}
 use Rattle.std.specs.Option.{option_to_list}
 use Rattle.std.proofs.lemmas.Bool.{cases_Bool, ltb-true, ltb-false}
 use Rattle.std.proofs.lemmas.List.{get_or_past}
 use Rattle.std.proofs.lemmas.Nat.Bits.{bit_at-zero}
-use Rattle.gh_base.specs.declared.cell.Cell.TheVariants as cell
-use Rattle.gh_base.specs.declared.limits.TheConstants.{REGISTERS}
 use Rattle.gh_base.specs.declared.value.Answer.TheVariants as answer
-use Rattle.gh_base.specs.Cells.{Words}
 use Rattle.gh_base.specs.Shapes.{FitsShape, is_pointer, no_shape, shape_at}
-use Rattle.gh_model.specs.declared.EverValue.TheVariants as ever
-use Rattle.gh_model.specs.Ever.{from_register}
 use Rattle.gh_cycle.specs.Beside.{IsBeside, IsOfCycle}
-use Rattle.gh_cycle.specs.Opening.{reference_of}
-use Rattle.gh_heap.specs.Objects.{Holds, Place}
 use Rattle.gh_heap.specs.Rights.{Good as HeapGood}
 use Rattle.gh_heap.specs.Rights.{Shared as Heap}
-use Rattle.gh_marks.specs.Colours.{IsGuarded, IsPointer, IsSafe, rows, Rows}
+use Rattle.gh_marks.specs.Colours.{IsPointer}
 use Rattle.gh_marks.specs.Colours.{Shared as Marking}
-use Rattle.gh_marks.specs.Laws.{EachLoadIsSafe}
 use Rattle.gh_mutator.specs.Deeds.{acted}
 use Rattle.gh_mutator.specs.Facts.{answered_at, ShapesAreGood}
 use Rattle.gh_mutator.specs.Listing.{acting}
 use Rattle.gh_mutator.specs.MarkFacts.{holding, IsBetween, KnowsNumber, KnowsStacks}
-use Rattle.gh_mutator.specs.MarkVocabulary.{Cycle, Good, Hands}
+use Rattle.gh_mutator.specs.MarkVocabulary.{Cycle, Hands}
 use Rattle.gh_mutator.specs.Local.{with_value}
 use Rattle.gh_mutator.specs.Step.{answered}
-use Rattle.gh_mutator.specs.Vocabulary.{Answer, answer_of, Ever, ever_after, EverValue, Fault, IsMade, Name, Op, points, Polling, Reach, Runs, Shape, size_for, Step, Value, view}
+use Rattle.gh_mutator.specs.Vocabulary.{Answer, answer_of, Ever, ever_after, Fault, IsMade, Name, Op, points, Polling, Reach, Shape, size_for, Step, Value, view}
 
 -- The heap that never frees.
 
@@ -57,22 +49,6 @@ pub between_then : (z : Cycle) (a : ℕ) (u : Marking) (p : Polling) (g d : ℕ)
 between_then z a u p g d None stacks number hands = record { stacks = stacks; number = number; hands = hands }
 between_then z a u p g d (Some v) stacks number hands = record { stacks = stacks; number = number; hands = hands }
 
--- What is safe.
-
-pub nothing_safe : (globals : ℕ) (r : Rows) → IsSafe globals r 0
-nothing_safe globals r o e = absurd (omega (arith, e))
-
--- the word of a pointer field is what its value names, and a number names nothing
-holds_reference : (place : Place) (made : ℕ → ℕ) (v : EverValue) (word : ℕ) → Holds place made true v word → word ≡ reference_of place v
-holds_reference place made ever.Nil word h = h.1
-holds_reference place made (ever.Int i) word h = absurd (let no = h.0 in cc)
-holds_reference place made (ever.Ref n) word h = h.1
-
-holds_number : (place : Place) (made : ℕ → ℕ) (v : EverValue) (word : ℕ) → Holds place made false v word → reference_of place v ≡ 0
-holds_number place made ever.Nil word h = absurd (let no = h.0 in cc)
-holds_number place made (ever.Int i) word h = refl
-holds_number place made (ever.Ref n) word h = absurd (let no = h.0 in cc)
-
 -- an object with a pointer field is not noscan
 no_bit : (i w : ℕ) → w ≡ 0 → eqb (bit_at w i) 1 ≡ false
 no_bit i w is = rw is (ap (λ (n : ℕ). eqb n 1) (bit_at-zero i))
@@ -89,13 +65,7 @@ pointing_scans shapes good t k pointer = by (ltb t (length shapes)) refl where
   by true l = scans (shape_at shapes t) k (good.fit t (ltb-true _ _ l)) pointer
   by false l = ap (λ (shape : Shape). shape.noscan) (get_or_past shapes t no_shape (ltb-false _ _ l)) ∙ absurd (let some = subst (λ (shape : Shape). is_pointer shape k ≡ true) (get_or_past shapes t no_shape (ltb-false _ _ l)) pointer in let none = no_bit (k % 64) _ (get_or_past [] (k / 64) 0 (omega arith)) in cc)
 
-module _ (safe : EachLoadIsSafe) (z : Cycle) (a : ℕ) (h : Heap) (s : Marking) (shapes : ShapesAreGood z.arena.shapes) (good : HeapGood z.arena (view h)) (well : Good z s) (beside : IsBeside z.arena h s) where
-  abbrev IsGood : EverValue → Type 0
-  IsGood v = IsSafe z.arena.layout.globals (rows s) (reference_of h.place v)
-
-  same : (c : _) → s.words c ≡ h.words c
-  same c = ap (λ (w : Words). w c) beside.words
-
+module _ (z : Cycle) (h : Heap) (s : Marking) (shapes : ShapesAreGood z.arena.shapes) (good : HeapGood z.arena (view h)) (beside : IsBeside z.arena h s) where
   -- an object that a script reaches is one of the cycle, with the pointer fields of its type
   pub of_cycle : (n : Name) → IsMade h.ever.made n → Reach h.ever n → IsOfCycle h s n
   of_cycle n made reach = record { made = made; placed = good.reached n reach; since = beside.reached n reach }
@@ -104,24 +74,3 @@ module _ (safe : EachLoadIsSafe) (z : Cycle) (a : ℕ) (h : Heap) (s : Marking) 
   is_pointer_there n k made reach few kind =
       let o = of_cycle n made reach in
       (subst (λ (i : ℕ). k < i) (sym (beside.size n o)) few, beside.pointer n k o few ∙ kind, beside.noscan n o ∙ pointing_scans z.arena.shapes shapes (h.ever.type_of n) k kind)
-
-  module _ (g : ℕ) (runs : Runs z.arena (view h) a g) (scanned : s.words (cell.Scanned g) ≡ z.number) where
-    -- what a register of the stack holds, what a global holds, and a field of the object that a register names
-    pub register_safe : (d : ℕ) → d < REGISTERS → IsGood (h.ever.register g d)
-    register_safe d low = subst (λ (n : ℕ). IsSafe z.arena.layout.globals (rows s) n) (beside.registers g d runs.of.0 low runs.goes_on) (well.stacks.black g d scanned low)
-
-    pub field_safe : (b : ℕ) (n : Name) (k : ℕ) → b < REGISTERS → h.ever.register g b ≡ ever.Ref n → IsMade h.ever.made n → k < size_for z.arena.shapes h.ever.type_of n → IsGood (h.ever.field n k)
-    field_safe b n k low names made few = by (points z.arena.shapes h.ever.type_of n k) refl (good.fields n k made (good.reached n reach) few) where
-      reach : Reach h.ever n
-      reach = from_register g b n runs.goes_on names
-
-      guarded : IsGuarded z.arena.layout.globals (rows s) (h.place n)
-      guarded = register_safe b low (h.place n) (ap (reference_of h.place) names)
-
-      by : (p : Bool) → points z.arena.shapes h.ever.type_of n k ≡ p → Holds h.place h.ever.made p (h.ever.field n k) (h.words (cell.Field (h.place n + k))) → IsGood (h.ever.field n k)
-      by true kind holds = subst (λ (w : ℕ). IsSafe z.arena.layout.globals (rows s) w) (same (cell.Field (h.place n + k)) ∙ holds_reference h.place h.ever.made (h.ever.field n k) _ holds)
-          ((safe z s well).field (h.place n) k (beside.reached n reach) guarded (is_pointer_there n k made reach few kind))
-      by false kind holds = subst (λ (w : ℕ). IsSafe z.arena.layout.globals (rows s) w) (sym (holds_number h.place h.ever.made (h.ever.field n k) _ holds)) (nothing_safe z.arena.layout.globals (rows s))
-
-  pub global_safe : (k : ℕ) → k < z.arena.layout.globals → IsGood (h.ever.global k)
-  global_safe k low = subst (λ (w : ℕ). IsSafe z.arena.layout.globals (rows s) w) (same (cell.Global k) ∙ holds_reference h.place h.ever.made (h.ever.global k) _ (good.globals k low)) ((safe z s well).global k low)

@@ -70,7 +70,7 @@ module _ (k : Known) (z : Cycle) (a : ℕ) (h : Heap) (s : Marking) (shapes : Sh
     below : h.place n + i < 1024 * z.arena.layout.pages
     below =
         let within = (objects (h.place n) (beside.reached n reach)).within in
-        let size = beside.size n (of_cycle k.safe z a h s shapes good well beside n made reach) in
+        let size = beside.size n (of_cycle z h s shapes good beside n made reach) in
         omega (arith, within, size, few)
 
     pub word_there : (l : Layout) (at : ℕ) → l ≡ z.arena.layout → at ≡ h.place n → (at + i) % (1024 * l.pages) ≡ h.place n + i

@@ -17,7 +17,7 @@ use Rattle.gh_phase.specs.declared.view.RunPhase.TheVariants as run
 use Rattle.gh_stack.specs.Facts.{named}
 use Rattle.gh_world.specs.declared.handshake.Actor.TheVariants as actor
 use Rattle.gh_world.specs.Numbers.{open_part}
-use Rattle.gh_world.proofs.Vocabulary.{actors_after, ahead_at, Arena, arena, AreRegisters, Begun, bit_at, Coordinating, CoordStage, Cycle, END, Entry, Ever, EverValue, Hands, HasCursor, HoldsAt, IsAsItShould, IsBeginning, IsInLimits, IsLed, IsMeant, IsOf, IsReady, Knows, Layout, Legal, mark_words, MarkFacts, Marking, MayBegin, Means, nothing, Op, Open, Pacing, part_of, Processor, processor_at, processor_kind, reference_of, register_at, REGISTERS, row_bit, Shape, stage_of, Stands, those, Value, view, Words, words, ◌%◌}
+use Rattle.gh_world.proofs.Vocabulary.{actors_after, ahead_at, Arena, arena, AreRegisters, Begun, bit_at, Coordinating, CoordStage, Cycle, END, Entry, Ever, EverValue, Hands, HasCursor, HoldsAt, IsAsItShould, IsBeginning, IsInLimits, IsLed, IsMeant, IsOf, IsReady, IsToBegin, Knows, Layout, Legal, mark_words, MarkFacts, Marking, MayBegin, Means, nothing, Op, Open, Pacing, part_of, Processor, processor_at, processor_kind, reference_of, register_at, REGISTERS, row_bit, Shape, stage_of, Stands, those, Value, view, Words, words, ◌%◌}
 use Rattle.gh_world.proofs.AllActors.Drawing.{drawn_first}
 use Rattle.gh_world.proofs.AllActors.Known.{Known, ListsKnown}
 use Rattle.gh_world.proofs.AllActors.LeadingSeat.{owes_nothing}
@@ -149,6 +149,9 @@ module _ (shapes : List Shape) (l : Layout) (pacing : Pacing) (may : ℕ → Lis
       knows : MarkFacts cycle a s m
       knows = subst (MarkFacts cycle a s) same (known.marks.opens cycle a s it stands_still)
 
+    to_begin : IsToBegin shapes l pacing may es c.begun
+    to_begin = record { lead = c; led = led; stage = b; cycle = refl }
+
     pub may_begin : MayBegin z (processor_kind shapes l) pacing may stage_of MarkFacts (Knows z pacing may) (IsMeant z pacing may) es c
     may_begin = record {
       cycle = cycle;
@@ -161,9 +164,9 @@ module _ (shapes : List Shape) (l : Layout) (pacing : Pacing) (may : ℕ → Lis
         of_list = r.of_list;
         good = r.good;
         beside = beside;
-        cycle = inl (record { lead = c; led = led; stage = b; cycle = refl });
+        cycle = inl to_begin;
         gone_on = subst (λ (v : Ever). HasGoneOn v r.heap s) r.of_list.ever_is (known.begins_so cycle r.heap s r.good r.of_list.bounded opened.of_heap);
-        drawn = drawn_first shapes l pacing may known.drawn cycle es s (record { lead = c; led = led; stage = b; cycle = refl }) (opened.of_heap.words ∙ r.of_list.words_are) opened.opens opened.in_heap;
+        drawn = drawn_first shapes l pacing may known.drawn cycle es s to_begin (opened.of_heap.words ∙ r.of_list.words_are) opened.opens;
         end = r.end;
         spans = r.spans;
         tally = r.tally;

@@ -10,7 +10,8 @@ use Rattle.gh_world.specs.declared.handshake.Actor.TheVariants as actor
 use Rattle.gh_world.specs.Actors.{AllStands, AllWereCounted, AreNamed, LeavesTheReached, StepsWithin}
 use Rattle.gh_world.specs.ActorsHold.{Holds, HoldsAt, IsHeapOf, IsQuiet, IsTelling, processor_at}
 use Rattle.gh_world.specs.ActorsMark.{IsMeant, Knows}
-use Rattle.gh_world.specs.HoldVocabulary.{arena, Arena, Coordinating, Entry, ever, Heap, IsDrawn, IsInLimits, IsLed, Layout, MarkFacts, Op, opening_words, Pacing, processor_kind, Shape, stage_of, words}
+use Rattle.gh_world.specs.Drawn.{CycleIsDrawn}
+use Rattle.gh_world.specs.HoldVocabulary.{arena, Arena, Coordinating, Entry, ever, Heap, IsInLimits, IsLed, Layout, MarkFacts, Op, opening_words, Pacing, processor_kind, Shape, stage_of, words}
 use Rattle.gh_world.specs.Marking.{MarksToTheEnd}
 use Rattle.gh_world.specs.Processors.{ListStands, StandsFor}
 use Rattle.gh_world.proofs.AllActors.Drawing.{is_drawn}
@@ -74,8 +75,8 @@ module _ (shapes : List Shape) (l : Layout) (pacing : Pacing) (may : ℕ → Lis
       one_lead d led_too = let both : actor.Leads c ≡ actor.Leads d = sym led ∙ led_too in cc
 
       -- the cycle that is marked
-      drawn : (d : Coordinating) → c ≡ d → leading.Marks d.stage → IsDrawn shapes l pacing may es d
-      drawn d same on = subst (IsDrawn shapes l pacing may es) same (
+      drawn : (d : Coordinating) → c ≡ d → leading.Marks d.stage → CycleIsDrawn shapes l pacing may es d
+      drawn d same on = subst (CycleIsDrawn shapes l pacing may es) same (
           let m = marked (subst (λ (x : Coordinating). leading.Marks x.stage) (sym same) on) in
           let k = m.marking in
           is_drawn shapes l pacing may known.drawn k.cycle es c k.shared k.is k.good m.ends (k.known.drawn 0))

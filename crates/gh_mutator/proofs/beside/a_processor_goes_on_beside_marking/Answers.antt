@@ -9,7 +9,6 @@ returns c = goes_on_beside (record {
   objects = c.objects_are_known_beside.ensures;
   aside = c.claimed_fields_are_aside.ensures;
   reserve = c.slots_are_reserved.ensures;
-  safe = c.loads_are_safe.ensures;
   follow = c.hands_follow.ensures;
   leave = c.own_moves_leave.ensures.leave;
   writes = c.writes_by_moves.ensures;
