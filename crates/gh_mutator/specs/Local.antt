@@ -1,20 +1,21 @@
 -- What a processor alone knows: its registers, the spans that it has cached, and the scans of its stacks. It is kept with the poll, which reads and changes it too.
-use Rattle.std.specs.Prelude.{ℕ, Bool, true, false, List, [], Option, Some, None, replicate, slice_index_or, slice_set}
+use Rattle.std.specs.Prelude.{ℕ, Bool, true, false, not, ◌&&◌, List, [], Option, Some, None, is_some, replicate, slice_index_or, slice_set}
 use Rattle.gh_base.specs.declared.limits.TheConstants.{MOST_GOROUTINES, REGISTERS}
 use Rattle.gh_base.specs.declared.pack.TheConstants.{END}
 use Rattle.gh_base.specs.declared.value.Value.{Value}
 use Rattle.gh_base.specs.declared.value.Value.TheVariants as value
+use Rattle.gh_base.specs.Packing.{phase_of}
 use Rattle.gh_class.specs.Classes.{span_index}
 use Rattle.gh_alloc.specs.declared.sought.CachedSpan.{CachedSpan}
 use Rattle.gh_alloc.specs.declared.sought.Sought.{Sought}
 use Rattle.gh_alloc.specs.declared.sought.Sought.TheVariants.{Small, Large}
 use Rattle.gh_phase.specs.declared.view.RunPhase.{RunPhase}
 use Rattle.gh_phase.specs.declared.view.RunPhase.TheVariants as run
-use Rattle.gh_phase.specs.Views.{first_view}
+use Rattle.gh_phase.specs.Views.{first_view, run_phase}
 use Rattle.gh_mutator.specs.declared.poll.Local.{Local}
 use Rattle.gh_mutator.specs.Give.{none_cached}
 use Rattle.gh_mutator.specs.Leave as leave
-use Rattle.gh_mutator.specs.Poll.{Polling}
+use Rattle.gh_mutator.specs.Poll.{Polling, is_busy}
 
 -- when the heap opens
 abbrev pub first_local : Local
@@ -34,6 +35,10 @@ is_mark _ = false
 
 abbrev pub marking_at : Polling → Bool
 marking_at p = is_mark p.local.view.phase
+
+-- This phase word ends at once a poll that begins now: none is under way, the world runs, and marking is off, as it knows.
+abbrev pub passes : Polling → (found : ℕ) → Bool
+passes p found = not (is_busy p.stage) && is_some (run_phase (phase_of found).phase) && not (marking_at p)
 
 -- Registers.
 

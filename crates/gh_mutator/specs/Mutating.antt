@@ -1,15 +1,17 @@
 -- The processor as a machine, which keeps the shapes of the types beside its state, and counts the statements that it has answered.
-use Rattle.std.specs.Prelude.{ℕ, ◌+◌, ◌-◌, ◌^◌, min, Bool, List, Option, Some, None}
+use Rattle.std.specs.Prelude.{ℕ, ◌+◌, ◌-◌, ◌^◌, min, Bool, true, false, not, ◌&&◌, List, Option, Some, None}
 use Rattle.gh_base.specs.declared.cell.Ask.{Ask}
 use Rattle.gh_base.specs.declared.layout.Layout.{Layout}
 use Rattle.gh_base.specs.declared.operation.Op.{Op}
+use Rattle.gh_base.specs.declared.operation.Op.TheVariants as op
 use Rattle.gh_base.specs.declared.shape.Shape.{Shape}
 use Rattle.gh_base.specs.declared.value.Answer.{Answer}
 use Rattle.gh_base.specs.Routines.{Listing}
 use Rattle.gh_mutator.specs.declared.processor.Processor.{Processor}
 use Rattle.gh_mutator.specs.Listing.{acts as acts_by, Act, asks as asks_of, begins as begins_by, gives as gives_by, is_busy_at, takes}
+use Rattle.gh_mutator.specs.Local.{passes as passes_by}
 use Rattle.gh_mutator.specs.Processor.{opening_processor}
-use Rattle.gh_mutator.specs.Serving.{statement_answer}
+use Rattle.gh_mutator.specs.Serving.{has_left_at, statement_answer}
 
 pub record Mutating : Type 0 where
   pub shapes : List Shape
@@ -50,3 +52,18 @@ listing = record { layout = layout; busy = is_busy; asks = asks; goes = goes; gi
 -- the operation that acts by that step, if one does
 abbrev pub acts : Mutating → (found : ℕ) → Option Act
 acts m found = acts_by m.processor found
+
+-- Where nothing is begun: it has not left, and a poll that it begins is ended at once by this phase word.
+abbrev pub passes : Mutating → (found : ℕ) → Bool
+passes m found = not (has_left_at m.processor.task) && passes_by m.processor.poll found
+
+-- the statement touches registers alone, and no word
+abbrev pub is_of_registers : Op → Bool
+is_of_registers (op.Int g d n) = true
+is_of_registers (op.Move g d s) = true
+is_of_registers (op.Nil g d) = true
+is_of_registers _ = false
+
+-- Where nothing is begun: it has not left, and the operation is such a statement.
+abbrev pub sets : Mutating → Op → Bool
+sets m o = not (has_left_at m.processor.task) && is_of_registers o

@@ -5,7 +5,7 @@ ghost use Rattle.gh_base.specs.declared.cell.Ask.TheVariants as ask;
 ghost use Rattle.gh_base.specs.declared.cell.Cell.TheVariants as cell;
 ghost use Rattle.gh_base.specs.declared.operation.Op.TheVariants as ops;
 ghost use Rattle.gh_base.specs.declared.value.Answer.TheVariants as answers;
-ghost use Rattle.gh_mutator.specs.Mutating.{acts, asks, begins, goes, is_busy, opening};
+ghost use Rattle.gh_mutator.specs.Mutating.{acts, asks, begins, goes, is_busy, opening, passes, sets};
 ghost use Rattle.gh_mutator.specs.Barrier.{has_entries};
 ghost use Rattle.gh_mutator.specs.Serving.{has_left_at, is_last, is_point, is_serving, statement_answer};
 ghost use Rattle.gh_base.specs.Shapes.{ShapesFit};
@@ -73,6 +73,7 @@ impl<'s> Mutator<'s> {
     /// to do. It answers whether that is so; where not, nothing is begun.
     pub fn passes(&mut self, found: u64) -> bool
         requires idle { is_busy self.old ≡ false }
+        ensures exactly { result ≡ passes self.old found }
         ensures passed { IsTrue result → self.new ≡ goes (begins self.old ops.Poll) found }
         ensures stays { result ≡ false → self.new ≡ self.old }
     {
@@ -87,6 +88,7 @@ impl<'s> Mutator<'s> {
     pub fn sets(&mut self, op: Op) -> bool
         requires idle { is_busy self.old ≡ false }
         requires op { SoundOp self.old.shapes self.old.processor.poll.layout op }
+        ensures exactly { result ≡ sets self.old op }
         ensures set { IsTrue result → (found : ℕ) → (self.new ≡ goes (begins self.old op) found) × (asks (begins self.old op) ≡ ask.Load cell.Touch) × (statement_answer (begins self.old op).processor found ≡ Some answers.Done) × (is_last (begins self.old op).processor.task ≡ false) × (is_point (acts (begins self.old op) found) ≡ true) }
         ensures stays { result ≡ false → self.new ≡ self.old }
     {

@@ -5,6 +5,7 @@ ghost use Rattle.gh_base.specs.declared.limits.TheConstants.{MOST_GOROUTINES};
 ghost use Rattle.gh_phase.specs.Listing as resumes;
 ghost use Rattle.gh_wbuf.specs.RoomFinding as rooms;
 ghost use Rattle.gh_mutator.specs.Give as gives;
+ghost use Rattle.gh_mutator.specs.Local.{passes};
 ghost use Rattle.gh_mutator.specs.MarkStack as marks;
 ghost use Rattle.gh_mutator.specs.GiveSound.{Runs};
 ghost use Rattle.gh_mutator.specs.Poll.{begins, begins_stack, counted, due, first_due, given, gives as gives_by, goes, goes_at, has_two, is_due, marks_then, resting, room_stage, stops_then};
@@ -149,6 +150,7 @@ impl Poll {
     /// A poll of a turn's own is begun, and ended at once by the phase word that it finds, where nothing is to be done: the
     /// world runs, and marking is off, as the processor knows. It answers whether that is so; where not, nothing is begun.
     pub(crate) fn passes(&mut self, found: u64) -> bool
+        ensures exactly { result ≡ passes self.old found }
         ensures passed { IsTrue result → (self.new ≡ goes (begins self.old false) found) × (gives_by (begins self.old false) found ≡ Some tt) }
         ensures stays { result ≡ false → self.new ≡ self.old }
     {
