@@ -1,26 +1,31 @@
--- A long list of numbers in blocks of equal length.
-use Rattle.std.specs.Prelude.{◌≡◌, ℕ, ◌*◌, ◌<◌, ◌≤◌, ◌/◌, ◌%◌, List, [], ◌∷◌, length, map, replicate, slice_index_or, ◌⊎◌}
-use Rattle.std.specs.List.{range_with_len}
-use Rattle.gh_words.specs.declared.block.TheConstants.{BLOCK}
+-- A long list of numbers in blocks of equal length, of which the used ones stand one after another.
+use Rattle.std.specs.Prelude.{◌≡◌, ℕ, ◌+◌, ◌<◌, ◌≤◌, ◌/◌, ◌%◌, ◌==◌, List, [], length, map, slice_index_or}
+use Rattle.std.specs.List.{count_by, range_with_len}
+use Rattle.gh_words.specs.declared.plain.TheConstants.{BLOCK, NOWHERE}
 
--- the numbers of a block: a block with none stands for zeros
-abbrev pub full : List ℕ → List ℕ
-full [] = replicate BLOCK 0
-full (x ∷ xs) = x ∷ xs
+-- where this block stands among the used ones
+abbrev pub place_at : List ℕ → ℕ → ℕ
+place_at places block = slice_index_or places block NOWHERE
 
--- a block has no number, and room for all, or has all
-abbrev pub Fits : List ℕ → (room : ℕ) → Type 0
-Fits numbers room = ((numbers ≡ []) × (BLOCK ≤ room)) ⊎ (length numbers ≡ BLOCK)
-
--- the number at this place of all blocks
-abbrev pub number_at : List (List ℕ) → ℕ → ℕ
-number_at blocks i = slice_index_or (slice_index_or blocks (i / BLOCK) []) (i % BLOCK) 0
+-- the number at this place of all blocks: 0 where its block stands nowhere
+abbrev pub number_at : List (List ℕ) → List ℕ → ℕ → ℕ
+number_at used places i = slice_index_or (slice_index_or used (place_at places (i / BLOCK)) []) (i % BLOCK) 0
 
 -- the first n numbers of all blocks
-abbrev pub spread : List (List ℕ) → (n : ℕ) → List ℕ
-spread blocks n = map (number_at blocks) (range_with_len 0 n)
+abbrev pub spread : List (List ℕ) → List ℕ → (n : ℕ) → List ℕ
+spread used places n = map (number_at used places) (range_with_len 0 n)
 
--- the blocks have so many numbers
-pub record FitBlocks (blocks : List (List ℕ)) (n : ℕ) : Type 0 where
-  pub enough : n ≤ length blocks * BLOCK
-  pub each : (k : ℕ) → k < length blocks → length (slice_index_or blocks k []) ≡ BLOCK
+-- the used blocks are whole; a block stands at a place of its own, or nowhere; and there is room for all that stand nowhere
+pub record FitBlocks (used : List (List ℕ)) (places : List ℕ) (room : ℕ) : Type 0 where
+  pub whole : (k : ℕ) → k < length used → length (slice_index_or used k []) ≡ BLOCK
+  pub known : (b : ℕ) → length used ≤ place_at places b → place_at places b ≡ NOWHERE
+  pub apart : (a b : ℕ) → place_at places a < length used → place_at places a ≡ place_at places b → a ≡ b
+  pub roomy : length used + count_by (λ place. place == NOWHERE) places ≤ room
+  pub few : room < NOWHERE
+
+-- this block stands at this place from now on, and no number is changed by it
+pub record Stands (block place : ℕ) (used used_now : List (List ℕ)) (places places_now : List ℕ) : Type 0 where
+  pub here : place < length used_now
+  pub noted : place ≡ place_at places_now block
+  pub many : length places_now ≡ length places
+  pub same : (i : ℕ) → number_at used_now places_now i ≡ number_at used places i

@@ -4,7 +4,6 @@
 //! and tells the machine what the step found. [`Plain`] keeps them in a list, for one thread.
 #![tactic(auto)]
 
-mod block;
 mod plain;
 
 pub use plain::{Plain, Words};

@@ -1,10 +1,15 @@
 //! Words in a plain list.
+//!
+//! A heap has up to millions of words, and a short script makes steps on few of them. So a block of words is cleared by
+//! the first step on one of them, and memory that no step needs is never touched.
 
-ghost use Rattle.std.specs.Prelude.{◌≡◌, ◌^◌, ◌<◌, IfOk, length, replicate, slice_index, slice_set};
+ghost use Rattle.std.specs.Prelude.{◌≡◌, ◌^◌, ◌<◌, ◌≤◌, IfOk, length, replicate, slice_index, slice_set};
+ghost use Rattle.std.specs.Vec.{vec_capacity};
 ghost use Rattle.gh_base.specs.Cells.{length_of, opening_words, Shows};
 ghost use Rattle.gh_base.specs.Steps.{changed, target};
+ghost use Rattle.gh_words.specs.Blocks.{place_at, FitBlocks, Stands};
+ghost use Rattle.gh_words.specs.declared.plain.TheConstants.{BLOCK};
 
-use crate::block::{BLOCK, Block};
 use gh_base::{Cell, Layout, Req};
 use std::alloc::{AllocError, Global};
 use std::marker::Model;
@@ -24,22 +29,68 @@ pub trait Words {
         ensures left { list self.new ≡ changed request (list self.old) };
 }
 
-/// The words of a heap in a list, which is in blocks: those that nothing is done to are never cleared.
+/// The words of a block: so few that one is cleared quickly, and so many that a heap has few blocks.
+const BLOCK: usize = 1024;
+
+/// The place of a block that no step was made on: it has no memory yet.
+const NOWHERE: u32 = u32::MAX;
+
+/// The words of a heap in a list, which is in blocks. The memory for all of them is one piece, taken when the heap opens.
+/// The first step on a block gives it the next part of that piece, and clears it.
 #[derive(Debug, Drop)]
 pub struct Plain {
-    blocks: Vec<Block>,
-    length: usize,
+    // The blocks that a step was made on, in the order of their first steps.
+    used: Vec<[u64; BLOCK]>,
+    // Where each block stands among those, or NOWHERE: its words are then 0.
+    places: Vec<u32>,
+    count: usize,
 }
 
 impl Model for Plain {
-    ghost use Rattle.std.specs.Prelude.{List, ℕ};
+    ghost use Rattle.std.specs.Prelude.{List, ℕ, ◌*◌, ◌≤◌, length};
+    ghost use Rattle.std.specs.Vec.{vec_capacity};
     ghost use Rattle.gh_words.specs.Blocks.{spread, FitBlocks};
+    ghost use Rattle.gh_words.specs.declared.plain.TheConstants.{BLOCK};
 
     ghost Value = { List ℕ };
 
-    ghost view = { λ p. spread p.blocks.items p.length };
+    ghost view = { λ p. spread p.used.items p.places.items p.count };
 
-    ghost invariant = { λ p. FitBlocks p.blocks.items p.length };
+    ghost invariant = { λ p.
+        (p.count ≤ length p.places.items * BLOCK)
+        × FitBlocks p.used.items p.places.items (vec_capacity p.used) };
+}
+
+/// Clears memory for this block, which stands nowhere, behind the used ones. Answers where it stands from now on.
+#[cold]
+#[inline(never)]
+fn begin(used: &mut Vec<[u64; BLOCK]>, places: &mut Vec<u32>, block: usize) -> usize
+    requires there { block < length places.old.items }
+    requires unused { length used.old.items ≤ place_at places.old.items block }
+    requires fits { FitBlocks used.old.items places.old.items (vec_capacity used.old) }
+    ensures fits { FitBlocks used.new.items places.new.items (vec_capacity used.new) }
+    ensures stands { Stands block result used.old.items used.new.items places.old.items places.new.items }
+{
+    let place = used.len();
+    used.push_reserved([0; BLOCK]);
+    places[block] = place as u32;
+    place
+}
+
+/// Where this block stands among the used ones. If it stands nowhere, it begins to be used.
+#[inline(always)]
+fn place_of(used: &mut Vec<[u64; BLOCK]>, places: &mut Vec<u32>, block: usize) -> usize
+    requires there { block < length places.old.items }
+    requires fits { FitBlocks used.old.items places.old.items (vec_capacity used.old) }
+    ensures fits { FitBlocks used.new.items places.new.items (vec_capacity used.new) }
+    ensures stands { Stands block result used.old.items used.new.items places.old.items places.new.items }
+{
+    let place = places[block] as usize;
+    if place < used.len() {
+        place
+    } else {
+        begin(used, places, block)
+    }
 }
 
 impl Plain {
@@ -49,9 +100,9 @@ impl Plain {
         ensures { IfOk result (λ words. Shows layout.now words (opening_words trigger)) }
     {
         let mut words = Plain::cleared(alloc, layout.words() as usize)?;
-        words.set(layout.word(Cell::Gen) as usize, 2);
-        words.set(layout.word(Cell::Slack) as usize, 1);
-        words.set(layout.word(Cell::Trigger) as usize, trigger);
+        words.set(layout.word(Cell::Gen), 2);
+        words.set(layout.word(Cell::Slack), 1);
+        words.set(layout.word(Cell::Trigger), trigger);
         Ok(words)
     }
 
@@ -60,27 +111,29 @@ impl Plain {
         requires { length < 2 ^ 32 }
         ensures { IfOk result (λ words. words ≡ replicate length 0) }
     {
-        let count = length / BLOCK + 1;
-        let mut blocks = Vec::with_capacity(alloc, count)?;
-        for _ in 0..count {
-            blocks.push_reserved(Block::new(alloc)?);
-        }
-        Ok(Plain { blocks, length })
+        let blocks = length / BLOCK + 1;
+        let used = Vec::with_capacity(alloc, blocks)?;
+        let places = vec![in alloc; NOWHERE; blocks]?;
+        Ok(Plain {
+            used,
+            places,
+            count: length,
+        })
     }
 
     /// This is the word of this number from now on.
-    fn set(&mut self, at: usize, word: u64)
-        requires { at < length self.old }
-        ensures { self.new ≡ slice_set self.old at word }
+    fn set(&mut self, word: u32, number: u64)
+        requires { word < length self.old }
+        ensures { self.new ≡ slice_set self.old word number }
     {
-        self.blocks[at / BLOCK].set(at % BLOCK, word);
+        self.step(Req::Store(word, number));
     }
 
     /// How many words there are.
     pub fn count(&self) -> usize
         ensures { result ≡ length self.now }
     {
-        self.length
+        self.count
     }
 
     /// The word of this number.
@@ -90,7 +143,11 @@ impl Plain {
         ensures { result ≡ slice_index self.now word }
     {
         let at = word as usize;
-        self.blocks[at / BLOCK].get(at % BLOCK)
+        let place = self.places[at / BLOCK] as usize;
+        if place >= self.used.len() {
+            return 0;
+        }
+        self.used[place][at % BLOCK]
     }
 }
 
@@ -99,7 +156,10 @@ impl Words for Plain {
 
     fn step(&mut self, request: Req) -> u64 {
         let at = request.word() as usize;
-        self.blocks[at / BLOCK].step(at % BLOCK, request)
+        let place = place_of(&mut self.used, &mut self.places, at / BLOCK);
+        let found = self.used[place][at % BLOCK];
+        self.used[place][at % BLOCK] = request.left(found);
+        found
     }
 }
 
@@ -151,6 +211,27 @@ mod tests {
         ] {
             assert!(rt; (request.word() as usize) < words.count());
             assert_eq!(rt; step_on(&mut words, request), found, "{request:?}");
+        }
+        Ok(())
+    }
+
+    #[test]
+    fn blocks_are_used_in_any_order(rt: HostRuntime) -> Result<(), Fail> {
+        let layout = Layout::new(16, 1, 1, 1, 1)?;
+        let mut words = Plain::new(rt.alloc(), &layout, 0)?;
+        for (request, found, word, number) in [
+            (Req::Store(51_096, 5), 0, 30_000, 0),
+            (Req::Store(20_480, 6), 0, 51_096, 5),
+            (Req::Store(20_479, 7), 0, 20_480, 6),
+            (Req::Add(51_096, 1), 5, 20_479, 7),
+            (Req::Load(20_480), 6, 30_000, 0),
+            (Req::Load(30_001), 0, 51_096, 6),
+            (Req::Load(51_095), 0, 10, 0),
+        ] {
+            assert!(rt; (request.word() as usize) < words.count());
+            assert_eq!(rt; step_on(&mut words, request), found, "{request:?}");
+            assert!(rt; (word as usize) < words.count());
+            assert_eq!(rt; words.word_at(word), number, "{word}");
         }
         Ok(())
     }

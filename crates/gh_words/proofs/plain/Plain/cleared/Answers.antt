@@ -1,9 +1,8 @@
-use Rattle.std.proofs.Common.{◌*◌, ◌≤◌, length, arith}
-use Rattle.gh_words.specs.declared.block.TheConstants.{BLOCK}
-use Rattle.gh_words.proofs.Spread.{spread_zeros}
+use Rattle.std.proofs.Common.{replicate, sym}
+use Rattle.std.proofs.lemmas.List.{length-replicate}
+use Rattle.gh_base.specs.Reading.{read_replicate}
+use Rattle.gh_words.proofs.Spread.{shows}
 use Rattle.gh_words.proofs.plain.Plain.cleared.Goals as goal
 
 pub returns : goal.returns
-returns c =
-    let many : c.args.length ≤ length c.loop.blocks.items * BLOCK = omega (arith, c.loop.invariant.so_far, c.loop-test.false, c.loop.auto.counter-end) in
-    spread_zeros c.loop.blocks.items c.args.length many c.loop.invariant.zeros
+returns c = shows c.in_ok-used.used.items c.in_ok-places.places.items c.args.length (replicate c.args.length 0) (length-replicate c.args.length 0) (λ i lt. rw c.in_ok-used.ensures.items (sym (read_replicate c.args.length i 0)))

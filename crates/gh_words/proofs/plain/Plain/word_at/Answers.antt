@@ -1,18 +1,25 @@
-use Rattle.std.proofs.Common.{◌<◌, ◌/◌, ◌%◌, ℕ, List, [], get_or, length, sym, ap, ◌∙◌, arith}
-use Rattle.std.proofs.lemmas.List.{get_or_default}
-use Rattle.gh_words.specs.declared.block.TheConstants.{BLOCK}
-use Rattle.gh_words.proofs.Spread.{below, spread_long, spread_read}
+use Rattle.std.proofs.Common.{[], arith}
+use Rattle.std.proofs.lemmas.List.{get_or_past, get_or_read}
+use Rattle.gh_words.specs.declared.plain.TheConstants.{NOWHERE}
+use Rattle.gh_words.proofs.Spread.{shown, shown_block}
 use Rattle.gh_words.proofs.plain.Plain.word_at.Goals as goal
 
 pub index-requires : goal.index-requires
 index-requires c =
-    let low : c.args.word < c.self.inside.length = let long = spread_long c.self.inside.blocks.items c.self.inside.length in let same = ap length c.self.view_is in omega (arith, c.requires, long, same) in
-    let there : c.args.word / BLOCK < length c.self.inside.blocks.items = below c.self.inside.blocks.items c.self.inside.length c.args.word c.self.invariant low in
-    omega (arith, there, c.self.inside.blocks.ok.0)
+    let low = shown_block c.self.inside _ c.self.view_is c.args.word c.requires c.self.invariant.0 in
+    omega (arith, c.self.inside.places.ok.0)
+
+pub returns-then-place-len : goal.returns-then-place-len
+returns-then-place-len c =
+    let low = shown_block c.self.inside _ c.self.view_is c.args.word c.requires c.self.invariant.0 in
+    let place = get_or_read c.self.inside.places.items _ _ low c.index.ensures NOWHERE in
+    let none = get_or_past c.self.inside.used.items c.index.result.now [] (omega (arith, c.self.inside.used.ok.0)) in
+    rw (← place, none) at (shown c.self.inside _ c.self.view_is c.args.word c.requires)
 
 pub returns : goal.returns
 returns c =
-    let low : c.args.word < c.self.inside.length = let long = spread_long c.self.inside.blocks.items c.self.inside.length in let same = ap length c.self.view_is in omega (arith, c.requires, long, same) in
-    let there : c.args.word / BLOCK < length c.self.inside.blocks.items = below c.self.inside.blocks.items c.self.inside.length c.args.word c.self.invariant low in
-    c.get.ensures.is ∙ ap (λ (b : List ℕ). get_or b (c.args.word % BLOCK) 0) (c.index.ensures ∙ get_or_default c.self.inside.blocks.items (c.args.word / BLOCK) _ [] there)
-    ∙ sym (spread_read c.self.inside.blocks.items c.self.inside.length c.args.word low) ∙ ap (λ (xs : List ℕ). get_or xs c.args.word 0) c.self.view_is
+    let low = shown_block c.self.inside _ c.self.view_is c.args.word c.requires c.self.invariant.0 in
+    let place = get_or_read c.self.inside.places.items _ _ low c.index.ensures NOWHERE in
+    let block = get_or_read c.self.inside.used.items _ _ (omega (arith, c.self.inside.used.ok.0)) c.index-2.ensures [] in
+    let is = shown c.self.inside _ c.self.view_is c.args.word c.requires in
+    cc

@@ -1,44 +1,25 @@
-use Rattle.std.proofs.Common.{◌<◌, ◌/◌, ◌%◌, ℕ, List, [], get_or, length, sym, ap, ◌∙◌, arith}
-use Rattle.std.proofs.Math.ListN.{set}
-use Rattle.std.proofs.lemmas.List.{get_or_default}
-use Rattle.gh_base.specs.Steps.{leaves}
-use Rattle.gh_words.specs.Blocks.{spread}
-use Rattle.gh_words.specs.declared.block.TheConstants.{BLOCK}
-use Rattle.gh_words.proofs.Spread.{below, fit_set, spread_long, spread_read, spread_set}
+use Rattle.std.proofs.Common.{◌<◌, ◌∙◌, [], length, refl, sym, arith}
+use Rattle.std.proofs.lemmas.List.{get_or_read}
+use Rattle.gh_words.proofs.Spread.{shown, shown_block, shown_long, spread_written}
 use Rattle.gh_words.proofs.plain.PlainWords.step.Goals as goal
 
-pub index_mut-requires : goal.index_mut-requires
-index_mut-requires c =
-    let low : c.word-at.result < c.self.inside.length = let long = spread_long c.self.inside.blocks.items c.self.inside.length in let same = ap length c.self.view_is in omega (arith, c.requires, c.word-at.ensures, long, same) in
-    let there : c.word-at.result / BLOCK < length c.self.inside.blocks.items = below c.self.inside.blocks.items c.self.inside.length c.word-at.result c.self.invariant low in
-    omega (arith, there, c.self.inside.blocks.ok.0)
-
-pub invariant_of-self : goal.invariant_of-self
-invariant_of-self c =
-    let low : c.word-at.result < c.self.inside.length = let long = spread_long c.self.inside.blocks.items c.self.inside.length in let same = ap length c.self.view_is in omega (arith, c.requires, c.word-at.ensures, long, same) in
-    let there : c.word-at.result / BLOCK < length c.self.inside.blocks.items = below c.self.inside.blocks.items c.self.inside.length c.word-at.result c.self.invariant low in
-    let block = c.index_mut.ensures.value ∙ get_or_default c.self.inside.blocks.items (c.word-at.result / BLOCK) _ [] there in
-    let read = ap (λ (b : List ℕ). get_or b (c.word-at.result % BLOCK) 0) block ∙ sym (spread_read c.self.inside.blocks.items c.self.inside.length c.word-at.result low) ∙ ap (λ (xs : List ℕ). get_or xs c.word-at.result 0) c.self.view_is in
-    let word = leaves c.args.request (get_or c.args.self.now c.word-at.result 0) in
-    let now = c.step.ensures.left ∙ ap (λ (n : ℕ). set c.index_mut.result.now (c.word-at.result % BLOCK) (leaves c.args.request n)) read ∙ ap (λ (b : List ℕ). set b (c.word-at.result % BLOCK) word) block in
-    rw now (fit_set c.self.inside.blocks.items c.self.inside.length c.word-at.result word c.self.invariant low)
+pub place_of-place-requires-clause-there : goal.place_of-place-requires-clause-there
+place_of-place-requires-clause-there c = shown_block c.self.inside _ c.self.view_is c.word-at.result (omega (arith, c.word-at.ensures)) c.self.invariant.0
 
 pub returns-clause-found : goal.returns-clause-found
 returns-clause-found c =
-    let low : c.word-at.result < c.self.inside.length = let long = spread_long c.self.inside.blocks.items c.self.inside.length in let same = ap length c.self.view_is in omega (arith, c.requires, c.word-at.ensures, long, same) in
-    let there : c.word-at.result / BLOCK < length c.self.inside.blocks.items = below c.self.inside.blocks.items c.self.inside.length c.word-at.result c.self.invariant low in
-    let block = c.index_mut.ensures.value ∙ get_or_default c.self.inside.blocks.items (c.word-at.result / BLOCK) _ [] there in
-    let read = ap (λ (b : List ℕ). get_or b (c.word-at.result % BLOCK) 0) block ∙ sym (spread_read c.self.inside.blocks.items c.self.inside.length c.word-at.result low) ∙ ap (λ (xs : List ℕ). get_or xs c.word-at.result 0) c.self.view_is in
-    c.step.ensures.found ∙ read ∙ ap (λ (i : ℕ). get_or c.args.self.now i 0) c.word-at.ensures
+    let stands = c.place_of-place.ensures.stands in
+    let lt : c.word-at.result < length c.args.self.now = omega (arith, c.word-at.ensures) in
+    let is = shown c.self.inside _ c.self.view_is c.word-at.result lt in
+    let same = stands.same c.word-at.result in
+    let block = get_or_read c.place_of-place.new.used.items _ _ stands.here c.index.ensures [] in
+    cc
 
 pub returns-clause-left : goal.returns-clause-left
 returns-clause-left c =
-    let low : c.word-at.result < c.self.inside.length = let long = spread_long c.self.inside.blocks.items c.self.inside.length in let same = ap length c.self.view_is in omega (arith, c.requires, c.word-at.ensures, long, same) in
-    let there : c.word-at.result / BLOCK < length c.self.inside.blocks.items = below c.self.inside.blocks.items c.self.inside.length c.word-at.result c.self.invariant low in
-    let block = c.index_mut.ensures.value ∙ get_or_default c.self.inside.blocks.items (c.word-at.result / BLOCK) _ [] there in
-    let read = ap (λ (b : List ℕ). get_or b (c.word-at.result % BLOCK) 0) block ∙ sym (spread_read c.self.inside.blocks.items c.self.inside.length c.word-at.result low) ∙ ap (λ (xs : List ℕ). get_or xs c.word-at.result 0) c.self.view_is in
-    let word = leaves c.args.request (get_or c.args.self.now c.word-at.result 0) in
-    let now = c.step.ensures.left ∙ ap (λ (n : ℕ). set c.index_mut.result.now (c.word-at.result % BLOCK) (leaves c.args.request n)) read ∙ ap (λ (b : List ℕ). set b (c.word-at.result % BLOCK) word) block in
-    ap (λ (b : List ℕ). spread (set c.self.inside.blocks.items (c.word-at.result / BLOCK) b) c.self.inside.length) now
-    ∙ spread_set c.self.inside.blocks.items c.self.inside.length c.word-at.result word c.self.invariant low
-    ∙ ap (λ (xs : List ℕ). set xs c.word-at.result word) c.self.view_is ∙ ap (λ (i : ℕ). set c.args.self.now i (leaves c.args.request (get_or c.args.self.now i 0))) c.word-at.ensures
+    let new = c.place_of-place.new in
+    let stands = c.place_of-place.ensures.stands in
+    let long = shown_long c.self.inside _ c.self.view_is in
+    let block = get_or_read new.used.items _ _ stands.here c.index_mut.ensures.value [] in
+    let written = spread_written new.used.items new.places.items _ c.self.inside.count c.word-at.result c.left.result c.args.self.now c.place_of-place.ensures.fits (λ j low. stands.same j ∙ shown c.self.inside _ c.self.view_is j (omega (arith, long))) (sym long) (omega (arith, c.word-at.ensures)) (rw (← stands.noted) stands.here) in
+    rw (block, stands.noted) (written ∙ rw (c.word-at.ensures, c.left.ensures, returns-clause-found c) refl)
