@@ -1,14 +1,17 @@
 //! A processor of a world, and how far it is among its turns.
 
-ghost use Rattle.std.specs.Prelude.{◌≡◌, ◌<◌, length, slice_index, true, false, IsTrue};
+ghost use Rattle.std.specs.Prelude.{◌≡◌, ◌<◌, ◌&&◌, not, length, slice_index, true, false, IsTrue, MatchOption};
 ghost use Rattle.gh_base.specs.Cells.{InRange, length_of};
 ghost use Rattle.gh_base.specs.declared.limits.TheConstants.{MOST_GOROUTINES};
 ghost use Rattle.gh_base.specs.Steps.{cell_of, changed, request, target};
+ghost use Rattle.gh_base.specs.declared.cell.Ask.TheVariants as ask;
+ghost use Rattle.gh_base.specs.declared.cell.Cell.TheVariants as cell;
 ghost use Rattle.gh_base.specs.declared.value.Answer.TheVariants as answers;
 ghost use Rattle.gh_world.specs.declared.event.Event.TheVariants as events;
 ghost use Rattle.gh_mutator.specs.Mutating as mutating;
-ghost use Rattle.gh_mutator.specs.Mutating.{asks, goes, is_busy};
+ghost use Rattle.gh_mutator.specs.Mutating.{asks, goes, is_busy, passes, sets};
 ghost use Rattle.gh_mutator.specs.Serving.{has_left_at, is_last, is_point, statement_answer};
+ghost use Rattle.gh_world.specs.Turns.{is_poll_due, op_due};
 ghost use Rattle.gh_world.specs.World.{event_at, now_of, Begins, FitTurns, IsOpening, LaysOut, Ran};
 
 use crate::event::{Event, event_at};
@@ -77,6 +80,8 @@ impl<'s> Runner<'s> {
         requires fits { FitTurns script.now layout.now seat self.old.mutator self.old.progress }
         requires going { has_left_at self.old.mutator.processor.task ≡ false }
         requires long { length words.old ≡ length_of layout.now }
+        ensures exactly { let found = slice_index words.old (target (request layout.now (ask.Load cell.Phase))) in
+            result ≡ (not (is_busy self.old.mutator) && is_poll_due self.old.progress.next && passes self.old.mutator found) }
         ensures ran { IsTrue result → Ran script.now layout.now seat words.old words.new self.old self.new events.Moved false }
         ensures stays { result ≡ false → (self.new ≡ self.old) × (words.new ≡ words.old) }
     {
@@ -104,6 +109,7 @@ impl<'s> Runner<'s> {
         requires fits { FitTurns script.now layout.now seat self.old.mutator self.old.progress }
         requires going { has_left_at self.old.mutator.processor.task ≡ false }
         requires long { length words.old ≡ length_of layout.now }
+        ensures exactly { MatchOption (op_due script.now self.old.progress.next) (result ≡ false) (λ o. result ≡ (not (is_busy self.old.mutator) && sets self.old.mutator o)) }
         ensures ran { let now = now_of self.new.progress in
             IsTrue result → Ran script.now layout.now seat words.old words.new self.old self.new (events.Answered now.0 now.1 answers.Done) true }
         ensures stays { result ≡ false → (self.new ≡ self.old) × (words.new ≡ words.old) }
