@@ -1,5 +1,5 @@
 -- What a world keeps, whichever list it is the state of: once an operation is begun, after a step, and as it opens.
-use Rattle.std.proofs.Common.{◌≡◌, ℕ, ◌+◌, ◌^◌, ◌<◌, ◌≤◌, Bool, true, false, cond, List, length, replicate, get_or, length-set, refl, sym, ◌∙◌, ap, subst, Option, Some, None, arith}
+use Rattle.std.proofs.Common.{◌≡◌, ℕ, ◌+◌, ◌^◌, ◌<◌, ◌≤◌, Bool, true, false, cond, List, length, replicate, get_or, slice_index, length-set, refl, sym, ◌∙◌, ap, subst, Option, Some, None, arith}
 use Rattle.std.specs.Prelude.{sum_by}
 use Rattle.std.proofs.lemmas.List.Sums.{sum_by-set}
 use Rattle.gh_mutator.specs.PollRoom.{MayStore, PollsMakeRoom}
@@ -79,8 +79,15 @@ module _ (p : Program) (l : Layout) (script : WellFormed p) (layout : LaysOut p 
   pub begun_busy : (o : Op) → op_due p t.next ≡ Some o → is_busy_at (begins_at m.shapes m.processor o) ≡ true
   begun_busy o due = begins_busy m.shapes m.processor l.goroutines l.globals (length p.shapes) o (due_runs p l script layout a t.next o f.stands due).ranged
 
-  pub stated_few : t.stated ≤ 200000
+  stated_few : t.stated ≤ 200000
   stated_few = omega (arith, f.all, total_by-le p a, few_statements p script)
+
+  -- a statement more can be counted
+  pub stated_fits : t.stated + 1 < 2 ^ 32
+  stated_fits = omega (arith, stated_few)
+
+  pub begun_fits : (g : ℕ) → slice_index t.begun g + 1 < 2 ^ 32
+  begun_fits g = omega (arith, stated_few, f.few_begun g)
 
   pub marks_few : m.marks + 1 < 2 ^ 32
   marks_few = omega (arith, f.marked, stated_few)

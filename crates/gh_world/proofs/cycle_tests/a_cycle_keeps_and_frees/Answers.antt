@@ -1,4 +1,4 @@
-use Rattle.std.proofs.Common.{arith, ◌≡◌, ℕ, ◌+◌, ◌≤◌, List}
+use Rattle.std.proofs.Common.{arith, ◌≡◌, ℕ, List}
 use Rattle.gh_base.specs.Reading.{read_replicate}
 use Rattle.gh_mutator.specs.Mutating.{opening}
 use Rattle.gh_world.specs.Vocabulary.{made_by, Layout, Shape}

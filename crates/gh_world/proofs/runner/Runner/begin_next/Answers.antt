@@ -1,6 +1,6 @@
-use Rattle.std.proofs.Common.{◌≡◌, Some, sym, ◌∙◌, arith}
+use Rattle.std.proofs.Common.{◌≡◌, Some, sym, ◌∙◌}
 use Rattle.gh_world.specs.Turns.{goroutine_at, op_due}
-use Rattle.gh_world.proofs.Fitting.{due_room, due_sound, due_named, fit_begun, stated_few}
+use Rattle.gh_world.proofs.Fitting.{begun_fits, due_room, due_sound, due_named, fit_begun, stated_fits}
 use Rattle.gh_world.proofs.runner.Runner.begin_next.Goals as goal
 
 pub begin-requires-clause-op : goal.begin-requires-clause-op
@@ -13,14 +13,10 @@ pub begin-requires-clause-room : goal.begin-requires-clause-room
 begin-requires-clause-room c = due_room c.polls_make_room.ensures c.args.script.now c.args.self.now.mutator.processor c.args.self.now.progress.next c.in-Some.op (sym c.is_busy.ensures ∙ c.if-is_busy.false) (sym c.due.ensures ∙ c.in-Some.is) c.requires.fits.polled
 
 pub count-requires-clause-few : goal.count-requires-clause-few
-count-requires-clause-few c =
-    let few = stated_few _ _ c.is_well_formed.ensures c.requires.layout _ _ _ c.requires.fits in
-    omega (arith, few, c.requires.fits.few_begun (goroutine_at c.in-Some.op))
+count-requires-clause-few c = begun_fits _ _ c.is_well_formed.ensures c.requires.layout _ _ _ c.requires.fits (goroutine_at c.in-Some.op)
 
 pub count-requires-clause-fits : goal.count-requires-clause-fits
-count-requires-clause-fits c =
-    let few = stated_few _ _ c.is_well_formed.ensures c.requires.layout _ _ _ c.requires.fits in
-    omega (arith, few)
+count-requires-clause-fits c = stated_fits _ _ c.is_well_formed.ensures c.requires.layout _ _ _ c.requires.fits
 
 pub returns-in-Some-clause-fits : goal.returns-in-Some-clause-fits
 returns-in-Some-clause-fits c =

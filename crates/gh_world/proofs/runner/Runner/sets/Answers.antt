@@ -1,4 +1,4 @@
-use Rattle.std.proofs.Common.{◌≡◌, ℕ, Bool, false, sym, ap, subst, ◌∙◌, Some, arith, slice_index}
+use Rattle.std.proofs.Common.{◌≡◌, ℕ, Bool, false, sym, ap, subst, ◌∙◌, Some, slice_index}
 use Rattle.gh_base.specs.Steps.{cell_of, changed, request}
 use Rattle.gh_base.specs.declared.cell.Ask.{Ask}
 use Rattle.gh_base.specs.declared.cell.Req.{Req}
@@ -11,7 +11,7 @@ use Rattle.gh_world.specs.declared.runner.Runner.{Runner}
 use Rattle.gh_world.specs.World.{event_at, found_for, now_of}
 use Rattle.gh_world.specs.Turns.{goroutine_at, op_due}
 use Rattle.gh_world.proofs.AtOnce.{at_once}
-use Rattle.gh_world.proofs.Fitting.{due_sound, stated_few}
+use Rattle.gh_world.proofs.Fitting.{begun_fits, due_sound, stated_fits}
 use Rattle.gh_world.proofs.Vocabulary.{InRange, Progress, progress_after, statement_answer}
 use Rattle.gh_world.proofs.runner.Runner.sets.Goals as goal
 
@@ -19,14 +19,10 @@ pub sets-requires-clause-op : goal.sets-requires-clause-op
 sets-requires-clause-op c = due_sound _ _ c.is_well_formed.ensures c.requires.layout _ _ _ c.requires.fits c.in-Some.op (sym c.due.ensures ∙ c.in-Some.is)
 
 pub count-requires-clause-few : goal.count-requires-clause-few
-count-requires-clause-few c =
-    let few = stated_few _ _ c.is_well_formed.ensures c.requires.layout _ _ _ c.requires.fits in
-    omega (arith, few, c.requires.fits.few_begun (goroutine_at c.in-Some.op))
+count-requires-clause-few c = begun_fits _ _ c.is_well_formed.ensures c.requires.layout _ _ _ c.requires.fits (goroutine_at c.in-Some.op)
 
 pub count-requires-clause-fits : goal.count-requires-clause-fits
-count-requires-clause-fits c =
-    let few = stated_few _ _ c.is_well_formed.ensures c.requires.layout _ _ _ c.requires.fits in
-    omega (arith, few)
+count-requires-clause-fits c = stated_fits _ _ c.is_well_formed.ensures c.requires.layout _ _ _ c.requires.fits
 
 pub returns-clause-ran : goal.returns-clause-ran
 returns-clause-ran c t =

@@ -9,37 +9,36 @@ use Rattle.gh_worker.specs.Listing.{asks, Working}
 use Rattle.gh_world.specs.World.{FitOthers, IsStepOfWorker, State}
 use Rattle.gh_world.proofs.Fitting.{fits_again, others_worked, work_is}
 use Rattle.gh_world.proofs.world.World.work.Goals as goal
+use Rattle.gh_world.proofs.world.World.work.Goals.{After-index_mut-worker}
+
+-- the worker that is lent is the one at the place
+there : (c : After-index_mut-worker) → slice_get c.self.inside.workers.items c.args.i ≡ Some c.index_mut-worker.result.now
+there c =
+    let low : c.args.i < length c.self.inside.workers.items = subst (λ (w : State). c.args.i < length w.workers) (sym c.self.view_is) c.requires.there in
+    slice_get_read c.self.inside.workers.items (length c.self.inside.workers.items) c.args.i c.index_mut-worker.result.now refl low c.index_mut-worker.ensures.value
 
 pub step_on-out-requires-clause-busy : goal.step_on-out-requires-clause-busy
-step_on-out-requires-clause-busy c =
-    let low : c.args.i < length c.self.inside.workers.items = subst (λ (w : State). c.args.i < length w.workers) (sym c.self.view_is) c.requires.there in
-    let there : slice_get c.self.inside.workers.items c.args.i ≡ Some c.index_mut-worker.result.now = slice_get_read c.self.inside.workers.items (length c.self.inside.workers.items) c.args.i c.index_mut-worker.result.now refl low c.index_mut-worker.ensures.value in
-    c.requires.busy c.index_mut-worker.result.now (ap (λ (w : State). slice_get w.workers c.args.i) (sym c.self.view_is) ∙ there)
+step_on-out-requires-clause-busy c = c.requires.busy c.index_mut-worker.result.now (ap (λ (w : State). slice_get w.workers c.args.i) (sym c.self.view_is) ∙ there (goal.at.step_on-out-requires-clause-busy c).After-index_mut-worker)
 
 pub step_on-out-requires-clause-long : goal.step_on-out-requires-clause-long
-step_on-out-requires-clause-long c =
-    let low : c.args.i < length c.self.inside.workers.items = subst (λ (w : State). c.args.i < length w.workers) (sym c.self.view_is) c.requires.there in
-    let there : slice_get c.self.inside.workers.items c.args.i ≡ Some c.index_mut-worker.result.now = slice_get_read c.self.inside.workers.items (length c.self.inside.workers.items) c.args.i c.index_mut-worker.result.now refl low c.index_mut-worker.ensures.value in
-    c.self.invariant.base.long ∙ ap length_of (sym (c.self.invariant.others.laid c.args.i c.index_mut-worker.result.now there))
+step_on-out-requires-clause-long c = c.self.invariant.base.long ∙ ap length_of (sym (c.self.invariant.others.laid c.args.i c.index_mut-worker.result.now (there (goal.at.step_on-out-requires-clause-long c).After-index_mut-worker)))
 
 pub invariant_of-self : goal.invariant_of-self
 invariant_of-self c =
-    let low : c.args.i < length c.self.inside.workers.items = subst (λ (w : State). c.args.i < length w.workers) (sym c.self.view_is) c.requires.there in
-    let there : slice_get c.self.inside.workers.items c.args.i ≡ Some c.index_mut-worker.result.now = slice_get_read c.self.inside.workers.items (length c.self.inside.workers.items) c.args.i c.index_mut-worker.result.now refl low c.index_mut-worker.ensures.value in
-    let laid = c.self.invariant.others.laid c.args.i c.index_mut-worker.result.now there in
+    let here = there (goal.at.invariant_of-self c).After-index_mut-worker in
+    let laid = c.self.invariant.others.laid c.args.i c.index_mut-worker.result.now here in
     let words : c.step_on-out.new.words ≡ changed (request c.self.inside.layout (asks c.index_mut-worker.result.now)) c.self.inside.words =
     c.step_on-out.ensures.words ∙ ap (λ (l : Layout). changed (request l (asks c.index_mut-worker.result.now)) c.self.inside.words) laid in
     record {
       base = fits_again _ _ _ _ (request c.self.inside.layout (asks c.index_mut-worker.result.now)) words c.self.invariant.base;
       running = c.self.invariant.running;
       others = subst (λ (x : Working). FitOthers c.self.inside.script.now c.self.inside.layout (set c.self.inside.workers.items c.args.i x) c.self.inside.coord) (sym c.step_on-out.ensures.machine)
-          (others_worked _ _ _ _ _ _ c.index_mut-worker.result.now there c.self.invariant.others);
+          (others_worked _ _ _ _ _ _ c.index_mut-worker.result.now here c.self.invariant.others);
     }
 
 pub returns : goal.returns
 returns c =
-    let low : c.args.i < length c.self.inside.workers.items = subst (λ (w : State). c.args.i < length w.workers) (sym c.self.view_is) c.requires.there in
-    let there : slice_get c.self.inside.workers.items c.args.i ≡ Some c.index_mut-worker.result.now = slice_get_read c.self.inside.workers.items (length c.self.inside.workers.items) c.args.i c.index_mut-worker.result.now refl low c.index_mut-worker.ensures.value in
-    let laid = c.self.invariant.others.laid c.args.i c.index_mut-worker.result.now there in
+    let here = there (goal.at.returns c).After-index_mut-worker in
+    let laid = c.self.invariant.others.laid c.args.i c.index_mut-worker.result.now here in
     subst (λ (w : State). IsStepOfWorker w (record { script = c.self.inside.script.now; layout = c.self.inside.layout; words = c.step_on-out.new.words; runners = c.self.inside.runners.items; workers = set c.self.inside.workers.items c.args.i c.step_on-out.new.machine; coord = c.self.inside.coord; points = c.self.inside.points.items }) c.args.i c.done_or.result) c.self.view_is
-    (work_is _ c.args.i c.index_mut-worker.result.now c.step_on-out.new.words c.step_on-out.new.machine c.step_on-out.result c.done_or.result there c.index_mut-worker.result.now.layout laid c.step_on-out.ensures.within c.step_on-out.ensures.words c.step_on-out.ensures.machine c.step_on-out.ensures.out c.done_or.ensures)
+    (work_is _ c.args.i c.index_mut-worker.result.now c.step_on-out.new.words c.step_on-out.new.machine c.step_on-out.result c.done_or.result here c.index_mut-worker.result.now.layout laid c.step_on-out.ensures.within c.step_on-out.ensures.words c.step_on-out.ensures.machine c.step_on-out.ensures.out c.done_or.ensures)
