@@ -202,9 +202,10 @@ impl SweptPass {
         }
     }
 
-    /// It goes on to the span's next alloc word, where the word found leads there: of all steps of a pass most
-    /// do, and they change one number.
-    fn goes_on(&mut self, found: u64) -> bool
+    /// Goes on to the span's next alloc word, where the word found leads there, and answers whether it did. Of
+    /// all steps of a pass most do, and they change one number; where it did not, nothing has changed, and
+    /// [`take`](Machine::take) makes the step.
+    pub fn goes_on(&mut self, found: u64) -> bool
         ensures goes { IsTrue result → self.new ≡ goes self.old found }
         ensures gives { IsTrue result → gives self.old found ≡ None }
         ensures stays { result ≡ false → self.new ≡ self.old }

@@ -72,6 +72,74 @@ const STARTS: [u64; 64] = [
     0x8000_0000_0000_0001,
 ];
 
+// By the words of a slot: 2 ^ 32 over them, rounded up.
+const RECIPROCALS: [u64; 64] = [
+    0x0000_0000_0000,
+    0x0001_0000_0000,
+    0x0000_8000_0000,
+    0x0000_5555_5556,
+    0x0000_4000_0000,
+    0x0000_3333_3334,
+    0x0000_2aaa_aaab,
+    0x0000_2492_4925,
+    0x0000_2000_0000,
+    0x0000_1c71_c71d,
+    0x0000_1999_999a,
+    0x0000_1745_d175,
+    0x0000_1555_5556,
+    0x0000_13b1_3b14,
+    0x0000_1249_2493,
+    0x0000_1111_1112,
+    0x0000_1000_0000,
+    0x0000_0f0f_0f10,
+    0x0000_0e38_e38f,
+    0x0000_0d79_435f,
+    0x0000_0ccc_cccd,
+    0x0000_0c30_c30d,
+    0x0000_0ba2_e8bb,
+    0x0000_0b21_642d,
+    0x0000_0aaa_aaab,
+    0x0000_0a3d_70a4,
+    0x0000_09d8_9d8a,
+    0x0000_097b_425f,
+    0x0000_0924_924a,
+    0x0000_08d3_dcb1,
+    0x0000_0888_8889,
+    0x0000_0842_1085,
+    0x0000_0800_0000,
+    0x0000_07c1_f07d,
+    0x0000_0787_8788,
+    0x0000_0750_7508,
+    0x0000_071c_71c8,
+    0x0000_06eb_3e46,
+    0x0000_06bc_a1b0,
+    0x0000_0690_6907,
+    0x0000_0666_6667,
+    0x0000_063e_7064,
+    0x0000_0618_6187,
+    0x0000_05f4_17d1,
+    0x0000_05d1_745e,
+    0x0000_05b0_5b06,
+    0x0000_0590_b217,
+    0x0000_0572_620b,
+    0x0000_0555_5556,
+    0x0000_0539_782a,
+    0x0000_051e_b852,
+    0x0000_0505_0506,
+    0x0000_04ec_4ec5,
+    0x0000_04d4_873f,
+    0x0000_04bd_a130,
+    0x0000_04a7_904b,
+    0x0000_0492_4925,
+    0x0000_047d_c120,
+    0x0000_0469_ee59,
+    0x0000_0456_c798,
+    0x0000_0444_4445,
+    0x0000_0432_5c54,
+    0x0000_0421_0843,
+    0x0000_0410_4105,
+];
+
 /// Each bit of `found` is set at which a slot of the span may begin: `before` words of the span lie
 /// before those of this alloc word, and the slots are cut from the span's first word on. Said of slots
 /// of fewer than 64 words alone.
@@ -97,13 +165,33 @@ fn starts(slot: u32) -> u64
     STARTS[slot as usize]
 }
 
+/// The remainder of so many words over those of a slot.
+///
+/// The pass asks for it at each alloc word, and a division takes longer than all else that it does there. So
+/// the quotient is guessed by a product with the slot's reciprocal, and what the guess leaves is the remainder
+/// where it is less than a slot: there is one such quotient, whatever the table says. Elsewhere it is divided.
+fn remainder(before: u32, slot: u32) -> u32
+    requires { 1 ≤ slot }
+    ensures { result ≡ before % slot }
+{
+    if slot < 64 {
+        let (words, size) = (u64::from(before), u64::from(slot));
+        let whole = (words.wrapping_mul(RECIPROCALS[slot as usize]) >> 32) * size;
+        let left = words.wrapping_sub(whole);
+        if left < size {
+            return left as u32;
+        }
+    }
+    before % slot
+}
+
 /// The first word at which a slot begins, counted from word `before` of the span on.
 fn first_start(slot: u32, before: u32) -> u32
     requires { 1 ≤ slot }
     ensures below { result < slot }
     ensures begins { (before + result) % slot ≡ 0 }
 {
-    let into = before % slot;
+    let into = remainder(before, slot);
     if into == 0 { 0 } else { slot - into }
 }
 
