@@ -329,6 +329,45 @@ impl Find {
             After::End(_) => FindStage::Ended,
         }
     }
+
+    /// Goes on by what a step of it found, whatever its stage. The memory that the stages want is set up here, and
+    /// so none is for the steps of a pass that go on in a span, which are most of a search.
+    #[inline(never)]
+    fn take_step(&mut self, found: u64) -> Option<Found>
+        requires { is_busy self.old.stage ≡ true }
+        ensures state { self.new ≡ goes self.old found }
+        ensures out { result ≡ gives self.old found }
+        ensures within { IfSome result (LiesWithin self.old.layout self.old.wanted) }
+    {
+        size_class_laws();
+        match &mut self.stage {
+            FindStage::Slots(search) => {
+                let out = search.take(found);
+                self.cached = move_cursor(self.cached, search.cursor());
+                return self.after_slots(out);
+            }
+            FindStage::Give(give) => {
+                let out = give.take(found);
+                self.after_give(out);
+            }
+            FindStage::Pass(pass) => {
+                let out = pass.take(found);
+                self.after_pass(out);
+            }
+            FindStage::Carve(carve) => {
+                let out = carve.take(found);
+                self.after_carve(out);
+            }
+            FindStage::Lock => self.after_lock(found),
+            FindStage::Unlock(after) => {
+                let then = *after;
+                self.stage = self.unlocked(then);
+                return ended(then);
+            }
+            FindStage::Ended => {}
+        }
+        None
+    }
 }
 
 impl Machine for Find {
@@ -368,34 +407,12 @@ impl Machine for Find {
         ensures out { result ≡ gives self.old found }
         ensures within { IfSome result (LiesWithin self.old.layout self.old.wanted) }
     {
-        size_class_laws();
-        match &mut self.stage {
-            FindStage::Slots(search) => {
-                let out = search.take(found);
-                self.cached = move_cursor(self.cached, search.cursor());
-                return self.after_slots(out);
+        if let FindStage::Pass(pass) = &mut self.stage {
+            if pass.goes_on(found) {
+                return None;
             }
-            FindStage::Give(give) => {
-                let out = give.take(found);
-                self.after_give(out);
-            }
-            FindStage::Pass(pass) => {
-                let out = pass.take(found);
-                self.after_pass(out);
-            }
-            FindStage::Carve(carve) => {
-                let out = carve.take(found);
-                self.after_carve(out);
-            }
-            FindStage::Lock => self.after_lock(found),
-            FindStage::Unlock(after) => {
-                let then = *after;
-                self.stage = self.unlocked(then);
-                return ended(then);
-            }
-            FindStage::Ended => {}
         }
-        None
+        self.take_step(found)
     }
 
     ghost ends = { proved.ends };

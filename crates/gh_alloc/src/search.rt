@@ -4,7 +4,7 @@ ghost use Rattle.std.specs.Prelude.{◌≡◌, ℕ, ◌^◌, ◌<◌, ◌↔◌,
 ghost use Rattle.gh_base.specs.Cells.{seats_of};
 ghost use Rattle.gh_alloc.specs.declared.sought.Found.TheVariants.{NoRoom};
 ghost use Rattle.gh_alloc.specs.FindSound.{FitsPages, IsCached};
-ghost use Rattle.gh_alloc.specs.Search.{after_first, gives, goes, is_busy, opening, refuses};
+ghost use Rattle.gh_alloc.specs.Search.{gives, goes, is_busy, opening, refuses};
 ghost use Rattle.gh_alloc.specs.Within.{LiesWithin};
 
 use crate::find::Find;
@@ -94,17 +94,6 @@ impl Search {
     }
 }
 
-/// Its stage after a step of the first search led there.
-fn after_first(find: &Find) -> SearchStage
-    ensures { result ≡ after_first find.now }
-{
-    if find.refuses() {
-        SearchStage::Free(find.reclaim())
-    } else {
-        SearchStage::First
-    }
-}
-
 impl Machine for Search {
     ghost use Rattle.gh_alloc.specs.Search.{gives, goes, is_busy, listing};
     ghost use Rattle.gh_alloc.specs.SearchEnds as proved;
@@ -137,7 +126,9 @@ impl Machine for Search {
         match &mut self.stage {
             SearchStage::First => {
                 let out = self.find.take(found);
-                self.stage = after_first(&self.find);
+                if self.find.refuses() {
+                    self.stage = SearchStage::Free(self.find.reclaim());
+                }
                 out
             }
             SearchStage::Free(reclaim) => {

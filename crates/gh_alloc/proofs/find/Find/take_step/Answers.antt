@@ -5,7 +5,7 @@ use Rattle.gh_alloc.specs.Find.{Finding, gives}
 use Rattle.gh_alloc.specs.FindSound.{Sound}
 use Rattle.gh_alloc.specs.Within.{LiesWithin}
 use Rattle.gh_alloc.proofs.Finding.Within.{slot_found_fits}
-use Rattle.gh_alloc.proofs.find.FindMachine.take.Goals as goal
+use Rattle.gh_alloc.proofs.find.Find.take_step.Goals as goal
 
 pub returns-in-Slots-clause-within : goal.returns-in-Slots-clause-within
 returns-in-Slots-clause-within c =
