@@ -70,15 +70,15 @@ all_set (suc s) before r found j some small low first fits none within other =
     let one = bit_at-lt found j in
     omega arith
 
--- ---- a quotient that was guessed
+-- ---- a remainder by a quotient that may be wrong
 
--- what a guess leaves is the remainder, where it is less than what is divided by
+-- what a quotient leaves is the remainder, where it is less than what is divided by
 left_over : (n slot guess : ℕ) → guess * slot ≤ n → n - guess * slot < slot → n - guess * slot ≡ n % slot
 left_over n slot guess low small =
     let sum : n ≡ guess * slot + (n - guess * slot) = omega arith in
     sym (ap (λ (x : ℕ). x % slot) sum ∙ mul-add-mod_self_right guess slot (n - guess * slot) ∙ mod-eq_of_lt small)
 
--- taken from it in 64 bits, a guess that is too high leaves more than that
+-- in 64 bits, a quotient that is too high leaves more than that
 pub left_in_word : (n slot guess : ℕ) → n < 2 ^ 32 → slot < 2 ^ 6 → guess < 2 ^ 32 → (n + (2 ^ 64 - guess * slot)) % 2 ^ 64 < slot → (n + (2 ^ 64 - guess * slot)) % 2 ^ 64 ≡ n % slot
 left_in_word n slot guess few short near small =
     let most : guess * slot < 2 ^ 32 * 2 ^ 6 = mul-lt guess slot (2 ^ 32) (2 ^ 6) near short in

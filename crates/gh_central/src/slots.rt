@@ -72,7 +72,7 @@ const STARTS: [u64; 64] = [
     0x8000_0000_0000_0001,
 ];
 
-// By the words of a slot: 2 ^ 32 over them, rounded up.
+// By the words of a slot: 2 ^ 32 over them, rounded up. Only the time that a remainder takes rests on these numbers.
 const RECIPROCALS: [u64; 64] = [
     0x0000_0000_0000,
     0x0001_0000_0000,
@@ -167,9 +167,10 @@ fn starts(slot: u32) -> u64
 
 /// The remainder of so many words over those of a slot.
 ///
-/// The pass asks for it at each alloc word, and a division takes longer than all else that it does there. So
-/// the quotient is guessed by a product with the slot's reciprocal, and what the guess leaves is the remainder
-/// where it is less than a slot: there is one such quotient, whatever the table says. Elsewhere it is divided.
+/// The pass asks for it at each alloc word, and a product takes a fraction of the time of a division. So the
+/// quotient is first taken by the slot's reciprocal. Less so many slots, the words are the remainder exactly
+/// where they are fewer than one slot, whatever the table says; a quotient that is too high leaves more than
+/// that in 64 bits. Elsewhere it is divided.
 fn remainder(before: u32, slot: u32) -> u32
     requires { 1 ≤ slot }
     ensures { result ≡ before % slot }
