@@ -171,6 +171,12 @@ goes_at s (Count c) found = after_count (at_stage s (Count (count.goes c found))
 goes_at s (Tell t) found = after_tell (at_stage s (Tell (tell.goes t found))) (tell.gives t found)
 goes_at s Done found = s
 
+-- it waits until each processor is done, or a cycle is asked for
+abbrev pub is_idle : CoordStage → Bool
+is_idle (LoadAck i) = true
+is_idle LoadWant = true
+is_idle _ = false
+
 abbrev pub is_busy : CoordStage → Bool
 is_busy (Stop st) = stop.is_busy st.stage
 is_busy (Open o) = open_.is_busy o.stage

@@ -6,7 +6,7 @@ ghost use Rattle.gh_base.specs.Packing.{phase_word};
 ghost use Rattle.gh_coord.specs.declared.count.Counted.{Counted};
 ghost use Rattle.gh_coord.specs.declared.pacing.TheConstants.{MOST_GOGC, NEVER};
 ghost use Rattle.gh_coord.specs.declared.watch.Watched.{Watched};
-ghost use Rattle.gh_coord.specs.Listing.{after_ack, after_check, after_close, after_count, after_open, after_stop, after_stop_again, after_sweep, after_tell, after_want, after_watch, counted, cycle_of, given, goes_at, is_busy, is_done, is_ending, lapsed_at, next_stop, opening, stores_phase, stops_world, told_at, watches};
+ghost use Rattle.gh_coord.specs.Listing.{after_ack, after_check, after_close, after_count, after_open, after_stop, after_stop_again, after_sweep, after_tell, after_want, after_watch, counted, cycle_of, given, gives, goes, goes_at, is_busy, is_done, is_ending, is_idle, lapsed_at, next_stop, opening, stores_phase, stops_world, told_at, watches};
 ghost use Rattle.gh_coord.specs.Keeping.{last_kept};
 
 use crate::close::Close;
@@ -152,6 +152,13 @@ impl Coord {
         matches!(self.stage, CoordStage::Done)
     }
 
+    /// It is idle: it waits until each processor is done, or a cycle is asked for.
+    pub fn is_idle(&self) -> bool
+        ensures { result ≡ is_idle self.now.stage }
+    {
+        matches!(self.stage, CoordStage::LoadAck(_) | CoordStage::LoadWant)
+    }
+
     /// How often it has stored the phase word. The number stands still at `u64::MAX`.
     pub fn marks(&self) -> u64
         ensures { result ≡ self.now.marks }
@@ -210,6 +217,7 @@ impl Coord {
     }
 
     /// Begins to stop the world, to open a cycle.
+    #[inline(never)]
     fn stop_world(&mut self)
         ensures { self.new ≡ stops_world self.old }
     {
@@ -240,6 +248,20 @@ impl Coord {
             self.stage = CoordStage::LoadAck(0);
         } else {
             self.stop_world();
+        }
+    }
+
+    /// Takes a step of the idle coordinator, which stores no phase word, and is not its last.
+    #[inline(always)]
+    pub fn idle(&mut self, found: u64)
+        requires { is_idle self.old.stage ≡ true }
+        ensures goes { self.new ≡ goes self.old found }
+        ensures goes_on { gives self.old found ≡ Option.None }
+    {
+        match self.stage {
+            CoordStage::LoadAck(proc) => self.after_ack(proc, found),
+            CoordStage::LoadWant => self.after_want(found),
+            _ => {}
         }
     }
 
@@ -390,16 +412,12 @@ impl Coord {
 
     /// Goes on after a step up to the end of marking.
     fn go_on_marking(&mut self, found: u64)
+        requires working { is_idle self.old.stage ≡ false }
         requires marking { is_ending self.old.stage ≡ false }
         requires busy { is_busy self.old.stage ≡ true }
         ensures { self.new ≡ goes_at self.old self.old.stage found }
     {
         match &mut self.stage {
-            CoordStage::LoadAck(proc) => {
-                let proc = *proc;
-                self.after_ack(proc, found);
-            }
-            CoordStage::LoadWant => self.after_want(found),
             CoordStage::Stop(stop) => {
                 let out = stop.take(found);
                 self.after_stop(out);
@@ -490,10 +508,11 @@ impl Machine for Coord {
 
     ghost gives = { listing.gives };
 
+    #[inline(always)]
     fn next(&self) -> Req {
         let ask = match &self.stage {
-            CoordStage::LoadAck(proc) => Ask::Load(Cell::Ack(*proc)),
-            CoordStage::LoadWant => Ask::Load(Cell::Want),
+            CoordStage::LoadAck(proc) => return self.layout.request(Ask::Load(Cell::Ack(*proc))),
+            CoordStage::LoadWant => return self.layout.request(Ask::Load(Cell::Want)),
             CoordStage::Stop(stop) | CoordStage::StopAgain(stop) => return stop.next(),
             CoordStage::Open(open) => return open.next(),
             CoordStage::Watch(watch) | CoordStage::Check(watch) => return watch.next(),
@@ -508,6 +527,10 @@ impl Machine for Coord {
     }
 
     fn take(&mut self, found: u64) -> Option<()> {
+        if self.is_idle() {
+            self.idle(found);
+            return None;
+        }
         self.count_mark();
         if self.is_ending() {
             self.go_on_ending(found);
