@@ -124,6 +124,11 @@ abbrev pub gives_at : WorkerStage → Option (Unit {0})
 gives_at Leave = Some tt
 gives_at _ = None
 
+-- its next step loads the phase
+abbrev pub loads_phase : WorkerStage → Bool
+loads_phase LoadPhase = true
+loads_phase _ = false
+
 -- until it is done
 abbrev pub is_busy : WorkerStage → Bool
 is_busy Done = false

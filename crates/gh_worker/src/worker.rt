@@ -7,7 +7,7 @@ ghost use Rattle.gh_scan.specs.Listing as scans;
 ghost use Rattle.gh_shade.specs.Listing as shades;
 ghost use Rattle.gh_wbuf.specs.EntryTaking as takes;
 ghost use Rattle.gh_wbuf.specs.RoomFinding as rooms;
-ghost use Rattle.gh_worker.specs.Listing.{after_global, done_with, goes_at, held_at, is_busy, opening, resuming, stops_at};
+ghost use Rattle.gh_worker.specs.Listing.{after_global, done_with, gives, goes, goes_at, held_at, is_busy, loads_phase, opening, resuming, stops_at};
 ghost use Rattle.gh_worker.specs.Sound.{IsWorkersSeat, Runs, Waits};
 
 use gh_base::{Ask, Cell, GONE, Held, Layout, Machine, Phase, PhaseWord, Req};
@@ -100,6 +100,13 @@ impl Worker {
         matches!(self.stage, WorkerStage::Done)
     }
 
+    /// Its next step loads the phase. While marking is off each step does, and leaves it as it is.
+    pub fn loads_phase(&self) -> bool
+        ensures { result ≡ loads_phase self.now.stage }
+    {
+        matches!(self.stage, WorkerStage::LoadPhase)
+    }
+
     /// The words that it has scanned: those of each object and one for each global, counted when that is
     /// done. The number stands at `u64::MAX`, which no run reaches.
     pub fn marks(&self) -> u64
@@ -143,6 +150,7 @@ impl Worker {
     }
 
     /// Goes on by the phase word.
+    #[inline(never)]
     fn by_phase(&mut self, found: u64)
         ensures { self.new ≡ goes_at self.old WorkerStage.LoadPhase found }
     {
@@ -155,6 +163,19 @@ impl Worker {
             }
             Phase::Stop => self.stop(word.stops),
             Phase::Finished => self.stage = WorkerStage::Leave,
+        }
+    }
+
+    /// Takes the step of a load of the phase. While marking is off the stage is the same again, and is not written.
+    #[inline(always)]
+    pub fn look(&mut self, found: u64)
+        requires { loads_phase self.old.stage ≡ true }
+        ensures goes { self.new ≡ goes self.old found }
+        ensures goes_on { gives self.old found ≡ Option.None }
+    {
+        let word = PhaseWord::unpack(found);
+        if !matches!(word.phase, Phase::Off) {
+            self.by_phase(found);
         }
     }
 
@@ -314,6 +335,7 @@ impl Machine for Worker {
 
     ghost gives = { listing.gives };
 
+    #[inline(always)]
     fn next(&self) -> Req {
         let ask = match &self.stage {
             WorkerStage::LoadPhase => Ask::Load(Cell::Phase),
@@ -334,13 +356,7 @@ impl Machine for Worker {
 
     fn take(&mut self, found: u64) -> Option<()> {
         match &self.stage {
-            WorkerStage::LoadPhase => {
-                // While marking is off the stage is the same again, and is not written.
-                let word = PhaseWord::unpack(found);
-                if !matches!(word.phase, Phase::Off) {
-                    self.by_phase(found);
-                }
-            }
+            WorkerStage::LoadPhase => self.look(found),
             WorkerStage::GiveBack(_, stops) => {
                 let stops = *stops;
                 self.given_back(stops);
