@@ -47,6 +47,7 @@ impl<'s> Runner<'s> {
     /// it is the point of the statement begun last.
     // Polls with nothing to do, and statements on registers alone, are most of all operations, and have one step: they are made
     // at once, and leave the processor's task as it stands.
+    #[inline(always)]
     pub fn run(
         &mut self,
         script: &Script,
@@ -132,6 +133,7 @@ impl<'s> Runner<'s> {
     }
 
     /// Begins the next operation of the processor at this seat where none is begun.
+    #[inline(never)]
     pub fn begin_next(&mut self, script: &Script, seat: u32)
         requires layout { LaysOut script.now (mutating.layout self.old.mutator) }
         requires fits { FitTurns script.now (mutating.layout self.old.mutator) seat self.old.mutator self.old.progress }
@@ -152,6 +154,7 @@ impl<'s> Runner<'s> {
     }
 
     /// One step of the processor: what it says, and whether it is the point of the statement begun last.
+    #[inline(never)]
     pub fn advance(&mut self, words: &mut Plain) -> (Event, bool)
         requires busy { is_busy self.old.mutator ≡ true }
         requires long { length words.old ≡ length_of (mutating.layout self.old.mutator) }

@@ -89,6 +89,7 @@ fn workers_of(alloc: Global, layout: &Layout) -> Result<Vec<Worker>, AllocError>
 }
 
 /// One step of a machine over the words of its heap: what the machine then gives.
+#[inline(never)]
 fn step_on<M: Machine>(words: &mut Plain, machine: &mut M) -> Option<M::Out>
     requires busy { M.busy machine.old ≡ true }
     requires long { length words.old ≡ length_of (M.layout machine.old) }
@@ -99,6 +100,44 @@ fn step_on<M: Machine>(words: &mut Plain, machine: &mut M) -> Option<M::Out>
 {
     let found = words.step(machine.next());
     machine.take(found)
+}
+
+// The usual step of a worker and of the coordinator is made where the loop of a run stands, and any other by `step_on`.
+
+/// One step of a worker, which mostly finds that marking is off.
+#[inline(always)]
+fn step_of_worker(words: &mut Plain, machine: &mut Worker) -> Option<()>
+    requires busy { worker.is_busy machine.old.stage ≡ true }
+    requires long { length words.old ≡ length_of machine.old.layout }
+    ensures within { InRange machine.old.layout (cell_of (worker.asks machine.old)) }
+    ensures words { words.new ≡ changed (request machine.old.layout (worker.asks machine.old)) words.old }
+    ensures machine { machine.new ≡ worker.goes machine.old (slice_index words.old (target (request machine.old.layout (worker.asks machine.old)))) }
+    ensures out { result ≡ worker.gives machine.old (slice_index words.old (target (request machine.old.layout (worker.asks machine.old)))) }
+{
+    if !machine.loads_phase() {
+        return step_on(words, machine);
+    }
+    let found = words.step(machine.next());
+    machine.look(found);
+    None
+}
+
+/// One step of the coordinator, which mostly is idle.
+#[inline(always)]
+fn step_of_coordinator(words: &mut Plain, machine: &mut Coord) -> Option<()>
+    requires busy { coord.is_busy machine.old.stage ≡ true }
+    requires long { length words.old ≡ length_of machine.old.layout }
+    ensures within { InRange machine.old.layout (cell_of (coord.asks machine.old)) }
+    ensures words { words.new ≡ changed (request machine.old.layout (coord.asks machine.old)) words.old }
+    ensures machine { machine.new ≡ coord.goes machine.old (slice_index words.old (target (request machine.old.layout (coord.asks machine.old)))) }
+    ensures out { result ≡ coord.gives machine.old (slice_index words.old (target (request machine.old.layout (coord.asks machine.old)))) }
+{
+    if !machine.is_idle() {
+        return step_on(words, machine);
+    }
+    let found = words.step(machine.next());
+    machine.idle(found);
+    None
 }
 
 impl<'s> World<'s> {
@@ -156,6 +195,7 @@ impl<'s> World<'s> {
 
     /// One step of the actor, which is not done. Whatever legal list of steps this world is the state of,
     /// it is then the state of that list with one entry more. Takes no memory, and constant time.
+    #[inline(always)]
     pub fn step(&mut self, actor: u8) -> Event
         requires actor { actor < actors_of self.old }
         requires going { is_done self.old actor ≡ false }
@@ -288,6 +328,7 @@ impl<'s> World<'s> {
     }
 
     /// One step of the processor at this seat: it begins its next operation where none is begun.
+    #[inline(always)]
     fn run(&mut self, seat: u8) -> Event
         requires there { seat < length self.old.runners }
         requires going { is_done self.old seat ≡ false }
@@ -308,24 +349,26 @@ impl<'s> World<'s> {
     }
 
     /// One step of worker `i`, counted from 0.
+    #[inline(always)]
     fn work(&mut self, i: usize) -> Event
         requires there { i < length self.old.workers }
         requires busy { (x : Working) → slice_get self.old.workers i ≡ Some x → worker.is_busy x.stage ≡ true }
         ensures { IsStepOfWorker self.old self.new i result }
     {
         let worker = &mut self.workers[i];
-        let out = step_on(&mut self.words, worker);
+        let out = step_of_worker(&mut self.words, worker);
         done_or(out, Event::Moved)
     }
 
     /// One step of the coordinator.
+    #[inline(always)]
     fn lead(&mut self) -> Event
         requires { coord.is_busy self.old.coord.stage ≡ true }
         ensures { IsStepOfCoordinator self.old self.new result }
     {
         it_goes_on_until_done();
         let told = self.coord.told();
-        let out = step_on(&mut self.words, &mut self.coord);
+        let out = step_of_coordinator(&mut self.words, &mut self.coord);
         done_or(out, told_event(told))
     }
 }

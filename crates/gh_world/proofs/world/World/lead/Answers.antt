@@ -10,10 +10,10 @@ pub invariant_of-self : goal.invariant_of-self
 invariant_of-self c =
     let busy : coord.is_busy c.self.inside.coord.stage ≡ true = ap (λ (w : State). coord.is_busy w.coord.stage) c.self.view_is ∙ c.requires in
     let laid = c.self.invariant.others.leads in
-    let words : c.step_on-out.new.words ≡ changed (request c.self.inside.layout (coord.asks c.self.inside.coord)) c.self.inside.words =
-    c.step_on-out.ensures.words ∙ ap (λ (l : Layout). changed (request l (coord.asks c.self.inside.coord)) c.self.inside.words) laid in
+    let words : c.step_of_coordinator-out.new.words ≡ changed (request c.self.inside.layout (coord.asks c.self.inside.coord)) c.self.inside.words =
+    c.step_of_coordinator-out.ensures.words ∙ ap (λ (l : Layout). changed (request l (coord.asks c.self.inside.coord)) c.self.inside.words) laid in
     record {
       base = fits_again _ _ _ _ (request c.self.inside.layout (coord.asks c.self.inside.coord)) words c.self.invariant.base;
       running = c.self.invariant.running;
-      others = subst (λ (x : coord.Coordinating). FitOthers c.self.inside.script.now c.self.inside.layout c.self.inside.workers.items x) (sym c.step_on-out.ensures.machine) (others_led c.it_goes_on_until_done.ensures _ _ _ _ _ busy c.self.invariant.others);
+      others = subst (λ (x : coord.Coordinating). FitOthers c.self.inside.script.now c.self.inside.layout c.self.inside.workers.items x) (sym c.step_of_coordinator-out.ensures.machine) (others_led c.it_goes_on_until_done.ensures _ _ _ _ _ busy c.self.invariant.others);
     }
