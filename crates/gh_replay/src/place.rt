@@ -3,7 +3,7 @@
 ghost use Rattle.std.specs.Prelude.{◌≡◌, ◌<◌, ◌≤◌, ◌%◌, false, IfSome, None, drop, length, option_map, slice_get};
 ghost use Rattle.gh_base.specs.Cells.{seats_of};
 ghost use Rattle.rand_xoshiro.specs.SplitMix64.{mix_u64};
-ghost use Rattle.gh_world.specs.Schedule.{behind};
+ghost use Rattle.gh_world.specs.Schedule.{behind, turn_from};
 ghost use Rattle.gh_world.specs.World.{actors_of, is_done, layout_of, AllDone};
 ghost use Rattle.gh_replay.specs.Places.{seen_of, standing_at};
 ghost use Rattle.gh_replay.specs.Standing.{
@@ -138,8 +138,19 @@ fn who_behind(world: &World, next: u8, drawn: &mut Option<SplitMix64>) -> Option
 {
     match drawn {
         Some(generator) => chosen(world, generator.next_word()),
-        None => world.turn_from(next),
+        None => in_turn(world, next),
     }
+}
+
+/// Who steps next in ascending order. It is mostly the actor whose turn it would be.
+fn in_turn(world: &World, next: u8) -> Option<u8>
+    requires { next < actors_of world.now }
+    ensures { result ≡ turn_from (is_done world.now) (actors_of world.now) next }
+{
+    if !world.is_done(next) {
+        return Some(next);
+    }
+    world.turn_from(next)
 }
 
 /// The actor that a word says among those that are not done.
