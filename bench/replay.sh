@@ -12,7 +12,7 @@ programs=("$program" "${@:2}")
 
 # The scripts: what each turns on most, and its text. The last two have the same goroutines, on the fewest actors that there are, which
 # are a processor, a worker and the coordinator, and on 13: 8 processors, 4 workers and the coordinator.
-names=(statements globals fields small large full collected processors actors3 actors13)
+names=(statements globals fields small large passes full collected processors actors3 actors13)
 
 # Goroutines that run statements on registers: how many, and how often each.
 registers() {
@@ -28,7 +28,10 @@ says() {
     small) printf 'arena 1024\ntype node pn\ngo a\nrepeat 200000\nnew r0 node\nend\nend\n' ;;
     # new objects of 65,536 words, which are cleared
     large) printf 'arena 1024\ntype big n*65536\ngo a\nrepeat 15\nnew r0 big\nend\nend\n' ;;
-    # new objects of two words, where after the first 8,192 of them no slot is left, and each passes over all spans
+    # new objects of 32 words, which fit; most turns of a processor are passes over the spans that are full
+    passes) printf 'arena 512\ntype node pn*31\ngo a\nrepeat 16000\nnew r0 node\nend\nend\n' ;;
+    # new objects of two words in an arena that 8,192 of them fill: the next one passes over all spans and waits for a cycle, which
+    # frees them
     full) printf 'arena 16\ntype node pn\ngo a\nrepeat 12000\nnew r0 node\nend\nend\n' ;;
     # a heap that is collected again and again
     collected) printf 'arena 16\ntype node pn\ngo a\nrepeat 2000\nnew r0 node\ngc\nend\nend\n' ;;
