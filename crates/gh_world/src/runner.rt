@@ -133,7 +133,7 @@ impl<'s> Runner<'s> {
     }
 
     /// Begins the next operation of the processor at this seat where none is begun.
-    #[inline(never)]
+    #[inline(always)]
     pub fn begin_next(&mut self, script: &Script, seat: u32)
         requires layout { LaysOut script.now (mutating.layout self.old.mutator) }
         requires fits { FitTurns script.now (mutating.layout self.old.mutator) seat self.old.mutator self.old.progress }
@@ -141,11 +141,23 @@ impl<'s> Runner<'s> {
         ensures fits { FitTurns script.now (mutating.layout self.old.mutator) seat self.new.mutator self.new.progress }
         ensures busy { has_left_at self.old.mutator.processor.task ≡ false → is_busy self.new.mutator ≡ true }
     {
+        if !self.mutator.is_busy() {
+            self.begin_due(script, seat);
+        }
+    }
+
+    /// The same, where none is begun.
+    #[inline(never)]
+    fn begin_due(&mut self, script: &Script, seat: u32)
+        requires layout { LaysOut script.now (mutating.layout self.old.mutator) }
+        requires fits { FitTurns script.now (mutating.layout self.old.mutator) seat self.old.mutator self.old.progress }
+        requires idle { is_busy self.old.mutator ≡ false }
+        ensures begins { Begins script.now seat self.old self.new }
+        ensures fits { FitTurns script.now (mutating.layout self.old.mutator) seat self.new.mutator self.new.progress }
+        ensures busy { has_left_at self.old.mutator.processor.task ≡ false → is_busy self.new.mutator ≡ true }
+    {
         polls_make_room();
         script.is_well_formed();
-        if self.mutator.is_busy() {
-            return;
-        }
         if let Some(op) = due(script, self.progress.next) {
             self.progress.next = following(script, seat, self.progress.next);
             self.mutator.begin(op);
@@ -154,7 +166,7 @@ impl<'s> Runner<'s> {
     }
 
     /// One step of the processor: what it says, and whether it is the point of the statement begun last.
-    #[inline(never)]
+    #[inline(always)]
     pub fn advance(&mut self, words: &mut Plain) -> (Event, bool)
         requires busy { is_busy self.old.mutator ≡ true }
         requires long { length words.old ≡ length_of (mutating.layout self.old.mutator) }

@@ -1,7 +1,7 @@
 use Rattle.std.proofs.Common.{◌≡◌, Some, sym, ◌∙◌}
 use Rattle.gh_world.specs.Turns.{goroutine_at, op_due}
 use Rattle.gh_world.proofs.Fitting.{begun_fits, due_room, due_sound, due_named, fit_begun, stated_fits}
-use Rattle.gh_world.proofs.runner.Runner.begin_next.Goals as goal
+use Rattle.gh_world.proofs.runner.Runner.begin_due.Goals as goal
 
 pub begin-requires-clause-op : goal.begin-requires-clause-op
 begin-requires-clause-op c = due_sound _ _ c.is_well_formed.ensures c.requires.layout _ _ _ c.requires.fits c.in-Some.op (sym c.due.ensures ∙ c.in-Some.is)
@@ -10,7 +10,7 @@ pub begin-requires-clause-names : goal.begin-requires-clause-names
 begin-requires-clause-names c = due_named _ _ c.is_well_formed.ensures c.requires.layout _ _ _ c.requires.fits c.in-Some.op (sym c.due.ensures ∙ c.in-Some.is)
 
 pub begin-requires-clause-room : goal.begin-requires-clause-room
-begin-requires-clause-room c = due_room c.polls_make_room.ensures c.args.script.now c.args.self.now.mutator.processor c.args.self.now.progress.next c.in-Some.op (sym c.is_busy.ensures ∙ c.if-is_busy.false) (sym c.due.ensures ∙ c.in-Some.is) c.requires.fits.polled
+begin-requires-clause-room c = due_room c.polls_make_room.ensures c.args.script.now c.args.self.now.mutator.processor c.args.self.now.progress.next c.in-Some.op c.requires.idle (sym c.due.ensures ∙ c.in-Some.is) c.requires.fits.polled
 
 pub count-requires-clause-few : goal.count-requires-clause-few
 count-requires-clause-few c = begun_fits _ _ c.is_well_formed.ensures c.requires.layout _ _ _ c.requires.fits (goroutine_at c.in-Some.op)
