@@ -1,5 +1,5 @@
 -- The pass for a swept span with room: what it asks for at each stage, where that leads, and what it gives.
-use Rattle.std.specs.Prelude.{ℕ, ◌+◌, ◌*◌, ◌%◌, Bool, true, false, nat_lt, ◌==◌, ◌&&◌, if◌then◌else◌, Option, Some, None}
+use Rattle.std.specs.Prelude.{ℕ, ◌+◌, ◌*◌, ◌%◌, Bool, true, false, not, nat_lt, ◌==◌, ◌&&◌, if◌then◌else◌, Option, Some, None}
 use Rattle.std.specs.Bool.{beq}
 use Rattle.gh_base.specs.declared.cell.Cell.TheVariants as cell
 use Rattle.gh_base.specs.declared.cell.Ask.{Ask}
@@ -89,6 +89,11 @@ module _ (m : Pass) where
   goes_at (Bits page h i) found = after_bits page h i found
   goes_at (Take page h) found = Ended
   goes_at Ended found = Ended
+
+  -- the word found leads to the span's next alloc word
+  abbrev pub goes_on_at : PassStage → (found : ℕ) → Bool
+  goes_on_at (Bits page h i) found = nat_lt (i + 1) (16 * h.pages) && not (lacks_at page i found)
+  goes_on_at _ found = false
 
 -- what it gives by a step from the first stage to the second
 abbrev pub given : PassStage → PassStage → Option (Option ℕ)

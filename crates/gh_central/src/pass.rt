@@ -4,7 +4,7 @@ ghost use Rattle.std.specs.Prelude.{◌≡◌, ◌+◌, ◌*◌, ◌^◌, ◌<�
 ghost use Rattle.gh_base.specs.Cells.{InRange, seats_of};
 ghost use Rattle.gh_base.specs.Steps.{cell_of};
 ghost use Rattle.gh_base.specs.Packing.{FitsHead, FitsPage, head_word};
-ghost use Rattle.gh_central.specs.SweptPass.{after_bits, after_page, alloc_word, asks, given, gives, goes, goes_at, is_wanted, lacks_at, look_from, opening, owned_by};
+ghost use Rattle.gh_central.specs.SweptPass.{after_bits, after_page, alloc_word, asks, given, gives, goes, goes_at, goes_on_at, is_wanted, lacks_at, look_from, opening, owned_by};
 
 use crate::slots::{lacks_slot, none_clear};
 use gh_base::laws::packed_words_are_read_back;
@@ -206,6 +206,7 @@ impl SweptPass {
     /// all steps of a pass most do, and they change one number; where it did not, nothing has changed, and
     /// [`take`](Machine::take) makes the step.
     pub fn goes_on(&mut self, found: u64) -> bool
+        ensures exactly { result ≡ goes_on_at self.old self.old.stage found }
         ensures goes { IsTrue result → self.new ≡ goes self.old found }
         ensures gives { IsTrue result → gives self.old found ≡ None }
         ensures stays { result ≡ false → self.new ≡ self.old }

@@ -167,10 +167,9 @@ fn starts(slot: u32) -> u64
 
 /// The remainder of so many words over those of a slot.
 ///
-/// The pass asks for it at each alloc word, and a product takes a fraction of the time of a division. So the
-/// quotient is first taken by the slot's reciprocal. Less so many slots, the words are the remainder exactly
-/// where they are fewer than one slot, whatever the table says; a quotient that is too high leaves more than
-/// that in 64 bits. Elsewhere it is divided.
+/// The pass asks for it at each alloc word, and a product takes a fraction of the time of a division. So the quotient is guessed
+/// by the slot's reciprocal. It is right exactly where what is left of the words is less than a slot: a guess too low leaves a
+/// slot or more, and one too high wraps around. Else it is divided. So the table settles the time, and nothing else.
 fn remainder(before: u32, slot: u32) -> u32
     requires { 1 ≤ slot }
     ensures { result ≡ before % slot }
