@@ -330,8 +330,8 @@ impl Find {
         }
     }
 
-    /// Goes on by what a step of it found, whatever its stage. The memory that the stages want is set up here, and
-    /// so none is for the steps of a pass that go on in a span, which are most of a search.
+    /// Takes any step. It stands apart, since most steps of a search go on in a span (`take`) and need none of the memory that
+    /// the other stages want.
     #[inline(never)]
     fn take_step(&mut self, found: u64) -> Option<Found>
         requires { is_busy self.old.stage ≡ true }

@@ -217,6 +217,7 @@ impl Coord {
     }
 
     /// Begins to stop the world, to open a cycle.
+    // It stands apart, so that an idle step sets up no memory for it.
     #[inline(never)]
     fn stop_world(&mut self)
         ensures { self.new ≡ stops_world self.old }
@@ -410,7 +411,7 @@ impl Coord {
         }
     }
 
-    /// Goes on after a step up to the end of marking.
+    /// Goes on after a step at work, up to the end of marking.
     fn go_on_marking(&mut self, found: u64)
         requires working { is_idle self.old.stage ≡ false }
         requires marking { is_ending self.old.stage ≡ false }
@@ -508,6 +509,7 @@ impl Machine for Coord {
 
     ghost gives = { listing.gives };
 
+    // An idle step has an arm of its own, so that whoever makes it knows it to be a load.
     #[inline(always)]
     fn next(&self) -> Req {
         let ask = match &self.stage {

@@ -69,8 +69,9 @@ impl<'s> Mutator<'s> {
         self.processor.begin(self.shapes, op);
     }
 
-    /// A poll is begun, where nothing is begun, and ended at once by the phase word that it finds, where it has nothing else
-    /// to do. It answers whether that is so; where not, nothing is begun.
+    /// Makes a poll at once, by the phase word that it finds, where that is all that the poll has to do: the world runs, and
+    /// marking is off, as the processor knows. It answers whether that is so and the processor has not left; where not,
+    /// nothing is begun.
     pub fn passes(&mut self, found: u64) -> bool
         requires idle { is_busy self.old ≡ false }
         ensures exactly { result ≡ passes self.old found }
@@ -83,8 +84,8 @@ impl<'s> Mutator<'s> {
         }
     }
 
-    /// A statement on registers alone is begun, where nothing is begun, and ended at once: its one step is the same whatever
-    /// it finds. It answers whether the operation is such a statement; where not, nothing is begun.
+    /// Makes a statement on registers alone at once: its one step is the same whatever it finds. It answers whether the
+    /// operation is such a statement and the processor has not left; where not, nothing is begun.
     pub fn sets(&mut self, op: Op) -> bool
         requires idle { is_busy self.old ≡ false }
         requires op { SoundOp self.old.shapes self.old.processor.poll.layout op }

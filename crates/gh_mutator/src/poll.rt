@@ -147,8 +147,9 @@ impl Poll {
         self.stage = PollStage::LoadPhase;
     }
 
-    /// A poll of a turn's own is begun, and ended at once by the phase word that it finds, where nothing is to be done: the
-    /// world runs, and marking is off, as the processor knows. It answers whether that is so; where not, nothing is begun.
+    /// Makes a poll of a turn's own at once, by the phase word that it finds, where that is all that there is to do: no poll is
+    /// under way, the world runs, and marking is off, as the processor knows. It answers whether that is so; where not, nothing
+    /// is begun.
     pub(crate) fn passes(&mut self, found: u64) -> bool
         ensures exactly { result ≡ passes self.old found }
         ensures passed { IsTrue result → (self.new ≡ goes (begins self.old false) found) × (gives_by (begins self.old false) found ≡ Some tt) }

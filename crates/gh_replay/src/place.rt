@@ -142,7 +142,7 @@ fn who_behind(world: &World, next: u8, drawn: &mut Option<SplitMix64>) -> Option
     }
 }
 
-/// Who steps next in ascending order. It is mostly the actor whose turn it would be.
+/// Who steps next where actors take turns. Mostly `next` is not done, so it is asked first.
 fn in_turn(world: &World, next: u8) -> Option<u8>
     requires { next < actors_of world.now }
     ensures { result ≡ turn_from (is_done world.now) (actors_of world.now) next }

@@ -150,6 +150,7 @@ impl Worker {
     }
 
     /// Goes on by the phase word.
+    // It stands apart, so that a look that finds marking off sets up no memory for it.
     #[inline(never)]
     fn by_phase(&mut self, found: u64)
         ensures { self.new ≡ goes_at self.old WorkerStage.LoadPhase found }

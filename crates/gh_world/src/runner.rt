@@ -74,8 +74,7 @@ impl<'s> Runner<'s> {
         self.advance(words)
     }
 
-    /// The processor's poll, where that is what it begins, and where the poll has nothing to do. It answers whether that is so;
-    /// where not, nothing is done.
+    /// Makes the poll that comes next at once, where it has nothing to do. It answers whether it did; where not, nothing is done.
     fn passes(&mut self, script: &Script, layout: &Layout, seat: u32, words: &mut Plain) -> bool
         requires layout { LaysOut script.now layout.now }
         requires fits { FitTurns script.now layout.now seat self.old.mutator self.old.progress }
@@ -103,8 +102,8 @@ impl<'s> Runner<'s> {
         true
     }
 
-    /// The processor's statement, where it begins one, and where that is on registers alone. It answers whether that is so;
-    /// where not, nothing is done.
+    /// Makes the statement that comes next at once, where it is on registers alone. It answers whether it did; where not, nothing
+    /// is done.
     fn sets(&mut self, script: &Script, layout: &Layout, seat: u32, words: &mut Plain) -> bool
         requires layout { LaysOut script.now layout.now }
         requires fits { FitTurns script.now layout.now seat self.old.mutator self.old.progress }
@@ -146,7 +145,7 @@ impl<'s> Runner<'s> {
         }
     }
 
-    /// The same, where none is begun.
+    /// Begins the operation that comes next, where none is begun. It is a call, since most turns go on with what is begun.
     #[inline(never)]
     fn begin_due(&mut self, script: &Script, seat: u32)
         requires layout { LaysOut script.now (mutating.layout self.old.mutator) }

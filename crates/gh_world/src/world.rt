@@ -102,9 +102,8 @@ fn step_on<M: Machine>(words: &mut Plain, machine: &mut M) -> Option<M::Out>
     machine.take(found)
 }
 
-// The usual step of a worker and of the coordinator is made where the loop of a run stands, and any other by `step_on`.
-
-/// One step of a worker, which mostly finds that marking is off.
+/// One step of a worker, which mostly finds that marking is off. That is made where the caller stands, and any other step by
+/// `step_on`.
 #[inline(always)]
 fn step_of_worker(words: &mut Plain, machine: &mut Worker) -> Option<()>
     requires busy { worker.is_busy machine.old.stage ≡ true }
@@ -122,7 +121,7 @@ fn step_of_worker(words: &mut Plain, machine: &mut Worker) -> Option<()>
     None
 }
 
-/// One step of the coordinator, which mostly is idle.
+/// One step of the coordinator, which mostly is idle, in the same way.
 #[inline(always)]
 fn step_of_coordinator(words: &mut Plain, machine: &mut Coord) -> Option<()>
     requires busy { coord.is_busy machine.old.stage ≡ true }
