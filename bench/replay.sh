@@ -28,7 +28,7 @@ says() {
     small) printf 'arena 1024\ntype node pn\ngo a\nrepeat 200000\nnew r0 node\nend\nend\n' ;;
     # new objects of 65,536 words, which are cleared
     large) printf 'arena 1024\ntype big n*65536\ngo a\nrepeat 15\nnew r0 big\nend\nend\n' ;;
-    # new objects of 32 words, which fit; most turns of a processor are passes over the spans that are full
+    # new objects of 32 words, which fit; most turns of a processor are steps of passes over full spans
     passes) printf 'arena 512\ntype node pn*31\ngo a\nrepeat 16000\nnew r0 node\nend\nend\n' ;;
     # new objects of two words in an arena that 8,192 of them fill: the next one passes over all spans and waits for a cycle, which
     # frees them

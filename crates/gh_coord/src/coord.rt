@@ -1,6 +1,6 @@
 //! The coordinator's machine.
 
-ghost use Rattle.std.specs.Prelude.{◌≡◌, ◌+◌, ◌<◌, ◌≤◌, ◌^◌, ◌↔◌, length, IfOk, IsTrue, Option, false, true};
+ghost use Rattle.std.specs.Prelude.{◌≡◌, ◌+◌, ◌<◌, ◌≤◌, ◌^◌, length, IfOk, Option, false, true};
 ghost use Rattle.gh_base.specs.declared.pack.Phase.{Phase};
 ghost use Rattle.gh_base.specs.Packing.{phase_word};
 ghost use Rattle.gh_coord.specs.declared.count.Counted.{Counted};

@@ -1,4 +1,4 @@
--- What holds at every moment while marking is on, group by group over the rows that each reads.
+-- What holds at every moment while marking is on, group by group over the rows that each reads; and that there is a picture of the state.
 use Rattle.std.specs.Prelude.{◌≡◌, ◌≢◌, ℕ, zero, suc, ◌+◌, ◌<◌, ◌≤◌, ◌⊎◌, Bool, true, false}
 use Rattle.gh_base.specs.declared.cell.Cell.TheVariants as cell
 use Rattle.gh_base.specs.declared.pack.TheConstants.{END}

@@ -1,4 +1,4 @@
--- What holds of the picture of marking: each move is moves of the picture, a cycle begins with a picture as at a cycle's begin, and what its invariants say.
+-- What holds of the picture of marking: each move of marking is drawn by moves of the picture; a cycle's first picture comes of one as at a cycle's begin; and what the invariants say.
 use Rattle.std.specs.Prelude.{◌≡◌, ℕ, ◌+◌, ◌<◌, ◌≤◌}
 use Rattle.gh_base.specs.declared.cell.Cell.TheVariants as cell
 use Rattle.gh_base.specs.declared.limits.TheConstants.{REGISTERS}

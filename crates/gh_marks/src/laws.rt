@@ -8,8 +8,8 @@ use gh_tri::{
     an_opening_has_the_invariants, each_step_keeps_the_invariants, what_is_reached_is_marked,
 };
 
-/// What holds at every moment while marking is on holds after each move that may be made. Its picture, too, has its
-/// invariants after the move, since the move is drawn and `gh_tri` says that moves of the picture keep them.
+/// What holds at every moment while marking is on holds after each move that may be made. That the state has a picture
+/// with the invariants is part of it: the move is drawn, and moves of a picture keep them (`gh_tri`).
 pub fn each_move_keeps()
     ensures { EachMoveKeeps }
 {
@@ -66,7 +66,7 @@ pub fn the_cursor_is_small()
     ensures { TheCursorIsSmall }
 {}
 
-/// Marking begins with all of it, and with a picture that has the invariants.
+/// Marking begins with all of it, and with nothing in any seat's hand.
 pub fn marking_begins()
     ensures { MarkingBegins }
 {

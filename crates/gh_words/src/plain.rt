@@ -5,7 +5,7 @@
 
 ghost use Rattle.std.specs.Prelude.{◌≡◌, ◌^◌, ◌<◌, ◌≤◌, IfOk, length, replicate, slice_index, slice_set};
 ghost use Rattle.std.specs.Vec.{vec_capacity};
-ghost use Rattle.gh_base.specs.Cells.{length_of, opening_words, Shows};
+ghost use Rattle.gh_base.specs.Cells.{opening_words, Shows};
 ghost use Rattle.gh_base.specs.Steps.{changed, target};
 ghost use Rattle.gh_words.specs.Blocks.{place_at, FitBlocks, Stands};
 ghost use Rattle.gh_words.specs.declared.plain.TheConstants.{BLOCK};

@@ -6,7 +6,6 @@ ghost use Rattle.gh_phase.specs.Listing as resumes;
 ghost use Rattle.gh_scan.specs.Listing as scans;
 ghost use Rattle.gh_shade.specs.Listing as shades;
 ghost use Rattle.gh_wbuf.specs.EntryTaking as takes;
-ghost use Rattle.gh_wbuf.specs.RoomFinding as rooms;
 ghost use Rattle.gh_worker.specs.Listing.{after_global, done_with, gives, goes, goes_at, held_at, is_busy, loads_phase, opening, resuming, stops_at};
 ghost use Rattle.gh_worker.specs.Sound.{IsWorkersSeat, Runs, Waits};
 
