@@ -40,9 +40,6 @@ pub few-pages : Known → (wanted : Sought) → IsSought wanted → (span_for wa
 few-pages k (Small c) x = omega (arith, k.few_pages c.class x)
 few-pages k (Large pages noscan) x = omega (arith, x.1)
 
-is-class : (wanted : Sought) → (c : SpanClass) → wanted ≡ Small c → IsSought wanted → c.class < 25
-is-class wanted c e x = subst IsSought e x
-
 -- a page from which the span fits is read as it is
 pub first-is : (f : Finding) (pages at : ℕ) → at + pages ≤ f.layout.pages → first_page f pages at ≡ at
 first-is f pages at le = ap (λ (b : Bool). cond b at 0) (le-leb (at + pages) f.layout.pages le)
@@ -72,18 +69,12 @@ is-own rest p e q f = subst (λ (i : ℕ). rest i ≡ false) (same p q f) e wher
   same : (p q : ℕ) → Some p ≡ Some q → p ≡ q
   same p q f = cc
 
--- of a span that is full the slots are taken, and the other way
+-- of a span that is full the slots are taken
 pub taken-of : (alloc : Row) (h : SpanHead) (p c : ℕ) → h.class ≡ size.Small c → IsFull alloc p h → (j : ℕ) → j < slots_of c → row_bit alloc (1024 * p + j * slot_words_of c) ≡ 1
 taken-of alloc h p c e full j few =
     let counted : slot_count h ≡ slots_of c = rw (e) refl in
     let sized : slot_size h ≡ slot_words_of c = rw (e) refl in
     subst (λ (n : ℕ). row_bit alloc (1024 * p + j * n) ≡ 1) sized (full j (subst (λ (n : ℕ). j < n) (sym counted) few))
-
-pub full-of : (alloc : Row) (h : SpanHead) (p c : ℕ) → h.class ≡ size.Small c → ((j : ℕ) → j < slots_of c → row_bit alloc (1024 * p + j * slot_words_of c) ≡ 1) → IsFull alloc p h
-full-of alloc h p c e taken j few =
-    let counted : slot_count h ≡ slots_of c = rw (e) refl in
-    let sized : slot_size h ≡ slot_words_of c = rw (e) refl in
-    subst (λ (n : ℕ). row_bit alloc (1024 * p + j * n) ≡ 1) (sym sized) (taken j (subst (λ (n : ℕ). j < n) counted few))
 
 used-up : (w v : Sought) (c d : Option CachedSpan) → w ≡ v → c ≡ d → IsUsedUp v d → IsUsedUp w c
 used-up w v c d e f x = subst (λ (u : Sought). IsUsedUp u c) (sym e) (subst (λ (b : Option CachedSpan). IsUsedUp v b) (sym f) x)

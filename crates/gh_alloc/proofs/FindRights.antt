@@ -17,7 +17,7 @@ use Rattle.gh_alloc.specs.FindFacts.{Caches, Comes, Facts, FactsAt, FindsByItsRi
 use Rattle.gh_alloc.proofs.Vocabulary.{after_carve, after_pass, after_slots, Again, Arena, asks, At, begin, CachedSpan, Carve, CarveStage, cell_of, End, Ended, eqb_tells, Finding, FindStage, first_page, FitsClass, FullBefore, Give, given_head, gives, goes, Good, IsSpan, KeepsObjects, Lands, Large, Layout, LeaveLock, Lock, locked_for, moved, NoRoom, number_of, owned_by, pages_of, Pass, put, Quiet, refuses_at, Right, searched, Shared, slot_found, Slots, slots_of, Small, Sought, span_at, span_for, SpanClass, SpanHead, spans_for, Steps, TakeLock, taken_for, Unlock, update, View, view}
 use Rattle.gh_alloc.proofs.FindLasts.{Known, lasts}
 use Rattle.gh_alloc.proofs.FindWithin.{within}
-use Rattle.gh_alloc.proofs.FindParts.{Apart, begins, few-pages, finds-none, first-is, fits-class, full-of, is-apart, is-own, Kept, lands, none-apart, none-own, opens, OwnApart, Stands, taken-of}
+use Rattle.gh_alloc.proofs.FindParts.{Apart, begins, few-pages, finds-none, first-is, fits-class, is-apart, is-own, Kept, lands, none-apart, none-own, opens, OwnApart, Stands, taken-of}
 
 -- The own steps.
 
@@ -218,7 +218,6 @@ module _ (k : Known) (z : Arena) (a : ℕ) (s : Shared) (rest : ℕ → Bool) (l
         head = y.span.head;
         same = head-is y.span.h c y.span.class y.span.noscan_is (small-pages y.span.h c.class (good.spans x.head y.span.h y.span.head).fits y.span.class) (good.numbers x.head y.span.h y.span.head ∙ sym whose.number);
         held = y.span.held;
-        full = λ rule. full-of now.alloc y.span.h x.head c.class y.span.class (λ j lt. y.taken j (omega (arith, lt, used)));
       }))
 
   -- A span is taken.

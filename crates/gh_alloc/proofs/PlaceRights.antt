@@ -80,7 +80,6 @@ gives-last k z a v w p g o x = record {
     head = o.heads g.page x.back.h x.back.held x.back.head;
     same = x.back.same;
     held = o.holds g.page ∙ x.back.held;
-    full = λ rule i few. o.bits _ (x.back.full rule i few);
   };
   large = x.large;
   full = λ i few. o.bits _ (x.full i few);
@@ -276,7 +275,6 @@ module _ (k : Known) (z : Arena) (a : ℕ) (s : Shared) (f : For) (held : ℕ �
                 head = subst (λ (n : ℕ). page_of (now.page n) ≡ page.Head u.claim.h) own.0 u.claim.slot.span.head;
                 same = own.1;
                 held = subst (λ (n : ℕ). now.holds a n ≡ true) own.0 u.claim.held;
-                full = λ rule. full (p.at / 1024) own.0 own.2;
               };
               large = own.2;
               full = full (p.at / 1024) own.0 own.2;

@@ -3,7 +3,6 @@ pub mod FindEnds
 pub mod FindFacts
 pub mod FindSound
 pub mod Locking
-pub mod Making
 pub mod Marking
 pub mod Place
 pub mod PlaceEnds

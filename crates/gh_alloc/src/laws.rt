@@ -1,12 +1,9 @@
 //! Laws of the routines. The functions do nothing; what they ensure is proved.
 
 ghost use Rattle.gh_alloc.specs.FindFacts.{FindsByItsRights};
-ghost use Rattle.gh_alloc.specs.Locking.{PagesAreFreedWithTheLock, PagesAreWrittenWithTheLock};
-ghost use Rattle.gh_alloc.specs.Making.{ObjectsAreMade};
 ghost use Rattle.gh_alloc.specs.Marking.{AnObjectIsMarkedBeforeItIsMade};
 ghost use Rattle.gh_alloc.specs.PlaceFacts.{PlacesByItsRights};
 ghost use Rattle.gh_alloc.specs.Quiet.{AllocationIsQuiet};
-ghost use Rattle.gh_alloc.specs.Refusing.{NoRoomIsTrue};
 ghost use Rattle.gh_alloc.specs.Rounds.{NoRoomIsAfterReclaim};
 ghost use Rattle.gh_alloc.specs.SearchFacts.{SeeksByItsRights};
 
@@ -21,31 +18,6 @@ use gh_central::laws::{
 use gh_class::size_class_laws;
 use gh_heap::laws::{each_move_keeps, facts_last, rights_follow, the_heap_is_apart};
 use gh_pages::laws::the_carve_keeps_its_facts;
-
-/// Whatever the search is told, it writes a page word only between the swap that found the lock free
-/// and the store that frees it; and it has freed the lock when it ends.
-pub fn pages_are_written_with_the_lock()
-    ensures { PagesAreWrittenWithTheLock }
-{}
-
-/// Whatever the search is told, it ends with `NoRoom` only where, since it last took the lock, the
-/// pass over the spans has ended with none, and then the search for fresh pages has. A large object
-/// needs no pass.
-pub fn no_room_is_true()
-    ensures { NoRoomIsTrue }
-{}
-
-/// Run to its end over any words, the making of an object leaves the slot's fields clear, the birth
-/// word, the pointer bits of the type, the alloc bit and, where marking is on, the mark bit, the heap's
-/// bytes grown by the slot's, and a large object's span cached by nobody. Every other cell is as it was.
-pub fn objects_are_made()
-    ensures { ObjectsAreMade }
-{
-    pointers_are_set();
-    cells_are_told();
-    steps_are_folded::<Place<'_>, ()>();
-    steps_are_folded::<SetPointers<'_>, ()>();
-}
 
 /// Whatever the making of an object is told: while marking is on, the step that sets its alloc bit comes
 /// behind one that has set the same bit of the marks. While marking is off, no step of it is on a mark word.
@@ -98,12 +70,6 @@ pub fn making_keeps_its_facts()
     giving_back_keeps_its_facts();
     the_heap_is_apart();
 }
-
-/// Whatever `Search` is told, it writes a page word, also where it frees a page, only between the swap
-/// that found the lock free and the store that frees it; and it has freed the lock when it ends.
-pub fn pages_are_freed_with_the_lock()
-    ensures { PagesAreFreedWithTheLock }
-{}
 
 /// Whatever `Search` is told, it ends with `NoRoom` only where these steps stand one behind the other:
 /// it took the lock; it gave a cached span back, if one was cached; the pass over the spans ended with

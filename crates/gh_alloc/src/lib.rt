@@ -19,8 +19,6 @@ pub mod laws;
 mod place;
 mod search;
 mod sought;
-#[cfg(test)]
-mod tests;
 
 pub use find::{After, Find, FindStage};
 pub use place::{Place, PlaceStage};

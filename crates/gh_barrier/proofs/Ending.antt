@@ -9,11 +9,6 @@ use Rattle.gh_barrier.specs.declared.write_pointer.WriteStage.TheVariants.{LoadO
 use Rattle.gh_barrier.specs.Ending.{left, shade_left, WritingEnds}
 use Rattle.gh_barrier.specs.Listing.{after_new, after_old, goes_at, is_busy, read_as, shades_new, shades_old, Writing}
 
-shade-some : (q : ShadeStage) → shade.is_busy q ≡ true → 1 ≤ shade_left q
-shade-some shade_stage.WaitForRoom e = absurd (cc)
-shade-some shade_stage.Ended e = absurd (cc)
-shade-some _ e = omega arith
-
 marked-left : (held : _) (ends : Bool) → shade_left (shade.after_mark held ends) ≤ 1
 marked-left held true = omega arith
 marked-left held false = by (shade.has_place held) where

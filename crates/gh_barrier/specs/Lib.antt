@@ -1,8 +1,6 @@
-pub mod Alone
 pub mod Ending
 pub mod Ends
 pub mod Facts
 pub mod Listing
 pub mod Sound
 pub mod Within
-pub mod Writes

@@ -53,8 +53,6 @@
 
 pub mod laws;
 mod pointer_cell;
-#[cfg(test)]
-mod tests;
 mod write_pointer;
 
 pub use pointer_cell::PointerCell;

@@ -5,6 +5,3 @@ pub mod Own
 pub mod Packing
 pub mod Showing
 pub mod Writing
-pub mod Saying
-pub mod Acting
-pub mod Answering

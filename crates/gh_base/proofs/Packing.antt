@@ -12,29 +12,18 @@ use Rattle.gh_base.specs.declared.pack.Phase.TheVariants.{Off, Mark, Stop, Finis
 use Rattle.gh_base.specs.declared.pack.PhaseWord.{PhaseWord}
 use Rattle.gh_base.specs.declared.pack.TallyWord.{TallyWord}
 use Rattle.gh_base.specs.declared.value.Name.{Name}
-use Rattle.gh_base.specs.Packing.{page_of, page_word, FitsPage, buffer_of, buffer_word, FitsBuffer, name_of, birth_word, phase_of, phase_word, FitsPhase, tally_of, tally_word, kind_of_phase, head_of, body_of, PackedWordsAreReadBack}
+use Rattle.gh_base.specs.Packing.{page_of, page_word, FitsPage, buffer_of, buffer_word, FitsBuffer, name_of, birth_word, phase_of, phase_word, tally_of, tally_word, kind_of_phase, head_of, body_of, PackedWordsAreReadBack}
 
 pub page_of-page_word : (p : PageWord) → FitsPage p → page_of (page_word p) ≡ p
 page_of-page_word Free f = refl
 page_of-page_word (Head h) f = grind (arith, nat_tests)
 page_of-page_word (Body b) f = grind (arith, nat_tests)
 
-pub page_word-fits : (p : PageWord) → FitsPage p → page_word p < 2 ^ 64
-page_word-fits Free f = omega arith
-page_word-fits (Head h) f = grind (arith, nat_tests)
-page_word-fits (Body b) f = grind (arith, nat_tests)
-
 pub buffer_of-buffer_word : (b : BufferWord) → FitsBuffer b → buffer_of (buffer_word b) ≡ b
 buffer_of-buffer_word b f = grind (arith, nat_tests)
 
-pub buffer_word-fits : (b : BufferWord) → FitsBuffer b → buffer_word b < 2 ^ 64
-buffer_word-fits b f = omega arith
-
 pub name_of-birth_word : (goroutines : ℕ) (n : Name) → n.g < goroutines → n.k < 2 ^ 32 → name_of goroutines (birth_word n) ≡ n
 name_of-birth_word goroutines n g k = grind (arith, nat_tests)
-
-pub birth_word-fits : (n : Name) → n.g + 1 < 2 ^ 32 → n.k < 2 ^ 32 → birth_word n < 2 ^ 64
-birth_word-fits n g k = omega arith
 
 pub phase_of-phase_word : (p : PhaseWord) → phase_of (phase_word p) ≡ p
 phase_of-phase_word p = go p.stops p.phase where
@@ -44,19 +33,8 @@ phase_of-phase_word p = go p.stops p.phase where
   go s Stop = grind (arith, nat_tests)
   go s Finished = grind (arith, nat_tests)
 
-pub phase_word-fits : (p : PhaseWord) → FitsPhase p → phase_word p < 2 ^ 64
-phase_word-fits p f = go p.stops p.phase f where
-  go : (s : ℕ) (k : Phase) → s < 2 ^ 62 → 4 * s + kind_of_phase k < 2 ^ 64
-  go s Off f = omega arith
-  go s Mark f = omega arith
-  go s Stop f = omega arith
-  go s Finished f = omega arith
-
 pub tally_of-tally_word : (t : TallyWord) → t.marked < 2 ^ 32 → tally_of (tally_word t) ≡ t
 tally_of-tally_word t m = grind (arith, nat_tests)
-
-pub tally_word-fits : (t : TallyWord) → t.marked < 2 ^ 32 → t.freed < 2 ^ 32 → tally_word t < 2 ^ 64
-tally_word-fits t m f = omega arith
 
 -- what is read of a page word fits
 page_reads : (word : ℕ) → word < 2 ^ 64 → FitsPage (page_of word)

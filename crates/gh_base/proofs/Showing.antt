@@ -1,5 +1,5 @@
 -- One step on the list of words is one step on the cells.
-use Rattle.std.proofs.Common.{◌≡◌, ℕ, ◌+◌, ◌^◌, ◌<◌, ◌%◌, Bool, true, false, refl, sym, cond, ◌∙◌, ap, List, length, length-set, get_or, get_or-set_same, get_or-set_other, eqb}
+use Rattle.std.proofs.Common.{◌≡◌, ℕ, ◌+◌, ◌^◌, ◌<◌, ◌%◌, Bool, true, false, refl, sym, cond, ap, List, length, length-set, get_or, get_or-set_same, get_or-set_other, eqb}
 use Rattle.std.specs.Prelude.{bit_or, bit_and}
 use Rattle.std.proofs.lemmas.List.{set-get_or}
 use Rattle.std.proofs.Math.ListN.{set}
@@ -10,13 +10,6 @@ use Rattle.gh_base.specs.declared.layout.Layout.{Layout}
 use Rattle.gh_base.specs.Cells.{word_of, InRange, same_cell, Words, put, Shows}
 use Rattle.gh_base.specs.Steps.{cell_of, effect, request, changed, target, left}
 use Rattle.gh_base.proofs.Apart.{word_below, words_apart, same_cell_tells}
-
--- a list shows whatever agrees with what it shows
-pub shows_same : (l : Layout) (list : List ℕ) (words other : Words) → ((c : Cell) → words c ≡ other c) → Shows l list words → Shows l list other
-shows_same l list words other same shows = record {
-  long = shows.long;
-  each = λ c h. shows.each c h ∙ same c;
-}
 
 each_put : (l : Layout) (list : List ℕ) (words : Words) (c : Cell) (value : ℕ) → InRange l c → Shows l list words →
     (d : Cell) → InRange l d → (b : Bool) → same_cell c d ≡ b →

@@ -2,7 +2,6 @@ pub mod Cells
 pub mod Holding
 pub mod Limits
 pub mod Lists
-pub mod OneOrder
 pub mod Orders
 pub mod Packing
 pub mod Reading

@@ -1,5 +1,5 @@
 -- Which operations act where in a list of entries, whatever kinds of actor it is of. What a list says is told the newest first, as its entries are.
-use Rattle.std.specs.Prelude.{◌≡◌, ℕ, ◌==◌, Bool, true, false, if◌then◌else◌, List, [], ◌∷◌, ◌++◌, map, reverse, Option, Some, None}
+use Rattle.std.specs.Prelude.{◌≡◌, ℕ, ◌==◌, Bool, true, false, if◌then◌else◌, List, [], ◌∷◌, ◌++◌, Option, Some, None}
 use Rattle.std.specs.Option.{option_to_list}
 use Rattle.gh_base.specs.declared.machine.Entry.{Entry}
 use Rattle.gh_base.specs.Lists.{Kind, started, state_of}
@@ -35,35 +35,12 @@ pub record DeedsFit {M O D A : Type 0} (k : Kind M O) (d : Deeds M O D A) : Type
   pub acts_for : (m : M) (found : ℕ) (x : D) → k.busy m ≡ true → d.acts m found ≡ Some x → d.unacted m ≡ Some (d.of x)
   pub acts_once : (m : M) (found : ℕ) (x : D) → k.busy m ≡ true → d.acts m found ≡ Some x → d.unacted (k.takes m found) ≡ None
 
--- Whose it is, and what it is
-pub record Did (X : Type 0) : Type 0 where
-  pub actor : ℕ
-  pub what : X
-
-abbrev pub did : {X : Type 0} → ℕ → Option X → List (Did X)
-did a None = []
-did a (Some x) = record { actor = a; what = x } ∷ []
-
--- the part of one actor
-abbrev pub part_of : {X : Type 0} → ℕ → List (Did X) → List X
-part_of a [] = []
-part_of a (x ∷ xs) = if x.actor == a then x.what ∷ part_of a xs else part_of a xs
-
 -- Each entry, behind those before it, says something or nothing.
 module _ {O X : Type 0} (says : List (Entry O) → Entry O → Option X) where
-  -- what all entries say
-  abbrev pub said_in : List (Entry O) → List (Did X)
-  said_in [] = []
-  said_in (e ∷ es) = did e.actor (says es e) ++ said_in es
-
   -- what one actor's entries say
   abbrev pub said_by : ℕ → List (Entry O) → List X
   said_by a [] = []
   said_by a (e ∷ es) = if e.actor == a then option_to_list (says es e) ++ said_by a es else said_by a es
-
--- all operations that the actor began
-abbrev pub operations_by : {O : Type 0} → ℕ → List (Entry O) → List O
-operations_by = said_by (λ es e. e.begun)
 
 module _ {M O D A : Type 0} (k : Kind M O) (d : Deeds M O D A) where
   -- the entry's actor before its step, its operation begun
@@ -73,22 +50,6 @@ module _ {M O D A : Type 0} (k : Kind M O) (d : Deeds M O D A) where
   -- what the entry's step does, where it is a point
   abbrev pub done_at : List (Entry O) → Entry O → Option D
   done_at es e = d.acts (before_step es e) e.found
-
-  -- the order of points
-  abbrev pub order_of : List (Entry O) → List (Did D)
-  order_of = said_in done_at
-
-  -- the points of one actor
-  abbrev pub order_by : ℕ → List (Entry O) → List D
-  order_by = said_by done_at
-
-  -- its operations, in the order of their points
-  abbrev pub acted_by : ℕ → List (Entry O) → List O
-  acted_by a es = map d.of (order_by a es)
-
-  -- the operations with a point that it began
-  abbrev pub begun_by : ℕ → List (Entry O) → List O
-  begun_by = said_by (λ es e. with_point d e.begun)
 
   -- what it was answered
   abbrev pub given_by : ℕ → List (Entry O) → List A
@@ -105,16 +66,6 @@ pub record Answered (D A : Type 0) : Type 0 where
   pub answer : A
 
 module _ {E D A : Type 0} (n : Meaning E D A) where
-  -- these deeds, the first of them first, are answered so from here on
-  abbrev pub AreAnswered : E → List (Answered D A) → Type 0
-  AreAnswered e [] = Unit {0}
-  AreAnswered e (x ∷ xs) = (x.answer ≡ n.answer e x.deed) × AreAnswered (n.after e x.deed x.answer) xs
-
-  -- and leave this
-  abbrev pub left_by : E → List (Answered D A) → E
-  left_by e [] = e
-  left_by e (x ∷ xs) = left_by (n.after e x.deed x.answer) xs
-
   -- a step's deed, answered
   abbrev pub answered : E → Option D → Option (Answered D A)
   answered e None = None
@@ -131,18 +82,6 @@ module _ {M O D A E : Type 0} (k : Kind M O) (d : Deeds M O D A) (n : Meaning E 
   model_after [] = n.opening
   model_after (e ∷ es) = left_at n (model_after es) (done_at k d es e)
 
-  -- the order of points, each with its answer where it acts
-  abbrev pub answered_in : List (Entry O) → List (Did (Answered D A))
-  answered_in = said_in (λ es e. answered n (model_after es) (done_at k d es e))
-
   -- the points of one actor
   abbrev pub answered_by : ℕ → List (Entry O) → List (Answered D A)
   answered_by = said_by (λ es e. answered n (model_after es) (done_at k d es e))
-
-  -- the answers alone
-  abbrev pub answers_in : List (Entry O) → List A
-  answers_in es = map (λ x. x.what.answer) (answered_in es)
-
--- deeds and their answers, the first of them first
-abbrev pub in_turn : {D A : Type 0} → List (Did (Answered D A)) → List (Answered D A)
-in_turn xs = reverse (map (λ x. x.what) xs)

@@ -5,8 +5,6 @@ ghost use Rattle.gh_base.specs.declared.machine.Entry.{Entry};
 ghost use Rattle.gh_base.specs.Cells.{WordsAreApart, WordsAreBelow};
 ghost use Rattle.gh_base.specs.Holding.{BuffersAreHeld};
 ghost use Rattle.gh_base.specs.Lists.{by, Kind, Setting, state_of};
-ghost use Rattle.gh_base.specs.OneOrder.{EachActsOnce, IsOneOrder, OrderIsAnswered, PartsAreOwn};
-ghost use Rattle.gh_base.specs.Orders.{Deeds, DeedsFit, Meaning};
 ghost use Rattle.gh_base.specs.Packing.{PackedWordsAreReadBack};
 ghost use Rattle.gh_base.specs.Routines.{IsFolded, Listing};
 ghost use Rattle.gh_base.specs.Rows.{CellsAreTold, RowsAreWritten};
@@ -63,25 +61,4 @@ pub fn cells_are_told()
 /// holds.
 pub fn buffers_are_held()
     ensures { BuffersAreHeld }
-{}
-
-/// Each operation that has a point acts once, before it ends. So what an actor began has acted, save at most the
-/// last, and the points have the order in which it began them.
-pub fn each_operation_acts_once<M, O, D, A>()
-    ensures { (s : Setting M O) (d : Deeds M O D A) → DeedsFit s.kind d → EachActsOnce s d }
-{}
-
-/// What an actor began, did and was answered depends on its own entries alone.
-pub fn an_actors_part_is_its_own<M, O, D, A>()
-    ensures { (k : Kind M O) (d : Deeds M O D A) → PartsAreOwn k d }
-{}
-
-/// The points of all actors stand in one order, in which each actor has its own part.
-pub fn points_have_one_order<M, O, D, A>()
-    ensures { (s : Setting M O) (d : Deeds M O D A) → IsOneOrder s d }
-{}
-
-/// Each operation is answered at its point what the model answers after those whose points stand before it.
-pub fn points_are_answered<M, O, D, A, E>()
-    ensures { (k : Kind M O) (d : Deeds M O D A) (n : Meaning E D A) → OrderIsAnswered k d n }
 {}

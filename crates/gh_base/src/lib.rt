@@ -22,8 +22,6 @@ mod machine;
 mod operation;
 mod pack;
 mod shape;
-#[cfg(test)]
-mod tests;
 pub mod trace;
 mod value;
 
@@ -35,7 +33,6 @@ pub use machine::{Entry, Machine};
 pub use operation::Op;
 pub use pack::{
     BufferWord, END, ENTRIES, GONE, PageWord, Phase, PhaseWord, SpanBody, SpanHead, TallyWord,
-    read_slack,
 };
 pub use shape::{Bits, Shape, Shapes};
 pub use value::{Answer, Fault, Name, Value};

@@ -4,7 +4,7 @@
 //! `pack` wrote, but reading is total: a part that may not stand there is read as the least that
 //! may. So a machine needs no case for words that never are.
 
-ghost use Rattle.std.specs.Prelude.{◌≡◌, ◌+◌, ◌<◌, ◌^◌, max};
+ghost use Rattle.std.specs.Prelude.{◌≡◌, ◌+◌, ◌<◌, ◌^◌};
 ghost use Rattle.gh_base.specs.Packing.{birth_word, buffer_of, buffer_word, class_bits, class_in, FitsBuffer, FitsPage, FitsPhase, name_of, page_class, page_noscan, page_of, page_pages, page_word, phase_of, phase_word, slot_in, tally_of, tally_word};
 ghost use Rattle.gh_class.specs.Classes.{IsSizeClass};
 
@@ -320,11 +320,4 @@ impl TallyWord {
             freed: (word >> 32) as u32,
         }
     }
-}
-
-/// Reads the slack, which is at least 1.
-pub fn read_slack(found: u64) -> u64
-    ensures { result ≡ max found 1 }
-{
-    found.max(1)
 }

@@ -35,8 +35,3 @@ pub record ReadsBit (l : Layout) (at : ℕ) (words : Words) : Type 0 where
 
 abbrev pub BitsAreRead : Type 0
 BitsAreRead = (l : Layout) (at : ℕ) (words : Words) → at < 1024 * l.pages → ReadsBit l at words
-
--- what is read of a slot whose bits are set is what the type says
-abbrev pub SetBitsAreReadBack : Type 0
-SetBitsAreReadBack = (l : Layout) (shape : Shape) (at slot : ℕ) (before after : Words) → at + slot ≤ 1024 * l.pages → AreSet shape at slot before after →
-    (i : ℕ) → i < slot → reading.gives (reading.opening l (at + i)) (after (cell_of (reading.asks (reading.opening l (at + i))))) ≡ Some (is_pointer shape i)

@@ -1,7 +1,7 @@
 //! Laws of the routines. The functions do nothing; what they ensure is proved.
 
 ghost use Rattle.gh_bitmap.specs.Facts.{SetsByItsRights};
-ghost use Rattle.gh_bitmap.specs.Pointers.{BitsAreRead, PointersAreSet, SetBitsAreReadBack};
+ghost use Rattle.gh_bitmap.specs.Pointers.{BitsAreRead, PointersAreSet};
 ghost use Rattle.gh_bitmap.specs.Stepping.{EachStepIsOnItsBits};
 
 use crate::set_pointers::SetPointers;
@@ -29,11 +29,6 @@ pub fn pointers_are_set()
 /// The routine that reads a heap word's bit ends with that bit.
 pub fn bits_are_read()
     ensures { BitsAreRead }
-{}
-
-/// What is read of a slot whose bits are set is what the type says.
-pub fn set_bits_are_read_back()
-    ensures { SetBitsAreReadBack }
 {}
 
 /// Whatever any number of processors do beside it: while the seat claims the slot, each step is a move that it

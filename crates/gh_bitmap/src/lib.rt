@@ -6,7 +6,7 @@
 //! object's slot, by the shape of its type, and [`ReadPointer`] reads the bit of one word. What they
 //! ask for and where they go is their listing, in specs/SetPointers.antt and specs/ReadPointer.antt; above
 //! that stand the laws of [`laws`]: the bits of the slot become those of the type, every other bit
-//! stays, and what is read is what was set.
+//! stays, and what is read is the word's bit.
 //!
 //! This is Go's heap bitmap (`heapBitsSetType`, and `heapBitsForAddr` with `heapBits.isPointer`, in
 //! mbitmap.go). Go keeps two bits for each word, in a bitmap for each arena; here the bits are a row of
@@ -17,8 +17,6 @@ mod bits;
 pub mod laws;
 mod read_pointer;
 mod set_pointers;
-#[cfg(test)]
-mod tests;
 
 pub use read_pointer::{ReadPointer, ReadStage};
 pub use set_pointers::{SetPointers, SetStage};

@@ -13,7 +13,5 @@
 
 pub mod laws;
 mod next_slot;
-#[cfg(test)]
-mod tests;
 
 pub use next_slot::{Cached, NextSlot, SlotStage};

@@ -24,7 +24,7 @@ gives k z a s held g good right x = record {
   after = ((refl, refl), (k.follow z a s true held None right).given g.page x.h);
 } where
   may : May z a (view s) (Disown g.page x.h)
-  may = (record { locked = right.locked; laying = right.laying; freeing = right.freeing; head = x.head }, x.held, x.full)
+  may = (record { locked = right.locked; laying = right.laying; freeing = right.freeing; head = x.head }, x.held)
 
 gives_large : Known → GivesLarge
 gives_large k z a s l held y g good right x large full = record {
@@ -44,7 +44,6 @@ lasts z a v w g o x = record {
   head = o.heads g.page x.h x.held x.head;
   same = x.same;
   held = o.holds g.page ∙ x.held;
-  full = λ rule i few. o.bits _ (x.full rule i few);
 }
 
 pub gives_by_its_rights : Known → GivesByItsRights

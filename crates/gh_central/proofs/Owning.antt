@@ -1,5 +1,5 @@
--- The stores of a head word change its owner alone.
-use Rattle.std.proofs.Common.{ℕ, ◌+◌, ◌<◌, ◌^◌, lit<, sym, ap, ◌∙◌, arith}
+-- The store that gives a span back changes the head's owner alone.
+use Rattle.std.proofs.Common.{ℕ, ◌<◌, ◌^◌, lit<, sym, ap, ◌∙◌}
 use Rattle.gh_base.specs.declared.cell.Cell.TheVariants.{Page}
 use Rattle.gh_base.specs.declared.cell.Ask.TheVariants.{Store}
 use Rattle.gh_base.specs.declared.layout.Layout.{Layout}
@@ -8,11 +8,9 @@ use Rattle.gh_base.specs.declared.pack.SpanHead.{SpanHead}
 use Rattle.gh_base.specs.Cells.{Words}
 use Rattle.gh_base.specs.Packing.{FitsHead, head_word, PackedWordsAreReadBack, page_of}
 use Rattle.gh_base.specs.Rows.{CellsAreTold}
-use Rattle.gh_central.specs.declared.pass.PassStage.TheVariants.{Take}
 use Rattle.gh_central.specs.GiveBack as giving
 use Rattle.gh_central.specs.Owning.{ChangesTheOwner}
-use Rattle.gh_central.specs.Sound.{Sound}
-use Rattle.gh_central.specs.SweptPass.{Pass, asks, at_stage, owned_by}
+use Rattle.gh_central.specs.SweptPass.{asks, owned_by}
 
 module _ (packed : PackedWordsAreReadBack) (told : CellsAreTold) where
   changes : (page : ℕ) (h : SpanHead) (owner : ℕ) (words : Words) → FitsHead h → owner < 2 ^ 8 → ChangesTheOwner page h owner (Store (Page page) (head_word (owned_by owner h))) words
@@ -20,11 +18,6 @@ module _ (packed : PackedWordsAreReadBack) (told : CellsAreTold) where
     head = ap page_of (told.put_here words (Page page) (head_word (owned_by owner h))) ∙ packed.page (Head (owned_by owner h)) (record { class = f.class; some = f.some; pages = f.pages; owner = low; number = f.number });
     others = λ cell other. told.put_elsewhere words (Page page) cell (head_word (owned_by owner h)) (λ e. other (sym e));
   }
-
-  pub taking : (m : Pass) (page : ℕ) (h : SpanHead) (words : Words) → Sound (at_stage m (Take page h)) → ChangesTheOwner page h (m.seat + 1) (asks (at_stage m (Take page h))) words
-  taking m page h words s = changes page h (m.seat + 1) words s.stage.1 seat where
-    seat : m.seat + 1 < 2 ^ 8
-    seat = let w = s.seat in let p = m.layout.limits.procs_fit.1 in let q = m.layout.limits.workers_fit.1 in omega arith
 
   pub giving_back : (l : Layout) (page : ℕ) (h : SpanHead) (words : Words) → FitsHead h → ChangesTheOwner page h 0 (giving.asks (giving.opening l page h)) words
   giving_back l page h words f = changes page h 0 words f (lit< tt)

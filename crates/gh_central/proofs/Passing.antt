@@ -1,4 +1,3 @@
 pub mod First
 pub mod Keeping
-pub mod Stopping
 pub mod Walking

@@ -16,10 +16,6 @@ pub record Known : Type 0 where
   pub leave : EachOwnMoveLeaves
   pub apart : TheHeapIsApart
 
--- it is the same routine at another stage, and in a view with the same sweep generation
-whose-at : (z : Arena) (v w : View) (m : Reclaiming) (p q : ReclaimStage) → w.generation ≡ v.generation → Reclaims z v (at_stage m p) → Reclaims z w (at_stage m q)
-whose-at z v w m p q same x = record { layout = x.layout; number = x.number ∙ sym same }
-
 opens : Opens
 opens z v m whose stage = record {
   whose = whose;

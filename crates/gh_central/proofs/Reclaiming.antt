@@ -1,3 +1,1 @@
-pub mod Freeing
 pub mod Keeping
-pub mod Stopping

@@ -12,14 +12,13 @@ use Rattle.gh_heap.specs.Spans.{IsFull, Laying, owned_by}
 use Rattle.gh_central.specs.declared.give.GiveStage.TheVariants.{Write}
 use Rattle.gh_central.specs.GiveBack.{Giving, asks}
 
--- the head of the span, which the seat holds, is what is written but for its owner; and each slot is taken, if that is the heap's rule
+-- the head of the span, which the seat holds, is what is written but for its owner
 pub record CanGiveBack (z : Arena) (a : ℕ) (v : View) (g : Giving) : Type 0 where
   pub stage : g.stage ≡ Write
   pub h : SpanHead
   pub head : page_of (v.page g.page) ≡ page.Head h
   pub same : owned_by 0 h ≡ owned_by 0 g.head
   pub held : v.holds a g.page ≡ true
-  pub full : z.full_only ≡ true → IsFull v.alloc g.page h
 
 -- with the lock, the seat does not hold it any more
 abbrev pub GivesBack : Type 0

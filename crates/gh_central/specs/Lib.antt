@@ -1,4 +1,3 @@
-pub mod EmptySpans
 pub mod Ends
 pub mod GiveBack
 pub mod GiveFacts

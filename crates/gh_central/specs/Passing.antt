@@ -1,5 +1,5 @@
 -- What the pass was told, and what its answer says of that.
-use Rattle.std.specs.Prelude.{◌≡◌, ℕ, suc, ◌+◌, ◌*◌, ◌<◌, ◌≤◌, ◌^◌, Some, None}
+use Rattle.std.specs.Prelude.{◌≡◌, ℕ, suc, ◌+◌, ◌*◌, ◌<◌, ◌≤◌, Some, None}
 use Rattle.gh_base.specs.declared.cell.Cell.TheVariants.{Page, Alloc}
 use Rattle.gh_base.specs.declared.cell.Ask.{Ask}
 use Rattle.gh_base.specs.declared.cell.Ask.TheVariants.{Load, Store}
@@ -7,7 +7,7 @@ use Rattle.gh_base.specs.declared.layout.Layout.{Layout}
 use Rattle.gh_base.specs.declared.pack.PageWord.TheVariants.{Head}
 use Rattle.gh_base.specs.declared.pack.SpanHead.{SpanHead}
 use Rattle.gh_base.specs.Packing.{head_word, page_of}
-use Rattle.gh_base.specs.Routines.{EndsWith, EndsWithin, told}
+use Rattle.gh_base.specs.Routines.{EndsWith, told}
 use Rattle.gh_class.specs.declared.class.SizeClass.TheVariants.{Small}
 use Rattle.gh_class.specs.declared.class.SpanClass.{SpanClass}
 use Rattle.gh_class.specs.Classes.{slot_words_of, slots_of}
@@ -69,7 +69,3 @@ pub record TakesTheFirst (m : Pass) (found : ℕ → ℕ) (n : ℕ) : Type 0 whe
 
 abbrev pub PassTakesTheFirst : Type 0
 PassTakesTheFirst = (l : Layout) (seat generation : ℕ) (wanted : SpanClass) (found : ℕ → ℕ) (n : ℕ) → TakesTheFirst (opening l seat generation wanted) found n
-
--- after so many steps it has ended, whatever it was told
-abbrev pub PassEnds : Type 0
-PassEnds = (l : Layout) (seat generation : ℕ) (wanted : SpanClass) (found : ℕ → ℕ) → EndsWithin listing (19 * l.pages + 2 ^ 18) (opening l seat generation wanted) found

@@ -3,9 +3,8 @@
 ghost use Rattle.gh_central.specs.GiveFacts.{GivesByItsRights};
 ghost use Rattle.gh_central.specs.PassFacts.{PassesByItsRights};
 ghost use Rattle.gh_central.specs.ReclaimFacts.{ReclaimsByItsRights};
-ghost use Rattle.gh_central.specs.EmptySpans.{EmptySpansAreFreed, ReclaimingEnds};
-ghost use Rattle.gh_central.specs.Owning.{GivingChangesTheOwner, TakingChangesTheOwner};
-ghost use Rattle.gh_central.specs.Passing.{PassEnds, PassTakesTheFirst};
+ghost use Rattle.gh_central.specs.Owning.{GivingChangesTheOwner};
+ghost use Rattle.gh_central.specs.Passing.{PassTakesTheFirst};
 ghost use Rattle.gh_central.specs.Slots.{TheTestSaysIt};
 
 use gh_base::laws::{cells_are_told, packed_words_are_read_back};
@@ -26,15 +25,6 @@ pub fn the_test_says_it()
     ensures { TheTestSaysIt }
 {}
 
-/// The last store of the pass leaves the head with the seat as its owner, and every other word as
-/// it was.
-pub fn taking_changes_the_owner()
-    ensures { TakingChangesTheOwner }
-{
-    packed_words_are_read_back();
-    cells_are_told();
-}
-
 /// The store of `GiveBack` leaves the head with nobody as its owner, and every other word as it was.
 pub fn giving_changes_the_owner()
     ensures { GivingChangesTheOwner }
@@ -42,11 +32,6 @@ pub fn giving_changes_the_owner()
     packed_words_are_read_back();
     cells_are_told();
 }
-
-/// Whatever it is told, the pass has ended after 19 steps a page and 2^18 more.
-pub fn the_pass_ends()
-    ensures { PassEnds }
-{}
 
 /// Whatever any number of processors do beside it: each step of the pass is a move that its seat may make,
 /// on a word that there is, and what is known at each stage holds then and lasts. Where it gives a page, the seat holds a span of the
@@ -64,22 +49,12 @@ pub fn the_pass_keeps_its_facts()
 }
 
 /// Giving a span back is a move that its seat may make while it holds the span, and it is on a word that there
-/// is; each slot is to be taken where that is the heap's rule. A large object's span needs no lock for it, once
-/// the object is made.
+/// is. A large object's span needs no lock for it, once the object is made.
 pub fn giving_back_keeps_its_facts()
     ensures { GivesByItsRights }
 {
     rights_follow();
 }
-
-/// Whatever words it is told, each step of `Reclaim` is a load, or stores 0 in the page word of a span
-/// whose head it was told with no owner and with the sweep generation, and whose alloc words it was
-/// all told to be 0: of the bodies in ascending order, and then of the head. When it ends, each page
-/// was met, and each swept span that nobody owns has an alloc word that was told not to be 0, or is
-/// freed.
-pub fn empty_spans_are_freed()
-    ensures { EmptySpansAreFreed }
-{}
 
 /// Whatever any number of processors do beside it: each step of `Reclaim` is a move that its seat may make while
 /// it has the lock, on a word that there is, and what is known at each stage holds then and lasts. It frees the
@@ -92,8 +67,3 @@ pub fn the_reclaiming_keeps_its_facts()
     rights_follow();
     the_heap_is_apart();
 }
-
-/// Whatever it is told, `Reclaim` has ended after 21 steps a page and 2^18 more.
-pub fn the_reclaiming_ends()
-    ensures { ReclaimingEnds }
-{}

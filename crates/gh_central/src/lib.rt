@@ -21,8 +21,6 @@ pub mod laws;
 mod pass;
 mod reclaim;
 mod slots;
-#[cfg(test)]
-mod tests;
 
 pub use give::{GiveBack, GiveStage};
 pub use pass::{PassStage, SweptPass};

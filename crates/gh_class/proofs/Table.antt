@@ -257,8 +257,3 @@ bound_by words h (inr gt) =
 -- the slot of an object of at most 65,536 words has at most as many
 pub slot_words-bound : (words : ℕ) → words ≤ MOST_TYPE_WORDS → slot_words words ≤ MOST_TYPE_WORDS
 slot_words-bound words h = bound_by words h (small_or_large (8 * words))
-
--- worked cases of the slot, which compute
-worked_slots : (slot_words 2 ≡ 2) × (slot_words 3 ≡ 3) × (slot_words 5 ≡ 6) × (slot_words 300 ≡ 384) × (slot_words 4096 ≡ 4096) × (slot_words 4097 ≡ 5120) × (slot_words 9000 ≡ 9216)
-unfolding slot_words large_pages class_number slot_of slot_sizes
-worked_slots = (refl, refl, refl, refl, refl, refl, refl)

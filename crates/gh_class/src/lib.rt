@@ -9,8 +9,6 @@
 
 mod class;
 mod laws;
-#[cfg(test)]
-mod tests;
 
 pub use class::{
     CLASSES, Class, MOST_SPAN_PAGES, MOST_TYPE_WORDS, SPAN_CLASSES, SizeClass, SpanClass, class_of,

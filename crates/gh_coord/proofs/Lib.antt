@@ -1,16 +1,7 @@
 pub mod Vocabulary
-pub mod Accounts
-pub mod Checks
 pub mod GoingOn
 pub mod LastCycle
-pub mod Numbering
-pub mod Phasing
-pub mod Quiet
+pub mod MarkingEnds
 pub mod QuietParts
-pub mod Running
 pub mod Shaking
 pub mod Stepping
-pub mod Stops
-pub mod Sweeps
-pub mod Watches
-pub mod Wholes

@@ -70,8 +70,8 @@ module _ (s : Coordinating) where
   tell_given t (Some u) h = last_given s.is_last
 
   ends_at : (stage : CoordStage) (found : ℕ) → is_busy stage ≡ true → IsGivenAt (goes_at s stage found).stage
-  ends_at (LoadAck i) found busy = ack_given s i (found == GONE) (nat_lt (i + 1) s.layout.procs)
-  ends_at LoadWant found busy = want_given s (found == 0)
+  ends_at (LoadAck i) found busy = ack_given s i _ _
+  ends_at LoadWant found busy = want_given s _
   ends_at (Stop st) found busy = stop_given (stop.goes st found) (stop.gives st found) (parts.stop_ends st found busy)
   ends_at (Open o) found busy = open_given (opens.goes o found) (opens.gives o found) (parts.open_ends o found busy)
   ends_at (Watch w) found busy = watch_given (watch.goes w found) (watch.gives w found) (parts.watch_ends w found busy)
@@ -140,9 +140,6 @@ fixed_at s Done found = refl
 
 pub stays : (s : Coordinating) (found : ℕ) → (goes s found).layout ≡ s.layout
 stays s found = ap (λ (f : Fixed). f.0) (fixed_at (counted s) s.stage found)
-
-pub marks_stay : (s : Coordinating) (stage : CoordStage) (found : ℕ) → (goes_at s stage found).marks ≡ s.marks
-marks_stay s stage found = ap (λ (f : Fixed). f.1) (fixed_at s stage found)
 
 pub room_stays : (s : Coordinating) (found : ℕ) → (goes s found).cycles.room ≡ s.cycles.room
 room_stays s found = ap (λ (f : Fixed). f.2) (fixed_at (counted s) s.stage found)

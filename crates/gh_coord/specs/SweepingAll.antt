@@ -26,11 +26,6 @@ opening l generation = record { layout = l; generation = generation; stage = Loa
 abbrev pub at_stage : SweepingAll → SweepAllStage → SweepingAll
 at_stage s stage = record s { stage = stage }
 
--- the page is the head of a span that is unswept in this generation: its sweep number is 2 below it
-abbrev pub is_unswept : (generation : ℕ) → PageWord → Bool
-is_unswept generation (Head h) = h.number + 2 == generation
-is_unswept generation _ = false
-
 -- somebody sweeps the span: its sweep number is 1 below
 abbrev pub is_in_sweep : (generation : ℕ) → PageWord → Bool
 is_in_sweep generation (Head h) = h.number + 1 == generation

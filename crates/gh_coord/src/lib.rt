@@ -45,8 +45,6 @@ mod pacing;
 mod stop;
 mod sweep_all;
 mod tell;
-#[cfg(test)]
-mod tests;
 mod watch;
 
 pub use close::{Close, CloseStage};

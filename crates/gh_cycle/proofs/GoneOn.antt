@@ -11,7 +11,7 @@ use Rattle.gh_marks.specs.Laws as marks_laws
 use Rattle.gh_marks.specs.Moves as marks
 use Rattle.gh_cycle.specs.Beside.{IsOfCycle}
 use Rattle.gh_cycle.specs.Reached.{TheReachedWereMade}
-use Rattle.gh_cycle.specs.Since.{CyclesBeginSo, HasGoneOn, TheLostAreNotMarked, TheMarkedWereReached, WhatHasGoneOnLasts}
+use Rattle.gh_cycle.specs.Since.{CyclesBeginSo, HasGoneOn, TheMarkedWereReached, WhatHasGoneOnLasts}
 use Rattle.gh_cycle.specs.Vocabulary.{alloc_words, birth_word, birth_words, Cycle, Ever, Good, Heap, IsMade, Marking, Name, Placed, Reach, row_bit, RowsAreWritten, TheHeapIsApart, view, View, Words}
 use Rattle.gh_cycle.proofs.Endings.Ended.{zero_one}
 use Rattle.gh_cycle.proofs.Endings.Quiet.{quiet_view}
@@ -128,6 +128,3 @@ has-gone-on k z a h s t m began good marking may went words same gone = lasts k 
 
 pub marked-were-reached : TheMarkedWereReached
 marked-were-reached z h s began good same none gone n placed marked made = gone.of_cycle n (record { made = gone.made n made; placed = placed; since = marked-since z s good none (h.place n) marked }) made
-
-pub lost-are-not-marked : TheMarkedWereReached → TheLostAreNotMarked
-lost-are-not-marked reached z h s began good same none gone n made lost placed marked = lost (reached z h s began good same none gone n placed marked made)

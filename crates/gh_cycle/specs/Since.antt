@@ -27,8 +27,3 @@ WhatHasGoneOnLasts = (z : Cycle) (a : ℕ) (h : Heap) (s t : Marking) (m : heap.
 abbrev pub TheMarkedWereReached : Type 0
 TheMarkedWereReached = (z : Cycle) (h : Heap) (s : Marking) (began : Ever) → MarkingGood z s → s.words ≡ h.words → ((o a : ℕ) → s.colour o ≢ Placing a) → HasGoneOn began h s →
     (n : Name) → Placed (alloc_words h.words) (birth_words h.words) h.place n → IsMarked (mark_words s.words) (h.place n) → IsMade began.made n → Reach began n
-
--- So what was lost when the cycle began is not marked, if it stands: the sweep frees it.
-abbrev pub TheLostAreNotMarked : Type 0
-TheLostAreNotMarked = (z : Cycle) (h : Heap) (s : Marking) (began : Ever) → MarkingGood z s → s.words ≡ h.words → ((o a : ℕ) → s.colour o ≢ Placing a) → HasGoneOn began h s →
-    (n : Name) → IsMade began.made n → (Reach began n → ⊥) → Placed (alloc_words h.words) (birth_words h.words) h.place n → row_bit (mark_words s.words) (h.place n) ≢ 1

@@ -6,7 +6,7 @@
 //! only if a script reached it then: all else of the cycle was made since. So where marking ends, nothing that was lost
 //! when the cycle began is marked, and the sweep frees it.
 
-ghost use Rattle.gh_cycle.specs.Since.{CyclesBeginSo, TheLostAreNotMarked, TheMarkedWereReached, WhatHasGoneOnLasts};
+ghost use Rattle.gh_cycle.specs.Since.{CyclesBeginSo, TheMarkedWereReached, WhatHasGoneOnLasts};
 
 use crate::opening::reach_is_decided;
 use gh_base::laws::rows_are_written;
@@ -38,10 +38,3 @@ pub fn what_has_gone_on_lasts()
 pub fn the_marked_were_reached()
     ensures { TheMarkedWereReached }
 {}
-
-/// So what was lost when the cycle began is not marked.
-pub fn the_lost_are_not_marked()
-    ensures { TheLostAreNotMarked }
-{
-    the_marked_were_reached();
-}

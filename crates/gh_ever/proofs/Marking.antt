@@ -30,16 +30,6 @@ with_mark_here os ms i o n h k e t inv =
     let here : with_mark (drop i os) (drop i ms) n ≡ true ∷ drop (i + 1) ms = with_mark_at os ms i o n h k e ∙ rw t refl in
     set_split ms i true k ∙ rw (← add-one) (ap (λ (r : List Bool). take i ms ++ r) (sym here)) ∙ inv
 
-pub with_mark_past : (os : List Object) (ms : List Bool) (i : ℕ) (n : Name) → length os ≤ i → take i ms ++ with_mark (drop i os) (drop i ms) n ≡ with_mark os ms n → ms ≡ with_mark os ms n
-with_mark_past os ms i n h inv =
-    let none : drop i os ≡ [] = drop_all i os h in
-    let rest : with_mark (drop i os) (drop i ms) n ≡ drop i ms = ap (λ (xs : List Object). with_mark xs (drop i ms) n) none in
-    sym (take-append-drop i ms) ∙ ap (λ (r : List Bool). take i ms ++ r) (sym rest) ∙ inv
-
--- it was set already
-pub set_already : (ms : List Bool) (i : ℕ) → get_or ms i false ≡ true → set ms i true ≡ ms
-set_already ms i e = ap (λ (b : Bool). set ms i b) (sym e) ∙ set-get_or ms i false
-
 pub with_mark_further : (os : List Object) (ms : List Bool) (i : ℕ) (o : Object) (n : Name) → i < length os → i < length ms → o ≡ get_or os i o → same_name n o.name ≡ false →
     take i ms ++ with_mark (drop i os) (drop i ms) n ≡ with_mark os ms n → take (i + 1) ms ++ with_mark (drop (i + 1) os) (drop (i + 1) ms) n ≡ with_mark os ms n
 with_mark_further os ms i o n h k e f inv =

@@ -61,11 +61,6 @@ spent_le left g h = elim (cases_eq h g) [
 pub sum-spent : (left : List ℕ) (g : ℕ) → g < length left → 0 < get_or left g 0 → sum (spent left g) + 1 ≡ sum left
 sum-spent left g h k = omega (arith, sum_by-set (λ (x : ℕ). x) left g (get_or left g 0 - 1) 0 h)
 
-pub sum_pos : (left : List ℕ) (g : ℕ) → g < length left → 0 < get_or left g 0 → 0 < sum left
-sum_pos left g h k = omega (arith, get_or-le-sum_by (λ (x : ℕ). x) left g 0 h)
-
--- The lists stay sound.
-
 pub sound_put : (v : Lists) (p : Place) (x : EverValue) → Sound v → IsInKnown v.objects p → IsKnown v.objects x → Sound (record v { cells = put v.cells p x })
 sound_put v p x s inside known = record {
   sized = s.sized;

@@ -100,6 +100,3 @@ impl Ever {
         reaches(&self.kept, &mut self.marks, n)
     }
 }
-
-#[cfg(test)]
-mod tests;

@@ -11,7 +11,7 @@ use Rattle.gh_base.specs.Packing.{page_of}
 use Rattle.gh_base.specs.Rows.{Row, with_word}
 use Rattle.gh_heap.specs.Moves.{update, update_at}
 use Rattle.gh_heap.specs.Objects.{Place, SlotsGood}
-use Rattle.gh_heap.specs.Rights.{LockGood, SpansGood, WholeGood, NumbersGood, OwnersGood, Lays, LayingGood, FullGood}
+use Rattle.gh_heap.specs.Rights.{LockGood, SpansGood, WholeGood, NumbersGood, OwnersGood, Lays, LayingGood}
 use Rattle.gh_heap.specs.Spans.{FitsClass, FitsIn, IsFull, IsSpan, Laying, LaidOut, Freeing, body_at, owned_by, owner_at, owner_in}
 use Rattle.gh_heap.proofs.Apart.{head_is, page_in_span, same_span}
 
@@ -96,9 +96,6 @@ module _ (pages : ℕ) (row : Row) (q w : ℕ) where
     pub plain_numbers : (generation : ℕ) → NumbersGood row generation → NumbersGood (with_word row q w) generation
     plain_numbers generation g p h e = g p h (head_before p h e)
 
-    pub plain_full : (alloc : Row) → FullGood row alloc → FullGood (with_word row q w) alloc
-    plain_full alloc g p h e unowned = g p h (head_before p h e) unowned
-
     pub plain_owners : owner_in (page_of w) ≡ 0 → owner_at row q ≡ 0 → (holds : ℕ → ℕ → Bool) → OwnersGood row holds → OwnersGood (with_word row q w) holds
     plain_owners now before holds g a p = subst (λ (o : ℕ). (o ≡ a + 1) ↔ (holds a p ≡ true)) (sym (owner_after 0 p now ∙ same_by (λ (y : ℕ). owner_at row y) q 0 before p)) (g a p)
 
@@ -115,12 +112,6 @@ module _ (pages : ℕ) (row : Row) (q w : ℕ) where
     head_numbers generation n g p h e = elim (head_then p h e) [
       | inl x ↦ ap (λ (y : SpanHead). y.number) (sym x.1) ∙ n
       | inr x ↦ g p h x.1
-    ]
-
-    pub head_full : (alloc : Row) → (k.owner ≡ 0 → IsFull alloc q k) → FullGood row alloc → FullGood (with_word row q w) alloc
-    head_full alloc full g p h e none = elim (head_then p h e) [
-      | inl x ↦ subst (λ (n : ℕ). IsFull alloc n h) x.0 (subst (λ (y : SpanHead). IsFull alloc q y) x.1 (full (ap (λ (y : SpanHead). y.owner) x.1 ∙ none)))
-      | inr x ↦ g p h x.1 none
     ]
 
     pub head_spans : FitsIn pages q k → SpansGood pages row → SpansGood pages (with_word row q w)

@@ -2,7 +2,6 @@ mod Vocabulary
 mod Apart
 mod Follows
 mod Keeps
-mod KeepsAll
 mod KeepsFree
 mod KeepsFreeing
 mod KeepsMade

@@ -3,18 +3,12 @@ use Rattle.std.specs.Prelude.{◌≡◌, ◌≢◌, ℕ, ◌+◌, ◌*◌, ◌/�
 use Rattle.gh_base.specs.declared.pack.SpanBody.{SpanBody}
 use Rattle.gh_heap.specs.Moves.{Move, Quiet, Takes, Ends, TakeLock, LeaveLock, Refuse, LayBody, LayHead, FreeBody, FreeHead, Own, Disown, Publish, ClearField, SetBirth, SetBits, Make, Write, WriteGlobal, moved, May, Others, Leaves, update}
 use Rattle.gh_heap.specs.Objects.{IsMade, Placed}
-use Rattle.gh_heap.specs.Rights.{Arena, Shared, View, view, Right, Rights, Good, Claims, FullBefore, TidyBefore, FullGood, StaysGood}
+use Rattle.gh_heap.specs.Rights.{Arena, Shared, View, view, Right, Rights, Good, Claims, FullBefore, TidyBefore}
 use Rattle.gh_heap.specs.Vocabulary.{Ask, BeingFreed, Body, Ever, EverValue, Free, Freeing, Head, IsInUse, IsSlotOf, IsSpan, LaidOut, Large, Laying, Name, next_name, page_of, Reach, row_bit, SpanHead}
 
 -- what holds at every moment holds after each move that may be made
 abbrev pub EachMoveKeeps : Type 0
 EachMoveKeeps = (z : Arena) (a : ℕ) (s : Shared) (m : Move) → Good z (view s) → May z a (view s) m → Good z (view (moved z a s m))
-
--- So does this, in a heap where spans are given back only when each slot is taken; and this in every heap: no move clears an alloc bit.
-pub record EachMoveKeepsAll : Type 0 where
-  pub full : (z : Arena) (a : ℕ) (s : Shared) (m : Move) → z.full_only ≡ true → Good z (view s) → FullGood (view s).page (view s).alloc → May z a (view s) m → FullGood (view (moved z a s m)).page (view (moved z a s m)).alloc
-  pub stays : (z : Arena) (a : ℕ) (s : Shared) (m : Move) → Good z (view s) → StaysGood (view s).alloc (view s).birth (view s).place (view s).ever.made → May z a (view s) m →
-      StaysGood (view (moved z a s m)).alloc (view (moved z a s m)).birth (view (moved z a s m)).place (view (moved z a s m)).ever.made
 
 -- the name that the move makes, if it makes one
 abbrev pub name_made : Ever → Move → Option Name

@@ -13,12 +13,11 @@ use Rattle.gh_model.specs.Ever.{Ever}
 use Rattle.gh_heap.specs.Objects.{IsMade, Place, Placed, BitsGood, ReachedGood, SlotsGood, PointersGood, FieldsGood, GlobalsGood, NamesGood}
 use Rattle.gh_heap.specs.Spans.{FitsIn, IsSpan, IsSlotOf, IsFull, IsInUse, IsEmpty, owner_at, Laying, LaidOut, Freeing, BeingFreed}
 
--- What a heap is of: where its words lie, the types of its objects, and at which seat is the processor that runs a goroutine; and its rule by which spans are given back, only when each slot is taken, or at any time.
+-- What a heap is of: where its words lie, the types of its objects, and at which seat is the processor that runs a goroutine.
 pub record Arena : Type 0 where
   pub layout : Layout
   pub shapes : List Shape
   pub seat_of : ℕ → ℕ
-  pub full_only : Bool
 
 -- The words; a row for each kind of right, by seat: who has the lock, who holds the span that begins at a page, what is being laid out, and what is being freed; where each name was placed, and the heap that never frees.
 pub record Shared : Type 0 where
@@ -122,14 +121,6 @@ FreeingGood page alloc locked freeing = (a : ℕ) (y : Freeing) → freeing a �
 -- an alloc word is one of 64 bits
 abbrev pub WordsGood : (alloc : Row) → Type 0
 WordsGood alloc = (i : ℕ) → alloc i < 2 ^ 64
-
--- Where spans are given back only when each slot is taken, a span that nobody owns is full. It is no part of what holds of every heap.
-abbrev pub FullGood : (page alloc : Row) → Type 0
-FullGood page alloc = (p : ℕ) (h : SpanHead) → page_of (page p) ≡ Head h → h.owner ≡ 0 → IsFull alloc p h
-
--- While no alloc bit is cleared, every object that was made stays placed: no part of it either.
-abbrev pub StaysGood : (alloc birth : Row) → Place → (made : ℕ → ℕ) → Type 0
-StaysGood alloc birth place made = (n : Name) → IsMade made n → Placed alloc birth place n
 
 pub record Good (z : Arena) (v : View) : Type 0 where
   pub lock : LockGood v.lock v.locked

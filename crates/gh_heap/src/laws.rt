@@ -1,6 +1,6 @@
 //! What holds of the moves. The functions do nothing; what they ensure is proved.
 
-ghost use Rattle.gh_heap.specs.Laws.{EachFactLasts, EachFreeingFollows, EachMoveKeeps, EachMoveKeepsAll, EachMoveKeepsItsOwn, EachMoveLeaves, EachMoveReachesNoMore, EachOwnMoveLeaves, EachRightFollows, TheHeapIsApart, WalksGoOn};
+ghost use Rattle.gh_heap.specs.Laws.{EachFactLasts, EachFreeingFollows, EachMoveKeeps, EachMoveKeepsItsOwn, EachMoveLeaves, EachMoveReachesNoMore, EachOwnMoveLeaves, EachRightFollows, TheHeapIsApart, WalksGoOn};
 
 use gh_base::laws::{packed_words_are_read_back, rows_are_written};
 use gh_class::size_class_laws;
@@ -26,17 +26,6 @@ pub fn each_move_keeps()
 pub fn no_more_is_reached()
     ensures { EachMoveReachesNoMore }
 {}
-
-/// While nothing is freed, still more is kept. In a heap where spans are given back only when each slot is
-/// taken, every span that nobody owns stays full; and no move here clears an alloc bit, so every object that was
-/// made stays placed.
-pub fn nothing_is_freed()
-    ensures { EachMoveKeepsAll }
-{
-    packed_words_are_read_back();
-    rows_are_written();
-    size_class_laws();
-}
 
 /// What another seat's move leaves to a seat.
 pub fn each_move_leaves()

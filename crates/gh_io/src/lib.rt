@@ -13,8 +13,6 @@ mod memory;
 mod sink;
 mod source;
 mod standard;
-#[cfg(test)]
-mod tests;
 
 pub use memory::{MemSink, MemSource};
 pub use sink::{Sink, write_all};

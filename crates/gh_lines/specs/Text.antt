@@ -96,10 +96,6 @@ line_of_cycle c = cycle_line c.number c.marked c.freed
 abbrev pub outcome_lines : Program → Outcome → List (List ℕ)
 outcome_lines p o = lines_of p o.answers ++ (map line_of_cycle o.cycles ++ live_line o.objects o.bytes ∷ [])
 
--- and its text
-abbrev pub outcome_text : Program → Outcome → List ℕ
-outcome_text p o = concat (outcome_lines p o)
-
 abbrev pub turns_line : ℕ → List ℕ
 turns_line n = codes "turns " ++ decimal n ++ codes "\n"
 

@@ -88,30 +88,3 @@ impl LineBuf {
         }
     }
 }
-
-#[cfg(test)]
-mod tests {
-    use super::*;
-    use gh_base::Name;
-
-    #[test]
-    fn each_answer_has_its_words(rt: HostRuntime) {
-        let rows = [
-            (1, Answer::Ref(Name { g: 1, k: 12 }), "b0 1 ref a.12\n"),
-            (4, Answer::Int(7), "b0 4 int 7\n"),
-            (5, Answer::Nil, "b0 5 nil\n"),
-            (7, Answer::Swept, "b0 7 swept\n"),
-            (200_000, Answer::Full, "b0 200000 full\n"),
-            (1, Answer::Fault(Fault::NilBase), "b0 1 fault nil\n"),
-            (3, Answer::Fault(Fault::Field), "b0 3 fault field\n"),
-            (4, Answer::Fault(Fault::Kind), "b0 4 fault kind\n"),
-            (2, Answer::Done, "b0 2 done\n"),
-        ];
-        let mut line = LineBuf::new();
-        for (n, answer, text) in rows {
-            line.answer_by("b0", n, answer, "a");
-            assert_eq!(rt; line.bytes(), text.as_bytes(), "{text}");
-            assert_eq!(rt; has_line(&answer), answer != Answer::Done, "{text}");
-        }
-    }
-}

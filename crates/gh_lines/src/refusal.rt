@@ -44,30 +44,3 @@ impl LineBuf {
         self.begin(b"words refused\n");
     }
 }
-
-#[cfg(test)]
-mod tests {
-    use super::*;
-
-    #[test]
-    fn each_refusal_has_its_line(rt: HostRuntime) {
-        let rows = [
-            (0, Why::Size, "line 0: size\n"),
-            (0, Why::Utf8, "line 0: utf8\n"),
-            (2, Why::Word, "line 2: word\n"),
-            (1, Why::Number, "line 1: number\n"),
-            (6, Why::Limit, "line 6: limit\n"),
-            (2, Why::Twice, "line 2: twice\n"),
-            (2, Why::Unknown, "line 2: unknown\n"),
-            (3, Why::Nesting, "line 3: nesting\n"),
-            (0, Why::Missing, "line 0: missing\n"),
-        ];
-        let mut line = LineBuf::new();
-        for (number, why, text) in rows {
-            line.bad_script(number, why);
-            assert_eq!(rt; line.bytes(), text.as_bytes(), "{text}");
-        }
-        line.bad_words();
-        assert_eq!(rt; line.bytes(), b"words refused\n".as_slice());
-    }
-}

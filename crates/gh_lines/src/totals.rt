@@ -68,34 +68,3 @@ impl LineBuf {
         self.begin(b"agrees\n");
     }
 }
-
-#[cfg(test)]
-mod tests {
-    use super::*;
-
-    #[test]
-    fn each_total_has_its_line(rt: HostRuntime) {
-        let mut line = LineBuf::new();
-        assert_eq!(rt; line.bytes(), b"".as_slice());
-        line.cycle(2, 0, 359);
-        assert_eq!(rt; line.bytes(), b"cycle 2 marked 0 freed 359\n".as_slice());
-        line.credit(8194, 272, 7922);
-        assert_eq!(rt;
-            line.bytes(),
-            b"credit earned 8194 spent 272 lapsed 7922\n".as_slice()
-        );
-        line.credit(u64::MAX, u64::MAX, u64::MAX);
-        assert_eq!(rt;
-            line.bytes(),
-            b"credit earned 18446744073709551615 spent 18446744073709551615 lapsed 18446744073709551615\n".as_slice()
-        );
-        line.live(301, 7872);
-        assert_eq!(rt; line.bytes(), b"live 301 bytes 7872\n".as_slice());
-        line.turns(50_000_000);
-        assert_eq!(rt; line.bytes(), b"turns 50000000\n".as_slice());
-        line.statements(5000);
-        assert_eq!(rt; line.bytes(), b"statements 5000\n".as_slice());
-        line.agrees();
-        assert_eq!(rt; line.bytes(), b"agrees\n".as_slice());
-    }
-}

@@ -1,7 +1,6 @@
 mod Bits
 mod Drawing
 mod Ending
-mod Example
 mod Follows
 mod Keeps
 mod Lasts

@@ -1,6 +1,5 @@
 pub mod Colours
 pub mod Ends
-pub mod Example
 pub mod Good
 pub mod Knows
 pub mod Laws

@@ -1,6 +1,5 @@
 //! What holds of the moves of marking. The functions do nothing; what they ensure is proved.
 
-ghost use Rattle.gh_marks.specs.Example.{OneCycleIsMade};
 ghost use Rattle.gh_marks.specs.Laws.{EachFactLasts, EachHandFollows, EachHandLasts, EachMoveKeeps, EachMoveLeaves, EachMoveLeavesTheDead, EachOwnMoveLeaves, EachStepGoesByMoves, MarkingBegins, MarkingEndsClean, TheCursorIsSmall, TheDeadAreWhite, WhatIsFoundIsDone, WhatIsKeptGoesOn};
 
 use gh_base::laws::{buffers_are_held, rows_are_written};
@@ -82,9 +81,3 @@ pub fn marking_ends_clean()
 {
     what_is_reached_is_marked();
 }
-
-/// There is a cycle that these laws are about: from a heap with two objects, step by step, to the end of
-/// marking, with both marked.
-pub fn one_cycle_is_made()
-    ensures { OneCycleIsMade }
-{}

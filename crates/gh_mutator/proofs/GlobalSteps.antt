@@ -47,24 +47,8 @@ module _ (l : Layout) (held : Value) (x : Global) (register : IsRegister x.g x.r
 pub step_sound : (l : Layout) (held : Value) (x : Global) (found : ℕ) → SoundGlobal l.globals x → StepSound (SoundGlobal l.globals) l.pages (step l held x found)
 step_sound l held x found h = step_sound_at l held x h.register h.global x.stage found
 
-pub begins_store_sound : (l : Layout) (own : Local) (g k v : ℕ) (held : Value) → IsRegister g v → k < l.globals → SoundGlobal l.globals (begins_store l own g k v held)
-begins_store_sound l own g k v value.Nil r h = record { register = r; global = h }
-begins_store_sound l own g k v (value.Int n) r h = record { register = r; global = h }
-begins_store_sound l own g k v (value.Ref n) r h = record { register = r; global = h }
-
 -- and its write goes on in this heap
 module _ (p : Polling) where
-  stores_room : (k : ℕ) (held : Value) → GlobalRoom p (stores p.layout p.local k held)
-  stores_room k held = by (is_mark p.local.view.phase) (record { layout = refl; busy = refl }) where
-    by : (b : Bool) → Runs p.layout p.layout true → GlobalRoom p (cond b (Writing (written p.layout p.local (pointer_cell.Global k) held)) Store)
-    by true runs = runs
-    by false runs = tt
-
-  pub begins_room : (g k v : ℕ) (held : Value) → GlobalRoom p (begins_store p.layout p.local g k v held).stage
-  begins_room g k v value.Nil = stores_room k value.Nil
-  begins_room g k v (value.Int n) = tt
-  begins_room g k v (value.Ref n) = stores_room k (value.Ref n)
-
   module _ (held : Value) (x : Global) where
     abbrev RoomThen : Option Held → Global → Type 0
     RoomThen h y = GlobalRoom (with_held p h) y.stage

@@ -11,7 +11,6 @@ pub mod Fields
 pub mod Full
 pub mod Giving
 pub mod GlobalSteps
-pub mod Leaving
 pub mod Lists
 pub mod LoadSteps
 pub mod NewSteps
@@ -20,19 +19,13 @@ mod Holding
 mod Marking
 mod Owning
 pub mod PollRoom
-pub mod PollScans
-pub mod Polling
 pub mod Refusing
 mod Shaking
-pub mod Resuming
-pub mod Shapes
 pub mod Soundness
 pub mod Stacks
 pub mod StackMarking
-pub mod StackMarks
 pub mod Steps
 pub mod StoreSteps
 pub mod Telling
-pub mod Waiting
 pub mod Waits
 mod Writing

@@ -41,13 +41,6 @@ module _ (l : Layout) (x : Load) (register : IsRegister x.g x.d) (within : x.at 
 pub step_sound : ClassLaws → (l : Layout) (x : Load) (found : ℕ) → SoundLoad l.pages x → StepSound (SoundLoad l.pages) l.pages (step l x found)
 step_sound laws l x found h = step_sound_at l x h.register h.within laws x.stage found h.stage
 
-pub begins_sound : (l : Layout) (g d b k : ℕ) (v : Value) → IsRegister g d → IsNear l.pages v → SoundLoad l.pages (begins g d b k v)
-begins_sound l g d b k value.Nil r near = record { register = r; within = omega (arith, l.limits.pages_fit.0); stage = tt }
-begins_sound l g d b k (value.Int n) r near = record { register = r; within = omega (arith, l.limits.pages_fit.0); stage = tt }
-begins_sound l g d b k (value.Ref n) r near = record { register = r; within = omega (arith, l.limits.pages_fit.0); stage = tt }
-
--- ---- it ends after a few steps
-
 abbrev pub left_at : LoadStage → ℕ
 left_at Page = 4
 left_at Bits = 3

@@ -116,9 +116,6 @@ search_sound : (m : Processor) (w : Wanted) → SoundSearch m.poll.layout w (see
 search_sound m w = record { busy = search_begins m w; layout = refl; wanted = refl }
 
 module _ (shapes : List Shape) where
-  pub begins_sound : (m : Processor) (w : Wanted) → Sound shapes m → SoundWanted shapes w → made_by m w.g < most_objects → Sound shapes (at_task m (searches w false (seeking m w)))
-  begins_sound m w s h few = moved shapes m (searches w false (seeking m w)) s (h, search_sound m w, few)
-
   -- the cached span has changed, and the task is not looked at
   recached : (m : Processor) (x : Sought) (c : Option CachedSpan) → Sound shapes m → Sound shapes (at_task (cache_span m x c) task.Idle)
   recached m x c s = record { registers = s.registers; few = s.few; task = tt }

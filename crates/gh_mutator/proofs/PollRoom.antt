@@ -25,7 +25,7 @@ use Rattle.gh_mutator.specs.Local.{is_mark}
 use Rattle.gh_mutator.specs.MarkStack as mark
 use Rattle.gh_mutator.specs.Poll as poll
 use Rattle.gh_mutator.specs.Poll.{after_mark, after_resume, after_room, at_stage, by_phase, counted, due, given, giving, goes, goes_at, has_two, marks_then, resumed, scanned, scans, stops_then}
-use Rattle.gh_mutator.specs.PollRoom.{MakesRoom, MayStore, PollsMakeRoom, RoomAt, RoomBehind, TriesForRoom}
+use Rattle.gh_mutator.specs.PollRoom.{LooksForRoom, MakesRoom, MayStore, PollsMakeRoom, RoomAt, RoomBehind, TriesForRoom}
 use Rattle.gh_mutator.specs.Sound.{has_room}
 use Rattle.gh_mutator.specs.Vocabulary.{Op, Polling, Processor, Shape, Task}
 
@@ -113,6 +113,41 @@ goes_so p (poll_stage.FindRoom r) found turn is k = by (room.gives r found) (sea
   by (Some own) h = record { no_wait = turn; stage = entries_if (record (p.local) { held = Some own }) (is_mark p.local.view.phase) h }
 goes_so p poll_stage.Ended found turn is k = record { no_wait = turn; stage = k }
 
+-- A poll of a wait.
+counts_none : (p : Polling) → p.waits ≡ true → LooksForRoom (counted p).stage → ⊥
+counts_none p waits x = subst (λ (w : Bool). LooksForRoom (poll.room_stage p.layout p.seat w p.local.held)) waits x
+
+marks_none : (p : Polling) (phase : RunPhase) → p.waits ≡ true → LooksForRoom (marks_then p phase).stage → ⊥
+marks_none p run.Off waits x = x
+marks_none p run.Finished waits x = x
+marks_none p run.Mark waits x = by (due p) x where
+  by : (g : Option ℕ) → LooksForRoom (scans p g).stage → ⊥
+  by None y = counts_none p waits y
+  by (Some g) y = y
+
+stops_none : (p : Polling) (g : give.Giving) (number : ℕ) → LooksForRoom (stops_then p g number).stage → ⊥
+stops_none p g number x = by (give.is_busy g.stage) x where
+  by : (b : Bool) → LooksForRoom (cond b (at_stage p (poll_stage.Giving g number)) (record p { local = record (p.local) { cache = g.cache; held = g.held }; stage = poll_stage.Resuming (resume.opening p.layout p.seat number p.local.view) })).stage → ⊥
+  by true y = y
+  by false y = y
+
+takes_none : (p : Polling) (q : PollStage) (found : ℕ) → p.stage ≡ q → p.waits ≡ true → LooksForRoom (goes_at p q found).stage → LooksForRoom q
+takes_none p poll_stage.LoadPhase found is waits x = by (run_phase (phase_of found).phase) x where
+  by : (phase : Option RunPhase) → LooksForRoom (by_phase p (phase_of found).stops phase).stage → ⊥
+  by None y = stops_none p (giving p) (phase_of found).stops y
+  by (Some phase) y = marks_none p p.local.view.phase waits y
+takes_none p (poll_stage.Giving g number) found is waits x = stops_none p (give.goes g found) number x
+takes_none p (poll_stage.Resuming r) found is waits x = by (resume.gives r found) x where
+  by : (out : Option Resumed) → LooksForRoom (after_resume p (resume.goes r found) out).stage → ⊥
+  by None y = y
+  by (Some out) y = marks_none (resumed p out) out.view.phase waits y
+takes_none p (poll_stage.Marking g m) found is waits x = by (mark.gives m found) x where
+  by : (out : Option (Unit {0})) → LooksForRoom (after_mark p g (mark.goes m found) out).stage → ⊥
+  by None y = y
+  by (Some done) y = counts_none (scanned p g (mark.goes m found).held) waits y
+takes_none p (poll_stage.FindRoom r) found is waits x = tt
+takes_none p poll_stage.Ended found is waits x = x
+
 -- The processor.
 
 polled : (m : Processor) (p : Polling) (q : PollStage) → p.stage ≡ q → MakesRoom p → MayStore (after_poll m p (given q))
@@ -143,4 +178,5 @@ polls_make_room = record {
   begins = λ shapes m. record { no_wait = refl; stage = tt };
   goes_on = λ shapes m found k. goes_on shapes m found m.task refl k;
   room = λ m o idle k. idle_room m o m.task idle k;
+  waits_take_none = λ p found waits x. takes_none p p.stage found refl waits x;
 }

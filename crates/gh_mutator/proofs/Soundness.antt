@@ -139,20 +139,6 @@ module _ (shapes : List Shape) where
   pub plain_next : ClassLaws → (m : Processor) (found : ℕ) (next : Processor) → is_making m.task ≡ false → Sound shapes m → next ≡ takes shapes m found → Sound shapes next
   plain_next laws m found next plain s goes = subst (λ (n : Processor). Sound shapes n) (sym goes) (plain_sound laws m found plain s)
 
-  pub begins_sound : ClassLaws → (m : Processor) (o : Op) → ShapesFit shapes → Sound shapes m → SoundOp shapes m.poll.layout o → has_names m o ≡ true → has_room m o ≡ true → Sound shapes (begins shapes m o)
-  begins_sound laws m (op.New g d t) fit s h n r = new.begins_sound shapes m (wanted_of shapes g d t) s (wanted_sound laws shapes g d t fit h.1 h.0) (ltb-true _ _ n)
-  begins_sound laws m (op.Load g d b k) fit s h n r = moved shapes m _ s (load.begins_sound m.poll.layout g d b k (register_of m g b) h.0 (s.registers _ _))
-  begins_sound laws m (op.Store g b k v) fit s h n r = moved shapes m _ s (store.begins_sound m.poll.layout g b k v (register_of m g b) (h.0.0, h.1) (s.registers _ _), store.begins_room m.poll g b k v (register_of m g b) r)
-  begins_sound laws m (op.GetGlobal g d k) fit s h n r = moved shapes m _ s (record { register = h.0; global = h.1 }, tt)
-  begins_sound laws m (op.SetGlobal g k v) fit s h n r = moved shapes m _ s (global.begins_store_sound m.poll.layout m.poll.local g k v (register_of m g v) h.0 h.1, global.begins_room m.poll g k v (register_of m g v))
-  begins_sound laws m (op.Int g d x) fit s h n r = moved shapes m _ s (record { register = h; read = h.1 })
-  begins_sound laws m (op.Move g d x) fit s h n r = moved shapes m _ s (record { register = h.0; read = h.1 })
-  begins_sound laws m (op.Nil g d) fit s h n r = moved shapes m _ s (record { register = h; read = h.1 })
-  begins_sound laws m (op.Gc g) fit s h n r = moved shapes m _ s (record { busy = refl; polls = tt })
-  begins_sound laws m op.Poll fit s h n r = polled shapes m (poll.begins m.poll false) task.Poll s refl refl refl
-  begins_sound laws m (op.End g) fit s h n r = moved shapes m _ s h
-  begins_sound laws m op.Leave fit s h n r = polled shapes m (with_nothing m.poll) (task.Leave (leaving m.poll)) s refl refl (record { busy = stage_busy (give.opening m.poll.layout m.poll.seat m.poll.local.view.generation m.poll.local.cache m.poll.local.held); layout = refl })
-
   pub opening_sound : (l : Layout) (seat : ℕ) → Sound shapes (opening_processor l seat)
   opening_sound l seat = record {
     registers = nil_first l.pages;

@@ -91,18 +91,6 @@ module _ (p : Polling) (held : Value) (x : Store) where
 pub step_room : (p : Polling) (held : Value) (x : Store) (found : ℕ) → StoreRoom p x.stage → GoesTo (λ (y : Store). StoreRoom (with_held p (held_behind p.local.held x.stage found)) y.stage) (step p.layout p.local held x found).then
 step_room p held x found h = room_at p held x x.stage found h
 
-pub begins_room : (p : Polling) (g b k v : ℕ) (base : Value) → has_entries p ≡ true → StoreRoom p (begins g b k v base).stage
-begins_room p g b k v value.Nil room = tt
-begins_room p g b k v (value.Int n) room = tt
-begins_room p g b k v (value.Ref n) room = room
-
-pub begins_sound : (l : Layout) (g b k v : ℕ) (base : Value) → IsRegister g v → IsNear l.pages base → SoundStore l.pages (begins g b k v base)
-begins_sound l g b k v value.Nil r near = record { register = r; within = omega (arith, l.limits.pages_fit.0); stage = tt }
-begins_sound l g b k v (value.Int n) r near = record { register = r; within = omega (arith, l.limits.pages_fit.0); stage = tt }
-begins_sound l g b k v (value.Ref n) r near = record { register = r; within = omega (arith, l.limits.pages_fit.0); stage = tt }
-
--- ---- it ends after a few steps
-
 -- behind the bitmap word, by whether marking is on
 abbrev pub then_left : (marking : Bool) → ℕ
 then_left true = 8

@@ -26,7 +26,6 @@ pub use Rattle.gh_mutator.specs.Local.{cache_with, leaving, with_ended}
 pub use Rattle.gh_mutator.specs.MarkFacts.{holding}
 pub use Rattle.gh_mutator.specs.MarkVocabulary.{Cell, Cycle, effect, GiveStage, Good, Hands, Held, Keeps, KnowsObjects, landing, LeaveStage, Local, MarkingIsQuiet, MarkStackStage, moved, nothing, Others, PollStage, processor_kind, ProcessorIsQuiet, ScanStack, Shared, StackStage, Steps, WaitStage}
 pub use Rattle.gh_mutator.specs.New.{after_place, after_search, after_wait, answer_search, made_object, makes, wanted_of}
-pub use Rattle.gh_mutator.specs.Polls.{ScansOne}
 pub use Rattle.gh_mutator.specs.Processor.{at_poll, at_task, cache_span, register_of, taking}
 pub use Rattle.gh_mutator.specs.ProcessorPlaces.{party_at, ProcessorInHandshake, SoundAt, stage_at}
 pub use Rattle.gh_mutator.specs.Serving.{has_left_at}

@@ -14,13 +14,11 @@ pub mod Full
 pub mod Give
 pub mod GiveEnds
 pub mod GiveSound
-pub mod Gives
 pub mod Global
 pub mod Handshake
 pub mod Leave
 pub mod LeaveEnds
 pub mod LeaveSound
-pub mod Leaves
 pub mod Listing
 pub mod Load
 pub mod Local
@@ -39,7 +37,6 @@ pub mod PollHeapLaws
 pub mod PollRoom
 pub mod PollSound
 pub mod PollWithin
-pub mod Polls
 pub mod Processor
 pub mod ProcessorMarks
 pub mod ProcessorPlaces
@@ -47,14 +44,11 @@ pub mod Quiet
 pub mod Register
 pub mod Runs
 pub mod Serving
-pub mod ShadeSteps
 pub mod Sound
-pub mod StackMarks
 pub mod Step
 pub mod Store
 pub mod Vocabulary
 pub mod Wait
 pub mod WaitEnds
 pub mod WaitSound
-pub mod Waits
 pub mod Writing

@@ -22,12 +22,11 @@ use Rattle.gh_mutator.specs.Vocabulary.{Arena, CachedSpan, IsOf, Leaving, Means,
 
 -- Between two operations.
 
--- the processor is at this seat, in this arena, where spans are given back at any time; its tables are whole, and there is such a buffer as it holds
+-- the processor is at this seat, in this arena; its tables are whole, and there is such a buffer as it holds
 pub record Sits (z : Arena) (a : ℕ) (p : Polling) : Type 0 where
   pub layout : p.layout ≡ z.layout
   pub seat : p.seat ≡ a
   pub few : a < z.layout.procs
-  pub any_time : z.full_only ≡ false
   pub stacks : length p.local.stacks ≡ MOST_GOROUTINES
   pub registers : (g : ℕ) → g < MOST_GOROUTINES → length (slice_index_or p.local.stacks g []) ≡ REGISTERS
   pub scanned : length p.local.scanned ≡ MOST_GOROUTINES

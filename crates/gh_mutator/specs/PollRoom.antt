@@ -1,4 +1,4 @@
--- A poll of a turn's own makes room for the store behind it: whatever words it is told, where it has ended marking is off, as the processor knows, or two entries go into the buffer that is held.
+-- A poll of a turn's own makes room for the store behind it: whatever words it is told, where it has ended marking is off, as the processor knows, or two entries go into the buffer that is held. A poll of a wait takes none.
 use Rattle.std.specs.Prelude.{◌≡◌, ℕ, true, false, List}
 use Rattle.gh_base.specs.declared.operation.Op.TheVariants as op
 use Rattle.gh_wbuf.specs.declared.find_room.RoomStage.{RoomStage}
@@ -10,6 +10,7 @@ use Rattle.gh_mutator.specs.declared.poll.PollStage.TheVariants.{FindRoom, Ended
 use Rattle.gh_mutator.specs.declared.task.Task.TheVariants as task
 use Rattle.gh_mutator.specs.Barrier.{has_entries}
 use Rattle.gh_mutator.specs.Listing.{begins, is_busy_at, takes}
+use Rattle.gh_mutator.specs.Poll.{goes}
 use Rattle.gh_mutator.specs.Sound.{has_room}
 use Rattle.gh_mutator.specs.Vocabulary.{Op, Polling, Processor, Shape, Task}
 
@@ -38,9 +39,16 @@ RoomBehind p _ = ⊥
 abbrev pub MayStore : Processor → Type 0
 MayStore m = RoomBehind m.poll m.task
 
+-- it looks for a buffer with room
+abbrev pub LooksForRoom : PollStage → Type 0
+LooksForRoom (FindRoom r) = Unit {0}
+LooksForRoom _ = ⊥
+
 pub record PollsMakeRoom : Type 0 where
   -- it is so from the begin of the poll on, until another operation begins
   pub begins : (shapes : List Shape) (m : Processor) → MayStore (begins shapes m op.Poll)
   pub goes_on : (shapes : List Shape) (m : Processor) (found : ℕ) → MayStore m → MayStore (takes shapes m found)
   -- and then any operation may begin
   pub room : (m : Processor) (o : Op) → is_busy_at m.task ≡ false → MayStore m → has_room m o ≡ true
+  -- a poll of a wait takes none: no step of it leads to the search for room
+  pub waits_take_none : (p : Polling) (found : ℕ) → p.waits ≡ true → LooksForRoom (goes p found).stage → LooksForRoom p.stage

@@ -16,7 +16,7 @@ use Rattle.gh_mutator.specs.Serving.{has_left_at}
 
 -- before its first step, at its seat in a heap that opens, where it holds nothing
 abbrev pub Opens : Type 0
-Opens = (z : Arena) (a : ℕ) (v : View) → a < z.layout.procs → z.full_only ≡ false → v.generation ≡ first_view.generation → v.ever ≡ opening_ever → Has a v false no_page → Fine z a v (opening_processor z.layout a) None
+Opens = (z : Arena) (a : ℕ) (v : View) → a < z.layout.procs → v.generation ≡ first_view.generation → v.ever ≡ opening_ever → Has a v false no_page → Fine z a v (opening_processor z.layout a) None
 
 -- one that has left begins nothing
 abbrev pub Begins : Type 0

@@ -22,13 +22,14 @@ ShadesByWish scan (mark_stage.FindRoom sh r) = stack.is_waiting scan ≡ true
 ShadesByWish scan mark_stage.Store = scan ≡ stack_stage.Store
 ShadesByWish scan mark_stage.Ended = Unit {0}
 
--- The stack that it scans is that of a goroutine of its own, and the scan is that of the cycle which it knows, while marking is on.
+-- The stack that it scans is that of a goroutine of its own, and the scan is that of the cycle which it knows, while marking is on; and it has not noted yet that this stack was scanned in that cycle.
 pub record ScansItsOwn (p : Polling) (g : ℕ) (m : StackMarking) : Type 0 where
   pub there : g < p.layout.goroutines
   pub own : g % p.layout.procs ≡ p.seat
   pub marking : p.local.view.phase ≡ Mark
   pub of : m.scan.goroutine ≡ g
   pub cycle_is : m.scan.cycle ≡ p.local.view.begun
+  pub unscanned : p.local.view.begun ≢ END → slice_index p.local.scanned g ≢ p.local.view.begun
   pub by_wish : ShadesByWish m.scan.stage m.stage
 
 abbrev pub SoundScanAt : Polling → PollStage → Type 0
@@ -75,11 +76,12 @@ pub record EndsStack (m : Processor) (g : ℕ) : Type 0 where
   pub task_is : m.task ≡ task.End g
   pub tells : asks m ≡ ask.Store (cell.Scanned g) END
 
--- the stack of a goroutine of its own was scanned in the cycle that it knows
+-- the stack of a goroutine of its own was scanned in the cycle that it knows, of which it has not noted that yet
 pub record TellsScan (m : Processor) (g : ℕ) : Type 0 where
   pub there : g < m.poll.layout.goroutines
   pub own : g % m.poll.layout.procs ≡ m.poll.seat
   pub marking : m.poll.local.view.phase ≡ Mark
+  pub unscanned : m.poll.local.view.begun ≢ END → slice_index m.poll.local.scanned g ≢ m.poll.local.view.begun
   pub tells : asks m ≡ ask.Store (cell.Scanned g) m.poll.local.view.begun
 
 -- The words that it writes: no control word beside those of the lock, the bytes and the wanted cycle.

@@ -6,18 +6,13 @@ ghost use Rattle.gh_mutator.specs.Deeds.{OnlyPointsChange, ProcessorsDeedsFit};
 ghost use Rattle.gh_mutator.specs.Ending.{OperationsEnd};
 ghost use Rattle.gh_mutator.specs.Faults.{FaultsChangeNothing};
 ghost use Rattle.gh_mutator.specs.Full.{FullChangesLittle};
-ghost use Rattle.gh_mutator.specs.Gives.{GivesLeaveNothing};
 ghost use Rattle.gh_mutator.specs.Handshake.{LeavesInHandshake, PollsInHandshake, WaitsInHandshake};
-ghost use Rattle.gh_mutator.specs.Leaves.{NothingIsHeldAtLeave};
 ghost use Rattle.gh_mutator.specs.MarkFacts.{LeavesByMoves, PollsByMoves, WaitsByMoves};
 ghost use Rattle.gh_mutator.specs.PollRoom.{PollsMakeRoom};
-ghost use Rattle.gh_mutator.specs.Polls.{PollsHoldNothingAtStops};
 ghost use Rattle.gh_mutator.specs.ProcessorMarks.{MarksByMoves};
 ghost use Rattle.gh_mutator.specs.ProcessorPlaces.{ProcessorInHandshake};
 ghost use Rattle.gh_mutator.specs.Quiet.{ProcessorIsQuiet};
 ghost use Rattle.gh_mutator.specs.Runs.{RunsByItsRights};
-ghost use Rattle.gh_mutator.specs.StackMarks.{WishesOfAStackAreShaded};
-ghost use Rattle.gh_mutator.specs.Waits.{WaitsEndWithACycle};
 ghost use Rattle.gh_mutator.specs.Writing.{ProcessorWritesItsOwn, StacksAreNoted};
 
 use crate::heap_laws::{leaves_by_rights, polls_by_rights, waits_by_rights};
@@ -75,52 +70,11 @@ pub fn only_points_change()
     ensures { OnlyPointsChange }
 {}
 
-/// Whatever it is told, the giving back writes page words with the heap's lock alone, and frees the lock
-/// before it ends. Once it has ended no span is cached and no buffer is held: each span that was cached is
-/// given back with one store, in ascending span class, and so is the buffer. It writes no other page word,
-/// and no other buffer's.
-pub fn gives_leave_nothing()
-    ensures { GivesLeaveNothing }
-{}
-
-/// A processor that leaves runs the giving back first. Its last step says that it is gone, for its own seat;
-/// it makes that step once all is given back, and acknowledges nothing else.
-pub fn nothing_is_held_at_leave()
-    ensures { NothingIsHeldAtLeave }
-{}
-
-/// A poll begins with a load of the phase. It acknowledges a stop for its own seat, with no span cached and
-/// no buffer held. A stack is due at a fourth poll while marking is on: that of the lowest goroutine of the
-/// processor that has not ended and was not scanned in this cycle. A stack that is due is scanned, once,
-/// before the poll ends: the step that tells so comes right behind those that shade what its registers name,
-/// in order. No other stack is scanned, even where the scan waits for a buffer with room for ever. The poll looks
-/// for a buffer at its end only where it is no part of a wait. It is counted while marking is on; where another
-/// cycle has begun, the polls are counted anew.
-pub fn polls_hold_nothing_at_stops()
-    ensures { PollsHoldNothingAtStops }
-{}
-
 /// Whatever it is told, a poll that is no part of a wait ends where marking is off, as the processor knows, or two
 /// entries go into the buffer that is held. So a processor that has polled may begin a store, or any other operation,
-/// until it has begun another one.
+/// until it has begun another one. A poll of a wait takes no buffer for that.
 pub fn polls_make_room()
     ensures { PollsMakeRoom }
-{}
-
-/// A wait asks for a cycle first. Then its steps are those of a poll and a load of the number of the last
-/// swept cycle, again and again. It ends exactly where such a load tells at least one more than the cycle
-/// that the processor knew when it began. Its polls are those of a wait; they acknowledge a stop with nothing
-/// held.
-pub fn waits_end_with_a_cycle()
-    ensures { WaitsEndWithACycle }
-{}
-
-/// The scan of a stack tells that the stack is scanned with its last step alone. The steps before it shade
-/// what the registers name, one reference after the other in the order of the registers, and nothing else.
-/// What is being shaded is what the scan wishes for at any time, also of a scan that waits for a buffer with room for
-/// ever, and the scan is told once that is shaded.
-pub fn wishes_of_a_stack_are_shaded()
-    ensures { WishesOfAStackAreShaded }
 {}
 
 /// Save for its poll and its leave among a collector, nothing that a processor runs writes a word of the
@@ -238,7 +192,8 @@ pub fn a_processor_marks_by_moves()
 
 /// Whatever a processor finds, its step is a load, or on a word of the heap's lock, of the pages, slots, pointer bits,
 /// names, fields and globals, of the mark bits, the buffers and their entries; or on its own acknowledgement, or on the
-/// word of a stack that it has scanned or whose goroutine ends. It asks for a cycle once in a wait, where that begins, and
+/// word of a stack that it has scanned or whose goroutine ends. A scan is told only of a stack of which it has not noted
+/// yet the cycle's number, so each is scanned once at the most in a cycle. It asks for a cycle once in a wait, where that begins, and
 /// adds the bytes of a slot where it has made an object. No other word is written by it. Its heap and its seat stay.
 pub fn a_processor_writes_its_own()
     ensures { ProcessorWritesItsOwn }

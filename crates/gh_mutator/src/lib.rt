@@ -32,8 +32,6 @@
 
 mod barrier;
 pub mod beside;
-#[cfg(test)]
-mod collector_tests;
 mod field;
 mod give;
 mod global;
@@ -52,8 +50,6 @@ mod run;
 mod step;
 mod store;
 mod task;
-#[cfg(test)]
-mod tests;
 mod wait;
 
 pub use give::{Cache, Give, GiveStage};

@@ -1,4 +1,3 @@
 pub mod Keeping
 pub mod Looking
 pub mod Rows
-pub mod Storing

@@ -3,4 +3,3 @@ pub mod Facts
 pub mod FirstFit
 pub mod Listing
 pub mod Sound
-pub mod Storing

@@ -12,7 +12,5 @@
 
 mod carve;
 pub mod laws;
-#[cfg(test)]
-mod tests;
 
 pub use carve::{Carve, CarveStage, Span};

@@ -1,2 +1,1 @@
-pub mod Resuming
 pub mod Shaking

@@ -6,22 +6,13 @@ ghost use Rattle.gh_base.specs.declared.machine.Entry.{Entry};
 ghost use Rattle.gh_base.specs.Lists.{Legal, Setting};
 ghost use Rattle.gh_phase.specs.Handshake.{IsHandshake};
 ghost use Rattle.gh_phase.specs.ResumePlaces.{ResumesInHandshake};
-ghost use Rattle.gh_phase.specs.Resumes.{StopsAreAcknowledged};
 ghost use Rattle.gh_phase.specs.Shakes.{FinishedStays, GoneStay, NobodyMoves, Shakes};
 
 use crate::handshake::InHandshake;
 use gh_base::laws::packed_words_are_read_back;
 
-/// The actor stores the number of the stop first, and loads the phase again and again. It stores another
-/// number exactly where it found a stop of that number, before it loads the phase again. It goes on exactly
-/// where it found a phase that is no stop, and ends with that phase, and with the sweep generation and the
-/// number of cycles that its two further loads found. It asks for no other step.
-pub fn stops_are_acknowledged()
-    ensures { StopsAreAcknowledged }
-{}
-
-/// Going on after a stop makes the steps of the handshake, from the acknowledgement on until the actor is awake;
-/// what it ends with is what the actor knows then.
+/// Going on after a stop makes the steps of the handshake: it begins with the acknowledgement of that stop, by its
+/// seat, and ends where the actor is awake; what it ends with is what the actor knows then.
 pub fn going_on_keeps_the_handshake()
     ensures { ResumesInHandshake }
 {}

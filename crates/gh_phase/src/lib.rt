@@ -19,8 +19,6 @@
 mod handshake;
 pub mod laws;
 mod resume;
-#[cfg(test)]
-mod tests;
 mod view;
 
 pub use handshake::InHandshake;

@@ -96,16 +96,6 @@ pub record Midway (p : Program) (xs rest : List Answered) (taken : Told) (lists 
   pub answers : AllAnswer p.shapes (ever_of lists) (ops_of rest) (answers_of rest)
   pub ends : ever_after_all p.shapes (ever_of lists) (ops_of rest) (answers_of rest) ≡ ever_along p.shapes xs
 
-pub opens : (p : Program) (points : List (ℕ × ℕ)) (answers : List (ℕ × Answer)) (xs : List Answered) (told : Told) (lists : Lists) → AreAlong p points answers xs → IsOpening p lists → ((g : ℕ) → left_of told g ≡ answers_by g answers) → Midway p xs xs told lists
-opens p points answers xs told lists along opening all = record {
-  shapes = opening.shapes;
-  many = ap length opening.left ∙ length-map p.goroutines (λ (x : Goroutine). length x.statements);
-  left = λ g lt. ap (λ (ns : List ℕ). get_or ns g 0) opening.left ∙ get_or-map (λ (x : Goroutine). length x.statements) p.goroutines g no_goroutine 0 lt ∙ sym (along.counted g);
-  told = λ g lt. all g ∙ along.given g;
-  answers = subst (λ (e : Ever). AllAnswer p.shapes e (ops_of xs) (answers_of xs)) (sym opening.ever) along.ever;
-  ends = ap (λ (e : Ever). ever_after_all p.shapes e (ops_of xs) (answers_of xs)) opening.ever;
-}
-
 -- the next statement
 module _ (p : Program) (xs more : List Answered) (x : Answered) (told : Told) (lists : Lists) (g n : ℕ) (m : Midway p xs (x ∷ more) told lists) (at : op_at_point p (g, n) ≡ Some x.op) where
   here : IsThere p g x.op
@@ -227,10 +217,3 @@ module _ (p : Program) (points : List (ℕ × ℕ)) (answers : List (ℕ × Answ
         next_goes_on b is told_then then shapes left after rest =
             goes_on p xs (drop (i + 1) xs) next told lists point.0 point.1 before_it point_at told_then then shapes left
             (subst (λ (x : Answer). ever_of then ≡ ever_after p.shapes (ever_of lists) next.op (given_answer p.shapes (ever_of lists) next.op (Some x))) (told_so b is) after) rest
-
-  -- behind the last of them
-  pub all_along : (i : ℕ) (told : Told) (lists : Lists) → length points ≤ i → Midway p xs (drop i xs) told lists → ever_of lists ≡ ever_along p.shapes xs
-  all_along i told lists le m =
-      let many = as_many in
-      let none : drop i xs ≡ [] = drop_all i xs (omega (arith, many, le)) in
-      sym (ap (λ (rest : List Answered). ever_after_all p.shapes (ever_of lists) (ops_of rest) (answers_of rest)) none) ∙ m.ends

@@ -67,10 +67,6 @@ none_going ended n a e w lt =
 
 -- ---- whom a word draws
 
-not_true : (b : Bool) → not b ≡ true → b ≡ false
-not_true true e = absurd cc
-not_true false e = refl
-
 drawn_of : (ended : ℕ → Bool) (b m k a : ℕ) → slice_get (filter (λ x. not (ended x)) (range_with_len b m)) k ≡ Some a → (a < b + m) × (ended a ≡ false)
 drawn_of ended b zero k a e = absurd cc
 drawn_of ended b (suc m) k a e = go (λ j f. let h = drawn_of ended (b + 1) m j a f in let low = h.0 in (omega (arith, low), h.1)) (ended b) refl k e where

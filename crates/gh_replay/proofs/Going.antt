@@ -56,9 +56,6 @@ module _ (r : Reached) (a n : ℕ) (all : ℕ) (lt : a < r.actors) (so_far : n +
   counts_not e = let none : length (going_from r a) ≡ length (going_from r (a + 1)) = ap length (is_passed r a lt e) in omega (arith, so_far, none)
 
 module _ (r : Reached) (a k : ℕ) (found : Option ℕ) (lt : a < r.actors) (so_far : slice_get (going_from r a) k ≡ found) where
-  pub is_it : r.ended a ≡ false → k ≡ 0 → Some a ≡ found
-  is_it e z = sym (ap (slice_get (a ∷ going_from r (a + 1))) z) ∙ sym (ap (λ (as' : List ℕ). slice_get as' k) (goes_on r a lt e)) ∙ so_far
-
   pub is_later : r.ended a ≡ false → 0 < k → slice_get (going_from r (a + 1)) (k - 1) ≡ found
   is_later e some =
       let less : k ≡ suc (k - 1) = omega (arith, some) in

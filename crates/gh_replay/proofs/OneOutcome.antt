@@ -50,7 +50,7 @@ same_layout p l k a b =
     layout_is l k.pages k.globals k.procs k.workers k.goroutines (a.pages_are ∙ sym b.pages_are) (a.globals_are ∙ sym b.globals_are) (a.procs_are ∙ sym b.procs_are) (a.workers_are ∙ sym b.workers_are)
     (a.goroutines_are ∙ sym b.goroutines_are) k.limits
 
-same_lead : (c d : Coordinating) → ◌≡◌ {A = Actor Processor} (Leads c) (Leads d) → c ≡ d
+same_lead : (c d : Coordinating) → ◌≡◌ {A = Actor} (Leads c) (Leads d) → c ≡ d
 same_lead c d e = cc
 
 module _ (ordered : EveryOrderHasOneRun) where

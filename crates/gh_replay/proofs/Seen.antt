@@ -38,7 +38,7 @@ module _ (p : Program) (l : Layout) where
     go : (b : Bool) → actor_after p l es a ≡ Runs (state_of (processor_kind p.shapes l) a es)
         → cond b ((setting_of p l).kind.takes (started (setting_of p l).kind e.begun (actor_after p l es a)) e.found) (actor_after p l es a)
         ≡ Runs (cond b ((processor_kind p.shapes l).takes (started (processor_kind p.shapes l) e.begun (state_of (processor_kind p.shapes l) a es)) e.found) (state_of (processor_kind p.shapes l) a es))
-    go true h = ap (λ (m : Actor Processor). (setting_of p l).kind.takes (started (setting_of p l).kind e.begun m) e.found) h ∙ ap (λ (m : Actor Processor). (setting_of p l).kind.takes m e.found) (begun_by e.begun (state_of (processor_kind p.shapes l) a es))
+    go true h = ap (λ (m : Actor). (setting_of p l).kind.takes (started (setting_of p l).kind e.begun m) e.found) h ∙ ap (λ (m : Actor). (setting_of p l).kind.takes m e.found) (begun_by e.begun (state_of (processor_kind p.shapes l) a es))
     go false h = h
 
 -- ---- each actor is as it is after the list
@@ -111,5 +111,5 @@ module _ (w : State) (es : List (Entry Op)) (after : IsAfter w es) (seats : acto
   pub quiet : (a : ℕ) → a < actors_of w → (layout_of w).procs ≤ a → (begun : Option Op) (found : ℕ) (now : ℕ × ℕ) → answered_in (event_by now (started (setting_of (script_of w) (layout_of w)).kind begun (actor_after (script_of w) (layout_of w) es a)) found) ≡ []
   quiet a lt le begun found now =
       let many = after.many in
-      ap (λ (m : Actor Processor). answered_in (event_by now (started (setting_of (script_of w) (layout_of w)).kind begun m) found)) (sym (behind_runners a lt (omega (arith, many, le)) (slice_get w.workers (a - length w.runners)) refl))
+      ap (λ (m : Actor). answered_in (event_by now (started (setting_of (script_of w) (layout_of w)).kind begun m) found)) (sym (behind_runners a lt (omega (arith, many, le)) (slice_get w.workers (a - length w.runners)) refl))
       ∙ others_quiet (script_of w) (layout_of w) now found w.coord begun (slice_get w.workers (a - length w.runners))

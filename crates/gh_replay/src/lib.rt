@@ -25,14 +25,3 @@ pub use list::{MOST_ITEMS, parse_list};
 pub use report::Report;
 pub use schedule::{Schedule, Turn, Until};
 pub use turns::replay;
-
-#[cfg(test)]
-mod check_tests;
-#[cfg(test)]
-mod ever_tests;
-#[cfg(test)]
-mod list_tests;
-#[cfg(test)]
-mod schedule_tests;
-#[cfg(test)]
-mod tests;

@@ -157,9 +157,6 @@ module _ (k : Known) (z : Cycle) (a : ℕ) (s : Shared) (rest : InHand) (g : Goo
 
   -- the steps of shading
   module _ (sh : shade.Shading) (sha : Shades s o m.slot m.at m.bits sh.reference) where
-    sh_then : shade.Shading
-    sh_then = shade.goes sh (s.words (cell_of (shade.asks sh)))
-
     -- what is known once they are made
     shades-then : (t : Shared) → Keeps z a s t → Shades t o m.slot m.at m.bits (shade.goes sh (s.words (cell_of (shade.asks sh)))).reference
     shades-then t keeps = subst (λ (r : ℕ). Shades t o m.slot m.at m.bits r) (sym (k.shade.same sh (s.words (cell_of (shade.asks sh))))) (shades-kept k.marks z a s t o known keeps m.slot m.at m.bits sh.reference sha)

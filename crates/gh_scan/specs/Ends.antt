@@ -15,9 +15,6 @@ use Rattle.gh_wbuf.specs.RoomFinding as room
 abbrev EndsSo : Scanning → Type 0
 EndsSo s = IsNone (given s) ↔ (is_busy s.stage ≡ true)
 
-busy_so : (s : Scanning) (stage : ScanStage) → is_busy stage ≡ true → IsNone (given (at_stage s stage)) → EndsSo (at_stage s stage)
-busy_so s stage busy none = (λ _. busy, λ _. none)
-
 next_so : (s : Scanning) (next : Option ℕ) → EndsSo (at_next s next)
 next_so s None = (λ (e : true ≡ false). cc, λ (e : false ≡ true). cc)
 next_so s (Some x) = by (x % 64 == 0) where

@@ -19,7 +19,5 @@
 
 pub mod laws;
 mod scan;
-#[cfg(test)]
-mod tests;
 
 pub use scan::{Scan, ScanStage};

@@ -152,10 +152,6 @@ goes_at : (words : List (List ℕ)) (word : List ℕ) (others : List (List ℕ))
 goes_at words [] others g = let e : words ≡ [] = g.cut ∙ g.none refl in (rw e refl, λ k. rw (e, g.none refl) refl)
 goes_at words (c ∷ cs) others g = (rw g.cut refl, λ k. rw g.cut refl)
 
-pub length-goes : (words : List (List ℕ)) (word : List ℕ) (others : List (List ℕ)) → Goes words word others → 0 < length word → length words ≡ length others + 1
-length-goes words [] others g h = absurd (omega arith)
-length-goes words (c ∷ cs) others g h = ap length g.cut ∙ omega arith
-
 pub length-goes_none : (words : List (List ℕ)) (word : List ℕ) (others : List (List ℕ)) → Goes words word others → length word ≡ 0 → length words ≡ 0
 length-goes_none words [] others g h = ap length (g.cut ∙ g.none refl)
 length-goes_none words (c ∷ cs) others g h = absurd (omega arith)

@@ -31,6 +31,3 @@ pub use form::script_form;
 pub use reading::{MOST_BYTES, one_reading, parse};
 pub use script::Script;
 pub use statement::{Settings, Stmt};
-
-#[cfg(test)]
-mod tests;

@@ -15,7 +15,5 @@
 
 pub mod laws;
 mod scan_stack;
-#[cfg(test)]
-mod tests;
 
 pub use scan_stack::{REGISTER_COUNT, ScanStack, StackStage};

@@ -1,5 +1,4 @@
 pub mod AtEnd
-pub mod Example
 pub mod Joined
 pub mod Keeps
 pub mod KeepsPages

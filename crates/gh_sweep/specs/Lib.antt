@@ -2,7 +2,6 @@ pub mod Alone
 pub mod Bits
 pub mod Counts
 pub mod Ends
-pub mod Example
 pub mod Facts
 pub mod Joined
 pub mod Listing

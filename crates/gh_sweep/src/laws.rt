@@ -1,9 +1,8 @@
 //! Laws of the routine. The functions do nothing; what they ensure is proved.
 
 ghost use Rattle.gh_sweep.specs.Alone.{SpansAreSwept};
-ghost use Rattle.gh_sweep.specs.Bits.{BitsAreKeptOrFreed, SetBitsAreCounted};
+ghost use Rattle.gh_sweep.specs.Bits.{SetBitsAreCounted};
 ghost use Rattle.gh_sweep.specs.Counts.{ObjectsAreCounted};
-ghost use Rattle.gh_sweep.specs.Example.{AnEndIsMet};
 ghost use Rattle.gh_sweep.specs.Facts.{SweepKeepsItsFacts};
 ghost use Rattle.gh_sweep.specs.Joined.{AllocationTakesPart, SpansFit};
 ghost use Rattle.gh_sweep.specs.Moves.{DoneStays, EachMoveKeeps, EachMoveLeaves};
@@ -20,11 +19,6 @@ use gh_class::size_class_laws;
 /// The number of set bits of a word is the sum of its bits.
 pub fn set_bits_are_counted()
     ensures { SetBitsAreCounted }
-{}
-
-/// The bits kept and freed of an alloc word are its set bits.
-pub fn bits_are_kept_or_freed()
-    ensures { BitsAreKeptOrFreed }
 {}
 
 /// A sweep is lost exactly where its swap found another word than the head's, by that step. Else it
@@ -112,14 +106,6 @@ pub fn allocation_takes_part()
 }
 
 // Of every list of turns of any number of actors, who sweep spans, take spans and place objects.
-
-/// There is a heap where a cycle has ended, with an object that is marked and one that is not.
-pub fn an_end_is_met()
-    ensures { AnEndIsMet }
-{
-    packed_words_are_read_back();
-    rows_are_written();
-}
 
 /// What holds of the words at every moment holds after each such list, and so does what each sweep that runs
 /// relies on.

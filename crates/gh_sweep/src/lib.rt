@@ -32,7 +32,5 @@
 
 pub mod laws;
 mod sweep;
-#[cfg(test)]
-mod tests;
 
 pub use sweep::{Sweep, SweepEnd, SweepStage, SweptSpan};

@@ -23,25 +23,6 @@ same-budget words a b m n c d v w = let e : Some (Replay a m c) ≡ Some (Replay
 same-plan : (words : List (List ℕ)) (a b : Plan) (m n : ℕ) (c d : Bool) → IsReplay words a m c → IsReplay words b n d → a ≡ b
 same-plan words a b m n c d v w = let e : Some (Replay a m c) ≡ Some (Replay b n d) = sym v ∙ w in cc
 
--- words that are not taken
-pub words-end : (words : List (List ℕ)) (text : List ℕ) (f : Found) → Matches words text f → AreRefused words → (status_of f ≡ statuses.BadWords) ⊎ (status_of f ≡ statuses.NoMemory)
-words-end words text BadWords m r = inl refl
-words-end words text NoMemory m r = inr refl
-words-end words text _ m r = absurd (taken-not-refused words m.0 m.1 m.2 m.3 r)
-
-pub words-refused : (words : List (List ℕ)) (text : List ℕ) (f : Found) → Matches words text f → status_of f ≡ statuses.BadWords → AreRefused words
-words-refused words text BadWords m e = m
-words-refused words text _ m e = absurd cc
-
--- a read follows words that are taken
-pub read-taken : (words : List (List ℕ)) (text : List ℕ) (f : Found) → Matches words text f → status_of f ≡ statuses.ReadFault → AreRefused words → ⊥
-read-taken words text ReadFault m e r = taken-not-refused words m.0 m.1 m.2 m.3 r
-read-taken words text _ m e r = absurd cc
-
-pub is-read-fault : (f : Found) → status_of f ≡ statuses.ReadFault → f ≡ ReadFault
-is-read-fault ReadFault e = refl
-is-read-fault _ e = absurd cc
-
 module _ (not_both : (text : List ℕ) (p : Program) (line : ℕ) (why : Why) → Spells text p → Refused text line why → ⊥) where
   -- a text that spells a script
   pub spelled-ends : (words : List (List ℕ)) (text : List ℕ) (plan : Plan) (budget : ℕ) (check : Bool) (p : Program) (f : Found) → Matches words text f → (f ≡ ReadFault → ⊥) → IsReplay words plan budget check → Spells text p

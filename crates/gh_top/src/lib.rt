@@ -10,12 +10,8 @@ mod finding;
 mod found;
 mod line;
 mod line_laws;
-#[cfg(test)]
-mod line_tests;
 mod saying;
 mod status;
-#[cfg(test)]
-mod tests;
 
 pub use command::top;
 pub use line::{Line, read_line};

@@ -58,7 +58,7 @@ keeps-moved p (Blacken o) i may = keeps-black p o i may.made may.fields
 keeps-moved p (Allocate s r) i may = keeps-allocate p s r i may
 keeps-moved p (ScanRegister s r) i may =
     keeps-seen (record p { colour = shaded p.colour (p.register s r) }) s r
-    (keeps-shaded p (p.register s r) i (i.unmade_objects.registers s r)) may.of.within may.once (λ w e. shaded-named p.colour (p.register s r) w e)
+    (keeps-shaded p (p.register s r) i (i.unmade_objects.registers s r)) may.within (λ w e. shaded-named p.colour (p.register s r) w e)
 
 keeps-copy : (p : Tricolour) (s d r : ℕ) → Invariants p → MayCopy p s d r → Invariants (changed p (Copy s d r))
 keeps-copy p s d r i may =

@@ -4,7 +4,7 @@ use Rattle.std.proofs.lemmas.Bool.{cases_lt}
 use Rattle.std.proofs.lemmas.Bool.Decides.{nat_tests}
 use Rattle.gh_tri.specs.declared.Move.{Move}
 use Rattle.gh_tri.specs.declared.Move.TheVariants.{ScanField, Blacken, ScanRegister}
-use Rattle.gh_tri.specs.Tricolour.{Tricolour, put2, moved, IsField, IsGreyStack, MayBlacken, MayScanRegister}
+use Rattle.gh_tri.specs.Tricolour.{Tricolour, put2, moved, IsField, IsRegister, MayBlacken}
 use Rattle.gh_tri.specs.Invariants.{after}
 use Rattle.gh_tri.specs.Runs.{field_scans, object_scan, register_scans}
 use Rattle.gh_tri.proofs.Tells.{put2-tells}
@@ -56,16 +56,6 @@ fields-scanned p o (suc n) f lt =
       at : (g : ℕ → ℕ → Bool) (o n : ℕ) → put2 g o n true o n ≡ true
       at g o n = grind (arith, nat_tests)
 
--- the others are as they were
-pub registers-left : (p : Tricolour) (s n r : ℕ) → n ≤ r → (after p (register_scans s n)).seen s r ≡ p.seen s r
-registers-left p s zero r le = refl
-registers-left p s (suc n) r le =
-    ap (λ (q : Tricolour). q.seen s r) (after-push p (register_scans s n) (ScanRegister s n))
-    ∙ elim (put2-tells (after p (register_scans s n)).seen s n true s r) [
-      | inl y ↦ absurd (omega arith)
-      | inr keeps ↦ keeps ∙ registers-left p s n r (omega arith)
-    ]
-
 -- the next scan may be made, and so may the last move
 pub field-may : (p q : Tricolour) (o n : ℕ) → q ≡ after p (field_scans o n) → o < p.objects → n < p.fields → IsField q o n
 field-may p q o n e made within =
@@ -82,13 +72,10 @@ object-may p q o n e made all =
       below : (f : ℕ) → f < p.fields → f < n
       below f lt = omega arith
 
-pub register-may : (p q : Tricolour) (s n : ℕ) → q ≡ after p (register_scans s n) → s < p.stacks → n < 16 → IsGreyStack p s → MayScanRegister q s n
-register-may p q s n e stack within grey =
+pub register-may : (p q : Tricolour) (s n : ℕ) → q ≡ after p (register_scans s n) → s < p.stacks → n < 16 → IsRegister q s n
+register-may p q s n e stack within =
     let k = register_scans-sizes p s n in
-    subst (λ (t : Tricolour). MayScanRegister t s n) (sym e) (record {
-      of = record { stack = rw (k.stacks) stack; within = within };
-      once = registers-left p s n n (omega arith) ∙ grey n within;
-    })
+    subst (λ (t : Tricolour). IsRegister t s n) (sym e) (record { stack = rw (k.stacks) stack; within = within })
 
 -- the scan of an object ends in the black object
 pub object-ends : (p q r : Tricolour) (o n : ℕ) → q ≡ after p (field_scans o n) → n ≡ p.fields → r ≡ moved q (Blacken o) → r ≡ after p (object_scan o p.fields)

@@ -1,5 +1,5 @@
 -- The changes that the eight moves are made of, each of which keeps the invariants.
-use Rattle.std.proofs.Common.{◌≡◌, ◌≢◌, ℕ, ◌+◌, ◌<◌, true, false, sym, ◌∙◌, ap, subst, inl, inr, ◌⊎◌, Option, Some, None, arith}
+use Rattle.std.proofs.Common.{◌≡◌, ◌≢◌, ℕ, ◌+◌, ◌<◌, Bool, true, false, refl, sym, ◌∙◌, ap, subst, inl, inr, ◌⊎◌, Option, Some, None, arith}
 use Rattle.std.proofs.lemmas.Bool.Decides.{eqb_tells}
 use Rattle.gh_tri.specs.declared.Colour.TheVariants.{White, Black}
 use Rattle.gh_tri.specs.Tricolour.{Tricolour, put, put2, put3, put_row, shaded, IsMarked, NilOrMarked, NilOrMade, IsBlackStack}
@@ -398,17 +398,14 @@ keeps-made p i =
         ];
       }
 
--- a register that holds nil or a marked object is scanned
-pub keeps-seen : (p : Tricolour) (s r : ℕ) → Invariants p → r < 16 → p.seen s r ≡ false → NilOrMarked p (p.register s r) → Invariants (record p { seen = put2 p.seen s r true })
-keeps-seen p s r i within once clean =
+-- a register that holds nil or a marked object is scanned, for the first time or again
+pub keeps-seen : (p : Tricolour) (s r : ℕ) → Invariants p → r < 16 → NilOrMarked p (p.register s r) → Invariants (record p { seen = put2 p.seen s r true })
+keeps-seen p s r i within clean =
     record {
       scanned_fields = i.scanned_fields;
       black_stacks = record {
         black = λ t b w dark lt e. safe-kept p _ guards w (elim (eqb_tells s t) [
-          | inl same ↦ inl (elim (put2-tells p.seen s r true t b) [
-            | inl y ↦ named t b w y.0 y.1 e
-            | inr n ↦ i.black_stacks.middle t b (r, within, ap (λ c. p.seen c r) (sym same.1) ∙ once) (sym n ∙ dark b lt) w e
-          ])
+          | inl same ↦ held (p.seen s r) refl t b w same.1 dark lt e
           | inr other ↦ i.black_stacks.black t b w (was_black t other.1 dark) lt e
         ]);
         middle = λ t b left h w e. elim (put2-tells p.seen s r true t b) [
@@ -431,6 +428,16 @@ keeps-seen p s r i within once clean =
     } where
       named : (t b w : ℕ) → s ≡ t → r ≡ b → p.register t b ≡ Some w → IsMarked p w
       named t b w x y e = clean w (ap (λ c. p.register c r) x ∙ (ap (p.register t) y ∙ e))
+
+      held : (c : Bool) → p.seen s r ≡ c → (t b w : ℕ) → s ≡ t → ((a : ℕ) → a < 16 → put2 p.seen s r true t a ≡ true) → b < 16 → p.register t b ≡ Some w → IsSafe p w
+      held true seen t b w same dark lt e = i.black_stacks.black t b w (λ a few. elim (put2-tells p.seen s r true t a) [
+        | inl y ↦ ap (λ c. p.seen c a) (sym same) ∙ (ap (p.seen s) (sym y.1) ∙ seen)
+        | inr n ↦ sym n ∙ dark a few
+      ]) lt e
+      held false seen t b w same dark lt e = inl (elim (put2-tells p.seen s r true t b) [
+        | inl y ↦ named t b w y.0 y.1 e
+        | inr n ↦ i.black_stacks.middle t b (r, within, ap (λ c. p.seen c r) (sym same) ∙ seen) (sym n ∙ dark b lt) w e
+      ])
 
       was_black : (t : ℕ) → s ≢ t → ((b : ℕ) → b < 16 → put2 p.seen s r true t b ≡ true) → IsBlackStack p t
       was_black t ne dark = λ b lt. elim (put2-tells p.seen s r true t b) [

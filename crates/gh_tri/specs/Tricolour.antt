@@ -131,10 +131,6 @@ pub record MayAllocate (p : Tricolour) (s r : ℕ) : Type 0 where
   pub into : IsRegister p s r
   pub room : p.objects < p.limit
 
-pub record MayScanRegister (p : Tricolour) (s r : ℕ) : Type 0 where
-  pub of : IsRegister p s r
-  pub once : p.seen s r ≡ false
-
 -- when a move may be made
 abbrev pub May : Tricolour → Move → Type 0
 May p (Load s r o f) = MayLoad p s r o f
@@ -144,4 +140,4 @@ May p (Store s o f new) = MayStore p s o f new
 May p (ScanField o f) = IsField p o f
 May p (Blacken o) = MayBlacken p o
 May p (Allocate s r) = MayAllocate p s r
-May p (ScanRegister s r) = MayScanRegister p s r
+May p (ScanRegister s r) = IsRegister p s r

@@ -159,6 +159,3 @@ pub fn each_step_keeps_the_invariants()
     a_move_keeps_the_invariants();
     a_change_of_registers_keeps_the_invariants();
 }
-
-#[cfg(test)]
-mod tests;

@@ -101,13 +101,6 @@ impl Picture {
         })
     }
 
-    /// How many objects are made.
-    pub fn objects(&self) -> u32
-        ensures { result ≡ (picture_of self.now).objects }
-    {
-        self.objects
-    }
-
     /// How many fields each object has.
     pub fn fields(&self) -> u32
         ensures { result ≡ (picture_of self.now).fields }
@@ -219,7 +212,8 @@ impl Picture {
         made
     }
 
-    /// Shades the object that a register holds. The stack is black once all its 16 registers are scanned.
+    /// Shades the object that a register holds, which is scanned from then on. A register may be scanned again. The stack is
+    /// black once all its 16 registers are scanned.
     pub fn scan_register(&mut self, stack: u32, reg: u32)
         requires { May (picture_of self.old) (ScanRegister stack reg) }
         ensures moved { picture_of self.new ≡ moved (picture_of self.old) (ScanRegister stack reg) }

@@ -1,5 +1,5 @@
 -- A routine has given nothing exactly where it asks for a further step, and its layout stays.
-use Rattle.std.specs.Prelude.{◌≡◌, ℕ, ◌+◌, Bool, true, false, cond, nat_lt, ◌↔◌, Option, Some, None, IsNone, refl}
+use Rattle.std.specs.Prelude.{◌≡◌, ℕ, ◌+◌, Bool, true, false, cond, ◌↔◌, Option, Some, None, IsNone, refl}
 use Rattle.gh_base.specs.declared.held.Held.{Held}
 use Rattle.gh_base.specs.declared.layout.Layout.{Layout}
 use Rattle.gh_wbuf.specs.declared.find_room.RoomStage.{RoomStage}
@@ -84,10 +84,3 @@ take_stays t found = take_stays_at t t.stage found
 pub room_busy : (l : Layout) (seat : ℕ) (held : Option Held) → finding.is_busy (finding.begin l seat held) ≡ true
 room_busy l seat None = refl
 room_busy l seat (Some h) = refl
-
-pub take_busy : (l : Layout) (seat : ℕ) (held : Option Held) → taking.is_busy (taking.begin l seat held) ≡ true
-take_busy l seat None = refl
-take_busy l seat (Some h) = by (nat_lt 0 h.count) where
-  by : (b : Bool) → taking.is_busy (cond b (take.Take h) (taking.try_at l seat 0 (Some h))) ≡ true
-  by true = refl
-  by false = refl

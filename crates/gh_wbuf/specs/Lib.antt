@@ -3,10 +3,8 @@ pub mod Ends
 pub mod Entries
 pub mod EntryTaking
 pub mod Facts
-pub mod Giving
 pub mod Knowing
 pub mod RoomFinding
-pub mod Rooms
 pub mod Sound
 pub mod Tries
 pub mod TryEnds

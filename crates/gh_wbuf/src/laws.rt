@@ -2,9 +2,7 @@
 
 ghost use Rattle.gh_wbuf.specs.Entries.{EntriesAreTaken};
 ghost use Rattle.gh_wbuf.specs.Facts.{BuffersPassByMoves};
-ghost use Rattle.gh_wbuf.specs.Giving.{BuffersAreGivenBack};
 ghost use Rattle.gh_wbuf.specs.Knowing.{BuffersAreKept};
-ghost use Rattle.gh_wbuf.specs.Rooms.{RoomIsFound};
 ghost use Rattle.gh_wbuf.specs.Tries.{BuffersAreTried};
 
 use crate::take_entry::TakeEntry;
@@ -18,12 +16,6 @@ pub fn buffers_are_tried()
     ensures { BuffersAreTried }
 {}
 
-/// The search for room gives a held buffer back, tries the buffers from 0 on, and goes on behind one
-/// whose try answers none, round after round, with none held. It ends with the buffer whose swap wrote.
-pub fn room_is_found()
-    ensures { RoomIsFound }
-{}
-
 /// The taking of an entry answers none exactly where its held buffer, if any, has no entry, and each of
 /// its tries, one for each buffer, answered none. It drops no buffer with an entry: one that it gives back
 /// has none, and its word is stored as 0. The entry that it ends with is the last one of the buffer that it
@@ -33,11 +25,6 @@ pub fn entries_are_taken()
 {
     steps_are_folded::<TakeEntry, Option<u64>>();
 }
-
-/// A buffer is given back by one store of its count, with no holder, and none is held then.
-pub fn buffers_are_given_back()
-    ensures { BuffersAreGivenBack }
-{}
 
 /// What the stages of the routines know of who holds which buffer, and of how many entries it has: it is so
 /// where they begin, each step is a move that their seat may make and leads to what the next stage knows, and

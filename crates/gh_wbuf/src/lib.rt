@@ -23,8 +23,6 @@ mod find_room;
 mod give_buffer;
 pub mod laws;
 mod take_entry;
-#[cfg(test)]
-mod tests;
 mod try_buffer;
 
 pub use find_room::{FindRoom, RoomStage};

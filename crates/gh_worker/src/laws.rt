@@ -3,7 +3,7 @@
 
 ghost use Rattle.gh_worker.specs.Handshake.{WorkersKeepHandshake};
 ghost use Rattle.gh_worker.specs.MarkFacts.{WorksByMoves};
-ghost use Rattle.gh_worker.specs.Works.{GlobalsAreClaimed, NothingIsHeldAtStops, PhasesAreKept, TakenObjectsAreScanned, WordsAreCounted, WorkersLeaveOnce};
+ghost use Rattle.gh_worker.specs.Works.{WordsAreCounted};
 ghost use Rattle.gh_worker.specs.Writing.{CalmWorkersMarkNothing, WorkersWriteTheirOwn};
 
 use gh_marks::laws::{facts_last, hands_follow, steps_go_by_moves, the_cursor_is_small};
@@ -12,43 +12,10 @@ use gh_scan::laws::{marking_is_quiet, scans_by_moves};
 use gh_shade::laws::shades_by_moves;
 use gh_wbuf::laws::buffers_pass_by_moves;
 
-/// Where a worker finds a stop it acknowledges that at once, and where it holds a buffer it gives that back
-/// first. It acknowledges for its own seat alone, the number of the stop that it found last, and with no
-/// buffer held; then it goes on as the routine for that does.
-pub fn nothing_is_held_at_stops()
-    ensures { NothingIsHeldAtStops }
-{}
-
-/// A worker begins with a load of the phase. Where the phase that it found last is off it loads the phase,
-/// or what it knows beside that after a stop. Where it is a stop it gives its buffer back, acknowledges, or
-/// loads the phase. Where it is finished it says that it is gone. So it marks only while marking is on.
-pub fn phases_are_kept()
-    ensures { PhasesAreKept }
-{}
-
-/// A worker claims a global by an add of 1 exactly where it has just found that one is left, and adds to
-/// nothing else. It loads exactly the globals that it has claimed, and shades what they refer to, with a
-/// buffer with room looked for where the shading wishes for one.
-pub fn globals_are_claimed()
-    ensures { GlobalsAreClaimed }
-{}
-
-/// With marking on a worker takes an object, with the buffer that it holds. Where the taking gives an
-/// object, the scan of that object is next; where it gives none, a look for a global.
-pub fn taken_objects_are_scanned()
-    ensures { TakenObjectsAreScanned }
-{}
-
 /// A worker's count is that of the words which it has scanned: those of each object whose scan has ended,
 /// and one for each global that is done.
 pub fn words_are_counted()
     ensures { WordsAreCounted }
-{}
-
-/// A worker ends exactly with the step that says that it is gone, which it makes once, and where it has just
-/// found that the last cycle is swept.
-pub fn workers_leave_once()
-    ensures { WorkersLeaveOnce }
 {}
 
 /// Each step of a worker is one of the handshake of a stop: while it takes, scans and shades it is awake and

@@ -17,8 +17,6 @@
 #![tactic(auto)]
 
 pub mod laws;
-#[cfg(test)]
-mod tests;
 mod worker;
 
 pub use worker::{Worker, WorkerStage};

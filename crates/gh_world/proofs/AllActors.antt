@@ -31,8 +31,6 @@ pub mod LeadingKept
 pub mod LeadingSteps
 pub mod Steps
 pub mod Top
-pub mod Parties
-pub mod Asking
 pub mod OfLists
 pub mod Waiting
 pub mod Still

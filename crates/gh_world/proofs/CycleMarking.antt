@@ -3,6 +3,7 @@ pub mod Seats
 pub mod Apart
 pub mod Beside
 pub mod Checking
+pub mod Asked
 pub mod Placing
 pub mod Moving
 pub mod Lists

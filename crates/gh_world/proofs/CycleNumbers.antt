@@ -4,6 +4,8 @@ pub mod Frames
 pub mod Quiet
 pub mod Parts
 pub mod Leading
+pub mod Writing
+pub mod Asking
 pub mod Seats
 pub mod Lists
 pub mod Wanting
@@ -13,5 +15,3 @@ pub mod Few
 pub mod Leaving
 pub mod Resting
 pub mod Stacks
-pub mod Crossing
-pub mod Waiting

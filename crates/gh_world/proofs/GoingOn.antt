@@ -38,7 +38,7 @@ module _ (p : Program) (l : Layout) where
   abbrev one : Kind Processor Op
   one = processor_kind p.shapes l
 
-  abbrev all : Kind (Actor Processor) Op
+  abbrev all : Kind Actor Op
   all = (setting_of p l).kind
 
   abbrev Lawful : List (Entry Op) → Type 0
@@ -54,7 +54,7 @@ module _ (p : Program) (l : Layout) where
   -- ---- the coordinator has a further step as long as it is not done
 
   module _ (on : GoesOnUntilDone) where
-    abbrev HasNextAt : Actor Processor → Type 0
+    abbrev HasNextAt : Actor → Type 0
     HasNextAt (actor.Runs m) = Unit {0}
     HasNextAt (actor.Marks w) = Unit {0}
     HasNextAt (actor.Leads c) = HasNext c
@@ -66,7 +66,7 @@ module _ (p : Program) (l : Layout) where
       go false true = tt
       go false false = on.at_first l a (pacing_of p).gogc (pacing_of p).minheap (pacing_of p).room
 
-    next_then : (o : Option Op) (x : Actor Processor) (found : ℕ) → all.busy (started all o x) ≡ true → HasNextAt x → HasNextAt (takes_by one (started all o x) found)
+    next_then : (o : Option Op) (x : Actor) (found : ℕ) → all.busy (started all o x) ≡ true → HasNextAt x → HasNextAt (takes_by p.shapes (started all o x) found)
     next_then None (actor.Runs m) found busy h = tt
     next_then (Some o) (actor.Runs m) found busy h = tt
     next_then None (actor.Marks w) found busy h = tt
@@ -77,7 +77,7 @@ module _ (p : Program) (l : Layout) where
     next_at : (es : List (Entry Op)) → Lawful es → (a : ℕ) → HasNextAt (actor_after p l es a)
     next_at [] legal a = next_first a
     next_at (e ∷ es) legal a = go (eqb e.actor a) refl (next_at es legal.0 a) where
-      go : (b : Bool) → eqb e.actor a ≡ b → HasNextAt (actor_after p l es a) → HasNextAt (cond b (takes_by one (started all e.begun (actor_after p l es a)) e.found) (actor_after p l es a))
+      go : (b : Bool) → eqb e.actor a ≡ b → HasNextAt (actor_after p l es a) → HasNextAt (cond b (takes_by p.shapes (started all e.begun (actor_after p l es a)) e.found) (actor_after p l es a))
       go false x h = h
       go true x h =
           let same : e.actor ≡ a = eqb-true e.actor a x in
@@ -216,7 +216,7 @@ module _ (p : Program) (l : Layout) (formed : WellFormed p) (lays : LaysOut p l)
     passed_by es e other k = rw other (record { turn = k.turn; stated = k.stated; made = k.made; stands = k.stands; all = k.all; leaves = k.leaves; polled = k.polled; turns = k.turns; ended = k.ended; left = k.left })
 
     busy_is : a < l.procs → (es : List (Entry Op)) → (all p l).busy (actor_after p l es a) ≡ is_busy_at (after_list es).task
-    busy_is seat es = ap (λ (x : Actor Processor). (all p l).busy x) (is_processor p l a seat es)
+    busy_is seat es = ap (λ (x : Actor). (all p l).busy x) (is_processor p l a seat es)
 
     -- what begins behind a list is what is due
     begun_as_due : a < l.procs → (es : List (Entry Op)) (o : Option Op) (rest : List Op) → Behind es → Begins (setting_of p l) a es o → turns_of p a ≡ reverse (begun_in (by a es)) ++ (option_to_list o ++ rest) → Begun es o
@@ -236,7 +236,7 @@ module _ (p : Program) (l : Layout) (formed : WellFormed p) (lays : LaysOut p l)
   -- ---- the entry that follows
 
   -- what an actor is where this begins
-  abbrev now : List (Entry Op) → ℕ → Option Op → Actor Processor
+  abbrev now : List (Entry Op) → ℕ → Option Op → Actor
   now es a o = started (all p l) o (actor_after p l es a)
 
   abbrev entry : List (Entry Op) → ℕ → Option Op → Entry Op
@@ -262,8 +262,8 @@ module _ (p : Program) (l : Layout) (formed : WellFormed p) (lays : LaysOut p l)
     by_processor a seat o begins b =
         let is : now es a o ≡ actor.Runs (started (one p l) o (after_list a es)) = begun_is p l a seat es o in
         let within = (laws.stands es r.legal).within a o (record { seat = seat; begins = begins; runs = b.busy }) in
-        follows_so es a o (to_come p a b.keeps.turn) r (omega (arith, seat)) begins (ap (λ (x : Actor Processor). (all p l).busy x) is ∙ b.busy)
-        (subst (λ (x : Actor Processor). InRange l (cell_of ((all p l).asks x))) (sym is) within) (λ lt. b.keeps.turns)
+        follows_so es a o (to_come p a b.keeps.turn) r (omega (arith, seat)) begins (ap (λ (x : Actor). (all p l).busy x) is ∙ b.busy)
+        (subst (λ (x : Actor). InRange l (cell_of ((all p l).asks x))) (sym is) within) (λ lt. b.keeps.turns)
 
     of_processor : (a : ℕ) (seat : a < l.procs) → has_left_at (after_list a es).task ≡ false → GoesOnBy p l es a
     of_processor a seat going = go (is_busy_at (after_list a es).task) refl (behind a seat es r) where
@@ -277,23 +277,23 @@ module _ (p : Program) (l : Layout) (formed : WellFormed p) (lays : LaysOut p l)
           (begin_some a es due.0 k due.1)
 
     -- an actor's that begins nothing
-    of_other : (a : ℕ) (x : Actor Processor) → actor_after p l es a ≡ x → l.procs ≤ a → a < (setting_of p l).actors → (all p l).busy x ≡ true → InRange l (cell_of ((all p l).asks x)) → GoesOnBy p l es a
+    of_other : (a : ℕ) (x : Actor) → actor_after p l es a ≡ x → l.procs ≤ a → a < (setting_of p l).actors → (all p l).busy x ≡ true → InRange l (cell_of ((all p l).asks x)) → GoesOnBy p l es a
     of_other a x is high lt busy within =
-        let runs = ap (λ (y : Actor Processor). (all p l).busy y) is ∙ busy in
-        follows_so es a None [] r lt runs runs (subst (λ (y : Actor Processor). InRange l (cell_of ((all p l).asks y))) (sym is) within) (λ low. absurd (omega (arith, low, high)))
+        let runs = ap (λ (y : Actor). (all p l).busy y) is ∙ busy in
+        follows_so es a None [] r lt runs runs (subst (λ (y : Actor). InRange l (cell_of ((all p l).asks y))) (sym is) within) (λ low. absurd (omega (arith, low, high)))
 
     pub goes_on : (a : ℕ) → a < (setting_of p l).actors → ended_at (setting_of p l) es a ≡ false → GoesOnBy p l es a
     goes_on a lt going = go (actor_after p l es a) refl where
-      go : (x : Actor Processor) → actor_after p l es a ≡ x → GoesOnBy p l es a
+      go : (x : Actor) → actor_after p l es a ≡ x → GoesOnBy p l es a
       go (actor.Runs m) is =
-          let low : a < l.procs = subst (IsSeated l a) is (seated l (one p l) (pacing_of p) es a) in
+          let low : a < l.procs = subst (IsSeated l a) is (seated p.shapes l (pacing_of p) es a) in
           of_processor a low (sym (ap has_ended (is_processor p l a low es)) ∙ going)
       go (actor.Marks w) is =
-          let high : l.procs ≤ a = (subst (IsSeated l a) is (seated l (one p l) (pacing_of p) es a)).0 in
+          let high : l.procs ≤ a = (subst (IsSeated l a) is (seated p.shapes l (pacing_of p) es a)).0 in
           of_other a (actor.Marks w) is high lt (not_false (worker.is_busy w.stage) (sym (ap has_ended is) ∙ going)) (worker_step_within p.shapes l (pacing_of p) (may_begin_of p l) es l.limits a w is)
       go (actor.Leads c) is =
           let next : HasNext c = subst (HasNextAt p l laws.on) is (next_at p l laws.on es r.legal a) in
-          let high : acks_of l ≤ a = (subst (IsSeated l a) is (seated l (one p l) (pacing_of p) es a)).0 in
+          let high : acks_of l ≤ a = (subst (IsSeated l a) is (seated p.shapes l (pacing_of p) es a)).0 in
           let last : a ≡ acks_of l = omega (arith, high, lt) in
           of_other a (actor.Leads c) is (omega (arith, high)) lt (next ∙ ap not (sym (ap has_ended is) ∙ going)) (lead_asks p.shapes l (pacing_of p) (may_begin_of p l) l.limits es c (sym (ap (actor_after p l es) last) ∙ is))
 

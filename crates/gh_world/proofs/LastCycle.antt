@@ -1,5 +1,5 @@
 -- The last cycle over every legal list: no worker leaves before it is swept, and every processor has left by then.
-use Rattle.std.proofs.Common.{◌≡◌, ℕ, ◌<◌, ◌≤◌, ◌⊎◌, Bool, true, false, cond, ltb, ◌==◌, refl, sym, ap, subst, ◌∙◌, inl, inr, arith, List, [], ◌∷◌, Option, Some, None, eq-eqb}
+use Rattle.std.proofs.Common.{◌≡◌, ℕ, ◌<◌, ◌⊎◌, Bool, true, false, cond, ltb, ◌==◌, refl, sym, ap, subst, ◌∙◌, inl, inr, arith, List, [], ◌∷◌, Option, Some, None}
 use Rattle.gh_base.specs.declared.cell.Cell.TheVariants as cell
 use Rattle.gh_base.specs.declared.pack.Phase.TheVariants as kind
 use Rattle.gh_base.specs.Lists.{MayFollow, Setting}
@@ -12,14 +12,8 @@ use Rattle.gh_worker.specs.declared.worker.WorkerStage.TheVariants as work
 use Rattle.gh_worker.specs.Handshake.{IsLeaving, IsMarking}
 use Rattle.gh_worker.specs.Listing as worker
 use Rattle.gh_world.specs.declared.handshake.Actor.TheVariants as actor
-use Rattle.gh_world.specs.Handshake.{asks, heap, start, takes}
-use Rattle.gh_world.proofs.Vocabulary.{acks_of, Actor, actors, Ask, cell_of, Entry, GONE, is_busy, Kind, last_phase, Layout, Lead, LeadsHandshake, Load, nat_tests, Pacing, phase_of, phase_word, PhaseWord, run_phase, RunPhase, started, state_of, stop_word, View, Words, words_after, WorkersKeepHandshake}
-
--- which seats each kind of actor has
-abbrev pub IsAt : {P : Type 0} → Layout → (a : ℕ) → Actor P → Type 0
-IsAt l a (actor.Runs m) = a < l.procs
-IsAt l a (actor.Marks w) = l.procs ≤ a
-IsAt l a (actor.Leads c) = acks_of l ≤ a
+use Rattle.gh_world.specs.Handshake.{asks, start, takes}
+use Rattle.gh_world.proofs.Vocabulary.{acks_of, Actor, actors, Ask, cell_of, Entry, GONE, is_busy, Kind, last_phase, Layout, Lead, LeadsHandshake, Load, nat_tests, Op, opening_processor, Pacing, phase_of, phase_word, PhaseWord, run_phase, RunPhase, Shape, started, state_of, stop_word, those, View, Words, words_after, WorkersKeepHandshake}
 
 -- what a load of the phase tells
 module _ (back : (p : PhaseWord) → phase_of (phase_word p) ≡ p) where
@@ -41,74 +35,54 @@ module _ (back : (p : PhaseWord) → phase_of (phase_word p) ≡ p) where
       let x : Some phase ≡ Some known = sym (ap run_found e ∙ yes) ∙ f in
       cc
 
-module _ {P O : Type 0} (k : Kind P O) where
-  module _ (l : Layout) (pacing : Pacing) where
-    abbrev all : Kind (Actor P) O
-    all = actors l k pacing
+module _ (shapes : List Shape) (l : Layout) (pacing : Pacing) where
+  abbrev all : Kind Actor Op
+  all = actors shapes l pacing
 
-    -- once an operation is begun, or none
-    abbrev begun : Option O → Actor P → Actor P
-    begun o m = started all o m
+  -- once an operation is begun, or none
+  abbrev begun : Option Op → Actor → Actor
+  begun o m = started all o m
 
-    begun_at : (a : ℕ) (o : Option O) (m : Actor P) → IsAt l a m → IsAt l a (begun o m)
-    begun_at a None m x = x
-    begun_at a (Some o) (actor.Runs m) x = x
-    begun_at a (Some o) (actor.Marks w) x = x
-    begun_at a (Some o) (actor.Leads c) x = x
+  -- what a worker, and the coordinator, was before its step
+  record WasWorker (o : Option Op) (m : Actor) (found : ℕ) (w : worker.Working) : Type 0 where
+    before : worker.Working
+    was : m ≡ actor.Marks before
+    begun_is : begun o m ≡ actor.Marks before
+    now : w ≡ worker.goes before found
 
-    taken_at : (a found : ℕ) (m : Actor P) → IsAt l a m → IsAt l a (takes k m found)
-    taken_at a found (actor.Runs m) x = x
-    taken_at a found (actor.Marks w) x = x
-    taken_at a found (actor.Leads c) x = x
+  was_worker : (o : Option Op) (m : Actor) (found : ℕ) (w : worker.Working) → takes shapes (begun o m) found ≡ actor.Marks w → WasWorker o m found w
+  was_worker None (actor.Marks v) found w e = record { before = v; was = refl; begun_is = refl; now = cc }
+  was_worker (Some o) (actor.Marks v) found w e = record { before = v; was = refl; begun_is = refl; now = cc }
+  was_worker None (actor.Runs m) found w e = absurd cc
+  was_worker (Some o) (actor.Runs m) found w e = absurd cc
+  was_worker None (actor.Leads c) found w e = absurd cc
+  was_worker (Some o) (actor.Leads c) found w e = absurd cc
 
-    first_at : (a : ℕ) → IsAt l a (start l k pacing a)
-    first_at a = go (ltb a l.procs) (ltb a (acks_of l)) refl refl where
-      go : (b d : Bool) → ltb a l.procs ≡ b → ltb a (acks_of l) ≡ d → IsAt l a (cond b (actor.Runs (k.start a)) (cond d (actor.Marks (worker.opening l a)) (actor.Leads (coord.opening l a pacing.gogc pacing.minheap pacing.room))))
-      go true d e f = grind (arith, nat_tests)
-      go false true e f = grind (arith, nat_tests)
-      go false false e f = grind (arith, nat_tests)
+  record WasCoordinator (o : Option Op) (m : Actor) (found : ℕ) (c : coord.Coordinating) : Type 0 where
+    before : coord.Coordinating
+    was : m ≡ actor.Leads before
+    begun_is : begun o m ≡ actor.Leads before
+    now : c ≡ coord.goes before found
 
-    -- what a worker, and the coordinator, was before its step
-    record WasWorker (o : Option O) (m : Actor P) (found : ℕ) (w : worker.Working) : Type 0 where
-      before : worker.Working
-      was : m ≡ actor.Marks before
-      begun_is : begun o m ≡ actor.Marks before
-      now : w ≡ worker.goes before found
+  was_coordinator : (o : Option Op) (m : Actor) (found : ℕ) (c : coord.Coordinating) → takes shapes (begun o m) found ≡ actor.Leads c → WasCoordinator o m found c
+  was_coordinator None (actor.Leads v) found c e = record { before = v; was = refl; begun_is = refl; now = cc }
+  was_coordinator (Some o) (actor.Leads v) found c e = record { before = v; was = refl; begun_is = refl; now = cc }
+  was_coordinator None (actor.Runs m) found c e = absurd cc
+  was_coordinator (Some o) (actor.Runs m) found c e = absurd cc
+  was_coordinator None (actor.Marks w) found c e = absurd cc
+  was_coordinator (Some o) (actor.Marks w) found c e = absurd cc
 
-    was_worker : (o : Option O) (m : Actor P) (found : ℕ) (w : worker.Working) → takes k (begun o m) found ≡ actor.Marks w → WasWorker o m found w
-    was_worker None (actor.Marks v) found w e = record { before = v; was = refl; begun_is = refl; now = cc }
-    was_worker (Some o) (actor.Marks v) found w e = record { before = v; was = refl; begun_is = refl; now = cc }
-    was_worker None (actor.Runs m) found w e = absurd cc
-    was_worker (Some o) (actor.Runs m) found w e = absurd cc
-    was_worker None (actor.Leads c) found w e = absurd cc
-    was_worker (Some o) (actor.Leads c) found w e = absurd cc
+module _ (shapes : List Shape) (l : Layout) (pacing : Pacing) (may : ℕ → List (Entry Op) → Op → Bool) where
+  abbrev pub it : Setting Actor Op
+  it = those shapes l pacing may
 
-    record WasCoordinator (o : Option O) (m : Actor P) (found : ℕ) (c : coord.Coordinating) : Type 0 where
-      before : coord.Coordinating
-      was : m ≡ actor.Leads before
-      begun_is : begun o m ≡ actor.Leads before
-      now : c ≡ coord.goes before found
-
-    was_coordinator : (o : Option O) (m : Actor P) (found : ℕ) (c : coord.Coordinating) → takes k (begun o m) found ≡ actor.Leads c → WasCoordinator o m found c
-    was_coordinator None (actor.Leads v) found c e = record { before = v; was = refl; begun_is = refl; now = cc }
-    was_coordinator (Some o) (actor.Leads v) found c e = record { before = v; was = refl; begun_is = refl; now = cc }
-    was_coordinator None (actor.Runs m) found c e = absurd cc
-    was_coordinator (Some o) (actor.Runs m) found c e = absurd cc
-    was_coordinator None (actor.Marks w) found c e = absurd cc
-    was_coordinator (Some o) (actor.Marks w) found c e = absurd cc
-
-module _ {P O : Type 0} (l : Layout) (k : Kind P O) (pacing : Pacing) (may : ℕ → List (Entry O) → O → Bool) where
-  abbrev pub it : Setting (Actor P) O
-  it = heap l k pacing may
-
-  abbrev pub state : List (Entry O) → ℕ → Actor P
+  abbrev pub state : List (Entry Op) → ℕ → Actor
   state es a = state_of it.kind a es
 
-  abbrev pub words : List (Entry O) → Words
+  abbrev pub words : List (Entry Op) → Words
   words es = words_after it.opening es
 
-  pub record Ends (es : List (Entry O)) : Type 0 where
-    pub seats : (a : ℕ) → IsAt l a (state es a)
+  pub record Ends (es : List (Entry Op)) : Type 0 where
     -- the processors that were found gone are so
     pub below : (c : coord.Coordinating) → state es (acks_of l) ≡ actor.Leads c → (a : ℕ) → a < acks_of l → a < gone_to c.stage → words es (cell.Ack a) ≡ GONE
     pub last : (c : coord.Coordinating) → state es (acks_of l) ≡ actor.Leads c → c.is_last ≡ true → (a : ℕ) → a < l.procs → words es (cell.Ack a) ≡ GONE
@@ -118,15 +92,14 @@ module _ {P O : Type 0} (l : Layout) (k : Kind P O) (pacing : Pacing) (may : ℕ
 
   pub opens : Ends []
   opens = record {
-    seats = first_at k l pacing;
     below = λ c e a m g. absurd (none_seen a c (acks_of l) e g);
     last = λ c e x a m. absurd (not_last c (acks_of l) e x);
     leaves = λ a w e x. absurd (no_leave a w e x);
     marks = λ a w m e x. absurd (no_mark a w e x);
   } where
-    none_seen : (a : ℕ) (c : coord.Coordinating) (n : ℕ) → start l k pacing n ≡ actor.Leads c → a < gone_to c.stage → ⊥
+    none_seen : (a : ℕ) (c : coord.Coordinating) (n : ℕ) → start l pacing n ≡ actor.Leads c → a < gone_to c.stage → ⊥
     none_seen a c n e g = go (ltb n l.procs) (ltb n (acks_of l)) e where
-      go : (b d : Bool) → cond b (actor.Runs (k.start n)) (cond d (actor.Marks (worker.opening l n)) (actor.Leads (coord.opening l n pacing.gogc pacing.minheap pacing.room))) ≡ actor.Leads c → ⊥
+      go : (b d : Bool) → cond b (actor.Runs (opening_processor l n)) (cond d (actor.Marks (worker.opening l n)) (actor.Leads (coord.opening l n pacing.gogc pacing.minheap pacing.room))) ≡ actor.Leads c → ⊥
       go true d x = absurd cc
       go false true x = absurd cc
       go false false x =
@@ -134,9 +107,9 @@ module _ {P O : Type 0} (l : Layout) (k : Kind P O) (pacing : Pacing) (may : ℕ
           let none : a < 0 = subst (λ (y : coord.Coordinating). a < gone_to y.stage) (sym is) g in
           omega arith
 
-    not_last : (c : coord.Coordinating) (n : ℕ) → start l k pacing n ≡ actor.Leads c → c.is_last ≡ true → ⊥
+    not_last : (c : coord.Coordinating) (n : ℕ) → start l pacing n ≡ actor.Leads c → c.is_last ≡ true → ⊥
     not_last c n e g = go (ltb n l.procs) (ltb n (acks_of l)) e where
-      go : (b d : Bool) → cond b (actor.Runs (k.start n)) (cond d (actor.Marks (worker.opening l n)) (actor.Leads (coord.opening l n pacing.gogc pacing.minheap pacing.room))) ≡ actor.Leads c → ⊥
+      go : (b d : Bool) → cond b (actor.Runs (opening_processor l n)) (cond d (actor.Marks (worker.opening l n)) (actor.Leads (coord.opening l n pacing.gogc pacing.minheap pacing.room))) ≡ actor.Leads c → ⊥
       go true d x = absurd cc
       go false true x = absurd cc
       go false false x =
@@ -144,18 +117,18 @@ module _ {P O : Type 0} (l : Layout) (k : Kind P O) (pacing : Pacing) (may : ℕ
           let no : false ≡ true = ap (λ (y : coord.Coordinating). y.is_last) is ∙ g in
           cc
 
-    no_leave : (n : ℕ) (w : worker.Working) → start l k pacing n ≡ actor.Marks w → IsLeaving w.stage → ⊥
+    no_leave : (n : ℕ) (w : worker.Working) → start l pacing n ≡ actor.Marks w → IsLeaving w.stage → ⊥
     no_leave n w e g = go (ltb n l.procs) (ltb n (acks_of l)) e where
-      go : (b d : Bool) → cond b (actor.Runs (k.start n)) (cond d (actor.Marks (worker.opening l n)) (actor.Leads (coord.opening l n pacing.gogc pacing.minheap pacing.room))) ≡ actor.Marks w → ⊥
+      go : (b d : Bool) → cond b (actor.Runs (opening_processor l n)) (cond d (actor.Marks (worker.opening l n)) (actor.Leads (coord.opening l n pacing.gogc pacing.minheap pacing.room))) ≡ actor.Marks w → ⊥
       go true d x = absurd cc
       go false false x = absurd cc
       go false true x =
           let is : worker.opening l n ≡ w = cc in
           subst (λ (y : worker.Working). IsLeaving y.stage) (sym is) g
 
-    no_mark : (n : ℕ) (w : worker.Working) → start l k pacing n ≡ actor.Marks w → IsMarking w.stage → ⊥
+    no_mark : (n : ℕ) (w : worker.Working) → start l pacing n ≡ actor.Marks w → IsMarking w.stage → ⊥
     no_mark n w e g = go (ltb n l.procs) (ltb n (acks_of l)) e where
-      go : (b d : Bool) → cond b (actor.Runs (k.start n)) (cond d (actor.Marks (worker.opening l n)) (actor.Leads (coord.opening l n pacing.gogc pacing.minheap pacing.room))) ≡ actor.Marks w → ⊥
+      go : (b d : Bool) → cond b (actor.Runs (opening_processor l n)) (cond d (actor.Marks (worker.opening l n)) (actor.Leads (coord.opening l n pacing.gogc pacing.minheap pacing.room))) ≡ actor.Marks w → ⊥
       go true d x = absurd cc
       go false false x = absurd cc
       go false true x =
@@ -163,12 +136,9 @@ module _ {P O : Type 0} (l : Layout) (k : Kind P O) (pacing : Pacing) (may : ℕ
           subst (λ (y : worker.Working). IsMarking y.stage) (sym is) g
 
   -- one entry more
-  module _ (place : Actor P → Place) (back : (p : PhaseWord) → phase_of (phase_word p) ≡ p) (leads : LeadsHandshake) (works : WorkersKeepHandshake) (es : List (Entry O)) (e : Entry O) (f : MayFollow it es e) (i : Ends es) (lead : Lead) (led : IsLed (last_phase es) (words es) lead) (gone : GoneStay it (acks_of l) place e es) (stays : FinishedStays e es) where
-    abbrev before : Actor P
+  module _ (place : Actor → Place) (back : (p : PhaseWord) → phase_of (phase_word p) ≡ p) (leads : LeadsHandshake) (works : WorkersKeepHandshake) (es : List (Entry Op)) (e : Entry Op) (f : MayFollow it es e) (i : Ends es) (lead : Lead) (led : IsLed (last_phase es) (words es) lead) (gone : GoneStay it (acks_of l) place e es) (stays : FinishedStays e es) where
+    abbrev before : Actor
     before = state es e.actor
-
-    own : state (e ∷ es) e.actor ≡ takes k (begun k l pacing e.begun before) e.found
-    own = rw (eq-eqb e.actor e.actor refl) refl
 
     other : (a : ℕ) → (e.actor == a) ≡ false → state (e ∷ es) a ≡ state es a
     other a x = rw x refl
@@ -176,14 +146,8 @@ module _ {P O : Type 0} (l : Layout) (k : Kind P O) (pacing : Pacing) (may : ℕ
     same : (a : ℕ) → (e.actor == a) ≡ true → e.actor ≡ a
     same a x = grind (arith, nat_tests)
 
-    own_at : (a : ℕ) → (e.actor == a) ≡ true → state (e ∷ es) a ≡ takes k (begun k l pacing e.begun (state es a)) e.found
+    own_at : (a : ℕ) → (e.actor == a) ≡ true → state (e ∷ es) a ≡ takes shapes (begun shapes l pacing e.begun (state es a)) e.found
     own_at a x = rw x refl
-
-    seats_next : (a : ℕ) → IsAt l a (state (e ∷ es) a)
-    seats_next a = go (e.actor == a) refl where
-      go : (b : Bool) → (e.actor == a) ≡ b → IsAt l a (state (e ∷ es) a)
-      go true x = rw (own_at a x) (taken_at k l pacing a e.found (begun k l pacing e.begun (state es a)) (begun_at k l pacing a e.begun (state es a) (i.seats a)))
-      go false x = rw (other a x) (i.seats a)
 
     -- a worker's step
     record Worked (a : ℕ) (w : worker.Working) : Type 0 where
@@ -195,9 +159,9 @@ module _ {P O : Type 0} (l : Layout) (k : Kind P O) (pacing : Pacing) (may : ℕ
 
     worked : (a : ℕ) (w : worker.Working) → state (e ∷ es) a ≡ actor.Marks w → (e.actor == a) ≡ true → Worked a w
     worked a w is n =
-        let was : WasWorker k l pacing e.begun (state es a) e.found w = was_worker k l pacing e.begun (state es a) e.found w (sym (own_at a n) ∙ is) in
-        let here : begun k l pacing e.begun before ≡ actor.Marks was.before = ap (λ (y : ℕ). begun k l pacing e.begun (state es y)) (same a n) ∙ was.begun_is in
-        record { before_it = was.before; was = was.was; busy = sym (ap (is_busy k) here) ∙ f.runs; asked = f.asks ∙ ap (asks k) here; now = was.now }
+        let was : WasWorker shapes l pacing e.begun (state es a) e.found w = was_worker shapes l pacing e.begun (state es a) e.found w (sym (own_at a n) ∙ is) in
+        let here : begun shapes l pacing e.begun before ≡ actor.Marks was.before = ap (λ (y : ℕ). begun shapes l pacing e.begun (state es y)) (same a n) ∙ was.begun_is in
+        record { before_it = was.before; was = was.was; busy = sym (ap is_busy here) ∙ f.runs; asked = f.asks ∙ ap asks here; now = was.now }
 
     -- the phase word that it finds
     phase_found : (v : worker.Working) → e.ask ≡ worker.asks v → worker.asks v ≡ Load cell.Phase → e.found ≡ cond (is_stop lead.post) (stop_word lead.stops) (run_word lead.stops (last_phase es))
@@ -246,10 +210,10 @@ module _ {P O : Type 0} (l : Layout) (k : Kind P O) (pacing : Pacing) (may : ℕ
 
     stepped : (c : coord.Coordinating) → state (e ∷ es) (acks_of l) ≡ actor.Leads c → (e.actor == acks_of l) ≡ true → Stepped c
     stepped c is n =
-        let was : WasCoordinator k l pacing e.begun (state es (acks_of l)) e.found c = was_coordinator k l pacing e.begun (state es (acks_of l)) e.found c (sym (own_at (acks_of l) n) ∙ is) in
-        let here : begun k l pacing e.begun before ≡ actor.Leads was.before = ap (λ (y : ℕ). begun k l pacing e.begun (state es y)) (same (acks_of l) n) ∙ was.begun_is in
-        let busy : coord.is_busy was.before.stage ≡ true = sym (ap (is_busy k) here) ∙ f.runs in
-        record { before_it = was.before; was = was.was; asked = f.asks ∙ ap (asks k) here; finds = subst (λ (y : coord.Coordinating). FindsGone e.found was.before was.before.stage y) (sym was.now) (leads.finds_gone was.before e.found busy) }
+        let was : WasCoordinator shapes l pacing e.begun (state es (acks_of l)) e.found c = was_coordinator shapes l pacing e.begun (state es (acks_of l)) e.found c (sym (own_at (acks_of l) n) ∙ is) in
+        let here : begun shapes l pacing e.begun before ≡ actor.Leads was.before = ap (λ (y : ℕ). begun shapes l pacing e.begun (state es y)) (same (acks_of l) n) ∙ was.begun_is in
+        let busy : coord.is_busy was.before.stage ≡ true = sym (ap is_busy here) ∙ f.runs in
+        record { before_it = was.before; was = was.was; asked = f.asks ∙ ap asks here; finds = subst (λ (y : coord.Coordinating). FindsGone e.found was.before was.before.stage y) (sym was.now) (leads.finds_gone was.before e.found busy) }
 
     below_next : (c : coord.Coordinating) → state (e ∷ es) (acks_of l) ≡ actor.Leads c → (a : ℕ) → a < acks_of l → a < gone_to c.stage → words (e ∷ es) (cell.Ack a) ≡ GONE
     below_next c is a m g = go (e.actor == acks_of l) refl where
@@ -274,4 +238,4 @@ module _ {P O : Type 0} (l : Layout) (k : Kind P O) (pacing : Pacing) (may : ℕ
 
     pub follows : ((c : coord.Coordinating) → state es (acks_of l) ≡ actor.Leads c → c.layout ≡ l) →
         ((a : ℕ) (w : worker.Working) → a < acks_of l → state es a ≡ actor.Marks w → w.stage ≡ work.LoadPhase → IsCurrent (last_phase es) (words es) w.view) → Ends (e ∷ es)
-    follows layout_is current = record { seats = seats_next; below = below_next; last = last_next layout_is; leaves = leaves_next; marks = marks_next current }
+    follows layout_is current = record { below = below_next; last = last_next layout_is; leaves = leaves_next; marks = marks_next current }

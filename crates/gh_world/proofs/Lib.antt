@@ -1,5 +1,4 @@
 pub mod Vocabulary
-pub mod Polling
 pub mod Knowing
 pub mod LastCycle
 pub mod CycleMarking

@@ -71,4 +71,4 @@ module _ (p : Program) (l : Layout) (formed : WellFormed p) (lays : LaysOut p l)
       let come : turns_of p a ≡ reverse (begun_in fs) ++ o ∷ to_come p a new = turns ∙ ap (λ (os : List Op). reverse (begun_in fs) ++ os) follows.come in
       let may : may_begin (arena_of p.shapes l) (wishes_of p) a (state_of (processor_kind p.shapes l) a fs) fs o ≡ true =
       both_true _ _ (both_true _ _ (both_true _ _ (both_true _ _ (both_true _ _ (both_true _ _ (both_true _ _ ranged (of_it t o stands due)) names) (not_true _ runs_on)) (not_true _ stays)) (more_of fs o (to_come p a new) come)) (leaves_so fs o new come (follows.leaves ∙ sym (leaves_is o)))) (subst (λ (n : Processor). has_room n o ≡ true) (own es) room) in
-      (ap (λ (x : Actor Processor). (setting_of p l).kind.busy x) (is_processor p l a seat es) ∙ idle, may)
+      (ap (λ (x : Actor). (setting_of p l).kind.busy x) (is_processor p l a seat es) ∙ idle, may)

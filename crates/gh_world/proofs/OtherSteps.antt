@@ -67,7 +67,7 @@ module _ (p : Program) (l : Layout) where
 
       works_on : (j : ℕ) (y : worker.Working) → slice_get (set workers i next) j ≡ Some y → actor_after p l (work_entry ∷ es) (l.procs + j) ≡ actor.Marks y
       works_on = each_set (λ (j : ℕ) (y : worker.Working). actor_after p l (work_entry ∷ es) (l.procs + j) ≡ actor.Marks y) workers i x next is
-          (own_at (l.procs + i) (l.procs + i) (found_by list (worker.asks x)) (worker.asks x) es refl ∙ ap (λ (n : Actor Processor). (setting_of p l).kind.takes n (found_by list (worker.asks x))) (h.marking i x is))
+          (own_at (l.procs + i) (l.procs + i) (found_by list (worker.asks x)) (worker.asks x) es refl ∙ ap (λ (n : Actor). (setting_of p l).kind.takes n (found_by list (worker.asks x))) (h.marking i x is))
           (λ j y apart e. other_at (l.procs + i) (l.procs + j) (found_by list (worker.asks x)) (worker.asks x) es (λ q. apart (omega (arith, q))) ∙ h.marking j y e)
 
       pub worked : After p l (changed (request l (worker.asks x)) list) runners (set workers i next) c points (work_entry ∷ es)
@@ -80,9 +80,9 @@ module _ (p : Program) (l : Layout) where
               h.legal,
               record {
                 actor = omega (arith, few);
-                begins = ap (λ (n : Actor Processor). (setting_of p l).kind.busy n) mine ∙ busy;
-                runs = ap (λ (n : Actor Processor). (setting_of p l).kind.busy n) mine ∙ busy;
-                asks = sym (ap (λ (n : Actor Processor). (setting_of p l).kind.asks n) mine);
+                begins = ap (λ (n : Actor). (setting_of p l).kind.busy n) mine ∙ busy;
+                runs = ap (λ (n : Actor). (setting_of p l).kind.busy n) mine ∙ busy;
+                asks = sym (ap (λ (n : Actor). (setting_of p l).kind.asks n) mine);
                 within = within;
                 found = step.found;
               },
@@ -96,7 +96,7 @@ module _ (p : Program) (l : Layout) where
           }
 
       pub work_says : done_or (worker.gives x (found_by list (worker.asks x))) event.Moved ≡ event_of p l es work_entry
-      work_says = ap (λ (n : Actor Processor). event_by (now_in (work_entry ∷ es)) n (found_by list (worker.asks x))) (sym (h.marking i x is))
+      work_says = ap (λ (n : Actor). event_by (now_in (work_entry ∷ es)) n (found_by list (worker.asks x))) (sym (h.marking i x is))
 
       pub work_tells : (happened : Event) → happened ≡ done_or (worker.gives x (found_by list (worker.asks x))) event.Moved → answered_in happened ≡ with_goroutine (now_in (work_entry ∷ es)).0 (answer_in p.shapes l es work_entry)
       work_tells happened says = ap answered_in says ∙ no_answer (worker.gives x (found_by list (worker.asks x))) None ∙ none_answered (l.procs + i) (found_by list (worker.asks x)) (worker.asks x) (omega arith) es h.legal
@@ -122,9 +122,9 @@ module _ (p : Program) (l : Layout) where
               h.legal,
               record {
                 actor = omega arith;
-                begins = ap (λ (n : Actor Processor). (setting_of p l).kind.busy n) mine ∙ busy;
-                runs = ap (λ (n : Actor Processor). (setting_of p l).kind.busy n) mine ∙ busy;
-                asks = sym (ap (λ (n : Actor Processor). (setting_of p l).kind.asks n) mine);
+                begins = ap (λ (n : Actor). (setting_of p l).kind.busy n) mine ∙ busy;
+                runs = ap (λ (n : Actor). (setting_of p l).kind.busy n) mine ∙ busy;
+                asks = sym (ap (λ (n : Actor). (setting_of p l).kind.asks n) mine);
                 within = within;
                 found = step.found;
               },
@@ -133,12 +133,12 @@ module _ (p : Program) (l : Layout) where
             many = h.many;
             running = runners_stay (acks_of l) behind (found_by list (coord.asks c)) (coord.asks c);
             marking = marks_on many;
-            coordinator = own_at (acks_of l) (acks_of l) (found_by list (coord.asks c)) (coord.asks c) es refl ∙ ap (λ (n : Actor Processor). (setting_of p l).kind.takes n (found_by list (coord.asks c))) mine;
+            coordinator = own_at (acks_of l) (acks_of l) (found_by list (coord.asks c)) (coord.asks c) es refl ∙ ap (λ (n : Actor). (setting_of p l).kind.takes n (found_by list (coord.asks c))) mine;
             pointed = h.pointed ∙ same_points (acks_of l) (found_by list (coord.asks c)) (coord.asks c) behind es h.legal;
           }
 
       pub lead_says : done_or (coord.gives c (found_by list (coord.asks c))) (told_event (coord.told_at c.cycles c.stage)) ≡ event_of p l es lead_entry
-      lead_says = ap (λ (n : Actor Processor). event_by (now_in (lead_entry ∷ es)) n (found_by list (coord.asks c))) (sym h.coordinator)
+      lead_says = ap (λ (n : Actor). event_by (now_in (lead_entry ∷ es)) n (found_by list (coord.asks c))) (sym h.coordinator)
 
       pub lead_tells : (happened : Event) → happened ≡ done_or (coord.gives c (found_by list (coord.asks c))) (told_event (coord.told_at c.cycles c.stage)) → answered_in happened ≡ with_goroutine (now_in (lead_entry ∷ es)).0 (answer_in p.shapes l es lead_entry)
       lead_tells happened says = ap answered_in says ∙ no_answer (coord.gives c (found_by list (coord.asks c))) (coord.told_at c.cycles c.stage) ∙ none_answered (acks_of l) (found_by list (coord.asks c)) (coord.asks c) (omega arith) es h.legal

@@ -91,14 +91,13 @@ pub use Rattle.gh_coord.specs.declared.watch.Watched.{Watched}
 pub use Rattle.gh_coord.specs.declared.watch.Watched.TheVariants.{All, NotYet}
 pub use Rattle.gh_world.specs.Actors.{EndsMarked, IsEnding, IsMarkedObject, IsStepIn}
 pub use Rattle.gh_world.specs.ActorsHold.{EndedSo, HasCursor, Holds, HoldsAt, is_last_task, IsAsItShould, IsHeapOf, IsInCycle, IsJustSwept, IsKnown, IsQuiet, IsReady, IsSweeping, IsTelling, processor_at, SweepsAll, uncounted, WasSo}
-pub use Rattle.gh_world.specs.ActorsMark.{IsMeant, Knows, Sound}
-pub use Rattle.gh_world.specs.Handshake.{actors, AreParties, is_busy, KeepsIt, place_of, StepKeepsIt, WaitsWithNone}
+pub use Rattle.gh_world.specs.Handshake.{actors, is_busy, KeepsIt, place_of, StepKeepsIt, those, WaitsWithNone}
 pub use Rattle.gh_world.specs.HoldVocabulary.{acks_of, actors_after, alloc_words, Answer, Arena, arena, AreWords, birth_words, By, Coordinating, CoordStage, Cycle, CycleEnd, deeds, ended_in, EndsAllMarked, EndsCycle, Entry, Ever, ever, Fine, Good, Heap, IsBeginning, IsBounded, IsDrawnSo, IsInLimits, IsLed, IsMade, IsOf, IsSound, IsStartOf, IsToBegin, Layout, LeavesTheReached, Legal, mark_words, MarkFacts, Marking, MarksNothing, may_of, Name, NewStage, only_polls, Op, Pacing, page_of, page_words, Placed, placed, Processor, processor_kind, Reach, Right, Shape, ShapesAreGood, slot_row, Spans, stage_of, started, state_of, SweepsBeside, Task, view, Words, words}
-pub use Rattle.gh_world.specs.Marking.{EndsClean, IsChecked, MarksToTheEnd, MayBegin, PollsByMoves, WasMarked}
-pub use Rattle.gh_world.specs.Numbers.{ahead_at, asked_after, Begun, Checked, close_part, CountsCycles, Ended, generation_of, IsFew, Numbered, opened_after, opened_in, Outside, Part, part_of, WritesNoNumbers}
+pub use Rattle.gh_world.specs.Marking.{EndsClean, IsChecked}
+pub use Rattle.gh_world.proofs.CycleMarking.Asked.{Knows, MarksToTheEnd, MayBegin, StepsByMoves, WasMarked}
+pub use Rattle.gh_world.specs.Numbers.{ahead_at, asked_after, Begun, Checked, close_part, CountsCycles, Ended, generation_of, IsFew, Numbered, opened_after, opened_in, Outside, Part, part_of}
 pub use Rattle.gh_world.specs.Order.{begun_in, ends, has_left, in_range, leaves}
 pub use Rattle.gh_world.specs.Processors.{all_ended, IsFullFor, IsPlacedAt, may_leave}
-pub use Rattle.gh_world.specs.Those.{those}
 pub use Rattle.gh_world.specs.Turns.{Follows, goroutine_at, is_leave, is_over, is_unacted, later, MayBeOver, op_due, statements_among, to_come, total_of}
 unfoldable pub use Rattle.gh_world.specs.Turns.{turns_of}
 pub use Rattle.gh_world.specs.Vocabulary.{Act, acted, acting, Actor, acts, acts_at, answer_at, Answered, answered_by, asks, At, Begins, begins, begins_at, bit, by, cache_span, cell_of, changed, Ends, Event, ever_after, EverValue, follows, Found, gives_at, Global, GlobalStage, GoesOn, has_left_at, has_names, has_point, Head, InRange, is_busy_at, is_leaving, is_point, is_statement, Kind, made_by, Mutating, Next, op_at, opening_processor, OpenStage, Party, Place, PlaceStage, Placing, Program, Progress, Register, register_of, REGISTERS, request, Search, Source, SpanHead, Stage, statement_answer, StepsAreShown, takes, takes_at, target, Then, Value, Wait, Wanted, WellFormed, words_after}

@@ -121,7 +121,7 @@ module _ (p : Program) (l : Layout) (runnable : WellFormed p) (laid : LaysOut p 
 
   begins_next : OwnEntries → (es : List (Entry Op)) (t : Progress) (b : Option Op) (new : Next) → Knows (state_of (processor_kind p.shapes l) a es) t b new → turns_of p a ≡ reverse (begun_in (by a es)) ++ to_come p a t.next →
       ((g : ℕ) → ended_in (by a es) g ≡ true → MayBeOver p t.next g) → (has_left (by a es) ≡ true → is_over t.next ≡ true) → Begins (setting_of p l) a es b
-  begins_next own es t None new k turns over left = ap (λ (x : Actor Processor). (setting_of p l).kind.busy x) (is_processor p l a seat es) ∙ k.busy
+  begins_next own es t None new k turns over left = ap (λ (x : Actor). (setting_of p l).kind.busy x) (is_processor p l a seat es) ∙ k.busy
   begins_next own es t (Some o) new k turns over left =
       let due = due_at (state_of (processor_kind p.shapes l) a es) t.next (Some o) o k.is refl in
       due_begins p l runnable laid a seat own es t.next o new t.stated due.0 due.1 k.goes k.made k.stands k.all turns over left (k.room o refl)
@@ -171,7 +171,7 @@ module _ (p : Program) (l : Layout) (runnable : WellFormed p) (laid : LaysOut p 
   Goes list runners workers c points es marks t b new m =
       After p l (changed (request l (asks (begun m b))) list) (set runners a (runner_then list m marks t b new)) workers c (points ++ next_point (is_point (acts (begun m b) (found_at list (begun m b)))) (now_then t b)) (entry_of list m b ∷ es)
 
-  apart : (e : Entry Op) (es : List (Entry Op)) (c : ℕ) → (e.actor ≡ c → ⊥) → {x : Actor Processor} → actor_after p l es c ≡ x → actor_after p l (e ∷ es) c ≡ x
+  apart : (e : Entry Op) (es : List (Entry Op)) (c : ℕ) → (e.actor ≡ c → ⊥) → {x : Actor} → actor_after p l es c ≡ x → actor_after p l (e ∷ es) c ≡ x
   apart e es c differ is = let other : eqb e.actor c ≡ false = false_unless (eqb e.actor c) (λ t. differ (eqb-true e.actor c t)) in rw other is
 
   follows_at : OwnEntries → StepsAreShown l → (list : List ℕ) (runners : List Runner) (workers : List worker.Working) (c : coord.Coordinating) (points : List (ℕ × ℕ)) (es : List (Entry Op)) → After p l list runners workers c points es →
@@ -188,8 +188,8 @@ module _ (p : Program) (l : Layout) (runnable : WellFormed p) (laid : LaysOut p 
           record {
             actor = omega (arith, seat);
             begins = begins_next own es t b new k r.turns r.ended r.left;
-            runs = ap (λ (x : Actor Processor). (setting_of p l).kind.busy x) (runs_so es b) ∙ k.busy;
-            asks = sym (ap (λ (x : Actor Processor). (setting_of p l).kind.asks x) (runs_so es b));
+            runs = ap (λ (x : Actor). (setting_of p l).kind.busy x) (runs_so es b) ∙ k.busy;
+            asks = sym (ap (λ (x : Actor). (setting_of p l).kind.asks x) (runs_so es b));
             within = k.within;
             found = step.found;
           },
@@ -217,7 +217,7 @@ module _ (p : Program) (l : Layout) (runnable : WellFormed p) (laid : LaysOut p 
       let m = state_of (processor_kind p.shapes l) a es in
       let now = same ∙ sym (ap statement_now (its_next list m b es)) in
       ap (λ (x : ℕ × ℕ). event_at x (is_last (begun m b).task) (statement_answer (begun m b) (found_at list (begun m b)))) now
-      ∙ ap (λ (x : Actor Processor). event_by (now_by a (entry_of list m b ∷ es)) x (found_at list (begun m b))) (sym (runs_so es b))
+      ∙ ap (λ (x : Actor). event_by (now_by a (entry_of list m b ∷ es)) x (found_at list (begun m b))) (sym (runs_so es b))
 
   pub says : (list : List ℕ) (es : List (Entry Op)) (shapes : List Shape) (m : Processor) (marks : ℕ) (t : Progress) (b : Option Op) (new : Next) → IsRunnerAt p l a (runner_of shapes m marks t) es → Knows m t b new →
       event_at (now_then t b) (is_last (begun m b).task) (statement_answer (begun m b) (found_at list (begun m b))) ≡ event_of p l es (entry_of list m b)
@@ -232,7 +232,7 @@ module _ (p : Program) (l : Layout) (runnable : WellFormed p) (laid : LaysOut p 
       let m = begun n b in
       let found = found_at list m in
       let now = now_in (entry_of list n b ∷ es) in
-      ap (λ (x : Actor Processor). answered_in (event_by now x found)) (runs_so es b) ∙ told_at now m.task (gives_at m m.task found)
+      ap (λ (x : Actor). answered_in (event_by now x found)) (runs_so es b) ∙ told_at now m.task (gives_at m m.task found)
 
   pub tells : (list : List ℕ) (m : Processor) (es : List (Entry Op)) (b : Option Op) → m ≡ state_of (processor_kind p.shapes l) a es → answered_in (event_of p l es (entry_of list m b)) ≡ with_goroutine (now_in (entry_of list m b ∷ es)).0 (answer_in p.shapes l es (entry_of list m b))
   tells list m es b is = subst Goal (sym is) (tells_at list es b) where

@@ -20,8 +20,7 @@ use Rattle.gh_mutator.specs.Facts.{ShapesAreGood}
 use Rattle.gh_sweep.specs.Counts.{AreWords, count_below, is_set, marked_objects, unmarked_objects}
 use Rattle.gh_sweep.specs.Shared.{placed}
 use Rattle.gh_world.specs.Drawn.{CycleIsDrawn}
-use Rattle.gh_world.specs.Handshake.{Pacing}
-use Rattle.gh_world.specs.Those.{those}
+use Rattle.gh_world.specs.Handshake.{Pacing, those}
 use Rattle.gh_world.specs.Marking.{EndsClean, IsBeginning, IsInLimits, IsLedBy, IsStartOf, IsStateOf}
 use Rattle.gh_world.specs.Processors.{arena_of, ever_after_list, IsPlacedAt, ListStands, may_begin}
 use Rattle.gh_world.specs.Wants.{total}
@@ -63,7 +62,7 @@ module _ (shapes : List Shape) (l : Layout) (pacing : Pacing) (may : ℕ → Lis
   ever es = ever_after_list arena (opening_words pacing.trigger) es
 
   abbrev pub IsLed : List (Entry Op) → Coordinating → Type 0
-  IsLed es c = IsLedBy arena (processor_kind shapes l) pacing may es c
+  IsLed es c = IsLedBy arena pacing may es c
 
   -- The entry behind this list is the coordinator's, at such a stage of this cycle.
   pub record IsStepIn (at : CoordStage → Type 0) (k : ℕ) (e : Entry Op) (es : List (Entry Op)) : Type 0 where
@@ -102,7 +101,7 @@ module _ (shapes : List Shape) (l : Layout) (pacing : Pacing) (may : ℕ → Lis
   pub record EndsMarked (es : List (Entry Op)) (c : Coordinating) : Type 0 where
     pub cycle : Cycle
     pub shared : Shared
-    pub is : IsStateOf arena (processor_kind shapes l) pacing may es c cycle shared
+    pub is : IsStateOf arena pacing may es c cycle shared
     pub clean : EndsClean cycle shared
     pub reached : (n : Name) → Reach (ever es) n → IsMarkedObject (words es) n
     pub begun : List (Entry Op)

@@ -1,6 +1,6 @@
 -- A cycle in the picture of the argument for the write barrier (`gh_tri`): from where it begins on, each step of the list, of whichever actor, is a list of moves of the picture, each of which may be made, and of changes of registers.
 use Rattle.std.specs.Prelude.{◌≡◌, ℕ, ◌+◌, ◌≤◌, Bool, List, ◌∷◌}
-use Rattle.gh_world.specs.Vocabulary.{Coordinating, Entry, Layout, Op, opening_words, processor_kind, Shape, Words, words_after}
+use Rattle.gh_world.specs.Vocabulary.{Coordinating, Entry, Layout, Op, opening_words, Shape, Words, words_after}
 use Rattle.gh_base.specs.Rows.{Row}
 use Rattle.gh_tri.specs.Invariants.{Invariants, IsMarkingDone, IsOpening}
 use Rattle.gh_tri.specs.Steps.{Goes}
@@ -22,7 +22,7 @@ module _ (shapes : List Shape) (l : Layout) (pacing : Pacing) (may : ℕ → Lis
   -- with the next entry cycle k begins
   pub record IsToBegin (es : List (Entry Op)) (k : ℕ) : Type 0 where
     pub lead : Coordinating
-    pub led : IsLedBy (arena_of shapes l) (processor_kind shapes l) pacing may es lead
+    pub led : IsLedBy (arena_of shapes l) pacing may es lead
     pub stage : IsBeginning lead.stage
     pub cycle : lead.begun ≡ k
 
@@ -43,7 +43,7 @@ module _ (shapes : List Shape) (l : Layout) (pacing : Pacing) (may : ℕ → Lis
   pub record CycleIsDrawn (es : List (Entry Op)) (c : Coordinating) : Type 0 where
     pub cycle : Cycle
     pub shared : Marking
-    pub is : IsStateOf (arena_of shapes l) (processor_kind shapes l) pacing may es c cycle shared
+    pub is : IsStateOf (arena_of shapes l) pacing may es c cycle shared
     pub picture : Tricolour
     pub drawing : Drawing cycle es shared picture
     pub invariants : Invariants picture

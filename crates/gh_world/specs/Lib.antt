@@ -1,6 +1,5 @@
 pub mod Actors
 pub mod ActorsHold
-pub mod ActorsMark
 pub mod Cycles
 pub mod Drawn
 pub mod Handshake
@@ -9,12 +8,10 @@ pub mod Marking
 pub mod Numbers
 pub mod Order
 pub mod Points
-pub mod Pollers
 pub mod Processors
 pub mod RunVocabulary
 pub mod Runs
 pub mod Schedule
-pub mod Those
 pub mod Turns
 pub mod Vocabulary
 pub mod Waits

@@ -1,8 +1,7 @@
--- The numbers of cycles over every legal list of processors of any kind, workers and the coordinator: in the words, with the coordinator, and in its list of cycles.
+-- The numbers of cycles over every legal list of all actors: in the words, with the coordinator, and in its list of cycles.
 use Rattle.std.specs.Prelude.{◌≡◌, ℕ, suc, ◌+◌, ◌*◌, ◌^◌, ◌≤◌, ◌<◌, ◌⊎◌, ◌↔◌, Bool, true, false, if◌then◌else◌, min, List, [], ◌∷◌, length, slice_get, Some}
 use Rattle.gh_base.specs.declared.cell.Ask.{Ask}
-use Rattle.gh_base.specs.declared.cell.Ask.TheVariants.{Load, Store, Or, And, Add, Swap}
-use Rattle.gh_base.specs.declared.cell.Cell.{Cell}
+use Rattle.gh_base.specs.declared.cell.Ask.TheVariants.{Store, Or}
 use Rattle.gh_base.specs.declared.cell.Cell.TheVariants as cell
 use Rattle.gh_base.specs.Packing.{tally_of}
 use Rattle.gh_coord.specs.declared.close.CloseStage.{CloseStage}
@@ -13,39 +12,9 @@ use Rattle.gh_coord.specs.declared.tell.TellStage.{TellStage}
 use Rattle.gh_coord.specs.declared.tell.TellStage.TheVariants as tell_stage
 use Rattle.gh_coord.specs.Handshake as leading
 use Rattle.gh_world.specs.declared.handshake.Actor.TheVariants as actor
-use Rattle.gh_world.specs.Handshake.{AreParties, heap, Pacing}
+use Rattle.gh_world.specs.Handshake.{Pacing, those}
 use Rattle.gh_world.specs.Marking.{IsBeginning}
-use Rattle.gh_world.specs.Vocabulary.{acks_of, Actor, CoordStage, Coordinating, Cycle, cycle_of, Entry, Kept, Kind, Layout, Legal, OpenStage, Party, Setting, Stage, state_of, Words, words_after}
-
--- What is asked of processors.
-
--- none of the words of a cycle: its phase, its numbers and the request for one, the cursor, what the sweep counts, and the pacing
-abbrev pub IsNoNumber : Cell → Type 0
-IsNoNumber cell.Phase = ⊥
-IsNoNumber cell.Gen = ⊥
-IsNoNumber cell.Begun = ⊥
-IsNoNumber cell.Swept = ⊥
-IsNoNumber cell.Want = ⊥
-IsNoNumber cell.Bank = ⊥
-IsNoNumber cell.Gcur = ⊥
-IsNoNumber cell.Trigger = ⊥
-IsNoNumber cell.Work = ⊥
-IsNoNumber cell.Slack = ⊥
-IsNoNumber cell.Tally = ⊥
-IsNoNumber cell.Live = ⊥
-IsNoNumber _ = Unit {0}
-
--- a step that writes none of them, but that it may ask for a cycle
-abbrev pub LeavesNumbers : Ask → Type 0
-LeavesNumbers (Load c) = Unit {0}
-LeavesNumbers (Store c value) = IsNoNumber c
-LeavesNumbers (Or c bits) = IsNoNumber c ⊎ ((c ≡ cell.Want) × (bits ≡ 1))
-LeavesNumbers (And c bits) = IsNoNumber c
-LeavesNumbers (Add c more) = IsNoNumber c
-LeavesNumbers (Swap c old new) = IsNoNumber c
-
-pub record WritesNoNumbers {P O : Type 0} (k : Kind P O) (sound : P → Type 0) : Type 0 where
-  pub leaves : (m : P) → sound m → k.busy m ≡ true → LeavesNumbers (k.asks m)
+use Rattle.gh_world.specs.Vocabulary.{acks_of, Actor, CoordStage, Coordinating, Cycle, cycle_of, Entry, Kept, Layout, Legal, Op, OpenStage, Setting, Shape, state_of, Words, words_after}
 
 -- Where the coordinator is in a cycle.
 
@@ -174,21 +143,20 @@ opened_after ask before = if opens_one ask then suc before else before
 abbrev pub asked_after : Ask → (before : ℕ) → ℕ
 asked_after ask before = if asks_for_one ask then suc before else before
 
-module _ {O : Type 0} where
-  abbrev pub opened_in : List (Entry O) → ℕ
-  opened_in [] = 0
-  opened_in (e ∷ es) = opened_after e.ask (opened_in es)
+abbrev pub opened_in : List (Entry Op) → ℕ
+opened_in [] = 0
+opened_in (e ∷ es) = opened_after e.ask (opened_in es)
 
-  abbrev pub asked_in : List (Entry O) → ℕ
-  asked_in [] = 0
-  asked_in (e ∷ es) = asked_after e.ask (asked_in es)
+abbrev pub asked_in : List (Entry Op) → ℕ
+asked_in [] = 0
+asked_in (e ∷ es) = asked_after e.ask (asked_in es)
 
-  -- so few that no number begins anew
-  abbrev pub IsFew : List (Entry O) → Type 0
-  IsFew es = opened_in es + 2 ≤ 2 ^ 33
+-- so few that no number begins anew
+abbrev pub IsFew : List (Entry Op) → Type 0
+IsFew es = opened_in es + 2 ≤ 2 ^ 33
 
 -- What every legal list keeps, as long as the cycles are so few.
-module _ {P O : Type 0} (s : Setting (Actor P) O) (room : ℕ) (es : List (Entry O)) (c : Coordinating) where
+module _ (s : Setting Actor Op) (room : ℕ) (es : List (Entry Op)) (c : Coordinating) where
   abbrev words : Words
   words = words_after s.opening es
 
@@ -212,7 +180,6 @@ module _ {P O : Type 0} (s : Setting (Actor P) O) (room : ℕ) (es : List (Entry
     -- the last cycle, where there is room for it, is as the word says
     pub tally : (n : ℕ) → IsTallyCounted (part_of c.stage) → suc n ≡ words cell.Swept + ahead.kept → n < room → slice_get c.cycles.items n ≡ Some (cycle_of (suc n) (tally_of (words cell.Tally)))
 
-module _ {P : Type 0} (O : Type 0) (sound : Layout → P → Type 0) (party : P → Party) (stage : P → Stage) where
-  abbrev pub EveryListCountsCycles : Type 0
-  EveryListCountsCycles = (l : Layout) (k : Kind P O) (pacing : Pacing) (may_begin : ℕ → List (Entry O) → O → Bool) → AreParties l k (sound l) party stage → WritesNoNumbers k (sound l) →
-      (es : List (Entry O)) (c : Coordinating) → Legal (heap l k pacing may_begin) es → IsFew es → state_of (heap l k pacing may_begin).kind (acks_of l) es ≡ actor.Leads c → CountsCycles (heap l k pacing may_begin) pacing.room es c
+abbrev pub EveryListCountsCycles : Type 0
+EveryListCountsCycles = (shapes : List Shape) (l : Layout) (pacing : Pacing) (may_begin : ℕ → List (Entry Op) → Op → Bool) (es : List (Entry Op)) (c : Coordinating) →
+    Legal (those shapes l pacing may_begin) es → IsFew es → state_of (those shapes l pacing may_begin).kind (acks_of l) es ≡ actor.Leads c → CountsCycles (those shapes l pacing may_begin) pacing.room es c

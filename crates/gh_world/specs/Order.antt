@@ -12,7 +12,7 @@ use Rattle.gh_base.specs.Lists.{started, state_of}
 use Rattle.gh_model.specs.Ever.{Ever, opening_ever}
 use Rattle.gh_mutator.specs.declared.processor.Processor.{Processor}
 use Rattle.gh_mutator.specs.Deeds.{acted, answer_at, processor_kind}
-use Rattle.gh_mutator.specs.Listing.{gives, acts, Act}
+use Rattle.gh_mutator.specs.Listing.{acts, Act}
 
 -- What an operation needs: a goroutine that there is and that has not ended, registers, a global and a type in range; nothing after the processor has left.
 
@@ -109,8 +109,3 @@ module _ (shapes : List Shape) (l : Layout) where
 
   abbrev pub acted_at : (a : ℕ) → List (Entry Op) → List Answered
   acted_at a es = reverse (order_at a es)
-
-  -- what the processors answered
-  abbrev pub given_in : List (Entry Op) → List Answer
-  given_in [] = []
-  given_in (e ∷ es) = option_to_list (gives (before_step es e) e.found) ++ given_in es

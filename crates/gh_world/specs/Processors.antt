@@ -1,7 +1,7 @@
 -- Lists of steps of any number of processors over one heap, the newest first: which are legal, and what every legal one keeps.
 use Rattle.std.specs.Prelude.{◌≡◌, ◌≢◌, ℕ, zero, suc, ◌+◌, ◌%◌, ◌<◌, ◌≤◌, nat_lt, Bool, true, false, not, ◌==◌, ◌&&◌, ◌||◌, if◌then◌else◌, ◌⊎◌, List, [], ◌∷◌, ◌++◌, length, map, Option, Some, None}
 use Rattle.std.specs.Option.{option_to_list}
-use Rattle.gh_world.specs.Vocabulary.{Act, Answer, Answered, answered_by, Arena, cached_for, deeds, Entry, Ever, given_by, has_names, Head, Holds, IsFull, IsOf, IsSpan, Layout, meaning, model_after, Name, Op, page_of, Placed, Processor, processor_kind, Reach, register_of, REGISTERS, row_bit, Setting, Shape, shape_at, size_for, Sought, sought_for, span_for, SpanHead, state_of, Words, words_after}
+use Rattle.gh_world.specs.Vocabulary.{Act, Answer, Answered, answered_by, Arena, cached_for, deeds, Entry, Ever, given_by, has_names, Head, Holds, IsFull, IsOf, IsSpan, Layout, meaning, model_after, Name, Op, page_of, Placed, Processor, processor_kind, Reach, register_of, REGISTERS, row_bit, Shape, shape_at, size_for, Sought, sought_for, span_for, SpanHead, state_of, Words, words_after}
 use Rattle.gh_base.specs.declared.cell.Cell.TheVariants as cell
 use Rattle.gh_base.specs.declared.operation.Op.TheVariants as op
 use Rattle.gh_base.specs.declared.pack.PageWord.TheVariants.{Free}
@@ -15,7 +15,7 @@ use Rattle.gh_world.specs.Order.{ended_in, goroutine_of, has_left, in_range, is_
 
 -- goroutine i is of processor i modulo their number; spans are given back whether or not each slot is taken
 abbrev pub arena_of : List Shape → Layout → Arena
-arena_of shapes l = record { layout = l; shapes = shapes; seat_of = λ g. g % l.procs; full_only = false }
+arena_of shapes l = record { layout = l; shapes = shapes; seat_of = λ g. g % l.procs }
 
 -- Which operations may begin, by an actor's own entries: of a goroutine of this processor that has not ended; with registers, global and type in range; fewer `new` and `gc` of a goroutine than it has; no goroutine left before the leave; nothing after it; and a store where there is room for the two entries of its write barrier, as a poll sees to it.
 
@@ -54,18 +54,6 @@ may_run z a m es o = in_range z.layout.goroutines z.layout.globals (length z.sha
 
 abbrev pub may_begin : Arena → (counts : ℕ → ℕ) → (a : ℕ) → Processor → List (Entry Op) → Op → Bool
 may_begin z counts a m es o = may_run z a m es o && not (has_left es) && has_more counts es o && may_leave z a es o && has_room m o
-
--- what a list is of: the processors of a heap, each at its seat
-abbrev pub setting : Arena → (counts : ℕ → ℕ) → Words → Setting Processor Op
-setting z counts opening = record {
-  kind = processor_kind z.shapes z.layout;
-  layout = z.layout;
-  actors = z.layout.procs;
-  opening = opening;
-  may_begin = λ a es o. may_begin z counts a (state_of (processor_kind z.shapes z.layout) a es) es o;
-}
-
--- The words stand for the heap that never frees.
 
 -- an object of this name is placed at heap word a
 abbrev pub IsPlacedAt : Words → Name → (a : ℕ) → Type 0

@@ -1,7 +1,7 @@
 -- Whole runs: a list of the steps of all actors in which each processor's operations are its turns, and at whose end all are done; and what such a list says of a script's answers, its cycles and what is live.
 use Rattle.std.specs.Prelude.{◌≡◌, ℕ, ◌+◌, ◌<◌, ◌≤◌, Bool, true, false, List, [], ◌∷◌, ◌++◌, length, map, reverse, slice_get, Option, Some, None}
 use Rattle.std.specs.List.{filter}
-use Rattle.gh_world.specs.Vocabulary.{acts, AllAnswer, Answer, answers_by, Entry, Layout, Legal, Op, opening_ever, Processor, Program, state_of, statements_of, WellFormed, Words, words_after}
+use Rattle.gh_world.specs.Vocabulary.{acts, AllAnswer, Answer, answers_by, Entry, Layout, Legal, Op, opening_ever, Program, state_of, statements_of, WellFormed, Words, words_after}
 use Rattle.gh_base.specs.declared.cell.Cell.TheVariants as cell
 use Rattle.gh_base.specs.Lists.{by}
 use Rattle.gh_base.specs.declared.operation.Op.TheVariants as op
@@ -25,10 +25,6 @@ module _ (p : Program) (l : Layout) where
   -- the words after the list
   abbrev pub words_in : List (Entry Op) → Words
   words_in es = words_after (setting_of p l).opening es
-
-  -- the processor at seat a after the list
-  abbrev pub processor_after : (a : ℕ) → List (Entry Op) → Processor
-  processor_after a es = state_of (processor_kind p.shapes l) a es
 
   -- the actor has ended after the list
   abbrev pub has_ended_in : List (Entry Op) → ℕ → Type 0

@@ -5,14 +5,13 @@ use Rattle.gh_base.specs.declared.machine.Entry.{Entry}
 use Rattle.gh_base.specs.declared.operation.Op.{Op}
 use Rattle.gh_base.specs.Lists.{Setting, state_of}
 use Rattle.gh_coord.specs.Listing as coord
-use Rattle.gh_mutator.specs.declared.processor.Processor.{Processor}
 use Rattle.gh_mutator.specs.Serving.{has_left_at}
 use Rattle.gh_worker.specs.Listing as worker
 use Rattle.gh_world.specs.declared.handshake.Actor.{Actor}
 use Rattle.gh_world.specs.declared.handshake.Actor.TheVariants.{Runs, Marks, Leads}
 
 -- the actor has no step left: the processor has left, the worker is gone, the last cycle is swept
-abbrev pub has_ended : Actor Processor → Bool
+abbrev pub has_ended : Actor → Bool
 has_ended (Runs m) = has_left_at m.task
 has_ended (Marks w) = not (worker.is_busy w.stage)
 has_ended (Leads c) = coord.is_done c.stage
@@ -34,7 +33,7 @@ turn_from ended n a = first_going ended (in_order_from a n)
 abbrev pub behind : (n a : ℕ) → ℕ
 behind n a = if nat_lt (a + 1) n then a + 1 else 0
 
-module _ (s : Setting (Actor Processor) Op) where
+module _ (s : Setting Actor Op) where
   -- the actor has ended after the list
   abbrev pub ended_after : List (Entry Op) → ℕ → Bool
   ended_after es a = has_ended (state_of s.kind a es)

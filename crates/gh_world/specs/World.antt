@@ -18,7 +18,7 @@ use Rattle.gh_world.specs.declared.handshake.Actor.TheVariants as actor
 use Rattle.gh_world.specs.declared.event.Event.TheVariants as event
 use Rattle.gh_world.specs.declared.runner.Runner.{Runner}
 use Rattle.gh_world.specs.declared.turns.Next.TheVariants as next
-use Rattle.gh_world.specs.Handshake.{heap, Pacing}
+use Rattle.gh_world.specs.Handshake.{Pacing, those}
 use Rattle.gh_world.specs.Order.{before_step, begun_in, ended_in, has_left}
 use Rattle.gh_world.specs.Processors.{arena_of, may_begin}
 use Rattle.gh_world.specs.Schedule.{ended_after, has_ended, turn_from}
@@ -36,8 +36,8 @@ abbrev pub may_begin_of : Program → Layout → ℕ → List (Entry Op) → Op 
 may_begin_of p l a es o = may_begin (arena_of p.shapes l) (wishes_of p) a (state_of (processor_kind p.shapes l) a es) es o
 
 -- what a list is of: the processors of a heap of this layout, its workers and the coordinator
-abbrev pub setting_of : Program → Layout → Setting (Actor Processor) Op
-setting_of p l = heap l (processor_kind p.shapes l) (pacing_of p) (may_begin_of p l)
+abbrev pub setting_of : Program → Layout → Setting Actor Op
+setting_of p l = those p.shapes l (pacing_of p) (may_begin_of p l)
 
 -- the layout is that of the script's settings
 abbrev pub LaysOut : Program → Layout → Type 0
@@ -62,7 +62,7 @@ done_or None other = other
 done_or (Some x) other = event.Finished
 
 -- what a step of this actor says that has found this
-abbrev pub event_by : ℕ × ℕ → Actor Processor → (found : ℕ) → Event
+abbrev pub event_by : ℕ × ℕ → Actor → (found : ℕ) → Event
 event_by now (actor.Runs m) found = event_at now (is_last m.task) (statement_answer m found)
 event_by now (actor.Marks w) found = done_or (worker.gives w found) event.Moved
 event_by now (actor.Leads c) found = done_or (coord.gives c found) (told_event (coord.told_at c.cycles c.stage))
@@ -105,7 +105,7 @@ module _ (shapes : List Shape) (l : Layout) where
 
 module _ (p : Program) (l : Layout) where
   -- the actor after the list
-  abbrev pub actor_after : List (Entry Op) → ℕ → Actor Processor
+  abbrev pub actor_after : List (Entry Op) → ℕ → Actor
   actor_after es a = state_of (setting_of p l).kind a es
 
   -- what the entry's step says
@@ -258,17 +258,17 @@ abbrev pub actors_of : State → ℕ
 actors_of w = length w.runners + length w.workers + 1
 
 -- the worker, or behind the last of them the coordinator
-abbrev pub worker_or : coord.Coordinating → Option worker.Working → Actor Processor
+abbrev pub worker_or : coord.Coordinating → Option worker.Working → Actor
 worker_or c (Some x) = actor.Marks x
 worker_or c None = actor.Leads c
 
 -- the processor, or behind the last of them who is at this place among the others
-abbrev pub runner_or : Actor Processor → Option Runner → Actor Processor
+abbrev pub runner_or : Actor → Option Runner → Actor
 runner_or other (Some x) = actor.Runs x.mutator.processor
 runner_or other None = other
 
 -- the actor of this number
-abbrev pub actor_of : State → ℕ → Actor Processor
+abbrev pub actor_of : State → ℕ → Actor
 actor_of w a = runner_or (worker_or w.coord (slice_get w.workers (a - length w.runners))) (slice_get w.runners a)
 
 -- the actor is done
@@ -284,7 +284,7 @@ abbrev pub AllDone : State → Type 0
 AllDone w = (a : ℕ) → a < actors_of w → is_done w a ≡ true
 
 -- an actor's marks: the statements answered, the words scanned, how often the phase word was stored
-abbrev pub marks_by : ℕ → Actor Processor → ℕ
+abbrev pub marks_by : ℕ → Actor → ℕ
 marks_by answered (actor.Runs m) = answered
 marks_by answered (actor.Marks w) = w.marks
 marks_by answered (actor.Leads c) = c.marks

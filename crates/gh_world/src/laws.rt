@@ -14,7 +14,6 @@ use gh_cycle::closing::slots_are_read;
 use gh_mutator::Processor;
 use gh_mutator::laws::{
     a_processor_writes_its_own, each_operation_acts_once, only_points_change, polls_make_room,
-    the_processor_keeps_the_handshake,
 };
 use gh_sweep::laws::set_bits_are_counted;
 use gh_worker::laws::a_worker_writes_its_own;
@@ -31,11 +30,10 @@ pub fn every_run_is_explained()
     every_list_of_actors_stands();
     each_operation_acts_once();
     only_points_change();
-    the_processor_keeps_the_handshake();
     a_processor_writes_its_own();
     a_worker_writes_its_own();
-    every_list_keeps_the_handshake::<Processor<'_>, Op>();
-    cycles_are_few::<Processor<'_>>();
+    every_list_keeps_the_handshake();
+    cycles_are_few();
     processors_begin_few();
     set_bits_are_counted();
     slots_are_read();

@@ -10,8 +10,8 @@
 //! settled by what the heap that never frees answers at that point: that heap has names and paths, and no
 //! pages, bits or slots, so that the two cannot be told apart is all that a script can ask for. `full` is
 //! answered where the search for a slot frees the lock with nothing found, once a cycle was waited for: the
-//! pass over the page words has met every span of the span class, each of them uncached and without a clear
-//! slot, and the search for fresh pages then found no run that is long enough.
+//! pass over the page words has met every span of the span class, each of them swept, and cached by another
+//! seat or without a clear slot, and the search for fresh pages then found no run that is long enough.
 //!
 //! Until the step that sets an object's allocation bit nothing refers to its slot, and from that step on
 //! all that a load of it reads is in place: its name, its pointer bits and its fields. So the words stand
@@ -28,9 +28,7 @@ mod actors;
 mod event;
 mod handshake;
 mod laws;
-mod marking;
 mod numbers;
-mod pollers;
 mod progress;
 mod runner;
 mod turns;
@@ -39,26 +37,15 @@ mod world;
 
 pub use actors::every_list_of_actors_stands;
 pub use event::{Event, Totals};
-pub use handshake::{
-    Actor, PartyToHandshake, every_list_keeps_the_handshake, every_step_keeps_the_handshake,
-};
+pub use handshake::{Actor, every_list_keeps_the_handshake, every_step_keeps_the_handshake};
 pub use laws::{
     a_script_has_one_run, every_run_is_explained, points_are_statements, runs_go_on,
     statements_are_enough,
 };
-pub use marking::{MarksBeside, every_list_marks};
 pub use numbers::{
     cycles_are_few, every_list_counts_cycles, every_list_counts_wants, every_list_numbers_stacks,
-    every_list_rests_workers, processors_begin_few, waits_see_a_cycle,
+    every_list_rests_workers, processors_begin_few,
 };
-pub use pollers::{Poller, pollers_keep_the_handshake};
 pub use turns::{Next, total_of};
 pub use wishes::most_cycles;
 pub use world::World;
-
-#[cfg(test)]
-mod cycle_lines;
-#[cfg(test)]
-mod cycle_tests;
-#[cfg(test)]
-mod tests;

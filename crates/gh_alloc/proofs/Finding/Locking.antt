@@ -18,7 +18,7 @@ use Rattle.gh_pages.specs.declared.carve.CarveStage.{CarveStage}
 use Rattle.gh_pages.specs.declared.carve.CarveStage.TheVariants as carve_stage
 use Rattle.gh_alloc.specs.Vocabulary.{Layout, Sought, Small, Large, CachedSpan, Found, After, Again, End, FindStage, Slots, Lock, Give, Pass, Carve, Unlock, Ended}
 use Rattle.gh_alloc.specs.Find.{Finding, after_carve, after_give, after_pass, after_slots, asks, asks_at, at_stage, begin, gives_at, goes_at, listing, locked_for, opening, searched, spans_for, taken_for, unlocked}
-use Rattle.gh_alloc.specs.Locking.{WritesWithTheLock, holds, lock_after}
+use Rattle.gh_alloc.specs.Locking.{holds, lock_after}
 
 abbrev pub has_lock : FindStage → Bool
 has_lock (Slots s) = false
@@ -100,64 +100,3 @@ step f (Pass m) w = pass_asks m m.stage true w ∙ sym (pass_with (at_stage f (P
 step f (Carve c) w = carve_asks c c.stage true w ∙ sym (carve_with (at_stage f (Carve (carve.goes c w))) (carve.gives c w) refl)
 step f (Unlock after) w = sym (unlocked_without f after)
 step f Ended w = refl
-
--- what it asks for at each stage
-slots_store : (s : slots.Searching) (p : SlotStage) (page word : ℕ) → slots.asks_at s p ≡ Store (cell.Page page) word → false ≡ true
-slots_store s slots_stage.Look page word e = absurd (cc)
-slots_store s slots_stage.Ended page word e = absurd (cc)
-
-pub store_with : (f : Finding) (p : FindStage) (page word : ℕ) → asks_at f p ≡ Store (cell.Page page) word → has_lock p ≡ true
-store_with f (Slots s) page word e = slots_store s s.stage page word e
-store_with f Lock page word e = absurd (cc)
-store_with f Ended page word e = absurd (cc)
-store_with f _ page word e = refl
-
-slots_free : (s : slots.Searching) (p : SlotStage) (word : ℕ) → slots.asks_at s p ≡ Store cell.Lock word → false ≡ true
-slots_free s slots_stage.Look word e = absurd (cc)
-slots_free s slots_stage.Ended word e = absurd (cc)
-
-pub free_with : (f : Finding) (p : FindStage) (word : ℕ) → asks_at f p ≡ Store cell.Lock word → has_lock p ≡ true
-free_with f (Slots s) word e = slots_free s s.stage word e
-free_with f Lock word e = absurd (cc)
-free_with f Ended word e = absurd (cc)
-free_with f _ word e = refl
-
-give_swap : (g : give.Giving) (p : GiveStage) (old new : ℕ) → give.asks_at g p ≡ Swap cell.Lock old new → true ≡ false
-give_swap g give_stage.Write old new e = absurd (cc)
-give_swap g give_stage.Ended old new e = absurd (cc)
-
-pass_swap : (m : pass.Pass) (p : PassStage) (old new : ℕ) → pass.asks_at m p ≡ Swap cell.Lock old new → true ≡ false
-pass_swap m (pass_stage.Look page) old new e = absurd (cc)
-pass_swap m _ old new e = absurd (cc)
-
-carve_swap : (c : carve.Carving) (p : CarveStage) (old new : ℕ) → carve.asks_at c p ≡ Swap cell.Lock old new → true ≡ false
-carve_swap c (carve_stage.Look page run) old new e = absurd (cc)
-carve_swap c _ old new e = absurd (cc)
-
-pub swap_without : (f : Finding) (p : FindStage) (old new : ℕ) → asks_at f p ≡ Swap cell.Lock old new → has_lock p ≡ false
-swap_without f (Give g) old new e = give_swap g g.stage old new e
-swap_without f (Pass m) old new e = pass_swap m m.stage old new e
-swap_without f (Carve c) old new e = carve_swap c c.stage old new e
-swap_without f (Unlock after) old new e = absurd (cc)
-swap_without f _ old new e = refl
-
-pub end_without : (f : Finding) (p : FindStage) (w : ℕ) (out : Found) → gives_at f p w ≡ Some out → has_lock (goes_at f p w).stage ≡ false
-end_without f (Slots s) w out e = slots_without (searched f (slots.goes s w)) (slots.gives s w) refl
-end_without f (Unlock after) w out e = unlocked_without f after
-end_without f _ w out e = absurd (cc)
-
-module _ (f : Finding) (found : ℕ → ℕ) (start : has_lock f.stage ≡ false) where
-  held_is : (n : ℕ) → holds listing f found n ≡ has_lock (told listing f found n).stage
-  held_is zero = sym start
-  held_is (suc n) = ap (λ (b : Bool). lock_after b (asks (told listing f found n)) (found n)) (held_is n) ∙ step (told listing f found n) (told listing f found n).stage (found n)
-
-  pub with_the_lock : WritesWithTheLock listing f found
-  with_the_lock = record {
-    asks_without = λ n old new e. held_is n ∙ swap_without (told listing f found n) (told listing f found n).stage old new e;
-    writes_with = λ n page word e. held_is n ∙ store_with (told listing f found n) (told listing f found n).stage page word e;
-    frees_with = λ n word e. held_is n ∙ free_with (told listing f found n) (told listing f found n).stage word e;
-    ends_without = λ n out e. held_is (suc n) ∙ end_without (told listing f found n) (told listing f found n).stage (found n) out e;
-  }
-
-pub written_with_the_lock : (l : Layout) (seat generation : ℕ) (wanted : Sought) (cached : Option CachedSpan) (found : ℕ → ℕ) → WritesWithTheLock listing (opening l seat generation wanted cached) found
-written_with_the_lock l seat generation wanted cached found = with_the_lock (opening l seat generation wanted cached) found (begin_without l wanted cached)

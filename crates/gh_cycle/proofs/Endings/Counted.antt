@@ -73,9 +73,6 @@ module _ (z : Arena) (a : ℕ) (h : Heap) where
     place = refl;
   }
 
-  still : Stays v v
-  still = record { alloc = λ i. refl; birth = λ x set. refl; made = refl; types = refl; place = refl }
-
   stays : (m : heap.Move) → MakesNothing m → heap.May z a v m → Stays v (view (heap.moved z a h m))
   stays (heap.Quiet step) is may = quiet step may
   stays (heap.Takes step g d value) is may = let q = quiet step may.0 in record { alloc = q.alloc; birth = q.birth; made = refl; types = refl; place = refl }

@@ -154,16 +154,13 @@ module _ (z : Cycle) (s : Shared) (room : ℕ) (opens : Opens z s) where
     none : (g d : ℕ) → false ≡ seen_to 0 g d
     none g d = grind (arith, nat_tests)
   ends-seen (suc n) le = next (over n) refl (ends-seen n (omega arith)) where
-    grey : (r : ℕ) → r < 16 → seen_to n n r ≡ false
-    grey r few = grind (arith, nat_tests)
-
     empty : over n ≡ true → (r : ℕ) → r < 16 → NilOrMarked (Ended n) (value_of s.since (s.registers n r))
     empty e r few o h =
         let nil : value_of s.since (s.registers n r) ≡ None = ap (value_of s.since) (opens.over n r (is-over n e)) in cc
 
     next : (b : Bool) → over n ≡ b → Goes first (Ended n) → Goes first (Ended (suc n))
     next true e w = goes-then first (Ended n) (Ended (suc n)) w
-        (subst (λ (x : ℕ → ℕ → Bool). Goes (Ended n) (record first { seen = x })) (seen-more n e) (goes-sees (Ended n) n (omega arith) grey (empty e) 16 (omega arith)))
+        (subst (λ (x : ℕ → ℕ → Bool). Goes (Ended n) (record first { seen = x })) (seen-more n e) (goes-sees (Ended n) n (omega arith) (empty e) 16 (omega arith)))
     next false e w = subst (λ (x : ℕ → ℕ → Bool). Goes first (record first { seen = x })) (seen-same n e) w
 
   shows : Shows z s at (Ended z.arena.layout.goroutines)

@@ -9,7 +9,7 @@ use Rattle.gh_tri.specs.declared.Move.TheVariants.{ReadOld, Store, ScanField, Bl
 use Rattle.gh_tri.specs.Changes.{Drop}
 use Rattle.gh_tri.specs.Steps.{Goes, stays}
 use Rattle.gh_tri.specs.Steps as steps
-use Rattle.gh_tri.specs.Tricolour.{Tricolour, IsField, IsGreyStack, NilOrMade, NilOrMarked, moved, names, greyed, put, put2, put3, shaded}
+use Rattle.gh_tri.specs.Tricolour.{Tricolour, IsField, NilOrMade, NilOrMarked, moved, names, greyed, put, put2, put3, shaded}
 
 pub goes-then : (p q r : Tricolour) → Goes p q → Goes q r → Goes p r
 goes-then p q r w stays = w
@@ -49,9 +49,6 @@ filled-more x table i n = fun_ext (λ a. fun_ext (λ b. at a b)) where
 pub filled-at : {A : Type 0} (x : A) (table : ℕ → ℕ → A) (i n b : ℕ) → b < n → filled_to x table i n i b ≡ x
 filled-at x table i n b l = grind (arith, nat_tests)
 
-pub filled-behind : {A : Type 0} (x : A) (table : ℕ → ℕ → A) (i n b : ℕ) → n ≤ b → filled_to x table i n i b ≡ table i b
-filled-behind x table i n b l = grind (arith, nat_tests)
-
 pub filled-other : {A : Type 0} (x : A) (table : ℕ → ℕ → A) (i n a b : ℕ) → i ≢ a → filled_to x table i n a b ≡ table a b
 filled-other x table i n a b l = grind (arith, nat_tests)
 
@@ -79,7 +76,7 @@ module _ (p : Tricolour) where
 
   -- ---- a register is scanned that holds nil or a marked object
 
-  module _ (s : ℕ) (stack : s < p.stacks) (grey : IsGreyStack p s) (clean : (r : ℕ) → r < 16 → NilOrMarked p (p.register s r)) where
+  module _ (s : ℕ) (stack : s < p.stacks) (clean : (r : ℕ) → r < 16 → NilOrMarked p (p.register s r)) where
     abbrev Sees : ℕ → Tricolour
     Sees n = record p { seen = filled_to true p.seen s n }
 
@@ -88,8 +85,7 @@ module _ (p : Tricolour) where
     goes-sees (suc n) le =
         subst (λ (x : ℕ → ℕ → Bool). Goes p (record p { seen = x })) (filled-more true p.seen s n)
         (subst (λ (c : ℕ → Shade). Goes p (record p { colour = c; seen = put2 (filled_to true p.seen s n) s n true })) (shaded-same p.colour (p.register s n) (clean n (omega arith)))
-        (steps.moves (Sees n) (ScanRegister s n) (goes-sees n (omega arith))
-        (record { of = record { stack = stack; within = omega arith }; once = filled-behind true p.seen s n n (omega arith) ∙ grey n (omega arith) })))
+        (steps.moves (Sees n) (ScanRegister s n) (goes-sees n (omega arith)) (record { stack = stack; within = omega arith })))
 
   -- the first n registers of a stack are dropped
   module _ (s : ℕ) (stack : s < p.stacks) where

@@ -54,11 +54,6 @@ module _ (z : Cycle) (s : Shared) (at : Row) (p : Tricolour) (marks : MarksGood 
   made : (n : ℕ) → p.colour n ≢ shade.White → n < p.objects
   made n h = elim (cases_lt n p.objects) [ inl l ↦ l | inr le ↦ absurd (h (i.unmade_objects.white n le)) ]
 
-  holds-made : (n k m : ℕ) → p.value n k ≡ Some m → n < p.objects
-  holds-made n k m e = elim (cases_lt n p.objects) [ inl l ↦ l | inr le ↦ absurd (clash (sym (i.unmade_objects.empty n k le) ∙ e)) ] where
-    clash : None ≡ Some m → ⊥
-    clash x = cc
-
   -- a scanned global holds what is marked
   global-clean : (k : ℕ) → k < z.arena.layout.globals → is_scanned (s.progress k) ≡ true → IsClean (mark_words s.words) (s.words (cell.Global k))
   global-clean k l done = marked-clean z s at p sh marks (p.value 0 k) _ (value-global z s at p sh k l) (i.scanned_fields 0 k (sh.scanned k l ∙ done))

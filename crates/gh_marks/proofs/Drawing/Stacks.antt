@@ -96,13 +96,7 @@ module _ (z : Cycle) (a : ℕ) (s : Shared) (at : Row) (p : Tricolour) (room : �
   abbrev word-of : ℕ → ℕ → ℕ → ℕ
   word-of h v i = cond (eqb h i) v (s.words (cell.Scanned i))
 
-  -- all registers of a black stack are seen, and those of a grey one once they are scanned
-  seen-still : (h v : ℕ) → is_black_stack z v ≡ true → IsBlackStack p h → (i e : ℕ) → i < z.arena.layout.goroutines → e < REGISTERS → p.seen i e ≡ is_black_stack z (word-of h v i)
-  seen-still h v black dark i e l few = elim (eqb_tells h i) [
-    | inl y ↦ (rw (y.0) (ap (λ x. p.seen x e) (sym y.1) ∙ (dark e few ∙ sym black)))
-    | inr n ↦ rw (n.0) (sh.seen i e l few)
-  ]
-
+  -- all its registers are seen once they are scanned
   seen-then : (h v : ℕ) → is_black_stack z v ≡ true → (i e : ℕ) → i < z.arena.layout.goroutines → e < REGISTERS → filled_to true p.seen h 16 i e ≡ is_black_stack z (word-of h v i)
   seen-then h v black i e l few = elim (eqb_tells h i) [
     | inl y ↦ ap (λ x. filled_to true p.seen h 16 x e) (sym y.1) ∙ (filled-at true p.seen h 16 e few ∙ (sym black ∙ ap (λ b. is_black_stack z (cond b v (s.words (cell.Scanned i)))) (sym y.0)))
@@ -110,24 +104,15 @@ module _ (z : Cycle) (a : ℕ) (s : Shared) (at : Row) (p : Tricolour) (room : �
   ]
 
   pub scan_stack-drawn : (h : ℕ) → May z a s (ScanStack h) → IsDrawn z (moved z a s (ScanStack h)) p room
-  scan_stack-drawn h may = elim (whole h may.own.0) [
-    | inr dark ↦ record {
-      picture = p;
-      at = at;
-      goes = stays;
-      shows = shows-stacks z s at p sh (moved z a s (ScanStack h)).words s.registers p.register p.seen (λ o k i l. refl) (λ i l. refl) sh.registers (seen-still h z.number number-black dark);
-      room_left = omega arith;
-    }
-    | inl grey ↦ record {
-      picture = record p { seen = filled_to true p.seen h 16 };
-      at = at;
-      goes = goes-sees p h (stack h may.own.0) grey (λ r few. clean-marked z s at p sh g.marks (p.register h r) _ (sh.registers h r may.own.0 few) (may.clean r few)) 16 (omega arith);
-      shows = shows-stacks z s at p sh (moved z a s (ScanStack h)).words s.registers p.register (filled_to true p.seen h 16) (λ o k i l. refl) (λ i l. refl) sh.registers (seen-then h z.number number-black);
-      room_left = omega arith;
-    }
-  ]
+  scan_stack-drawn h may = record {
+    picture = record p { seen = filled_to true p.seen h 16 };
+    at = at;
+    goes = goes-sees p h (stack h may.own.0) (λ r few. clean-marked z s at p sh g.marks (p.register h r) _ (sh.registers h r may.own.0 few) (may.clean r few)) 16 (omega arith);
+    shows = shows-stacks z s at p sh (moved z a s (ScanStack h)).words s.registers p.register (filled_to true p.seen h 16) (λ o k i l. refl) (λ i l. refl) sh.registers (seen-then h z.number number-black);
+    room_left = omega arith;
+  }
 
-  -- The goroutine's registers are dropped, and then its stack is scanned, unless it was before.
+  -- The goroutine's registers are dropped, and then its stack is scanned.
   module _ (h : ℕ) (own : h < z.arena.layout.goroutines) where
     abbrev dropped : ℕ → ℕ → Option ℕ
     dropped = filled_to None p.register h 16
@@ -150,21 +135,12 @@ module _ (z : Cycle) (a : ℕ) (s : Shared) (at : Row) (p : Tricolour) (room : �
       kept x y = subst (λ (v : Option ℕ). Names at p.objects v (update s.registers h (λ d. 0) i e)) (sym x) (subst (Names at p.objects (p.register i e)) (sym y) (sh.registers i e l few))
 
     pub end_stack-drawn : IsDrawn z (moved z a s (EndStack h)) p room
-    end_stack-drawn = elim (whole h own) [
-      | inr dark ↦ record {
-        picture = record p { register = dropped };
-        at = at;
-        goes = drops;
-        shows = shows-stacks z s at p sh (moved z a s (EndStack h)).words (update s.registers h (λ d. 0)) dropped p.seen (λ o k i l. refl) (λ i l. refl) named (seen-still h END end-black dark);
-        room_left = omega arith;
-      }
-      | inl grey ↦ record {
-        picture = record p { register = dropped; seen = filled_to true p.seen h 16 };
-        at = at;
-        goes = goes-then p (record p { register = dropped }) _ drops (goes-sees (record p { register = dropped }) h (stack h own) grey (λ r few w e. absurd (empty (sym (filled-at None p.register h 16 r few) ∙ e))) 16 (omega arith));
-        shows = shows-stacks z s at p sh (moved z a s (EndStack h)).words (update s.registers h (λ d. 0)) dropped (filled_to true p.seen h 16) (λ o k i l. refl) (λ i l. refl) named (seen-then h END end-black);
-        room_left = omega arith;
-      }
-    ] where
+    end_stack-drawn = record {
+      picture = record p { register = dropped; seen = filled_to true p.seen h 16 };
+      at = at;
+      goes = goes-then p (record p { register = dropped }) _ drops (goes-sees (record p { register = dropped }) h (stack h own) (λ r few w e. absurd (empty (sym (filled-at None p.register h 16 r few) ∙ e))) 16 (omega arith));
+      shows = shows-stacks z s at p sh (moved z a s (EndStack h)).words (update s.registers h (λ d. 0)) dropped (filled_to true p.seen h 16) (λ o k i l. refl) (λ i l. refl) named (seen-then h END end-black);
+      room_left = omega arith;
+    } where
       empty : {w : ℕ} → None ≡ Some w → ⊥
       empty e = cc

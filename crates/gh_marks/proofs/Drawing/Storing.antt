@@ -16,9 +16,6 @@ use Rattle.gh_marks.proofs.Drawing.Runs.{goes-store, goes-stores, stored_to}
 use Rattle.gh_marks.proofs.Drawing.Showing.{shows-still, shows-stored}
 
 module _ (z : Cycle) (a : ℕ) (s : Shared) (at : Row) (p : Tricolour) (room : ℕ) (g : Good z s) (sh : Shows z s at p) (fits : p.objects + (room + 1) ≤ p.limit) where
-  abbrev Drawn : Move → Type 0
-  Drawn m = May z a s m → IsDrawn z (moved z a s m) p room
-
   some-stack : 0 < p.stacks
   some-stack = let l = z.arena.layout.limits in omega (arith, l.goroutines_fit.0, sh.stacks)
 

@@ -106,7 +106,7 @@ without head rest p none = by (eqb head p) refl where
   by true e = sym (subst (λ (q : ℕ). lists rest q ≡ false) (eqb-true head p e) none)
   by false e = refl
 
-module _ (k : Known) (z : Arena) (a : ℕ) (any_time : z.full_only ≡ false) where
+module _ (k : Known) (z : Arena) (a : ℕ) where
   module _ (s : Shared) (good : Good z (view s)) (g : Giving) (layout_is : g.layout ≡ z.layout) (seat_is : g.seat ≡ a) (known : g.generation ≡ (view s).generation) (room : length g.cache ≡ SPAN_CLASSES) (is : IsHeld z.layout g.held) where
     abbrev Leads : GiveStage → Type 0
     Leads q = Steps z a s (asks_at g q) (λ t. Kept a (view s) (view t) × Gives z a (view t) (goes_at g q (s.words (cell_of (asks_at g q)))))
@@ -154,7 +154,7 @@ module _ (k : Known) (z : Arena) (a : ℕ) (any_time : z.full_only ≡ false) wh
       then = moved z a s (Disown c.head head)
 
       may : May z a (view s) (Disown c.head head)
-      may = (record { locked = has.locked; laying = has.laying; freeing = has.freeing; head = own.span.head }, own.span.held, λ rule. absurd (cc (any_time, rule)))
+      may = (record { locked = has.locked; laying = has.laying; freeing = has.freeing; head = own.span.head }, own.span.held)
 
       written : owned_by 0 head ≡ given_head g.generation (span_class class)
       written = head_is g.generation head (span_class class) own.span.class own.span.noscan_is (small_pages head (span_class class).class (good.spans c.head head own.span.head).fits own.span.class) (good.numbers c.head head own.span.head ∙ sym known)

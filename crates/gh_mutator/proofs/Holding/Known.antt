@@ -112,7 +112,6 @@ stands_to z a v p q layout seat stacks scanned cache held s = record {
     layout = layout ∙ s.sits.layout;
     seat = seat ∙ s.sits.seat;
     few = s.sits.few;
-    any_time = s.sits.any_time;
     stacks = ap length stacks ∙ s.sits.stacks;
     registers = λ g lt. ap (λ (xs : List (List Value)). length (slice_index_or xs g [])) stacks ∙ s.sits.registers g lt;
     scanned = scanned;

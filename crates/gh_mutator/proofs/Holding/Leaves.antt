@@ -51,7 +51,7 @@ module _ (k : Known) (z : Arena) (a : ℕ) (s : Shared) (good : Good z (view s))
       let n : ℕ = s.words (cell_of (give.asks g)) in
       landing z a s (effect s.words (give.asks g)) (λ t. Kept a (view s) (view t) × Gives z a (view t) (give.goes g n)) (λ t. KeepsObjects (view s) (view t) × Leaves z a (view t) p (record w { stage = stage_of (give.goes g n) }))
       (λ t h. (h.0.objects, then t h.0.objects (stage_of (give.goes g n)) (given_then z a (view t) (give.goes g n) h.1)))
-      (gives_on k z a stands.sits.any_time s good g (record { has = has; facts = x }))
+      (gives_on k z a s good g (record { has = has; facts = x }))
   leaves_on_at leave_stage.Leave has x = by_quiet k z a s good (Store (cell.Ack w.seat) GONE) false no_page (λ t. KeepsObjects (view s) (view t) × Leaves z a (view t) p (record w { stage = leave_stage.Left })) tt has
       (λ t kept r. (kept.objects, then t kept.objects leave_stage.Left (record { has = r; facts = tt })))
   leaves_on_at leave_stage.Left has x = by_quiet k z a s good (Load cell.Touch) false no_page (λ t. KeepsObjects (view s) (view t) × Leaves z a (view t) p (record w { stage = leave_stage.Left })) tt has

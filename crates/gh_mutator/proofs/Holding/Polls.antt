@@ -64,7 +64,7 @@ module _ (z : Arena) (a : ℕ) (v : View) where
   scan_polls p r on None e = counted_polls p r
   scan_polls p r on (Some g) e =
       let m : mark.StackMarking = mark.opening p.layout p.seat g p.local.view.begun (slice_index_or p.local.stacks g []) p.local.held in
-      let there : g < p.layout.goroutines = (due_scans p.layout p.seat p.waits p.local g on e).due.there in
+      let there : g < p.layout.goroutines = (due_scans p.layout p.seat p.waits p.local g e).there in
       let within : ScansWithin p.layout m = scan_begins p.layout p.seat g p.local.view.begun (slice_index_or p.local.stacks g []) p.local.held (seat_below p r.1.stands) there (own_held p r.1.stands) in
       (r.0, record { stands = stands_at p (Marking g m) r.1.stands; stage_is = (knows_at p (Marking g m) r.1.knows, subst (λ (l : Layout). ScansWithin l m) r.1.stands.sits.layout within) })
 
@@ -166,7 +166,7 @@ module _ (k : Known) (z : Arena) (a : ℕ) (s : Shared) (good : Good z (view s))
       let n : ℕ = s.words (cell_of (give.asks g)) in
       landing z a s (effect s.words (give.asks g)) (λ t. Kept a (view s) (view t) × Gives z a (view t) (give.goes g n)) (λ t. KeepsObjects (view s) (view t) × Polls z a (view t) (stops_then p (give.goes g n) stops))
       (λ t h. (h.0.objects, stops_polls z a (view t) p (give.goes g n) stops (stands_then t h.0) h.1))
-      (gives_on k z a stands.sits.any_time s good g x)
+      (gives_on k z a s good g x)
 
   module _ (r : resume.Resuming) (has : Has a (view s) false (lists p.local.cache)) (f : ResumeFacts a (view s) p r) where
     abbrev Resumes : ResumeStage → Type 0

@@ -13,8 +13,8 @@ use Rattle.gh_mutator.specs.Give as give
 use Rattle.gh_mutator.specs.MarkFacts.{GiveFacts, HasRoom, IsBetween, KnowsCycle, KnowsNumber, KnowsStacks, PollFacts, PollStageFacts, PollsByMoves, ScanFacts}
 use Rattle.gh_mutator.specs.MarkStack as mark
 use Rattle.gh_mutator.specs.Poll.{after_mark, after_resume, after_room, asks_at, at_stage, by_phase, counted, due, giving, goes_at, has_two, is_busy, marks_then, Polling, resumed, room_stage, scanned, scans, stops_then}
-use Rattle.gh_mutator.proofs.Vocabulary.{Ask, cell_of, Cycle, effect, Good, Hands, Held, holding, IsOf, IsQuiet, Keeps, KnowsObjects, landing, Layout, Local, MarkingIsQuiet, moved, nat_tests, nothing, Others, phase_of, PollStage, ProcessorIsQuiet, Resumed, ResumeStage, run_phase, RunPhase, ScansOne, ScanStack, Shared, slice_index_or, slice_set, Steps, Store}
-use Rattle.gh_mutator.proofs.Due.{due_scans}
+use Rattle.gh_mutator.proofs.Vocabulary.{Ask, cell_of, Cycle, effect, Good, Hands, Held, holding, IsOf, IsQuiet, Keeps, KnowsObjects, landing, Layout, Local, MarkingIsQuiet, moved, nat_tests, nothing, Others, phase_of, PollStage, ProcessorIsQuiet, Resumed, ResumeStage, run_phase, RunPhase, ScanStack, Shared, slice_index_or, slice_set, Steps, Store}
+use Rattle.gh_mutator.proofs.Due.{due_scans, IsUnscanned}
 use Rattle.gh_mutator.proofs.Marking.Gives.{gives_begin, gives_last, gives_on, nothing_left}
 use Rattle.gh_mutator.proofs.Marking.Known.{by_load, by_quiet, Known, stacks_last, stacks_scanned}
 use Rattle.gh_mutator.proofs.Marking.Scans.{Comes, scan_begins, scans_last, scans_on}
@@ -59,14 +59,14 @@ module _ (k : Known) (z : Cycle) (a : ℕ) where
       stacks = b.stacks;
       stage_is = (b.number on, scan_begins k z a s good objects p.layout p.seat g p.local.view.begun (slice_index_or p.local.stacks g []) p.local.held e f (b.number on) (record { own = own; goes_on = goes_on }) (b.stacks.registers g own goes_on) b.hands);
     } where
-      scan : ScansOne p.layout p.seat p.local g
-      scan = due_scans p.layout p.seat p.waits p.local g on is
+      scan : IsUnscanned p.layout p.seat p.local g
+      scan = due_scans p.layout p.seat p.waits p.local g is
 
       own : IsOf z.arena a g
-      own = b.stacks.own g (subst (λ (l : Layout). g < l.goroutines) e scan.due.there) (subst (λ (l : Layout). g % l.procs ≡ a) e (scan.due.own ∙ f))
+      own = b.stacks.own g (subst (λ (l : Layout). g < l.goroutines) e scan.there) (subst (λ (l : Layout). g % l.procs ≡ a) e (scan.own ∙ f))
 
       goes_on : s.words (cell.Scanned g) ≢ END
-      goes_on w = scan.due.going (b.stacks.noted g own ∙ w)
+      goes_on w = scan.going (b.stacks.noted g own ∙ w)
 
     marks_facts : (p : Polling) → p.layout ≡ z.arena.layout → p.seat ≡ a → IsBetween z a s p.local → (phase : RunPhase) → p.local.view.phase ≡ phase → PollFacts z a s (marks_then p phase)
     marks_facts p e f b run.Off on = record { layout_is = e; seat_is = f; stacks = b.stacks; stage_is = (b.number, λ turn marks. absurd (cc (on, marks)), b.hands) }

@@ -113,7 +113,7 @@ steady_held z a v m held is st =
     let s = st.1.stands.sits in (
       st.0,
       record {
-        stands = record { sits = record { layout = s.layout; seat = s.seat; few = s.few; any_time = s.any_time; stacks = s.stacks; registers = s.registers; scanned = s.scanned; cache = s.cache; held = is }; registers = st.1.stands.registers };
+        stands = record { sits = record { layout = s.layout; seat = s.seat; few = s.few; stacks = s.stacks; registers = s.registers; scanned = s.scanned; cache = s.cache; held = is }; registers = st.1.stands.registers };
         knows = record { generation = st.1.knows.generation; caches = st.1.knows.caches };
       },
     )

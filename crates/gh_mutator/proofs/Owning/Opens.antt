@@ -22,7 +22,7 @@ stack_of : (g : ℕ) → g < MOST_GOROUTINES → get_or (replicate MOST_GOROUTIN
 stack_of g few = get_or-replicate MOST_GOROUTINES g row [] few
 
 pub opens : Opens
-opens z a v few any_time generation ever right = record {
+opens z a v few generation ever right = record {
   counts = record {
     places = length-replicate {A = ℕ} MOST_GOROUTINES 0;
     each = λ g of. read_replicate {A = ℕ} MOST_GOROUTINES g 0 ∙ ap (λ (e : Ever). e.made g) (sym ever);
@@ -33,7 +33,6 @@ opens z a v few any_time generation ever right = record {
         layout = refl;
         seat = refl;
         few = few;
-        any_time = any_time;
         stacks = length-replicate MOST_GOROUTINES row;
         registers = λ g low. ap (λ (r : List Value). length r) (stack_of g low) ∙ length-replicate REGISTERS value.Nil;
         scanned = length-replicate {A = ℕ} MOST_GOROUTINES 0;

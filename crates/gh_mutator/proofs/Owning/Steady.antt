@@ -51,7 +51,6 @@ sits_register z a p g d y s = record {
   layout = s.layout;
   seat = s.seat;
   few = s.few;
-  any_time = s.any_time;
   stacks = length-set p.local.stacks g (set (get_or p.local.stacks g []) d y) ∙ s.stacks;
   registers = λ h low. read_after_set (λ (r : List Value). length r ≡ REGISTERS) p.local.stacks g h (set (get_or p.local.stacks g []) d y) [] (λ e. length-set (get_or p.local.stacks g []) d y ∙ s.registers g (subst (λ (n : ℕ). n < MOST_GOROUTINES) (sym e) low)) (s.registers h low);
   scanned = s.scanned;
@@ -120,7 +119,7 @@ steady_values z a v m field global e made register st = (
 )
 
 pub sits_ended : (z : Arena) (a : ℕ) (p : Polling) (g n : ℕ) → Sits z a p → Sits z a (record p { local = record (p.local) { scanned = set p.local.scanned g n } })
-sits_ended z a p g n s = record { layout = s.layout; seat = s.seat; few = s.few; any_time = s.any_time; stacks = s.stacks; registers = s.registers; scanned = length-set p.local.scanned g n ∙ s.scanned; cache = s.cache; held = s.held }
+sits_ended z a p g n s = record { layout = s.layout; seat = s.seat; few = s.few; stacks = s.stacks; registers = s.registers; scanned = length-set p.local.scanned g n ∙ s.scanned; cache = s.cache; held = s.held }
 
 -- What is cached is another.
 
@@ -129,7 +128,7 @@ long_then cache (Small c) k n e = rw length-set e
 long_then cache (Large pages noscan) k n e = e
 
 pub sits_cached : (z : Arena) (a : ℕ) (p : Polling) (x : Sought) (k : Option CachedSpan) → Sits z a p → Sits z a (with_cached p x k)
-sits_cached z a p x k s = record { layout = s.layout; seat = s.seat; few = s.few; any_time = s.any_time; stacks = s.stacks; registers = s.registers; scanned = s.scanned; cache = long_then p.local.cache x k _ s.cache; held = s.held }
+sits_cached z a p x k s = record { layout = s.layout; seat = s.seat; few = s.few; stacks = s.stacks; registers = s.registers; scanned = s.scanned; cache = long_then p.local.cache x k _ s.cache; held = s.held }
 
 -- What stays where no object is made and no value changes.
 

@@ -1,10 +1,14 @@
 -- What a step of a poll leaves: its heap and its seat, what it knows of the stack that it scans, and the notes.
-use Rattle.std.proofs.Common.{◌≡◌, ◌≢◌, ℕ, ◌+◌, ◌<◌, Bool, true, false, cond, List, [], ◌∷◌, drop, length, Option, Some, None, refl, sym, ap, subst, ◌∙◌}
-use Rattle.std.proofs.lemmas.List.{get_or-set_other, get_or-set_same}
+use Rattle.std.proofs.Common.{◌≡◌, ◌≢◌, ℕ, ◌+◌, ◌<◌, ◌⊎◌, Bool, true, false, cond, eqb, ltb, List, [], ◌∷◌, drop, length, Option, Some, None, inl, inr, refl, sym, ap, subst, ◌∙◌, arith}
+use Rattle.std.proofs.lemmas.Bool.{eqb-true, ltb-false, ltb-true}
+use Rattle.std.proofs.lemmas.Bool.Decides.{nat_tests}
+use Rattle.std.proofs.lemmas.List.{get_or-set_other, get_or-set_same, set_past}
 use Rattle.gh_base.specs.declared.cell.Cell.TheVariants as cell
+use Rattle.gh_base.specs.declared.pack.TheConstants.{END}
 use Rattle.gh_base.specs.declared.value.Value.TheVariants as value
 use Rattle.gh_phase.specs.declared.resume.ResumeStage.TheVariants as resume_stage
 use Rattle.gh_phase.specs.declared.view.RunPhase.TheVariants as run
+use Rattle.gh_phase.specs.declared.view.View.{View}
 use Rattle.gh_phase.specs.Listing as resume
 use Rattle.gh_shade.specs.declared.shade.Shaded.TheVariants as shaded
 use Rattle.gh_shade.specs.Listing as shade
@@ -73,13 +77,27 @@ pub record Stays (p to : Polling) : Type 0 where
 pub goes_by : (step : Ask) (p to : Polling) → WritesOf NotStack step → Stays p to → Goes step p to
 goes_by step p to w s = record { layout = s.layout; seat = s.seat; noted = not_noted step p.local.scanned to.local.scanned w s.scanned; scan = s.scan }
 
--- its stage is the same, and so is what it knows of the phase
-pub carried : (p : Polling) (local : Local) → local.view ≡ p.local.view → (q : PollStage) → SoundScanAt p q → SoundScanAt (record p { local = local }) q
-carried p local e (poll_stage.Marking g m) s = record { there = s.there; own = s.own; marking = rw e s.marking; of = s.of; cycle_is = rw e s.cycle_is; by_wish = s.by_wish }
-carried p local e _ s = tt
+-- its stage is the same, and so is what it knows of the phase; a note is as it was, or that of an end
+pub carried : (p : Polling) (local : Local) → local.view ≡ p.local.view → ((g : ℕ) → (slice_index local.scanned g ≡ END) ⊎ (slice_index local.scanned g ≡ slice_index p.local.scanned g)) → (q : PollStage) → SoundScanAt p q → SoundScanAt (record p { local = local }) q
+carried p local e noted (poll_stage.Marking g m) s = record { there = s.there; own = s.own; marking = rw e s.marking; of = s.of; cycle_is = rw e s.cycle_is; unscanned = λ number again. by number again (noted g); by_wish = s.by_wish } where
+  begun_is : local.view.begun ≡ p.local.view.begun
+  begun_is = ap (λ (v : View). v.begun) e
+
+  by : local.view.begun ≢ END → slice_index local.scanned g ≡ local.view.begun → (slice_index local.scanned g ≡ END) ⊎ (slice_index local.scanned g ≡ slice_index p.local.scanned g) → ⊥
+  by number again (inl ended) = number (sym again ∙ ended)
+  by number again (inr same) = s.unscanned (λ x. number (begun_is ∙ x)) (sym same ∙ again ∙ begun_is)
+carried p local e noted _ s = tt
+
+-- a goroutine that ends is noted so, and no other note changes
+pub ended_noted : (xs : List ℕ) (g h : ℕ) → (slice_index (slice_set xs g END) h ≡ END) ⊎ (slice_index (slice_set xs g END) h ≡ slice_index xs h)
+ended_noted xs g h = by (eqb h g) (ltb g (length xs)) refl refl where
+  by : (same there : Bool) → eqb h g ≡ same → ltb g (length xs) ≡ there → (slice_index (slice_set xs g END) h ≡ END) ⊎ (slice_index (slice_set xs g END) h ≡ slice_index xs h)
+  by true true e f = inl (subst (λ (x : ℕ). slice_index (slice_set xs g END) x ≡ END) (sym (eqb-true h g e)) (get_or-set_same xs g END 0 (ltb-true _ _ f)))
+  by true false e f = inr (ap (λ (ys : List ℕ). slice_index ys h) (set_past xs g END (ltb-false _ _ f)))
+  by false there e f = let differs : h ≢ g = grind (arith, nat_tests) in inr (get_or-set_other xs g h END 0 differs)
 
 pub stays_with : (p : Polling) (local : Local) → local.view ≡ p.local.view → local.scanned ≡ p.local.scanned → SoundScanAt p p.stage → Stays p (record p { local = local })
-stays_with p local e f s = record { layout = refl; seat = refl; scanned = f; scan = carried p local e p.stage s }
+stays_with p local e f s = record { layout = refl; seat = refl; scanned = f; scan = carried p local e (λ g. inr (ap (λ (xs : List ℕ). slice_index xs g) f)) p.stage s }
 
 pub stays_so : (p : Polling) → SoundScanAt p p.stage → Stays p p
 stays_so p s = record { layout = refl; seat = refl; scanned = refl; scan = s }
@@ -119,8 +137,8 @@ counted_stays p = record { layout = refl; seat = refl; scanned = refl; scan = ro
 scans_stay : (p : Polling) → p.local.view.phase ≡ run.Mark → (out : Option ℕ) → due p ≡ out → Stays p (scans p out)
 scans_stay p on None is = counted_stays p
 scans_stay p on (Some g) is =
-    let scan = due_scans p.layout p.seat p.waits p.local g on is in
-    record { layout = refl; seat = refl; scanned = refl; scan = record { there = scan.due.there; own = scan.due.own; marking = on; of = refl; cycle_is = refl; by_wish = by_wish p.layout p.local.held (stack.stage_from (slice_index_or p.local.stacks g []) 0) (first_goes_on 0 (slice_index_or p.local.stacks g [])) } }
+    let d = due_scans p.layout p.seat p.waits p.local g is in
+    record { layout = refl; seat = refl; scanned = refl; scan = record { there = d.there; own = d.own; marking = on; of = refl; cycle_is = refl; unscanned = λ number. d.unscanned; by_wish = by_wish p.layout p.local.held (stack.stage_from (slice_index_or p.local.stacks g []) 0) (first_goes_on 0 (slice_index_or p.local.stacks g [])) } }
 
 marks_stay : (p : Polling) (phase : RunPhase) → p.local.view.phase ≡ phase → Stays p (marks_then p phase)
 marks_stay p run.Off e = record { layout = refl; seat = refl; scanned = refl; scan = tt }
@@ -152,7 +170,7 @@ room_stays p r (Some h) = record { layout = refl; seat = refl; scanned = refl; s
 -- a stack is scanned
 module _ (p : Polling) (g : ℕ) (m : mark.StackMarking) (s : ScansItsOwn p g m) (found : ℕ) where
   marks_on : (n : mark.StackMarking) → n.scan.goroutine ≡ m.scan.goroutine → n.scan.cycle ≡ m.scan.cycle → ShadesByWish n.scan.stage n.stage → Stays p (at_stage p (poll_stage.Marking g n))
-  marks_on n same now wish = record { layout = refl; seat = refl; scanned = refl; scan = record { there = s.there; own = s.own; marking = s.marking; of = same ∙ s.of; cycle_is = now ∙ s.cycle_is; by_wish = wish } }
+  marks_on n same now wish = record { layout = refl; seat = refl; scanned = refl; scan = record { there = s.there; own = s.own; marking = s.marking; of = same ∙ s.of; cycle_is = now ∙ s.cycle_is; unscanned = s.unscanned; by_wish = wish } }
 
   shades_on : (sh : shade.Shading) (out : Option Shaded) → stack.is_waiting m.scan.stage ≡ true → Stays p (at_stage p (poll_stage.Marking g (mark.after_shade m sh out)))
   shades_on sh None waits = marks_on (mark.at_stage m (Shading sh)) refl refl waits

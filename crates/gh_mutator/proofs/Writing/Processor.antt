@@ -42,7 +42,7 @@ module _ (m : Processor) (is : asks m ≡ poll.asks m.poll) where
     tells_scan : n.stage ≡ mark_stage.Store → WritesOf (IsWritten m) (stack.asks n.scan)
     tells_scan e =
         let told = scan_asks m.poll g n s 0 e in
-        let all : TellsScan m g = record { there = s.there; own = s.own; marking = s.marking; tells = is ∙ ap poll.asks_at at ∙ ap (λ (q : MarkStackStage). mark.asks_at n q) e ∙ told } in
+        let all : TellsScan m g = record { there = s.there; own = s.own; marking = s.marking; unscanned = s.unscanned; tells = is ∙ ap poll.asks_at at ∙ ap (λ (q : MarkStackStage). mark.asks_at n q) e ∙ told } in
         subst (λ (x : Ask). WritesOf (IsWritten m) x) (sym told) (inr all)
 
     mark_writes : (q : MarkStackStage) → n.stage ≡ q → WritesOf (IsWritten m) (mark.asks_at n q)

@@ -17,7 +17,7 @@ use Rattle.gh_mutator.specs.Store as store
 use Rattle.gh_mutator.specs.Vocabulary.{Polling}
 use Rattle.gh_mutator.specs.Wait as wait
 use Rattle.gh_mutator.proofs.Vocabulary.{Held, after_gc, after_leave, after_poll, asks_at, At, begun_with, cache_span, CachedSpan, Found, LeaveStage, Leaving, NewStage, NoRoom, Op, Place, Placing, Processor, register_of, Search, Seeking, Shape, SoundScanAt, takes_at, taking, Task, Value, Wait, Waiting, WaitStage, WaitState, Wanted, with_ended, WritesOf}
-use Rattle.gh_mutator.proofs.Writing.Polls.{carried, Goes, goes_by, gives_not, heap_not, marking_not, NotStack, poll_goes, Stays, stays_so, stays_with, told_noted}
+use Rattle.gh_mutator.proofs.Writing.Polls.{carried, ended_noted, Goes, goes_by, gives_not, heap_not, marking_not, NotStack, poll_goes, Stays, stays_so, stays_with, told_noted}
 use Rattle.gh_mutator.proofs.Writing.Routines.{global_writes, load_writes, store_writes}
 use Rattle.gh_mutator.proofs.Writing.Rows.{place_writes, search_writes}
 
@@ -91,7 +91,7 @@ module _ (shapes : List Shape) (m : Processor) (found : ℕ) (s : SoundScanAt m.
     by (Some u) = goes_by _ m.poll _ (leave_not x x.stage) (stays_so m.poll s)
 
   ends : (g : ℕ) → Goes (asks_at m (task.End g)) m.poll (takes_at shapes m (task.End g) found).poll
-  ends g = record { layout = refl; seat = refl; noted = told_noted g _ m.poll.local.scanned; scan = carried m.poll (with_ended m.poll g).local refl m.poll.stage s }
+  ends g = record { layout = refl; seat = refl; noted = told_noted g _ m.poll.local.scanned; scan = carried m.poll (with_ended m.poll g).local refl (λ h. ended_noted m.poll.local.scanned g h) m.poll.stage s }
 
   pub goes_at : (t : Task) → Goes (asks_at m t) m.poll (takes_at shapes m t found).poll
   goes_at task.Idle = goes_by _ m.poll _ tt (stays_so m.poll s)

@@ -40,6 +40,7 @@ ends_at r _ found out e = absurd cc
 
 pub resumes_in_handshake : ResumesInHandshake
 resumes_in_handshake = record {
+  begins = λ l seat stops view. (refl, refl);
   keeps = record { stays_sound = λ r found s busy. tt; goes = λ r found s busy. goes_so r r.stage found busy };
   seat_stays = λ r found. seat_at r r.stage found;
   ends = λ r found out e. ends_at r r.stage found out e;

@@ -108,9 +108,6 @@ module _ (k : Known) where
 
     -- A sweep begins.
     module _ (a p : ℕ) (h : SpanHead) (was : page_of (v.page p) ≡ Head h) (number : h.number + 2 ≡ gen) where
-      far_then : ℕ → Far
-      far_then = update v.far p (By a)
-
       pub fresh_before : v.far p ≡ Unswept
       fresh_before = far_unswept gen v.page v.far g.numbers p h was number
 

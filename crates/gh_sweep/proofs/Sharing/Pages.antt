@@ -101,9 +101,6 @@ inside_forth row other alloc forth good i ne = let was = good i ne in alike_span
 
 -- The word of page p is written.
 module _ (page : Row) (p word : ℕ) where
-  pub here : page_of (with_word page p word p) ≡ page_of word
-  here = ap page_of (at_entry page p word)
-
   pub elsewhere : (q : ℕ) → p ≢ q → page_of (with_word page p word q) ≡ page_of (page q)
   elsewhere q ne = ap page_of (off_entry page p q word ne)
 

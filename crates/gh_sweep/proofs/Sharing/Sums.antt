@@ -44,14 +44,6 @@ sum_least f g (suc n) h =
     let e : sum_below f n ≤ sum_below g n = sum_least f g n h in
     omega (arith, e, h n, sum_more f n, sum_more g n)
 
--- a term is no greater than the sum
-pub sum_has : (f : ℕ → ℕ) (p n : ℕ) → p < n → f p ≤ sum_below f n
-sum_has f p zero l = absurd (omega arith)
-sum_has f p (suc n) l = elim (eqb_tells p n) [
-  | inl y ↦ let at : f n ≡ f p = ap f (sym y.1) in omega (arith, at, sum_more f n)
-  | inr x ↦ let e : f p ≤ sum_below f n = sum_has f p n (omega (arith, l, x.1)) in omega (arith, e, sum_more f n)
-]
-
 pub sum_few : (f : ℕ → ℕ) (most n : ℕ) → ((q : ℕ) → f q ≤ most) → sum_below f n ≤ most * n
 sum_few f most zero h = omega (arith, sum_none f)
 sum_few f most (suc n) h =

@@ -8,7 +8,7 @@ use crate::{Colour, Move};
 #[tactic(auto, unfolding(crate::specs::Shown::picture_of))]
 impl Picture {
     ghost use Rattle.gh_tri.specs.Shown.{picture_of};
-    ghost use Rattle.gh_tri.specs.Tricolour.{May, MayLoad, MayStore, MayScanRegister, IsField, IsRegister, IsHeld, IsBlackStack, IsGreyStack, NilOrMade, NilOrMarked};
+    ghost use Rattle.gh_tri.specs.Tricolour.{May, MayLoad, MayStore, IsField, IsRegister, IsHeld, IsBlackStack, IsGreyStack, NilOrMade, NilOrMarked};
 
     /// Whether the move may be made now.
     pub fn may(&self, m: Move) -> bool
@@ -24,7 +24,7 @@ impl Picture {
             Move::Allocate(stack, reg) => {
                 self.is_register(stack, reg) && self.objects < self.limit
             }
-            Move::ScanRegister(stack, reg) => self.may_scan_register(stack, reg),
+            Move::ScanRegister(stack, reg) => self.is_register(stack, reg),
         }
     }
 
@@ -65,15 +65,6 @@ impl Picture {
             None => false,
             Some(value) => self.is_marked(value),
         }
-    }
-
-    fn may_scan_register(&self, stack: u32, reg: u32) -> bool
-        ensures { IsTrue result ↔ MayScanRegister (picture_of self.now) stack reg }
-    {
-        if !self.is_register(stack, reg) {
-            return false;
-        }
-        !self.seen.get(stack as usize, reg as usize)
     }
 
     /// What a stack has read as old in a field, and not stored over yet.

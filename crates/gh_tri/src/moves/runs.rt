@@ -8,7 +8,7 @@ use crate::Move;
 impl Picture {
     ghost use Rattle.gh_tri.specs.declared.Colour.TheVariants.{Black};
     ghost use Rattle.gh_tri.specs.Shown.{picture_of};
-    ghost use Rattle.gh_tri.specs.Tricolour.{May, moved, IsField, IsBlackStack, IsGreyStack, NilOrMade};
+    ghost use Rattle.gh_tri.specs.Tricolour.{May, moved, IsField, IsBlackStack, NilOrMade};
     ghost use Rattle.gh_tri.specs.Invariants.{Invariants, after};
     ghost use Rattle.gh_tri.specs.Runs.{shades, written, object_scan, register_scans};
 
@@ -73,10 +73,9 @@ impl Picture {
         self.blacken(o);
     }
 
-    /// Scans a stack none of whose registers is scanned: each register in order, and then it is black.
+    /// Scans a stack: each of its registers in order, and then it is black.
     pub fn scan_stack(&mut self, stack: u32)
-        requires stack { stack < (picture_of self.old).stacks }
-        requires grey { IsGreyStack (picture_of self.old) stack }
+        requires { stack < (picture_of self.old).stacks }
         ensures moves { picture_of self.new ≡ after (picture_of self.old) (register_scans stack 16) }
         ensures black { IsBlackStack (picture_of self.new) stack }
         ensures invariants { Invariants (picture_of self.old) → Invariants (picture_of self.new) }

@@ -9,10 +9,9 @@ use Rattle.gh_base.specs.Steps.{effect}
 use Rattle.gh_cycle.specs.Allocating.{IsTold, pend_told}
 use Rattle.gh_heap.specs.Moves.{IsQuiet, moved, Quiet}
 use Rattle.gh_worker.specs.Writing.{AcksAlone}
-use Rattle.gh_world.specs.Handshake.{Pacing}
+use Rattle.gh_world.specs.Handshake.{Pacing, those}
 use Rattle.gh_world.specs.ActorsHold.{IsHeapOf}
 use Rattle.gh_world.specs.HoldVocabulary.{arena, Arena, Entry, Good, Heap, Layout, Legal, Op, Right, Shape, view}
-use Rattle.gh_world.specs.Those.{those}
 use Rattle.gh_world.proofs.AllActors.Known.{Known}
 use Rattle.gh_world.proofs.AllActors.Moves.{moves_on}
 use Rattle.gh_world.proofs.AllActors.Resting.{ever_stays}

@@ -17,7 +17,7 @@ use Rattle.gh_phase.specs.declared.view.RunPhase.TheVariants as run
 use Rattle.gh_stack.specs.Facts.{named}
 use Rattle.gh_world.specs.declared.handshake.Actor.TheVariants as actor
 use Rattle.gh_world.specs.Numbers.{open_part}
-use Rattle.gh_world.proofs.Vocabulary.{actors_after, ahead_at, Arena, arena, AreRegisters, Begun, bit_at, Coordinating, CoordStage, Cycle, END, Entry, Ever, EverValue, Hands, HasCursor, HoldsAt, IsAsItShould, IsBeginning, IsInLimits, IsLed, IsMeant, IsOf, IsReady, IsToBegin, Knows, Layout, Legal, mark_words, MarkFacts, Marking, MayBegin, Means, nothing, Op, Open, Pacing, part_of, Processor, processor_at, processor_kind, reference_of, register_at, REGISTERS, row_bit, Shape, stage_of, Stands, those, Value, view, Words, words, ◌%◌}
+use Rattle.gh_world.proofs.Vocabulary.{actors_after, ahead_at, Arena, arena, AreRegisters, Begun, bit_at, Coordinating, CoordStage, Cycle, END, Entry, Ever, EverValue, Hands, HasCursor, HoldsAt, IsAsItShould, IsBeginning, IsInLimits, IsLed, IsOf, IsReady, IsToBegin, Layout, Legal, mark_words, MarkFacts, Marking, MayBegin, Means, nothing, Op, Open, Pacing, part_of, Processor, processor_at, reference_of, register_at, REGISTERS, row_bit, Shape, Stands, those, Value, view, Words, words, ◌%◌}
 use Rattle.gh_world.proofs.AllActors.Drawing.{drawn_first}
 use Rattle.gh_world.proofs.AllActors.Known.{Known, ListsKnown}
 use Rattle.gh_world.proofs.AllActors.LeadingSeat.{owes_nothing}
@@ -93,7 +93,7 @@ module _ (shapes : List Shape) (l : Layout) (pacing : Pacing) (may : ℕ → Lis
     beside : IsBeside z r.heap s
     beside = known.beside_begins cycle r.heap s r.good r.of_list.bounded rest opened.of_heap opened.registers (λ o a is. absurd (let none : None ≡ Some o = ((seats a).has.is_reserved o).1 is in cc))
 
-    module _ (a : ℕ) (m : Processor) (lt : a < l.procs) (is : actors_after z (processor_kind shapes l) pacing may es a ≡ actor.Runs m) where
+    module _ (a : ℕ) (m : Processor) (lt : a < l.procs) (is : actors_after z pacing may es a ≡ actor.Runs m) where
       same : processor_at shapes l pacing may es a ≡ m
       same = run_is shapes l pacing may es a m lt is
 
@@ -152,7 +152,7 @@ module _ (shapes : List Shape) (l : Layout) (pacing : Pacing) (may : ℕ → Lis
     to_begin : IsToBegin shapes l pacing may es c.begun
     to_begin = record { lead = c; led = led; stage = b; cycle = refl }
 
-    pub may_begin : MayBegin z (processor_kind shapes l) pacing may stage_of MarkFacts (Knows z pacing may) (IsMeant z pacing may) es c
+    pub may_begin : MayBegin z pacing may es c
     may_begin = record {
       cycle = cycle;
       shared = s;

@@ -10,12 +10,12 @@ use Rattle.gh_mutator.specs.declared.task.Task.TheVariants as task
 use Rattle.gh_mutator.specs.Beside.{KnowsMarking, StepsOn, Together}
 use Rattle.gh_mutator.specs.Sound.{has_room}
 use Rattle.gh_phase.specs.declared.view.RunPhase.TheVariants.{Mark}
-use Rattle.gh_world.proofs.Vocabulary.{Actor, actors, ahead_at, Answer, Arena, arena, Ask, asks, begins, by, Cell, cell_of, Check, Close, close_part, CloseStage, Coordinating, CoordStage, Cycle, DoesPoints, effect, END, Entry, Fine, has_left_at, Heap, is_busy_at, IsAwake, IsBeginning, IsInLimits, IsKnown, IsLed, IsSound, IsWritten, Kind, Layout, left, Legal, Load, MarkFacts, Marking, MarkingGood, MarkOn, may_of, moved, nat_tests, NewStage, only_polls, Op, Open, Pacing, part_of, party_at, party_of, Polling, Processor, processor_at, processor_kind, same_cell, Shape, ShapesAreGood, stage_at, stage_of, started, state_of, Steps as HeapSteps, StopAgain, Store, takes, Task, TellsScan, those, view, View, Wanted, Watch, Words, words, WritesOf}
+use Rattle.gh_world.proofs.Vocabulary.{ahead_at, Answer, Arena, arena, Ask, asks, begins, by, Cell, cell_of, Check, Close, close_part, CloseStage, Coordinating, CoordStage, Cycle, DoesPoints, effect, END, Entry, Fine, has_left_at, Heap, is_busy_at, IsAwake, IsBeginning, IsInLimits, IsKnown, IsLed, IsSound, IsWritten, Kind, Layout, left, Legal, Load, MarkFacts, Marking, MarkingGood, MarkOn, may_of, moved, nat_tests, NewStage, only_polls, Op, Open, Pacing, part_of, party_at, party_of, Polling, Processor, processor_at, processor_kind, same_cell, Shape, ShapesAreGood, stage_at, stage_of, started, state_of, Steps as HeapSteps, StopAgain, Store, takes, Task, TellsScan, those, view, View, Wanted, Watch, Words, words, WritesOf}
 use Rattle.gh_world.proofs.AllActors.EndedStays.{ended_stays}
 use Rattle.gh_world.proofs.AllActors.Known.{Known, ListsKnown}
 use Rattle.gh_world.proofs.AllActors.OwnEntries.{state_by}
 use Rattle.gh_world.proofs.AllActors.OwnStep as step
-use Rattle.gh_world.proofs.AllActors.Parties.{awake_at, knows_at}
+use Rattle.gh_world.proofs.CycleNumbers.Writing.{awake_at, knows_at}
 use Rattle.gh_world.proofs.AllActors.Ranging.{may_parts}
 use Rattle.gh_world.proofs.AllActors.Resting.{runs_are}
 use Rattle.gh_world.proofs.AllActors.StackWords.{LeavesStack, ScansStack, TellsStacks}
@@ -82,9 +82,6 @@ module _ (shapes : List Shape) (l : Layout) (pacing : Pacing) (counts : ℕ → 
 
   abbrev k : Kind Processor Op
   k = processor_kind shapes l
-
-  abbrev all : Kind (Actor Processor) Op
-  all = actors l k pacing
 
   abbrev told : List (Entry Op) → Words
   told es = words shapes l pacing may es

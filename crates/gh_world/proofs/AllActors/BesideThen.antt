@@ -5,7 +5,7 @@ use Rattle.gh_cycle.specs.Since.{HasGoneOn}
 use Rattle.gh_marks.specs.Moves.{Steps}
 use Rattle.gh_mutator.specs.Beside.{StepsOn}
 use Rattle.gh_world.specs.ActorsHold.{began}
-use Rattle.gh_world.proofs.Vocabulary.{acks_of, Answer, Arena, arena, AreWords, asks, cell_of, Coordinating, Cycle, DoesPoints, effect, Entry, eqb-true, Ever, ever, Fine, has_left_at, Heap, is_busy_at, IsBeginning, IsHeapOf, IsInCycle, IsInLimits, IsKnown, IsLed, IsMeant, IsSound, IsToBegin, Kind, Knows, Layout, Legal, mark_words, MarkFacts, Marking, MarkingGood, may_of, moved, nat_tests, Op, Pacing, PollsByMoves, Processor, processor_at, processor_kind, Shape, ShapesAreGood, stage_of, started, Steps as HeapSteps, takes, those, uncounted, view, Words}
+use Rattle.gh_world.proofs.Vocabulary.{acks_of, Answer, Arena, arena, AreWords, asks, cell_of, Coordinating, Cycle, DoesPoints, effect, Entry, eqb-true, Ever, ever, Fine, has_left_at, Heap, is_busy_at, IsBeginning, IsHeapOf, IsInCycle, IsInLimits, IsKnown, IsLed, IsSound, IsToBegin, Kind, Knows, Layout, Legal, mark_words, MarkFacts, Marking, MarkingGood, may_of, moved, nat_tests, Op, Pacing, StepsByMoves, Processor, processor_at, processor_kind, Shape, ShapesAreGood, started, Steps as HeapSteps, takes, those, uncounted, view, Words}
 use Rattle.gh_world.proofs.AllActors.Beside as beside
 use Rattle.gh_world.proofs.AllActors.Beside.{not_beginning}
 use Rattle.gh_world.proofs.AllActors.Counting as counting
@@ -84,7 +84,7 @@ module _ (shapes : List Shape) (l : Layout) (pacing : Pacing) (counts : ℕ → 
     -- in the last cycle each processor is gone, so that none steps
     not_last : (d : Coordinating) → IsLed shapes l pacing may (e ∷ es) d → d.is_last ≡ true → ⊥
     not_last d led_d is =
-        let led_was : IsLed shapes l pacing may es d = sym (other l k pacing e es (acks_of l) other_seat) ∙ led_d in
+        let led_was : IsLed shapes l pacing may es d = sym (other shapes l pacing e es (acks_of l) other_seat) ∙ led_d in
         gone_rests shapes l pacing may known lists e es legal lt ((lists.keeps es legal.0).processors_gone d led_was is a lt)
 
     gone_on : (v : Ever) → HasGoneOn v h s → HasGoneOn v t goes.then
@@ -164,9 +164,6 @@ module _ (shapes : List Shape) (l : Layout) (pacing : Pacing) (counts : ℕ → 
     asked : e.ask ≡ asks now
     asked = step.asked shapes l pacing counts good limits known e es legal lt h kn.of_list kn.good
 
-    abbrev After : Cycle → Type 0
-    After x = Steps x a s e.ask (λ t. MarkFacts x a t (takes shapes now e.found) × Knows z pacing may x t (e ∷ es))
-
     pub steps : Steps (cycle number few) a s e.ask (λ t. MarkFacts (cycle number few) a t (takes shapes now e.found) × Knows z pacing may (cycle number few) t (e ∷ es))
     steps = record {
       then = goes.then;
@@ -187,12 +184,8 @@ module _ (shapes : List Shape) (l : Layout) (pacing : Pacing) (counts : ℕ → 
     pub goes_so : Goes x
     goes_so fine kn facts = subst (λ (r : Arena). Goes (in_arena r)) (sym kn.arena_is) (λ f i m. steps e es legal c led on lt x.number x.few s number_is f i m) fine kn facts
 
-  pub marked : PollsByMoves z k pacing may stage_of MarkFacts (Knows z pacing may) (IsMeant z pacing may)
-  marked = record {
-    own_step = λ e es c legal meant led on x s m is fine kn lt at facts.
-        let same = run_is shapes l pacing may es e.actor m lt at in
-        subst (λ (p : Processor). Steps x e.actor s e.ask (λ t. MarkFacts x e.actor t (takes shapes (started k e.begun p) e.found) × Knows z pacing may x t (e ∷ es))) same
-        (goes_so e es legal c led on lt x s is.number_is fine kn (subst (MarkFacts x e.actor s) (sym same) facts));
-    lasts = λ x a s t m others facts. known.marks.lasts x a s t m others facts;
-    waits = λ x a s m stops parked facts. (known.marks.waits x a s m stops parked facts).nothing_in_hand;
-  }
+  pub marked : StepsByMoves z pacing may
+  marked e es c legal led on x s m is fine kn lt at facts =
+      let same = run_is shapes l pacing may es e.actor m lt at in
+      subst (λ (p : Processor). Steps x e.actor s e.ask (λ t. MarkFacts x e.actor t (takes shapes (started k e.begun p) e.found) × Knows z pacing may x t (e ∷ es))) same
+      (goes_so e es legal c led on lt x s is.number_is fine kn (subst (MarkFacts x e.actor s) (sym same) facts))

@@ -7,7 +7,7 @@ use Rattle.gh_marks.specs.Ends.{Opens}
 use Rattle.gh_marks.specs.Picture.{BeginsDrawn, CyclesBeginDrawn, EachStepIsDrawn, IsDrawn, many, MarkingEndsDrawn, WhatThePictureSays}
 use Rattle.gh_world.specs.Drawn.{begins, CycleIsDrawn, Drawing, steps}
 use Rattle.gh_world.specs.Marking.{IsStateOf}
-use Rattle.gh_world.proofs.Vocabulary.{arena, Coordinating, Cycle, EndsClean, Entry, IsChecked, IsDrawnSo, IsToBegin, Layout, Marking, MarkingGood, Op, Pacing, processor_kind, Shape, Went, words}
+use Rattle.gh_world.proofs.Vocabulary.{arena, Coordinating, Cycle, EndsClean, Entry, IsChecked, IsDrawnSo, IsToBegin, Layout, Marking, MarkingGood, Op, Pacing, Shape, Went, words}
 
 -- what is known of the picture
 pub record DrawnKnown : Type 0 where
@@ -37,7 +37,7 @@ module _ (shapes : List Shape) (l : Layout) (pacing : Pacing) (may : ℕ → Lis
   keeps es s p (begins _ _ first _ at starts same opens goes shows) = known.keeps first p goes (known.opens first opens)
   keeps es t p (steps e before s _ q _ at drawing went same goes shows) = known.keeps q p goes (keeps before s q drawing)
 
-  pub is_drawn : (es : List (Entry Op)) (c : Coordinating) (s : Marking) → IsStateOf (arena shapes l pacing may) (processor_kind shapes l) pacing may es c z s → MarkingGood z s → (IsChecked c.stage → EndsClean z s) → IsDrawnSo shapes l pacing may z s es 0 → CycleIsDrawn shapes l pacing may es c
+  pub is_drawn : (es : List (Entry Op)) (c : Coordinating) (s : Marking) → IsStateOf (arena shapes l pacing may) pacing may es c z s → MarkingGood z s → (IsChecked c.stage → EndsClean z s) → IsDrawnSo shapes l pacing may z s es 0 → CycleIsDrawn shapes l pacing may es c
   is_drawn es c s is good ends d =
       let fine : Invariants d.picture = keeps es s d.picture d.drawing in
       record {

@@ -11,7 +11,7 @@ use Rattle.gh_coord.specs.SweepingAll as sweep
 use Rattle.gh_coord.specs.Telling as tell
 use Rattle.gh_coord.specs.Watching as watch
 use Rattle.gh_world.specs.declared.handshake.Actor.TheVariants as actor
-use Rattle.gh_world.proofs.Vocabulary.{acks_of, Actor, actors_after, after_check, after_close, after_count, after_open, after_stop, after_stop_again, after_sweep, after_tell, after_watch, All, arena, at_stage, Check, Close, CloseStage, Coordinating, CoordStage, Count, Counted, counted, Done, Entry, goes, goes_at, GONE, IsLed, Layout, LoadAck, LoadWant, MarkOn, nat_lt, nat_tests, NotYet, Op, Open, Pacing, Processor, processor_kind, Shape, Stop, StopAgain, stops_world, Sweep, Tell, Watch, Watched}
+use Rattle.gh_world.proofs.Vocabulary.{acks_of, Actor, actors_after, after_check, after_close, after_count, after_open, after_stop, after_stop_again, after_sweep, after_tell, after_watch, All, arena, at_stage, Check, Close, CloseStage, Coordinating, CoordStage, Count, Counted, counted, Done, Entry, goes, goes_at, GONE, IsLed, Layout, LoadAck, LoadWant, MarkOn, nat_lt, nat_tests, NotYet, Op, Open, Pacing, Shape, Stop, StopAgain, stops_world, Sweep, Tell, Watch, Watched}
 use Rattle.gh_world.proofs.CycleMarking.Seats.{leads, other}
 
 -- where it ends marking it has a step to make
@@ -171,8 +171,8 @@ module _ (shapes : List Shape) (l : Layout) (pacing : Pacing) (may : ℕ → Lis
   abbrev n : ℕ
   n = acks_of l
 
-  abbrev at : List (Entry Op) → ℕ → Actor Processor
-  at es a = actors_after (arena shapes l pacing may) (processor_kind shapes l) pacing may es a
+  abbrev at : List (Entry Op) → ℕ → Actor
+  at es a = actors_after (arena shapes l pacing may) pacing may es a
 
   -- who is at the coordinator's seat
   pub record IsLedThen (es : List (Entry Op)) : Type 0 where
@@ -199,12 +199,12 @@ module _ (shapes : List Shape) (l : Layout) (pacing : Pacing) (may : ℕ → Lis
   one_more : (e : Entry Op) (es : List (Entry Op)) → IsLedThen es → IsLedThen (e ∷ es)
   one_more e es x = go (e.actor == n) refl where
     go : (b : Bool) → (e.actor == n) ≡ b → IsLedThen (e ∷ es)
-    go false b = record { lead = x.lead; led_by = other l (processor_kind shapes l) pacing e es n b ∙ x.led_by; going = x.going }
+    go false b = record { lead = x.lead; led_by = other shapes l pacing e es n b ∙ x.led_by; going = x.going }
     go true b =
         let end : e.actor ≡ n = grind (arith, nat_tests) in
         record {
           lead = goes x.lead e.found;
-          led_by = sym (ap (at (e ∷ es)) end) ∙ leads l (processor_kind shapes l) pacing e es x.lead (ap (at es) end ∙ x.led_by);
+          led_by = sym (ap (at (e ∷ es)) end) ∙ leads shapes l pacing e es x.lead (ap (at es) end ∙ x.led_by);
           going = goes_on (counted x.lead) x.lead.stage e.found x.going;
         }
 

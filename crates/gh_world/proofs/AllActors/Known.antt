@@ -18,7 +18,7 @@ use Rattle.gh_mutator.specs.Runs.{RunsByItsRights}
 use Rattle.gh_mutator.specs.Writing.{StacksAreNoted}
 use Rattle.gh_worker.specs.Writing.{CalmWorkersMarkNothing}
 use Rattle.gh_world.specs.Waits.{StacksAreNumbered, WorkersRest}
-use Rattle.gh_world.proofs.Vocabulary.{ChangesOneCell, Coordinating, CountsCycles, Entry, IsFew, IsLed, KeepsIt, Layout, Legal, MarkingBegins, Op, Pacing, party_of, ProcessorInHandshake, ProcessorWritesItsOwn, Shape, Sound, stage_of, StepKeepsIt, those, words_after, WorkersWriteTheirOwn}
+use Rattle.gh_world.proofs.Vocabulary.{ChangesOneCell, Coordinating, CountsCycles, Entry, IsFew, IsLed, KeepsIt, Layout, Legal, MarkingBegins, Op, Pacing, ProcessorInHandshake, ProcessorWritesItsOwn, Shape, StepKeepsIt, those, words_after, WorkersWriteTheirOwn}
 use Rattle.gh_world.proofs.AllActors.Drawing.{DrawnKnown}
 
 -- of steps and moves
@@ -71,8 +71,8 @@ pub record Known : Type 0 where
 
 -- of the lists of this heap
 pub record ListsKnown (shapes : List Shape) (l : Layout) (pacing : Pacing) (may : ℕ → List (Entry Op) → Op → Bool) : Type 0 where
-  pub keeps : (es : List (Entry Op)) → Legal (those shapes l pacing may) es → KeepsIt Sound party_of stage_of (those shapes l pacing may) es
-  pub steps : (e : Entry Op) (es : List (Entry Op)) → Legal (those shapes l pacing may) (e ∷ es) → StepKeepsIt Sound party_of stage_of (those shapes l pacing may) e es
+  pub keeps : (es : List (Entry Op)) → Legal (those shapes l pacing may) es → KeepsIt (those shapes l pacing may) es
+  pub steps : (e : Entry Op) (es : List (Entry Op)) → Legal (those shapes l pacing may) (e ∷ es) → StepKeepsIt (those shapes l pacing may) e es
   pub few : (es : List (Entry Op)) → Legal (those shapes l pacing may) es → IsFew es
   pub counts : (es : List (Entry Op)) (c : Coordinating) → Legal (those shapes l pacing may) es → IsLed shapes l pacing may es c → CountsCycles (those shapes l pacing may) pacing.room es c
   pub numbers : (es : List (Entry Op)) → Legal (those shapes l pacing may) es → StacksAreNumbered (words_after (those shapes l pacing may).opening es)

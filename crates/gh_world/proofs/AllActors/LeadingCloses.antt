@@ -4,7 +4,6 @@ use Rattle.gh_base.specs.declared.cell.Cell.TheVariants as cell
 use Rattle.gh_coord.specs.declared.close.CloseStage.TheVariants as closing
 use Rattle.gh_coord.specs.Closing as close
 use Rattle.gh_coord.specs.Handshake as leading
-use Rattle.gh_coord.specs.Listing as coord
 use Rattle.gh_coord.specs.SweepingAll as over_all
 use Rattle.gh_cycle.specs.Allocating.{IsFoundCalm}
 use Rattle.gh_cycle.specs.Ending.{end_of, IsCounted, IsOver, IsStill, with_next_generation}
@@ -13,7 +12,7 @@ use Rattle.gh_sweep.specs.Runs.{at_end}
 use Rattle.gh_world.specs.Handshake.{Sound as ActorSound}
 use Rattle.gh_world.specs.ActorsHold.{bare}
 use Rattle.gh_world.specs.Numbers.{IsLiveClear, IsTallyClear}
-use Rattle.gh_world.proofs.Vocabulary.{acks_of, ahead_at, alloc_words, Arena, arena, Body, By, Checked, Close, close_part, Coordinating, CoordStage, Cycle, CycleEnd, effect, END, EndedSo, Entry, far_in, Free, Head, Heap, IsBeginning, IsEnding, IsInCycle, IsInLimits, IsLed, IsMeant, IsSweeping, IsToBegin, Knows, Layout, Legal, mark_words, MarkFacts, Marking, MarksNothing, MarksToTheEnd, nat_tests, Op, Pacing, page_of, PageWord, Part, part_of, processor_at, processor_kind, put, Shape, ShapesAreGood, Sound, Spans, stage_of, Stopped, Store, SweepsAll, SweepsBeside, those, with_words, Words, words}
+use Rattle.gh_world.proofs.Vocabulary.{acks_of, ahead_at, alloc_words, Arena, arena, Body, By, Checked, Close, close_part, Coordinating, CoordStage, Cycle, CycleEnd, effect, END, EndedSo, Entry, far_in, Free, Head, Heap, IsBeginning, IsEnding, IsInCycle, IsInLimits, IsLed, IsSweeping, IsToBegin, Layout, Legal, mark_words, MarksNothing, MarksToTheEnd, nat_tests, Op, Pacing, page_of, PageWord, Part, part_of, processor_at, put, Shape, ShapesAreGood, Spans, Stopped, Store, SweepsAll, SweepsBeside, those, with_words, Words, words}
 use Rattle.gh_world.proofs.AllActors.Going.{NotAcks}
 use Rattle.gh_world.proofs.AllActors.Known.{Known, ListsKnown}
 use Rattle.gh_world.proofs.AllActors.LeadingEnds.{arena_is, buffers, facts, good_there, none_placing, post, reached_are_marked, still_at}
@@ -38,14 +37,11 @@ module _ (shapes : List Shape) (l : Layout) (pacing : Pacing) (may : ℕ → Lis
   z = arena shapes l pacing may
 
   abbrev Ends : List (Entry Op) → Coordinating → Type 0
-  Ends es c = MarksToTheEnd z (processor_kind shapes l) pacing may stage_of MarkFacts (Knows z pacing may) (IsMeant z pacing may) es c
+  Ends es c = MarksToTheEnd z pacing may es c
 
   module _ (e : Entry Op) (es : List (Entry Op)) (legal : Legal (those shapes l pacing may) (e ∷ es)) (c : Coordinating) (led : IsLed shapes l pacing may es c) (by : e.actor ≡ acks_of l) (x : close.Closing) (is : c.stage ≡ Close x) (at : x.stage ≡ closing.StoreGen) (on : leading.Marks c.stage) (mark : Ends es c) where
     abbrev y : Cycle
     y = mark.marking.cycle
-
-    abbrev s : Marking
-    s = mark.marking.shared
 
     abbrev h : Heap
     h = mark.marking.known.heap
@@ -85,7 +81,7 @@ module _ (shapes : List Shape) (l : Layout) (pacing : Pacing) (may : ℕ → Lis
         omega (arith, few, opened, gen)
 
     sound : (c.layout ≡ l) × leading.Sound c
-    sound = subst (ActorSound Sound l) led ((lists.keeps es legal.0).shakes.all_sound (acks_of l) (omega arith))
+    sound = subst (ActorSound l) led ((lists.keeps es legal.0).shakes.all_sound (acks_of l) (omega arith))
 
     stored : x.generation ≡ c.generation
     stored = ap (λ (v : close.Closing). v.generation) (subst (leading.SoundAt c) is sound.1.1)
@@ -149,9 +145,6 @@ module _ (shapes : List Shape) (l : Layout) (pacing : Pacing) (may : ℕ → Lis
     beside : SweepsBeside z (end_of z h mark.marking.shared) (with_words h (with_next_generation h.words)) (at_end (end_of z h mark.marking.shared)).shared
     beside = subst (λ (r : Arena). SweepsBeside r (end_of r h mark.marking.shared) (with_words h (with_next_generation h.words)) (at_end (end_of r h mark.marking.shared)).shared) there (known.begins mark.marking.cycle h mark.marking.shared is_over (reached_are_marked shapes l pacing may good limits known lists es legal.0 c led x is on mark))
 
-    abbrev u : Coordinating
-    u = coord.counted c
-
     sweeps_all : SweepsAll end (acks_of l) spans (over_all.opening c.layout c.generation)
     sweeps_all = record {
       layout_is = sound.0;
@@ -193,10 +186,6 @@ module _ (shapes : List Shape) (l : Layout) (pacing : Pacing) (may : ℕ → Lis
       go : (words shapes l pacing may es (cell.Scanned g) ≡ END) ⊎ (words shapes l pacing may es (cell.Scanned g) ≤ words shapes l pacing may es cell.Begun) → (h.words (cell.Scanned g) ≤ c.begun) ⊎ (h.words (cell.Scanned g) ≡ END)
       go (inl i) = inr (here ∙ i)
       go (inr i) = let b = begun_is in inl (omega (arith, here, i, b))
-
-    now_old : (now was : ℕ) → now ≡ was → (was ≤ c.begun) ⊎ (was ≡ END) → (now ≤ c.begun) ⊎ (now ≡ END)
-    now_old now was same (inl i) = inl (omega (arith, same, i))
-    now_old now was same (inr i) = inr (same ∙ i)
 
     calm_now : (a : ℕ) → a < l.procs → MarksNothing (processor_at shapes l pacing may es a)
     calm_now a lt = known.calm.behind mark.marking.cycle a mark.marking.shared (processor_at shapes l pacing may es a) _ (still_at shapes l pacing may good limits known lists es legal.0 c led x is on mark a lt) (facts shapes l pacing may good limits known lists es legal.0 c led x is on mark a lt)

@@ -11,7 +11,7 @@ use Rattle.gh_phase.specs.declared.view.RunPhase.TheVariants as run
 use Rattle.gh_worker.specs.Listing as worker
 use Rattle.gh_worker.specs.MarkFacts as worker_marks
 use Rattle.gh_world.specs.declared.handshake.Actor.TheVariants as actor
-use Rattle.gh_world.proofs.Vocabulary.{acks_of, Actor, actors_after, alloc_words, Arena, arena, birth_words, Body, By, Close, Coordinating, Cycle, EndsClean, EndsMarked, Entry, Ever, ever, far_in, Free, Good, Hands, Head, Heap, holder_in, IsBeginning, IsBounded, IsChecked, IsHeapOf, IsInCycle, IsInLimits, IsKnown, IsLed, IsMade, IsMarkedObject, IsMeant, IsParked, IsToBegin, Knows, Layout, Legal, mark_words, MarkFacts, Marking, MarksToTheEnd, Name, nothing, Op, Pacing, PageWord, Placed, Processor, processor_at, processor_kind, Reach, Row, row_bit, Shape, ShapesAreGood, stage_of, Stopped, those, view, WaitsWithNone, Words, words}
+use Rattle.gh_world.proofs.Vocabulary.{acks_of, Actor, actors_after, alloc_words, Arena, arena, birth_words, Close, Coordinating, Cycle, EndsClean, EndsMarked, Entry, Ever, ever, Good, Hands, Heap, holder_in, IsBeginning, IsBounded, IsChecked, IsHeapOf, IsInCycle, IsInLimits, IsKnown, IsLed, IsMade, IsMarkedObject, IsParked, IsToBegin, Layout, Legal, mark_words, MarkFacts, MarksToTheEnd, Name, nothing, Op, Pacing, Placed, processor_at, Reach, Row, row_bit, Shape, ShapesAreGood, stage_of, Stopped, those, view, WaitsWithNone, Words, words}
 use Rattle.gh_world.specs.Actors.{BeginsCycle}
 use Rattle.gh_world.specs.ActorsHold.{began}
 use Rattle.gh_world.proofs.AllActors.Beside.{not_beginning}
@@ -21,29 +21,20 @@ use Rattle.gh_world.proofs.AllActors.LeadingSeat.{parked}
 use Rattle.gh_world.proofs.AllActors.Resting.{runs_are}
 use Rattle.gh_world.proofs.CycleMarking.Seats.{IsSeated, seated}
 
--- where a cycle has ended nobody sweeps
-nobody_sweeps : (x : PageWord) (b : ℕ) → far_in x ≢ By b
-nobody_sweeps Free b is = absurd cc
-nobody_sweeps (Head h) b is = absurd cc
-nobody_sweeps (Body d) b is = absurd cc
-
 module _ (shapes : List Shape) (l : Layout) (pacing : Pacing) (may : ℕ → List (Entry Op) → Op → Bool) (good : ShapesAreGood shapes) (limits : IsInLimits l) (known : Known) (lists : ListsKnown shapes l pacing may) where
   abbrev z : Arena
   z = arena shapes l pacing may
 
-  abbrev at : List (Entry Op) → ℕ → Actor Processor
-  at es a = actors_after z (processor_kind shapes l) pacing may es a
+  abbrev at : List (Entry Op) → ℕ → Actor
+  at es a = actors_after z pacing may es a
 
   abbrev Ends : List (Entry Op) → Coordinating → Type 0
-  Ends es c = MarksToTheEnd z (processor_kind shapes l) pacing may stage_of MarkFacts (Knows z pacing may) (IsMeant z pacing may) es c
+  Ends es c = MarksToTheEnd z pacing may es c
 
   -- Where the coordinator has checked that nothing is left to be marked.
   module _ (es : List (Entry Op)) (legal : Legal (those shapes l pacing may) es) (c : Coordinating) (led : IsLed shapes l pacing may es c) (x : close.Closing) (is : c.stage ≡ Close x) (on : leading.Marks c.stage) (mark : Ends es c) where
     abbrev y : Cycle
     y = mark.marking.cycle
-
-    abbrev s : Marking
-    s = mark.marking.shared
 
     k : IsKnown shapes l pacing may mark.marking.cycle mark.marking.shared es
     k = mark.marking.known
@@ -69,13 +60,13 @@ module _ (shapes : List Shape) (l : Layout) (pacing : Pacing) (may : ℕ → Lis
     -- nobody has anything in hand
     seats : (a : ℕ) → Hands a mark.marking.shared nothing
     seats a = go (at es a) refl where
-      seat_of : (m : Actor Processor) → at es a ≡ m → IsSeated l a m
-      seat_of m i = subst (IsSeated l a) i (seated l (processor_kind shapes l) pacing es a)
+      seat_of : (m : Actor) → at es a ≡ m → IsSeated l a m
+      seat_of m i = subst (IsSeated l a) i (seated shapes l pacing es a)
 
       worker_has : (w : worker.Working) → WaitsWithNone (leading.lead_of c).stops w → worker_marks.Facts mark.marking.cycle a mark.marking.shared w → Hands a mark.marking.shared nothing
       worker_has w waits f = (subst (worker_marks.StageFacts mark.marking.cycle a mark.marking.shared w.held) waits.is_at f.stage_is).0
 
-      go : (m : Actor Processor) → at es a ≡ m → Hands a mark.marking.shared nothing
+      go : (m : Actor) → at es a ≡ m → Hands a mark.marking.shared nothing
       go (actor.Runs m) i =
           let lt : a < l.procs = seat_of (actor.Runs m) i in
           (known.marks.waits mark.marking.cycle a mark.marking.shared (processor_at shapes l pacing may es a) _ (still_at a lt) (facts a lt)).nothing_in_hand

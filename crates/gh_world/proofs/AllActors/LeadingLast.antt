@@ -15,14 +15,14 @@ use Rattle.gh_world.specs.Actors.{BeginsCycle}
 use Rattle.gh_world.specs.Handshake.{Sound as ActorSound}
 use Rattle.gh_world.specs.HoldVocabulary.{IsCalm, marks_at}
 use Rattle.gh_world.specs.Numbers.{IsLiveCounted}
-use Rattle.gh_world.proofs.Vocabulary.{acks_of, acts, alloc_words, Arena, arena, Ask, birth_words, Close, Coordinating, CoordStage, CycleEnd, Done, effect, EndedSo, EndsAllMarked, EndsCycle, Entry, Ever, ever, Gone, Heap, is_last_task, IsEnding, IsInLimits, IsJustSwept, IsHeapOf, IsLed, IsMade, IsMarkedObject, IsOf, IsPlacedAt, IsQuiet, IsStartOf, IsStepIn, last_of, last_phase, Layout, Lead, Leads, LeavesTheReached, Legal, mod_below, Name, new_stage_at, NewStage, Op, Pacing, page_words, part_of, party_of, place_of, Placed, placed, Polling, polls_at, PollStage, processor_at, processor_kind, Reach, ResumeStage, Row, row_bit, Shape, slot_row, Sound, Spans, stage_at, stage_of, started, Store, Task, those, view, Waiting, waiting, waits_at, WaitStage, Words, words}
+use Rattle.gh_world.proofs.Vocabulary.{acks_of, acts, alloc_words, Arena, arena, Ask, birth_words, Close, Coordinating, CoordStage, CycleEnd, Done, effect, EndedSo, EndsAllMarked, EndsCycle, Entry, Ever, ever, Gone, Heap, is_last_task, IsEnding, IsInLimits, IsJustSwept, IsHeapOf, IsLed, IsMade, IsMarkedObject, IsOf, IsPlacedAt, IsQuiet, IsStartOf, IsStepIn, last_of, last_phase, Layout, Lead, Leads, LeavesTheReached, Legal, mod_below, Name, new_stage_at, NewStage, Op, Pacing, page_words, part_of, party_of, place_of, Placed, placed, Polling, polls_at, PollStage, processor_at, processor_kind, Reach, ResumeStage, Row, row_bit, Shape, slot_row, Spans, stage_at, stage_of, started, Store, Task, those, view, Waiting, waiting, waits_at, WaitStage, Words, words}
 use Rattle.gh_world.proofs.AllActors.Known.{Known, ListsKnown}
 use Rattle.gh_world.proofs.AllActors.LeadingNames.{placed_there}
-use Rattle.gh_world.proofs.AllActors.LeadingNumbers.{ends_once, legal_start}
+use Rattle.gh_world.proofs.AllActors.LeadingNumbers.{ends_once}
 use Rattle.gh_world.proofs.AllActors.LeadingOnce.{begins_once}
 use Rattle.gh_world.proofs.AllActors.LeadingSeat.{asked_at, from}
 use Rattle.gh_world.proofs.AllActors.Resting.{ever_stays, runs_are}
-use Rattle.gh_world.proofs.AllActors.Starts.{start_of_start}
+use Rattle.gh_world.proofs.AllActors.Starts.{legal_start, start_of_start}
 use Rattle.gh_world.proofs.Explained.Made.{acted_no_fewer}
 
 -- Who is gone has left.
@@ -119,7 +119,7 @@ module _ (shapes : List Shape) (l : Layout) (pacing : Pacing) (may : ℕ → Lis
     by_end : (ended : List (Entry Op)) → IsStartOf ended es → EndsCycle shapes l pacing may k ended → (begun : List (Entry Op)) → IsStartOf begun es → BeginsCycle shapes l pacing may k begun → (n : Name) → IsMade (ever shapes l pacing may begun).made n → IsMarkedObject shapes l pacing may (words shapes l pacing may ended) n → Reach (ever shapes l pacing may begun) n
     by_end [] start step begun of_begun begins n made set = absurd step
     by_end (d ∷ ds) start step begun of_begun begins n made set =
-        let legal_d = legal_start shapes l pacing may known lists (d ∷ ds) es start legal in
+        let legal_d = legal_start (those shapes l pacing may) (d ∷ ds) es start legal in
         let m = ends d ds k start step in
         let one : m.begun ≡ begun = begins_once shapes l pacing may known lists k m.begun begun es legal (start_of_start m.begun (d ∷ ds) es (inr m.start) start) of_begun (subst (λ (i : ℕ). BeginsCycle shapes l pacing may i m.begun) step.cycle m.begins) begins in
         let here : IsMade (ever shapes l pacing may m.begun).made n = subst (λ (ys : List (Entry Op)). IsMade (ever shapes l pacing may ys).made n) (sym one) made in
@@ -135,7 +135,7 @@ module _ (shapes : List Shape) (l : Layout) (pacing : Pacing) (may : ℕ → Lis
     finished : last_phase es ≡ run.Finished
     finished =
         let shakes = (lists.keeps es legal).shakes in
-        let led_is : Leads shakes.lead ≡ Leads (leading.lead_of c) = sym shakes.leads ∙ ap (place_of party_of stage_of) led in
+        let led_is : Leads shakes.lead ≡ Leads (leading.lead_of c) = sym shakes.leads ∙ ap place_of led in
         let lead_is : shakes.lead ≡ leading.lead_of c = cc in
         shakes.led.last_is ∙ (ap (λ (x : Lead). last_of x.post) lead_is ∙ ap (λ (p : CoordStage). last_of (leading.post_at p)) done)
 
@@ -143,7 +143,7 @@ module _ (shapes : List Shape) (l : Layout) (pacing : Pacing) (may : ℕ → Lis
       gone : stage_of (processor_at shapes l pacing may es a) ≡ Gone
       gone =
           let keeps = lists.keeps es legal in
-          let there = ap (place_of party_of stage_of) (runs_are shapes l pacing may es a lt) in
+          let there = ap place_of (runs_are shapes l pacing may es a lt) in
           (keeps.shakes.gone a (party_of (processor_at shapes l pacing may es a)) (stage_of (processor_at shapes l pacing may es a)) (omega (arith, lt)) there).0 (keeps.processors_left a lt finished)
 
       left_there : is_last_task (processor_at shapes l pacing may es a).task ≡ true
@@ -158,7 +158,7 @@ module _ (shapes : List Shape) (l : Layout) (pacing : Pacing) (may : ℕ → Lis
     -- it was the last
     was_last : c.is_last ≡ true
     was_last =
-        let sound = subst (ActorSound Sound l) led ((lists.keeps es legal).shakes.all_sound (acks_of l) (omega arith)) in
+        let sound = subst (ActorSound l) led ((lists.keeps es legal).shakes.all_sound (acks_of l) (omega arith)) in
         subst (leading.SoundAt c) done sound.1.1
 
     -- the last cycle has changed no value
@@ -187,7 +187,7 @@ module _ (shapes : List Shape) (l : Layout) (pacing : Pacing) (may : ℕ → Lis
       marked_at : (ended : List (Entry Op)) → IsStartOf ended es → EndsCycle shapes l pacing may c.begun ended → ever shapes l pacing may es ≡ ever shapes l pacing may ended → IsMarkedObject shapes l pacing may (words shapes l pacing may ended) n ↔ Reach (ever shapes l pacing may es) n
       marked_at [] start x same = absurd x
       marked_at (d ∷ ds) start x same =
-          let legal_d = legal_start shapes l pacing may known lists (d ∷ ds) es start legal in
+          let legal_d = legal_start (those shapes l pacing may) (d ∷ ds) es start legal in
           let same_d = same ∙ ever_then d ds legal_d c.begun x n in (
             (λ i. subst (λ (v : Ever). Reach v n) (sym same_ever) (by_end es legal c.begun q.heap q.of_list q.end q.spans q.calm j.ended j.left ends (d ∷ ds) start x j.cycle.begun j.cycle.start j.cycle.begins n made_then i)),
             (λ r. marked_now d ds legal_d c.begun x n ((ends d ds c.begun start x).reached n (subst (λ (v : Ever). Reach v n) same_d r))),

@@ -17,7 +17,8 @@ use Rattle.gh_coord.specs.SweepingAll as over
 use Rattle.gh_coord.specs.Telling as tell
 use Rattle.gh_coord.specs.Watching as watch
 use Rattle.gh_world.specs.Actors.{IsTelling, SweepsCycle}
-use Rattle.gh_world.proofs.Vocabulary.{acks_of, ahead_at, Ask, Check, Close, CloseStage, Coordinating, CoordStage, Count, CountStage, effect, EndsCycle, Entry, generation_of, IsBeginning, IsEnding, IsLed, IsStartOf, Layout, Legal, nat_tests, Op, Open, opened_in, OpenStage, Pacing, part_of, processor_kind, Shape, Stop, StopAgain, StopStage, Sweep, SweepAllStage, Tell, TellStage, those, Watch, WatchStage, Words, words}
+use Rattle.gh_world.proofs.AllActors.Starts.{legal_start}
+use Rattle.gh_world.proofs.Vocabulary.{acks_of, ahead_at, Ask, Check, Close, CloseStage, Coordinating, CoordStage, Count, CountStage, effect, EndsCycle, Entry, generation_of, IsBeginning, IsEnding, IsLed, IsStartOf, Layout, Legal, nat_tests, Op, Open, opened_in, OpenStage, Pacing, part_of, Shape, Stop, StopAgain, StopStage, Sweep, SweepAllStage, Tell, TellStage, those, Watch, WatchStage, Words, words}
 use Rattle.gh_world.proofs.AllActors.Known.{Known, ListsKnown}
 use Rattle.gh_world.proofs.AllActors.LeadingSeat.{asked_at, goes_at as goes_by, led_then}
 use Rattle.gh_world.proofs.AllActors.LeadingSweep.{numbers_stay}
@@ -28,10 +29,10 @@ use Rattle.gh_world.proofs.CycleNumbers.Seats.{led_by}
 -- Starts of a list.
 
 -- of two starts of a list one is a start of the other
-pub compared : {O : Type 0} → (first second es : List (Entry O)) → IsStartOf first es → IsStartOf second es → IsStartOf first second ⊎ IsStartOf second first
-compared first second [] x y = inl (subst (λ (s : List (Entry _)). IsStartOf first s) (sym y) x)
-compared first second (e ∷ es) (inl x) y = inr (subst (λ (s : List (Entry _)). IsStartOf second s) (sym x) y)
-compared first second (e ∷ es) (inr x) (inl y) = inl (subst (λ (s : List (Entry _)). IsStartOf first s) (sym y) (inr x))
+pub compared : (first second es : List (Entry Op)) → IsStartOf first es → IsStartOf second es → IsStartOf first second ⊎ IsStartOf second first
+compared first second [] x y = inl (subst (λ (s : List (Entry Op)). IsStartOf first s) (sym y) x)
+compared first second (e ∷ es) (inl x) y = inr (subst (λ (s : List (Entry Op)). IsStartOf second s) (sym x) y)
+compared first second (e ∷ es) (inr x) (inl y) = inl (subst (λ (s : List (Entry Op)). IsStartOf first s) (sym y) (inr x))
 compared first second (e ∷ es) (inr x) (inr y) = compared first second es x y
 
 -- The words of the generation and of the last swept cycle, by the coordinator's step: but for the two stores, they are as they were.
@@ -139,11 +140,6 @@ module _ (shapes : List Shape) (l : Layout) (pacing : Pacing) (may : ℕ → Lis
   abbrev gen : List (Entry Op) → ℕ
   gen es = words shapes l pacing may es cell.Gen
 
-  pub legal_start : (start es : List (Entry Op)) → IsStartOf start es → Lawful es → Lawful start
-  legal_start start [] is legal = subst Lawful (sym is) legal
-  legal_start start (e ∷ es) (inl is) legal = subst Lawful (sym is) legal
-  legal_start start (e ∷ es) (inr is) legal = legal_start start es is legal.0
-
   -- the numbers at a list whose coordinator is at such a stage
   pub numbers_at : (es : List (Entry Op)) (c : Coordinating) (p : CoordStage) (opened numbered ended : ℕ) → Lawful es → Led es c → c.stage ≡ p → Numbered p opened numbered ended → (opened_in es ≡ swept es + opened) × (c.begun ≡ swept es + numbered) × (gen es ≡ generation_of (swept es + ended))
   numbers_at es c p opened numbered ended legal led is n =
@@ -229,7 +225,7 @@ module _ (shapes : List Shape) (l : Layout) (pacing : Pacing) (may : ℕ → Lis
   -- a step of another leaves the coordinator
   other_rises : (e : Entry Op) (es : List (Entry Op)) → Lawful (e ∷ es) → (c : Coordinating) → Led es c → (e.actor == acks_of l) ≡ false → Rises es (e ∷ es)
   other_rises e es legal c led x =
-      let there : Led (e ∷ es) c = other l (processor_kind shapes l) pacing e es (acks_of l) x ∙ led in
+      let there : Led (e ∷ es) c = other shapes l pacing e es (acks_of l) x ∙ led in
       let a = lists.counts es c legal.0 led in
       let b = lists.counts (e ∷ es) c legal there in
       let a0 = a.opened in
@@ -242,8 +238,8 @@ module _ (shapes : List Shape) (l : Layout) (pacing : Pacing) (may : ℕ → Lis
   one_rises : (e : Entry Op) (es : List (Entry Op)) → Lawful (e ∷ es) → Rises es (e ∷ es)
   one_rises e es legal = go (e.actor == acks_of l) refl where
     go : (b : Bool) → (e.actor == acks_of l) ≡ b → Rises es (e ∷ es)
-    go true x = let y = led_by l (processor_kind shapes l) pacing may es in lead_rises e es legal y.lead y.led_by (grind (arith, nat_tests))
-    go false x = let y = led_by l (processor_kind shapes l) pacing may es in other_rises e es legal y.lead y.led_by x
+    go true x = let y = led_by shapes l pacing may es in lead_rises e es legal y.lead y.led_by (grind (arith, nat_tests))
+    go false x = let y = led_by shapes l pacing may es in other_rises e es legal y.lead y.led_by x
 
   same_rises : (es : List (Entry Op)) → Rises es es
   same_rises es = record { swept_up = omega arith; gen_up = omega arith }
@@ -264,7 +260,7 @@ module _ (shapes : List Shape) (l : Layout) (pacing : Pacing) (may : ℕ → Lis
   pub fresh : (k : ℕ) (es swept_by : List (Entry Op)) (c : Coordinating) → Lawful es → Led es c → IsBeginning c.stage → c.begun ≡ k → IsStartOf swept_by es → SweepsCycle shapes l pacing may k swept_by → ⊥
   fresh k es [] c legal led at is start sweeps = sweeps
   fresh k es (d ∷ ds) c legal led at is start sweeps =
-      let told = tells_it d ds (legal_start (d ∷ ds) es start legal) sweeps.lead sweeps.led sweeps.by sweeps.stage in
+      let told = tells_it d ds (legal_start (those shapes l pacing may) (d ∷ ds) es start legal) sweeps.lead sweeps.led sweeps.by sweeps.stage in
       let up = (start_rises (d ∷ ds) es start legal).swept_up in
       let n = (numbers_at es c c.stage 1 1 0 legal led refl (beginning c.stage at)).1 in
       let t = told.swept_then in
@@ -274,7 +270,7 @@ module _ (shapes : List Shape) (l : Layout) (pacing : Pacing) (may : ℕ → Lis
   -- a cycle ends once
   ends_before : (k : ℕ) (d f : Entry Op) (ds fs : List (Entry Op)) → Lawful (f ∷ fs) → EndsCycle shapes l pacing may k (d ∷ ds) → EndsCycle shapes l pacing may k (f ∷ fs) → IsStartOf (d ∷ ds) fs → ⊥
   ends_before k d f ds fs legal x y start =
-      let a = ends_it d ds (legal_start (d ∷ ds) fs start legal.0) x.lead x.led x.by x.stage in
+      let a = ends_it d ds (legal_start (those shapes l pacing may) (d ∷ ds) fs start legal.0) x.lead x.led x.by x.stage in
       let b = ends_it f fs legal y.lead y.led y.by y.stage in
       let up = (start_rises (d ∷ ds) fs start legal.0).gen_up in
       let a2 = a.gen_then in
@@ -292,5 +288,5 @@ module _ (shapes : List Shape) (l : Layout) (pacing : Pacing) (may : ℕ → Lis
   pub ends_once : (k : ℕ) (first second es : List (Entry Op)) → Lawful es → IsStartOf first es → IsStartOf second es → EndsCycle shapes l pacing may k first → EndsCycle shapes l pacing may k second → first ≡ second
   ends_once k first second es legal of_first of_second x y = go (compared first second es of_first of_second) where
     go : IsStartOf first second ⊎ IsStartOf second first → first ≡ second
-    go (inl s) = ends_at k first second (legal_start second es of_second legal) x y s
-    go (inr s) = sym (ends_at k second first (legal_start first es of_first legal) y x s)
+    go (inl s) = ends_at k first second (legal_start (those shapes l pacing may) second es of_second legal) x y s
+    go (inr s) = sym (ends_at k second first (legal_start (those shapes l pacing may) first es of_first legal) y x s)

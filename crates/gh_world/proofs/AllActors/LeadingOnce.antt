@@ -10,9 +10,10 @@ use Rattle.gh_coord.specs.SweepingAll as over
 use Rattle.gh_coord.specs.Telling as tell
 use Rattle.gh_coord.specs.Watching as watch
 use Rattle.gh_world.specs.Actors.{BeginsCycle}
-use Rattle.gh_world.proofs.Vocabulary.{acks_of, All, Ask, Check, Close, Coordinating, CoordStage, Count, Counted, Done, Entry, IsBeginning, IsLed, IsStartOf, Layout, Legal, LoadAck, LoadWant, MarkOn, nat_tests, NotYet, Op, Open, opened_after, opened_in, OpenStage, Pacing, processor_kind, Shape, Stop, StopAgain, Sweep, Tell, those, Watch, Watched}
+use Rattle.gh_world.proofs.AllActors.Starts.{legal_start}
+use Rattle.gh_world.proofs.Vocabulary.{acks_of, All, Ask, Check, Close, Coordinating, CoordStage, Count, Counted, Done, Entry, IsBeginning, IsLed, IsStartOf, Layout, Legal, LoadAck, LoadWant, MarkOn, nat_tests, NotYet, Op, Open, opened_after, opened_in, OpenStage, Pacing, Shape, Stop, StopAgain, Sweep, Tell, those, Watch, Watched}
 use Rattle.gh_world.proofs.AllActors.Known.{Known, ListsKnown}
-use Rattle.gh_world.proofs.AllActors.LeadingNumbers.{beginning, compared, legal_start, numbers_at}
+use Rattle.gh_world.proofs.AllActors.LeadingNumbers.{beginning, compared, numbers_at}
 use Rattle.gh_world.proofs.AllActors.LeadingSeat.{asked_at, busy, goes_at as goes_by, led_then}
 use Rattle.gh_world.proofs.CycleMarking.Seats.{other}
 use Rattle.gh_world.proofs.CycleNumbers.Lists.{rises}
@@ -139,12 +140,12 @@ module _ (shapes : List Shape) (l : Layout) (pacing : Pacing) (may : ℕ → Lis
           go (inr more) = absurd (let x : opened_in (e ∷ es) ≡ suc (opened_in es) = ap (λ (q : Ask). opened_after q (opened_in es)) (asked_at shapes l pacing may known lists e es legal c led by c.stage refl) ∙ more (opened_in es) in let y = before in omega (arith, x, y, same))
 
     past_by_other : (e.actor == acks_of l) ≡ false → opened_in (e ∷ es) ≡ opened → (d : Coordinating) → Led (e ∷ es) d → IsPast d.stage
-    past_by_other x same d led_d = p.past (let a = up in let b = p.least in omega (arith, a, b, same)) d (sym (other l (processor_kind shapes l) pacing e es (acks_of l) x) ∙ led_d)
+    past_by_other x same d led_d = p.past (let a = up in let b = p.least in omega (arith, a, b, same)) d (sym (other shapes l pacing e es (acks_of l) x) ∙ led_d)
 
     past_on : PastSince opened (e ∷ es)
     past_on = record { least = (let a = up in let b = p.least in omega (arith, a, b)); past = go (e.actor == acks_of l) refl } where
       go : (b : Bool) → (e.actor == acks_of l) ≡ b → opened_in (e ∷ es) ≡ opened → (d : Coordinating) → Led (e ∷ es) d → IsPast d.stage
-      go true x = let y = led_by l (processor_kind shapes l) pacing may es in past_by_lead y.lead y.led_by (grind (arith, nat_tests))
+      go true x = let y = led_by shapes l pacing may es in past_by_lead y.lead y.led_by (grind (arith, nat_tests))
       go false x = past_by_other x
 
   past_since : (opened : ℕ) (start es : List (Entry Op)) → IsStartOf start es → Lawful es → PastSince opened start → PastSince opened es
@@ -169,7 +170,7 @@ module _ (shapes : List Shape) (l : Layout) (pacing : Pacing) (may : ℕ → Lis
 
   begins_before : (k : ℕ) (d f : Entry Op) (ds fs : List (Entry Op)) → Lawful (f ∷ fs) → BeginsCycle shapes l pacing may k (d ∷ ds) → BeginsCycle shapes l pacing may k (f ∷ fs) → IsStartOf (d ∷ ds) fs → ⊥
   begins_before k d f ds fs legal x y start =
-      let p = past_since k (d ∷ ds) fs start legal.0 (past_begun k d ds (legal_start shapes l pacing may known lists (d ∷ ds) fs start legal.0) x) in
+      let p = past_since k (d ∷ ds) fs start legal.0 (past_begun k d ds (legal_start (those shapes l pacing may) (d ∷ ds) fs start legal.0) x) in
       let n = numbers_at shapes l pacing may known lists fs y.lead y.lead.stage 1 1 0 legal.0 y.led refl (beginning y.lead.stage y.stage) in
       let a = n.0 in
       let b = n.1 in
@@ -185,5 +186,5 @@ module _ (shapes : List Shape) (l : Layout) (pacing : Pacing) (may : ℕ → Lis
   pub begins_once : (k : ℕ) (first second es : List (Entry Op)) → Lawful es → IsStartOf first es → IsStartOf second es → BeginsCycle shapes l pacing may k first → BeginsCycle shapes l pacing may k second → first ≡ second
   begins_once k first second es legal of_first of_second x y = go (compared first second es of_first of_second) where
     go : IsStartOf first second ⊎ IsStartOf second first → first ≡ second
-    go (inl s) = begins_at k first second (legal_start shapes l pacing may known lists second es of_second legal) x y s
-    go (inr s) = sym (begins_at k second first (legal_start shapes l pacing may known lists first es of_first legal) y x s)
+    go (inl s) = begins_at k first second (legal_start (those shapes l pacing may) second es of_second legal) x y s
+    go (inr s) = sym (begins_at k second first (legal_start (those shapes l pacing may) first es of_first legal) y x s)

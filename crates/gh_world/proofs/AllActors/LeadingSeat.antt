@@ -8,7 +8,7 @@ use Rattle.gh_mutator.specs.declared.task.Task.TheVariants as task
 use Rattle.gh_world.specs.declared.handshake.Actor.TheVariants as actor
 use Rattle.gh_world.specs.Handshake.{asks}
 use Rattle.gh_world.specs.ActorsHold.{uncounted_new}
-use Rattle.gh_world.proofs.Vocabulary.{acks_of, Actor, actors, actors_after, Arena, arena, Ask, cell_of, Coordinating, CoordStage, Entry, Heap, is_busy, IsHeapOf, IsLed, IsParked, Layout, Legal, nat_tests, new_stage_at, NewStage, Op, Pacing, Polling, Processor, processor_at, processor_kind, Right, RunPhase, Shape, stage_at, stage_of, started, Stopped, Task, those, uncounted, view, words}
+use Rattle.gh_world.proofs.Vocabulary.{acks_of, Actor, actors, actors_after, Arena, arena, Coordinating, CoordStage, Entry, Heap, is_busy, IsHeapOf, IsLed, IsParked, Layout, Legal, nat_tests, new_stage_at, NewStage, Op, Pacing, Polling, processor_at, Right, RunPhase, Shape, stage_at, stage_of, started, Stopped, Task, those, uncounted, view}
 use Rattle.gh_world.proofs.AllActors.Known.{Known, ListsKnown}
 use Rattle.gh_world.proofs.AllActors.Resting.{runs_are}
 use Rattle.gh_world.proofs.CycleMarking.Seats.{lead_started, leads}
@@ -24,8 +24,8 @@ parked_at p stops (task.New x) parked = parked_new p stops x.stage parked
 parked_at p stops _ parked = refl
 
 module _ (shapes : List Shape) (l : Layout) (pacing : Pacing) (may : ℕ → List (Entry Op) → Op → Bool) where
-  abbrev at : List (Entry Op) → ℕ → Actor Processor
-  at es a = actors_after (arena shapes l pacing may) (processor_kind shapes l) pacing may es a
+  abbrev at : List (Entry Op) → ℕ → Actor
+  at es a = actors_after (arena shapes l pacing may) pacing may es a
 
   abbrev Led : List (Entry Op) → Coordinating → Type 0
   Led es c = IsLed shapes l pacing may es c
@@ -65,20 +65,17 @@ module _ (shapes : List Shape) (l : Layout) (pacing : Pacing) (may : ℕ → Lis
       led_there : at es e.actor ≡ actor.Leads c
       led_there = ap (at es) by ∙ led
 
-      begun_is : started (actors l (processor_kind shapes l) pacing) e.begun (at es e.actor) ≡ actor.Leads c
-      begun_is = ap (started (actors l (processor_kind shapes l) pacing) e.begun) led_there ∙ lead_started l (processor_kind shapes l) pacing e.begun c
+      begun_is : started (actors shapes l pacing) e.begun (at es e.actor) ≡ actor.Leads c
+      begun_is = ap (started (actors shapes l pacing) e.begun) led_there ∙ lead_started shapes l pacing e.begun c
 
       pub busy : coord.is_busy c.stage ≡ true
-      busy = sym (ap (is_busy (processor_kind shapes l)) begun_is) ∙ legal.1.runs
+      busy = sym (ap is_busy begun_is) ∙ legal.1.runs
 
       pub asked : e.ask ≡ coord.asks c
-      asked = legal.1.asks ∙ ap (asks (processor_kind shapes l)) begun_is
-
-      pub found_is : e.found ≡ words shapes l pacing may es (cell_of (coord.asks c))
-      found_is = legal.1.found ∙ ap (λ (q : Ask). words shapes l pacing may es (cell_of q)) asked
+      asked = legal.1.asks ∙ ap asks begun_is
 
       pub led_then : Led (e ∷ es) (coord.goes c e.found)
-      led_then = sym (ap (at (e ∷ es)) by) ∙ leads l (processor_kind shapes l) pacing e es c led_there
+      led_then = sym (ap (at (e ∷ es)) by) ∙ leads shapes l pacing e es c led_there
 
       -- at this stage
       pub asked_at : (p : CoordStage) → c.stage ≡ p → e.ask ≡ coord.asks_at c p

@@ -10,7 +10,7 @@ use Rattle.gh_coord.specs.Telling as tell
 use Rattle.gh_world.specs.Actors.{standing_objects, WasCounted}
 use Rattle.gh_world.specs.ActorsHold.{HasRead, IsCounting}
 use Rattle.gh_world.specs.HoldVocabulary.{alloc_at, AllWereCounted, marked_objects, marks_at, TallyWord, tally_of, unmarked_objects}
-use Rattle.gh_world.proofs.Vocabulary.{acks_of, alloc_words, Arena, arena, Ask, cell_of, Coordinating, CoordStage, Count, CountStage, Done, effect, Entry, HoldsAt, IsJustSwept, IsLed, IsQuiet, IsTelling, Layout, Legal, Load, LoadAck, mark_words, Op, Pacing, Shape, Tell, TellStage, those, Words, words}
+use Rattle.gh_world.proofs.Vocabulary.{acks_of, alloc_words, Ask, cell_of, Coordinating, CoordStage, Count, CountStage, Done, effect, Entry, HoldsAt, IsJustSwept, IsLed, IsQuiet, IsTelling, Layout, Legal, Load, LoadAck, mark_words, Op, Pacing, Shape, Tell, TellStage, those, Words, words}
 use Rattle.gh_world.proofs.AllActors.Aside.{loads_only, phase_only, swept_only, TellsNothing, trigger_only}
 use Rattle.gh_world.proofs.AllActors.Going.{keeps_last, NotAcks}
 use Rattle.gh_world.proofs.AllActors.Known.{Known, ListsKnown}
@@ -41,9 +41,6 @@ one_of (w ∷ xs) x y (suc i) is = go (one_of xs x y i is) where
   go (inr k) = inr k
 
 module _ (shapes : List Shape) (l : Layout) (pacing : Pacing) (may : ℕ → List (Entry Op) → Op → Bool) (known : Known) (lists : ListsKnown shapes l pacing may) where
-  abbrev z : Arena
-  z = arena shapes l pacing may
-
   -- the heap is calm, and the cycle just swept
   abbrev pub Just : List (Entry Op) → Coordinating → Type 0
   Just es c = (q : IsQuiet shapes l pacing may es c) × IsJustSwept shapes l pacing may es c q.heap q.end

@@ -3,7 +3,7 @@ use Rattle.std.proofs.Common.{◌≡◌, inr, ℕ, Bool, refl, sym, ap, subst, �
 use Rattle.gh_coord.specs.Closing as close
 use Rattle.gh_coord.specs.Handshake as leading
 use Rattle.gh_world.specs.Actors.{BeginsCycle, IsTelling}
-use Rattle.gh_world.proofs.Vocabulary.{acks_of, Arena, arena, Close, Coordinating, CoordStage, EndsAllMarked, EndsMarked, Entry, HoldsAt, IsEnding, IsInLimits, IsLed, IsMeant, IsStartOf, IsStepIn, Knows, Layout, Legal, MarkFacts, Op, Pacing, processor_kind, Shape, ShapesAreGood, stage_of, Tell, those, WasMarked, WasSo}
+use Rattle.gh_world.proofs.Vocabulary.{acks_of, Arena, arena, Close, Coordinating, CoordStage, EndsAllMarked, EndsMarked, Entry, HoldsAt, IsEnding, IsInLimits, IsLed, IsStartOf, IsStepIn, Layout, Legal, Op, Pacing, Shape, ShapesAreGood, Tell, those, WasMarked, WasSo}
 use Rattle.gh_world.proofs.AllActors.Known.{Known, ListsKnown}
 use Rattle.gh_world.proofs.AllActors.LeadingEnds.{ends_marked}
 use Rattle.gh_world.proofs.AllActors.LeadingLast.{marked_were}
@@ -23,7 +23,7 @@ module _ (shapes : List Shape) (l : Layout) (pacing : Pacing) (may : ℕ → Lis
   z = arena shapes l pacing may
 
   abbrev pub Was : List (Entry Op) → Type 0
-  Was es = WasMarked z (processor_kind shapes l) pacing may stage_of MarkFacts (Knows z pacing may) (IsMeant z pacing may) es
+  Was es = WasMarked z pacing may es
 
   module _ (e : Entry Op) (es : List (Entry Op)) (legal : Legal (those shapes l pacing may) (e ∷ es)) (was : Was es) (c : Coordinating) (led : IsLed shapes l pacing may es c) (by : e.actor ≡ acks_of l) (at : HoldsAt shapes l pacing may es c c.stage) where
     one_led : (d : Coordinating) → IsLed shapes l pacing may es d → d ≡ c

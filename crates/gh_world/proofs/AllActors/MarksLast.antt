@@ -12,7 +12,7 @@ use Rattle.gh_worker.specs.Listing as worker
 use Rattle.gh_world.specs.declared.handshake.Actor.TheVariants as actor
 use Rattle.gh_world.specs.Handshake.{asks, Sound as SoundActor}
 use Rattle.gh_world.specs.ActorsHold.{began, unmarked}
-use Rattle.gh_world.proofs.Vocabulary.{acks_of, Actor, actors, actors_after, Arena, arena, AreWords, Ask, cell_of, Coordinating, Cycle, Entry, Ever, ever, Good, Heap, is_busy, IsInCycle, IsInLimits, IsKnown, IsLed, IsOf, IsToBegin, Layout, Legal, mark_words, Marking, MarkingGood, mod_below, nat_tests, Op, Pacing, Processor, processor_kind, Shape, Sound, started, those, uncounted, view, Went, Words, words}
+use Rattle.gh_world.proofs.Vocabulary.{acks_of, Actor, actors, actors_after, Arena, arena, AreWords, Ask, cell_of, Coordinating, Cycle, Entry, Ever, ever, Good, Heap, is_busy, IsInCycle, IsInLimits, IsKnown, IsLed, IsOf, IsToBegin, Layout, Legal, mark_words, Marking, MarkingGood, mod_below, nat_tests, Op, Pacing, Processor, Shape, started, those, uncounted, view, Went, Words, words}
 use Rattle.gh_world.proofs.AllActors.Aside as aside
 use Rattle.gh_world.proofs.AllActors.Aside.{IsBeside, IsOfMarking}
 use Rattle.gh_world.proofs.AllActors.Bare.{bare_stays}
@@ -33,42 +33,42 @@ module _ (shapes : List Shape) (l : Layout) (pacing : Pacing) (may : ℕ → Lis
   abbrev n : ℕ
   n = acks_of l
 
-  abbrev at : List (Entry Op) → ℕ → Actor Processor
-  at xs a = actors_after z (processor_kind shapes l) pacing may xs a
+  abbrev at : List (Entry Op) → ℕ → Actor
+  at xs a = actors_after z pacing may xs a
 
-  seat_of : (a : ℕ) (m : Actor Processor) → at es a ≡ m → IsSeated l a m
-  seat_of a m is = subst (IsSeated l a) is (seated l (processor_kind shapes l) pacing es a)
+  seat_of : (a : ℕ) (m : Actor) → at es a ≡ m → IsSeated l a m
+  seat_of a m is = subst (IsSeated l a) is (seated shapes l pacing es a)
 
   one_lead : (xs : List (Entry Op)) (c d : Coordinating) → at xs n ≡ actor.Leads c → at xs n ≡ actor.Leads d → c ≡ d
   one_lead xs c d x y = let both : actor.Leads c ≡ actor.Leads d = sym x ∙ y in cc
 
   -- a worker's step
   module _ (w : worker.Working) (is : at es e.actor ≡ actor.Marks w) where
-    begun_is : started (actors l (processor_kind shapes l) pacing) e.begun (at es e.actor) ≡ actor.Marks w
-    begun_is = ap (started (actors l (processor_kind shapes l) pacing) e.begun) is ∙ worker_started l (processor_kind shapes l) pacing e.begun w
+    begun_is : started (actors shapes l pacing) e.begun (at es e.actor) ≡ actor.Marks w
+    begun_is = ap (started (actors shapes l pacing) e.begun) is ∙ worker_started shapes l pacing e.begun w
 
     pub asked : e.ask ≡ worker.asks w
-    asked = legal.1.asks ∙ ap (asks (processor_kind shapes l)) begun_is
+    asked = legal.1.asks ∙ ap asks begun_is
 
     pub busy : worker.is_busy w.stage ≡ true
-    busy = sym (ap (is_busy (processor_kind shapes l)) begun_is) ∙ legal.1.runs
+    busy = sym (ap is_busy begun_is) ∙ legal.1.runs
 
     pub sound : working.Sound w
-    sound = subst (SoundActor Sound l) is ((lists.keeps es legal.0).shakes.all_sound e.actor legal.1.actor)
+    sound = subst (SoundActor l) is ((lists.keeps es legal.0).shakes.all_sound e.actor legal.1.actor)
 
     worker_beside : IsOfMarking e.ask
     worker_beside = subst IsOfMarking (sym asked) (works_beside known.one w.seat (worker.asks w) (known.workers_write w sound busy))
 
   -- the coordinator's, as long as the cycle is marked behind it
   module _ (c then : Coordinating) (is : at es e.actor ≡ actor.Leads c) (led_then : IsLed shapes l pacing may (e ∷ es) then) (on : leading.Marks then.stage) where
-    lead_begun : started (actors l (processor_kind shapes l) pacing) e.begun (at es e.actor) ≡ actor.Leads c
-    lead_begun = ap (started (actors l (processor_kind shapes l) pacing) e.begun) is ∙ lead_started l (processor_kind shapes l) pacing e.begun c
+    lead_begun : started (actors shapes l pacing) e.begun (at es e.actor) ≡ actor.Leads c
+    lead_begun = ap (started (actors shapes l pacing) e.begun) is ∙ lead_started shapes l pacing e.begun c
 
     lead_asked : e.ask ≡ coord.asks c
-    lead_asked = legal.1.asks ∙ ap (asks (processor_kind shapes l)) lead_begun
+    lead_asked = legal.1.asks ∙ ap asks lead_begun
 
     lead_busy : coord.is_busy c.stage ≡ true
-    lead_busy = sym (ap (is_busy (processor_kind shapes l)) lead_begun) ∙ legal.1.runs
+    lead_busy = sym (ap is_busy lead_begun) ∙ legal.1.runs
 
     lead_found : e.found ≡ words shapes l pacing may es (cell_of (coord.asks c))
     lead_found = legal.1.found ∙ ap (λ (q : Ask). words shapes l pacing may es (cell_of q)) lead_asked
@@ -77,7 +77,7 @@ module _ (shapes : List Shape) (l : Layout) (pacing : Pacing) (may : ℕ → Lis
     at_end = let ge : n ≤ e.actor = (seat_of e.actor (actor.Leads c) is).0 in let lt : e.actor < n + 1 = legal.1.actor in omega (arith, ge, lt)
 
     goes_is : coord.goes c e.found ≡ then
-    goes_is = let end = at_end in one_lead (e ∷ es) (coord.goes c e.found) then (sym (ap (at (e ∷ es)) end) ∙ leads l (processor_kind shapes l) pacing e es c is) led_then
+    goes_is = let end = at_end in one_lead (e ∷ es) (coord.goes c e.found) then (sym (ap (at (e ∷ es)) end) ∙ leads shapes l pacing e es c is) led_then
 
     goes_by : Goes l c.begun (words shapes l pacing may es) c c.stage (coord.goes c e.found)
     goes_by = goes_so l c.begun (words shapes l pacing may es) c (coord.counted c).marks (seat_of e.actor (actor.Leads c) is).1 refl c.stage e.found lead_busy lead_found
@@ -95,7 +95,7 @@ module _ (shapes : List Shape) (l : Layout) (pacing : Pacing) (may : ℕ → Lis
 
   pub is_beside : (then : Coordinating) → IsLed shapes l pacing may (e ∷ es) then → leading.Marks then.stage → IsOfMarking e.ask
   is_beside then led_then on = go (at es e.actor) refl where
-    go : (m : Actor Processor) → at es e.actor ≡ m → IsOfMarking e.ask
+    go : (m : Actor) → at es e.actor ≡ m → IsOfMarking e.ask
     go (actor.Runs m) is = absurd (let lt : e.actor < l.procs = seat_of e.actor (actor.Runs m) is in omega (arith, lt, ge))
     go (actor.Marks w) is = worker_beside w is
     go (actor.Leads c) is = lead_beside c then is led_then on
@@ -153,7 +153,7 @@ module _ (shapes : List Shape) (l : Layout) (pacing : Pacing) (may : ℕ → Lis
       last_then : (i : IsInCycle shapes l pacing may es c.number) (d : Coordinating) → IsLed shapes l pacing may (e ∷ es) d → d.is_last ≡ true → ever shapes l pacing may (e ∷ es) ≡ ever shapes l pacing may i.begun
       last_then i d led_d is = go (e.actor == n) refl where
         go : (x : Bool) → (e.actor == n) ≡ x → ever shapes l pacing may (e ∷ es) ≡ ever shapes l pacing may i.begun
-        go false x = ever_then ∙ i.last d (sym (other l (processor_kind shapes l) pacing e es n x) ∙ led_d) is
+        go false x = ever_then ∙ i.last d (sym (other shapes l pacing e es n x) ∙ led_d) is
         go true x = by_lead (leads_then shapes l pacing may es) where
           by_lead : IsLedThen shapes l pacing may es → ever shapes l pacing may (e ∷ es) ≡ ever shapes l pacing may i.begun
           by_lead b =
@@ -170,7 +170,7 @@ module _ (shapes : List Shape) (l : Layout) (pacing : Pacing) (may : ℕ → Lis
 
         go : (x : Bool) → (e.actor == n) ≡ x → Since
         go true x = (inr (record { begun = e ∷ es; start = inl refl; begins = record { lead = b.lead; led = b.led; by = grind (arith, nat_tests); stage = b.stage; cycle = b.cycle }; last = λ d led_d is. refl }), gone)
-        go false x = (inl (record { lead = b.lead; led = other l (processor_kind shapes l) pacing e es n x ∙ b.led; stage = b.stage; cycle = b.cycle }), gone)
+        go false x = (inl (record { lead = b.lead; led = other shapes l pacing e es n x ∙ b.led; stage = b.stage; cycle = b.cycle }), gone)
 
       abbrev since : Since
       since = cycle_then k.cycle k.gone_on

@@ -55,7 +55,7 @@ module _ (shapes : List Shape) (l : Layout) (pacing : Pacing) (may : ℕ → Lis
   as_it_should a lt = record {
     sound = known.writes.sound_first l a;
     pending = None;
-    fine = known.runs.opens z a (view h) lt refl refl refl (record { locked = refl; holds = λ p. refl; laying = refl; freeing = refl });
+    fine = known.runs.opens z a (view h) lt refl refl (record { locked = refl; holds = λ p. refl; laying = refl; freeing = refl });
     answers = refl;
     notes = λ g its. known.notes.first l a g;
     ended = λ g its x. absurd (elim x [ inl y ↦ cc | inr y ↦ cc ]);

@@ -29,8 +29,8 @@ module _ (shapes : List Shape) (l : Layout) (pacing : Pacing) (counts : ℕ → 
   abbrev k : Kind Processor Op
   k = processor_kind shapes l
 
-  abbrev all : Kind (Actor Processor) Op
-  all = actors l k pacing
+  abbrev all : Kind Actor Op
+  all = actors shapes l pacing
 
   module _ (e : Entry Op) (es : List (Entry Op)) (legal : Legal (those shapes l pacing may) (e ∷ es)) (lt : e.actor < l.procs) (h : Heap) (of : IsHeapOf shapes l pacing may es h) (gh : Good z (view h)) (tells : TellsStacks h.words (started k e.begun (processor_at shapes l pacing may es e.actor))) where
     abbrev pub a : ℕ

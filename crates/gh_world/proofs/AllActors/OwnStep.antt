@@ -20,8 +20,8 @@ module _ (shapes : List Shape) (l : Layout) (pacing : Pacing) (counts : ℕ → 
   abbrev k : Kind Processor Op
   k = processor_kind shapes l
 
-  abbrev all : Kind (Actor Processor) Op
-  all = actors l k pacing
+  abbrev all : Kind Actor Op
+  all = actors shapes l pacing
 
   module _ (e : Entry Op) (es : List (Entry Op)) (legal : Legal (those shapes l pacing may) (e ∷ es)) (lt : e.actor < l.procs) (h : Heap) (of : IsHeapOf shapes l pacing may es h) (gh : Good z (view h)) where
     abbrev pub a : ℕ
@@ -70,7 +70,7 @@ module _ (shapes : List Shape) (l : Layout) (pacing : Pacing) (counts : ℕ → 
     busy = busy_now shapes l pacing counts known e es legal lt
 
     pub asked : e.ask ≡ asks now
-    asked = legal.1.asks ∙ ap (asks_by k) (ap (started all e.begun) (runs_are shapes l pacing may es a lt) ∙ run_started l k pacing e.begun m)
+    asked = legal.1.asks ∙ ap asks_by (ap (started all e.begun) (runs_are shapes l pacing may es a lt) ∙ run_started shapes l pacing e.begun m)
 
     abbrev pub found : ℕ
     found = h.words (cell_of (asks now))

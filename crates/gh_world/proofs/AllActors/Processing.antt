@@ -7,7 +7,7 @@ use Rattle.gh_coord.specs.Handshake as leading
 use Rattle.gh_coord.specs.Opening as opens_by
 use Rattle.gh_coord.specs.Telling as tells_by
 use Rattle.gh_world.specs.Handshake as handshake
-use Rattle.gh_world.proofs.Vocabulary.{acks_of, Actor, actors, arena, Check, Close, Coordinating, CoordStage, Count, Done, Entry, Holds, HoldsAt, IsLed, IsMeant, IsQuiet, IsTelling, KeepsIt, Kind, Knows, last_of, last_phase, Layout, Lead, Leads, LeavesTheReached, Legal, LoadAck, LoadWant, MarkFacts, MarkOn, Op, Open, OpenStage, Pacing, PackedWordsAreReadBack, party_of, place_of, Processor, processor_kind, RunPhase, Shape, ShapesAreGood, Sound, stage_of, Stop, StopAgain, Stopped, Sweep, Tell, TellStage, those, WasMarked, Watch, Words, words}
+use Rattle.gh_world.proofs.Vocabulary.{acks_of, Actor, actors, arena, Check, Close, Coordinating, CoordStage, Count, Done, Entry, Holds, HoldsAt, IsLed, IsQuiet, IsTelling, KeepsIt, Kind, last_of, last_phase, Layout, Lead, Leads, LeavesTheReached, Legal, LoadAck, LoadWant, MarkOn, Op, Open, OpenStage, Pacing, PackedWordsAreReadBack, place_of, RunPhase, Shape, ShapesAreGood, Stop, StopAgain, Stopped, Sweep, Tell, TellStage, those, WasMarked, Watch}
 use Rattle.gh_world.proofs.AllActors.Gone.{gone_rests}
 use Rattle.gh_world.proofs.AllActors.Known.{Known, ListsKnown}
 use Rattle.gh_world.proofs.AllActors.Others.{was_by_others}
@@ -23,17 +23,14 @@ open_stopped opening.Ended busy = absurd (cc)
 open_stopped _ busy = refl
 
 module _ (shapes : List Shape) (l : Layout) (pacing : Pacing) (may : ℕ → List (Entry Op) → Op → Bool) (good : ShapesAreGood shapes) (back : PackedWordsAreReadBack) (known : Known) (lists : ListsKnown shapes l pacing may)
-    (e : Entry Op) (es : List (Entry Op)) (legal : Legal (those shapes l pacing may) (e ∷ es)) (was : WasMarked (arena shapes l pacing may) (processor_kind shapes l) pacing may stage_of MarkFacts (Knows (arena shapes l pacing may) pacing may) (IsMeant (arena shapes l pacing may) pacing may) es) (c : Coordinating) (led : IsLed shapes l pacing may es c) (among : e.actor < acks_of l) where
+    (e : Entry Op) (es : List (Entry Op)) (legal : Legal (those shapes l pacing may) (e ∷ es)) (was : WasMarked (arena shapes l pacing may) pacing may es) (c : Coordinating) (led : IsLed shapes l pacing may es c) (among : e.actor < acks_of l) where
   abbrev H : List (Entry Op) → Type 0
   H xs = Holds shapes l pacing may xs c
 
-  abbrev all : Kind (Actor Processor) Op
-  all = actors l (processor_kind shapes l) pacing
+  abbrev all : Kind Actor Op
+  all = actors shapes l pacing
 
-  abbrev told : List (Entry Op) → Words
-  told xs = words shapes l pacing may xs
-
-  keeps : KeepsIt Sound party_of stage_of (those shapes l pacing may) es
+  keeps : KeepsIt (those shapes l pacing may) es
   keeps = lists.keeps es legal.0
 
   -- with these two all is said
@@ -49,7 +46,7 @@ module _ (shapes : List Shape) (l : Layout) (pacing : Pacing) (may : ℕ → Lis
 
   phase_is : c.stage ≡ Done → last_phase es ≡ run.Finished
   phase_is done =
-      let leads : Leads keeps.shakes.lead ≡ Leads (leading.lead_of c) = sym keeps.shakes.leads ∙ ap (place_of party_of stage_of) led in
+      let leads : Leads keeps.shakes.lead ≡ Leads (leading.lead_of c) = sym keeps.shakes.leads ∙ ap place_of led in
       let same : keeps.shakes.lead ≡ leading.lead_of c = cc in
       keeps.shakes.led.last_is ∙ (ap (λ (x : Lead). last_of x.post) same ∙ ap (λ (p : CoordStage). last_of (leading.post_at p)) done)
 
@@ -68,7 +65,7 @@ module _ (shapes : List Shape) (l : Layout) (pacing : Pacing) (may : ℕ → Lis
   stopped_at p phase is post = ap leading.post_at is ∙ post
 
   open_busy : (o : opens_by.CycleOpening) → c.stage ≡ Open o → opens_by.is_busy o.stage ≡ true
-  open_busy o is = (subst (leading.SoundAt c) is (subst (handshake.Sound Sound l) led (keeps.shakes.all_sound (acks_of l) (omega arith))).1.1).1
+  open_busy o is = (subst (leading.SoundAt c) is (subst (handshake.Sound l) led (keeps.shakes.all_sound (acks_of l) (omega arith))).1.1).1
 
   -- A processor.
   module _ (lt : e.actor < l.procs) (quiet : IsCalmStage c.stage → IsQuiet shapes l pacing may es c → IsQuiet shapes l pacing may (e ∷ es) c) where

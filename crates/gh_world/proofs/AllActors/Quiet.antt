@@ -8,7 +8,7 @@ use Rattle.gh_cycle.specs.Allocating.{GoesOn, SweepStays}
 use Rattle.gh_heap.specs.Moves.{Quiet}
 use Rattle.gh_world.specs.ActorsHold.{EndedSo, IsInCycle, IsJustSwept, IsQuiet, IsReady, processor_at, uncounted, unmarked}
 use Rattle.gh_world.specs.HoldVocabulary.{alloc_words, arena, Arena, BeginsCycle, birth_words, Coordinating, CountsAreExact, CycleEnd, EndsCycle, Entry, Heap, IsLed, Layout, Legal, MarksNothing, Name, Op, Pacing, page_words, Placed, Processor, Shape, tally_of, Words, words}
-use Rattle.gh_world.specs.Those.{those}
+use Rattle.gh_world.specs.Handshake.{those}
 use Rattle.gh_world.proofs.AllActors.Aside.{beside_of, good_goes_on, heap_goes_on, IsAside, TellsNothing, then}
 use Rattle.gh_world.proofs.AllActors.Bare.{bare_stays}
 use Rattle.gh_world.proofs.AllActors.Known.{Known}
@@ -64,9 +64,6 @@ module _ (shapes : List Shape) (l : Layout) (pacing : Pacing) (may : ℕ → Lis
   module _ (tells : TellsNothing e.ask) (c d : Coordinating) (same : d.begun ≡ c.begun) where
     abbrev IsSwept : List (Entry Op) → Coordinating → Type 0
     IsSwept xs x = (q : IsQuiet shapes l pacing may xs x) × IsJustSwept shapes l pacing may xs x q.heap q.end
-
-    abbrev next : IsQuiet shapes l pacing may es c → Heap
-    next q = then shapes l pacing may known e es legal ge (beside_of e.ask tells.aside) q.heap q.of_list q.calm.heap
 
     -- the coordinator, where it is its step, keeps whether the cycle is the last
     abbrev KeepsLast : Type 0

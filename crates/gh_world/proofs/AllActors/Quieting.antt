@@ -7,7 +7,7 @@ use Rattle.gh_phase.specs.declared.view.RunPhase.TheVariants as run
 use Rattle.gh_phase.specs.Handshake.{is_stop, run_word}
 use Rattle.gh_mutator.specs.declared.task.Task.TheVariants as task
 use Rattle.gh_mutator.specs.Calm.{FindsNoMarking}
-use Rattle.gh_world.proofs.Vocabulary.{Answer, Arena, arena, Ask, asks, begins, Cell, cell_of, Coordinating, CoordStage, DoesPoints, Done, END, Entry, Fine, has_left_at, Heap, is_busy_at, IsInLimits, IsLed, IsQuiet, IsSound, IsWritten, KeepsIt, last_of, last_phase, Layout, Lead, Leads, Legal, LoadAck, LoadWant, MarksNothing, may_of, nat_tests, Op, Pacing, party_of, place_of, Processor, processor_at, processor_kind, Shape, ShapesAreGood, Sound, Spans, stage_of, started, Steps, Stop, stop_word, StopStage, those, uncounted, view, Words}
+use Rattle.gh_world.proofs.Vocabulary.{Answer, Arena, arena, Ask, asks, begins, Cell, cell_of, Coordinating, CoordStage, DoesPoints, Done, END, Entry, Fine, has_left_at, Heap, is_busy_at, IsInLimits, IsLed, IsQuiet, IsSound, IsWritten, KeepsIt, last_of, last_phase, Layout, Lead, Leads, Legal, LoadAck, LoadWant, MarksNothing, may_of, nat_tests, Op, Pacing, place_of, Processor, processor_at, processor_kind, Shape, ShapesAreGood, Spans, started, Steps, Stop, stop_word, StopStage, those, uncounted, view, Words}
 use Rattle.gh_world.proofs.AllActors.Endings.{is_end}
 use Rattle.gh_world.specs.ActorsHold.{bare, unmarked}
 use Rattle.gh_world.specs.HoldVocabulary.{IsCalm}
@@ -166,11 +166,11 @@ module _ (shapes : List Shape) (l : Layout) (pacing : Pacing) (counts : ℕ → 
 
   -- It finds no marking.
 
-  keeps : KeepsIt Sound party_of stage_of (those shapes l pacing may) es
+  keeps : KeepsIt (those shapes l pacing may) es
   keeps = lists.keeps es legal.0
 
   lead_is : keeps.shakes.lead ≡ leading.lead_of c
-  lead_is = let both : Leads keeps.shakes.lead ≡ Leads (leading.lead_of c) = sym keeps.shakes.leads ∙ ap (place_of party_of stage_of) led in cc
+  lead_is = let both : Leads keeps.shakes.lead ≡ Leads (leading.lead_of c) = sym keeps.shakes.leads ∙ ap place_of led in cc
 
   last_is : last_phase es ≢ run.Mark
   last_is x = not_marking c.stage calm_stage (sym (keeps.shakes.led.last_is ∙ ap (λ (y : Lead). last_of y.post) lead_is) ∙ x)

@@ -70,8 +70,8 @@ module _ (shapes : List Shape) (l : Layout) (pacing : Pacing) (counts : ℕ → 
   abbrev k : Kind Processor Op
   k = processor_kind shapes l
 
-  abbrev all : Kind (Actor Processor) Op
-  all = actors l k pacing
+  abbrev all : Kind Actor Op
+  all = actors shapes l pacing
 
   fit : DeedsFit k (deeds shapes)
   fit = known.fit shapes l
@@ -91,7 +91,7 @@ module _ (shapes : List Shape) (l : Layout) (pacing : Pacing) (counts : ℕ → 
     here = runs_are shapes l pacing may es e.actor lt
 
     pub busy_now : is_busy_at now.task ≡ true
-    busy_now = sym (ap (is_busy k) (ap (started all e.begun) here ∙ run_started l k pacing e.begun m)) ∙ legal.1.runs
+    busy_now = sym (ap is_busy (ap (started all e.begun) here ∙ run_started shapes l pacing e.begun m)) ∙ legal.1.runs
 
     -- where an operation begins
     pub record BeginsSo (o : Op) : Type 0 where
@@ -101,7 +101,7 @@ module _ (shapes : List Shape) (l : Layout) (pacing : Pacing) (counts : ℕ → 
     pub begins_so : (o : Op) → e.begun ≡ Some o → BeginsSo o
     begins_so o is =
         let b = subst (λ (x : Option Op). Begins (those shapes l pacing may) e.actor es x) is legal.1.begins in
-        record { idle = sym (ap (is_busy k) here) ∙ b.0; may_now = b.1 }
+        record { idle = sym (ap is_busy here) ∙ b.0; may_now = b.1 }
 
     pub unacted_begun : (o : Op) → e.begun ≡ Some o → (deeds shapes).unacted now ≡ with_point (deeds shapes) (Some o)
     unacted_begun o is =

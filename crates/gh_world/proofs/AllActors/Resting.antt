@@ -1,7 +1,7 @@
 -- At the seat of a worker or of the coordinator no operation begins: a processor there would rest. So no entry of theirs acts, gives an answer or begins anything; and at a processor's seat the actor is what its own entries make of it.
 use Rattle.std.proofs.Common.{◌≡◌, ◌≢◌, ℕ, ◌<◌, ◌≤◌, ◌==◌, Bool, true, false, cond, ltb, refl, sym, ap, subst, ◌∙◌, arith, List, [], ◌∷◌, Option, Some, None}
 use Rattle.std.proofs.lemmas.Bool.Decides.{nat_tests}
-use Rattle.gh_base.specs.Lists.{by}
+use Rattle.gh_base.specs.Lists.{Begins, by}
 use Rattle.gh_base.specs.Orders.{before_step}
 use Rattle.gh_coord.specs.Listing as coord
 use Rattle.gh_mutator.specs.Deeds.{acted, deeds, OnlyPointsChange, processor_kind}
@@ -11,36 +11,31 @@ use Rattle.gh_worker.specs.Listing as worker
 use Rattle.gh_world.specs.declared.handshake.Actor.{Actor}
 use Rattle.gh_world.specs.declared.handshake.Actor.TheVariants as actor
 use Rattle.gh_world.specs.Actors.{arena, ever}
-use Rattle.gh_world.specs.Handshake.{actors, is_busy, Pacing, takes as takes_actor}
+use Rattle.gh_world.specs.Handshake.{actors, is_busy, Pacing, takes as takes_actor, those}
 use Rattle.gh_world.specs.HoldVocabulary.{acks_of, actors_after, answers_of, Entry, given_of, Layout, Legal, Op, opening_words, Processor, Shape, started, state_of}
-use Rattle.gh_world.specs.Those.{those}
 use Rattle.gh_world.proofs.CycleMarking.Seats.{IsSeated, run_started, seated}
 
 module _ (shapes : List Shape) (l : Layout) (pacing : Pacing) (may : ℕ → List (Entry Op) → Op → Bool) where
-  abbrev at : List (Entry Op) → ℕ → Actor Processor
-  at es a = actors_after (arena shapes l pacing may) (processor_kind shapes l) pacing may es a
+  abbrev at : List (Entry Op) → ℕ → Actor
+  at es a = actors_after (arena shapes l pacing may) pacing may es a
 
   -- who is no processor begins nothing
-  nothing_begins : (o : Option Op) (x : Actor Processor) → ((m : Processor) → x ≢ actor.Runs m) → is_busy (processor_kind shapes l) (started (actors l (processor_kind shapes l) pacing) o x) ≡ true →
-      (y : Op) → o ≡ Some y → is_busy (processor_kind shapes l) x ≡ false → ⊥
+  nothing_begins : (o : Option Op) (x : Actor) → ((m : Processor) → x ≢ actor.Runs m) → is_busy (started (actors shapes l pacing) o x) ≡ true →
+      (y : Op) → o ≡ Some y → is_busy x ≡ false → ⊥
   nothing_begins None x other runs y e idle = absurd cc
   nothing_begins (Some o) (actor.Runs m) other runs y e idle = absurd (other m refl)
   nothing_begins (Some o) (actor.Marks w) other runs y e idle = absurd (let both : true ≡ false = sym runs ∙ idle in cc)
   nothing_begins (Some o) (actor.Leads c) other runs y e idle = absurd (let both : true ≡ false = sym runs ∙ idle in cc)
 
-  module _ (e : Entry Op) (es : List (Entry Op)) (legal : Legal (those shapes l pacing may) (e ∷ es)) (ge : l.procs ≤ e.actor) where
-    no_processor : (m : Processor) → at es e.actor ≢ actor.Runs m
-    no_processor m is =
-        let lt : e.actor < l.procs = subst (IsSeated l e.actor) is (seated l (processor_kind shapes l) pacing es e.actor) in
-        absurd (omega (arith, lt, ge))
+  pub begins_none : (a : ℕ) (es : List (Entry Op)) (o : Option Op) → l.procs ≤ a → Begins (those shapes l pacing may) a es o → is_busy (started (actors shapes l pacing) o (at es a)) ≡ true → o ≡ None
+  begins_none a es None ge begins runs = refl
+  begins_none a es (Some y) ge begins runs = absurd (nothing_begins (Some y) (at es a) no_processor runs y refl begins.0) where
+    no_processor : (m : Processor) → at es a ≢ actor.Runs m
+    no_processor m is = absurd (let lt : a < l.procs = subst (IsSeated l a) is (seated shapes l pacing es a) in omega (arith, lt, ge))
 
+  module _ (e : Entry Op) (es : List (Entry Op)) (legal : Legal (those shapes l pacing may) (e ∷ es)) (ge : l.procs ≤ e.actor) where
     pub begins_nothing : e.begun ≡ None
-    begins_nothing = go e.begun refl where
-      go : (o : Option Op) → e.begun ≡ o → o ≡ None
-      go None is = refl
-      go (Some y) is =
-          let b = subst (λ (x : Option Op). Rattle.gh_base.specs.Lists.Begins (those shapes l pacing may) e.actor es x) is legal.1.begins in
-          absurd (nothing_begins e.begun (at es e.actor) no_processor legal.1.runs y is b.0)
+    begins_nothing = begins_none e.actor es e.begun ge legal.1.begins legal.1.runs
 
     -- the step of a worker or of the coordinator
     pub rests_on : state_of (processor_kind shapes l) e.actor es ≡ opening_processor l e.actor → before_step (processor_kind shapes l) (deeds shapes) es e ≡ opening_processor l e.actor
@@ -88,9 +83,9 @@ module _ (shapes : List Shape) (l : Layout) (pacing : Pacing) (may : ℕ → Lis
 
   runs_on : (e : Entry Op) (es : List (Entry Op)) (a : ℕ) → at es a ≡ actor.Runs (state_of (processor_kind shapes l) a es) → at (e ∷ es) a ≡ actor.Runs (state_of (processor_kind shapes l) a (e ∷ es))
   runs_on e es a is = go (e.actor == a) refl where
-    go : (b : Bool) → (e.actor == a) ≡ b → cond b (takes_actor (processor_kind shapes l) (started (actors l (processor_kind shapes l) pacing) e.begun (at es a)) e.found) (at es a) ≡ actor.Runs (cond b ((processor_kind shapes l).takes (started (processor_kind shapes l) e.begun (state_of (processor_kind shapes l) a es)) e.found) (state_of (processor_kind shapes l) a es))
+    go : (b : Bool) → (e.actor == a) ≡ b → cond b (takes_actor shapes (started (actors shapes l pacing) e.begun (at es a)) e.found) (at es a) ≡ actor.Runs (cond b ((processor_kind shapes l).takes (started (processor_kind shapes l) e.begun (state_of (processor_kind shapes l) a es)) e.found) (state_of (processor_kind shapes l) a es))
     go false x = is
-    go true x = ap (λ (y : Actor Processor). takes_actor (processor_kind shapes l) y e.found) (ap (started (actors l (processor_kind shapes l) pacing) e.begun) is ∙ run_started l (processor_kind shapes l) pacing e.begun (state_of (processor_kind shapes l) a es))
+    go true x = ap (λ (y : Actor). takes_actor shapes y e.found) (ap (started (actors shapes l pacing) e.begun) is ∙ run_started shapes l pacing e.begun (state_of (processor_kind shapes l) a es))
 
   pub runs_are : (es : List (Entry Op)) (a : ℕ) → a < l.procs → at es a ≡ actor.Runs (state_of (processor_kind shapes l) a es)
   runs_are [] a lt = runs_first a lt

@@ -9,11 +9,10 @@ use Rattle.gh_coord.specs.Handshake as leading
 use Rattle.gh_world.specs.declared.handshake.Actor.TheVariants as actor
 use Rattle.gh_world.specs.Actors.{AllStands, AllWereCounted, AreNamed, LeavesTheReached, StepsWithin}
 use Rattle.gh_world.specs.ActorsHold.{Holds, HoldsAt, IsHeapOf, IsQuiet, IsTelling, processor_at}
-use Rattle.gh_world.specs.ActorsMark.{IsMeant, Knows}
 use Rattle.gh_world.specs.Drawn.{CycleIsDrawn}
-use Rattle.gh_world.specs.HoldVocabulary.{arena, Arena, Coordinating, Entry, ever, Heap, IsInLimits, IsLed, Layout, MarkFacts, Op, opening_words, Pacing, processor_kind, Shape, stage_of, words}
-use Rattle.gh_world.specs.Marking.{MarksToTheEnd}
+use Rattle.gh_world.specs.HoldVocabulary.{arena, Arena, Coordinating, Entry, ever, Heap, IsInLimits, IsLed, Layout, Op, opening_words, Pacing, Shape, words}
 use Rattle.gh_world.specs.Processors.{ListStands, StandsFor}
+use Rattle.gh_world.proofs.CycleMarking.Asked.{MarksToTheEnd}
 use Rattle.gh_world.proofs.AllActors.Drawing.{is_drawn}
 use Rattle.gh_world.proofs.AllActors.Going.{goes_then, IsGoing}
 use Rattle.gh_world.proofs.AllActors.Known.{Known}
@@ -25,7 +24,7 @@ module _ (shapes : List Shape) (l : Layout) (pacing : Pacing) (may : ℕ → Lis
 
   -- what is known of marking while a cycle is marked
   abbrev pub Marked : Type 0
-  Marked = MarksToTheEnd z (processor_kind shapes l) pacing may stage_of MarkFacts (Knows z pacing may) (IsMeant z pacing may) es c
+  Marked = MarksToTheEnd z pacing may es c
 
   module _ (limits : IsInLimits l) (back : PackedWordsAreReadBack) (known : Known) (led : IsLed shapes l pacing may es c) where
     -- a state of the heap of the list, for which the words stand

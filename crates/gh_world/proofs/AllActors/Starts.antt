@@ -2,20 +2,28 @@
 use Rattle.std.proofs.Common.{◌≡◌, ℕ, Bool, refl, sym, ap, subst, ◌∙◌, inl, inr, List, [], ◌∷◌}
 use Rattle.gh_coord.specs.declared.coord.CoordStage.{CoordStage}
 use Rattle.gh_coord.specs.declared.coord.CoordStage.TheVariants.{Open}
+use Rattle.gh_base.specs.Lists.{Setting}
+use Rattle.gh_world.specs.declared.handshake.Actor.{Actor}
 use Rattle.gh_world.specs.Actors.{AllWereCounted, BeginsCycle, EndsAllMarked, EndsMarked, ever, FreesTheUnreached, IsEnding, IsLed, IsStepIn, IsTelling, SweepsCycle, words}
-use Rattle.gh_world.specs.HoldVocabulary.{Coordinating, Entry, IsMade, Layout, Name, Op, Pacing, Reach, Shape}
+use Rattle.gh_world.specs.HoldVocabulary.{Coordinating, Entry, IsMade, Layout, Legal, Name, Op, Pacing, Reach, Shape}
 use Rattle.gh_world.specs.Marking.{IsBeginning, IsStartOf}
 use Rattle.gh_world.specs.Processors.{IsPlacedAt}
 
-pub whole : {O : Type 0} → (es : List (Entry O)) → IsStartOf es es
+pub whole : (es : List (Entry Op)) → IsStartOf es es
 whole [] = refl
 whole (e ∷ es) = inl refl
 
 -- a start of a start is a start
-pub start_of_start : {O : Type 0} → (first start es : List (Entry O)) → IsStartOf first start → IsStartOf start es → IsStartOf first es
-start_of_start first start [] of in_it = subst (λ (x : List (Entry _)). IsStartOf first x) in_it of
-start_of_start first start (e ∷ es) of (inl in_it) = subst (λ (x : List (Entry _)). IsStartOf first x) in_it of
+pub start_of_start : (first start es : List (Entry Op)) → IsStartOf first start → IsStartOf start es → IsStartOf first es
+start_of_start first start [] of in_it = subst (λ (x : List (Entry Op)). IsStartOf first x) in_it of
+start_of_start first start (e ∷ es) of (inl in_it) = subst (λ (x : List (Entry Op)). IsStartOf first x) in_it of
 start_of_start first start (e ∷ es) of (inr in_it) = inr (start_of_start first start es of in_it)
+
+-- and a start of a legal list is legal
+pub legal_start : (s : Setting Actor Op) (start es : List (Entry Op)) → IsStartOf start es → Legal s es → Legal s start
+legal_start s start [] of legal = subst (Legal s) (sym of) legal
+legal_start s start (e ∷ es) (inl of) legal = subst (Legal s) (sym of) legal
+legal_start s start (e ∷ es) (inr of) legal = legal_start s start es of legal.0
 
 -- it does not both begin a cycle and tell that one is swept
 differs : (p : CoordStage) → IsBeginning p → IsTelling p → ⊥

@@ -6,8 +6,8 @@ use Rattle.gh_base.specs.declared.cell.Cell.TheVariants as cell
 use Rattle.gh_base.specs.declared.pack.TheConstants.{END}
 use Rattle.gh_base.specs.Lists.{by}
 use Rattle.gh_world.specs.ActorsHold.{IsAsItShould, IsHeapOf, IsInCycle, IsJustSwept, IsQuiet, IsReady, IsSweeping, EndedSo, processor_at, uncounted}
-use Rattle.gh_world.specs.HoldVocabulary.{acks_of, Answer, answers_of, arena, Arena, Coordinating, CycleEnd, ended_in, Entry, ever, given_of, Heap, IsLed, Layout, Legal, MarksNothing, Op, opening_words, Pacing, Processor, processor_kind, Shape, SweepingAll, Words, words}
-use Rattle.gh_world.specs.Those.{those}
+use Rattle.gh_world.specs.HoldVocabulary.{acks_of, Answer, answers_of, arena, Arena, Coordinating, CycleEnd, ended_in, Entry, ever, given_of, Heap, IsLed, Layout, Legal, MarksNothing, Op, opening_words, Pacing, Processor, Shape, SweepingAll, Words, words}
+use Rattle.gh_world.specs.Handshake.{those}
 use Rattle.gh_world.proofs.AllActors.Known.{Known}
 use Rattle.gh_world.proofs.AllActors.Resting.{answers_stay, ever_stays, given_stay, own_stay, state_stays}
 use Rattle.gh_world.proofs.CycleMarking.Seats.{other}
@@ -27,7 +27,7 @@ module _ (shapes : List Shape) (l : Layout) (pacing : Pacing) (may : ℕ → Lis
     pub led : (c : Coordinating) → IsLed shapes l pacing may (e ∷ es) c → IsLed shapes l pacing may es c
 
   pub led_by_it : e.actor < acks_of l → (c : Coordinating) → IsLed shapes l pacing may (e ∷ es) c → IsLed shapes l pacing may es c
-  led_by_it among c is = sym (other l (processor_kind shapes l) pacing e es (acks_of l) (apart (e.actor == acks_of l) refl)) ∙ is where
+  led_by_it among c is = sym (other shapes l pacing e es (acks_of l) (apart (e.actor == acks_of l) refl)) ∙ is where
     apart : (b : Bool) → (e.actor == acks_of l) ≡ b → (e.actor == acks_of l) ≡ false
     apart false x = x
     apart true x = absurd (let same : e.actor ≡ acks_of l = grind (arith, nat_tests) in omega (arith, same, among))

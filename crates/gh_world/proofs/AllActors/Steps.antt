@@ -3,7 +3,7 @@ use Rattle.std.proofs.Common.{◌≡◌, ℕ, ◌<◌, ◌≤◌, Bool, arith, L
 use Rattle.gh_coord.specs.Listing as coord
 use Rattle.gh_worker.specs.Listing as worker
 use Rattle.gh_world.specs.declared.handshake.Actor.TheVariants as actor
-use Rattle.gh_world.proofs.Vocabulary.{acks_of, Actor, actors_after, Arena, arena, Coordinating, Entry, Holds, IsBeginning, IsInLimits, IsLed, IsMeant, Knows, Layout, Legal, MarkFacts, may_of, MayBegin, Op, Pacing, PollsByMoves, Processor, processor_kind, Shape, ShapesAreGood, stage_of, those, WasMarked}
+use Rattle.gh_world.proofs.Vocabulary.{acks_of, Actor, actors_after, Arena, arena, Coordinating, Entry, Holds, IsBeginning, IsInLimits, IsLed, Layout, Legal, may_of, MayBegin, Op, Pacing, StepsByMoves, Processor, Shape, ShapesAreGood, those, WasMarked}
 use Rattle.gh_world.proofs.AllActors.Begins as begins_by
 use Rattle.gh_world.proofs.AllActors.BesideThen as marked
 use Rattle.gh_world.proofs.AllActors.Known.{Known, ListsKnown}
@@ -24,27 +24,24 @@ module _ (shapes : List Shape) (l : Layout) (pacing : Pacing) (counts : ℕ → 
   abbrev pub Lawful : List (Entry Op) → Type 0
   Lawful es = Legal (those shapes l pacing may) es
 
-  abbrev pub Meant : List (Entry Op) → Type 0
-  Meant es = IsMeant z pacing may es
-
   abbrev pub Led : List (Entry Op) → Coordinating → Type 0
   Led es c = IsLed shapes l pacing may es c
 
-  abbrev pub at : List (Entry Op) → ℕ → Actor Processor
-  at es a = actors_after z (processor_kind shapes l) pacing may es a
+  abbrev pub at : List (Entry Op) → ℕ → Actor
+  at es a = actors_after z pacing may es a
 
   abbrev pub H : List (Entry Op) → Coordinating → Type 0
   H es c = Holds shapes l pacing may es c
 
   -- each start of the list where a cycle was marked is as the law of the end of marking says
   abbrev pub Was : List (Entry Op) → Type 0
-  Was es = WasMarked z (processor_kind shapes l) pacing may stage_of MarkFacts (Knows z pacing may) (IsMeant z pacing may) es
+  Was es = WasMarked z pacing may es
 
   -- before the first step
   pub opens : (c : Coordinating) → Led [] c → H [] c
   opens c led = opening.opens shapes l pacing may known c led
 
-  module _ (e : Entry Op) (es : List (Entry Op)) (legal : Lawful (e ∷ es)) (meant : Meant (e ∷ es)) (was : Was es) where
+  module _ (e : Entry Op) (es : List (Entry Op)) (legal : Lawful (e ∷ es)) (was : Was es) where
     pub by_processor : (c : Coordinating) (m : Processor) → Led es c → e.actor < l.procs → at es e.actor ≡ actor.Runs m → H es c → H (e ∷ es) c
     by_processor c m led lt is h = processing.by_processor shapes l pacing may good wanted.read known lists e es legal was c led (omega (arith, lt)) lt (λ calm q. quieting.quiet_then shapes l pacing counts good limits known wanted lists e es legal lt c led calm q) h
 
@@ -55,9 +52,9 @@ module _ (shapes : List Shape) (l : Layout) (pacing : Pacing) (counts : ℕ → 
     by_lead c led is then h = leads_by.leads shapes l pacing may good limits known lists e es legal was c led is h
 
   -- where a cycle is about to begin
-  pub begins : (es : List (Entry Op)) (c : Coordinating) → Lawful es → Meant es → Led es c → IsBeginning c.stage → H es c → MayBegin z (processor_kind shapes l) pacing may stage_of MarkFacts (Knows z pacing may) (IsMeant z pacing may) es c
-  begins es c legal meant led b h = let r = begins_by.is_ready shapes l pacing may limits known lists es c legal led b c.stage b h.at in begins_by.may_begin shapes l pacing may limits known lists es c legal led b r.0 r.1
+  pub begins : (es : List (Entry Op)) (c : Coordinating) → Lawful es → Led es c → IsBeginning c.stage → H es c → MayBegin z pacing may es c
+  begins es c legal led b h = let r = begins_by.is_ready shapes l pacing may limits known lists es c legal led b c.stage b h.at in begins_by.may_begin shapes l pacing may limits known lists es c legal led b r.0 r.1
 
   -- while a cycle is marked
-  pub polls : PollsByMoves z (processor_kind shapes l) pacing may stage_of MarkFacts (Knows z pacing may) (IsMeant z pacing may)
+  pub polls : StepsByMoves z pacing may
   polls = marked.marked shapes l pacing counts good limits known wanted lists

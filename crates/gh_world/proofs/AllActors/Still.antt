@@ -8,7 +8,7 @@ use Rattle.gh_mutator.specs.Deeds.{meaning}
 use Rattle.gh_world.specs.declared.handshake.Actor.TheVariants as actor
 use Rattle.gh_world.specs.Handshake as handshake
 use Rattle.gh_world.specs.HoldVocabulary.{given_of, opening_words}
-use Rattle.gh_world.proofs.Vocabulary.{acks_of, Act, Actor, actors, actors_after, acts, Answer, Answered, answered, answered_by, arena, Begins, begins as begun_at, by, Coordinating, deeds, done_at, effect, ended_in, Entry, ever, given_at, gives, has_left_at, is_busy, is_busy_at, IsLed, IsParked, Kind, Layout, Legal, Load, nat_tests, Op, opening_processor, option_to_list, Pacing, PackedWordsAreReadBack, party_of, place_of, point_of, Processor, processor_at, processor_kind, RunPhase, Shape, Sound, stage_of, started, stop_word, Stopped, takes, Task, those, Words, words}
+use Rattle.gh_world.proofs.Vocabulary.{acks_of, Act, Actor, actors, actors_after, acts, Answer, Answered, answered, answered_by, arena, Begins, begins as begun_at, by, Coordinating, deeds, done_at, effect, ended_in, Entry, ever, given_at, gives, has_left_at, is_busy, is_busy_at, IsLed, IsParked, IsSound, Kind, Layout, Legal, Load, nat_tests, Op, opening_processor, option_to_list, Pacing, PackedWordsAreReadBack, place_of, point_of, Processor, processor_at, processor_kind, RunPhase, Shape, stage_of, started, stop_word, Stopped, takes, Task, those, Words, words}
 use Rattle.gh_world.proofs.AllActors.Known.{ListsKnown}
 use Rattle.gh_world.proofs.AllActors.Resting.{begins_nothing, rests, rests_on, runs_are, state_stays}
 use Rattle.gh_world.proofs.AllActors.Stay.{ChangesNothing, led_by_it}
@@ -24,11 +24,11 @@ module _ (shapes : List Shape) (l : Layout) (pacing : Pacing) (may : ℕ → Lis
   abbrev k : Kind Processor Op
   k = processor_kind shapes l
 
-  abbrev all : Kind (Actor Processor) Op
-  all = actors l k pacing
+  abbrev all : Kind Actor Op
+  all = actors shapes l pacing
 
-  abbrev at : List (Entry Op) → ℕ → Actor Processor
-  at es a = actors_after (arena shapes l pacing may) k pacing may es a
+  abbrev at : List (Entry Op) → ℕ → Actor
+  at es a = actors_after (arena shapes l pacing may) pacing may es a
 
   abbrev first : Words
   first = opening_words pacing.trigger
@@ -82,7 +82,7 @@ module _ (shapes : List Shape) (l : Layout) (pacing : Pacing) (may : ℕ → Lis
     stops = (leading.lead_of c).stops
 
     moves_nobody : (e.ask ≡ Load cell.Phase) × (e.found ≡ stop_word stops)
-    moves_nobody = let x = (lists.steps e es legal).still (leading.lead_of c) phase (ap (place_of party_of stage_of) led) post among in (x.0, x.1)
+    moves_nobody = let x = (lists.steps e es legal).still (leading.lead_of c) phase (ap place_of led) post among in (x.0, x.1)
 
     module _ (lt : e.actor < l.procs) where
       abbrev m : Processor
@@ -91,14 +91,14 @@ module _ (shapes : List Shape) (l : Layout) (pacing : Pacing) (may : ℕ → Lis
       abbrev here : at es e.actor ≡ actor.Runs m
       here = runs_are shapes l pacing may es e.actor lt
 
-      sound : Sound l m
-      sound = subst (handshake.Sound Sound l) here ((lists.keeps es legal.0).shakes.all_sound e.actor (omega (arith, among)))
+      sound : IsSound m × (m.poll.layout ≡ l)
+      sound = subst (handshake.Sound l) here ((lists.keeps es legal.0).shakes.all_sound e.actor (omega (arith, among)))
 
       parked : IsParked stops (stage_of m)
       parked = (lists.keeps es legal.0).processors_wait c phase e.actor m led post among here
 
       runs : is_busy_at (started k e.begun m).task ≡ true
-      runs = sym (ap (is_busy k) (ap (started all e.begun) here ∙ run_started l k pacing e.begun m)) ∙ legal.1.runs
+      runs = sym (ap is_busy (ap (started all e.begun) here ∙ run_started shapes l pacing e.begun m)) ∙ legal.1.runs
 
       not_left : m.task ≡ task.Left → ⊥
       not_left is = let no : false ≡ true = sym (ap is_busy_at is) ∙ (sym (ap (λ (x : Processor). is_busy_at x.task) (left_stays shapes l e.begun m is)) ∙ runs) in cc
@@ -112,7 +112,7 @@ module _ (shapes : List Shape) (l : Layout) (pacing : Pacing) (may : ℕ → Lis
         go None is = refl
         go (Some y) is =
             let b = subst (λ (x : Option Op). Begins (those shapes l pacing may) e.actor es x) is legal.1.begins in
-            absurd (let no : true ≡ false = sym waits.busy ∙ (sym (ap (is_busy k) here) ∙ b.0) in cc)
+            absurd (let no : true ≡ false = sym waits.busy ∙ (sym (ap is_busy here) ∙ b.0) in cc)
 
       before : before_step k (deeds shapes) es e ≡ m
       before = ap (λ (o : Option Op). started k o m) none_begun

@@ -5,14 +5,14 @@ use Rattle.gh_coord.specs.Listing as coord
 use Rattle.gh_world.specs.declared.handshake.Actor.{Actor}
 use Rattle.gh_world.specs.declared.handshake.Actor.TheVariants as actor
 use Rattle.gh_world.specs.Actors.{may_of}
-use Rattle.gh_world.specs.ActorsMark.{IsMeant, Knows}
-use Rattle.gh_world.specs.HoldVocabulary.{acks_of, Coordinating, Entry, IsInLimits, Layout, MarkFacts, Op, Pacing, Processor, processor_kind, Shape, ShapesAreGood, stage_of}
-use Rattle.gh_world.specs.Marking.{KnowsHeap}
+use Rattle.gh_world.specs.HoldVocabulary.{acks_of, Coordinating, Entry, IsInLimits, Layout, Op, Pacing, Shape, ShapesAreGood}
 use Rattle.gh_world.proofs.AllActors.Known.{Known, ListsKnown}
 use Rattle.gh_world.proofs.AllActors.Marks as marks
 use Rattle.gh_world.proofs.AllActors.MarksLast as last
 use Rattle.gh_world.proofs.AllActors.Steps as steps
 use Rattle.gh_world.proofs.AllActors.Wanted.{Wanted}
+use Rattle.gh_world.proofs.CycleMarking.Asked.{KnowsHeap}
+use Rattle.gh_world.proofs.CycleNumbers.Seats as seats
 use Rattle.gh_world.proofs.CycleMarking.Seats.{IsSeated, leads, other, seated}
 
 module _ (shapes : List Shape) (l : Layout) (pacing : Pacing) (counts : ℕ → ℕ) (good : ShapesAreGood shapes) (limits : IsInLimits l) (known : Known) (wanted : Wanted) (lists : ListsKnown shapes l pacing (may_of shapes l counts)) where
@@ -22,13 +22,10 @@ module _ (shapes : List Shape) (l : Layout) (pacing : Pacing) (counts : ℕ → 
   abbrev pub Lawful : List (Entry Op) → Type 0
   Lawful = steps.Lawful shapes l pacing counts good limits known wanted lists
 
-  abbrev Meant : List (Entry Op) → Type 0
-  Meant = steps.Meant shapes l pacing counts good limits known wanted lists
-
   abbrev Led : List (Entry Op) → Coordinating → Type 0
   Led = steps.Led shapes l pacing counts good limits known wanted lists
 
-  abbrev at : List (Entry Op) → ℕ → Actor Processor
+  abbrev at : List (Entry Op) → ℕ → Actor
   at = steps.at shapes l pacing counts good limits known wanted lists
 
   abbrev H : List (Entry Op) → Coordinating → Type 0
@@ -37,52 +34,42 @@ module _ (shapes : List Shape) (l : Layout) (pacing : Pacing) (counts : ℕ → 
   abbrev Was : List (Entry Op) → Type 0
   Was = steps.Was shapes l pacing counts good limits known wanted lists
 
-  seat_of : (es : List (Entry Op)) (a : ℕ) (m : Actor Processor) → at es a ≡ m → IsSeated l a m
-  seat_of es a m is = subst (IsSeated l a) is (seated l (processor_kind shapes l) pacing es a)
+  seat_of : (es : List (Entry Op)) (a : ℕ) (m : Actor) → at es a ≡ m → IsSeated l a m
+  seat_of es a m is = subst (IsSeated l a) is (seated shapes l pacing es a)
 
-  -- who is at the coordinator's seat
-  record LedBefore (es : List (Entry Op)) : Type 0 where
-    lead : Coordinating
-    led_by : Led es lead
-
-  led_before : (es : List (Entry Op)) (m : Actor Processor) → at es n ≡ m → LedBefore es
-  led_before es (actor.Leads c) is = record { lead = c; led_by = is }
-  led_before es (actor.Runs m) is = absurd (let lt : n < l.procs = seat_of es n (actor.Runs m) is in omega (arith, lt))
-  led_before es (actor.Marks w) is = absurd (let lt : n < n = (seat_of es n (actor.Marks w) is).1 in omega (arith, lt))
-
-  by_others : (e : Entry Op) (es : List (Entry Op)) → Lawful (e ∷ es) → Meant (e ∷ es) → Was es → (c : Coordinating) → Led es c → e.actor < n → H es c → H (e ∷ es) c
-  by_others e es legal meant was c led among h = go (at es e.actor) refl where
-    go : (m : Actor Processor) → at es e.actor ≡ m → H (e ∷ es) c
-    go (actor.Runs m) is = steps.by_processor shapes l pacing counts good limits known wanted lists e es legal meant was c m led (seat_of es e.actor (actor.Runs m) is) is h
-    go (actor.Marks w) is = steps.by_worker shapes l pacing counts good limits known wanted lists e es legal meant was c w led (seat_of es e.actor (actor.Marks w) is).0 among is h
+  by_others : (e : Entry Op) (es : List (Entry Op)) → Lawful (e ∷ es) → Was es → (c : Coordinating) → Led es c → e.actor < n → H es c → H (e ∷ es) c
+  by_others e es legal was c led among h = go (at es e.actor) refl where
+    go : (m : Actor) → at es e.actor ≡ m → H (e ∷ es) c
+    go (actor.Runs m) is = steps.by_processor shapes l pacing counts good limits known wanted lists e es legal was c m led (seat_of es e.actor (actor.Runs m) is) is h
+    go (actor.Marks w) is = steps.by_worker shapes l pacing counts good limits known wanted lists e es legal was c w led (seat_of es e.actor (actor.Marks w) is).0 among is h
     go (actor.Leads x) is = absurd (let ge : n ≤ e.actor = (seat_of es e.actor (actor.Leads x) is).0 in omega (arith, ge, among))
 
-  one_more : (e : Entry Op) (es : List (Entry Op)) → Lawful (e ∷ es) → Meant (e ∷ es) → Was es → ((c : Coordinating) → Led es c → H es c) → (c : Coordinating) → Led (e ∷ es) c → H (e ∷ es) c
-  one_more e es legal meant was before c led = go (e.actor == n) refl where
+  one_more : (e : Entry Op) (es : List (Entry Op)) → Lawful (e ∷ es) → Was es → ((c : Coordinating) → Led es c → H es c) → (c : Coordinating) → Led (e ∷ es) c → H (e ∷ es) c
+  one_more e es legal was before c led = go (e.actor == n) refl where
     go : (b : Bool) → (e.actor == n) ≡ b → H (e ∷ es) c
     go false x =
-        let led_was : Led es c = sym (other l (processor_kind shapes l) pacing e es n x) ∙ led in
+        let led_was : Led es c = sym (other shapes l pacing e es n x) ∙ led in
         let within : e.actor < n + 1 = legal.1.actor in
-        by_others e es legal meant was c led_was (grind (arith, nat_tests, x, within)) (before c led_was)
+        by_others e es legal was c led_was (grind (arith, nat_tests, x, within)) (before c led_was)
     go true x =
         let end : e.actor ≡ n = grind (arith, nat_tests) in
-        let b = led_before es (at es n) refl in
-        let then : at (e ∷ es) n ≡ actor.Leads (coord.goes b.lead e.found) = sym (ap (at (e ∷ es)) end) ∙ leads l (processor_kind shapes l) pacing e es b.lead (ap (at es) end ∙ b.led_by) in
+        let b = seats.led_by shapes l pacing (may_of shapes l counts) es in
+        let then : at (e ∷ es) n ≡ actor.Leads (coord.goes b.lead e.found) = sym (ap (at (e ∷ es)) end) ∙ leads shapes l pacing e es b.lead (ap (at es) end ∙ b.led_by) in
         let same : coord.goes b.lead e.found ≡ c = (let both : actor.Leads c ≡ actor.Leads (coord.goes b.lead e.found) = sym led ∙ then in cc) in
-        subst (H (e ∷ es)) same (steps.by_lead shapes l pacing counts good limits known wanted lists e es legal meant was b.lead b.led_by end then (before b.lead b.led_by))
+        subst (H (e ∷ es)) same (steps.by_lead shapes l pacing counts good limits known wanted lists e es legal was b.lead b.led_by end then (before b.lead b.led_by))
 
   -- what was marked before a start of the list was so before the list
   was_before : (e : Entry Op) (es : List (Entry Op)) → Was (e ∷ es) → Was es
   was_before e es was start c of = was start c (inr of)
 
-  pub holds : (es : List (Entry Op)) → Lawful es → Meant es → Was es → (c : Coordinating) → Led es c → H es c
-  holds [] legal meant was c led = steps.opens shapes l pacing counts good limits known wanted lists c led
-  holds (e ∷ es) legal meant was c led = one_more e es legal meant (was_before e es was) (λ d x. holds es legal.0 tt (was_before e es was) d x) c led
+  pub holds : (es : List (Entry Op)) → Lawful es → Was es → (c : Coordinating) → Led es c → H es c
+  holds [] legal was c led = steps.opens shapes l pacing counts good limits known wanted lists c led
+  holds (e ∷ es) legal was c led = one_more e es legal (was_before e es was) (λ d x. holds es legal.0 (was_before e es was) d x) c led
 
-  pub knows_heap : KnowsHeap (steps.z shapes l pacing counts good limits known wanted lists) (processor_kind shapes l) pacing (may_of shapes l counts) stage_of MarkFacts (Knows (steps.z shapes l pacing counts good limits known wanted lists) pacing (may_of shapes l counts)) (IsMeant (steps.z shapes l pacing counts good limits known wanted lists) pacing (may_of shapes l counts))
+  pub knows_heap : KnowsHeap (steps.z shapes l pacing counts good limits known wanted lists) pacing (may_of shapes l counts)
   knows_heap = record {
-    begins = λ es c legal meant led b was. steps.begins shapes l pacing counts good limits known wanted lists es c legal meant led b (holds es legal meant was c led);
+    begins = λ es c legal led b was. steps.begins shapes l pacing counts good limits known wanted lists es c legal led b (holds es legal was c led);
     objects = marks.objects shapes l pacing (may_of shapes l counts) known;
-    lasts = λ e es c then legal meant led led_then on x s t is was_good good_then k ge went left none words_are.
+    lasts = λ e es c then legal led led_then on x s t is was_good good_then k ge went left none words_are.
         last.lasts shapes l pacing (may_of shapes l counts) limits known lists e es legal ge (last.is_beside shapes l pacing (may_of shapes l counts) limits known lists e es legal ge then led_then on) x s t k was_good went none words_are then led_then on;
   }

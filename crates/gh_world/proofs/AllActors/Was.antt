@@ -16,8 +16,8 @@ module _ (shapes : List Shape) (l : Layout) (pacing : Pacing) (may : ℕ → Lis
   abbrev k : Kind Processor Op
   k = processor_kind shapes l
 
-  abbrev all : Kind (Actor Processor) Op
-  all = actors l k pacing
+  abbrev all : Kind Actor Op
+  all = actors shapes l pacing
 
   -- the point of the entry, if it is one
   abbrev point : Option Act
@@ -42,7 +42,7 @@ module _ (shapes : List Shape) (l : Layout) (pacing : Pacing) (may : ℕ → Lis
       now = started k e.begun m
 
       here : started all e.begun (state_of all e.actor es) ≡ actor.Runs now
-      here = ap (started all e.begun) (runs_are shapes l pacing may es e.actor lt) ∙ run_started l k pacing e.begun m
+      here = ap (started all e.begun) (runs_are shapes l pacing may es e.actor lt) ∙ run_started shapes l pacing e.begun m
 
       searched : (x : Act) → point ≡ Some x → x.full ≡ true → IsSearchedAgain now.task
       searched x is full = full_searches now now.task e.found x (point_is (acts now e.found) x is) full
@@ -58,10 +58,10 @@ module _ (shapes : List Shape) (l : Layout) (pacing : Pacing) (may : ℕ → Lis
           now_is = ap (λ (o : Option Op). started k o m) none_begun
 
           busy : is_busy_at m.task ≡ true
-          busy = sym (ap (λ (y : Processor). is_busy_at y.task) now_is) ∙ (sym (ap (is_busy k) here) ∙ legal.1.runs)
+          busy = sym (ap (λ (y : Processor). is_busy_at y.task) now_is) ∙ (sym (ap is_busy here) ∙ legal.1.runs)
 
           asked : e.ask ≡ asks m
-          asked = legal.1.asks ∙ (ap (asks_by k) here ∙ ap asks now_is)
+          asked = legal.1.asks ∙ (ap asks_by here ∙ ap asks now_is)
 
           found : e.found ≡ h.words (cell_of (asks m))
           found = legal.1.found ∙ (ap (λ (q : Ask). words shapes l pacing may es (cell_of q)) asked ∙ ap (λ (w : Words). w (cell_of (asks m))) (sym of.words_are))

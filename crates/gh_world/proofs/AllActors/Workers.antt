@@ -7,7 +7,7 @@ use Rattle.gh_phase.specs.declared.view.RunPhase.TheVariants as run
 use Rattle.gh_worker.specs.Listing as worker
 use Rattle.gh_worker.specs.Writing.{IsCalm}
 use Rattle.gh_world.specs.declared.handshake.Actor.TheVariants as actor
-use Rattle.gh_world.proofs.Vocabulary.{acks_of, actors_after, arena, Coordinating, CoordStage, Count, Done, effect, Entry, HasCursor, Holds, HoldsAt, IsInLimits, IsLed, IsTelling, Layout, LeavesTheReached, Legal, LoadAck, LoadWant, Op, Open, Pacing, party_of, place_of, processor_kind, RunPhase, Shape, stage_of, Stop, Stopped, Sweep, Tell, TellStage, those, Words, words}
+use Rattle.gh_world.proofs.Vocabulary.{acks_of, actors_after, arena, Coordinating, CoordStage, Count, Done, effect, Entry, HasCursor, Holds, HoldsAt, IsInLimits, IsLed, IsTelling, Layout, LeavesTheReached, Legal, LoadAck, LoadWant, Op, Open, Pacing, place_of, RunPhase, Shape, Stop, Stopped, Sweep, Tell, TellStage, those, Words, words}
 use Rattle.gh_world.proofs.AllActors.Aside.{acks_aside, TellsNothing}
 use Rattle.gh_world.proofs.AllActors.Known.{Known, ListsKnown}
 use Rattle.gh_world.proofs.AllActors.MarksLast as last
@@ -23,7 +23,7 @@ module _ (shapes : List Shape) (l : Layout) (pacing : Pacing) (may : ℕ → Lis
 
   -- where the world is stopped no word changes
   pub told_stays : (phase : RunPhase) → leading.post_at c.stage ≡ Stopped phase → told (e ∷ es) ≡ told es
-  told_stays phase post = ap (effect (told es)) ((lists.steps e es legal).still (leading.lead_of c) phase (ap (place_of party_of stage_of) led) post among).0
+  told_stays phase post = ap (effect (told es)) ((lists.steps e es legal).still (leading.lead_of c) phase (ap place_of led) post among).0
 
   -- a stop of marking
   post_is : (p : CoordStage) → c.stage ≡ p → leading.post_at p ≡ Stopped run.Mark → leading.post_at c.stage ≡ Stopped run.Mark
@@ -35,7 +35,7 @@ module _ (shapes : List Shape) (l : Layout) (pacing : Pacing) (may : ℕ → Lis
   tell_post_is last telling.StorePhase other = refl
   tell_post_is last telling.Ended other = absurd (other refl)
 
-  module _ (w : worker.Working) (ge : l.procs ≤ e.actor) (is : actors_after (arena shapes l pacing may) (processor_kind shapes l) pacing may es e.actor ≡ actor.Marks w) where
+  module _ (w : worker.Working) (ge : l.procs ≤ e.actor) (is : actors_after (arena shapes l pacing may) pacing may es e.actor ≡ actor.Marks w) where
     tells : (leading.Marks c.stage → ⊥) → TellsNothing e.ask
     tells off =
         let calm : IsCalm w = lists.rests es legal.0 c e.actor w led off is in

@@ -31,9 +31,6 @@ loads c = record { page = λ w i. refl; alloc = λ w i. refl; bitmap = λ w i. r
 pub stores_phase : (x : ℕ) → LeavesHeap (Store cell.Phase x)
 stores_phase x = record { page = λ w i. refl; alloc = λ w i. refl; bitmap = λ w i. refl }
 
-pub stores_gen : (x : ℕ) → LeavesHeap (Store cell.Gen x)
-stores_gen x = record { page = λ w i. refl; alloc = λ w i. refl; bitmap = λ w i. refl }
-
 pub stores_bank : (x : ℕ) → LeavesHeap (Store cell.Bank x)
 stores_bank x = record { page = λ w i. refl; alloc = λ w i. refl; bitmap = λ w i. refl }
 

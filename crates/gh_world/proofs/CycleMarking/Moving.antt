@@ -8,13 +8,15 @@ use Rattle.gh_phase.specs.Listing as resume
 use Rattle.gh_coord.specs.Handshake as leading
 use Rattle.gh_coord.specs.Listing as coord
 use Rattle.gh_worker.specs.declared.worker.WorkerStage.TheVariants.{Resuming}
+use Rattle.gh_mutator.specs.ProcessorMarks.{MarksByMoves}
 use Rattle.gh_worker.specs.Handshake as working
 use Rattle.gh_worker.specs.Listing as worker
 use Rattle.gh_worker.specs.MarkFacts as marks
 use Rattle.gh_world.specs.declared.handshake.Actor.TheVariants as actor
 use Rattle.gh_world.specs.Handshake.{asks, Sound}
-use Rattle.gh_world.specs.Marking.{IsInMarking, IsLedBy, KnowsHeap, LeavesObjects, setting, words}
-use Rattle.gh_world.proofs.Vocabulary.{acks_of, Actor, actors, actors_after, Acts, alloc_words, Arena, Ask, bit_at, cell_of, CoordStage, Cycle, effect, Entry, MarkingGood as Good, Hands, is_busy, IsBeginning, KeepsIt, Kind, Layout, Legal, MarkingBegins, MayBegin, nat_tests, nothing, Open, Pacing, Party, place_of, PollsByMoves, Row, row_bit, seats_of, Marking as Shared, Stage, started, Stopped, WaitsWithNone, WasMarked, Went, Words, WorkerStage}
+use Rattle.gh_world.specs.Marking.{IsLedBy, setting, words}
+use Rattle.gh_world.proofs.Vocabulary.{acks_of, Actor, actors, actors_after, Acts, alloc_words, Arena, Ask, bit_at, cell_of, CoordStage, Cycle, effect, Entry, Hands, is_busy, IsBeginning, KeepsIt, Kind, Legal, MarkFacts, Marking as Shared, MarkingBegins, MarkingGood as Good, nat_tests, nothing, Op, Open, Pacing, Party, place_of, Processor, processor_kind, Row, row_bit, seats_of, started, Stopped, WaitsWithNone, Went, Words, WorkerStage}
+use Rattle.gh_world.proofs.CycleMarking.Asked.{IsInMarking, Knows, KnowsHeap, LeavesObjects, MayBegin, StepsByMoves, WasMarked}
 use Rattle.gh_world.proofs.CycleMarking.Beside.{LeavesHeap, works_so}
 use Rattle.gh_world.proofs.CycleMarking.Checking.{IsLight}
 use Rattle.gh_world.proofs.CycleMarking.Placing.{places_none}
@@ -47,8 +49,9 @@ objects_stay steps z a s t good went slots = record { since = λ o. by o (t.sinc
   by o true false e f = absurd (let d = step.dead o (record { placed = placed o e; dead = f }) in let no : true ≡ false = sym e ∙ d.dead in cc)
   by o false true e f = absurd (let no : true ≡ false = sym (others.keeps.since o f) ∙ e in cc)
 
--- what gh_marks and gh_worker say
+-- what gh_marks, gh_mutator and gh_worker say
 pub record Known : Type 0 where
+  pub processors : MarksByMoves
   pub workers : marks.WorksByMoves
   pub begin : MarkingBegins
   pub steps : EachStepGoesByMoves
@@ -59,18 +62,21 @@ pub begin_post : (p : CoordStage) → IsBeginning p → leading.post_at p ≡ St
 begin_post (Open o) b = ap leading.open_post b
 begin_post _ b = absurd b
 
-module _ {P O : Type 0} (arena : Arena) (k : Kind P O) (pacing : Pacing) (may : ℕ → List (Entry O) → O → Bool) (stage : P → Stage) (facts : Cycle → (a : ℕ) → Shared → P → Type 0) (knows : Cycle → Shared → List (Entry O) → Type 0) (meant : List (Entry O) → Type 0)
-    (known : Known) (polls : PollsByMoves arena k pacing may stage facts knows meant) (heap : KnowsHeap arena k pacing may stage facts knows meant) where
+module _ (arena : Arena) (pacing : Pacing) (may : ℕ → List (Entry Op) → Op → Bool)
+    (known : Known) (polls : StepsByMoves arena pacing may) (heap : KnowsHeap arena pacing may) where
+  abbrev k : Kind Processor Op
+  k = processor_kind arena.shapes arena.layout
+
   abbrev n : ℕ
   n = acks_of arena.layout
 
-  abbrev at : List (Entry O) → ℕ → Actor P
-  at = actors_after arena k pacing may
+  abbrev at : List (Entry Op) → ℕ → Actor
+  at = actors_after arena pacing may
 
-  abbrev In : List (Entry O) → coord.Coordinating → Type 0
-  In = IsInMarking arena k pacing may stage facts knows meant
+  abbrev In : List (Entry Op) → coord.Coordinating → Type 0
+  In = IsInMarking arena pacing may
 
-  module _ (e : Entry O) (es : List (Entry O)) (c to : coord.Coordinating) (legal : Legal (setting arena k pacing may) (e ∷ es)) (is_meant : meant (e ∷ es)) (led : IsLedBy arena k pacing may es c) (led_then : IsLedBy arena k pacing may (e ∷ es) to) (on_then : leading.Marks to.stage) (begun_is : to.begun ≡ c.begun) (i : In es c) where
+  module _ (e : Entry Op) (es : List (Entry Op)) (c to : coord.Coordinating) (legal : Legal (setting arena pacing may) (e ∷ es)) (led : IsLedBy arena pacing may es c) (led_then : IsLedBy arena pacing may (e ∷ es) to) (on_then : leading.Marks to.stage) (begun_is : to.begun ≡ c.begun) (i : In es c) where
     abbrev z : Cycle
     z = i.cycle
 
@@ -81,8 +87,8 @@ module _ {P O : Type 0} (arena : Arena) (k : Kind P O) (pacing : Pacing) (may : 
     a = e.actor
 
     -- where its seat's step leads to this state
-    module _ (t : Shared) (went : Went z a s t) (words_are : t.words ≡ words arena k pacing may (e ∷ es)) (heap_is : knows z t (e ∷ es))
-        (own_processor : (m : P) → at (e ∷ es) a ≡ actor.Runs m → facts z a t m)
+    module _ (t : Shared) (went : Went z a s t) (words_are : t.words ≡ words arena pacing may (e ∷ es)) (heap_is : Knows arena pacing may z t (e ∷ es))
+        (own_processor : (m : Processor) → at (e ∷ es) a ≡ actor.Runs m → MarkFacts z a t m)
         (own_worker : (w : worker.Working) → at (e ∷ es) a ≡ actor.Marks w → marks.Facts z a t w)
         (own_hand : n ≤ a → Hands a t nothing) where
       step : StepsGoByMoves z a s t
@@ -94,17 +100,17 @@ module _ {P O : Type 0} (arena : Arena) (k : Kind P O) (pacing : Pacing) (may : 
       differs : (b : ℕ) → (a == b) ≡ false → b ≢ a
       differs b x y = grind (arith, nat_tests)
 
-      processors : (b : ℕ) (m : P) → b < arena.layout.procs → at (e ∷ es) b ≡ actor.Runs m → facts z b t m
+      processors : (b : ℕ) (m : Processor) → b < arena.layout.procs → at (e ∷ es) b ≡ actor.Runs m → MarkFacts z b t m
       processors b m lt is = go (a == b) refl where
-        go : (x : Bool) → (a == b) ≡ x → facts z b t m
-        go true x = subst (λ (y : ℕ). facts z y t m) (same b x) (own_processor m (ap (at (e ∷ es)) (same b x) ∙ is))
-        go false x = polls.lasts z b s t m (step.others b (differs b x)) (i.processors b m lt (sym (other arena.layout k pacing e es b x) ∙ is))
+        go : (x : Bool) → (a == b) ≡ x → MarkFacts z b t m
+        go true x = subst (λ (y : ℕ). MarkFacts z y t m) (same b x) (own_processor m (ap (at (e ∷ es)) (same b x) ∙ is))
+        go false x = known.processors.lasts z b s t m (step.others b (differs b x)) (i.processors b m lt (sym (other arena.shapes arena.layout pacing e es b x) ∙ is))
 
       workers : (b : ℕ) (w : worker.Working) → b < n → at (e ∷ es) b ≡ actor.Marks w → marks.Facts z b t w
       workers b w lt is = go (a == b) refl where
         go : (x : Bool) → (a == b) ≡ x → marks.Facts z b t w
         go true x = subst (λ (y : ℕ). marks.Facts z y t w) (same b x) (own_worker w (ap (at (e ∷ es)) (same b x) ∙ is))
-        go false x = known.workers.lasts z b s t w (step.others b (differs b x)) (i.workers b w lt (sym (other arena.layout k pacing e es b x) ∙ is))
+        go false x = known.workers.lasts z b s t w (step.others b (differs b x)) (i.workers b w lt (sym (other arena.shapes arena.layout pacing e es b x) ∙ is))
 
       coordinator : (b : ℕ) → n ≤ b → Hands b t nothing
       coordinator b le = go (a == b) refl where
@@ -125,7 +131,7 @@ module _ {P O : Type 0} (arena : Arena) (k : Kind P O) (pacing : Pacing) (may : 
       }
 
     -- the words behind the step
-    words_then : (t : Shared) (ask : Ask) → t.words ≡ effect s.words ask → e.ask ≡ ask → t.words ≡ words arena k pacing may (e ∷ es)
+    words_then : (t : Shared) (ask : Ask) → t.words ≡ effect s.words ask → e.ask ≡ ask → t.words ≡ words arena pacing may (e ∷ es)
     words_then t ask is asked = is ∙ (ap (effect s.words) (sym asked) ∙ ap (λ (w : Words). effect w e.ask) i.is.words_are)
 
     -- whoever steps so leaves the objects
@@ -144,20 +150,20 @@ module _ {P O : Type 0} (arena : Arena) (k : Kind P O) (pacing : Pacing) (may : 
       objects = objects_stay known.steps z a s t i.good went slots
 
     -- by a processor
-    pub by_processor : (m : P) → leading.Marks c.stage → a < arena.layout.procs → at es a ≡ actor.Runs m → In (e ∷ es) to
+    pub by_processor : (m : Processor) → leading.Marks c.stage → a < arena.layout.procs → at es a ≡ actor.Runs m → In (e ∷ es) to
     by_processor m on lt is = next land.then land.went (words_then land.then e.ask land.words_are refl) land.after.1
-        (λ p now. subst (facts z a land.then) (let both : actor.Runs (k.takes (started k e.begun m) e.found) ≡ actor.Runs p = sym then ∙ now in cc) land.after.0)
+        (λ p now. subst (MarkFacts z a land.then) (let both : actor.Runs (k.takes (started k e.begun m) e.found) ≡ actor.Runs p = sym then ∙ now in cc) land.after.0)
         (λ w now. absurd (let both : actor.Runs (k.takes (started k e.begun m) e.found) ≡ actor.Marks w = sym then ∙ now in cc))
         (λ le. absurd (omega arith)) where
-          land : Steps z a s e.ask (λ t. facts z a t (k.takes (started k e.begun m) e.found) × knows z t (e ∷ es))
-          land = polls.own_step e es c legal is_meant led on z s m i.is i.good i.known lt is (i.processors a m lt is)
+          land : Steps z a s e.ask (λ t. MarkFacts z a t (k.takes (started k e.begun m) e.found) × Knows arena pacing may z t (e ∷ es))
+          land = polls e es c legal led on z s m i.is i.good i.known lt is (i.processors a m lt is)
 
           then : at (e ∷ es) a ≡ actor.Runs (k.takes (started k e.begun m) e.found)
-          then = runs arena.layout k pacing e es m is
+          then = runs arena.shapes arena.layout pacing e es m is
 
     -- by a worker
     pub by_worker : (w : worker.Working) → arena.layout.procs ≤ a → a < n → at es a ≡ actor.Marks w → In (e ∷ es) to
-    by_worker w ge lt is = next land.then land.went then_words (heap.lasts e es c to legal is_meant led led_then on_then z s land.then i.is i.good (known.steps z a s land.then i.good land.went).good i.known ge land.went (leaves_objects land.then (worker.asks w) land.went land.words_are (works_so w busy)) (places_none z a land.then (worker.goes w (s.words (cell_of (worker.asks w)))) land.after) then_words)
+    by_worker w ge lt is = next land.then land.went then_words (heap.lasts e es c to legal led led_then on_then z s land.then i.is i.good (known.steps z a s land.then i.good land.went).good i.known ge land.went (leaves_objects land.then (worker.asks w) land.went land.words_are (works_so w busy)) (places_none z a land.then (worker.goes w (s.words (cell_of (worker.asks w)))) land.after) then_words)
         (λ p now. absurd (let both : actor.Marks (worker.goes w e.found) ≡ actor.Runs p = sym then ∙ now in cc))
         (λ v now. subst (marks.Facts z a land.then) (let both : actor.Marks (worker.goes w e.found) ≡ actor.Marks v = sym then ∙ now in cc) (subst (λ (x : ℕ). marks.Facts z a land.then (worker.goes w x)) (sym found) land.after))
         (λ le. absurd (omega arith)) where
@@ -165,26 +171,26 @@ module _ {P O : Type 0} (arena : Arena) (k : Kind P O) (pacing : Pacing) (may : 
           land = known.workers.own_step z a s w i.good (heap.objects z s es i.good i.known) (i.workers a w lt is)
 
           asked : e.ask ≡ worker.asks w
-          asked = legal.1.asks ∙ ap (asks k) (ap (started (actors arena.layout k pacing) e.begun) is ∙ worker_started arena.layout k pacing e.begun w)
+          asked = legal.1.asks ∙ ap asks (ap (started (actors arena.shapes arena.layout pacing) e.begun) is ∙ worker_started arena.shapes arena.layout pacing e.begun w)
 
           busy : worker.is_busy w.stage ≡ true
-          busy = sym (ap (is_busy k) (ap (started (actors arena.layout k pacing) e.begun) is ∙ worker_started arena.layout k pacing e.begun w)) ∙ legal.1.runs
+          busy = sym (ap is_busy (ap (started (actors arena.shapes arena.layout pacing) e.begun) is ∙ worker_started arena.shapes arena.layout pacing e.begun w)) ∙ legal.1.runs
 
-          told : e.found ≡ words arena k pacing may es (cell_of (worker.asks w))
-          told = legal.1.found ∙ ap (λ (q : Ask). words arena k pacing may es (cell_of q)) asked
+          told : e.found ≡ words arena pacing may es (cell_of (worker.asks w))
+          told = legal.1.found ∙ ap (λ (q : Ask). words arena pacing may es (cell_of q)) asked
 
           found : e.found ≡ s.words (cell_of (worker.asks w))
           found = told ∙ ap (λ (x : Words). x (cell_of (worker.asks w))) (sym i.is.words_are)
 
           then : at (e ∷ es) a ≡ actor.Marks (worker.goes w e.found)
-          then = works arena.layout k pacing e es w is
+          then = works arena.shapes arena.layout pacing e es w is
 
-          then_words : land.then.words ≡ words arena k pacing may (e ∷ es)
+          then_words : land.then.words ≡ words arena pacing may (e ∷ es)
           then_words = words_then land.then (worker.asks w) land.words_are asked
 
     -- by the coordinator
     pub by_coordinator : a ≡ n → at es a ≡ actor.Leads c → IsLight (coord.asks c) → In (e ∷ es) to
-    by_coordinator end is light = next t went then_words (heap.lasts e es c to legal is_meant led led_then on_then z s t i.is i.good (known.steps z a s t i.good went).good i.known (omega (arith, end)) went (leaves_objects t (coord.asks c) went refl light.aside) (λ o is. absurd (let none : None ≡ Some o = ((i.coordinator a (omega (arith, end))).has.is_reserved o).1 is in cc)) then_words)
+    by_coordinator end is light = next t went then_words (heap.lasts e es c to legal led led_then on_then z s t i.is i.good (known.steps z a s t i.good went).good i.known (omega (arith, end)) went (leaves_objects t (coord.asks c) went refl light.aside) (λ o is. absurd (let none : None ≡ Some o = ((i.coordinator a (omega (arith, end))).has.is_reserved o).1 is in cc)) then_words)
         (λ p now. absurd (let both : actor.Leads (coord.goes c e.found) ≡ actor.Runs p = sym then ∙ now in cc))
         (λ v now. absurd (let both : actor.Leads (coord.goes c e.found) ≡ actor.Marks v = sym then ∙ now in cc))
         (λ le. (known.follow z a s nothing i.good (i.coordinator a le)).quiet (coord.asks c) (light.quiet s)) where
@@ -195,19 +201,19 @@ module _ {P O : Type 0} (arena : Arena) (k : Kind P O) (pacing : Pacing) (may : 
           went = goes s (Quiet (coord.asks c)) stays (light.quiet s)
 
           asked : e.ask ≡ coord.asks c
-          asked = legal.1.asks ∙ ap (asks k) (ap (started (actors arena.layout k pacing) e.begun) is ∙ lead_started arena.layout k pacing e.begun c)
+          asked = legal.1.asks ∙ ap asks (ap (started (actors arena.shapes arena.layout pacing) e.begun) is ∙ lead_started arena.shapes arena.layout pacing e.begun c)
 
           then : at (e ∷ es) a ≡ actor.Leads (coord.goes c e.found)
-          then = leads arena.layout k pacing e es c is
+          then = leads arena.shapes arena.layout pacing e es c is
 
-          then_words : t.words ≡ words arena k pacing may (e ∷ es)
+          then_words : t.words ≡ words arena pacing may (e ∷ es)
           then_words = words_then t (coord.asks c) refl asked
 
   -- The begin of a cycle: the world is stopped, and nobody has anything in hand.
-  module _ (party : P → Party) (sound : Layout → P → Type 0) (es : List (Entry O)) (c : coord.Coordinating) (legal : Legal (setting arena k pacing may) es) (is_meant : meant es) (led : IsLedBy arena k pacing may es c) (b : IsBeginning c.stage)
-      (was : WasMarked arena k pacing may stage facts knows meant es) (keeps : KeepsIt sound party stage (setting arena k pacing may) es) where
-    pub opened : MayBegin arena k pacing may stage facts knows meant es c
-    opened = heap.begins es c legal is_meant led b was
+  module _ (es : List (Entry Op)) (c : coord.Coordinating) (legal : Legal (setting arena pacing may) es) (led : IsLedBy arena pacing may es c) (b : IsBeginning c.stage)
+      (was : WasMarked arena pacing may es) (keeps : KeepsIt (setting arena pacing may) es) where
+    pub opened : MayBegin arena pacing may es c
+    opened = heap.begins es c legal led b was
 
     begun : Begins opened.cycle opened.shared
     begun = known.begin opened.cycle opened.shared opened.opens
@@ -220,9 +226,9 @@ module _ {P O : Type 0} (arena : Arena) (k : Kind P O) (pacing : Pacing) (may : 
 
     worker_knows : (a : ℕ) (w : worker.Working) → a < n → at es a ≡ actor.Marks w → marks.Facts opened.cycle a opened.shared w
     worker_knows a w lt is = record {
-      layout_is = (subst (IsSeated arena.layout a) is (seated arena.layout k pacing es a)).2 ∙ ap (λ (x : Arena). x.layout) (sym opened.is.arena_is);
+      layout_is = (subst (IsSeated arena.layout a) is (seated arena.shapes arena.layout pacing es a)).2 ∙ ap (λ (x : Arena). x.layout) (sym opened.is.arena_is);
       seat_in = subst (λ (x : Arena). a < seats_of x.layout) (sym opened.is.arena_is) (omega (arith, lt));
-      seat_is = seat_at w a waits.routine waits.is_at (subst (Sound sound arena.layout) is (keeps.shakes.all_sound a (omega arith))) seat;
+      seat_is = seat_at w a waits.routine waits.is_at (subst (Sound arena.layout) is (keeps.shakes.all_sound a (omega arith))) seat;
       stage_is = subst (marks.StageFacts opened.cycle a opened.shared w.held) (sym waits.is_at) (begun.seats a, waits.none);
     } where
       waits : WaitsWithNone (leading.lead_of c).stops w
@@ -231,7 +237,7 @@ module _ {P O : Type 0} (arena : Arena) (k : Kind P O) (pacing : Pacing) (may : 
       seat : (working.party_of w).seat ≡ a
       seat =
           let each = keeps.shakes.each a lt in
-          let both : Acts (working.party_of w) (working.stage_of w) ≡ Acts each.0 each.1 = ap (place_of party stage) (sym is) ∙ each.2 in
+          let both : Acts (working.party_of w) (working.stage_of w) ≡ Acts each.0 each.1 = ap place_of (sym is) ∙ each.2 in
           let parties : working.party_of w ≡ each.0 = cc in
           ap (λ (x : Party). x.seat) parties ∙ each.3
 

@@ -6,9 +6,10 @@ use Rattle.gh_coord.specs.Listing as coord
 use Rattle.gh_world.specs.declared.handshake.Actor.TheVariants as actor
 use Rattle.gh_world.specs.Numbers.{asked_in, asks_for_one}
 use Rattle.gh_world.specs.Processors.{asked_by, asks_collector}
-use Rattle.gh_world.specs.Wants.{AreFew, AsksOncePerOperation, BeginsFew, CountsWants, last_at, MayAsk, most_asks, opened_last, total}
-use Rattle.gh_world.proofs.Vocabulary.{Actor, AreParties, Ask, asked_after, Begins, bit, by, CoordStage, Entry, is_busy, KeepsIt, Kind, Layout, Legal, LoadAck, LoadWant, nat_tests, Op, Open, opened_in, OpenStage, Pacing, Party, Stage, started, Stop, WorkersWriteTheirOwn}
+use Rattle.gh_world.specs.Wants.{AreFew, BeginsFew, CountsWants, last_at, MayAsk, opened_last, total}
+use Rattle.gh_world.proofs.Vocabulary.{Actor, Ask, asked_after, Begins, bit, by, CoordStage, Entry, has_left_at, KeepsIt, Kind, Layout, Legal, LoadAck, LoadWant, nat_tests, Op, Open, opened_in, OpenStage, Pacing, Processor, processor_kind, ProcessorWritesItsOwn, Shape, started, Stop, WorkersWriteTheirOwn}
 use Rattle.gh_world.proofs.CycleMarking.Seats.{other}
+use Rattle.gh_world.proofs.CycleNumbers.Asking.{asked_once, begun_asks, left, most_asks}
 use Rattle.gh_world.proofs.CycleNumbers.Frames.{worker_asks_none}
 use Rattle.gh_world.proofs.CycleNumbers.Sums.{total_at, total_below, total_same}
 use Rattle.gh_world.proofs.CycleNumbers.Wanting.{aside as lead_aside}
@@ -45,19 +46,22 @@ last_few last (Stop st) = omega arith
 last_few last (Open o) = open_few last o.stage
 last_few last _ = bit_few last
 
-module _ {P : Type 0} (l : Layout) (k : Kind P Op) (pacing : Pacing) (may : ℕ → List (Entry Op) → Op → Bool) (sound : Layout → P → Type 0) (party : P → Party) (stage : P → Stage)
-    (parties : AreParties l k (sound l) party stage) (works : WorkersWriteTheirOwn)
-    (keeps : (es : List (Entry Op)) → Legal (seats.it l k pacing may) es → KeepsIt sound party stage (seats.it l k pacing may) es)
-    (left : P → ℕ) (seat_of counts : ℕ → ℕ) (asks : AsksOncePerOperation l k (sound l) left) (begins : BeginsFew l may seat_of counts) where
-  abbrev at : List (Entry Op) → ℕ → Actor P
-  at es a = seats.at l k pacing may es a
+module _ (shapes : List Shape) (l : Layout) (pacing : Pacing) (may : ℕ → List (Entry Op) → Op → Bool)
+    (writes : ProcessorWritesItsOwn) (works : WorkersWriteTheirOwn)
+    (keeps : (es : List (Entry Op)) → Legal (seats.it shapes l pacing may) es → KeepsIt (seats.it shapes l pacing may) es)
+    (seat_of counts : ℕ → ℕ) (begins : BeginsFew l may seat_of counts) where
+  abbrev k : Kind Processor Op
+  k = processor_kind shapes l
+
+  abbrev at : List (Entry Op) → ℕ → Actor
+  at es a = seats.at shapes l pacing may es a
 
   abbrev Lawful : List (Entry Op) → Type 0
-  Lawful es = Legal (seats.it l k pacing may) es
+  Lawful es = Legal (seats.it shapes l pacing may) es
 
   -- What may still be asked for.
 
-  abbrev left_of : Actor P → ℕ
+  abbrev left_of : Actor → ℕ
   left_of (actor.Runs m) = left m
   left_of (actor.Marks w) = 0
   left_of (actor.Leads c) = 0
@@ -69,7 +73,7 @@ module _ {P : Type 0} (l : Layout) (k : Kind P Op) (pacing : Pacing) (may : ℕ 
   left_in es = total (left_at es) l.procs
 
   first_left : (a : ℕ) → a < l.procs → left_at [] a ≡ 0
-  first_left a m = rw (ltb_so a l.procs m) (asks.first a m) where
+  first_left a m = rw (ltb_so a l.procs m) refl where
     ltb_so : (a n : ℕ) → a < n → nat_lt a n ≡ true
     ltb_so a n m = grind (arith, nat_tests, m)
 
@@ -79,11 +83,11 @@ module _ {P : Type 0} (l : Layout) (k : Kind P Op) (pacing : Pacing) (may : ℕ 
 
   module _ (e : Entry Op) (es : List (Entry Op)) (legal : Lawful (e ∷ es)) where
     stays : (a : ℕ) → e.actor ≢ a → left_at (e ∷ es) a ≡ left_at es a
-    stays a differs = ap left_of (other l k pacing e es a (grind (arith, nat_tests, differs)))
+    stays a differs = ap left_of (other shapes l pacing e es a (grind (arith, nat_tests, differs)))
 
-    begun_left : (m : P) (o : Option Op) → at es e.actor ≡ actor.Runs m → Begins (seats.it l k pacing may) e.actor es o → sound l m → left (started k o m) ≤ left m + may_ask o
-    begun_left m None is b s = omega arith
-    begun_left m (Some o) is b s = asks.begins m o s (sym (ap (is_busy k) is) ∙ b.0)
+    begun_left : (m : Processor) (o : Option Op) → at es e.actor ≡ actor.Runs m → Begins (seats.it shapes l pacing may) e.actor es o → left (started k o m) ≤ left m + may_ask o
+    begun_left m None is b = omega arith
+    begun_left m (Some o) is b = begun_asks shapes m o (has_left_at m.task)
 
     -- no step of another asks for one
     aside : l.procs ≤ e.actor → ((before : ℕ) → asked_after e.ask before ≡ before) → asked_in es + left_in es ≤ may_ask_in es → asked_in (e ∷ es) + left_in (e ∷ es) ≤ may_ask_in (e ∷ es)
@@ -92,30 +96,30 @@ module _ {P : Type 0} (l : Layout) (k : Kind P Op) (pacing : Pacing) (may : ℕ 
         let asked : asked_in (e ∷ es) ≡ asked_in es = none (asked_in es) in
         omega (arith, same, asked, h)
 
-    by_processor : (m : P) → seats.RunsIt l k pacing may sound party stage parties e es m → asked_in es + left_in es ≤ may_ask_in es → asked_in (e ∷ es) + left_in (e ∷ es) ≤ may_ask_in (e ∷ es)
+    by_processor : (m : Processor) → seats.RunsIt shapes l pacing may e es m → asked_in es + left_in es ≤ may_ask_in es → asked_in (e ∷ es) + left_in (e ∷ es) ≤ may_ask_in (e ∷ es)
     by_processor m x h =
         let moved : left_in (e ∷ es) + left_at es e.actor ≡ left_in es + left_at (e ∷ es) e.actor = total_at (left_at es) (left_at (e ∷ es)) l.procs e.actor x.seat (λ a lt differs. stays a (λ y. differs (sym y))) in
         let was : left_at es e.actor ≡ left m = ap left_of x.is in
         let now : left_at (e ∷ es) e.actor ≡ left (k.takes (started k e.begun m) e.found) = ap left_of x.then in
         let one = asked_is e.ask in
         let asked : asked_in (e ∷ es) ≡ one.0 + asked_in es = one.1 (asked_in es) in
-        let less : asked_after e.ask (left (k.takes (started k e.begun m) e.found)) ≤ left (started k e.begun m) = subst (λ (q : Ask). asked_after q (left (k.takes (started k e.begun m) e.found)) ≤ left (started k e.begun m)) (sym x.asked) (asks.takes (started k e.begun m) e.found x.sound_then x.busy) in
+        let less : asked_after e.ask (left (k.takes (started k e.begun m) e.found)) ≤ left (started k e.begun m) = subst (λ (q : Ask). asked_after q (left (k.takes (started k e.begun m) e.found)) ≤ left (started k e.begun m)) (sym x.asked) (asked_once shapes (started k e.begun m) e.found (writes.writes (started k e.begun m) x.sound_then)) in
         let left_then : asked_after e.ask (left (k.takes (started k e.begun m) e.found)) ≡ one.0 + left (k.takes (started k e.begun m) e.found) = one.1 (left (k.takes (started k e.begun m) e.found)) in
-        let more : left (started k e.begun m) ≤ left m + may_ask e.begun = begun_left m e.begun x.is legal.1.begins x.sound_it in
+        let more : left (started k e.begun m) ≤ left m + may_ask e.begun = begun_left m e.begun x.is legal.1.begins in
         omega (arith, moved, was, now, asked, less, left_then, more, h)
 
-    by_step : seats.Step l k pacing may sound party stage parties e es → asked_in es + left_in es ≤ may_ask_in es → asked_in (e ∷ es) + left_in (e ∷ es) ≤ may_ask_in (e ∷ es)
+    by_step : seats.Step shapes l pacing may e es → asked_in es + left_in es ≤ may_ask_in es → asked_in (e ∷ es) + left_in (e ∷ es) ≤ may_ask_in (e ∷ es)
     by_step (seats.by_processor m x s) h = by_processor m x h
     by_step (seats.by_worker w x s) h = aside x.from (λ n. ap (λ (q : Ask). asked_after q n) x.asked ∙ worker_asks_none w.seat _ (works w x.sound_it x.busy) n) h
-    by_step (seats.by_lead c x) h = aside (let seat = x.seat in omega (arith, seat)) (λ n. ap (λ (q : Ask). asked_after q n) x.asked ∙ (lead_aside 0 0 (seats.words l k pacing may es) c 0 c.stage x.sound_it.1).asks_none n) h
+    by_step (seats.by_lead c x) h = aside (let seat = x.seat in omega (arith, seat)) (λ n. ap (λ (q : Ask). asked_after q n) x.asked ∙ (lead_aside 0 0 (seats.words shapes l pacing may es) c 0 c.stage x.sound_it.1).asks_none n) h
 
   asked_few : (es : List (Entry Op)) → Lawful es → asked_in es + left_in es ≤ may_ask_in es
   asked_few [] legal = let none = total_none (left_at []) l.procs first_left in omega (arith, none)
-  asked_few (e ∷ es) legal = by_step e es legal (seats.step l k pacing may sound party stage parties e es legal (keeps es legal.0)) (asked_few es legal.0)
+  asked_few (e ∷ es) legal = by_step e es legal (seats.step shapes l pacing may e es writes legal (keeps es legal.0)) (asked_few es legal.0)
 
   -- Which statements have begun.
 
-  may_so : (a : ℕ) (es : List (Entry Op)) (o : Option Op) (g : ℕ) → Begins (seats.it l k pacing may) a es o → asks_collector g o ≡ true → MayAsk seat_of counts l.goroutines a (by a es) g
+  may_so : (a : ℕ) (es : List (Entry Op)) (o : Option Op) (g : ℕ) → Begins (seats.it shapes l pacing may) a es o → asks_collector g o ≡ true → MayAsk seat_of counts l.goroutines a (by a es) g
   may_so a es None g b h = absurd cc
   may_so a es (Some o) g b h = begins.few a (by a es) o g b.1 h
 
@@ -158,7 +162,7 @@ module _ {P : Type 0} (l : Layout) (k : Kind P Op) (pacing : Pacing) (may : ℕ 
   none_of : (es : List (Entry Op)) → total (λ h. 0 + asked_by h es) l.goroutines ≡ 0 + total (begun_by es) l.goroutines
   none_of es = let same = total_same (begun_by es) (λ h. 0 + asked_by h es) l.goroutines (λ i m. omega arith) in omega (arith, same)
 
-  begun_so : (e : Entry Op) (es : List (Entry Op)) (o : Option Op) → Begins (seats.it l k pacing may) e.actor es o → total (λ h. cond (asks_collector h o) 1 0 + asked_by h es) l.goroutines ≡ may_ask o + total (begun_by es) l.goroutines
+  begun_so : (e : Entry Op) (es : List (Entry Op)) (o : Option Op) → Begins (seats.it shapes l pacing may) e.actor es o → total (λ h. cond (asks_collector h o) 1 0 + asked_by h es) l.goroutines ≡ may_ask o + total (begun_by es) l.goroutines
   begun_so e es (Some (op.New g d t)) b = one_of es g (may_so e.actor es (Some (op.New g d t)) g b (grind (arith, nat_tests))).there
   begun_so e es (Some (op.Gc g)) b = one_of es g (may_so e.actor es (Some (op.Gc g)) g b (grind (arith, nat_tests))).there
   begun_so e es _ b = none_of es
@@ -167,7 +171,7 @@ module _ {P : Type 0} (l : Layout) (k : Kind P Op) (pacing : Pacing) (may : ℕ 
   begun_all [] legal = total_none (begun_by []) l.goroutines (λ i m. refl)
   begun_all (e ∷ es) legal = let now = begun_so e es e.begun legal.1.begins in let rest = begun_all es legal.0 in omega (arith, now, rest)
 
-  pub few : (wants : (es : List (Entry Op)) (c : coord.Coordinating) → Lawful es → at es (seats.n l k pacing may) ≡ actor.Leads c → CountsWants (seats.it l k pacing may) es c) → (es : List (Entry Op)) → Lawful es → AreFew sound party stage counts l es
+  pub few : (wants : (es : List (Entry Op)) (c : coord.Coordinating) → Lawful es → at es (seats.n shapes l pacing may) ≡ actor.Leads c → CountsWants (seats.it shapes l pacing may) es c) → (es : List (Entry Op)) → Lawful es → AreFew counts l es
   few wants es legal = record { asked = asked; opened = opened; few = let most = begins.counts_fit in omega (arith, most, opened) } where
     asked : asked_in es ≤ total counts l.goroutines
     asked =
@@ -178,7 +182,7 @@ module _ {P : Type 0} (l : Layout) (k : Kind P Op) (pacing : Pacing) (may : ℕ 
 
     opened : opened_in es ≤ total counts l.goroutines + 1
     opened =
-        let b = seats.led_by l k pacing may es in
+        let b = seats.led_by shapes l pacing may es in
         let w = (wants es b.lead legal b.led_by).enough in
         let last = last_few b.lead.is_last b.lead.stage in
         omega (arith, asked, w, last)

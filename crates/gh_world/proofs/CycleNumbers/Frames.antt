@@ -8,7 +8,32 @@ use Rattle.gh_base.specs.declared.cell.Cell.TheVariants as cell
 use Rattle.gh_base.specs.Cells.{put, Words}
 use Rattle.gh_base.specs.Steps.{effect}
 use Rattle.gh_worker.specs.Writing.{IsWritten, WritesItsOwn}
-use Rattle.gh_world.specs.Numbers.{asked_after, IsNoNumber, LeavesNumbers, opened_after}
+use Rattle.gh_world.specs.Numbers.{asked_after, opened_after}
+
+-- none of the words of a cycle: its phase, its numbers and the request for one, the cursor, what the sweep counts, and the pacing
+abbrev pub IsNoNumber : Cell → Type 0
+IsNoNumber cell.Phase = ⊥
+IsNoNumber cell.Gen = ⊥
+IsNoNumber cell.Begun = ⊥
+IsNoNumber cell.Swept = ⊥
+IsNoNumber cell.Want = ⊥
+IsNoNumber cell.Bank = ⊥
+IsNoNumber cell.Gcur = ⊥
+IsNoNumber cell.Trigger = ⊥
+IsNoNumber cell.Work = ⊥
+IsNoNumber cell.Slack = ⊥
+IsNoNumber cell.Tally = ⊥
+IsNoNumber cell.Live = ⊥
+IsNoNumber _ = Unit {0}
+
+-- a step that writes none of them, but that it may ask for a cycle
+abbrev pub LeavesNumbers : Ask → Type 0
+LeavesNumbers (Load c) = Unit {0}
+LeavesNumbers (Store c value) = IsNoNumber c
+LeavesNumbers (Or c bits) = IsNoNumber c ⊎ ((c ≡ cell.Want) × (bits ≡ 1))
+LeavesNumbers (And c bits) = IsNoNumber c
+LeavesNumbers (Add c more) = IsNoNumber c
+LeavesNumbers (Swap c old new) = IsNoNumber c
 
 -- the words of cycles
 pub record Numbers : Type 0 where

@@ -10,10 +10,11 @@ use Rattle.gh_coord.specs.Listing as coord
 use Rattle.gh_world.specs.declared.handshake.Actor.TheVariants as actor
 use Rattle.gh_world.specs.Handshake.{Sound}
 use Rattle.gh_world.specs.Numbers.{open_part, opens_one, tell_part}
-use Rattle.gh_world.proofs.Vocabulary.{ahead_at, AreParties, Ask, Check, Close, close_part, CloseStage, CoordStage, Count, CountsCycles, effect, Entry, generation_of, IsBeginning, IsFew, KeepsIt, Kind, Layout, Legal, MarkOn, Open, opened_after, opened_in, OpenStage, Pacing, Part, part_of, Party, Stage, started, StopAgain, Sweep, Tell, TellStage, Watch, WorkersWriteTheirOwn, WritesNoNumbers, ◌↔◌}
+use Rattle.gh_world.proofs.Vocabulary.{ahead_at, Ask, Check, Close, close_part, CloseStage, CoordStage, Count, CountsCycles, effect, Entry, generation_of, IsBeginning, IsFew, KeepsIt, Kind, Layout, Legal, MarkOn, Op, Open, opened_after, opened_in, OpenStage, Pacing, Part, part_of, Processor, processor_kind, ProcessorWritesItsOwn, Shape, started, StopAgain, Sweep, Tell, TellStage, Watch, WorkersWriteTheirOwn, ◌↔◌}
 use Rattle.gh_world.proofs.CycleNumbers.Frames.{Leaves, leaves, Numbers, numbers_of, worker_leaves}
 use Rattle.gh_world.proofs.CycleNumbers.Leading.{goes_so, Is}
 use Rattle.gh_world.proofs.CycleNumbers.Seats as seats
+use Rattle.gh_world.proofs.CycleNumbers.Writing.{leaves_numbers}
 
 pub rises : (ask : Ask) (before : ℕ) → before ≤ opened_after ask before
 rises ask before = go (opens_one ask) where
@@ -68,20 +69,23 @@ module _ (swept begun gen : ℕ) where
   marked c (Tell t) s h = tell_marked t.stage h
   marked c _ s h = alike 0 h.0 h.1 neither
 
-module _ {P O : Type 0} (l : Layout) (k : Kind P O) (pacing : Pacing) (may : ℕ → List (Entry O) → O → Bool) (sound : Layout → P → Type 0) (party : P → Party) (stage : P → Stage)
-    (parties : AreParties l k (sound l) party stage) (quiet : WritesNoNumbers k (sound l)) (works : WorkersWriteTheirOwn)
-    (keeps : (es : List (Entry O)) → Legal (seats.it l k pacing may) es → KeepsIt sound party stage (seats.it l k pacing may) es) where
-  abbrev Led : List (Entry O) → coord.Coordinating → Type 0
-  Led es c = seats.at l k pacing may es (seats.n l k pacing may) ≡ actor.Leads c
+module _ (shapes : List Shape) (l : Layout) (pacing : Pacing) (may : ℕ → List (Entry Op) → Op → Bool)
+    (writes : ProcessorWritesItsOwn) (works : WorkersWriteTheirOwn)
+    (keeps : (es : List (Entry Op)) → Legal (seats.it shapes l pacing may) es → KeepsIt (seats.it shapes l pacing may) es) where
+  abbrev k : Kind Processor Op
+  k = processor_kind shapes l
 
-  abbrev told : List (Entry O) → Numbers
-  told es = numbers_of (seats.words l k pacing may es)
+  abbrev Led : List (Entry Op) → coord.Coordinating → Type 0
+  Led es c = seats.at shapes l pacing may es (seats.n shapes l pacing may) ≡ actor.Leads c
 
-  abbrev Holds : List (Entry O) → coord.Coordinating → Type 0
+  abbrev told : List (Entry Op) → Numbers
+  told es = numbers_of (seats.words shapes l pacing may es)
+
+  abbrev Holds : List (Entry Op) → coord.Coordinating → Type 0
   Holds es c = Is pacing.room (opened_in es) (told es) c c.stage
 
   at_first : (c : coord.Coordinating) → Led [] c → Holds [] c
-  at_first c led = subst (λ (x : coord.Coordinating). Holds [] x) (sym (seats.first_lead l k pacing may c led)) (record {
+  at_first c led = subst (λ (x : coord.Coordinating). Holds [] x) (sym (seats.first_lead shapes l pacing may c led)) (record {
     at = record {
       opened_is = omega arith;
       begun_is = omega arith;
@@ -98,36 +102,36 @@ module _ {P O : Type 0} (l : Layout) (k : Kind P O) (pacing : Pacing) (may : ℕ
   })
 
   -- a step of another leaves all
-  module _ (e : Entry O) (es : List (Entry O)) where
+  module _ (e : Entry Op) (es : List (Entry Op)) where
     few_before : IsFew (e ∷ es) → IsFew es
     few_before few = let up = rises e.ask (opened_in es) in omega (arith, few, up)
 
-    beside : Leaves (seats.words l k pacing may es) e.ask → (c : coord.Coordinating) → Holds es c → Holds (e ∷ es) c
+    beside : Leaves (seats.words shapes l pacing may es) e.ask → (c : coord.Coordinating) → Holds es c → Holds (e ∷ es) c
     beside x c h = rw (x.opens_none (opened_in es), x.numbers) h
 
-    by_lead : (c to : coord.Coordinating) → seats.LeadsIt l k pacing may sound party stage parties e es c → to ≡ coord.goes c e.found → IsFew es → Holds es c → Holds (e ∷ es) to
+    by_lead : (c to : coord.Coordinating) → seats.LeadsIt shapes l pacing may e es c → to ≡ coord.goes c e.found → IsFew es → Holds es c → Holds (e ∷ es) to
     by_lead c to x then few h =
-        let next = goes_so pacing.room (opened_in es) (seats.words l k pacing may es) c (coord.counted c).marks c.stage e.found x.sound_it.1 few x.busy x.found h in
-        subst (λ (y : coord.Coordinating). Holds (e ∷ es) y) (sym then) (subst (λ (q : Ask). Is pacing.room (opened_after q (opened_in es)) (numbers_of (effect (seats.words l k pacing may es) q)) (coord.goes c e.found) (coord.goes c e.found).stage) (sym x.asked) next)
+        let next = goes_so pacing.room (opened_in es) (seats.words shapes l pacing may es) c (coord.counted c).marks c.stage e.found x.sound_it.1 few x.busy x.found h in
+        subst (λ (y : coord.Coordinating). Holds (e ∷ es) y) (sym then) (subst (λ (q : Ask). Is pacing.room (opened_after q (opened_in es)) (numbers_of (effect (seats.words shapes l pacing may es) q)) (coord.goes c e.found) (coord.goes c e.found).stage) (sym x.asked) next)
 
-    by_step : seats.Step l k pacing may sound party stage parties e es → IsFew (e ∷ es) → ((c : coord.Coordinating) → Led es c → Holds es c) → (c : coord.Coordinating) → Led (e ∷ es) c → Holds (e ∷ es) c
+    by_step : seats.Step shapes l pacing may e es → IsFew (e ∷ es) → ((c : coord.Coordinating) → Led es c → Holds es c) → (c : coord.Coordinating) → Led (e ∷ es) c → Holds (e ∷ es) c
     by_step (seats.by_processor m x stays) few before c led =
-        let free = subst (λ (q : Ask). Leaves (seats.words l k pacing may es) q) (sym x.asked) (leaves (seats.words l k pacing may es) _ (quiet.leaves (started k e.begun m) x.sound_then x.busy)) in
+        let free = subst (λ (q : Ask). Leaves (seats.words shapes l pacing may es) q) (sym x.asked) (leaves (seats.words shapes l pacing may es) _ (leaves_numbers writes (started k e.begun m) x.sound_then)) in
         beside free c (before c (sym stays ∙ led))
     by_step (seats.by_worker w x stays) few before c led =
-        let free = subst (λ (q : Ask). Leaves (seats.words l k pacing may es) q) (sym x.asked) (worker_leaves (seats.words l k pacing may es) w.seat _ (works w x.sound_it x.busy)) in
+        let free = subst (λ (q : Ask). Leaves (seats.words shapes l pacing may es) q) (sym x.asked) (worker_leaves (seats.words shapes l pacing may es) w.seat _ (works w x.sound_it x.busy)) in
         beside free c (before c (sym stays ∙ led))
     by_step (seats.by_lead b x) few before c led =
         by_lead b c x (let both : actor.Leads c ≡ actor.Leads (coord.goes b e.found) = sym led ∙ x.then in cc) (few_before few) (before b x.is)
 
-  pub holds : (es : List (Entry O)) → Legal (seats.it l k pacing may) es → IsFew es → (c : coord.Coordinating) → Led es c → Holds es c
+  pub holds : (es : List (Entry Op)) → Legal (seats.it shapes l pacing may) es → IsFew es → (c : coord.Coordinating) → Led es c → Holds es c
   holds [] legal few c led = at_first c led
-  holds (e ∷ es) legal few c led = by_step e es (seats.step l k pacing may sound party stage parties e es legal (keeps es legal.0)) few (λ x was. holds es legal.0 (few_before e es few) x was) c led
+  holds (e ∷ es) legal few c led = by_step e es (seats.step shapes l pacing may e es writes legal (keeps es legal.0)) few (λ x was. holds es legal.0 (few_before e es few) x was) c led
 
-  lead_sound : (es : List (Entry O)) (c : coord.Coordinating) → Legal (seats.it l k pacing may) es → Led es c → leading.Sound c
-  lead_sound es c legal led = (subst (Sound sound l) led ((keeps es legal).shakes.all_sound (seats.n l k pacing may) (omega arith))).1
+  lead_sound : (es : List (Entry Op)) (c : coord.Coordinating) → Legal (seats.it shapes l pacing may) es → Led es c → leading.Sound c
+  lead_sound es c legal led = (subst (Sound l) led ((keeps es legal).shakes.all_sound (seats.n shapes l pacing may) (omega arith))).1
 
-  pub counts : (es : List (Entry O)) (c : coord.Coordinating) → Legal (seats.it l k pacing may) es → IsFew es → Led es c → CountsCycles (seats.it l k pacing may) pacing.room es c
+  pub counts : (es : List (Entry Op)) (c : coord.Coordinating) → Legal (seats.it shapes l pacing may) es → IsFew es → Led es c → CountsCycles (seats.it shapes l pacing may) pacing.room es c
   counts es c legal few led = let s = lead_sound es c legal led in let h = (holds es legal few c led).at in record {
     opened = h.opened_is;
     begun = h.begun_is;

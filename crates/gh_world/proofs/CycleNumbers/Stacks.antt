@@ -7,12 +7,13 @@ use Rattle.gh_worker.specs.Listing as worker
 use Rattle.gh_worker.specs.Writing.{IsWritten}
 use Rattle.gh_world.specs.declared.handshake.Actor.TheVariants as actor
 use Rattle.gh_world.specs.Numbers.{Opened, TallyCleared, LiveCleared, Counted}
-use Rattle.gh_world.specs.Waits.{IsNumberOf, NumbersStack, NumbersStacks, StacksAreNumbered}
-use Rattle.gh_world.proofs.Vocabulary.{Acts, Add, ahead_at, And, AreParties, Ask, Awake, Begins, Begun, Cell, Checked, CountsCycles, effect, END, Ended, Entry, is_busy, IsAwake, IsFew, KeepsIt, Kind, Layout, Legal, Load, Numbered, opened_in, Or, Outside, Pacing, Part, part_of, Party, put, same_cell, Stage, started, Store, Swap, Words, WorkersWriteTheirOwn, WritesItsOwn, WritesNoNumbers}
+use Rattle.gh_world.specs.Waits.{StacksAreNumbered}
+use Rattle.gh_world.proofs.Vocabulary.{Acts, Add, ahead_at, And, Ask, Awake, Begins, Begun, Cell, Checked, CountsCycles, effect, END, Ended, Entry, is_busy, IsAwake, IsFew, IsSound, KeepsIt, Kind, Layout, Legal, Load, Numbered, Op, opened_in, Or, Outside, Pacing, Part, part_of, Party, party_of, Processor, processor_kind, ProcessorInHandshake, ProcessorWritesItsOwn, put, same_cell, Shape, Stage, stage_of, started, Store, Swap, Words, WorkersWriteTheirOwn, WritesItsOwn}
 use Rattle.gh_world.proofs.CycleNumbers.Frames.{Leaves as Leaves_, leaves, Numbers, worker_leaves}
 use Rattle.gh_world.proofs.CycleNumbers.Lists.{rises}
 use Rattle.gh_world.proofs.CycleNumbers.Wanting.{Aside, aside as lead_aside}
 use Rattle.gh_world.proofs.CycleNumbers.Seats as seats
+use Rattle.gh_world.proofs.CycleNumbers.Writing.{IsNumberOf, leaves_numbers, NumbersStack, numbers_stack}
 
 begun_behind : (part : Part) → (ahead_at part).begun ≤ (ahead_at part).numbered
 begun_behind Outside = omega arith
@@ -76,51 +77,53 @@ module _ (words : Words) (g : ℕ) where
   worker_same seat (Add c more) h = rw h.0 refl
   worker_same seat (Swap c old new) h = swap_same c old new (not_written seat c h) (eqb (words c) old)
 
-module _ {P O : Type 0} (l : Layout) (k : Kind P O) (pacing : Pacing) (may : ℕ → List (Entry O) → O → Bool) (sound : Layout → P → Type 0) (party : P → Party) (stage : P → Stage)
-    (parties : AreParties l k (sound l) party stage)
-    (keeps : (es : List (Entry O)) → Legal (seats.it l k pacing may) es → KeepsIt sound party stage (seats.it l k pacing may) es) where
+module _ (shapes : List Shape) (l : Layout) (pacing : Pacing) (may : ℕ → List (Entry Op) → Op → Bool) (places : ProcessorInHandshake) (writes : ProcessorWritesItsOwn)
+    (keeps : (es : List (Entry Op)) → Legal (seats.it shapes l pacing may) es → KeepsIt (seats.it shapes l pacing may) es) where
+  abbrev k : Kind Processor Op
+  k = processor_kind shapes l
+
   -- what an awake processor knows, once it has begun an operation or not
-  pub knows_begun : (a : ℕ) (m : P) (o : Option O) (es : List (Entry O)) → Legal (seats.it l k pacing may) es → a < l.procs → seats.at l k pacing may es a ≡ actor.Runs m → sound l m → Begins (seats.it l k pacing may) a es o → IsAwake (stage (started k o m)) →
-      (party (started k o m)).view.begun ≡ seats.words l k pacing may es cell.Begun
+  pub knows_begun : (a : ℕ) (m : Processor) (o : Option Op) (es : List (Entry Op)) → Legal (seats.it shapes l pacing may) es → a < l.procs → seats.at shapes l pacing may es a ≡ actor.Runs m → IsSound m → Begins (seats.it shapes l pacing may) a es o → IsAwake (stage_of (started k o m)) →
+      (party_of (started k o m)).view.begun ≡ seats.words shapes l pacing may es cell.Begun
   knows_begun a m o es legal lt is s b awake = go o b awake where
-    exact : IsAwake (stage m) → (party m).view.begun ≡ seats.words l k pacing may es cell.Begun
+    exact : IsAwake (stage_of m) → (party_of m).view.begun ≡ seats.words shapes l pacing may es cell.Begun
     exact y = ((keeps es legal).processors_know a m (omega (arith, lt)) is y).begun_is
 
-    places : (p q : Party) (s t : Stage) → PlaceBegins (Acts p s) (Acts q t) → IsAwake t → (q ≡ p) × IsAwake s
-    places p q s t (inl e) y = (cc, let same : s ≡ t = cc in subst IsAwake (sym same) y)
-    places p q s t (inr x) y = (let from = x.1 in let to = x.2 in cc, let same : s ≡ Awake = (let from = x.1 in cc) in subst IsAwake (sym same) tt)
+    same_place : (p q : Party) (s t : Stage) → PlaceBegins (Acts p s) (Acts q t) → IsAwake t → (q ≡ p) × IsAwake s
+    same_place p q s t (inl e) y = (cc, let same : s ≡ t = cc in subst IsAwake (sym same) y)
+    same_place p q s t (inr x) y = (let from = x.1 in let to = x.2 in cc, let same : s ≡ Awake = (let from = x.1 in cc) in subst IsAwake (sym same) tt)
 
-    go : (o : Option O) → Begins (seats.it l k pacing may) a es o → IsAwake (stage (started k o m)) → (party (started k o m)).view.begun ≡ seats.words l k pacing may es cell.Begun
+    go : (o : Option Op) → Begins (seats.it shapes l pacing may) a es o → IsAwake (stage_of (started k o m)) → (party_of (started k o m)).view.begun ≡ seats.words shapes l pacing may es cell.Begun
     go None b y = exact y
     go (Some o) b y =
-        let x = places (party m) (party (k.begins m o)) (stage m) (stage (k.begins m o)) (parties.begins_so m o s (sym (ap (is_busy k) is) ∙ b.0)) y in
+        let x = same_place (party_of m) (party_of (k.begins m o)) (stage_of m) (stage_of (k.begins m o)) (places.begins_so shapes l m o s.place (sym (ap is_busy is) ∙ b.0)) y in
         ap (λ (p : Party). p.view.begun) x.0 ∙ exact x.1
 
-  module _ (quiet : WritesNoNumbers k (sound l)) (works : WorkersWriteTheirOwn) (stacks : NumbersStacks k (sound l) party stage)
-      (counts : (es : List (Entry O)) (c : coord.Coordinating) → Legal (seats.it l k pacing may) es → IsFew es → seats.at l k pacing may es (seats.n l k pacing may) ≡ actor.Leads c → CountsCycles (seats.it l k pacing may) pacing.room es c) where
-    abbrev words : List (Entry O) → Words
-    words es = seats.words l k pacing may es
+  module _ (works : WorkersWriteTheirOwn)
+      (counts : (es : List (Entry Op)) (c : coord.Coordinating) → Legal (seats.it shapes l pacing may) es → IsFew es → seats.at shapes l pacing may es (seats.n shapes l pacing may) ≡ actor.Leads c → CountsCycles (seats.it shapes l pacing may) pacing.room es c) where
+    abbrev words : List (Entry Op) → Words
+    words es = seats.words shapes l pacing may es
 
-    abbrev AllNumbered : List (Entry O) → Type 0
+    abbrev AllNumbered : List (Entry Op) → Type 0
     AllNumbered es = StacksAreNumbered (words es)
 
-    few_before : (e : Entry O) (es : List (Entry O)) → IsFew (e ∷ es) → IsFew es
+    few_before : (e : Entry Op) (es : List (Entry Op)) → IsFew (e ∷ es) → IsFew es
     few_before e es few = let up = rises e.ask (opened_in es) in omega (arith, few, up)
 
-    module _ (e : Entry O) (es : List (Entry O)) (legal : Legal (seats.it l k pacing may) (e ∷ es)) (few : IsFew (e ∷ es)) where
-      free : (m : P) → seats.RunsIt l k pacing may sound party stage parties e es m → Leaves_ (words es) e.ask
-      free m x = subst (λ (q : Ask). Leaves_ (words es) q) (sym x.asked) (leaves (words es) _ (quiet.leaves (started k e.begun m) x.sound_then x.busy))
+    module _ (e : Entry Op) (es : List (Entry Op)) (legal : Legal (seats.it shapes l pacing may) (e ∷ es)) (few : IsFew (e ∷ es)) where
+      free : (m : Processor) → seats.RunsIt shapes l pacing may e es m → Leaves_ (words es) e.ask
+      free m x = subst (λ (q : Ask). Leaves_ (words es) q) (sym x.asked) (leaves (words es) _ (leaves_numbers writes (started k e.begun m) x.sound_then))
 
-      worker_free : (w : worker.Working) → seats.WorksIt l k pacing may sound party stage parties e es w → Leaves_ (words es) e.ask
+      worker_free : (w : worker.Working) → seats.WorksIt shapes l pacing may e es w → Leaves_ (words es) e.ask
       worker_free w x = subst (λ (q : Ask). Leaves_ (words es) q) (sym x.asked) (worker_leaves (words es) w.seat _ (works w x.sound_it x.busy))
 
-      lead_free : (c : coord.Coordinating) → seats.LeadsIt l k pacing may sound party stage parties e es c → Aside (words es) c.begun e.ask
+      lead_free : (c : coord.Coordinating) → seats.LeadsIt shapes l pacing may e es c → Aside (words es) c.begun e.ask
       lead_free c x = subst (λ (q : Ask). Aside (words es) c.begun q) (sym x.asked) (lead_aside 0 0 (words es) c 0 c.stage x.sound_it.1)
 
       as_many : Leaves_ (words es) e.ask → words es cell.Begun ≤ words (e ∷ es) cell.Begun
       as_many y = let same : words (e ∷ es) cell.Begun ≡ words es cell.Begun = ap (λ (n : Numbers). n.begun) y.numbers in omega (arith, same)
 
-      lead_rises : (c : coord.Coordinating) → CountsCycles (seats.it l k pacing may) pacing.room es c → (words (e ∷ es) cell.Begun ≡ words es cell.Begun) ⊎ (e.ask ≡ Store cell.Begun c.begun) → words es cell.Begun ≤ words (e ∷ es) cell.Begun
+      lead_rises : (c : coord.Coordinating) → CountsCycles (seats.it shapes l pacing may) pacing.room es c → (words (e ∷ es) cell.Begun ≡ words es cell.Begun) ⊎ (e.ask ≡ Store cell.Begun c.begun) → words es cell.Begun ≤ words (e ∷ es) cell.Begun
       lead_rises c n (inl same) = omega (arith, same)
       lead_rises c n (inr stored) =
           let now : words (e ∷ es) cell.Begun ≡ c.begun = ap (λ (q : Ask). effect (words es) q cell.Begun) stored in
@@ -129,8 +132,8 @@ module _ {P O : Type 0} (l : Layout) (k : Kind P O) (pacing : Pacing) (may : ℕ
 
       -- no step takes the number of cycles begun back
       begun_rises : words es cell.Begun ≤ words (e ∷ es) cell.Begun
-      begun_rises = by (seats.step l k pacing may sound party stage parties e es legal (keeps es legal.0)) where
-        by : seats.Step l k pacing may sound party stage parties e es → words es cell.Begun ≤ words (e ∷ es) cell.Begun
+      begun_rises = by (seats.step shapes l pacing may e es writes legal (keeps es legal.0)) where
+        by : seats.Step shapes l pacing may e es → words es cell.Begun ≤ words (e ∷ es) cell.Begun
         by (seats.by_processor m x s) = as_many (free m x)
         by (seats.by_worker w x s) = as_many (worker_free w x)
         by (seats.by_lead c x) = lead_rises c (counts es c legal.0 (few_before e es few) x.is) (lead_free c x).begun
@@ -138,7 +141,7 @@ module _ {P O : Type 0} (l : Layout) (k : Kind P O) (pacing : Pacing) (may : ℕ
       stays : (g : ℕ) → words (e ∷ es) (cell.Scanned g) ≡ words es (cell.Scanned g) → AllNumbered es → (words (e ∷ es) (cell.Scanned g) ≡ END) ⊎ (words (e ∷ es) (cell.Scanned g) ≤ words (e ∷ es) cell.Begun)
       stays g same h = elim (h g) [ inl y ↦ inl (same ∙ y) | inr y ↦ inr (let up = begun_rises in omega (arith, same, y, up)) ]
 
-      written : (g : ℕ) (m : P) (x : seats.RunsIt l k pacing may sound party stage parties e es m) → IsNumberOf (party (started k e.begun m)) (stage (started k e.begun m)) (words (e ∷ es) (cell.Scanned g)) →
+      written : (g : ℕ) (m : Processor) (x : seats.RunsIt shapes l pacing may e es m) → IsNumberOf (party_of (started k e.begun m)) (stage_of (started k e.begun m)) (words (e ∷ es) (cell.Scanned g)) →
           (words (e ∷ es) (cell.Scanned g) ≡ END) ⊎ (words (e ∷ es) (cell.Scanned g) ≤ words (e ∷ es) cell.Begun)
       written g m x (inl y) = inl y
       written g m x (inr y) =
@@ -147,16 +150,16 @@ module _ {P O : Type 0} (l : Layout) (k : Kind P O) (pacing : Pacing) (may : ℕ
           inr (omega (arith, known, now, up))
 
       next : AllNumbered es → AllNumbered (e ∷ es)
-      next h g = by (seats.step l k pacing may sound party stage parties e es legal (keeps es legal.0)) where
-        by : seats.Step l k pacing may sound party stage parties e es → (words (e ∷ es) (cell.Scanned g) ≡ END) ⊎ (words (e ∷ es) (cell.Scanned g) ≤ words (e ∷ es) cell.Begun)
+      next h g = by (seats.step shapes l pacing may e es writes legal (keeps es legal.0)) where
+        by : seats.Step shapes l pacing may e es → (words (e ∷ es) (cell.Scanned g) ≡ END) ⊎ (words (e ∷ es) (cell.Scanned g) ≤ words (e ∷ es) cell.Begun)
         by (seats.by_processor m x s) =
-            elim (numbered (words es) g (party (started k e.begun m)) (stage (started k e.begun m)) e.ask (subst (λ (q : Ask). NumbersStack (party (started k e.begun m)) (stage (started k e.begun m)) q) (sym x.asked) (stacks.numbers (started k e.begun m) x.sound_then x.busy))) [
+            elim (numbered (words es) g (party_of (started k e.begun m)) (stage_of (started k e.begun m)) e.ask (subst (λ (q : Ask). NumbersStack (party_of (started k e.begun m)) (stage_of (started k e.begun m)) q) (sym x.asked) (numbers_stack places writes shapes (started k e.begun m) x.sound_then x.busy))) [
               | inl y ↦ stays g y h
               | inr y ↦ written g m x y
             ]
         by (seats.by_worker w x s) = stays g (worker_same (words es) g w.seat e.ask (subst (λ (q : Ask). WritesItsOwn w.seat q) (sym x.asked) (works w x.sound_it x.busy))) h
         by (seats.by_lead c x) = stays g ((lead_free c x).scanned g) h
 
-    pub are_numbered : (es : List (Entry O)) → Legal (seats.it l k pacing may) es → IsFew es → AllNumbered es
+    pub are_numbered : (es : List (Entry Op)) → Legal (seats.it shapes l pacing may) es → IsFew es → AllNumbered es
     are_numbered [] legal few g = inr (omega arith)
     are_numbered (e ∷ es) legal few g = next e es legal few (are_numbered es legal.0 (few_before e es few)) g

@@ -7,8 +7,9 @@ use Rattle.gh_base.specs.declared.cell.Cell.TheVariants as cell
 use Rattle.gh_coord.specs.Closing as close
 use Rattle.gh_coord.specs.Listing as coord
 use Rattle.gh_world.specs.declared.handshake.Actor.TheVariants as actor
-use Rattle.gh_world.specs.Vocabulary.{acks_of, Actor, Coordinating, CoordStage, Cycle, Entry, Layout, Legal, Op, Processor, Program, started, Words}
+use Rattle.gh_world.specs.Vocabulary.{acks_of, Actor, Coordinating, CoordStage, Cycle, Entry, Layout, Legal, Op, Program, started, Words}
 use Rattle.gh_world.specs.RunVocabulary.{actor_after, Add, alloc_words, AllWereCounted, And, Ask, Cell, Check, Close, Count, cycles_in, Done, effect, ended_by, EndsCycle, generation_of, IsEnding, IsStartOf, LoadAck, LoadWant, mark_words, marked_objects, MarkOn, may_begin_of, Open, opened_in, Or, Outside, pacing_of, Part, part_of, setting_of, Stop, StopAgain, Swap, Sweep, swept_cycle, SweptCycle, Tell, unmarked_objects, WasCounted, Watch, words_in}
+use Rattle.gh_world.proofs.AllActors.Starts.{legal_start}
 use Rattle.gh_world.proofs.CycleNumbers.Frames.{numbers_of}
 use Rattle.gh_world.proofs.CycleNumbers.Parts.{At, own_of}
 use Rattle.gh_world.proofs.Explained.Known.{Changes, changes, counted, Known}
@@ -97,6 +98,21 @@ ending_asks c (Count x) is = absurd is
 ending_asks c (Tell t) is = absurd is
 ending_asks c Done is = absurd is
 
+pub is_done : (st : CoordStage) → coord.is_done st ≡ true → st ≡ Done
+is_done Done e = refl
+is_done (LoadAck i) e = absurd cc
+is_done LoadWant e = absurd cc
+is_done (Stop st) e = absurd cc
+is_done (Open o) e = absurd cc
+is_done (Watch w) e = absurd cc
+is_done (StopAgain st) e = absurd cc
+is_done (Check w) e = absurd cc
+is_done MarkOn e = absurd cc
+is_done (Close x) e = absurd cc
+is_done (Sweep w) e = absurd cc
+is_done (Count x) e = absurd cc
+is_done (Tell t) e = absurd cc
+
 module _ (p : Program) (l : Layout) (k : Known p l) where
   abbrev words : List (Entry Op) → Words
   words es = words_in p l es
@@ -161,7 +177,7 @@ module _ (p : Program) (l : Layout) (k : Known p l) where
   ends_by number e es legal x =
       let state : actor_after p l es e.actor ≡ actor.Leads x.lead = ap (actor_after p l es) x.by ∙ x.led in
       let y = ending_asks x.lead x.lead.stage x.stage in
-      (y.0, legal.1.asks ∙ ap (λ (a : Actor Processor). (setting_of p l).kind.asks (started (setting_of p l).kind e.begun a)) state ∙ led_asks e.begun x.lead ∙ y.1)
+      (y.0, legal.1.asks ∙ ap (λ (a : Actor). (setting_of p l).kind.asks (started (setting_of p l).kind e.begun a)) state ∙ led_asks e.begun x.lead ∙ y.1)
 
   here : (number : ℕ) (e : Entry Op) (es : List (Entry Op)) → Legal (setting_of p l) (e ∷ es) → Ending number (e ∷ es) → slice_get (ended_in (e ∷ es)) (length (ended_in es)) ≡ Some (ended_at number (words (e ∷ es)))
   here number e es legal x = by (changes p l k e es legal) where
@@ -183,11 +199,6 @@ module _ (p : Program) (l : Layout) (k : Known p l) where
         ∙ ap (λ (n : ℕ). Some (ended_at n (words es))) value
         ∙ ap Some rows
 
-  pub legal_start : (start es : List (Entry Op)) → IsStartOf start es → Legal (setting_of p l) es → Legal (setting_of p l) start
-  legal_start start [] is legal = subst (λ (xs : List (Entry Op)). Legal (setting_of p l) xs) (sym is) legal
-  legal_start start (e ∷ es) (inl is) legal = subst (λ (xs : List (Entry Op)). Legal (setting_of p l) xs) (sym is) legal
-  legal_start start (e ∷ es) (inr is) legal = legal_start start es is legal.0
-
   in_start : (start es : List (Entry Op)) → IsStartOf start es → (i : ℕ) (y : SweptCycle) → slice_get (ended_in start) i ≡ Some y → slice_get (ended_in es) i ≡ Some y
   in_start start [] is i y at = subst (λ (xs : List (Entry Op)). slice_get (ended_in xs) i ≡ Some y) is at
   in_start start (e ∷ es) (inl is) i y at = subst (λ (xs : List (Entry Op)). slice_get (ended_in xs) i ≡ Some y) is at
@@ -196,7 +207,7 @@ module _ (p : Program) (l : Layout) (k : Known p l) where
   among : (number : ℕ) (ended es : List (Entry Op)) → IsStartOf ended es → Legal (setting_of p l) es → Ending number ended → (i : ℕ) × (slice_get (ended_in es) i ≡ Some (ended_at number (words ended)))
   among number [] es start legal x = absurd x
   among number (e ∷ before) es start legal x =
-      (length (ended_in before), in_start (e ∷ before) es start (length (ended_in before)) (ended_at number (words (e ∷ before))) (here number e before (legal_start (e ∷ before) es start legal) x))
+      (length (ended_in before), in_start (e ∷ before) es start (length (ended_in before)) (ended_at number (words (e ∷ before))) (here number e before (legal_start (setting_of p l) (e ∷ before) es start legal) x))
 
   -- and at its place
   placed : (number : ℕ) (ended es : List (Entry Op)) → IsStartOf ended es → Legal (setting_of p l) es → Ending (suc number) ended → slice_get (ended_in es) number ≡ Some (ended_at (suc number) (words ended))
@@ -219,21 +230,7 @@ module _ (p : Program) (l : Layout) (k : Known p l) where
         told w k_is = rw (k_is, w.marked, w.freed) refl
 
   is_outside : (c : Coordinating) → coord.is_done c.stage ≡ true → part_of c.stage ≡ Outside
-  is_outside c e = go c.stage e where
-    go : (st : CoordStage) → coord.is_done st ≡ true → part_of st ≡ Outside
-    go Done e = refl
-    go (LoadAck i) e = absurd cc
-    go LoadWant e = absurd cc
-    go (Stop st) e = absurd cc
-    go (Open o) e = absurd cc
-    go (Watch w) e = absurd cc
-    go (StopAgain st) e = absurd cc
-    go (Check w) e = absurd cc
-    go MarkOn e = absurd cc
-    go (Close x) e = absurd cc
-    go (Sweep w) e = absurd cc
-    go (Count x) e = absurd cc
-    go (Tell t) e = absurd cc
+  is_outside c e = ap part_of (is_done c.stage e)
 
   -- where it is done
   module _ (es : List (Entry Op)) (c : Coordinating) (legal : Legal (setting_of p l) es) (led : actor_after p l es (acks_of l) ≡ actor.Leads c) (done : coord.is_done c.stage ≡ true) where

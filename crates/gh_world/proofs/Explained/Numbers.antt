@@ -13,14 +13,15 @@ use Rattle.gh_coord.specs.Telling as tell
 use Rattle.gh_worker.specs.Listing as worker
 use Rattle.gh_world.specs.declared.handshake.Actor.TheVariants as actor
 use Rattle.gh_world.specs.Numbers.{Counted}
-use Rattle.gh_world.specs.Vocabulary.{CoordStage, Entry, Kind, Layout, Legal, OpenStage, Party, Stage, started, Words}
-use Rattle.gh_world.specs.RunVocabulary.{AreParties, Ask, Check, Checked, Close, CloseStage, Count, Done, effect, generation_of, IsFew, KeepsIt, LiveCleared, LoadAck, LoadWant, MarkOn, Open, opened_in, Pacing, Part, part_of, Stop, StopAgain, Sweep, Tell, TellStage, Watch, WorkersWriteTheirOwn, WritesNoNumbers}
+use Rattle.gh_world.specs.Vocabulary.{CoordStage, Entry, Kind, Layout, Legal, Op, OpenStage, Processor, processor_kind, Shape, started, Words}
+use Rattle.gh_world.specs.RunVocabulary.{Ask, Check, Checked, Close, CloseStage, Count, Done, effect, generation_of, IsFew, KeepsIt, LiveCleared, LoadAck, LoadWant, MarkOn, Open, opened_in, Pacing, Part, part_of, ProcessorWritesItsOwn, Stop, StopAgain, Sweep, Tell, TellStage, Watch, WorkersWriteTheirOwn}
 use Rattle.gh_world.proofs.CycleNumbers.Frames.{leaves, Numbers, numbers_of, worker_leaves}
 use Rattle.gh_world.proofs.CycleNumbers.Leading.{Is, Reads}
-use Rattle.gh_world.proofs.CycleNumbers.Lists.{holds, rises}
+use Rattle.gh_world.proofs.CycleNumbers.Lists.{holds}
 use Rattle.gh_world.proofs.CycleNumbers.Parts.{At, own_of}
 use Rattle.gh_world.proofs.CycleNumbers.Quiet.{all_quiet, count_still, stop_still, watch_still}
 use Rattle.gh_world.proofs.CycleNumbers.Seats as seats
+use Rattle.gh_world.proofs.CycleNumbers.Writing.{leaves_numbers}
 
 -- whatever the words are, these three stay
 pub record Spares (ask : Ask) : Type 0 where
@@ -83,37 +84,37 @@ module _ (c : coord.Coordinating) where
   does n (Tell t) s r = telling t t.stage r
   does n Done s r = spares_them (record { gen = λ w. refl; begun = λ w. refl; swept = λ w. refl })
 
-module _ {P O : Type 0} (l : Layout) (k : Kind P O) (pacing : Pacing) (may : ℕ → List (Entry O) → O → Bool) (sound : Layout → P → Type 0) (party : P → Party) (stage : P → Stage)
-    (parties : AreParties l k (sound l) party stage) (quiet : WritesNoNumbers k (sound l)) (works : WorkersWriteTheirOwn)
-    (keeps : (es : List (Entry O)) → Legal (seats.it l k pacing may) es → KeepsIt sound party stage (seats.it l k pacing may) es) where
-  abbrev words : List (Entry O) → Words
-  words es = seats.words l k pacing may es
+module _ (shapes : List Shape) (l : Layout) (pacing : Pacing) (may : ℕ → List (Entry Op) → Op → Bool)
+    (writes : ProcessorWritesItsOwn) (works : WorkersWriteTheirOwn)
+    (keeps : (es : List (Entry Op)) → Legal (seats.it shapes l pacing may) es → KeepsIt (seats.it shapes l pacing may) es) where
+  abbrev k : Kind Processor Op
+  k = processor_kind shapes l
+
+  abbrev words : List (Entry Op) → Words
+  words es = seats.words shapes l pacing may es
 
   -- the coordinator ends the marking of a cycle that has begun
-  pub record Ends (e : Entry O) (es : List (Entry O)) : Type 0 where
+  pub record Ends (e : Entry Op) (es : List (Entry Op)) : Type 0 where
     pub lead : coord.Coordinating
-    pub led : seats.at l k pacing may es (seats.n l k pacing may) ≡ actor.Leads lead
+    pub led : seats.at shapes l pacing may es (seats.n shapes l pacing may) ≡ actor.Leads lead
     pub closing_it : close.Closing
     pub at : lead.stage ≡ Close closing_it
     pub stores : closing_it.stage ≡ close_stage.StoreGen
-    pub actor_is : e.actor ≡ seats.n l k pacing may
+    pub actor_is : e.actor ≡ seats.n shapes l pacing may
     pub ask_is : e.ask ≡ Store cell.Gen (words es cell.Gen + 2)
     pub number : words es cell.Begun ≡ lead.begun
     pub gen : words es cell.Gen + 2 ≡ generation_of lead.begun
 
   -- what a step is to the numbers
-  pub data Change (e : Entry O) (es : List (Entry O)) : Type 0 where
+  pub data Change (e : Entry Op) (es : List (Entry Op)) : Type 0 where
     same : Spares e.ask → Change e es
     begins : e.ask ≡ Store cell.Begun (suc (words es cell.Begun)) → Change e es
     ends : Ends e es → Change e es
     tells : e.ask ≡ Store cell.Swept (suc (words es cell.Swept)) → Change e es
 
-  few_before : (e : Entry O) (es : List (Entry O)) → IsFew (e ∷ es) → IsFew es
-  few_before e es few = let up = rises e.ask (opened_in es) in omega (arith, few, up)
-
-  pub change : (e : Entry O) (es : List (Entry O)) → Legal (seats.it l k pacing may) (e ∷ es) → IsFew es → Change e es
-  change e es legal few = by (seats.step l k pacing may sound party stage parties e es legal (keeps es legal.0)) where
-    by_lead : (c : coord.Coordinating) (x : seats.LeadsIt l k pacing may sound party stage parties e es c) → Is pacing.room (opened_in es) (numbers_of (words es)) c c.stage → Does c c.stage (coord.asks c) → Change e es
+  pub change : (e : Entry Op) (es : List (Entry Op)) → Legal (seats.it shapes l pacing may) (e ∷ es) → IsFew es → Change e es
+  change e es legal few = by (seats.step shapes l pacing may e es writes legal (keeps es legal.0)) where
+    by_lead : (c : coord.Coordinating) (x : seats.LeadsIt shapes l pacing may e es c) → Is pacing.room (opened_in es) (numbers_of (words es)) c c.stage → Does c c.stage (coord.asks c) → Change e es
     by_lead c x h (spares_them y) = same (subst Spares (sym x.asked) y)
     by_lead c x h (begins_it part ask) =
         let at = subst (λ (q : Part). At pacing.room (opened_in es) (numbers_of (words es)) (own_of c) q) part h.at in
@@ -138,19 +139,19 @@ module _ {P O : Type 0} (l : Layout) (k : Kind P O) (pacing : Pacing) (may : ℕ
         let value : c.begun ≡ suc (words es cell.Swept) = let a = at.number_is in omega (arith, a) in
         tells (x.asked ∙ ask ∙ ap (Store cell.Swept) value)
 
-    by : seats.Step l k pacing may sound party stage parties e es → Change e es
-    by (seats.by_processor m x s) = same (subst Spares (sym x.asked) (spares (k.asks (started k e.begun m)) (λ w. (leaves w (k.asks (started k e.begun m)) (quiet.leaves (started k e.begun m) x.sound_then x.busy)).numbers)))
+    by : seats.Step shapes l pacing may e es → Change e es
+    by (seats.by_processor m x s) = same (subst Spares (sym x.asked) (spares (k.asks (started k e.begun m)) (λ w. (leaves w (k.asks (started k e.begun m)) (leaves_numbers writes (started k e.begun m) x.sound_then)).numbers)))
     by (seats.by_worker v x s) = same (subst Spares (sym x.asked) (spares (worker.asks v) (λ w. (worker_leaves w v.seat (worker.asks v) (works v x.sound_it x.busy)).numbers)))
     by (seats.by_lead c x) =
-        let h = holds l k pacing may sound party stage parties quiet works keeps es legal.0 few c x.is in
+        let h = holds shapes l pacing may writes works keeps es legal.0 few c x.is in
         by_lead c x h (does c (numbers_of (words es)) c.stage x.sound_it.1 h.reads)
 
   -- no number is ever less
-  pub record Rises (e : Entry O) (es : List (Entry O)) : Type 0 where
+  pub record Rises (e : Entry Op) (es : List (Entry Op)) : Type 0 where
     pub begun : words es cell.Begun ≤ words (e ∷ es) cell.Begun
     pub swept : words es cell.Swept ≤ words (e ∷ es) cell.Swept
 
-  pub rise : (e : Entry O) (es : List (Entry O)) → Legal (seats.it l k pacing may) (e ∷ es) → IsFew es → Rises e es
+  pub rise : (e : Entry Op) (es : List (Entry Op)) → Legal (seats.it shapes l pacing may) (e ∷ es) → IsFew es → Rises e es
   rise e es legal few = by (change e es legal few) where
     by : Change e es → Rises e es
     by (same y) = record { begun = let s = y.begun (words es) in omega (arith, s); swept = let s = y.swept (words es) in omega (arith, s) }

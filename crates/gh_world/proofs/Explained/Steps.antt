@@ -147,7 +147,7 @@ module _ (p : Program) (l : Layout) (es : List (Entry Op)) (e : Entry Op) (legal
   abbrev m : Processor
   m = before_step p.shapes l es e
 
-  abbrev everyone : Kind (Actor Processor) Op
+  abbrev everyone : Kind Actor Op
   everyone = (setting_of p l).kind
 
   -- who is no processor has no operation begun

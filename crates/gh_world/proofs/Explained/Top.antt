@@ -6,10 +6,8 @@ use Rattle.gh_coord.specs.Listing as coord
 use Rattle.gh_model.specs.declared.EverValue.TheVariants as values
 use Rattle.gh_world.specs.declared.handshake.Actor.TheVariants as actor
 use Rattle.gh_world.specs.Order.{acted_in, Answered}
-use Rattle.gh_world.specs.Vocabulary.{acts, Coordinating, CoordStage, Entry, Ever, Layout, Legal, Name, Op, opening_ever, processor_kind, Program, Reach, state_of, statements_of, WellFormed}
-use Rattle.gh_world.specs.RunVocabulary.{actor_after, AllStands, answers_given, AreFew, AreLive, arena_of, before_step, Check, Close, Count, count_of, CyclesAreFew, Done, EachOperationActsOnce, ever_after_list, ever_of, EveryListKeepsIt, EveryListOfActorsStands, EveryRunIsExplained, has_ended, is_statement_of, IsExplained, IsHeld, IsMade, IsRun, IsStartOf, LaysOut, LeavesTheReached, LoadAck, LoadWant, MarkOn, may_begin_of, OnlyPointsChange, op_of, Open, order_of, outcome_by, pacing_of, party_of, ProcessorInHandshake, ProcessorsBeginFew, ProcessorWritesItsOwn, SetBitsAreCounted, setting_of, SlotsAreRead, Sound, stage_of, Stop, StopAgain, Sweep, Tell, total_of, Watch, wishes_of, WorkersWriteTheirOwn}
-use Rattle.gh_world.proofs.AllActors.Asking.{asks_once, left}
-use Rattle.gh_world.proofs.AllActors.Parties.{are_parties, writes_no_numbers}
+use Rattle.gh_world.specs.Vocabulary.{acts, Coordinating, Entry, Ever, Layout, Legal, Name, Op, opening_ever, processor_kind, Program, Reach, state_of, statements_of, WellFormed}
+use Rattle.gh_world.specs.RunVocabulary.{actor_after, AllStands, answers_given, AreFew, AreLive, arena_of, before_step, count_of, CyclesAreFew, EachOperationActsOnce, ever_after_list, ever_of, EveryListKeepsIt, EveryListOfActorsStands, EveryRunIsExplained, has_ended, is_statement_of, IsExplained, IsHeld, IsMade, IsRun, IsStartOf, LaysOut, LeavesTheReached, may_begin_of, OnlyPointsChange, op_of, order_of, outcome_by, pacing_of, ProcessorsBeginFew, ProcessorWritesItsOwn, SetBitsAreCounted, setting_of, SlotsAreRead, total_of, wishes_of, WorkersWriteTheirOwn}
 use Rattle.gh_world.proofs.Asking.{asked_of}
 use Rattle.gh_world.proofs.EachOnce.{acted_ops, none_beyond}
 use Rattle.gh_world.proofs.OfScripts.{all_stand, few_in_all, many_wishes}
@@ -18,7 +16,7 @@ use Rattle.gh_world.proofs.Wishing.{filter_few}
 use Rattle.gh_world.proofs.Explained.Acted.{Acted, acted_all, answers_in, ever_is, map-reverse, ops_in}
 use Rattle.gh_world.proofs.Explained.Answers as answers
 use Rattle.gh_world.proofs.Explained.Beyond.{all_leave, held_at_end}
-use Rattle.gh_world.proofs.Explained.Cycles.{cycles_are}
+use Rattle.gh_world.proofs.Explained.Cycles.{cycles_are, is_done}
 use Rattle.gh_world.proofs.Explained.Known.{Known}
 use Rattle.gh_world.proofs.Explained.Last.{some_swept}
 use Rattle.gh_world.proofs.Explained.Made.{grows, made_all}
@@ -32,11 +30,10 @@ pub record Laws : Type 0 where
   pub every : EveryListOfActorsStands
   pub each : EachOperationActsOnce
   pub points : OnlyPointsChange
-  pub places : ProcessorInHandshake
   pub writes : ProcessorWritesItsOwn
   pub works : WorkersWriteTheirOwn
-  pub keeps : EveryListKeepsIt Sound party_of stage_of Op
-  pub few : CyclesAreFew Sound party_of stage_of
+  pub keeps : EveryListKeepsIt
+  pub few : CyclesAreFew
   pub begins_few : ProcessorsBeginFew
   pub bits : SetBitsAreCounted
   pub slots : SlotsAreRead
@@ -51,35 +48,19 @@ few_of p g formed =
     let all : count_of p g ≤ total_of p = elim (cases_lt g (length p.goroutines)) [ inl lt ↦ count-le p g lt | inr le ↦ let none = ap length (none_beyond p g le) in omega (arith, none) ] in
     omega (arith, one, most, all)
 
-pub is_done : (st : CoordStage) → coord.is_done st ≡ true → st ≡ Done
-is_done Done e = refl
-is_done (LoadAck i) e = absurd cc
-is_done LoadWant e = absurd cc
-is_done (Stop st) e = absurd cc
-is_done (Open o) e = absurd cc
-is_done (Watch w) e = absurd cc
-is_done (StopAgain st) e = absurd cc
-is_done (Check w) e = absurd cc
-is_done MarkOn e = absurd cc
-is_done (Close x) e = absurd cc
-is_done (Sweep w) e = absurd cc
-is_done (Count x) e = absurd cc
-is_done (Tell t) e = absurd cc
-
 module _ (laws : Laws) (p : Program) (l : Layout) (formed : WellFormed p) (out : LaysOut p l) where
-  are_few : (es : List (Entry Op)) → Legal (setting_of p l) es → AreFew Sound party_of stage_of (wishes_of p) l es
+  are_few : (es : List (Entry Op)) → Legal (setting_of p l) es → AreFew (wishes_of p) l es
   are_few es legal =
-      laws.few l (processor_kind p.shapes l) (pacing_of p) (may_begin_of p l) (are_parties laws.places laws.writes p.shapes l) (writes_no_numbers laws.places laws.writes p.shapes l) left (arena_of p.shapes l).seat_of (wishes_of p) (asks_once laws.writes p.shapes l)
+      laws.few p.shapes l (pacing_of p) (may_begin_of p l) (arena_of p.shapes l).seat_of (wishes_of p)
       (laws.begins_few (arena_of p.shapes l) (wishes_of p) (λ a es. state_of (processor_kind p.shapes l) a es) (few_in_all p l formed out)) es legal
 
   known : Known p l
   known = record {
     each = laws.each;
     points = laws.points;
-    parties = are_parties laws.places laws.writes p.shapes l;
-    quiet = writes_no_numbers laws.places laws.writes p.shapes l;
+    writes = laws.writes;
     works = laws.works;
-    keeps = λ es legal. laws.keeps l (processor_kind p.shapes l) (pacing_of p) (may_begin_of p l) (are_parties laws.places laws.writes p.shapes l) es legal;
+    keeps = λ es legal. laws.keeps p.shapes l (pacing_of p) (may_begin_of p l) es legal;
     few = λ es legal. (are_few es legal).few;
     roomy = λ es legal. let o = (are_few es legal).opened in let many = many_wishes p l formed out in omega (arith, o, many);
   }

@@ -1,5 +1,5 @@
 -- The last numbers of a run: how many objects are live, and how many bytes.
-use Rattle.std.proofs.Common.{◌≡◌, ℕ, ◌+◌, ◌*◌, ◌^◌, ◌-◌, ◌<◌, ◌≤◌, Bool, true, false, ◌&&◌, refl, sym, ap, subst, ◌∙◌, arith, List, [], ◌∷◌, get_or, length, Some, inl, inr}
+use Rattle.std.proofs.Common.{◌≡◌, ℕ, ◌+◌, ◌*◌, ◌^◌, ◌-◌, ◌<◌, ◌≤◌, Bool, true, false, ◌&&◌, refl, sym, ap, subst, ◌∙◌, arith, List, [], ◌∷◌, get_or, length, Some, inr}
 use Rattle.std.specs.Prelude.{◌↔◌, slice_get}
 use Rattle.std.proofs.lemmas.Bool.{eqb-true}
 use Rattle.std.proofs.lemmas.Option.{slice_get-get_or}
@@ -8,7 +8,8 @@ use Rattle.gh_coord.specs.Listing as coord
 use Rattle.gh_world.specs.declared.handshake.Actor.TheVariants as actor
 use Rattle.gh_world.specs.Vocabulary.{acks_of, bit, Coordinating, Cycle, Entry, Ever, Layout, Legal, Name, Op, Program, Reach, row_bit, Words}
 use Rattle.gh_world.specs.RunVocabulary.{actor_after, alloc_words, AllStands, AllWereCounted, AreLive, arena_of, AreWords, Ask, by_field, by_global, effect, EndsCycle, ever_after_list, from_field, from_global, is_set, IsAmong, IsHeld, IsMade, IsMarkedObject, IsPlacedAt, IsStartOf, last_kept, LeavesTheReached, mark_words, marked_by, marked_objects, may_begin_of, pacing_of, page_words, SetBitsAreCounted, setting_of, slot_row, SlotsAreRead, words_in}
-use Rattle.gh_world.proofs.Explained.Cycles.{as_many, at_end, ends_by, legal_start}
+use Rattle.gh_world.proofs.AllActors.Starts.{legal_start, start_of_start, whole}
+use Rattle.gh_world.proofs.Explained.Cycles.{as_many, at_end, ends_by}
 use Rattle.gh_world.proofs.Explained.Known.{Known}
 use Rattle.gh_world.proofs.Explained.Listing.{are_apart, no_more, sum_same}
 use Rattle.gh_world.proofs.Explained.Live as live
@@ -22,12 +23,7 @@ reached_of_held e n (by_global i m is) = from_global i m is
 reached_of_held e n (by_field m i o h is) = from_field m i o (reached_of_held e m h) is
 
 shorter : (e : Entry Op) (before es : List (Entry Op)) → IsStartOf (e ∷ before) es → IsStartOf before es
-shorter e before [] is = absurd cc
-shorter e before (x ∷ es) (inl is) = let same : before ≡ es = cc in inr (self before es same) where
-  self : (xs ys : List (Entry Op)) → xs ≡ ys → IsStartOf xs ys
-  self xs [] is = is
-  self xs (y ∷ ys) is = inl is
-shorter e before (x ∷ es) (inr is) = inr (shorter e before es is)
+shorter e before es is = start_of_start before (e ∷ before) es (inr (whole before)) is
 
 both_true : (a b : Bool) → a ≡ true → b ≡ true → (a && b) ≡ true
 both_true true true e f = refl
@@ -156,7 +152,7 @@ module _ (classes : Classes) (read : SlotsAreRead) (bits : SetBitsAreCounted) (p
     counted_there : (ended : List (Entry Op)) → IsStartOf ended es → EndsCycle p.shapes l (pacing_of p) (may_begin_of p l) newest.k ended → marked_objects (alloc_words (words ended)) (mark_words (words ended)) 0 l.pages ≡ length names
     counted_there [] start ends = absurd ends
     counted_there (e ∷ before) start ends =
-        let legal_ended = legal_start p l k (e ∷ before) es start legal in
+        let legal_ended = legal_start (setting_of p l) (e ∷ before) es start legal in
         let stores = ends_by p l k newest.k e before legal_ended ends in
         let begun : EndsCycle p.shapes l (pacing_of p) (may_begin_of p l) c.begun (e ∷ before) = subst (λ (n : ℕ). EndsCycle p.shapes l (pacing_of p) (may_begin_of p l) n (e ∷ before)) number_is ends in
         let beyond : l.procs ≤ e.actor = let it = ends.by in omega (arith, it) in

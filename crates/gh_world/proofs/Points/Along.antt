@@ -18,7 +18,7 @@ use Rattle.gh_world.proofs.AllActors.Ranging.{may_parts}
 use Rattle.gh_world.proofs.OfScripts.{all_stand}
 use Rattle.gh_world.proofs.Explained.Acted.{acted_all, acts_last, answers_in, ever_is, map-reverse, ops_in}
 use Rattle.gh_world.proofs.Explained.Steps.{its_own, no_processors}
-use Rattle.gh_world.proofs.Explained.Top.{is_done}
+use Rattle.gh_world.proofs.Explained.Cycles.{is_done}
 
 -- ---- heaps, but for which goroutines have ended
 

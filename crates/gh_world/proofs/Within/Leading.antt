@@ -8,50 +8,51 @@ use Rattle.gh_base.specs.Steps.{cell_of}
 use Rattle.gh_coord.specs.Ends.{stays}
 use Rattle.gh_coord.specs.Listing as coord
 use Rattle.gh_coord.specs.Stopping.{acks_of}
+use Rattle.gh_mutator.specs.Processor.{opening_processor}
 use Rattle.gh_worker.specs.Listing as worker
 use Rattle.gh_world.specs.declared.handshake.Actor.{Actor}
 use Rattle.gh_world.specs.declared.handshake.Actor.TheVariants as actor
 use Rattle.gh_world.specs.Handshake.{actors, Pacing, takes}
-use Rattle.gh_world.specs.HoldVocabulary.{IsInLimits, IsLed, Op, processor_kind, Shape}
+use Rattle.gh_world.specs.HoldVocabulary.{IsInLimits, IsLed, Op, Shape}
 use Rattle.gh_world.proofs.Within.Coordinators.{first, FitsWhole, goes_on, within}
 
 -- where it is the coordinator
-abbrev FitsLead : {P : Type 0} → Layout → Actor P → Type 0
+abbrev FitsLead : Layout → Actor → Type 0
 FitsLead l (actor.Runs m) = Unit {0}
 FitsLead l (actor.Marks w) = Unit {0}
 FitsLead l (actor.Leads c) = (c.layout ≡ l) × FitsWhole c
 
-module _ {P O : Type 0} (l : Layout) (k : Kind P O) (pacing : Pacing) (limits : IsInLimits l) where
-  abbrev all : Kind (Actor P) O
-  all = actors l k pacing
+module _ (shapes : List Shape) (l : Layout) (pacing : Pacing) (limits : IsInLimits l) where
+  abbrev all : Kind Actor Op
+  all = actors shapes l pacing
 
-  starts : (a : ℕ) (b d : Bool) → FitsLead l (cond b (actor.Runs (k.start a)) (cond d (actor.Marks (worker.opening l a)) (actor.Leads (coord.opening l a pacing.gogc pacing.minheap pacing.room))))
+  starts : (a : ℕ) (b d : Bool) → FitsLead l (cond b (actor.Runs (opening_processor l a)) (cond d (actor.Marks (worker.opening l a)) (actor.Leads (coord.opening l a pacing.gogc pacing.minheap pacing.room))))
   starts a true d = tt
   starts a false true = tt
   starts a false false = (refl, first l a pacing.gogc pacing.minheap pacing.room limits)
 
-  begun : (o : Option O) (m : Actor P) → FitsLead l m → FitsLead l (started all o m)
+  begun : (o : Option Op) (m : Actor) → FitsLead l m → FitsLead l (started all o m)
   begun None m f = f
   begun (Some o) (actor.Runs m) f = f
   begun (Some o) (actor.Marks w) f = f
   begun (Some o) (actor.Leads c) f = f
 
-  taken : (found : ℕ) (m : Actor P) → FitsLead l m → FitsLead l (takes k m found)
+  taken : (found : ℕ) (m : Actor) → FitsLead l m → FitsLead l (takes shapes m found)
   taken found (actor.Runs m) f = tt
   taken found (actor.Marks w) f = tt
   taken found (actor.Leads c) f = (stays c found ∙ f.0, goes_on c found f.1)
 
-  next : (e : Entry O) (m : Actor P) (b : Bool) → FitsLead l m → FitsLead l (cond b (takes k (started all e.begun m) e.found) m)
+  next : (e : Entry Op) (m : Actor) (b : Bool) → FitsLead l m → FitsLead l (cond b (takes shapes (started all e.begun m) e.found) m)
   next e m true f = taken e.found (started all e.begun m) (begun e.begun m f)
   next e m false f = f
 
-  fits : (es : List (Entry O)) (a : ℕ) → FitsLead l (state_of all a es)
+  fits : (es : List (Entry Op)) (a : ℕ) → FitsLead l (state_of all a es)
   fits [] a = starts a (ltb a l.procs) (ltb a (acks_of l))
   fits (e ∷ es) a = next e (state_of all a es) (e.actor == a) (fits es a)
 
 module _ (shapes : List Shape) (l : Layout) (pacing : Pacing) (may : ℕ → List (Entry Op) → Op → Bool) (limits : IsInLimits l) (es : List (Entry Op)) (c : coord.Coordinating) (led : IsLed shapes l pacing may es c) where
   pub lead_within : (c.layout ≡ l) × FitsWhole c
-  lead_within = subst (FitsLead l) led (fits l (processor_kind shapes l) pacing limits es (acks_of l))
+  lead_within = subst (FitsLead l) led (fits shapes l pacing limits es (acks_of l))
 
   pub lead_asks : InRange l (cell_of (coord.asks c))
   lead_asks = subst (λ (k : Layout). InRange k (cell_of (coord.asks c))) lead_within.0 (within c lead_within.1)

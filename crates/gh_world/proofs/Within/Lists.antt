@@ -1,54 +1,54 @@
--- After every list each worker's step is on a word that there is, whatever the processors are and whatever was found.
+-- After every list each worker's step is on a word that there is, whatever was found.
 use Rattle.std.proofs.Common.{◌≡◌, ℕ, ◌≤◌, ◌==◌, Bool, true, false, cond, ltb, Option, Some, None, refl, subst, arith, List, [], ◌∷◌}
 use Rattle.gh_coord.specs.Listing as coord
 use Rattle.gh_worker.specs.Listing as worker
 use Rattle.gh_world.specs.declared.handshake.Actor.TheVariants as actor
 use Rattle.gh_world.specs.Handshake.{start, takes}
-use Rattle.gh_world.proofs.Vocabulary.{acks_of, Actor, actors, cell_of, Entry, InRange, IsInLimits, Kind, Layout, nat_tests, Op, Pacing, processor_kind, Shape, started, state_of, those, Working}
+use Rattle.gh_world.proofs.Vocabulary.{acks_of, Actor, actors, cell_of, Entry, InRange, IsInLimits, Kind, Layout, nat_tests, Op, opening_processor, Pacing, Shape, started, state_of, those, Working}
 use Rattle.gh_world.proofs.CycleMarking.Seats.{IsSeated, seated}
 use Rattle.gh_world.proofs.Within.Workers.{first, FitsWhole, goes_on, within}
 
-abbrev IsFit : {P : Type 0} → Actor P → Type 0
+abbrev IsFit : Actor → Type 0
 IsFit (actor.Runs m) = Unit {0}
 IsFit (actor.Marks w) = FitsWhole w
 IsFit (actor.Leads c) = Unit {0}
 
-module _ {P O : Type 0} (l : Layout) (k : Kind P O) (pacing : Pacing) (some : 1 ≤ l.pages) where
-  abbrev all : Kind (Actor P) O
-  all = actors l k pacing
+module _ (shapes : List Shape) (l : Layout) (pacing : Pacing) (some : 1 ≤ l.pages) where
+  abbrev all : Kind Actor Op
+  all = actors shapes l pacing
 
-  opens : (a : ℕ) → IsFit (start l k pacing a)
+  opens : (a : ℕ) → IsFit (start l pacing a)
   opens a = go (ltb a l.procs) (ltb a (acks_of l)) refl refl where
-    go : (b d : Bool) → ltb a l.procs ≡ b → ltb a (acks_of l) ≡ d → IsFit (cond b (actor.Runs (k.start a)) (cond d (actor.Marks (worker.opening l a)) (actor.Leads (coord.opening l a pacing.gogc pacing.minheap pacing.room))))
+    go : (b d : Bool) → ltb a l.procs ≡ b → ltb a (acks_of l) ≡ d → IsFit (cond b (actor.Runs (opening_processor l a)) (cond d (actor.Marks (worker.opening l a)) (actor.Leads (coord.opening l a pacing.gogc pacing.minheap pacing.room))))
     go true d e x = tt
     go false true e x = first l a some (grind (arith, nat_tests, e)) (grind (arith, nat_tests, x))
     go false false e x = tt
 
-  begun : (o : Option O) (m : Actor P) → IsFit m → IsFit (started all o m)
+  begun : (o : Option Op) (m : Actor) → IsFit m → IsFit (started all o m)
   begun None m f = f
   begun (Some o) (actor.Runs m) f = tt
   begun (Some o) (actor.Marks w) f = f
   begun (Some o) (actor.Leads c) f = tt
 
-  takes_fit : (found : ℕ) (m : Actor P) → IsFit m → IsFit (takes k m found)
+  takes_fit : (found : ℕ) (m : Actor) → IsFit m → IsFit (takes shapes m found)
   takes_fit found (actor.Runs m) f = tt
   takes_fit found (actor.Marks w) f = goes_on w found f
   takes_fit found (actor.Leads c) f = tt
 
-  next : (e : Entry O) (m : Actor P) (b : Bool) → IsFit m → IsFit (cond b (takes k (started all e.begun m) e.found) m)
+  next : (e : Entry Op) (m : Actor) (b : Bool) → IsFit m → IsFit (cond b (takes shapes (started all e.begun m) e.found) m)
   next e m true f = takes_fit e.found (started all e.begun m) (begun e.begun m f)
   next e m false f = f
 
-  fit_after : (es : List (Entry O)) (a : ℕ) → IsFit (state_of all a es)
+  fit_after : (es : List (Entry Op)) (a : ℕ) → IsFit (state_of all a es)
   fit_after [] a = opens a
   fit_after (e ∷ es) a = next e (state_of all a es) (e.actor == a) (fit_after es a)
 
-  pub fits_after : (es : List (Entry O)) (a : ℕ) (w : Working) → state_of all a es ≡ actor.Marks w → (w.layout ≡ l) × FitsWhole w
-  fits_after es a w is = ((subst (λ (m : Actor P). IsSeated l a m) is (seated l k pacing es a)).2, subst (λ (m : Actor P). IsFit m) is (fit_after es a))
+  pub fits_after : (es : List (Entry Op)) (a : ℕ) (w : Working) → state_of all a es ≡ actor.Marks w → (w.layout ≡ l) × FitsWhole w
+  fits_after es a w is = ((subst (λ (m : Actor). IsSeated l a m) is (seated shapes l pacing es a)).2, subst (λ (m : Actor). IsFit m) is (fit_after es a))
 
 pub worker_within : (shapes : List Shape) (l : Layout) (pacing : Pacing) (may : ℕ → List (Entry Op) → Op → Bool) (es : List (Entry Op)) → IsInLimits l → (a : ℕ) (w : Working) →
     state_of (those shapes l pacing may).kind a es ≡ actor.Marks w → (w.layout ≡ l) × FitsWhole w
-worker_within shapes l pacing may es limits a w is = fits_after l (processor_kind shapes l) pacing (let e = limits.pages_fit.0 in omega (arith, e)) es a w is
+worker_within shapes l pacing may es limits a w is = fits_after shapes l pacing (let e = limits.pages_fit.0 in omega (arith, e)) es a w is
 
 -- so each step that a worker asks for is on a word of the heap
 pub worker_step_within : (shapes : List Shape) (l : Layout) (pacing : Pacing) (may : ℕ → List (Entry Op) → Op → Bool) (es : List (Entry Op)) → IsInLimits l → (a : ℕ) (w : Working) →

@@ -8,7 +8,7 @@ use Rattle.gh_mutator.specs.Facts.{MayBegin}
 use Rattle.gh_world.specs.declared.handshake.Actor.TheVariants as actor
 use Rattle.gh_world.specs.Actors.{MayStep}
 use Rattle.gh_world.specs.Handshake as handshake
-use Rattle.gh_world.proofs.Vocabulary.{acks_of, actors, Arena, arena, Ask, asks, Begins, by, cell_of, Check, Close, Coordinating, CoordStage, Count, Entry, Fine, Good, Heap, HoldsAt, InRange, is_busy, is_busy_at, IsAsItShould, IsHeapOf, IsLed, IsParked, IsQuiet, IsTelling, Kind, Layout, Legal, made_by, MarkOn, may_of, Op, Open, Pacing, PackedWordsAreReadBack, Processor, processor_at, processor_kind, RunPhase, Shape, ShapesAreGood, Sound, stage_of, started, state_of, StopAgain, Stopped, Sweep, Tell, TellStage, those, view, Watch}
+use Rattle.gh_world.proofs.Vocabulary.{acks_of, actors, Arena, arena, Ask, asks, Begins, by, cell_of, Check, Close, Coordinating, CoordStage, Count, Entry, Fine, Good, Heap, HoldsAt, InRange, is_busy, is_busy_at, IsAsItShould, IsHeapOf, IsLed, IsParked, IsQuiet, IsSound, IsTelling, Kind, Layout, Legal, made_by, MarkOn, may_of, Op, Open, Pacing, PackedWordsAreReadBack, Processor, processor_at, processor_kind, RunPhase, Shape, ShapesAreGood, stage_of, started, state_of, StopAgain, Stopped, Sweep, Tell, TellStage, those, view, Watch}
 use Rattle.gh_world.proofs.AllActors.Beginning.{may-begin}
 use Rattle.gh_world.proofs.AllActors.Going.{goes_then, IsGoing}
 use Rattle.gh_world.proofs.AllActors.Known.{Known, ListsKnown}
@@ -33,14 +33,14 @@ module _ (shapes : List Shape) (l : Layout) (pacing : Pacing) (counts : ℕ → 
     abbrev m : Processor
     m = processor_at shapes l pacing may es a
 
-    here : state_of (actors l k pacing) a es ≡ actor.Runs m
+    here : state_of (actors shapes l pacing) a es ≡ actor.Runs m
     here = runs_are shapes l pacing may es a step.seat
 
     begins_now : (p : Op) → o ≡ Some p → Begins (those shapes l pacing may) a es (Some p)
     begins_now p is = subst (λ (x : Option Op). Begins (those shapes l pacing may) a es x) is step.begins
 
     idle : (p : Op) → o ≡ Some p → is_busy_at m.task ≡ false
-    idle p is = sym (ap (is_busy k) here) ∙ (begins_now p is).0
+    idle p is = sym (ap is_busy here) ∙ (begins_now p is).0
 
     abbrev IsWithin : Option Op → Type 0
     IsWithin q = InRange l (cell_of (asks (started k q m)))
@@ -73,8 +73,8 @@ module _ (shapes : List Shape) (l : Layout) (pacing : Pacing) (counts : ℕ → 
       among : a < acks_of l
       among = let seat = step.seat in omega (arith, seat)
 
-      sound : Sound l m
-      sound = subst (handshake.Sound Sound l) here ((lists.keeps es legal).shakes.all_sound a (omega (arith, among)))
+      sound : IsSound m × (m.poll.layout ≡ l)
+      sound = subst (handshake.Sound l) here ((lists.keeps es legal).shakes.all_sound a (omega (arith, among)))
 
       parked : IsParked stops (stage_of m)
       parked = (lists.keeps es legal).processors_wait c phase a m led post among here

@@ -13,7 +13,6 @@ use Rattle.gh_wbuf.specs.EntryTaking as take
 use Rattle.gh_wbuf.specs.RoomFinding as room
 use Rattle.gh_wbuf.specs.Trying as try
 use Rattle.gh_worker.specs.declared.worker.WorkerStage.TheVariants as at
-use Rattle.gh_worker.specs.Ends as worker_ends
 use Rattle.gh_worker.specs.Listing as worker
 use Rattle.gh_worker.specs.Sound.{IsWorkersSeat}
 use Rattle.gh_world.proofs.Vocabulary.{cell_of, FitsGiveStage, Held, InRange, IsHeld, IsReference, Layout, nat_tests, phase_of, Resumed, ResumeStage, run_phase, RunPhase, Shaded, TakeStage, WorkerStage, Working}
@@ -36,9 +35,6 @@ pub record FitsWhole (w : Working) : Type 0 where
   pub seat : IsWorkersSeat w.layout w.seat
   pub held : IsHeld w.layout w.held
   pub stage : StageWithin w.layout w.stage
-
-pub stays_there : (w : Working) (found : ℕ) → (worker.goes w found).layout ≡ w.layout
-stays_there w found = worker_ends.stays w found
 
 pub first : (l : Layout) (seat : ℕ) → 1 ≤ l.pages → l.procs ≤ seat → seat < l.procs + l.workers → FitsWhole (worker.opening l seat)
 first l seat some from below = record { pages = some; seat = record { from = from; below = below }; held = tt; stage = tt }

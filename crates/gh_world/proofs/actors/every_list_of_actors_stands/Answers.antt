@@ -1,10 +1,9 @@
 use Rattle.gh_world.proofs.AllActors.Drawing.{DrawnKnown}
 use Rattle.gh_world.proofs.AllActors.Known.{Known}
 use Rattle.gh_world.proofs.AllActors.Lists.{list_stands}
-use Rattle.gh_world.proofs.AllActors.OfLists.{LawsOfLists, lists_known, parties}
+use Rattle.gh_world.proofs.AllActors.OfLists.{LawsOfLists, lists_known}
 use Rattle.gh_world.proofs.AllActors.Wanted.{Wanted}
-use Rattle.gh_world.specs.Actors.{may_of}
-use Rattle.gh_world.specs.HoldVocabulary.{arena, processor_kind}
+use Rattle.gh_world.proofs.CycleMarking.Moving.{Known as MarksKnown}
 use Rattle.gh_world.proofs.actors.every_list_of_actors_stands.Goals as goal
 
 pub returns : goal.returns
@@ -66,8 +65,6 @@ returns c shapes l pacing counts es good limits fit legal =
     } in
     let wanted : Wanted = record { read = c.packed_words_are_read_back.ensures; whole = c.size_class_laws.ensures.whole_words; steps = c.steps_go_by_moves.ensures } in
     let laws : LawsOfLists = record {
-      places = known.places;
-      writes = known.writes;
       keeps = c.every_list_keeps_the_handshake.ensures;
       steps = c.every_step_keeps_the_handshake.ensures;
       counts = c.every_list_counts_cycles.ensures;
@@ -76,4 +73,12 @@ returns c shapes l pacing counts es good limits fit legal =
       few = c.cycles_are_few.ensures;
       begins_few = c.processors_begin_few.ensures;
     } in
-    list_stands shapes l pacing counts good limits known wanted (lists_known laws shapes l pacing counts fit) (c.every_list_marks.ensures (arena shapes l pacing (may_of shapes l counts)) (processor_kind shapes l) pacing (may_of shapes l counts) limits (parties laws shapes l pacing counts fit)) es legal
+    let moves : MarksKnown = record {
+      processors = known.marks;
+      workers = c.works_by_moves.ensures;
+      begin = c.marking_begins.ensures;
+      steps = c.steps_go_by_moves.ensures;
+      follow = c.hands_follow.ensures;
+      last = c.facts_last-2.ensures.hands;
+    } in
+    list_stands shapes l pacing counts good limits known wanted (lists_known laws shapes l pacing counts fit) moves c.marking_ends_clean.ensures.done c.marking_ends_clean.ensures.clean es legal

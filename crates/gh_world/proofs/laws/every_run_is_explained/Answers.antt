@@ -7,7 +7,6 @@ returns c =
       every = c.every_list_of_actors_stands.ensures;
       each = c.each_operation_acts_once.ensures;
       points = c.only_points_change.ensures;
-      places = c.the_processor_keeps_the_handshake.ensures;
       writes = c.a_processor_writes_its_own.ensures;
       works = c.a_worker_writes_its_own.ensures;
       keeps = c.every_list_keeps_the_handshake.ensures;

@@ -7,7 +7,7 @@ use Rattle.gh_tri.proofs.moves.Picture.scan_stack.Goals as goal
 
 pub scan_register-requires : goal.scan_register-requires
 scan_register-requires c =
-    register-may (picture_of c.args.self.now) _ c.args.stack c.loop-reg.reg c.loop-reg.invariant.moves c.requires.stack c.loop-reg-test.true c.requires.grey
+    register-may (picture_of c.args.self.now) _ c.args.stack c.loop-reg.reg c.loop-reg.invariant.moves c.requires c.loop-reg-test.true
 
 pub loop-reg-preserved : goal.loop-reg-preserved
 loop-reg-preserved c = record {

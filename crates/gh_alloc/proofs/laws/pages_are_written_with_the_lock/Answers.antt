@@ -1,5 +1,0 @@
-use Rattle.gh_alloc.proofs.Finding.Locking.{written_with_the_lock}
-use Rattle.gh_alloc.proofs.laws.pages_are_written_with_the_lock.Goals as goal
-
-pub returns : goal.returns
-returns c = written_with_the_lock

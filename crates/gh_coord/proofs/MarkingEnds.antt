@@ -1,0 +1,360 @@
+-- The second stop of a cycle and its check, step by step.
+use Rattle.std.proofs.Common.{◌≡◌, ℕ, zero, suc, ◌+◌, ◌-◌, ◌<◌, ◌≤◌, ◌⊎◌, Bool, true, false, cond, ltb, ◌==◌, inl, inr, refl, sym, ap, subst, ◌∙◌, arith, ltb-true, ltb-false}
+use Rattle.std.specs.Prelude.{not, ◌||◌}
+use Rattle.std.proofs.lemmas.Bool.{leb-true}
+use Rattle.gh_base.specs.declared.cell.Cell.{Cell}
+use Rattle.gh_base.specs.declared.cell.Cell.TheVariants as cell
+use Rattle.gh_base.specs.declared.pack.BufferWord.{BufferWord}
+use Rattle.gh_base.specs.declared.pack.Phase.TheVariants as phase
+use Rattle.gh_base.specs.Packing.{buffer_of}
+use Rattle.gh_coord.specs.declared.close.CloseStage.TheVariants as c
+use Rattle.gh_coord.specs.declared.open.OpenStage.TheVariants as o
+use Rattle.gh_coord.specs.declared.stop.StopStage.TheVariants as p
+use Rattle.gh_coord.specs.declared.tell.TellStage.TheVariants as t
+use Rattle.gh_coord.specs.declared.watch.WatchStage.TheVariants as w
+use Rattle.gh_coord.specs.MarkingEnds.{Finds, HasNothingLeft, LeavesMarks, MarkingEndsClean, NothingIsLeft, state}
+use Rattle.gh_coord.specs.Closing as close
+use Rattle.gh_coord.specs.Counting as count
+use Rattle.gh_coord.specs.Opening as opens
+use Rattle.gh_coord.specs.Stopping as stop
+use Rattle.gh_coord.specs.SweepingAll as all
+use Rattle.gh_coord.specs.Telling as tell
+use Rattle.gh_coord.specs.Watching as watch
+use Rattle.gh_coord.proofs.QuietParts.{count_quiet, sweep_quiet, watch_quiet}
+use Rattle.gh_coord.proofs.Stepping.{same_ask}
+use Rattle.gh_coord.proofs.Vocabulary.{after_check, after_close, after_count, after_open, after_stop, after_stop_again, after_sweep, after_tell, after_watch, All, Ask, asks, asks_at, at_stage, by_ack, by_last, by_out, by_want, by_watched, Check, Close, CloseStage, Coordinating, CoordStage, Count, counted, Done, goes_at, GONE, IsQuiet, Layout, Load, LoadAck, LoadWant, MarkOn, nat_tests, NotYet, Open, OpenStage, phase_word, Stop, StopAgain, StopStage, Store, Sweep, Tell, TellStage, Watch, WatchStage}
+
+-- what the tests of the listing say of the words
+acked : (stops v : ℕ) → stop.is_acknowledged stops v ≡ true → (v ≡ stops) ⊎ (v ≡ GONE)
+acked stops v e = by (v == stops) (v == GONE) refl refl e where
+  by : (x y : Bool) → (v == stops) ≡ x → (v == GONE) ≡ y → (x || y) ≡ true → (v ≡ stops) ⊎ (v ≡ GONE)
+  by true y f g e = inl (grind (arith, nat_tests))
+  by false true f g e = inr (grind (arith, nat_tests))
+  by false false f g e = absurd (cc)
+
+left : (b : BufferWord) → watch.is_held_or_empty b ≡ true → HasNothingLeft b
+left b e = by (b.holder == 0) (b.count == 0) refl refl e where
+  by : (x y : Bool) → (b.holder == 0) ≡ x → (b.count == 0) ≡ y → (not x || y) ≡ true → HasNothingLeft b
+  by false y f g e = inl (λ is. grind (arith, nat_tests))
+  by true true f g e = inr (grind (arith, nat_tests))
+  by true false f g e = absurd (cc)
+
+module _ (l : Layout) (seat gogc minheap room : ℕ) (found : ℕ → ℕ) where
+  abbrev now : ℕ → Coordinating
+  now n = state l seat gogc minheap room found n
+
+  abbrev Found : (first last : ℕ) → Cell → (ℕ → Type 0) → Type 0
+  Found first last at IsSo = Finds l seat gogc minheap room found first last at IsSo
+
+  abbrev IsAcked : (stops v : ℕ) → Type 0
+  IsAcked stops v = (v ≡ stops) ⊎ (v ≡ GONE)
+
+  abbrev IsWanted : (begun : ℕ) → Cell → (v : ℕ) → Type 0
+  IsWanted begun at v = watch.is_wanted l begun at v ≡ true
+
+  -- since the world was told to stop, and the first so many have acknowledged that
+  record Stopped (stops n actors : ℕ) : Type 0 where
+    first : ℕ
+    is_before : first < n
+    stores : asks (now first) ≡ Store cell.Phase (phase_word (record { stops = stops; phase = phase.Stop }))
+    leaves : (m : ℕ) → first < m → m < n → LeavesMarks (asks (now m))
+    each : (i : ℕ) → i < actors → Found first n (cell.Ack i) (IsAcked stops)
+
+  -- and the first so many words that are watched were found as wanted
+  record Looked (stops begun n words : ℕ) : Type 0 where
+    first : ℕ
+    last : ℕ
+    is_before : first < n
+    is_by : last ≤ n
+    stores : asks (now first) ≡ Store cell.Phase (phase_word (record { stops = stops; phase = phase.Stop }))
+    leaves : (m : ℕ) → first < m → m < n → LeavesMarks (asks (now m))
+    acknowledged : (i : ℕ) → i < stop.acks_of l → Found first last (cell.Ack i) (IsAcked stops)
+    each : (i : ℕ) → i < words → Found last n (watch.cell_at l i) (IsWanted begun (watch.cell_at l i))
+
+  abbrev StopKnows : (stops n : ℕ) → StopStage → Type 0
+  StopKnows stops n p.StorePhase = Unit {0}
+  StopKnows stops n (p.Await i) = Stopped stops n i
+  StopKnows stops n p.Ended = ⊥
+
+  abbrev CheckKnows : (stops begun n : ℕ) → WatchStage → Type 0
+  CheckKnows stops begun n (w.Look i) = (i < watch.words_of l) × Looked stops begun n i
+  CheckKnows stops begun n (w.Ended watched) = ⊥
+
+  record StopIs (stops n : ℕ) (st : stop.Stopping) : Type 0 where
+    layout_is : st.layout ≡ l
+    stops_is : st.stops ≡ stops
+    knows : StopKnows stops n st.stage
+
+  record CheckIs (stops begun n : ℕ) (x : watch.Watching) : Type 0 where
+    layout_is : x.layout ≡ l
+    cycle_is : x.cycle ≡ begun
+    knows : CheckKnows stops begun n x.stage
+
+  abbrev CloseKnows : (stops begun n : ℕ) → CloseStage → Type 0
+  CloseKnows stops begun n c.Ended = ⊥
+  CloseKnows stops begun n _ = Looked stops begun n (watch.words_of l)
+
+  abbrev Knows : (stops begun n : ℕ) → CoordStage → Type 0
+  Knows stops begun n (StopAgain st) = StopIs stops n st
+  Knows stops begun n (Check x) = CheckIs stops begun n x
+  Knows stops begun n (Close cl) = CloseKnows stops begun n cl.stage
+  Knows stops begun n _ = Unit {0}
+
+  record Has (n : ℕ) (s : Coordinating) : Type 0 where
+    layout_is : s.layout ≡ l
+    knows : Knows s.stops s.begun n s.stage
+
+  -- what was found is found by any later step
+  later : (first n : ℕ) (at : Cell) (IsSo : ℕ → Type 0) → Found first n at IsSo → Found first (suc n) at IsSo
+  later first n at IsSo f = let before : f.by < n = f.is_before in record { by = f.by; is_behind = f.is_behind; is_before = omega arith; loads = f.loads; is_so = f.is_so }
+
+  leaves_on : (first n : ℕ) → ((m : ℕ) → first < m → m < n → LeavesMarks (asks (now m))) → LeavesMarks (asks (now n)) → (m : ℕ) → first < m → m < suc n → LeavesMarks (asks (now m))
+  leaves_on first n before one m behind lt = by (ltb m n) refl where
+    by : (b : Bool) → ltb m n ≡ b → LeavesMarks (asks (now m))
+    by true e = before m behind (ltb-true _ _ e)
+    by false e = let ge : n ≤ m = ltb-false _ _ e in let is : n ≡ m = omega arith in subst (λ (x : ℕ). LeavesMarks (asks (now x))) is one
+
+  -- one more of a row
+  one_more : (P : ℕ → Type 0) (i : ℕ) → ((j : ℕ) → j < i → P j) → P i → (j : ℕ) → j < i + 1 → P j
+  one_more P i before one j lt = by (ltb j i) refl where
+    by : (b : Bool) → ltb j i ≡ b → P j
+    by true e = before j (ltb-true _ _ e)
+    by false e = let ge : i ≤ j = ltb-false _ _ e in let is : i ≡ j = omega arith in subst P is one
+
+  module _ (stops n : ℕ) where
+    waits : (i : ℕ) → Stopped stops n i → LeavesMarks (asks (now n)) → Stopped stops (suc n) i
+    waits i k one = let before : k.first < n = k.is_before in record { first = k.first; is_before = omega arith; stores = k.stores; leaves = leaves_on k.first n k.leaves one; each = λ j lt. later k.first n (cell.Ack j) (IsAcked stops) (k.each j lt) }
+
+    finds_ack : (i : ℕ) → Stopped stops n i → asks (now n) ≡ Load (cell.Ack i) → stop.is_acknowledged stops (found n) ≡ true → Stopped stops (suc n) (i + 1)
+    unfolding waits
+    finds_ack i k loads is =
+        let before : k.first < n = k.is_before in
+        let on = waits i k (subst LeavesMarks (sym loads) tt) in
+        record {
+          first = k.first;
+          is_before = omega arith;
+          stores = k.stores;
+          leaves = on.leaves;
+          each = one_more (λ j. Found k.first (suc n) (cell.Ack j) (IsAcked stops)) i on.each (record { by = n; is_behind = omega arith; is_before = omega arith; loads = loads; is_so = acked stops (found n) is });
+        }
+
+  module _ (stops begun n : ℕ) where
+    looks_on : (i : ℕ) → Looked stops begun n i → LeavesMarks (asks (now n)) → Looked stops begun (suc n) i
+    looks_on i k one =
+        let before : k.first < n = k.is_before in
+        let by : k.last ≤ n = k.is_by in
+        record {
+          first = k.first;
+          last = k.last;
+          is_before = omega arith;
+          is_by = omega arith;
+          stores = k.stores;
+          leaves = leaves_on k.first n k.leaves one;
+          acknowledged = k.acknowledged;
+          each = λ j lt. later k.last n (watch.cell_at l j) (IsWanted begun (watch.cell_at l j)) (k.each j lt);
+        }
+
+    finds_word : (i : ℕ) → Looked stops begun n i → asks (now n) ≡ Load (watch.cell_at l i) → watch.is_wanted l begun (watch.cell_at l i) (found n) ≡ true → Looked stops begun (suc n) (i + 1)
+    unfolding looks_on
+    finds_word i k loads is =
+        let on = looks_on i k (subst LeavesMarks (sym loads) tt) in
+        let by : k.last ≤ n = k.is_by in
+        record {
+          first = k.first;
+          last = k.last;
+          is_before = on.is_before;
+          is_by = on.is_by;
+          stores = k.stores;
+          leaves = on.leaves;
+          acknowledged = k.acknowledged;
+          each = one_more (λ j. Found k.last (suc n) (watch.cell_at l j) (IsWanted begun (watch.cell_at l j))) i on.each (record { by = n; is_behind = by; is_before = omega arith; loads = loads; is_so = is });
+        }
+
+  module _ (n : ℕ) (s : Coordinating) (here : s.layout ≡ l) where
+    -- the end of marking
+    close_step : (cl : close.Closing) (stage : CloseStage) (v : ℕ) → cl.stage ≡ stage → asks (now n) ≡ close.asks_at cl stage → CloseKnows s.stops s.begun n stage → Has (suc n) (after_close (at_stage s (Close (close.goes_at cl stage v))) (close.given (close.goes_at cl stage v)))
+    close_step cl c.LoadBank v e asked k = record { layout_is = here; knows = looks_on s.stops s.begun n (watch.words_of l) k (subst LeavesMarks (sym asked) tt) }
+    close_step cl c.ClearBank v e asked k = record { layout_is = here; knows = looks_on s.stops s.begun n (watch.words_of l) k (subst LeavesMarks (sym asked) tt) }
+    close_step cl c.StoreGen v e asked k = record { layout_is = here; knows = tt }
+    close_step cl c.Ended v e asked k = absurd k
+
+    -- the second stop
+    module _ (st : stop.Stopping) (st_in : st.layout ≡ l) (numbered : st.stops ≡ s.stops) where
+      abbrev stopped : StopStage → Coordinating
+      stopped stage = after_stop_again (at_stage s (StopAgain (record st { stage = stage }))) (stop.given_at stage)
+
+      awaits : (i : ℕ) → Stopped s.stops (suc n) i → Has (suc n) (stopped (p.Await i))
+      awaits i k = record { layout_is = here; knows = record { layout_is = st_in; stops_is = numbered; knows = k } }
+
+      checks : (i : ℕ) → stop.acks_of l ≤ i → Stopped s.stops (suc n) i → Has (suc n) (stopped p.Ended)
+      checks i most k = record {
+        layout_is = here;
+        knows = record {
+          layout_is = here;
+          cycle_is = refl;
+          knows = (omega arith, record { first = k.first; last = suc n; is_before = k.is_before; is_by = omega arith; stores = k.stores; leaves = k.leaves; acknowledged = λ j lt. k.each j (omega arith); each = λ j lt. absurd (omega arith) });
+        };
+      }
+
+      await_step : (i v : ℕ) → v ≡ found n → asks (now n) ≡ Load (cell.Ack i) → Stopped s.stops n i → (is more : Bool) → stop.is_acknowledged st.stops v ≡ is → ltb (i + 1) (stop.acks_of st.layout) ≡ more →
+          Has (suc n) (stopped (cond is (cond more (p.Await (i + 1)) p.Ended) (p.Await i)))
+      await_step i v told loads k is more e f = by is more e f where
+        more_are : stop.is_acknowledged st.stops v ≡ true → Stopped s.stops (suc n) (i + 1)
+        more_are a = finds_ack s.stops n i k loads (ap (λ (x : ℕ). stop.is_acknowledged x (found n)) (sym numbered) ∙ ap (λ (x : ℕ). stop.is_acknowledged st.stops x) (sym told) ∙ a)
+
+        by : (is more : Bool) → stop.is_acknowledged st.stops v ≡ is → ltb (i + 1) (stop.acks_of st.layout) ≡ more → Has (suc n) (stopped (cond is (cond more (p.Await (i + 1)) p.Ended) (p.Await i)))
+        by true true e f = awaits (i + 1) (more_are e)
+        by true false e f = checks (i + 1) (subst (λ (x : Layout). stop.acks_of x ≤ i + 1) st_in (ltb-false _ _ f)) (more_are e)
+        by false more e f = awaits i (waits s.stops n i k (subst LeavesMarks (sym loads) tt))
+
+      again_step : (stage : StopStage) (v : ℕ) → v ≡ found n → asks (now n) ≡ stop.asks_at st stage → StopKnows s.stops n stage →
+          Has (suc n) (after_stop_again (at_stage s (StopAgain (stop.goes_at st stage v))) (stop.given (stop.goes_at st stage v)))
+      again_step p.StorePhase v told asked k = awaits 0 (record {
+        first = n;
+        is_before = omega arith;
+        stores = asked ∙ ap (λ (x : ℕ). Store cell.Phase (phase_word (record { stops = x; phase = phase.Stop }))) numbered;
+        leaves = λ m behind lt. absurd (omega arith);
+        each = λ j lt. absurd (omega arith);
+      })
+      again_step (p.Await i) v told asked k = await_step i v told asked k _ _ refl refl
+      again_step p.Ended v told asked k = absurd k
+
+    -- the check
+    module _ (x : watch.Watching) (x_in : x.layout ≡ l) (numbered : x.cycle ≡ s.begun) where
+      abbrev checked : WatchStage → Coordinating
+      checked stage = after_check (at_stage s (Check (record x { stage = stage }))) (watch.given_at stage)
+
+      look_step : (i v : ℕ) → v ≡ found n → asks (now n) ≡ Load (watch.cell_at x.layout i) → Looked s.stops s.begun n i → i < watch.words_of l → (is more : Bool) → watch.is_wanted x.layout x.cycle (watch.cell_at x.layout i) v ≡ is → ltb (i + 1) (watch.words_of x.layout) ≡ more →
+          Has (suc n) (checked (cond is (cond more (w.Look (i + 1)) (w.Ended All)) (w.Ended NotYet)))
+      look_step i v told loads k within is more e f = by is more e f where
+        finds : watch.is_wanted x.layout x.cycle (watch.cell_at x.layout i) v ≡ true → Looked s.stops s.begun (suc n) (i + 1)
+        finds a =
+            finds_word s.stops s.begun n i k (loads ∙ ap (λ (y : Layout). Load (watch.cell_at y i)) x_in)
+            (ap (λ (y : ℕ). watch.is_wanted l y (watch.cell_at l i) (found n)) (sym numbered) ∙ ap (λ (y : Layout). watch.is_wanted y x.cycle (watch.cell_at y i) (found n)) (sym x_in) ∙ ap (λ (y : ℕ). watch.is_wanted x.layout x.cycle (watch.cell_at x.layout i) y) (sym told) ∙ a)
+
+        by : (is more : Bool) → watch.is_wanted x.layout x.cycle (watch.cell_at x.layout i) v ≡ is → ltb (i + 1) (watch.words_of x.layout) ≡ more → Has (suc n) (checked (cond is (cond more (w.Look (i + 1)) (w.Ended All)) (w.Ended NotYet)))
+        by true true e f =
+            let further : i + 1 < watch.words_of l = subst (λ (y : Layout). i + 1 < watch.words_of y) x_in (ltb-true _ _ f) in
+            record { layout_is = here; knows = record { layout_is = x_in; cycle_is = numbered; knows = (further, finds e) } }
+        by true false e f =
+            let last : watch.words_of l ≤ i + 1 = subst (λ (y : Layout). watch.words_of y ≤ i + 1) x_in (ltb-false _ _ f) in
+            let end : i + 1 ≡ watch.words_of l = omega arith in
+            record { layout_is = here; knows = subst (λ (j : ℕ). Looked s.stops s.begun (suc n) j) end (finds e) }
+        by false more e f = record { layout_is = here; knows = tt }
+
+      check_step : (stage : WatchStage) (v : ℕ) → v ≡ found n → asks (now n) ≡ watch.asks_at x stage → CheckKnows s.stops s.begun n stage →
+          Has (suc n) (after_check (at_stage s (Check (watch.goes_at x stage v))) (watch.given (watch.goes_at x stage v)))
+      check_step (w.Look i) v told asked k = look_step i v told asked k.1 k.0 _ _ refl refl
+      check_step (w.Ended watched) v told asked k = absurd k
+
+    step_at : (stage : CoordStage) (v : ℕ) → v ≡ found n → s.stage ≡ stage → asks (now n) ≡ asks_at s stage → Knows s.stops s.begun n stage → Has (suc n) (goes_at s stage v)
+    step_at (LoadAck i) v told is asked k = by_ack (Has (suc n)) s i (record { layout_is = here; knows = tt }) (record { layout_is = here; knows = tt }) (record { layout_is = here; knows = tt }) _ _
+    step_at LoadWant v told is asked k = by_want (Has (suc n)) s (record { layout_is = here; knows = tt }) (record { layout_is = here; knows = tt }) _
+    step_at (Stop st) v told is asked k = by_out (Has (suc n)) (after_stop (at_stage s (Stop (stop.goes st v)))) (record { layout_is = here; knows = tt }) (λ u. record { layout_is = here; knows = tt }) (stop.gives st v)
+    step_at (Open op) v told is asked k = by_out (Has (suc n)) (after_open (at_stage s (Open (opens.goes op v)))) (record { layout_is = here; knows = tt }) (λ u. record { layout_is = here; knows = tt }) (opens.gives op v)
+    step_at (Watch x) v told is asked k = by_watched (Has (suc n)) (after_watch (at_stage s (Watch (watch.goes x v)))) (record { layout_is = here; knows = tt }) (record { layout_is = here; knows = record { layout_is = here; stops_is = refl; knows = tt } }) (record { layout_is = here; knows = tt }) (watch.gives x v)
+    step_at (StopAgain st) v told is asked k = again_step st k.layout_is k.stops_is st.stage v told asked k.knows
+    step_at (Check x) v told is asked k = check_step x k.layout_is k.cycle_is x.stage v told asked k.knows
+    step_at MarkOn v told is asked k = record { layout_is = here; knows = tt }
+    step_at (Close cl) v told is asked k = close_step cl cl.stage v refl asked k
+    step_at (Sweep sw) v told is asked k = by_out (Has (suc n)) (after_sweep (at_stage s (Sweep (all.goes sw v)))) (record { layout_is = here; knows = tt }) (λ u. record { layout_is = here; knows = tt }) (all.gives sw v)
+    step_at (Count co) v told is asked k = by_out (Has (suc n)) (after_count (at_stage s (Count (count.goes co v)))) (record { layout_is = here; knows = tt }) (λ read. record { layout_is = here; knows = tt }) (count.gives co v)
+    step_at (Tell te) v told is asked k = by_out (Has (suc n)) (after_tell (at_stage s (Tell (tell.goes te v)))) (record { layout_is = here; knows = tt }) (λ u. by_last (Has (suc n)) s (record { layout_is = here; knows = tt }) (record { layout_is = here; knows = tt }) s.is_last) (tell.gives te v)
+    step_at Done v told is asked k = record { layout_is = here; knows = subst (λ (stage : CoordStage). Knows s.stops s.begun (suc n) stage) (sym is) tt }
+
+  has : (n : ℕ) → Has n (now n)
+  has zero = record { layout_is = refl; knows = tt }
+  has (suc n) =
+      let h = has n in
+      let s : Coordinating = now n in
+      step_at n (counted s) h.layout_is s.stage (found n) refl refl (sym (same_ask s s.stage)) h.knows
+
+  -- the words that are watched, each by its name
+  module _ (n : ℕ) (k : Looked (now n).stops (now n).begun n (watch.words_of l)) where
+    so : (first last : ℕ) (at : Cell) (P Q : ℕ → Type 0) → ((v : ℕ) → P v → Q v) → Found first last at P → Found first last at Q
+    so first last at P Q to f = record { by = f.by; is_behind = f.is_behind; is_before = f.is_before; loads = f.loads; is_so = to (found f.by) f.is_so }
+
+    abbrev begun : ℕ
+    begun = (now n).begun
+
+    abbrev Saw : Cell → Type 0
+    Saw at = Found k.last n at (IsWanted begun at)
+
+    stack_at : (i g : ℕ) → i ≡ g + 1 → g < l.goroutines → watch.cell_at l i ≡ cell.Scanned g
+    stack_at i g is lt = by (i == 0) (ltb (i - 1) l.goroutines) refl refl where
+      one : i - 1 ≡ g
+      one = omega arith
+
+      by : (x y : Bool) → (i == 0) ≡ x → ltb (i - 1) l.goroutines ≡ y → cond x cell.Gcur (cond y (cell.Scanned (i - 1)) (cell.Buffer (i - 1 - l.goroutines))) ≡ cell.Scanned g
+      by true y e f = absurd (grind (arith, nat_tests))
+      by false true e f = ap (λ (j : ℕ). cell.Scanned j) one
+      by false false e f = let ge : l.goroutines ≤ i - 1 = ltb-false _ _ f in absurd (omega arith)
+
+    buffer_at : (i b : ℕ) → i ≡ l.goroutines + b + 1 → watch.cell_at l i ≡ cell.Buffer b
+    buffer_at i b is = by (i == 0) (ltb (i - 1) l.goroutines) refl refl where
+      one : i - 1 - l.goroutines ≡ b
+      one = omega arith
+
+      by : (x y : Bool) → (i == 0) ≡ x → ltb (i - 1) l.goroutines ≡ y → cond x cell.Gcur (cond y (cell.Scanned (i - 1)) (cell.Buffer (i - 1 - l.goroutines))) ≡ cell.Buffer b
+      by true y e f = absurd (grind (arith, nat_tests))
+      by false true e f = let lt : i - 1 < l.goroutines = ltb-true _ _ f in absurd (omega arith)
+      by false false e f = ap (λ (j : ℕ). cell.Buffer j) one
+
+    is_clean : NothingIsLeft l seat gogc minheap room found n
+    is_clean = record {
+      stop = k.first;
+      stopped = k.last;
+      is_before = k.is_before;
+      stops = k.stores;
+      acknowledged = k.acknowledged;
+      globals = so k.last n cell.Gcur (IsWanted begun cell.Gcur) (λ v. l.globals ≤ v) (λ v e. leb-true _ _ e) (k.each 0 (omega arith));
+      stacks = λ g lt. so k.last n (cell.Scanned g) (IsWanted begun (cell.Scanned g)) (λ v. begun ≤ v) (λ v e. leb-true _ _ e) (subst Saw (stack_at (g + 1) g refl lt) (k.each (g + 1) (omega arith)));
+      buffers = λ i lt. so k.last n (cell.Buffer i) (IsWanted begun (cell.Buffer i)) (λ v. HasNothingLeft (buffer_of v)) (λ v e. left (buffer_of v) e) (subst Saw (buffer_at (l.goroutines + i + 1) i refl) (k.each (l.goroutines + i + 1) (omega arith)));
+      leaves = k.leaves;
+    }
+
+  -- where it stores the generation
+  close_at : (cl : close.Closing) (stage : CloseStage) (stops cycle n g : ℕ) → CloseKnows stops cycle n stage → close.asks_at cl stage ≡ Store cell.Gen g → Looked stops cycle n (watch.words_of l)
+  close_at cl c.Ended stops cycle n g k e = absurd k
+  close_at cl c.LoadBank stops cycle n g k e = k
+  close_at cl c.ClearBank stops cycle n g k e = k
+  close_at cl c.StoreGen stops cycle n g k e = k
+
+never : (ask : Ask) (g : ℕ) → IsQuiet ask → ask ≡ Store cell.Gen g → ⊥
+never ask g q e = subst IsQuiet e q
+
+open_never : (op : opens.CycleOpening) (stage : OpenStage) (g : ℕ) → opens.asks_at op stage ≡ Store cell.Gen g → ⊥
+open_never op o.ClearWant g e = cc
+open_never op _ g e = cc
+
+stop_never : (st : stop.Stopping) (stage : StopStage) (g : ℕ) → stop.asks_at st stage ≡ Store cell.Gen g → ⊥
+stop_never st p.StorePhase g e = cc
+stop_never st (p.Await i) g e = cc
+stop_never st p.Ended g e = cc
+
+tell_never : (te : tell.Telling) (stage : TellStage) (g : ℕ) → tell.asks_at te stage ≡ Store cell.Gen g → ⊥
+tell_never te t.StoreTrigger g e = cc
+tell_never te _ g e = cc
+
+module _ (l : Layout) (seat gogc minheap room : ℕ) (found : ℕ → ℕ) (n g : ℕ) (s : Coordinating) where
+  abbrev Checked : Type 0
+  Checked = Looked l seat gogc minheap room found s.stops s.begun n (watch.words_of l)
+
+  is_checked : (stage : CoordStage) → Knows l seat gogc minheap room found s.stops s.begun n stage → asks_at s stage ≡ Store cell.Gen g → Checked
+  is_checked (LoadAck i) k e = absurd (cc)
+  is_checked LoadWant k e = absurd (cc)
+  is_checked (Stop st) k e = absurd (stop_never st st.stage g e)
+  is_checked (Open op) k e = absurd (open_never op op.stage g e)
+  is_checked (Watch x) k e = absurd (never _ g (watch_quiet x x.stage) e)
+  is_checked (StopAgain st) k e = absurd (stop_never st st.stage g e)
+  is_checked (Check x) k e = absurd (never _ g (watch_quiet x x.stage) e)
+  is_checked MarkOn k e = absurd (cc)
+  is_checked (Close cl) k e = close_at l seat gogc minheap room found cl cl.stage s.stops s.begun n g k e
+  is_checked (Sweep sw) k e = absurd (never _ g (sweep_quiet sw sw.stage) e)
+  is_checked (Count co) k e = absurd (never _ g (count_quiet co.stage) e)
+  is_checked (Tell te) k e = absurd (tell_never te te.stage g e)
+  is_checked Done k e = absurd (cc)
+
+pub marking_ends_clean : MarkingEndsClean
+marking_ends_clean l seat gogc minheap room found n g e =
+    is_clean l seat gogc minheap room found n (is_checked l seat gogc minheap room found n g (state l seat gogc minheap room found n) (state l seat gogc minheap room found n).stage (has l seat gogc minheap room found n).knows e)

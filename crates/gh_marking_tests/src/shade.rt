@@ -1,0 +1,64 @@
+//! Shading an object.
+
+use crate::runs::{MARK_ROW, ONE, PAGE_ROW, words};
+use gh_base::trace::run_alone;
+use gh_base::{Held, Layout, Machine, Value};
+use gh_shade::{Shade, Shaded};
+use std::test::Fail;
+
+/// The page word of a span without pointer fields.
+const NOSCAN: u64 = ONE + 256;
+
+#[test]
+fn an_object_is_shaded(rt: HostRuntime) -> Result<(), Fail> {
+    let layout = Layout::new(16, 1, 1, 1, 1)?;
+    let own = Held { index: 1, count: 4 };
+    let more = Held { index: 1, count: 5 };
+    let marks = "or mark 48 32: 4";
+    let entered = ["load page 3: 2147484161", marks, "store entry 257 3078: 0"];
+    let noscan = ["load page 3: 2147484417", marks];
+    let was_set = ["load page 3: 2147484161", "or mark 48 32: 36"];
+    // the page word and the word of mark bits; the lines, and what is held then
+    for (page, mark, lines, held) in [
+        (ONE, 4, entered.as_slice(), more),
+        (NOSCAN, 4, noscan.as_slice(), own),
+        (ONE, 36, was_set.as_slice(), own),
+    ] {
+        let mut words = words(rt.alloc(), &[(PAGE_ROW + 3, page), (MARK_ROW + 48, mark)])?;
+        let mut shade = Shade::new(&layout, 3078, Some(own));
+        let steps = run_alone(rt.alloc(), &mut shade, &layout, &mut words, 9)?;
+        assert_eq!(rt; steps.out, Some(Shaded::Done));
+        assert!(rt; steps.are(lines));
+        assert_eq!(rt; shade.held(), Some(held));
+    }
+    Ok(())
+}
+
+#[test]
+fn room_is_wished_for(rt: HostRuntime) -> Result<(), Fail> {
+    let layout = Layout::new(16, 1, 1, 1, 1)?;
+    let full = Held {
+        index: 7,
+        count: 253,
+    };
+    for held in [None, Some(full)] {
+        let mut shade = Shade::new(&layout, 3078, held);
+        assert_eq!(rt; shade.take(ONE), None);
+        assert_eq!(rt; shade.take(0), Some(Shaded::WantsRoom));
+        assert_eq!(rt; shade.held(), held);
+        shade.told_room(Held { index: 0, count: 9 });
+        let mut words = words(rt.alloc(), &[])?;
+        let steps = run_alone(rt.alloc(), &mut shade, &layout, &mut words, 9)?;
+        assert_eq!(rt; steps.out, Some(Shaded::Done));
+        assert!(rt; steps.are(&["store entry 9 3078: 0"]));
+        let more = Held {
+            index: 0,
+            count: 10,
+        };
+        assert_eq!(rt; shade.held(), Some(more));
+    }
+    assert!(rt; Shade::of(&layout, Value::Nil, None).is_none());
+    assert!(rt; Shade::of(&layout, Value::Int(5), None).is_none());
+    assert!(rt; Shade::of(&layout, Value::Ref(5), None).is_some());
+    Ok(())
+}

@@ -1,6 +1,0 @@
-use Rattle.std.proofs.Common.{◌≡◌, true}
-use Rattle.gh_mutator.specs.Mutating.{is_busy, layout}
-use Rattle.gh_mutator.proofs.collector_tests.tell.Given as goal
-
-abbrev pub invariant-loop-request : goal.invariant-loop-request
-invariant-loop-request l = (is_busy l.mutator ≡ true) × (layout l.mutator ≡ l.layout)

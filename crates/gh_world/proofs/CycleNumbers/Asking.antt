@@ -1,0 +1,154 @@
+-- A processor of the heap asks for a cycle once in an operation, at the begin of its wait, and only a `new` or a `gc` waits.
+use Rattle.std.proofs.Common.{◌≡◌, ℕ, suc, ◌+◌, ◌≤◌, ◌⊎◌, inl, inr, Bool, true, false, cond, refl, ap, arith, List, Option, Some, None}
+use Rattle.gh_base.specs.declared.cell.Cell.TheVariants as cell
+use Rattle.gh_base.specs.declared.operation.Op.TheVariants as op
+use Rattle.gh_alloc.specs.Place as place
+use Rattle.gh_alloc.specs.Search as search
+use Rattle.gh_mutator.specs.declared.task.Task.TheVariants as task
+use Rattle.gh_mutator.specs.declared.wait.WaitStage.TheVariants as waiting
+use Rattle.gh_mutator.specs.Global as global
+use Rattle.gh_mutator.specs.Leave as leave
+use Rattle.gh_mutator.specs.Load as load
+use Rattle.gh_mutator.specs.New as new
+use Rattle.gh_mutator.specs.Poll as poll
+use Rattle.gh_mutator.specs.Register as register
+use Rattle.gh_mutator.specs.Store as store
+use Rattle.gh_mutator.specs.Wait as wait
+use Rattle.gh_mutator.specs.Writing.{WantsAt}
+use Rattle.gh_world.specs.Numbers.{asks_for_one}
+use Rattle.gh_world.proofs.Vocabulary.{after_gc, after_leave, after_poll, Ask, asked_after, asks, At, begins, begins_at, cache_span, Cell, Ends, follows, Found, GoesOn, IsWanting, IsWritten, Leaving, NewStage, NoRoom, Op, Or, Place, Placing, Polling, Processor, register_of, Search, Seeking, Shape, takes, takes_at, Task, Then, Wait, WaitStage, Wanted, WritesOf}
+
+-- an operation asks for one cycle at the most, and only where it may need one
+abbrev pub most_asks : Op → ℕ
+most_asks (op.New g d t) = 1
+most_asks (op.Gc g) = 1
+most_asks _ = 0
+
+-- how often it may still ask: at rest it may not; an operation that begins lets it ask once; and whenever it asks, nothing is left
+
+abbrev left_wait : WaitStage → ℕ
+left_wait waiting.Want = 1
+left_wait _ = 0
+
+abbrev left_new : NewStage → ℕ
+left_new (Search waited q) = cond waited 0 1
+left_new (Wait w) = left_wait w.stage
+left_new (Place p) = 0
+
+abbrev left_at : Task → ℕ
+left_at (task.New x) = left_new x.stage
+left_at (task.Gc g w) = left_wait w.stage
+left_at _ = 0
+
+abbrev pub left : Processor → ℕ
+left m = left_at m.task
+
+begin_asks : (shapes : List Shape) (m : Processor) (o : Op) → left_at (begins_at shapes m o) ≤ most_asks o
+begin_asks shapes m (op.New g d t) = omega arith
+begin_asks shapes m _ = omega arith
+
+more : (a b c : ℕ) → a ≤ c → a ≤ b + c
+more a b c le = omega (arith, le)
+
+pub begun_asks : (shapes : List Shape) (m : Processor) (o : Op) (b : Bool) → left (cond b m (begins shapes m o)) ≤ left m + most_asks o
+begun_asks shapes m o true = omega arith
+begun_asks shapes m o false = more (left_at (begins_at shapes m o)) (left m) (most_asks o) (begin_asks shapes m o)
+
+-- A step: where it asks, nothing is left; and it adds nothing.
+
+follows_asks : {S : Type 0} (goes : S → Task) → ((s : S) → left_at (goes s) ≡ 0) → (t : Then S) → left_at (follows goes t) ≡ 0
+follows_asks goes none (GoesOn s) = none s
+follows_asks goes none (Ends a) = refl
+
+module _ (shapes : List Shape) (m : Processor) (found : ℕ) where
+  waits_on : (w : wait.Waiting) (s : WaitStage) → left_wait (wait.goes_at w s found).wait.stage ≡ 0
+  waits_on w waiting.Want = refl
+  waits_on w waiting.Polling = go (poll.gives w.poll found) where
+    go : (o : Option (Unit {0})) → left_wait (wait.after_poll w (poll.goes w.poll found) o).wait.stage ≡ 0
+    go None = refl
+    go (Some x) = refl
+  waits_on w waiting.LoadSwept = go (wait.is_later w.wait.known found) where
+    go : (b : Bool) → left_wait (cond b (wait.at_stage w waiting.Ended) (wait.polling w)).wait.stage ≡ 0
+    go true = refl
+    go false = refl
+  waits_on w waiting.Ended = refl
+
+  found_asks : (c : Processor) (w : Wanted) (waited : Bool) (f : Found) → left (new.after_found shapes c w waited f) ≤ cond waited 0 1
+  found_asks c w true (At a) = omega arith
+  found_asks c w false (At a) = omega arith
+  found_asks c w true NoRoom = omega arith
+  found_asks c w false NoRoom = omega arith
+
+  search_asks : (c : Processor) (w : Wanted) (waited : Bool) (q : Seeking) (o : Option Found) → left (new.after_search shapes c w waited q o) ≤ cond waited 0 1
+  search_asks c w waited q None = omega arith
+  search_asks c w waited q (Some f) = found_asks c w waited f
+
+  wait_asks : (w : Wanted) (x : wait.Waiting) (o : Option (Unit {0})) → left_wait x.wait.stage ≡ 0 → left (new.after_wait m w x o) ≡ 0
+  wait_asks w x None none = none
+  wait_asks w x (Some y) none = refl
+
+  gc_asks : (g : ℕ) (x : wait.Waiting) (o : Option (Unit {0})) → left_wait x.wait.stage ≡ 0 → left (after_gc m g x o) ≡ 0
+  gc_asks g x None none = none
+  gc_asks g x (Some y) none = refl
+
+  place_asks : (w : Wanted) (p : Placing) (b : Bool) → left_at (cond b (new.makes w p) task.Idle) ≡ 0
+  place_asks w p true = refl
+  place_asks w p false = refl
+
+  poll_asks : (p : Polling) (o : Option (Unit {0})) → left (after_poll m p o) ≡ 0
+  poll_asks p None = refl
+  poll_asks p (Some x) = refl
+
+  leave_asks : (x : Leaving) (o : Option (Unit {0})) → left (after_leave m x o) ≡ 0
+  leave_asks x None = refl
+  leave_asks x (Some y) = refl
+
+  at_most : (a b : ℕ) → a ≡ 0 → a ≤ b
+  at_most a b is = omega (arith, is)
+
+  new_adds : (w : Wanted) (s : NewStage) → left (new.takes_at shapes m w s found) ≤ left_new s
+  new_adds w (Search waited q) = search_asks (cache_span m w.sought (search.goes q found).find.cached) w waited (search.goes q found) (search.gives q found)
+  new_adds w (Wait x) = at_most _ (left_wait x.stage) (wait_asks w (wait.goes (wait.waiting x m.poll) found) (wait.gives (wait.waiting x m.poll) found) (waits_on (wait.waiting x m.poll) x.stage))
+  new_adds w (Place p) = at_most _ 0 (place_asks w (place.goes p found) (place.is_busy (place.goes p found).stage))
+
+  adds_nothing : (t : Task) → left (takes_at shapes m t found) ≤ left_at t ⊎ (left (takes_at shapes m t found) ≤ left m)
+  adds_nothing task.Idle = inr (omega arith)
+  adds_nothing task.Left = inr (omega arith)
+  adds_nothing (task.Load x) = inl (at_most _ 0 (follows_asks task.Load (λ s. refl) (load.step m.poll.layout x found).then))
+  adds_nothing (task.Store x) = inl (at_most _ 0 (follows_asks task.Store (λ s. refl) (store.step m.poll.layout m.poll.local (register_of m x.g x.v) x found).then))
+  adds_nothing (task.Global x) = inl (at_most _ 0 (follows_asks task.Global (λ s. refl) (global.step m.poll.layout (register_of m x.g x.r) x found).then))
+  adds_nothing (task.Register x) = inl (at_most _ 0 (follows_asks task.Register (λ s. refl) (register.step (register_of m x.g (register.read_of x)) x).then))
+  adds_nothing (task.New x) = inl (new_adds x.wanted x.stage)
+  adds_nothing (task.Gc g x) = inl (at_most _ (left_wait x.stage) (gc_asks g (wait.goes (wait.waiting x m.poll) found) (wait.gives (wait.waiting x m.poll) found) (waits_on (wait.waiting x m.poll) x.stage)))
+  adds_nothing task.Poll = inl (at_most _ 0 (poll_asks (poll.goes m.poll found) (poll.gives m.poll found)))
+  adds_nothing (task.End g) = inl (omega arith)
+  adds_nothing (task.Leave x) = inl (at_most _ 0 (leave_asks (leave.goes x found) (leave.gives x found)))
+
+  no_more : left (takes shapes m found) ≤ left m
+  no_more = elim (adds_nothing m.task) [ inl x ↦ x | inr x ↦ x ]
+
+  -- where it waits for the first time, it asks, and goes on to poll
+  new_wants : (w : Wanted) (s : NewStage) → WantsAt s → (left_new s ≡ 1) × (left (new.takes_at shapes m w s found) ≡ 0)
+  new_wants w (Search waited q) is = absurd is
+  new_wants w (Place p) is = absurd is
+  new_wants w (Wait x) is = (ap left_wait is, wait_asks w (wait.goes (wait.waiting x m.poll) found) (wait.gives (wait.waiting x m.poll) found) (waits_on (wait.waiting x m.poll) x.stage))
+
+  wants_at : (t : Task) → IsWanting t → (left_at t ≡ 1) × (left (takes_at shapes m t found) ≡ 0)
+  wants_at (task.New x) is = new_wants x.wanted x.stage is
+  wants_at (task.Gc g x) is = (ap left_wait is, gc_asks g (wait.goes (wait.waiting x m.poll) found) (wait.gives (wait.waiting x m.poll) found) (waits_on (wait.waiting x m.poll) x.stage))
+  wants_at _ is = absurd is
+
+  -- the step asks for a cycle there alone
+  or_asks : (c : Cell) (bits : ℕ) → WritesOf (IsWritten m) (Or c bits) → asks_for_one (Or c bits) ≡ true → IsWanting m.task
+  or_asks cell.Want bits w is = w.0
+  or_asks _ bits w is = absurd (cc)
+
+  asks_there : (q : Ask) → WritesOf (IsWritten m) q → asks_for_one q ≡ true → IsWanting m.task
+  asks_there (Or c bits) w is = or_asks c bits w is
+  asks_there _ w is = absurd (cc)
+
+  pub asked_once : WritesOf (IsWritten m) (asks m) → asked_after (asks m) (left (takes shapes m found)) ≤ left m
+  asked_once w = go (asks_for_one (asks m)) refl where
+    go : (b : Bool) → asks_for_one (asks m) ≡ b → cond b (suc (left (takes shapes m found))) (left (takes shapes m found)) ≤ left m
+    go false is = no_more
+    go true is = let x = wants_at m.task (asks_there (asks m) w is) in let one = x.0 in let none = x.1 in omega (arith, one, none)

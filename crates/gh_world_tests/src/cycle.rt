@@ -1,0 +1,225 @@
+//! A run of all actors of a heap, step by step: each step is compared with the lines of `lines`.
+//!
+//! The processor runs the statements `new r0 node` and `gc`, with a poll before each and one before its goroutine's end,
+//! and leaves. In each round it makes one step, then the worker, then the coordinator. The world of this script makes as
+//! many steps of each.
+
+ghost use Rattle.std.specs.Prelude.{◌≡◌, ◌+◌, ◌<◌, ◌≤◌, length, true, IsNone, IsTrue};
+ghost use Rattle.gh_base.specs.Cells.{length_of};
+ghost use Rattle.gh_coord.specs.Listing as coord;
+ghost use Rattle.gh_mutator.specs.Mutating.{is_busy, layout as layout_of};
+ghost use Rattle.gh_mutator.specs.Sound.{has_room, SoundOp};
+ghost use Rattle.gh_world.specs.World.{MadeAtMost};
+
+use crate::lines::{COORDINATOR, Column, NEVER, PROCESSOR, WORKER};
+use gh_base::{Answer, Layout, Machine, Name, Op};
+use gh_coord::Coord;
+use gh_mutator::Mutator;
+use gh_script::parse;
+use gh_words::{Plain, Words};
+use gh_worker::Worker;
+use std::test::Fail;
+
+const SCRIPT: &str =
+    "procs 1\nworkers 1\narena 16\nglobals 1\ngogc 0\ntype node pn\ngo a\nnew r0 node\ngc\nend\n";
+
+/// The lines of each actor.
+#[derive(Drop)]
+struct Columns {
+    processor: Column,
+    worker: Column,
+    coord: Column,
+}
+
+/// The words, the actors, and the lines of each actor.
+#[derive(Drop)]
+struct Actors<'s> {
+    layout: Layout,
+    words: Plain,
+    processor: Mutator<'s>,
+    // How many operations the processor has begun.
+    begun: u32,
+    worker: Worker,
+    coord: Coord,
+    // The coordinator is not done.
+    leads: bool,
+    columns: Columns,
+}
+
+/// One step of a machine.
+fn step<M: Machine>(words: &mut Plain, column: &mut Column, machine: &mut M) -> Option<M::Out>
+    requires busy { M.busy machine.old ≡ true }
+    requires words { length words.old ≡ length_of (M.layout machine.old) }
+    ensures layout { M.layout machine.new ≡ M.layout machine.old }
+    ensures words { length words.new ≡ length words.old }
+    ensures busy { IsNone result → M.busy machine.new ≡ true }
+{
+    let request = machine.next();
+    let found = words.step(request);
+    column.count(request, found);
+    machine.take(found)
+}
+
+/// One step of the worker, if it is not done.
+fn works(actors: &mut Actors<'_>)
+    requires words { length actors.old.words ≡ length_of actors.old.layout }
+    requires worker { actors.old.worker.layout ≡ actors.old.layout }
+    requires coord { (IsTrue actors.old.leads → coord.is_busy actors.old.coord.stage ≡ true) × (actors.old.coord.layout ≡ actors.old.layout) }
+    ensures words { length actors.new.words ≡ length_of actors.new.layout }
+    ensures worker { actors.new.worker.layout ≡ actors.new.layout }
+    ensures coord { (IsTrue actors.new.leads → coord.is_busy actors.new.coord.stage ≡ true) × (actors.new.coord.layout ≡ actors.new.layout) }
+    ensures others { actors.new ≡ record actors.old { words = actors.new.words; worker = actors.new.worker; columns = actors.new.columns } }
+{
+    if !actors.worker.is_done() {
+        step(
+            &mut actors.words,
+            &mut actors.columns.worker,
+            &mut actors.worker,
+        );
+    }
+}
+
+/// One step of the coordinator, if it is not done.
+fn leads(actors: &mut Actors<'_>)
+    requires words { length actors.old.words ≡ length_of actors.old.layout }
+    requires worker { actors.old.worker.layout ≡ actors.old.layout }
+    requires coord { (IsTrue actors.old.leads → coord.is_busy actors.old.coord.stage ≡ true) × (actors.old.coord.layout ≡ actors.old.layout) }
+    ensures words { length actors.new.words ≡ length_of actors.new.layout }
+    ensures worker { actors.new.worker.layout ≡ actors.new.layout }
+    ensures coord { (IsTrue actors.new.leads → coord.is_busy actors.new.coord.stage ≡ true) × (actors.new.coord.layout ≡ actors.new.layout) }
+    ensures others { actors.new ≡ record actors.old { words = actors.new.words; coord = actors.new.coord; leads = actors.new.leads; columns = actors.new.columns } }
+{
+    if actors.leads {
+        let out = step(
+            &mut actors.words,
+            &mut actors.columns.coord,
+            &mut actors.coord,
+        );
+        actors.leads = out.is_none();
+    }
+}
+
+/// One step of the worker and one of the coordinator, of those that are not done.
+fn others(actors: &mut Actors<'_>)
+    requires words { length actors.old.words ≡ length_of actors.old.layout }
+    requires worker { actors.old.worker.layout ≡ actors.old.layout }
+    requires coord { (IsTrue actors.old.leads → coord.is_busy actors.old.coord.stage ≡ true) × (actors.old.coord.layout ≡ actors.old.layout) }
+    ensures words { length actors.new.words ≡ length_of actors.new.layout }
+    ensures worker { actors.new.worker.layout ≡ actors.new.layout }
+    ensures coord { (IsTrue actors.new.leads → coord.is_busy actors.new.coord.stage ≡ true) × (actors.new.coord.layout ≡ actors.new.layout) }
+    ensures others { actors.new ≡ record actors.old { words = actors.new.words; worker = actors.new.worker; coord = actors.new.coord; leads = actors.new.leads; columns = actors.new.columns } }
+{
+    works(actors);
+    leads(actors);
+}
+
+/// One step of the processor, which is at an operation, and one of each other that is not done: what the operation is
+/// answered, if it is.
+fn round(actors: &mut Actors<'_>) -> Option<Answer>
+    requires words { length actors.old.words ≡ length_of actors.old.layout }
+    requires worker { actors.old.worker.layout ≡ actors.old.layout }
+    requires coord { (IsTrue actors.old.leads → coord.is_busy actors.old.coord.stage ≡ true) × (actors.old.coord.layout ≡ actors.old.layout) }
+    requires processor { layout_of actors.old.processor ≡ actors.old.layout }
+    requires busy { is_busy actors.old.processor ≡ true }
+    requires made { MadeAtMost actors.old.begun actors.old.processor.processor }
+    ensures words { length actors.new.words ≡ length_of actors.new.layout }
+    ensures worker { actors.new.worker.layout ≡ actors.new.layout }
+    ensures coord { (IsTrue actors.new.leads → coord.is_busy actors.new.coord.stage ≡ true) × (actors.new.coord.layout ≡ actors.new.layout) }
+    ensures processor { layout_of actors.new.processor ≡ actors.new.layout }
+    ensures busy { IsNone result → is_busy actors.new.processor ≡ true }
+    ensures made { MadeAtMost actors.new.begun actors.new.processor.processor }
+    ensures stays { (actors.new.layout ≡ actors.old.layout) × (actors.new.begun ≡ actors.old.begun) × (actors.new.processor.shapes ≡ actors.old.processor.shapes) }
+{
+    let request = actors.processor.next();
+    let found = actors.words.step(request);
+    actors.columns.processor.count(request, found);
+    let answer = actors.processor.take(found);
+    others(actors);
+    answer
+}
+
+/// The processor runs an operation, if it is at none: what that is answered, if it ends within 1000 rounds.
+fn turn(actors: &mut Actors<'_>, op: Op) -> Option<Answer>
+    requires words { length actors.old.words ≡ length_of actors.old.layout }
+    requires worker { actors.old.worker.layout ≡ actors.old.layout }
+    requires coord { (IsTrue actors.old.leads → coord.is_busy actors.old.coord.stage ≡ true) × (actors.old.coord.layout ≡ actors.old.layout) }
+    requires processor { layout_of actors.old.processor ≡ actors.old.layout }
+    requires made { MadeAtMost actors.old.begun actors.old.processor.processor }
+    requires op { SoundOp actors.old.processor.shapes actors.old.layout op }
+    requires room { has_room actors.old.processor.processor op ≡ true }
+    ensures words { length actors.new.words ≡ length_of actors.new.layout }
+    ensures worker { actors.new.worker.layout ≡ actors.new.layout }
+    ensures coord { (IsTrue actors.new.leads → coord.is_busy actors.new.coord.stage ≡ true) × (actors.new.coord.layout ≡ actors.new.layout) }
+    ensures processor { layout_of actors.new.processor ≡ actors.new.layout }
+    ensures made { MadeAtMost actors.new.begun actors.new.processor.processor }
+    ensures stays { (actors.new.layout ≡ actors.old.layout) × (actors.new.processor.shapes ≡ actors.old.processor.shapes) }
+{
+    if actors.processor.is_busy() || actors.begun >= 1000 {
+        return None;
+    }
+    actors.processor.begin(op);
+    actors.begun += 1;
+    for _ in 0..1000 {
+        if !actors.processor.is_busy() {
+            return None;
+        }
+        let answer = round(actors);
+        if answer.is_some() {
+            return answer;
+        }
+    }
+    None
+}
+
+/// As many as 1000 rounds once the processor has left.
+fn rest(actors: &mut Actors<'_>)
+    requires words { length actors.old.words ≡ length_of actors.old.layout }
+    requires worker { actors.old.worker.layout ≡ actors.old.layout }
+    requires coord { (IsTrue actors.old.leads → coord.is_busy actors.old.coord.stage ≡ true) × (actors.old.coord.layout ≡ actors.old.layout) }
+    ensures words { length actors.new.words ≡ length_of actors.new.layout }
+    ensures worker { actors.new.worker.layout ≡ actors.new.layout }
+    ensures coord { (IsTrue actors.new.leads → coord.is_busy actors.new.coord.stage ≡ true) × (actors.new.coord.layout ≡ actors.new.layout) }
+    ensures layout { actors.new.layout ≡ actors.old.layout }
+{
+    for _ in 0..1000 {
+        others(actors);
+    }
+}
+
+#[test]
+fn a_cycle_keeps_and_frees(rt: HostRuntime) -> Result<(), Fail> {
+    let alloc = rt.alloc();
+    let script = parse(alloc, SCRIPT.as_bytes())?;
+    script.is_well_formed();
+    let layout = Layout::new(16, 1, 1, 1, 1)?;
+    assert!(rt; !script.shapes().rows.is_empty());
+    let mut actors = Actors {
+        layout,
+        words: Plain::new(alloc, &layout, NEVER)?,
+        processor: Mutator::new(&layout, 0, script.shapes()),
+        begun: 0,
+        worker: Worker::new(&layout, 1),
+        coord: Coord::new(alloc, &layout, 2, 0, 0, 2)?,
+        leads: true,
+        columns: Columns {
+            processor: Column::of(alloc, &layout, PROCESSOR)?,
+            worker: Column::of(alloc, &layout, WORKER)?,
+            coord: Column::of(alloc, &layout, COORDINATOR)?,
+        },
+    };
+    let made = Answer::Ref(Name { g: 0, k: 0 });
+    assert_eq!(rt; turn(&mut actors, Op::Poll), Some(Answer::Done));
+    assert_eq!(rt; turn(&mut actors, Op::New { g: 0, d: 0, t: 0 }), Some(made));
+    assert_eq!(rt; turn(&mut actors, Op::Poll), Some(Answer::Done));
+    assert_eq!(rt; turn(&mut actors, Op::Gc { g: 0 }), Some(Answer::Swept));
+    assert_eq!(rt; turn(&mut actors, Op::Poll), Some(Answer::Done));
+    assert_eq!(rt; turn(&mut actors, Op::End(0)), Some(Answer::Done));
+    assert_eq!(rt; turn(&mut actors, Op::Leave), Some(Answer::Done));
+    rest(&mut actors);
+    // the processor leaves in round 442, the worker in round 757, and the coordinator is done in round 752
+    assert_eq!(rt; actors.columns.processor.counts(), (442, 442, 442));
+    assert_eq!(rt; actors.columns.worker.counts(), (757, 757, 757));
+    assert_eq!(rt; actors.columns.coord.counts(), (752, 752, 752));
+    assert!(rt; actors.processor.has_left() && actors.worker.is_done() && !actors.leads);
+    Ok(())
+}

@@ -1,0 +1,86 @@
+//! `goheap_steps [list]` reads a script from standard input, runs it as `goheap replay --list list` does, and writes a line
+//! for each turn at which something happens that an item of a list can wait for: the turn's number, the actor, how many steps
+//! that actor has taken, and what happened: a statement acts, or is answered, a cycle is swept, the actor is done, or its marks rise.
+//!
+//! It shows where the numbers of a list come from. It is a tool beside `goheap`, over public calls of `gh_world`: that it
+//! stops at no fault is proved, and what it writes is tested, by its `stdin` and `stdout`.
+#![tactic(auto)]
+
+mod order;
+mod stop;
+mod turns;
+
+use crate::stop::Stop;
+use crate::turns::tell_turns;
+use gh_io::{Sink, Source, StdSink, StdSource, read_up_to, write_all};
+use gh_lines::LineBuf;
+use gh_replay::{Turn, parse_list};
+use gh_script::{MOST_BYTES, ParseError, ScriptFault, parse};
+use std::alloc::Global;
+use std::env;
+use std::process::ExitCode;
+use std::rt::Env;
+
+fn main(rt: HostRuntime) -> ExitCode {
+    let mut src = StdSource::new(rt.stdin());
+    let mut out = StdSink::new(rt.stdout());
+    match called(&rt, &mut src, &mut out) {
+        Ok(()) => ExitCode::from(0),
+        Err(stop) => ExitCode::from(stop.code()),
+    }
+}
+
+// The call with the words of the command line: the program's name, and a list or none.
+fn called<R: Env + AllocGlobal, S: Source, K: Sink>(
+    rt: &R,
+    src: &mut S,
+    out: &mut K,
+) -> Result<(), Stop> {
+    let Ok(args) = env::args(rt) else {
+        return Err(Stop::BadWords);
+    };
+    let words = args.collect::<Vec<String>>(rt.alloc())?;
+    let list = listed(rt.alloc(), &words)?;
+    run(rt.alloc(), list, src, out)
+}
+
+// The list behind the program's name.
+fn listed(alloc: Global, words: &[String]) -> Result<Vec<Turn>, Stop> {
+    if words.len() > 2 {
+        return Err(Stop::BadWords);
+    }
+    match words.get(1) {
+        Some(word) => match parse_list(alloc, word.as_str())? {
+            Some(list) => Ok(list),
+            None => Err(Stop::BadWords),
+        },
+        None => Ok(Vec::new(alloc)),
+    }
+}
+
+// Reads the script, and tells its turns.
+fn run<S: Source, K: Sink>(
+    alloc: Global,
+    list: Vec<Turn>,
+    src: &mut S,
+    out: &mut K,
+) -> Result<(), Stop> {
+    let Ok(text) = read_up_to(alloc, src, MOST_BYTES + 1) else {
+        return Err(Stop::ReadFault);
+    };
+    match parse(alloc, &text) {
+        Ok(script) => tell_turns(alloc, &script, list, out),
+        Err(ParseError::Script(fault)) => refuse(fault, out),
+        Err(ParseError::NoMemory) => Err(Stop::NoMemory),
+    }
+}
+
+// Writes why the text is no script.
+fn refuse<K: Sink>(fault: ScriptFault, out: &mut K) -> Result<(), Stop> {
+    let mut line = LineBuf::new();
+    line.bad_script(fault.line, fault.why);
+    match write_all(out, line.bytes()) {
+        Ok(()) => Err(Stop::BadScript),
+        Err(_) => Err(Stop::WriteFault),
+    }
+}
