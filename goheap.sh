@@ -1,128 +1,211 @@
 #!/usr/bin/env bash
-# Runs goheap with these words: the program that was proved and built of this checkout's sources, which is proved and built
-# first where it is not there yet.
+# Runs scripts of goroutines with the program of this checkout's sources: the proved one where `prove` has built it, else one
+# that is built without its proofs, in about a minute, and says so.
 #   ./goheap.sh replay < examples/first.heap
 set -u
 unset CDPATH
 here=$(cd "$(dirname "$(readlink -f "${BASH_SOURCE[0]}")")" && pwd -P) || exit 1
+out=$here/out
 
 say() { printf 'goheap.sh: %s\n' "$*" >&2; }
+# Ends with a status and a line that says why.
+fail() {
+  local status=$1
+  shift
+  say "$*"
+  exit "$status"
+}
 
 usage() {
-  cat >&2 <<'END'
+  cat <<'END'
 usage: goheap.sh replay [--seed n] [--list text] [--budget n] [--check] < file
-  Runs the script of goroutines in the file, and writes a line for each answer.
+         runs the script of goroutines in the file, and writes a line for each answer
+       goheap.sh example name
+         runs examples/name.heap, with the words that its second line has for it
+       goheap.sh steps [--list text] < file
+         runs it too, and writes a line for each turn at which something happens that a list can wait for
+       goheap.sh draw [--list text] < file > run.svg
+         draws these turns, with the phases of the collector
+       goheap.sh prove
+         has all proofs below the program checked, and builds the program that replay runs from then on
+       goheap.sh program
+         prints where the program is that replay runs, so that it can be run without goheap.sh
   For example: ./goheap.sh replay < examples/first.heap
   README.md says what goheap is, docs/SCRIPTS.md what a script may say.
 END
-  exit "$1"
 }
 
-# A name for the sources. The program bears it, so a program of other sources is never run.
-sources() {
-  (cd "$here" && find crates crates.txt HANDLES \( -name out -o -name must-fail \) -prune -o -type f -print0 |
-    LC_ALL=C sort -z | xargs -0 sha256sum | sha256sum | cut -c 1-16)
+for part in crates crates.txt HANDLES tools/words.sh tools/sources.sh tools/build.sh tools/hint.awk tools/draw.awk; do
+  [ -e "$here/$part" ] || fail 1 "$here has no $part: goheap.sh runs in a checkout of the whole repository"
+done
+# shellcheck source=tools/words.sh
+. "$here/tools/words.sh"
+# shellcheck source=tools/sources.sh
+. "$here/tools/sources.sh"
+# shellcheck source=tools/build.sh
+. "$here/tools/build.sh"
+
+# Whether a program is there. One that is there and may not be executed is no cause to build another.
+may_run() {
+  [ -e "$1" ] || return 1
+  [ -x "$1" ] || fail 126 "$1 is there, and its permissions do not let it be executed"
 }
 
-# The crates that the program stands on, and itself.
-crates_below() {
-  awk '{ sub(/#.*/, "") } /:/ { split($0, line, ":"); gsub(/ /, "", line[1]); below[line[1]] = line[2] }
-    function reach(name, names, n, i) { if (!(name in below) || name in seen) return; seen[name]; print name
-      n = split(below[name], names, " "); for (i = 1; i <= n; i++) reach(names[i]) }
-    END { reach("goheap") }' "$here/crates.txt"
+# The program of a crate's sources: the proved one where it is there, or where all of it is proved and only not handed out yet; else
+# the one without proofs, which is built where it is not there.
+choose_program() {
+  crate=$1
+  know_sources
+  program=$out/$crate-$name is_proved=yes
+  if may_run "$program"; then return; fi
+  if rt_has_proved; then
+    prove
+    return
+  fi
+  program=$out/unproved-$crate-$name is_proved=no
+  if ! may_run "$program"; then build_unproved; fi
+  if [ "$crate" = goheap ]; then
+    say 'the proofs of this program have not been checked on this machine: ./goheap.sh prove checks them, and bash .ci/run all there are'
+  fi
 }
 
-# What the build has come to, from the folders that rt makes and from its log.
-progress() {
-  local crate all=0 proved=0
-  for crate in $crates; do
-    all=$((all + 1))
-    if [ -f "$here/crates/$crate/out/rlib/stamp" ]; then proved=$((proved + 1)); fi
-  done
-  awk -v proved="$proved" -v all="$all" '
-    /^rt: chose --jobs/ { at = ", " $NF; functions = "" }
-    /^rt: [a-z0-9_]*: begins/ { at = ", " $2; sub(/:$/, "", at); functions = "" }
-    /^rt: [a-z0-9_]*: another copy/ { at = ", " $2 " is being proved in another copy"; sub(/:/, "", at); functions = "" }
-    /^so far: [0-9]* of/ { functions = ": " $3 " of " $5 " functions" }
-    END { print proved " of " all " crates proved" at functions }' "$log"
-}
-
-# Tells the progress until rt ends.
-follow() {
-  local now before='' told=0
-  while kill -0 "$rt" 2>/dev/null; do
-    now=$(progress)
-    if [ "$now" != "$before" ] || [ $((SECONDS - told)) -ge 60 ]; then
-      say "$now ($((SECONDS / 60)) min $((SECONDS % 60)) s)"
-      before=$now told=$SECONDS
+# Standard input, so that it can be read a second time: a file from where it stands, and of what is no file a copy, of at most one
+# byte more than a script may have.
+keep_text() {
+  local copy
+  text='' skipped=0
+  if [ -f /dev/stdin ]; then
+    text=/dev/stdin
+    read -r _ skipped <"/proc/$$/fdinfo/0" || skipped=0
+  elif [ -p /dev/stdin ] || [ -t 0 ]; then
+    if [ -t 0 ]; then say 'the script is read from the terminal, up to Ctrl-D; a file is given by < file'; fi
+    copy=$(mktemp 2>/dev/null) || return 0
+    if ! head -c 4194305 >"$copy"; then
+      rm -f "$copy"
+      fail 4 'standard input cannot be read'
     fi
-    for _ in 1 2 3 4 5; do sleep "${GOHEAP_PAUSE:-1}"; kill -0 "$rt" 2>/dev/null || break; done
-  done
+    exec 8<"$copy"
+    # It has no name any more, and ends with this process.
+    rm -f "$copy"
+    text=/proc/$$/fd/8
+    exec <"$text"
+  fi
 }
 
-clean_up() { rm -f "$program.$$" "$out/wrote-$$" "$log"; rmdir "$out" 2>/dev/null; }
-
-stopped() {
-  trap '' INT TERM HUP
-  if [ -n "$rt" ]; then
-    kill -TERM -- "-$rt" 2>/dev/null
-    wait "$rt" 2>/dev/null
+# Runs the program on standard input, and passes on to it that goheap.sh is to stop.
+run() {
+  local child timer asked=''
+  "$program" "$@" <&0 &
+  child=$!
+  trap 'asked=yes; kill -TERM "$child" 2>/dev/null' INT TERM HUP
+  if [ "$is_proved" = no ]; then
+    sleep "${GOHEAP_PATIENCE:-10}" >/dev/null 2>&1 &
+    timer=$!
+    wait -n "$child" "$timer"
+    if [ -z "$asked" ] && kill -0 "$child" 2>/dev/null; then
+      say 'still running: without proofs the program tests each thing that it does, and is some hundreds of times slower than the proved one'
+    fi
+    kill "$timer" 2>/dev/null
   fi
-  clean_up
-  say 'stopped; the program is not built.'
-  exit 130
-}
-
-not_built() {
-  tail -n 20 "$log" >&2
-  rm -f "$program.$$" "$out/wrote-$$"
-  say "the program is not built: $1. The whole log is $log"
-  exit 1
-}
-
-build() {
-  if ! command -v rt >/dev/null 2>&1; then
-    say "the program is not built, and the Rattle kit's command rt is not on the path."
-    say 'install the kit that README.md names, put its bin folder on the path, and try again.'
-    exit 127
-  fi
-  if ! mkdir -p "$out" "$here/crates/goheap/out" 2>/dev/null || [ ! -w "$out" ] || [ ! -w "$here/crates/goheap/out" ]; then
-    say "the program is not built, and cannot be: $here cannot be written."
-    exit 1
-  fi
-  log=$out/build-$$.log rt=''
-  crates=$(crates_below)
-  : >"$log"
-  say "proving and building the program. The first time takes about 15 minutes on 4 processors; here are $(nproc)."
-  say "The log is $log"
-  trap stopped INT TERM HUP
-  set -m
-  (cd "$here/crates/goheap" && exec rt run -- replay <stdin >"$out/wrote-$$" 2>"$log") &
-  rt=$!
-  set +m
-  follow
-  wait "$rt" || not_built "rt run ended with status $?"
-  cmp -s "$out/wrote-$$" "$here/crates/goheap/stdout" || not_built "it does not write what crates/goheap/stdout has"
-  [ "$program" = "$out/goheap-$(sources)" ] || not_built 'the sources changed while they were proved; run it again'
-  cp "$here/crates/goheap/out/goheap" "$program.$$" && chmod +x "$program.$$" || not_built 'it cannot be copied'
-  trap '' INT TERM HUP
-  rm -f "$out"/goheap-???????????????? "$out"/build-*.log
-  mv "$program.$$" "$program"
+  while
+    wait "$child"
+    status=$?
+    kill -0 "$child" 2>/dev/null
+  do :; done
   trap - INT TERM HUP
-  clean_up
-  say 'built.'
+}
+
+# A line more where the text is no script: what stands there, and what could.
+hint() {
+  local told
+  [ -n "$text" ] || return
+  told=$(tail -c "+$((skipped + 1))" "$text" | "$program" "$@" 2>/dev/null)
+  tail -c "+$((skipped + 1))" "$text" | LC_ALL=C awk -v told="$told" -f "$here/tools/hint.awk" >&2
+}
+
+run_and_end() {
+  run "$@"
+  if [ "$status" -eq 3 ]; then hint "$@"; fi
+  exit "$status"
+}
+
+replay() {
+  check_words "$@"
+  keep_text
+  choose_program goheap
+  run_and_end replay "$@"
+}
+
+example() {
+  local script words=()
+  script=$here/examples/$(basename "${1-}" .heap).heap
+  if [ ! -f "$script" ]; then
+    fail 2 "'${1-}' is no example; there are$(cd "$here/examples" && printf ' %s' *.heap | sed 's/\.heap//g')"
+  fi
+  read -r -a words < <(sed -n '2s/^# replay \(.*\)$/\1/p' "$script")
+  replay ${words[@]+"${words[@]}"} "${@:2}" <"$script"
+}
+
+# The list among the words of a command that takes no other option.
+list_of() {
+  local command=$1
+  shift
+  list=''
+  case $#:${1-} in
+    0:) ;;
+    2:--list) list=$2 ;;
+    1:--list=*) list=${1#--list=} ;;
+    *) refuse "'$*' is not what $command takes, which is --list text or nothing" ;;
+  esac
+  check_words "$@"
+}
+
+steps() {
+  list_of steps "$@"
+  keep_text
+  choose_program goheap_steps
+  run_and_end ${list:+"$list"}
+}
+
+draw() {
+  local told
+  list_of draw "$@"
+  keep_text
+  choose_program goheap_steps
+  told=$("$program" ${list:+"$list"})
+  status=$?
+  if [ "$status" -eq 0 ]; then
+    awk -f "$here/tools/draw.awk" <(tail -c "+$((skipped + 1))" "${text:-/dev/null}") - <<<"$told"
+    return
+  fi
+  printf '%s\n' "$told" >&2
+  if [ "$status" -eq 3 ]; then hint ${list:+"$list"}; fi
+  exit "$status"
 }
 
 case "${1-}" in
-  replay) ;;
-  -h | --help) usage 0 ;;
-  *) usage 2 ;;
+  replay) replay "${@:2}" ;;
+  example) example "${@:2}" ;;
+  steps) steps "${@:2}" ;;
+  draw) draw "${@:2}" ;;
+  prove)
+    [ $# -eq 1 ] || fail 2 "'$2' is no word of prove, which takes none"
+    crate=goheap
+    know_sources
+    program=$out/$crate-$name
+    if may_run "$program"; then fail 0 "the program of these sources is proved and built: $program"; fi
+    prove
+    ;;
+  program)
+    [ $# -eq 1 ] || fail 2 "'$2' is no word of program, which takes none"
+    choose_program goheap
+    echo "$program"
+    ;;
+  -h | --help) usage ;;
+  *)
+    if [ $# -gt 0 ]; then say "'$1' is no command"; fi
+    if [ -f "${1-}" ]; then say "a script is read from standard input: goheap.sh replay < $1"; fi
+    usage >&2
+    exit 2
+    ;;
 esac
-for word in "${@:2}"; do
-  if [ -f "$word" ]; then say "a script is read from standard input: goheap.sh $1 < $word"; fi
-done
-if [ -t 0 ]; then say 'the script is read from the terminal, up to Ctrl-D; a file is given by < file'; fi
-out=$here/out
-program=$out/goheap-$(sources)
-[ -x "$program" ] || build
-exec "$program" "$@"

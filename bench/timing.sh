@@ -4,8 +4,11 @@ here=$(cd "$(dirname "${BASH_SOURCE[0]}")/.." && pwd)
 runs=${1:-5}
 work=$(mktemp -d)
 trap 'rm -rf "$work"' EXIT
-"$here/goheap.sh" replay </dev/null >"$work/out" || true
-program=$(echo "$here"/out/goheap-????????????????)
+# The proved one, or the one that GOHEAP names.
+cd "$here"
+if [ -z "${GOHEAP:-}" ]; then ./goheap.sh prove; fi
+. tools/program.sh program
+cd - >/dev/null
 
 # The nanoseconds of the fastest replay of a text, whatever its status.
 best() {

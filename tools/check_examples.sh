@@ -1,8 +1,9 @@
 #!/usr/bin/env bash
 # Runs the program on each script of examples/, each of which opens with a line of what it shows, and compares what it writes with
-# the file beside it. A second line `# replay --list ..` has the words of the command. GOHEAP names another program to run than goheap.sh's.
+# the file beside it. A second line `# replay --list ..` has the words of the command. GOHEAP names another program to run than goheap.sh's (tools/program.sh).
 set -u
 cd "$(dirname "$0")/.." || exit 1
+. tools/program.sh
 passed=0
 failed=0
 for script in examples/*.heap; do
@@ -10,7 +11,7 @@ for script in examples/*.heap; do
   if ! head -n 1 "$script" | grep -q '^# ..*\.$'; then
     echo "check_examples: $script does not open with a line of what it shows"
     failed=$((failed + 1))
-  elif "${GOHEAP:-./goheap.sh}" "${words[@]:-replay}" < "$script" 2>/dev/null | cmp -s - "${script%.heap}.out"; then
+  elif "$program" "${words[@]:-replay}" < "$script" 2>/dev/null | cmp -s - "${script%.heap}.out"; then
     passed=$((passed + 1))
   else
     echo "check_examples: $script does not write ${script%.heap}.out"

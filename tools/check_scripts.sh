@@ -1,8 +1,9 @@
 #!/usr/bin/env bash
 # Holds docs/SCRIPTS.md to the program and to the table of size classes: what each easily made mistake is answered, and the sizes of slots.
-# GOHEAP names another program to run than goheap.sh's.
+# GOHEAP names another program to run than goheap.sh's (tools/program.sh).
 set -u
 cd "$(dirname "$0")/.." || exit 1
+. tools/program.sh
 page=docs/SCRIPTS.md passed=0 failed=0
 
 tried() {
@@ -20,7 +21,7 @@ while IFS=$'\t' read -r written answer; do
   esac
   case $written in go*) text="$written\nend\n" ;; esac
   # shellcheck disable=SC2059
-  tried "$written" "$answer" "$(printf "$text" | "${GOHEAP:-./goheap.sh}" replay 2>/dev/null)"
+  tried "$written" "$answer" "$(printf "$text" | "$program" replay 2>/dev/null)"
 done < <(awk -F'|' '/^## Mistakes/ { on = 1 } /^All causes/ { on = 0 }
   on && $2 ~ /^ `/ && $3 ~ /^ `line [13]:/ { answer = $3; gsub(/^ `|` $/, "", answer); n = split($2, part, "`"); for (i = 2; i <= n; i += 2) print part[i] "\t" answer }' "$page")
 

@@ -3,6 +3,8 @@
 # and compares the status, what is written to standard output, and that nothing is written to standard error.
 set -u
 cd "$(dirname "$0")/.." || exit 1
+# The program itself, since goheap.sh answers words that it does not know. GOHEAP names another one.
+. tools/program.sh program
 work=$(mktemp -d)
 trap 'rm -rf "$work"' EXIT
 passed=0
@@ -27,12 +29,6 @@ compare() {
 }
 
 first=examples/first.heap
-# The program itself: goheap.sh answers words that it does not know. GOHEAP names another one than goheap.sh's.
-program=${GOHEAP-}
-if [ -z "$program" ]; then
-  ./goheap.sh replay <"$first" >"$work/out" 2>/dev/null
-  program=$(echo out/goheap-????????????????)
-fi
 printf 'go a\n' >"$work/open"
 # a word that is not UTF-8, wherever it stands
 check 2 'words refused' "$first" replay $'\xff'

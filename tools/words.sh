@@ -1,0 +1,65 @@
+# A part of goheap.sh: the words behind `replay`. What the program would not take is refused before anything is built, as the
+# program refuses it, and on standard error the wrong word is named.
+
+refuse() {
+  echo 'words refused'
+  fail 2 "$*"
+}
+
+# Decimal digits after at most one plus sign, from the least to the most.
+is_number() {
+  local n=$1 least=$2 most=$3
+  [[ $n =~ ^\+?[0-9]+$ ]] || return 1
+  n=${n#+}
+  while [[ $n = 0?* ]]; do n=${n#0}; done
+  [ ${#n} -lt ${#most} ] || { [ ${#n} -eq ${#most} ] && [[ ! $n > $most ]]; } || return 1
+  [ "$least" -eq 0 ] || [ "$n" != 0 ]
+}
+
+# The first item of a list that is none, or nothing.
+wrong_item() {
+  LC_ALL=C awk -v RS=, 'function is(n, least, most) { return n ~ /^[0-9]+$/ && length(n) <= 20 && n + 0 >= least && n + 0 <= most }
+    { sub(/\n$/, ""); at = match($0, /[*@]/); n = substr($0, at + 1); sign = substr($0, at, 1) }
+    !at || !is(substr($0, 1, at - 1), 0, 255) || !is(n, sign == "*", sign == "*" ? 1000000 : 4294967296) { print "\047" $0 "\047"; exit }
+    NR == 10001 { print "what stands behind the 10,000th item"; exit }' <<<"$1"
+}
+
+check_value() {
+  local option=$1 value=$2 wrong
+  case $option in
+    --seed) is_number "$value" 0 18446744073709551615 || refuse "'$value' is no seed: a number from 0 to 18446744073709551615" ;;
+    --budget) is_number "$value" 1 1000000000 || refuse "'$value' is no budget: a number of turns from 1 to 1000000000" ;;
+    --list)
+      case $value in '' | *,) refuse "'$value' is no list: items such as 0@4 or 2*3, separated by single commas" ;; esac
+      wrong=$(wrong_item "$value")
+      [ -z "$wrong" ] || refuse "$wrong is no item of a list: A*n, actor A up to 255 takes n steps, 1 to 1000000; A@m, it steps until its marks are m, up to 4294967296"
+      ;;
+  esac
+}
+
+check_words() {
+  local word option seen=' '
+  while [ $# -gt 0 ]; do
+    word=$1 option=${1%%=*}
+    shift
+    case $word in
+      --) [ $# -eq 0 ] && return 0; refuse "'$1' stands behind --, where no word is taken" ;;
+      --check | --seed | --list | --budget | --seed=* | --list=* | --budget=*) ;;
+      *)
+        if [ -f "$word" ]; then say "a script is read from standard input: goheap.sh replay < $word"; fi
+        refuse "'$word' is no word of replay, which takes --seed n, --list text, --budget n and --check"
+        ;;
+    esac
+    case $seen in *" $option "*) refuse "'$option' stands a second time" ;; esac
+    seen="$seen$option "
+    if [ "$word" = --check ]; then continue; fi
+    if [ "$word" = "$option" ]; then
+      [ $# -gt 0 ] || refuse "'$option' is followed by a value"
+      case $1 in -*) refuse "'$1' is no value of $option" ;; esac
+      check_value "$option" "$1"
+      shift
+    else
+      check_value "$option" "${word#*=}"
+    fi
+  done
+}
