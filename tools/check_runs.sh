@@ -6,6 +6,7 @@
 #                  but for its lines `cycle`, whatever the order of steps
 #   NAME.each      lines that stand in what it writes whatever the order, where there are several goroutines (of a script of examples/ too)
 #   NAME.words     further command lines, one a line, and NAME.turns those of which each ends after so many turns
+#   NAME.steps     at which step of which actor something happens (tools/check_steps.sh)
 #   scripts.refused  the answer, and behind a tab a text that is no script, its lines parted by `|`
 #   words.refused    command lines that are none, each word with a `|` behind it
 set -u

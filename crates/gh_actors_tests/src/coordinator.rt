@@ -4,8 +4,8 @@ ghost use Rattle.std.specs.Prelude.{◌≡◌, ◌<◌, true};
 ghost use Rattle.gh_coord.specs.Listing.{is_busy};
 
 use gh_base::trace::run_alone;
-use gh_base::{GONE, Layout, Machine, Req, TallyWord};
-use gh_coord::{Close, Coord, Count, Counted, Open, Stop, SweepAll, Tell, Watch, Watched};
+use gh_base::{GONE, Layout, Machine, Req};
+use gh_coord::{Coord, SweepAll, Watch, Watched};
 use std::alloc::{AllocError, Global};
 use std::test::Fail;
 
@@ -75,64 +75,6 @@ fn asks_for(coord: &mut Coord, told: &[(Req, u64)]) -> usize
 }
 
 #[test]
-fn cycles_are_opened_in_these_steps(rt: HostRuntime) -> Result<(), Fail> {
-    let layout = Layout::new(16, 1, 1, 1, 1)?;
-    let mut acknowledged = words(rt.alloc(), &[(ACK_ROW, 3), (ACK_ROW + 1, GONE)])?;
-    let mut stop = Stop::new(&layout, 3);
-    let steps = run_alone(rt.alloc(), &mut stop, &layout, &mut acknowledged, 9)?;
-    assert_eq!(rt; steps.out, Some(()));
-    let lines = [
-        "store phase 14: 0",
-        "load ack 0: 3",
-        "load ack 1: 18446744073709551615",
-    ];
-    assert!(rt; steps.are(&lines));
-
-    let mut late = words(rt.alloc(), &[(ACK_ROW, 2), (ACK_ROW + 1, 3)])?;
-    let mut stop = Stop::new(&layout, 3);
-    let steps = run_alone(rt.alloc(), &mut stop, &layout, &mut late, 4)?;
-    assert_eq!(rt; steps.out, None);
-    let lines = [
-        "store phase 14: 0",
-        "load ack 0: 2",
-        "load ack 0: 2",
-        "load ack 0: 2",
-    ];
-    assert!(rt; steps.are(&lines));
-
-    let set = [
-        (WANT, 1),
-        (GCUR, 5),
-        (TALLY, 7),
-        (LIVE, 8),
-        (TRIGGER, 9),
-        (HEAP, 100),
-        (WORK_WORD, 3),
-        (SLACK_WORD, 4),
-        (BEGUN, 1),
-        (PHASE, 14),
-    ];
-    let mut found = words(rt.alloc(), &set)?;
-    let mut open = Open::new(&layout, 3, 2);
-    let steps = run_alone(rt.alloc(), &mut open, &layout, &mut found, 99)?;
-    assert_eq!(rt; steps.out, Some(()));
-    let lines = [
-        "store want 0: 1",
-        "store gcur 0: 5",
-        "store tally 0: 7",
-        "store live 0: 8",
-        "store trigger 18446744073709551615: 9",
-        "load heap: 100",
-        "store work 0: 3",
-        "store slack 1: 4",
-        "store begun 2: 1",
-        "store phase 13: 14",
-    ];
-    assert!(rt; steps.are(&lines));
-    Ok(())
-}
-
-#[test]
 fn words_are_watched(rt: HostRuntime) -> Result<(), Fail> {
     let layout = Layout::new(16, 1, 1, 1, 1)?;
     let last_buffer = "load buffer 68: 0";
@@ -153,25 +95,19 @@ fn words_are_watched(rt: HostRuntime) -> Result<(), Fail> {
         let mut words = words(rt.alloc(), &set)?;
         let mut watch = Watch::new(&layout, 2);
         let steps = run_alone(rt.alloc(), &mut watch, &layout, &mut words, 99)?;
-        assert_eq!(rt; steps.out, Some(watched));
-        assert_eq!(rt; steps.lines.len(), length);
-        if let Some(line) = steps.lines.last() {
-            assert_eq!(rt; line.as_str(), last);
-        }
+        let line = steps.lines.last().map(|line| line.as_str());
+        assert_eq!(rt;
+            (steps.out, steps.lines.len(), line),
+            (Some(watched), length, Some(last))
+        );
     }
     Ok(())
 }
 
+/// A span that is swept already is passed over; one that is being swept by another is waited for.
 #[test]
-fn cycles_are_ended_in_these_steps(rt: HostRuntime) -> Result<(), Fail> {
+fn spans_of_an_earlier_sweep_are_swept(rt: HostRuntime) -> Result<(), Fail> {
     let layout = Layout::new(16, 1, 1, 1, 1)?;
-    let mut bank = words(rt.alloc(), &[(BANK, 5), (GEN, 2)])?;
-    let mut close = Close::new(&layout, 10, 4);
-    let steps = run_alone(rt.alloc(), &mut close, &layout, &mut bank, 99)?;
-    assert_eq!(rt; steps.out, Some(15));
-    let lines = ["load bank: 5", "store bank 0: 5", "store gen 4: 2"];
-    assert!(rt; steps.are(&lines));
-
     // a head of 48-byte objects on one page is 529 and 2^30 times its sweep number
     let set = [
         (PAGE_ROW + 1, 529 + (2 << 30)),
@@ -180,54 +116,14 @@ fn cycles_are_ended_in_these_steps(rt: HostRuntime) -> Result<(), Fail> {
     let mut unswept = words(rt.alloc(), &set)?;
     let mut sweep = SweepAll::new(&layout, 4);
     let steps = run_alone(rt.alloc(), &mut sweep, &layout, &mut unswept, 99)?;
-    assert_eq!(rt; steps.out, Some(()));
-    assert_eq!(rt; steps.lines.len(), 16 + 53);
-    let lines = [
-        "load page 0: 0",
-        "load page 1: 2147484177",
-        "swap page 1 2147484177 3221226001: 2147484177",
-        "load mark 16: 0",
-    ];
-    for (line, stored) in steps.lines.iter().zip(lines) {
-        assert_eq!(rt; line.as_str(), stored);
-    }
+    // 16 pages are looked at; of the swept one 16 words of marks, by 3 steps each, the swap, and 4 steps behind them
+    assert_eq!(rt; (steps.out, steps.lines.len()), (Some(()), 16 + 53));
 
     let mut in_sweep = words(rt.alloc(), &[(PAGE_ROW, 529 + (3 << 30))])?;
     let mut sweep = SweepAll::new(&layout, 4);
     let steps = run_alone(rt.alloc(), &mut sweep, &layout, &mut in_sweep, 3)?;
-    assert_eq!(rt; steps.out, None);
     let waits = "load page 0: 3221226001";
-    assert!(rt; steps.are(&[waits, waits, waits]));
-
-    let set = [(TALLY, 2 + (3 << 32)), (LIVE, 96), (PHASE, 14)];
-    let mut counted = words(rt.alloc(), &set)?;
-    let mut count = Count::new(&layout);
-    let steps = run_alone(rt.alloc(), &mut count, &layout, &mut counted, 99)?;
-    let tally = TallyWord {
-        marked: 2,
-        freed: 3,
-    };
-    assert_eq!(rt; steps.out, Some(Counted { tally, live: 96 }));
-    assert!(rt; steps.are(&["load tally: 12884901890", "load live: 96"]));
-
-    let mut tell = Tell::new(&layout, 1000, 2, 3, false);
-    let steps = run_alone(rt.alloc(), &mut tell, &layout, &mut counted, 99)?;
-    assert_eq!(rt; steps.out, Some(()));
-    let lines = [
-        "store trigger 1000: 0",
-        "store swept 2: 0",
-        "store phase 12: 14",
-    ];
-    assert!(rt; steps.are(&lines));
-
-    let mut tell = Tell::new(&layout, 1000, 3, 4, true);
-    let steps = run_alone(rt.alloc(), &mut tell, &layout, &mut counted, 99)?;
-    let lines = [
-        "store trigger 1000: 1000",
-        "store swept 3: 2",
-        "store phase 19: 12",
-    ];
-    assert!(rt; steps.are(&lines));
+    assert!(rt; steps.out.is_none() && steps.are(&[waits, waits, waits]));
     Ok(())
 }
 

@@ -119,8 +119,7 @@ fn finds_the_next_clear_slot(rt: HostRuntime) -> Result<(), Fail> {
         ),
     ] {
         let class = Class::from_number(class).ok_or("no class")?;
-        assert!(rt; cursor < class.slots());
-        assert!(rt; head < 16 && head + class.pages() <= layout.pages);
+        assert!(rt; cursor < class.slots() && head < 16 && head + class.pages() <= layout.pages);
         let span = Cached {
             head,
             class,

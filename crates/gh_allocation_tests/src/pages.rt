@@ -72,7 +72,7 @@ fn writes_a_span(rt: HostRuntime) -> Result<(), Fail> {
         "store page 6 1362: 0",
         "store page 4 6450841425: 0",
     ];
-    assert!(rt; steps.are(&lines));
-    assert_eq!(rt; steps.out, Some(Some(4)));
+    let told = (steps.are(&lines), steps.out);
+    assert_eq!(rt; told, (true, Some(Some(4))));
     Ok(())
 }

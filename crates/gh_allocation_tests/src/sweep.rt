@@ -144,8 +144,8 @@ fn sweeps_as_listed(rt: HostRuntime) -> Result<(), Fail> {
         freed: 3,
         clear: true,
     };
-    assert_eq!(rt; steps.out, Some(SweepEnd::Swept(swept)));
-    assert_eq!(rt; get(&words, HEAP), 100_000 - 144);
+    let told = (steps.out, get(&words, HEAP));
+    assert_eq!(rt; told, (Some(SweepEnd::Swept(swept)), 100_000 - 144));
     Ok(())
 }
 
@@ -168,10 +168,13 @@ fn loses_a_span(rt: HostRuntime) -> Result<(), Fail> {
         let steps = sweep_page_3(rt.alloc(), &layout, &mut words)?;
         assert_eq!(rt; steps.lines.len(), 1);
         assert_eq!(rt; steps.lines[0].as_str(), line);
-        assert_eq!(rt; steps.out, Some(SweepEnd::Lost));
-        assert_eq!(rt; get(&words, PAGE), word);
-        assert_eq!(rt; get(&words, ALLOC), 7);
-        assert_eq!(rt; get(&words, MARK), 2);
+        let told = (
+            steps.out,
+            get(&words, PAGE),
+            get(&words, ALLOC),
+            get(&words, MARK),
+        );
+        assert_eq!(rt; told, (Some(SweepEnd::Lost), word, 7, 2));
     }
     Ok(())
 }

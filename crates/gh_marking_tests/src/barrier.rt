@@ -201,9 +201,8 @@ fn old_and_new_are_shaded(rt: HostRuntime) -> Result<(), Fail> {
         let mut words = words(rt.alloc(), &set)?;
         let mut write = WritePointer::new(&layout, at, pointer, Some(OWN));
         let steps = run_alone(rt.alloc(), &mut write, &layout, &mut words, 9)?;
-        assert_eq!(rt; steps.out, Some(()));
-        assert!(rt; steps.are(lines));
-        assert_eq!(rt; write.held(), Some(Held { index: 1, count }));
+        let told = (steps.out, steps.are(lines), write.held());
+        assert_eq!(rt; told, (Some(()), true, Some(Held { index: 1, count })));
     }
     Ok(())
 }
@@ -214,15 +213,18 @@ fn another_store_comes_between(rt: HostRuntime) -> Result<(), Fail> {
     let mut list = words(rt.alloc(), &set(OLD, OLD_WHITE, NEW_WHITE))?;
     let mut write = WritePointer::new(&layout, PointerCell::Field(70), None, Some(OWN));
     let steps = run_alone(rt.alloc(), &mut write, &layout, &mut list, 4)?;
-    assert_eq!(rt; steps.out, None);
-    assert!(rt; write.is_point());
+    let told = (steps.out, write.is_point());
+    assert_eq!(rt; told, (None, true));
     // another goroutine has stored what its own barrier has shaded; it is overwritten, and is not shaded again
     if list.len() == 60_000 {
         list[FIELD_ROW + 70] = NEW;
     }
     let steps = run_alone(rt.alloc(), &mut write, &layout, &mut list, 9)?;
-    assert_eq!(rt; steps.out, Some(()));
-    assert!(rt; steps.are(&["store field 70 0: 5185"]));
-    assert!(rt; !write.is_point());
+    let told = (
+        steps.out,
+        steps.are(&["store field 70 0: 5185"]),
+        write.is_point(),
+    );
+    assert_eq!(rt; told, (Some(()), true, false));
     Ok(())
 }

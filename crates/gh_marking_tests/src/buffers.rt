@@ -44,9 +44,8 @@ fn room_is_found(rt: HostRuntime) -> Result<(), Fail> {
         let mut words = words(rt.alloc(), set)?;
         let mut room = FindRoom::new(&layout, 1, held);
         let steps = run_alone(rt.alloc(), &mut room, &layout, &mut words, 99)?;
-        assert_eq!(rt; steps.out, Some(taken));
-        assert!(rt; steps.are(&lines));
-        assert_eq!(rt; room.held(), Some(taken));
+        let told = (steps.out, steps.are(&lines), room.held());
+        assert_eq!(rt; told, (Some(taken), true, Some(taken)));
     }
     // a swap that finds another word: the next buffer is tried
     let mut room = FindRoom::new(&layout, 1, None);
@@ -92,17 +91,18 @@ fn entries_are_taken(rt: HostRuntime) -> Result<(), Fail> {
         let mut found = words(rt.alloc(), &set)?;
         let mut entry = TakeEntry::new(&layout, 1, Some(held));
         let steps = run_alone(rt.alloc(), &mut entry, &layout, &mut found, 99)?;
-        assert_eq!(rt; steps.out, Some(Some(1025)));
-        assert!(rt; steps.are(lines));
-        assert_eq!(rt; entry.held(), Some(Held { index: 2, count: 3 }));
+        let told = (steps.out, steps.are(lines), entry.held());
+        assert_eq!(rt;
+            told,
+            (Some(Some(1025)), true, Some(Held { index: 2, count: 3 }))
+        );
     }
     // none has one: each is tried once
     let mut found = words(rt.alloc(), &[])?;
     let mut entry = TakeEntry::new(&layout, 1, Some(empty));
     let steps = run_alone(rt.alloc(), &mut entry, &layout, &mut found, 99)?;
-    assert_eq!(rt; steps.out, Some(None));
-    assert_eq!(rt; steps.lines.len(), 69);
-    assert_eq!(rt; entry.held(), Some(empty));
+    let told = (steps.out, steps.lines.len(), entry.held());
+    assert_eq!(rt; told, (Some(None), 69, Some(empty)));
     // what is found is read as a reference
     for (found, reference) in [
         (0, 1),
@@ -119,8 +119,11 @@ fn entries_are_taken(rt: HostRuntime) -> Result<(), Fail> {
     let mut held = words(rt.alloc(), &[(BUFFER_ROW + 2, 512)])?;
     let mut give = GiveBuffer::new(&layout, full);
     let steps = run_alone(rt.alloc(), &mut give, &layout, &mut held, 9)?;
-    assert_eq!(rt; steps.out, Some(()));
-    assert!(rt; steps.are(&["store buffer 2 4: 512"]));
-    assert_eq!(rt; give.held(), None);
+    let told = (
+        steps.out,
+        steps.are(&["store buffer 2 4: 512"]),
+        give.held(),
+    );
+    assert_eq!(rt; told, (Some(()), true, None));
     Ok(())
 }

@@ -9,45 +9,6 @@ use std::test::Fail;
 // The object at heap word 3 * 1024 + 62 has two words, whose bits are the last two of one bitmap word.
 
 #[test]
-fn numbers_are_passed_over(rt: HostRuntime) -> Result<(), Fail> {
-    let layout = Layout::new(16, 1, 1, 1, 1)?;
-    let own = Held { index: 1, count: 4 };
-    let set = [
-        (PAGE_ROW + 3, TWO),
-        (BITMAP_ROW + 48, 3),
-        (FIELD_ROW + 3134, 5),
-        (FIELD_ROW + 3135, 5),
-    ];
-    let mut words = words(rt.alloc(), &set)?;
-    let mut scan = Scan::new(&layout, 1, 3135, Some(own));
-    let steps = run_alone(rt.alloc(), &mut scan, &layout, &mut words, 99)?;
-    assert_eq!(rt; steps.out, Some(2));
-    let lines = ["load page 3: 2147484165", "load bitmap 48: 3"];
-    assert!(rt; steps.are(&lines));
-    assert_eq!(rt; scan.held(), Some(own));
-    Ok(())
-}
-
-#[test]
-fn nil_is_passed_over(rt: HostRuntime) -> Result<(), Fail> {
-    let layout = Layout::new(16, 1, 1, 1, 1)?;
-    let set = [(PAGE_ROW + 3, TWO), (BITMAP_ROW + 48, 3 << 62)];
-    let mut words = words(rt.alloc(), &set)?;
-    let mut scan = Scan::new(&layout, 1, 3135, None);
-    let steps = run_alone(rt.alloc(), &mut scan, &layout, &mut words, 99)?;
-    assert_eq!(rt; steps.out, Some(2));
-    let lines = [
-        "load page 3: 2147484165",
-        "load bitmap 48: 13835058055282163712",
-        "load field 3134: 0",
-        "load field 3135: 0",
-    ];
-    assert!(rt; steps.are(&lines));
-    assert_eq!(rt; scan.held(), None);
-    Ok(())
-}
-
-#[test]
 fn a_reference_is_shaded(rt: HostRuntime) -> Result<(), Fail> {
     let layout = Layout::new(16, 1, 1, 1, 1)?;
     let own = Held { index: 1, count: 4 };
@@ -71,8 +32,8 @@ fn a_reference_is_shaded(rt: HostRuntime) -> Result<(), Fail> {
         "or mark 16 1: 0",
         "store entry 257 1025: 0",
     ];
-    assert!(rt; steps.are(&lines));
-    assert_eq!(rt; scan.held(), Some(Held { index: 1, count: 5 }));
+    let told = (steps.are(&lines), scan.held());
+    assert_eq!(rt; told, (true, Some(Held { index: 1, count: 5 })));
     Ok(())
 }
 
@@ -105,8 +66,8 @@ fn the_bitmap_is_loaded_anew(rt: HostRuntime) -> Result<(), Fail> {
     let mut many = words(rt.alloc(), &[(PAGE_ROW + 2, LARGE)])?;
     let mut large = Scan::new(&layout, 1, 2049, None);
     let steps = run_alone(rt.alloc(), &mut large, &layout, &mut many, 99)?;
-    assert_eq!(rt; steps.out, Some(1024));
-    assert_eq!(rt; steps.lines.len(), 17);
+    let told = (steps.out, steps.lines.len());
+    assert_eq!(rt; told, (Some(1024), 17));
     assert_eq!(rt; steps.lines[16].as_str(), "load bitmap 47: 0");
     Ok(())
 }
@@ -142,7 +103,7 @@ fn room_is_found_for_shading(rt: HostRuntime) -> Result<(), Fail> {
         "swap buffer 1 0 512: 0",
         "store entry 253 1025: 0",
     ];
-    assert!(rt; steps.are(&lines));
-    assert_eq!(rt; scan.held(), Some(Held { index: 1, count: 1 }));
+    let told = (steps.are(&lines), scan.held());
+    assert_eq!(rt; told, (true, Some(Held { index: 1, count: 1 })));
     Ok(())
 }

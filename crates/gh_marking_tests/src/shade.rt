@@ -27,9 +27,8 @@ fn an_object_is_shaded(rt: HostRuntime) -> Result<(), Fail> {
         let mut words = words(rt.alloc(), &[(PAGE_ROW + 3, page), (MARK_ROW + 48, mark)])?;
         let mut shade = Shade::new(&layout, 3078, Some(own));
         let steps = run_alone(rt.alloc(), &mut shade, &layout, &mut words, 9)?;
-        assert_eq!(rt; steps.out, Some(Shaded::Done));
-        assert!(rt; steps.are(lines));
-        assert_eq!(rt; shade.held(), Some(held));
+        let told = (steps.out, steps.are(lines), shade.held());
+        assert_eq!(rt; told, (Some(Shaded::Done), true, Some(held)));
     }
     Ok(())
 }
@@ -49,16 +48,19 @@ fn room_is_wished_for(rt: HostRuntime) -> Result<(), Fail> {
         shade.told_room(Held { index: 0, count: 9 });
         let mut words = words(rt.alloc(), &[])?;
         let steps = run_alone(rt.alloc(), &mut shade, &layout, &mut words, 9)?;
-        assert_eq!(rt; steps.out, Some(Shaded::Done));
-        assert!(rt; steps.are(&["store entry 9 3078: 0"]));
+        let told = (steps.out, steps.are(&["store entry 9 3078: 0"]));
+        assert_eq!(rt; told, (Some(Shaded::Done), true));
         let more = Held {
             index: 0,
             count: 10,
         };
         assert_eq!(rt; shade.held(), Some(more));
     }
-    assert!(rt; Shade::of(&layout, Value::Nil, None).is_none());
-    assert!(rt; Shade::of(&layout, Value::Int(5), None).is_none());
-    assert!(rt; Shade::of(&layout, Value::Ref(5), None).is_some());
+    let made = [
+        Shade::of(&layout, Value::Nil, None).is_some(),
+        Shade::of(&layout, Value::Int(5), None).is_some(),
+        Shade::of(&layout, Value::Ref(5), None).is_some(),
+    ];
+    assert_eq!(rt; made, [false, false, true]);
     Ok(())
 }

@@ -20,17 +20,20 @@ fn a_stack_is_scanned(rt: HostRuntime) -> Result<(), Fail> {
     for (registers, wishes) in [(none, [].as_slice()), (some, [9, 5, 9, 1].as_slice())] {
         let mut scan = ScanStack::new(&layout, 2, 6, registers);
         for wish in wishes {
-            assert_eq!(rt; scan.wish(), Some(*wish));
-            assert!(rt; scan.waits());
+            let told = (scan.wish(), scan.waits());
+            assert_eq!(rt; told, (Some(*wish), true));
             scan.told_shaded();
         }
-        assert_eq!(rt; scan.wish(), None);
-        assert!(rt; scan.stores());
+        let told = (scan.wish(), scan.stores());
+        assert_eq!(rt; told, (None, true));
         let mut words = words(rt.alloc(), &[])?;
         let steps = run_alone(rt.alloc(), &mut scan, &layout, &mut words, 9)?;
-        assert_eq!(rt; steps.out, Some(()));
-        assert!(rt; steps.are(&["store scanned 2 6: 0"]));
-        assert!(rt; !scan.stores());
+        let told = (
+            steps.out,
+            steps.are(&["store scanned 2 6: 0"]),
+            scan.stores(),
+        );
+        assert_eq!(rt; told, (Some(()), true, false));
     }
     Ok(())
 }

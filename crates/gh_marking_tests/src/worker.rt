@@ -59,10 +59,13 @@ fn objects_and_globals_are_marked(rt: HostRuntime) -> Result<(), Fail> {
     let mut words = words(rt.alloc(), &set)?;
     let mut worker = Worker::new(&layout, 1);
     let steps = run_alone(rt.alloc(), &mut worker, &layout, &mut words, 86)?;
-    assert_eq!(rt; steps.out, None);
-    assert_eq!(rt; steps.lines.len(), 86);
-    assert!(rt; has_lines(&steps, &MARKED));
-    assert_eq!(rt; worker.marks(), 5);
+    let told = (
+        steps.out,
+        steps.lines.len(),
+        has_lines(&steps, &MARKED),
+        worker.marks(),
+    );
+    assert_eq!(rt; told, (None, 86, true, 5));
     assert_eq!(rt; worker.held(), Some(Held { index: 0, count: 0 }));
     Ok(())
 }
@@ -92,7 +95,7 @@ fn stops_and_leaves(rt: HostRuntime) -> Result<(), Fail> {
         (Req::Store(ACK + 1, u64::MAX), 2),
     ];
     assert_eq!(rt; tell(&mut worker, &steps), Some(()));
-    assert!(rt; worker.is_done());
-    assert_eq!(rt; (worker.marks(), worker.held()), (2, None));
+    let told = (worker.is_done(), (worker.marks(), worker.held()));
+    assert_eq!(rt; told, (true, (2, None)));
     Ok(())
 }

@@ -1,8 +1,8 @@
 //! A run of all actors of a heap, step by step: each step is compared with the lines of `lines`.
 //!
 //! The processor runs the statements `new r0 node` and `gc`, with a poll before each and one before its goroutine's end,
-//! and leaves. In each round it makes one step, then the worker, then the coordinator. The world of this script makes as
-//! many steps of each.
+//! and leaves. In each round it makes one step, then the worker, then the coordinator. `runs/cycle_steps.heap`
+//! is that script, and `runs/cycle_steps.steps` says at which of these steps something happens.
 
 ghost use Rattle.std.specs.Prelude.{◌≡◌, ◌+◌, ◌<◌, ◌≤◌, length, true, IsNone, IsTrue};
 ghost use Rattle.gh_base.specs.Cells.{length_of};
@@ -22,6 +22,21 @@ use std::test::Fail;
 
 const SCRIPT: &str =
     "procs 1\nworkers 1\narena 16\nglobals 1\ngogc 0\ntype node pn\ngo a\nnew r0 node\ngc\nend\n";
+
+/// What the operations of the processor are answered.
+const ANSWERS: [Option<Answer>; 7] = [
+    Some(Answer::Done),
+    Some(Answer::Ref(Name { g: 0, k: 0 })),
+    Some(Answer::Done),
+    Some(Answer::Swept),
+    Some(Answer::Done),
+    Some(Answer::Done),
+    Some(Answer::Done),
+];
+
+/// The processor leaves in round 442, the worker in round 757, and the coordinator is done in round 752: of each how many lines there are, how
+/// many steps it made, and how many of these were its lines.
+const COUNTS: [(usize, usize, usize); 3] = [(442, 442, 442), (757, 757, 757), (752, 752, 752)];
 
 /// The lines of each actor.
 #[derive(Drop)]
@@ -207,19 +222,24 @@ fn a_cycle_keeps_and_frees(rt: HostRuntime) -> Result<(), Fail> {
             coord: Column::of(alloc, &layout, COORDINATOR)?,
         },
     };
-    let made = Answer::Ref(Name { g: 0, k: 0 });
-    assert_eq!(rt; turn(&mut actors, Op::Poll), Some(Answer::Done));
-    assert_eq!(rt; turn(&mut actors, Op::New { g: 0, d: 0, t: 0 }), Some(made));
-    assert_eq!(rt; turn(&mut actors, Op::Poll), Some(Answer::Done));
-    assert_eq!(rt; turn(&mut actors, Op::Gc { g: 0 }), Some(Answer::Swept));
-    assert_eq!(rt; turn(&mut actors, Op::Poll), Some(Answer::Done));
-    assert_eq!(rt; turn(&mut actors, Op::End(0)), Some(Answer::Done));
-    assert_eq!(rt; turn(&mut actors, Op::Leave), Some(Answer::Done));
+    let told = [
+        turn(&mut actors, Op::Poll),
+        turn(&mut actors, Op::New { g: 0, d: 0, t: 0 }),
+        turn(&mut actors, Op::Poll),
+        turn(&mut actors, Op::Gc { g: 0 }),
+        turn(&mut actors, Op::Poll),
+        turn(&mut actors, Op::End(0)),
+        turn(&mut actors, Op::Leave),
+    ];
+    assert_eq!(rt; told, ANSWERS);
     rest(&mut actors);
-    // the processor leaves in round 442, the worker in round 757, and the coordinator is done in round 752
-    assert_eq!(rt; actors.columns.processor.counts(), (442, 442, 442));
-    assert_eq!(rt; actors.columns.worker.counts(), (757, 757, 757));
-    assert_eq!(rt; actors.columns.coord.counts(), (752, 752, 752));
+    let columns = &actors.columns;
+    let counts = [
+        columns.processor.counts(),
+        columns.worker.counts(),
+        columns.coord.counts(),
+    ];
+    assert_eq!(rt; counts, COUNTS);
     assert!(rt; actors.processor.has_left() && actors.worker.is_done() && !actors.leads);
     Ok(())
 }
