@@ -1,0 +1,54 @@
+use Rattle.std.proofs.Common.{ap, sym, ◌∙◌, subst, ℕ, ◌∷◌, [], None, Some, refl, arith}
+use Rattle.std.specs.Prelude.{IsNone}
+use Rattle.gh_table.specs.Runs.{Ran}
+use Rattle.gh_table.proofs.Running.{saw_before, saw_since, ran_more, has_ended, goes_more, none_of}
+use Rattle.gh_table.proofs.hand.Hand.operate.Goals as goal
+
+pub loop-step-preserved : goal.loop-step-preserved
+loop-step-preserved g c =
+    let inv = c.loop-step.invariant in
+    let was = c.loop-step.self in
+    let fn = c.args.self.now in
+    let now = c.go_on.new.self in
+    let n = c.go_on.ensures.step.0 in
+    let m0 = g.M.Operates.begins fn.machine c.args.op in
+    let step = subst (λ (a : ℕ). Ran g.M.Machine.asks g.M.Machine.goes a None was.machine was.seat.me now.machine now.seat.me (n ∷ [])) inv.0 c.go_on.ensures.step.1 in (
+      c.go_on.ensures.same.0 ∙ inv.0,
+      c.go_on.ensures.same.1 ∙ inv.1,
+      (λ es began. inv.2 es (saw_before g.K.Plan.setting now.actor was.seat.me now.seat.me c.go_on.ensures.saw es began)),
+      (
+        n ∷ inv.3.0,
+        ran_more g.M.Machine.asks g.M.Machine.goes fn.actor (Some c.args.op) n inv.3.0 m0 was.machine now.machine fn.seat.me was.seat.me now.seat.me inv.3.4 inv.3.1 step,
+        goes_more (record { layout = g.M.Machine.layout; busy = g.M.Machine.busy; asks = g.M.Machine.asks; goes = g.M.Machine.goes; gives = g.M.Machine.gives }) m0 was.machine n inv.3.0 g.met.M.Machine.ends inv.3.1.machine inv.3.2
+            (subst IsNone c.go_on.ensures.step.2 (none_of c.go_on.result c.in_default-go_on.not-Some)),
+        (let e = inv.3.3 in omega (arith, e)),
+        refl,
+      ),
+    )
+
+pub returns-in-Some-go_on-clause-ran : goal.returns-in-Some-go_on-clause-ran
+returns-in-Some-go_on-clause-ran g c =
+    let inv = c.loop-step.invariant in
+    let was = c.loop-step.self in
+    let fn = c.args.self.now in
+    let now = c.go_on.new.self in
+    let n = c.go_on.ensures.step.0 in
+    let m0 = g.M.Operates.begins fn.machine c.args.op in
+    let step = subst (λ (a : ℕ). Ran g.M.Machine.asks g.M.Machine.goes a None was.machine was.seat.me now.machine now.seat.me (n ∷ [])) inv.0 c.go_on.ensures.step.1 in (
+      n ∷ inv.3.0,
+      ran_more g.M.Machine.asks g.M.Machine.goes fn.actor (Some c.args.op) n inv.3.0 m0 was.machine now.machine fn.seat.me was.seat.me now.seat.me inv.3.4 inv.3.1 step,
+      ap (λ x. g.M.Machine.gives x n) (sym inv.3.1.machine) ∙ (sym c.go_on.ensures.step.2 ∙ c.in-Some-go_on.is),
+      (let e = inv.3.3 in let t = c.loop-step-test.true in omega (arith, e, t)),
+    )
+
+pub unreachable-requires : goal.unreachable-requires
+unreachable-requires g c =
+    let inv = c.loop-step.invariant in
+    let low = c.loop-step-test.false in
+    let high = c.loop-step.auto._step-end c.requires.some in
+    has_ended (record { layout = g.M.Machine.layout; busy = g.M.Machine.busy; asks = g.M.Machine.asks; goes = g.M.Machine.goes; gives = g.M.Machine.gives }) (g.M.Operates.begins c.args.self.now.machine c.args.op) inv.3.0 c.args.most inv.3.2 (let e = inv.3.3 in omega (arith, e, low, high)) c.requires.ends
+
+pub returns-in-Some-go_on-clause-saw : goal.returns-in-Some-go_on-clause-saw
+returns-in-Some-go_on-clause-saw g c =
+    let now = c.go_on.new.self in
+    saw_since g.K.Plan.setting now.actor c.args.self.now.seat.me c.loop-step.self.seat.me now.seat.me c.loop-step.invariant.2 c.go_on.ensures.saw
