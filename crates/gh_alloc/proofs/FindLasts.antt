@@ -1,8 +1,11 @@
 -- What the search knows lasts, whatever others do. Of the heap and of its routines it is known what their laws say.
-use Rattle.std.proofs.Common.{◌≡◌, ℕ, ◌+◌, ◌*◌, ◌<◌, ◌≤◌, Bool, true, Option, Some, None, sym, subst, ◌∙◌}
+use Rattle.std.proofs.Common.{◌≡◌, ℕ, ◌+◌, ◌*◌, ◌/◌, ◌<◌, ◌≤◌, Bool, true, false, cond, refl, ap, arith, Option, Some, None, sym, subst, ◌∙◌}
 use Rattle.gh_base.specs.declared.pack.SpanHead.{SpanHead}
 use Rattle.gh_class.specs.declared.class.SizeClass.TheVariants as size
-use Rattle.gh_class.specs.Classes.{pages_of}
+use Rattle.gh_base.specs.Rows.{row_bit}
+use Rattle.gh_class.specs.declared.class.SizeClass.{SizeClass}
+use Rattle.gh_class.specs.Classes.{pages_of, slot_of, slots_of}
+use Rattle.gh_heap.specs.Spans.{is_own_class, number_of, owner_at, owner_in}
 use Rattle.gh_heap.specs.Laws.{EachFactLasts, EachMoveKeepsItsOwn, EachRightFollows, WalksGoOn}
 use Rattle.gh_heap.specs.Moves.{Others}
 use Rattle.gh_heap.specs.Rights.{Arena, Good, View}
@@ -10,10 +13,14 @@ use Rattle.gh_cache.specs.Facts as searching
 use Rattle.gh_cache.specs.Listing as slots
 use Rattle.gh_central.specs.GiveFacts as giving
 use Rattle.gh_central.specs.PassFacts as passing
+use Rattle.gh_central.specs.declared.pass.PassStage.{PassStage}
+use Rattle.gh_central.specs.declared.pass.PassStage.TheVariants.{Look, Bits, Take}
+use Rattle.gh_central.specs.declared.pass.PassStage.TheVariants as pass_stage
+use Rattle.gh_central.specs.SweptPass as pass
 use Rattle.gh_pages.specs.Facts as carving
-use Rattle.gh_alloc.specs.Vocabulary.{SpanClass, Sought, Small, Large, CachedSpan, At, NoRoom, End, FindStage, Pass, Carve, Unlock}
+use Rattle.gh_alloc.specs.Vocabulary.{SpanClass, Sought, Small, Large, CachedSpan, Again, At, NoRoom, End, Ended, FindStage, Give, Lock, Pass, Carve, Slots, Unlock}
 use Rattle.gh_alloc.specs.Find.{Finding, span_at}
-use Rattle.gh_alloc.specs.FindFacts.{Caches, FactsAt, IsCached, Lasts, NoneLeft, OwnsLarge, Seeks, head_for, is_locked}
+use Rattle.gh_alloc.specs.FindFacts.{Caches, FactsAt, IsCached, Lasts, NoneLeft, OwnsLarge, Seeks, Weakens, head_for, is_locked}
 
 -- the laws that the search's stand on
 pub record Known : Type 0 where
@@ -41,8 +48,17 @@ cached-lasts z a v w c x g o y = record {
     held = o.holds x.head ∙ y.span.held;
   };
   few = y.few;
-  taken = λ j lt. o.bits (slots.slot_at (span_at c.class x) j) (y.taken j lt);
-}
+  taken = λ j lt. subst (λ (n : ℕ). row_bit w.alloc n ≡ 1) (slot j y.span.h.class y.span.class) (o.bits x.head j y.span.h y.span.head number (count j y.span.h.class y.span.class (let few = y.few in omega (arith, lt, few))) (subst (λ (n : ℕ). row_bit v.alloc n ≡ 1) (sym (slot j y.span.h.class y.span.class)) (y.taken j lt)));
+} where
+  -- the span that it holds is swept
+  number : y.span.h.number ≡ v.generation
+  number = (g.numbers x.head y.span.h y.span.head).owned (λ none. let is : owner_at v.page x.head ≡ y.span.h.owner = ap owner_in y.span.head in omega (arith, (g.owners a x.head).1 y.span.held, is, none))
+
+  slot : (j : ℕ) (f : SizeClass) → f ≡ size.Small c.class → 1024 * x.head + j * cond (is_own_class f) (1024 * y.span.h.pages) (slot_of (number_of f) / 8) ≡ slots.slot_at (span_at c.class x) j
+  slot j f e = rw (e) refl
+
+  count : (j : ℕ) (f : SizeClass) → f ≡ size.Small c.class → j < slots_of c.class → j < cond (is_own_class f) 1 (slots_of (number_of f))
+  count j f e lt = rw (e) lt
 
 caches-last : (z : Arena) (a : ℕ) (v w : View) (wanted : Sought) (cached : Option CachedSpan) → Good z v → Others z a v w → Caches a v wanted cached → Caches a w wanted cached
 caches-last z a v w (Small c) (Some x) g o y = cached-lasts z a v w c x g o y
@@ -50,9 +66,9 @@ caches-last z a v w (Small c) None g o y = y
 caches-last z a v w (Large pages noscan) (Some x) g o y = y
 caches-last z a v w (Large pages noscan) None g o y = y
 
-none-left-lasts : Known → (z : Arena) (a : ℕ) (v w : View) (f : Finding) (wanted : Sought) → Others z a v w → v.locked a ≡ true → NoneLeft z v f wanted → NoneLeft z w f wanted
-none-left-lasts k z a v w f (Small c) o l x = (k.last z a v w o).full_before (head_for f) z.layout.pages l x
-none-left-lasts k z a v w f (Large pages noscan) o l x = x
+none-left-lasts : Known → (z : Arena) (a : ℕ) (sure : Bool) (v w : View) (f : Finding) (wanted : Sought) → Others z a v w → v.locked a ≡ true → NoneLeft z sure v f wanted → NoneLeft z sure w f wanted
+none-left-lasts k z a sure v w f (Small c) o l x = λ is. (k.last z a v w o).full_before (head_for f) z.layout.pages l (x is)
+none-left-lasts k z a sure v w f (Large pages noscan) o l x = x
 
 large-lasts : (z : Arena) (a : ℕ) (v w : View) (f : Finding) (at : ℕ) → Others z a v w → OwnsLarge z a v f at → OwnsLarge z a w f at
 large-lasts z a v w f at o x = record {
@@ -75,22 +91,48 @@ large-lasts z a v w f at o x = record {
   head : Bool → (pages number : ℕ) → SpanHead
   head noscan pages number = record { class = size.Large; noscan = noscan; pages = pages; owner = a + 1; number = number }
 
-stage-lasts : Known → (z : Arena) (a : ℕ) (v w : View) (f : Finding) (q : FindStage) → Others z a v w → v.locked a ≡ is_locked q → FactsAt z a v f q → FactsAt z a w f q
-stage-lasts k z a v w f (Pass p) o l x = record { c = x.c; wanted = x.wanted; cached = x.cached; is = x.is; facts = k.pass.lasts z a v w p o l x.facts }
-stage-lasts k z a v w f (Carve m) o l x = record { cached = x.cached; none = none-left-lasts k z a v w f f.wanted o l x.none; is = x.is; facts = k.carve.lasts z a v w m o l x.facts }
-stage-lasts k z a v w f (Unlock (End (At y))) o l x = large-lasts z a v w f y o x
-stage-lasts k z a v w f (Unlock (End NoRoom)) o l x = record {
+stage-lasts : Known → (z : Arena) (a : ℕ) (sure : Bool) (v w : View) (f : Finding) (q : FindStage) → Others z a v w → v.locked a ≡ is_locked q → FactsAt z a sure v f q → FactsAt z a sure w f q
+stage-lasts k z a sure v w f (Pass p) o l x = record { c = x.c; wanted = x.wanted; cached = x.cached; is = x.is; facts = k.pass.lasts z a sure v w p o l x.facts }
+stage-lasts k z a sure v w f (Carve m) o l x = record { cached = x.cached; none = none-left-lasts k z a sure v w f f.wanted o l x.none; is = x.is; facts = k.carve.lasts z a v w m o l x.facts }
+stage-lasts k z a sure v w f (Unlock (End (At y))) o l x = large-lasts z a v w f y o x
+stage-lasts k z a sure v w f (Unlock (End NoRoom)) o l x = record {
   cached = x.cached;
-  none = none-left-lasts k z a v w f f.wanted o l x.none;
+  none = none-left-lasts k z a sure v w f f.wanted o l x.none;
   no_run = λ first le. let y = x.no_run first le in (y.0, y.1, (k.last z a v w o).taken (first + y.0) l y.2);
 }
-stage-lasts k z a v w f _ o l x = x
+stage-lasts k z a sure v w f _ o l x = x
 
 pub lasts : Known → Lasts
-lasts k z a v w rest f g o l x = record {
+lasts k z a sure v w rest f g o l x = record {
   seeks = seeks-last z a v w f o x.seeks;
   caches = caches-last z a v w f.wanted f.cached g o x.caches;
   apart = x.apart;
   own_apart = x.own_apart;
-  stage = stage-lasts k z a v w f f.stage o l x.stage;
+  stage = stage-lasts k z a sure v w f f.stage o l x.stage;
 }
+
+-- What is known in the last round is known in any.
+
+none-weakens : (z : Arena) (v : View) (f : Finding) (w : Sought) → NoneLeft z true v f w → NoneLeft z false v f w
+none-weakens z v f (Small c) x = λ is. absurd (cc is)
+none-weakens z v f (Large pages noscan) x = x
+
+pass-weakens : (z : Arena) (m : pass.Pass) (v : View) (q : PassStage) → passing.FactsAt z true m v q → passing.FactsAt z false m v q
+pass-weakens z m v (Look p) x = record { there = x.there; full = λ is. absurd (cc is) }
+pass-weakens z m v (Bits p h i) x = record { unowned = x.unowned; full = λ is. absurd (cc is); within = x.within; taken = x.taken }
+pass-weakens z m v (Take p h) x = x
+pass-weakens z m v pass_stage.Ended x = x
+
+stage-weakens : (z : Arena) (a : ℕ) (v : View) (f : Finding) (q : FindStage) → FactsAt z a true v f q → FactsAt z a false v f q
+stage-weakens z a v f (Pass p) x = record { c = x.c; wanted = x.wanted; cached = x.cached; is = x.is; facts = record { whose = x.facts.whose; stage = pass-weakens z p v p.stage x.facts.stage } }
+stage-weakens z a v f (Carve m) x = record { cached = x.cached; none = none-weakens z v f f.wanted x.none; is = x.is; facts = x.facts }
+stage-weakens z a v f (Unlock (End NoRoom)) x = record { cached = x.cached; none = none-weakens z v f f.wanted x.none; no_run = x.no_run }
+stage-weakens z a v f (Unlock (End (At y))) x = x
+stage-weakens z a v f (Unlock Again) x = x
+stage-weakens z a v f (Slots m) x = x
+stage-weakens z a v f Lock x = x
+stage-weakens z a v f (Give g) x = x
+stage-weakens z a v f Ended x = x
+
+pub weakens : Weakens
+weakens z a v rest f x = record { seeks = x.seeks; caches = x.caches; apart = x.apart; own_apart = x.own_apart; stage = stage-weakens z a v f f.stage x.stage }

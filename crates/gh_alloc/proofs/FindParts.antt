@@ -4,7 +4,7 @@ use Rattle.gh_class.specs.declared.class.SizeClass.TheVariants as size
 use Rattle.gh_cache.specs.Listing as slots
 use Rattle.gh_alloc.specs.FindFacts.{Caches, FactsAt, FindsNone, IsUsedUp, NoneIsTrue, Opens, head_of, is_locked, laying, own, with_span}
 use Rattle.gh_alloc.specs.FindSound.{IsSought}
-use Rattle.gh_alloc.proofs.Vocabulary.{Arena, begin, CachedSpan, End, Ended, Finding, FindStage, first_page, FitsClass, Good, IsFull, Lands, Large, Lock, May, Move, moved, NoRoom, refuses_at, Right, Row, row_bit, Shared, slot_count, slot_size, slot_words_of, Slots, slots_of, Small, Sought, span_at, span_for, SpanClass, SpanHead, Unlock, View, view, Words}
+use Rattle.gh_alloc.proofs.Vocabulary.{Arena, begin, CachedSpan, End, Ended, Finding, FindStage, first_page, FitsClass, Good, IsFull, Lands, Large, Lock, May, Move, moved, NoRoom, refuses_at, Right, Row, row_bit, Shared, slot_count, slot_size, slot_words_of, Slots, slots_of, Small, Sought, span_at, span_for, SpanHead, Unlock, View, view, Words}
 use Rattle.gh_alloc.proofs.FindLasts.{Known}
 
 -- What its own steps keep.
@@ -22,13 +22,13 @@ lands k z a s words Then So g f x = record { move = x.move; may = x.may; words_a
 
 -- Where it finds none.
 
-refuses-at : (z : Arena) (a : ℕ) (v : View) (f : Finding) (q : FindStage) → refuses_at q ≡ true → FactsAt z a v f q → FindsNone z v f × (q ≡ Unlock (End NoRoom))
-refuses-at z a v f (Unlock (End NoRoom)) e x = (x, refl)
-refuses-at z a v f Ended e x = absurd x
-refuses-at z a v f _ e x = absurd (cc)
+refuses-at : (z : Arena) (a : ℕ) (sure : Bool) (v : View) (f : Finding) (q : FindStage) → refuses_at q ≡ true → FactsAt z a sure v f q → FindsNone z sure v f × (q ≡ Unlock (End NoRoom))
+refuses-at z a sure v f (Unlock (End NoRoom)) e x = (x, refl)
+refuses-at z a sure v f Ended e x = absurd x
+refuses-at z a sure v f _ e x = absurd (cc)
 
 pub finds-none : NoneIsTrue
-finds-none z a v rest f x e = let y = refuses-at z a v f f.stage e x.stage in record { none = y.0; stage = y.1 }
+finds-none z a sure v rest f x e = let y = refuses-at z a sure v f f.stage e x.stage in record { none = y.0; stage = y.1 }
 
 -- Numbers.
 
@@ -80,9 +80,9 @@ used-up : (w v : Sought) (c d : Option CachedSpan) → w ≡ v → c ≡ d → I
 used-up w v c d e f x = subst (λ (u : Sought). IsUsedUp u c) (sym e) (subst (λ (b : Option CachedSpan). IsUsedUp v b) (sym f) x)
 
 -- a search begins with the cached span, or else with the lock
-module _ (z : Arena) (a : ℕ) (v : View) (rest : ℕ → Bool) (f : Finding) where
+module _ (z : Arena) (a : ℕ) (sure : Bool) (v : View) (rest : ℕ → Bool) (f : Finding) where
   abbrev pub Stands : FindStage → Type 0
-  Stands q = Right a v (is_locked q) (with_span (own q) (with_span (head_of f.cached) rest)) (laying q) × FactsAt z a v f q × OwnApart rest (own q)
+  Stands q = Right a v (is_locked q) (with_span (own q) (with_span (head_of f.cached) rest)) (laying q) × FactsAt z a sure v f q × OwnApart rest (own q)
 
   pub begins : (wanted : Sought) (cached : Option CachedSpan) → f.wanted ≡ wanted → f.cached ≡ cached → Caches a v wanted cached → Right a v false (with_span (head_of f.cached) rest) None → Stands (begin f.layout wanted cached)
   begins (Small c) (Some x) w y caches right = go (ltb x.cursor (slots_of c.class)) refl where
@@ -94,7 +94,7 @@ module _ (z : Arena) (a : ℕ) (v : View) (rest : ℕ → Bool) (f : Finding) wh
   begins (Large pages noscan) None w y caches right = (right, used-up f.wanted (Large pages noscan) f.cached None w y tt, none-own rest)
 
 pub opens : Opens
-opens z a v rest f seeks caches apart right e =
+opens z a sure v rest f seeks caches apart right e =
     let at : f.stage ≡ begin f.layout f.wanted f.cached = ap (λ (g : Finding). g.stage) e in
-    let x : Stands z a v rest f f.stage = subst (λ (q : FindStage). Stands z a v rest f q) (sym at) (begins z a v rest f f.wanted f.cached refl refl caches right) in
+    let x : Stands z a sure v rest f f.stage = subst (λ (q : FindStage). Stands z a sure v rest f q) (sym at) (begins z a sure v rest f f.wanted f.cached refl refl caches right) in
     (x.0, record { seeks = seeks; caches = caches; apart = apart; own_apart = x.2; stage = x.1 })

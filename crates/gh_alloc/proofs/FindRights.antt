@@ -5,6 +5,7 @@ use Rattle.gh_base.specs.declared.cell.Cell.TheVariants as cell
 use Rattle.gh_class.specs.declared.class.SizeClass.{SizeClass}
 use Rattle.gh_class.specs.declared.class.SizeClass.TheVariants as size
 use Rattle.gh_heap.specs.Moves.{Leaves}
+use Rattle.gh_heap.specs.Spans.{owner_at, owner_in}
 use Rattle.gh_cache.specs.Facts as searching
 use Rattle.gh_cache.specs.Listing as slots
 use Rattle.gh_cache.specs.declared.next_slot.SlotStage.TheVariants as slot_stage
@@ -14,14 +15,14 @@ use Rattle.gh_central.specs.SweptPass as pass
 use Rattle.gh_pages.specs.Facts as carving
 use Rattle.gh_pages.specs.Listing as carve
 use Rattle.gh_alloc.specs.FindFacts.{Caches, Comes, Facts, FactsAt, FindsByItsRights, IsCached, IsCachedFor, IsUsedUp, LooksAgain, NoneLeft, OwnsLarge, OwnStep, Seeks, carve_at, head_for, head_of, held, is_locked, laying, looks, own, pass_at, with_span}
-use Rattle.gh_alloc.proofs.Vocabulary.{after_carve, after_pass, after_slots, Again, Arena, asks, At, begin, CachedSpan, Carve, CarveStage, cell_of, End, Ended, eqb_tells, Finding, FindStage, first_page, FitsClass, FullBefore, Give, given_head, gives, goes, Good, IsSpan, KeepsObjects, Lands, Large, Layout, LeaveLock, Lock, locked_for, moved, NoRoom, number_of, owned_by, pages_of, Pass, put, Quiet, refuses_at, Right, searched, Shared, slot_found, Slots, slots_of, Small, Sought, span_at, span_for, SpanClass, SpanHead, spans_for, Steps, TakeLock, taken_for, Unlock, update, View, view}
-use Rattle.gh_alloc.proofs.FindLasts.{Known, lasts}
+use Rattle.gh_alloc.proofs.Vocabulary.{after_carve, after_pass, after_slots, Again, Arena, asks, At, begin, CachedSpan, Carve, CarveStage, cell_of, End, Ended, eqb_tells, Finding, FindStage, first_page, FitsClass, Give, given_head, gives, goes, Good, IsSpan, KeepsObjects, Lands, Large, Layout, LeaveLock, Lock, locked_for, moved, NoRoom, number_of, owned_by, pages_of, Pass, put, Quiet, refuses_at, Right, searched, Shared, slot_found, Slots, slots_of, Small, Sought, span_at, span_for, SpanClass, SpanHead, spans_for, Steps, TakeLock, taken_for, Unlock, update, View, view}
+use Rattle.gh_alloc.proofs.FindLasts.{Known, lasts, weakens}
 use Rattle.gh_alloc.proofs.FindWithin.{within}
 use Rattle.gh_alloc.proofs.FindParts.{Apart, begins, few-pages, finds-none, first-is, fits-class, is-apart, is-own, Kept, lands, none-apart, none-own, opens, OwnApart, Stands, taken-of}
 
 -- The own steps.
 
-module _ (k : Known) (z : Arena) (a : ℕ) (s : Shared) (rest : ℕ → Bool) (l : Layout) (e n : ℕ) where
+module _ (k : Known) (z : Arena) (a : ℕ) (sure : Bool) (s : Shared) (tidy : passing.IsSure z sure (view s)) (rest : ℕ → Bool) (l : Layout) (e n : ℕ) where
   abbrev now : View
   now = view s
 
@@ -40,10 +41,10 @@ module _ (k : Known) (z : Arena) (a : ℕ) (s : Shared) (rest : ℕ → Bool) (l
 
   -- it goes on
   abbrev On : Shared → Finding → Type 0
-  On t f = Right a (view t) (is_locked f.stage) (held f rest) (laying f.stage) × Facts z a (view t) rest f
+  On t f = Right a (view t) (is_locked f.stage) (held f rest) (laying f.stage) × Facts z a sure (view t) rest f
 
   abbrev Step : Finding → Type 0
-  Step f = Steps z a s (asks f) (λ t. KeepsObjects now (view t) × (looks f.stage ≡ true → Leaves now (view t)) × Comes z a (view t) rest (gives f (s.words (cell_of (asks f)))) (goes f (s.words (cell_of (asks f)))))
+  Step f = Steps z a s (asks f) (λ t. KeepsObjects now (view t) × (looks f.stage ≡ true → Leaves now (view t)) × Comes z a sure (view t) rest (gives f (s.words (cell_of (asks f)))) (goes f (s.words (cell_of (asks f)))))
 
   -- The cached span is searched.
 
@@ -65,9 +66,9 @@ module _ (k : Known) (z : Arena) (a : ℕ) (s : Shared) (rest : ℕ → Bool) (l
 
   slots-then : (c : SpanClass) (x : CachedSpan) (found : ℕ) (t : Shared) → Kept s t → Whose (Small c) → rest x.head ≡ false → x.cursor < slots_of c.class → Right a (view t) false (update rest x.head true) None →
       searching.Comes z a (view t) c.noscan (slots.gives (start c x) found) (slots.goes (start c x) found) →
-      Comes z a (view t) rest (slot_found (searched (at (Small c) (Some x) (Slots (start c x))) (slots.goes (start c x) found)) (slots.gives (start c x) found)) (after_slots (searched (at (Small c) (Some x) (Slots (start c x))) (slots.goes (start c x) found)) (slots.gives (start c x) found))
+      Comes z a sure (view t) rest (slot_found (searched (at (Small c) (Some x) (Slots (start c x))) (slots.goes (start c x) found)) (slots.gives (start c x) found)) (after_slots (searched (at (Small c) (Some x) (Slots (start c x))) (slots.goes (start c x) found)) (slots.gives (start c x) found))
   slots-then c x found t same whose apart left right r = go (slots.is_found (start c x) found) (ltb (x.cursor + 1) (slots_of c.class)) refl r where
-    go : (b d : Bool) → ltb (x.cursor + 1) (slots_of c.class) ≡ d → searching.Comes z a (view t) c.noscan (Given x b d) (After c x b d) → Comes z a (view t) rest (slot_found (From c x b d) (Given x b d)) (after_slots (From c x b d) (Given x b d))
+    go : (b d : Bool) → ltb (x.cursor + 1) (slots_of c.class) ≡ d → searching.Comes z a (view t) c.noscan (Given x b d) (After c x b d) → Comes z a sure (view t) rest (slot_found (From c x b d) (Given x b d)) (after_slots (From c x b d) (Given x b d))
     go true d is y = record {
       right = right;
       caches = record { span = y.span_held; few = omega (arith, left); taken = y.taken };
@@ -114,7 +115,7 @@ module _ (k : Known) (z : Arena) (a : ℕ) (s : Shared) (rest : ℕ → Bool) (l
     fits : FitsClass (carve.fresh_head (carve.opening l e n (span_for w)))
     fits = fits-class k (e + 1) n w whose.wanted
 
-  carve-then : (w : Sought) (t : Shared) → Good z now → Kept s t → Whose w → NoneLeft z (view t) (at w None Lock) w → Right a (view t) true rest None → On t (at w None (Carve (carve.opening l e n (span_for w))))
+  carve-then : (w : Sought) (t : Shared) → Good z now → Kept s t → Whose w → NoneLeft z sure (view t) (at w None Lock) w → Right a (view t) true rest None → On t (at w None (Carve (carve.opening l e n (span_for w))))
   carve-then (Small c) t good same whose none right = (
     right,
     record {
@@ -149,7 +150,7 @@ module _ (k : Known) (z : Arena) (a : ℕ) (s : Shared) (rest : ℕ → Bool) (l
         wanted = refl;
         cached = refl;
         is = refl;
-        facts = k.pass.opens z a (view t) (pass.opening l e n c) (record { layout = whose.layout; seat = whose.seat; few = whose.few; number = whose.number ∙ sym same; class = whose.wanted }) refl;
+        facts = k.pass.opens z a sure (view t) (pass.opening l e n c) (record { layout = whose.layout; seat = whose.seat; few = whose.few; number = whose.number ∙ sym same; class = whose.wanted }) refl;
       };
     },
   )
@@ -216,9 +217,12 @@ module _ (k : Known) (z : Arena) (a : ℕ) (s : Shared) (rest : ℕ → Bool) (l
         stage = refl;
         h = y.span.h;
         head = y.span.head;
-        same = head-is y.span.h c y.span.class y.span.noscan_is (small-pages y.span.h c.class (good.spans x.head y.span.h y.span.head).fits y.span.class) (good.numbers x.head y.span.h y.span.head ∙ sym whose.number);
+        same = head-is y.span.h c y.span.class y.span.noscan_is (small-pages y.span.h c.class (good.spans x.head y.span.h y.span.head).fits y.span.class) (number ∙ sym whose.number);
         held = y.span.held;
-      }))
+        number = number;
+      })) where
+        number : y.span.h.number ≡ now.generation
+        number = (good.numbers x.head y.span.h y.span.head).owned (λ none. let is : owner_at now.page x.head ≡ y.span.h.owner = ap owner_in y.span.head in omega (arith, (good.owners a x.head).1 y.span.held, is, none))
 
   -- A span is taken.
 
@@ -240,7 +244,7 @@ module _ (k : Known) (z : Arena) (a : ℕ) (s : Shared) (rest : ℕ → Bool) (l
     first : first_page (at (Small c) None m) (pages_of c.class) p ≡ p
     first = first-is (at (Small c) None m) (pages_of c.class) p (subst (λ (y : Layout). p + pages_of c.class ≤ y.pages) (sym whose.layout) (subst (λ (i : ℕ). p + i ≤ z.layout.pages) (small-pages h c.class span.fits class) span.within))
 
-  pass-then : (c : SpanClass) (t : Shared) (given : Option (Option ℕ)) (m : pass.Pass) → Good z now → Kept s t → Whose (Small c) → m ≡ pass_at (at (Small c) None Lock) c m.stage → passing.Comes z a now (view t) rest given m → On t (after_pass (at (Small c) None (Pass m)) given)
+  pass-then : (c : SpanClass) (t : Shared) (given : Option (Option ℕ)) (m : pass.Pass) → Good z now → Kept s t → Whose (Small c) → m ≡ pass_at (at (Small c) None Lock) c m.stage → passing.Comes z a sure now (view t) rest given m → On t (after_pass (at (Small c) None (Pass m)) given)
   pass-then c t None m good same whose is r = (
     r.1,
     record {
@@ -251,26 +255,26 @@ module _ (k : Known) (z : Arena) (a : ℕ) (s : Shared) (rest : ℕ → Bool) (l
       stage = record { c = c; wanted = refl; cached = refl; is = is; facts = r.2 };
     },
   )
-  pass-then c t (Some None) m good same whose is r = carve-then (Small c) t good same whose (subst (λ (y : pass.Pass). FullBefore (view t).page (view t).alloc (passing.sought y) z.layout.pages) is r.2) r.1
+  pass-then c t (Some None) m good same whose is r = carve-then (Small c) t good same whose (subst (λ (y : pass.Pass). passing.HasPassed sure (passing.sought y) (view t) z.layout.pages) is r.2) r.1
   pass-then c t (Some (Some p)) m good same whose is r =
       let y = subst (λ (y : pass.Pass). passing.IsTaken z a y.wanted (view t).page p) is r.2 in
       cached-then c p y.h (Pass m) t same whose y.span y.class y.noscan r.1 r.3
 
-  pass-leaves : (w : View) (given : Option (Option ℕ)) (m : pass.Pass) → passing.Comes z a now w rest given m → Leaves now w
+  pass-leaves : (w : View) (given : Option (Option ℕ)) (m : pass.Pass) → passing.Comes z a sure now w rest given m → Leaves now w
   pass-leaves w None m r = r.0
   pass-leaves w (Some None) m r = r.0
   pass-leaves w (Some (Some p)) m r = r.0
 
-  pass-own : (c : SpanClass) (m : pass.Pass) → Good z now → Whose (Small c) → m ≡ pass_at (at (Small c) None Lock) c m.stage → passing.Facts z a now m → Right a now true rest None → Step (at (Small c) None (Pass m))
+  pass-own : (c : SpanClass) (m : pass.Pass) → Good z now → Whose (Small c) → m ≡ pass_at (at (Small c) None Lock) c m.stage → passing.Facts z a sure now m → Right a now true rest None → Step (at (Small c) None (Pass m))
   pass-own c m good whose is facts right =
       let found : ℕ = s.words (cell_of (pass.asks m)) in
       lands k z a s _ _ _ good (λ t same r. (r.0, λ e. pass-leaves (view t) (pass.gives m found) (pass.goes m found) r.1, pass-then c t (pass.gives m found) (pass.goes m found) good same whose (ap (λ (y : pass.Pass). pass.at_stage y (pass.goes m found).stage) is) r.1))
-      (k.pass.own_step z a s rest m good right facts)
+      (k.pass.own_step z a sure s rest m good right tidy facts)
 
   -- Fresh pages.
 
-  none-goes : (w : Sought) (t : Shared) → Leaves now (view t) → NoneLeft z now (at w None Lock) w → NoneLeft z (view t) (at w None Lock) w
-  none-goes (Small c) t leaves x = k.walks.full now (view t) (head_for (at (Small c) None Lock)) z.layout.pages leaves x
+  none-goes : (w : Sought) (t : Shared) → Leaves now (view t) → NoneLeft z sure now (at w None Lock) w → NoneLeft z sure (view t) (at w None Lock) w
+  none-goes (Small c) t leaves x = λ is. k.walks.full now (view t) (head_for (at (Small c) None Lock)) z.layout.pages leaves (x is)
   none-goes (Large pages noscan) t leaves x = x
 
   large-then : (pages : ℕ) (noscan : Bool) (p : ℕ) (m : FindStage) (q : CarveStage) (t : Shared) → Kept s t → Whose (Large pages noscan) → carving.IsFresh z (view t) (carve_at (at (Large pages noscan) None Lock) q) p → Right a (view t) true (update rest p true) None → rest p ≡ false → On t (taken_for (at (Large pages noscan) None m) (Large pages noscan) p)
@@ -317,7 +321,7 @@ module _ (k : Known) (z : Arena) (a : ℕ) (s : Shared) (rest : ℕ → Bool) (l
   no-cache (Small c) v = tt
   no-cache (Large pages noscan) v = tt
 
-  carved : (w : Sought) (t : Shared) (given : Option (Option ℕ)) (m : carve.Carving) → Kept s t → Whose w → NoneLeft z now (at w None Lock) w → m ≡ carve_at (at w None Lock) m.stage → carving.Comes z a now (view t) rest given m → On t (after_carve (at w None (Carve m)) given)
+  carved : (w : Sought) (t : Shared) (given : Option (Option ℕ)) (m : carve.Carving) → Kept s t → Whose w → NoneLeft z sure now (at w None Lock) w → m ≡ carve_at (at w None Lock) m.stage → carving.Comes z a now (view t) rest given m → On t (after_carve (at w None (Carve m)) given)
   carved w t None m same whose none is r = (
     r.1,
     record {
@@ -345,7 +349,7 @@ module _ (k : Known) (z : Arena) (a : ℕ) (s : Shared) (rest : ℕ → Bool) (l
   carve-leaves v (Some None) m r = r.0
   carve-leaves v (Some (Some p)) m r = r.0
 
-  carve-own : (w : Sought) (m : carve.Carving) → Good z now → Whose w → NoneLeft z now (at w None Lock) w → m ≡ carve_at (at w None Lock) m.stage → carving.Facts z a now m → Right a now true rest (carving.laying m) → Step (at w None (Carve m))
+  carve-own : (w : Sought) (m : carve.Carving) → Good z now → Whose w → NoneLeft z sure now (at w None Lock) w → m ≡ carve_at (at w None Lock) m.stage → carving.Facts z a now m → Right a now true rest (carving.laying m) → Step (at w None (Carve m))
   carve-own w m good whose none is facts right =
       let found : ℕ = s.words (cell_of (carve.asks m)) in
       lands k z a s _ _ _ good (λ t same r. (r.0, λ e. carve-leaves (view t) (carve.gives m found) (carve.goes m found) r.1, carved w t (carve.gives m found) (carve.goes m found) same whose none (ap (λ (y : carve.Carving). carve.at_stage y (carve.goes m found).stage) is) r.1))
@@ -354,7 +358,7 @@ module _ (k : Known) (z : Arena) (a : ℕ) (s : Shared) (rest : ℕ → Bool) (l
   -- The lock is freed.
 
   lock-leaves : Leaves now (view (moved z a s LeaveLock))
-  lock-leaves = record { pages = λ p h e none. inl e; bits = λ x e. e }
+  lock-leaves = record { generation = refl; pages = λ p h e none. inl e; bits = λ p i h head swept lt e. e }
 
   again-own : (c : SpanClass) (x : CachedSpan) → Whose (Small c) → IsCached a now c x → rest x.head ≡ false → Right a now true (update rest x.head true) None → Step (at (Small c) (Some x) (Unlock Again))
   again-own c x whose y apart right = record {
@@ -382,8 +386,8 @@ module _ (k : Known) (z : Arena) (a : ℕ) (s : Shared) (rest : ℕ → Bool) (l
     caches : Caches a (view t) (Small c) (Some x)
     caches = caches-with (Small c) (Some x) 0 (update s.locked a false) y
 
-    begun : Stands z a (view t) rest (at (Small c) (Some x) (begin l (Small c) (Some x))) (begin l (Small c) (Some x))
-    begun = begins z a (view t) rest (at (Small c) (Some x) (begin l (Small c) (Some x))) (Small c) (Some x) refl refl caches (k.follow z a s true (update rest x.head true) None right).left
+    begun : Stands z a sure (view t) rest (at (Small c) (Some x) (begin l (Small c) (Some x))) (begin l (Small c) (Some x))
+    begun = begins z a sure (view t) rest (at (Small c) (Some x) (begin l (Small c) (Some x))) (Small c) (Some x) refl refl caches (k.follow z a s true (update rest x.head true) None right).left
 
   large-own : (pages : ℕ) (noscan : Bool) (y : ℕ) → OwnsLarge z a now (at (Large pages noscan) None (Unlock (End (At y)))) y → OwnApart rest (Some (y / 1024)) → Right a now true (update rest (y / 1024) true) None → Step (at (Large pages noscan) None (Unlock (End (At y))))
   large-own pages noscan y x apart right = record {
@@ -420,7 +424,7 @@ module _ (k : Known) (z : Arena) (a : ℕ) (s : Shared) (rest : ℕ → Bool) (l
   at-cached : (q : FindStage) (w : Sought) (c : Option CachedSpan) (x : SpanClass) (y : CachedSpan) → IsCachedFor (at w c q) x y → Own (Small x) (Some y) q → Own w c q
   at-cached q w c x y for own = subst (λ (v : Sought). Own v c q) (sym for.wanted) (subst (λ (d : Option CachedSpan). Own (Small x) d q) (sym for.cached) own)
 
-  own-at : (q : FindStage) (w : Sought) (c : Option CachedSpan) → FactsAt z a now (at w c q) q → refuses_at q ≡ false → Own w c q
+  own-at : (q : FindStage) (w : Sought) (c : Option CachedSpan) → FactsAt z a sure now (at w c q) q → refuses_at q ≡ false → Own w c q
   own-at (Slots m) w c x go = at-cached (Slots m) w c x.c x.k (record { wanted = x.for.wanted; cached = x.for.cached })
       (subst (λ (y : slots.Searching). Own (Small x.c) (Some x.k) (Slots y)) (sym x.is) (λ good whose y apart free right. slots-own x.c x.k good whose y (apart x.k refl) x.left right))
   own-at Lock w c x go = λ good whose y apart free right. lock-own w c good whose y apart x right
@@ -439,11 +443,11 @@ module _ (k : Known) (z : Arena) (a : ℕ) (s : Shared) (rest : ℕ → Bool) (l
   own-at Ended w c x go = absurd x
 
 again : Known → LooksAgain
-again k z a s rest f good seeks cached right = subst (λ (c : Option CachedSpan). On k z a s rest f.layout f.seat f.generation s (record { layout = f.layout; seat = f.seat; generation = f.generation; wanted = f.wanted; cached = c; stage = spans_for f f.wanted })) (sym cached)
-    (spans-then k z a s rest f.layout f.seat f.generation f.wanted s good refl (whose-of k z a s rest f.layout f.seat f.generation f.wanted f.cached f.stage seeks) right)
+again k z a sure s rest f good tidy seeks cached right = subst (λ (c : Option CachedSpan). On k z a sure s tidy rest f.layout f.seat f.generation s (record { layout = f.layout; seat = f.seat; generation = f.generation; wanted = f.wanted; cached = c; stage = spans_for f f.wanted })) (sym cached)
+    (spans-then k z a sure s tidy rest f.layout f.seat f.generation f.wanted s good refl (whose-of k z a sure s tidy rest f.layout f.seat f.generation f.wanted f.cached f.stage seeks) right)
 
 own-step : Known → OwnStep
-own-step k z a s rest f good right x go = own-at k z a s rest f.layout f.seat f.generation f.stage f.wanted f.cached x.stage go good (whose-of k z a s rest f.layout f.seat f.generation f.wanted f.cached f.stage x.seeks) x.caches x.apart x.own_apart right
+own-step k z a sure s rest f good tidy right x go = own-at k z a sure s tidy rest f.layout f.seat f.generation f.stage f.wanted f.cached x.stage go good (whose-of k z a sure s tidy rest f.layout f.seat f.generation f.wanted f.cached f.stage x.seeks) x.caches x.apart x.own_apart right
 
 pub finds_by_its_rights : Known → FindsByItsRights
-finds_by_its_rights k = record { opens = opens; again = again k; own_step = own-step k; within = within k; none = finds-none; lasts = lasts k }
+finds_by_its_rights k = record { opens = opens; again = again k; own_step = own-step k; within = within k; none = finds-none; lasts = lasts k; weakens = weakens }

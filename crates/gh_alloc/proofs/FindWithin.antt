@@ -1,5 +1,5 @@
 -- Each step of the search is on a word that there is: its routines' are, and the span that is given back lies in the arena.
-use Rattle.std.proofs.Common.{ℕ, Option, refl, sym, subst, arith}
+use Rattle.std.proofs.Common.{ℕ, Bool, Option, refl, sym, subst, arith}
 use Rattle.gh_base.specs.Cells.{InRange}
 use Rattle.gh_base.specs.Steps.{cell_of}
 use Rattle.gh_heap.specs.Rights.{Arena, Good, View}
@@ -10,11 +10,11 @@ use Rattle.gh_alloc.specs.Find.{Finding, asks, at_stage, span_at}
 use Rattle.gh_alloc.specs.FindFacts.{Caches, FactsAt, IsCached, IsCachedFor, Seeks, Within}
 use Rattle.gh_alloc.proofs.FindLasts.{Known}
 
-module _ (k : Known) (z : Arena) (a : ℕ) (v : View) (f : Finding) (good : Good z v) (seeks : Seeks z a v f) (caches : Caches a v f.wanted f.cached) where
+module _ (k : Known) (z : Arena) (a : ℕ) (sure : Bool) (v : View) (f : Finding) (good : Good z v) (seeks : Seeks z a v f) (caches : Caches a v f.wanted f.cached) where
   cached : (c : SpanClass) (x : CachedSpan) → IsCachedFor f c x → IsCached a v c x
   cached c x for = subst (λ (y : Option CachedSpan). Caches a v (Small c) y) for.cached (subst (λ (w : Sought). Caches a v w f.cached) for.wanted caches)
 
-  within-at : (q : FindStage) → FactsAt z a v f q → InRange z.layout (cell_of (asks (at_stage f q)))
+  within-at : (q : FindStage) → FactsAt z a sure v f q → InRange z.layout (cell_of (asks (at_stage f q)))
   within-at (Slots s) x =
       let y = cached x.c x.k x.for in
       let there = k.search.within z a v x.c.noscan (slots.opening f.layout (span_at x.c.class x.k)) (record { layout = seeks.layout; span = y.span; stage = refl; cursor = x.left; taken = y.taken }) in
@@ -24,10 +24,10 @@ module _ (k : Known) (z : Arena) (a : ℕ) (v : View) (f : Finding) (good : Good
       let y = cached x.c x.k x.for in
       let span = good.spans x.k.head y.span.h y.span.head in
       subst (λ (m : give.Giving). InRange z.layout (cell_of (give.asks m))) (sym x.is) (omega (arith, span.within, span.fits.some))
-  within-at (Pass p) x = k.pass.within z a v p good x.facts
+  within-at (Pass p) x = k.pass.within z a sure v p good x.facts
   within-at (Carve m) x = k.carve.within z a v m x.facts
   within-at (Unlock after) x = tt
   within-at Ended x = absurd x
 
 pub within : Known → Within
-within k z a v rest f good x = within-at k z a v f good x.seeks x.caches f.stage x.stage
+within k z a sure v rest f good x = within-at k z a sure v f good x.seeks x.caches f.stage x.stage

@@ -3,6 +3,7 @@ use Rattle.std.proofs.Common.{◌≡◌, ℕ, ◌+◌, ◌*◌, ◌/◌, ◌<◌
 use Rattle.gh_base.specs.declared.limits.TheConstants.{MOST_STATEMENTS}
 use Rattle.gh_base.specs.declared.pack.PageWord.TheVariants as page
 use Rattle.gh_class.specs.declared.class.SizeClass.TheVariants as size
+use Rattle.gh_heap.specs.Spans.{owner_at, owner_in}
 use Rattle.gh_model.specs.Ever.{field_count, next_name, same_name}
 use Rattle.gh_bitmap.specs.declared.set_pointers.SetStage.TheVariants as bits_stage
 use Rattle.gh_bitmap.specs.Facts as bits
@@ -11,7 +12,7 @@ use Rattle.gh_central.specs.GiveBack.{Giving}
 use Rattle.gh_central.specs.GiveFacts as giving
 use Rattle.gh_alloc.specs.declared.place.PlaceStage.TheVariants.{Give, Ended}
 use Rattle.gh_alloc.specs.Place.{asks, asks_at, at_stage, gives_at, goes}
-use Rattle.gh_alloc.specs.PlaceFacts.{Born, Changes, Comes, FactsAt, FieldsClear, Filled, For, GivesUp, IsItsSpan, Lasts, Made, Opens, OwnStep, PlacesByItsRights, Unmade, Within, base, held_by, setting}
+use Rattle.gh_alloc.specs.PlaceFacts.{Born, Changes, Comes, CountsAlone, FactsAt, FieldsClear, Filled, For, GivesUp, IsItsSpan, Lasts, Made, Opens, OwnStep, PlacesByItsRights, Unmade, Within, base, held_by, setting}
 use Rattle.gh_alloc.proofs.Vocabulary.{acts_at, Alloc, Arena, Birth, birth_word, bit, Bits, cell_of, Claims, Clear, ClearField, Count, EachRightFollows, eqb_tells, filled, Good, InRange, is_pointer, IsFull, landing, made, Make, Mark, May, moved, Name, Others, page_of, placed_at, PlaceStage, Placing, Quiet, Right, Row, row_bit, RowsAreWritten, Runs, SetBirth, SetStage, Shape, shape_at, Shared, size_class_of, slot_count, slot_size, SpanHead, Steps, TheHeapIsApart, update, View, view}
 
 pub record Known : Type 0 where
@@ -80,9 +81,10 @@ gives-last k z a v w p g o x = record {
     head = o.heads g.page x.back.h x.back.held x.back.head;
     same = x.back.same;
     held = o.holds g.page ∙ x.back.held;
+    number = x.back.number ∙ sym o.generation;
   };
   large = x.large;
-  full = λ i few. o.bits _ (x.full i few);
+  full = λ i few. o.bits g.page i x.back.h x.back.head x.back.number few (x.full i few);
   page = x.page;
 }
 
@@ -129,7 +131,7 @@ module _ (k : Known) (z : Arena) (a : ℕ) (s : Shared) (f : For) (held : ℕ �
 
   -- what the step at this stage comes to
   abbrev Goes : PlaceStage → Shared → Type 0
-  Goes q t = Changes z f (at_stage p q) (acts_at q) now (view t) × Comes z a (view t) f held (gives_at q) (goes (at_stage p q) (s.words (cell_of (asks (at_stage p q)))))
+  Goes q t = Changes z f (at_stage p q) (acts_at q) now (view t) × Comes z a (view t) f held (gives_at q) (goes (at_stage p q) (s.words (cell_of (asks (at_stage p q))))) × CountsAlone q s t
 
   abbrev Step : PlaceStage → Type 0
   Step q = Steps z a s (asks (at_stage p q)) (Goes q)
@@ -139,7 +141,7 @@ module _ (k : Known) (z : Arena) (a : ℕ) (s : Shared) (f : For) (held : ℕ �
     move = ClearField p.at p.slot i;
     may = (x.0.claim, x.1);
     words_are = refl;
-    after = ((refl, refl), go (ltb (i + 1) p.slot) refl);
+    after = ((refl, refl), go (ltb (i + 1) p.slot) refl, tt);
   } where
     t : Shared
     t = moved z a s (ClearField p.at p.slot i)
@@ -162,7 +164,7 @@ module _ (k : Known) (z : Arena) (a : ℕ) (s : Shared) (f : For) (held : ℕ �
     move = SetBirth p.at p.slot p.name;
     may = x.0.claim;
     words_are = refl;
-    after = ((refl, refl), (right-then, (unmade, born, refl, k.bits.opens z a (view t) (setting p (bits_stage.Clear (p.at / 64))) x.0.places.layout x.0.places.fits unmade.claim x.0.places.some refl)));
+    after = ((refl, refl), (right-then, (unmade, born, refl, k.bits.opens z a (view t) (setting p (bits_stage.Clear (p.at / 64))) x.0.places.layout x.0.places.fits unmade.claim x.0.places.some refl)), tt);
   } where
     t : Shared
     t = moved z a s (SetBirth p.at p.slot p.name)
@@ -190,7 +192,7 @@ module _ (k : Known) (z : Arena) (a : ℕ) (s : Shared) (f : For) (held : ℕ �
 
   bits-at : (q : SetStage) → Good z now → Right a now false held None → Unmade z a now f (base p) → Born now (base p) → bits.Facts z a now (setting p q) → Step (Bits (setting p q))
   bits-at q g right u born x =
-      landing z a s _ _ _ (λ t r. ((ap (λ (w : View). w.ever) r.0, ap (λ (w : View). w.place) r.0), bits-then q t u born r.0 r.1 (setter.is_busy (setter.goes_at (setting p q) q)) refl r.2))
+      landing z a s _ _ _ (λ t r. ((ap (λ (w : View). w.ever) r.0, ap (λ (w : View). w.place) r.0), bits-then q t u born r.0 r.1 (setter.is_busy (setter.goes_at (setting p q) q)) refl r.2, tt))
       (k.bits.own_step z a s false held None (setting p q) g right x)
 
   -- the mark is no word that a right guards
@@ -199,7 +201,7 @@ module _ (k : Known) (z : Arena) (a : ℕ) (s : Shared) (f : For) (held : ℕ �
     move = Quiet (asks_at p Mark);
     may = tt;
     words_are = refl;
-    after = ((refl, refl), (record { locked = right.locked; holds = right.holds; laying = right.laying; freeing = right.freeing }, (unmade-rows z a now f (base p) now.field now.birth now.bitmap x.0, record { fields = x.1.fields; birth = x.1.birth }, x.2)));
+    after = ((refl, refl), (record { locked = right.locked; holds = right.holds; laying = right.laying; freeing = right.freeing }, (unmade-rows z a now f (base p) now.field now.birth now.bitmap x.0, record { fields = x.1.fields; birth = x.1.birth }, x.2)), tt);
   }
 
   make : Good z now → Right a now false held None → Knows Alloc → Step Alloc
@@ -207,7 +209,7 @@ module _ (k : Known) (z : Arena) (a : ℕ) (s : Shared) (f : For) (held : ℕ �
     move = Make p.at f.g f.d f.t;
     may = may;
     words_are = refl;
-    after = ((refl, refl, u.name), go p.span refl);
+    after = ((refl, refl, u.name), go p.span refl, tt);
   } where
     u : Unmade z a now f (base p)
     u = x.0
@@ -275,6 +277,7 @@ module _ (k : Known) (z : Arena) (a : ℕ) (s : Shared) (f : For) (held : ℕ �
                 head = subst (λ (n : ℕ). page_of (now.page n) ≡ page.Head u.claim.h) own.0 u.claim.slot.span.head;
                 same = own.1;
                 held = subst (λ (n : ℕ). now.holds a n ≡ true) own.0 u.claim.held;
+                number = (g.numbers u.claim.p u.claim.h u.claim.slot.span.head).owned (λ none. let is : owner_at now.page u.claim.p ≡ u.claim.h.owner = ap owner_in u.claim.slot.span.head in omega (arith, (g.owners a u.claim.p).1 u.claim.held, is, none));
               };
               large = own.2;
               full = full (p.at / 1024) own.0 own.2;
@@ -291,11 +294,11 @@ module _ (k : Known) (z : Arena) (a : ℕ) (s : Shared) (f : For) (held : ℕ �
 
   give : (g : Giving) → Good z now → Right a now false held None → Knows (Give g) → Step (Give g)
   give g good right x =
-      landing z a s _ _ _ (λ t r. (r.0, give-then g t x r.0.0 r.0.1 r.1))
+      landing z a s _ _ _ (λ t r. (r.0, give-then g t x r.0.0 r.0.1 r.1, tt))
       (k.give.gives_large z a s false held None g good right x.1.back x.1.large x.1.full)
 
   count : Right a now false (held_by Count p.span (p.at / 1024) held) None → Knows Count → Step Count
-  count right x = record { move = Quiet (asks_at p Count); may = tt; words_are = refl; after = ((refl, refl), go p.span refl right) } where
+  count right x = record { move = Quiet (asks_at p Count); may = tt; words_are = refl; after = ((refl, refl), go p.span refl right, refl) } where
     t : Shared
     t = moved z a s (Quiet (asks_at p Count))
 

@@ -10,6 +10,7 @@ use Rattle.gh_alloc.specs.FindFacts as finding
 use Rattle.gh_alloc.specs.SearchFacts.{Comes, FactsAt, FindsNone, Frees, Has, Lasts, LooksAgain, LooksFirst, NoneIsTrue, Opens, OwnStep, Refuses, SeeksByItsRights, Within, reclaim_at}
 use Rattle.gh_alloc.proofs.Vocabulary.{after_carve, after_first, after_free, after_pass, Again, Arena, asks_at, At, at_stage, begin, CachedSpan, Carve, cell_of, EachFactLasts, EachMoveKeeps, EachMoveKeepsItsOwn, End, Ended, Finding, FindStage, First, Found, Free, frees_at, gives_at, goes_at, Good, InRange, IsSpan, IsVacant, KeepsObjects, Large, Layout, Lock, moved, NoRoom, Others, Pass, Reclaiming, reclaiming as begin_freeing, refuses, Right, SearchStage, Second, Seeking, Shared, Slots, slots_of, Small, Sought, SpanHead, spans_for, Steps, taken_for, TidyBefore, Unlock, View, view, WalksGoOn}
 use Rattle.gh_alloc.proofs.FindLasts.{seeks-last}
+use Rattle.gh_central.specs.ReclaimFacts.{AllSwept}
 
 pub record Known : Type 0 where
   pub last : EachFactLasts
@@ -67,34 +68,34 @@ looks-locked _ e = refl
 
 opens : Known → Opens
 opens k z a v rest q seeks caches apart right e =
-    let x = k.find.opens z a v rest q.find seeks caches apart right (ap (λ (p : Seeking). p.find) e) in
+    let x = k.find.opens z a false v rest q.find seeks caches apart right (ap (λ (p : Seeking). p.find) e) in
     let on : find.refuses q.find ≡ false = ap (λ (p : Seeking). find.refuses p.find) e ∙ begins-on q.find.layout q.find.wanted q.find.cached in
     subst (λ (p : SearchStage). Has a v rest (record { find = q.find; stage = p }) × FactsAt z a v rest q.find p) (sym (ap (λ (p : Seeking). p.stage) e)) (x.0, record { facts = x.1; on = on })
 
 -- What is known lasts.
 
 stage-lasts : Known → (z : Arena) (a : ℕ) (v w : View) (rest : ℕ → Bool) (f : Finding) (p : SearchStage) → Good z v → Others z a v w → Has a v rest (record { find = f; stage = p }) → FactsAt z a v rest f p → FactsAt z a w rest f p
-stage-lasts k z a v w rest f First g o right x = record { facts = k.find.lasts z a v w rest f g o right.locked x.facts; on = x.on }
+stage-lasts k z a v w rest f First g o right x = record { facts = k.find.lasts z a false v w rest f g o right.locked x.facts; on = x.on }
 stage-lasts k z a v w rest f (Free r) g o right x = record { seeks = seeks-last z a v w f o x.seeks; cached = x.cached; is = x.is; facts = k.free.lasts z a v w rest r g o right x.facts }
-stage-lasts k z a v w rest f Second g o right x = record { facts = k.find.lasts z a v w rest f g o right.locked x.facts; looks = x.looks; tidy = (k.last z a v w o).tidy_before z.layout.pages (right.locked ∙ looks-locked f.stage x.looks) x.tidy }
+stage-lasts k z a v w rest f Second g o right x = record { facts = k.find.lasts z a true v w rest f g o right.locked x.facts; looks = x.looks; tidy = (k.last z a v w o).tidy_before z.layout.pages (right.locked ∙ looks-locked f.stage x.looks) x.tidy }
 
 lasts : Known → Lasts
 lasts k z a v w rest q g o right x = stage-lasts k z a v w rest q.find q.stage g o right x
 
 -- Where it finds none.
 
-module _ (z : Arena) (v : View) (tidy : TidyBefore v.page v.alloc z.layout.pages) where
+module _ (z : Arena) (v : View) (tidy : TidyBefore v.page v.alloc v.generation z.layout.pages) where
   -- no span without an owner is vacant
   used : (p : ℕ) (h : SpanHead) → IsSpan z.layout.pages v.page p h → h.owner ≡ 0 → ¬ IsVacant v.alloc p h
-  used p h span none vacant = let x = tidy p h (omega (arith, span.within, span.fits.some)) span.head none in omega (arith, x.2, vacant x.0 x.1)
+  used p h span none vacant = let x = (tidy p h (omega (arith, span.within, span.fits.some)) span.head none).1 in omega (arith, x.2, vacant x.0 x.1)
 
-  no-room : (f : Finding) → finding.FindsNone z v f → FindsNone z v f
+  no-room : (f : Finding) → finding.FindsNone z true v f → FindsNone z v f
   no-room f x = record { none = x; tidy = tidy; run = λ first le. let d = x.no_run first le in (d.0, d.1, record { taken = d.2; used = λ p h span low high none. used p h span none }) }
 
 refuses-at : Known → (z : Arena) (a : ℕ) (v : View) (rest : ℕ → Bool) (f : Finding) (p : SearchStage) → FactsAt z a v rest f p → refuses (record { find = f; stage = p }) ≡ true → Refuses z v (record { find = f; stage = p })
 refuses-at k z a v rest f First x e = absurd (cc (e, x.on))
 refuses-at k z a v rest f (Free r) x e = absurd (cc)
-refuses-at k z a v rest f Second x e = let no = k.find.none z a v rest f x.facts e in record { none = no-room z v x.tidy f no.none; stage = refl; unlocks = no.stage }
+refuses-at k z a v rest f Second x e = let no = k.find.none z a true v rest f x.facts e in record { none = no-room z v x.tidy f no.none; stage = refl; unlocks = no.stage }
 
 finds-none : Known → NoneIsTrue
 finds-none k z a v rest q x e = refuses-at k z a v rest q.find q.stage x e
@@ -116,12 +117,12 @@ module _ (k : Known) (z : Arena) (a : ℕ) (s : Shared) (rest : ℕ → Bool) wh
   none-held w f cached stage right = subst (λ (c : Option CachedSpan). Right a w true (finding.with_span (finding.head_of c) rest) None) cached
       (subst (λ (q : FindStage). Right a w (finding.is_locked q) (finding.with_span (finding.own q) (finding.with_span (finding.head_of f.cached) rest)) (finding.laying q)) stage right)
 
-  first-then : (t : Shared) (f : Finding) (out : Option Found) → finding.Comes z a (view t) rest out f → Comes z a (view t) rest out (record { find = f; stage = after_first f })
+  first-then : (t : Shared) (f : Finding) (out : Option Found) → finding.Comes z a false (view t) rest out f → Comes z a (view t) rest out (record { find = f; stage = after_first f })
   first-then t f None c = go (find.refuses f) refl where
     go : (b : Bool) → find.refuses f ≡ b → Comes z a (view t) rest None (record { find = f; stage = cond b (Free (begin_freeing f)) First })
     go false e = (c.0, record { facts = c.1; on = e })
     go true e =
-        let no = k.find.none z a (view t) rest f c.1 e in (
+        let no = k.find.none z a false (view t) rest f c.1 e in (
           none-held (view t) f no.none.cached no.stage c.0,
           record {
             seeks = c.1.seeks;
@@ -136,7 +137,7 @@ module _ (k : Known) (z : Arena) (a : ℕ) (s : Shared) (rest : ℕ → Bool) wh
   first-own : (f : Finding) → Good z now → Has a now rest (record { find = f; stage = First }) → LooksFirst z a now rest f → Step f First
   first-own f g right x =
       let found : ℕ = s.words (cell_of (find.asks f)) in
-      let l = k.find.own_step z a s rest f g right x.facts x.on in
+      let l = k.find.own_step z a false s rest f g (λ is. absurd (cc is)) right x.facts x.on in
       record { move = l.move; may = l.may; words_are = l.words_are; after = (l.after.0, first-then (moved z a s l.move) (find.goes f found) (find.gives f found) l.after.2) }
 
   free-then : (t : Shared) (f : Finding) (r : Reclaiming) (out : Option (Unit {0})) → Good z (view t) → Kept t → finding.Seeks z a now f → f.cached ≡ None → r ≡ reclaim_at f r.stage → reclaiming.Comes z a now (view t) rest out r → Comes z a (view t) rest None (after_free f r out)
@@ -146,12 +147,12 @@ module _ (k : Known) (z : Arena) (a : ℕ) (s : Shared) (rest : ℕ → Bool) wh
 
     go : (out : Option (Unit {0})) → reclaiming.Comes z a now (view t) rest out r → Comes z a (view t) rest None (after_free f r out)
     go None c = (c.1, record { seeks = seeks-then; cached = cached; is = is; facts = c.2 })
-    go (Some u) c = let x = k.find.again z a t rest f g seeks-then cached c.1 in (x.0, record { facts = x.1; looks = spans-look f f.wanted; tidy = c.2 })
+    go (Some u) c = let x = k.find.again z a true t rest f g (λ is. c.2) seeks-then cached c.1 in (x.0, record { facts = x.1; looks = spans-look f f.wanted; tidy = c.2 })
 
-  free-own : (f : Finding) (r : Reclaiming) → Good z now → Has a now rest (record { find = f; stage = Free r }) → Frees z a now f r → Step f (Free r)
-  free-own f r g right x =
+  free-own : (f : Finding) (r : Reclaiming) → Good z now → AllSwept now → Has a now rest (record { find = f; stage = Free r }) → Frees z a now f r → Step f (Free r)
+  free-own f r g all right x =
       let found : ℕ = s.words (cell_of (reclaim.asks r)) in
-      let l = k.free.own_step z a s rest r g right x.facts in
+      let l = k.free.own_step z a s rest r g all right x.facts in
       record {
         move = l.move;
         may = l.may;
@@ -159,11 +160,11 @@ module _ (k : Known) (z : Arena) (a : ℕ) (s : Shared) (rest : ℕ → Bool) wh
         after = (l.after.0, free-then (moved z a s l.move) f (reclaim.goes r found) (reclaim.gives r found) (k.keep z a s l.move g l.may) (k.own z a s l.move g l.may).generation x.seeks x.cached (ap (λ (y : Reclaiming). reclaim.at_stage y (reclaim.goes r found).stage) x.is) l.after.1);
       }
 
-  second-then : (t : Shared) (f : Finding) (found : ℕ) (out : Option Found) → finding.looks f.stage ≡ true → TidyBefore (view t).page (view t).alloc z.layout.pages → finding.Comes z a (view t) rest out (find.goes f found) →
+  second-then : (t : Shared) (f : Finding) (found : ℕ) (out : Option Found) → finding.looks f.stage ≡ true → TidyBefore (view t).page (view t).alloc (view t).generation z.layout.pages → finding.Comes z a true (view t) rest out (find.goes f found) →
       Comes z a (view t) rest out (record { find = find.goes f found; stage = cond (frees_at f.stage) First Second })
   second-then t f found None looks tidy c = go (frees_at f.stage) refl where
     go : (b : Bool) → frees_at f.stage ≡ b → Comes z a (view t) rest None (record { find = find.goes f found; stage = cond b First Second })
-    go true e = (c.0, record { facts = c.1; on = unlocked-on f f.stage found e })
+    go true e = (c.0, record { facts = k.find.weakens z a (view t) rest (find.goes f found) c.1; on = unlocked-on f f.stage found e })
     go false e = (c.0, record { facts = c.1; looks = looks-on f f.stage found looks e; tidy = tidy })
   second-then t f found (Some (At x)) looks tidy c = c
   second-then t f found (Some NoRoom) looks tidy c = absurd c
@@ -171,7 +172,7 @@ module _ (k : Known) (z : Arena) (a : ℕ) (s : Shared) (rest : ℕ → Bool) wh
   second-own : (f : Finding) → Good z now → Has a now rest (record { find = f; stage = Second }) → LooksAgain z a now rest f → find.refuses f ≡ false → Step f Second
   second-own f g right x on =
       let found : ℕ = s.words (cell_of (find.asks f)) in
-      let l = k.find.own_step z a s rest f g right x.facts on in
+      let l = k.find.own_step z a true s rest f g (λ is. x.tidy) right x.facts on in
       record {
         move = l.move;
         may = l.may;
@@ -179,20 +180,20 @@ module _ (k : Known) (z : Arena) (a : ℕ) (s : Shared) (rest : ℕ → Bool) wh
         after = (l.after.0, second-then (moved z a s l.move) f found (find.gives f found) x.looks (k.walks.tidy now (view (moved z a s l.move)) z.layout.pages (l.after.1 x.looks) x.tidy) l.after.2);
       }
 
-  own-at : (f : Finding) (p : SearchStage) → Good z now → Has a now rest (record { find = f; stage = p }) → FactsAt z a now rest f p → refuses (record { find = f; stage = p }) ≡ false → Step f p
-  own-at f First g right x on = first-own f g right x
-  own-at f (Free r) g right x on = free-own f r g right x
-  own-at f Second g right x on = second-own f g right x on
+  own-at : (f : Finding) (p : SearchStage) → Good z now → AllSwept now → Has a now rest (record { find = f; stage = p }) → FactsAt z a now rest f p → refuses (record { find = f; stage = p }) ≡ false → Step f p
+  own-at f First g all right x on = first-own f g right x
+  own-at f (Free r) g all right x on = free-own f r g all right x
+  own-at f Second g all right x on = second-own f g right x on
 
 own : Known → OwnStep
-own k z a s rest q g right x on = own-at k z a s rest q.find q.stage g right x on
+own k z a s rest q g all right x on = own-at k z a s rest q.find q.stage g all right x on
 
 -- Its words.
 
 within-at : Known → (z : Arena) (a : ℕ) (v : View) (rest : ℕ → Bool) (f : Finding) (p : SearchStage) → Good z v → FactsAt z a v rest f p → InRange z.layout (cell_of (asks_at f p))
-within-at k z a v rest f First g x = k.find.within z a v rest f g x.facts
+within-at k z a v rest f First g x = k.find.within z a false v rest f g x.facts
 within-at k z a v rest f (Free r) g x = k.free.within z v r g x.facts
-within-at k z a v rest f Second g x = k.find.within z a v rest f g x.facts
+within-at k z a v rest f Second g x = k.find.within z a true v rest f g x.facts
 
 within : Known → Within
 within k z a v rest q g x = within-at k z a v rest q.find q.stage g x

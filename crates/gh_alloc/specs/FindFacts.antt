@@ -13,7 +13,7 @@ use Rattle.gh_pages.specs.Listing as carve
 use Rattle.gh_alloc.specs.Vocabulary.{SpanClass, Sought, Small, Large, CachedSpan, Found, At, NoRoom, Again, End, FindStage, Slots, Lock, Give, Pass, Carve, Unlock, Ended}
 use Rattle.gh_alloc.specs.Find.{Finding, asks, at_stage, given_head, gives, goes, opening, refuses, span_at, span_for, spans_for}
 use Rattle.gh_alloc.specs.FindSound.{IsSought}
-use Rattle.gh_alloc.specs.Vocabulary.{Arena, cell_of, Claims, FullBefore, Good, InRange, KeepsObjects, Laying, Leaves, Others, Right, Shared, slot_words_of, slots_of, SpanHead, Steps, update, View, view}
+use Rattle.gh_alloc.specs.Vocabulary.{Arena, cell_of, Claims, Good, InRange, KeepsObjects, Laying, Leaves, Others, Right, Shared, slot_words_of, slots_of, SpanHead, Steps, update, View, view}
 
 -- The cached span.
 
@@ -92,15 +92,15 @@ pub record Seeks (z : Arena) (a : ℕ) (v : View) (f : Finding) : Type 0 where
 abbrev pub head_for : Finding → SpanHead
 head_for f = record { class = (span_for f.wanted).class; noscan = (span_for f.wanted).noscan; pages = (span_for f.wanted).pages; owner = 0; number = f.generation }
 
--- each span of the span class that nobody owns is full; a large object has none
-abbrev pub NoneLeft : Arena → View → Finding → Sought → Type 0
-NoneLeft z v f (Small c) = FullBefore v.page v.alloc (head_for f) z.layout.pages
-NoneLeft z v f (Large pages noscan) = Unit {0}
+-- in the last round each span of the span class that nobody owns is swept and full; a large object has none
+abbrev pub NoneLeft : Arena → (sure : Bool) → View → Finding → Sought → Type 0
+NoneLeft z sure v f (Small c) = passing.HasPassed sure (head_for f) v z.layout.pages
+NoneLeft z sure v f (Large pages noscan) = Unit {0}
 
 -- there is no room: that, no span of the span class is cached, and no run of free pages fits
-pub record FindsNone (z : Arena) (v : View) (f : Finding) : Type 0 where
+pub record FindsNone (z : Arena) (sure : Bool) (v : View) (f : Finding) : Type 0 where
   pub cached : f.cached ≡ None
-  pub none : NoneLeft z v f f.wanted
+  pub none : NoneLeft z sure v f f.wanted
   pub no_run : carving.NoRun v.page (span_for f.wanted).pages z.layout.pages
 
 -- a slot of a fresh span for a large object
@@ -131,19 +131,19 @@ pub record InGive (f : Finding) (g : give.Giving) : Type 0 where
 abbrev pub pass_at : Finding → SpanClass → PassStage → pass.Pass
 pass_at f c q = record { layout = f.layout; seat = f.seat; generation = f.generation; wanted = c; stage = q }
 
-pub record InPass (z : Arena) (a : ℕ) (v : View) (f : Finding) (p : pass.Pass) : Type 0 where
+pub record InPass (z : Arena) (a : ℕ) (sure : Bool) (v : View) (f : Finding) (p : pass.Pass) : Type 0 where
   pub c : SpanClass
   pub wanted : f.wanted ≡ Small c
   pub cached : f.cached ≡ None
   pub is : p ≡ pass_at f c p.stage
-  pub facts : passing.Facts z a v p
+  pub facts : passing.Facts z a sure v p
 
 abbrev pub carve_at : Finding → CarveStage → carve.Carving
 carve_at f q = record { layout = f.layout; seat = f.seat; generation = f.generation; span = span_for f.wanted; stage = q }
 
-pub record InCarve (z : Arena) (a : ℕ) (v : View) (f : Finding) (m : carve.Carving) : Type 0 where
+pub record InCarve (z : Arena) (a : ℕ) (sure : Bool) (v : View) (f : Finding) (m : carve.Carving) : Type 0 where
   pub cached : f.cached ≡ None
-  pub none : NoneLeft z v f f.wanted
+  pub none : NoneLeft z sure v f f.wanted
   pub is : m ≡ carve_at f m.stage
   pub facts : carving.Facts z a v m
 
@@ -152,24 +152,24 @@ pub record InAgain (f : Finding) : Type 0 where
   pub k : CachedSpan
   pub for : IsCachedFor f c k
 
-abbrev pub FactsAt : Arena → (a : ℕ) → View → Finding → FindStage → Type 0
-FactsAt z a v f (Slots s) = InSlots f s
-FactsAt z a v f Lock = IsUsedUp f.wanted f.cached
-FactsAt z a v f (Give g) = InGive f g
-FactsAt z a v f (Pass p) = InPass z a v f p
-FactsAt z a v f (Carve m) = InCarve z a v f m
-FactsAt z a v f (Unlock Again) = InAgain f
-FactsAt z a v f (Unlock (End (At x))) = OwnsLarge z a v f x
-FactsAt z a v f (Unlock (End NoRoom)) = FindsNone z v f
-FactsAt z a v f Ended = ⊥
+abbrev pub FactsAt : Arena → (a : ℕ) → (sure : Bool) → View → Finding → FindStage → Type 0
+FactsAt z a sure v f (Slots s) = InSlots f s
+FactsAt z a sure v f Lock = IsUsedUp f.wanted f.cached
+FactsAt z a sure v f (Give g) = InGive f g
+FactsAt z a sure v f (Pass p) = InPass z a sure v f p
+FactsAt z a sure v f (Carve m) = InCarve z a sure v f m
+FactsAt z a sure v f (Unlock Again) = InAgain f
+FactsAt z a sure v f (Unlock (End (At x))) = OwnsLarge z a v f x
+FactsAt z a sure v f (Unlock (End NoRoom)) = FindsNone z sure v f
+FactsAt z a sure v f Ended = ⊥
 
 -- with what the seat holds beside the cached span and a large object's, neither of which is among it
-pub record Facts (z : Arena) (a : ℕ) (v : View) (rest : ℕ → Bool) (f : Finding) : Type 0 where
+pub record Facts (z : Arena) (a : ℕ) (sure : Bool) (v : View) (rest : ℕ → Bool) (f : Finding) : Type 0 where
   pub seeks : Seeks z a v f
   pub caches : Caches a v f.wanted f.cached
   pub apart : (k : CachedSpan) → f.cached ≡ Some k → rest k.head ≡ false
   pub own_apart : (p : ℕ) → own f.stage ≡ Some p → rest p ≡ false
-  pub stage : FactsAt z a v f f.stage
+  pub stage : FactsAt z a sure v f f.stage
 
 -- The slot that is found: of the cached span, or of a large object's own.
 
@@ -196,41 +196,45 @@ pub record HasFound (z : Arena) (a : ℕ) (v : View) (rest : ℕ → Bool) (f : 
   pub found : IsFound z a v f f.wanted f.cached x
 
 -- What a step comes to in w: the right that its seat has then; and the facts of the next stage, or the slot. A search that finds none ends by a step of who runs it.
-abbrev pub Comes : Arena → (a : ℕ) → (w : View) → (ℕ → Bool) → Option Found → Finding → Type 0
-Comes z a w rest None f = Right a w (is_locked f.stage) (held f rest) (laying f.stage) × Facts z a w rest f
-Comes z a w rest (Some (At x)) f = HasFound z a w rest f x
-Comes z a w rest (Some NoRoom) f = ⊥
+abbrev pub Comes : Arena → (a : ℕ) → (sure : Bool) → (w : View) → (ℕ → Bool) → Option Found → Finding → Type 0
+Comes z a sure w rest None f = Right a w (is_locked f.stage) (held f rest) (laying f.stage) × Facts z a sure w rest f
+Comes z a sure w rest (Some (At x)) f = HasFound z a w rest f x
+Comes z a sure w rest (Some NoRoom) f = ⊥
 
 -- begun with what is cached
 abbrev pub Opens : Type 0
-Opens = (z : Arena) (a : ℕ) (v : View) (rest : ℕ → Bool) (f : Finding) → Seeks z a v f → Caches a v f.wanted f.cached → ((k : CachedSpan) → f.cached ≡ Some k → rest k.head ≡ false) → Right a v false (with_span (head_of f.cached) rest) None →
-    f ≡ opening f.layout f.seat f.generation f.wanted f.cached → Right a v (is_locked f.stage) (held f rest) (laying f.stage) × Facts z a v rest f
+Opens = (z : Arena) (a : ℕ) (sure : Bool) (v : View) (rest : ℕ → Bool) (f : Finding) → Seeks z a v f → Caches a v f.wanted f.cached → ((k : CachedSpan) → f.cached ≡ Some k → rest k.head ≡ false) → Right a v false (with_span (head_of f.cached) rest) None →
+    f ≡ opening f.layout f.seat f.generation f.wanted f.cached → Right a v (is_locked f.stage) (held f rest) (laying f.stage) × Facts z a sure v rest f
 
 -- with the lock and nothing cached, a span is looked for once more
 abbrev pub LooksAgain : Type 0
-LooksAgain = (z : Arena) (a : ℕ) (s : Shared) (rest : ℕ → Bool) (f : Finding) → Good z (view s) → Seeks z a (view s) f → f.cached ≡ None → Right a (view s) true rest None →
-    Right a (view s) (is_locked (spans_for f f.wanted)) (held (at_stage f (spans_for f f.wanted)) rest) (laying (spans_for f f.wanted)) × Facts z a (view s) rest (at_stage f (spans_for f f.wanted))
+LooksAgain = (z : Arena) (a : ℕ) (sure : Bool) (s : Shared) (rest : ℕ → Bool) (f : Finding) → Good z (view s) → passing.IsSure z sure (view s) → Seeks z a (view s) f → f.cached ≡ None → Right a (view s) true rest None →
+    Right a (view s) (is_locked (spans_for f f.wanted)) (held (at_stage f (spans_for f f.wanted)) rest) (laying (spans_for f f.wanted)) × Facts z a sure (view s) rest (at_stage f (spans_for f f.wanted))
 
 -- a step of its own, short of the one that finds no room; and while it looks for a span, what that leaves to who runs it
 abbrev pub OwnStep : Type 0
-OwnStep = (z : Arena) (a : ℕ) (s : Shared) (rest : ℕ → Bool) (f : Finding) → Good z (view s) → Right a (view s) (is_locked f.stage) (held f rest) (laying f.stage) → Facts z a (view s) rest f → refuses f ≡ false →
-    Steps z a s (asks f) (λ t. KeepsObjects (view s) (view t) × (looks f.stage ≡ true → Leaves (view s) (view t)) × Comes z a (view t) rest (gives f (s.words (cell_of (asks f)))) (goes f (s.words (cell_of (asks f)))))
+OwnStep = (z : Arena) (a : ℕ) (sure : Bool) (s : Shared) (rest : ℕ → Bool) (f : Finding) → Good z (view s) → passing.IsSure z sure (view s) → Right a (view s) (is_locked f.stage) (held f rest) (laying f.stage) → Facts z a sure (view s) rest f → refuses f ≡ false →
+    Steps z a s (asks f) (λ t. KeepsObjects (view s) (view t) × (looks f.stage ≡ true → Leaves (view s) (view t)) × Comes z a sure (view t) rest (gives f (s.words (cell_of (asks f)))) (goes f (s.words (cell_of (asks f)))))
 
 -- each is on a word that there is
 abbrev pub Within : Type 0
-Within = (z : Arena) (a : ℕ) (v : View) (rest : ℕ → Bool) (f : Finding) → Good z v → Facts z a v rest f → InRange z.layout (cell_of (asks f))
+Within = (z : Arena) (a : ℕ) (sure : Bool) (v : View) (rest : ℕ → Bool) (f : Finding) → Good z v → Facts z a sure v rest f → InRange z.layout (cell_of (asks f))
 
 -- where it finds none there is no room, and it asks for the lock's word to be freed
-pub record Refuses (z : Arena) (v : View) (f : Finding) : Type 0 where
-  pub none : FindsNone z v f
+pub record Refuses (z : Arena) (sure : Bool) (v : View) (f : Finding) : Type 0 where
+  pub none : FindsNone z sure v f
   pub stage : f.stage ≡ Unlock (End NoRoom)
 
 abbrev pub NoneIsTrue : Type 0
-NoneIsTrue = (z : Arena) (a : ℕ) (v : View) (rest : ℕ → Bool) (f : Finding) → Facts z a v rest f → refuses f ≡ true → Refuses z v f
+NoneIsTrue = (z : Arena) (a : ℕ) (sure : Bool) (v : View) (rest : ℕ → Bool) (f : Finding) → Facts z a sure v rest f → refuses f ≡ true → Refuses z sure v f
 
 -- the steps of others
 abbrev pub Lasts : Type 0
-Lasts = (z : Arena) (a : ℕ) (v w : View) (rest : ℕ → Bool) (f : Finding) → Good z v → Others z a v w → v.locked a ≡ is_locked f.stage → Facts z a v rest f → Facts z a w rest f
+Lasts = (z : Arena) (a : ℕ) (sure : Bool) (v w : View) (rest : ℕ → Bool) (f : Finding) → Good z v → Others z a v w → v.locked a ≡ is_locked f.stage → Facts z a sure v rest f → Facts z a sure w rest f
+
+-- what is known in the last round is known in any
+abbrev pub Weakens : Type 0
+Weakens = (z : Arena) (a : ℕ) (v : View) (rest : ℕ → Bool) (f : Finding) → Facts z a true v rest f → Facts z a false v rest f
 
 pub record FindsByItsRights : Type 0 where
   pub opens : Opens
@@ -239,3 +243,4 @@ pub record FindsByItsRights : Type 0 where
   pub within : Within
   pub none : NoneIsTrue
   pub lasts : Lasts
+  pub weakens : Weakens

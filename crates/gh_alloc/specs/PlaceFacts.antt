@@ -119,13 +119,18 @@ abbrev pub Comes : Arena → (a : ℕ) → (w : View) → For → (ℕ → Bool)
 Comes z a w f held None p = Right a w false (held_in p held) None × Facts z a w f p
 Comes z a w f held (Some _) p = Right a w false (held_in p held) None × Made w p
 
+-- the step that counts the bytes changes words alone
+abbrev pub CountsAlone : PlaceStage → (s t : Shared) → Type 0
+CountsAlone Count s t = t ≡ record s { words = t.words }
+CountsAlone _ s t = Unit {0}
+
 abbrev pub Opens : Type 0
 Opens = (z : Arena) (a : ℕ) (v : View) (f : For) (p : Placing) → Unmade z a v f p → p.stage ≡ Clear 0 → Facts z a v f p
 
 -- a step of its own; it needs no lock
 abbrev pub OwnStep : Type 0
 OwnStep = (z : Arena) (a : ℕ) (s : Shared) (f : For) (held : ℕ → Bool) (p : Placing) → Good z (view s) → Right a (view s) false (held_in p held) None → Facts z a (view s) f p →
-    Steps z a s (asks p) (λ t. Changes z f p (acts p) (view s) (view t) × Comes z a (view t) f held (gives p (s.words (cell_of (asks p)))) (goes p (s.words (cell_of (asks p)))))
+    Steps z a s (asks p) (λ t. Changes z f p (acts p) (view s) (view t) × Comes z a (view t) f held (gives p (s.words (cell_of (asks p)))) (goes p (s.words (cell_of (asks p)))) × CountsAlone p.stage s t)
 
 -- it is on a word that there is
 abbrev pub Within : Type 0

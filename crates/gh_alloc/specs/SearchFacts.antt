@@ -55,13 +55,13 @@ pub record Frees (z : Arena) (a : ℕ) (v : View) (f : Finding) (r : Reclaiming)
 
 -- in the second search, in each span that nobody owns an object stands
 pub record LooksAgain (z : Arena) (a : ℕ) (v : View) (rest : ℕ → Bool) (f : Finding) : Type 0 where
-  pub facts : finding.Facts z a v rest f
+  pub facts : finding.Facts z a true v rest f
   pub looks : finding.looks f.stage ≡ true
-  pub tidy : TidyBefore v.page v.alloc z.layout.pages
+  pub tidy : TidyBefore v.page v.alloc v.generation z.layout.pages
 
 -- the first search goes on to the freeing where it would end with none
 pub record LooksFirst (z : Arena) (a : ℕ) (v : View) (rest : ℕ → Bool) (f : Finding) : Type 0 where
-  pub facts : finding.Facts z a v rest f
+  pub facts : finding.Facts z a false v rest f
   pub on : find.refuses f ≡ false
 
 abbrev pub FactsAt : Arena → (a : ℕ) → View → (ℕ → Bool) → Finding → SearchStage → Type 0
@@ -81,8 +81,8 @@ pub record IsTaken (z : Arena) (v : View) (q : ℕ) : Type 0 where
 
 -- No span of the span class is cached, each that nobody owns is full, and no run of pages fits, also if those of spans without an owner and an object are counted as free.
 pub record FindsNone (z : Arena) (v : View) (f : Finding) : Type 0 where
-  pub none : finding.FindsNone z v f
-  pub tidy : TidyBefore v.page v.alloc z.layout.pages
+  pub none : finding.FindsNone z true v f
+  pub tidy : TidyBefore v.page v.alloc v.generation z.layout.pages
   pub run : (first : ℕ) → first + (span_for f.wanted).pages ≤ z.layout.pages → (d : ℕ) × (d < (span_for f.wanted).pages) × IsTaken z v (first + d)
 
 -- The laws.
@@ -100,7 +100,7 @@ Opens = (z : Arena) (a : ℕ) (v : View) (rest : ℕ → Bool) (q : Seeking) →
 
 -- a step of its own, short of the one that finds no room
 abbrev pub OwnStep : Type 0
-OwnStep = (z : Arena) (a : ℕ) (s : Shared) (rest : ℕ → Bool) (q : Seeking) → Good z (view s) → Has a (view s) rest q → Facts z a (view s) rest q → refuses q ≡ false →
+OwnStep = (z : Arena) (a : ℕ) (s : Shared) (rest : ℕ → Bool) (q : Seeking) → Good z (view s) → reclaiming.AllSwept (view s) → Has a (view s) rest q → Facts z a (view s) rest q → refuses q ≡ false →
     Steps z a s (asks q) (λ t. KeepsObjects (view s) (view t) × Comes z a (view t) rest (gives q (s.words (cell_of (asks q)))) (goes q (s.words (cell_of (asks q)))))
 
 -- each is on a word that there is

@@ -1,19 +1,10 @@
 -- There is room for both objects, whatever is told: with an entry free shading never wishes for room, and it takes one at the most.
-use Rattle.std.proofs.Common.{◌≡◌, ◌≢◌, ℕ, zero, suc, ◌+◌, Bool, true, false, cond, Option, Some, None, refl, sym, ap, subst, ◌∙◌, arith}
+use Rattle.std.proofs.Common.{◌≡◌, ◌≢◌, ℕ, Bool, true, false, cond, Option, Some, None, refl, ap, arith}
 use Rattle.std.proofs.lemmas.Bool.Decides.{nat_tests}
 use Rattle.gh_base.specs.declared.held.Held.{Held}
-use Rattle.gh_shade.specs.declared.shade.Shaded.{Shaded}
 use Rattle.gh_shade.specs.declared.shade.Shaded.TheVariants.{Done, WantsRoom}
 use Rattle.gh_shade.specs.declared.shade.ShadeStage.{ShadeStage}
 use Rattle.gh_shade.specs.declared.shade.ShadeStage.TheVariants.{SetMark, WaitForRoom, Enter}
-use Rattle.gh_barrier.specs.declared.pointer_cell.PointerCell.{PointerCell}
-use Rattle.gh_barrier.specs.declared.write_pointer.WriteStage.{WriteStage}
-use Rattle.gh_barrier.specs.declared.write_pointer.WriteStage.TheVariants.{LoadOld, ShadeOld, ShadeNew, Store}
-use Rattle.gh_barrier.specs.declared.write_pointer.WriteStage.TheVariants as write
-use Rattle.gh_barrier.specs.Listing.{after_new, after_old, held_at, listing, opening, read_as, shades_new, shades_old, Writing}
-use Rattle.gh_barrier.specs.Listing as writing
-use Rattle.gh_base.specs.declared.layout.Layout.{Layout}
-use Rattle.gh_base.specs.Routines.{told}
 use Rattle.gh_shade.specs.Listing.{after_mark, gives, gives_at, gives_mark, goes, goes_at, has_place, is_whole, raised, Shading}
 use Rattle.gh_shade.specs.Sound.{HasPlace}
 use Rattle.gh_barrier.specs.Sound.{HasTwo}

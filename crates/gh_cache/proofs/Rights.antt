@@ -12,7 +12,7 @@ use Rattle.gh_class.specs.declared.class.SizeClass.TheVariants as size
 use Rattle.gh_heap.specs.Laws.{TheHeapIsApart}
 use Rattle.gh_heap.specs.Moves.{KeepsObjects, Others, Quiet, Steps}
 use Rattle.gh_heap.specs.Rights.{Arena, Good, Right, Shared, View, view}
-use Rattle.gh_heap.specs.Spans.{IsFull, IsSlotOf, Laying, slot_size}
+use Rattle.gh_heap.specs.Spans.{IsFull, IsSlotOf, Laying, is_own_class, number_of, owner_at, owner_in, slot_size}
 use Rattle.gh_cache.specs.Facts.{Comes, Facts, IsHeld, Lasts, OwnStep, SearchesByItsRights, TakenBelow, Within}
 use Rattle.gh_cache.proofs.Vocabulary.{alloc_word, asks, at_stage, bit_at, bit_at-lt, Cached, Ended, gives, gives_at, goes, goes_at, has_next, IsSizeClass, Layout, Look, passed, Searching, slot_at, slot_of, slot_words_of, slots_of, SlotStage}
 
@@ -35,8 +35,22 @@ lasts z a v w noscan m g o x = record {
   span = held-lasts z a v w m.span noscan g o x.span;
   stage = x.stage;
   cursor = x.cursor;
-  taken = λ j lt. o.bits (slot_at m.span j) (x.taken j lt);
-}
+  taken = λ j lt. still j (λ few. x.taken j lt) lt;
+} where
+  -- the span that it holds is swept
+  number : x.span.h.number ≡ v.generation
+  number = (g.numbers m.span.head x.span.h x.span.head).owned (λ none. let is : owner_at v.page m.span.head ≡ x.span.h.owner = ap owner_in x.span.head in omega (arith, (g.owners a m.span.head).1 x.span.held, is, none))
+
+  slot : (j : ℕ) (f : SizeClass) → f ≡ size.Small m.span.class → 1024 * m.span.head + j * cond (is_own_class f) (1024 * x.span.h.pages) (slot_of (number_of f) / 8) ≡ slot_at m.span j
+  slot j f e = rw (e) refl
+
+  count : (j : ℕ) (f : SizeClass) → f ≡ size.Small m.span.class → j < slots_of m.span.class → j < cond (is_own_class f) 1 (slots_of (number_of f))
+  count j f e lt = rw (e) lt
+
+  still : (j : ℕ) → (j < m.span.cursor → row_bit v.alloc (slot_at m.span j) ≡ 1) → j < m.span.cursor → row_bit w.alloc (slot_at m.span j) ≡ 1
+  still j taken lt =
+      let few = x.cursor in
+      subst (λ (n : ℕ). row_bit w.alloc n ≡ 1) (slot j x.span.h.class x.span.class) (o.bits m.span.head j x.span.h x.span.head number (count j x.span.h.class x.span.class (omega (arith, lt, few))) (subst (λ (n : ℕ). row_bit v.alloc n ≡ 1) (sym (slot j x.span.h.class x.span.class)) (taken lt)))
 
 module _ (k : Known) (z : Arena) (a : ℕ) (v : View) (noscan : Bool) (m : Searching) where
   -- a slot of the span

@@ -44,6 +44,7 @@ lasts z a v w g o x = record {
   head = o.heads g.page x.h x.held x.head;
   same = x.same;
   held = o.holds g.page ∙ x.held;
+  number = x.number ∙ sym o.generation;
 }
 
 pub gives_by_its_rights : Known → GivesByItsRights

@@ -10,7 +10,7 @@ use Rattle.gh_base.specs.Packing.{FitsHead, head_word, PackedWordsAreReadBack, p
 use Rattle.gh_base.specs.Rows.{CellsAreTold}
 use Rattle.gh_central.specs.GiveBack as giving
 use Rattle.gh_central.specs.Owning.{ChangesTheOwner}
-use Rattle.gh_central.specs.SweptPass.{asks, owned_by}
+use Rattle.gh_central.specs.SweptPass.{owned_by}
 
 module _ (packed : PackedWordsAreReadBack) (told : CellsAreTold) where
   changes : (page : ℕ) (h : SpanHead) (owner : ℕ) (words : Words) → FitsHead h → owner < 2 ^ 8 → ChangesTheOwner page h owner (Store (Page page) (head_word (owned_by owner h))) words

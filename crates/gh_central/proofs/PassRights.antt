@@ -3,10 +3,11 @@ use Rattle.std.proofs.Common.{◌≡◌, ◌≢◌, ℕ, ◌+◌, ◌*◌, ◌/�
 use Rattle.gh_base.specs.declared.cell.Ask.TheVariants as ask
 use Rattle.gh_base.specs.declared.cell.Cell.TheVariants as cell
 use Rattle.gh_base.specs.declared.pack.PageWord.TheVariants as page
-use Rattle.gh_central.proofs.Vocabulary.{after_page, alloc_word, Arena, asks, at_stage, beq, bit_at, bit_at-lt, Bits, cell_of, EachFactLasts, EachMoveKeeps, EachOwnMoveLeaves, EachRightFollows, effect, Ended, eqb_tells, FullBefore, given, gives, goes, goes_at, Good, head_word, InRange, is_busy, is_small, is_wanted, IsFull, IsSpan, KeepsObjects, lacks_at, Large, Laying, Layout, Leaves, Look, look_from, MayPass, mod-eq_of_lt, mod-lt, moved, Others, Own, owned_by, owner_at, owner_in, PackedWordsAreReadBack, page_of, PageWord, Pass, PassStage, Quiet, Right, row_bit, Shared, SizeClass, slot_count, slot_of, slot_size, slot_words_of, slots_of, Small, SpanHead, Steps, Take, TheHeapIsApart, update, View, view}
+use Rattle.gh_central.proofs.Vocabulary.{after_page, alloc_word, Arena, asks, at_stage, beq, bit_at, bit_at-lt, Bits, cell_of, EachFactLasts, EachMoveKeeps, EachOwnMoveLeaves, EachRightFollows, effect, Ended, eqb_tells, given, gives, goes, goes_at, Good, head_word, InRange, is_busy, is_small, is_wanted, IsFull, IsSpan, KeepsObjects, lacks_at, Large, Laying, Layout, Leaves, Look, look_from, MayPass, mod-eq_of_lt, mod-lt, moved, Others, Own, owned_by, owner_at, owner_in, PackedWordsAreReadBack, page_of, PageWord, Pass, PassStage, Quiet, Right, row_bit, Shared, SizeClass, slot_count, slot_of, slot_size, slot_words_of, slots_of, Small, SpanHead, Steps, Take, TheHeapIsApart, update, View, view}
 use Rattle.gh_central.proofs.Heads.{past-page, past-span}
-use Rattle.gh_central.specs.PassFacts.{Comes, Facts, FactsAt, IsUnowned, Lasts, LooksAt, LooksInto, Opens, OwnStep, Passes, PassesByItsRights, TakenBelow, Within, sought}
+use Rattle.gh_central.specs.PassFacts.{Comes, Facts, FactsAt, HasPassed, IsSure, IsUnowned, Lasts, LooksAt, LooksInto, Opens, OwnStep, Passes, PassesByItsRights, TakenBelow, Within, sought}
 use Rattle.gh_central.specs.Slots.{TheTestSaysIt}
+use Rattle.gh_heap.specs.Spans.{is_own_class, number_of}
 
 pub record Known : Type 0 where
   pub packed : PackedWordsAreReadBack
@@ -36,33 +37,38 @@ whose-of : (z : Arena) (a : ℕ) (v : View) (m : Pass) (q : PassStage) → Passe
 whose-of z a v m q h = record { layout = h.layout; seat = h.seat; few = h.few; number = h.number; class = h.class }
 
 pub opens : Opens
-opens z a v m whose stage = record {
+opens z a sure v m whose stage = record {
   whose = whose;
-  stage = subst (λ (q : PassStage). FactsAt z m v q) (sym stage) (record { there = omega (arith, z.layout.limits.pages_fit.0); full = λ q h lt. absurd (omega arith) });
+  stage = subst (λ (q : PassStage). FactsAt z sure m v q) (sym stage) (record { there = omega (arith, z.layout.limits.pages_fit.0); full = λ is q h lt. absurd (omega arith) });
 }
 
 -- What is known lasts.
 
-unowned-lasts : Known → (z : Arena) (a : ℕ) (v w : View) (m : Pass) (p : ℕ) (h : SpanHead) → Others z a v w → v.locked a ≡ true → IsUnowned m.wanted v.page p h → IsUnowned m.wanted w.page p h
-unowned-lasts k z a v w m p h o l x = record { head = (k.last z a v w o).head p h l (λ e. small-large m.wanted.class (sym x.class ∙ e)) x.head; class = x.class; noscan = x.noscan; owner = x.owner } where
+unowned-lasts : Known → (z : Arena) (a : ℕ) (v w : View) (m : Pass) (p : ℕ) (h : SpanHead) → Others z a v w → v.locked a ≡ true → IsUnowned m.wanted v.page v.generation p h → IsUnowned m.wanted w.page w.generation p h
+unowned-lasts k z a v w m p h o l x = record { head = (k.last z a v w o).head p h l (λ e. small-large m.wanted.class (sym x.class ∙ e)) x.number x.head; class = x.class; noscan = x.noscan; owner = x.owner; number = x.number ∙ sym o.generation } where
   small-large : (c : ℕ) → Small c ≡ Large → ⊥
   small-large c e = cc
 
-stage-lasts : Known → (z : Arena) (a : ℕ) (v w : View) (m : Pass) (q : PassStage) → Others z a v w → v.locked a ≡ true → FactsAt z m v q → FactsAt z m w q
-stage-lasts k z a v w m (Look p) o l x = record { there = x.there; full = (k.last z a v w o).full_before (sought m) p l x.full }
-stage-lasts k z a v w m (Bits p h i) o l x = record {
+stage-lasts : Known → (z : Arena) (a : ℕ) (sure : Bool) (v w : View) (m : Pass) (q : PassStage) → Others z a v w → v.locked a ≡ true → FactsAt z sure m v q → FactsAt z sure m w q
+stage-lasts k z a sure v w m (Look p) o l x = record { there = x.there; full = λ is. (k.last z a v w o).full_before (sought m) p l (x.full is) }
+stage-lasts k z a sure v w m (Bits p h i) o l x = record {
   unowned = unowned-lasts k z a v w m p h o l x.unowned;
-  full = (k.last z a v w o).full_before (sought m) p l x.full;
+  full = λ is. (k.last z a v w o).full_before (sought m) p l (x.full is);
   within = x.within;
-  taken = λ j few below. o.bits (1024 * p + j * slot_words_of m.wanted.class) (x.taken j few below);
-}
-stage-lasts k z a v w m (Take p h) o l x = unowned-lasts k z a v w m p h o l x
-stage-lasts k z a v w m Ended o l x = x
+  taken = λ j few below. subst (λ (n : ℕ). row_bit w.alloc n ≡ 1) (slot j h.class x.unowned.class) (o.bits p j h x.unowned.head x.unowned.number (count j h.class x.unowned.class few) (subst (λ (n : ℕ). row_bit v.alloc n ≡ 1) (sym (slot j h.class x.unowned.class)) (x.taken j few below)));
+} where
+  slot : (j : ℕ) (f : SizeClass) → f ≡ Small m.wanted.class → 1024 * p + j * cond (is_own_class f) (1024 * h.pages) (slot_of (number_of f) / 8) ≡ 1024 * p + j * slot_words_of m.wanted.class
+  slot j f e = rw (e) refl
+
+  count : (j : ℕ) (f : SizeClass) → f ≡ Small m.wanted.class → j < slots_of m.wanted.class → j < cond (is_own_class f) 1 (slots_of (number_of f))
+  count j f e lt = rw (e) lt
+stage-lasts k z a sure v w m (Take p h) o l x = unowned-lasts k z a v w m p h o l x
+stage-lasts k z a sure v w m Ended o l x = x
 
 pub lasts : Known → Lasts
-lasts k z a v w m o l x = record {
+lasts k z a sure v w m o l x = record {
   whose = record { layout = x.whose.layout; seat = x.whose.seat; few = x.whose.few; number = x.whose.number ∙ sym o.generation; class = x.whose.class };
-  stage = stage-lasts k z a v w m m.stage o l x.stage;
+  stage = stage-lasts k z a sure v w m m.stage o l x.stage;
 }
 
 -- The test of a head.
@@ -86,29 +92,29 @@ small-is : (c : ℕ) (class : SizeClass) → is_small c class ≡ true → class
 small-is c (Small d) e = ap Small (eqb-true d c e)
 small-is c Large e = absurd (cc)
 
-wanted-is : (m : Pass) (h : SpanHead) → is_wanted m h ≡ true → (h.class ≡ Small m.wanted.class) × (h.noscan ≡ m.wanted.noscan) × (h.owner ≡ 0)
+wanted-is : (m : Pass) (h : SpanHead) → is_wanted m h ≡ true → (h.class ≡ Small m.wanted.class) × (h.noscan ≡ m.wanted.noscan) × (h.owner ≡ 0) × (h.number ≡ m.generation)
 wanted-is m h e =
     let x = both ((is_small m.wanted.class h.class && beq h.noscan m.wanted.noscan) && eqb h.owner 0) (eqb h.number m.generation) e in
     let y = both (is_small m.wanted.class h.class && beq h.noscan m.wanted.noscan) (eqb h.owner 0) x.0 in
     let w = both (is_small m.wanted.class h.class) (beq h.noscan m.wanted.noscan) y.0 in
-    (small-is m.wanted.class h.class w.0, beq-true h.noscan m.wanted.noscan w.1, eqb-true h.owner 0 y.1)
+    (small-is m.wanted.class h.class w.0, beq-true h.noscan m.wanted.noscan w.1, eqb-true h.owner 0 y.1, eqb-true h.number m.generation x.1)
 
 wanted-test : (m : Pass) (h : SpanHead) → h.class ≡ Small m.wanted.class → h.noscan ≡ m.wanted.noscan → h.owner ≡ 0 → h.number ≡ m.generation → is_wanted m h ≡ true
 wanted-test m h class noscan owner number = rw (class, noscan, owner, number, eq-eqb m.wanted.class m.wanted.class refl, beq-same m.wanted.noscan, eq-eqb m.generation m.generation refl) refl
 
 -- The own steps.
 
-module _ (k : Known) (z : Arena) (a : ℕ) (s : Shared) (held : ℕ → Bool) (m : Pass) where
+module _ (k : Known) (z : Arena) (a : ℕ) (sure : Bool) (s : Shared) (held : ℕ → Bool) (m : Pass) where
   abbrev now : View
   now = view s
 
   -- what the next stage has, with nothing that was changed
   abbrev Goes : Option (Option ℕ) → PassStage → Type 0
-  Goes given q = Comes z a now now held given (at_stage m q)
+  Goes given q = Comes z a sure now now held given (at_stage m q)
 
   -- what holds of a head of the span class that nobody owns, once it is gone past
   abbrev IsDone : ℕ → SpanHead → Type 0
-  IsDone q h = h.class ≡ Small m.wanted.class → h.noscan ≡ m.wanted.noscan → h.owner ≡ 0 → IsFull now.alloc q h
+  IsDone q h = h.class ≡ Small m.wanted.class → h.noscan ≡ m.wanted.noscan → h.owner ≡ 0 → (h.number ≡ now.generation) × IsFull now.alloc q h
 
   -- each span is whole
   whole : Good z now → Right a now true held None → (p : ℕ) (h : SpanHead) → page_of (now.page p) ≡ page.Head h → IsSpan z.layout.pages now.page p h
@@ -118,12 +124,12 @@ module _ (k : Known) (z : Arena) (a : ℕ) (s : Shared) (held : ℕ → Bool) (m
   stays g = (k.leave z a s g).stays
 
   -- a stage from which a look goes on, or the end
-  looks : (before : PassStage) (p : ℕ) → ((q : PassStage) → given before q ≡ cond (is_busy q) None (Some None)) → Good z now → Right a now true held None → Passes z a now m → FullBefore now.page now.alloc (sought m) p →
+  looks : (before : PassStage) (p : ℕ) → ((q : PassStage) → given before q ≡ cond (is_busy q) None (Some None)) → Good z now → Right a now true held None → Passes z a now m → HasPassed sure (sought m) now p →
       (b : Bool) → ltb p m.layout.pages ≡ b → Goes (given before (cond b (Look p) Ended)) (cond b (Look p) Ended)
   looks before p says g right whose full true t = rw (says (Look p)) (stays g, right, record { whose = whose-at z a now m (Look p) whose; stage = record { there = subst (λ (l : Layout). p < l.pages) whose.layout (ltb-true p m.layout.pages t); full = full } })
   looks before p says g right whose full false t =
       let last : z.layout.pages ≤ p = subst (λ (l : Layout). l.pages ≤ p) whose.layout (ltb-false p m.layout.pages t) in
-      rw (says Ended) (stays g, right, λ q h lt. full q h (omega arith))
+      rw (says Ended) (stays g, right, λ is q h lt. full is q h (omega arith))
 
   look-says : (p : ℕ) (q : PassStage) → given (Look p) q ≡ cond (is_busy q) None (Some None)
   look-says p q = refl
@@ -131,11 +137,8 @@ module _ (k : Known) (z : Arena) (a : ℕ) (s : Shared) (held : ℕ → Bool) (m
   bits-says : (p i : ℕ) (h : SpanHead) (q : PassStage) → given (Bits p h i) q ≡ cond (is_busy q) None (Some None)
   bits-says p i h q = refl
 
-  number-is : Good z now → Passes z a now m → (p : ℕ) (h : SpanHead) → page_of (now.page p) ≡ page.Head h → h.number ≡ m.generation
-  number-is g whose p h head = g.numbers p h head ∙ sym whose.number
-
-  look : (p : ℕ) → Good z now → Right a now true held None → Passes z a now m → LooksAt z (sought m) now p → Goes (given (Look p) (goes_at m (Look p) (now.page p))) (goes_at m (Look p) (now.page p))
-  look p g right whose x = go (page_of (now.page p)) refl where
+  look : (p : ℕ) → Good z now → Right a now true held None → IsSure z sure now → Passes z a now m → LooksAt z sure (sought m) now p → Goes (given (Look p) (goes_at m (Look p) (now.page p))) (goes_at m (Look p) (now.page p))
+  look p g right tidy whose x = go (page_of (now.page p)) refl where
     no-head : (w : PageWord) (h : SpanHead) → page_of (now.page p) ≡ w → w ≢ page.Head h → page_of (now.page p) ≢ page.Head h
     no-head w h e n f = n (sym e ∙ f)
 
@@ -148,7 +151,7 @@ module _ (k : Known) (z : Arena) (a : ℕ) (s : Shared) (held : ℕ → Bool) (m
           record {
             whose = whose-at z a now m (Bits p h 0) whose;
             stage = record {
-              unowned = record { head = head; class = w.0; noscan = w.1; owner = w.2 };
+              unowned = record { head = head; class = w.0; noscan = w.1; owner = w.2; number = w.3 ∙ whose.number };
               full = x.full;
               within = omega (arith, span.fits.some);
               taken = λ j few below. absurd (not-below p (j * slot_words_of m.wanted.class) below);
@@ -157,13 +160,13 @@ module _ (k : Known) (z : Arena) (a : ℕ) (s : Shared) (held : ℕ → Bool) (m
         ) where
           not-below : (p y : ℕ) → (1024 * p + y) / 64 < 16 * p + 0 → ⊥
           not-below p y lt = omega arith
-    on-head h head false t = looks (Look p) (p + h.pages) (look-says p) g right whose (past-span now.page IsDone z.layout.pages p h (whole g right p h head) x.full (λ class noscan owner. absurd (clash (wanted-test m h class noscan owner (number-is g whose p h head))))) (ltb (p + h.pages) m.layout.pages) refl where
+    on-head h head false t = looks (Look p) (p + h.pages) (look-says p) g right whose (λ is. past-span now.page IsDone z.layout.pages p h (whole g right p h head) (x.full is) (λ class noscan owner. absurd (clash (wanted-test m h class noscan owner ((tidy is p h x.there head owner).0 ∙ sym whose.number))))) (ltb (p + h.pages) m.layout.pages) refl where
       clash : is_wanted m h ≡ true → ⊥
       clash e = cc
 
     go : (w : PageWord) → page_of (now.page p) ≡ w → Goes (given (Look p) (after_page m p w)) (after_page m p w)
-    go page.Free e = looks (Look p) (p + 1) (look-says p) g right whose (past-page now.page IsDone p x.full (λ h. no-head page.Free h e (λ f. absurd cc))) (ltb (p + 1) m.layout.pages) refl
-    go (page.Body b) e = looks (Look p) (p + 1) (look-says p) g right whose (past-page now.page IsDone p x.full (λ h. no-head (page.Body b) h e (λ f. absurd cc))) (ltb (p + 1) m.layout.pages) refl
+    go page.Free e = looks (Look p) (p + 1) (look-says p) g right whose (λ is. past-page now.page IsDone p (x.full is) (λ h. no-head page.Free h e (λ f. absurd cc))) (ltb (p + 1) m.layout.pages) refl
+    go (page.Body b) e = looks (Look p) (p + 1) (look-says p) g right whose (λ is. past-page now.page IsDone p (x.full is) (λ h. no-head (page.Body b) h e (λ f. absurd cc))) (ltb (p + 1) m.layout.pages) refl
     go (page.Head h) e = on-head h e (is_wanted m h) refl
 
   -- an alloc word of a span that is looked into
@@ -178,19 +181,19 @@ module _ (k : Known) (z : Arena) (a : ℕ) (s : Shared) (held : ℕ → Bool) (m
     clash : lacks_at m p i found ≡ true → ⊥
     clash e = cc
 
-  word-is : (p i : ℕ) (h : SpanHead) → Good z now → Passes z a now m → LooksInto m.wanted (sought m) now p h i → alloc_word m p i ≡ 16 * p + i
+  word-is : (p i : ℕ) (h : SpanHead) → Good z now → Passes z a now m → LooksInto sure m.wanted (sought m) now p h i → alloc_word m p i ≡ 16 * p + i
   word-is p i h g whose x =
       let span = g.spans p h x.unowned.head in
       rw (whose.layout) (mod-eq_of_lt (omega (arith, span.within, x.within)))
 
-  more-taken : (p i found : ℕ) (h : SpanHead) → found ≡ now.alloc (16 * p + i) → lacks_at m p i found ≡ false → LooksInto m.wanted (sought m) now p h i → TakenBelow m.wanted now.alloc p (i + 1)
+  more-taken : (p i found : ℕ) (h : SpanHead) → found ≡ now.alloc (16 * p + i) → lacks_at m p i found ≡ false → LooksInto sure m.wanted (sought m) now p h i → TakenBelow m.wanted now.alloc p (i + 1)
   unfolding row_bit
   more-taken p i found h is none x j few below = elim (eqb_tells (slot_at p j / 64) (16 * p + i)) [
     | inl y ↦ rw (y.1) (subst (λ (w : ℕ). bit_at w (slot_at p j % 64) ≡ 1) is (lacks-none p i found none j few y.1))
     | inr n ↦ x.taken j few (omega (arith, n.1))
   ]
 
-  all-taken : (p i : ℕ) (h : SpanHead) → Good z now → Right a now true held None → Passes z a now m → IsUnowned m.wanted now.page p h → 16 * h.pages ≤ i → TakenBelow m.wanted now.alloc p i → IsFull now.alloc p h
+  all-taken : (p i : ℕ) (h : SpanHead) → Good z now → Right a now true held None → Passes z a now m → IsUnowned m.wanted now.page now.generation p h → 16 * h.pages ≤ i → TakenBelow m.wanted now.alloc p i → IsFull now.alloc p h
   all-taken p i h g right whose x le taken j few =
       let span = whole g right p h x.head in
       let counted : slot_count h ≡ slots_of m.wanted.class = rw (x.class) refl in
@@ -201,20 +204,20 @@ module _ (k : Known) (z : Arena) (a : ℕ) (s : Shared) (held : ℕ → Bool) (m
         below : (y : ℕ) → 1024 * p + y + 0 < 1024 * (p + h.pages) → (1024 * p + y) / 64 < 16 * p + i
         below y lt = omega (arith, le)
 
-  bits : (p i found : ℕ) (h : SpanHead) → found ≡ now.alloc (16 * p + i) → Good z now → Right a now true held None → Passes z a now m → LooksInto m.wanted (sought m) now p h i → Goes (given (Bits p h i) (goes_at m (Bits p h i) found)) (goes_at m (Bits p h i) found)
+  bits : (p i found : ℕ) (h : SpanHead) → found ≡ now.alloc (16 * p + i) → Good z now → Right a now true held None → Passes z a now m → LooksInto sure m.wanted (sought m) now p h i → Goes (given (Bits p h i) (goes_at m (Bits p h i) found)) (goes_at m (Bits p h i) found)
   bits p i found h is g right whose x = go (lacks_at m p i found) refl where
     more : lacks_at m p i found ≡ false → (b : Bool) → ltb (i + 1) (16 * h.pages) ≡ b → Goes (given (Bits p h i) (cond b (Bits p h (i + 1)) (look_from m (p + h.pages)))) (cond b (Bits p h (i + 1)) (look_from m (p + h.pages)))
     more none true t = (stays g, right, record { whose = whose-at z a now m (Bits p h (i + 1)) whose; stage = record { unowned = x.unowned; full = x.full; within = ltb-true (i + 1) (16 * h.pages) t; taken = more-taken p i found h is none x } })
-    more none false t = looks (Bits p h i) (p + h.pages) (bits-says p i h) g right whose (past-span now.page IsDone z.layout.pages p h (whole g right p h x.unowned.head) x.full (λ class noscan owner. all-taken p (i + 1) h g right whose x.unowned (ltb-false (i + 1) (16 * h.pages) t) (more-taken p i found h is none x))) (ltb (p + h.pages) m.layout.pages) refl
+    more none false t = looks (Bits p h i) (p + h.pages) (bits-says p i h) g right whose (λ sure_is. past-span now.page IsDone z.layout.pages p h (whole g right p h x.unowned.head) (x.full sure_is) (λ class noscan owner. (x.unowned.number, all-taken p (i + 1) h g right whose x.unowned (ltb-false (i + 1) (16 * h.pages) t) (more-taken p i found h is none x)))) (ltb (p + h.pages) m.layout.pages) refl
 
     go : (b : Bool) → lacks_at m p i found ≡ b → Goes (given (Bits p h i) (cond b (Take p h) (cond (ltb (i + 1) (16 * h.pages)) (Bits p h (i + 1)) (look_from m (p + h.pages))))) (cond b (Take p h) (cond (ltb (i + 1) (16 * h.pages)) (Bits p h (i + 1)) (look_from m (p + h.pages))))
     go true t = (stays g, right, record { whose = whose-at z a now m (Take p h) whose; stage = x.unowned })
     go false t = more t (ltb (i + 1) (16 * h.pages)) refl
 
-  take : (p : ℕ) (h : SpanHead) → Good z now → Right a now true held None → Passes z a now m → IsUnowned m.wanted now.page p h → Steps z a s (asks (at_stage m (Take p h))) (λ t. KeepsObjects now (view t) × Comes z a now (view t) held (Some (Some p)) (at_stage m Ended))
+  take : (p : ℕ) (h : SpanHead) → Good z now → Right a now true held None → Passes z a now m → IsUnowned m.wanted now.page now.generation p h → Steps z a s (asks (at_stage m (Take p h))) (λ t. KeepsObjects now (view t) × Comes z a sure now (view t) held (Some (Some p)) (at_stage m Ended))
   take p h g right whose x = record { move = Own p h; may = may; words_are = ap (λ (n : ℕ). effect s.words (ask.Store (cell.Page p) (head_word (owned_by (n + 1) h)))) (sym whose.seat); after = ((refl, refl), (leaves, right-then, record { h = owned_by (a + 1) h; span = span; class = x.class; noscan = x.noscan; owner = refl }, not-held z a now true held None p g right (ap owner_in x.head ∙ x.owner))) } where
-    may : MayPass now a p h × (h.owner ≡ 0) × (a + 1 < 2 ^ 8)
-    may = (record { locked = right.locked; laying = right.laying; freeing = right.freeing; head = x.head }, x.owner, whose.few)
+    may : MayPass now a p h × (h.owner ≡ 0) × (a + 1 < 2 ^ 8) × (h.number ≡ now.generation)
+    may = (record { locked = right.locked; laying = right.laying; freeing = right.freeing; head = x.head }, x.owner, whose.few, x.number)
 
     t : Shared
     t = moved z a s (Own p h)
@@ -235,36 +238,36 @@ module _ (k : Known) (z : Arena) (a : ℕ) (s : Shared) (held : ℕ → Bool) (m
     pages-few = omega (arith, before.within, z.layout.limits.pages_fit.1)
 
     number-few : h.number < 2 ^ 34
-    number-few = omega (arith, g.numbers p h x.head, g.generation)
+    number-few = omega (arith, (g.numbers p h x.head).few, g.generation)
 
     span : IsSpan z.layout.pages (view t).page p (owned_by (a + 1) h)
     span = (k.apart z (view t) (k.keep z a s (Own p h) g may)).held a p (owned_by (a + 1) h) (right-then.holds p ∙ ap (λ (b : Bool). cond b true (held p)) (eq-eqb p p refl)) (ap page_of written ∙ k.packed.page (page.Head (owned_by (a + 1) h)) (record { class = before.fits.class; some = before.fits.some; pages = pages-few; owner = whose.few; number = number-few }))
 
-  own-at : (q : PassStage) → Good z now → Right a now true held None → Facts z a now (at_stage m q) →
-      Steps z a s (asks (at_stage m q)) (λ t. KeepsObjects now (view t) × Comes z a now (view t) held (gives (at_stage m q) (s.words (cell_of (asks (at_stage m q))))) (goes (at_stage m q) (s.words (cell_of (asks (at_stage m q))))))
-  own-at (Look p) g right x = record { move = Quiet (asks (at_stage m (Look p))); may = tt; words_are = refl; after = ((refl, refl), look p g right (whose-of z a now m (Look p) x.whose) x.stage) }
-  own-at (Bits p h i) g right x =
+  own-at : (q : PassStage) → Good z now → Right a now true held None → IsSure z sure now → Facts z a sure now (at_stage m q) →
+      Steps z a s (asks (at_stage m q)) (λ t. KeepsObjects now (view t) × Comes z a sure now (view t) held (gives (at_stage m q) (s.words (cell_of (asks (at_stage m q))))) (goes (at_stage m q) (s.words (cell_of (asks (at_stage m q))))))
+  own-at (Look p) g right tidy x = record { move = Quiet (asks (at_stage m (Look p))); may = tt; words_are = refl; after = ((refl, refl), look p g right tidy (whose-of z a now m (Look p) x.whose) x.stage) }
+  own-at (Bits p h i) g right tidy x =
       let whose = whose-of z a now m (Bits p h i) x.whose in
       record { move = Quiet (asks (at_stage m (Bits p h i))); may = tt; words_are = refl; after = ((refl, refl), bits p i (s.words (cell.Alloc (alloc_word m p i))) h (ap (λ (n : ℕ). now.alloc n) (word-is p i h g whose x.stage)) g right whose x.stage) }
-  own-at (Take p h) g right x = take p h g right (whose-of z a now m (Take p h) x.whose) x.stage
-  own-at Ended g right x = absurd x.stage
+  own-at (Take p h) g right tidy x = take p h g right (whose-of z a now m (Take p h) x.whose) x.stage
+  own-at Ended g right tidy x = absurd x.stage
 
 pub own : Known → OwnStep
-own k z a s held m g right x = own-at k z a s held m m.stage g right x
+own k z a sure s held m g right tidy x = own-at k z a sure s held m m.stage g right tidy x
 
 -- Its words.
 
-within-at : (z : Arena) (v : View) (m : Pass) (q : PassStage) → Good z v → m.layout ≡ z.layout → FactsAt z m v q → InRange z.layout (cell_of (asks (at_stage m q)))
-within-at z v m (Look p) g layout x = x.there
-within-at z v m (Bits p h i) g layout x =
+within-at : (z : Arena) (sure : Bool) (v : View) (m : Pass) (q : PassStage) → Good z v → m.layout ≡ z.layout → FactsAt z sure m v q → InRange z.layout (cell_of (asks (at_stage m q)))
+within-at z sure v m (Look p) g layout x = x.there
+within-at z sure v m (Bits p h i) g layout x =
     let arena : m.layout.pages ≡ z.layout.pages = ap (λ (l : Layout). l.pages) layout in
     let some : 0 < 16 * m.layout.pages = omega (arith, m.layout.limits.pages_fit.0) in
     omega (arith, mod-lt (16 * p + i) some, arena)
-within-at z v m (Take p h) g layout x = let span = g.spans p h x.head in omega (arith, span.within, span.fits.some)
-within-at z v m Ended g layout x = absurd x
+within-at z sure v m (Take p h) g layout x = let span = g.spans p h x.head in omega (arith, span.within, span.fits.some)
+within-at z sure v m Ended g layout x = absurd x
 
 within : Within
-within z a v m g x = within-at z v m m.stage g x.whose.layout x.stage
+within z a sure v m g x = within-at z sure v m m.stage g x.whose.layout x.stage
 
 pub passes_by_its_rights : Known → PassesByItsRights
 passes_by_its_rights k = record { opens = opens; own_step = own k; within = within; lasts = lasts k }

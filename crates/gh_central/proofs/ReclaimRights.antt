@@ -5,7 +5,7 @@ use Rattle.gh_base.specs.declared.pack.PageWord.TheVariants as page
 use Rattle.gh_central.specs.declared.reclaim.ReclaimStage.{ReclaimStage}
 use Rattle.gh_central.specs.declared.reclaim.ReclaimStage.TheVariants.{Look, Bits, Body, Head, Ended}
 use Rattle.gh_central.specs.Reclaim.{Reclaiming, after_page, alloc_word, asks, at_stage, body_page, free_from, given, gives, goes, goes_at, is_busy, look_from}
-use Rattle.gh_central.specs.ReclaimFacts.{ClearBelow, Comes, Facts, FactsAt, FreesFrom, IsIdle, IsReady, Lasts, LooksAt, LooksInto, Opens, OwnStep, ReclaimsByItsRights, Reclaims, Within, freed_to, freeing_at}
+use Rattle.gh_central.specs.ReclaimFacts.{AllSwept, ClearBelow, Comes, Facts, FactsAt, FreesFrom, IsIdle, IsReady, Lasts, LooksAt, LooksInto, Opens, OwnStep, ReclaimsByItsRights, Reclaims, Within, freed_to, freeing_at}
 use Rattle.gh_central.proofs.Vocabulary.{Arena, BeingFreed, bit_at, bit_at-trailing_zeros, bit_at-zero, cell_of, EachFactLasts, EachFreeingFollows, EachOwnMoveLeaves, eqb-false, eqb_tells, FreeBody, freed_yet, FreeHead, Freeing, Good, InRange, IsEmpty, IsInUse, IsSpan, KeepsObjects, Layout, Leaves, MayFree, mod-eq_of_lt, mod-lt, moved, Others, page_of, PageWord, put, Quiet, Right, Rights, row_bit, Shared, SpanHead, Steps, TheHeapIsApart, TidyBefore, trailing_zeros, View, view, WalksGoOn}
 use Rattle.gh_central.proofs.Heads.{past-page, past-span}
 
@@ -31,7 +31,11 @@ module _ (k : Known) (z : Arena) (a : ℕ) (v w : View) (g : Good z v) (o : Othe
 
   vacant-lasts : (p count : ℕ) → v.freeing a ≡ None → IsReady v p count → IsReady w p count
   vacant-lasts p count none x = record {
-    being = (k.last z a v w o).freed (freed_to p count 1) l x.being;
+    being = (k.last z a v w o).freed (freed_to p count 1) l x.being x.swept;
+    swept =
+        let c = (k.last z a v w o).freed (freed_to p count 1) l x.being x.swept in
+        let one : c.h ≡ x.being.h = cc (c.head, (k.last z a v w o).idle p x.being.h l x.being.owner x.swept x.being.head) in
+        ap (λ (h : SpanHead). h.number) one ∙ x.swept ∙ sym o.generation;
     empty = λ y low high. clear-lasts p (16 * count) x.being.h none x.being.head x.being.owner (omega (arith, x.being.size)) (λ j lj hj. x.empty j lj (omega (arith, hj))) y low (omega (arith, high));
   }
 
@@ -47,7 +51,7 @@ module _ (k : Known) (z : Arena) (a : ℕ) (v w : View) (g : Good z v) (o : Othe
   stage-lasts : (q : ReclaimStage) → v.freeing a ≡ freeing_at q → FactsAt z v q → FactsAt z w q
   stage-lasts (Look p) right x = record { there = x.there; tidy = (k.last z a v w o).tidy_before p l x.tidy }
   stage-lasts (Bits p count i) right x = record {
-    idle = record { h = x.idle.h; head = (k.last z a v w o).idle p x.idle.h l x.idle.owner x.idle.head; owner = x.idle.owner; size = x.idle.size };
+    idle = record { h = x.idle.h; head = (k.last z a v w o).idle p x.idle.h l x.idle.owner x.idle.number x.idle.head; owner = x.idle.owner; size = x.idle.size; number = x.idle.number ∙ sym o.generation };
     tidy = (k.last z a v w o).tidy_before p l x.tidy;
     within = x.within;
     clear = clear-lasts p i x.idle.h right x.idle.head x.idle.owner (omega (arith, x.within, x.idle.size)) x.clear;
@@ -73,7 +77,7 @@ module _ (k : Known) (z : Arena) (a : ℕ) (s : Shared) (held : ℕ → Bool) (m
   stays g = (k.leave z a s g).stays
 
   -- it looks from this page on, or has ended
-  looks : (w : View) (p : ℕ) → Leaves now w → Right a w true held None → Reclaims z w m → TidyBefore w.page w.alloc p → (b : Bool) → ltb p m.layout.pages ≡ b →
+  looks : (w : View) (p : ℕ) → Leaves now w → Right a w true held None → Reclaims z w m → TidyBefore w.page w.alloc w.generation p → (b : Bool) → ltb p m.layout.pages ≡ b →
       Comes z a now w held (cond (is_busy (cond b (Look p) Ended)) None (Some tt)) (at_stage m (cond b (Look p) Ended))
   looks w p leaves right whose tidy true t = (leaves, right, record { whose = record { layout = whose.layout; number = whose.number }; stage = record { there = subst (λ (l : Layout). p < l.pages) whose.layout (ltb-true p m.layout.pages t); tidy = tidy } })
   looks w p leaves right whose tidy false t =
@@ -82,14 +86,14 @@ module _ (k : Known) (z : Arena) (a : ℕ) (s : Shared) (held : ℕ → Bool) (m
 
   -- what holds of a head that is gone past
   abbrev IsDone : ℕ → SpanHead → Type 0
-  IsDone q h = h.owner ≡ 0 → IsInUse now.alloc q h
+  IsDone q h = h.owner ≡ 0 → (h.number ≡ now.generation) × IsInUse now.alloc q h
 
   whole : Good z now → Right a now true held None → (p : ℕ) (h : SpanHead) → page_of (now.page p) ≡ page.Head h → IsSpan z.layout.pages now.page p h
   whole g right p h = (k.apart z now g).locked a p h right.locked right.freeing
 
-  look : (p : ℕ) → Good z now → Right a now true held None → Reclaims z now m → LooksAt z now p → Goes (given (Look p) (goes_at m (Look p) (now.page p))) (goes_at m (Look p) (now.page p))
-  look p g right whose x = go (page_of (now.page p)) refl where
-    owned : (h : SpanHead) → eqb h.owner 0 ≡ false → h.owner ≡ 0 → IsInUse now.alloc p h
+  look : (p : ℕ) → Good z now → AllSwept now → Right a now true held None → Reclaims z now m → LooksAt z now p → Goes (given (Look p) (goes_at m (Look p) (now.page p))) (goes_at m (Look p) (now.page p))
+  look p g all right whose x = go (page_of (now.page p)) refl where
+    owned : (h : SpanHead) → eqb h.owner 0 ≡ false → h.owner ≡ 0 → (h.number ≡ now.generation) × IsInUse now.alloc p h
     owned h t none = absurd (eqb-false h.owner 0 t none)
 
     on-head : (h : SpanHead) → page_of (now.page p) ≡ page.Head h → (b : Bool) → eqb h.owner 0 ≡ b → (c : Bool) → eqb h.number m.generation ≡ c →
@@ -100,14 +104,14 @@ module _ (k : Known) (z : Arena) (a : ℕ) (s : Shared) (held : ℕ → Bool) (m
       record {
         whose = record { layout = whose.layout; number = whose.number };
         stage = record {
-          idle = record { h = h; head = head; owner = eqb-true h.owner 0 t; size = refl };
+          idle = record { h = h; head = head; owner = eqb-true h.owner 0 t; size = refl; number = eqb-true h.number m.generation u ∙ whose.number };
           tidy = x.tidy;
           within = let some = (g.spans p h head).fits.some in omega arith;
           clear = λ y low high. absurd (omega arith);
         };
       },
     )
-    on-head h head true t false u = absurd (eqb-false h.number m.generation u (g.numbers p h head ∙ sym whose.number))
+    on-head h head true t false u = absurd (eqb-false h.number m.generation u (all p h head (eqb-true h.owner 0 t) ∙ sym whose.number))
     on-head h head false t c u = looks now (p + h.pages) (stays g) right whose (past-span now.page IsDone z.layout.pages p h (whole g right p h head) x.tidy (owned h t)) (ltb (p + h.pages) m.layout.pages) refl
 
     go : (w : PageWord) → page_of (now.page p) ≡ w → Goes (given (Look p) (after_page m p w)) (after_page m p w)
@@ -145,7 +149,7 @@ module _ (k : Known) (z : Arena) (a : ℕ) (s : Shared) (held : ℕ → Bool) (m
     none : (j : ℕ) → bit_at 0 j ≡ 0
     none j = bit_at-zero j
 
-  is-vacant : (p count : ℕ) → Good z now → Right a now true held None → (x : IsIdle now.page p count) → 1 ≤ count → IsEmpty now.alloc p count → IsReady now p count
+  is-vacant : (p count : ℕ) → Good z now → Right a now true held None → (x : IsIdle now.page now.generation p count) → 1 ≤ count → IsEmpty now.alloc p count → IsReady now p count
   is-vacant p count g right x some empty =
       let span = whole g right p x.h x.head in
       record {
@@ -159,11 +163,12 @@ module _ (k : Known) (z : Arena) (a : ℕ) (s : Shared) (held : ℕ → Bool) (m
           freed = λ d low high. absurd (omega arith);
           standing = λ d low high. span.body d (omega arith) (omega (arith, x.size, high));
         };
+        swept = x.number;
         empty = empty;
       }
 
   -- which page is freed first
-  first : (p count : ℕ) → Good z now → Right a now true held None → Reclaims z now m → IsIdle now.page p count → TidyBefore now.page now.alloc p → IsEmpty now.alloc p count → (b : Bool) → ltb 1 count ≡ b →
+  first : (p count : ℕ) → Good z now → Right a now true held None → Reclaims z now m → IsIdle now.page now.generation p count → TidyBefore now.page now.alloc now.generation p → IsEmpty now.alloc p count → (b : Bool) → ltb 1 count ≡ b →
       Goes (cond (is_busy (cond b (Body p count 1) (Head p count))) None (Some tt)) (cond b (Body p count 1) (Head p count))
   first p count g right whose x tidy empty b t = go b t where
     span : IsSpan z.layout.pages now.page p x.h
@@ -190,9 +195,9 @@ module _ (k : Known) (z : Arena) (a : ℕ) (s : Shared) (held : ℕ → Bool) (m
     more t true u = (stays g, right, record { whose = record { layout = whose.layout; number = whose.number }; stage = record { idle = x.idle; tidy = x.tidy; within = ltb-true (i + 1) (16 * count) u; clear = clear t } })
     more t false u = let all = ltb-false (i + 1) (16 * count) u in first p count g right whose x.idle x.tidy (λ y low high. clear t y low (omega (arith, high, all))) (ltb 1 count) refl
 
-    past : eqb found 0 ≡ false → TidyBefore now.page now.alloc (p + count)
-    past t = subst (λ (n : ℕ). TidyBefore now.page now.alloc (p + n)) x.idle.size
-        (past-span now.page IsDone z.layout.pages p x.idle.h (whole g right p x.idle.h x.idle.head) x.tidy (λ none. in-use p count i g right x (λ e. eqb-false found 0 t (is ∙ e))))
+    past : eqb found 0 ≡ false → TidyBefore now.page now.alloc now.generation (p + count)
+    past t = subst (λ (n : ℕ). TidyBefore now.page now.alloc now.generation (p + n)) x.idle.size
+        (past-span now.page IsDone z.layout.pages p x.idle.h (whole g right p x.idle.h x.idle.head) x.tidy (λ none. (x.idle.number, in-use p count i g right x (λ e. eqb-false found 0 t (is ∙ e)))))
 
     go : (b : Bool) → eqb found 0 ≡ b → Goes (given (Bits p count i) (cond b (cond (ltb (i + 1) (16 * count)) (Bits p count (i + 1)) (free_from p count 1)) (look_from m (p + count)))) (cond b (cond (ltb (i + 1) (16 * count)) (Bits p count (i + 1)) (free_from p count 1)) (look_from m (p + count)))
     go true t = more t (ltb (i + 1) (16 * count)) refl
@@ -201,19 +206,19 @@ module _ (k : Known) (z : Arena) (a : ℕ) (s : Shared) (held : ℕ → Bool) (m
   -- The stores.
 
   -- what stands of the span: before its first store by the facts, and then by the right
-  ready : (p count d : ℕ) → Good z now → Rights a now true held None (freed_yet (freed_to p count d)) → FreesFrom z now p count d → BeingFreed now.page (freed_to p count d) × IsEmpty now.alloc p count
+  ready : (p count d : ℕ) → Good z now → Rights a now true held None (freed_yet (freed_to p count d)) → FreesFrom z now p count d → (b : BeingFreed now.page (freed_to p count d)) × IsEmpty now.alloc p count × (b.h.number ≡ now.generation)
   ready p count d g right x = go (eqb d 1) refl right.freeing where
-    go : (b : Bool) → eqb d 1 ≡ b → now.freeing a ≡ cond b None (Some (freed_to p count d)) → BeingFreed now.page (freed_to p count d) × IsEmpty now.alloc p count
+    go : (b : Bool) → eqb d 1 ≡ b → now.freeing a ≡ cond b None (Some (freed_to p count d)) → (b : BeingFreed now.page (freed_to p count d)) × IsEmpty now.alloc p count × (b.h.number ≡ now.generation)
     go true t e =
         let one : d ≡ 1 = eqb-true d 1 t in
         let v = x.vacant one in
-        (subst (λ (n : ℕ). BeingFreed now.page (freed_to p count n)) (sym one) v.being, v.empty)
-    go false t e = let f = g.freeing a (freed_to p count d) e in (f.being, f.empty)
+        subst (λ (n : ℕ). (b : BeingFreed now.page (freed_to p count n)) × IsEmpty now.alloc p count × (b.h.number ≡ now.generation)) (sym one) (v.being, v.empty, v.swept)
+    go false t e = let f = g.freeing a (freed_to p count d) e in (f.being, f.empty, (g.numbers p f.being.h f.being.head).freed a (freed_to p count d) e refl)
 
   may-free : (p count d : ℕ) → Good z now → Rights a now true held None (freed_yet (freed_to p count d)) → FreesFrom z now p count d → MayFree now a (freed_to p count d)
   may-free p count d g right x =
       let r = ready p count d g right x in
-      record { locked = right.locked; laying = right.laying; freeing = right.freeing; being = r.0; swept = g.numbers p r.0.h r.0.head; empty = r.1 }
+      record { locked = right.locked; laying = right.laying; freeing = right.freeing; being = r.0; swept = r.2; empty = r.1 }
 
   body : (p count d : ℕ) → Good z now → Rights a now true held None (freed_yet (freed_to p count d)) → Reclaims z now m → FreesFrom z now p count d → d < count →
       Steps z a s (asks (at_stage m (Body p count d))) (λ t. KeepsObjects now (view t) × Comes z a now (view t) held (given (Body p count d) (free_from p count (d + 1))) (at_stage m (free_from p count (d + 1))))
@@ -281,24 +286,24 @@ module _ (k : Known) (z : Arena) (a : ℕ) (s : Shared) (held : ℕ → Bool) (m
           ap (λ (b : Bool). page_of (cond b 0 (now.page q))) n.0 ∙ ap (λ (i : ℕ). page_of (now.page i)) at ∙ being.freed (q - p) (omega (arith, low, n.1)) (omega (arith, high))
     ]
 
-    tidy : TidyBefore (view t).page (view t).alloc (p + count)
+    tidy : TidyBefore (view t).page (view t).alloc (view t).generation (p + count)
     tidy q h lt e none = by (ltb q p) refl where
-      by : (b : Bool) → ltb q p ≡ b → IsInUse (view t).alloc q h
+      by : (b : Bool) → ltb q p ≡ b → (h.number ≡ (view t).generation) × IsInUse (view t).alloc q h
       by true u = k.walks.tidy now (view t) p leaves x.tidy q h (ltb-true q p u) e none
       by false u = absurd (no-head ((view t).page q) h (free q (ltb-false q p u) lt) e)
 
-  own-at : (q : ReclaimStage) → Good z now → Rights a now true held None (freeing_at q) → Facts z now (at_stage m q) →
+  own-at : (q : ReclaimStage) → Good z now → AllSwept now → Rights a now true held None (freeing_at q) → Facts z now (at_stage m q) →
       Steps z a s (asks (at_stage m q)) (λ t. KeepsObjects now (view t) × Comes z a now (view t) held (gives (at_stage m q) (s.words (cell_of (asks (at_stage m q))))) (goes (at_stage m q) (s.words (cell_of (asks (at_stage m q))))))
-  own-at (Look p) g right x = record { move = Quiet (asks (at_stage m (Look p))); may = tt; words_are = refl; after = ((refl, refl), look p g right (record { layout = x.whose.layout; number = x.whose.number }) x.stage) }
-  own-at (Bits p count i) g right x =
+  own-at (Look p) g all right x = record { move = Quiet (asks (at_stage m (Look p))); may = tt; words_are = refl; after = ((refl, refl), look p g all right (record { layout = x.whose.layout; number = x.whose.number }) x.stage) }
+  own-at (Bits p count i) g all right x =
       let whose : Reclaims z now m = record { layout = x.whose.layout; number = x.whose.number } in
       record { move = Quiet (asks (at_stage m (Bits p count i))); may = tt; words_are = refl; after = ((refl, refl), bits-step p count i (s.words (cell.Alloc (alloc_word m p i))) (ap (λ (n : ℕ). now.alloc n) (word-is p count i g right whose x.stage)) g right whose x.stage) }
-  own-at (Body p count d) g right x = body p count d g right (record { layout = x.whose.layout; number = x.whose.number }) x.stage.0 x.stage.1
-  own-at (Head p count) g right x = head p count g right (record { layout = x.whose.layout; number = x.whose.number }) x.stage
-  own-at Ended g right x = absurd x.stage
+  own-at (Body p count d) g all right x = body p count d g right (record { layout = x.whose.layout; number = x.whose.number }) x.stage.0 x.stage.1
+  own-at (Head p count) g all right x = head p count g right (record { layout = x.whose.layout; number = x.whose.number }) x.stage
+  own-at Ended g all right x = absurd x.stage
 
 own : Known → OwnStep
-own k z a s held m g right x = own-at k z a s held m m.stage g right x
+own k z a s held m g all right x = own-at k z a s held m m.stage g all right x
 
 -- Its words.
 

@@ -19,6 +19,7 @@ pub record CanGiveBack (z : Arena) (a : ℕ) (v : View) (g : Giving) : Type 0 wh
   pub head : page_of (v.page g.page) ≡ page.Head h
   pub same : owned_by 0 h ≡ owned_by 0 g.head
   pub held : v.holds a g.page ≡ true
+  pub number : h.number ≡ v.generation
 
 -- with the lock, the seat does not hold it any more
 abbrev pub GivesBack : Type 0

@@ -10,7 +10,7 @@ use Rattle.gh_base.specs.Cells.{Words}
 use Rattle.gh_base.specs.Packing.{FitsHead, page_of}
 use Rattle.gh_base.specs.Steps.{effect}
 use Rattle.gh_central.specs.GiveBack as giving
-use Rattle.gh_central.specs.SweptPass.{asks, owned_by}
+use Rattle.gh_central.specs.SweptPass.{owned_by}
 
 -- the step leaves this head with this owner on the page, and every other cell as it was
 pub record ChangesTheOwner (page : ℕ) (h : SpanHead) (owner : ℕ) (step : Ask) (words : Words) : Type 0 where

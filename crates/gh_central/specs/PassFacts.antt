@@ -10,7 +10,7 @@ use Rattle.gh_class.specs.declared.class.SizeClass.TheVariants.{Small}
 use Rattle.gh_class.specs.declared.class.SpanClass.{SpanClass}
 use Rattle.gh_class.specs.Classes.{pages_of, slot_words_of, slots_of}
 use Rattle.gh_heap.specs.Moves.{KeepsObjects, Leaves, Others, Steps, update}
-use Rattle.gh_heap.specs.Rights.{Arena, FullBefore, Good, Right, Shared, View, view}
+use Rattle.gh_heap.specs.Rights.{Arena, FullBefore, TidyBefore, Good, Right, Shared, View, view}
 use Rattle.gh_heap.specs.Spans.{IsSpan}
 use Rattle.gh_central.specs.declared.pass.PassStage.{PassStage}
 use Rattle.gh_central.specs.declared.pass.PassStage.TheVariants.{Look, Bits, Take, Ended}
@@ -28,36 +28,41 @@ pub record Passes (z : Arena) (a : ℕ) (v : View) (m : Pass) : Type 0 where
 abbrev pub sought : Pass → SpanHead
 sought m = record { class = Small m.wanted.class; noscan = m.wanted.noscan; pages = pages_of m.wanted.class; owner = 0; number = m.generation }
 
--- a span of the span class that nobody owns begins at page p
-pub record IsUnowned (wanted : SpanClass) (page_words : Row) (p : ℕ) (h : SpanHead) : Type 0 where
+-- a swept span of the span class that nobody owns begins at page p
+pub record IsUnowned (wanted : SpanClass) (page_words : Row) (generation p : ℕ) (h : SpanHead) : Type 0 where
   pub head : page_of (page_words p) ≡ page.Head h
   pub class : h.class ≡ Small wanted.class
   pub noscan : h.noscan ≡ wanted.noscan
   pub owner : h.owner ≡ 0
+  pub number : h.number ≡ generation
 
 -- each slot of the span at page p is taken whose bit stands before alloc word i of the span
 abbrev pub TakenBelow : SpanClass → (alloc : Row) → (p i : ℕ) → Type 0
 TakenBelow wanted alloc p i = (j : ℕ) → j < slots_of wanted.class → (1024 * p + j * slot_words_of wanted.class) / 64 < 16 * p + i → row_bit alloc (1024 * p + j * slot_words_of wanted.class) ≡ 1
 
-pub record LooksAt (z : Arena) (span : SpanHead) (v : View) (p : ℕ) : Type 0 where
-  pub there : p < z.layout.pages
-  pub full : FullBefore v.page v.alloc span p
+-- Of the spans that the pass has gone past it claims something only in the last round: then each that nobody owns is swept, and stays so.
+abbrev pub HasPassed : (sure : Bool) → (span : SpanHead) → View → (p : ℕ) → Type 0
+HasPassed sure span v p = sure ≡ true → FullBefore v.page v.alloc v.generation span p
 
-pub record LooksInto (wanted : SpanClass) (span : SpanHead) (v : View) (p : ℕ) (h : SpanHead) (i : ℕ) : Type 0 where
-  pub unowned : IsUnowned wanted v.page p h
-  pub full : FullBefore v.page v.alloc span p
+pub record LooksAt (z : Arena) (sure : Bool) (span : SpanHead) (v : View) (p : ℕ) : Type 0 where
+  pub there : p < z.layout.pages
+  pub full : HasPassed sure span v p
+
+pub record LooksInto (sure : Bool) (wanted : SpanClass) (span : SpanHead) (v : View) (p : ℕ) (h : SpanHead) (i : ℕ) : Type 0 where
+  pub unowned : IsUnowned wanted v.page v.generation p h
+  pub full : HasPassed sure span v p
   pub within : i < 16 * h.pages
   pub taken : TakenBelow wanted v.alloc p i
 
-abbrev pub FactsAt : Arena → Pass → View → PassStage → Type 0
-FactsAt z m v (Look p) = LooksAt z (sought m) v p
-FactsAt z m v (Bits p h i) = LooksInto m.wanted (sought m) v p h i
-FactsAt z m v (Take p h) = IsUnowned m.wanted v.page p h
-FactsAt z m v Ended = ⊥
+abbrev pub FactsAt : Arena → (sure : Bool) → Pass → View → PassStage → Type 0
+FactsAt z sure m v (Look p) = LooksAt z sure (sought m) v p
+FactsAt z sure m v (Bits p h i) = LooksInto sure m.wanted (sought m) v p h i
+FactsAt z sure m v (Take p h) = IsUnowned m.wanted v.page v.generation p h
+FactsAt z sure m v Ended = ⊥
 
-pub record Facts (z : Arena) (a : ℕ) (v : View) (m : Pass) : Type 0 where
+pub record Facts (z : Arena) (a : ℕ) (sure : Bool) (v : View) (m : Pass) : Type 0 where
   pub whose : Passes z a v m
-  pub stage : FactsAt z m v m.stage
+  pub stage : FactsAt z sure m v m.stage
 
 -- a span of the span class begins at page p, and this seat owns it
 pub record IsTaken (z : Arena) (a : ℕ) (wanted : SpanClass) (page_words : Row) (p : ℕ) : Type 0 where
@@ -68,26 +73,30 @@ pub record IsTaken (z : Arena) (a : ℕ) (wanted : SpanClass) (page_words : Row)
   pub owner : h.owner ≡ a + 1
 
 -- What a step from v comes to in w, where the seat held those spans: what it leaves to who runs the routine; the right that its seat has then; and the facts of the next stage, or of the end. The span that is taken is not one that it held.
-abbrev pub Comes : Arena → (a : ℕ) → (v w : View) → (ℕ → Bool) → Option (Option ℕ) → Pass → Type 0
-Comes z a v w held None m = Leaves v w × Right a w true held None × Facts z a w m
-Comes z a v w held (Some None) m = Leaves v w × Right a w true held None × FullBefore w.page w.alloc (sought m) z.layout.pages
-Comes z a v w held (Some (Some p)) m = Leaves v w × Right a w true (update held p true) None × IsTaken z a m.wanted w.page p × (held p ≡ false)
+abbrev pub Comes : Arena → (a : ℕ) → (sure : Bool) → (v w : View) → (ℕ → Bool) → Option (Option ℕ) → Pass → Type 0
+Comes z a sure v w held None m = Leaves v w × Right a w true held None × Facts z a sure w m
+Comes z a sure v w held (Some None) m = Leaves v w × Right a w true held None × HasPassed sure (sought m) w z.layout.pages
+Comes z a sure v w held (Some (Some p)) m = Leaves v w × Right a w true (update held p true) None × IsTaken z a m.wanted w.page p × (held p ≡ false)
 
 abbrev pub Opens : Type 0
-Opens = (z : Arena) (a : ℕ) (v : View) (m : Pass) → Passes z a v m → m.stage ≡ Look 0 → Facts z a v m
+Opens = (z : Arena) (a : ℕ) (sure : Bool) (v : View) (m : Pass) → Passes z a v m → m.stage ≡ Look 0 → Facts z a sure v m
+
+-- in the last round each span that nobody owns is swept
+abbrev pub IsSure : Arena → (sure : Bool) → View → Type 0
+IsSure z sure v = sure ≡ true → TidyBefore v.page v.alloc v.generation z.layout.pages
 
 -- a step of its own
 abbrev pub OwnStep : Type 0
-OwnStep = (z : Arena) (a : ℕ) (s : Shared) (held : ℕ → Bool) (m : Pass) → Good z (view s) → Right a (view s) true held None → Facts z a (view s) m →
-    Steps z a s (asks m) (λ t. KeepsObjects (view s) (view t) × Comes z a (view s) (view t) held (gives m (s.words (cell_of (asks m)))) (goes m (s.words (cell_of (asks m)))))
+OwnStep = (z : Arena) (a : ℕ) (sure : Bool) (s : Shared) (held : ℕ → Bool) (m : Pass) → Good z (view s) → Right a (view s) true held None → IsSure z sure (view s) → Facts z a sure (view s) m →
+    Steps z a s (asks m) (λ t. KeepsObjects (view s) (view t) × Comes z a sure (view s) (view t) held (gives m (s.words (cell_of (asks m)))) (goes m (s.words (cell_of (asks m)))))
 
 -- it is on a word that there is
 abbrev pub Within : Type 0
-Within = (z : Arena) (a : ℕ) (v : View) (m : Pass) → Good z v → Facts z a v m → InRange z.layout (cell_of (asks m))
+Within = (z : Arena) (a : ℕ) (sure : Bool) (v : View) (m : Pass) → Good z v → Facts z a sure v m → InRange z.layout (cell_of (asks m))
 
 -- the steps of others
 abbrev pub Lasts : Type 0
-Lasts = (z : Arena) (a : ℕ) (v w : View) (m : Pass) → Others z a v w → v.locked a ≡ true → Facts z a v m → Facts z a w m
+Lasts = (z : Arena) (a : ℕ) (sure : Bool) (v w : View) (m : Pass) → Others z a v w → v.locked a ≡ true → Facts z a sure v m → Facts z a sure w m
 
 pub record PassesByItsRights : Type 0 where
   pub opens : Opens

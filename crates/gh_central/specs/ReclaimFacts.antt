@@ -36,33 +36,35 @@ pub record Reclaims (z : Arena) (v : View) (m : Reclaiming) : Type 0 where
 
 pub record LooksAt (z : Arena) (v : View) (p : ℕ) : Type 0 where
   pub there : p < z.layout.pages
-  pub tidy : TidyBefore v.page v.alloc p
+  pub tidy : TidyBefore v.page v.alloc v.generation p
 
--- a span of so many pages that nobody owns begins at page p
-pub record IsIdle (page_words : Row) (p count : ℕ) : Type 0 where
+-- a swept span of so many pages that nobody owns begins at page p
+pub record IsIdle (page_words : Row) (generation p count : ℕ) : Type 0 where
   pub h : SpanHead
   pub head : page_of (page_words p) ≡ page.Head h
   pub owner : h.owner ≡ 0
   pub size : h.pages ≡ count
+  pub number : h.number ≡ generation
 
 -- no object stands in the span before alloc word i of it
 abbrev pub ClearBelow : (alloc : Row) → (p i : ℕ) → Type 0
 ClearBelow alloc p i = (x : ℕ) → 1024 * p ≤ x → x < 1024 * p + 64 * i → row_bit alloc x ≡ 0
 
 pub record LooksInto (v : View) (p count i : ℕ) : Type 0 where
-  pub idle : IsIdle v.page p count
-  pub tidy : TidyBefore v.page v.alloc p
+  pub idle : IsIdle v.page v.generation p count
+  pub tidy : TidyBefore v.page v.alloc v.generation p
   pub within : i < 16 * count
   pub clear : ClearBelow v.alloc p i
 
 -- a span that nobody owns begins at page p, and no object stands in it
 pub record IsReady (v : View) (p count : ℕ) : Type 0 where
   pub being : BeingFreed v.page (freed_to p count 1)
+  pub swept : being.h.number ≡ v.generation
   pub empty : IsEmpty v.alloc p count
 
 -- The page at this distance is freed next. Once a further page is free, the right says what stands.
 pub record FreesFrom (z : Arena) (v : View) (p count distance : ℕ) : Type 0 where
-  pub tidy : TidyBefore v.page v.alloc p
+  pub tidy : TidyBefore v.page v.alloc v.generation p
   pub there : p + count ≤ z.layout.pages
   pub some : 0 < distance
   pub few : distance ≤ count
@@ -82,14 +84,18 @@ pub record Facts (z : Arena) (v : View) (m : Reclaiming) : Type 0 where
 -- What a step from v comes to in w, where the seat holds those spans: what it leaves to who runs the routine; the right that its seat has then; and the facts of the next stage, or that in each span which nobody owns an object stands.
 abbrev pub Comes : Arena → (a : ℕ) → (v w : View) → (ℕ → Bool) → Option (Unit {0}) → Reclaiming → Type 0
 Comes z a v w held None m = Leaves v w × Rights a w true held None (freeing m) × Facts z w m
-Comes z a v w held (Some _) m = Leaves v w × Right a w true held None × TidyBefore w.page w.alloc z.layout.pages
+Comes z a v w held (Some _) m = Leaves v w × Right a w true held None × TidyBefore w.page w.alloc w.generation z.layout.pages
 
 abbrev pub Opens : Type 0
 Opens = (z : Arena) (v : View) (m : Reclaiming) → Reclaims z v m → m.stage ≡ Look 0 → Facts z v m
 
+-- each span that nobody owns is swept: the pass does not sweep one itself
+abbrev pub AllSwept : View → Type 0
+AllSwept v = (p : ℕ) (h : SpanHead) → page_of (v.page p) ≡ page.Head h → h.owner ≡ 0 → h.number ≡ v.generation
+
 -- a step of its own
 abbrev pub OwnStep : Type 0
-OwnStep = (z : Arena) (a : ℕ) (s : Shared) (held : ℕ → Bool) (m : Reclaiming) → Good z (view s) → Rights a (view s) true held None (freeing m) → Facts z (view s) m →
+OwnStep = (z : Arena) (a : ℕ) (s : Shared) (held : ℕ → Bool) (m : Reclaiming) → Good z (view s) → AllSwept (view s) → Rights a (view s) true held None (freeing m) → Facts z (view s) m →
     Steps z a s (asks m) (λ t. KeepsObjects (view s) (view t) × Comes z a (view s) (view t) held (gives m (s.words (cell_of (asks m)))) (goes m (s.words (cell_of (asks m)))))
 
 -- it is on a word that there is

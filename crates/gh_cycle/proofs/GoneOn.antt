@@ -13,9 +13,9 @@ use Rattle.gh_cycle.specs.Beside.{IsOfCycle}
 use Rattle.gh_cycle.specs.Reached.{TheReachedWereMade}
 use Rattle.gh_cycle.specs.Since.{CyclesBeginSo, HasGoneOn, TheMarkedWereReached, WhatHasGoneOnLasts}
 use Rattle.gh_cycle.specs.Vocabulary.{alloc_words, birth_word, birth_words, Cycle, Ever, Good, Heap, IsMade, Marking, Name, Placed, Reach, row_bit, RowsAreWritten, TheHeapIsApart, view, View, Words}
-use Rattle.gh_cycle.proofs.Endings.Ended.{zero_one}
-use Rattle.gh_cycle.proofs.Endings.Quiet.{quiet_view}
+use Rattle.gh_cycle.proofs.Bits.{zero_one}
 use Rattle.gh_cycle.proofs.Marked.{marked-since}
+use Rattle.gh_cycle.proofs.Quiet.{quiet_view}
 use Rattle.gh_cycle.proofs.Reaching.{name-itself}
 
 pub cycles-begin-so : TheHeapIsApart → TheReachedWereMade → CyclesBeginSo

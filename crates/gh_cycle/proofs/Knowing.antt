@@ -11,10 +11,10 @@ use Rattle.gh_class.specs.Classes.{IsSizeClass, slot_of, slots_of}
 use Rattle.gh_heap.specs.Spans.{IsSlotOf, body_at, is_own_class, number_of}
 use Rattle.gh_marks.specs.Knows.{KnowsObject, KnowsObjects}
 use Rattle.gh_cycle.specs.Beside.{IsBeside, ObjectsAreKnownBeside}
-use Rattle.gh_cycle.specs.Sweeping.{with_words}
 use Rattle.gh_cycle.specs.Vocabulary.{alloc_words, birth_words, IsMade, Name, Placed, Words, TheHeapIsApart, size_for, Arena, Good, view, Heap, Marking}
-use Rattle.gh_cycle.proofs.Said.{IsSaid, said-beside}
 use Rattle.gh_cycle.proofs.Going.Objects.{here, name-at}
+use Rattle.gh_cycle.proofs.Quiet.{with_words}
+use Rattle.gh_cycle.proofs.Said.{IsSaid, said-beside}
 
 -- of the smallest slot, 8 bytes
 abbrev LeastSlot : Type 0

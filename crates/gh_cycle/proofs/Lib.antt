@@ -1,11 +1,12 @@
 mod Vocabulary
 mod Beginning
+mod Bits
 mod Bounding
-pub mod Endings
 pub mod Going
 mod GoneOn
 mod Knowing
 mod Marked
+mod Quiet
 mod Reaching
 mod Said
 mod Searching

@@ -13,11 +13,11 @@ use Rattle.gh_marks.specs.Colours.{Colour, IsShaded, Placing, White, mark_of}
 use Rattle.gh_marks.specs.Ends.{Reached}
 use Rattle.gh_marks.specs.Ends.{from_field as path_field, from_global as path_global, from_register as path_register}
 use Rattle.gh_marks.specs.Good.{Good as MarkingGood}
-use Rattle.gh_cycle.specs.Beside.{TheReachedAreMarkedBeside}
+use Rattle.gh_cycle.specs.Beside.{TheMarkedStand, TheReachedAreMarkedBeside}
 use Rattle.gh_cycle.specs.Marked.{RegistersFit}
 use Rattle.gh_cycle.specs.Opening.{reference_of}
 use Rattle.gh_cycle.specs.Reached.{IsBounded, TheReachedWereMade}
-use Rattle.gh_cycle.specs.Vocabulary.{Name, Words, EverValue, Reach, Holds, Place, points, Good, view, Heap, Cycle, IsMarked, IsPointer, mark_words, Marking}
+use Rattle.gh_cycle.specs.Vocabulary.{alloc_words, row_bit, Name, Words, EverValue, Reach, Holds, Place, points, Good, view, Heap, Cycle, IsMarked, IsPointer, mark_words, Marking}
 use Rattle.gh_cycle.proofs.Said.{IsSaid, said-beside}
 
 -- a bit of no word is not set
@@ -79,3 +79,9 @@ shaded-of _ e none = tt
 -- so it is of the cycle
 pub marked-since : (z : Cycle) (s : Marking) → MarkingGood z s → ((o a : ℕ) → s.colour o ≢ Placing a) → (o : ℕ) → IsMarked (mark_words s.words) o → s.since o ≡ true
 marked-since z s g none o marked = g.objects.shaded o (shaded-of (s.colour o) (sym marked ∙ g.marks o) (none o))
+
+-- and stands
+pub marked-stand : TheMarkedStand
+marked-stand z h s g same none x set =
+    let since : s.since x ≡ true = marked-since z s g none x (ap (λ (w : Words). row_bit (mark_words w) x) same ∙ set) in
+    ap (λ (w : Words). row_bit (alloc_words w) x) (sym same) ∙ g.objects.placed x since

@@ -8,5 +8,5 @@ pub use Rattle.gh_cycle.specs.Beside.{ClaimsSlot, FillsNone, IsBeside, IsOfCycle
 pub use Rattle.gh_cycle.specs.Known.{Known}
 pub use Rattle.gh_cycle.specs.Marked.{RegistersFit}
 pub use Rattle.gh_cycle.specs.Opening.{reference_of}
-pub use Rattle.gh_cycle.specs.Sweeping.{with_words}
 pub use Rattle.gh_cycle.specs.Vocabulary.{alloc_words, Arena, Ask, birth_words, Cycle, effect, Ever, EverValue, Good, Heap, IsMade, IsMarked, IsSince, mark_words, Marking, Name, owner_at, page_words, Place, Placed, Placing, points, Reach, row_bit, shape_for, size_for, View, view, Words}
+pub use Rattle.gh_cycle.proofs.Quiet.{with_words}

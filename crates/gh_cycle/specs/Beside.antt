@@ -14,7 +14,7 @@ use Rattle.gh_marks.specs.Moves as marks
 use Rattle.gh_cycle.specs.Marked.{RegistersFit}
 use Rattle.gh_cycle.specs.Opening.{IsAtRest, IsCycleOf, RegistersAre}
 use Rattle.gh_cycle.specs.Reached.{IsBounded}
-use Rattle.gh_cycle.specs.Vocabulary.{alloc_words, Arena, birth_words, Cycle, Good, Heap, IsMade, IsMarked, mark_words, Marking, Name, Placed, Placing, points, Reach, shape_for, size_for, view, View}
+use Rattle.gh_cycle.specs.Vocabulary.{alloc_words, Arena, birth_words, Cycle, Good, Heap, IsMade, IsMarked, mark_words, Marking, Name, Placed, Placing, points, Reach, row_bit, shape_for, size_for, view, View}
 
 -- the object was made, stands, and is one of the cycle
 pub record IsOfCycle (h : Heap) (s : Marking) (n : Name) : Type 0 where
@@ -77,6 +77,10 @@ MarkingAloneGoesBeside = (z : Cycle) (a : ℕ) (h : Heap) (s t : Marking) (m : h
     MarksAlone z a h (heap.moved z.arena a h m) s t → IsBeside z.arena (heap.moved z.arena a h m) t
 
 -- The end of marking.
+
+-- where marking has ended and nobody fills a slot what is marked stands
+abbrev pub TheMarkedStand : Type 0
+TheMarkedStand = (z : Cycle) (h : Heap) (s : Marking) → MarkingGood z s → s.words ≡ h.words → ((o a : ℕ) → s.colour o ≢ Placing a) → (x : ℕ) → row_bit (mark_words h.words) x ≡ 1 → row_bit (alloc_words h.words) x ≡ 1
 
 -- each object that a script reaches is marked then
 abbrev pub TheReachedAreMarkedBeside : Type 0

@@ -1,11 +1,8 @@
-pub mod Allocating
 pub mod Beside
 pub mod Deeds
-pub mod Ending
 pub mod Known
 pub mod Marked
 pub mod Opening
 pub mod Reached
 pub mod Since
-pub mod Sweeping
 pub mod Vocabulary

@@ -8,7 +8,7 @@
 //! and a slot whose mark is set before its object is claimed by the seat that fills it. Each of these lasts under
 //! every move over the heap and under every step of marking, and at the end it is enough.
 
-ghost use Rattle.gh_cycle.specs.Beside.{ClaimedFieldsAreAside, CyclesBeginBeside, MarkingAloneGoesBeside, ObjectsAreKnownBeside, SlotsAreReserved, TheReachedAreMarkedBeside};
+ghost use Rattle.gh_cycle.specs.Beside.{ClaimedFieldsAreAside, CyclesBeginBeside, MarkingAloneGoesBeside, ObjectsAreKnownBeside, SlotsAreReserved, TheMarkedStand, TheReachedAreMarkedBeside};
 ghost use Rattle.gh_cycle.specs.Deeds.{DeedsGoBeside};
 ghost use Rattle.gh_cycle.specs.Known.{Known};
 
@@ -93,3 +93,8 @@ pub fn the_reached_are_marked_beside()
 {
     reach_is_decided();
 }
+
+/// Where marking has ended and nobody fills a slot, what is marked stands.
+pub fn the_marked_stand()
+    ensures { TheMarkedStand }
+{}

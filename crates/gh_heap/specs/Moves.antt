@@ -1,5 +1,5 @@
 -- The moves by which an actor changes the shared state, when it may make them, and what they leave to the others.
-use Rattle.std.specs.Prelude.{◌≡◌, ◌≢◌, ℕ, ◌+◌, ◌*◌, ◌/◌, ◌%◌, ◌^◌, ◌<◌, ◌≤◌, true, false, ◌==◌, if◌then◌else◌, bit_or, length, Option, Some, None, ◌⊎◌}
+use Rattle.std.specs.Prelude.{◌≡◌, ◌≢◌, ℕ, ◌+◌, ◌*◌, ◌/◌, ◌%◌, ◌^◌, ◌<◌, ◌≤◌, true, false, ◌==◌, if◌then◌else◌, bit_and, bit_or, length, Option, Some, None, ◌⊎◌}
 use Rattle.std.specs.Int.{bit_at}
 use Rattle.gh_base.specs.declared.cell.Ask.TheVariants as ask
 use Rattle.gh_base.specs.declared.cell.Cell.{Cell}
@@ -9,7 +9,8 @@ use Rattle.gh_base.specs.Steps.{cell_of, effect}
 use Rattle.gh_model.specs.declared.EverValue.TheVariants as ever
 use Rattle.gh_heap.specs.Objects.{Holds, IsMade, Place, points, size_for}
 use Rattle.gh_heap.specs.Rights.{Arena, Shared, View, view, Claims, IsOf}
-use Rattle.gh_heap.specs.Vocabulary.{Ask, BeingFreed, birth_word, bit, body_at, body_word, Ever, EverValue, field_count, FitsClass, FitsHead, Freeing, Head, head_word, is_pointer, IsEmpty, IsFull, IsSpan, LaidOut, Large, Laying, MOST_STATEMENTS, Name, next_name, owned_by, page_of, Reach, REGISTERS, Row, row_bit, same_name, shape_at, size_class_of, SpanHead, with_end, with_field, with_global, with_object, with_register}
+use Rattle.gh_heap.specs.Spans.{slot_count, slot_size}
+use Rattle.gh_heap.specs.Vocabulary.{Ask, BeingFreed, birth_word, bit, body_at, body_word, Ever, EverValue, field_count, FitsClass, FitsHead, Freeing, Head, head_word, is_pointer, IsEmpty, IsFull, IsSpan, LaidOut, Large, Laying, MOST_STATEMENTS, Name, next_name, numbered_by, owned_by, page_of, Reach, REGISTERS, Row, row_bit, same_name, shape_at, size_class_of, SpanHead, with_end, with_field, with_global, with_object, with_register}
 
 -- A change of the shared state by one step, words and ghosts together.
 pub data Move : Type 0 where
@@ -41,6 +42,11 @@ pub data Move : Type 0 where
   -- field k of an object, or a global, takes a value
   Write : (n : Name) → (k : ℕ) → (value : EverValue) → (word : ℕ) → Move
   WriteGlobal : (k : ℕ) → (value : EverValue) → (word : ℕ) → Move
+
+-- What a sweep changes of this, whoever sweeps: a span that is not swept takes another number, and the alloc bits of a word of such a span are cut to these. It needs no right here: who sweeps a span is said elsewhere.
+pub data Sweep : Type 0 where
+  Renumber : (p : ℕ) → (h : SpanHead) → (number : ℕ) → Sweep
+  Thin : (i marks : ℕ) → Sweep
 
 -- Rows that no right guards.
 abbrev pub IsAside : Cell → Type 0
@@ -101,6 +107,10 @@ moved z a s (Make at g d t) = record s {
 }
 moved z a s (Write n k value word) = record s { words = put s.words (cell.Field (s.place n + k)) word; ever = with_field s.ever n k value }
 moved z a s (WriteGlobal k value word) = record s { words = put s.words (cell.Global k) word; ever = with_global s.ever k value }
+
+abbrev pub swept : Shared → Sweep → Shared
+swept s (Renumber p h number) = record s { words = put s.words (cell.Page p) (head_word (numbered_by number h)) }
+swept s (Thin i marks) = record s { words = put s.words (cell.Alloc i) (bit_and (s.words (cell.Alloc i)) marks) }
 
 -- When a seat may make the move: by its rights, and by words that these let it rely on.
 
@@ -172,6 +182,23 @@ pub record MayPass (v : View) (a p : ℕ) (h : SpanHead) : Type 0 where
   pub freeing : v.freeing a ≡ None
   pub head : page_of (v.page p) ≡ Head h
 
+-- of a span that nobody owns and that is not swept
+pub record MayRenumber (v : View) (p : ℕ) (h : SpanHead) (number : ℕ) : Type 0 where
+  pub head : page_of (v.page p) ≡ Head h
+  pub owner : h.owner ≡ 0
+  pub waits : h.number ≢ v.generation
+  pub few : number ≤ v.generation
+
+-- of a word of its bits: the objects that a script reaches stay
+pub record MayThin (z : Arena) (v : View) (i marks : ℕ) : Type 0 where
+  pub p : ℕ
+  pub h : SpanHead
+  pub span : IsSpan z.layout.pages v.page p h
+  pub from : 16 * p ≤ i
+  pub below : i < 16 * (p + h.pages)
+  pub waits : h.number ≢ v.generation
+  pub reached : (n : Name) → Reach v.ever n → v.place n / 64 ≡ i → bit_at marks (v.place n % 64) ≡ 1
+
 abbrev pub May : Arena → (a : ℕ) → View → Move → Type 0
 May z a v (Quiet step) = IsQuiet step
 May z a v (Takes step g d value) = IsQuiet step × Runs z v a g × (d < REGISTERS) × IsReached v.ever value
@@ -183,7 +210,7 @@ May z a v (LayBody y) = MayLay z v a y × (y.next < y.head.pages)
 May z a v (LayHead y) = MayLay z v a y × (y.next ≡ y.head.pages)
 May z a v (FreeBody y) = MayFree v a y × (y.next < y.pages)
 May z a v (FreeHead y) = MayFree v a y × (y.next ≡ y.pages)
-May z a v (Own p h) = MayPass v a p h × (h.owner ≡ 0) × (a + 1 < 2 ^ 8)
+May z a v (Own p h) = MayPass v a p h × (h.owner ≡ 0) × (a + 1 < 2 ^ 8) × (h.number ≡ v.generation)
 May z a v (Disown p h) = MayPass v a p h × (v.holds a p ≡ true)
 May z a v (Publish p h) = (v.holds a p ≡ true) × (page_of (v.page p) ≡ Head h) × (h.class ≡ Large) × IsFull v.alloc p h
 May z a v (ClearField at size k) = Claims z v a at size × (k < size)
@@ -192,6 +219,10 @@ May z a v (SetBits at size i word) = Claims z v a at size × KeepsOthers v.bitma
 May z a v (Make at g d t) = MayMake z v a at g d t
 May z a v (Write n k value word) = MayWrite z v a n k value word
 May z a v (WriteGlobal k value word) = MayWriteGlobal z v k value word
+
+abbrev pub MaySweep : Arena → View → Sweep → Type 0
+MaySweep z v (Renumber p h number) = MayRenumber v p h number
+MaySweep z v (Thin i marks) = MayThin z v i marks
 
 -- What moves leave.
 
@@ -204,25 +235,46 @@ pub record Published (old new : Row) (alloc : Row) (p : ℕ) : Type 0 where
   pub is : page_of (new p) ≡ Head (owned_by 0 h)
   pub full : IsFull alloc p h
 
--- What a routine's own moves, short of its end, leave to who runs it: no span has come to be nobody's, save a large object's, and no alloc bit was cleared.
+-- a slot of a swept span that is taken stays so
+abbrev pub KeepsTaken : (generation : ℕ) → (page old new : Row) → Type 0
+KeepsTaken generation page old new = (p i : ℕ) (h : SpanHead) → page_of (page p) ≡ Head h → h.number ≡ generation → i < slot_count h → row_bit old (1024 * p + i * slot_size h) ≡ 1 → row_bit new (1024 * p + i * slot_size h) ≡ 1
+
+-- a span that nobody owns, which was not swept, and has another number
+pub record Renumbered (old new : Row) (generation p : ℕ) : Type 0 where
+  pub h : SpanHead
+  pub number : ℕ
+  pub was : page_of (old p) ≡ Head h
+  pub owner : h.owner ≡ 0
+  pub waits : h.number ≢ generation
+  pub is : page_of (new p) ≡ Head (numbered_by number h)
+
+-- a swept span of a large object, in which the object stands
+pub record IsGivenUp (alloc : Row) (generation p : ℕ) (h : SpanHead) : Type 0 where
+  pub large : h.class ≡ Large
+  pub full : IsFull alloc p h
+  pub number : h.number ≡ generation
+
+-- What a routine's own moves, short of its end, leave to who runs it: no span has come to be nobody's, save a large object's, and of swept spans no alloc bit was cleared.
 pub record Leaves (v w : View) : Type 0 where
-  pub pages : (p : ℕ) (h : SpanHead) → page_of (w.page p) ≡ Head h → h.owner ≡ 0 → (page_of (v.page p) ≡ Head h) ⊎ ((h.class ≡ Large) × IsFull w.alloc p h)
-  pub bits : (x : ℕ) → row_bit v.alloc x ≡ 1 → row_bit w.alloc x ≡ 1
+  pub generation : w.generation ≡ v.generation
+  pub pages : (p : ℕ) (h : SpanHead) → page_of (w.page p) ≡ Head h → h.owner ≡ 0 → (page_of (v.page p) ≡ Head h) ⊎ (IsGivenUp w.alloc v.generation p h ⊎ Renumbered v.page w.page v.generation p)
+  pub bits : KeepsTaken v.generation v.page v.alloc w.alloc
 
 -- no object is made, and no value changes
 abbrev pub KeepsObjects : (v w : View) → Type 0
 KeepsObjects v w = (w.ever ≡ v.ever) × (w.place ≡ v.place)
 
--- What the moves of all others leave to a seat. While it has the lock, a page word changes only where another gives up the span of a large object.
+-- What the moves of all others leave to a seat. While it has the lock, a page word changes only where another gives up the span of a large object, or sweeps one that nobody owns.
 pub record Others (z : Arena) (a : ℕ) (v w : View) : Type 0 where
   pub locked : w.locked a ≡ v.locked a
   pub holds : (p : ℕ) → w.holds a p ≡ v.holds a p
   pub laying : w.laying a ≡ v.laying a
   pub freeing : w.freeing a ≡ v.freeing a
   pub generation : w.generation ≡ v.generation
-  pub bits : (x : ℕ) → row_bit v.alloc x ≡ 1 → row_bit w.alloc x ≡ 1
+  -- in a swept span no bit is cleared
+  pub bits : KeepsTaken v.generation v.page v.alloc w.alloc
   pub leaves : v.locked a ≡ true → Leaves v w
-  pub pages : v.locked a ≡ true → (p : ℕ) → (w.page p ≡ v.page p) ⊎ Published v.page w.page w.alloc p
+  pub pages : v.locked a ≡ true → (p : ℕ) → (w.page p ≡ v.page p) ⊎ (Published v.page w.page w.alloc p ⊎ Renumbered v.page w.page v.generation p)
   -- in a span that nobody owns no object is placed
   pub clear : (p x : ℕ) (h : SpanHead) → IsSpan z.layout.pages v.page p h → h.owner ≡ 0 → 1024 * p ≤ x → x < 1024 * (p + h.pages) → row_bit v.alloc x ≡ 0 → row_bit w.alloc x ≡ 0
   -- in a span that it holds

@@ -1,16 +1,15 @@
 -- The shared state: the words, each actor's rights to change them, and the ghosts beside them; and what holds of it at every moment.
-use Rattle.std.specs.Prelude.{◌≡◌, ◌≢◌, ℕ, ◌+◌, ◌^◌, ◌<◌, Bool, true, List, ◌↔◌, Option, Some, None}
+use Rattle.std.specs.Prelude.{◌≡◌, ◌≢◌, ℕ, ◌+◌, ◌^◌, ◌<◌, ◌≤◌, Bool, true, List, ◌↔◌, Option, Some, None}
 use Rattle.gh_base.specs.declared.cell.Cell.TheVariants as cell
 use Rattle.gh_base.specs.declared.layout.Layout.{Layout}
 use Rattle.gh_base.specs.declared.pack.PageWord.TheVariants.{Head}
 use Rattle.gh_base.specs.declared.pack.SpanHead.{SpanHead}
 use Rattle.gh_base.specs.declared.shape.Shape.{Shape}
-use Rattle.gh_base.specs.declared.value.Name.{Name}
 use Rattle.gh_base.specs.Cells.{Words}
 use Rattle.gh_base.specs.Packing.{page_of}
 use Rattle.gh_base.specs.Rows.{Row, row_bit, page_words, alloc_words, bitmap_words, birth_words, field_words, global_words}
 use Rattle.gh_model.specs.Ever.{Ever}
-use Rattle.gh_heap.specs.Objects.{IsMade, Place, Placed, BitsGood, ReachedGood, SlotsGood, PointersGood, FieldsGood, GlobalsGood, NamesGood}
+use Rattle.gh_heap.specs.Objects.{Place, BitsGood, ReachedGood, SlotsGood, PointersGood, FieldsGood, GlobalsGood, NamesGood}
 use Rattle.gh_heap.specs.Spans.{FitsIn, IsSpan, IsSlotOf, IsFull, IsInUse, IsEmpty, owner_at, Laying, LaidOut, Freeing, BeingFreed}
 
 -- What a heap is of: where its words lie, the types of its objects, and at which seat is the processor that runs a goroutine.
@@ -93,9 +92,14 @@ IsKept freeing p = (a : ℕ) (y : Freeing) → freeing a ≡ Some y → y.first 
 abbrev pub WholeGood : (pages : ℕ) → (page : Row) → (ℕ → Option Freeing) → Type 0
 WholeGood pages page freeing = (p : ℕ) (h : SpanHead) → page_of (page p) ≡ Head h → IsKept freeing p → IsSpan pages page p h
 
--- and is swept: its number is that of the sweep generation
-abbrev pub NumbersGood : (page : Row) → (generation : ℕ) → Type 0
-NumbersGood page generation = (p : ℕ) (h : SpanHead) → page_of (page p) ≡ Head h → h.number ≡ generation
+-- A span whose number is not that of the sweep generation is not swept: nobody owns it, and nobody frees it.
+pub record IsNumbered (generation : ℕ) (freeing : ℕ → Option Freeing) (p : ℕ) (h : SpanHead) : Type 0 where
+  pub few : h.number ≤ generation
+  pub owned : h.owner ≢ 0 → h.number ≡ generation
+  pub freed : (a : ℕ) (y : Freeing) → freeing a ≡ Some y → y.first ≡ p → h.number ≡ generation
+
+abbrev pub NumbersGood : (page : Row) → (generation : ℕ) → (ℕ → Option Freeing) → Type 0
+NumbersGood page generation freeing = (p : ℕ) (h : SpanHead) → page_of (page p) ≡ Head h → IsNumbered generation freeing p h
 
 -- a head names the seat that holds its span
 abbrev pub OwnersGood : (page : Row) → (ℕ → ℕ → Bool) → Type 0
@@ -127,7 +131,7 @@ pub record Good (z : Arena) (v : View) : Type 0 where
   pub spans : SpansGood z.layout.pages v.page
   pub whole : WholeGood z.layout.pages v.page v.freeing
   pub generation : v.generation < 2 ^ 34
-  pub numbers : NumbersGood v.page v.generation
+  pub numbers : NumbersGood v.page v.generation v.freeing
   pub owners : OwnersGood v.page v.holds
   pub laying : LayingGood z.layout.pages v.page v.locked v.laying
   pub freeing : FreeingGood v.page v.alloc v.locked v.freeing
@@ -160,10 +164,10 @@ IsOf z a g = (g < z.layout.goroutines) × (z.seat_of g ≡ a)
 
 -- What a walk over the page words has found.
 
--- each span of the span class that nobody owns and that begins before page p is full
-abbrev pub FullBefore : (page alloc : Row) → (span : SpanHead) → (p : ℕ) → Type 0
-FullBefore page alloc span p = (q : ℕ) (h : SpanHead) → q < p → page_of (page q) ≡ Head h → h.class ≡ span.class → h.noscan ≡ span.noscan → h.owner ≡ 0 → IsFull alloc q h
+-- each span of the span class that nobody owns and that begins before page p is swept and full
+abbrev pub FullBefore : (page alloc : Row) → (generation : ℕ) → (span : SpanHead) → (p : ℕ) → Type 0
+FullBefore page alloc generation span p = (q : ℕ) (h : SpanHead) → q < p → page_of (page q) ≡ Head h → h.class ≡ span.class → h.noscan ≡ span.noscan → h.owner ≡ 0 → (h.number ≡ generation) × IsFull alloc q h
 
--- in each span that nobody owns and that begins before page p an object stands
-abbrev pub TidyBefore : (page alloc : Row) → (p : ℕ) → Type 0
-TidyBefore page alloc p = (q : ℕ) (h : SpanHead) → q < p → page_of (page q) ≡ Head h → h.owner ≡ 0 → IsInUse alloc q h
+-- each span that nobody owns and that begins before page p is swept, and an object stands in it
+abbrev pub TidyBefore : (page alloc : Row) → (generation : ℕ) → (p : ℕ) → Type 0
+TidyBefore page alloc generation p = (q : ℕ) (h : SpanHead) → q < p → page_of (page q) ≡ Head h → h.owner ≡ 0 → (h.number ≡ generation) × IsInUse alloc q h

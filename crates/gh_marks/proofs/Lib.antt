@@ -9,3 +9,4 @@ mod Moving
 mod MovingRoots
 mod Opening
 mod Quiet
+mod Words

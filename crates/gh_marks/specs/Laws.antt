@@ -3,8 +3,9 @@ use Rattle.std.specs.Prelude.{◌≡◌, ◌≢◌, ℕ, ◌+◌, ◌-◌, ◌^�
 use Rattle.gh_base.specs.declared.cell.Ask.{Ask}
 use Rattle.gh_base.specs.declared.cell.Cell.TheVariants as cell
 use Rattle.gh_base.specs.declared.held.Held.{Held}
+use Rattle.gh_base.specs.Cells.{opening_words}
 use Rattle.gh_base.specs.Rows.{mark_words, row_bit}
-use Rattle.gh_heap.specs.Rights.{IsOf}
+use Rattle.gh_heap.specs.Rights.{IsOf, WordsGood as AreWords}
 use Rattle.gh_marks.specs.Colours.{Cycle, IsClean, IsPointer, IsSince, Shared}
 use Rattle.gh_marks.specs.Ends.{EachReachedIsMarked, IsDone, IsFound, Opens}
 use Rattle.gh_marks.specs.Good.{Good}
@@ -110,3 +111,8 @@ MarkingEndsClean = (z : Cycle) (s : Shared) → Good z s → IsDone z s → Each
 -- what was dead when the cycle began is not marked
 abbrev pub TheDeadAreWhite : Type 0
 TheDeadAreWhite = (z : Cycle) (s : Shared) → Good z s → (o : ℕ) → IsDead s o → row_bit (mark_words s.words) o ≡ 0
+
+-- mark words are words where a heap opens, and behind each move of marking
+pub record MarksStayWords : Type 0 where
+  pub opening : (trigger : ℕ) → AreWords (mark_words (opening_words trigger))
+  pub moves : (z : Cycle) (a : ℕ) (s : Shared) (m : Move) → May z a s m → AreWords (mark_words s.words) → AreWords (mark_words (moved z a s m).words)

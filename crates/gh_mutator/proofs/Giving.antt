@@ -1,15 +1,12 @@
 -- What the giving back leaves, step by step.
-use Rattle.std.proofs.Common.{◌≡◌, ℕ, zero, suc, ◌+◌, ◌/◌, Bool, true, false, cond, eqb, List, [], ◌∷◌, ◌++◌, length, drop, replicate, Option, Some, None, refl, sym, ap, subst, ◌∙◌, arith}
-use Rattle.gh_base.specs.declared.cell.Cell.TheVariants as cell
+use Rattle.std.proofs.Common.{◌≡◌, ℕ, zero, suc, ◌+◌, ◌/◌, Bool, true, false, cond, eqb, List, [], ◌∷◌, length, drop, replicate, Option, Some, None, refl, sym, ap, subst, ◌∙◌, arith}
 use Rattle.gh_class.specs.declared.class.TheConstants.{SPAN_CLASSES}
-use Rattle.gh_alloc.specs.Locking.{holds, lock_after}
 use Rattle.gh_wbuf.specs.BufferGiving as buffer
-use Rattle.gh_wbuf.specs.declared.give_buffer.GiveStage.TheVariants as buffer_stage
 use Rattle.gh_mutator.specs.declared.give.GiveStage.TheVariants.{Lock, GiveSpan, Unlock, GiveBuffer, Ended}
-use Rattle.gh_mutator.specs.Give.{after_buffer, asks, asks_at, at_stage, begins, ends_with, first_of, gives, Giving, gives_at, giving_buffer, goes, goes_at, head_store, is_busy, listing, none_cached, opening, stage_from}
+use Rattle.gh_mutator.specs.Give.{after_buffer, at_stage, begins, first_of, Giving, giving_buffer, goes, goes_at, is_busy, none_cached, opening, stage_from}
 use Rattle.gh_mutator.specs.GiveSound.{FitsCache}
 use Rattle.gh_mutator.specs.Cached.{SoundCached}
-use Rattle.gh_mutator.proofs.Vocabulary.{append-nil, append_assoc, Ask, BufferStage, CachedSpan, GiveStage, Held, Layout, read_after_set, read_replicate, set, Store, Swap, told}
+use Rattle.gh_mutator.proofs.Vocabulary.{CachedSpan, GiveStage, Held, Layout, read_replicate}
 
 abbrev no_span : Option CachedSpan
 no_span = None

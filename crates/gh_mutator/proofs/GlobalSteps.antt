@@ -17,8 +17,7 @@ use Rattle.gh_mutator.specs.declared.step.Then.{Then}
 use Rattle.gh_mutator.specs.Barrier.{held_then, with_held, written}
 use Rattle.gh_mutator.specs.Faults.{is_load}
 use Rattle.gh_mutator.specs.Fields.{takes, told, value_of}
-use Rattle.gh_mutator.specs.Global.{after_write, asks, asks_at, at_stage, begins_store, held_behind, naming, step, step_at, stores}
-use Rattle.gh_mutator.specs.GiveSound.{Runs}
+use Rattle.gh_mutator.specs.Global.{after_write, asks, asks_at, at_stage, begins_store, held_behind, naming, step, step_at}
 use Rattle.gh_mutator.specs.Local.{is_mark}
 use Rattle.gh_mutator.specs.Poll.{Polling}
 use Rattle.gh_mutator.specs.Sound.{GlobalRoom, IsNear, IsRegister, SoundGlobal}

@@ -1,7 +1,6 @@
 -- Each step, and each beginning, keeps what the processor knows of its own state, whatever was found.
 use Rattle.std.proofs.Common.{◌≡◌, ℕ, zero, suc, ◌≤◌, ◌⊎◌, inl, inr, true, false, List, [], get_or, replicate, refl, sym, ◌∙◌, subst, Option, Some, None, IsNone, arith}
-use Rattle.gh_mutator.specs.Vocabulary.{Global, GlobalStage, Polling, Register, ShapesFit, Source, Store, StoreStage}
-use Rattle.gh_base.specs.declared.operation.Op.TheVariants as op
+use Rattle.gh_mutator.specs.Vocabulary.{Global, GlobalStage, Polling, Register, Source, Store, StoreStage}
 use Rattle.gh_base.specs.declared.value.Value.TheVariants as value
 use Rattle.gh_base.specs.declared.held.Held.{Held}
 use Rattle.gh_mutator.specs.declared.global.GlobalStage.TheVariants as global_stage
@@ -9,28 +8,26 @@ use Rattle.gh_mutator.specs.declared.store.StoreStage.TheVariants as store_stage
 use Rattle.gh_mutator.specs.declared.register.Source.TheVariants as source
 use Rattle.gh_mutator.specs.declared.task.Task.TheVariants as task
 use Rattle.gh_mutator.specs.Barrier.{with_held}
-use Rattle.gh_mutator.specs.Give as give
 use Rattle.gh_mutator.specs.Global as global_listing
 use Rattle.gh_mutator.specs.Leave as leave
 use Rattle.gh_mutator.specs.LeaveEnds as leave_proved
 use Rattle.gh_mutator.specs.LeaveEnds.{stage_busy}
 use Rattle.gh_mutator.specs.Load as load_listing
-use Rattle.gh_mutator.specs.Local.{register_in, with_nothing, with_register}
+use Rattle.gh_mutator.specs.Local.{register_in, with_register}
 use Rattle.gh_mutator.specs.Poll as poll
 use Rattle.gh_mutator.specs.PollEnds as poll_proved
 use Rattle.gh_mutator.specs.Processor.{at_poll, at_task, keeping, opening_processor}
 use Rattle.gh_mutator.specs.Register.{read_of, step, value_from}
 use Rattle.gh_mutator.specs.Serving.{is_making}
-use Rattle.gh_mutator.specs.Sound.{GlobalRoom, has_names, has_room, IsNear, most_objects, Sound, SoundGlobal, SoundLoad, SoundOp, SoundRegister, SoundStore, SoundTask, StoreRoom}
+use Rattle.gh_mutator.specs.Sound.{GlobalRoom, IsNear, most_objects, Sound, SoundGlobal, SoundLoad, SoundRegister, SoundStore, SoundTask, StoreRoom}
 use Rattle.gh_mutator.specs.Store as store_listing
 use Rattle.gh_mutator.specs.Wait as wait
 use Rattle.gh_mutator.specs.WaitEnds as wait_proved
-use Rattle.gh_mutator.proofs.Vocabulary.{after_gc, after_leave, after_poll, begins, FitsWait, Layout, Leaving, leaving, ltb-true, Op, Processor, read_replicate, register_of, Shape, takes, takes_at, Task, Value, Waiting, wanted_of, with_ended}
+use Rattle.gh_mutator.proofs.Vocabulary.{after_gc, after_leave, after_poll, FitsWait, Layout, Leaving, Processor, read_replicate, register_of, Shape, takes, takes_at, Task, Value, Waiting, with_ended}
 use Rattle.gh_mutator.proofs.Changes.{applied_sound, moved, polled, SameBuffer}
-use Rattle.gh_mutator.proofs.ClassFacts.{ClassLaws, wanted_sound}
+use Rattle.gh_mutator.proofs.ClassFacts.{ClassLaws}
 use Rattle.gh_mutator.proofs.GlobalSteps as global
 use Rattle.gh_mutator.proofs.LoadSteps as load
-use Rattle.gh_mutator.proofs.NewSteps as new
 use Rattle.gh_mutator.proofs.Stacks.{poll_stacks, wait_stacks}
 use Rattle.gh_mutator.proofs.Steps.{goes_both, StepSound}
 use Rattle.gh_mutator.proofs.StoreSteps as store

@@ -16,13 +16,13 @@ use Rattle.gh_mutator.specs.declared.step.Then.{Then}
 use Rattle.gh_mutator.specs.declared.store.Store.{Store}
 use Rattle.gh_mutator.specs.declared.store.StoreStage.{StoreStage}
 use Rattle.gh_mutator.specs.declared.store.StoreStage.TheVariants.{Page, Bits, Field, Writing, NilBase}
-use Rattle.gh_mutator.specs.Barrier.{has_entries, held_then, with_held, written}
+use Rattle.gh_mutator.specs.Barrier.{held_then, with_held, written}
 use Rattle.gh_mutator.specs.Faults.{is_load}
 use Rattle.gh_mutator.specs.Fields.{has_field, is_pointer_by, kinds_differ}
 use Rattle.gh_mutator.specs.GiveSound.{Runs}
 use Rattle.gh_mutator.specs.Local.{is_mark}
 use Rattle.gh_mutator.specs.Poll.{Polling}
-use Rattle.gh_mutator.specs.Sound.{IsField, IsNear, IsRegister, SoundStore, SoundStoreStage, StoreRoom}
+use Rattle.gh_mutator.specs.Sound.{IsField, IsRegister, SoundStore, SoundStoreStage, StoreRoom}
 use Rattle.gh_mutator.specs.Step.{ends, goes_on}
 use Rattle.gh_mutator.specs.Store.{after_write, asks, asks_at, at_stage, begins, by_kind, held_behind, pointer_cell_at, step, step_at, stores}
 use Rattle.gh_mutator.proofs.ClassFacts.{ClassLaws}

@@ -243,13 +243,24 @@ abbrev pub FullAt : Arena → (a : ℕ) → View → Processor → Op → Type 0
 FullAt z a v m (op.New g d t) = FoundNone z a v m (sought_for (shape_at z.shapes t))
 FullAt z a v m _ = ⊥
 
--- What a step that found this comes to in t, from s: what is known of the processor then, with the answer that is pending; the heap that never frees, if it was a point; what is answered; and that there was no room where it says so.
+-- Where an object's bytes are counted, words alone change.
+abbrev pub CountsNew : NewStage → (s t : Shared) → Type 0
+CountsNew (Place p) s t = place.CountsAlone p.stage s t
+CountsNew _ s t = Unit {0}
+
+abbrev pub CountsAlone : Task → (s t : Shared) → Type 0
+CountsAlone (task.New x) s t = CountsNew x.stage s t
+CountsAlone _ s t = Unit {0}
+
+-- What a step that found this comes to in t, from s: what is known of the processor then, with the answer that is pending; the heap that never frees, if it was a point; what is answered; that there was no room where it says so; and what changes where it counts an object's bytes.
 pub record Does (z : Arena) (a : ℕ) (s t : Shared) (m : Processor) (pending : Option Answer) (found : ℕ) : Type 0 where
   pub after : Option Answer
   pub fine : Fine z a (view t) (takes z.shapes m found) after
   pub ever : t.ever ≡ acted z.shapes s.ever (acts m found)
   pub answers : option_to_list (answered_at z.shapes s.ever (acts m found)) ++ option_to_list pending ≡ option_to_list after ++ option_to_list (gives m found)
   pub full : (x : Act) → acts m found ≡ Some x → x.full ≡ true → FullAt z a (view s) m x.op
+  -- the step that counts an object's bytes changes words alone
+  pub counts : CountsAlone m.task s t
 
 -- a step of its own, at this task
 abbrev pub OwnStepAt : Task → Type 0

@@ -25,7 +25,7 @@ pub record PollsByRights : Type 0 where
   pub own_step : (z : Arena) (a : ℕ) (s : Shared) (p : Polling) → Good z (view s) → Polls z a (view s) p →
       Steps z a s (poll.asks p) (λ t. KeepsObjects (view s) (view t) × Polls z a (view t) (poll.goes p (s.words (cell_of (poll.asks p)))))
   pub within : (z : Arena) (a : ℕ) (v : View) (p : Polling) → Good z v → Polls z a v p → InRange z.layout (cell_of (poll.asks p))
-  pub lasts : (z : Arena) (a : ℕ) (v w : View) (p : Polling) → Others z a v w → PollFacts z a v p → PollFacts z a w p
+  pub lasts : (z : Arena) (a : ℕ) (v w : View) (p : Polling) → Good z v → Others z a v w → PollFacts z a v p → PollFacts z a w p
   pub parked : (z : Arena) (a : ℕ) (v : View) (p : Polling) (stops : ℕ) → IsParked stops (poll_stage_of p) → Polls z a v p → Has a v false no_page
   pub stopped : (z : Arena) (a : ℕ) (v w : View) (p : Polling) (stops : ℕ) → IsParked stops (poll_stage_of p) → KeepsGhosts a v w → PollFacts z a v p → PollFacts z a w p
   pub ends : (z : Arena) (a : ℕ) (v : View) (p : Polling) → poll.is_busy p.stage ≡ false → Polls z a v p → IsAtRest z a v p
@@ -40,7 +40,7 @@ pub record WaitsByRights : Type 0 where
   pub own_step : (z : Arena) (a : ℕ) (s : Shared) (w : Waiting) → Good z (view s) → Waits z a (view s) w →
       Steps z a s (wait.asks w) (λ t. KeepsObjects (view s) (view t) × Waits z a (view t) (wait.goes w (s.words (cell_of (wait.asks w)))))
   pub within : (z : Arena) (a : ℕ) (v : View) (w : Waiting) → Good z v → Waits z a v w → InRange z.layout (cell_of (wait.asks w))
-  pub lasts : (z : Arena) (a : ℕ) (v u : View) (w : Waiting) → Others z a v u → WaitFacts z a v w → WaitFacts z a u w
+  pub lasts : (z : Arena) (a : ℕ) (v u : View) (w : Waiting) → Good z v → Others z a v u → WaitFacts z a v w → WaitFacts z a u w
   pub parked : (z : Arena) (a : ℕ) (v : View) (w : Waiting) (stops : ℕ) → IsParked stops (wait_stage_of w) → Waits z a v w → Has a v false no_page
   pub stopped : (z : Arena) (a : ℕ) (v u : View) (w : Waiting) (stops : ℕ) → IsParked stops (wait_stage_of w) → KeepsGhosts a v u → WaitFacts z a v w → WaitFacts z a u w
   pub ends : (z : Arena) (a : ℕ) (v : View) (w : Waiting) → wait.is_busy w.wait.stage ≡ false → Waits z a v w → IsAtRest z a v w.poll
@@ -55,7 +55,7 @@ pub record LeavesByRights : Type 0 where
   pub own_step : (z : Arena) (a : ℕ) (s : Shared) (p : Polling) (x : Leaving) → Good z (view s) → Leaves z a (view s) p x →
       Steps z a s (leave.asks x) (λ t. KeepsObjects (view s) (view t) × Leaves z a (view t) p (leave.goes x (s.words (cell_of (leave.asks x)))))
   pub within : (z : Arena) (a : ℕ) (v : View) (p : Polling) (x : Leaving) → Good z v → Leaves z a v p x → InRange z.layout (cell_of (leave.asks x))
-  pub lasts : (z : Arena) (a : ℕ) (v w : View) (p : Polling) (x : Leaving) → Others z a v w → LeaveFacts z a v p x → LeaveFacts z a w p x
+  pub lasts : (z : Arena) (a : ℕ) (v w : View) (p : Polling) (x : Leaving) → Good z v → Others z a v w → LeaveFacts z a v p x → LeaveFacts z a w p x
   pub parked : (z : Arena) (a : ℕ) (v : View) (p : Polling) (x : Leaving) (stops : ℕ) → IsParked stops (leaves_at x.stage) → Leaves z a v p x → Has a v false no_page
   pub stopped : (z : Arena) (a : ℕ) (v w : View) (p : Polling) (x : Leaving) (stops : ℕ) → IsParked stops (leaves_at x.stage) → KeepsGhosts a v w → LeaveFacts z a v p x → LeaveFacts z a w p x
   pub ends : (z : Arena) (a : ℕ) (v : View) (p : Polling) (x : Leaving) → leave.is_busy x.stage ≡ false → Leaves z a v p x → Has a v false no_page × Stands z a v p

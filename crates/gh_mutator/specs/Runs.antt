@@ -5,7 +5,7 @@ use Rattle.gh_base.specs.Cells.{InRange}
 use Rattle.gh_model.specs.Ever.{opening_ever}
 use Rattle.gh_phase.specs.Shakes.{IsParked}
 use Rattle.gh_phase.specs.Views.{first_view}
-use Rattle.gh_mutator.specs.Vocabulary.{Answer, Arena, cell_of, Good, Op, Processor, Shared, Steps, View, view}
+use Rattle.gh_mutator.specs.Vocabulary.{AllSwept, Answer, Arena, cell_of, Good, Op, Processor, Shared, Steps, View, view}
 use Rattle.gh_mutator.specs.Deeds.{given_at, point_of, processor_kind}
 use Rattle.gh_mutator.specs.Facts.{Does, Fine, Lasts, MayBegin, ShapesAreGood, answered_at}
 use Rattle.gh_mutator.specs.Listing.{acts, asks, gives, is_busy_at}
@@ -31,9 +31,9 @@ pub record DoesPoints (z : Arena) (a : ℕ) (s t : Shared) (m : Processor) (pend
   pub does : Does z a s t m pending found
   pub answers : option_to_list (answered_at z.shapes s.ever (point_of (acts m found))) ++ option_to_list pending ≡ option_to_list does.after ++ option_to_list (given_at m.task (gives m found))
 
--- a step of its own
+-- a step of its own; the search for a slot sweeps no span itself
 abbrev pub OwnStep : Type 0
-OwnStep = (z : Arena) (a : ℕ) (s : Shared) (m : Processor) (pending : Option Answer) → ShapesAreGood z.shapes → is_busy_at m.task ≡ true → Good z (view s) → Fine z a (view s) m pending →
+OwnStep = (z : Arena) (a : ℕ) (s : Shared) (m : Processor) (pending : Option Answer) → ShapesAreGood z.shapes → is_busy_at m.task ≡ true → Good z (view s) → AllSwept (view s) → Fine z a (view s) m pending →
     Steps z a s (asks m) (λ t. DoesPoints z a s t m pending (s.words (cell_of (asks m))))
 
 -- it is on a word that there is

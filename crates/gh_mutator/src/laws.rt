@@ -220,11 +220,12 @@ pub fn calm_processors_mark_nothing()
     a_processor_marks_by_moves();
 }
 
-/// Whatever any number of processors do beside it: an operation begins well where it may begin; each step of the
-/// processor is a move that its rights allow, on a word that there is, after which its registers hold what they
-/// hold in the heap that never frees, and it answers what that heap answers, or `full` where it found no room;
-/// and what is known of it lasts. Where it is parked at a stop, or is gone, it has no right, and what is known of it
-/// lasts whatever is done to the words.
+/// Whatever any number of processors do beside it: an operation begins well where it may begin; while each span that
+/// nobody owns is swept, each step of the processor is a move that its rights allow, on a word that there is, after
+/// which its registers hold what they hold in the heap that never frees, and it answers what that heap answers, or
+/// `full` where it found no room; the step that counts an object's bytes changes words alone; and what is known of it
+/// lasts. Where it is parked at a stop, or is gone, it has no right, and what is known of it lasts whatever is done to
+/// the words.
 pub fn a_processor_runs_by_its_rights()
     ensures { RunsByItsRights }
 {

@@ -90,7 +90,11 @@ impl<'s> Mutator<'s> {
         requires idle { is_busy self.old ≡ false }
         requires op { SoundOp self.old.shapes self.old.processor.poll.layout op }
         ensures exactly { result ≡ sets self.old op }
-        ensures set { IsTrue result → (found : ℕ) → (self.new ≡ goes (begins self.old op) found) × (asks (begins self.old op) ≡ ask.Load cell.Touch) × (statement_answer (begins self.old op).processor found ≡ Some answers.Done) × (is_last (begins self.old op).processor.task ≡ false) × (is_point (acts (begins self.old op) found) ≡ true) }
+        ensures set { IsTrue result → (found : ℕ) → self.new ≡ goes (begins self.old op) found }
+        ensures asks { IsTrue result → asks (begins self.old op) ≡ ask.Load cell.Touch }
+        ensures answer { IsTrue result → (found : ℕ) → statement_answer (begins self.old op).processor found ≡ Some answers.Done }
+        ensures goes_on { IsTrue result → is_last (begins self.old op).processor.task ≡ false }
+        ensures acts { IsTrue result → (found : ℕ) → is_point (acts (begins self.old op) found) ≡ true }
         ensures stays { result ≡ false → self.new ≡ self.old }
     {
         let (g, d, value) = match op {

@@ -1,16 +1,15 @@
 -- The heap that never frees among the statements of a run: how it stands behind the first of them.
-use Rattle.std.proofs.Common.{◌≡◌, ℕ, ◌+◌, ◌-◌, ◌<◌, ◌≤◌, Bool, true, false, cond, eqb, ◌&&◌, List, [], ◌∷◌, map, length, drop, get_or, Option, Some, None, refl, sym, ap, subst, ◌∙◌, arith, inl, inr}
+use Rattle.std.proofs.Common.{◌≡◌, ℕ, ◌+◌, ◌-◌, ◌<◌, ◌≤◌, Bool, true, false, cond, eqb, ◌&&◌, List, ◌∷◌, map, length, drop, get_or, Option, Some, None, refl, sym, ap, subst, ◌∙◌, arith, inl, inr}
 use Rattle.std.specs.Prelude.{option_map, slice_get}
 use Rattle.std.proofs.Math.ListN.{set}
 use Rattle.std.proofs.lemmas.Bool.{cases_lt, eq-eqb, eqb-true}
-use Rattle.std.proofs.lemmas.List.{drop_all, drop_more, get_or_past, get_or-map, get_or-set_other, get_or-set_same, length-map, length-set}
+use Rattle.std.proofs.lemmas.List.{drop_more, get_or_past, get_or-set_other, get_or-set_same, length-map, length-set}
 use Rattle.std.proofs.lemmas.Option.{slice_get-get_or, slice_get-map}
 use Rattle.gh_base.specs.declared.operation.Op.TheVariants as op
 use Rattle.gh_base.specs.declared.value.Answer.TheVariants as answer
 use Rattle.gh_base.specs.declared.shape.Shape.{Shape}
 use Rattle.gh_ever.specs.Applied.{given_answer, IsDue, spent}
 use Rattle.gh_ever.specs.Lists.{ever_of, Lists}
-use Rattle.gh_lines.specs.Text.{answers_by}
 use Rattle.gh_model.specs.Answers.{AllAnswer, Answers, ever_after_all}
 use Rattle.gh_model.specs.Ever.{Ever, ever_after}
 use Rattle.gh_script.specs.Program.{Goroutine, no_goroutine, statement_at}
@@ -22,7 +21,7 @@ use Rattle.gh_world.specs.Points.{answers_of, ever_along, op_at_point, ops_of}
 use Rattle.gh_world.specs.Runs.{acted_by}
 use Rattle.gh_world.specs.Turns.{is_statement_of}
 use Rattle.gh_replay.specs.declared.check.Told.{Told}
-use Rattle.gh_replay.specs.Check.{AreAlong, IsOpening, left_of}
+use Rattle.gh_replay.specs.Check.{AreAlong, left_of}
 use Rattle.gh_replay.proofs.Vocabulary.{Answer, goroutine_at, Op, op_of, Program}
 
 -- ---- statements

@@ -3,7 +3,6 @@ use Rattle.std.proofs.Common.{◌≡◌, ℕ, zero, suc, ◌+◌, ◌≤◌, Boo
 use Rattle.std.proofs.lemmas.Bool.Decides.{nat_tests}
 use Rattle.gh_base.specs.Lists.{started}
 use Rattle.gh_coord.specs.Listing as coord
-use Rattle.gh_mutator.specs.declared.processor.Processor.{Processor}
 use Rattle.gh_world.specs.declared.handshake.Actor.{Actor}
 use Rattle.gh_world.specs.Wishes.{most_cycles}
 use Rattle.gh_world.specs.declared.handshake.Actor.TheVariants.{Leads}

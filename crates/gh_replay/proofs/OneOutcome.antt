@@ -8,7 +8,6 @@ use Rattle.gh_base.specs.declared.machine.Entry.{Entry}
 use Rattle.gh_script.specs.Program.{Program}
 use Rattle.gh_coord.specs.Listing.{Coordinating}
 use Rattle.gh_lines.specs.Text.{Outcome}
-use Rattle.gh_mutator.specs.declared.processor.Processor.{Processor}
 use Rattle.gh_world.specs.declared.handshake.Actor.{Actor}
 use Rattle.gh_world.specs.declared.handshake.Actor.TheVariants.{Leads}
 use Rattle.gh_world.specs.Order.{ever_of}

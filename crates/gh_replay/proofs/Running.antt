@@ -1,22 +1,18 @@
 -- What a run has so far, and what it has when the world is done.
-use Rattle.std.proofs.Common.{◌≡◌, ℕ, ◌+◌, ◌<◌, ◌≤◌, true, false, List, [], ◌∷◌, ◌++◌, length, map, reverse, refl, sym, ◌∙◌, ap, subst, Option, Some, None, arith, length-append}
-use Rattle.std.specs.Prelude.{slice_get}
+use Rattle.std.proofs.Common.{◌≡◌, ℕ, ◌+◌, ◌<◌, ◌≤◌, true, false, List, [], ◌∷◌, ◌++◌, length, map, refl, sym, ◌∙◌, ap, subst, Some, arith, length-append}
 use Rattle.gh_base.specs.Cells.{seats_of}
-use Rattle.gh_base.specs.Lists.{by}
 use Rattle.gh_coord.specs.Keeping.{last_kept}
 use Rattle.gh_world.specs.declared.event.Event.{Event}
 use Rattle.gh_world.specs.declared.event.Event.TheVariants as event
-use Rattle.gh_world.specs.declared.runner.Runner.{Runner}
-use Rattle.gh_world.specs.Order.{begun_in}
 use Rattle.gh_world.specs.Schedule.{ended_after}
 use Rattle.gh_replay.specs.Places.{Ran, seen_of}
-use Rattle.gh_replay.proofs.Vocabulary.{actors_of, AllDone, Answer, answer_in, answered_in, answered_of, answers_given, Appends, Coordinating, Entry, EveryRunIsExplained, is_done, IsAfter, IsExplained, IsReplayed, IsRun, IsRunSoFar, IsScheduled, IsUnfinished, Layout, layout_of, LaysOut, marked_by, moved, now_in, Op, opening, Outcome, outcome_by, Plan, Program, reached_in, script_of, setting_of, Standing, stands_in, State, swept_cycle, to_come, total_of, turns_of, WellFormed, who, with_goroutine}
+use Rattle.gh_replay.proofs.Vocabulary.{actors_of, AllDone, Answer, answer_in, answered_in, answered_of, answers_given, Appends, Coordinating, Entry, EveryRunIsExplained, is_done, IsAfter, IsExplained, IsReplayed, IsRun, IsScheduled, IsUnfinished, Layout, layout_of, LaysOut, marked_by, moved, now_in, Op, opening, Outcome, outcome_by, Plan, Program, reached_in, script_of, setting_of, Standing, stands_in, State, swept_cycle, total_of, WellFormed, who, with_goroutine}
 use Rattle.gh_world.specs.Points.{PointsAreStatements, StatementsAreEnough}
 use Rattle.gh_world.specs.World.{event_of, marks_at, points_of}
 use Rattle.gh_replay.proofs.Along.{are_along, comes_to, RunsBeside}
 use Rattle.gh_replay.proofs.Answering.{none_answered, one_answered}
 use Rattle.gh_replay.proofs.Choosing.{Agree, same_moved, same_who, who_there}
-use Rattle.gh_replay.proofs.Seen.{agree, none_past, quiet}
+use Rattle.gh_replay.proofs.Seen.{agree, is_led, marked, quiet}
 
 -- so far the world has taken turns of the budget as the schedule says and answered so, and the schedule stands so
 pub record Midway (w : State) (plan : Plan) (budget left : ℕ) (s : Standing) (answers : List (ℕ × Answer)) : Type 0 where
@@ -44,12 +40,12 @@ given_more p q l k es e told answers script layout says given =
 counted_more : (w v : State) (e : Entry Op) (es : List (Entry Op)) (told : List (ℕ × Answer)) → script_of v ≡ script_of w → layout_of v ≡ layout_of w → IsAfter w es → IsAfter v (e ∷ es) → told ≡ with_goroutine (now_in (e ∷ es)).0 (answer_in (script_of v).shapes (layout_of v) es e)
     → ((layout_of w).procs ≤ e.actor → told ≡ []) → answered_of v ≡ answered_of w + length told
 counted_more w v e es told script layout before after says silent =
-    let was = before.many in
-    let is = after.many in
+    let was = before.keeps.processors in
+    let is = after.keeps.processors in
     let procs : (layout_of v).procs ≡ (layout_of w).procs = ap (λ (l : Layout). l.procs) layout in
     one_answered (script_of v).shapes (layout_of v) w.runners v.runners e es told (now_in (e ∷ es)).0
-    (λ i x at. (before.running i x at).marked ∙ ap (λ (q : Program). marks_at q.shapes (layout_of w) i es) (sym script) ∙ ap (λ (l : Layout). marks_at (script_of v).shapes l i es) (sym layout))
-    (λ i x at. (after.running i x at).marked) (omega (arith, was, is, procs)) says (λ le. silent (omega (arith, was, le)))
+    (λ i x at. marked w es before i x at ∙ ap (λ (q : Program). marks_at q.shapes (layout_of w) i es) (sym script) ∙ ap (λ (l : Layout). marks_at (script_of v).shapes l i es) (sym layout))
+    (λ i x at. marked v (e ∷ es) after i x at) (omega (arith, was, is, procs)) says (λ le. silent (omega (arith, was, le)))
 
 -- one turn more
 pub more : (w v : State) (happened : Event) (plan : Plan) (budget left rest actor : ℕ) (s after : Standing) (answers : List (ℕ × Answer)) → Midway w plan budget left s answers → left ≡ rest + 1 → Turn w v actor happened →
@@ -94,7 +90,7 @@ room_for v happened plan budget rest after answers room total g n a m sound is s
 
 pub opens : (w : State) (plan : Plan) (budget : ℕ) (s : Standing) (answers : List (ℕ × Answer)) → IsAfter w [] → s ≡ opening plan → answers ≡ [] → Midway w plan budget budget s answers
 opens w plan budget s answers after stands empty =
-    let none = none_answered (script_of w).shapes (layout_of w) w.runners (λ i x at. (after.running i x at).marked) in
+    let none = none_answered (script_of w).shapes (layout_of w) w.runners (λ i x at. marked w [] after i x at) in
     let no_answers : length answers ≡ 0 = ap (λ (xs : List (ℕ × Answer)). length xs) empty in
     record { turns = []; after = after; long = omega arith; scheduled = tt; stands = stands; given = empty; counted = omega (arith, none, no_answers) }
 
@@ -118,7 +114,7 @@ module _ (law : EveryRunIsExplained) (w : State) (plan : Plan) (budget : ℕ) (a
     few = r.few;
     scheduled = r.scheduled;
     explained = subst (λ (xs : List (ℕ × Answer)). IsExplained (script_of w) (layout_of w) r.turns (outcome_by xs w.coord)) (sym r.given)
-        (law (script_of w) (layout_of w) r.turns w.coord formed lays (whole r.turns r.after) r.after.coordinator);
+        (law (script_of w) (layout_of w) r.turns w.coord formed lays (whole r.turns r.after) (is_led w r.turns r.after));
   }
 
   -- the statements at the world's points, and their answers
@@ -128,7 +124,7 @@ module _ (law : EveryRunIsExplained) (w : State) (plan : Plan) (budget : ℕ) (a
       let x = replayed lays formed in
       record {
         replayed = x;
-        along = are_along points enough (script_of w) (layout_of w) formed lays r.turns (outcome_by answers w.coord) x.explained (points_of w) answers r.after.pointed refl;
+        along = are_along points enough (script_of w) (layout_of w) formed lays r.turns (outcome_by answers w.coord) x.explained (points_of w) answers r.after.points refl;
         comes_to = comes_to points enough (script_of w) (layout_of w) formed lays r.turns (outcome_by answers w.coord) x.explained;
       }
 
@@ -143,17 +139,6 @@ pub beside : PointsAreStatements → StatementsAreEnough → EveryRunIsExplained
 beside points enough law w p plan budget answers formed script lays r whole = subst Goal script (beside_own law w plan budget answers r whole points enough) lays formed where
   Goal : Program → Type 0
   Goal q = LaysOut q (layout_of w) → WellFormed q → RunsBeside q plan budget (outcome_by answers w.coord) (points_of w) answers
-
--- what each processor has begun is the first of its turns
-abbrev behind_begun : Program → (a : ℕ) → Option Runner → List Op
-behind_begun p a None = []
-behind_begun p a (Some x) = to_come p a x.progress.next
-
-so_far : (w : State) (es : List (Entry Op)) → IsAfter w es → IsRunSoFar (script_of w) (layout_of w) es
-so_far w es after = record { legal = after.legal; to_come = λ a. behind_begun (script_of w) a (slice_get w.runners a); turns = λ a lt. go a lt (slice_get w.runners a) refl } where
-  go : (a : ℕ) → a < (layout_of w).procs → (o : Option Runner) → slice_get w.runners a ≡ o → turns_of (script_of w) a ≡ reverse (begun_in (by a es)) ++ behind_begun (script_of w) a o
-  go a lt (Some x) e = (after.running a x e).turns
-  go a lt None e = let past = none_past w.runners a e in let many = after.many in absurd (omega (arith, past, many, lt))
 
 -- an actor that is not done, by the lists that the world is the state of
 pub record Going (w : State) : Type 0 where
@@ -171,7 +156,7 @@ unfinished w p plan budget answers formed script lays r going g = subst Goal scr
     layout = layout_of w;
     lays_out = lays;
     turns = r.turns;
-    so_far = so_far w r.turns r.after;
+    so_far = r.after.run;
     scheduled = r.scheduled;
     long = r.all going;
     who = g.who;

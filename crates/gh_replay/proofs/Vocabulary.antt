@@ -9,7 +9,8 @@ pub use Rattle.gh_lines.specs.Text.{MakerStands, Outcome}
 pub use Rattle.gh_world.specs.Runs.{answers_given, EveryRunIsExplained, IsExplained, IsRun, IsRunSoFar, marked_by, outcome_by, RunsEndWhole, RunsGoOn, swept_cycle}
 pub use Rattle.gh_world.specs.Turns.{answers_to, goroutine_at, has_turn, round_of, to_come, total_of, turn_of}
 unfoldable pub use Rattle.gh_world.specs.Turns.{turns_of}
-pub use Rattle.gh_world.specs.World.{actor_after, actors_of, AllDone, answer_in, answered_in, answered_of, Appends, is_done, IsAfter, layout_of, LaysOut, now_in, script_of, setting_of, State, with_goroutine}
+pub use Rattle.gh_world.specs.After.{Appends, IsAfter}
+pub use Rattle.gh_world.specs.World.{actor_after, actors_of, AllDone, answer_in, answered_in, answered_of, is_done, layout_of, LaysOut, now_in, script_of, setting_of, State, with_goroutine}
 pub use Rattle.gh_replay.specs.Plan.{Plan}
 pub use Rattle.gh_replay.specs.Replayed.{EitherOne, IsReplayed, IsUnfinished}
 pub use Rattle.gh_replay.specs.Scheduled.{IsScheduled, reached_in, stands_in}

@@ -3,8 +3,9 @@ use Rattle.std.specs.Prelude.{◌≡◌, ℕ, ◌≤◌, List, drop, length}
 use Rattle.gh_base.specs.declared.operation.Op.{Op}
 use Rattle.gh_base.specs.declared.value.Answer.{Answer}
 use Rattle.gh_base.specs.declared.machine.Entry.{Entry}
+use Rattle.gh_world.specs.After.{IsAfter}
 use Rattle.gh_world.specs.Runs.{answers_given}
-use Rattle.gh_world.specs.World.{actors_of, AllDone, is_done, IsAfter, layout_of, marks_of, script_of, State}
+use Rattle.gh_world.specs.World.{actors_of, AllDone, is_done, layout_of, marks_of, script_of, State}
 use Rattle.gh_replay.specs.declared.place.Place.{Place}
 use Rattle.gh_replay.specs.Plan.{Plan}
 use Rattle.gh_replay.specs.Scheduled.{IsScheduled}

@@ -9,7 +9,8 @@ ghost use Rattle.gh_replay.specs.Places.{Ran};
 ghost use Rattle.gh_replay.specs.Replayed.{IsReplayed, IsUnfinished};
 ghost use Rattle.gh_replay.specs.Report.{is_checked};
 ghost use Rattle.gh_world.specs.Turns.{total_of};
-ghost use Rattle.gh_world.specs.World.{layout_of, script_of, IsAfter};
+ghost use Rattle.gh_world.specs.After.{IsAfter};
+ghost use Rattle.gh_world.specs.World.{layout_of, script_of};
 
 use crate::check::run_beside;
 use crate::fault::ReplayFault;

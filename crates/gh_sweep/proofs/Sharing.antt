@@ -5,10 +5,9 @@ pub mod KeepsPages
 pub mod Lasts
 pub mod Lays
 pub mod Leaves
-pub mod Lists
+pub mod Objects
 pub mod Own
 pub mod Pages
-pub mod Plain
 pub mod Quiet
 pub mod Rows
 pub mod Sums

@@ -1,4 +1,5 @@
 pub mod Alone
+pub mod AtEnd
 pub mod Bits
 pub mod Counts
 pub mod Ends
@@ -6,7 +7,6 @@ pub mod Facts
 pub mod Joined
 pub mod Listing
 pub mod Moves
-pub mod Runs
 pub mod Shared
 pub mod Slots
 pub mod Sound

@@ -1,12 +1,12 @@
 //! Laws of the routine. The functions do nothing; what they ensure is proved.
 
 ghost use Rattle.gh_sweep.specs.Alone.{SpansAreSwept};
+ghost use Rattle.gh_sweep.specs.AtEnd.{EndsWell, TheBitsAreObjects};
 ghost use Rattle.gh_sweep.specs.Bits.{SetBitsAreCounted};
 ghost use Rattle.gh_sweep.specs.Counts.{ObjectsAreCounted};
 ghost use Rattle.gh_sweep.specs.Facts.{SweepKeepsItsFacts};
-ghost use Rattle.gh_sweep.specs.Joined.{AllocationTakesPart, SpansFit};
+ghost use Rattle.gh_sweep.specs.Joined.{SpansFit};
 ghost use Rattle.gh_sweep.specs.Moves.{DoneStays, EachMoveKeeps, EachMoveLeaves};
-ghost use Rattle.gh_sweep.specs.Runs.{EachCountIsExact, EveryListKeeps, HeadsSayWhoSweeps, NothingMarkedIsFreed, OnlySinceIsLeft, PassedStays, UnsweptStays};
 ghost use Rattle.gh_sweep.specs.Slots.{ClearSlotsAreTold};
 ghost use Rattle.gh_sweep.specs.Steps.{SweepTakesItsSteps};
 ghost use Rattle.gh_sweep.specs.Sweepers.{SweepsAmongOthers};
@@ -96,75 +96,23 @@ pub fn sweeps_among_others()
     sweep_keeps_its_facts();
 }
 
-/// The moves by which processors take spans, lay them out, give them back and fill their slots are moves of
-/// others beside the sweep, where the spans that they take and fill are swept.
-pub fn allocation_takes_part()
-    ensures spans { SpansFit }
-    ensures moves { AllocationTakesPart }
-{
-    packed_words_are_read_back();
-}
+/// Whole spans have no page in common, and the head of a span that is laid out, with the sweep generation's
+/// number, may be laid beside the sweep.
+pub fn whole_spans_fit()
+    ensures { SpansFit }
+{}
 
-// Of every list of turns of any number of actors, who sweep spans, take spans and place objects.
-
-/// What holds of the words at every moment holds after each such list, and so does what each sweep that runs
-/// relies on.
-pub fn every_list_keeps()
-    ensures { EveryListKeeps }
+/// Where a cycle has ended what holds of the words at every moment holds, each span being unswept, and nobody sweeps.
+pub fn cycles_end_well()
+    ensures { EndsWell }
 {
     rows_are_written();
-    each_move_keeps();
-    each_move_leaves();
-    sweeps_among_others();
 }
 
-/// A head says by its number that its span is unswept, being swept or swept: being swept exactly where one
-/// actor sweeps it, and swept where the span has an owner. The sweep generation stays.
-pub fn heads_say_who_sweeps()
-    ensures { HeadsSayWhoSweeps }
-{
-    every_list_keeps();
-}
-
-/// An object that was marked where the cycle ended stands.
-pub fn nothing_marked_is_freed()
-    ensures { NothingMarkedIsFreed }
-{
-    every_list_keeps();
-}
-
-/// In words that are swept only objects stand that a script reached where the cycle began or that were made
-/// since then; and in swept spans no mark is left. So once all spans are swept this holds of each object,
-/// and there is no mark.
-pub fn only_since_is_left()
-    ensures { OnlySinceIsLeft }
-{
-    every_list_keeps();
-}
-
-/// Words of bits that are not swept are as they were where the cycle ended.
-pub fn unswept_is_as_it_was()
-    ensures { UnsweptStays }
-{
-    every_list_keeps();
-}
-
-/// What the counts tell, what the actors have yet to tell and what is not swept is what stood where the
-/// cycle ended. So once each head has the number of the sweep generation the counts are exact: the objects
-/// that were marked and those that were not, the bytes of the first, and, but for what was placed and is not
-/// counted yet, the bytes that stand.
-pub fn counts_are_exact()
-    ensures { EachCountIsExact }
+/// The words of bits where a cycle has ended tell its objects: how many were marked and how many were not, and that these
+/// are all.
+pub fn bits_are_objects()
+    ensures { TheBitsAreObjects }
 {
     rows_are_written();
-    every_list_keeps();
-}
-
-/// A page that is passed because no span begins there, or a swept one, stays so whatever turn follows.
-pub fn passed_pages_stay()
-    ensures { PassedStays }
-{
-    each_move_leaves();
-    sweeps_among_others();
-    every_list_keeps();
 }

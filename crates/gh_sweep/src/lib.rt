@@ -20,9 +20,10 @@
 //! Several actors sweep at once, each its own span, while others take swept spans, place objects in them, lay
 //! out fresh ones and free empty ones. None of them sees the steps of the others: a sweep relies on its
 //! span's words alone, which nobody else changes, and each step of anybody is one of a few moves that leave
-//! them so (`specs/Moves.antt`). Over all lists of such steps (`specs/Runs.antt`) nothing that is marked is
+//! them so (`specs/Moves.antt`). So at every moment (`Good` of `specs/Shared.antt`) nothing that is marked is
 //! freed, and what the counts tell, what is still to be told and what is not swept yet are together what
-//! stood where the cycle ended. So once each head has the generation's number the counts are exact.
+//! stood where the cycle ended (`specs/AtEnd.antt`). Once each head has the generation's number the counts
+//! are exact: `gh_state`, where the words of the heap are one state with its sweep, says so.
 //!
 //! What the routine asks for and where it goes is its listing, in specs/Listing.antt; above that stand
 //! the laws of [`laws`]. This is Go's `sweepLocked.sweep` and `sweepLocker.tryAcquire` (mgcsweep.go),

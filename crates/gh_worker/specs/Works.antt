@@ -1,15 +1,10 @@
 -- What a worker counts: the words that it has scanned.
-use Rattle.std.specs.Prelude.{◌≡◌, ◌≢◌, ℕ, zero, suc, ◌+◌, ◌-◌, ◌^◌, ◌<◌, min, ◌==◌, if◌then◌else◌, ◌⊎◌, Option, Some, None}
-use Rattle.gh_base.specs.declared.cell.Cell.{Cell}
-use Rattle.gh_base.specs.declared.cell.Cell.TheVariants as cell
-use Rattle.gh_phase.specs.Listing as resume
+use Rattle.std.specs.Prelude.{◌≡◌, ℕ, zero, suc, ◌+◌, ◌-◌, ◌^◌, min, ◌==◌, if◌then◌else◌, Option, Some, None}
 use Rattle.gh_scan.specs.Listing as scan
 use Rattle.gh_shade.specs.declared.shade.Shaded.TheVariants as shaded
 use Rattle.gh_shade.specs.Listing as shade
-use Rattle.gh_wbuf.specs.EntryTaking as take
-use Rattle.gh_wbuf.specs.RoomFinding as room
-use Rattle.gh_worker.specs.Listing.{Working, asks, held_at, listing, opening}
-use Rattle.gh_worker.specs.Vocabulary.{Add, Ask, buffer_word, EndsWith, FindRoom, Finished, GoesOn, GONE, Held, Layout, Load, LoadGlobal, LoadPhase, Mark, Off, Phase, phase_of, reference_in, Resumed, Resuming, Scanning, Shaded, Shading, Stop, Store, Taking, told, WorkerStage}
+use Rattle.gh_worker.specs.Listing.{Working, listing, opening}
+use Rattle.gh_worker.specs.Vocabulary.{Layout, LoadGlobal, Scanning, Shaded, Shading, told, WorkerStage}
 
 -- the words that are done with a step: those of an object whose scan ends, and one for a global that is nil or whose shading ends
 abbrev pub words_of : Option ℕ → ℕ

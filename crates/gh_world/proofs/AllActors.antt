@@ -2,13 +2,15 @@
 pub mod Starts
 pub mod Drawing
 pub mod Known
-pub mod Bare
 pub mod Wanted
 pub mod Resting
+pub mod Asked
 pub mod Moves
 pub mod Aside
+pub mod Stood
 pub mod Others
 pub mod Quiet
+pub mod Tied
 pub mod Beginning
 pub mod LeadingSeat
 pub mod LeadingCalm
@@ -40,8 +42,12 @@ pub mod Was
 pub mod Processing
 pub mod Standing
 pub mod Going
+pub mod Until
 pub mod Saying
 pub mod Opening
+pub mod Phases
+pub mod Scans
+pub mod SweepMarks
 pub mod Lists
 pub mod Ranging
 pub mod Placing
@@ -52,6 +58,7 @@ pub mod StackWords
 pub mod OwnEntries
 pub mod OwnStep
 pub mod OwnSide
+pub mod Stepping
 pub mod Quieting
 pub mod EndedStays
 pub mod Gone

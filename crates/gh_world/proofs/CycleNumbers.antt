@@ -10,6 +10,8 @@ pub mod Seats
 pub mod Lists
 pub mod Wanting
 pub mod Requests
+pub mod Opened
+pub mod Plainly
 pub mod Sums
 pub mod Few
 pub mod Leaving

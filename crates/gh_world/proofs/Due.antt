@@ -7,7 +7,7 @@ use Rattle.std.proofs.lemmas.List.Elements.{All-get_or}
 use Rattle.std.proofs.lemmas.Option.{get_or_from_slice_get}
 use Rattle.gh_world.specs.Vocabulary.{Op, Shape, Layout, Entry, IsLayoutOf, bit, Stmt, Program, no_goroutine, statements_of, WellFormed, Processor, Task, Idle, Next, most_objects, has_names, is_statement, is_leaving, has_left_at, work_at, work_of, is_busy_at, made_by}
 use Rattle.gh_base.specs.declared.operation.Op.TheVariants as op
-use Rattle.gh_script.specs.declared.statement.Stmt.TheVariants.{New, Load, Store, GetGlobal, SetGlobal, Int, Move, Nil, Gc}
+use Rattle.gh_script.specs.declared.statement.Stmt.TheVariants.{New, Store, GetGlobal, SetGlobal, Int, Nil, Gc}
 use Rattle.gh_script.specs.Program.{goroutine_at as goroutine_there, op_of, IsStatement, AreStatements}
 use Rattle.gh_world.specs.declared.turns.Next.TheVariants as next
 use Rattle.gh_world.specs.Order.{in_range, goroutine_of, is_over as is_ended, ends, ended_in, leaves}
@@ -28,14 +28,13 @@ both_true false b e f = e
 
 statement_runs : (p : Program) (l : Layout) (g : ℕ) (s : Stmt) → IsStatement p.settings.globals (length p.shapes) s → g < 32 → g < l.goroutines → l.globals ≡ p.settings.globals → Runs p.shapes l (op_of g s)
 statement_runs p l g (New d t) h few gs k = record { sound = ((few, h.0), h.1); ranged = both_true _ _ (both_true _ _ (lt-ltb _ _ gs) (lt-ltb _ _ h.0)) (lt-ltb _ _ h.1) }
-statement_runs p l g (Load d b x) h few gs k = record { sound = ((few, h.0), h.1); ranged = both_true _ _ (both_true _ _ (lt-ltb _ _ gs) (lt-ltb _ _ h.0)) (lt-ltb _ _ h.1) }
 statement_runs p l g (Store b x v) h few gs k = record { sound = ((few, h.0), h.2); ranged = both_true _ _ (both_true _ _ (lt-ltb _ _ gs) (lt-ltb _ _ h.0)) (lt-ltb _ _ h.2) }
 statement_runs p l g (GetGlobal d x) h few gs k = let there : x < l.globals = omega (arith, h.1) in record { sound = ((few, h.0), there); ranged = both_true _ _ (both_true _ _ (lt-ltb _ _ gs) (lt-ltb _ _ h.0)) (lt-ltb _ _ there) }
 statement_runs p l g (SetGlobal x v) h few gs k = let there : x < l.globals = omega (arith, h.0) in record { sound = ((few, h.1), there); ranged = both_true _ _ (both_true _ _ (lt-ltb _ _ gs) (lt-ltb _ _ there)) (lt-ltb _ _ h.1) }
 statement_runs p l g (Int d x) h few gs k = record { sound = (few, h.0); ranged = both_true _ _ (lt-ltb _ _ gs) (lt-ltb _ _ h.0) }
-statement_runs p l g (Move d s) h few gs k = record { sound = ((few, h.0), h.1); ranged = both_true _ _ (both_true _ _ (lt-ltb _ _ gs) (lt-ltb _ _ h.0)) (lt-ltb _ _ h.1) }
 statement_runs p l g (Nil d) h few gs k = record { sound = (few, h); ranged = both_true _ _ (lt-ltb _ _ gs) (lt-ltb _ _ h) }
 statement_runs p l g Gc h few gs k = record { sound = tt; ranged = lt-ltb _ _ gs }
+statement_runs p l g _ h few gs k = record { sound = ((few, h.0), h.1); ranged = both_true _ _ (both_true _ _ (lt-ltb _ _ gs) (lt-ltb _ _ h.0)) (lt-ltb _ _ h.1) }
 
 -- the statements of a goroutine are those of a script
 are_statements : (p : Program) (g : ℕ) → g < length p.goroutines → WellFormed p → AreStatements p.settings.globals (length p.shapes) (goroutine_there p g)
@@ -102,9 +101,7 @@ not_ended p a next.Over o es h e over = absurd cc
 
 pub not_over : (p : Program) (t : Next) (o : Op) → op_due p t ≡ Some o → is_over t ≡ true → ⊥
 not_over p (next.Poll n g) o e h = absurd cc
-not_over p (next.Run n g) o e h = absurd cc
-not_over p next.Leave o e h = absurd cc
-not_over p next.Over o e h = absurd cc
+not_over p _ o e h = absurd cc
 
 pub due_statement : (p : Program) (a : ℕ) (t : Next) (o : Op) → op_due p t ≡ Some o → is_statement o ≡ true → 1 ≤ statements_among (to_come p a t)
 due_statement p a (next.Poll n g) o e sure = absurd (let same : op.Poll ≡ o = cc in let no : false ≡ is_statement o = ap is_statement same in cc)
@@ -132,6 +129,5 @@ has_due p next.Over h = absurd cc
 
 pub none_to_come : (p : Program) (a : ℕ) (t : Next) → is_over t ≡ true → to_come p a t ≡ []
 none_to_come p a (next.Poll r g) e = absurd cc
-none_to_come p a (next.Run r g) e = absurd cc
-none_to_come p a next.Leave e = absurd cc
 none_to_come p a next.Over e = refl
+none_to_come p a _ e = absurd cc

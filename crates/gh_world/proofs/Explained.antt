@@ -3,10 +3,7 @@ pub mod Acted
 pub mod Seats
 pub mod Told
 pub mod Answers
-pub mod Numbers
-pub mod Waiting
 pub mod Known
-pub mod Waited
 pub mod Acting
 pub mod NoRoom
 pub mod Swept

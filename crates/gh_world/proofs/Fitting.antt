@@ -60,17 +60,14 @@ polled_begun k p shapes m t (next.Run r g) o due behind = by t due behind where
   by : (t : Next) → op_due p t ≡ Some o → true ≡ is_poll_due t → MayStore (begins shapes m o)
   by (next.Poll r g) due behind = let same : op.Poll ≡ o = cc in subst (λ (x : Op). MayStore (begins shapes m x)) same (k.begins shapes m)
   by (next.Run r g) due behind = absurd (cc)
-  by next.Leave due behind = absurd (cc)
-  by next.Over due behind = absurd (cc)
+  by _ due behind = absurd (cc)
 polled_begun k p shapes m t (next.Poll r g) o due behind = tt
-polled_begun k p shapes m t next.Leave o due behind = tt
-polled_begun k p shapes m t next.Over o due behind = tt
+polled_begun k p shapes m t _ o due behind = tt
 
 pub polled_stepped : PollsMakeRoom → (shapes : List Shape) (m : Processor) (t : Next) (found : ℕ) → Polled t m → Polled t (takes shapes m found)
 polled_stepped k shapes m (next.Run r g) found polled = k.goes_on shapes m found polled
 polled_stepped k shapes m (next.Poll r g) found polled = tt
-polled_stepped k shapes m next.Leave found polled = tt
-polled_stepped k shapes m next.Over found polled = tt
+polled_stepped k shapes m _ found polled = tt
 
 -- ---- one processor
 
@@ -248,8 +245,7 @@ fit_opening p l a first come stands over =
       polled_opens : (l : Layout) (a : ℕ) (t : Next) → Polled t (opening_processor l a)
       polled_opens l a (next.Run r g) = refl
       polled_opens l a (next.Poll r g) = tt
-      polled_opens l a next.Leave = tt
-      polled_opens l a next.Over = tt
+      polled_opens l a _ = tt
 
 pub fit_opens : (p : Program) (l : Layout) (a : ℕ) (x : Runner) → IsOpening p l a x → FitTurns p l a x.mutator x.progress
 fit_opens p l a x o =

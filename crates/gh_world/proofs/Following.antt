@@ -64,6 +64,5 @@ following p a next.Over o stands due = absurd cc
 -- what is due is the first that is to come
 pub due_first : (p : Program) (a : ℕ) (t : Next) (o : Op) (rest : List Op) → to_come p a t ≡ o ∷ rest → op_due p t ≡ Some o
 due_first p a (next.Poll r g) o rest e = cc
-due_first p a (next.Run r g) o rest e = cc
-due_first p a next.Leave o rest e = cc
 due_first p a next.Over o rest e = absurd cc
+due_first p a _ o rest e = cc

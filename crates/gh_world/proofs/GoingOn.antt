@@ -14,7 +14,7 @@ use Rattle.gh_world.specs.Runs.{GoesOnBy, has_ended_in, IsRun, IsRunSoFar}
 use Rattle.gh_world.specs.Schedule.{ended_after as ended_at, has_ended}
 use Rattle.gh_world.specs.Turns.{is_run_due, Stands}
 use Rattle.gh_world.specs.World.{LaysOut, MadeAtMost, Polled, may_begin_of, pacing_of}
-use Rattle.gh_world.proofs.Vocabulary.{acks_of, Actor, actor_after, acts, Begins, begins, begins_at, begun_in, bit, by, cell_of, ended_in, ends, Entry, eqb-true, gives_at, GoesOnUntilDone, has_left, has_left_at, InRange, is_busy_at, is_leaving, is_over, is_statement, Kind, Layout, leaves, Legal, made_by, MayBeOver, Next, Op, op_due, opening_processor, option_to_list, Processor, processor_kind, Program, setting_of, started, state_of, statements_among, takes, Task, to_come, total_of, turns_of, WellFormed, words_after}
+use Rattle.gh_world.proofs.Vocabulary.{acks_of, Actor, actor_after, acts, Begins, begins, begins_at, begun_in, bit, by, cell_of, ended_in, ends, Entry, eqb-true, gives_at, GoesOnUntilDone, has_left, has_left_at, is_busy_at, is_leaving, is_over, is_statement, Kind, Layout, leaves, Legal, made_by, MayBeOver, Next, Op, op_due, opening_processor, option_to_list, Processor, processor_kind, Program, setting_of, started, state_of, statements_among, takes, Task, to_come, total_of, turns_of, WellFormed, words_after}
 use Rattle.gh_world.proofs.MayBegin.{due_begins, ended_then, left_then}
 use Rattle.gh_world.proofs.CycleMarking.Seats.{IsSeated, seated}
 use Rattle.gh_world.proofs.Due.{due_runs, false_unless, has_due, idle_not_leaving, none_to_come, not_over}
@@ -24,8 +24,6 @@ use Rattle.gh_world.proofs.OneRun.{before, begins_now, one_more}
 use Rattle.gh_world.proofs.Resting.{begun_is, is_processor}
 use Rattle.gh_world.proofs.StepFacts.{begin_facts, BeginFacts, begins_busy, step_facts, StepFacts}
 use Rattle.gh_world.proofs.Turning.{opens_at, total_by-le, turns_say}
-use Rattle.gh_world.proofs.Within.Leading.{lead_asks}
-use Rattle.gh_world.proofs.Within.Lists.{worker_step_within}
 
 left_leaves : (t : Task) → has_left_at t ≡ true → is_leaving t ≡ true
 left_leaves t e = grind arith
@@ -49,7 +47,7 @@ module _ (p : Program) (l : Layout) where
     pub own : (a : ℕ) (es : List (Entry Op)) → state_of one a es ≡ state_of one a (by a es)
     pub on : GoesOnUntilDone
     pub polls : PollsMakeRoom
-    pub stands : (es : List (Entry Op)) → Lawful es → AllStands p.shapes l (pacing_of p) (may_begin_of p l) es
+    pub stands : (es : List (Entry Op)) → IsRunSoFar p l es → AllStands p.shapes l (pacing_of p) (may_begin_of p l) es
 
   -- ---- the coordinator has a further step as long as it is not done
 
@@ -87,8 +85,7 @@ module _ (p : Program) (l : Layout) where
 polled_unless : (t : Next) (m : Processor) → is_run_due t ≡ false → Polled t m
 polled_unless (next.Poll r g) m e = tt
 polled_unless (next.Run r g) m e = absurd cc
-polled_unless next.Leave m e = tt
-polled_unless next.Over m e = tt
+polled_unless _ m e = tt
 
 -- before its first step a processor has made nothing
 made_none : (l : Layout) (a : ℕ) → MadeAtMost 0 (opening_processor l a)
@@ -249,11 +246,11 @@ module _ (p : Program) (l : Layout) (formed : WellFormed p) (lays : LaysOut p l)
     go true own = let same : a ≡ b = eqb-true a b own in subst (λ (n : ℕ). turns_of p n ≡ reverse (option_to_list o ++ begun_in (by n es)) ++ rest) same (turns (subst (λ (n : ℕ). n < l.procs) (sym same) lt))
     go false other = r.turns b lt
 
-  follows_so : (es : List (Entry Op)) (a : ℕ) (o : Option Op) (rest : List Op) → IsRunSoFar p l es → a < (setting_of p l).actors → Begins (setting_of p l) a es o → (all p l).busy (now es a o) ≡ true → InRange l (cell_of ((all p l).asks (now es a o))) → (a < l.procs → turns_of p a ≡ reverse (option_to_list o ++ begun_in (by a es)) ++ rest) → GoesOnBy p l es a
-  follows_so es a o rest r lt begins runs within turns = record {
+  follows_so : (es : List (Entry Op)) (a : ℕ) (o : Option Op) (rest : List Op) → IsRunSoFar p l es → a < (setting_of p l).actors → Begins (setting_of p l) a es o → (all p l).busy (now es a o) ≡ true → (a < l.procs → turns_of p a ≡ reverse (option_to_list o ++ begun_in (by a es)) ++ rest) → GoesOnBy p l es a
+  follows_so es a o rest r lt begins runs turns = record {
     e = entry es a o;
     by = refl;
-    more = record { legal = (r.legal, record { actor = lt; begins = begins; runs = runs; asks = refl; within = within; found = refl }); to_come = λ b. cond (eqb a b) rest (r.to_come b); turns = turns_on es r a o rest turns };
+    more = record { legal = (r.legal, record { actor = lt; begins = begins; runs = runs; asks = refl; within = (laws.stands es r).within a o (record { seat = lt; begins = begins; runs = runs }); found = refl }); to_come = λ b. cond (eqb a b) rest (r.to_come b); turns = turns_on es r a o rest turns };
   }
 
   -- a processor's
@@ -261,9 +258,7 @@ module _ (p : Program) (l : Layout) (formed : WellFormed p) (lays : LaysOut p l)
     by_processor : (a : ℕ) (seat : a < l.procs) (o : Option Op) → Begins (setting_of p l) a es o → Begun a es o → GoesOnBy p l es a
     by_processor a seat o begins b =
         let is : now es a o ≡ actor.Runs (started (one p l) o (after_list a es)) = begun_is p l a seat es o in
-        let within = (laws.stands es r.legal).within a o (record { seat = seat; begins = begins; runs = b.busy }) in
-        follows_so es a o (to_come p a b.keeps.turn) r (omega (arith, seat)) begins (ap (λ (x : Actor). (all p l).busy x) is ∙ b.busy)
-        (subst (λ (x : Actor). InRange l (cell_of ((all p l).asks x))) (sym is) within) (λ lt. b.keeps.turns)
+        follows_so es a o (to_come p a b.keeps.turn) r (omega (arith, seat)) begins (ap (λ (x : Actor). (all p l).busy x) is ∙ b.busy) (λ lt. b.keeps.turns)
 
     of_processor : (a : ℕ) (seat : a < l.procs) → has_left_at (after_list a es).task ≡ false → GoesOnBy p l es a
     of_processor a seat going = go (is_busy_at (after_list a es).task) refl (behind a seat es r) where
@@ -277,10 +272,10 @@ module _ (p : Program) (l : Layout) (formed : WellFormed p) (lays : LaysOut p l)
           (begin_some a es due.0 k due.1)
 
     -- an actor's that begins nothing
-    of_other : (a : ℕ) (x : Actor) → actor_after p l es a ≡ x → l.procs ≤ a → a < (setting_of p l).actors → (all p l).busy x ≡ true → InRange l (cell_of ((all p l).asks x)) → GoesOnBy p l es a
-    of_other a x is high lt busy within =
+    of_other : (a : ℕ) (x : Actor) → actor_after p l es a ≡ x → l.procs ≤ a → a < (setting_of p l).actors → (all p l).busy x ≡ true → GoesOnBy p l es a
+    of_other a x is high lt busy =
         let runs = ap (λ (y : Actor). (all p l).busy y) is ∙ busy in
-        follows_so es a None [] r lt runs runs (subst (λ (y : Actor). InRange l (cell_of ((all p l).asks y))) (sym is) within) (λ low. absurd (omega (arith, low, high)))
+        follows_so es a None [] r lt runs runs (λ low. absurd (omega (arith, low, high)))
 
     pub goes_on : (a : ℕ) → a < (setting_of p l).actors → ended_at (setting_of p l) es a ≡ false → GoesOnBy p l es a
     goes_on a lt going = go (actor_after p l es a) refl where
@@ -290,12 +285,11 @@ module _ (p : Program) (l : Layout) (formed : WellFormed p) (lays : LaysOut p l)
           of_processor a low (sym (ap has_ended (is_processor p l a low es)) ∙ going)
       go (actor.Marks w) is =
           let high : l.procs ≤ a = (subst (IsSeated l a) is (seated p.shapes l (pacing_of p) es a)).0 in
-          of_other a (actor.Marks w) is high lt (not_false (worker.is_busy w.stage) (sym (ap has_ended is) ∙ going)) (worker_step_within p.shapes l (pacing_of p) (may_begin_of p l) es l.limits a w is)
+          of_other a (actor.Marks w) is high lt (not_false (worker.is_busy w.stage) (sym (ap has_ended is) ∙ going))
       go (actor.Leads c) is =
           let next : HasNext c = subst (HasNextAt p l laws.on) is (next_at p l laws.on es r.legal a) in
           let high : acks_of l ≤ a = (subst (IsSeated l a) is (seated p.shapes l (pacing_of p) es a)).0 in
-          let last : a ≡ acks_of l = omega (arith, high, lt) in
-          of_other a (actor.Leads c) is (omega (arith, high)) lt (next ∙ ap not (sym (ap has_ended is) ∙ going)) (lead_asks p.shapes l (pacing_of p) (may_begin_of p l) l.limits es c (sym (ap (actor_after p l es) last) ∙ is))
+          of_other a (actor.Leads c) is (omega (arith, high)) lt (next ∙ ap not (sym (ap has_ended is) ∙ going))
 
     pub ends_whole : ((a : ℕ) → a < (setting_of p l).actors → has_ended_in p l es a) → IsRun p l es
     ends_whole done = record { legal = r.legal; turns = all_begun; done = done } where

@@ -1,7 +1,7 @@
 -- What every legal list of processors, workers and a coordinator keeps of the handshake.
 use Rattle.std.proofs.Common.{◌≡◌, ℕ, ◌<◌, ◌⊎◌, Bool, refl, sym, ap, subst, ◌∙◌, arith, inl, inr, List, [], ◌∷◌}
 use Rattle.gh_base.specs.declared.cell.Cell.TheVariants as cell
-use Rattle.gh_phase.specs.declared.resume.ResumeStage.TheVariants.{Acknowledge, LoadPhase, LoadGeneration, LoadBegun, Ended}
+use Rattle.gh_phase.specs.declared.resume.ResumeStage.TheVariants.{Acknowledge, LoadPhase}
 use Rattle.gh_phase.specs.declared.view.RunPhase.TheVariants as run
 use Rattle.gh_phase.specs.Handshake.{Place}
 use Rattle.gh_phase.specs.Listing as resume
@@ -14,17 +14,16 @@ use Rattle.gh_worker.specs.Handshake as working
 use Rattle.gh_worker.specs.Listing as worker
 use Rattle.gh_world.specs.declared.handshake.Actor.TheVariants as actor
 use Rattle.gh_world.specs.Handshake.{IsExact, Sound}
-use Rattle.gh_world.proofs.Vocabulary.{acks_of, Actor, Acts, Awake, Entry, Gives, GONE, Gone, IsAwake, IsParked, KeepsIt, last_of, last_phase, Layout, Lead, Leads, LeadsHandshake, Leaves, Legal, Op, Pacing, Party, party_of, phase_of, phase_word, PhaseWord, place_of, Processor, Resumes, ResumeStage, RunPhase, Shape, Stage, stage_of, Stopped, WaitsWithNone, WorkersKeepHandshake, WorkerStage, ◌↔◌}
+use Rattle.gh_world.proofs.Vocabulary.{acks_of, Actor, Acts, Awake, Entry, GONE, Gone, IsAwake, IsParked, KeepsIt, last_of, last_phase, Layout, Lead, Leads, LeadsHandshake, Legal, Op, Pacing, Party, party_of, phase_of, phase_word, PhaseWord, place_of, Processor, Resumes, ResumeStage, RunPhase, Shape, Stage, stage_of, Stopped, WaitsWithNone, WorkersKeepHandshake, WorkerStage, ◌↔◌}
 use Rattle.gh_world.proofs.CycleMarking.Seats.{IsSeated, seated}
 use Rattle.gh_world.proofs.LastCycle.{Ends, follows, it, opens, state, words}
 
 -- who is awake does not wait at a stop
 awake_moves : (stops : ℕ) (s : Stage) → IsAwake s → IsParked stops s → ⊥
 awake_moves stops Awake a p = p
-awake_moves stops (Gives t) a p = p
 awake_moves stops (Resumes t r) a p = a
-awake_moves stops Leaves a p = p
 awake_moves stops Gone a p = a
+awake_moves stops _ a p = p
 
 -- marking is known to be on exactly where it is the last phase
 reads : (last known : RunPhase) → (known ≡ last) ⊎ ((last ≡ run.Finished) × (known ≡ run.Off)) → known ≡ run.Mark ↔ (last ≡ run.Mark)
@@ -113,9 +112,7 @@ module _ (shapes : List Shape) (l : Layout) (pacing : Pacing) (may : ℕ → Lis
       routine_parked : (stops : ℕ) (r : resume.Resuming) (s : ResumeStage) → IsParked stops (resumes.stands_at r.stops s) → (s ≡ LoadPhase) × (r.stops ≡ stops)
       routine_parked stops r LoadPhase p = (refl, p)
       routine_parked stops r Acknowledge p = absurd p
-      routine_parked stops r LoadGeneration p = absurd p
-      routine_parked stops r LoadBegun p = absurd p
-      routine_parked stops r Ended p = absurd p
+      routine_parked stops r _ p = absurd p
 
       waits : (stops : ℕ) (w : worker.Working) (s : WorkerStage) → w.stage ≡ s → working.SoundAt w s → (working.IsLeaving s → ⊥) → IsParked stops (working.stands_at s) → WaitsWithNone stops w
       waits stops w (work.Resuming r) e sound_it on p =

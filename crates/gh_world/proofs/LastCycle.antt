@@ -19,8 +19,7 @@ use Rattle.gh_world.proofs.Vocabulary.{acks_of, Actor, actors, Ask, cell_of, Ent
 module _ (back : (p : PhaseWord) → phase_of (phase_word p) ≡ p) where
   ran : (phase : RunPhase) → run_phase (phase_while phase) ≡ Some phase
   ran run.Off = refl
-  ran run.Mark = refl
-  ran run.Finished = refl
+  ran _ = refl
 
   abbrev run_found : ℕ → Option RunPhase
   run_found word = run_phase (phase_of word).phase

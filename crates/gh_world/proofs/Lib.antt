@@ -12,6 +12,7 @@ pub mod OneRun
 pub mod OneStep
 pub mod OtherSteps
 pub mod Resting
+pub mod Parts
 pub mod Runners
 pub mod StepFacts
 pub mod Turning
@@ -19,6 +20,7 @@ pub mod WorldFacts
 pub mod Whole
 pub mod Wishing
 pub mod OfScripts
+pub mod Awaited
 pub mod AllActors
 pub mod Within
 pub mod Explained

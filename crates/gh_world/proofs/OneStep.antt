@@ -1,17 +1,18 @@
 -- A step of the code, from what its parts did.
-use Rattle.std.proofs.Common.{◌≡◌, ℕ, ◌+◌, ◌-◌, ◌<◌, ◌≤◌, Bool, true, false, not, cond, List, ◌∷◌, ◌++◌, length, refl, sym, ◌∙◌, ap, subst, Option, Some, None, arith}
+use Rattle.std.proofs.Common.{◌≡◌, ℕ, ◌+◌, ◌-◌, ◌<◌, ◌≤◌, Bool, true, false, not, cond, List, ◌∷◌, ◌++◌, length, length-set, refl, sym, ◌∙◌, ap, subst, Option, Some, None, arith}
 use Rattle.gh_coord.specs.Listing as coord
 use Rattle.gh_mutator.specs.PollRoom.{PollsMakeRoom}
 use Rattle.gh_worker.specs.Listing as worker
 use Rattle.gh_mutator.specs.Mutating.{asks, goes}
-use Rattle.gh_world.specs.declared.handshake.Actor.TheVariants as actor
 use Rattle.gh_world.specs.declared.runner.Runner.{Runner}
 use Rattle.gh_world.specs.Turns.{next_point, total_of}
 use Rattle.gh_world.specs.Vocabulary.{is_last}
-use Rattle.gh_world.specs.World.{actor_of, answered_of, IsAfter, Appends, Begins, event_at, Fit, FitRunners, FitTurns, FitWords, Ran, State, IsStepOfCoordinator, IsStepOfProcessor, IsStepOfWorker, begun_as, found_by, is_done, now_of, runner_or, worker_or}
+use Rattle.gh_world.specs.After.{Appends, IsAfter}
+use Rattle.gh_world.specs.World.{answered_of, Begins, event_at, Fit, FitRunners, FitTurns, FitWords, Ran, State, IsStepOfCoordinator, IsStepOfProcessor, IsStepOfWorker, begun_as, found_by, is_done, now_of, worker_or}
 use Rattle.gh_world.specs.Schedule.{has_ended}
 use Rattle.gh_world.proofs.Vocabulary.{acts, answered_in, begins, bit, by, cell_of, changed, Entry, Event, has_left_at, InRange, is_busy_at, is_point, Layout, Mutating, Next, Op, Processor, processor_kind, Program, Progress, progress_after, request, set, Shape, slice_get, slice_get_past, slice_get_within, started, state_of, statement_answer, StepsAreShown, takes}
 use Rattle.gh_world.proofs.Fitting.{answered_all, busy_begun, due_room, fits_again, marks_few, marks_more, point_room, ran}
+use Rattle.gh_world.proofs.Parts.{After, in_parts, of_parts, other_here, runner_here}
 use Rattle.gh_world.proofs.Turning.{total_by-le}
 use Rattle.gh_world.proofs.OtherSteps.{lead_entry, lead_says, lead_tells, led, work_entry, work_says, work_tells, worked}
 use Rattle.gh_world.proofs.WorldFacts.{due_at, follows, says, tells, entry_of, Knows, runner_of}
@@ -29,16 +30,6 @@ mutating shapes m marks = record { shapes = shapes; processor = m; marks = marks
 mutator_is : (m : Mutating) (shapes : List Shape) (l : Layout) (b : Option Op) → m.shapes ≡ shapes → has_left_at m.processor.task ≡ false → begun_as m b ≡ record { shapes = shapes; processor = started (processor_kind shapes l) b m.processor; marks = m.marks }
 mutator_is m shapes l None same going = ap (λ (s : List Shape). mutating s m.processor m.marks) same
 mutator_is m shapes l (Some o) same going = ap (λ (s : List Shape). mutating s (begins s m.processor o) m.marks) same ∙ ap (λ (b : Bool). mutating shapes (cond b m.processor (begins shapes m.processor o)) m.marks) (sym going)
-
--- the actors of a world by their numbers
-pub runner_here : (w : State) (a : ℕ) (x : Runner) → slice_get w.runners a ≡ Some x → actor_of w a ≡ actor.Runs x.mutator.processor
-runner_here w a x is = ap (runner_or (worker_or w.coord (slice_get w.workers (a - length w.runners)))) is
-
-pub other_here : (w : State) (a i : ℕ) → a ≡ length w.runners + i → actor_of w a ≡ worker_or w.coord (slice_get w.workers i)
-other_here w a i at =
-    let none = slice_get_past w.runners a (omega (arith, at)) in
-    let place : a - length w.runners ≡ i = omega (arith, at) in
-    ap (runner_or (worker_or w.coord (slice_get w.workers (a - length w.runners)))) none ∙ ap (λ (k : ℕ). worker_or w.coord (slice_get w.workers k)) place
 
 -- a processor that is not done has not left
 pub runner_going : (w : State) (a : ℕ) (x : Runner) → slice_get w.runners a ≡ Some x → is_done w a ≡ false → has_left_at x.mutator.processor.task ≡ false
@@ -101,7 +92,8 @@ module _ (w : State) (f : Kept w) (a : ℕ) (x : Runner) (is : slice_get w.runne
   appends_begun : (b : Option Op) (new : Next) (v : State) (es : List (Entry Op)) (happened : Event) → OwnEntries → StepsAreShown l → Knows p l f.fit.base.script f.fit.base.layout a seat x.mutator.processor x.progress b new →
       v ≡ stepped w a (with_begun b new) → happened ≡ told w (with_begun b new) → IsAfter w es → Appends v a es happened
   appends_begun b new v es happened own shown k is_so says_so after =
-      let r = after.running a x is in
+      let parts = in_parts w es after in
+      let r = parts.running a x is in
       let e = entry_of p l f.fit.base.script f.fit.base.layout a seat w.words x.mutator.processor b in
       let few = marks_few p l f.fit.base.script f.fit.base.layout a x.mutator x.progress fits in
       let said = says_so ∙ says p l f.fit.base.script f.fit.base.layout a seat w.words es x.mutator.shapes x.mutator.processor x.mutator.marks x.progress b new r k in
@@ -109,8 +101,8 @@ module _ (w : State) (f : Kept w) (a : ℕ) (x : Runner) (is : slice_get w.runne
       subst (λ (z : State). Appends z a es happened) (sym is_so) (record {
         e = e;
         by = refl;
-        after = subst (λ (n : ℕ). IsAfter (record (stepped w a (with_begun b new)) { runners = set w.runners a (runner_of p.shapes (takes p.shapes (with_begun b new).mutator.processor (found_by w (asks (with_begun b new).mutator))) n (progress_after x.progress b new)) }) (e ∷ es)) (sym marks)
-            (follows p l f.fit.base.script f.fit.base.layout a seat own shown w.words w.runners w.workers w.coord w.points es after x.mutator.shapes x.mutator.processor x.mutator.marks x.progress b new is k);
+        after = of_parts (stepped w a (with_begun b new)) (e ∷ es) (subst (λ (n : ℕ). After p l (stepped w a (with_begun b new)).words (set w.runners a (runner_of p.shapes (takes p.shapes (with_begun b new).mutator.processor (found_by w (asks (with_begun b new).mutator))) n (progress_after x.progress b new))) w.workers w.coord (stepped w a (with_begun b new)).points (e ∷ es)) (sym marks)
+            (follows p l f.fit.base.script f.fit.base.layout a seat own shown w.words w.runners w.workers w.coord w.points es parts x.mutator.shapes x.mutator.processor x.mutator.marks x.progress b new is k)) f.fit.others.many;
         says = said;
         answers = ap answered_in said ∙ tells p l f.fit.base.script f.fit.base.layout a seat w.words x.mutator.processor es b r.processor;
       })
@@ -166,12 +158,15 @@ appends_work w v a i es happened shown f at going st after =
     let few : i < w.layout.workers = let low = slice_get_within w.workers i st.before_it st.is in let many = f.fit.others.many in omega (arith, low, many) in
     let busy = busy_worker w a i st.before_it at st.is going in
     let procs = f.fit.running.many in
+    let parts = in_parts w es after in
+    let next = worker.goes st.before_it (found_by w (worker.asks st.before_it)) in
+    let workers : length (set w.workers i next) ≡ w.layout.workers = length-set w.workers i next ∙ f.fit.others.many in
     subst (λ (y : State). Appends y a es happened) (sym st.others) (record {
-      e = work_entry w.script w.layout shown w.words w.runners w.workers w.coord w.points es after procs i st.before_it st.is few busy st.within;
+      e = work_entry w.script w.layout shown w.words w.runners w.workers w.coord w.points es parts procs i st.before_it st.is few busy st.within;
       by = omega (arith, at, procs);
-      after = worked w.script w.layout shown w.words w.runners w.workers w.coord w.points es after procs i st.before_it st.is few busy st.within;
-      says = st.says ∙ work_says w.script w.layout shown w.words w.runners w.workers w.coord w.points es after procs i st.before_it st.is few busy st.within;
-      answers = work_tells w.script w.layout shown w.words w.runners w.workers w.coord w.points es after procs i st.before_it st.is few busy st.within happened st.says;
+      after = of_parts _ _ (worked w.script w.layout shown w.words w.runners w.workers w.coord w.points es parts procs i st.before_it st.is few busy st.within) workers;
+      says = st.says ∙ work_says w.script w.layout shown w.words w.runners w.workers w.coord w.points es parts procs i st.before_it st.is few busy st.within;
+      answers = work_tells w.script w.layout shown w.words w.runners w.workers w.coord w.points es parts procs i st.before_it st.is few busy st.within happened st.says;
     })
 
 -- it answers no statement
@@ -192,12 +187,13 @@ appends_lead w v a es happened shown f at going st after =
     let busy = busy_lead w a f (omega (arith, at)) going in
     let procs = f.fit.running.many in
     let many = f.fit.others.many in
+    let parts = in_parts w es after in
     subst (λ (y : State). Appends y a es happened) (sym st.others) (record {
-      e = lead_entry w.script w.layout shown w.words w.runners w.workers w.coord w.points es after procs busy st.within;
+      e = lead_entry w.script w.layout shown w.words w.runners w.workers w.coord w.points es parts procs busy st.within;
       by = omega (arith, at, procs, many);
-      after = led w.script w.layout shown w.words w.runners w.workers w.coord w.points es after procs busy st.within many;
-      says = st.says ∙ lead_says w.script w.layout shown w.words w.runners w.workers w.coord w.points es after procs busy st.within;
-      answers = lead_tells w.script w.layout shown w.words w.runners w.workers w.coord w.points es after procs busy st.within happened st.says;
+      after = of_parts _ _ (led w.script w.layout shown w.words w.runners w.workers w.coord w.points es parts procs busy st.within many) many;
+      says = st.says ∙ lead_says w.script w.layout shown w.words w.runners w.workers w.coord w.points es parts procs busy st.within;
+      answers = lead_tells w.script w.layout shown w.words w.runners w.workers w.coord w.points es parts procs busy st.within happened st.says;
     })
 
 pub few_lead : (w v : State) (happened : Event) → Kept w → IsStepOfCoordinator w v happened → answered_of v ≤ total_of v.script

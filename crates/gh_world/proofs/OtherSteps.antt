@@ -9,12 +9,16 @@ use Rattle.gh_world.specs.declared.handshake.Actor.TheVariants as actor
 use Rattle.gh_world.specs.Turns.{next_point}
 use Rattle.gh_coord.specs.declared.cycles.Cycle.{Cycle}
 use Rattle.gh_world.specs.declared.runner.Runner.{Runner}
-use Rattle.gh_world.specs.World.{AreOpening, done_or, event_by, IsOpening, IsRunnerAt, now_in, now_of, points_in, told_event, workers_at}
+use Rattle.gh_world.specs.World.{AreOpening, done_or, event_by, IsOpening, now_in, now_of, points_in, told_event, workers_at}
 use Rattle.gh_world.specs.declared.event.Event.TheVariants as event
-use Rattle.gh_world.proofs.Vocabulary.{acks_of, Actor, actor_after, acts, After, answer_in, answered_in, Ask, cell_of, changed, Entry, eq-eqb, Event, event_of, get_or-map-range_with_len, get_or_from_slice_get, InRange, is_point, Layout, Legal, length-map-range_with_len, most_cycles, Mutating, nat_tests, Op, opening_processor, Processor, processor_kind, Program, Progress, read_replicate, request, set, setting_of, slice_get, slice_get_within, state_of, statement_answer, StepsAreShown, target, with_goroutine, words_after}
+use Rattle.gh_world.proofs.Vocabulary.{acks_of, Actor, actor_after, acts, answer_in, answered_in, Ask, cell_of, changed, Entry, eq-eqb, Event, event_of, get_or-map-range_with_len, get_or_from_slice_get, InRange, is_point, Layout, Legal, length-map-range_with_len, most_cycles, Mutating, nat_tests, Op, opening_processor, Processor, processor_kind, Program, Progress, read_replicate, request, set, setting_of, slice_get, slice_get_within, state_of, statement_answer, StepsAreShown, target, with_goroutine, words_after}
+use Rattle.gh_world.proofs.Parts.{After, IsRunnerAt}
 use Rattle.gh_world.proofs.Resting.{rests}
 use Rattle.gh_world.proofs.Runners.{each_set, runner_stays}
 use Rattle.gh_world.proofs.Turning.{opens_at}
+
+pub all_workers : (l : Layout) → length (workers_at l) ≡ l.workers
+all_workers l = length-map-range_with_len (worker.opening l) l.procs l.workers
 
 module _ (p : Program) (l : Layout) where
   -- the entry of an actor that is no processor
@@ -158,7 +162,7 @@ module _ (p : Program) (l : Layout) where
 
   first_worker : (i : ℕ) (x : worker.Working) → slice_get (workers_at l) i ≡ Some x → actor_after p l [] (l.procs + i) ≡ actor.Marks x
   first_worker i x e =
-      let many : length (workers_at l) ≡ l.workers = length-map-range_with_len (worker.opening l) l.procs l.workers in
+      let many = all_workers l in
       let low : i < length (workers_at l) = slice_get_within (workers_at l) i x e in
       let is : worker.opening l (l.procs + i) ≡ x = sym (get_or-map-range_with_len (worker.opening l) l.procs l.workers i (l.procs + i) x (omega (arith, many, low)) refl) ∙ get_or_from_slice_get (workers_at l) i x x e in
       let above : ltb (l.procs + i) l.procs ≡ false = grind (arith, nat_tests) in

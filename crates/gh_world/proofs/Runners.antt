@@ -4,8 +4,8 @@ use Rattle.std.specs.Prelude.{sum_by}
 use Rattle.std.specs.List.{range_with_len}
 use Rattle.std.proofs.lemmas.List.Sums.{sum_by-cons}
 use Rattle.gh_world.specs.declared.runner.Runner.{Runner}
-use Rattle.gh_world.specs.World.{IsRunnerAt}
 use Rattle.gh_world.proofs.Due.{false_unless}
+use Rattle.gh_world.proofs.Parts.{IsRunnerAt}
 use Rattle.gh_world.proofs.Vocabulary.{Entry, eqb-false, eqb-true, get_or-set_other, get_or-set_same, get_or_from_slice_get, Layout, Op, Program, set, slice_get, slice_get-get_or, slice_get_within}
 
 -- what holds of the element that is set, and of each other one, holds of each

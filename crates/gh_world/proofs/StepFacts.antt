@@ -101,9 +101,8 @@ load_page_once x false = refl
 load_once : (l : Layout) (x : Load) (s : LoadStage) (found : ℕ) → ActsOnce task.Load (load.at_stage x s) (load.step_at l x s found)
 load_once l x load_stage.NilBase found = refl
 load_once l x load_stage.Page found = load_page_once x (has_field x.k found)
-load_once l x load_stage.Bits found = refl
 load_once l x (load_stage.Field p) found = value_once (load.naming x) task.Load (value_of l.pages p found) (λ a. refl)
-load_once l x (load_stage.Birth a) found = refl
+load_once l x _ found = refl
 
 store_served : IsServed task.Store
 store_served = record { serves = λ x. refl; leaves = λ x. refl; makes = λ x. refl; busy = λ x. refl }
@@ -143,10 +142,7 @@ global_once l held x global_stage.Number found = refl
 
 global_statement : (x : Global) (s : GlobalStage) → is_statement (global.op_in x s) ≡ true
 global_statement x global_stage.Load = refl
-global_statement x (global_stage.Birth a) = refl
-global_statement x global_stage.Store = refl
-global_statement x (global_stage.Writing w) = refl
-global_statement x global_stage.Number = refl
+global_statement x _ = refl
 
 -- ---- each step
 
@@ -254,13 +250,11 @@ pub record BeginFacts (o : Op) (t : Task) : Type 0 where
 
 load_facts : (g d b k : ℕ) (v : Value) → BeginFacts (op.Load g d b k) (task.Load (load.begins g d b k v))
 load_facts g d b k value.Nil = record { made = omega arith; leaves = refl; serves = refl; is = refl }
-load_facts g d b k (value.Int n) = record { made = omega arith; leaves = refl; serves = refl; is = refl }
-load_facts g d b k (value.Ref n) = record { made = omega arith; leaves = refl; serves = refl; is = refl }
+load_facts g d b k _ = record { made = omega arith; leaves = refl; serves = refl; is = refl }
 
 store_facts : (g b k v : ℕ) (x : Value) → BeginFacts (op.Store g b k v) (task.Store (store.begins g b k v x))
 store_facts g b k v value.Nil = record { made = omega arith; leaves = refl; serves = refl; is = refl }
-store_facts g b k v (value.Int n) = record { made = omega arith; leaves = refl; serves = refl; is = refl }
-store_facts g b k v (value.Ref n) = record { made = omega arith; leaves = refl; serves = refl; is = refl }
+store_facts g b k v _ = record { made = omega arith; leaves = refl; serves = refl; is = refl }
 
 global_store_facts : (l : Layout) (own : Local) (g k v : ℕ) (x : Value) → BeginFacts (op.SetGlobal g k v) (task.Global (global.begins_store l own g k v x))
 global_store_facts l own g k v x = by x where

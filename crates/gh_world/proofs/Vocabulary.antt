@@ -48,12 +48,11 @@ pub use Rattle.gh_shade.specs.declared.shade.ShadeStage.{ShadeStage}
 pub use Rattle.gh_shade.specs.declared.shade.Shaded.{Shaded}
 pub use Rattle.gh_stack.specs.Facts.{AreRegisters}
 pub use Rattle.gh_scan.specs.declared.scan.ScanStage.{ScanStage}
-pub use Rattle.gh_sweep.specs.Runs.{far_in}
+pub use Rattle.gh_sweep.specs.AtEnd.{far_in}
 pub use Rattle.gh_sweep.specs.declared.sweep.SweepEnd.{SweepEnd}
 pub use Rattle.gh_sweep.specs.declared.sweep.SweepEnd.TheVariants.{Lost, Swept}
 pub use Rattle.gh_sweep.specs.declared.sweep.SweepStage.{SweepStage}
 pub use Rattle.gh_cycle.specs.Opening.{reference_of}
-pub use Rattle.gh_cycle.specs.Sweeping.{with_words}
 pub use Rattle.gh_alloc.specs.Search.{Seeking}
 pub use Rattle.gh_alloc.specs.declared.sought.Found.TheVariants.{NoRoom}
 pub use Rattle.gh_mutator.specs.Deeds.{given_at, point_of}
@@ -90,9 +89,9 @@ pub use Rattle.gh_coord.specs.declared.watch.WatchStage.{WatchStage}
 pub use Rattle.gh_coord.specs.declared.watch.Watched.{Watched}
 pub use Rattle.gh_coord.specs.declared.watch.Watched.TheVariants.{All, NotYet}
 pub use Rattle.gh_world.specs.Actors.{EndsMarked, IsEnding, IsMarkedObject, IsStepIn}
-pub use Rattle.gh_world.specs.ActorsHold.{EndedSo, HasCursor, Holds, HoldsAt, is_last_task, IsAsItShould, IsHeapOf, IsInCycle, IsJustSwept, IsKnown, IsQuiet, IsReady, IsSweeping, IsTelling, processor_at, SweepsAll, uncounted, WasSo}
+pub use Rattle.gh_world.specs.ActorsHold.{EndedSo, HasCursor, Holds, HoldsAt, HasState, is_last_task, IsAsItShould, IsHeapOf, IsInCycle, IsJustSwept, IsKnown, IsQuiet, IsReady, IsSweeping, IsTelling, NobodyMarks, processor_at, SweepsAll, uncounted, WasSo}
 pub use Rattle.gh_world.specs.Handshake.{actors, is_busy, KeepsIt, place_of, StepKeepsIt, those, WaitsWithNone}
-pub use Rattle.gh_world.specs.HoldVocabulary.{acks_of, actors_after, alloc_words, Answer, Arena, arena, AreWords, birth_words, By, Coordinating, CoordStage, Cycle, CycleEnd, deeds, ended_in, EndsAllMarked, EndsCycle, Entry, Ever, ever, Fine, Good, Heap, IsBeginning, IsBounded, IsDrawnSo, IsInLimits, IsLed, IsMade, IsOf, IsSound, IsStartOf, IsToBegin, Layout, LeavesTheReached, Legal, mark_words, MarkFacts, Marking, MarksNothing, may_of, Name, NewStage, only_polls, Op, Pacing, page_of, page_words, Placed, placed, Processor, processor_kind, Reach, Right, Shape, ShapesAreGood, slot_row, Spans, stage_of, started, state_of, SweepsBeside, Task, view, Words, words}
+pub use Rattle.gh_world.specs.HoldVocabulary.{acks_of, actors_after, alloc_words, Answer, Arena, arena, AreWords, birth_words, By, Coordinating, CoordStage, Cycle, CycleEnd, deeds, ended_in, EndsAllMarked, EndsCycle, Entry, Ever, ever, Fine, Good, Heap, IsBeginning, IsBounded, IsDrawnSo, IsInLimits, IsLed, IsMade, IsOf, IsSound, IsStartOf, IsToBegin, Layout, LeavesTheReached, Legal, mark_words, MarkFacts, Marking, MarksNothing, may_of, Name, NewStage, only_polls, Op, Pacing, page_of, page_words, Placed, placed, Processor, processor_kind, Reach, Right, Shape, ShapesAreGood, slot_row, stage_of, started, State, state_of, StateGood, Task, view, Words, words}
 pub use Rattle.gh_world.specs.Marking.{EndsClean, IsChecked}
 pub use Rattle.gh_world.proofs.CycleMarking.Asked.{Knows, MarksToTheEnd, MayBegin, StepsByMoves, WasMarked}
 pub use Rattle.gh_world.specs.Numbers.{ahead_at, asked_after, Begun, Checked, close_part, CountsCycles, Ended, generation_of, IsFew, Numbered, opened_after, opened_in, Outside, Part, part_of}
@@ -102,4 +101,4 @@ pub use Rattle.gh_world.specs.Turns.{Follows, goroutine_at, is_leave, is_over, i
 unfoldable pub use Rattle.gh_world.specs.Turns.{turns_of}
 pub use Rattle.gh_world.specs.Vocabulary.{Act, acted, acting, Actor, acts, acts_at, answer_at, Answered, answered_by, asks, At, Begins, begins, begins_at, bit, by, cache_span, cell_of, changed, Ends, Event, ever_after, EverValue, follows, Found, gives_at, Global, GlobalStage, GoesOn, has_left_at, has_names, has_point, Head, InRange, is_busy_at, is_leaving, is_point, is_statement, Kind, made_by, Mutating, Next, op_at, opening_processor, OpenStage, Party, Place, PlaceStage, Placing, Program, Progress, Register, register_of, REGISTERS, request, Search, Source, SpanHead, Stage, statement_answer, StepsAreShown, takes, takes_at, target, Then, Value, Wait, Wanted, WellFormed, words_after}
 pub use Rattle.gh_world.specs.Wishes.{most_cycles}
-pub use Rattle.gh_world.specs.World.{actor_after, After, answer_in, answered_in, event_of, opening_progress, progress_after, setting_of, with_goroutine}
+pub use Rattle.gh_world.specs.World.{actor_after, answer_in, answered_in, event_of, opening_progress, progress_after, setting_of, with_goroutine}

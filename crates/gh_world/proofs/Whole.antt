@@ -1,29 +1,19 @@
 -- A world's actors are those of the list that it is the state of; and where all are done the list is a whole run.
-use Rattle.std.proofs.Common.{◌≡◌, ℕ, zero, suc, ◌+◌, ◌-◌, ◌<◌, ◌≤◌, Bool, true, cond, List, [], ◌++◌, length, reverse, refl, sym, ◌∙◌, ap, Option, Some, None, arith, inl, inr}
+use Rattle.std.proofs.Common.{◌≡◌, ℕ, zero, suc, ◌+◌, ◌-◌, ◌<◌, ◌≤◌, Bool, true, cond, List, [], ◌++◌, length, reverse, refl, sym, ◌∙◌, ap, Option, Some, None, arith}
 use Rattle.std.specs.Prelude.{slice_get}
 use Rattle.std.specs.List.{range_with_len}
 use Rattle.std.proofs.lemmas.List.{append-nil}
-use Rattle.std.proofs.lemmas.Option.{slice_get_cases, slice_get_within}
 use Rattle.gh_world.specs.Vocabulary.{by, Entry, has_left_at, is_leaving, Layout, Op, Program, Task}
-use Rattle.gh_coord.specs.Stopping.{acks_of}
-use Rattle.gh_worker.specs.Listing as worker
-use Rattle.gh_world.specs.declared.handshake.Actor.TheVariants as actor
 use Rattle.gh_world.specs.declared.runner.Runner.{Runner}
 use Rattle.gh_world.specs.Order.{begun_in}
 use Rattle.gh_world.specs.Runs.{IsRun}
 use Rattle.gh_world.specs.Schedule.{ended_after, first_going, has_ended, turn_from}
 use Rattle.gh_world.specs.Turns.{turns_of}
-use Rattle.gh_world.specs.World.{actor_after, actor_of, actors_of, AllDone, is_done, IsAfter, setting_of, State, turn_in, worker_or}
+use Rattle.gh_world.specs.After.{IsAfter}
+use Rattle.gh_world.specs.World.{actors_of, AllDone, is_done, setting_of, State, turn_in}
 use Rattle.gh_world.proofs.Due.{none_to_come}
-use Rattle.gh_world.proofs.OneStep.{Kept, other_here, runner_here}
-use Rattle.gh_world.proofs.Resting.{is_processor}
-
--- what is not there is past the last
-none_within : {A : Type 0} (xs : List A) (i : ℕ) → slice_get xs i ≡ None → length xs ≤ i
-none_within xs i is = elim (slice_get_cases xs i).1 [
-  | inl there ↦ absurd (let no : None ≡ Some there.0 = sym is ∙ there.2 in cc)
-  | inr past ↦ past.0
-]
+use Rattle.gh_world.proofs.OneStep.{Kept}
+use Rattle.gh_world.proofs.Parts.{none_within, runner_here}
 
 module _ (w : State) (f : Kept w) (es : List (Entry Op)) (after : IsAfter w es) where
   abbrev p : Program
@@ -32,33 +22,8 @@ module _ (w : State) (f : Kept w) (es : List (Entry Op)) (after : IsAfter w es) 
   abbrev l : Layout
   l = w.layout
 
-  -- who is behind the processors
-  other_is : (i : ℕ) (o : Option worker.Working) → slice_get w.workers i ≡ o → length w.runners + i < actors_of w → actor_after p l es (l.procs + i) ≡ worker_or w.coord o
-  other_is i (Some x) is lt = after.marking i x is
-  other_is i None is lt =
-      let high : length w.workers ≤ i = none_within w.workers i is in
-      let many = f.fit.others.many in
-      let seat : l.procs + i ≡ acks_of l = omega (arith, high, many, lt) in
-      ap (actor_after p l es) seat ∙ after.coordinator
-
-  pub same_actor : (a : ℕ) → a < actors_of w → actor_after p l es a ≡ actor_of w a
-  same_actor a lt = go (slice_get w.runners a) refl where
-    procs : length w.runners ≡ l.procs
-    procs = f.fit.running.many
-
-    go : (o : Option Runner) → slice_get w.runners a ≡ o → actor_after p l es a ≡ actor_of w a
-    go (Some x) is =
-        let low = slice_get_within w.runners a x is in
-        is_processor p l a (omega (arith, low, procs)) es ∙ ap actor.Runs (sym (after.running a x is).processor) ∙ sym (runner_here w a x is)
-    go None is =
-        let high : length w.runners ≤ a = none_within w.runners a is in
-        let i = a - length w.runners in
-        let at : a ≡ length w.runners + (a - length w.runners) = omega (arith, high) in
-        let seat : a ≡ l.procs + (a - length w.runners) = omega (arith, high, procs) in
-        ap (actor_after p l es) seat ∙ other_is i (slice_get w.workers i) refl (omega (arith, high, lt)) ∙ sym (other_here w a i at)
-
   pub same_end : (a : ℕ) → a < actors_of w → ended_after (setting_of p l) es a ≡ is_done w a
-  same_end a lt = ap has_ended (same_actor a lt)
+  same_end a lt = ap has_ended (sym (after.actors a lt))
 
   pub same_count : (setting_of p l).actors ≡ actors_of w
   same_count = let many = f.fit.others.many in let procs = f.fit.running.many in omega (arith, many, procs)
@@ -74,11 +39,11 @@ module _ (w : State) (f : Kept w) (es : List (Entry Op)) (after : IsAfter w es) 
       let left : has_left_at x.mutator.processor.task ≡ true = ap has_ended (sym (runner_here w a x is)) ∙ all a (omega (arith, procs, lt)) in
       let fits = f.fit.running.each a x is in
       let none = none_to_come p a x.progress.next (sym fits.leaves ∙ left_leaves x.mutator.processor.task left) in
-      sym ((after.running a x is).turns ∙ ap (λ (os : List Op). reverse (begun_in (by a es)) ++ os) none ∙ append-nil (reverse (begun_in (by a es))))
+      sym ((after.keeps.each a x is).turns ∙ ap (λ (os : List Op). reverse (begun_in (by a es)) ++ os) none ∙ append-nil (reverse (begun_in (by a es))))
 
   pub whole : AllDone w → IsRun p l es
   whole all = record {
-    legal = after.legal;
+    legal = after.run.legal;
     turns = λ a lt. turns_over all a lt (slice_get w.runners a) refl;
     done = λ a lt. let low : a < actors_of w = omega (arith, lt, same_count) in same_end a low ∙ all a low;
   }

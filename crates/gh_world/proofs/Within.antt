@@ -1,3 +1,4 @@
+pub mod Actors
 pub mod Buffers
 pub mod CoordParts
 pub mod Coordinators

@@ -10,11 +10,12 @@ use Rattle.gh_world.specs.declared.handshake.Actor.TheVariants as actor
 use Rattle.gh_world.specs.declared.runner.Runner.{Runner}
 use Rattle.gh_mutator.specs.Sound.{has_room}
 use Rattle.gh_world.specs.Turns.{Stands, statements_by, statement_now, next_point}
-use Rattle.gh_world.specs.World.{counts_after, event_at, event_by, GoesOn, IsRunnerAt, last_after, LaysOut, MadeAtMost, now_by, now_in, op_at_turn, points_in}
-use Rattle.gh_world.proofs.Vocabulary.{acks_of, Actor, actor_after, acts, After, Answer, answer_in, answered_in, asks, Begins, begun_in, bit, by, cell_of, changed, ended_in, ends, Entry, eq-eqb, eqb-false, eqb-true, event_of, get_or-set_other, get_or-set_same, gives_at, goroutine_at, has_left, InRange, is_busy_at, is_over, is_point, is_some, is_statement, Layout, leaves, MayBeOver, Next, Op, op_due, option_to_list, Processor, processor_kind, Program, Progress, progress_after, request, set, setting_of, Shape, slice_get, started, state_of, statement_answer, statements_among, StepsAreShown, takes, target, Task, to_come, total_of, turns_of, WellFormed, with_goroutine, words_after}
+use Rattle.gh_world.specs.World.{counts_after, event_at, event_by, GoesOn, last_after, LaysOut, MadeAtMost, now_by, now_in, op_at_turn, points_in}
+use Rattle.gh_world.proofs.Vocabulary.{acks_of, Actor, actor_after, acts, Answer, answer_in, answered_in, asks, Begins, begun_in, bit, by, cell_of, changed, ended_in, ends, Entry, eq-eqb, eqb-false, eqb-true, event_of, get_or-set_other, get_or-set_same, gives_at, goroutine_at, has_left, InRange, is_busy_at, is_over, is_point, is_some, is_statement, Layout, leaves, MayBeOver, Next, Op, op_due, option_to_list, Processor, processor_kind, Program, Progress, progress_after, request, set, setting_of, Shape, slice_get, started, state_of, statement_answer, statements_among, StepsAreShown, takes, target, Task, to_come, total_of, turns_of, WellFormed, with_goroutine, words_after}
 use Rattle.gh_world.proofs.Due.{due_goroutine, false_unless}
 use Rattle.gh_world.proofs.MayBegin.{due_begins, ended_then, left_then}
 use Rattle.gh_world.proofs.OneRun.{one_more}
+use Rattle.gh_world.proofs.Parts.{After, IsRunnerAt}
 use Rattle.gh_world.proofs.Resting.{begun_is, is_processor}
 use Rattle.gh_world.proofs.Runners.{each_set, runner_stays}
 

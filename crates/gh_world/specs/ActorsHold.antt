@@ -1,10 +1,8 @@
 -- What holds after every list of all actors, by the coordinator's stage: between two cycles the heap is calm; while a cycle is marked it is known to marking; and while it is swept the world is stopped.
-use Rattle.std.specs.Prelude.{◌≡◌, ◌↔◌, ℕ, ◌*◌, ◌<◌, ◌≤◌, ◌⊎◌, Bool, true, false, List, ◌++◌, slice_index, Option, Some, None}
+use Rattle.std.specs.Prelude.{◌≡◌, ◌↔◌, ℕ, ◌+◌, ◌*◌, ◌<◌, ◌≤◌, ◌⊎◌, Bool, true, false, List, ◌++◌, slice_index, Option, Some, None}
 use Rattle.std.specs.Option.{option_to_list}
 use Rattle.std.proofs.Common.{inl, inr}
 use Rattle.gh_base.specs.declared.cell.Cell.TheVariants as cell
-use Rattle.gh_base.specs.declared.pack.PageWord.TheVariants.{Head}
-use Rattle.gh_base.specs.declared.pack.SpanHead.{SpanHead}
 use Rattle.gh_base.specs.declared.pack.TheConstants.{END}
 use Rattle.gh_base.specs.declared.operation.Op.TheVariants as op
 use Rattle.gh_base.specs.Lists.{by}
@@ -24,8 +22,7 @@ use Rattle.gh_mutator.specs.declared.task.Task.TheVariants as task
 use Rattle.gh_sweep.specs.declared.sweep.SweepStage.{SweepStage}
 use Rattle.gh_sweep.specs.declared.sweep.SweepStage.TheVariants.{Begin}
 use Rattle.gh_sweep.specs.Listing as sweep
-use Rattle.gh_sweep.specs.Sweepers as sweepers
-use Rattle.gh_world.specs.HoldVocabulary.{acks_of, alloc_at, alloc_words, AllWereCounted, Answer, answers_of, arena, Arena, AreWords, BeginsCycle, birth_words, By, Coordinating, CountsAreExact, CoordStage, Cycle, CycleEnd, deeds, ended_in, EndsAllMarked, EndsCycle, Entry, Ever, ever, Fine, FreesTheUnreached, FullOnlyThere, generation_of, given_of, Good, HasGoneOn, head_word, Heap, IsAtRest, IsBeside, IsBounded, IsCalm, IsDrawnSo, IsLed, IsMade, IsOf, IsSound, IsStartOf, IsToBegin, Layout, LeavesTheReached, Marking, mark_words, marks_at, MarksNothing, Name, NewStage, Op, opening_words, Pacing, page_of, Placed, Processor, processor_kind, Right, row_bit, Shape, Spans, state_of, SweepingAll, SweepsBeside, tally_of, Task, view, with_words, Words, words}
+use Rattle.gh_world.specs.HoldVocabulary.{acks_of, alloc_at, alloc_words, AllWereCounted, Answer, answers_of, arena, Arena, AreWords, BeginsCycle, birth_words, By, Coordinating, CoordStage, CountsAreExact, Cycle, CycleEnd, deeds, ended_in, EndsAllMarked, EndsCycle, Entry, Ever, ever, Fine, FreesTheUnreached, FullOnlyThere, generation_of, given_of, HasGoneOn, head_word, Heap, IsAsItEnded, IsBeside, IsBounded, IsDrawnSo, IsLed, IsMade, IsOf, IsPlacedAt, IsSound, IsStartOf, IsToBegin, Layout, LeavesTheReached, mark_words, Marking, marks_at, MarksNothing, Name, NewStage, Op, opening_words, Pacing, PassedBefore, Placed, Processor, processor_kind, Rests, Right, row_bit, Runs, Shape, State, state_of, StateGood, SweepingAll, tally_of, Task, Told, view, Words, words}
 
 -- The bytes that a processor has placed and not counted yet: those of the slot in which it has made an object.
 
@@ -48,54 +45,43 @@ is_last_task (task.Leave x) = true
 is_last_task task.Left = true
 is_last_task _ = false
 
--- What is said of a sweep goes on to be so of what stands while the next cycle is opened and marked, though marks are set and what the sweep has told is cleared: it is said of the words with no mark set, and with the two counts as they were told.
-abbrev pub unmarked : (tally live : ℕ) → Words → Words
-unmarked tally live words (cell.Mark i) = 0
-unmarked tally live words cell.Tally = tally
-unmarked tally live words cell.Live = live
-unmarked tally live words c = words c
-
-abbrev pub bare : (tally live : ℕ) → Heap → Heap
-bare tally live h = with_words h (unmarked tally live h.words)
+-- a cycle is opened or marked
+abbrev pub IsUnderWay : State → Type 0
+IsUnderWay s = (t : Told) × (s.told ≡ Some t)
 
 -- The coordinator sweeps all spans, alone.
 
--- the head of the page, if it has one, has the number of the sweep generation
-abbrev pub IsPassed : CycleEnd → Spans → (p : ℕ) → Type 0
-IsPassed e v p = (h : SpanHead) → page_of (v.words (cell.Page p)) ≡ Head h → h.number ≡ generation_of e
-
-module _ (e : CycleEnd) (a : ℕ) (v : Spans) where
+module _ (a : ℕ) (s : State) where
   -- where it is about to take the span, the page's word is as it has found it
   abbrev pub IsFoundStill : sweep.Sweeping → SweepStage → Type 0
-  IsFoundStill m Begin = v.words (cell.Page m.page) ≡ head_word m.head
+  IsFoundStill m Begin = s.heap.words (cell.Page m.page) ≡ head_word m.head
   IsFoundStill m _ = Unit {0}
 
   pub record SweepsSpan (page : ℕ) (m : sweep.Sweeping) : Type 0 where
     pub page_is : m.page ≡ page
-    pub within : page < e.layout.pages
+    pub within : page < s.end.layout.pages
     pub busy : sweep.is_busy m.stage ≡ true
-    pub fine : sweepers.Fine e a v m
+    pub runs : Runs a s m
     pub found : IsFoundStill m m.stage
 
   -- it waits for nobody, since nobody else sweeps
   abbrev pub SweepsAt : SweepAllStage → Type 0
-  SweepsAt (all.LoadPage page) = (page < e.layout.pages) × IsAtRest a v
+  SweepsAt (all.LoadPage page) = (page < s.end.layout.pages) × Rests a s
   SweepsAt (all.Sweep page m) = SweepsSpan page m
   SweepsAt (all.Await page) = ⊥
-  SweepsAt all.Ended = IsAtRest a v
+  SweepsAt all.Ended = Rests a s
 
   abbrev pub page_at : SweepAllStage → ℕ
   page_at (all.LoadPage page) = page
   page_at (all.Sweep page m) = page
   page_at (all.Await page) = page
-  page_at all.Ended = e.layout.pages
+  page_at all.Ended = s.end.layout.pages
 
   pub record SweepsAll (w : SweepingAll) : Type 0 where
-    pub layout_is : w.layout ≡ e.layout
-    pub generation_is : w.generation ≡ generation_of e
-    pub alone : (p b : ℕ) → v.far p ≡ By b → b ≡ a
-    pub owes_none : (b : ℕ) → v.pend b ≡ 0
-    pub passed : (p : ℕ) → p < page_at w.stage → IsPassed e v p
+    pub layout_is : w.layout ≡ s.end.layout
+    pub generation_is : w.generation ≡ generation_of s.end
+    pub alone : (p b : ℕ) → s.far p ≡ By b → b ≡ a
+    pub passed : PassedBefore s (page_at w.stage)
     pub stage_is : SweepsAt w.stage
 
 -- how far the words are prepared for marking while a cycle is opened
@@ -158,6 +144,11 @@ module _ (shapes : List Shape) (l : Layout) (pacing : Pacing) (may : ℕ → Lis
   began es k (inl b) = ever shapes l pacing may es
   began es k (inr i) = ever shapes l pacing may i.begun
 
+  -- and the words
+  abbrev pub began_words : (es : List (Entry Op)) (k : ℕ) → IsToBegin shapes l pacing may es k ⊎ IsInCycle es k → Words
+  began_words es k (inl b) = words shapes l pacing may es
+  began_words es k (inr i) = words shapes l pacing may i.begun
+
   -- where it ended, the bits were these, and no value and no name has changed since
   pub record EndedSo (es : List (Entry Op)) (k : ℕ) (e : CycleEnd) : Type 0 where
     pub ended : List (Entry Op)
@@ -168,68 +159,55 @@ module _ (shapes : List Shape) (l : Layout) (pacing : Pacing) (may : ℕ → Lis
     pub births : (i : ℕ) → words shapes l pacing may es (cell.Birth i) ≡ words shapes l pacing may ended (cell.Birth i)
     pub ever_is : ever shapes l pacing may es ≡ ever shapes l pacing may ended
 
-  -- While a cycle is marked. What stands is counted beside the marks, as between two cycles: what a processor has placed and not counted yet is told.
+  -- The heap and its sweep, at whatever stage the coordinator is: what holds at every moment, and what each seat has placed and not counted.
+  pub record HasState (es : List (Entry Op)) : Type 0 where
+    pub state : State
+    pub of_list : IsHeapOf es state.heap
+    pub good : StateGood z state
+    pub placing : (a : ℕ) → a < l.procs → state.pend a ≡ uncounted (processor_at es a).task
+    pub others_place : (a : ℕ) → l.procs ≤ a → state.pend a ≡ 0
+
+  -- Nobody marks: no buffer has an entry, each stack was scanned in a cycle before this one, if at all, and each processor knows of no marking.
+  pub record NobodyMarks (es : List (Entry Op)) (cycle : ℕ) (words : Words) : Type 0 where
+    pub buffers : (b : ℕ) → words (cell.Buffer b) ≡ 0
+    pub stacks : (g : ℕ) → (words (cell.Scanned g) < cycle) ⊎ (words (cell.Scanned g) ≡ END)
+    pub processors : (a : ℕ) → a < l.procs → MarksNothing (processor_at es a)
+
+  -- While a cycle is marked.
   pub record IsKnown (c : Cycle) (s : Marking) (es : List (Entry Op)) : Type 0 where
     pub arena_is : c.arena ≡ z
-    pub heap : Heap
-    pub of_list : IsHeapOf es heap
-    pub good : Good z (view heap)
-    pub beside : IsBeside z heap s
+    pub has : HasState es
+    pub under_way : IsUnderWay has.state
+    pub beside : IsBeside z has.state.heap s
     pub cycle : IsToBegin shapes l pacing may es c.number ⊎ IsInCycle es c.number
-    pub gone_on : HasGoneOn (began es c.number cycle) heap s
+    pub gone_on : HasGoneOn (began es c.number cycle) has.state.heap s
+    pub stood : (n : Name) (x : ℕ) → IsPlacedAt (began_words es c.number cycle) n x → IsPlacedAt (words shapes l pacing may es) n x
     pub drawn : (room : ℕ) → IsDrawnSo shapes l pacing may c s es room
-    pub end : CycleEnd
-    pub spans : Spans
-    pub tally : ℕ
-    pub live : ℕ
-    pub calm : IsCalm z end (bare tally live heap) spans
-    pub placing : (a : ℕ) → a < l.procs → spans.pend a ≡ uncounted (processor_at es a).task
-    pub others_place : (a : ℕ) → l.procs ≤ a → spans.pend a ≡ 0
-    pub marks_fit : AreWords (mark_words heap.words)
+    pub marks_fit : AreWords (mark_words has.state.heap.words)
 
   -- While it is swept.
   pub record IsSweeping (es : List (Entry Op)) (c : Coordinating) (w : SweepingAll) : Type 0 where
-    pub heap : Heap
-    pub of_list : IsHeapOf es heap
-    pub end : CycleEnd
-    pub spans : Spans
-    pub beside : SweepsBeside z end heap spans
-    pub sweeps : SweepsAll end (acks_of l) spans w
+    pub has : HasState es
+    pub over : has.state.told ≡ None
+    pub sweeps : SweepsAll (acks_of l) has.state w
+    pub as_it_ended : IsAsItEnded has.state
     pub cycle : IsInCycle es c.begun
-    pub ended : EndedSo es c.begun end
-    pub buffers : (b : ℕ) → heap.words (cell.Buffer b) ≡ 0
-    pub stacks : (g : ℕ) → (heap.words (cell.Scanned g) ≤ c.begun) ⊎ (heap.words (cell.Scanned g) ≡ END)
-    pub processors : (a : ℕ) → a < l.procs → MarksNothing (processor_at es a)
+    pub ended : EndedSo es c.begun has.state.end
+    pub nobody : NobodyMarks es (c.begun + 1) has.state.heap.words
 
-  -- Between two cycles.
-
+  -- Between two cycles each span is swept.
   pub record IsQuiet (es : List (Entry Op)) (c : Coordinating) : Type 0 where
-    pub heap : Heap
-    pub of_list : IsHeapOf es heap
-    pub end : CycleEnd
-    pub spans : Spans
-    pub calm : IsCalm z end heap spans
-    pub placing : (a : ℕ) → a < l.procs → spans.pend a ≡ uncounted (processor_at es a).task
-    pub others_place : (a : ℕ) → l.procs ≤ a → spans.pend a ≡ 0
-    pub buffers : (b : ℕ) → heap.words (cell.Buffer b) ≡ 0
-    pub stacks : (g : ℕ) → (heap.words (cell.Scanned g) ≤ c.begun) ⊎ (heap.words (cell.Scanned g) ≡ END)
-    pub processors : (a : ℕ) → a < l.procs → MarksNothing (processor_at es a)
+    pub has : HasState es
+    pub over : has.state.told ≡ None
+    pub swept : PassedBefore has.state l.pages
+    pub nobody : NobodyMarks es (c.begun + 1) has.state.heap.words
 
-  -- The world is stopped, and a cycle is opened: no mark is set, no buffer has an entry, each stack was scanned in a cycle before, if at all, and what stands is counted.
+  -- The world is stopped, and a cycle is opened: no mark is set, no buffer has an entry, and each stack was scanned in a cycle before, if at all.
   pub record IsReady (es : List (Entry Op)) (c : Coordinating) : Type 0 where
-    pub heap : Heap
-    pub of_list : IsHeapOf es heap
-    pub good : Good z (view heap)
-    pub end : CycleEnd
-    pub spans : Spans
-    pub tally : ℕ
-    pub live : ℕ
-    pub calm : IsCalm z end (bare tally live heap) spans
-    pub owes_none : (a : ℕ) → spans.pend a ≡ 0
-    pub marks : (i : ℕ) → heap.words (cell.Mark i) ≡ 0
-    pub buffers : (b : ℕ) → heap.words (cell.Buffer b) ≡ 0
-    pub stacks : (g : ℕ) → (heap.words (cell.Scanned g) < c.begun) ⊎ (heap.words (cell.Scanned g) ≡ END)
-    pub processors : (a : ℕ) → a < l.procs → MarksNothing (processor_at es a)
+    pub has : HasState es
+    pub under_way : IsUnderWay has.state
+    pub marks : (i : ℕ) → has.state.heap.words (cell.Mark i) ≡ 0
+    pub nobody : NobodyMarks es c.begun has.state.heap.words
 
   -- the cycle is just swept: the objects that stand are those that were marked where it ended, and the counts are exact
   pub record IsJustSwept (es : List (Entry Op)) (c : Coordinating) (h : Heap) (e : CycleEnd) : Type 0 where
@@ -250,11 +228,11 @@ module _ (shapes : List Shape) (l : Layout) (pacing : Pacing) (may : ℕ → Lis
   IsOpening es c stage = IsReady es c × HasCursor (words shapes l pacing may es cell.Gcur) stage
 
   abbrev pub IsCounting : List (Entry Op) → Coordinating → CountStage → Type 0
-  IsCounting es c stage = (q : IsQuiet es c) × IsJustSwept es c q.heap q.end × HasRead (words shapes l pacing may es cell.Tally) stage
+  IsCounting es c stage = (q : IsQuiet es c) × IsJustSwept es c q.has.state.heap q.has.state.end × HasRead (words shapes l pacing may es cell.Tally) stage
 
   abbrev pub IsTelling : List (Entry Op) → Coordinating → TellStage → Type 0
   IsTelling es c telling.Ended = ⊥
-  IsTelling es c _ = (q : IsQuiet es c) × IsJustSwept es c q.heap q.end
+  IsTelling es c _ = (q : IsQuiet es c) × IsJustSwept es c q.has.state.heap q.has.state.end
 
   module _ (es : List (Entry Op)) (c : Coordinating) where
     abbrev pub HoldsAt : CoordStage → Type 0

@@ -13,6 +13,7 @@ use Rattle.gh_marks.specs.Shows.{Shows}
 use Rattle.gh_world.specs.Handshake.{Pacing}
 use Rattle.gh_world.specs.Marking.{IsBeginning, IsChecked, IsLedBy, IsStateOf}
 use Rattle.gh_world.specs.Processors.{arena_of}
+use Rattle.gh_world.specs.Tied.{IsOfHeap, IsTied}
 
 module _ (shapes : List Shape) (l : Layout) (pacing : Pacing) (may : ℕ → List (Entry Op) → Op → Bool) where
   -- the words after the list
@@ -26,10 +27,10 @@ module _ (shapes : List Shape) (l : Layout) (pacing : Pacing) (may : ℕ → Lis
     pub stage : IsBeginning lead.stage
     pub cycle : lead.begun ≡ k
 
-  -- Behind the list the picture shows this state of marking. Where the cycle begins it comes of one as at a cycle's begin; and each entry since is moves of marking of its actor, which are moves of the picture.
+  -- Behind the list the picture shows this state of marking, which is one of its heap. Where the cycle begins it comes of one as at a cycle's begin; and each entry since is moves of marking of its actor, which are moves of the picture.
   pub data Drawing (z : Cycle) : List (Entry Op) → Marking → Tricolour → Type 0 where
-    begins : (es : List (Entry Op)) (s : Marking) (first picture : Tricolour) (at : Row) → IsToBegin es z.number → s.words ≡ told es → IsOpening first → Goes first picture → Shows z s at picture → Drawing z es s picture
-    steps : (e : Entry Op) (es : List (Entry Op)) (s t : Marking) (before picture : Tricolour) (at : Row) → Drawing z es s before → Went z e.actor s t → t.words ≡ told (e ∷ es) → Goes before picture → Shows z t at picture → Drawing z (e ∷ es) t picture
+    begins : (es : List (Entry Op)) (s : Marking) (first picture : Tricolour) (at : Row) → IsToBegin es z.number → s.words ≡ told es → IsOfHeap shapes l pacing es z s → IsOpening first → Goes first picture → Shows z s at picture → Drawing z es s picture
+    steps : (e : Entry Op) (es : List (Entry Op)) (s t : Marking) (before picture : Tricolour) (at : Row) → Drawing z es s before → Went z e.actor s t → t.words ≡ told (e ∷ es) → IsOfHeap shapes l pacing (e ∷ es) z t → Goes before picture → Shows z t at picture → Drawing z (e ∷ es) t picture
 
   -- there is such a picture, with room for so many objects more
   pub record IsDrawnSo (z : Cycle) (s : Marking) (es : List (Entry Op)) (room : ℕ) : Type 0 where
@@ -39,11 +40,12 @@ module _ (shapes : List Shape) (l : Layout) (pacing : Pacing) (may : ℕ → Lis
     pub shows : Shows z s at picture
     pub room_left : picture.objects + room ≤ picture.limit
 
-  -- So the cycle that is marked is drawn; the picture has its invariants, and marking has what they say. Where the coordinator has checked that nothing is left to be marked, nothing is in the picture.
+  -- So the cycle that is marked is drawn: its state of marking is that of the list, the picture has its invariants, and marking has what they say. Where the coordinator has checked that nothing is left to be marked, nothing is in the picture.
   pub record CycleIsDrawn (es : List (Entry Op)) (c : Coordinating) : Type 0 where
     pub cycle : Cycle
     pub shared : Marking
     pub is : IsStateOf (arena_of shapes l) pacing may es c cycle shared
+    pub tied : IsTied shapes l pacing es cycle shared
     pub picture : Tricolour
     pub drawing : Drawing cycle es shared picture
     pub invariants : Invariants picture

@@ -18,13 +18,15 @@ pub use Rattle.gh_marks.specs.Colours.{Cycle}
 pub use Rattle.gh_marks.specs.Colours.{Shared as Marking}
 pub use Rattle.gh_sweep.specs.Counts.{AreWords, marked_objects, unmarked_objects}
 pub use Rattle.gh_sweep.specs.Shared.{alloc_at, By, CycleEnd, generation_of, marks_at, placed}
-pub use Rattle.gh_sweep.specs.Shared.{Shared as Spans}
-pub use Rattle.gh_sweep.specs.Sweepers.{IsAtRest}
+pub use Rattle.gh_state.specs.Cycles.{IsAsItEnded, IsTold as CountsAreExact}
+pub use Rattle.gh_state.specs.Good.{Good as StateGood}
+pub use Rattle.gh_state.specs.Routines.{Rests, Runs}
+pub use Rattle.gh_state.specs.Shared.{Shared as State, Told}
+pub use Rattle.gh_state.specs.Slots.{slot_row}
+pub use Rattle.gh_state.specs.Walkers.{PassedBefore}
 pub use Rattle.gh_cycle.specs.Beside.{IsBeside}
-pub use Rattle.gh_cycle.specs.Ending.{slot_row}
 pub use Rattle.gh_cycle.specs.Reached.{IsBounded}
 pub use Rattle.gh_cycle.specs.Since.{HasGoneOn}
-pub use Rattle.gh_cycle.specs.Sweeping.{IsCalm, IsTold as CountsAreExact, SweepsBeside, with_words}
 pub use Rattle.gh_coord.specs.Listing.{Coordinating}
 pub use Rattle.gh_coord.specs.Stopping.{acks_of}
 pub use Rattle.gh_coord.specs.SweepingAll.{SweepingAll}
@@ -43,4 +45,4 @@ pub use Rattle.gh_world.specs.Drawn.{IsDrawnSo, IsToBegin}
 pub use Rattle.gh_world.specs.Handshake.{Pacing}
 pub use Rattle.gh_world.specs.Marking.{actors_after, IsBeginning, IsInLimits, IsStartOf}
 pub use Rattle.gh_world.specs.Order.{ended_in}
-pub use Rattle.gh_world.specs.Processors.{answers_of, FullOnlyThere, given_of}
+pub use Rattle.gh_world.specs.Processors.{answers_of, FullOnlyThere, given_of, IsPlacedAt}

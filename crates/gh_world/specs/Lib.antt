@@ -1,5 +1,8 @@
 pub mod Actors
 pub mod ActorsHold
+pub mod After
+pub mod Asked
+pub mod Counts
 pub mod Cycles
 pub mod Drawn
 pub mod Handshake
@@ -7,11 +10,15 @@ pub mod HoldVocabulary
 pub mod Marking
 pub mod Numbers
 pub mod Order
+pub mod Phases
 pub mod Points
 pub mod Processors
 pub mod RunVocabulary
 pub mod Runs
+pub mod Scans
 pub mod Schedule
+pub mod SweepMarks
+pub mod Tied
 pub mod Turns
 pub mod Vocabulary
 pub mod Waits

@@ -76,10 +76,23 @@ StandsFor z words e at = StandsForThese z (Reach e) words e at
 
 -- There is no room, for the processor at this seat.
 
--- heap page q is not free, nor in a span that is empty and that nobody owns
+-- heap page q lies in the empty span that starts at page p and that nobody owns
+pub record LiesInUnused (z : Arena) (words : Words) (q p : ℕ) (h : SpanHead) : Type 0 where
+  pub span : IsSpan z.layout.pages (page_words words) p h
+  pub unowned : h.owner ≡ 0
+  pub empty : IsVacant (alloc_words words) p h
+  pub lies : (p ≤ q) × (q < p + h.pages)
+
+-- heap page q is not free, and lies in no empty span that nobody owns
 pub record IsTakenPage (z : Arena) (words : Words) (q : ℕ) : Type 0 where
-  pub taken : page_of (words (cell.Page q)) ≢ Free
-  pub used : (p : ℕ) (h : SpanHead) → IsSpan z.layout.pages (page_words words) p h → p ≤ q → q < p + h.pages → h.owner ≡ 0 → ¬ IsVacant (alloc_words words) p h
+  pub not_free : page_of (words (cell.Page q)) ≢ Free
+  pub in_none : (p : ℕ) (h : SpanHead) → ¬ LiesInUnused z words q p h
+
+-- a run of so many pages has a page that is taken
+pub record HasTakenPage (z : Arena) (words : Words) (first pages : ℕ) : Type 0 where
+  pub page : ℕ
+  pub lies : (first ≤ page) × (page < first + pages)
+  pub taken : IsTakenPage z words page
 
 -- another seat owns the span
 pub record IsAnothers (z : Arena) (a : ℕ) (h : SpanHead) : Type 0 where
@@ -88,12 +101,12 @@ pub record IsAnothers (z : Arena) (a : ℕ) (h : SpanHead) : Type 0 where
   pub other : who ≢ a
   pub owner : h.owner ≡ who + 1
 
--- The seat has no span of its own of the span class. Every other span of that class is cached by another seat, or swept with no clear slot; no span of any class is unswept; and no run of free pages fits, empty spans that nobody owns counted as free. Of a large object the first two fall away.
+-- The seat has no span of its own of the span class. Every other span of that class is cached by another seat, or swept with no clear slot; no span of any class is unswept; and each run of so many pages has a page that is not free and lies in no empty span that nobody owns. Of a large object the first two fall away.
 pub record NoRoomFor (z : Arena) (a : ℕ) (words : Words) (m : Processor) (sought : Sought) : Type 0 where
   pub own : cached_for m sought ≡ None
   pub slots : (p : ℕ) (h : SpanHead) → (span_for sought).class ≢ size.Large → page_of (words (cell.Page p)) ≡ Head h → h.class ≡ (span_for sought).class → h.noscan ≡ (span_for sought).noscan → IsAnothers z a h ⊎ IsFull (alloc_words words) p h
   pub swept : (p : ℕ) (h : SpanHead) → page_of (words (cell.Page p)) ≡ Head h → h.number ≡ words cell.Gen
-  pub run : (first : ℕ) → first + (span_for sought).pages ≤ z.layout.pages → (d : ℕ) × (d < (span_for sought).pages) × IsTakenPage z words (first + d)
+  pub run : (first : ℕ) → first + (span_for sought).pages ≤ z.layout.pages → HasTakenPage z words first (span_for sought).pages
 
 -- the operation is to make an object, and of what is sought for it this holds
 abbrev pub OfNew : List Shape → (Sought → Type 0) → Op → Type 0

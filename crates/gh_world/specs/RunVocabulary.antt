@@ -15,7 +15,7 @@ pub use Rattle.gh_coord.specs.declared.coord.CoordStage.TheVariants.{Check, Clos
 pub use Rattle.gh_coord.specs.declared.tell.TellStage.{TellStage}
 pub use Rattle.gh_coord.specs.declared.watch.Watched.{Watched}
 pub use Rattle.gh_coord.specs.declared.watch.Watched.TheVariants.{All, NotYet}
-pub use Rattle.gh_cycle.specs.Ending.{SlotsAreRead, slot_row}
+pub use Rattle.gh_state.specs.Slots.{SlotsAreRead, slot_row}
 pub use Rattle.gh_heap.specs.Objects.{IsMade}
 pub use Rattle.gh_lines.specs.Text.{SweptCycle}
 pub use Rattle.gh_model.specs.Ever.{fits, from_field, from_global, has_field, is_number, is_pointer_field, load_answer, store_answer, told}
@@ -34,14 +34,15 @@ pub use Rattle.gh_script.specs.Program.{Goroutine, op_of}
 pub use Rattle.gh_sweep.specs.Bits.{SetBitsAreCounted}
 pub use Rattle.gh_sweep.specs.Counts.{AreWords, is_set, marked_objects, unmarked_objects}
 pub use Rattle.gh_worker.specs.Writing.{WorkersWriteTheirOwn}
-pub use Rattle.gh_world.specs.Actors.{AllStands, AllWereCounted, EndsCycle, EveryListOfActorsStands, IsEnding, IsMarkedObject, LeavesTheReached, WasCounted}
+pub use Rattle.gh_world.specs.Actors.{AllStands, AllWereCounted, EndsCycle, IsEnding, IsMarkedObject, LeavesTheReached, WasCounted}
 pub use Rattle.gh_world.specs.Cycles.{AreLive, IsAmong, IsHeld, by_field, by_global, cycles_in, ended_by}
 pub use Rattle.gh_world.specs.Handshake.{EveryListKeepsIt, KeepsIt, Pacing}
 pub use Rattle.gh_world.specs.Marking.{IsStartOf}
 pub use Rattle.gh_world.specs.Numbers.{Checked, IsFew, LiveCleared, Outside, Part, generation_of, opened_in, part_of}
 pub use Rattle.gh_world.specs.Order.{answered, before_step, begun_in, ever_of, order_of}
 pub use Rattle.gh_world.specs.Processors.{FullOnlyThere, IsFullFor, IsPlacedAt, arena_of, ever_after_list}
-pub use Rattle.gh_world.specs.Runs.{ActedBehind, EachGcWaits, EveryRunIsExplained, FoundNoRoom, FoundSwept, FullMeansNoRoom, IsExplained, IsRun, answers_given, marked_by, outcome_by, swept_cycle, WaitedForCycle, words_in}
+pub use Rattle.gh_world.specs.Runs.{ActedBehind, EachGcWaits, EveryRunIsExplained, FoundNoRoom, FoundSwept, FullMeansNoRoom, IsExplained, IsRun, answers_given, marked_by, outcome_by, swept_cycle, words_in}
+pub use Rattle.gh_world.specs.Runs.{ActedBehind, EachGcWaits, EveryListOfAScriptStands, EveryRunIsExplained, FoundNoRoom, FoundSwept, FullMeansNoRoom, IsExplained, IsRun, answers_given, marked_by, outcome_by, swept_cycle, words_in}
 pub use Rattle.gh_world.specs.Schedule.{has_ended}
 pub use Rattle.gh_world.specs.Turns.{count_of, is_statement_of, total_of, turns_of}
 pub use Rattle.gh_world.specs.Wants.{AreFew, CyclesAreFew, ProcessorsBeginFew, total}

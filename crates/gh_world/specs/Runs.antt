@@ -2,7 +2,6 @@
 use Rattle.std.specs.Prelude.{◌≡◌, ℕ, ◌+◌, ◌<◌, ◌≤◌, Bool, true, false, List, [], ◌∷◌, ◌++◌, length, map, reverse, slice_get, Option, Some, None}
 use Rattle.std.specs.List.{filter}
 use Rattle.gh_world.specs.Vocabulary.{acts, AllAnswer, Answer, answers_by, Entry, Layout, Legal, Op, opening_ever, Program, state_of, statements_of, WellFormed, Words, words_after}
-use Rattle.gh_base.specs.declared.cell.Cell.TheVariants as cell
 use Rattle.gh_base.specs.Lists.{by}
 use Rattle.gh_base.specs.declared.operation.Op.TheVariants as op
 use Rattle.gh_base.specs.declared.value.Answer.TheVariants as answer
@@ -14,12 +13,14 @@ use Rattle.gh_mutator.specs.Deeds.{processor_kind}
 use Rattle.gh_mutator.specs.Listing.{gives}
 use Rattle.gh_script.specs.Program.{op_of}
 use Rattle.gh_world.specs.declared.handshake.Actor.TheVariants.{Leads}
+use Rattle.gh_world.specs.Actors.{AwaitedCycle}
+use Rattle.gh_world.specs.Actors.{AllStands}
 use Rattle.gh_world.specs.Cycles.{AreLive, cycles_in}
 use Rattle.gh_world.specs.Order.{acted_at, acted_in, Answered, before_step, begun_in, ever_of, order_of}
 use Rattle.gh_world.specs.Processors.{arena_of, IsFullFor}
 use Rattle.gh_world.specs.Schedule.{ended_after, IsInTurn}
 use Rattle.gh_world.specs.Turns.{turns_of, answers_to, is_of_seat, is_statement_of}
-use Rattle.gh_world.specs.World.{actor_after, answer_in, LaysOut, now_in, setting_of, with_goroutine}
+use Rattle.gh_world.specs.World.{actor_after, answer_in, LaysOut, may_begin_of, now_in, pacing_of, setting_of, with_goroutine}
 
 module _ (p : Program) (l : Layout) where
   -- the words after the list
@@ -86,39 +87,32 @@ module _ (p : Program) (l : Layout) where
     pub behind : length (order_of p.shapes l before) ≡ i
     pub acted : acts (before_step p.shapes l before entry) entry.found ≡ Some (record { op = o; full = full })
 
-  -- The operation is the last that the actor began in the list, and a cycle that began after it did is swept: more cycles are swept than had begun there.
-  pub record WaitedForCycle (a : ℕ) (es : List (Entry Op)) (o : Op) : Type 0 where
-    pub earlier : List (Entry Op)
-    pub first : Entry Op
-    pub since : List (Entry Op)
-    pub there : es ≡ since ++ first ∷ earlier
-    pub by_it : first.actor ≡ a
-    pub began : first.begun ≡ Some o
-    pub none_since : begun_in (by a since) ≡ []
-    pub swept : words_in p l earlier cell.Begun < words_in p l es cell.Swept
+  -- the operation is the last that the actor began in the list, and has waited for a cycle
+  abbrev pub Awaited : (a : ℕ) → List (Entry Op) → Op → Type 0
+  Awaited a es o = AwaitedCycle p.shapes l (pacing_of p) (may_begin_of p l) a es o
 
-  -- The operation acted in the list, behind i others, where there was no room; and a cycle that began after it did was swept by then.
+  -- The operation acted in the list, behind i others, where there was no room; and behind its first entry a cycle began that was swept by then.
   pub record FoundNoRoom (es : List (Entry Op)) (i : ℕ) (o : Op) : Type 0 where
     pub step : ActedBehind es i o true
     pub no_room : IsFullFor (arena_of p.shapes l) step.entry.actor (words_in p l step.before) (state_of (processor_kind p.shapes l) step.entry.actor step.before) o
-    pub waited : WaitedForCycle step.entry.actor step.before o
+    pub waited : Awaited step.entry.actor step.before o
 
   -- whichever operation is answered `full`, it acted where there was no room
   abbrev pub FullMeansNoRoom : List (Entry Op) → Type 0
   FullMeansNoRoom es = (i : ℕ) (a : Answered) → slice_get (acted_in p.shapes l es) i ≡ Some a → a.answer ≡ answer.Full → FoundNoRoom es i a.op
 
-  -- The operation acted in the list, behind i others, where a cycle that began after it did was swept; and its answer is `swept`, given by that very step.
+  -- The operation acted in the list, behind i others, where a cycle that began behind its first entry was swept; and its answer is `swept`, given by that very step.
   pub record FoundSwept (es : List (Entry Op)) (i : ℕ) (a : Answered) : Type 0 where
     pub step : ActedBehind es i a.op false
-    pub waited : WaitedForCycle step.entry.actor step.before a.op
+    pub waited : Awaited step.entry.actor step.before a.op
     pub given : gives (before_step p.shapes l step.before step.entry) step.entry.found ≡ Some answer.Swept
     pub answer : a.answer ≡ answer.Swept
 
-  -- whichever operation is a `gc`, it acted where a cycle that began after it did was swept
+  -- whichever operation is a `gc`, it acted where a cycle that began behind its first entry was swept
   abbrev pub EachGcWaits : List (Entry Op) → Type 0
   EachGcWaits es = (i g : ℕ) (a : Answered) → slice_get (acted_in p.shapes l es) i ≡ Some a → a.op ≡ op.Gc g → FoundSwept es i a
 
-  -- The operations of each processor are its turns, in the order of their points, and nobody else acts; so the order of all points is one interleaving of the processors' turns. In it each goroutine's statements stand each once and in their order. Their answers are exactly those of the heap that never frees, save `full`, and whichever is answered `full`, there was no room where it acted, and a cycle was waited for. Each `gc` is answered `swept`, where a cycle that began after it did was swept. The statements' answers are those given, of each processor in the order of its turns. What the coordinator tells is so: each cycle kept what was marked where it ended, and freed what was white there. What is live is what the globals of the heap that never frees hold at the end.
+  -- The operations of each processor are its turns, in the order of their points, and nobody else acts; so the order of all points is one interleaving of the processors' turns. In it each goroutine's statements stand each once and in their order. Their answers are exactly those of the heap that never frees, save `full`, and whichever is answered `full`, there was no room where it acted, and a cycle that began behind its first entry was swept. Each `gc` is answered `swept`, where such a cycle was swept. The statements' answers are those given, of each processor in the order of its turns. What the coordinator tells is so: each cycle kept what was marked where it ended, and freed what was white there. What is live is what the globals of the heap that never frees hold at the end.
   pub record IsExplained (es : List (Entry Op)) (o : Outcome) : Type 0 where
     pub run : IsRun p l es
     -- what was answered, and what the coordinator tells at the end
@@ -139,6 +133,14 @@ module _ (p : Program) (l : Layout) where
     pub live : AreLive p.shapes (ever_of p.shapes l es) o.objects o.bytes
 
 -- ---- laws
+
+-- Whatever the script, and whatever run of it so far, in every order of steps: all stands that stands after each legal list of all actors. A whole run is one to which nothing is to come.
+abbrev pub EveryRunStands : Type 0
+EveryRunStands = (p : Program) (l : Layout) (es : List (Entry Op)) → WellFormed p → LaysOut p l → IsRunSoFar p l es → AllStands p.shapes l (pacing_of p) (may_begin_of p l) es
+
+-- And so it does after each legal list of a script's processors, workers and coordinator, in whatever order the processors' operations are.
+abbrev pub EveryListOfAScriptStands : Type 0
+EveryListOfAScriptStands = (p : Program) (l : Layout) (es : List (Entry Op)) → WellFormed p → LaysOut p l → Legal (setting_of p l) es → AllStands p.shapes l (pacing_of p) (may_begin_of p l) es
 
 -- Whatever the script, and whatever run of it, in every order of steps: what it is answered and what its coordinator tells is explained.
 abbrev pub EveryRunIsExplained : Type 0

@@ -1,12 +1,11 @@
 -- The world of the processors, the workers and the coordinator: what a list of their steps is answered, and that it is the state of such a list.
-use Rattle.std.specs.Prelude.{◌≡◌, ℕ, ◌+◌, ◌<◌, ◌≤◌, Bool, true, false, ◌==◌, if◌then◌else◌, not, List, [], ◌∷◌, ◌++◌, length, map, replicate, reverse, slice_index, slice_set, slice_get, ◌-◌, ◌^◌, Option, Some, None, is_some, sum_by}
+use Rattle.std.specs.Prelude.{◌≡◌, ℕ, ◌+◌, ◌<◌, ◌≤◌, Bool, true, false, ◌==◌, if◌then◌else◌, not, List, [], ◌∷◌, ◌++◌, length, map, replicate, slice_index, slice_set, slice_get, ◌-◌, ◌^◌, Option, Some, None, is_some, sum_by}
 use Rattle.std.specs.List.{range_with_len}
 use Rattle.std.specs.Option.{option_to_list}
 use Rattle.gh_base.specs.declared.cell.Ask.{Ask}
-use Rattle.gh_world.specs.Vocabulary.{Answer, Op, Shape, Layout, MOST_GOROUTINES, Entry, bit, InRange, IsLayoutOf, length_of, Shows, cell_of, changed, request, target, Setting, started, state_of, words_after, Legal, Program, WellFormed, NewStage, Place, Processor, Task, acts, is_busy_at, op_at, is_made, made_by, Mutating, goes, is_last, is_leaving, is_point, is_serving, is_statement, statement_answer, Next, Progress, Event}
+use Rattle.gh_world.specs.Vocabulary.{Answer, Op, Shape, Layout, MOST_GOROUTINES, Entry, bit, InRange, IsLayoutOf, length_of, cell_of, changed, request, target, Setting, started, state_of, Program, WellFormed, NewStage, Place, Processor, Task, acts, is_busy_at, op_at, is_made, made_by, Mutating, goes, is_last, is_leaving, is_point, is_serving, is_statement, statement_answer, Next, Progress, Event}
 use Rattle.gh_coord.specs.declared.cycles.Cycle.{Cycle}
 use Rattle.gh_coord.specs.Listing as coord
-use Rattle.gh_coord.specs.Stopping.{acks_of}
 use Rattle.gh_mutator.specs.declared.task.Task.TheVariants.{New}
 use Rattle.gh_mutator.specs.Deeds.{processor_kind}
 use Rattle.gh_mutator.specs.Mutating.{asks, begins, opening}
@@ -19,10 +18,10 @@ use Rattle.gh_world.specs.declared.event.Event.TheVariants as event
 use Rattle.gh_world.specs.declared.runner.Runner.{Runner}
 use Rattle.gh_world.specs.declared.turns.Next.TheVariants as next
 use Rattle.gh_world.specs.Handshake.{Pacing, those}
-use Rattle.gh_world.specs.Order.{before_step, begun_in, ended_in, has_left}
+use Rattle.gh_world.specs.Order.{before_step, begun_in}
 use Rattle.gh_world.specs.Processors.{arena_of, may_begin}
 use Rattle.gh_world.specs.Schedule.{ended_after, has_ended, turn_from}
-use Rattle.gh_world.specs.Turns.{total_by, total_of, turns_of, to_come, Stands, MayBeOver, is_over, later, op_due, Follows, goroutine_at, statements_among, statements_by, statement_now, is_unacted, next_point}
+use Rattle.gh_world.specs.Turns.{total_by, total_of, to_come, Stands, is_over, later, op_due, Follows, goroutine_at, statements_among, statement_now, is_unacted, next_point}
 use Rattle.gh_world.specs.Wishes.{most_cycles, wishes_of}
 
 -- ---- the lists of a script
@@ -124,30 +123,6 @@ pub record State : Type 0 where
   pub coord : coord.Coordinating
   pub points : List (ℕ × ℕ)
 
--- This is the processor at seat a after the list, how far it is among its turns, and the number of statements that it has answered.
-pub record IsRunnerAt (p : Program) (l : Layout) (a : ℕ) (x : Runner) (es : List (Entry Op)) : Type 0 where
-  pub processor : x.mutator.processor ≡ state_of (processor_kind p.shapes l) a es
-  pub turns : turns_of p a ≡ reverse (begun_in (by a es)) ++ to_come p a x.progress.next
-  pub counted : (g : ℕ) → g < MOST_GOROUTINES → slice_index x.progress.begun g ≡ statements_by g (begun_in (by a es))
-  pub now : (x.progress.last, slice_index x.progress.begun x.progress.last) ≡ now_by a es
-  pub ended : (g : ℕ) → ended_in (by a es) g ≡ true → MayBeOver p x.progress.next g
-  pub left : has_left (by a es) ≡ true → is_over x.progress.next ≡ true
-  pub marked : x.mutator.marks ≡ marks_at p.shapes l a es
-
--- These are the words, the processors, the workers, the coordinator and the points after the list.
-pub record After (p : Program) (l : Layout) (list : List ℕ) (runners : List Runner) (workers : List worker.Working) (c : coord.Coordinating) (points : List (ℕ × ℕ)) (es : List (Entry Op)) : Type 0 where
-  pub legal : Legal (setting_of p l) es
-  pub words : Shows l list (words_after (setting_of p l).opening es)
-  pub running : (a : ℕ) (x : Runner) → slice_get runners a ≡ Some x → IsRunnerAt p l a x es
-  pub marking : (i : ℕ) (x : worker.Working) → slice_get workers i ≡ Some x → actor_after p l es (l.procs + i) ≡ actor.Marks x
-  pub many : length runners ≡ l.procs
-  pub coordinator : actor_after p l es (acks_of l) ≡ actor.Leads c
-  pub pointed : points ≡ points_in p.shapes l es
-
--- the world is the state of the list
-abbrev pub IsAfter : State → List (Entry Op) → Type 0
-IsAfter w es = After w.script w.layout w.words w.runners w.workers w.coord w.points es
-
 -- how far a processor is among its turns as a world opens
 abbrev pub opening_progress : Next → Progress
 opening_progress first = record { next = first; begun = replicate MOST_GOROUTINES 0; stated = 0; last = 0 }
@@ -168,14 +143,6 @@ pub record AreOpening (p : Program) (l : Layout) (runners : List Runner) : Type 
 -- the workers of a heap, each before its first step
 abbrev pub workers_at : Layout → List worker.Working
 workers_at l = map (worker.opening l) (range_with_len l.procs l.workers)
-
--- the world is the state of the list with one entry more, of this actor, and the event is what that entry's step says, with the answer of the statement that ends with it, if one does
-pub record Appends (w : State) (actor : ℕ) (es : List (Entry Op)) (happened : Event) : Type 0 where
-  pub e : Entry Op
-  pub by : e.actor ≡ actor
-  pub after : IsAfter w (e ∷ es)
-  pub says : happened ≡ event_of w.script w.layout es e
-  pub answers : answered_in happened ≡ with_goroutine (now_in (e ∷ es)).0 (answer_in w.script.shapes w.layout es e)
 
 -- 1 where an object is being made that is not counted yet
 abbrev pub making_in : NewStage → ℕ

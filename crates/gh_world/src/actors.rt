@@ -10,11 +10,12 @@
 //! object that a script reaches is freed, and behind it each head has the sweep generation's number again, as between two
 //! cycles.
 //!
-//! So one invariant goes through every list, by the coordinator's stage. Where marking ends it is that of the sweep,
-//! with the bits and the count of bytes as they stand; where the sweep ends it is that of a calm heap, with the
-//! counts as the coordinator finds them; and where the next cycle begins, that of marking, with no mark set. What is
-//! said of a sweep goes on to be so beside the next cycle, of the words without its marks: so what a processor has
-//! placed and not counted yet is told then too, and what stands is counted exactly where its marking ends.
+//! So one invariant goes through every list. The heap and its sweep are one state (`gh_state`), and what holds of it
+//! holds at each stage of the coordinator: each step is a move of it that its actor may make. Where a cycle is opened
+//! the state keeps what the sweep had told, since the next cycle clears the counts and sets marks; where marking ends it
+//! takes the bits and the count of bytes as they stand, and each span is unswept. What a processor has placed and not
+//! counted is told at every moment, so what stands is counted exactly where marking ends. Marking is a state of its
+//! own beside it, as long as a cycle is marked.
 //!
 //! The coordinator ends a cycle's marking where it has found, in a stopped world, that no buffer has an entry, that the
 //! cursor is past the last global and that each stack is scanned. In a stopped world nobody else moves, so its many loads
@@ -25,31 +26,33 @@
 //!
 //! Why the write barrier is right is argued of a picture (`gh_tri`), which has eight moves and no words. While a cycle is
 //! marked there is a state of marking, with the words as they stand, whose picture comes step by step, by these moves and
-//! by changes of registers, of one as at a cycle's begin (`specs/Drawn.antt`). The picture's registers, slots and marks are
-//! not tied to the run's by what the law says.
+//! by changes of registers, of one as at a cycle's begin (`specs/Drawn.antt`). Each state on the way is one of the list's heap
+//! (`specs/Tied.antt`): its objects stand with the words of their types, its registers are those of the heap that never frees,
+//! as long as a goroutine goes on, its colours the mark bits; and each actor has in hand what its stage says.
+//!
+//! Beside that every list keeps who scans a stack and how often (`specs/Scans.antt`), what the numbers of spans and the marks
+//! say while no cycle is marked (`specs/SweepMarks.antt`), who knows of a phase and who marks (`specs/Phases.antt`), who asked
+//! for a cycle (`specs/Asked.antt`) and how many there are (`specs/Counts.antt`).
 
 ghost use Rattle.gh_world.specs.Actors.{EveryListOfActorsStands};
 
 use crate::handshake::{every_list_keeps_the_handshake, every_step_keeps_the_handshake};
 use crate::numbers::{
-    cycles_are_few, every_list_counts_cycles, every_list_numbers_stacks, every_list_rests_workers,
-    processors_begin_few,
+    every_list_counts_cycles, every_list_counts_plainly, every_list_counts_wants,
+    every_list_numbers_stacks, every_list_opens_few, every_list_rests_workers,
 };
-use gh_base::laws::{a_step_changes_one_cell, packed_words_are_read_back};
+use gh_base::laws::{a_step_changes_one_cell, packed_words_are_read_back, rows_are_written};
 use gh_class::size_class_laws;
 use gh_cycle::beside::{
-    cycles_begin_beside, marking_alone_goes_beside, objects_are_known_beside,
+    cycles_begin_beside, marking_alone_goes_beside, objects_are_known_beside, the_marked_stand,
     the_reached_are_marked_beside,
-};
-use gh_cycle::closing::{
-    allocation_goes_on, calm_lasts, counts_are_told, cycles_end, only_the_marked_are_left,
-    slots_are_read, sweeping_keeps_the_heap, words_are_packed,
 };
 use gh_cycle::opening::{bounds_last, cycles_open, reach_is_decided};
 use gh_cycle::since::{cycles_begin_so, the_marked_were_reached, what_has_gone_on_lasts};
-use gh_heap::laws::{each_move_keeps, each_move_leaves, facts_last, the_heap_is_apart};
+use gh_heap::laws::{each_move_leaves, facts_last, the_heap_is_apart};
 use gh_marks::laws::{
-    facts_last as hands_last, hands_follow, marking_begins, marking_ends_clean, steps_go_by_moves,
+    facts_last as hands_last, hands_follow, mark_words_stay_words, marking_begins,
+    marking_ends_clean, steps_go_by_moves,
 };
 use gh_marks::picture::{cycles_begin_drawn, marking_is_drawn, the_picture_says};
 use gh_mutator::beside::a_processor_goes_on_beside_marking;
@@ -58,32 +61,51 @@ use gh_mutator::laws::{
     calm_processors_mark_nothing, only_points_change, stacks_are_noted,
     the_processor_keeps_the_handshake, the_processors_deeds_fit,
 };
-use gh_sweep::laws::{counts_are_exact, sweeps_among_others};
+use gh_state::laws::{
+    counts_are_told, cycles_open_and_end, each_move_keeps, routines_are_made_of_moves, walkers_pass,
+};
+use gh_sweep::laws::bits_are_objects;
 use gh_tri::{an_opening_has_the_invariants, each_step_keeps_the_invariants};
 use gh_worker::laws::{a_worker_writes_its_own, calm_workers_mark_nothing, works_by_moves};
 
-/// After every legal list of steps of all actors, in every order: the words stand for the heap that never frees, and each
-/// processor was answered as that heap answers, save `full`, which stands only where there was no room. Each step that a
-/// processor may make next is on a word that there is. An object that was placed where a cycle began, and that no script
-/// reached then, is placed nowhere once the cycle is swept. While a cycle is marked there is a state of marking with the
-/// words as they stand, and a picture of it that comes, by lists of moves of `gh_tri`'s picture and of changes of registers,
-/// one for each step since, of one as at a cycle's begin; so it has the invariants, and once the coordinator has checked the
-/// end of marking it is done in the picture too. Where a cycle's marking ends nothing is grey in such a state, all that a
-/// script reaches is marked, and what is marked was reached where the cycle began or was made since; the numbers that the
-/// coordinator keeps for it are those of the objects placed and marked there, and of those placed and not marked. Once all is
-/// over the objects that stand are those that the globals reach.
+/// After every legal list of steps of all actors, in every order:
+///
+/// * **The heap.** The words stand for the heap that never frees, and each processor was answered as that heap answers, save
+///   `full`, which stands only where there was no room. Each object that stands, reached or not, has one address, and no two
+///   share a word or an address. Each step that an actor may make next is on a word that there is.
+/// * **Cycles.** Who waits for a cycle goes on once one that began behind its first entry is swept. Each cycle was asked for
+///   since the one before was opened, but the last; none is left out of the coordinator's list, as long as there is room; and
+///   its numbers are how often the list stores each.
+/// * **While one is marked** what was placed where it began is placed there still. There is a state of marking of this heap, in
+///   which each actor has in hand what its stage says, and a picture of it that comes, by lists of moves of `gh_tri`'s picture
+///   and of changes of registers, one for each step since, of one as at a cycle's begin; so it has the invariants, and once the
+///   coordinator has checked the end of marking it is done in the picture too. A stack is scanned once in a cycle at most.
+/// * **Where its marking ends** the cursor is past the globals, each stack's word is the cycle's or END, no buffer has an entry,
+///   and no actor has anything in hand; nothing is grey, all that a script reaches is marked, and what is marked was reached
+///   where the cycle began or was made since.
+/// * **Once it is swept** an object that was placed where it began, and that no script reached then, is placed nowhere; the
+///   numbers that the coordinator keeps for it are those of the objects placed and marked where its marking ended, and of those
+///   placed and not marked. While none is marked, marks are left only where spans are not swept.
+/// * **Phases.** Who marks knows that a cycle is marked, and in a stopped world nobody but the coordinator moves.
+/// * **Once all is over** the objects that stand are those that the globals reach.
 pub fn every_list_of_actors_stands()
     ensures { EveryListOfActorsStands }
 {
     a_step_changes_one_cell();
+    rows_are_written();
     packed_words_are_read_back();
     size_class_laws();
     the_heap_is_apart();
     each_move_keeps();
     each_move_leaves();
     facts_last();
-    sweeps_among_others();
-    counts_are_exact();
+    routines_are_made_of_moves();
+    walkers_pass();
+    cycles_open_and_end();
+    counts_are_told();
+    mark_words_stay_words();
+    the_marked_stand();
+    bits_are_objects();
     a_processor_runs_by_its_rights();
     a_processor_marks_by_moves();
     a_processor_goes_on_beside_marking();
@@ -106,14 +128,6 @@ pub fn every_list_of_actors_stands()
     the_processor_keeps_the_handshake();
     a_worker_writes_its_own();
     calm_workers_mark_nothing();
-    words_are_packed();
-    slots_are_read();
-    cycles_end();
-    sweeping_keeps_the_heap();
-    only_the_marked_are_left();
-    counts_are_told();
-    allocation_goes_on();
-    calm_lasts();
     reach_is_decided();
     bounds_last();
     cycles_open();
@@ -127,8 +141,9 @@ pub fn every_list_of_actors_stands()
     every_list_keeps_the_handshake();
     every_step_keeps_the_handshake();
     every_list_counts_cycles();
+    every_list_counts_plainly();
     every_list_numbers_stacks();
     every_list_rests_workers();
-    cycles_are_few();
-    processors_begin_few();
+    every_list_counts_wants();
+    every_list_opens_few();
 }

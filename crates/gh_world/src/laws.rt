@@ -1,7 +1,8 @@
 //! Laws of the lists of steps of all actors that run a script, whatever the code does.
 
 ghost use Rattle.gh_world.specs.Points.{PointsAreStatements, StatementsAreEnough};
-ghost use Rattle.gh_world.specs.Runs.{EveryOrderHasOneRun, EveryRunIsExplained, EveryRunIsOne, NoneIsLonger, RunsEndWhole, RunsGoOn};
+ghost use Rattle.gh_world.specs.Runs.{EveryListOfAScriptStands, EveryOrderHasOneRun, EveryRunIsExplained, EveryRunIsOne, EveryRunStands, NoneIsLonger, RunsEndWhole, RunsGoOn};
+ghost use Rattle.gh_world.specs.Tied.{TiesShowWhatThereIs};
 
 use crate::actors::every_list_of_actors_stands;
 use crate::handshake::every_list_keeps_the_handshake;
@@ -10,13 +11,23 @@ use gh_base::Op;
 use gh_base::laws::a_state_is_of_its_own_entries;
 use gh_class::size_class_laws;
 use gh_coord::laws::it_goes_on_until_done;
-use gh_cycle::closing::slots_are_read;
+use gh_cycle::opening::reach_is_decided;
 use gh_mutator::Processor;
 use gh_mutator::laws::{
     a_processor_writes_its_own, each_operation_acts_once, only_points_change, polls_make_room,
 };
+use gh_state::laws::slots_are_read;
 use gh_sweep::laws::set_bits_are_counted;
 use gh_worker::laws::a_worker_writes_its_own;
+
+/// After every step of every run of a script, whole or not: all stands that [`every_list_of_actors_stands`] says of the
+/// legal lists of all actors. A well-formed script's shapes are good and its statements few, so nothing more is asked for.
+pub fn every_run_stands()
+    ensures runs { EveryRunStands }
+    ensures lists { EveryListOfAScriptStands }
+{
+    every_list_of_actors_stands();
+}
 
 /// Whatever the number of processors, each one's operations in a whole run of a script are its turns, and each
 /// goroutine's statements stand among them once and in their order. The answers of such a run are those of the
@@ -27,7 +38,7 @@ use gh_worker::laws::a_worker_writes_its_own;
 pub fn every_run_is_explained()
     ensures { EveryRunIsExplained }
 {
-    every_list_of_actors_stands();
+    every_run_stands();
     each_operation_acts_once();
     only_points_change();
     a_processor_writes_its_own();
@@ -56,7 +67,7 @@ pub fn runs_go_on()
     a_state_is_of_its_own_entries::<Processor<'_>, Op>();
     it_goes_on_until_done();
     polls_make_room();
-    every_list_of_actors_stands();
+    every_run_stands();
 }
 
 /// The points of a script's run so far are the statements that acted in it, in their order, each with its number:
@@ -72,7 +83,16 @@ pub fn points_are_statements()
 pub fn statements_are_enough()
     ensures { StatementsAreEnough }
 {
-    every_list_of_actors_stands();
+    every_run_stands();
     only_points_change();
     each_operation_acts_once();
+}
+
+/// A state of marking that is one of a list's heap has what there is: each object that a script reaches is of the
+/// cycle, where it is placed, with the words of its type; a register names there what it names; and what is marked is
+/// not white. So one with nothing in it is of no list after which a script reaches an object.
+pub fn ties_show_what_there_is()
+    ensures { TiesShowWhatThereIs }
+{
+    reach_is_decided();
 }

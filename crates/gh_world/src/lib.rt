@@ -17,11 +17,11 @@
 //! all that a load of it reads is in place: its name, its pointer bits and its fields. So the words stand
 //! for the heap that never frees after every single step, and not only between statements.
 //!
-//! [`every_run_is_explained`] says what whole runs come to, [`a_script_has_one_run`] that there is one in each
-//! order of steps, [`runs_go_on`] that it goes on until it is whole. [`points_are_statements`] says which
-//! statements its points are, and [`statements_are_enough`] that the heap that never frees comes to the same along
-//! these alone. While a cycle is marked a processor may wait for it while the others store: their barriers shade
-//! what they overwrite and what they write.
+//! [`every_run_stands`] says what holds after each step of a run, [`every_run_is_explained`] what whole runs come to,
+//! [`a_script_has_one_run`] that there is one in each order of steps, [`runs_go_on`] that it goes on until it is whole.
+//! [`points_are_statements`] says which statements its points are, and [`statements_are_enough`] that the heap that never
+//! frees comes to the same along these alone. While a cycle is marked a processor may wait for it while the others store:
+//! their barriers shade what they overwrite and what they write.
 #![tactic(auto)]
 
 mod actors;
@@ -39,12 +39,13 @@ pub use actors::every_list_of_actors_stands;
 pub use event::{Event, Totals};
 pub use handshake::{Actor, every_list_keeps_the_handshake, every_step_keeps_the_handshake};
 pub use laws::{
-    a_script_has_one_run, every_run_is_explained, points_are_statements, runs_go_on,
-    statements_are_enough,
+    a_script_has_one_run, every_run_is_explained, every_run_stands, points_are_statements,
+    runs_go_on, statements_are_enough, ties_show_what_there_is,
 };
 pub use numbers::{
-    cycles_are_few, every_list_counts_cycles, every_list_counts_wants, every_list_numbers_stacks,
-    every_list_rests_workers, processors_begin_few,
+    cycles_are_few, every_list_counts_cycles, every_list_counts_plainly, every_list_counts_wants,
+    every_list_numbers_stacks, every_list_opens_few, every_list_rests_workers,
+    processors_begin_few,
 };
 pub use turns::{Next, total_of};
 pub use wishes::most_cycles;

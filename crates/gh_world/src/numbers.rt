@@ -9,6 +9,8 @@
 //! A request that was cleared behind the begin of a cycle could be lost: the statement that asked meanwhile would
 //! wait for ever. It is cleared before, in a stopped world; who asks later asks for the next cycle.
 
+ghost use Rattle.gh_world.specs.Actors.{EveryListOpensFew};
+ghost use Rattle.gh_world.specs.Counts.{EveryListCountsPlainly};
 ghost use Rattle.gh_world.specs.Numbers.{EveryListCountsCycles};
 ghost use Rattle.gh_world.specs.Waits.{EveryListNumbersStacks, EveryListRestsWorkers};
 ghost use Rattle.gh_world.specs.Wants.{CyclesAreFew, EveryListCountsWants, ProcessorsBeginFew};
@@ -24,6 +26,18 @@ pub fn every_list_counts_cycles()
     ensures { EveryListCountsCycles }
 {
     every_list_keeps_the_handshake();
+    a_processor_writes_its_own();
+    a_worker_writes_its_own();
+}
+
+/// Said by how often the list stores each word: the number of cycles begun, and that of those swept, are how often they
+/// were stored; the sweep generation is 2 and 2 for each time. Each cycle is opened, begun, ended and swept in turn, one
+/// at once; and none is left out of the coordinator's list.
+pub fn every_list_counts_plainly()
+    ensures { EveryListCountsPlainly }
+{
+    every_list_keeps_the_handshake();
+    every_list_counts_cycles();
     a_processor_writes_its_own();
     a_worker_writes_its_own();
 }
@@ -52,6 +66,14 @@ pub fn cycles_are_few()
 pub fn processors_begin_few()
     ensures { ProcessorsBeginFew }
 {}
+
+/// So there are no more cycles in any list than goroutines may begin `new` and `gc`, and the last.
+pub fn every_list_opens_few()
+    ensures { EveryListOpensFew }
+{
+    cycles_are_few();
+    processors_begin_few();
+}
 
 /// Each stack's word is the number of a cycle that has begun, until its goroutine ends.
 pub fn every_list_numbers_stacks()

@@ -4,7 +4,7 @@
 //! state of: one step of it is one entry more of that list.
 
 ghost use Rattle.std.specs.Prelude.{◌≡◌, ◌+◌, ◌<◌, ◌≤◌, List, [], length, slice_get, slice_index, true, false, IfOk, IfSome, IsTrue, None, Some};
-ghost use Rattle.gh_base.specs.Cells.{InRange, length_of, seats_of};
+ghost use Rattle.gh_base.specs.Cells.{InRange, length_of, seats_of, word_of};
 ghost use Rattle.gh_base.specs.Steps.{cell_of, changed, request, target};
 ghost use Rattle.gh_world.specs.Schedule.{turn_from};
 ghost use Rattle.gh_base.specs.declared.machine.Entry.{Entry};
@@ -13,10 +13,11 @@ ghost use Rattle.gh_coord.specs.Keeping.{last_kept};
 ghost use Rattle.gh_coord.specs.Listing as coord;
 ghost use Rattle.gh_worker.specs.Listing as worker;
 ghost use Rattle.gh_worker.specs.Listing.{Working};
+ghost use Rattle.gh_world.specs.After.{Appends, IsAfter};
 ghost use Rattle.gh_world.specs.Runs.{IsRun, marked_by};
 ghost use Rattle.gh_world.specs.Turns.{total_of};
 ghost use Rattle.gh_world.specs.Wishes.{most_cycles};
-ghost use Rattle.gh_world.specs.World.{actors_of, answered_of, cycles_of, is_done, layout_of, live_of, marks_of, points_of, script_of, turn_in, workers_at, AllDone, Appends, AreOpening, IsAfter, IsStepOfCoordinator, IsStepOfProcessor, IsStepOfWorker, LaysOut};
+ghost use Rattle.gh_world.specs.World.{actors_of, answered_of, cycles_of, is_done, layout_of, live_of, marks_of, points_of, script_of, turn_in, workers_at, AllDone, AreOpening, IsStepOfCoordinator, IsStepOfProcessor, IsStepOfWorker, LaysOut};
 
 use crate::event::{Event, Totals, done_or, told_event};
 use crate::progress::note;
@@ -24,7 +25,7 @@ use crate::runner::Runner;
 use crate::turns::total_of;
 use crate::wishes::most_cycles;
 use gh_base::laws::{a_state_is_of_its_own_entries, steps_are_shown};
-use gh_base::{Layout, Machine, Op};
+use gh_base::{Cell, Layout, Machine, Op};
 use gh_coord::laws::it_goes_on_until_done;
 use gh_coord::{Coord, Cycle, NEVER};
 use gh_mutator::Processor;
@@ -192,8 +193,9 @@ impl<'s> World<'s> {
         (self.runners.len() + self.workers.len() + 1) as u8
     }
 
-    /// One step of the actor, which is not done. Whatever legal list of steps this world is the state of,
-    /// it is then the state of that list with one entry more. Takes no memory, and constant time.
+    /// One step of the actor, which is not done. Whatever legal list of steps this world is the state of, it is then
+    /// the state of that list with one entry more, of the actor. The event says what that step was: with the answer of
+    /// the statement that it ends, if it ends one. Takes no memory, and constant time.
     #[inline(always)]
     pub fn step(&mut self, actor: u8) -> Event
         requires actor { actor < actors_of self.old }
@@ -288,6 +290,21 @@ impl<'s> World<'s> {
             Some(worker) => worker.marks(),
             None => self.coord.marks(),
         }
+    }
+
+    /// The layout of the heap: which cells it has.
+    pub fn layout(&self) -> &Layout
+        ensures { result.now ≡ layout_of self.now }
+    {
+        &self.layout
+    }
+
+    /// The cell's word, as it stands between two steps. To look at it is no step.
+    pub fn word(&self, cell: Cell) -> u64
+        requires { InRange (layout_of self.now) cell }
+        ensures { result ≡ slice_index self.now.words (word_of (layout_of self.now) cell) }
+    {
+        self.words.word_at(self.layout.word(cell))
     }
 
     /// The goroutine and the number, counted from 1, of each statement that has had its point, in

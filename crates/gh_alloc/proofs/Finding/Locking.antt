@@ -1,8 +1,5 @@
 -- The search has the lock at the stages that say so.
-use Rattle.std.proofs.Common.{◌≡◌, ℕ, zero, suc, Bool, true, false, cond, nat_eq, nat_lt, Option, Some, None, refl, sym, ap, ◌∙◌}
-use Rattle.gh_base.specs.declared.cell.Cell.TheVariants as cell
-use Rattle.gh_base.specs.declared.cell.Ask.TheVariants.{Store, Swap}
-use Rattle.gh_base.specs.Routines.{told}
+use Rattle.std.proofs.Common.{◌≡◌, ℕ, Bool, true, false, cond, nat_eq, nat_lt, Option, Some, None, refl, sym, ◌∙◌}
 use Rattle.gh_class.specs.Classes.{slots_of}
 use Rattle.gh_cache.specs.Listing as slots
 use Rattle.gh_cache.specs.declared.next_slot.SlotStage.{SlotStage}
@@ -16,9 +13,9 @@ use Rattle.gh_central.specs.declared.pass.PassStage.TheVariants as pass_stage
 use Rattle.gh_pages.specs.Listing as carve
 use Rattle.gh_pages.specs.declared.carve.CarveStage.{CarveStage}
 use Rattle.gh_pages.specs.declared.carve.CarveStage.TheVariants as carve_stage
-use Rattle.gh_alloc.specs.Vocabulary.{Layout, Sought, Small, Large, CachedSpan, Found, After, Again, End, FindStage, Slots, Lock, Give, Pass, Carve, Unlock, Ended}
-use Rattle.gh_alloc.specs.Find.{Finding, after_carve, after_give, after_pass, after_slots, asks, asks_at, at_stage, begin, gives_at, goes_at, listing, locked_for, opening, searched, spans_for, taken_for, unlocked}
-use Rattle.gh_alloc.specs.Locking.{holds, lock_after}
+use Rattle.gh_alloc.specs.Vocabulary.{Layout, Sought, Small, Large, CachedSpan, After, Again, End, FindStage, Slots, Lock, Give, Pass, Carve, Unlock, Ended}
+use Rattle.gh_alloc.specs.Find.{Finding, after_carve, after_give, after_pass, after_slots, asks_at, at_stage, begin, goes_at, locked_for, searched, spans_for, taken_for, unlocked}
+use Rattle.gh_alloc.specs.Locking.{lock_after}
 
 abbrev pub has_lock : FindStage → Bool
 has_lock (Slots s) = false

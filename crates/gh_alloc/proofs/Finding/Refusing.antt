@@ -1,18 +1,11 @@
 -- The search says that there is no room only where it has found neither a swept span nor fresh pages.
-use Rattle.std.proofs.Common.{◌≡◌, ℕ, zero, suc, ◌+◌, ◌≤◌, ◌⊎◌, ◌↔◌, IsTrue, inl, inr, Bool, true, false, cond, nat_eq, nat_lt, Option, Some, None, refl, sym, ap, subst, ◌∙◌, arith}
-use Rattle.std.proofs.lemmas.Bool.{cases_order, eqb-true}
-use Rattle.gh_base.specs.declared.cell.Cell.TheVariants as cell
-use Rattle.gh_base.specs.declared.cell.Ask.TheVariants.{Swap}
-use Rattle.gh_base.specs.Routines.{EndsWith, told}
-use Rattle.gh_class.specs.Classes.{slots_of}
+use Rattle.std.proofs.Common.{◌≡◌, ℕ, ◌↔◌, IsTrue, Bool, Option, Some, None, refl, sym, ◌∙◌}
 use Rattle.gh_cache.specs.Listing as slots
 use Rattle.gh_central.specs.GiveBack as give
-use Rattle.gh_central.specs.declared.give.GiveStage.{GiveStage}
-use Rattle.gh_central.specs.declared.give.GiveStage.TheVariants.{Write}
 use Rattle.gh_central.specs.SweptPass as pass
 use Rattle.gh_pages.specs.Listing as carve
-use Rattle.gh_alloc.specs.Vocabulary.{Layout, SpanClass, Sought, Small, Large, CachedSpan, At, NoRoom, After, Again, End, FindStage, Slots, Lock, Give, Pass, Carve, Unlock, Ended}
-use Rattle.gh_alloc.specs.Find.{Finding, after_carve, after_give, after_pass, after_slots, asks, asks_at, at_stage, begin, carving, ended, gives, gives_at, given_head, goes_at, listing, locked_for, opening, refuses, refuses_at, searched, slot_found, span_for, spans_for, taken_for, unlocked}
+use Rattle.gh_alloc.specs.Vocabulary.{Layout, Sought, Small, Large, At, NoRoom, After, Again, End, FindStage, Slots, Give, Pass, Carve, Unlock}
+use Rattle.gh_alloc.specs.Find.{Finding, after_carve, after_give, after_pass, after_slots, at_stage, ended, gives, gives_at, goes_at, refuses, refuses_at, searched, slot_found, taken_for}
 
 -- the step that gives no room is the one that refuses
 slot_is_room : (g : Finding) (out : Option (Option ℕ)) → slot_found g out ≡ Some NoRoom → ⊥

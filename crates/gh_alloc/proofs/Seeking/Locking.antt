@@ -1,7 +1,5 @@
 -- The search where a collector runs has the lock at the stages that say so.
 use Rattle.std.proofs.Common.{◌≡◌, ℕ, zero, suc, Bool, true, false, cond, Option, Some, None, refl, sym, ap, ◌∙◌}
-use Rattle.gh_base.specs.declared.cell.Cell.TheVariants as cell
-use Rattle.gh_base.specs.declared.cell.Ask.TheVariants.{Store, Swap}
 use Rattle.gh_base.specs.Routines.{told}
 use Rattle.gh_central.specs.Reclaim.{Reclaiming}
 use Rattle.gh_central.specs.Reclaim as reclaim
@@ -9,11 +7,11 @@ use Rattle.gh_central.specs.declared.reclaim.ReclaimStage.{ReclaimStage}
 use Rattle.gh_central.specs.declared.reclaim.ReclaimStage.TheVariants as reclaim_stage
 use Rattle.gh_alloc.specs.declared.search.SearchStage.{SearchStage}
 use Rattle.gh_alloc.specs.declared.search.SearchStage.TheVariants.{First, Free, Second}
-use Rattle.gh_alloc.specs.Vocabulary.{Layout, Sought, CachedSpan, Found, FindStage, Slots, Lock, Ended}
+use Rattle.gh_alloc.specs.Vocabulary.{FindStage, Slots, Lock, Ended}
 use Rattle.gh_alloc.specs.Find.{Finding}
 use Rattle.gh_alloc.specs.Find as find
 use Rattle.gh_alloc.specs.Locking.{holds, lock_after}
-use Rattle.gh_alloc.specs.Search.{Seeking, after_free, asks, asks_at, frees_at, gives_at, goes_at, listing, opening, reclaiming}
+use Rattle.gh_alloc.specs.Search.{Seeking, after_free, asks, asks_at, frees_at, goes_at, listing, reclaiming}
 use Rattle.gh_alloc.proofs.Finding.Locking.{has_lock}
 use Rattle.gh_alloc.proofs.Finding.Locking as finding
 

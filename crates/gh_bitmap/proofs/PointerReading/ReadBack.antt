@@ -8,7 +8,6 @@ use Rattle.gh_base.specs.Cells.{Words}
 use Rattle.gh_base.specs.Rows.{row_bit}
 use Rattle.std.specs.Int.{bit_at}
 use Rattle.gh_bitmap.specs.Pointers.{ReadsBit}
-use Rattle.gh_bitmap.specs.ReadPointer.{gives}
 
 word_is : (l : Layout) (at : ℕ) → at < 1024 * l.pages → at / 64 % (16 * l.pages) ≡ at / 64
 word_is l at inside = mod-eq_of_lt (omega arith)

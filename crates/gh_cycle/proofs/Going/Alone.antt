@@ -10,12 +10,12 @@ use Rattle.gh_cycle.specs.Beside.{ClaimsSlot, IsBeside, IsOfCycle, MarkingAloneG
 use Rattle.gh_cycle.specs.Known.{Known}
 use Rattle.gh_cycle.specs.Marked.{RegistersFit}
 use Rattle.gh_cycle.specs.Opening.{reference_of}
-use Rattle.gh_cycle.specs.Sweeping.{with_words}
 use Rattle.gh_cycle.specs.Vocabulary.{alloc_words, birth_words, Cycle, Ever, Good, Heap, IsMade, Marking, Name, Place, Placed, Placing, Reach, Row, row_bit, view, Words}
 use Rattle.gh_cycle.proofs.Going.Lasting.{beside-lasts}
 use Rattle.gh_cycle.proofs.Going.Leaving.{leaves, LeavesObjects, stood}
 use Rattle.gh_cycle.proofs.Going.Objects.{here}
 use Rattle.gh_cycle.proofs.Going.Plain.{fills-still, there}
+use Rattle.gh_cycle.proofs.Quiet.{with_words}
 
 module _ (k : Known) (z : Cycle) (a : ℕ) (h : Heap) (s t : Marking) (m : heap.Move) (good : Good z.arena (view (here h s))) (marking : MarkingGood z s) (c : IsBeside z.arena (here h s) s) (may : heap.May z.arena a (view (here h s)) m)
     (ever : (there z a h s m).ever ≡ h.ever) (alone : MarksAlone z a (here h s) (there z a h s m) s t) where

@@ -8,7 +8,6 @@ use Rattle.gh_cycle.specs.Deeds as deed
 use Rattle.gh_cycle.specs.Deeds.{ComesBy, Deed, DeedsGoBeside, hand_behind, MeetsByDeed, StepsBeside}
 use Rattle.gh_cycle.specs.Known.{Known}
 use Rattle.gh_cycle.specs.Opening.{reference_of}
-use Rattle.gh_cycle.specs.Sweeping.{with_words}
 use Rattle.gh_cycle.specs.Vocabulary.{alloc_words, Arena, Ask, birth_words, Cycle, effect, Ever, Good, Heap, IsMade, Marking, Name, owner_at, page_words, Place, Placed, Reach, row_bit, view, Words}
 use Rattle.gh_cycle.proofs.Going.Lasting.{beside-lasts}
 use Rattle.gh_cycle.proofs.Going.Leaving.{leaves, LeavesObjects, made-there, stood}
@@ -17,6 +16,7 @@ use Rattle.gh_cycle.proofs.Going.Objects.{here}
 use Rattle.gh_cycle.proofs.Going.Plain.{goes-quiet, GoesBeside, hand_after, IsPlain, there, Together}
 use Rattle.gh_cycle.proofs.Going.Steps.{ends-goes, takes-value}
 use Rattle.gh_cycle.proofs.Going.Writing.{writes, writes-global}
+use Rattle.gh_cycle.proofs.Quiet.{with_words}
 
 -- Two heaps with the same words, values and places: who holds a span its page says, so that each seat claims the same.
 module _ (z : Arena) (h k : Heap) (t : Marking) (good : Good z (view h)) (well : Good z (view k)) (words : k.words ≡ h.words) (ever : k.ever ≡ h.ever) (place : k.place ≡ h.place) (c : IsBeside z h t) where

@@ -8,12 +8,11 @@ use Rattle.gh_heap.specs.Laws.{name_made}
 use Rattle.gh_heap.specs.Moves as heap
 use Rattle.gh_marks.specs.Seats.{InHand}
 use Rattle.gh_model.specs.Ever.{next_name, with_object}
-use Rattle.gh_cycle.specs.Sweeping.{with_words}
 use Rattle.gh_cycle.specs.Vocabulary.{alloc_words, Ask, birth_words, Cycle, effect, Heap, Marking, Name, Placed, row_bit, RowsAreWritten, view, View, Words}
-use Rattle.gh_cycle.proofs.Endings.Ended.{zero_one}
-use Rattle.gh_cycle.proofs.Endings.Quiet.{quiet_view}
+use Rattle.gh_cycle.proofs.Bits.{zero_one}
 use Rattle.gh_cycle.proofs.Going.Objects.{here}
 use Rattle.gh_cycle.proofs.Going.Plain.{hand_after, there}
+use Rattle.gh_cycle.proofs.Quiet.{quiet_view, with_words}
 
 -- What a move leaves that makes no object.
 pub record LeavesObjects (z : Cycle) (a : ℕ) (h : Heap) (s : Marking) (m : heap.Move) : Type 0 where

@@ -3,8 +3,8 @@ use Rattle.std.proofs.Common.{◌≡◌, ◌≢◌, ℕ, ◌+◌, ◌<◌, true,
 use Rattle.gh_heap.specs.Spans.{IsSlotOf}
 use Rattle.gh_marks.specs.Good.{Good as MarkingGood}
 use Rattle.gh_cycle.specs.Beside.{IsBeside, IsOfCycle}
-use Rattle.gh_cycle.specs.Sweeping.{with_words}
 use Rattle.gh_cycle.specs.Vocabulary.{alloc_words, Cycle, Good, Heap, IsPointer, Marking, Name, page_words, row_bit, size_for, SpanHead, TheHeapIsApart, view}
+use Rattle.gh_cycle.proofs.Quiet.{with_words}
 
 -- the heap with the words of marking
 abbrev pub here : Heap → Marking → Heap

@@ -1,17 +1,26 @@
 -- The mark of a claimed slot may be set before its object is made: the slot is white, since nothing stands there and nobody else fills it.
-use Rattle.std.proofs.Common.{◌≡◌, ◌≢◌, ℕ, ◌+◌, ◌-◌, ◌/◌, ◌<◌, ◌≤◌, refl, sym, ap, subst, ◌∙◌, inl, inr, arith}
+use Rattle.std.proofs.Common.{◌≡◌, ◌≢◌, ℕ, ◌+◌, ◌-◌, ◌*◌, ◌/◌, ◌<◌, ◌≤◌, cond, refl, sym, ap, subst, ◌∙◌, inl, inr, arith}
 use Rattle.std.proofs.lemmas.Bool.Decides.{eqb_tells}
 use Rattle.gh_base.specs.Packing.{page_of}
+use Rattle.gh_class.specs.Classes.{IsSizeClass}
+use Rattle.gh_class.specs.declared.class.SizeClass.{SizeClass}
+use Rattle.gh_class.specs.declared.class.SizeClass.TheVariants.{Large, Small}
 use Rattle.gh_heap.specs.Rights.{Claims}
+use Rattle.gh_heap.specs.Spans.{is_own_class, number_of}
 use Rattle.gh_marks.specs.Colours.{Black, Buffered, Colour, IsShaded, Pending, Taken, White}
 use Rattle.gh_marks.specs.Good.{Good as MarkingGood}
 use Rattle.gh_marks.specs.Moves as marks
 use Rattle.gh_cycle.specs.Beside.{ClaimsSlot, FillsNone, IsBeside, SlotsAreReserved}
-use Rattle.gh_cycle.specs.Sweeping.{with_words}
 use Rattle.gh_cycle.specs.Vocabulary.{alloc_words, Body, Cycle, Free, Good, Head, Heap, IsSpan, Marking, owner_at, PageWord, Placing, row_bit, Row, slot_of, SpanHead, TheHeapIsApart, view, View, Words}
-use Rattle.gh_cycle.proofs.Endings.Ended.{some_words, zero_one}
+use Rattle.gh_cycle.proofs.Bits.{zero_one}
 use Rattle.gh_cycle.proofs.Going.Lasting.{beside-lasts}
 use Rattle.gh_cycle.proofs.Going.Objects.{here}
+use Rattle.gh_cycle.proofs.Quiet.{with_words}
+
+-- a slot has a word at least
+some_words : ((c : ℕ) → c < 25 → 8 ≤ slot_of c) → (c : SizeClass) (pages : ℕ) → 1 ≤ pages → IsSizeClass c → 0 < cond (is_own_class c) (1024 * pages) (slot_of (number_of c) / 8)
+some_words least (Small c) pages some is = let l = least c is in omega arith
+some_words least Large pages some is = omega arith
 
 -- how many pages before this one its span begins
 back : PageWord → ℕ

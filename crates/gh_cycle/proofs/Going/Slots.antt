@@ -6,10 +6,10 @@ use Rattle.gh_heap.specs.Rights.{Claims}
 use Rattle.gh_marks.specs.Good.{Good as MarkingGood}
 use Rattle.gh_marks.specs.Moves as marks
 use Rattle.gh_cycle.specs.Beside.{ClaimedFieldsAreAside, IsBeside}
-use Rattle.gh_cycle.specs.Sweeping.{with_words}
 use Rattle.gh_cycle.specs.Vocabulary.{alloc_words, Cycle, Good, Heap, IsPointer, Marking, Row, row_bit, TheHeapIsApart, view, Words}
-use Rattle.gh_cycle.proofs.Endings.Ended.{zero_one}
+use Rattle.gh_cycle.proofs.Bits.{zero_one}
 use Rattle.gh_cycle.proofs.Going.Objects.{apart-from, here, name-at}
+use Rattle.gh_cycle.proofs.Quiet.{with_words}
 
 -- the place of an object that stands is none that is clear
 elsewhere : (alloc : Row) (at x : ℕ) → row_bit alloc at ≡ 0 → row_bit alloc x ≡ 1 → at ≢ x

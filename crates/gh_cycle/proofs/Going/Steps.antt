@@ -10,10 +10,10 @@ use Rattle.gh_marks.specs.Moves as marks
 use Rattle.gh_cycle.proofs.Vocabulary.{alloc_words, Ask, birth_words, ClaimsSlot, Cycle, effect, eqb_tells, Ever, EverValue, Heap, IsReached, IsSince, Known, Marking, Name, nat_tests, Place, Placed, Placing, reference_of, RegistersFit, Runs, update_at, View, view, with_end, with_register, with_words}
 use Rattle.gh_cycle.specs.Deeds.{TakesFrom}
 use Rattle.gh_cycle.proofs.Beginning.{names-reference}
-use Rattle.gh_cycle.proofs.Endings.Quiet.{quiet_view}
 use Rattle.gh_cycle.proofs.Going.Coming.{comes, from-reached}
 use Rattle.gh_cycle.proofs.Going.Objects.{here}
 use Rattle.gh_cycle.proofs.Going.Plain.{along-quiet, goes-along, GoesAlong, GoesBeside, IsPlain, stacks-stay, there, Together}
+use Rattle.gh_cycle.proofs.Quiet.{quiet_view}
 
 -- registers make no cell one that marking reads
 aside-with : (s : Marking) (registers : ℕ → Row) (c : Cell) → marks.IsAside s c → marks.IsAside (record s { registers = registers }) c

@@ -8,7 +8,7 @@ use Rattle.gh_tri.specs.Steps.{stays}
 use Rattle.gh_tri.specs.Tricolour.{Tricolour, IsField, NilOrMarked, put2}
 use Rattle.gh_marks.specs.Colours.{Cycle, IsClean, IsPointer, Shared}
 use Rattle.gh_marks.specs.Good.{Good}
-use Rattle.gh_marks.specs.Moves.{May, Move, PutField, PutGlobal, moved}
+use Rattle.gh_marks.specs.Moves.{May, PutField, PutGlobal, moved}
 use Rattle.gh_marks.specs.Picture.{IsDrawn}
 use Rattle.gh_marks.specs.Shows.{Names, Shows, global_at, pointer_at}
 use Rattle.gh_marks.proofs.Drawing.Reading.{clean-marked, global-word, is_pointer, lt-tells, names-made, numbered, pointer-same, pointer-tells, pointer-word, value-field, value-global, within-fields}

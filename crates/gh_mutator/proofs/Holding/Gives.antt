@@ -16,7 +16,7 @@ use Rattle.gh_wbuf.specs.declared.give_buffer.GiveStage.{GiveStage as BufferStag
 use Rattle.gh_wbuf.specs.declared.give_buffer.GiveStage.TheVariants as buffer_stage
 use Rattle.gh_wbuf.specs.Sound.{FitsGiveStage}
 use Rattle.gh_mutator.proofs.Giving.{FineAt, drop_next, opening_fine}
-use Rattle.gh_mutator.proofs.Holding.Known.{Kept, Known, by_move, by_quiet, caches_kept, caches_last}
+use Rattle.gh_mutator.proofs.Holding.Known.{HoldsSwept, Kept, Known, by_move, by_quiet, caches_kept, caches_last, holds_swept}
 use Rattle.gh_mutator.proofs.Holding.Lists.{caches_from, listed_once, lists_it, none_listed}
 use Rattle.gh_alloc.specs.FindFacts.{IsCached}
 use Rattle.gh_mutator.specs.declared.give.GiveStage.TheVariants.{Lock, GiveSpan, Unlock, GiveBuffer, Ended}
@@ -115,7 +115,7 @@ module _ (k : Known) (z : Arena) (a : ℕ) where
     goes_from : (t : Shared) (class : ℕ) → Kept a (view s) (view t) → class ≤ SPAN_CLASSES → CachesFrom a (view s) g.cache class → Has a (view t) true (lists (drop class g.cache)) → Gives z a (view t) (at_stage g (stage_from g.cache class))
     goes_from t class kept few x has =
         let holds : (i : ℕ) (c : CachedSpan) → class ≤ i → i < SPAN_CLASSES → slice_index_or g.cache i None ≡ Some c → (view t).holds a c.head ≡ true = λ i c after below at. has.holds c.head ∙ listed_from class i c after at in
-        let n = next_from z a (view t) g class few room (caches_kept a (view s) (view t) kept.own g.cache class holds x) in
+        let n = next_from z a (view t) g class few room (caches_kept a (view s) (view t) (holds_swept z a (view s) good) kept.own g.cache class holds x) in
         record {
           has = has_same a (view t) true (give_locked_at (stage_from g.cache class)) (lists (drop class g.cache)) (give_held_at g.cache (stage_from g.cache class)) n.locked n.held has;
           facts = record { layout_is = layout_is; seat_is = seat_is; generation = known ∙ sym kept.own.generation; room = room; held = is; stage_is = n.facts };
@@ -157,7 +157,7 @@ module _ (k : Known) (z : Arena) (a : ℕ) where
       may = (record { locked = has.locked; laying = has.laying; freeing = has.freeing; head = own.span.head }, own.span.held)
 
       written : owned_by 0 head ≡ given_head g.generation (span_class class)
-      written = head_is g.generation head (span_class class) own.span.class own.span.noscan_is (small_pages head (span_class class).class (good.spans c.head head own.span.head).fits own.span.class) (good.numbers c.head head own.span.head ∙ sym known)
+      written = head_is g.generation head (span_class class) own.span.class own.span.noscan_is (small_pages head (span_class class).class (good.spans c.head head own.span.head).fits own.span.class) (holds_swept z a (view s) good c.head head own.span.held own.span.head ∙ sym known)
 
       left : Has a (view then) true (lists (drop (class + 1) g.cache))
       left =
@@ -202,10 +202,10 @@ module _ (k : Known) (z : Arena) (a : ℕ) where
   gives_on s good g f = gives_at s good g f.facts.layout_is f.facts.seat_is f.facts.generation f.facts.room f.facts.held g.stage f.has f.facts.stage_is
 
 -- it lasts, whatever others do
-module _ (z : Arena) (a : ℕ) (v w : View) (o : Others z a v w) where
+module _ (z : Arena) (a : ℕ) (v w : View) (o : Others z a v w) (swept : HoldsSwept a v) where
   stage_lasts : (g : Giving) (q : GiveStage) → GiveStageFacts z a v g q → GiveStageFacts z a w g q
-  stage_lasts g Lock x = caches_last z a v w o g.cache 0 x
-  stage_lasts g (GiveSpan class c) x = record { among = x.among; here = x.here; caches = caches_last z a v w o g.cache class x.caches }
+  stage_lasts g Lock x = caches_last z a v w o swept g.cache 0 x
+  stage_lasts g (GiveSpan class c) x = record { among = x.among; here = x.here; caches = caches_last z a v w o swept g.cache class x.caches }
   stage_lasts g Unlock x = x
   stage_lasts g (GiveBuffer b) x = x
   stage_lasts g Ended x = x

@@ -1,21 +1,27 @@
 -- What a move of its own leaves to a processor, and what others leave: of its registers, and of the spans that it has cached.
-use Rattle.std.proofs.Common.{◌≡◌, ℕ, ◌+◌, ◌<◌, ◌≤◌, Bool, true, List, [], length, Option, Some, None, refl, sym, ap, subst, ◌∙◌}
+use Rattle.std.proofs.Common.{◌≡◌, ℕ, ◌+◌, ◌*◌, ◌/◌, ◌<◌, ◌≤◌, Bool, true, cond, List, [], length, Option, Some, None, refl, sym, ap, subst, ◌∙◌, arith}
 use Rattle.std.specs.Prelude.{slice_index_or}
 use Rattle.gh_base.specs.declared.cell.Ask.{Ask}
+use Rattle.gh_base.specs.declared.pack.PageWord.TheVariants as page
 use Rattle.gh_base.specs.declared.value.Value.{Value}
 use Rattle.gh_base.specs.declared.value.Value.TheVariants as value
 use Rattle.gh_base.specs.Holding.{IsHeld}
+use Rattle.gh_base.specs.Rows.{row_bit}
 use Rattle.gh_base.specs.Steps.{effect}
+use Rattle.gh_class.specs.declared.class.SizeClass.TheVariants as size
 use Rattle.gh_model.specs.Ever.{Ever}
 use Rattle.gh_model.specs.declared.EverValue.{EverValue}
 use Rattle.gh_model.specs.declared.EverValue.TheVariants as ever
 use Rattle.gh_heap.specs.Laws.{EachMoveKeepsItsOwn, EachRightFollows, KeepsItsOwn}
-use Rattle.gh_heap.specs.Moves.{IsQuiet, KeepsObjects, May, Move, Others, Quiet, Steps, moved}
+use Rattle.gh_heap.specs.Moves.{IsQuiet, KeepsObjects, KeepsTaken, May, Move, Others, Quiet, Steps, moved}
 use Rattle.gh_heap.specs.Objects.{Place}
+use Rattle.gh_heap.specs.Spans.{is_own_class, number_of, owner_at, owner_in}
+use Rattle.gh_cache.specs.Listing.{slot_at}
+use Rattle.gh_alloc.specs.Find.{span_at}
 use Rattle.gh_alloc.specs.FindFacts.{IsCached}
 use Rattle.gh_mutator.specs.Local.{register_at, register_in}
 use Rattle.gh_mutator.specs.PollHeap.{CachesAll, CachesFrom, Has, KeepsGhosts, KnowsSpans, Stands, lists}
-use Rattle.gh_mutator.specs.Vocabulary.{Arena, CachedSpan, Good, Means, MOST_GOROUTINES, Polling, Shared, SPAN_CLASSES, SpanClass, View, span_index, view}
+use Rattle.gh_mutator.specs.Vocabulary.{Arena, CachedSpan, Good, Means, MOST_GOROUTINES, page_of, Polling, Shared, SizeClass, slot_of, slots_of, SPAN_CLASSES, SpanClass, SpanHead, View, span_index, view}
 use Rattle.gh_mutator.proofs.Holding.Lists.{lists_it}
 
 pub record Known : Type 0 where
@@ -38,6 +44,24 @@ stands_kept z a v w p k s = record { sits = s.sits; registers = λ g d of lt. va
 pub stands_stopped : (z : Arena) (a : ℕ) (v w : View) (p : Polling) → KeepsGhosts a v w → Stands z a v p → Stands z a w p
 stands_stopped z a v w p k s = stands_kept z a v w p (k.ever, k.place) s
 
+-- The spans that are held are swept.
+
+abbrev pub HoldsSwept : (a : ℕ) → View → Type 0
+HoldsSwept a v = (p : ℕ) (h : SpanHead) → v.holds a p ≡ true → page_of (v.page p) ≡ page.Head h → h.number ≡ v.generation
+
+pub holds_swept : (z : Arena) (a : ℕ) (v : View) → Good z v → HoldsSwept a v
+holds_swept z a v good p h held head = (good.numbers p h head).owned (λ none. let is : owner_at v.page p ≡ h.owner = ap owner_in head in omega (arith, (good.owners a p).1 held, is, none))
+
+-- so the slots of a cached one stay taken
+taken_kept : (a : ℕ) (v w : View) → HoldsSwept a v → KeepsTaken v.generation v.page v.alloc w.alloc → (c : SpanClass) (k : CachedSpan) → IsCached a v c k → (j : ℕ) → j < k.cursor → row_bit w.alloc (slot_at (span_at c.class k) j) ≡ 1
+taken_kept a v w swept keeps c k x j lt = subst (λ (n : ℕ). row_bit w.alloc n ≡ 1) (slot x.span.h.class x.span.class)
+    (keeps k.head j x.span.h x.span.head (swept k.head x.span.h x.span.held x.span.head) (count x.span.h.class x.span.class (let few = x.few in omega (arith, lt, few))) (subst (λ (n : ℕ). row_bit v.alloc n ≡ 1) (sym (slot x.span.h.class x.span.class)) (x.taken j lt))) where
+      slot : (f : SizeClass) → f ≡ size.Small c.class → 1024 * k.head + j * cond (is_own_class f) (1024 * x.span.h.pages) (slot_of (number_of f) / 8) ≡ slot_at (span_at c.class k) j
+      slot f e = rw (e) refl
+
+      count : (f : SizeClass) → f ≡ size.Small c.class → j < slots_of c.class → j < cond (is_own_class f) 1 (slots_of (number_of f))
+      count f e few = rw (e) few
+
 module _ (z : Arena) (a : ℕ) (v w : View) (o : Others z a v w) where
   means_last : (x : EverValue) (y : Value) → Means v.place v.ever.made x y → Means w.place w.ever.made x y
   means_last ever.Nil value.Nil h = tt
@@ -53,8 +77,8 @@ module _ (z : Arena) (a : ℕ) (v w : View) (o : Others z a v w) where
   pub stands_last : (p : Polling) → Stands z a v p → Stands z a w p
   stands_last p s = record { sits = s.sits; registers = λ g d of lt. subst (λ (x : EverValue). Means w.place w.ever.made x (register_at p g d)) (sym (o.registers g d of)) (means_last (v.ever.register g d) (register_at p g d) (s.registers g d of lt)) }
 
-  cached_last : (c : SpanClass) (k : CachedSpan) → IsCached a v c k → IsCached a w c k
-  cached_last c k x = record {
+  cached_last : HoldsSwept a v → (c : SpanClass) (k : CachedSpan) → IsCached a v c k → IsCached a w c k
+  cached_last swept c k x = record {
     span = record {
       h = x.span.h;
       head = o.heads k.head x.span.h x.span.held x.span.head;
@@ -63,17 +87,17 @@ module _ (z : Arena) (a : ℕ) (v w : View) (o : Others z a v w) where
       held = o.holds k.head ∙ x.span.held;
     };
     few = x.few;
-    taken = λ j lt. o.bits _ (x.taken j lt);
+    taken = taken_kept a v w swept o.bits c k x;
   }
 
-  pub caches_last : (cache : List (Option CachedSpan)) (from : ℕ) → CachesFrom a v cache from → CachesFrom a w cache from
-  caches_last cache from x i k after below at = cached_last _ k (x i k after below at)
+  pub caches_last : HoldsSwept a v → (cache : List (Option CachedSpan)) (from : ℕ) → CachesFrom a v cache from → CachesFrom a w cache from
+  caches_last swept cache from x i k after below at = cached_last swept _ k (x i k after below at)
 
-  pub knows_last : (p : Polling) → KnowsSpans a v p → KnowsSpans a w p
-  knows_last p x = record { generation = x.generation ∙ sym o.generation; caches = λ c k low at. cached_last c k (x.caches c k low at) }
+  pub knows_last : HoldsSwept a v → (p : Polling) → KnowsSpans a v p → KnowsSpans a w p
+  knows_last swept p x = record { generation = x.generation ∙ sym o.generation; caches = λ c k low at. cached_last swept c k (x.caches c k low at) }
 
 -- The cached spans, after a move of its own: those that it holds then.
-module _ (a : ℕ) (v w : View) (o : KeepsItsOwn a v w) where
+module _ (a : ℕ) (v w : View) (swept : HoldsSwept a v) (o : KeepsItsOwn a v w) where
   pub cached_kept : (c : SpanClass) (k : CachedSpan) → w.holds a k.head ≡ true → IsCached a v c k → IsCached a w c k
   cached_kept c k held x = record {
     span = record {
@@ -84,7 +108,7 @@ module _ (a : ℕ) (v w : View) (o : KeepsItsOwn a v w) where
       held = held;
     };
     few = x.few;
-    taken = λ j lt. o.bits _ (x.taken j lt);
+    taken = taken_kept a v w swept o.bits c k x;
   }
 
   pub caches_kept : (cache : List (Option CachedSpan)) (from : ℕ) → ((i : ℕ) (k : CachedSpan) → from ≤ i → i < SPAN_CLASSES → slice_index_or cache i None ≡ Some k → w.holds a k.head ≡ true) → CachesFrom a v cache from → CachesFrom a w cache from

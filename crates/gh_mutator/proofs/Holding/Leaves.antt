@@ -16,7 +16,7 @@ use Rattle.gh_mutator.specs.Local.{leaving, with_nothing}
 use Rattle.gh_mutator.specs.PollHeap.{Has, LeaveStageFacts, Stands, leave_held_at, leave_locked_at, no_page}
 use Rattle.gh_mutator.specs.PollHeapLaws.{IsAtRest, Leaves, LeavesByRights}
 use Rattle.gh_mutator.proofs.Holding.Gives.{Gives, gives_begin, gives_last, gives_on, gives_within, nothing_held, nothing_left}
-use Rattle.gh_mutator.proofs.Holding.Known.{Kept, Known, by_quiet, stands_kept, stands_last, stands_stopped, stands_to}
+use Rattle.gh_mutator.proofs.Holding.Known.{HoldsSwept, Kept, Known, by_quiet, holds_swept, stands_kept, stands_last, stands_stopped, stands_to}
 use Rattle.gh_mutator.proofs.Holding.Vocabulary.{Arena, Good, Leaving, Polling, Shared, Steps, View, cell_of, view}
 
 -- what is known at a stage, with its rights
@@ -57,10 +57,10 @@ module _ (k : Known) (z : Arena) (a : ℕ) (s : Shared) (good : Good z (view s))
   leaves_on_at leave_stage.Left has x = by_quiet k z a s good (Load cell.Touch) false no_page (λ t. KeepsObjects (view s) (view t) × Leaves z a (view t) p (record w { stage = leave_stage.Left })) tt has
       (λ t kept r. (kept.objects, then t kept.objects leave_stage.Left (record { has = r; facts = tt })))
 
-stage_lasts : (z : Arena) (a : ℕ) (v w : View) (q : LeaveStage) → Others z a v w → LeaveStageFacts z a v q → LeaveStageFacts z a w q
-stage_lasts z a v w (leave_stage.Giving g) o x = gives_last z a v w o g x
-stage_lasts z a v w leave_stage.Leave o x = tt
-stage_lasts z a v w leave_stage.Left o x = tt
+stage_lasts : (z : Arena) (a : ℕ) (v w : View) (q : LeaveStage) → HoldsSwept a v → Others z a v w → LeaveStageFacts z a v q → LeaveStageFacts z a w q
+stage_lasts z a v w (leave_stage.Giving g) swept o x = gives_last z a v w o swept g x
+stage_lasts z a v w leave_stage.Leave swept o x = tt
+stage_lasts z a v w leave_stage.Left swept o x = tt
 
 within_at : (z : Arena) (a : ℕ) (v : View) (x : Leaving) (q : LeaveStage) → Good z v → a < z.layout.procs → x.seat ≡ a → LeaveStageFacts z a v q → InRange z.layout (cell_of (asks_at x q))
 within_at z a v x (leave_stage.Giving g) good few e f = gives_within z a v g good f
@@ -89,7 +89,7 @@ leaves_by_rights k = record {
   begins = begin;
   own_step = λ z a s p x good f. leaves_on_at k z a s good p f.1.stands x f.1.seat_is x.stage f.0 f.1.stage_is;
   within = λ z a v p x good f. within_at z a v x x.stage good f.1.stands.sits.few f.1.seat_is f.1.stage_is;
-  lasts = λ z a v w p x o f. record { stands = stands_last z a v w o p f.stands; seat_is = f.seat_is; stage_is = stage_lasts z a v w x.stage o f.stage_is };
+  lasts = λ z a v w p x good o f. record { stands = stands_last z a v w o p f.stands; seat_is = f.seat_is; stage_is = stage_lasts z a v w x.stage (holds_swept z a v good) o f.stage_is };
   parked = λ z a v p x stops e f. parked_at a stops v x.stage e f.0;
   stopped = λ z a v w p x stops e kept f. record { stands = stands_stopped z a v w p kept f.stands; seat_is = f.seat_is; stage_is = stopped_at z a stops v w x.stage e f.stage_is };
   ends = λ z a v p x e f. (ended_at a v x.stage e f.0, f.1.stands);

@@ -17,7 +17,7 @@ use Rattle.gh_mutator.specs.MarkStack as mark
 use Rattle.gh_mutator.specs.Poll.{after_mark, after_resume, after_room, asks, asks_at, at_stage, begins, by_phase, counted, due, giving, goes, goes_at, has_two, is_busy, marks_then, resumed, room_stage, scanned, scans, stops_then}
 use Rattle.gh_mutator.proofs.Due.{due_scans}
 use Rattle.gh_mutator.proofs.Holding.Gives.{Gives, gives_begin, gives_last, gives_on, gives_within, nothing_held, nothing_left}
-use Rattle.gh_mutator.proofs.Holding.Known.{Kept, Known, by_quiet, knows_kept, knows_last, knows_to, stands_kept, stands_last, stands_stopped, stands_to}
+use Rattle.gh_mutator.proofs.Holding.Known.{HoldsSwept, Kept, Known, by_quiet, holds_swept, knows_kept, knows_last, knows_to, stands_kept, stands_last, stands_stopped, stands_to}
 use Rattle.gh_mutator.proofs.Holding.Lists.{none_cached_all}
 use Rattle.gh_mutator.proofs.Holding.Ranges.{room_begins, room_gives, room_goes, room_quiet, room_within}
 use Rattle.gh_mutator.proofs.Holding.Scans.{scan_begins, scan_goes, scan_quiet, scan_within}
@@ -153,7 +153,7 @@ module _ (k : Known) (z : Arena) (a : ℕ) (s : Shared) (good : Good z (view s))
   stands_then t kept = stands_kept z a (view s) (view t) p kept.objects stands
 
   rests_then : (t : Shared) → Kept a (view s) (view t) → Has a (view t) false (lists p.local.cache) → KnowsSpans a (view s) p → IsAtRest z a (view t) p
-  rests_then t kept has x = (has, record { stands = stands_then t kept; knows = knows_kept a (view s) (view t) kept.own p false has x })
+  rests_then t kept has x = (has, record { stands = stands_then t kept; knows = knows_kept a (view s) (view t) (holds_swept z a (view s) good) kept.own p false has x })
 
   loads_phase : Has a (view s) false (lists p.local.cache) → KnowsSpans a (view s) p → Leads LoadPhase
   loads_phase has x =
@@ -224,16 +224,16 @@ polls_on k z a s p good f = polls_at_stage k z a s good p f.1.stands p.stage f.0
 
 -- Between two steps of its own.
 
-stage_lasts : (z : Arena) (a : ℕ) (v w : View) (p : Polling) (q : PollStage) → Others z a v w → PollStageFacts z a v p q → PollStageFacts z a w p q
-stage_lasts z a v w p LoadPhase o x = knows_last z a v w o p x
-stage_lasts z a v w p (Giving g stops) o x = gives_last z a v w o g x
-stage_lasts z a v w p (Resuming r) o x = record { seat_is = x.seat_is; no_span = x.no_span; no_buffer = x.no_buffer; loaded = loaded_on v w r.view r.stage o.generation x.loaded }
-stage_lasts z a v w p (Marking g m) o x = (knows_last z a v w o p x.0, x.1)
-stage_lasts z a v w p (FindRoom r) o x = (knows_last z a v w o p x.0, x.1)
-stage_lasts z a v w p Ended o x = knows_last z a v w o p x
+stage_lasts : (z : Arena) (a : ℕ) (v w : View) (p : Polling) (q : PollStage) → HoldsSwept a v → Others z a v w → PollStageFacts z a v p q → PollStageFacts z a w p q
+stage_lasts z a v w p LoadPhase swept o x = knows_last z a v w o swept p x
+stage_lasts z a v w p (Giving g stops) swept o x = gives_last z a v w o swept g x
+stage_lasts z a v w p (Resuming r) swept o x = record { seat_is = x.seat_is; no_span = x.no_span; no_buffer = x.no_buffer; loaded = loaded_on v w r.view r.stage o.generation x.loaded }
+stage_lasts z a v w p (Marking g m) swept o x = (knows_last z a v w o swept p x.0, x.1)
+stage_lasts z a v w p (FindRoom r) swept o x = (knows_last z a v w o swept p x.0, x.1)
+stage_lasts z a v w p Ended swept o x = knows_last z a v w o swept p x
 
-pub polls_last : (z : Arena) (a : ℕ) (v w : View) (p : Polling) → Others z a v w → PollFacts z a v p → PollFacts z a w p
-polls_last z a v w p o f = record { stands = stands_last z a v w o p f.stands; stage_is = stage_lasts z a v w p p.stage o f.stage_is }
+pub polls_last : (z : Arena) (a : ℕ) (v w : View) (p : Polling) → Good z v → Others z a v w → PollFacts z a v p → PollFacts z a w p
+polls_last z a v w p good o f = record { stands = stands_last z a v w o p f.stands; stage_is = stage_lasts z a v w p p.stage (holds_swept z a v good) o f.stage_is }
 
 resume_within : (z : Arena) (a : ℕ) (r : resume.Resuming) (q : ResumeStage) → a < z.layout.procs → r.seat ≡ a → InRange z.layout (cell_of (resume.asks_at r q))
 resume_within z a r resume_stage.Acknowledge few e = subst (λ (b : ℕ). b < z.layout.procs + z.layout.workers) (sym e) (omega (arith, few))

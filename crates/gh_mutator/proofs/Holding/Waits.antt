@@ -11,7 +11,7 @@ use Rattle.gh_mutator.specs.Poll as poll
 use Rattle.gh_mutator.specs.PollHeap.{Rests, WaitStageFacts, waits_held_at, waits_locked_at}
 use Rattle.gh_mutator.specs.PollHeapLaws.{Polls, PollsByRights, Waits, WaitsByRights}
 use Rattle.gh_mutator.specs.Wait.{after_poll, asks_at, at_stage, goes_at, is_busy, polling}
-use Rattle.gh_mutator.proofs.Holding.Known.{Kept, Known, by_quiet, knows_kept, knows_last, stands_kept, stands_last}
+use Rattle.gh_mutator.proofs.Holding.Known.{Kept, Known, by_quiet, holds_swept, knows_kept, knows_last, stands_kept, stands_last}
 use Rattle.gh_mutator.proofs.Holding.Vocabulary.{Arena, Good, Has, InRange, IsAtRest, IsParked, KeepsGhosts, KeepsObjects, Others, Polling, Shared, Steps, View, Waiting, cell_of, effect, landing, lists, no_page, view}
 
 -- a poll that has given something has ended
@@ -28,7 +28,7 @@ module _ (k : Known) (h : PollsByRights) (z : Arena) (a : ℕ) where
     Leads q = Steps z a s (asks_at w q) (λ t. KeepsObjects (view s) (view t) × Waits z a (view t) (goes_at w q (s.words (cell_of (asks_at w q)))))
 
     rests_then : (t : Shared) → Rests z a (view s) p → Kept a (view s) (view t) → Has a (view t) false (lists p.local.cache) → IsAtRest z a (view t) p
-    rests_then t x kept has = (has, record { stands = stands_kept z a (view s) (view t) p kept.objects x.stands; knows = knows_kept a (view s) (view t) kept.own p false has x.knows })
+    rests_then t x kept has = (has, record { stands = stands_kept z a (view s) (view t) p kept.objects x.stands; knows = knows_kept a (view s) (view t) (holds_swept z a (view s) good) kept.own p false has x.knows })
 
     asks_for_it : Has a (view s) false (lists p.local.cache) → Rests z a (view s) p → Leads wait_stage.Want
     asks_for_it has x = by_quiet k z a s good (Or cell.Want 1) false (lists p.local.cache) (λ t. KeepsObjects (view s) (view t) × Waits z a (view t) (polling w)) tt has
@@ -61,14 +61,14 @@ module _ (k : Known) (h : PollsByRights) (z : Arena) (a : ℕ) where
         (λ t kept r. (kept.objects, rests_then t x kept r))
 
   module _ (v u : View) where
-    rests_last : (p : Polling) → Others z a v u → Rests z a v p → Rests z a u p
-    rests_last p o x = record { stands = stands_last z a v u o p x.stands; knows = knows_last z a v u o p x.knows }
+    rests_last : (p : Polling) → Good z v → Others z a v u → Rests z a v p → Rests z a u p
+    rests_last p good o x = record { stands = stands_last z a v u o p x.stands; knows = knows_last z a v u o (holds_swept z a v good) p x.knows }
 
-    stage_lasts : (p : Polling) (q : WaitStage) → Others z a v u → WaitStageFacts z a v p q → WaitStageFacts z a u p q
-    stage_lasts p wait_stage.Want o x = rests_last p o x
-    stage_lasts p wait_stage.Polling o x = h.lasts z a v u p o x
-    stage_lasts p wait_stage.LoadSwept o x = rests_last p o x
-    stage_lasts p wait_stage.Ended o x = rests_last p o x
+    stage_lasts : (p : Polling) (q : WaitStage) → Good z v → Others z a v u → WaitStageFacts z a v p q → WaitStageFacts z a u p q
+    stage_lasts p wait_stage.Want good o x = rests_last p good o x
+    stage_lasts p wait_stage.Polling good o x = h.lasts z a v u p good o x
+    stage_lasts p wait_stage.LoadSwept good o x = rests_last p good o x
+    stage_lasts p wait_stage.Ended good o x = rests_last p good o x
 
     stopped_at : (w : Waiting) (stops : ℕ) (q : WaitStage) → IsParked stops (waits_at w q) → KeepsGhosts a v u → WaitStageFacts z a v w.poll q → WaitStageFacts z a u w.poll q
     stopped_at w stops wait_stage.Want e kept x = absurd e
@@ -100,7 +100,7 @@ waits_by_rights k h = record {
   begins = λ z a v p r. r;
   own_step = λ z a s w good f. waits_on_at k h z a s good w w.wait.stage f.0 f.1;
   within = λ z a v w good f. within_at k h z a v w good w.wait.stage f.0 f.1;
-  lasts = λ z a v u w o f. stage_lasts k h z a v u w.poll w.wait.stage o f;
+  lasts = λ z a v u w good o f. stage_lasts k h z a v u w.poll w.wait.stage good o f;
   parked = λ z a v w stops e f. parked_at k h z a v w stops w.wait.stage e f.0 f.1;
   stopped = λ z a v u w stops e kept f. stopped_at k h z a v u w stops w.wait.stage e kept f;
   ends = λ z a v w e f. ended_at k h z a v w w.wait.stage e f.0 f.1;

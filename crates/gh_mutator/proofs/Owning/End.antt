@@ -35,6 +35,7 @@ end_step g z a s m pending shapes good x =
         ever = refl;
         answers = answered_once answer.Done _ pending x.task.1 refl;
         full = has_room (λ (y : Act). FullAt z a (view s) (at_task m (task.End g)) y.op) (op.End g);
+        counts = tt;
       };
     }
 

@@ -41,7 +41,7 @@ load_now k x z a s m good steady right runs low few =
       move = Takes (ask.Load (cell.Global x.k)) x.g x.r (s.ever.global x.k);
       may = (tt, runs, low, global_reached s.ever x.k (s.ever.global x.k) refl);
       words_are = refl;
-      after = record { after = t.after; fine = t.fine; ever = t.ever; answers = t.answers; full = λ y is full. absurd (not_full (takes_value (naming x) (value_of m.poll.layout.pages true (s.words (cell.Global x.k)))).acts (op.GetGlobal x.g x.r x.k) y is full) };
+      after = record { after = t.after; fine = t.fine; ever = t.ever; answers = t.answers; full = λ y is full. absurd (not_full (takes_value (naming x) (value_of m.poll.layout.pages true (s.words (cell.Global x.k)))).acts (op.GetGlobal x.g x.r x.k) y is full); counts = tt };
     }
 
 load_step : Known → (x : Global) → StepAt (at x global_stage.Load)
@@ -60,6 +60,7 @@ birth_step k x at_word z a s m pending shapes good f =
         ever = refl;
         answers = ap option_to_list f.task.answers ∙ ap (λ (n : Name). answer.Ref n ∷ []) (sym (name_found k z (view s) good f.task.n f.task.through.made (Reach.from_register x.g x.r f.task.n f.task.through.runs.goes_on f.task.through.names) m.poll.layout at_word steady.1.stands.sits.layout f.task.through.here));
         full = not_at_point (λ (y : Act). FullAt z a (view s) (at_task m (at x (global_stage.Birth at_word))) y.op);
+        counts = tt;
       };
     }
 
@@ -119,6 +120,7 @@ module _ (k : Known) (x : Global) (z : Arena) (a : ℕ) (s : Shared) (m : Proces
     ever = subst (λ (y : Op). u.ever ≡ acted z.shapes s.ever (acting (step m.poll.layout held (at_stage x q) (word q)).acts y false)) (sym of) c.ever;
     answers = subst (λ (y : Op). option_to_list (answered_at z.shapes s.ever (acting (step m.poll.layout held (at_stage x q) (word q)).acts y false)) ++ [] ≡ option_to_list c.after ++ option_to_list (answered (step m.poll.layout held (at_stage x q) (word q)).then)) (sym of) c.answers;
     full = λ y is full. absurd (not_full (step m.poll.layout held (at_stage x q) (word q)).acts (global.op_of (at_stage x q)) y is full);
+    counts = tt;
   }
 
   store_now : StepFrom z a s (here global_stage.Store) None
@@ -172,6 +174,7 @@ number_step x z a s m pending shapes good f =
         ever = sym (ap (λ (b : Answer). ever_after z.shapes s.ever (op.SetGlobal x.g x.k x.r) b) answers);
         answers = answered_once (answer_of z.shapes s.ever (op.SetGlobal x.g x.k x.r)) _ pending f.task.2 (ap (λ (b : Answer). b ∷ []) answers);
         full = has_room (λ (y : Act). FullAt z a (view s) (at_task m (at x global_stage.Number)) y.op) (op.SetGlobal x.g x.k x.r);
+        counts = tt;
       };
     }
 

@@ -15,7 +15,7 @@ use Rattle.gh_mutator.specs.declared.store.StoreStage.TheVariants as store_stage
 use Rattle.gh_mutator.specs.declared.task.Task.TheVariants as task
 use Rattle.gh_mutator.specs.Facts.{freeing_new, held_new, KnowsNew, Lasts, laying_new, locked_new}
 use Rattle.gh_mutator.specs.Wait.{waiting}
-use Rattle.gh_mutator.proofs.Holding.Known.{knows_last, stands_last}
+use Rattle.gh_mutator.proofs.Holding.Known.{holds_swept, knows_last, stands_last}
 use Rattle.gh_mutator.proofs.Owning.Known.{Known}
 use Rattle.gh_mutator.proofs.Owning.Steady.{counts_with}
 
@@ -102,19 +102,19 @@ module _ (z : Arena) (a : ℕ) (v w : View) (o : Others z a v w) where
     -- What it alone knows.
 
     rests_last : Rests z a v m.poll → Rests z a w m.poll
-    rests_last r = record { stands = stands_last z a v w o m.poll r.stands; knows = knows_last z a v w o m.poll r.knows }
+    rests_last r = record { stands = stands_last z a v w o m.poll r.stands; knows = knows_last z a v w o (holds_swept z a v good) m.poll r.knows }
 
     new_knows : (q : NewStage) → KnowsNew z a v m.poll q → KnowsNew z a w m.poll q
     new_knows (Search waited s) h = rests_last h
-    new_knows (Wait x) h = k.waits.lasts z a v w (waiting x m.poll) o h
+    new_knows (Wait x) h = k.waits.lasts z a v w (waiting x m.poll) good o h
     new_knows (Place x) h = rests_last h
 
     known_lasts : (q : Task) → KnowsAt z a v m.poll q → KnowsAt z a w m.poll q
     known_lasts task.Left h = stands_last z a v w o m.poll h
     known_lasts (task.New x) h = new_knows x.stage h
-    known_lasts (task.Gc g x) h = k.waits.lasts z a v w (waiting x m.poll) o h
-    known_lasts task.Poll h = k.polls.lasts z a v w m.poll o h
-    known_lasts (task.Leave x) h = k.leaves.lasts z a v w m.poll x o h
+    known_lasts (task.Gc g x) h = k.waits.lasts z a v w (waiting x m.poll) good o h
+    known_lasts task.Poll h = k.polls.lasts z a v w m.poll good o h
+    known_lasts (task.Leave x) h = k.leaves.lasts z a v w m.poll x good o h
     known_lasts _ h = rests_last h
 
     -- The operation that it is at.

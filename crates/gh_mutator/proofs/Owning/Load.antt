@@ -50,7 +50,7 @@ module _ (laws : Known) (z : Arena) (a : ℕ) (s : Shared) (m : Processor) (x : 
   To t pending next = Comes Load task.Load z a s t m x.g x.d (op_of x) pending next
 
   does : (q : LoadStage) (pending : Option Answer) (t : Shared) → To t pending (step m.poll.layout (at_stage x q) (found q)) → Does z a s t (here q) pending (found q)
-  does q pending t c = record { after = c.after; fine = c.fine; ever = c.ever; answers = c.answers; full = λ y is full. absurd (not_full (step m.poll.layout (at_stage x q) (found q)).acts (op_of x) y is full) }
+  does q pending t c = record { after = c.after; fine = c.fine; ever = c.ever; answers = c.answers; full = λ y is full. absurd (not_full (step m.poll.layout (at_stage x q) (found q)).acts (op_of x) y is full); counts = tt }
 
   module _ (steady : Steady z a (view s) m) (right : HasCached a (view s) m) where
     reach : (n : Name) → Through z a (view s) x.g x.b x.at n → Reach e n

@@ -21,6 +21,7 @@ use Rattle.gh_mutator.specs.New.{sought_for}
 use Rattle.gh_mutator.specs.PollHeapLaws.{Waits}
 use Rattle.gh_mutator.specs.Wait as wait
 use Rattle.gh_mutator.specs.Give.{span_class}
+use Rattle.gh_mutator.proofs.Holding.Known.{holds_swept}
 use Rattle.gh_mutator.proofs.Holding.Lists.{index_of, listed_at}
 use Rattle.gh_mutator.proofs.Owning.Cache.{cached-same}
 use Rattle.gh_mutator.proofs.Owning.Known.{Known}
@@ -54,10 +55,10 @@ module _ (k : Known) (z : Arena) (a : ℕ) (s : Shared) (m : Processor) (x : Wan
     kept = subst (λ (q : Sought). find.Caches a before q f.cached) r.wanted r.facts.facts.caches
 
     as-it-is : KeepsItsOwn a before before
-    as-it-is = record { heads = λ p h held still e. e; bits = λ p e. e; generation = refl }
+    as-it-is = record { heads = λ p h held still e. e; bits = λ p i h head number few e. e; generation = refl }
 
     cached : CachesAll a before caching.poll.local.cache
-    cached = caches-then a before before m x f.cached as-it-is (λ p e. right.holds p ∙ rest-held None (find.head_of f.cached) (rest m x) p e) st.1.stands.sits.cache sought kept st.1.knows.caches
+    cached = caches-then a before before m x f.cached (holds_swept z a before g) as-it-is (λ p e. right.holds p ∙ rest-held None (find.head_of f.cached) (rest m x) p e) st.1.stands.sits.cache sought kept st.1.knows.caches
 
     steady : Steady z a before caching
     steady = steady-cached z a before before m x.sought f.cached (refl, refl) refl cached st
@@ -96,14 +97,14 @@ module _ (k : Known) (z : Arena) (a : ℕ) (s : Shared) (m : Processor) (x : Wan
 
     full : (c : SpanClass) (p : ℕ) (h : SpanHead) → f.wanted ≡ Small c → page_of (before.page p) ≡ page.Head h → h.class ≡ size.Small c.class → h.noscan ≡ c.noscan → h.owner ≡ 0 → IsFull before.alloc p h
     full c p h e head class noscan owner =
-        subst (λ (q : Sought). find.NoneLeft z before last.find q) e none.none.none p h (below p h head) head (class ∙ ap (λ (q : Sought). (finder.span_for q).class) (sym e)) (noscan ∙ ap (λ (q : Sought). (finder.span_for q).noscan) (sym e)) owner
+        (subst (λ (q : Sought). find.NoneLeft z true before last.find q) e none.none.none refl p h (below p h head) head (class ∙ ap (λ (q : Sought). (finder.span_for q).class) (sym e)) (noscan ∙ ap (λ (q : Sought). (finder.span_for q).noscan) (sym e)) owner).1
 
     room : FoundNone z a before (searching true) (sought_for (shape_at z.shapes x.t))
     room = record {
       cached = subst (λ (q : Sought). cached_in m.poll.local.cache q ≡ None) same (sym r.cached ∙ none.none.cached);
       own_none = λ c p h e head class noscan owner. own-none c p h (same ∙ e) head class noscan owner;
       full = λ c p h e head class noscan owner. full c p h (wanted ∙ e) head class noscan owner;
-      in_use = λ p h head owner. none.tidy p h (below p h head) head owner;
+      in_use = λ p h head owner. (none.tidy p h (below p h head) head owner).1;
       no_run = subst (λ (q : Sought). (first : ℕ) → first + (finder.span_for q).pages ≤ z.layout.pages → (d : ℕ) × (d < (finder.span_for q).pages) × search.IsTaken z before (first + d)) wanted none.run;
     }
 
@@ -119,6 +120,7 @@ module _ (k : Known) (z : Arena) (a : ℕ) (s : Shared) (m : Processor) (x : Wan
         ever = refl;
         answers = refl;
         full = λ q e full. subst (λ (o : Op). FullAt z a before (searching true) o) (ap op-of (some-is (record { op = _; full = true }) q e)) room;
+        counts = tt;
       };
     } where
       t : Shared
@@ -131,7 +133,7 @@ module _ (k : Known) (z : Arena) (a : ℕ) (s : Shared) (m : Processor) (x : Wan
       nil = record before { ever = with_register before.ever x.g x.d ever.Nil }
 
       then : Steady z a (view t) (set_register caching x.g x.d value.Nil)
-      then = steady_on z a nil (view t) (set_register caching x.g x.d value.Nil) (refl, refl) (record { heads = λ p h held still e. e; bits = λ p e. e; generation = refl }) (λ p e. holds-cached p ∙ e)
+      then = steady_on z a nil (view t) (set_register caching x.g x.d value.Nil) (refl, refl) (holds_swept z a before g) (record { heads = λ p h held still e. e; bits = λ p i h head number few e. e; generation = refl }) (λ p e. holds-cached p ∙ e)
           (steady_register z a before caching x.g x.d ever.Nil value.Nil r.wants.runs.of r.wants.register tt steady)
 
       op-of : Act → Op
@@ -152,6 +154,7 @@ module _ (k : Known) (z : Arena) (a : ℕ) (s : Shared) (m : Processor) (x : Wan
         ever = refl;
         answers = refl;
         full = λ q e full. absurd (no-act q e);
+        counts = tt;
       };
     } where
       t : Shared
@@ -161,7 +164,7 @@ module _ (k : Known) (z : Arena) (a : ℕ) (s : Shared) (m : Processor) (x : Wan
       right-then = (k.follow z a s true (find.held last.find (rest m x)) None right).left
 
       then : Steady z a (view t) caching
-      then = steady_on z a before (view t) caching (refl, refl) (record { heads = λ p h held still e. e; bits = λ p e. e; generation = refl }) (λ p e. holds-cached p ∙ e) steady
+      then = steady_on z a before (view t) caching (refl, refl) (holds_swept z a before g) (record { heads = λ p h held still e. e; bits = λ p i h head number few e. e; generation = refl }) (λ p e. holds-cached p ∙ e) steady
 
       at-rest : HasCached a (view t) caching
       at-rest = record { locked = right-then.locked; holds = λ p. right-then.holds p ∙ sym (right.holds p) ∙ holds-cached p; laying = right-then.laying; freeing = right-then.freeing }

@@ -20,7 +20,7 @@ use Rattle.gh_mutator.specs.declared.task.Task.TheVariants as task
 use Rattle.gh_mutator.specs.Facts.{NamedFrom}
 use Rattle.gh_mutator.specs.Local.{with_register as local_register}
 use Rattle.gh_mutator.specs.New.{is_made, made_object}
-use Rattle.gh_mutator.proofs.Holding.Known.{cached_kept}
+use Rattle.gh_mutator.proofs.Holding.Known.{cached_kept, holds_swept, HoldsSwept}
 use Rattle.gh_mutator.proofs.Holding.Lists.{lists_it}
 use Rattle.gh_mutator.proofs.Owning.Known.{Known}
 use Rattle.gh_mutator.proofs.Owning.Steady.{goroutine_few, registers_then, sits_register, Steady, steady_on}
@@ -187,19 +187,20 @@ module _ (k : Known) (z : Arena) (a : ℕ) (s : Shared) (m : Processor) (x : Wan
   then made busy = at_task (cond made (made_object making-at x p.at) making-at) (cond busy (makes x next) task.Idle)
 
   -- what the step comes to, by its kind
-  done : (t : Shared) → ShapesAreGood z.shapes → Steady z a now m → Makes z a now m x p pending → KeepsItsOwn a now (view t) → place.Changes z (for_whom x) p (placer.acts_at p.stage) now (view t) →
-      place.Comes z a (view t) (for_whom x) (base z a now m x p) (placer.gives_at p.stage) next → Kind p p.stage found → Does z a s t making-at pending found
-  done t sg st mk own changes comes (onward still gives busy same) = record {
+  done : (t : Shared) → ShapesAreGood z.shapes → Steady z a now m → Makes z a now m x p pending → HoldsSwept a now → KeepsItsOwn a now (view t) → place.Changes z (for_whom x) p (placer.acts_at p.stage) now (view t) →
+      place.Comes z a (view t) (for_whom x) (base z a now m x p) (placer.gives_at p.stage) next → place.CountsAlone p.stage s t → Kind p p.stage found → Does z a s t making-at pending found
+  done t sg st mk swept own changes comes alone (onward still gives busy same) = record {
     after = pending;
     fine = subst (λ (b : Bool). Fine z a (view t) (then b (placer.is_busy next.stage)) pending) (sym still) (subst (λ (b : Bool). Fine z a (view t) (then false b) pending) (sym busy) (record {
-      counts = (steady_on z a now (view t) m o own held st).0;
-      knows = (steady_on z a now (view t) m o own held st).1;
+      counts = (steady_on z a now (view t) m o swept own held st).0;
+      knows = (steady_on z a now (view t) m o swept own held st).1;
       right = come.0;
       task = record { facts = come.1; register = mk.register; of = mk.of; span = mk.span; apart = mk.apart; named = subst (λ (b : Bool). NamedFrom b p.name pending) (sym same) mk.named };
     }));
     ever = o.0 ∙ sym (ap (λ (b : Bool). acted z.shapes s.ever (acting b (op_of x) false)) still);
     answers = ap (λ (b : Bool). option_to_list (answered_at z.shapes s.ever (acting b (op_of x) false)) ++ option_to_list pending) still ∙ nothing pending ∙ sym (ap (λ (b : Bool). option_to_list pending ++ option_to_list (cond b None (Some (answer.Ref p.name)))) busy);
     full = λ q acts full. absurd (no-act q (ap (λ (b : Bool). acting b (op_of x) false) (sym still) ∙ acts));
+    counts = alone;
   } where
     o : KeepsObjects now (view t)
     o = subst (λ (b : Bool). place.Changes z (for_whom x) p b now (view t)) still changes
@@ -216,13 +217,13 @@ module _ (k : Known) (z : Arena) (a : ℕ) (s : Shared) (m : Processor) (x : Wan
 
     no-act : (q : Act) → None ≡ Some q → ⊥
     no-act q e = cc
-  done t sg st mk own changes comes (making-it acts gives busy made unmade) = record {
+  done t sg st mk swept own changes comes alone (making-it acts gives busy made unmade) = record {
     after = Some (answer.Ref p.name);
     fine = subst (λ (b : Bool). Fine z a (view t) (then b (placer.is_busy next.stage)) (Some (answer.Ref p.name))) (sym acts) (subst (λ (b : Bool). Fine z a (view t) (then true b) (Some (answer.Ref p.name))) (sym busy) (record {
       counts = made-counts z a now (view t) m.made x.g x.d x.t mk.of o.0 st.0;
       knows = record {
         stands = record { sits = sits_register z a m.poll x.g x.d (value.Ref (p.at + 1)) st.1.stands.sits; registers = made-registers z a now (view t) m.poll x.g x.d x.t p.at st.1.stands.sits mk.of mk.register o.0 o.1 st.1.stands.registers };
-        knows = record { generation = st.1.knows.generation ∙ sym own.generation; caches = λ c l below is. cached_kept a now (view t) own c l (held l.head (lists_it m.poll.local.cache _ l.head l is refl)) (st.1.knows.caches c l below is) };
+        knows = record { generation = st.1.knows.generation ∙ sym own.generation; caches = λ c l below is. cached_kept a now (view t) swept own c l (held l.head (lists_it m.poll.local.cache _ l.head l is refl)) (st.1.knows.caches c l below is) };
       };
       right = come.0;
       task = record { facts = come.1; register = mk.register; of = mk.of; span = mk.span; apart = mk.apart; named = subst (λ (b : Bool). NamedFrom b p.name (Some (answer.Ref p.name))) (sym made) refl };
@@ -231,6 +232,7 @@ module _ (k : Known) (z : Arena) (a : ℕ) (s : Shared) (m : Processor) (x : Wan
     answers = ap (λ (b : Bool). option_to_list (answered_at z.shapes s.ever (acting b (op_of x) false)) ++ option_to_list pending) acts ∙ ap (λ (q : Option Answer). (answer.Ref (next_name s.ever x.g) ∷ []) ++ option_to_list q) none
         ∙ ap (λ (n : Name). answer.Ref n ∷ []) (sym o.2) ∙ sym (ap (λ (b : Bool). option_to_list (Some (answer.Ref p.name)) ++ option_to_list (cond b None (Some (answer.Ref p.name)))) busy);
     full = λ q e full. absurd (not-full q (ap (λ (b : Bool). acting b (op_of x) false) (sym acts) ∙ e) full);
+    counts = alone;
   } where
     o : place.Changes z (for_whom x) p true now (view t)
     o = subst (λ (b : Bool). place.Changes z (for_whom x) p b now (view t)) acts changes
@@ -246,17 +248,18 @@ module _ (k : Known) (z : Arena) (a : ℕ) (s : Shared) (m : Processor) (x : Wan
 
     not-full : (q : Act) → Some (record { op = op_of x; full = false }) ≡ Some q → q.full ≡ true → ⊥
     not-full q e f = let same : record { op = op_of x; full = false } ≡ q = cc in absurd (cc (ap (λ (r : Act). r.full) same, f))
-  done t sg st mk own changes comes (ending still gives busy made last) = record {
+  done t sg st mk swept own changes comes alone (ending still gives busy made last) = record {
     after = None;
     fine = subst (λ (b : Bool). Fine z a (view t) (then b (placer.is_busy next.stage)) None) (sym still) (subst (λ (b : Bool). Fine z a (view t) (then false b) None) (sym busy) (record {
-      counts = (steady_on z a now (view t) m o own (λ y e. held y ∙ e) st).0;
-      knows = (steady_on z a now (view t) m o own (λ y e. held y ∙ e) st).1;
+      counts = (steady_on z a now (view t) m o swept own (λ y e. held y ∙ e) st).0;
+      knows = (steady_on z a now (view t) m o swept own (λ y e. held y ∙ e) st).1;
       right = record { locked = come.0.locked; holds = held; laying = come.0.laying; freeing = come.0.freeing };
       task = refl;
     }));
     ever = o.0 ∙ sym (ap (λ (b : Bool). acted z.shapes s.ever (acting b (op_of x) false)) still);
     answers = ap (λ (b : Bool). option_to_list (answered_at z.shapes s.ever (acting b (op_of x) false)) ++ option_to_list pending) still ∙ ap (λ (q : Option Answer). [] ++ option_to_list q) named ∙ sym (ap (λ (b : Bool). [] ++ option_to_list (cond b None (Some (answer.Ref p.name)))) busy);
     full = λ q acts full. absurd (no-act q (ap (λ (b : Bool). acting b (op_of x) false) (sym still) ∙ acts));
+    counts = alone;
   } where
     o : KeepsObjects now (view t)
     o = subst (λ (b : Bool). place.Changes z (for_whom x) p b now (view t)) still changes
@@ -278,6 +281,6 @@ module _ (k : Known) (z : Arena) (a : ℕ) (s : Shared) (m : Processor) (x : Wan
       let mk : Makes z a now m x p pending = record { facts = fine.task.facts; register = fine.task.register; of = fine.task.of; span = fine.task.span; apart = fine.task.apart; named = fine.task.named } in
       let st : Steady z a now m = (fine.counts, fine.knows) in
       let l = k.place.own_step z a s (for_whom x) (base z a now m x p) p g fine.right mk.facts in
-      record { move = l.move; may = l.may; words_are = l.words_are; after = done (moved z a s l.move) sg st mk (k.own z a s l.move g l.may) l.after.0 l.after.1 (kind-of p p.stage found (unended mk.facts)) } where
+      record { move = l.move; may = l.may; words_are = l.words_are; after = done (moved z a s l.move) sg st mk (holds_swept z a now g) (k.own z a s l.move g l.may) l.after.0 l.after.1 l.after.2 (kind-of p p.stage found (unended mk.facts)) } where
         unended : place.Facts z a now (for_whom x) p → p.stage ≡ making.Ended → ⊥
         unended facts e = subst (λ (q : PlaceStage). place.FactsAt z a now (for_whom x) (place.base p) q) e facts

@@ -3,7 +3,7 @@ use Rattle.std.proofs.Common.{◌≡◌, ℕ, Bool, true, false, cond, is_some, 
 use Rattle.std.specs.Option.{option_to_list}
 use Rattle.gh_base.specs.declared.operation.Op.TheVariants as op
 use Rattle.gh_base.specs.declared.value.Answer.TheVariants as answer
-use Rattle.gh_mutator.proofs.Owning.Vocabulary.{Act, acted, acting, answered_at, at_task, Does, Fine, KnowsCounts, OwnStepAt, ShapesAreGood, Wants}
+use Rattle.gh_mutator.proofs.Owning.Vocabulary.{Act, acted, acting, answered_at, at_task, CountsAlone, Does, Fine, KnowsCounts, OwnStepAt, ShapesAreGood, Wants}
 use Rattle.gh_mutator.specs.declared.leave.LeaveStage.{LeaveStage}
 use Rattle.gh_mutator.specs.declared.leave.LeaveStage.TheVariants as leave_stage
 use Rattle.gh_mutator.specs.declared.task.Task.TheVariants as task
@@ -50,13 +50,14 @@ module _ (z : Arena) (s : Shared) (o : Op) (b : Answer) (is : answer_of z.shapes
   answered_then None = refl
   answered_then (Some y) = ap (λ (x : Answer). x ∷ []) is
 
-  ends_once : (a : ℕ) (t : Shared) (m : Processor) (found : ℕ) (g : Option (Unit {0})) → t.ever ≡ s.ever → acts m found ≡ acting (is_some g) o false → gives m found ≡ once_ended g b → Fine z a (view t) (takes z.shapes m found) None → Does z a s t m None found
-  ends_once a t m found g same act give fine = record {
+  ends_once : (a : ℕ) (t : Shared) (m : Processor) (found : ℕ) (g : Option (Unit {0})) → t.ever ≡ s.ever → acts m found ≡ acting (is_some g) o false → gives m found ≡ once_ended g b → Fine z a (view t) (takes z.shapes m found) None → CountsAlone m.task s t → Does z a s t m None found
+  ends_once a t m found g same act give fine alone = record {
     after = None;
     fine = fine;
     ever = same ∙ sym (ap (acted z.shapes s.ever) act ∙ acted_once g);
     answers = ap (λ (x : Option Act). option_to_list (answered_at z.shapes s.ever x) ++ []) act ∙ answered_then g ∙ ap (λ (x : Option Answer). [] ++ option_to_list x) (sym give);
     full = λ y e full. absurd (not_full (is_some g) o y (sym act ∙ e) full);
+    counts = alone;
   }
 
 module _ (k : Known) (z : Arena) (a : ℕ) (s : Shared) (m : Processor) (good : Good z (view s)) (counts : KnowsCounts z a (view s) m.made) where
@@ -69,7 +70,7 @@ module _ (k : Known) (z : Arena) (a : ℕ) (s : Shared) (m : Processor) (good : 
 
   poll_step : Polls z a (view s) m.poll → StepFrom z a s (at_task m task.Poll) None
   poll_step p = let found = s.words (cell_of (poll.asks m.poll)) in let l = k.polls.own_step z a s m.poll good p in
-      record { move = l.move; may = l.may; words_are = l.words_are; after = ends_once z s op.Poll answer.Done refl refl a (moved z a s l.move) (at_task m task.Poll) found (poll.gives m.poll found) l.after.0.0 refl refl (poll_fine (moved z a s l.move) found l.after.0 l.after.1 (poll.gives m.poll found) refl) }
+      record { move = l.move; may = l.may; words_are = l.words_are; after = ends_once z s op.Poll answer.Done refl refl a (moved z a s l.move) (at_task m task.Poll) found (poll.gives m.poll found) l.after.0.0 refl refl (poll_fine (moved z a s l.move) found l.after.0 l.after.1 (poll.gives m.poll found) refl) tt }
 
   -- A leave.
 
@@ -80,7 +81,7 @@ module _ (k : Known) (z : Arena) (a : ℕ) (s : Shared) (m : Processor) (good : 
 
   leave_step : (x : Leaving) → Leaves z a (view s) m.poll x → StepFrom z a s (at_task m (task.Leave x)) None
   leave_step x p = let found = s.words (cell_of (leave.asks x)) in let l = k.leaves.own_step z a s m.poll x good p in
-      record { move = l.move; may = l.may; words_are = l.words_are; after = ends_once z s op.Leave answer.Done refl refl a (moved z a s l.move) (at_task m (task.Leave x)) found (leave.gives x found) l.after.0.0 refl refl (leave_fine (moved z a s l.move) x found l.after.0 l.after.1 (leave.gives x found) refl) }
+      record { move = l.move; may = l.may; words_are = l.words_are; after = ends_once z s op.Leave answer.Done refl refl a (moved z a s l.move) (at_task m (task.Leave x)) found (leave.gives x found) l.after.0.0 refl refl (leave_fine (moved z a s l.move) x found l.after.0 l.after.1 (leave.gives x found) refl) tt }
 
   -- A wait.
   module _ (x : WaitState) (p : Waits z a (view s) (wait.waiting x m.poll)) where
@@ -101,7 +102,7 @@ module _ (k : Known) (z : Arena) (a : ℕ) (s : Shared) (m : Processor) (good : 
 
     gc_step : (g : ℕ) → StepFrom z a s (at_task m (task.Gc g x)) None
     gc_step g = let l = k.waits.own_step z a s now good p in
-        record { move = l.move; may = l.may; words_are = l.words_are; after = ends_once z s (op.Gc g) answer.Swept refl refl a (moved z a s l.move) (at_task m (task.Gc g x)) found (wait.gives now found) l.after.0.0 refl refl (gc_fine (moved z a s l.move) g l.after.0 l.after.1 (wait.gives now found) refl) }
+        record { move = l.move; may = l.may; words_are = l.words_are; after = ends_once z s (op.Gc g) answer.Swept refl refl a (moved z a s l.move) (at_task m (task.Gc g x)) found (wait.gives now found) l.after.0.0 refl refl (gc_fine (moved z a s l.move) g l.after.0 l.after.1 (wait.gives now found) refl) tt }
 
     -- of a new object, whose slot is searched for once more behind it
     module _ (w : Wanted) (sg : ShapesAreGood z.shapes) (wants : Wants z a (view s) w) where
@@ -115,7 +116,7 @@ module _ (k : Known) (z : Arena) (a : ℕ) (s : Shared) (m : Processor) (good : 
 
       new_step : StepFrom z a s (at_task m (waits w now)) None
       new_step = let l = k.waits.own_step z a s now good p in
-          record { move = l.move; may = l.may; words_are = l.words_are; after = record { after = None; fine = new_fine (moved z a s l.move) l.after.0 l.after.1 (wait.gives now found) refl; ever = l.after.0.0; answers = refl; full = λ y e full. absurd (none y e) } } where
+          record { move = l.move; may = l.may; words_are = l.words_are; after = record { after = None; fine = new_fine (moved z a s l.move) l.after.0 l.after.1 (wait.gives now found) refl; ever = l.after.0.0; answers = refl; full = λ y e full. absurd (none y e); counts = tt } } where
             none : (y : Act) → None ≡ Some y → ⊥
             none y e = cc
 

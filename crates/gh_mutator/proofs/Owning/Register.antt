@@ -27,6 +27,7 @@ step_from g d (source.Int n) z a s m pending shapes good x = record {
     ever = refl;
     answers = answered_once answer.Done _ pending x.task.2 refl;
     full = has_room (λ (y : Act). FullAt z a (view s) (at_task m (task.Register (begins g d (source.Int n)))) y.op) (op.Int g d n);
+    counts = tt;
   };
 }
 step_from g d (source.Move r) z a s m pending shapes good x =
@@ -41,6 +42,7 @@ step_from g d (source.Move r) z a s m pending shapes good x =
         ever = refl;
         answers = answered_once answer.Done _ pending x.task.3 refl;
         full = has_room (λ (y : Act). FullAt z a (view s) (at_task m (task.Register (begins g d (source.Move r)))) y.op) (op.Move g d r);
+        counts = tt;
       };
     }
 step_from g d source.Nil z a s m pending shapes good x = record {
@@ -53,6 +55,7 @@ step_from g d source.Nil z a s m pending shapes good x = record {
     ever = refl;
     answers = answered_once answer.Done _ pending x.task.2 refl;
     full = has_room (λ (y : Act). FullAt z a (view s) (at_task m (task.Register (begins g d source.Nil))) y.op) (op.Nil g d);
+    counts = tt;
   };
 }
 

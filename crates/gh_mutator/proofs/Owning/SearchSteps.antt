@@ -2,7 +2,7 @@
 use Rattle.std.proofs.Common.{◌≡◌, ℕ, ◌+◌, ◌*◌, ◌/◌, ◌<◌, Bool, true, false, List, ◌++◌, length, get_or, Option, Some, None, refl, sym, ap, subst, ◌∙◌, arith}
 use Rattle.std.specs.Option.{option_to_list}
 use Rattle.gh_mutator.proofs.Owning.Vocabulary.{Act, acted, acting, answered_at, at_task, cache_span, cache_with, CachesAll, Does, Fine, for_whom, lists, makes, op_of, own_span, rest, Searches, searches, ShapesAreGood}
-use Rattle.gh_mutator.specs.Vocabulary.{Answer, Arena, At, CachedSpan, cell_of, Finding, FindStage, FitsShape, FitsSlot, Found, Good, IsSought, KeepsItsOwn, KeepsObjects, Large, moved, Name, NoRoom, page_of, Processor, Runs, Seeking, Shape, shape_at, Shared, size_class_of, SizeClass, slot_words, slot_words_of, Sought, SPAN_CLASSES, SpanClass, SpanHead, Steps, View, view, Wanted}
+use Rattle.gh_mutator.specs.Vocabulary.{AllSwept, Answer, Arena, At, CachedSpan, cell_of, Finding, FindStage, FitsShape, FitsSlot, Found, Good, IsSought, KeepsItsOwn, KeepsObjects, Large, moved, Name, NoRoom, page_of, Processor, Runs, Seeking, Shape, shape_at, Shared, size_class_of, SizeClass, slot_words, slot_words_of, Sought, SPAN_CLASSES, SpanClass, SpanHead, Steps, View, view, Wanted}
 use Rattle.gh_base.specs.declared.pack.PageWord.TheVariants as page
 use Rattle.gh_class.specs.declared.class.SizeClass.TheVariants as size
 use Rattle.gh_heap.specs.Rights.{Claims}
@@ -19,6 +19,7 @@ use Rattle.gh_alloc.specs.SearchFacts as search
 use Rattle.gh_mutator.specs.New.{after_search, answer_search, placing, refuses, sought_by}
 use Rattle.gh_mutator.proofs.NewSteps.{search_wants}
 use Rattle.gh_mutator.specs.Give.{span_class}
+use Rattle.gh_mutator.proofs.Holding.Known.{holds_swept, HoldsSwept}
 use Rattle.gh_mutator.proofs.Holding.Lists.{index_of, listed_at}
 use Rattle.gh_mutator.proofs.Owning.Known.{Known}
 use Rattle.gh_mutator.proofs.Owning.NoRoom.{refused, waits-then}
@@ -109,9 +110,9 @@ module _ (k : Known) (z : Arena) (a : ℕ) (s : Shared) (m : Processor) (x : Wan
   caching = cache_span m x.sought next.find.cached
 
   -- it is made there
-  finds : (t : Shared) (y : ℕ) → ShapesAreGood z.shapes → Steady z a now m → Searches z a now m x q None → KeepsObjects now (view t) → KeepsItsOwn a now (view t) → find.HasFound z a (view t) (rest m x) next.find y →
+  finds : (t : Shared) (y : ℕ) → ShapesAreGood z.shapes → Steady z a now m → Searches z a now m x q None → KeepsObjects now (view t) → HoldsSwept a now → KeepsItsOwn a now (view t) → find.HasFound z a (view t) (rest m x) next.find y →
       Fine z a (view t) (at_task caching (makes x (placing z.shapes caching x y))) None
-  finds t y sg st r o own h = record {
+  finds t y sg st r o swept own h = record {
     counts = steady.0;
     knows = steady.1;
     right = record { locked = h.right.locked; holds = λ p. h.right.holds p ∙ held p; laying = h.right.laying; freeing = h.right.freeing };
@@ -140,7 +141,7 @@ module _ (k : Known) (z : Arena) (a : ℕ) (s : Shared) (m : Processor) (x : Wan
     others p e = h.right.holds p ∙ rest-held (find.own_found next.find.wanted y) (find.head_of next.find.cached) (rest m x) p e
 
     steady : Steady z a (view t) caching
-    steady = steady-cached z a now (view t) m x.sought next.find.cached o own.generation (caches-then a now (view t) m x next.find.cached own others st.1.stands.sits.cache sought caches st.1.knows.caches) st
+    steady = steady-cached z a now (view t) m x.sought next.find.cached o own.generation (caches-then a now (view t) m x next.find.cached swept own others st.1.stands.sits.cache sought caches st.1.knows.caches) st
 
     held : (p : ℕ) → find.with_span (find.own_found next.find.wanted y) (find.with_span (find.head_of next.find.cached) (rest m x)) p ≡ find.with_span (find.own_found x.sought y) (lists (cache_with m.poll.local.cache x.sought next.find.cached)) p
     held p = ap (λ (w : Sought). find.with_span (find.own_found w y) (find.with_span (find.head_of next.find.cached) (rest m x)) p) wanted
@@ -193,6 +194,7 @@ module _ (k : Known) (z : Arena) (a : ℕ) (s : Shared) (m : Processor) (x : Wan
     ever = o.0 ∙ sym (ap (λ (b : Bool). acted z.shapes s.ever (acting b (op_of x) true)) none);
     answers = ap (λ (b : Bool). option_to_list (answered_at z.shapes s.ever (acting b (op_of x) true)) ++ option_to_list None) none ∙ ap (λ (y : Option Answer). option_to_list None ++ option_to_list y) (sym (ap (answer_search waited) e ∙ silent));
     full = λ y acts full. absurd (no-act y (ap (λ (b : Bool). acting b (op_of x) true) (sym none) ∙ acts));
+    counts = tt;
   } where
     none : refuses waited (searcher.gives q found) ≡ false
     none = ap (refuses waited) e ∙ some
@@ -200,23 +202,23 @@ module _ (k : Known) (z : Arena) (a : ℕ) (s : Shared) (m : Processor) (x : Wan
     no-act : (y : Act) → None ≡ Some y → ⊥
     no-act y e = cc
 
-  short : (waited : Bool) (t : Shared) (out : Option Found) → searcher.gives q found ≡ out → ShapesAreGood z.shapes → Steady z a now m → Searches z a now m x q None → KeepsItsOwn a now (view t) → KeepsObjects now (view t) → search.Comes z a (view t) (rest m x) out next → Does z a s t (searching waited) None found
-  short true t None e sg st r own o c = does t true None e refl refl o (goes-on z a s m x q t true st r o own c)
-  short false t None e sg st r own o c = does t false None e refl refl o (goes-on z a s m x q t false st r o own c)
-  short true t (Some (At y)) e sg st r own o c = does t true (Some (At y)) e refl refl o (finds t y sg st r o own c)
-  short false t (Some (At y)) e sg st r own o c = does t false (Some (At y)) e refl refl o (finds t y sg st r o own c)
-  short waited t (Some NoRoom) e sg st r own o c = absurd c
+  short : (waited : Bool) (t : Shared) (out : Option Found) → searcher.gives q found ≡ out → ShapesAreGood z.shapes → Steady z a now m → Searches z a now m x q None → HoldsSwept a now → KeepsItsOwn a now (view t) → KeepsObjects now (view t) → search.Comes z a (view t) (rest m x) out next → Does z a s t (searching waited) None found
+  short true t None e sg st r swept own o c = does t true None e refl refl o (goes-on z a s m x q t true st r o swept own c)
+  short false t None e sg st r swept own o c = does t false None e refl refl o (goes-on z a s m x q t false st r o swept own c)
+  short true t (Some (At y)) e sg st r swept own o c = does t true (Some (At y)) e refl refl o (finds t y sg st r o swept own c)
+  short false t (Some (At y)) e sg st r swept own o c = does t false (Some (At y)) e refl refl o (finds t y sg st r o swept own c)
+  short waited t (Some NoRoom) e sg st r swept own o c = absurd c
 
-  steps : (waited : Bool) → ShapesAreGood z.shapes → Good z now → Steady z a now m → search.Has a now (rest m x) q → Searches z a now m x q None → searcher.refuses q ≡ false → Steps z a s (searcher.asks q) (λ t. Does z a s t (searching waited) None found)
-  steps waited sg g st has r on =
-      let l = k.search.own_step z a s (rest m x) q g has r.facts on in
-      record { move = l.move; may = l.may; words_are = l.words_are; after = short waited (moved z a s l.move) (searcher.gives q found) refl sg st r (k.own z a s l.move g l.may) l.after.0 l.after.1 }
+  steps : (waited : Bool) → ShapesAreGood z.shapes → Good z now → AllSwept now → Steady z a now m → search.Has a now (rest m x) q → Searches z a now m x q None → searcher.refuses q ≡ false → Steps z a s (searcher.asks q) (λ t. Does z a s t (searching waited) None found)
+  steps waited sg g all st has r on =
+      let l = k.search.own_step z a s (rest m x) q g all has r.facts on in
+      record { move = l.move; may = l.may; words_are = l.words_are; after = short waited (moved z a s l.move) (searcher.gives q found) refl sg st r (holds_swept z a now g) (k.own z a s l.move g l.may) l.after.0 l.after.1 }
 
 module _ (k : Known) (z : Arena) (a : ℕ) (s : Shared) (m : Processor) (x : Wanted) (waited : Bool) where
   abbrev Own : Bool → Seeking → Type 0
   Own again y = Steps z a s (searcher.asks y) (λ t. Does z a s t (at_task m (searches x again y)) None (s.words (cell_of (searcher.asks y))))
 
-  module _ (q : Seeking) (sg : ShapesAreGood z.shapes) (g : Good z (view s)) (st : Steady z a (view s) m) where
+  module _ (q : Seeking) (sg : ShapesAreGood z.shapes) (g : Good z (view s)) (all : AllSwept (view s)) (st : Steady z a (view s) m) where
     -- the search at its last step
     abbrev last : Seeking
     last = record { find = finder.at_stage q.find (finder_stage.Unlock (After.End NoRoom)); stage = search_stage.Second }
@@ -233,13 +235,13 @@ module _ (k : Known) (z : Arena) (a : ℕ) (s : Shared) (m : Processor) (x : Wan
     search-step : search.Has a (view s) (rest m x) q → Searches z a (view s) m x q None → Own waited q
     search-step has r = go (searcher.refuses q) refl where
       go : (b : Bool) → searcher.refuses q ≡ b → Own waited q
-      go false e = steps k z a s m x q waited sg g st has r e
+      go false e = steps k z a s m x q waited sg g all st has r e
       go true e =
           let no = k.search.none z a (view s) (rest m x) q r.facts e in
           let is : q ≡ last = at-last (finder_stage.Unlock (After.End NoRoom)) search_stage.Second no.unlocks no.stage in
           subst (Own waited) (sym is) (ends-at waited (subst (λ (y : Seeking). search.Has a (view s) (rest m x) y) is has) (subst (λ (y : Seeking). Searches z a (view s) m x y None) is r) (subst (λ (y : Seeking). search.FindsNone z (view s) y.find) is no.none))
 
-pub search-steps : Known → (z : Arena) (a : ℕ) (s : Shared) (m : Processor) (pending : Option Answer) (x : Wanted) (waited : Bool) (q : Seeking) → ShapesAreGood z.shapes → Good z (view s) → Fine z a (view s) (at_task m (searches x waited q)) pending →
+pub search-steps : Known → (z : Arena) (a : ℕ) (s : Shared) (m : Processor) (pending : Option Answer) (x : Wanted) (waited : Bool) (q : Seeking) → ShapesAreGood z.shapes → Good z (view s) → AllSwept (view s) → Fine z a (view s) (at_task m (searches x waited q)) pending →
     Steps z a s (searcher.asks q) (λ t. Does z a s t (at_task m (searches x waited q)) pending (s.words (cell_of (searcher.asks q))))
-search-steps k z a s m pending x waited q sg g fine = subst (λ (y : Option Answer). Steps z a s (searcher.asks q) (λ t. Does z a s t (at_task m (searches x waited q)) y (s.words (cell_of (searcher.asks q))))) (sym fine.task.unanswered)
-    (search-step k z a s m x waited q sg g (fine.counts, fine.knows) fine.right (record { wants = fine.task.wants; wanted = fine.task.wanted; cached = fine.task.cached; facts = fine.task.facts; unanswered = refl }))
+search-steps k z a s m pending x waited q sg g all fine = subst (λ (y : Option Answer). Steps z a s (searcher.asks q) (λ t. Does z a s t (at_task m (searches x waited q)) y (s.words (cell_of (searcher.asks q))))) (sym fine.task.unanswered)
+    (search-step k z a s m x waited q sg g all (fine.counts, fine.knows) fine.right (record { wants = fine.task.wants; wanted = fine.task.wanted; cached = fine.task.cached; facts = fine.task.facts; unanswered = refl }))

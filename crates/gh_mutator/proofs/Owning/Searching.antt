@@ -11,7 +11,7 @@ use Rattle.gh_alloc.specs.Search as searcher
 use Rattle.gh_alloc.specs.SearchFacts as search
 use Rattle.gh_mutator.specs.New.{seeking}
 use Rattle.gh_mutator.proofs.NewSteps.{search_wants}
-use Rattle.gh_mutator.proofs.Holding.Known.{cached_kept, stands_kept}
+use Rattle.gh_mutator.proofs.Holding.Known.{cached_kept, HoldsSwept, stands_kept}
 use Rattle.gh_mutator.proofs.Holding.Lists.{lists_it}
 use Rattle.gh_mutator.proofs.Owning.Cache.{cached-other, cached-same, cached-then, listed-once, lists-cached, same-class}
 use Rattle.gh_mutator.proofs.Owning.Known.{Known}
@@ -68,10 +68,10 @@ rest-at f search_stage.Second rest p e = rest-held (find.own f.stage) (find.head
 
 module _ (a : ℕ) (v w : View) (m : Processor) (x : Wanted) where
   -- each cached span is so still, where the search's is and the seat holds the others
-  pub caches-then : (j : Option CachedSpan) → KeepsItsOwn a v w → ((p : ℕ) → rest m x p ≡ true → w.holds a p ≡ true) → length m.poll.local.cache ≡ SPAN_CLASSES → IsSought x.sought → find.Caches a w x.sought j → CachesAll a v m.poll.local.cache → CachesAll a w (cache_with m.poll.local.cache x.sought j)
-  caches-then j own held long sought caches all d l below is = go x.sought refl where
+  pub caches-then : (j : Option CachedSpan) → HoldsSwept a v → KeepsItsOwn a v w → ((p : ℕ) → rest m x p ≡ true → w.holds a p ≡ true) → length m.poll.local.cache ≡ SPAN_CLASSES → IsSought x.sought → find.Caches a w x.sought j → CachesAll a v m.poll.local.cache → CachesAll a w (cache_with m.poll.local.cache x.sought j)
+  caches-then j swept own held long sought caches all d l below is = go x.sought refl where
     old : cached_for m (Small d) ≡ Some l → rest m x l.head ≡ true → find.IsCached a w d l
-    old e r = cached_kept a v w own d l (held l.head r) (all d l below e)
+    old e r = cached_kept a v w swept own d l (held l.head r) (all d l below e)
 
     small : (c : SpanClass) → x.sought ≡ Small c → c.class < 25 → (b : Bool) → eqb (span_index d) (span_index c) ≡ b → find.IsCached a w d l
     small c e low true t =
@@ -161,8 +161,8 @@ module _ (z : Arena) (a : ℕ) (s : Shared) (m : Processor) (x : Wanted) (q : Se
   abbrev caching : Processor
   caching = cache_span m x.sought next.find.cached
 
-  pub goes-on : (t : Shared) (waited : Bool) → Steady z a now m → Searches z a now m x q None → KeepsObjects now (view t) → KeepsItsOwn a now (view t) → search.Has a (view t) (rest m x) next × search.Facts z a (view t) (rest m x) next → Fine z a (view t) (at_task caching (searches x waited next)) None
-  goes-on t waited st r o own c = record {
+  pub goes-on : (t : Shared) (waited : Bool) → Steady z a now m → Searches z a now m x q None → KeepsObjects now (view t) → HoldsSwept a now → KeepsItsOwn a now (view t) → search.Has a (view t) (rest m x) next × search.Facts z a (view t) (rest m x) next → Fine z a (view t) (at_task caching (searches x waited next)) None
+  goes-on t waited st r o swept own c = record {
     counts = steady.0;
     knows = steady.1;
     right = record { locked = c.0.locked; holds = λ p. c.0.holds p ∙ ap (λ (xs : List (Option CachedSpan)). search.held next.find next.stage (lists xs) p) (sym again); laying = c.0.laying; freeing = c.0.freeing };
@@ -190,7 +190,7 @@ module _ (z : Arena) (a : ℕ) (s : Shared) (m : Processor) (x : Wanted) (q : Se
     others p e = c.0.holds p ∙ rest-at next.find next.stage (rest m x) p e
 
     steady : Steady z a (view t) caching
-    steady = steady-cached z a now (view t) m x.sought next.find.cached o own.generation (caches-then a now (view t) m x next.find.cached own others st.1.stands.sits.cache sought kept st.1.knows.caches) st
+    steady = steady-cached z a now (view t) m x.sought next.find.cached o own.generation (caches-then a now (view t) m x next.find.cached swept own others st.1.stands.sits.cache sought kept st.1.knows.caches) st
 
     again : cache_with (cache_with m.poll.local.cache x.sought next.find.cached) x.sought None ≡ cache_with m.poll.local.cache x.sought None
     again = cached-then m.poll.local.cache x.sought next.find.cached None

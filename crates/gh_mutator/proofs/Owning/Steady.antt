@@ -10,7 +10,7 @@ use Rattle.gh_heap.specs.Spans.{Freeing, Laying}
 use Rattle.gh_alloc.specs.FindFacts.{IsCached}
 use Rattle.gh_mutator.specs.Local.{register_in, stacks_with, with_cached, with_register}
 use Rattle.gh_mutator.specs.Vocabulary.{Arena, CachedSpan, Ever, EverValue, IsOf, KeepsItsOwn, KeepsObjects, Large, Means, MOST_GOROUTINES, Polling, Processor, REGISTERS, Right, Row, Runs, Small, Sought, SpanClass, Value, View, with_register as ever_with}
-use Rattle.gh_mutator.proofs.Holding.Known.{cached_kept, stands_kept}
+use Rattle.gh_mutator.proofs.Holding.Known.{cached_kept, HoldsSwept, stands_kept}
 use Rattle.gh_mutator.proofs.Holding.Lists.{lists_it}
 use Rattle.gh_mutator.proofs.Owning.Vocabulary.{cache_with, CachesAll, KnowsCounts, KnowsSpans, lists, RegistersFit, register_at, Rests, set_register, Sits}
 
@@ -139,14 +139,14 @@ pub same_runs : (z : Arena) (a g : ℕ) (v w : View) → KeepsObjects v w → Ru
 same_runs z a g v w o r = record { of = r.of; goes_on = ap (λ (e : Ever). e.ended g) o.0 ∙ r.goes_on }
 
 -- what it holds still, where no object is made and no value changes
-pub steady_on : (z : Arena) (a : ℕ) (v w : View) (m : Processor) → KeepsObjects v w → KeepsItsOwn a v w → ((p : ℕ) → lists m.poll.local.cache p ≡ true → w.holds a p ≡ true) → Steady z a v m → Steady z a w m
-steady_on z a v w m o own held st = (
+pub steady_on : (z : Arena) (a : ℕ) (v w : View) (m : Processor) → KeepsObjects v w → HoldsSwept a v → KeepsItsOwn a v w → ((p : ℕ) → lists m.poll.local.cache p ≡ true → w.holds a p ≡ true) → Steady z a v m → Steady z a w m
+steady_on z a v w m o swept own held st = (
   same_counts z a v w m.made o st.0,
   record {
     stands = stands_kept z a v w m.poll o st.1.stands;
     knows = record {
       generation = st.1.knows.generation ∙ sym own.generation;
-      caches = λ c k below is. cached_kept a v w own c k (held k.head (lists_it m.poll.local.cache _ k.head k is refl)) (st.1.knows.caches c k below is);
+      caches = λ c k below is. cached_kept a v w swept own c k (held k.head (lists_it m.poll.local.cache _ k.head k is refl)) (st.1.knows.caches c k below is);
     };
   },
 )

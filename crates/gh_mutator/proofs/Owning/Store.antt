@@ -101,7 +101,7 @@ module _ (laws : Known) (z : Arena) (a : ℕ) (s : Shared) (m : Processor) (x : 
   To t pending next = Comes Store task.Store z a s t m x.g x.v (op_of x) pending next
 
   does : (q : StoreStage) (pending : Option Answer) (t : Shared) → ToWith (held_behind m.poll.local.held q (found q)) t pending (step m.poll.layout m.poll.local held (at_stage x q) (found q)) → Does z a s t (here q) pending (found q)
-  does q pending t c = record { after = c.after; fine = c.fine; ever = c.ever; answers = c.answers; full = λ y is full. absurd (not_full (step m.poll.layout m.poll.local held (at_stage x q) (found q)).acts (op_of x) y is full) }
+  does q pending t c = record { after = c.after; fine = c.fine; ever = c.ever; answers = c.answers; full = λ y is full. absurd (not_full (step m.poll.layout m.poll.local held (at_stage x q) (found q)).acts (op_of x) y is full); counts = tt }
 
   module _ (steady : Steady z a (view s) m) (right : HasCached a (view s) m) where
     heap : (i : ℕ) → i % (1024 * z.layout.pages) < 1024 * z.layout.pages

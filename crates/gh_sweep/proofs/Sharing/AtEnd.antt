@@ -1,4 +1,4 @@
--- What holds at every moment holds where the cycle has ended.
+-- What holds at every moment holds where the cycle has ended, and nobody sweeps there.
 use Rattle.std.proofs.Common.{◌≡◌, ◌≢◌, ℕ, zero, suc, ◌+◌, ◌-◌, ◌*◌, ◌/◌, ◌%◌, ◌^◌, ◌<◌, Bool, true, false, not, cond, refl, sym, ap, ◌∙◌, arith, inl, inr}
 use Rattle.std.specs.Prelude.{bit_and, count_ones, ◌||◌}
 use Rattle.std.specs.Int.{bit_at}
@@ -13,8 +13,8 @@ use Rattle.gh_base.specs.Cells.{seats_of}
 use Rattle.gh_base.specs.Packing.{page_of}
 use Rattle.gh_base.specs.Rows.{page_words, Row, row_bit, RowsAreWritten}
 use Rattle.gh_sweep.specs.Bits.{sum_below}
-use Rattle.gh_sweep.specs.Runs.{at_end, far_in, in_no_span, reaches, some_below}
-use Rattle.gh_sweep.specs.Shared.{alloc_at, bit_words_of, cleared_at, CycleEnd, Due, freed_at, generation_of, Good, HasEnded, HeapGood, in_all, InSpan, kept_at, LeftGood, left, live_at, LiveGood, marks_at, MarksGood, nothing, owed, SaysFar, TallyGood, view}
+use Rattle.gh_sweep.specs.AtEnd.{at_end, EndsWell, far_in, in_no_span, reaches, some_below}
+use Rattle.gh_sweep.specs.Shared.{alloc_at, bit_words_of, By, cleared_at, CycleEnd, Due, freed_at, generation_of, Good, HasEnded, HeapGood, in_all, InSpan, kept_at, LeftGood, left, live_at, LiveGood, marks_at, MarksGood, nothing, owed, SaysFar, TallyGood, view}
 use Rattle.gh_sweep.proofs.Sharing.Pages.{unswept_done}
 use Rattle.gh_sweep.proofs.Sharing.Sums.{left_all, sum_zero}
 
@@ -85,7 +85,7 @@ module _ (rows : RowsAreWritten) (e : CycleEnd) (ended : HasEnded e) where
   none_there : (i : ℕ) → flag i ≡ true → (alloc_at e i ≡ 0) × (marks_at e i ≡ 0)
   none_there i is = ended.outside i (no_span (page_words e.words) i is)
 
-  unswept : LeftGood (page_words e.words) (at_end e).shared.far flag
+  unswept : LeftGood (page_words e.words) (at_end e).far flag
   unswept i is =
       let s = span_found (page_words e.words) i is in
       record { span = s; unswept = λ done. unswept_done (ap far_in (sym s.head) ∙ done) }
@@ -107,7 +107,7 @@ module _ (rows : RowsAreWritten) (e : CycleEnd) (ended : HasEnded e) where
 
   -- Nothing is told, owed or pending, and in words that need no sweep nothing was.
 
-  owes_none : (part : Due → ℕ) → part nothing ≡ 0 → owed part (at_end e).shared.due (seats_of e.layout) ≡ 0
+  owes_none : (part : Due → ℕ) → part nothing ≡ 0 → owed part (at_end e).due (seats_of e.layout) ≡ 0
   owes_none part none = sum_zero (λ a. part nothing) (seats_of e.layout) (λ a l. none)
 
   no_ones : (word with : ℕ) → word ≡ 0 → count_ones (bit_and word with) ≡ 0
@@ -125,23 +125,23 @@ module _ (rows : RowsAreWritten) (e : CycleEnd) (ended : HasEnded e) where
   all_left : (each : ℕ → ℕ) → ((i : ℕ) → flag i ≡ true → each i ≡ 0) → left each flag (bit_words_of e) ≡ in_all e each
   all_left each none = left_all each flag (bit_words_of e) none
 
-  tallied : TallyGood e (e.words cell.Tally) flag (at_end e).shared.due
+  tallied : TallyGood e (e.words cell.Tally) flag (at_end e).due
   tallied = record {
     marked = omega (arith, all_left (kept_at e) no_kept, owes_none (λ d. d.kept) refl, ended.tally);
     freed = omega (arith, all_left (freed_at e) no_freed, owes_none (λ d. d.freed) refl, ended.tally);
   }
 
-  lives : LiveGood e (e.words cell.Live) flag (at_end e).shared.due
+  lives : LiveGood e (e.words cell.Live) flag (at_end e).due
   lives = omega (arith, all_left (live_at e) (λ i is. no_bytes (kept_at e i) i (no_kept i is)), owes_none (λ d. d.live) refl, ended.live)
 
-  counted : HeapGood e (e.words cell.Heap) (alloc_at e) e.slot flag (at_end e).shared.due (at_end e).shared.pend
+  counted : HeapGood e (e.words cell.Heap) (alloc_at e) e.slot flag (at_end e).due (at_end e).pend
   counted =
       let pend : sum_below (λ a. 0) (seats_of e.layout) ≡ 0 = sum_zero (λ a. 0) (seats_of e.layout) (λ a l. refl) in
       let due = owes_none (λ d. d.cleared) refl in
       let all = all_left (cleared_at e) (λ i is. no_bytes (freed_at e i) i (no_freed i is)) in
       record { heap = omega (arith, pend, due, ended.heap); pending = omega (arith, pend); freed = omega (arith, due, all) }
 
-  pub good_at_end : Good e (view (at_end e).shared)
+  good_at_end : Good e (view (at_end e))
   good_at_end = record {
     generation = refl;
     heads = ended.heads;
@@ -165,3 +165,14 @@ module _ (rows : RowsAreWritten) (e : CycleEnd) (ended : HasEnded e) where
     lives = lives;
     counted = counted;
   }
+
+nobody : (a : ℕ) (w : PageWord) → far_in w ≢ By a
+nobody a Free by = cc
+nobody a (Head h) by = cc
+nobody a (Body b) by = cc
+
+pub ends_well : RowsAreWritten → EndsWell
+ends_well rows = record {
+  good = λ e ended. good_at_end rows e ended;
+  rests = λ e a ended. record { none = λ p by. nobody a (page_of (e.words (cell.Page p))) by; told = refl };
+}

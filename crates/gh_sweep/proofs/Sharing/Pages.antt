@@ -9,7 +9,7 @@ use Rattle.gh_base.specs.Rows.{Row, with_word}
 use Rattle.gh_heap.specs.Moves.{update}
 use Rattle.gh_sweep.specs.Listing.{slot_bytes}
 use Rattle.gh_sweep.specs.Shared.{ApartGood, By, Done, Far, HeadsGood, InSpan, InsideGood, IsHeadIn, IsNumbered, LeftGood, NumbersGood, SaysFar, SlotsGood, Unswept, UntouchedGood}
-use Rattle.gh_sweep.proofs.Sharing.Sums.{at_entry, off_entry}
+use Rattle.gh_sweep.proofs.Sharing.Sums.{off_entry}
 
 pub same_head : (h g : SpanHead) → Head h ≡ Head g → h ≡ g
 same_head h g e = cc
@@ -38,9 +38,6 @@ module _ (generation : ℕ) (h : SpanHead) where
   tells_done Unswept n e = let m = n.0 in absurd (omega arith)
   tells_done (By a) n e = let m = n.0 in absurd (omega arith)
   tells_done Done n e = refl
-
-  pub numbered_done : (f : Far) → IsNumbered generation h f → f ≡ Done → h.number ≡ generation
-  numbered_done f n e = subst (λ (g : Far). IsNumbered generation h g) e n
 
 module _ (generation : ℕ) (page : Row) (far : ℕ → Far) (good : NumbersGood generation page far) where
   pub numbered : (p : ℕ) (h : SpanHead) → page_of (page p) ≡ Head h → IsNumbered generation h (far p)

@@ -66,10 +66,6 @@ left_at each cut i n l un =
     let is : cond (update cut i true i) 0 (each i) ≡ 0 = ap (λ (b : Bool). cond b 0 (each i)) (at_entry cut i true) in
     omega (arith, e, was, is)
 
--- where each word is cut nothing is left
-pub left_none : (each : ℕ → ℕ) (cut : ℕ → Bool) (n : ℕ) → ((i : ℕ) → i < n → cut i ≡ true) → left each cut n ≡ 0
-left_none each cut n h = sum_zero (λ j. cond (cut j) 0 (each j)) n (λ q l. ap (λ (b : Bool). cond b 0 (each q)) (h q l))
-
 -- where only words without anything are cut all is left
 pub left_all : (each : ℕ → ℕ) (cut : ℕ → Bool) (n : ℕ) → ((i : ℕ) → cut i ≡ true → each i ≡ 0) → left each cut n ≡ sum_below each n
 left_all each cut n h = sum_same _ _ n (λ q l. go q (cut q) refl) where

@@ -93,9 +93,8 @@ module _ (z : Arena) (a : ℕ) (v : View) (m : Processor) (es : List (Entry Op))
       let y = both (ltb g z.layout.goroutines) (ltb d REGISTERS) (range (op.Nil g d) may) in
       (of-goroutine (op.Nil g d) g refl may y.0, ltb-true d REGISTERS y.1)
   may-begin (op.Gc g) may = tt
-  may-begin op.Poll may = tt
   may-begin (op.End g) may = of-goroutine (op.End g) g refl may (range (op.End g) may)
-  may-begin op.Leave may = tt
+  may-begin _ may = tt
 
 -- A goroutine ends by its end alone.
 
@@ -107,12 +106,7 @@ pub stores-end : (e : Ever) (b : EverValue) (k h : ℕ) (v : EverValue) (x : Ans
 stores-end e ever.Nil k h v x = refl
 stores-end e (ever.Int n) k h v x = refl
 stores-end e (ever.Ref n) k h v answer.Done = refl
-stores-end e (ever.Ref n) k h v answer.Nil = refl
-stores-end e (ever.Ref n) k h v (answer.Int i) = refl
-stores-end e (ever.Ref n) k h v (answer.Ref i) = refl
-stores-end e (ever.Ref n) k h v answer.Swept = refl
-stores-end e (ever.Ref n) k h v answer.Full = refl
-stores-end e (ever.Ref n) k h v (answer.Fault f) = refl
+stores-end e (ever.Ref n) k h v _ = refl
 
 pub sets-end : (e : Ever) (k h : ℕ) (v : EverValue) (x : Answer) → (sets_global e k v x).ended h ≡ e.ended h
 sets-end e k h v answer.Done = refl

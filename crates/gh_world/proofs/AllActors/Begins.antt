@@ -20,8 +20,8 @@ use Rattle.gh_world.specs.Numbers.{open_part}
 use Rattle.gh_world.proofs.Vocabulary.{actors_after, ahead_at, Arena, arena, AreRegisters, Begun, bit_at, Coordinating, CoordStage, Cycle, END, Entry, Ever, EverValue, Hands, HasCursor, HoldsAt, IsAsItShould, IsBeginning, IsInLimits, IsLed, IsOf, IsReady, IsToBegin, Layout, Legal, mark_words, MarkFacts, Marking, MayBegin, Means, nothing, Op, Open, Pacing, part_of, Processor, processor_at, reference_of, register_at, REGISTERS, row_bit, Shape, Stands, those, Value, view, Words, words, ◌%◌}
 use Rattle.gh_world.proofs.AllActors.Drawing.{drawn_first}
 use Rattle.gh_world.proofs.AllActors.Known.{Known, ListsKnown}
-use Rattle.gh_world.proofs.AllActors.LeadingSeat.{owes_nothing}
 use Rattle.gh_world.proofs.AllActors.Resting.{run_is}
+use Rattle.gh_world.proofs.AllActors.Tied.{is_of_heap}
 use Rattle.gh_world.proofs.CycleMarking.Moving.{begin_post}
 
 -- What a value names, by the two ways to say it.
@@ -71,18 +71,18 @@ module _ (shapes : List Shape) (l : Layout) (pacing : Pacing) (may : ℕ → Lis
   cycle = record { arena = z; number = c.begun; few = few }
 
   module _ (r : IsReady shapes l pacing may es c) (cursor : words shapes l pacing may es cell.Gcur ≡ 0) where
-    rest : IsAtRest z c.begun r.heap
+    rest : IsAtRest z c.begun r.has.state.heap
     rest = record {
-      marks = λ o. clear_bit r.heap.words o (r.marks (o / 64));
-      buffers = r.buffers;
-      cursor = ap (λ (w : Words). w cell.Gcur) r.of_list.words_are ∙ cursor;
-      scanned = r.stacks;
-      over = λ g. (r.of_list.stacks g).0;
-      none = r.of_list.globals;
+      marks = λ o. clear_bit r.has.state.heap.words o (r.marks (o / 64));
+      buffers = r.nobody.buffers;
+      cursor = ap (λ (w : Words). w cell.Gcur) r.has.of_list.words_are ∙ cursor;
+      scanned = r.nobody.stacks;
+      over = λ g. (r.has.of_list.stacks g).0;
+      none = r.has.of_list.globals;
     }
 
-    opened : IsOpened cycle r.heap
-    opened = known.opens cycle r.heap r.good r.of_list.bounded rest
+    opened : IsOpened cycle r.has.state.heap
+    opened = known.opens cycle r.has.state.heap r.has.good.heap r.has.of_list.bounded rest
 
     abbrev s : Marking
     s = opened.marking
@@ -90,8 +90,8 @@ module _ (shapes : List Shape) (l : Layout) (pacing : Pacing) (may : ℕ → Lis
     seats : (a : ℕ) → Hands a s nothing
     seats = (known.marking cycle s opened.opens).seats
 
-    beside : IsBeside z r.heap s
-    beside = known.beside_begins cycle r.heap s r.good r.of_list.bounded rest opened.of_heap opened.registers (λ o a is. absurd (let none : None ≡ Some o = ((seats a).has.is_reserved o).1 is in cc))
+    beside : IsBeside z r.has.state.heap s
+    beside = known.beside_begins cycle r.has.state.heap s r.has.good.heap r.has.of_list.bounded rest opened.of_heap opened.registers (λ o a is. absurd (let none : None ≡ Some o = ((seats a).has.is_reserved o).1 is in cc))
 
     module _ (a : ℕ) (m : Processor) (lt : a < l.procs) (is : actors_after z pacing may es a ≡ actor.Runs m) where
       same : processor_at shapes l pacing may es a ≡ m
@@ -100,17 +100,17 @@ module _ (shapes : List Shape) (l : Layout) (pacing : Pacing) (may : ℕ → Lis
       abbrev it : Processor
       it = processor_at shapes l pacing may es a
 
-      should : IsAsItShould shapes l pacing may es r.heap a it
-      should = r.of_list.processors a lt
+      should : IsAsItShould shapes l pacing may es r.has.state.heap a it
+      should = r.has.of_list.processors a lt
 
-      stands : Stands z a (view r.heap) it.poll
-      stands = known.runs.stands z a (view r.heap) it should.pending should.fine
+      stands : Stands z a (view r.has.state.heap) it.poll
+      stands = known.runs.stands z a (view r.has.state.heap) it should.pending should.fine
 
-      goes_on : (g : ℕ) → s.words (cell.Scanned g) ≢ END → r.heap.ever.ended g ≡ false
-      goes_on g other = go (r.heap.ever.ended g) refl where
-        go : (x : Bool) → r.heap.ever.ended g ≡ x → r.heap.ever.ended g ≡ false
+      goes_on : (g : ℕ) → s.words (cell.Scanned g) ≢ END → r.has.state.heap.ever.ended g ≡ false
+      goes_on g other = go (r.has.state.heap.ever.ended g) refl where
+        go : (x : Bool) → r.has.state.heap.ever.ended g ≡ x → r.has.state.heap.ever.ended g ≡ false
         go false x = x
-        go true x = absurd (other (ap (λ (w : Words). w (cell.Scanned g)) opened.of_heap.words ∙ (r.of_list.stacks g).1 x))
+        go true x = absurd (other (ap (λ (w : Words). w (cell.Scanned g)) opened.of_heap.words ∙ (r.has.of_list.stacks g).1 x))
 
       few_goroutines : (g : ℕ) → IsOf z a g → g < MOST_GOROUTINES
       few_goroutines g its = omega (arith, its.0, limits.goroutines_fit.1)
@@ -118,13 +118,13 @@ module _ (shapes : List Shape) (l : Layout) (pacing : Pacing) (may : ℕ → Lis
       registers : (g : ℕ) → IsOf z a g → s.words (cell.Scanned g) ≢ END → AreRegisters (s.registers g) (slice_index_or it.poll.local.stacks g [])
       registers g its other = record {
         whole = whole;
-        each = λ d below. opened.registers g d ∙ (ap (λ (x : Bool). cond x 0 (reference_of r.heap.place (r.heap.ever.register g d))) (goes_on g other) ∙ same_name r.heap.place r.heap.ever.made (r.heap.ever.register g d) (register_at it.poll g d) (means d below));
-        some = λ d reference below holds. some_name r.heap.place r.heap.ever.made (r.heap.ever.register g d) reference (subst (λ (v : Value). Means r.heap.place r.heap.ever.made (r.heap.ever.register g d) v) holds (means d below));
+        each = λ d below. opened.registers g d ∙ (ap (λ (x : Bool). cond x 0 (reference_of r.has.state.heap.place (r.has.state.heap.ever.register g d))) (goes_on g other) ∙ same_name r.has.state.heap.place r.has.state.heap.ever.made (r.has.state.heap.ever.register g d) (register_at it.poll g d) (means d below));
+        some = λ d reference below holds. some_name r.has.state.heap.place r.has.state.heap.ever.made (r.has.state.heap.ever.register g d) reference (subst (λ (v : Value). Means r.has.state.heap.place r.has.state.heap.ever.made (r.has.state.heap.ever.register g d) v) holds (means d below));
       } where
         whole : length (slice_index_or it.poll.local.stacks g []) ≡ REGISTERS
         whole = stands.sits.registers g (few_goroutines g its)
 
-        means : (d : ℕ) → d < length (slice_index_or it.poll.local.stacks g []) → Means r.heap.place r.heap.ever.made (r.heap.ever.register g d) (register_at it.poll g d)
+        means : (d : ℕ) → d < length (slice_index_or it.poll.local.stacks g []) → Means r.has.state.heap.place r.has.state.heap.ever.made (r.has.state.heap.ever.register g d) (register_at it.poll g d)
         means d below = stands.registers g d its (subst (λ (x : ℕ). d < x) whole below)
 
       stacks : KnowsStacks cycle a s it.poll.local.stacks it.poll.local.scanned
@@ -141,7 +141,7 @@ module _ (shapes : List Shape) (l : Layout) (pacing : Pacing) (may : ℕ → Lis
         parked = (lists.keeps es legal).processors_wait c run.Off a it led (begin_post c.stage b) (omega (arith, lt)) (is ∙ sym (ap actor.Runs same));
         layout_is = stands.sits.layout;
         seat_is = stands.sits.seat;
-        no_buffer = (r.processors a lt).holds.none;
+        no_buffer = (r.nobody.processors a lt).holds.none;
         stacks = stacks;
         nothing_in_hand = seats a;
       }
@@ -156,24 +156,17 @@ module _ (shapes : List Shape) (l : Layout) (pacing : Pacing) (may : ℕ → Lis
     may_begin = record {
       cycle = cycle;
       shared = s;
-      is = record { arena_is = refl; number_is = refl; words_are = opened.of_heap.words ∙ r.of_list.words_are };
+      is = record { arena_is = refl; number_is = refl; words_are = opened.of_heap.words ∙ r.has.of_list.words_are };
       opens = opened.opens;
       known = record {
         arena_is = refl;
-        heap = r.heap;
-        of_list = r.of_list;
-        good = r.good;
+        has = r.has;
+        under_way = r.under_way;
         beside = beside;
         cycle = inl to_begin;
-        gone_on = subst (λ (v : Ever). HasGoneOn v r.heap s) r.of_list.ever_is (known.begins_so cycle r.heap s r.good r.of_list.bounded opened.of_heap);
-        drawn = drawn_first shapes l pacing may known.drawn cycle es s to_begin (opened.of_heap.words ∙ r.of_list.words_are) opened.opens;
-        end = r.end;
-        spans = r.spans;
-        tally = r.tally;
-        live = r.live;
-        calm = r.calm;
-        placing = λ a lt. r.owes_none a ∙ sym (owes_nothing shapes l pacing may known lists es legal c led run.Off (begin_post c.stage b) a lt);
-        others_place = λ a le. r.owes_none a;
+        gone_on = subst (λ (v : Ever). HasGoneOn v r.has.state.heap s) r.has.of_list.ever_is (known.begins_so cycle r.has.state.heap s r.has.good.heap r.has.of_list.bounded opened.of_heap);
+        stood = λ n x p. p;
+        drawn = drawn_first shapes l pacing may known.drawn cycle es s to_begin (opened.of_heap.words ∙ r.has.of_list.words_are) (is_of_heap shapes l pacing may known es r.has cycle s refl (known.marking cycle s opened.opens).good beside) opened.opens;
         marks_fit = λ i. let none = r.marks i in omega (arith, none);
       };
       processors = knows;

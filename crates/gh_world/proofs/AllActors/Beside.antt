@@ -10,6 +10,7 @@ use Rattle.gh_mutator.specs.declared.task.Task.TheVariants as task
 use Rattle.gh_mutator.specs.Beside.{KnowsMarking, StepsOn, Together}
 use Rattle.gh_mutator.specs.Sound.{has_room}
 use Rattle.gh_phase.specs.declared.view.RunPhase.TheVariants.{Mark}
+use Rattle.gh_world.specs.HoldVocabulary.{PassedBefore}
 use Rattle.gh_world.proofs.Vocabulary.{ahead_at, Answer, Arena, arena, Ask, asks, begins, by, Cell, cell_of, Check, Close, close_part, CloseStage, Coordinating, CoordStage, Cycle, DoesPoints, effect, END, Entry, Fine, has_left_at, Heap, is_busy_at, IsAwake, IsBeginning, IsInLimits, IsKnown, IsLed, IsSound, IsWritten, Kind, Layout, left, Legal, Load, MarkFacts, Marking, MarkingGood, MarkOn, may_of, moved, nat_tests, NewStage, only_polls, Op, Open, Pacing, part_of, party_at, party_of, Polling, Processor, processor_at, processor_kind, same_cell, Shape, ShapesAreGood, stage_at, stage_of, started, state_of, Steps as HeapSteps, StopAgain, Store, takes, Task, TellsScan, those, view, View, Wanted, Watch, Words, words, WritesOf}
 use Rattle.gh_world.proofs.AllActors.EndedStays.{ended_stays}
 use Rattle.gh_world.proofs.AllActors.Known.{Known, ListsKnown}
@@ -33,9 +34,8 @@ idle_is _ idle going = absurd (cc)
 -- while it marks a cycle the coordinator's number is that of the last that has begun
 close_begun : (p : CloseStage) → close.is_busy p ≡ true → ((ahead_at (close_part p)).begun ≡ 1) × ((ahead_at (close_part p)).numbered ≡ 1)
 close_begun close_stage.LoadBank busy = (refl, refl)
-close_begun close_stage.ClearBank busy = (refl, refl)
-close_begun close_stage.StoreGen busy = (refl, refl)
 close_begun close_stage.Ended busy = absurd (cc)
+close_begun _ busy = (refl, refl)
 
 marks_begun : (p : CoordStage) → leading.Marks p → ((ahead_at (part_of p)).begun ≡ 1) × ((ahead_at (part_of p)).numbered ≡ 1)
 marks_begun (Watch w) on = (refl, refl)
@@ -102,19 +102,22 @@ module _ (shapes : List Shape) (l : Layout) (pacing : Pacing) (counts : ℕ → 
     now = started k e.begun m
 
     abbrev h : Heap
-    h = kn.heap
+    h = kn.has.state.heap
+
+    abbrev swept : PassedBefore kn.has.state l.pages
+    swept p below = kn.has.good.told kn.under_way.0 kn.under_way.1 p
 
     abbrev pending : Option Answer
-    pending = (step.is shapes l pacing counts good limits known e es legal lt h kn.of_list kn.good).pending
+    pending = (step.is shapes l pacing counts good limits known e es legal lt kn.has swept).pending
 
     busy : is_busy_at now.task ≡ true
-    busy = step.busy shapes l pacing counts good limits known e es legal lt h kn.of_list kn.good
+    busy = step.busy shapes l pacing counts good limits known e es legal lt kn.has swept
 
     idle : (o : Op) → e.begun ≡ Some o → is_busy_at m.task ≡ false
-    idle = step.idle shapes l pacing counts good limits known e es legal lt h kn.of_list kn.good
+    idle = step.idle shapes l pacing counts good limits known e es legal lt kn.has swept
 
     pub sound_now : IsSound now
-    sound_now = step.sound_now shapes l pacing counts good limits known e es legal lt h kn.of_list kn.good
+    sound_now = step.sound_now shapes l pacing counts good limits known e es legal lt kn.has swept
 
     -- Where an operation begins, the processor rests.
 
@@ -136,7 +139,7 @@ module _ (shapes : List Shape) (l : Layout) (pacing : Pacing) (counts : ℕ → 
     rests o is = idle_is m.task (idle o is) (going o is)
 
     has_room_now : (o : Op) → e.begun ≡ Some o → has_room m o ≡ true
-    has_room_now o is = ap (λ (p : Processor). has_room p o) (sym (state_by k a es)) ∙ (may_parts z counts a (state_of k a (by a es)) (by a es) o (step.may_now shapes l pacing counts good limits known e es legal lt h kn.of_list kn.good o is)).room
+    has_room_now o is = ap (λ (p : Processor). has_room p o) (sym (state_by k a es)) ∙ (may_parts z counts a (state_of k a (by a es)) (by a es) o (step.may_now shapes l pacing counts good limits known e es legal lt kn.has swept o is)).room
 
     -- What is known where it steps.
 
@@ -151,16 +154,16 @@ module _ (shapes : List Shape) (l : Layout) (pacing : Pacing) (counts : ℕ → 
         omega (arith, begun, numbered, words_begun, own_begun, number_is)
 
     words_are : s.words ≡ told es
-    words_are = kn.beside.words ∙ kn.of_list.words_are
+    words_are = kn.beside.words ∙ kn.has.of_list.words_are
 
     together : (p : Processor) (x : Option Answer) → IsSound p → Fine z a (view h) p x → MarkFacts (cycle number few) a s p → Together (cycle number few) a h s p x
     together p x sound fine_p f = record {
       shapes = good;
-      heap = kn.good;
+      heap = kn.has.good.heap;
       marking = fine;
-      bounded = kn.of_list.bounded;
+      bounded = kn.has.of_list.bounded;
       beside = kn.beside;
-      ends = λ g ended. (kn.of_list.stacks g).1 ended;
+      ends = λ g ended. (kn.has.of_list.stacks g).1 ended;
       cycle = ap (λ (w : Words). w cell.Begun) words_are ∙ last_begun;
       sound = sound;
       fine = fine_p;
@@ -168,11 +171,11 @@ module _ (shapes : List Shape) (l : Layout) (pacing : Pacing) (counts : ℕ → 
     }
 
     facts_now : MarkFacts (cycle number few) a s now
-    facts_now = step.begins_with shapes l pacing counts good limits known e es legal lt h kn.of_list kn.good (MarkFacts (cycle number few) a s) facts (λ o is.
-        let none = step.rests shapes l pacing counts good limits known e es legal lt h kn.of_list kn.good o is in
-        let it = step.is shapes l pacing counts good limits known e es legal lt h kn.of_list kn.good in
+    facts_now = step.begins_with shapes l pacing counts good limits known e es legal lt kn.has swept (MarkFacts (cycle number few) a s) facts (λ o is.
+        let none = step.rests shapes l pacing counts good limits known e es legal lt kn.has swept o is in
+        let it = step.is shapes l pacing counts good limits known e es legal lt kn.has swept in
         subst (λ (b : Bool). MarkFacts (cycle number few) a s (cond b m (begins shapes m o))) (sym (going o is))
-        (known.beside.begins (cycle number few) a h s m o (together m None it.sound (subst (Fine z a (view h) m) none it.fine) facts) (rests o is) (step.may_begin shapes l pacing counts good limits known e es legal lt h kn.of_list kn.good o is) (has_room_now o is)))
+        (known.beside.begins (cycle number few) a h s m o (together m None it.sound (subst (Fine z a (view h) m) none it.fine) facts) (rests o is) (step.may_begin shapes l pacing counts good limits known e es legal lt kn.has swept o is) (has_room_now o is)))
 
     -- It is awake where it begins an operation, or runs one that is no poll; and then it knows that marking is on.
 
@@ -195,10 +198,10 @@ module _ (shapes : List Shape) (l : Layout) (pacing : Pacing) (counts : ℕ → 
     -- Its step.
 
     abbrev pub land : HeapSteps z a h (asks now) (λ t. DoesPoints z a h t now pending (h.words (cell_of (asks now))))
-    land = step.land shapes l pacing counts good limits known e es legal lt h kn.of_list kn.good
+    land = step.land shapes l pacing counts good limits known e es legal lt kn.has swept
 
-    pub goes : StepsOn (cycle number few) a (moved z a h (step.land shapes l pacing counts good limits known e es legal lt h kn.of_list kn.good).move) s (takes shapes now (h.words (cell_of (asks now))))
-    goes = known.beside.own_step (cycle number few) a h s now pending (together now pending sound_now (step.fine_now shapes l pacing counts good limits known e es legal lt h kn.of_list kn.good) facts_now) busy knows land
+    pub goes : StepsOn (cycle number few) a (moved z a h (step.land shapes l pacing counts good limits known e es legal lt kn.has swept).move) s (takes shapes now (h.words (cell_of (asks now))))
+    goes = known.beside.own_step (cycle number few) a h s now pending (together now pending sound_now (step.fine_now shapes l pacing counts good limits known e es legal lt kn.has swept) facts_now) busy knows land
 
     -- What it tells of stacks.
 

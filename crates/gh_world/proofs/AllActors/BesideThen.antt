@@ -1,29 +1,27 @@
 -- What holds behind a step of a processor while a cycle is marked: what is known of the heap and of the cycle, with the processor as it is then.
-use Rattle.std.proofs.Common.{◌≡◌, ◌≢◌, ◌⊎◌, inl, inr, ℕ, ◌^◌, ◌<◌, ◌==◌, Bool, true, false, refl, sym, ap, subst, ◌∙◌, arith, List, ◌∷◌, Option}
+use Rattle.std.proofs.Common.{◌≡◌, ◌⊎◌, inl, inr, ℕ, ◌^◌, ◌<◌, ◌==◌, Bool, true, false, refl, sym, ap, subst, ◌∙◌, arith, List, ◌∷◌, Option, Some, None}
 use Rattle.gh_coord.specs.Handshake as leading
 use Rattle.gh_cycle.specs.Since.{HasGoneOn}
 use Rattle.gh_marks.specs.Moves.{Steps}
 use Rattle.gh_mutator.specs.Beside.{StepsOn}
-use Rattle.gh_world.specs.ActorsHold.{began}
-use Rattle.gh_world.proofs.Vocabulary.{acks_of, Answer, Arena, arena, AreWords, asks, cell_of, Coordinating, Cycle, DoesPoints, effect, Entry, eqb-true, Ever, ever, Fine, has_left_at, Heap, is_busy_at, IsBeginning, IsHeapOf, IsInCycle, IsInLimits, IsKnown, IsLed, IsSound, IsToBegin, Kind, Knows, Layout, Legal, mark_words, MarkFacts, Marking, MarkingGood, may_of, moved, nat_tests, Op, Pacing, StepsByMoves, Processor, processor_at, processor_kind, Shape, ShapesAreGood, started, Steps as HeapSteps, takes, those, uncounted, view, Words}
+use Rattle.gh_world.specs.ActorsHold.{began, began_words, HasState}
+use Rattle.gh_world.specs.HoldVocabulary.{PassedBefore}
+use Rattle.gh_world.proofs.Vocabulary.{acks_of, Answer, Arena, arena, AreWords, asks, cell_of, Coordinating, Cycle, DoesPoints, effect, Entry, eqb-true, Ever, ever, Heap, IsBeginning, IsInCycle, IsInLimits, IsKnown, IsLed, IsToBegin, Kind, Knows, Layout, Legal, mark_words, MarkFacts, Marking, MarkingGood, may_of, moved, Op, Pacing, StepsByMoves, Processor, processor_at, processor_kind, Shape, ShapesAreGood, started, Steps as HeapSteps, takes, those, Words, words}
 use Rattle.gh_world.proofs.AllActors.Beside as beside
 use Rattle.gh_world.proofs.AllActors.Beside.{not_beginning}
-use Rattle.gh_world.proofs.AllActors.Counting as counting
 use Rattle.gh_world.proofs.AllActors.Drawing.{drawn_then}
 use Rattle.gh_world.proofs.AllActors.Gone.{gone_rests}
 use Rattle.gh_world.proofs.AllActors.Known.{Known, ListsKnown}
 use Rattle.gh_world.proofs.AllActors.Marks.{words_stay}
 use Rattle.gh_world.proofs.AllActors.OwnSide as own
 use Rattle.gh_world.proofs.AllActors.OwnStep as step
-use Rattle.gh_world.proofs.AllActors.Placing.{idle_plain}
-use Rattle.gh_world.proofs.AllActors.Quieting.{begun_places}
-use Rattle.gh_world.proofs.AllActors.Resting.{run_is, state_stays}
+use Rattle.gh_world.proofs.AllActors.Resting.{run_is}
 use Rattle.gh_world.proofs.AllActors.StackWords.{TellsStacks}
+use Rattle.gh_world.proofs.AllActors.Stepping as stepping
+use Rattle.gh_world.proofs.AllActors.Stood.{move_stays, Stays}
+use Rattle.gh_world.proofs.AllActors.Tied.{is_of_heap}
 use Rattle.gh_world.proofs.AllActors.Wanted.{Wanted}
 use Rattle.gh_world.proofs.CycleMarking.Seats.{other}
-
-apart : (a b : ℕ) → (a == b) ≡ false → b ≢ a
-apart a b x y = grind (arith, nat_tests)
 
 module _ (shapes : List Shape) (l : Layout) (pacing : Pacing) (counts : ℕ → ℕ) (good : ShapesAreGood shapes) (limits : IsInLimits l) (known : Known) (wanted : Wanted) (lists : ListsKnown shapes l pacing (may_of shapes l counts)) where
   abbrev may : ℕ → List (Entry Op) → Op → Bool
@@ -50,22 +48,25 @@ module _ (shapes : List Shape) (l : Layout) (pacing : Pacing) (counts : ℕ → 
     now = started k e.begun m
 
     abbrev h : Heap
-    h = kn.heap
+    h = kn.has.state.heap
+
+    abbrev swept : PassedBefore kn.has.state l.pages
+    swept p below = kn.has.good.told kn.under_way.0 kn.under_way.1 p
 
     tells : TellsStacks h.words now
     tells = beside.tells shapes l pacing counts good limits known lists e es legal c led on lt number few s number_is fine kn facts
 
     abbrev pending : Option Answer
-    pending = (step.is shapes l pacing counts good limits known e es legal lt h kn.of_list kn.good).pending
+    pending = (step.is shapes l pacing counts good limits known e es legal lt kn.has swept).pending
 
     abbrev land : HeapSteps z a h (asks now) (λ t. DoesPoints z a h t now pending (h.words (cell_of (asks now))))
-    land = step.land shapes l pacing counts good limits known e es legal lt h kn.of_list kn.good
+    land = step.land shapes l pacing counts good limits known e es legal lt kn.has swept
 
     goes : StepsOn (cycle number few) a (moved z a h land.move) s (takes shapes now (h.words (cell_of (asks now))))
     goes = beside.goes shapes l pacing counts good limits known lists e es legal c led on lt number few s number_is fine kn facts
 
     abbrev t : Heap
-    t = own.t shapes l pacing counts good limits known e es legal lt h kn.of_list kn.good tells
+    t = own.t shapes l pacing counts good limits known e es legal lt kn.has swept tells
 
     abbrev found : ℕ
     found = h.words (cell_of (asks now))
@@ -88,88 +89,55 @@ module _ (shapes : List Shape) (l : Layout) (pacing : Pacing) (counts : ℕ → 
         gone_rests shapes l pacing may known lists e es legal lt ((lists.keeps es legal.0).processors_gone d led_was is a lt)
 
     gone_on : (v : Ever) → HasGoneOn v h s → HasGoneOn v t goes.then
-    gone_on v x = known.gone_on (cycle number few) a h s goes.then land.move v kn.good fine land.may goes.went goes.beside.words kn.beside.words x
+    gone_on v x = known.gone_on (cycle number few) a h s goes.then land.move v kn.has.good.heap fine land.may goes.went goes.beside.words kn.beside.words x
 
     abbrev Cycles : List (Entry Op) → Type 0
     Cycles xs = IsToBegin shapes l pacing may xs number ⊎ IsInCycle shapes l pacing may xs number
 
     abbrev Since : Type 0
-    Since = (x : Cycles (e ∷ es)) × HasGoneOn (began shapes l pacing may (e ∷ es) number x) t goes.then
+    Since = (x : Cycles (e ∷ es)) × HasGoneOn (began shapes l pacing may (e ∷ es) number x) t goes.then × Stays (began_words shapes l pacing may (e ∷ es) number x) (words shapes l pacing may (e ∷ es))
 
     -- a cycle that is about to begin is not marked yet
     to_begin : IsToBegin shapes l pacing may es number → ⊥
     to_begin b = let same : b.lead ≡ c = (let both = sym b.led ∙ led in cc) in not_beginning c.stage on (subst (λ (d : Coordinating). IsBeginning d.stage) same b.stage)
 
-    cycle_then : (x : Cycles es) → HasGoneOn (began shapes l pacing may es number x) h s → Since
-    cycle_then (inr i) g = (inr (record { begun = i.begun; start = inr i.start; begins = i.begins; last = λ d led_d is. absurd (not_last d led_d is) }), gone_on (ever shapes l pacing may i.begun) g)
-    cycle_then (inl b) g = absurd (to_begin b)
+    -- the one state
+    abbrev has_then : HasState shapes l pacing may (e ∷ es)
+    has_then = stepping.has_then shapes l pacing counts good limits known wanted e es legal lt kn.has swept tells (λ over. absurd (let no : None ≡ Some kn.under_way.0 = sym over ∙ kn.under_way.1 in cc))
 
-    -- What is placed and not counted.
+    -- what was placed where the cycle began stays placed
+    stays : Stays (words shapes l pacing may es) (words shapes l pacing may (e ∷ es))
+    stays = subst (Stays (words shapes l pacing may es)) has_then.of_list.words_are (subst (λ (w : Words). Stays w t.words) kn.has.of_list.words_are (move_stays known.one known.rows z a h land.move land.may))
 
-    begun_counts : uncounted now.task ≡ uncounted m.task
-    begun_counts = step.begins_with shapes l pacing counts good limits known e es legal lt h kn.of_list kn.good (λ p. uncounted p.task ≡ uncounted m.task) refl (λ o x.
-        let idle = step.idle shapes l pacing counts good limits known e es legal lt h kn.of_list kn.good o x in
-        begun_places shapes m o (has_left_at m.task) idle ∙ sym (idle_plain m.task idle))
-
-    busy_now : is_busy_at now.task ≡ true
-    busy_now = step.busy shapes l pacing counts good limits known e es legal lt h kn.of_list kn.good
-
-    sound_now : IsSound now
-    sound_now = step.sound_now shapes l pacing counts good limits known e es legal lt h kn.of_list kn.good
-
-    fine_now : Fine z a (view h) now pending
-    fine_now = step.fine_now shapes l pacing counts good limits known e es legal lt h kn.of_list kn.good
-
-    pend_is : kn.spans.pend a ≡ uncounted now.task
-    pend_is = kn.placing a lt ∙ sym begun_counts
-
-    counted : counting.Counted known wanted.whole z kn.end a h kn.spans kn.tally kn.live kn.calm legal.1.actor now found pending busy_now sound_now fine_now pend_is land.move land.may land.words_are land.after.does
-    counted = counting.counted known wanted.whole z kn.end a h kn.spans kn.tally kn.live kn.calm legal.1.actor now found pending busy_now sound_now fine_now pend_is land.move land.may land.words_are land.after.does
-
-    then_is : processor_at shapes l pacing may (e ∷ es) a ≡ then
-    then_is = own.then_is shapes l pacing counts good limits known e es legal lt h kn.of_list kn.good tells
-
-    placing : (b : ℕ) → b < l.procs → counted.then.pend b ≡ uncounted (processor_at shapes l pacing may (e ∷ es) b).task
-    placing b less = go (a == b) refl where
-      go : (x : Bool) → (a == b) ≡ x → counted.then.pend b ≡ uncounted (processor_at shapes l pacing may (e ∷ es) b).task
-      go true x = subst (λ (n : ℕ). counted.then.pend n ≡ uncounted (processor_at shapes l pacing may (e ∷ es) n).task) (eqb-true a b x) (counted.own ∙ ap (λ (p : Processor). uncounted p.task) (sym then_is))
-      go false x = counted.others b (apart a b x) ∙ (kn.placing b less ∙ ap (λ (p : Processor). uncounted p.task) (sym (state_stays shapes l pacing may e es b x)))
+    cycle_then : (x : Cycles es) → HasGoneOn (began shapes l pacing may es number x) h s → Stays (began_words shapes l pacing may es number x) (words shapes l pacing may es) → Since
+    cycle_then (inr i) g so = (inr (record { begun = i.begun; start = inr i.start; begins = i.begins; last = λ d led_d is. absurd (not_last d led_d is) }), gone_on (ever shapes l pacing may i.begun) g, λ n x p. stays n x (so n x p))
+    cycle_then (inl b) g so = absurd (to_begin b)
 
     abbrev since : Since
-    since = cycle_then kn.cycle kn.gone_on
-
-    of_list : IsHeapOf shapes l pacing may (e ∷ es) t
-    of_list = own.heap_then shapes l pacing counts good limits known e es legal lt h kn.of_list kn.good tells
+    since = cycle_then kn.cycle kn.gone_on kn.stood
 
     known_then : IsKnown shapes l pacing may (cycle number few) goes.then (e ∷ es)
     known_then = record {
       arena_is = refl;
-      heap = t;
-      of_list = of_list;
-      good = own.good_then shapes l pacing counts good limits known e es legal lt h kn.of_list kn.good tells;
+      has = has_then;
+      under_way = kn.under_way;
       beside = goes.beside;
       cycle = since.0;
       gone_on = since.1;
-      drawn = drawn_then shapes l pacing may known.drawn (cycle number few) e es s goes.then fine goes.went (goes.beside.words ∙ of_list.words_are) kn.drawn;
-      end = kn.end;
-      spans = counted.then;
-      tally = kn.tally;
-      live = kn.live;
-      calm = counted.so;
-      placing = placing;
-      others_place = λ b le. counted.others b (λ x. omega (arith, x, le, lt)) ∙ kn.others_place b le;
+      stood = since.2;
+      drawn = drawn_then shapes l pacing may known.drawn (cycle number few) e es s goes.then fine goes.went (goes.beside.words ∙ has_then.of_list.words_are) (is_of_heap shapes l pacing may known (e ∷ es) has_then (cycle number few) goes.then refl (wanted.steps (cycle number few) a s goes.then fine goes.went).good goes.beside) kn.drawn;
       marks_fit = subst (λ (w : Words). AreWords (mark_words w)) goes.beside.words (words_stay known.mark_words (cycle number few) a s goes.then goes.went (subst (λ (w : Words). AreWords (mark_words w)) (sym kn.beside.words) kn.marks_fit));
     }
 
     asked : e.ask ≡ asks now
-    asked = step.asked shapes l pacing counts good limits known e es legal lt h kn.of_list kn.good
+    asked = step.asked shapes l pacing counts good limits known e es legal lt kn.has swept
 
     pub steps : Steps (cycle number few) a s e.ask (λ t. MarkFacts (cycle number few) a t (takes shapes now e.found) × Knows z pacing may (cycle number few) t (e ∷ es))
     steps = record {
       then = goes.then;
       went = goes.went;
       words_are = goes.beside.words ∙ (land.words_are ∙ (ap (λ (w : Words). effect w (asks now)) (sym kn.beside.words) ∙ ap (effect s.words) (sym asked)));
-      after = (subst (λ (n : ℕ). MarkFacts (cycle number few) a goes.then (takes shapes now n)) (sym (step.found_is shapes l pacing counts good limits known e es legal lt h kn.of_list kn.good)) goes.facts, known_then);
+      after = (subst (λ (n : ℕ). MarkFacts (cycle number few) a goes.then (takes shapes now n)) (sym (step.found_is shapes l pacing counts good limits known e es legal lt kn.has swept)) goes.facts, known_then);
     }
 
   -- The cycle is one of this arena.

@@ -8,7 +8,7 @@ use Rattle.gh_base.specs.declared.cell.Cell.TheVariants as cell
 use Rattle.gh_base.specs.declared.pack.TheConstants.{END}
 use Rattle.gh_base.specs.Cells.{same_cell, Words}
 use Rattle.gh_base.specs.Steps.{cell_of, ChangesOneCell, effect, left}
-use Rattle.gh_marks.specs.Moves.{Blacken, ClaimGlobal, EndStack, Enter, GiveBuffer, goes, IsAside, IsQuiet, May, Move, moved, PassGlobals, Place, PutField, PutGlobal, Quiet, ReadGlobal, Reserve, ScanGlobal, ScanStack, SetRegister, Shade, ShadeAgain, ShadeFlat, stays, TakeBuffer, TakeEntry, Went}
+use Rattle.gh_marks.specs.Moves.{EndStack, goes, IsAside, IsQuiet, May, Move, moved, Quiet, ScanStack, Shade, stays, Went}
 use Rattle.gh_world.specs.HoldVocabulary.{Cycle, Marking}
 
 -- a row that marking does not read is not that of stacks
@@ -42,22 +42,7 @@ module _ (one : ChangesOneCell) (z : Cycle) (a g : ℕ) where
   by_move v (ScanStack h) may is = scanned v h may.goes_on is (h == g) refl
   by_move v (EndStack h) may is = ended v is (h == g)
   by_move v (Shade o) may is = is
-  by_move v (ShadeFlat o) may is = is
-  by_move v (ShadeAgain o) may is = is
-  by_move v (TakeBuffer b) may is = is
-  by_move v (GiveBuffer b) may is = is
-  by_move v (Enter b o) may is = is
-  by_move v (TakeEntry b o) may is = is
-  by_move v (Blacken o) may is = is
-  by_move v (PutField x value) may is = is
-  by_move v (PutGlobal i value) may is = is
-  by_move v (ClaimGlobal i) may is = is
-  by_move v (PassGlobals i) may is = is
-  by_move v (ReadGlobal i) may is = is
-  by_move v (ScanGlobal i value) may is = is
-  by_move v (SetRegister h d value) may is = is
-  by_move v (Reserve o) may is = is
-  by_move v (Place o size pointer noscan h d) may is = is
+  by_move v _ may is = is
 
   pub ended_stays : (s t : Marking) → Went z a s t → s.words (cell.Scanned g) ≡ END → t.words (cell.Scanned g) ≡ END
   ended_stays s t stays is = is

@@ -32,15 +32,11 @@ acting_op false o full p is = absurd (cc)
 
 not_global : (x : Global) (s : GlobalStage) (g : ℕ) → global.op_in x s ≡ op.End g → ⊥
 not_global x global_stage.Load g is = cc
-not_global x (global_stage.Birth at) g is = cc
-not_global x global_stage.Store g is = cc
-not_global x (global_stage.Writing w) g is = cc
-not_global x global_stage.Number g is = cc
+not_global x _ g is = cc
 
 not_register : (x : Register) (s : Source) (g : ℕ) → register.op_from x s ≡ op.End g → ⊥
 not_register x (source.Int n) g is = cc
-not_register x (source.Move s) g is = cc
-not_register x source.Nil g is = cc
+not_register x _ g is = cc
 
 pub acts_end : (m : Processor) (t : Task) (found : ℕ) (p : Act) (g : ℕ) → acts_at m t found ≡ Some p → p.op ≡ op.End g → t ≡ task.End g
 acts_end m task.Idle found p g is end = absurd (cc)
@@ -130,7 +126,6 @@ module _ (shapes : List Shape) (m : Processor) (found : ℕ) where
   -- it left already
   pub last_before : (t : Task) → is_busy_at t ≡ true → is_last_task (takes_at shapes m t found).task ≡ true → is_last_task t ≡ true
   last_before task.Idle busy is = absurd (cc)
-  last_before task.Left busy is = absurd (cc)
   last_before (task.Load x) busy is = absurd (other (follows_none task.Load (λ s. refl) (load.step m.poll.layout x found).then) is)
   last_before (task.Store x) busy is = absurd (other (follows_none task.Store (λ s. refl) (store.step m.poll.layout m.poll.local (register_of m x.g x.v) x found).then) is)
   last_before (task.Global x) busy is = absurd (other (follows_none task.Global (λ s. refl) (global.step m.poll.layout (register_of m x.g x.r) x found).then) is)
@@ -138,8 +133,8 @@ module _ (shapes : List Shape) (m : Processor) (found : ℕ) where
   last_before (task.New x) busy is = absurd (other (new_none x.wanted x.stage) is)
   last_before (task.Gc g x) busy is = absurd (other (gc_none g (wait.goes (wait.waiting x m.poll) found) (wait.gives (wait.waiting x m.poll) found)) is)
   last_before task.Poll busy is = absurd (other (poll_none (poll.goes m.poll found) (poll.gives m.poll found)) is)
-  last_before (task.End g) busy is = absurd (cc)
   last_before (task.Leave x) busy is = refl
+  last_before _ busy is = absurd (cc)
 
 -- and began to leave with a leave
 pub last_begun : (shapes : List Shape) (m : Processor) (o : Op) → is_last_task (begins_at shapes m o) ≡ true → o ≡ op.Leave

@@ -54,9 +54,8 @@ checks_on u w (Some NotYet) = tt
 
 closes_on : (u : Coordinating) (c : close.Closing) (p : CloseStage) → c.stage ≡ p → IsGoing (after_close (at_stage u (Close c)) (close.given_at c p)).stage
 closes_on u c close_stage.LoadBank is = ap close.is_busy is
-closes_on u c close_stage.ClearBank is = ap close.is_busy is
-closes_on u c close_stage.StoreGen is = ap close.is_busy is
 closes_on u c close_stage.Ended is = tt
+closes_on u c _ is = ap close.is_busy is
 
 sweeps_on : (u : Coordinating) (w : sweep.SweepingAll) (out : Option (Unit {0})) → IsGoing (after_sweep (at_stage u (Sweep w)) out).stage
 sweeps_on u w None = tt

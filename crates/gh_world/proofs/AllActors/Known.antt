@@ -1,15 +1,18 @@
 -- What lower crates say, as the lemmas of lists of all actors use it.
 use Rattle.std.proofs.Common.{ℕ, Bool, List, ◌∷◌}
-use Rattle.gh_heap.specs.Laws.{EachFactLasts, EachMoveKeeps, EachMoveLeaves, TheHeapIsApart}
-use Rattle.gh_sweep.specs.Runs.{EachCountIsExact}
-use Rattle.gh_sweep.specs.Sweepers.{SweepsAmongOthers}
-use Rattle.gh_cycle.specs.Allocating.{AllocationGoesOn, CalmIsFound, CalmLasts}
-use Rattle.gh_cycle.specs.Ending.{CyclesEnd, HeapsOpen, MarksStayWords, PagesStayPacked, SlotsAreRead}
-use Rattle.gh_cycle.specs.Beside.{CyclesBeginBeside, MarkingAloneGoesBeside, ObjectsAreKnownBeside, TheReachedAreMarkedBeside}
+use Rattle.gh_base.specs.Rows.{RowsAreWritten}
+use Rattle.gh_heap.specs.Laws.{EachFactLasts, EachMoveLeaves, TheHeapIsApart}
+use Rattle.gh_sweep.specs.AtEnd.{TheBitsAreObjects}
+use Rattle.gh_marks.specs.Laws.{MarksStayWords}
+use Rattle.gh_state.specs.Cycles.{CountsAreTold, CyclesEnd, HeapsOpen, TheSweepIsTold}
+use Rattle.gh_state.specs.Cycles as state
+use Rattle.gh_state.specs.Laws as state_laws
+use Rattle.gh_state.specs.Routines.{SweepsByTheState}
+use Rattle.gh_state.specs.Walkers.{WalkersPass}
+use Rattle.gh_cycle.specs.Beside.{CyclesBeginBeside, MarkingAloneGoesBeside, ObjectsAreKnownBeside, TheMarkedStand, TheReachedAreMarkedBeside}
 use Rattle.gh_cycle.specs.Opening.{CyclesOpen}
 use Rattle.gh_cycle.specs.Reached.{BoundsLast, PlacesAreDecided, TheReachedWereMade}
 use Rattle.gh_cycle.specs.Since.{CyclesBeginSo, TheMarkedWereReached, WhatHasGoneOnLasts}
-use Rattle.gh_cycle.specs.Sweeping.{CountsAreTold, OnlyTheMarkedAreLeft, SweepingBegins, SweepingEnds, SweepingKeepsTheHeap, SweepsMoveSo}
 use Rattle.gh_mutator.specs.Beside.{GoesOnBesideMarking}
 use Rattle.gh_mutator.specs.Calm.{CalmProcessorsMarkNothing}
 use Rattle.gh_mutator.specs.Deeds.{OnlyPointsChange, ProcessorsDeedsFit}
@@ -17,19 +20,23 @@ use Rattle.gh_mutator.specs.ProcessorMarks.{MarksByMoves}
 use Rattle.gh_mutator.specs.Runs.{RunsByItsRights}
 use Rattle.gh_mutator.specs.Writing.{StacksAreNoted}
 use Rattle.gh_worker.specs.Writing.{CalmWorkersMarkNothing}
+use Rattle.gh_world.specs.Counts.{CountsPlainly}
 use Rattle.gh_world.specs.Waits.{StacksAreNumbered, WorkersRest}
+use Rattle.gh_world.specs.Wants.{CountsWants}
 use Rattle.gh_world.proofs.Vocabulary.{ChangesOneCell, Coordinating, CountsCycles, Entry, IsFew, IsLed, KeepsIt, Layout, Legal, MarkingBegins, Op, Pacing, ProcessorInHandshake, ProcessorWritesItsOwn, Shape, StepKeepsIt, those, words_after, WorkersWriteTheirOwn}
 use Rattle.gh_world.proofs.AllActors.Drawing.{DrawnKnown}
 
 -- of steps and moves
 pub record Known : Type 0 where
   pub one : ChangesOneCell
+  pub rows : RowsAreWritten
   pub apart : TheHeapIsApart
-  pub keeps : EachMoveKeeps
+  pub keeps : state_laws.EachMoveKeeps
   pub leaves : EachMoveLeaves
   pub last : EachFactLasts
-  pub sweeps : SweepsAmongOthers
-  pub exact : EachCountIsExact
+  pub sweeps : SweepsByTheState
+  pub walkers : WalkersPass
+  pub bits : TheBitsAreObjects
   pub runs : RunsByItsRights
   pub marks : MarksByMoves
   pub writes : ProcessorWritesItsOwn
@@ -39,20 +46,12 @@ pub record Known : Type 0 where
   pub places : ProcessorInHandshake
   pub workers_write : WorkersWriteTheirOwn
   pub workers_calm : CalmWorkersMarkNothing
-  pub packed : PagesStayPacked
   pub mark_words : MarksStayWords
-  pub slots : SlotsAreRead
-  pub ends : CyclesEnd
   pub heaps_open : HeapsOpen
-  pub begins : SweepingBegins
-  pub keeps_heap : SweepingKeepsTheHeap
-  pub sweep_ends : SweepingEnds
-  pub only : OnlyTheMarkedAreLeft
-  pub goes_on : AllocationGoesOn
-  pub found : CalmIsFound
-  pub calm_lasts : CalmLasts
+  pub cycles_open : state.CyclesOpen
+  pub cycles_end : CyclesEnd
+  pub swept : TheSweepIsTold
   pub told : CountsAreTold
-  pub sweeps_move : SweepsMoveSo
   pub decided : PlacesAreDecided
   pub made : TheReachedWereMade
   pub bounds : BoundsLast
@@ -64,6 +63,7 @@ pub record Known : Type 0 where
   pub objects : ObjectsAreKnownBeside
   pub reached : TheReachedAreMarkedBeside
   pub marked : TheMarkedWereReached
+  pub stand : TheMarkedStand
   pub beside : GoesOnBesideMarking
   pub marking : MarkingBegins
   pub fit : ProcessorsDeedsFit
@@ -75,5 +75,7 @@ pub record ListsKnown (shapes : List Shape) (l : Layout) (pacing : Pacing) (may 
   pub steps : (e : Entry Op) (es : List (Entry Op)) → Legal (those shapes l pacing may) (e ∷ es) → StepKeepsIt (those shapes l pacing may) e es
   pub few : (es : List (Entry Op)) → Legal (those shapes l pacing may) es → IsFew es
   pub counts : (es : List (Entry Op)) (c : Coordinating) → Legal (those shapes l pacing may) es → IsLed shapes l pacing may es c → CountsCycles (those shapes l pacing may) pacing.room es c
+  pub plainly : (es : List (Entry Op)) (c : Coordinating) → Legal (those shapes l pacing may) es → IsLed shapes l pacing may es c → CountsPlainly (those shapes l pacing may) pacing.room es c
+  pub wants : (es : List (Entry Op)) (c : Coordinating) → Legal (those shapes l pacing may) es → IsLed shapes l pacing may es c → CountsWants (those shapes l pacing may) es c
   pub numbers : (es : List (Entry Op)) → Legal (those shapes l pacing may) es → StacksAreNumbered (words_after (those shapes l pacing may).opening es)
   pub rests : (es : List (Entry Op)) → Legal (those shapes l pacing may) es → WorkersRest (those shapes l pacing may) es

@@ -1,20 +1,17 @@
 -- The coordinator between two cycles, and while it opens one: what holds behind each of its steps, up to the store of the phase of marking.
-use Rattle.std.proofs.Common.{◌≡◌, ◌⊎◌, inl, inr, ℕ, ◌+◌, ◌<◌, ◌≤◌, ◌==◌, Bool, true, false, cond, ltb, refl, sym, ap, subst, ◌∙◌, arith, List, ◌∷◌, Option, Some, None}
+use Rattle.std.proofs.Common.{◌≡◌, ℕ, ◌+◌, ◌≤◌, ◌==◌, Bool, true, false, cond, ltb, refl, sym, ap, subst, ◌∙◌, arith, List, ◌∷◌, Option, Some, None}
 use Rattle.gh_base.specs.declared.cell.Cell.TheVariants as cell
 use Rattle.gh_coord.specs.declared.open.OpenStage.TheVariants as opening
 use Rattle.gh_coord.specs.declared.stop.StopStage.TheVariants as stopping
-use Rattle.gh_coord.specs.Handshake as leading
 use Rattle.gh_coord.specs.Listing as coord
 use Rattle.gh_coord.specs.Opening as opens_by
 use Rattle.gh_coord.specs.Stopping as stop
-use Rattle.gh_cycle.specs.Allocating.{IsFoundCalm}
-use Rattle.gh_phase.specs.declared.view.RunPhase.TheVariants as run
-use Rattle.gh_world.specs.ActorsHold.{IsOpening, unmarked}
-use Rattle.gh_world.proofs.Vocabulary.{acks_of, ahead_at, Arena, arena, Ask, Coordinating, CoordStage, effect, END, Entry, GONE, HasCursor, HoldsAt, IsLed, IsQuiet, IsReady, Layout, Legal, LoadAck, LoadWant, nat_tests, Op, Open, OpenStage, Pacing, part_of, Shape, Stop, Stopped, StopStage, those, Words, words}
+use Rattle.gh_state.specs.Cycles.{AreSwept, opened, Opens}
+use Rattle.gh_world.specs.ActorsHold.{IsOpening}
+use Rattle.gh_world.proofs.Vocabulary.{acks_of, ahead_at, Arena, arena, Ask, Coordinating, CoordStage, effect, Entry, GONE, HasCursor, HoldsAt, IsLed, IsQuiet, IsReady, Layout, Legal, LoadAck, LoadWant, NobodyMarks, Op, Open, OpenStage, Pacing, part_of, Shape, Stop, StopStage, those, Words, words}
 use Rattle.gh_world.proofs.AllActors.Aside.{IsAside, loads, loads_only, phase_only, stores_begun, stores_cursor, stores_live, stores_phase, stores_slack, stores_tally, stores_trigger, stores_want, stores_work, TellsNothing}
-use Rattle.gh_world.proofs.AllActors.Bare.{baring}
 use Rattle.gh_world.proofs.AllActors.Known.{Known, ListsKnown}
-use Rattle.gh_world.proofs.AllActors.LeadingSeat.{asked_at, from, led_then, goes_at as goes_by, owes_nothing}
+use Rattle.gh_world.proofs.AllActors.LeadingSeat.{asked_at, from, led_then, goes_at as goes_by}
 use Rattle.gh_world.proofs.AllActors.Quiet.{quiet_goes_on, ready_goes_on}
 
 -- each request of an opening leaves the heap as it is
@@ -48,42 +45,19 @@ module _ (shapes : List Shape) (l : Layout) (pacing : Pacing) (may : ℕ → Lis
   z = arena shapes l pacing may
 
   -- In a world that is stopped for it, a cycle is ready to be opened, with the next number.
-  module _ (es : List (Entry Op)) (legal : Legal (those shapes l pacing may) es) (c d : Coordinating) (o : opens_by.CycleOpening) (led : IsLed shapes l pacing may es d) (at : d.stage ≡ Open o) (early : opens_by.is_busy o.stage ≡ true) (later : d.begun ≡ c.begun + 1) (q : IsQuiet shapes l pacing may es c) where
-    stopped : (p : OpenStage) → opens_by.is_busy p ≡ true → leading.open_post p ≡ Stopped run.Off
-    stopped opening.Ended b = absurd cc
-    stopped _ b = refl
+  module _ (es : List (Entry Op)) (c d : Coordinating) (later : d.begun ≡ c.begun + 1) (q : IsQuiet shapes l pacing may es c) where
+    all_swept : AreSwept q.has.state
+    all_swept = known.walkers.all z q.has.state q.has.good q.swept
 
-    post : leading.post_at d.stage ≡ Stopped run.Off
-    post = ap leading.post_at at ∙ stopped o.stage early
-
-    found : IsFoundCalm z q.heap q.spans
-    found = known.found.finds z q.end q.heap q.spans q.calm
-
-    pends : (a : ℕ) → q.spans.pend a ≡ 0
-    pends a = go (ltb a l.procs) refl where
-      go : (b : Bool) → ltb a l.procs ≡ b → q.spans.pend a ≡ 0
-      go true x = let lt : a < l.procs = grind (arith, nat_tests) in q.placing a lt ∙ owes_nothing shapes l pacing may known lists es legal d led run.Off post a lt
-      go false x = q.others_place a (grind (arith, nat_tests))
-
-    older : (g : ℕ) → (q.heap.words (cell.Scanned g) ≤ c.begun) ⊎ (q.heap.words (cell.Scanned g) ≡ END) → (q.heap.words (cell.Scanned g) < d.begun) ⊎ (q.heap.words (cell.Scanned g) ≡ END)
-    older g (inl x) = inl (omega (arith, x, later))
-    older g (inr x) = inr x
+    opens_so : Opens z q.has.state
+    opens_so = known.cycles_open z q.has.state q.has.good q.over all_swept
 
     pub ready : IsReady shapes l pacing may es d
     ready = record {
-      heap = q.heap;
-      of_list = q.of_list;
-      good = q.calm.heap;
-      end = q.end;
-      spans = record (q.spans) { words = unmarked (q.heap.words cell.Tally) (q.heap.words cell.Live) q.heap.words };
-      tally = q.heap.words cell.Tally;
-      live = q.heap.words cell.Live;
-      calm = baring known z q.end q.heap q.spans q.calm found.marks;
-      owes_none = pends;
-      marks = found.marks;
-      buffers = q.buffers;
-      stacks = λ g. older g (q.stacks g);
-      processors = q.processors;
+      has = record { state = opened q.has.state; of_list = q.has.of_list; good = opens_so.good; placing = q.has.placing; others_place = q.has.others_place };
+      under_way = (record { tally = q.has.state.heap.words cell.Tally; live = q.has.state.heap.words cell.Live }, refl);
+      marks = opens_so.marks;
+      nobody = subst (λ (n : ℕ). NobodyMarks shapes l pacing may es n q.has.state.heap.words) (sym later) q.nobody;
     }
 
   -- The entry.
@@ -132,8 +106,7 @@ module _ (shapes : List Shape) (l : Layout) (pacing : Pacing) (may : ℕ → Lis
       same_swept = rw (asks_so (Stop st) is) (go st.stage) where
         go : (p : StopStage) → effect (words shapes l pacing may es) (stop.asks_at st p) cell.Swept ≡ words shapes l pacing may es cell.Swept
         go stopping.StorePhase = refl
-        go (stopping.Await ack) = refl
-        go stopping.Ended = refl
+        go _ = refl
 
       was_number : c.begun ≡ words shapes l pacing may es cell.Swept + 0
       was_number = (subst (λ (p : CoordStage). c.begun ≡ words shapes l pacing may es cell.Swept + (ahead_at (part_of p)).numbered) is (lists.counts es c legal.0 led).number)
@@ -154,7 +127,7 @@ module _ (shapes : List Shape) (l : Layout) (pacing : Pacing) (may : ℕ → Lis
         go (Some y) x =
             let d_is : coord.goes c e.found ≡ coord.opens (coord.at_stage u (Stop (stop.goes st e.found))) = goes_by shapes l pacing may known lists e es legal c led by (Stop st) is ∙ ap (coord.after_stop (coord.at_stage u (Stop (stop.goes st e.found)))) x in
             let led_d : IsLed shapes l pacing may (e ∷ es) (coord.opens (coord.at_stage u (Stop (stop.goes st e.found)))) = subst (IsLed shapes l pacing may (e ∷ es)) d_is (led_then shapes l pacing may known lists e es legal c led by) in
-            (ready (e ∷ es) legal c _ _ led_d refl refl (next_number _ led_d refl) quiet_then, tt)
+            (ready (e ∷ es) c _ (next_number _ led_d refl) quiet_then, tt)
 
     -- while a cycle is opened
     pub opens : (o : opens_by.CycleOpening) → c.stage ≡ Open o → IsOpening shapes l pacing may es c o.stage → To (coord.goes_at u (Open o) e.found)

@@ -5,28 +5,27 @@ use Rattle.gh_coord.specs.declared.close.CloseStage.TheVariants as closing
 use Rattle.gh_coord.specs.Closing as close
 use Rattle.gh_coord.specs.Handshake as leading
 use Rattle.gh_coord.specs.SweepingAll as over_all
-use Rattle.gh_cycle.specs.Allocating.{IsFoundCalm}
-use Rattle.gh_cycle.specs.Ending.{end_of, IsCounted, IsOver, IsStill, with_next_generation}
+use Rattle.gh_model.specs.Ever.{Reach}
 use Rattle.gh_phase.specs.declared.view.RunPhase.TheVariants as run
-use Rattle.gh_sweep.specs.Runs.{at_end}
+use Rattle.gh_state.specs.Cycles.{end_of, ended as ended_state, IsOver, next_words}
 use Rattle.gh_world.specs.Handshake.{Sound as ActorSound}
-use Rattle.gh_world.specs.ActorsHold.{bare}
+use Rattle.gh_world.specs.ActorsHold.{HasState, NobodyMarks}
+use Rattle.gh_world.specs.HoldVocabulary.{IsAsItEnded, Name, row_bit, State, StateGood}
 use Rattle.gh_world.specs.Numbers.{IsLiveClear, IsTallyClear}
-use Rattle.gh_world.proofs.Vocabulary.{acks_of, ahead_at, alloc_words, Arena, arena, Body, By, Checked, Close, close_part, Coordinating, CoordStage, Cycle, CycleEnd, effect, END, EndedSo, Entry, far_in, Free, Head, Heap, IsBeginning, IsEnding, IsInCycle, IsInLimits, IsLed, IsSweeping, IsToBegin, Layout, Legal, mark_words, MarksNothing, MarksToTheEnd, nat_tests, Op, Pacing, page_of, PageWord, Part, part_of, processor_at, put, Shape, ShapesAreGood, Spans, Stopped, Store, SweepsAll, SweepsBeside, those, with_words, Words, words}
+use Rattle.gh_world.proofs.Vocabulary.{acks_of, ahead_at, alloc_words, Arena, arena, By, Checked, Close, close_part, Coordinating, CoordStage, effect, END, EndedSo, Entry, eqb-true, far_in, Free, Heap, IsBeginning, IsEnding, IsInCycle, IsInLimits, IsLed, IsSweeping, IsToBegin, Layout, Legal, mark_words, MarksNothing, MarksToTheEnd, nat_tests, Op, Pacing, page_of, PageWord, Part, part_of, Processor, processor_at, put, Shape, ShapesAreGood, Stopped, Store, SweepsAll, those, uncounted, Words, words}
 use Rattle.gh_world.proofs.AllActors.Going.{NotAcks}
 use Rattle.gh_world.proofs.AllActors.Known.{Known, ListsKnown}
-use Rattle.gh_world.proofs.AllActors.LeadingEnds.{arena_is, buffers, facts, good_there, none_placing, post, reached_are_marked, still_at}
-use Rattle.gh_world.proofs.AllActors.LeadingSeat.{asked_at, from, is_still, owes_nothing}
+use Rattle.gh_world.proofs.AllActors.LeadingEnds.{buffers, facts, none_placing, post, reached_are_marked, still_at}
+use Rattle.gh_world.proofs.AllActors.LeadingSeat.{asked_at, from, is_still, IsStill, owes_nothing}
 use Rattle.gh_world.proofs.AllActors.LeadingSweep.{IsOfSpans}
-use Rattle.gh_world.proofs.AllActors.LeadingSwept.{apart, buffer, heap_on, in_cycle_on}
+use Rattle.gh_world.proofs.AllActors.LeadingSwept.{apart, heap_on, in_cycle_on, nobody_on}
 use Rattle.gh_world.proofs.AllActors.Resting.{state_stays}
 use Rattle.gh_world.proofs.AllActors.Starts.{whole}
 
 -- where a cycle has ended nobody sweeps
 nobody_sweeps : (x : PageWord) (b : ℕ) → far_in x ≢ By b
 nobody_sweeps Free b is = absurd cc
-nobody_sweeps (Head h) b is = absurd cc
-nobody_sweeps (Body d) b is = absurd cc
+nobody_sweeps _ b is = absurd cc
 
 -- a coordinator that ends a cycle does not begin one
 no_beginning : (p : CoordStage) (x : close.Closing) → p ≡ Close x → IsBeginning p → ⊥
@@ -40,17 +39,14 @@ module _ (shapes : List Shape) (l : Layout) (pacing : Pacing) (may : ℕ → Lis
   Ends es c = MarksToTheEnd z pacing may es c
 
   module _ (e : Entry Op) (es : List (Entry Op)) (legal : Legal (those shapes l pacing may) (e ∷ es)) (c : Coordinating) (led : IsLed shapes l pacing may es c) (by : e.actor ≡ acks_of l) (x : close.Closing) (is : c.stage ≡ Close x) (at : x.stage ≡ closing.StoreGen) (on : leading.Marks c.stage) (mark : Ends es c) where
-    abbrev y : Cycle
-    y = mark.marking.cycle
+    abbrev s : State
+    s = mark.marking.known.has.state
 
     abbrev h : Heap
-    h = mark.marking.known.heap
+    h = mark.marking.known.has.state.heap
 
     words_here : h.words ≡ words shapes l pacing may es
-    words_here = mark.marking.known.of_list.words_are
-
-    there : mark.marking.cycle.arena ≡ z
-    there = arena_is shapes l pacing may good limits known lists es legal.0 c led x is on mark
+    words_here = mark.marking.known.has.of_list.words_are
 
     -- The numbers.
 
@@ -92,7 +88,7 @@ module _ (shapes : List Shape) (l : Layout) (pacing : Pacing) (may : ℕ → Lis
     next : h.words cell.Gen + 2 ≡ x.generation
     next = let a = gen_is in let b = generation_is in let d = stored in omega (arith, a, b, d)
 
-    words_so : with_next_generation h.words ≡ effect h.words e.ask
+    words_so : next_words h.words ≡ effect h.words e.ask
     words_so = ap (put h.words cell.Gen) next ∙ sym (ap (effect h.words) asked)
 
     only : IsOfSpans e.ask
@@ -100,60 +96,61 @@ module _ (shapes : List Shape) (l : Layout) (pacing : Pacing) (may : ℕ → Lis
 
     -- Marking is over: nobody holds anything, and each processor has counted what it placed.
 
-    abbrev bared : Heap
-    bared = bare mark.marking.known.tally mark.marking.known.live h
-
-    found : IsFoundCalm z bared mark.marking.known.spans
-    found = known.found.finds z mark.marking.known.end bared mark.marking.known.spans mark.marking.known.calm
-
     stopped : leading.post_at c.stage ≡ Stopped run.Mark
     stopped = post shapes l pacing may good limits known lists es legal.0 c led x is on mark
 
     still : IsStill h
-    still = is_still shapes l pacing may known lists es legal.0 c led run.Mark stopped h mark.marking.known.of_list
+    still = is_still shapes l pacing may known lists es legal.0 c led run.Mark stopped h mark.marking.known.has.of_list
 
-    still_bare : IsStill bared
-    still_bare = record { unlocked = still.unlocked; none_held = still.none_held; none_laid = still.none_laid; none_freed = still.none_freed }
-
-    pends : (a : ℕ) → mark.marking.known.spans.pend a ≡ 0
+    pends : (a : ℕ) → s.pend a ≡ 0
     pends a = go (ltb a l.procs) refl where
-      go : (b : Bool) → ltb a l.procs ≡ b → mark.marking.known.spans.pend a ≡ 0
-      go true y = let lt : a < l.procs = grind (arith, nat_tests) in mark.marking.known.placing a lt ∙ owes_nothing shapes l pacing may known lists es legal.0 c led run.Mark stopped a lt
-      go false y = mark.marking.known.others_place a (grind (arith, nat_tests))
+      go : (b : Bool) → ltb a l.procs ≡ b → s.pend a ≡ 0
+      go true y = let lt : a < l.procs = grind (arith, nat_tests) in mark.marking.known.has.placing a lt ∙ owes_nothing shapes l pacing may known lists es legal.0 c led run.Mark stopped a lt
+      go false y = mark.marking.known.has.others_place a (grind (arith, nat_tests))
 
-    is_over : IsOver mark.marking.cycle h mark.marking.shared
+    -- what a script reaches is marked
+    reached : (n : Name) → Reach h.ever n → row_bit (mark_words h.words) (h.place n) ≡ 1
+    reached n r = subst (λ (w : Words). row_bit (mark_words w) (h.place n) ≡ 1) mark.marking.known.beside.words (reached_are_marked shapes l pacing may good limits known lists es legal.0 c led x is on mark n r)
+
+    is_over : IsOver s
     is_over = record {
-      heap = good_there shapes l pacing may good limits known lists es legal.0 c led x is on mark;
-      marking = mark.marking.good;
-      words = mark.marking.known.beside.words;
-      still = still;
-      none_placing = none_placing shapes l pacing may good limits known lists es legal.0 c led x is on mark;
-      packed = found.packed;
+      counts = mark.marking.known.under_way.0;
+      under_way = mark.marking.known.under_way.1;
+      none_held = still.none_held;
+      none_laid = still.none_laid;
+      none_freed = still.none_freed;
+      owes_none = pends;
+      stand = known.stand mark.marking.cycle h mark.marking.shared mark.marking.good mark.marking.known.beside.words (none_placing shapes l pacing may good limits known lists es legal.0 c led x is on mark);
       marks_fit = mark.marking.known.marks_fit;
-      counted = subst (λ (r : Arena). IsCounted r.layout h.words) (sym there) (found.counted still_bare pends);
+      reached = reached;
       tally = ap (λ (w : Words). w cell.Tally) words_here ∙ (lists.counts es c legal.0 led).no_tally (subst IsTallyClear (sym checked) tt);
       live = ap (λ (w : Words). w cell.Live) words_here ∙ (lists.counts es c legal.0 led).no_live (subst IsLiveClear (sym checked) tt);
       room = room;
     }
 
-    abbrev end : CycleEnd
-    end = end_of z h mark.marking.shared
+    -- So each span is unswept, and nobody sweeps.
 
-    abbrev spans : Spans
-    spans = (at_end (end_of z h mark.marking.shared)).shared
+    abbrev then : State
+    then = ended_state s
 
-    beside : SweepsBeside z (end_of z h mark.marking.shared) (with_words h (with_next_generation h.words)) (at_end (end_of z h mark.marking.shared)).shared
-    beside = subst (λ (r : Arena). SweepsBeside r (end_of r h mark.marking.shared) (with_words h (with_next_generation h.words)) (at_end (end_of r h mark.marking.shared)).shared) there (known.begins mark.marking.cycle h mark.marking.shared is_over (reached_are_marked shapes l pacing may good limits known lists es legal.0 c led x is on mark))
+    good_then : StateGood z then
+    good_then = known.cycles_end z s mark.marking.known.has.good is_over
 
-    sweeps_all : SweepsAll end (acks_of l) spans (over_all.opening c.layout c.generation)
+    pages : s.end.layout.pages ≡ l.pages
+    pages = ap (λ (y : Layout). y.pages) mark.marking.known.has.good.layout
+
+    sweeps_all : SweepsAll (acks_of l) then (over_all.opening c.layout c.generation)
     sweeps_all = record {
-      layout_is = sound.0;
+      layout_is = sound.0 ∙ sym mark.marking.known.has.good.layout;
       generation_is = sym stored ∙ sym next;
-      alone = λ p b i. absurd (nobody_sweeps (page_of (with_next_generation h.words (cell.Page p))) b i);
-      owes_none = λ b. refl;
+      alone = λ p b i. absurd (nobody_sweeps (page_of (h.words (cell.Page p))) b i);
       passed = λ p lt. absurd (omega (arith, lt));
-      stage_is = (let some = limits.pages_fit.0 in omega (arith, some), record { none = λ p i. absurd (nobody_sweeps (page_of (with_next_generation h.words (cell.Page p))) (acks_of l) i); told = refl });
+      stage_is = (let some = limits.pages_fit.0 in omega (arith, some, pages), record { none = λ p i. absurd (nobody_sweeps (page_of (h.words (cell.Page p))) (acks_of l) i); told = refl });
     }
+
+    -- and the objects of since are those that are marked
+    as_it_ended : IsAsItEnded then
+    as_it_ended = record { none_freed = still.none_freed; slots = λ i. refl; since = λ i set. eqb-true (row_bit (mark_words h.words) i) 1 set }
 
     in_cycle : IsInCycle shapes l pacing may es c.begun
     in_cycle = go mark.marking.known.cycle where
@@ -164,7 +161,7 @@ module _ (shapes : List Shape) (l : Layout) (pacing : Pacing) (may : ℕ → Lis
       go (inr k) = subst (IsInCycle shapes l pacing may es) same k
       go (inl b) = absurd (no_beginning c.stage x is (let one : b.lead ≡ c = (let both = sym b.led ∙ led in cc) in subst (λ (d : Coordinating). IsBeginning d.stage) one b.stage))
 
-    ended : EndedSo shapes l pacing may (e ∷ es) c.begun end
+    ended : EndedSo shapes l pacing may (e ∷ es) c.begun (end_of s)
     ended = record {
       ended = e ∷ es;
       start = whole (e ∷ es);
@@ -178,29 +175,38 @@ module _ (shapes : List Shape) (l : Layout) (pacing : Pacing) (may : ℕ → Lis
     seat_from : l.procs ≤ e.actor
     seat_from = from shapes l pacing may known lists e es legal c led by
 
-    old : (g : ℕ) → (h.words (cell.Scanned g) ≤ c.begun) ⊎ (h.words (cell.Scanned g) ≡ END)
-    old g = go (lists.numbers es legal.0 g) where
+    -- each stack was scanned in this cycle or before, if at all
+    scanned : (g : ℕ) → (h.words (cell.Scanned g) < c.begun + 1) ⊎ (h.words (cell.Scanned g) ≡ END)
+    scanned g = go (lists.numbers es legal.0 g) where
       here : h.words (cell.Scanned g) ≡ words shapes l pacing may es (cell.Scanned g)
       here = ap (λ (w : Words). w (cell.Scanned g)) words_here
 
-      go : (words shapes l pacing may es (cell.Scanned g) ≡ END) ⊎ (words shapes l pacing may es (cell.Scanned g) ≤ words shapes l pacing may es cell.Begun) → (h.words (cell.Scanned g) ≤ c.begun) ⊎ (h.words (cell.Scanned g) ≡ END)
+      go : (words shapes l pacing may es (cell.Scanned g) ≡ END) ⊎ (words shapes l pacing may es (cell.Scanned g) ≤ words shapes l pacing may es cell.Begun) → (h.words (cell.Scanned g) < c.begun + 1) ⊎ (h.words (cell.Scanned g) ≡ END)
       go (inl i) = inr (here ∙ i)
       go (inr i) = let b = begun_is in inl (omega (arith, here, i, b))
 
     calm_now : (a : ℕ) → a < l.procs → MarksNothing (processor_at shapes l pacing may es a)
     calm_now a lt = known.calm.behind mark.marking.cycle a mark.marking.shared (processor_at shapes l pacing may es a) _ (still_at shapes l pacing may good limits known lists es legal.0 c led x is on mark a lt) (facts shapes l pacing may good limits known lists es legal.0 c led x is on mark a lt)
 
+    nobody : NobodyMarks shapes l pacing may es (c.begun + 1) h.words
+    nobody = record { buffers = λ b. buffers shapes l pacing may good limits known lists es legal.0 c led x is on mark b; stacks = scanned; processors = calm_now }
+
+    abbrev has_then : HasState shapes l pacing may (e ∷ es)
+    has_then = record {
+      state = then;
+      of_list = heap_on shapes l pacing may known lists e es legal c led by stopped h mark.marking.known.has.of_list (next_words h.words) words_so only;
+      good = good_then;
+      placing = λ a lt. sym (owes_nothing shapes l pacing may known lists es legal.0 c led run.Mark stopped a lt) ∙ ap (λ (m : Processor). uncounted m.task) (sym (state_stays shapes l pacing may e es a (apart shapes l pacing may known lists e es legal seat_from a lt)));
+      others_place = λ a le. refl;
+    }
+
     pub sweeping : (d : Coordinating) → d.begun ≡ c.begun → IsSweeping shapes l pacing may (e ∷ es) d (over_all.opening c.layout c.generation)
     sweeping d same = record {
-      heap = with_words h (with_next_generation h.words);
-      of_list = heap_on shapes l pacing may known lists e es legal c led by stopped h mark.marking.known.of_list (with_next_generation h.words) words_so only;
-      end = end;
-      spans = spans;
-      beside = beside;
+      has = has_then;
+      over = refl;
       sweeps = sweeps_all;
+      as_it_ended = as_it_ended;
       cycle = subst (IsInCycle shapes l pacing may (e ∷ es)) (sym same) (in_cycle_on shapes l pacing may known lists e es legal seat_from c led by (subst NotAcks (sym is) tt) c.begun in_cycle);
-      ended = subst (λ (k : ℕ). EndedSo shapes l pacing may (e ∷ es) k end) (sym same) ended;
-      buffers = λ b. buffer shapes l pacing may known lists e es legal c led by stopped h mark.marking.known.of_list (with_next_generation h.words) words_so only b ∙ buffers shapes l pacing may good limits known lists es legal.0 c led x is on mark b;
-      stacks = λ g. subst (λ (k : ℕ). (h.words (cell.Scanned g) ≤ k) ⊎ (h.words (cell.Scanned g) ≡ END)) (sym same) (old g);
-      processors = λ a lt. subst MarksNothing (sym (state_stays shapes l pacing may e es a (apart shapes l pacing may known lists e es legal seat_from a lt))) (calm_now a lt);
+      ended = subst (λ (k : ℕ). EndedSo shapes l pacing may (e ∷ es) k (end_of s)) (sym same) ended;
+      nobody = nobody_on shapes l pacing may known lists e es legal c led by stopped h mark.marking.known.has.of_list (next_words h.words) words_so only (c.begun + 1) (d.begun + 1) (ap (λ (k : ℕ). k + 1) same) nobody;
     }

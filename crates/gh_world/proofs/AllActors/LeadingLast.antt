@@ -13,9 +13,10 @@ use Rattle.gh_phase.specs.declared.view.RunPhase.TheVariants as run
 use Rattle.gh_phase.specs.ResumePlaces.{stands_at}
 use Rattle.gh_world.specs.Actors.{BeginsCycle}
 use Rattle.gh_world.specs.Handshake.{Sound as ActorSound}
-use Rattle.gh_world.specs.HoldVocabulary.{IsCalm, marks_at}
+use Rattle.gh_world.specs.ActorsHold.{HasState}
+use Rattle.gh_world.specs.HoldVocabulary.{marks_at}
 use Rattle.gh_world.specs.Numbers.{IsLiveCounted}
-use Rattle.gh_world.proofs.Vocabulary.{acks_of, acts, alloc_words, Arena, arena, Ask, birth_words, Close, Coordinating, CoordStage, CycleEnd, Done, effect, EndedSo, EndsAllMarked, EndsCycle, Entry, Ever, ever, Gone, Heap, is_last_task, IsEnding, IsInLimits, IsJustSwept, IsHeapOf, IsLed, IsMade, IsMarkedObject, IsOf, IsPlacedAt, IsQuiet, IsStartOf, IsStepIn, last_of, last_phase, Layout, Lead, Leads, LeavesTheReached, Legal, mod_below, Name, new_stage_at, NewStage, Op, Pacing, page_words, part_of, party_of, place_of, Placed, placed, Polling, polls_at, PollStage, processor_at, processor_kind, Reach, ResumeStage, Row, row_bit, Shape, slot_row, Spans, stage_at, stage_of, started, Store, Task, those, view, Waiting, waiting, waits_at, WaitStage, Words, words}
+use Rattle.gh_world.proofs.Vocabulary.{acks_of, acts, alloc_words, Arena, arena, Ask, birth_words, Close, Coordinating, CoordStage, CycleEnd, Done, effect, EndedSo, EndsAllMarked, EndsCycle, Entry, Ever, ever, Gone, Heap, is_last_task, IsEnding, IsInLimits, IsJustSwept, IsLed, IsMade, IsMarkedObject, IsOf, IsPlacedAt, IsQuiet, IsStartOf, IsStepIn, last_of, last_phase, Layout, Lead, Leads, LeavesTheReached, Legal, mod_below, Name, new_stage_at, NewStage, Op, Pacing, page_words, part_of, party_of, place_of, Placed, placed, Polling, polls_at, PollStage, processor_at, processor_kind, Reach, ResumeStage, Row, row_bit, Shape, slot_row, stage_at, stage_of, started, Store, Task, those, view, Waiting, waiting, waits_at, WaitStage, Words, words}
 use Rattle.gh_world.proofs.AllActors.Known.{Known, ListsKnown}
 use Rattle.gh_world.proofs.AllActors.LeadingNames.{placed_there}
 use Rattle.gh_world.proofs.AllActors.LeadingNumbers.{ends_once}
@@ -54,7 +55,7 @@ has_left p task.Poll is = absurd (polls_on p p.stage is)
 has_left p _ is = absurd cc
 
 -- the request that ends a cycle
-ends_by : (c : Coordinating) (p : CoordStage) → IsEnding p → (x : ℕ) × (coord.asks_at c p ≡ Store cell.Gen x)
+pub ends_by : (c : Coordinating) (p : CoordStage) → IsEnding p → (x : ℕ) × (coord.asks_at c p ≡ Store cell.Gen x)
 ends_by c (Close y) is = (y.generation, ap (close.asks_at y) is)
 ends_by c _ is = absurd is
 
@@ -93,17 +94,23 @@ module _ (shapes : List Shape) (l : Layout) (pacing : Pacing) (may : ℕ → Lis
     ever_then = ever_stays shapes l pacing may known.points d ds legal (from shapes l pacing may known lists d ds legal x.lead x.led x.by)
 
   -- What stands once a cycle is swept was marked where it ended; so, if it had been made by then, a script reached it where the cycle began.
-  module _ (es : List (Entry Op)) (legal : Legal (those shapes l pacing may) es) (k : ℕ) (h : Heap) (of : IsHeapOf shapes l pacing may es h) (x : CycleEnd) (v : Spans) (calm : IsCalm z x h v) (so : EndedSo shapes l pacing may es k x)
-      (left : (n : Name) → IsMade h.ever.made n → Placed (alloc_words h.words) (birth_words h.words) h.place n → row_bit (marks_at x) (h.place n) ≡ 1) (ends : EndsAllMarked shapes l pacing may es) where
+  module _ (es : List (Entry Op)) (legal : Legal (those shapes l pacing may) es) (k : ℕ) (has : HasState shapes l pacing may es) (so : EndedSo shapes l pacing may es k has.state.end)
+      (left : (n : Name) → IsMade has.state.heap.ever.made n → Placed (alloc_words has.state.heap.words) (birth_words has.state.heap.words) has.state.heap.place n → row_bit (marks_at has.state.end) (has.state.heap.place n) ≡ 1) (ends : EndsAllMarked shapes l pacing may es) where
+    abbrev stood : Heap
+    stood = has.state.heap
+
+    abbrev x : CycleEnd
+    x = has.state.end
+
     module _ (n : Name) (made : IsMade (ever shapes l pacing may es).made n) (a : ℕ) (at : IsPlacedAt (words shapes l pacing may es) n a) where
-      made_there : IsMade h.ever.made n
-      made_there = subst (λ (u : Ever). IsMade u.made n) (sym of.ever_is) made
+      made_there : IsMade stood.ever.made n
+      made_there = subst (λ (u : Ever). IsMade u.made n) (sym has.of_list.ever_is) made
 
-      there : Placed (alloc_words h.words) (birth_words h.words) (λ m. a) n
-      there = subst (λ (w : Words). Placed (alloc_words w) (birth_words w) (λ m. a) n) (sym of.words_are) at
+      there : Placed (alloc_words stood.words) (birth_words stood.words) (λ m. a) n
+      there = subst (λ (w : Words). Placed (alloc_words w) (birth_words w) (λ m. a) n) (sym has.of_list.words_are) at
 
-      here : (h.place n ≡ a) × Placed (alloc_words h.words) (birth_words h.words) h.place n
-      here = placed_there z (view h) calm.heap n a made_there there.set there.says
+      here : (stood.place n ≡ a) × Placed (alloc_words stood.words) (birth_words stood.words) stood.place n
+      here = placed_there z (view stood) has.good.heap n a made_there there.set there.says
 
       set_at : row_bit (marks_at x) a ≡ 1
       set_at = ap (λ (i : ℕ). row_bit (marks_at x) i) (sym here.0) ∙ left n made_there here.1
@@ -111,7 +118,7 @@ module _ (shapes : List Shape) (l : Layout) (pacing : Pacing) (may : ℕ → Lis
       marked_there : IsMarkedObject shapes l pacing may (words shapes l pacing may so.ended) n
       marked_there = (
         a,
-        record { set = ap (λ (r : Row). row_bit r a) (sym so.alloc) ∙ calm.ended.stand a set_at; says = sym (so.births a) ∙ at.says },
+        record { set = ap (λ (r : Row). row_bit r a) (sym so.alloc) ∙ has.good.ended.stand a set_at; says = sym (so.births a) ∙ at.says },
         ap (λ (r : Row). row_bit r a) (sym so.marks) ∙ set_at,
       )
 
@@ -128,9 +135,9 @@ module _ (shapes : List Shape) (l : Layout) (pacing : Pacing) (may : ℕ → Lis
     pub marked_were : (begun : List (Entry Op)) → IsStartOf begun es → BeginsCycle shapes l pacing may k begun → (n : Name) → IsMade (ever shapes l pacing may begun).made n → (a : ℕ) → IsPlacedAt (words shapes l pacing may es) n a → Reach (ever shapes l pacing may begun) n
     marked_were begun of_begun begins n made a at = by_end so.ended so.start so.ends begun of_begun begins n made (marked_there n (still_made begun es of_begun n made) a at)
 
-  module _ (es : List (Entry Op)) (legal : Legal (those shapes l pacing may) es) (c : Coordinating) (led : IsLed shapes l pacing may es c) (done : c.stage ≡ Done) (q : IsQuiet shapes l pacing may es c) (j : IsJustSwept shapes l pacing may es c q.heap q.end) (ends : EndsAllMarked shapes l pacing may es) where
+  module _ (es : List (Entry Op)) (legal : Legal (those shapes l pacing may) es) (c : Coordinating) (led : IsLed shapes l pacing may es c) (done : c.stage ≡ Done) (q : IsQuiet shapes l pacing may es c) (j : IsJustSwept shapes l pacing may es c q.has.state.heap q.has.state.end) (ends : EndsAllMarked shapes l pacing may es) where
     abbrev h : Heap
-    h = q.heap
+    h = q.has.state.heap
 
     finished : last_phase es ≡ run.Finished
     finished =
@@ -150,7 +157,7 @@ module _ (shapes : List Shape) (l : Layout) (pacing : Pacing) (may : ℕ → Lis
       left_there = has_left (processor_at shapes l pacing may es a).poll (processor_at shapes l pacing may es a).task gone
 
       pub all_ended : (g : ℕ) → IsOf z a g → (ever shapes l pacing may es).ended g ≡ true
-      all_ended g its = subst (λ (v : Ever). v.ended g ≡ true) q.of_list.ever_is ((q.of_list.processors a lt).left left_there g its)
+      all_ended g its = subst (λ (v : Ever). v.ended g ≡ true) q.has.of_list.ever_is ((q.has.of_list.processors a lt).left left_there g its)
 
     over : (g : ℕ) → g < l.goroutines → (ever shapes l pacing may es).ended g ≡ true
     over g lt = all_ended (g % l.procs) (mod_below g l.procs (let some = limits.procs_fit.0 in omega (arith, some))) g (lt, refl)
@@ -176,12 +183,12 @@ module _ (shapes : List Shape) (l : Layout) (pacing : Pacing) (may : ℕ → Lis
       made_then = subst (λ (v : Ever). IsMade v.made n) same_ever made
 
       stands : ((a : ℕ) × IsPlacedAt (words shapes l pacing may es) n a) → Reach (ever shapes l pacing may es) n
-      stands (a, at) = subst (λ (v : Ever). Reach v n) (sym same_ever) (marked_were es legal c.begun q.heap q.of_list q.end q.spans q.calm j.ended j.left ends j.cycle.begun j.cycle.start j.cycle.begins n made_then a at)
+      stands (a, at) = subst (λ (v : Ever). Reach v n) (sym same_ever) (marked_were es legal c.begun q.has j.ended j.left ends j.cycle.begun j.cycle.start j.cycle.begins n made_then a at)
 
       is_left : Reach (ever shapes l pacing may es) n → ((a : ℕ) × IsPlacedAt (words shapes l pacing may es) n a)
       is_left r =
-          let p = q.calm.heap.reached n (subst (λ (v : Ever). Reach v n) (sym q.of_list.ever_is) r) in
-          (h.place n, subst (λ (w : Words). Placed (alloc_words w) (birth_words w) (λ m. h.place n) n) q.of_list.words_are (record { set = p.set; says = p.says }))
+          let p = q.has.good.heap.reached n (subst (λ (v : Ever). Reach v n) (sym q.has.of_list.ever_is) r) in
+          (h.place n, subst (λ (w : Words). Placed (alloc_words w) (birth_words w) (λ m. h.place n) n) q.has.of_list.words_are (record { set = p.set; says = p.says }))
 
       -- the last cycle's
       marked_at : (ended : List (Entry Op)) → IsStartOf ended es → EndsCycle shapes l pacing may c.begun ended → ever shapes l pacing may es ≡ ever shapes l pacing may ended → IsMarkedObject shapes l pacing may (words shapes l pacing may ended) n ↔ Reach (ever shapes l pacing may es) n
@@ -189,7 +196,7 @@ module _ (shapes : List Shape) (l : Layout) (pacing : Pacing) (may : ℕ → Lis
       marked_at (d ∷ ds) start x same =
           let legal_d = legal_start (those shapes l pacing may) (d ∷ ds) es start legal in
           let same_d = same ∙ ever_then d ds legal_d c.begun x n in (
-            (λ i. subst (λ (v : Ever). Reach v n) (sym same_ever) (by_end es legal c.begun q.heap q.of_list q.end q.spans q.calm j.ended j.left ends (d ∷ ds) start x j.cycle.begun j.cycle.start j.cycle.begins n made_then i)),
+            (λ i. subst (λ (v : Ever). Reach v n) (sym same_ever) (by_end es legal c.begun q.has j.ended j.left ends (d ∷ ds) start x j.cycle.begun j.cycle.start j.cycle.begins n made_then i)),
             (λ r. marked_now d ds legal_d c.begun x n ((ends d ds c.begun start x).reached n (subst (λ (v : Ever). Reach v n) same_d r))),
           )
 
@@ -199,9 +206,9 @@ module _ (shapes : List Shape) (l : Layout) (pacing : Pacing) (may : ℕ → Lis
     live_is : c.live ≡ placed (alloc_words (words shapes l pacing may es)) (slot_row (page_words (words shapes l pacing may es))) (16 * l.pages)
     live_is =
         let counted : IsLiveCounted (part_of c.stage) = subst (λ (p : CoordStage). IsLiveCounted (part_of p)) (sym done) tt in
-        let pages : q.end.layout.pages ≡ l.pages = ap (λ (y : Layout). y.pages) q.calm.layout in
+        let pages : q.has.state.end.layout.pages ≡ l.pages = ap (λ (y : Layout). y.pages) q.has.good.layout in
         let told : h.words cell.Live ≡ placed (alloc_words h.words) (slot_row (page_words h.words)) (16 * l.pages) = subst (λ (i : ℕ). h.words cell.Live ≡ placed (alloc_words h.words) (slot_row (page_words h.words)) (16 * i)) pages j.told.live in
-        sym ((lists.counts es c legal led).live counted) ∙ subst (λ (w : Words). w cell.Live ≡ placed (alloc_words w) (slot_row (page_words w)) (16 * l.pages)) q.of_list.words_are told
+        sym ((lists.counts es c legal led).live counted) ∙ subst (λ (w : Words). w cell.Live ≡ placed (alloc_words w) (slot_row (page_words w)) (16 * l.pages)) q.has.of_list.words_are told
 
     pub leaves : LeavesTheReached shapes l pacing may es c
     leaves = record {

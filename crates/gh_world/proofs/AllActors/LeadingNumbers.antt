@@ -46,8 +46,7 @@ opens_keep w o _ = (refl, refl)
 
 stops_keep : (w : Words) (st : stop.Stopping) (p : StopStage) → Keeps w (stop.asks_at st p)
 stops_keep w st stop_stage.StorePhase = (refl, refl)
-stops_keep w st (stop_stage.Await ack) = (refl, refl)
-stops_keep w st stop_stage.Ended = (refl, refl)
+stops_keep w st _ = (refl, refl)
 
 watches_keep : (w : Words) (x : watch.Watching) (p : WatchStage) → Keeps w (watch.asks_at x p)
 watches_keep w x (watch_stage.Look i) = (refl, refl)
@@ -56,25 +55,21 @@ watches_keep w x (watch_stage.Ended y) = (refl, refl)
 sweeps_keep : (w : Words) (x : over.SweepingAll) (p : SweepAllStage) → Keeps w (over.asks_at x p)
 sweeps_keep w x (all.LoadPage page) = (refl, refl)
 sweeps_keep w x (all.Sweep page m) = numbers_stay m m.stage w
-sweeps_keep w x (all.Await page) = (refl, refl)
-sweeps_keep w x all.Ended = (refl, refl)
+sweeps_keep w x _ = (refl, refl)
 
 counts_keep : (w : Words) (p : CountStage) → Keeps w (count.asks_at p)
 counts_keep w count_stage.LoadTally = (refl, refl)
-counts_keep w (count_stage.LoadLive t) = (refl, refl)
-counts_keep w (count_stage.Ended t) = (refl, refl)
+counts_keep w _ = (refl, refl)
 
 closes_keep : (w : Words) (x : close.Closing) (p : CloseStage) → (p ≡ close_stage.StoreGen) ⊎ Keeps w (close.asks_at x p)
 closes_keep w x close_stage.LoadBank = inr (refl, refl)
-closes_keep w x close_stage.ClearBank = inr (refl, refl)
 closes_keep w x close_stage.StoreGen = inl refl
-closes_keep w x close_stage.Ended = inr (refl, refl)
+closes_keep w x _ = inr (refl, refl)
 
 tells_keep : (w : Words) (x : tell.Telling) (p : TellStage) → (p ≡ tell_stage.StoreSwept) ⊎ Keeps w (tell.asks_at x p)
 tells_keep w x tell_stage.StoreTrigger = inr (refl, refl)
 tells_keep w x tell_stage.StoreSwept = inl refl
-tells_keep w x tell_stage.StorePhase = inr (refl, refl)
-tells_keep w x tell_stage.Ended = inr (refl, refl)
+tells_keep w x _ = inr (refl, refl)
 
 keeps_at : (w : Words) (c : Coordinating) (p : CoordStage) → IsEnding p ⊎ (IsTelling p ⊎ Keeps w (coord.asks_at c p))
 keeps_at w c (Stop st) = inr (inr (stops_keep w st st.stage))

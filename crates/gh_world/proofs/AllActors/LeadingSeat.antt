@@ -2,7 +2,6 @@
 use Rattle.std.proofs.Common.{◌≡◌, ℕ, ◌<◌, ◌≤◌, Bool, true, false, ltb, refl, sym, ap, ◌∙◌, arith, List, ◌∷◌, None}
 use Rattle.gh_coord.specs.Handshake as leading
 use Rattle.gh_coord.specs.Listing as coord
-use Rattle.gh_cycle.specs.Ending.{IsStill}
 use Rattle.gh_mutator.specs.declared.new.NewStage.TheVariants as new
 use Rattle.gh_mutator.specs.declared.task.Task.TheVariants as task
 use Rattle.gh_world.specs.declared.handshake.Actor.TheVariants as actor
@@ -12,6 +11,13 @@ use Rattle.gh_world.proofs.Vocabulary.{acks_of, Actor, actors, actors_after, Are
 use Rattle.gh_world.proofs.AllActors.Known.{Known, ListsKnown}
 use Rattle.gh_world.proofs.AllActors.Resting.{runs_are}
 use Rattle.gh_world.proofs.CycleMarking.Seats.{lead_started, leads}
+
+-- nobody has the lock, holds a span, lays one out or frees the pages of one
+pub record IsStill (h : Heap) : Type 0 where
+  pub unlocked : (a : ℕ) → h.locked a ≡ false
+  pub none_held : (a p : ℕ) → h.holds a p ≡ false
+  pub none_laid : (a : ℕ) → h.laying a ≡ None
+  pub none_freed : (a : ℕ) → h.freeing a ≡ None
 
 -- what was placed and not counted is of a processor that makes an object, so it is not parked
 parked_new : (p : Polling) (stops : ℕ) (s : NewStage) → IsParked stops (new_stage_at p s) → uncounted_new s ≡ 0

@@ -21,8 +21,7 @@ use Rattle.gh_world.proofs.AllActors.Starts.{counted_on}
 -- each request is a load, or stores the trigger, the last swept cycle or the phase
 counts_tell : (p : CountStage) → TellsNothing (count.asks_at p)
 counts_tell counting.LoadTally = loads_only _
-counts_tell (counting.LoadLive t) = loads_only _
-counts_tell (counting.Ended t) = loads_only _
+counts_tell _ = loads_only _
 
 tells_tell : (t : tell.Telling) (p : TellStage) → TellsNothing (tell.asks_at t p)
 tells_tell t telling.StoreTrigger = trigger_only _
@@ -41,15 +40,14 @@ one_of (w ∷ xs) x y (suc i) is = go (one_of xs x y i is) where
   go (inr k) = inr k
 
 module _ (shapes : List Shape) (l : Layout) (pacing : Pacing) (may : ℕ → List (Entry Op) → Op → Bool) (known : Known) (lists : ListsKnown shapes l pacing may) where
-  -- the heap is calm, and the cycle just swept
+  -- each span is swept, and the cycle just so
   abbrev pub Just : List (Entry Op) → Coordinating → Type 0
-  Just es c = (q : IsQuiet shapes l pacing may es c) × IsJustSwept shapes l pacing may es c q.heap q.end
+  Just es c = (q : IsQuiet shapes l pacing may es c) × IsJustSwept shapes l pacing may es c q.has.state.heap q.has.state.end
 
   pub just_at : (es : List (Entry Op)) (c : Coordinating) (p : TellStage) → IsTelling shapes l pacing may es c p → Just es c
   just_at es c telling.StoreTrigger k = k
-  just_at es c telling.StoreSwept k = k
-  just_at es c telling.StorePhase k = k
   just_at es c telling.Ended k = absurd k
+  just_at es c _ k = k
 
   module _ (e : Entry Op) (es : List (Entry Op)) (legal : Legal (those shapes l pacing may) (e ∷ es)) (c : Coordinating) (led : IsLed shapes l pacing may es c) (by : e.actor ≡ acks_of l) where
     abbrev u : Coordinating
@@ -126,14 +124,14 @@ module _ (shapes : List Shape) (l : Layout) (pacing : Pacing) (may : ℕ → Lis
           freed = freed_is;
           all = all_is;
         } where
-          j : IsJustSwept shapes l pacing may es c k.0.heap k.0.end
+          j : IsJustSwept shapes l pacing may es c k.0.has.state.heap k.0.has.state.end
           j = k.1
 
-          read : t ≡ tally_of (k.0.heap.words cell.Tally)
-          read = t_is ∙ sym (ap (λ (y : Words). tally_of (y cell.Tally)) k.0.of_list.words_are)
+          read : t ≡ tally_of (k.0.has.state.heap.words cell.Tally)
+          read = t_is ∙ sym (ap (λ (y : Words). tally_of (y cell.Tally)) k.0.has.of_list.words_are)
 
-          pages : k.0.end.layout.pages ≡ l.pages
-          pages = ap (λ (y : Layout). y.pages) k.0.calm.layout
+          pages : k.0.has.state.end.layout.pages ≡ l.pages
+          pages = ap (λ (y : Layout). y.pages) k.0.has.good.layout
 
           marked_is : t.marked ≡ marked_objects (alloc_words (words shapes l pacing may j.ended.ended)) (mark_words (words shapes l pacing may j.ended.ended)) 0 l.pages
           marked_is = rw (sym j.ended.alloc, sym j.ended.marks, sym pages) (ap (λ (y : TallyWord). y.marked) read ∙ j.told.marked)
@@ -145,8 +143,8 @@ module _ (shapes : List Shape) (l : Layout) (pacing : Pacing) (may : ℕ → Lis
           all_is =
               let m = ap (λ (y : TallyWord). y.marked) read ∙ j.told.marked in
               let f = ap (λ (y : TallyWord). y.freed) read ∙ j.told.freed in
-              let a = (known.exact.objects k.0.end k.0.calm.ended).all in
-              rw (sym j.ended.alloc, sym pages) (ap (λ (i : ℕ). i + t.freed) m ∙ (ap (λ (i : ℕ). marked_objects (alloc_at k.0.end) (marks_at k.0.end) 0 k.0.end.layout.pages + i) f ∙ a))
+              let a = (known.bits k.0.has.state.end k.0.has.good.ended).all in
+              rw (sym j.ended.alloc, sym pages) (ap (λ (i : ℕ). i + t.freed) m ∙ (ap (λ (i : ℕ). marked_objects (alloc_at k.0.has.state.end) (marks_at k.0.has.state.end) 0 k.0.has.state.end.layout.pages + i) f ∙ a))
 
         kept_counted : (t : TallyWord) → t ≡ tally_of (words shapes l pacing may es cell.Tally) → (b : Bool) (i : ℕ) (y : CycleNumbers) → slice_get (cond b (c.cycles.items ++ coord.cycle_of c.begun t ∷ []) c.cycles.items) i ≡ Some y → WasCounted shapes l pacing may (e ∷ es) y
         kept_counted t t_is false i y at = were i y at

@@ -38,7 +38,7 @@ module _ (shapes : List Shape) (l : Layout) (pacing : Pacing) (may : ℕ → Lis
       no_ending = ends_on shapes l pacing may e es (λ k x. absurd (not_ending step.lead.stage (subst (λ (d : Coordinating). IsEnding d.stage) (both_led x.lead step.lead x.led step.led) x.stage) step.stage)) before
 
       frees_them : Frees shapes l pacing may begun (e ∷ es)
-      frees_them n made unreached b placed_then = unreached (marked_were shapes l pacing may limits known lists (e ∷ es) legal c.begun j.0.heap j.0.of_list j.0.end j.0.spans j.0.calm j.1.ended j.1.left no_ending begun (inr start) begins n made b placed_then)
+      frees_them n made unreached b placed_then = unreached (marked_were shapes l pacing may limits known lists (e ∷ es) legal c.begun j.0.has j.1.ended j.1.left no_ending begun (inr start) begins n made b placed_then)
 
     just_then : (p : CoordStage) → c.stage ≡ p → IsTelling p → Just shapes l pacing may known lists (e ∷ es) c
     just_then (Tell t) is x = told_then shapes l pacing may known lists e es legal c led by t is (just_at shapes l pacing may known lists es c t.stage (subst (HoldsAt shapes l pacing may es c) is at))

@@ -3,9 +3,9 @@ use Rattle.std.proofs.Common.{◌≡◌, ◌≢◌, ℕ, Bool, false, cond, refl
 use Rattle.gh_base.specs.declared.cell.Cell.TheVariants as cell
 use Rattle.gh_heap.specs.Moves.{IsAside as IsAsideCell}
 use Rattle.gh_marks.specs.Knows.{KnowsObjects}
+use Rattle.gh_marks.specs.Laws.{MarksStayWords}
 use Rattle.gh_marks.specs.Moves.{goes, stays}
 use Rattle.gh_cycle.specs.Beside.{IsBeside as GoesTogether}
-use Rattle.gh_cycle.specs.Ending.{MarksStayWords}
 use Rattle.gh_coord.specs.declared.close.CloseStage.TheVariants as close_stage
 use Rattle.gh_coord.specs.declared.open.OpenStage.TheVariants as open_stage
 use Rattle.gh_coord.specs.declared.stop.StopStage.TheVariants as stop_stage
@@ -18,7 +18,7 @@ use Rattle.gh_coord.specs.Stopping as stop
 use Rattle.gh_coord.specs.Watching as watch
 use Rattle.gh_worker.specs.Writing.{IsWritten}
 use Rattle.gh_world.proofs.Vocabulary.{Add, And, Arena, arena, AreWords, Ask, Cell, cell_of, ChangesOneCell, Check, Close, CloseStage, Coordinating, CoordStage, Cycle, effect, Entry, Good, IsBeginning, IsKnown, Layout, left, Load, mark_words, Marking, MarkingGood, MarkOn, Op, Open, OpenStage, Or, Pacing, same_cell, Shape, StopAgain, StopStage, Store, Swap, view, Watch, WatchStage, Went, Words, WritesItsOwn}
-use Rattle.gh_world.proofs.AllActors.Aside.{beside_of, IsOfMarking, loads, stores_bank, stores_phase}
+use Rattle.gh_world.proofs.AllActors.Aside.{beside_of, IsBeside, loads, stores_bank, stores_phase}
 use Rattle.gh_world.proofs.AllActors.Known.{Known}
 
 -- Words that a worker writes.
@@ -27,7 +27,6 @@ use Rattle.gh_world.proofs.AllActors.Known.{Known}
 record IsApart (c : Cell) : Type 0 where
   aside : IsAsideCell c
   heap : same_cell c cell.Heap ≡ false
-  generation : same_cell c cell.Gen ≡ false
   page : (i : ℕ) → same_cell c (cell.Page i) ≡ false
   alloc : (i : ℕ) → same_cell c (cell.Alloc i) ≡ false
   birth : (i : ℕ) → same_cell c (cell.Birth i) ≡ false
@@ -35,38 +34,35 @@ record IsApart (c : Cell) : Type 0 where
   scanned : (i : ℕ) → same_cell c (cell.Scanned i) ≡ false
 
 apart_cell : (seat : ℕ) (c : Cell) → IsWritten seat c → IsApart c
-apart_cell seat (cell.Buffer b) is = record { aside = tt; heap = refl; generation = refl; page = λ i. refl; alloc = λ i. refl; birth = λ i. refl; global = λ i. refl; scanned = λ i. refl }
-apart_cell seat (cell.Entry b j) is = record { aside = tt; heap = refl; generation = refl; page = λ i. refl; alloc = λ i. refl; birth = λ i. refl; global = λ i. refl; scanned = λ i. refl }
-apart_cell seat (cell.Mark m) is = record { aside = tt; heap = refl; generation = refl; page = λ i. refl; alloc = λ i. refl; birth = λ i. refl; global = λ i. refl; scanned = λ i. refl }
-apart_cell seat (cell.Ack a) is = record { aside = tt; heap = refl; generation = refl; page = λ i. refl; alloc = λ i. refl; birth = λ i. refl; global = λ i. refl; scanned = λ i. refl }
+apart_cell seat (cell.Buffer b) is = record { aside = tt; heap = refl; page = λ i. refl; alloc = λ i. refl; birth = λ i. refl; global = λ i. refl; scanned = λ i. refl }
+apart_cell seat (cell.Entry b j) is = record { aside = tt; heap = refl; page = λ i. refl; alloc = λ i. refl; birth = λ i. refl; global = λ i. refl; scanned = λ i. refl }
+apart_cell seat (cell.Mark m) is = record { aside = tt; heap = refl; page = λ i. refl; alloc = λ i. refl; birth = λ i. refl; global = λ i. refl; scanned = λ i. refl }
+apart_cell seat (cell.Ack a) is = record { aside = tt; heap = refl; page = λ i. refl; alloc = λ i. refl; birth = λ i. refl; global = λ i. refl; scanned = λ i. refl }
 apart_cell seat _ is = absurd is
 
 -- a load leaves all
-of_marking : (c : Cell) → IsOfMarking (Load c)
-of_marking c = record { beside = beside_of (Load c) (loads c); generation = λ w. refl }
+of_marking : (c : Cell) → IsBeside (Load c)
+of_marking c = beside_of (Load c) (loads c)
 
 module _ (one : ChangesOneCell) where
   leaves : (ask : Ask) (w : Words) (at : Cell) → same_cell (cell_of ask) at ≡ false → effect w ask at ≡ w at
   leaves ask w at apart = one w ask at ∙ ap (λ (b : Bool). cond b (left ask (w (cell_of ask))) (w at)) apart
 
-  beside_by : (ask : Ask) → Rattle.gh_heap.specs.Moves.IsQuiet ask → IsApart (cell_of ask) → IsOfMarking ask
+  beside_by : (ask : Ask) → Rattle.gh_heap.specs.Moves.IsQuiet ask → IsApart (cell_of ask) → IsBeside ask
   beside_by ask quiet is = record {
-    beside = record {
-      quiet = quiet;
-      heap = λ w. leaves ask w cell.Heap is.heap;
-      page = λ w i. leaves ask w (cell.Page i) (is.page i);
-      alloc = λ w i. leaves ask w (cell.Alloc i) (is.alloc i);
-      birth = λ w i. leaves ask w (cell.Birth i) (is.birth i);
-      global = λ w i. leaves ask w (cell.Global i) (is.global i);
-      scanned = λ w i. leaves ask w (cell.Scanned i) (is.scanned i);
-    };
-    generation = λ w. leaves ask w cell.Gen is.generation;
+    quiet = quiet;
+    heap = λ w. leaves ask w cell.Heap is.heap;
+    page = λ w i. leaves ask w (cell.Page i) (is.page i);
+    alloc = λ w i. leaves ask w (cell.Alloc i) (is.alloc i);
+    birth = λ w i. leaves ask w (cell.Birth i) (is.birth i);
+    global = λ w i. leaves ask w (cell.Global i) (is.global i);
+    scanned = λ w i. leaves ask w (cell.Scanned i) (is.scanned i);
   }
 
   cursor_apart : IsApart cell.Gcur
-  cursor_apart = record { aside = tt; heap = refl; generation = refl; page = λ i. refl; alloc = λ i. refl; birth = λ i. refl; global = λ i. refl; scanned = λ i. refl }
+  cursor_apart = record { aside = tt; heap = refl; page = λ i. refl; alloc = λ i. refl; birth = λ i. refl; global = λ i. refl; scanned = λ i. refl }
 
-  pub works_beside : (seat : ℕ) (ask : Ask) → WritesItsOwn seat ask → IsOfMarking ask
+  pub works_beside : (seat : ℕ) (ask : Ask) → WritesItsOwn seat ask → IsBeside ask
   works_beside seat (Load c) is = of_marking c
   works_beside seat (Store c x) is = let d = apart_cell seat c is in beside_by (Store c x) d.aside d
   works_beside seat (Or c x) is = let d = apart_cell seat c is in beside_by (Or c x) d.aside d
@@ -84,28 +80,28 @@ module _ (shapes : List Shape) (l : Layout) (pacing : Pacing) (may : ℕ → Lis
   z = arena shapes l pacing may
 
   pub objects : (c : Cycle) (s : Marking) (es : List (Entry Op)) → MarkingGood c s → IsKnown shapes l pacing may c s es → KnowsObjects c s
-  objects c s es good k = known.objects c k.heap s (subst (λ (x : Arena). Good x (view k.heap)) (sym k.arena_is) k.good) good (subst (λ (x : Arena). GoesTogether x k.heap s) (sym k.arena_is) k.beside)
+  objects c s es good k = known.objects c k.has.state.heap s (subst (λ (x : Arena). Good x (view k.has.state.heap)) (sym k.arena_is) k.has.good.heap) good (subst (λ (x : Arena). GoesTogether x k.has.state.heap s) (sym k.arena_is) k.beside)
 
   -- The entries of the coordinator that leave the cycle marked.
 
-  asks_phase : (x : ℕ) → IsOfMarking (Store cell.Phase x)
-  asks_phase x = record { beside = beside_of (Store cell.Phase x) (stores_phase x); generation = λ w. refl }
+  asks_phase : (x : ℕ) → IsBeside (Store cell.Phase x)
+  asks_phase x = beside_of (Store cell.Phase x) (stores_phase x)
 
-  asks_bank : IsOfMarking (Store cell.Bank 0)
-  asks_bank = record { beside = beside_of (Store cell.Bank 0) (stores_bank 0); generation = λ w. refl }
+  asks_bank : IsBeside (Store cell.Bank 0)
+  asks_bank = beside_of (Store cell.Bank 0) (stores_bank 0)
 
-  asks_load : (c : Cell) → IsOfMarking (Load c)
+  asks_load : (c : Cell) → IsBeside (Load c)
   asks_load c = of_marking c
 
   module _ (s : Coordinating) where
-    opens_beside : (o : opens_by.CycleOpening) (p : OpenStage) → p ≡ open_stage.StorePhase → IsOfMarking (opens_by.asks_at o p)
-    opens_beside o p is = subst (λ (x : OpenStage). IsOfMarking (opens_by.asks_at o x)) (sym is) (asks_phase _)
+    opens_beside : (o : opens_by.CycleOpening) (p : OpenStage) → p ≡ open_stage.StorePhase → IsBeside (opens_by.asks_at o p)
+    opens_beside o p is = subst (λ (x : OpenStage). IsBeside (opens_by.asks_at o x)) (sym is) (asks_phase _)
 
-    watch_beside : (w : watch.Watching) (p : WatchStage) → IsOfMarking (watch.asks_at w p)
+    watch_beside : (w : watch.Watching) (p : WatchStage) → IsBeside (watch.asks_at w p)
     watch_beside w (watch_stage.Look i) = asks_load _
     watch_beside w (watch_stage.Ended x) = asks_load _
 
-    stop_beside : (st : stop.Stopping) (p : StopStage) → IsOfMarking (stop.asks_at st p)
+    stop_beside : (st : stop.Stopping) (p : StopStage) → IsBeside (stop.asks_at st p)
     stop_beside st stop_stage.StorePhase = asks_phase _
     stop_beside st (stop_stage.Await i) = asks_load _
     stop_beside st stop_stage.Ended = asks_load _
@@ -115,13 +111,13 @@ module _ (shapes : List Shape) (l : Layout) (pacing : Pacing) (may : ℕ → Lis
     StaysMarked (Close c) = c.stage ≢ close_stage.StoreGen
     StaysMarked _ = Unit {0}
 
-    close_beside : (c : close.Closing) (p : CloseStage) → p ≢ close_stage.StoreGen → IsOfMarking (close.asks_at c p)
+    close_beside : (c : close.Closing) (p : CloseStage) → p ≢ close_stage.StoreGen → IsBeside (close.asks_at c p)
     close_beside c close_stage.LoadBank other = asks_load _
     close_beside c close_stage.ClearBank other = asks_bank
     close_beside c close_stage.StoreGen other = absurd (other refl)
     close_beside c close_stage.Ended other = asks_load _
 
-    pub marks_beside : (p : CoordStage) → leading.Marks p → StaysMarked p → IsOfMarking (coord.asks_at s p)
+    pub marks_beside : (p : CoordStage) → leading.Marks p → StaysMarked p → IsBeside (coord.asks_at s p)
     marks_beside (Watch w) on still = watch_beside w w.stage
     marks_beside (StopAgain st) on still = stop_beside st st.stage
     marks_beside (Check w) on still = watch_beside w w.stage
@@ -129,7 +125,7 @@ module _ (shapes : List Shape) (l : Layout) (pacing : Pacing) (may : ℕ → Lis
     marks_beside (Close c) on still = close_beside c c.stage still
     marks_beside _ on still = absurd on
 
-    pub begins_beside : (p : CoordStage) → IsBeginning p → IsOfMarking (coord.asks_at s p)
+    pub begins_beside : (p : CoordStage) → IsBeginning p → IsBeside (coord.asks_at s p)
     begins_beside (Open o) b = opens_beside o o.stage b
     begins_beside _ b = absurd b
 

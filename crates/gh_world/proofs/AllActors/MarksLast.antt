@@ -1,8 +1,7 @@
 -- While a cycle is marked, what is known of the heap lasts behind an entry of a worker or of the coordinator.
-use Rattle.std.proofs.Common.{◌≡◌, ◌≢◌, ◌⊎◌, inl, inr, ℕ, ◌+◌, ◌%◌, ◌<◌, ◌≤◌, ◌==◌, Bool, true, false, refl, sym, ap, subst, ◌∙◌, arith, List, ◌∷◌}
+use Rattle.std.proofs.Common.{◌≡◌, ◌≢◌, ◌⊎◌, inl, inr, ℕ, ◌+◌, ◌%◌, ◌<◌, ◌≤◌, ◌==◌, Bool, true, false, refl, sym, ap, subst, ◌∙◌, arith, List, ◌∷◌, Some, None}
 use Rattle.gh_coord.specs.Handshake as leading
 use Rattle.gh_coord.specs.Listing as coord
-use Rattle.gh_cycle.specs.Allocating.{SweepStays}
 use Rattle.gh_cycle.specs.Beside.{IsBeside as IsTogether, MarksAlone}
 use Rattle.gh_cycle.specs.Since.{HasGoneOn}
 use Rattle.gh_heap.specs.Moves.{Quiet}
@@ -11,17 +10,17 @@ use Rattle.gh_worker.specs.Handshake as working
 use Rattle.gh_worker.specs.Listing as worker
 use Rattle.gh_world.specs.declared.handshake.Actor.TheVariants as actor
 use Rattle.gh_world.specs.Handshake.{asks, Sound as SoundActor}
-use Rattle.gh_world.specs.ActorsHold.{began, unmarked}
-use Rattle.gh_world.proofs.Vocabulary.{acks_of, Actor, actors, actors_after, Arena, arena, AreWords, Ask, cell_of, Coordinating, Cycle, Entry, Ever, ever, Good, Heap, is_busy, IsInCycle, IsInLimits, IsKnown, IsLed, IsOf, IsToBegin, Layout, Legal, mark_words, Marking, MarkingGood, mod_below, nat_tests, Op, Pacing, Processor, Shape, started, those, uncounted, view, Went, Words, words}
+use Rattle.gh_world.specs.ActorsHold.{began, began_words, HasState}
+use Rattle.gh_world.proofs.Vocabulary.{acks_of, Actor, actors, actors_after, Arena, arena, AreWords, Ask, cell_of, Coordinating, Cycle, Entry, Ever, ever, Good, Heap, is_busy, IsInCycle, IsInLimits, IsKnown, IsLed, IsOf, IsToBegin, Layout, Legal, mark_words, Marking, MarkingGood, mod_below, nat_tests, Op, Pacing, Shape, started, those, view, Went, Words, words}
 use Rattle.gh_world.proofs.AllActors.Aside as aside
-use Rattle.gh_world.proofs.AllActors.Aside.{IsBeside, IsOfMarking}
-use Rattle.gh_world.proofs.AllActors.Bare.{bare_stays}
+use Rattle.gh_world.proofs.AllActors.Aside.{IsBeside}
 use Rattle.gh_world.proofs.AllActors.Drawing.{drawn_then}
 use Rattle.gh_world.proofs.AllActors.Going.{IsLedThen, last_was, led_then as leads_then}
 use Rattle.gh_world.proofs.AllActors.Known.{Known, ListsKnown}
 use Rattle.gh_world.proofs.AllActors.Marks.{begins_beside, marks_beside, stays_marked, words_stay, works_beside}
-use Rattle.gh_world.proofs.AllActors.Quiet.{was_there}
 use Rattle.gh_world.proofs.AllActors.Resting.{ever_stays}
+use Rattle.gh_world.proofs.AllActors.Stood.{beside_stays, Stays}
+use Rattle.gh_world.proofs.AllActors.Tied.{is_of_heap}
 use Rattle.gh_world.proofs.CycleMarking.Checking.{begins, Goes, goes_on, goes_so, leaves}
 use Rattle.gh_world.proofs.CycleMarking.Seats.{IsSeated, lead_started, leads, other, seated, worker_started}
 
@@ -56,8 +55,8 @@ module _ (shapes : List Shape) (l : Layout) (pacing : Pacing) (may : ℕ → Lis
     pub sound : working.Sound w
     sound = subst (SoundActor l) is ((lists.keeps es legal.0).shakes.all_sound e.actor legal.1.actor)
 
-    worker_beside : IsOfMarking e.ask
-    worker_beside = subst IsOfMarking (sym asked) (works_beside known.one w.seat (worker.asks w) (known.workers_write w sound busy))
+    worker_beside : IsBeside e.ask
+    worker_beside = subst IsBeside (sym asked) (works_beside known.one w.seat (worker.asks w) (known.workers_write w sound busy))
 
   -- the coordinator's, as long as the cycle is marked behind it
   module _ (c then : Coordinating) (is : at es e.actor ≡ actor.Leads c) (led_then : IsLed shapes l pacing may (e ∷ es) then) (on : leading.Marks then.stage) where
@@ -85,39 +84,42 @@ module _ (shapes : List Shape) (l : Layout) (pacing : Pacing) (may : ℕ → Lis
     on_goes : leading.Marks (coord.goes c e.found).stage
     on_goes = subst (λ (x : Coordinating). leading.Marks x.stage) (sym goes_is) on
 
-    by_goes : Goes l c.begun (words shapes l pacing may es) c c.stage (coord.goes c e.found) → IsOfMarking (coord.asks c)
+    by_goes : Goes l c.begun (words shapes l pacing may es) c c.stage (coord.goes c e.found) → IsBeside (coord.asks c)
     by_goes (begins b quiet same x) = begins_beside shapes l pacing may known c c.stage b
     by_goes (goes_on was quiet same x) = marks_beside shapes l pacing may known c c.stage was (stays_marked shapes l pacing may known (coord.counted c) c.stage e.found on_goes)
     by_goes (leaves off) = absurd (off on_goes)
 
-    lead_beside : IsOfMarking e.ask
-    lead_beside = subst IsOfMarking (sym lead_asked) (by_goes goes_by)
+    lead_beside : IsBeside e.ask
+    lead_beside = subst IsBeside (sym lead_asked) (by_goes goes_by)
 
-  pub is_beside : (then : Coordinating) → IsLed shapes l pacing may (e ∷ es) then → leading.Marks then.stage → IsOfMarking e.ask
+  pub is_beside : (then : Coordinating) → IsLed shapes l pacing may (e ∷ es) then → leading.Marks then.stage → IsBeside e.ask
   is_beside then led_then on = go (at es e.actor) refl where
-    go : (m : Actor) → at es e.actor ≡ m → IsOfMarking e.ask
+    go : (m : Actor) → at es e.actor ≡ m → IsBeside e.ask
     go (actor.Runs m) is = absurd (let lt : e.actor < l.procs = seat_of e.actor (actor.Runs m) is in omega (arith, lt, ge))
     go (actor.Marks w) is = worker_beside w is
     go (actor.Leads c) is = lead_beside c then is led_then on
 
   -- What is known lasts.
-  module _ (of_marking : IsOfMarking e.ask) (c : Cycle) (s t : Marking) (k : IsKnown shapes l pacing may c s es) (good : MarkingGood c s) (went : Went c e.actor s t) (none : (o : ℕ) → t.colour o ≢ Placing e.actor) (words_are : t.words ≡ words shapes l pacing may (e ∷ es)) where
-    abbrev beside : IsBeside e.ask
-    beside = of_marking.beside
+  module _ (beside : IsBeside e.ask) (c : Cycle) (s t : Marking) (k : IsKnown shapes l pacing may c s es) (good : MarkingGood c s) (good_then : MarkingGood c t) (went : Went c e.actor s t) (none : (o : ℕ) → t.colour o ≢ Placing e.actor) (words_are : t.words ≡ words shapes l pacing may (e ∷ es)) where
+    abbrev has_then : HasState shapes l pacing may (e ∷ es)
+    has_then = aside.has_then shapes l pacing may known e es legal ge beside k.has (λ over. absurd (let no : None ≡ Some k.under_way.0 = sym over ∙ k.under_way.1 in cc))
 
     abbrev h : Heap
-    h = aside.then shapes l pacing may known e es legal ge beside k.heap k.of_list k.good
+    h = has_then.state.heap
 
     same_words : t.words ≡ h.words
-    same_words = words_are ∙ sym (aside.heap_goes_on shapes l pacing may known e es legal ge beside k.heap k.of_list k.good).words_are
+    same_words = words_are ∙ sym has_then.of_list.words_are
+
+    good_there : Good c.arena (view k.has.state.heap)
+    good_there = subst (λ (r : Arena). Good r (view k.has.state.heap)) (sym k.arena_is) k.has.good.heap
 
     -- no goroutine is of this seat
     not_its : (g : ℕ) → IsOf z e.actor g → ⊥
     not_its g its = let seat = its.1 in let some = limits.procs_fit.0 in let below : g % l.procs < l.procs = mod_below g l.procs (omega (arith, some)) in omega (arith, ge, seat, below)
 
     together : IsTogether z h t
-    together = subst (λ (r : Arena). IsTogether r h t) k.arena_is (known.beside_lasts c e.actor k.heap s t (Quiet e.ask) (subst (λ (r : Arena). Good r (view k.heap)) (sym k.arena_is) k.good) good (subst (λ (r : Arena). IsTogether r k.heap s) (sym k.arena_is) k.beside) beside.quiet refl alone) where
-      alone : MarksAlone c e.actor k.heap h s t
+    together = subst (λ (r : Arena). IsTogether r h t) k.arena_is (known.beside_lasts c e.actor k.has.state.heap s t (Quiet e.ask) good_there good (subst (λ (r : Arena). IsTogether r k.has.state.heap s) (sym k.arena_is) k.beside) beside.quiet refl alone) where
+      alone : MarksAlone c e.actor k.has.state.heap h s t
       alone = record {
         went = went;
         words_are = same_words;
@@ -125,12 +127,6 @@ module _ (shapes : List Shape) (l : Layout) (pacing : Pacing) (may : ℕ → Lis
         registers = λ g d runs below. absurd (not_its g (subst (λ (r : Arena). IsOf r e.actor g) k.arena_is runs.of));
         goes_on = λ g runs. absurd (not_its g (subst (λ (r : Arena). IsOf r e.actor g) k.arena_is runs.of));
       }
-
-    counts_stay : SweepStays (unmarked k.tally k.live k.heap.words) (unmarked k.tally k.live h.words)
-    counts_stay = record { generation = of_marking.generation k.heap.words; heap = beside.heap k.heap.words; tally = refl; live = refl; pages = λ p. beside.page k.heap.words p; alloc = λ i. beside.alloc k.heap.words i; marks = λ i. refl }
-
-    good_then : Good z (view h)
-    good_then = aside.good_goes_on shapes l pacing may known e es legal ge beside k.heap k.of_list k.good
 
     ever_then : ever shapes l pacing may (e ∷ es) ≡ ever shapes l pacing may es
     ever_then = ever_stays shapes l pacing may known.points e es legal ge
@@ -142,10 +138,10 @@ module _ (shapes : List Shape) (l : Layout) (pacing : Pacing) (may : ℕ → Lis
 
       -- and what has become of the heap since it began
       abbrev Since : Type 0
-      Since = (x : Cycles (e ∷ es)) × HasGoneOn (began shapes l pacing may (e ∷ es) c.number x) h t
+      Since = (x : Cycles (e ∷ es)) × HasGoneOn (began shapes l pacing may (e ∷ es) c.number x) h t × Stays (began_words shapes l pacing may (e ∷ es) c.number x) (words shapes l pacing may (e ∷ es))
 
-      goes_on_so : (v : Ever) → HasGoneOn v k.heap s → HasGoneOn v h t
-      goes_on_so v x = known.gone_on c e.actor k.heap s t (Quiet e.ask) v (subst (λ (r : Arena). Good r (view k.heap)) (sym k.arena_is) k.good) good beside.quiet went same_words k.beside.words x
+      goes_on_so : (v : Ever) → HasGoneOn v k.has.state.heap s → HasGoneOn v h t
+      goes_on_so v x = known.gone_on c e.actor k.has.state.heap s t (Quiet e.ask) v good_there good beside.quiet went same_words k.beside.words x
 
       one_then : (d : Coordinating) → IsLed shapes l pacing may (e ∷ es) d → d ≡ then
       one_then d x = one_lead (e ∷ es) d then x led_then
@@ -162,35 +158,28 @@ module _ (shapes : List Shape) (l : Layout) (pacing : Pacing) (may : ℕ → Lis
               let same : coord.goes b.lead e.found ≡ d = goes_is b.lead d here led_d (subst (λ (y : Coordinating). leading.Marks y.stage) (sym (one_then d led_d)) on) in
               ever_then ∙ i.last b.lead b.led_by (last_was (coord.counted b.lead) b.lead.stage e.found (subst (λ (y : Coordinating). leading.Marks y.stage) (sym (same ∙ one_then d led_d)) on) (ap (λ (y : Coordinating). y.is_last) same ∙ is))
 
-      cycle_then : (x : Cycles es) → HasGoneOn (began shapes l pacing may es c.number x) k.heap s → Since
-      cycle_then (inr i) g = (inr (record { begun = i.begun; start = inr i.start; begins = i.begins; last = last_then i }), goes_on_so (ever shapes l pacing may i.begun) g)
-      cycle_then (inl b) g = go (e.actor == n) refl where
+      cycle_then : (x : Cycles es) → HasGoneOn (began shapes l pacing may es c.number x) k.has.state.heap s → Stays (began_words shapes l pacing may es c.number x) (words shapes l pacing may es) → Since
+      cycle_then (inr i) g so = (inr (record { begun = i.begun; start = inr i.start; begins = i.begins; last = last_then i }), goes_on_so (ever shapes l pacing may i.begun) g, λ n x p. beside_stays e.ask beside (words shapes l pacing may es) n x (so n x p))
+      cycle_then (inl b) g so = go (e.actor == n) refl where
         gone : HasGoneOn (ever shapes l pacing may (e ∷ es)) h t
-        gone = goes_on_so (ever shapes l pacing may (e ∷ es)) (subst (λ (v : Ever). HasGoneOn v k.heap s) (sym ever_then) g)
+        gone = goes_on_so (ever shapes l pacing may (e ∷ es)) (subst (λ (v : Ever). HasGoneOn v k.has.state.heap s) (sym ever_then) g)
 
         go : (x : Bool) → (e.actor == n) ≡ x → Since
-        go true x = (inr (record { begun = e ∷ es; start = inl refl; begins = record { lead = b.lead; led = b.led; by = grind (arith, nat_tests); stage = b.stage; cycle = b.cycle }; last = λ d led_d is. refl }), gone)
-        go false x = (inl (record { lead = b.lead; led = other shapes l pacing e es n x ∙ b.led; stage = b.stage; cycle = b.cycle }), gone)
+        go true x = (inr (record { begun = e ∷ es; start = inl refl; begins = record { lead = b.lead; led = b.led; by = grind (arith, nat_tests); stage = b.stage; cycle = b.cycle }; last = λ d led_d is. refl }), gone, λ n y p. p)
+        go false x = (inl (record { lead = b.lead; led = other shapes l pacing e es n x ∙ b.led; stage = b.stage; cycle = b.cycle }), gone, λ n y p. p)
 
       abbrev since : Since
-      since = cycle_then k.cycle k.gone_on
+      since = cycle_then k.cycle k.gone_on k.stood
 
       pub lasts : IsKnown shapes l pacing may c t (e ∷ es)
       lasts = record {
         arena_is = k.arena_is;
-        heap = h;
-        of_list = aside.heap_goes_on shapes l pacing may known e es legal ge beside k.heap k.of_list k.good;
-        good = good_then;
+        has = has_then;
+        under_way = k.under_way;
         beside = together;
         cycle = since.0;
         gone_on = since.1;
-        drawn = drawn_then shapes l pacing may known.drawn c e es s t good went words_are k.drawn;
-        end = k.end;
-        spans = record (k.spans) { words = unmarked k.tally k.live h.words };
-        tally = k.tally;
-        live = k.live;
-        calm = bare_stays known z k.end k.tally k.live k.heap k.spans h k.calm counts_stay good_then good_then;
-        placing = λ a lt. k.placing a lt ∙ ap (λ (m : Processor). uncounted m.task) (sym (was_there shapes l pacing may known e es legal ge a lt));
-        others_place = k.others_place;
+        stood = since.2;
+        drawn = drawn_then shapes l pacing may known.drawn c e es s t good went words_are (is_of_heap shapes l pacing may known (e ∷ es) has_then c t k.arena_is good_then together) k.drawn;
         marks_fit = subst (λ (w : Words). AreWords (mark_words w)) same_words (words_stay known.mark_words c e.actor s t went (subst (λ (w : Words). AreWords (mark_words w)) (sym k.beside.words) k.marks_fit));
       }

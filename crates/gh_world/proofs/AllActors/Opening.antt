@@ -4,14 +4,13 @@ use Rattle.std.proofs.lemmas.Nat.Bits.{bit_at-zero}
 use Rattle.gh_base.specs.declared.value.Name.{Name}
 use Rattle.gh_base.specs.Rows.{alloc_words, row_bit}
 use Rattle.gh_coord.specs.Listing as coord
-use Rattle.gh_cycle.specs.Ending.{opening_end}
+use Rattle.gh_state.specs.Cycles.{opening}
 use Rattle.gh_model.specs.Ever.{from_field, from_global, from_register, opening_ever}
 use Rattle.gh_mutator.specs.Processor.{opening_processor}
-use Rattle.gh_sweep.specs.Runs.{at_end}
 use Rattle.gh_world.specs.declared.handshake.Actor.TheVariants as actor
 use Rattle.gh_world.specs.Actors.{BeginsCycle}
 use Rattle.gh_world.specs.ActorsHold.{Holds, IsAsItShould, IsHeapOf, IsQuiet}
-use Rattle.gh_world.specs.HoldVocabulary.{acks_of, arena, Arena, Coordinating, Entry, Good, Heap, IsLed, Layout, Op, opening_words, Pacing, Reach, Shape, view}
+use Rattle.gh_world.specs.HoldVocabulary.{acks_of, arena, Arena, Coordinating, Entry, Good, Heap, IsLed, Layout, Op, opening_words, Pacing, Reach, Shape, State, view}
 use Rattle.gh_world.proofs.AllActors.Going.{at_seat}
 use Rattle.gh_world.proofs.AllActors.Known.{Known}
 
@@ -77,18 +76,21 @@ module _ (shapes : List Shape) (l : Layout) (pacing : Pacing) (may : ℕ → Lis
   abbrev first : Coordinating
   first = coord.opening l (acks_of l) pacing.gogc pacing.minheap pacing.room
 
+  abbrev s : State
+  s = opening z h pacing.trigger
+
   quiet : IsQuiet shapes l pacing may [] first
   quiet = record {
-    heap = h;
-    of_list = of_list;
-    end = opening_end l pacing.trigger;
-    spans = (at_end (opening_end l pacing.trigger)).shared;
-    calm = known.found.opens z h pacing.trigger refl good;
-    placing = λ a lt. refl;
-    others_place = λ a le. refl;
-    buffers = λ b. refl;
-    stacks = λ g. inl (omega arith);
-    processors = λ a lt. known.calm.first l a;
+    has = record {
+      state = s;
+      of_list = of_list;
+      good = known.heaps_open z h pacing.trigger good nothing_reached;
+      placing = λ a lt. refl;
+      others_place = λ a le. refl;
+    };
+    over = refl;
+    swept = λ p below. refl;
+    nobody = record { buffers = λ b. refl; stacks = λ g. inl (omega arith); processors = λ a lt. known.calm.first l a };
   }
 
   holds_first : Holds shapes l pacing may [] first

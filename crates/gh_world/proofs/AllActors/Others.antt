@@ -2,7 +2,7 @@
 use Rattle.std.proofs.Common.{◌≡◌, ◌↔◌, ℕ, zero, suc, ◌-◌, ◌*◌, ◌/◌, ◌%◌, ◌<◌, ◌≤◌, Bool, true, refl, sym, ap, subst, ◌∙◌, arith, inl, inr, List, ◌∷◌, Some, None}
 use Rattle.std.specs.Prelude.{count_ones}
 use Rattle.gh_base.specs.declared.cell.Cell.TheVariants as cell
-use Rattle.gh_cycle.specs.Ending.{bytes_at, bytes_at_head}
+use Rattle.gh_state.specs.Slots.{bytes_at, bytes_at_head}
 use Rattle.gh_sweep.specs.Bits.{sum_below}
 use Rattle.gh_sweep.specs.Shared.{placed_in}
 use Rattle.gh_world.specs.Actors.{IsTelling}

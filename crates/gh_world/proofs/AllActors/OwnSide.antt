@@ -6,8 +6,8 @@ use Rattle.gh_base.specs.declared.operation.Op.TheVariants as op
 use Rattle.gh_mutator.specs.declared.task.Task.TheVariants as task
 use Rattle.gh_mutator.specs.Deeds.{meaning, pointed}
 use Rattle.gh_mutator.specs.Facts.{answered_at, Does, FactsAt}
-use Rattle.gh_world.specs.HoldVocabulary.{answers_of, given_of, opening_words}
-use Rattle.gh_world.proofs.Vocabulary.{Act, acted, Actor, actors, acts, Answer, Answered, answered, answered_by, Arena, arena, Ask, asks, begins, by, cell_of, deeds, DeedsFit, DoesPoints, effect, END, ended_in, ends, Entry, Ever, ever, Fine, given_at, gives, Good, has_left_at, has_point, Heap, InRange, is_busy_at, is_last_task, IsAsItShould, IsBounded, IsHeapOf, IsInLimits, IsOf, IsSound, Kind, Layout, left as left_by, Legal, may_leave, may_of, moved, Op, op_at, option_to_list, Pacing, point_of, Processor, processor_at, processor_kind, Shape, ShapesAreGood, Stands, started, state_of, Steps, takes, Task, TellsScan, those, view, Words, words, ◌%◌}
+use Rattle.gh_world.specs.HoldVocabulary.{answers_of, given_of, opening_words, PassedBefore}
+use Rattle.gh_world.proofs.Vocabulary.{Act, acted, Actor, actors, acts, Answer, Answered, answered, answered_by, Arena, arena, Ask, asks, begins, by, cell_of, deeds, DeedsFit, DoesPoints, effect, END, ended_in, ends, Entry, Ever, ever, Fine, given_at, gives, Good, has_left_at, has_point, HasState, Heap, InRange, is_busy_at, is_last_task, IsAsItShould, IsBounded, IsHeapOf, IsInLimits, IsOf, IsSound, Kind, Layout, left as left_by, Legal, may_leave, may_of, moved, Op, op_at, option_to_list, Pacing, point_of, Processor, processor_at, processor_kind, Shape, ShapesAreGood, Stands, started, state_of, Steps, takes, Task, TellsScan, those, view, Words, words, ◌%◌}
 use Rattle.gh_world.proofs.AllActors.Beginning.{or-true}
 use Rattle.gh_world.proofs.AllActors.Endings.{acted_stays, acts_end, end_ends, ended_by, is_end, last_before, last_begun}
 use Rattle.gh_world.proofs.AllActors.Globals.{no_global}
@@ -32,7 +32,18 @@ module _ (shapes : List Shape) (l : Layout) (pacing : Pacing) (counts : ℕ → 
   abbrev all : Kind Actor Op
   all = actors shapes l pacing
 
-  module _ (e : Entry Op) (es : List (Entry Op)) (legal : Legal (those shapes l pacing may) (e ∷ es)) (lt : e.actor < l.procs) (h : Heap) (of : IsHeapOf shapes l pacing may es h) (gh : Good z (view h)) (tells : TellsStacks h.words (started k e.begun (processor_at shapes l pacing may es e.actor))) where
+  module _ (e : Entry Op) (es : List (Entry Op)) (legal : Legal (those shapes l pacing may) (e ∷ es)) (lt : e.actor < l.procs) (has : HasState shapes l pacing may es) (swept : PassedBefore has.state l.pages) (tells : TellsStacks has.state.heap.words (started k e.begun (processor_at shapes l pacing may es e.actor))) where
+    -- The heap behind the list, each of whose spans is swept.
+
+    abbrev h : Heap
+    h = has.state.heap
+
+    abbrev of : IsHeapOf shapes l pacing may es has.state.heap
+    of = has.of_list
+
+    abbrev gh : Good z (view has.state.heap)
+    gh = has.good.heap
+
     abbrev pub a : ℕ
     a = e.actor
 
@@ -43,37 +54,37 @@ module _ (shapes : List Shape) (l : Layout) (pacing : Pacing) (counts : ℕ → 
     now = started k e.begun m
 
     abbrev pub is : IsAsItShould shapes l pacing may es h a m
-    is = step.is shapes l pacing counts good limits known e es legal lt h of gh
+    is = step.is shapes l pacing counts good limits known e es legal lt has swept
 
     abbrev pub begins_with : (P : Processor → Type 0) → P m → ((o : Op) → e.begun ≡ Some o → P (k.begins m o)) → P now
-    begins_with = step.begins_with shapes l pacing counts good limits known e es legal lt h of gh
+    begins_with = step.begins_with shapes l pacing counts good limits known e es legal lt has swept
 
     abbrev pub idle : (o : Op) → e.begun ≡ Some o → is_busy_at m.task ≡ false
-    idle = step.idle shapes l pacing counts good limits known e es legal lt h of gh
+    idle = step.idle shapes l pacing counts good limits known e es legal lt has swept
 
     abbrev may_now : (o : Op) → e.begun ≡ Some o → may a (by a es) o ≡ true
-    may_now = step.may_now shapes l pacing counts good limits known e es legal lt h of gh
+    may_now = step.may_now shapes l pacing counts good limits known e es legal lt has swept
 
     abbrev pub sound_now : IsSound now
-    sound_now = step.sound_now shapes l pacing counts good limits known e es legal lt h of gh
+    sound_now = step.sound_now shapes l pacing counts good limits known e es legal lt has swept
 
     abbrev pub fine_now : Fine z a (view h) now is.pending
-    fine_now = step.fine_now shapes l pacing counts good limits known e es legal lt h of gh
+    fine_now = step.fine_now shapes l pacing counts good limits known e es legal lt has swept
 
     abbrev pub busy : is_busy_at now.task ≡ true
-    busy = step.busy shapes l pacing counts good limits known e es legal lt h of gh
+    busy = step.busy shapes l pacing counts good limits known e es legal lt has swept
 
     abbrev pub asked : e.ask ≡ asks now
-    asked = step.asked shapes l pacing counts good limits known e es legal lt h of gh
+    asked = step.asked shapes l pacing counts good limits known e es legal lt has swept
 
     abbrev found : ℕ
     found = h.words (cell_of (asks now))
 
     abbrev pub found_is : e.found ≡ found
-    found_is = step.found_is shapes l pacing counts good limits known e es legal lt h of gh
+    found_is = step.found_is shapes l pacing counts good limits known e es legal lt has swept
 
     abbrev pub land : Steps z a h (asks now) (λ t. DoesPoints z a h t now is.pending found)
-    land = step.land shapes l pacing counts good limits known e es legal lt h of gh
+    land = step.land shapes l pacing counts good limits known e es legal lt has swept
 
     abbrev pub t : Heap
     t = moved z a h land.move
@@ -327,6 +338,3 @@ module _ (shapes : List Shape) (l : Layout) (pacing : Pacing) (counts : ℕ → 
     -- the heap of the list with the entry
     pub heap_then : IsHeapOf shapes l pacing may (e ∷ es) t
     heap_then = moves_on shapes l pacing may known e es h of gh land.move land.may side
-
-    pub good_then : Good z (view t)
-    good_then = known.keeps z a h land.move gh land.may

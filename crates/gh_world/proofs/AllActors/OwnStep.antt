@@ -2,7 +2,8 @@
 use Rattle.std.proofs.Common.{◌≡◌, ℕ, ◌<◌, inr, Bool, true, false, refl, sym, ap, subst, ◌∙◌, List, ◌∷◌, Option, Some, None}
 use Rattle.gh_mutator.specs.Facts.{MayBegin}
 use Rattle.gh_world.specs.Handshake.{asks as asks_by}
-use Rattle.gh_world.proofs.Vocabulary.{Actor, actors, Arena, arena, Ask, asks, by, cell_of, DoesPoints, Entry, Fine, Good, Heap, is_busy_at, IsAsItShould, IsHeapOf, IsInLimits, IsSound, Kind, Layout, Legal, made_by, may_of, moved, Op, Pacing, Processor, processor_at, processor_kind, Shape, ShapesAreGood, started, state_of, Steps, those, view, Words, words}
+use Rattle.gh_world.specs.HoldVocabulary.{PassedBefore}
+use Rattle.gh_world.proofs.Vocabulary.{Actor, actors, Arena, arena, Ask, asks, by, cell_of, DoesPoints, Entry, Fine, Good, HasState, Heap, is_busy_at, IsAsItShould, IsHeapOf, IsInLimits, IsSound, Kind, Layout, Legal, made_by, may_of, moved, Op, Pacing, Processor, processor_at, processor_kind, Shape, ShapesAreGood, started, state_of, Steps, those, view, Words, words}
 use Rattle.gh_world.proofs.AllActors.Beginning.{may-begin}
 use Rattle.gh_world.proofs.AllActors.Known.{Known}
 use Rattle.gh_world.proofs.AllActors.OwnEntries.{state_by}
@@ -23,7 +24,18 @@ module _ (shapes : List Shape) (l : Layout) (pacing : Pacing) (counts : ℕ → 
   abbrev all : Kind Actor Op
   all = actors shapes l pacing
 
-  module _ (e : Entry Op) (es : List (Entry Op)) (legal : Legal (those shapes l pacing may) (e ∷ es)) (lt : e.actor < l.procs) (h : Heap) (of : IsHeapOf shapes l pacing may es h) (gh : Good z (view h)) where
+  module _ (e : Entry Op) (es : List (Entry Op)) (legal : Legal (those shapes l pacing may) (e ∷ es)) (lt : e.actor < l.procs) (has : HasState shapes l pacing may es) (swept : PassedBefore has.state l.pages) where
+    -- The heap behind the list, each of whose spans is swept.
+
+    abbrev h : Heap
+    h = has.state.heap
+
+    abbrev of : IsHeapOf shapes l pacing may es has.state.heap
+    of = has.of_list
+
+    abbrev gh : Good z (view has.state.heap)
+    gh = has.good.heap
+
     abbrev pub a : ℕ
     a = e.actor
 
@@ -79,7 +91,7 @@ module _ (shapes : List Shape) (l : Layout) (pacing : Pacing) (counts : ℕ → 
     found_is = legal.1.found ∙ (ap (λ (q : Ask). words shapes l pacing may es (cell_of q)) asked ∙ ap (λ (w : Words). w (cell_of (asks now))) (sym of.words_are))
 
     pub land : Steps z a h (asks now) (λ t. DoesPoints z a h t now is.pending found)
-    land = known.runs.own_step z a h now is.pending good busy gh fine_now
+    land = known.runs.own_step z a h now is.pending good busy gh (λ p g found none. known.walkers.all z has.state has.good swept p g found) fine_now
 
     abbrev pub t : Heap
     t = moved z a h land.move

@@ -12,6 +12,7 @@ use Rattle.gh_bitmap.specs.SetPointers as bits
 use Rattle.gh_mutator.specs.declared.global.GlobalStage.TheVariants as global_stage
 use Rattle.gh_mutator.specs.declared.register.Source.TheVariants as source
 use Rattle.gh_mutator.specs.declared.task.Task.TheVariants as task
+use Rattle.gh_mutator.specs.Facts.{CountsAlone}
 use Rattle.gh_mutator.specs.Global as global
 use Rattle.gh_mutator.specs.Leave as leave
 use Rattle.gh_mutator.specs.Listing.{asks_at}
@@ -21,7 +22,7 @@ use Rattle.gh_mutator.specs.Poll as poll
 use Rattle.gh_mutator.specs.Register as register
 use Rattle.gh_mutator.specs.Store as store
 use Rattle.gh_mutator.specs.Wait as wait
-use Rattle.gh_world.proofs.Vocabulary.{acted, acting, acts_at, Add, after_gc, after_leave, after_poll, Answer, At, begins_at, cache_span, CountsObject, Ends, Ever, ever_after, EverValue, follows, Found, Global, GlobalStage, GoesOn, is_busy_at, is_some, nat_lt, NewStage, NoRoom, Op, Place, PlaceStage, Placing, Processor, Register, register_of, Search, Shape, Source, takes_at, Task, Then, uncounted, Wait, Wanted}
+use Rattle.gh_world.proofs.Vocabulary.{acted, acting, acts_at, Add, after_gc, after_leave, after_poll, Answer, At, begins_at, cache_span, CountsObject, Ends, Ever, ever_after, EverValue, follows, Found, Global, GlobalStage, GoesOn, Heap, is_busy_at, is_some, nat_lt, NewStage, NoRoom, Op, Place, PlaceStage, Placing, Processor, Register, register_of, Search, Shape, Source, takes_at, Task, Then, uncounted, Wait, Wanted}
 
 -- No object is made but by a `new`.
 
@@ -38,12 +39,7 @@ module _ (shapes : List Shape) where
   stores_made e ever_value.Nil k v x h = refl
   stores_made e (ever_value.Int n) k v x h = refl
   stores_made e (ever_value.Ref n) k v answer.Done h = refl
-  stores_made e (ever_value.Ref n) k v answer.Nil h = refl
-  stores_made e (ever_value.Ref n) k v (answer.Int i) h = refl
-  stores_made e (ever_value.Ref n) k v (answer.Ref i) h = refl
-  stores_made e (ever_value.Ref n) k v answer.Swept h = refl
-  stores_made e (ever_value.Ref n) k v answer.Full h = refl
-  stores_made e (ever_value.Ref n) k v (answer.Fault f) h = refl
+  stores_made e (ever_value.Ref n) k v _ h = refl
 
   sets_made : (e : Ever) (k : ℕ) (v : EverValue) (x : Answer) (h : ℕ) → (sets_global e k v x).made h ≡ e.made h
   sets_made e k v answer.Done h = refl
@@ -67,15 +63,11 @@ module _ (shapes : List Shape) where
 
 no_new_global : (x : Global) (s : GlobalStage) → IsNoNew (global.op_in x s)
 no_new_global x global_stage.Load = tt
-no_new_global x (global_stage.Birth at) = tt
-no_new_global x global_stage.Store = tt
-no_new_global x (global_stage.Writing w) = tt
-no_new_global x global_stage.Number = tt
+no_new_global x _ = tt
 
 no_new_register : (x : Register) (s : Source) → IsNoNew (register.op_from x s)
 no_new_register x (source.Int n) = tt
-no_new_register x (source.Move s) = tt
-no_new_register x source.Nil = tt
+no_new_register x _ = tt
 
 -- The task behind a step.
 
@@ -92,12 +84,15 @@ module _ (shapes : List Shape) (m : Processor) (found : ℕ) where
     pub asks_is : asks_at m t ≡ Add cell.Heap (uncounted t)
     pub then : uncounted (takes_at shapes m t found).task ≡ 0
     pub nothing : (e : Ever) (g : ℕ) → (acted shapes e (acts_at m t found)).made g ≡ e.made g
+    -- words alone change
+    pub alone : (u v : Heap) → CountsAlone t u v → v ≡ record u { words = v.words }
 
   pub record Makes (t : Task) : Type 0 where
     pub wanted : Wanted
     pub placing : Placing
     pub is : t ≡ task.New (record { wanted = wanted; stage = Place placing })
     pub stage : placing.stage ≡ making.Alloc
+    pub silent : CountsObject (asks_at m t) t → ⊥
 
   pub record Keeps (t : Task) : Type 0 where
     pub same : uncounted (takes_at shapes m t found).task ≡ uncounted t
@@ -141,9 +136,9 @@ module _ (shapes : List Shape) (m : Processor) (found : ℕ) where
       filled true = refl
       filled false = refl
   placed w p making.Mark = inr (inr (record { same = refl; silent = λ y. absurd (let x = y.0 in cc); nothing = λ e g. refl }))
-  placed w p making.Alloc = inr (inl (record { wanted = w; placing = place.at_stage p making.Alloc; is = refl; stage = refl }))
+  placed w p making.Alloc = inr (inl (record { wanted = w; placing = place.at_stage p making.Alloc; is = refl; stage = refl; silent = λ y. absurd (let x = y.0 in cc) }))
   placed w p (making.Give g) = inr (inr (record { same = refl; silent = λ y. absurd (let x = y.0 in cc); nothing = λ e g. refl }))
-  placed w p making.Count = inl (record { asks_is = refl; then = refl; nothing = λ e g. refl })
+  placed w p making.Count = inl (record { asks_is = refl; then = refl; nothing = λ e g. refl; alone = λ u v x. x })
   placed w p making.Ended = inr (inr (record { same = refl; silent = λ y. absurd (let x = y.0 in cc); nothing = λ e g. refl }))
 
   ended_gc : (g : ℕ) (x : wait.Waiting) (out : Option (Unit {0})) → uncounted (after_gc m g x out).task ≡ 0

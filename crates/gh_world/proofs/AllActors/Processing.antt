@@ -73,19 +73,18 @@ module _ (shapes : List Shape) (l : Layout) (pacing : Pacing) (may : ℕ → Lis
     Now p = HoldsAt shapes l pacing may (e ∷ es) c p × RefusesRightly shapes l pacing may e es
 
     quiet_now : IsCalmStage c.stage → IsQuiet shapes l pacing may es c → IsQuiet shapes l pacing may (e ∷ es) c × RefusesRightly shapes l pacing may e es
-    quiet_now calm q = (quiet calm q, heap_refuses shapes l pacing may e es legal lt known good q.heap q.of_list q.calm.heap)
+    quiet_now calm q = (quiet calm q, heap_refuses shapes l pacing may e es legal lt known good q.has q.swept)
 
     marks_now : leading.Marks c.stage → RefusesRightly shapes l pacing may e es
-    marks_now on = let k = (was es c (whole es) led on).marking.known in heap_refuses shapes l pacing may e es legal lt known good k.heap k.of_list k.good
+    marks_now on = let k = (was es c (whole es) led on).marking.known in heap_refuses shapes l pacing may e es legal lt known good k.has (λ p below. k.has.good.told k.under_way.0 k.under_way.1 p)
 
     calm_at : (p : CoordStage) → c.stage ≡ p → IsCalmStage p → IsCalmStage c.stage
     calm_at p is calm = subst IsCalmStage (sym is) calm
 
     told_now : (t : tells_by.Telling) → c.stage ≡ Tell t → (s : TellStage) → t.stage ≡ s → IsTelling shapes l pacing may es c s → Now (Tell t)
     told_now t is telling.StoreTrigger at h = stopped_now run.Mark (stopped_at (Tell t) run.Mark is (ap (leading.tell_post t.is_last) at)) (Tell t) (subst (IsTelling shapes l pacing may es c) (sym at) h)
-    told_now t is telling.StoreSwept at h = stopped_now run.Mark (stopped_at (Tell t) run.Mark is (ap (leading.tell_post t.is_last) at)) (Tell t) (subst (IsTelling shapes l pacing may es c) (sym at) h)
-    told_now t is telling.StorePhase at h = stopped_now run.Mark (stopped_at (Tell t) run.Mark is (ap (leading.tell_post t.is_last) at)) (Tell t) (subst (IsTelling shapes l pacing may es c) (sym at) h)
     told_now t is telling.Ended at h = absurd h
+    told_now t is _ at h = stopped_now run.Mark (stopped_at (Tell t) run.Mark is (ap (leading.tell_post t.is_last) at)) (Tell t) (subst (IsTelling shapes l pacing may es c) (sym at) h)
 
     now_at : (p : CoordStage) → c.stage ≡ p → HoldsAt shapes l pacing may es c p → Now p
     now_at (LoadAck i) is q = quiet_now (calm_at (LoadAck i) is tt) q

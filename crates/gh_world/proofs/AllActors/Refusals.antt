@@ -84,7 +84,7 @@ goes_on shapes l (Some o) m again = absurd (go (has_left_at m.task) refl again) 
 
 -- There was no room.
 
-module _ (z : Arena) (h : Heap) (good : Good z (view h)) (others : (a : ℕ) → z.layout.procs ≤ a → Right a (view h) false (λ p. false) None) where
+module _ (z : Arena) (h : Heap) (good : Good z (view h)) (swept : (p : ℕ) (x : SpanHead) → page_of ((view h).page p) ≡ Head x → x.number ≡ (view h).generation) (others : (a : ℕ) → z.layout.procs ≤ a → Right a (view h) false (λ p. false) None) where
   abbrev v : View
   v = view h
 
@@ -111,8 +111,9 @@ module _ (z : Arena) (h : Heap) (good : Good z (view h)) (others : (a : ℕ) →
   no_room a y sought f = record {
     own = f.cached;
     slots = λ p x ne head class noscan. by sought refl p x ne head class noscan;
-    swept = λ p x head. good.numbers p x head;
-    run = λ first le. let d = f.no_run first le in (d.0, d.1, record { taken = d.2.taken; used = d.2.used });
+    swept = swept;
+    run = λ first le. let d = f.no_run first le in let lt = d.1 in
+        record { page = first + d.0; lies = (omega arith, omega (arith, lt)); taken = record { not_free = d.2.taken; in_none = λ p x unused. d.2.used p x unused.span unused.lies.0 unused.lies.1 unused.unowned unused.empty } };
   } where
     by : (q : Sought) → sought ≡ q → (p : ℕ) (x : SpanHead) → (span_for sought).class ≢ size.Large → page_of (v.page p) ≡ Head x → x.class ≡ (span_for sought).class → x.noscan ≡ (span_for sought).noscan → IsAnothers z a x ⊎ IsFull v.alloc p x
     by (Large pages noscan) e p x ne head class ns = absurd (ne (ap (λ (q : Sought). (span_for q).class) e))

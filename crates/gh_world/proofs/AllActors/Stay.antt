@@ -1,11 +1,10 @@
 -- An entry that changes nothing: no word, no processor, and nothing of the heap that never frees. So is each entry of another than the coordinator in a stopped world. What holds stays as it is.
-use Rattle.std.proofs.Common.{◌≡◌, ◌⊎◌, inr, ℕ, ◌<◌, ◌≤◌, ◌==◌, Bool, true, false, refl, sym, ap, subst, ◌∙◌, arith, List, ◌∷◌, ◌++◌}
+use Rattle.std.proofs.Common.{◌≡◌, inr, ℕ, ◌+◌, ◌<◌, ◌≤◌, ◌==◌, Bool, true, false, refl, sym, ap, subst, ◌∙◌, arith, List, ◌∷◌, ◌++◌}
 use Rattle.std.proofs.lemmas.Bool.Decides.{nat_tests}
 use Rattle.std.specs.Option.{option_to_list}
 use Rattle.gh_base.specs.declared.cell.Cell.TheVariants as cell
-use Rattle.gh_base.specs.declared.pack.TheConstants.{END}
 use Rattle.gh_base.specs.Lists.{by}
-use Rattle.gh_world.specs.ActorsHold.{IsAsItShould, IsHeapOf, IsInCycle, IsJustSwept, IsQuiet, IsReady, IsSweeping, EndedSo, processor_at, uncounted}
+use Rattle.gh_world.specs.ActorsHold.{EndedSo, HasState, IsAsItShould, IsHeapOf, IsInCycle, IsJustSwept, IsQuiet, IsReady, IsSweeping, NobodyMarks, processor_at, uncounted}
 use Rattle.gh_world.specs.HoldVocabulary.{acks_of, Answer, answers_of, arena, Arena, Coordinating, CycleEnd, ended_in, Entry, ever, given_of, Heap, IsLed, Layout, Legal, MarksNothing, Op, opening_words, Pacing, Processor, Shape, SweepingAll, Words, words}
 use Rattle.gh_world.specs.Handshake.{those}
 use Rattle.gh_world.proofs.AllActors.Known.{Known}
@@ -77,50 +76,33 @@ module _ (shapes : List Shape) (l : Layout) (pacing : Pacing) (may : ℕ → Lis
     pub ended_stays : (k : ℕ) (x : CycleEnd) → EndedSo shapes l pacing may es k x → EndedSo shapes l pacing may (e ∷ es) k x
     ended_stays k x i = record { ended = i.ended; start = inr i.start; ends = i.ends; alloc = i.alloc; marks = i.marks; births = λ j. ap (λ (w : Words). w (cell.Birth j)) still.words_are ∙ i.births j; ever_is = still.ever_is ∙ i.ever_is }
 
-    pub quiet_stays : (c d : Coordinating) → d.begun ≡ c.begun → (q : IsQuiet shapes l pacing may es c) → IsQuiet shapes l pacing may (e ∷ es) d
-    quiet_stays c d same q = record {
-      heap = q.heap;
-      of_list = heap_stays q.heap q.of_list;
-      end = q.end;
-      spans = q.spans;
-      calm = q.calm;
-      placing = λ a lt. q.placing a lt ∙ ap (λ (m : Processor). uncounted m.task) (sym (still.processors a lt));
-      others_place = q.others_place;
-      buffers = q.buffers;
-      stacks = λ g. subst (λ (k : ℕ). (q.heap.words (cell.Scanned g) ≤ k) ⊎ (q.heap.words (cell.Scanned g) ≡ END)) (sym same) (q.stacks g);
-      processors = λ a lt. subst MarksNothing (sym (still.processors a lt)) (q.processors a lt);
+    abbrev pub has_stays : HasState shapes l pacing may es → HasState shapes l pacing may (e ∷ es)
+    has_stays has = record {
+      state = has.state;
+      of_list = heap_stays has.state.heap has.of_list;
+      good = has.good;
+      placing = λ a lt. has.placing a lt ∙ ap (λ (m : Processor). uncounted m.task) (sym (still.processors a lt));
+      others_place = has.others_place;
     }
 
+    pub nobody_marks : (cycle then_cycle : ℕ) → then_cycle ≡ cycle → (w : Words) → NobodyMarks shapes l pacing may es cycle w → NobodyMarks shapes l pacing may (e ∷ es) then_cycle w
+    nobody_marks cycle then_cycle same w x = subst (λ (n : ℕ). NobodyMarks shapes l pacing may (e ∷ es) n w) (sym same) (record { buffers = x.buffers; stacks = x.stacks; processors = λ a lt. subst MarksNothing (sym (still.processors a lt)) (x.processors a lt) })
+
+    abbrev pub quiet_stays : (c d : Coordinating) → d.begun ≡ c.begun → (q : IsQuiet shapes l pacing may es c) → IsQuiet shapes l pacing may (e ∷ es) d
+    quiet_stays c d same q = record { has = has_stays q.has; over = q.over; swept = q.swept; nobody = nobody_marks (c.begun + 1) (d.begun + 1) (ap (λ (n : ℕ). n + 1) same) q.has.state.heap.words q.nobody }
+
     pub ready_stays : (c d : Coordinating) → d.begun ≡ c.begun → IsReady shapes l pacing may es c → IsReady shapes l pacing may (e ∷ es) d
-    ready_stays c d same r = record {
-      heap = r.heap;
-      of_list = heap_stays r.heap r.of_list;
-      good = r.good;
-      end = r.end;
-      spans = r.spans;
-      tally = r.tally;
-      live = r.live;
-      calm = r.calm;
-      owes_none = r.owes_none;
-      marks = r.marks;
-      buffers = r.buffers;
-      stacks = λ g. subst (λ (k : ℕ). (r.heap.words (cell.Scanned g) < k) ⊎ (r.heap.words (cell.Scanned g) ≡ END)) (sym same) (r.stacks g);
-      processors = λ a lt. subst MarksNothing (sym (still.processors a lt)) (r.processors a lt);
-    }
+    ready_stays c d same r = record { has = has_stays r.has; under_way = r.under_way; marks = r.marks; nobody = nobody_marks c.begun d.begun same r.has.state.heap.words r.nobody }
 
     pub sweeping_stays : (c : Coordinating) (w : SweepingAll) → IsSweeping shapes l pacing may es c w → IsSweeping shapes l pacing may (e ∷ es) c w
     sweeping_stays c w s = record {
-      heap = s.heap;
-      of_list = heap_stays s.heap s.of_list;
-      end = s.end;
-      spans = s.spans;
-      beside = s.beside;
+      has = has_stays s.has;
+      over = s.over;
       sweeps = s.sweeps;
+      as_it_ended = s.as_it_ended;
       cycle = in_cycle_stays c.begun s.cycle;
-      ended = ended_stays c.begun s.end s.ended;
-      buffers = s.buffers;
-      stacks = s.stacks;
-      processors = λ a lt. subst MarksNothing (sym (still.processors a lt)) (s.processors a lt);
+      ended = ended_stays c.begun s.has.state.end s.ended;
+      nobody = nobody_marks (c.begun + 1) (c.begun + 1) refl s.has.state.heap.words s.nobody;
     }
 
     pub swept_stays : (c d : Coordinating) → d.begun ≡ c.begun → (h : Heap) (x : CycleEnd) → IsJustSwept shapes l pacing may es c h x → IsJustSwept shapes l pacing may (e ∷ es) d h x
@@ -132,8 +114,7 @@ module _ (shapes : List Shape) (l : Layout) (pacing : Pacing) (may : ℕ → Lis
     }
 
     abbrev pub IsSwept : List (Entry Op) → Coordinating → Type 0
-    IsSwept xs d = (q : IsQuiet shapes l pacing may xs d) × IsJustSwept shapes l pacing may xs d q.heap q.end
+    IsSwept xs d = (q : IsQuiet shapes l pacing may xs d) × IsJustSwept shapes l pacing may xs d q.has.state.heap q.has.state.end
 
     pub both_stay : (c d : Coordinating) → d.begun ≡ c.begun → IsSwept es c → IsSwept (e ∷ es) d
-    unfolding quiet_stays
-    both_stay c d same h = (quiet_stays c d same h.0, swept_stays c d same h.0.heap h.0.end h.1)
+    both_stay c d same h = (quiet_stays c d same h.0, swept_stays c d same h.0.has.state.heap h.0.has.state.end h.1)

@@ -27,9 +27,8 @@ module _ (shapes : List Shape) (l : Layout) (pacing : Pacing) (may : ℕ → Lis
 
   telling_still : (stage : TellStage) → IsTelling shapes l pacing may es c stage → IsTelling shapes l pacing may (e ∷ es) c stage
   telling_still telling.StoreTrigger x = both_still x
-  telling_still telling.StoreSwept x = both_still x
-  telling_still telling.StorePhase x = both_still x
   telling_still telling.Ended x = x
+  telling_still _ x = both_still x
 
   -- at each stage of the coordinator
   pub holds_still : (p : CoordStage) → HoldsAt shapes l pacing may es c p → HoldsAt shapes l pacing may (e ∷ es) c p

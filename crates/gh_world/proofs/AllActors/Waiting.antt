@@ -90,8 +90,7 @@ module _ (back : PackedWordsAreReadBack) (stops : ℕ) where
     go : (s : WaitStage) → w.wait.stage ≡ s → IsParked stops (waits_at w s) → (w.wait.stage ≡ waiting.Polling) × WaitsAt stops w.poll
     go waiting.Polling is k = (is, polls_parked stops w.poll k)
     go waiting.Want is k = absurd k
-    go waiting.LoadSwept is k = absurd k
-    go waiting.Ended is k = absurd k
+    go _ is k = absurd k
 
   module _ (shapes : List Shape) (m : Processor) where
     -- it stays as it is

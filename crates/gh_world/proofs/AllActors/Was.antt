@@ -2,7 +2,8 @@
 use Rattle.std.proofs.Common.{◌≡◌, ℕ, ◌<◌, Bool, true, sym, ap, subst, ◌∙◌, List, ◌∷◌, Option, Some, None}
 use Rattle.gh_world.specs.declared.handshake.Actor.TheVariants as actor
 use Rattle.gh_world.specs.Handshake.{asks as asks_by}
-use Rattle.gh_world.proofs.Vocabulary.{Act, Actor, actors, acts, Arena, arena, Ask, asks, cell_of, deeds, DoesPoints, done_at, Entry, Good, Heap, is_busy, is_busy_at, IsFullFor, IsHeapOf, Kind, Layout, Legal, Op, Pacing, Processor, processor_at, processor_kind, Shape, ShapesAreGood, started, state_of, Steps, those, view, Words, words}
+use Rattle.gh_world.specs.HoldVocabulary.{PassedBefore}
+use Rattle.gh_world.proofs.Vocabulary.{Act, Actor, actors, acts, Arena, arena, Ask, asks, cell_of, deeds, DoesPoints, done_at, Entry, Good, HasState, Heap, is_busy, is_busy_at, IsFullFor, IsHeapOf, Kind, Layout, Legal, Op, Pacing, Processor, processor_at, processor_kind, Shape, ShapesAreGood, started, state_of, Steps, those, view, Words, words}
 use Rattle.gh_world.proofs.AllActors.Known.{Known}
 use Rattle.gh_world.proofs.AllActors.Refusals.{full_for, full_searches, goes_on, IsSearchedAgain, point_is}
 use Rattle.gh_world.proofs.AllActors.Resting.{runs_are}
@@ -48,9 +49,18 @@ module _ (shapes : List Shape) (l : Layout) (pacing : Pacing) (may : ℕ → Lis
       searched x is full = full_searches now now.task e.found x (point_is (acts now e.found) x is) full
 
       -- and a search by its rights sees what there is
-      module _ (known : Known) (shapes_good : ShapesAreGood shapes) (h : Heap) (of : IsHeapOf shapes l pacing may es h) (good : Good z (view h)) where
+      module _ (known : Known) (shapes_good : ShapesAreGood shapes) (has : HasState shapes l pacing may es) (swept : PassedBefore has.state l.pages) where
+        abbrev h : Heap
+        h = has.state.heap
+
+        abbrev of : IsHeapOf shapes l pacing may es has.state.heap
+        of = has.of_list
+
+        abbrev good : Good z (view has.state.heap)
+        good = has.good.heap
+
         pub heap_refuses : RefusesRightly
-        heap_refuses x is full = subst (λ (w : Words). IsFullFor z e.actor w m x.op) of.words_are (full_for z h good of.others e.actor m x.op (land.after.does.full x act full)) where
+        heap_refuses x is full = subst (λ (w : Words). IsFullFor z e.actor w m x.op) of.words_are (full_for z h good (known.walkers.all z has.state has.good swept) of.others e.actor m x.op (land.after.does.full x act full)) where
           none_begun : e.begun ≡ None
           none_begun = goes_on shapes l e.begun m (searched x is full)
 
@@ -70,4 +80,4 @@ module _ (shapes : List Shape) (l : Layout) (pacing : Pacing) (may : ℕ → Lis
           act = ap (acts m) (sym found) ∙ (ap (λ (y : Processor). acts y e.found) (sym now_is) ∙ point_is (acts now e.found) x is)
 
           land : Steps z e.actor h (asks m) (λ t. DoesPoints z e.actor h t m (of.processors e.actor lt).pending (h.words (cell_of (asks m))))
-          land = known.runs.own_step z e.actor h m (of.processors e.actor lt).pending shapes_good busy good (of.processors e.actor lt).fine
+          land = known.runs.own_step z e.actor h m (of.processors e.actor lt).pending shapes_good busy good (λ p g is none. known.walkers.all z has.state has.good swept p g is) (of.processors e.actor lt).fine

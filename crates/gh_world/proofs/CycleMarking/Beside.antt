@@ -93,9 +93,8 @@ enters reference (Some h) = stores_entry h.index h.count reference
 shades : (s : shade.Shading) (p : ShadeStage) → LeavesHeap (shade.asks_at s p)
 shades s shading.LoadPage = loads _
 shades s (shading.SetMark noscan) = sets_mark _ _
-shades s shading.WaitForRoom = loads _
 shades s shading.Enter = enters s.reference s.held
-shades s shading.Ended = loads _
+shades s _ = loads _
 
 scans : (s : scan.Scanning) (p : ScanStage) → LeavesHeap (scan.asks_at s p)
 scans s (scanning.Shading sh) = shades sh sh.stage
@@ -113,13 +112,12 @@ module _ (w : Working) where
   works_at (work.Resuming r) b = resumes r r.stage
   works_at (work.Taking t) b = takes t t.stage
   works_at (work.Scanning s) b = scans s s.stage
-  works_at work.LoadCursor b = loads _
   works_at work.Claim b = claims_global
-  works_at (work.LoadGlobal i) b = loads _
   works_at (work.Shading sh) b = shades sh sh.stage
   works_at (work.FindRoom sh r) b = finds_room r r.stage
   works_at work.Leave b = stores_ack w.seat _
   works_at work.Done b = absurd cc
+  works_at _ b = loads _
 
   pub works_so : is_busy w.stage ≡ true → LeavesHeap (asks w)
   works_so b = works_at w.stage b

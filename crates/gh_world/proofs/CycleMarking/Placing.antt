@@ -34,13 +34,11 @@ module _ (z : Cycle) (a : ℕ) (s : Marking) where
   stage_fills held (stage.Resuming r) f = by_hand _ refl f.0
   stage_fills held (stage.Taking t) f = by_hand _ refl f.hands
   stage_fills held (stage.Scanning m) f = scan_fills m m.stage f.stage_is
-  stage_fills held stage.LoadCursor f = by_hand _ refl f
   stage_fills held stage.Claim f = by_hand _ refl f.1
   stage_fills held (stage.LoadGlobal i) f = by_hand _ refl f.1
   stage_fills held (stage.Shading sh) f = by_hand _ refl f.1.hands
   stage_fills held (stage.FindRoom sh r) f = by_hand _ refl f.2.hands
-  stage_fills held stage.Leave f = by_hand _ refl f
-  stage_fills held stage.Done f = by_hand _ refl f
+  stage_fills held _ f = by_hand _ refl f
 
   pub places_none : (w : worker.Working) → marks.Facts z a s w → FillsNone
   places_none w f = stage_fills w.held w.stage f.stage_is

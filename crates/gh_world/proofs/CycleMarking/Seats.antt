@@ -53,8 +53,7 @@ module _ (shapes : List Shape) (l : Layout) (pacing : Pacing) where
   begun : (a : ℕ) (o : Option Op) (m : Actor) → IsSeated l a m → IsSeated l a (started all o m)
   begun a None m s = s
   begun a (Some o) (actor.Runs m) s = s
-  begun a (Some o) (actor.Marks w) s = s
-  begun a (Some o) (actor.Leads c) s = s
+  begun a (Some o) _ s = s
 
   taken : (a found : ℕ) (m : Actor) → IsSeated l a m → IsSeated l a (takes shapes m found)
   taken a found (actor.Runs m) s = s

@@ -47,9 +47,8 @@ module _ (swept begun gen : ℕ) where
 
   close_marked : (p : CloseStage) → IsAt (close_part p) → MarkedWhere ((close.is_busy p ≡ true) ⊎ ⊥)
   close_marked close_stage.LoadBank h = one_more h.0 h.1 (inl refl)
-  close_marked close_stage.ClearBank h = one_more h.0 h.1 (inl refl)
-  close_marked close_stage.StoreGen h = one_more h.0 h.1 (inl refl)
   close_marked close_stage.Ended h = alike 1 h.0 h.1 (λ x. elim x [ inl y ↦ cc | inr y ↦ y ])
+  close_marked _ h = one_more h.0 h.1 (inl refl)
 
   tell_marked : (p : TellStage) → IsAt (tell_part p) → MarkedWhere (⊥ ⊎ ⊥)
   tell_marked tell_stage.StoreTrigger h = alike 1 h.0 h.1 neither

@@ -31,8 +31,7 @@ pub record Still (w : Words) (ask : Ask) : Type 0 where
 module _ (w : Words) where
   pub stop_still : (st : stop.Stopping) (p : StopStage) → Still w (stop.asks_at st p)
   stop_still st stop_stage.StorePhase = record { quiet = record { opens_none = λ b. refl; asks_none = λ b. refl; want = refl; scanned = λ g. refl; counts = refl }; numbers = refl }
-  stop_still st (stop_stage.Await i) = record { quiet = record { opens_none = λ b. refl; asks_none = λ b. refl; want = refl; scanned = λ g. refl; counts = refl }; numbers = refl }
-  stop_still st stop_stage.Ended = record { quiet = record { opens_none = λ b. refl; asks_none = λ b. refl; want = refl; scanned = λ g. refl; counts = refl }; numbers = refl }
+  stop_still st _ = record { quiet = record { opens_none = λ b. refl; asks_none = λ b. refl; want = refl; scanned = λ g. refl; counts = refl }; numbers = refl }
 
   pub watch_still : (v : watch.Watching) (p : WatchStage) → Still w (watch.asks_at v p)
   watch_still v (watch_stage.Look i) = record { quiet = record { opens_none = λ b. refl; asks_none = λ b. refl; want = refl; scanned = λ g. refl; counts = refl }; numbers = refl }
@@ -40,8 +39,7 @@ module _ (w : Words) where
 
   pub count_still : (p : CountStage) → Still w (count.asks_at p)
   count_still count_stage.LoadTally = record { quiet = record { opens_none = λ b. refl; asks_none = λ b. refl; want = refl; scanned = λ g. refl; counts = refl }; numbers = refl }
-  count_still (count_stage.LoadLive t) = record { quiet = record { opens_none = λ b. refl; asks_none = λ b. refl; want = refl; scanned = λ g. refl; counts = refl }; numbers = refl }
-  count_still (count_stage.Ended x) = record { quiet = record { opens_none = λ b. refl; asks_none = λ b. refl; want = refl; scanned = λ g. refl; counts = refl }; numbers = refl }
+  count_still _ = record { quiet = record { opens_none = λ b. refl; asks_none = λ b. refl; want = refl; scanned = λ g. refl; counts = refl }; numbers = refl }
 
   swap_quiet : (i old new : ℕ) (yes : Bool) → eqb (w (cell.Page i)) old ≡ yes → Quiet w (Swap (cell.Page i) old new)
   swap_quiet i old new true e = record { opens_none = λ b. refl; asks_none = λ b. refl; want = rw e refl; scanned = λ g. rw e refl; counts = rw e refl }
@@ -54,5 +52,4 @@ module _ (w : Words) where
   pub all_quiet : (v : all.SweepingAll) (p : SweepAllStage) → Quiet w (all.asks_at v p)
   all_quiet v (all_stage.LoadPage i) = record { opens_none = λ b. refl; asks_none = λ b. refl; want = refl; scanned = λ g. refl; counts = refl }
   all_quiet v (all_stage.Sweep i x) = span_quiet x x.stage
-  all_quiet v (all_stage.Await i) = record { opens_none = λ b. refl; asks_none = λ b. refl; want = refl; scanned = λ g. refl; counts = refl }
-  all_quiet v all_stage.Ended = record { opens_none = λ b. refl; asks_none = λ b. refl; want = refl; scanned = λ g. refl; counts = refl }
+  all_quiet v _ = record { opens_none = λ b. refl; asks_none = λ b. refl; want = refl; scanned = λ g. refl; counts = refl }

@@ -6,9 +6,8 @@ use Rattle.gh_coord.specs.Listing as coord
 use Rattle.gh_worker.specs.Listing as worker
 use Rattle.gh_worker.specs.Writing.{IsWritten}
 use Rattle.gh_world.specs.declared.handshake.Actor.TheVariants as actor
-use Rattle.gh_world.specs.Numbers.{Opened, TallyCleared, LiveCleared, Counted}
 use Rattle.gh_world.specs.Waits.{StacksAreNumbered}
-use Rattle.gh_world.proofs.Vocabulary.{Acts, Add, ahead_at, And, Ask, Awake, Begins, Begun, Cell, Checked, CountsCycles, effect, END, Ended, Entry, is_busy, IsAwake, IsFew, IsSound, KeepsIt, Kind, Layout, Legal, Load, Numbered, Op, opened_in, Or, Outside, Pacing, Part, part_of, Party, party_of, Processor, processor_kind, ProcessorInHandshake, ProcessorWritesItsOwn, put, same_cell, Shape, Stage, stage_of, started, Store, Swap, Words, WorkersWriteTheirOwn, WritesItsOwn}
+use Rattle.gh_world.proofs.Vocabulary.{Acts, Add, ahead_at, And, Ask, Awake, Begins, Cell, CountsCycles, effect, END, Entry, is_busy, IsAwake, IsFew, IsSound, KeepsIt, Kind, Layout, Legal, Load, Op, opened_in, Or, Outside, Pacing, Part, part_of, Party, party_of, Processor, processor_kind, ProcessorInHandshake, ProcessorWritesItsOwn, put, same_cell, Shape, Stage, stage_of, started, Store, Swap, Words, WorkersWriteTheirOwn, WritesItsOwn}
 use Rattle.gh_world.proofs.CycleNumbers.Frames.{Leaves as Leaves_, leaves, Numbers, worker_leaves}
 use Rattle.gh_world.proofs.CycleNumbers.Lists.{rises}
 use Rattle.gh_world.proofs.CycleNumbers.Wanting.{Aside, aside as lead_aside}
@@ -17,14 +16,7 @@ use Rattle.gh_world.proofs.CycleNumbers.Writing.{IsNumberOf, leaves_numbers, Num
 
 begun_behind : (part : Part) → (ahead_at part).begun ≤ (ahead_at part).numbered
 begun_behind Outside = omega arith
-begun_behind Numbered = omega arith
-begun_behind Opened = omega arith
-begun_behind TallyCleared = omega arith
-begun_behind LiveCleared = omega arith
-begun_behind Begun = omega arith
-begun_behind Checked = omega arith
-begun_behind Ended = omega arith
-begun_behind Counted = omega arith
+begun_behind _ = omega arith
 
 abbrev IsStack : Cell → Type 0
 IsStack c = (h : ℕ) × (c ≡ cell.Scanned h)
@@ -82,22 +74,22 @@ module _ (shapes : List Shape) (l : Layout) (pacing : Pacing) (may : ℕ → Lis
   abbrev k : Kind Processor Op
   k = processor_kind shapes l
 
-  -- what an awake processor knows, once it has begun an operation or not
-  pub knows_begun : (a : ℕ) (m : Processor) (o : Option Op) (es : List (Entry Op)) → Legal (seats.it shapes l pacing may) es → a < l.procs → seats.at shapes l pacing may es a ≡ actor.Runs m → IsSound m → Begins (seats.it shapes l pacing may) a es o → IsAwake (stage_of (started k o m)) →
-      (party_of (started k o m)).view.begun ≡ seats.words shapes l pacing may es cell.Begun
-  knows_begun a m o es legal lt is s b awake = go o b awake where
-    exact : IsAwake (stage_of m) → (party_of m).view.begun ≡ seats.words shapes l pacing may es cell.Begun
-    exact y = ((keeps es legal).processors_know a m (omega (arith, lt)) is y).begun_is
-
+  -- One that is awake, once it has begun an operation or not, was so before, with what it knows of the phase.
+  module _ (a : ℕ) (m : Processor) where
     same_place : (p q : Party) (s t : Stage) → PlaceBegins (Acts p s) (Acts q t) → IsAwake t → (q ≡ p) × IsAwake s
     same_place p q s t (inl e) y = (cc, let same : s ≡ t = cc in subst IsAwake (sym same) y)
     same_place p q s t (inr x) y = (let from = x.1 in let to = x.2 in cc, let same : s ≡ Awake = (let from = x.1 in cc) in subst IsAwake (sym same) tt)
 
-    go : (o : Option Op) → Begins (seats.it shapes l pacing may) a es o → IsAwake (stage_of (started k o m)) → (party_of (started k o m)).view.begun ≡ seats.words shapes l pacing may es cell.Begun
-    go None b y = exact y
-    go (Some o) b y =
-        let x = same_place (party_of m) (party_of (k.begins m o)) (stage_of m) (stage_of (k.begins m o)) (places.begins_so shapes l m o s.place (sym (ap is_busy is) ∙ b.0)) y in
-        ap (λ (p : Party). p.view.begun) x.0 ∙ exact x.1
+    pub was_awake : (o : Option Op) (es : List (Entry Op)) → seats.at shapes l pacing may es a ≡ actor.Runs m → IsSound m → Begins (seats.it shapes l pacing may) a es o → IsAwake (stage_of (started k o m)) → (party_of (started k o m) ≡ party_of m) × IsAwake (stage_of m)
+    was_awake None es is s b y = (refl, y)
+    was_awake (Some o) es is s b y = same_place (party_of m) (party_of (k.begins m o)) (stage_of m) (stage_of (k.begins m o)) (places.begins_so shapes l m o s.place (sym (ap is_busy is) ∙ b.0)) y
+
+  -- so it knows the cycle that has begun last
+  pub knows_begun : (a : ℕ) (m : Processor) (o : Option Op) (es : List (Entry Op)) → Legal (seats.it shapes l pacing may) es → a < l.procs → seats.at shapes l pacing may es a ≡ actor.Runs m → IsSound m → Begins (seats.it shapes l pacing may) a es o → IsAwake (stage_of (started k o m)) →
+      (party_of (started k o m)).view.begun ≡ seats.words shapes l pacing may es cell.Begun
+  knows_begun a m o es legal lt is s b awake =
+      let x = was_awake a m o es is s b awake in
+      ap (λ (p : Party). p.view.begun) x.0 ∙ ((keeps es legal).processors_know a m (omega (arith, lt)) is x.1).begun_is
 
   module _ (works : WorkersWriteTheirOwn)
       (counts : (es : List (Entry Op)) (c : coord.Coordinating) → Legal (seats.it shapes l pacing may) es → IsFew es → seats.at shapes l pacing may es (seats.n shapes l pacing may) ≡ actor.Leads c → CountsCycles (seats.it shapes l pacing may) pacing.room es c) where
@@ -131,34 +123,35 @@ module _ (shapes : List Shape) (l : Layout) (pacing : Pacing) (may : ℕ → Lis
           omega (arith, now, a, b, d)
 
       -- no step takes the number of cycles begun back
-      begun_rises : words es cell.Begun ≤ words (e ∷ es) cell.Begun
+      pub begun_rises : words es cell.Begun ≤ words (e ∷ es) cell.Begun
       begun_rises = by (seats.step shapes l pacing may e es writes legal (keeps es legal.0)) where
         by : seats.Step shapes l pacing may e es → words es cell.Begun ≤ words (e ∷ es) cell.Begun
         by (seats.by_processor m x s) = as_many (free m x)
         by (seats.by_worker w x s) = as_many (worker_free w x)
         by (seats.by_lead c x) = lead_rises c (counts es c legal.0 (few_before e es few) x.is) (lead_free c x).begun
 
-      stays : (g : ℕ) → words (e ∷ es) (cell.Scanned g) ≡ words es (cell.Scanned g) → AllNumbered es → (words (e ∷ es) (cell.Scanned g) ≡ END) ⊎ (words (e ∷ es) (cell.Scanned g) ≤ words (e ∷ es) cell.Begun)
-      stays g same h = elim (h g) [ inl y ↦ inl (same ∙ y) | inr y ↦ inr (let up = begun_rises in omega (arith, same, y, up)) ]
+      -- A step leaves a stack's word, or writes the number of an end, or that of the cycle that has begun last.
+      pub stack_goes : (g : ℕ) → (words (e ∷ es) (cell.Scanned g) ≡ words es (cell.Scanned g)) ⊎ ((words (e ∷ es) (cell.Scanned g) ≡ END) ⊎ (words (e ∷ es) (cell.Scanned g) ≡ words es cell.Begun))
+      stack_goes g = by (seats.step shapes l pacing may e es writes legal (keeps es legal.0)) where
+        written : (m : Processor) (x : seats.RunsIt shapes l pacing may e es m) → IsNumberOf (party_of (started k e.begun m)) (stage_of (started k e.begun m)) (words (e ∷ es) (cell.Scanned g)) →
+            (words (e ∷ es) (cell.Scanned g) ≡ END) ⊎ (words (e ∷ es) (cell.Scanned g) ≡ words es cell.Begun)
+        written m x (inl y) = inl y
+        written m x (inr y) = inr (y.1 ∙ knows_begun e.actor m e.begun es legal.0 x.seat x.is x.sound_it legal.1.begins y.0)
 
-      written : (g : ℕ) (m : Processor) (x : seats.RunsIt shapes l pacing may e es m) → IsNumberOf (party_of (started k e.begun m)) (stage_of (started k e.begun m)) (words (e ∷ es) (cell.Scanned g)) →
-          (words (e ∷ es) (cell.Scanned g) ≡ END) ⊎ (words (e ∷ es) (cell.Scanned g) ≤ words (e ∷ es) cell.Begun)
-      written g m x (inl y) = inl y
-      written g m x (inr y) =
-          let known = knows_begun e.actor m e.begun es legal.0 x.seat x.is x.sound_it legal.1.begins y.0 in
-          let now = y.1 in let up = begun_rises in
-          inr (omega (arith, known, now, up))
-
-      next : AllNumbered es → AllNumbered (e ∷ es)
-      next h g = by (seats.step shapes l pacing may e es writes legal (keeps es legal.0)) where
-        by : seats.Step shapes l pacing may e es → (words (e ∷ es) (cell.Scanned g) ≡ END) ⊎ (words (e ∷ es) (cell.Scanned g) ≤ words (e ∷ es) cell.Begun)
+        by : seats.Step shapes l pacing may e es → (words (e ∷ es) (cell.Scanned g) ≡ words es (cell.Scanned g)) ⊎ ((words (e ∷ es) (cell.Scanned g) ≡ END) ⊎ (words (e ∷ es) (cell.Scanned g) ≡ words es cell.Begun))
         by (seats.by_processor m x s) =
             elim (numbered (words es) g (party_of (started k e.begun m)) (stage_of (started k e.begun m)) e.ask (subst (λ (q : Ask). NumbersStack (party_of (started k e.begun m)) (stage_of (started k e.begun m)) q) (sym x.asked) (numbers_stack places writes shapes (started k e.begun m) x.sound_then x.busy))) [
-              | inl y ↦ stays g y h
-              | inr y ↦ written g m x y
+              | inl y ↦ inl y
+              | inr y ↦ inr (written m x y)
             ]
-        by (seats.by_worker w x s) = stays g (worker_same (words es) g w.seat e.ask (subst (λ (q : Ask). WritesItsOwn w.seat q) (sym x.asked) (works w x.sound_it x.busy))) h
-        by (seats.by_lead c x) = stays g ((lead_free c x).scanned g) h
+        by (seats.by_worker w x s) = inl (worker_same (words es) g w.seat e.ask (subst (λ (q : Ask). WritesItsOwn w.seat q) (sym x.asked) (works w x.sound_it x.busy)))
+        by (seats.by_lead c x) = inl ((lead_free c x).scanned g)
+
+      next : AllNumbered es → AllNumbered (e ∷ es)
+      next h g = elim (stack_goes g) [
+        | inl same ↦ elim (h g) [ inl y ↦ inl (same ∙ y) | inr y ↦ inr (let up = begun_rises in omega (arith, same, y, up)) ]
+        | inr wrote ↦ elim wrote [ inl y ↦ inl y | inr y ↦ inr (let up = begun_rises in omega (arith, y, up)) ]
+      ]
 
     pub are_numbered : (es : List (Entry Op)) → Legal (seats.it shapes l pacing may) es → IsFew es → AllNumbered es
     are_numbered [] legal few g = inr (omega arith)

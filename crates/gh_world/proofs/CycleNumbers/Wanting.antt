@@ -96,9 +96,8 @@ module _ (opened asked : ℕ) (w : Words) (s : Coordinating) (marks : ℕ) where
   -- its marking is ended
   closing : (c : close.Closing) (p : CloseStage) (found : ℕ) → close.is_busy p ≡ true → In (Close c) → Next (close.asks_at c p) (after_close (at_stage u (Close (close.goes_at c p found))) (close.given (close.goes_at c p found)))
   closing c close_stage.LoadBank found b h = within (Close c) _ refl refl (λ x. x) (λ x. x) h
-  closing c close_stage.ClearBank found b h = within (Close c) _ refl refl (λ x. x) (λ x. x) h
-  closing c close_stage.StoreGen found b h = within (Close c) _ refl refl (λ x. x) (λ x. x) h
   closing c close_stage.Ended found b h = absurd cc
+  closing c _ found b h = within (Close c) _ refl refl (λ x. x) (λ x. x) h
 
   -- it is swept
   sweeping : (v next : all.SweepingAll) (out : Option (Unit {0})) → In (Sweep v) → Next (all.asks v) (after_sweep (at_stage u (Sweep next)) out)
@@ -145,15 +144,12 @@ module _ (opened asked : ℕ) (w : Words) (s : Coordinating) (marks : ℕ) where
 
   close_aside : (c : close.Closing) (p : CloseStage) → Aside w s.begun (close.asks_at c p)
   close_aside c close_stage.LoadBank = record { asks_none = λ b. refl; scanned = λ g. refl; begun = inl refl; swept = inl refl }
-  close_aside c close_stage.ClearBank = record { asks_none = λ b. refl; scanned = λ g. refl; begun = inl refl; swept = inl refl }
-  close_aside c close_stage.StoreGen = record { asks_none = λ b. refl; scanned = λ g. refl; begun = inl refl; swept = inl refl }
-  close_aside c close_stage.Ended = record { asks_none = λ b. refl; scanned = λ g. refl; begun = inl refl; swept = inl refl }
+  close_aside c _ = record { asks_none = λ b. refl; scanned = λ g. refl; begun = inl refl; swept = inl refl }
 
   tell_aside : (t : tell.Telling) (p : TellStage) → Aside w s.begun (tell.asks_at t p)
   tell_aside t tell_stage.StoreTrigger = record { asks_none = λ b. refl; scanned = λ g. refl; begun = inl refl; swept = inl refl }
   tell_aside t tell_stage.StoreSwept = record { asks_none = λ b. refl; scanned = λ g. refl; begun = inl refl; swept = inr (t.cycle, refl) }
-  tell_aside t tell_stage.StorePhase = record { asks_none = λ b. refl; scanned = λ g. refl; begun = inl refl; swept = inl refl }
-  tell_aside t tell_stage.Ended = record { asks_none = λ b. refl; scanned = λ g. refl; begun = inl refl; swept = inl refl }
+  tell_aside t _ = record { asks_none = λ b. refl; scanned = λ g. refl; begun = inl refl; swept = inl refl }
 
   pub aside : (p : CoordStage) → SoundAt s p → Aside w s.begun (asks_at s p)
   aside (Stop st) e = alike (stop.asks st) (stop_still w st st.stage).quiet

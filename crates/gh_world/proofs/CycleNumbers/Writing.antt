@@ -16,7 +16,7 @@ use Rattle.gh_mutator.specs.Poll as poll
 use Rattle.gh_mutator.specs.ProcessorPlaces.{new_party_at}
 use Rattle.gh_mutator.specs.Wait as wait
 use Rattle.gh_mutator.specs.Writing.{EndsStack}
-use Rattle.gh_world.proofs.Vocabulary.{Add, And, Ask, asks, Awake, Cell, END, Gives, Gone, is_busy_at, IsAwake, IsSound, IsWritten, Leaves, Load, NewStage, Or, Party, party_at, party_of, PollStage, Processor, ProcessorInHandshake, ProcessorWritesItsOwn, Resumes, ResumeStage, Shape, Stage, stage_of, StageGoes, Store, Swap, takes, Task, TellsScan, View, WaitStage, WritesOf}
+use Rattle.gh_world.proofs.Vocabulary.{Add, And, Ask, asks, Awake, Cell, END, Gone, is_busy_at, IsAwake, IsSound, IsWritten, Load, NewStage, Or, Party, party_at, party_of, PollStage, Processor, ProcessorInHandshake, ProcessorWritesItsOwn, Resumes, ResumeStage, Shape, Stage, stage_of, StageGoes, Store, Swap, takes, Task, TellsScan, View, WaitStage, WritesOf}
 use Rattle.gh_world.proofs.CycleNumbers.Frames.{IsNoNumber, LeavesNumbers}
 
 -- what it writes is none of the numbers, but that it asks for a cycle
@@ -78,10 +78,9 @@ resumes_other r _ g value is = cc
 -- so it is awake then
 pub awake_at : (found : ℕ) (from : Party) (s : Stage) (q : Ask) (to : Party) (then : Stage) (g value : ℕ) → q ≡ Store (cell.Scanned g) value → StageGoes found from s q to then → IsAwake s
 awake_at found from Awake q to then g value is goes = tt
-awake_at found from (Gives stops) q to then g value is goes = tt
 awake_at found from (Resumes stops s) q to then g value is goes = absurd (resume_other from.seat stops s g value (sym is ∙ goes.1))
-awake_at found from Leaves q to then g value is goes = tt
 awake_at found from Gone q to then g value is goes = absurd goes
+awake_at found from _ q to then g value is goes = tt
 
 -- and what it knows of the phase is what it knows between two polls
 module _ (m : Processor) (g value : ℕ) where
@@ -92,8 +91,7 @@ module _ (m : Processor) (g value : ℕ) where
   waits_know : (w : Wait) (s : WaitStage) → Store (cell.Scanned g) value ≡ wait.asks_at (wait.waiting w m.poll) s → (waiter_at (wait.waiting w m.poll) s).view ≡ m.poll.local.view
   waits_know w waiting.Polling is = polls_know m.poll.stage is
   waits_know w waiting.Want is = refl
-  waits_know w waiting.LoadSwept is = refl
-  waits_know w waiting.Ended is = refl
+  waits_know w _ is = refl
 
   new_knows : (s : NewStage) → Store (cell.Scanned g) value ≡ new.asks_at m s → (new_party_at m.poll s).view ≡ m.poll.local.view
   new_knows (making.Wait y) is = waits_know y y.stage is

@@ -92,30 +92,12 @@ module _ (p : Program) (l : Layout) where
   new_alone : (e : Ever) (seat : ℕ) (words : Words) (m : Processor) (o : Op) → IsFullFor (arena_of p.shapes l) seat words m o → Answers p.shapes e o answer.Full
   new_alone e seat words m (op.New g d t) f = inr refl
   new_alone e seat words m (op.Load g d b k) f = absurd f
-  new_alone e seat words m (op.Store g b k v) f = absurd f
-  new_alone e seat words m (op.GetGlobal g d k) f = absurd f
-  new_alone e seat words m (op.SetGlobal g k v) f = absurd f
-  new_alone e seat words m (op.Int g d n) f = absurd f
-  new_alone e seat words m (op.Move g d s) f = absurd f
-  new_alone e seat words m (op.Nil g d) f = absurd f
-  new_alone e seat words m (op.Gc g) f = absurd f
-  new_alone e seat words m op.Poll f = absurd f
-  new_alone e seat words m (op.End g) f = absurd f
-  new_alone e seat words m op.Leave f = absurd f
+  new_alone e seat words m _ f = absurd f
 
   plain : (e : Ever) (o : Op) → Answers p.shapes e o (answer_of p.shapes e o)
   plain e (op.New g d t) = inl refl
   plain e (op.Load g d b k) = refl
-  plain e (op.Store g b k v) = refl
-  plain e (op.GetGlobal g d k) = refl
-  plain e (op.SetGlobal g k v) = refl
-  plain e (op.Int g d n) = refl
-  plain e (op.Move g d s) = refl
-  plain e (op.Nil g d) = refl
-  plain e (op.Gc g) = refl
-  plain e op.Poll = refl
-  plain e (op.End g) = refl
-  plain e op.Leave = refl
+  plain e _ = refl
 
   act_answers : (e : Ever) (a : Act) (seat : ℕ) (words : Words) (m : Processor) → (a.full ≡ true → IsFullFor (arena_of p.shapes l) seat words m a.op) → Answers p.shapes e a.op (answer_at p.shapes e a)
   act_answers e a seat words m full = go a.full refl where

@@ -1,10 +1,11 @@
 -- Where an operation of a run acted: the step of the list, what it found there, and its answer.
-use Rattle.std.proofs.Common.{◌≡◌, ℕ, zero, suc, ◌⊎◌, Bool, List, [], ◌∷◌, ◌++◌, length, reverse, Option, Some, None, refl, sym, ap, ◌∙◌, arith, inl, inr}
+use Rattle.std.proofs.Common.{◌≡◌, ℕ, zero, suc, ◌⊎◌, Bool, true, cond, List, [], ◌∷◌, ◌++◌, length, reverse, Option, Some, None, refl, sym, ap, ◌∙◌, arith, inl, inr}
 use Rattle.std.specs.Prelude.{slice_get}
 use Rattle.std.specs.Option.{option_to_list}
 use Rattle.std.proofs.lemmas.Grind.{reverse_onto}
 use Rattle.std.proofs.lemmas.List.{length-reverse}
-use Rattle.gh_world.specs.Vocabulary.{Act, acts, answer_at, Entry, Layout, Legal, Op, Program}
+use Rattle.gh_world.specs.Vocabulary.{Act, acts, answer_at, Entry, has_point, Layout, Legal, Op, Program}
+use Rattle.gh_mutator.specs.Deeds.{point_of}
 use Rattle.gh_world.specs.Order.{acted_in, Answered}
 use Rattle.gh_world.specs.RunVocabulary.{ActedBehind, answered, arena_of, before_step, ever_of, FullOnlyThere, order_of, setting_of}
 
@@ -14,6 +15,10 @@ one_more_at [] y zero x e = inr (refl, cc)
 one_more_at [] y (suc i) x e = absurd (cc)
 one_more_at (z ∷ xs) y zero x e = inl e
 one_more_at (z ∷ xs) y (suc i) x e = elim (one_more_at xs y i x e) [ inl h ↦ inl h | inr h ↦ inr (omega (arith, h.0), h.1) ]
+
+-- what a step does is a point, if its operation has one
+pub pointed : (x : Act) (does : Option Act) → does ≡ Some x → has_point x.op ≡ true → point_of does ≡ Some x
+pointed x does is point = ap point_of is ∙ ap (λ (b : Bool). cond b (Some x) None) point
 
 module _ (p : Program) (l : Layout) where
   abbrev act_with : Op → Bool → Act

@@ -44,14 +44,7 @@ left_idle : (t : Task) → has_left_at t ≡ true → is_busy_at t ≡ false
 left_idle task.Left e = refl
 left_idle task.Idle e = refl
 left_idle (task.Load x) e = absurd cc
-left_idle (task.Store x) e = absurd cc
-left_idle (task.Global x) e = absurd cc
-left_idle (task.Register x) e = absurd cc
-left_idle (task.New x) e = absurd cc
-left_idle (task.Gc g x) e = absurd cc
-left_idle task.Poll e = absurd cc
-left_idle (task.End g) e = absurd cc
-left_idle (task.Leave x) e = absurd cc
+left_idle _ e = absurd cc
 
 none_pending : (o : Option Answer) (xs ys : List Answer) → xs ≡ option_to_list o ++ ys → length xs ≡ length ys → xs ≡ ys
 none_pending None xs ys e long = e

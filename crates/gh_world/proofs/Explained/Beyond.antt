@@ -22,29 +22,17 @@ module _ (shapes : List Shape) (g d : ℕ) where
   takes e h c (answer.Int n) ne = kept e h c (values.Int n) ne
   takes e h c (answer.Ref n) ne = kept e h c (values.Ref n) ne
   takes e h c answer.Done ne = refl
-  takes e h c answer.Full ne = refl
-  takes e h c answer.Swept ne = refl
-  takes e h c (answer.Fault f) ne = refl
+  takes e h c _ ne = refl
 
   stores : (e : Ever) (x : EverValue) (k : ℕ) (v : EverValue) (a : Answer) → (stores_value e x k v a).register g d ≡ e.register g d
   stores e values.Nil k v a = refl
   stores e (values.Int n) k v a = refl
   stores e (values.Ref n) k v answer.Nil = refl
-  stores e (values.Ref n) k v (answer.Int m) = refl
-  stores e (values.Ref n) k v (answer.Ref m) = refl
-  stores e (values.Ref n) k v answer.Done = refl
-  stores e (values.Ref n) k v answer.Full = refl
-  stores e (values.Ref n) k v answer.Swept = refl
-  stores e (values.Ref n) k v (answer.Fault f) = refl
+  stores e (values.Ref n) k v _ = refl
 
   sets : (e : Ever) (k : ℕ) (v : EverValue) (a : Answer) → (sets_global e k v a).register g d ≡ e.register g d
   sets e k v answer.Nil = refl
-  sets e k v (answer.Int m) = refl
-  sets e k v (answer.Ref m) = refl
-  sets e k v answer.Done = refl
-  sets e k v answer.Full = refl
-  sets e k v answer.Swept = refl
-  sets e k v (answer.Fault f) = refl
+  sets e k v _ = refl
 
   makes : (e : Ever) (h c t : ℕ) (a : Answer) → eqb h g ≡ false → (makes_object shapes e h c t a).register g d ≡ e.register g d
   makes e h c t answer.Nil ne = kept (with_object shapes e h t) h c (values.Ref (next_name e h)) ne
@@ -66,9 +54,7 @@ module _ (shapes : List Shape) (g d : ℕ) where
   leaves e (op.Move h c s) a ne = kept e h c (e.register h s) ne
   leaves e (op.Nil h c) a ne = kept e h c values.Nil ne
   leaves e (op.Gc h) a ne = refl
-  leaves e op.Poll a ne = refl
-  leaves e (op.End h) a ne = refl
-  leaves e op.Leave a ne = refl
+  leaves e _ a ne = refl
 
   pub all_leave : (e : Ever) (os : List Op) (as' : List Answer) → filter (is_statement_of g) os ≡ [] → (ever_after_all shapes e os as').register g d ≡ e.register g d
   all_leave e [] as' none = refl

@@ -8,13 +8,13 @@ use Rattle.gh_coord.specs.Closing as close
 use Rattle.gh_coord.specs.Listing as coord
 use Rattle.gh_world.specs.declared.handshake.Actor.TheVariants as actor
 use Rattle.gh_world.specs.Vocabulary.{acks_of, Actor, Coordinating, CoordStage, Cycle, Entry, Layout, Legal, Op, Program, started, Words}
-use Rattle.gh_world.specs.RunVocabulary.{actor_after, Add, alloc_words, AllWereCounted, And, Ask, Cell, Check, Close, Count, cycles_in, Done, effect, ended_by, EndsCycle, generation_of, IsEnding, IsStartOf, LoadAck, LoadWant, mark_words, marked_objects, MarkOn, may_begin_of, Open, opened_in, Or, Outside, pacing_of, Part, part_of, setting_of, Stop, StopAgain, Swap, Sweep, swept_cycle, SweptCycle, Tell, unmarked_objects, WasCounted, Watch, words_in}
+use Rattle.gh_world.specs.RunVocabulary.{actor_after, alloc_words, AllWereCounted, Ask, Cell, Close, cycles_in, Done, effect, ended_by, EndsCycle, generation_of, IsEnding, IsStartOf, LoadAck, mark_words, marked_objects, may_begin_of, opened_in, Outside, pacing_of, Part, part_of, setting_of, swept_cycle, SweptCycle, unmarked_objects, WasCounted, words_in}
 use Rattle.gh_world.proofs.AllActors.Starts.{legal_start}
 use Rattle.gh_world.proofs.CycleNumbers.Frames.{numbers_of}
 use Rattle.gh_world.proofs.CycleNumbers.Parts.{At, own_of}
 use Rattle.gh_world.proofs.Explained.Known.{Changes, changes, counted, Known}
 use Rattle.gh_world.proofs.Explained.Acting.{one_more_at}
-use Rattle.gh_world.proofs.Explained.Numbers.{begins, ends, same, Spares, tells}
+use Rattle.gh_world.proofs.Awaited.Numbers.{begins, ends, same, Spares, tells}
 
 -- ---- of lists
 
@@ -42,31 +42,8 @@ same_elements f (x ∷ xs) (y ∷ ys) long h =
 
 none_stored : (l : Layout) (v : Words) (c : Cell) (value : ℕ) → (c ≡ cell.Gen → ⊥) → ended_by l v (Store c value) ≡ []
 none_stored l v cell.Touch value ne = refl
-none_stored l v cell.Phase value ne = refl
 none_stored l v cell.Gen value ne = absurd (ne refl)
-none_stored l v cell.Begun value ne = refl
-none_stored l v cell.Swept value ne = refl
-none_stored l v cell.Lock value ne = refl
-none_stored l v cell.Want value ne = refl
-none_stored l v cell.Bank value ne = refl
-none_stored l v cell.Gcur value ne = refl
-none_stored l v cell.Heap value ne = refl
-none_stored l v cell.Trigger value ne = refl
-none_stored l v cell.Work value ne = refl
-none_stored l v cell.Slack value ne = refl
-none_stored l v cell.Tally value ne = refl
-none_stored l v cell.Live value ne = refl
-none_stored l v (cell.Page i) value ne = refl
-none_stored l v (cell.Alloc i) value ne = refl
-none_stored l v (cell.Mark i) value ne = refl
-none_stored l v (cell.Bitmap i) value ne = refl
-none_stored l v (cell.Birth i) value ne = refl
-none_stored l v (cell.Field i) value ne = refl
-none_stored l v (cell.Global i) value ne = refl
-none_stored l v (cell.Buffer i) value ne = refl
-none_stored l v (cell.Entry i j) value ne = refl
-none_stored l v (cell.Ack i) value ne = refl
-none_stored l v (cell.Scanned i) value ne = refl
+none_stored l v _ value ne = refl
 
 -- whoever spares the generation stores none
 spares_none : (value : ℕ) → Spares (Store cell.Gen value) → ⊥
@@ -78,40 +55,17 @@ not_gen c value s e = spares_none value (subst (λ (d : Cell). Spares (Store d v
 none_ended : (l : Layout) (v : Words) (ask : Ask) → Spares ask → ended_by l v ask ≡ []
 none_ended l v (Load c) s = refl
 none_ended l v (Store c value) s = none_stored l v c value (not_gen c value s)
-none_ended l v (Or c bits) s = refl
-none_ended l v (And c bits) s = refl
-none_ended l v (Add c more) s = refl
-none_ended l v (Swap c old new) s = refl
+none_ended l v _ s = refl
 
 ending_asks : (c : Coordinating) (p : CoordStage) → IsEnding p → (h : ℕ) × (coord.asks_at c p ≡ Store cell.Gen h)
 ending_asks c (Close x) is = (x.generation, ap (close.asks_at x) is)
 ending_asks c (LoadAck i) is = absurd is
-ending_asks c LoadWant is = absurd is
-ending_asks c (Stop st) is = absurd is
-ending_asks c (Open o) is = absurd is
-ending_asks c (Watch w) is = absurd is
-ending_asks c (StopAgain st) is = absurd is
-ending_asks c (Check w) is = absurd is
-ending_asks c MarkOn is = absurd is
-ending_asks c (Sweep w) is = absurd is
-ending_asks c (Count x) is = absurd is
-ending_asks c (Tell t) is = absurd is
-ending_asks c Done is = absurd is
+ending_asks c _ is = absurd is
 
 pub is_done : (st : CoordStage) → coord.is_done st ≡ true → st ≡ Done
 is_done Done e = refl
 is_done (LoadAck i) e = absurd cc
-is_done LoadWant e = absurd cc
-is_done (Stop st) e = absurd cc
-is_done (Open o) e = absurd cc
-is_done (Watch w) e = absurd cc
-is_done (StopAgain st) e = absurd cc
-is_done (Check w) e = absurd cc
-is_done MarkOn e = absurd cc
-is_done (Close x) e = absurd cc
-is_done (Sweep w) e = absurd cc
-is_done (Count x) e = absurd cc
-is_done (Tell t) e = absurd cc
+is_done _ e = absurd cc
 
 module _ (p : Program) (l : Layout) (k : Known p l) where
   abbrev words : List (Entry Op) → Words
@@ -160,7 +114,7 @@ module _ (p : Program) (l : Layout) (k : Known p l) where
     by : Changes p l k e es legal → Numbered es → Numbered (e ∷ es)
     by (same s) h = still e es h (s.gen (words es)) (none_ended l (words es) e.ask s)
     by (begins is) h = still e es h (ap (λ (q : Ask). effect (words es) q cell.Gen) is) (ap (ended_by l (words es)) is)
-    by (tells is) h = still e es h (ap (λ (q : Ask). effect (words es) q cell.Gen) is) (ap (ended_by l (words es)) is)
+    by (tells x) h = still e es h (ap (λ (q : Ask). effect (words es) q cell.Gen) x.ask_is) (ap (ended_by l (words es)) x.ask_is)
     by (ends x) h = one_more e es h x.ask_is (let n = x.number in let g = x.gen in let many = h.many in omega (arith, n, g, many))
 
   -- ---- a cycle that has ended is among them
@@ -190,7 +144,7 @@ module _ (p : Program) (l : Layout) (k : Known p l) where
     by : Changes p l k e es legal → slice_get (ended_in (e ∷ es)) (length (ended_in es)) ≡ Some (ended_at number (words (e ∷ es)))
     by (same s) = absurd (spares_none stores.0 (subst Spares stores.1 s))
     by (begins is) = absurd (let no : Store cell.Gen stores.0 ≡ Store cell.Begun (suc (words es cell.Begun)) = sym stores.1 ∙ is in cc)
-    by (tells is) = absurd (let no : Store cell.Gen stores.0 ≡ Store cell.Swept (suc (words es cell.Swept)) = sym stores.1 ∙ is in cc)
+    by (tells y) = absurd (let no : Store cell.Gen stores.0 ≡ Store cell.Swept (suc (words es cell.Swept)) = sym stores.1 ∙ y.ask_is in cc)
     by (ends y) =
         let value : words es cell.Begun ≡ number = y.number ∙ is_it y.lead y.led in
         let rows : ended_at number (words es) ≡ ended_at number (words (e ∷ es)) = sym (ap (λ (q : Ask). ended_at number (effect (words es) q)) y.ask_is) in

@@ -16,7 +16,7 @@ use Rattle.gh_world.specs.World.{actor_after, may_begin_of, pacing_of, setting_o
 use Rattle.gh_world.proofs.CycleNumbers.Frames.{numbers_of}
 use Rattle.gh_world.proofs.CycleNumbers.Lists.{holds}
 use Rattle.gh_world.proofs.CycleNumbers.Parts.{At, own_of}
-use Rattle.gh_world.proofs.Explained.Numbers.{Change, change, rise, Rises}
+use Rattle.gh_world.proofs.Awaited.Numbers.{Change, change, rise, Rises}
 
 pub record Known (p : Program) (l : Layout) : Type 0 where
   pub each : EachOperationActsOnce

@@ -17,7 +17,7 @@ use Rattle.gh_world.specs.Vocabulary.{acks_of, Coordinating, CoordStage, Entry, 
 use Rattle.gh_world.specs.RunVocabulary.{actor_after, after_check, after_close, after_count, after_open, after_stop, after_stop_again, after_sweep, after_tell, after_watch, All, Ask, at_stage, Check, Close, Count, Done, effect, goes_at, GONE, LoadAck, LoadWant, MarkOn, may_begin_of, NotYet, Open, pacing_of, setting_of, Stop, StopAgain, Sweep, Tell, TellStage, Watch, Watched, words_in}
 use Rattle.gh_world.proofs.CycleNumbers.Seats as seats
 use Rattle.gh_world.proofs.Explained.Known.{Changes, changes, Known, rises}
-use Rattle.gh_world.proofs.Explained.Numbers.{begins, ends, same, Spares, tells}
+use Rattle.gh_world.proofs.Awaited.Numbers.{begins, ends, same, Spares, tells}
 
 -- behind the store of its number a cycle is swept
 abbrev HasToldAt : TellStage → (swept : ℕ) → Type 0
@@ -40,16 +40,7 @@ more : (p : CoordStage) (n m : ℕ) → n ≤ m → HasTold p n → HasTold p m
 more (Tell t) n m le h = more_at t.stage n m le h
 more Done n m le h = omega (arith, le, h)
 more (LoadAck i) n m le h = tt
-more LoadWant n m le h = tt
-more (Stop st) n m le h = tt
-more (Open o) n m le h = tt
-more (Watch v) n m le h = tt
-more (StopAgain st) n m le h = tt
-more (Check v) n m le h = tt
-more MarkOn n m le h = tt
-more (Close x) n m le h = tt
-more (Sweep v) n m le h = tt
-more (Count x) n m le h = tt
+more _ n m le h = tt
 
 module _ (u : Coordinating) (n m found : ℕ) (le : n ≤ m) where
   acks : (i : ℕ) (gone further : Bool) → HasTold (cond gone (cond further (at_stage u (LoadAck (i + 1))) (coord.stops_world (record u { is_last = true }))) (at_stage u LoadWant)).stage m
@@ -137,7 +128,7 @@ module _ (p : Program) (l : Layout) (k : Known p l) where
       go (same s) = absurd (let s' = subst Spares is s in let no : cycle ≡ suc cycle = s'.swept (λ c. suc cycle) in omega (arith, no))
       go (begins other) = absurd (let no = sym is ∙ other in cc)
       go (ends x) = absurd (let no = sym is ∙ x.ask_is in cc)
-      go (tells next) = let then = ap (λ (q : Ask). effect (words_in p l es) q cell.Swept) next in omega (arith, then)
+      go (tells next) = let then = ap (λ (q : Ask). effect (words_in p l es) q cell.Swept) next.ask_is in omega (arith, then)
 
     by_lead : (b : Coordinating) → e.ask ≡ coord.asks b → coord.is_busy b.stage ≡ true → HasTold b.stage (swept es) → HasTold (coord.goes b e.found).stage (swept (e ∷ es))
     by_lead b asked busy h = goes (coord.counted b) (swept es) (swept (e ∷ es)) e.found up b.stage busy h (λ t at is. stores t.cycle (asked ∙ ap (coord.asks_at b) at ∙ ap (tell.asks_at t) is))

@@ -6,8 +6,8 @@ use Rattle.std.proofs.lemmas.Bool.{eqb-false, eqb-true}
 use Rattle.std.proofs.lemmas.Nat.Bits.{bit_at-lt}
 use Rattle.gh_base.specs.declared.value.Name.{Name}
 use Rattle.gh_base.specs.Rows.{alloc_words, page_words, Row, row_bit}
-use Rattle.gh_cycle.specs.Ending.{slot_row, SlotsAreRead}
 use Rattle.gh_heap.specs.Objects.{size_for}
+use Rattle.gh_state.specs.Slots.{slot_row, SlotsAreRead}
 use Rattle.gh_sweep.specs.Bits.{SetBitsAreCounted, sum_below}
 use Rattle.gh_sweep.specs.Counts.{AreWords, count_below, is_set}
 use Rattle.gh_sweep.specs.Shared.{placed, placed_in}

@@ -25,32 +25,17 @@ none_made before after false e = record { no_fewer = omega (arith, e); few = ome
 module _ (shapes : List Shape) (g : ℕ) where
   takes : (e : Ever) (h c : ℕ) (a : Answer) → (takes_answer e h c a).made g ≡ e.made g
   takes e h c answer.Nil = refl
-  takes e h c (answer.Int n) = refl
-  takes e h c (answer.Ref n) = refl
-  takes e h c answer.Done = refl
-  takes e h c answer.Full = refl
-  takes e h c answer.Swept = refl
-  takes e h c (answer.Fault f) = refl
+  takes e h c _ = refl
 
   stores : (e : Ever) (x : EverValue) (k : ℕ) (v : EverValue) (a : Answer) → (stores_value e x k v a).made g ≡ e.made g
   stores e values.Nil k v a = refl
   stores e (values.Int n) k v a = refl
   stores e (values.Ref n) k v answer.Nil = refl
-  stores e (values.Ref n) k v (answer.Int m) = refl
-  stores e (values.Ref n) k v (answer.Ref m) = refl
-  stores e (values.Ref n) k v answer.Done = refl
-  stores e (values.Ref n) k v answer.Full = refl
-  stores e (values.Ref n) k v answer.Swept = refl
-  stores e (values.Ref n) k v (answer.Fault f) = refl
+  stores e (values.Ref n) k v _ = refl
 
   sets : (e : Ever) (k : ℕ) (v : EverValue) (a : Answer) → (sets_global e k v a).made g ≡ e.made g
   sets e k v answer.Nil = refl
-  sets e k v (answer.Int m) = refl
-  sets e k v (answer.Ref m) = refl
-  sets e k v answer.Done = refl
-  sets e k v answer.Full = refl
-  sets e k v answer.Swept = refl
-  sets e k v (answer.Fault f) = refl
+  sets e k v _ = refl
 
   -- a new object
   one_made : (e : Ever) (h : ℕ) → Makes (e.made g) (cond (eqb g h) (e.made h + 1) (e.made g)) (eqb h g)
@@ -66,11 +51,7 @@ module _ (shapes : List Shape) (g : ℕ) where
   makes : (e : Ever) (h c t : ℕ) (a : Answer) → Makes (e.made g) ((makes_object shapes e h c t a).made g) (eqb h g)
   makes e h c t answer.Full = none_made (e.made g) (e.made g) (eqb h g) refl
   makes e h c t answer.Nil = one_made e h
-  makes e h c t (answer.Int m) = one_made e h
-  makes e h c t (answer.Ref m) = one_made e h
-  makes e h c t answer.Done = one_made e h
-  makes e h c t answer.Swept = one_made e h
-  makes e h c t (answer.Fault f) = one_made e h
+  makes e h c t _ = one_made e h
 
   pub made_by : (e : Ever) (o : Op) (a : Answer) → Makes (e.made g) ((ever_after shapes e o a).made g) (asks_collector g (Some o))
   made_by e (op.New h c t) a = makes e h c t a
@@ -79,12 +60,8 @@ module _ (shapes : List Shape) (g : ℕ) where
   made_by e (op.GetGlobal h c k) a = none_made (e.made g) _ false (takes e h c a)
   made_by e (op.SetGlobal h k v) a = none_made (e.made g) _ false (sets e k (e.register h v) a)
   made_by e (op.Int h c n) a = none_made (e.made g) _ false refl
-  made_by e (op.Move h c s) a = none_made (e.made g) _ false refl
-  made_by e (op.Nil h c) a = none_made (e.made g) _ false refl
   made_by e (op.Gc h) a = none_made (e.made g) _ (eqb h g) refl
-  made_by e op.Poll a = none_made (e.made g) _ false refl
-  made_by e (op.End h) a = none_made (e.made g) _ false refl
-  made_by e op.Leave a = none_made (e.made g) _ false refl
+  made_by e _ a = none_made (e.made g) _ false refl
 
   -- as many at most as ask
   abbrev pub asked : List Op → ℕ

@@ -126,8 +126,7 @@ module _ (shapes : List Shape) (e : Ever) (h : IsNamed e) where
   after (op.Store g b k v) true = full-store (e.register g b) where
     full-store : (x : EverValue) → IsNamed (stores_value e x k (e.register g v) answer.Full)
     full-store ever.Nil = h
-    full-store (ever.Int i) = h
-    full-store (ever.Ref m) = h
+    full-store _ = h
   after (op.Store g b k v) false = stores (e.register g b) k (e.register g v) (λ n is. h.registers g v n is)
   after (op.GetGlobal g d k) true = h
   after (op.GetGlobal g d k) false = takes g d (e.global k) (λ n is. h.globals k n is)
@@ -137,9 +136,8 @@ module _ (shapes : List Shape) (e : Ever) (h : IsNamed e) where
   after (op.Move g d c) full = named-register e g d (e.register g c) h (λ n is. h.registers g c n is)
   after (op.Nil g d) full = plain g d ever.Nil (λ n is. cc)
   after (op.Gc g) full = h
-  after op.Poll full = h
   after (op.End g) full = named-end e g h
-  after op.Leave full = h
+  after _ full = h
 
   pub named-acted : (x : Option Act) → IsNamed (acted shapes e x)
   named-acted None = h

@@ -1,23 +1,21 @@
 -- Whichever operation is answered `full`, it acted where there was no room, and had waited for a cycle.
-use Rattle.std.proofs.Common.{◌≡◌, ℕ, Bool, true, false, cond, List, refl, ◌∙◌}
-use Rattle.gh_world.specs.Vocabulary.{Act, answer_of, Entry, Ever, EverValue, Layout, Legal, Op, Program, Shape}
+use Rattle.std.proofs.Common.{◌≡◌, ℕ, Bool, true, false, cond, List, ◌∷◌, refl, inl, ◌∙◌}
+use Rattle.gh_world.specs.Vocabulary.{Act, acts, answer_of, Entry, Ever, EverValue, Layout, Legal, Op, Program, Shape}
 use Rattle.gh_base.specs.declared.value.Answer.TheVariants as answer
 use Rattle.gh_base.specs.declared.value.Fault.TheVariants as fault
 use Rattle.gh_base.specs.declared.operation.Op.TheVariants as op
 use Rattle.gh_model.specs.declared.EverValue.TheVariants as values
+use Rattle.gh_world.specs.Actors.{Awaits}
 use Rattle.gh_world.specs.Order.{Answered}
-use Rattle.gh_world.specs.RunVocabulary.{arena_of, before_step, ever_of, fits, FoundNoRoom, FullMeansNoRoom, FullOnlyThere, has_field, is_number, is_pointer_field, load_answer, setting_of, store_answer, told}
+use Rattle.gh_world.specs.RunVocabulary.{arena_of, before_step, ever_of, fits, FoundNoRoom, FullMeansNoRoom, FullOnlyThere, has_field, is_number, is_pointer_field, load_answer, may_begin_of, pacing_of, setting_of, store_answer, told}
 use Rattle.gh_world.proofs.Explained.Acted.{full_there}
-use Rattle.gh_world.proofs.Explained.Acting.{acts_there, ActsThere}
-use Rattle.gh_world.proofs.Explained.Known.{Known}
-use Rattle.gh_world.proofs.Explained.Waited.{waited_since}
-use Rattle.gh_world.proofs.Explained.Waiting.{full_searches}
+use Rattle.gh_world.proofs.Explained.Acting.{acts_there, ActsThere, pointed}
+use Rattle.gh_world.proofs.Explained.Steps.{full_pointed}
 
 -- the heap that never frees has room for each object
 told_no_full : (v : EverValue) → told v ≡ answer.Full → ⊥
 told_no_full values.Nil e = absurd (cc)
-told_no_full (values.Int n) e = absurd (cc)
-told_no_full (values.Ref n) e = absurd (cc)
+told_no_full _ e = absurd (cc)
 
 load_no_full : (shapes : List Shape) (e : Ever) (v : EverValue) (k : ℕ) → load_answer shapes e v k ≡ answer.Full → ⊥
 load_no_full shapes e values.Nil k full = absurd (cc)
@@ -46,15 +44,9 @@ ever_no_full shapes e (op.Load g d b k) full = load_no_full shapes e (e.register
 ever_no_full shapes e (op.Store g b k v) full = store_no_full shapes e (e.register g b) k (e.register g v) full
 ever_no_full shapes e (op.GetGlobal g d k) full = told_no_full (e.global k) full
 ever_no_full shapes e (op.SetGlobal g k v) full = set_no_full (is_number (e.register g v)) full
-ever_no_full shapes e (op.Int g d n) full = absurd (cc)
-ever_no_full shapes e (op.Move g d s) full = absurd (cc)
-ever_no_full shapes e (op.Nil g d) full = absurd (cc)
-ever_no_full shapes e (op.Gc g) full = absurd (cc)
-ever_no_full shapes e op.Poll full = absurd (cc)
-ever_no_full shapes e (op.End g) full = absurd (cc)
-ever_no_full shapes e op.Leave full = absurd (cc)
+ever_no_full shapes e _ full = absurd (cc)
 
-module _ (p : Program) (l : Layout) (k : Known p l) where
+module _ (p : Program) (l : Layout) (awaits : (es : List (Entry Op)) → Legal (setting_of p l) es → Awaits p.shapes l (pacing_of p) (may_begin_of p l) es) where
   found_none : (es : List (Entry Op)) (i : ℕ) (x : Answered) (full : Bool) → ActsThere p l es i x full → x.answer ≡ answer.Full → FoundNoRoom p l es i x.op
   found_none es i x true t is =
       let s = t.step in
@@ -63,7 +55,7 @@ module _ (p : Program) (l : Layout) (k : Known p l) where
       record {
         step = s;
         no_room = full_there p l s.before s.entry t.room act s.acted refl;
-        waited = waited_since p l k s.before s.entry t.legal act s.acted (full_searches m m.task s.entry.found act s.acted refl);
+        waited = (awaits (s.entry ∷ s.before) t.legal s.entry s.before act (inl refl) (pointed act (acts m s.entry.found) s.acted (full_pointed m m.task s.entry.found act s.acted refl))).full refl;
       }
   found_none es i x false t is = absurd (ever_no_full p.shapes (ever_of p.shapes l t.step.before) x.op (t.answered_so ∙ is))
 

@@ -8,9 +8,9 @@ use Rattle.gh_base.specs.Rows.{alloc_words, Row, row_bit}
 use Rattle.gh_class.specs.Classes.{IsSizeClass, pages_of, slot_of, slots_of}
 use Rattle.gh_class.specs.declared.class.SizeClass.{SizeClass}
 use Rattle.gh_class.specs.declared.class.SizeClass.TheVariants as size
-use Rattle.gh_cycle.specs.Ending.{slot_row, SlotsAreRead}
 use Rattle.gh_heap.specs.Objects.{IsMade}
 use Rattle.gh_heap.specs.Spans.{FitsClass, is_own_class, IsSlotOf, number_of, slot_count, slot_size}
+use Rattle.gh_state.specs.Slots.{slot_row, SlotsAreRead}
 use Rattle.gh_sweep.specs.Counts.{is_set}
 use Rattle.gh_sweep.specs.Listing.{slot_bytes, slot_bytes_of}
 use Rattle.gh_world.specs.Processors.{IsPlacedAt}

@@ -1,26 +1,24 @@
 -- Whichever operation is a `gc`, it is answered `swept`, and had waited for a cycle.
-use Rattle.std.proofs.Common.{◌≡◌, ℕ, Bool, true, false, List, refl, sym, ap, subst, ◌∙◌}
-use Rattle.gh_world.specs.Vocabulary.{Act, answer_of, Entry, Layout, Legal, Op, processor_kind, Program, state_of}
+use Rattle.std.proofs.Common.{◌≡◌, ℕ, Bool, true, false, List, ◌∷◌, refl, sym, ap, subst, inl, ◌∙◌}
+use Rattle.gh_world.specs.Vocabulary.{Act, acts, answer_of, Entry, has_point, Layout, Legal, Op, processor_kind, Program, state_of}
 use Rattle.gh_base.specs.declared.operation.Op.TheVariants as op
+use Rattle.gh_world.specs.Actors.{Awaits}
 use Rattle.gh_world.specs.Order.{Answered}
-use Rattle.gh_world.specs.RunVocabulary.{arena_of, before_step, EachGcWaits, ever_of, FoundSwept, FullOnlyThere, IsFullFor, setting_of, words_in}
+use Rattle.gh_world.specs.RunVocabulary.{arena_of, before_step, EachGcWaits, ever_of, FoundSwept, FullOnlyThere, IsFullFor, may_begin_of, pacing_of, setting_of, words_in}
 use Rattle.gh_world.proofs.Explained.Acted.{full_there}
-use Rattle.gh_world.proofs.Explained.Acting.{acts_there, ActsThere}
-use Rattle.gh_world.proofs.Explained.Known.{Known}
-use Rattle.gh_world.proofs.Explained.Waited.{waited_since}
-use Rattle.gh_world.proofs.Explained.Waiting.{gc_acts}
+use Rattle.gh_world.proofs.Explained.Acting.{acts_there, ActsThere, pointed}
 
-module _ (p : Program) (l : Layout) (k : Known p l) where
+module _ (p : Program) (l : Layout) (awaits : (es : List (Entry Op)) → Legal (setting_of p l) es → Awaits p.shapes l (pacing_of p) (may_begin_of p l) es) where
   found_swept : (es : List (Entry Op)) (i g : ℕ) (x : Answered) (full : Bool) → ActsThere p l es i x full → x.op ≡ op.Gc g → FoundSwept p l es i x
   found_swept es i g x false t is =
       let s = t.step in
       let m = before_step p.shapes l s.before s.entry in
       let act : Act = record { op = x.op; full = false } in
-      let ends = gc_acts m m.task s.entry.found g act s.acted is in
+      let has = awaits (s.entry ∷ s.before) t.legal s.entry s.before act (inl refl) (pointed act (acts m s.entry.found) s.acted (ap has_point is)) in
       record {
         step = s;
-        waited = waited_since p l k s.before s.entry t.legal act s.acted ends.0;
-        given = ends.1;
+        waited = has.gc g is;
+        given = has.answered g is;
         answer = sym t.answered_so ∙ ap (answer_of p.shapes (ever_of p.shapes l s.before)) is;
       }
   found_swept es i g x true t is =

@@ -5,12 +5,13 @@ use Rattle.std.proofs.lemmas.Bool.{cases_lt}
 use Rattle.gh_coord.specs.Listing as coord
 use Rattle.gh_model.specs.declared.EverValue.TheVariants as values
 use Rattle.gh_world.specs.declared.handshake.Actor.TheVariants as actor
+use Rattle.gh_world.specs.Actors.{Awaits}
 use Rattle.gh_world.specs.Order.{acted_in, Answered}
 use Rattle.gh_world.specs.Vocabulary.{acts, Coordinating, Entry, Ever, Layout, Legal, Name, Op, opening_ever, processor_kind, Program, Reach, state_of, statements_of, WellFormed}
-use Rattle.gh_world.specs.RunVocabulary.{actor_after, AllStands, answers_given, AreFew, AreLive, arena_of, before_step, count_of, CyclesAreFew, EachOperationActsOnce, ever_after_list, ever_of, EveryListKeepsIt, EveryListOfActorsStands, EveryRunIsExplained, has_ended, is_statement_of, IsExplained, IsHeld, IsMade, IsRun, IsStartOf, LaysOut, LeavesTheReached, may_begin_of, OnlyPointsChange, op_of, order_of, outcome_by, pacing_of, ProcessorsBeginFew, ProcessorWritesItsOwn, SetBitsAreCounted, setting_of, SlotsAreRead, total_of, wishes_of, WorkersWriteTheirOwn}
+use Rattle.gh_world.specs.RunVocabulary.{actor_after, AllStands, answers_given, AreFew, AreLive, arena_of, before_step, count_of, CyclesAreFew, EachOperationActsOnce, ever_after_list, ever_of, EveryListKeepsIt, EveryListOfAScriptStands, EveryRunIsExplained, has_ended, is_statement_of, IsExplained, IsHeld, IsMade, IsRun, IsStartOf, LaysOut, LeavesTheReached, may_begin_of, OnlyPointsChange, op_of, order_of, outcome_by, pacing_of, ProcessorsBeginFew, ProcessorWritesItsOwn, SetBitsAreCounted, setting_of, SlotsAreRead, total_of, wishes_of, WorkersWriteTheirOwn}
 use Rattle.gh_world.proofs.Asking.{asked_of}
 use Rattle.gh_world.proofs.EachOnce.{acted_ops, none_beyond}
-use Rattle.gh_world.proofs.OfScripts.{all_stand, few_in_all, many_wishes}
+use Rattle.gh_world.proofs.OfScripts.{few_in_all, many_wishes}
 use Rattle.gh_world.proofs.Turning.{count-le}
 use Rattle.gh_world.proofs.Wishing.{filter_few}
 use Rattle.gh_world.proofs.Explained.Acted.{Acted, acted_all, answers_in, ever_is, map-reverse, ops_in}
@@ -27,7 +28,7 @@ use Rattle.gh_world.proofs.Explained.Swept.{gcs_wait}
 use Rattle.gh_world.proofs.Explained.Totals.{are_live}
 
 pub record Laws : Type 0 where
-  pub every : EveryListOfActorsStands
+  pub every : EveryListOfAScriptStands
   pub each : EachOperationActsOnce
   pub points : OnlyPointsChange
   pub writes : ProcessorWritesItsOwn
@@ -66,7 +67,10 @@ module _ (laws : Laws) (p : Program) (l : Layout) (formed : WellFormed p) (out :
   }
 
   every : (es : List (Entry Op)) → Legal (setting_of p l) es → AllStands p.shapes l (pacing_of p) (may_begin_of p l) es
-  every es legal = all_stand p l formed out laws.every es legal
+  every es legal = laws.every p l es formed out legal
+
+  awaits : (es : List (Entry Op)) → Legal (setting_of p l) es → Awaits p.shapes l (pacing_of p) (may_begin_of p l) es
+  awaits es legal = (every es legal).awaits
 
   -- ---- the heap that never frees
 
@@ -146,8 +150,8 @@ module _ (laws : Laws) (p : Program) (l : Layout) (formed : WellFormed p) (out :
       among = answers.among_are p l out.procs_are laws.each laws.points es run stands.stands;
       each = answers.each_is p l out.procs_are laws.each laws.points es run stands.stands;
       others = answers.others_none p l out.procs_are laws.each laws.points es run stands.stands;
-      full = full_means p l known es run.legal stands.stands.full;
-      swept = gcs_wait p l known es run.legal stands.stands.full;
+      full = full_means p l awaits es run.legal stands.stands.full;
+      swept = gcs_wait p l awaits es run.legal stands.stands.full;
       cycles = cycles_are p l known es c run.legal led done (stands.counts c led);
       live = lives;
     }

@@ -11,11 +11,10 @@ use Rattle.gh_model.specs.declared.EverValue.TheVariants as values
 use Rattle.gh_mutator.specs.Acting.{EachOperationActsOnce}
 use Rattle.gh_world.specs.Order.{acted_in, Answered, before_step, begun_in, ever_of, in_range, order_of}
 use Rattle.gh_world.specs.Points.{answers_of, ever_along, GoesAlong, ops_of, statements_acted, StatementsAreEnough, with_ends}
-use Rattle.gh_world.specs.RunVocabulary.{AllStands, arena_of, EveryListOfActorsStands, has_ended, IsExplained, LaysOut, may_begin_of, OnlyPointsChange, pacing_of, setting_of, wishes_of}
+use Rattle.gh_world.specs.RunVocabulary.{AllStands, arena_of, EveryListOfAScriptStands, has_ended, IsExplained, LaysOut, may_begin_of, OnlyPointsChange, pacing_of, setting_of, wishes_of}
 use Rattle.gh_lines.specs.Text.{Outcome}
 use Rattle.gh_world.specs.Vocabulary.{Act, acted, acts, AllAnswer, Answer, answer_at, Begins, by, Entry, Ever, ever_after, EverValue, is_statement, Layout, Legal, Op, opening_ever, processor_kind, Program, Shape, state_of, WellFormed}
 use Rattle.gh_world.proofs.AllActors.Ranging.{may_parts}
-use Rattle.gh_world.proofs.OfScripts.{all_stand}
 use Rattle.gh_world.proofs.Explained.Acted.{acted_all, acts_last, answers_in, ever_is, map-reverse, ops_in}
 use Rattle.gh_world.proofs.Explained.Steps.{its_own, no_processors}
 use Rattle.gh_world.proofs.Explained.Cycles.{is_done}
@@ -31,41 +30,21 @@ module _ (shapes : List Shape) where
 
   takes_bare : (e : Ever) (g d : ℕ) (a : Answer) → bare (takes_answer e g d a) ≡ takes_answer (bare e) g d a
   takes_bare e g d answer.Nil = refl
-  takes_bare e g d (answer.Int n) = refl
-  takes_bare e g d (answer.Ref n) = refl
-  takes_bare e g d answer.Done = refl
-  takes_bare e g d answer.Full = refl
-  takes_bare e g d answer.Swept = refl
-  takes_bare e g d (answer.Fault f) = refl
+  takes_bare e g d _ = refl
 
   stores_bare : (e : Ever) (x : EverValue) (k : ℕ) (v : EverValue) (a : Answer) → bare (stores_value e x k v a) ≡ stores_value (bare e) x k v a
   stores_bare e values.Nil k v a = refl
   stores_bare e (values.Int n) k v a = refl
   stores_bare e (values.Ref n) k v answer.Nil = refl
-  stores_bare e (values.Ref n) k v (answer.Int m) = refl
-  stores_bare e (values.Ref n) k v (answer.Ref m) = refl
-  stores_bare e (values.Ref n) k v answer.Done = refl
-  stores_bare e (values.Ref n) k v answer.Full = refl
-  stores_bare e (values.Ref n) k v answer.Swept = refl
-  stores_bare e (values.Ref n) k v (answer.Fault f) = refl
+  stores_bare e (values.Ref n) k v _ = refl
 
   sets_bare : (e : Ever) (k : ℕ) (v : EverValue) (a : Answer) → bare (sets_global e k v a) ≡ sets_global (bare e) k v a
   sets_bare e k v answer.Nil = refl
-  sets_bare e k v (answer.Int m) = refl
-  sets_bare e k v (answer.Ref m) = refl
-  sets_bare e k v answer.Done = refl
-  sets_bare e k v answer.Full = refl
-  sets_bare e k v answer.Swept = refl
-  sets_bare e k v (answer.Fault f) = refl
+  sets_bare e k v _ = refl
 
   makes_bare : (e : Ever) (g d t : ℕ) (a : Answer) → bare (makes_object shapes e g d t a) ≡ makes_object shapes (bare e) g d t a
   makes_bare e g d t answer.Nil = refl
-  makes_bare e g d t (answer.Int m) = refl
-  makes_bare e g d t (answer.Ref m) = refl
-  makes_bare e g d t answer.Done = refl
-  makes_bare e g d t answer.Full = refl
-  makes_bare e g d t answer.Swept = refl
-  makes_bare e g d t (answer.Fault f) = refl
+  makes_bare e g d t _ = refl
 
   statement_bare : (e : Ever) (o : Op) (a : Answer) → is_statement o ≡ true → bare (ever_after shapes e o a) ≡ ever_after shapes (bare e) o a
   statement_bare e (op.New g d t) a is = makes_bare e g d t a
@@ -74,51 +53,32 @@ module _ (shapes : List Shape) where
   statement_bare e (op.GetGlobal g d k) a is = takes_bare e g d a
   statement_bare e (op.SetGlobal g k v) a is = sets_bare e k (e.register g v) a
   statement_bare e (op.Int g d n) a is = refl
-  statement_bare e (op.Move g d s) a is = refl
-  statement_bare e (op.Nil g d) a is = refl
-  statement_bare e (op.Gc g) a is = refl
   statement_bare e op.Poll a is = absurd cc
   statement_bare e (op.End g) a is = absurd cc
   statement_bare e op.Leave a is = absurd cc
+  statement_bare e _ a is = refl
 
   -- and what is no statement changes nothing there
   other_bare : (e : Ever) (o : Op) (a : Answer) → is_statement o ≡ false → bare (ever_after shapes e o a) ≡ bare e
   other_bare e (op.New g d t) a no_statement = absurd cc
-  other_bare e (op.Load g d b k) a no_statement = absurd cc
-  other_bare e (op.Store g b k v) a no_statement = absurd cc
-  other_bare e (op.GetGlobal g d k) a no_statement = absurd cc
-  other_bare e (op.SetGlobal g k v) a no_statement = absurd cc
-  other_bare e (op.Int g d n) a no_statement = absurd cc
-  other_bare e (op.Move g d s) a no_statement = absurd cc
-  other_bare e (op.Nil g d) a no_statement = absurd cc
-  other_bare e (op.Gc g) a no_statement = absurd cc
   other_bare e op.Poll a no_statement = refl
   other_bare e (op.End g) a no_statement = refl
   other_bare e op.Leave a no_statement = refl
+  other_bare e _ a no_statement = absurd cc
 
   load_bare : (e : Ever) (x : EverValue) (k : ℕ) → load_answer shapes e x k ≡ load_answer shapes (bare e) x k
   load_bare e values.Nil k = refl
-  load_bare e (values.Int n) k = refl
-  load_bare e (values.Ref n) k = refl
+  load_bare e _ k = refl
 
   store_bare : (e : Ever) (x : EverValue) (k : ℕ) (v : EverValue) → store_answer shapes e x k v ≡ store_answer shapes (bare e) x k v
   store_bare e values.Nil k v = refl
-  store_bare e (values.Int n) k v = refl
-  store_bare e (values.Ref n) k v = refl
+  store_bare e _ k v = refl
 
   answers_bare : (e : Ever) (o : Op) (a : Answer) → Answers shapes e o a → Answers shapes (bare e) o a
   answers_bare e (op.New g d t) a is = is
   answers_bare e (op.Load g d b k) a is = is ∙ load_bare e (e.register g b) k
   answers_bare e (op.Store g b k v) a is = is ∙ store_bare e (e.register g b) k (e.register g v)
-  answers_bare e (op.GetGlobal g d k) a is = is
-  answers_bare e (op.SetGlobal g k v) a is = is
-  answers_bare e (op.Int g d n) a is = is
-  answers_bare e (op.Move g d s) a is = is
-  answers_bare e (op.Nil g d) a is = is
-  answers_bare e (op.Gc g) a is = is
-  answers_bare e op.Poll a is = is
-  answers_bare e (op.End g) a is = is
-  answers_bare e op.Leave a is = is
+  answers_bare e _ a is = is
 
   -- so along the statements alone it goes as along all that acts
   abbrev AnsweredFrom : Ever → List Answered → Type 0
@@ -206,41 +166,21 @@ module _ (p : Program) (l : Layout) (each : EachOperationActsOnce) where
 
   takes_ended : (e : Ever) (h d : ℕ) (a : Answer) (g : ℕ) → (takes_answer e h d a).ended g ≡ e.ended g
   takes_ended e h d answer.Nil g = refl
-  takes_ended e h d (answer.Int n) g = refl
-  takes_ended e h d (answer.Ref n) g = refl
-  takes_ended e h d answer.Done g = refl
-  takes_ended e h d answer.Full g = refl
-  takes_ended e h d answer.Swept g = refl
-  takes_ended e h d (answer.Fault f) g = refl
+  takes_ended e h d _ g = refl
 
   stores_ended : (e : Ever) (x : EverValue) (k : ℕ) (v : EverValue) (a : Answer) (g : ℕ) → (stores_value e x k v a).ended g ≡ e.ended g
   stores_ended e values.Nil k v a g = refl
   stores_ended e (values.Int n) k v a g = refl
   stores_ended e (values.Ref n) k v answer.Nil g = refl
-  stores_ended e (values.Ref n) k v (answer.Int m) g = refl
-  stores_ended e (values.Ref n) k v (answer.Ref m) g = refl
-  stores_ended e (values.Ref n) k v answer.Done g = refl
-  stores_ended e (values.Ref n) k v answer.Full g = refl
-  stores_ended e (values.Ref n) k v answer.Swept g = refl
-  stores_ended e (values.Ref n) k v (answer.Fault f) g = refl
+  stores_ended e (values.Ref n) k v _ g = refl
 
   sets_ended : (e : Ever) (k : ℕ) (v : EverValue) (a : Answer) (g : ℕ) → (sets_global e k v a).ended g ≡ e.ended g
   sets_ended e k v answer.Nil g = refl
-  sets_ended e k v (answer.Int m) g = refl
-  sets_ended e k v (answer.Ref m) g = refl
-  sets_ended e k v answer.Done g = refl
-  sets_ended e k v answer.Full g = refl
-  sets_ended e k v answer.Swept g = refl
-  sets_ended e k v (answer.Fault f) g = refl
+  sets_ended e k v _ g = refl
 
   makes_ended : (e : Ever) (h d t : ℕ) (a : Answer) (g : ℕ) → (makes_object p.shapes e h d t a).ended g ≡ e.ended g
   makes_ended e h d t answer.Nil g = refl
-  makes_ended e h d t (answer.Int m) g = refl
-  makes_ended e h d t (answer.Ref m) g = refl
-  makes_ended e h d t answer.Done g = refl
-  makes_ended e h d t answer.Full g = refl
-  makes_ended e h d t answer.Swept g = refl
-  makes_ended e h d t (answer.Fault f) g = refl
+  makes_ended e h d t _ g = refl
 
   end_elsewhere : (e : Ever) (h g : ℕ) → l.goroutines ≤ g → ltb h l.goroutines ≡ true → (with_end e h).ended g ≡ e.ended g
   end_elsewhere e h g le is = let apart : eqb g h ≡ false = grind (arith, nat_tests) in ap (λ (b : Bool). cond b true (e.ended g)) apart
@@ -252,12 +192,8 @@ module _ (p : Program) (l : Layout) (each : EachOperationActsOnce) where
   keeps_ended e (op.GetGlobal h d k) a g le is = takes_ended e h d a g
   keeps_ended e (op.SetGlobal h k v) a g le is = sets_ended e k (e.register h v) a g
   keeps_ended e (op.Int h d n) a g le is = refl
-  keeps_ended e (op.Move h d s) a g le is = refl
-  keeps_ended e (op.Nil h d) a g le is = refl
-  keeps_ended e (op.Gc h) a g le is = refl
-  keeps_ended e op.Poll a g le is = refl
   keeps_ended e (op.End h) a g le is = end_elsewhere e h g le is
-  keeps_ended e op.Leave a g le is = refl
+  keeps_ended e _ a g le is = refl
 
   none_beyond : (es : List (Entry Op)) → Legal (setting_of p l) es → (g : ℕ) → l.goroutines ≤ g → (ever_of p.shapes l es).ended g ≡ false
   none_beyond [] legal g le = refl
@@ -268,12 +204,12 @@ module _ (p : Program) (l : Layout) (each : EachOperationActsOnce) where
 
 -- ---- at the end of a run
 
-module _ (every : EveryListOfActorsStands) (points : OnlyPointsChange) (each : EachOperationActsOnce) (p : Program) (l : Layout) (formed : WellFormed p) (out : LaysOut p l) (es : List (Entry Op)) (o : Outcome) (x : IsExplained p l es o) where
+module _ (every : EveryListOfAScriptStands) (points : OnlyPointsChange) (each : EachOperationActsOnce) (p : Program) (l : Layout) (formed : WellFormed p) (out : LaysOut p l) (es : List (Entry Op)) (o : Outcome) (x : IsExplained p l es o) where
   abbrev in_order : List Answered
   in_order = acted_in p.shapes l es
 
   stands : AllStands p.shapes l (pacing_of p) (may_begin_of p l) es
-  stands = all_stand p l formed out every es x.run.legal
+  stands = every p l es formed out x.run.legal
 
   -- what it comes to along all that acts
   along_all : after_these p.shapes opening_ever in_order ≡ ever_of p.shapes l es
@@ -304,5 +240,5 @@ module _ (every : EveryListOfActorsStands) (points : OnlyPointsChange) (each : E
     ever = ap (λ (e : Ever). with_ends e (length p.goroutines)) along_statements ∙ ended_again (length p.goroutines) (ever_of p.shapes l es) all_ended none_else;
   }
 
-pub statements_are_enough : EveryListOfActorsStands → OnlyPointsChange → EachOperationActsOnce → StatementsAreEnough
+pub statements_are_enough : EveryListOfAScriptStands → OnlyPointsChange → EachOperationActsOnce → StatementsAreEnough
 statements_are_enough every points each p l es o formed lays x = goes_along every points each p l formed lays es o x

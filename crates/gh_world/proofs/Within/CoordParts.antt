@@ -167,17 +167,12 @@ open_within l o _ = tt
 
 pub close_within : (l : Layout) (c : close.Closing) (p : CloseStage) → InRange l (cell_of (close.asks_at c p))
 close_within l c close_stage.LoadBank = tt
-close_within l c close_stage.ClearBank = tt
-close_within l c close_stage.StoreGen = tt
-close_within l c close_stage.Ended = tt
+close_within l c _ = tt
 
 pub count_within : (l : Layout) (p : CountStage) → InRange l (cell_of (count.asks_at p))
 count_within l count_stage.LoadTally = tt
-count_within l (count_stage.LoadLive t) = tt
-count_within l (count_stage.Ended x) = tt
+count_within l _ = tt
 
 pub tell_within : (l : Layout) (t : tell.Telling) (p : TellStage) → InRange l (cell_of (tell.asks_at t p))
 tell_within l t tell_stage.StoreTrigger = tt
-tell_within l t tell_stage.StoreSwept = tt
-tell_within l t tell_stage.StorePhase = tt
-tell_within l t tell_stage.Ended = tt
+tell_within l t _ = tt

@@ -17,16 +17,11 @@ abbrev pub FitsAt : Layout → CoordStage → Type 0
 FitsAt l (LoadAck i) = i < l.procs
 FitsAt l LoadWant = Unit {0}
 FitsAt l (Stop s) = FitsStopping l s
-FitsAt l (Open o) = Unit {0}
 FitsAt l (Watch w) = FitsWatching l w
 FitsAt l (StopAgain s) = FitsStopping l s
 FitsAt l (Check w) = FitsWatching l w
-FitsAt l MarkOn = Unit {0}
-FitsAt l (Close c) = Unit {0}
 FitsAt l (Sweep s) = FitsSweeping l s
-FitsAt l (Count c) = Unit {0}
-FitsAt l (Tell t) = Unit {0}
-FitsAt l Done = Unit {0}
+FitsAt l _ = Unit {0}
 
 abbrev pub Fits : Coordinating → Type 0
 Fits c = FitsAt c.layout c.stage
@@ -85,12 +80,11 @@ at_within c (Open o) f = open_within c.layout o o.stage
 at_within c (Watch w) f = subst (λ (k : Layout). InRange k (cell_of (watch.asks w))) f.0 (watch_within w w.stage f.1)
 at_within c (StopAgain s) f = subst (λ (k : Layout). InRange k (cell_of (stop.asks s))) f.0 (stop_within s s.stage f.1)
 at_within c (Check w) f = subst (λ (k : Layout). InRange k (cell_of (watch.asks w))) f.0 (watch_within w w.stage f.1)
-at_within c MarkOn f = tt
 at_within c (Close x) f = close_within c.layout x x.stage
 at_within c (Sweep s) f = subst (λ (k : Layout). InRange k (cell_of (all.asks s))) f.0 (all_within s s.stage f.1)
 at_within c (Count x) f = count_within c.layout x.stage
 at_within c (Tell t) f = tell_within c.layout t t.stage
-at_within c Done f = tt
+at_within c _ f = tt
 
 pub within : (c : Coordinating) (f : FitsWhole c) → InRange c.layout (cell_of (coord.asks c))
 within c f = at_within c c.stage f.stage

@@ -34,8 +34,7 @@ module _ (shapes : List Shape) (l : Layout) (pacing : Pacing) (limits : IsInLimi
   begun : (o : Option Op) (m : Actor) → FitsLead l m → FitsLead l (started all o m)
   begun None m f = f
   begun (Some o) (actor.Runs m) f = f
-  begun (Some o) (actor.Marks w) f = f
-  begun (Some o) (actor.Leads c) f = f
+  begun (Some o) _ f = f
 
   taken : (found : ℕ) (m : Actor) → FitsLead l m → FitsLead l (takes shapes m found)
   taken found (actor.Runs m) f = tt

@@ -4,7 +4,7 @@ use Rattle.gh_world.proofs.laws.every_run_is_explained.Goals as goal
 pub returns : goal.returns
 returns c =
     all_explained (record {
-      every = c.every_list_of_actors_stands.ensures;
+      every = c.every_run_stands.ensures.lists;
       each = c.each_operation_acts_once.ensures;
       points = c.only_points_change.ensures;
       writes = c.a_processor_writes_its_own.ensures;
@@ -13,6 +13,6 @@ returns c =
       few = c.cycles_are_few.ensures;
       begins_few = c.processors_begin_few.ensures;
       bits = c.set_bits_are_counted.ensures;
-      slots = c.slots_are_read.ensures.slots;
+      slots = c.slots_are_read.ensures;
       classes = record { least_slot = c.size_class_laws.ensures.least_slot; fit = c.size_class_laws.ensures.fit; whole_words = c.size_class_laws.ensures.whole_words };
     })

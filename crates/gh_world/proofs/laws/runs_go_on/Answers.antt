@@ -3,16 +3,15 @@ use Rattle.gh_script.specs.Program.{Program, WellFormed}
 use Rattle.gh_base.specs.declared.layout.Layout.{Layout}
 use Rattle.gh_world.specs.World.{LaysOut}
 use Rattle.gh_world.proofs.GoingOn.{ends_whole, goes_on, Laws}
-use Rattle.gh_world.proofs.OfScripts.{all_stand}
 use Rattle.gh_world.proofs.laws.runs_go_on.Goals as goal
 
-module _ (c : goal.After-every_list_of_actors_stands) where
+module _ (c : goal.After-every_run_stands) where
   laws : (p : Program) (l : Layout) → WellFormed p → LaysOut p l → Laws p l
   laws p l formed lays = record {
     own = λ a es. c.a_state_is_of_its_own_entries.ensures (processor_kind p.shapes l) a es;
     on = c.it_goes_on_until_done.ensures;
     polls = c.polls_make_room.ensures;
-    stands = λ es legal. all_stand p l formed lays c.every_list_of_actors_stands.ensures es legal;
+    stands = λ es r. c.every_run_stands.ensures.runs p l es formed lays r;
   }
 
 pub returns-clause-on : goal.returns-clause-on

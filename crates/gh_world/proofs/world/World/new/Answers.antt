@@ -7,7 +7,8 @@ use Rattle.gh_script.specs.declared.statement.Settings.{Settings}
 use Rattle.gh_world.specs.Turns.{total_of}
 use Rattle.gh_world.specs.Wishes.{most_cycles}
 use Rattle.gh_world.proofs.Fitting.{others_open, runners_open}
-use Rattle.gh_world.proofs.OtherSteps.{after_opens}
+use Rattle.gh_world.proofs.OtherSteps.{after_opens, all_workers}
+use Rattle.gh_world.proofs.Parts.{of_parts}
 use Rattle.gh_world.proofs.world.World.new.Goals as goal
 
 pub invariant_of-result : goal.invariant_of-result
@@ -42,4 +43,4 @@ returns-clause-opens c =
     c.in_ok-coord.ensures ∙ ap (λ (s : Settings). coord.opening l (s.procs + s.workers) s.gogc s.minheap c.most_cycles-cycles.result) c.settings-settings.ensures
     ∙ ap (λ (k : ℕ). coord.opening l (p.settings.procs + p.settings.workers) p.settings.gogc p.settings.minheap k) c.most_cycles-cycles.ensures.is
     ∙ ap (λ (k : ℕ). coord.opening l k p.settings.gogc p.settings.minheap (most_cycles p)) seat in
-    rw (c.in_ok-workers.ensures, leads, c.in_ok-points.ensures.items) (after_opens p l c.in_ok-words.words c.in_ok-runners.runners.items c.in_ok-words.ensures c.in_ok-runners.ensures)
+    rw (c.in_ok-workers.ensures, leads, c.in_ok-points.ensures.items) (of_parts _ _ (after_opens p l c.in_ok-words.words c.in_ok-runners.runners.items c.in_ok-words.ensures c.in_ok-runners.ensures) (all_workers l))
