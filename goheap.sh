@@ -23,9 +23,9 @@ usage: goheap.sh replay [--seed n] [--list text] [--budget n] [--check] < file
        goheap.sh example name
          runs examples/name.heap, with the words that its second line has for it
        goheap.sh steps [--list text] < file
-         runs it too, and writes a line for each turn at which something happens that a list can wait for
+         runs it too, and writes a line for each turn at which something happens that a list can wait for, and the arena at each cycle's end
        goheap.sh draw [--list text] < file > run.svg
-         draws these turns, with the phases of the collector
+         draws these turns, with the phases of the collector, and beneath them the pages, spans and slots at each cycle's end
        goheap.sh prove
          has all proofs below the program checked, and builds the program that replay runs from then on
        goheap.sh program

@@ -1,7 +1,9 @@
 #!/usr/bin/env bash
-# What tools/steps.sh shows of a run is what docs/SCRIPTS.md has. The drawings of runs in docs/pictures are what `goheap.sh draw` makes of
-# scripts of examples/, by their lists. With a word --write the drawings are written anew. GOHEAP_STEPS names another program to run than
-# goheap.sh's.
+# What tools/steps.sh shows of a run, its turns and the arena at a cycle's end, is what docs/SCRIPTS.md has. Each line of a file
+# runs/NAME.steps stands in what it shows of runs/NAME.heap, by the list of that script's second line: at which step of which actor
+# something happens. The drawings of runs in
+# docs/pictures are what `goheap.sh draw` makes of scripts of examples/, by their lists. With a word --write the drawings are written anew.
+# GOHEAP_STEPS names another program to run than goheap.sh's.
 set -u
 cd "$(dirname "$0")/.." || exit 1
 passed=0 failed=0
@@ -10,19 +12,47 @@ passed=0 failed=0
 steps() {
   if [ -n "${GOHEAP_STEPS-}" ]; then "$GOHEAP_STEPS" ${2:+"$2"} <"$1"; else ./goheap.sh steps ${2:+--list "$2"} <"$1" 2>/dev/null; fi
 }
+# The list of a script's second line.
+list_of() { sed -n "2s/^# replay .*--list[ =]\([^ ]*\).*/\1/p" "$1"; }
 
-if cmp -s <(steps examples/first.heap '0@1,2*3') <(awk '/^\$ tools\/steps.sh examples\/first.heap/ { on = 1; next } /^```/ { on = 0 } on' docs/SCRIPTS.md); then
-  passed=1
-else
-  echo 'check_steps: docs/SCRIPTS.md does not have what tools/steps.sh shows'
-  failed=1
-fi
+# What docs/SCRIPTS.md has behind the command that begins so is what stands in the file.
+is_told() {
+  if cmp -s "$2" <(awk -v begin="$ $1" 'index($0, begin) == 1 { on = 1; next } /^```/ { on = 0 } on' docs/SCRIPTS.md); then
+    passed=$((passed + 1))
+  else
+    echo "check_steps: docs/SCRIPTS.md does not have what $1 shows"
+    failed=$((failed + 1))
+  fi
+}
+
+floating=examples/floating.heap
+is_told 'tools/steps.sh examples/first.heap' <(steps examples/first.heap '0@1,2*3')
+is_told "tools/steps.sh $floating" <(steps "$floating" "$(list_of "$floating")" | grep -E 'acts a 2|cycle [12] is|page 0:' | head -n 9)
+
+# What is shown, without the numbers of turns, and each thing that happens in a line of its own.
+happens() {
+  awk '$1 == "turns" { print; next }
+    { head = $2 " " $3 " " $4 " " $5; text = $0; sub(/^[^:]*: */, "", text) }
+    text ~ / marks [0-9]+$/ { marks = text; sub(/.* marks /, " marks ", marks); print head marks; sub(/ marks [0-9]+$/, "", text) }
+    text ~ /^acts [^ ]+ [0-9]+ / { split(text, part, " "); print head " acts " part[2] " " part[3]; sub(/^acts [^ ]+ [0-9]+ /, "", text) }
+    { print head " " text }'
+}
+
+for wanted in runs/*.steps; do
+  script=${wanted%.steps}.heap
+  missing=$(grep -Fxv -f <(steps "$script" "$(list_of "$script")" | happens) "$wanted")
+  if [ -z "$missing" ]; then
+    passed=$((passed + 1))
+  else
+    echo "check_steps: $script does not show of $wanted: $missing"
+    failed=$((failed + 1))
+  fi
+done
 for drawing in docs/pictures/run_*.svg; do
   [ -e "$drawing" ] || continue
   name=$(basename "$drawing" .svg)
   script=examples/${name#run_}.heap
-  list=$(sed -n "2s/^# replay .*--list[ =]\([^ ]*\).*/\1/p" "$script")
-  drawn=$(steps "$script" "$list" | awk -f tools/draw.awk "$script" -)
+  drawn=$(steps "$script" "$(list_of "$script")" | awk -f tools/draw.awk "$script" -)
   if [ "${1-}" = --write ]; then
     printf '%s\n' "$drawn" >"$drawing"
     passed=$((passed + 1))

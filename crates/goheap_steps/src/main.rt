@@ -1,12 +1,24 @@
 //! `goheap_steps [list]` reads a script from standard input, runs it as `goheap replay --list list` does, and writes a line
 //! for each turn at which something happens that an item of a list can wait for: the turn's number, the actor, how many steps
 //! that actor has taken, and what happened: a statement acts, or is answered, a cycle is swept, the actor is done, or its marks rise.
+//! So it does where the marking of a cycle has ended, and where a processor shades an object, which no item can wait for.
 //!
-//! It shows where the numbers of a list come from. It is a tool beside `goheap`, over public calls of `gh_world`: that it
-//! stops at no fault is proved, and what it writes is tested, by its `stdin` and `stdout`.
+//! Behind the line of a turn at which a cycle's marking has ended or the cycle is swept stands the arena, a line for each span and for
+//! each run of free pages, with the turn's number in front:
+//!
+//! ```text
+//! 552 page 0: class 1, 2-word slots, pointers: marked a.0 to a.2, unmarked a.3, free 508
+//! 552 pages 1 to 5: large, 5120-word slots, no pointers: marked a.4
+//! 552 pages 6 to 15: free
+//! ```
+//!
+//! It shows where the numbers of a list come from, and what a cycle keeps and frees. It is a tool beside `goheap`, over public calls of
+//! `gh_world`: that it stops at no fault is proved, and what it writes is tested, by its `stdin` and `stdout`.
 #![tactic(auto)]
 
+mod arena;
 mod order;
+mod shades;
 mod stop;
 mod turns;
 

@@ -1,8 +1,14 @@
-//! The turns of a run at which something happens that an item of a list can wait for, each told in a line.
+//! The turns of a run at which something happens that an item of a list can wait for, those at which the marking of a cycle
+//! has ended, and those at which a processor shades an object, each told in a line.
 
+ghost use Rattle.std.specs.Prelude.{◌≡◌, ◌<◌, false};
+ghost use Rattle.gh_world.specs.World.{actors_of, is_done};
+
+use crate::arena::{Moment, name, tell_arena};
 use crate::order::Order;
+use crate::shades::Marks;
 use crate::stop::Stop;
-use gh_base::{Answer, Fault};
+use gh_base::{Answer, Cell, Fault, Name};
 use gh_io::{Sink, write_all};
 use gh_replay::Turn;
 use gh_script::Script;
@@ -12,7 +18,8 @@ use std::alloc::{AllocError, Global};
 /// The most turns that are made.
 const MOST_TURNS: u32 = 10_000_000;
 
-/// Runs the script, and writes a line for each turn at which something happens, and one for how many turns there were.
+/// Runs the script, and writes a line for each turn at which something happens, and one for how many turns there were. Where a
+/// cycle's marking has ended, and where the cycle is swept, the lines of the arena follow.
 pub fn tell_turns<K: Sink>(
     alloc: Global,
     script: &Script,
@@ -21,6 +28,7 @@ pub fn tell_turns<K: Sink>(
 ) -> Result<(), Stop> {
     let mut world = World::new(alloc, script)?;
     let mut order = Order::new(list);
+    let mut marks = Marks::new(alloc, world.layout())?;
     let mut steps = [0u32; 256];
     for turn in 0..MOST_TURNS {
         let actor = match order.next(&world) {
@@ -29,35 +37,80 @@ pub fn tell_turns<K: Sink>(
         };
         let at = usize::from(actor);
         steps[at] = steps[at].saturating_add(1);
-        let points = world.points().len();
-        let marks = world.marks(actor);
-        let event = world.step(actor);
-        let now = world.marks(actor);
-        let told = Told {
-            actor,
-            point: world.points().get(points).copied(),
-            event,
-            marks: if marks < now { Some(now) } else { None },
-        };
+        let told = told_of(script, &mut world, &mut marks, actor);
         if told.is_something() {
             tell(alloc, script, turn + 1, steps[at], &told, out)?;
+        }
+        if told.marked.is_some() || told.is_swept() {
+            let moment = Moment {
+                alloc,
+                script,
+                world: &world,
+                turn: turn + 1,
+                is_swept: told.is_swept(),
+            };
+            tell_arena(&moment, out)?;
         }
     }
     Err(Stop::OutOfTurns)
 }
 
-/// What is told of a step: the statement that has its point there, what the step says, and the marks of its actor, if they rose.
+/// What is told of a step: the object that a processor shades by it, the statement that has its point there, what the step says, the
+/// cycle whose marking has ended by it, which is where the sweep generation is stored, and the marks of its actor, if they rose.
 #[derive(Drop)]
 struct Told {
     actor: u8,
+    shaded: Option<Name>,
     point: Option<(u32, u32)>,
     event: Event,
+    marked: Option<u64>,
     marks: Option<u64>,
+}
+
+/// One step of the actor, and what is told of it.
+fn told_of(script: &Script, world: &mut World<'_>, seen: &mut Marks, actor: u8) -> Told
+    requires actor { actor < actors_of world.old }
+    requires going { is_done world.old actor ≡ false }
+{
+    let is_processor = u32::from(actor) < script.settings().procs;
+    if is_processor {
+        let _ = seen.look(script, world);
+    }
+    let points = world.points().len();
+    let marks = world.marks(actor);
+    let generation = world.word(Cell::Gen);
+    let event = world.step(actor);
+    let now = world.marks(actor);
+    let marked = if world.word(Cell::Gen) != generation {
+        Some(world.word(Cell::Begun))
+    } else {
+        None
+    };
+    Told {
+        actor,
+        shaded: if is_processor {
+            seen.look(script, world)
+        } else {
+            None
+        },
+        point: world.points().get(points).copied(),
+        event,
+        marked,
+        marks: if marks < now { Some(now) } else { None },
+    }
 }
 
 impl Told {
     fn is_something(&self) -> bool {
-        self.point.is_some() || self.marks.is_some() || self.event != Event::Moved
+        self.shaded.is_some()
+            || self.point.is_some()
+            || self.marked.is_some()
+            || self.marks.is_some()
+            || self.event != Event::Moved
+    }
+
+    fn is_swept(&self) -> bool {
+        matches!(self.event, Event::Swept { .. })
     }
 }
 
@@ -73,9 +126,17 @@ fn tell<K: Sink>(
     let kind = kind_of(script, told.actor);
     let head = format!(in alloc; "{turn} {kind} {} step {step}:", told.actor)?;
     write_all(out, head.as_bytes())?;
+    if let Some(shaded) = told.shaded {
+        let shades = format!(in alloc; " shades {}.{}", name(script, shaded.g), shaded.k)?;
+        write_all(out, shades.as_bytes())?;
+    }
     if let Some(point) = told.point {
         let acts = format!(in alloc; " acts {} {}", name(script, point.0), point.1)?;
         write_all(out, acts.as_bytes())?;
+    }
+    if let Some(cycle) = told.marked {
+        let marked = format!(in alloc; " cycle {cycle} is marked")?;
+        write_all(out, marked.as_bytes())?;
     }
     let said = said(alloc, script, told.event)?;
     write_all(out, said.as_bytes())?;
@@ -134,14 +195,5 @@ fn kind_of(script: &Script, actor: u8) -> &'static str {
         "worker"
     } else {
         "coordinator"
-    }
-}
-
-/// The name of a goroutine.
-fn name(script: &Script, g: u32) -> &str {
-    if g < script.goroutines() {
-        script.name(g)
-    } else {
-        "?"
     }
 }
