@@ -1,5 +1,6 @@
 -- The lists before any statement.
-use Rattle.std.proofs.Common.{◌≡◌, ℕ, ◌<◌, ◌^◌, false, List, [], length, get_or, replicate, refl, sym, ◌∙◌, ap, arith, inl, inr, sum, vec_len, vec_capacity}
+use Rattle.std.proofs.Common.{◌≡◌, ℕ, ◌<◌, ◌≤◌, ◌^◌, false, List, [], length, get_or, replicate, refl, sym, ◌∙◌, ap, arith, inl, inr, sum, vec_len, vec_capacity}
+use Rattle.std.specs.HashMap.{spare}
 use Rattle.std.specs.List.{All}
 use Rattle.std.proofs.lemmas.Bool.{cases_lt}
 use Rattle.std.proofs.lemmas.List.{length-replicate, get_or-replicate, get_or_past}
@@ -24,8 +25,9 @@ below left g small = elim (cases_lt g (length left)) [
 ]
 
 pub opening_sound : (a : Inside) (n : ℕ) → AreSized a.shapes → All (λ x. x < 2 ^ 32) a.left.items → length a.left.items ≡ n → a.made.items ≡ replicate n 0 → a.ended.items ≡ replicate n false → a.objects.items ≡ [] → a.cells.items ≡ [] →
-    vec_len a.objects ≡ 0 → vec_len a.cells ≡ 0 → vec_capacity a.objects ≡ sum a.left.items → vec_capacity a.cells ≡ sum a.left.items → IsSound a
-opening_sound a n sized small count made ended objects cells no_objects no_cells room_objects room_cells = record {
+    vec_len a.objects ≡ 0 → vec_len a.cells ≡ 0 → vec_capacity a.objects ≡ sum a.left.items → vec_capacity a.cells ≡ sum a.left.items →
+    a.kinds.entries ≡ [] → a.places.entries ≡ [] → sum a.left.items ≤ spare a.kinds → sum a.left.items ≤ spare a.places → IsSound a
+opening_sound a n sized small count made ended objects cells no_objects no_cells room_objects room_cells no_kinds no_places more_kinds more_places = record {
   sound = record {
     sized = sized;
     counted = ap length made ∙ length-replicate n 0 ∙ sym count;
@@ -39,6 +41,10 @@ opening_sound a n sized small count made ended objects cells no_objects no_cells
   };
   objects = omega arith;
   cells = omega arith;
+  kinds = rw (objects, no_kinds) (λ m. refl);
+  places = rw (cells, no_places) (λ p. refl);
+  more_kinds = more_kinds;
+  more_places = more_places;
 }
 
 pub opens : (shapes : List Shape) (left : List ℕ) → ever_of (opening_lists shapes left) ≡ opening_ever

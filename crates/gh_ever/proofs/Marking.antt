@@ -1,7 +1,7 @@
 -- A walk over objects and their marks.
-use Rattle.std.proofs.Common.{◌≡◌, ℕ, ◌+◌, ◌<◌, ◌≤◌, Bool, true, false, cond, List, [], ◌∷◌, ◌++◌, length, get_or, take, drop, refl, sym, ◌∙◌, ap, add-one}
+use Rattle.std.proofs.Common.{◌≡◌, ℕ, ◌+◌, ◌<◌, Bool, true, false, cond, List, [], ◌∷◌, ◌++◌, length, get_or, take, drop, refl, sym, ◌∙◌, ap, add-one}
 use Rattle.std.proofs.Math.ListN.{set}
-use Rattle.std.proofs.lemmas.List.{drop_more, drop_all, take_more, append_assoc, take-append-drop, set_split, set-get_or}
+use Rattle.std.proofs.lemmas.List.{drop_more, take_more, append_assoc, set_split}
 use Rattle.gh_base.specs.declared.value.Name.{Name}
 use Rattle.gh_model.specs.Ever.{same_name}
 use Rattle.gh_ever.specs.declared.object.Object.{Object}

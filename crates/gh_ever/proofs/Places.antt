@@ -78,3 +78,20 @@ distinct-put (c ∷ cs) p v d = go (same_place p c.place) refl (distinct-put cs 
   go : (b : Bool) → same_place p c.place ≡ b → IsDistinct (put cs p v) → IsDistinct (cond b (record c { value = v } ∷ cs) (c ∷ put cs p v))
   go true t ih = d
   go false f ih = (held-put cs p v c.place ∙ rw (apart f) d.0, ih)
+
+-- Both tests may be turned round.
+
+same_both : (b c : Bool) → (b ≡ true → c ≡ true) → (c ≡ true → b ≡ true) → b ≡ c
+same_both true c h k = sym (h refl)
+same_both false true h k = k refl
+same_both false false h k = refl
+
+pub place_turned : (p q : Place) → same_place p q ≡ same_place q p
+place_turned p q = same_both (same_place p q) (same_place q p) (turned p q) (turned q p) where
+  turned : (p q : Place) → same_place p q ≡ true → same_place q p ≡ true
+  turned p q h = subst (λ (x : Place). same_place x p ≡ true) (place_tells p q h) (place_itself p)
+
+pub name_turned : (n m : Name) → same_name n m ≡ same_name m n
+name_turned n m = same_both (same_name n m) (same_name m n) (turned n m) (turned m n) where
+  turned : (n m : Name) → same_name n m ≡ true → same_name m n ≡ true
+  turned n m h = subst (λ (x : Name). same_name x n ≡ true) (name_tells n m h) (name_itself n)

@@ -4,7 +4,7 @@ use Rattle.std.specs.Option.{unwrap_or}
 use Rattle.std.proofs.lemmas.Bool.{cases_lt, cases_eq}
 use Rattle.std.proofs.lemmas.Option.{same_Some}
 use Rattle.std.proofs.lemmas.List.{length-set, get_or-set_same, get_or-set_other, set_past}
-use Rattle.std.proofs.lemmas.List.Sums.{sum_by-set, get_or-le-sum_by}
+use Rattle.std.proofs.lemmas.List.Sums.{sum_by-set}
 use Rattle.gh_model.specs.declared.EverValue.{EverValue}
 use Rattle.gh_model.specs.declared.EverValue.TheVariants as values
 use Rattle.gh_model.specs.Ever.{with_register, with_global, with_field}

@@ -1,4 +1,5 @@
 pub mod Cells
+pub mod Found
 pub mod Objects
 pub mod Lists
 pub mod Applied

@@ -11,17 +11,18 @@ ghost use Rattle.gh_ever.specs.Lists.{ever_of, opening_lists};
 ghost use Rattle.gh_ever.specs.Sound.{AreSized};
 ghost use Rattle.gh_ever.specs.Applied.{Applies, IsDue, NamesType, Spends, with_value};
 
-use crate::cell::{Cell, Place, held, put};
-use crate::object::{Object, kind_of};
+use crate::cell::{Cell, Place, Places, held, put};
+use crate::object::{Kinds, Object};
 use crate::opening::total_of;
 use crate::value::{first_value, fits, is_number, is_pointer, told};
 use gh_base::{Answer, Fault, Name, Shapes};
 use gh_model::EverValue;
 use gh_script::Stmt;
 use std::alloc::{AllocError, Global};
+use std::collections::HashMap;
 use std::marker::Model;
 
-/// The heap that never frees, by lists.
+/// The heap that never frees, by lists, and by maps that find what stands in them.
 #[derive(Debug, Drop)]
 pub struct Kept {
     pub(crate) shapes: Shapes,
@@ -29,7 +30,9 @@ pub struct Kept {
     pub(crate) made: Vec<u32>,
     pub(crate) ended: Vec<bool>,
     pub(crate) objects: Vec<Object>,
+    pub(crate) kinds: Kinds,
     pub(crate) cells: Vec<Cell>,
+    pub(crate) places: Places,
 }
 
 impl Model for Kept {
@@ -58,7 +61,9 @@ impl Kept {
             ended: vec![in alloc; false; left.len()]?,
             left,
             objects: Vec::with_capacity(alloc, statements)?,
+            kinds: HashMap::with_capacity(alloc, statements)?,
             cells: Vec::with_capacity(alloc, statements)?,
+            places: HashMap::with_capacity(alloc, statements)?,
         })
     }
 
@@ -75,7 +80,7 @@ impl Kept {
         ensures value { result ≡ (ever_of self.now).register g d }
         ensures known { IsKnown self.now.objects result }
     {
-        held(&self.cells, Place::Register(g, d)).unwrap_or(EverValue::Nil)
+        held(&self.cells, &self.places, Place::Register(g, d)).unwrap_or(EverValue::Nil)
     }
 
     /// What global `k` holds.
@@ -84,7 +89,7 @@ impl Kept {
         ensures value { result ≡ (ever_of self.now).global k }
         ensures known { IsKnown self.now.objects result }
     {
-        held(&self.cells, Place::Global(k)).unwrap_or(EverValue::Nil)
+        held(&self.cells, &self.places, Place::Global(k)).unwrap_or(EverValue::Nil)
     }
 
     /// The type of the object.
@@ -95,7 +100,7 @@ impl Kept {
         ensures made { kind_of self.now.objects n ≡ Some result }
         ensures within { result < length self.now.shapes }
     {
-        kind_of(&self.objects, n).unwrap()
+        *self.kinds.get(&(n.g, n.k)).unwrap()
     }
 
     /// What field `k` of the object holds.
@@ -105,7 +110,7 @@ impl Kept {
         ensures value { result ≡ (ever_of self.now).field n k }
         ensures known { IsKnown self.now.objects result }
     {
-        match held(&self.cells, Place::Field(n, k)) {
+        match held(&self.cells, &self.places, Place::Field(n, k)) {
             Some(value) => value,
             None => first_value(self.is_pointer_field(n, k)),
         }
@@ -198,7 +203,7 @@ impl Kept {
         ensures after { ever_of self.new ≡ with_value (ever_of self.old) place value }
         ensures spends { Spends self.old self.new g }
     {
-        put(&mut self.cells, place, value);
+        put(&mut self.cells, &mut self.places, place, value);
         self.left[g as usize] -= 1;
     }
 
@@ -211,9 +216,15 @@ impl Kept {
         ensures spends { Spends self.old self.new g }
     {
         let name = self.next_name(g);
+        let _ = self.kinds.insert((name.g, name.k), t);
         self.objects.push_reserved(Object { name, kind: t });
         self.made[g as usize] += 1;
-        put(&mut self.cells, Place::Register(g, d), EverValue::Ref(name));
+        put(
+            &mut self.cells,
+            &mut self.places,
+            Place::Register(g, d),
+            EverValue::Ref(name),
+        );
         self.left[g as usize] -= 1;
         name
     }

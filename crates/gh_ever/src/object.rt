@@ -1,10 +1,7 @@
 //! Objects: the name and the type of each that was made.
 
-ghost use Rattle.std.specs.Prelude.{◌≡◌};
-ghost use Rattle.gh_ever.specs.Objects.{kind_of};
-
-use crate::cell::same_name;
 use gh_base::Name;
+use std::collections::HashMap;
 
 /// An object that was made.
 #[derive(Clone, Copy, Debug)]
@@ -15,14 +12,5 @@ pub struct Object {
     pub kind: u32,
 }
 
-/// The type of the object of this name, if it was made.
-pub fn kind_of(objects: &Vec<Object>, n: Name) -> Option<u32>
-    ensures { result ≡ kind_of objects.now.items n }
-{
-    for o in objects {
-        if same_name(n, o.name) {
-            return Some(o.kind);
-        }
-    }
-    None
-}
+/// The type of each object, by the two numbers of its name.
+pub type Kinds = HashMap<(u32, u32), u32>;
