@@ -1,8 +1,8 @@
--- The items to come are passed one by one, and so are the actors that have not ended.
-use Rattle.std.proofs.Common.{◌≡◌, ℕ, suc, ◌+◌, ◌-◌, ◌%◌, ◌<◌, ◌≤◌, Bool, true, false, cond, not, List, [], ◌∷◌, length, drop, get_or, Option, None, refl, sym, ap, ◌∙◌, arith}
+-- The items to come are passed one by one, and the actors that have not ended are kept one by one.
+use Rattle.std.proofs.Common.{◌≡◌, ℕ, suc, ◌+◌, ◌-◌, ◌%◌, ◌<◌, ◌≤◌, Bool, true, false, cond, not, List, [], ◌∷◌, ◌++◌, length, drop, get_or, None, refl, sym, ap, ◌∙◌, append_assoc, arith}
 use Rattle.std.specs.Prelude.{slice_get}
 use Rattle.std.specs.List.{filter, range_with_len}
-use Rattle.std.proofs.lemmas.List.{at_drop_more, drop_all}
+use Rattle.std.proofs.lemmas.List.{append-nil, at_drop_more, drop_all}
 use Rattle.gh_replay.specs.declared.schedule.Turn.{Turn}
 use Rattle.gh_replay.specs.Standing.{going, is_over, Reached, to_come}
 
@@ -43,32 +43,22 @@ module _ (r : Reached) (a : ℕ) (lt : a < r.actors) where
 pub none_from : (r : Reached) (a : ℕ) → r.actors ≤ a → going_from r a ≡ []
 none_from r a le = let e : r.actors - a ≡ 0 = omega (arith, le) in ap (λ (m : ℕ). filter (λ b. not (r.ended b)) (range_with_len a m)) e
 
--- ---- how many there are, and the one of a number
+-- ---- they are kept, from the first on
 
 pub from_first : (r : Reached) → going_from r 0 ≡ going r
 from_first r = let e : r.actors - 0 ≡ r.actors = omega arith in ap (λ (m : ℕ). filter (λ b. not (r.ended b)) (range_with_len 0 m)) e
 
-module _ (r : Reached) (a n : ℕ) (all : ℕ) (lt : a < r.actors) (so_far : n + length (going_from r a) ≡ all) where
-  pub counts : r.ended a ≡ false → n + 1 + length (going_from r (a + 1)) ≡ all
-  counts e = let one : length (going_from r a) ≡ suc (length (going_from r (a + 1))) = ap length (goes_on r a lt e) in omega (arith, so_far, one)
+module _ (r : Reached) (a : ℕ) (xs : List ℕ) (lt : a < r.actors) (so_far : xs ++ going_from r a ≡ going r) where
+  pub joins : r.ended a ≡ false → (xs ++ a ∷ []) ++ going_from r (a + 1) ≡ going r
+  joins e = append_assoc xs (a ∷ []) (going_from r (a + 1)) ∙ sym (ap (λ (as' : List ℕ). xs ++ as') (goes_on r a lt e)) ∙ so_far
 
-  pub counts_not : r.ended a ≡ true → n + length (going_from r (a + 1)) ≡ all
-  counts_not e = let none : length (going_from r a) ≡ length (going_from r (a + 1)) = ap length (is_passed r a lt e) in omega (arith, so_far, none)
+  pub joins_not : r.ended a ≡ true → xs ++ going_from r (a + 1) ≡ going r
+  joins_not e = sym (ap (λ (as' : List ℕ). xs ++ as') (is_passed r a lt e)) ∙ so_far
 
-module _ (r : Reached) (a k : ℕ) (found : Option ℕ) (lt : a < r.actors) (so_far : slice_get (going_from r a) k ≡ found) where
-  pub is_later : r.ended a ≡ false → 0 < k → slice_get (going_from r (a + 1)) (k - 1) ≡ found
-  is_later e some =
-      let less : k ≡ suc (k - 1) = omega (arith, some) in
-      ap (slice_get (a ∷ going_from r (a + 1))) (sym less) ∙ sym (ap (λ (as' : List ℕ). slice_get as' k) (goes_on r a lt e)) ∙ so_far
+pub all_joined : (r : Reached) (a : ℕ) (xs : List ℕ) → r.actors ≤ a → xs ++ going_from r a ≡ going r → xs ≡ going r
+all_joined r a xs le so_far = sym (ap (λ (as' : List ℕ). xs ++ as') (none_from r a le) ∙ append-nil xs) ∙ so_far
 
-  pub is_not : r.ended a ≡ true → slice_get (going_from r (a + 1)) k ≡ found
-  is_not e = sym (ap (λ (as' : List ℕ). slice_get as' k) (is_passed r a lt e)) ∙ so_far
-
-pub none_found : (r : Reached) (a k : ℕ) (found : Option ℕ) → r.actors ≤ a → slice_get (going_from r a) k ≡ found → None ≡ found
-none_found r a k found le so_far = sym (ap (λ (as' : List ℕ). slice_get as' k) (none_from r a le)) ∙ so_far
-
-pub none_chosen : (r : Reached) (w : ℕ) → length (going r) ≡ 0 → None ≡ slice_get (going r) (w % length (going r))
-none_chosen r w e = go (going r) e where
-  go : (xs : List ℕ) → length xs ≡ 0 → None ≡ slice_get xs (w % length xs)
-  go [] e = refl
-  go (x ∷ xs) e = absurd (omega arith)
+-- none is chosen among none
+pub none_chosen : (xs : List ℕ) (w : ℕ) → length xs ≡ 0 → None ≡ slice_get xs (w % length xs)
+none_chosen [] w e = refl
+none_chosen (x ∷ xs) w e = absurd (omega arith)

@@ -7,6 +7,7 @@ pub mod Choosing
 pub mod EitherOne
 pub mod Going
 pub mod InTurn
+pub mod Kept
 pub mod Numbers
 pub mod OneOutcome
 pub mod OneRun

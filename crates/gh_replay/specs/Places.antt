@@ -1,5 +1,5 @@
 -- What the code knows of a world and of where a schedule stands.
-use Rattle.std.specs.Prelude.{◌≡◌, ℕ, ◌≤◌, List, drop, length}
+use Rattle.std.specs.Prelude.{◌≡◌, ℕ, ◌≤◌, List, drop, length, IfSome}
 use Rattle.gh_base.specs.declared.operation.Op.{Op}
 use Rattle.gh_base.specs.declared.value.Answer.{Answer}
 use Rattle.gh_base.specs.declared.machine.Entry.{Entry}
@@ -9,7 +9,7 @@ use Rattle.gh_world.specs.World.{actors_of, AllDone, is_done, layout_of, marks_o
 use Rattle.gh_replay.specs.declared.place.Place.{Place}
 use Rattle.gh_replay.specs.Plan.{Plan}
 use Rattle.gh_replay.specs.Scheduled.{IsScheduled}
-use Rattle.gh_replay.specs.Standing.{Reached, Standing}
+use Rattle.gh_replay.specs.Standing.{going, Reached, Standing}
 
 -- what the actors of a world have come to
 abbrev pub seen_of : State → Reached
@@ -18,6 +18,10 @@ seen_of w = record { actors = actors_of w; ended = is_done w; marks = marks_of w
 -- where the schedule stands there
 abbrev pub standing_at : Place → Standing
 standing_at c = record { items = drop c.at c.list.items; next = c.next; drawn = c.drawn }
+
+-- where a generator draws, the actors that have not ended are kept
+abbrev pub Keeps : Place → List ℕ → State → Type 0
+Keeps c kept w = IfSome c.drawn (λ x. kept ≡ going (seen_of w))
 
 -- the world has taken turns within the budget, all of it where it is not done, and has answered so
 pub record Ran (w : State) (plan : Plan) (budget : ℕ) (answers : List (ℕ × Answer)) : Type 0 where

@@ -1,11 +1,13 @@
 //! Where a schedule stands in a run.
 
-ghost use Rattle.std.specs.Prelude.{◌≡◌, ◌<◌, ◌≤◌, ◌%◌, false, IfSome, None, drop, length, option_map, slice_get};
+ghost use Rattle.std.specs.Prelude.{◌≡◌, ◌<◌, ◌≤◌, ◌%◌, ◌==◌, false, not, IfOk, IfSome, None, [], drop, length, option_map, slice_get};
+ghost use Rattle.std.specs.List.{filter};
+ghost use Rattle.std.specs.Vec.{vec_capacity};
 ghost use Rattle.gh_base.specs.Cells.{seats_of};
 ghost use Rattle.rand_xoshiro.specs.SplitMix64.{mix_u64};
 ghost use Rattle.gh_world.specs.Schedule.{behind, turn_from};
 ghost use Rattle.gh_world.specs.World.{actors_of, is_done, layout_of, AllDone};
-ghost use Rattle.gh_replay.specs.Places.{seen_of, standing_at};
+ghost use Rattle.gh_replay.specs.Places.{Keeps, seen_of, standing_at};
 ghost use Rattle.gh_replay.specs.Standing.{
   going,
   is_over,
@@ -22,6 +24,7 @@ use gh_world::World;
 use rand_core::SeedableRng;
 use rand_core::utils::NextWord;
 use rand_xoshiro::SplitMix64;
+use std::alloc::{AllocError, Global};
 
 /// Where a schedule stands: the items from place `at` on are to come, the first of them with the steps that
 /// it has left; behind them it would be the turn of `next`, or the generator draws.
@@ -34,14 +37,20 @@ pub struct Place {
 }
 
 impl Place {
-    /// Before the first step.
-    pub fn opening(schedule: Schedule) -> Place
+    /// Before the first step. `kept` is empty, and where there is a seed it has room for all actors, and is filled.
+    pub fn opening(world: &World, schedule: Schedule, kept: &mut Vec<u8>) -> Place
+        requires empty { kept.old.items ≡ [] }
+        requires room { IfSome schedule.seed (λ seed. actors_of world.now ≤ vec_capacity kept.old) }
         ensures stands { standing_at result ≡ opening schedule }
         ensures within { result.at ≤ length result.list.items }
+        ensures kept { Keeps result kept.new.items world.now }
     {
         let Schedule { list, seed } = schedule;
         let drawn = match seed {
-            Some(seed) => Some(SplitMix64::seed_from_u64(seed)),
+            Some(seed) => {
+                add_going(world, kept);
+                Some(SplitMix64::seed_from_u64(seed))
+            }
             None => None,
         };
         Place {
@@ -52,14 +61,17 @@ impl Place {
         }
     }
 
-    /// Who steps next, where anybody does; the place is then that behind this step.
-    pub fn take_turn(&mut self, world: &World) -> Option<u8>
+    /// Who steps next, where anybody does; the place is then that behind this step. Where the generator draws, it
+    /// draws among the actors that are kept.
+    pub fn take_turn(&mut self, world: &World, kept: &Vec<u8>) -> Option<u8>
         requires within { self.old.at ≤ length self.old.list.items }
         requires next { self.old.next < actors_of world.now }
+        requires kept { Keeps self.old kept.now.items world.now }
         ensures who { result ≡ who (seen_of world.now) (standing_at self.old) }
         ensures moved { IfSome result (λ a. standing_at self.new ≡ moved (seen_of world.now) a (standing_at self.old)) }
         ensures within { self.new.at ≤ length self.new.list.items }
         ensures next { self.new.next < actors_of world.now }
+        ensures kept { Keeps self.new kept.now.items world.now }
         ensures going { IfSome result (λ a. (a < actors_of world.now) × (is_done world.now a ≡ false)) }
         ensures over { result ≡ None → AllDone world.now }
         ensures seats { actors_of world.now ≡ seats_of (layout_of world.now) }
@@ -71,7 +83,7 @@ impl Place {
             self.list[self.at] = one_less(turn);
             return Some(turn.actor);
         }
-        match who_behind(world, self.next, &mut self.drawn) {
+        match who_behind(world, self.next, &mut self.drawn, kept) {
             Some(actor) => {
                 self.next = behind(actors, actor);
                 Some(actor)
@@ -79,6 +91,38 @@ impl Place {
             None => None,
         }
     }
+}
+
+/// An empty vector, with room for all actors where there is a seed.
+pub fn room_to_keep(alloc: Global, world: &World, seed: Option<u64>) -> Result<Vec<u8>, AllocError>
+    ensures empty { IfOk result (λ v. v.items ≡ []) }
+    ensures room { IfOk result (λ v. IfSome seed (λ s. actors_of world.now ≤ vec_capacity v)) }
+{
+    match seed {
+        Some(_) => Vec::with_capacity(alloc, usize::from(world.actors())),
+        None => Ok(Vec::new(alloc)),
+    }
+}
+
+/// Puts the actors that are not done into an empty vector, in ascending order.
+fn add_going(world: &World, kept: &mut Vec<u8>)
+    requires empty { kept.old.items ≡ [] }
+    requires room { actors_of world.now ≤ vec_capacity kept.old }
+    ensures { kept.new.items ≡ going (seen_of world.now) }
+{
+    for a in 0..world.actors() {
+        if !world.is_done(a) {
+            kept.push_reserved(a);
+        }
+    }
+}
+
+/// Takes an actor out of those that are kept, since it is done: of each actor once in a run, so apart from its turns.
+#[cold]
+pub fn take_out(kept: &mut Vec<u8>, actor: u8)
+    ensures { kept.new.items ≡ filter (λ a. not (actor == a)) kept.old.items }
+{
+    kept.retain(|a| actor != *a);
 }
 
 /// The actor behind this one.
@@ -130,14 +174,15 @@ fn first_to_come(world: &World, list: &[Turn], at: usize) -> usize
     list.len()
 }
 
-/// Who steps next behind the items.
-fn who_behind(world: &World, next: u8, drawn: &mut Option<SplitMix64>) -> Option<u8>
-    requires { next < actors_of world.now }
+/// Who steps next behind the items. Where the generator draws, it draws among those that are kept.
+fn who_behind(world: &World, next: u8, drawn: &mut Option<SplitMix64>, kept: &Vec<u8>) -> Option<u8>
+    requires next { next < actors_of world.now }
+    requires kept { IfSome drawn.old (λ x. kept.now.items ≡ going (seen_of world.now)) }
     ensures who { result ≡ who_behind (seen_of world.now) next drawn.old }
     ensures drawn { drawn.new ≡ option_map (λ x. (mix_u64 x).1) drawn.old }
 {
     match drawn {
-        Some(generator) => chosen(world, generator.next_word()),
+        Some(generator) => chosen(kept, generator.next_word()),
         None => in_turn(world, next),
     }
 }
@@ -153,42 +198,13 @@ fn in_turn(world: &World, next: u8) -> Option<u8>
     world.turn_from(next)
 }
 
-/// The actor that a word says among those that are not done.
-fn chosen(world: &World, word: u64) -> Option<u8>
-    ensures { result ≡ slice_get (going (seen_of world.now)) (word % length (going (seen_of world.now))) }
+/// The actor that a word says among these.
+fn chosen(kept: &[u8], word: u64) -> Option<u8>
+    ensures { result ≡ slice_get kept.now (word % length kept.now) }
 {
-    let count = count_going(world);
+    let count = kept.len() as u64;
     if count == 0 {
         return None;
     }
-    going_at(world, word % count)
-}
-
-/// How many actors are not done.
-fn count_going(world: &World) -> u64
-    ensures { result ≡ length (going (seen_of world.now)) }
-{
-    let mut count = 0;
-    for a in 0..world.actors() {
-        if !world.is_done(a) {
-            count += 1;
-        }
-    }
-    count
-}
-
-/// The actor of this number, counted from 0, among those that are not done.
-fn going_at(world: &World, number: u64) -> Option<u8>
-    ensures { result ≡ slice_get (going (seen_of world.now)) number }
-{
-    let mut left = number;
-    for a in 0..world.actors() {
-        if !world.is_done(a) {
-            if left == 0 {
-                return Some(a);
-            }
-            left -= 1;
-        }
-    }
-    None
+    Some(kept[(word % count) as usize])
 }

@@ -10,12 +10,12 @@ ghost use Rattle.gh_replay.specs.Replayed.{IsReplayed, IsUnfinished};
 ghost use Rattle.gh_replay.specs.Report.{is_checked};
 ghost use Rattle.gh_world.specs.Turns.{total_of};
 ghost use Rattle.gh_world.specs.After.{IsAfter};
-ghost use Rattle.gh_world.specs.World.{layout_of, script_of};
+ghost use Rattle.gh_world.specs.World.{actors_of, layout_of, script_of};
 
 use crate::check::run_beside;
 use crate::fault::ReplayFault;
 use crate::laws::one_outcome;
-use crate::place::Place;
+use crate::place::{Place, room_to_keep, take_out};
 use crate::report::Report;
 use crate::schedule::Schedule;
 use gh_base::Answer;
@@ -64,7 +64,8 @@ pub fn replay(
     } else {
         None
     };
-    run(&mut world, &mut answers, schedule, budget);
+    let mut kept = room_to_keep(alloc, &world, schedule.seed)?;
+    run(&mut world, &mut answers, schedule, &mut kept, budget);
     match world.turn_from(0) {
         Some(_) => Err(ReplayFault::OutOfTurns(budget)),
         None => {
@@ -76,20 +77,29 @@ pub fn replay(
     }
 }
 
-/// Steps the world as the schedule says until it is done, or has taken so many turns.
-fn run(world: &mut World, answers: &mut Vec<(u32, Answer)>, schedule: Schedule, budget: u64)
+/// Steps the world as the schedule says until it is done, or has taken so many turns. `kept` is empty, and where there
+/// is a seed it has room for all actors: those that are not done are kept in it.
+fn run(
+    world: &mut World,
+    answers: &mut Vec<(u32, Answer)>,
+    schedule: Schedule,
+    kept: &mut Vec<u8>,
+    budget: u64,
+)
     requires opens { IsAfter world.old [] }
     requires empty { answers.old.items ≡ [] }
     requires room { total_of (script_of world.old) ≤ vec_capacity answers.old }
+    requires none { kept.old.items ≡ [] }
+    requires seats { IfSome schedule.seed (λ seed. actors_of world.old ≤ vec_capacity kept.old) }
     ensures script { script_of world.new ≡ script_of world.old }
     ensures layout { layout_of world.new ≡ layout_of world.old }
     ensures ran { Ran world.new schedule budget answers.new.items }
     ensures few { length answers.new.items ≤ total_of (script_of world.new) }
 {
-    let mut place = Place::opening(schedule);
+    let mut place = Place::opening(world, schedule, kept);
     let mut left = budget;
     while left > 0 {
-        let actor = match place.take_turn(world) {
+        let actor = match place.take_turn(world, kept) {
             Some(actor) => actor,
             None => return,
         };
@@ -97,7 +107,7 @@ fn run(world: &mut World, answers: &mut Vec<(u32, Answer)>, schedule: Schedule, 
             Event::Answered { g, answer, .. } => answers.push_reserved((g, answer)),
             Event::Moved => {}
             Event::Swept { .. } => {}
-            Event::Finished => {}
+            Event::Finished => take_out(kept, actor),
         }
         left -= 1;
     }

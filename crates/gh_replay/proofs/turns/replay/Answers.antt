@@ -1,5 +1,6 @@
 use Rattle.std.proofs.Common.{◌≡◌, ℕ, ◌++◌, ◌≤◌, length, map, Option, refl, sym, ◌∙◌, ap, subst, arith}
 use Rattle.std.specs.Prelude.{IfSome}
+use Rattle.std.specs.Vec.{vec_capacity}
 use Rattle.gh_base.specs.declared.layout.Layout.{Layout}
 use Rattle.gh_ever.specs.Lists.{Lists}
 use Rattle.gh_lines.specs.Text.{Outcome}
@@ -7,9 +8,10 @@ use Rattle.gh_script.specs.Program.{Program}
 use Rattle.gh_world.specs.Runs.{outcome_by, swept_cycle}
 use Rattle.gh_world.specs.Schedule.{ended_after, in_order_from}
 use Rattle.gh_world.specs.Turns.{total_of}
-use Rattle.gh_world.specs.World.{layout_of, LaysOut, script_of, setting_of}
+use Rattle.gh_world.specs.World.{actors_of, layout_of, LaysOut, script_of, setting_of}
 use Rattle.gh_world.specs.Wishes.{most_cycles}
 use Rattle.gh_replay.specs.Check.{IsEverAfter}
+use Rattle.gh_replay.specs.Plan.{Plan}
 use Rattle.gh_replay.specs.Replayed.{IsReplayed, IsUnfinished}
 use Rattle.gh_replay.proofs.Along.{ever_after, have_statements}
 use Rattle.gh_replay.proofs.Choosing.{some_going}
@@ -80,3 +82,6 @@ returns-clause-runs_out c = λ u.
     c.one_outcome.ensures.not_both c.args.script.now c.args.schedule c.args.budget (outcome_by c.run.new.answers.items c.run.new.world.coord)
     (finished c.every_run_is_explained.ensures c.run.new.world c.args.script.now c.args.schedule c.args.budget c.run.new.answers.items c.is_well_formed.ensures
     (c.run.ensures.script ∙ c.in_ok-world.ensures.script) lays c.run.ensures.ran (c.in-None.ensures.whole refl)) u
+
+pub run-requires-clause-seats : goal.run-requires-clause-seats
+run-requires-clause-seats c = subst (λ (p : Plan). IfSome p.seed (λ s. actors_of c.in_ok-world.world ≤ vec_capacity c.in_ok-kept.kept)) c.schedule.view_is c.in_ok-kept.ensures.room

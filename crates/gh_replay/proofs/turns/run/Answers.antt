@@ -1,10 +1,11 @@
-use Rattle.std.proofs.Common.{◌≡◌, ℕ, ◌+◌, ◌-◌, ◌++◌, ◌<◌, List, length, refl, sym, ◌∙◌, ap, subst, arith}
+use Rattle.std.proofs.Common.{◌≡◌, ℕ, ◌+◌, ◌-◌, ◌++◌, ◌<◌, false, List, length, refl, sym, ◌∙◌, ap, subst, arith}
 use Rattle.std.proofs.lemmas.List.{append-nil}
 use Rattle.gh_base.specs.declared.value.Answer.{Answer}
 use Rattle.gh_world.specs.Turns.{total_of}
 use Rattle.gh_world.specs.World.{actors_of, answered_in}
-use Rattle.gh_replay.specs.Places.{standing_at}
+use Rattle.gh_replay.specs.Places.{Keeps, standing_at}
 use Rattle.gh_replay.specs.Standing.{Standing}
+use Rattle.gh_replay.proofs.Kept.{is_finished, keeps_less, keeps_on}
 use Rattle.gh_replay.proofs.Running.{Midway, more, opens, ran, room_for, roomy}
 use Rattle.gh_replay.proofs.turns.run.Goals as goal
 use Rattle.gh_replay.proofs.turns.run.Goals.{in-Answered, in-Moved, in-Swept, in-Finished}
@@ -15,7 +16,7 @@ loop-left-init c =
     let none = first.counted in
     let empty : length c.args.answers.now.items ≡ 0 = ap (λ (xs : List (ℕ × Answer)). length xs) c.requires.empty in
     let start : c.opening-place.result.next ≡ 0 = ap (λ (s : Standing). s.next) c.opening-place.ensures.stands in
-    record { script = refl; layout = refl; midway = first; within = c.opening-place.ensures.within; few = omega (arith, none, empty); next = omega (arith, start); room = c.requires.room }
+    record { script = refl; layout = refl; midway = first; within = c.opening-place.ensures.within; few = omega (arith, none, empty); next = omega (arith, start); kept = c.opening-place.ensures.kept; room = c.requires.room }
 
 pub push_reserved-requires : goal.push_reserved-requires
 push_reserved-requires c =
@@ -32,6 +33,11 @@ loop-left-preserved c =
     subst (λ (xs : List (ℕ × Answer)). Midway c.step.new.self c.args.schedule c.args.budget (c.loop-left.left - 1) (standing_at c.take_turn.new.self) xs) (sym e)
     (more c.loop-left.world c.step.new.self c.step.result c.args.schedule c.args.budget c.loop-left.left (c.loop-left.left - 1) c.in-Some.actor (standing_at c.loop-left.place) (standing_at c.take_turn.new.self) c.loop-left.answers.items c.loop-left.invariant.midway few
     (record { appended = c.step.ensures.appended; script = c.step.ensures.script; layout = c.step.ensures.layout }) c.loop-left.invariant.next c.take_turn.ensures.seats (sym c.in-Some.is ∙ c.take_turn.ensures.who) c.in-Some.ensures.moved) in
+    let m = c.loop-left.invariant.midway in
+    let going = c.in-Some.ensures.going in
+    let all : Keeps c.take_turn.new.self c.loop-left.kept.items c.loop-left.world = c.take_turn.ensures.kept in
+    let same : is_finished c.step.result ≡ false → Keeps c.take_turn.new.self c.loop-left.kept.items c.step.new.self =
+    keeps_on c.loop-left.world c.step.new.self c.in-Some.actor c.step.result m.turns m.after (c.step.ensures.appended m.turns m.after) c.step.ensures.script c.step.ensures.layout c.step.ensures.actors going.0 going.1 c.take_turn.new.self c.loop-left.kept.items all in
     let next : c.take_turn.new.self.next < actors_of c.step.new.self = let there = c.take_turn.ensures.next in let count = c.step.ensures.actors in omega (arith, there, count) in
     elim c.match-step.branch [
       | in-Answered w ↦ record {
@@ -41,6 +47,7 @@ loop-left-preserved c =
         few = c.step.ensures.few;
         within = c.take_turn.ensures.within;
         next = next;
+        kept = rw w.kept-is (same (ap is_finished w.in-Answered.is));
         room = rw (w.answers-is, c.step.ensures.script, w.push_reserved.ensures.capacity) c.loop-left.invariant.room;
       }
       | in-Moved w ↦ record {
@@ -50,6 +57,7 @@ loop-left-preserved c =
         few = c.step.ensures.few;
         within = c.take_turn.ensures.within;
         next = next;
+        kept = rw w.kept-is (same (ap is_finished w.in-Moved.is));
         room = rw (w.answers-is, c.step.ensures.script) c.loop-left.invariant.room;
       }
       | in-Swept w ↦ record {
@@ -59,6 +67,7 @@ loop-left-preserved c =
         few = c.step.ensures.few;
         within = c.take_turn.ensures.within;
         next = next;
+        kept = rw w.kept-is (same (ap is_finished w.in-Swept.is));
         room = rw (w.answers-is, c.step.ensures.script) c.loop-left.invariant.room;
       }
       | in-Finished w ↦ record {
@@ -68,6 +77,8 @@ loop-left-preserved c =
         few = c.step.ensures.few;
         within = c.take_turn.ensures.within;
         next = next;
+        kept = rw w.kept-is (keeps_less c.loop-left.world c.step.new.self c.in-Some.actor c.step.result m.turns m.after (c.step.ensures.appended m.turns m.after) c.step.ensures.script c.step.ensures.layout c.step.ensures.actors going.0 going.1 c.take_turn.new.self c.loop-left.kept.items all
+            _ w.take_out.ensures (ap is_finished w.in-Finished.is));
         room = rw (w.answers-is, c.step.ensures.script) c.loop-left.invariant.room;
       }
     ]
