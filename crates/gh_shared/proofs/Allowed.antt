@@ -1,0 +1,167 @@
+-- What a caller can read off a handle is enough for an operation to begin.
+use Rattle.std.proofs.Common.{◌≡◌, ℕ, zero, suc, ◌+◌, ◌<◌, ◌≤◌, Bool, true, false, nat_lt, ◌==◌, ◌&&◌, ◌||◌, not, ◌%◌, List, length, get_or, refl, sym, ◌∙◌, subst, arith}
+use Rattle.std.proofs.lemmas.Bool.{lt-ltb}
+use Rattle.std.proofs.lemmas.Bool.Decides.{nat_tests}
+use Rattle.std.proofs.lemmas.List.Sums.{sum_by_more_le}
+use Rattle.std.proofs.lemmas.Option.{slice_get-get_or}
+use Rattle.gh_base.specs.declared.layout.Layout.{Layout}
+use Rattle.gh_base.specs.declared.limits.TheConstants.{REGISTERS, MOST_GOROUTINES}
+use Rattle.gh_base.specs.declared.machine.Entry.{Entry}
+use Rattle.gh_base.specs.declared.operation.Op.{Op}
+use Rattle.gh_base.specs.declared.operation.Op.TheVariants as op
+use Rattle.gh_base.specs.declared.shape.Shape.{Shape}
+use Rattle.gh_base.specs.Lists.{state_of}
+use Rattle.gh_mutator.specs.declared.processor.Processor.{Processor}
+use Rattle.gh_mutator.specs.declared.task.Task.{Task}
+use Rattle.gh_mutator.specs.declared.task.Task.TheVariants.{Left}
+use Rattle.gh_mutator.specs.Deeds.{processor_kind}
+use Rattle.gh_mutator.specs.Mutating.{Mutating}
+use Rattle.gh_mutator.specs.Processor.{made_by}
+use Rattle.gh_mutator.specs.Serving.{has_left_at, is_leaving}
+use Rattle.gh_mutator.specs.Sound.{has_names, has_room, most_objects, SoundOp}
+use Rattle.gh_world.specs.Order.{ended_in, goroutine_of, has_left, in_range, is_over}
+use Rattle.gh_world.specs.Processors.{all_ended, arena_of, asked_by, has_more, is_of, may_leave}
+use Rattle.gh_world.specs.Wishes.{wishes_of}
+use Rattle.gh_world.specs.World.{may_begin_of}
+use Rattle.gh_world.proofs.Due.{both_true}
+use Rattle.gh_shared.specs.declared.machine.ActorMachine.TheVariants.{Runs}
+use Rattle.gh_shared.specs.Calls.{Fits, RunsIt}
+use Rattle.gh_shared.specs.Machines.{IsProcessorOf, ProcessorMay}
+use Rattle.gh_shared.specs.Plans.{Planned}
+use Rattle.gh_shared.specs.Shown.{asked_in, CountsSo, left_by, ProcessorRests, runs_by}
+
+-- ---- truth values
+
+not_left : (t : Task) → is_leaving t ≡ false → has_left_at t ≡ false
+not_left Left e = absurd cc
+not_left _ e = refl
+
+pub record RunsSo (n c e : Bool) : Type 0 where
+  pub there : n ≡ true
+  pub its : c ≡ true
+  pub goes : e ≡ false
+
+runs_so : (n c e : Bool) → (n && c && not e) ≡ true → RunsSo n c e
+runs_so true true false h = record { there = refl; its = refl; goes = refl }
+runs_so true true true h = absurd cc
+runs_so true false e h = absurd cc
+runs_so false c e h = absurd cc
+
+over_so : (c e : Bool) → (true && c && not e) ≡ false → (not c || e) ≡ true
+over_so true true h = refl
+over_so true false h = absurd cc
+over_so false e h = refl
+
+not_it : (b : Bool) → b ≡ false → not b ≡ true
+not_it true e = absurd cc
+not_it false e = refl
+
+-- ---- the operation
+
+module _ (p : Planned) (a : ℕ) (m : Mutating) (own : List (Entry Op)) (procs : ℕ) (left : List ℕ) (over : List Bool) (gone : Bool) (counts : CountsSo p own procs left over gone) (rests : ProcessorRests p a m own) (belongs : IsProcessorOf p m) where
+  abbrev L : Layout
+  L = p.layout
+
+  abbrev It : ℕ → Type 0
+  It g = RunsSo (nat_lt g L.goroutines) (g % L.procs == a) (ended_in own g)
+
+  pub it_runs : (g : ℕ) → runs_by p a own g ≡ true → It g
+  it_runs g h = runs_so (nat_lt g L.goroutines) (g % L.procs == a) (ended_in own g) h
+
+  pub below : (g : ℕ) → It g → g < L.goroutines
+  below g h = let there = h.there in grind (arith, nat_tests)
+
+  few : (g : ℕ) → It g → g < MOST_GOROUTINES
+  few g h = let lt = below g h in let most = L.limits.goroutines_fit.1 in omega (arith, lt, most)
+
+  lt : (i n : ℕ) → i < n → nat_lt i n ≡ true
+  lt i n h = lt-ltb i n h
+
+  -- what is left of its wishes
+  pub left_is : (g : ℕ) → It g → get_or left g 0 + asked_by g own ≡ wishes_of p.script g
+  left_is g h = counts.each_left g (get_or left g 0) (slice_get-get_or left g 0 (let lt = below g h in let many = counts.many_left in omega (arith, lt, many)))
+
+  fewer : (g : ℕ) → It g → 1 ≤ left_by p own g → asked_in own < most_objects
+  fewer g h one =
+      let is = left_is g h in
+      let part = sum_by_more_le (λ (n : ℕ). n) left g 0 (let lt = below g h in let many = counts.many_left in omega (arith, lt, many)) in
+      let all = counts.few in
+      omega (arith, is, part, all, one)
+
+  named : (g : ℕ) → It g → 1 ≤ left_by p own g → nat_lt (made_by m.processor g) most_objects ≡ true
+  named g h one = let made = rests.made g in let less = fewer g h one in lt (made_by m.processor g) most_objects (omega (arith, made, less))
+
+  more : (g : ℕ) → 1 ≤ left_by p own g → nat_lt (asked_by g own) (wishes_of p.script g) ≡ true
+  more g one = lt (asked_by g own) (wishes_of p.script g) (omega (arith, one))
+
+  all_over : ((g : ℕ) → runs_by p a own g ≡ false) → (n : ℕ) → n ≤ L.goroutines → all_ended (arena_of p.script.shapes L) a own n ≡ true
+  all_over h zero le = refl
+  all_over h (suc n) le =
+      let here : nat_lt n L.goroutines ≡ true = lt n L.goroutines (omega (arith, le)) in
+      let none : (true && (n % L.procs == a) && not (ended_in own n)) ≡ false = subst (λ (b : Bool). (b && (n % L.procs == a) && not (ended_in own n)) ≡ false) here (h n) in
+      both_true _ _ (over_so (n % L.procs == a) (ended_in own n) none) (all_over h n (omega (arith, le)))
+
+  -- what each operation needs
+  record Needs (o : Op) : Type 0 where
+    ranged : in_range L.goroutines L.globals (length p.script.shapes) o ≡ true
+    its : is_of (arena_of p.script.shapes L) a (goroutine_of o) ≡ true
+    names : has_names m.processor o ≡ true
+    goes : not (is_over own (goroutine_of o)) ≡ true
+    asks : has_more (wishes_of p.script) own o ≡ true
+    leaves : may_leave (arena_of p.script.shapes L) a own o ≡ true
+    room : has_room m.processor o ≡ true
+    sound : SoundOp p.script.shapes L o
+
+  needs : (o : Op) → RunsIt p a (Runs m) own (goroutine_of o) → Fits p a (Runs m) own o → Needs o
+  needs (op.New g d t) r f =
+      let h = it_runs g r in
+      record { ranged = both_true _ _ (both_true _ _ h.there (lt d REGISTERS f.0)) (lt t (length p.script.shapes) f.1); its = h.its; names = named g h f.2; goes = not_it _ h.goes; asks = more g f.2; leaves = refl; room = refl; sound = ((few g h, f.0), f.1) }
+  needs (op.Load g d b k) r f =
+      let h = it_runs g r in
+      record { ranged = both_true _ _ (both_true _ _ h.there (lt d REGISTERS f.0)) (lt b REGISTERS f.1); its = h.its; names = refl; goes = not_it _ h.goes; asks = refl; leaves = refl; room = refl; sound = ((few g h, f.0), f.1) }
+  needs (op.Store g b k v) r f =
+      let h = it_runs g r in
+      record { ranged = both_true _ _ (both_true _ _ h.there (lt b REGISTERS f.0)) (lt v REGISTERS f.1); its = h.its; names = refl; goes = not_it _ h.goes; asks = refl; leaves = refl; room = f.2; sound = ((few g h, f.0), f.1) }
+  needs (op.GetGlobal g d k) r f =
+      let h = it_runs g r in
+      record { ranged = both_true _ _ (both_true _ _ h.there (lt d REGISTERS f.0)) (lt k L.globals f.1); its = h.its; names = refl; goes = not_it _ h.goes; asks = refl; leaves = refl; room = refl; sound = ((few g h, f.0), f.1) }
+  needs (op.SetGlobal g k v) r f =
+      let h = it_runs g r in
+      record { ranged = both_true _ _ (both_true _ _ h.there (lt k L.globals f.1)) (lt v REGISTERS f.0); its = h.its; names = refl; goes = not_it _ h.goes; asks = refl; leaves = refl; room = f.2; sound = ((few g h, f.0), f.1) }
+  needs (op.Int g d n) r f =
+      let h = it_runs g r in
+      record { ranged = both_true _ _ h.there (lt d REGISTERS f); its = h.its; names = refl; goes = not_it _ h.goes; asks = refl; leaves = refl; room = refl; sound = (few g h, f) }
+  needs (op.Move g d s) r f =
+      let h = it_runs g r in
+      record { ranged = both_true _ _ (both_true _ _ h.there (lt d REGISTERS f.0)) (lt s REGISTERS f.1); its = h.its; names = refl; goes = not_it _ h.goes; asks = refl; leaves = refl; room = refl; sound = ((few g h, f.0), f.1) }
+  needs (op.Nil g d) r f =
+      let h = it_runs g r in
+      record { ranged = both_true _ _ h.there (lt d REGISTERS f); its = h.its; names = refl; goes = not_it _ h.goes; asks = refl; leaves = refl; room = refl; sound = (few g h, f) }
+  needs (op.Gc g) r f =
+      let h = it_runs g r in
+      record { ranged = h.there; its = h.its; names = refl; goes = not_it _ h.goes; asks = more g f; leaves = refl; room = refl; sound = tt }
+  needs op.Poll r f = record { ranged = refl; its = refl; names = refl; goes = refl; asks = refl; leaves = refl; room = refl; sound = tt }
+  needs (op.End g) r f =
+      let h = it_runs g r in
+      record { ranged = h.there; its = h.its; names = refl; goes = not_it _ h.goes; asks = refl; leaves = refl; room = refl; sound = below g h }
+  needs op.Leave r f = record { ranged = refl; its = refl; names = refl; goes = refl; asks = refl; leaves = all_over f L.goroutines (omega arith); room = refl; sound = tt }
+
+  pub record Allowed (o : Op) : Type 0 where
+    pub may : ProcessorMay m o
+    pub allowed : may_begin_of p.script L a own o ≡ true
+
+  pub allowed : (o : Op) → has_left own ≡ false → m.processor ≡ state_of (processor_kind p.script.shapes L) a own → RunsIt p a (Runs m) own (goroutine_of o) → Fits p a (Runs m) own o → Allowed o
+  allowed o stays is r f =
+      let n = needs o r f in
+      let names : has_names (state_of (processor_kind p.script.shapes L) a own) o ≡ true = subst (λ (x : Processor). has_names x o ≡ true) is n.names in
+      let room : has_room (state_of (processor_kind p.script.shapes L) a own) o ≡ true = subst (λ (x : Processor). has_room x o ≡ true) is n.room in
+      record {
+        may = record {
+          idle = rests.idle;
+          there = not_left m.processor.task (rests.leaves ∙ stays);
+          sound = subst (λ (l : Layout). SoundOp m.shapes l o) (sym belongs.layout) (subst (λ (xs : List Shape). SoundOp xs L o) (sym belongs.shapes) n.sound);
+          names = n.names;
+          room = n.room;
+        };
+        allowed = both_true _ _ (both_true _ _ (both_true _ _ (both_true _ _ (both_true _ _ (both_true _ _ (both_true _ _ n.ranged n.its) names) n.goes) (not_it _ stays)) n.asks) n.leaves) room;
+      }

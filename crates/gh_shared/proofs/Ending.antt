@@ -1,0 +1,126 @@
+-- A worker and the coordinator begin no operation, and run until they are done.
+use Rattle.std.proofs.Common.{◌≡◌, ℕ, ◌+◌, Bool, true, false, not, List, [], ◌∷◌, ◌++◌, refl, sym, ap, ◌∙◌, subst, None, arith}
+use Rattle.atomic_table.specs.Table.{Me}
+use Rattle.gh_base.specs.declared.machine.Entry.{Entry}
+use Rattle.gh_base.specs.declared.operation.Op.{Op}
+use Rattle.gh_base.specs.Lists.{by}
+use Rattle.gh_coord.specs.declared.coord.CoordStage.{CoordStage}
+use Rattle.gh_coord.specs.declared.coord.CoordStage.TheVariants.{Done}
+use Rattle.gh_coord.specs.GoingOn.{GoesOnUntilDone, HasNext}
+use Rattle.gh_coord.specs.Listing as coord
+use Rattle.gh_coord.specs.Listing.{Coordinating}
+use Rattle.gh_mutator.specs.Mutating.{Mutating}
+use Rattle.gh_table.specs.declared.plan.View.{View}
+use Rattle.gh_table.specs.Runs.{entries_made, machine_after, Ran}
+use Rattle.gh_worker.specs.Listing as worker
+use Rattle.gh_worker.specs.Listing.{Working}
+use Rattle.gh_world.specs.Order.{ended_in, has_left}
+use Rattle.gh_world.specs.Processors.{asked_by}
+use Rattle.gh_shared.specs.declared.machine.ActorMachine.{ActorMachine}
+use Rattle.gh_shared.specs.declared.machine.ActorMachine.TheVariants.{Leads, Marks, Runs}
+use Rattle.gh_shared.specs.Calls.{IsOther}
+use Rattle.gh_shared.specs.Handles.{ended_at}
+use Rattle.gh_shared.specs.Machines.{asks, goes, is_busy}
+use Rattle.gh_shared.specs.Plans.{Planned}
+use Rattle.gh_shared.specs.Shown.{asked_in, GoesOn, IsKept}
+use Rattle.gh_shared.proofs.Keeping.{by_made, same_then}
+
+-- ---- the entries
+
+module _ (a : ℕ) (x : ActorMachine) (own : List (Entry Op)) where
+  abbrev Made : List ℕ → List (Entry Op)
+  Made founds = entries_made asks goes a None x founds ++ own
+
+  same_asked : (g : ℕ) (founds : List ℕ) → asked_by g (Made founds) ≡ 0 + asked_by g own
+  same_asked g [] = omega arith
+  same_asked g (n ∷ []) = refl
+  same_asked g (n ∷ (k ∷ ks)) = let rest = same_asked g (k ∷ ks) in omega (arith, rest)
+
+  same_all : (founds : List ℕ) → asked_in (Made founds) ≡ 0 + asked_in own
+  same_all [] = omega arith
+  same_all (n ∷ []) = refl
+  same_all (n ∷ (k ∷ ks)) = let rest = same_all (k ∷ ks) in omega (arith, rest)
+
+  same_ended : (g : ℕ) (founds : List ℕ) → ended_in (Made founds) g ≡ ended_in own g
+  same_ended g [] = refl
+  same_ended g (n ∷ []) = refl
+  same_ended g (n ∷ (k ∷ ks)) = same_ended g (k ∷ ks)
+
+  same_left : (founds : List ℕ) → has_left (Made founds) ≡ has_left own
+  same_left [] = refl
+  same_left (n ∷ []) = refl
+  same_left (n ∷ (k ∷ ks)) = same_left (k ∷ ks)
+
+-- ---- the machine
+
+marks_after : (w : Working) (founds : List ℕ) → machine_after goes (Marks w) founds ≡ Marks (machine_after worker.goes w founds)
+marks_after w [] = refl
+marks_after w (n ∷ ns) = ap (λ (x : ActorMachine). goes x n) (marks_after w ns)
+
+leads_after : (c : Coordinating) (founds : List ℕ) → machine_after goes (Leads c) founds ≡ Leads (machine_after coord.goes c founds)
+leads_after c [] = refl
+leads_after c (n ∷ ns) = ap (λ (x : ActorMachine). goes x n) (leads_after c ns)
+
+done_is : (t : CoordStage) → coord.is_done t ≡ true → t ≡ Done
+done_is Done e = refl
+done_is _ e = absurd cc
+
+not_false : (b : Bool) → false ≡ not b → b ≡ true
+not_false true e = refl
+not_false false e = absurd cc
+
+next_on : (s : Coordinating) (found : ℕ) → GoesOnUntilDone → HasNext s → HasNext (coord.goes s found)
+next_on s found law h = go (coord.is_busy s.stage) refl where
+  go : (b : Bool) → coord.is_busy s.stage ≡ b → HasNext (coord.goes s found)
+  go true e = law.step s found e
+  go false e =
+      let done : coord.is_done s.stage ≡ true = not_false (coord.is_done s.stage) (sym e ∙ h) in
+      subst (λ (t : CoordStage). HasNext (coord.goes_at (coord.counted s) t found)) (sym (done_is s.stage done)) h
+
+next_after : (c : Coordinating) (founds : List ℕ) → GoesOnUntilDone → HasNext c → HasNext (machine_after coord.goes c founds)
+next_after c [] law h = h
+next_after c (n ∷ ns) law h = next_on (machine_after coord.goes c ns) n law (next_after c ns law h)
+
+goes_on_after : (x x' : ActorMachine) (founds : List ℕ) → GoesOnUntilDone → GoesOn x → IsOther x → x' ≡ machine_after goes x founds → GoesOn x'
+goes_on_after (Runs m) x' founds law h is after c e = absurd is
+goes_on_after (Marks w) x' founds law h is after c e = let no : Marks (machine_after worker.goes w founds) ≡ Leads c = sym (marks_after w founds) ∙ sym after ∙ e in absurd cc
+goes_on_after (Leads d) x' founds law h is after c e =
+    let all : Leads (machine_after coord.goes d founds) ≡ Leads c = sym (leads_after d founds) ∙ sym after ∙ e in
+    let same : machine_after coord.goes d founds ≡ c = cc in
+    subst HasNext same (next_after d founds law (h d refl))
+
+no_processor : (x x' : ActorMachine) (founds : List ℕ) → IsOther x → x' ≡ machine_after goes x founds → (m : Mutating) → x' ≡ Runs m → ⊥
+no_processor (Runs m) x' founds is after n e = is
+no_processor (Marks w) x' founds is after n e = let no : Marks (machine_after worker.goes w founds) ≡ Runs n = sym (marks_after w founds) ∙ sym after ∙ e in absurd cc
+no_processor (Leads d) x' founds is after n e = let no : Leads (machine_after coord.goes d founds) ≡ Runs n = sym (leads_after d founds) ∙ sym after ∙ e in absurd cc
+
+-- ---- all of it
+
+pub busy_at : (x : ActorMachine) (own : List (Entry Op)) → GoesOn x → IsOther x → ended_at x own ≡ false → is_busy x ≡ true
+busy_at (Runs m) own h is going = absurd is
+busy_at (Marks w) own h is going = go (worker.is_busy w.stage) going where
+  go : (b : Bool) → not b ≡ false → b ≡ true
+  go true e = refl
+  go false e = absurd cc
+busy_at (Leads c) own h is going = h c refl ∙ ap not going
+
+pub kept_on : (p : Planned) (a : ℕ) (x x' : ActorMachine) (me me' : Me (Unit {0}) (View Planned Op)) (founds : List ℕ) (procs : ℕ) (left : List ℕ) (over : List Bool) (gone : Bool) → GoesOnUntilDone →
+    IsKept p a x (by a me.0.log) procs left over gone → IsOther x → Ran asks goes a None x me x' me' founds → IsKept p a x' (by a me'.0.log) procs left over gone
+kept_on p a x x' me me' founds procs left over gone law kept is ran =
+    let own = by a me.0.log in
+    let made : List (Entry Op) = entries_made asks goes a None x founds ++ own in
+    let own_is : by a me'.0.log ≡ made = ap (by a) ran.log ∙ by_made a None x founds me.0.log in
+    let all : IsKept p a x' made procs left over gone = record {
+      counts = same_then p own made procs left over gone kept.counts (λ g. same_asked a x own g founds) (same_all a x own founds) (λ g. same_ended a x own g founds) gone (kept.counts.has_gone ∙ sym (same_left a x own founds));
+      rests = λ m e. absurd (no_processor x x' founds is ran.machine m e);
+      goes_on = goes_on_after x x' founds law kept.goes_on is ran.machine;
+    } in
+    subst (λ (es : List (Entry Op)). IsKept p a x' es procs left over gone) (sym own_is) all
+
+done_by : (x : ActorMachine) (own : List (Entry Op)) → GoesOn x → ((m : Mutating) → x ≡ Runs m → ⊥) → is_busy x ≡ false → ended_at x own ≡ true
+done_by (Runs m) own h never idle = absurd (never m refl)
+done_by (Marks w) own h never idle = ap not idle
+done_by (Leads c) own h never idle = not_false (coord.is_done c.stage) (sym idle ∙ h c refl)
+
+pub is_done_then : (x x' : ActorMachine) (founds : List ℕ) (own : List (Entry Op)) → GoesOnUntilDone → GoesOn x → IsOther x → x' ≡ machine_after goes x founds → is_busy x' ≡ false → ended_at x' own ≡ true
+is_done_then x x' founds own law h is after idle = done_by x' own (goes_on_after x x' founds law h is after) (λ m e. no_processor x x' founds is after m e) idle

@@ -1,0 +1,106 @@
+-- Actors before their first steps.
+use Rattle.std.proofs.lemmas.Bool.Decides.{nat_tests}
+use Rattle.std.proofs.Common.{◌≡◌, ◌∙◌, arith, not, ℕ, zero, suc, Bool, true, false, sym, refl, subst, eq-eqb, nat_lt, if◌then◌else◌, List, [], ◌∷◌, ◌++◌, length, Some}
+use Rattle.std.specs.Prelude.{slice_get}
+use Rattle.gh_base.specs.Reading.{read_replicate}
+use Rattle.gh_base.specs.declared.operation.Op.{Op}
+use Rattle.gh_coord.specs.Stopping.{acks_of}
+use Rattle.gh_coord.specs.Listing as coord
+use Rattle.gh_coord.specs.Listing.{Coordinating}
+use Rattle.gh_mutator.specs.Mutating as mutating
+use Rattle.gh_mutator.specs.Mutating.{Mutating}
+use Rattle.gh_mutator.specs.Processor.{opening_processor}
+use Rattle.gh_worker.specs.Listing as worker
+use Rattle.gh_world.specs.declared.handshake.Actor.TheVariants as actor
+use Rattle.gh_world.specs.Wishes.{most_cycles}
+use Rattle.gh_table.specs.declared.plan.View.{View}
+use Rattle.gh_table.specs.Rule.{actor_in}
+use Rattle.gh_table.specs.Views.{Carries, one_carried}
+use Rattle.gh_shared.specs.declared.machine.ActorMachine.{ActorMachine}
+use Rattle.gh_shared.specs.declared.machine.ActorMachine.TheVariants.{Leads, Marks, Runs}
+use Rattle.gh_shared.specs.Machines.{actor_of, Belongs, opening}
+use Rattle.gh_base.specs.Lists.{by}
+use Rattle.gh_mutator.specs.Processor.{made_by}
+use Rattle.gh_world.specs.World.{LaysOut}
+use Rattle.gh_shared.specs.Counting.{CountsFirst}
+use Rattle.gh_shared.specs.Plans.{Planned, setting}
+use Rattle.gh_shared.specs.Shown.{GoesOn, IsKept, ProcessorRests, Rests}
+
+-- what a hand is made of
+pub record IsTied (a : ℕ) (m : ActorMachine) (v : View Planned Op) : Type 0 where
+  pub carries : Carries v a
+  pub belongs : Belongs v.plan m
+  pub state : actor_of m ≡ actor_in setting v a
+
+module _ (p : Planned) (a : ℕ) where
+  abbrev first_of : Bool → Bool → ActorMachine
+  first_of b c = if b then Runs (mutating.opening p.layout a p.script.shapes) else if c then Marks (worker.opening p.layout a) else Leads (coord.opening p.layout a p.script.settings.gogc p.script.settings.minheap (most_cycles p.script))
+
+  it_belongs : (b c : Bool) → Belongs p (first_of b c)
+  it_belongs true c = record { shapes = refl; layout = refl }
+  it_belongs false true = refl
+  it_belongs false false = refl
+
+  it_acts : (b c : Bool) → actor_of (first_of b c) ≡ (if b then actor.Runs (opening_processor p.layout a) else if c then actor.Marks (worker.opening p.layout a) else actor.Leads (coord.opening p.layout a p.script.settings.gogc p.script.settings.minheap (most_cycles p.script)))
+  it_acts true c = refl
+  it_acts false true = refl
+  it_acts false false = refl
+
+  pub opens : IsTied a (opening p a) (one_carried p a)
+  opens = record {
+    carries = rw (eq-eqb a a refl) refl;
+    belongs = it_belongs (nat_lt a p.layout.procs) (nat_lt a (acks_of p.layout));
+    state = it_acts (nat_lt a p.layout.procs) (nat_lt a (acks_of p.layout));
+  }
+
+pub opens_so : (p : Planned) (a : ℕ) (m : ActorMachine) (v : View Planned Op) → v ≡ one_carried p a → m ≡ opening p a → IsTied a m v
+opens_so p a m v view machine = subst (λ (n : ActorMachine). IsTied a n v) (sym machine) (subst (λ (u : View Planned Op). IsTied a (opening p a) u) (sym view) (opens p a))
+
+-- ---- what is kept of it
+
+module _ (p : Planned) (a : ℕ) where
+  rests_first : (b c : Bool) → nat_lt a p.layout.procs ≡ b → Rests p a (first_of p a b c) []
+  rests_first true c lt m e =
+      let here : ProcessorRests p a (mutating.opening p.layout a p.script.shapes) [] = record {
+        seat = (grind (arith, nat_tests));
+        idle = refl;
+        leaves = refl;
+        made = λ g. let none : made_by (opening_processor p.layout a) g ≡ 0 = read_replicate {A = ℕ} 32 g 0 in omega (arith, none);
+      } in
+      let same : mutating.opening p.layout a p.script.shapes ≡ m = cc in
+      subst (λ (n : Mutating). ProcessorRests p a n []) same here
+  rests_first false true lt m e = absurd cc
+  rests_first false false lt m e = absurd cc
+
+  goes_on_first : (b c : Bool) → GoesOn (first_of p a b c)
+  goes_on_first true c x e = absurd cc
+  goes_on_first false true x e = absurd cc
+  goes_on_first false false x e =
+      let same : coord.opening p.layout a p.script.settings.gogc p.script.settings.minheap (most_cycles p.script) ≡ x = cc in
+      subst (λ (y : Coordinating). coord.is_busy y.stage ≡ not (coord.is_done y.stage)) same refl
+
+  pub kept_first : (procs : ℕ) (left : List ℕ) (over : List Bool) (gone : Bool) → CountsFirst p.script procs left over gone → LaysOut p.script p.layout → IsKept p a (opening p a) [] procs left over gone
+  kept_first procs left over gone is lays = record {
+    counts = record {
+      procs_are = is.procs_are ∙ sym lays.procs_are;
+      many_left = is.many_left ∙ sym lays.goroutines_are;
+      many_over = is.many_over ∙ sym lays.goroutines_are;
+      each_left = λ g n e. let q = is.each_left g n e in omega (arith, q);
+      each_over = is.each_over;
+      has_gone = is.has_gone;
+      few = omega (arith, is.few);
+    };
+    rests = rests_first (nat_lt a p.layout.procs) (nat_lt a (acks_of p.layout)) refl;
+    goes_on = goes_on_first (nat_lt a p.layout.procs) (nat_lt a (acks_of p.layout));
+  }
+
+pub kept_so : (p : Planned) (a : ℕ) (m : ActorMachine) (v : View Planned Op) (procs : ℕ) (left : List ℕ) (over : List Bool) (gone : Bool) → v ≡ one_carried p a → m ≡ opening p a → CountsFirst p.script procs left over gone → LaysOut p.script p.layout → IsKept v.plan a m (by a v.log) procs left over gone
+kept_so p a m v procs left over gone view machine is lays =
+    subst (λ (n : ActorMachine). IsKept v.plan a n (by a v.log) procs left over gone) (sym machine) (subst (λ (u : View Planned Op). IsKept u.plan a (opening p a) (by a u.log) procs left over gone) (sym view) (kept_first p a procs left over gone is lays))
+
+-- what holds of each of these handles, and of one more behind them, holds of each then
+pub each_more : {A : Type 0} (Q : ℕ → A → Type 0) (xs : List A) (y : A) → ((i : ℕ) (x : A) → slice_get xs i ≡ Some x → Q i x) → Q (length xs) y → (i : ℕ) (x : A) → slice_get (xs ++ y ∷ []) i ≡ Some x → Q i x
+each_more Q [] y each new zero x e = let same : y ≡ x = cc in subst (Q 0) same new
+each_more Q [] y each new (suc i) x e = absurd (cc)
+each_more Q (z ∷ xs) y each new zero x e = each zero x e
+each_more {A} Q (z ∷ xs) y each new (suc i) x e = each_more (λ (j : ℕ) (w : A). Q (suc j) w) xs y (λ j w. each (suc j) w) new i x e

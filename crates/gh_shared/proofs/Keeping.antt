@@ -1,0 +1,252 @@
+-- What a handle keeps once an operation has run.
+use Rattle.std.proofs.Common.{◌≡◌, ℕ, ◌+◌, ◌-◌, ◌<◌, ◌≤◌, Bool, true, false, ◌==◌, ◌||◌, if◌then◌else◌, List, [], ◌∷◌, ◌++◌, length, length-set, get_or, set, eq-eqb, refl, sym, ap, ◌∙◌, subst, Option, Some, arith}
+use Rattle.std.proofs.lemmas.Bool.Decides.{nat_tests}
+use Rattle.std.proofs.lemmas.List.Sums.{sum_by-set}
+use Rattle.std.proofs.lemmas.Option.{slice_get-get_or}
+use Rattle.atomic_table.specs.Table.{Me}
+use Rattle.gh_base.specs.declared.machine.Entry.{Entry}
+use Rattle.gh_base.specs.declared.operation.Op.{Op}
+use Rattle.gh_base.specs.declared.operation.Op.TheVariants as op
+use Rattle.gh_base.specs.declared.shape.Shape.{Shape}
+use Rattle.gh_base.specs.declared.value.Answer.{Answer}
+use Rattle.gh_base.specs.Lists.{by}
+use Rattle.gh_mutator.specs.declared.processor.Processor.{Processor}
+use Rattle.gh_mutator.specs.declared.task.Task.{Task}
+use Rattle.gh_mutator.specs.declared.task.Task.TheVariants.{Idle, Left}
+use Rattle.gh_mutator.specs.Listing.{begins_at, is_busy_at, takes_at}
+use Rattle.gh_mutator.specs.Mutating as mutating
+use Rattle.gh_mutator.specs.Mutating.{Mutating}
+use Rattle.gh_mutator.specs.Processor.{made_by}
+use Rattle.gh_mutator.specs.Serving.{is_leaving}
+use Rattle.gh_table.specs.declared.plan.View.{View}
+use Rattle.gh_table.specs.Runs.{begun_next, entries_made, Gave, machine_after, Ran}
+use Rattle.gh_table.specs.Views.{entry}
+use Rattle.gh_world.specs.Order.{ended_in, ends, goroutine_of, has_left, leaves}
+use Rattle.gh_world.specs.Processors.{asked_by, asks_collector}
+use Rattle.gh_world.specs.Wishes.{wishes_of}
+use Rattle.gh_world.specs.World.{making}
+use Rattle.gh_world.proofs.Due.{leaves_is}
+use Rattle.gh_world.proofs.Runners.{each_set}
+use Rattle.gh_world.proofs.StepFacts.{begin_facts, step_facts}
+use Rattle.gh_shared.specs.declared.machine.ActorMachine.{ActorMachine}
+use Rattle.gh_shared.specs.declared.machine.ActorMachine.TheVariants.{Leads, Runs}
+use Rattle.gh_shared.specs.Calls.{Fits, RunsIt}
+use Rattle.gh_shared.specs.Counting.{gone_after, HasOneAt, left_after, MayCount, over_after}
+use Rattle.gh_shared.specs.Machines.{asks, begins, gives, goes, is_busy, IsProcessorOf}
+use Rattle.gh_shared.specs.Plans.{Planned}
+use Rattle.gh_shared.specs.Shown.{asked_in, asks_for_cycle, CountsSo, IsKept, left_by, ProcessorRests, runs_by}
+use Rattle.gh_shared.proofs.Allowed.{below, it_runs, left_is}
+
+-- ---- the entries
+
+-- by these entries one operation more was begun
+pub record OneMore (o : Op) (own own' : List (Entry Op)) : Type 0 where
+  pub asked : (g : ℕ) → asked_by g own' ≡ (if asks_collector g (Some o) then 1 else 0) + asked_by g own
+  pub all : asked_in own' ≡ (if asks_for_cycle (Some o) then 1 else 0) + asked_in own
+  pub ended : (g : ℕ) → ended_in own' g ≡ (ends (Some o) g || ended_in own g)
+  pub left : has_left own' ≡ (leaves (Some o) || has_left own)
+
+module _ (a : ℕ) (o : Op) (m : ActorMachine) (own : List (Entry Op)) where
+  abbrev Made : List ℕ → List (Entry Op)
+  Made founds = entries_made asks goes a (Some o) m founds ++ own
+
+  more_asked : (g n : ℕ) (ns : List ℕ) → asked_by g (Made (n ∷ ns)) ≡ (if asks_collector g (Some o) then 1 else 0) + asked_by g own
+  more_asked g n [] = refl
+  more_asked g n (k ∷ ks) = let rest = more_asked g k ks in omega (arith, rest)
+
+  more_all : (n : ℕ) (ns : List ℕ) → asked_in (Made (n ∷ ns)) ≡ (if asks_for_cycle (Some o) then 1 else 0) + asked_in own
+  more_all n [] = refl
+  more_all n (k ∷ ks) = let rest = more_all k ks in omega (arith, rest)
+
+  more_ended : (g n : ℕ) (ns : List ℕ) → ended_in (Made (n ∷ ns)) g ≡ (ends (Some o) g || ended_in own g)
+  more_ended g n [] = refl
+  more_ended g n (k ∷ ks) = more_ended g k ks
+
+  more_left : (n : ℕ) (ns : List ℕ) → has_left (Made (n ∷ ns)) ≡ (leaves (Some o) || has_left own)
+  more_left n [] = refl
+  more_left n (k ∷ ks) = more_left k ks
+
+  pub one_more : (n : ℕ) (ns : List ℕ) → OneMore o own (Made (n ∷ ns))
+  one_more n ns = record { asked = λ g. more_asked g n ns; all = more_all n ns; ended = λ g. more_ended g n ns; left = more_left n ns }
+
+pub by_made : (a : ℕ) (b : Option Op) (m : ActorMachine) (founds : List ℕ) (log : List (Entry Op)) → by a (entries_made asks goes a b m founds ++ log) ≡ entries_made asks goes a b m founds ++ by a log
+by_made a b m [] log = refl
+by_made a b m (n ∷ ns) log = rw (eq-eqb a a refl) (ap (λ (es : List (Entry Op)). entry a (begun_next b ns) (asks (machine_after goes m ns)) n ∷ es) (by_made a b m ns log))
+
+-- where an operation has run, its actor's entries are one operation more
+pub ran_more : (a : ℕ) (o : Op) (x x' : ActorMachine) (me me' : Me (Unit {0}) (View Planned Op)) (founds : List ℕ) (out : Option Answer) → Ran asks goes a (Some o) x me x' me' founds → Gave goes gives x founds out → OneMore o (by a me.0.log) (by a me'.0.log)
+ran_more a o x x' me me' [] out ran gave = absurd gave
+ran_more a o x x' me me' (n ∷ ns) out ran gave = subst (OneMore o (by a me.0.log)) (sym (ap (by a) ran.log ∙ by_made a (Some o) x (n ∷ ns) me.0.log)) (one_more a o x (by a me.0.log) n ns)
+
+-- ---- the counts
+
+-- one of these is begun
+module _ (p : Planned) (own own' : List (Entry Op)) (procs : ℕ) (left : List ℕ) (over : List Bool) (gone : Bool) (counts : CountsSo p own procs left over gone) where
+  asks_then : (g : ℕ) → HasOneAt left g → ((j : ℕ) → asked_by j own' ≡ (if g == j then 1 else 0) + asked_by j own) → asked_in own' ≡ 1 + asked_in own → ((j : ℕ) → ended_in own' j ≡ ended_in own j) → has_left own' ≡ has_left own → CountsSo p own' procs (set left g (get_or left g 0 - 1)) over gone
+  asks_then g has asked all ended gone_is =
+      let one = has.1 in
+      let sum = sum_by-set (λ (n : ℕ). n) left g (get_or left g 0 - 1) 0 has.0 in
+      let few = counts.few in
+      record {
+        procs_are = counts.procs_are;
+        many_left = simp length-set counts.many_left;
+        many_over = counts.many_over;
+        each_left = each_set (λ (j n : ℕ). n + asked_by j own' ≡ wishes_of p.script j) left g (get_or left g 0) (get_or left g 0 - 1) (slice_get-get_or left g 0 has.0)
+            (let was = counts.each_left g (get_or left g 0) (slice_get-get_or left g 0 has.0) in let now = asked g in let same : (g == g) ≡ true = eq-eqb g g refl in let is : asked_by g own' ≡ 1 + asked_by g own = now ∙ ap (λ (b : Bool). (if b then 1 else 0) + asked_by g own) same in omega (arith, was, is, one))
+            (λ j z apart at. let was = counts.each_left j z at in let no : (g == j) ≡ false = grind (arith, nat_tests, apart) in let is : asked_by j own' ≡ 0 + asked_by j own = asked j ∙ ap (λ (b : Bool). (if b then 1 else 0) + asked_by j own) no in omega (arith, was, is));
+        each_over = λ j b at. counts.each_over j b at ∙ sym (ended j);
+        has_gone = counts.has_gone ∙ sym gone_is;
+        few = omega (arith, sum, few, all, one);
+      }
+
+  pub same_then : ((j : ℕ) → asked_by j own' ≡ 0 + asked_by j own) → asked_in own' ≡ 0 + asked_in own → ((j : ℕ) → ended_in own' j ≡ ended_in own j) → (g' : Bool) → g' ≡ has_left own' → CountsSo p own' procs left over g'
+  same_then asked all ended g' gone_is = record {
+    procs_are = counts.procs_are;
+    many_left = counts.many_left;
+    many_over = counts.many_over;
+    each_left = λ j n at. let was = counts.each_left j n at in let is = asked j in omega (arith, was, is);
+    each_over = λ j b at. counts.each_over j b at ∙ sym (ended j);
+    has_gone = gone_is;
+    few = let few = counts.few in omega (arith, few, all);
+  }
+
+  ends_then : (g : ℕ) → g < length over → ((j : ℕ) → asked_by j own' ≡ 0 + asked_by j own) → asked_in own' ≡ 0 + asked_in own → ((j : ℕ) → ended_in own' j ≡ ((g == j) || ended_in own j)) → has_left own' ≡ has_left own → CountsSo p own' procs left (set over g true) gone
+  ends_then g there asked all ended gone_is = record {
+    procs_are = counts.procs_are;
+    many_left = counts.many_left;
+    many_over = simp length-set counts.many_over;
+    each_left = λ j n at. let was = counts.each_left j n at in let is = asked j in omega (arith, was, is);
+    each_over = each_set (λ (j : ℕ) (b : Bool). b ≡ ended_in own' j) over g (get_or over g true) true (slice_get-get_or over g true there)
+        (sym (ended g ∙ ap (λ (b : Bool). b || ended_in own g) (eq-eqb g g refl)))
+        (λ j z apart at. let no : (g == j) ≡ false = grind (arith, nat_tests, apart) in counts.each_over j z at ∙ sym (ended j ∙ ap (λ (b : Bool). b || ended_in own j) no));
+    has_gone = counts.has_gone ∙ sym gone_is;
+    few = let few = counts.few in omega (arith, few, all);
+  }
+
+  pub counts_then : (o : Op) → MayCount left over o → OneMore o own own' → CountsSo p own' procs (left_after left o) (over_after over o) (gone_after gone o)
+  counts_then (op.New g d t) may one = asks_then g may one.asked one.all one.ended one.left
+  counts_then (op.Gc g) may one = asks_then g may one.asked one.all one.ended one.left
+  counts_then (op.End g) may one = ends_then g may one.asked one.all one.ended one.left
+  counts_then op.Leave may one = same_then one.asked one.all one.ended true (sym one.left)
+  counts_then (op.Load g d b k) may one = same_then one.asked one.all one.ended gone (counts.has_gone ∙ sym one.left)
+  counts_then (op.Store g b k v) may one = same_then one.asked one.all one.ended gone (counts.has_gone ∙ sym one.left)
+  counts_then (op.GetGlobal g d k) may one = same_then one.asked one.all one.ended gone (counts.has_gone ∙ sym one.left)
+  counts_then (op.SetGlobal g k v) may one = same_then one.asked one.all one.ended gone (counts.has_gone ∙ sym one.left)
+  counts_then (op.Int g d n) may one = same_then one.asked one.all one.ended gone (counts.has_gone ∙ sym one.left)
+  counts_then (op.Move g d s) may one = same_then one.asked one.all one.ended gone (counts.has_gone ∙ sym one.left)
+  counts_then (op.Nil g d) may one = same_then one.asked one.all one.ended gone (counts.has_gone ∙ sym one.left)
+  counts_then op.Poll may one = same_then one.asked one.all one.ended gone (counts.has_gone ∙ sym one.left)
+
+-- ---- the processor
+
+-- one that rests stays as it is
+rests_on : (shapes : List Shape) (m : Processor) (t : Task) (found : ℕ) → is_busy_at t ≡ false → takes_at shapes m t found ≡ m
+rests_on shapes m Idle found e = refl
+rests_on shapes m Left found e = refl
+rests_on shapes m _ found e = absurd cc
+
+-- steps make no more than one object, and lead to no leave
+record GoesSo (m n : Processor) : Type 0 where
+  counted : (g : ℕ) → made_by n g + making n.task ≤ made_by m g + making m.task
+  leaves_as : is_leaving n.task ≡ is_leaving m.task
+
+step_so : (m : Mutating) (found : ℕ) → GoesSo m.processor (mutating.goes m found).processor
+step_so m found = go (is_busy_at m.processor.task) refl where
+  go : (b : Bool) → is_busy_at m.processor.task ≡ b → GoesSo m.processor (mutating.goes m found).processor
+  go true e = let s = step_facts m.shapes m.processor m.processor.task found e in record { counted = s.counted; leaves_as = s.leaves }
+  go false e = rw (rests_on m.shapes m.processor m.processor.task found e) (record { counted = λ g. omega arith; leaves_as = refl })
+
+steps_so : (m : Mutating) (founds : List ℕ) → GoesSo m.processor (machine_after mutating.goes m founds).processor
+steps_so m [] = record { counted = λ g. omega arith; leaves_as = refl }
+steps_so m (n ∷ ns) =
+    let before = steps_so m ns in
+    let s = step_so (machine_after mutating.goes m ns) n in
+    record { counted = λ g. let x = before.counted g in let y = s.counted g in omega (arith, x, y); leaves_as = s.leaves_as ∙ before.leaves_as }
+
+begun_makes : (shapes : List Shape) (m : Processor) (o : Op) → making (begins_at shapes m o) ≤ (if asks_for_cycle (Some o) then 1 else 0)
+begun_makes shapes m (op.New g d t) = omega arith
+begun_makes shapes m (op.Gc g) = omega arith
+begun_makes shapes m (op.Load g d b k) = omega arith
+begun_makes shapes m (op.Store g b k v) = omega arith
+begun_makes shapes m (op.GetGlobal g d k) = omega arith
+begun_makes shapes m (op.SetGlobal g k v) = omega arith
+begun_makes shapes m (op.Int g d n) = omega arith
+begun_makes shapes m (op.Move g d s) = omega arith
+begun_makes shapes m (op.Nil g d) = omega arith
+begun_makes shapes m op.Poll = omega arith
+begun_makes shapes m (op.End g) = omega arith
+begun_makes shapes m op.Leave = omega arith
+
+begun_busy : (shapes : List Shape) (m : Processor) (o : Op) → is_busy_at (begins_at shapes m o) ≡ true
+begun_busy shapes m (op.Gc g) = refl
+begun_busy shapes m _ = refl
+
+-- the machine of a processor stays one
+pub runs_after : (m : Mutating) (founds : List ℕ) → machine_after goes (Runs m) founds ≡ Runs (machine_after mutating.goes m founds)
+runs_after m [] = refl
+runs_after m (n ∷ ns) = ap (λ (x : ActorMachine). goes x n) (runs_after m ns)
+
+rests_then : (p : Planned) (a : ℕ) (m : Mutating) (own own' : List (Entry Op)) (o : Op) (founds : List ℕ) → ProcessorRests p a m own → has_left own ≡ false → OneMore o own own' → mutating.is_busy (machine_after mutating.goes (mutating.begins m o) founds) ≡ false → ProcessorRests p a (machine_after mutating.goes (mutating.begins m o) founds) own'
+rests_then p a m own own' o founds rests stays one idle =
+    let s = steps_so (mutating.begins m o) founds in
+    let b = begin_facts m.shapes m.processor o (begun_busy m.shapes m.processor o) in
+    let makes = begun_makes m.shapes m.processor o in
+    let all = one.all in
+    record {
+      seat = rests.seat;
+      idle = idle;
+      leaves = s.leaves_as ∙ b.leaves ∙ sym (leaves_is o) ∙ sym (or_none (leaves (Some o)) (has_left own) stays) ∙ sym one.left;
+      made = λ g. let x = s.counted g in let y = rests.made g in omega (arith, x, y, makes, all);
+    }
+  where
+    or_none : (b c : Bool) → c ≡ false → (b || c) ≡ b
+    or_none true c e = refl
+    or_none false c e = e
+
+-- ---- all of it
+
+module _ (p : Planned) (a : ℕ) (m : Mutating) (own : List (Entry Op)) (procs : ℕ) (left : List ℕ) (over : List Bool) (gone : Bool) (counts : CountsSo p own procs left over gone) (rests : ProcessorRests p a m own) (belongs : IsProcessorOf p m) where
+  has_one : (g : ℕ) → runs_by p a own g ≡ true → 1 ≤ left_by p own g → HasOneAt left g
+  has_one g r one =
+      let h = it_runs p a m own procs left over gone counts rests belongs g r in
+      let lt = below p a m own procs left over gone counts rests belongs g h in
+      let is = left_is p a m own procs left over gone counts rests belongs g h in
+      let many = counts.many_left in
+      (omega (arith, lt, many), omega (arith, is, one))
+
+  pub may_count : (o : Op) → RunsIt p a (Runs m) own (goroutine_of o) → Fits p a (Runs m) own o → MayCount left over o
+  may_count (op.New g d t) r f = has_one g r f.2
+  may_count (op.Gc g) r f = has_one g r f
+  may_count (op.End g) r f =
+      let lt = below p a m own procs left over gone counts rests belongs g (it_runs p a m own procs left over gone counts rests belongs g r) in
+      let many = counts.many_over in
+      omega (arith, lt, many)
+  may_count (op.Load g d b k) r f = tt
+  may_count (op.Store g b k v) r f = tt
+  may_count (op.GetGlobal g d k) r f = tt
+  may_count (op.SetGlobal g k v) r f = tt
+  may_count (op.Int g d n) r f = tt
+  may_count (op.Move g d s) r f = tt
+  may_count (op.Nil g d) r f = tt
+  may_count op.Poll r f = tt
+  may_count op.Leave r f = tt
+
+pub kept_then : (p : Planned) (a : ℕ) (m : Mutating) (o : Op) (me me' : Me (Unit {0}) (View Planned Op)) (x : ActorMachine) (founds : List ℕ) (out : Option Answer) (procs : ℕ) (left : List ℕ) (over : List Bool) (gone : Bool) →
+    IsKept p a (Runs m) (by a me.0.log) procs left over gone → has_left (by a me.0.log) ≡ false → MayCount left over o → Ran asks goes a (Some o) (begins (Runs m) o) me x me' founds → Gave goes gives (begins (Runs m) o) founds out → is_busy x ≡ false →
+    IsKept p a x (by a me'.0.log) procs (left_after left o) (over_after over o) (gone_after gone o)
+kept_then p a m o me me' x [] out procs left over gone kept stays may ran gave idle = absurd gave
+kept_then p a m o me me' x (n ∷ ns) out procs left over gone kept stays may ran gave idle =
+    let own = by a me.0.log in
+    let made : List (Entry Op) = entries_made asks goes a (Some o) (Runs (mutating.begins m o)) (n ∷ ns) ++ own in
+    let own_is : by a me'.0.log ≡ made = ap (by a) ran.log ∙ by_made a (Some o) (Runs (mutating.begins m o)) (n ∷ ns) me.0.log in
+    let one : OneMore o own made = one_more a o (Runs (mutating.begins m o)) own n ns in
+    let after : Mutating = machine_after mutating.goes (mutating.begins m o) (n ∷ ns) in
+    let is : x ≡ Runs after = ran.machine ∙ runs_after (mutating.begins m o) (n ∷ ns) in
+    let still : mutating.is_busy after ≡ false = subst (λ (y : ActorMachine). is_busy y ≡ false) is idle in
+    let rests : ProcessorRests p a after made = rests_then p a m own made o (n ∷ ns) (kept.rests m refl) stays one still in
+    let all : IsKept p a x made procs (left_after left o) (over_after over o) (gone_after gone o) = record {
+      counts = counts_then p own made procs left over gone kept.counts o may one;
+      rests = λ m' e. let same : after ≡ m' = cc in subst (λ (y : Mutating). ProcessorRests p a y made) same rests;
+      goes_on = λ c e. let no : Runs after ≡ Leads c = sym is ∙ e in absurd cc;
+    } in
+    subst (λ (es : List (Entry Op)). IsKept p a x es procs (left_after left o) (over_after over o) (gone_after gone o)) (sym own_is) all

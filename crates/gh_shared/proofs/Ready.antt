@@ -1,0 +1,154 @@
+-- A handle of a processor may begin what its caller may ask for, and keeps what it shows.
+use Rattle.std.proofs.Common.{◌≡◌, ℕ, zero, suc, ◌≤◌, ◌-◌, ◌%◌, ◌==◌, nat_lt, Bool, true, false, not, ◌&&◌, ◌||◌, if◌then◌else◌, arith, List, [], ◌∷◌, refl, sym, ap, ◌∙◌, subst, Option, Some, None}
+use Rattle.atomic_table.specs.Table.{Me}
+use Rattle.gh_base.specs.declared.machine.Entry.{Entry}
+use Rattle.gh_base.specs.declared.operation.Op.{Op}
+use Rattle.gh_base.specs.declared.value.Answer.{Answer}
+use Rattle.gh_base.specs.declared.operation.Op.TheVariants as op
+use Rattle.gh_base.specs.Routines.{EndsWithin, told}
+use Rattle.gh_mutator.specs.Ending.{may_wait, most_steps, OperationsEnd}
+use Rattle.gh_mutator.specs.Local.{marking_at}
+use Rattle.gh_mutator.specs.PollRoom.{MayStore, PollsMakeRoom}
+use Rattle.gh_base.specs.Lists.{by, Kind, state_of}
+use Rattle.gh_mutator.specs.Deeds.{processor_kind}
+use Rattle.gh_mutator.specs.Mutating as mutating
+use Rattle.gh_mutator.specs.Mutating.{Mutating}
+use Rattle.gh_table.specs.declared.plan.View.{View}
+use Rattle.gh_table.specs.Runs.{Gave, machine_after, Ran}
+use Rattle.gh_world.specs.declared.handshake.Actor.{Actor}
+use Rattle.gh_world.specs.declared.handshake.Actor.TheVariants as actor
+use Rattle.gh_world.specs.Order.{ended_in, ends, goroutine_of, has_left, leaves}
+use Rattle.gh_world.specs.Processors.{asks_collector}
+use Rattle.gh_world.specs.World.{may_begin_of}
+use Rattle.gh_world.proofs.Resting.{is_processor}
+use Rattle.gh_shared.specs.declared.machine.ActorMachine.{ActorMachine}
+use Rattle.gh_shared.specs.declared.machine.ActorMachine.TheVariants.{Leads, Marks, Runs}
+use Rattle.gh_shared.specs.Calls.{Fits, IsProcessor, RunsIt, ShowsAfter}
+use Rattle.gh_shared.specs.declared.handle.Handle.{Handle}
+use Rattle.gh_shared.specs.Counting.{gone_after, left_after, MayCount, over_after}
+use Rattle.gh_shared.specs.Handles.{ended_at, ended_of, has_room_at, machine_of, number_of, own_of, view_of}
+use Rattle.gh_shared.specs.Machines.{actor_of, answered, asks, begins, Belongs, gives, goes, is_busy, listing, MayBegin}
+use Rattle.gh_shared.specs.Plans.{Planned, setting}
+use Rattle.gh_shared.specs.Shown.{IsKept, left_by, runs_by}
+use Rattle.gh_shared.proofs.Allowed.{allowed}
+use Rattle.gh_shared.proofs.Keeping.{kept_then, may_count, OneMore, ran_more, runs_after}
+
+-- an actor's state is of its own entries
+abbrev OfItsOwn : Type 0
+OfItsOwn = (k : Kind Actor Op) (a : ℕ) (es : List (Entry Op)) → state_of k a es ≡ state_of k a (by a es)
+
+pub record Ready (p : Planned) (a : ℕ) (x : ActorMachine) (own : List (Entry Op)) (left : List ℕ) (over : List Bool) (o : Op) : Type 0 where
+  pub may : MayBegin x o
+  pub allowed : may_begin_of p.script p.layout a own o ≡ true
+  pub counts : MayCount left over o
+
+pub ready : (p : Planned) (a : ℕ) (x : ActorMachine) (log : List (Entry Op)) (procs : ℕ) (left : List ℕ) (over : List Bool) (gone : Bool) (o : Op) → OfItsOwn → IsKept p a x (by a log) procs left over gone → Belongs p x → actor_of x ≡ state_of (setting p).kind a log → IsProcessor x → ended_at x (by a log) ≡ false → RunsIt p a x (by a log) (goroutine_of o) → Fits p a x (by a log) o → Ready p a x (by a log) left over o
+ready p a (Marks w) log procs left over gone o law kept belongs state is going runs fits = absurd is
+ready p a (Leads c) log procs left over gone o law kept belongs state is going runs fits = absurd is
+ready p a (Runs m) log procs left over gone o law kept belongs state is going runs fits =
+    let own = by a log in
+    let rests = kept.rests m refl in
+    let whole : actor.Runs m.processor ≡ actor.Runs (state_of (processor_kind p.script.shapes p.layout) a own) = state ∙ law (setting p).kind a log ∙ is_processor p.script p.layout a rests.seat own in
+    let same : m.processor ≡ state_of (processor_kind p.script.shapes p.layout) a own = cc in
+    let it = allowed p a m own procs left over gone kept.counts rests belongs o going same (run_it o runs) fits in
+    record { may = it.may; allowed = it.allowed; counts = may_count p a m own procs left over gone kept.counts rests belongs o (run_it o runs) fits }
+  where
+    run_it : (o : Op) → RunsIt p a (Runs m) (by a log) (goroutine_of o) → RunsIt p a (Runs m) (by a log) (goroutine_of o)
+    run_it o r = r
+
+module _ (p : Planned) (a : ℕ) (x : ActorMachine) (o : Op) (me me' : Me (Unit {0}) (View Planned Op)) (x' : ActorMachine) (founds : List ℕ) (out : Option Answer) (procs : ℕ) (left : List ℕ) (over : List Bool) (gone : Bool) where
+  pub kept_after : IsKept p a x (by a me.0.log) procs left over gone → IsProcessor x → ended_at x (by a me.0.log) ≡ false → MayCount left over o → Ran asks goes a (Some o) (begins x o) me x' me' founds → Gave goes gives (begins x o) founds out → is_busy x' ≡ false → IsKept p a x' (by a me'.0.log) procs (left_after left o) (over_after over o) (gone_after gone o)
+  kept_after = go x where
+    go : (x : ActorMachine) → IsKept p a x (by a me.0.log) procs left over gone → IsProcessor x → ended_at x (by a me.0.log) ≡ false → MayCount left over o → Ran asks goes a (Some o) (begins x o) me x' me' founds → Gave goes gives (begins x o) founds out → is_busy x' ≡ false → IsKept p a x' (by a me'.0.log) procs (left_after left o) (over_after over o) (gone_after gone o)
+    go (Runs m) kept is going may ran gave idle = kept_then p a m o me me' x' founds out procs left over gone kept going may ran gave idle
+    go (Marks w) kept is going may ran gave idle = absurd is
+    go (Leads c) kept is going may ran gave idle = absurd is
+
+-- a processor ends an operation with an answer
+answered_some : (x : Option Answer) → answered x ≡ Some None → ⊥
+answered_some None e = absurd cc
+answered_some (Some y) e = absurd cc
+
+runs_answer : (m : Mutating) (founds : List ℕ) → Gave goes gives (Runs m) founds None → ⊥
+runs_answer m [] gave = gave
+runs_answer m (n ∷ ns) gave = answered_some (mutating.gives (machine_after mutating.goes m ns) n) (subst (λ (y : ActorMachine). gives y n ≡ Some None) (runs_after m ns) gave)
+
+pub has_answer : (x : ActorMachine) (o : Op) (founds : List ℕ) (out : Option Answer) → IsProcessor x → Gave goes gives (begins x o) founds out → out ≡ None → ⊥
+has_answer (Runs m) o founds out is gave e = runs_answer (mutating.begins m o) founds (subst (λ (y : Option Answer). Gave goes gives (Runs (mutating.begins m o)) founds y) e gave)
+has_answer (Marks w) o founds out is gave e = absurd is
+has_answer (Leads c) o founds out is gave e = absurd is
+
+-- ---- what is shown then
+
+not_both : (b c : Bool) → not (b || c) ≡ (not c && not b)
+not_both true true = refl
+not_both true false = refl
+not_both false true = refl
+not_both false false = refl
+
+and_on : (n c e b : Bool) → (n && c && (not e && not b)) ≡ ((n && c && not e) && not b)
+and_on true true e b = refl
+and_on true false e b = refl
+and_on false c e b = refl
+
+or_none : (b c : Bool) → c ≡ false → (b || c) ≡ b
+or_none true c e = refl
+or_none false c e = e
+
+pub left_then : (p : Planned) (o : Op) (own own' : List (Entry Op)) → OneMore o own own' → (g : ℕ) → left_by p own' g ≡ left_by p own g - (if asks_collector g (Some o) then 1 else 0)
+left_then p o own own' one g = let is = one.asked g in omega (arith, is)
+
+pub runs_then : (p : Planned) (a : ℕ) (o : Op) (own own' : List (Entry Op)) → OneMore o own own' → (g : ℕ) → runs_by p a own' g ≡ (runs_by p a own g && not (ends (Some o) g))
+runs_then p a o own own' one g =
+    let n = nat_lt g p.layout.goroutines in
+    let c = (g % p.layout.procs) == a in
+    ap (λ (e : Bool). n && c && not e) (one.ended g) ∙ ap (λ (e : Bool). n && c && e) (not_both (ends (Some o) g) (ended_in own g)) ∙ and_on n c (ended_in own g) (ends (Some o) g)
+
+pub ended_then : (x : ActorMachine) (o : Op) (x' : ActorMachine) (founds : List ℕ) (own own' : List (Entry Op)) → IsProcessor x → x' ≡ machine_after goes (begins x o) founds → ended_at x own ≡ false → OneMore o own own' → ended_at x' own' ≡ leaves (Some o)
+ended_then (Marks w) o x' founds own own' is after going one = absurd is
+ended_then (Leads c) o x' founds own own' is after going one = absurd is
+ended_then (Runs m) o x' founds own own' is after going one = subst (λ (y : ActorMachine). ended_at y own' ≡ leaves (Some o)) (sym (after ∙ runs_after (mutating.begins m o) founds)) (one.left ∙ or_none (leaves (Some o)) (has_left own) going)
+
+pub shows_then : (o : Op) (h h' : Handle) (founds : List ℕ) (out : Option Answer) → IsProcessor (machine_of h) → ended_of h ≡ false → number_of h' ≡ number_of h → Ran asks goes (number_of h) (Some o) (begins (machine_of h) o) h.hand.seat.me (machine_of h') h'.hand.seat.me founds → Gave goes gives (begins (machine_of h) o) founds out → ShowsAfter o h h'
+shows_then o h h' founds out is going number ran gave =
+    let log = (view_of h').log in
+    let one : OneMore o (own_of h) (own_of h') = subst (λ (a : ℕ). OneMore o (own_of h) (by a log)) (sym number) (ran_more (number_of h) o (begins (machine_of h) o) (machine_of h') h.hand.seat.me h'.hand.seat.me founds out ran gave) in
+    record {
+      left = λ g. ap (λ (p : Planned). left_by p (own_of h') g) ran.plan ∙ left_then (view_of h).plan o (own_of h) (own_of h') one g;
+      runs = λ g. ap (λ (p : Planned). runs_by p (number_of h') (own_of h') g) ran.plan ∙ ap (λ (a : ℕ). runs_by (view_of h).plan a (own_of h') g) number ∙ runs_then (view_of h).plan (number_of h) o (own_of h) (own_of h') one g;
+      ended = ended_then (machine_of h) o (machine_of h') founds (own_of h) (own_of h') is ran.machine going one;
+    }
+
+-- ---- how it ends
+
+told_runs : (m : Mutating) (found : ℕ → ℕ) (n : ℕ) → told listing (Runs m) found n ≡ Runs (told mutating.listing m found n)
+told_runs m found zero = refl
+told_runs m found (suc n) = ap (λ (x : ActorMachine). goes x (found n)) (told_runs m found n)
+
+pub ends_so : (x : ActorMachine) (o : Op) (most : ℕ) → OperationsEnd → IsProcessor x → may_wait o ≡ false → ((b : Bool) → most_steps b o ≤ most) → (found : ℕ → ℕ) → EndsWithin listing most (begins x o) found
+ends_so (Marks w) o most law is short few found = absurd is
+ends_so (Leads c) o most law is short few found = absurd is
+ends_so (Runs m) o most law is short few found =
+    let e = law m o found short in
+    let less = few (marking_at m.processor.poll) in
+    let at = e.few in
+    record { steps = e.steps; few = omega (arith, less, at); ended = subst (λ (y : ActorMachine). is_busy y ≡ false) (sym (told_runs (mutating.begins m o) found e.steps)) e.ended }
+
+pub either_few : (i j n : ℕ) → i ≤ n → j ≤ n → (b : Bool) → (if b then i else j) ≤ n
+either_few i j n le me true = le
+either_few i j n le me false = me
+
+-- ---- a poll makes room
+
+stores : (m : Mutating) (founds : List ℕ) → PollsMakeRoom → MayStore m.processor → MayStore (machine_after mutating.goes m founds).processor
+stores m [] law may = may
+stores m (n ∷ ns) law may = law.goes_on (machine_after mutating.goes m ns).shapes (machine_after mutating.goes m ns).processor n (stores m ns law may)
+
+pub has_room_then : (x x' : ActorMachine) (founds : List ℕ) → PollsMakeRoom → IsProcessor x → x' ≡ machine_after goes (begins x op.Poll) founds → ((m : Mutating) → x' ≡ Runs m → mutating.is_busy m ≡ false) → has_room_at x' ≡ true
+has_room_then (Marks w) x' founds law is after idle = absurd is
+has_room_then (Leads c) x' founds law is after idle = absurd is
+has_room_then (Runs m) x' founds law is after idle =
+    let n : Mutating = machine_after mutating.goes (mutating.begins m op.Poll) founds in
+    let same : x' ≡ Runs n = after ∙ runs_after (mutating.begins m op.Poll) founds in
+    let still : mutating.is_busy n ≡ false = idle n same in
+    subst (λ (y : ActorMachine). has_room_at y ≡ true) (sym same) (law.room n.processor (op.Store 0 0 0 0) still (stores (mutating.begins m op.Poll) founds law (law.begins m.shapes m.processor)))

@@ -1,0 +1,19 @@
+use Rattle.std.proofs.Common.{◌≡◌, ◌≤◌, ◌-◌, ℕ, [], length, Some}
+use Rattle.std.specs.Prelude.{slice_get}
+use Rattle.std.specs.Vec.{vec_capacity}
+use Rattle.gh_table.specs.Views.{rest_carried}
+use Rattle.gh_base.specs.Cells.{seats_of}
+use Rattle.gh_shared.specs.declared.handle.Handle.{Handle}
+use Rattle.gh_shared.specs.Handles.{IsFresh}
+use Rattle.gh_shared.proofs.heap.Heap.deal.Given as goal
+
+abbrev pub invariant-loop-actor : goal.invariant-loop-actor
+invariant-loop-actor l = record {
+  many : l.many ≡ seats_of l.plan.layout;
+  within : l.actor ≤ l.many;
+  room : l.many ≤ vec_capacity l.handles;
+  so_far : length l.handles.items ≡ l.actor;
+  table : l.rest.table_id ≡ l.self.table.shared.table_id;
+  rest : l.rest.me ≡ (rest_carried l.plan l.actor (l.many - l.actor), []);
+  each : (a : ℕ) (h : Handle) → slice_get l.handles.items a ≡ Some h → IsFresh l.self a h;
+}

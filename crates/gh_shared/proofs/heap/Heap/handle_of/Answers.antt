@@ -1,0 +1,29 @@
+use Rattle.std.proofs.Common.{◌∙◌, ap, refl, subst, sym}
+use Rattle.gh_script.specs.Program.{Program}
+use Rattle.gh_shared.specs.Counting.{CountsFirst}
+use Rattle.gh_shared.proofs.Fresh.{kept_so, opens_so}
+use Rattle.gh_shared.proofs.heap.Heap.handle_of.Goals as goal
+
+pub new-hand-requires : goal.new-hand-requires
+new-hand-requires c =
+    let f = opens_so c.args.plan.now c.args.actor c.in_ok-machine.machine c.args.place.me.0 (ap (λ m. m.0) c.requires.seat) c.in_ok-machine.ensures in
+    record { carries = f.carries; belongs = f.belongs; state = f.state; slotless = ap (λ m. m.1) c.requires.seat }
+
+pub invariant_of-result : goal.invariant_of-result
+invariant_of-result c =
+    let counts = c.in_ok-counts.counts in
+    let is = c.new-hand.ensures in
+    record { kept = rw (is.0) (kept_so c.args.plan.now c.args.actor c.new-hand.result.machine c.new-hand.result.seat.me.0 counts.procs counts.left.items counts.over.items counts.gone (ap (λ m. m.0) is.3 ∙ ap (λ m. m.0) c.requires.seat) (is.1 ∙ c.in_ok-machine.ensures) (subst (λ (p : Program). CountsFirst p counts.procs counts.left.items counts.over.items counts.gone) c.requires.script c.in_ok-counts.ensures) c.requires.lays) }
+
+pub returns : goal.returns
+returns c =
+    let is = c.new-hand.ensures in
+    record {
+      of = record {
+        table = is.2 ∙ c.requires.table;
+        plan = ap (λ m. m.0.plan) is.3 ∙ ap (λ m. m.0.plan) c.requires.seat ∙ sym c.requires.key;
+      };
+      number = is.0;
+      machine = is.1 ∙ c.in_ok-machine.ensures ∙ rw (c.requires.key) refl;
+      view = ap (λ m. m.0) is.3 ∙ ap (λ m. m.0) c.requires.seat ∙ rw (c.requires.key) refl;
+    }

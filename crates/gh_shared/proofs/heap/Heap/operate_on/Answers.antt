@@ -1,0 +1,59 @@
+use Rattle.std.proofs.Common.{◌∙◌, Option, Some, subst}
+use Rattle.gh_base.specs.declared.value.Answer.{Answer}
+use Rattle.gh_table.specs.Runs.{Gave}
+use Rattle.gh_shared.specs.Handles.{machine_of}
+use Rattle.gh_shared.specs.Machines.{begins, gives, goes}
+use Rattle.gh_shared.proofs.Ready.{has_answer, kept_after, ready, shows_then}
+use Rattle.gh_shared.proofs.heap.Heap.operate_on.Goals as goal
+
+pub operate_on-out-requires-clause-may : goal.operate_on-out-requires-clause-may
+operate_on-out-requires-clause-may g c =
+    let h = c.args.h.now in
+    let v = h.hand.seat.me.0 in
+    let may = c.requires in
+    (ready v.plan h.hand.actor h.hand.machine v.log h.counts.procs h.counts.left.items h.counts.over.items h.counts.gone c.args.op c.a_state_is_of_its_own_entries.ensures h.kept h.hand.belongs h.hand.state may.going.processor may.going.going may.runs may.fits).may
+
+pub operate_on-out-requires-clause-allowed : goal.operate_on-out-requires-clause-allowed
+operate_on-out-requires-clause-allowed g c =
+    let h = c.args.h.now in
+    let v = h.hand.seat.me.0 in
+    let may = c.requires in
+    (ready v.plan h.hand.actor h.hand.machine v.log h.counts.procs h.counts.left.items h.counts.over.items h.counts.gone c.args.op c.a_state_is_of_its_own_entries.ensures h.kept h.hand.belongs h.hand.state may.going.processor may.going.going may.runs may.fits).allowed
+
+pub note-requires : goal.note-requires
+note-requires g c =
+    let h = c.args.h.now in
+    let v = h.hand.seat.me.0 in
+    let may = c.requires in
+    (ready v.plan h.hand.actor h.hand.machine v.log h.counts.procs h.counts.left.items h.counts.over.items h.counts.gone c.args.op c.a_state_is_of_its_own_entries.ensures h.kept h.hand.belongs h.hand.state may.going.processor may.going.going may.runs may.fits).counts
+
+pub invariant_of-h : goal.invariant_of-h
+invariant_of-h g c =
+    let h = c.args.h.now in
+    let v = h.hand.seat.me.0 in
+    let may = c.requires in
+    let new = c.operate_on-out.new.self in
+    let did = c.operate_on-out.ensures in
+    let counts = c.note.ensures in
+    let r = ready v.plan h.hand.actor h.hand.machine v.log h.counts.procs h.counts.left.items h.counts.over.items h.counts.gone c.args.op c.a_state_is_of_its_own_entries.ensures h.kept h.hand.belongs h.hand.state may.going.processor may.going.going may.runs may.fits in
+    record { kept = rw (did.same.0, did.ran.1.plan, counts.left, counts.over, counts.gone, counts.procs) (kept_after v.plan h.hand.actor h.hand.machine c.args.op h.hand.seat.me new.seat.me new.machine did.ran.0 c.operate_on-out.result h.counts.procs h.counts.left.items h.counts.over.items h.counts.gone h.kept may.going.processor may.going.going r.counts did.ran.1 did.ran.2 did.idle) }
+
+pub unreachable-requires : goal.unreachable-requires
+unreachable-requires g c = has_answer c.args.h.now.hand.machine c.args.op c.operate_on-out.ensures.ran.0 c.operate_on-out.result c.requires.going.processor c.operate_on-out.ensures.ran.2 c.in-None.is
+
+pub returns : goal.returns
+returns g c =
+    let h = c.args.h.now in
+    let may = c.requires in
+    let did = c.operate_on-out.ensures in
+    let gave = subst (λ (out : Option Answer). Gave goes gives (begins (machine_of h) c.args.op) did.ran.0 out) c.in-Some.is did.ran.2 in (
+      did.ran.0,
+      record {
+        of = record { table = did.same.1 ∙ may.going.of.table; plan = did.ran.1.plan ∙ may.going.of.plan };
+        number = did.same.0;
+        ran = did.ran.1;
+        gave = gave;
+        saw = did.saw;
+        shows = shows_then c.args.op h _ did.ran.0 (Some c.in-Some.answer) may.going.processor may.going.going did.same.0 did.ran.1 gave;
+      },
+    )

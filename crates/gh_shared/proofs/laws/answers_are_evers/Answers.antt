@@ -1,0 +1,15 @@
+use Rattle.std.proofs.Common.{subst, sym}
+use Rattle.gh_script.specs.Program.{Program, WellFormed}
+use Rattle.gh_world.specs.World.{LaysOut}
+use Rattle.gh_shared.specs.Handles.{plan_of}
+use Rattle.gh_shared.proofs.laws.answers_are_evers.Goals as goal
+
+pub returns-clause-stands : goal.returns-clause-stands
+returns-clause-stands c es legal =
+    let p = plan_of c.args.heap.now in
+    c.every_run_stands.ensures.lists p.script p.layout es (subst WellFormed (sym c.requires.script) c.is_well_formed.ensures) (subst (λ (q : Program). LaysOut q p.layout) (sym c.requires.script) c.requires.layout) legal
+
+pub returns-clause-answers : goal.returns-clause-answers
+returns-clause-answers c es a legal lt =
+    let p = plan_of c.args.heap.now in
+    (c.every_run_stands.ensures.lists p.script p.layout es (subst WellFormed (sym c.requires.script) c.is_well_formed.ensures) (subst (λ (q : Program). LaysOut q p.layout) (sym c.requires.script) c.requires.layout) legal).stands.answers a lt

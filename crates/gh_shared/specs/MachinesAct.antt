@@ -1,0 +1,96 @@
+-- A machine is its actor in the lists of its heap: it asks for what the actor asks for, and goes over to what that goes over to.
+use Rattle.std.specs.Prelude.{◌≡◌, ℕ, false, true, List}
+use Rattle.gh_base.specs.declared.layout.Layout.{Layout}
+use Rattle.gh_base.specs.declared.operation.Op.{Op}
+use Rattle.gh_base.specs.declared.operation.Op.TheVariants as op
+use Rattle.gh_base.specs.declared.shape.Shape.{Shape}
+use Rattle.gh_coord.specs.Ends as coord
+use Rattle.gh_mutator.specs.Ends as mutator
+use Rattle.gh_mutator.specs.Listing as listing
+use Rattle.gh_mutator.specs.Mutating as mutating
+use Rattle.gh_mutator.specs.Mutating.{Mutating}
+use Rattle.gh_worker.specs.Ends as worker
+use Rattle.gh_world.specs.declared.handshake.Actor.TheVariants as actor
+use Rattle.gh_shared.specs.declared.machine.ActorMachine.{ActorMachine}
+use Rattle.gh_shared.specs.declared.machine.ActorMachine.TheVariants.{Leads, Marks, Runs}
+use Rattle.gh_shared.specs.Machines.{actor_of, asks, begins, Belongs, goes, is_busy, IsProcessorOf, layout, MayBegin}
+use Rattle.gh_shared.specs.Plans.{Planned, setting}
+use Rattle.std.proofs.Common.{ap, sym, ◌∙◌, refl}
+use Rattle.std.proofs.Props.{props}
+
+layout_once : (l m : Layout) → IsProp (l ≡ m)
+layout_once l m = Prim.hlevel props
+
+processor_once : (p : Planned) (m : Mutating) → IsProp (IsProcessorOf p m)
+processor_once p m = Prim.hlevel props
+
+pub belongs_once : (p : Planned) (m : ActorMachine) → IsProp (Belongs p m)
+belongs_once p (Runs m) = processor_once p m
+belongs_once p (Marks w) = layout_once w.layout p.layout
+belongs_once p (Leads c) = layout_once c.layout p.layout
+
+pub layout_is : (p : Planned) (m : ActorMachine) → Belongs p m → layout m ≡ (setting p).layout
+layout_is p (Runs m) of = of.layout
+layout_is p (Marks w) of = of
+layout_is p (Leads c) of = of
+
+pub busy_is : (p : Planned) (m : ActorMachine) → Belongs p m → (setting p).kind.busy (actor_of m) ≡ is_busy m
+busy_is p (Runs m) of = refl
+busy_is p (Marks w) of = refl
+busy_is p (Leads c) of = refl
+
+pub asks_is : (p : Planned) (m : ActorMachine) → Belongs p m → (setting p).kind.asks (actor_of m) ≡ asks m
+asks_is p (Runs m) of = refl
+asks_is p (Marks w) of = refl
+asks_is p (Leads c) of = refl
+
+pub takes_is : (p : Planned) (m : ActorMachine) (found : ℕ) → Belongs p m → (setting p).kind.takes (actor_of m) found ≡ actor_of (goes m found)
+takes_is p (Runs m) found of = ap (λ (shapes : List Shape). actor.Runs (listing.takes shapes m.processor found)) (sym of.shapes)
+takes_is p (Marks w) found of = refl
+takes_is p (Leads c) found of = refl
+
+pub still_belongs : (p : Planned) (m : ActorMachine) (found : ℕ) → Belongs p m → Belongs p (goes m found)
+still_belongs p (Runs m) found of = record { shapes = of.shapes; layout = mutator.stays m found ∙ of.layout }
+still_belongs p (Marks w) found of = worker.stays w found ∙ of
+still_belongs p (Leads c) found of = coord.stays c found ∙ of
+
+-- ---- what a processor begins
+
+pub idle : (m : ActorMachine) (o : Op) → MayBegin m o → is_busy m ≡ false
+idle (Runs m) o may = may.idle
+idle (Marks w) o may = absurd may
+idle (Leads c) o may = absurd may
+
+processor_runs : (m : Mutating) (o : Op) → mutating.is_busy (mutating.begins m o) ≡ true
+processor_runs m (op.New g d t) = refl
+processor_runs m (op.Load g d b k) = refl
+processor_runs m (op.Store g b k v) = refl
+processor_runs m (op.GetGlobal g d k) = refl
+processor_runs m (op.SetGlobal g k v) = refl
+processor_runs m (op.Int g d n) = refl
+processor_runs m (op.Move g d s) = refl
+processor_runs m (op.Nil g d) = refl
+processor_runs m (op.Gc g) = refl
+processor_runs m op.Poll = refl
+processor_runs m (op.End g) = refl
+processor_runs m op.Leave = refl
+
+pub runs : (m : ActorMachine) (o : Op) → MayBegin m o → is_busy (begins m o) ≡ true
+runs (Runs m) o may = processor_runs m o
+runs (Marks w) o may = absurd may
+runs (Leads c) o may = absurd may
+
+pub begins_is : (p : Planned) (m : ActorMachine) (o : Op) → Belongs p m → MayBegin m o → (setting p).kind.begins (actor_of m) o ≡ actor_of (begins m o)
+begins_is p (Runs m) o of may = rw may.there (ap (λ (shapes : List Shape). actor.Runs (listing.begins shapes m.processor o)) (sym of.shapes))
+begins_is p (Marks w) o of may = absurd may
+begins_is p (Leads c) o of may = absurd may
+
+layout_begun : (m : Mutating) (o : Op) → mutating.layout (mutating.begins m o) ≡ mutating.layout m
+layout_begun m op.Poll = refl
+layout_begun m op.Leave = refl
+layout_begun m _ = refl
+
+pub belongs_begun : (p : Planned) (m : ActorMachine) (o : Op) → Belongs p m → Belongs p (begins m o)
+belongs_begun p (Runs m) o of = record { shapes = of.shapes; layout = layout_begun m o ∙ of.layout }
+belongs_begun p (Marks w) o of = of
+belongs_begun p (Leads c) o of = of

@@ -1,0 +1,22 @@
+//! What the answers of a heap mean.
+
+ghost use Rattle.gh_shared.specs.Calls.{AnswersAreEvers, EveryListStands};
+ghost use Rattle.gh_shared.specs.Handles.{plan_of, IsHeapOf};
+
+use crate::heap::Heap;
+use gh_script::Script;
+use gh_world::every_run_stands;
+
+/// Whatever legal list of the heap's steps, in whatever order the threads made them: all stands that `gh_world` says of the
+/// lists of a script. So each processor was answered as the heap that never frees answers it, save `full`, which stands only
+/// where there was no room, and at most one answer that it has still to give.
+///
+/// Each call has seen such a list with its own entries in it, and the words at the close are those after one.
+pub fn answers_are_evers(heap: &Heap, script: &Script)
+    requires { IsHeapOf script.now heap.now }
+    ensures stands { EveryListStands (plan_of heap.now) }
+    ensures answers { AnswersAreEvers (plan_of heap.now) }
+{
+    script.is_well_formed();
+    every_run_stands();
+}

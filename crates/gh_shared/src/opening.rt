@@ -1,0 +1,175 @@
+//! How a heap opens, with a handle for each actor.
+
+ghost use Rattle.std.specs.Prelude.{◌≡◌, ◌<◌, ◌≤◌, List, [], length, slice_get, IfOk, Some};
+ghost use Rattle.gh_base.specs.Cells.{seats_of};
+ghost use Rattle.gh_table.specs.Views.{all_carried, one_carried};
+ghost use Rattle.gh_world.specs.World.{LaysOut};
+ghost use Rattle.gh_shared.specs.Handles.{AreFresh, IsFresh, IsHeapOf};
+ghost use Rattle.gh_shared.specs.Machines.{opening};
+ghost use Rattle.gh_shared.specs.Plans.{setting};
+
+use crate::counts::Counts;
+use crate::fault::OpenFault;
+use crate::handle::Handle;
+use crate::heap::Heap;
+use crate::machine::ActorMachine;
+use crate::plan::HeapPlan;
+use gh_base::{Layout, Op};
+use gh_coord::{Coord, NEVER};
+use gh_mutator::Mutator;
+use gh_script::Script;
+use gh_table::{ActorSeat, Hand, open, split_first};
+use gh_words::Plain;
+use gh_worker::Worker;
+use gh_world::most_cycles;
+use std::alloc::{AllocError, Global};
+use std::snapshot::Snapshot;
+
+/// The layout of the script's heap.
+fn layout_of(script: &Script) -> Layout
+    ensures { LaysOut script.now result }
+{
+    script.is_well_formed();
+    let settings = script.settings();
+    match Layout::new(
+        settings.arena,
+        settings.globals,
+        settings.procs,
+        settings.workers,
+        script.goroutines(),
+    ) {
+        Ok(layout) => layout,
+        Err(_) => unreachable!(),
+    }
+}
+
+/// These words in one list.
+fn copied(alloc: Global, plain: &Plain, many: u32) -> Result<Vec<u64>, AllocError>
+    requires { length plain.now ≡ many }
+    ensures { IfOk result (λ words. words.items ≡ plain.now) }
+{
+    let mut words = Vec::new(alloc);
+    for i in 0..many {
+        words.push(plain.word_at(i))?;
+    }
+    Ok(words)
+}
+
+/// The machine of the actor of this number, before its first step.
+fn machine_at<'s>(
+    alloc: Global,
+    plan: &HeapPlan,
+    script: &'s Script,
+    actor: u32,
+) -> Result<ActorMachine<'s>, AllocError>
+    requires script { script.now ≡ plan.now.script }
+    requires actor { actor < seats_of plan.now.layout }
+    ensures { IfOk result (λ m. m ≡ opening plan.now actor) }
+{
+    script.is_well_formed();
+    let layout = &plan.layout;
+    if actor < layout.procs {
+        return Ok(ActorMachine::Runs(Mutator::new(layout, actor, script.shapes())));
+    }
+    if actor < layout.procs + layout.workers {
+        return Ok(ActorMachine::Marks(Worker::new(layout, actor)));
+    }
+    let settings = script.settings();
+    let cycles = most_cycles(script);
+    let coordinator = Coord::new(
+        alloc,
+        layout,
+        actor,
+        settings.gogc,
+        settings.minheap,
+        cycles,
+    )?;
+    Ok(ActorMachine::Leads(coordinator))
+}
+
+impl Heap {
+    /// A heap that runs the script, and a handle for each of its actors: the processors, then the workers, and the
+    /// coordinator last. It takes all the memory that there is need for, and is refused only for want of that.
+    pub fn open<'s>(alloc: Global, script: &'s Script) -> Result<(Heap, Vec<Handle<'s>>), OpenFault>
+        ensures heap { IfOk result (λ r. IsHeapOf script.now r.0) }
+        ensures handles { IfOk result (λ r. AreFresh r.0 r.1.items) }
+    {
+        let layout = layout_of(script);
+        let plan = HeapPlan {
+            script: Snapshot::of(script),
+            layout,
+        };
+        let (heap, seat) = Heap::of_plan(alloc, &plan)?;
+        let handles = heap.deal(alloc, seat, &plan, script)?;
+        Ok((heap, handles))
+    }
+
+    /// A heap of this plan, and a seat that carries all its actors.
+    fn of_plan(
+        alloc: Global,
+        plan: &HeapPlan,
+    ) -> Result<(Heap, ActorSeat<HeapPlan, Op>), AllocError>
+        ensures key { IfOk result (λ r. r.0.table.shared.key ≡ plan.now) }
+        ensures layout { IfOk result (λ r. r.0.layout ≡ plan.now.layout) }
+        ensures table { IfOk result (λ r. r.1.table_id ≡ r.0.table.shared.table_id) }
+        ensures seat { IfOk result (λ r. r.1.me ≡ (all_carried plan.now (setting plan.now).actors, [])) }
+    {
+        let plain = Plain::new(alloc, &plan.layout, NEVER)?;
+        let words = copied(alloc, &plain, plan.layout.words())?;
+        let (table, seat) = open(alloc, words.as_slice(), plan)?;
+        let heap = Heap {
+            table,
+            layout: plan.layout,
+        };
+        Ok((heap, seat))
+    }
+
+    /// The handle of the actor whom this seat carries, before its first step.
+    fn handle_of<'s>(
+        &self,
+        alloc: Global,
+        place: ActorSeat<HeapPlan, Op>,
+        plan: &HeapPlan,
+        script: &'s Script,
+        actor: u32,
+    ) -> Result<Handle<'s>, AllocError>
+        requires key { self.now.table.shared.key ≡ plan.now }
+        requires script { script.now ≡ plan.now.script }
+        requires lays { LaysOut plan.now.script plan.now.layout }
+        requires actor { actor < seats_of plan.now.layout }
+        requires table { place.table_id ≡ self.now.table.shared.table_id }
+        requires seat { place.me ≡ (one_carried plan.now actor, []) }
+        ensures { IfOk result (λ h. IsFresh self.now actor h) }
+    {
+        let machine = machine_at(alloc, plan, script, actor)?;
+        let counts = Counts::new(alloc, script)?;
+        let hand = Hand::new(actor, machine, place);
+        Ok(Handle { hand, counts })
+    }
+
+    /// A handle for each actor, where the seat carries them all.
+    fn deal<'s>(
+        &self,
+        alloc: Global,
+        seat: ActorSeat<HeapPlan, Op>,
+        plan: &HeapPlan,
+        script: &'s Script,
+    ) -> Result<Vec<Handle<'s>>, AllocError>
+        requires key { self.now.table.shared.key ≡ plan.now }
+        requires script { script.now ≡ plan.now.script }
+        requires lays { LaysOut plan.now.script plan.now.layout }
+        requires table { seat.table_id ≡ self.now.table.shared.table_id }
+        requires seat { seat.me ≡ (all_carried plan.now (setting plan.now).actors, []) }
+        ensures { IfOk result (λ handles. AreFresh self.now handles.items) }
+    {
+        let mut rest = seat;
+        let many = plan.layout.seats();
+        let mut handles = Vec::with_capacity(alloc, many as usize)?;
+        for actor in 0..many {
+            let place = split_first(&self.table.shared, &mut rest);
+            let handle = self.handle_of(alloc, place, plan, script, actor)?;
+            handles.push_reserved(handle);
+        }
+        Ok(handles)
+    }
+}
