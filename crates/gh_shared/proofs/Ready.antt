@@ -109,11 +109,17 @@ ended_then (Marks w) o x' founds own own' is after going one = absurd is
 ended_then (Leads c) o x' founds own own' is after going one = absurd is
 ended_then (Runs m) o x' founds own own' is after going one = subst (λ (y : ActorMachine). ended_at y own' ≡ leaves (Some o)) (sym (after ∙ runs_after (mutating.begins m o) founds)) (one.left ∙ or_none (leaves (Some o)) (has_left own) going)
 
+processor_then : (x : ActorMachine) (o : Op) (x' : ActorMachine) (founds : List ℕ) → IsProcessor x → x' ≡ machine_after goes (begins x o) founds → IsProcessor x'
+processor_then (Marks w) o x' founds is after = absurd is
+processor_then (Leads c) o x' founds is after = absurd is
+processor_then (Runs m) o x' founds is after = subst IsProcessor (sym (after ∙ runs_after (mutating.begins m o) founds)) tt
+
 pub shows_then : (o : Op) (h h' : Handle) (founds : List ℕ) (out : Option Answer) → IsProcessor (machine_of h) → ended_of h ≡ false → number_of h' ≡ number_of h → Ran asks goes (number_of h) (Some o) (begins (machine_of h) o) h.hand.seat.me (machine_of h') h'.hand.seat.me founds → Gave goes gives (begins (machine_of h) o) founds out → ShowsAfter o h h'
 shows_then o h h' founds out is going number ran gave =
     let log = (view_of h').log in
     let one : OneMore o (own_of h) (own_of h') = subst (λ (a : ℕ). OneMore o (own_of h) (by a log)) (sym number) (ran_more (number_of h) o (begins (machine_of h) o) (machine_of h') h.hand.seat.me h'.hand.seat.me founds out ran gave) in
     record {
+      processor = processor_then (machine_of h) o (machine_of h') founds is ran.machine;
       left = λ g. ap (λ (p : Planned). left_by p (own_of h') g) ran.plan ∙ left_then (view_of h).plan o (own_of h) (own_of h') one g;
       runs = λ g. ap (λ (p : Planned). runs_by p (number_of h') (own_of h') g) ran.plan ∙ ap (λ (a : ℕ). runs_by (view_of h).plan a (own_of h') g) number ∙ runs_then (view_of h).plan (number_of h) o (own_of h) (own_of h') one g;
       ended = ended_then (machine_of h) o (machine_of h') founds (own_of h) (own_of h') is ran.machine going one;

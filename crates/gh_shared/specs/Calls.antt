@@ -60,8 +60,9 @@ pub record May (heap : Heap) (h : Handle) (o : Op) : Type 0 where
   pub runs : RunsIt (view_of h).plan (number_of h) (machine_of h) (own_of h) (goroutine_of o)
   pub fits : Fits (view_of h).plan (number_of h) (machine_of h) (own_of h) o
 
--- what the handle shows once this was begun, where nothing had ended
+-- what the handle of a processor shows once this was begun, where nothing had ended
 pub record ShowsAfter (o : Op) (h h' : Handle) : Type 0 where
+  pub processor : IsProcessor (machine_of h')
   pub left : (g : ℕ) → left_of h' g ≡ left_of h g - (if asks_collector g (Some o) then 1 else 0)
   pub runs : (g : ℕ) → runs_in h' g ≡ (runs_in h g && not (ends (Some o) g))
   pub ended : ended_of h' ≡ leaves (Some o)

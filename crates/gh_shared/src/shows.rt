@@ -1,7 +1,8 @@
 //! What a handle shows of its actor.
 
-ghost use Rattle.std.specs.Prelude.{◌≡◌, true};
-ghost use Rattle.gh_shared.specs.Handles.{ended_of, has_room_of, left_of, number_of, runs_in};
+ghost use Rattle.std.specs.Prelude.{◌≡◌, ◌↔◌, true, false, ℕ, IsTrue};
+ghost use Rattle.gh_shared.specs.Calls.{IsCoordinator, IsProcessor, IsWorker};
+ghost use Rattle.gh_shared.specs.Handles.{ended_of, has_room_of, left_of, machine_of, number_of, runs_in};
 
 use crate::handle::Handle;
 use crate::machine::ActorMachine;
@@ -14,6 +15,27 @@ impl<'s> Handle<'s> {
         self.hand.actor
     }
 
+    /// The actor is a processor.
+    pub fn is_processor(&self) -> bool
+        ensures { IsTrue result ↔ IsProcessor (machine_of self.now) }
+    {
+        matches!(&self.hand.machine, ActorMachine::Runs(_))
+    }
+
+    /// The actor is a worker.
+    pub fn is_worker(&self) -> bool
+        ensures { IsTrue result ↔ IsWorker (machine_of self.now) }
+    {
+        matches!(&self.hand.machine, ActorMachine::Marks(_))
+    }
+
+    /// The actor is the coordinator.
+    pub fn is_coordinator(&self) -> bool
+        ensures { IsTrue result ↔ IsCoordinator (machine_of self.now) }
+    {
+        matches!(&self.hand.machine, ActorMachine::Leads(_))
+    }
+
     /// Goroutine `g` is one of this processor, and has not ended.
     pub fn runs(&self, g: u32) -> bool
         ensures { result ≡ runs_in self.now g }
@@ -23,6 +45,18 @@ impl<'s> Handle<'s> {
             Some(over) => g % counts.procs == self.hand.actor && !*over,
             None => false,
         }
+    }
+
+    /// None of this processor's goroutines is left: it may leave.
+    pub fn runs_none(&self) -> bool
+        ensures { IsTrue result → (g : ℕ) → runs_in self.now g ≡ false }
+    {
+        for g in 0..32 {
+            if self.runs(g) {
+                return false;
+            }
+        }
+        true
     }
 
     /// How many `new` and `gc` the script has for goroutine `g`, less those begun.
