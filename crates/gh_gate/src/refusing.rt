@@ -1,5 +1,5 @@
 //! No threads.
-ghost use Rattle.std.specs.Prelude.{ℕ, ⊤};
+ghost use Rattle.std.specs.Prelude.{◌≡◌, ℕ, ⊤};
 
 use crate::job::Spawner;
 
@@ -12,7 +12,9 @@ pub struct NoSpawn {
 
 impl NoSpawn {
     /// A spawner that has not yet refused.
-    pub fn new() -> NoSpawn {
+    pub fn new() -> NoSpawn
+        ensures { (result.faults ≡ 0) × (result.ran ≡ 0) }
+    {
         NoSpawn { faults: 0, ran: 0 }
     }
 }

@@ -1,5 +1,5 @@
 //! Real threads.
-ghost use Rattle.std.specs.Prelude.{ℕ};
+ghost use Rattle.std.specs.Prelude.{◌≡◌, ℕ};
 
 use crate::job::Spawner;
 
@@ -12,7 +12,9 @@ pub struct Threads {
 
 impl Threads {
     /// A spawner without a fault, which has run no jobs.
-    pub fn new() -> Threads {
+    pub fn new() -> Threads
+        ensures { (result.faults ≡ 0) × (result.ran ≡ 0) }
+    {
         Threads { faults: 0, ran: 0 }
     }
 }

@@ -1,8 +1,9 @@
 //! How handles are gathered, and the heap is closed.
 
 ghost use Rattle.std.specs.Prelude.{◌≡◌, ◌<◌};
+ghost use mathlib.Core.Option.{some};
+ghost use lib.ListN.{get_elem?};
 ghost use Rattle.std.specs.Slots.{slots_items, slots_len, IsFull};
-ghost use Rattle.gh_base.specs.Cells.{length_of};
 ghost use Rattle.gh_table.specs.Rule.{IsAfterOneList};
 ghost use Rattle.gh_shared.specs.Calls.{Gathered};
 ghost use Rattle.gh_shared.specs.Handles.{machine_of, number_of, plan_of, view_of, IsOf};
@@ -60,6 +61,7 @@ impl Closed {
     /// The word of this number.
     pub fn word(&self, i: usize) -> u64
         requires { i < slots_len self.now.words.words }
+        ensures { get_elem? (slots_items self.now.words.words) i ≡ some result }
     {
         self.words.word(i)
     }

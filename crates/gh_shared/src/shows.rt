@@ -49,7 +49,7 @@ impl<'s> Handle<'s> {
 
     /// None of this processor's goroutines is left: it may leave.
     pub fn runs_none(&self) -> bool
-        ensures { IsTrue result → (g : ℕ) → runs_in self.now g ≡ false }
+        ensures { IsTrue result ↔ ((g : ℕ) → runs_in self.now g ≡ false) }
     {
         for g in 0..32 {
             if self.runs(g) {
