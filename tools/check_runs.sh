@@ -89,6 +89,8 @@ limits() {
   local g
   { echo 'go a'; yes 'nil r0' | head -n 200000; printf end; } >"$work/most"
   run all runs/longest.out 0 "$work/most" replay
+  printf 'go a\nint r0 18446744073709551615\nend\n' >"$work/greatest"
+  run all runs/longest.out 0 "$work/greatest" replay
   { echo 'go a'; yes 'nil r0' | head -n 200001; printf end; } >"$work/more"
   limit more 'line 200003: limit'
   yes '#' | tr -d '\n' | head -c 4194304 >"$work/long"

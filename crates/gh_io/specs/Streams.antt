@@ -1,5 +1,5 @@
 -- What is known of a stream in memory, and what a write that failed in the middle has done.
-use Rattle.std.specs.Prelude.{ℕ, ◌-◌, ◌<◌, ◌≤◌, ◌⊎◌, min, List, [], ◌++◌, length, take, drop, Option, Contains}
+use Rattle.std.specs.Prelude.{ℕ, ◌-◌, ◌<◌, ◌≤◌, ◌⊎◌, min, List, [], ◌++◌, length, take, drop, Option, None, Some, Contains}
 use Rattle.std.specs.Io.KnownBytes.{Appends}
 use Rattle.gh_io.specs.Counts.{one_more}
 
@@ -19,18 +19,33 @@ PartOfSecondIsOfBoth =
     (before between after : Option (List ℕ)) (first second : List ℕ) → Appends before between first → TookPart between after second →
     TookPart before after (first ++ second)
 
+-- so many of n bytes go over in one call: all of them or, in pieces, no more than a piece has
+abbrev pub of_piece : Option ℕ → ℕ → ℕ
+of_piece None n = n
+of_piece (Some piece) n = min piece n
+
 -- a source over bytes in memory
 pub record SourceState : Type 0 where
   -- the bytes that no read has given yet
   pub left : List ℕ
+  -- the most bytes that a call gives, where it gives pieces
+  pub piece : Option ℕ
   -- the numbers of the calls that fail, from 1
   pub failing : List ℕ
   pub calls : ℕ
   pub faults : ℕ
 
--- a source that no call was made of yet
+-- a source that no call was made of yet, and that is not in pieces
 abbrev pub fresh_source : List ℕ → List ℕ → SourceState
-fresh_source bytes failing = record { left = bytes; failing = failing; calls = 0; faults = 0 }
+fresh_source bytes failing = record { left = bytes; piece = None; failing = failing; calls = 0; faults = 0 }
+
+-- the source, from now on in pieces of n bytes
+abbrev pub source_in_pieces : SourceState → ℕ → SourceState
+source_in_pieces source n = record source { piece = Some n }
+
+-- how many bytes a call gives that is asked for so many
+abbrev pub given : SourceState → ℕ → ℕ
+given source asked = of_piece source.piece (min asked (length source.left))
 
 -- the source after a call that gave n bytes
 abbrev pub source_after : SourceState → ℕ → SourceState
@@ -45,14 +60,20 @@ pub record SinkState : Type 0 where
   pub taken : List ℕ
   -- how many bytes it can hold
   pub room : ℕ
+  -- the most bytes that a call takes, where it takes pieces
+  pub piece : Option ℕ
   -- the numbers of the calls that fail, from 1
   pub failing : List ℕ
   pub calls : ℕ
   pub faults : ℕ
 
--- an empty sink that no call was made of yet
+-- an empty sink that no call was made of yet, and that is not in pieces
 abbrev pub fresh_sink : ℕ → List ℕ → SinkState
-fresh_sink room failing = record { taken = []; room = room; failing = failing; calls = 0; faults = 0 }
+fresh_sink room failing = record { taken = []; room = room; piece = None; failing = failing; calls = 0; faults = 0 }
+
+-- the sink, from now on in pieces of n bytes
+abbrev pub sink_in_pieces : SinkState → ℕ → SinkState
+sink_in_pieces sink n = record sink { piece = Some n }
 
 -- the sink after a call that took these bytes
 abbrev pub sink_after : SinkState → List ℕ → SinkState
@@ -62,11 +83,11 @@ sink_after sink bytes = record sink { taken = sink.taken ++ bytes; calls = one_m
 abbrev pub sink_after_fault : SinkState → SinkState
 sink_after_fault sink = record sink { calls = one_more sink.calls; faults = one_more sink.faults }
 
--- how many bytes of the piece there is room for
+-- how many of these bytes a call takes
 abbrev pub fitting : SinkState → List ℕ → ℕ
-fitting sink piece = min (length piece) (sink.room - length sink.taken)
+fitting sink bytes = of_piece sink.piece (min (length bytes) (sink.room - length sink.taken))
 
--- the sink's next call fails at this piece: by its number, or for want of room
+-- the sink's next call fails at these bytes: by its number, or for want of room
 abbrev pub Refuses : SinkState → List ℕ → Type 0
-Refuses sink piece =
-    Contains sink.failing (one_more sink.calls) ⊎ ((0 < length piece) × (sink.room ≤ length sink.taken))
+Refuses sink bytes =
+    Contains sink.failing (one_more sink.calls) ⊎ ((0 < length bytes) × (sink.room ≤ length sink.taken))

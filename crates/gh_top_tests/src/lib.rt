@@ -1,5 +1,5 @@
-//! Tests of `gh_top` by its public calls: streams that fail in mid-read and in mid-write, sinks with little room, and a command line
-//! with all that it may say. What whole scripts write, and what is refused, stands in `runs/`.
+//! Tests of `gh_top` by its public calls: streams that fail in mid-read and in mid-write, streams in short pieces, sinks with little
+//! room, and a command line with all that it may say. What whole scripts write, and what is refused, stands in `runs/`.
 #![tactic(auto)]
 
 #[cfg(test)]

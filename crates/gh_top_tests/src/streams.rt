@@ -2,6 +2,7 @@
 
 use gh_io::{MemSink, MemSource};
 use gh_top::top;
+use std::alloc::Global;
 use std::test::Fail;
 
 const TEXT: &str =
@@ -50,5 +51,71 @@ fn each_fault_of_the_outside_has_its_status(rt: HostRuntime) -> Result<(), Fail>
         assert_eq!(rt; status.code(), *code, "{words:?}");
         assert_eq!(rt; out.bytes(), taken.as_bytes(), "{words:?}");
     }
+    Ok(())
+}
+
+/// Of a source in pieces of 16 bytes: the read that fails; the status, and how many bytes the sink has taken. Nine reads read the script.
+const BY_READ: &[(u64, u8, usize)] = &[
+    (1, 4, 0),
+    (2, 4, 0),
+    (3, 4, 0),
+    (4, 4, 0),
+    (5, 4, 0),
+    (6, 4, 0),
+    (7, 4, 0),
+    (8, 4, 0),
+    (9, 4, 0),
+    (10, 0, 62),
+];
+
+/// Of a sink in pieces of 7 bytes: the write that fails; the status, and how many bytes the sink has taken. Eleven writes write the lines,
+/// of 12, 10, 25 and 15 bytes, and each line begins a piece.
+const BY_WRITE: &[(u64, u8, usize)] = &[
+    (1, 5, 0),
+    (2, 5, 7),
+    (3, 5, 12),
+    (4, 5, 19),
+    (5, 5, 22),
+    (6, 5, 29),
+    (7, 5, 36),
+    (8, 5, 43),
+    (9, 5, 47),
+    (10, 5, 54),
+    (11, 5, 61),
+    (12, 0, 62),
+];
+
+/// The status of a call over these streams, and how many bytes the sink has taken, if they are the first of the lines.
+fn ended(alloc: Global, mut src: MemSource, mut out: MemSink) -> (u8, Option<usize>) {
+    let status = top(alloc, PLAIN, &mut src, &mut out);
+    let taken = out.bytes();
+    let count = LINES.as_bytes().starts_with(taken).then_some(taken.len());
+    (status.code(), count)
+}
+
+#[test]
+fn streams_in_pieces_fail_at_each_call(rt: HostRuntime) -> Result<(), Fail> {
+    let alloc = rt.alloc();
+    for (read, code, taken) in BY_READ {
+        let src = MemSource::new(alloc, TEXT.as_bytes(), &[*read])?.pieces(16);
+        let out = MemSink::new(alloc, 1000, &[])?;
+        assert_eq!(rt;
+            ended(alloc, src, out),
+            (*code, Some(*taken)),
+            "read {read}"
+        );
+    }
+    for (write, code, taken) in BY_WRITE {
+        let src = MemSource::new(alloc, TEXT.as_bytes(), &[])?;
+        let out = MemSink::new(alloc, 1000, &[*write])?.pieces(7);
+        assert_eq!(rt;
+            ended(alloc, src, out),
+            (*code, Some(*taken)),
+            "write {write}"
+        );
+    }
+    let src = MemSource::new(alloc, TEXT.as_bytes(), &[])?;
+    let out = MemSink::new(alloc, 30, &[])?.pieces(1);
+    assert_eq!(rt; ended(alloc, src, out), (5, Some(30)));
     Ok(())
 }
