@@ -121,7 +121,7 @@ pass-weakens : (z : Arena) (m : pass.Pass) (v : View) (q : PassStage) → passin
 pass-weakens z m v (Look p) x = record { there = x.there; full = λ is. absurd (cc is) }
 pass-weakens z m v (Bits p h i) x = record { unowned = x.unowned; full = λ is. absurd (cc is); within = x.within; taken = x.taken }
 pass-weakens z m v (Take p h) x = x
-pass-weakens z m v pass_stage.Ended x = x
+pass-weakens z m v (pass_stage.Ended taken) x = x
 
 stage-weakens : (z : Arena) (a : ℕ) (v : View) (f : Finding) (q : FindStage) → FactsAt z a true v f q → FactsAt z a false v f q
 stage-weakens z a v f (Pass p) x = record { c = x.c; wanted = x.wanted; cached = x.cached; is = x.is; facts = record { whose = x.facts.whose; stage = pass-weakens z p v p.stage x.facts.stage } }
@@ -132,7 +132,7 @@ stage-weakens z a v f (Unlock Again) x = x
 stage-weakens z a v f (Slots m) x = x
 stage-weakens z a v f Lock x = x
 stage-weakens z a v f (Give g) x = x
-stage-weakens z a v f Ended x = x
+stage-weakens z a v f (Ended out) x = x
 
 pub weakens : Weakens
 weakens z a v rest f x = record { seeks = x.seeks; caches = x.caches; apart = x.apart; own_apart = x.own_apart; stage = stage-weakens z a v f f.stage x.stage }

@@ -24,7 +24,7 @@ lands k z a s words Then So g f x = record { move = x.move; may = x.may; words_a
 
 refuses-at : (z : Arena) (a : ℕ) (sure : Bool) (v : View) (f : Finding) (q : FindStage) → refuses_at q ≡ true → FactsAt z a sure v f q → FindsNone z sure v f × (q ≡ Unlock (End NoRoom))
 refuses-at z a sure v f (Unlock (End NoRoom)) e x = (x, refl)
-refuses-at z a sure v f Ended e x = absurd x
+refuses-at z a sure v f (Ended out) e x = absurd x
 refuses-at z a sure v f _ e x = absurd (cc)
 
 pub finds-none : NoneIsTrue

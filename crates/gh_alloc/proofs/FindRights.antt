@@ -15,7 +15,7 @@ use Rattle.gh_central.specs.SweptPass as pass
 use Rattle.gh_pages.specs.Facts as carving
 use Rattle.gh_pages.specs.Listing as carve
 use Rattle.gh_alloc.specs.FindFacts.{Caches, Comes, Facts, FactsAt, FindsByItsRights, IsCached, IsCachedFor, IsUsedUp, LooksAgain, NoneLeft, OwnsLarge, OwnStep, Seeks, carve_at, head_for, head_of, held, is_locked, laying, looks, own, pass_at, with_span}
-use Rattle.gh_alloc.proofs.Vocabulary.{after_carve, after_pass, after_slots, Again, Arena, asks, At, begin, CachedSpan, Carve, CarveStage, cell_of, End, Ended, eqb_tells, Finding, FindStage, first_page, FitsClass, Give, given_head, gives, goes, Good, IsSpan, KeepsObjects, Lands, Large, Layout, LeaveLock, Lock, locked_for, moved, NoRoom, number_of, owned_by, pages_of, Pass, put, Quiet, refuses_at, Right, searched, Shared, slot_found, Slots, slots_of, Small, Sought, span_at, span_for, SpanClass, SpanHead, spans_for, Steps, TakeLock, taken_for, Unlock, update, View, view}
+use Rattle.gh_alloc.proofs.Vocabulary.{after_carve, after_pass, after_slots, Again, Arena, asks, At, at_stage, begin, CachedSpan, Carve, CarveStage, cell_of, End, Ended, eqb_tells, Finding, FindStage, first_page, FitsClass, Give, given, given_at, given_head, gives, goes, Good, IsSpan, KeepsObjects, Lands, Large, Layout, LeaveLock, Lock, locked_for, moved, NoRoom, number_of, owned_by, pages_of, Pass, put, Quiet, refuses_at, Right, searched, Shared, Slots, slots_of, Small, Sought, span_at, span_for, SpanClass, SpanHead, spans_for, Steps, TakeLock, taken_for, Unlock, update, View, view}
 use Rattle.gh_alloc.proofs.FindLasts.{Known, lasts, weakens}
 use Rattle.gh_alloc.proofs.FindWithin.{within}
 use Rattle.gh_alloc.proofs.FindParts.{Apart, begins, few-pages, finds-none, first-is, fits-class, is-apart, is-own, Kept, lands, none-apart, none-own, opens, OwnApart, Stands, taken-of}
@@ -43,8 +43,26 @@ module _ (k : Known) (z : Arena) (a : ℕ) (sure : Bool) (s : Shared) (tidy : pa
   abbrev On : Shared → Finding → Type 0
   On t f = Right a (view t) (is_locked f.stage) (held f rest) (laying f.stage) × Facts z a sure (view t) rest f
 
+  facts-at : (w : Sought) (c : Option CachedSpan) (q : FindStage) (t : Shared) → Kept s t → Whose w → Caches a (view t) w c → Apart rest c → OwnApart rest (own q) → FactsAt z a sure (view t) (at w c q) q → Facts z a sure (view t) rest (at w c q)
+  facts-at w c q t same whose caches apart own x = record { seeks = seeks-at w c q t same whose; caches = caches; apart = apart; own_apart = own; stage = x }
+
+  no-cache : (w : Sought) (v : View) → Caches a v w None
+  no-cache (Small c) v = tt
+  no-cache (Large pages noscan) v = tt
+
+  -- with nothing cached
+  none-at : (w : Sought) (q : FindStage) (t : Shared) → Kept s t → Whose w → OwnApart rest (own q) → FactsAt z a sure (view t) (at w None q) q → Facts z a sure (view t) rest (at w None q)
+  none-at w q t same whose own x = facts-at w None q t same whose (no-cache w (view t)) (none-apart rest) own x
+
   abbrev Step : Finding → Type 0
   Step f = Steps z a s (asks f) (λ t. KeepsObjects now (view t) × (looks f.stage ≡ true → Leaves now (view t)) × Comes z a sure (view t) rest (gives f (s.words (cell_of (asks f)))) (goes f (s.words (cell_of (asks f)))))
+
+  -- and has given nothing then
+  goes-on : (t : Shared) (f : Finding) → On t f → Comes z a sure (view t) rest (given f) f
+  goes-on t f = by f.stage where
+    by : (q : FindStage) → On t (at_stage f q) → Comes z a sure (view t) rest (given_at q) (at_stage f q)
+    by (Ended out) h = absurd h.1.stage
+    by _ h = h
 
   -- The cached span is searched.
 
@@ -52,23 +70,26 @@ module _ (k : Known) (z : Arena) (a : ℕ) (sure : Bool) (s : Shared) (tidy : pa
   start c x = slots.opening l (span_at c.class x)
 
   abbrev next : SpanClass → CachedSpan → Bool → slots.Searching
-  next c x d = record { layout = l; span = record { head = x.head; class = c.class; cursor = x.cursor + 1 }; stage = cond d slot_stage.Look slot_stage.Ended }
+  next c x d = record { layout = l; span = record { head = x.head; class = c.class; cursor = x.cursor + 1 }; stage = cond d slot_stage.Look (slot_stage.Ended None) }
 
   -- by the tests that the slot at the cursor is clear and that one stands behind it
   abbrev After : SpanClass → CachedSpan → (b d : Bool) → slots.Searching
-  After c x b d = cond b (slots.at_stage (start c x) slot_stage.Ended) (next c x d)
+  After c x b d = cond b (slots.at_stage (start c x) (slot_stage.Ended (Some x.cursor))) (next c x d)
 
-  abbrev Given : CachedSpan → (b d : Bool) → Option (Option ℕ)
-  Given x b d = cond b (Some (Some x.cursor)) (cond d None (Some None))
+  abbrev Given : SpanClass → CachedSpan → (b d : Bool) → Option (Option ℕ)
+  Given c x b d = slots.given (After c x b d)
 
   abbrev From : SpanClass → CachedSpan → (b d : Bool) → Finding
   From c x b d = searched (at (Small c) (Some x) (Slots (start c x))) (After c x b d)
 
   slots-then : (c : SpanClass) (x : CachedSpan) (found : ℕ) (t : Shared) → Kept s t → Whose (Small c) → rest x.head ≡ false → x.cursor < slots_of c.class → Right a (view t) false (update rest x.head true) None →
       searching.Comes z a (view t) c.noscan (slots.gives (start c x) found) (slots.goes (start c x) found) →
-      Comes z a sure (view t) rest (slot_found (searched (at (Small c) (Some x) (Slots (start c x))) (slots.goes (start c x) found)) (slots.gives (start c x) found)) (after_slots (searched (at (Small c) (Some x) (Slots (start c x))) (slots.goes (start c x) found)) (slots.gives (start c x) found))
+      Comes z a sure (view t) rest (given (after_slots (searched (at (Small c) (Some x) (Slots (start c x))) (slots.goes (start c x) found)) (slots.gives (start c x) found))) (after_slots (searched (at (Small c) (Some x) (Slots (start c x))) (slots.goes (start c x) found)) (slots.gives (start c x) found))
   slots-then c x found t same whose apart left right r = go (slots.is_found (start c x) found) (ltb (x.cursor + 1) (slots_of c.class)) refl r where
-    go : (b d : Bool) → ltb (x.cursor + 1) (slots_of c.class) ≡ d → searching.Comes z a (view t) c.noscan (Given x b d) (After c x b d) → Comes z a sure (view t) rest (slot_found (From c x b d) (Given x b d)) (after_slots (From c x b d) (Given x b d))
+    after : CachedSpan
+    after = record x { cursor = x.cursor + 1 }
+
+    go : (b d : Bool) → ltb (x.cursor + 1) (slots_of c.class) ≡ d → searching.Comes z a (view t) c.noscan (Given c x b d) (After c x b d) → Comes z a sure (view t) rest (given (after_slots (From c x b d) (Given c x b d))) (after_slots (From c x b d) (Given c x b d))
     go true d is y = record {
       right = right;
       caches = record { span = y.span_held; few = omega (arith, left); taken = y.taken };
@@ -76,26 +97,10 @@ module _ (k : Known) (z : Arena) (a : ℕ) (sure : Bool) (s : Shared) (tidy : pa
       own_apart = none-own rest;
       found = record { claim = y.claim; class = y.class; noscan_is = y.noscan_is };
     }
-    go false true is y = (
-      right,
-      record {
-        seeks = seeks-at (Small c) (Some (record x { cursor = x.cursor + 1 })) (Slots (next c x true)) t same whose;
-        caches = record { span = y.span; few = omega (arith, y.cursor); taken = y.taken };
-        apart = is-apart rest (record x { cursor = x.cursor + 1 }) apart;
-        own_apart = none-own rest;
-        stage = record { c = c; k = record x { cursor = x.cursor + 1 }; for = record { wanted = refl; cached = refl }; is = refl; left = y.cursor };
-      },
-    )
-    go false false is y = (
-      right,
-      record {
-        seeks = seeks-at (Small c) (Some (record x { cursor = x.cursor + 1 })) Lock t same whose;
-        caches = record { span = y.span_held; few = omega (arith, left); taken = λ j lt. taken-of (view t).alloc y.span_held.h x.head c.class y.span_held.class y.full j (omega (arith, left, lt)) };
-        apart = is-apart rest (record x { cursor = x.cursor + 1 }) apart;
-        own_apart = none-own rest;
-        stage = ltb-false (x.cursor + 1) (slots_of c.class) is;
-      },
-    )
+    go false true is y = (right, facts-at (Small c) (Some after) (Slots (next c x true)) t same whose (record { span = y.span; few = omega (arith, y.cursor); taken = y.taken }) (is-apart rest after apart) (none-own rest) (record { c = c; k = after; for = record { wanted = refl; cached = refl }; is = refl; left = y.cursor }))
+    go false false is y = (right, facts-at (Small c) (Some after) Lock t same whose (record { span = y.span_held; few = omega (arith, left); taken = taken }) (is-apart rest after apart) (none-own rest) (ltb-false (x.cursor + 1) (slots_of c.class) is)) where
+      taken : searching.TakenBelow (view t).alloc (span_at c.class after)
+      taken j lt = taken-of (view t).alloc y.span_held.h x.head c.class y.span_held.class y.full j (omega (arith, left, lt))
 
   slots-own : (c : SpanClass) (x : CachedSpan) → Good z now → Whose (Small c) → IsCached a now c x → rest x.head ≡ false → x.cursor < slots_of c.class → Right a now false (update rest x.head true) None → Step (at (Small c) (Some x) (Slots (start c x)))
   slots-own c x good whose y apart left right =
@@ -116,57 +121,16 @@ module _ (k : Known) (z : Arena) (a : ℕ) (sure : Bool) (s : Shared) (tidy : pa
     fits = fits-class k (e + 1) n w whose.wanted
 
   carve-then : (w : Sought) (t : Shared) → Good z now → Kept s t → Whose w → NoneLeft z sure (view t) (at w None Lock) w → Right a (view t) true rest None → On t (at w None (Carve (carve.opening l e n (span_for w))))
-  carve-then (Small c) t good same whose none right = (
-    right,
-    record {
-      seeks = seeks-at (Small c) None (Carve (carve.opening l e n (span_for (Small c)))) t same whose;
-      caches = tt;
-      apart = none-apart rest;
-      own_apart = none-own rest;
-      stage = record { cached = refl; none = none; is = refl; facts = k.carve.opens z a (view t) (carve.opening l e n (span_for (Small c))) (carves (Small c) t good same whose) refl };
-    },
-  )
-  carve-then (Large pages noscan) t good same whose none right = (
-    right,
-    record {
-      seeks = seeks-at (Large pages noscan) None (Carve (carve.opening l e n (span_for (Large pages noscan)))) t same whose;
-      caches = tt;
-      apart = none-apart rest;
-      own_apart = none-own rest;
-      stage = record { cached = refl; none = none; is = refl; facts = k.carve.opens z a (view t) (carve.opening l e n (span_for (Large pages noscan))) (carves (Large pages noscan) t good same whose) refl };
-    },
-  )
+  carve-then w t good same whose none right = (right, none-at w (Carve (carve.opening l e n (span_for w))) t same whose (none-own rest) (record { cached = refl; none = none; is = refl; facts = k.carve.opens z a (view t) (carve.opening l e n (span_for w)) (carves w t good same whose) refl }))
 
   spans-then : (w : Sought) (t : Shared) → Good z now → Kept s t → Whose w → Right a (view t) true rest None → On t (at w None (spans_for (at w None Lock) w))
-  spans-then (Small c) t good same whose right = (
-    right,
-    record {
-      seeks = seeks-at (Small c) None (Pass (pass.opening l e n c)) t same whose;
-      caches = tt;
-      apart = none-apart rest;
-      own_apart = none-own rest;
-      stage = record {
-        c = c;
-        wanted = refl;
-        cached = refl;
-        is = refl;
-        facts = k.pass.opens z a sure (view t) (pass.opening l e n c) (record { layout = whose.layout; seat = whose.seat; few = whose.few; number = whose.number ∙ sym same; class = whose.wanted }) refl;
-      };
-    },
-  )
+  spans-then (Small c) t good same whose right = (right, none-at (Small c) (Pass (pass.opening l e n c)) t same whose (none-own rest) (record { c = c; wanted = refl; cached = refl; is = refl; facts = facts })) where
+    facts : passing.Facts z a sure (view t) (pass.opening l e n c)
+    facts = k.pass.opens z a sure (view t) (pass.opening l e n c) (record { layout = whose.layout; seat = whose.seat; few = whose.few; number = whose.number ∙ sym same; class = whose.wanted }) refl
   spans-then (Large pages noscan) t good same whose right = carve-then (Large pages noscan) t good same whose tt right
 
   locked-then : (w : Sought) (c : Option CachedSpan) (t : Shared) → Good z now → Kept s t → Whose w → Caches a (view t) w c → Apart rest c → IsUsedUp w c → Right a (view t) true (with_span (head_of c) rest) None → On t (at w c (locked_for (at w c Lock) w c))
-  locked-then (Small c) (Some x) t good same whose caches apart used right = (
-    right,
-    record {
-      seeks = seeks-at (Small c) (Some x) (Give (give.opening l x.head (given_head n c))) t same whose;
-      caches = caches;
-      apart = apart;
-      own_apart = none-own rest;
-      stage = record { c = c; k = x; for = record { wanted = refl; cached = refl }; is = refl; used = used };
-    },
-  )
+  locked-then (Small c) (Some x) t good same whose caches apart used right = (right, facts-at (Small c) (Some x) (Give (give.opening l x.head (given_head n c))) t same whose caches apart (none-own rest) (record { c = c; k = x; for = record { wanted = refl; cached = refl }; is = refl; used = used }))
   locked-then (Small c) None t good same whose caches apart used right = spans-then (Small c) t good same whose right
   locked-then (Large pages noscan) (Some x) t good same whose caches apart used right = absurd caches
   locked-then (Large pages noscan) None t good same whose caches apart used right = spans-then (Large pages noscan) t good same whose right
@@ -180,18 +144,18 @@ module _ (k : Known) (z : Arena) (a : ℕ) (sure : Bool) (s : Shared) (tidy : pa
 
   lock-own : (w : Sought) (c : Option CachedSpan) → Good z now → Whose w → Caches a now w c → Apart rest c → IsUsedUp w c → Right a now false (with_span (head_of c) rest) None → Step (at w c Lock)
   lock-own w c good whose caches apart used right = go (eqb (s.words cell.Lock) 0) refl where
-    go : (b : Bool) → eqb (s.words cell.Lock) 0 ≡ b → Lands z a s (cond b (put s.words cell.Lock (e + 1)) s.words) (λ t. KeepsObjects now (view t) × (false ≡ true → Leaves now (view t)) × On t (at w c (cond b (locked_for (at w c Lock) w c) Lock)))
+    go : (b : Bool) → eqb (s.words cell.Lock) 0 ≡ b → Lands z a s (cond b (put s.words cell.Lock (e + 1)) s.words) (λ t. KeepsObjects now (view t) × (false ≡ true → Leaves now (view t)) × Comes z a sure (view t) rest (given_at (cond b (locked_for (at w c Lock) w c) Lock)) (at w c (cond b (locked_for (at w c Lock) w c) Lock)))
     go true is = record {
       move = TakeLock;
       may = eqb-true (s.words cell.Lock) 0 is;
       words_are = ap (λ (m : ℕ). put s.words cell.Lock (m + 1)) (sym whose.seat);
-      after = ((refl, refl), λ e. absurd (cc), locked-then w c (moved z a s TakeLock) good refl whose (caches-with w c (a + 1) (update s.locked a true) caches) apart used (k.follow z a s false (with_span (head_of c) rest) None right).taken);
+      after = ((refl, refl), λ e. absurd (cc), goes-on (moved z a s TakeLock) (at w c (locked_for (at w c Lock) w c)) (locked-then w c (moved z a s TakeLock) good refl whose (caches-with w c (a + 1) (update s.locked a true) caches) apart used (k.follow z a s false (with_span (head_of c) rest) None right).taken));
     }
     go false is = record {
       move = Quiet (ask.Load cell.Lock);
       may = tt;
       words_are = refl;
-      after = ((refl, refl), λ e. absurd (cc), (right, record { seeks = seeks-at w c Lock s refl whose; caches = caches; apart = apart; own_apart = none-own rest; stage = used }));
+      after = ((refl, refl), λ e. absurd (cc), (right, facts-at w c Lock s refl whose caches apart (none-own rest) used));
     }
 
   -- The cached span is given back.
@@ -212,7 +176,7 @@ module _ (k : Known) (z : Arena) (a : ℕ) (sure : Bool) (s : Shared) (tidy : pa
 
   give-own : (c : SpanClass) (x : CachedSpan) → Good z now → Whose (Small c) → IsCached a now c x → rest x.head ≡ false → slots_of c.class ≤ x.cursor → Right a now true (update rest x.head true) None → Step (at (Small c) (Some x) (Give (give.opening l x.head (given_head n c))))
   give-own c x good whose y apart used right =
-      lands k z a s _ _ _ good (λ t same r. (r.0, λ e. absurd (cc), spans-then (Small c) t good same whose (record { locked = r.1.locked; holds = λ q. r.1.holds q ∙ given-back x.head apart q; laying = r.1.laying; freeing = r.1.freeing })))
+      lands k z a s _ _ _ good (λ t same r. (r.0, λ e. absurd (cc), goes-on t _ (spans-then (Small c) t good same whose (record { locked = r.1.locked; holds = λ q. r.1.holds q ∙ given-back x.head apart q; laying = r.1.laying; freeing = r.1.freeing }))))
       (k.give.gives z a s (update rest x.head true) (give.opening l x.head (given_head n c)) good right (record {
         stage = refl;
         h = y.span.h;
@@ -227,34 +191,23 @@ module _ (k : Known) (z : Arena) (a : ℕ) (sure : Bool) (s : Shared) (tidy : pa
   -- A span is taken.
 
   cached-then : (c : SpanClass) (p : ℕ) (h : SpanHead) (m : FindStage) (t : Shared) → Kept s t → Whose (Small c) → IsSpan z.layout.pages (view t).page p h → h.class ≡ size.Small c.class → h.noscan ≡ c.noscan → Right a (view t) true (update rest p true) None → rest p ≡ false → On t (taken_for (at (Small c) None m) (Small c) p)
-  cached-then c p h m t same whose span class noscan right apart = subst (λ (i : ℕ). On t (at (Small c) (Some (record { head = i; cursor = 0 })) (Unlock Again))) (sym first) (
-    right,
-    record {
-      seeks = seeks-at (Small c) (Some (record { head = p; cursor = 0 })) (Unlock Again) t same whose;
-      caches = record {
-        span = record { h = h; head = span.head; class = class; noscan_is = noscan; held = right.holds p ∙ ap (λ (b : Bool). cond b true (rest p)) (eq-eqb p p refl) };
-        few = omega arith;
-        taken = λ j lt. absurd (omega (arith, lt));
-      };
-      apart = is-apart rest (record { head = p; cursor = 0 }) apart;
-      own_apart = none-own rest;
-      stage = record { c = c; k = record { head = p; cursor = 0 }; for = record { wanted = refl; cached = refl } };
-    },
-  ) where
-    first : first_page (at (Small c) None m) (pages_of c.class) p ≡ p
-    first = first-is (at (Small c) None m) (pages_of c.class) p (subst (λ (y : Layout). p + pages_of c.class ≤ y.pages) (sym whose.layout) (subst (λ (i : ℕ). p + i ≤ z.layout.pages) (small-pages h c.class span.fits class) span.within))
+  cached-then c p h m t same whose span class noscan right apart = subst (λ (i : ℕ). On t (at (Small c) (Some (record { head = i; cursor = 0 })) (Unlock Again))) (sym first)
+      (right, facts-at (Small c) (Some fresh) (Unlock Again) t same whose caches (is-apart rest fresh apart) (none-own rest) (record { c = c; k = fresh; for = record { wanted = refl; cached = refl } })) where
+        fresh : CachedSpan
+        fresh = record { head = p; cursor = 0 }
+
+        caches : IsCached a (view t) c fresh
+        caches = record {
+          span = record { h = h; head = span.head; class = class; noscan_is = noscan; held = right.holds p ∙ ap (λ (b : Bool). cond b true (rest p)) (eq-eqb p p refl) };
+          few = omega arith;
+          taken = λ j lt. absurd (omega (arith, lt));
+        }
+
+        first : first_page (at (Small c) None m) (pages_of c.class) p ≡ p
+        first = first-is (at (Small c) None m) (pages_of c.class) p (subst (λ (y : Layout). p + pages_of c.class ≤ y.pages) (sym whose.layout) (subst (λ (i : ℕ). p + i ≤ z.layout.pages) (small-pages h c.class span.fits class) span.within))
 
   pass-then : (c : SpanClass) (t : Shared) (given : Option (Option ℕ)) (m : pass.Pass) → Good z now → Kept s t → Whose (Small c) → m ≡ pass_at (at (Small c) None Lock) c m.stage → passing.Comes z a sure now (view t) rest given m → On t (after_pass (at (Small c) None (Pass m)) given)
-  pass-then c t None m good same whose is r = (
-    r.1,
-    record {
-      seeks = seeks-at (Small c) None (Pass m) t same whose;
-      caches = tt;
-      apart = none-apart rest;
-      own_apart = none-own rest;
-      stage = record { c = c; wanted = refl; cached = refl; is = is; facts = r.2 };
-    },
-  )
+  pass-then c t None m good same whose is r = (r.1, none-at (Small c) (Pass m) t same whose (none-own rest) (record { c = c; wanted = refl; cached = refl; is = is; facts = r.2 }))
   pass-then c t (Some None) m good same whose is r = carve-then (Small c) t good same whose (subst (λ (y : pass.Pass). passing.HasPassed sure (passing.sought y) (view t) z.layout.pages) is r.2) r.1
   pass-then c t (Some (Some p)) m good same whose is r =
       let y = subst (λ (y : pass.Pass). passing.IsTaken z a y.wanted (view t).page p) is r.2 in
@@ -268,7 +221,7 @@ module _ (k : Known) (z : Arena) (a : ℕ) (sure : Bool) (s : Shared) (tidy : pa
   pass-own : (c : SpanClass) (m : pass.Pass) → Good z now → Whose (Small c) → m ≡ pass_at (at (Small c) None Lock) c m.stage → passing.Facts z a sure now m → Right a now true rest None → Step (at (Small c) None (Pass m))
   pass-own c m good whose is facts right =
       let found : ℕ = s.words (cell_of (pass.asks m)) in
-      lands k z a s _ _ _ good (λ t same r. (r.0, λ e. pass-leaves (view t) (pass.gives m found) (pass.goes m found) r.1, pass-then c t (pass.gives m found) (pass.goes m found) good same whose (ap (λ (y : pass.Pass). pass.at_stage y (pass.goes m found).stage) is) r.1))
+      lands k z a s _ _ _ good (λ t same r. (r.0, λ e. pass-leaves (view t) (pass.gives m found) (pass.goes m found) r.1, goes-on t _ (pass-then c t (pass.gives m found) (pass.goes m found) good same whose (ap (λ (y : pass.Pass). pass.at_stage y (pass.goes m found).stage) is) r.1)))
       (k.pass.own_step z a sure s rest m good right tidy facts)
 
   -- Fresh pages.
@@ -280,29 +233,23 @@ module _ (k : Known) (z : Arena) (a : ℕ) (sure : Bool) (s : Shared) (tidy : pa
   large-then : (pages : ℕ) (noscan : Bool) (p : ℕ) (m : FindStage) (q : CarveStage) (t : Shared) → Kept s t → Whose (Large pages noscan) → carving.IsFresh z (view t) (carve_at (at (Large pages noscan) None Lock) q) p → Right a (view t) true (update rest p true) None → rest p ≡ false → On t (taken_for (at (Large pages noscan) None m) (Large pages noscan) p)
   large-then pages noscan p m q t same whose fresh right apart = subst (λ (i : ℕ). On t (at (Large pages noscan) None (Unlock (End (At (1024 * i)))))) (sym first) (
     subst (λ (i : ℕ). Right a (view t) true (update rest i true) None) page-is right,
-    record {
-      seeks = seeks-at (Large pages noscan) None (Unlock (End (At (1024 * p)))) t same whose;
-      caches = tt;
-      apart = none-apart rest;
-      own_apart = is-own rest (1024 * p / 1024) (subst (λ (i : ℕ). rest i ≡ false) page-is apart);
-      stage = record {
-        pages = pages;
-        noscan = noscan;
-        wanted = refl;
-        claim = record {
-          p = p;
-          h = carve.fresh_head (carve_at (at (Large pages noscan) None Lock) q);
-          i = 0;
-          held = right.holds p ∙ ap (λ (b : Bool). cond b true (rest p)) (eq-eqb p p refl);
-          slot = record { span = fresh.span; inside = omega arith; size_is = refl; at = omega arith };
-          clear = fresh.empty (1024 * p) (omega arith) (omega (arith, whose.wanted.0));
-        };
-        class = refl;
-        noscan_is = refl;
-        first = page-is;
-        head = ap (λ (x : ℕ). head (x + 1) n) whose.seat ∙ ap (λ (x : ℕ). head (a + 1) x) (whose.number ∙ sym same);
+    none-at (Large pages noscan) (Unlock (End (At (1024 * p)))) t same whose (is-own rest (1024 * p / 1024) (subst (λ (i : ℕ). rest i ≡ false) page-is apart)) (record {
+      pages = pages;
+      noscan = noscan;
+      wanted = refl;
+      claim = record {
+        p = p;
+        h = carve.fresh_head (carve_at (at (Large pages noscan) None Lock) q);
+        i = 0;
+        held = right.holds p ∙ ap (λ (b : Bool). cond b true (rest p)) (eq-eqb p p refl);
+        slot = record { span = fresh.span; inside = omega arith; size_is = refl; at = omega arith };
+        clear = fresh.empty (1024 * p) (omega arith) (omega (arith, whose.wanted.0));
       };
-    },
+      class = refl;
+      noscan_is = refl;
+      first = page-is;
+      head = ap (λ (x : ℕ). head (x + 1) n) whose.seat ∙ ap (λ (x : ℕ). head (a + 1) x) (whose.number ∙ sym same);
+    }),
   ) where
     page-is : p ≡ 1024 * p / 1024
     page-is = omega arith
@@ -317,31 +264,9 @@ module _ (k : Known) (z : Arena) (a : ℕ) (sure : Bool) (s : Shared) (tidy : pa
   fresh-then (Small c) t p m q same whose fresh right apart = cached-then c p (carve.fresh_head (carve_at (at (Small c) None Lock) q)) m t same whose fresh.span refl refl right apart
   fresh-then (Large pages noscan) t p m q same whose fresh right apart = large-then pages noscan p m q t same whose fresh right apart
 
-  no-cache : (w : Sought) (v : View) → Caches a v w None
-  no-cache (Small c) v = tt
-  no-cache (Large pages noscan) v = tt
-
   carved : (w : Sought) (t : Shared) (given : Option (Option ℕ)) (m : carve.Carving) → Kept s t → Whose w → NoneLeft z sure now (at w None Lock) w → m ≡ carve_at (at w None Lock) m.stage → carving.Comes z a now (view t) rest given m → On t (after_carve (at w None (Carve m)) given)
-  carved w t None m same whose none is r = (
-    r.1,
-    record {
-      seeks = seeks-at w None (Carve m) t same whose;
-      caches = no-cache w (view t);
-      apart = none-apart rest;
-      own_apart = none-own rest;
-      stage = record { cached = refl; none = none-goes w t r.0 none; is = is; facts = r.2 };
-    },
-  )
-  carved w t (Some None) m same whose none is r = (
-    r.1,
-    record {
-      seeks = seeks-at w None (Unlock (End NoRoom)) t same whose;
-      caches = no-cache w (view t);
-      apart = none-apart rest;
-      own_apart = none-own rest;
-      stage = record { cached = refl; none = none-goes w t r.0 none; no_run = subst (λ (y : carve.Carving). carving.NoRun (view t).page y.span.pages z.layout.pages) is r.2 };
-    },
-  )
+  carved w t None m same whose none is r = (r.1, none-at w (Carve m) t same whose (none-own rest) (record { cached = refl; none = none-goes w t r.0 none; is = is; facts = r.2 }))
+  carved w t (Some None) m same whose none is r = (r.1, none-at w (Unlock (End NoRoom)) t same whose (none-own rest) (record { cached = refl; none = none-goes w t r.0 none; no_run = subst (λ (y : carve.Carving). carving.NoRun (view t).page y.span.pages z.layout.pages) is r.2 }))
   carved w t (Some (Some p)) m same whose none is r = fresh-then w t p (Carve m) m.stage same whose (subst (λ (y : carve.Carving). carving.IsFresh z (view t) y p) is r.2) r.1 r.3
 
   carve-leaves : (v : View) (given : Option (Option ℕ)) (m : carve.Carving) → carving.Comes z a now v rest given m → Leaves now v
@@ -352,7 +277,7 @@ module _ (k : Known) (z : Arena) (a : ℕ) (sure : Bool) (s : Shared) (tidy : pa
   carve-own : (w : Sought) (m : carve.Carving) → Good z now → Whose w → NoneLeft z sure now (at w None Lock) w → m ≡ carve_at (at w None Lock) m.stage → carving.Facts z a now m → Right a now true rest (carving.laying m) → Step (at w None (Carve m))
   carve-own w m good whose none is facts right =
       let found : ℕ = s.words (cell_of (carve.asks m)) in
-      lands k z a s _ _ _ good (λ t same r. (r.0, λ e. carve-leaves (view t) (carve.gives m found) (carve.goes m found) r.1, carved w t (carve.gives m found) (carve.goes m found) same whose none (ap (λ (y : carve.Carving). carve.at_stage y (carve.goes m found).stage) is) r.1))
+      lands k z a s _ _ _ good (λ t same r. (r.0, λ e. carve-leaves (view t) (carve.gives m found) (carve.goes m found) r.1, goes-on t _ (carved w t (carve.gives m found) (carve.goes m found) same whose none (ap (λ (y : carve.Carving). carve.at_stage y (carve.goes m found).stage) is) r.1)))
       (k.carve.own_step z a s rest m good right facts)
 
   -- The lock is freed.
@@ -368,16 +293,7 @@ module _ (k : Known) (z : Arena) (a : ℕ) (sure : Bool) (s : Shared) (tidy : pa
     after = (
       (refl, refl),
       λ e. lock-leaves,
-      (
-        begun.0,
-        record {
-          seeks = seeks-at (Small c) (Some x) (begin l (Small c) (Some x)) t refl whose;
-          caches = caches;
-          apart = is-apart rest x apart;
-          own_apart = begun.2;
-          stage = begun.1;
-        },
-      ),
+      goes-on t _ (begun.0, facts-at (Small c) (Some x) (begin l (Small c) (Some x)) t refl whose caches (is-apart rest x apart) begun.2 begun.1),
     );
   } where
     t : Shared
@@ -440,7 +356,7 @@ module _ (k : Known) (z : Arena) (a : ℕ) (sure : Bool) (s : Shared) (tidy : pa
   own-at (Unlock (End (At y))) (Large pages noscan) (Some d) x go = λ good whose caches apart free right. absurd caches
   own-at (Unlock (End (At y))) (Large pages noscan) None x go = λ good whose caches apart free right. large-own pages noscan y x free right
   own-at (Unlock (End NoRoom)) w c x go = absurd (cc)
-  own-at Ended w c x go = absurd x
+  own-at (Ended out) w c x go = absurd x
 
 again : Known → LooksAgain
 again k z a sure s rest f good tidy seeks cached right = subst (λ (c : Option CachedSpan). On k z a sure s tidy rest f.layout f.seat f.generation s (record { layout = f.layout; seat = f.seat; generation = f.generation; wanted = f.wanted; cached = c; stage = spans_for f f.wanted })) (sym cached)

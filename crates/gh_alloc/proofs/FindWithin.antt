@@ -27,7 +27,7 @@ module _ (k : Known) (z : Arena) (a : ℕ) (sure : Bool) (v : View) (f : Finding
   within-at (Pass p) x = k.pass.within z a sure v p good x.facts
   within-at (Carve m) x = k.carve.within z a v m x.facts
   within-at (Unlock after) x = tt
-  within-at Ended x = absurd x
+  within-at (Ended out) x = absurd x
 
 pub within : Known → Within
 within k z a sure v rest f good x = within-at k z a sure v f good x.seeks x.caches f.stage x.stage

@@ -11,7 +11,7 @@ use Rattle.gh_bitmap.specs.SetPointers as setter
 use Rattle.gh_central.specs.GiveBack.{Giving}
 use Rattle.gh_central.specs.GiveFacts as giving
 use Rattle.gh_alloc.specs.declared.place.PlaceStage.TheVariants.{Give, Ended}
-use Rattle.gh_alloc.specs.Place.{asks, asks_at, at_stage, gives_at, goes}
+use Rattle.gh_alloc.specs.Place.{asks, asks_at, at_stage, given, given_at, goes}
 use Rattle.gh_alloc.specs.PlaceFacts.{Born, Changes, Comes, CountsAlone, FactsAt, FieldsClear, Filled, For, GivesUp, IsItsSpan, Lasts, Made, Opens, OwnStep, PlacesByItsRights, Unmade, Within, base, held_by, setting}
 use Rattle.gh_alloc.proofs.Vocabulary.{acts_at, Alloc, Arena, Birth, birth_word, bit, Bits, cell_of, Claims, Clear, ClearField, Count, EachRightFollows, eqb_tells, filled, Good, InRange, is_pointer, IsFull, landing, made, Make, Mark, May, moved, Name, Others, page_of, placed_at, PlaceStage, Placing, Quiet, Right, Row, row_bit, RowsAreWritten, Runs, SetBirth, SetStage, Shape, shape_at, Shared, size_class_of, slot_count, slot_size, SpanHead, Steps, TheHeapIsApart, update, View, view}
 
@@ -131,7 +131,7 @@ module _ (k : Known) (z : Arena) (a : ℕ) (s : Shared) (f : For) (held : ℕ �
 
   -- what the step at this stage comes to
   abbrev Goes : PlaceStage → Shared → Type 0
-  Goes q t = Changes z f (at_stage p q) (acts_at q) now (view t) × Comes z a (view t) f held (gives_at q) (goes (at_stage p q) (s.words (cell_of (asks (at_stage p q))))) × CountsAlone q s t
+  Goes q t = Changes z f (at_stage p q) (acts_at q) now (view t) × Comes z a (view t) f held (given (goes (at_stage p q) (s.words (cell_of (asks (at_stage p q)))))) (goes (at_stage p q) (s.words (cell_of (asks (at_stage p q))))) × CountsAlone q s t
 
   abbrev Step : PlaceStage → Type 0
   Step q = Steps z a s (asks (at_stage p q)) (Goes q)
@@ -155,7 +155,7 @@ module _ (k : Known) (z : Arena) (a : ℕ) (s : Shared) (f : For) (held : ℕ �
     fields : FieldsClear (view t).field p.at (i + 1)
     fields j lt = elim (eqb_tells (p.at + i) (p.at + j)) [ inl y ↦ ap (λ (b : Bool). cond b 0 (now.field (p.at + j))) y.0 | inr n ↦ ap (λ (b : Bool). cond b 0 (now.field (p.at + j))) n.0 ∙ x.2 j (omega (arith, n.1)) ]
 
-    go : (b : Bool) → ltb (i + 1) p.slot ≡ b → Comes z a (view t) f held None (at_stage p (cond b (Clear (i + 1)) Birth))
+    go : (b : Bool) → ltb (i + 1) p.slot ≡ b → Comes z a (view t) f held (given_at (cond b (Clear (i + 1)) Birth)) (at_stage p (cond b (Clear (i + 1)) Birth))
     go true e = (right-then, (unmade, ltb-true (i + 1) p.slot e, fields))
     go false e = (right-then, (unmade, λ j lt. fields j (omega (arith, ltb-false (i + 1) p.slot e))))
 
@@ -179,20 +179,27 @@ module _ (k : Known) (z : Arena) (a : ℕ) (s : Shared) (f : For) (held : ℕ �
     born = record { fields = x.1; birth = put-here p.at (birth_word p.name) (now.birth p.at) }
 
   -- the bits are set, and it goes on to the mark or to the alloc bit
-  filled-then : (t : Shared) → Right a (view t) false held None → Filled z a (view t) f (base p) → (marking : Bool) → Comes z a (view t) f held None (at_stage p (filled marking))
+  filled-then : (t : Shared) → Right a (view t) false held None → Filled z a (view t) f (base p) → (marking : Bool) → Comes z a (view t) f held (given_at (filled marking)) (at_stage p (filled marking))
   filled-then t right x true = (right, x)
   filled-then t right x false = (right, x)
 
   -- what its routine comes to
-  bits-then : (q : SetStage) (t : Shared) → Unmade z a now f (base p) → Born now (base p) → view t ≡ record now { bitmap = (view t).bitmap } → Right a (view t) false held None → (b : Bool) → setter.is_busy (setter.goes_at (setting p q) q) ≡ b →
-      bits.Comes z a (view t) (setter.gives_at b) (setter.at_stage (setting p q) (setter.goes_at (setting p q) q)) →
-      Comes z a (view t) f held None (at_stage p (cond b (Bits (setter.at_stage (setting p q) (setter.goes_at (setting p q) q))) (filled p.marking)))
-  bits-then q t u born e right true busy x = (right, (subst (λ (w : View). Unmade z a w f (base p)) (sym e) (unmade-rows z a now f (base p) now.field now.birth (view t).bitmap u), subst (λ (w : View). Born w (base p)) (sym e) (record { fields = born.fields; birth = born.birth }), refl, x))
-  bits-then q t u born e right false busy x = filled-then t right (subst (λ (w : View). Unmade z a w f (base p)) (sym e) (unmade-rows z a now f (base p) now.field now.birth (view t).bitmap u), subst (λ (w : View). Born w (base p)) (sym e) (record { fields = born.fields; birth = born.birth }), x.1) p.marking
+  bits-then : (t : Shared) → Unmade z a now f (base p) → Born now (base p) → view t ≡ record now { bitmap = (view t).bitmap } → Right a (view t) false held None → (q : SetStage) → bits.Comes z a (view t) (setter.given_at q) (setting p q) →
+      Comes z a (view t) f held (given_at (cond (setter.is_busy q) (Bits (setting p q)) (filled p.marking))) (at_stage p (cond (setter.is_busy q) (Bits (setting p q)) (filled p.marking)))
+  bits-then t u born e right q x = go q x where
+    unmade : Unmade z a (view t) f (base p)
+    unmade = subst (λ (w : View). Unmade z a w f (base p)) (sym e) (unmade-rows z a now f (base p) now.field now.birth (view t).bitmap u)
+
+    named : Born (view t) (base p)
+    named = subst (λ (w : View). Born w (base p)) (sym e) (record { fields = born.fields; birth = born.birth })
+
+    go : (q : SetStage) → bits.Comes z a (view t) (setter.given_at q) (setting p q) → Comes z a (view t) f held (given_at (cond (setter.is_busy q) (Bits (setting p q)) (filled p.marking))) (at_stage p (cond (setter.is_busy q) (Bits (setting p q)) (filled p.marking)))
+    go bits_stage.Ended x = filled-then t right (unmade, named, x.1) p.marking
+    go _ x = (right, (unmade, named, refl, x))
 
   bits-at : (q : SetStage) → Good z now → Right a now false held None → Unmade z a now f (base p) → Born now (base p) → bits.Facts z a now (setting p q) → Step (Bits (setting p q))
   bits-at q g right u born x =
-      landing z a s _ _ _ (λ t r. ((ap (λ (w : View). w.ever) r.0, ap (λ (w : View). w.place) r.0), bits-then q t u born r.0 r.1 (setter.is_busy (setter.goes_at (setting p q) q)) refl r.2, tt))
+      landing z a s _ _ _ (λ t r. ((ap (λ (w : View). w.ever) r.0, ap (λ (w : View). w.place) r.0), bits-then t u born r.0 r.1 (setter.goes_at (setting p q) q) r.2, tt))
       (k.bits.own_step z a s false held None (setting p q) g right x)
 
   -- the mark is no word that a right guards
@@ -261,7 +268,7 @@ module _ (k : Known) (z : Arena) (a : ℕ) (s : Shared) (f : For) (held : ℕ �
           whole : (q : ℕ) → u.claim.p ≡ q → p.at ≡ 1024 * u.claim.p + 0 * p.slot → p.at ≡ 1024 * q + 0 * slot_size u.claim.h
           whole q e at = omega (arith, at, e)
 
-    go : (span : Option SpanHead) → p.span ≡ span → Comes z a (view t) f held None (at_stage p (made p span))
+    go : (span : Option SpanHead) → p.span ≡ span → Comes z a (view t) f held (given_at (made p span)) (at_stage p (made p span))
     go None e = (subst (λ (y : Option SpanHead). Right a (view t) false (held_by Count y (p.at / 1024) held) None) (sym e) right-then, made-then)
     go (Some head) e =
         let own = subst (λ (y : Option SpanHead). IsItsSpan y u.claim.p u.claim.h p.at) e u.own in (
@@ -298,16 +305,10 @@ module _ (k : Known) (z : Arena) (a : ℕ) (s : Shared) (f : For) (held : ℕ �
       (k.give.gives_large z a s false held None g good right x.1.back x.1.large x.1.full)
 
   count : Right a now false (held_by Count p.span (p.at / 1024) held) None → Knows Count → Step Count
-  count right x = record { move = Quiet (asks_at p Count); may = tt; words_are = refl; after = ((refl, refl), go p.span refl right, refl) } where
-    t : Shared
-    t = moved z a s (Quiet (asks_at p Count))
-
-    made-then : Made (view t) (at_stage p Ended)
-    made-then = record { made = x.made; at = x.at }
-
-    go : (span : Option SpanHead) → p.span ≡ span → Right a now false (held_by Count span (p.at / 1024) held) None → Comes z a (view t) f held (Some tt) (at_stage p Ended)
-    go None e r = (subst (λ (y : Option SpanHead). Right a (view t) false (held_by Ended y (p.at / 1024) held) None) (sym e) (record { locked = r.locked; holds = r.holds; laying = r.laying; freeing = r.freeing }), made-then)
-    go (Some head) e r = (subst (λ (y : Option SpanHead). Right a (view t) false (held_by Ended y (p.at / 1024) held) None) (sym e) (record { locked = r.locked; holds = r.holds; laying = r.laying; freeing = r.freeing }), made-then)
+  count right x = record { move = Quiet (asks_at p Count); may = tt; words_are = refl; after = ((refl, refl), (go p.span right, record { made = x.made; at = x.at }), refl) } where
+    go : (span : Option SpanHead) → Right a now false (held_by Count span (p.at / 1024) held) None → Right a (view (moved z a s (Quiet (asks_at p Count)))) false (held_by Ended span (p.at / 1024) held) None
+    go None r = record { locked = r.locked; holds = r.holds; laying = r.laying; freeing = r.freeing }
+    go (Some head) r = record { locked = r.locked; holds = r.holds; laying = r.laying; freeing = r.freeing }
 
   own-at : (q : PlaceStage) → Good z now → Right a now false (held_by q p.span (p.at / 1024) held) None → Knows q → Step q
   own-at (Clear i) g right x = clear i right x

@@ -21,7 +21,7 @@ use Rattle.gh_alloc.proofs.Vocabulary.{AllocationIsQuiet, CarveStage, FindStage,
 
 slots_quiet : (s : slots.Searching) (stage : SlotStage) → IsQuiet (slots.asks_at s stage)
 slots_quiet s slot_stage.Look = tt
-slots_quiet s slot_stage.Ended = tt
+slots_quiet s (slot_stage.Ended slot) = tt
 
 give_quiet : (g : give.Giving) (stage : GiveStage) → IsQuiet (give.asks_at g stage)
 give_quiet g give_stage.Write = tt

@@ -8,8 +8,10 @@ use Rattle.gh_pages.specs.Listing as carve
 use Rattle.gh_alloc.specs.Find as find
 use Rattle.gh_alloc.specs.FindFacts as finding
 use Rattle.gh_alloc.specs.SearchFacts.{Comes, FactsAt, FindsNone, Frees, Has, Lasts, LooksAgain, LooksFirst, NoneIsTrue, Opens, OwnStep, Refuses, SeeksByItsRights, Within, reclaim_at}
-use Rattle.gh_alloc.proofs.Vocabulary.{after_carve, after_first, after_free, after_pass, Again, Arena, asks_at, At, at_stage, begin, CachedSpan, Carve, cell_of, EachFactLasts, EachMoveKeeps, EachMoveKeepsItsOwn, End, Ended, Finding, FindStage, First, Found, Free, frees_at, gives_at, goes_at, Good, InRange, IsSpan, IsVacant, KeepsObjects, Large, Layout, Lock, moved, NoRoom, Others, Pass, Reclaiming, reclaiming as begin_freeing, refuses, Right, SearchStage, Second, Seeking, Shared, Slots, slots_of, Small, Sought, SpanHead, spans_for, Steps, taken_for, TidyBefore, Unlock, View, view, WalksGoOn}
+use Rattle.gh_alloc.proofs.Vocabulary.{after_carve, after_first, after_free, after_pass, Again, Arena, asks_at, At, at_stage, begin, CachedSpan, Carve, cell_of, EachFactLasts, EachMoveKeeps, EachMoveKeepsItsOwn, End, Ended, Finding, FindStage, First, Found, Free, frees_at, goes_at, Good, InRange, IsSpan, IsVacant, KeepsObjects, Large, Layout, Lock, moved, NoRoom, Others, Pass, Reclaiming, reclaiming as begin_freeing, refuses, Right, SearchStage, Second, Seeking, Shared, Slots, slots_of, Small, Sought, SpanHead, spans_for, Steps, taken_for, TidyBefore, Unlock, View, view, WalksGoOn}
+use Rattle.gh_alloc.specs.Search.{given, given_at}
 use Rattle.gh_alloc.proofs.FindLasts.{seeks-last}
+use Rattle.gh_alloc.proofs.Seeking.Refusing.{second_gives}
 use Rattle.gh_central.specs.ReclaimFacts.{AllSwept}
 
 pub record Known : Type 0 where
@@ -32,11 +34,11 @@ begins-on l (Small c) None = refl
 begins-on l (Large pages noscan) (Some x) = refl
 begins-on l (Large pages noscan) None = refl
 
--- nor does one that has freed the lock
-unlocked-on : (f : Finding) (q : FindStage) (found : ℕ) → frees_at q ≡ true → find.refuses_at (find.goes_at f q found).stage ≡ false
-unlocked-on f (Unlock Again) found e = begins-on f.layout f.wanted f.cached
-unlocked-on f (Unlock (End out)) found e = refl
-unlocked-on f _ found e = absurd (cc)
+-- nor does one that has freed the lock and not ended
+unlocked-on : (f : Finding) (q : FindStage) (found : ℕ) → frees_at q ≡ true → find.given (find.goes_at f q found) ≡ None → find.refuses_at (find.goes_at f q found).stage ≡ false
+unlocked-on f (Unlock Again) found e none = begins-on f.layout f.wanted f.cached
+unlocked-on f (Unlock (End out)) found e none = absurd (cc)
+unlocked-on f _ found e none = absurd (cc)
 
 taken-looks : (f : Finding) (w : Sought) (p : ℕ) → finding.looks (taken_for f w p).stage ≡ true
 taken-looks f (Small c) p = refl
@@ -63,7 +65,7 @@ looks-on f _ found e u = absurd (cc)
 looks-locked : (q : FindStage) → finding.looks q ≡ true → finding.is_locked q ≡ true
 looks-locked (Slots s) e = absurd (cc)
 looks-locked Lock e = absurd (cc)
-looks-locked Ended e = absurd (cc)
+looks-locked (Ended out) e = absurd (cc)
 looks-locked _ e = refl
 
 opens : Known → Opens
@@ -110,20 +112,21 @@ module _ (k : Known) (z : Arena) (a : ℕ) (s : Shared) (rest : ℕ → Bool) wh
   Kept t = (view t).generation ≡ now.generation
 
   abbrev Step : Finding → SearchStage → Type 0
-  Step f p = Steps z a s (asks_at f p) (λ t. KeepsObjects now (view t) × Comes z a (view t) rest (gives_at f p (s.words (cell_of (asks_at f p)))) (goes_at f p (s.words (cell_of (asks_at f p)))))
+  Step f p = Steps z a s (asks_at f p) (λ t. KeepsObjects now (view t) × Comes z a (view t) rest (given (goes_at f p (s.words (cell_of (asks_at f p))))) (goes_at f p (s.words (cell_of (asks_at f p)))))
 
   -- nothing is cached, and nothing is held for the search
   none-held : (w : View) (f : Finding) → f.cached ≡ None → f.stage ≡ Unlock (End NoRoom) → Right a w (finding.is_locked f.stage) (finding.held f rest) (finding.laying f.stage) → Right a w true rest None
   none-held w f cached stage right = subst (λ (c : Option CachedSpan). Right a w true (finding.with_span (finding.head_of c) rest) None) cached
       (subst (λ (q : FindStage). Right a w (finding.is_locked q) (finding.with_span (finding.own q) (finding.with_span (finding.head_of f.cached) rest)) (finding.laying q)) stage right)
 
-  first-then : (t : Shared) (f : Finding) (out : Option Found) → finding.Comes z a false (view t) rest out f → Comes z a (view t) rest out (record { find = f; stage = after_first f })
-  first-then t f None c = go (find.refuses f) refl where
-    go : (b : Bool) → find.refuses f ≡ b → Comes z a (view t) rest None (record { find = f; stage = cond b (Free (begin_freeing f)) First })
-    go false e = (c.0, record { facts = c.1; on = e })
-    go true e =
-        let no = k.find.none z a false (view t) rest f c.1 e in (
-          none-held (view t) f no.none.cached no.stage c.0,
+  first-then : (t : Shared) (f : Finding) → finding.Comes z a false (view t) rest (find.given f) f → Comes z a (view t) rest (given_at f (after_first f)) (record { find = f; stage = after_first f })
+  first-then t f = by f.stage where
+    by : (q : FindStage) → finding.Comes z a false (view t) rest (find.given_at q) (at_stage f q) → Comes z a (view t) rest (given_at (at_stage f q) (after_first (at_stage f q))) (record { find = at_stage f q; stage = after_first (at_stage f q) })
+    by (Ended (At x)) c = c
+    by (Ended NoRoom) c = absurd c
+    by (Unlock (End NoRoom)) c =
+        let no = k.find.none z a false (view t) rest (at_stage f (Unlock (End NoRoom))) c.1 refl in (
+          none-held (view t) (at_stage f (Unlock (End NoRoom))) no.none.cached no.stage c.0,
           record {
             seeks = c.1.seeks;
             cached = no.none.cached;
@@ -131,23 +134,27 @@ module _ (k : Known) (z : Arena) (a : ℕ) (s : Shared) (rest : ℕ → Bool) wh
             facts = k.free.opens z (view t) (begin_freeing f) (record { layout = c.1.seeks.layout; number = c.1.seeks.number }) refl;
           },
         )
-  first-then t f (Some (At x)) c = c
-  first-then t f (Some NoRoom) c = absurd c
+    by _ c = (c.0, record { facts = c.1; on = refl })
 
   first-own : (f : Finding) → Good z now → Has a now rest (record { find = f; stage = First }) → LooksFirst z a now rest f → Step f First
   first-own f g right x =
       let found : ℕ = s.words (cell_of (find.asks f)) in
       let l = k.find.own_step z a false s rest f g (λ is. absurd (cc is)) right x.facts x.on in
-      record { move = l.move; may = l.may; words_are = l.words_are; after = (l.after.0, first-then (moved z a s l.move) (find.goes f found) (find.gives f found) l.after.2) }
+      record { move = l.move; may = l.may; words_are = l.words_are; after = (l.after.0, first-then (moved z a s l.move) (find.goes f found) l.after.2) }
 
-  free-then : (t : Shared) (f : Finding) (r : Reclaiming) (out : Option (Unit {0})) → Good z (view t) → Kept t → finding.Seeks z a now f → f.cached ≡ None → r ≡ reclaim_at f r.stage → reclaiming.Comes z a now (view t) rest out r → Comes z a (view t) rest None (after_free f r out)
+  -- a second search that goes on has given nothing
+  second-on : (w : View) (q : FindStage) (f : Finding) → Has a w rest (record { find = at_stage f q; stage = Second }) × LooksAgain z a w rest (at_stage f q) → Comes z a w rest (find.given_at q) (record { find = at_stage f q; stage = Second })
+  second-on w (Ended out) f h = absurd h.1.facts.stage
+  second-on w _ f h = h
+
+  free-then : (t : Shared) (f : Finding) (r : Reclaiming) (out : Option (Unit {0})) → Good z (view t) → Kept t → finding.Seeks z a now f → f.cached ≡ None → r ≡ reclaim_at f r.stage → reclaiming.Comes z a now (view t) rest out r → Comes z a (view t) rest (given (after_free f r out)) (after_free f r out)
   free-then t f r out g same seeks cached is c = go out c where
     seeks-then : finding.Seeks z a (view t) f
     seeks-then = record { layout = seeks.layout; seat = seeks.seat; few = seeks.few; number = seeks.number ∙ sym same; wanted = seeks.wanted }
 
-    go : (out : Option (Unit {0})) → reclaiming.Comes z a now (view t) rest out r → Comes z a (view t) rest None (after_free f r out)
+    go : (out : Option (Unit {0})) → reclaiming.Comes z a now (view t) rest out r → Comes z a (view t) rest (given (after_free f r out)) (after_free f r out)
     go None c = (c.1, record { seeks = seeks-then; cached = cached; is = is; facts = c.2 })
-    go (Some u) c = let x = k.find.again z a true t rest f g (λ is. c.2) seeks-then cached c.1 in (x.0, record { facts = x.1; looks = spans-look f f.wanted; tidy = c.2 })
+    go (Some u) c = let x = k.find.again z a true t rest f g (λ is. c.2) seeks-then cached c.1 in second-on (view t) (spans_for f f.wanted) f (x.0, record { facts = x.1; looks = spans-look f f.wanted; tidy = c.2 })
 
   free-own : (f : Finding) (r : Reclaiming) → Good z now → AllSwept now → Has a now rest (record { find = f; stage = Free r }) → Frees z a now f r → Step f (Free r)
   free-own f r g all right x =
@@ -160,14 +167,12 @@ module _ (k : Known) (z : Arena) (a : ℕ) (s : Shared) (rest : ℕ → Bool) wh
         after = (l.after.0, free-then (moved z a s l.move) f (reclaim.goes r found) (reclaim.gives r found) (k.keep z a s l.move g l.may) (k.own z a s l.move g l.may).generation x.seeks x.cached (ap (λ (y : Reclaiming). reclaim.at_stage y (reclaim.goes r found).stage) x.is) l.after.1);
       }
 
-  second-then : (t : Shared) (f : Finding) (found : ℕ) (out : Option Found) → finding.looks f.stage ≡ true → TidyBefore (view t).page (view t).alloc (view t).generation z.layout.pages → finding.Comes z a true (view t) rest out (find.goes f found) →
-      Comes z a (view t) rest out (record { find = find.goes f found; stage = cond (frees_at f.stage) First Second })
-  second-then t f found None looks tidy c = go (frees_at f.stage) refl where
-    go : (b : Bool) → frees_at f.stage ≡ b → Comes z a (view t) rest None (record { find = find.goes f found; stage = cond b First Second })
-    go true e = (c.0, record { facts = k.find.weakens z a (view t) rest (find.goes f found) c.1; on = unlocked-on f f.stage found e })
-    go false e = (c.0, record { facts = c.1; looks = looks-on f f.stage found looks e; tidy = tidy })
-  second-then t f found (Some (At x)) looks tidy c = c
-  second-then t f found (Some NoRoom) looks tidy c = absurd c
+  second-then : (t : Shared) (f : Finding) (found : ℕ) (out : Option Found) → find.gives f found ≡ out → finding.looks f.stage ≡ true → TidyBefore (view t).page (view t).alloc (view t).generation z.layout.pages → finding.Comes z a true (view t) rest out (find.goes f found) →
+      (b : Bool) → frees_at f.stage ≡ b → Comes z a (view t) rest out (record { find = find.goes f found; stage = cond b First Second })
+  second-then t f found None none looks tidy c true e = (c.0, record { facts = k.find.weakens z a (view t) rest (find.goes f found) c.1; on = unlocked-on f f.stage found e none })
+  second-then t f found None none looks tidy c false e = (c.0, record { facts = c.1; looks = looks-on f f.stage found looks e; tidy = tidy })
+  second-then t f found (Some (At x)) is looks tidy c b e = c
+  second-then t f found (Some NoRoom) is looks tidy c b e = absurd c
 
   second-own : (f : Finding) → Good z now → Has a now rest (record { find = f; stage = Second }) → LooksAgain z a now rest f → find.refuses f ≡ false → Step f Second
   second-own f g right x on =
@@ -177,7 +182,11 @@ module _ (k : Known) (z : Arena) (a : ℕ) (s : Shared) (rest : ℕ → Bool) wh
         move = l.move;
         may = l.may;
         words_are = l.words_are;
-        after = (l.after.0, second-then (moved z a s l.move) f found (find.gives f found) x.looks (k.walks.tidy now (view (moved z a s l.move)) z.layout.pages (l.after.1 x.looks) x.tidy) l.after.2);
+        after = (
+          l.after.0,
+          subst (λ (out : Option Found). Comes z a (view (moved z a s l.move)) rest out (goes_at f Second found)) (sym (second_gives (find.goes f found) (frees_at f.stage)))
+              (second-then (moved z a s l.move) f found (find.gives f found) refl x.looks (k.walks.tidy now (view (moved z a s l.move)) z.layout.pages (l.after.1 x.looks) x.tidy) l.after.2 (frees_at f.stage) refl),
+        );
       }
 
   own-at : (f : Finding) (p : SearchStage) → Good z now → AllSwept now → Has a now rest (record { find = f; stage = p }) → FactsAt z a now rest f p → refuses (record { find = f; stage = p }) ≡ false → Step f p

@@ -1,3 +1,4 @@
 pub mod Locking
 pub mod Parts
+pub mod Refusing
 pub mod Rounds

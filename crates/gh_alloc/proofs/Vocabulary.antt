@@ -3,7 +3,7 @@ pub use Rattle.std.proofs.lemmas.Bool.Decides.{eqb_tells, nat_tests}
 pub use Rattle.gh_class.specs.Classes.{pages_of, size_class_of, slot_words_of, slots_of}
 pub use Rattle.gh_base.specs.Cells.{InRange, put, Words}
 pub use Rattle.gh_base.specs.Packing.{birth_word, bit, head_word, page_of}
-pub use Rattle.gh_base.specs.Routines.{Alone, alone, EndsWith, IsFolded, Leaves, steps_alone, told}
+pub use Rattle.gh_base.specs.Routines.{Alone, alone, EndsWith, GoesOn, IsFolded, Leaves, steps_alone, told}
 pub use Rattle.gh_base.specs.Rows.{CellsAreTold, pointer_bit, Row, row_bit, RowsAreWritten}
 pub use Rattle.gh_base.specs.Shapes.{is_pointer, shape_at}
 pub use Rattle.gh_base.specs.Steps.{cell_of, effect}
@@ -22,11 +22,11 @@ pub use Rattle.gh_central.specs.Reclaim.{Reclaiming}
 pub use Rattle.gh_central.specs.declared.give.GiveStage.{GiveStage}
 pub use Rattle.gh_central.specs.declared.pass.PassStage.{PassStage}
 pub use Rattle.gh_central.specs.declared.reclaim.ReclaimStage.{ReclaimStage}
-pub use Rattle.gh_alloc.specs.Find.{after_carve, after_give, after_pass, after_slots, asks, at_stage, begin, carving, Finding, first_page, given_head, gives, goes, locked_for, refuses_at, searched, slot_found, span_at, span_for, spans_for, taken_for, unlocked}
+pub use Rattle.gh_alloc.specs.Find.{after_carve, after_give, after_pass, after_slots, asks, at_stage, begin, carving, Finding, finds_none_at, first_page, given, given_at, given_head, gives, goes, locked_for, refuses_at, searched, span_at, span_for, spans_for, taken_for, unlocked}
 pub use Rattle.gh_alloc.specs.Locking.{holds}
 pub use Rattle.gh_alloc.specs.Place.{acts_at, filled, is_busy, listing, made, opening, Placing}
 pub use Rattle.gh_alloc.specs.Quiet.{AllocationIsQuiet}
-pub use Rattle.gh_alloc.specs.Search.{after_first, after_free, again, asks_at, frees_at, gives_at, goes_at, reclaiming, refuses, Seeking}
+pub use Rattle.gh_alloc.specs.Search.{after_first, after_free, again, asks_at, frees_at, goes_at, reclaiming, refuses, Seeking}
 pub use Rattle.gh_alloc.specs.Vocabulary.{Again, At, CachedSpan, Carve, End, Ended, FindStage, Found, Give, Large, Layout, Lock, NoRoom, Pass, Slots, Small, Sought, SpanClass, Unlock}
 pub use Rattle.gh_alloc.specs.declared.place.PlaceStage.{PlaceStage}
 pub use Rattle.gh_alloc.specs.declared.place.PlaceStage.TheVariants.{Alloc, Birth, Bits, Clear, Count, Mark}

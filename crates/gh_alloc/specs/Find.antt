@@ -1,9 +1,10 @@
--- Looking for a slot: what is asked for at each stage, where that leads, and what it gives.
-use Rattle.std.specs.Prelude.{ℕ, ◌+◌, ◌*◌, Bool, true, false, nat_lt, nat_le, ◌==◌, if◌then◌else◌, Option, Some, None}
+-- Looking for a slot: what is asked for at each stage, where that leads, and what it has given.
+use Rattle.std.specs.Prelude.{ℕ, ◌+◌, ◌*◌, Bool, true, false, nat_lt, nat_le, ◌==◌, if◌then◌else◌, Option, Some, None, is_none}
 use Rattle.gh_base.specs.declared.cell.Cell.TheVariants as cell
 use Rattle.gh_base.specs.declared.cell.Ask.{Ask}
 use Rattle.gh_base.specs.declared.cell.Ask.TheVariants.{Load, Store, Swap}
 use Rattle.gh_base.specs.declared.pack.SpanHead.{SpanHead}
+use Rattle.gh_base.specs.Given.{listing_of}
 use Rattle.gh_base.specs.Routines.{Listing}
 use Rattle.gh_class.specs.declared.class.SizeClass.TheVariants as size
 use Rattle.gh_class.specs.Classes.{pages_of, slots_of}
@@ -95,7 +96,7 @@ module _ (f : Finding) where
   abbrev pub after_slots : Option (Option ℕ) → Finding
   after_slots None = f
   after_slots (Some None) = at_stage f Lock
-  after_slots (Some (Some slot)) = at_stage f Ended
+  after_slots (Some (Some slot)) = at_stage f (Ended (At (word_at_cursor f.wanted f.cached)))
 
   abbrev pub after_give : Option (Unit {0}) → Finding
   after_give None = f
@@ -111,11 +112,6 @@ module _ (f : Finding) where
   after_carve (Some None) = at_stage f (Unlock (End NoRoom))
   after_carve (Some (Some page)) = taken page
 
-  -- what it gives where the search of the cached span has given this
-  abbrev pub slot_found : Option (Option ℕ) → Option Found
-  slot_found (Some (Some slot)) = Some (At (word_at_cursor f.wanted f.cached))
-  slot_found _ = None
-
   -- after a step of that search
   abbrev pub searched : slots.Searching → Finding
   searched s = record f { cached = move_cursor s.span.cursor f.cached; stage = Slots s }
@@ -127,11 +123,11 @@ module _ (f : Finding) where
   asks_at (Pass p) = pass.asks p
   asks_at (Carve c) = carve.asks c
   asks_at (Unlock after) = Store cell.Lock 0
-  asks_at Ended = Load cell.Touch
+  asks_at (Ended out) = Load cell.Touch
 
   abbrev pub unlocked : After → FindStage
   unlocked Again = begin f.layout f.wanted f.cached
-  unlocked (End out) = Ended
+  unlocked (End out) = Ended out
 
 abbrev pub goes_at : Finding → FindStage → ℕ → Finding
 goes_at f (Slots s) found = after_slots (searched f (slots.goes s found)) (slots.gives s found)
@@ -140,42 +136,45 @@ goes_at f (Give g) found = after_give (at_stage f (Give (give.goes g found))) (g
 goes_at f (Pass p) found = after_pass (at_stage f (Pass (pass.goes p found))) (pass.gives p found)
 goes_at f (Carve c) found = after_carve (at_stage f (Carve (carve.goes c found))) (carve.gives c found)
 goes_at f (Unlock after) found = at_stage f (unlocked f after)
-goes_at f Ended found = at_stage f Ended
+-- where it has ended it names the stage, so that what it has given computes there too
+goes_at f (Ended out) found = at_stage f (Ended out)
 
-abbrev pub ended : After → Option Found
-ended Again = None
-ended (End out) = Some out
-
-abbrev pub gives_at : Finding → FindStage → ℕ → Option Found
-gives_at f (Slots s) found = slot_found (searched f (slots.goes s found)) (slots.gives s found)
-gives_at f (Unlock after) found = ended after
-gives_at f _ found = None
+-- what it has given: it ends with a slot, or with no room
+abbrev pub given_at : FindStage → Option Found
+given_at (Ended out) = Some out
+given_at _ = None
 
 abbrev pub is_busy : FindStage → Bool
-is_busy (Slots s) = slots.is_busy s.stage
-is_busy Lock = true
-is_busy (Give g) = give.is_busy g.stage
-is_busy (Pass p) = pass.is_busy p.stage
-is_busy (Carve c) = carve.is_busy c.stage
-is_busy (Unlock after) = true
-is_busy Ended = false
+is_busy p = is_none (given_at p)
 
--- the step that it asks for, what it is after the step found this, and what it ends with if that step is its last
+-- the step that it asks for, what it is after the step found this, what it has given, and what it has given after that step
 abbrev pub asks : Finding → Ask
 asks f = asks_at f f.stage
 
 abbrev pub goes : Finding → ℕ → Finding
 goes f found = goes_at f f.stage found
 
+abbrev pub given : Finding → Option Found
+given f = given_at f.stage
+
 abbrev pub gives : Finding → ℕ → Option Found
-gives f found = gives_at f f.stage found
+gives f found = given (goes f found)
 
 abbrev pub listing : Listing Finding Found
-listing = record { layout = λ f. f.layout; busy = λ f. is_busy f.stage; asks = asks; goes = goes; gives = gives }
+listing = listing_of (λ f. f.layout) asks goes given
 
--- its next step ends it with no room
+-- it has found no room, and its next step frees the lock
+abbrev pub finds_none_at : FindStage → Bool
+finds_none_at (Unlock (End NoRoom)) = true
+finds_none_at _ = false
+
+abbrev pub finds_none : Finding → Bool
+finds_none f = finds_none_at f.stage
+
+-- with that step it has ended with no room, and has still after any further one
 abbrev pub refuses_at : FindStage → Bool
 refuses_at (Unlock (End NoRoom)) = true
+refuses_at (Ended NoRoom) = true
 refuses_at _ = false
 
 abbrev pub refuses : Finding → Bool

@@ -161,7 +161,7 @@ FactsAt z a sure v f (Carve m) = InCarve z a sure v f m
 FactsAt z a sure v f (Unlock Again) = InAgain f
 FactsAt z a sure v f (Unlock (End (At x))) = OwnsLarge z a v f x
 FactsAt z a sure v f (Unlock (End NoRoom)) = FindsNone z sure v f
-FactsAt z a sure v f Ended = ⊥
+FactsAt z a sure v f (Ended out) = ⊥
 
 -- with what the seat holds beside the cached span and a large object's, neither of which is among it
 pub record Facts (z : Arena) (a : ℕ) (sure : Bool) (v : View) (rest : ℕ → Bool) (f : Finding) : Type 0 where

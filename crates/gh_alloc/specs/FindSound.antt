@@ -1,10 +1,14 @@
 -- What the search knows of its own numbers, whatever it is told.
-use Rattle.std.specs.Prelude.{◌≡◌, ℕ, ◌+◌, ◌^◌, ◌<◌, ◌≤◌, Option, Some}
+use Rattle.std.specs.Prelude.{◌≡◌, ℕ, ◌+◌, ◌^◌, ◌<◌, ◌≤◌, true, Option, Some}
 use Rattle.gh_base.specs.Cells.{seats_of}
 use Rattle.gh_class.specs.declared.class.TheConstants.{CLASSES, MOST_SPAN_PAGES}
 use Rattle.gh_class.specs.declared.class.SizeClass.TheVariants as size
 use Rattle.gh_class.specs.Classes.{pages_of, slots_of}
-use Rattle.gh_alloc.specs.Vocabulary.{Layout, Sought, Small, Large, CachedSpan, After, Again, End, FindStage, Slots, Give, Pass, Carve, Unlock}
+use Rattle.gh_cache.specs.Listing as slots
+use Rattle.gh_central.specs.GiveBack as give
+use Rattle.gh_central.specs.SweptPass as pass
+use Rattle.gh_pages.specs.Listing as carve
+use Rattle.gh_alloc.specs.Vocabulary.{Layout, Sought, Small, Large, CachedSpan, After, Again, End, FindStage, Slots, Lock, Give, Pass, Carve, Unlock, Ended}
 use Rattle.gh_alloc.specs.Find.{Finding, span_for}
 use Rattle.gh_alloc.specs.Within.{LiesWithin}
 
@@ -32,14 +36,15 @@ abbrev pub IsAfter : Layout → Sought → After → Type 0
 IsAfter l wanted Again = Unit {0}
 IsAfter l wanted (End out) = LiesWithin l wanted out
 
--- the routine that it runs is of the same heap and for what is wanted
+-- the routine that it runs is of the same heap, for what is wanted, and asks for a step
 abbrev pub IsStage : Layout → Sought → FindStage → Type 0
-IsStage l wanted (Slots s) = (s.layout ≡ l) × (size.Small s.span.class ≡ (span_for wanted).class)
-IsStage l wanted (Give g) = g.layout ≡ l
-IsStage l wanted (Pass p) = (p.layout ≡ l) × (wanted ≡ Small p.wanted)
-IsStage l wanted (Carve c) = (c.layout ≡ l) × (c.span ≡ span_for wanted)
+IsStage l wanted (Slots s) = (s.layout ≡ l) × (size.Small s.span.class ≡ (span_for wanted).class) × (slots.is_busy s.stage ≡ true)
+IsStage l wanted (Give g) = (g.layout ≡ l) × (give.is_busy g.stage ≡ true)
+IsStage l wanted (Pass p) = (p.layout ≡ l) × (wanted ≡ Small p.wanted) × (pass.is_busy p.stage ≡ true)
+IsStage l wanted (Carve c) = (c.layout ≡ l) × (c.span ≡ span_for wanted) × (carve.is_busy c.stage ≡ true)
 IsStage l wanted (Unlock after) = IsAfter l wanted after
-IsStage l wanted _ = Unit {0}
+IsStage l wanted (Ended out) = LiesWithin l wanted out
+IsStage l wanted Lock = Unit {0}
 
 pub record Sound (f : Finding) : Type 0 where
   pub seat : f.seat < seats_of f.layout

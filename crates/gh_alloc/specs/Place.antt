@@ -1,5 +1,5 @@
--- Making an object in its slot: what is asked for at each stage, where that leads, and what it gives.
-use Rattle.std.specs.Prelude.{ℕ, ◌+◌, ◌*◌, ◌/◌, ◌%◌, ◌^◌, Bool, true, false, nat_lt, if◌then◌else◌, Option, Some, None}
+-- Making an object in its slot: what is asked for at each stage, where that leads, and what it has given.
+use Rattle.std.specs.Prelude.{ℕ, ◌+◌, ◌*◌, ◌/◌, ◌%◌, ◌^◌, Bool, true, false, nat_lt, if◌then◌else◌, Option, Some, None, is_none}
 use Rattle.gh_base.specs.declared.cell.Cell.TheVariants as cell
 use Rattle.gh_base.specs.declared.cell.Ask.{Ask}
 use Rattle.gh_base.specs.declared.cell.Ask.TheVariants.{Load, Store, Or, Add}
@@ -7,6 +7,7 @@ use Rattle.gh_base.specs.declared.layout.Layout.{Layout}
 use Rattle.gh_base.specs.declared.pack.SpanHead.{SpanHead}
 use Rattle.gh_base.specs.declared.shape.Shape.{Shape}
 use Rattle.gh_base.specs.declared.value.Name.{Name}
+use Rattle.gh_base.specs.Given.{listing_of}
 use Rattle.gh_base.specs.Packing.{birth_word}
 use Rattle.gh_base.specs.Routines.{Listing}
 use Rattle.gh_bitmap.specs.SetPointers as bits
@@ -61,33 +62,33 @@ module _ (p : Placing) where
   goes_at Count found = Ended
   goes_at Ended found = Ended
 
-abbrev pub gives_at : PlaceStage → Option (Unit {0})
-gives_at Count = Some tt
-gives_at _ = None
+abbrev pub given_at : PlaceStage → Option (Unit {0})
+given_at Ended = Some tt
+given_at _ = None
 
 abbrev pub is_busy : PlaceStage → Bool
-is_busy (Bits s) = bits.is_busy s.stage
-is_busy (Give g) = give.is_busy g.stage
-is_busy Ended = false
-is_busy _ = true
+is_busy p = is_none (given_at p)
 
 -- the object is made by the step at this stage
 abbrev pub acts_at : PlaceStage → Bool
 acts_at Alloc = true
 acts_at _ = false
 
--- the step that it asks for, what it is after the step found this, and what it ends with if that step is its last
+-- the step that it asks for, what it is after the step found this, what it has given, and what it has given after that step
 abbrev pub asks : Placing → Ask
 asks p = asks_at p p.stage
 
 abbrev pub goes : Placing → ℕ → Placing
 goes p found = at_stage p (goes_at p p.stage found)
 
+abbrev pub given : Placing → Option (Unit {0})
+given p = given_at p.stage
+
 abbrev pub gives : Placing → ℕ → Option (Unit {0})
-gives p found = gives_at p.stage
+gives p found = given (goes p found)
 
 abbrev pub listing : Listing Placing (Unit {0})
-listing = record { layout = λ p. p.layout; busy = λ p. is_busy p.stage; asks = asks; goes = goes; gives = gives }
+listing = listing_of (λ p. p.layout) asks goes given
 
 -- its next step makes the object
 abbrev pub acts : Placing → Bool

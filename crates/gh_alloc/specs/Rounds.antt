@@ -4,7 +4,7 @@ use Rattle.gh_base.specs.declared.cell.Cell.TheVariants as cell
 use Rattle.gh_base.specs.declared.cell.Ask.{Ask}
 use Rattle.gh_base.specs.declared.cell.Ask.TheVariants.{Store, Swap}
 use Rattle.gh_base.specs.Packing.{head_word}
-use Rattle.gh_base.specs.Routines.{EndsWith, Listing, told}
+use Rattle.gh_base.specs.Routines.{EndsWith, GoesOn, Listing, told}
 use Rattle.gh_central.specs.Reclaim as reclaim
 use Rattle.gh_central.specs.SweptPass as pass
 use Rattle.gh_pages.specs.Listing as carve
@@ -21,6 +21,7 @@ module _ (asks : ℕ → Ask) (found : ℕ → ℕ) where
     pub steps : ℕ
     pub is_last : first + steps ≡ last
     pub asked : (n : ℕ) → n ≤ steps → asks (first + n) ≡ r.asks (told r m (since found first) n)
+    pub busy : GoesOn r m (since found first) steps
     pub gives : EndsWith r m (since found first) steps out
 
   module _ (l : Layout) (seat generation : ℕ) where
@@ -79,4 +80,4 @@ module _ (s : Seeking) (found : ℕ → ℕ) (l : Layout) (seat generation : ℕ
 abbrev pub NoRoomIsAfterReclaim : Type 0
 NoRoomIsAfterReclaim = (l : Layout) (seat generation : ℕ) (wanted : Sought) (cached : Option CachedSpan) (found : ℕ → ℕ) (step : ℕ) →
     let s = opening l seat generation wanted cached in
-    EndsWith listing s found step NoRoom → HasFoundNoneTwice s found l seat generation wanted step
+    GoesOn listing s found step → EndsWith listing s found step NoRoom → HasFoundNoneTwice s found l seat generation wanted step

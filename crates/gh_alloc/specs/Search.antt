@@ -1,6 +1,7 @@
--- Looking for a slot where a collector runs: what is asked for at each stage, where that leads, and what it gives.
-use Rattle.std.specs.Prelude.{ℕ, Bool, true, false, if◌then◌else◌, Option, Some, None}
+-- Looking for a slot where a collector runs: what is asked for at each stage, where that leads, and what it has given.
+use Rattle.std.specs.Prelude.{ℕ, Bool, true, false, if◌then◌else◌, Option, Some, None, is_none}
 use Rattle.gh_base.specs.declared.cell.Ask.{Ask}
+use Rattle.gh_base.specs.Given.{listing_of}
 use Rattle.gh_base.specs.Routines.{Listing}
 use Rattle.gh_central.specs.Reclaim.{Reclaiming}
 use Rattle.gh_central.specs.Reclaim as reclaim
@@ -33,7 +34,7 @@ again f = find.at_stage f (spans_for f f.wanted)
 
 -- the stage after a step of the first search led there: in place of no room, empty spans are freed
 abbrev pub after_first : Finding → SearchStage
-after_first f = if find.refuses f then Free (reclaiming f) else First
+after_first f = if find.finds_none f then Free (reclaiming f) else First
 
 -- what it is after the freeing has given this
 abbrev pub after_free : Finding → Reclaiming → Option (Unit {0}) → Seeking
@@ -51,31 +52,34 @@ module _ (f : Finding) where
   goes_at (Free r) found = after_free f (reclaim.goes r found) (reclaim.gives r found)
   goes_at Second found = record { find = find.goes f found; stage = if frees_at f.stage then First else Second }
 
-  abbrev pub gives_at : SearchStage → ℕ → Option Found
-  gives_at (Free r) found = None
-  gives_at _ found = find.gives f found
+  -- what the search has given that it runs
+  abbrev pub given_at : SearchStage → Option Found
+  given_at (Free r) = None
+  given_at _ = find.given f
 
   abbrev pub is_busy : SearchStage → Bool
-  is_busy (Free r) = reclaim.is_busy r.stage
-  is_busy _ = find.is_busy f.stage
+  is_busy p = is_none (given_at p)
 
-  -- the next step ends it with no room
+  -- with the next step it has ended with no room
   abbrev pub refuses_at : SearchStage → Bool
   refuses_at (Free r) = false
   refuses_at _ = find.refuses f
 
--- the step that it asks for, what it is after the step found this, and what it ends with if that step is its last
+-- the step that it asks for, what it is after the step found this, what it has given, and what it has given after that step
 abbrev pub asks : Seeking → Ask
 asks s = asks_at s.find s.stage
 
 abbrev pub goes : Seeking → ℕ → Seeking
 goes s found = goes_at s.find s.stage found
 
+abbrev pub given : Seeking → Option Found
+given s = given_at s.find s.stage
+
 abbrev pub gives : Seeking → ℕ → Option Found
-gives s found = gives_at s.find s.stage found
+gives s found = given (goes s found)
 
 abbrev pub listing : Listing Seeking Found
-listing = record { layout = λ s. s.find.layout; busy = λ s. is_busy s.find s.stage; asks = asks; goes = goes; gives = gives }
+listing = listing_of (λ s. s.find.layout) asks goes given
 
 abbrev pub refuses : Seeking → Bool
 refuses s = refuses_at s.find s.stage

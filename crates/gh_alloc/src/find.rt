@@ -4,8 +4,8 @@ ghost use Rattle.std.specs.Prelude.{◌≡◌, ℕ, ◌+◌, ◌*◌, ◌^◌, �
 ghost use Rattle.gh_base.specs.Cells.{seats_of};
 ghost use Rattle.gh_central.specs.GiveBack as giving;
 ghost use Rattle.gh_alloc.specs.declared.find.FindStage.TheVariants.{Give};
-ghost use Rattle.gh_alloc.specs.declared.sought.Found.TheVariants.{NoRoom};
-ghost use Rattle.gh_alloc.specs.Find.{after_carve, after_give, after_lock, after_pass, after_slots, begin, carving, ended, first_page, given_head, gives, goes, is_busy, locked_for, opening, refuses, search_in, slot_found, spans_for, taken, unlocked, word_at_cursor};
+ghost use Rattle.gh_alloc.specs.declared.sought.Found.TheVariants.{At, NoRoom};
+ghost use Rattle.gh_alloc.specs.Find.{after_carve, after_give, after_lock, after_pass, after_slots, begin, carving, finds_none, first_page, given, given_head, gives, goes, is_busy, locked_for, opening, refuses, search_in, spans_for, taken, unlocked, word_at_cursor};
 ghost use Rattle.gh_alloc.specs.FindSound.{FitsPages, IsCached, IsCachedSpan};
 ghost use Rattle.gh_alloc.specs.Search.{again, frees_at, reclaiming};
 ghost use Rattle.gh_alloc.specs.Within.{FitsFrom, FitsGiven, LiesWithin};
@@ -42,8 +42,8 @@ pub enum FindStage {
     Carve(Carve),
     /// It frees the lock.
     Unlock(After),
-    /// It has ended.
-    Ended,
+    /// It has ended with this.
+    Ended(Found),
 }
 
 /// Looks for a slot for an object (Go's `mcache.nextFree` and `mcache.refill` over
@@ -111,12 +111,33 @@ impl Find {
         self.cached
     }
 
-    /// The next step ends the search with `NoRoom`.
+    /// With the next step the search has ended with `NoRoom`.
     pub fn refuses(&self) -> bool
         ensures is { result ≡ refuses self.now }
         ensures exactly { (found : ℕ) → IsTrue result ↔ (gives self.now found ≡ Some NoRoom) }
     {
+        matches!(
+            self.stage,
+            FindStage::Unlock(After::End(Found::NoRoom)) | FindStage::Ended(Found::NoRoom)
+        )
+    }
+
+    /// It has found no room, and the next step frees the heap's lock.
+    pub(crate) fn finds_none(&self) -> bool
+        ensures { result ≡ finds_none self.now }
+    {
         matches!(self.stage, FindStage::Unlock(After::End(Found::NoRoom)))
+    }
+
+    /// What it has given.
+    pub(crate) fn given(&self) -> Option<Found>
+        ensures is { result ≡ given self.now }
+        ensures within { IfSome result (LiesWithin self.now.layout self.now.wanted) }
+    {
+        match self.stage {
+            FindStage::Ended(found) => Some(found),
+            _ => None,
+        }
     }
 
     /// The next step frees the heap's lock.
@@ -254,38 +275,34 @@ impl Find {
         }
     }
 
-    /// Goes on after a step of the pass.
-    fn after_pass(&mut self, out: Option<Option<u32>>)
-        requires { FitsGiven self.old.layout self.old.wanted out }
-        ensures { self.new ≡ after_pass self.old out }
+    /// Goes on after the pass has given this.
+    fn after_pass(&mut self, out: Option<u32>)
+        requires { FitsGiven self.old.layout self.old.wanted (Some out) }
+        ensures { self.new ≡ after_pass self.old (Some out) }
     {
         match out {
-            None => {}
-            Some(None) => self.stage = self.carving(),
-            Some(Some(page)) => self.take_span(page),
+            None => self.stage = self.carving(),
+            Some(page) => self.take_span(page),
         }
     }
 
-    /// Goes on after a step of the search for pages.
-    fn after_carve(&mut self, out: Option<Option<u32>>)
-        requires { FitsGiven self.old.layout self.old.wanted out }
-        ensures { self.new ≡ after_carve self.old out }
+    /// Goes on after the search for pages has given this.
+    fn after_carve(&mut self, out: Option<u32>)
+        requires { FitsGiven self.old.layout self.old.wanted (Some out) }
+        ensures { self.new ≡ after_carve self.old (Some out) }
     {
         match out {
-            None => {}
-            Some(None) => self.stage = FindStage::Unlock(After::End(Found::NoRoom)),
-            Some(Some(page)) => self.take_span(page),
+            None => self.stage = FindStage::Unlock(After::End(Found::NoRoom)),
+            Some(page) => self.take_span(page),
         }
     }
 
     /// Goes on after the cached span was given back.
-    fn after_give(&mut self, out: Option<()>)
-        ensures { self.new ≡ after_give self.old out }
+    fn after_give(&mut self)
+        ensures { self.new ≡ after_give self.old (Some tt) }
     {
-        if out.is_some() {
-            self.cached = None;
-            self.look_for_span();
-        }
+        self.cached = None;
+        self.look_for_span();
     }
 
     /// The first heap word of the slot at the cursor; 0 where no span is cached.
@@ -302,21 +319,14 @@ impl Find {
         }
     }
 
-    /// Goes on after a step of the search of the cached span.
-    fn after_slots(&mut self, out: Option<Option<u32>>) -> Option<Found>
-        ensures goes { self.new ≡ after_slots self.old out }
-        ensures gives { result ≡ slot_found self.old out }
+    /// Goes on after the search of the cached span has given this: a slot, which lies in the arena, or none.
+    fn after_slots(&mut self, slot: Option<u32>)
+        requires { IfSome slot (λ _. LiesWithin self.old.layout self.old.wanted (At (word_at_cursor self.old.wanted self.old.cached))) }
+        ensures { self.new ≡ after_slots self.old (Some slot) }
     {
-        match out {
-            None => None,
-            Some(None) => {
-                self.stage = FindStage::Lock;
-                None
-            }
-            Some(Some(_)) => {
-                self.stage = FindStage::Ended;
-                Some(Found::At(self.word()))
-            }
+        match slot {
+            None => self.stage = FindStage::Lock,
+            Some(_) => self.stage = FindStage::Ended(Found::At(self.word())),
         }
     }
 
@@ -326,11 +336,11 @@ impl Find {
     {
         match after {
             After::Again => begin(&self.layout, &self.wanted, self.cached),
-            After::End(_) => FindStage::Ended,
+            After::End(out) => FindStage::Ended(out),
         }
     }
 
-    /// Takes any step. It stands apart, since most steps of a search go on in a span (`take`) and need none of the memory that
+    /// Takes any step. Where a routine has ended, its stage gives way to another at once. It stands apart, since most steps of a search go on in a span (`take`) and need none of the memory that
     /// the other stages want.
     #[inline(never)]
     fn take_step(&mut self, found: u64) -> Option<Found>
@@ -344,35 +354,44 @@ impl Find {
             FindStage::Slots(search) => {
                 let out = search.take(found);
                 self.cached = move_cursor(self.cached, search.cursor());
-                return self.after_slots(out);
+                if let Some(slot) = out {
+                    self.stage = FindStage::Lock;
+                    self.after_slots(slot);
+                }
             }
             FindStage::Give(give) => {
-                let out = give.take(found);
-                self.after_give(out);
+                if give.take(found).is_some() {
+                    self.stage = FindStage::Lock;
+                    self.after_give();
+                }
             }
             FindStage::Pass(pass) => {
-                let out = pass.take(found);
-                self.after_pass(out);
+                if let Some(out) = pass.take(found) {
+                    self.stage = FindStage::Lock;
+                    self.after_pass(out);
+                }
             }
             FindStage::Carve(carve) => {
-                let out = carve.take(found);
-                self.after_carve(out);
+                if let Some(out) = carve.take(found) {
+                    self.stage = FindStage::Lock;
+                    self.after_carve(out);
+                }
             }
             FindStage::Lock => self.after_lock(found),
             FindStage::Unlock(after) => {
                 let then = *after;
                 self.stage = self.unlocked(then);
-                return ended(then);
             }
-            FindStage::Ended => {}
+            FindStage::Ended(_) => {}
         }
-        None
+        self.given()
     }
 }
 
 impl Machine for Find {
+    ghost use Rattle.gh_base.specs.Given.{is_over};
     ghost use Rattle.gh_alloc.specs.Find.{gives, goes, is_busy, listing};
-    ghost use Rattle.gh_alloc.specs.FindEnds as proved;
+    ghost use Rattle.gh_alloc.specs.Stays.{find_stays};
 
     type Out = Found;
 
@@ -397,7 +416,7 @@ impl Machine for Find {
             FindStage::Pass(pass) => pass.next(),
             FindStage::Carve(carve) => carve.next(),
             FindStage::Unlock(_) => self.layout.request(Ask::Store(Cell::Lock, 0)),
-            FindStage::Ended => self.layout.request(Ask::Load(Cell::Touch)),
+            FindStage::Ended(_) => self.layout.request(Ask::Load(Cell::Touch)),
         }
     }
 
@@ -415,17 +434,7 @@ impl Machine for Find {
         self.take_step(found)
     }
 
-    ghost ends = { proved.ends };
+    ghost ends = { λ m found busy. is_over (listing.gives m found) };
 
-    ghost stays = { proved.stays };
-}
-
-/// What it ends with, if nothing follows.
-fn ended(after: After) -> Option<Found>
-    ensures { result ≡ ended after }
-{
-    match after {
-        After::Again => None,
-        After::End(out) => Some(out),
-    }
+    ghost stays = { find_stays };
 }

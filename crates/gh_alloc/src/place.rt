@@ -1,7 +1,7 @@
 //! The routine that makes an object in its slot.
 
 ghost use Rattle.std.specs.Prelude.{◌≡◌, ℕ, ◌+◌, ◌*◌, ◌^◌, ◌<◌, ◌≤◌};
-ghost use Rattle.gh_alloc.specs.Place.{acts, filled, made, opening};
+ghost use Rattle.gh_alloc.specs.Place.{acts, filled, given, made, opening};
 ghost use Rattle.gh_alloc.specs.PlaceSound.{FitsSpanHead};
 ghost use Rattle.gh_alloc.specs.declared.place.PlaceStage.TheVariants.{Bits};
 ghost use Rattle.gh_bitmap.specs.SetPointers as setting;
@@ -125,17 +125,6 @@ impl<'s> Place<'s> {
         }
     }
 
-    /// What follows once the pointer bits are written: the mark, where marking is on.
-    fn filled(&self) -> PlaceStage<'s>
-        ensures { result ≡ filled self.now.marking }
-    {
-        if self.marking {
-            PlaceStage::Mark
-        } else {
-            PlaceStage::Alloc
-        }
-    }
-
     /// What follows once the object is made.
     fn made(&self) -> PlaceStage<'s>
         ensures { result ≡ made self.now self.now.span }
@@ -152,12 +141,33 @@ impl<'s> Place<'s> {
     {
         PlaceStage::Bits(SetPointers::new(&self.layout, self.shape, self.at, self.slot))
     }
+
+    /// What it has given.
+    fn given(&self) -> Option<()>
+        ensures { result ≡ given self.now }
+    {
+        match self.stage {
+            PlaceStage::Ended => Some(()),
+            _ => None,
+        }
+    }
+}
+
+/// What follows once the pointer bits are written: the mark, where marking is on.
+fn filled<'s>(marking: bool) -> PlaceStage<'s>
+    ensures { result ≡ filled marking }
+{
+    if marking {
+        PlaceStage::Mark
+    } else {
+        PlaceStage::Alloc
+    }
 }
 
 impl<'s> Machine for Place<'s> {
     ghost use Rattle.std.specs.Prelude.{refl};
+    ghost use Rattle.gh_base.specs.Given.{is_over};
     ghost use Rattle.gh_alloc.specs.Place.{listing};
-    ghost use Rattle.gh_alloc.specs.PlaceEnds as proved;
 
     type Out = ();
 
@@ -198,22 +208,19 @@ impl<'s> Machine for Place<'s> {
             PlaceStage::Birth => self.stage = self.bits(),
             PlaceStage::Bits(bits) => {
                 if bits.take(found).is_some() {
-                    self.stage = self.filled();
+                    self.stage = filled(self.marking);
                 }
             }
             PlaceStage::Mark => self.stage = PlaceStage::Alloc,
             PlaceStage::Alloc => self.stage = self.made(),
             PlaceStage::Give(_) => self.stage = PlaceStage::Count,
-            PlaceStage::Count => {
-                self.stage = PlaceStage::Ended;
-                return Some(());
-            }
+            PlaceStage::Count => self.stage = PlaceStage::Ended,
             PlaceStage::Ended => {}
         }
-        None
+        self.given()
     }
 
-    ghost ends = { proved.ends };
+    ghost ends = { λ m found busy. is_over (listing.gives m found) };
 
     ghost stays = { λ _ _. refl };
 }

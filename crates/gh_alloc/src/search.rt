@@ -4,7 +4,7 @@ ghost use Rattle.std.specs.Prelude.{◌≡◌, ℕ, ◌^◌, ◌<◌, ◌↔◌,
 ghost use Rattle.gh_base.specs.Cells.{seats_of};
 ghost use Rattle.gh_alloc.specs.declared.sought.Found.TheVariants.{NoRoom};
 ghost use Rattle.gh_alloc.specs.FindSound.{FitsPages, IsCached};
-ghost use Rattle.gh_alloc.specs.Search.{gives, goes, is_busy, opening, refuses};
+ghost use Rattle.gh_alloc.specs.Search.{given, gives, goes, is_busy, opening, refuses};
 ghost use Rattle.gh_alloc.specs.Within.{LiesWithin};
 
 use crate::find::Find;
@@ -82,7 +82,7 @@ impl Search {
         self.find.cached()
     }
 
-    /// The next step ends the search with `NoRoom`.
+    /// With the next step the search has ended with `NoRoom`.
     pub fn refuses(&self) -> bool
         ensures is { result ≡ refuses self.now }
         ensures exactly { (found : ℕ) → IsTrue result ↔ (gives self.now found ≡ Some NoRoom) }
@@ -92,11 +92,23 @@ impl Search {
             SearchStage::First | SearchStage::Second => self.find.refuses(),
         }
     }
+
+    /// What it has given.
+    fn given(&self) -> Option<Found>
+        ensures is { result ≡ given self.now }
+        ensures within { IfSome result (LiesWithin self.now.find.layout self.now.find.wanted) }
+    {
+        match self.stage {
+            SearchStage::Free(_) => None,
+            SearchStage::First | SearchStage::Second => self.find.given(),
+        }
+    }
 }
 
 impl Machine for Search {
+    ghost use Rattle.gh_base.specs.Given.{is_over};
     ghost use Rattle.gh_alloc.specs.Search.{gives, goes, is_busy, listing};
-    ghost use Rattle.gh_alloc.specs.SearchEnds as proved;
+    ghost use Rattle.gh_alloc.specs.Stays.{stays};
 
     type Out = Found;
 
@@ -125,31 +137,29 @@ impl Machine for Search {
     {
         match &mut self.stage {
             SearchStage::First => {
-                let out = self.find.take(found);
-                if self.find.refuses() {
+                self.find.take(found);
+                if self.find.finds_none() {
                     self.stage = SearchStage::Free(self.find.reclaim());
                 }
-                out
             }
             SearchStage::Free(reclaim) => {
                 if reclaim.take(found).is_some() {
                     self.find.look_for_span();
                     self.stage = SearchStage::Second;
                 }
-                None
             }
             SearchStage::Second => {
                 let frees = self.find.frees_lock();
-                let out = self.find.take(found);
+                self.find.take(found);
                 if frees {
                     self.stage = SearchStage::First;
                 }
-                out
             }
         }
+        self.given()
     }
 
-    ghost ends = { proved.ends };
+    ghost ends = { λ m found busy. is_over (listing.gives m found) };
 
-    ghost stays = { proved.stays };
+    ghost stays = { stays };
 }

@@ -1,6 +1,7 @@
 -- While marking is on the steps of a write behind the barrier are moves that its seat may make. Of the moves and of shading it is known what their laws say.
 use Rattle.std.proofs.Common.{◌≡◌, ◌≢◌, ℕ, ◌+◌, ◌-◌, ◌*◌, ◌%◌, ◌<◌, ◌≤◌, ◌⊎◌, Bool, true, false, cond, eqb, Option, Some, None, inl, inr, refl, sym, ap, subst, ◌∙◌, arith, eqb-true, eq-eqb}
 use Rattle.std.proofs.Math.Nat.{mod-eq_of_lt}
+use Rattle.std.specs.Prelude.{is_none}
 use Rattle.gh_base.specs.declared.cell.Ask.TheVariants as ask
 use Rattle.gh_base.specs.declared.cell.Cell.TheVariants as cell
 use Rattle.gh_marks.specs.Colours.{Cycle, IsClean, IsMarked, IsSince, Shared}
@@ -11,7 +12,7 @@ use Rattle.gh_marks.specs.Moves as move
 use Rattle.gh_marks.specs.Moves.{BehindBarrier, Keeps, Lands, Others, Steps, Went, landing, landing_on, lands_by, lands_still, moved}
 use Rattle.gh_marks.specs.Seats.{Hands, InHand}
 use Rattle.gh_barrier.specs.Facts.{Facts, IsCell, IsKnown, put_of, StageFacts, Stands, WritesByMoves}
-use Rattle.gh_barrier.proofs.Vocabulary.{after_new, after_old, Ask, asks_at, at_stage, behind_old, bitmap_words, Cell, cell_at, cell_of, Done, effect, Ended, Field, gives_at, Global, goes_at, HasTwo, Held, in_hand, LoadOld, mark_words, PointerCell, put, read_as, Shaded, ShadeNew, ShadeOld, shades_new, shades_old, Store, WantsRoom, with_old, word_of, WriteStage, Writing}
+use Rattle.gh_barrier.proofs.Vocabulary.{after_new, after_old, Ask, asks_at, at_stage, behind_old, bitmap_words, Cell, cell_at, cell_of, Done, effect, Ended, Field, given_at, Global, goes, goes_at, HasTwo, Held, in_hand, LoadOld, mark_words, PointerCell, put, read_as, Shaded, ShadeNew, ShadeOld, shades_new, shades_old, Store, WantsRoom, with_old, word_of, WriteStage, Writing}
 use Rattle.gh_barrier.proofs.Room.{held-stays, never-wants, place-of, place-then}
 use Rattle.gh_shade.specs.Facts as shade_facts
 use Rattle.gh_shade.specs.Listing.{object_of}
@@ -82,7 +83,7 @@ module _ (k : Known) (z : Cycle) (a : ℕ) (s : Shared) (rest : InHand) where
     by None e = record { layout_is = layout_is; is_cell = is; known = known; stage_is = (clean, nil-clean s (word_of w.pointer) (ap word_of e), x) }
     by (Some r) e =
         let is-known : IsKnown s (Some r) = subst (λ (p : Option ℕ). IsKnown s p) e known in
-        record { layout_is = layout_is; is_cell = is; known = known; stage_is = (place, clean, e, k.shade.begins z a s rest w.layout r w.held is-known.0 is-known.1 x) }
+        record { layout_is = layout_is; is_cell = is; known = known; stage_is = (place, clean, e, k.shade.begins z a s rest w.layout r w.held is-known.0 is-known.1 x, refl) }
 
   -- the new value is shaded, and the store comes next
   store-facts : (w : Writing) (r : ℕ) → w.layout ≡ z.arena.layout → IsCell s w.at → IsKnown s w.pointer → IsClean (mark_words s.words) (s.words (cell_at w.at)) → w.pointer ≡ Some r → 1 ≤ r → IsMarked (mark_words s.words) (object_of r) → Hands a s (in_hand rest w.held None) → Facts z a s rest (at_stage w Store)
@@ -130,7 +131,7 @@ module _ (k : Known) (z : Cycle) (a : ℕ) (s : Shared) (rest : InHand) (g : Goo
           layout_is = layout_is;
           is_cell = is;
           known = known;
-          stage_is = (two, inl (sym reference), k.shade.begins z a s rest w.layout ((v - 1) % (1024 * w.layout.pages) + 1) w.held (omega arith) (ap (λ (n : ℕ). s.since (n - 1)) reference ∙ since) x);
+          stage_is = (two, inl (sym reference), k.shade.begins z a s rest w.layout ((v - 1) % (1024 * w.layout.pages) + 1) w.held (omega arith) (ap (λ (n : ℕ). s.since (n - 1)) reference ∙ since) x, refl);
         })
 
   -- a step of shading
@@ -144,38 +145,38 @@ module _ (k : Known) (z : Cycle) (a : ℕ) (s : Shared) (rest : InHand) (g : Goo
     landed : (n : Writing) → Facts z a t rest n → Lands z a t t.words (λ u. Keeps z a s u × Facts z a u rest n)
     landed n f = lands_still z a t t.words (λ u. Keeps z a s u × Facts z a u rest n) refl (keeps, f)
 
-    old-after : (sh : shade.Shading) (f : ℕ) (out : Option Shaded) → shade.gives sh f ≡ out → HasTwo sh.held → Stands t c (shade.goes sh f).reference → shade_facts.Facts z a t rest (shade.goes sh f) →
+    old-after : (sh : shade.Shading) (f : ℕ) (out : Option Shaded) → shade.gives sh f ≡ out → shade.is_busy sh.stage ≡ true → HasTwo sh.held → Stands t c (shade.goes sh f).reference → shade_facts.Facts z a t rest (shade.goes sh f) →
         Lands z a t t.words (λ u. Keeps z a s u × Facts z a u rest (after_old w (shade.goes sh f) out))
-    old-after sh f None e two stands facts =
+    old-after sh f None e busy two stands facts =
         let two-then : HasTwo (shade.goes sh f).held = subst (λ (h : Option Held). HasTwo h) (sym (held-stays sh f e)) two in
-        landed (at_stage w (ShadeOld (shade.goes sh f))) (record { layout_is = layout_is; is_cell = is-then; known = known-then; stage_is = (two-then, stands, facts) })
-    old-after sh f (Some Done) e two stands facts =
+        landed (at_stage w (ShadeOld (shade.goes sh f))) (record { layout_is = layout_is; is_cell = is-then; known = known-then; stage_is = (two-then, stands, facts, ap is_none e) })
+    old-after sh f (Some Done) e busy two stands facts =
         let shaded : shade_facts.IsShaded a t rest (shade.goes sh f) = k.shade.ends z a t rest sh f e facts in
         landed (behind_old (record w { held = (shade.goes sh f).held })) (new-facts k z a t rest (record w { held = (shade.goes sh f).held }) layout_is is-then known-then (place-then sh f two) (shaded-clean t c (shade.goes sh f).reference facts.some shaded.marked stands) shaded.hands)
-    old-after sh f (Some WantsRoom) e two stands facts = absurd (never-wants sh f (place-of sh.held two) e)
+    old-after sh f (Some WantsRoom) e busy two stands facts = absurd (never-wants sh f busy (place-of sh.held two) e)
 
-    new-after : (sh : shade.Shading) (f : ℕ) (out : Option Shaded) → shade.gives sh f ≡ out → HasPlace sh.held → IsClean (mark_words t.words) (t.words c) → w.pointer ≡ Some (shade.goes sh f).reference → shade_facts.Facts z a t rest (shade.goes sh f) →
+    new-after : (sh : shade.Shading) (f : ℕ) (out : Option Shaded) → shade.gives sh f ≡ out → shade.is_busy sh.stage ≡ true → HasPlace sh.held → IsClean (mark_words t.words) (t.words c) → w.pointer ≡ Some (shade.goes sh f).reference → shade_facts.Facts z a t rest (shade.goes sh f) →
         Lands z a t t.words (λ u. Keeps z a s u × Facts z a u rest (after_new w (shade.goes sh f) out))
-    new-after sh f None e place clean same facts =
+    new-after sh f None e busy place clean same facts =
         let place-on : HasPlace (shade.goes sh f).held = subst (λ (h : Option Held). HasPlace h) (sym (held-stays sh f e)) place in
-        landed (at_stage w (ShadeNew (shade.goes sh f))) (record { layout_is = layout_is; is_cell = is-then; known = known-then; stage_is = (place-on, clean, same, facts) })
-    new-after sh f (Some Done) e place clean same facts =
+        landed (at_stage w (ShadeNew (shade.goes sh f))) (record { layout_is = layout_is; is_cell = is-then; known = known-then; stage_is = (place-on, clean, same, facts, ap is_none e) })
+    new-after sh f (Some Done) e busy place clean same facts =
         let shaded : shade_facts.IsShaded a t rest (shade.goes sh f) = k.shade.ends z a t rest sh f e facts in
         landed (record w { held = (shade.goes sh f).held; stage = Store }) (store-facts k z a t rest (record w { held = (shade.goes sh f).held }) (shade.goes sh f).reference layout_is is-then known-then clean same facts.some shaded.marked shaded.hands)
-    new-after sh f (Some WantsRoom) e place clean same facts = absurd (never-wants sh f place e)
+    new-after sh f (Some WantsRoom) e busy place clean same facts = absurd (never-wants sh f busy place e)
 
-  shades-old : (sh : shade.Shading) → HasTwo sh.held → Stands s c sh.reference → shade_facts.Facts z a s rest sh → Leads (shade.asks sh) (goes_at w (ShadeOld sh) (s.words (cell_of (shade.asks sh))))
-  shades-old sh two stands facts =
+  shades-old : (sh : shade.Shading) → HasTwo sh.held → Stands s c sh.reference → shade_facts.Facts z a s rest sh → shade.is_busy sh.stage ≡ true → Leads (shade.asks sh) (goes_at w (ShadeOld sh) (s.words (cell_of (shade.asks sh))))
+  shades-old sh two stands facts busy =
       let f : ℕ = s.words (cell_of (shade.asks sh)) in
       landing_on z a s (effect s.words (shade.asks sh)) (λ t. Keeps z a s t × shade_facts.Facts z a t rest (shade.goes sh f)) (λ u. Keeps z a s u × Facts z a u rest (after_old w (shade.goes sh f) (shade.gives sh f)))
-      (λ t went h. old-after t went h.0 sh f (shade.gives sh f) refl two (subst (λ (r : ℕ). Stands t c r) (sym (k.shade.same sh f)) (stands-kept k z a s t h.0 w.at sh.reference is stands)) h.1)
+      (λ t went h. old-after t went h.0 sh f (shade.gives sh f) refl busy two (subst (λ (r : ℕ). Stands t c r) (sym (k.shade.same sh f)) (stands-kept k z a s t h.0 w.at sh.reference is stands)) h.1)
       (k.shade.keeps.own_step z a s rest sh g objects facts)
 
-  shades-new : (sh : shade.Shading) → HasPlace sh.held → IsClean (mark_words s.words) (s.words c) → w.pointer ≡ Some sh.reference → shade_facts.Facts z a s rest sh → Leads (shade.asks sh) (goes_at w (ShadeNew sh) (s.words (cell_of (shade.asks sh))))
-  shades-new sh place clean same facts =
+  shades-new : (sh : shade.Shading) → HasPlace sh.held → IsClean (mark_words s.words) (s.words c) → w.pointer ≡ Some sh.reference → shade_facts.Facts z a s rest sh → shade.is_busy sh.stage ≡ true → Leads (shade.asks sh) (goes_at w (ShadeNew sh) (s.words (cell_of (shade.asks sh))))
+  shades-new sh place clean same facts busy =
       let f : ℕ = s.words (cell_of (shade.asks sh)) in
       landing_on z a s (effect s.words (shade.asks sh)) (λ t. Keeps z a s t × shade_facts.Facts z a t rest (shade.goes sh f)) (λ u. Keeps z a s u × Facts z a u rest (after_new w (shade.goes sh f) (shade.gives sh f)))
-      (λ t went h. new-after t went h.0 sh f (shade.gives sh f) refl place (clean-kept k z a s t h.0 w.at is clean) (same ∙ sym (ap (λ (r : ℕ). Some r) (k.shade.same sh f))) h.1)
+      (λ t went h. new-after t went h.0 sh f (shade.gives sh f) refl busy place (clean-kept k z a s t h.0 w.at is clean) (same ∙ sym (ap (λ (r : ℕ). Some r) (k.shade.same sh f))) h.1)
       (k.shade.keeps.own_step z a s rest sh g objects facts)
 
   -- the store is a move behind the barrier
@@ -190,16 +191,16 @@ module _ (k : Known) (z : Cycle) (a : ℕ) (s : Shared) (rest : InHand) (g : Goo
 
   own-at : (p : WriteStage) → Facts z a s rest w → StageFacts z a s rest w p → Leads (asks_at w p) (goes_at w p (s.words (cell_of (asks_at w p))))
   own-at LoadOld f x = loads x.0 x.1
-  own-at (ShadeOld sh) f x = shades-old sh x.0 x.1 x.2
-  own-at (ShadeNew sh) f x = shades-new sh x.0 x.1 x.2 x.3
+  own-at (ShadeOld sh) f x = shades-old sh x.0 x.1 x.2 x.3
+  own-at (ShadeNew sh) f x = shades-new sh x.0 x.1 x.2 x.3 x.4
   own-at Store f x = stores x
-  own-at Ended f x = still cell.Touch w f
+  own-at Ended f x = still cell.Touch (at_stage w Ended) (record { layout_is = layout_is; is_cell = is; known = known; stage_is = x })
 
 module _ (k : Known) (z : Cycle) (a : ℕ) (s t : Shared) (rest : InHand) (w : Writing) (o : Others z a s t) (is : IsCell s w.at) where
   stage-lasts : (p : WriteStage) → StageFacts z a s rest w p → StageFacts z a t rest w p
   stage-lasts LoadOld f = (f.0, k.last z a s t (in_hand rest w.held None) o f.1)
-  stage-lasts (ShadeOld sh) f = (f.0, stands-kept k z a s t o.keeps w.at sh.reference is f.1, k.shade.keeps.lasts z a s t rest sh o f.2)
-  stage-lasts (ShadeNew sh) f = (f.0, clean-kept k z a s t o.keeps w.at is f.1, f.2, k.shade.keeps.lasts z a s t rest sh o f.3)
+  stage-lasts (ShadeOld sh) f = (f.0, stands-kept k z a s t o.keeps w.at sh.reference is f.1, k.shade.keeps.lasts z a s t rest sh o f.2, f.3)
+  stage-lasts (ShadeNew sh) f = (f.0, clean-kept k z a s t o.keeps w.at is f.1, f.2, k.shade.keeps.lasts z a s t rest sh o f.3, f.4)
   stage-lasts Store f = (clean-kept k z a s t o.keeps w.at is f.0, (k.facts z a s t o.keeps).clean (word_of w.pointer) f.1, k.last z a s t (in_hand rest w.held None) o f.2)
   stage-lasts Ended f = k.last z a s t (in_hand rest w.held None) o f
 
@@ -229,10 +230,10 @@ same-at w (ShadeNew sh) found = by (shade.goes sh found) (shade.gives sh found) 
 same-at w Store found = record { at = refl; pointer = refl }
 same-at w Ended found = record { at = refl; pointer = refl }
 
--- it ends with the store
-ended-then : (z : Cycle) (a : ℕ) (s : Shared) (rest : InHand) (w : Writing) (p : WriteStage) (found : ℕ) → gives_at p ≡ Some tt → StageFacts z a s rest (goes_at w p found) (goes_at w p found).stage → Hands a s (in_hand rest (goes_at w p found).held None)
-ended-then z a s rest w Store found e f = f
-ended-then z a s rest w _ found e f = absurd (cc)
+-- what it has in hand where it has ended
+ended-then : (z : Cycle) (a : ℕ) (s : Shared) (rest : InHand) (w : Writing) (p : WriteStage) → given_at p ≡ Some tt → StageFacts z a s rest w p → Hands a s (in_hand rest w.held None)
+ended-then z a s rest w Ended e f = f
+ended-then z a s rest w _ e f = absurd (cc)
 
 pub writes-by-moves : Known → WritesByMoves
 writes-by-moves k = record {
@@ -248,7 +249,7 @@ writes-by-moves k = record {
   begins = λ z a s rest at pointer held is known two x. record { layout_is = refl; is_cell = is; known = known; stage_is = (two, x) };
   stores = λ z a s rest w e f. behind k z a s rest w f.known (subst (λ (p : WriteStage). StageFacts z a s rest w p) e f.stage_is);
   stores_by = λ z a s rest w e f. subst (λ (p : WriteStage). Steps z a s (asks_at w p) (λ t. t ≡ moved z a s (put_of w.at (word_of w.pointer)))) (sym e) (stores-by k z a s rest w.at (word_of w.pointer) (behind k z a s rest w f.known (subst (λ (p : WriteStage). StageFacts z a s rest w p) e f.stage_is)));
-  ends = λ z a s rest w found e f. ended-then z a s rest w w.stage found e f.stage_is;
+  ends = λ z a s rest w found e f. ended-then z a s rest (goes w found) (goes w found).stage e f.stage_is;
   same_cell = λ w found. (same-at w w.stage found).at;
   same_pointer = λ w found. (same-at w w.stage found).pointer;
 }

@@ -5,12 +5,12 @@ use Rattle.gh_base.specs.declared.held.Held.{Held}
 use Rattle.gh_shade.specs.declared.shade.Shaded.TheVariants.{Done, WantsRoom}
 use Rattle.gh_shade.specs.declared.shade.ShadeStage.{ShadeStage}
 use Rattle.gh_shade.specs.declared.shade.ShadeStage.TheVariants.{SetMark, WaitForRoom, Enter}
-use Rattle.gh_shade.specs.Listing.{after_mark, gives, gives_at, gives_mark, goes, goes_at, has_place, is_whole, raised, Shading}
+use Rattle.gh_shade.specs.Listing.{after_mark, given, given_at, gives, goes, goes_at, has_place, is_busy, is_whole, raised, Shading}
 use Rattle.gh_shade.specs.Sound.{HasPlace}
 use Rattle.gh_barrier.specs.Sound.{HasTwo}
 
 -- until it ends, what is held stays
-held-at : (sh : Shading) (stage : ShadeStage) (found : ℕ) → gives_at sh stage found ≡ None → (goes_at sh stage found).held ≡ sh.held
+held-at : (sh : Shading) (stage : ShadeStage) (found : ℕ) → given (goes_at sh stage found) ≡ None → (goes_at sh stage found).held ≡ sh.held
 held-at sh Enter found e = absurd (cc)
 held-at sh _ found e = refl
 
@@ -34,22 +34,20 @@ pub place-then : (sh : Shading) (found : ℕ) → HasTwo sh.held → HasPlace (g
 place-then sh found two = place-at sh sh.stage found two
 
 -- and with a place for its object it never wishes for room
-mark-never : (whole : Bool) (held : Option Held) → has_place held ≡ true → gives_mark (after_mark held whole) ≢ Some WantsRoom
+mark-never : (whole : Bool) (held : Option Held) → has_place held ≡ true → given_at (after_mark held whole) ≢ Some WantsRoom
 mark-never true held e is = absurd (let same : Done ≡ WantsRoom = cc in cc)
 mark-never false held e is =
-    let enters : gives_mark (after_mark held false) ≡ None = ap (λ (b : Bool). gives_mark (cond b Enter WaitForRoom)) e in
+    let enters : given_at (after_mark held false) ≡ None = ap (λ (b : Bool). given_at (cond b Enter WaitForRoom)) e in
     absurd (cc)
 
-never-at : (sh : Shading) (stage : ShadeStage) (found : ℕ) → has_place sh.held ≡ true → gives_at sh stage found ≢ Some WantsRoom
-never-at sh (SetMark noscan) found e is = mark-never (is_whole sh noscan found) sh.held e is
-never-at sh Enter found e is = absurd (let same : Done ≡ WantsRoom = cc in cc)
-never-at sh _ found e is = absurd (cc)
+never-at : (sh : Shading) (stage : ShadeStage) (found : ℕ) → is_busy stage ≡ true → has_place sh.held ≡ true → given (goes_at sh stage found) ≢ Some WantsRoom
+never-at sh (SetMark noscan) found busy e is = mark-never (is_whole sh noscan found) sh.held e is
+never-at sh Enter found busy e is = absurd (let same : Done ≡ WantsRoom = cc in cc)
+never-at sh _ found busy e is = absurd (cc)
 
 pub place-yes : (held : Option Held) → HasPlace held → has_place held ≡ true
 place-yes None h = absurd h
 place-yes (Some h) lt = grind (arith, nat_tests)
 
-pub never-wants : (sh : Shading) (found : ℕ) → HasPlace sh.held → gives sh found ≢ Some WantsRoom
-never-wants sh found place = never-at sh sh.stage found (place-yes sh.held place)
-
--- What is held, with some more entries.
+pub never-wants : (sh : Shading) (found : ℕ) → is_busy sh.stage ≡ true → HasPlace sh.held → gives sh found ≢ Some WantsRoom
+never-wants sh found busy place = never-at sh sh.stage found busy (place-yes sh.held place)

@@ -43,9 +43,9 @@ module _ (s : shade.Shading) (now : FitsShade s) where
   shade-goes-at : (q : ShadeStage) (found : ℕ) → FitsStage s.held q → ShadesWithin s.layout (shade.goes_at s q found)
   shade-goes-at shade_stage.LoadPage found f = shade-at _ tt
   shade-goes-at (shade_stage.SetMark noscan) found f = marked (shade.is_whole s noscan found)
-  shade-goes-at shade_stage.WaitForRoom found f = record { layout_is = refl; fits = now }
+  shade-goes-at shade_stage.WaitForRoom found f = shade-at shade_stage.WaitForRoom tt
   shade-goes-at shade_stage.Enter found f = record { layout_is = refl; fits = record { reference = now.reference; held = raised-held s.layout s.held now.held f; stage = tt } }
-  shade-goes-at shade_stage.Ended found f = record { layout_is = refl; fits = now }
+  shade-goes-at shade_stage.Ended found f = shade-at shade_stage.Ended tt
 
 shade-goes : (l : Layout) (s : shade.Shading) (found : ℕ) → ShadesWithin l s → ShadesWithin l (shade.goes s found)
 shade-goes l s found f = subst (λ (k : Layout). ShadesWithin k (shade.goes s found)) f.layout_is (shade-goes-at s f.fits s.stage found f.fits.stage)
@@ -115,7 +115,7 @@ module _ (w : Writing) (now : WritesWithin w.layout w) where
   goes-at (ShadeOld sh) found f = after-old (shade.goes sh found) (shade.gives sh found) (shade-goes w.layout sh found f)
   goes-at (ShadeNew sh) found f = after-new (shade.goes sh found) (shade.gives sh found) (shade-goes w.layout sh found f)
   goes-at Store found f = write-at Ended tt
-  goes-at Ended found f = now
+  goes-at Ended found f = write-at Ended tt
 
 goes-on : (l : Layout) (w : Writing) (found : ℕ) → WritesWithin l w → WritesWithin l (goes w found)
 goes-on l w found f =

@@ -4,14 +4,13 @@ use Rattle.gh_barrier.specs.declared.write_pointer.WriteStage.{WriteStage}
 use Rattle.gh_barrier.specs.declared.write_pointer.WriteStage.TheVariants.{LoadOld, ShadeOld, ShadeNew, Store, Ended}
 use Rattle.gh_barrier.specs.Listing.{goes, is_busy, Writing}
 use Rattle.gh_shade.specs.declared.shade.ShadeStage.{ShadeStage}
-use Rattle.gh_shade.specs.declared.shade.ShadeStage.TheVariants.{LoadPage, SetMark, Enter}
+use Rattle.gh_shade.specs.declared.shade.ShadeStage.TheVariants.{LoadPage, SetMark}
 
--- a shading loads the page word, sets the mark bit, and makes the entry
+-- A shading loads the page word, sets the mark bit, and makes the entry. One that has ended is left with the next step.
 abbrev pub shade_left : ShadeStage → ℕ
 shade_left LoadPage = 3
 shade_left (SetMark noscan) = 2
-shade_left Enter = 1
-shade_left _ = 0
+shade_left _ = 1
 
 -- the load, two shadings and the store
 abbrev pub left : WriteStage → ℕ

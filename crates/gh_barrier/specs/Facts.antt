@@ -15,7 +15,7 @@ use Rattle.gh_barrier.specs.Listing.{asks, cell_at, gives, goes, listing, openin
 use Rattle.gh_barrier.specs.Sound.{HasTwo}
 use Rattle.gh_shade.specs.Facts.{in_hand}
 use Rattle.gh_shade.specs.Facts as shade_facts
-use Rattle.gh_shade.specs.Listing.{object_of}
+use Rattle.gh_shade.specs.Listing.{is_busy, object_of}
 use Rattle.gh_shade.specs.Sound.{HasPlace}
 
 -- heap word x is a pointer field of an object of the cycle
@@ -44,11 +44,12 @@ IsKnown s (Some reference) = (1 ≤ reference) × (s.since (object_of reference)
 abbrev pub Stands : Shared → Cell → (reference : ℕ) → Type 0
 Stands s c reference = (s.words c ≡ reference) ⊎ IsClean (mark_words s.words) (s.words c)
 
+-- a shading that it runs has not ended
 abbrev pub StageFacts : Cycle → (a : ℕ) → Shared → InHand → Writing → WriteStage → Type 0
 StageFacts z a s rest w LoadOld = HasTwo w.held × Hands a s (in_hand rest w.held None)
-StageFacts z a s rest w (ShadeOld sh) = HasTwo sh.held × Stands s (cell_at w.at) sh.reference × shade_facts.Facts z a s rest sh
+StageFacts z a s rest w (ShadeOld sh) = HasTwo sh.held × Stands s (cell_at w.at) sh.reference × shade_facts.Facts z a s rest sh × (is_busy sh.stage ≡ true)
 -- the old value is shaded: from here on the cell holds nothing white, whoever stores to it
-StageFacts z a s rest w (ShadeNew sh) = HasPlace sh.held × IsClean (mark_words s.words) (s.words (cell_at w.at)) × (w.pointer ≡ Some sh.reference) × shade_facts.Facts z a s rest sh
+StageFacts z a s rest w (ShadeNew sh) = HasPlace sh.held × IsClean (mark_words s.words) (s.words (cell_at w.at)) × (w.pointer ≡ Some sh.reference) × shade_facts.Facts z a s rest sh × (is_busy sh.stage ≡ true)
 StageFacts z a s rest w Store = IsClean (mark_words s.words) (s.words (cell_at w.at)) × IsClean (mark_words s.words) (word_of w.pointer) × Hands a s (in_hand rest w.held None)
 StageFacts z a s rest w Ended = Hands a s (in_hand rest w.held None)
 

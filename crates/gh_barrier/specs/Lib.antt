@@ -1,6 +1,7 @@
+pub mod Blind
 pub mod Ending
-pub mod Ends
 pub mod Facts
 pub mod Listing
 pub mod Sound
+pub mod Stays
 pub mod Within

@@ -1,11 +1,12 @@
--- The writing of a pointer behind the write barrier: what is asked for at each stage, where that leads, and what it gives.
-use Rattle.std.specs.Prelude.{ℕ, ◌+◌, ◌-◌, ◌*◌, ◌%◌, Bool, true, false, ◌==◌, if◌then◌else◌, Option, Some, None}
+-- The writing of a pointer behind the write barrier: what is asked for at each stage, where that leads, and what it has given.
+use Rattle.std.specs.Prelude.{ℕ, ◌+◌, ◌-◌, ◌*◌, ◌%◌, Bool, ◌==◌, if◌then◌else◌, Option, Some, None, is_none}
 use Rattle.gh_base.specs.declared.cell.Ask.{Ask}
 use Rattle.gh_base.specs.declared.cell.Ask.TheVariants as ask
 use Rattle.gh_base.specs.declared.cell.Cell.{Cell}
 use Rattle.gh_base.specs.declared.cell.Cell.TheVariants as cell
 use Rattle.gh_base.specs.declared.held.Held.{Held}
 use Rattle.gh_base.specs.declared.layout.Layout.{Layout}
+use Rattle.gh_base.specs.Given.{listing_of}
 use Rattle.gh_base.specs.Routines.{Listing}
 use Rattle.gh_barrier.specs.declared.pointer_cell.PointerCell.{PointerCell}
 use Rattle.gh_barrier.specs.declared.pointer_cell.PointerCell.TheVariants.{Field, Global}
@@ -87,18 +88,15 @@ goes_at w LoadOld found = with_old w found
 goes_at w (ShadeOld sh) found = after_old w (shade.goes sh found) (shade.gives sh found)
 goes_at w (ShadeNew sh) found = after_new w (shade.goes sh found) (shade.gives sh found)
 goes_at w Store found = at_stage w Ended
-goes_at w Ended found = w
+goes_at w Ended found = at_stage w Ended
+
+-- it has ended behind the store
+abbrev pub given_at : WriteStage → Option (Unit {0})
+given_at Ended = Some tt
+given_at _ = None
 
 abbrev pub is_busy : WriteStage → Bool
-is_busy (ShadeOld sh) = shade.is_busy sh.stage
-is_busy (ShadeNew sh) = shade.is_busy sh.stage
-is_busy Ended = false
-is_busy _ = true
-
--- it ends with the store
-abbrev pub gives_at : WriteStage → Option (Unit {0})
-gives_at Store = Some tt
-gives_at _ = None
+is_busy stage = is_none (given_at stage)
 
 abbrev pub asks : Writing → Ask
 asks w = asks_at w w.stage
@@ -106,8 +104,11 @@ asks w = asks_at w w.stage
 abbrev pub goes : Writing → ℕ → Writing
 goes w found = goes_at w w.stage found
 
+abbrev pub given : Writing → Option (Unit {0})
+given w = given_at w.stage
+
 abbrev pub gives : Writing → ℕ → Option (Unit {0})
-gives w found = gives_at w.stage
+gives w found = given (goes w found)
 
 abbrev pub listing : Listing Writing (Unit {0})
-listing = record { layout = λ w. w.layout; busy = λ w. is_busy w.stage; asks = asks; goes = goes; gives = gives }
+listing = listing_of (λ w. w.layout) asks goes given

@@ -1,5 +1,5 @@
 -- What the writing of a pointer knows of its own numbers, whatever it is told.
-use Rattle.std.specs.Prelude.{◌≡◌, ℕ, ◌+◌, ◌≤◌, Option, Some, None}
+use Rattle.std.specs.Prelude.{◌≡◌, ℕ, ◌+◌, ◌≤◌, true, Option, Some, None}
 use Rattle.gh_base.specs.declared.held.Held.{Held}
 use Rattle.gh_base.specs.declared.layout.Layout.{Layout}
 use Rattle.gh_base.specs.declared.pack.TheConstants.{ENTRIES}
@@ -8,6 +8,7 @@ use Rattle.gh_base.specs.Holding.{IsHeld}
 use Rattle.gh_barrier.specs.declared.write_pointer.WriteStage.{WriteStage}
 use Rattle.gh_barrier.specs.declared.write_pointer.WriteStage.TheVariants.{LoadOld, ShadeOld, ShadeNew}
 use Rattle.gh_barrier.specs.Listing.{cell_at, Writing}
+use Rattle.gh_shade.specs.Listing.{is_busy}
 use Rattle.gh_shade.specs.Sound.{HasPlace, IsReference}
 
 -- nil, or a reference
@@ -20,11 +21,11 @@ abbrev pub HasTwo : Option Held → Type 0
 HasTwo None = ⊥
 HasTwo (Some h) = h.count + 2 ≤ ENTRIES
 
--- there is room for both objects, and behind the first one for the second
+-- there is room for both objects, and behind the first one for the second; and a shading that it runs has not ended
 abbrev pub FitsStage : Layout → Option Held → WriteStage → Type 0
 FitsStage l held LoadOld = HasTwo held
-FitsStage l held (ShadeOld sh) = (sh.layout ≡ l) × HasTwo sh.held
-FitsStage l held (ShadeNew sh) = (sh.layout ≡ l) × HasPlace sh.held
+FitsStage l held (ShadeOld sh) = (sh.layout ≡ l) × HasTwo sh.held × (is_busy sh.stage ≡ true)
+FitsStage l held (ShadeNew sh) = (sh.layout ≡ l) × HasPlace sh.held × (is_busy sh.stage ≡ true)
 FitsStage l held _ = Unit {0}
 
 pub record FitsWrite (w : Writing) : Type 0 where

@@ -3,9 +3,10 @@
 ghost use Rattle.std.specs.Prelude.{◌≡◌, ◌≢◌, ◌↔◌, IsTrue, Option, true};
 ghost use Rattle.gh_base.specs.Cells.{InRange};
 ghost use Rattle.gh_base.specs.Holding.{IsHeld};
-ghost use Rattle.gh_barrier.specs.Listing.{after_new, after_old, behind_old, cell_at, held_at, is_busy, opening, read_as, with_old, word_of};
+ghost use Rattle.gh_barrier.specs.Listing.{after_new, after_old, behind_old, cell_at, given, held_at, is_busy, opening, read_as, with_old, word_of};
 ghost use Rattle.gh_barrier.specs.Sound.{FitsPointer, HasTwo};
 ghost use Rattle.gh_barrier.specs.declared.write_pointer.WriteStage.TheVariants.{Store};
+ghost use Rattle.gh_shade.specs.Listing as shading;
 ghost use Rattle.gh_shade.specs.Sound.{HasPlace};
 
 use crate::pointer_cell::PointerCell;
@@ -166,6 +167,7 @@ impl WritePointer {
     /// Goes on after a step of this shading of the old value.
     fn after_old(&mut self, shade: &Shade, out: Option<Shaded>)
         requires layout { shade.now.layout ≡ self.old.layout }
+        requires busy { out ≡ Option.None → shading.is_busy shade.now.stage ≡ true }
         requires two { out ≡ Option.None → HasTwo shade.now.held }
         requires place { out ≢ Option.None → HasPlace shade.now.held }
         ensures { self.new ≡ after_old self.old shade.now out }
@@ -179,6 +181,7 @@ impl WritePointer {
     /// Goes on after a step of this shading of the new value.
     fn after_new(&mut self, shade: &Shade, out: Option<Shaded>)
         requires layout { shade.now.layout ≡ self.old.layout }
+        requires busy { out ≡ Option.None → shading.is_busy shade.now.stage ≡ true }
         requires place { out ≡ Option.None → HasPlace shade.now.held }
         ensures { self.new ≡ after_new self.old shade.now out }
     {
@@ -193,11 +196,22 @@ impl WritePointer {
             }
         }
     }
+
+    /// What it has given.
+    fn given(&self) -> Option<()>
+        ensures { result ≡ given self.now }
+    {
+        match self.stage {
+            WriteStage::Ended => Some(()),
+            _ => None,
+        }
+    }
 }
 
 impl Machine for WritePointer {
+    ghost use Rattle.gh_base.specs.Given.{is_over};
     ghost use Rattle.gh_barrier.specs.Listing.{listing};
-    ghost use Rattle.gh_barrier.specs.Ends as proved;
+    ghost use Rattle.gh_barrier.specs.Stays.{stays};
 
     type Out = ();
 
@@ -235,16 +249,13 @@ impl Machine for WritePointer {
                 let out = shade.take(found);
                 self.after_new(&shade, out);
             }
-            WriteStage::Store => {
-                self.stage = WriteStage::Ended;
-                return Some(());
-            }
+            WriteStage::Store => self.stage = WriteStage::Ended,
             WriteStage::Ended => {}
         }
-        None
+        self.given()
     }
 
-    ghost ends = { proved.ends };
+    ghost ends = { λ m found busy. is_over (listing.gives m found) };
 
-    ghost stays = { proved.stays };
+    ghost stays = { stays };
 }

@@ -1,4 +1,6 @@
+pub mod Blind
 pub mod Cells
+pub mod Given
 pub mod Holding
 pub mod Limits
 pub mod Lists

@@ -8,7 +8,7 @@ use Rattle.gh_heap.specs.Moves.{KeepsOthers, Others, SetBits, Steps, moved}
 use Rattle.gh_heap.specs.Rights.{Arena, Claims, Good, Right, Shared, View, view}
 use Rattle.gh_heap.specs.Spans.{Laying}
 use Rattle.gh_bitmap.specs.Facts.{ClearIn, Comes, Facts, FactsAt, Lasts, Opens, OwnStep, SetsByItsRights, ToldBelow, Within}
-use Rattle.gh_bitmap.proofs.Vocabulary.{asks, at_stage, bit, bitmap_words, cell_of, Clear, EachStepIsOnItsBits, Ended, FitsSlot, gives, gives_at, goes, InRange, is_busy, is_pointer, IsHere, Layout, next_stage, pointer_bits, PointerSetting, put, Row, row_bit, Set, SetStage, slot_bits, StepsOn, Touches, word_at}
+use Rattle.gh_bitmap.proofs.Vocabulary.{asks, at_stage, bit, bitmap_words, cell_of, Clear, EachStepIsOnItsBits, Ended, FitsSlot, given_at, gives, goes, InRange, is_pointer, IsHere, Layout, next_stage, pointer_bits, PointerSetting, put, Row, row_bit, Set, SetStage, slot_bits, StepsOn, Touches, word_at}
 
 pub record Known : Type 0 where
   pub last : EachFactLasts
@@ -67,7 +67,7 @@ module _ (k : Known) (z : Arena) (a : ℕ) (s : Shared) (l : Bool) (held : ℕ �
 
   -- how it goes on behind word i
   goes-on : (i word : ℕ) → m.layout ≡ z.layout → FitsSlot m.shape m.slot → 0 < m.slot → Claims z now a m.at m.slot → m.at / 64 ≤ i → ToldBelow m (view (then_at i word)).bitmap (64 * (i + 1)) →
-      (b : Bool) → ltb (64 * (i + 1)) (m.at + m.slot) ≡ b → Comes z a (view (then_at i word)) (gives_at (is_busy (cond b (Clear (i + 1)) Ended))) (at_stage m (cond b (Clear (i + 1)) Ended))
+      (b : Bool) → ltb (64 * (i + 1)) (m.at + m.slot) ≡ b → Comes z a (view (then_at i word)) (given_at (cond b (Clear (i + 1)) Ended)) (at_stage m (cond b (Clear (i + 1)) Ended))
   goes-on i word layout shape some claim begins told true t = record {
     layout = layout;
     shape = shape;
@@ -110,7 +110,7 @@ module _ (k : Known) (z : Arena) (a : ℕ) (s : Shared) (l : Bool) (held : ℕ �
     none : pointer_bits m.shape m.at i ≡ 0 → (j : ℕ) → j < m.slot → (m.at + j) / 64 ≡ i → row_bit (view (then_at i word)).bitmap (m.at + j) ≡ bit (is_pointer m.shape (m.at + j - m.at))
     none e j few at = bare j few at ∙ sym (ap bit (law.none e (m.at + j) (is-here m i j few at)))
 
-    go : (b : Bool) → eqb (pointer_bits m.shape m.at i) 0 ≡ b → Comes z a (view (then_at i word)) (gives_at (is_busy (cond b (next_stage m i) (Set i)))) (at_stage m (cond b (next_stage m i) (Set i)))
+    go : (b : Bool) → eqb (pointer_bits m.shape m.at i) 0 ≡ b → Comes z a (view (then_at i word)) (given_at (cond b (next_stage m i) (Set i))) (at_stage m (cond b (next_stage m i) (Set i)))
     go true t = goes-on i word x.layout x.shape x.some x.claim x.stage.0.begins (told-more m (view (then_at i word)).bitmap i told (none (eqb-true (pointer_bits m.shape m.at i) 0 t))) (ltb (64 * (i + 1)) (m.at + m.slot)) refl
     go false t = record { layout = x.layout; shape = x.shape; some = x.some; claim = x.claim; stage = (x.stage.0, told, bare) }
   own-at (Set i) g right x = record {

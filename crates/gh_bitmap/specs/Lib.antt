@@ -1,5 +1,5 @@
 pub mod Bits
-pub mod Ends
+pub mod Blind
 pub mod Facts
 pub mod Pointers
 pub mod ReadPointer

@@ -1,10 +1,11 @@
--- The pointer bits of a slot are set: what is asked for at each stage, where that leads, and what it gives.
-use Rattle.std.specs.Prelude.{ℕ, ◌+◌, ◌-◌, ◌*◌, ◌/◌, ◌%◌, ◌^◌, Bool, true, false, nat_lt, ◌==◌, if◌then◌else◌, Option, Some, None}
+-- The pointer bits of a slot are set: what is asked for at each stage, where that leads, and what it has given.
+use Rattle.std.specs.Prelude.{ℕ, ◌+◌, ◌-◌, ◌*◌, ◌/◌, ◌%◌, ◌^◌, Bool, nat_lt, ◌==◌, if◌then◌else◌, Option, Some, None, is_none}
 use Rattle.gh_base.specs.declared.cell.Cell.TheVariants.{Touch, Bitmap}
 use Rattle.gh_base.specs.declared.cell.Ask.{Ask}
 use Rattle.gh_base.specs.declared.cell.Ask.TheVariants.{Load, Or, And}
 use Rattle.gh_base.specs.declared.layout.Layout.{Layout}
 use Rattle.gh_base.specs.declared.shape.Shape.{Shape}
+use Rattle.gh_base.specs.Given.{listing_of}
 use Rattle.gh_base.specs.Routines.{Listing}
 use Rattle.gh_bitmap.specs.declared.set_pointers.SetStage.{SetStage}
 use Rattle.gh_bitmap.specs.declared.set_pointers.SetStage.TheVariants.{Clear, Set, Ended}
@@ -44,24 +45,28 @@ module _ (s : PointerSetting) where
   goes_at (Set i) = next_stage i
   goes_at Ended = Ended
 
+-- what it has given at a stage
+abbrev pub given_at : SetStage → Option (Unit {0})
+given_at Ended = Some tt
+given_at _ = None
+
+-- it asks for a step exactly where that is nothing
 abbrev pub is_busy : SetStage → Bool
-is_busy Ended = false
-is_busy _ = true
+is_busy p = is_none (given_at p)
 
--- it gives () with the step after which it is not busy any more
-abbrev pub gives_at : Bool → Option (Unit {0})
-gives_at true = None
-gives_at false = Some tt
-
--- the step that it asks for, what it is after the step found this, and what it ends with if that step is its last
+-- the step that it asks for, what it is after the step found this, and what it has given
 abbrev pub asks : PointerSetting → Ask
 asks s = asks_at s s.stage
 
 abbrev pub goes : PointerSetting → ℕ → PointerSetting
 goes s found = at_stage s (goes_at s s.stage)
 
+abbrev pub given : PointerSetting → Option (Unit {0})
+given s = given_at s.stage
+
+-- and by a step
 abbrev pub gives : PointerSetting → ℕ → Option (Unit {0})
-gives s found = gives_at (is_busy (goes_at s s.stage))
+gives s found = given (goes s found)
 
 abbrev pub listing : Listing PointerSetting (Unit {0})
-listing = record { layout = λ s. s.layout; busy = λ s. is_busy s.stage; asks = asks; goes = goes; gives = gives }
+listing = listing_of (λ s. s.layout) asks goes given

@@ -3,7 +3,7 @@
 ghost use Rattle.std.specs.Prelude.{◌≡◌};
 ghost use Rattle.gh_base.specs.Cells.{InRange};
 ghost use Rattle.gh_base.specs.Steps.{cell_of};
-ghost use Rattle.gh_bitmap.specs.ReadPointer.{asks, opening};
+ghost use Rattle.gh_bitmap.specs.ReadPointer.{asks, given, opening};
 
 use gh_base::{Ask, Cell, Layout, Machine, Req, modulo};
 use std::marker::Model;
@@ -14,7 +14,10 @@ pub enum ReadStage {
     /// It loads the word of the bitmap that has the bit.
     Load,
     /// It has ended.
-    Ended,
+    Ended {
+        /// The heap word is a pointer field.
+        pointer: bool,
+    },
 }
 
 /// Reads the bit of one heap word: it ends with whether that word is a pointer field (Go's
@@ -58,15 +61,25 @@ impl ReadPointer {
                 self.at / 64,
                 16 * self.layout.pages,
             ))),
-            ReadStage::Ended => Ask::Load(Cell::Touch),
+            ReadStage::Ended { .. } => Ask::Load(Cell::Touch),
+        }
+    }
+
+    /// What it has given.
+    fn given(&self) -> Option<bool>
+        ensures { result ≡ given self.now }
+    {
+        match self.stage {
+            ReadStage::Load => None,
+            ReadStage::Ended { pointer } => Some(pointer),
         }
     }
 }
 
 impl Machine for ReadPointer {
     ghost use Rattle.std.specs.Prelude.{refl};
+    ghost use Rattle.gh_base.specs.Given.{is_over};
     ghost use Rattle.gh_bitmap.specs.ReadPointer.{listing};
-    ghost use Rattle.gh_bitmap.specs.Ends as proved;
 
     type Out = bool;
 
@@ -85,16 +98,15 @@ impl Machine for ReadPointer {
     }
 
     fn take(&mut self, found: u64) -> Option<bool> {
-        match self.stage {
-            ReadStage::Load => {
-                self.stage = ReadStage::Ended;
-                Some((found >> (self.at % 64)) & 1 == 1)
-            }
-            ReadStage::Ended => None,
+        if let ReadStage::Load = self.stage {
+            self.stage = ReadStage::Ended {
+                pointer: (found >> (self.at % 64)) & 1 == 1,
+            };
         }
+        self.given()
     }
 
-    ghost ends = { proved.reading_ends };
+    ghost ends = { λ r found busy. is_over (listing.gives r found) };
 
     ghost stays = { λ _ _. refl };
 }

@@ -3,7 +3,7 @@
 ghost use Rattle.std.specs.Prelude.{◌≡◌, ◌+◌, ◌*◌, ◌^◌, ◌<◌, ◌≤◌};
 ghost use Rattle.gh_base.specs.Cells.{InRange};
 ghost use Rattle.gh_base.specs.Steps.{cell_of};
-ghost use Rattle.gh_bitmap.specs.SetPointers.{asks, goes_at, next_stage, opening};
+ghost use Rattle.gh_bitmap.specs.SetPointers.{asks, given, goes_at, next_stage, opening};
 
 use crate::bits::{pointer_bits, slot_bits};
 use gh_base::limits::MOST_PAGES;
@@ -111,12 +111,22 @@ impl<'s> SetPointers<'s> {
             SetStage::Ended => SetStage::Ended,
         }
     }
+
+    /// What it has given.
+    fn given(&self) -> Option<()>
+        ensures { result ≡ given self.now }
+    {
+        match self.stage {
+            SetStage::Ended => Some(()),
+            _ => None,
+        }
+    }
 }
 
 impl<'s> Machine for SetPointers<'s> {
     ghost use Rattle.std.specs.Prelude.{refl};
+    ghost use Rattle.gh_base.specs.Given.{is_over};
     ghost use Rattle.gh_bitmap.specs.SetPointers.{listing};
-    ghost use Rattle.gh_bitmap.specs.Ends as proved;
 
     type Out = ();
 
@@ -136,13 +146,10 @@ impl<'s> Machine for SetPointers<'s> {
 
     fn take(&mut self, found: u64) -> Option<()> {
         self.stage = self.go();
-        match self.stage {
-            SetStage::Ended => Some(()),
-            _ => None,
-        }
+        self.given()
     }
 
-    ghost ends = { proved.setting_ends };
+    ghost ends = { λ s found busy. is_over (listing.gives s found) };
 
     ghost stays = { λ _ _. refl };
 }

@@ -2,10 +2,10 @@
 use Rattle.std.proofs.Common.{◌≡◌, ◌≢◌, ℕ, zero, suc, ◌+◌, ◌-◌, ◌%◌, ◌<◌, ◌≤◌, ◌⊎◌, Bool, true, false, cond, eqb, ltb, Some, None, refl, sym, ap, subst, ◌∙◌, arith, inl, inr, eqb-true, eq-eqb, ltb-true, ltb-false}
 use Rattle.gh_base.specs.declared.cell.Cell.TheVariants.{Alloc}
 use Rattle.gh_base.specs.declared.cell.Ask.TheVariants.{Load}
-use Rattle.gh_base.specs.Routines.{EndsWith, GoesOn, told}
+use Rattle.gh_base.specs.Routines.{GoesOn, told}
 use Rattle.gh_cache.specs.Sound.{FitsArena}
 use Rattle.gh_cache.specs.NextClear.{AreTaken, FindsNextClear, IsNextClear, slot_bit}
-use Rattle.gh_cache.proofs.Vocabulary.{asks, bit_at, bit_at-lt, Cached, Ended, gives, goes, goes_at, is_busy, is_clear, Layout, listing, Look, opening, Searching, slot_at, slots_of, SlotStage}
+use Rattle.gh_cache.proofs.Vocabulary.{asks, bit_at, bit_at-lt, Cached, Ended, given, gives, goes, goes_at, is_busy, is_clear, Layout, listing, Look, opening, Searching, slot_at, slots_of, SlotStage}
 use Rattle.gh_cache.proofs.Slots.{IsCut, slot_word}
 
 module _ (l : Layout) (span : Cached) (found : ℕ → ℕ) where
@@ -21,7 +21,7 @@ module _ (l : Layout) (span : Cached) (found : ℕ → ℕ) where
   Reached n = (span.cursor + n < slots_of span.class) × AreTaken span found (span.cursor + n)
 
   abbrev After : ℕ → Type 0
-  After n = ((after n ≡ looking n Look) × Reached n) ⊎ (((after n).stage ≡ Ended) × (Reached n → ⊥))
+  After n = ((after n ≡ looking n Look) × Reached n) ⊎ ((is_busy (after n).stage ≡ false) × (Reached n → ⊥))
 
   -- what its word says of the slot that it looks at, and whether there is a further one
   abbrev clears : ℕ → Bool
@@ -29,6 +29,10 @@ module _ (l : Layout) (span : Cached) (found : ℕ → ℕ) where
 
   abbrev more : ℕ → Bool
   more n = ltb (span.cursor + n + 1) (slots_of span.class)
+
+  -- what it is then, by these two
+  abbrev next : ℕ → (clear further : Bool) → Searching
+  next n clear further = cond clear (looking n (Ended (Some (span.cursor + n)))) (record { layout = l; span = record span { cursor = span.cursor + n + 1 }; stage = cond further Look (Ended None) })
 
   -- the slot that it looks at with step n is n behind the cursor
   bit_of : (n : ℕ) → slot_bit span found (span.cursor + n) ≡ bit_at (found n) (slot_at span (span.cursor + n) % 64)
@@ -52,22 +56,22 @@ module _ (l : Layout) (span : Cached) (found : ℕ → ℕ) where
   fewer_taken : (n : ℕ) → Reached (suc n) → Reached n
   fewer_taken n r = let lt : span.cursor + suc n < slots_of span.class = r.0 in (omega arith, λ slot from below. r.1 slot from (omega arith))
 
-  moved : (n : ℕ) → after n ≡ looking n Look → after (suc n) ≡ cond (clears n) (looking n Ended) (record { layout = l; span = record span { cursor = span.cursor + n + 1 }; stage = cond (more n) Look Ended })
+  moved : (n : ℕ) → after n ≡ looking n Look → after (suc n) ≡ next n (clears n) (more n)
   moved n e = ap (λ (s : Searching). goes s (found n)) e
 
-  after_next : (n : ℕ) → Reached n → (c m : Bool) → clears n ≡ c → more n ≡ m → after (suc n) ≡ cond c (looking n Ended) (record { layout = l; span = record span { cursor = span.cursor + n + 1 }; stage = cond m Look Ended }) → After (suc n)
-  after_next n r true m t u e = inr (ap (λ (s : Searching). s.stage) e, λ q. absurd (let b = bit_clear n t in let k : slot_bit span found (span.cursor + n) ≡ 1 = q.1 (span.cursor + n) (omega arith) (omega arith) in omega (arith, b, k)))
+  after_next : (n : ℕ) → Reached n → (c m : Bool) → clears n ≡ c → more n ≡ m → after (suc n) ≡ next n c m → After (suc n)
+  after_next n r true m t u e = inr (ap (λ (s : Searching). is_busy s.stage) e, λ q. absurd (let b = bit_clear n t in let k : slot_bit span found (span.cursor + n) ≡ 1 = q.1 (span.cursor + n) (omega arith) (omega arith) in omega (arith, b, k)))
   after_next n r false true t u e =
       let lt : span.cursor + n + 1 < slots_of span.class = ltb-true _ _ u in
       let same : span.cursor + n + 1 ≡ span.cursor + suc n = omega arith in
       inl (e ∙ ap (λ (k : ℕ). record { layout = l; span = record span { cursor = k }; stage = Look }) same, (omega arith, more_taken n r.1 t))
   after_next n r false false t u e =
       let ge : slots_of span.class ≤ span.cursor + n + 1 = ltb-false _ _ u in
-      inr (ap (λ (s : Searching). s.stage) e, λ q. absurd (let lt : span.cursor + suc n < slots_of span.class = q.0 in omega arith))
+      inr (ap (λ (s : Searching). is_busy s.stage) e, λ q. absurd (let lt : span.cursor + suc n < slots_of span.class = q.0 in omega arith))
 
-  stays_ended : (s : Searching) (f : ℕ) (p : SlotStage) → p ≡ Ended → p ≡ s.stage → (goes_at s p f).stage ≡ Ended
-  stays_ended s f Ended e is = sym is
-  stays_ended s f Look e is = absurd (cc)
+  stays_ended : (s : Searching) (f : ℕ) (p : SlotStage) → is_busy p ≡ false → is_busy (goes_at s p f).stage ≡ false
+  stays_ended s f (Ended slot) e = refl
+  stays_ended s f Look e = absurd (cc)
 
   after_each : span.cursor < slots_of span.class → (n : ℕ) → After n
   after_each below zero =
@@ -75,32 +79,33 @@ module _ (l : Layout) (span : Cached) (found : ℕ → ℕ) where
       inl (ap (λ (k : ℕ). record { layout = l; span = record span { cursor = k }; stage = Look }) same, (omega arith, λ slot from lt. absurd (omega arith)))
   after_each below (suc n) = elim (after_each below n) [
     | inl h ↦ after_next n h.1 (clears n) (more n) refl refl (moved n h.0)
-    | inr h ↦ inr (stays_ended (after n) (found n) (after n).stage h.0 refl, λ q. h.1 (fewer_taken n q))
+    | inr h ↦ inr (stays_ended (after n) (found n) (after n).stage h.0, λ q. h.1 (fewer_taken n q))
   ]
 
   module _ (n : ℕ) where
     -- by its next load, where it looks at the slot
-    gives_here : after n ≡ looking n Look → gives (after n) (found n) ≡ cond (clears n) (Some (Some (span.cursor + n))) (cond (more n) None (Some None))
+    gives_here : after n ≡ looking n Look → gives (after n) (found n) ≡ given (next n (clears n) (more n))
     gives_here e = ap (λ (s : Searching). gives s (found n)) e
 
-    gives_none : (s : Searching) (f : ℕ) (p : SlotStage) → p ≡ Ended → p ≡ s.stage → gives s f ≡ None
-    gives_none s f p e is = subst (λ (q : SlotStage). gives (record s { stage = q }) f ≡ None) (sym e ∙ is) refl
+    -- there is no such load, where it has ended
+    over : is_busy (after n).stage ≡ false → ¬ GoesOn listing (opening l span) found n
+    over ended busy = absurd (cc)
 
-    some_forward : (slot : ℕ) → Reached n → (c m : Bool) → clears n ≡ c → cond c (Some (Some (span.cursor + n))) (cond m None (Some None)) ≡ Some (Some slot) → IsNextClear span found slot × (slot ≡ span.cursor + n)
+    some_forward : (slot : ℕ) → Reached n → (c m : Bool) → clears n ≡ c → given (next n c m) ≡ Some (Some slot) → IsNextClear span found slot × (slot ≡ span.cursor + n)
     some_forward slot r true m t e =
         let same : slot ≡ span.cursor + n = cc in
         (subst (λ (k : ℕ). IsNextClear span found k) (sym same) (record { from = omega arith; among = r.0; clear = bit_clear n t; least = r.1 }), same)
     some_forward slot r false true t e = absurd (cc)
     some_forward slot r false false t e = absurd (cc)
 
-    some_back : (slot : ℕ) → IsNextClear span found slot → slot ≡ span.cursor + n → (c m : Bool) → clears n ≡ c → cond c (Some (Some (span.cursor + n))) (cond m None (Some None)) ≡ Some (Some slot)
+    some_back : (slot : ℕ) → IsNextClear span found slot → slot ≡ span.cursor + n → (c m : Bool) → clears n ≡ c → given (next n c m) ≡ Some (Some slot)
     some_back slot h same true m t = ap (λ (k : ℕ). Some (Some k)) (sym same)
     some_back slot h same false m t =
         let set : slot_bit span found (span.cursor + n) ≡ 1 = bit_taken n t in
         let unset : slot_bit span found (span.cursor + n) ≡ 0 = ap (slot_bit span found) (sym same) ∙ h.clear in
         absurd (omega arith)
 
-    none_forward : Reached n → (c m : Bool) → clears n ≡ c → more n ≡ m → cond c (Some (Some (span.cursor + n))) (cond m None (Some None)) ≡ Some None → AreTaken span found (slots_of span.class) × (span.cursor + suc n ≡ slots_of span.class)
+    none_forward : Reached n → (c m : Bool) → clears n ≡ c → more n ≡ m → given (next n c m) ≡ Some None → AreTaken span found (slots_of span.class) × (span.cursor + suc n ≡ slots_of span.class)
     none_forward r true m t u e = absurd (cc)
     none_forward r false true t u e = absurd (cc)
     none_forward r false false t u e =
@@ -109,7 +114,7 @@ module _ (l : Layout) (span : Cached) (found : ℕ → ℕ) where
         let same : span.cursor + suc n ≡ slots_of span.class = omega arith in
         (subst (λ (k : ℕ). AreTaken span found k) same (more_taken n r.1 t), same)
 
-    none_back : AreTaken span found (slots_of span.class) → span.cursor + suc n ≡ slots_of span.class → (c m : Bool) → clears n ≡ c → more n ≡ m → cond c (Some (Some (span.cursor + n))) (cond m None (Some None)) ≡ Some None
+    none_back : AreTaken span found (slots_of span.class) → span.cursor + suc n ≡ slots_of span.class → (c m : Bool) → clears n ≡ c → more n ≡ m → given (next n c m) ≡ Some None
     none_back taken same true m t u =
         let unset : slot_bit span found (span.cursor + n) ≡ 0 = bit_clear n t in
         let set : slot_bit span found (span.cursor + n) ≡ 1 = taken (span.cursor + n) (omega arith) (omega arith) in
@@ -117,14 +122,14 @@ module _ (l : Layout) (span : Cached) (found : ℕ → ℕ) where
     none_back taken same false true t u = let lt : span.cursor + n + 1 < slots_of span.class = ltb-true _ _ u in absurd (omega arith)
     none_back taken same false false t u = refl
 
-    cursor_some_at : (slot : ℕ) → (c m : Bool) → cond c (Some (Some (span.cursor + n))) (cond m None (Some None)) ≡ Some (Some slot) →
-        (cond c (looking n Ended) (record { layout = l; span = record span { cursor = span.cursor + n + 1 }; stage = cond m Look Ended })).span.cursor ≡ slot
+    cursor_some_at : (slot : ℕ) → (c m : Bool) → given (next n c m) ≡ Some (Some slot) →
+        (next n c m).span.cursor ≡ slot
     cursor_some_at slot true m e = cc
     cursor_some_at slot false true e = absurd (cc)
     cursor_some_at slot false false e = absurd (cc)
 
-    cursor_none_at : Reached n → (c m : Bool) → more n ≡ m → cond c (Some (Some (span.cursor + n))) (cond m None (Some None)) ≡ Some None →
-        (cond c (looking n Ended) (record { layout = l; span = record span { cursor = span.cursor + n + 1 }; stage = cond m Look Ended })).span.cursor ≡ slots_of span.class
+    cursor_none_at : Reached n → (c m : Bool) → more n ≡ m → given (next n c m) ≡ Some None →
+        (next n c m).span.cursor ≡ slots_of span.class
     cursor_none_at r true m u e = absurd (cc)
     cursor_none_at r false true u e = absurd (cc)
     cursor_none_at r false false u e =
@@ -136,27 +141,27 @@ module _ (l : Layout) (span : Cached) (found : ℕ → ℕ) where
   finds cut within below = record {
     goes_on = λ n. elim (after_each below n) [
       | inl h ↦ (λ _. h.1, λ _. ap (λ (s : Searching). is_busy s.stage) h.0)
-      | inr h ↦ (λ (busy : GoesOn listing (opening l span) found n). absurd (let over : is_busy (after n).stage ≡ false = ap is_busy h.0 in cc), λ r. absurd (h.1 r))
+      | inr h ↦ (λ busy. absurd (over n h.0 busy), λ r. absurd (h.1 r))
     ];
     loads = λ n busy. elim (after_each below n) [
       | inl h ↦ ap asks h.0 ∙ ap (λ (k : ℕ). Load (Alloc k)) (slot_word l span (span.cursor + n) cut within h.1.0)
-      | inr h ↦ absurd (let over : is_busy (after n).stage ≡ false = ap is_busy h.0 in cc)
+      | inr h ↦ absurd (over n h.0 busy)
     ];
     some = λ n slot. elim (after_each below n) [
-      | inl h ↦ (λ e. some_forward n slot h.1 (clears n) (more n) refl (sym (gives_here n h.0) ∙ e), λ q. gives_here n h.0 ∙ some_back n slot q.0 q.1 (clears n) (more n) refl)
-      | inr h ↦ (λ (e : EndsWith listing (opening l span) found n (Some slot)). absurd (let none : gives (after n) (found n) ≡ None = gives_none n (after n) (found n) (after n).stage h.0 refl in cc), λ q. absurd (h.1 (reached_slot n slot q.0 q.1)))
+      | inl h ↦ (λ e. some_forward n slot h.1 (clears n) (more n) refl (sym (gives_here n h.0) ∙ e.1), λ q. (ap (λ (s : Searching). is_busy s.stage) h.0, gives_here n h.0 ∙ some_back n slot q.0 q.1 (clears n) (more n) refl))
+      | inr h ↦ (λ e. absurd (over n h.0 e.0), λ q. absurd (h.1 (reached_slot n slot q.0 q.1)))
     ];
     none = λ n. elim (after_each below n) [
-      | inl h ↦ (λ e. none_forward n h.1 (clears n) (more n) refl refl (sym (gives_here n h.0) ∙ e), λ q. gives_here n h.0 ∙ none_back n q.0 q.1 (clears n) (more n) refl refl)
-      | inr h ↦ (λ (e : EndsWith listing (opening l span) found n None). absurd (let none : gives (after n) (found n) ≡ None = gives_none n (after n) (found n) (after n).stage h.0 refl in cc), λ q. absurd (h.1 (reached_all n q.0 q.1)))
+      | inl h ↦ (λ e. none_forward n h.1 (clears n) (more n) refl refl (sym (gives_here n h.0) ∙ e.1), λ q. (ap (λ (s : Searching). is_busy s.stage) h.0, gives_here n h.0 ∙ none_back n q.0 q.1 (clears n) (more n) refl refl))
+      | inr h ↦ (λ e. absurd (over n h.0 e.0), λ q. absurd (h.1 (reached_all n q.0 q.1)))
     ];
     cursor_some = λ n slot e. elim (after_each below n) [
-      | inl h ↦ ap (λ (s : Searching). s.span.cursor) (moved n h.0) ∙ cursor_some_at n slot (clears n) (more n) (sym (gives_here n h.0) ∙ e)
-      | inr h ↦ absurd (let none : gives (after n) (found n) ≡ None = gives_none n (after n) (found n) (after n).stage h.0 refl in cc)
+      | inl h ↦ ap (λ (s : Searching). s.span.cursor) (moved n h.0) ∙ cursor_some_at n slot (clears n) (more n) (sym (gives_here n h.0) ∙ e.1)
+      | inr h ↦ absurd (over n h.0 e.0)
     ];
     cursor_none = λ n e. elim (after_each below n) [
-      | inl h ↦ ap (λ (s : Searching). s.span.cursor) (moved n h.0) ∙ cursor_none_at n h.1 (clears n) (more n) refl (sym (gives_here n h.0) ∙ e)
-      | inr h ↦ absurd (let none : gives (after n) (found n) ≡ None = gives_none n (after n) (found n) (after n).stage h.0 refl in cc)
+      | inl h ↦ ap (λ (s : Searching). s.span.cursor) (moved n h.0) ∙ cursor_none_at n h.1 (clears n) (more n) refl (sym (gives_here n h.0) ∙ e.1)
+      | inr h ↦ absurd (over n h.0 e.0)
     ];
   } where
     reached_slot : (n slot : ℕ) → IsNextClear span found slot → slot ≡ span.cursor + n → Reached n

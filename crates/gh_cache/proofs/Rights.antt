@@ -14,7 +14,7 @@ use Rattle.gh_heap.specs.Moves.{KeepsObjects, Others, Quiet, Steps}
 use Rattle.gh_heap.specs.Rights.{Arena, Good, Right, Shared, View, view}
 use Rattle.gh_heap.specs.Spans.{IsFull, IsSlotOf, Laying, is_own_class, number_of, owner_at, owner_in, slot_size}
 use Rattle.gh_cache.specs.Facts.{Comes, Facts, IsHeld, Lasts, OwnStep, SearchesByItsRights, TakenBelow, Within}
-use Rattle.gh_cache.proofs.Vocabulary.{alloc_word, asks, at_stage, bit_at, bit_at-lt, Cached, Ended, gives, gives_at, goes, goes_at, has_next, IsSizeClass, Layout, Look, passed, Searching, slot_at, slot_of, slot_words_of, slots_of, SlotStage}
+use Rattle.gh_cache.proofs.Vocabulary.{alloc_word, asks, at_stage, bit_at, bit_at-lt, Cached, Ended, given, given_at, gives, goes, goes_at, IsSizeClass, Layout, Look, passed, Searching, slot_at, slot_of, slot_words_of, slots_of, SlotStage}
 
 pub record Known : Type 0 where
   pub apart : TheHeapIsApart
@@ -76,10 +76,10 @@ module _ (k : Known) (z : Arena) (a : ℕ) (v : View) (noscan : Bool) (m : Searc
   more_taken : row_bit v.alloc (slot_at m.span m.span.cursor) ≡ 1 → TakenBelow v.alloc m.span → (j : ℕ) → j < m.span.cursor + 1 → row_bit v.alloc (slot_at m.span j) ≡ 1
   more_taken set taken j lt = elim (eqb_tells j m.span.cursor) [ inl y ↦ rw (y.1) set | inr n ↦ taken j (omega (arith, n.1)) ]
 
-  looked : (found : ℕ) → bit_at found (slot_at m.span m.span.cursor % 64) ≡ row_bit v.alloc (slot_at m.span m.span.cursor) → Good z v → (x : Facts z a v noscan m) → Comes z a v noscan (gives_at m Look found) (goes_at m Look found)
+  looked : (found : ℕ) → bit_at found (slot_at m.span m.span.cursor % 64) ≡ row_bit v.alloc (slot_at m.span m.span.cursor) → Good z v → (x : Facts z a v noscan m) → Comes z a v noscan (given (goes_at m Look found)) (goes_at m Look found)
   looked found is g x = go (eqb (bit_at found (slot_at m.span m.span.cursor % 64)) 0) refl where
     next : row_bit v.alloc (slot_at m.span m.span.cursor) ≡ 1 → (b : Bool) → ltb (m.span.cursor + 1) (slots_of m.span.class) ≡ b →
-        Comes z a v noscan (cond b None (Some None)) (record m { span = record (m.span) { cursor = m.span.cursor + 1 }; stage = cond b Look Ended })
+        Comes z a v noscan (given_at (cond b Look (Ended None))) (record m { span = record (m.span) { cursor = m.span.cursor + 1 }; stage = cond b Look (Ended None) })
     next set true t = record {
       layout = x.layout;
       span = record { h = x.span.h; head = x.span.head; class = x.span.class; noscan_is = x.span.noscan_is; held = x.span.held };
@@ -98,7 +98,7 @@ module _ (k : Known) (z : Arena) (a : ℕ) (v : View) (noscan : Bool) (m : Searc
           subst (λ (n : ℕ). row_bit v.alloc (1024 * m.span.head + j * n) ≡ 1) (sym sized) (more_taken set x.taken j (omega arith))
 
     go : (b : Bool) → eqb (bit_at found (slot_at m.span m.span.cursor % 64)) 0 ≡ b →
-        Comes z a v noscan (cond b (Some (Some m.span.cursor)) (cond (has_next m.span) None (Some None))) (cond b (at_stage m Ended) (passed m))
+        Comes z a v noscan (given (cond b (at_stage m (Ended (Some m.span.cursor))) (passed m))) (cond b (at_stage m (Ended (Some m.span.cursor))) (passed m))
     go true t = record {
       claim = record { p = m.span.head; h = x.span.h; i = m.span.cursor; held = x.span.held; slot = slot_is m.span.cursor g x.span x.cursor; clear = sym is ∙ eqb-true _ 0 t };
       class = x.span.class;
@@ -121,7 +121,7 @@ own-at k z a s l held y noscan m Look e g right x = record {
   words_are = refl;
   after = ((refl, refl), record { locked = right.locked; holds = right.holds; laying = right.laying; freeing = right.freeing }, looked k z a (view s) noscan (at_stage m Look) (s.words (cell.Alloc (alloc_word m.layout (slot_at m.span m.span.cursor)))) (ap (λ (i : ℕ). bit_at (s.words (cell.Alloc i)) (slot_at m.span m.span.cursor % 64)) (word_is k z a (view s) noscan (at_stage m Look) m.span.cursor g x.layout x.span x.cursor)) g x);
 }
-own-at k z a s l held y noscan m Ended e g right x = absurd (cc)
+own-at k z a s l held y noscan m (Ended slot) e g right x = absurd (cc)
 
 own : Known → OwnStep
 own k z a s l held y noscan m g right x = own-at k z a s l held y noscan m m.stage x.stage g right x

@@ -1,10 +1,11 @@
--- The next clear slot of a cached span: what is asked for at each stage, where that leads, and what it gives.
-use Rattle.std.specs.Prelude.{ℕ, ◌+◌, ◌*◌, ◌/◌, ◌%◌, Bool, true, false, nat_lt, ◌==◌, if◌then◌else◌, Option, Some, None}
+-- The next clear slot of a cached span: what is asked for at each stage, where that leads, and what it has given.
+use Rattle.std.specs.Prelude.{ℕ, ◌+◌, ◌*◌, ◌/◌, ◌%◌, Bool, nat_lt, ◌==◌, if◌then◌else◌, Option, Some, None, is_none}
 use Rattle.std.specs.Int.{bit_at}
 use Rattle.gh_base.specs.declared.cell.Cell.TheVariants.{Touch, Alloc}
 use Rattle.gh_base.specs.declared.cell.Ask.{Ask}
 use Rattle.gh_base.specs.declared.cell.Ask.TheVariants.{Load}
 use Rattle.gh_base.specs.declared.layout.Layout.{Layout}
+use Rattle.gh_base.specs.Given.{listing_of}
 use Rattle.gh_base.specs.Routines.{Listing}
 use Rattle.gh_class.specs.Classes.{slot_words_of, slots_of}
 use Rattle.gh_cache.specs.declared.next_slot.Cached.{Cached}
@@ -47,33 +48,38 @@ is_found s found = is_clear s.span s.span.cursor found
 module _ (s : Searching) where
   abbrev pub asks_at : SlotStage → Ask
   asks_at Look = Load (Alloc (alloc_word s.layout (slot_at s.span s.span.cursor)))
-  asks_at Ended = Load Touch
+  asks_at (Ended slot) = Load Touch
 
   -- the cursor moves on
   abbrev pub passed : Searching
-  passed = record s { span = record (s.span) { cursor = s.span.cursor + 1 }; stage = if has_next s.span then Look else Ended }
+  passed = record s { span = record (s.span) { cursor = s.span.cursor + 1 }; stage = if has_next s.span then Look else Ended None }
 
   abbrev pub goes_at : SlotStage → ℕ → Searching
-  goes_at Look found = if is_found s found then at_stage s Ended else passed
-  goes_at Ended found = s
+  goes_at Look found = if is_found s found then at_stage s (Ended (Some s.span.cursor)) else passed
+  goes_at (Ended slot) found = at_stage s (Ended slot)
 
-  abbrev pub gives_at : SlotStage → ℕ → Option (Option ℕ)
-  gives_at Look found = if is_found s found then Some (Some s.span.cursor) else if has_next s.span then None else Some None
-  gives_at Ended found = None
+-- what it has given at a stage
+abbrev pub given_at : SlotStage → Option (Option ℕ)
+given_at (Ended slot) = Some slot
+given_at _ = None
 
+-- it asks for a step exactly where that is nothing
 abbrev pub is_busy : SlotStage → Bool
-is_busy Ended = false
-is_busy _ = true
+is_busy p = is_none (given_at p)
 
--- the step that it asks for, what it is after the step found this, and what it ends with if that step is its last
+-- the step that it asks for, what it is after the step found this, and what it has given
 abbrev pub asks : Searching → Ask
 asks s = asks_at s s.stage
 
 abbrev pub goes : Searching → ℕ → Searching
 goes s found = goes_at s s.stage found
 
+abbrev pub given : Searching → Option (Option ℕ)
+given s = given_at s.stage
+
+-- and by a step
 abbrev pub gives : Searching → ℕ → Option (Option ℕ)
-gives s found = gives_at s s.stage found
+gives s found = given (goes s found)
 
 abbrev pub listing : Listing Searching (Option ℕ)
-listing = record { layout = λ s. s.layout; busy = λ s. is_busy s.stage; asks = asks; goes = goes; gives = gives }
+listing = listing_of (λ s. s.layout) asks goes given

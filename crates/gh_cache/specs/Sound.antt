@@ -16,7 +16,7 @@ pub record FitsArena (l : Layout) (span : Cached) : Type 0 where
 -- it looks at a slot that there is
 abbrev pub IsStage : Cached → SlotStage → Type 0
 IsStage span Look = span.cursor < slots_of span.class
-IsStage span Ended = span.cursor ≤ slots_of span.class
+IsStage span (Ended slot) = span.cursor ≤ slots_of span.class
 
 pub record Sound (s : Searching) : Type 0 where
   pub span : FitsArena s.layout s.span

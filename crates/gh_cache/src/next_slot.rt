@@ -4,7 +4,7 @@ ghost use Rattle.std.specs.Prelude.{◌≡◌, ◌+◌, ◌*◌, ◌<◌, ◌≤
 ghost use Rattle.gh_base.specs.Cells.{InRange};
 ghost use Rattle.gh_base.specs.Steps.{cell_of};
 ghost use Rattle.gh_class.specs.Classes.{pages_of, slots_of};
-ghost use Rattle.gh_cache.specs.Listing.{asks, gives, goes, opening, slot_at};
+ghost use Rattle.gh_cache.specs.Listing.{asks, given, goes, opening, slot_at};
 
 use gh_base::limits::MOST_PAGES;
 use gh_base::{Ask, Cell, Layout, Machine, Req, modulo};
@@ -28,7 +28,10 @@ pub enum SlotStage {
     /// It looks at the slot at the cursor.
     Look,
     /// It has ended.
-    Ended,
+    Ended {
+        /// The clear slot, if one was left.
+        slot: Option<u32>,
+    },
 }
 
 /// Looks for the next clear slot of a cached span (Go's `mcache.nextFree` and
@@ -101,34 +104,44 @@ impl NextSlot {
                 let word = self.span.word();
                 Ask::Load(Cell::Alloc(modulo(word / 64, 16 * self.layout.pages)))
             }
-            SlotStage::Ended => Ask::Load(Cell::Touch),
+            SlotStage::Ended { .. } => Ask::Load(Cell::Touch),
         }
     }
 }
 
 impl NextSlot {
     /// Goes on by the alloc word of the slot at the cursor.
-    fn look(&mut self, found: u64) -> Option<Option<u32>>
+    fn look(&mut self, found: u64)
         requires { self.old.stage ≡ SlotStage.Look }
-        ensures goes { self.new ≡ goes self.old found }
-        ensures gives { result ≡ gives self.old found }
+        ensures { self.new ≡ goes self.old found }
     {
         if (found >> (self.span.word() % 64)) & 1 == 0 {
-            self.stage = SlotStage::Ended;
-            return Some(Some(self.span.cursor));
+            self.stage = SlotStage::Ended {
+                slot: Some(self.span.cursor),
+            };
+            return;
         }
         self.span.cursor += 1;
-        if self.span.cursor < self.span.class.slots() {
-            return None;
+        if self.span.cursor >= self.span.class.slots() {
+            self.stage = SlotStage::Ended { slot: None };
         }
-        self.stage = SlotStage::Ended;
-        Some(None)
+    }
+
+    /// What it has given.
+    fn given(&self) -> Option<Option<u32>>
+        ensures { result ≡ given self.now }
+    {
+        match self.stage {
+            SlotStage::Look => None,
+            SlotStage::Ended { slot } => Some(slot),
+        }
     }
 }
 
 impl Machine for NextSlot {
+    ghost use Rattle.gh_base.specs.Given.{is_over};
     ghost use Rattle.gh_cache.specs.Listing.{listing};
-    ghost use Rattle.gh_cache.specs.Ends as proved;
+    ghost use Rattle.gh_cache.specs.Stays.{stays};
 
     type Out = Option<u32>;
 
@@ -147,13 +160,13 @@ impl Machine for NextSlot {
     }
 
     fn take(&mut self, found: u64) -> Option<Option<u32>> {
-        match self.stage {
-            SlotStage::Look => self.look(found),
-            SlotStage::Ended => None,
+        if let SlotStage::Look = self.stage {
+            self.look(found);
         }
+        self.given()
     }
 
-    ghost ends = { proved.ends };
+    ghost ends = { λ s found busy. is_over (listing.gives s found) };
 
-    ghost stays = { proved.stays };
+    ghost stays = { stays };
 }

@@ -3,7 +3,7 @@ use Rattle.std.proofs.Common.{◌≡◌, ◌≢◌, ℕ, ◌+◌, ◌*◌, ◌/�
 use Rattle.gh_base.specs.declared.cell.Ask.TheVariants as ask
 use Rattle.gh_base.specs.declared.cell.Cell.TheVariants as cell
 use Rattle.gh_base.specs.declared.pack.PageWord.TheVariants as page
-use Rattle.gh_central.proofs.Vocabulary.{after_page, alloc_word, Arena, asks, at_stage, beq, bit_at, bit_at-lt, Bits, cell_of, EachFactLasts, EachMoveKeeps, EachOwnMoveLeaves, EachRightFollows, effect, Ended, eqb_tells, given, gives, goes, goes_at, Good, head_word, InRange, is_busy, is_small, is_wanted, IsFull, IsSpan, KeepsObjects, lacks_at, Large, Laying, Layout, Leaves, Look, look_from, MayPass, mod-eq_of_lt, mod-lt, moved, Others, Own, owned_by, owner_at, owner_in, PackedWordsAreReadBack, page_of, PageWord, Pass, PassStage, Quiet, Right, row_bit, Shared, SizeClass, slot_count, slot_of, slot_size, slot_words_of, slots_of, Small, SpanHead, Steps, Take, TheHeapIsApart, update, View, view}
+use Rattle.gh_central.proofs.Vocabulary.{after_page, alloc_word, Arena, asks, at_stage, beq, bit_at, bit_at-lt, Bits, cell_of, EachFactLasts, EachMoveKeeps, EachOwnMoveLeaves, EachRightFollows, effect, Ended, eqb_tells, given_at, gives, goes, goes_at, Good, head_word, InRange, is_small, is_wanted, IsFull, IsSpan, KeepsObjects, lacks_at, Large, Laying, Layout, Leaves, Look, look_from, MayPass, mod-eq_of_lt, mod-lt, moved, Others, Own, owned_by, owner_at, owner_in, PackedWordsAreReadBack, page_of, PageWord, Pass, PassStage, Quiet, Right, row_bit, Shared, SizeClass, slot_count, slot_of, slot_size, slot_words_of, slots_of, Small, SpanHead, Steps, Take, TheHeapIsApart, update, View, view}
 use Rattle.gh_central.proofs.Heads.{past-page, past-span}
 use Rattle.gh_central.specs.PassFacts.{Comes, Facts, FactsAt, HasPassed, IsSure, IsUnowned, Lasts, LooksAt, LooksInto, Opens, OwnStep, Passes, PassesByItsRights, TakenBelow, Within, sought}
 use Rattle.gh_central.specs.Slots.{TheTestSaysIt}
@@ -63,7 +63,7 @@ stage-lasts k z a sure v w m (Bits p h i) o l x = record {
   count : (j : ℕ) (f : SizeClass) → f ≡ Small m.wanted.class → j < slots_of m.wanted.class → j < cond (is_own_class f) 1 (slots_of (number_of f))
   count j f e lt = rw (e) lt
 stage-lasts k z a sure v w m (Take p h) o l x = unowned-lasts k z a v w m p h o l x
-stage-lasts k z a sure v w m Ended o l x = x
+stage-lasts k z a sure v w m (Ended taken) o l x = x
 
 pub lasts : Known → Lasts
 lasts k z a sure v w m o l x = record {
@@ -109,8 +109,8 @@ module _ (k : Known) (z : Arena) (a : ℕ) (sure : Bool) (s : Shared) (held : �
   now = view s
 
   -- what the next stage has, with nothing that was changed
-  abbrev Goes : Option (Option ℕ) → PassStage → Type 0
-  Goes given q = Comes z a sure now now held given (at_stage m q)
+  abbrev Goes : PassStage → Type 0
+  Goes q = Comes z a sure now now held (given_at q) (at_stage m q)
 
   -- what holds of a head of the span class that nobody owns, once it is gone past
   abbrev IsDone : ℕ → SpanHead → Type 0
@@ -124,25 +124,18 @@ module _ (k : Known) (z : Arena) (a : ℕ) (sure : Bool) (s : Shared) (held : �
   stays g = (k.leave z a s g).stays
 
   -- a stage from which a look goes on, or the end
-  looks : (before : PassStage) (p : ℕ) → ((q : PassStage) → given before q ≡ cond (is_busy q) None (Some None)) → Good z now → Right a now true held None → Passes z a now m → HasPassed sure (sought m) now p →
-      (b : Bool) → ltb p m.layout.pages ≡ b → Goes (given before (cond b (Look p) Ended)) (cond b (Look p) Ended)
-  looks before p says g right whose full true t = rw (says (Look p)) (stays g, right, record { whose = whose-at z a now m (Look p) whose; stage = record { there = subst (λ (l : Layout). p < l.pages) whose.layout (ltb-true p m.layout.pages t); full = full } })
-  looks before p says g right whose full false t =
+  looks : (p : ℕ) → Good z now → Right a now true held None → Passes z a now m → HasPassed sure (sought m) now p → (b : Bool) → ltb p m.layout.pages ≡ b → Goes (cond b (Look p) (Ended None))
+  looks p g right whose full true t = (stays g, right, record { whose = whose-at z a now m (Look p) whose; stage = record { there = subst (λ (l : Layout). p < l.pages) whose.layout (ltb-true p m.layout.pages t); full = full } })
+  looks p g right whose full false t =
       let last : z.layout.pages ≤ p = subst (λ (l : Layout). l.pages ≤ p) whose.layout (ltb-false p m.layout.pages t) in
-      rw (says Ended) (stays g, right, λ is q h lt. full is q h (omega arith))
+      (stays g, right, λ is q h lt. full is q h (omega arith))
 
-  look-says : (p : ℕ) (q : PassStage) → given (Look p) q ≡ cond (is_busy q) None (Some None)
-  look-says p q = refl
-
-  bits-says : (p i : ℕ) (h : SpanHead) (q : PassStage) → given (Bits p h i) q ≡ cond (is_busy q) None (Some None)
-  bits-says p i h q = refl
-
-  look : (p : ℕ) → Good z now → Right a now true held None → IsSure z sure now → Passes z a now m → LooksAt z sure (sought m) now p → Goes (given (Look p) (goes_at m (Look p) (now.page p))) (goes_at m (Look p) (now.page p))
+  look : (p : ℕ) → Good z now → Right a now true held None → IsSure z sure now → Passes z a now m → LooksAt z sure (sought m) now p → Goes (goes_at m (Look p) (now.page p))
   look p g right tidy whose x = go (page_of (now.page p)) refl where
     no-head : (w : PageWord) (h : SpanHead) → page_of (now.page p) ≡ w → w ≢ page.Head h → page_of (now.page p) ≢ page.Head h
     no-head w h e n f = n (sym e ∙ f)
 
-    on-head : (h : SpanHead) → page_of (now.page p) ≡ page.Head h → (b : Bool) → is_wanted m h ≡ b → Goes (given (Look p) (cond b (Bits p h 0) (look_from m (p + h.pages)))) (cond b (Bits p h 0) (look_from m (p + h.pages)))
+    on-head : (h : SpanHead) → page_of (now.page p) ≡ page.Head h → (b : Bool) → is_wanted m h ≡ b → Goes (cond b (Bits p h 0) (look_from m (p + h.pages)))
     on-head h head true t =
         let w = wanted-is m h t in
         let span = g.spans p h head in (
@@ -160,13 +153,13 @@ module _ (k : Known) (z : Arena) (a : ℕ) (sure : Bool) (s : Shared) (held : �
         ) where
           not-below : (p y : ℕ) → (1024 * p + y) / 64 < 16 * p + 0 → ⊥
           not-below p y lt = omega arith
-    on-head h head false t = looks (Look p) (p + h.pages) (look-says p) g right whose (λ is. past-span now.page IsDone z.layout.pages p h (whole g right p h head) (x.full is) (λ class noscan owner. absurd (clash (wanted-test m h class noscan owner ((tidy is p h x.there head owner).0 ∙ sym whose.number))))) (ltb (p + h.pages) m.layout.pages) refl where
+    on-head h head false t = looks (p + h.pages) g right whose (λ is. past-span now.page IsDone z.layout.pages p h (whole g right p h head) (x.full is) (λ class noscan owner. absurd (clash (wanted-test m h class noscan owner ((tidy is p h x.there head owner).0 ∙ sym whose.number))))) (ltb (p + h.pages) m.layout.pages) refl where
       clash : is_wanted m h ≡ true → ⊥
       clash e = cc
 
-    go : (w : PageWord) → page_of (now.page p) ≡ w → Goes (given (Look p) (after_page m p w)) (after_page m p w)
-    go page.Free e = looks (Look p) (p + 1) (look-says p) g right whose (λ is. past-page now.page IsDone p (x.full is) (λ h. no-head page.Free h e (λ f. absurd cc))) (ltb (p + 1) m.layout.pages) refl
-    go (page.Body b) e = looks (Look p) (p + 1) (look-says p) g right whose (λ is. past-page now.page IsDone p (x.full is) (λ h. no-head (page.Body b) h e (λ f. absurd cc))) (ltb (p + 1) m.layout.pages) refl
+    go : (w : PageWord) → page_of (now.page p) ≡ w → Goes (after_page m p w)
+    go page.Free e = looks (p + 1) g right whose (λ is. past-page now.page IsDone p (x.full is) (λ h. no-head page.Free h e (λ f. absurd cc))) (ltb (p + 1) m.layout.pages) refl
+    go (page.Body b) e = looks (p + 1) g right whose (λ is. past-page now.page IsDone p (x.full is) (λ h. no-head (page.Body b) h e (λ f. absurd cc))) (ltb (p + 1) m.layout.pages) refl
     go (page.Head h) e = on-head h e (is_wanted m h) refl
 
   -- an alloc word of a span that is looked into
@@ -204,17 +197,17 @@ module _ (k : Known) (z : Arena) (a : ℕ) (sure : Bool) (s : Shared) (held : �
         below : (y : ℕ) → 1024 * p + y + 0 < 1024 * (p + h.pages) → (1024 * p + y) / 64 < 16 * p + i
         below y lt = omega (arith, le)
 
-  bits : (p i found : ℕ) (h : SpanHead) → found ≡ now.alloc (16 * p + i) → Good z now → Right a now true held None → Passes z a now m → LooksInto sure m.wanted (sought m) now p h i → Goes (given (Bits p h i) (goes_at m (Bits p h i) found)) (goes_at m (Bits p h i) found)
+  bits : (p i found : ℕ) (h : SpanHead) → found ≡ now.alloc (16 * p + i) → Good z now → Right a now true held None → Passes z a now m → LooksInto sure m.wanted (sought m) now p h i → Goes (goes_at m (Bits p h i) found)
   bits p i found h is g right whose x = go (lacks_at m p i found) refl where
-    more : lacks_at m p i found ≡ false → (b : Bool) → ltb (i + 1) (16 * h.pages) ≡ b → Goes (given (Bits p h i) (cond b (Bits p h (i + 1)) (look_from m (p + h.pages)))) (cond b (Bits p h (i + 1)) (look_from m (p + h.pages)))
+    more : lacks_at m p i found ≡ false → (b : Bool) → ltb (i + 1) (16 * h.pages) ≡ b → Goes (cond b (Bits p h (i + 1)) (look_from m (p + h.pages)))
     more none true t = (stays g, right, record { whose = whose-at z a now m (Bits p h (i + 1)) whose; stage = record { unowned = x.unowned; full = x.full; within = ltb-true (i + 1) (16 * h.pages) t; taken = more-taken p i found h is none x } })
-    more none false t = looks (Bits p h i) (p + h.pages) (bits-says p i h) g right whose (λ sure_is. past-span now.page IsDone z.layout.pages p h (whole g right p h x.unowned.head) (x.full sure_is) (λ class noscan owner. (x.unowned.number, all-taken p (i + 1) h g right whose x.unowned (ltb-false (i + 1) (16 * h.pages) t) (more-taken p i found h is none x)))) (ltb (p + h.pages) m.layout.pages) refl
+    more none false t = looks (p + h.pages) g right whose (λ sure_is. past-span now.page IsDone z.layout.pages p h (whole g right p h x.unowned.head) (x.full sure_is) (λ class noscan owner. (x.unowned.number, all-taken p (i + 1) h g right whose x.unowned (ltb-false (i + 1) (16 * h.pages) t) (more-taken p i found h is none x)))) (ltb (p + h.pages) m.layout.pages) refl
 
-    go : (b : Bool) → lacks_at m p i found ≡ b → Goes (given (Bits p h i) (cond b (Take p h) (cond (ltb (i + 1) (16 * h.pages)) (Bits p h (i + 1)) (look_from m (p + h.pages))))) (cond b (Take p h) (cond (ltb (i + 1) (16 * h.pages)) (Bits p h (i + 1)) (look_from m (p + h.pages))))
+    go : (b : Bool) → lacks_at m p i found ≡ b → Goes (cond b (Take p h) (cond (ltb (i + 1) (16 * h.pages)) (Bits p h (i + 1)) (look_from m (p + h.pages))))
     go true t = (stays g, right, record { whose = whose-at z a now m (Take p h) whose; stage = x.unowned })
     go false t = more t (ltb (i + 1) (16 * h.pages)) refl
 
-  take : (p : ℕ) (h : SpanHead) → Good z now → Right a now true held None → Passes z a now m → IsUnowned m.wanted now.page now.generation p h → Steps z a s (asks (at_stage m (Take p h))) (λ t. KeepsObjects now (view t) × Comes z a sure now (view t) held (Some (Some p)) (at_stage m Ended))
+  take : (p : ℕ) (h : SpanHead) → Good z now → Right a now true held None → Passes z a now m → IsUnowned m.wanted now.page now.generation p h → Steps z a s (asks (at_stage m (Take p h))) (λ t. KeepsObjects now (view t) × Comes z a sure now (view t) held (Some (Some p)) (at_stage m (Ended (Some p))))
   take p h g right whose x = record { move = Own p h; may = may; words_are = ap (λ (n : ℕ). effect s.words (ask.Store (cell.Page p) (head_word (owned_by (n + 1) h)))) (sym whose.seat); after = ((refl, refl), (leaves, right-then, record { h = owned_by (a + 1) h; span = span; class = x.class; noscan = x.noscan; owner = refl }, not-held z a now true held None p g right (ap owner_in x.head ∙ x.owner))) } where
     may : MayPass now a p h × (h.owner ≡ 0) × (a + 1 < 2 ^ 8) × (h.number ≡ now.generation)
     may = (record { locked = right.locked; laying = right.laying; freeing = right.freeing; head = x.head }, x.owner, whose.few, x.number)
@@ -250,7 +243,7 @@ module _ (k : Known) (z : Arena) (a : ℕ) (sure : Bool) (s : Shared) (held : �
       let whose = whose-of z a now m (Bits p h i) x.whose in
       record { move = Quiet (asks (at_stage m (Bits p h i))); may = tt; words_are = refl; after = ((refl, refl), bits p i (s.words (cell.Alloc (alloc_word m p i))) h (ap (λ (n : ℕ). now.alloc n) (word-is p i h g whose x.stage)) g right whose x.stage) }
   own-at (Take p h) g right tidy x = take p h g right (whose-of z a now m (Take p h) x.whose) x.stage
-  own-at Ended g right tidy x = absurd x.stage
+  own-at (Ended taken) g right tidy x = absurd x.stage
 
 pub own : Known → OwnStep
 own k z a sure s held m g right tidy x = own-at k z a sure s held m m.stage g right tidy x
@@ -264,7 +257,7 @@ within-at z sure v m (Bits p h i) g layout x =
     let some : 0 < 16 * m.layout.pages = omega (arith, m.layout.limits.pages_fit.0) in
     omega (arith, mod-lt (16 * p + i) some, arena)
 within-at z sure v m (Take p h) g layout x = let span = g.spans p h x.head in omega (arith, span.within, span.fits.some)
-within-at z sure v m Ended g layout x = absurd x
+within-at z sure v m (Ended taken) g layout x = absurd x
 
 within : Within
 within z a sure v m g x = within-at z sure v m m.stage g x.whose.layout x.stage

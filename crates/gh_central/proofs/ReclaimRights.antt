@@ -1,10 +1,10 @@
 -- The steps of the freeing of empty spans are moves that its rights allow, and what it knows lasts. Of the heap it is known what the laws of gh_heap say.
-use Rattle.std.proofs.Common.{◌≡◌, ◌≢◌, ℕ, ◌+◌, ◌-◌, ◌*◌, ◌/◌, ◌%◌, ◌<◌, ◌≤◌, Bool, true, false, cond, eqb, ltb, inl, inr, Option, Some, None, refl, sym, ap, subst, ◌∙◌, arith, w64, eqb-true, ltb-true, ltb-false, ne_eqb}
+use Rattle.std.proofs.Common.{◌≡◌, ◌≢◌, ℕ, ◌+◌, ◌-◌, ◌*◌, ◌/◌, ◌%◌, ◌<◌, ◌≤◌, Bool, true, false, cond, eqb, ltb, inl, inr, Some, None, refl, sym, ap, subst, ◌∙◌, arith, w64, eqb-true, ltb-true, ltb-false, ne_eqb}
 use Rattle.gh_base.specs.declared.cell.Cell.TheVariants as cell
 use Rattle.gh_base.specs.declared.pack.PageWord.TheVariants as page
 use Rattle.gh_central.specs.declared.reclaim.ReclaimStage.{ReclaimStage}
 use Rattle.gh_central.specs.declared.reclaim.ReclaimStage.TheVariants.{Look, Bits, Body, Head, Ended}
-use Rattle.gh_central.specs.Reclaim.{Reclaiming, after_page, alloc_word, asks, at_stage, body_page, free_from, given, gives, goes, goes_at, is_busy, look_from}
+use Rattle.gh_central.specs.Reclaim.{Reclaiming, after_page, alloc_word, asks, at_stage, body_page, free_from, given_at, gives, goes, goes_at, look_from}
 use Rattle.gh_central.specs.ReclaimFacts.{AllSwept, ClearBelow, Comes, Facts, FactsAt, FreesFrom, IsIdle, IsReady, Lasts, LooksAt, LooksInto, Opens, OwnStep, ReclaimsByItsRights, Reclaims, Within, freed_to, freeing_at}
 use Rattle.gh_central.proofs.Vocabulary.{Arena, BeingFreed, bit_at, bit_at-trailing_zeros, bit_at-zero, cell_of, EachFactLasts, EachFreeingFollows, EachOwnMoveLeaves, eqb-false, eqb_tells, FreeBody, freed_yet, FreeHead, Freeing, Good, InRange, IsEmpty, IsInUse, IsSpan, KeepsObjects, Layout, Leaves, MayFree, mod-eq_of_lt, mod-lt, moved, Others, page_of, PageWord, put, Quiet, Right, Rights, row_bit, Shared, SpanHead, Steps, TheHeapIsApart, TidyBefore, trailing_zeros, View, view, WalksGoOn}
 use Rattle.gh_central.proofs.Heads.{past-page, past-span}
@@ -70,15 +70,15 @@ module _ (k : Known) (z : Arena) (a : ℕ) (s : Shared) (held : ℕ → Bool) (m
   now = view s
 
   -- what the next stage has, with nothing that was changed
-  abbrev Goes : Option (Unit {0}) → ReclaimStage → Type 0
-  Goes given q = Comes z a now now held given (at_stage m q)
+  abbrev Goes : ReclaimStage → Type 0
+  Goes q = Comes z a now now held (given_at q) (at_stage m q)
 
   stays : Good z now → Leaves now now
   stays g = (k.leave z a s g).stays
 
   -- it looks from this page on, or has ended
   looks : (w : View) (p : ℕ) → Leaves now w → Right a w true held None → Reclaims z w m → TidyBefore w.page w.alloc w.generation p → (b : Bool) → ltb p m.layout.pages ≡ b →
-      Comes z a now w held (cond (is_busy (cond b (Look p) Ended)) None (Some tt)) (at_stage m (cond b (Look p) Ended))
+      Comes z a now w held (given_at (cond b (Look p) Ended)) (at_stage m (cond b (Look p) Ended))
   looks w p leaves right whose tidy true t = (leaves, right, record { whose = record { layout = whose.layout; number = whose.number }; stage = record { there = subst (λ (l : Layout). p < l.pages) whose.layout (ltb-true p m.layout.pages t); tidy = tidy } })
   looks w p leaves right whose tidy false t =
       let last : z.layout.pages ≤ p = subst (λ (l : Layout). l.pages ≤ p) whose.layout (ltb-false p m.layout.pages t) in
@@ -91,13 +91,13 @@ module _ (k : Known) (z : Arena) (a : ℕ) (s : Shared) (held : ℕ → Bool) (m
   whole : Good z now → Right a now true held None → (p : ℕ) (h : SpanHead) → page_of (now.page p) ≡ page.Head h → IsSpan z.layout.pages now.page p h
   whole g right p h = (k.apart z now g).locked a p h right.locked right.freeing
 
-  look : (p : ℕ) → Good z now → AllSwept now → Right a now true held None → Reclaims z now m → LooksAt z now p → Goes (given (Look p) (goes_at m (Look p) (now.page p))) (goes_at m (Look p) (now.page p))
+  look : (p : ℕ) → Good z now → AllSwept now → Right a now true held None → Reclaims z now m → LooksAt z now p → Goes (goes_at m (Look p) (now.page p))
   look p g all right whose x = go (page_of (now.page p)) refl where
     owned : (h : SpanHead) → eqb h.owner 0 ≡ false → h.owner ≡ 0 → (h.number ≡ now.generation) × IsInUse now.alloc p h
     owned h t none = absurd (eqb-false h.owner 0 t none)
 
     on-head : (h : SpanHead) → page_of (now.page p) ≡ page.Head h → (b : Bool) → eqb h.owner 0 ≡ b → (c : Bool) → eqb h.number m.generation ≡ c →
-        Goes (given (Look p) (cond b (cond c (Bits p h.pages 0) (look_from m (p + h.pages))) (look_from m (p + h.pages)))) (cond b (cond c (Bits p h.pages 0) (look_from m (p + h.pages))) (look_from m (p + h.pages)))
+        Goes (cond b (cond c (Bits p h.pages 0) (look_from m (p + h.pages))) (look_from m (p + h.pages)))
     on-head h head true t true u = (
       stays g,
       right,
@@ -114,7 +114,7 @@ module _ (k : Known) (z : Arena) (a : ℕ) (s : Shared) (held : ℕ → Bool) (m
     on-head h head true t false u = absurd (eqb-false h.number m.generation u (all p h head (eqb-true h.owner 0 t) ∙ sym whose.number))
     on-head h head false t c u = looks now (p + h.pages) (stays g) right whose (past-span now.page IsDone z.layout.pages p h (whole g right p h head) x.tidy (owned h t)) (ltb (p + h.pages) m.layout.pages) refl
 
-    go : (w : PageWord) → page_of (now.page p) ≡ w → Goes (given (Look p) (after_page m p w)) (after_page m p w)
+    go : (w : PageWord) → page_of (now.page p) ≡ w → Goes (after_page m p w)
     go page.Free e = looks now (p + 1) (stays g) right whose (past-page now.page IsDone p x.tidy (λ h f. absurd (cc (e, f)))) (ltb (p + 1) m.layout.pages) refl
     go (page.Body b) e = looks now (p + 1) (stays g) right whose (past-page now.page IsDone p x.tidy (λ h f. absurd (cc (e, f)))) (ltb (p + 1) m.layout.pages) refl
     go (page.Head h) e = on-head h e (eqb h.owner 0) refl (eqb h.number m.generation) refl
@@ -169,7 +169,7 @@ module _ (k : Known) (z : Arena) (a : ℕ) (s : Shared) (held : ℕ → Bool) (m
 
   -- which page is freed first
   first : (p count : ℕ) → Good z now → Right a now true held None → Reclaims z now m → IsIdle now.page now.generation p count → TidyBefore now.page now.alloc now.generation p → IsEmpty now.alloc p count → (b : Bool) → ltb 1 count ≡ b →
-      Goes (cond (is_busy (cond b (Body p count 1) (Head p count))) None (Some tt)) (cond b (Body p count 1) (Head p count))
+      Goes (cond b (Body p count 1) (Head p count))
   first p count g right whose x tidy empty b t = go b t where
     span : IsSpan z.layout.pages now.page p x.h
     span = whole g right p x.h x.head
@@ -180,18 +180,18 @@ module _ (k : Known) (z : Arena) (a : ℕ) (s : Shared) (held : ℕ → Bool) (m
     frees : (d : ℕ) → 0 < d → d ≤ count → FreesFrom z now p count d
     frees d low few = record { tidy = tidy; there = omega (arith, span.within, x.size); some = low; few = few; vacant = λ e. is-vacant p count g right x some empty }
 
-    go : (b : Bool) → ltb 1 count ≡ b → Goes (cond (is_busy (cond b (Body p count 1) (Head p count))) None (Some tt)) (cond b (Body p count 1) (Head p count))
+    go : (b : Bool) → ltb 1 count ≡ b → Goes (cond b (Body p count 1) (Head p count))
     go true t = (stays g, right, record { whose = record { layout = whose.layout; number = whose.number }; stage = (frees 1 (omega arith) some, ltb-true 1 count t) })
     go false t =
         let one : count ≡ 1 = omega (arith, some, ltb-false 1 count t) in
         (stays g, subst (λ (n : ℕ). Rights a now true held None (freed_yet (freed_to p count n))) (sym one) right, record { whose = record { layout = whose.layout; number = whose.number }; stage = frees count some (omega arith) })
 
-  bits-step : (p count i found : ℕ) → found ≡ now.alloc (16 * p + i) → Good z now → Right a now true held None → Reclaims z now m → LooksInto now p count i → Goes (given (Bits p count i) (goes_at m (Bits p count i) found)) (goes_at m (Bits p count i) found)
+  bits-step : (p count i found : ℕ) → found ≡ now.alloc (16 * p + i) → Good z now → Right a now true held None → Reclaims z now m → LooksInto now p count i → Goes (goes_at m (Bits p count i) found)
   bits-step p count i found is g right whose x = go (eqb found 0) refl where
     clear : eqb found 0 ≡ true → ClearBelow now.alloc p (i + 1)
     clear t = more-clear p i (sym is ∙ eqb-true found 0 t) x.clear
 
-    more : eqb found 0 ≡ true → (b : Bool) → ltb (i + 1) (16 * count) ≡ b → Goes (given (Bits p count i) (cond b (Bits p count (i + 1)) (free_from p count 1))) (cond b (Bits p count (i + 1)) (free_from p count 1))
+    more : eqb found 0 ≡ true → (b : Bool) → ltb (i + 1) (16 * count) ≡ b → Goes (cond b (Bits p count (i + 1)) (free_from p count 1))
     more t true u = (stays g, right, record { whose = record { layout = whose.layout; number = whose.number }; stage = record { idle = x.idle; tidy = x.tidy; within = ltb-true (i + 1) (16 * count) u; clear = clear t } })
     more t false u = let all = ltb-false (i + 1) (16 * count) u in first p count g right whose x.idle x.tidy (λ y low high. clear t y low (omega (arith, high, all))) (ltb 1 count) refl
 
@@ -199,7 +199,7 @@ module _ (k : Known) (z : Arena) (a : ℕ) (s : Shared) (held : ℕ → Bool) (m
     past t = subst (λ (n : ℕ). TidyBefore now.page now.alloc now.generation (p + n)) x.idle.size
         (past-span now.page IsDone z.layout.pages p x.idle.h (whole g right p x.idle.h x.idle.head) x.tidy (λ none. (x.idle.number, in-use p count i g right x (λ e. eqb-false found 0 t (is ∙ e)))))
 
-    go : (b : Bool) → eqb found 0 ≡ b → Goes (given (Bits p count i) (cond b (cond (ltb (i + 1) (16 * count)) (Bits p count (i + 1)) (free_from p count 1)) (look_from m (p + count)))) (cond b (cond (ltb (i + 1) (16 * count)) (Bits p count (i + 1)) (free_from p count 1)) (look_from m (p + count)))
+    go : (b : Bool) → eqb found 0 ≡ b → Goes (cond b (cond (ltb (i + 1) (16 * count)) (Bits p count (i + 1)) (free_from p count 1)) (look_from m (p + count)))
     go true t = more t (ltb (i + 1) (16 * count)) refl
     go false t = looks now (p + count) (stays g) right whose (past t) (ltb (p + count) m.layout.pages) refl
 
@@ -221,7 +221,7 @@ module _ (k : Known) (z : Arena) (a : ℕ) (s : Shared) (held : ℕ → Bool) (m
       record { locked = right.locked; laying = right.laying; freeing = right.freeing; being = r.0; swept = r.2; empty = r.1 }
 
   body : (p count d : ℕ) → Good z now → Rights a now true held None (freed_yet (freed_to p count d)) → Reclaims z now m → FreesFrom z now p count d → d < count →
-      Steps z a s (asks (at_stage m (Body p count d))) (λ t. KeepsObjects now (view t) × Comes z a now (view t) held (given (Body p count d) (free_from p count (d + 1))) (at_stage m (free_from p count (d + 1))))
+      Steps z a s (asks (at_stage m (Body p count d))) (λ t. KeepsObjects now (view t) × Comes z a now (view t) held (given_at (free_from p count (d + 1))) (at_stage m (free_from p count (d + 1))))
   body p count d g right whose x more = record {
     move = FreeBody y;
     may = (may-free p count d g right x, more);
@@ -248,14 +248,14 @@ module _ (k : Known) (z : Arena) (a : ℕ) (s : Shared) (held : ℕ → Bool) (m
     frees : (n : ℕ) → n ≡ d + 1 → FreesFrom z (view t) p count n
     frees n e = record { tidy = k.walks.tidy now (view t) p leaves x.tidy; there = x.there; some = omega (arith, e); few = omega (arith, e, more); vacant = λ q. absurd (omega (arith, q, e, x.some)) }
 
-    go : (b : Bool) → ltb (d + 1) count ≡ b → Comes z a now (view t) held (cond (is_busy (cond b (Body p count (d + 1)) (Head p count))) None (Some tt)) (at_stage m (cond b (Body p count (d + 1)) (Head p count)))
+    go : (b : Bool) → ltb (d + 1) count ≡ b → Comes z a now (view t) held (given_at (cond b (Body p count (d + 1)) (Head p count))) (at_stage m (cond b (Body p count (d + 1)) (Head p count)))
     go true u = (leaves, right-then (d + 1) refl, record { whose = record { layout = whose.layout; number = whose.number }; stage = (frees (d + 1) refl, ltb-true (d + 1) count u) })
     go false u =
         let all : count ≡ d + 1 = omega (arith, more, ltb-false (d + 1) count u) in
         (leaves, right-then count all, record { whose = record { layout = whose.layout; number = whose.number }; stage = frees count all })
 
   head : (p count : ℕ) → Good z now → Rights a now true held None (freed_yet (freed_to p count count)) → Reclaims z now m → FreesFrom z now p count count →
-      Steps z a s (asks (at_stage m (Head p count))) (λ t. KeepsObjects now (view t) × Comes z a now (view t) held (given (Head p count) (look_from m (p + count))) (at_stage m (look_from m (p + count))))
+      Steps z a s (asks (at_stage m (Head p count))) (λ t. KeepsObjects now (view t) × Comes z a now (view t) held (given_at (look_from m (p + count))) (at_stage m (look_from m (p + count))))
   head p count g right whose x = record {
     move = FreeHead y;
     may = (may-free p count count g right x, refl);

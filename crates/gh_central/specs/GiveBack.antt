@@ -1,10 +1,11 @@
--- A span is given back: what is asked for at each stage, where that leads, and what it gives.
-use Rattle.std.specs.Prelude.{ℕ, ◌<◌, Bool, true, false, Option, Some, None}
+-- A span is given back: what is asked for at each stage, where that leads, and what it has given.
+use Rattle.std.specs.Prelude.{ℕ, ◌<◌, Bool, Option, Some, None, is_none}
 use Rattle.gh_base.specs.declared.cell.Cell.TheVariants.{Touch, Page}
 use Rattle.gh_base.specs.declared.cell.Ask.{Ask}
 use Rattle.gh_base.specs.declared.cell.Ask.TheVariants.{Load, Store}
 use Rattle.gh_base.specs.declared.layout.Layout.{Layout}
 use Rattle.gh_base.specs.declared.pack.SpanHead.{SpanHead}
+use Rattle.gh_base.specs.Given.{listing_of}
 use Rattle.gh_base.specs.Packing.{FitsHead, head_word}
 use Rattle.gh_base.specs.Routines.{Listing}
 use Rattle.gh_central.specs.declared.give.GiveStage.{GiveStage}
@@ -26,27 +27,32 @@ pub record CanGive (l : Layout) (page : ℕ) (h : SpanHead) : Type 0 where
   pub there : page < l.pages
   pub fits : FitsHead h
 
+-- what it has given at a stage
+abbrev pub given_at : GiveStage → Option (Unit {0})
+given_at Ended = Some tt
+given_at _ = None
+
+-- it asks for a step exactly where that is nothing
 abbrev pub is_busy : GiveStage → Bool
-is_busy Write = true
-is_busy Ended = false
+is_busy p = is_none (given_at p)
 
 abbrev pub asks_at : Giving → GiveStage → Ask
 asks_at g Write = Store (Page g.page) (head_word (owned_by 0 g.head))
 asks_at g Ended = Load Touch
 
-abbrev pub gives_at : GiveStage → Option (Unit {0})
-gives_at Write = Some tt
-gives_at Ended = None
-
--- the step that it asks for, what it is after the step found this, and what it ends with if that step is its last
+-- the step that it asks for, what it is after the step found this, and what it has given
 abbrev pub asks : Giving → Ask
 asks g = asks_at g g.stage
 
 abbrev pub goes : Giving → ℕ → Giving
 goes g found = record g { stage = Ended }
 
+abbrev pub given : Giving → Option (Unit {0})
+given g = given_at g.stage
+
+-- and by a step
 abbrev pub gives : Giving → ℕ → Option (Unit {0})
-gives g found = gives_at g.stage
+gives g found = given (goes g found)
 
 abbrev pub listing : Listing Giving (Unit {0})
-listing = record { layout = λ g. g.layout; busy = λ g. is_busy g.stage; asks = asks; goes = goes; gives = gives }
+listing = listing_of (λ g. g.layout) asks goes given

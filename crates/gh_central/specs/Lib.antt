@@ -1,11 +1,10 @@
-pub mod Ends
+pub mod Blind
 pub mod GiveBack
 pub mod GiveFacts
 pub mod Owning
 pub mod PassFacts
 pub mod Passing
 pub mod Reclaim
-pub mod ReclaimEnds
 pub mod ReclaimFacts
 pub mod ReclaimSound
 pub mod Slots

@@ -58,7 +58,7 @@ abbrev pub FactsAt : Arena → (sure : Bool) → Pass → View → PassStage →
 FactsAt z sure m v (Look p) = LooksAt z sure (sought m) v p
 FactsAt z sure m v (Bits p h i) = LooksInto sure m.wanted (sought m) v p h i
 FactsAt z sure m v (Take p h) = IsUnowned m.wanted v.page v.generation p h
-FactsAt z sure m v Ended = ⊥
+FactsAt z sure m v (Ended taken) = ⊥
 
 pub record Facts (z : Arena) (a : ℕ) (sure : Bool) (v : View) (m : Pass) : Type 0 where
   pub whose : Passes z a v m

@@ -7,7 +7,7 @@ use Rattle.gh_base.specs.declared.layout.Layout.{Layout}
 use Rattle.gh_base.specs.declared.pack.PageWord.TheVariants.{Head}
 use Rattle.gh_base.specs.declared.pack.SpanHead.{SpanHead}
 use Rattle.gh_base.specs.Packing.{head_word, page_of}
-use Rattle.gh_base.specs.Routines.{EndsWith, told}
+use Rattle.gh_base.specs.Routines.{EndsWith, GoesOn, told}
 use Rattle.gh_class.specs.declared.class.SizeClass.TheVariants.{Small}
 use Rattle.gh_class.specs.declared.class.SpanClass.{SpanClass}
 use Rattle.gh_class.specs.Classes.{slot_words_of, slots_of}
@@ -64,8 +64,8 @@ module _ (m : Pass) (found : ℕ → ℕ) (n : ℕ) where
 
 -- what it gives if step n is its last
 pub record TakesTheFirst (m : Pass) (found : ℕ → ℕ) (n : ℕ) : Type 0 where
-  pub some : (page : ℕ) → EndsWith listing m found n (Some page) → Takes m found n page
-  pub none : EndsWith listing m found n None → Passes m found (suc n) m.layout.pages
+  pub some : (page : ℕ) → GoesOn listing m found n → EndsWith listing m found n (Some page) → Takes m found n page
+  pub none : GoesOn listing m found n → EndsWith listing m found n None → Passes m found (suc n) m.layout.pages
 
 abbrev pub PassTakesTheFirst : Type 0
 PassTakesTheFirst = (l : Layout) (seat generation : ℕ) (wanted : SpanClass) (found : ℕ → ℕ) (n : ℕ) → TakesTheFirst (opening l seat generation wanted) found n

@@ -1,5 +1,5 @@
--- Pages of empty spans are freed: what is asked for at each stage, where that leads, and what it gives.
-use Rattle.std.specs.Prelude.{ℕ, ◌+◌, ◌*◌, ◌%◌, Bool, true, false, nat_lt, ◌==◌, if◌then◌else◌, Option, Some, None}
+-- Pages of empty spans are freed: what is asked for at each stage, where that leads, and what it has given.
+use Rattle.std.specs.Prelude.{ℕ, ◌+◌, ◌*◌, ◌%◌, Bool, nat_lt, ◌==◌, if◌then◌else◌, Option, Some, None, is_none}
 use Rattle.gh_base.specs.declared.cell.Cell.TheVariants as cell
 use Rattle.gh_base.specs.declared.cell.Ask.{Ask}
 use Rattle.gh_base.specs.declared.cell.Ask.TheVariants.{Load, Store}
@@ -7,6 +7,7 @@ use Rattle.gh_base.specs.declared.layout.Layout.{Layout}
 use Rattle.gh_base.specs.declared.pack.PageWord.{PageWord}
 use Rattle.gh_base.specs.declared.pack.PageWord.TheVariants as word
 use Rattle.gh_base.specs.declared.pack.SpanHead.{SpanHead}
+use Rattle.gh_base.specs.Given.{listing_of}
 use Rattle.gh_base.specs.Packing.{page_of}
 use Rattle.gh_base.specs.Routines.{Listing}
 use Rattle.gh_central.specs.declared.reclaim.ReclaimStage.{ReclaimStage}
@@ -25,9 +26,14 @@ at_stage m p = record m { stage = p }
 abbrev pub opening : Layout → (generation : ℕ) → Reclaiming
 opening l generation = record { layout = l; generation = generation; stage = Look 0 }
 
+-- what it has given at a stage
+abbrev pub given_at : ReclaimStage → Option (Unit {0})
+given_at Ended = Some tt
+given_at _ = None
+
+-- it asks for a step exactly where that is nothing
 abbrev pub is_busy : ReclaimStage → Bool
-is_busy Ended = false
-is_busy _ = true
+is_busy p = is_none (given_at p)
 
 -- the bodies of the span from this distance on are freed, then its head
 abbrev pub free_from : (page pages distance : ℕ) → ReclaimStage
@@ -77,20 +83,19 @@ module _ (m : Reclaiming) where
   goes_at (Head page pages) found = look_from (page + pages)
   goes_at Ended found = Ended
 
--- what it gives by a step from the first stage to the second
-abbrev pub given : ReclaimStage → ReclaimStage → Option (Unit {0})
-given Ended next = None
-given _ next = if is_busy next then None else Some tt
-
--- the step that it asks for, what it is after the step found this, and what it ends with if that step is its last
+-- the step that it asks for, what it is after the step found this, and what it has given
 abbrev pub asks : Reclaiming → Ask
 asks m = asks_at m m.stage
 
 abbrev pub goes : Reclaiming → ℕ → Reclaiming
 goes m found = at_stage m (goes_at m m.stage found)
 
+abbrev pub given : Reclaiming → Option (Unit {0})
+given m = given_at m.stage
+
+-- and by a step
 abbrev pub gives : Reclaiming → ℕ → Option (Unit {0})
-gives m found = given m.stage (goes_at m m.stage found)
+gives m found = given (goes m found)
 
 abbrev pub listing : Listing Reclaiming (Unit {0})
-listing = record { layout = λ m. m.layout; busy = λ m. is_busy m.stage; asks = asks; goes = goes; gives = gives }
+listing = listing_of (λ m. m.layout) asks goes given

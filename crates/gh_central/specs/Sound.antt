@@ -13,7 +13,7 @@ abbrev pub IsStage : Layout → PassStage → Type 0
 IsStage l (Look page) = page < l.pages
 IsStage l (Bits page h i) = (page < l.pages) × FitsHead h × (i < 16 * h.pages)
 IsStage l (Take page h) = (page < l.pages) × FitsHead h
-IsStage l Ended = Unit {0}
+IsStage l (Ended taken) = Unit {0}
 
 pub record Sound (m : Pass) : Type 0 where
   pub seat : m.seat < seats_of m.layout

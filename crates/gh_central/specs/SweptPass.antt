@@ -1,5 +1,5 @@
--- The pass for a swept span with room: what it asks for at each stage, where that leads, and what it gives.
-use Rattle.std.specs.Prelude.{ℕ, ◌+◌, ◌*◌, ◌%◌, Bool, true, false, not, nat_lt, ◌==◌, ◌&&◌, if◌then◌else◌, Option, Some, None}
+-- The pass for a swept span with room: what it asks for at each stage, where that leads, and what it has given.
+use Rattle.std.specs.Prelude.{ℕ, ◌+◌, ◌*◌, ◌%◌, Bool, false, not, nat_lt, ◌==◌, ◌&&◌, if◌then◌else◌, Option, Some, None, is_none}
 use Rattle.std.specs.Bool.{beq}
 use Rattle.gh_base.specs.declared.cell.Cell.TheVariants as cell
 use Rattle.gh_base.specs.declared.cell.Ask.{Ask}
@@ -8,6 +8,7 @@ use Rattle.gh_base.specs.declared.layout.Layout.{Layout}
 use Rattle.gh_base.specs.declared.pack.PageWord.{PageWord}
 use Rattle.gh_base.specs.declared.pack.PageWord.TheVariants.{Free, Head, Body}
 use Rattle.gh_base.specs.declared.pack.SpanHead.{SpanHead}
+use Rattle.gh_base.specs.Given.{listing_of}
 use Rattle.gh_base.specs.Packing.{page_of, head_word}
 use Rattle.gh_base.specs.Routines.{Listing}
 use Rattle.gh_class.specs.declared.class.SizeClass.{SizeClass}
@@ -48,9 +49,14 @@ abbrev pub is_small : ℕ → SizeClass → Bool
 is_small class (Small c) = c == class
 is_small class Large = false
 
+-- what it has given at a stage
+abbrev pub given_at : PassStage → Option (Option ℕ)
+given_at (Ended taken) = Some taken
+given_at _ = None
+
+-- it asks for a step exactly where that is nothing
 abbrev pub is_busy : PassStage → Bool
-is_busy Ended = false
-is_busy _ = true
+is_busy p = is_none (given_at p)
 
 module _ (m : Pass) where
   -- a span of the wanted span class that nobody owns, and that is swept
@@ -69,10 +75,10 @@ module _ (m : Pass) where
   asks_at (Look page) = Load (cell.Page page)
   asks_at (Bits page h i) = Load (cell.Alloc (alloc_word page i))
   asks_at (Take page h) = Store (cell.Page page) (head_word (owned_by (m.seat + 1) h))
-  asks_at Ended = Load cell.Touch
+  asks_at (Ended taken) = Load cell.Touch
 
   abbrev pub look_from : ℕ → PassStage
-  look_from page = if nat_lt page m.layout.pages then Look page else Ended
+  look_from page = if nat_lt page m.layout.pages then Look page else Ended None
 
   abbrev pub after_page : ℕ → PageWord → PassStage
   after_page page Free = look_from (page + 1)
@@ -87,29 +93,27 @@ module _ (m : Pass) where
   abbrev pub goes_at : PassStage → ℕ → PassStage
   goes_at (Look page) found = after_page page (page_of found)
   goes_at (Bits page h i) found = after_bits page h i found
-  goes_at (Take page h) found = Ended
-  goes_at Ended found = Ended
+  goes_at (Take page h) found = Ended (Some page)
+  goes_at (Ended taken) found = Ended taken
 
   -- the word found leads to the span's next alloc word
   abbrev pub goes_on_at : PassStage → (found : ℕ) → Bool
   goes_on_at (Bits page h i) found = nat_lt (i + 1) (16 * h.pages) && not (lacks_at page i found)
   goes_on_at _ found = false
 
--- what it gives by a step from the first stage to the second
-abbrev pub given : PassStage → PassStage → Option (Option ℕ)
-given (Take page h) next = Some (Some page)
-given Ended next = None
-given _ next = if is_busy next then None else Some None
-
--- the step that it asks for, what it is after the step found this, and what it ends with if that step is its last
+-- the step that it asks for, what it is after the step found this, and what it has given
 abbrev pub asks : Pass → Ask
 asks m = asks_at m m.stage
 
 abbrev pub goes : Pass → ℕ → Pass
 goes m found = at_stage m (goes_at m m.stage found)
 
+abbrev pub given : Pass → Option (Option ℕ)
+given m = given_at m.stage
+
+-- and by a step
 abbrev pub gives : Pass → ℕ → Option (Option ℕ)
-gives m found = given m.stage (goes_at m m.stage found)
+gives m found = given (goes m found)
 
 abbrev pub listing : Listing Pass (Option ℕ)
-listing = record { layout = λ m. m.layout; busy = λ m. is_busy m.stage; asks = asks; goes = goes; gives = gives }
+listing = listing_of (λ m. m.layout) asks goes given

@@ -2,7 +2,7 @@
 
 ghost use Rattle.std.specs.Prelude.{◌≡◌, ◌<◌};
 ghost use Rattle.gh_base.specs.Packing.{FitsHead, head_word};
-ghost use Rattle.gh_central.specs.GiveBack.{opening};
+ghost use Rattle.gh_central.specs.GiveBack.{given, opening};
 ghost use Rattle.gh_central.specs.SweptPass.{owned_by};
 
 use gh_base::{Ask, Cell, Layout, Machine, PageWord, Req, SpanHead};
@@ -66,11 +66,21 @@ impl GiveBack {
         })
         .pack()
     }
+
+    /// What it has given.
+    fn given(&self) -> Option<()>
+        ensures { result ≡ given self.now }
+    {
+        match self.stage {
+            GiveStage::Write => None,
+            GiveStage::Ended => Some(()),
+        }
+    }
 }
 
 impl Machine for GiveBack {
     ghost use Rattle.std.specs.Prelude.{refl};
-    ghost use Rattle.gh_central.specs.Ends as proved;
+    ghost use Rattle.gh_base.specs.Given.{is_over};
     ghost use Rattle.gh_central.specs.GiveBack.{listing};
 
     type Out = ();
@@ -94,16 +104,11 @@ impl Machine for GiveBack {
     }
 
     fn take(&mut self, _found: u64) -> Option<()> {
-        match self.stage {
-            GiveStage::Write => {
-                self.stage = GiveStage::Ended;
-                Some(())
-            }
-            GiveStage::Ended => None,
-        }
+        self.stage = GiveStage::Ended;
+        self.given()
     }
 
-    ghost ends = { proved.giving_ends };
+    ghost ends = { λ g found busy. is_over (listing.gives g found) };
 
     ghost stays = { λ _ _. refl };
 }

@@ -38,7 +38,10 @@ pub enum PassStage {
         head: SpanHead,
     },
     /// It has ended.
-    Ended,
+    Ended {
+        /// The first page of the span that it took, if it took one.
+        taken: Option<u32>,
+    },
 }
 
 /// Looks for a swept span of a span class that nobody has cached and that has a clear slot, and
@@ -145,7 +148,7 @@ impl SweptPass {
                 Ask::Load(Cell::Alloc(self.alloc_word(page, word)))
             }
             PassStage::Take { page, head } => Ask::Store(Cell::Page(page), self.taken_word(head)),
-            PassStage::Ended => Ask::Load(Cell::Touch),
+            PassStage::Ended { .. } => Ask::Load(Cell::Touch),
         }
     }
 
@@ -156,7 +159,7 @@ impl SweptPass {
         if page < self.layout.pages {
             PassStage::Look { page }
         } else {
-            PassStage::Ended
+            PassStage::Ended { taken: None }
         }
     }
 
@@ -232,28 +235,25 @@ impl SweptPass {
         match self.stage {
             PassStage::Look { page } => self.after_page(page, PageWord::unpack(found)),
             PassStage::Bits { page, head, word } => self.after_bits(page, head, word, found),
-            PassStage::Take { .. } | PassStage::Ended => PassStage::Ended,
+            PassStage::Take { page, .. } => PassStage::Ended { taken: Some(page) },
+            PassStage::Ended { taken } => PassStage::Ended { taken },
         }
     }
-}
 
-/// What it gives by a step from the first stage to the second.
-fn given(from: &PassStage, to: &PassStage) -> Option<Option<u32>>
-    ensures { result ≡ given from.now to.now }
-{
-    match from {
-        PassStage::Take { page, .. } => Some(Some(*page)),
-        PassStage::Ended => None,
-        PassStage::Look { .. } | PassStage::Bits { .. } => match to {
-            PassStage::Ended => Some(None),
+    /// What it has given.
+    fn given(&self) -> Option<Option<u32>>
+        ensures { result ≡ given self.now }
+    {
+        match self.stage {
+            PassStage::Ended { taken } => Some(taken),
             _ => None,
-        },
+        }
     }
 }
 
 impl Machine for SweptPass {
     ghost use Rattle.std.specs.Prelude.{refl};
-    ghost use Rattle.gh_central.specs.Ends as proved;
+    ghost use Rattle.gh_base.specs.Given.{is_over};
     ghost use Rattle.gh_central.specs.SweptPass.{listing};
 
     type Out = Option<u32>;
@@ -277,13 +277,11 @@ impl Machine for SweptPass {
         if self.goes_on(found) {
             return None;
         }
-        let to = self.go(found);
-        let out = given(&self.stage, &to);
-        self.stage = to;
-        out
+        self.stage = self.go(found);
+        self.given()
     }
 
-    ghost ends = { proved.ends };
+    ghost ends = { λ m found busy. is_over (listing.gives m found) };
 
     ghost stays = { λ _ _. refl };
 }

@@ -219,6 +219,16 @@ impl Reclaim {
             ReclaimStage::Ended => ReclaimStage::Ended,
         }
     }
+
+    /// What it has given.
+    fn given(&self) -> Option<()>
+        ensures { result ≡ given self.now }
+    {
+        match self.stage {
+            ReclaimStage::Ended => Some(()),
+            _ => None,
+        }
+    }
 }
 
 /// It frees the page at this distance next; behind the last one, the first page.
@@ -236,22 +246,9 @@ fn free_from(page: u32, pages: u32, distance: u32) -> ReclaimStage
     }
 }
 
-/// What it gives by a step from the first stage to the second.
-fn given(from: &ReclaimStage, to: &ReclaimStage) -> Option<()>
-    ensures { result ≡ given from.now to.now }
-{
-    match from {
-        ReclaimStage::Ended => None,
-        _ => match to {
-            ReclaimStage::Ended => Some(()),
-            _ => None,
-        },
-    }
-}
-
 impl Machine for Reclaim {
     ghost use Rattle.std.specs.Prelude.{refl};
-    ghost use Rattle.gh_central.specs.ReclaimEnds as proved;
+    ghost use Rattle.gh_base.specs.Given.{is_over};
     ghost use Rattle.gh_central.specs.Reclaim.{listing};
 
     type Out = ();
@@ -272,13 +269,11 @@ impl Machine for Reclaim {
 
     fn take(&mut self, found: u64) -> Option<()> {
         packed_words_are_read_back();
-        let to = self.go(found);
-        let out = given(&self.stage, &to);
-        self.stage = to;
-        out
+        self.stage = self.go(found);
+        self.given()
     }
 
-    ghost ends = { proved.ends };
+    ghost ends = { λ m found busy. is_over (listing.gives m found) };
 
     ghost stays = { λ _ _. refl };
 }

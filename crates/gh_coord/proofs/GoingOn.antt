@@ -1,7 +1,7 @@
 -- The coordinator has a further step exactly where it is not done.
 use Rattle.std.proofs.Common.{◌≡◌, true, ◌↔◌, refl}
 use Rattle.std.specs.Prelude.{IsNone, not}
-use Rattle.gh_coord.specs.Ends.{ends}
+use Rattle.gh_coord.specs.Stays.{ends}
 use Rattle.gh_coord.specs.GoingOn.{GoesOnUntilDone}
 use Rattle.gh_coord.specs.Listing.{given_at, goes, is_busy, is_done}
 use Rattle.gh_coord.specs.Vocabulary.{CoordStage, Done}

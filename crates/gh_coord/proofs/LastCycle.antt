@@ -61,8 +61,7 @@ finds_gone s found busy =
 -- the last phase is stored in the last cycle
 stop_goes_on : (phase : RunPhase) (stage : StopStage) → last_of (stop_post phase stage) ≡ phase
 stop_goes_on phase stop_stage.StorePhase = refl
-stop_goes_on phase (stop_stage.Await ack) = refl
-stop_goes_on phase stop_stage.Ended = refl
+stop_goes_on phase _ = refl
 
 open_goes_on : (stage : OpenStage) → last_of (open_post stage) ≡ run.Finished → ⊥
 open_goes_on open_stage.ClearWant e = cc
@@ -90,9 +89,8 @@ GoesOn (Stopped phase) = phase ≢ run.Finished
 GoesOn _ = Unit {0}
 
 stop_so : (stage : StopStage) → GoesOn (stop_post run.Off stage) × GoesOn (stop_post run.Mark stage)
-stop_so stop_stage.StorePhase = (tt, tt)
-stop_so (stop_stage.Await ack) = (tt, tt)
 stop_so stop_stage.Ended = (λ e. cc, λ e. cc)
+stop_so _ = (tt, tt)
 
 open_so : (stage : OpenStage) → GoesOn (open_post stage)
 open_so open_stage.Ended = tt
@@ -124,9 +122,8 @@ not_mark : (phase : RunPhase) → phase ≢ run.Mark → (stage : CoordStage) �
 not_mark phase other stage e f = (λ x. absurd (other (sym e ∙ x)), λ y. absurd (f y))
 
 stop_mark : (st : stop.Stopping) (stage : StopStage) → Runs (stop_post run.Mark stage) → last_of (stop_post run.Mark stage) ≡ run.Mark ↔ Marks (StopAgain st)
-stop_mark st stop_stage.StorePhase r = (λ x. tt, λ y. refl)
-stop_mark st (stop_stage.Await ack) r = (λ x. tt, λ y. refl)
 stop_mark st stop_stage.Ended r = absurd (r run.Mark refl)
+stop_mark st _ r = (λ x. tt, λ y. refl)
 
 open_mark : (stage : OpenStage) → opens_by.is_busy stage ≡ true → Runs (open_post stage) → ⊥
 open_mark open_stage.Ended b r = cc

@@ -173,10 +173,9 @@ module _ (l : Layout) (seat gogc minheap room : ℕ) (found : ℕ → ℕ) where
   module _ (n : ℕ) (s : Coordinating) (here : s.layout ≡ l) where
     -- the end of marking
     close_step : (cl : close.Closing) (stage : CloseStage) (v : ℕ) → cl.stage ≡ stage → asks (now n) ≡ close.asks_at cl stage → CloseKnows s.stops s.begun n stage → Has (suc n) (after_close (at_stage s (Close (close.goes_at cl stage v))) (close.given (close.goes_at cl stage v)))
-    close_step cl c.LoadBank v e asked k = record { layout_is = here; knows = looks_on s.stops s.begun n (watch.words_of l) k (subst LeavesMarks (sym asked) tt) }
-    close_step cl c.ClearBank v e asked k = record { layout_is = here; knows = looks_on s.stops s.begun n (watch.words_of l) k (subst LeavesMarks (sym asked) tt) }
     close_step cl c.StoreGen v e asked k = record { layout_is = here; knows = tt }
     close_step cl c.Ended v e asked k = absurd k
+    close_step cl _ v e asked k = record { layout_is = here; knows = looks_on s.stops s.begun n (watch.words_of l) k (subst LeavesMarks (sym asked) tt) }
 
     -- the second stop
     module _ (st : stop.Stopping) (st_in : st.layout ≡ l) (numbered : st.stops ≡ s.stops) where
@@ -316,9 +315,7 @@ module _ (l : Layout) (seat gogc minheap room : ℕ) (found : ℕ → ℕ) where
   -- where it stores the generation
   close_at : (cl : close.Closing) (stage : CloseStage) (stops cycle n g : ℕ) → CloseKnows stops cycle n stage → close.asks_at cl stage ≡ Store cell.Gen g → Looked stops cycle n (watch.words_of l)
   close_at cl c.Ended stops cycle n g k e = absurd k
-  close_at cl c.LoadBank stops cycle n g k e = k
-  close_at cl c.ClearBank stops cycle n g k e = k
-  close_at cl c.StoreGen stops cycle n g k e = k
+  close_at cl _ stops cycle n g k e = k
 
 never : (ask : Ask) (g : ℕ) → IsQuiet ask → ask ≡ Store cell.Gen g → ⊥
 never ask g q e = subst IsQuiet e q
@@ -329,8 +326,7 @@ open_never op _ g e = cc
 
 stop_never : (st : stop.Stopping) (stage : StopStage) (g : ℕ) → stop.asks_at st stage ≡ Store cell.Gen g → ⊥
 stop_never st p.StorePhase g e = cc
-stop_never st (p.Await i) g e = cc
-stop_never st p.Ended g e = cc
+stop_never st _ g e = cc
 
 tell_never : (te : tell.Telling) (stage : TellStage) (g : ℕ) → tell.asks_at te stage ≡ Store cell.Gen g → ⊥
 tell_never te t.StoreTrigger g e = cc
@@ -341,19 +337,16 @@ module _ (l : Layout) (seat gogc minheap room : ℕ) (found : ℕ → ℕ) (n g 
   Checked = Looked l seat gogc minheap room found s.stops s.begun n (watch.words_of l)
 
   is_checked : (stage : CoordStage) → Knows l seat gogc minheap room found s.stops s.begun n stage → asks_at s stage ≡ Store cell.Gen g → Checked
-  is_checked (LoadAck i) k e = absurd (cc)
-  is_checked LoadWant k e = absurd (cc)
   is_checked (Stop st) k e = absurd (stop_never st st.stage g e)
   is_checked (Open op) k e = absurd (open_never op op.stage g e)
   is_checked (Watch x) k e = absurd (never _ g (watch_quiet x x.stage) e)
   is_checked (StopAgain st) k e = absurd (stop_never st st.stage g e)
   is_checked (Check x) k e = absurd (never _ g (watch_quiet x x.stage) e)
-  is_checked MarkOn k e = absurd (cc)
   is_checked (Close cl) k e = close_at l seat gogc minheap room found cl cl.stage s.stops s.begun n g k e
   is_checked (Sweep sw) k e = absurd (never _ g (sweep_quiet sw sw.stage) e)
   is_checked (Count co) k e = absurd (never _ g (count_quiet co.stage) e)
   is_checked (Tell te) k e = absurd (tell_never te te.stage g e)
-  is_checked Done k e = absurd (cc)
+  is_checked _ k e = absurd (cc)
 
 pub marking_ends_clean : MarkingEndsClean
 marking_ends_clean l seat gogc minheap room found n g e =

@@ -15,7 +15,7 @@ use Rattle.gh_coord.specs.Stopping as stop
 use Rattle.gh_coord.specs.SweepingAll as all
 use Rattle.gh_coord.specs.Telling as tell
 use Rattle.gh_coord.specs.Watching as watch
-use Rattle.gh_coord.proofs.Vocabulary.{acks_of, after_ack, after_check, after_count, after_stop, after_stop_again, after_sweep, after_want, after_watch, All, Ask, asks_at, at_stage, begins, Calm, Check, Close, CloseStage, Coordinating, CoordStage, Count, Counted, counted, cycle_before, Done, ends, FitsNumbers, generation_before, goes_at, GONE, is_acknowledged, is_busy, IsAcked, IsQuiet, Layout, lead_at, lead_of, LeadGoes, LeadsHandshake, Load, LoadAck, LoadWant, Looks, MarkOn, nat_tests, next_cycle, next_generation, NotYet, Open, OpenStage, phase_word, quiet, sees, Sound, SoundAt, Stop, stop_before, stop_word, StopAgain, Stopped, stops, stops_world, StopStage, Store, Sweep, Tell, TellStage, Watch, Watched}
+use Rattle.gh_coord.proofs.Vocabulary.{acks_of, after_ack, after_check, after_count, after_stop, after_stop_again, after_sweep, after_want, after_watch, All, Ask, asks_at, at_stage, begins, Calm, Check, Close, CloseStage, Coordinating, CoordStage, Count, Counted, counted, cycle_before, Done, ends, FitsNumbers, generation_before, goes_at, GONE, is_acknowledged, is_busy, IsAcked, IsQuiet, Layout, lead_at, lead_of, LeadGoes, LeadsHandshake, Load, LoadAck, LoadWant, Looks, MarkOn, nat_tests, next_cycle, next_generation, Open, OpenStage, phase_word, quiet, sees, Sound, SoundAt, Stop, stop_before, stop_word, StopAgain, Stopped, stops, stops_world, StopStage, Store, Sweep, Tell, TellStage, Watch, Watched}
 use Rattle.gh_coord.proofs.LastCycle.{finds_gone, finishes_at, marks_at, stops_go_on}
 use Rattle.gh_coord.proofs.QuietParts.{count_quiet, sweep_quiet, watch_quiet}
 use Rattle.gh_coord.proofs.Stepping.{same_ask}
@@ -116,42 +116,32 @@ module _ (found : ℕ) (s : Coordinating) (f : FitsNumbers s.stops s.begun s.gen
   open_at l stage = record { layout = l; stops = s.stops; cycle = s.begun; stage = stage }
 
   opening : (l : Layout) (stage : OpenStage) → opens_by.is_busy stage ≡ true → Goes found s (Open (open_at l stage)) (goes_at s (Open (open_at l stage)) found)
-  opening l open_stage.ClearWant busy = ((f, (refl, refl)), quiet tt refl)
-  opening l open_stage.ClearGcur busy = ((f, (refl, refl)), quiet tt refl)
-  opening l open_stage.ClearTally busy = ((f, (refl, refl)), quiet tt refl)
-  opening l open_stage.ClearLive busy = ((f, (refl, refl)), quiet tt refl)
-  opening l open_stage.StoreTrigger busy = ((f, (refl, refl)), quiet tt refl)
-  opening l open_stage.LoadHeap busy = ((f, (refl, refl)), quiet tt refl)
-  opening l open_stage.StoreWork busy = ((f, (refl, refl)), quiet tt refl)
-  opening l open_stage.StoreSlack busy = ((f, (refl, refl)), quiet tt refl)
   opening l open_stage.StoreBegun busy =
       let is : next_cycle (cycle_before s.begun) ≡ s.begun = cycle_ahead s.begun f.begun_fits in
       ((f, (refl, refl)), begins run.Off refl (ap (λ (n : ℕ). Store cell.Begun n) (sym is)) (ap (λ (n : ℕ). record { stops = s.stops; begun = n; generation = s.generation; post = Stopped run.Off }) (sym is)))
   opening l open_stage.StorePhase busy = ((f, tt), goes run.Off run.Mark (λ e. cc) refl refl refl)
   opening l open_stage.Ended busy = absurd cc
+  opening l _ busy = ((f, (refl, refl)), quiet tt refl)
 
   -- the look and the check
   watching : (w v : watch.Watching) (out : Option Watched) → IsQuiet (watch.asks w) → Goes found s (Watch w) (after_watch (at_stage s (Watch v)) out)
-  watching w v None q = ((f, tt), quiet q refl)
   watching w v (Some All) q = ((fits_raised, refl), quiet q (ap (λ (n : ℕ). record { stops = n; begun = s.begun; generation = s.generation; post = Calm run.Mark }) (stop_behind s.stops f.stops_fit)))
-  watching w v (Some NotYet) q = ((f, tt), quiet q refl)
+  watching w v _ q = ((f, tt), quiet q refl)
 
   checking : (w v : watch.Watching) (out : Option Watched) → IsQuiet (watch.asks w) → Goes found s (Check w) (after_check (at_stage s (Check v)) out)
-  checking w v None q = ((f, tt), quiet q refl)
   checking w v (Some All) q = ((raised_generation s.stops s.begun s.generation f, refl), quiet q (ap (λ (n : ℕ). record { stops = s.stops; begun = s.begun; generation = n; post = Stopped run.Mark }) (generation_behind s.generation f.generation_fits)))
-  checking w v (Some NotYet) q = ((f, tt), quiet q refl)
+  checking w v _ q = ((f, tt), quiet q refl)
 
   -- marking is ended
   abbrev close_at : Layout → (lapsed : ℕ) → CloseStage → close.Closing
   close_at l lapsed stage = record { layout = l; lapsed = lapsed; generation = s.generation; stage = stage }
 
   closing : (l : Layout) (lapsed : ℕ) (stage : CloseStage) → close.is_busy stage ≡ true → Goes found s (Close (close_at l lapsed stage)) (goes_at s (Close (close_at l lapsed stage)) found)
-  closing l lapsed close_stage.LoadBank busy = ((f, refl), quiet tt refl)
-  closing l lapsed close_stage.ClearBank busy = ((f, refl), quiet tt refl)
   closing l lapsed close_stage.StoreGen busy =
       let is : next_generation (generation_before s.generation) ≡ s.generation = generation_ahead s.generation f.generation_fits in
       ((f, tt), ends run.Mark refl (ap (λ (n : ℕ). Store cell.Gen n) (sym is)) (ap (λ (n : ℕ). record { stops = s.stops; begun = s.begun; generation = n; post = Stopped run.Mark }) (sym is)))
   closing l lapsed close_stage.Ended busy = absurd cc
+  closing l lapsed _ busy = ((f, refl), quiet tt refl)
 
   -- the sweep, and what it has counted
   sweeping : (w v : all.SweepingAll) (out : Option (Unit {0})) → IsQuiet (all.asks w) → Goes found s (Sweep w) (after_sweep (at_stage s (Sweep v)) out)
@@ -167,13 +157,12 @@ module _ (found : ℕ) (s : Coordinating) (f : FitsNumbers s.stops s.begun s.gen
   tell_at l trigger cycle stage = record { layout = l; trigger = trigger; cycle = cycle; stops = s.stops; is_last = s.is_last; stage = stage }
 
   tells : (l : Layout) (trigger cycle : ℕ) (stage : TellStage) → tell.is_busy stage ≡ true → Goes found s (Tell (tell_at l trigger cycle stage)) (goes_at s (Tell (tell_at l trigger cycle stage)) found)
-  tells l trigger cycle tell_stage.StoreTrigger busy = ((f, refl), quiet tt refl)
-  tells l trigger cycle tell_stage.StoreSwept busy = ((f, refl), quiet tt refl)
   tells l trigger cycle tell_stage.StorePhase busy = go s.is_last refl where
     go : (last : Bool) → s.is_last ≡ last → Sound (at_stage s (cond last Done (LoadAck 0))) × LeadGoes (acks_of s.layout) found (record { stops = s.stops; begun = s.begun; generation = s.generation; post = Stopped run.Mark }) (Store cell.Phase (phase_word (record { stops = s.stops; phase = cond last kind.Finished kind.Off }))) (lead_of (at_stage s (cond last Done (LoadAck 0))))
     go true e = ((f, e), goes run.Mark run.Finished (λ e. cc) refl refl refl)
     go false e = ((f, tt), goes run.Mark run.Off (λ e. cc) refl refl refl)
   tells l trigger cycle tell_stage.Ended busy = absurd cc
+  tells l trigger cycle _ busy = ((f, refl), quiet tt refl)
 
 goes_so : (found : ℕ) (s : Coordinating) (stage : CoordStage) → FitsNumbers s.stops s.begun s.generation → SoundAt s stage → is_busy stage ≡ true → Goes found s stage (goes_at s stage found)
 goes_so found s (LoadAck i) f e busy = acks found s f i
@@ -193,12 +182,7 @@ goes_so found s Done f e busy = absurd cc
 -- counting the steps that store the phase word leaves the place
 counted_sound : (s : Coordinating) (stage : CoordStage) → SoundAt s stage → SoundAt (counted s) stage
 counted_sound s (Stop st) e = e
-counted_sound s (Open o) e = e
-counted_sound s (StopAgain st) e = e
-counted_sound s (Close c) e = e
-counted_sound s (Tell t) e = e
-counted_sound s Done e = e
-counted_sound s _ e = tt
+counted_sound s _ e = e
 
 pub leads_handshake : LeadsHandshake
 leads_handshake = record {

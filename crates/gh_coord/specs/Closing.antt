@@ -32,7 +32,7 @@ module _ (c : Closing) where
   goes_at LoadBank found = record c { lapsed = (c.lapsed + found) % 2 ^ 64; stage = ClearBank }
   goes_at ClearBank found = at_stage c StoreGen
   goes_at StoreGen found = at_stage c Ended
-  goes_at Ended found = c
+  goes_at Ended found = at_stage c Ended
 
   abbrev pub given_at : CloseStage → Option ℕ
   given_at Ended = Some c.lapsed

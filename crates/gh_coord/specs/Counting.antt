@@ -1,9 +1,10 @@
 -- What the sweep has counted is read: what is asked for at each stage, where that leads, and what it gives.
-use Rattle.std.specs.Prelude.{ℕ, Bool, true, false, Option, Some, None}
+use Rattle.std.specs.Prelude.{ℕ, Bool, Option, Some, None, is_none}
 use Rattle.gh_base.specs.declared.cell.Cell.TheVariants as cell
 use Rattle.gh_base.specs.declared.cell.Ask.{Ask}
 use Rattle.gh_base.specs.declared.cell.Ask.TheVariants.{Load}
 use Rattle.gh_base.specs.declared.layout.Layout.{Layout}
+use Rattle.gh_base.specs.Given.{listing_of}
 use Rattle.gh_base.specs.Packing.{tally_of}
 use Rattle.gh_base.specs.Routines.{Listing}
 use Rattle.gh_coord.specs.declared.count.Counted.{Counted}
@@ -28,15 +29,15 @@ asks_at (Ended counted) = Load cell.Touch
 abbrev pub goes_at : Counting → CountStage → ℕ → Counting
 goes_at c LoadTally found = at_stage c (LoadLive (tally_of found))
 goes_at c (LoadLive tally) found = at_stage c (Ended (record { tally = tally; live = found }))
-goes_at c (Ended counted) found = c
+goes_at c (Ended counted) found = at_stage c (Ended counted)
 
-abbrev pub is_busy : CountStage → Bool
-is_busy (Ended counted) = false
-is_busy _ = true
-
+-- what it has given, and whether it is busy
 abbrev pub given_at : CountStage → Option Counted
 given_at (Ended counted) = Some counted
 given_at _ = None
+
+abbrev pub is_busy : CountStage → Bool
+is_busy stage = is_none (given_at stage)
 
 abbrev pub given : Counting → Option Counted
 given c = given_at c.stage
@@ -51,4 +52,4 @@ abbrev pub gives : Counting → ℕ → Option Counted
 gives c found = given (goes c found)
 
 abbrev pub listing : Listing Counting Counted
-listing = record { layout = λ c. c.layout; busy = λ c. is_busy c.stage; asks = asks; goes = goes; gives = gives }
+listing = listing_of (λ c. c.layout) asks goes given

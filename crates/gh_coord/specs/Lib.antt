@@ -1,15 +1,15 @@
+pub mod Blind
 pub mod Closing
 pub mod Counting
-pub mod Ends
 pub mod GoingOn
 pub mod Handshake
 pub mod Keeping
 pub mod Listing
 pub mod MarkingEnds
 pub mod Opening
-pub mod PartsEnd
 pub mod PartsSound
 pub mod Sound
+pub mod Stays
 pub mod Stopping
 pub mod SweepingAll
 pub mod Telling

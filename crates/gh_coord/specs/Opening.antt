@@ -1,10 +1,11 @@
 -- A cycle is opened: what is asked for at each stage, where that leads, and what it gives.
-use Rattle.std.specs.Prelude.{ℕ, Bool, true, false, Option, Some, None}
+use Rattle.std.specs.Prelude.{ℕ, Bool, true, false, Option, Some, None, is_none}
 use Rattle.gh_base.specs.declared.cell.Cell.TheVariants as cell
 use Rattle.gh_base.specs.declared.cell.Ask.{Ask}
 use Rattle.gh_base.specs.declared.cell.Ask.TheVariants.{Load, Store}
 use Rattle.gh_base.specs.declared.layout.Layout.{Layout}
 use Rattle.gh_base.specs.declared.pack.Phase.TheVariants as phase
+use Rattle.gh_base.specs.Given.{listing_of}
 use Rattle.gh_base.specs.Packing.{phase_word}
 use Rattle.gh_base.specs.Routines.{Listing}
 use Rattle.gh_coord.specs.declared.open.OpenStage.{OpenStage}
@@ -48,18 +49,18 @@ behind StoreBegun = StorePhase
 behind StorePhase = Ended
 behind Ended = Ended
 
+-- what it has given, and whether it is busy
+abbrev pub given_at : OpenStage → Option (Unit {0})
+given_at Ended = Some tt
+given_at _ = None
+
 abbrev pub is_busy : OpenStage → Bool
-is_busy Ended = false
-is_busy _ = true
+is_busy stage = is_none (given_at stage)
 
 -- its next step stores the phase word
 abbrev pub stores_phase : OpenStage → Bool
 stores_phase StorePhase = true
 stores_phase _ = false
-
-abbrev pub given_at : OpenStage → Option (Unit {0})
-given_at Ended = Some tt
-given_at _ = None
 
 abbrev pub given : CycleOpening → Option (Unit {0})
 given o = given_at o.stage
@@ -74,4 +75,4 @@ abbrev pub gives : CycleOpening → ℕ → Option (Unit {0})
 gives o found = given (goes o found)
 
 abbrev pub listing : Listing CycleOpening (Unit {0})
-listing = record { layout = λ o. o.layout; busy = λ o. is_busy o.stage; asks = asks; goes = goes; gives = gives }
+listing = listing_of (λ o. o.layout) asks goes given

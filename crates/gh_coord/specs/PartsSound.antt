@@ -1,6 +1,7 @@
 -- What the parts of the coordinator know of their own numbers, whatever they are told.
-use Rattle.std.specs.Prelude.{◌≡◌, ℕ, ◌^◌, ◌<◌}
+use Rattle.std.specs.Prelude.{◌≡◌, ℕ, ◌^◌, ◌<◌, true}
 use Rattle.gh_base.specs.declared.layout.Layout.{Layout}
+use Rattle.gh_sweep.specs.Listing.{is_busy, Sweeping}
 use Rattle.gh_coord.specs.declared.stop.StopStage.{StopStage}
 use Rattle.gh_coord.specs.declared.stop.StopStage.TheVariants as stop
 use Rattle.gh_coord.specs.declared.sweep_all.SweepAllStage.{SweepAllStage}
@@ -39,9 +40,15 @@ FitsWatchStage l (watch.Ended watched) = Unit {0}
 abbrev pub FitsWatch : Watching → Type 0
 FitsWatch w = FitsWatchStage w.layout w.stage
 
+-- the sweep of the span at this page is of the same heap, and asks for a step
+pub record Sweeps (l : Layout) (page : ℕ) (sw : Sweeping) : Type 0 where
+  pub within : page < l.pages
+  pub layout : sw.layout ≡ l
+  pub busy : is_busy sw.stage ≡ true
+
 abbrev pub FitsSweepAllStage : Layout → SweepAllStage → Type 0
 FitsSweepAllStage l (sweep.LoadPage page) = page < l.pages
-FitsSweepAllStage l (sweep.Sweep page sw) = (page < l.pages) × (sw.layout ≡ l)
+FitsSweepAllStage l (sweep.Sweep page sw) = Sweeps l page sw
 FitsSweepAllStage l (sweep.Await page) = page < l.pages
 FitsSweepAllStage l sweep.Ended = Unit {0}
 

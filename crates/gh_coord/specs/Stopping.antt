@@ -1,11 +1,12 @@
 -- A stop of the world: what is asked for at each stage, where that leads, and what it gives.
-use Rattle.std.specs.Prelude.{ℕ, ◌+◌, Bool, true, false, nat_lt, ◌==◌, ◌||◌, if◌then◌else◌, Option, Some, None}
+use Rattle.std.specs.Prelude.{ℕ, ◌+◌, Bool, true, false, nat_lt, ◌==◌, ◌||◌, if◌then◌else◌, Option, Some, None, is_none}
 use Rattle.gh_base.specs.declared.cell.Cell.TheVariants as cell
 use Rattle.gh_base.specs.declared.cell.Ask.{Ask}
 use Rattle.gh_base.specs.declared.cell.Ask.TheVariants.{Load, Store}
 use Rattle.gh_base.specs.declared.layout.Layout.{Layout}
 use Rattle.gh_base.specs.declared.pack.Phase.TheVariants as phase
 use Rattle.gh_base.specs.declared.pack.TheConstants.{GONE}
+use Rattle.gh_base.specs.Given.{listing_of}
 use Rattle.gh_base.specs.Packing.{phase_word}
 use Rattle.gh_base.specs.Routines.{Listing}
 use Rattle.gh_coord.specs.declared.stop.StopStage.{StopStage}
@@ -44,20 +45,20 @@ module _ (s : Stopping) where
   abbrev pub goes_at : StopStage → ℕ → Stopping
   goes_at StorePhase found = at_stage s (Await 0)
   goes_at (Await ack) found = at_stage s (if is_acknowledged s.stops found then behind ack else Await ack)
-  goes_at Ended found = s
+  goes_at Ended found = at_stage s Ended
+
+-- what it has given, and whether it is busy
+abbrev pub given_at : StopStage → Option (Unit {0})
+given_at Ended = Some tt
+given_at _ = None
 
 abbrev pub is_busy : StopStage → Bool
-is_busy Ended = false
-is_busy _ = true
+is_busy stage = is_none (given_at stage)
 
 -- its next step stores the phase word
 abbrev pub stores_phase : StopStage → Bool
 stores_phase StorePhase = true
 stores_phase _ = false
-
-abbrev pub given_at : StopStage → Option (Unit {0})
-given_at Ended = Some tt
-given_at _ = None
 
 abbrev pub given : Stopping → Option (Unit {0})
 given s = given_at s.stage
@@ -72,4 +73,4 @@ abbrev pub gives : Stopping → ℕ → Option (Unit {0})
 gives s found = given (goes s found)
 
 abbrev pub listing : Listing Stopping (Unit {0})
-listing = record { layout = λ s. s.layout; busy = λ s. is_busy s.stage; asks = asks; goes = goes; gives = gives }
+listing = listing_of (λ s. s.layout) asks goes given

@@ -1,11 +1,12 @@
 -- Each span is swept: what is asked for at each stage, where that leads, and what it gives.
-use Rattle.std.specs.Prelude.{ℕ, ◌+◌, Bool, true, false, nat_lt, ◌==◌, if◌then◌else◌, Option, Some, None}
+use Rattle.std.specs.Prelude.{ℕ, ◌+◌, Bool, false, nat_lt, ◌==◌, if◌then◌else◌, Option, Some, None, is_none}
 use Rattle.gh_base.specs.declared.cell.Cell.TheVariants.{Page, Touch}
 use Rattle.gh_base.specs.declared.cell.Ask.{Ask}
 use Rattle.gh_base.specs.declared.cell.Ask.TheVariants.{Load}
 use Rattle.gh_base.specs.declared.layout.Layout.{Layout}
 use Rattle.gh_base.specs.declared.pack.PageWord.{PageWord}
 use Rattle.gh_base.specs.declared.pack.PageWord.TheVariants.{Head}
+use Rattle.gh_base.specs.Given.{listing_of}
 use Rattle.gh_base.specs.Packing.{page_of}
 use Rattle.gh_base.specs.Routines.{Listing}
 use Rattle.gh_coord.specs.declared.sweep_all.SweepAllStage.{SweepAllStage}
@@ -31,6 +32,10 @@ abbrev pub is_in_sweep : (generation : ℕ) → PageWord → Bool
 is_in_sweep generation (Head h) = h.number + 1 == generation
 is_in_sweep generation _ = false
 
+-- what follows behind this page of so many: the next, if there is one
+abbrev pub behind_of : (pages page : ℕ) → SweepAllStage
+behind_of pages page = if nat_lt (page + 1) pages then LoadPage (page + 1) else Ended
+
 module _ (s : SweepingAll) where
   abbrev pub asks_at : SweepAllStage → Ask
   asks_at (LoadPage page) = Load (Page page)
@@ -38,9 +43,8 @@ module _ (s : SweepingAll) where
   asks_at (Await page) = Load (Page page)
   asks_at Ended = Load Touch
 
-  -- the next page, if there is one
   abbrev pub behind : (page : ℕ) → SweepAllStage
-  behind page = if nat_lt (page + 1) s.layout.pages then LoadPage (page + 1) else Ended
+  behind page = behind_of s.layout.pages page
 
   -- after the load of the page's word
   abbrev pub after_load : (page : ℕ) → PageWord → SweepingAll
@@ -61,16 +65,15 @@ abbrev pub goes_at : SweepingAll → SweepAllStage → ℕ → SweepingAll
 goes_at s (LoadPage page) found = after_load s page (page_of found)
 goes_at s (Sweep page sw) found = after_sweep (at_stage s (Sweep page (sweep.goes sw found))) page (sweep.gives sw found)
 goes_at s (Await page) found = after_await s page (page_of found)
-goes_at s Ended found = s
+goes_at s Ended found = at_stage s Ended
 
-abbrev pub is_busy : SweepAllStage → Bool
-is_busy (Sweep page sw) = sweep.is_busy sw.stage
-is_busy Ended = false
-is_busy _ = true
-
+-- what it has given, and whether it is busy
 abbrev pub given_at : SweepAllStage → Option (Unit {0})
 given_at Ended = Some tt
 given_at _ = None
+
+abbrev pub is_busy : SweepAllStage → Bool
+is_busy stage = is_none (given_at stage)
 
 abbrev pub given : SweepingAll → Option (Unit {0})
 given s = given_at s.stage
@@ -85,4 +88,4 @@ abbrev pub gives : SweepingAll → ℕ → Option (Unit {0})
 gives s found = given (goes s found)
 
 abbrev pub listing : Listing SweepingAll (Unit {0})
-listing = record { layout = λ s. s.layout; busy = λ s. is_busy s.stage; asks = asks; goes = goes; gives = gives }
+listing = listing_of (λ s. s.layout) asks goes given

@@ -1,11 +1,12 @@
 -- It is told that a cycle is swept: what is asked for at each stage, where that leads, and what it gives.
-use Rattle.std.specs.Prelude.{ℕ, Bool, true, false, if◌then◌else◌, Option, Some, None}
+use Rattle.std.specs.Prelude.{ℕ, Bool, true, false, if◌then◌else◌, Option, Some, None, is_none}
 use Rattle.gh_base.specs.declared.cell.Cell.TheVariants as cell
 use Rattle.gh_base.specs.declared.cell.Ask.{Ask}
 use Rattle.gh_base.specs.declared.cell.Ask.TheVariants.{Load, Store}
 use Rattle.gh_base.specs.declared.layout.Layout.{Layout}
 use Rattle.gh_base.specs.declared.pack.Phase.TheVariants.{Off, Finished}
 use Rattle.gh_base.specs.declared.pack.PhaseWord.{PhaseWord}
+use Rattle.gh_base.specs.Given.{listing_of}
 use Rattle.gh_base.specs.Packing.{phase_word}
 use Rattle.gh_base.specs.Routines.{Listing}
 use Rattle.gh_coord.specs.declared.tell.TellStage.{TellStage}
@@ -40,9 +41,13 @@ behind StoreSwept = StorePhase
 behind StorePhase = Ended
 behind Ended = Ended
 
+-- what it has given, and whether it is busy
+abbrev pub given_at : TellStage → Option (Unit {0})
+given_at Ended = Some tt
+given_at _ = None
+
 abbrev pub is_busy : TellStage → Bool
-is_busy Ended = false
-is_busy _ = true
+is_busy stage = is_none (given_at stage)
 
 -- its next step stores the phase word
 abbrev pub stores_phase : TellStage → Bool
@@ -53,10 +58,6 @@ stores_phase _ = false
 abbrev pub stores_swept : TellStage → Bool
 stores_swept StoreSwept = true
 stores_swept _ = false
-
-abbrev pub given_at : TellStage → Option (Unit {0})
-given_at Ended = Some tt
-given_at _ = None
 
 abbrev pub given : Telling → Option (Unit {0})
 given t = given_at t.stage
@@ -71,4 +72,4 @@ abbrev pub gives : Telling → ℕ → Option (Unit {0})
 gives t found = given (goes t found)
 
 abbrev pub listing : Listing Telling (Unit {0})
-listing = record { layout = λ t. t.layout; busy = λ t. is_busy t.stage; asks = asks; goes = goes; gives = gives }
+listing = listing_of (λ t. t.layout) asks goes given

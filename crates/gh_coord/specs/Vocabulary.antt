@@ -4,7 +4,7 @@ pub use Rattle.gh_base.specs.declared.cell.Ask.{Ask}
 pub use Rattle.gh_base.specs.declared.cell.Ask.TheVariants.{Load, Store}
 pub use Rattle.gh_base.specs.declared.layout.Layout.{Layout}
 pub use Rattle.gh_base.specs.declared.pack.PageWord.{PageWord}
-pub use Rattle.gh_base.specs.declared.pack.PageWord.TheVariants.{Body, Free, Head}
+pub use Rattle.gh_base.specs.declared.pack.PageWord.TheVariants.{Head}
 pub use Rattle.gh_base.specs.declared.pack.PhaseWord.{PhaseWord}
 pub use Rattle.gh_base.specs.declared.pack.TallyWord.{TallyWord}
 pub use Rattle.gh_base.specs.declared.pack.TheConstants.{GONE}

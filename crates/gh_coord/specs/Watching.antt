@@ -1,11 +1,12 @@
 -- A look at the words that say whether marking is over: what is asked for at each stage, where that leads, and what it gives.
-use Rattle.std.specs.Prelude.{ℕ, ◌+◌, ◌-◌, Bool, true, false, nat_le, nat_lt, ◌==◌, ◌||◌, not, if◌then◌else◌, Option, Some, None}
+use Rattle.std.specs.Prelude.{ℕ, ◌+◌, ◌-◌, Bool, true, nat_le, nat_lt, ◌==◌, ◌||◌, not, if◌then◌else◌, Option, Some, None, is_none}
 use Rattle.gh_base.specs.declared.cell.Cell.{Cell}
 use Rattle.gh_base.specs.declared.cell.Cell.TheVariants.{Touch, Gcur, Buffer, Scanned}
 use Rattle.gh_base.specs.declared.cell.Ask.{Ask}
 use Rattle.gh_base.specs.declared.cell.Ask.TheVariants.{Load}
 use Rattle.gh_base.specs.declared.layout.Layout.{Layout}
 use Rattle.gh_base.specs.declared.pack.BufferWord.{BufferWord}
+use Rattle.gh_base.specs.Given.{listing_of}
 use Rattle.gh_base.specs.Cells.{buffers_of}
 use Rattle.gh_base.specs.Packing.{buffer_of}
 use Rattle.gh_base.specs.Routines.{Listing}
@@ -56,15 +57,15 @@ module _ (w : Watching) where
 
   abbrev pub goes_at : WatchStage → ℕ → Watching
   goes_at (Look i) found = at_stage w (if is_wanted w.layout w.cycle (cell_at w.layout i) found then behind w.layout i else Ended NotYet)
-  goes_at (Ended watched) found = w
+  goes_at (Ended watched) found = at_stage w (Ended watched)
+
+-- what it has given, and whether it is busy
+abbrev pub given_at : WatchStage → Option Watched
+given_at (Ended watched) = Some watched
+given_at _ = None
 
 abbrev pub is_busy : WatchStage → Bool
-is_busy (Look i) = true
-is_busy (Ended watched) = false
-
-abbrev pub given_at : WatchStage → Option Watched
-given_at (Look i) = None
-given_at (Ended watched) = Some watched
+is_busy stage = is_none (given_at stage)
 
 abbrev pub given : Watching → Option Watched
 given w = given_at w.stage
@@ -79,4 +80,4 @@ abbrev pub gives : Watching → ℕ → Option Watched
 gives w found = given (goes w found)
 
 abbrev pub listing : Listing Watching Watched
-listing = record { layout = λ w. w.layout; busy = λ w. is_busy w.stage; asks = asks; goes = goes; gives = gives }
+listing = listing_of (λ w. w.layout) asks goes given

@@ -77,7 +77,7 @@ impl Close {
         }
     }
 
-    /// What it gives now: the credit that has lapsed.
+    /// What it has given: the credit that has lapsed.
     fn given(&self) -> Option<u64>
         ensures { result ≡ given self.now }
     {
@@ -90,7 +90,7 @@ impl Close {
 
 impl Machine for Close {
     ghost use Rattle.gh_coord.specs.Closing.{listing};
-    ghost use Rattle.gh_coord.specs.PartsEnd as proved;
+    ghost use Rattle.gh_coord.specs.Stays as proved;
 
     type Out = u64;
 

@@ -471,7 +471,7 @@ impl Coord {
         }
     }
 
-    /// What it gives now.
+    /// What it has given.
     fn given(&self) -> Option<()>
         ensures { result ≡ given self.now }
     {
@@ -495,7 +495,7 @@ impl Coord {
 
 impl Machine for Coord {
     ghost use Rattle.gh_coord.specs.Listing.{listing};
-    ghost use Rattle.gh_coord.specs.Ends as proved;
+    ghost use Rattle.gh_coord.specs.Stays as proved;
 
     type Out = ();
 

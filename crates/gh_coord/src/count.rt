@@ -69,7 +69,7 @@ impl Count {
         }
     }
 
-    /// What it gives now.
+    /// What it has given.
     fn given(&self) -> Option<Counted>
         ensures { result ≡ given self.now }
     {
@@ -81,8 +81,9 @@ impl Count {
 }
 
 impl Machine for Count {
+    ghost use Rattle.gh_base.specs.Given.{is_over};
     ghost use Rattle.gh_coord.specs.Counting.{listing};
-    ghost use Rattle.gh_coord.specs.PartsEnd as proved;
+    ghost use Rattle.gh_coord.specs.Stays as proved;
 
     type Out = Counted;
 
@@ -111,7 +112,7 @@ impl Machine for Count {
         self.given()
     }
 
-    ghost ends = { proved.count_ends };
+    ghost ends = { λ c found busy. is_over (listing.gives c found) };
 
     ghost stays = { proved.count_stays };
 }

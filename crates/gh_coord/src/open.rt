@@ -127,7 +127,7 @@ impl Open {
         }
     }
 
-    /// What it gives now.
+    /// What it has given.
     fn given(&self) -> Option<()>
         ensures { result ≡ given self.now }
     {
@@ -139,8 +139,9 @@ impl Open {
 }
 
 impl Machine for Open {
+    ghost use Rattle.std.specs.Prelude.{refl};
+    ghost use Rattle.gh_base.specs.Given.{is_over};
     ghost use Rattle.gh_coord.specs.Opening.{listing};
-    ghost use Rattle.gh_coord.specs.PartsEnd as proved;
 
     type Out = ();
 
@@ -163,7 +164,7 @@ impl Machine for Open {
         self.given()
     }
 
-    ghost ends = { proved.open_ends };
+    ghost ends = { λ o found busy. is_over (listing.gives o found) };
 
-    ghost stays = { proved.open_stays };
+    ghost stays = { λ _ _. refl };
 }

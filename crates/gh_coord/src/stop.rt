@@ -102,7 +102,7 @@ impl Stop {
         }
     }
 
-    /// What it gives now.
+    /// What it has given.
     fn given(&self) -> Option<()>
         ensures { result ≡ given self.now }
     {
@@ -114,8 +114,9 @@ impl Stop {
 }
 
 impl Machine for Stop {
+    ghost use Rattle.gh_base.specs.Given.{is_over};
     ghost use Rattle.gh_coord.specs.Stopping.{listing};
-    ghost use Rattle.gh_coord.specs.PartsEnd as proved;
+    ghost use Rattle.gh_coord.specs.Stays as proved;
 
     type Out = ();
 
@@ -146,7 +147,7 @@ impl Machine for Stop {
         self.given()
     }
 
-    ghost ends = { proved.stop_ends };
+    ghost ends = { λ s found busy. is_over (listing.gives s found) };
 
     ghost stays = { proved.stop_stays };
 }

@@ -1,11 +1,8 @@
 //! The routine that has each span swept.
 
-ghost use Rattle.std.specs.Prelude.{◌≡◌, ◌<◌, ◌^◌, Option, true};
-ghost use Rattle.gh_base.specs.Cells.{InRange};
+ghost use Rattle.std.specs.Prelude.{◌≡◌, ◌<◌, ◌^◌, true};
 ghost use Rattle.gh_base.specs.Packing.{page_of};
-ghost use Rattle.gh_base.specs.Steps.{cell_of};
-ghost use Rattle.gh_coord.specs.SweepingAll.{after_await, after_load, after_sweep, at_stage, behind, given, is_busy, is_in_sweep, opening};
-ghost use Rattle.gh_sweep.specs.declared.sweep.SweepEnd.{SweepEnd};
+ghost use Rattle.gh_coord.specs.SweepingAll.{after_await, after_load, behind_of, given, is_busy, is_in_sweep, opening};
 
 use gh_base::{Ask, Cell, Layout, Machine, PageWord, Req};
 use gh_sweep::{Sweep, SweepEnd};
@@ -49,6 +46,18 @@ impl Model for SweepAll {
     ghost inverse = { λ s. record { layout = s.layout; generation = s.generation; stage = s.stage } };
 }
 
+/// What follows behind this page of so many: the next, if there is one.
+fn behind(pages: u32, page: u32) -> SweepAllStage
+    requires { page < pages }
+    ensures { result ≡ behind_of pages page }
+{
+    if page + 1 < pages {
+        SweepAllStage::LoadPage(page + 1)
+    } else {
+        SweepAllStage::Ended
+    }
+}
+
 impl SweepAll {
     /// Has each span swept in this sweep generation.
     pub fn new(layout: &Layout, generation: u64) -> SweepAll
@@ -73,18 +82,6 @@ impl SweepAll {
         }
     }
 
-    /// What follows behind this page.
-    fn behind(&self, page: u32) -> SweepAllStage
-        requires { page < self.now.layout.pages }
-        ensures { result ≡ behind self.now page }
-    {
-        if page + 1 < self.layout.pages {
-            SweepAllStage::LoadPage(page + 1)
-        } else {
-            SweepAllStage::Ended
-        }
-    }
-
     /// Goes on by what the page word says: the span is unswept, somebody sweeps it, or neither.
     fn after_load(&mut self, page: u32, found: u64)
         requires { page < self.old.layout.pages }
@@ -97,20 +94,8 @@ impl SweepAll {
             PageWord::Head(head) if head.number + 1 == self.generation => {
                 SweepAllStage::Await(page)
             }
-            _ => self.behind(page),
+            _ => behind(self.layout.pages, page),
         };
-    }
-
-    /// Goes on after a step of the sweep of the span at this page.
-    fn after_sweep(&mut self, page: u32, out: Option<SweepEnd>)
-        requires { page < self.old.layout.pages }
-        ensures { self.new ≡ after_sweep self.old page out }
-    {
-        match out {
-            None => {}
-            Some(SweepEnd::Lost) => self.stage = SweepAllStage::Await(page),
-            Some(SweepEnd::Swept(_)) => self.stage = self.behind(page),
-        }
     }
 
     /// Goes on where somebody swept the span at this page.
@@ -121,11 +106,11 @@ impl SweepAll {
         self.stage = if self.is_in_sweep(found) {
             SweepAllStage::Await(page)
         } else {
-            self.behind(page)
+            behind(self.layout.pages, page)
         };
     }
 
-    /// What it gives now.
+    /// What it has given.
     fn given(&self) -> Option<()>
         ensures { result ≡ given self.now }
     {
@@ -137,8 +122,9 @@ impl SweepAll {
 }
 
 impl Machine for SweepAll {
+    ghost use Rattle.gh_base.specs.Given.{is_over};
     ghost use Rattle.gh_coord.specs.SweepingAll.{listing};
-    ghost use Rattle.gh_coord.specs.PartsEnd as proved;
+    ghost use Rattle.gh_coord.specs.Stays as proved;
 
     type Out = ();
 
@@ -171,8 +157,11 @@ impl Machine for SweepAll {
             }
             SweepAllStage::Sweep(page, sweep) => {
                 let page = *page;
-                let out = sweep.take(found);
-                self.after_sweep(page, out);
+                match sweep.take(found) {
+                    None => {}
+                    Some(SweepEnd::Lost) => self.stage = SweepAllStage::Await(page),
+                    Some(SweepEnd::Swept(_)) => self.stage = behind(self.layout.pages, page),
+                }
             }
             SweepAllStage::Await(page) => {
                 let page = *page;
@@ -183,7 +172,7 @@ impl Machine for SweepAll {
         self.given()
     }
 
-    ghost ends = { proved.sweep_all_ends };
+    ghost ends = { λ s found busy. is_over (listing.gives s found) };
 
     ghost stays = { proved.sweep_all_stays };
 }

@@ -110,7 +110,7 @@ impl Tell {
         }
     }
 
-    /// What it gives now.
+    /// What it has given.
     fn given(&self) -> Option<()>
         ensures { result ≡ given self.now }
     {
@@ -122,8 +122,9 @@ impl Tell {
 }
 
 impl Machine for Tell {
+    ghost use Rattle.std.specs.Prelude.{refl};
+    ghost use Rattle.gh_base.specs.Given.{is_over};
     ghost use Rattle.gh_coord.specs.Telling.{listing};
-    ghost use Rattle.gh_coord.specs.PartsEnd as proved;
 
     type Out = ();
 
@@ -150,7 +151,7 @@ impl Machine for Tell {
         self.given()
     }
 
-    ghost ends = { proved.tell_ends };
+    ghost ends = { λ t found busy. is_over (listing.gives t found) };
 
-    ghost stays = { proved.tell_stays };
+    ghost stays = { λ _ _. refl };
 }

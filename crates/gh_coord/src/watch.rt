@@ -133,7 +133,7 @@ impl Watch {
         };
     }
 
-    /// What it gives now.
+    /// What it has given.
     fn given(&self) -> Option<Watched>
         ensures { result ≡ given self.now }
     {
@@ -145,8 +145,9 @@ impl Watch {
 }
 
 impl Machine for Watch {
+    ghost use Rattle.gh_base.specs.Given.{is_over};
     ghost use Rattle.gh_coord.specs.Watching.{listing};
-    ghost use Rattle.gh_coord.specs.PartsEnd as proved;
+    ghost use Rattle.gh_coord.specs.Stays as proved;
 
     type Out = Watched;
 
@@ -172,7 +173,7 @@ impl Machine for Watch {
         self.given()
     }
 
-    ghost ends = { proved.watch_ends };
+    ghost ends = { λ w found busy. is_over (listing.gives w found) };
 
     ghost stays = { proved.watch_stays };
 }

@@ -127,10 +127,10 @@ module _ (shapes : List Shape) (m : Processor) where
     go : (b : Bool) → PlaceActs w p (making.Clear k) (cond b (making.Clear (k + 1)) making.Birth)
     go true = refl
     go false = refl
-  place_acts w p found (making.Bits s) = go (bits.is_busy (bits.goes s found).stage) refl where
-    go : (b : Bool) → bits.is_busy (bits.goes s found).stage ≡ b → PlaceActs w p (making.Bits s) (cond b (making.Bits (bits.goes s found)) (place.filled p.marking))
-    go true e = rw e refl
-    go false e = filled p.marking where
+  place_acts w p found (making.Bits s) = go (bits.is_busy (bits.goes s found).stage) where
+    go : (b : Bool) → PlaceActs w p (making.Bits s) (cond b (making.Bits (bits.goes s found)) (place.filled p.marking))
+    go true = refl
+    go false = filled p.marking where
       filled : (marking : Bool) → PlaceActs w p (making.Bits s) (place.filled marking)
       filled true = refl
       filled false = refl

@@ -1,6 +1,5 @@
 -- A `new` that is answered `full` has waited for a cycle, and has found no slot before and behind that.
 use Rattle.std.proofs.Common.{◌≡◌, ℕ, zero, suc, ◌<◌, ◌≤◌, Bool, true, false, not, cond, ltb, List, [], ◌∷◌, get_or, refl, sym, ap, ◌∙◌, subst, ◌⊎◌, inl, inr, Option, Some, None, arith}
-use Rattle.gh_base.specs.declared.cell.Cell.TheVariants as cell
 use Rattle.gh_base.specs.declared.operation.Op.TheVariants as op
 use Rattle.gh_base.specs.declared.value.Answer.TheVariants as answer
 use Rattle.gh_base.specs.declared.value.Value.TheVariants as value
@@ -12,13 +11,12 @@ use Rattle.gh_mutator.specs.Full.{after, FullChangesLittle, HasWaited, is_waitin
 use Rattle.gh_mutator.specs.Local.{cached_in, stacks_with}
 use Rattle.gh_mutator.specs.Mutating.{asks, begins, gives, goes, listing, marks_after, Mutating}
 use Rattle.gh_mutator.specs.New.{gives_at as gives_new, seeking, takes_at as takes_new}
+use Rattle.gh_mutator.specs.Stays.{ends_later, wait_seat, wait_stacks, wait_stays}
 use Rattle.gh_mutator.specs.Vocabulary.{Polling}
 use Rattle.gh_mutator.specs.Wait as wait
-use Rattle.gh_mutator.specs.WaitEnds as wait_proved
-use Rattle.gh_mutator.proofs.Vocabulary.{after_search, after_wait, answer_search, At, at_poll, cache_span, cache_with, CachedSpan, Found, gives_at, is_looking, Large, Load, ltb-true, makes, Name, NewStage, NoRoom, Place, Placing, Processor, rested, Search, Seeking, set, Shape, Small, Sought, span_index, takes_at, Task, Wait, Waiting, WaitStage, WaitState, Wanted, wanted_of}
+use Rattle.gh_mutator.proofs.Vocabulary.{after_search, after_wait, answer_search, At, at_poll, cache_span, cache_with, CachedSpan, Found, gives_at, is_looking, Large, makes, Name, NewStage, NoRoom, Place, Placing, Processor, rested, Search, Seeking, set, Shape, Small, Sought, span_index, takes_at, Task, Wait, Waiting, WaitStage, WaitState, Wanted, wanted_of}
 use Rattle.gh_mutator.proofs.NewSteps.{search_wants}
 use Rattle.gh_mutator.proofs.Refusing.{KeptFor, kept, kept_first, refuses_none, search_looks}
-use Rattle.gh_mutator.proofs.Stacks.{wait_seat, wait_stacks}
 use Rattle.gh_mutator.proofs.Telling.{held_before}
 
 -- what is cleared reads as none
@@ -31,7 +29,7 @@ none_in : (x : Sought) (cache : List (Option CachedSpan)) (c : Option CachedSpan
 none_in (Large pages noscan) cache c none = refl
 none_in (Small k) cache c none = rw (none k refl) (cleared cache (span_index k))
 
--- a wait knows the same cycle until it ends, and ends by a later one
+-- a wait knows the same cycle until it ends
 poll_knows : (w : Waiting) (p : Polling) (out : Option (Unit {0})) → (wait.after_poll w p out).wait.known ≡ w.wait.known
 poll_knows w p None = refl
 poll_knows w p (Some x) = refl
@@ -45,19 +43,6 @@ knows_at w wait_stage.Want v = refl
 knows_at w wait_stage.Polling v = poll_knows w _ _
 knows_at w wait_stage.LoadSwept v = swept_knows w (ltb w.wait.known v)
 knows_at w wait_stage.Ended v = refl
-
-record EndsLater (w : Waiting) (stage : WaitStage) (v : ℕ) : Type 0 where
-  loads : wait.asks_at w stage ≡ Load cell.Swept
-  later : w.wait.known < v
-
-ends_later : (w : Waiting) (stage : WaitStage) (v : ℕ) (x : Unit {0}) → wait.gives_at w.wait.known stage v ≡ Some x → EndsLater w stage v
-ends_later w wait_stage.LoadSwept v x e = by (ltb w.wait.known v) refl e where
-  by : (b : Bool) → ltb w.wait.known v ≡ b → wait.given b ≡ Some x → EndsLater w wait_stage.LoadSwept v
-  by true f e = record { loads = refl; later = ltb-true w.wait.known v f }
-  by false f e = absurd (cc)
-ends_later w wait_stage.Want v x e = absurd (cc)
-ends_later w wait_stage.Polling v x e = absurd (cc)
-ends_later w wait_stage.Ended v x e = absurd (cc)
 
 -- the search is over: no `full` is answered any more
 abbrev is_over : NewStage → Bool
@@ -178,7 +163,7 @@ module _ (m : Mutating) (g d t : ℕ) (found : ℕ → ℕ) where
   wait_same : (p : Polling) (x : WaitState) (v : ℕ) → Same p → Same (wait.goes (wait.waiting x p) v).poll
   wait_same p x v k = record {
     stacks = wait_stacks (wait.waiting x p) v ∙ k.stacks;
-    layout = wait_proved.stays (wait.waiting x p) v ∙ k.layout;
+    layout = wait_stays (wait.waiting x p) v ∙ k.layout;
     seat = wait_seat (wait.waiting x p) v ∙ k.seat;
   }
 
@@ -189,7 +174,7 @@ module _ (m : Mutating) (g d t : ℕ) (found : ℕ → ℕ) where
     seeks false f = f.1
   next_at i p (Wait x) e k f =
       wait_next i p x (wait.goes (wait.waiting x p) (found i)) (wait.gives (wait.waiting x p) (found i)) (wait_same p x (found i) k) (knows_at (wait.waiting x p) x.stage (found i) ∙ f)
-      (λ u is. let l = ends_later (wait.waiting x p) x.stage (found i) u is in record { at_step = i; before = omega arith; loads = ap asks e ∙ l.loads; later = subst (λ (n : ℕ). n < found i) f l.later })
+      (λ u is. let l = ends_later (wait.waiting x p) x.stage (found i) u is in record { at_step = i; before = omega arith; loads = ap asks e ∙ ap (wait.asks_at (wait.waiting x p)) l.0; later = subst (λ (n : ℕ). n < found i) f l.1 })
   next_at i p (Place q) e k f = absurd f
 
   next : (i : ℕ) → Stands i (now i) → Next (suc i) (now (suc i))
@@ -248,7 +233,7 @@ module _ (m : Mutating) (g d t : ℕ) (found : ℕ → ℕ) where
   leaves_at : (n : ℕ) (p : Polling) (s : NewStage) → Same p → Facts n p s → gives (state p s) (found n) ≡ Some answer.Full → Leaves n (goes (state p s) (found n))
   leaves_at n p (Search waited s) k f e =
       let is = full_is waited (search.gives s (found n)) e in
-      full_leaves n p s (search.goes s (found n)) waited (search.gives s (found n)) k f is.0 is.1 (λ c small. refuses_none w.sought s (found n) c small is.1 (seeks waited f).kept) where
+      full_leaves n p s (search.goes s (found n)) waited (search.gives s (found n)) k f is.0 is.1 (λ c small. refuses_none w.sought (search.goes s (found n)) c small is.1 (seeks_on s (found n) (seeks waited f)).kept) where
         seeks : (b : Bool) → Facts n p (Search b s) → Seeks s
         seeks true f = f.1
         seeks false f = f.1

@@ -1,12 +1,13 @@
 -- Own steps of the load and the store of a global.
-use Rattle.std.proofs.Common.{◌≡◌, ℕ, ◌+◌, ◌<◌, ◌≤◌, Bool, true, false, cond, Option, Some, None, IsNone, refl, sym, subst, ◌∙◌, arith}
+use Rattle.std.proofs.Common.{◌≡◌, ℕ, ◌+◌, ◌<◌, ◌≤◌, Bool, true, false, cond, Option, Some, None, refl, sym, ap, subst, ◌∙◌, arith}
+use Rattle.std.specs.Prelude.{is_none}
 use Rattle.gh_base.specs.declared.held.Held.{Held}
 use Rattle.gh_base.specs.declared.layout.Layout.{Layout}
 use Rattle.gh_base.specs.declared.value.Value.{Value}
 use Rattle.gh_base.specs.declared.value.Value.TheVariants as value
 use Rattle.gh_barrier.specs.declared.pointer_cell.PointerCell.TheVariants as pointer_cell
 use Rattle.gh_barrier.specs.Ending.{left as write_left, WritingEnds}
-use Rattle.gh_barrier.specs.Ends as write_proved
+use Rattle.gh_barrier.specs.Stays as write_proved
 use Rattle.gh_barrier.specs.Listing.{Writing as PointerWrite}
 use Rattle.gh_barrier.specs.Listing as write
 use Rattle.gh_mutator.specs.declared.global.Global.{Global}
@@ -63,7 +64,7 @@ module _ (p : Polling) where
     room_at Store found h = tt
     room_at (Writing w) found h = by (write.gives w found) refl where
       by : (out : Option (Unit {0})) → write.gives w found ≡ out → GoesTo (RoomThen (held_then w found)) (after_write x (write.goes w found) out).then
-      by None e = record { layout = write_proved.stays w found ∙ h.layout; busy = (write_proved.ends w found h.busy).0 (subst IsNone (sym e) refl) }
+      by None e = record { layout = write_proved.stays w found ∙ h.layout; busy = ap is_none e }
       by (Some y) e = tt
     room_at Number found h = tt
 
@@ -98,7 +99,7 @@ module _ (ends_so : WritingEnds) (l : Layout) (held : Value) (x : Global) where
   write_nears : (w : PointerWrite) (found : ℕ) → write.is_busy w.stage ≡ true → Left (write_left w.stage) (after_write x (write.goes w found) (write.gives w found)).then
   write_nears w found busy = by (write.gives w found) refl where
     by : (out : Option (Unit {0})) → write.gives w found ≡ out → Left (write_left w.stage) (after_write x (write.goes w found) out).then
-    by None e = ((write_proved.ends w found busy).0 (subst IsNone (sym e) refl), ends_so.fewer w found busy)
+    by None e = (ap is_none e, ends_so.fewer w found busy)
     by (Some y) e = tt
 
   nears_at : (s : GlobalStage) (found : ℕ) → writes_on s ≡ true → (1 ≤ left_at s) × Left (left_at s) (step_at l held x s found).then

@@ -22,7 +22,6 @@ pub mod PollRoom
 pub mod Refusing
 mod Shaking
 pub mod Soundness
-pub mod Stacks
 pub mod StackMarking
 pub mod Steps
 pub mod StoreSteps

@@ -1,15 +1,10 @@
 -- Own steps of a new object: the search for its slot, the wait for a cycle, and the making of it.
-use Rattle.std.proofs.Common.{◌≡◌, ℕ, ◌+◌, ◌*◌, ◌<◌, ◌≤◌, Bool, true, false, cond, ltb, List, get_or, refl, sym, ◌∙◌, ap, subst, Option, Some, None, IsNone, arith}
+use Rattle.std.proofs.Common.{◌≡◌, ℕ, ◌+◌, ◌*◌, ◌<◌, ◌≤◌, Bool, true, false, cond, ltb, List, get_or, refl, sym, ◌∙◌, ap, subst, Option, Some, None, is_none, arith}
 use Rattle.gh_base.specs.declared.value.Value.TheVariants as value
 use Rattle.gh_cache.specs.Listing as slots
-use Rattle.gh_central.specs.GiveBack as give
-use Rattle.gh_central.specs.Reclaim as reclaim
-use Rattle.gh_central.specs.SweptPass as pass
-use Rattle.gh_pages.specs.Listing as carve
 use Rattle.gh_alloc.specs.declared.find.FindStage.TheVariants as finding
-use Rattle.gh_alloc.specs.declared.search.SearchStage.TheVariants as search_stage
 use Rattle.gh_alloc.specs.declared.place.PlaceStage.TheVariants as making
-use Rattle.gh_alloc.specs.SearchEnds as search_proved
+use Rattle.gh_alloc.specs.Stays.{Base, search_base, stays}
 use Rattle.gh_alloc.specs.Find as find
 use Rattle.gh_alloc.specs.Place as place
 use Rattle.gh_alloc.specs.Search as search
@@ -19,62 +14,16 @@ use Rattle.gh_mutator.specs.New.{after_found, is_made, placing, searches, seekin
 use Rattle.gh_mutator.specs.NewParts.{made_at, MakingFits}
 use Rattle.gh_mutator.specs.Processor.{cached_for, made_by, set_register}
 use Rattle.gh_mutator.specs.Sound.{most_objects, Sound, SoundSearch, SoundTask, SoundWanted}
+use Rattle.gh_mutator.specs.Stays.{wait_stacks, wait_stays}
 use Rattle.gh_mutator.specs.Wait as wait
-use Rattle.gh_mutator.specs.WaitEnds as wait_proved
 use Rattle.gh_mutator.proofs.Vocabulary.{after_search, after_wait, At, at_poll, at_task, cache_span, CachedSpan, Finding, FindStage, FitsWait, Found, Large, Layout, made_object, makes, NewStage, NoRoom, Place, PlaceStage, Placing, Processor, read_after_set, Reclaiming, Search, SearchStage, Seeking, set, Shape, slots_of, Small, Sought, takes, takes_at as takes_by, Task, Wait, Waiting, Wanted}
 use Rattle.gh_mutator.proofs.Changes.{moved, polled, taken}
-use Rattle.gh_mutator.proofs.Stacks.{wait_stacks}
 use Rattle.gh_mutator.proofs.Waits.{wait_fits}
 
 -- What the search keeps, and where the making of an object goes.
 
-taken_wants : (f : Finding) (w : Sought) (page : ℕ) → (find.taken_for f w page).wanted ≡ f.wanted
-taken_wants f (Small c) page = refl
-taken_wants f (Large pages noscan) page = refl
-
-slots_want : (f : Finding) (out : Option (Option ℕ)) → (find.after_slots f out).wanted ≡ f.wanted
-slots_want f None = refl
-slots_want f (Some None) = refl
-slots_want f (Some (Some slot)) = refl
-
-give_wants : (f : Finding) (out : Option (Unit {0})) → (find.after_give f out).wanted ≡ f.wanted
-give_wants f None = refl
-give_wants f (Some x) = refl
-
-pass_wants : (f : Finding) (out : Option (Option ℕ)) → (find.after_pass f out).wanted ≡ f.wanted
-pass_wants f None = refl
-pass_wants f (Some None) = refl
-pass_wants f (Some (Some page)) = taken_wants f f.wanted page
-
-carve_wants : (f : Finding) (out : Option (Option ℕ)) → (find.after_carve f out).wanted ≡ f.wanted
-carve_wants f None = refl
-carve_wants f (Some None) = refl
-carve_wants f (Some (Some page)) = taken_wants f f.wanted page
-
-wants_at : (f : Finding) (p : FindStage) (found : ℕ) → (find.goes_at f p found).wanted ≡ f.wanted
-wants_at f (finding.Slots s) found = slots_want (find.searched f (slots.goes s found)) (slots.gives s found)
-wants_at f finding.Lock found = refl
-wants_at f (finding.Give g) found = give_wants (find.at_stage f (finding.Give (give.goes g found))) (give.gives g found)
-wants_at f (finding.Pass p) found = pass_wants (find.at_stage f (finding.Pass (pass.goes p found))) (pass.gives p found)
-wants_at f (finding.Carve c) found = carve_wants (find.at_stage f (finding.Carve (carve.goes c found))) (carve.gives c found)
-wants_at f (finding.Unlock after) found = refl
-wants_at f finding.Ended found = refl
-
--- it is for the same object
-pub find_wants : (f : Finding) (found : ℕ) → (find.goes f found).wanted ≡ f.wanted
-find_wants f found = wants_at f f.stage found
-
-free_wants : (f : Finding) (r : Reclaiming) (out : Option (Unit {0})) → (search.after_free f r out).find.wanted ≡ f.wanted
-free_wants f r None = refl
-free_wants f r (Some x) = refl
-
-search_wants_at : (f : Finding) (p : SearchStage) (found : ℕ) → (search.goes_at f p found).find.wanted ≡ f.wanted
-search_wants_at f search_stage.First found = find_wants f found
-search_wants_at f (search_stage.Free r) found = free_wants f (reclaim.goes r found) (reclaim.gives r found)
-search_wants_at f search_stage.Second found = find_wants f found
-
 pub search_wants : (s : Seeking) (found : ℕ) → (search.goes s found).find.wanted ≡ s.find.wanted
-search_wants s found = search_wants_at s.find s.stage found
+search_wants s found = ap (λ (b : Base). b.wanted) (search_base s.find s.stage found)
 
 -- an object that is not made yet was not made before
 unmade_before : (p : Placing) (q : PlaceStage) (found : ℕ) → is_made (place.goes_at p q found) ≡ false → is_made q ≡ false
@@ -95,9 +44,6 @@ made_after p making.Alloc found e = by p.span where
 made_after p _ found e = absurd (cc)
 
 -- ---- its numbers stay in their ranges
-
-is_none : {A : Type 0} {x : Option A} → x ≡ None → IsNone x
-is_none e = rw e refl
 
 -- the search begins busy
 pub search_begins : (m : Processor) (w : Wanted) → search.is_busy (seeking m w).find (seeking m w).stage ≡ true
@@ -160,10 +106,10 @@ module _ (shapes : List Shape) where
   pub new_sound : (m : Processor) (w : Wanted) (x : NewStage) (found : ℕ) → Sound shapes m → SoundTask shapes m.poll m.made (task.New (record { wanted = w; stage = x })) → ((p : Placing) → x ≡ Place p → MakingFits p.layout (made_at p)) → Sound shapes (takes_at shapes m w x found)
   new_sound m w (Search waited x) found s here fits =
       search_on (cache_span m w.sought (search.goes x found).find.cached) w waited (search.goes x found) (search.gives x found)
-      (recached m w.sought (search.goes x found).find.cached s) here.0 here.2 (search_proved.stays x found ∙ here.1.layout) (search_wants x found ∙ here.1.wanted)
-      (λ e. (search_proved.ends x found here.1.busy).0 (is_none e))
+      (recached m w.sought (search.goes x found).find.cached s) here.0 here.2 (stays x found ∙ here.1.layout) (search_wants x found ∙ here.1.wanted)
+      (λ e. ap is_none e)
   new_sound m w (Wait x) found s here fits =
-      wait_on m w (wait.goes (wait.waiting x m.poll) found) (wait.gives (wait.waiting x m.poll) found) s here.0 here.2 (wait_proved.stays (wait.waiting x m.poll) found) (wait_stacks (wait.waiting x m.poll) found) (λ e. wait_fits (wait.waiting x m.poll) found here.1 e)
+      wait_on m w (wait.goes (wait.waiting x m.poll) found) (wait.gives (wait.waiting x m.poll) found) s here.0 here.2 (wait_stays (wait.waiting x m.poll) found) (wait_stacks (wait.waiting x m.poll) found) (wait_fits (wait.waiting x m.poll) found)
   new_sound m w (Place p) found s here fits =
       place_on m w (place.acts p) (place.is_busy (place.goes p found).stage) p.at (place.goes p found) s here.0 here.1.layout (λ e. subst (λ (l : Layout). p.at + 1 ≤ 1024 * l.pages) here.1.layout (at_within p.layout (place.acts p) p.at (fits p refl) e)) refl
       (λ e. here.2 (acts_unmade p.stage e)) (made_after p p.stage found) (λ e unmade. here.2 (unmade_before p p.stage found unmade))

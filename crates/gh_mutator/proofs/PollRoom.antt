@@ -1,6 +1,7 @@
 -- A poll of a turn's own makes room for the store behind it, whatever words it is told.
 use Rattle.std.proofs.Common.{◌≡◌, ℕ, Bool, true, false, cond, eqb, List, Option, Some, None, refl, sym, ap, subst, arith}
 use Rattle.std.proofs.lemmas.Bool.Decides.{nat_tests}
+use Rattle.std.specs.Prelude.{is_none}
 use Rattle.gh_base.specs.declared.held.Held.{Held}
 use Rattle.gh_base.specs.declared.operation.Op.TheVariants as op
 use Rattle.gh_phase.specs.declared.view.RunPhase.{RunPhase}
@@ -35,33 +36,48 @@ use Rattle.gh_mutator.specs.Vocabulary.{Op, Polling, Processor, Shape, Task}
 serving : (word index : ℕ) → try.is_open Room word ≡ true → has_two (Some (try.taken index word)) ≡ true
 serving word index serves = grind (arith, nat_tests, serves)
 
+opened : (t : try.Trying) (held : Option Held) (word : ℕ) → try.is_open t.wish word ≡ true → FitsTryStage t.wish (try.claims t held word)
+opened t None word e = e
+opened t (Some h) word e = e
+
 module _ (r : room.RoomFinding) where
-  abbrev Searches : room.RoomFinding → Option Held → Type 0
-  Searches n None = TriesForRoom n.stage
-  Searches n (Some h) = has_two (Some h) ≡ true
+  -- what the search is to know after a step of this try
+  abbrev Searches : (index : ℕ) → try.Trying → Type 0
+  Searches index n = TriesForRoom (room.after_try (room.at_stage r (room_stage.Try n)) index (try.given n)).stage
 
-  tried : (t : try.Trying) (p : TryStage) (found : ℕ) → t.stage ≡ p → t.wish ≡ Room → FitsTryStage t.wish p →
-      Searches (room.after_try (room.at_stage r (room_stage.Try (try.goes_at t p found))) t.index (try.gives_at t p found)) (room.room_of (try.gives_at t p found))
-  tried t try_stage.Look found is wish fits = by (try.is_open t.wish found) refl where
-    opened : (held : Option Held) → try.is_open t.wish found ≡ true → FitsTryStage t.wish (try.claims t held found)
-    opened None e = e
-    opened (Some h) e = e
+  goes_on_so : (index : ℕ) (n : try.Trying) (out : Option (Option Held)) → try.given n ≡ out → n.wish ≡ Room → FitsTryStage n.wish n.stage → ((h : Held) → out ≡ Some (Some h) → has_two (Some h) ≡ true) →
+      TriesForRoom (room.after_try (room.at_stage r (room_stage.Try n)) index out).stage
+  goes_on_so index n None e wish fits two = (wish, fits, ap is_none e)
+  goes_on_so index n (Some None) e wish fits two = (refl, tt, refl)
+  goes_on_so index n (Some (Some h)) e wish fits two = two h refl
 
-    by : (b : Bool) → try.is_open t.wish found ≡ b →
-        Searches (room.after_try (room.at_stage r (room_stage.Try (try.at_stage t (cond b (try.claims t t.held found) try_stage.Ended)))) t.index (cond b None (Some None))) (room.room_of (cond b None (Some None)))
-    by true e = (wish, opened t.held e)
-    by false e = (refl, tt)
-  tried t (try_stage.GiveBack word) found is wish fits = (wish, fits)
-  tried t (try_stage.Claim word) found is wish fits = by (eqb found word) where
-    by : (b : Bool) → Searches (room.after_try (room.at_stage r (room_stage.Try (cond b (record t { held = Some (try.taken t.index word); stage = try_stage.Ended }) (try.at_stage t try_stage.Ended)))) t.index (Some (cond b (Some (try.taken t.index word)) None))) (room.room_of (Some (cond b (Some (try.taken t.index word)) None)))
+  tried : (t : try.Trying) (p : TryStage) (found : ℕ) → t.wish ≡ Room → FitsTryStage t.wish p → try.is_busy p ≡ true → Searches t.index (try.goes_at t p found)
+  tried t try_stage.Look found wish fits busy = by (try.is_open t.wish found) refl where
+    then : Bool → try.Trying
+    then b = try.at_stage t (cond b (try.claims t t.held found) (try_stage.Ended None))
+
+    going : (held : Option Held) → try.given_at (try.claims t held found) ≡ None
+    going None = refl
+    going (Some h) = refl
+
+    by : (b : Bool) → try.is_open t.wish found ≡ b → Searches t.index (then b)
+    by true e = goes_on_so t.index (then true) (try.given (then true)) refl wish (opened t t.held found e) (λ h some. absurd (let none = going t.held in cc))
+    by false e = (refl, tt, refl)
+  tried t (try_stage.GiveBack word) found wish fits busy = (wish, fits, refl)
+  tried t (try_stage.Claim word) found wish fits busy = by (eqb found word) where
+    by : (b : Bool) → Searches t.index (try.claimed t word b)
     by true = serving word t.index (subst (λ (w : Wish). try.is_open w word ≡ true) wish fits)
-    by false = (refl, tt)
-  tried t try_stage.Ended found is wish fits = (wish, subst (FitsTryStage t.wish) (sym is) tt)
+    by false = (refl, tt, refl)
+  tried t (try_stage.Ended out) found wish fits busy = absurd (cc)
 
-  searched : (p : RoomStage) (found : ℕ) → r.stage ≡ p → TriesForRoom p → Searches (room.goes_at r p found) (room.gives_at p found)
-  searched (room_stage.GiveBack h) found is k = (refl, tt)
-  searched (room_stage.Try t) found is k = tried t t.stage found refl k.0 k.1
-  searched (room_stage.Ended h) found is k = subst TriesForRoom (sym is) tt
+  searched : (p : RoomStage) (found : ℕ) → TriesForRoom p → TriesForRoom (room.goes_at r p found).stage
+  searched (room_stage.GiveBack h) found k = (refl, tt, refl)
+  searched (room_stage.Try t) found k = tried t t.stage found k.0 k.1 k.2
+  searched (room_stage.Ended h) found k = k
+
+found_two : (q : RoomStage) (h : Held) → TriesForRoom q → room.given_at q ≡ Some h → has_two (Some h) ≡ true
+found_two (room_stage.Ended x) h k e = let same : x ≡ h = cc in subst (λ (y : Held). has_two (Some y) ≡ true) same k
+found_two _ h k e = absurd (cc)
 
 -- The poll.
 
@@ -72,7 +88,7 @@ entries_if own false two = refl
 counts : (p : Polling) → p.waits ≡ false → MakesRoom (counted p)
 counts p turn = record { no_wait = turn; stage = subst (λ (w : Bool). RoomAt (counted p) (poll.room_stage p.layout p.seat w p.local.held)) (sym turn) (by (has_two p.local.held) refl) } where
   opens : (held : Option Held) → TriesForRoom (room.begin p.layout p.seat held)
-  opens None = (refl, tt)
+  opens None = (refl, tt, refl)
   opens (Some h) = tt
 
   by : (b : Bool) → has_two p.local.held ≡ b → RoomAt (counted p) (cond b poll_stage.Ended (poll_stage.FindRoom (room.opening p.layout p.seat p.local.held)))
@@ -107,10 +123,13 @@ goes_so p (poll_stage.Marking g m) found turn is k = by (mark.gives m found) whe
   by : (out : Option (Unit {0})) → MakesRoom (after_mark p g (mark.goes m found) out)
   by None = record { no_wait = turn; stage = tt }
   by (Some x) = counts (scanned p g (mark.goes m found).held) turn
-goes_so p (poll_stage.FindRoom r) found turn is k = by (room.gives r found) (searched r r.stage found refl k) where
-  by : (out : Option Held) → Searches r (room.goes r found) out → MakesRoom (after_room p (room.goes r found) out)
-  by None h = record { no_wait = turn; stage = h }
-  by (Some own) h = record { no_wait = turn; stage = entries_if (record (p.local) { held = Some own }) (is_mark p.local.view.phase) h }
+goes_so p (poll_stage.FindRoom r) found turn is k = by (room.gives r found) refl where
+  then : TriesForRoom (room.goes r found).stage
+  then = searched r r.stage found k
+
+  by : (out : Option Held) → room.gives r found ≡ out → MakesRoom (after_room p (room.goes r found) out)
+  by None e = record { no_wait = turn; stage = then }
+  by (Some own) e = record { no_wait = turn; stage = entries_if (record (p.local) { held = Some own }) (is_mark p.local.view.phase) (found_two (room.goes r found).stage own then e) }
 goes_so p poll_stage.Ended found turn is k = record { no_wait = turn; stage = k }
 
 -- A poll of a wait.

@@ -17,7 +17,7 @@ use Rattle.gh_alloc.specs.declared.find.FindStage.TheVariants as seek
 use Rattle.gh_alloc.specs.declared.search.SearchStage.TheVariants as search_stage
 use Rattle.gh_alloc.specs.Find as find
 use Rattle.gh_alloc.specs.Search as search
-use Rattle.gh_mutator.proofs.Vocabulary.{CachedSpan, CarveStage, Finding, FindStage, is_looking, Large, NoRoom, PassStage, Reclaiming, ReclaimStage, SearchStage, Seeking, slots_of, SlotStage, Small, Sought}
+use Rattle.gh_mutator.proofs.Vocabulary.{At, CachedSpan, CarveStage, Finding, FindStage, is_looking, Large, NoRoom, PassStage, Reclaiming, ReclaimStage, SearchStage, Seeking, slots_of, SlotStage, Small, Sought}
 
 -- ---- the search
 
@@ -25,7 +25,7 @@ use Rattle.gh_mutator.proofs.Vocabulary.{CachedSpan, CarveStage, Finding, FindSt
 
 slots_look : (s : slots.Searching) (p : SlotStage) → is_looking (slots.asks_at s p) ≡ true
 slots_look s slot_stage.Look = refl
-slots_look s slot_stage.Ended = refl
+slots_look s (slot_stage.Ended slot) = refl
 
 give_look : (g : give.Giving) (p : GiveStage) → is_looking (give.asks_at g p) ≡ true
 give_look g give_stage.Write = refl
@@ -35,13 +35,13 @@ pass_look : (m : pass.Pass) (p : PassStage) → is_looking (pass.asks_at m p) �
 pass_look m (pass_stage.Look page) = refl
 pass_look m (pass_stage.Bits page h i) = refl
 pass_look m (pass_stage.Take page h) = refl
-pass_look m pass_stage.Ended = refl
+pass_look m (pass_stage.Ended taken) = refl
 
 carve_look : (c : carve.Carving) (p : CarveStage) → is_looking (carve.asks_at c p) ≡ true
 carve_look c (carve_stage.Look page run) = refl
 carve_look c (carve_stage.Body first i) = refl
 carve_look c (carve_stage.Head first) = refl
-carve_look c carve_stage.Ended = refl
+carve_look c (carve_stage.Ended taken) = refl
 
 find_look : (f : Finding) (p : FindStage) → is_looking (find.asks_at f p) ≡ true
 find_look f (seek.Slots s) = slots_look s s.stage
@@ -50,13 +50,14 @@ find_look f (seek.Give g) = give_look g g.stage
 find_look f (seek.Pass p) = pass_look p p.stage
 find_look f (seek.Carve c) = carve_look c c.stage
 find_look f (seek.Unlock after) = refl
-find_look f seek.Ended = refl
+find_look f (seek.Ended out) = refl
 
 -- no span is cached from the pass on, for an object of a size class
 abbrev NoneCached : FindStage → Option CachedSpan → Type 0
 NoneCached (seek.Pass p) cached = cached ≡ None
 NoneCached (seek.Carve c) cached = cached ≡ None
 NoneCached (seek.Unlock (End NoRoom)) cached = cached ≡ None
+NoneCached (seek.Ended NoRoom) cached = cached ≡ None
 NoneCached _ cached = Unit {0}
 
 abbrev Kept : Finding → Type 0
@@ -105,20 +106,9 @@ module _ (c : SpanClass) where
   kept_at f cached (seek.Pass p) found none = pass_kept f (pass.goes p found) cached (pass.gives p found) none
   kept_at f cached (seek.Carve x) found none = carve_kept f (carve.goes x found) cached (carve.gives x found) none
   kept_at f cached (seek.Unlock Again) found none = begin_kept f cached
-  kept_at f cached (seek.Unlock (End out)) found none = tt
-  kept_at f cached seek.Ended found none = tt
-
--- it says that there is no room where it frees the lock, and the cached span stays by that step
-
-slot_says : (f : Finding) (out : Option (Option ℕ)) → find.slot_found f out ≡ Some NoRoom → ⊥
-slot_says f None e = absurd (cc)
-slot_says f (Some None) e = absurd (cc)
-slot_says f (Some (Some slot)) e = absurd (cc)
-
-refuses_at : (x : Sought) (f : Finding) (p : FindStage) (found : ℕ) → find.gives_at f p found ≡ Some NoRoom → NoneCached p f.cached → (f.cached ≡ None) × ((find.goes_at f p found).cached ≡ f.cached)
-refuses_at x f (seek.Slots s) found e h = absurd (slot_says (find.searched f (slots.goes s found)) (slots.gives s found) e)
-refuses_at x f (seek.Unlock (End NoRoom)) found e h = (h, refl)
-refuses_at x f _ found e h = absurd (cc)
+  kept_at f cached (seek.Unlock (End (At x))) found none = tt
+  kept_at f cached (seek.Unlock (End NoRoom)) found none = none
+  kept_at f cached (seek.Ended out) found none = none
 
 reclaim_look : (r : Reclaiming) (p : ReclaimStage) → is_looking (reclaim.asks_at r p) ≡ true
 reclaim_look r (reclaim_stage.Look page) = refl
@@ -142,13 +132,13 @@ KeptFor (Small c) s = KeptAt s.find s.stage
 KeptFor (Large pages noscan) s = Unit {0}
 
 -- about to say that there is no room, it has none cached
-refusing : (p : FindStage) (cached : Option CachedSpan) → find.refuses_at p ≡ true → NoneCached p cached → cached ≡ None
+refusing : (p : FindStage) (cached : Option CachedSpan) → find.finds_none_at p ≡ true → NoneCached p cached → cached ≡ None
 refusing (seek.Unlock (End NoRoom)) cached e h = h
 refusing _ cached e h = absurd (cc)
 
 first_kept : (f : Finding) → Kept f → KeptAt f (search.after_first f)
-first_kept f h = by (find.refuses f) refl where
-  by : (b : Bool) → find.refuses f ≡ b → KeptAt f (cond b (search_stage.Free (search.reclaiming f)) search_stage.First)
+first_kept f h = by (find.finds_none f) refl where
+  by : (b : Bool) → find.finds_none f ≡ b → KeptAt f (cond b (search_stage.Free (search.reclaiming f)) search_stage.First)
   by true e = refusing f.stage f.cached e h
   by false e = h
 
@@ -169,11 +159,6 @@ module _ (c : SpanClass) where
   search_kept f (search_stage.Free r) found is h = free_kept f (reclaim.goes r found) (reclaim.gives r found) is h
   search_kept f search_stage.Second found is h = second_kept (find.goes f found) (search.frees_at f.stage) (find_kept f found is h)
 
-  search_refuses : (f : Finding) (p : SearchStage) (found : ℕ) → search.gives_at f p found ≡ Some NoRoom → KeptAt f p → (search.goes_at f p found).find.cached ≡ None
-  search_refuses f search_stage.First found e h = let r = refuses_at (Small c) f f.stage found e h in r.1 ∙ r.0
-  search_refuses f (search_stage.Free r) found e h = absurd (cc)
-  search_refuses f search_stage.Second found e h = let r = refuses_at (Small c) f f.stage found e h in r.1 ∙ r.0
-
 pub kept : (x : Sought) (s : Seeking) (found : ℕ) → s.find.wanted ≡ x → KeptFor x s → KeptFor x (search.goes s found)
 kept (Large pages noscan) s found is h = tt
 kept (Small c) s found is h = search_kept c s.find s.stage found is h
@@ -182,6 +167,16 @@ pub kept_first : (x : Sought) (s : Seeking) → s ≡ search.opening s.find.layo
 kept_first (Large pages noscan) s is = tt
 kept_first (Small c) s is = subst (λ (q : Seeking). KeptAt q.find q.stage) (sym is) (begin_kept c s.find s.find.cached)
 
-pub refuses_none : (x : Sought) (s : Seeking) (found : ℕ) (c : SpanClass) → x ≡ Small c → search.gives s found ≡ Some NoRoom → KeptFor x s → (search.goes s found).find.cached ≡ None
-refuses_none (Large pages noscan) s found c small e h = absurd (cc)
-refuses_none (Small k) s found c small e h = search_refuses k s.find s.stage found e h
+-- where it has said so, it has none cached
+ended_cached : (p : FindStage) (cached : Option CachedSpan) → find.given_at p ≡ Some NoRoom → NoneCached p cached → cached ≡ None
+ended_cached (seek.Ended NoRoom) cached e h = h
+ended_cached _ cached e h = absurd (cc)
+
+none_cached : (f : Finding) (p : SearchStage) → search.given_at f p ≡ Some NoRoom → KeptAt f p → f.cached ≡ None
+none_cached f (search_stage.Free r) e h = h
+none_cached f search_stage.First e h = ended_cached f.stage f.cached e h
+none_cached f search_stage.Second e h = ended_cached f.stage f.cached e h
+
+pub refuses_none : (x : Sought) (s : Seeking) (c : SpanClass) → x ≡ Small c → search.given s ≡ Some NoRoom → KeptFor x s → s.find.cached ≡ None
+refuses_none (Large pages noscan) s c small e h = absurd (cc)
+refuses_none (Small k) s c small e h = none_cached s.find s.stage e h

@@ -1,5 +1,6 @@
 -- Each step, and each beginning, keeps what the processor knows of its own state, whatever was found.
-use Rattle.std.proofs.Common.{◌≡◌, ℕ, zero, suc, ◌≤◌, ◌⊎◌, inl, inr, true, false, List, [], get_or, replicate, refl, sym, ◌∙◌, subst, Option, Some, None, IsNone, arith}
+use Rattle.std.proofs.Common.{◌≡◌, ℕ, zero, suc, ◌≤◌, ◌⊎◌, inl, inr, false, List, [], get_or, replicate, refl, sym, ap, ◌∙◌, subst, Option, Some, None, arith}
+use Rattle.std.specs.Prelude.{is_none}
 use Rattle.gh_mutator.specs.Vocabulary.{Global, GlobalStage, Polling, Register, Source, Store, StoreStage}
 use Rattle.gh_base.specs.declared.value.Value.TheVariants as value
 use Rattle.gh_base.specs.declared.held.Held.{Held}
@@ -10,25 +11,21 @@ use Rattle.gh_mutator.specs.declared.task.Task.TheVariants as task
 use Rattle.gh_mutator.specs.Barrier.{with_held}
 use Rattle.gh_mutator.specs.Global as global_listing
 use Rattle.gh_mutator.specs.Leave as leave
-use Rattle.gh_mutator.specs.LeaveEnds as leave_proved
-use Rattle.gh_mutator.specs.LeaveEnds.{stage_busy}
 use Rattle.gh_mutator.specs.Load as load_listing
 use Rattle.gh_mutator.specs.Local.{register_in, with_register}
 use Rattle.gh_mutator.specs.Poll as poll
-use Rattle.gh_mutator.specs.PollEnds as poll_proved
 use Rattle.gh_mutator.specs.Processor.{at_poll, at_task, keeping, opening_processor}
 use Rattle.gh_mutator.specs.Register.{read_of, step, value_from}
 use Rattle.gh_mutator.specs.Serving.{is_making}
 use Rattle.gh_mutator.specs.Sound.{GlobalRoom, IsNear, most_objects, Sound, SoundGlobal, SoundLoad, SoundRegister, SoundStore, SoundTask, StoreRoom}
+use Rattle.gh_mutator.specs.Stays.{leave_stays, poll_stacks, poll_stays, wait_stacks, wait_stays}
 use Rattle.gh_mutator.specs.Store as store_listing
 use Rattle.gh_mutator.specs.Wait as wait
-use Rattle.gh_mutator.specs.WaitEnds as wait_proved
 use Rattle.gh_mutator.proofs.Vocabulary.{after_gc, after_leave, after_poll, FitsWait, Layout, Leaving, Processor, read_replicate, register_of, Shape, takes, takes_at, Task, Value, Waiting, with_ended}
 use Rattle.gh_mutator.proofs.Changes.{applied_sound, moved, polled, SameBuffer}
 use Rattle.gh_mutator.proofs.ClassFacts.{ClassLaws}
 use Rattle.gh_mutator.proofs.GlobalSteps as global
 use Rattle.gh_mutator.proofs.LoadSteps as load
-use Rattle.gh_mutator.proofs.Stacks.{poll_stacks, wait_stacks}
 use Rattle.gh_mutator.proofs.Steps.{goes_both, StepSound}
 use Rattle.gh_mutator.proofs.StoreSteps as store
 use Rattle.gh_mutator.proofs.Waits.{wait_fits}
@@ -59,13 +56,13 @@ gc_sound : (shapes : List Shape) (m : Processor) (g : ℕ) (x : Waiting) (out : 
 gc_sound shapes m g x None s layout stacks fits = polled shapes m x.poll (task.Gc g x.wait) s layout stacks (fits refl)
 gc_sound shapes m g x (Some y) s layout stacks fits = polled shapes m x.poll task.Idle s layout stacks tt
 
-poll_sound : (shapes : List Shape) (m : Processor) (p : Polling) (out : Option (Unit {0})) → Sound shapes m → p.layout ≡ m.poll.layout → p.local.stacks ≡ m.poll.local.stacks → (IsNone out → poll.is_busy p.stage ≡ true) → Sound shapes (after_poll m p out)
-poll_sound shapes m p None s layout stacks busy = polled shapes m p task.Poll s layout stacks (busy refl)
-poll_sound shapes m p (Some y) s layout stacks busy = polled shapes m p task.Idle s layout stacks tt
+poll_sound : (shapes : List Shape) (m : Processor) (p : Polling) (out : Option (Unit {0})) → Sound shapes m → p.layout ≡ m.poll.layout → p.local.stacks ≡ m.poll.local.stacks → poll.given p.stage ≡ out → Sound shapes (after_poll m p out)
+poll_sound shapes m p None s layout stacks e = polled shapes m p task.Poll s layout stacks (ap is_none e)
+poll_sound shapes m p (Some y) s layout stacks e = polled shapes m p task.Idle s layout stacks tt
 
-leave_sound : (shapes : List Shape) (m : Processor) (x : Leaving) (out : Option (Unit {0})) → Sound shapes m → x.layout ≡ m.poll.layout → (IsNone out → leave.is_busy x.stage ≡ true) → Sound shapes (after_leave m x out)
-leave_sound shapes m x None s layout busy = moved shapes m (task.Leave x) s (record { busy = busy refl; layout = layout })
-leave_sound shapes m x (Some y) s layout busy = moved shapes m task.Left s tt
+leave_sound : (shapes : List Shape) (m : Processor) (x : Leaving) (out : Option (Unit {0})) → Sound shapes m → x.layout ≡ m.poll.layout → leave.given x.stage ≡ out → Sound shapes (after_leave m x out)
+leave_sound shapes m x None s layout e = moved shapes m (task.Leave x) s (record { busy = ap is_none e; layout = layout })
+leave_sound shapes m x (Some y) s layout e = moved shapes m task.Left s tt
 
 module _ (shapes : List Shape) where
   -- with another buffer
@@ -117,10 +114,10 @@ module _ (shapes : List Shape) where
   plain_at laws m (task.Global x) found q s h = global_at m x found s h.0 h.1
   plain_at laws m (task.Register x) found q s h = applied_sound shapes SoundRegister task.Register m x.g x.d (step (register_of m x.g (read_of x)) x) s (register_sound m.poll.layout.pages (register_of m x.g (read_of x)) x (s.registers _ _)) (λ y p e b f. f)
   plain_at laws m (task.New x) found q s h = absurd (cc)
-  plain_at laws m (task.Gc g x) found q s h = gc_sound shapes m g (wait.goes (wait.waiting x m.poll) found) (wait.gives (wait.waiting x m.poll) found) s (wait_proved.stays (wait.waiting x m.poll) found) (wait_stacks (wait.waiting x m.poll) found) (λ e. wait_fits (wait.waiting x m.poll) found h e)
-  plain_at laws m task.Poll found q s h = poll_sound shapes m (poll.goes m.poll found) (poll.gives m.poll found) s (poll_proved.stays m.poll found) (poll_stacks m.poll found) (λ e. (poll_proved.ends m.poll found h).0 e)
+  plain_at laws m (task.Gc g x) found q s h = gc_sound shapes m g (wait.goes (wait.waiting x m.poll) found) (wait.gives (wait.waiting x m.poll) found) s (wait_stays (wait.waiting x m.poll) found) (wait_stacks (wait.waiting x m.poll) found) (wait_fits (wait.waiting x m.poll) found)
+  plain_at laws m task.Poll found q s h = poll_sound shapes m (poll.goes m.poll found) (poll.gives m.poll found) s (poll_stays m.poll found) (poll_stacks m.poll found) refl
   plain_at laws m (task.End g) found q s h = polled shapes m (with_ended m.poll g) task.Idle s refl refl tt
-  plain_at laws m (task.Leave x) found q s h = leave_sound shapes m (leave.goes x found) (leave.gives x found) s (leave_proved.stays x found ∙ h.layout) (λ e. (leave_proved.ends x found h.busy).0 e)
+  plain_at laws m (task.Leave x) found q s h = leave_sound shapes m (leave.goes x found) (leave.gives x found) s (leave_stays x found ∙ h.layout) refl
 
   -- once a statement on registers is made
   set_at : (m : Processor) (x : Register) → Sound shapes m → Sound shapes (takes_at shapes m (task.Register x) 0)

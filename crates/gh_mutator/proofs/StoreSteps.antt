@@ -1,6 +1,6 @@
 -- Own steps of a store.
-use Rattle.std.proofs.Common.{◌≡◌, ℕ, ◌+◌, ◌*◌, ◌<◌, ◌≤◌, Bool, true, false, cond, Option, Some, None, IsNone, refl, sym, subst, ◌∙◌, arith}
-use Rattle.std.specs.Prelude.{◌&&◌}
+use Rattle.std.proofs.Common.{◌≡◌, ℕ, ◌+◌, ◌*◌, ◌<◌, ◌≤◌, Bool, true, false, cond, Option, Some, None, refl, sym, ap, subst, ◌∙◌, arith}
+use Rattle.std.specs.Prelude.{◌&&◌, is_none}
 use Rattle.gh_base.specs.declared.held.Held.{Held}
 use Rattle.gh_base.specs.declared.layout.Layout.{Layout}
 use Rattle.gh_base.specs.declared.value.Answer.TheVariants as answer
@@ -8,7 +8,7 @@ use Rattle.gh_base.specs.declared.value.Fault.TheVariants as fault
 use Rattle.gh_base.specs.declared.value.Value.{Value}
 use Rattle.gh_base.specs.declared.value.Value.TheVariants as value
 use Rattle.gh_barrier.specs.Ending.{left as write_left, WritingEnds}
-use Rattle.gh_barrier.specs.Ends as write_proved
+use Rattle.gh_barrier.specs.Stays as write_proved
 use Rattle.gh_barrier.specs.Listing.{Writing as PointerWrite}
 use Rattle.gh_barrier.specs.Listing as write
 use Rattle.gh_mutator.specs.declared.poll.Local.{Local}
@@ -85,7 +85,7 @@ module _ (p : Polling) (held : Value) (x : Store) where
   room_at Field found h = tt
   room_at (Writing w) found h = by (write.gives w found) refl where
     by : (out : Option (Unit {0})) → write.gives w found ≡ out → GoesTo (RoomThen (held_then w found)) (after_write x (write.goes w found) out).then
-    by None e = record { layout = write_proved.stays w found ∙ h.layout; busy = (write_proved.ends w found h.busy).0 (subst IsNone (sym e) refl) }
+    by None e = record { layout = write_proved.stays w found ∙ h.layout; busy = ap is_none e }
     by (Some y) e = tt
 
 pub step_room : (p : Polling) (held : Value) (x : Store) (found : ℕ) → StoreRoom p x.stage → GoesTo (λ (y : Store). StoreRoom (with_held p (held_behind p.local.held x.stage found)) y.stage) (step p.layout p.local held x found).then
@@ -135,7 +135,7 @@ module _ (ends_so : WritingEnds) (l : Layout) (own : Local) (held : Value) (x : 
   write_nears : (marking : Bool) (w : PointerWrite) (found : ℕ) → write.is_busy w.stage ≡ true → Left marking (write_left w.stage) (after_write x (write.goes w found) (write.gives w found)).then
   write_nears marking w found busy = by (write.gives w found) refl where
     by : (out : Option (Unit {0})) → write.gives w found ≡ out → Left marking (write_left w.stage) (after_write x (write.goes w found) out).then
-    by None e = ((write_proved.ends w found busy).0 (subst IsNone (sym e) refl), ends_so.fewer w found busy)
+    by None e = (ap is_none e, ends_so.fewer w found busy)
     by (Some y) e = tt
 
   nears_at : (s : StoreStage) (found : ℕ) → writes_on s ≡ true → (1 ≤ left_at (is_mark own.view.phase) s) × Left (is_mark own.view.phase) (left_at (is_mark own.view.phase) s) (step_at l own held x s found).then

@@ -29,6 +29,7 @@ pub record WritesIt (l : Layout) (at : PointerCell) (v : Value) (w : Writing) : 
   pub same_pointer : w.pointer ≡ pointer_of v
   pub names : is_number_value v ≡ false
   pub within : WritesWithin l w
+  pub busy : write.is_busy w.stage ≡ true
 
 -- what is held behind a step of the write
 abbrev pub held_by : Writing → Option Held

@@ -1,10 +1,11 @@
--- A processor gives back what it holds: what is asked for at each stage, where that leads, and what it gives.
-use Rattle.std.specs.Prelude.{ℕ, ◌+◌, ◌/◌, ◌%◌, Bool, true, false, ◌==◌, if◌then◌else◌, List, [], ◌∷◌, drop, replicate, Option, Some, None}
+-- A processor gives back what it holds: what is asked for at each stage, where that leads, and what it has given there.
+use Rattle.std.specs.Prelude.{ℕ, ◌+◌, ◌/◌, ◌%◌, Bool, ◌==◌, if◌then◌else◌, List, [], ◌∷◌, drop, replicate, Option, Some, None, is_none}
 use Rattle.gh_base.specs.declared.cell.Cell.TheVariants as cell
 use Rattle.gh_base.specs.declared.cell.Ask.{Ask}
 use Rattle.gh_base.specs.declared.cell.Ask.TheVariants.{Load, Store, Swap}
 use Rattle.gh_base.specs.declared.held.Held.{Held}
 use Rattle.gh_base.specs.declared.layout.Layout.{Layout}
+use Rattle.gh_base.specs.Given.{listing_of}
 use Rattle.gh_base.specs.Packing.{head_word}
 use Rattle.gh_base.specs.Routines.{Listing}
 use Rattle.gh_class.specs.declared.class.SpanClass.{SpanClass}
@@ -82,29 +83,20 @@ module _ (g : Giving) where
   goes_at (GiveBuffer b) found = after_buffer g (buffer.goes b found) (buffer.gives b found)
   goes_at Ended found = at_stage g Ended
 
--- it ends with the freeing of the lock where no buffer is held
-abbrev pub ends_with : Option Held → Option (Unit {0})
-ends_with None = Some tt
-ends_with (Some h) = None
-
-abbrev pub gives_at : Option Held → GiveStage → ℕ → Option (Unit {0})
-gives_at held Unlock found = ends_with held
-gives_at held (GiveBuffer b) found = buffer.gives b found
-gives_at held _ found = None
+-- what it has given at this stage; it is busy where that is nothing
+abbrev pub given : GiveStage → Option (Unit {0})
+given Ended = Some tt
+given _ = None
 
 abbrev pub is_busy : GiveStage → Bool
-is_busy Ended = false
-is_busy _ = true
+is_busy stage = is_none (given stage)
 
--- the step that it asks for, what it is after the step found this, and what it ends with if that step is its last
+-- the step that it asks for, and what it is after the step found this
 abbrev pub asks : Giving → Ask
 asks g = asks_at g g.stage
 
 abbrev pub goes : Giving → ℕ → Giving
 goes g found = goes_at g g.stage found
 
-abbrev pub gives : Giving → ℕ → Option (Unit {0})
-gives g found = gives_at g.held g.stage found
-
 abbrev pub listing : Listing Giving (Unit {0})
-listing = record { layout = λ g. g.layout; busy = λ g. is_busy g.stage; asks = asks; goes = goes; gives = gives }
+listing = listing_of (λ g. g.layout) asks goes (λ g. given g.stage)

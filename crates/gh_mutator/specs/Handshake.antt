@@ -40,7 +40,7 @@ HasPlaces cache = length cache ≡ SPAN_CLASSES
 -- it goes on after a stop for its own seat, with no span cached and no buffer held
 pub record GoesOnWithNothing (seat : ℕ) (local : Local) (r : resume.Resuming) : Type 0 where
   pub seat_is : r.seat ≡ seat
-  pub busy : resume.is_busy r.stage ≡ true
+  pub busy : resume.is_busy r ≡ true
   pub no_span : local.cache ≡ none_cached
   pub no_buffer : local.held ≡ None
 

@@ -1,11 +1,12 @@
--- A processor leaves: what is asked for at each stage, where that leads, and what it gives.
-use Rattle.std.specs.Prelude.{ℕ, Bool, true, false, if◌then◌else◌, List, Option, Some, None}
+-- A processor leaves: what is asked for at each stage, where that leads, and what it has given there.
+use Rattle.std.specs.Prelude.{ℕ, Bool, true, false, if◌then◌else◌, List, Option, Some, None, is_none}
 use Rattle.gh_base.specs.declared.cell.Cell.TheVariants as cell
 use Rattle.gh_base.specs.declared.cell.Ask.{Ask}
 use Rattle.gh_base.specs.declared.cell.Ask.TheVariants.{Load, Store}
 use Rattle.gh_base.specs.declared.held.Held.{Held}
 use Rattle.gh_base.specs.declared.layout.Layout.{Layout}
 use Rattle.gh_base.specs.declared.pack.TheConstants.{GONE}
+use Rattle.gh_base.specs.Given.{listing_of}
 use Rattle.gh_base.specs.Routines.{Listing}
 use Rattle.gh_alloc.specs.declared.sought.CachedSpan.{CachedSpan}
 use Rattle.gh_mutator.specs.declared.leave.LeaveStage.{LeaveStage}
@@ -38,18 +39,18 @@ module _ (w : Leaving) where
   goes_at Leave found = at_stage w Left
   goes_at Left found = at_stage w Left
 
-abbrev pub gives_at : LeaveStage → Option (Unit {0})
-gives_at Leave = Some tt
-gives_at _ = None
+-- what it has given at this stage; it is busy where that is nothing
+abbrev pub given : LeaveStage → Option (Unit {0})
+given Left = Some tt
+given _ = None
 
 abbrev pub is_busy : LeaveStage → Bool
-is_busy Left = false
-is_busy _ = true
+is_busy stage = is_none (given stage)
 
--- its next step is its last: nothing is left to be given back
+-- behind its next step it has left: nothing is left to be given back
 abbrev pub says_gone : LeaveStage → Bool
-says_gone Leave = true
-says_gone _ = false
+says_gone (Giving g) = false
+says_gone _ = true
 
 -- the step that it asks for, what it is after the step found this, and what it ends with if that step is its last
 abbrev pub asks : Leaving → Ask
@@ -59,7 +60,7 @@ abbrev pub goes : Leaving → ℕ → Leaving
 goes w found = goes_at w w.stage found
 
 abbrev pub gives : Leaving → ℕ → Option (Unit {0})
-gives w found = gives_at w.stage
+gives w found = given (goes w found).stage
 
 abbrev pub listing : Listing Leaving (Unit {0})
-listing = record { layout = λ w. w.layout; busy = λ w. is_busy w.stage; asks = asks; goes = goes; gives = gives }
+listing = listing_of (λ w. w.layout) asks goes (λ w. given w.stage)

@@ -5,6 +5,7 @@ use Rattle.gh_base.specs.declared.cell.Cell.TheVariants as cell
 use Rattle.gh_base.specs.declared.pack.TheConstants.{END}
 use Rattle.gh_base.specs.Rows.{mark_words}
 use Rattle.gh_phase.specs.declared.view.RunPhase.TheVariants.{Mark}
+use Rattle.gh_phase.specs.Listing as resume
 use Rattle.gh_shade.specs.Facts as shade_facts
 use Rattle.gh_shade.specs.Listing as shade
 use Rattle.gh_stack.specs.declared.scan_stack.StackStage.TheVariants as stack_stage
@@ -76,7 +77,7 @@ abbrev pub ScanStageFacts : Cycle → (a : ℕ) → Shared → Option Held → s
 ScanStageFacts z a s held m (mark_stage.Shading sh) = ShadesWish z a s m sh.reference × shade_facts.Facts z a s nothing sh
 ScanStageFacts z a s held m (mark_stage.FindRoom sh r) = ShadesWish z a s m sh.reference × LooksForRoom s sh.reference × buffer_facts.RoomFacts z a s (pending sh.reference) r
 ScanStageFacts z a s held m mark_stage.Store = stack_facts.Facts z a s m × (m.stage ≡ stack_stage.Store) × Hands a s (holding held)
-ScanStageFacts z a s held m mark_stage.Ended = Hands a s (holding held)
+ScanStageFacts z a s held m mark_stage.Ended = ⊥
 
 -- it is the scan of this goroutine's stack
 pub record ScanFacts (z : Cycle) (a : ℕ) (s : Shared) (g : ℕ) (m : mark.StackMarking) : Type 0 where
@@ -93,7 +94,7 @@ HasRoom waits local = waits ≡ false → local.view.phase ≡ Mark → poll.has
 abbrev pub PollStageFacts : Cycle → (a : ℕ) → Shared → (waits : Bool) → Local → PollStage → Type 0
 PollStageFacts z a s waits local poll_stage.LoadPhase = KnowsNumber z local.view × Hands a s (holding local.held)
 PollStageFacts z a s waits local (poll_stage.Giving g stops) = GiveFacts z a s g
-PollStageFacts z a s waits local (poll_stage.Resuming r) = Hands a s nothing × (local.held ≡ None)
+PollStageFacts z a s waits local (poll_stage.Resuming r) = Hands a s nothing × (local.held ≡ None) × (resume.is_busy r ≡ true)
 PollStageFacts z a s waits local (poll_stage.Marking g m) = (local.view.begun ≡ z.number) × ScanFacts z a s g m
 PollStageFacts z a s waits local (poll_stage.FindRoom r) = KnowsNumber z local.view × buffer_facts.RoomFacts z a s nothing r
 PollStageFacts z a s waits local poll_stage.Ended = KnowsNumber z local.view × HasRoom waits local × Hands a s (holding local.held)

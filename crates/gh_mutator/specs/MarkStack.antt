@@ -1,11 +1,12 @@
--- The scan of a stack with the shading: what is asked for at each stage, where that leads, and what it gives.
-use Rattle.std.specs.Prelude.{ℕ, Bool, true, false, List, Option, Some, None}
+-- The scan of a stack with the shading: what is asked for at each stage, where that leads, and what it has given there.
+use Rattle.std.specs.Prelude.{ℕ, Bool, true, false, List, Option, Some, None, is_none}
 use Rattle.gh_base.specs.declared.cell.Cell.TheVariants as cell
 use Rattle.gh_base.specs.declared.cell.Ask.{Ask}
 use Rattle.gh_base.specs.declared.cell.Ask.TheVariants.{Load}
 use Rattle.gh_base.specs.declared.held.Held.{Held}
 use Rattle.gh_base.specs.declared.layout.Layout.{Layout}
 use Rattle.gh_base.specs.declared.value.Value.{Value}
+use Rattle.gh_base.specs.Given.{listing_of}
 use Rattle.gh_base.specs.Routines.{Listing}
 use Rattle.gh_scan.specs.Listing.{reference_in}
 use Rattle.gh_shade.specs.declared.shade.Shaded.{Shaded}
@@ -72,13 +73,13 @@ module _ (m : StackMarking) where
   goes_at Store found = at_stage m Ended
   goes_at Ended found = at_stage m Ended
 
-abbrev pub gives_at : MarkStackStage → Option (Unit {0})
-gives_at Store = Some tt
-gives_at _ = None
+-- what it has given at this stage; it is busy where that is nothing
+abbrev pub given : MarkStackStage → Option (Unit {0})
+given Ended = Some tt
+given _ = None
 
 abbrev pub is_busy : MarkStackStage → Bool
-is_busy Ended = false
-is_busy _ = true
+is_busy stage = is_none (given stage)
 
 -- the step that it asks for, what it is after the step found this, and what it ends with if that step is its last
 abbrev pub asks : StackMarking → Ask
@@ -88,7 +89,7 @@ abbrev pub goes : StackMarking → ℕ → StackMarking
 goes m found = goes_at m m.stage found
 
 abbrev pub gives : StackMarking → ℕ → Option (Unit {0})
-gives m found = gives_at m.stage
+gives m found = given (goes m found).stage
 
 abbrev pub listing : Listing StackMarking (Unit {0})
-listing = record { layout = λ m. m.layout; busy = λ m. is_busy m.stage; asks = asks; goes = goes; gives = gives }
+listing = listing_of (λ m. m.layout) asks goes (λ m. given m.stage)

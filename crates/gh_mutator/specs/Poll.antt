@@ -1,11 +1,12 @@
--- The poll of a processor: what is asked for at each stage, where that leads, and when it ends.
-use Rattle.std.specs.Prelude.{ℕ, ◌+◌, ◌%◌, ◌^◌, Bool, true, false, not, nat_lt, nat_le, ◌==◌, ◌&&◌, if◌then◌else◌, List, [], ◌∷◌, slice_index_or, slice_set, Option, Some, None}
+-- The poll of a processor: what is asked for at each stage, where that leads, and what it has given there.
+use Rattle.std.specs.Prelude.{ℕ, ◌+◌, ◌%◌, ◌^◌, Bool, true, false, not, nat_lt, nat_le, ◌==◌, ◌&&◌, if◌then◌else◌, List, [], ◌∷◌, slice_index_or, slice_set, Option, Some, None, is_none}
 use Rattle.gh_base.specs.declared.cell.Cell.TheVariants as cell
 use Rattle.gh_base.specs.declared.cell.Ask.{Ask}
 use Rattle.gh_base.specs.declared.cell.Ask.TheVariants.{Load}
 use Rattle.gh_base.specs.declared.held.Held.{Held}
 use Rattle.gh_base.specs.declared.layout.Layout.{Layout}
 use Rattle.gh_base.specs.declared.pack.TheConstants.{END, ENTRIES}
+use Rattle.gh_base.specs.Given.{listing_of}
 use Rattle.gh_base.specs.Packing.{phase_of}
 use Rattle.gh_base.specs.Routines.{Listing}
 use Rattle.gh_phase.specs.declared.resume.Resumed.{Resumed}
@@ -131,13 +132,13 @@ goes_at p (Marking g m) found = after_mark p g (mark.goes m found) (mark.gives m
 goes_at p (FindRoom r) found = after_room p (room.goes r found) (room.gives r found)
 goes_at p Ended found = at_stage p Ended
 
+-- what it has given at this stage; it is busy where that is nothing
 abbrev pub given : PollStage → Option (Unit {0})
 given Ended = Some tt
 given _ = None
 
 abbrev pub is_busy : PollStage → Bool
-is_busy Ended = false
-is_busy _ = true
+is_busy stage = is_none (given stage)
 
 -- the step that it asks for, what it is after the step found this, and what it ends with if that step is its last
 abbrev pub asks : Polling → Ask
@@ -150,4 +151,4 @@ abbrev pub gives : Polling → ℕ → Option (Unit {0})
 gives p found = given (goes p found).stage
 
 abbrev pub listing : Listing Polling (Unit {0})
-listing = record { layout = λ p. p.layout; busy = λ p. is_busy p.stage; asks = asks; goes = goes; gives = gives }
+listing = listing_of (λ p. p.layout) asks goes (λ p. given p.stage)

@@ -162,7 +162,7 @@ pub record GiveFacts (z : Arena) (a : ℕ) (v : View) (g : Giving) : Type 0 wher
 -- going on after a stop: the sweep generation, once it is loaded
 abbrev pub HasLoaded : View → PhaseView → ResumeStage → Type 0
 HasLoaded v known resume_stage.LoadBegun = known.generation ≡ v.generation
-HasLoaded v known resume_stage.Ended = known.generation ≡ v.generation
+HasLoaded v known (resume_stage.Ended another_cycle) = known.generation ≡ v.generation
 HasLoaded v known _ = Unit {0}
 
 pub record ResumeFacts (a : ℕ) (v : View) (p : Polling) (r : resume.Resuming) : Type 0 where

@@ -33,7 +33,7 @@ pub record MarksOne (l : Layout) (g : ℕ) (m : mark.StackMarking) : Type 0 wher
 
 abbrev pub FitsStage : Layout → PollStage → Type 0
 FitsStage l (Giving g stops) = GivesAt l g stops
-FitsStage l (Resuming r) = Runs l r.layout (resume.is_busy r.stage)
+FitsStage l (Resuming r) = Runs l r.layout (resume.is_busy r)
 FitsStage l (Marking g m) = MarksOne l g m
 FitsStage l (FindRoom r) = Runs l r.layout (room.is_busy r.stage)
 FitsStage l _ = Unit {0}

@@ -1,8 +1,9 @@
--- A processor waits for a cycle: what is asked for at each stage, where that leads, and when it ends.
-use Rattle.std.specs.Prelude.{ℕ, Bool, true, false, nat_lt, if◌then◌else◌, Option, Some, None}
+-- A processor waits for a cycle: what is asked for at each stage, where that leads, and what it has given there.
+use Rattle.std.specs.Prelude.{ℕ, Bool, true, nat_lt, if◌then◌else◌, Option, Some, None, is_none}
 use Rattle.gh_base.specs.declared.cell.Cell.TheVariants as cell
 use Rattle.gh_base.specs.declared.cell.Ask.{Ask}
 use Rattle.gh_base.specs.declared.cell.Ask.TheVariants.{Load, Or}
+use Rattle.gh_base.specs.Given.{listing_of}
 use Rattle.gh_base.specs.Routines.{Listing}
 use Rattle.gh_mutator.specs.declared.wait.Wait.{Wait}
 use Rattle.gh_mutator.specs.declared.wait.WaitStage.{WaitStage}
@@ -50,19 +51,16 @@ module _ (w : Waiting) where
   goes_at Want found = polling w
   goes_at Polling found = after_poll w (poll.goes w.poll found) (poll.gives w.poll found)
   goes_at LoadSwept found = if is_later w.wait.known found then at_stage w Ended else polling w
-  goes_at Ended found = at_stage w Ended
+  -- one that has ended asks for no step: told of one it would poll again, so that no step but its last gives anything
+  goes_at Ended found = polling w
 
-abbrev pub given : (later : Bool) → Option (Unit {0})
-given true = Some tt
-given false = None
-
-abbrev pub gives_at : (known : ℕ) → WaitStage → ℕ → Option (Unit {0})
-gives_at known LoadSwept found = given (is_later known found)
-gives_at known _ found = None
+-- what it has given at this stage; it is busy where that is nothing
+abbrev pub given : WaitStage → Option (Unit {0})
+given Ended = Some tt
+given _ = None
 
 abbrev pub is_busy : WaitStage → Bool
-is_busy Ended = false
-is_busy _ = true
+is_busy stage = is_none (given stage)
 
 -- the step that it asks for, what it is after the step found this, and what it ends with if that step is its last
 abbrev pub asks : Waiting → Ask
@@ -72,7 +70,7 @@ abbrev pub goes : Waiting → ℕ → Waiting
 goes w found = goes_at w w.wait.stage found
 
 abbrev pub gives : Waiting → ℕ → Option (Unit {0})
-gives w found = gives_at w.wait.known w.wait.stage found
+gives w found = given (goes w found).wait.stage
 
 abbrev pub listing : Listing Waiting (Unit {0})
-listing = record { layout = λ w. w.poll.layout; busy = λ w. is_busy w.wait.stage; asks = asks; goes = goes; gives = gives }
+listing = listing_of (λ w. w.poll.layout) asks goes (λ w. given w.wait.stage)

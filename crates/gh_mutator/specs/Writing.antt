@@ -20,7 +20,7 @@ abbrev pub ShadesByWish : StackStage → MarkStackStage → Type 0
 ShadesByWish scan (mark_stage.Shading sh) = stack.is_waiting scan ≡ true
 ShadesByWish scan (mark_stage.FindRoom sh r) = stack.is_waiting scan ≡ true
 ShadesByWish scan mark_stage.Store = scan ≡ stack_stage.Store
-ShadesByWish scan mark_stage.Ended = Unit {0}
+ShadesByWish scan mark_stage.Ended = ⊥
 
 -- The stack that it scans is that of a goroutine of its own, and the scan is that of the cycle which it knows, while marking is on; and it has not noted yet that this stack was scanned in that cycle.
 pub record ScansItsOwn (p : Polling) (g : ℕ) (m : StackMarking) : Type 0 where

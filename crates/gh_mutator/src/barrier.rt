@@ -12,11 +12,12 @@ ghost use Rattle.gh_barrier.specs.Sound.{FitsPointer, HasTwo};
 ghost use Rattle.gh_mutator.specs.Barrier.{has_entries, held_then, pointer_of, with_held, written};
 ghost use Rattle.gh_mutator.specs.GiveSound.{Runs};
 ghost use Rattle.gh_mutator.specs.Local.{marking_at};
+ghost use Rattle.gh_mutator.specs.Room.{room_in};
 ghost use Rattle.gh_mutator.specs.Sound.{IsNear};
 
 use crate::poll::Poll;
 use gh_barrier::{PointerCell, WritePointer, has_two};
-use gh_base::{Held, Layout, Machine, Value};
+use gh_base::{ENTRIES, Held, Layout, Machine, Value};
 
 /// The object that a value names; nil and numbers name none.
 fn pointer_of(layout: &Layout, value: Value) -> Option<u64>
@@ -42,6 +43,19 @@ impl Poll {
         ensures { result ≡ has_entries self.now }
     {
         !self.marking() || has_two(self.local.held)
+    }
+
+    /// How many entries more the processor has room for, as it knows.
+    pub(crate) fn room(&self) -> u32
+        ensures { result ≡ room_in self.now }
+    {
+        if !self.marking() {
+            return ENTRIES;
+        }
+        match self.local.held {
+            Some(held) => ENTRIES.saturating_sub(held.count),
+            None => 0,
+        }
     }
 
     /// A value is written to this cell, with the buffer that is held.

@@ -6,7 +6,7 @@ ghost use Rattle.gh_base.specs.Holding.{IsHeld};
 ghost use Rattle.gh_base.specs.Steps.{cell_of};
 ghost use Rattle.gh_class.specs.declared.class.TheConstants.{SPAN_CLASSES};
 ghost use Rattle.gh_wbuf.specs.BufferGiving as buffers;
-ghost use Rattle.gh_mutator.specs.Give.{giving_buffer, goes_at, head_store, is_busy, none_cached, opening, span_class, stage_from};
+ghost use Rattle.gh_mutator.specs.Give.{given, giving_buffer, goes_at, head_store, is_busy, none_cached, opening, span_class, stage_from};
 ghost use Rattle.gh_mutator.specs.GiveSound.{FitsCache, FitsSpan, FitsStage, Runs};
 
 use gh_alloc::{CachedSpan, given_head};
@@ -189,27 +189,35 @@ impl Give {
     }
 
     /// Takes a step of the giving back of the buffer.
-    fn give_buffer(&mut self, give: &GiveBuffer, found: u64) -> Option<()>
+    fn give_buffer(&mut self, give: &GiveBuffer, found: u64)
         requires { Runs self.old.layout give.now.layout (buffers.is_busy give.now.stage) }
-        ensures goes { self.new ≡ goes_at self.old (GiveStage.GiveBuffer give.now) found }
-        ensures gives { result ≡ buffers.gives give.now found }
+        ensures { self.new ≡ goes_at self.old (GiveStage.GiveBuffer give.now) found }
     {
         let mut give = *give;
-        let out = give.take(found);
-        match out {
+        match give.take(found) {
             None => self.stage = GiveStage::GiveBuffer(give),
             Some(()) => {
                 self.held = None;
                 self.stage = GiveStage::Ended;
             }
         }
-        out
+    }
+
+    /// What it has given: it has ended, or not.
+    fn given(&self) -> Option<()>
+        ensures { result ≡ given self.now.stage }
+    {
+        match self.stage {
+            GiveStage::Ended => Some(()),
+            _ => None,
+        }
     }
 }
 
 impl Machine for Give {
+    ghost use Rattle.gh_base.specs.Given.{is_over};
     ghost use Rattle.gh_mutator.specs.Give.{listing};
-    ghost use Rattle.gh_mutator.specs.GiveEnds as proved;
+    ghost use Rattle.gh_mutator.specs.Stays.{give_stays};
 
     type Out = ();
 
@@ -241,22 +249,16 @@ impl Machine for Give {
                 if found == 0 {
                     self.stage = stage_from(&self.cache, 0);
                 }
-                None
             }
-            GiveStage::GiveSpan { class, .. } => {
-                self.stage = stage_from(&self.cache, *class + 1);
-                None
-            }
-            GiveStage::Unlock => {
-                self.unlocked();
-                if self.held.is_none() { Some(()) } else { None }
-            }
+            GiveStage::GiveSpan { class, .. } => self.stage = stage_from(&self.cache, *class + 1),
+            GiveStage::Unlock => self.unlocked(),
             GiveStage::GiveBuffer(give) => self.give_buffer(give, found),
-            GiveStage::Ended => None,
+            GiveStage::Ended => {}
         }
+        self.given()
     }
 
-    ghost ends = { proved.ends };
+    ghost ends = { λ g found busy. is_over (listing.gives g found) };
 
-    ghost stays = { proved.stays };
+    ghost stays = { give_stays };
 }

@@ -172,7 +172,8 @@ impl Global {
     }
 
     /// That it acts by its next step.
-    pub(crate) fn acts(&self) -> bool
+    pub(crate) fn acts(&self, poll: &Poll) -> bool
+        requires { GlobalRoom poll.now self.now.stage }
         ensures { (l : Layout) → (held : Value) → (found : ℕ) → result ≡ (step l held self.now found).acts }
     {
         match &self.stage {

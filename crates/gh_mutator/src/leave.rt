@@ -4,7 +4,7 @@ ghost use Rattle.std.specs.Prelude.{◌≡◌, ◌+◌, ◌^◌, ◌<◌, true};
 ghost use Rattle.gh_base.specs.Holding.{IsHeld};
 ghost use Rattle.gh_mutator.specs.Give as gives;
 ghost use Rattle.gh_mutator.specs.GiveSound.{FitsCache, Runs};
-ghost use Rattle.gh_mutator.specs.Leave.{goes_at, is_busy, opening, says_gone, stage_of};
+ghost use Rattle.gh_mutator.specs.Leave.{given, goes_at, is_busy, opening, says_gone, stage_of};
 ghost use Rattle.gh_mutator.specs.LeaveSound.{FitsStage};
 
 use crate::give::{Cache, Give};
@@ -84,11 +84,11 @@ impl Leave {
         }
     }
 
-    /// Its next step is its last: nothing is left to be given back.
+    /// Behind its next step it has left: nothing is left to be given back.
     pub(crate) fn is_last(&self) -> bool
         ensures { result ≡ says_gone self.now.stage }
     {
-        matches!(self.stage, LeaveStage::Leave)
+        !matches!(self.stage, LeaveStage::Giving(_))
     }
 
     /// Takes a step of the giving back.
@@ -100,11 +100,22 @@ impl Leave {
         give.take(found);
         self.stage = stage_of(&give);
     }
+
+    /// What it has given: it has left, or not.
+    fn given(&self) -> Option<()>
+        ensures { result ≡ given self.now.stage }
+    {
+        match self.stage {
+            LeaveStage::Left => Some(()),
+            _ => None,
+        }
+    }
 }
 
 impl Machine for Leave {
+    ghost use Rattle.gh_base.specs.Given.{is_over};
     ghost use Rattle.gh_mutator.specs.Leave.{listing};
-    ghost use Rattle.gh_mutator.specs.LeaveEnds as proved;
+    ghost use Rattle.gh_mutator.specs.Stays.{leave_stays};
 
     type Out = ();
 
@@ -133,16 +144,13 @@ impl Machine for Leave {
                 let give = *give;
                 self.give(&give, found);
             }
-            LeaveStage::Leave => {
-                self.stage = LeaveStage::Left;
-                return Some(());
-            }
+            LeaveStage::Leave => self.stage = LeaveStage::Left,
             LeaveStage::Left => {}
         }
-        None
+        self.given()
     }
 
-    ghost ends = { proved.ends };
+    ghost ends = { λ w found busy. is_over (listing.gives w found) };
 
-    ghost stays = { proved.stays };
+    ghost stays = { leave_stays };
 }

@@ -8,7 +8,7 @@ ghost use Rattle.gh_shade.specs.Sound.{IsReference};
 ghost use Rattle.gh_scan.specs.Listing.{reference_in};
 ghost use Rattle.gh_stack.specs.Listing as stacks;
 ghost use Rattle.gh_mutator.specs.GiveSound.{Runs};
-ghost use Rattle.gh_mutator.specs.MarkStack.{goes_at, goes_on, is_busy, opening, stage_of};
+ghost use Rattle.gh_mutator.specs.MarkStack.{given, goes_at, goes_on, is_busy, opening, stage_of};
 ghost use Rattle.gh_mutator.specs.MarkStackSound.{FitsStage, Waits};
 
 use gh_base::{Ask, Cell, Held, Layout, Machine, Req, Value};
@@ -161,11 +161,22 @@ impl MarkStack {
             }
         }
     }
+
+    /// What it has given: it has ended, or not.
+    fn given(&self) -> Option<()>
+        ensures { result ≡ given self.now.stage }
+    {
+        match self.stage {
+            MarkStackStage::Ended => Some(()),
+            _ => None,
+        }
+    }
 }
 
 impl Machine for MarkStack {
+    ghost use Rattle.gh_base.specs.Given.{is_over};
     ghost use Rattle.gh_mutator.specs.MarkStack.{listing};
-    ghost use Rattle.gh_mutator.specs.MarkStackEnds as proved;
+    ghost use Rattle.gh_mutator.specs.Stays.{mark_stays};
 
     type Out = ();
 
@@ -198,16 +209,13 @@ impl Machine for MarkStack {
                 let (shade, room) = (*shade, *room);
                 self.find_room(&shade, &room, found);
             }
-            MarkStackStage::Store => {
-                self.stage = MarkStackStage::Ended;
-                return Some(());
-            }
+            MarkStackStage::Store => self.stage = MarkStackStage::Ended,
             MarkStackStage::Ended => {}
         }
-        None
+        self.given()
     }
 
-    ghost ends = { proved.ends };
+    ghost ends = { λ m found busy. is_over (listing.gives m found) };
 
-    ghost stays = { proved.stays };
+    ghost stays = { mark_stays };
 }

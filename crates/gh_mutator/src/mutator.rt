@@ -7,6 +7,7 @@ ghost use Rattle.gh_base.specs.declared.operation.Op.TheVariants as ops;
 ghost use Rattle.gh_base.specs.declared.value.Answer.TheVariants as answers;
 ghost use Rattle.gh_mutator.specs.Mutating.{acts, asks, begins, goes, is_busy, opening, passes, sets};
 ghost use Rattle.gh_mutator.specs.Barrier.{has_entries};
+ghost use Rattle.gh_mutator.specs.Room.{room_in};
 ghost use Rattle.gh_mutator.specs.Serving.{has_left_at, is_last, is_point, is_serving, statement_answer};
 ghost use Rattle.gh_base.specs.Shapes.{ShapesFit};
 ghost use Rattle.gh_mutator.specs.Sound.{has_names, has_room, SoundOp};
@@ -125,6 +126,14 @@ impl<'s> Mutator<'s> {
         self.processor.poll.has_entries()
     }
 
+    /// How many entries more it has room for, as it knows: while marking is on, those of the work buffer that it holds, and 0
+    /// where it holds none; while marking is off, 253.
+    pub fn room(&self) -> u32
+        ensures { result ≡ room_in self.now.processor.poll }
+    {
+        self.processor.poll.room()
+    }
+
     /// It has left.
     pub fn has_left(&self) -> bool
         ensures { result ≡ has_left_at self.now.processor.task }
@@ -170,7 +179,7 @@ impl<'s> Mutator<'s> {
 
 impl<'s> Machine for Mutator<'s> {
     ghost use Rattle.gh_mutator.specs.Mutating.{asks, gives, goes, is_busy, layout};
-    ghost use Rattle.gh_mutator.specs.Ends as proved;
+    ghost use Rattle.gh_mutator.specs.Stays as proved;
 
     type Out = Answer;
 

@@ -273,7 +273,7 @@ impl Poll {
 
     /// Takes a step of going on after the stop.
     fn resume(&mut self, resume: &Resume, found: u64)
-        requires { Runs self.old.layout resume.now.layout (resumes.is_busy resume.now.stage) }
+        requires { Runs self.old.layout resume.now.layout (resumes.is_busy resume.now) }
         ensures { self.new ≡ goes_at self.old (PollStage.Resuming resume.now) found }
     {
         let mut resume = *resume;
@@ -321,7 +321,7 @@ impl Poll {
         }
     }
 
-    /// What it gives now: it has ended, or not.
+    /// What it has given: it has ended, or not.
     fn given(&self) -> Option<()>
         ensures { result ≡ given self.now.stage }
     {
@@ -333,8 +333,9 @@ impl Poll {
 }
 
 impl Machine for Poll {
+    ghost use Rattle.gh_base.specs.Given.{is_over};
     ghost use Rattle.gh_mutator.specs.Poll.{listing};
-    ghost use Rattle.gh_mutator.specs.PollEnds as proved;
+    ghost use Rattle.gh_mutator.specs.Stays.{poll_stays};
 
     type Out = ();
 
@@ -383,7 +384,7 @@ impl Machine for Poll {
         self.given()
     }
 
-    ghost ends = { proved.ends };
+    ghost ends = { λ p found busy. is_over (listing.gives p found) };
 
-    ghost stays = { proved.stays };
+    ghost stays = { poll_stays };
 }

@@ -219,7 +219,7 @@ impl<'s> Processor<'s> {
             Task::Idle | Task::Left | Task::Poll | Task::End(_) | Task::Leave(_) => false,
             Task::Load(x) => x.acts(found),
             Task::Store(x) => x.acts(&self.poll, self.poll.register(x.g, x.v), found),
-            Task::Global(x) => x.acts(),
+            Task::Global(x) => x.acts(&self.poll),
             Task::Register(_) => true,
             Task::New(new) => match &new.stage {
                 NewStage::Search { waited, search } => *waited && search.refuses(),

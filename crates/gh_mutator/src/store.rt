@@ -160,7 +160,8 @@ impl Store {
 
     /// That it acts by the step that finds this, where register `v` holds this.
     pub(crate) fn acts(&self, poll: &Poll, held: Value, found: u64) -> bool
-        requires { SoundStore poll.now.layout.pages self.now }
+        requires sound { SoundStore poll.now.layout.pages self.now }
+        requires room { StoreRoom poll.now self.now.stage }
         ensures { result ≡ (step poll.now.layout poll.now.local held self.now found).acts }
     {
         match &self.stage {

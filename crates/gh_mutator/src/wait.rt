@@ -3,7 +3,8 @@
 ghost use Rattle.std.specs.Prelude.{◌≡◌, is_some};
 ghost use Rattle.gh_base.specs.Cells.{InRange};
 ghost use Rattle.gh_base.specs.Steps.{cell_of, request};
-ghost use Rattle.gh_mutator.specs.Wait.{asks, begins, gives, gives_at, goes, polling, waiting};
+ghost use Rattle.gh_mutator.specs.Wait.{asks, begins, given, gives, goes, polling, waiting};
+ghost use Rattle.gh_mutator.specs.Poll.{Polling};
 ghost use Rattle.gh_mutator.specs.WaitSound.{FitsWait};
 
 use crate::poll::Poll;
@@ -64,8 +65,9 @@ impl Wait {
     }
 
     /// The step that found this ends it.
+    #[tactic(auto, using(crate::proofs::Waits::polled_none))]
     pub(crate) fn ends_by(&self, found: u64) -> bool
-        ensures { result ≡ is_some (gives_at self.now.known self.now.stage found) }
+        ensures { (poll : Polling) → result ≡ is_some (gives (waiting self.now poll) found) }
     {
         match self.stage {
             WaitStage::LoadSwept => self.known < found,
@@ -90,19 +92,24 @@ impl Wait {
         ensures gives { result ≡ gives (waiting self.old poll.old) found }
     {
         match self.stage {
-            WaitStage::Want => self.polls(poll),
             WaitStage::Polling => {
                 if poll.take(found).is_some() {
                     self.stage = WaitStage::LoadSwept;
                 }
             }
-            WaitStage::LoadSwept if self.known < found => {
-                self.stage = WaitStage::Ended;
-                return Some(());
-            }
-            WaitStage::LoadSwept => self.polls(poll),
-            WaitStage::Ended => {}
+            WaitStage::LoadSwept if self.known < found => self.stage = WaitStage::Ended,
+            WaitStage::Want | WaitStage::LoadSwept | WaitStage::Ended => self.polls(poll),
         }
-        None
+        self.given()
+    }
+
+    /// What it has given: it has ended, or not.
+    fn given(&self) -> Option<()>
+        ensures { result ≡ given self.now.stage }
+    {
+        match self.stage {
+            WaitStage::Ended => Some(()),
+            _ => None,
+        }
     }
 }

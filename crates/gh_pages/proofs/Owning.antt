@@ -16,7 +16,7 @@ use Rattle.gh_heap.specs.Spans.{IsSpan, LaidOut, Laying, owner_at, owner_in}
 use Rattle.gh_pages.specs.declared.carve.CarveStage.{CarveStage}
 use Rattle.gh_pages.specs.declared.carve.CarveStage.TheVariants.{Look, Body, Head, Ended}
 use Rattle.gh_pages.specs.Facts.{Carves, CarvesByItsRights, Comes, Facts, FactsAt, FreeBefore, Lasts, Looks, NoRun, NoRunBefore, Opens, OwnStep, Within, fresh_from, laying_at}
-use Rattle.gh_pages.specs.Listing.{Carving, after_look, asks, at_stage, first_store, fresh_head, gives, gives_at, gives_none, goes, goes_at, is_free, is_last, next_store}
+use Rattle.gh_pages.specs.Listing.{Carving, after_look, asks, at_stage, first_store, fresh_head, given_at, gives, goes, goes_at, is_free, is_last, next_store}
 
 pub record Known : Type 0 where
   pub packed : PackedWordsAreReadBack
@@ -84,7 +84,7 @@ stage-lasts : (k : Known) (z : Arena) (a : ℕ) (v w : View) (c : Carving) (q : 
 stage-lasts k z a v w c (Look p run) o l h = looks-last k z a v w c.span.pages p run o l h
 stage-lasts k z a v w c (Body first d) o l h = ((k.last z a v w o).laid (fresh_from c first d) l h.0, h.1)
 stage-lasts k z a v w c (Head first) o l h = (k.last z a v w o).laid (fresh_from c first c.span.pages) l h
-stage-lasts k z a v w c Ended o l h = h
+stage-lasts k z a v w c (Ended taken) o l h = h
 
 pub lasts : Known → Lasts
 lasts k z a v w c o l h = record { whose = whose-last z a v w c o h.whose; stage = stage-lasts k z a v w c c.stage o l h.stage }
@@ -138,8 +138,8 @@ module _ (k : Known) (z : Arena) (a : ℕ) (s : Shared) (held : ℕ → Bool) (c
   now = view s
 
   -- what the next stage has, with nothing that was changed
-  abbrev Goes : Option (Option ℕ) → CarveStage → Type 0
-  Goes given q = Comes z a now now held given (at_stage c q)
+  abbrev Goes : CarveStage → Type 0
+  Goes q = Comes z a now now held (given_at q) (at_stage c q)
 
   stays : Good z now → Leaves now now
   stays g = (k.leave z a s g).stays
@@ -155,9 +155,9 @@ module _ (k : Known) (z : Arena) (a : ℕ) (s : Shared) (held : ℕ → Bool) (c
     free = λ d low high. free d high;
   }
 
-  begins : (first : ℕ) → Good z now → Right a now true held None → Carves z a now c → LaidOut z.layout.pages now.page (fresh_from c first 1) → Goes None (first_store c.span first)
+  begins : (first : ℕ) → Good z now → Right a now true held None → Carves z a now c → LaidOut z.layout.pages now.page (fresh_from c first 1) → Goes (first_store c.span first)
   begins first g right whose laid = go (ltb (0 + 1) c.span.pages) refl where
-    go : (b : Bool) → ltb (0 + 1) c.span.pages ≡ b → Goes None (cond b (Body first (0 + 1)) (Head first))
+    go : (b : Bool) → ltb (0 + 1) c.span.pages ≡ b → Goes (cond b (Body first (0 + 1)) (Head first))
     go true e = (stays g, right, record { whose = whose-at z a now c (Body first (0 + 1)) whose; stage = (laid, ltb-true 1 c.span.pages e) })
     go false e =
         let one : c.span.pages ≡ 1 = omega (arith, laid.few, ltb-false 1 c.span.pages e) in
@@ -165,25 +165,25 @@ module _ (k : Known) (z : Arena) (a : ℕ) (s : Shared) (held : ℕ → Bool) (c
 
   -- after a look at page p, with so many free pages in a row up to it
   looked : (p row : ℕ) → Good z now → Right a now true held None → Carves z a now c → p < z.layout.pages → row ≤ c.span.pages → FreeBefore now.page (p + 1) row → (row < c.span.pages → NoRunBefore now.page c.span.pages (p + 1) row) →
-      Goes (cond (gives_none c p row) (Some None) None) (after_look c p row)
+      Goes (after_look c p row)
   looked p row g right whose there few free none = go (eqb row c.span.pages) refl where
     begun-at : row ≡ c.span.pages → LaidOut z.layout.pages now.page (fresh_from c (p + 1 - c.span.pages) 1)
     begun-at e = first-laid (p + 1 - c.span.pages) (omega (arith, free.fits)) whose.class.some (λ d low. free.free (p + 1 - c.span.pages + d) (omega (arith, free.fits)) (omega (arith, free.fits)))
 
-    ends : row ≢ c.span.pages → (b : Bool) → ltb (p + 1) c.layout.pages ≡ b → Goes (cond (not b) (Some None) None) (cond (not b) Ended (Look (p + 1) row))
+    ends : row ≢ c.span.pages → (b : Bool) → ltb (p + 1) c.layout.pages ≡ b → Goes (cond (not b) (Ended None) (Look (p + 1) row))
     ends ne true e = (stays g, right, record { whose = whose-at z a now c (Look (p + 1) row) whose; stage = record { there = subst (λ (l : Layout). p + 1 < l.pages) whose.layout (ltb-true (p + 1) c.layout.pages e); few = omega arith; before = free; no_run = none (omega arith) } })
     ends ne false e =
         let last : c.layout.pages ≤ p + 1 = ltb-false (p + 1) c.layout.pages e in
         let all : p + 1 ≡ z.layout.pages = omega (arith, there, subst (λ (l : Layout). l.pages ≤ p + 1) whose.layout last) in
         (stays g, right, subst (λ (n : ℕ). NoRun now.page c.span.pages n) all (none (omega arith)).none)
 
-    go : (b : Bool) → eqb row c.span.pages ≡ b → Goes (cond (cond b false (is_last c p)) (Some None) None) (cond b (first_store c.span (p + 1 - c.span.pages)) (cond (is_last c p) Ended (Look (p + 1) row)))
+    go : (b : Bool) → eqb row c.span.pages ≡ b → Goes (cond b (first_store c.span (p + 1 - c.span.pages)) (cond (is_last c p) (Ended None) (Look (p + 1) row)))
     go true e = begins (p + 1 - c.span.pages) g right whose (begun-at (eqb-true row c.span.pages e))
     go false e = ends (eqb-false row c.span.pages e) (ltb (p + 1) c.layout.pages) refl
 
-  look : (p run : ℕ) → Good z now → Right a now true held None → Carves z a now c → Looks z now.page c.span.pages p run → Goes (gives_at c (Look p run) (now.page p)) (goes_at c (Look p run) (now.page p))
+  look : (p run : ℕ) → Good z now → Right a now true held None → Carves z a now c → Looks z now.page c.span.pages p run → Goes (goes_at c (Look p run) (now.page p))
   look p run g right whose h = go (is_free (page_of (now.page p))) refl where
-    go : (b : Bool) → is_free (page_of (now.page p)) ≡ b → Goes (cond (gives_none c p (cond b (run + 1) 0)) (Some None) None) (after_look c p (cond b (run + 1) 0))
+    go : (b : Bool) → is_free (page_of (now.page p)) ≡ b → Goes (after_look c p (cond b (run + 1) 0))
     go true e = looked p (run + 1) g right whose h.there (omega (arith, h.few)) (free-more now.page p run h.before (free-is (page_of (now.page p)) e)) (λ few. none-more now.page c.span.pages p run few h.no_run)
     go false e = looked p 0 g right whose h.there (omega arith) (record { fits = omega arith; free = λ q high low. absurd (omega arith) }) (λ few. none-past now.page c.span.pages p whose.class.some h.no_run.none (taken-is (page_of (now.page p)) e))
 
@@ -193,7 +193,7 @@ module _ (k : Known) (z : Arena) (a : ℕ) (s : Shared) (held : ℕ → Bool) (c
   may-lay first d right whose laid = record { locked = right.locked; laying = right.laying; freeing = right.freeing; laid = laid; fits = whose.class; word = whose.word; owner = ap (λ (x : ℕ). x + 1) whose.seat; number = whose.number }
 
   body : (first d : ℕ) → Good z now → Right a now true held (begun (fresh_from c first d)) → Carves z a now c → LaidOut z.layout.pages now.page (fresh_from c first d) → d < c.span.pages →
-      Steps z a s (asks (at_stage c (Body first d))) (λ t. KeepsObjects now (view t) × Comes z a now (view t) held None (at_stage c (next_store c.span first d)))
+      Steps z a s (asks (at_stage c (Body first d))) (λ t. KeepsObjects now (view t) × Comes z a now (view t) held (given_at (next_store c.span first d)) (at_stage c (next_store c.span first d)))
   body first d g right whose laid more = record { move = LayBody y; may = may; words_are = refl; after = ((refl, refl), go (ltb (d + 1) c.span.pages) refl) } where
     y : Laying
     y = fresh_from c first d
@@ -221,14 +221,14 @@ module _ (k : Known) (z : Arena) (a : ℕ) (s : Shared) (held : ℕ → Bool) (c
       test : eqb (d + 1) 1 ≡ false
       test = not-same (d + 1) 1 (λ x. omega (arith, laid.some))
 
-    go : (b : Bool) → ltb (d + 1) c.span.pages ≡ b → Comes z a now (view t) held None (at_stage c (cond b (Body first (d + 1)) (Head first)))
+    go : (b : Bool) → ltb (d + 1) c.span.pages ≡ b → Comes z a now (view t) held (given_at (cond b (Body first (d + 1)) (Head first))) (at_stage c (cond b (Body first (d + 1)) (Head first)))
     go true e = (leaves, begun-then (d + 1) refl, record { whose = whose-at z a (view t) c (Body first (d + 1)) whose-then; stage = (laid-then, ltb-true (d + 1) c.span.pages e) })
     go false e =
         let all : c.span.pages ≡ d + 1 = omega (arith, more, ltb-false (d + 1) c.span.pages e) in
         (leaves, begun-then c.span.pages all, record { whose = whose-at z a (view t) c (Head first) whose-then; stage = subst (λ (n : ℕ). LaidOut z.layout.pages (view t).page (fresh_from c first n)) (sym all) laid-then })
 
   head : (first : ℕ) → Good z now → Right a now true held (begun (fresh_from c first c.span.pages)) → Carves z a now c → LaidOut z.layout.pages now.page (fresh_from c first c.span.pages) →
-      Steps z a s (asks (at_stage c (Head first))) (λ t. KeepsObjects now (view t) × Comes z a now (view t) held (Some (Some first)) (at_stage c Ended))
+      Steps z a s (asks (at_stage c (Head first))) (λ t. KeepsObjects now (view t) × Comes z a now (view t) held (Some (Some first)) (at_stage c (Ended (Some first))))
   head first g right whose laid = record { move = LayHead y; may = may; words_are = refl; after = ((refl, refl), (leaves, right-then, record { span = span; empty = λ x low high. (k.apart z now g).laid y x laid low high }, not-held z a now true held (begun y) first g right (ap owner_in laid.head))) } where
     y : Laying
     y = fresh_from c first c.span.pages
@@ -256,7 +256,7 @@ module _ (k : Known) (z : Arena) (a : ℕ) (s : Shared) (held : ℕ → Bool) (c
   own-at (Look p run) g right h = record { move = Quiet (asks (at_stage c (Look p run))); may = tt; words_are = refl; after = ((refl, refl), look p run g right (whose-of z a now c (Look p run) h.whose) h.stage) }
   own-at (Body first d) g right h = body first d g right (whose-of z a now c (Body first d) h.whose) h.stage.0 h.stage.1
   own-at (Head first) g right h = head first g right (whose-of z a now c (Head first) h.whose) h.stage
-  own-at Ended g right h = absurd h.stage
+  own-at (Ended taken) g right h = absurd h.stage
 
 pub own : Known → OwnStep
 own k z a s held c g right h = own-at k z a s held c c.stage g right h
@@ -267,7 +267,7 @@ within-at : (z : Arena) (c : Carving) (page_words : Row) (q : CarveStage) → Fa
 within-at z c page_words (Look p run) x = x.there
 within-at z c page_words (Body first d) x = omega (arith, x.0.within, x.1)
 within-at z c page_words (Head first) x = omega (arith, x.within, x.some)
-within-at z c page_words Ended x = absurd x
+within-at z c page_words (Ended taken) x = absurd x
 
 within : Within
 within z a v c x = within-at z c v.page c.stage x.stage

@@ -58,7 +58,7 @@ abbrev pub FactsAt : Arena → Carving → Row → CarveStage → Type 0
 FactsAt z c page_words (Look p run) = Looks z page_words c.span.pages p run
 FactsAt z c page_words (Body first distance) = LaidOut z.layout.pages page_words (fresh_from c first distance) × (distance < c.span.pages)
 FactsAt z c page_words (Head first) = LaidOut z.layout.pages page_words (fresh_from c first c.span.pages)
-FactsAt z c page_words Ended = ⊥
+FactsAt z c page_words (Ended taken) = ⊥
 
 pub record Facts (z : Arena) (a : ℕ) (v : View) (c : Carving) : Type 0 where
   pub whose : Carves z a v c

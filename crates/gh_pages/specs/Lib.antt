@@ -1,4 +1,4 @@
-pub mod Ends
+pub mod Blind
 pub mod Facts
 pub mod FirstFit
 pub mod Listing

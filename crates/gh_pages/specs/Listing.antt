@@ -1,5 +1,5 @@
--- Fresh pages for a span: what is asked for at each stage, where that leads, and what it gives.
-use Rattle.std.specs.Prelude.{ℕ, ◌+◌, ◌-◌, Bool, true, false, not, nat_lt, ◌==◌, if◌then◌else◌, Option, Some, None}
+-- Fresh pages for a span: what is asked for at each stage, where that leads, and what it has given.
+use Rattle.std.specs.Prelude.{ℕ, ◌+◌, ◌-◌, Bool, true, false, not, nat_lt, ◌==◌, if◌then◌else◌, Option, Some, None, is_none}
 use Rattle.gh_base.specs.declared.cell.Cell.TheVariants.{Touch, Page}
 use Rattle.gh_base.specs.declared.cell.Ask.{Ask}
 use Rattle.gh_base.specs.declared.cell.Ask.TheVariants.{Load, Store}
@@ -8,6 +8,7 @@ use Rattle.gh_base.specs.declared.pack.PageWord.{PageWord}
 use Rattle.gh_base.specs.declared.pack.PageWord.TheVariants.{Free}
 use Rattle.gh_base.specs.declared.pack.SpanHead.{SpanHead}
 use Rattle.gh_base.specs.declared.pack.SpanBody.{SpanBody}
+use Rattle.gh_base.specs.Given.{listing_of}
 use Rattle.gh_base.specs.Packing.{page_of, head_word, body_word}
 use Rattle.gh_base.specs.Routines.{Listing}
 use Rattle.gh_pages.specs.declared.carve.Span.{Span}
@@ -60,41 +61,41 @@ module _ (c : Carving) where
   asks_at (Look page run) = Load (Page page)
   asks_at (Body first distance) = Store (Page (first + distance)) (body_word (fresh_body c distance))
   asks_at (Head first) = Store (Page first) (head_word (fresh_head c))
-  asks_at Ended = Load Touch
+  asks_at (Ended taken) = Load Touch
 
   abbrev pub after_look : ℕ → ℕ → CarveStage
   after_look page row =
       if row == c.span.pages then first_store c.span (page + 1 - c.span.pages)
-      else if is_last c page then Ended else Look (page + 1) row
+      else if is_last c page then Ended None else Look (page + 1) row
 
   abbrev pub goes_at : CarveStage → ℕ → CarveStage
   goes_at (Look page run) found = after_look page (row_after run found)
   goes_at (Body first distance) found = next_store c.span first distance
-  goes_at (Head first) found = Ended
-  goes_at Ended found = Ended
+  goes_at (Head first) found = Ended (Some first)
+  goes_at (Ended taken) found = Ended taken
 
-  abbrev pub gives_none : ℕ → ℕ → Bool
-  gives_none page row = if row == c.span.pages then false else is_last c page
+-- what it has given at a stage
+abbrev pub given_at : CarveStage → Option (Option ℕ)
+given_at (Ended taken) = Some taken
+given_at _ = None
 
-  abbrev pub gives_at : CarveStage → ℕ → Option (Option ℕ)
-  gives_at (Look page run) found = if gives_none page (row_after run found) then Some None else None
-  gives_at (Body first distance) found = None
-  gives_at (Head first) found = Some (Some first)
-  gives_at Ended found = None
-
+-- it asks for a step exactly where that is nothing
 abbrev pub is_busy : CarveStage → Bool
-is_busy Ended = false
-is_busy _ = true
+is_busy p = is_none (given_at p)
 
--- the step that it asks for, what it is after the step found this, and what it ends with if that step is its last
+-- the step that it asks for, what it is after the step found this, and what it has given
 abbrev pub asks : Carving → Ask
 asks c = asks_at c c.stage
 
 abbrev pub goes : Carving → ℕ → Carving
 goes c found = at_stage c (goes_at c c.stage found)
 
+abbrev pub given : Carving → Option (Option ℕ)
+given c = given_at c.stage
+
+-- and by a step
 abbrev pub gives : Carving → ℕ → Option (Option ℕ)
-gives c found = gives_at c c.stage found
+gives c found = given (goes c found)
 
 abbrev pub listing : Listing Carving (Option ℕ)
-listing = record { layout = λ c. c.layout; busy = λ c. is_busy c.stage; asks = asks; goes = goes; gives = gives }
+listing = listing_of (λ c. c.layout) asks goes given

@@ -20,7 +20,7 @@ abbrev pub IsStage : Layout → Span → CarveStage → Type 0
 IsStage l span (Look page run) = (page < l.pages) × (run ≤ page) × (run < span.pages)
 IsStage l span (Body first distance) = (first + span.pages ≤ l.pages) × (1 ≤ distance) × (distance < span.pages)
 IsStage l span (Head first) = first + span.pages ≤ l.pages
-IsStage l span Ended = Unit {0}
+IsStage l span (Ended taken) = Unit {0}
 
 pub record Sound (c : Carving) : Type 0 where
   pub seat : c.seat < seats_of c.layout

@@ -4,7 +4,7 @@ ghost use Rattle.std.specs.Prelude.{◌≡◌, ◌+◌, ◌^◌, ◌<◌, ◌≤
 ghost use Rattle.gh_base.specs.Cells.{InRange, seats_of};
 ghost use Rattle.gh_base.specs.Steps.{cell_of};
 ghost use Rattle.gh_base.specs.Packing.{body_word, head_word};
-ghost use Rattle.gh_pages.specs.Listing.{after_look, asks, fresh_body, fresh_head, gives, goes_at, is_last, next_store, opening, row_after};
+ghost use Rattle.gh_pages.specs.Listing.{after_look, asks, fresh_body, fresh_head, given, goes_at, is_last, next_store, opening, row_after};
 ghost use Rattle.gh_pages.specs.Sound.{FitsSpan};
 
 use gh_base::{Ask, Cell, Layout, Machine, PageWord, Req, SpanBody, SpanHead};
@@ -45,7 +45,10 @@ pub enum CarveStage {
         first: u32,
     },
     /// It has ended.
-    Ended,
+    Ended {
+        /// The first page of the span, if a row of free pages was long enough.
+        taken: Option<u32>,
+    },
 }
 
 /// Takes fresh pages for a span, first fit (Go's `mheap.alloc` over `pageAlloc.find`, in mheap.go
@@ -163,26 +166,12 @@ impl Carve {
                 Ask::Store(Cell::Page(first + distance), self.body_word(distance))
             }
             CarveStage::Head { first } => Ask::Store(Cell::Page(first), self.head_word()),
-            CarveStage::Ended => Ask::Load(Cell::Touch),
+            CarveStage::Ended { .. } => Ask::Load(Cell::Touch),
         }
     }
 }
 
 impl Carve {
-    /// What it ends with, if the step that found this is its last.
-    fn give(&self, found: u64) -> Option<Option<u32>>
-        ensures { result ≡ gives self.now found }
-    {
-        match self.stage {
-            CarveStage::Look { page, run } => {
-                let none = row_after(run, found) != self.span.pages && self.is_last(page);
-                if none { Some(None) } else { None }
-            }
-            CarveStage::Head { first } => Some(Some(first)),
-            CarveStage::Body { .. } | CarveStage::Ended => None,
-        }
-    }
-
     /// No page of the arena lies behind this one.
     fn is_last(&self, page: u32) -> bool
         requires { page + 1 < 2 ^ 32 }
@@ -200,7 +189,7 @@ impl Carve {
         if row == self.span.pages {
             self.span.next_store(page + 1 - row, 0)
         } else if self.is_last(page) {
-            CarveStage::Ended
+            CarveStage::Ended { taken: None }
         } else {
             CarveStage::Look {
                 page: page + 1,
@@ -216,15 +205,26 @@ impl Carve {
         match self.stage {
             CarveStage::Look { page, run } => self.after_look(page, row_after(run, found)),
             CarveStage::Body { first, distance } => self.span.next_store(first, distance),
-            CarveStage::Head { .. } | CarveStage::Ended => CarveStage::Ended,
+            CarveStage::Head { first } => CarveStage::Ended { taken: Some(first) },
+            CarveStage::Ended { taken } => CarveStage::Ended { taken },
+        }
+    }
+
+    /// What it has given.
+    fn given(&self) -> Option<Option<u32>>
+        ensures { result ≡ given self.now }
+    {
+        match self.stage {
+            CarveStage::Ended { taken } => Some(taken),
+            _ => None,
         }
     }
 }
 
 impl Machine for Carve {
     ghost use Rattle.std.specs.Prelude.{refl};
+    ghost use Rattle.gh_base.specs.Given.{is_over};
     ghost use Rattle.gh_pages.specs.Listing.{listing};
-    ghost use Rattle.gh_pages.specs.Ends as proved;
 
     type Out = Option<u32>;
 
@@ -243,12 +243,11 @@ impl Machine for Carve {
     }
 
     fn take(&mut self, found: u64) -> Option<Option<u32>> {
-        let out = self.give(found);
         self.stage = self.go(found);
-        out
+        self.given()
     }
 
-    ghost ends = { proved.ends };
+    ghost ends = { λ c found busy. is_over (listing.gives c found) };
 
     ghost stays = { λ _ _. refl };
 }

@@ -56,7 +56,7 @@ resume_asks seat stops Acknowledge = Store (Ack seat) stops
 resume_asks seat stops LoadPhase = Load Phase
 resume_asks seat stops LoadGeneration = Load Gen
 resume_asks seat stops LoadBegun = Load Begun
-resume_asks seat stops Ended = Load Touch
+resume_asks seat stops (Ended another_cycle) = Load Touch
 
 -- the same stop is waited for, and another is acknowledged
 abbrev pub by_phase : (stops number : ℕ) → Option RunPhase → Stage
@@ -68,7 +68,7 @@ resume_goes stops Acknowledge found = Resumes stops LoadPhase
 resume_goes stops LoadPhase found = by_phase stops (phase_of found).stops (run_phase (phase_of found).phase)
 resume_goes stops LoadGeneration found = Resumes stops LoadBegun
 resume_goes stops LoadBegun found = Awake
-resume_goes stops Ended found = Awake
+resume_goes stops (Ended another_cycle) found = Awake
 
 abbrev pub with_phase : View → Option RunPhase → View
 with_phase v None = v
@@ -79,7 +79,7 @@ resume_view v Acknowledge found = v
 resume_view v LoadPhase found = with_phase v (run_phase (phase_of found).phase)
 resume_view v LoadGeneration found = record v { generation = generation_of found }
 resume_view v LoadBegun found = record v { begun = found }
-resume_view v Ended found = v
+resume_view v (Ended another_cycle) found = v
 
 -- the step writes no word of the handshake
 abbrev pub IsFree : Cell → Type 0

@@ -1,8 +1,9 @@
-pub mod Ends
+pub mod Blind
 pub mod Handshake
 pub mod Listing
 pub mod ResumePlaces
 pub mod Resumes
 pub mod Shakes
 pub mod Sound
+pub mod Stays
 pub mod Views

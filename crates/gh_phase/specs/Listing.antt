@@ -1,9 +1,10 @@
 -- Going on after a stop: what is asked for at each stage, where that leads, and what it gives.
-use Rattle.std.specs.Prelude.{ℕ, Bool, true, false, not, ◌==◌, if◌then◌else◌, Option, Some, None}
+use Rattle.std.specs.Prelude.{ℕ, Bool, not, ◌==◌, if◌then◌else◌, Option, Some, None, is_none}
 use Rattle.gh_base.specs.declared.cell.Cell.TheVariants.{Touch, Phase, Gen, Begun, Ack}
 use Rattle.gh_base.specs.declared.cell.Ask.{Ask}
 use Rattle.gh_base.specs.declared.cell.Ask.TheVariants.{Load, Store}
 use Rattle.gh_base.specs.declared.layout.Layout.{Layout}
+use Rattle.gh_base.specs.Given.{listing_of}
 use Rattle.gh_base.specs.Packing.{phase_of}
 use Rattle.gh_base.specs.Routines.{Listing}
 use Rattle.gh_phase.specs.declared.resume.Resumed.{Resumed}
@@ -37,7 +38,7 @@ module _ (r : Resuming) where
   asks_at LoadPhase = Load Phase
   asks_at LoadGeneration = Load Gen
   asks_at LoadBegun = Load Begun
-  asks_at Ended = Load Touch
+  asks_at (Ended another_cycle) = Load Touch
 
   -- a stop with the same number is waited for; one with another is acknowledged
   abbrev pub stopped : (number : ℕ) → Resuming
@@ -52,16 +53,19 @@ module _ (r : Resuming) where
   goes_at Acknowledge found = at_stage r LoadPhase
   goes_at LoadPhase found = after_phase (phase_of found).stops (run_phase (phase_of found).phase)
   goes_at LoadGeneration found = record r { view = record (r.view) { generation = generation_of found }; stage = LoadBegun }
-  goes_at LoadBegun found = record r { view = record (r.view) { begun = found }; stage = Ended }
-  goes_at Ended found = r
+  goes_at LoadBegun found = record r { view = record (r.view) { begun = found }; stage = Ended (resumed r.view found).another_cycle }
+  goes_at (Ended another_cycle) found = at_stage r (Ended another_cycle)
 
-  abbrev pub gives_at : ResumeStage → ℕ → Option Resumed
-  gives_at LoadBegun found = Some (resumed r.view found)
-  gives_at _ found = None
+-- what it has given: what it knows then
+abbrev pub given_at : View → ResumeStage → Option Resumed
+given_at view (Ended another_cycle) = Some (record { view = view; another_cycle = another_cycle })
+given_at view _ = None
 
-abbrev pub is_busy : ResumeStage → Bool
-is_busy Ended = false
-is_busy _ = true
+abbrev pub given : Resuming → Option Resumed
+given r = given_at r.view r.stage
+
+abbrev pub is_busy : Resuming → Bool
+is_busy r = is_none (given r)
 
 -- the step that it asks for, what it is after the step found this, and what it ends with if that step is its last
 abbrev pub asks : Resuming → Ask
@@ -71,7 +75,7 @@ abbrev pub goes : Resuming → ℕ → Resuming
 goes r found = goes_at r r.stage found
 
 abbrev pub gives : Resuming → ℕ → Option Resumed
-gives r found = gives_at r r.stage found
+gives r found = given (goes r found)
 
 abbrev pub listing : Listing Resuming Resumed
-listing = record { layout = λ r. r.layout; busy = λ r. is_busy r.stage; asks = asks; goes = goes; gives = gives }
+listing = listing_of (λ r. r.layout) asks goes given

@@ -17,7 +17,7 @@ stands_at stops Acknowledge = Resumes stops Acknowledge
 stands_at stops LoadPhase = Resumes stops LoadPhase
 stands_at stops LoadGeneration = Resumes stops LoadGeneration
 stands_at stops LoadBegun = Resumes stops LoadBegun
-stands_at stops Ended = Awake
+stands_at stops (Ended another_cycle) = Awake
 
 abbrev pub stage_of : Resuming → Stage
 stage_of r = stands_at r.stops r.stage

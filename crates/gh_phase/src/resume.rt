@@ -1,9 +1,9 @@
 //! The routine by which an actor acknowledges a stop and goes on.
 
-ghost use Rattle.std.specs.Prelude.{◌≡◌, ◌+◌, ◌^◌, ◌<◌, true};
+ghost use Rattle.std.specs.Prelude.{◌≡◌, ◌+◌, ◌^◌, ◌<◌, IfSome, true};
 ghost use Rattle.gh_base.specs.Cells.{InRange};
 ghost use Rattle.gh_base.specs.Steps.{cell_of};
-ghost use Rattle.gh_phase.specs.Listing.{asks, goes_at, is_busy, opening, resumed};
+ghost use Rattle.gh_phase.specs.Listing.{asks, given, goes_at, is_busy, opening};
 ghost use Rattle.gh_phase.specs.Views.{FitsView};
 
 use crate::view::{RunPhase, View, generation};
@@ -21,8 +21,8 @@ pub enum ResumeStage {
     LoadGeneration,
     /// It loads how many cycles have begun.
     LoadBegun,
-    /// It has ended.
-    Ended,
+    /// It has ended, and knows whether another number of cycles has begun than before.
+    Ended(bool),
 }
 
 /// What it ends with.
@@ -70,7 +70,7 @@ impl Resume {
         requires stops { stops < 2 ^ 62 }
         requires view { FitsView view }
         ensures opening { result ≡ opening layout.now seat stops view }
-        ensures begun { is_busy result.stage ≡ true }
+        ensures begun { is_busy result ≡ true }
     {
         Resume {
             layout: *layout,
@@ -91,7 +91,7 @@ impl Resume {
             ResumeStage::LoadPhase => Ask::Load(Cell::Phase),
             ResumeStage::LoadGeneration => Ask::Load(Cell::Gen),
             ResumeStage::LoadBegun => Ask::Load(Cell::Begun),
-            ResumeStage::Ended => Ask::Load(Cell::Touch),
+            ResumeStage::Ended(_) => Ask::Load(Cell::Touch),
         }
     }
 
@@ -114,25 +114,34 @@ impl Resume {
     }
 
     /// Ends by the number of cycles begun.
-    fn end(&mut self, found: u64) -> Resumed
-        ensures state { self.new ≡ goes_at self.old ResumeStage.LoadBegun found }
-        ensures out { result ≡ resumed self.old.view found }
-        ensures fits { FitsView result.view }
+    fn end(&mut self, found: u64)
+        ensures { self.new ≡ goes_at self.old ResumeStage.LoadBegun found }
     {
         let another_cycle = found != self.view.begun;
         self.view.begun = found;
-        self.stage = ResumeStage::Ended;
-        Resumed {
-            view: self.view,
-            another_cycle,
+        self.stage = ResumeStage::Ended(another_cycle);
+    }
+
+    /// What it has given.
+    fn given(&self) -> Option<Resumed>
+        ensures is { result ≡ given self.now }
+        ensures fits { IfSome result (λ r. FitsView r.view) }
+    {
+        match self.stage {
+            ResumeStage::Ended(another_cycle) => Some(Resumed {
+                view: self.view,
+                another_cycle,
+            }),
+            _ => None,
         }
     }
 }
 
 impl Machine for Resume {
     ghost use Rattle.std.specs.Prelude.{IfSome};
+    ghost use Rattle.gh_base.specs.Given.{is_over};
     ghost use Rattle.gh_phase.specs.Listing.{gives, goes, is_busy, listing};
-    ghost use Rattle.gh_phase.specs.Ends as proved;
+    ghost use Rattle.gh_phase.specs.Stays.{stays};
     ghost use Rattle.gh_phase.specs.Views.{FitsView};
 
     type Out = Resumed;
@@ -152,7 +161,7 @@ impl Machine for Resume {
     }
 
     fn take(&mut self, found: u64) -> Option<Resumed>
-        requires { is_busy self.old.stage ≡ true }
+        requires { is_busy self.old ≡ true }
         ensures state { self.new ≡ goes self.old found }
         ensures out { result ≡ gives self.old found }
         ensures fits { IfSome result (λ r. FitsView r.view) }
@@ -164,13 +173,13 @@ impl Machine for Resume {
                 self.view.generation = generation(found);
                 self.stage = ResumeStage::LoadBegun;
             }
-            ResumeStage::LoadBegun => return Some(self.end(found)),
-            ResumeStage::Ended => {}
+            ResumeStage::LoadBegun => self.end(found),
+            ResumeStage::Ended(_) => {}
         }
-        None
+        self.given()
     }
 
-    ghost ends = { proved.ends };
+    ghost ends = { λ m found busy. is_over (listing.gives m found) };
 
-    ghost stays = { proved.stays };
+    ghost stays = { stays };
 }

@@ -1,5 +1,5 @@
 -- Who goes on behind a step: whoever did, but for its actor where the step says that this is done.
-use Rattle.std.proofs.Common.{◌≡◌, ℕ, zero, suc, ◌+◌, ◌<◌, Bool, true, false, cond, eqb, not, List, ◌∷◌, Option, Some, None, refl, sym, ap, ◌∙◌, arith}
+use Rattle.std.proofs.Common.{◌≡◌, ℕ, zero, suc, ◌+◌, ◌<◌, Bool, true, false, cond, eqb, not, List, ◌∷◌, Option, Some, None, refl, sym, ap, subst, ◌∙◌, arith}
 use Rattle.std.specs.Prelude.{◌↔◌, IfSome, is_some, IsNone}
 use Rattle.std.specs.List.{filter, range_with_len}
 use Rattle.std.proofs.lemmas.Bool.{eqb-true}
@@ -20,6 +20,7 @@ use Rattle.gh_mutator.specs.declared.step.Then.{Then}
 use Rattle.gh_mutator.specs.declared.step.Then.TheVariants.{Ends, GoesOn}
 use Rattle.gh_mutator.specs.declared.task.Task.{Task}
 use Rattle.gh_mutator.specs.declared.task.Task.TheVariants as task
+use Rattle.gh_mutator.specs.Give as give
 use Rattle.gh_mutator.specs.Leave.{says_gone}
 use Rattle.gh_mutator.specs.Leave as leave
 use Rattle.gh_mutator.specs.Listing.{after_gc, after_leave, after_poll, begins_at, follows, takes_at}
@@ -27,8 +28,9 @@ use Rattle.gh_mutator.specs.Listing as mutator
 use Rattle.gh_mutator.specs.New.{after_search, after_wait, makes}
 use Rattle.gh_mutator.specs.New as new
 use Rattle.gh_mutator.specs.Serving.{has_left_at, is_last}
+use Rattle.gh_mutator.specs.Stays.{leaves_on}
 use Rattle.gh_mutator.specs.Vocabulary.{At, Found, Leaving, NoRoom, Placing, Polling, Seeking, Waiting}
-use Rattle.gh_worker.specs.Ends as worker_ends
+use Rattle.gh_worker.specs.Stays as worker_ends
 use Rattle.gh_worker.specs.Listing as worker
 use Rattle.gh_world.specs.declared.event.Event.{Event}
 use Rattle.gh_world.specs.declared.event.Event.TheVariants as event
@@ -96,10 +98,9 @@ poll_on : (m : Processor) (p : Polling) (out : Option (Unit {0})) → has_left_a
 poll_on m p None = refl
 poll_on m p (Some y) = refl
 
-leave_last : (m : Processor) (x : Leaving) (stage : LeaveStage) → has_left_at (after_leave m x (leave.gives_at stage)).task ≡ says_gone stage
-leave_last m x (leave_stage.Giving g) = refl
-leave_last m x leave_stage.Leave = refl
-leave_last m x leave_stage.Left = refl
+leave_last : (m : Processor) (x : Leaving) (stage : LeaveStage) (found : ℕ) → has_left_at (after_leave m (leave.goes_at x stage found) (leave.given (leave.goes_at x stage found).stage)).task ≡ says_gone stage
+leave_last m x (leave_stage.Giving g) found = subst (λ (o : Option (Unit {0})). has_left_at (after_leave m (leave.goes_at x (leave_stage.Giving g) found) o).task ≡ false) (sym (leaves_on (give.goes g found))) refl
+leave_last m x _ found = refl
 
 left_by : (shapes : List Shape) (m : Processor) (t : Task) (found : ℕ) → m.task ≡ t → has_left_at t ≡ false → has_left_at (takes_at shapes m t found).task ≡ is_last t
 left_by shapes m task.Idle found is on = ap has_left_at is
@@ -112,7 +113,7 @@ left_by shapes m (task.New x) found is on = new_on shapes m x.wanted x.stage fou
 left_by shapes m (task.Gc g x) found is on = gc_on m g _ _
 left_by shapes m task.Poll found is on = poll_on m _ _
 left_by shapes m (task.End g) found is on = refl
-left_by shapes m (task.Leave x) found is on = leave_last m (leave.goes x found) x.stage
+left_by shapes m (task.Leave x) found is on = leave_last m x x.stage found
 
 -- it has not by beginning
 begins_on : (shapes : List Shape) (m : Processor) (o : Op) → has_left_at (begins_at shapes m o) ≡ false

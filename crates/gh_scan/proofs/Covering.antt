@@ -78,7 +78,7 @@ module _ (bits fields : Row) (l : Layout) where
     Covers Has x LoadField = Before Has x × Has (bit_cell x)
     Covers Has x (Shading sh) = Before Has (x + 1)
     Covers Has x (FindRoom sh r) = Before Has (x + 1)
-    Covers Has x Ended = Before Has above
+    Covers Has x (Ended words) = Before Has above
 
     with_this : (Has : Cell → Type 0) (x : ℕ) → Before Has x → IsCovered Has x → Before Has (x + 1)
     with_this Has x before this y low high = by (y == x) refl where
@@ -178,7 +178,7 @@ module _ (bits fields : Row) (l : Layout) where
         by : (next : room.RoomFinding) (out : Option Held) → CoversIn New (after_room (state h x w (FindRoom sh r)) sh next out)
         by next None = grown (x + 1) before
         by next (Some own) = grown (x + 1) before
-      step v h x w Ended done k f low now before = grown high before
+      step v h x w (Ended words) done k f low now before = grown high before
 
 module _ (l : Layout) (seat reference : ℕ) (held : Option Held) (found : ℕ → ℕ) (some : 1 ≤ slot_told l seat reference held found) where
   abbrev slot : ℕ
@@ -221,7 +221,7 @@ module _ (l : Layout) (seat reference : ℕ) (held : Option Held) (found : ℕ �
     -- once it has ended, each word of the slot
     pub covered : (n w x : ℕ) → EndsWith listing (from l seat reference held found) found n w → object_of reference ≤ x → x < object_of reference + slot → IsCovered bits fields l (Has (suc n)) x
     covered n w x e low below =
-        let ended : (state_n (suc n)).stage ≡ Ended = has_ended (state_n (suc n)).slot (state_n (suc n)).stage w e in
+        let ended : (state_n (suc n)).stage ≡ Ended w = has_ended (state_n (suc n)).stage w e in
         subst (λ (g : ScanStage). Covers bits fields l (object_of reference) (object_of reference + slot) (Has (suc n)) (state_n (suc n)).at g) ended (covers n) x low below
 
     -- a field that is loaded is that of a pointer

@@ -51,7 +51,7 @@ gives_at_next s next e = ap (λ (o : Option ℕ). given (at_next s o)) e
 next_gives : (s : Scanning) (next : Option ℕ) (out : ℕ) → given (at_next s next) ≡ Some out → next ≡ None
 next_gives s None out e = refl
 next_gives s (Some x) out e = by (x % 64 == 0) e where
-  by : (b : Bool) → given_at s.slot (cond b LoadBitmap LoadField) ≡ Some out → Some x ≡ None
+  by : (b : Bool) → given_at (cond b LoadBitmap LoadField) ≡ Some out → Some x ≡ None
   by true never = absurd (cc)
   by false never = absurd (cc)
 
@@ -107,31 +107,31 @@ only_at s (FindRoom sh r) v out busy e = by (room.gives r v) e where
   by : (o : Option Held) → given (after_room s sh (room.goes r v) o) ≡ Some out → ⊥ × Quiet s (after_room s sh (room.goes r v) o).bits
   by None never = absurd (cc)
   by (Some own) never = absurd (cc)
-only_at s Ended v out busy e = absurd (cc)
+only_at s (Ended words) v out busy e = absurd (cc)
 
 -- once it has given something it has ended, and stays as it is
-pub has_ended : (slot : ℕ) (stage : ScanStage) (out : ℕ) → given_at slot stage ≡ Some out → stage ≡ Ended
-has_ended slot Ended out e = refl
-has_ended slot _ out e = absurd (cc)
+pub has_ended : (stage : ScanStage) (out : ℕ) → given_at stage ≡ Some out → stage ≡ Ended out
+has_ended (Ended words) out e = cc
+has_ended _ out e = absurd (cc)
 
 module _ (l : Layout) (seat reference : ℕ) (held : Option Held) (found : ℕ → ℕ) where
   abbrev state_n : ℕ → Scanning
   state_n n = after l seat reference held found n
 
-  one_more : (n : ℕ) → (state_n n).stage ≡ Ended → (state_n (suc n)).stage ≡ Ended
-  one_more n e = ap (λ (g : ScanStage). (goes_at (state_n n) g (found n)).stage) e ∙ e
+  one_more : (n out : ℕ) → (state_n n).stage ≡ Ended out → (state_n (suc n)).stage ≡ Ended out
+  one_more n out e = ap (λ (g : ScanStage). (goes_at (state_n n) g (found n)).stage) e
 
-  stays_ended : (n k : ℕ) → (state_n n).stage ≡ Ended → n ≤ k → (state_n k).stage ≡ Ended
-  stays_ended n zero e le =
+  stays_ended : (n k out : ℕ) → (state_n n).stage ≡ Ended out → n ≤ k → (state_n k).stage ≡ Ended out
+  stays_ended n zero out e le =
       let same : n ≡ 0 = omega arith in
-      subst (λ (m : ℕ). (state_n m).stage ≡ Ended) same e
-  stays_ended n (suc k) e le =
+      subst (λ (m : ℕ). (state_n m).stage ≡ Ended out) same e
+  stays_ended n (suc k) out e le =
       let lt : n < suc k + 1 = omega arith in
-      below_more (λ (m : ℕ). (state_n m).stage ≡ Ended → (state_n (suc k)).stage ≡ Ended) (suc k) (λ m less ended. one_more k (stays_ended m k ended (omega arith))) (λ ended. ended) n lt e
+      below_more (λ (m : ℕ). (state_n m).stage ≡ Ended out → (state_n (suc k)).stage ≡ Ended out) (suc k) (λ m less ended. one_more k out (stays_ended m k out ended (omega arith))) (λ ended. ended) n lt e
 
   -- from step n on there is nothing to be done
-  pub rests : (n k out : ℕ) → EndsWith listing (from l seat reference held found) found n out → n < k → (state_n k).stage ≡ Ended
-  rests n k out e lt = stays_ended (suc n) k (has_ended (state_n (suc n)).slot (state_n (suc n)).stage out e) (omega arith)
+  pub rests : (n k out : ℕ) → EndsWith listing (from l seat reference held found) found n out → n < k → (state_n k).stage ≡ Ended out
+  rests n k out e lt = stays_ended (suc n) k out (has_ended (state_n (suc n)).stage out e) (omega arith)
 
   abbrev slot : ℕ
   slot = slot_told l seat reference held found

@@ -248,13 +248,13 @@ module _ (k : Known) (z : Cycle) (a : ℕ) (s : Shared) (rest : InHand) (g : Goo
           (λ t w h. (h.0, found-room t h.0 f (room.gives r f) refl facts h.1))
           (k.room.finds.own_step z a s with_pending r g objects facts)
 
-  own-at : (p : ScanStage) → Facts z a s rest m → StageFacts z a s rest m p → Leads (asks_at m p) (goes_at m p (s.words (cell_of (asks_at m p))))
-  own-at LoadPage whole x = page x
-  own-at LoadBitmap whole x = bitmap x.0 x.1
-  own-at LoadField whole x = field x.0 x.2 x.1
-  own-at (Shading sh) whole x = shades sh x.0 x.1
-  own-at (FindRoom sh r) whole x = finds sh x.0 r x.1 x.2 x.3
-  own-at Ended whole x = still cell.Touch m whole
+  own-at : (p : ScanStage) → StageFacts z a s rest m p → Leads (asks_at m p) (goes_at m p (s.words (cell_of (asks_at m p))))
+  own-at LoadPage x = page x
+  own-at LoadBitmap x = bitmap x.0 x.1
+  own-at LoadField x = field x.0 x.2 x.1
+  own-at (Shading sh) x = shades sh x.0 x.1
+  own-at (FindRoom sh r) x = finds sh x.0 r x.1 x.2 x.3
+  own-at (Ended words) x = still cell.Touch (at_stage m (Ended words)) (record { layout_is = layout_is; seat_is = seat_is; known = known; stage_is = x })
 
 stage-lasts : (k : Known) (z : Cycle) (a : ℕ) (s t : Shared) (rest : InHand) (m : Scanning) (p : ScanStage) → Others z a s t → s.since (object_of m.reference) ≡ true → StageFacts z a s rest m p → StageFacts z a t rest m p
 stage-lasts k z a s t rest m LoadPage o known x = k.last z a s t (in_hand rest m.held (Some (object_of m.reference))) o x
@@ -271,16 +271,16 @@ stage-lasts k z a s t rest m (FindRoom sh r) o known x = (
   o.keeps.marks (shade.object_of sh.reference) x.2,
   k.room.finds.lasts z a s t (record rest { pending = Some (shade.object_of sh.reference); scanning = Some (object_of m.reference) }) r o x.3,
 )
-stage-lasts k z a s t rest m Ended o known x = k.last z a s t (in_hand rest m.held None) o x
+stage-lasts k z a s t rest m (Ended words) o known x = k.last z a s t (in_hand rest m.held None) o x
 
-ended-at : (z : Cycle) (a : ℕ) (s : Shared) (rest : InHand) (n : Scanning) (p : ScanStage) (words : ℕ) → given_at n.slot p ≡ Some words → StageFacts z a s rest n p → Hands a s (in_hand rest n.held None)
-ended-at z a s rest n Ended words e x = x
+ended-at : (z : Cycle) (a : ℕ) (s : Shared) (rest : InHand) (n : Scanning) (p : ScanStage) (words : ℕ) → given_at p ≡ Some words → StageFacts z a s rest n p → Hands a s (in_hand rest n.held None)
+ended-at z a s rest n (Ended slot) words e x = x
 ended-at z a s rest n _ words e x = absurd (cc)
 
 pub scans-by-moves : Known → ScansByMoves
 scans-by-moves k = record {
   keeps = record {
-    own_step = λ z a s rest m g objects f. own-at k z a s rest g objects m f.layout_is f.seat_is f.known m.stage f f.stage_is;
+    own_step = λ z a s rest m g objects f. own-at k z a s rest g objects m f.layout_is f.seat_is f.known m.stage f.stage_is;
     lasts = λ z a s t rest m o f. record { layout_is = f.layout_is; seat_is = f.seat_is; known = o.keeps.since (object_of m.reference) f.known; stage_is = stage-lasts k z a s t rest m m.stage o f.known f.stage_is };
   };
   begins = λ z a s rest reference held known x. record { layout_is = refl; seat_is = refl; known = known; stage_is = x };

@@ -157,11 +157,11 @@ module _ (k : KnownOfFacts) (z : Cycle) (a : ℕ) (t : Shared) (rest : InHand) (
     abbrev Goal : Scanning → Type 0
     Goal then = Lands z a t t.words (λ u. Keeps z a t u × Facts z a u rest then)
 
-    blackens : Skips n.bits (n.at + 1) (end n) None → Goal (at_stage n Ended)
+    blackens : Skips n.bits (n.at + 1) (end n) None → Goal (at_stage n (Ended n.slot))
     blackens none =
         let all : CleanBefore t.extents (mark_words t.words) (field_words t.words) o (end n) = clean-to (end n) (omega (arith, stop)) (λ y le lt. none y le lt) in
         let may : (t.colour o ≡ Taken a) × ((j : ℕ) → IsPointer t.extents o j → IsClean (mark_words t.words) (t.words (cell.Field (o + j)))) = (taken, λ j l. all j l (omega (arith, l.0, d.is_at.slot_is))) in
-        lands_by z a t t.words (λ u. Keeps z a t u × Facts z a u rest (at_stage n Ended)) (Blacken o) may refl
+        lands_by z a t t.words (λ u. Keeps z a t u × Facts z a u rest (at_stage n (Ended n.slot))) (Blacken o) may refl
         (k.leave z a t (Blacken o) g may tt, record { layout_is = d.layout_is; seat_is = d.seat_is; known = d.known; stage_is = (k.follow z a t (in_hand rest n.held (Some o)) g d.hands).blackened o refl })
 
     goes-on : (q : ℕ) → Skips n.bits (n.at + 1) (end n) (Some q) → Goal (record n { at = q; stage = loads_at q })

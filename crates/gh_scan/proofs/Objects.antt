@@ -58,7 +58,7 @@ module _ (l : Layout) (seat reference : ℕ) (held : Option Held) (found : ℕ �
       by true t = ltb-true _ _ t
       by false t =
           let le : suc n ≤ k = ltb-false _ _ t in
-          let ended : (state_n k).stage ≡ Ended = rests l seat reference held found n k w e (omega arith) in
+          let ended : (state_n k).stage ≡ Ended w = rests l seat reference held found n k w e (omega arith) in
           let idle : asks (state_n k) ≡ Load Touch = ap (asks_at (state_n k)) ended in
           let same : Load c ≡ Load Touch = sym a ∙ idle in
           absurd (other (cc))

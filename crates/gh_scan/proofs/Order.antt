@@ -38,7 +38,7 @@ module _ (l : Layout) (seat reference slot : ℕ) where
 
   abbrev Lies : (x : ℕ) → ScanStage → Type 0
   Lies x LoadPage = ⊥
-  Lies x Ended = Unit {0}
+  Lies x (Ended words) = words ≡ slot
   Lies x _ = x < stop
 
   -- it is at a word of the slot, and not before this one
@@ -60,7 +60,7 @@ module _ (l : Layout) (seat reference slot : ℕ) where
     le = omega arith
 
     by : (next : Option ℕ) → Between x stop next → Is x (at_next (state h x w stage) next)
-    by None b = record { held = h; at = x; word = w; stage = Ended; is = refl; lies = tt; up = omega arith }
+    by None b = record { held = h; at = x; word = w; stage = Ended slot; is = refl; lies = refl; up = omega arith }
     by (Some z) b = at_word (z % 64 == 0) where
       at_word : (zero_there : Bool) → Is x (state h z w (cond zero_there LoadBitmap LoadField))
       at_word true = record { held = h; at = z; word = w; stage = LoadBitmap; is = refl; lies = b.1; up = b.0 }
@@ -88,17 +88,17 @@ module _ (l : Layout) (seat reference slot : ℕ) where
     by : (next : room.RoomFinding) (out : Option Held) → Is x (after_room (state h x w (FindRoom sh r)) sh next out)
     by next None = record { held = h; at = x; word = w; stage = FindRoom sh next; is = refl; lies = k; up = same x }
     by next (Some own) = record { held = h; at = x; word = w; stage = Shading (shade.told_room sh own); is = refl; lies = k; up = same x }
-  step v h x w Ended k = record { held = h; at = x; word = w; stage = Ended; is = refl; lies = tt; up = same x }
+  step v h x w (Ended words) k = record { held = h; at = x; word = w; stage = Ended words; is = refl; lies = k; up = same x }
 
   goes_up : (s : Scanning) (v low : ℕ) → Is low s → Is s.at (goes s v)
   goes_up s v low i = subst (λ (t : Scanning). Is t.at (goes t v)) (sym i.is) (step v i.held i.at i.word i.stage i.lies)
 
-  ended : (stage : ScanStage) (out : ℕ) → given_at slot stage ≡ Some out → out ≡ slot
-  ended Ended out e = sym (some_is e)
-  ended _ out e = absurd (cc)
+  ended : (x : ℕ) (stage : ScanStage) (out : ℕ) → Lies x stage → given_at stage ≡ Some out → out ≡ slot
+  ended x (Ended words) out k e = sym (some_is e) ∙ k
+  ended x _ out k e = absurd (cc)
 
   busy_below : (x : ℕ) (stage : ScanStage) → Lies x stage → is_busy stage ≡ true → x < stop
-  busy_below x Ended k e = absurd (cc)
+  busy_below x (Ended words) k e = absurd (cc)
   busy_below x LoadPage k e = absurd k
   busy_below x _ k e = k
 
@@ -143,7 +143,7 @@ module _ (l : Layout) (seat reference : ℕ) (held : Option Held) (found : ℕ �
     gives_slot : (n w : ℕ) → EndsWith listing (from l seat reference held found) found n w → w ≡ slot
     gives_slot n w e =
         let i = (lying n).is in
-        ended l seat reference slot i.stage w (sym (ap given i.is) ∙ e)
+        ended l seat reference slot i.at i.stage w i.lies (sym (ap given i.is) ∙ e)
 
     within : (n : ℕ) → GoesOn listing (from l seat reference held found) found (suc n) → (state_n (suc n)).at < object_of reference + slot
     within n e =

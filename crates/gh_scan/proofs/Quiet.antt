@@ -32,8 +32,7 @@ tries t _ = tt
 
 takes : (t : take.EntryTaking) (stage : TakeStage) → IsQuiet (take.asks_at t stage)
 takes t (take_stage.Try a) = tries a a.stage
-takes t (take_stage.Take h) = tt
-takes t (take_stage.Ended held) = tt
+takes t _ = tt
 
 finds_room : (r : room.RoomFinding) (stage : RoomStage) → IsQuiet (room.asks_at r stage)
 finds_room r (room_stage.GiveBack h) = tt

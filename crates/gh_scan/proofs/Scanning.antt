@@ -109,7 +109,7 @@ module _ (bits fields : Row) (l : Layout) where
     Knows x w done LoadField = AtField x w done
     Knows x w done (Shading sh) = AtShade x w done
     Knows x w done (FindRoom sh r) = AtShade x w done
-    Knows x w done Ended = done ≡ all
+    Knows x w done (Ended words) = done ≡ all
 
     pub record Is (s : Scanning) (done : List ℕ) : Type 0 where
       pub held : Option Held
@@ -135,7 +135,7 @@ module _ (bits fields : Row) (l : Layout) where
       later ne = k.word ∙ ap (λ (q : ℕ). bits (q % (16 * l.pages))) (sym (same_word x ne))
 
       by : (next : Option ℕ) → Reaches w stop (refs_from stop (x + 1)) next → Is (at_next (state h x w stage) next) done × (shaded_at (at_next (state h x w stage) next).stage ≡ [])
-      by None r = (record { held = h; at = x; word = w; stage = Ended; is = refl; knows = sym (append_nil done) ∙ ap (λ (ls : List ℕ). done ++ ls) (sym r) ∙ k.left }, refl)
+      by None r = (record { held = h; at = x; word = w; stage = Ended slot; is = refl; knows = sym (append_nil done) ∙ ap (λ (ls : List ℕ). done ++ ls) (sym r) ∙ k.left }, refl)
       by (Some z) r = at_word (z % 64 == 0) refl where
         left : done ++ refs_from stop z ≡ all
         left = ap (λ (ls : List ℕ). done ++ ls) (sym r.same) ∙ k.left
@@ -191,7 +191,7 @@ module _ (bits fields : Row) (l : Layout) where
         by : (next : room.RoomFinding) (out : Option Held) → Is (after_room (state h x w (FindRoom sh r)) sh next out) done
         by next None = record { held = h; at = x; word = w; stage = FindRoom sh next; is = refl; knows = k }
         by next (Some own) = record { held = h; at = x; word = w; stage = Shading (shade.told_room sh own); is = refl; knows = k }
-      step h x w Ended done k f = with_none _ done [] refl (record { held = h; at = x; word = w; stage = Ended; is = refl; knows = k })
+      step h x w (Ended words) done k f = with_none _ done [] refl (record { held = h; at = x; word = w; stage = Ended words; is = refl; knows = k })
 
 module _ (l : Layout) (seat reference : ℕ) (held : Option Held) (found : ℕ → ℕ) (some : 1 ≤ slot_told l seat reference held found) where
   abbrev slot : ℕ
@@ -217,8 +217,8 @@ module _ (l : Layout) (seat reference : ℕ) (held : Option Held) (found : ℕ �
         record { held = held; at = object_of reference; word = 0; stage = LoadBitmap; is = refl; knows = record { below = below; left = ap (λ (m : ℕ). references_in bits fields l m (object_of reference)) words } }
     is_at (suc n) = step_of (state_n (suc n)) (begun_n (suc n)) (found (suc n)) (is_at n) (record { bits_are = told_rows.bits_are (suc n); fields_are = told_rows.fields_are (suc n) })
 
-    ended : (x w : ℕ) (done : List ℕ) (stage : ScanStage) (out : ℕ) → Knows bits fields l seat reference slot x w done stage → given_at slot stage ≡ Some out → done ≡ all bits fields l seat reference slot
-    ended x w done Ended out k e = k
+    ended : (x w : ℕ) (done : List ℕ) (stage : ScanStage) (out : ℕ) → Knows bits fields l seat reference slot x w done stage → given_at stage ≡ Some out → done ≡ all bits fields l seat reference slot
+    ended x w done (Ended words) out k e = k
     ended x w done _ out k e = absurd (cc)
 
     pub all_begun : (n w : ℕ) → EndsWith listing (from l seat reference held found) found n w → begun_n (suc n) ≡ all bits fields l seat reference slot
@@ -230,7 +230,7 @@ module _ (l : Layout) (seat reference : ℕ) (held : Option Held) (found : ℕ �
   steps_at s LoadPage e = record { cell = Page (object_of s.reference / 1024); loads = ap (asks_at s) e }
   steps_at s LoadBitmap e = record { cell = Bitmap (s.at / 64 % (16 * s.layout.pages)); loads = ap (asks_at s) e }
   steps_at s LoadField e = record { cell = Field (s.at % (1024 * s.layout.pages)); loads = ap (asks_at s) e }
-  steps_at s Ended e = record { cell = Touch; loads = ap (asks_at s) e }
+  steps_at s (Ended words) e = record { cell = Touch; loads = ap (asks_at s) e }
   steps_at s (Shading sh) e = record { asks_it = ap (asks_at s) e; goes_on = goes_on; wants = wants } where
     goes_on : (v : ℕ) → shade.gives sh v ≡ None → (goes s v).stage ≡ Shading (shade.goes sh v)
     goes_on v none = ap (λ (g : ScanStage). (goes_at s g v).stage) e ∙ ap (λ (out : Option Shaded). (after_shade s (shade.goes sh v) out).stage) none

@@ -114,7 +114,7 @@ passes_at s (FindRoom sh r) v is = by (room.goes r v) (room.gives r v) where
   by : (next : room.RoomFinding) (out : Option Held) → Passes (s.at / 64 + 1) (s.at + 1) (after_room s sh next out)
   by next None = record { bits_up = same (s.at / 64 + 1); fields_up = same (s.at + 1) }
   by next (Some own) = record { bits_up = same (s.at / 64 + 1); fields_up = same (s.at + 1) }
-passes_at s Ended v is =
+passes_at s (Ended words) v is =
     let bits : bits_front s.at s.stage ≡ s.at / 64 + 1 = ap (λ (g : ScanStage). bits_front s.at g) is in
     let fields : fields_front s.at s.stage ≡ s.at + 1 = ap (λ (g : ScanStage). fields_front s.at g) is in
     record { bits_up = omega arith; fields_up = omega arith }

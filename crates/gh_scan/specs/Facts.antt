@@ -61,7 +61,7 @@ StageFacts z a s rest m (Shading sh) = Shades s (object_of m.reference) m.slot m
 StageFacts z a s rest m (FindRoom sh r) =
     Shades s (object_of m.reference) m.slot m.at m.bits sh.reference × (1 ≤ sh.reference) × IsMarked (mark_words s.words) (shade.object_of sh.reference)
     × room_facts.RoomFacts z a s (record rest { pending = Some (shade.object_of sh.reference); scanning = Some (object_of m.reference) }) r
-StageFacts z a s rest m Ended = Hands a s (in_hand rest m.held None)
+StageFacts z a s rest m (Ended words) = Hands a s (in_hand rest m.held None)
 
 -- it is this seat's, in this heap, and its object is one of the cycle
 pub record Facts (z : Cycle) (a : ℕ) (s : Shared) (rest : InHand) (m : Scanning) : Type 0 where

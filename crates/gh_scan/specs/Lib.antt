@@ -1,6 +1,7 @@
-pub mod Ends
+pub mod Blind
 pub mod Facts
 pub mod Listing
 pub mod Quiet
 pub mod Scans
 pub mod Sound
+pub mod Stays

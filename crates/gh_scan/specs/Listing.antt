@@ -1,11 +1,12 @@
 -- The scan of an object: what is asked for at each stage, where that leads, and what it gives.
-use Rattle.std.specs.Prelude.{ℕ, zero, suc, ◌+◌, ◌-◌, ◌*◌, ◌/◌, ◌%◌, Bool, true, false, ◌==◌, ◌||◌, if◌then◌else◌, Option, Some, None}
+use Rattle.std.specs.Prelude.{ℕ, zero, suc, ◌+◌, ◌-◌, ◌*◌, ◌/◌, ◌%◌, Bool, ◌==◌, ◌||◌, if◌then◌else◌, Option, Some, None, is_none}
 use Rattle.std.specs.Int.{bit_at}
 use Rattle.gh_base.specs.declared.cell.Cell.TheVariants.{Touch, Page, Bitmap, Field}
 use Rattle.gh_base.specs.declared.cell.Ask.{Ask}
 use Rattle.gh_base.specs.declared.cell.Ask.TheVariants.{Load}
 use Rattle.gh_base.specs.declared.held.Held.{Held}
 use Rattle.gh_base.specs.declared.layout.Layout.{Layout}
+use Rattle.gh_base.specs.Given.{listing_of}
 use Rattle.gh_base.specs.Packing.{page_of, slot_in}
 use Rattle.gh_base.specs.Routines.{Listing}
 use Rattle.gh_scan.specs.declared.scan.ScanStage.{ScanStage}
@@ -78,11 +79,11 @@ module _ (s : Scanning) where
   asks_at LoadField = Load (Field (s.at % (1024 * s.layout.pages)))
   asks_at (Shading sh) = shade.asks sh
   asks_at (FindRoom sh r) = room.asks r
-  asks_at Ended = Load Touch
+  asks_at (Ended words) = Load Touch
 
-  -- it goes on at this heap word, or ends where there is none
+  -- it goes on at this heap word, or ends with the words of the slot where there is none
   abbrev pub at_next : Option ℕ → Scanning
-  at_next None = at_stage s Ended
+  at_next None = at_stage s (Ended s.slot)
   at_next (Some x) = record s { at = x; stage = loads_at x }
 
 -- it is done with the word that it is at
@@ -114,18 +115,15 @@ goes_at s LoadBitmap found = with_bits s found
 goes_at s LoadField found = with_field s found
 goes_at s (Shading sh) found = after_shade s (shade.goes sh found) (shade.gives sh found)
 goes_at s (FindRoom sh r) found = after_room s sh (room.goes r found) (room.gives r found)
-goes_at s Ended found = s
+goes_at s (Ended words) found = at_stage s (Ended words)
+
+-- where it has ended it has given the words that it has scanned
+abbrev pub given_at : ScanStage → Option ℕ
+given_at (Ended words) = Some words
+given_at _ = None
 
 abbrev pub is_busy : ScanStage → Bool
-is_busy (Shading sh) = shade.is_busy sh.stage
-is_busy (FindRoom sh r) = room.is_busy r.stage
-is_busy Ended = false
-is_busy _ = true
-
--- where it has ended it gives the words that it has scanned, those of the slot
-abbrev pub given_at : (slot : ℕ) → ScanStage → Option ℕ
-given_at slot Ended = Some slot
-given_at slot _ = None
+is_busy stage = is_none (given_at stage)
 
 abbrev pub asks : Scanning → Ask
 asks s = asks_at s s.stage
@@ -134,10 +132,10 @@ abbrev pub goes : Scanning → ℕ → Scanning
 goes s found = goes_at s s.stage found
 
 abbrev pub given : Scanning → Option ℕ
-given s = given_at s.slot s.stage
+given s = given_at s.stage
 
 abbrev pub gives : Scanning → ℕ → Option ℕ
 gives s found = given (goes s found)
 
 abbrev pub listing : Listing Scanning ℕ
-listing = record { layout = λ s. s.layout; busy = λ s. is_busy s.stage; asks = asks; goes = goes; gives = gives }
+listing = listing_of (λ s. s.layout) asks goes given

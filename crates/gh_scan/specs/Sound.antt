@@ -1,5 +1,5 @@
 -- What the scan of an object knows of its own numbers, whatever it is told.
-use Rattle.std.specs.Prelude.{◌≡◌, ◌^◌, ◌<◌}
+use Rattle.std.specs.Prelude.{◌≡◌, ◌^◌, ◌<◌, Bool, true}
 use Rattle.gh_base.specs.declared.layout.Layout.{Layout}
 use Rattle.gh_base.specs.Cells.{seats_of}
 use Rattle.gh_base.specs.Holding.{IsHeld}
@@ -11,15 +11,20 @@ use Rattle.gh_shade.specs.Listing as shade
 use Rattle.gh_shade.specs.Sound.{IsReference}
 use Rattle.gh_wbuf.specs.RoomFinding as room
 
--- the shading waits for the room that is looked for, in the same heap
-pub record WaitsForRoom (l : Layout) (sh : shade.Shading) (r : room.RoomFinding) : Type 0 where
+-- a routine of the same heap that asks for a step
+pub record Runs (l own : Layout) (is_busy : Bool) : Type 0 where
+  pub layout : own ≡ l
+  pub busy : is_busy ≡ true
+
+-- the shading waits for the room that is looked for
+pub record Waits (l : Layout) (sh : shade.Shading) (r : room.RoomFinding) : Type 0 where
   pub shade_in : sh.layout ≡ l
   pub waits : sh.stage ≡ WaitForRoom
-  pub room_in : r.layout ≡ l
+  pub runs : Runs l r.layout (room.is_busy r.stage)
 
 abbrev pub FitsStage : Layout → ScanStage → Type 0
-FitsStage l (Shading sh) = sh.layout ≡ l
-FitsStage l (FindRoom sh r) = WaitsForRoom l sh r
+FitsStage l (Shading sh) = Runs l sh.layout (shade.is_busy sh.stage)
+FitsStage l (FindRoom sh r) = Waits l sh r
 FitsStage l _ = Unit {0}
 
 pub record FitsScan (s : Scanning) : Type 0 where

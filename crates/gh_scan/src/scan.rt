@@ -1,15 +1,14 @@
 //! The routine that scans an object.
 
-ghost use Rattle.std.specs.Prelude.{◌≡◌, ◌+◌, ◌*◌, ◌^◌, ◌<◌, ◌≤◌, IfSome, Option, true};
+ghost use Rattle.std.specs.Prelude.{◌≡◌, ◌+◌, ◌*◌, ◌^◌, ◌<◌, ◌≤◌, IfSome, true};
 ghost use Rattle.gh_base.specs.Cells.{InRange, seats_of};
 ghost use Rattle.gh_base.specs.Holding.{IsHeld};
 ghost use Rattle.gh_base.specs.Packing.{page_of, slot_in};
 ghost use Rattle.gh_base.specs.Steps.{cell_of};
-ghost use Rattle.gh_scan.specs.Listing.{after_room, after_shade, at_next, behind, given, goes_at, held_at, is_busy, is_loaded, is_pointer, loads_at, next_from, object_of, opening, reference_in, with_bits, with_field};
-ghost use Rattle.gh_shade.specs.declared.shade.ShadeStage.TheVariants.{WaitForRoom};
+ghost use Rattle.gh_scan.specs.Listing.{at_next, behind, given, goes_at, held_at, is_busy, is_loaded, is_pointer, loads_at, next_from, object_of, opening, reference_in, with_bits, with_field};
+ghost use Rattle.gh_scan.specs.Sound.{Runs, Waits};
+ghost use Rattle.gh_shade.specs.Listing as shades;
 ghost use Rattle.gh_shade.specs.Sound.{IsReference};
-ghost use Rattle.gh_wbuf.specs.TrySound.{GivesServing};
-ghost use Rattle.gh_wbuf.specs.declared.try_buffer.Wish.TheVariants.{Room};
 
 use gh_base::{Ask, Cell, Held, Layout, Machine, PageWord, Req};
 use gh_class::size_class_laws;
@@ -30,8 +29,8 @@ pub enum ScanStage {
     Shading(Shade),
     /// It looks for a buffer with room, which that shading waits for.
     FindRoom(Shade, FindRoom),
-    /// It has ended.
-    Ended,
+    /// It has ended, and has scanned so many words.
+    Ended(u32),
 }
 
 /// Scans an object (Go's `scanobject`, mgcmark.go).
@@ -143,7 +142,7 @@ impl Scan {
         ensures { self.new ≡ behind self.old }
     {
         match next_from(self.bits, self.object() + self.slot, self.at + 1) {
-            None => self.stage = ScanStage::Ended,
+            None => self.stage = ScanStage::Ended(self.slot),
             Some(x) => {
                 self.at = x;
                 self.stage = if x % 64 == 0 {
@@ -189,57 +188,55 @@ impl Scan {
         }
     }
 
-    /// Goes on after a step of this shading.
-    fn after_shade(&mut self, shade: &Shade, out: Option<Shaded>)
-        requires layout { shade.now.layout ≡ self.old.layout }
-        requires waits { out ≡ Option.Some Shaded.WantsRoom → shade.now.stage ≡ WaitForRoom }
-        ensures { self.new ≡ after_shade self.old shade.now out }
+    /// Takes a step of this shading.
+    fn shade(&mut self, shade: Shade, found: u64)
+        requires { Runs self.old.layout shade.layout (shades.is_busy shade.stage) }
+        ensures { self.new ≡ goes_at self.old (ScanStage.Shading shade) found }
     {
-        match out {
-            None => self.stage = ScanStage::Shading(*shade),
+        let mut shade = shade;
+        match shade.take(found) {
+            None => self.stage = ScanStage::Shading(shade),
             Some(Shaded::Done) => {
                 self.held = shade.held();
                 self.go_on();
             }
             Some(Shaded::WantsRoom) => {
                 let room = FindRoom::new(&self.layout, self.seat, shade.held());
-                self.stage = ScanStage::FindRoom(*shade, room);
+                self.stage = ScanStage::FindRoom(shade, room);
             }
         }
     }
 
-    /// Goes on after a step of this search for room, which that shading waits for.
-    fn after_room(&mut self, shade: &Shade, room: &FindRoom, out: Option<Held>)
-        requires shade { shade.now.layout ≡ self.old.layout }
-        requires waits { shade.now.stage ≡ WaitForRoom }
-        requires room { room.now.layout ≡ self.old.layout }
-        requires serves { GivesServing self.old.layout Room (Option.Some out) }
-        ensures { self.new ≡ after_room self.old shade.now room.now out }
+    /// Takes a step of this search for room, which that shading waits for.
+    fn find_room(&mut self, shade: Shade, room: FindRoom, found: u64)
+        requires { Waits self.old.layout shade room }
+        ensures { self.new ≡ goes_at self.old (ScanStage.FindRoom shade room) found }
     {
-        match out {
-            None => self.stage = ScanStage::FindRoom(*shade, *room),
+        let (mut shade, mut room) = (shade, room);
+        match room.take(found) {
+            None => self.stage = ScanStage::FindRoom(shade, room),
             Some(held) => {
-                let mut shade = *shade;
                 shade.told_room(held);
                 self.stage = ScanStage::Shading(shade);
             }
         }
     }
 
-    /// What it gives now: the words that it has scanned, where it has ended.
+    /// What it has given: the words that it has scanned, where it has ended.
     fn given(&self) -> Option<u32>
         ensures { result ≡ given self.now }
     {
         match self.stage {
-            ScanStage::Ended => Some(self.slot),
+            ScanStage::Ended(words) => Some(words),
             _ => None,
         }
     }
 }
 
 impl Machine for Scan {
+    ghost use Rattle.gh_base.specs.Given.{is_over};
     ghost use Rattle.gh_scan.specs.Listing.{listing};
-    ghost use Rattle.gh_scan.specs.Ends as proved;
+    ghost use Rattle.gh_scan.specs.Stays.{stays};
 
     type Out = u32;
 
@@ -262,32 +259,30 @@ impl Machine for Scan {
             ScanStage::LoadField => Ask::Load(Cell::Field(self.at % (1024 * self.layout.pages))),
             ScanStage::Shading(shade) => return shade.next(),
             ScanStage::FindRoom(_, room) => return room.next(),
-            ScanStage::Ended => Ask::Load(Cell::Touch),
+            ScanStage::Ended(_) => Ask::Load(Cell::Touch),
         };
         self.layout.request(ask)
     }
 
     fn take(&mut self, found: u64) -> Option<u32> {
-        match &mut self.stage {
+        match &self.stage {
             ScanStage::LoadPage => self.begin(found),
             ScanStage::LoadBitmap => self.read_bits(found),
             ScanStage::LoadField => self.read_field(found),
             ScanStage::Shading(shade) => {
-                let out = shade.take(found);
                 let shade = *shade;
-                self.after_shade(&shade, out);
+                self.shade(shade, found);
             }
             ScanStage::FindRoom(shade, room) => {
-                let out = room.take(found);
                 let (shade, room) = (*shade, *room);
-                self.after_room(&shade, &room, out);
+                self.find_room(shade, room, found);
             }
-            ScanStage::Ended => {}
+            ScanStage::Ended(_) => {}
         }
         self.given()
     }
 
-    ghost ends = { proved.ends };
+    ghost ends = { λ m found busy. is_over (listing.gives m found) };
 
-    ghost stays = { proved.stays };
+    ghost stays = { stays };
 }

@@ -10,9 +10,8 @@ use Rattle.gh_marks.specs.Laws.{EachHandFollows, EachHandLasts, EachOwnMoveLeave
 use Rattle.gh_marks.specs.Moves as move
 use Rattle.gh_marks.specs.Moves.{Keeps, MayEnter, Steps, lands_by, lands_still, moved, set_mark}
 use Rattle.gh_marks.specs.Seats.{Hands, InHand}
-use Rattle.gh_shade.specs.declared.shade.Shaded.{Shaded}
 use Rattle.gh_shade.specs.Facts.{Facts, IsShaded, ShadesByMoves, StageFacts, WaitsForRoom, in_hand, pending_at}
-use Rattle.gh_shade.proofs.Vocabulary.{after_mark, asks_at, at_stage, bit_at, Cell, Done, Ended, Enter, enters, Entry, gives_at, gives_mark, goes, goes_at, has_place, HasPlace, Held, is_whole, LoadPage, Mark, mark_words, object_of, Page, page_noscan, page_of, put, raised, row_bit, RowsAreWritten, SetMark, ShadeStage, Shading, Touch, WaitForRoom, WantsRoom}
+use Rattle.gh_shade.proofs.Vocabulary.{after_mark, asks_at, at_stage, bit_at, Cell, Done, Ended, Enter, enters, Entry, given_at, goes, goes_at, has_place, HasPlace, Held, is_whole, LoadPage, Mark, mark_words, object_of, Page, page_noscan, page_of, put, raised, row_bit, RowsAreWritten, SetMark, ShadeStage, Shading, Touch, WaitForRoom, WantsRoom}
 use Rattle.gh_shade.proofs.Knowing.{placed}
 
 pub record Known : Type 0 where
@@ -97,9 +96,9 @@ module _ (k : Known) (z : Cycle) (a : ℕ) (s : Shared) (rest : InHand) (g : Goo
   own-at : (p : ShadeStage) → KnowsObjects z s → Facts z a s rest m → 1 ≤ m.reference → StageFacts s o m.held p → Hands a s (in_hand rest m.held (pending_at o p)) → Steps z a s (asks_at m p) (Leads (goes_at m p (s.words (cell_of (asks_at m p)))))
   own-at LoadPage objects f some stage x = page objects some stage x
   own-at (SetMark noscan) objects f some stage x = marks noscan some stage.0 stage.1 x
-  own-at WaitForRoom objects f some stage x = still Touch m f
+  own-at WaitForRoom objects f some stage x = still Touch (at_stage m WaitForRoom) (record { some = some; stage_is = stage; hands = x })
   own-at Enter objects f some stage x = enters-it some stage.0 m.held stage.1 x
-  own-at Ended objects f some stage x = still Touch m f
+  own-at Ended objects f some stage x = still Touch (at_stage m Ended) (record { some = some; stage_is = stage; hands = x })
 
 stage-lasts : (z : Cycle) (a : ℕ) (s t : Shared) (o : ℕ) (held : Option Held) (p : ShadeStage) → Keeps z a s t → StageFacts s o held p → StageFacts t o held p
 stage-lasts z a s t o held LoadPage k f = k.since o f
@@ -108,20 +107,14 @@ stage-lasts z a s t o held WaitForRoom k f = k.marks o f
 stage-lasts z a s t o held Enter k f = (k.marks o f.0, f.1)
 stage-lasts z a s t o held Ended k f = k.marks o f
 
--- what is given says at which stage it is then
-gives-mark : (q : ShadeStage) (out : Shaded) → gives_mark q ≡ Some out → ((out ≡ Done) → q ≡ Ended) × ((out ≡ WantsRoom) → q ≡ WaitForRoom)
-gives-mark WaitForRoom out e = ((λ d. cc), (λ d. refl))
-gives-mark Ended out e = ((λ d. refl), (λ d. cc))
-gives-mark _ out e = absurd (cc)
+-- what is given says at which stage it is
+done-at : (q : ShadeStage) → given_at q ≡ Some Done → q ≡ Ended
+done-at Ended e = refl
+done-at _ e = absurd (cc)
 
-ended-at : (m : Shading) (p : ShadeStage) (f : ℕ) → gives_at m p f ≡ Some Done → (goes_at m p f).stage ≡ Ended
-ended-at m (SetMark noscan) f e = (gives-mark (after_mark m.held (is_whole m noscan f)) Done e).0 refl
-ended-at m Enter f e = refl
-ended-at m _ f e = absurd (cc)
-
-waits-at : (m : Shading) (p : ShadeStage) (f : ℕ) → gives_at m p f ≡ Some WantsRoom → (goes_at m p f).stage ≡ WaitForRoom
-waits-at m (SetMark noscan) f e = (gives-mark (after_mark m.held (is_whole m noscan f)) WantsRoom e).1 refl
-waits-at m _ f e = absurd (cc)
+wants-at : (q : ShadeStage) → given_at q ≡ Some WantsRoom → q ≡ WaitForRoom
+wants-at WaitForRoom e = refl
+wants-at _ e = absurd (cc)
 
 same-at : (m : Shading) (p : ShadeStage) (f : ℕ) → (goes_at m p f).reference ≡ m.reference
 same-at m LoadPage f = refl
@@ -152,9 +145,9 @@ shades-by-moves k = record {
   };
   begins = λ z a s rest l reference held some known x. record { some = some; stage_is = known; hands = x };
   told = λ z a s rest m h some set few x. record { some = some; stage_is = (set, few); hands = x };
-  ends = λ z a s rest m found e f. shaded-then z a s rest (goes m found) (ended-at m m.stage found e) f;
-  wants = λ z a s rest m found e f. waits-then z a s rest (goes m found) (waits-at m m.stage found e) f;
+  ends = λ z a s rest m found e f. shaded-then z a s rest (goes m found) (done-at (goes m found).stage e) f;
+  wants = λ z a s rest m found e f. waits-then z a s rest (goes m found) (wants-at (goes m found).stage e) f;
   same = λ m found. same-at m m.stage found;
-  ended = λ m found e. ended-at m m.stage found e;
-  waiting = λ m found e. waits-at m m.stage found e;
+  ended = λ m found e. done-at (goes m found).stage e;
+  waiting = λ m found e. wants-at (goes m found).stage e;
 }

@@ -1,4 +1,5 @@
-pub mod Ends
+pub mod Blind
 pub mod Facts
 pub mod Listing
 pub mod Sound
+pub mod Stays

@@ -1,5 +1,5 @@
--- Shading an object: what is asked for at each stage, where that leads, and what it gives.
-use Rattle.std.specs.Prelude.{ℕ, ◌+◌, ◌-◌, ◌/◌, ◌%◌, ◌^◌, Bool, true, false, nat_lt, ◌==◌, ◌||◌, if◌then◌else◌, Option, Some, None}
+-- Shading an object: what is asked for at each stage, where that leads, and what it has given.
+use Rattle.std.specs.Prelude.{ℕ, ◌+◌, ◌-◌, ◌/◌, ◌%◌, ◌^◌, Bool, false, nat_lt, ◌==◌, ◌||◌, if◌then◌else◌, Option, Some, None, is_none}
 use Rattle.std.specs.Int.{bit_at}
 use Rattle.gh_base.specs.declared.cell.Cell.TheVariants.{Touch, Page, Mark, Entry}
 use Rattle.gh_base.specs.declared.cell.Ask.{Ask}
@@ -9,6 +9,7 @@ use Rattle.gh_base.specs.declared.layout.Layout.{Layout}
 use Rattle.gh_base.specs.declared.pack.TheConstants.{ENTRIES}
 use Rattle.gh_base.specs.declared.value.Value.{Value}
 use Rattle.gh_base.specs.declared.value.Value.TheVariants as value
+use Rattle.gh_base.specs.Given.{listing_of}
 use Rattle.gh_base.specs.Packing.{page_noscan, page_of}
 use Rattle.gh_base.specs.Routines.{Listing}
 use Rattle.gh_shade.specs.declared.shade.Shaded.{Shaded}
@@ -75,12 +76,6 @@ raised (Some h) = Some (record h { count = h.count + 1 })
 abbrev pub after_mark : Option Held → (ends : Bool) → ShadeStage
 after_mark held ends = if ends then Ended else if has_place held then Enter else WaitForRoom
 
--- what it gives where this follows
-abbrev pub gives_mark : ShadeStage → Option Shaded
-gives_mark Ended = Some Done
-gives_mark WaitForRoom = Some WantsRoom
-gives_mark _ = None
-
 module _ (s : Shading) where
   abbrev pub object : ℕ
   object = object_of s.reference
@@ -99,23 +94,18 @@ module _ (s : Shading) where
   abbrev pub goes_at : ShadeStage → ℕ → Shading
   goes_at LoadPage found = at_stage s (SetMark (page_noscan (page_of found)))
   goes_at (SetMark noscan) found = at_stage s (after_mark s.held (is_whole noscan found))
-  goes_at WaitForRoom found = s
+  goes_at WaitForRoom found = at_stage s WaitForRoom
   goes_at Enter found = record s { held = raised s.held; stage = Ended }
-  goes_at Ended found = s
+  goes_at Ended found = at_stage s Ended
 
-  abbrev pub gives_at : ShadeStage → ℕ → Option Shaded
-  gives_at LoadPage found = None
-  gives_at (SetMark noscan) found = gives_mark (after_mark s.held (is_whole noscan found))
-  gives_at WaitForRoom found = None
-  gives_at Enter found = Some Done
-  gives_at Ended found = None
+-- where it waits for room it has given that wish, and where it has ended that the object is shaded
+abbrev pub given_at : ShadeStage → Option Shaded
+given_at WaitForRoom = Some WantsRoom
+given_at Ended = Some Done
+given_at _ = None
 
 abbrev pub is_busy : ShadeStage → Bool
-is_busy LoadPage = true
-is_busy (SetMark noscan) = true
-is_busy WaitForRoom = false
-is_busy Enter = true
-is_busy Ended = false
+is_busy stage = is_none (given_at stage)
 
 abbrev pub asks : Shading → Ask
 asks s = asks_at s s.stage
@@ -123,8 +113,11 @@ asks s = asks_at s s.stage
 abbrev pub goes : Shading → ℕ → Shading
 goes s found = goes_at s s.stage found
 
+abbrev pub given : Shading → Option Shaded
+given s = given_at s.stage
+
 abbrev pub gives : Shading → ℕ → Option Shaded
-gives s found = gives_at s s.stage found
+gives s found = given (goes s found)
 
 abbrev pub listing : Listing Shading Shaded
-listing = record { layout = λ s. s.layout; busy = λ s. is_busy s.stage; asks = asks; goes = goes; gives = gives }
+listing = listing_of (λ s. s.layout) asks goes given

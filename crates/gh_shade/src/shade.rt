@@ -4,7 +4,7 @@ ghost use Rattle.std.specs.Prelude.{◌≡◌, ◌*◌, ◌<◌, Option, true};
 ghost use Rattle.gh_base.specs.Cells.{InRange};
 ghost use Rattle.gh_base.specs.Holding.{FitsBuffers, IsHeld};
 ghost use Rattle.gh_base.specs.Steps.{cell_of};
-ghost use Rattle.gh_shade.specs.Listing.{after_mark, asks, begins, enters, gives, gives_mark, goes, is_busy, object_of, opening, raised, told_room};
+ghost use Rattle.gh_shade.specs.Listing.{after_mark, asks, begins, enters, given, gives, goes, is_busy, object_of, opening, raised, told_room};
 ghost use Rattle.gh_shade.specs.Sound.{FitsValue, HasPlace, IsReference};
 
 use gh_base::{Ask, Cell, ENTRIES, Held, Layout, Machine, PageWord, Req, Value};
@@ -174,23 +174,24 @@ impl Shade {
         }
         self.stage = ShadeStage::Ended;
     }
-}
 
-/// What it ends with at the mark, if it ends.
-fn ended_at(stage: ShadeStage) -> Option<Shaded>
-    ensures gives { result ≡ gives_mark stage }
-    ensures waits { result ≡ Option.Some Shaded.WantsRoom → stage ≡ ShadeStage.WaitForRoom }
-{
-    match stage {
-        ShadeStage::Ended => Some(Shaded::Done),
-        ShadeStage::WaitForRoom => Some(Shaded::WantsRoom),
-        _ => None,
+    /// What it has given.
+    fn given(&self) -> Option<Shaded>
+        ensures is { result ≡ given self.now }
+        ensures waits { result ≡ Option.Some Shaded.WantsRoom → self.now.stage ≡ ShadeStage.WaitForRoom }
+    {
+        match self.stage {
+            ShadeStage::Ended => Some(Shaded::Done),
+            ShadeStage::WaitForRoom => Some(Shaded::WantsRoom),
+            _ => None,
+        }
     }
 }
 
 impl Machine for Shade {
+    ghost use Rattle.gh_base.specs.Given.{is_over};
     ghost use Rattle.gh_shade.specs.Listing.{listing};
-    ghost use Rattle.gh_shade.specs.Ends as proved;
+    ghost use Rattle.gh_shade.specs.Stays.{stays};
 
     type Out = Shaded;
 
@@ -218,22 +219,19 @@ impl Machine for Shade {
             ShadeStage::LoadPage => {
                 let noscan = PageWord::unpack(found).noscan();
                 self.stage = ShadeStage::SetMark { noscan };
-                None
+                return None;
             }
             ShadeStage::SetMark { noscan } => {
                 let was_set = (found >> (self.object() % 64)) & 1 == 1;
                 self.stage = self.after_mark(was_set || noscan);
-                ended_at(self.stage)
             }
-            ShadeStage::Enter => {
-                self.raise();
-                Some(Shaded::Done)
-            }
-            ShadeStage::WaitForRoom | ShadeStage::Ended => None,
+            ShadeStage::Enter => self.raise(),
+            ShadeStage::WaitForRoom | ShadeStage::Ended => {}
         }
+        self.given()
     }
 
-    ghost ends = { proved.ends };
+    ghost ends = { λ m found busy. is_over (listing.gives m found) };
 
-    ghost stays = { proved.stays };
+    ghost stays = { stays };
 }

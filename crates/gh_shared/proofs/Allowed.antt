@@ -28,6 +28,7 @@ use Rattle.gh_shared.specs.declared.machine.ActorMachine.TheVariants.{Runs}
 use Rattle.gh_shared.specs.Calls.{Fits, RunsIt}
 use Rattle.gh_shared.specs.Machines.{IsProcessorOf, ProcessorMay}
 use Rattle.gh_shared.specs.Plans.{Planned}
+use Rattle.gh_shared.proofs.Rooms.{room_so}
 use Rattle.gh_shared.specs.Shown.{asked_in, CountsSo, left_by, ProcessorRests, runs_by}
 
 -- ---- truth values
@@ -121,13 +122,13 @@ module _ (p : Planned) (a : ℕ) (m : Mutating) (own : List (Entry Op)) (procs :
       record { ranged = both_true _ _ (both_true _ _ h.there (lt d REGISTERS f.0)) (lt b REGISTERS f.1); its = h.its; names = refl; goes = not_it _ h.goes; asks = refl; leaves = refl; room = refl; sound = ((few g h, f.0), f.1) }
   needs (op.Store g b k v) r f =
       let h = it_runs g r in
-      record { ranged = both_true _ _ (both_true _ _ h.there (lt b REGISTERS f.0)) (lt v REGISTERS f.1); its = h.its; names = refl; goes = not_it _ h.goes; asks = refl; leaves = refl; room = f.2; sound = ((few g h, f.0), f.1) }
+      record { ranged = both_true _ _ (both_true _ _ h.there (lt b REGISTERS f.0)) (lt v REGISTERS f.1); its = h.its; names = refl; goes = not_it _ h.goes; asks = refl; leaves = refl; room = (room_so m).1 f.2; sound = ((few g h, f.0), f.1) }
   needs (op.GetGlobal g d k) r f =
       let h = it_runs g r in
       record { ranged = both_true _ _ (both_true _ _ h.there (lt d REGISTERS f.0)) (lt k L.globals f.1); its = h.its; names = refl; goes = not_it _ h.goes; asks = refl; leaves = refl; room = refl; sound = ((few g h, f.0), f.1) }
   needs (op.SetGlobal g k v) r f =
       let h = it_runs g r in
-      record { ranged = both_true _ _ (both_true _ _ h.there (lt k L.globals f.1)) (lt v REGISTERS f.0); its = h.its; names = refl; goes = not_it _ h.goes; asks = refl; leaves = refl; room = f.2; sound = ((few g h, f.0), f.1) }
+      record { ranged = both_true _ _ (both_true _ _ h.there (lt k L.globals f.1)) (lt v REGISTERS f.0); its = h.its; names = refl; goes = not_it _ h.goes; asks = refl; leaves = refl; room = (room_so m).1 f.2; sound = ((few g h, f.0), f.1) }
   needs (op.Int g d n) r f =
       let h = it_runs g r in
       record { ranged = both_true _ _ h.there (lt d REGISTERS f); its = h.its; names = refl; goes = not_it _ h.goes; asks = refl; leaves = refl; room = refl; sound = (few g h, f) }

@@ -18,9 +18,8 @@ use Rattle.gh_world.specs.Order.{ended_in, has_left}
 use Rattle.gh_world.specs.Processors.{asked_by}
 use Rattle.gh_shared.specs.declared.machine.ActorMachine.{ActorMachine}
 use Rattle.gh_shared.specs.declared.machine.ActorMachine.TheVariants.{Leads, Marks, Runs}
-use Rattle.gh_shared.specs.Calls.{IsOther}
 use Rattle.gh_shared.specs.Handles.{ended_at}
-use Rattle.gh_shared.specs.Machines.{asks, goes, is_busy}
+use Rattle.gh_shared.specs.Machines.{asks, goes, is_busy, IsOther}
 use Rattle.gh_shared.specs.Plans.{Planned}
 use Rattle.gh_shared.specs.Shown.{asked_in, GoesOn, IsKept}
 use Rattle.gh_shared.proofs.Keeping.{by_made, same_then}

@@ -23,18 +23,19 @@ use Rattle.gh_world.specs.World.{may_begin_of}
 use Rattle.gh_world.proofs.Resting.{is_processor}
 use Rattle.gh_shared.specs.declared.machine.ActorMachine.{ActorMachine}
 use Rattle.gh_shared.specs.declared.machine.ActorMachine.TheVariants.{Leads, Marks, Runs}
-use Rattle.gh_shared.specs.Calls.{Fits, IsProcessor, RunsIt, ShowsAfter}
+use Rattle.gh_shared.specs.Calls.{Fits, RunsIt, ShowsAfter}
 use Rattle.gh_shared.specs.declared.handle.Handle.{Handle}
 use Rattle.gh_shared.specs.Counting.{gone_after, left_after, MayCount, over_after}
-use Rattle.gh_shared.specs.Handles.{ended_at, ended_of, has_room_at, machine_of, number_of, own_of, view_of}
-use Rattle.gh_shared.specs.Machines.{actor_of, answered, asks, begins, Belongs, gives, goes, is_busy, listing, MayBegin}
+use Rattle.gh_shared.specs.Handles.{ended_at, ended_of, machine_of, number_of, own_of, room_at, view_of}
+use Rattle.gh_shared.specs.Machines.{actor_of, answered, asks, begins, Belongs, gives, goes, is_busy, IsProcessor, listing, MayBegin}
 use Rattle.gh_shared.specs.Plans.{Planned, setting}
 use Rattle.gh_shared.specs.Shown.{IsKept, left_by, runs_by}
 use Rattle.gh_shared.proofs.Allowed.{allowed}
+use Rattle.gh_shared.proofs.Rooms.{room_so}
 use Rattle.gh_shared.proofs.Keeping.{kept_then, may_count, OneMore, ran_more, runs_after}
 
 -- an actor's state is of its own entries
-abbrev OfItsOwn : Type 0
+abbrev pub OfItsOwn : Type 0
 OfItsOwn = (k : Kind Actor Op) (a : ℕ) (es : List (Entry Op)) → state_of k a es ≡ state_of k a (by a es)
 
 pub record Ready (p : Planned) (a : ℕ) (x : ActorMachine) (own : List (Entry Op)) (left : List ℕ) (over : List Bool) (o : Op) : Type 0 where
@@ -150,11 +151,11 @@ stores : (m : Mutating) (founds : List ℕ) → PollsMakeRoom → MayStore m.pro
 stores m [] law may = may
 stores m (n ∷ ns) law may = law.goes_on (machine_after mutating.goes m ns).shapes (machine_after mutating.goes m ns).processor n (stores m ns law may)
 
-pub has_room_then : (x x' : ActorMachine) (founds : List ℕ) → PollsMakeRoom → IsProcessor x → x' ≡ machine_after goes (begins x op.Poll) founds → ((m : Mutating) → x' ≡ Runs m → mutating.is_busy m ≡ false) → has_room_at x' ≡ true
+pub has_room_then : (x x' : ActorMachine) (founds : List ℕ) → PollsMakeRoom → IsProcessor x → x' ≡ machine_after goes (begins x op.Poll) founds → ((m : Mutating) → x' ≡ Runs m → mutating.is_busy m ≡ false) → 2 ≤ room_at x'
 has_room_then (Marks w) x' founds law is after idle = absurd is
 has_room_then (Leads c) x' founds law is after idle = absurd is
 has_room_then (Runs m) x' founds law is after idle =
     let n : Mutating = machine_after mutating.goes (mutating.begins m op.Poll) founds in
     let same : x' ≡ Runs n = after ∙ runs_after (mutating.begins m op.Poll) founds in
     let still : mutating.is_busy n ≡ false = idle n same in
-    subst (λ (y : ActorMachine). has_room_at y ≡ true) (sym same) (law.room n.processor (op.Store 0 0 0 0) still (stores (mutating.begins m op.Poll) founds law (law.begins m.shapes m.processor)))
+    subst (λ (y : ActorMachine). 2 ≤ room_at y) (sym same) ((room_so n).0 (law.room n.processor (op.Store 0 0 0 0) still (stores (mutating.begins m op.Poll) founds law (law.begins m.shapes m.processor))))

@@ -1,31 +1,30 @@
 -- What the calls of a heap ask for, and what they do.
-use Rattle.std.specs.Prelude.{◌≡◌, ℕ, ◌-◌, ◌<◌, ◌≤◌, true, false, not, ◌&&◌, if◌then◌else◌, List, length, Option, Some, None, ◌||◌, ◌++◌}
+use Rattle.std.specs.Prelude.{◌≡◌, ℕ, ◌+◌, ◌-◌, ◌<◌, ◌≤◌, true, false, not, ◌&&◌, if◌then◌else◌, List, length, Option, Some, None, ◌||◌, ◌++◌}
 use Rattle.gh_base.specs.declared.limits.TheConstants.{REGISTERS}
 use Rattle.gh_base.specs.declared.machine.Entry.{Entry}
 use Rattle.gh_base.specs.declared.operation.Op.{Op}
 use Rattle.gh_base.specs.declared.operation.Op.TheVariants as op
 use Rattle.gh_base.specs.declared.value.Answer.{Answer}
-use Rattle.gh_base.specs.Lists.{by, Legal}
+use Rattle.gh_base.specs.Cells.{seats_of, Shows}
+use Rattle.gh_base.specs.Lists.{by, Legal, state_of, words_after}
+use Rattle.gh_coord.specs.Listing.{Coordinating}
+use Rattle.gh_coord.specs.Stopping.{acks_of}
 use Rattle.gh_table.specs.Runs.{Gave, Ran, SawLegalList}
-use Rattle.gh_table.specs.Views.{Carries, has}
+use Rattle.gh_table.specs.declared.plan.View.{View}
+use Rattle.gh_table.specs.Views.{BeganAsEach, Carries, has}
+use Rattle.gh_world.specs.declared.handshake.Actor.TheVariants as actor
 use Rattle.gh_world.specs.Actors.{AllStands}
 use Rattle.gh_world.specs.Order.{ends, goroutine_of, leaves}
-use Rattle.gh_world.specs.Processors.{AnswersAsEver, arena_of, asks_collector}
+use Rattle.gh_mutator.specs.Listing.{is_busy_at}
+use Rattle.gh_world.specs.Processors.{answers_of, AnswersAsEver, arena_of, asks_collector, at_seat, given_of}
 use Rattle.gh_world.specs.World.{may_begin_of, pacing_of}
 use Rattle.gh_shared.specs.declared.handle.Handle.{Handle}
 use Rattle.gh_shared.specs.declared.heap.Heap.{Heap}
 use Rattle.gh_shared.specs.declared.machine.ActorMachine.{ActorMachine}
-use Rattle.gh_shared.specs.declared.machine.ActorMachine.TheVariants.{Leads, Marks, Runs}
-use Rattle.gh_shared.specs.Handles.{ended_of, has_room_at, IsOf, left_of, machine_of, number_of, own_of, runs_in, view_of}
-use Rattle.gh_shared.specs.Machines.{asks, begins, gives, goes}
+use Rattle.gh_shared.specs.Handles.{carries_of, ended_of, IsOf, left_of, machine_of, number_of, own_of, room_at, runs_in, view_of}
+use Rattle.gh_shared.specs.Machines.{asks, begins, gives, goes, IsProcessor}
 use Rattle.gh_shared.specs.Plans.{Planned, setting}
 use Rattle.gh_shared.specs.Shown.{left_by, runs_by}
-
--- the machine of a processor
-abbrev pub IsProcessor : ActorMachine → Type 0
-IsProcessor (Runs m) = Unit {0}
-IsProcessor (Marks w) = ⊥
-IsProcessor (Leads c) = ⊥
 
 -- the handle of a processor of this heap that has not ended
 pub record IsGoing (heap : Heap) (h : Handle) : Type 0 where
@@ -43,9 +42,9 @@ module _ (p : Planned) (a : ℕ) (x : ActorMachine) (own : List (Entry Op)) wher
   abbrev pub Fits : Op → Type 0
   Fits (op.New g d t) = (d < REGISTERS) × (t < length p.script.shapes) × (1 ≤ left_by p own g)
   Fits (op.Load g d b k) = (d < REGISTERS) × (b < REGISTERS)
-  Fits (op.Store g b k v) = (b < REGISTERS) × (v < REGISTERS) × (has_room_at x ≡ true)
+  Fits (op.Store g b k v) = (b < REGISTERS) × (v < REGISTERS) × (2 ≤ room_at x)
   Fits (op.GetGlobal g d k) = (d < REGISTERS) × (k < p.layout.globals)
-  Fits (op.SetGlobal g k v) = (v < REGISTERS) × (k < p.layout.globals) × (has_room_at x ≡ true)
+  Fits (op.SetGlobal g k v) = (v < REGISTERS) × (k < p.layout.globals) × (2 ≤ room_at x)
   Fits (op.Int g d n) = d < REGISTERS
   Fits (op.Move g d s) = (d < REGISTERS) × (s < REGISTERS)
   Fits (op.Nil g d) = d < REGISTERS
@@ -88,28 +87,16 @@ pub record OperatedWithin (heap : Heap) (o : Op) (most : ℕ) (h h' : Handle) (a
 abbrev pub EveryListStands : Planned → Type 0
 EveryListStands p = (es : List (Entry Op)) → Legal (setting p) es → AllStands p.script.shapes p.layout (pacing_of p.script) (may_begin_of p.script p.layout) es
 
--- so each processor was answered as the heap that never frees answers it
+-- The processor was answered as the heap that never frees answers it; and where it rests behind the list, exactly what that heap answers it was given.
+pub record WasAnswered (p : Planned) (a : ℕ) (es : List (Entry Op)) : Type 0 where
+  pub as_ever : AnswersAsEver (arena_of p.script.shapes p.layout) (setting p).opening a es
+  pub resting : is_busy_at (at_seat (arena_of p.script.shapes p.layout) (setting p).opening es a).task ≡ false → answers_of (arena_of p.script.shapes p.layout) (setting p).opening a es ≡ given_of (arena_of p.script.shapes p.layout) (setting p).opening a es
+
+-- so it is after each legal list, of each processor
 abbrev pub AnswersAreEvers : Planned → Type 0
-AnswersAreEvers p = (es : List (Entry Op)) (a : ℕ) → Legal (setting p) es → a < p.layout.procs → AnswersAsEver (arena_of p.script.shapes p.layout) (setting p).opening a es
+AnswersAreEvers p = (es : List (Entry Op)) (a : ℕ) → Legal (setting p) es → a < p.layout.procs → WasAnswered p a es
 
 -- ---- other actors
-
--- the machine of a worker, and that of the coordinator
-abbrev pub IsWorker : ActorMachine → Type 0
-IsWorker (Runs m) = ⊥
-IsWorker (Marks w) = Unit {0}
-IsWorker (Leads c) = ⊥
-
-abbrev pub IsCoordinator : ActorMachine → Type 0
-IsCoordinator (Runs m) = ⊥
-IsCoordinator (Marks w) = ⊥
-IsCoordinator (Leads c) = Unit {0}
-
--- one of these
-abbrev pub IsOther : ActorMachine → Type 0
-IsOther (Runs m) = ⊥
-IsOther (Marks w) = Unit {0}
-IsOther (Leads c) = Unit {0}
 
 -- The actor has made these steps and no others, and is done by them
 pub record RanToItsEnd (heap : Heap) (h h' : Handle) (founds : List ℕ) : Type 0 where
@@ -127,3 +114,15 @@ pub record Gathered (h other h' : Handle) : Type 0 where
   pub own : (a : ℕ) → Carries (view_of h) a → by a (view_of h').log ≡ by a (view_of h).log
   pub others : (a : ℕ) → has (view_of h).actors a ≡ false → by a (view_of h').log ≡ by a (view_of other).log
   pub seen : (view_of h').seen ≡ (view_of h).seen ++ (view_of other).seen
+  pub many : carries_of h' ≡ carries_of h + carries_of other
+
+-- ---- the close
+
+-- The words are those after one legal list, which has of each actor exactly the entries of the handle, and began as all that the handle has seen; and this is the coordinator after its entries in that list
+pub record IsClosedAfter (p : Planned) (v : View Planned Op) (c : Coordinating) (ws : List ℕ) : Type 0 where
+  pub list : List (Entry Op)
+  pub legal : Legal (setting p) list
+  pub words : Shows p.layout ws (words_after (setting p).opening list)
+  pub entries : (a : ℕ) → a < seats_of p.layout → by a list ≡ by a v.log
+  pub seen : BeganAsEach v.seen list
+  pub coordinator : actor.Leads c ≡ state_of (setting p).kind (acks_of p.layout) list

@@ -5,7 +5,7 @@ use Rattle.gh_base.specs.declared.operation.Op.{Op}
 use Rattle.gh_base.specs.Cells.{length_of, seats_of}
 use Rattle.gh_base.specs.Lists.{by}
 use Rattle.gh_coord.specs.Listing as coord
-use Rattle.gh_mutator.specs.Barrier.{has_entries}
+use Rattle.gh_mutator.specs.Room.{room_in}
 use Rattle.gh_table.specs.declared.plan.View.{View}
 use Rattle.gh_table.specs.Views.{one_carried}
 use Rattle.gh_script.specs.Program.{Program}
@@ -18,7 +18,7 @@ use Rattle.gh_shared.specs.declared.machine.ActorMachine.{ActorMachine}
 use Rattle.gh_shared.specs.declared.machine.ActorMachine.TheVariants.{Leads, Marks, Runs}
 use Rattle.gh_shared.specs.Machines.{opening}
 use Rattle.gh_shared.specs.Plans.{Planned}
-use Rattle.gh_shared.specs.Shown.{left_by, runs_by}
+use Rattle.gh_shared.specs.Shown.{count_among, left_by, runs_by}
 
 -- what the heap is of
 abbrev pub plan_of : Heap → Planned
@@ -46,13 +46,17 @@ runs_in h g = runs_by (view_of h).plan (number_of h) (own_of h) g
 abbrev pub left_of : Handle → (g : ℕ) → ℕ
 left_of h g = left_by (view_of h).plan (own_of h) g
 
--- a processor may begin a store
-abbrev pub has_room_at : ActorMachine → Bool
-has_room_at (Runs m) = has_entries m.processor.poll
-has_room_at _ = false
+-- how many entries more a processor has room for, as it knows
+abbrev pub room_at : ActorMachine → ℕ
+room_at (Runs m) = room_in m.processor.poll
+room_at _ = 0
 
-abbrev pub has_room_of : Handle → Bool
-has_room_of h = has_room_at (machine_of h)
+abbrev pub room_of : Handle → ℕ
+room_of h = room_at (machine_of h)
+
+-- how many actors its seat carries
+abbrev pub carries_of : Handle → ℕ
+carries_of h = count_among (view_of h).actors (seats_of (view_of h).plan.layout)
 
 -- a processor has ended where it has begun to leave, and each other actor where it is done
 abbrev pub ended_at : ActorMachine → List (Entry Op) → Bool

@@ -59,7 +59,39 @@ gives (Leads c) found = ended (coord.gives c found)
 abbrev pub listing : Listing ActorMachine (Option Answer)
 listing = record { layout = layout; busy = is_busy; asks = asks; goes = goes; gives = gives }
 
+-- what it counts of itself: answered statements, scanned words, or how often the phase word was stored
+abbrev pub marked : ActorMachine → ℕ
+marked (Runs m) = m.marks
+marked (Marks w) = w.marks
+marked (Leads c) = c.marks
+
 -- ---- which actor it is
+
+-- the machine of a processor, of a worker, and that of the coordinator
+abbrev pub IsProcessor : ActorMachine → Type 0
+IsProcessor (Runs m) = Unit {0}
+IsProcessor (Marks w) = ⊥
+IsProcessor (Leads c) = ⊥
+
+abbrev pub IsWorker : ActorMachine → Type 0
+IsWorker (Runs m) = ⊥
+IsWorker (Marks w) = Unit {0}
+IsWorker (Leads c) = ⊥
+
+abbrev pub IsCoordinator : ActorMachine → Type 0
+IsCoordinator (Runs m) = ⊥
+IsCoordinator (Marks w) = ⊥
+IsCoordinator (Leads c) = Unit {0}
+
+abbrev pub is_coordinator : ActorMachine → Bool
+is_coordinator (Leads c) = true
+is_coordinator _ = false
+
+-- no processor
+abbrev pub IsOther : ActorMachine → Type 0
+IsOther (Runs m) = ⊥
+IsOther (Marks w) = Unit {0}
+IsOther (Leads c) = Unit {0}
 
 abbrev pub actor_of : ActorMachine → Actor
 actor_of (Runs m) = actor.Runs m.processor

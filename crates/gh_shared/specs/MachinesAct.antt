@@ -4,16 +4,24 @@ use Rattle.gh_base.specs.declared.layout.Layout.{Layout}
 use Rattle.gh_base.specs.declared.operation.Op.{Op}
 use Rattle.gh_base.specs.declared.operation.Op.TheVariants as op
 use Rattle.gh_base.specs.declared.shape.Shape.{Shape}
-use Rattle.gh_coord.specs.Ends as coord
-use Rattle.gh_mutator.specs.Ends as mutator
+use Rattle.gh_base.specs.Blind.{is_store}
+use Rattle.gh_coord.specs.Blind as leads_blindly
+use Rattle.gh_coord.specs.Listing.{Coordinating}
+use Rattle.gh_coord.specs.Listing as leading
+use Rattle.gh_coord.specs.Stays as coord
+use Rattle.gh_mutator.specs.Blind as runs_blindly
+use Rattle.gh_mutator.specs.Stays as mutator
 use Rattle.gh_mutator.specs.Listing as listing
 use Rattle.gh_mutator.specs.Mutating as mutating
 use Rattle.gh_mutator.specs.Mutating.{Mutating}
-use Rattle.gh_worker.specs.Ends as worker
+use Rattle.gh_worker.specs.Blind as marks_blindly
+use Rattle.gh_worker.specs.Listing.{Working}
+use Rattle.gh_worker.specs.Listing as working
+use Rattle.gh_worker.specs.Stays as worker
 use Rattle.gh_world.specs.declared.handshake.Actor.TheVariants as actor
 use Rattle.gh_shared.specs.declared.machine.ActorMachine.{ActorMachine}
 use Rattle.gh_shared.specs.declared.machine.ActorMachine.TheVariants.{Leads, Marks, Runs}
-use Rattle.gh_shared.specs.Machines.{actor_of, asks, begins, Belongs, goes, is_busy, IsProcessorOf, layout, MayBegin}
+use Rattle.gh_shared.specs.Machines.{actor_of, answered, asks, begins, Belongs, ended, gives, goes, is_busy, IsProcessorOf, layout, MayBegin}
 use Rattle.gh_shared.specs.Plans.{Planned, setting}
 use Rattle.std.proofs.Common.{ap, sym, ◌∙◌, refl}
 use Rattle.std.proofs.Props.{props}
@@ -48,6 +56,11 @@ pub takes_is : (p : Planned) (m : ActorMachine) (found : ℕ) → Belongs p m �
 takes_is p (Runs m) found of = ap (λ (shapes : List Shape). actor.Runs (listing.takes shapes m.processor found)) (sym of.shapes)
 takes_is p (Marks w) found of = refl
 takes_is p (Leads c) found of = refl
+
+pub stores_blindly : (m : ActorMachine) (found other : ℕ) → is_store (asks m) ≡ true → (goes m found ≡ goes m other) × (gives m found ≡ gives m other)
+stores_blindly (Runs m) found other e = (ap Runs (runs_blindly.blind m found other e), ap answered (runs_blindly.blind_gives m found other e))
+stores_blindly (Marks w) found other e = let same = marks_blindly.blind w found other e in (ap Marks same, ap (λ (x : Working). ended (working.given x)) same)
+stores_blindly (Leads c) found other e = let same = leads_blindly.blind c found other e in (ap Leads same, ap (λ (x : Coordinating). ended (leading.given x)) same)
 
 pub still_belongs : (p : Planned) (m : ActorMachine) (found : ℕ) → Belongs p m → Belongs p (goes m found)
 still_belongs p (Runs m) found of = record { shapes = of.shapes; layout = mutator.stays m found ∙ of.layout }

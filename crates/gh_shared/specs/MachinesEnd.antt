@@ -1,10 +1,10 @@
 -- A machine has given nothing exactly where it asks for a further step, and its layout stays.
 use Rattle.std.specs.Prelude.{◌≡◌, ◌↔◌, ℕ, true, Option, Some, None, IsNone}
 use Rattle.gh_base.specs.declared.value.Answer.{Answer}
-use Rattle.gh_coord.specs.Ends as coord
-use Rattle.gh_mutator.specs.Ends as mutator
+use Rattle.gh_coord.specs.Stays as coord
+use Rattle.gh_mutator.specs.Stays as mutator
 use Rattle.gh_mutator.specs.Mutating as mutating
-use Rattle.gh_worker.specs.Ends as worker
+use Rattle.gh_worker.specs.Stays as worker
 use Rattle.gh_worker.specs.Listing as working
 use Rattle.gh_coord.specs.Listing as leading
 use Rattle.gh_shared.specs.declared.machine.ActorMachine.{ActorMachine}

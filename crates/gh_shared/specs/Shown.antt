@@ -1,21 +1,28 @@
 -- What a handle shows of a processor's goroutines, by the processor's own entries.
-use Rattle.std.specs.Prelude.{◌≡◌, ℕ, ◌+◌, ◌-◌, ◌%◌, ◌<◌, ◌≤◌, nat_lt, Bool, true, false, not, ◌==◌, ◌&&◌, if◌then◌else◌, List, [], ◌∷◌, length, slice_get, sum_by, Option, Some}
+use Rattle.std.specs.Prelude.{◌≡◌, ℕ, zero, suc, ◌+◌, ◌-◌, ◌%◌, ◌<◌, ◌≤◌, nat_lt, Bool, true, false, not, ◌==◌, ◌&&◌, if◌then◌else◌, List, [], ◌∷◌, length, slice_get, sum_by, Option, Some, None}
 use Rattle.gh_base.specs.declared.machine.Entry.{Entry}
 use Rattle.gh_base.specs.declared.operation.Op.{Op}
 use Rattle.gh_base.specs.declared.operation.Op.TheVariants as op
+use Rattle.gh_base.specs.Cells.{seats_of}
+use Rattle.gh_base.specs.Lists.{state_of}
 use Rattle.gh_coord.specs.Listing as coord
 use Rattle.gh_coord.specs.Listing.{Coordinating}
+use Rattle.gh_coord.specs.Stopping.{acks_of}
 use Rattle.gh_mutator.specs.Mutating as mutating
 use Rattle.gh_mutator.specs.Mutating.{Mutating}
 use Rattle.gh_mutator.specs.Serving.{is_leaving}
 use Rattle.gh_mutator.specs.Sound.{most_objects}
+use Rattle.gh_table.specs.Views.{has}
+use Rattle.gh_world.specs.declared.handshake.Actor.{Actor}
+use Rattle.gh_world.specs.declared.handshake.Actor.TheVariants as actor
 use Rattle.gh_world.specs.Order.{ended_in, has_left}
 use Rattle.gh_world.specs.Processors.{asked_by}
 use Rattle.gh_world.specs.Wishes.{wishes_of}
 use Rattle.gh_world.specs.World.{MadeAtMost}
 use Rattle.gh_shared.specs.declared.machine.ActorMachine.{ActorMachine}
 use Rattle.gh_shared.specs.declared.machine.ActorMachine.TheVariants.{Leads, Runs}
-use Rattle.gh_shared.specs.Plans.{Planned}
+use Rattle.gh_shared.specs.Machines.{is_coordinator}
+use Rattle.gh_shared.specs.Plans.{Planned, setting}
 
 -- goroutine g is one of the processor at seat a, and has not ended by these entries
 abbrev pub runs_by : Planned → (a : ℕ) → List (Entry Op) → (g : ℕ) → Bool
@@ -66,3 +73,33 @@ pub record IsKept (p : Planned) (a : ℕ) (m : ActorMachine) (own : List (Entry 
   pub counts : CountsSo p own procs left over gone
   pub rests : Rests p a m own
   pub goes_on : GoesOn m
+
+-- ---- what the seat carries
+
+-- how many of the first n numbers are among these
+abbrev pub count_among : List ℕ → (n : ℕ) → ℕ
+count_among xs zero = 0
+count_among xs (suc n) = count_among xs n + (if has xs n then 1 else 0)
+
+-- the coordinator's machine: the actor's own, if it is the coordinator, and else the one that was gathered, if one was
+abbrev pub leader_of : ActorMachine → Option Coordinating → Option Coordinating
+leader_of (Leads c) led = Some c
+leader_of _ led = led
+
+-- as an actor of the lists
+abbrev pub as_actor : Option Coordinating → Option Actor
+as_actor None = None
+as_actor (Some c) = Some (actor.Leads c)
+
+-- the second where there is no first
+abbrev pub first_of : Option Coordinating → Option Coordinating → Option Coordinating
+first_of None led = led
+first_of (Some c) led = Some c
+
+-- What a handle keeps of the actors xs that its seat carries, where these are their entries: it is the handle of actor a, which is the coordinator exactly where it stands last; and where the coordinator is carried its machine is there
+pub record CarriesSo (p : Planned) (xs : List ℕ) (log : List (Entry Op)) (a : ℕ) (x : ActorMachine) (carried : ℕ) (led : Option Coordinating) : Type 0 where
+  pub known : a < seats_of p.layout
+  pub last : is_coordinator x ≡ (a == acks_of p.layout)
+  pub counted : carried ≡ count_among xs (seats_of p.layout)
+  pub none : has xs (acks_of p.layout) ≡ false → led ≡ None
+  pub leader : has xs (acks_of p.layout) ≡ true → as_actor (leader_of x led) ≡ Some (state_of (setting p).kind (acks_of p.layout) log)

@@ -9,7 +9,7 @@ ghost use Rattle.gh_base.specs.declared.operation.Op.TheVariants as ops;
 ghost use Rattle.gh_base.specs.declared.value.Answer.{Answer};
 ghost use Rattle.gh_base.specs.Routines.{EndsWithin};
 ghost use Rattle.gh_shared.specs.Calls.{IsGoing, May, Operated, OperatedWithin};
-ghost use Rattle.gh_shared.specs.Handles.{has_room_of, left_of, machine_of, plan_of, runs_in};
+ghost use Rattle.gh_shared.specs.Handles.{left_of, machine_of, plan_of, room_of, runs_in};
 ghost use Rattle.gh_shared.specs.Machines.{begins, listing};
 
 use crate::handle::Handle;
@@ -37,7 +37,7 @@ impl Heap {
         requires going { IsGoing self.now h.old }
         requires runs { runs_in h.old g ≡ true }
         requires registers { (b < REGISTERS) × (v < REGISTERS) }
-        requires room { has_room_of h.old ≡ true }
+        requires room { 2 ≤ room_of h.old }
         ensures { OperatedWithin self.now (ops.Store g b k v) 10 h.old h.new result }
     {
         operations_end();
@@ -62,7 +62,7 @@ impl Heap {
         requires runs { runs_in h.old g ≡ true }
         requires registers { v < REGISTERS }
         requires global { k < (plan_of self.now).layout.globals }
-        requires room { has_room_of h.old ≡ true }
+        requires room { 2 ≤ room_of h.old }
         ensures { OperatedWithin self.now (ops.SetGlobal g k v) 8 h.old h.new result }
     {
         operations_end();
@@ -145,7 +145,7 @@ impl Heap {
     pub fn poll<'s, R: Wait>(&self, rt: &R, h: &mut Handle<'s>)
         requires { IsGoing self.now h.old }
         ensures polled { (answer : Answer) × (founds : List ℕ) × Operated self.now ops.Poll h.old h.new answer founds }
-        ensures room { has_room_of h.new ≡ true }
+        ensures room { 2 ≤ room_of h.new }
     {
         polls_make_room();
         self.operate_on(rt, h, Op::Poll);

@@ -4,21 +4,47 @@ ghost use Rattle.std.specs.Prelude.{◌≡◌, ◌<◌};
 ghost use mathlib.Core.Option.{some};
 ghost use lib.ListN.{get_elem?};
 ghost use Rattle.std.specs.Slots.{slots_items, slots_len, IsFull};
-ghost use Rattle.gh_table.specs.Rule.{IsAfterOneList};
-ghost use Rattle.gh_shared.specs.Calls.{Gathered};
-ghost use Rattle.gh_shared.specs.Handles.{machine_of, number_of, plan_of, view_of, IsOf};
-ghost use Rattle.gh_shared.specs.Plans.{setting};
+ghost use Rattle.gh_base.specs.Cells.{length_of, seats_of};
+ghost use Rattle.gh_shared.specs.Calls.{Gathered, IsClosedAfter};
+ghost use Rattle.gh_shared.specs.Handles.{carries_of, machine_of, number_of, plan_of, view_of, IsOf};
+ghost use Rattle.gh_shared.specs.Shown.{first_of, leader_of};
 
 use crate::handle::Handle;
 use crate::heap::Heap;
+use crate::machine::ActorMachine;
+use crate::plan::AnyActor;
+use gh_base::Op;
+use gh_base::laws::a_state_is_of_its_own_entries;
+use gh_coord::{Coord, Cycle};
 use gh_table::close;
 use std::alloc::Global;
 
-/// The words of a heap, once no thread runs.
+/// What is left of a heap, once no thread runs: its words, and what its coordinator has kept.
 pub struct Closed {
     pub words: atomic_table::Closed<(), Global>,
+    pub coordinator: Coord,
     pub ghost full: { IsFull words.words },
     pub ghost slotless: { slots_len words.slots ≡ 0 },
+}
+
+/// The coordinator's machine, if the actor is the coordinator, and else the one that was gathered.
+fn leader_of<'s>(machine: ActorMachine<'s>, led: Option<Coord>) -> Option<Coord>
+    ensures { result ≡ leader_of machine.entry led }
+{
+    match machine {
+        ActorMachine::Leads(coordinator) => Some(coordinator),
+        _ => led,
+    }
+}
+
+/// The second where there is no first.
+fn first_of(led: Option<Coord>, other: Option<Coord>) -> Option<Coord>
+    ensures { result ≡ first_of led other }
+{
+    match led {
+        Some(coordinator) => Some(coordinator),
+        None => other,
+    }
 }
 
 impl Heap {
@@ -30,22 +56,39 @@ impl Heap {
         ensures same { (number_of h.new ≡ number_of h.old) × (machine_of h.new ≡ machine_of h.old) }
         ensures gathered { Gathered h.old other.entry h.new }
     {
-        let Handle { hand, counts: _ } = other;
-        h.hand.join(&self.table.shared, hand);
+        a_state_is_of_its_own_entries::<AnyActor, Op>();
+        let Handle {
+            hand,
+            counts: _,
+            carried,
+            led,
+        } = other;
+        let machine = h.hand.join(&self.table.shared, hand);
+        h.carried += carried;
+        h.led = first_of(h.led.take(), leader_of(machine, led));
     }
 
-    /// Closes the heap. Its words are those after one legal list, which has of each actor that the handle carries exactly
-    /// the entries of the handle.
+    /// Closes the heap, where the handle carries all its actors. Its words are those after one legal list, which has of each
+    /// actor exactly the entries of the handle; and the cycles are those that the coordinator has kept by then.
     pub fn close<'s>(self, last: Handle<'s>) -> Closed
-        requires { IsOf self last }
-        ensures after { IsAfterOneList setting (plan_of self) (view_of last.entry) (slots_items result.words.words) }
-        ensures many { slots_len result.words.words ≡ self.table.shared.table_id.words }
+        requires of { IsOf self last }
+        requires all { carries_of last ≡ seats_of (plan_of self).layout }
+        ensures after { IsClosedAfter (plan_of self) (view_of last.entry) result.coordinator (slots_items result.words.words) }
+        ensures many { slots_len result.words.words ≡ length_of (plan_of self).layout }
     {
+        a_state_is_of_its_own_entries::<AnyActor, Op>();
         let Heap { table, layout: _ } = self;
-        let Handle { hand, counts: _ } = last;
-        let (_, seat) = hand.into_parts();
-        Closed {
-            words: close(table, seat),
+        let Handle {
+            hand,
+            counts: _,
+            carried: _,
+            led,
+        } = last;
+        let (machine, seat) = hand.into_parts();
+        let words = close(table, seat);
+        match leader_of(machine, led) {
+            Some(coordinator) => Closed { words, coordinator },
+            None => unreachable!(),
         }
     }
 }
@@ -65,11 +108,28 @@ impl Closed {
     {
         self.words.word(i)
     }
+
+    /// The swept cycles, in their order: the number of each, and how many objects its sweep kept and freed.
+    pub fn cycles(&self) -> &[Cycle]
+        ensures { result.now ≡ self.now.coordinator.cycles.items }
+    {
+        self.coordinator.cycles()
+    }
+
+    /// The bytes that were marked in the last swept cycle; 0 where none was swept.
+    pub fn live(&self) -> u64
+        ensures { result ≡ self.now.coordinator.live }
+    {
+        self.coordinator.live()
+    }
 }
 
 impl Drop for Closed {
     fn drop(self) {
-        let Closed { words } = self;
+        let Closed {
+            words,
+            coordinator: _,
+        } = self;
         words.free();
     }
 }

@@ -1,12 +1,11 @@
 //! What a handle counts of a processor's goroutines.
 
-ghost use Rattle.std.specs.Prelude.{◌≡◌, ◌<◌, IfOk, length};
-ghost use Rattle.gh_world.specs.Wishes.{may_ask, wishes_of};
+ghost use Rattle.std.specs.Prelude.{◌≡◌, IfOk};
 ghost use Rattle.gh_shared.specs.Counting.{gone_after, left_after, over_after, CountsFirst, MayCount};
 
 use gh_base::Op;
-use gh_script::{Script, Stmt};
-use gh_world::most_cycles;
+use gh_script::Script;
+use gh_world::{most_cycles, wishes_of};
 use std::alloc::{AllocError, Global};
 
 /// What is left of each goroutine's `new` and `gc`, and which goroutines have ended.
@@ -19,33 +18,6 @@ pub struct Counts {
     pub over: Vec<bool>,
     /// Whether the processor has left.
     pub gone: bool,
-}
-
-/// The statement may ask for a cycle.
-fn may_ask(statement: Stmt) -> bool
-    ensures { result ≡ may_ask statement }
-{
-    matches!(statement, Stmt::New { .. } | Stmt::Gc)
-}
-
-/// How many `new` and `gc` goroutine `g` has.
-fn wishes_of(script: &Script, g: u32) -> u32
-    requires { g < length script.now.goroutines }
-    ensures { result ≡ wishes_of script.now g }
-{
-    script.is_well_formed();
-    let mut wishes = 0;
-    for n in 0..script.count(g) {
-        match script.statement(g, n + 1) {
-            Some(statement) => {
-                if may_ask(statement) {
-                    wishes += 1;
-                }
-            }
-            None => {}
-        }
-    }
-    wishes
 }
 
 impl Counts {

@@ -1,12 +1,13 @@
 //! The right to run an actor of a heap.
 
 ghost use Rattle.gh_base.specs.Lists.{by};
-ghost use Rattle.gh_shared.specs.Shown.{IsKept};
+ghost use Rattle.gh_shared.specs.Shown.{CarriesSo, IsKept};
 
 use crate::counts::Counts;
 use crate::machine::ActorMachine;
 use crate::plan::{AnyActor, HeapPlan};
 use gh_base::Op;
+use gh_coord::Coord;
 use gh_table::Hand;
 
 /// An actor of a heap: its machine, and the seat that carries it. Whoever has it runs the actor, and no other does; it may
@@ -15,5 +16,10 @@ use gh_table::Hand;
 pub struct Handle<'s> {
     pub hand: Hand<AnyActor, Op, HeapPlan, ActorMachine<'s>>,
     pub counts: Counts,
+    /// How many actors the seat carries.
+    pub carried: u32,
+    /// The coordinator's machine, once the coordinator's handle was gathered.
+    pub led: Option<Coord>,
     pub ghost kept: { IsKept hand.seat.me.0.plan hand.actor hand.machine (by hand.actor hand.seat.me.0.log) counts.procs counts.left.items counts.over.items counts.gone },
+    pub ghost carries: { CarriesSo hand.seat.me.0.plan hand.seat.me.0.actors hand.seat.me.0.log hand.actor hand.machine carried led },
 }

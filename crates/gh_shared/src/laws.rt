@@ -9,7 +9,8 @@ use gh_world::every_run_stands;
 
 /// Whatever legal list of the heap's steps, in whatever order the threads made them: all stands that `gh_world` says of the
 /// lists of a script. So each processor was answered as the heap that never frees answers it, save `full`, which stands only
-/// where there was no room, and at most one answer that it has still to give.
+/// where there was no room, and at most one answer that it has still to give: none where it rests, so behind a call it was
+/// answered exactly that.
 ///
 /// Each call has seen such a list with its own entries in it, and the words at the close are those after one.
 pub fn answers_are_evers(heap: &Heap, script: &Script)

@@ -6,7 +6,7 @@ use crate::plan::{AnyActor, HeapPlan};
 use gh_base::{Answer, Machine, Op, Req};
 use gh_coord::Coord;
 use gh_mutator::Mutator;
-use gh_table::{Acts, Operates};
+use gh_table::{Acts, Marked, Operates};
 use gh_worker::Worker;
 
 /// The machine of an actor, whichever it is.
@@ -85,7 +85,23 @@ impl<'s> Acts<HeapPlan, AnyActor, Op> for ActorMachine<'s> {
 
     ghost takes_is = { proved.takes_is };
 
+    ghost stores_blindly = { proved.stores_blindly };
+
     ghost still_belongs = { proved.still_belongs };
+}
+
+impl<'s> Marked for ActorMachine<'s> {
+    ghost use Rattle.gh_shared.specs.Machines.{marked};
+
+    ghost marked = { marked };
+
+    fn marks(&self) -> u64 {
+        match self {
+            ActorMachine::Runs(processor) => processor.marks(),
+            ActorMachine::Marks(worker) => worker.marks(),
+            ActorMachine::Leads(coordinator) => coordinator.marks(),
+        }
+    }
 }
 
 impl<'s> Operates<HeapPlan, AnyActor, Op> for ActorMachine<'s> {

@@ -1,6 +1,6 @@
 //! How a heap opens, with a handle for each actor.
 
-ghost use Rattle.std.specs.Prelude.{◌≡◌, ◌<◌, ◌≤◌, List, [], length, slice_get, IfOk, Some};
+ghost use Rattle.std.specs.Prelude.{◌≡◌, ◌<◌, List, [], length, slice_get, IfOk, Some};
 ghost use Rattle.gh_base.specs.Cells.{seats_of};
 ghost use Rattle.gh_table.specs.Views.{all_carried, one_carried};
 ghost use Rattle.gh_world.specs.World.{LaysOut};
@@ -19,7 +19,7 @@ use gh_coord::{Coord, NEVER};
 use gh_mutator::Mutator;
 use gh_script::Script;
 use gh_table::{ActorSeat, Hand, open, split_first};
-use gh_words::Plain;
+use gh_words::opening_list;
 use gh_worker::Worker;
 use gh_world::most_cycles;
 use std::alloc::{AllocError, Global};
@@ -41,18 +41,6 @@ fn layout_of(script: &Script) -> Layout
         Ok(layout) => layout,
         Err(_) => unreachable!(),
     }
-}
-
-/// These words in one list.
-fn copied(alloc: Global, plain: &Plain, many: u32) -> Result<Vec<u64>, AllocError>
-    requires { length plain.now ≡ many }
-    ensures { IfOk result (λ words. words.items ≡ plain.now) }
-{
-    let mut words = Vec::new(alloc);
-    for i in 0..many {
-        words.push(plain.word_at(i))?;
-    }
-    Ok(words)
 }
 
 /// The machine of the actor of this number, before its first step.
@@ -114,8 +102,7 @@ impl Heap {
         ensures table { IfOk result (λ r. r.1.table_id ≡ r.0.table.shared.table_id) }
         ensures seat { IfOk result (λ r. r.1.me ≡ (all_carried plan.now (setting plan.now).actors, [])) }
     {
-        let plain = Plain::new(alloc, &plan.layout, NEVER)?;
-        let words = copied(alloc, &plain, plan.layout.words())?;
+        let words = opening_list(alloc, &plan.layout, NEVER)?;
         let (table, seat) = open(alloc, words.as_slice(), plan)?;
         let heap = Heap {
             table,
@@ -144,7 +131,12 @@ impl Heap {
         let machine = machine_at(alloc, plan, script, actor)?;
         let counts = Counts::new(alloc, script)?;
         let hand = Hand::new(actor, machine, place);
-        Ok(Handle { hand, counts })
+        Ok(Handle {
+            hand,
+            counts,
+            carried: 1,
+            led: None,
+        })
     }
 
     /// A handle for each actor, where the seat carries them all.

@@ -1,11 +1,22 @@
-//! What a handle shows of its actor.
+//! What a heap and its handles show.
 
 ghost use Rattle.std.specs.Prelude.{◌≡◌, ◌↔◌, true, false, ℕ, IsTrue};
-ghost use Rattle.gh_shared.specs.Calls.{IsCoordinator, IsProcessor, IsWorker};
-ghost use Rattle.gh_shared.specs.Handles.{ended_of, has_room_of, left_of, machine_of, number_of, runs_in};
+ghost use Rattle.gh_base.specs.Cells.{seats_of};
+ghost use Rattle.gh_shared.specs.Handles.{carries_of, ended_of, left_of, machine_of, number_of, plan_of, room_of, runs_in};
+ghost use Rattle.gh_shared.specs.Machines.{IsCoordinator, IsProcessor, IsWorker};
 
 use crate::handle::Handle;
+use crate::heap::Heap;
 use crate::machine::ActorMachine;
+
+impl Heap {
+    /// How many actors there are: the processors, the workers and the coordinator.
+    pub fn actors(&self) -> u32
+        ensures { result ≡ seats_of (plan_of self.now).layout }
+    {
+        self.layout.seats()
+    }
+}
 
 impl<'s> Handle<'s> {
     /// The actor's number.
@@ -67,14 +78,22 @@ impl<'s> Handle<'s> {
         self.counts.left[g as usize]
     }
 
-    /// A store may be begun: marking is off, as the actor knows, or the buffer that it holds has two free entries.
-    pub fn has_room(&self) -> bool
-        ensures { result ≡ has_room_of self.now }
+    /// How many entries more the processor has room for, as it knows: while marking is on, those of the work buffer that it
+    /// holds, and 0 where it holds none; while marking is off, 253. A store asks for two. 0 for a worker or the coordinator.
+    pub fn room(&self) -> u32
+        ensures { result ≡ room_of self.now }
     {
         match &self.hand.machine {
-            ActorMachine::Runs(processor) => processor.has_room(),
-            _ => false,
+            ActorMachine::Runs(processor) => processor.room(),
+            _ => 0,
         }
+    }
+
+    /// How many actors its seat carries: itself, and those whose handles were gathered.
+    pub fn carries(&self) -> u32
+        ensures { result ≡ carries_of self.now }
+    {
+        self.carried
     }
 
     /// The actor has ended: its processor has left, or its machine is done.

@@ -1,5 +1,6 @@
-pub mod Ends
+pub mod Blind
 pub mod Facts
 pub mod Listing
 pub mod Scans
 pub mod Sound
+pub mod Stays

@@ -1,11 +1,12 @@
 -- The scan of a stack: what is wished and asked for at each stage, where that leads, and what it gives.
-use Rattle.std.specs.Prelude.{ℕ, ◌+◌, Bool, true, false, List, [], ◌∷◌, drop, Option, Some, None}
+use Rattle.std.specs.Prelude.{ℕ, ◌+◌, Bool, true, false, List, [], ◌∷◌, drop, Option, Some, None, is_none}
 use Rattle.gh_base.specs.declared.cell.Cell.TheVariants.{Touch, Scanned}
 use Rattle.gh_base.specs.declared.cell.Ask.{Ask}
 use Rattle.gh_base.specs.declared.cell.Ask.TheVariants as ask
 use Rattle.gh_base.specs.declared.layout.Layout.{Layout}
 use Rattle.gh_base.specs.declared.value.Value.{Value}
 use Rattle.gh_base.specs.declared.value.Value.TheVariants as value
+use Rattle.gh_base.specs.Given.{listing_of}
 use Rattle.gh_base.specs.Routines.{Listing}
 use Rattle.gh_stack.specs.declared.scan_stack.StackStage.{StackStage}
 use Rattle.gh_stack.specs.declared.scan_stack.StackStage.TheVariants.{Shade, Store, Ended}
@@ -58,16 +59,16 @@ module _ (s : StackScan) where
   asks_at _ = ask.Load Touch
 
   abbrev pub goes_at : StackStage → StackScan
-  goes_at Store = at_stage s Ended
-  goes_at _ = s
+  goes_at (Shade register reference) = at_stage s (Shade register reference)
+  goes_at _ = at_stage s Ended
 
-abbrev pub gives_at : StackStage → Option (Unit {0})
-gives_at Store = Some tt
-gives_at _ = None
+-- it has given nothing where its step is next; while it waits it asks for none
+abbrev pub given_at : StackStage → Option (Unit {0})
+given_at Store = None
+given_at _ = Some tt
 
 abbrev pub is_busy : StackStage → Bool
-is_busy Store = true
-is_busy _ = false
+is_busy stage = is_none (given_at stage)
 
 abbrev pub asks : StackScan → Ask
 asks s = asks_at s s.stage
@@ -75,8 +76,11 @@ asks s = asks_at s s.stage
 abbrev pub goes : StackScan → ℕ → StackScan
 goes s found = goes_at s s.stage
 
+abbrev pub given : StackScan → Option (Unit {0})
+given s = given_at s.stage
+
 abbrev pub gives : StackScan → ℕ → Option (Unit {0})
-gives s found = gives_at s.stage
+gives s found = given (goes s found)
 
 abbrev pub listing : Listing StackScan (Unit {0})
-listing = record { layout = λ s. s.layout; busy = λ s. is_busy s.stage; asks = asks; goes = goes; gives = gives }
+listing = listing_of (λ s. s.layout) asks goes given

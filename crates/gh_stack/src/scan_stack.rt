@@ -4,7 +4,7 @@ ghost use Rattle.std.specs.Prelude.{◌≡◌, ◌<◌, ◌↔◌, IsTrue, lengt
 ghost use Rattle.gh_base.specs.Cells.{InRange};
 ghost use Rattle.gh_base.specs.Steps.{cell_of};
 ghost use Rattle.gh_stack.specs.Sound.{FitsStage};
-ghost use Rattle.gh_stack.specs.Listing.{asks, is_busy, is_waiting, opening, stage_from, told_shaded, wish_of};
+ghost use Rattle.gh_stack.specs.Listing.{asks, given, is_busy, is_waiting, opening, stage_from, told_shaded, wish_of};
 
 use gh_base::limits::REGISTERS;
 use gh_base::{Ask, Cell, Layout, Machine, Req, Value};
@@ -137,11 +137,22 @@ impl ScanStack {
             StackStage::Shade { .. } | StackStage::Ended => Ask::Load(Cell::Touch),
         }
     }
+
+    /// What it has given: nothing where its step is next.
+    fn given(&self) -> Option<()>
+        ensures { result ≡ given self.now }
+    {
+        match self.stage {
+            StackStage::Store => None,
+            StackStage::Shade { .. } | StackStage::Ended => Some(()),
+        }
+    }
 }
 
 impl Machine for ScanStack {
+    ghost use Rattle.gh_base.specs.Given.{is_over};
     ghost use Rattle.gh_stack.specs.Listing.{listing};
-    ghost use Rattle.gh_stack.specs.Ends as proved;
+    ghost use Rattle.gh_stack.specs.Stays.{stays};
 
     type Out = ();
 
@@ -160,16 +171,13 @@ impl Machine for ScanStack {
     }
 
     fn take(&mut self, _found: u64) -> Option<()> {
-        match self.stage {
-            StackStage::Store => {
-                self.stage = StackStage::Ended;
-                Some(())
-            }
-            StackStage::Shade { .. } | StackStage::Ended => None,
+        if let StackStage::Store = self.stage {
+            self.stage = StackStage::Ended;
         }
+        self.given()
     }
 
-    ghost ends = { proved.ends };
+    ghost ends = { λ m found busy. is_over (listing.gives m found) };
 
-    ghost stays = { proved.stays };
+    ghost stays = { stays };
 }

@@ -59,7 +59,7 @@ module _ (s : Sweeping) (words : Words) where
   FactsAt AddLive = HasSwept (bit_words s.head)
   FactsAt AddHeap = HasSwept (bit_words s.head)
   FactsAt Finish = HasSwept (bit_words s.head)
-  FactsAt Ended = Unit {0}
+  FactsAt (Ended end) = Unit {0}
 
   -- What its next step needs to be allowed: it is on its own span, and no marked object's bit is cleared, and no mark as long as it tells which.
   abbrev pub MayStep : SweepStage → Type 0
@@ -71,7 +71,7 @@ module _ (s : Sweeping) (words : Words) where
   MayStep AddLive = HasSpan
   MayStep AddHeap = HasSpan
   MayStep Finish = HasSpan × ((i : ℕ) → i < bit_words s.head → marks_here i ≡ 0)
-  MayStep Ended = Unit {0}
+  MayStep (Ended end) = Unit {0}
 
   -- the span is swept: its head says so, no mark is left, and the objects that stand there are those that were kept
   pub record IsSweptNow (span : SweptSpan) : Type 0 where
@@ -118,7 +118,7 @@ module _ (s : Sweeping) (before after : Words) where
 
   abbrev pub OthersAt : SweepStage → Type 0
   OthersAt Begin = HeadStays
-  OthersAt Ended = Unit {0}
+  OthersAt (Ended end) = Unit {0}
   OthersAt _ = SpanStays
 
 abbrev pub Others : Sweeping → (before after : Words) → Type 0

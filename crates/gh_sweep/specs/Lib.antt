@@ -1,8 +1,8 @@
 pub mod Alone
 pub mod AtEnd
 pub mod Bits
+pub mod Blind
 pub mod Counts
-pub mod Ends
 pub mod Facts
 pub mod Joined
 pub mod Listing
@@ -10,6 +10,7 @@ pub mod Moves
 pub mod Shared
 pub mod Slots
 pub mod Sound
+pub mod Stays
 pub mod Steps
 pub mod Sweepers
 pub mod Vocabulary

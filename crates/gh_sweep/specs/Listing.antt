@@ -1,10 +1,11 @@
--- A span is swept: what is asked for at each stage, where that leads, and what it gives.
-use Rattle.std.specs.Prelude.{ℕ, ◌+◌, ◌-◌, ◌*◌, ◌%◌, ◌^◌, Bool, true, false, nat_lt, ◌==◌, if◌then◌else◌, Option, Some, None}
+-- A span is swept: what is asked for at each stage, where that leads, and what is given.
+use Rattle.std.specs.Prelude.{ℕ, ◌+◌, ◌-◌, ◌*◌, ◌%◌, ◌^◌, Bool, nat_lt, ◌==◌, if◌then◌else◌, Option, Some, None, is_none}
 use Rattle.gh_base.specs.declared.cell.Cell.TheVariants as cell
 use Rattle.gh_base.specs.declared.cell.Ask.{Ask}
 use Rattle.gh_base.specs.declared.cell.Ask.TheVariants.{Load, Store, And, Add, Swap}
 use Rattle.gh_base.specs.declared.layout.Layout.{Layout}
 use Rattle.gh_base.specs.declared.pack.SpanHead.{SpanHead}
+use Rattle.gh_base.specs.Given.{listing_of}
 use Rattle.gh_base.specs.Packing.{head_word, tally_word}
 use Rattle.gh_base.specs.Routines.{Listing}
 use Rattle.gh_class.specs.declared.class.SizeClass.{SizeClass}
@@ -73,7 +74,7 @@ module _ (s : Sweeping) where
   asks_at AddLive = Add cell.Live (s.kept * slot_bytes s.head)
   asks_at AddHeap = Add cell.Heap (negative (s.freed * slot_bytes s.head))
   asks_at Finish = Store (cell.Page s.page) (head_word (once_swept s.head))
-  asks_at Ended = Load cell.Touch
+  asks_at (Ended end) = Load cell.Touch
 
   -- the next word of the span's bits, if there is one
   abbrev pub behind : ℕ → SweepStage
@@ -86,31 +87,33 @@ module _ (s : Sweeping) where
   abbrev pub counted : (i marks found : ℕ) → Sweeping
   counted i marks found = record s { kept = s.kept + kept_in found marks; freed = s.freed + freed_in found marks; stage = ClearMarks i }
 
+  -- what it has found of the span
+  abbrev pub swept_span : SweptSpan
+  swept_span = record { kept = s.kept; freed = s.freed; clear = nat_lt s.kept (slots_in s.head.class) }
+
   abbrev pub goes_at : SweepStage → ℕ → Sweeping
-  goes_at Begin found = at_stage s (if wrote found then LoadMarks 0 else Ended)
+  goes_at Begin found = at_stage s (if wrote found then LoadMarks 0 else Ended Lost)
   goes_at (LoadMarks i) found = at_stage s (ClearBits i found)
   goes_at (ClearBits i marks) found = counted i marks found
   goes_at (ClearMarks i) found = at_stage s (behind i)
   goes_at AddTally found = at_stage s AddLive
   goes_at AddLive found = at_stage s AddHeap
   goes_at AddHeap found = at_stage s Finish
-  goes_at Finish found = at_stage s Ended
-  goes_at Ended found = s
+  goes_at Finish found = at_stage s (Ended (Swept swept_span))
+  goes_at (Ended end) found = at_stage s (Ended end)
 
-  -- what it has found of the span
-  abbrev pub swept_span : SweptSpan
-  swept_span = record { kept = s.kept; freed = s.freed; clear = nat_lt s.kept (slots_in s.head.class) }
+-- what it has given, and whether it is busy
+abbrev pub given_at : SweepStage → Option SweepEnd
+given_at (Ended end) = Some end
+given_at _ = None
 
-  abbrev pub gives_at : SweepStage → ℕ → Option SweepEnd
-  gives_at Begin found = if wrote found then None else Some Lost
-  gives_at Finish found = Some (Swept swept_span)
-  gives_at _ found = None
+abbrev pub given : Sweeping → Option SweepEnd
+given s = given_at s.stage
 
 abbrev pub is_busy : SweepStage → Bool
-is_busy Ended = false
-is_busy _ = true
+is_busy stage = is_none (given_at stage)
 
--- the step that it asks for, what it is after the step found this, and what it ends with if that step is its last
+-- the step that it asks for, what it is after the step found this, and what it has given then
 abbrev pub asks : Sweeping → Ask
 asks s = asks_at s s.stage
 
@@ -118,7 +121,7 @@ abbrev pub goes : Sweeping → ℕ → Sweeping
 goes s found = goes_at s s.stage found
 
 abbrev pub gives : Sweeping → ℕ → Option SweepEnd
-gives s found = gives_at s s.stage found
+gives s found = given (goes s found)
 
 abbrev pub listing : Listing Sweeping SweepEnd
-listing = record { layout = λ s. s.layout; busy = λ s. is_busy s.stage; asks = asks; goes = goes; gives = gives }
+listing = listing_of (λ s. s.layout) asks goes given

@@ -21,7 +21,7 @@ IsStage h AddTally = Unit {0}
 IsStage h AddLive = Unit {0}
 IsStage h AddHeap = Unit {0}
 IsStage h Finish = Unit {0}
-IsStage h Ended = Unit {0}
+IsStage h (Ended end) = Unit {0}
 
 -- how many words of the span's alloc bits it has counted
 abbrev pub reached : SpanHead → SweepStage → ℕ
@@ -33,7 +33,7 @@ reached h AddTally = bit_words h
 reached h AddLive = bit_words h
 reached h AddHeap = bit_words h
 reached h Finish = bit_words h
-reached h Ended = bit_words h
+reached h (Ended end) = bit_words h
 
 pub record Sound (s : Sweeping) : Type 0 where
   pub page : s.page < s.layout.pages

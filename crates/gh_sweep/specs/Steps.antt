@@ -6,6 +6,7 @@ use Rattle.gh_base.specs.declared.layout.Layout.{Layout}
 use Rattle.gh_base.specs.declared.pack.SpanHead.{SpanHead}
 use Rattle.gh_base.specs.Packing.{head_word}
 use Rattle.gh_base.specs.Routines.{EndsWith, EndsWithin, GoesOn, told}
+use Rattle.gh_sweep.specs.declared.sweep.SweepEnd.{SweepEnd}
 use Rattle.gh_sweep.specs.declared.sweep.SweepEnd.TheVariants.{Lost, Swept}
 use Rattle.gh_sweep.specs.declared.sweep.SweptSpan.{SweptSpan}
 use Rattle.gh_sweep.specs.Bits.{freed_in, kept_in, sum_below}
@@ -67,17 +68,21 @@ module _ (l : Layout) (page : ℕ) (head : SpanHead) (found : ℕ → ℕ) where
     pub adds_heap : asks (after (steps_on_bits head + 2)) ≡ Add cell.Heap (negative (freed * slot_bytes head))
     pub finishes : asks (after (steps_on_bits head + 3)) ≡ Store (cell.Page page) (head_word (once_swept head))
 
+  -- step n is its last, and gives this
+  abbrev pub EndsBy : ℕ → SweepEnd → Type 0
+  EndsBy n end = GoesOn listing (opening l page head) found n × EndsWith listing (opening l page head) found n end
+
   pub record SweepsAsTold : Type 0 where
     pub begins : asks (after 0) ≡ Swap (cell.Page page) (head_word head) (head_word (in_sweep head))
     -- it is lost exactly by its first step, and exactly where that found another word
-    pub lost : (n : ℕ) → EndsWith listing (opening l page head) found n Lost ↔ ((n ≡ 0) × (found 0 ≢ head_word head))
+    pub lost : (n : ℕ) → EndsBy n Lost ↔ ((n ≡ 0) × (found 0 ≢ head_word head))
     -- else it takes these steps, and no other
     pub on_words : IsBegun → (i : ℕ) → i < bit_words head → StepsOnWord i
     pub on_counts : IsBegun → StepsOnCounts
     pub goes_on : (n : ℕ) → GoesOn listing (opening l page head) found n ↔ ((n ≡ 0) ⊎ (IsBegun × (n < steps_on_bits head + 4)))
     pub ends : EndsWithin listing (steps_on_bits head + 4) (opening l page head) found
     -- and ends with what it has counted
-    pub swept : (n : ℕ) (span : SweptSpan) → EndsWith listing (opening l page head) found n (Swept span) ↔ (IsBegun × (n ≡ steps_on_bits head + 3) × (span ≡ span_of head kept freed))
+    pub swept : (n : ℕ) (span : SweptSpan) → EndsBy n (Swept span) ↔ (IsBegun × (n ≡ steps_on_bits head + 3) × (span ≡ span_of head kept freed))
 
 abbrev pub SweepTakesItsSteps : Type 0
 SweepTakesItsSteps = (l : Layout) (page : ℕ) (head : SpanHead) (found : ℕ → ℕ) → IsInArena l page head → SweepsAsTold l page head found

@@ -15,7 +15,7 @@ use Rattle.gh_sweep.specs.Vocabulary.{AddHeap, AddLive, AddTally, Begin, ClearBi
 -- it has its span: it has begun, and not ended
 abbrev pub has_span : SweepStage → Bool
 has_span Begin = false
-has_span Ended = false
+has_span (Ended end) = false
 has_span _ = true
 
 -- the span at page p is the one that it has
@@ -44,7 +44,7 @@ module _ (m : Sweeping) where
   owes_at AddLive = bytes_owed
   owes_at AddHeap = record { kept = 0; freed = 0; live = 0; cleared = m.freed * slot_bytes m.head }
   owes_at Finish = nothing
-  owes_at Ended = nothing
+  owes_at (Ended end) = nothing
 
 abbrev pub owes : Sweeping → Due
 owes m = owes_at m m.stage
@@ -60,7 +60,7 @@ module _ (m : Sweeping) where
   move_at AddLive found = TellsLive
   move_at AddHeap found = TellsHeap
   move_at Finish found = Ends m.page m.head
-  move_at Ended found = Quiet (asks_at m Ended)
+  move_at (Ended end) found = Quiet (asks_at m (Ended end))
 
 abbrev pub move_of : Sweeping → (found : ℕ) → Move
 move_of m found = move_at m m.stage found
@@ -68,7 +68,7 @@ move_of m found = move_at m m.stage found
 -- how far it is with its span: it has counted nothing, or it has cut and cleared the words that its stage says
 abbrev pub HasReached : (a : ℕ) → Shared → Sweeping → SweepStage → Type 0
 HasReached a s m Begin = (m.kept ≡ 0) × (m.freed ≡ 0)
-HasReached a s m Ended = Unit {0}
+HasReached a s m (Ended end) = Unit {0}
 HasReached a s m stage = Sweeps a m.page m.head (reached m.head stage) (marks_cleared m.head stage) s
 
 -- What holds of the sweep that an actor runs: the spans that are the actor's are those of its stage, which says too what it has yet to tell.

@@ -5,7 +5,7 @@ ghost use Rattle.gh_base.specs.Cells.{InRange};
 ghost use Rattle.gh_base.specs.Packing.{FitsHead, head_word};
 ghost use Rattle.gh_base.specs.Steps.{cell_of};
 ghost use Rattle.gh_sweep.specs.Bits.{freed_in, kept_in};
-ghost use Rattle.gh_sweep.specs.Listing.{asks, behind, bit_words, counted, gives, goes, in_sweep, once_swept, opening, slot_bytes, slots_in, swept_span, word_at};
+ghost use Rattle.gh_sweep.specs.Listing.{asks, behind, bit_words, counted, given, goes, in_sweep, once_swept, opening, slot_bytes, slots_in, swept_span, word_at};
 ghost use Rattle.gh_sweep.specs.Sound.{FitsSweep};
 
 use gh_base::{Ask, Cell, Layout, Machine, PageWord, Req, SpanHead, TallyWord};
@@ -31,8 +31,8 @@ pub enum SweepStage {
     AddHeap,
     /// It writes the head of the swept span.
     Finish,
-    /// It has ended.
-    Ended,
+    /// It has ended with this.
+    Ended(SweepEnd),
 }
 
 /// What a sweep has found of a span.
@@ -188,7 +188,7 @@ impl Sweep {
                 Ask::Add(Cell::Heap, 0u64.wrapping_sub(self.bytes(self.freed)))
             }
             SweepStage::Finish => Ask::Store(Cell::Page(self.page), self.swept_word()),
-            SweepStage::Ended => Ask::Load(Cell::Touch),
+            SweepStage::Ended(_) => Ask::Load(Cell::Touch),
         }
     }
 
@@ -224,6 +224,16 @@ impl Sweep {
         }
     }
 
+    /// What it has given.
+    fn given(&self) -> Option<SweepEnd>
+        ensures { result ≡ given self.now }
+    {
+        match self.stage {
+            SweepStage::Ended(end) => Some(end),
+            _ => None,
+        }
+    }
+
     /// Counts the bits of an alloc word that are kept and freed.
     fn count(&mut self, i: u32, marks: u64, found: u64)
         requires { self.old.stage ≡ SweepStage.ClearBits i marks }
@@ -236,8 +246,9 @@ impl Sweep {
 }
 
 impl Machine for Sweep {
+    ghost use Rattle.gh_base.specs.Given.{is_over};
     ghost use Rattle.gh_sweep.specs.Listing.{listing};
-    ghost use Rattle.gh_sweep.specs.Ends as proved;
+    ghost use Rattle.gh_sweep.specs.Stays as proved;
 
     type Out = SweepEnd;
 
@@ -258,11 +269,11 @@ impl Machine for Sweep {
     fn take(&mut self, found: u64) -> Option<SweepEnd> {
         match self.stage {
             SweepStage::Begin => {
-                if found != self.found_word() {
-                    self.stage = SweepStage::Ended;
-                    return Some(SweepEnd::Lost);
-                }
-                self.stage = SweepStage::LoadMarks(0);
+                self.stage = if found != self.found_word() {
+                    SweepStage::Ended(SweepEnd::Lost)
+                } else {
+                    SweepStage::LoadMarks(0)
+                };
             }
             SweepStage::LoadMarks(i) => self.stage = SweepStage::ClearBits(i, found),
             SweepStage::ClearBits(i, marks) => self.count(i, marks, found),
@@ -271,15 +282,14 @@ impl Machine for Sweep {
             SweepStage::AddLive => self.stage = SweepStage::AddHeap,
             SweepStage::AddHeap => self.stage = SweepStage::Finish,
             SweepStage::Finish => {
-                self.stage = SweepStage::Ended;
-                return Some(SweepEnd::Swept(self.swept_span()));
+                self.stage = SweepStage::Ended(SweepEnd::Swept(self.swept_span()));
             }
-            SweepStage::Ended => {}
+            SweepStage::Ended(_) => {}
         }
-        None
+        self.given()
     }
 
-    ghost ends = { proved.ends };
+    ghost ends = { λ s found busy. is_over (listing.gives s found) };
 
     ghost stays = { proved.stays };
 }

@@ -1,11 +1,11 @@
 -- Each step keeps the rule.
 use Rattle.std.proofs.Common.{◌≡◌, ◌≢◌, ℕ, zero, suc, ◌<◌, ◌==◌, Bool, true, false, cond, List, [], ◌∷◌, ◌++◌, length, set, refl, sym, ap, ◌∙◌, subst, ⊎_elim, Option, Some, None, ◌||◌, true≢false, arith}
 use Rattle.std.specs.Prelude.{slice_index, slice_set}
-use Rattle.std.proofs.lemmas.List.{append-nil}
+use Rattle.std.proofs.lemmas.List.{append-nil, set-get_or}
 use mathlib.Core.Option.{some, some-ne-none, some-injective}
 use lib.ListN.{get_elem?}
 use prog.Atomic.{either}
-use Rattle.atomic_table.specs.Table.{Me, Allows, Splits, Joins, keeps, opening, Final, Seen}
+use Rattle.atomic_table.specs.Table.{State, Me, Allows, Splits, Joins, keeps, opening, Final, Seen}
 use Rattle.atomic_table.proofs.Lists.{at_set, set_again}
 use Rattle.gh_base.specs.declared.cell.Ask.{Ask}
 use Rattle.gh_base.specs.declared.cell.Ask.TheVariants.{Load, Store, Or, And, Add, Swap}
@@ -16,9 +16,9 @@ use Rattle.gh_base.specs.Cells.{InRange, length_of, Shows, WordsAreBelow}
 use Rattle.gh_base.specs.Lists.{Setting, by, Begins, Legal, MayFollow, started, state_of, words_after}
 use Rattle.gh_base.specs.Steps.{cell_of, changed, effect, leaves, request, StepsAreShown, target}
 use Rattle.gh_table.specs.declared.plan.View.{View}
-use Rattle.gh_table.specs.Rule.{actor_in, BeginsIn, Fits, HoldsOneList, IsAfterOneList, IsLaidOut, MayAsk, NoSeatCarries, Tells}
-use Rattle.gh_table.specs.Views.{all_carried, BeganAsEach, Carries, entry, has, joined, leaving, of_others, of_these, spent, staying, with_entry}
-use Rattle.gh_table.proofs.Seats.{at_end, bool_cases, has_from, has_head, has_neither, has_one, has_tail, moved, moved-else, moved-here, none_before, none_last, none_left, or_left_false, or_right, or_right_false, set_else, set_here, taken, taken-in, taken-out}
+use Rattle.gh_table.specs.Rule.{actor_in, BeginsIn, Fits, HoldsOneList, IsAfterOneList, IsLaidOut, MayAsk, NoSeatCarries, Tells, TellsOnce}
+use Rattle.gh_table.specs.Views.{all_carried, BeganAsEach, Carries, entry, has, joined, leaving, of_others, of_these, Once, spent, staying, with_entry}
+use Rattle.gh_table.proofs.Seats.{at_end, bool_cases, has_from, has_head, has_neither, has_one, has_tail, moved, moved-else, moved-here, none_before, none_last, none_left, once_append, once_from, once_without, or_left_false, or_right, or_right_false, set_else, set_here, taken, taken-in, taken-out}
 use Rattle.gh_table.proofs.Entries.{Settles, by-else, by-append, by-by, by-these, by-these-out, by-others, by-others-out, has-append, has-without, same_state}
 
 module _ {O : Type 0} where
@@ -88,6 +88,7 @@ module _ {K A O : Type 0} (settles : Settles A O) (of : K → Setting A O) where
               let old : Fits p (of p).actors kept.owner kept.list j v c = kept.views j v t.1 c holds in
               fits_else p (of p).actors kept.owner kept.list j v e c (λ same. t.0 (sym old.owned ∙ (ap kept.owner (sym same) ∙ mine.owned))) old)
               (at_set st.views id j (with_entry me.0 kept.list e) v is));
+          once = (λ j v is. ⊎_elim (λ (t : (j ≡ id) × (with_entry me.0 kept.list e ≡ v)). subst (λ (u : View K O). Once u.actors) t.1 (kept.once id me.0 at)) (λ (t : (j ≢ id) × (get_elem? st.views j ≡ some v)). kept.once j v t.1) (at_set st.views id j (with_entry me.0 kept.list e) v is));
           others = (λ c none.
               let out : has me.0.actors c ≡ false = none id (with_entry me.0 kept.list e) (set_here st.views id (with_entry me.0 kept.list e) me.0 at) in
               by-else c e kept.list (λ same. true≢false (sym (subst (λ (x : ℕ). has me.0.actors x ≡ true) same may.carries) ∙ out)) ∙ kept.others c (none_before c st.views id me.0 (with_entry me.0 kept.list e) at out none));
@@ -119,6 +120,10 @@ module _ {K A O : Type 0} (of : K → Setting A O) (p : K) where
         (λ (was : get_elem? (set st.views id (record { plan = z; actors = []; log = log; seen = seen })) j ≡ some v). kept.views j v (subst (λ l. get_elem? l j ≡ some v) (set_again st.views id (record { plan = z; actors = []; log = log; seen = seen }) at) was) c holds)
         (λ (t : (j ≡ length (set st.views id (record { plan = z; actors = []; log = log; seen = seen }))) × (spent z ≡ v)). absurd (true≢false (sym (subst (λ (u : View K O). Carries u c) (sym t.1) holds))))
         (at_end (set st.views id (record { plan = z; actors = []; log = log; seen = seen })) (spent z) v j is));
+    once = (λ j v is. ⊎_elim
+        (λ (was : get_elem? (set st.views id (record { plan = z; actors = []; log = log; seen = seen })) j ≡ some v). kept.once j v (subst (λ l. get_elem? l j ≡ some v) (set_again st.views id (record { plan = z; actors = []; log = log; seen = seen }) at) was))
+        (λ (t : (j ≡ length (set st.views id (record { plan = z; actors = []; log = log; seen = seen }))) × (spent z ≡ v)). subst (λ (u : View K O). Once u.actors) t.1 tt)
+        (at_end (set st.views id (record { plan = z; actors = []; log = log; seen = seen })) (spent z) v j is));
     others = (λ c none. kept.others c (none_before c st.views id (record { plan = z; actors = []; log = log; seen = seen }) (record { plan = z; actors = []; log = log; seen = seen }) at refl (none_left c (set st.views id (record { plan = z; actors = []; log = log; seen = seen })) (spent z) none)));
   }
   split_at z id (a ∷ xs) log seen st kept at =
@@ -147,6 +152,13 @@ module _ {K A O : Type 0} (of : K → Setting A O) (p : K) where
             let f : Fits p (of p).actors (moved kept.owner a m) kept.list m gone a = record { plan = mine.plan; owned = moved-here kept.owner a m a refl; known = mine.known; entries = mine.entries ∙ sym (by-by a log); seen = mine.seen } in
             let own : Fits p (of p).actors (moved kept.owner a m) kept.list m gone c = subst (λ (y : ℕ). Fits p (of p).actors (moved kept.owner a m) kept.list m gone y) one f in
             subst (λ (y : ℕ × View K O). Fits p (of p).actors (moved kept.owner a m) kept.list y.0 y.1 c) (λ x. (sym t.0 x, t.1 x)) own)
+            (at_end (set st.views id stay) gone v j is));
+        once = (λ j v is. ⊎_elim
+            (λ (was : get_elem? (set st.views id stay) j ≡ some v). ⊎_elim
+            (λ (t : (j ≡ id) × (stay ≡ v)). subst (λ (u : View K O). Once u.actors) t.1 (once_without a xs (kept.once id v0 at).1))
+            (λ (t : (j ≢ id) × (get_elem? st.views j ≡ some v)). kept.once j v t.1)
+            (at_set st.views id j stay v was))
+            (λ (t : (j ≡ m) × (gone ≡ v)). subst (λ (u : View K O). Once u.actors) t.1 (refl, tt))
             (at_end (set st.views id stay) gone v j is));
         others = (λ c none.
             let left : NoSeatCarries (set st.views id stay) c = none_left c (set st.views id stay) gone none in
@@ -187,6 +199,14 @@ module _ {K A O : Type 0} (of : K → Setting A O) (p : K) where
             record { plan = f.plan; owned = out ∙ f.owned; known = f.known; entries = f.entries; seen = f.seen })
             (at_set st.views id j (joined v w) u t.1))
             (at_set (set st.views id (joined v w)) other j (spent q) u is));
+        once = (λ j u is. ⊎_elim
+            (λ (t : (j ≡ other) × (spent q ≡ u)). subst (λ (x : View K O). Once x.actors) t.1 tt)
+            (λ (t : (j ≢ other) × (get_elem? (set st.views id (joined v w)) j ≡ some u)). ⊎_elim
+            (λ (y : (j ≡ id) × (joined v w ≡ u)). subst (λ (x : View K O). Once x.actors) y.1 (once_append v.actors w.actors (kept.once id v at) (kept.once other w wat)
+            (λ c in_v. ⊎_elim (λ (in_w : has w.actors c ≡ true). absurd (apart (sym (kept.views other w wat c in_w).owned ∙ (kept.views id v at c in_v).owned))) (λ (out : has w.actors c ≡ false). out) (bool_cases (has w.actors c)))))
+            (λ (y : (j ≢ id) × (get_elem? st.views j ≡ some u)). kept.once j u y.1)
+            (at_set st.views id j (joined v w) u t.1))
+            (at_set (set st.views id (joined v w)) other j (spent q) u is));
         others = (λ c none.
             let both : has (v.actors ++ w.actors) c ≡ false = none id (joined v w) (set_else (set st.views id (joined v w)) other id (spent q) (joined v w) (λ e. apart (sym e)) (set_here st.views id (joined v w) v at)) in
             let either_no : (has v.actors c || has w.actors c) ≡ false = sym (has-append v.actors w.actors c) ∙ both in
@@ -195,14 +215,30 @@ module _ {K A O : Type 0} (of : K → Setting A O) (p : K) where
       }
 
   pub opens : (ws : List ℕ) → Shows (of p).layout ws (of p).opening → HoldsOneList of p (opening {S = Unit {0}} ws [] (all_carried p (of p).actors))
-  opens ws e = record { list = []; owner = (λ _. 0); legal = tt; words = e; views = one; others = (λ a none. refl) }
+  opens ws e = record { list = []; owner = (λ _. 0); legal = tt; words = e; views = one; once = single; others = (λ a none. refl) }
     where
+      single : (id : ℕ) (v : View K O) → get_elem? (all_carried p (of p).actors ∷ []) id ≡ some v → Once v.actors
+      single zero v is = subst (λ (u : View K O). Once u.actors) (some-injective (all_carried p (of p).actors) v is) (once_from 0 (of p).actors)
+      single (suc id) v is = absurd (some-ne-none v (sym is))
+
       one : (id : ℕ) (v : View K O) → get_elem? (all_carried p (of p).actors ∷ []) id ≡ some v → (a : ℕ) → Carries v a → Fits p (of p).actors (λ _. 0) [] id v a
       one zero v is a holds =
           let same : all_carried p (of p).actors ≡ v = some-injective (all_carried p (of p).actors) v is in
           let f : Fits p (of p).actors (λ _. 0) [] 0 (all_carried p (of p).actors) a = record { plan = refl; owned = refl; known = (let l = has_from 0 (of p).actors a (subst (λ (u : View K O). Carries u a) (sym same) holds) in omega arith); entries = refl; seen = tt } in
           subst (λ (u : View K O). Fits p (of p).actors (λ _. 0) [] 0 u a) same f
       one (suc id) v is a holds = absurd (some-ne-none v (sym is))
+
+  -- a look changes nothing
+  pub looks : (slots id : ℕ) (me : Me (Unit {0}) (View K O)) (i : ℕ) → Allows (HoldsOneList of p) slots id me i (λ n. n) (λ n w. TellsOnce me w)
+  looks slots id me i st kept len at word =
+      let words : slice_set st.words i (slice_index st.words i) ≡ st.words = set-get_or st.words i 0 in
+      let views : set st.views id me.0 ≡ st.views = set_again st.views id me.0 at in (
+        me.0,
+        keeps,
+        tt,
+        subst (λ (s : State (Unit {0}) (View K O)). HoldsOneList of p s) (λ j. record { words = sym words j; homes = st.homes; views = sym views j }) kept,
+        (refl, kept.once id me.0 at),
+      )
 
   pub ends : (id : ℕ) (v : View K O) (ws : List ℕ) (xs : List (Unit {0})) → Final (Seen (HoldsOneList of p) id v) ws xs → IsAfterOneList of p v ws
   ends id v ws xs f =
@@ -225,6 +261,11 @@ target-word l (Or c x) h below = below c h
 target-word l (And c x) h below = below c h
 target-word l (Add c x) h below = below c h
 target-word l (Swap c x y) h below = below c h
+
+-- a store is told no word: the one that it overwrites is the word of its entry
+pub any_found : {K A O : Type 0} (of : K → Setting A O) (p : K) (slots id : ℕ) (me : Me (Unit {0}) (View K O)) (a : ℕ) (b : Option O) (r : Ask) (i : ℕ) (f : ℕ → ℕ)
+    → Allows (HoldsOneList of p) slots id me i f (λ n w. Tells of a b r n me w) → Allows (HoldsOneList of p) slots id me i f (λ n w. (found : ℕ) × Tells of a b r found me w)
+any_found of p slots id me a b r i f allows s holds homes view low = let x = allows s holds homes view low in (x.0, x.1, x.2, x.3, (slice_index s.words i, x.4))
 
 -- the step that a note names, at a request of a known kind
 module _ {K A O : Type 0} (settles : Settles A O) (of : K → Setting A O) where

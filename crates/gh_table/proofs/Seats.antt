@@ -5,7 +5,8 @@ use mathlib.Core.Option.{some, some-ne-none, some-injective}
 use lib.ListN.{get_elem?}
 use Rattle.gh_table.specs.declared.plan.View.{View}
 use Rattle.gh_table.specs.Rule.{NoSeatCarries}
-use Rattle.gh_table.specs.Views.{has, numbers_from, without}
+use Rattle.gh_table.specs.Views.{has, numbers_from, Once, without}
+use Rattle.gh_table.proofs.Entries.{has-append, has-without}
 
 pub at_end : {A : Type 0} (l : List A) (a b : A) (j : ℕ) → get_elem? (l ++ a ∷ []) j ≡ some b → (get_elem? l j ≡ some b) ⊎ ((j ≡ length l) × (a ≡ b))
 at_end [] a b zero e = inr (refl, some-injective a b e)
@@ -127,3 +128,45 @@ or_left_false false b e = refl
 pub or_right_false : (a b : Bool) → (a || b) ≡ false → b ≡ false
 or_right_false true b e = absurd (true≢false e)
 or_right_false false b e = e
+
+-- ---- no actor stands twice
+
+pub or_false : (a b : Bool) → a ≡ false → b ≡ false → (a || b) ≡ false
+or_false true b e f = absurd (true≢false e)
+or_false false b e f = f
+
+head_out : (x : ℕ) (xs ys : List ℕ) → ((a : ℕ) → has (x ∷ xs) a ≡ true → has ys a ≡ false) → has ys x ≡ false
+head_out x xs ys apart = apart x (has_head x xs)
+
+pub once_append : (xs ys : List ℕ) → Once xs → Once ys → ((a : ℕ) → has xs a ≡ true → has ys a ≡ false) → Once (xs ++ ys)
+once_append [] ys h k apart = k
+once_append (x ∷ xs) ys h k apart = (has-append xs ys x ∙ or_false (has xs x) (has ys x) h.0 (head_out x xs ys apart), once_append xs ys h.1 k (λ a t. apart a (has_tail x xs a t)))
+
+-- of lists in one of which no actor stands twice, none is in both
+pub once_apart : (xs ys : List ℕ) → Once (xs ++ ys) → (a : ℕ) → has xs a ≡ true → has ys a ≡ false
+once_apart [] ys h a t = absurd (true≢false (sym t))
+once_apart (x ∷ xs) ys h a t = go (x == a) refl t (once_apart xs ys h.1 a)
+  where
+    go : (b : Bool) → (x == a) ≡ b → cond b true (has xs a) ≡ true → (has xs a ≡ true → has ys a ≡ false) → has ys a ≡ false
+    go true q u ih = ap (has ys) (sym (eqb-true x a q)) ∙ or_right_false (has xs x) (has ys x) (sym (has-append xs ys x) ∙ h.0)
+    go false q u ih = ih u
+
+not_true : (b : Bool) → (b ≡ true → ⊥) → b ≡ false
+not_true true h = absurd (h refl)
+not_true false h = refl
+
+pub once_without : (a : ℕ) (xs : List ℕ) → Once xs → Once (without a xs)
+once_without a [] h = tt
+once_without a (x ∷ xs) h = go (x == a) (once_without a xs h.1)
+  where
+    go : (b : Bool) → Once (without a xs) → Once (cond b (without a xs) (x ∷ without a xs))
+    go true ih = ih
+    go false ih = (not_true (has (without a xs) x) (λ t. true≢false (sym (has-without a xs x t).1 ∙ h.0)), ih)
+
+later : (k i n : ℕ) → k < i → has (numbers_from i n) k ≡ false
+later k i zero lt = refl
+later k i (suc n) lt = let ne : i ≢ k = omega arith in rw (ne_eqb i k ne) (later k (suc i) n (omega arith))
+
+pub once_from : (i n : ℕ) → Once (numbers_from i n)
+once_from i zero = tt
+once_from i (suc n) = (later i (suc i) n (omega arith), once_from (suc i) n)

@@ -1,15 +1,16 @@
 -- The rule of the table: its words are those after one legal list of steps, of which each seat has the entries of the actors that it carries.
-use Rattle.std.specs.Prelude.{◌≡◌, ℕ, ◌<◌, true, false, List, [], ◌∷◌, Option, Some, None}
+use Rattle.std.specs.Prelude.{◌≡◌, ℕ, ◌<◌, true, false, ◌⊎◌, List, [], ◌∷◌, Option, Some, None}
 use mathlib.Core.Option.{some}
 use lib.ListN.{get_elem?}
 use Rattle.atomic_table.specs.Table.{State, Me}
 use Rattle.gh_base.specs.declared.cell.Ask.{Ask}
 use Rattle.gh_base.specs.declared.layout.Layout.{Layout}
 use Rattle.gh_base.specs.declared.machine.Entry.{Entry}
+use Rattle.gh_base.specs.Blind.{is_store}
 use Rattle.gh_base.specs.Cells.{length_of, Shows}
 use Rattle.gh_base.specs.Lists.{by, Legal, Setting, started, state_of, words_after}
 use Rattle.gh_table.specs.declared.plan.View.{View}
-use Rattle.gh_table.specs.Views.{BeganAsEach, Carries, entry, has, with_entry}
+use Rattle.gh_table.specs.Views.{BeganAsEach, Carries, entry, has, Once, with_entry}
 
 -- ---- the rule
 
@@ -26,13 +27,14 @@ module _ {K O : Type 0} where
   NoSeatCarries views a = (id : ℕ) (v : View K O) → get_elem? views id ≡ some v → has v.actors a ≡ false
 
 module _ {S K A O : Type 0} (of : K → Setting A O) where
-  -- There is one legal list: the words are those after it, each view has the entries of the actors that it carries, and an actor that no seat carries has no entry
+  -- There is one legal list: the words are those after it, each view has the entries of the actors that it carries, each of them once, and an actor that no seat carries has no entry
   pub record HoldsOneList (p : K) (st : State S (View K O)) : Type 0 where
     pub list : List (Entry O)
     pub owner : ℕ → ℕ
     pub legal : Legal (of p) list
     pub words : Shows (of p).layout st.words (words_after (of p).opening list)
     pub views : (id : ℕ) (v : View K O) → get_elem? st.views id ≡ some v → (a : ℕ) → Carries v a → Fits p (of p).actors owner list id v a
+    pub once : (id : ℕ) (v : View K O) → get_elem? st.views id ≡ some v → Once v.actors
     pub others : (a : ℕ) → NoSeatCarries st.views a → by a list ≡ []
 
   -- ---- what is told of it
@@ -44,6 +46,14 @@ module _ {S K A O : Type 0} (of : K → Setting A O) where
     pub own : by a before ≡ by a me.0.log
     pub legal : Legal (of me.0.plan) (entry a b r n ∷ before)
     pub view : me' ≡ (with_entry me.0 before (entry a b r n), me.1)
+
+-- The machine that asked for the step is told the word found, and behind a store any
+abbrev pub IsTold : Ask → (told found : ℕ) → Type 0
+IsTold r told found = (is_store r ≡ true) ⊎ (told ≡ found)
+
+-- What a look at the seat tells: no actor is carried twice, and nothing has changed
+abbrev pub TellsOnce : {S K O : Type 0} → (me me' : Me S (View K O)) → Type 0
+TellsOnce me me' = (me' ≡ me) × Once me.0.actors
 
 module _ {K A O : Type 0} (of : K → Setting A O) where
   -- the words are those after one legal list, which has of each actor that v carries just the entries of v, and began as all that v has seen

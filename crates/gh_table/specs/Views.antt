@@ -17,6 +17,11 @@ abbrev pub numbers_from : ℕ → ℕ → List ℕ
 numbers_from i zero = []
 numbers_from i (suc n) = i ∷ numbers_from (suc i) n
 
+-- no number stands twice among these
+abbrev pub Once : List ℕ → Type 0
+Once [] = Unit {0}
+Once (x ∷ xs) = (has xs x ≡ false) × Once xs
+
 abbrev pub without : ℕ → List ℕ → List ℕ
 without a [] = []
 without a (x ∷ xs) = if x == a then without a xs else x ∷ without a xs

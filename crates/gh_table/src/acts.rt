@@ -7,6 +7,7 @@ use gh_base::Machine;
 /// over to is what the actor asks for and goes over to.
 pub trait Acts<K: Plan<A, O>, A, O>: Machine {
     ghost use Rattle.std.specs.Prelude.{ℕ, ◌≡◌, true};
+    ghost use Rattle.gh_base.specs.Blind.{is_store};
 
     // The actor that it is.
     ghost acts_as: { Self → A };
@@ -25,7 +26,22 @@ pub trait Acts<K: Plan<A, O>, A, O>: Machine {
 
     ghost takes_is: { (p : K) (m : Self) (found : ℕ) → belongs p m → (K.setting p).kind.takes (acts_as m) found ≡ acts_as (Self.Machine.goes m found) };
 
+    // What it goes over to and gives behind a store is the same whatever word that overwrites.
+    ghost stores_blindly: { (m : Self) (found other : ℕ) → is_store (Self.Machine.asks m) ≡ true → (Self.Machine.goes m found ≡ Self.Machine.goes m other) × (Self.Machine.gives m found ≡ Self.Machine.gives m other) };
+
     ghost still_belongs: { (p : K) (m : Self) (found : ℕ) → belongs p m → belongs p (Self.Machine.goes m found) };
+}
+
+/// What counts something of itself, of which a gate is told.
+pub trait Marked {
+    ghost use Rattle.std.specs.Prelude.{ℕ, ◌≡◌};
+
+    // What it has counted so far.
+    ghost marked: { Self → ℕ };
+
+    /// What it has counted so far.
+    fn marks(&self) -> u64
+        ensures { result ≡ marked self.now };
 }
 
 /// Such a machine that operations are given to: a processor is one, a worker is not.

@@ -11,11 +11,12 @@ ghost use Rattle.gh_table.specs.Rule.{actor_in, IsLaidOut};
 ghost use Rattle.gh_table.specs.Runs.{Gave, Ran, SawLegalList};
 ghost use Rattle.gh_table.specs.Views.{Carries, has};
 
-use crate::acts::{Acts, Operates};
+use crate::acts::{Acts, Marked, Operates};
 use crate::plan::Plan;
 use crate::table::{ActorSeat, SharedWords, join_other, perform};
 use gh_base::laws::a_state_is_of_its_own_entries;
 use gh_base::{Layout, Machine};
+use gh_gate::Gate;
 use std::marker::PhantomData;
 use std::sync::Wait;
 
@@ -84,31 +85,8 @@ impl<A, O, K: Plan<A, O>, M: Acts<K, A, O>> Hand<A, O, K, M> {
         )
     }
 
-    /// Steps until the machine ends, and answers what it ends with. It may wait for other actors.
-    pub fn finish<R: Wait>(
-        &mut self,
-        rt: &R,
-        words: &SharedWords<K, A, O>,
-        layout: &Layout,
-    ) -> M::Out
-        requires words { IsLaidOut K.setting words.now.key words.now.table_id.words layout.now }
-        requires table { (self.old.seat.table_id ≡ words.now.table_id) × (self.old.seat.me.0.plan ≡ words.now.key) }
-        requires busy { M.busy self.old.machine ≡ true }
-        ensures same { (self.new.actor ≡ self.old.actor) × (self.new.seat.table_id ≡ self.old.seat.table_id) }
-        ensures ran { (founds : List ℕ) × Ran M.asks M.goes self.old.actor None self.old.machine self.old.seat.me self.new.machine self.new.seat.me founds × Gave M.goes M.gives self.old.machine founds result }
-        ensures saw { SawLegalList K.setting self.new.actor self.old.seat.me self.new.seat.me }
-        ensures idle { M.busy self.new.machine ≡ false }
-    {
-        for _ in rt.forever() {
-            if let Some(out) = self.go_on(words, layout) {
-                return out;
-            }
-        }
-        unreachable!()
-    }
-
     /// Takes over what the other hand carries, with all that its seat has seen, and answers its machine. The other actor
-    /// steps no more. It costs one load.
+    /// steps no more. It costs two loads.
     pub fn join<N: Acts<K, A, O>>(
         &mut self,
         words: &SharedWords<K, A, O>,
@@ -117,6 +95,7 @@ impl<A, O, K: Plan<A, O>, M: Acts<K, A, O>> Hand<A, O, K, M> {
         requires table { (self.old.seat.table_id ≡ words.now.table_id) × (other.seat.table_id ≡ words.now.table_id) × (0 < words.now.table_id.words) }
         ensures same { (self.new.actor ≡ self.old.actor) × (self.new.machine ≡ self.old.machine) × (self.new.seat.table_id ≡ self.old.seat.table_id) × (self.new.seat.me.0.plan ≡ self.old.seat.me.0.plan) }
         ensures carries { (a : ℕ) → has self.new.seat.me.0.actors a ≡ (has self.old.seat.me.0.actors a || has other.seat.me.0.actors a) }
+        ensures apart { (a : ℕ) → Carries self.old.seat.me.0 a → has other.seat.me.0.actors a ≡ false }
         ensures seen { self.new.seat.me.0.seen ≡ self.old.seat.me.0.seen ++ other.seat.me.0.seen }
         ensures own { (a : ℕ) → Carries self.old.seat.me.0 a → by a self.new.seat.me.0.log ≡ by a self.old.seat.me.0.log }
         ensures other { (a : ℕ) → has self.old.seat.me.0.actors a ≡ false → by a self.new.seat.me.0.log ≡ by a other.seat.me.0.log }
@@ -131,6 +110,47 @@ impl<A, O, K: Plan<A, O>, M: Acts<K, A, O>> Hand<A, O, K, M> {
         } = other;
         join_other(words, &mut self.seat, seat, self.actor, actor);
         machine
+    }
+}
+
+impl<A, O, K: Plan<A, O>, M: Acts<K, A, O> + Marked> Hand<A, O, K, M> {
+    /// Calls the gate where the machine's marks are not those of before. It answers what they are now.
+    fn pass<G: Gate>(&self, gate: &G, who: u8, before: u64) -> u64
+        ensures { result ≡ M.marked self.now.machine }
+    {
+        let marks = self.machine.marks();
+        if marks != before {
+            gate.at(who, marks);
+        }
+        marks
+    }
+
+    /// Steps until the machine ends, and answers what it ends with. It may wait for other actors, and at the gate: that is
+    /// called between two steps, as `who`, whenever the machine's marks have changed.
+    pub fn finish<R: Wait, G: Gate>(
+        &mut self,
+        rt: &R,
+        words: &SharedWords<K, A, O>,
+        layout: &Layout,
+        who: u8,
+        gate: &G,
+    ) -> M::Out
+        requires words { IsLaidOut K.setting words.now.key words.now.table_id.words layout.now }
+        requires table { (self.old.seat.table_id ≡ words.now.table_id) × (self.old.seat.me.0.plan ≡ words.now.key) }
+        requires busy { M.busy self.old.machine ≡ true }
+        ensures same { (self.new.actor ≡ self.old.actor) × (self.new.seat.table_id ≡ self.old.seat.table_id) }
+        ensures ran { (founds : List ℕ) × Ran M.asks M.goes self.old.actor None self.old.machine self.old.seat.me self.new.machine self.new.seat.me founds × Gave M.goes M.gives self.old.machine founds result }
+        ensures saw { SawLegalList K.setting self.new.actor self.old.seat.me self.new.seat.me }
+        ensures idle { M.busy self.new.machine ≡ false }
+    {
+        let mut marks = self.machine.marks();
+        for _ in rt.forever() {
+            if let Some(out) = self.go_on(words, layout) {
+                return out;
+            }
+            marks = self.pass(gate, who, marks);
+        }
+        unreachable!()
     }
 }
 

@@ -16,7 +16,8 @@
 //! A thread runs an actor by a [`Hand`]: the actor's machine, with the seat that carries it. Between two calls the machine
 //! is what the actor is after its entries. A hand may go to another thread. In the end hands are joined, and the table is
 //! closed with a seat that has all entries: what comes of it is a legal list with each thread's steps in it, in their order,
-//! and the words after it.
+//! and the words after it. A hand that is run to its end is told a gate (`gh_gate`): that may keep it waiting between two
+//! steps, and no clause knows of it.
 //!
 //! What a table is made for is its [`Plan`], which says what is legal. The plan is the table's key and stands in each
 //! view, and no reference may stand in either. A proof about seats that go to another thread could not name its lifetime.
@@ -32,8 +33,8 @@ mod plan;
 mod rule;
 mod table;
 
-pub use acts::{Acts, Operates};
+pub use acts::{Acts, Marked, Operates};
 pub use hand::Hand;
 pub use plan::{Plan, View};
-pub use rule::{AddsEntry, FirstActorLeaves, NextStep, OneLegalList, SeatsJoined};
+pub use rule::{AddsEntry, FirstActorLeaves, NextStep, OneLegalList, SeatsJoined, TellsActors};
 pub use table::{ActorSeat, SharedWords, close, join_other, open, perform, split_first};

@@ -54,6 +54,25 @@ impl<K: Plan<A, O>, A, O, N: NextStep<O>> Play<(), View<K, O>> for AddsEntry<A, 
     ghost then = { λ s me n w. Tells K.setting N.actor N.begun N.ask n me w };
 }
 
+/// The same of a store, which finds nothing: the word that its entry says was found is the one before it.
+pub struct AddsStore<A, N>(PhantomData<(A, N)>);
+
+impl<K: Plan<A, O>, A, O, N: NextStep<O>> Play<(), View<K, O>> for AddsStore<A, N> {
+    ghost use Rattle.std.specs.Prelude.{ℕ};
+    ghost use Rattle.gh_table.specs.Rule.{Tells};
+
+    ghost then = { λ s me n w. (found : ℕ) × Tells K.setting N.actor N.begun N.ask found me w };
+}
+
+/// A look that tells what the rule says of a seat's actors, and changes nothing.
+pub struct TellsActors<A>(PhantomData<A>);
+
+impl<K: Plan<A, O>, A, O> Play<(), View<K, O>> for TellsActors<A> {
+    ghost use Rattle.gh_table.specs.Rule.{TellsOnce};
+
+    ghost then = { λ s me n w. TellsOnce me w };
+}
+
 /// The first actor that a seat carries gets a seat of its own.
 pub struct FirstActorLeaves;
 

@@ -4,12 +4,14 @@ ghost use Rattle.std.specs.Prelude.{◌≡◌, ℕ, ◌<◌, ◌+◌, ◌-◌, �
 ghost use Rattle.std.specs.Slots.{slots_items, slots_len, IsFull};
 ghost use Rattle.gh_base.specs.Cells.{Shows};
 ghost use Rattle.gh_base.specs.Lists.{by, started};
-ghost use Rattle.gh_table.specs.Rule.{actor_in, BeginsIn, IsAfterOneList, IsLaidOut, MayAsk, Tells};
-ghost use Rattle.gh_table.specs.Views.{all_carried, Carries, has, leaving, one_carried, rest_carried, staying};
+ghost use Rattle.gh_table.specs.Rule.{actor_in, BeginsIn, IsAfterOneList, IsLaidOut, IsTold, MayAsk, Tells};
+ghost use Rattle.gh_table.specs.Views.{all_carried, Carries, has, leaving, Once, one_carried, rest_carried, staying};
 
 use crate::acts::Acts;
 use crate::plan::{Plan, View};
-use crate::rule::{AddsEntry, FirstActorLeaves, NextStep, OneLegalList, SeatsJoined};
+use crate::rule::{
+    AddsEntry, AddsStore, FirstActorLeaves, NextStep, OneLegalList, SeatsJoined, TellsActors,
+};
 use atomic_table::{Closed, Seat, Shared, Table};
 use gh_base::laws::{
     a_state_is_of_its_own_entries, cells_have_words_of_their_own, steps_are_shown,
@@ -24,8 +26,8 @@ pub type SharedWords<K, A, O> = Shared<(), View<K, O>, K, OneLegalList<A, O>>;
 /// What an actor steps with. It has no bytes and may go to another thread.
 pub type ActorSeat<K, O> = Seat<(), View<K, O>>;
 
-/// The step that the machine asks for, which adds the entry that N names. What a Store finds is the word before it, so it
-/// is made by the table's swap.
+/// The step that the machine asks for, which adds the entry that N names. It answers the word that the machine is to be
+/// told: the one found, and behind a store, which finds nothing, any.
 fn make_step<A, O, K: Plan<A, O>, M: Acts<K, A, O>, N: NextStep<O>>(
     words: &SharedWords<K, A, O>,
     layout: &Layout,
@@ -41,14 +43,17 @@ fn make_step<A, O, K: Plan<A, O>, M: Acts<K, A, O>, N: NextStep<O>>(
     requires laid { M.layout machine.now ≡ layout.now }
     requires may { MayAsk K.setting seat.old.me.0 actor begun.now (M.asks machine.now) }
     ensures same { seat.new.table_id ≡ seat.old.table_id }
-    ensures tells { Tells K.setting actor begun.now (M.asks machine.now) result seat.old.me seat.new.me }
+    ensures tells { (found : ℕ) × Tells K.setting actor begun.now (M.asks machine.now) found seat.old.me seat.new.me × IsTold (M.asks machine.now) result found }
 {
     a_state_is_of_its_own_entries::<A, O>();
     cells_have_words_of_their_own(layout);
     steps_are_shown(layout);
     match machine.next() {
         Req::Load(i) => words.load::<AddsEntry<A, N>>(seat, i as usize),
-        Req::Store(i, x) => words.swap::<AddsEntry<A, N>>(seat, i as usize, x),
+        Req::Store(i, x) => {
+            words.store::<AddsStore<A, N>>(seat, i as usize, x);
+            0
+        }
         Req::Or(i, x) => words.fetch_or::<AddsEntry<A, N>>(seat, i as usize, x),
         Req::And(i, x) => words.fetch_and::<AddsEntry<A, N>>(seat, i as usize, x),
         Req::Add(i, x) => words.fetch_add::<AddsEntry<A, N>>(seat, i as usize, x),
@@ -79,8 +84,8 @@ pub fn perform<A, O, K: Plan<A, O>, M: Acts<K, A, O>>(
     ensures same { seat.new.table_id ≡ seat.old.table_id }
     ensures step { (found : ℕ) × Tells K.setting actor begun.now (M.asks machine.old) found seat.old.me seat.new.me × (machine.new ≡ M.goes machine.old found) × (result ≡ M.gives machine.old found) }
 {
-    let found = make_step::<A, O, K, M, Brand>(words, layout, seat, actor, begun, machine);
-    machine.take(found)
+    let told = make_step::<A, O, K, M, Brand>(words, layout, seat, actor, begun, machine);
+    machine.take(told)
 }
 
 /// The first actor that the seat carries gets a seat of its own, with its entries; the others stay. Where the seat carries
@@ -97,8 +102,17 @@ pub fn split_first<A, O, K: Plan<A, O>>(
     words.split_seat::<FirstActorLeaves>(seat)
 }
 
-/// The seat takes over what the other carries, which is spent. `mine` and `its` are actors that they carry. It costs one
-/// load.
+/// Looks at what the rule says of the seat's actors: none is carried twice. It costs one load.
+fn look<A, O, K: Plan<A, O>>(words: &SharedWords<K, A, O>, seat: &mut ActorSeat<K, O>)
+    requires table { (seat.old.table_id ≡ words.now.table_id) × (0 < words.now.table_id.words) }
+    ensures same { (seat.new.table_id ≡ seat.old.table_id) × (seat.new.me ≡ seat.old.me) }
+    ensures once { Once seat.old.me.0.actors }
+{
+    words.load::<TellsActors<A>>(seat, 0);
+}
+
+/// The seat takes over what the other carries, which is spent. `mine` and `its` are actors that they carry. It costs two
+/// loads.
 pub fn join_other<A, O, K: Plan<A, O>>(
     words: &SharedWords<K, A, O>,
     seat: &mut ActorSeat<K, O>,
@@ -111,11 +125,13 @@ pub fn join_other<A, O, K: Plan<A, O>>(
     requires carries { Carries seat.old.me.0 mine × Carries other.me.0 its }
     ensures same { (seat.new.table_id ≡ seat.old.table_id) × (seat.new.me.1 ≡ seat.old.me.1) × (seat.new.me.0.plan ≡ seat.old.me.0.plan) }
     ensures carries { (a : ℕ) → has seat.new.me.0.actors a ≡ (has seat.old.me.0.actors a || has other.me.0.actors a) }
+    ensures apart { (a : ℕ) → Carries seat.old.me.0 a → has other.me.0.actors a ≡ false }
     ensures seen { seat.new.me.0.seen ≡ seat.old.me.0.seen ++ other.me.0.seen }
     ensures own { (a : ℕ) → Carries seat.old.me.0 a → by a seat.new.me.0.log ≡ by a seat.old.me.0.log }
     ensures other { (a : ℕ) → has seat.old.me.0.actors a ≡ false → by a seat.new.me.0.log ≡ by a other.me.0.log }
 {
     words.join_seat::<SeatsJoined<A>>(seat, other);
+    look(words, seat);
 }
 
 /// A table that opens with these words, and a seat that carries all actors of its plan. It takes all the memory that there

@@ -1,22 +1,23 @@
 -- The taking of an entry, by what its tries answer.
-use Rattle.std.proofs.Common.{◌≡◌, ℕ, zero, suc, ◌+◌, ◌-◌, ◌*◌, ◌<◌, ◌≤◌, ◌⊎◌, Bool, true, false, cond, eqb, ltb, Option, Some, None, refl, sym, ap, subst, ◌∙◌, arith, inl, inr, ltb-true, ltb-false}
+use Rattle.std.proofs.Common.{◌≡◌, ℕ, zero, suc, ◌+◌, ◌-◌, ◌*◌, ◌<◌, ◌≤◌, ◌⊎◌, Bool, true, false, cond, ltb, Option, Some, None, refl, sym, ap, subst, ◌∙◌, arith, inl, inr, ltb-true, ltb-false}
+use Rattle.std.specs.Prelude.{is_none}
 use Rattle.gh_base.specs.declared.cell.Cell.TheVariants as cell
 use Rattle.gh_base.specs.Cells.{buffers_of}
 use Rattle.gh_wbuf.specs.declared.take_entry.TakeStage.TheVariants.{Try, Take, Ended}
 use Rattle.gh_wbuf.specs.declared.try_buffer.TryStage.TheVariants as stage
 use Rattle.gh_wbuf.specs.Entries.{AreLost, Becomes, entry_try, HasNoEntry, held_behind, TakesEntry, TakesLast, taking, TriesForEntry, trying}
 use Rattle.gh_wbuf.specs.Entries as law
-use Rattle.gh_wbuf.specs.EntryTaking.{after_try, asks, at_stage, begin, behind, entry_of, EntryTaking, gives, gives_at, goes, goes_at, has_next, held_at, less, listing, none_of, opening, try_at}
-use Rattle.gh_wbuf.specs.Tries.{Took}
+use Rattle.gh_wbuf.specs.EntryTaking.{after_try, asks, at_stage, begin, behind, entry_of, EntryTaking, given, given_at, gives, goes, goes_at, has_next, held_at, is_busy, less, listing, opening, try_at}
+use Rattle.gh_wbuf.specs.Tries.{EndsAt, Took}
 use Rattle.gh_wbuf.specs.Trying as try
-use Rattle.gh_wbuf.proofs.Vocabulary.{EndsWith, Entry, GoesOn, Held, IsFolded, Layout, Load, nat_tests, Store, TakeStage, told, Trying, TryStage}
-use Rattle.gh_wbuf.proofs.Taking.{FineTry, fine_try, took}
+use Rattle.gh_wbuf.proofs.Vocabulary.{Entry, GoesOn, Held, IsFolded, Layout, Load, nat_tests, Store, TakeStage, told, Trying, TryStage}
+use Rattle.gh_wbuf.proofs.Taking.{claims_nothing, FineTry, fine_try, took}
 use Rattle.gh_wbuf.proofs.Tries.{tries}
-use Rattle.gh_wbuf.proofs.Trying.{busy_before, gives_busy, gives_nothing, same, still_busy}
+use Rattle.gh_wbuf.proofs.Trying.{busy_before, gives_nothing, same, still_busy}
 
--- none, unless there is more
-abbrev none_unless : Bool → Option (Option ℕ)
-none_unless more = cond more None (Some None)
+-- it answers none with the step that finds this
+abbrev AnswersNone : EntryTaking → ℕ → Type 0
+AnswersNone s f = (is_busy s.stage ≡ true) × (gives s f ≡ Some None)
 
 module _ (l : Layout) (seat : ℕ) where
   abbrev take_in : Trying → EntryTaking
@@ -37,17 +38,17 @@ module _ (l : Layout) (seat : ℕ) where
         ap (λ (r : EntryTaking). goes r (found n)) (along n (still_busy (tried n) (found n) busy))
         ∙ ap (λ (o : Option (Option Held)). after_try (take_in (tried (suc n))) (tried n).index (tried (suc n)).held o) (gives_nothing (tried n) (found n) busy)
 
-    then : (n : ℕ) (out : Option Held) → EndsWith try.listing t found n out → told listing (take_in t) found (suc n) ≡ passed n (Some out)
+    then : (n : ℕ) (out : Option Held) → EndsAt try.listing t found n out → told listing (take_in t) found (suc n) ≡ passed n (Some out)
     then n out e =
-        ap (λ (r : EntryTaking). goes r (found n)) (along n (gives_busy (tried n) (found n) out e))
-        ∙ ap (λ (o : Option (Option Held)). after_try (take_in (tried (suc n))) (tried n).index (tried (suc n)).held o) e
+        ap (λ (r : EntryTaking). goes r (found n)) (along n e.0)
+        ∙ ap (λ (o : Option (Option Held)). after_try (take_in (tried (suc n))) (tried n).index (tried (suc n)).held o) e.1
         ∙ ap (λ (i : ℕ). after_try (take_in (tried (suc n))) i (tried (suc n)).held (Some out)) (same t found n).index
 
     -- what it gives meanwhile
-    gives_along : (n : ℕ) → GoesOn try.listing t found n → gives (told listing (take_in t) found n) (found n) ≡ none_of (take_in t) t.index (try.gives (tried n) (found n))
+    gives_along : (n : ℕ) → GoesOn try.listing t found n → gives (told listing (take_in t) found n) (found n) ≡ given (passed n (try.gives (tried n) (found n)))
     gives_along n busy =
         ap (λ (r : EntryTaking). gives r (found n)) (along n busy)
-        ∙ ap (λ (i : ℕ). none_of (take_in t) i (try.gives (tried n) (found n))) (same t found n).index
+        ∙ ap (λ (i : ℕ). given (after_try (take_in (tried (suc n))) i (tried (suc n)).held (try.gives (tried n) (found n)))) (same t found n).index
 
   next_there : (index : ℕ) → suc index < buffers_of l → has_next l index ≡ true
   next_there index lt = grind (arith, nat_tests)
@@ -63,67 +64,58 @@ module _ (l : Layout) (seat : ℕ) where
         lost = λ n e lt.
             let more : index + 1 ≡ suc index = omega arith in
             then t found n None e
-            ∙ ap (λ (b : Bool). at_stage (take_in t) (cond b (try_at l seat (index + 1) (held_behind l seat index held found n)) (Ended (held_behind l seat index held found n)))) (next_there index lt)
+            ∙ ap (λ (b : Bool). at_stage (take_in t) (cond b (try_at l seat (index + 1) (held_behind l seat index held found n)) (Ended (held_behind l seat index held found n) None))) (next_there index lt)
             ∙ ap (λ (i : ℕ). trying l seat i (held_behind l seat index held found n)) more;
-        lost_last = λ n e le.
-            gives_along t found n (gives_busy (tried t found n) (found n) None e)
-            ∙ ap (none_of (take_in t) index) e
-            ∙ ap (λ (b : Bool). cond b None (Some None)) (last_there index le);
+        lost_last = λ n e le. (
+          ap (λ (r : EntryTaking). is_busy r.stage) (along t found n e.0),
+          gives_along t found n e.0
+              ∙ ap (λ (o : Option (Option Held)). given (passed t found n o)) e.1
+              ∙ ap (λ (b : Bool). given_at (cond b (try_at l seat (index + 1) (held_behind l seat index held found n)) (Ended (held_behind l seat index held found n) None))) (last_there index le),
+        );
         won = λ n h e. then t found n (Some h) e;
       }
 
   module _ (folded : IsFolded listing) where
     -- none, from buffer `index` on
 
-    never_none : (r : EntryTaking) (found : ℕ → ℕ) (held : Option Held) → r.stage ≡ Ended held → (n : ℕ) → (told listing r found n).stage ≡ Ended held
-    never_none r found held e zero = e
-    never_none r found held e (suc n) = stays (told listing r found n) (told listing r found n).stage (found n) (never_none r found held e n) (never_none r found held e n) where
-      stays : (s : EntryTaking) (p : TakeStage) (f : ℕ) → p ≡ Ended held → s.stage ≡ Ended held → (goes_at s p f).stage ≡ Ended held
-      stays s (Try t) f is e = absurd (cc)
-      stays s (Take h) f is e = absurd (cc)
-      stays s (Ended other) f is e = e
+    stays_over : (r : EntryTaking) (found : ℕ → ℕ) (held : Option Held) (entry : Option ℕ) → r.stage ≡ Ended held entry → (n : ℕ) → (told listing r found n).stage ≡ Ended held entry
+    stays_over r found held entry e zero = e
+    stays_over r found held entry e (suc n) = let s : EntryTaking = told listing r found n in ap (λ (p : TakeStage). (goes_at s p (found n)).stage) (stays_over r found held entry e n)
 
-    ended_gives : (s : EntryTaking) (p : TakeStage) (f : ℕ) (held : Option Held) → p ≡ Ended held → gives_at s p f ≡ None
-    ended_gives s (Try t) f held e = absurd (cc)
-    ended_gives s (Take h) f held e = absurd (cc)
-    ended_gives s (Ended other) f held e = refl
-
-    over : (r : EntryTaking) (found : ℕ → ℕ) (held : Option Held) → r.stage ≡ Ended held → (n : ℕ) → ¬ EndsWith listing r found n None
-    over r found held e n q =
-        let s : EntryTaking = told listing r found n in
-        let nothing : gives s (found n) ≡ None = ended_gives s s.stage (found n) held (never_none r found held e n) in
+    over : (r : EntryTaking) (found : ℕ → ℕ) (held : Option Held) (entry : Option ℕ) → r.stage ≡ Ended held entry → (n : ℕ) → ¬ EndsAt listing r found n None
+    over r found held entry e n q =
+        let busy : is_busy (told listing r found n).stage ≡ true = q.0 in
+        let ended : is_busy (told listing r found n).stage ≡ false = ap is_busy (stays_over r found held entry e n) in
         absurd (cc)
 
     -- with a buffer that has an entry it does not end with none
-    has_one : (h : Held) (found : ℕ → ℕ) (n : ℕ) → ¬ EndsWith listing (taking l seat h) found n None
-    has_one h found zero q = absurd (cc)
+    has_one : (h : Held) (found : ℕ → ℕ) (n : ℕ) → ¬ EndsAt listing (taking l seat h) found n None
+    has_one h found zero q = absurd (let some : Some (Some (entry_of l (found 0))) ≡ Some None = q.1 in cc)
     has_one h found (suc n) q =
-        over (goes (taking l seat h) (found 0)) (λ i. found (suc i)) (Some (less h)) refl n
-        (sym (ap (λ (s : EntryTaking). gives s (found (suc n))) (folded.told_first (taking l seat h) found n)) ∙ q)
+        over (goes (taking l seat h) (found 0)) (λ i. found (suc i)) (Some (less h)) (Some (entry_of l (found 0))) refl n
+        (subst (λ (s : EntryTaking). AnswersNone s (found (suc n))) (folded.told_first (taking l seat h) found n) q)
 
     -- from where it is behind n steps
-    later : (r s : EntryTaking) (found : ℕ → ℕ) (n k : ℕ) → told listing r found (suc n) ≡ s → gives (told listing r found (suc n + k)) (found (suc n + k)) ≡ gives (told listing s (λ i. found (suc n + i)) k) (found (suc n + k))
-    later r s found n k e =
-        ap (λ (x : EntryTaking). gives x (found (suc n + k))) (folded.told_behind r found (suc n) k)
-        ∙ ap (λ (x : EntryTaking). gives (told listing x (λ i. found (suc n + i)) k) (found (suc n + k))) e
+    later : (r s : EntryTaking) (found : ℕ → ℕ) (n k : ℕ) → told listing r found (suc n) ≡ s → told listing r found (suc n + k) ≡ told listing s (λ i. found (suc n + i)) k
+    later r s found n k e = folded.told_behind r found (suc n) k ∙ ap (λ (x : EntryTaking). told listing x (λ i. found (suc n + i)) k) e
 
     abbrev EndsNone : (index : ℕ) → Option Held → (ℕ → ℕ) → ℕ → Type 0
-    EndsNone index held found n = EndsWith listing (trying l seat index held) found n None
+    EndsNone index held found n = EndsAt listing (trying l seat index held) found n None
 
     backward : (left index : ℕ) (held : Option Held) (found : ℕ → ℕ) (n : ℕ) → index + suc left ≡ buffers_of l → AreLost l seat (suc left) index held found (suc n) → EndsNone index held found n
     backward zero index held found n e lost =
         let m : ℕ = lost.0 in
-        let none : EndsWith try.listing (entry_try l seat index held) found m None = lost.2 in
+        let none : EndsAt try.listing (entry_try l seat index held) found m None = lost.2 in
         let sum : suc n ≡ suc m + lost.1 = lost.3 in
         let rest : lost.1 ≡ 0 = lost.4 in
         let is : m ≡ n = omega arith in
         subst (λ (k : ℕ). EndsNone index held found k) is ((tries_for index held found).lost_last m none (omega arith))
     backward (suc left) index held found n e lost =
         let m : ℕ = lost.0 in
-        let none : EndsWith try.listing (entry_try l seat index held) found m None = lost.2 in
+        let none : EndsAt try.listing (entry_try l seat index held) found m None = lost.2 in
         let sum : suc n ≡ suc m + lost.1 = lost.3 in
         go m none lost.1 sum lost.4 (λ k. backward left (suc index) (held_behind l seat index held found m) (λ i. found (suc m + i)) k (omega arith)) where
-          go : (m : ℕ) → EndsWith try.listing (entry_try l seat index held) found m None → (rest : ℕ) → suc n ≡ suc m + rest →
+          go : (m : ℕ) → EndsAt try.listing (entry_try l seat index held) found m None → (rest : ℕ) → suc n ≡ suc m + rest →
               AreLost l seat (suc left) (suc index) (held_behind l seat index held found m) (λ i. found (suc m + i)) rest →
               ((k : ℕ) → AreLost l seat (suc left) (suc index) (held_behind l seat index held found m) (λ i. found (suc m + i)) (suc k) → EndsNone (suc index) (held_behind l seat index held found m) (λ i. found (suc m + i)) k) →
               EndsNone index held found n
@@ -131,58 +123,62 @@ module _ (l : Layout) (seat : ℕ) where
           go m none (suc k) sum more next =
               let is : suc m + k ≡ n = omega arith in
               subst (λ (j : ℕ). EndsNone index held found j) is
-              (later (trying l seat index held) (trying l seat (suc index) (held_behind l seat index held found m)) found m k ((tries_for index held found).lost m none (omega arith)) ∙ next k more)
+              (subst (λ (x : EntryTaking). AnswersNone x (found (suc m + k))) (sym (later (trying l seat index held) (trying l seat (suc index) (held_behind l seat index held found m)) found m k ((tries_for index held found).lost m none (omega arith)))) (next k more))
 
-    none_gives : (index : ℕ) (out : Option (Option Held)) → none_of (take_in (entry_try l seat index None)) index out ≡ Some None → (out ≡ Some None) × (buffers_of l ≤ suc index)
-    none_gives index None e = absurd (cc)
-    none_gives index (Some None) e = (refl, by (has_next l index) refl e) where
-      by : (b : Bool) → has_next l index ≡ b → none_unless b ≡ Some None → buffers_of l ≤ suc index
+    none_gives : (u : Trying) (index : ℕ) (held : Option Held) (out : Option (Option Held)) → given (after_try (take_in u) index held out) ≡ Some None → (out ≡ Some None) × (buffers_of l ≤ suc index)
+    none_gives u index held None e = absurd (cc)
+    none_gives u index held (Some None) e = (refl, by (has_next l index) refl e) where
+      by : (b : Bool) → has_next l index ≡ b → given_at (cond b (try_at l seat (index + 1) held) (Ended held None)) ≡ Some None → buffers_of l ≤ suc index
       by true w e = absurd (cc)
       by false w e = let le : buffers_of l ≤ index + 1 = grind (arith, nat_tests) in omega arith
-    none_gives index (Some (Some h)) e = absurd (cc)
+    none_gives u index held (Some (Some h)) e = absurd (cc)
 
     module _ (index : ℕ) (held : Option Held) (found : ℕ → ℕ) where
       abbrev t : Trying
       t = entry_try l seat index held
 
       -- while the try goes on it ends with none by the try of the last buffer
-      with_try : (n : ℕ) → GoesOn try.listing t found n → EndsNone index held found n → (EndsWith try.listing t found n None) × (buffers_of l ≤ suc index)
-      with_try n busy q = none_gives index (try.gives (tried t found n) (found n)) (sym (gives_along t found n busy) ∙ q)
+      with_try : (n : ℕ) → GoesOn try.listing t found n → EndsNone index held found n → (EndsAt try.listing t found n None) × (buffers_of l ≤ suc index)
+      with_try n busy q =
+          let is = none_gives (tried t found (suc n)) index (tried t found (suc n)).held (try.gives (tried t found n) (found n)) (sym (gives_along t found n busy) ∙ q.1) in
+          ((busy, is.0), is.1)
 
       -- behind it from what the try has led to
-      from_behind : (m k n : ℕ) (out : Option Held) → EndsWith try.listing t found m out → n ≡ suc m + k → EndsNone index held found n → EndsWith listing (passed t found m (Some out)) (λ i. found (suc m + i)) k None
-      from_behind m k n out e is q = sym (later (take_in t) (passed t found m (Some out)) found m k (then t found m out e)) ∙ subst (λ (j : ℕ). EndsNone index held found j) is q
+      from_behind : (m k n : ℕ) (out : Option Held) → EndsAt try.listing t found m out → n ≡ suc m + k → EndsNone index held found n → EndsAt listing (passed t found m (Some out)) (λ i. found (suc m + i)) k None
+      from_behind m k n out e is q =
+          subst (λ (x : EntryTaking). AnswersNone x (found (suc m + k))) (later (take_in t) (passed t found m (Some out)) found m k (then t found m out e))
+          (subst (λ (j : ℕ). EndsNone index held found j) is q)
 
-      not_won : (m k n : ℕ) (h : Held) → EndsWith try.listing t found m (Some h) → n ≡ suc m + k → ¬ EndsNone index held found n
+      not_won : (m k n : ℕ) (h : Held) → EndsAt try.listing t found m (Some h) → n ≡ suc m + k → ¬ EndsNone index held found n
       not_won m k n h e is q = has_one h (λ i. found (suc m + i)) k (from_behind m k n (Some h) e is q)
 
-      lost_all : (m k n : ℕ) → buffers_of l ≤ suc index → EndsWith try.listing t found m None → n ≡ suc m + k → ¬ EndsNone index held found n
+      lost_all : (m k n : ℕ) → buffers_of l ≤ suc index → EndsAt try.listing t found m None → n ≡ suc m + k → ¬ EndsNone index held found n
       lost_all m k n le e is q =
           let kept : Option Held = held_behind l seat index held found m in
-          over (passed t found m (Some None)) (λ i. found (suc m + i)) kept (ap (λ (b : Bool). cond b (try_at l seat (index + 1) kept) (Ended kept)) (last_there index le)) k (from_behind m k n None e is q)
+          over (passed t found m (Some None)) (λ i. found (suc m + i)) kept None (ap (λ (b : Bool). cond b (try_at l seat (index + 1) kept) (Ended kept None)) (last_there index le)) k (from_behind m k n None e is q)
 
     forward : (left index : ℕ) (held : Option Held) (found : ℕ → ℕ) (n : ℕ) → index + suc left ≡ buffers_of l → EndsNone index held found n → AreLost l seat (suc left) index held found (suc n)
     forward zero index held found n e q = by end.0 end.1 end.2 (ltb end.0 n) refl where
-      end : (m : ℕ) × (out : Option Held) × EndsWith try.listing (entry_try l seat index held) found m out
+      end : (m : ℕ) × (out : Option Held) × EndsAt try.listing (entry_try l seat index held) found m out
       end = (tries l seat Entry index held found).ends
 
-      by : (m : ℕ) (out : Option Held) → EndsWith try.listing (entry_try l seat index held) found m out → (b : Bool) → ltb m n ≡ b → AreLost l seat 1 index held found (suc n)
+      by : (m : ℕ) (out : Option Held) → EndsAt try.listing (entry_try l seat index held) found m out → (b : Bool) → ltb m n ≡ b → AreLost l seat 1 index held found (suc n)
       by m out f false w =
           let le : n ≤ m = ltb-false _ _ w in
-          let busy : GoesOn try.listing (entry_try l seat index held) found n = busy_before (entry_try l seat index held) found m n le (gives_busy (tried (entry_try l seat index held) found m) (found m) out f) in
+          let busy : GoesOn try.listing (entry_try l seat index held) found n = busy_before (entry_try l seat index held) found m n le f.0 in
           let sum : suc n ≡ suc n + 0 = omega arith in
           (n, 0, (with_try index held found n busy q).0, sum, refl)
       by m (Some h) f true w = let lt : m < n = ltb-true _ _ w in absurd (not_won index held found m (n - suc m) n h f (omega arith) q)
       by m None f true w = let lt : m < n = ltb-true _ _ w in absurd (lost_all index held found m (n - suc m) n (omega arith) f (omega arith) q)
     forward (suc left) index held found n e q = by (λ m k. forward left (suc index) (held_behind l seat index held found m) (λ i. found (suc m + i)) k (omega arith)) end.0 end.1 end.2 (ltb end.0 n) refl where
-      end : (m : ℕ) × (out : Option Held) × EndsWith try.listing (entry_try l seat index held) found m out
+      end : (m : ℕ) × (out : Option Held) × EndsAt try.listing (entry_try l seat index held) found m out
       end = (tries l seat Entry index held found).ends
 
       by : ((m k : ℕ) → EndsNone (suc index) (held_behind l seat index held found m) (λ i. found (suc m + i)) k → AreLost l seat (suc left) (suc index) (held_behind l seat index held found m) (λ i. found (suc m + i)) (suc k)) →
-          (m : ℕ) (out : Option Held) → EndsWith try.listing (entry_try l seat index held) found m out → (b : Bool) → ltb m n ≡ b → AreLost l seat (suc (suc left)) index held found (suc n)
+          (m : ℕ) (out : Option Held) → EndsAt try.listing (entry_try l seat index held) found m out → (b : Bool) → ltb m n ≡ b → AreLost l seat (suc (suc left)) index held found (suc n)
       by next m out f false w =
           let le : n ≤ m = ltb-false _ _ w in
-          let busy : GoesOn try.listing (entry_try l seat index held) found n = busy_before (entry_try l seat index held) found m n le (gives_busy (tried (entry_try l seat index held) found m) (found m) out f) in
+          let busy : GoesOn try.listing (entry_try l seat index held) found n = busy_before (entry_try l seat index held) found m n le f.0 in
           let last : buffers_of l ≤ suc index = (with_try index held found n busy q).1 in
           absurd (omega arith)
       by next m (Some h) f true w = let lt : m < n = ltb-true _ _ w in absurd (not_won index held found m (n - suc m) n h f (omega arith) q)
@@ -196,8 +192,8 @@ module _ (l : Layout) (seat : ℕ) where
             f,
             sum,
             next m k (
-                sym (later (trying l seat index held) (trying l seat (suc index) (held_behind l seat index held found m)) found m k ((tries_for index held found).lost m f (omega arith)))
-                ∙ subst (λ (j : ℕ). EndsNone index held found j) is q),
+                subst (λ (x : EntryTaking). AnswersNone x (found (suc m + k))) (later (trying l seat index held) (trying l seat (suc index) (held_behind l seat index held found m)) found m k ((tries_for index held found).lost m f (omega arith)))
+                (subst (λ (j : ℕ). EndsNone index held found j) is q)),
           )
 
   -- what holds at each stage
@@ -207,12 +203,12 @@ module _ (l : Layout) (seat : ℕ) where
   HeldFits held stage.Look = HasNoEntry held
   HeldFits held (stage.GiveBack word) = HasNoEntry held
   HeldFits held (stage.Claim word) = held ≡ None
-  HeldFits held stage.Ended = Unit {0}
+  HeldFits held (stage.Ended out) = Unit {0}
 
   abbrev FineStage : TakeStage → Type 0
-  FineStage (Try t) = FineTry seat Entry t × HeldFits t.held t.stage
+  FineStage (Try t) = FineTry seat Entry t × HeldFits t.held t.stage × (try.is_busy t.stage ≡ true)
   FineStage (Take h) = 0 < h.count
-  FineStage (Ended held) = Unit {0}
+  FineStage (Ended held entry) = Unit {0}
 
   record Fine (r : EntryTaking) : Type 0 where
     layout_is : r.layout ≡ l
@@ -223,99 +219,108 @@ module _ (l : Layout) (seat : ℕ) where
   claims_held t None word h = refl
   claims_held t (Some own) word h = h
 
-  held_step : (t : Trying) (p : TryStage) (f : ℕ) → HeldFits t.held t.stage → HeldFits t.held p → HeldFits (try.goes_at t p f).held (try.goes_at t p f).stage
-  held_step t stage.Look f whole h = by (try.is_open t.wish f) where
-    by : (b : Bool) → HeldFits t.held (cond b (try.claims t t.held f) stage.Ended)
+  held_step : (t : Trying) (p : TryStage) (f : ℕ) → HeldFits t.held p → HeldFits (try.goes_at t p f).held (try.goes_at t p f).stage
+  held_step t stage.Look f h = by (try.is_open t.wish f) where
+    by : (b : Bool) → HeldFits t.held (cond b (try.claims t t.held f) (stage.Ended None))
     by true = claims_held t t.held f h
     by false = tt
-  held_step t (stage.GiveBack word) f whole h = refl
-  held_step t (stage.Claim word) f whole h = by (eqb f word) where
-    by : (b : Bool) → HeldFits (cond b (record t { held = Some (try.taken t.index word); stage = stage.Ended }) (try.at_stage t stage.Ended)).held (cond b (record t { held = Some (try.taken t.index word); stage = stage.Ended }) (try.at_stage t stage.Ended)).stage
+  held_step t (stage.GiveBack word) f h = refl
+  held_step t (stage.Claim word) f h = by _ where
+    by : (b : Bool) → HeldFits (try.claimed t word b).held (try.claimed t word b).stage
     by true = tt
     by false = tt
-  held_step t stage.Ended f whole h = whole
+  held_step t (stage.Ended out) f h = tt
 
   -- a try that answers none leaves no buffer held that has an entry
-  lost_held : (t : Trying) (p : TryStage) (f : ℕ) → HeldFits t.held p → try.gives_at t p f ≡ Some None → HasNoEntry (try.goes_at t p f).held
-  lost_held t stage.Look f h e = h
-  lost_held t (stage.GiveBack word) f h e = absurd (cc)
-  lost_held t (stage.Claim word) f h e = by (eqb f word) e where
-    by : (b : Bool) → Some (cond b (Some (try.taken t.index word)) None) ≡ Some None → HasNoEntry (cond b (record t { held = Some (try.taken t.index word); stage = stage.Ended }) (try.at_stage t stage.Ended)).held
+  lost_held : (t : Trying) (p : TryStage) (f : ℕ) → try.is_busy p ≡ true → HeldFits t.held p → try.given (try.goes_at t p f) ≡ Some None → HasNoEntry (try.goes_at t p f).held
+  lost_held t stage.Look f busy h e = h
+  lost_held t (stage.GiveBack word) f busy h e = tt
+  lost_held t (stage.Claim word) f busy h e = by _ e where
+    by : (b : Bool) → try.given (try.claimed t word b) ≡ Some None → HasNoEntry (try.claimed t word b).held
     by true e = absurd (cc)
     by false e = subst HasNoEntry (sym h) tt
-  lost_held t stage.Ended f h e = absurd (cc)
+  lost_held t (stage.Ended out) f busy h e = absurd (cc)
 
-  after_fine : (r : EntryTaking) (index : ℕ) (held : Option Held) (out : Option (Option Held)) → Fine r → (out ≡ Some None → HasNoEntry held) → ((h : Held) → out ≡ Some (Some h) → 0 < h.count) → Fine (after_try r index held out)
-  after_fine r index held None fine none some = fine
-  after_fine r index held (Some None) fine none some = record { layout_is = fine.layout_is; seat_is = fine.seat_is; stage_is = by (has_next r.layout index) } where
-    by : (b : Bool) → FineStage (cond b (try_at r.layout r.seat (index + 1) held) (Ended held))
-    by true = (record { seat_is = fine.seat_is; wish_is = refl; stage_is = tt }, none refl)
+  after_fine : (r : EntryTaking) (index : ℕ) (held : Option Held) (out : Option (Option Held)) → r.layout ≡ l → r.seat ≡ seat → (out ≡ None → FineStage r.stage) → (out ≡ Some None → HasNoEntry held) → ((h : Held) → out ≡ Some (Some h) → 0 < h.count) →
+      Fine (after_try r index held out)
+  after_fine r index held None is own here none some = record { layout_is = is; seat_is = own; stage_is = here refl }
+  after_fine r index held (Some None) is own here none some = record { layout_is = is; seat_is = own; stage_is = by (has_next r.layout index) } where
+    by : (b : Bool) → FineStage (cond b (try_at r.layout r.seat (index + 1) held) (Ended held None))
+    by true = (record { seat_is = own; wish_is = refl; stage_is = tt }, none refl, refl)
     by false = tt
-  after_fine r index held (Some (Some h)) fine none some = record { layout_is = fine.layout_is; seat_is = fine.seat_is; stage_is = some h refl }
+  after_fine r index held (Some (Some h)) is own here none some = record { layout_is = is; seat_is = own; stage_is = some h refl }
 
-  fine_at : (r : EntryTaking) (p : TakeStage) (f : ℕ) → Fine r → FineStage p → Fine (goes_at r p f)
-  fine_at r (Try t) f whole fine =
-      after_fine (at_stage r (Try (try.goes t f))) t.index (try.goes t f).held (try.gives t f)
-      (record { layout_is = whole.layout_is; seat_is = whole.seat_is; stage_is = (fine_try seat Entry t f fine.0, held_step t t.stage f fine.1 fine.1) })
-      (lost_held t t.stage f fine.1)
-      (λ h e. (took seat Entry t f h fine.0 e).1)
-  fine_at r (Take h) f whole fine = record { layout_is = whole.layout_is; seat_is = whole.seat_is; stage_is = tt }
-  fine_at r (Ended held) f whole fine = whole
+  fine_at : (r : EntryTaking) (p : TakeStage) (f : ℕ) → r.layout ≡ l → r.seat ≡ seat → FineStage p → Fine (goes_at r p f)
+  fine_at r (Try t) f is own fine =
+      after_fine (at_stage r (Try (try.goes t f))) t.index (try.goes t f).held (try.gives t f) is own
+      (λ e. (fine_try seat Entry t f fine.0, held_step t t.stage f fine.1, ap is_none e))
+      (lost_held t t.stage f fine.2 fine.1)
+      (λ h e. (took seat Entry t f h fine.0 fine.2 e).1)
+  fine_at r (Take h) f is own fine = record { layout_is = is; seat_is = own; stage_is = tt }
+  fine_at r (Ended held entry) f is own fine = record { layout_is = is; seat_is = own; stage_is = tt }
 
   -- what becomes of a held buffer
 
-  behind_holds : (r : EntryTaking) (index : ℕ) (held : Option Held) → held_at (behind r index held) ≡ held
+  behind_holds : (r : EntryTaking) (index : ℕ) (held : Option Held) → held_at (behind r.layout r.seat index held) ≡ held
   behind_holds r index held = by (has_next r.layout index) where
-    by : (b : Bool) → held_at (cond b (try_at r.layout r.seat (index + 1) held) (Ended held)) ≡ held
+    by : (b : Bool) → held_at (cond b (try_at r.layout r.seat (index + 1) held) (Ended held None)) ≡ held
     by true = refl
     by false = refl
 
-  try_becomes : (r : EntryTaking) (t : Trying) (p : TryStage) (f : ℕ) (h : Held) → HeldFits t.held p → t.held ≡ Some h →
-      Becomes (try.asks_at t p) (held_at (after_try (at_stage r (Try (try.goes_at t p f))) t.index (try.goes_at t p f).held (try.gives_at t p f)).stage) h
-  try_becomes r t stage.Look f h fits e = by (try.is_open t.wish f) where
-    by : (b : Bool) → Becomes (try.asks_at t stage.Look) (held_at (after_try (at_stage r (Try (try.at_stage t (cond b (try.claims t t.held f) stage.Ended)))) t.index t.held (cond b None (Some None))).stage) h
-    by true = law.stays e
+  -- while the try goes on this is held still
+  waits : (r : EntryTaking) (u : Trying) (index : ℕ) (out : Option (Option Held)) → out ≡ None → held_at (after_try (at_stage r (Try u)) index u.held out).stage ≡ u.held
+  waits r u index None e = refl
+  waits r u index (Some out) e = absurd (cc)
+
+  try_becomes : (r : EntryTaking) (t : Trying) (p : TryStage) (f : ℕ) (h : Held) → try.is_busy p ≡ true → HeldFits t.held p → t.held ≡ Some h →
+      Becomes (try.asks_at t p) (held_at (after_try (at_stage r (Try (try.goes_at t p f))) t.index (try.goes_at t p f).held (try.given (try.goes_at t p f))).stage) h
+  try_becomes r t stage.Look f h busy fits e = by (try.is_open t.wish f) where
+    then : Bool → Trying
+    then b = try.at_stage t (cond b (try.claims t t.held f) (stage.Ended None))
+
+    by : (b : Bool) → Becomes (try.asks_at t stage.Look) (held_at (after_try (at_stage r (Try (then b))) t.index t.held (try.given (then b))).stage) h
+    by true = law.stays (waits r (then true) t.index (try.given (then true)) (claims_nothing t t.held f) ∙ e)
     by false = law.stays (behind_holds r t.index t.held ∙ e)
-  try_becomes r t (stage.GiveBack word) f h fits e =
+  try_becomes r t (stage.GiveBack word) f h busy fits e =
       let none : h.count ≡ 0 = subst HasNoEntry e fits in
       law.leaves none (ap (λ (o : Option Held). try.back_at t o) e ∙ ap (λ (n : ℕ). Store (cell.Buffer h.index) (n + 256 * 0)) none) refl
-  try_becomes r t (stage.Claim word) f h fits e = absurd (cc)
-  try_becomes r t stage.Ended f h fits e = law.stays e
+  try_becomes r t (stage.Claim word) f h busy fits e = absurd (cc)
+  try_becomes r t (stage.Ended out) f h busy fits e = absurd (cc)
 
-  becomes_at : (r : EntryTaking) (p : TakeStage) (f : ℕ) (h : Held) → FineStage p → held_at r.stage ≡ Some h → held_at p ≡ Some h → Becomes (listing.asks (at_stage r p)) (held_at (goes_at r p f).stage) h
-  becomes_at r (Try t) f h fine whole e = try_becomes r t t.stage f h fine.1 e
-  becomes_at r (Take own) f h fine whole e =
+  becomes_at : (r : EntryTaking) (p : TakeStage) (f : ℕ) (h : Held) → FineStage p → held_at p ≡ Some h → Becomes (listing.asks (at_stage r p)) (held_at (goes_at r p f).stage) h
+  becomes_at r (Try t) f h fine e = try_becomes r t t.stage f h fine.2 fine.1 e
+  becomes_at r (Take own) f h fine e =
       let is : own ≡ h = cc in
       law.gives (ap (λ (k : Held). Load (cell.Entry k.index (k.count - 1))) is) (ap (λ (k : Held). Some (less k)) is)
-  becomes_at r (Ended held) f h fine whole e = law.stays whole
+  becomes_at r (Ended held entry) f h fine e = law.stays e
 
   -- what it ends with
 
-  not_entry : (r : EntryTaking) (index : ℕ) (out : Option (Option Held)) (entry : ℕ) → ¬ (none_of r index out ≡ Some (Some entry))
-  not_entry r index None entry e = absurd (cc)
-  not_entry r index (Some None) entry e = by (has_next r.layout index) e where
-    by : (b : Bool) → none_unless b ≡ Some (Some entry) → ⊥
+  not_entry : (r : EntryTaking) (u : Trying) (index : ℕ) (held : Option Held) (out : Option (Option Held)) (entry : ℕ) → ¬ (given (after_try (at_stage r (Try u)) index held out) ≡ Some (Some entry))
+  not_entry r u index held None entry e = absurd (cc)
+  not_entry r u index held (Some None) entry e = by (has_next r.layout index) e where
+    by : (b : Bool) → given_at (cond b (try_at r.layout r.seat (index + 1) held) (Ended held None)) ≡ Some (Some entry) → ⊥
     by true e = absurd (cc)
     by false e = absurd (cc)
-  not_entry r index (Some (Some h)) entry e = absurd (cc)
+  not_entry r u index held (Some (Some h)) entry e = absurd (cc)
 
-  gives_from : (r : EntryTaking) (p : TakeStage) (f entry : ℕ) → gives_at r p f ≡ Some (Some entry) → (own : Held) × (p ≡ Take own) × (entry ≡ entry_of r.layout f)
-  gives_from r (Try t) f entry e = absurd (not_entry r t.index (try.gives t f) entry e)
-  gives_from r (Take own) f entry e = (own, refl, let is : entry ≡ entry_of r.layout f = cc in is)
-  gives_from r (Ended held) f entry e = absurd (cc)
+  gives_from : (r : EntryTaking) (p : TakeStage) (f entry : ℕ) → is_busy p ≡ true → given (goes_at r p f) ≡ Some (Some entry) → (own : Held) × (p ≡ Take own) × (entry ≡ entry_of r.layout f)
+  gives_from r (Try t) f entry busy e = absurd (not_entry r (try.goes t f) t.index (try.goes t f).held (try.gives t f) entry e)
+  gives_from r (Take own) f entry busy e = (own, refl, let is : entry ≡ entry_of r.layout f = cc in is)
+  gives_from r (Ended held other) f entry busy e = absurd (cc)
 
   won_out : (r : EntryTaking) (t : Trying) (index : ℕ) (held : Option Held) (out : Option (Option Held)) (own : Held) → (after_try (at_stage r (Try t)) index held out).stage ≡ Take own → out ≡ Some (Some own)
   won_out r t index held None own e = absurd (cc)
   won_out r t index held (Some None) own e = by (has_next r.layout index) e where
-    by : (b : Bool) → cond b (try_at r.layout r.seat (index + 1) held) (Ended held) ≡ Take own → Some None ≡ Some (Some own)
+    by : (b : Bool) → cond b (try_at r.layout r.seat (index + 1) held) (Ended held None) ≡ Take own → Some None ≡ Some (Some own)
     by true e = absurd (cc)
     by false e = absurd (cc)
   won_out r t index held (Some (Some h)) own e = let is : h ≡ own = cc in ap (λ (k : Held). Some (Some k)) is
 
   came_from : (r : EntryTaking) (p : TakeStage) (f : ℕ) (own : Held) → FineStage p → r.stage ≡ p → (goes_at r p f).stage ≡ Take own → Took seat (listing.asks (at_stage r p)) f own
-  came_from r (Try t) f own fine is e = (took seat Entry t f own fine.0 (won_out r (try.goes t f) t.index (try.goes t f).held (try.gives t f) own e)).0
+  came_from r (Try t) f own fine is e = (took seat Entry t f own fine.0 fine.2 (won_out r (try.goes t f) t.index (try.goes t f).held (try.gives t f) own e)).0
   came_from r (Take h) f own fine is e = absurd (cc)
-  came_from r (Ended held) f own fine is e = absurd (cc)
+  came_from r (Ended held entry) f own fine is e = absurd (cc)
 
   from_entry : (h : Held) → 0 < h.count → begin l seat (Some h) ≡ Take h
   from_entry h some = let yes : ltb 0 h.count ≡ true = grind (arith, nat_tests) in ap (λ (b : Bool). cond b (Take h) (try_at l seat 0 (Some h))) yes
@@ -325,11 +330,11 @@ module _ (l : Layout) (seat : ℕ) where
   from_none (Some h) none = let no_entry : ltb 0 h.count ≡ false = grind (arith, nat_tests) in ap (λ (b : Bool). cond b (Take h) (try_at l seat 0 (Some h))) no_entry
 
   begins_fine : (held : Option Held) → FineStage (begin l seat held)
-  begins_fine None = (record { seat_is = refl; wish_is = refl; stage_is = tt }, tt)
+  begins_fine None = (record { seat_is = refl; wish_is = refl; stage_is = tt }, tt, refl)
   begins_fine (Some h) = by (ltb 0 h.count) refl where
     by : (b : Bool) → ltb 0 h.count ≡ b → FineStage (cond b (Take h) (try_at l seat 0 (Some h)))
     by true e = ltb-true _ _ e
-    by false e = (record { seat_is = refl; wish_is = refl; stage_is = tt }, let le : h.count ≤ 0 = ltb-false _ _ e in omega arith)
+    by false e = (record { seat_is = refl; wish_is = refl; stage_is = tt }, let le : h.count ≤ 0 = ltb-false _ _ e in omega arith, refl)
 
   began_with : (held : Option Held) (own : Held) → begin l seat held ≡ Take own → held ≡ Some own
   began_with None own e = absurd (cc)
@@ -347,43 +352,43 @@ module _ (l : Layout) (seat : ℕ) where
 
     fine : (n : ℕ) → Fine (after n)
     fine zero = record { layout_is = refl; seat_is = refl; stage_is = begins_fine held }
-    fine (suc n) = let f : Fine (after n) = fine n in fine_at (after n) (after n).stage (found n) f f.stage_is
+    fine (suc n) = let f : Fine (after n) = fine n in fine_at (after n) (after n).stage (found n) f.layout_is f.seat_is f.stage_is
 
-    no_entry_at : (o : Option Held) (n : ℕ) → EndsWith listing (opening l seat o) found n None → HasNoEntry o
+    no_entry_at : (o : Option Held) (n : ℕ) → EndsAt listing (opening l seat o) found n None → HasNoEntry o
     no_entry_at None n q = tt
     no_entry_at (Some h) n q = by (ltb 0 h.count) refl where
       by : (b : Bool) → ltb 0 h.count ≡ b → h.count ≡ 0
-      by true e = absurd (has_one folded h found n (subst (λ (p : TakeStage). EndsWith listing (record { layout = l; seat = seat; stage = p }) found n None) (from_entry h (ltb-true _ _ e)) q))
+      by true e = absurd (has_one folded h found n (subst (λ (p : TakeStage). EndsAt listing (record { layout = l; seat = seat; stage = p }) found n None) (from_entry h (ltb-true _ _ e)) q))
       by false e = let le : h.count ≤ 0 = ltb-false _ _ e in omega arith
 
     is_trying : HasNoEntry held → from ≡ trying l seat 0 held
     is_trying none = ap (λ (p : TakeStage). record { layout = l; seat = seat; stage = p }) (from_none held none)
 
-    all_lost : (n : ℕ) → EndsWith listing from found n None → HasNoEntry held × AreLost l seat (buffers_of l) 0 held found (suc n)
+    all_lost : (n : ℕ) → EndsAt listing from found n None → HasNoEntry held × AreLost l seat (buffers_of l) 0 held found (suc n)
     all_lost n q =
         let none : HasNoEntry held = no_entry_at held n q in
         let left : ℕ = buffers_of l - 1 in
         let is : suc left ≡ buffers_of l = omega arith in (
           none,
           subst (λ (k : ℕ). AreLost l seat k 0 held found (suc n)) is
-              (forward folded left 0 held found n (omega arith) (subst (λ (r : EntryTaking). EndsWith listing r found n None) (is_trying none) q)),
+              (forward folded left 0 held found n (omega arith) (subst (λ (r : EntryTaking). EndsAt listing r found n None) (is_trying none) q)),
         )
 
-    none_then : (n : ℕ) → HasNoEntry held → AreLost l seat (buffers_of l) 0 held found (suc n) → EndsWith listing from found n None
+    none_then : (n : ℕ) → HasNoEntry held → AreLost l seat (buffers_of l) 0 held found (suc n) → EndsAt listing from found n None
     none_then n none lost =
         let left : ℕ = buffers_of l - 1 in
         let is : buffers_of l ≡ suc left = omega arith in
-        subst (λ (r : EntryTaking). EndsWith listing r found n None) (sym (is_trying none))
+        subst (λ (r : EntryTaking). EndsAt listing r found n None) (sym (is_trying none))
         (backward folded left 0 held found n (omega arith) (subst (λ (k : ℕ). AreLost l seat k 0 held found (suc n)) is lost))
 
     taken_from : (n : ℕ) (own : Held) → (after n).stage ≡ Take own → ((n ≡ 0) × (held ≡ Some own)) ⊎ ((before : ℕ) × (n ≡ suc before) × Took seat (asks (after before)) (found before) own)
     taken_from zero own e = inl (refl, began_with held own e)
     taken_from (suc n) own e = inr (n, refl, came_from (after n) (after n).stage (found n) own (fine n).stage_is refl e)
 
-    takes_last : (n entry : ℕ) → EndsWith listing from found n (Some entry) → TakesLast l seat held found n entry
+    takes_last : (n entry : ℕ) → EndsAt listing from found n (Some entry) → TakesLast l seat held found n entry
     takes_last n entry q =
         let r : EntryTaking = after n in
-        let is = gives_from r r.stage (found n) entry q in
+        let is = gives_from r r.stage (found n) entry q.0 q.1 in
         let own : Held = is.0 in
         let at : r.stage ≡ Take own = is.1 in
         record {
@@ -402,5 +407,5 @@ module _ (l : Layout) (seat : ℕ) where
       tries = λ index kept. tries_for index kept found;
       none = λ n. (all_lost n, λ q. none_then n q.0 q.1);
       some = takes_last;
-      keeps = λ n h e. becomes_at (after n) (after n).stage (found n) h (fine n).stage_is e e;
+      keeps = λ n h e. becomes_at (after n) (after n).stage (found n) h (fine n).stage_is e;
     }

@@ -1,5 +1,6 @@
 -- Each step of the routines is a move, and leads to what the next stage knows.
-use Rattle.std.proofs.Common.{◌≡◌, ◌≢◌, ℕ, ◌+◌, ◌<◌, Bool, true, false, cond, eqb, ltb, Option, Some, None, refl, sym, ap, subst, ◌∙◌, eqb-true, eq-eqb, ltb-true}
+use Rattle.std.proofs.Common.{◌≡◌, ◌≢◌, ℕ, ◌+◌, ◌<◌, ◌≤◌, Bool, true, false, cond, eqb, ltb, Option, Some, None, refl, sym, ap, subst, ◌∙◌, eqb-true, eq-eqb, ltb-true}
+use Rattle.std.specs.Prelude.{is_none}
 use Rattle.gh_base.specs.Holding.{moved}
 use Rattle.gh_wbuf.specs.declared.find_room.RoomStage.TheVariants as room
 use Rattle.gh_wbuf.specs.declared.give_buffer.GiveStage.TheVariants as give
@@ -8,60 +9,61 @@ use Rattle.gh_wbuf.specs.BufferGiving as giving
 use Rattle.gh_wbuf.specs.EntryTaking as taking
 use Rattle.gh_wbuf.specs.RoomFinding as finding
 use Rattle.gh_wbuf.specs.Trying as try
-use Rattle.gh_wbuf.proofs.Vocabulary.{AreBuffersOf, AreCounted, Buffer, buffer_of, buffer_word, Buffers, BuffersAreHeld, BuffersAreKept, cell_of, Claim, Ended, Entry, Facts, FitsTryStage, GiveBack, GiveKnows, GiveStage, Held, Holds, IsFreeAt, KeepsItsBuffer, Layout, Listing, Look, May, Move, Moves, OwnStep, Room, RoomKnows, RoomStage, RoomStageKnows, RoomTryKnows, StepsAreMoves, Swap, TakeKnows, TakeStage, TakeStageKnows, TakeTryKnows, Trying, TryKnows, TryStage, Words}
-use Rattle.gh_wbuf.proofs.Taking.{fine_try, took}
+use Rattle.gh_wbuf.proofs.Vocabulary.{AreBuffersOf, AreCounted, Buffer, buffer_of, buffer_word, Buffers, BuffersAreHeld, BuffersAreKept, cell_of, Claim, Ended, ENTRIES, Entry, Facts, FitsTryStage, GiveBack, GiveKnows, GiveStage, Held, Holds, IsFreeAt, KeepsItsBuffer, Layout, Listing, Look, May, Move, Moves, OwnStep, Room, RoomKnows, RoomStage, RoomStageKnows, RoomTryKnows, StepsAreMoves, Swap, TakeKnows, TakeStage, TakeStageKnows, TakeTryKnows, Trying, TryKnows, TryStage, Words}
+use Rattle.gh_wbuf.proofs.Taking.{claims_nothing, fine_try, took}
 use Rattle.gh_wbuf.proofs.Tries.{open_yes}
 use Rattle.gh_wbuf.proofs.Trying.{same_step}
 
 -- what a try holds, by what it gives
 
-pub given_held : (t : Trying) (p : TryStage) (f : ℕ) (h : Held) → try.gives_at t p f ≡ Some (Some h) → (try.goes_at t p f).held ≡ Some h
-given_held t Look f h e = by (try.is_open t.wish f) e where
-  by : (b : Bool) → cond b None (Some None) ≡ Some (Some h) → t.held ≡ Some h
-  by true e = absurd (cc)
+pub given_held : (t : Trying) (p : TryStage) (f : ℕ) (h : Held) → try.is_busy p ≡ true → try.given (try.goes_at t p f) ≡ Some (Some h) → (try.goes_at t p f).held ≡ Some h
+given_held t Look f h busy e = by (try.is_open t.wish f) e where
+  by : (b : Bool) → try.given_at (cond b (try.claims t t.held f) (Ended None)) ≡ Some (Some h) → t.held ≡ Some h
+  by true e = absurd (let none = claims_nothing t t.held f in cc)
   by false e = absurd (cc)
-given_held t (GiveBack word) f h e = absurd (cc)
-given_held t (Claim word) f h e = by (eqb f word) e where
-  by : (b : Bool) → Some (cond b (Some (try.taken t.index word)) None) ≡ Some (Some h) → (cond b (record t { held = Some (try.taken t.index word); stage = Ended }) (try.at_stage t Ended)).held ≡ Some h
+given_held t (GiveBack word) f h busy e = absurd (cc)
+given_held t (Claim word) f h busy e = by _ e where
+  by : (b : Bool) → try.given (try.claimed t word b) ≡ Some (Some h) → (try.claimed t word b).held ≡ Some h
   by true e = let is : try.taken t.index word ≡ h = cc in ap Some is
   by false e = absurd (cc)
-given_held t Ended f h e = absurd (cc)
+given_held t (Ended out) f h busy e = absurd (cc)
 
-pub lost_none : (t : Trying) (p : TryStage) (f : ℕ) → t.held ≡ None → try.gives_at t p f ≡ Some None → (try.goes_at t p f).held ≡ None
-lost_none t Look f none e = none
+pub lost_none : (t : Trying) (p : TryStage) (f : ℕ) → t.held ≡ None → try.given (try.goes_at t p f) ≡ Some None → (try.goes_at t p f).held ≡ None
 lost_none t (GiveBack word) f none e = absurd (cc)
-lost_none t (Claim word) f none e = by (eqb f word) e where
-  by : (b : Bool) → Some (cond b (Some (try.taken t.index word)) None) ≡ Some None → (cond b (record t { held = Some (try.taken t.index word); stage = Ended }) (try.at_stage t Ended)).held ≡ None
+lost_none t (Claim word) f none e = by _ e where
+  by : (b : Bool) → try.given (try.claimed t word b) ≡ Some None → (try.claimed t word b).held ≡ None
   by true e = absurd (cc)
   by false e = none
-lost_none t Ended f none e = absurd (cc)
+lost_none t _ f none e = none
 
-pub still_none : (t : Trying) (p : TryStage) (f : ℕ) → t.held ≡ None → try.gives_at t p f ≡ None → (try.goes_at t p f).held ≡ None
-still_none t Look f none e = none
+pub still_none : (t : Trying) (p : TryStage) (f : ℕ) → t.held ≡ None → try.given (try.goes_at t p f) ≡ None → (try.goes_at t p f).held ≡ None
 still_none t (GiveBack word) f none e = refl
-still_none t (Claim word) f none e = absurd (cc)
-still_none t Ended f none e = none
+still_none t (Claim word) f none e = by _ e where
+  by : (b : Bool) → try.given (try.claimed t word b) ≡ None → (try.claimed t word b).held ≡ None
+  by true e = absurd (cc)
+  by false e = absurd (cc)
+still_none t _ f none e = none
 
 claims_free : (t : Trying) (held : Option Held) (word : ℕ) → IsFreeAt held (try.claims t held word)
 claims_free t None word = refl
 claims_free t (Some h) word = tt
 
-free_step : (t : Trying) (p : TryStage) (f : ℕ) → IsFreeAt t.held t.stage → IsFreeAt (try.goes_at t p f).held (try.goes_at t p f).stage
-free_step t Look f free = by (try.is_open t.wish f) where
-  by : (b : Bool) → IsFreeAt t.held (cond b (try.claims t t.held f) Ended)
+free_step : (t : Trying) (p : TryStage) (f : ℕ) → IsFreeAt (try.goes_at t p f).held (try.goes_at t p f).stage
+free_step t Look f = by (try.is_open t.wish f) where
+  by : (b : Bool) → IsFreeAt t.held (cond b (try.claims t t.held f) (Ended None))
   by true = claims_free t t.held f
   by false = tt
-free_step t (GiveBack word) f free = refl
-free_step t (Claim word) f free = by (eqb f word) where
-  by : (b : Bool) → IsFreeAt (cond b (record t { held = Some (try.taken t.index word); stage = Ended }) (try.at_stage t Ended)).held (cond b (record t { held = Some (try.taken t.index word); stage = Ended }) (try.at_stage t Ended)).stage
+free_step t (GiveBack word) f = refl
+free_step t (Claim word) f = by _ where
+  by : (b : Bool) → IsFreeAt (try.claimed t word b).held (try.claimed t word b).stage
   by true = tt
   by false = tt
-free_step t Ended f free = free
+free_step t (Ended out) f = tt
 
 try_next : (seat : ℕ) (t : Trying) (f : ℕ) → TryKnows seat t → TryKnows seat (try.goes t f)
 try_next seat t f k =
     let fine = fine_try seat t.wish t f (record { seat_is = k.seat_is; wish_is = refl; stage_is = k.opened }) in
-    record { seat_is = fine.seat_is; opened = fine.stage_is; free = free_step t t.stage f k.free }
+    record { seat_is = fine.seat_is; opened = fine.stage_is; free = free_step t t.stage f }
 
 module _ (law : BuffersAreHeld) where
   module _ (seat : ℕ) (s : Buffers) (words : Words) (counted : AreCounted s) (shown : AreBuffersOf words s) where
@@ -78,14 +80,14 @@ module _ (law : BuffersAreHeld) where
     try_moves t (GiveBack word) is opened free holds = gives_any t t.held holds
     try_moves t (Claim word) is opened free holds = by (eqb (words (Buffer t.index)) word) refl where
       by : (b : Bool) → eqb (words (Buffer t.index)) word ≡ b →
-          Moves seat s words (Swap (Buffer t.index) word (buffer_word (record { count = (buffer_of word).count; holder = t.seat + 1 }))) (cond b (record t { held = Some (try.taken t.index word); stage = Ended }) (try.at_stage t Ended)).held
+          Moves seat s words (Swap (Buffer t.index) word (buffer_word (record { count = (buffer_of word).count; holder = t.seat + 1 }))) (try.claimed t word b).held
       by true e =
           subst (λ (a : ℕ). Moves seat s words (Swap (Buffer t.index) word (buffer_word (record { count = (buffer_of word).count; holder = a + 1 }))) (Some (try.taken t.index word))) (sym is)
           (steps.takes_buffer t.index word (subst (Holds s seat) free holds) (open_yes t.wish word opened).free (eqb-true _ _ e))
       by false e =
           let ne : words (Buffer t.index) ≢ word = λ z. absurd (cc (e, eq-eqb _ _ z)) in
           steps.swaps_nothing t.index word _ t.held holds ne
-    try_moves t Ended is opened free holds = steps.loads _ t.held holds
+    try_moves t (Ended out) is opened free holds = steps.loads _ t.held holds
 
     try_own : (t : Trying) → TryKnows seat t → Holds s seat t.held → Moves seat s words (try.asks t) (try.goes t (words (cell_of (try.asks t)))).held
     try_own t k holds = try_moves t t.stage k.seat_is k.opened k.free holds
@@ -98,39 +100,39 @@ module _ (law : BuffersAreHeld) where
     room_holds r t index (Some None) lost won = lost refl
     room_holds r t index (Some (Some h)) lost won = won h refl
 
-    room_moves : (r : finding.RoomFinding) (p : RoomStage) → RoomStageKnows seat p → Holds s seat (finding.held_at p) → Holds s seat (finding.held_at r.stage) →
+    room_moves : (r : finding.RoomFinding) (p : RoomStage) → RoomStageKnows seat p → Holds s seat (finding.held_at p) →
         Moves seat s words (finding.asks_at r p) (finding.held_at (finding.goes_at r p (words (cell_of (finding.asks_at r p)))).stage)
-    room_moves r (room.GiveBack h) k holds whole = steps.gives_back h holds
-    room_moves r (room.Try t) k holds whole =
+    room_moves r (room.GiveBack h) k holds = steps.gives_back h holds
+    room_moves r (room.Try t) k holds =
         let f : ℕ = words (cell_of (try.asks t)) in
         subst (Moves seat s words (try.asks t))
-        (room_holds r (try.goes t f) t.index (try.gives t f) (lost_none t t.stage f k.none) (λ h e. given_held t t.stage f h e))
+        (room_holds r (try.goes t f) t.index (try.gives t f) (lost_none t t.stage f k.none) (λ h e. given_held t t.stage f h k.busy e))
         (try_own t k.tries holds)
-    room_moves r (room.Ended h) k holds whole = steps.loads _ _ whole
+    room_moves r (room.Ended h) k holds = steps.loads _ _ holds
 
     -- the taking of an entry
 
-    behind_holds : (r : taking.EntryTaking) (index : ℕ) (held : Option Held) → held ≡ taking.held_at (taking.behind r index held)
-    behind_holds r index held = by (taking.has_next r.layout index) where
-      by : (b : Bool) → held ≡ taking.held_at (cond b (taking.try_at r.layout r.seat (index + 1) held) (take.Ended held))
+    behind_holds : (l : Layout) (own index : ℕ) (held : Option Held) → held ≡ taking.held_at (taking.behind l own index held)
+    behind_holds l own index held = by (taking.has_next l index) where
+      by : (b : Bool) → held ≡ taking.held_at (cond b (taking.try_at l own (index + 1) held) (take.Ended held None))
       by true = refl
       by false = refl
 
     pub take_holds : (r : taking.EntryTaking) (t : Trying) (index : ℕ) (out : Option (Option Held)) → ((h : Held) → out ≡ Some (Some h) → t.held ≡ Some h) →
         t.held ≡ taking.held_at (taking.after_try (taking.at_stage r (take.Try t)) index t.held out).stage
     take_holds r t index None won = refl
-    take_holds r t index (Some None) won = behind_holds (taking.at_stage r (take.Try t)) index t.held
+    take_holds r t index (Some None) won = behind_holds r.layout r.seat index t.held
     take_holds r t index (Some (Some h)) won = won h refl
 
-    take_moves : (r : taking.EntryTaking) (p : TakeStage) → TakeStageKnows seat p → Holds s seat (taking.held_at p) → Holds s seat (taking.held_at r.stage) →
+    take_moves : (r : taking.EntryTaking) (p : TakeStage) → TakeStageKnows seat p → Holds s seat (taking.held_at p) →
         Moves seat s words (taking.asks_at r p) (taking.held_at (taking.goes_at r p (words (cell_of (taking.asks_at r p)))).stage)
-    take_moves r (take.Try t) k holds whole =
+    take_moves r (take.Try t) k holds =
         let f : ℕ = words (cell_of (try.asks t)) in
         subst (Moves seat s words (try.asks t))
-        (take_holds r (try.goes t f) t.index (try.gives t f) (λ h e. given_held t t.stage f h e))
+        (take_holds r (try.goes t f) t.index (try.gives t f) (λ h e. given_held t t.stage f h k.busy e))
         (try_own t k.tries holds)
-    take_moves r (take.Take h) k holds whole = steps.takes_entry h holds k
-    take_moves r (take.Ended held) k holds whole = steps.loads _ _ whole
+    take_moves r (take.Take h) k holds = steps.takes_entry h holds k
+    take_moves r (take.Ended held entry) k holds = steps.loads _ _ holds
 
     give_moves : (g : giving.BufferGiving) (p : GiveStage) → Holds s seat (giving.held_at p) → Moves seat s words (giving.asks_at p) None
     give_moves g (give.Give h) holds = steps.gives_back h holds
@@ -139,28 +141,30 @@ module _ (law : BuffersAreHeld) where
   -- what the next stage knows
 
   room_fresh : (seat : ℕ) (l : Layout) (own index : ℕ) → own ≡ seat → RoomTryKnows seat (try.opening l own Room index None)
-  room_fresh seat l own index e = record { tries = record { seat_is = e; opened = tt; free = tt }; wish_is = refl; none = refl }
+  room_fresh seat l own index e = record { tries = record { seat_is = e; opened = tt; free = tt }; wish_is = refl; none = refl; busy = refl }
 
-  room_after : (seat : ℕ) (r : finding.RoomFinding) (index : ℕ) (out : Option (Option Held)) → r.seat ≡ seat → (out ≡ None → RoomStageKnows seat r.stage) → RoomKnows seat (finding.after_try r index out)
-  room_after seat r index None e here = record { seat_is = e; stage = here refl }
-  room_after seat r index (Some None) e here = record { seat_is = e; stage = room_fresh seat r.layout r.seat (finding.next_index r.layout index) e }
-  room_after seat r index (Some (Some h)) e here = record { seat_is = e; stage = tt }
+  room_after : (seat : ℕ) (r : finding.RoomFinding) (index : ℕ) (out : Option (Option Held)) → r.seat ≡ seat → (out ≡ None → RoomStageKnows seat r.stage) → ((h : Held) → out ≡ Some (Some h) → h.count + 2 ≤ ENTRIES) →
+      RoomKnows seat (finding.after_try r index out)
+  room_after seat r index None e here some = record { seat_is = e; stage = here refl }
+  room_after seat r index (Some None) e here some = record { seat_is = e; stage = room_fresh seat r.layout r.seat (finding.next_index r.layout index) e }
+  room_after seat r index (Some (Some h)) e here some = record { seat_is = e; stage = some h refl }
 
-  room_next : (seat : ℕ) (r : finding.RoomFinding) (p : RoomStage) (f : ℕ) → RoomKnows seat r → RoomStageKnows seat p → RoomKnows seat (finding.goes_at r p f)
+  pub room_next : (seat : ℕ) (r : finding.RoomFinding) (p : RoomStage) (f : ℕ) → RoomKnows seat r → RoomStageKnows seat p → RoomKnows seat (finding.goes_at r p f)
   room_next seat r (room.GiveBack h) f whole k = record { seat_is = whole.seat_is; stage = room_fresh seat r.layout r.seat 0 whole.seat_is }
   room_next seat r (room.Try t) f whole k =
       room_after seat (finding.at_stage r (room.Try (try.goes t f))) t.index (try.gives t f) whole.seat_is
-      (λ e. record { tries = try_next seat t f k.tries; wish_is = (same_step t f).wish ∙ k.wish_is; none = still_none t t.stage f k.none e })
-  room_next seat r (room.Ended h) f whole k = whole
+      (λ e. record { tries = try_next seat t f k.tries; wish_is = (same_step t f).wish ∙ k.wish_is; none = still_none t t.stage f k.none e; busy = ap is_none e })
+      (λ h e. (took seat Room t f h (record { seat_is = k.tries.seat_is; wish_is = k.wish_is; stage_is = k.tries.opened }) k.busy e).1)
+  room_next seat r (room.Ended h) f whole k = record { seat_is = whole.seat_is; stage = k }
 
   take_fresh : (seat : ℕ) (l : Layout) (own index : ℕ) (held : Option Held) → own ≡ seat → TakeTryKnows seat (try.opening l own Entry index held)
-  take_fresh seat l own index held e = record { tries = record { seat_is = e; opened = tt; free = tt }; wish_is = refl }
+  take_fresh seat l own index held e = record { tries = record { seat_is = e; opened = tt; free = tt }; wish_is = refl; busy = refl }
 
-  take_after : (seat : ℕ) (r : taking.EntryTaking) (index : ℕ) (held : Option Held) (out : Option (Option Held)) → r.seat ≡ seat → TakeStageKnows seat r.stage → ((h : Held) → out ≡ Some (Some h) → 0 < h.count) →
+  take_after : (seat : ℕ) (r : taking.EntryTaking) (index : ℕ) (held : Option Held) (out : Option (Option Held)) → r.seat ≡ seat → (out ≡ None → TakeStageKnows seat r.stage) → ((h : Held) → out ≡ Some (Some h) → 0 < h.count) →
       TakeKnows seat (taking.after_try r index held out)
-  take_after seat r index held None e here some = record { seat_is = e; stage = here }
+  take_after seat r index held None e here some = record { seat_is = e; stage = here refl }
   take_after seat r index held (Some None) e here some = record { seat_is = e; stage = by (taking.has_next r.layout index) } where
-    by : (b : Bool) → TakeStageKnows seat (cond b (taking.try_at r.layout r.seat (index + 1) held) (take.Ended held))
+    by : (b : Bool) → TakeStageKnows seat (cond b (taking.try_at r.layout r.seat (index + 1) held) (take.Ended held None))
     by true = take_fresh seat r.layout r.seat (index + 1) held e
     by false = tt
   take_after seat r index held (Some (Some h)) e here some = record { seat_is = e; stage = some h refl }
@@ -168,10 +172,10 @@ module _ (law : BuffersAreHeld) where
   take_next : (seat : ℕ) (r : taking.EntryTaking) (p : TakeStage) (f : ℕ) → TakeKnows seat r → TakeStageKnows seat p → TakeKnows seat (taking.goes_at r p f)
   take_next seat r (take.Try t) f whole k =
       take_after seat (taking.at_stage r (take.Try (try.goes t f))) t.index (try.goes t f).held (try.gives t f) whole.seat_is
-      (record { tries = try_next seat t f k.tries; wish_is = (same_step t f).wish ∙ k.wish_is })
-      (λ h e. (took seat Entry t f h (record { seat_is = k.tries.seat_is; wish_is = k.wish_is; stage_is = k.tries.opened }) e).1)
+      (λ e. record { tries = try_next seat t f k.tries; wish_is = (same_step t f).wish ∙ k.wish_is; busy = ap is_none e })
+      (λ h e. (took seat Entry t f h (record { seat_is = k.tries.seat_is; wish_is = k.wish_is; stage_is = k.tries.opened }) k.busy e).1)
   take_next seat r (take.Take h) f whole k = record { seat_is = whole.seat_is; stage = tt }
-  take_next seat r (take.Ended held) f whole k = whole
+  take_next seat r (take.Ended held entry) f whole k = record { seat_is = whole.seat_is; stage = tt }
 
   -- the two laws of a routine, whose stage speaks of nothing shared
   module _ {M Out : Type 0} (r : Listing M Out) (held_of : M → Option Held) (Knows : (seat : ℕ) → M → Type 0) where
@@ -199,11 +203,11 @@ module _ (law : BuffersAreHeld) where
       knows = try_next seat t (words (cell_of (try.asks t))) f.knows;
     });
     finds = keeps finding.listing (λ r. finding.held_at r.stage) RoomKnows (λ s seat words r counted shown f. record {
-      moves = room_moves seat s words counted shown r r.stage f.knows.stage f.holds f.holds;
+      moves = room_moves seat s words counted shown r r.stage f.knows.stage f.holds;
       knows = room_next seat r r.stage (words (cell_of (finding.asks r))) f.knows f.knows.stage;
     });
     takes = keeps taking.listing (λ t. taking.held_at t.stage) TakeKnows (λ s seat words t counted shown f. record {
-      moves = take_moves seat s words counted shown t t.stage f.knows.stage f.holds f.holds;
+      moves = take_moves seat s words counted shown t t.stage f.knows.stage f.holds;
       knows = take_next seat t t.stage (words (cell_of (taking.asks t))) f.knows f.knows.stage;
     });
     gives = keeps giving.listing (λ g. giving.held_at g.stage) GiveKnows (λ s seat words g counted shown f. record {

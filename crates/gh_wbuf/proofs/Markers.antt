@@ -68,25 +68,25 @@ module _ (k : Known) (z : Cycle) (a : ℕ) (s : Shared) (rest : InHand) (g : Goo
   tries-at t Look is opened free x = loads (Buffer t.index) t.held x
   tries-at t (GiveBack word) is opened free x = gives-any t t.held x
   tries-at t (Claim word) is opened free x = by (eqb (s.words (Buffer t.index)) word) refl where
-    by : (b : Bool) → eqb (s.words (Buffer t.index)) word ≡ b → Holding (Swap (Buffer t.index) word (try.taken_word t.seat word)) (cond b (record t { held = Some (try.taken t.index word); stage = Ended }) (try.at_stage t Ended)).held
+    by : (b : Bool) → eqb (s.words (Buffer t.index)) word ≡ b → Holding (Swap (Buffer t.index) word (try.taken_word t.seat word)) (try.claimed t word b).held
     by true e =
         subst (λ (seat : ℕ). Holding (Swap (Buffer t.index) word (try.taken_word seat word)) (Some (try.taken t.index word))) (sym is)
         (takes t.index word (subst (λ (held : Option Held). Hands a s (holding rest held)) free x) (open_yes t.wish word opened).free (eqb-true _ _ e))
     by false e = misses t.index word (try.taken_word t.seat word) t.held x e
-  tries-at t Ended is opened free x = loads Touch t.held x
+  tries-at t (Ended out) is opened free x = loads Touch t.held x
 
   pub tries : (t : Trying) → TryKnows a t → Hands a s (holding rest t.held) → Holding (try.asks t) (try.goes t (s.words (cell_of (try.asks t)))).held
   tries t knows x = tries-at t t.stage knows.seat_is knows.opened knows.free x
 
-  finds-at : (r : finding.RoomFinding) (p : RoomStage) → RoomStageKnows a p → Hands a s (holding rest (finding.held_at p)) → Hands a s (holding rest (finding.held_at r.stage)) →
+  finds-at : (r : finding.RoomFinding) (p : RoomStage) → RoomStageKnows a p → Hands a s (holding rest (finding.held_at p)) →
       Holding (finding.asks_at r p) (finding.held_at (finding.goes_at r p (s.words (cell_of (finding.asks_at r p)))).stage)
-  finds-at r (room.GiveBack h) knows x whole = gives-back h x
-  finds-at r (room.Try t) knows x whole =
+  finds-at r (room.GiveBack h) knows x = gives-back h x
+  finds-at r (room.Try t) knows x =
       let f : ℕ = s.words (cell_of (try.asks t)) in
       subst (Holding (try.asks t))
-      (room_holds k.held a (buffers_of s.words s.filled) s.words g.counts shown r (try.goes t f) t.index (try.gives t f) (lost_none t t.stage f knows.none) (λ h e. given_held t t.stage f h e))
+      (room_holds k.held a (buffers_of s.words s.filled) s.words g.counts shown r (try.goes t f) t.index (try.gives t f) (lost_none t t.stage f knows.none) (λ h e. given_held t t.stage f h knows.busy e))
       (tries t knows.tries x)
-  finds-at r (room.Ended h) knows x whole = loads Touch (finding.held_at r.stage) whole
+  finds-at r (room.Ended h) knows x = loads Touch (Some h) x
 
   gives-at : (p : GiveStage) → Hands a s (holding rest (giving.held_at p)) → Holding (giving.asks_at p) None
   gives-at (give.Give h) x = gives-back h x
@@ -106,7 +106,7 @@ module _ (k : Known) (z : Cycle) (a : ℕ) (s : Shared) (rest : InHand) (g : Goo
       let n : finding.RoomFinding = finding.goes r (s.words (cell_of (finding.asks r))) in
       landing z a s (effect s.words (finding.asks r)) (λ u. Keeps z a s u × Hands a u (holding rest (finding.held_at n.stage))) (λ u. Keeps z a s u × RoomFacts z a u rest n)
       (λ u w h. (h.0, record { knows = (k.kept.finds.own_step (buffers_of s.words s.filled) a s.words r g.counts shown (record { knows = f.knows; holds = f.hands.holds })).knows; hands = h.1 }))
-      (finds-at r r.stage f.knows.stage f.hands f.hands)
+      (finds-at r r.stage f.knows.stage f.hands)
 
   own-give : (m : giving.BufferGiving) → GiveFacts z a s rest m → Steps z a s (giving.asks m) (λ u. Keeps z a s u × GiveFacts z a u rest (giving.goes m (s.words (cell_of (giving.asks m)))))
   own-give m f = landing z a s (effect s.words (giving.asks m)) (λ u. Keeps z a s u × Hands a u (holding rest None)) (λ u. Keeps z a s u × GiveFacts z a u rest (giving.goes m (s.words (cell_of (giving.asks m)))))

@@ -1,5 +1,5 @@
 -- While marking is on an entry is taken out by a move that the seat may make, and names an object that nobody else has then. And all of it together.
-use Rattle.std.proofs.Common.{◌≡◌, ℕ, ◌+◌, ◌-◌, ◌*◌, ◌%◌, ◌<◌, ◌≤◌, Bool, true, false, cond, Option, Some, None, refl, sym, ap, subst, ◌∙◌, arith, max}
+use Rattle.std.proofs.Common.{◌≡◌, ℕ, ◌+◌, ◌-◌, ◌*◌, ◌%◌, ◌<◌, ◌≤◌, Bool, true, false, cond, ltb, Option, Some, None, refl, sym, ap, subst, ◌∙◌, arith, max}
 use Rattle.std.proofs.Math.Nat.{mod-eq_of_lt}
 use Rattle.gh_base.specs.declared.cell.Cell.TheVariants.{Entry}
 use Rattle.gh_marks.specs.Knows.{KnowsObjects}
@@ -8,28 +8,33 @@ use Rattle.gh_wbuf.specs.declared.take_entry.TakeStage.TheVariants as take
 use Rattle.gh_wbuf.specs.EntryTaking as taking
 use Rattle.gh_wbuf.specs.RoomFinding as finding
 use Rattle.gh_wbuf.specs.Trying as try
-use Rattle.gh_wbuf.proofs.Vocabulary.{Buffered, buffers_of, BuffersPassByMoves, cell_of, Cycle, effect, ENTRIES, FactsBegin, Good, Hands, Held, holding, InHand, Keeps, landing, lands_by, MayTakeEntry, moved, Room, RoomKnows, RoomStage, RoomStageKnows, Shared, Steps, TakeComes, TakeEntry, TakeFacts, TakeKnows, TakesByMoves, TakeStage, TakeStageKnows, Took, Touch, Trying}
-use Rattle.gh_wbuf.proofs.Knowing.{given_held}
-use Rattle.gh_wbuf.proofs.Markers.{Known, keep-finds, keep-gives, keep-tries, loads, shown, tries}
-use Rattle.gh_wbuf.proofs.Taking.{took}
+use Rattle.gh_wbuf.proofs.Vocabulary.{Buffered, buffers_of, BuffersPassByMoves, cell_of, Cycle, effect, ENTRIES, FactsBegin, Good, Hands, Held, holding, InHand, Keeps, landing, lands_by, Layout, MayTakeEntry, moved, RoomKnows, RoomStage, RoomStageKnows, Shared, Steps, TakeComes, TakeEntry, TakeKnows, TakesByMoves, TakeStage, TakeStageKnows, Took, Trying}
+use Rattle.gh_wbuf.proofs.Knowing.{given_held, room_next}
+use Rattle.gh_wbuf.proofs.Markers.{Known, keep-finds, keep-gives, keep-tries, shown, tries}
 
 module _ (k : Known) (z : Cycle) (a : ℕ) (s : Shared) (rest : InHand) (g : Good z s) where
+  -- what it comes to, by what it has given then
+  abbrev Comes : Shared → taking.EntryTaking → Type 0
+  Comes u t = TakeComes z a u rest (taking.given t) t
+
   -- behind a try of the taking
   comes : (r : taking.EntryTaking) (t : Trying) (index : ℕ) (out : Option (Option Held)) (u : Shared) → ((h : Held) → out ≡ Some (Some h) → t.held ≡ Some h) → r.layout ≡ z.arena.layout → rest.scanning ≡ None →
-      TakeKnows a (taking.after_try (taking.at_stage r (take.Try t)) index t.held out) → Hands a u (holding rest t.held) → TakeComes z a u rest (taking.none_of r index out) (taking.after_try (taking.at_stage r (take.Try t)) index t.held out)
-  comes r t index None u won is idle knows x = record { layout_is = is; knows = knows; hands = x; idle = idle }
+      TakeKnows a (taking.after_try (taking.at_stage r (take.Try t)) index t.held out) → Hands a u (holding rest t.held) → Comes u (taking.after_try (taking.at_stage r (take.Try t)) index t.held out)
+  comes r t index None u won is idle knows x = record { layout_is = is; knows = knows; hands = x; idle = idle; busy = refl }
   comes r t index (Some None) u won is idle knows x = by (taking.has_next r.layout index) knows where
-    by : (b : Bool) → TakeKnows a (taking.at_stage r (cond b (taking.try_at r.layout r.seat (index + 1) t.held) (take.Ended t.held))) →
-        TakeComes z a u rest (cond b None (Some None)) (taking.at_stage r (cond b (taking.try_at r.layout r.seat (index + 1) t.held) (take.Ended t.held)))
-    by true knows = record { layout_is = is; knows = knows; hands = x; idle = idle }
+    then : Bool → taking.EntryTaking
+    then b = taking.at_stage r (cond b (taking.try_at r.layout r.seat (index + 1) t.held) (take.Ended t.held None))
+
+    by : (b : Bool) → TakeKnows a (then b) → Comes u (then b)
+    by true knows = record { layout_is = is; knows = knows; hands = x; idle = idle; busy = refl }
     by false knows = x
-  comes r t index (Some (Some h)) u won is idle knows x = record { layout_is = is; knows = knows; hands = subst (λ (held : Option Held). Hands a u (holding rest held)) (won h refl) x; idle = idle }
+  comes r t index (Some (Some h)) u won is idle knows x = record { layout_is = is; knows = knows; hands = subst (λ (held : Option Held). Hands a u (holding rest held)) (won h refl) x; idle = idle; busy = refl }
 
   module _ (objects : KnowsObjects z s) where
     abbrev Goal : taking.EntryTaking → TakeStage → Type 0
     Goal r p =
         let f : ℕ = s.words (cell_of (taking.asks_at r p)) in
-        Steps z a s (taking.asks_at r p) (λ u. Keeps z a s u × TakeComes z a u rest (taking.gives_at r p f) (taking.goes_at r p f))
+        Steps z a s (taking.asks_at r p) (λ u. Keeps z a s u × Comes u (taking.goes_at r p f))
 
     entry-taken : (r : taking.EntryTaking) (h : Held) → r.layout ≡ z.arena.layout → rest.scanning ≡ None → 0 < h.count → Hands a s (holding rest (Some h)) → Goal r (take.Take h)
     entry-taken r h is idle some x = lands_by z a s s.words (λ u. Keeps z a s u × Took a u rest (Some (taking.less h)) reference) (TakeEntry h.index o) may refl (k.leave z a s (TakeEntry h.index o) g may tt, record { some = omega arith; hands = hands }) where
@@ -77,25 +82,29 @@ module _ (k : Known) (z : Cycle) (a : ℕ) (s : Shared) (rest : InHand) (g : Goo
       hands = subst (λ (n : ℕ). Hands a (moved z a s (TakeEntry h.index o)) (record rest { held = Some (taking.less h); scanning = Some n })) (sym same) ((k.follow z a s (holding rest (Some h)) g x).takes_entry h o may refl idle)
 
     takes-at : (r : taking.EntryTaking) (p : TakeStage) → r.layout ≡ z.arena.layout → rest.scanning ≡ None → TakeStageKnows a p → Hands a s (holding rest (taking.held_at p)) →
-        TakeKnows a (taking.goes_at r p (s.words (cell_of (taking.asks_at r p)))) → TakeFacts z a s rest r → Goal r p
-    takes-at r (take.Try t) is idle knows x then whole =
+        TakeKnows a (taking.goes_at r p (s.words (cell_of (taking.asks_at r p)))) → taking.is_busy p ≡ true → Goal r p
+    takes-at r (take.Try t) is idle knows x then busy =
         let f : ℕ = s.words (cell_of (try.asks t)) in
-        landing z a s (effect s.words (try.asks t)) (λ u. Keeps z a s u × Hands a u (holding rest (try.goes t f).held)) (λ u. Keeps z a s u × TakeComes z a u rest (taking.gives_at r (take.Try t) f) (taking.goes_at r (take.Try t) f))
-        (λ u w h. (h.0, comes r (try.goes t f) t.index (try.gives t f) u (λ own e. given_held t t.stage f own e) is idle then h.1))
+        landing z a s (effect s.words (try.asks t)) (λ u. Keeps z a s u × Hands a u (holding rest (try.goes t f).held)) (λ u. Keeps z a s u × Comes u (taking.goes_at r (take.Try t) f))
+        (λ u w h. (h.0, comes r (try.goes t f) t.index (try.gives t f) u (λ own e. given_held t t.stage f own knows.busy e) is idle then h.1))
         (tries k z a s rest g t knows.tries x)
-    takes-at r (take.Take h) is idle knows x then whole = entry-taken r h is idle knows x
-    takes-at r (take.Ended held) is idle knows x then whole =
-        landing z a s s.words (λ u. Keeps z a s u × Hands a u (holding rest (taking.held_at r.stage))) (λ u. Keeps z a s u × TakeFacts z a u rest r)
-        (λ u w h. (h.0, record { layout_is = is; knows = whole.knows; hands = h.1; idle = idle }))
-        (loads k z a s rest g Touch (taking.held_at r.stage) whole.hands)
+    takes-at r (take.Take h) is idle knows x then busy = entry-taken r h is idle knows x
+    takes-at r (take.Ended held entry) is idle knows x then busy = absurd (cc)
 
 keep-takes : Known → TakesByMoves
 keep-takes k = record {
   own_step = λ z a s rest t g objects f.
       takes-at k z a s rest g objects t t.stage f.layout_is f.idle f.knows.stage f.hands
-      ((k.kept.takes.own_step (buffers_of s.words s.filled) a s.words t g.counts (shown k z a s rest g) (record { knows = f.knows; holds = f.hands.holds })).knows) f;
-  lasts = λ z a s u rest t o f. record { layout_is = f.layout_is; knows = f.knows; hands = k.last z a s u (holding rest (taking.held_at t.stage)) o f.hands; idle = f.idle };
+      ((k.kept.takes.own_step (buffers_of s.words s.filled) a s.words t g.counts (shown k z a s rest g) (record { knows = f.knows; holds = f.hands.holds })).knows) f.busy;
+  lasts = λ z a s u rest t o f. record { layout_is = f.layout_is; knows = f.knows; hands = k.last z a s u (holding rest (taking.held_at t.stage)) o f.hands; idle = f.idle; busy = f.busy };
 }
+
+take-busy : (l : Layout) (seat : ℕ) (held : Option Held) → taking.is_busy (taking.begin l seat held) ≡ true
+take-busy l seat None = refl
+take-busy l seat (Some h) = by (ltb 0 h.count) where
+  by : (b : Bool) → taking.is_busy (cond b (take.Take h) (taking.try_at l seat 0 (Some h))) ≡ true
+  by true = refl
+  by false = refl
 
 begins : Known → (z : Cycle) (a : ℕ) (s : Shared) (rest : InHand) (held : Option Held) → Hands a s (holding rest held) → FactsBegin z a s rest held
 begins k z a s rest held x = record {
@@ -105,25 +114,18 @@ begins k z a s rest held x = record {
       record { knows = b.0; hands = subst (λ (h : Option Held). Hands a s (holding rest h)) (sym b.1) x };
   takes = λ idle.
       let b : TakeKnows a (taking.opening z.arena.layout a held) × (taking.held_at (taking.begin z.arena.layout a held) ≡ held) = k.kept.takes_begin z.arena.layout a held in
-      record { layout_is = refl; knows = b.0; hands = subst (λ (h : Option Held). Hands a s (holding rest h)) (sym b.1) x; idle = idle };
+      record { layout_is = refl; knows = b.0; hands = subst (λ (h : Option Held). Hands a s (holding rest h)) (sym b.1) x; idle = idle; busy = take-busy z.arena.layout a held };
   gives = λ own e. record { hands = subst (λ (h : Option Held). Hands a s (holding rest h)) e x };
 }
 
--- the search for room ends with what its try took
-room-given : (out : Option (Option Held)) (h : Held) → finding.room_of out ≡ Some h → out ≡ Some (Some h)
-room-given None h e = absurd (cc)
-room-given (Some None) h e = absurd (cc)
-room-given (Some (Some own)) h e = ap Some e
+-- what the search for room has given has room, and is held
+room-at : (a : ℕ) (p : RoomStage) (h : Held) → RoomStageKnows a p → finding.given_at p ≡ Some h → h.count + 2 ≤ ENTRIES
+room-at a (room.Ended own) h knows e = let is : own ≡ h = cc in subst (λ (k : Held). k.count + 2 ≤ ENTRIES) is knows
+room-at a _ h knows e = absurd (cc)
 
-room-at : (a found : ℕ) (p : RoomStage) (h : Held) → RoomStageKnows a p → finding.gives_at p found ≡ Some h → h.count + 2 ≤ ENTRIES
-room-at a found (room.GiveBack own) h knows e = absurd (cc)
-room-at a found (room.Try t) h knows e = (took a Room t found h (record { seat_is = knows.tries.seat_is; wish_is = knows.wish_is; stage_is = knows.tries.opened }) (room-given (try.gives t found) h e)).1
-room-at a found (room.Ended own) h knows e = absurd (cc)
-
-held-at : (found : ℕ) (r : finding.RoomFinding) (p : RoomStage) (h : Held) → finding.gives_at p found ≡ Some h → finding.held_at (finding.goes_at r p found).stage ≡ Some h
-held-at found r (room.GiveBack own) h e = absurd (cc)
-held-at found r (room.Try t) h e = subst (λ (out : Option (Option Held)). finding.held_at (finding.after_try (finding.at_stage r (room.Try (try.goes t found))) t.index out).stage ≡ Some h) (sym (room-given (try.gives t found) h e)) refl
-held-at found r (room.Ended own) h e = absurd (cc)
+held-at : (p : RoomStage) (h : Held) → finding.given_at p ≡ Some h → finding.held_at p ≡ Some h
+held-at (room.Ended own) h e = e
+held-at _ h e = absurd (cc)
 
 pub pass : Known → BuffersPassByMoves
 pass k = record {
@@ -132,6 +134,6 @@ pass k = record {
   finds = keep-finds k;
   takes = keep-takes k;
   gives = keep-gives k;
-  room = λ a found r h knows e. room-at a found r.stage h knows.stage e;
-  held = λ found r h e. held-at found r r.stage h e;
+  room = λ a found r h knows e. room-at a (finding.goes r found).stage h (room_next k.held a r r.stage found knows knows.stage).stage e;
+  held = λ found r h e. held-at (finding.goes r found).stage h e;
 }

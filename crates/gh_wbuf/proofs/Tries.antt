@@ -6,12 +6,12 @@ use Rattle.std.proofs.lemmas.Bool.Decides.{nat_tests}
 use Rattle.gh_base.specs.declared.held.Held.{Held}
 use Rattle.gh_base.specs.declared.layout.Layout.{Layout}
 use Rattle.gh_base.specs.Packing.{buffer_of}
-use Rattle.gh_base.specs.Routines.{EndsWith, told}
+use Rattle.gh_base.specs.Routines.{told}
 use Rattle.gh_wbuf.specs.declared.try_buffer.TryStage.TheVariants.{GiveBack, Claim, Ended}
 use Rattle.gh_wbuf.specs.declared.try_buffer.Wish.{Wish}
 use Rattle.gh_wbuf.specs.declared.try_buffer.Wish.TheVariants.{Room, Entry}
-use Rattle.gh_wbuf.specs.Tries.{Has, IsOpen, swap_step, TriesBuffer}
-use Rattle.gh_wbuf.specs.Trying.{asks, at_stage, claims, gives, goes, is_open, listing, opening, serves, taken, Trying}
+use Rattle.gh_wbuf.specs.Tries.{EndsAt, Has, IsOpen, swap_step, TriesBuffer}
+use Rattle.gh_wbuf.specs.Trying.{asks, at_stage, claimed, claims, given, given_at, goes, is_busy, is_open, listing, opening, serves, taken, Trying}
 use Rattle.gh_wbuf.proofs.Trying.{answers_once, ends_once}
 
 -- what the tests of a word say
@@ -48,13 +48,13 @@ module _ (l : Layout) (seat : ℕ) (wish : Wish) (index : ℕ) (held : Option He
   abbrev after : ℕ → Trying
   after n = told listing from found n
 
-  looked : (free : Bool) → is_open wish word ≡ free → after 1 ≡ at_stage from (cond free (claims from held word) Ended)
-  looked free e = ap (λ (b : Bool). at_stage from (cond b (claims from held word) Ended)) e
+  looked : (free : Bool) → is_open wish word ≡ free → after 1 ≡ at_stage from (cond free (claims from held word) (Ended None))
+  looked free e = ap (λ (b : Bool). at_stage from (cond b (claims from held word) (Ended None))) e
 
   not_free : is_open wish word ≡ false → TriesBuffer from found
   not_free e =
       let closed : ¬ IsOpen wish word = open_no wish word e in
-      let end : EndsWith listing from found 0 None = ap (λ (b : Bool). cond b None (Some None)) e in
+      let end : EndsAt listing from found 0 None = (refl, ap (λ (b : Bool). given_at (cond b (claims from held word) (Ended None))) e) in
       record {
         loads = refl;
         gives_back = λ h is free. absurd (closed free);
@@ -78,25 +78,25 @@ module _ (l : Layout) (seat : ℕ) (wish : Wish) (index : ℕ) (held : Option He
     free : IsOpen wish word
     free = open_yes wish word yes
 
-    outcome : (wrote : Bool) → eqb (found last) word ≡ wrote → EndsWith listing from found last (cond wrote (Some (taken index word)) None)
-    outcome wrote e = ap (λ (s : Trying). gives s (found last)) at ∙ ap (λ (b : Bool). Some (cond b (Some (taken index word)) None)) e
+    then : (wrote : Bool) → eqb (found last) word ≡ wrote → after (suc last) ≡ claimed claiming word wrote
+    then wrote e = ap (λ (s : Trying). goes s (found last)) at ∙ ap (claimed claiming word) e
 
-    then : (wrote : Bool) → eqb (found last) word ≡ wrote → after (suc last) ≡ cond wrote (record claiming { held = Some (taken index word); stage = Ended }) (at_stage claiming Ended)
-    then wrote e = ap (λ (s : Trying). goes s (found last)) at ∙ ap (λ (b : Bool). cond b (record claiming { held = Some (taken index word); stage = Ended }) (at_stage claiming Ended)) e
+    outcome : (wrote : Bool) (out : Option Held) → eqb (found last) word ≡ wrote → given (claimed claiming word wrote) ≡ Some out → EndsAt listing from found last out
+    outcome wrote out e is = (ap (λ (s : Trying). is_busy s.stage) at, ap given (then wrote e) ∙ is)
 
-    is_held : (n : ℕ) → n ≡ last → (wrote : Bool) → eqb (found last) word ≡ wrote → (after (suc n)).held ≡ (cond wrote (record claiming { held = Some (taken index word); stage = Ended }) (at_stage claiming Ended)).held
+    is_held : (n : ℕ) → n ≡ last → (wrote : Bool) → eqb (found last) word ≡ wrote → (after (suc n)).held ≡ (claimed claiming word wrote).held
     is_held n is wrote e = ap (λ (k : ℕ). (after (suc k)).held) is ∙ ap (λ (s : Trying). s.held) (then wrote e)
 
     by : (wrote : Bool) → eqb (found last) word ≡ wrote → TriesBuffer from found
     by true e =
-        let end : EndsWith listing from found last (Some (taken index word)) = outcome true e in
+        let end : EndsAt listing from found last (Some (taken index word)) = outcome true (Some (taken index word)) e refl in
         let same : found last ≡ word = eqb-true _ _ e in
         record {
           loads = refl;
           gives_back = λ h is _. ap asks (back h is) ∙ ap (λ (o : Option Held). asks (at_stage (opening l seat wish index o) (GiveBack word))) is;
           swaps = λ _. ap asks at;
           none = (λ q. absurd (let is : None ≡ Some (taken index word) = answers_once from found q.0 last None (Some (taken index word)) q.1 end in cc), λ q. absurd (elim q [ inl taken_before ↦ taken_before free | inr ne ↦ ne same ]));
-          some = λ h. (λ q. (free, same, let is : Some h ≡ Some (taken index word) = answers_once from found q.0 last (Some h) (Some (taken index word)) q.1 end in cc), λ q. (last, end ∙ ap (λ (k : Held). Some (Some k)) (sym q.2)));
+          some = λ h. (λ q. (free, same, let is : Some h ≡ Some (taken index word) = answers_once from found q.0 last (Some h) (Some (taken index word)) q.1 end in cc), λ q. (last, (end.0, end.1 ∙ ap (λ (k : Held). Some (Some k)) (sym q.2))));
           ends = (last, Some (taken index word), end);
           holds_some = λ n h q.
               let is : Some h ≡ Some (taken index word) = answers_once from found n last (Some h) (Some (taken index word)) q end in
@@ -105,7 +105,7 @@ module _ (l : Layout) (seat : ℕ) (wish : Wish) (index : ℕ) (held : Option He
           holds_still = λ n q closed. absurd (closed free);
         }
     by false e =
-        let end : EndsWith listing from found last None = outcome false e in
+        let end : EndsAt listing from found last None = outcome false None e refl in
         let differ : found last ≢ word = λ z. absurd (cc (e, eq-eqb _ _ z)) in
         record {
           loads = refl;

@@ -1,37 +1,29 @@
 -- What holds of each try: it ends once, and is of one buffer, seat and wish.
-use Rattle.std.proofs.Common.{◌≡◌, ◌≢◌, ℕ, zero, suc, ◌<◌, ◌≤◌, Bool, true, false, cond, eqb, ltb, Option, Some, None, refl, sym, ap, subst, ◌∙◌, arith}
-use Rattle.std.specs.Prelude.{IsNone}
+use Rattle.std.proofs.Common.{◌≡◌, ◌≢◌, ℕ, zero, suc, ◌<◌, ◌≤◌, Bool, true, false, eqb, ltb, Option, Some, None, refl, sym, ap, subst, ◌∙◌, arith}
+use Rattle.std.specs.Prelude.{is_none}
 use Rattle.std.proofs.lemmas.Bool.{eqb-true, eq-eqb, ltb-true, ltb-false}
 use Rattle.gh_base.specs.declared.held.Held.{Held}
-use Rattle.gh_base.specs.Routines.{EndsWith, GoesOn, told}
+use Rattle.gh_base.specs.Routines.{GoesOn, told}
 use Rattle.gh_wbuf.specs.declared.try_buffer.TryStage.{TryStage}
 use Rattle.gh_wbuf.specs.declared.try_buffer.TryStage.TheVariants.{Claim, Ended}
-use Rattle.gh_wbuf.specs.Trying.{at_stage, gives, gives_at, goes, goes_at, is_busy, listing, taken, Trying}
-use Rattle.gh_wbuf.specs.TryEnds.{ends}
+use Rattle.gh_wbuf.specs.Tries.{EndsAt}
+use Rattle.gh_wbuf.specs.Trying.{claimed, gives, goes, goes_at, is_busy, listing, Trying}
 
-still_at : (t : Trying) (stage : TryStage) (found : ℕ) → is_busy t.stage ≡ is_busy stage → is_busy (goes_at t stage found).stage ≡ true → is_busy stage ≡ true
-still_at t Ended found e h = sym e ∙ h
-still_at t _ found e h = refl
+still_at : (t : Trying) (stage : TryStage) (found : ℕ) → is_busy (goes_at t stage found).stage ≡ true → is_busy stage ≡ true
+still_at t (Ended out) found h = h
+still_at t _ found h = refl
 
 -- it was busy before, if it is
 pub still_busy : (t : Trying) (found : ℕ) → is_busy (goes t found).stage ≡ true → is_busy t.stage ≡ true
-still_busy t found h = still_at t t.stage found refl h
+still_busy t found h = still_at t t.stage found h
 
-gives_busy_at : (t : Trying) (stage : TryStage) (found : ℕ) (out : Option Held) → gives_at t stage found ≡ Some out → is_busy stage ≡ true
-gives_busy_at t Ended found out e = absurd (cc)
-gives_busy_at t _ found out e = refl
-
--- it is busy, if it ends
-pub gives_busy : (t : Trying) (found : ℕ) (out : Option Held) → gives t found ≡ Some out → is_busy t.stage ≡ true
-gives_busy t found out e = gives_busy_at t t.stage found out e
-
-none_is : (out : Option (Option Held)) → IsNone out → out ≡ None
+none_is : (out : Option (Option Held)) → is_none out ≡ true → out ≡ None
 none_is None h = refl
 none_is (Some out) h = absurd (cc)
 
 -- it gives nothing, if it is busy then
 pub gives_nothing : (t : Trying) (found : ℕ) → is_busy (goes t found).stage ≡ true → gives t found ≡ None
-gives_nothing t found h = none_is (gives t found) ((ends t found (still_busy t found h)).1 h)
+gives_nothing t found h = none_is (gives t found) h
 
 module _ (t : Trying) (found : ℕ → ℕ) where
   pub busy_before : (n m : ℕ) → m ≤ n → GoesOn listing t found n → GoesOn listing t found m
@@ -46,13 +38,14 @@ module _ (t : Trying) (found : ℕ → ℕ) where
   pub nothing_before : (n m : ℕ) → m < n → GoesOn listing t found n → gives (told listing t found m) (found m) ≡ None
   nothing_before n m lt busy = gives_nothing (told listing t found m) (found m) (busy_before n (suc m) lt busy)
 
-  not_before : (n m : ℕ) (out other : Option Held) → EndsWith listing t found n out → EndsWith listing t found m other → ¬ (m < n)
+  not_before : (n m : ℕ) (out other : Option Held) → EndsAt listing t found n out → EndsAt listing t found m other → ¬ (m < n)
   not_before n m out other e f lt =
-      let none : gives (told listing t found m) (found m) ≡ None = nothing_before n m lt (gives_busy (told listing t found n) (found n) out e) in
+      let none : gives (told listing t found m) (found m) ≡ None = nothing_before n m lt e.0 in
+      let some : gives (told listing t found m) (found m) ≡ Some other = f.1 in
       absurd (cc)
 
   -- it ends with one step
-  pub ends_once : (n m : ℕ) (out other : Option Held) → EndsWith listing t found n out → EndsWith listing t found m other → n ≡ m
+  pub ends_once : (n m : ℕ) (out other : Option Held) → EndsAt listing t found n out → EndsAt listing t found m other → n ≡ m
   ends_once n m out other e f =
       by (ltb m n) (ltb n m) refl refl where
         by : (a b : Bool) → ltb m n ≡ a → ltb n m ≡ b → n ≡ m
@@ -61,10 +54,10 @@ module _ (t : Trying) (found : ℕ → ℕ) where
         by false false u v = let ge : n ≤ m = ltb-false _ _ u in let le : m ≤ n = ltb-false _ _ v in omega arith
 
   -- and with one answer
-  pub answers_once : (n m : ℕ) (out other : Option Held) → EndsWith listing t found n out → EndsWith listing t found m other → out ≡ other
+  pub answers_once : (n m : ℕ) (out other : Option Held) → EndsAt listing t found n out → EndsAt listing t found m other → out ≡ other
   answers_once n m out other e f =
       let same : n ≡ m = ends_once n m out other e f in
-      some_is out other (sym e ∙ ap (λ (k : ℕ). gives (told listing t found k) (found k)) same ∙ f) where
+      some_is out other (sym e.1 ∙ ap (λ (k : ℕ). gives (told listing t found k) (found k)) same ∙ f.1) where
         some_is : (a b : Option Held) → Some a ≡ Some b → a ≡ b
         some_is a b e = cc
 
@@ -75,8 +68,8 @@ pub record IsSame (s t : Trying) : Type 0 where
   pub wish : s.wish ≡ t.wish
 
 same_at : (t : Trying) (stage : TryStage) (found : ℕ) → IsSame (goes_at t stage found) t
-same_at t (Claim word) found = by (eqb found word) where
-  by : (wrote : Bool) → IsSame (cond wrote (record t { held = Some (taken t.index word); stage = Ended }) (at_stage t Ended)) t
+same_at t (Claim word) found = by _ where
+  by : (wrote : Bool) → IsSame (claimed t word wrote) t
   by true = record { index = refl; seat = refl; wish = refl }
   by false = record { index = refl; seat = refl; wish = refl }
 same_at t _ found = record { index = refl; seat = refl; wish = refl }

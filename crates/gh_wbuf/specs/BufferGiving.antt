@@ -1,10 +1,11 @@
--- Giving a buffer back: what is asked for at each stage, where that leads, and what it gives.
-use Rattle.std.specs.Prelude.{ℕ, Bool, true, false, Option, Some, None}
+-- Giving a buffer back: what is asked for at each stage, where that leads, and what it has given.
+use Rattle.std.specs.Prelude.{ℕ, Bool, Option, Some, None, is_none}
 use Rattle.gh_base.specs.declared.cell.Cell.TheVariants.{Touch}
 use Rattle.gh_base.specs.declared.cell.Ask.{Ask}
 use Rattle.gh_base.specs.declared.cell.Ask.TheVariants.{Load}
 use Rattle.gh_base.specs.declared.held.Held.{Held}
 use Rattle.gh_base.specs.declared.layout.Layout.{Layout}
+use Rattle.gh_base.specs.Given.{listing_of}
 use Rattle.gh_base.specs.Routines.{Listing}
 use Rattle.gh_wbuf.specs.declared.give_buffer.GiveStage.{GiveStage}
 use Rattle.gh_wbuf.specs.declared.give_buffer.GiveStage.TheVariants.{Give, Ended}
@@ -26,13 +27,13 @@ abbrev pub asks_at : GiveStage → Ask
 asks_at (Give h) = gives_back h
 asks_at Ended = Load Touch
 
-abbrev pub gives_at : GiveStage → Option (Unit {0})
-gives_at (Give h) = Some tt
-gives_at Ended = None
+-- it has ended once the buffer is given back
+abbrev pub given_at : GiveStage → Option (Unit {0})
+given_at Ended = Some tt
+given_at _ = None
 
 abbrev pub is_busy : GiveStage → Bool
-is_busy (Give h) = true
-is_busy Ended = false
+is_busy stage = is_none (given_at stage)
 
 abbrev pub asks : BufferGiving → Ask
 asks g = asks_at g.stage
@@ -40,8 +41,11 @@ asks g = asks_at g.stage
 abbrev pub goes : BufferGiving → ℕ → BufferGiving
 goes g found = record g { stage = Ended }
 
+abbrev pub given : BufferGiving → Option (Unit {0})
+given g = given_at g.stage
+
 abbrev pub gives : BufferGiving → ℕ → Option (Unit {0})
-gives g found = gives_at g.stage
+gives g found = given (goes g found)
 
 abbrev pub listing : Listing BufferGiving (Unit {0})
-listing = record { layout = λ g. g.layout; busy = λ g. is_busy g.stage; asks = asks; goes = goes; gives = gives }
+listing = listing_of (λ g. g.layout) asks goes given

@@ -6,11 +6,11 @@ use Rattle.gh_base.specs.declared.cell.Ask.TheVariants.{Load, Store}
 use Rattle.gh_base.specs.declared.held.Held.{Held}
 use Rattle.gh_base.specs.declared.layout.Layout.{Layout}
 use Rattle.gh_base.specs.Cells.{buffers_of}
-use Rattle.gh_base.specs.Routines.{EndsWith, GoesOn, told}
+use Rattle.gh_base.specs.Routines.{GoesOn, told}
 use Rattle.gh_wbuf.specs.declared.take_entry.TakeStage.TheVariants.{Take}
 use Rattle.gh_wbuf.specs.declared.try_buffer.Wish.TheVariants.{Entry}
 use Rattle.gh_wbuf.specs.EntryTaking.{EntryTaking, asks, entry_of, held_at, listing, opening, try_at}
-use Rattle.gh_wbuf.specs.Tries.{Took}
+use Rattle.gh_wbuf.specs.Tries.{EndsAt, Took}
 use Rattle.gh_wbuf.specs.Trying as try
 
 -- no buffer is held, or one without an entry
@@ -45,17 +45,17 @@ module _ (l : Layout) (seat : ℕ) where
   abbrev pub AreLost : (tries : ℕ) → (index : ℕ) → Option Held → (ℕ → ℕ) → (steps : ℕ) → Type 0
   AreLost zero index held found steps = steps ≡ 0
   AreLost (suc tries) index held found steps =
-      (n : ℕ) × (rest : ℕ) × (EndsWith try.listing (entry_try index held) found n None) × (steps ≡ suc n + rest) × AreLost tries (suc index) (held_behind index held found n) (λ i. found (suc n + i)) rest
+      (n : ℕ) × (rest : ℕ) × (EndsAt try.listing (entry_try index held) found n None) × (steps ≡ suc n + rest) × AreLost tries (suc index) (held_behind index held found n) (λ i. found (suc n + i)) rest
 
   -- It takes the steps of the try of one buffer, and goes on by what that answers: each buffer once.
   pub record TriesForEntry (index : ℕ) (held : Option Held) (found : ℕ → ℕ) : Type 0 where
     -- its steps are those of the try
     pub steps : (n : ℕ) → GoesOn try.listing (entry_try index held) found n → asks (told listing (trying index held) found n) ≡ try.asks (told try.listing (entry_try index held) found n)
     -- where that answers none it goes on with the buffer behind, with what the try has left held; behind the last it ends with none
-    pub lost : (n : ℕ) → EndsWith try.listing (entry_try index held) found n None → suc index < buffers_of l → told listing (trying index held) found (suc n) ≡ trying (suc index) (held_behind index held found n)
-    pub lost_last : (n : ℕ) → EndsWith try.listing (entry_try index held) found n None → buffers_of l ≤ suc index → EndsWith listing (trying index held) found n None
+    pub lost : (n : ℕ) → EndsAt try.listing (entry_try index held) found n None → suc index < buffers_of l → told listing (trying index held) found (suc n) ≡ trying (suc index) (held_behind index held found n)
+    pub lost_last : (n : ℕ) → EndsAt try.listing (entry_try index held) found n None → buffers_of l ≤ suc index → EndsAt listing (trying index held) found n None
     -- where that answers with a buffer it takes an entry of it
-    pub won : (n : ℕ) (h : Held) → EndsWith try.listing (entry_try index held) found n (Some h) → told listing (trying index held) found (suc n) ≡ taking h
+    pub won : (n : ℕ) (h : Held) → EndsAt try.listing (entry_try index held) found n (Some h) → told listing (trying index held) found (suc n) ≡ taking h
 
 module _ (l : Layout) (seat : ℕ) (held : Option Held) (found : ℕ → ℕ) where
   abbrev from : EntryTaking
@@ -80,8 +80,8 @@ module _ (l : Layout) (seat : ℕ) (held : Option Held) (found : ℕ → ℕ) wh
     pub begins : HasNoEntry held → from ≡ trying l seat 0 held
     pub tries : (index : ℕ) (kept : Option Held) → TriesForEntry l seat index kept found
     -- it answers none exactly where no buffer with an entry is held, and each of the tries of all buffers answered none
-    pub none : (n : ℕ) → EndsWith listing from found n None ↔ (HasNoEntry held × AreLost l seat (buffers_of l) 0 held found (suc n))
-    pub some : (n entry : ℕ) → EndsWith listing from found n (Some entry) → TakesLast n entry
+    pub none : (n : ℕ) → EndsAt listing from found n None ↔ (HasNoEntry held × AreLost l seat (buffers_of l) 0 held found (suc n))
+    pub some : (n entry : ℕ) → EndsAt listing from found n (Some entry) → TakesLast n entry
     -- no buffer with an entry is dropped
     pub keeps : (n : ℕ) (h : Held) → held_at (after n).stage ≡ Some h → Becomes (asks (after n)) (held_at (after (suc n)).stage) h
 

@@ -1,11 +1,12 @@
--- Taking an entry: what is asked for at each stage, where that leads, and what it gives.
-use Rattle.std.specs.Prelude.{ℕ, ◌+◌, ◌-◌, ◌*◌, ◌%◌, Bool, true, false, max, nat_lt, if◌then◌else◌, Option, Some, None}
+-- Taking an entry: what is asked for at each stage, where that leads, and what it has given.
+use Rattle.std.specs.Prelude.{ℕ, ◌+◌, ◌-◌, ◌*◌, ◌%◌, Bool, max, nat_lt, if◌then◌else◌, Option, Some, None, is_none}
 use Rattle.gh_base.specs.declared.cell.Cell.TheVariants as cell
 use Rattle.gh_base.specs.declared.cell.Ask.{Ask}
 use Rattle.gh_base.specs.declared.cell.Ask.TheVariants.{Load}
 use Rattle.gh_base.specs.declared.held.Held.{Held}
 use Rattle.gh_base.specs.declared.layout.Layout.{Layout}
 use Rattle.gh_base.specs.Cells.{buffers_of}
+use Rattle.gh_base.specs.Given.{listing_of}
 use Rattle.gh_base.specs.Routines.{Listing}
 use Rattle.gh_wbuf.specs.declared.take_entry.TakeStage.{TakeStage}
 use Rattle.gh_wbuf.specs.declared.take_entry.TakeStage.TheVariants.{Try, Take, Ended}
@@ -36,7 +37,7 @@ at_stage t stage = record t { stage = stage }
 abbrev pub held_at : TakeStage → Option Held
 held_at (Try t) = t.held
 held_at (Take h) = Some h
-held_at (Ended held) = held
+held_at (Ended held entry) = held
 
 -- it has an entry less
 abbrev pub less : Held → Held
@@ -50,41 +51,34 @@ entry_of l found = (max found 1 - 1) % (1024 * l.pages) + 1
 abbrev pub has_next : Layout → (index : ℕ) → Bool
 has_next l index = nat_lt (index + 1) (buffers_of l)
 
+-- behind this buffer: the next, or the end, with none
+abbrev pub behind : Layout → (seat index : ℕ) → Option Held → TakeStage
+behind l seat index held = if has_next l index then try_at l seat (index + 1) held else Ended held None
+
 module _ (t : EntryTaking) where
   abbrev pub asks_at : TakeStage → Ask
   asks_at (Try tries) = try.asks tries
   asks_at (Take h) = Load (cell.Entry h.index (h.count - 1))
-  asks_at (Ended held) = Load cell.Touch
-
-  -- behind this buffer: the next, or the end
-  abbrev pub behind : (index : ℕ) → Option Held → TakeStage
-  behind index held = if has_next t.layout index then try_at t.layout t.seat (index + 1) held else Ended held
+  asks_at (Ended held entry) = Load cell.Touch
 
   -- what it is after the try of this buffer has given this, with what is held then
   abbrev pub after_try : (index : ℕ) → Option Held → Option (Option Held) → EntryTaking
   after_try index held None = t
-  after_try index held (Some None) = at_stage t (behind index held)
+  after_try index held (Some None) = at_stage t (behind t.layout t.seat index held)
   after_try index held (Some (Some h)) = at_stage t (Take h)
-
-  -- it ends with none where the try of the last buffer gave none
-  abbrev pub none_of : (index : ℕ) → Option (Option Held) → Option (Option ℕ)
-  none_of index (Some None) = if has_next t.layout index then None else Some None
-  none_of index _ = None
-
-  abbrev pub gives_at : TakeStage → ℕ → Option (Option ℕ)
-  gives_at (Try tries) found = none_of tries.index (try.gives tries found)
-  gives_at (Take h) found = Some (Some (entry_of t.layout found))
-  gives_at (Ended held) found = None
 
 abbrev pub goes_at : EntryTaking → TakeStage → ℕ → EntryTaking
 goes_at t (Try tries) found = after_try (at_stage t (Try (try.goes tries found))) tries.index (try.goes tries found).held (try.gives tries found)
-goes_at t (Take h) found = at_stage t (Ended (Some (less h)))
-goes_at t (Ended held) found = t
+goes_at t (Take h) found = at_stage t (Ended (Some (less h)) (Some (entry_of t.layout found)))
+goes_at t (Ended held entry) found = at_stage t (Ended held entry)
+
+-- where it has ended, the reference that it has taken, or none
+abbrev pub given_at : TakeStage → Option (Option ℕ)
+given_at (Ended held entry) = Some entry
+given_at _ = None
 
 abbrev pub is_busy : TakeStage → Bool
-is_busy (Try tries) = try.is_busy tries.stage
-is_busy (Take h) = true
-is_busy (Ended held) = false
+is_busy stage = is_none (given_at stage)
 
 abbrev pub asks : EntryTaking → Ask
 asks t = asks_at t t.stage
@@ -92,8 +86,11 @@ asks t = asks_at t t.stage
 abbrev pub goes : EntryTaking → ℕ → EntryTaking
 goes t found = goes_at t t.stage found
 
+abbrev pub given : EntryTaking → Option (Option ℕ)
+given t = given_at t.stage
+
 abbrev pub gives : EntryTaking → ℕ → Option (Option ℕ)
-gives t found = gives_at t t.stage found
+gives t found = given (goes t found)
 
 abbrev pub listing : Listing EntryTaking (Option ℕ)
-listing = record { layout = λ t. t.layout; busy = λ t. is_busy t.stage; asks = asks; goes = goes; gives = gives }
+listing = listing_of (λ t. t.layout) asks goes given

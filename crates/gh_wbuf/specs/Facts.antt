@@ -1,5 +1,5 @@
 -- What is known at each stage of the routines while marking is on, and what each step of their own is then. They take and give buffers alone, so they leave all that their caller knows.
-use Rattle.std.specs.Prelude.{◌≡◌, ℕ, ◌+◌, ◌-◌, ◌≤◌, Option, Some, None}
+use Rattle.std.specs.Prelude.{◌≡◌, ℕ, ◌+◌, ◌-◌, ◌≤◌, true, Option, Some, None}
 use Rattle.gh_base.specs.declared.held.Held.{Held}
 use Rattle.gh_base.specs.declared.pack.TheConstants.{ENTRIES}
 use Rattle.gh_base.specs.Steps.{cell_of}
@@ -31,12 +31,13 @@ pub record RoomFacts (z : Cycle) (a : ℕ) (s : Shared) (rest : InHand) (r : fin
 pub record GiveFacts (z : Cycle) (a : ℕ) (s : Shared) (rest : InHand) (g : giving.BufferGiving) : Type 0 where
   pub hands : Hands a s (holding rest (giving.held_at g.stage))
 
--- the seat takes an object only while it scans none
+-- the seat takes an object only while it scans none, and only until it has one
 pub record TakeFacts (z : Cycle) (a : ℕ) (s : Shared) (rest : InHand) (t : taking.EntryTaking) : Type 0 where
   pub layout_is : t.layout ≡ z.arena.layout
   pub knows : TakeKnows a t
   pub hands : Hands a s (holding rest (taking.held_at t.stage))
   pub idle : rest.scanning ≡ None
+  pub busy : taking.is_busy t.stage ≡ true
 
 -- the object of this reference is the seat's to scan
 pub record Took (a : ℕ) (s : Shared) (rest : InHand) (held : Option Held) (reference : ℕ) : Type 0 where

@@ -1,7 +1,8 @@
 -- What each stage of the routines knows of the buffers: who holds which, and how many entries each has.
-use Rattle.std.specs.Prelude.{◌≡◌, ℕ, ◌<◌, Option, None}
+use Rattle.std.specs.Prelude.{◌≡◌, ℕ, ◌+◌, ◌<◌, ◌≤◌, true, Option, None}
 use Rattle.gh_base.specs.declared.held.Held.{Held}
 use Rattle.gh_base.specs.declared.layout.Layout.{Layout}
+use Rattle.gh_base.specs.declared.pack.TheConstants.{ENTRIES}
 use Rattle.gh_base.specs.Holding.{KeepsItsBuffer}
 use Rattle.gh_wbuf.specs.declared.find_room.RoomStage.{RoomStage}
 use Rattle.gh_wbuf.specs.declared.find_room.RoomStage.TheVariants as room
@@ -28,15 +29,18 @@ pub record TryKnows (seat : ℕ) (t : try.Trying) : Type 0 where
   pub opened : FitsTryStage t.wish t.stage
   pub free : IsFreeAt t.held t.stage
 
--- the search for room holds no buffer while it tries one
+-- the search for room holds no buffer while it tries one, and a try that it runs has not ended
 pub record RoomTryKnows (seat : ℕ) (t : try.Trying) : Type 0 where
   pub tries : TryKnows seat t
   pub wish_is : t.wish ≡ Room
   pub none : t.held ≡ None
+  pub busy : try.is_busy t.stage ≡ true
 
 abbrev pub RoomStageKnows : (seat : ℕ) → RoomStage → Type 0
+RoomStageKnows seat (room.GiveBack h) = Unit {0}
 RoomStageKnows seat (room.Try t) = RoomTryKnows seat t
-RoomStageKnows seat _ = Unit {0}
+-- what it has found has room for two
+RoomStageKnows seat (room.Ended h) = h.count + 2 ≤ ENTRIES
 
 pub record RoomKnows (seat : ℕ) (r : finding.RoomFinding) : Type 0 where
   pub seat_is : r.seat ≡ seat
@@ -45,12 +49,13 @@ pub record RoomKnows (seat : ℕ) (r : finding.RoomFinding) : Type 0 where
 pub record TakeTryKnows (seat : ℕ) (t : try.Trying) : Type 0 where
   pub tries : TryKnows seat t
   pub wish_is : t.wish ≡ Entry
+  pub busy : try.is_busy t.stage ≡ true
 
 -- the buffer whose entry it takes has one
 abbrev pub TakeStageKnows : (seat : ℕ) → TakeStage → Type 0
 TakeStageKnows seat (take.Try t) = TakeTryKnows seat t
 TakeStageKnows seat (take.Take h) = 0 < h.count
-TakeStageKnows seat (take.Ended held) = Unit {0}
+TakeStageKnows seat (take.Ended held entry) = Unit {0}
 
 pub record TakeKnows (seat : ℕ) (t : taking.EntryTaking) : Type 0 where
   pub seat_is : t.seat ≡ seat

@@ -1,12 +1,12 @@
+pub mod Blind
 pub mod BufferGiving
-pub mod Ends
 pub mod Entries
 pub mod EntryTaking
 pub mod Facts
 pub mod Knowing
 pub mod RoomFinding
 pub mod Sound
+pub mod Stays
 pub mod Tries
-pub mod TryEnds
 pub mod TrySound
 pub mod Trying

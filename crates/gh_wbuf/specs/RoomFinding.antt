@@ -1,11 +1,12 @@
--- Looking for a buffer with room: what is asked for at each stage, where that leads, and what it gives.
-use Rattle.std.specs.Prelude.{ℕ, ◌+◌, Bool, true, false, nat_lt, if◌then◌else◌, Option, Some, None}
+-- Looking for a buffer with room: what is asked for at each stage, where that leads, and what it has given.
+use Rattle.std.specs.Prelude.{ℕ, ◌+◌, Bool, nat_lt, if◌then◌else◌, Option, Some, None, is_none}
 use Rattle.gh_base.specs.declared.cell.Cell.TheVariants.{Touch}
 use Rattle.gh_base.specs.declared.cell.Ask.{Ask}
 use Rattle.gh_base.specs.declared.cell.Ask.TheVariants.{Load}
 use Rattle.gh_base.specs.declared.held.Held.{Held}
 use Rattle.gh_base.specs.declared.layout.Layout.{Layout}
 use Rattle.gh_base.specs.Cells.{buffers_of}
+use Rattle.gh_base.specs.Given.{listing_of}
 use Rattle.gh_base.specs.Routines.{Listing}
 use Rattle.gh_wbuf.specs.declared.find_room.RoomStage.{RoomStage}
 use Rattle.gh_wbuf.specs.declared.find_room.RoomStage.TheVariants.{GiveBack, Try, Ended}
@@ -56,21 +57,15 @@ module _ (r : RoomFinding) where
 abbrev pub goes_at : RoomFinding → RoomStage → ℕ → RoomFinding
 goes_at r (GiveBack h) found = at_stage r (try_at r.layout r.seat 0)
 goes_at r (Try t) found = after_try (at_stage r (Try (try.goes t found))) t.index (try.gives t found)
-goes_at r (Ended h) found = r
+goes_at r (Ended h) found = at_stage r (Ended h)
 
 -- it ends with the buffer that a try took
-abbrev pub room_of : Option (Option Held) → Option Held
-room_of (Some (Some h)) = Some h
-room_of _ = None
-
-abbrev pub gives_at : RoomStage → ℕ → Option Held
-gives_at (Try t) found = room_of (try.gives t found)
-gives_at _ found = None
+abbrev pub given_at : RoomStage → Option Held
+given_at (Ended h) = Some h
+given_at _ = None
 
 abbrev pub is_busy : RoomStage → Bool
-is_busy (GiveBack h) = true
-is_busy (Try t) = try.is_busy t.stage
-is_busy (Ended h) = false
+is_busy stage = is_none (given_at stage)
 
 abbrev pub asks : RoomFinding → Ask
 asks r = asks_at r r.stage
@@ -78,8 +73,11 @@ asks r = asks_at r r.stage
 abbrev pub goes : RoomFinding → ℕ → RoomFinding
 goes r found = goes_at r r.stage found
 
+abbrev pub given : RoomFinding → Option Held
+given r = given_at r.stage
+
 abbrev pub gives : RoomFinding → ℕ → Option Held
-gives r found = gives_at r.stage found
+gives r found = given (goes r found)
 
 abbrev pub listing : Listing RoomFinding Held
-listing = record { layout = λ r. r.layout; busy = λ r. is_busy r.stage; asks = asks; goes = goes; gives = gives }
+listing = listing_of (λ r. r.layout) asks goes given

@@ -1,10 +1,11 @@
--- A try to take one buffer: what is asked for at each stage, where that leads, and what it gives.
-use Rattle.std.specs.Prelude.{ℕ, ◌+◌, Bool, true, false, nat_lt, nat_le, ◌==◌, ◌&&◌, if◌then◌else◌, Option, Some, None}
+-- A try to take one buffer: what is asked for at each stage, where that leads, and what it has given.
+use Rattle.std.specs.Prelude.{ℕ, ◌+◌, Bool, nat_lt, nat_le, ◌==◌, ◌&&◌, if◌then◌else◌, Option, Some, None, is_none}
 use Rattle.gh_base.specs.declared.cell.Cell.TheVariants.{Touch, Buffer}
 use Rattle.gh_base.specs.declared.cell.Ask.{Ask}
 use Rattle.gh_base.specs.declared.cell.Ask.TheVariants.{Load, Store, Swap}
 use Rattle.gh_base.specs.declared.held.Held.{Held}
 use Rattle.gh_base.specs.declared.layout.Layout.{Layout}
+use Rattle.gh_base.specs.Given.{listing_of}
 use Rattle.gh_base.specs.Packing.{buffer_of, buffer_word}
 use Rattle.gh_base.specs.Routines.{Listing}
 use Rattle.gh_wbuf.specs.declared.try_buffer.TheConstants.{MOST_WITH_ROOM}
@@ -62,28 +63,30 @@ module _ (t : Trying) where
   asks_at Look = Load (Buffer t.index)
   asks_at (GiveBack word) = back_at t.held
   asks_at (Claim word) = Swap (Buffer t.index) word (taken_word t.seat word)
-  asks_at Ended = Load Touch
+  asks_at (Ended out) = Load Touch
 
   -- with an open buffer: one that is held is given back first
   abbrev pub claims : Option Held → (word : ℕ) → TryStage
   claims None word = Claim word
   claims (Some h) word = GiveBack word
 
-  abbrev pub goes_at : TryStage → ℕ → Trying
-  goes_at Look found = at_stage t (if is_open t.wish found then claims t.held found else Ended)
-  goes_at (GiveBack word) found = record t { held = None; stage = Claim word }
-  goes_at (Claim word) found = if found == word then record t { held = Some (taken t.index word); stage = Ended } else at_stage t Ended
-  goes_at Ended found = t
+  -- after its swap, which wrote or did not
+  abbrev pub claimed : (word : ℕ) → (wrote : Bool) → Trying
+  claimed word wrote = if wrote then record t { held = Some (taken t.index word); stage = Ended (Some (taken t.index word)) } else at_stage t (Ended None)
 
-  abbrev pub gives_at : TryStage → ℕ → Option (Option Held)
-  gives_at Look found = if is_open t.wish found then None else Some None
-  gives_at (GiveBack word) found = None
-  gives_at (Claim word) found = Some (if found == word then Some (taken t.index word) else None)
-  gives_at Ended found = None
+  abbrev pub goes_at : TryStage → ℕ → Trying
+  goes_at Look found = at_stage t (if is_open t.wish found then claims t.held found else Ended None)
+  goes_at (GiveBack word) found = record t { held = None; stage = Claim word }
+  goes_at (Claim word) found = claimed word (found == word)
+  goes_at (Ended out) found = at_stage t (Ended out)
+
+-- where it has ended, the buffer that it has taken, or none: then it may still hold another
+abbrev pub given_at : TryStage → Option (Option Held)
+given_at (Ended out) = Some out
+given_at _ = None
 
 abbrev pub is_busy : TryStage → Bool
-is_busy Ended = false
-is_busy _ = true
+is_busy stage = is_none (given_at stage)
 
 abbrev pub asks : Trying → Ask
 asks t = asks_at t t.stage
@@ -91,8 +94,11 @@ asks t = asks_at t t.stage
 abbrev pub goes : Trying → ℕ → Trying
 goes t found = goes_at t t.stage found
 
+abbrev pub given : Trying → Option (Option Held)
+given t = given_at t.stage
+
 abbrev pub gives : Trying → ℕ → Option (Option Held)
-gives t found = gives_at t t.stage found
+gives t found = given (goes t found)
 
 abbrev pub listing : Listing Trying (Option Held)
-listing = record { layout = λ t. t.layout; busy = λ t. is_busy t.stage; asks = asks; goes = goes; gives = gives }
+listing = listing_of (λ t. t.layout) asks goes given

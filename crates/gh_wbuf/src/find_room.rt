@@ -1,12 +1,9 @@
 //! The routine that looks for a buffer with room.
 
 ghost use Rattle.std.specs.Prelude.{◌≡◌, ◌<◌, Option, true};
-ghost use Rattle.gh_base.specs.Cells.{buffers_of, InRange, seats_of};
-ghost use Rattle.gh_base.specs.Holding.{FitsBuffers, IsHeld};
-ghost use Rattle.gh_base.specs.Steps.{cell_of};
-ghost use Rattle.gh_wbuf.specs.RoomFinding.{after_try, is_busy, asks, at_stage, begin, held_at, next_index, opening, room_of, try_at};
-ghost use Rattle.gh_wbuf.specs.TrySound.{GivesServing};
-ghost use Rattle.gh_wbuf.specs.declared.try_buffer.Wish.TheVariants.{Room};
+ghost use Rattle.gh_base.specs.Cells.{buffers_of, seats_of};
+ghost use Rattle.gh_base.specs.Holding.{IsHeld};
+ghost use Rattle.gh_wbuf.specs.RoomFinding.{given, held_at, is_busy, next_index, opening, try_at};
 
 use crate::try_buffer::{TryBuffer, Wish, give_back};
 use gh_base::{Ask, Cell, Held, Layout, Machine, Req};
@@ -77,54 +74,45 @@ impl FindRoom {
         }
     }
 
-    /// It tries this buffer next.
-    fn try_at(&self, index: u32) -> RoomStage
-        requires { index < buffers_of self.now.layout }
-        ensures { result ≡ try_at self.now.layout self.now.seat index }
+    /// What it has given.
+    fn given(&self) -> Option<Held>
+        ensures { result ≡ given self.now }
     {
-        RoomStage::Try(TryBuffer::new(&self.layout, self.seat, Wish::Room, index, None))
-    }
-
-    /// The buffer behind this one, and behind the last the first.
-    fn next_index(&self, index: u32) -> u32
-        requires { index < buffers_of self.now.layout }
-        ensures is { result ≡ next_index self.now.layout index }
-        ensures there { result < buffers_of self.now.layout }
-    {
-        if index + 1 < self.layout.buffers() {
-            index + 1
-        } else {
-            0
-        }
-    }
-
-    /// Goes on after a step of the try of this buffer.
-    fn after_try(&mut self, index: u32, out: Option<Option<Held>>) -> Option<Held>
-        requires index { index < buffers_of self.old.layout }
-        requires serves { GivesServing self.old.layout Room out }
-        ensures goes { self.new ≡ after_try self.old index out }
-        ensures gives { result ≡ room_of out }
-        ensures serves { GivesServing self.old.layout Room (Option.Some result) }
-    {
-        match out {
-            None => None,
-            Some(None) => {
-                self.stage = self.try_at(self.next_index(index));
-                None
-            }
-            Some(Some(held)) => {
-                self.stage = RoomStage::Ended(held);
-                Some(held)
-            }
+        match self.stage {
+            RoomStage::Ended(held) => Some(held),
+            _ => None,
         }
     }
 }
 
+/// It tries this buffer next.
+fn try_at(layout: &Layout, seat: u32, index: u32) -> RoomStage
+    requires seat { seat < seats_of layout.now }
+    requires index { index < buffers_of layout.now }
+    ensures { result ≡ try_at layout.now seat index }
+{
+    RoomStage::Try(TryBuffer::new(layout, seat, Wish::Room, index, None))
+}
+
+/// The buffer behind this one, and behind the last the first.
+fn next_index(layout: &Layout, index: u32) -> u32
+    requires { index < buffers_of layout.now }
+    ensures is { result ≡ next_index layout.now index }
+    ensures there { result < buffers_of layout.now }
+{
+    if index + 1 < layout.buffers() {
+        index + 1
+    } else {
+        0
+    }
+}
+
 impl Machine for FindRoom {
+    ghost use Rattle.gh_base.specs.Given.{is_over};
     ghost use Rattle.gh_wbuf.specs.RoomFinding.{gives, goes, is_busy, listing};
+    ghost use Rattle.gh_wbuf.specs.Stays.{room_stays};
     ghost use Rattle.gh_wbuf.specs.TrySound.{GivesServing};
     ghost use Rattle.gh_wbuf.specs.declared.try_buffer.Wish.TheVariants.{Room};
-    ghost use Rattle.gh_wbuf.specs.Ends as proved;
 
     type Out = Held;
 
@@ -153,20 +141,23 @@ impl Machine for FindRoom {
         ensures serves { GivesServing self.old.layout Room (Option.Some result) }
     {
         match &mut self.stage {
-            RoomStage::GiveBack(_) => {
-                self.stage = self.try_at(0);
-                None
-            }
+            RoomStage::GiveBack(_) => self.stage = try_at(&self.layout, self.seat, 0),
             RoomStage::Try(tried) => {
-                let out = tried.take(found);
-                let index = tried.index();
-                self.after_try(index, out)
+                let out = tried.take(found)?;
+                self.stage = match out {
+                    None => {
+                        let next = next_index(&self.layout, tried.index());
+                        try_at(&self.layout, self.seat, next)
+                    }
+                    Some(held) => RoomStage::Ended(held),
+                };
             }
-            RoomStage::Ended(_) => None,
+            RoomStage::Ended(_) => {}
         }
+        self.given()
     }
 
-    ghost ends = { proved.room_ends };
+    ghost ends = { λ m found busy. is_over (listing.gives m found) };
 
-    ghost stays = { proved.room_stays };
+    ghost stays = { room_stays };
 }

@@ -4,7 +4,7 @@ ghost use Rattle.std.specs.Prelude.{◌≡◌, Option};
 ghost use Rattle.gh_base.specs.Cells.{InRange};
 ghost use Rattle.gh_base.specs.Holding.{FitsBuffers, IsHeld};
 ghost use Rattle.gh_base.specs.Steps.{cell_of};
-ghost use Rattle.gh_wbuf.specs.BufferGiving.{asks, held_at, opening};
+ghost use Rattle.gh_wbuf.specs.BufferGiving.{asks, given, held_at, opening};
 
 use crate::try_buffer::give_back;
 use gh_base::{Ask, Cell, Held, Layout, Machine, Req};
@@ -74,12 +74,22 @@ impl GiveBuffer {
             GiveStage::Ended => Ask::Load(Cell::Touch),
         }
     }
+
+    /// What it has given.
+    fn given(&self) -> Option<()>
+        ensures { result ≡ given self.now }
+    {
+        match self.stage {
+            GiveStage::Ended => Some(()),
+            GiveStage::Give(_) => None,
+        }
+    }
 }
 
 impl Machine for GiveBuffer {
     ghost use Rattle.std.specs.Prelude.{refl};
+    ghost use Rattle.gh_base.specs.Given.{is_over};
     ghost use Rattle.gh_wbuf.specs.BufferGiving.{listing};
-    ghost use Rattle.gh_wbuf.specs.Ends as proved;
 
     type Out = ();
 
@@ -98,16 +108,11 @@ impl Machine for GiveBuffer {
     }
 
     fn take(&mut self, _found: u64) -> Option<()> {
-        match self.stage {
-            GiveStage::Give(_) => {
-                self.stage = GiveStage::Ended;
-                Some(())
-            }
-            GiveStage::Ended => None,
-        }
+        self.stage = GiveStage::Ended;
+        self.given()
     }
 
-    ghost ends = { proved.giving_ends };
+    ghost ends = { λ m found busy. is_over (listing.gives m found) };
 
     ghost stays = { λ _ _. refl };
 }

@@ -1,12 +1,9 @@
 //! The routine that takes an entry.
 
-ghost use Rattle.std.specs.Prelude.{◌≡◌, ◌+◌, ◌*◌, ◌<◌, ◌≤◌, IfSome, Option, true};
-ghost use Rattle.gh_base.specs.Cells.{buffers_of, InRange, seats_of};
-ghost use Rattle.gh_base.specs.Holding.{FitsBuffers, IsHeld};
-ghost use Rattle.gh_base.specs.Steps.{cell_of};
-ghost use Rattle.gh_wbuf.specs.EntryTaking.{after_try, at_stage, begin, behind, entry_of, gives, goes, held_at, is_busy, less, none_of, opening, try_at};
-ghost use Rattle.gh_wbuf.specs.TrySound.{GivesServing};
-ghost use Rattle.gh_wbuf.specs.declared.try_buffer.Wish.TheVariants.{Entry};
+ghost use Rattle.std.specs.Prelude.{◌≡◌, ◌*◌, ◌<◌, ◌≤◌, Option, true};
+ghost use Rattle.gh_base.specs.Cells.{buffers_of, seats_of};
+ghost use Rattle.gh_base.specs.Holding.{IsHeld};
+ghost use Rattle.gh_wbuf.specs.EntryTaking.{begin, behind, entry_of, given, held_at, is_busy, less, opening, try_at};
 
 use crate::try_buffer::{TryBuffer, Wish};
 use gh_base::{Ask, Cell, Held, Layout, Machine, Req};
@@ -19,8 +16,13 @@ pub enum TakeStage {
     Try(TryBuffer),
     /// It takes the last entry of this buffer, which it holds.
     Take(Held),
-    /// It has ended, and holds this buffer, if any.
-    Ended(Option<Held>),
+    /// It has ended.
+    Ended {
+        /// The buffer that it holds, if any.
+        held: Option<Held>,
+        /// The reference that it has taken, and `None` where each try gave none.
+        entry: Option<u64>,
+    },
 }
 
 /// Takes an entry, a grey object that is to be scanned (Go's `gcWork.tryGet` and `trygetfull`,
@@ -104,75 +106,63 @@ impl TakeEntry {
         match &self.stage {
             TakeStage::Try(tried) => tried.held(),
             TakeStage::Take(held) => Some(*held),
-            TakeStage::Ended(held) => *held,
+            TakeStage::Ended { held, .. } => *held,
         }
     }
 
-    /// What follows behind this buffer, with this one held, if any.
-    fn behind(&self, index: u32, held: Option<Held>) -> TakeStage
-        requires index { index < buffers_of self.now.layout }
-        requires held { IsHeld self.now.layout held }
-        ensures { result ≡ behind self.now index held }
+    /// What it has given.
+    fn given(&self) -> Option<Option<u64>>
+        ensures { result ≡ given self.now }
     {
-        if index + 1 < self.layout.buffers() {
-            try_at(&self.layout, self.seat, index + 1, held)
-        } else {
-            TakeStage::Ended(held)
-        }
-    }
-
-    /// Goes on after a step of the try of this buffer, with this one held, if any.
-    fn after_try(&mut self, index: u32, held: Option<Held>, out: Option<Option<Held>>)
-        requires index { index < buffers_of self.old.layout }
-        requires held { IsHeld self.old.layout held }
-        requires serves { GivesServing self.old.layout Entry out }
-        ensures { self.new ≡ after_try self.old index held out }
-    {
-        match out {
-            None => {}
-            Some(None) => self.stage = self.behind(index, held),
-            Some(Some(taken)) => self.stage = TakeStage::Take(taken),
-        }
-    }
-
-    /// What it ends with after that step, if it ends.
-    fn none_of(&self, index: u32, out: Option<Option<Held>>) -> Option<Option<u64>>
-        requires { index < buffers_of self.now.layout }
-        ensures { result ≡ none_of self.now index out }
-    {
-        match out {
-            Some(None) if index + 1 >= self.layout.buffers() => Some(None),
+        match self.stage {
+            TakeStage::Ended { entry, .. } => Some(entry),
             _ => None,
         }
     }
+}
 
-    /// The reference in an entry.
-    fn entry(&self, found: u64) -> u64
-        ensures is { result ≡ entry_of self.now.layout found }
-        ensures some { 1 ≤ result }
-        ensures within { result ≤ 1024 * self.now.layout.pages }
-    {
-        (found.max(1) - 1) % (1024 * u64::from(self.layout.pages)) + 1
+/// What follows behind this buffer, with this one held, if any.
+fn behind(layout: &Layout, seat: u32, index: u32, held: Option<Held>) -> TakeStage
+    requires seat { seat < seats_of layout.now }
+    requires index { index < buffers_of layout.now }
+    requires held { IsHeld layout.now held }
+    ensures { result ≡ behind layout.now seat index held }
+{
+    if index + 1 < layout.buffers() {
+        try_at(layout, seat, index + 1, held)
+    } else {
+        TakeStage::Ended { held, entry: None }
     }
+}
 
-    /// Takes the entry of the held buffer, which has one less then.
-    fn take_from(&mut self, held: Held, found: u64) -> Option<Option<u64>>
-        requires at { self.old.stage ≡ TakeStage.Take held }
-        requires some { 0 < held.count }
-        ensures goes { self.new ≡ goes self.old found }
-        ensures gives { result ≡ gives self.old found }
-    {
-        self.stage = TakeStage::Ended(Some(Held {
-            index: held.index,
-            count: held.count - 1,
-        }));
-        Some(Some(self.entry(found)))
+/// The reference in an entry.
+fn entry_of(layout: &Layout, found: u64) -> u64
+    ensures is { result ≡ entry_of layout.now found }
+    ensures some { 1 ≤ result }
+    ensures within { result ≤ 1024 * layout.now.pages }
+{
+    (found.max(1) - 1) % (1024 * u64::from(layout.pages)) + 1
+}
+
+/// The entry of the held buffer is taken, which has one less then.
+fn take_from(layout: &Layout, held: Held, found: u64) -> TakeStage
+    requires { 0 < held.count }
+    ensures { result ≡ TakeStage.Ended (Option.Some (less held)) (Option.Some (entry_of layout.now found)) }
+{
+    let left = Held {
+        index: held.index,
+        count: held.count - 1,
+    };
+    TakeStage::Ended {
+        held: Some(left),
+        entry: Some(entry_of(layout, found)),
     }
 }
 
 impl Machine for TakeEntry {
+    ghost use Rattle.gh_base.specs.Given.{is_over};
     ghost use Rattle.gh_wbuf.specs.EntryTaking.{listing};
-    ghost use Rattle.gh_wbuf.specs.Ends as proved;
+    ghost use Rattle.gh_wbuf.specs.Stays.{take_stays};
 
     type Out = Option<u64>;
 
@@ -193,28 +183,26 @@ impl Machine for TakeEntry {
                 let last = Cell::Entry(held.index, held.count - 1);
                 self.layout.request(Ask::Load(last))
             }
-            TakeStage::Ended(_) => self.layout.request(Ask::Load(Cell::Touch)),
+            TakeStage::Ended { .. } => self.layout.request(Ask::Load(Cell::Touch)),
         }
     }
 
     fn take(&mut self, found: u64) -> Option<Option<u64>> {
         match &mut self.stage {
             TakeStage::Try(tried) => {
-                let out = tried.take(found);
-                let index = tried.index();
-                let held = tried.held();
-                self.after_try(index, held, out);
-                self.none_of(index, out)
+                let out = tried.take(found)?;
+                self.stage = match out {
+                    None => behind(&self.layout, self.seat, tried.index(), tried.held()),
+                    Some(taken) => TakeStage::Take(taken),
+                };
             }
-            TakeStage::Take(held) => {
-                let own = *held;
-                self.take_from(own, found)
-            }
-            TakeStage::Ended(_) => None,
+            TakeStage::Take(held) => self.stage = take_from(&self.layout, *held, found),
+            TakeStage::Ended { .. } => {}
         }
+        self.given()
     }
 
-    ghost ends = { proved.take_ends };
+    ghost ends = { λ m found busy. is_over (listing.gives m found) };
 
-    ghost stays = { proved.take_stays };
+    ghost stays = { take_stays };
 }

@@ -5,7 +5,7 @@ ghost use Rattle.gh_base.specs.Cells.{buffers_of, InRange, seats_of};
 ghost use Rattle.gh_base.specs.Holding.{IsHeld};
 ghost use Rattle.gh_base.specs.Steps.{cell_of};
 ghost use Rattle.gh_wbuf.specs.TrySound.{GivesServing};
-ghost use Rattle.gh_wbuf.specs.Trying.{asks, claims, gives, gives_back, goes, is_open, opening, taken_word};
+ghost use Rattle.gh_wbuf.specs.Trying.{asks, claims, given, gives_back, goes, is_open, opening, taken_word};
 
 use gh_base::{Ask, BufferWord, Cell, ENTRIES, Held, Layout, Machine, Req};
 use std::marker::Model;
@@ -31,8 +31,8 @@ pub enum TryStage {
     GiveBack(u64),
     /// It takes the buffer by a swap of this word.
     Claim(u64),
-    /// It has ended.
-    Ended,
+    /// It has ended, and has taken this buffer, or `None`.
+    Ended(Option<Held>),
 }
 
 /// Tries to take one buffer.
@@ -149,7 +149,7 @@ impl TryBuffer {
             TryStage::Claim(word) => {
                 Ask::Swap(Cell::Buffer(self.index), word, self.taken_word(word))
             }
-            TryStage::Ended => Ask::Load(Cell::Touch),
+            TryStage::Ended(_) => Ask::Load(Cell::Touch),
         }
     }
 
@@ -164,44 +164,52 @@ impl TryBuffer {
     }
 
     /// Goes on by the buffer's word.
-    fn look(&mut self, found: u64) -> Option<Option<Held>>
+    fn look(&mut self, found: u64)
         requires { self.old.stage ≡ TryStage.Look }
         ensures goes { self.new ≡ goes self.old found }
-        ensures gives { result ≡ gives self.old found }
+        ensures serves { GivesServing self.old.layout self.old.wish (given self.new) }
     {
-        if self.wish.is_met_by(found) {
-            self.stage = self.claims(found);
-            None
+        self.stage = if self.wish.is_met_by(found) {
+            self.claims(found)
         } else {
-            self.stage = TryStage::Ended;
-            Some(None)
-        }
+            TryStage::Ended(None)
+        };
     }
 
     /// Ends by what the swap of this word found.
-    fn claim(&mut self, word: u64, found: u64) -> Option<Held>
+    fn claim(&mut self, word: u64, found: u64)
         requires at { self.old.stage ≡ TryStage.Claim word }
         ensures goes { self.new ≡ goes self.old found }
-        ensures gives { Option.Some result ≡ gives self.old found }
-        ensures serves { GivesServing self.old.layout self.old.wish (Option.Some result) }
+        ensures serves { GivesServing self.old.layout self.old.wish (given self.new) }
     {
-        self.stage = TryStage::Ended;
         if found != word {
-            return None;
+            self.stage = TryStage::Ended(None);
+            return;
         }
-        let taken = Held {
+        let taken = Some(Held {
             index: self.index,
             count: BufferWord::unpack(word).count,
-        };
-        self.held = Some(taken);
-        Some(taken)
+        });
+        self.held = taken;
+        self.stage = TryStage::Ended(taken);
+    }
+
+    /// What it has given.
+    fn given(&self) -> Option<Option<Held>>
+        ensures { result ≡ given self.now }
+    {
+        match self.stage {
+            TryStage::Ended(taken) => Some(taken),
+            _ => None,
+        }
     }
 }
 
 impl Machine for TryBuffer {
+    ghost use Rattle.gh_base.specs.Given.{is_over};
+    ghost use Rattle.gh_wbuf.specs.Stays.{try_stays};
     ghost use Rattle.gh_wbuf.specs.TrySound.{GivesServing};
     ghost use Rattle.gh_wbuf.specs.Trying.{goes, gives, is_busy, listing};
-    ghost use Rattle.gh_wbuf.specs.TryEnds as proved;
 
     type Out = Option<Held>;
 
@@ -230,14 +238,14 @@ impl Machine for TryBuffer {
             TryStage::GiveBack(word) => {
                 self.held = None;
                 self.stage = TryStage::Claim(word);
-                None
             }
-            TryStage::Claim(word) => Some(self.claim(word, found)),
-            TryStage::Ended => None,
+            TryStage::Claim(word) => self.claim(word, found),
+            TryStage::Ended(_) => {}
         }
+        self.given()
     }
 
-    ghost ends = { proved.ends };
+    ghost ends = { λ m found busy. is_over (listing.gives m found) };
 
-    ghost stays = { proved.stays };
+    ghost stays = { try_stays };
 }

@@ -3,14 +3,14 @@
 //! A heap has up to millions of words, and a short script makes steps on few of them. So a block of words is cleared by
 //! the first step on one of them, and memory that no step needs is never touched.
 
-ghost use Rattle.std.specs.Prelude.{◌≡◌, ◌^◌, ◌<◌, ◌≤◌, IfOk, length, replicate, slice_index, slice_set};
+ghost use Rattle.std.specs.Prelude.{◌≡◌, ◌^◌, ◌<◌, ◌≤◌, IfOk, length, replicate, slice_index};
 ghost use Rattle.std.specs.Vec.{vec_capacity};
-ghost use Rattle.gh_base.specs.Cells.{opening_words, Shows};
+ghost use Rattle.gh_base.specs.Cells.{length_of, opening_words, Shows};
 ghost use Rattle.gh_base.specs.Steps.{changed, target};
 ghost use Rattle.gh_words.specs.Blocks.{place_at, FitBlocks, Stands};
 ghost use Rattle.gh_words.specs.declared.plain.TheConstants.{BLOCK};
 
-use gh_base::{Cell, Layout, Req};
+use gh_base::{Ask, Cell, Layout, Req};
 use std::alloc::{AllocError, Global};
 use std::marker::Model;
 
@@ -27,6 +27,38 @@ pub trait Words {
         requires { target request < length (list self.old) }
         ensures found { result ≡ slice_index (list self.old) (target request) }
         ensures left { list self.new ≡ changed request (list self.old) };
+}
+
+impl Words for Vec<u64> {
+    ghost list = { λ words. words.items };
+
+    fn step(&mut self, request: Req) -> u64 {
+        let at = request.word() as usize;
+        let found = self[at];
+        self[at] = request.left(found);
+        found
+    }
+}
+
+/// Stores what a heap of this layout opens with in other words than 0: the sweep generation 2, the slack 1, and the
+/// trigger, in bytes.
+fn open<W: Words>(words: &mut W, layout: &Layout, trigger: u64)
+    requires { W.list words.old ≡ replicate (length_of layout.now) 0 }
+    ensures { Shows layout.now (W.list words.new) (opening_words trigger) }
+{
+    words.step(layout.request(Ask::Store(Cell::Gen, 2)));
+    words.step(layout.request(Ask::Store(Cell::Slack, 1)));
+    words.step(layout.request(Ask::Store(Cell::Trigger, trigger)));
+}
+
+/// The words of a heap of this layout as it opens, in one list: 0 each, save the sweep generation 2, the slack 1, and the
+/// trigger, in bytes.
+pub fn opening_list(alloc: Global, layout: &Layout, trigger: u64) -> Result<Vec<u64>, AllocError>
+    ensures { IfOk result (λ words. Shows layout.now words.items (opening_words trigger)) }
+{
+    let mut words = vec![in alloc; 0; layout.words() as usize]?;
+    open(&mut words, layout, trigger);
+    Ok(words)
 }
 
 /// The words of a block: so few that one is cleared quickly, and so many that a heap has few blocks.
@@ -100,9 +132,7 @@ impl Plain {
         ensures { IfOk result (λ words. Shows layout.now words (opening_words trigger)) }
     {
         let mut words = Plain::cleared(alloc, layout.words() as usize)?;
-        words.set(layout.word(Cell::Gen), 2);
-        words.set(layout.word(Cell::Slack), 1);
-        words.set(layout.word(Cell::Trigger), trigger);
+        open(&mut words, layout, trigger);
         Ok(words)
     }
 
@@ -119,14 +149,6 @@ impl Plain {
             places,
             count: length,
         })
-    }
-
-    /// This is the word of this number from now on.
-    fn set(&mut self, word: u32, number: u64)
-        requires { word < length self.old }
-        ensures { self.new ≡ slice_set self.old word number }
-    {
-        self.step(Req::Store(word, number));
     }
 
     /// How many words there are.

@@ -40,13 +40,13 @@ module _ (k : Known) (z : Cycle) (a : ℕ) (s : Shared) (g : Good z s) (objects 
     by false f = scans-global k z a i t (shade.at_stage m WaitForRoom) good f f.stage_is
 
   -- after a step of shading
-  claimed-then : (i : ℕ) (t : Shared) (m : shade.Shading) (p : ShadeStage) (n : ℕ) → m.stage ≡ p → Good z t → Shading z a t (claim_at i m.reference p) (shade.goes_at m p n) →
+  claimed-then : (i : ℕ) (t : Shared) (m : shade.Shading) (p : ShadeStage) (n : ℕ) → Good z t → Shading z a t (claim_at i m.reference p) (shade.goes_at m p n) →
       Lands z a t t.words (λ u. Shading z a u (claim_at i (shade.goes_at m p n).reference (shade.goes_at m p n).stage) (shade.goes_at m p n))
-  claimed-then i t m LoadPage n e good f = lands_still z a t t.words (λ u. Shading z a u (ReadOf i m.reference) (shade.goes_at m LoadPage n)) refl f
-  claimed-then i t m (SetMark noscan) n e good f = behind-mark i t m (shade.is_whole m noscan n) good f
-  claimed-then i t m WaitForRoom n e good f = lands_still z a t t.words (λ u. Shading z a u (claim_at i m.reference m.stage) m) refl (subst (λ (q : ShadeStage). Shading z a t (claim_at i m.reference q) m) (sym e) f)
-  claimed-then i t m Enter n e good f = lands_still z a t t.words (λ u. Shading z a u NoClaim (shade.goes_at m Enter n)) refl f
-  claimed-then i t m Ended n e good f = lands_still z a t t.words (λ u. Shading z a u (claim_at i m.reference m.stage) m) refl (subst (λ (q : ShadeStage). Shading z a t (claim_at i m.reference q) m) (sym e) f)
+  claimed-then i t m LoadPage n good f = lands_still z a t t.words (λ u. Shading z a u (ReadOf i m.reference) (shade.goes_at m LoadPage n)) refl f
+  claimed-then i t m (SetMark noscan) n good f = behind-mark i t m (shade.is_whole m noscan n) good f
+  claimed-then i t m WaitForRoom n good f = lands_still z a t t.words (λ u. Shading z a u (claim_at i m.reference WaitForRoom) (shade.goes_at m WaitForRoom n)) refl f
+  claimed-then i t m Enter n good f = lands_still z a t t.words (λ u. Shading z a u NoClaim (shade.goes_at m Enter n)) refl f
+  claimed-then i t m Ended n good f = lands_still z a t t.words (λ u. Shading z a u (claim_at i m.reference Ended) (shade.goes_at m Ended n)) refl f
 
   -- what is pending while room is looked for
   abbrev pending : (reference : ℕ) → InHand
@@ -80,7 +80,7 @@ module _ (k : Known) (z : Cycle) (a : ℕ) (s : Shared) (g : Good z s) (objects 
       landing z a s (effect s.words (shade.asks sh)) (λ u. Shading z a u (claim_at i (shade.goes sh n).reference (shade.goes sh n).stage) (shade.goes sh n)) (λ u. Facts z a u (after_shade w (shade.goes sh n) (shade.gives sh n)))
       (λ u v h. shaded-then u sh n i (shade.gives sh n) refl h)
       (landing_on z a s (effect s.words (shade.asks sh)) (λ t. Keeps z a s t × Shading z a t (claim_at i sh.reference sh.stage) (shade.goes sh n)) (λ u. Shading z a u (claim_at i (shade.goes sh n).reference (shade.goes sh n).stage) (shade.goes sh n))
-      (λ t v h. claimed-then i t sh sh.stage n refl (k.steps z a s t g v).good h.1)
+      (λ t v h. claimed-then i t sh sh.stage n (k.steps z a s t g v).good h.1)
       (k.shade.keeps.own_step z a s (in_hand None (claim_at i sh.reference sh.stage)) sh g objects f))
 
   -- the search for room
@@ -105,21 +105,21 @@ module _ (k : Known) (z : Cycle) (a : ℕ) (s : Shared) (g : Good z s) (objects 
   leaves x = lands_by z a s (effect s.words (asks_at w worker.Leave)) (λ t. Facts z a t (at_stage w worker.Done)) (Quiet (asks_at w worker.Leave)) tt refl
       (record { layout_is = layout_is; seat_is = seat_is; seat_in = seat_in; stage_is = (k.follow z a s (in_hand w.held NoClaim) g x).quiet (asks_at w worker.Leave) tt })
 
-  own-at : (p : WorkerStage) → Facts z a s w → StageFacts z a s w.held p → Steps z a s (asks_at w p) (λ t. Facts z a t (goes_at w p (s.words (cell_of (asks_at w p)))))
-  own-at worker.LoadPhase whole x = load-phase k z a s g objects w layout_is seat_is seat_in x
-  own-at (worker.GiveBack m number) whole x = gives k z a s g objects w layout_is seat_is seat_in m number x
-  own-at (worker.Resuming r) whole x =
+  own-at : (p : WorkerStage) → StageFacts z a s w.held p → Steps z a s (asks_at w p) (λ t. Facts z a t (goes_at w p (s.words (cell_of (asks_at w p)))))
+  own-at worker.LoadPhase x = load-phase k z a s g objects w layout_is seat_is seat_in x
+  own-at (worker.GiveBack m number) x = gives k z a s g objects w layout_is seat_is seat_in m number x
+  own-at (worker.Resuming r) x =
       let n : ℕ = s.words (cell_of (resume.asks r)) in
       resumes k z a s g objects w layout_is seat_is seat_in r r.stage (goes_at w (worker.Resuming r) n) x.0 (λ t h. resumed k z a s g objects w layout_is seat_is seat_in (resume.goes r n) (resume.gives r n) t x.1 h)
-  own-at (worker.Taking m) whole x = takes k z a s g objects w layout_is seat_is seat_in m x
-  own-at (worker.Scanning m) whole x = scans k z a s g objects w layout_is seat_is seat_in m x
-  own-at worker.LoadCursor whole x = load-cursor k z a s g objects w layout_is seat_is seat_in x
-  own-at worker.Claim whole x = claims k z a s g objects w layout_is seat_is seat_in x.0 x.1
-  own-at (worker.LoadGlobal i) whole x = read-global k z a s g objects w layout_is seat_is seat_in i x.1
-  own-at (worker.Shading sh) whole x = shades sh x.0 x.1
-  own-at (worker.FindRoom sh r) whole x = finds sh r x.0 x.1 x.2
-  own-at worker.Leave whole x = leaves x
-  own-at worker.Done whole x = still k z a s g objects w layout_is seat_is seat_in cell.Touch w whole
+  own-at (worker.Taking m) x = takes k z a s g objects w layout_is seat_is seat_in m x
+  own-at (worker.Scanning m) x = scans k z a s g objects w layout_is seat_is seat_in m x
+  own-at worker.LoadCursor x = load-cursor k z a s g objects w layout_is seat_is seat_in x
+  own-at worker.Claim x = claims k z a s g objects w layout_is seat_is seat_in x.0 x.1
+  own-at (worker.LoadGlobal i) x = read-global k z a s g objects w layout_is seat_is seat_in i x.1
+  own-at (worker.Shading sh) x = shades sh x.0 x.1
+  own-at (worker.FindRoom sh r) x = finds sh r x.0 x.1 x.2
+  own-at worker.Leave x = leaves x
+  own-at worker.Done x = still k z a s g objects w layout_is seat_is seat_in cell.Touch (at_stage w worker.Done) (record { layout_is = layout_is; seat_is = seat_is; seat_in = seat_in; stage_is = x })
 
 stage-lasts : (k : Known) (z : Cycle) (a : ℕ) (s t : Shared) (held : Option Held) (p : WorkerStage) → Others z a s t → StageFacts z a s held p → StageFacts z a t held p
 stage-lasts k z a s t held (worker.GiveBack m number) o x = k.buffers.gives.lasts z a s t nothing m o x
@@ -135,6 +135,6 @@ stage-lasts k z a s t held _ o x = k.last z a s t (in_hand held NoClaim) o x
 pub works-by-moves : Known → WorksByMoves
 works-by-moves k = record {
   begins = λ z a s seat x. record { layout_is = refl; seat_is = refl; seat_in = seat; stage_is = x };
-  own_step = λ z a s w g objects f. own-at k z a s g objects w f.layout_is f.seat_is f.seat_in w.stage f f.stage_is;
+  own_step = λ z a s w g objects f. own-at k z a s g objects w f.layout_is f.seat_is f.seat_in w.stage f.stage_is;
   lasts = λ z a s t w o f. record { layout_is = f.layout_is; seat_is = f.seat_is; seat_in = f.seat_in; stage_is = stage-lasts k z a s t w.held w.stage o f.stage_is };
 }

@@ -76,7 +76,7 @@ module _ (k : Known) (z : Cycle) (a : ℕ) (s : Shared) (g : Good z s) (objects 
   resumes r resume_stage.LoadPhase n x f = still cell.Phase n (f s x)
   resumes r resume_stage.LoadGeneration n x f = still cell.Gen n (f s x)
   resumes r resume_stage.LoadBegun n x f = still cell.Begun n (f s x)
-  resumes r resume_stage.Ended n x f = still cell.Touch n (f s x)
+  resumes r (resume_stage.Ended another) n x f = still cell.Touch n (f s x)
 
   pub resumed : (r : resume.Resuming) (out : Option Resumed) (t : Shared) → w.held ≡ None → Hands a t nothing → Facts z a t (after_resume w r out)
   resumed r None t e x = record { layout_is = layout_is; seat_is = seat_is; seat_in = seat_in; stage_is = (x, e) }
@@ -105,10 +105,10 @@ module _ (k : Known) (z : Cycle) (a : ℕ) (s : Shared) (g : Good z s) (objects 
       (k.buffers.takes.own_step z a s nothing m g objects f)
 
   -- it is scanned
-  held-given : (slot words : ℕ) (held : Option Held) (p : ScanStage) → scan.given_at slot p ≡ Some words → scan.held_at held p ≡ held
-  held-given slot words held (scan_stage.Shading sh) e = absurd (cc)
-  held-given slot words held (scan_stage.FindRoom sh r) e = absurd (cc)
-  held-given slot words held _ e = refl
+  held-given : (words : ℕ) (held : Option Held) (p : ScanStage) → scan.given_at p ≡ Some words → scan.held_at held p ≡ held
+  held-given words held (scan_stage.Shading sh) e = absurd (cc)
+  held-given words held (scan_stage.FindRoom sh r) e = absurd (cc)
+  held-given words held _ e = refl
 
   scanned-then : (t : Shared) (m : scan.Scanning) (n : ℕ) (out : Option ℕ) → scan.gives m n ≡ out → scan_facts.Facts z a t nothing (scan.goes m n) → Facts z a t (after_scan w (scan.goes m n) out)
   scanned-then t m n None e f = same t w.held w.marks (worker.Scanning (scan.goes m n)) f
@@ -116,7 +116,7 @@ module _ (k : Known) (z : Cycle) (a : ℕ) (s : Shared) (g : Good z s) (objects 
     layout_is = layout_is;
     seat_is = seat_is;
     seat_in = seat_in;
-    stage_is = subst (λ (held : Option Held). Hands a t (in_hand held NoClaim)) (sym (held-given (scan.goes m n).slot words (scan.goes m n).held (scan.goes m n).stage e)) (k.scan.ends z a t nothing m n words e f);
+    stage_is = subst (λ (held : Option Held). Hands a t (in_hand held NoClaim)) (sym (held-given words (scan.goes m n).held (scan.goes m n).stage e)) (k.scan.ends z a t nothing m n words e f);
   }
 
   pub scans : (m : scan.Scanning) → scan_facts.Facts z a s nothing m → Leads (scan.asks m) (goes_at w (worker.Scanning m) (s.words (cell_of (scan.asks m))))

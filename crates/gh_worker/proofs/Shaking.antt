@@ -1,7 +1,7 @@
 -- Each step of a worker is one of the handshake of a stop: by its stages.
 use Rattle.std.proofs.Common.{◌≡◌, ℕ, Bool, true, false, cond, ltb, ◌==◌, refl, ap, ◌∙◌, inl, inr, Option, Some, None}
+use Rattle.std.specs.Prelude.{is_none}
 use Rattle.gh_base.specs.declared.cell.Cell.TheVariants as cell
-use Rattle.gh_phase.specs.Ends.{ends}
 use Rattle.gh_phase.specs.Handshake.{Awake, FromAwake, IsQuiet, StageGoes}
 use Rattle.gh_phase.specs.Listing as resume
 use Rattle.gh_phase.specs.ResumePlaces.{ResumesInHandshake}
@@ -77,7 +77,7 @@ module _ (found : ℕ) (w : Working) where
         (tt, rw (← seat, ← last.0, ← last.1) goes_so)
 
     goes_on : (out : Option Resumed) → resume.gives r found ≡ out → Goes found w (Resuming r) (after_resume w (resume.goes r found) out)
-    goes_on None e = (record { seat_is = h.seat_stays r found ∙ s.seat_is; busy = (ends r found s.busy).0 (rw e refl); none = s.none }, goes_so)
+    goes_on None e = (record { seat_is = h.seat_stays r found ∙ s.seat_is; busy = ap is_none e; none = s.none }, goes_so)
     goes_on (Some out) e = ends_so out e
 
 awakes : (found : ℕ) (w to : Working) (ask : Ask) → IsQuiet ask → FromAwakeTo found ask w to → Sound to × StageGoes found (record { seat = w.seat; view = w.view }) Awake ask (party_of to) (stage_of to)

@@ -26,7 +26,7 @@ pub use Rattle.gh_shade.specs.declared.shade.Shaded.{Shaded}
 pub use Rattle.gh_scan.specs.Listing.{reference_in}
 pub use Rattle.gh_scan.specs.declared.scan.ScanStage.{ScanStage}
 pub use Rattle.gh_worker.specs.Handshake.{FindsMarking, GoesOnWithNone, IsLeaving, IsMarking, party_at, party_of, Sound, SoundAt, stage_of, stands_at, WorkersKeepHandshake}
-pub use Rattle.gh_worker.specs.Listing.{after_give, after_global, after_resume, after_room, after_scan, after_shade, after_take, asks, asks_at, at_stage, by_phase, done_with, gives_at, goes, goes_at, held_at, is_busy, stops_at, Working}
+pub use Rattle.gh_worker.specs.Listing.{after_give, after_global, after_resume, after_room, after_scan, after_shade, after_take, asks, asks_at, at_stage, by_phase, done_with, goes, goes_at, held_at, is_busy, stops_at, Working}
 pub use Rattle.gh_worker.specs.MarkFacts.{claim_at, Facts, in_hand, StageFacts, WorksByMoves}
 pub use Rattle.gh_worker.specs.declared.worker.WorkerStage.{WorkerStage}
 pub use Rattle.gh_worker.specs.declared.worker.WorkerStage.TheVariants.{Claim, Done, FindRoom, GiveBack, Leave, LoadCursor, LoadGlobal, LoadPhase, Resuming, Scanning, Shading, Taking}

@@ -35,8 +35,7 @@ module _ (seat : ℕ) where
 
   takes : (t : take.EntryTaking) (p : TakeStage) → WritesItsOwn seat (take.asks_at t p)
   takes t (taking.Try u) = tries u u.stage
-  takes t (taking.Take h) = tt
-  takes t (taking.Ended held) = tt
+  takes t _ = tt
 
   finds_room : (r : room.RoomFinding) (p : RoomStage) → WritesItsOwn seat (room.asks_at r p)
   finds_room r (finding.GiveBack h) = tt

@@ -36,7 +36,7 @@ party_of w = party_at w w.stage
 -- it goes on after a stop for its own seat, with no buffer held
 pub record GoesOnWithNone (seat : ℕ) (held : Option Held) (r : resume.Resuming) : Type 0 where
   pub seat_is : r.seat ≡ seat
-  pub busy : resume.is_busy r.stage ≡ true
+  pub busy : resume.is_busy r ≡ true
   pub none : held ≡ None
 
 abbrev pub SoundAt : Working → WorkerStage → Type 0

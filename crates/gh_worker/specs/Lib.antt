@@ -1,8 +1,9 @@
 pub mod Vocabulary
-pub mod Ends
+pub mod Blind
 pub mod Handshake
 pub mod Listing
 pub mod MarkFacts
 pub mod Sound
+pub mod Stays
 pub mod Works
 pub mod Writing

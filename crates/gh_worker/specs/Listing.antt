@@ -1,6 +1,7 @@
 -- The worker: what it asks for at each stage, where that leads, and when it is done.
-use Rattle.std.specs.Prelude.{ℕ, ◌+◌, ◌-◌, ◌^◌, Bool, true, false, min, nat_lt, ◌==◌, if◌then◌else◌, Option, Some, None}
+use Rattle.std.specs.Prelude.{ℕ, ◌+◌, ◌-◌, ◌^◌, Bool, true, false, min, nat_lt, ◌==◌, if◌then◌else◌, Option, Some, None, is_none}
 use Rattle.gh_base.specs.declared.cell.Cell.TheVariants as cell
+use Rattle.gh_base.specs.Given.{listing_of}
 use Rattle.gh_phase.specs.declared.view.View.{View}
 use Rattle.gh_phase.specs.Listing as resume
 use Rattle.gh_phase.specs.Views.{first_view}
@@ -118,21 +119,20 @@ goes_at w (LoadGlobal i) found = after_global w found
 goes_at w (Shading sh) found = after_shade w (shade.goes sh found) (shade.gives sh found)
 goes_at w (FindRoom sh r) found = after_room w sh (room.goes r found) (room.gives r found)
 goes_at w Leave found = at_stage w Done
-goes_at w Done found = w
-
-abbrev pub gives_at : WorkerStage → Option (Unit {0})
-gives_at Leave = Some tt
-gives_at _ = None
+goes_at w Done found = at_stage w Done
 
 -- its next step loads the phase
 abbrev pub loads_phase : WorkerStage → Bool
 loads_phase LoadPhase = true
 loads_phase _ = false
 
--- until it is done
+-- it ends where it is done
+abbrev pub given_at : WorkerStage → Option (Unit {0})
+given_at Done = Some tt
+given_at _ = None
+
 abbrev pub is_busy : WorkerStage → Bool
-is_busy Done = false
-is_busy _ = true
+is_busy stage = is_none (given_at stage)
 
 abbrev pub asks : Working → Ask
 asks w = asks_at w w.stage
@@ -140,8 +140,11 @@ asks w = asks_at w w.stage
 abbrev pub goes : Working → ℕ → Working
 goes w found = goes_at w w.stage found
 
+abbrev pub given : Working → Option (Unit {0})
+given w = given_at w.stage
+
 abbrev pub gives : Working → ℕ → Option (Unit {0})
-gives w found = gives_at w.stage
+gives w found = given (goes w found)
 
 abbrev pub listing : Listing Working (Unit {0})
-listing = record { layout = λ w. w.layout; busy = λ w. is_busy w.stage; asks = asks; goes = goes; gives = gives }
+listing = listing_of (λ w. w.layout) asks goes given

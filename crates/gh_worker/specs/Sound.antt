@@ -1,15 +1,14 @@
 -- What a worker knows of its own numbers and routines, whatever it is told.
-use Rattle.std.specs.Prelude.{◌≡◌, ℕ, ◌+◌, ◌^◌, ◌<◌, ◌≤◌, Bool, true}
+use Rattle.std.specs.Prelude.{ℕ, ◌+◌, ◌^◌, ◌<◌, ◌≤◌}
 use Rattle.gh_base.specs.declared.layout.Layout.{Layout}
 use Rattle.gh_base.specs.Holding.{IsHeld}
 use Rattle.gh_phase.specs.Listing as resume
 use Rattle.gh_phase.specs.Views.{FitsView}
 use Rattle.gh_scan.specs.Listing as scan
-use Rattle.gh_shade.specs.declared.shade.ShadeStage.TheVariants.{WaitForRoom}
+use Rattle.gh_scan.specs.Sound.{Runs, Waits}
 use Rattle.gh_shade.specs.Listing as shade
 use Rattle.gh_wbuf.specs.BufferGiving as give
 use Rattle.gh_wbuf.specs.EntryTaking as take
-use Rattle.gh_wbuf.specs.RoomFinding as room
 use Rattle.gh_worker.specs.declared.worker.WorkerStage.{WorkerStage}
 use Rattle.gh_worker.specs.declared.worker.WorkerStage.TheVariants.{GiveBack, Resuming, Taking, Scanning, LoadGlobal, Shading, FindRoom}
 use Rattle.gh_worker.specs.Listing.{Working}
@@ -19,24 +18,13 @@ pub record IsWorkersSeat (l : Layout) (seat : ℕ) : Type 0 where
   pub from : l.procs ≤ seat
   pub below : seat < l.procs + l.workers
 
--- a routine of the same heap that asks for a step
-pub record Runs (l own : Layout) (is_busy : Bool) : Type 0 where
-  pub layout : own ≡ l
-  pub busy : is_busy ≡ true
-
 pub record GivesAtStop (l : Layout) (g : give.BufferGiving) (number : ℕ) : Type 0 where
   pub runs : Runs l g.layout (give.is_busy g.stage)
   pub stops : number < 2 ^ 62
 
--- the shading waits for the room that is looked for
-pub record Waits (l : Layout) (sh : shade.Shading) (r : room.RoomFinding) : Type 0 where
-  pub shade_in : sh.layout ≡ l
-  pub waits : sh.stage ≡ WaitForRoom
-  pub runs : Runs l r.layout (room.is_busy r.stage)
-
 abbrev pub FitsStage : Layout → WorkerStage → Type 0
 FitsStage l (GiveBack g stops) = GivesAtStop l g stops
-FitsStage l (Resuming r) = Runs l r.layout (resume.is_busy r.stage)
+FitsStage l (Resuming r) = Runs l r.layout (resume.is_busy r)
 FitsStage l (Taking t) = Runs l t.layout (take.is_busy t.stage)
 FitsStage l (Scanning s) = Runs l s.layout (scan.is_busy s.stage)
 FitsStage l (LoadGlobal i) = i < l.globals

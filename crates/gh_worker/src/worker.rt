@@ -4,10 +4,11 @@ ghost use Rattle.std.specs.Prelude.{◌≡◌, ◌^◌, ◌<◌, IsTrue, ◌↔�
 ghost use Rattle.gh_base.specs.Holding.{IsHeld};
 ghost use Rattle.gh_phase.specs.Listing as resumes;
 ghost use Rattle.gh_scan.specs.Listing as scans;
+ghost use Rattle.gh_scan.specs.Sound.{Runs, Waits};
 ghost use Rattle.gh_shade.specs.Listing as shades;
 ghost use Rattle.gh_wbuf.specs.EntryTaking as takes;
-ghost use Rattle.gh_worker.specs.Listing.{after_global, done_with, gives, goes, goes_at, held_at, is_busy, loads_phase, opening, resuming, stops_at};
-ghost use Rattle.gh_worker.specs.Sound.{IsWorkersSeat, Runs, Waits};
+ghost use Rattle.gh_worker.specs.Listing.{after_global, done_with, given, gives, goes, goes_at, held_at, is_busy, loads_phase, opening, resuming, stops_at};
+ghost use Rattle.gh_worker.specs.Sound.{IsWorkersSeat};
 
 use gh_base::{Ask, Cell, GONE, Held, Layout, Machine, Phase, PhaseWord, Req};
 use gh_phase::{Resume, Resumed, View};
@@ -140,7 +141,8 @@ impl Worker {
     /// Stops, and gives the buffer that it holds back first.
     fn stop(&mut self, stops: u64)
         requires { stops < 2 ^ 62 }
-        ensures { self.new ≡ record self.old { stage = stops_at self.old stops self.old.held } }
+        ensures goes { self.new ≡ record self.old { stage = stops_at self.old stops self.old.held } }
+        ensures goes_on { given self.new ≡ Option.None }
     {
         self.stage = match self.held {
             None => self.resuming(stops),
@@ -152,7 +154,8 @@ impl Worker {
     // It stands apart, so that a look that finds marking off sets up no memory for it.
     #[inline(never)]
     fn by_phase(&mut self, found: u64)
-        ensures { self.new ≡ goes_at self.old WorkerStage.LoadPhase found }
+        ensures goes { self.new ≡ goes_at self.old WorkerStage.LoadPhase found }
+        ensures goes_on { given self.new ≡ Option.None }
     {
         let word = PhaseWord::unpack(found);
         match word.phase {
@@ -190,7 +193,7 @@ impl Worker {
 
     /// Takes a step of going on after a stop.
     fn resume(&mut self, resume: &Resume, found: u64)
-        requires { Runs self.old.layout resume.now.layout (resumes.is_busy resume.now.stage) }
+        requires { Runs self.old.layout resume.now.layout (resumes.is_busy resume.now) }
         ensures { self.new ≡ goes_at self.old (WorkerStage.Resuming resume.now) found }
     {
         let mut resume = *resume;
@@ -317,11 +320,22 @@ impl Worker {
             }
         }
     }
+
+    /// What it has given: it ends where it is done.
+    fn given(&self) -> Option<()>
+        ensures { result ≡ given self.now }
+    {
+        match self.stage {
+            WorkerStage::Done => Some(()),
+            _ => None,
+        }
+    }
 }
 
 impl Machine for Worker {
+    ghost use Rattle.gh_base.specs.Given.{is_over};
     ghost use Rattle.gh_worker.specs.Listing.{listing};
-    ghost use Rattle.gh_worker.specs.Ends as proved;
+    ghost use Rattle.gh_worker.specs.Stays.{stays};
 
     type Out = ();
 
@@ -356,7 +370,10 @@ impl Machine for Worker {
 
     fn take(&mut self, found: u64) -> Option<()> {
         match &self.stage {
-            WorkerStage::LoadPhase => self.look(found),
+            WorkerStage::LoadPhase => {
+                self.look(found);
+                return None;
+            }
             WorkerStage::GiveBack(_, stops) => {
                 let stops = *stops;
                 self.given_back(stops);
@@ -384,16 +401,13 @@ impl Machine for Worker {
                 let (shade, room) = (*shade, *room);
                 self.find_room(&shade, &room, found);
             }
-            WorkerStage::Leave => {
-                self.stage = WorkerStage::Done;
-                return Some(());
-            }
+            WorkerStage::Leave => self.stage = WorkerStage::Done,
             WorkerStage::Done => {}
         }
-        None
+        self.given()
     }
 
-    ghost ends = { proved.ends };
+    ghost ends = { λ m found busy. is_over (listing.gives m found) };
 
-    ghost stays = { proved.stays };
+    ghost stays = { stays };
 }

@@ -43,6 +43,7 @@ pub mod Processing
 pub mod Standing
 pub mod Going
 pub mod Until
+pub mod Pending
 pub mod Saying
 pub mod Opening
 pub mod Phases

@@ -127,6 +127,13 @@ has_due p (next.Run n g) h = (work_of p n g, refl)
 has_due p next.Leave h = (op.Leave, refl)
 has_due p next.Over h = absurd cc
 
+-- where nothing is due, nothing is to come
+pub none_due : (p : Program) (a : ℕ) (t : Next) → op_due p t ≡ None → to_come p a t ≡ []
+none_due p a (next.Poll r g) e = absurd cc
+none_due p a (next.Run r g) e = absurd cc
+none_due p a next.Leave e = absurd cc
+none_due p a next.Over e = refl
+
 pub none_to_come : (p : Program) (a : ℕ) (t : Next) → is_over t ≡ true → to_come p a t ≡ []
 none_to_come p a (next.Poll r g) e = absurd cc
 none_to_come p a next.Over e = refl

@@ -8,19 +8,19 @@ use Rattle.gh_world.specs.Turns.{is_poll_due, is_run_due, Stands, total_by}
 use Rattle.gh_world.specs.declared.turns.Next.TheVariants as next
 use Rattle.gh_base.specs.declared.operation.Op.TheVariants as op
 use Rattle.gh_base.specs.declared.cell.Req.{Req}
-use Rattle.gh_coord.specs.Ends.{room_stays, stays as coord_stays}
+use Rattle.gh_coord.specs.Stays.{room_stays, stays as coord_stays}
 use Rattle.gh_coord.specs.Listing as coord
-use Rattle.gh_worker.specs.Ends.{stays as worker_stays}
+use Rattle.gh_worker.specs.Stays.{stays as worker_stays}
 use Rattle.gh_worker.specs.Listing as worker
 use Rattle.gh_world.specs.declared.runner.Runner.{Runner}
-use Rattle.gh_world.specs.World.{answered_by, AreOpening, Begins, FitOthers, FitRunners, FitTurns, FitWords, IsOpening, LaysOut, op_at_turn, counts_after, last_after, begun_as, done_or, found_by, IsStepOfWorker, Polled, State, stated_after, stated_by, workers_at}
+use Rattle.gh_world.specs.World.{answered_by, AreOpening, AreTurns, Begins, FitOthers, FitRunners, FitTurns, FitWords, IsOpening, LaysOut, op_at_turn, counts_after, last_after, begun_as, done_or, found_by, IsStepOfWorker, Polled, State, stated_after, stated_by, workers_at}
 use Rattle.gh_world.specs.declared.event.Event.TheVariants as event
 use Rattle.gh_world.proofs.Vocabulary.{acts, Answer, begins_at, begins, bit, cell_of, changed, Event, Follows, get_or-map-range_with_len, get_or_from_slice_get, gives_at, GoesOnUntilDone, goroutine_at, has_left_at, has_names, InRange, is_busy_at, is_over, is_point, is_some, is_statement, is_unacted, later, Layout, length-map-range_with_len, most_cycles, Mutating, Next, Op, op_at, op_due, opening_processor, opening_progress, Processor, Program, Progress, progress_after, read_after_set, read_replicate, request, set, Shape, slice_get, slice_get_within, statement_answer, statements_among, takes, target, to_come, total_of, turns_of, WellFormed}
 use Rattle.gh_world.proofs.StepFacts.{step_facts, begin_facts, StepFacts, BeginFacts, begins_busy}
 use Rattle.gh_world.proofs.Turning.{opens_at, total_by-le, totals-le, turns_say}
 use Rattle.gh_world.proofs.Runners.{each_set, sum_at, sum_each}
 use Rattle.gh_mutator.specs.Mutating as mutating
-use Rattle.gh_mutator.specs.Ends.{stays}
+use Rattle.gh_mutator.specs.Stays.{stays}
 use Rattle.gh_world.proofs.Due.{due_goroutine, due_runs, due_statement, few_statements, has_due, has_name_at, idle_not_leaving}
 
 counts_long : (t : Progress) (o : Op) → length t.begun ≡ 32 → length (counts_after t (Some o)) ≡ 32
@@ -69,14 +69,10 @@ polled_stepped k shapes m (next.Run r g) found polled = k.goes_on shapes m found
 polled_stepped k shapes m (next.Poll r g) found polled = tt
 polled_stepped k shapes m _ found polled = tt
 
--- ---- one processor
+-- ---- the turns of one processor
 
-module _ (p : Program) (l : Layout) (script : WellFormed p) (layout : LaysOut p l) (a : ℕ) (m : Mutating) (t : Progress) (f : FitTurns p l a m t) where
-  -- what is due is begun
-  pub begun_busy : (o : Op) → op_due p t.next ≡ Some o → is_busy_at (begins_at m.shapes m.processor o) ≡ true
-  begun_busy o due = begins_busy m.shapes m.processor l.goroutines l.globals (length p.shapes) o (due_runs p l script layout a t.next o f.stands due).ranged
-
-  stated_few : t.stated ≤ 200000
+module _ (p : Program) (script : WellFormed p) (a : ℕ) (t : Progress) (f : AreTurns p a t) where
+  pub stated_few : t.stated ≤ 200000
   stated_few = omega (arith, f.all, total_by-le p a, few_statements p script)
 
   -- a statement more can be counted
@@ -86,22 +82,49 @@ module _ (p : Program) (l : Layout) (script : WellFormed p) (layout : LaysOut p 
   pub begun_fits : (g : ℕ) → slice_index t.begun g + 1 < 2 ^ 32
   begun_fits g = omega (arith, stated_few, f.few_begun g)
 
-  pub marks_few : m.marks + 1 < 2 ^ 32
-  marks_few = omega (arith, f.marked, stated_few)
-
-  pub fit_begun : PollsMakeRoom → (o : Op) (new : Next) → op_due p t.next ≡ Some o → is_run_due new ≡ is_poll_due t.next → Follows p a t.next o new → FitTurns p l a (mutating.begins m o) (progress_after t (Some o) new)
-  fit_begun k o new due behind follows =
-      let b : BeginFacts o (begins_at m.shapes m.processor o) = begin_facts m.shapes m.processor o (begun_busy o due) in
+  -- behind the one that begins
+  pub turns_begun : (o : Op) (new : Next) → op_due p t.next ≡ Some o → Follows p a t.next o new → AreTurns p a (progress_after t (Some o) new)
+  turns_begun o new due follows =
       let come : statements_among (to_come p a t.next) ≡ bit (is_statement o) + statements_among (to_come p a new) = ap statements_among follows.come in
       record {
-        shapes = f.shapes;
-        laid = begun_laid o;
-        made = λ g. omega (arith, f.made g, b.made);
         stands = follows.stands;
         all = omega (arith, f.all, come);
         columns = counts_long t o f.columns;
         few_begun = counts_few t o f.few_begun;
         last = last_few t o f.last (due_goroutine p a t.next o script f.stands due);
+      }
+
+-- before the first
+pub turns_open : (p : Program) (a : ℕ) (first : Next) → to_come p a first ≡ later p a 0 0 → Stands p a first → AreTurns p a (opening_progress first)
+turns_open p a first come stands =
+    let turns : to_come p a first ≡ turns_of p a = come ∙ sym (opens_at p a) in
+    let all : statements_among (to_come p a first) ≡ total_by p a = ap statements_among turns ∙ turns_say p a in
+    record {
+      stands = stands;
+      all = omega (arith, all);
+      columns = omega arith;
+      few_begun = λ g. let none : get_or (replicate 32 0) g 0 ≡ 0 = read_replicate {A = ℕ} 32 g 0 in omega arith;
+      last = omega arith;
+    }
+
+-- ---- one processor
+
+module _ (p : Program) (l : Layout) (script : WellFormed p) (layout : LaysOut p l) (a : ℕ) (m : Mutating) (t : Progress) (f : FitTurns p l a m t) where
+  -- what is due is begun
+  pub begun_busy : (o : Op) → op_due p t.next ≡ Some o → is_busy_at (begins_at m.shapes m.processor o) ≡ true
+  begun_busy o due = begins_busy m.shapes m.processor l.goroutines l.globals (length p.shapes) o (due_runs p l script layout a t.next o f.turns.stands due).ranged
+
+  pub marks_few : m.marks + 1 < 2 ^ 32
+  marks_few = omega (arith, f.marked, stated_few p script a t f.turns)
+
+  pub fit_begun : PollsMakeRoom → (o : Op) (new : Next) → op_due p t.next ≡ Some o → is_run_due new ≡ is_poll_due t.next → Follows p a t.next o new → FitTurns p l a (mutating.begins m o) (progress_after t (Some o) new)
+  fit_begun k o new due behind follows =
+      let b : BeginFacts o (begins_at m.shapes m.processor o) = begin_facts m.shapes m.processor o (begun_busy o due) in
+      record {
+        turns = turns_begun p script a t f.turns o new due follows;
+        shapes = f.shapes;
+        laid = begun_laid o;
+        made = λ g. omega (arith, f.made g, b.made);
         leaves = b.leaves ∙ sym follows.leaves;
         marked = rw b.serves (omega (arith, f.marked));
         polled = polled_begun k p m.shapes m.processor t.next new o due behind;
@@ -114,14 +137,10 @@ module _ (p : Program) (l : Layout) (script : WellFormed p) (layout : LaysOut p 
   fit_stepped k found busy =
       let s : StepFacts m.processor m.processor.task (takes m.shapes m.processor found) (acts m.processor found) (gives_at m.processor m.processor.task found) = step_facts m.shapes m.processor m.processor.task found busy in
       record {
+        turns = f.turns;
         shapes = f.shapes;
         laid = stays m found ∙ f.laid;
         made = λ g. omega (arith, f.made g, s.counted g);
-        stands = f.stands;
-        all = f.all;
-        columns = f.columns;
-        few_begun = f.few_begun;
-        last = f.last;
         leaves = s.leaves ∙ f.leaves;
         marked = omega (arith, s.answered, f.marked, marks_more m.marks (statement_answer m.processor found) marks_few);
         polled = polled_stepped k m.shapes m.processor t.next found f.polled;
@@ -131,10 +150,10 @@ module _ (p : Program) (l : Layout) (script : WellFormed p) (layout : LaysOut p 
 
   pub due_sound : (o : Op) → op_due p t.next ≡ Some o → SoundOp m.shapes m.processor.poll.layout o
   due_sound o due =
-      subst (λ (shapes : List Shape). SoundOp shapes m.processor.poll.layout o) (sym f.shapes) (subst (λ (k : Layout). SoundOp p.shapes k o) (sym f.laid) (due_runs p l script layout a t.next o f.stands due).sound)
+      subst (λ (shapes : List Shape). SoundOp shapes m.processor.poll.layout o) (sym f.shapes) (subst (λ (k : Layout). SoundOp p.shapes k o) (sym f.laid) (due_runs p l script layout a t.next o f.turns.stands due).sound)
 
   pub due_named : (o : Op) → op_due p t.next ≡ Some o → has_names m.processor o ≡ true
-  due_named o due = has_name_at m.processor t.stated o f.made (λ sure. omega (arith, due_statement p a t.next o due sure, f.all, total_by-le p a, few_statements p script))
+  due_named o due = has_name_at m.processor t.stated o f.made (λ sure. omega (arith, due_statement p a t.next o due sure, f.turns.all, total_by-le p a, few_statements p script))
 
   -- where the processor has not left something is due
   pub never_idle : has_left_at m.processor.task ≡ false → is_busy_at m.processor.task ≡ false → op_due p t.next ≡ None → ⊥
@@ -177,7 +196,7 @@ owes_stepped m found busy = (step_facts m.shapes m.processor m.processor.task fo
 module _ (p : Program) (l : Layout) (runners : List Runner) (points room : ℕ) (f : FitRunners p l runners points room) where
   sum_few : (h : Runner → ℕ) → ((a : ℕ) (x : Runner) → FitTurns p l a x.mutator x.progress → h x ≤ x.progress.stated) → sum_by h runners ≤ total_of p
   sum_few h le =
-      let each = sum_at h (total_by p) runners 0 (λ a x is. let g = f.each a x is in let one = le a x g in let seat : 0 + a ≡ a = omega arith in let same : total_by p (0 + a) ≡ total_by p a = ap (total_by p) seat in omega (arith, one, g.all, same)) in
+      let each = sum_at h (total_by p) runners 0 (λ a x is. let g = f.each a x is in let one = le a x g in let seat : 0 + a ≡ a = omega arith in let same : total_by p (0 + a) ≡ total_by p a = ap (total_by p) seat in omega (arith, one, g.turns.all, same)) in
       let all = totals-le p (length runners) in
       omega (arith, each, all)
 
@@ -226,17 +245,11 @@ module _ (polls : PollsMakeRoom) (p : Program) (l : Layout) (script : WellFormed
 -- before the first step
 fit_opening : (p : Program) (l : Layout) (a : ℕ) (first : Next) → to_come p a first ≡ later p a 0 0 → Stands p a first → is_over first ≡ false → FitTurns p l a (mutating.opening l a p.shapes) (opening_progress first)
 fit_opening p l a first come stands over =
-    let turns : to_come p a first ≡ turns_of p a = come ∙ sym (opens_at p a) in
-    let all : statements_among (to_come p a first) ≡ total_by p a = ap statements_among turns ∙ turns_say p a in
     record {
+      turns = turns_open p a first come stands;
       shapes = refl;
       laid = refl;
       made = λ g. let none : get_or (replicate 32 0) g 0 ≡ 0 = read_replicate {A = ℕ} 32 g 0 in omega arith;
-      stands = stands;
-      all = omega (arith, all);
-      columns = omega arith;
-      few_begun = λ g. let none : get_or (replicate 32 0) g 0 ≡ 0 = read_replicate {A = ℕ} 32 g 0 in omega arith;
-      last = omega arith;
       leaves = sym over;
       marked = omega arith;
       polled = polled_opens l a first;

@@ -266,9 +266,8 @@ module _ (p : Program) (l : Layout) (formed : WellFormed p) (lays : LaysOut p l)
       go true busy k = by_processor a seat None (busy_is a seat es ∙ busy) (begin_none a es k busy)
       go false idle k =
           let due = has_due p k.turn (sym k.leaves ∙ idle_not_leaving (after_list a es).task idle going) in
-          let f = following p a k.turn due.0 k.stands due.1 in
           by_processor a seat (Some due.0)
-          (due_begins p l formed lays a seat (laws.own a) es k.turn due.0 f.turn k.stated idle due.1 f.follows k.made k.stands k.all k.turns k.ended k.left (due_room laws.polls p (after_list a es) k.turn due.0 idle due.1 k.polled))
+          (due_begins p l formed lays a seat (laws.own a) es k.turn due.0 k.stated idle due.1 k.made k.stands k.all k.turns k.ended k.left (due_room laws.polls p (after_list a es) k.turn due.0 idle due.1 k.polled))
           (begin_some a es due.0 k due.1)
 
     -- an actor's that begins nothing

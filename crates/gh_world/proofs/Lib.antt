@@ -28,4 +28,5 @@ pub mod Points
 pub mod Following
 pub mod MayBegin
 pub mod GoingOn
+pub mod Places
 pub mod AtOnce

@@ -1,20 +1,22 @@
 -- What is due at a processor's turn may begin, whatever its own entries are.
-use Rattle.std.proofs.Common.{◌≡◌, ℕ, ◌+◌, ◌<◌, ◌≤◌, Bool, true, false, eqb, ◌||◌, List, ◌∷◌, ◌++◌, reverse, refl, sym, ◌∙◌, ap, subst, Some, arith}
+use Rattle.std.proofs.Common.{◌≡◌, ℕ, ◌+◌, ◌<◌, ◌≤◌, Bool, true, false, eqb, ◌||◌, List, [], ◌∷◌, ◌++◌, reverse, refl, sym, ◌∙◌, ap, subst, Some, arith}
 use Rattle.std.specs.Prelude.{not}
 use Rattle.gh_base.specs.declared.operation.Op.TheVariants as op
 use Rattle.gh_interp.specs.Working.{work_of}
 use Rattle.gh_mutator.specs.Sound.{has_room}
 use Rattle.gh_world.specs.declared.turns.Next.TheVariants as next
+use Rattle.gh_world.specs.Due.{FitsIn}
 use Rattle.gh_world.specs.Order.{goroutine_of}
 use Rattle.gh_world.specs.Processors.{arena_of, has_more, is_of, may_begin}
 use Rattle.gh_world.specs.Turns.{Stands}
 use Rattle.gh_world.specs.Vocabulary.{most_objects, statements_of}
 use Rattle.gh_world.specs.Wishes.{wishes_of}
 use Rattle.gh_world.specs.World.{LaysOut, MadeAtMost}
-use Rattle.gh_world.proofs.Vocabulary.{Actor, Begins, begun_in, by, ended_in, ends, Entry, eq-eqb, Follows, has_left, has_names, is_busy_at, is_over, is_statement, Layout, leaves, may_leave, MayBeOver, Next, Op, op_due, Processor, processor_kind, Program, setting_of, slice_get, state_of, statements_among, to_come, total_of, turns_of, WellFormed, ◌%◌}
+use Rattle.gh_world.proofs.Vocabulary.{Actor, Begins, begun_in, by, ended_in, ends, Entry, eq-eqb, Follows, has_left, has_names, is_busy_at, is_leave, is_over, is_statement, later, Layout, leaves, may_leave, MayBeOver, Next, Op, op_due, Processor, processor_kind, Program, setting_of, slice_get, state_of, statements_among, to_come, total_of, turns_of, WellFormed, ◌%◌}
 use Rattle.gh_world.proofs.Asking.{all_then, has_wish}
-use Rattle.gh_world.proofs.Due.{both_true, due_runs, due_statement, ends_is, false_unless, few_statements, has_name_at, leaves_is, none_to_come, not_ended, not_over, work_goroutine}
+use Rattle.gh_world.proofs.Due.{both_true, due_runs, due_statement, ends_is, false_unless, few_statements, has_name_at, leaves_is, not_ended, not_over, work_goroutine}
 use Rattle.gh_world.proofs.Resting.{is_processor}
+use Rattle.gh_world.proofs.Turning.{work_no_leave}
 
 -- ---- behind the operation that is begun
 
@@ -52,23 +54,49 @@ module _ (p : Program) (l : Layout) (formed : WellFormed p) (lays : LaysOut p l)
   more_of es (op.Gc g) rest turns = has_wish p a g es (op.Gc g) rest turns (eq-eqb g g refl)
   more_of es _ rest turns = refl
 
-  leaves_so : (es : List (Entry Op)) (o : Op) (new : Next) → turns_of p a ≡ reverse (begun_in es) ++ o ∷ to_come p a new → is_over new ≡ leaves (Some o) → may_leave (arena_of p.shapes l) a es o ≡ true
-  leaves_so es op.Leave new turns over = all_then p (arena_of p.shapes l) a es (λ g. ap (λ (n : ℕ). eqb (g % n) a) lays.procs_are) l.goroutines (omega (arith, lays.goroutines_are)) (turns ∙ ap (λ (os : List Op). reverse (begun_in es) ++ op.Leave ∷ os) (none_to_come p a new over))
-  leaves_so es _ new turns over = refl
+  -- what is to come begins with it
+  come_due : (t : Next) (o : Op) → op_due p t ≡ Some o → (rest : List Op) × (to_come p a t ≡ o ∷ rest)
+  come_due (next.Poll r g) o due = let same : op.Poll ≡ o = cc in (work_of p r g ∷ later p a r (g + 1), ap (λ (x : Op). x ∷ work_of p r g ∷ later p a r (g + 1)) same)
+  come_due (next.Run r g) o due = let same : work_of p r g ≡ o = cc in (later p a r (g + 1), ap (λ (x : Op). x ∷ later p a r (g + 1)) same)
+  come_due next.Leave o due = let same : op.Leave ≡ o = cc in ([], ap (λ (x : Op). x ∷ []) same)
+  come_due next.Over o due = absurd cc
+
+  no_leave : (es : List (Entry Op)) (o : Op) → is_leave o ≡ false → may_leave (arena_of p.shapes l) a es o ≡ true
+  no_leave es op.Leave e = absurd cc
+  no_leave es _ e = refl
+
+  -- it is the leave only where each goroutine has ended
+  leaves_at : (es : List (Entry Op)) (t : Next) (o : Op) → op_due p t ≡ Some o → turns_of p a ≡ reverse (begun_in es) ++ to_come p a t → may_leave (arena_of p.shapes l) a es o ≡ true
+  leaves_at es (next.Poll r g) o due turns = let same : op.Poll ≡ o = cc in no_leave es o (ap is_leave (sym same))
+  leaves_at es (next.Run r g) o due turns = let same : work_of p r g ≡ o = cc in no_leave es o (ap is_leave (sym same) ∙ work_no_leave g (slice_get (statements_of p g) r))
+  leaves_at es next.Leave o due turns =
+      let same : op.Leave ≡ o = cc in
+      subst (λ (x : Op). may_leave (arena_of p.shapes l) a es x ≡ true) same (all_then p (arena_of p.shapes l) a es (λ g. ap (λ (n : ℕ). eqb (g % n) a) lays.procs_are) l.goroutines (omega (arith, lays.goroutines_are)) turns)
+  leaves_at es next.Over o due turns = absurd cc
+
+  -- so it fits in with what the processor has begun
+  pub due_fits : (es : List (Entry Op)) (t : Next) (o : Op) → op_due p t ≡ Some o → Stands p a t → turns_of p a ≡ reverse (begun_in es) ++ to_come p a t → ((g : ℕ) → ended_in es g ≡ true → MayBeOver p t g) → (has_left es ≡ true → is_over t ≡ true) → FitsIn p l a es o
+  due_fits es t o due stands turns over left =
+      let come = come_due t o due in
+      record {
+        ranged = (due_runs p l formed lays a t o stands due).ranged;
+        its = of_it t o stands due;
+        going = not_ended p a t o es stands due over;
+        staying = false_unless (has_left es) (λ h. not_over p t o due (left h));
+        asking = more_of es o come.0 (turns ∙ ap (λ (os : List Op). reverse (begun_in es) ++ os) come.1);
+        leaving = leaves_at es t o due turns;
+      }
 
   -- where nothing is begun
-  pub due_begins : (seat : a < l.procs) → ((es : List (Entry Op)) → state_of (processor_kind p.shapes l) a es ≡ state_of (processor_kind p.shapes l) a (by a es)) → (es : List (Entry Op)) (t : Next) (o : Op) (new : Next) (stated : ℕ) → is_busy_at (state_of (processor_kind p.shapes l) a es).task ≡ false → op_due p t ≡ Some o → Follows p a t o new →
+  pub due_begins : (seat : a < l.procs) → ((es : List (Entry Op)) → state_of (processor_kind p.shapes l) a es ≡ state_of (processor_kind p.shapes l) a (by a es)) → (es : List (Entry Op)) (t : Next) (o : Op) (stated : ℕ) → is_busy_at (state_of (processor_kind p.shapes l) a es).task ≡ false → op_due p t ≡ Some o →
       MadeAtMost stated (state_of (processor_kind p.shapes l) a es) → Stands p a t → stated + statements_among (to_come p a t) ≤ total_of p → turns_of p a ≡ reverse (begun_in (by a es)) ++ to_come p a t →
       ((g : ℕ) → ended_in (by a es) g ≡ true → MayBeOver p t g) → (has_left (by a es) ≡ true → is_over t ≡ true) → has_room (state_of (processor_kind p.shapes l) a es) o ≡ true → Begins (setting_of p l) a es (Some o)
-  due_begins seat own es t o new stated idle due follows made stands all turns over left room =
+  due_begins seat own es t o stated idle due made stands all turns over left room =
       let m = state_of (processor_kind p.shapes l) a es in
       let fs = by a es in
-      let ranged = (due_runs p l formed lays a t o stands due).ranged in
       let few : is_statement o ≡ true → stated < most_objects = λ sure. omega (arith, due_statement p a t o due sure, all, few_statements p formed) in
       let names : has_names (state_of (processor_kind p.shapes l) a fs) o ≡ true = subst (λ (n : Processor). has_names n o ≡ true) (own es) (has_name_at m stated o made few) in
-      let runs_on = not_ended p a t o fs stands due over in
-      let stays : has_left fs ≡ false = false_unless (has_left fs) (λ h. not_over p t o due (left h)) in
-      let come : turns_of p a ≡ reverse (begun_in fs) ++ o ∷ to_come p a new = turns ∙ ap (λ (os : List Op). reverse (begun_in fs) ++ os) follows.come in
+      let fits = due_fits fs t o due stands turns over left in
       let may : may_begin (arena_of p.shapes l) (wishes_of p) a (state_of (processor_kind p.shapes l) a fs) fs o ≡ true =
-      both_true _ _ (both_true _ _ (both_true _ _ (both_true _ _ (both_true _ _ (both_true _ _ (both_true _ _ ranged (of_it t o stands due)) names) (not_true _ runs_on)) (not_true _ stays)) (more_of fs o (to_come p a new) come)) (leaves_so fs o new come (follows.leaves ∙ sym (leaves_is o)))) (subst (λ (n : Processor). has_room n o ≡ true) (own es) room) in
+      both_true _ _ (both_true _ _ (both_true _ _ (both_true _ _ (both_true _ _ (both_true _ _ (both_true _ _ fits.ranged fits.its) names) (not_true _ fits.going)) (not_true _ fits.staying)) fits.asking) fits.leaving) (subst (λ (n : Processor). has_room n o ≡ true) (own es) room) in
       (ap (λ (x : Actor). (setting_of p l).kind.busy x) (is_processor p l a seat es) ∙ idle, may)

@@ -80,9 +80,9 @@ module _ (w : State) (f : Kept w) (a : ℕ) (x : Runner) (is : slice_get w.runne
     busy = subst (λ (m : Mutating). is_busy_at m.processor.task ≡ true) (mutator_is x.mutator p.shapes l k.o fits.shapes (going_on going)) (busy_begun p l f.fit.base.script f.fit.base.layout a x.mutator x.progress fits k.o (going_on going) k.is);
     within = subst (λ (z : Runner). InRange l (cell_of (asks z.mutator))) (begun_is y k going) within;
     made = fits.made;
-    stands = fits.stands;
-    all = let all = fits.all in let few = total_by-le p a in omega (arith, all, few);
-    columns = fits.columns;
+    stands = fits.turns.stands;
+    all = let all = fits.turns.all in let few = total_by-le p a in omega (arith, all, few);
+    columns = fits.turns.columns;
     room = λ o some. let due = due_at p l f.fit.base.script f.fit.base.layout a seat x.mutator.processor x.progress.next k.o o k.is some in due_room polls p x.mutator.processor x.progress.next o due.0 due.1 fits.polled;
   }
 

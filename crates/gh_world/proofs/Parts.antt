@@ -82,7 +82,7 @@ module _ (w : State) (es : List (Entry Op)) where
         let there = after.actors a (omega (arith, low)) in
         let at_seat = is_processor p l a (omega (arith, low, procs)) es in
         let sum : 0 + x.mutator.marks ≡ marks_at p.shapes l a es = sym (marks_here a (Some x) is) ∙ after.marks a (omega (arith, low)) ∙ ap (marks_by (marks_at p.shapes l a es)) at_seat in
-        let k : KeepsPlace p a x es = after.keeps.each a x is in
+        let k : KeepsPlace p a x.progress es = after.keeps.each a x is in
         record {
           processor = same_processor x.mutator.processor (state_of (processor_kind p.shapes l) a es) (sym (runner_here w a x is) ∙ there ∙ at_seat);
           turns = k.turns;

@@ -6,7 +6,7 @@ use Rattle.gh_base.specs.declared.machine.Entry.{Entry}
 use Rattle.gh_base.specs.declared.operation.Op.{Op}
 use Rattle.gh_base.specs.declared.shape.Shape.{Shape}
 use Rattle.gh_phase.specs.Handshake.{Acts, Awake, first_lead, first_party, IsHandshake, Leads, LeadGoes, Place, PlaceBegins, PlaceGoes}
-use Rattle.gh_coord.specs.Ends.{stays}
+use Rattle.gh_coord.specs.Stays.{stays}
 use Rattle.gh_coord.specs.Handshake.{LeadsHandshake}
 use Rattle.gh_coord.specs.Handshake as leading
 use Rattle.gh_coord.specs.Listing as coord

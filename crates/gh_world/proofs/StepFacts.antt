@@ -202,13 +202,13 @@ module _ (shapes : List Shape) (m : Processor) where
     go true = before_made w _ _ refl refl
     go false = before_made w _ _ refl refl
   place_facts w p found place_stage.Birth = before_made w _ _ refl refl
-  place_facts w p found (place_stage.Bits s) = go (bits.is_busy (bits.goes s found).stage) refl where
+  place_facts w p found (place_stage.Bits s) = go (bits.is_busy (bits.goes s found).stage) where
     next : Bool → PlaceStage
     next b = cond b (place_stage.Bits (bits.goes s found)) (place.filled p.marking)
 
-    go : (b : Bool) → bits.is_busy (bits.goes s found).stage ≡ b → StepFacts m (makes w (place.at_stage p (place_stage.Bits s))) (after_place m w false p.at (place.at_stage p (next b))) None (cond (place.is_busy (next b)) None (Some (answer.Ref p.name)))
-    go true e = rw e (before_made w _ _ refl refl)
-    go false e = filled p.marking where
+    go : (b : Bool) → StepFacts m (makes w (place.at_stage p (place_stage.Bits s))) (after_place m w false p.at (place.at_stage p (next b))) None (cond (place.is_busy (next b)) None (Some (answer.Ref p.name)))
+    go true = before_made w _ _ refl refl
+    go false = filled p.marking where
       filled : (marking : Bool) → StepFacts m (makes w (place.at_stage p (place_stage.Bits s))) (after_place m w false p.at (place.at_stage p (place.filled marking))) None (cond (place.is_busy (place.filled marking)) None (Some (answer.Ref p.name)))
       filled true = before_made w _ _ refl refl
       filled false = before_made w _ _ refl refl

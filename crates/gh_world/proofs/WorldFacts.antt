@@ -30,7 +30,7 @@ module _ (p : Program) (a : ℕ) where
   left_after t (Some o) new es follows due left h = left_then p a t o new (has_left es) follows (due o refl) left h
 
 -- the statements begun are counted
-counted_after : (t : Progress) (b : Option Op) (bs : List Op) → length t.begun ≡ 32 → ((o : Op) → b ≡ Some o → is_statement o ≡ true → goroutine_at o < 32) → ((g : ℕ) → g < 32 → get_or t.begun g 0 ≡ statements_by g bs) → (g : ℕ) → g < 32 → get_or (counts_after t b) g 0 ≡ statements_by g (option_to_list b ++ bs)
+pub counted_after : (t : Progress) (b : Option Op) (bs : List Op) → length t.begun ≡ 32 → ((o : Op) → b ≡ Some o → is_statement o ≡ true → goroutine_at o < 32) → ((g : ℕ) → g < 32 → get_or t.begun g 0 ≡ statements_by g bs) → (g : ℕ) → g < 32 → get_or (counts_after t b) g 0 ≡ statements_by g (option_to_list b ++ bs)
 counted_after t None bs long few counted g lt = counted g lt
 counted_after t (Some o) bs long few counted g lt = go (is_statement o) refl where
   go : (c : Bool) → is_statement o ≡ c → get_or (cond c (set t.begun (goroutine_at o) (get_or t.begun (goroutine_at o) 0 + 1)) t.begun) g 0 ≡ bit (c && eqb (goroutine_at o) g) + statements_by g bs
@@ -49,7 +49,7 @@ counted_after t (Some o) bs long few counted g lt = go (is_statement o) refl whe
 abbrev pub pair_of : ℕ → ℕ → ℕ × ℕ
 pair_of a b = (a, b)
 
-now_after : (t : Progress) (b : Option Op) (bs : List Op) → length t.begun ≡ 32 → ((o : Op) → b ≡ Some o → is_statement o ≡ true → goroutine_at o < 32) → ((g : ℕ) → g < 32 → get_or t.begun g 0 ≡ statements_by g bs) → pair_of t.last (get_or t.begun t.last 0) ≡ statement_now bs →
+pub now_after : (t : Progress) (b : Option Op) (bs : List Op) → length t.begun ≡ 32 → ((o : Op) → b ≡ Some o → is_statement o ≡ true → goroutine_at o < 32) → ((g : ℕ) → g < 32 → get_or t.begun g 0 ≡ statements_by g bs) → pair_of t.last (get_or t.begun t.last 0) ≡ statement_now bs →
     pair_of (last_after t b) (get_or (counts_after t b) (last_after t b) 0) ≡ statement_now (option_to_list b ++ bs)
 now_after t None bs long few counted now = now
 now_after t (Some o) bs long few counted now = go (is_statement o) refl (counted_after t (Some o) bs long few counted (goroutine_at o)) where
@@ -125,7 +125,7 @@ module _ (p : Program) (l : Layout) (runnable : WellFormed p) (laid : LaysOut p 
   begins_next own es t None new k turns over left = ap (λ (x : Actor). (setting_of p l).kind.busy x) (is_processor p l a seat es) ∙ k.busy
   begins_next own es t (Some o) new k turns over left =
       let due = due_at (state_of (processor_kind p.shapes l) a es) t.next (Some o) o k.is refl in
-      due_begins p l runnable laid a seat own es t.next o new t.stated due.0 due.1 k.goes k.made k.stands k.all turns over left (k.room o refl)
+      due_begins p l runnable laid a seat own es t.next o t.stated due.0 due.1 k.made k.stands k.all turns over left (k.room o refl)
 
   turns_next : (t : Progress) (b : Option Op) (new : Next) (bs : List Op) → GoesOn p a t.next b new → turns_of p a ≡ reverse bs ++ to_come p a t.next → turns_of p a ≡ reverse (option_to_list b ++ bs) ++ to_come p a new
   turns_next t None new bs goes turns = turns ∙ ap (λ (x : Next). reverse bs ++ to_come p a x) (sym goes)

@@ -5,7 +5,7 @@ use Rattle.gh_world.specs.declared.runner.Runner.{Runner}
 use Rattle.gh_world.specs.Order.{begun_in, ended_in, has_left}
 use Rattle.gh_world.specs.Runs.{IsRunSoFar}
 use Rattle.gh_world.specs.Turns.{is_over, MayBeOver, statements_by, to_come, turns_of}
-use Rattle.gh_world.specs.Vocabulary.{Entry, Event, MOST_GOROUTINES, Op, Program, Shows, words_after}
+use Rattle.gh_world.specs.Vocabulary.{Entry, Event, MOST_GOROUTINES, Op, Program, Progress, Shows, words_after}
 use Rattle.gh_world.specs.World.{actor_after, actor_of, actors_of, answer_in, answered_in, event_of, marks_at, marks_by, marks_of, now_by, now_in, points_in, setting_of, State, with_goroutine}
 
 -- ---- book-keeping
@@ -13,18 +13,18 @@ use Rattle.gh_world.specs.World.{actor_after, actor_of, actors_of, answer_in, an
 -- What a world keeps to know what comes next. It is no promise of what a world does: its next step rests on it, and leaves it so. All that is promised stands in `IsAfter` and `Appends`.
 
 -- Of the processor at seat a: which of its turns are still to come; how many statements of each goroutine it has begun, and which last; and that none is to come of a goroutine that has ended, and nothing once it has left.
-pub record KeepsPlace (p : Program) (a : ℕ) (x : Runner) (es : List (Entry Op)) : Type 0 where
-  pub turns : turns_of p a ≡ reverse (begun_in (by a es)) ++ to_come p a x.progress.next
-  pub counted : (g : ℕ) → g < MOST_GOROUTINES → slice_index x.progress.begun g ≡ statements_by g (begun_in (by a es))
-  pub now : (x.progress.last, slice_index x.progress.begun x.progress.last) ≡ now_by a es
-  pub ended : (g : ℕ) → ended_in (by a es) g ≡ true → MayBeOver p x.progress.next g
-  pub left : has_left (by a es) ≡ true → is_over x.progress.next ≡ true
+pub record KeepsPlace (p : Program) (a : ℕ) (t : Progress) (es : List (Entry Op)) : Type 0 where
+  pub turns : turns_of p a ≡ reverse (begun_in (by a es)) ++ to_come p a t.next
+  pub counted : (g : ℕ) → g < MOST_GOROUTINES → slice_index t.begun g ≡ statements_by g (begun_in (by a es))
+  pub now : (t.last, slice_index t.begun t.last) ≡ now_by a es
+  pub ended : (g : ℕ) → ended_in (by a es) g ≡ true → MayBeOver p t.next g
+  pub left : has_left (by a es) ≡ true → is_over t.next ≡ true
 
 -- there are as many processors and workers as in the layout, and each processor keeps its place
 pub record KeepsPlaces (w : State) (es : List (Entry Op)) : Type 0 where
   pub processors : length w.runners ≡ w.layout.procs
   pub workers : length w.workers ≡ w.layout.workers
-  pub each : (a : ℕ) (x : Runner) → slice_get w.runners a ≡ Some x → KeepsPlace w.script a x es
+  pub each : (a : ℕ) (x : Runner) → slice_get w.runners a ≡ Some x → KeepsPlace w.script a x.progress es
 
 -- ---- what is promised
 

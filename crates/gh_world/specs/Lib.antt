@@ -5,6 +5,7 @@ pub mod Asked
 pub mod Counts
 pub mod Cycles
 pub mod Drawn
+pub mod Due
 pub mod Handshake
 pub mod HoldVocabulary
 pub mod Marking

@@ -1,7 +1,7 @@
 -- Lists of steps of any number of processors over one heap, the newest first: which are legal, and what every legal one keeps.
 use Rattle.std.specs.Prelude.{◌≡◌, ◌≢◌, ℕ, zero, suc, ◌+◌, ◌%◌, ◌<◌, ◌≤◌, nat_lt, Bool, true, false, not, ◌==◌, ◌&&◌, ◌||◌, if◌then◌else◌, ◌⊎◌, List, [], ◌∷◌, ◌++◌, length, map, Option, Some, None}
 use Rattle.std.specs.Option.{option_to_list}
-use Rattle.gh_world.specs.Vocabulary.{Act, Answer, Answered, answered_by, Arena, cached_for, deeds, Entry, Ever, given_by, has_names, Head, Holds, IsFull, IsOf, IsSpan, Layout, meaning, model_after, Name, Op, page_of, Placed, Processor, processor_kind, Reach, register_of, REGISTERS, row_bit, Shape, shape_at, size_for, Sought, sought_for, span_for, SpanHead, state_of, Words, words_after}
+use Rattle.gh_world.specs.Vocabulary.{Act, Answer, Answered, answered_by, Arena, cached_for, deeds, Entry, Ever, given_by, has_names, Head, Holds, is_busy_at, IsFull, IsOf, IsSpan, Layout, meaning, model_after, Name, Op, op_at, page_of, Placed, Processor, processor_kind, Reach, register_of, REGISTERS, row_bit, Shape, shape_at, size_for, Sought, sought_for, span_for, SpanHead, state_of, Words, words_after}
 use Rattle.gh_base.specs.declared.cell.Cell.TheVariants as cell
 use Rattle.gh_base.specs.declared.operation.Op.TheVariants as op
 use Rattle.gh_base.specs.declared.pack.PageWord.TheVariants.{Free}
@@ -137,10 +137,12 @@ module _ (z : Arena) (opening : Words) where
   FullOnlyThere [] = Unit {0}
   FullOnlyThere (e ∷ es) = FullOnlyThere es × ((x : Act) → done_at (processor_kind z.shapes z.layout) (deeds z.shapes) es e ≡ Some x → x.full ≡ true → IsFullFor z e.actor (words_after opening es) (at_seat es e.actor) x.op)
 
-  -- what a processor was answered is what that heap answers its operations, save at most one answer that it has still to give
+  -- What a processor was answered is what that heap answers its operations, save at most one answer that it has still to give: none where nothing is begun, and none before what is begun has acted.
   pub record AnswersAsEver (a : ℕ) (es : List (Entry Op)) : Type 0 where
     pub pending : Option Answer
     pub answers : answers_of a es ≡ option_to_list pending ++ given_of a es
+    pub resting : is_busy_at (at_seat es a).task ≡ false → pending ≡ None
+    pub unacted : (o : Op) → op_at (at_seat es a).task ≡ Some o → pending ≡ None
 
   pub record ListStands (es : List (Entry Op)) : Type 0 where
     pub stands : StandsFor z (words_after opening es) (ever_after_list es) (at_seat es)

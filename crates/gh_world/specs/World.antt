@@ -168,16 +168,20 @@ abbrev pub Polled : Next → Processor → Type 0
 Polled (next.Run r g) m = MayStore m
 Polled _ m = Unit {0}
 
--- of the processor at seat a and its turns,
-pub record FitTurns (p : Program) (l : Layout) (a : ℕ) (m : Mutating) (t : Progress) : Type 0 where
-  pub shapes : m.shapes ≡ p.shapes
-  pub laid : m.processor.poll.layout ≡ l
-  pub made : MadeAtMost t.stated m.processor
+-- of the turns of the processor at seat a: the next is one of its turns, the statements that have begun and those that are to come are all that its goroutines have, and what is counted of one goroutine is at most what is counted of all,
+pub record AreTurns (p : Program) (a : ℕ) (t : Progress) : Type 0 where
   pub stands : Stands p a t.next
   pub all : t.stated + statements_among (to_come p a t.next) ≡ total_by p a
   pub columns : length t.begun ≡ MOST_GOROUTINES
   pub few_begun : (g : ℕ) → slice_index t.begun g ≤ t.stated
   pub last : t.last < MOST_GOROUTINES
+
+-- of the processor and its turns,
+pub record FitTurns (p : Program) (l : Layout) (a : ℕ) (m : Mutating) (t : Progress) : Type 0 where
+  pub turns : AreTurns p a t
+  pub shapes : m.shapes ≡ p.shapes
+  pub laid : m.processor.poll.layout ≡ l
+  pub made : MadeAtMost t.stated m.processor
   pub leaves : is_leaving m.processor.task ≡ is_over t.next
   pub marked : m.marks + bit (is_serving m.processor.task) ≤ t.stated
   pub polled : Polled t.next m.processor

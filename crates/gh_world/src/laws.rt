@@ -1,5 +1,6 @@
 //! Laws of the lists of steps of all actors that run a script, whatever the code does.
 
+ghost use Rattle.gh_world.specs.Due.{EachKeepsItsPlace, WhatIsDueFits};
 ghost use Rattle.gh_world.specs.Points.{PointsAreStatements, StatementsAreEnough};
 ghost use Rattle.gh_world.specs.Runs.{EveryListOfAScriptStands, EveryOrderHasOneRun, EveryRunIsExplained, EveryRunIsOne, EveryRunStands, NoneIsLonger, RunsEndWhole, RunsGoOn};
 ghost use Rattle.gh_world.specs.Tied.{TiesShowWhatThereIs};
@@ -96,3 +97,11 @@ pub fn ties_show_what_there_is()
 {
     reach_is_decided();
 }
+
+/// Whoever makes a processor's steps, on whatever words, can take the turns of [`Progress`](crate::Progress): what is due there
+/// may begin, by the entries that the processor has in a list; and behind the entry with which it does, and behind each that
+/// begins nothing or is another's, the processor keeps its place among its turns.
+pub fn what_is_due_fits()
+    ensures fits { WhatIsDueFits }
+    ensures kept { EachKeepsItsPlace }
+{}

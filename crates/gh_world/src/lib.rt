@@ -4,7 +4,8 @@
 //! workers that mark, and the coordinator that opens cycles, ends them and has the spans swept. One step of it
 //! is one atomic step of one of these actors, and [`World::step`] is one entry more of whatever list the world
 //! is the state of. Who steps when is for others to say; [`World::turn_from`] says whose turn it is where they
-//! take turns in ascending order.
+//! take turns in ascending order. What a processor begins stands apart from its steps ([`Progress`]), so that whoever makes
+//! these on other words takes the same turns, which a legal list lets begin ([`what_is_due_fits`]).
 //!
 //! Each operation has one step at which it acts, its point (`gh_mutator`). What a statement answers is
 //! settled by what the heap that never frees answers at that point: that heap has names and paths, and no
@@ -40,13 +41,14 @@ pub use event::{Event, Totals};
 pub use handshake::{Actor, every_list_keeps_the_handshake, every_step_keeps_the_handshake};
 pub use laws::{
     a_script_has_one_run, every_run_is_explained, every_run_stands, points_are_statements,
-    runs_go_on, statements_are_enough, ties_show_what_there_is,
+    runs_go_on, statements_are_enough, ties_show_what_there_is, what_is_due_fits,
 };
 pub use numbers::{
     cycles_are_few, every_list_counts_cycles, every_list_counts_plainly, every_list_counts_wants,
     every_list_numbers_stacks, every_list_opens_few, every_list_rests_workers,
     processors_begin_few,
 };
+pub use progress::Progress;
 pub use turns::{Next, total_of};
-pub use wishes::most_cycles;
+pub use wishes::{most_cycles, wishes_of};
 pub use world::World;

@@ -1,19 +1,22 @@
 //! How far a processor is among its turns.
 
-ghost use Rattle.std.specs.Prelude.{◌≡◌, ◌+◌, ◌++◌, ◌^◌, ◌<◌, slice_index, false, vec_len, IsTrue, Some, None, if◌then◌else◌};
+ghost use Rattle.std.specs.Prelude.{◌≡◌, ℕ, ◌+◌, ◌++◌, ◌^◌, ◌<◌, [], slice_index, false, vec_len, IsTrue, Some, None, if◌then◌else◌};
 ghost use Rattle.std.specs.Vec.{vec_capacity};
 ghost use Rattle.gh_base.specs.Packing.{bit};
 ghost use Rattle.gh_base.specs.declared.limits.TheConstants.{MOST_GOROUTINES};
 ghost use Rattle.gh_mutator.specs.Serving.{is_statement};
-ghost use Rattle.gh_world.specs.Turns.{goroutine_at, is_over, later, next_point, to_come, Stands};
-ghost use Rattle.gh_world.specs.World.{now_of, opening_progress, progress_after};
+ghost use Rattle.gh_world.specs.Turns.{goroutine_at, is_over, is_poll_due, is_run_due, later, next_point, op_due, to_come, turns_of, Follows};
+ghost use Rattle.gh_world.specs.World.{now_of, opening_progress, progress_after, AreTurns};
 
-use crate::turns::{Next, next_turn};
+use crate::turns::{Next, due, following, next_turn};
 use gh_base::Op;
 use gh_base::limits::MOST_GOROUTINES;
 use gh_script::Script;
 
-/// How far a processor is among its turns.
+/// How far a processor is among its turns: what it begins next, and how many statements it has begun.
+///
+/// Whoever runs a processor begins what is [`due`](Progress::due) where nothing is begun, on whatever words, and notes that by
+/// [`advance`](Progress::advance). So all that it begins are its turns, in their order.
 #[derive(Drop)]
 pub struct Progress {
     // What it begins next.
@@ -48,7 +51,8 @@ impl Progress {
     pub fn opening(script: &Script, seat: u32) -> Progress
         ensures is { result ≡ opening_progress result.next }
         ensures come { to_come script.now seat result.next ≡ later script.now seat 0 0 }
-        ensures stands { Stands script.now seat result.next }
+        ensures all { to_come script.now seat result.next ≡ turns_of script.now seat }
+        ensures turns { AreTurns script.now seat result }
         ensures going { is_over result.next ≡ false }
     {
         Progress {
@@ -59,8 +63,34 @@ impl Progress {
         }
     }
 
+    /// What the processor begins next. None: it has begun its leave, and nothing is to come.
+    #[inline(always)]
+    pub fn due(&self, script: &Script) -> Option<Op>
+        requires { (seat : ℕ) × AreTurns script.now seat self.now }
+        ensures due { result ≡ op_due script.now self.now.next }
+        ensures none { result ≡ None → (seat : ℕ) → to_come script.now seat self.now.next ≡ [] }
+    {
+        due(script, self.next)
+    }
+
+    /// Notes that the processor at this seat has begun what was due: it goes on to the turn behind that, and counts a
+    /// statement.
+    #[inline(always)]
+    pub fn advance(&mut self, script: &Script, seat: u32, op: Op)
+        requires turns { AreTurns script.now seat self.old }
+        requires due { op_due script.now self.old.next ≡ Some op }
+        ensures turns { AreTurns script.now seat self.new }
+        ensures follows { Follows script.now seat self.old.next op self.new.next }
+        ensures polled { is_run_due self.new.next ≡ is_poll_due self.old.next }
+        ensures counted { self.new ≡ progress_after self.old (Some op) self.new.next }
+    {
+        script.is_well_formed();
+        self.next = following(script, seat, self.next);
+        self.count(op);
+    }
+
     /// Counts an operation that has begun, where it is a statement.
-    pub fn count(&mut self, op: Op)
+    fn count(&mut self, op: Op)
         requires there { IsTrue (is_statement op) → goroutine_at op < MOST_GOROUTINES }
         requires few { slice_index self.old.begun (goroutine_at op) + 1 < 2 ^ 32 }
         requires fits { self.old.stated + 1 < 2 ^ 32 }

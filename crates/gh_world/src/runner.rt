@@ -16,7 +16,7 @@ ghost use Rattle.gh_world.specs.World.{event_at, now_of, Begins, FitTurns, IsOpe
 
 use crate::event::{Event, event_at};
 use crate::progress::Progress;
-use crate::turns::{Next, due, following};
+use crate::turns::{Next, following};
 use gh_base::{Answer, Ask, Cell, Layout, Machine};
 use gh_mutator::Mutator;
 use gh_mutator::laws::polls_make_room;
@@ -119,15 +119,14 @@ impl<'s> Runner<'s> {
         if self.mutator.is_busy() {
             return false;
         }
-        let Some(op) = due(script, self.progress.next) else {
+        let Some(op) = self.progress.due(script) else {
             return false;
         };
         if !self.mutator.sets(op) {
             return false;
         }
         words.step(layout.request(Ask::Load(Cell::Touch)));
-        self.progress.next = following(script, seat, self.progress.next);
-        self.progress.count(op);
+        self.progress.advance(script, seat, op);
         true
     }
 
@@ -157,10 +156,9 @@ impl<'s> Runner<'s> {
     {
         polls_make_room();
         script.is_well_formed();
-        if let Some(op) = due(script, self.progress.next) {
-            self.progress.next = following(script, seat, self.progress.next);
+        if let Some(op) = self.progress.due(script) {
+            self.progress.advance(script, seat, op);
             self.mutator.begin(op);
-            self.progress.count(op);
         }
     }
 

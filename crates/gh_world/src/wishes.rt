@@ -13,8 +13,8 @@ fn may_ask(statement: Stmt) -> bool
     matches!(statement, Stmt::New { .. } | Stmt::Gc)
 }
 
-/// How many statements of goroutine `g` may ask for a cycle.
-fn wishes_of(script: &Script, g: u32) -> u32
+/// How many statements of goroutine `g` may ask for a cycle: its `new` and its `gc`.
+pub fn wishes_of(script: &Script, g: u32) -> u32
     requires { g < length script.now.goroutines }
     ensures { result ≡ wishes_of script.now g }
 {

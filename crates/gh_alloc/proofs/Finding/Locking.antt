@@ -14,19 +14,24 @@ use Rattle.gh_pages.specs.Listing as carve
 use Rattle.gh_pages.specs.declared.carve.CarveStage.{CarveStage}
 use Rattle.gh_pages.specs.declared.carve.CarveStage.TheVariants as carve_stage
 use Rattle.gh_alloc.specs.Vocabulary.{Layout, Sought, Small, Large, CachedSpan, After, Again, End, FindStage, Slots, Lock, Give, Pass, Carve, Unlock, Ended}
-use Rattle.gh_alloc.specs.Find.{Finding, after_carve, after_give, after_pass, after_slots, asks_at, at_stage, begin, goes_at, locked_for, searched, spans_for, taken_for, unlocked}
+use Rattle.gh_alloc.specs.Find.{Finding, after_carve, after_give, after_pass, after_slots, asks_at, at_stage, begin, given_at, goes_at, locked_for, searched, spans_for, taken_for, unlocked}
 use Rattle.gh_alloc.specs.Locking.{lock_after}
 
 abbrev pub has_lock : FindStage → Bool
 has_lock (Slots s) = false
 has_lock Lock = false
-has_lock Ended = false
+has_lock (Ended out) = false
 has_lock _ = true
+
+-- it has given nothing then
+pub lock_gives_none : (p : FindStage) → has_lock p ≡ true → given_at p ≡ None
+lock_gives_none (Ended out) h = absurd (cc)
+lock_gives_none _ h = refl
 
 -- the steps of the routines that it runs neither take the lock nor free it
 slots_asks : (s : slots.Searching) (p : SlotStage) (held : Bool) (w : ℕ) → lock_after held (slots.asks_at s p) w ≡ held
 slots_asks s slots_stage.Look held w = refl
-slots_asks s slots_stage.Ended held w = refl
+slots_asks s (slots_stage.Ended slot) held w = refl
 
 give_asks : (g : give.Giving) (p : GiveStage) (held : Bool) (w : ℕ) → lock_after held (give.asks_at g p) w ≡ held
 give_asks g give_stage.Write held w = refl
@@ -71,16 +76,16 @@ slots_without f None h = h
 slots_without f (Some None) h = refl
 slots_without f (Some (Some slot)) h = refl
 
-give_with : (f : Finding) (out : Option (Unit {0})) → has_lock f.stage ≡ true → has_lock (after_give f out).stage ≡ true
+pub give_with : (f : Finding) (out : Option (Unit {0})) → has_lock f.stage ≡ true → has_lock (after_give f out).stage ≡ true
 give_with f None h = h
 give_with f (Some x) h = spans_with f f.wanted
 
-pass_with : (f : Finding) (out : Option (Option ℕ)) → has_lock f.stage ≡ true → has_lock (after_pass f out).stage ≡ true
+pub pass_with : (f : Finding) (out : Option (Option ℕ)) → has_lock f.stage ≡ true → has_lock (after_pass f out).stage ≡ true
 pass_with f None h = h
 pass_with f (Some None) h = refl
 pass_with f (Some (Some page)) h = taken_with f f.wanted page
 
-carve_with : (f : Finding) (out : Option (Option ℕ)) → has_lock f.stage ≡ true → has_lock (after_carve f out).stage ≡ true
+pub carve_with : (f : Finding) (out : Option (Option ℕ)) → has_lock f.stage ≡ true → has_lock (after_carve f out).stage ≡ true
 carve_with f None h = h
 carve_with f (Some None) h = refl
 carve_with f (Some (Some page)) h = taken_with f f.wanted page
@@ -96,4 +101,4 @@ step f (Give g) w = give_asks g g.stage true w ∙ sym (give_with (at_stage f (G
 step f (Pass m) w = pass_asks m m.stage true w ∙ sym (pass_with (at_stage f (Pass (pass.goes m w))) (pass.gives m w) refl)
 step f (Carve c) w = carve_asks c c.stage true w ∙ sym (carve_with (at_stage f (Carve (carve.goes c w))) (carve.gives c w) refl)
 step f (Unlock after) w = sym (unlocked_without f after)
-step f Ended w = refl
+step f (Ended out) w = refl

@@ -1,5 +1,5 @@
 -- The slot that the search of a cached span ends with lies in the arena.
-use Rattle.std.proofs.Common.{◌≡◌, ℕ, suc, ◌+◌, ◌*◌, ◌/◌, ◌<◌, ◌≤◌, Bool, true, false, cond, Option, Some, None, IfSome, sym, subst, arith}
+use Rattle.std.proofs.Common.{◌≡◌, ℕ, suc, ◌+◌, ◌*◌, ◌/◌, ◌<◌, ◌≤◌, Bool, true, false, cond, Option, Some, None, IfSome, subst, arith}
 use Rattle.std.proofs.Math.Nat.{mul-le-mul_left, mul-le-mul_right}
 use Rattle.gh_class.specs.declared.class.TheConstants.{CLASSES}
 use Rattle.gh_class.specs.declared.class.SizeClass.TheVariants as size
@@ -8,8 +8,8 @@ use Rattle.gh_cache.specs.Listing as slots
 use Rattle.gh_cache.specs.Sound as slots_sound
 use Rattle.gh_cache.specs.declared.next_slot.SlotStage.{SlotStage}
 use Rattle.gh_cache.specs.declared.next_slot.SlotStage.TheVariants as stage
-use Rattle.gh_alloc.specs.Vocabulary.{Layout, SpanClass, Sought, Small, Large, CachedSpan, FindStage, Slots}
-use Rattle.gh_alloc.specs.Find.{Finding, gives, gives_at, move_cursor, searched, slot_found, span_for, word_at_cursor}
+use Rattle.gh_alloc.specs.Vocabulary.{Layout, SpanClass, Sought, Small, Large, CachedSpan, At, FindStage, Slots}
+use Rattle.gh_alloc.specs.Find.{Finding, move_cursor, span_for, word_at_cursor}
 use Rattle.gh_alloc.specs.FindSound.{IsCached, IsStage, Sound}
 use Rattle.gh_alloc.specs.Within.{LiesWithin, words_of}
 
@@ -42,24 +42,27 @@ module _ (fit : (c : ℕ) → c < CLASSES → slots_of c * slot_of c ≤ 8192 * 
   word_fits l (Small c) cached cursor class at same within = small_fits l c cached cursor (let is : class ≡ c.class = cc in subst (λ (n : ℕ). IsAtSlot l cursor n) is at) within
   word_fits l (Large pages noscan) cached cursor class at same within = absurd (cc)
 
-  look_fits : (f : Finding) (s : slots.Searching) (p : SlotStage) (found : ℕ) → slots_sound.FitsArena s.layout s.span → slots_sound.IsStage s.span p → s.layout ≡ f.layout → size.Small s.span.class ≡ (span_for f.wanted).class → IsCached f.layout f.wanted f.cached →
-      IfSome (slot_found (searched f (slots.goes_at s p found)) (slots.gives_at s p found)) (LiesWithin f.layout f.wanted)
-  look_fits f s stage.Look found span here heap class within = by (slots.is_found s found) (slots.has_next s.span) where
+  -- the search after its step, by the tests that the slot at the cursor is clear and that one stands behind it
+  abbrev after : slots.Searching → (clear more : Bool) → slots.Searching
+  after s clear more = cond clear (slots.at_stage s (stage.Ended (Some s.span.cursor))) (record s { span = record (s.span) { cursor = s.span.cursor + 1 }; stage = cond more stage.Look (stage.Ended None) })
+
+  look_fits : (f : Finding) (s : slots.Searching) (p : SlotStage) (found : ℕ) → slots_sound.FitsArena s.layout s.span → slots_sound.IsStage s.span p → IsStage f.layout f.wanted (Slots (slots.at_stage s p)) → IsCached f.layout f.wanted f.cached → (out : Option ℕ) → slots.given (slots.goes_at s p found) ≡ Some out →
+      IfSome out (λ _. LiesWithin f.layout f.wanted (At (word_at_cursor f.wanted (move_cursor (slots.goes_at s p found).span.cursor f.cached))))
+  look_fits f s stage.Look found span here runs within = by (slots.is_found s found) (slots.has_next s.span) where
     in_heap : pages_of s.span.class ≤ f.layout.pages
-    in_heap = subst (λ (l : Layout). pages_of s.span.class ≤ l.pages) heap (let h : s.span.head + pages_of s.span.class ≤ s.layout.pages = span.pages in omega arith)
+    in_heap = subst (λ (l : Layout). pages_of s.span.class ≤ l.pages) runs.0 (let h : s.span.head + pages_of s.span.class ≤ s.layout.pages = span.pages in omega arith)
 
     at : IsAtSlot f.layout s.span.cursor s.span.class
     at = record { among = span.class; below = here; pages = in_heap }
 
-    by : (clear more : Bool) → IfSome (slot_found (searched f (cond clear (slots.at_stage s stage.Ended) (slots.passed s))) (cond clear (Some (Some s.span.cursor)) (cond more None (Some None)))) (LiesWithin f.layout f.wanted)
-    by true more = word_fits f.layout f.wanted f.cached s.span.cursor s.span.class at class within
-    by false true = tt
-    by false false = tt
-  look_fits f s stage.Ended found span here heap class within = tt
+    by : (clear more : Bool) (out : Option ℕ) → slots.given (after s clear more) ≡ Some out → IfSome out (λ _. LiesWithin f.layout f.wanted (At (word_at_cursor f.wanted (move_cursor (after s clear more).span.cursor f.cached))))
+    by clear more None e = tt
+    by true more (Some slot) e = word_fits f.layout f.wanted f.cached s.span.cursor s.span.class at runs.1 within
+    by false true (Some slot) e = absurd (cc)
+    by false false (Some slot) e = absurd (cc)
+  look_fits f s (stage.Ended slot) found span here runs within = absurd (cc (runs.2))
 
-  slots_fit : (f : Finding) (s : slots.Searching) (found : ℕ) → slots_sound.Sound s → IsStage f.layout f.wanted (Slots s) → IsCached f.layout f.wanted f.cached → IfSome (gives_at f (Slots s) found) (LiesWithin f.layout f.wanted)
-  slots_fit f s found sound runs within = look_fits f s s.stage found sound.span sound.stage runs.0 runs.1 within
-
-  pub slot_found_fits : (f : Finding) (s : slots.Searching) (found : ℕ) → Sound f → slots_sound.Sound s → f.stage ≡ Slots s → IfSome (gives f found) (LiesWithin f.layout f.wanted)
-  slot_found_fits f s found sound search is =
-      subst (λ (p : FindStage). IfSome (gives_at f p found) (LiesWithin f.layout f.wanted)) (sym is) (slots_fit f s found search (subst (λ (p : FindStage). IsStage f.layout f.wanted p) is sound.stage) sound.cached)
+  pub slot_fits_heap : (f : Finding) (s : slots.Searching) (found : ℕ) → Sound f → slots_sound.Sound s → f.stage ≡ Slots s → (out : Option ℕ) → slots.gives s found ≡ Some out →
+      IfSome out (λ _. LiesWithin f.layout f.wanted (At (word_at_cursor f.wanted (move_cursor (slots.goes s found).span.cursor f.cached))))
+  slot_fits_heap f s found sound search is =
+      look_fits f s s.stage found search.span search.stage (subst (λ (p : FindStage). IsStage f.layout f.wanted p) is sound.stage) sound.cached

@@ -7,7 +7,7 @@ use Rattle.gh_central.specs.declared.reclaim.ReclaimStage.{ReclaimStage}
 use Rattle.gh_central.specs.declared.reclaim.ReclaimStage.TheVariants as reclaim_stage
 use Rattle.gh_alloc.specs.declared.search.SearchStage.{SearchStage}
 use Rattle.gh_alloc.specs.declared.search.SearchStage.TheVariants.{First, Free, Second}
-use Rattle.gh_alloc.specs.Vocabulary.{FindStage, Slots, Lock, Ended}
+use Rattle.gh_alloc.specs.Vocabulary.{FindStage, Unlock}
 use Rattle.gh_alloc.specs.Find.{Finding}
 use Rattle.gh_alloc.specs.Find as find
 use Rattle.gh_alloc.specs.Locking.{holds, lock_after}
@@ -23,14 +23,13 @@ pub reclaim_asks : (r : Reclaiming) (p : ReclaimStage) (held : Bool) (w : ℕ) �
 reclaim_asks r (reclaim_stage.Look page) held w = refl
 reclaim_asks r _ held w = refl
 
-refusing_with : (p : FindStage) → find.refuses_at p ≡ true → has_lock p ≡ true
-refusing_with (Slots s) e = absurd (cc)
-refusing_with Lock e = absurd (cc)
-refusing_with Ended e = absurd (cc)
-refusing_with _ e = refl
+-- where it has found none it has the lock
+pub none_with : (p : FindStage) → find.finds_none_at p ≡ true → has_lock p ≡ true
+none_with (Unlock after) e = refl
+none_with _ e = absurd (cc)
 
-first_with : (g : Finding) (b : Bool) → find.refuses g ≡ b → has_lock g.stage ≡ has_lock_at g.stage (cond b (Free (reclaiming g)) First)
-first_with g true e = refusing_with g.stage e
+first_with : (g : Finding) (b : Bool) → find.finds_none g ≡ b → has_lock g.stage ≡ has_lock_at g.stage (cond b (Free (reclaiming g)) First)
+first_with g true e = none_with g.stage e
 first_with g false e = refl
 
 second_with : (g : Finding) (b : Bool) → has_lock g.stage ≡ has_lock_at g.stage (cond b First Second)
@@ -42,7 +41,7 @@ free_with f r None = refl
 free_with f r (Some x) = sym (finding.spans_with f f.wanted)
 
 step : (f : Finding) (p : SearchStage) (w : ℕ) → lock_after (has_lock_at f.stage p) (asks_at f p) w ≡ has_lock_at (goes_at f p w).find.stage (goes_at f p w).stage
-step f First w = finding.step f f.stage w ∙ first_with (find.goes f w) (find.refuses (find.goes f w)) refl
+step f First w = finding.step f f.stage w ∙ first_with (find.goes f w) (find.finds_none (find.goes f w)) refl
 step f (Free r) w = reclaim_asks r r.stage true w ∙ free_with f (reclaim.goes r w) (reclaim.gives r w)
 step f Second w = finding.step f f.stage w ∙ second_with (find.goes f w) (frees_at f.stage)
 

@@ -1,5 +1,5 @@
 -- A routine that a search runs, from its first step on.
-use Rattle.std.proofs.Common.{◌≡◌, ℕ, suc, ◌+◌, ◌<◌, ◌≤◌, inl, inr, Some, sym, ap, subst, ◌∙◌, arith}
+use Rattle.std.proofs.Common.{◌≡◌, ℕ, suc, ◌+◌, ◌<◌, ◌≤◌, true, inl, inr, Some, sym, ap, subst, ◌∙◌, arith}
 use Rattle.std.proofs.lemmas.Bool.{cases_order}
 use Rattle.gh_base.specs.declared.cell.Ask.{Ask}
 use Rattle.gh_base.specs.Routines.{Listing, told}
@@ -10,15 +10,16 @@ module _ (asks : ℕ → Ask) (found : ℕ → ℕ) {M Out : Type 0} (r : Listin
   abbrev At : (first n : ℕ) → M
   At first n = told r m (since found first) n
 
-  -- before step n it has taken the steps from the first one on, and is this
+  -- before step n it has taken the steps from the first one on, is this, and asks for a step
   pub record Running (first n : ℕ) (x : M) : Type 0 where
     pub steps : ℕ
     pub here : first + steps ≡ n
     pub is : x ≡ At first steps
+    pub busy : r.busy x ≡ true
     pub asked : (k : ℕ) → k < steps → asks (first + k) ≡ r.asks (At first k)
 
-  pub begins : (n : ℕ) (x : M) → x ≡ m → Running n n x
-  begins n x e = record { steps = 0; here = omega arith; is = e; asked = λ k low. absurd (omega arith) }
+  pub begins : (n : ℕ) (x : M) → x ≡ m → r.busy x ≡ true → Running n n x
+  begins n x e busy = record { steps = 0; here = omega arith; is = e; busy = busy; asked = λ k low. absurd (omega arith) }
 
   module _ (first n : ℕ) (x : M) (run : Running first n x) (a : asks n ≡ r.asks x) where
     now_asked : asks (first + run.steps) ≡ r.asks (At first run.steps)
@@ -31,11 +32,12 @@ module _ (asks : ℕ → Ask) (found : ℕ → ℕ) {M Out : Type 0} (r : Listin
       | inr (inr high) ↦ absurd (omega arith)
     ]
 
-    pub goes_on : Running first (suc n) (r.goes x (found n))
-    goes_on = record {
+    pub goes_on : r.busy (r.goes x (found n)) ≡ true → Running first (suc n) (r.goes x (found n))
+    goes_on busy = record {
       steps = suc run.steps;
       here = let h = run.here in omega arith;
       is = ap (λ (y : M). r.goes y (found n)) run.is ∙ ap (λ (j : ℕ). r.goes (At first run.steps) (found j)) (sym run.here);
+      busy = busy;
       asked = λ k low. asked_to k (omega arith);
     }
 
@@ -44,5 +46,6 @@ module _ (asks : ℕ → Ask) (found : ℕ → ℕ) {M Out : Type 0} (r : Listin
       steps = run.steps;
       is_last = run.here;
       asked = asked_to;
+      busy = ap r.busy (sym run.is) ∙ run.busy;
       gives = ap (λ (j : ℕ). r.gives (At first run.steps) (found j)) run.here ∙ sym (ap (λ (y : M). r.gives y (found n)) run.is) ∙ g;
     }

@@ -1,5 +1,5 @@
 -- The search where a collector runs says that there is no room only where it has found none twice, and freed empty spans between.
-use Rattle.std.proofs.Common.{◌≡◌, ℕ, zero, suc, ◌+◌, ◌<◌, ◌≤◌, ◌⊎◌, inl, inr, Bool, true, false, cond, nat_eq, Option, Some, None, refl, sym, ap, subst, ◌∙◌, arith, eqb-true}
+use Rattle.std.proofs.Common.{◌≡◌, ℕ, zero, suc, ◌+◌, ◌<◌, ◌≤◌, ◌⊎◌, inl, inr, Bool, true, false, cond, nat_eq, Option, Some, None, is_none, refl, sym, ap, subst, ◌∙◌, arith, eqb-true}
 use Rattle.std.proofs.lemmas.Bool.{cases_order}
 use Rattle.gh_base.specs.declared.cell.Ask.{Ask}
 use Rattle.gh_base.specs.declared.cell.Ask.TheVariants.{Store, Swap}
@@ -13,28 +13,25 @@ use Rattle.gh_pages.specs.Listing as carve
 use Rattle.gh_alloc.specs.Find as find
 use Rattle.gh_alloc.specs.Rounds.{FindsNone, Follows as FollowsLock, FreesSpans, GivesBack, HasFoundNoneTwice, Passed}
 use Rattle.gh_alloc.specs.Search.{asks, listing, opening}
-use Rattle.gh_alloc.proofs.Vocabulary.{after_carve, after_first, after_free, after_give, after_pass, Again, again, asks_at, At, at_stage, CachedSpan, Carve, carving, End, Ended, EndsWith, Finding, FindStage, First, Free, frees_at, Give, given_head, gives_at, GiveStage, goes_at, head_word, holds, Large, Layout, Lock, locked_for, NoRoom, Pass, Reclaiming, reclaiming, refuses_at, searched, SearchStage, Second, Seeking, Slots, Small, Sought, span_for, SpanClass, spans_for, taken_for, told, Unlock, unlocked}
+use Rattle.gh_alloc.proofs.Vocabulary.{after_carve, after_first, after_free, after_pass, Again, again, asks_at, At, at_stage, CachedSpan, Carve, carving, End, Ended, EndsWith, Finding, finds_none_at, FindStage, First, Free, frees_at, Give, given_head, goes_at, GoesOn, head_word, holds, Large, Layout, Lock, locked_for, NoRoom, Pass, Reclaiming, reclaiming, refuses_at, searched, SearchStage, Second, Seeking, Slots, Small, Sought, span_for, SpanClass, spans_for, taken_for, told, Unlock, unlocked}
 use Rattle.gh_alloc.proofs.Finding.Locking.{has_lock}
 use Rattle.gh_alloc.proofs.Finding.Locking as finding
-use Rattle.gh_alloc.proofs.Finding.Refusing.{Base, base, giver_refuses, goes_base}
+use Rattle.gh_alloc.specs.Search as search
+use Rattle.gh_alloc.specs.Stays.{Base, base, goes_base, search_base}
 use Rattle.gh_alloc.proofs.Seeking.Locking.{has_lock_at, held_is}
 use Rattle.gh_alloc.proofs.Seeking.Parts.{Running, begins, ends_with, goes_on}
+use Rattle.gh_alloc.proofs.Seeking.Refusing.{search_refuses}
 
--- what stays
-free_base : (f : Finding) (r : Reclaiming) (out : Option (Unit {0})) → base (after_free f r out).find ≡ base f
-free_base f r None = refl
-free_base f r (Some x) = refl
+without_none : (p : FindStage) → has_lock p ≡ false → finds_none_at p ≡ false
+without_none (Unlock after) h = absurd (cc)
+without_none _ h = refl
 
-search_base : (f : Finding) (p : SearchStage) (w : ℕ) → base (goes_at f p w).find ≡ base f
-search_base f First w = goes_base f f.stage w
-search_base f (Free r) w = free_base f (reclaim.goes r w) (reclaim.gives r w)
-search_base f Second w = goes_base f f.stage w
+-- it is about to free the lock, where it has not ended
+refuses_yet : (p : FindStage) → refuses_at p ≡ true → find.is_busy p ≡ true → finds_none_at p ≡ true
+refuses_yet (Unlock (End NoRoom)) h busy = refl
+refuses_yet _ h busy = absurd (cc)
 
-without_refuses : (p : FindStage) → has_lock p ≡ false → refuses_at p ≡ false
-without_refuses (Unlock after) h = absurd (cc)
-without_refuses _ h = refl
-
-refusing_asks : (f : Finding) (p : FindStage) → refuses_at p ≡ true → find.asks_at f p ≡ Store cell.Lock 0
+refusing_asks : (f : Finding) (p : FindStage) → finds_none_at p ≡ true → find.asks_at f p ≡ Store cell.Lock 0
 refusing_asks f (Unlock after) h = refl
 refusing_asks f _ h = absurd (cc)
 
@@ -91,7 +88,7 @@ module _ (s : Seeking) (found : ℕ → ℕ) where
     carve_opens g e = ap (λ (b : Base). carve.opening b.layout b.seat b.generation (span_for b.wanted)) e
 
     carve_round_begins : (n : ℕ) (g : Finding) → base g ≡ base s.find → (first : ℕ) → Before first → Passed asked found s.find.layout s.find.seat s.find.generation s.find.wanted first n → Round n (carving g)
-    carve_round_begins n g e first before passed = record { first = first; before = before; from = n; passed = passed; runs = begins asked found carve.listing _ n (carve.opening g.layout g.seat g.generation (span_for g.wanted)) (carve_opens g e) }
+    carve_round_begins n g e first before passed = record { first = first; before = before; from = n; passed = passed; runs = begins asked found carve.listing _ n (carve.opening g.layout g.seat g.generation (span_for g.wanted)) (carve_opens g e) refl }
 
     round_begins : (n : ℕ) (g : Finding) (w : Sought) → base g ≡ base s.find → g.wanted ≡ w → Before n → Round n (spans_for g w)
     round_begins n g (Small c) e is before = record {
@@ -99,7 +96,7 @@ module _ (s : Seeking) (found : ℕ → ℕ) where
       small = sym (wanted_is g e) ∙ is;
       first = n;
       before = before;
-      runs = begins asked found pass.listing _ n (pass.opening g.layout g.seat g.generation c) (ap (λ (b : Base). pass.opening b.layout b.seat b.generation c) e);
+      runs = begins asked found pass.listing _ n (pass.opening g.layout g.seat g.generation c) (ap (λ (b : Base). pass.opening b.layout b.seat b.generation c) e) refl;
     }
     round_begins n g (Large pages noscan) e is before =
         carve_round_begins n g e n before (subst (λ (w : Sought). Passed asked found s.find.layout s.find.seat s.find.generation w n n) (sym is ∙ wanted_is g e) refl)
@@ -113,7 +110,7 @@ module _ (s : Seeking) (found : ℕ → ℕ) where
     passes_on : (n : ℕ) (f : Finding) → base f ≡ base s.find → (x : pass.Pass) → PassRuns n x → asked n ≡ pass.asks x → Round (suc n) (find.goes_at f (Pass x) (found n)).stage
     passes_on n f e x k a = by (pass.gives x (found n)) refl where
       by : (out : Option (Option ℕ)) → pass.gives x (found n) ≡ out → Round (suc n) (after_pass (pass_on n f x) out).stage
-      by None g = record { class = k.class; small = k.small; first = k.first; before = k.before; runs = goes_on asked found pass.listing _ k.first n x k.runs a }
+      by None g = record { class = k.class; small = k.small; first = k.first; before = k.before; runs = goes_on asked found pass.listing _ k.first n x k.runs a (ap is_none g) }
       by (Some None) g = carve_round_begins (suc n) (pass_on n f x) e k.first k.before
           (subst (λ (w : Sought). Passed asked found s.find.layout s.find.seat s.find.generation w k.first (suc n)) (sym k.small) (n, ends_with asked found pass.listing _ k.first n x k.runs a None g, omega arith))
       by (Some (Some page)) g = taken_round (suc n) (pass_on n f x) f.wanted page
@@ -121,7 +118,7 @@ module _ (s : Seeking) (found : ℕ → ℕ) where
     carves_on : (n : ℕ) (f : Finding) (x : carve.Carving) → CarveRuns n x → asked n ≡ carve.asks x → Round (suc n) (find.goes_at f (Carve x) (found n)).stage
     carves_on n f x k a = by (carve.gives x (found n)) refl where
       by : (out : Option (Option ℕ)) → carve.gives x (found n) ≡ out → Round (suc n) (after_carve (carve_on n f x) out).stage
-      by None g = record { first = k.first; before = k.before; from = k.from; passed = k.passed; runs = goes_on asked found carve.listing _ k.from n x k.runs a }
+      by None g = record { first = k.first; before = k.before; from = k.from; passed = k.passed; runs = goes_on asked found carve.listing _ k.from n x k.runs a (ap is_none g) }
       by (Some None) g = record { first = k.first; before = k.before; last = n; none = record { from = k.from; passed = k.passed; none = ends_with asked found carve.listing _ k.from n x k.runs a None g }; next = omega arith }
       by (Some (Some page)) g = taken_round (suc n) (carve_on n f x) f.wanted page
 
@@ -131,7 +128,7 @@ module _ (s : Seeking) (found : ℕ → ℕ) where
     round_with n (Unlock after) k = refl
     round_with n _ k = absurd k
 
-    refused : (n : ℕ) (p : FindStage) → refuses_at p ≡ true → Round n p → RoundEnds n
+    refused : (n : ℕ) (p : FindStage) → finds_none_at p ≡ true → Round n p → RoundEnds n
     refused n (Pass x) h k = absurd (cc)
     refused n (Carve x) h k = absurd (cc)
     refused n (Unlock Again) h k = absurd (cc)
@@ -186,7 +183,7 @@ module _ (s : Seeking) (found : ℕ → ℕ) where
   first_with : (lock n : ℕ) (p : FindStage) → WithFirst lock n p → has_lock p ≡ true
   first_with lock n (Slots x) k = absurd k
   first_with lock n Lock k = absurd k
-  first_with lock n Ended k = absurd k
+  first_with lock n (Ended out) k = absurd k
   first_with lock n _ k = refl
 
   has_with : (lock n : ℕ) (p : FindStage) (q : SearchStage) → WithLock lock n p q → has_lock_at p q ≡ true
@@ -208,14 +205,14 @@ module _ (s : Seeking) (found : ℕ → ℕ) where
   Tracks n = Unlocked n ⊎ Locked n
 
   -- a round that was the first leads to the freeing
-  leads_on : (lock n : ℕ) (g : Finding) → base g ≡ base s.find → (p : FindStage) → Round (Follows lock) n p → WithLock lock n p (cond (refuses_at p) (Free (reclaiming g)) First)
+  leads_on : (lock n : ℕ) (g : Finding) → base g ≡ base s.find → (p : FindStage) → Round (Follows lock) n p → WithLock lock n p (cond (finds_none_at p) (Free (reclaiming g)) First)
   leads_on lock n g e (Pass x) k = k
   leads_on lock n g e (Carve x) k = k
   leads_on lock n g e (Unlock Again) k = tt
   leads_on lock n g e (Unlock (End (At x))) k = tt
   leads_on lock n g e (Unlock (End NoRoom)) k = record {
     past = record { first = k.first; follows = k.before; last = k.last; none = k.none };
-    runs = subst (λ (j : ℕ). Running asked found reclaim.listing (reclaim.opening s.find.layout s.find.generation) j n (reclaiming g)) (sym k.next) (begins asked found reclaim.listing _ n (reclaiming g) (ap (λ (b : Base). reclaim.opening b.layout b.generation) e));
+    runs = subst (λ (j : ℕ). Running asked found reclaim.listing (reclaim.opening s.find.layout s.find.generation) j n (reclaiming g)) (sym k.next) (begins asked found reclaim.listing _ n (reclaiming g) (ap (λ (b : Base). reclaim.opening b.layout b.generation) e) refl);
   }
   leads_on lock n g e _ k = absurd k
 
@@ -243,7 +240,7 @@ module _ (s : Seeking) (found : ℕ → ℕ) where
   unlocks n g e h = inl (ap (λ (z : Seeking). z.stage) e, ap (λ (z : Seeking). has_lock z.find.stage) e ∙ h)
 
   unlocks_first : (n : ℕ) (g : Finding) → now (suc n) ≡ record { find = g; stage = after_first g } → has_lock g.stage ≡ false → Tracks (suc n)
-  unlocks_first n g e h = unlocks n g (e ∙ ap (λ (b : Bool). record { find = g; stage = cond b (Free (reclaiming g)) First }) (without_refuses g.stage h)) h
+  unlocks_first n g e h = unlocks n g (e ∙ ap (λ (b : Bool). record { find = g; stage = cond b (Free (reclaiming g)) First }) (without_none g.stage h)) h
 
   module _ (start : has_lock_at s.find.stage s.stage ≡ false) where
     -- it has the lock then, and had it since
@@ -290,7 +287,7 @@ module _ (s : Seeking) (found : ℕ → ℕ) where
     without_step : (n : ℕ) (p : FindStage) → (now n).stage ≡ First → (now n).find.stage ≡ p → has_lock p ≡ false → Tracks (suc n)
     without_step n (Slots x) e at h = unlocks_first n (find.goes_at (now n).find (Slots x) (found n)) (first_is n (Slots x) e at) (finding.slots_without (searched (now n).find (slots.goes x (found n))) (slots.gives x (found n)) refl)
     without_step n Lock e at h = lock_step n e at
-    without_step n Ended e at h = unlocks_first n (at_stage (now n).find Ended) (first_is n Ended e at) refl
+    without_step n (Ended out) e at h = unlocks_first n (at_stage (now n).find (Ended out)) (first_is n (Ended out) e at) refl
     without_step n _ e at h = absurd (cc)
 
     module _ (n : ℕ) (t : Locked n) where
@@ -304,10 +301,7 @@ module _ (s : Seeking) (found : ℕ → ℕ) where
       given_on x = record (give_on x) { cached = None; stage = spans_for (give_on x) (give_on x).wanted }
 
       give_step : (x : give.Giving) → (now n).stage ≡ First → (now n).find.stage ≡ Give x → GiveRuns t.lock n x → Tracks (suc n)
-      give_step x e at k = goes_to (first_to n (Give x)) (first_is n (Give x) e at) (subst (λ (z : Finding). WithLock t.lock (suc n) z.stage (after_first z)) (sym written) begun) where
-        written : find.goes_at (now n).find (Give x) (found n) ≡ (given_on x)
-        written = ap (λ (p : GiveStage). after_give (give_on x) (give.gives_at p)) k.writes
-
+      give_step x e at k = goes_to (first_to n (Give x)) (first_is n (Give x) e at) begun where
         given_back : GivesBack asked found s.find.layout s.find.seat s.find.generation s.find.wanted (t.lock + 1)
         given_back = record { class = k.class; small = k.small; page = k.page; store = ap asked k.follows ∙ first_asks n (Give x) e at ∙ k.store }
 
@@ -321,7 +315,7 @@ module _ (s : Seeking) (found : ℕ → ℕ) where
       first_step (Carve x) e at k = goes_to (first_to n (Carve x)) (first_is n (Carve x) e at)
           (leads_on t.lock (suc n) (find.goes_at (now n).find (Carve x) (found n)) (goes_base (now n).find (Carve x) (found n) ∙ base_is n) (find.goes_at (now n).find (Carve x) (found n)).stage (carves_on (Follows t.lock) n (now n).find x k (first_asks n (Carve x) e at)))
       first_step (Unlock Again) e at k = unlocks_first n (at_stage (now n).find (unlocked (now n).find Again)) (first_is n (Unlock Again) e at) (finding.unlocked_without (now n).find Again)
-      first_step (Unlock (End (At x))) e at k = unlocks_first n (at_stage (now n).find Ended) (first_is n (Unlock (End (At x))) e at) refl
+      first_step (Unlock (End (At x))) e at k = unlocks_first n (at_stage (now n).find (Ended (At x))) (first_is n (Unlock (End (At x))) e at) refl
       first_step _ e at k = absurd k
 
       free_step : (r : Reclaiming) → (now n).stage ≡ Free r → FreeRuns t.lock n r → Tracks (suc n)
@@ -337,7 +331,7 @@ module _ (s : Seeking) (found : ℕ → ℕ) where
 
         by : (out : Option (Unit {0})) → reclaim.gives r (found n) ≡ out → Tracks (suc n)
         by None g = goes_to (record { find = (now n).find; stage = Free (reclaim.goes r (found n)) }) (next ∙ ap (after_free (now n).find (reclaim.goes r (found n))) g)
-            (record { past = k.past; runs = goes_on asked found reclaim.listing _ (k.past.last + 1) n r k.runs a })
+            (record { past = k.past; runs = goes_on asked found reclaim.listing _ (k.past.last + 1) n r k.runs a (ap is_none g) })
         by (Some x) g = goes_to (record { find = again (now n).find; stage = Second }) (next ∙ ap (after_free (now n).find (reclaim.goes r (found n))) g)
             (round_begins (HasFreed t.lock) (suc n) (now n).find (now n).find.wanted (base_is n) refl (has_freed g))
 
@@ -359,11 +353,11 @@ module _ (s : Seeking) (found : ℕ → ℕ) where
       | inr t ↦ with_step n t (now n).stage refl t.known
     ]
 
-    never_first : (lock n : ℕ) (p : FindStage) → refuses_at p ≡ true → WithFirst lock n p → ⊥
+    never_first : (lock n : ℕ) (p : FindStage) → finds_none_at p ≡ true → WithFirst lock n p → ⊥
     never_first lock n (Slots x) h k = k
     never_first lock n Lock h k = k
     never_first lock n (Unlock (End NoRoom)) h k = k
-    never_first lock n Ended h k = k
+    never_first lock n (Ended out) h k = k
     never_first lock n _ h k = cc
 
     abbrev Refuses : ℕ → Type 0
@@ -387,21 +381,25 @@ module _ (s : Seeking) (found : ℕ → ℕ) where
       held = t.held;
     }
 
-    with_no_room : (n : ℕ) (t : Locked n) (q : SearchStage) → (now n).stage ≡ q → WithLock t.lock n (now n).find.stage q → gives_at (now n).find q (found n) ≡ Some NoRoom → Refuses n
-    with_no_room n t First e k g = absurd (never_first t.lock n (now n).find.stage (giver_refuses (now n).find (now n).find.stage (found n) g) k)
-    with_no_room n t (Free r) e k g = absurd (cc)
-    with_no_room n t Second e k g =
-        let h : refuses_at (now n).find.stage ≡ true = giver_refuses (now n).find (now n).find.stage (found n) g in
-        ended_twice n t (second_asks n (now n).find.stage e refl ∙ refusing_asks (now n).find (now n).find.stage h) (refused (HasFreed t.lock) n (now n).find.stage h k)
+    with_no_room : (n : ℕ) (t : Locked n) (q : SearchStage) → (now n).stage ≡ q → WithLock t.lock n (now n).find.stage q → search.refuses_at (now n).find q ≡ true → search.is_busy (now n).find q ≡ true → Refuses n
+    with_no_room n t First e k h busy = absurd (never_first t.lock n (now n).find.stage (refuses_yet (now n).find.stage h busy) k)
+    with_no_room n t (Free r) e k h busy = absurd (cc)
+    with_no_room n t Second e k h busy =
+        let none : finds_none_at (now n).find.stage ≡ true = refuses_yet (now n).find.stage h busy in
+        ended_twice n t (second_asks n (now n).find.stage e refl ∙ refusing_asks (now n).find (now n).find.stage none) (refused (HasFreed t.lock) n (now n).find.stage none k)
 
-    no_room : s.stage ≡ First → (n : ℕ) → EndsWith listing s found n NoRoom → Refuses n
-    no_room opens n g = elim (tracks opens n) [
-      | inl u ↦
-          let h : refuses_at (now n).find.stage ≡ true = giver_refuses (now n).find (now n).find.stage (found n) (sym (ap (λ (q : SearchStage). gives_at (now n).find q (found n)) u.0) ∙ g) in
-          let f : refuses_at (now n).find.stage ≡ false = without_refuses (now n).find.stage u.1 in absurd (cc)
-      | inr t ↦ with_no_room n t (now n).stage refl t.known g
-    ]
+    no_room : s.stage ≡ First → (n : ℕ) → GoesOn listing s found n → EndsWith listing s found n NoRoom → Refuses n
+    no_room opens n busy g =
+        let h : search.refuses_at (now n).find (now n).stage ≡ true = search_refuses (now n).find (now n).stage (found n) g in
+        elim (tracks opens n) [
+          | inl u ↦
+              let yet : find.is_busy (now n).find.stage ≡ true = sym (ap (search.is_busy (now n).find) u.0) ∙ busy in
+              let refuses : refuses_at (now n).find.stage ≡ true = sym (ap (search.refuses_at (now n).find) u.0) ∙ h in
+              let none : finds_none_at (now n).find.stage ≡ true = refuses_yet (now n).find.stage refuses yet in
+              let some : finds_none_at (now n).find.stage ≡ false = without_none (now n).find.stage u.1 in absurd (cc)
+          | inr t ↦ with_no_room n t (now n).stage refl t.known h busy
+        ]
 
 pub no_room_is_true : (l : Layout) (seat generation : ℕ) (wanted : Sought) (cached : Option CachedSpan) (found : ℕ → ℕ) (n : ℕ) →
-    EndsWith listing (opening l seat generation wanted cached) found n NoRoom → HasFoundNoneTwice (opening l seat generation wanted cached) found l seat generation wanted n
-no_room_is_true l seat generation wanted cached found n g = no_room (opening l seat generation wanted cached) found (finding.begin_without l wanted cached) refl n g
+    GoesOn listing (opening l seat generation wanted cached) found n → EndsWith listing (opening l seat generation wanted cached) found n NoRoom → HasFoundNoneTwice (opening l seat generation wanted cached) found l seat generation wanted n
+no_room_is_true l seat generation wanted cached found n busy g = no_room (opening l seat generation wanted cached) found (finding.begin_without l wanted cached) refl n busy g

@@ -4,9 +4,9 @@ use Rattle.gh_base.specs.declared.cell.Cell.TheVariants.{Page, Alloc}
 use Rattle.gh_base.specs.declared.cell.Ask.{Ask}
 use Rattle.gh_base.specs.declared.cell.Ask.TheVariants.{Load}
 use Rattle.gh_base.specs.declared.pack.PageWord.TheVariants.{Free, Head, Body}
-use Rattle.gh_base.specs.Routines.{EndsWith, told}
+use Rattle.gh_base.specs.Routines.{EndsWith, GoesOn, told}
 use Rattle.gh_central.specs.Passing.{IsBits, IsFull, IsHead, IsMet, IsTold, IsWanted, LacksAt, Passes, Takes, TakesTheFirst}
-use Rattle.gh_central.proofs.Vocabulary.{after_page, alloc_word, asks, at_stage, beq, Bits, cases_lt, cases_order, Ended, gives, goes, goes_at, is_busy, is_small, is_wanted, lacks_at, Large, listing, Look, look_from, nat_tests, page_of, pages_gone, PageWord, Pass, PassStage, SizeClass, slot_words_of, slots_of, Small, SpanHead, Take}
+use Rattle.gh_central.proofs.Vocabulary.{after_page, alloc_word, asks, at_stage, beq, Bits, cases_lt, cases_order, Ended, given_at, gives, goes, goes_at, is_busy, is_small, is_wanted, lacks_at, Large, listing, Look, look_from, nat_tests, page_of, pages_gone, PageWord, Pass, PassStage, SizeClass, slot_words_of, slots_of, Small, SpanHead, Take}
 use Rattle.gh_central.proofs.Lacking.{lacks_is, lacks_means}
 use Rattle.gh_central.proofs.Passing.Walking.{some_gone, some_pages}
 
@@ -128,11 +128,12 @@ module _ (m : Pass) (found : ℕ → ℕ) where
   Arrives n (Look page) = Looks n page
   Arrives n (Bits page h i) = Checks n page h i
   Arrives n (Take page h) = Lacks n page h
-  Arrives n Ended = Passes m found n m.layout.pages
+  Arrives n (Ended None) = Passes m found n m.layout.pages
+  Arrives n (Ended (Some page)) = ⊥
 
   from_arrives : (n page : ℕ) → Passes m found n page → Below n page → Arrives n (look_from m page)
   from_arrives n page p b = go (ltb page m.layout.pages) refl where
-    go : (more : Bool) → ltb page m.layout.pages ≡ more → Arrives n (cond more (Look page) Ended)
+    go : (more : Bool) → ltb page m.layout.pages ≡ more → Arrives n (cond more (Look page) (Ended None))
     go true e = record { passes = p; below = b }
     go false e = passes_to n page m.layout.pages p (grind (arith, nat_tests))
 
@@ -296,13 +297,13 @@ module _ (m : Pass) (found : ℕ → ℕ) where
   -- The stage after any number of steps.
 
   abbrev IsAt : ℕ → PassStage → Type 0
-  IsAt n Ended = Unit {0}
+  IsAt n (Ended taken) = Unit {0}
   IsAt n (Look page) = Looks n page
   IsAt n (Bits page h i) = Checks n page h i
   IsAt n (Take page h) = Lacks n page h
 
   arrived : (n : ℕ) (p : PassStage) → Arrives n p → IsAt n p
-  arrived n Ended k = tt
+  arrived n (Ended taken) k = tt
   arrived n _ k = k
 
   abbrev Stands : ℕ → Type 0
@@ -314,8 +315,8 @@ module _ (m : Pass) (found : ℕ → ℕ) where
   next : (n : ℕ) → Stands n → Stands (suc n)
   next n (Look page, e, k) = (goes_at m (Look page) (found n), goes_now n (Look page) e, arrived (suc n) (goes_at m (Look page) (found n)) (look_arrives n page (ap asks e) k))
   next n (Bits page h i, e, k) = (goes_at m (Bits page h i) (found n), goes_now n (Bits page h i) e, arrived (suc n) (goes_at m (Bits page h i) (found n)) (bits_arrives n page h i (ap asks e) k))
-  next n (Take page h, e, k) = (Ended, goes_now n (Take page h) e, tt)
-  next n (Ended, e, k) = (Ended, goes_now n Ended e, tt)
+  next n (Take page h, e, k) = (Ended (Some page), goes_now n (Take page h) e, tt)
+  next n (Ended taken, e, k) = (Ended taken, goes_now n (Ended taken) e, tt)
 
   none_told : (ask : Ask) (word : ℕ) → ¬ Told 0 ask word
   none_told ask word t = absurd (let low = t.1 in omega arith)
@@ -326,32 +327,36 @@ module _ (m : Pass) (found : ℕ → ℕ) where
 
   -- What it gives.
 
-  none_given : (n : ℕ) (q : PassStage) → Arrives n q → cond {A = Option (Option ℕ)} (is_busy q) None (Some None) ≡ Some None → Passes m found n m.layout.pages
-  none_given n Ended k e = k
+  none_given : (n : ℕ) (q : PassStage) → Arrives n q → given_at q ≡ Some None → Passes m found n m.layout.pages
+  none_given n (Ended None) k e = k
+  none_given n (Ended (Some page)) k e = absurd k
   none_given n _ k e = absurd (cc)
 
-  no_page_given : (q : PassStage) (page : ℕ) → cond (is_busy q) None (Some None) ≢ Some (Some page)
-  no_page_given q page = go (is_busy q) where
-    go : (b : Bool) → cond b None (Some None) ≢ Some (Some page)
-    go true e = absurd (cc)
-    go false e = absurd (cc)
+  no_page_given : (n : ℕ) (q : PassStage) (page : ℕ) → Arrives n q → given_at q ≢ Some (Some page)
+  no_page_given n (Ended None) page k e = absurd (cc)
+  no_page_given n (Ended (Some other)) page k e = absurd k
+  no_page_given n _ page k e = absurd (cc)
+
+  -- it has ended before this step
+  over : (n : ℕ) (taken : Option ℕ) → told listing m found n ≡ at_stage m (Ended taken) → ¬ GoesOn listing m found n
+  over n taken e busy = let f : false ≡ true = sym (ap (λ (x : Pass). is_busy x.stage) e) ∙ busy in absurd (cc)
 
   gives_at : (n : ℕ) (p : PassStage) (out : Option ℕ) → told listing m found n ≡ at_stage m p → EndsWith listing m found n out → gives (at_stage m p) (found n) ≡ Some out
   gives_at n p out e g = sym (ap (λ (x : Pass). gives x (found n)) e) ∙ g
 
-  some_takes : (n page : ℕ) → Stands n → EndsWith listing m found n (Some page) → Takes m found n page
-  some_takes n page (Look q, e, k) g = absurd (no_page_given (goes_at m (Look q) (found n)) page (gives_at n (Look q) (Some page) e g))
-  some_takes n page (Bits q h i, e, k) g = absurd (no_page_given (goes_at m (Bits q h i) (found n)) page (gives_at n (Bits q h i) (Some page) e g))
-  some_takes n page (Take q h, e, k) g =
+  some_takes : (n page : ℕ) → Stands n → GoesOn listing m found n → EndsWith listing m found n (Some page) → Takes m found n page
+  some_takes n page (Look q, e, k) busy g = absurd (no_page_given (suc n) (goes_at m (Look q) (found n)) page (look_arrives n q (ap asks e) k) (gives_at n (Look q) (Some page) e g))
+  some_takes n page (Bits q h i, e, k) busy g = absurd (no_page_given (suc n) (goes_at m (Bits q h i) (found n)) page (bits_arrives n q h i (ap asks e) k) (gives_at n (Bits q h i) (Some page) e g))
+  some_takes n page (Take q h, e, k) busy g =
       let same : q ≡ page = let f = gives_at n (Take q h) (Some page) e g in cc in
       subst (Takes m found n) same (record { head = h; stands = k.stands; wanted = k.wanted; lacks = k.lacks; first = k.first; last = k.last; store = ap asks e })
-  some_takes n page (Ended, e, k) g = let f = gives_at n Ended (Some page) e g in absurd (cc)
+  some_takes n page (Ended taken, e, k) busy g = absurd (over n taken e busy)
 
-  none_passes : (n : ℕ) → Stands n → EndsWith listing m found n None → Passes m found (suc n) m.layout.pages
-  none_passes n (Look q, e, k) g = none_given (suc n) (goes_at m (Look q) (found n)) (look_arrives n q (ap asks e) k) (gives_at n (Look q) None e g)
-  none_passes n (Bits q h i, e, k) g = none_given (suc n) (goes_at m (Bits q h i) (found n)) (bits_arrives n q h i (ap asks e) k) (gives_at n (Bits q h i) None e g)
-  none_passes n (Take q h, e, k) g = let f = gives_at n (Take q h) None e g in absurd (cc)
-  none_passes n (Ended, e, k) g = let f = gives_at n Ended None e g in absurd (cc)
+  none_passes : (n : ℕ) → Stands n → GoesOn listing m found n → EndsWith listing m found n None → Passes m found (suc n) m.layout.pages
+  none_passes n (Look q, e, k) busy g = none_given (suc n) (goes_at m (Look q) (found n)) (look_arrives n q (ap asks e) k) (gives_at n (Look q) None e g)
+  none_passes n (Bits q h i, e, k) busy g = none_given (suc n) (goes_at m (Bits q h i) (found n)) (bits_arrives n q h i (ap asks e) k) (gives_at n (Bits q h i) None e g)
+  none_passes n (Take q h, e, k) busy g = let f = gives_at n (Take q h) None e g in absurd (cc)
+  none_passes n (Ended taken, e, k) busy g = absurd (over n taken e busy)
 
   pub takes_the_first : m ≡ at_stage m (Look 0) → (n : ℕ) → TakesTheFirst m found n
   takes_the_first opens n = record { some = λ page. some_takes n page (stands opens n); none = none_passes n (stands opens n) }

@@ -1,5 +1,5 @@
 -- What the pass knows of its own numbers stays, whatever it is told.
-use Rattle.std.proofs.Common.{◌≡◌, ℕ, ◌+◌, ◌*◌, ◌^◌, ◌<◌, Bool, true, false, cond, ltb, refl, sym, ap, subst, ◌∙◌, arith}
+use Rattle.std.proofs.Common.{◌≡◌, ℕ, ◌+◌, ◌*◌, ◌^◌, ◌<◌, Bool, true, false, cond, ltb, None, refl, sym, ap, subst, ◌∙◌, arith}
 use Rattle.std.proofs.lemmas.Bool.Decides.{nat_tests}
 use Rattle.gh_base.specs.declared.pack.SpanHead.{SpanHead}
 use Rattle.gh_base.specs.declared.pack.PageWord.{PageWord}
@@ -13,7 +13,7 @@ use Rattle.gh_central.specs.SweptPass.{Pass, after_bits, after_page, at_stage, g
 module _ (m : Pass) where
   from_kept : (page : ℕ) → IsStage m.layout (look_from m page)
   from_kept page = go (ltb page m.layout.pages) refl where
-    go : (b : Bool) → ltb page m.layout.pages ≡ b → IsStage m.layout (cond b (Look page) Ended)
+    go : (b : Bool) → ltb page m.layout.pages ≡ b → IsStage m.layout (cond b (Look page) (Ended None))
     go true e = grind (arith, nat_tests)
     go false e = tt
 
@@ -36,7 +36,7 @@ module _ (m : Pass) where
   stage_kept packed (Look page) found w h = page_kept page (page_of found) h (packed.page_reads found w)
   stage_kept packed (Bits page head i) found w h = bits_kept page head i found h.0 h.1
   stage_kept packed (Take page head) found w h = tt
-  stage_kept packed Ended found w h = tt
+  stage_kept packed (Ended taken) found w h = tt
 
 sound_kept : PackedWordsAreReadBack → (m : Pass) (found : ℕ) → found < 2 ^ 64 → Sound m → Sound (goes m found)
 sound_kept packed m found w h = record { seat = h.seat; generation = h.generation; class = h.class; stage = stage_kept m packed m.stage found w h.stage }

@@ -1,6 +1,6 @@
 -- A processor that holds no buffer, and does not know that marking is on, holds none behind its step; and an object that it then makes is not marked.
 use Rattle.std.specs.Prelude.{◌&&◌}
-use Rattle.std.proofs.Common.{◌≡◌, ◌≢◌, ℕ, ◌+◌, Bool, true, false, cond, eqb, ltb, List, [], ◌∷◌, drop, Option, Some, None, refl, subst}
+use Rattle.std.proofs.Common.{◌≡◌, ◌≢◌, ℕ, ◌+◌, Bool, true, false, cond, eqb, ltb, List, [], ◌∷◌, drop, Option, Some, None, refl, subst, sym}
 use Rattle.gh_base.specs.declared.value.Answer.TheVariants as answer
 use Rattle.gh_base.specs.declared.value.Fault.TheVariants as fault
 use Rattle.gh_base.specs.declared.value.Value.TheVariants as value
@@ -13,6 +13,7 @@ use Rattle.gh_phase.specs.declared.resume.ResumeStage.TheVariants as resume_stag
 use Rattle.gh_phase.specs.declared.view.RunPhase.TheVariants as run
 use Rattle.gh_phase.specs.Listing as resume
 use Rattle.gh_phase.specs.ResumePlaces as resumes
+use Rattle.gh_phase.specs.Stays.{phase_on}
 use Rattle.gh_mutator.specs.declared.give.GiveStage.TheVariants as give_stage
 use Rattle.gh_mutator.specs.declared.global.GlobalStage.TheVariants as global_stage
 use Rattle.gh_mutator.specs.declared.leave.LeaveStage.TheVariants as leave_stage
@@ -37,7 +38,7 @@ use Rattle.gh_mutator.specs.Step.{ends, goes_on}
 use Rattle.gh_mutator.specs.Store as store
 use Rattle.gh_mutator.specs.Vocabulary.{Load, Polling, Register, Store}
 use Rattle.gh_mutator.specs.Wait as wait
-use Rattle.gh_mutator.proofs.Vocabulary.{Global, GlobalStage, Local, StoreStage, after_gc, after_leave, after_poll, applied, At, cache_span, CachedSpan, Ends, follows, Found, GivesNoBuffer, GiveStage, GoesOn, Held, HoldsNoBuffer, IsNoBuffer, KnowsNoMarking, Layout, LeaveStage, LeavesWithNone, Leaving, leaving, MakesWithNone, NewStage, NoRoom, party_at, phase_of, Place, Placing, polls_at, PollStage, PollsWithNone, Processor, register_of, ResumeStage, run_phase, RunPhase, RunsWithNone, Search, Seeking, Shape, stage_at, Step, takes_at, taking, Task, Then, Value, Wait, Waiting, waits_at, WaitStage, WaitsWithNone, Wanted}
+use Rattle.gh_mutator.proofs.Vocabulary.{Global, GlobalStage, Local, StoreStage, after_gc, after_leave, after_poll, applied, At, cache_span, CachedSpan, Ends, follows, Found, GivesNoBuffer, GiveStage, GoesOn, Held, HoldsNoBuffer, IsNoBuffer, KnowsNoMarking, Layout, LeaveStage, LeavesWithNone, Leaving, leaving, MakesWithNone, NewStage, NoRoom, party_at, phase_of, Place, Placing, polls_at, PollStage, PollsWithNone, Processor, register_of, Resumed, ResumeStage, run_phase, RunPhase, RunsWithNone, Search, Seeking, Shape, stage_at, Step, takes_at, taking, Task, Then, Value, Wait, Waiting, waits_at, WaitStage, WaitsWithNone, Wanted}
 
 -- The giving back.
 first_none : (class : ℕ) (spans : List (Option CachedSpan)) → IsNoBuffer (give.first_of class spans)
@@ -85,8 +86,12 @@ phases_none : (p : Polling) (stops : ℕ) (phase : Option RunPhase) → p.local.
 phases_none p stops None off e = stops_none p (poll.giving p) stops e (opening_none p.layout p.seat p.local.view.generation p.local.cache p.local.held e)
 phases_none p stops (Some phase) off e = marks_none p p.local.view.phase off e
 
-resume_none : (p : Polling) (r : resume.Resuming) (q : ResumeStage) (found : ℕ) → p.local.held ≡ None → KnowsNoMarking (resumes.party_of r) (resumes.stands_at r.stops q) → PollHoldsNone (poll.after_resume p (resume.goes_at r q found) (resume.gives_at r q found))
+resume_none : (p : Polling) (r : resume.Resuming) (q : ResumeStage) (found : ℕ) → p.local.held ≡ None → KnowsNoMarking (resumes.party_of r) (resumes.stands_at r.stops q) → PollHoldsNone (poll.after_resume p (resume.goes_at r q found) (resume.given (resume.goes_at r q found)))
+resume_none p r resume_stage.LoadPhase found e off =
+    let to : resume.Resuming = resume.goes_at r resume_stage.LoadPhase found in
+    subst (λ (out : Option Resumed). PollHoldsNone (poll.after_resume p to out)) (sym (phase_on r (phase_of found).stops (run_phase (phase_of found).phase))) (e, tt)
 resume_none p r resume_stage.LoadBegun found e off = marks_none (poll.resumed p (resume.resumed r.view found)) r.view.phase off e
+resume_none p r (resume_stage.Ended another) found e off = marks_none (poll.resumed p (record { view = r.view; another_cycle = another })) r.view.phase off e
 resume_none p r _ found e off = (e, tt)
 
 poll_none : (p : Polling) (q : PollStage) (found : ℕ) → p.local.held ≡ None → PollsWithNone q → KnowsNoMarking (poller_at p q) (polls_at p q) → PollHoldsNone (poll.goes_at p q found)

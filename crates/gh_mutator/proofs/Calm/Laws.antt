@@ -28,7 +28,7 @@ knows_at party stops resume_stage.Acknowledge off = tt
 knows_at party stops resume_stage.LoadPhase off = tt
 knows_at party stops resume_stage.LoadGeneration off = off
 knows_at party stops resume_stage.LoadBegun off = off
-knows_at party stops resume_stage.Ended off = off
+knows_at party stops (resume_stage.Ended another) off = off
 
 knows : (party : Party) (stage : Stage) → party.view.phase ≢ run.Mark → KnowsNoMarking party stage
 knows party Awake off = off
@@ -57,7 +57,7 @@ goes_on found from (Resumes stops q) step to next g k off = by q g k where
   by resume_stage.LoadPhase g k = rw (g.0, g.2) (resumes found from stops q step g.1 tt off)
   by resume_stage.LoadGeneration g k = rw (g.0, g.2) k
   by resume_stage.LoadBegun g k = rw (g.0, g.2) k
-  by resume_stage.Ended g k = rw (g.0, g.2) k
+  by (resume_stage.Ended another) g k = rw (g.0, g.2) k
 goes_on found from Leaves step to next g k off = rw g.2 tt
 goes_on found from Gone step to next g k off = absurd g
 
@@ -100,7 +100,7 @@ still_knows party (Resumes n q) stops still = by q still where
   by resume_stage.LoadPhase still = tt
   by resume_stage.LoadGeneration still = absurd still
   by resume_stage.LoadBegun still = absurd still
-  by resume_stage.Ended still = absurd still
+  by (resume_stage.Ended another) still = absurd still
 still_knows party Leaves stops still = absurd still
 still_knows party Gone stops still = tt
 

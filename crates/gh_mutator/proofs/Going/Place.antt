@@ -141,7 +141,7 @@ place_at k w p making.Birth z a h s m pending t kn l = by_deed k z a h s (at w p
 place_at k w p (making.Bits b) z a h s m pending t kn l = by_deed k z a h s (at w p (making.Bits b) m) pending t l Rests tt refl (bits_quiet s b b.stage, fills k w p z a h s m pending (making.Bits b) t refl)
     (λ u hands stacks. by u (bits.is_busy (bits.goes b 0).stage) p.marking t.facts.task_is.marking refl (record { stacks = stacks; number = t.facts.task_is.number; hands = hands (holding m.poll.local.held) (between k w p z a h s m pending (making.Bits b) t refl) })) where
       by : (u : Marking) (busy marking : Bool) → marking ≡ true → bits.is_busy (bits.goes b 0).stage ≡ busy → IsBetween z a u m.poll.local → TaskFacts z a u m.poll (cond (place.is_busy (cond busy (making.Bits (bits.goes b 0)) (place.filled marking))) (makes w (place.at_stage p (cond busy (making.Bits (bits.goes b 0)) (place.filled marking)))) task.Idle)
-      by u true marking on busy x = goes_facts z a u m w p (making.Bits (bits.goes b 0)) t.facts.task_is.marking refl busy x
+      by u true marking on busy x = goes_facts z a u m w p (making.Bits (bits.goes b 0)) t.facts.task_is.marking refl refl x
       by u false true on busy x = goes_facts z a u m w p making.Mark t.facts.task_is.marking refl refl x
       by u false false on busy x = absurd (cc)
 place_at k w p making.Mark z a h s m pending t kn l = marks_slot k w p z a h s m pending t l

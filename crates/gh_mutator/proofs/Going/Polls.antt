@@ -54,7 +54,7 @@ module _ (z : Cycle) (a : ℕ) (u : Marking) where
   scan_fills m (mark_stage.Shading sh) x = fills_none a u _ refl x.1.hands
   scan_fills m (mark_stage.FindRoom sh r) x = fills_none a u _ refl x.2.hands
   scan_fills m mark_stage.Store x = fills_none a u (holding m.held) refl x.2
-  scan_fills m mark_stage.Ended x = fills_none a u (holding m.held) refl x
+  scan_fills m mark_stage.Ended x = absurd x
 
   poll_fills : (p : Polling) (q : PollStage) → PollStageFacts z a u p.waits p.local q → FillsNone a u
   poll_fills p poll_stage.LoadPhase x = fills_none a u (holding p.local.held) refl x.1

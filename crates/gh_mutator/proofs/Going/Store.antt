@@ -10,6 +10,7 @@ use Rattle.gh_base.specs.declared.value.Fault.TheVariants as fault
 use Rattle.gh_base.specs.declared.value.Value.TheVariants as value
 use Rattle.gh_base.specs.Cells.{Words}
 use Rattle.gh_base.specs.Rows.{mark_words}
+use Rattle.gh_barrier.specs.Stays as write_on
 use Rattle.gh_barrier.specs.declared.pointer_cell.PointerCell.{PointerCell}
 use Rattle.gh_barrier.specs.declared.write_pointer.WriteStage.{WriteStage}
 use Rattle.gh_barrier.specs.declared.write_pointer.WriteStage.TheVariants as write_stage
@@ -266,10 +267,10 @@ module _ (k : Known) (x : Store) (w : PointerWrite) (z : Cycle) (a : ℕ) (h : H
 
 write_at : Known → (x : Store) (w : PointerWrite) (q : WriteStage) → StepAt (task.Store (at_stage x (stage.Writing (write.at_stage w q))))
 write_at k x w write_stage.Store z a h s m pending t kn l = puts k x w z a h s m pending t l
-write_at k x w write_stage.LoadOld z a h s m pending t kn l = goes_before k x (write.at_stage w write_stage.LoadOld) z a h s m pending t l refl
-write_at k x w (write_stage.ShadeOld sh) z a h s m pending t kn l = goes_before k x (write.at_stage w (write_stage.ShadeOld sh)) z a h s m pending t l refl
-write_at k x w (write_stage.ShadeNew sh) z a h s m pending t kn l = goes_before k x (write.at_stage w (write_stage.ShadeNew sh)) z a h s m pending t l refl
-write_at k x w write_stage.Ended z a h s m pending t kn l = goes_before k x (write.at_stage w write_stage.Ended) z a h s m pending t l refl
+write_at k x w write_stage.LoadOld z a h s m pending t kn l = goes_before k x (write.at_stage w write_stage.LoadOld) z a h s m pending t l (write_on.load_gives_none (write.at_stage w write_stage.LoadOld) (n k x (write.at_stage w write_stage.LoadOld) z a h s m pending t l))
+write_at k x w (write_stage.ShadeOld sh) z a h s m pending t kn l = goes_before k x (write.at_stage w (write_stage.ShadeOld sh)) z a h s m pending t l (write_on.old_gives_none (write.at_stage w (write_stage.ShadeOld sh)) sh (n k x (write.at_stage w (write_stage.ShadeOld sh)) z a h s m pending t l))
+write_at k x w (write_stage.ShadeNew sh) z a h s m pending t kn l = goes_before k x (write.at_stage w (write_stage.ShadeNew sh)) z a h s m pending t l (write_on.new_gives_none (write.at_stage w (write_stage.ShadeNew sh)) sh (n k x (write.at_stage w (write_stage.ShadeNew sh)) z a h s m pending t l))
+write_at k x w write_stage.Ended z a h s m pending t kn l = absurd (let busy = t.fine.task.3.busy in cc)
 
 store_at : Known → (x : Store) (q : StoreStage) → StepAt (task.Store (at_stage x q))
 store_at k x stage.Page z a h s m pending t kn l = page k x z a h s m pending t l

@@ -8,7 +8,7 @@ use Rattle.gh_base.specs.declared.cell.Cell.TheVariants as cell
 use Rattle.gh_base.specs.Cells.{InRange, put}
 use Rattle.gh_base.specs.Packing.{head_word}
 use Rattle.gh_class.specs.declared.class.SizeClass.TheVariants as size
-use Rattle.gh_heap.specs.Moves.{Disown, Lands, LeaveLock, May, Others, Quiet, TakeLock, moved}
+use Rattle.gh_heap.specs.Moves.{Disown, IsQuiet, Lands, LeaveLock, May, Others, Quiet, TakeLock, moved}
 use Rattle.gh_heap.specs.Spans.{FitsClass, number_of, owned_by}
 use Rattle.gh_alloc.specs.Find.{given_head}
 use Rattle.gh_wbuf.specs.BufferGiving as buffer
@@ -184,17 +184,18 @@ module _ (k : Known) (z : Arena) (a : ℕ) where
     unlocks has = by_move k z a s good (Store cell.Lock 0) LeaveLock (λ t. Kept a (view s) (view t) × Gives z a (view t) (goes_at g Unlock (s.words cell.Lock))) (has.locked, has.laying, has.freeing) refl (refl, refl)
         (λ kept. (kept, buffer_then (moved z a s LeaveLock) g.held is refl kept (k.follow z a s true no_page None has).left))
 
-    buffer_given : (b : buffer.BufferGiving) (q : BufferStage) → Has a (view s) false (lists g.cache) → g.cache ≡ none_cached → FitsGiveStage z.layout q → Steps z a s (buffer.asks_at q) (λ t. Kept a (view s) (view t) × Gives z a (view t) (after_buffer g (buffer.goes b (s.words (cell_of (buffer.asks_at q)))) (buffer.gives_at q)))
-    buffer_given b (buffer_stage.Give h) has none fits = by_quiet k z a s good (buffer.asks_at (buffer_stage.Give h)) false (lists g.cache) (λ t. Kept a (view s) (view t) × Gives z a (view t) (record g { held = None; stage = Ended })) tt has
-        (λ t kept r. (kept, record { has = r; facts = record { layout_is = layout_is; seat_is = seat_is; generation = known ∙ sym kept.own.generation; room = room; held = tt; stage_is = (none, refl) } }))
-    buffer_given b buffer_stage.Ended has none fits = by_quiet k z a s good (Load cell.Touch) false (lists g.cache) (λ t. Kept a (view s) (view t) × Gives z a (view t) (at_stage g (GiveBuffer (buffer.goes b (s.words cell.Touch))))) tt has
-        (λ t kept r. (kept, record { has = r; facts = record { layout_is = layout_is; seat_is = seat_is; generation = known ∙ sym kept.own.generation; room = room; held = is; stage_is = (none, tt) } }))
+    buffer_given : (b : buffer.BufferGiving) (q : BufferStage) → Has a (view s) false (lists g.cache) → g.cache ≡ none_cached → Steps z a s (buffer.asks_at q) (λ t. Kept a (view s) (view t) × Gives z a (view t) (record g { held = None; stage = Ended }))
+    buffer_given b q has none = by_quiet k z a s good (buffer.asks_at q) false (lists g.cache) (λ t. Kept a (view s) (view t) × Gives z a (view t) (record g { held = None; stage = Ended })) (quiet q) has
+        (λ t kept r. (kept, record { has = r; facts = record { layout_is = layout_is; seat_is = seat_is; generation = known ∙ sym kept.own.generation; room = room; held = tt; stage_is = (none, refl) } })) where
+          quiet : (p : BufferStage) → IsQuiet (buffer.asks_at p)
+          quiet (buffer_stage.Give h) = tt
+          quiet buffer_stage.Ended = tt
 
     gives_at : (q : GiveStage) → Has a (view s) (give_locked_at q) (give_held_at g.cache q) → GiveStageFacts z a (view s) g q → Leads q
     gives_at Lock has x = locks has x
     gives_at (GiveSpan class c) has x = span_given class c has x
     gives_at Unlock has x = unlocks has
-    gives_at (GiveBuffer b) has x = buffer_given b b.stage has x.0 x.1
+    gives_at (GiveBuffer b) has x = buffer_given b b.stage has x.0
     gives_at Ended has x = by_quiet k z a s good (Load cell.Touch) false (lists g.cache) (λ t. Kept a (view s) (view t) × Gives z a (view t) (at_stage g Ended)) tt has
         (λ t kept r. (kept, record { has = r; facts = record { layout_is = layout_is; seat_is = seat_is; generation = known ∙ sym kept.own.generation; room = room; held = is; stage_is = x } }))
 

@@ -8,6 +8,7 @@ use Rattle.gh_phase.specs.declared.resume.ResumeStage.TheVariants as resume_stag
 use Rattle.gh_phase.specs.declared.view.RunPhase.TheVariants as run
 use Rattle.gh_phase.specs.Listing as resume
 use Rattle.gh_phase.specs.ResumePlaces as resumes
+use Rattle.gh_phase.specs.Stays.{phase_on}
 use Rattle.gh_wbuf.specs.RoomFinding as room
 use Rattle.gh_mutator.specs.declared.poll.PollStage.TheVariants.{LoadPhase, Giving, Resuming, Marking, FindRoom, Ended}
 use Rattle.gh_mutator.specs.Give.{none_cached}
@@ -143,7 +144,7 @@ loaded_on v w known resume_stage.Acknowledge o x = x
 loaded_on v w known resume_stage.LoadPhase o x = x
 loaded_on v w known resume_stage.LoadGeneration o x = x
 loaded_on v w known resume_stage.LoadBegun o x = x ∙ sym o
-loaded_on v w known resume_stage.Ended o x = x ∙ sym o
+loaded_on v w known (resume_stage.Ended another) o x = x ∙ sym o
 
 module _ (k : Known) (z : Arena) (a : ℕ) (s : Shared) (good : Good z (view s)) (p : Polling) (stands : Stands z a (view s) p) where
   abbrev Leads : PollStage → Type 0
@@ -170,7 +171,7 @@ module _ (k : Known) (z : Arena) (a : ℕ) (s : Shared) (good : Good z (view s))
 
   module _ (r : resume.Resuming) (has : Has a (view s) false (lists p.local.cache)) (f : ResumeFacts a (view s) p r) where
     abbrev Resumes : ResumeStage → Type 0
-    Resumes q = Steps z a s (resume.asks_at r q) (λ t. KeepsObjects (view s) (view t) × Polls z a (view t) (after_resume p (resume.goes_at r q (s.words (cell_of (resume.asks_at r q)))) (resume.gives_at r q (s.words (cell_of (resume.asks_at r q))))))
+    Resumes q = Steps z a s (resume.asks_at r q) (λ t. KeepsObjects (view s) (view t) × Polls z a (view t) (after_resume p (resume.goes_at r q (s.words (cell_of (resume.asks_at r q)))) (resume.given (resume.goes_at r q (s.words (cell_of (resume.asks_at r q)))))))
 
     -- it goes on
     goes_on : (t : Shared) (to : resume.Resuming) → to.seat ≡ r.seat → HasLoaded (view t) to.view to.stage → Kept a (view s) (view t) → Has a (view t) false (lists p.local.cache) → Polls z a (view t) (at_stage p (Resuming to))
@@ -185,8 +186,9 @@ module _ (k : Known) (z : Arena) (a : ℕ) (s : Shared) (good : Good z (view s))
     resumes_at resume_stage.LoadPhase x =
         let found = phase_of (s.words cell.Phase) in
         let to : resume.Resuming = resume.after_phase r found.stops (run_phase found.phase) in
-        by_quiet k z a s good (Load cell.Phase) false (lists p.local.cache) (λ t. KeepsObjects (view s) (view t) × Polls z a (view t) (at_stage p (Resuming to))) tt has
-        (λ t kept h. (kept.objects, resumes_on z a (view t) p to h (stands_then t kept) (phase_resumed z a (view t) p r found.stops (run_phase found.phase) (record { seat_is = f.seat_is; no_span = f.no_span; no_buffer = f.no_buffer; loaded = tt }))))
+        subst (λ (out : Option Resumed). Steps z a s (Load cell.Phase) (λ t. KeepsObjects (view s) (view t) × Polls z a (view t) (after_resume p to out))) (sym (phase_on r found.stops (run_phase found.phase)))
+        (by_quiet k z a s good (Load cell.Phase) false (lists p.local.cache) (λ t. KeepsObjects (view s) (view t) × Polls z a (view t) (at_stage p (Resuming to))) tt has
+        (λ t kept h. (kept.objects, resumes_on z a (view t) p to h (stands_then t kept) (phase_resumed z a (view t) p r found.stops (run_phase found.phase) (record { seat_is = f.seat_is; no_span = f.no_span; no_buffer = f.no_buffer; loaded = tt })))))
     resumes_at resume_stage.LoadGeneration x =
         let to : resume.Resuming = resume.goes_at r resume_stage.LoadGeneration (s.words cell.Gen) in
         by_quiet k z a s good (Load cell.Gen) false (lists p.local.cache) (λ t. KeepsObjects (view s) (view t) × Polls z a (view t) (at_stage p (Resuming to))) tt has
@@ -195,8 +197,10 @@ module _ (k : Known) (z : Arena) (a : ℕ) (s : Shared) (good : Good z (view s))
         let out : Resumed = resume.resumed r.view (s.words cell.Begun) in
         by_quiet k z a s good (Load cell.Begun) false (lists p.local.cache) (λ t. KeepsObjects (view s) (view t) × Polls z a (view t) (marks_then (resumed p out) out.view.phase)) tt has
         (λ t kept h. (kept.objects, resumed_polls z a (view t) p out h (stands_then t kept) f.no_span (x ∙ sym kept.own.generation)))
-    resumes_at resume_stage.Ended x = by_quiet k z a s good (Load cell.Touch) false (lists p.local.cache) (λ t. KeepsObjects (view s) (view t) × Polls z a (view t) (at_stage p (Resuming r))) tt has
-        (λ t kept h. (kept.objects, resumes_on z a (view t) p r h (stands_then t kept) (record { seat_is = f.seat_is; no_span = f.no_span; no_buffer = f.no_buffer; loaded = loaded_on (view s) (view t) r.view r.stage kept.own.generation f.loaded })))
+    resumes_at (resume_stage.Ended another) x =
+        let out : Resumed = record { view = r.view; another_cycle = another } in
+        by_quiet k z a s good (Load cell.Touch) false (lists p.local.cache) (λ t. KeepsObjects (view s) (view t) × Polls z a (view t) (marks_then (resumed p out) out.view.phase)) tt has
+        (λ t kept h. (kept.objects, resumed_polls z a (view t) p out h (stands_then t kept) f.no_span (x ∙ sym kept.own.generation)))
 
   marks_next : (g : ℕ) (m : mark.StackMarking) → Has a (view s) false (lists p.local.cache) → KnowsSpans a (view s) p → ScansWithin z.layout m → Leads (Marking g m)
   marks_next g m has x f =
@@ -265,7 +269,7 @@ loaded_stopped v w known stops number resume_stage.Acknowledge e = tt
 loaded_stopped v w known stops number resume_stage.LoadPhase e = tt
 loaded_stopped v w known stops number resume_stage.LoadGeneration e = tt
 loaded_stopped v w known stops number resume_stage.LoadBegun e = absurd e
-loaded_stopped v w known stops number resume_stage.Ended e = absurd e
+loaded_stopped v w known stops number (resume_stage.Ended another) e = absurd e
 
 stopped_at : (z : Arena) (a stops : ℕ) (v w : View) (p : Polling) (q : PollStage) → IsParked stops (polls_at p q) → PollStageFacts z a v p q → PollStageFacts z a w p q
 stopped_at z a stops v w p LoadPhase e x = absurd e

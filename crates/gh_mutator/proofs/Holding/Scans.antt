@@ -74,9 +74,9 @@ module _ (s : shade.Shading) (now : FitsShade s) where
   shade_goes_at : (q : ShadeStage) (found : ℕ) → FitsStage s.held q → ShadesWithin s.layout (shade.goes_at s q found)
   shade_goes_at shade_stage.LoadPage found f = shade_at _ tt
   shade_goes_at (shade_stage.SetMark noscan) found f = marked (shade.is_whole s noscan found)
-  shade_goes_at shade_stage.WaitForRoom found f = record { layout_is = refl; fits = now }
+  shade_goes_at shade_stage.WaitForRoom found f = shade_at shade_stage.WaitForRoom tt
   shade_goes_at shade_stage.Enter found f = record { layout_is = refl; fits = record { reference = now.reference; held = raised_held s.layout s.held now.held f; stage = tt } }
-  shade_goes_at shade_stage.Ended found f = record { layout_is = refl; fits = now }
+  shade_goes_at shade_stage.Ended found f = shade_at shade_stage.Ended tt
 
 shade_goes : (l : Layout) (s : shade.Shading) (found : ℕ) → ShadesWithin l s → ShadesWithin l (shade.goes s found)
 shade_goes l s found f = subst (λ (k : Layout). ShadesWithin k (shade.goes s found)) f.layout_is (shade_goes_at s f.fits s.stage found f.fits.stage)

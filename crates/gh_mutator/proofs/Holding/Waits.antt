@@ -1,9 +1,8 @@
 -- Each step of a wait is a move that its seat may make, and what is known at each stage holds then and lasts.
-use Rattle.std.proofs.Common.{◌≡◌, ℕ, Bool, true, false, cond, ltb, Option, Some, None, refl}
+use Rattle.std.proofs.Common.{◌≡◌, ℕ, Bool, true, false, cond, ltb, Option, Some, None, refl, ap}
+use Rattle.std.specs.Prelude.{is_none}
 use Rattle.gh_base.specs.declared.cell.Ask.TheVariants.{Load, Or}
 use Rattle.gh_base.specs.declared.cell.Cell.TheVariants as cell
-use Rattle.gh_mutator.specs.declared.poll.PollStage.{PollStage}
-use Rattle.gh_mutator.specs.declared.poll.PollStage.TheVariants as poll_stage
 use Rattle.gh_mutator.specs.declared.wait.WaitStage.{WaitStage}
 use Rattle.gh_mutator.specs.declared.wait.WaitStage.TheVariants as wait_stage
 use Rattle.gh_mutator.specs.Handshake.{waits_at}
@@ -13,11 +12,6 @@ use Rattle.gh_mutator.specs.PollHeapLaws.{Polls, PollsByRights, Waits, WaitsByRi
 use Rattle.gh_mutator.specs.Wait.{after_poll, asks_at, at_stage, goes_at, is_busy, polling}
 use Rattle.gh_mutator.proofs.Holding.Known.{Kept, Known, by_quiet, holds_swept, knows_kept, knows_last, stands_kept, stands_last}
 use Rattle.gh_mutator.proofs.Holding.Vocabulary.{Arena, Good, Has, InRange, IsAtRest, IsParked, KeepsGhosts, KeepsObjects, Others, Polling, Shared, Steps, View, Waiting, cell_of, effect, landing, lists, no_page, view}
-
--- a poll that has given something has ended
-ended : (stage : PollStage) (x : Unit {0}) → poll.given stage ≡ Some x → poll.is_busy stage ≡ false
-ended poll_stage.Ended x e = refl
-ended _ x e = absurd (cc)
 
 module _ (k : Known) (h : PollsByRights) (z : Arena) (a : ℕ) where
   module _ (s : Shared) (good : Good z (view s)) (w : Waiting) where
@@ -36,7 +30,7 @@ module _ (k : Known) (h : PollsByRights) (z : Arena) (a : ℕ) where
 
     polled_then : (t : Shared) (q : Polling) (out : Option (Unit {0})) → poll.given q.stage ≡ out → Polls z a (view t) q → Waits z a (view t) (after_poll w q out)
     polled_then t q None e f = f
-    polled_then t q (Some x) e f = h.ends z a (view t) q (ended q.stage x e) f
+    polled_then t q (Some x) e f = h.ends z a (view t) q (ap is_none e) f
 
     polls : Polls z a (view s) p → Leads wait_stage.Polling
     polls f =
@@ -57,8 +51,8 @@ module _ (k : Known) (h : PollsByRights) (z : Arena) (a : ℕ) where
     waits_on_at wait_stage.Want has x = asks_for_it has x
     waits_on_at wait_stage.Polling has x = polls (has, x)
     waits_on_at wait_stage.LoadSwept has x = loads_swept has x
-    waits_on_at wait_stage.Ended has x = by_quiet k z a s good (Load cell.Touch) false (lists p.local.cache) (λ t. KeepsObjects (view s) (view t) × Waits z a (view t) (at_stage w wait_stage.Ended)) tt has
-        (λ t kept r. (kept.objects, rests_then t x kept r))
+    waits_on_at wait_stage.Ended has x = by_quiet k z a s good (Load cell.Touch) false (lists p.local.cache) (λ t. KeepsObjects (view s) (view t) × Waits z a (view t) (polling w)) tt has
+        (λ t kept r. (kept.objects, h.begins z a (view t) p true (rests_then t x kept r)))
 
   module _ (v u : View) where
     rests_last : (p : Polling) → Good z v → Others z a v u → Rests z a v p → Rests z a u p

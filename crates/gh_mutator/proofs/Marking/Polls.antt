@@ -1,11 +1,12 @@
 -- While marking is on, each step of a poll is made of moves that its seat may make.
-use Rattle.std.proofs.Common.{◌≡◌, ◌≢◌, ℕ, ◌+◌, ◌%◌, ◌^◌, ◌<◌, ◌≤◌, Bool, true, false, cond, Option, Some, None, refl, sym, subst, ◌∙◌, arith}
-use Rattle.std.specs.Prelude.{[]}
+use Rattle.std.proofs.Common.{◌≡◌, ◌≢◌, ℕ, ◌+◌, ◌%◌, ◌^◌, ◌<◌, ◌≤◌, Bool, true, false, cond, Option, Some, None, refl, ap, sym, subst, ◌∙◌, arith}
+use Rattle.std.specs.Prelude.{[], is_none}
 use Rattle.gh_base.specs.declared.cell.Cell.TheVariants as cell
 use Rattle.gh_base.specs.declared.pack.TheConstants.{END, ENTRIES}
 use Rattle.gh_phase.specs.declared.resume.ResumeStage.TheVariants as resume_stage
 use Rattle.gh_phase.specs.declared.view.RunPhase.TheVariants as run
 use Rattle.gh_phase.specs.Listing as resume
+use Rattle.gh_phase.specs.Stays.{phase_on}
 use Rattle.gh_wbuf.specs.Facts as buffer_facts
 use Rattle.gh_wbuf.specs.RoomFinding as room
 use Rattle.gh_mutator.specs.declared.poll.PollStage.TheVariants.{LoadPhase, Giving, Resuming, Marking, FindRoom, Ended}
@@ -13,7 +14,7 @@ use Rattle.gh_mutator.specs.Give as give
 use Rattle.gh_mutator.specs.MarkFacts.{GiveFacts, HasRoom, IsBetween, KnowsCycle, KnowsNumber, KnowsStacks, PollFacts, PollStageFacts, PollsByMoves, ScanFacts}
 use Rattle.gh_mutator.specs.MarkStack as mark
 use Rattle.gh_mutator.specs.Poll.{after_mark, after_resume, after_room, asks_at, at_stage, by_phase, counted, due, giving, goes_at, has_two, is_busy, marks_then, Polling, resumed, room_stage, scanned, scans, stops_then}
-use Rattle.gh_mutator.proofs.Vocabulary.{Ask, cell_of, Cycle, effect, Good, Hands, Held, holding, IsOf, IsQuiet, Keeps, KnowsObjects, landing, Layout, Local, MarkingIsQuiet, moved, nat_tests, nothing, Others, phase_of, PollStage, ProcessorIsQuiet, Resumed, ResumeStage, run_phase, RunPhase, ScanStack, Shared, slice_index_or, slice_set, Steps, Store}
+use Rattle.gh_mutator.proofs.Vocabulary.{Ask, cell_of, Cycle, effect, Good, Hands, Held, holding, IsOf, IsQuiet, Keeps, KnowsObjects, landing, Layout, Load, Local, MarkingIsQuiet, moved, nat_tests, nothing, Others, phase_of, PollStage, ProcessorIsQuiet, Resumed, ResumeStage, run_phase, RunPhase, ScanStack, Shared, slice_index_or, slice_set, Steps, Store}
 use Rattle.gh_mutator.proofs.Due.{due_scans, IsUnscanned}
 use Rattle.gh_mutator.proofs.Marking.Gives.{gives_begin, gives_last, gives_on, nothing_left}
 use Rattle.gh_mutator.proofs.Marking.Known.{by_load, by_quiet, Known, stacks_last, stacks_scanned}
@@ -47,7 +48,7 @@ module _ (k : Known) (z : Cycle) (a : ℕ) where
   stops_facts t p g stops e f stacks x = by (give.is_busy g.stage) refl where
     by : (busy : Bool) → give.is_busy g.stage ≡ busy → PollFacts z a t (cond busy (at_stage p (Giving g stops)) (record p { local = record (p.local) { cache = g.cache; held = g.held }; stage = Resuming (resume.opening p.layout p.seat stops p.local.view) }))
     by true b = record { layout_is = e; seat_is = f; stacks = stacks; stage_is = x }
-    by false b = record { layout_is = e; seat_is = f; stacks = stacks; stage_is = nothing_left k z a t g b x }
+    by false b = let left = nothing_left k z a t g b x in record { layout_is = e; seat_is = f; stacks = stacks; stage_is = (left.0, left.1, refl) }
 
   module _ (s : Shared) (good : Good z s) (objects : KnowsObjects z s) where
     -- where the world runs
@@ -94,25 +95,26 @@ module _ (k : Known) (z : Cycle) (a : ℕ) where
           (gives_on k z a s good objects g x)
 
       -- after a stop
-      stays : (t : Shared) (r : resume.Resuming) → Keeps z a s t → Hands a t nothing → p.local.held ≡ None → PollFacts z a t (at_stage p (Resuming r))
-      stays t r kept x none = record { layout_is = layout_is; seat_is = seat_is; stacks = stacks_last z a s t p.local.stacks p.local.scanned kept stacks; stage_is = (x, none) }
+      stays : (t : Shared) (r : resume.Resuming) → Keeps z a s t → Hands a t nothing → p.local.held ≡ None → resume.is_busy r ≡ true → PollFacts z a t (at_stage p (Resuming r))
+      stays t r kept x none busy = record { layout_is = layout_is; seat_is = seat_is; stacks = stacks_last z a s t p.local.stacks p.local.scanned kept stacks; stage_is = (x, none, busy) }
 
-      still : (r : resume.Resuming) → Hands a s nothing → p.local.held ≡ None → PollFacts z a s (at_stage p (Resuming r))
-      still r x none = stays s r ((k.go_on z a).stays s) x none
+      still : (r : resume.Resuming) → Hands a s nothing → p.local.held ≡ None → resume.is_busy r ≡ true → PollFacts z a s (at_stage p (Resuming r))
+      still r x none busy = stays s r ((k.go_on z a).stays s) x none busy
 
-      resumes : KnowsCycle z s → (r : resume.Resuming) (stage : ResumeStage) → Hands a s nothing → p.local.held ≡ None → Steps z a s (resume.asks_at r stage) (λ t. PollFacts z a t (after_resume p (resume.goes_at r stage (s.words (cell_of (resume.asks_at r stage)))) (resume.gives_at r stage (s.words (cell_of (resume.asks_at r stage))))))
-      resumes now r resume_stage.Acknowledge x none = by_quiet k z a s good (Store (cell.Ack r.seat) r.stops) nothing (λ t. PollFacts z a t (at_stage p (Resuming (resume.at_stage r resume_stage.LoadPhase)))) tt x (λ t kept h. stays t (resume.at_stage r resume_stage.LoadPhase) kept h none)
-      resumes now r resume_stage.LoadPhase x none =
-          let n : ℕ = s.words cell.Phase in
-          by_load k z a s good cell.Phase (λ t. PollFacts z a t (at_stage p (Resuming (resume.goes_at r resume_stage.LoadPhase n)))) (still (resume.goes_at r resume_stage.LoadPhase n) x none)
-      resumes now r resume_stage.LoadGeneration x none =
+      resumes : KnowsCycle z s → (r : resume.Resuming) (stage : ResumeStage) → Hands a s nothing → p.local.held ≡ None → is_none (resume.given_at r.view stage) ≡ true → Steps z a s (resume.asks_at r stage) (λ t. PollFacts z a t (after_resume p (resume.goes_at r stage (s.words (cell_of (resume.asks_at r stage)))) (resume.given (resume.goes_at r stage (s.words (cell_of (resume.asks_at r stage)))))))
+      resumes now r resume_stage.Acknowledge x none busy = by_quiet k z a s good (Store (cell.Ack r.seat) r.stops) nothing (λ t. PollFacts z a t (at_stage p (Resuming (resume.at_stage r resume_stage.LoadPhase)))) tt x (λ t kept h. stays t (resume.at_stage r resume_stage.LoadPhase) kept h none refl)
+      resumes now r resume_stage.LoadPhase x none busy =
+          let to : resume.Resuming = resume.goes_at r resume_stage.LoadPhase (s.words cell.Phase) in
+          let on : resume.given to ≡ None = phase_on r (phase_of (s.words cell.Phase)).stops (run_phase (phase_of (s.words cell.Phase)).phase) in
+          subst (λ (out : Option Resumed). Steps z a s (Load cell.Phase) (λ t. PollFacts z a t (after_resume p to out))) (sym on) (by_load k z a s good cell.Phase (λ t. PollFacts z a t (at_stage p (Resuming to))) (still to x none (ap is_none on)))
+      resumes now r resume_stage.LoadGeneration x none busy =
           let n : ℕ = s.words cell.Gen in
-          by_load k z a s good cell.Gen (λ t. PollFacts z a t (at_stage p (Resuming (resume.goes_at r resume_stage.LoadGeneration n)))) (still (resume.goes_at r resume_stage.LoadGeneration n) x none)
-      resumes now r resume_stage.LoadBegun x none =
+          by_load k z a s good cell.Gen (λ t. PollFacts z a t (at_stage p (Resuming (resume.goes_at r resume_stage.LoadGeneration n)))) (still (resume.goes_at r resume_stage.LoadGeneration n) x none refl)
+      resumes now r resume_stage.LoadBegun x none busy =
           let out : Resumed = resume.resumed r.view (s.words cell.Begun) in
           by_load k z a s good cell.Begun (λ t. PollFacts z a t (marks_then (resumed p out) out.view.phase))
           (marks_facts (resumed p out) layout_is seat_is (record { stacks = stacks; number = λ on. now; hands = subst (λ (held : Option Held). Hands a s (holding held)) (sym none) x }) out.view.phase refl)
-      resumes now r resume_stage.Ended x none = by_load k z a s good cell.Touch (λ t. PollFacts z a t (at_stage p (Resuming r))) (still r x none)
+      resumes now r (resume_stage.Ended another) x none busy = absurd cc
 
       -- a stack is scanned
       scanned_then : (t : Shared) (g : ℕ) (m : mark.StackMarking) (out : Option (Unit {0})) → p.local.view.begun ≡ z.number → Comes z a s t g m out → PollFacts z a t (after_mark p g m out)
@@ -153,7 +155,7 @@ module _ (k : Known) (z : Cycle) (a : ℕ) where
       pub polls_at : KnowsCycle z s → (q : PollStage) → PollStageFacts z a s p.waits p.local q → Leads q
       polls_at now LoadPhase x = loads_phase x.0 x.1
       polls_at now (Giving g stops) x = gives g stops x
-      polls_at now (Resuming r) x = resumes now r r.stage x.0 x.1
+      polls_at now (Resuming r) x = resumes now r r.stage x.0 x.1 x.2
       polls_at now (Marking g m) x = marks g m x.0 x.1
       polls_at now (FindRoom r) x = finds r x.0 x.1
       polls_at now Ended x = by_load k z a s good cell.Touch (λ t. PollFacts z a t (at_stage p Ended)) (record { layout_is = layout_is; seat_is = seat_is; stacks = stacks; stage_is = x })
@@ -161,7 +163,7 @@ module _ (k : Known) (z : Cycle) (a : ℕ) where
   stage_lasts : (s t : Shared) (waits : Bool) (local : Local) (q : PollStage) → Others z a s t → PollStageFacts z a s waits local q → PollStageFacts z a t waits local q
   stage_lasts s t waits local LoadPhase o x = (x.0, k.last z a s t (holding local.held) o x.1)
   stage_lasts s t waits local (Giving g stops) o x = gives_last k z a s t g o x
-  stage_lasts s t waits local (Resuming r) o x = (k.last z a s t nothing o x.0, x.1)
+  stage_lasts s t waits local (Resuming r) o x = (k.last z a s t nothing o x.0, x.1, x.2)
   stage_lasts s t waits local (Marking g m) o x = (x.0, scans_last k z a s t g m o x.1)
   stage_lasts s t waits local (FindRoom r) o x = (x.0, k.buffers.finds.lasts z a s t nothing r o x.1)
   stage_lasts s t waits local Ended o x = (x.0, x.1, k.last z a s t (holding local.held) o x.2)

@@ -1,8 +1,13 @@
 -- While marking is on, each step of a whole processor that polls, waits or leaves is made of moves that its seat may make: by its tasks.
-use Rattle.std.proofs.Common.{◌≡◌, ℕ, Bool, true, false, cond, ltb, List, Option, Some, None, refl, subst}
+use Rattle.std.proofs.Common.{◌≡◌, ℕ, true, false, List, Option, Some, None, refl, sym, ap, subst}
+use Rattle.std.specs.Prelude.{is_none}
 use Rattle.gh_base.specs.declared.operation.Op.TheVariants as op
 use Rattle.gh_barrier.specs.Facts.{WritesByMoves}
 use Rattle.gh_barrier.specs.Listing.{Writing as PointerWrite}
+use Rattle.gh_phase.specs.declared.resume.ResumeStage.{ResumeStage}
+use Rattle.gh_phase.specs.declared.resume.ResumeStage.TheVariants as resume_stage
+use Rattle.gh_phase.specs.Listing as resume
+use Rattle.gh_phase.specs.ResumePlaces as resumes
 use Rattle.gh_phase.specs.Shakes.{IsParked}
 use Rattle.gh_mutator.specs.declared.global.GlobalStage.TheVariants as global_stage
 use Rattle.gh_mutator.specs.declared.leave.LeaveStage.TheVariants as leave_stage
@@ -10,17 +15,18 @@ use Rattle.gh_mutator.specs.declared.poll.PollStage.TheVariants as poll_stage
 use Rattle.gh_mutator.specs.declared.store.StoreStage.TheVariants as store_stage
 use Rattle.gh_mutator.specs.declared.task.Task.TheVariants as task
 use Rattle.gh_mutator.specs.declared.wait.WaitStage.TheVariants as wait_stage
+use Rattle.gh_mutator.specs.Give as give
 use Rattle.gh_mutator.specs.Leave as leave
 use Rattle.gh_mutator.specs.MarkFacts.{IsBetween, KnowsCycle, KnowsStacks, LeaveFacts, LeavesByMoves, PollFacts, PollsByMoves, PollStageFacts, RestFacts, WaitFacts, WaitsByMoves, WaitStageFacts}
 use Rattle.gh_mutator.specs.New as new
 use Rattle.gh_mutator.specs.Poll as poll
 use Rattle.gh_mutator.specs.ProcessorMarks.{GlobalFacts, IsWriting, MarkFacts, MarksByMoves, new_polls, NewFacts, only_polls, reserved_at, StoreFacts, TaskFacts}
 use Rattle.gh_mutator.specs.ProcessorPlaces.{new_stage_at}
+use Rattle.gh_mutator.specs.Stays.{leaves_on}
 use Rattle.gh_mutator.specs.Vocabulary.{GlobalStage, Polling, Store, StoreStage}
 use Rattle.gh_mutator.specs.Wait as wait
 use Rattle.gh_mutator.proofs.Vocabulary.{after_gc, after_leave, after_poll, asks_at, begins, cell_of, Cycle, effect, Good, Hands, holding, Keeps, KnowsObjects, landing, leaves_at, LeaveStage, Leaving, Local, NewStage, nothing, Op, Others, Place, polls_at, PollStage, Processor, Search, Shape, Shared, stage_at, Steps, takes_at, Task, Wait, Waiting, waits_at, WaitStage, WaitState, Wanted}
 use Rattle.gh_mutator.proofs.Marking.Known.{Known, stacks_last}
-use Rattle.gh_mutator.proofs.Marking.Waits.{ended}
 
 -- whose it is, and what it knows of its stacks
 record Knows (z : Cycle) (a : ℕ) (s : Shared) (p : Polling) : Type 0 where
@@ -34,29 +40,19 @@ wait_knows z a s p wait_stage.Polling x = record { layout_is = x.layout_is; seat
 wait_knows z a s p wait_stage.LoadSwept x = record { layout_is = x.layout_is; seat_is = x.seat_is; stacks = x.between.stacks }
 wait_knows z a s p wait_stage.Ended x = record { layout_is = x.layout_is; seat_is = x.seat_is; stacks = x.between.stacks }
 
--- a wait that has given something has ended
-wait_over : (w : Waiting) (q : WaitStage) (found : ℕ) (u : Unit {0}) → wait.gives_at w.wait.known q found ≡ Some u → wait.is_busy (wait.goes_at w q found).wait.stage ≡ false
-wait_over w wait_stage.Want found u e = absurd (cc)
-wait_over w wait_stage.Polling found u e = absurd (cc)
-wait_over w wait_stage.LoadSwept found u e = by (ltb w.wait.known found) e where
-  by : (later : Bool) → wait.given later ≡ Some u → wait.is_busy (cond later (wait.at_stage w wait_stage.Ended) (wait.polling w)).wait.stage ≡ false
-  by true e = refl
-  by false e = absurd (cc)
-wait_over w wait_stage.Ended found u e = absurd (cc)
-
 module _ (k : Known) (h : PollsByMoves) (v : WaitsByMoves) (l : LeavesByMoves) (b : WritesByMoves) (z : Cycle) (a : ℕ) where
   -- behind a step
   polled_then : (t : Shared) (m : Processor) (p : Polling) (out : Option (Unit {0})) → poll.given p.stage ≡ out → PollFacts z a t p → MarkFacts z a t (after_poll m p out)
   polled_then t m p None e f = record { layout_is = f.layout_is; seat_is = f.seat_is; stacks = f.stacks; task_is = f }
-  polled_then t m p (Some x) e f = record { layout_is = f.layout_is; seat_is = f.seat_is; stacks = f.stacks; task_is = (h.ends z a t p (ended p.stage x e) f).0.between }
+  polled_then t m p (Some x) e f = record { layout_is = f.layout_is; seat_is = f.seat_is; stacks = f.stacks; task_is = (h.ends z a t p (ap is_none e) f).0.between }
 
-  gc_then : (t : Shared) (m : Processor) (g : ℕ) (w : Waiting) (out : Option (Unit {0})) → ((u : Unit {0}) → out ≡ Some u → wait.is_busy w.wait.stage ≡ false) → WaitFacts z a t w → MarkFacts z a t (after_gc m g w out)
-  gc_then t m g w None over f = let here = wait_knows z a t w.poll w.wait.stage f in record { layout_is = here.layout_is; seat_is = here.seat_is; stacks = here.stacks; task_is = f }
-  gc_then t m g w (Some u) over f = let r = v.ends z a t w (over u refl) f in record { layout_is = r.layout_is; seat_is = r.seat_is; stacks = r.between.stacks; task_is = r.between }
+  gc_then : (t : Shared) (m : Processor) (g : ℕ) (w : Waiting) (out : Option (Unit {0})) → wait.given w.wait.stage ≡ out → WaitFacts z a t w → MarkFacts z a t (after_gc m g w out)
+  gc_then t m g w None e f = let here = wait_knows z a t w.poll w.wait.stage f in record { layout_is = here.layout_is; seat_is = here.seat_is; stacks = here.stacks; task_is = f }
+  gc_then t m g w (Some u) e f = let r = v.ends z a t w (ap is_none e) f in record { layout_is = r.layout_is; seat_is = r.seat_is; stacks = r.between.stacks; task_is = r.between }
 
-  new_then : (t : Shared) (m : Processor) (n : Wanted) (w : Waiting) (out : Option (Unit {0})) → ((u : Unit {0}) → out ≡ Some u → wait.is_busy w.wait.stage ≡ false) → WaitFacts z a t w → MarkFacts z a t (new.after_wait m n w out)
-  new_then t m n w None over f = let here = wait_knows z a t w.poll w.wait.stage f in record { layout_is = here.layout_is; seat_is = here.seat_is; stacks = here.stacks; task_is = f }
-  new_then t m n w (Some u) over f = let r = v.ends z a t w (over u refl) f in record { layout_is = r.layout_is; seat_is = r.seat_is; stacks = r.between.stacks; task_is = r.between }
+  new_then : (t : Shared) (m : Processor) (n : Wanted) (w : Waiting) (out : Option (Unit {0})) → wait.given w.wait.stage ≡ out → WaitFacts z a t w → MarkFacts z a t (new.after_wait m n w out)
+  new_then t m n w None e f = let here = wait_knows z a t w.poll w.wait.stage f in record { layout_is = here.layout_is; seat_is = here.seat_is; stacks = here.stacks; task_is = f }
+  new_then t m n w (Some u) e f = let r = v.ends z a t w (ap is_none e) f in record { layout_is = r.layout_is; seat_is = r.seat_is; stacks = r.between.stacks; task_is = r.between }
 
   module _ (s : Shared) (good : Good z s) (objects : KnowsObjects z s) (now : KnowsCycle z s) (shapes : List Shape) (m : Processor) (layout_is : m.poll.layout ≡ z.arena.layout) (seat_is : m.poll.seat ≡ a) (stacks : KnowsStacks z a s m.poll.local.stacks m.poll.local.scanned) where
     abbrev Leads : Task → Type 0
@@ -74,7 +70,7 @@ module _ (k : Known) (h : PollsByMoves) (v : WaitsByMoves) (l : LeavesByMoves) (
         let w : Waiting = wait.waiting x m.poll in
         let n : ℕ = s.words (cell_of (wait.asks w)) in
         landing z a s (effect s.words (wait.asks w)) (λ t. WaitFacts z a t (wait.goes w n)) (λ t. MarkFacts z a t (after_gc m g (wait.goes w n) (wait.gives w n)))
-        (λ t went f. gc_then t m g (wait.goes w n) (wait.gives w n) (wait_over w w.wait.stage n) f)
+        (λ t went f. gc_then t m g (wait.goes w n) (wait.gives w n) refl f)
         (v.own_step z a s w good objects now f)
 
     new_waits : (n : Wanted) (x : WaitState) → WaitFacts z a s (wait.waiting x m.poll) → Leads (task.New (record { wanted = n; stage = Wait x }))
@@ -82,7 +78,7 @@ module _ (k : Known) (h : PollsByMoves) (v : WaitsByMoves) (l : LeavesByMoves) (
         let w : Waiting = wait.waiting x m.poll in
         let n : ℕ = s.words (cell_of (wait.asks w)) in
         landing z a s (effect s.words (wait.asks w)) (λ t. WaitFacts z a t (wait.goes w n)) (λ t. MarkFacts z a t (new.after_wait m wanted (wait.goes w n) (wait.gives w n)))
-        (λ t went f. new_then t m wanted (wait.goes w n) (wait.gives w n) (wait_over w w.wait.stage n) f)
+        (λ t went f. new_then t m wanted (wait.goes w n) (wait.gives w n) refl f)
         (v.own_step z a s w good objects now f)
 
     new_steps : (n : Wanted) (q : NewStage) → new_polls q ≡ true → NewFacts z a s m.poll q → Leads (task.New (record { wanted = n; stage = q }))
@@ -90,8 +86,9 @@ module _ (k : Known) (h : PollsByMoves) (v : WaitsByMoves) (l : LeavesByMoves) (
     new_steps n (Wait y) only x = new_waits n y x
     new_steps n (Place y) only x = absurd (cc)
 
-    left_then : (t : Shared) (x : Leaving) (q : LeaveStage) (found : ℕ) → m.poll.local.held ≡ None → Keeps z a s t → LeaveFacts z a t (leave.goes_at x q found).stage → MarkFacts z a t (after_leave m (leave.goes_at x q found) (leave.gives_at q))
-    left_then t x (leave_stage.Giving g) found none kept f = record { layout_is = layout_is; seat_is = seat_is; stacks = stacks_last z a s t m.poll.local.stacks m.poll.local.scanned kept stacks; task_is = (none, f) }
+    left_then : (t : Shared) (x : Leaving) (q : LeaveStage) (found : ℕ) → m.poll.local.held ≡ None → Keeps z a s t → LeaveFacts z a t (leave.goes_at x q found).stage → MarkFacts z a t (after_leave m (leave.goes_at x q found) (leave.given (leave.goes_at x q found).stage))
+    left_then t x (leave_stage.Giving g) found none kept f = subst (λ (o : Option (Unit {0})). MarkFacts z a t (after_leave m (leave.goes_at x (leave_stage.Giving g) found) o)) (sym (leaves_on (give.goes g found)))
+        (record { layout_is = layout_is; seat_is = seat_is; stacks = stacks_last z a s t m.poll.local.stacks m.poll.local.scanned kept stacks; task_is = (none, f) })
     left_then t x leave_stage.Leave found none kept f = record { layout_is = layout_is; seat_is = seat_is; stacks = stacks_last z a s t m.poll.local.stacks m.poll.local.scanned kept stacks; task_is = (none, f) }
     left_then t x leave_stage.Left found none kept f = record { layout_is = layout_is; seat_is = seat_is; stacks = stacks_last z a s t m.poll.local.stacks m.poll.local.scanned kept stacks; task_is = (none, f) }
 
@@ -149,6 +146,10 @@ module _ (k : Known) (h : PollsByMoves) (v : WaitsByMoves) (l : LeavesByMoves) (
   task_lasts s t p _ o x = between_lasts s t p.local o x
 
   -- where it stands still
+  parked_busy : (r : resume.Resuming) (stops : ℕ) (q : ResumeStage) → IsParked stops (resumes.stands_at r.stops q) → is_none (resume.given_at r.view q) ≡ true
+  parked_busy r stops resume_stage.LoadPhase still = refl
+  parked_busy r stops _ still = absurd still
+
   abbrev HasNothing : Shared → Polling → Type 0
   HasNothing s p = (p.local.held ≡ None) × Hands a s nothing
 
@@ -183,7 +184,7 @@ module _ (k : Known) (h : PollsByMoves) (v : WaitsByMoves) (l : LeavesByMoves) (
   -- where a cycle begins
   module _ (s : Shared) (p : Polling) (stops : ℕ) (layout_is : p.layout ≡ z.arena.layout) (seat_is : p.seat ≡ a) (none : p.local.held ≡ None) (stacks : KnowsStacks z a s p.local.stacks p.local.scanned) (x : Hands a s nothing) where
     poll_opens : (q : PollStage) → IsParked stops (polls_at p q) → PollStageFacts z a s p.waits p.local q
-    poll_opens (poll_stage.Resuming r) still = (x, none)
+    poll_opens (poll_stage.Resuming r) still = (x, none, parked_busy r stops r.stage still)
     poll_opens _ still = absurd still
 
     polling_opens : IsParked stops (polls_at p p.stage) → PollFacts z a s p

@@ -14,10 +14,11 @@ use Rattle.gh_wbuf.specs.Facts as buffer_facts
 use Rattle.gh_wbuf.specs.RoomFinding as room
 use Rattle.gh_mutator.specs.declared.mark_stack.MarkStackStage.TheVariants.{Shading, FindRoom, Store, Ended}
 use Rattle.gh_mutator.specs.MarkFacts.{LooksForRoom, ScanFacts, ScanStageFacts, ShadesWish, pending}
-use Rattle.gh_mutator.specs.MarkStack.{after_room, after_shade, asks, asks_at, by_wish, gives, gives_at, goes, goes_at, goes_on, opening, StackMarking}
+use Rattle.gh_mutator.specs.MarkStack.{after_room, after_shade, asks, asks_at, by_wish, given, gives, goes, goes_at, goes_on, opening, StackMarking}
 use Rattle.gh_mutator.specs.MarkVocabulary.{KnowsObject}
+use Rattle.gh_mutator.specs.Stays.{found_on, shaded_on}
 use Rattle.gh_mutator.proofs.Vocabulary.{cell_of, Cycle, effect, Good, Hands, Held, holding, IsOf, Keeps, KnowsObjects, landing, Layout, MarkStackStage, moved, nothing, Others, ScanStack, Shaded, Shared, StackStage, Steps, Value}
-use Rattle.gh_mutator.proofs.Marking.Known.{by_load, Known}
+use Rattle.gh_mutator.proofs.Marking.Known.{Known}
 use Rattle.gh_mutator.proofs.StackMarking.{begins_going, told_going, waits_then}
 
 stores_at : (stage : StackStage) → goes_on stage ≡ true → stack.wish_of stage ≡ None → stage ≡ stack_stage.Store
@@ -108,13 +109,16 @@ module _ (k : Known) (z : Cycle) (a : ℕ) (s : Shared) (good : Good z s) (objec
         }
 
     abbrev Leads : MarkStackStage → Type 0
-    Leads p = Steps z a s (asks_at m p) (λ t. Comes z a s t g (goes_at m p (s.words (cell_of (asks_at m p)))) (gives_at p))
+    Leads p = Steps z a s (asks_at m p) (λ t. Comes z a s t g (goes_at m p (s.words (cell_of (asks_at m p)))) (given (goes_at m p (s.words (cell_of (asks_at m p)))).stage))
+
+    goes_so : (t : Shared) (n : StackMarking) → given n.stage ≡ None → Keeps z a s t × ScanFacts z a t g n → Comes z a s t g n (given n.stage)
+    goes_so t n on h = subst (λ (o : Option (Unit {0})). Comes z a s t g n o) (sym on) h
 
     shades : (sh : shade.Shading) → ShadesWish z a s m.scan sh.reference → shade_facts.Facts z a s nothing sh → Leads (Shading sh)
     shades sh w f =
         let n : ℕ = s.words (cell_of (shade.asks sh)) in
-        landing z a s (effect s.words (shade.asks sh)) (λ t. Keeps z a s t × shade_facts.Facts z a t nothing (shade.goes sh n)) (λ t. Keeps z a s t × ScanFacts z a t g (after_shade m (shade.goes sh n) (shade.gives sh n)))
-        (λ t went h. (h.0, shaded_then t sh n (k.steps z a s t good went).good h.0 w (shade.gives sh n) refl h.1))
+        landing z a s (effect s.words (shade.asks sh)) (λ t. Keeps z a s t × shade_facts.Facts z a t nothing (shade.goes sh n)) (λ t. let to = after_shade m (shade.goes sh n) (shade.gives sh n) in Comes z a s t g to (given to.stage))
+        (λ t went h. goes_so t _ (shaded_on m (shade.goes sh n) (shade.gives sh n)) (h.0, shaded_then t sh n (k.steps z a s t good went).good h.0 w (shade.gives sh n) refl h.1))
         (k.shade.keeps.own_step z a s nothing sh good objects f)
 
     -- the search for room
@@ -138,8 +142,8 @@ module _ (k : Known) (z : Cycle) (a : ℕ) (s : Shared) (good : Good z s) (objec
     finds : (sh : shade.Shading) (r : room.RoomFinding) → ShadesWish z a s m.scan sh.reference → LooksForRoom s sh.reference → buffer_facts.RoomFacts z a s (pending sh.reference) r → Leads (FindRoom sh r)
     finds sh r w looks f =
         let n : ℕ = s.words (cell_of (room.asks r)) in
-        landing z a s (effect s.words (room.asks r)) (λ t. Keeps z a s t × buffer_facts.RoomFacts z a t (pending sh.reference) (room.goes r n)) (λ t. Keeps z a s t × ScanFacts z a t g (after_room m sh (room.goes r n) (room.gives r n)))
-        (λ t went h. (h.0, found_then t sh r n h.0 w looks (room.gives r n) refl f h.1))
+        landing z a s (effect s.words (room.asks r)) (λ t. Keeps z a s t × buffer_facts.RoomFacts z a t (pending sh.reference) (room.goes r n)) (λ t. let to = after_room m sh (room.goes r n) (room.gives r n) in Comes z a s t g to (given to.stage))
+        (λ t went h. goes_so t _ (found_on m sh (room.goes r n) (room.gives r n)) (h.0, found_then t sh r n h.0 w looks (room.gives r n) refl f h.1))
         (k.buffers.finds.own_step z a s (pending sh.reference) r good objects f)
 
     stores : stack_facts.Facts z a s m.scan → m.scan.stage ≡ stack_stage.Store → Hands a s (holding m.held) → Leads Store
@@ -151,7 +155,7 @@ module _ (k : Known) (z : Cycle) (a : ℕ) (s : Shared) (good : Good z s) (objec
     scans_at (Shading sh) x = shades sh x.0 x.1
     scans_at (FindRoom sh r) x = finds sh r x.0 x.1 x.2
     scans_at Store x = stores x.0 x.1 x.2
-    scans_at Ended x = by_load k z a s good cell.Touch (λ t. Keeps z a s t × ScanFacts z a t g (goes_at m Ended (s.words cell.Touch))) ((k.go_on z a).stays s, record { layout_is = layout_is; seat_is = seat_is; of = of; stage_is = x })
+    scans_at Ended x = absurd x
 
   pub scans_on : (g : ℕ) (m : StackMarking) → ScanFacts z a s g m → Steps z a s (asks m) (λ t. Comes z a s t g (goes m (s.words (cell_of (asks m)))) (gives m (s.words (cell_of (asks m)))))
   scans_on g m f = scans_at g m f.layout_is f.seat_is f.of m.stage f.stage_is
@@ -163,7 +167,7 @@ stage_lasts : (k : Known) (z : Cycle) (a : ℕ) (s t : Shared) (held : Option He
 stage_lasts k z a s t held m (Shading sh) o x = (wish_lasts k z a s t m sh.reference o x.0, k.shade.keeps.lasts z a s t nothing sh o x.1)
 stage_lasts k z a s t held m (FindRoom sh r) o x = (wish_lasts k z a s t m sh.reference o x.0, record { some = x.1.some; marked = o.keeps.marks (shade.object_of sh.reference) x.1.marked }, k.buffers.finds.lasts z a s t (pending sh.reference) r o x.2)
 stage_lasts k z a s t held m Store o x = (k.stacks.lasts z a s t m o.keeps x.0, x.1, k.last z a s t (holding held) o x.2)
-stage_lasts k z a s t held m Ended o x = k.last z a s t (holding held) o x
+stage_lasts k z a s t held m Ended o x = x
 
 pub scans_last : (k : Known) (z : Cycle) (a : ℕ) (s t : Shared) (g : ℕ) (m : StackMarking) → Others z a s t → ScanFacts z a s g m → ScanFacts z a t g m
 scans_last k z a s t g m o f = record { layout_is = f.layout_is; seat_is = f.seat_is; of = f.of; stage_is = stage_lasts k z a s t m.held m.scan m.stage o f.stage_is }

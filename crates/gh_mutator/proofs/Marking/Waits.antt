@@ -1,15 +1,15 @@
 -- While marking is on, each step of a wait, and of a leave, is made of moves that its seat may make.
-use Rattle.std.proofs.Common.{◌≡◌, ℕ, Bool, true, false, cond, ltb, Option, Some, None, refl}
+use Rattle.std.proofs.Common.{◌≡◌, ℕ, Bool, true, false, cond, ltb, Option, Some, None, refl, ap}
+use Rattle.std.specs.Prelude.{is_none}
 use Rattle.gh_base.specs.declared.cell.Ask.TheVariants.{Or, Store}
 use Rattle.gh_base.specs.declared.cell.Cell.TheVariants as cell
 use Rattle.gh_base.specs.declared.pack.TheConstants.{GONE}
 use Rattle.gh_mutator.specs.declared.leave.LeaveStage.TheVariants as leave_stage
-use Rattle.gh_mutator.specs.declared.poll.PollStage.TheVariants as poll_stage
 use Rattle.gh_mutator.specs.declared.wait.WaitStage.TheVariants.{Want, Polling, LoadSwept, Ended}
 use Rattle.gh_mutator.specs.Give as give
 use Rattle.gh_mutator.specs.Leave as leave
 use Rattle.gh_mutator.specs.MarkFacts.{GiveFacts, KnowsCycle, LeaveFacts, LeavesByMoves, PollFacts, PollsByMoves, RestFacts, WaitFacts, WaitStageFacts, WaitsByMoves, holding}
-use Rattle.gh_mutator.specs.MarkVocabulary.{Cycle, Good, Hands, Keeps, KnowsObjects, LeaveStage, Others, PollStage, ProcessorIsQuiet, Shared, Steps, WaitStage, cell_of, effect, landing, nothing}
+use Rattle.gh_mutator.specs.MarkVocabulary.{Cycle, Good, Hands, Keeps, KnowsObjects, LeaveStage, Others, ProcessorIsQuiet, Shared, Steps, WaitStage, cell_of, effect, landing, nothing}
 use Rattle.gh_mutator.specs.Poll as poll
 use Rattle.gh_mutator.specs.Wait.{after_poll, asks_at, at_stage, goes_at, is_busy, polling, Waiting}
 use Rattle.gh_mutator.proofs.Marking.Gives.{gives_begin, gives_last, gives_on, nothing_left}
@@ -23,11 +23,6 @@ rest_lasts k z a s t p o r = record {
   between = record { stacks = stacks_last z a s t p.local.stacks p.local.scanned o.keeps r.between.stacks; number = r.between.number; hands = k.last z a s t (holding p.local.held) o r.between.hands };
 }
 
--- a poll that has given something has ended
-pub ended : (stage : PollStage) (x : Unit {0}) → poll.given stage ≡ Some x → poll.is_busy stage ≡ false
-ended poll_stage.Ended x e = refl
-ended _ x e = absurd (cc)
-
 module _ (k : Known) (h : PollsByMoves) (z : Cycle) (a : ℕ) where
   module _ (s : Shared) (good : Good z s) (objects : KnowsObjects z s) (now : KnowsCycle z s) (w : Waiting) where
     abbrev Leads : WaitStage → Type 0
@@ -39,7 +34,7 @@ module _ (k : Known) (h : PollsByMoves) (z : Cycle) (a : ℕ) where
 
     polled_then : (t : Shared) (p : poll.Polling) (out : Option (Unit {0})) → poll.given p.stage ≡ out → PollFacts z a t p → WaitFacts z a t (after_poll w p out)
     polled_then t p None e f = f
-    polled_then t p (Some x) e f = (h.ends z a t p (ended p.stage x e) f).0
+    polled_then t p (Some x) e f = (h.ends z a t p (ap is_none e) f).0
 
     polls : PollFacts z a s w.poll → Leads Polling
     polls f =
@@ -58,7 +53,7 @@ module _ (k : Known) (h : PollsByMoves) (z : Cycle) (a : ℕ) where
     waits_at Want x = asks_for_it x
     waits_at Polling x = polls x
     waits_at LoadSwept x = loads_swept x
-    waits_at Ended x = by_load k z a s good cell.Touch (λ t. WaitFacts z a t (at_stage w Ended)) x
+    waits_at Ended x = by_load k z a s good cell.Touch (λ t. WaitFacts z a t (polling w)) (h.begins z a s w.poll true x)
 
   stage_lasts : (s t : Shared) (p : poll.Polling) (q : WaitStage) → Others z a s t → WaitStageFacts z a s p q → WaitStageFacts z a t p q
   stage_lasts s t p Want o x = rest_lasts k z a s t p o x

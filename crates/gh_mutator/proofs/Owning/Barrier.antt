@@ -1,6 +1,7 @@
 -- A write behind the barrier while others change the heap: until its last step it changes no word that a right guards, and it goes on as the write that it is; its last step stores what the register holds.
 use Rattle.std.proofs.Common.{◌≡◌, ℕ, ◌*◌, ◌≤◌, ◌⊎◌, Bool, true, false, cond, eqb, Option, Some, None, inl, inr, refl, sym, ap, subst, ◌∙◌, arith}
 use Rattle.std.proofs.lemmas.Bool.{eqb-true}
+use Rattle.std.specs.Prelude.{is_none}
 use Rattle.gh_base.specs.declared.cell.Ask.{Ask}
 use Rattle.gh_base.specs.declared.cell.Ask.TheVariants as ask
 use Rattle.gh_base.specs.declared.held.Held.{Held}
@@ -9,6 +10,7 @@ use Rattle.gh_base.specs.Cells.{InRange}
 use Rattle.gh_base.specs.Holding.{IsHeld}
 use Rattle.gh_model.specs.declared.EverValue.TheVariants as ever
 use Rattle.gh_heap.specs.Moves.{IsQuiet}
+use Rattle.gh_shade.specs.declared.shade.Shaded.{Shaded}
 use Rattle.gh_shade.specs.declared.shade.ShadeStage.{ShadeStage}
 use Rattle.gh_shade.specs.declared.shade.ShadeStage.TheVariants as shade_stage
 use Rattle.gh_shade.specs.Listing as shade
@@ -53,15 +55,38 @@ pub record IsLast (w : Writing) (found : ℕ) : Type 0 where
   pub stores : write.asks w ≡ ask.Store (write.cell_at w.at) (write.word_of w.pointer)
   pub ends : write.gives w found ≡ Some tt
 
-step_at : (w : Writing) (found : ℕ) (q : WriteStage) → w.stage ≡ q → IsBefore w found ⊎ IsLast w found
-step_at w found write_stage.Store e = inr (record { stores = ap (λ (q : WriteStage). write.asks_at w q) e; ends = ap write.gives_at e })
-step_at w found write_stage.LoadOld e = inl (record { leaves = subst (λ (q : WriteStage). LeavesAll (write.asks_at w q)) (sym e) (record { quiet = tt; same = λ z a s. refl }); goes_on = ap write.gives_at e })
-step_at w found (write_stage.ShadeOld sh) e = inl (record { leaves = subst (λ (q : WriteStage). LeavesAll (write.asks_at w q)) (sym e) (shade_leaves sh sh.stage); goes_on = ap write.gives_at e })
-step_at w found (write_stage.ShadeNew sh) e = inl (record { leaves = subst (λ (q : WriteStage). LeavesAll (write.asks_at w q)) (sym e) (shade_leaves sh sh.stage); goes_on = ap write.gives_at e })
-step_at w found write_stage.Ended e = inl (record { leaves = subst (λ (q : WriteStage). LeavesAll (write.asks_at w q)) (sym e) (record { quiet = tt; same = λ z a s. refl }); goes_on = ap write.gives_at e })
+new_goes_on : (w : Writing) (pointer : Option ℕ) → write.given (write.shades_new w pointer) ≡ None
+new_goes_on w None = refl
+new_goes_on w (Some r) = refl
 
-pub step_is : (w : Writing) (found : ℕ) → IsBefore w found ⊎ IsLast w found
-step_is w found = step_at w found w.stage refl
+old_goes_on : (w : Writing) (old : Option ℕ) → write.given (write.shades_old w old) ≡ None
+old_goes_on w None = new_goes_on w w.pointer
+old_goes_on w (Some r) = refl
+
+after_old_goes_on : (w : Writing) (sh : shade.Shading) (out : Option Shaded) → write.given (write.after_old w sh out) ≡ None
+after_old_goes_on w sh None = refl
+after_old_goes_on w sh (Some out) = new_goes_on (record w { held = sh.held }) w.pointer
+
+after_new_goes_on : (w : Writing) (sh : shade.Shading) (out : Option Shaded) → write.given (write.after_new w sh out) ≡ None
+after_new_goes_on w sh None = refl
+after_new_goes_on w sh (Some out) = refl
+
+module _ (w : Writing) (found : ℕ) where
+  abbrev then : WriteStage → Writing
+  then q = write.goes_at w q found
+
+  before : (q : WriteStage) → w.stage ≡ q → LeavesAll (write.asks_at w q) → write.given (then q) ≡ None → IsBefore w found ⊎ IsLast w found
+  before q e leaves on = inl (record { leaves = subst (λ (p : WriteStage). LeavesAll (write.asks_at w p)) (sym e) leaves; goes_on = ap (λ (p : WriteStage). write.given (then p)) e ∙ on })
+
+  step_at : (q : WriteStage) → w.stage ≡ q → write.is_busy q ≡ true → IsBefore w found ⊎ IsLast w found
+  step_at write_stage.Store e busy = inr (record { stores = ap (λ (q : WriteStage). write.asks_at w q) e; ends = ap (λ (q : WriteStage). write.given (then q)) e })
+  step_at write_stage.LoadOld e busy = before write_stage.LoadOld e (record { quiet = tt; same = λ z a s. refl }) (old_goes_on w (write.read_as w.layout found))
+  step_at (write_stage.ShadeOld sh) e busy = before (write_stage.ShadeOld sh) e (shade_leaves sh sh.stage) (after_old_goes_on w (shade.goes sh found) (shade.gives sh found))
+  step_at (write_stage.ShadeNew sh) e busy = before (write_stage.ShadeNew sh) e (shade_leaves sh sh.stage) (after_new_goes_on w (shade.goes sh found) (shade.gives sh found))
+  step_at write_stage.Ended e busy = absurd (cc)
+
+  pub step_is : write.is_busy w.stage ≡ true → IsBefore w found ⊎ IsLast w found
+  step_is busy = step_at w.stage refl busy
 
 -- What it writes.
 
@@ -93,15 +118,16 @@ module _ (laws : Known) (z : Arena) (v : View) (good : Good z v) where
 
 -- where it begins
 pub begins_so : Known → (l : Layout) (own : Local) (at : PointerCell) (v : Value) → InRange l (write.cell_at at) → FitsPointer l (pointer_of v) → IsHeld l own.held → is_number_value v ≡ false → WritesIt l at v (written l own at v)
-begins_so laws l own at v there fits is names = record { same_cell = refl; same_pointer = refl; names = names; within = laws.within.begins l at (pointer_of v) own.held there fits is }
+begins_so laws l own at v there fits is names = record { same_cell = refl; same_pointer = refl; names = names; within = laws.within.begins l at (pointer_of v) own.held there fits is; busy = refl }
 
 -- and goes on
-pub goes_so : Known → (l : Layout) (at : PointerCell) (v : Value) (w : Writing) (found : ℕ) → WritesIt l at v w → WritesIt l at v (write.goes w found)
-goes_so laws l at v w found it = record {
+pub goes_so : Known → (l : Layout) (at : PointerCell) (v : Value) (w : Writing) (found : ℕ) → WritesIt l at v w → write.gives w found ≡ None → WritesIt l at v (write.goes w found)
+goes_so laws l at v w found it e = record {
   same_cell = laws.writes.same_cell w found ∙ it.same_cell;
   same_pointer = laws.writes.same_pointer w found ∙ it.same_pointer;
   names = it.names;
   within = laws.within.goes_on l w found it.within;
+  busy = ap is_none e;
 }
 
 -- What it holds is a buffer of the heap, and nothing else of the processor changes.

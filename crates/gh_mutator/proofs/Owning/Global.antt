@@ -141,7 +141,7 @@ module _ (k : Known) (x : Global) (z : Arena) (a : ℕ) (s : Shared) (m : Proces
     writes_on b = subst (λ (y : Option (Unit {0})). Comes Global task.Global z a s beside (keeping m (held_then w (word stage))) x.g x.r o None (after_write x (write.goes w (word stage)) y)) (sym b.goes_on) (record {
       after = None;
       fine = subst (λ (v : View). Fine z a v (at_task (keeping m (held_then w (word stage))) (task.Global (at_stage x (global_stage.Writing (write.goes w (word stage)))))) None) (sym (b.leaves.same z a s))
-          (record { counts = steady-then.0; knows = steady-then.1; right = right; task = (runs, low, few, plain, goes_so k z.layout (pointer_cell.Global x.k) held w (word stage) it, refl) });
+          (record { counts = steady-then.0; knows = steady-then.1; right = right; task = (runs, low, few, plain, goes_so k z.layout (pointer_cell.Global x.k) held w (word stage) it b.goes_on, refl) });
       ever = refl;
       answers = refl;
     })
@@ -158,7 +158,7 @@ store_step k x z a s m pending shapes good f = subst (λ (y : Option Answer). St
 
 write_step : Known → (x : Global) (w : PointerWrite) → StepAt (at x (global_stage.Writing w))
 write_step k x w z a s m pending shapes good f = subst (λ (y : Option Answer). StepFrom z a s (at_task m (at x (global_stage.Writing w))) y) (sym f.task.5)
-    (write_now k x z a s m (f.counts, f.knows) f.right f.task.0 f.task.1 f.task.2 f.task.3 w f.task.4 (step_is w _))
+    (write_now k x z a s m (f.counts, f.knows) f.right f.task.0 f.task.1 f.task.2 f.task.3 w f.task.4 (step_is w _ f.task.4.busy))
 
 number_step : (x : Global) → StepAt (at x global_stage.Number)
 number_step x z a s m pending shapes good f =

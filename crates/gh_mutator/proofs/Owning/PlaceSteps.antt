@@ -1,5 +1,5 @@
 -- The steps of a new object's making. The making is known by its law, and by which of its steps makes the object and which is its last.
-use Rattle.std.proofs.Common.{◌≡◌, ℕ, ◌+◌, ◌/◌, ◌<◌, ◌⊎◌, Bool, true, false, cond, eqb, ltb, List, [], ◌∷◌, ◌++◌, length, get_or, Option, Some, None, refl, sym, ap, subst, ◌∙◌, arith, inl, inr, length-set, get_or-set_same, get_or-set_other}
+use Rattle.std.proofs.Common.{◌≡◌, ℕ, ◌+◌, ◌/◌, ◌<◌, ◌⊎◌, Bool, true, false, cond, eqb, ltb, List, [], ◌∷◌, ◌++◌, length, get_or, Option, Some, None, is_none, refl, sym, ap, subst, ◌∙◌, arith, inl, inr, length-set, get_or-set_same, get_or-set_other}
 use Rattle.std.specs.Option.{option_to_list}
 use Rattle.std.proofs.Math.ListN.{set}
 use Rattle.std.proofs.lemmas.Bool.{eqb-true, eqb-false, eq-eqb}
@@ -27,13 +27,13 @@ use Rattle.gh_mutator.proofs.Owning.Steady.{goroutine_few, registers_then, sits_
 
 -- What kind of step is made at a stage: one on the way, the one that makes the object, or the last.
 data Kind (p : placer.Placing) (q : PlaceStage) (found : ℕ) : Type 0 where
-  onward : placer.acts_at q ≡ false → placer.gives_at q ≡ None → placer.is_busy (placer.goes_at p q found) ≡ true → is_made (placer.goes_at p q found) ≡ is_made q → Kind p q found
-  making-it : placer.acts_at q ≡ true → placer.gives_at q ≡ None → placer.is_busy (placer.goes_at p q found) ≡ true → is_made (placer.goes_at p q found) ≡ true → is_made q ≡ false → Kind p q found
-  ending : placer.acts_at q ≡ false → placer.gives_at q ≡ Some tt → placer.is_busy (placer.goes_at p q found) ≡ false → is_made q ≡ true → placer.goes_at p q found ≡ making.Ended → Kind p q found
+  onward : placer.acts_at q ≡ false → placer.given_at (placer.goes_at p q found) ≡ None → is_made (placer.goes_at p q found) ≡ is_made q → Kind p q found
+  making-it : placer.acts_at q ≡ true → placer.given_at (placer.goes_at p q found) ≡ None → is_made (placer.goes_at p q found) ≡ true → is_made q ≡ false → Kind p q found
+  ending : placer.acts_at q ≡ false → placer.given_at (placer.goes_at p q found) ≡ Some tt → is_made q ≡ true → placer.goes_at p q found ≡ making.Ended → Kind p q found
 
-filled-busy : (marking : Bool) → placer.is_busy (placer.filled marking) ≡ true
-filled-busy true = refl
-filled-busy false = refl
+filled-none : (marking : Bool) → placer.given_at (placer.filled marking) ≡ None
+filled-none true = refl
+filled-none false = refl
 
 filled-unmade : (marking : Bool) → is_made (placer.filled marking) ≡ false
 filled-unmade true = refl
@@ -42,20 +42,20 @@ filled-unmade false = refl
 kind-of : (p : placer.Placing) (q : PlaceStage) (found : ℕ) → (q ≡ making.Ended → ⊥) → Kind p q found
 kind-of p (making.Clear i) found busy = go (ltb (i + 1) p.slot) refl where
   go : (b : Bool) → ltb (i + 1) p.slot ≡ b → Kind p (making.Clear i) found
-  go true e = onward refl refl (ap (λ (b : Bool). placer.is_busy (cond b (making.Clear (i + 1)) making.Birth)) e) (ap (λ (b : Bool). is_made (cond b (making.Clear (i + 1)) making.Birth)) e)
-  go false e = onward refl refl (ap (λ (b : Bool). placer.is_busy (cond b (making.Clear (i + 1)) making.Birth)) e) (ap (λ (b : Bool). is_made (cond b (making.Clear (i + 1)) making.Birth)) e)
-kind-of p making.Birth found busy = onward refl refl refl refl
+  go true e = onward refl (ap (λ (b : Bool). placer.given_at (cond b (making.Clear (i + 1)) making.Birth)) e) (ap (λ (b : Bool). is_made (cond b (making.Clear (i + 1)) making.Birth)) e)
+  go false e = onward refl (ap (λ (b : Bool). placer.given_at (cond b (making.Clear (i + 1)) making.Birth)) e) (ap (λ (b : Bool). is_made (cond b (making.Clear (i + 1)) making.Birth)) e)
+kind-of p making.Birth found busy = onward refl refl refl
 kind-of p (making.Bits s) found busy = go (setter.is_busy (setter.goes s found).stage) refl where
   go : (b : Bool) → setter.is_busy (setter.goes s found).stage ≡ b → Kind p (making.Bits s) found
-  go true e = onward refl refl (ap (λ (b : Bool). placer.is_busy (cond b (making.Bits (setter.goes s found)) (placer.filled p.marking))) e ∙ e) (ap (λ (b : Bool). is_made (cond b (making.Bits (setter.goes s found)) (placer.filled p.marking))) e)
-  go false e = onward refl refl (ap (λ (b : Bool). placer.is_busy (cond b (making.Bits (setter.goes s found)) (placer.filled p.marking))) e ∙ filled-busy p.marking) (ap (λ (b : Bool). is_made (cond b (making.Bits (setter.goes s found)) (placer.filled p.marking))) e ∙ filled-unmade p.marking)
-kind-of p making.Mark found busy = onward refl refl refl refl
+  go true e = onward refl (ap (λ (b : Bool). placer.given_at (cond b (making.Bits (setter.goes s found)) (placer.filled p.marking))) e) (ap (λ (b : Bool). is_made (cond b (making.Bits (setter.goes s found)) (placer.filled p.marking))) e)
+  go false e = onward refl (ap (λ (b : Bool). placer.given_at (cond b (making.Bits (setter.goes s found)) (placer.filled p.marking))) e ∙ filled-none p.marking) (ap (λ (b : Bool). is_made (cond b (making.Bits (setter.goes s found)) (placer.filled p.marking))) e ∙ filled-unmade p.marking)
+kind-of p making.Mark found busy = onward refl refl refl
 kind-of p making.Alloc found busy = go p.span refl where
   go : (x : Option SpanHead) → p.span ≡ x → Kind p making.Alloc found
-  go None e = making-it refl refl (ap (λ (y : Option SpanHead). placer.is_busy (placer.made p y)) e) (ap (λ (y : Option SpanHead). is_made (placer.made p y)) e) refl
-  go (Some h) e = making-it refl refl (ap (λ (y : Option SpanHead). placer.is_busy (placer.made p y)) e) (ap (λ (y : Option SpanHead). is_made (placer.made p y)) e) refl
-kind-of p (making.Give g) found busy = onward refl refl refl refl
-kind-of p making.Count found busy = ending refl refl refl refl refl
+  go None e = making-it refl (ap (λ (y : Option SpanHead). placer.given_at (placer.made p y)) e) (ap (λ (y : Option SpanHead). is_made (placer.made p y)) e) refl
+  go (Some h) e = making-it refl (ap (λ (y : Option SpanHead). placer.given_at (placer.made p y)) e) (ap (λ (y : Option SpanHead). is_made (placer.made p y)) e) refl
+kind-of p (making.Give g) found busy = onward refl refl refl
+kind-of p making.Count found busy = ending refl refl refl refl
 kind-of p making.Ended found busy = absurd (busy refl)
 
 -- What the seat holds at a stage, and what its caches list.
@@ -188,17 +188,17 @@ module _ (k : Known) (z : Arena) (a : ℕ) (s : Shared) (m : Processor) (x : Wan
 
   -- what the step comes to, by its kind
   done : (t : Shared) → ShapesAreGood z.shapes → Steady z a now m → Makes z a now m x p pending → HoldsSwept a now → KeepsItsOwn a now (view t) → place.Changes z (for_whom x) p (placer.acts_at p.stage) now (view t) →
-      place.Comes z a (view t) (for_whom x) (base z a now m x p) (placer.gives_at p.stage) next → place.CountsAlone p.stage s t → Kind p p.stage found → Does z a s t making-at pending found
-  done t sg st mk swept own changes comes alone (onward still gives busy same) = record {
+      place.Comes z a (view t) (for_whom x) (base z a now m x p) (placer.given_at next.stage) next → place.CountsAlone p.stage s t → Kind p p.stage found → Does z a s t making-at pending found
+  done t sg st mk swept own changes comes alone (onward still gives same) = record {
     after = pending;
-    fine = subst (λ (b : Bool). Fine z a (view t) (then b (placer.is_busy next.stage)) pending) (sym still) (subst (λ (b : Bool). Fine z a (view t) (then false b) pending) (sym busy) (record {
+    fine = subst (λ (b : Bool). Fine z a (view t) (then b (placer.is_busy next.stage)) pending) (sym still) (subst (λ (b : Bool). Fine z a (view t) (then false b) pending) (sym (ap is_none gives)) (record {
       counts = (steady_on z a now (view t) m o swept own held st).0;
       knows = (steady_on z a now (view t) m o swept own held st).1;
       right = come.0;
       task = record { facts = come.1; register = mk.register; of = mk.of; span = mk.span; apart = mk.apart; named = subst (λ (b : Bool). NamedFrom b p.name pending) (sym same) mk.named };
     }));
     ever = o.0 ∙ sym (ap (λ (b : Bool). acted z.shapes s.ever (acting b (op_of x) false)) still);
-    answers = ap (λ (b : Bool). option_to_list (answered_at z.shapes s.ever (acting b (op_of x) false)) ++ option_to_list pending) still ∙ nothing pending ∙ sym (ap (λ (b : Bool). option_to_list pending ++ option_to_list (cond b None (Some (answer.Ref p.name)))) busy);
+    answers = ap (λ (b : Bool). option_to_list (answered_at z.shapes s.ever (acting b (op_of x) false)) ++ option_to_list pending) still ∙ nothing pending ∙ sym (ap (λ (b : Bool). option_to_list pending ++ option_to_list (cond b None (Some (answer.Ref p.name)))) (ap is_none gives));
     full = λ q acts full. absurd (no-act q (ap (λ (b : Bool). acting b (op_of x) false) (sym still) ∙ acts));
     counts = alone;
   } where
@@ -217,9 +217,9 @@ module _ (k : Known) (z : Arena) (a : ℕ) (s : Shared) (m : Processor) (x : Wan
 
     no-act : (q : Act) → None ≡ Some q → ⊥
     no-act q e = cc
-  done t sg st mk swept own changes comes alone (making-it acts gives busy made unmade) = record {
+  done t sg st mk swept own changes comes alone (making-it acts gives made unmade) = record {
     after = Some (answer.Ref p.name);
-    fine = subst (λ (b : Bool). Fine z a (view t) (then b (placer.is_busy next.stage)) (Some (answer.Ref p.name))) (sym acts) (subst (λ (b : Bool). Fine z a (view t) (then true b) (Some (answer.Ref p.name))) (sym busy) (record {
+    fine = subst (λ (b : Bool). Fine z a (view t) (then b (placer.is_busy next.stage)) (Some (answer.Ref p.name))) (sym acts) (subst (λ (b : Bool). Fine z a (view t) (then true b) (Some (answer.Ref p.name))) (sym (ap is_none gives)) (record {
       counts = made-counts z a now (view t) m.made x.g x.d x.t mk.of o.0 st.0;
       knows = record {
         stands = record { sits = sits_register z a m.poll x.g x.d (value.Ref (p.at + 1)) st.1.stands.sits; registers = made-registers z a now (view t) m.poll x.g x.d x.t p.at st.1.stands.sits mk.of mk.register o.0 o.1 st.1.stands.registers };
@@ -230,7 +230,7 @@ module _ (k : Known) (z : Arena) (a : ℕ) (s : Shared) (m : Processor) (x : Wan
     }));
     ever = o.0 ∙ sym (ap (λ (b : Bool). acted z.shapes s.ever (acting b (op_of x) false)) acts);
     answers = ap (λ (b : Bool). option_to_list (answered_at z.shapes s.ever (acting b (op_of x) false)) ++ option_to_list pending) acts ∙ ap (λ (q : Option Answer). (answer.Ref (next_name s.ever x.g) ∷ []) ++ option_to_list q) none
-        ∙ ap (λ (n : Name). answer.Ref n ∷ []) (sym o.2) ∙ sym (ap (λ (b : Bool). option_to_list (Some (answer.Ref p.name)) ++ option_to_list (cond b None (Some (answer.Ref p.name)))) busy);
+        ∙ ap (λ (n : Name). answer.Ref n ∷ []) (sym o.2) ∙ sym (ap (λ (b : Bool). option_to_list (Some (answer.Ref p.name)) ++ option_to_list (cond b None (Some (answer.Ref p.name)))) (ap is_none gives));
     full = λ q e full. absurd (not-full q (ap (λ (b : Bool). acting b (op_of x) false) (sym acts) ∙ e) full);
     counts = alone;
   } where
@@ -248,16 +248,16 @@ module _ (k : Known) (z : Arena) (a : ℕ) (s : Shared) (m : Processor) (x : Wan
 
     not-full : (q : Act) → Some (record { op = op_of x; full = false }) ≡ Some q → q.full ≡ true → ⊥
     not-full q e f = let same : record { op = op_of x; full = false } ≡ q = cc in absurd (cc (ap (λ (r : Act). r.full) same, f))
-  done t sg st mk swept own changes comes alone (ending still gives busy made last) = record {
+  done t sg st mk swept own changes comes alone (ending still gives made last) = record {
     after = None;
-    fine = subst (λ (b : Bool). Fine z a (view t) (then b (placer.is_busy next.stage)) None) (sym still) (subst (λ (b : Bool). Fine z a (view t) (then false b) None) (sym busy) (record {
+    fine = subst (λ (b : Bool). Fine z a (view t) (then b (placer.is_busy next.stage)) None) (sym still) (subst (λ (b : Bool). Fine z a (view t) (then false b) None) (sym (ap is_none gives)) (record {
       counts = (steady_on z a now (view t) m o swept own (λ y e. held y ∙ e) st).0;
       knows = (steady_on z a now (view t) m o swept own (λ y e. held y ∙ e) st).1;
       right = record { locked = come.0.locked; holds = held; laying = come.0.laying; freeing = come.0.freeing };
       task = refl;
     }));
     ever = o.0 ∙ sym (ap (λ (b : Bool). acted z.shapes s.ever (acting b (op_of x) false)) still);
-    answers = ap (λ (b : Bool). option_to_list (answered_at z.shapes s.ever (acting b (op_of x) false)) ++ option_to_list pending) still ∙ ap (λ (q : Option Answer). [] ++ option_to_list q) named ∙ sym (ap (λ (b : Bool). [] ++ option_to_list (cond b None (Some (answer.Ref p.name)))) busy);
+    answers = ap (λ (b : Bool). option_to_list (answered_at z.shapes s.ever (acting b (op_of x) false)) ++ option_to_list pending) still ∙ ap (λ (q : Option Answer). [] ++ option_to_list q) named ∙ sym (ap (λ (b : Bool). [] ++ option_to_list (cond b None (Some (answer.Ref p.name)))) (ap is_none gives));
     full = λ q acts full. absurd (no-act q (ap (λ (b : Bool). acting b (op_of x) false) (sym still) ∙ acts));
     counts = alone;
   } where

@@ -1,15 +1,12 @@
 -- Own steps of a poll, of a leave, and of the waits of a `gc` and of a new object. Each is known by its law alone.
-use Rattle.std.proofs.Common.{◌≡◌, ℕ, Bool, true, false, cond, is_some, [], ◌∷◌, ◌++◌, Option, Some, None, refl, sym, ap, subst, ◌∙◌}
+use Rattle.std.proofs.Common.{◌≡◌, ℕ, true, false, is_some, [], ◌∷◌, ◌++◌, Option, Some, None, refl, sym, ap, subst, ◌∙◌}
 use Rattle.std.specs.Option.{option_to_list}
+use Rattle.std.specs.Prelude.{is_none}
 use Rattle.gh_base.specs.declared.operation.Op.TheVariants as op
 use Rattle.gh_base.specs.declared.value.Answer.TheVariants as answer
 use Rattle.gh_mutator.proofs.Owning.Vocabulary.{Act, acted, acting, answered_at, at_task, CountsAlone, Does, Fine, KnowsCounts, OwnStepAt, ShapesAreGood, Wants}
-use Rattle.gh_mutator.specs.declared.leave.LeaveStage.{LeaveStage}
-use Rattle.gh_mutator.specs.declared.leave.LeaveStage.TheVariants as leave_stage
 use Rattle.gh_mutator.specs.declared.task.Task.TheVariants as task
 use Rattle.gh_mutator.specs.declared.wait.Wait.{Wait as WaitState}
-use Rattle.gh_mutator.specs.declared.wait.WaitStage.{WaitStage}
-use Rattle.gh_mutator.specs.declared.wait.WaitStage.TheVariants as wait_stage
 use Rattle.gh_mutator.specs.Leave as leave
 use Rattle.gh_mutator.specs.Listing.{acts, after_gc, after_leave, after_poll, gives, once_ended, takes}
 use Rattle.gh_mutator.specs.New.{after_wait, waits}
@@ -23,22 +20,6 @@ use Rattle.gh_mutator.proofs.Owning.Known.{Known}
 use Rattle.gh_mutator.proofs.Owning.Searching.{same_wants, seek-begins}
 use Rattle.gh_mutator.proofs.Owning.Statements.{at_its_task, not_full, StepAt, StepFrom}
 use Rattle.gh_mutator.proofs.Owning.Steady.{goroutine_few, same_counts}
-use Rattle.gh_mutator.proofs.Shaking.Waits.{ended}
-
--- where a wait, or a leave, ends with a step it is over
-wait_over : (w : Waiting) (q : WaitStage) (found : ℕ) (y : Unit {0}) → wait.gives_at w.wait.known q found ≡ Some y → wait.is_busy (wait.goes_at w q found).wait.stage ≡ false
-wait_over w wait_stage.Want found y e = absurd (cc)
-wait_over w wait_stage.Polling found y e = absurd (cc)
-wait_over w wait_stage.LoadSwept found y e = go (wait.is_later w.wait.known found) refl e where
-  go : (b : Bool) → wait.is_later w.wait.known found ≡ b → wait.given b ≡ Some y → wait.is_busy (cond (wait.is_later w.wait.known found) (wait.at_stage w wait_stage.Ended) (wait.polling w)).wait.stage ≡ false
-  go true is f = ap (λ (c : Bool). wait.is_busy (cond c (wait.at_stage w wait_stage.Ended) (wait.polling w)).wait.stage) is
-  go false is f = absurd (cc)
-wait_over w wait_stage.Ended found y e = absurd (cc)
-
-leave_over : (w : Leaving) (q : LeaveStage) (found : ℕ) (y : Unit {0}) → leave.gives_at q ≡ Some y → leave.is_busy (leave.goes_at w q found).stage ≡ false
-leave_over w (leave_stage.Giving g) found y e = absurd (cc)
-leave_over w leave_stage.Leave found y e = refl
-leave_over w leave_stage.Left found y e = refl
 
 module _ (z : Arena) (s : Shared) (o : Op) (b : Answer) (is : answer_of z.shapes s.ever o ≡ b) (stays : ever_after z.shapes s.ever o (answer_of z.shapes s.ever o) ≡ s.ever) where
   -- an operation that changes nothing in the heap that never frees acts where it ends
@@ -65,7 +46,7 @@ module _ (k : Known) (z : Arena) (a : ℕ) (s : Shared) (m : Processor) (good : 
 
   poll_fine : (t : Shared) (found : ℕ) → KeepsObjects (view s) (view t) → Polls z a (view t) (poll.goes m.poll found) → (g : Option (Unit {0})) → poll.gives m.poll found ≡ g → Fine z a (view t) (after_poll m (poll.goes m.poll found) g) None
   poll_fine t found o p None e = record { counts = same_counts z a (view s) (view t) m.made o counts; knows = p.1; right = p.0; task = refl }
-  poll_fine t found o p (Some y) e = let r = k.polls.ends z a (view t) (poll.goes m.poll found) (ended (poll.goes m.poll found) (poll.goes m.poll found).stage y e) p in
+  poll_fine t found o p (Some y) e = let r = k.polls.ends z a (view t) (poll.goes m.poll found) (ap is_none e) p in
       record { counts = same_counts z a (view s) (view t) m.made o counts; knows = r.1; right = r.0; task = refl }
 
   poll_step : Polls z a (view s) m.poll → StepFrom z a s (at_task m task.Poll) None
@@ -76,7 +57,7 @@ module _ (k : Known) (z : Arena) (a : ℕ) (s : Shared) (m : Processor) (good : 
 
   leave_fine : (t : Shared) (x : Leaving) (found : ℕ) → KeepsObjects (view s) (view t) → Leaves z a (view t) m.poll (leave.goes x found) → (g : Option (Unit {0})) → leave.gives x found ≡ g → Fine z a (view t) (after_leave m (leave.goes x found) g) None
   leave_fine t x found o p None e = record { counts = same_counts z a (view s) (view t) m.made o counts; knows = p.1; right = p.0; task = refl }
-  leave_fine t x found o p (Some y) e = let r = k.leaves.ends z a (view t) m.poll (leave.goes x found) (leave_over x x.stage found y e) p in
+  leave_fine t x found o p (Some y) e = let r = k.leaves.ends z a (view t) m.poll (leave.goes x found) (ap is_none e) p in
       record { counts = same_counts z a (view s) (view t) m.made o counts; knows = r.1; right = r.0; task = refl }
 
   leave_step : (x : Leaving) → Leaves z a (view s) m.poll x → StepFrom z a s (at_task m (task.Leave x)) None
@@ -97,7 +78,7 @@ module _ (k : Known) (z : Arena) (a : ℕ) (s : Shared) (m : Processor) (good : 
     -- of a `gc`
     gc_fine : (t : Shared) (g : ℕ) → KeepsObjects (view s) (view t) → Waits z a (view t) next → (y : Option (Unit {0})) → wait.gives now found ≡ y → Fine z a (view t) (after_gc m g next y) None
     gc_fine t g o w None e = record { counts = same_counts z a (view s) (view t) m.made o counts; knows = w.1; right = w.0; task = refl }
-    gc_fine t g o w (Some y) e = let r = k.waits.ends z a (view t) next (wait_over now x.stage found y e) w in
+    gc_fine t g o w (Some y) e = let r = k.waits.ends z a (view t) next (ap is_none e) w in
         record { counts = same_counts z a (view s) (view t) m.made o counts; knows = r.1; right = r.0; task = refl }
 
     gc_step : (g : ℕ) → StepFrom z a s (at_task m (task.Gc g x)) None
@@ -111,7 +92,7 @@ module _ (k : Known) (z : Arena) (a : ℕ) (s : Shared) (m : Processor) (good : 
 
       new_fine : (t : Shared) → KeepsObjects (view s) (view t) → Waits z a (view t) next → (y : Option (Unit {0})) → wait.gives now found ≡ y → Fine z a (view t) (after_wait m w next y) None
       new_fine t o q None e = record { counts = same_counts z a (view s) (view t) m.made o counts; knows = q.1; right = q.0; task = (same_wants z a (view s) (view t) w o wants, refl) }
-      new_fine t o q (Some y) e = let r = k.waits.ends z a (view t) next (wait_over now x.stage found y e) q in
+      new_fine t o q (Some y) e = let r = k.waits.ends z a (view t) next (ap is_none e) q in
           seek-begins k z a (view t) (at_poll m next.poll) w true sought (same_wants z a (view s) (view t) w o wants) (same_counts z a (view s) (view t) m.made o counts, r.1) r.0
 
       new_step : StepFrom z a s (at_task m (waits w now)) None

@@ -218,7 +218,7 @@ module _ (laws : Known) (z : Arena) (a : ℕ) (s : Shared) (m : Processor) (x : 
       writes_on b = subst (λ (o : Option (Unit {0})). ToWith (held_then w word) beside None (after_write x (write.goes w word) o)) (sym b.goes_on) (record {
         after = None;
         fine = subst (λ (v : View). Fine z a v (at_task (keeping m (held_then w word)) (task.Store (at_stage x (Writing (write.goes w word))))) None) (sym (b.leaves.same z a s))
-            (record { counts = steady-then.0; knows = steady-then.1; right = right; task = (stores_at (Writing w) (Writing (write.goes w word)) l, few, fit, goes_so laws z.layout (pointer_cell_at m.poll.layout (x.at + x.k)) held w word it) });
+            (record { counts = steady-then.0; knows = steady-then.1; right = right; task = (stores_at (Writing w) (Writing (write.goes w word)) l, few, fit, goes_so laws z.layout (pointer_cell_at m.poll.layout (x.at + x.k)) held w word it b.goes_on) });
         ever = refl;
         answers = refl;
       })
@@ -244,7 +244,7 @@ module _ (laws : Known) (z : Arena) (a : ℕ) (s : Shared) (m : Processor) (x : 
     by Page None fine steady = page steady fine.right fine.task
     by Bits None fine steady = bits steady fine.right fine.task.0 fine.task.1
     by Field None fine steady = field steady fine.right fine.task.0 fine.task.1 fine.task.2
-    by (Writing w) None fine steady = writing steady fine.right w fine.task.0 fine.task.1 fine.task.2 fine.task.3 (step_is w (found (Writing w)))
+    by (Writing w) None fine steady = writing steady fine.right w fine.task.0 fine.task.1 fine.task.2 fine.task.3 (step_is w (found (Writing w)) fine.task.3.busy)
     by NilBase None fine steady = nil_base steady fine.right fine.task.2
     by Page (Some y) fine steady = absurd (cc fine.task.unanswered)
     by Bits (Some y) fine steady = absurd (cc fine.task.0.unanswered)

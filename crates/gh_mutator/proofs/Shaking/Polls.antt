@@ -1,9 +1,9 @@
 -- Each step of a poll is one of the handshake of a stop: by its stages.
-use Rattle.std.proofs.Common.{◌≡◌, ℕ, ◌+◌, ◌%◌, ◌^◌, ◌⊎◌, Bool, true, false, cond, refl, ◌∙◌, inl, inr, Option, Some, None}
+use Rattle.std.proofs.Common.{◌≡◌, ℕ, ◌+◌, ◌%◌, ◌^◌, ◌⊎◌, Bool, true, false, cond, refl, ap, ◌∙◌, inl, inr, Option, Some, None}
+use Rattle.std.specs.Prelude.{is_none}
 use Rattle.gh_base.specs.declared.cell.Cell.TheVariants as cell
 use Rattle.gh_phase.specs.declared.resume.ResumeStage.TheVariants.{Acknowledge}
 use Rattle.gh_phase.specs.declared.view.RunPhase.TheVariants as run
-use Rattle.gh_phase.specs.Ends as resume_ends
 use Rattle.gh_phase.specs.Handshake.{FromAwake, Gives, Resumes, Stage}
 use Rattle.gh_phase.specs.Listing as resume
 use Rattle.gh_phase.specs.ResumePlaces.{ResumesInHandshake}
@@ -122,7 +122,7 @@ module _ (h : ResumesInHandshake) (found : ℕ) (p : Polling) (has : HasPlaces p
       record { sound = a.sound; seat = a.seat; goes = rw (a.party, a.stage, ← seat_is, ← last.0, ← last.1) goes_so }
 
   resumes_so : (out : Option Resumed) → resume.gives r found ≡ out → Goes found p (Resuming r) (after_resume p (resume.goes r found) out)
-  resumes_so None e = record { sound = (has, record { seat_is = seat_is; busy = (resume_ends.ends r found s.busy).0 (rw e refl); no_span = s.no_span; no_buffer = s.no_buffer }); seat = refl; goes = goes_so }
+  resumes_so None e = record { sound = (has, record { seat_is = seat_is; busy = ap is_none e; no_span = s.no_span; no_buffer = s.no_buffer }); seat = refl; goes = goes_so }
   resumes_so (Some out) e = ends_so out e
 
 module _ (q : ProcessorIsQuiet) (m : MarkingIsQuiet) (h : ResumesInHandshake) where

@@ -1,5 +1,6 @@
 -- Each step of the whole processor is one of the handshake of a stop: by its tasks.
-use Rattle.std.proofs.Common.{◌≡◌, ℕ, Bool, true, false, cond, ◌↔◌, List, refl, sym, subst, ◌∙◌, inl, Option, Some, None, IsNone}
+use Rattle.std.proofs.Common.{◌≡◌, ℕ, Bool, true, false, cond, List, refl, sym, ap, subst, ◌∙◌, inl, Option, Some, None}
+use Rattle.std.specs.Prelude.{is_none}
 use Rattle.gh_base.specs.declared.operation.Op.TheVariants as op
 use Rattle.gh_alloc.specs.Search as search
 use Rattle.gh_alloc.specs.Place as place
@@ -9,17 +10,15 @@ use Rattle.gh_mutator.specs.Give as give
 use Rattle.gh_mutator.specs.Global as global
 use Rattle.gh_mutator.specs.Handshake.{HasPlaces, knower, leaver, LeavesInHandshake, PollsInHandshake, PollsOn, SoundWait, wait_stage_of, waiter_of, WaitsInHandshake}
 use Rattle.gh_mutator.specs.Leave as leave
-use Rattle.gh_mutator.specs.LeaveEnds as leave_proved
 use Rattle.gh_mutator.specs.Load as load
 use Rattle.gh_mutator.specs.Poll as poll
-use Rattle.gh_mutator.specs.PollEnds as poll_proved
 use Rattle.gh_mutator.specs.Processor.{keeping}
 use Rattle.gh_mutator.specs.ProcessorPlaces.{LeavesOn, party_of, SoundPlace, stage_of}
 use Rattle.gh_mutator.specs.Register as register
 use Rattle.gh_mutator.specs.Store as store
 use Rattle.gh_mutator.specs.Vocabulary.{Polling}
 use Rattle.gh_mutator.specs.Wait as wait
-use Rattle.gh_mutator.specs.WaitEnds as wait_proved
+use Rattle.gh_mutator.specs.Stays.{leaves_on}
 use Rattle.gh_mutator.proofs.Vocabulary.{Acts, after_gc, after_leave, after_place, after_poll, after_search, after_wait, applied, asks_at, At, Awake, begins, cache_span, cache_with, CachedSpan, Ends, follows, Found, GoesOn, has_left_at, is_busy_at, IsQuiet, Large, leaves_at, LeaveStage, Leaving, length-set, made_object, makes, MarkingIsQuiet, NewStage, NoRoom, Op, party_at, Place, PlaceBegins, Placing, Processor, ProcessorInHandshake, ProcessorIsQuiet, register_of, Search, Seeking, Shape, Small, Sought, SoundAt, span_index, stage_at, StageGoes, Step, takes, takes_at, Task, Then, Value, Wait, Waiting, WaitState, Wanted}
 use Rattle.gh_mutator.proofs.Shaking.Acknowledging.{acks}
 
@@ -101,11 +100,6 @@ place_lands m w made a p has = by made (place.is_busy p.stage) where
   by true more = lands m _ has refl (either more)
   by false more = lands m _ has refl (either more)
 
--- what ends has ended
-ended : (busy : Bool) (u : Unit {0}) → IsNone (Some u) ↔ (busy ≡ true) → busy ≡ false
-ended true u e = absurd (let none : IsNone (Some u) = e.1 refl in cc)
-ended false u e = refl
-
 leave_seat : (x : Leaving) (stage : LeaveStage) (found : ℕ) → (leave.goes_at x stage found).seat ≡ x.seat
 leave_seat x (leave_stage.Giving g) found = refl
 leave_seat x leave_stage.Leave found = refl
@@ -133,41 +127,38 @@ module _ (q : ProcessorIsQuiet) (k : MarkingIsQuiet) (h : PollsInHandshake) (v :
 
   wakes : (found : ℕ) (x : Waiting) → SoundWait x → wait.is_busy x.wait.stage ≡ true → (u : Unit {0}) → wait.gives x found ≡ Some u → Woken found x (wait.goes x found)
   wakes found x s busy u e =
-      let over = ended (wait.is_busy (wait.goes x found).wait.stage) u (subst (λ (o : Option (Unit {0})). IsNone o ↔ (wait.is_busy (wait.goes x found).wait.stage ≡ true)) e (wait_proved.ends x found busy)) in
-      let last = v.ends (wait.goes x found) over in
+      let last = v.ends (wait.goes x found) (ap is_none e) in
       record { has = (v.keeps.stays_sound x found s busy).0; goes = rw (← last.0, ← last.1) (v.keeps.goes x found s busy) }
 
   gc_goes : (found : ℕ) (m : Processor) (g : ℕ) (x : WaitState) → SoundWait (wait.waiting x m.poll) → wait.is_busy x.stage ≡ true → (out : Option (Unit {0})) → wait.gives (wait.waiting x m.poll) found ≡ out →
       Goes found m (task.Gc g x) (after_gc m g (wait.goes (wait.waiting x m.poll) found) out)
-  gc_goes found m g x s busy None e = let t = v.keeps.stays_sound (wait.waiting x m.poll) found s busy in record { sound = (t.0, (t, (wait_proved.ends (wait.waiting x m.poll) found busy).0 (rw e refl))); goes = v.keeps.goes (wait.waiting x m.poll) found s busy }
+  gc_goes found m g x s busy None e = let t = v.keeps.stays_sound (wait.waiting x m.poll) found s busy in record { sound = (t.0, (t, ap is_none e)); goes = v.keeps.goes (wait.waiting x m.poll) found s busy }
   gc_goes found m g x s busy (Some u) e = let woken = wakes found (wait.waiting x m.poll) s busy u e in record { sound = (woken.has, tt); goes = woken.goes }
 
   wait_goes : (found : ℕ) (m : Processor) (w : Wanted) (x : WaitState) → SoundWait (wait.waiting x m.poll) → wait.is_busy x.stage ≡ true → (out : Option (Unit {0})) → wait.gives (wait.waiting x m.poll) found ≡ out →
       Goes found m (task.New (record { wanted = w; stage = Wait x })) (after_wait m w (wait.goes (wait.waiting x m.poll) found) out)
-  wait_goes found m w x s busy None e = let t = v.keeps.stays_sound (wait.waiting x m.poll) found s busy in record { sound = (t.0, (t, (wait_proved.ends (wait.waiting x m.poll) found busy).0 (rw e refl))); goes = v.keeps.goes (wait.waiting x m.poll) found s busy }
+  wait_goes found m w x s busy None e = let t = v.keeps.stays_sound (wait.waiting x m.poll) found s busy in record { sound = (t.0, (t, ap is_none e)); goes = v.keeps.goes (wait.waiting x m.poll) found s busy }
   wait_goes found m w x s busy (Some u) e = let woken = wakes found (wait.waiting x m.poll) s busy u e in record { sound = (woken.has, tt); goes = woken.goes }
 
   poll_goes : (found : ℕ) (m : Processor) → PollsOn m.poll → (out : Option (Unit {0})) → poll.gives m.poll found ≡ out → Goes found m task.Poll (after_poll m (poll.goes m.poll found) out)
   poll_goes found m s None e =
       let sound = h.keeps.stays_sound m.poll found s.sound s.busy in
-      record { sound = (sound.0, record { busy = (poll_proved.ends m.poll found s.busy).0 (rw e refl); sound = sound }); goes = h.keeps.goes m.poll found s.sound s.busy }
+      record { sound = (sound.0, record { busy = ap is_none e; sound = sound }); goes = h.keeps.goes m.poll found s.sound s.busy }
   poll_goes found m s (Some u) e =
-      let over = ended (poll.is_busy (poll.goes m.poll found).stage) u (subst (λ (o : Option (Unit {0})). IsNone o ↔ (poll.is_busy (poll.goes m.poll found).stage ≡ true)) e (poll_proved.ends m.poll found s.busy)) in
-      let last = h.ends (poll.goes m.poll found) over in
+      let last = h.ends (poll.goes m.poll found) (ap is_none e) in
       record { sound = ((h.keeps.stays_sound m.poll found s.sound s.busy).0, tt); goes = rw (← last.0, ← last.1) (h.keeps.goes m.poll found s.sound s.busy) }
 
   leave_goes : (found : ℕ) (m : Processor) (x : Leaving) → HasPlaces m.poll.local.cache → LeavesOn m.poll x → (out : Option (Unit {0})) → leave.gives x found ≡ out → Goes found m (task.Leave x) (after_leave m (leave.goes x found) out)
   leave_goes found m x has s None e =
       let seat = leave_seat x x.stage found ∙ s.seat_is in
       record {
-        sound = (has, record { seat_is = seat; busy = (leave_proved.ends x found s.busy).0 (rw e refl); no_span = s.no_span; no_buffer = s.no_buffer });
+        sound = (has, record { seat_is = seat; busy = ap is_none e; no_span = s.no_span; no_buffer = s.no_buffer });
         goes = rw (← s.seat_is) (subst (λ (n : ℕ). StageGoes found (leaver m.poll.local.view x) (leaves_at x.stage) (leave.asks x) (record { seat = n; view = m.poll.local.view }) (leaves_at (leave.goes x found).stage)) (leave_seat x x.stage found) ((l.keeps m.poll.local.view).goes x found tt s.busy));
       }
   leave_goes found m x has s (Some u) e =
-      let over = ended (leave.is_busy (leave.goes x found).stage) u (subst (λ (o : Option (Unit {0})). IsNone o ↔ (leave.is_busy (leave.goes x found).stage ≡ true)) e (leave_proved.ends x found s.busy)) in
       record {
         sound = (has, tt);
-        goes = rw (← s.seat_is, ← l.ends (leave.goes x found) over) (subst (λ (n : ℕ). StageGoes found (leaver m.poll.local.view x) (leaves_at x.stage) (leave.asks x) (record { seat = n; view = m.poll.local.view }) (leaves_at (leave.goes x found).stage)) (leave_seat x x.stage found) ((l.keeps m.poll.local.view).goes x found tt s.busy));
+        goes = rw (← s.seat_is, ← l.ends (leave.goes x found) (ap is_none e)) (subst (λ (n : ℕ). StageGoes found (leaver m.poll.local.view x) (leaves_at x.stage) (leave.asks x) (record { seat = n; view = m.poll.local.view }) (leaves_at (leave.goes x found).stage)) (leave_seat x x.stage found) ((l.keeps m.poll.local.view).goes x found tt s.busy));
       }
 
   module _ (shapes : List Shape) where
@@ -213,7 +204,7 @@ module _ (q : ProcessorIsQuiet) (k : MarkingIsQuiet) (h : PollsInHandshake) (v :
     begins_at_rest m op.Poll has = record { sound = (has, record { busy = refl; sound = (has, tt) }); begins = inl refl }
     begins_at_rest m (op.End g) has = plainly m _ (lands m _ has refl (record { sound = λ p. tt; party = λ p. refl; stage = λ p. refl }))
     begins_at_rest m op.Leave has = record {
-      sound = (refl, record { seat_is = refl; busy = leave_proved.stage_busy (give.opening m.poll.layout m.poll.seat m.poll.local.view.generation m.poll.local.cache m.poll.local.held); no_span = refl; no_buffer = refl });
+      sound = (refl, record { seat_is = refl; busy = ap is_none (leaves_on (give.opening m.poll.layout m.poll.seat m.poll.local.view.generation m.poll.local.cache m.poll.local.held)); no_span = refl; no_buffer = refl });
       begins = l.begins m.poll.layout m.poll.seat m.poll.local.view.generation m.poll.local.cache m.poll.local.held m.poll.local.view;
     }
 

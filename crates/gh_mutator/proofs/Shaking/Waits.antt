@@ -1,12 +1,11 @@
 -- Each step of a wait, and of a leave, is one of the handshake of a stop: by its stages.
-use Rattle.std.proofs.Common.{◌≡◌, ℕ, Bool, true, false, cond, refl, inl, inr, ltb, Option, Some, None}
+use Rattle.std.proofs.Common.{◌≡◌, ℕ, Bool, true, false, cond, refl, ap, inl, inr, ltb, Option, Some, None}
+use Rattle.std.specs.Prelude.{is_none}
 use Rattle.gh_base.specs.declared.layout.Layout.{Layout}
 use Rattle.gh_phase.specs.Handshake.{Awake, Gone, PlaceBegins, Acts, StageGoes}
 use Rattle.gh_phase.specs.declared.view.View.{View}
 use Rattle.gh_mutator.specs.declared.leave.LeaveStage.{LeaveStage}
 use Rattle.gh_mutator.specs.declared.leave.LeaveStage.TheVariants as leave_stage
-use Rattle.gh_mutator.specs.declared.poll.PollStage.{PollStage}
-use Rattle.gh_mutator.specs.declared.poll.PollStage.TheVariants as poll_stage
 use Rattle.gh_mutator.specs.declared.wait.WaitStage.{WaitStage}
 use Rattle.gh_mutator.specs.declared.wait.WaitStage.TheVariants.{Want, Polling, LoadSwept, Ended}
 use Rattle.gh_mutator.specs.Give as give
@@ -14,7 +13,6 @@ use Rattle.gh_mutator.specs.Handshake.{HasPlaces, IsPlace, leaver, leaves_at, Le
 use Rattle.gh_mutator.specs.Leave.{Leaving, stage_of}
 use Rattle.gh_mutator.specs.Leave as leave
 use Rattle.gh_mutator.specs.Poll as poll
-use Rattle.gh_mutator.specs.PollEnds.{ends}
 use Rattle.gh_mutator.specs.Quiet.{ProcessorIsQuiet}
 use Rattle.gh_mutator.specs.Wait.{after_poll, asks_at, at_stage, goes_at, is_busy, polling, Waiting}
 
@@ -30,18 +28,13 @@ either : (found : ℕ) (w : Waiting) → HasPlaces w.poll.local.cache → (later
 either found w has true = record { sound = (has, tt); goes = (refl, tt, tt) }
 either found w has false = record { sound = polls_on w has; goes = (refl, tt, tt) }
 
--- a poll that has given something has ended
-pub ended : (p : poll.Polling) (stage : PollStage) (x : Unit {0}) → poll.given stage ≡ Some x → poll.is_busy stage ≡ false
-ended p poll_stage.Ended x e = refl
-ended p _ x e = absurd cc
-
 module _ (h : PollsInHandshake) where
   polled : (found : ℕ) (w : Waiting) → PollsOn w.poll → (out : Option (Unit {0})) → poll.gives w.poll found ≡ out → Goes found w Polling (after_poll w (poll.goes w.poll found) out)
   polled found w s None e =
       let sound = h.keeps.stays_sound w.poll found s.sound s.busy in
-      record { sound = (sound.0, record { busy = (ends w.poll found s.busy).0 (rw e refl); sound = sound }); goes = h.keeps.goes w.poll found s.sound s.busy }
+      record { sound = (sound.0, record { busy = ap is_none e; sound = sound }); goes = h.keeps.goes w.poll found s.sound s.busy }
   polled found w s (Some x) e =
-      let last = h.ends (poll.goes w.poll found) (ended w.poll (poll.goes w.poll found).stage x e) in
+      let last = h.ends (poll.goes w.poll found) (ap is_none e) in
       record { sound = ((h.keeps.stays_sound w.poll found s.sound s.busy).0, tt); goes = rw (← last.0, ← last.1) (h.keeps.goes w.poll found s.sound s.busy) }
 
   goes_at_stage : (found : ℕ) (w : Waiting) (stage : WaitStage) → HasPlaces w.poll.local.cache → WaitsSoundAt w stage → is_busy stage ≡ true → Goes found w stage (goes_at w stage found)

@@ -20,6 +20,7 @@ use Rattle.gh_mutator.specs.declared.poll.PollStage.TheVariants as poll_stage
 use Rattle.gh_mutator.specs.Give as give
 use Rattle.gh_mutator.specs.MarkStack as mark
 use Rattle.gh_mutator.specs.Poll.{after_mark, after_resume, after_room, asks_at, at_stage, by_phase, counted, due, giving, goes_at, has_two, marks_then, Polling, resumed, room_stage, scanned, scans, stops_then}
+use Rattle.gh_mutator.specs.Stays.{found_on, shaded_on}
 use Rattle.gh_mutator.specs.Writing.{ScansItsOwn, ShadesByWish}
 use Rattle.gh_mutator.proofs.Vocabulary.{Ask, Cell, Held, Layout, length-set, Local, MarkStackStage, phase_of, PollStage, Resumed, ResumeStage, run_phase, RunPhase, Shaded, slice_index, slice_index_or, slice_set, SoundScanAt, StackStage, Store as Stores, Value, WritesOf}
 use Rattle.gh_mutator.proofs.Due.{due_scans}
@@ -192,11 +193,14 @@ module _ (p : Polling) (g : ℕ) (m : mark.StackMarking) (s : ScansItsOwn p g m)
       let c = counted_stays (scanned p g m.held) in
       record { layout = c.layout; seat = c.seat; noted = subst (λ (x : Ask). Noted x p.local.scanned (slice_set p.local.scanned g p.local.view.begun)) (sym (scan_asks e)) (told_noted g p.local.view.begun p.local.scanned); scan = c.scan }
 
-  mark_goes : (q : MarkStackStage) → m.stage ≡ q → Goes (mark.asks_at m q) p (after_mark p g (mark.goes_at m q found) (mark.gives_at q))
-  mark_goes (Shading sh) e = goes_by (shade.asks sh) p _ (shade_writes NotStack marking_not sh) (shades_on (shade.goes sh found) (shade.gives sh found) (subst (λ (q : MarkStackStage). ShadesByWish m.scan.stage q) e s.by_wish))
-  mark_goes (FindRoom sh r) e = goes_by (room.asks r) p _ (room_writes NotStack marking_not r) (finds_on sh (room.goes r found) (room.gives r found) (subst (λ (q : MarkStackStage). ShadesByWish m.scan.stage q) e s.by_wish))
+  on : (n : mark.StackMarking) → mark.given n.stage ≡ None → Stays p (at_stage p (poll_stage.Marking g n)) → Stays p (after_mark p g n (mark.given n.stage))
+  on n goes s = subst (λ (o : Option (Unit {0})). Stays p (after_mark p g n o)) (sym goes) s
+
+  mark_goes : (q : MarkStackStage) → m.stage ≡ q → Goes (mark.asks_at m q) p (after_mark p g (mark.goes_at m q found) (mark.given (mark.goes_at m q found).stage))
+  mark_goes (Shading sh) e = goes_by (shade.asks sh) p _ (shade_writes NotStack marking_not sh) (on _ (shaded_on m (shade.goes sh found) (shade.gives sh found)) (shades_on (shade.goes sh found) (shade.gives sh found) (subst (λ (q : MarkStackStage). ShadesByWish m.scan.stage q) e s.by_wish)))
+  mark_goes (FindRoom sh r) e = goes_by (room.asks r) p _ (room_writes NotStack marking_not r) (on _ (found_on m sh (room.goes r found) (room.gives r found)) (finds_on sh (room.goes r found) (room.gives r found) (subst (λ (q : MarkStackStage). ShadesByWish m.scan.stage q) e s.by_wish)))
   mark_goes Store e = scanned_goes e
-  mark_goes Ended e = goes_by _ p _ tt (marks_on (mark.at_stage m Ended) refl refl tt)
+  mark_goes Ended e = absurd (subst (λ (q : MarkStackStage). ShadesByWish m.scan.stage q) e s.by_wish)
 
 pub poll_goes : (p : Polling) (q : PollStage) (found : ℕ) → SoundScanAt p q → Goes (asks_at q) p (goes_at p q found)
 poll_goes p poll_stage.LoadPhase found s = goes_by _ p _ tt (phases_stay p (phase_of found).stops (run_phase (phase_of found).phase))

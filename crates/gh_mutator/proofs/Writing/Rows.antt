@@ -57,7 +57,7 @@ pub record OfMarking (P : Cell → Type 0) : Type 0 where
 module _ (P : Cell → Type 0) (r : OfSpans P) where
   slots_write : (s : slots.Searching) (q : SlotStage) → WritesOf P (slots.asks_at s q)
   slots_write s slot_stage.Look = tt
-  slots_write s slot_stage.Ended = tt
+  slots_write s (slot_stage.Ended slot) = tt
 
   give_writes : (g : give.Giving) (q : GiveStage) → WritesOf P (give.asks_at g q)
   give_writes g give_stage.Write = r.page g.page
@@ -67,13 +67,13 @@ module _ (P : Cell → Type 0) (r : OfSpans P) where
   pass_writes p (pass_stage.Look page) = tt
   pass_writes p (pass_stage.Bits page h i) = tt
   pass_writes p (pass_stage.Take page h) = r.page page
-  pass_writes p pass_stage.Ended = tt
+  pass_writes p (pass_stage.Ended taken) = tt
 
   carve_writes : (c : carve.Carving) (q : CarveStage) → WritesOf P (carve.asks_at c q)
   carve_writes c (carve_stage.Look page run) = tt
   carve_writes c (carve_stage.Body first distance) = r.page _
   carve_writes c (carve_stage.Head first) = r.page first
-  carve_writes c carve_stage.Ended = tt
+  carve_writes c (carve_stage.Ended taken) = tt
 
   reclaim_writes : (m : reclaim.Reclaiming) (q : ReclaimStage) → WritesOf P (reclaim.asks_at m q)
   reclaim_writes m (reclaim_stage.Look page) = tt
@@ -89,7 +89,7 @@ module _ (P : Cell → Type 0) (r : OfSpans P) where
   find_writes f (find_stage.Pass p) = pass_writes p p.stage
   find_writes f (find_stage.Carve c) = carve_writes c c.stage
   find_writes f (find_stage.Unlock after) = r.lock
-  find_writes f find_stage.Ended = tt
+  find_writes f (find_stage.Ended out) = tt
 
   search_writes_at : (f : find.Finding) (q : SearchStage) → WritesOf P (search.asks_at f q)
   search_writes_at f search_stage.First = find_writes f f.stage
@@ -139,7 +139,7 @@ module _ (P : Cell → Type 0) (r : OfMarking P) where
   try_writes t try_stage.Look = tt
   try_writes t (try_stage.GiveBack word) = back_writes t t.held
   try_writes t (try_stage.Claim word) = r.buffer t.index
-  try_writes t try_stage.Ended = tt
+  try_writes t (try_stage.Ended out) = tt
 
   room_writes_at : (m : room.RoomFinding) (q : RoomStage) → WritesOf P (room.asks_at m q)
   room_writes_at m (room_stage.GiveBack h) = r.buffer h.index

@@ -53,7 +53,7 @@ wait_goes w wait_stage.LoadSwept found s = by (ltb w.wait.known found) where
   by : (later : Bool) → Goes (wait.asks_at w wait_stage.LoadSwept) w.poll (cond later (wait.at_stage w wait_stage.Ended) (wait.polling w)).poll
   by true = goes_by _ w.poll _ tt (stays_so w.poll s)
   by false = goes_by _ w.poll _ tt (record { layout = refl; seat = refl; scanned = refl; scan = tt })
-wait_goes w wait_stage.Ended found s = goes_by _ w.poll _ tt (stays_so w.poll s)
+wait_goes w wait_stage.Ended found s = goes_by _ w.poll _ tt (record { layout = refl; seat = refl; scanned = refl; scan = tt })
 
 module _ (shapes : List Shape) (m : Processor) (found : ℕ) (s : SoundScanAt m.poll m.poll.stage) where
   gc_goes : (g : ℕ) (x : WaitState) → Goes (asks_at m (task.Gc g x)) m.poll (takes_at shapes m (task.Gc g x) found).poll

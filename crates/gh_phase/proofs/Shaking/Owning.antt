@@ -120,7 +120,7 @@ module _ (back : (p : PhaseWord) → phase_of (phase_word p) ≡ p) (v : Announc
   finds seat stops LoadPhase found e = e ∙ shown.phase
   finds seat stops LoadGeneration found e = e ∙ shown.generation
   finds seat stops LoadBegun found e = e ∙ shown.begun
-  finds seat stops Ended found e = tt
+  finds seat stops (Ended another) found e = tt
 
   resume_step : (from : Party) (stops : ℕ) (stage : ResumeStage) → from.seat ≡ a → Stands v (w (Ack a)) from.view (Resumes stops stage) →
       OwnStep v a w (effect w (resume_asks from.seat stops stage)) (resume_asks from.seat stops stage) × (effect w (resume_asks from.seat stops stage) (Ack a) ≡ resume_ack (w (Ack a)) stops stage)
@@ -128,7 +128,7 @@ module _ (back : (p : PhaseWord) → phase_of (phase_word p) ≡ p) (v : Announc
   resume_step from stops LoadPhase seat f = (still_own v a w w (Load Phase) (still w (Load Phase) tt), refl)
   resume_step from stops LoadGeneration seat f = (still_own v a w w (Load Gen) (still w (Load Gen) tt), refl)
   resume_step from stops LoadBegun seat f = (still_own v a w w (Load Begun) (still w (Load Begun) tt), refl)
-  resume_step from stops Ended seat f = absurd f
+  resume_step from stops (Ended another) seat f = absurd f
 
   pub own : (found : ℕ) (from to : Party) (stage next : Stage) (ask : Ask) → found ≡ w (cell_of ask) → from.seat ≡ a → StageGoes found from stage ask to next → Stands v (w (Ack a)) from.view stage → Owned v a w ask to next
   own found from to Awake next ask e seat g f = calm ask from to next g.1 g.0 seat (from_awake found ask from next e g.2 f)

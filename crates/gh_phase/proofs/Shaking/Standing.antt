@@ -47,7 +47,7 @@ InResume v ack known stops Acknowledge = (v.on ≡ true) × (stops ≡ v.stops) 
 InResume v ack known stops LoadPhase = (ack ≡ stops) × ((stops ≡ v.stops) ⊎ ((v.on ≡ true) × (stops ≡ stop_before v.stops)))
 InResume v ack known stops LoadGeneration = (ack ≡ owed v) × Reads v.phase known.phase
 InResume v ack known stops LoadBegun = (ack ≡ owed v) × Reads v.phase known.phase × (known.generation ≡ v.generation)
-InResume v ack known stops Ended = ⊥
+InResume v ack known stops (Ended another) = ⊥
 
 -- what is known where its acknowledgement is this
 abbrev pub Stands : Announced → (ack : ℕ) → View → Stage → Type 0
@@ -143,7 +143,7 @@ keeps_stop v ack known (Resumes stops Acknowledge) h off f = absurd (not_both v.
 keeps_stop v ack known (Resumes stops LoadPhase) h off f = (f.0, inr (refl, elim f.1 [ inl e ↦ e ∙ sym (before_next v.stops h.stops) | inr e ↦ absurd (not_both v.on off e.0) ]))
 keeps_stop v ack known (Resumes stops LoadGeneration) h off f = (owed_halted v ack h off f.0, f.1)
 keeps_stop v ack known (Resumes stops LoadBegun) h off f = (owed_halted v ack h off f.0, f.1, f.2)
-keeps_stop v ack known (Resumes stops Ended) h off f = absurd f
+keeps_stop v ack known (Resumes stops (Ended another)) h off f = absurd f
 keeps_stop v ack known Leaves h off f = (owed_halted v ack h off f.0, copies_halted v known f.1)
 keeps_stop v ack known Gone h off f = f
 
@@ -163,7 +163,7 @@ keeps_finish v ack known Awake off f = (f.0, copies_finished v known off f.1)
 keeps_finish v ack known (Gives stops) off f = (f.0, f.1, f.2, copies_finished v known off f.3)
 keeps_finish v ack known (Resumes stops LoadGeneration) off f = (f.0, reads_finished v.phase known.phase off f.1)
 keeps_finish v ack known (Resumes stops LoadBegun) off f = (f.0, reads_finished v.phase known.phase off f.1, f.2)
-keeps_finish v ack known (Resumes stops Ended) off f = absurd f
+keeps_finish v ack known (Resumes stops (Ended another)) off f = absurd f
 keeps_finish v ack known Leaves off f = (f.0, copies_finished v known off f.1)
 keeps_finish v ack known _ off f = f
 
@@ -176,7 +176,7 @@ pub parked : (v : Announced) (ack : ℕ) (known : View) (stage : Stage) → Fits
 parked v ack known (Gives stops) h on a f = absurd (owes v ack h on f.2 a)
 parked v ack known (Resumes stops Acknowledge) h on a f = absurd (owes v ack h on (f.2 ∙ sym (owed_on v on)) a)
 parked v ack known (Resumes stops LoadPhase) h on a f = elim f.1 [ inl e ↦ e | inr e ↦ absurd (owes v ack h on (f.0 ∙ (e.1 ∙ sym (owed_on v on))) a) ]
-parked v ack known (Resumes stops Ended) h on a f = absurd f
+parked v ack known (Resumes stops (Ended another)) h on a f = absurd f
 parked v ack known Gone h on a f = tt
 parked v ack known _ h on a f = absurd (owes v ack h on f.0 a)
 
@@ -205,7 +205,7 @@ is_gone v ack known Gone h f e = refl
 is_gone v ack known (Gives stops) h f e = absurd (no_number ack (owed v) f.2 (owed_fits v h) e)
 is_gone v ack known (Resumes stops Acknowledge) h f e = absurd (no_number ack (stop_before v.stops) f.2 (before_fits v.stops) e)
 is_gone v ack known (Resumes stops LoadPhase) h f e = absurd (no_number ack stops f.0 (waited_fits v stops h f.1) e)
-is_gone v ack known (Resumes stops Ended) h f e = absurd f
+is_gone v ack known (Resumes stops (Ended another)) h f e = absurd f
 is_gone v ack known _ h f e = absurd (no_number ack (owed v) f.0 (owed_fits v h) e)
 
 -- an acknowledgement becomes that of the stop, or of one that is gone, and nothing else
@@ -227,7 +227,7 @@ Finds v Acknowledge found = Unit {0}
 Finds v LoadPhase found = found ≡ word_of v
 Finds v LoadGeneration found = found ≡ v.generation
 Finds v LoadBegun found = found ≡ v.begun
-Finds v Ended found = Unit {0}
+Finds v (Ended another) found = Unit {0}
 
 module _ (back : (p : PhaseWord) → phase_of (phase_word p) ≡ p) where
   resumes_phase : (v : Announced) (ack : ℕ) (known : View) (stops found : ℕ) → found ≡ word_of v → InResume v ack known stops LoadPhase →
@@ -257,4 +257,4 @@ module _ (back : (p : PhaseWord) → phase_of (phase_word p) ≡ p) where
   resumes v ack known stops LoadPhase found h e f = resumes_phase v ack known stops found e f
   resumes v ack known stops LoadGeneration found h e f = (f.0, f.1, let l = h.generation in omega arith)
   resumes v ack known stops LoadBegun found h e f = (f.0, record { phase = f.1; generation = f.2; begun = e })
-  resumes v ack known stops Ended found h e f = absurd f
+  resumes v ack known stops (Ended another) found h e f = absurd f

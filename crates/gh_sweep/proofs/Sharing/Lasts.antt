@@ -8,7 +8,7 @@ use Rattle.gh_sweep.specs.Listing.{bit_words, in_sweep, is_busy, opening, Sweepi
 use Rattle.gh_sweep.specs.Moves.{OthersLeave, SpanIsLeft, Sweeps}
 use Rattle.gh_sweep.specs.Shared.{By, CycleEnd, generation_of, Good, HasEnded, nothing, Shared, view}
 use Rattle.gh_sweep.specs.Sweepers.{Fine, has_span, HasReached, IsAtRest, IsOwn, owes_at, SweepsAmongOthers}
-use Rattle.gh_sweep.specs.Vocabulary.{AddHeap, AddLive, AddTally, Begin, ClearBits, ClearMarks, Ended, Finish, LoadMarks, SpanHead, SweepStage}
+use Rattle.gh_sweep.specs.Vocabulary.{Begin, ClearBits, ClearMarks, Ended, Finish, LoadMarks, SpanHead, SweepStage}
 use Rattle.gh_sweep.proofs.Sharing.KeepsPages.{Known}
 use Rattle.gh_sweep.proofs.Sharing.Own.{lands}
 
@@ -32,7 +32,7 @@ module _ (e : CycleEnd) (a : ℕ) (s t : Shared) (o : OthersLeave e a s t) (m : 
   reached_lasts (LoadMarks i) r = sweeps_last i i r
   reached_lasts (ClearBits i marks) r = sweeps_last i i r
   reached_lasts (ClearMarks i) r = sweeps_last (i + 1) i r
-  reached_lasts Ended r = tt
+  reached_lasts (Ended end) r = tt
   reached_lasts _ r = sweeps_last (bit_words m.head) (bit_words m.head) r
 
   -- what another sweep leaves, as the routine by itself asks for it
@@ -41,7 +41,7 @@ module _ (e : CycleEnd) (a : ℕ) (s t : Shared) (o : OthersLeave e a s t) (m : 
   others_at n (LoadMarks i) r = stays i i r
   others_at n (ClearBits i marks) r = stays i i r
   others_at n (ClearMarks i) r = stays (i + 1) i r
-  others_at n Ended r = tt
+  others_at n (Ended end) r = tt
   others_at n _ r = stays (bit_words m.head) (bit_words m.head) r
 
   fine_lasts : SweepKeepsItsFacts → Fine e a s m → Fine e a t m
@@ -55,14 +55,8 @@ module _ (e : CycleEnd) (a : ℕ) (s t : Shared) (o : OthersLeave e a s t) (m : 
   } where
     head_of : (stage : SweepStage) → has_span stage ≡ true → HasReached a s m stage → page_of (s.words (Page m.page)) ≡ Head (in_sweep m.head)
     head_of Begin has r = absurd (cc)
-    head_of (LoadMarks i) has r = r.head
-    head_of (ClearBits i marks) has r = r.head
-    head_of (ClearMarks i) has r = r.head
-    head_of AddTally has r = r.head
-    head_of AddLive has r = r.head
-    head_of AddHeap has r = r.head
-    head_of Finish has r = r.head
-    head_of Ended has r = absurd (cc)
+    head_of (Ended end) has r = absurd (cc)
+    head_of _ has r = r.head
 
     mine : (p : ℕ) → IsOwn m p → t.far p ≡ By a
     mine p own = subst (λ (n : ℕ). t.far n ≡ By a) own.1 (o.mine m.page m.head ((f.right m.page).1 (own.0, refl)) (head_of m.stage own.0 f.is_at)).by
@@ -88,18 +82,11 @@ rests : (e : CycleEnd) (a : ℕ) (s : Shared) (m : Sweeping) → Fine e a s m �
 rests e a s m f ended = record { none = λ p by. none m.stage ended ((f.right p).0 by).0; told = f.due ∙ told m.stage ended } where
   none : (stage : SweepStage) → is_busy stage ≡ false → has_span stage ≡ true → ⊥
   none Begin is has = cc
-  none (LoadMarks i) is has = cc
-  none (ClearBits i marks) is has = cc
-  none (ClearMarks i) is has = cc
-  none AddTally is has = cc
-  none AddLive is has = cc
-  none AddHeap is has = cc
-  none Finish is has = cc
-  none Ended is has = cc
+  none _ is has = cc
 
   told : (stage : SweepStage) → is_busy stage ≡ false → owes_at m stage ≡ nothing
   told Finish is = refl
-  told Ended is = refl
+  told (Ended end) is = refl
   told _ is = absurd (cc)
 
 pub among_others : Known → SweepKeepsItsFacts → SweepsAmongOthers

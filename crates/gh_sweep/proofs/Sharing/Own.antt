@@ -7,7 +7,7 @@ use Rattle.gh_base.specs.Steps.{cell_of, effect}
 use Rattle.gh_heap.specs.Moves.{update}
 use Rattle.gh_sweep.specs.Facts.{Facts, SweepKeepsItsFacts}
 use Rattle.gh_sweep.specs.Steps.{IsInArena}
-use Rattle.gh_sweep.proofs.Vocabulary.{AddHeap, AddLive, AddTally, all_owed, asks, at_stage, Begin, bit_words, By, ClearBits, ClearMarks, Clears, counted, CycleEnd, Done, Due, Ended, Fine, Finish, freed_in, goes, Good, HasEnded, Head, head_word, in_sweep, InSpan, is_busy, kept_in, Lands, Load, LoadMarks, move_at, move_of, moved, negative, page_of, put, Quiet, seats_of, Shared, slot_bytes, SpanHead, Starts, Sweeping, Sweeps, SweepStage, tally_word, TellsHeap, TellsLive, TellsTally, Unswept, view, with_word_cut, word_at, Words}
+use Rattle.gh_sweep.proofs.Vocabulary.{AddHeap, AddLive, AddTally, all_owed, asks, at_stage, Begin, bit_words, By, ClearBits, ClearMarks, Clears, counted, CycleEnd, Done, Due, Ended, Fine, Finish, freed_in, goes, Good, HasEnded, Head, head_word, in_sweep, InSpan, is_busy, kept_in, Lands, Load, LoadMarks, Lost, move_at, move_of, moved, negative, page_of, put, Quiet, seats_of, Shared, slot_bytes, SpanHead, Starts, Sweeping, Sweeps, SweepStage, tally_word, TellsHeap, TellsLive, TellsTally, Unswept, view, with_word_cut, word_at, Words}
 use Rattle.gh_sweep.proofs.Sharing.KeepsPages.{fits_then, fresh_before, Known, reads}
 use Rattle.gh_sweep.proofs.Sharing.Pages.{by_done}
 use Rattle.gh_sweep.proofs.Sharing.Sums.{at_entry}
@@ -41,7 +41,7 @@ module _ (k : Known) (laws : SweepKeepsItsFacts) (e : CycleEnd) (ended : HasEnde
   abbrev begun_words : Words
   begun_words = put s.words (cell.Page p) (head_word (in_sweep h))
 
-  begin_at : FineAt Begin → (b : Bool) → eqb (s.words (cell.Page p)) (head_word h) ≡ b → Lands e a s (cond b (Starts p h) (Quiet (Load (cell.Page p)))) (cond b begun_words s.words) (λ t. Fine e a t (at_stage m (cond b (LoadMarks 0) Ended)))
+  begin_at : FineAt Begin → (b : Bool) → eqb (s.words (cell.Page p)) (head_word h) ≡ b → Lands e a s (cond b (Starts p h) (Quiet (Load (cell.Page p)))) (cond b begun_words s.words) (λ t. Fine e a t (at_stage m (cond b (LoadMarks 0) (Ended Lost))))
   begin_at f true is = record {
     may = (head_was, f.number);
     words_are = refl;
@@ -50,7 +50,7 @@ module _ (k : Known) (laws : SweepKeepsItsFacts) (e : CycleEnd) (ended : HasEnde
       number = f.number;
       right = right_then;
       due = f.due ∙ same_due 0 0 0 0 m.kept m.freed (m.kept * slot_bytes h) (m.freed * slot_bytes h) (sym f.is_at.0) (sym f.is_at.1) (none_of m.kept f.is_at.0) (none_of m.freed f.is_at.1);
-      facts = subst (λ (b : Bool). Facts (at_stage m (cond b (LoadMarks 0) Ended)) (cond b begun_words s.words)) is (facts_then Begin refl f);
+      facts = subst (λ (b : Bool). Facts (at_stage m (cond b (LoadMarks 0) (Ended Lost))) (cond b begun_words s.words)) is (facts_then Begin refl f);
       is_at = record {
         by = at_entry s.far p (By a);
         head = ap page_of (at_entry (view s).page p (head_word (in_sweep h))) ∙ reads k (in_sweep h) (fits_then k e ended (view s) g a p h head_was f.number);
@@ -301,7 +301,7 @@ module _ (k : Known) (laws : SweepKeepsItsFacts) (e : CycleEnd) (ended : HasEnde
   lands_at AddLive busy f = live_lands f
   lands_at AddHeap busy f = heap_lands f
   lands_at Finish busy f = finish_lands f
-  lands_at Ended busy f = absurd (cc)
+  lands_at (Ended end) busy f = absurd (cc)
 
 pub lands : Known → SweepKeepsItsFacts → (e : CycleEnd) (a : ℕ) (s : Shared) (m : Sweeping) → HasEnded e → Good e (view s) → a < seats_of e.layout → Fine e a s m → is_busy m.stage ≡ true → Lands e a s (move_of m (s.words (cell_of (asks m)))) (effect s.words (asks m)) (λ t. Fine e a t (goes m (s.words (cell_of (asks m)))))
 lands k laws e a s m ended g seat f busy = lands_at k laws e ended a s g seat m m.stage busy f

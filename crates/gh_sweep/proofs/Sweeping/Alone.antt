@@ -285,6 +285,6 @@ module _ (cells : CellsAreTold) (rows : RowsAreWritten) (l : Layout) (page : ℕ
     leaves = leaves_swept;
     steps = refl;
     gives_counts =
-        ap (λ (s : Sweeping). gives s (found (last + 3))) (as_told (last + 3)) ∙ (steps.swept (last + 3) (span_of head (kept l page head found) (freed l page head found))).1 (begins, refl, refl)
+        ap (λ (s : Sweeping). gives s (found (last + 3))) (as_told (last + 3)) ∙ ((steps.swept (last + 3) (span_of head (kept l page head found) (freed l page head found))).1 (begins, refl, refl)).1
         ∙ ap (λ (k : ℕ). Some (Swept (span_of head k (freed l page head found)))) kept_is ∙ ap (λ (f : ℕ). Some (Swept (span_of head (objects_kept l page head before) f))) freed_is;
   }

@@ -69,7 +69,7 @@ counts rows alloc mark l page head found arena alloc_fits mark_fits begun told =
   adds_tally = (steps.on_counts begun).adds_tally ∙ ap (λ (k : ℕ). Add cell.Tally (k + 2 ^ 32 * freed_told found (bit_words head))) kept ∙ ap (λ (f : ℕ). Add cell.Tally (marked_objects alloc mark page head.pages + 2 ^ 32 * f)) freed;
   adds_live = (steps.on_counts begun).adds_live ∙ ap (λ (k : ℕ). Add cell.Live (k * slot_bytes head)) kept;
   adds_heap = (steps.on_counts begun).adds_heap ∙ ap (λ (f : ℕ). Add cell.Heap (negative (f * slot_bytes head))) freed;
-  gives_counts = (steps.swept (steps_on_bits head + 3) _).1 (begun, refl, ap (λ (k : ℕ). span_of head k (unmarked_objects alloc mark page head.pages)) (sym kept) ∙ ap (λ (f : ℕ). span_of head (kept_told found (bit_words head)) f) (sym freed));
+  gives_counts = ((steps.swept (steps_on_bits head + 3) _).1 (begun, refl, ap (λ (k : ℕ). span_of head k (unmarked_objects alloc mark page head.pages)) (sym kept) ∙ ap (λ (f : ℕ). span_of head (kept_told found (bit_words head)) f) (sym freed))).1;
 } where
   steps : SweepsAsTold l page head found
   steps = takes_its_steps l page head found arena

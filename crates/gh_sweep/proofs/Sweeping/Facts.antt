@@ -11,7 +11,7 @@ use Rattle.gh_base.specs.Rows.{CellsAreTold}
 use Rattle.gh_base.specs.Steps.{cell_of, ChangesOneCell, effect, left}
 use Rattle.gh_sweep.specs.Bits.{kept_in, sum_below}
 use Rattle.gh_sweep.specs.Facts.{alloc_here, AreApart, Facts, FactsAt, HasCleared, HasNotNumber, HasSwept, IsBehind, IsPlaced, marks_here, MayBegin, Others, OthersAt, OwnStep, SpanStays, SweepKeepsItsFacts}
-use Rattle.gh_sweep.specs.Listing.{asks_at, at_stage, bit_words, counted, goes_at, in_sweep, is_busy, once_swept, slots_in, Sweeping, swept_span, word_at}
+use Rattle.gh_sweep.specs.Listing.{asks_at, at_stage, bit_words, counted, given_at, goes_at, in_sweep, is_busy, once_swept, slots_in, Sweeping, swept_span, word_at}
 use Rattle.gh_sweep.specs.Sound.{FitsSweep, IsStage}
 use Rattle.gh_sweep.specs.Steps.{IsInArena}
 use Rattle.gh_sweep.specs.Vocabulary.{AddHeap, AddLive, AddTally, Ask, Begin, Cell, ClearBits, ClearMarks, Ended, Finish, LoadMarks, Lost, put, SpanHead, SweepEnd, SweepStage, Swept, SweptSpan, Words}
@@ -58,7 +58,7 @@ module _ (s : Sweeping) (before after : Words) where
   lasts_at (LoadMarks i) is o h = swept_lasts i (omega arith) o h
   lasts_at (ClearBits i marks) is o h = (swept_lasts i (omega arith) o h.0, o.marks_stay i is ∙ h.1)
   lasts_at (ClearMarks i) is o h = cleared_lasts i is o h
-  lasts_at Ended is o h = tt
+  lasts_at (Ended end) is o h = tt
   lasts_at _ is o h = swept_lasts (bit_words s.head) (omega arith) o h
 
 -- A step leaves each cell but its own.
@@ -77,7 +77,7 @@ module _ (changes : ChangesOneCell) (cells : CellsAreTold) where
 
   stays_to_others : (t : Sweeping) (before after : Words) (stage : SweepStage) → SpanStays t before after → OthersAt t before after stage
   stays_to_others t before after Begin o = inl o.head_stays
-  stays_to_others t before after Ended o = tt
+  stays_to_others t before after (Ended end) o = tt
   stays_to_others t before after _ o = o
 
   module _ (s t : Sweeping) (words : Words) (placed : IsPlaced s) (apart : AreApart s t) (there : IsInArena t.layout t.page t.head) where
@@ -105,7 +105,7 @@ module _ (changes : ChangesOneCell) (cells : CellsAreTold) where
     stays_at AddLive is = stays_but t words (asks_at s AddLive) (λ e. absurd (cc)) (λ i lt e. absurd (cc)) (λ i lt e. absurd (cc))
     stays_at AddHeap is = stays_but t words (asks_at s AddHeap) (λ e. absurd (cc)) (λ i lt e. absurd (cc)) (λ i lt e. absurd (cc))
     stays_at Finish is = stays_but t words (asks_at s Finish) (λ e. pages_apart (cc)) (λ i lt e. absurd (cc)) (λ i lt e. absurd (cc))
-    stays_at Ended is = record { head_stays = refl; alloc_stays = λ j lt. refl; marks_stay = λ j lt. refl }
+    stays_at (Ended end) is = record { head_stays = refl; alloc_stays = λ j lt. refl; marks_stay = λ j lt. refl }
 
   -- of the same span, where the other has not begun
   module _ (packed : PackedWordsAreReadBack) (s : Sweeping) (words : Words) (fits : FitsSweep s.head) where
@@ -152,15 +152,15 @@ module _ (changes : ChangesOneCell) (cells : CellsAreTold) (s : Sweeping) (words
   abbrev begun_words : Words
   begun_words = put words (cell.Page s.page) (head_word (in_sweep s.head))
 
-  begin_leads : MayBegin s words → (b : Bool) → eqb (words (cell.Page s.page)) (head_word s.head) ≡ b → Facts (at_stage s (cond b (LoadMarks 0) Ended)) (cond b begun_words words)
+  begin_leads : MayBegin s words → (b : Bool) → eqb (words (cell.Page s.page)) (head_word s.head) ≡ b → Facts (at_stage s (cond b (LoadMarks 0) (Ended Lost))) (cond b begun_words words)
   begin_leads h true e = record { own = cells.put_here words (cell.Page s.page) (head_word (in_sweep s.head)); no_marks = λ j lt. absurd (omega arith); kept_are = h.none_kept ∙ sym (sum_none (λ j. count_ones (alloc_here s begun_words j))) }
   begin_leads h false e = tt
 
-  begin_lost : MayBegin s words → (b : Bool) → eqb (words (cell.Page s.page)) (head_word s.head) ≡ b → cond b None (Some Lost) ≡ Some Lost → HasNotNumber s.head.number (cond b begun_words words (cell.Page s.page))
+  begin_lost : MayBegin s words → (b : Bool) → eqb (words (cell.Page s.page)) (head_word s.head) ≡ b → given_at (cond b (LoadMarks 0) (Ended Lost)) ≡ Some Lost → HasNotNumber s.head.number (cond b begun_words words (cell.Page s.page))
   begin_lost h true e g = absurd (cc)
   begin_lost h false e g = elim h.head_is [ inl x ↦ absurd (cc (e, eq-eqb _ _ x)) | inr gone ↦ gone ]
 
-  begin_swept : (span : SweptSpan) → (b : Bool) → cond b None (Some Lost) ≡ Some (Swept span) → ⊥
+  begin_swept : (span : SweptSpan) → (b : Bool) → given_at (cond b (LoadMarks 0) (Ended Lost)) ≡ Some (Swept span) → ⊥
   begin_swept span true g = absurd (cc)
   begin_swept span false g = absurd (cc)
 
@@ -246,12 +246,16 @@ module _ (changes : ChangesOneCell) (cells : CellsAreTold) (s : Sweeping) (words
         let all : HasSwept s unmarked_words (bit_words s.head) = subst (λ (k : ℕ). HasSwept s unmarked_words k) same swept_then in
         record { own = all.own; no_marks = all.no_marks; kept_are = all.kept_are }
 
+    goes_on : (end : SweepEnd) (b : Bool) → given_at (cond b (LoadMarks (i + 1)) AddTally) ≡ Some end → ⊥
+    goes_on end true e = cc
+    goes_on end false e = cc
+
     clear_marks_step : StepAt (ClearMarks i)
     clear_marks_step = record {
       may = (h.own, h.are_marked);
       leads = subst (λ (n : ℕ). Facts (goes_at s (ClearMarks i) (words (cell.Mark n))) (put words (cell.Mark n) 0)) (sym (own_word i lt)) (at_next _ refl);
-      lost = λ g. absurd (nothing_given Lost g);
-      swept = λ span g. absurd (nothing_given (Swept span) g);
+      lost = λ g. absurd (goes_on Lost _ g);
+      swept = λ span g. absurd (goes_on (Swept span) _ g);
     }
 
   -- the counts
@@ -290,7 +294,7 @@ module _ (changes : ChangesOneCell) (cells : CellsAreTold) (s : Sweeping) (words
   own_step_at AddLive is busy h = live_step h
   own_step_at AddHeap is busy h = heap_step h
   own_step_at Finish is busy h = finish_step h
-  own_step_at Ended is busy h = absurd (cc)
+  own_step_at (Ended end) is busy h = absurd (cc)
 
 pub keeps : ChangesOneCell → CellsAreTold → PackedWordsAreReadBack → SweepKeepsItsFacts
 keeps changes cells packed = record {

@@ -1,13 +1,13 @@
 -- The steps of a sweep: what it is after each of them.
-use Rattle.std.proofs.Common.{◌≡◌, ◌≢◌, ℕ, zero, suc, ◌+◌, ◌-◌, ◌*◌, ◌/◌, ◌%◌, ◌<◌, ◌≤◌, ◌⊎◌, Bool, true, false, cond, eqb, ltb, Option, Some, None, refl, sym, ap, subst, ◌∙◌, arith, inl, inr}
+use Rattle.std.proofs.Common.{◌≡◌, ◌≢◌, ℕ, zero, suc, ◌+◌, ◌-◌, ◌*◌, ◌/◌, ◌%◌, ◌<◌, ◌≤◌, ◌⊎◌, Bool, true, false, cond, eqb, ltb, is_none, Some, refl, sym, ap, subst, ◌∙◌, arith, inl, inr}
 use Rattle.std.proofs.Math.Nat.{mod-eq_of_lt}
 use Rattle.std.proofs.lemmas.Bool.{eqb-true, eq-eqb, ltb-true, ltb-false, lt-ltb, le-ltb}
 use Rattle.gh_base.specs.declared.cell.Cell.TheVariants as cell
 use Rattle.gh_base.specs.Packing.{head_word}
-use Rattle.gh_base.specs.Routines.{EndsWith, EndsWithin, GoesOn}
+use Rattle.gh_base.specs.Routines.{EndsWithin, GoesOn}
 use Rattle.gh_sweep.specs.Bits.{freed_in, kept_in}
-use Rattle.gh_sweep.specs.Listing.{asks, bit_words, gives, goes, is_busy, listing, opening, Sweeping}
-use Rattle.gh_sweep.specs.Steps.{after, alloc_told, freed, freed_told, IsBegun, IsInArena, kept, kept_told, marks_told, span_of, steps_on_bits, StepsOnCounts, StepsOnWord, SweepTakesItsSteps}
+use Rattle.gh_sweep.specs.Listing.{asks, bit_words, given, gives, goes, is_busy, listing, opening, Sweeping}
+use Rattle.gh_sweep.specs.Steps.{after, alloc_told, EndsBy, freed, freed_told, IsBegun, IsInArena, kept, kept_told, marks_told, span_of, steps_on_bits, StepsOnCounts, StepsOnWord, SweepTakesItsSteps}
 use Rattle.gh_sweep.specs.Vocabulary.{AddHeap, AddLive, AddTally, And, Begin, ClearBits, ClearMarks, Ended, Finish, Layout, Load, LoadMarks, Lost, SpanHead, Store, SweepEnd, SweepStage, Swept, SweptSpan}
 use Rattle.gh_sweep.proofs.Bits.{sum_more, sum_none}
 
@@ -29,13 +29,19 @@ module _ (l : Layout) (page : ℕ) (head : SpanHead) (found : ℕ → ℕ) where
       let f : 0 ≡ freed_told found 0 = sym (sum_none (λ i. freed_in (alloc_told found i) (marks_told found i))) in
       ap (λ (n : ℕ). record { layout = l; page = page; head = head; kept = n; freed = 0; stage = Begin }) k ∙ ap (λ (n : ℕ). record { layout = l; page = page; head = head; kept = kept_told found 0; freed = n; stage = Begin }) f
 
+  abbrev counted_span : SweptSpan
+  counted_span = span_of head (kept l page head found) (freed l page head found)
+
+  is_other : eqb (found 0) (head_word head) ≡ false → found 0 ≢ head_word head
+  is_other e z = absurd (cc (e, eq-eqb _ _ z))
+
   -- Where the swap has written.
   module _ (begun : IsBegun l page head found) (some : 1 ≤ head.pages) where
     abbrev words : ℕ
     words = bit_words head
 
     swapped : (b : Bool) → eqb (found 0) (head_word head) ≡ b → b ≡ true → goes (at 0 Begin) (found 0) ≡ at 0 (LoadMarks 0)
-    swapped b e is = ap (λ (c : Bool). at 0 (cond c (LoadMarks 0) Ended)) (e ∙ is)
+    swapped b e is = ap (λ (c : Bool). at 0 (cond c (LoadMarks 0) (Ended Lost))) (e ∙ is)
 
     loads_first : now 1 ≡ at 0 (LoadMarks 0)
     loads_first = ap (λ (s : Sweeping). goes s (found 0)) begins_at ∙ swapped _ refl (eq-eqb _ _ begun)
@@ -98,7 +104,7 @@ module _ (l : Layout) (page : ℕ) (head : SpanHead) (found : ℕ → ℕ) where
         let next : steps_on_bits head + 3 ≡ suc (steps_on_bits head + 2) = omega arith in
         ap now next ∙ ap (λ (s : Sweeping). goes s (found (steps_on_bits head + 2))) tells_heap
 
-    over : (k : ℕ) → now (steps_on_bits head + 4 + k) ≡ at words Ended
+    over : (k : ℕ) → now (steps_on_bits head + 4 + k) ≡ at words (Ended (Swept counted_span))
     over zero =
         let next : steps_on_bits head + 4 + 0 ≡ suc (steps_on_bits head + 3) = omega arith in
         ap now next ∙ ap (λ (s : Sweeping). goes s (found (steps_on_bits head + 3))) finishes
@@ -116,7 +122,7 @@ module _ (l : Layout) (page : ℕ) (head : SpanHead) (found : ℕ → ℕ) where
       live : P (steps_on_bits head + 1) (at words AddLive)
       heap : P (steps_on_bits head + 2) (at words AddHeap)
       finish : P (steps_on_bits head + 3) (at words Finish)
-      end : (k : ℕ) → P (steps_on_bits head + 4 + k) (at words Ended)
+      end : (k : ℕ) → P (steps_on_bits head + 4 + k) (at words (Ended (Swept counted_span)))
 
     here : (P : ℕ → Sweeping → Type 0) (n m : ℕ) (s : Sweeping) → n ≡ m → now m ≡ s → P m s → P n (now n)
     here P n m s e is p = subst (λ (k : ℕ). P k (now k)) (sym e) (subst (λ (t : Sweeping). P m t) (sym is) p)
@@ -157,35 +163,18 @@ module _ (l : Layout) (page : ℕ) (head : SpanHead) (found : ℕ → ℕ) where
       end = λ k. sym (le-ltb (steps_on_bits head + 4 + k) (steps_on_bits head + 4) (omega arith));
     })
 
-    -- and by that one it gives what it has counted, and by no other
-    abbrev given : Bool → Option SweepEnd
-    given last = cond last (Some (Swept (span_of head (kept l page head found) (freed l page head found)))) None
+    -- and by that one it gives what it has counted
+    gives_counted : gives (now (steps_on_bits head + 3)) (found (steps_on_bits head + 3)) ≡ Some (Swept counted_span)
+    gives_counted = ap (λ (s : Sweeping). gives s (found (steps_on_bits head + 3))) finishes
 
-    not_last : (n : ℕ) → n ≢ steps_on_bits head + 3 → None ≡ given (eqb n (steps_on_bits head + 3))
-    not_last n ne = by (eqb n (steps_on_bits head + 3)) refl where
-      by : (b : Bool) → eqb n (steps_on_bits head + 3) ≡ b → None ≡ given b
-      by true e = absurd (ne (eqb-true _ _ e))
-      by false e = refl
+    last_is : (n : ℕ) (end : SweepEnd) → EndsBy l page head found n end → n ≡ steps_on_bits head + 3
+    last_is n end h = by (ltb (suc n) (steps_on_bits head + 4)) refl where
+      by : (b : Bool) → ltb (suc n) (steps_on_bits head + 4) ≡ b → n ≡ steps_on_bits head + 3
+      by true e = absurd (let over : is_busy (now (suc n)).stage ≡ false = ap is_none h.1 in let more = goes_on_until (suc n) ∙ e in cc)
+      by false e = omega (arith, ltb-true _ _ (sym (goes_on_until n) ∙ h.0), ltb-false _ _ e)
 
-    abbrev no_end : Option SweepEnd
-    no_end = None
-
-    begin_gives : (b : Bool) → eqb (found 0) (head_word head) ≡ b → b ≡ true → cond b no_end (Some Lost) ≡ no_end
-    begin_gives true e is = refl
-    begin_gives false e is = absurd (cc)
-
-    gives_last : (n : ℕ) → gives (now n) (found n) ≡ given (eqb n (steps_on_bits head + 3))
-    gives_last = of_stages (λ n s. gives s (found n) ≡ given (eqb n (steps_on_bits head + 3))) (record {
-      begin = begin_gives _ refl (eq-eqb _ _ begun) ∙ not_last 0 (λ e. absurd (omega arith));
-      load = λ i lt. not_last (1 + 3 * i) (λ e. absurd (omega arith));
-      clear = λ i lt. not_last (2 + 3 * i) (λ e. absurd (omega arith));
-      clear_marks = λ i lt. not_last (3 + 3 * i) (λ e. absurd (omega arith));
-      tally = not_last (steps_on_bits head) (λ e. absurd (omega arith));
-      live = not_last (steps_on_bits head + 1) (λ e. absurd (omega arith));
-      heap = not_last (steps_on_bits head + 2) (λ e. absurd (omega arith));
-      finish = ap given (sym (eq-eqb (steps_on_bits head + 3) (steps_on_bits head + 3) refl));
-      end = λ k. not_last (steps_on_bits head + 4 + k) (λ e. absurd (omega arith));
-    })
+    gives_last : (n : ℕ) (end : SweepEnd) → EndsBy l page head found n end → Some end ≡ Some (Swept counted_span)
+    gives_last n end h = sym h.1 ∙ (ap (λ (k : ℕ). gives (now k) (found k)) (last_is n end h) ∙ gives_counted)
 
   -- Where the swap has not written it has ended.
   module _ (other : found 0 ≢ head_word head) where
@@ -193,15 +182,15 @@ module _ (l : Layout) (page : ℕ) (head : SpanHead) (found : ℕ → ℕ) where
     not_begun true e = absurd (other (eqb-true _ _ e))
     not_begun false e = refl
 
-    over_at_once : (n : ℕ) → now (suc n) ≡ at 0 Ended
-    over_at_once zero = ap (λ (s : Sweeping). goes s (found 0)) begins_at ∙ ap (λ (b : Bool). at 0 (cond b (LoadMarks 0) Ended)) (not_begun _ refl)
+    over_at_once : (n : ℕ) → now (suc n) ≡ at 0 (Ended Lost)
+    over_at_once zero = ap (λ (s : Sweeping). goes s (found 0)) begins_at ∙ ap (λ (b : Bool). at 0 (cond b (LoadMarks 0) (Ended Lost))) (not_begun _ refl)
     over_at_once (suc n) = ap (λ (s : Sweeping). goes s (found (suc n))) (over_at_once n)
 
-    lost_first : gives (now 0) (found 0) ≡ Some Lost
-    lost_first = ap (λ (b : Bool). cond b None (Some Lost)) (not_begun _ refl)
+    not_busy : (n : ℕ) → is_busy (now (suc n)).stage ≡ false
+    not_busy n = ap (λ (s : Sweeping). is_busy s.stage) (over_at_once n)
 
-    gives_nothing : (n : ℕ) → gives (now (suc n)) (found (suc n)) ≡ None
-    gives_nothing n = ap (λ (s : Sweeping). gives s (found (suc n))) (over_at_once n)
+    lost_first : gives (now 0) (found 0) ≡ Some Lost
+    lost_first = ap given (over_at_once 0)
 
   module _ (arena : IsInArena l page head) where
     on_word : IsBegun l page head found → (i : ℕ) → i < bit_words head → StepsOnWord l page head found i
@@ -224,44 +213,34 @@ module _ (l : Layout) (page : ℕ) (head : SpanHead) (found : ℕ → ℕ) where
         let begun : IsBegun l page head found = eqb-true _ _ e in
         inr (begun, ltb-true _ _ (sym (goes_on_until begun arena.some n) ∙ busy))
     goes_on_from zero false e busy = inl refl
-    goes_on_from (suc n) false e busy =
-        let over : is_busy (now (suc n)).stage ≡ false = ap (λ (s : Sweeping). is_busy s.stage) (over_at_once (λ z. absurd (cc (e, eq-eqb _ _ z))) n) in
-        absurd (cc (over, busy))
+    goes_on_from (suc n) false e busy = absurd (let over = not_busy (is_other e) n in cc)
 
     goes_on_to : (n : ℕ) → (n ≡ 0) ⊎ (IsBegun l page head found × (n < steps_on_bits head + 4)) → GoesOn listing (opening l page head) found n
     goes_on_to n (inl e) = ap (λ (k : ℕ). is_busy (now k).stage) e
     goes_on_to n (inr h) = goes_on_until h.0 arena.some n ∙ lt-ltb n (steps_on_bits head + 4) h.1
 
-    lost_from : (n : ℕ) → (b : Bool) → eqb (found 0) (head_word head) ≡ b → EndsWith listing (opening l page head) found n Lost → (n ≡ 0) × (found 0 ≢ head_word head)
-    lost_from n true e ends =
-        let begun : IsBegun l page head found = eqb-true _ _ e in
-        absurd (by (eqb n (steps_on_bits head + 3)) (sym (gives_last begun arena.some n) ∙ ends)) where
-          by : (last : Bool) → given (eqb-true _ _ e) arena.some last ≡ Some Lost → ⊥
-          by true h = absurd (cc)
-          by false h = absurd (cc)
-    lost_from zero false e ends = (refl, λ z. absurd (cc (e, eq-eqb _ _ z)))
-    lost_from (suc n) false e ends = absurd (let none = gives_nothing (λ z. absurd (cc (e, eq-eqb _ _ z))) n in cc)
+    lost_from : (n : ℕ) → (b : Bool) → eqb (found 0) (head_word head) ≡ b → EndsBy l page head found n Lost → (n ≡ 0) × (found 0 ≢ head_word head)
+    lost_from n true e h = absurd (let counted = gives_last (eqb-true _ _ e) arena.some n Lost h in cc)
+    lost_from zero false e h = (refl, is_other e)
+    lost_from (suc n) false e h = absurd (let busy = h.0 in let over = not_busy (is_other e) n in cc)
 
-    lost_to : (n : ℕ) → (n ≡ 0) × (found 0 ≢ head_word head) → EndsWith listing (opening l page head) found n Lost
-    lost_to n h = subst (λ (k : ℕ). gives (now k) (found k) ≡ Some Lost) (sym h.0) (lost_first h.1)
+    lost_to : (n : ℕ) → (n ≡ 0) × (found 0 ≢ head_word head) → EndsBy l page head found n Lost
+    lost_to n h = subst (λ (k : ℕ). EndsBy l page head found k Lost) (sym h.0) (refl, lost_first h.1)
 
     ends_by : (b : Bool) → eqb (found 0) (head_word head) ≡ b → EndsWithin listing (steps_on_bits head + 4) (opening l page head) found
     ends_by true e = record { steps = steps_on_bits head + 4; few = omega arith; ended = goes_on_until (eqb-true _ _ e) arena.some (steps_on_bits head + 4) ∙ le-ltb (steps_on_bits head + 4) (steps_on_bits head + 4) (omega arith) }
-    ends_by false e = record { steps = 1; few = omega arith; ended = ap (λ (s : Sweeping). is_busy s.stage) (over_at_once (λ z. absurd (cc (e, eq-eqb _ _ z))) 0) }
+    ends_by false e = record { steps = 1; few = omega arith; ended = not_busy (is_other e) 0 }
 
-    abbrev counted_span : SweptSpan
-    counted_span = span_of head (kept l page head found) (freed l page head found)
+    swept_from : (n : ℕ) (span : SweptSpan) → (b : Bool) → eqb (found 0) (head_word head) ≡ b → EndsBy l page head found n (Swept span) → IsBegun l page head found × (n ≡ steps_on_bits head + 3) × (span ≡ counted_span)
+    swept_from n span true e h =
+        let begun : IsBegun l page head found = eqb-true _ _ e in
+        let counted = gives_last begun arena.some n (Swept span) h in
+        (begun, last_is begun arena.some n (Swept span) h, cc)
+    swept_from zero span false e h = absurd (let ends = h.1 in let lost = lost_first (is_other e) in cc)
+    swept_from (suc n) span false e h = absurd (let busy = h.0 in let over = not_busy (is_other e) n in cc)
 
-    swept_from : (n : ℕ) (span : SweptSpan) → (b : Bool) → eqb (found 0) (head_word head) ≡ b → EndsWith listing (opening l page head) found n (Swept span) → IsBegun l page head found × (n ≡ steps_on_bits head + 3) × (span ≡ counted_span)
-    swept_from n span true e ends = by (eqb n (steps_on_bits head + 3)) refl (sym (gives_last (eqb-true _ _ e) arena.some n) ∙ ends) where
-      by : (last : Bool) → eqb n (steps_on_bits head + 3) ≡ last → given (eqb-true _ _ e) arena.some last ≡ Some (Swept span) → IsBegun l page head found × (n ≡ steps_on_bits head + 3) × (span ≡ counted_span)
-      by true f h = (eqb-true _ _ e, eqb-true _ _ f, (cc))
-      by false f h = absurd (cc)
-    swept_from zero span false e ends = absurd (let lost = lost_first (λ z. absurd (cc (e, eq-eqb _ _ z))) in cc)
-    swept_from (suc n) span false e ends = absurd (let none = gives_nothing (λ z. absurd (cc (e, eq-eqb _ _ z))) n in cc)
-
-    swept_to : (n : ℕ) (span : SweptSpan) → IsBegun l page head found × (n ≡ steps_on_bits head + 3) × (span ≡ counted_span) → EndsWith listing (opening l page head) found n (Swept span)
-    swept_to n span h = gives_last h.0 arena.some n ∙ ap (given h.0 arena.some) (eq-eqb _ _ h.1) ∙ ap (λ (s : SweptSpan). Some (Swept s)) (sym h.2)
+    swept_to : (n : ℕ) (span : SweptSpan) → IsBegun l page head found × (n ≡ steps_on_bits head + 3) × (span ≡ counted_span) → EndsBy l page head found n (Swept span)
+    swept_to n span h = subst (λ (k : ℕ). EndsBy l page head found k (Swept span)) (sym h.1) (goes_on_to (steps_on_bits head + 3) (inr (h.0, omega arith)), gives_counted h.0 arena.some ∙ ap (λ (s : SweptSpan). Some (Swept s)) (sym h.2))
 
 pub takes_its_steps : SweepTakesItsSteps
 takes_its_steps l page head found arena = record {

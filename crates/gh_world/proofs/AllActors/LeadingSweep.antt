@@ -1,5 +1,5 @@
 -- The coordinator sweeps all spans in a stopped world: what holds behind each of its steps.
-use Rattle.std.proofs.Common.{◌≡◌, ◌≢◌, ℕ, ◌+◌, ◌<◌, ◌≤◌, ◌==◌, Bool, true, false, cond, ltb, refl, sym, ap, subst, ◌∙◌, arith, Option, Some, None, eq-eqb}
+use Rattle.std.proofs.Common.{◌≡◌, ◌≢◌, ℕ, ◌+◌, ◌<◌, ◌≤◌, ◌==◌, Bool, true, false, cond, ltb, refl, sym, ap, subst, ◌∙◌, arith, Option, None, eq-eqb}
 use Rattle.gh_base.specs.declared.cell.Cell.TheVariants as cell
 use Rattle.gh_coord.specs.declared.sweep_all.SweepAllStage.TheVariants as all
 use Rattle.gh_coord.specs.SweepingAll as over_all
@@ -210,13 +210,12 @@ module _ (z : Arena) (a : ℕ) (known : Known) (w : SweepingAll) where
         stage_is = record { page_is = page_is ∙ span.page_is; within = span.within; busy = busy; runs = runs; found = still };
       }
 
-      behind_busy : (b : Bool) (i : ℕ) → sweep.is_busy (cond b (sweep_stage.LoadMarks i) sweep_stage.AddTally) ≡ true
-      behind_busy true i = refl
-      behind_busy false i = refl
+      abbrev Behind : SweepStage → Type 0
+      Behind q = Next (sweep.at_stage m q) (sweep.given_at q)
 
-      behind_still : (x : sweep.Sweeping) (b : Bool) (i : ℕ) → IsFoundStill a then x (cond b (sweep_stage.LoadMarks i) sweep_stage.AddTally)
-      behind_still x true i = tt
-      behind_still x false i = tt
+      behind : (b : Bool) (i : ℕ) → Runs a then (sweep.at_stage m (cond b (sweep_stage.LoadMarks i) sweep_stage.AddTally)) → Behind (cond b (sweep_stage.LoadMarks i) sweep_stage.AddTally)
+      behind true i f = goes_on _ refl refl f tt
+      behind false i f = goes_on _ refl refl f tt
 
       runs_at : (q : SweepStage) → m.stage ≡ q → Runs a then (sweep.goes_at m q found)
       runs_at q y = subst (λ (p : SweepStage). Runs a then (sweep.goes_at m p found)) y lands.runs
@@ -231,25 +230,25 @@ module _ (z : Arena) (a : ℕ) (known : Known) (w : SweepingAll) where
       swept_page : m.stage ≡ sweep_stage.Finish → then.far page ≡ Done
       swept_page y = ap (λ (q : SweepStage). (moves.moved a (sweep_over s s.heap.words) (sweepers.move_at m q found)).far page) y ∙ rw (eq-eqb m.page page span.page_is) refl
 
-      ended : m.stage ≡ sweep_stage.Finish → Next (sweep.at_stage m sweep_stage.Ended) (Some (Swept (sweep.swept_span m)))
-      ended y = next_page then page sweeps.layout_is sweeps.generation_is alone_then (one_more then page passed_below_then (swept_page y)) (known.sweeps.rests a then (sweep.at_stage m sweep_stage.Ended) (runs_at sweep_stage.Finish y) refl)
+      ended : m.stage ≡ sweep_stage.Finish → Behind (sweep_stage.Ended (Swept (sweep.swept_span m)))
+      ended y = next_page then page sweeps.layout_is sweeps.generation_is alone_then (one_more then page passed_below_then (swept_page y)) (known.sweeps.rests a then (sweep.at_stage m (sweep_stage.Ended (Swept (sweep.swept_span m)))) (runs_at sweep_stage.Finish y) refl)
 
-      begun : m.stage ≡ sweep_stage.Begin → Next (sweep.goes_at m sweep_stage.Begin found) (sweep.gives_at m sweep_stage.Begin found)
+      begun : m.stage ≡ sweep_stage.Begin → Behind (cond (sweep.wrote m found) (sweep_stage.LoadMarks 0) (sweep_stage.Ended Lost))
       begun y = go (sweep.wrote m found) (wrote y) (runs_at sweep_stage.Begin y) where
-        go : (b : Bool) → b ≡ true → Runs a then (sweep.at_stage m (cond b (sweep_stage.LoadMarks 0) sweep_stage.Ended)) → Next (sweep.at_stage m (cond b (sweep_stage.LoadMarks 0) sweep_stage.Ended)) (cond b None (Some Lost))
+        go : (b : Bool) → b ≡ true → Runs a then (sweep.at_stage m (cond b (sweep_stage.LoadMarks 0) (sweep_stage.Ended Lost))) → Behind (cond b (sweep_stage.LoadMarks 0) (sweep_stage.Ended Lost))
         go true x f = goes_on _ refl refl f tt
         go false x f = absurd cc
 
-      by_stage : (q : SweepStage) → m.stage ≡ q → sweep.is_busy q ≡ true → Next (sweep.goes_at m q found) (sweep.gives_at m q found)
+      by_stage : (q : SweepStage) → m.stage ≡ q → sweep.is_busy q ≡ true → Next (sweep.goes_at m q found) (sweep.given (sweep.goes_at m q found))
       by_stage sweep_stage.Begin y b = begun y
       by_stage (sweep_stage.LoadMarks i) y b = goes_on _ refl refl (runs_at (sweep_stage.LoadMarks i) y) tt
       by_stage (sweep_stage.ClearBits i marks) y b = goes_on _ refl refl (runs_at (sweep_stage.ClearBits i marks) y) tt
-      by_stage (sweep_stage.ClearMarks i) y b = goes_on _ refl (behind_busy _ _) (runs_at (sweep_stage.ClearMarks i) y) (behind_still (sweep.goes_at m (sweep_stage.ClearMarks i) found) _ _)
+      by_stage (sweep_stage.ClearMarks i) y b = behind (ltb (i + 1) (sweep.bit_words m.head)) (i + 1) (runs_at (sweep_stage.ClearMarks i) y)
       by_stage sweep_stage.AddTally y b = goes_on _ refl refl (runs_at sweep_stage.AddTally y) tt
       by_stage sweep_stage.AddLive y b = goes_on _ refl refl (runs_at sweep_stage.AddLive y) tt
       by_stage sweep_stage.AddHeap y b = goes_on _ refl refl (runs_at sweep_stage.AddHeap y) tt
       by_stage sweep_stage.Finish y b = ended y
-      by_stage sweep_stage.Ended y b = absurd cc
+      by_stage (sweep_stage.Ended end) y b = absurd cc
 
       pub stepped : Sweeps then (over_all.goes_at w (all.Sweep page m) found)
       stepped = by_stage m.stage refl span.busy

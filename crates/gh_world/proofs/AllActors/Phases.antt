@@ -149,7 +149,7 @@ span_none m sweep_stage.AddTally x = x
 span_none m sweep_stage.AddLive x = x
 span_none m sweep_stage.AddHeap x = x
 span_none m sweep_stage.Finish x = x
-span_none m sweep_stage.Ended x = x
+span_none m (sweep_stage.Ended end) x = x
 
 all_none : (v : all.SweepingAll) (p : SweepAllStage) → IsMarkingStep (all.asks_at v p) → ⊥
 all_none v (all_stage.LoadPage i) x = x

@@ -117,21 +117,16 @@ module _ (shapes : List Shape) (m : Processor) (found : ℕ) where
   abbrev placing_at : Wanted → Placing → Task
   placing_at w p = task.New (record { wanted = w; stage = Place p })
 
-  -- the making goes on at this stage, or is over
-  goes_on : (w : Wanted) (p : Placing) (b : Bool) (y : Processor) → uncounted (placing_at w p) ≡ 0 → uncounted (cond b (placing_at w p) task.Idle) ≡ 0
-  goes_on w p true y none = none
-  goes_on w p false y none = refl
-
   placed : (w : Wanted) (p : Placing) (s : PlaceStage) → StepOf (placing_at w (place.at_stage p s))
   placed w p (making.Clear k) = inr (inr (record { same = by (nat_lt (k + 1) p.slot); silent = λ y. absurd (let x = y.0 in cc); nothing = λ e g. refl })) where
     by : (b : Bool) → uncounted (cond (place.is_busy (cond b (making.Clear (k + 1)) making.Birth)) (placing_at w (place.at_stage p (cond b (making.Clear (k + 1)) making.Birth))) task.Idle) ≡ 0
     by true = refl
     by false = refl
-  placed w p making.Birth = inr (inr (record { same = goes_on w (place.at_stage p (making.Bits (bits.opening p.layout p.shape p.at p.slot))) (bits.is_busy (bits.opening p.layout p.shape p.at p.slot).stage) m refl; silent = λ y. absurd (let x = y.0 in cc); nothing = λ e g. refl }))
-  placed w p (making.Bits q) = inr (inr (record { same = by (bits.is_busy (bits.goes q found).stage) refl; silent = λ y. absurd (let x = y.0 in cc); nothing = λ e g. refl })) where
-    by : (b : Bool) → bits.is_busy (bits.goes q found).stage ≡ b → uncounted (cond (place.is_busy (cond b (making.Bits (bits.goes q found)) (place.filled p.marking))) (placing_at w (place.at_stage p (cond b (making.Bits (bits.goes q found)) (place.filled p.marking)))) task.Idle) ≡ 0
-    by true is = goes_on w (place.at_stage p (making.Bits (bits.goes q found))) (bits.is_busy (bits.goes q found).stage) m refl
-    by false is = filled p.marking where
+  placed w p making.Birth = inr (inr (record { same = refl; silent = λ y. absurd (let x = y.0 in cc); nothing = λ e g. refl }))
+  placed w p (making.Bits q) = inr (inr (record { same = by (bits.is_busy (bits.goes q found).stage); silent = λ y. absurd (let x = y.0 in cc); nothing = λ e g. refl })) where
+    by : (b : Bool) → uncounted (cond (place.is_busy (cond b (making.Bits (bits.goes q found)) (place.filled p.marking))) (placing_at w (place.at_stage p (cond b (making.Bits (bits.goes q found)) (place.filled p.marking)))) task.Idle) ≡ 0
+    by true = refl
+    by false = filled p.marking where
       filled : (marking : Bool) → uncounted (cond (place.is_busy (place.filled marking)) (placing_at w (place.at_stage p (place.filled marking))) task.Idle) ≡ 0
       filled true = refl
       filled false = refl

@@ -7,20 +7,21 @@ use Rattle.gh_coord.specs.declared.tell.TellStage.TheVariants as telling
 use Rattle.gh_coord.specs.Handshake as leading
 use Rattle.gh_world.specs.declared.handshake.Actor.TheVariants as actor
 use Rattle.gh_world.specs.Actors.{AllStands, AllWereCounted, AllWereOpened, Awaits, LeavesTheReached, StandsSoFar, StandsUntilItsEnd, StepsWithin}
-use Rattle.gh_world.specs.ActorsHold.{HasState, Holds, HoldsAt, IsTelling}
+use Rattle.gh_world.specs.ActorsHold.{HasState, Holds, HoldsAt, IsAsItShould, IsTelling, processor_at}
 use Rattle.gh_world.specs.Asked.{AllWereAsked}
 use Rattle.gh_world.specs.Counts.{CountsPlainly}
 use Rattle.gh_world.specs.Drawn.{CycleIsDrawn}
 use Rattle.gh_world.specs.Handshake.{those}
-use Rattle.gh_world.specs.HoldVocabulary.{arena, Arena, Coordinating, Entry, IsInLimits, IsLed, Layout, Op, opening_words, Pacing, Shape}
+use Rattle.gh_world.specs.HoldVocabulary.{arena, Arena, Coordinating, Entry, IsInLimits, IsLed, Layout, Op, opening_words, Pacing, Shape, view}
 use Rattle.gh_world.specs.Phases.{PhasesStand}
-use Rattle.gh_world.specs.Processors.{ListStands}
+use Rattle.gh_world.specs.Processors.{AnswersAsEver, ListStands}
 use Rattle.gh_world.specs.Scans.{ScansOnce}
 use Rattle.gh_world.specs.SweepMarks.{SweepsStand}
 use Rattle.gh_world.proofs.CycleMarking.Asked.{MarksToTheEnd}
 use Rattle.gh_world.proofs.AllActors.Drawing.{is_drawn}
 use Rattle.gh_world.proofs.AllActors.Going.{goes_then, IsGoing}
 use Rattle.gh_world.proofs.AllActors.Known.{Known}
+use Rattle.gh_world.proofs.AllActors.Pending.{none_unacted}
 use Rattle.gh_world.proofs.AllActors.Standing.{named, stand_apart, stands_for}
 use Rattle.gh_world.proofs.AllActors.Tied.{is_tied}
 
@@ -57,10 +58,18 @@ module _ (shapes : List Shape) (l : Layout) (pacing : Pacing) (may : ℕ → Lis
       now : HasState shapes l pacing may es
       now = has_at c.stage (goes_then shapes l pacing may es c led) marked h.at
 
+      answered : (a : ℕ) → IsAsItShould shapes l pacing may es now.state.heap a (processor_at shapes l pacing may es a) → AnswersAsEver z (opening_words pacing.trigger) a es
+      answered a is = record {
+        pending = is.pending;
+        answers = is.answers;
+        resting = λ idle. known.runs.rests z a (view now.state.heap) (processor_at shapes l pacing may es a) is.pending idle is.fine;
+        unacted = λ o to_act. none_unacted z a (view now.state.heap) (processor_at shapes l pacing may es a) is.pending (processor_at shapes l pacing may es a).task o to_act is.fine.task;
+      }
+
       stands : ListStands z (opening_words pacing.trigger) es
       stands = record {
         stands = stands_for shapes l pacing may limits known es now;
-        answers = λ a lt. let is = now.of_list.processors a lt in record { pending = is.pending; answers = is.answers };
+        answers = λ a lt. answered a (now.of_list.processors a lt);
         full = h.was.full;
       }
 

@@ -64,7 +64,7 @@ number_is generation h f is done = subst (IsNumbered generation h) done is
 sweeps_so : (a : ℕ) (s : sweep.Shared) (m : Sweeping) (p : SweepStage) → has_span p ≡ true → HasReached a s m p → Sweeps a m.page m.head (reached m.head p) (marks_cleared m.head p) s
 sweeps_so a s m sweep_stage.Begin own is = absurd (cc)
 sweeps_so a s m (sweep_stage.LoadMarks i) own is = is
-sweeps_so a s m sweep_stage.Ended own is = absurd (cc)
+sweeps_so a s m (sweep_stage.Ended end) own is = absurd (cc)
 sweeps_so a s m _ own is = is
 
 -- A processor that runs knows what it has cached.

@@ -7,6 +7,7 @@ use Rattle.gh_base.specs.declared.value.Answer.TheVariants as answer
 use Rattle.gh_phase.specs.declared.resume.ResumeStage.TheVariants as resuming
 use Rattle.gh_phase.specs.Listing as resume
 use Rattle.gh_phase.specs.ResumePlaces as places
+use Rattle.gh_phase.specs.Stays.{phase_on}
 use Rattle.gh_mutator.specs.declared.leave.LeaveStage.TheVariants as leaving
 use Rattle.gh_mutator.specs.declared.new.NewStage.TheVariants as making
 use Rattle.gh_mutator.specs.declared.poll.PollStage.TheVariants as polling
@@ -20,7 +21,7 @@ use Rattle.gh_mutator.specs.New as new
 use Rattle.gh_mutator.specs.Poll as poll
 use Rattle.gh_mutator.specs.Processor.{at_poll, at_task}
 use Rattle.gh_mutator.specs.Wait as wait
-use Rattle.gh_world.proofs.Vocabulary.{acting, acts, acts_at, after_gc, after_poll, asks, given_at, gives, gives_at, is_busy_at, is_some, IsParked, leaves_at, LeaveStage, Leaving, Load, New, new_stage_at, NewStage, once_ended, PackedWordsAreReadBack, PhaseWord, Polling, polls_at, PollStage, Processor, Resumed, ResumeStage, run_phase, Shape, SoundAt, SoundPlace, stage_at, stage_of, stop_word, takes, takes_at, Task, waits_at, WaitStage}
+use Rattle.gh_world.proofs.Vocabulary.{acting, acts, acts_at, after_gc, after_poll, asks, given_at, gives, gives_at, is_busy_at, is_some, IsParked, leaves_at, LeaveStage, Leaving, Load, New, new_stage_at, NewStage, once_ended, PackedWordsAreReadBack, phase_of, PhaseWord, Polling, polls_at, PollStage, Processor, Resumed, ResumeStage, run_phase, Shape, SoundAt, SoundPlace, stage_at, stage_of, stop_word, takes, takes_at, Task, waits_at, WaitStage}
 
 -- where the poll waits
 pub record WaitsAt (stops : ℕ) (p : Polling) : Type 0 where
@@ -55,7 +56,7 @@ module _ (back : PackedWordsAreReadBack) (stops : ℕ) where
       ∙ ap (resume.at_stage r) (sym loads)))
 
   none_resumed : (r : resume.Resuming) → r.stage ≡ resuming.LoadPhase → resume.gives r found ≡ None
-  none_resumed r loads = ap (λ (s : ResumeStage). resume.gives_at r s found) loads
+  none_resumed r loads = ap (λ (s : ResumeStage). resume.given (resume.goes_at r s found)) loads ∙ phase_on r (phase_of found).stops (run_phase (phase_of found).phase)
 
   polls_ask : (p : Polling) → WaitsAt stops p → poll.asks p ≡ Load cell.Phase
   polls_ask p w = ap poll.asks_at w.is_at ∙ ap (resume.asks_at w.routine) w.loads
@@ -82,8 +83,8 @@ module _ (back : PackedWordsAreReadBack) (stops : ℕ) where
       ∙ (ap (λ (p : Polling). wait.after_poll w p None) (polls w.poll at)
       ∙ ap (λ (s : WaitStage). record w { wait = record (w.wait) { stage = s } }) (sym is)))
 
-  none_waited : (w : wait.Waiting) → w.wait.stage ≡ waiting.Polling → wait.gives w found ≡ None
-  none_waited w is = ap (λ (s : WaitStage). wait.gives_at w.wait.known s found) is
+  none_waited : (w : wait.Waiting) → w.wait.stage ≡ waiting.Polling → WaitsAt stops w.poll → wait.gives w found ≡ None
+  none_waited w is at = ap (λ (x : wait.Waiting). wait.given x.wait.stage) (waits w is at) ∙ ap wait.given is
 
   waits_parked : (w : wait.Waiting) → IsParked stops (wait_stage_of w) → (w.wait.stage ≡ waiting.Polling) × WaitsAt stops w.poll
   waits_parked w k = go w.wait.stage refl k where
@@ -115,10 +116,10 @@ module _ (back : PackedWordsAreReadBack) (stops : ℕ) where
     gc_still g x is on at = record {
       busy = ap is_busy_at is;
       loads = ap (asks_at m) is ∙ waits_ask (wait.waiting x m.poll) on at;
-      stays = ap (λ (t : Task). takes_at shapes m t found) is ∙ (ap (λ (y : Option (Unit {0})). after_gc m g (wait.goes (wait.waiting x m.poll) found) y) (none_waited (wait.waiting x m.poll) on)
+      stays = ap (λ (t : Task). takes_at shapes m t found) is ∙ (ap (λ (y : Option (Unit {0})). after_gc m g (wait.goes (wait.waiting x m.poll) found) y) (none_waited (wait.waiting x m.poll) on at)
           ∙ (ap (λ (y : wait.Waiting). at_task (at_poll m y.poll) (task.Gc g y.wait)) (waits (wait.waiting x m.poll) on at) ∙ ap (at_task m) (sym is)));
-      no_act = ap (λ (t : Task). acts_at m t found) is ∙ ap (λ (y : Option (Unit {0})). acting (is_some y) (op.Gc g) false) (none_waited (wait.waiting x m.poll) on);
-      no_answer = ap (λ (t : Task). given_at t (gives_at m t found)) is ∙ ap (λ (y : Option (Unit {0})). once_ended y answer.Swept) (none_waited (wait.waiting x m.poll) on);
+      no_act = ap (λ (t : Task). acts_at m t found) is ∙ ap (λ (y : Option (Unit {0})). acting (is_some y) (op.Gc g) false) (none_waited (wait.waiting x m.poll) on at);
+      no_answer = ap (λ (t : Task). given_at t (gives_at m t found)) is ∙ ap (λ (y : Option (Unit {0})). once_ended y answer.Swept) (none_waited (wait.waiting x m.poll) on at);
     }
 
     new_still : (x : New) (y : Wait) → m.task ≡ task.New x → x.stage ≡ making.Wait y → y.stage ≡ waiting.Polling → WaitsAt stops m.poll → StandsStill
@@ -126,7 +127,7 @@ module _ (back : PackedWordsAreReadBack) (stops : ℕ) where
       busy = ap is_busy_at is;
       loads = ap (asks_at m) is ∙ (ap (new.asks_at m) here ∙ waits_ask (wait.waiting y m.poll) on at);
       stays = ap (λ (t : Task). takes_at shapes m t found) is ∙ (ap (λ (s : NewStage). new.takes_at shapes m x.wanted s found) here
-          ∙ (ap (λ (o : Option (Unit {0})). new.after_wait m x.wanted (wait.goes (wait.waiting y m.poll) found) o) (none_waited (wait.waiting y m.poll) on)
+          ∙ (ap (λ (o : Option (Unit {0})). new.after_wait m x.wanted (wait.goes (wait.waiting y m.poll) found) o) (none_waited (wait.waiting y m.poll) on at)
           ∙ (ap (λ (w : wait.Waiting). at_task (at_poll m w.poll) (new.waits x.wanted w)) (waits (wait.waiting y m.poll) on at)
           ∙ (ap (λ (s : NewStage). at_task m (task.New (record x { stage = s }))) (sym here) ∙ ap (at_task m) (sym is)))));
       no_act = ap (λ (t : Task). acts_at m t found) is ∙ ap (λ (s : NewStage). acting (new.acts_at s found) (new.op_of x.wanted) (new.is_full_at s)) here;

@@ -21,6 +21,7 @@ use Rattle.gh_mutator.specs.Load as load
 use Rattle.gh_mutator.specs.New as new
 use Rattle.gh_mutator.specs.Poll as poll
 use Rattle.gh_mutator.specs.Register as register
+use Rattle.gh_mutator.specs.Stays.{ends_later}
 use Rattle.gh_mutator.specs.Store as store
 use Rattle.gh_mutator.specs.Wait as wait
 use Rattle.gh_world.specs.RunVocabulary.{after_gc, after_leave, after_poll, asks_at, Leaving, NoRoom, Polling, Seeking, WaitStage}
@@ -105,18 +106,9 @@ register_other : (y : Register) (from : Source) → is_gc (register.op_from y fr
 register_other y (source.Int n) = refl
 register_other y _ = refl
 
-ends_later : (st : WaitStage) (known found : ℕ) (u : Unit {0}) → wait.gives_at known st found ≡ Some u → EndsWaitAt known found st
-ends_later wait_stage.Want known found u e = absurd cc
-ends_later wait_stage.Polling known found u e = absurd cc
-ends_later wait_stage.LoadSwept known found u e = (refl, go (wait.is_later known found) refl e) where
-  go : (b : Bool) → ltb known found ≡ b → wait.given b ≡ Some u → known < found
-  go true t e = ltb-true known found t
-  go false t e = absurd cc
-ends_later wait_stage.Ended known found u e = absurd cc
-
-gc_waited : (y : WaitState) (found : ℕ) (out : Option (Unit {0})) → wait.gives_at y.known y.stage found ≡ out → (g : ℕ) (x : Act) → acting (is_some out) (op.Gc g) false ≡ Some x → ((op.Gc g ≡ x.op) × EndsWaitAt y.known found y.stage) × (once_ended out answer.Swept ≡ Some answer.Swept)
-gc_waited y found (Some u) is g x e = ((same_op true false (op.Gc g) x e, ends_later y.stage y.known found u is), refl)
-gc_waited y found None is g x e = absurd (none_at (op.Gc g) false x e)
+gc_waited : (y : WaitState) (p : Polling) (found : ℕ) (out : Option (Unit {0})) → wait.gives (wait.waiting y p) found ≡ out → (g : ℕ) (x : Act) → acting (is_some out) (op.Gc g) false ≡ Some x → ((op.Gc g ≡ x.op) × EndsWaitAt y.known found y.stage) × (once_ended out answer.Swept ≡ Some answer.Swept)
+gc_waited y p found (Some u) is g x e = ((same_op true false (op.Gc g) x e, ends_later (wait.waiting y p) y.stage found u is), refl)
+gc_waited y p found None is g x e = absurd (none_at (op.Gc g) false x e)
 
 pub gc_acts : (m : Processor) (t : Task) (found g : ℕ) (x : Act) → acts_at m t found ≡ Some x → x.op ≡ op.Gc g → HasSeenCycle found t x.op × (gives_at m t found ≡ Some answer.Swept)
 gc_acts m task.Idle found g x e f = absurd cc
@@ -126,7 +118,7 @@ gc_acts m (task.Store y) found g x e f = absurd (other_acts (store.step m.poll.l
 gc_acts m (task.Global y) found g x e f = absurd (other_acts (global.step m.poll.layout (register_of m y.g y.r) y found).acts false (global.op_of y) g x (global_other y y.stage) e f)
 gc_acts m (task.Register y) found g x e f = absurd (other_acts (register.step (register_of m y.g (register.read_of y)) y).acts false (register.op_of y) g x (register_other y y.source) e f)
 gc_acts m (task.New y) found g x e f = absurd (other_acts (new.acts_at y.stage found) (new.is_full_at y.stage) (new.op_of y.wanted) g x refl e f)
-gc_acts m (task.Gc h y) found g x e f = gc_waited y found (wait.gives (wait.waiting y m.poll) found) refl h x e
+gc_acts m (task.Gc h y) found g x e f = gc_waited y m.poll found (wait.gives (wait.waiting y m.poll) found) refl h x e
 gc_acts m task.Poll found g x e f = absurd (other_acts (is_some (poll.gives m.poll found)) false op.Poll g x refl e f)
 gc_acts m (task.End h) found g x e f = absurd (other_acts true false (op.End h) g x refl e f)
 gc_acts m (task.Leave y) found g x e f = absurd (other_acts (is_some (leave.gives y found)) false op.Leave g x refl e f)
@@ -199,7 +191,7 @@ module _ (shapes : List Shape) (m : Processor) (low swept found : ℕ) where
 
   waited : (w : Wanted) (x : WaitState) (out : Option (Unit {0})) → wait.gives (wait.waiting x m.poll) found ≡ out → low ≤ x.known → (wait.asks (wait.waiting x m.poll) ≡ ask.Load cell.Swept → found ≤ swept) → HasWaited low swept (after_wait m w (wait.goes (wait.waiting x m.poll) found) out).task
   waited w x None is h so = let same = still_knows x m.poll x.stage in omega (arith, same, h)
-  waited w x (Some u) is h so = let e = ends_later x.stage x.known found u is in let le = so (loads_swept m x e.0) in let lt = e.1 in omega (arith, le, lt, h)
+  waited w x (Some u) is h so = let e = ends_later (wait.waiting x m.poll) x.stage found u is in let le = so (loads_swept m x e.0) in let lt = e.1 in omega (arith, le, lt, h)
 
   placed : (w : Wanted) (made : Bool) (a : ℕ) (p : Placing) → HasWaited low swept (after_place m w made a p).task
   placed w made a p = go (place.is_busy p.stage) where

@@ -70,7 +70,7 @@ tries : (t : try.Trying) (p : TryStage) → LeavesHeap (try.asks_at t p)
 tries t trying.Look = loads _
 tries t (trying.GiveBack word) = backs t t.held
 tries t (trying.Claim word) = swaps_buffer t.index _ _
-tries t trying.Ended = loads _
+tries t (trying.Ended out) = loads _
 
 gives : (p : GiveStage) → LeavesHeap (give.asks_at p)
 gives (giving.Give h) = stores_buffer h.index _
@@ -79,7 +79,7 @@ gives giving.Ended = loads _
 takes : (t : take.EntryTaking) (p : TakeStage) → LeavesHeap (take.asks_at t p)
 takes t (taking.Try u) = tries u u.stage
 takes t (taking.Take h) = loads _
-takes t (taking.Ended held) = loads _
+takes t (taking.Ended held entry) = loads _
 
 finds_room : (r : room.RoomFinding) (p : RoomStage) → LeavesHeap (room.asks_at r p)
 finds_room r (finding.GiveBack h) = stores_buffer h.index _

@@ -26,7 +26,7 @@ module _ (z : Cycle) (a : ℕ) (s : Marking) where
   scan_fills m scan_stage.LoadField f = by_hand _ refl f.2
   scan_fills m (scan_stage.Shading sh) f = by_hand _ refl f.1.hands
   scan_fills m (scan_stage.FindRoom sh r) f = by_hand _ refl f.3.hands
-  scan_fills m scan_stage.Ended f = by_hand _ refl f
+  scan_fills m (scan_stage.Ended words) f = by_hand _ refl f
 
   stage_fills : (held : Option Held) (q : WorkerStage) → marks.StageFacts z a s held q → FillsNone
   stage_fills held stage.LoadPhase f = by_hand _ refl f

@@ -6,12 +6,12 @@ use Rattle.gh_base.specs.declared.machine.Entry.{Entry}
 use Rattle.gh_base.specs.declared.operation.Op.{Op}
 use Rattle.gh_base.specs.declared.shape.Shape.{Shape}
 use Rattle.gh_base.specs.Lists.{Kind, started, state_of}
-use Rattle.gh_coord.specs.Ends as coord_ends
+use Rattle.gh_coord.specs.Stays as coord_ends
 use Rattle.gh_coord.specs.Listing as coord
 use Rattle.gh_coord.specs.Stopping.{acks_of}
 use Rattle.gh_mutator.specs.declared.processor.Processor.{Processor}
 use Rattle.gh_mutator.specs.Deeds.{processor_kind}
-use Rattle.gh_worker.specs.Ends as worker_ends
+use Rattle.gh_worker.specs.Stays as worker_ends
 use Rattle.gh_worker.specs.Listing as worker
 use Rattle.gh_world.specs.declared.handshake.Actor.{Actor}
 use Rattle.gh_world.specs.declared.handshake.Actor.TheVariants as actor

@@ -1,5 +1,5 @@
 -- What the statements of a whole run are answered.
-use Rattle.std.proofs.Common.{◌≡◌, ℕ, ◌<◌, ◌≤◌, ◌%◌, Bool, true, false, cond, eqb, eq-eqb, List, [], ◌∷◌, ◌++◌, map, length, reverse, Option, Some, None, refl, sym, ap, subst, ◌∙◌, arith}
+use Rattle.std.proofs.Common.{◌≡◌, ℕ, ◌<◌, ◌≤◌, ◌%◌, Bool, true, false, cond, eqb, eq-eqb, List, [], ◌∷◌, ◌++◌, map, length, reverse, Option, refl, sym, ap, subst, ◌∙◌, arith}
 use Rattle.std.specs.Option.{option_to_list}
 use Rattle.std.specs.List.{filter}
 use Rattle.std.proofs.lemmas.Bool.{eqb-true}
@@ -45,10 +45,6 @@ left_idle task.Left e = refl
 left_idle task.Idle e = refl
 left_idle (task.Load x) e = absurd cc
 left_idle _ e = absurd cc
-
-none_pending : (o : Option Answer) (xs ys : List Answer) → xs ≡ option_to_list o ++ ys → length xs ≡ length ys → xs ≡ ys
-none_pending None xs ys e long = e
-none_pending (Some a) xs ys e long = let more = ap length e in absurd (omega (arith, more, long))
 
 -- a goroutine's answers are among those of its processor's goroutines
 by_seat : (p : Program) (a g : ℕ) → is_of_seat p a g ≡ true → (xs : List (ℕ × Answer)) → answers_by g (answers_at p a xs) ≡ answers_by g xs
@@ -115,11 +111,7 @@ module _ (p : Program) (l : Layout) (procs : l.procs ≡ p.settings.procs) (each
     given_are =
         let own_answers = stands.answers a lt in
         let said : point_answers ≡ answers_of (arena_of p.shapes l) (setting_of p l).opening a es = sym pointed_is ∙ deed_answers (answered_by (processor_kind p.shapes l) (deeds p.shapes) (meaning p.shapes) a es) in
-        let long = (rests_told p l procs es run.legal a lt idle).long in
-        let one = length-map pointed (λ (x : Answered). x.answer) in
-        let two = length-map pointed (λ (x : Answered). x.op) in
-        let ops = ap length pointed_ops in
-        none_pending own_answers.pending point_answers (given p l procs a es) (said ∙ own_answers.answers) (omega (arith, long, one, two, ops))
+        said ∙ own_answers.answers ∙ ap (λ (o : Option Answer). option_to_list o ++ given p l procs a es) (own_answers.resting idle)
 
     pub among_are : answers_at p a (answers_given p l es) ≡ answers_to (turns_of p a) its_answers
     among_are =

@@ -19,7 +19,7 @@ use Rattle.gh_coord.specs.SweepingAll as all
 use Rattle.gh_coord.specs.Telling as tell
 use Rattle.gh_coord.specs.Watching as watch
 use Rattle.gh_sweep.specs.declared.sweep.SweepStage.TheVariants as span
-use Rattle.gh_sweep.specs.Ends as sweep_ends
+use Rattle.gh_sweep.specs.Stays as sweep_ends
 use Rattle.gh_sweep.specs.Listing as sweep
 use Rattle.gh_world.proofs.Vocabulary.{All, buffers_of, cell_of, CloseStage, CountStage, InRange, Layout, Lost, mod_below, nat_lt, nat_tests, NotYet, OpenStage, page_of, PageWord, StopStage, SweepAllStage, SweepEnd, SweepStage, Swept, TellStage, WatchStage}
 

@@ -2,7 +2,7 @@
 use Rattle.std.proofs.Common.{◌≡◌, ℕ, ◌+◌, ◌<◌, Bool, true, false, cond, ◌==◌, refl, sym, subst, arith}
 use Rattle.gh_coord.specs.Closing as close
 use Rattle.gh_coord.specs.Counting as count
-use Rattle.gh_coord.specs.Ends.{by_last, by_out, by_want, by_watched, stays}
+use Rattle.gh_coord.specs.Stays.{by_last, by_out, by_want, by_watched, stays}
 use Rattle.gh_coord.specs.Listing as coord
 use Rattle.gh_coord.specs.Opening as opens
 use Rattle.gh_coord.specs.Stopping as stop

@@ -5,7 +5,7 @@ use Rattle.gh_base.specs.declared.machine.Entry.{Entry}
 use Rattle.gh_base.specs.Cells.{InRange}
 use Rattle.gh_base.specs.Lists.{Kind, started, state_of}
 use Rattle.gh_base.specs.Steps.{cell_of}
-use Rattle.gh_coord.specs.Ends.{stays}
+use Rattle.gh_coord.specs.Stays.{stays}
 use Rattle.gh_coord.specs.Listing as coord
 use Rattle.gh_coord.specs.Stopping.{acks_of}
 use Rattle.gh_mutator.specs.Processor.{opening_processor}

@@ -61,9 +61,9 @@ module _ (l : Layout) where
   shade_goes_at : (s : shade.Shading) (p : ShadeStage) (found : ℕ) → ShadeWithin l s → FitsStage s.held p → ShadeWithin l (shade.goes_at s p found)
   shade_goes_at s shade_at.LoadPage found w o = record { layout_is = w.layout_is; reference = w.reference; held = w.held; stage = tt }
   shade_goes_at s (shade_at.SetMark noscan) found w o = record { layout_is = w.layout_is; reference = w.reference; held = w.held; stage = marked s.held (shade.is_whole s noscan found) }
-  shade_goes_at s shade_at.WaitForRoom found w o = w
+  shade_goes_at s shade_at.WaitForRoom found w o = record { layout_is = w.layout_is; reference = w.reference; held = w.held; stage = tt }
   shade_goes_at s shade_at.Enter found w o = record { layout_is = w.layout_is; reference = w.reference; held = raised_fits s.held w.held o; stage = tt }
-  shade_goes_at s shade_at.Ended found w o = w
+  shade_goes_at s shade_at.Ended found w o = record { layout_is = w.layout_is; reference = w.reference; held = w.held; stage = tt }
 
   pub shade_goes : (s : shade.Shading) (found : ℕ) → ShadeWithin l s → ShadeWithin l (shade.goes s found)
   shade_goes s found w = shade_goes_at s s.stage found w w.stage
@@ -129,7 +129,7 @@ module _ (l : Layout) where
   scan_goes_at s scan_at.LoadField found w o = with_field s found (found == 0) w
   scan_goes_at s (scan_at.Shading sh) found w o = after_shade s (shade.goes sh found) (shade.gives sh found) w (shade_goes sh found o)
   scan_goes_at s (scan_at.FindRoom sh r) found w o = after_room s sh (room.goes r found) (room.gives r found) w o.0 (room_goes l r found o.1) (room_gives l r found o.1)
-  scan_goes_at s scan_at.Ended found w o = w
+  scan_goes_at s (scan_at.Ended words) found w o = record { layout_is = w.layout_is; reference = w.reference; held = w.held; stage = tt }
 
   pub scan_goes : (s : scan.Scanning) (found : ℕ) → ScanWithin l s → ScanWithin l (scan.goes s found)
   scan_goes s found w = scan_goes_at s s.stage found w w.stage
@@ -158,4 +158,4 @@ module _ (l : Layout) where
     by scan_at.LoadField o = field_there s.layout _ w.layout_is some
     by (scan_at.Shading sh) o = shade_within sh o
     by (scan_at.FindRoom sh r) o = room_within l r o.1
-    by scan_at.Ended o = tt
+    by (scan_at.Ended words) o = tt

@@ -16,7 +16,7 @@ use Rattle.gh_worker.specs.declared.worker.WorkerStage.TheVariants as at
 use Rattle.gh_worker.specs.Listing as worker
 use Rattle.gh_worker.specs.Sound.{IsWorkersSeat}
 use Rattle.gh_world.proofs.Vocabulary.{cell_of, FitsGiveStage, Held, InRange, IsHeld, IsReference, Layout, nat_tests, phase_of, Resumed, ResumeStage, run_phase, RunPhase, Shaded, TakeStage, WorkerStage, Working}
-use Rattle.gh_world.proofs.Within.Buffers.{give_within, HasRoom, room_first, room_gives, room_goes, room_within, RoomWithin, take_first, take_goes, take_holds, take_within, TakeWithin}
+use Rattle.gh_world.proofs.Within.Buffers.{give_within, HasRoom, room_first, room_gives, room_goes, IsTaken, room_within, RoomWithin, take_first, take_goes, take_holds, take_within, taken, TakeWithin}
 use Rattle.gh_world.proofs.Within.Scans.{referred, scan_first, scan_goes, scan_holds, scan_within, ScanWithin, shade_first, shade_goes, shade_told, shade_within, ShadeWithin}
 
 abbrev pub StageWithin : Layout → WorkerStage → Type 0
@@ -57,27 +57,6 @@ resume_within l r lt = by r.stage where
   by : (p : ResumeStage) → InRange l (cell_of (resume.asks_at r p))
   by resume_at.Acknowledge = lt
   by _ = tt
-
--- an entry that is taken is a reference
-abbrev IsTaken : Layout → Option (Option ℕ) → Type 0
-IsTaken l (Some (Some reference)) = IsReference l reference
-IsTaken l _ = Unit {0}
-
-taken : (l : Layout) → 1 ≤ l.pages → (t : take.EntryTaking) (found : ℕ) → TakeWithin l t → IsTaken l (take.gives t found)
-taken l some t found w = by t.stage where
-  of_end : (b : Bool) → IsTaken l (cond b None (Some None))
-  of_end true = tt
-  of_end false = tt
-
-  of_try : (index : ℕ) (out : Option (Option Held)) → IsTaken l (take.none_of t index out)
-  of_try index None = tt
-  of_try index (Some None) = of_end (take.has_next t.layout index)
-  of_try index (Some (Some h)) = tt
-
-  by : (p : TakeStage) → IsTaken l (take.gives_at t p found)
-  by (take_at.Try tries) = of_try tries.index (try.gives tries found)
-  by (take_at.Take h) = subst (λ (m : Layout). IsReference l (take.entry_of m found)) (sym w.layout_is) (referred l _ some)
-  by (take_at.Ended held) = tt
 
 module _ (w : Working) (f : FitsWhole w) where
   abbrev l : Layout
@@ -145,7 +124,7 @@ module _ (w : Working) (f : FitsWhole w) where
   goes_at at.LoadPhase found s = at_stage _ (by_phase (phase_of found).stops (phase_of found).phase)
   goes_at (at.GiveBack g stops) found s = after_give (give.goes g found) stops (give.gives g found) tt
   goes_at (at.Resuming r) found s = after_resume (resume.goes r found) (resume.gives r found) (rw (seat_stays r r.stage found) s)
-  goes_at (at.Taking t) found s = after_take (take.goes t found) (take.gives t found) (take_goes l t found s) (taken l f.pages t found s)
+  goes_at (at.Taking t) found s = after_take (take.goes t found) (take.gives t found) (take_goes l t found s) (taken l t found s)
   goes_at (at.Scanning x) found s = after_scan (scan.goes x found) (scan.gives x found) (scan_goes l x found s)
   goes_at at.LoadCursor found s = at_stage _ (cursor_leads (ltb found l.globals))
   goes_at at.Claim found s = at_stage _ (claim_leads found (ltb found l.globals) refl)
@@ -153,7 +132,7 @@ module _ (w : Working) (f : FitsWhole w) where
   goes_at (at.Shading sh) found s = after_shade (shade.goes sh found) (shade.gives sh found) (shade_goes l sh found s)
   goes_at (at.FindRoom sh r) found s = after_room sh (room.goes r found) (room.gives r found) s.0 (room_goes l r found s.1) (room_gives l r found s.1)
   goes_at at.Leave found s = at_stage at.Done tt
-  goes_at at.Done found s = f
+  goes_at at.Done found s = at_stage at.Done tt
 
   within_at : (p : WorkerStage) → StageWithin l p → InRange l (cell_of (worker.asks_at w p))
   within_at (at.GiveBack g stops) s = give_within l g s

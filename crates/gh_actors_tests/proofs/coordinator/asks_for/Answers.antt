@@ -1,6 +1,6 @@
 use Rattle.std.proofs.Common.{◌≡◌, ℕ, true, Option, None, sym, ap, subst, ◌∙◌}
 use Rattle.std.specs.Prelude.{is_some}
-use Rattle.gh_coord.specs.Ends.{ends}
+use Rattle.gh_coord.specs.Stays.{ends}
 use Rattle.gh_coord.specs.Listing.{Coordinating, gives, goes, is_busy}
 use Rattle.gh_actors_tests.proofs.coordinator.asks_for.Goals as goal
 

@@ -2,7 +2,7 @@ use Rattle.std.proofs.Common.{rules, ◌≡◌, ℕ, true, false, sym, ap, ◌�
 use Rattle.std.specs.Prelude.{is_some, IsNone}
 use Rattle.std.proofs.lemmas.Bool.{false_from_ne_true}
 use Rattle.gh_base.specs.declared.value.Answer.{Answer}
-use Rattle.gh_mutator.specs.Ends.{ends, stays}
+use Rattle.gh_mutator.specs.Stays.{ends, stays}
 use Rattle.gh_mutator.specs.Mutating.{Mutating, gives, goes, is_busy}
 use Rattle.gh_actors_tests.proofs.marking.tell.Goals as goal
 

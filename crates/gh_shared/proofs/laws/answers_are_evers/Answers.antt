@@ -1,7 +1,11 @@
-use Rattle.std.proofs.Common.{subst, sym}
+use Rattle.std.proofs.Common.{ap, Option, subst, sym, ◌∙◌, ◌++◌}
+use Rattle.std.specs.Option.{option_to_list}
+use Rattle.gh_base.specs.declared.value.Answer.{Answer}
 use Rattle.gh_script.specs.Program.{Program, WellFormed}
+use Rattle.gh_world.specs.Processors.{arena_of, given_of}
 use Rattle.gh_world.specs.World.{LaysOut}
 use Rattle.gh_shared.specs.Handles.{plan_of}
+use Rattle.gh_shared.specs.Plans.{setting}
 use Rattle.gh_shared.proofs.laws.answers_are_evers.Goals as goal
 
 pub returns-clause-stands : goal.returns-clause-stands
@@ -12,4 +16,9 @@ returns-clause-stands c es legal =
 pub returns-clause-answers : goal.returns-clause-answers
 returns-clause-answers c es a legal lt =
     let p = plan_of c.args.heap.now in
-    (c.every_run_stands.ensures.lists p.script p.layout es (subst WellFormed (sym c.requires.script) c.is_well_formed.ensures) (subst (λ (q : Program). LaysOut q p.layout) (sym c.requires.script) c.requires.layout) legal).stands.answers a lt
+    let as_ever = (returns-clause-stands c es legal).stands.answers a lt in
+    let z = arena_of p.script.shapes p.layout in
+    record {
+      as_ever = as_ever;
+      resting = λ idle. as_ever.answers ∙ ap (λ (x : Option Answer). option_to_list x ++ given_of z (setting p).opening a es) (as_ever.resting idle);
+    }

@@ -5,7 +5,7 @@ use Rattle.gh_base.specs.declared.cell.Req.TheVariants.{Load, Store, Or, And, Ad
 use Rattle.gh_base.specs.declared.layout.Layout.{Layout}
 use Rattle.gh_base.specs.Cells.{InRange}
 use Rattle.gh_base.specs.Steps.{cell_of, request}
-use Rattle.gh_table.proofs.Keeping.{asked, either-cond}
+use Rattle.gh_table.proofs.Keeping.{any_found, asked, either-cond}
 use Rattle.gh_table.proofs.table.make_step.Goals as goal
 
 pub load-requires : goal.load-requires
@@ -20,9 +20,9 @@ load-requires g c =
     (subst (λ (l : Layout). InRange l (cell_of (g.M.Machine.asks c.args.machine.now))) c.requires.laid c.next.ensures.within)
     (λ n. refl)
 
-pub swap-requires : goal.swap-requires
-swap-requires g c =
-    asked c.a_state_is_of_its_own_entries.ensures g.K.Plan.setting c.args.words.now.key c.args.layout.now c.args.words.now.table_id.words c.requires.words c.steps_are_shown.ensures c.cells_have_words_of_their_own.ensures.below c.args.seat.now.table_id c.args.words.now.table_id c.requires.table.0 c.args.words.now.table_id.slots c.args.seat.now.id c.args.seat.now.me g.N.NextStep.actor g.N.NextStep.begun g.N.NextStep.ask c.args.actor c.args.begun.now (g.M.Machine.asks c.args.machine.now) c.next.result
+pub store-requires : goal.store-requires
+store-requires g c =
+    let step = asked c.a_state_is_of_its_own_entries.ensures g.K.Plan.setting c.args.words.now.key c.args.layout.now c.args.words.now.table_id.words c.requires.words c.steps_are_shown.ensures c.cells_have_words_of_their_own.ensures.below c.args.seat.now.table_id c.args.words.now.table_id c.requires.table.0 c.args.words.now.table_id.slots c.args.seat.now.id c.args.seat.now.me g.N.NextStep.actor g.N.NextStep.begun g.N.NextStep.ask c.args.actor c.args.begun.now (g.M.Machine.asks c.args.machine.now) c.next.result
     (Store c.in-Store.i c.in-Store.x)
     (λ n. c.in-Store.x)
     c.requires.step
@@ -30,7 +30,8 @@ swap-requires g c =
     c.in-Store.is
     c.requires.may
     (subst (λ (l : Layout). InRange l (cell_of (g.M.Machine.asks c.args.machine.now))) c.requires.laid c.next.ensures.within)
-    (λ n. refl)
+    (λ n. refl) in
+    (step.0, step.1, any_found g.K.Plan.setting c.args.words.now.key c.args.words.now.table_id.slots c.args.seat.now.id c.args.seat.now.me g.N.NextStep.actor g.N.NextStep.begun g.N.NextStep.ask c.in-Store.i (λ n. c.in-Store.x) step.2)
 
 pub fetch_or-requires : goal.fetch_or-requires
 fetch_or-requires g c =

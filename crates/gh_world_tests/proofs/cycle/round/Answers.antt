@@ -1,7 +1,7 @@
 use Rattle.std.proofs.Common.{rules, arith, ◌≡◌, ℕ, true, sym, ap, ◌∙◌, Option}
 use Rattle.std.specs.Prelude.{is_some, IsNone}
 use Rattle.gh_base.specs.declared.value.Answer.{Answer}
-use Rattle.gh_mutator.specs.Ends.{ends, stays}
+use Rattle.gh_mutator.specs.Stays.{ends, stays}
 use Rattle.gh_mutator.specs.Listing.{takes}
 use Rattle.gh_mutator.specs.Mutating.{Mutating, gives, goes, is_busy}
 use Rattle.gh_world.specs.Vocabulary.{acts, gives_at}

@@ -1,6 +1,11 @@
-use Rattle.std.proofs.Common.{◌∙◌, ap, refl, subst, sym}
+use Rattle.std.proofs.Common.{◌≡◌, ◌∙◌, ℕ, ap, refl, subst, sym}
+use Rattle.gh_table.specs.Rule.{actor_in}
+use Rattle.gh_table.specs.Views.{one_carried}
 use Rattle.gh_script.specs.Program.{Program}
 use Rattle.gh_shared.specs.Counting.{CountsFirst}
+use Rattle.gh_shared.specs.Machines.{actor_of}
+use Rattle.gh_shared.specs.Plans.{setting}
+use Rattle.gh_shared.proofs.Carrying.{carries_so}
 use Rattle.gh_shared.proofs.Fresh.{kept_so, opens_so}
 use Rattle.gh_shared.proofs.heap.Heap.handle_of.Goals as goal
 
@@ -13,7 +18,13 @@ pub invariant_of-result : goal.invariant_of-result
 invariant_of-result c =
     let counts = c.in_ok-counts.counts in
     let is = c.new-hand.ensures in
-    record { kept = rw (is.0) (kept_so c.args.plan.now c.args.actor c.new-hand.result.machine c.new-hand.result.seat.me.0 counts.procs counts.left.items counts.over.items counts.gone (ap (λ m. m.0) is.3 ∙ ap (λ m. m.0) c.requires.seat) (is.1 ∙ c.in_ok-machine.ensures) (subst (λ (p : Program). CountsFirst p counts.procs counts.left.items counts.over.items counts.gone) c.requires.script c.in_ok-counts.ensures) c.requires.lays) }
+    record {
+      kept = rw (is.0) (kept_so c.args.plan.now c.args.actor c.new-hand.result.machine c.new-hand.result.seat.me.0 counts.procs counts.left.items counts.over.items counts.gone (ap (λ m. m.0) is.3 ∙ ap (λ m. m.0) c.requires.seat) (is.1 ∙ c.in_ok-machine.ensures) (subst (λ (p : Program). CountsFirst p counts.procs counts.left.items counts.over.items counts.gone) c.requires.script c.in_ok-counts.ensures) c.requires.lays);
+      carries =
+          let me = c.new-hand.result.seat.me.0 in
+          let view : me ≡ one_carried c.args.plan.now c.args.actor = ap (λ m. m.0) is.3 ∙ ap (λ m. m.0) c.requires.seat in
+          rw (is.0) (carries_so c.args.plan.now c.args.actor c.new-hand.result.machine me c.requires.actor view (is.1 ∙ c.in_ok-machine.ensures) (subst (λ (a : ℕ). actor_of c.new-hand.result.machine ≡ actor_in setting me a) is.0 c.new-hand.result.state));
+    }
 
 pub returns : goal.returns
 returns c =

@@ -1,4 +1,4 @@
-use Rattle.std.proofs.Common.{ap, sym, ◌∙◌, subst, ℕ, ◌∷◌, [], None}
+use Rattle.std.proofs.Common.{ap, sym, ◌∙◌, subst, ℕ, ◌∷◌, [], None, refl}
 use Rattle.std.specs.Prelude.{IsNone}
 use Rattle.gh_base.specs.Routines.{Listing}
 use Rattle.gh_table.specs.Runs.{Ran}
@@ -9,6 +9,9 @@ pub go_on-requires-clause-busy : goal.go_on-requires-clause-busy
 go_on-requires-clause-busy g c =
     let inv = c.loop.invariant in
     ap g.M.Machine.busy inv.3.1.machine ∙ busy_now (record { layout = g.M.Machine.layout; busy = g.M.Machine.busy; asks = g.M.Machine.asks; goes = g.M.Machine.goes; gives = g.M.Machine.gives }) c.args.self.now.machine inv.3.0 inv.3.2
+
+pub loop-init : goal.loop-init
+loop-init g c = (refl, refl, (λ es began. began), ([], record { log = refl; plan = refl; actors = refl; machine = refl }, c.requires.busy))
 
 pub loop-preserved : goal.loop-preserved
 loop-preserved g c =

@@ -1,0 +1,269 @@
+-- What a handle keeps of the actors that its seat carries: how many there are, and the coordinator's machine.
+use Rattle.std.proofs.Common.{◌≡◌, ◌≢◌, ◌↔◌, ℕ, zero, suc, ◌+◌, ◌<◌, ◌≤◌, ◌==◌, Bool, true, false, ◌||◌, nat_lt, if◌then◌else◌, cond, List, [], ◌∷◌, ◌++◌, arith, refl, sym, ap, ◌∙◌, subst, Option, Some, None, eq-eqb, ne_eqb, true≢false}
+use Rattle.std.proofs.lemmas.Bool.Decides.{nat_tests}
+use Rattle.std.proofs.lemmas.Bool.{eqb-true, lt-ltb}
+use Rattle.atomic_table.specs.Table.{Me}
+use Rattle.gh_base.specs.declared.machine.Entry.{Entry}
+use Rattle.gh_base.specs.declared.operation.Op.{Op}
+use Rattle.gh_base.specs.Cells.{seats_of}
+use Rattle.gh_base.specs.Lists.{by, Kind, state_of}
+use Rattle.gh_coord.specs.Listing as coord
+use Rattle.gh_coord.specs.Listing.{Coordinating}
+use Rattle.gh_coord.specs.Stopping.{acks_of}
+use Rattle.gh_mutator.specs.Mutating as mutating
+use Rattle.gh_worker.specs.Listing as worker
+use Rattle.gh_world.specs.Wishes.{most_cycles}
+use Rattle.gh_table.specs.declared.plan.View.{View}
+use Rattle.gh_table.specs.Rule.{actor_in, IsAfterOneList}
+use Rattle.gh_table.specs.Runs.{entries_made, machine_after, Ran}
+use Rattle.gh_table.specs.Views.{Carries, has, one_carried}
+use Rattle.gh_world.specs.declared.handshake.Actor.{Actor}
+use Rattle.gh_world.specs.declared.handshake.Actor.TheVariants as actor
+use Rattle.gh_shared.specs.declared.machine.ActorMachine.{ActorMachine}
+use Rattle.gh_shared.specs.declared.machine.ActorMachine.TheVariants.{Leads, Marks, Runs}
+use Rattle.gh_shared.specs.Calls.{IsClosedAfter}
+use Rattle.gh_shared.specs.Machines.{actor_of, asks, begins, goes, is_coordinator, IsCoordinator, opening}
+use Rattle.gh_shared.specs.Plans.{Planned, setting}
+use Rattle.gh_shared.specs.Shown.{as_actor, CarriesSo, count_among, first_of, leader_of}
+use Rattle.gh_shared.proofs.Ready.{OfItsOwn}
+
+-- ---- how many
+
+pub count_few : (xs : List ℕ) (n : ℕ) → count_among xs n ≤ n
+count_few xs zero = omega arith
+count_few xs (suc n) = go (has xs n) (count_few xs n) where
+  go : (b : Bool) → count_among xs n ≤ n → count_among xs n + (if b then 1 else 0) ≤ suc n
+  go true ih = omega (arith, ih)
+  go false ih = omega (arith, ih)
+
+abbrev one_of : Bool → ℕ
+one_of b = if b then 1 else 0
+
+in_all : (xs : List ℕ) (n a : ℕ) → a < suc n → (count_among xs n ≡ n → a < n → has xs a ≡ true) → (b : Bool) → has xs n ≡ b → count_among xs n + one_of b ≡ suc n → has xs a ≡ true
+in_all xs n a lt ih false h e = absurd (let few = count_few xs n in omega (arith, e, few))
+in_all xs n a lt ih true h e = other (a == n) refl ih where
+  other : (c : Bool) → (a == n) ≡ c → (count_among xs n ≡ n → a < n → has xs a ≡ true) → has xs a ≡ true
+  other true q f = ap (has xs) (eqb-true a n q) ∙ h
+  other false q f = f (omega (arith, e)) (let t = q in let u = lt in grind (arith, nat_tests))
+
+-- where all are counted, each is there
+pub count_all : (xs : List ℕ) (n : ℕ) → count_among xs n ≡ n → (a : ℕ) → a < n → has xs a ≡ true
+count_all xs zero e a lt = absurd (omega (arith, lt))
+count_all xs (suc n) e a lt = in_all xs n a lt (λ f l. count_all xs n f a l) (has xs n) refl e
+
+module _ (xs ys zs : List ℕ) (both : (a : ℕ) → has zs a ≡ (has xs a || has ys a)) (apart : (a : ℕ) → has xs a ≡ true → has ys a ≡ false) where
+  one_more : (a : ℕ) → one_of (has zs a) ≡ one_of (has xs a) + one_of (has ys a)
+  one_more a = go (has xs a) refl (has ys a) refl where
+    go : (b : Bool) → has xs a ≡ b → (c : Bool) → has ys a ≡ c → one_of (has zs a) ≡ one_of b + one_of c
+    go true p true q = absurd (true≢false (sym q ∙ apart a p))
+    go true p false q = ap one_of (both a ∙ ap (λ (t : Bool). t || has ys a) p)
+    go false p true q = ap one_of (both a ∙ (λ i. p i || q i))
+    go false p false q = ap one_of (both a ∙ (λ i. p i || q i))
+
+  pub count_both : (n : ℕ) → count_among zs n ≡ count_among xs n + count_among ys n
+  count_both zero = refl
+  count_both (suc n) = let ih = count_both n in let one = one_more n in omega (arith, ih, one)
+
+-- one of them alone
+only_more : (a n : ℕ) → (b : Bool) → (a == n) ≡ b → (c : Bool) → nat_lt a n ≡ c → count_among (a ∷ []) n ≡ one_of c → count_among (a ∷ []) n + one_of b ≡ one_of (nat_lt a (suc n))
+only_more a n true q true l ih = absurd (let s = q in let t = l in grind (arith, nat_tests))
+only_more a n true q false l ih = let lt : nat_lt a (suc n) ≡ true = (let s = q in lt-ltb a (suc n) (grind (arith, nat_tests))) in rw lt (omega (arith, ih))
+only_more a n false q true l ih = let lt : nat_lt a (suc n) ≡ true = (let s = l in lt-ltb a (suc n) (grind (arith, nat_tests))) in rw lt (omega (arith, ih))
+only_more a n false q false l ih = let lt : nat_lt a (suc n) ≡ false = (let s = q in let t = l in grind (arith, nat_tests)) in rw lt (omega (arith, ih))
+
+none_below : (a : ℕ) → nat_lt a 0 ≡ false
+none_below a = grind (arith, nat_tests)
+
+there : (a n : ℕ) → has (a ∷ []) n ≡ (a == n)
+there a n = go (a == n) where
+  go : (b : Bool) → cond b true false ≡ b
+  go true = refl
+  go false = refl
+
+only : (a n : ℕ) → count_among (a ∷ []) n ≡ one_of (nat_lt a n)
+only a zero = ap one_of (sym (none_below a))
+only a (suc n) = ap (λ (b : Bool). count_among (a ∷ []) n + one_of b) (there a n) ∙ only_more a n (a == n) refl (nat_lt a n) refl (only a n)
+
+-- ---- the kind of a machine
+
+goes_kind : (x : ActorMachine) (n : ℕ) → IsCoordinator (goes x n) ≡ IsCoordinator x
+goes_kind (Runs m) n = refl
+goes_kind (Marks w) n = refl
+goes_kind (Leads c) n = refl
+
+pub begins_kind : (x : ActorMachine) (o : Op) → IsCoordinator (begins x o) ≡ IsCoordinator x
+begins_kind (Runs m) o = refl
+begins_kind (Marks w) o = refl
+begins_kind (Leads c) o = refl
+
+after_kind : (x : ActorMachine) (founds : List ℕ) → IsCoordinator (machine_after goes x founds) ≡ IsCoordinator x
+after_kind x [] = refl
+after_kind x (n ∷ ns) = goes_kind (machine_after goes x ns) n ∙ after_kind x ns
+
+pub same_kind : (x x' : ActorMachine) (founds : List ℕ) → x' ≡ machine_after goes x founds → IsCoordinator x' ≡ IsCoordinator x
+same_kind x x' founds is = ap IsCoordinator is ∙ after_kind x founds
+
+-- ---- the entries of others
+
+pub by_others : (a : ℕ) (b : Option Op) (x : ActorMachine) (founds : List ℕ) (log : List (Entry Op)) (c : ℕ) → a ≢ c → by c (entries_made asks goes a b x founds ++ log) ≡ by c log
+by_others a b x [] log c ne = refl
+by_others a b x (n ∷ ns) log c ne = rw (ne_eqb a c ne) (by_others a b x ns log c ne)
+
+same_state : OfItsOwn → (k : Kind Actor Op) (a : ℕ) (es fs : List (Entry Op)) → by a es ≡ by a fs → state_of k a es ≡ state_of k a fs
+same_state law k a es fs same = law k a es ∙ ap (state_of k a) same ∙ sym (law k a fs)
+
+-- ---- the coordinator
+
+no_leader : (x : ActorMachine) (led : Option Coordinating) → (IsCoordinator x → ⊥) → leader_of x led ≡ led
+no_leader (Runs m) led never = refl
+no_leader (Marks w) led never = refl
+no_leader (Leads c) led never = absurd (never tt)
+
+still_leads : (x : ActorMachine) (led other : Option Coordinating) (c : Coordinating) → leader_of x led ≡ Some c → leader_of x (first_of led other) ≡ Some c
+still_leads (Leads d) led other c e = e
+still_leads (Runs m) None other c e = absurd cc
+still_leads (Runs m) (Some d) other c e = e
+still_leads (Marks w) None other c e = absurd cc
+still_leads (Marks w) (Some d) other c e = e
+
+to_last : (x : ActorMachine) (a z : ℕ) → is_coordinator x ≡ (a == z) → IsCoordinator x ↔ (a ≡ z)
+to_last (Runs m) a z e = ((λ b. absurd b), (λ q. absurd (true≢false (sym (e ∙ eq-eqb a z q)))))
+to_last (Marks w) a z e = ((λ b. absurd b), (λ q. absurd (true≢false (sym (e ∙ eq-eqb a z q)))))
+to_last (Leads c) a z e = ((λ u. eqb-true a z (sym e)), (λ q. tt))
+
+from_last : (x : ActorMachine) (a z : ℕ) → IsCoordinator x ↔ (a ≡ z) → is_coordinator x ≡ (a == z)
+from_last (Runs m) a z h = sym (ne_eqb a z (λ q. h.1 q))
+from_last (Marks w) a z h = sym (ne_eqb a z (λ q. h.1 q))
+from_last (Leads c) a z h = sym (eq-eqb a z (h.0 tt))
+
+-- the coordinator's machine, which is this actor
+abbrev pub LedAs : Option Coordinating → Actor → Type 0
+LedAs o s = (c : Coordinating) × (o ≡ Some c) × (actor.Leads c ≡ s)
+
+pub to_led : (o : Option Coordinating) (s : Actor) → as_actor o ≡ Some s → LedAs o s
+to_led None s e = absurd cc
+to_led (Some c) s e = (c, refl, cc)
+
+from_led : (o : Option Coordinating) (s : Actor) → LedAs o s → as_actor o ≡ Some s
+from_led o s l = ap as_actor l.1 ∙ ap Some l.2
+
+module _ (law : OfItsOwn) (p : Planned) where
+  abbrev Led : List (Entry Op) → ActorMachine → Option Coordinating → Type 0
+  Led log x led = LedAs (leader_of x led) (state_of (setting p).kind (acks_of p.layout) log)
+
+  -- the actor has gone on
+  pub carried_on : (xs : List ℕ) (log log' : List (Entry Op)) (a : ℕ) (x x' : ActorMachine) (carried : ℕ) (led : Option Coordinating) → ((c : ℕ) → a ≢ c → by c log' ≡ by c log) → IsCoordinator x' ≡ IsCoordinator x → actor_of x' ≡ state_of (setting p).kind a log' → CarriesSo p xs log a x carried led → CarriesSo p xs log' a x' carried led
+  carried_on xs log log' a x x' carried led others kind state kept = record {
+    known = kept.known;
+    last = from_last x' a (acks_of p.layout) ((λ is. was.0 (subst (λ (T : Type 0). T) kind is)), (λ e. subst (λ (T : Type 0). T) (sym kind) (was.1 e)));
+    counted = kept.counted;
+    none = kept.none;
+    leader = λ holds. from_led (leader_of x' led) (state_of (setting p).kind (acks_of p.layout) log') (go x' kind state (to_led (leader_of x led) (state_of (setting p).kind (acks_of p.layout) log) (kept.leader holds)));
+  } where
+    was : IsCoordinator x ↔ (a ≡ acks_of p.layout)
+    was = to_last x a (acks_of p.layout) kept.last
+
+    elsewhere : (y : ActorMachine) → IsCoordinator y ≡ IsCoordinator x → (IsCoordinator y → ⊥) → Led log x led → Led log' y led
+    elsewhere y k never led_so =
+        let nox : IsCoordinator x → ⊥ = λ is. never (subst (λ (T : Type 0). T) (sym k) is) in
+        (led_so.0, no_leader y led never ∙ sym (no_leader x led nox) ∙ led_so.1, led_so.2 ∙ same_state law (setting p).kind (acks_of p.layout) log log' (sym (others (acks_of p.layout) (λ e. nox (was.1 e)))))
+
+    go : (y : ActorMachine) → IsCoordinator y ≡ IsCoordinator x → actor_of y ≡ state_of (setting p).kind a log' → Led log x led → Led log' y led
+    go (Runs m) k st l = elsewhere (Runs m) k (λ is. is) l
+    go (Marks w) k st l = elsewhere (Marks w) k (λ is. is) l
+    go (Leads c) k st l = (c, refl, st ∙ ap (λ (b : ℕ). state_of (setting p).kind b log') (was.0 (subst (λ (T : Type 0). T) k tt)))
+
+  -- by these steps
+  pub went_on : (a : ℕ) (x x' : ActorMachine) (b : Option Op) (y : ActorMachine) (me me' : Me (Unit {0}) (View Planned Op)) (founds : List ℕ) (carried : ℕ) (led : Option Coordinating) → p ≡ me.0.plan → IsCoordinator y ≡ IsCoordinator x → Ran asks goes a b y me x' me' founds → actor_of x' ≡ actor_in setting me'.0 a → CarriesSo p me.0.actors me.0.log a x carried led → CarriesSo p me.0.actors me'.0.log a x' carried led
+  went_on a x x' b y me me' founds carried led plan kind ran state kept =
+      carried_on me.0.actors me.0.log me'.0.log a x x' carried led (λ c ne. ap (by c) ran.log ∙ by_others a b y founds me.0.log c ne) (same_kind y x' founds ran.machine ∙ kind) (state ∙ ap (λ (q : Planned). state_of (setting q).kind a me'.0.log) (ran.plan ∙ sym plan)) kept
+
+  -- two are joined
+  pub carried_both : (xs ys zs : List ℕ) (log other log' : List (Entry Op)) (a b : ℕ) (x y : ActorMachine) (n m : ℕ) (led that : Option Coordinating) → ((c : ℕ) → has zs c ≡ (has xs c || has ys c)) → ((c : ℕ) → has xs c ≡ true → has ys c ≡ false) → has xs a ≡ true → has ys b ≡ true
+      → ((c : ℕ) → has xs c ≡ true → by c log' ≡ by c log) → ((c : ℕ) → has xs c ≡ false → by c log' ≡ by c other) → CarriesSo p xs log a x n led → CarriesSo p ys other b y m that → CarriesSo p zs log' a x (n + m) (first_of led (leader_of y that))
+  carried_both xs ys zs log other log' a b x y n m led that both apart mine its own theirs kept kept' = record {
+    known = kept.known;
+    last = kept.last;
+    counted = let all = count_both xs ys zs both apart (seats_of p.layout) in let one = kept.counted in let two = kept'.counted in omega (arith, all, one, two);
+    none = λ out. no_one (has xs (acks_of p.layout)) refl (has ys (acks_of p.layout)) refl (sym (both (acks_of p.layout)) ∙ out);
+    leader = λ holds. from_led (leader_of x (first_of led (leader_of y that))) (state_of (setting p).kind (acks_of p.layout) log') (go (has xs (acks_of p.layout)) refl (sym (both (acks_of p.layout)) ∙ holds));
+  } where
+    not_it : (z : ℕ) (zs : List ℕ) (u : ActorMachine) → has zs z ≡ true → has zs (acks_of p.layout) ≡ false → (IsCoordinator u → z ≡ acks_of p.layout) → IsCoordinator u → ⊥
+    not_it z zs u there out last is = true≢false (sym there ∙ ap (has zs) (last is) ∙ out)
+
+    no_one : (t : Bool) → has xs (acks_of p.layout) ≡ t → (u : Bool) → has ys (acks_of p.layout) ≡ u → (has xs (acks_of p.layout) || has ys (acks_of p.layout)) ≡ false → first_of led (leader_of y that) ≡ None
+    no_one true r u s e = absurd (true≢false (sym (ap (λ (v : Bool). v || has ys (acks_of p.layout)) r) ∙ e))
+    no_one false r true s e = absurd (true≢false (sym (λ i. r i || s i) ∙ e))
+    no_one false r false s e = ap (λ (o : Option Coordinating). first_of o (leader_of y that)) (kept.none r) ∙ no_leader y that (not_it b ys y its s (to_last y b (acks_of p.layout) kept'.last).0) ∙ kept'.none s
+
+    go : (t : Bool) → has xs (acks_of p.layout) ≡ t → (has xs (acks_of p.layout) || has ys (acks_of p.layout)) ≡ true → Led log' x (first_of led (leader_of y that))
+    go true r e =
+        let was = to_led (leader_of x led) (state_of (setting p).kind (acks_of p.layout) log) (kept.leader r) in
+        (was.0, still_leads x led (leader_of y that) was.0 was.1, was.2 ∙ same_state law (setting p).kind (acks_of p.layout) log log' (sym (own (acks_of p.layout) r)))
+    go false r e =
+        let was = to_led (leader_of y that) (state_of (setting p).kind (acks_of p.layout) other) (kept'.leader (sym (ap (λ (v : Bool). v || has ys (acks_of p.layout)) r) ∙ e)) in
+        let here : first_of led (leader_of y that) ≡ leader_of y that = ap (λ (o : Option Coordinating). first_of o (leader_of y that)) (kept.none r) in
+        (was.0, no_leader x (first_of led (leader_of y that)) (not_it a xs x mine r (to_last x a (acks_of p.layout) kept.last).0) ∙ here ∙ was.1, was.2 ∙ same_state law (setting p).kind (acks_of p.layout) other log' (sym (theirs (acks_of p.layout) r)))
+
+-- ---- before the first step
+
+module _ (p : Planned) (a : ℕ) (lt : a < seats_of p.layout) where
+  abbrev opened : Bool → Bool → ActorMachine
+  opened b c = if b then Runs (mutating.opening p.layout a p.script.shapes) else if c then Marks (worker.opening p.layout a) else Leads (coord.opening p.layout a p.script.settings.gogc p.script.settings.minheap (most_cycles p.script))
+
+  stands_last : (b : Bool) → nat_lt a p.layout.procs ≡ b → (c : Bool) → nat_lt a (acks_of p.layout) ≡ c → is_coordinator (opened b c) ≡ (a == acks_of p.layout)
+  stands_last true l c m = sym (ne_eqb a (acks_of p.layout) (λ e. let t = l in grind (arith, nat_tests)))
+  stands_last false l true m = sym (ne_eqb a (acks_of p.layout) (λ e. let t = m in grind (arith, nat_tests)))
+  stands_last false l false m = sym (eq-eqb a (acks_of p.layout) (let t = m in let u = lt in grind (arith, nat_tests)))
+
+  last_is : (x : ActorMachine) → x ≡ opening p a → is_coordinator x ≡ (a == acks_of p.layout)
+  last_is x is = ap is_coordinator is ∙ stands_last (nat_lt a p.layout.procs) refl (nat_lt a (acks_of p.layout)) refl
+
+  pub carried_first : (x : ActorMachine) → x ≡ opening p a → actor_of x ≡ state_of (setting p).kind a [] → CarriesSo p (a ∷ []) [] a x 1 None
+  carried_first x is state = record {
+    known = lt;
+    last = last_is x is;
+    counted = sym (only a (seats_of p.layout) ∙ rw (lt-ltb a (seats_of p.layout) lt) refl);
+    none = λ out. refl;
+    leader = λ holds. from_led (leader_of x None) (state_of (setting p).kind (acks_of p.layout) []) (go x (to_last x a (acks_of p.layout) (last_is x is)) state (alone (a == acks_of p.layout) refl holds));
+  } where
+    alone : (b : Bool) → (a == acks_of p.layout) ≡ b → cond b true false ≡ true → a ≡ acks_of p.layout
+    alone true q e = eqb-true a (acks_of p.layout) q
+    alone false q e = absurd cc
+
+    go : (y : ActorMachine) → IsCoordinator y ↔ (a ≡ acks_of p.layout) → actor_of y ≡ state_of (setting p).kind a [] → a ≡ acks_of p.layout → LedAs (leader_of y None) (state_of (setting p).kind (acks_of p.layout) [])
+    go (Runs m) last st e = absurd (last.1 e)
+    go (Marks w) last st e = absurd (last.1 e)
+    go (Leads c) last st e = (c, refl, st ∙ ap (λ (b : ℕ). state_of (setting p).kind b []) e)
+
+pub carries_so : (p : Planned) (a : ℕ) (x : ActorMachine) (v : View Planned Op) → a < seats_of p.layout → v ≡ one_carried p a → x ≡ opening p a → actor_of x ≡ actor_in setting v a → CarriesSo v.plan v.actors v.log a x 1 None
+carries_so p a x v lt view is state =
+    subst (λ (u : View Planned Op). CarriesSo u.plan u.actors u.log a x 1 None) (sym view) (carried_first p a lt x is (subst (λ (u : View Planned Op). actor_of x ≡ actor_in setting u a) view state))
+
+-- ---- the close
+
+-- where all are carried
+module _ (law : OfItsOwn) (p : Planned) (v : View Planned Op) (a : ℕ) (x : ActorMachine) (carried : ℕ) (led : Option Coordinating) (plan : v.plan ≡ p) (kept : CarriesSo v.plan v.actors v.log a x carried led) (all : count_among v.actors (seats_of v.plan.layout) ≡ seats_of p.layout) where
+  it_is_carried : (b : ℕ) → b < seats_of p.layout → Carries v b
+  it_is_carried = count_all v.actors (seats_of p.layout) (subst (λ (q : Planned). count_among v.actors (seats_of q.layout) ≡ seats_of p.layout) plan all)
+
+  last_is_carried : Carries v (acks_of p.layout)
+  last_is_carried = it_is_carried (acks_of p.layout) (omega arith)
+
+  led_so : LedAs (leader_of x led) (state_of (setting p).kind (acks_of p.layout) v.log)
+  led_so = to_led (leader_of x led) (state_of (setting p).kind (acks_of p.layout) v.log) ((subst (λ (q : Planned). CarriesSo q v.actors v.log a x carried led) plan kept).leader last_is_carried)
+
+  pub led_none : leader_of x led ≡ None → ⊥
+  led_none e = let never : None ≡ Some led_so.0 = sym e ∙ led_so.1 in absurd cc
+
+  pub closed_so : (c : Coordinating) (ws : List ℕ) → leader_of x led ≡ Some c → IsAfterOneList setting p v ws → IsClosedAfter p v c ws
+  closed_so c ws e after =
+      let same : c ≡ led_so.0 = (let is : Some c ≡ Some led_so.0 = sym e ∙ led_so.1 in cc) in
+      record {
+        list = after.list;
+        legal = after.legal;
+        words = after.words;
+        entries = λ b lt. after.entries b (it_is_carried b lt);
+        seen = after.seen (acks_of p.layout) last_is_carried;
+        coordinator = ap (λ (d : Coordinating). actor.Leads d) same ∙ led_so.2 ∙ same_state law (setting p).kind (acks_of p.layout) v.log after.list (sym (after.entries (acks_of p.layout) last_is_carried));
+      }

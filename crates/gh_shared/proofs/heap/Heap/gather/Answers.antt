@@ -1,0 +1,36 @@
+use Rattle.std.proofs.Common.{◌≡◌, ◌∙◌, ap, arith, subst, sym}
+use Rattle.gh_base.specs.Cells.{seats_of}
+use Rattle.gh_shared.specs.Plans.{Planned}
+use Rattle.gh_shared.specs.declared.machine.ActorMachine.{ActorMachine}
+use Rattle.gh_shared.specs.Shown.{CarriesSo, first_of, leader_of}
+use Rattle.gh_shared.proofs.Carrying.{carried_both, count_few}
+use Rattle.gh_shared.proofs.heap.Heap.gather.Goals as goal
+
+pub overflow_add-h : goal.overflow_add-h
+overflow_add-h c =
+    let h = c.args.h.now in
+    let o = c.args.other in
+    let procs = h.hand.seat.me.0.plan.layout.limits.procs_fit.1 in
+    let workers = h.hand.seat.me.0.plan.layout.limits.workers_fit.1 in
+    let one = h.carries.counted in
+    let two = o.carries.counted in
+    let few = count_few h.hand.seat.me.0.actors (seats_of h.hand.seat.me.0.plan.layout) in
+    let less = count_few o.hand.seat.me.0.actors (seats_of o.hand.seat.me.0.plan.layout) in
+    let its_procs = o.hand.seat.me.0.plan.layout.limits.procs_fit.1 in
+    let its_workers = o.hand.seat.me.0.plan.layout.limits.workers_fit.1 in
+    omega (arith, procs, workers, one, two, few, less, its_procs, its_workers)
+
+pub invariant_of-h : goal.invariant_of-h
+invariant_of-h c =
+    let h = c.args.h.now in
+    let o = c.args.other in
+    let j = c.join-machine.ensures in
+    let new = c.join-machine.new.self in
+    let plan = c.requires.other.plan ∙ sym c.requires.of.plan in
+    let theirs = subst (λ (q : Planned). CarriesSo q o.hand.seat.me.0.actors o.hand.seat.me.0.log o.hand.actor o.hand.machine o.carried o.led) plan o.carries in
+    let theirs_is = c.leader_of.ensures ∙ ap (λ (x : ActorMachine). leader_of x o.led) j.machine in
+    let led : c.first_of.result ≡ first_of h.led (leader_of o.hand.machine o.led) = c.first_of.ensures ∙ (λ i. first_of (c.take.ensures.value i) (theirs_is i)) in
+    record {
+      kept = rw (j.same.0, j.same.1, j.same.3, j.own h.hand.actor h.hand.carries) h.kept;
+      carries = rw (j.same.0, j.same.1, j.same.3, led) (carried_both c.a_state_is_of_its_own_entries.ensures h.hand.seat.me.0.plan h.hand.seat.me.0.actors o.hand.seat.me.0.actors new.seat.me.0.actors h.hand.seat.me.0.log o.hand.seat.me.0.log new.seat.me.0.log h.hand.actor o.hand.actor h.hand.machine o.hand.machine h.carried o.carried h.led o.led j.carries j.apart h.hand.carries o.hand.carries j.own j.other h.carries theirs);
+    }
