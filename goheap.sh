@@ -19,7 +19,8 @@ fail() {
 usage() {
   cat <<'END'
 usage: goheap.sh replay [--seed n] [--list text] [--budget n] [--check] < file
-         runs the script of goroutines in the file, and writes a line for each answer
+         runs the script of goroutines in the file, and writes a line for each answer. A list says who steps first, by items that are
+         separated by commas: A*n gives actor A n steps, A@m lets it step until its marks are m, A!n gives n turns to others than A
        goheap.sh example name
          runs examples/name.heap, with the words that its second line has for it
        goheap.sh steps [--list text] < file

@@ -19,8 +19,8 @@ is_number() {
 # The first item of a list that is none, or nothing.
 wrong_item() {
   LC_ALL=C awk -v RS=, 'function is(n, least, most) { return n ~ /^[0-9]+$/ && length(n) <= 20 && n + 0 >= least && n + 0 <= most }
-    { sub(/\n$/, ""); at = match($0, /[*@]/); n = substr($0, at + 1); sign = substr($0, at, 1) }
-    !at || !is(substr($0, 1, at - 1), 0, 255) || !is(n, sign == "*", sign == "*" ? 1000000 : 4294967296) { print "\047" $0 "\047"; exit }
+    { sub(/\n$/, ""); at = match($0, /[*@!]/); n = substr($0, at + 1); sign = substr($0, at, 1) }
+    !at || !is(substr($0, 1, at - 1), 0, 255) || !is(n, sign != "@", sign == "@" ? 4294967296 : 1000000) { print "\047" $0 "\047"; exit }
     NR == 10001 { print "what stands behind the 10,000th item"; exit }' <<<"$1"
 }
 
@@ -32,7 +32,7 @@ check_value() {
     --list)
       case $value in '' | *,) refuse "'$value' is no list: items such as 0@4 or 2*3, separated by single commas" ;; esac
       wrong=$(wrong_item "$value")
-      [ -z "$wrong" ] || refuse "$wrong is no item of a list: A*n, actor A up to 255 takes n steps, 1 to 1000000; A@m, it steps until its marks are m, up to 4294967296"
+      [ -z "$wrong" ] || refuse "$wrong is no item of a list: A*n, actor A up to 255 takes n steps, 1 to 1000000; A@m, it steps until its marks are m, up to 4294967296; A!n, others take n turns, 1 to 1000000"
       ;;
   esac
 }

@@ -1,15 +1,17 @@
 -- Who steps next, where a schedule stands so: an actor that has not ended, or nobody where all have.
-use Rattle.std.proofs.Common.{◌≡◌, ℕ, zero, suc, ◌+◌, ◌-◌, ◌%◌, ◌<◌, ◌≤◌, Bool, true, false, cond, not, ltb, ◌||◌, List, [], ◌∷◌, ◌++◌, length, drop, get_or, Option, Some, None, refl, sym, ap, ◌∙◌, arith, inl, inr}
-use Rattle.std.specs.Prelude.{◌⊎◌, nat_le, slice_get}
+use Rattle.std.proofs.Common.{◌≡◌, ℕ, zero, suc, ◌+◌, ◌-◌, ◌%◌, ◌<◌, ◌≤◌, Bool, true, false, cond, eqb, not, ltb, ◌||◌, List, [], ◌∷◌, ◌++◌, length, Option, Some, None, refl, sym, ap, ◌∙◌, arith, inl, inr}
+use Rattle.std.specs.Prelude.{◌⊎◌, IfSome, nat_le, slice_get}
 use Rattle.std.specs.List.{filter, range_with_len}
 use Rattle.std.proofs.lemmas.Bool.{cases_lt}
 use Rattle.std.proofs.lemmas.Bool.Decides.{nat_tests}
-use Rattle.std.proofs.lemmas.List.{append-nil, at_drop_more, drop_all}
+use Rattle.std.proofs.lemmas.List.{append-nil}
 use Rattle.std.proofs.lemmas.Option.{slice_get-get_or}
 use Rattle.rand_xoshiro.specs.SplitMix64.{mix_u64}
 use Rattle.gh_world.specs.Schedule.{behind, first_going, in_order_from, turn_from}
 use Rattle.gh_replay.specs.declared.schedule.Turn.{Turn}
-use Rattle.gh_replay.specs.Standing.{going, is_full, is_over, moved, Reached, Standing, stands_behind, to_come, who, who_behind, who_of}
+use Rattle.gh_replay.specs.declared.schedule.Until.{Until}
+use Rattle.gh_replay.specs.declared.schedule.Until.TheVariants.{Steps, Marks, Without}
+use Rattle.gh_replay.specs.Standing.{going, is_gone, is_over, is_over_by, moved, next_of, one_less, passed, Reached, Standing, stands_behind, stands_by, to_come, who, who_behind, who_by, who_of, without}
 
 -- ---- whose turn it is
 
@@ -90,11 +92,50 @@ none_at : {A : Type 0} (xs : List A) (w : ℕ) → slice_get xs (w % length xs) 
 none_at [] w e = refl
 none_at (x ∷ xs) w e = let some = slice_get-get_or (x ∷ xs) (w % length (x ∷ xs)) x (omega arith) in absurd cc
 
+-- each has ended, so none is left
+none_kept : (ended : ℕ → Bool) (b m : ℕ) → ((a : ℕ) → a < b + m → ended a ≡ true) → length (filter (λ x. not (ended x)) (range_with_len b m)) ≡ 0
+none_kept ended b zero all = refl
+none_kept ended b (suc m) all = rw (all b (omega arith)) (none_kept ended (b + 1) m (λ a lt. all a (omega (arith, lt))))
+
+-- ---- in ascending order or drawn
+
+-- whoever it is, it is there, and has not ended
+pub behind_there : (r : Reached) (next a : ℕ) (o : Option ℕ) → next < r.actors → who_behind r next o ≡ Some a → (a < r.actors) × (r.ended a ≡ false)
+behind_there r next a None low q = (some_there r.ended r.actors next a low q, some_going r.ended (in_order_from next r.actors) a q)
+behind_there r next a (Some x) low q = let h = drawn_of r.ended 0 r.actors ((mix_u64 x).0 % length (going r)) a q in let lt = h.0 in (omega (arith, lt), h.1)
+
+-- where it is nobody, all have ended
+behind_none : (r : Reached) (next : ℕ) (o : Option ℕ) → who_behind r next o ≡ None → (a : ℕ) → a < r.actors → r.ended a ≡ true
+behind_none r next None q a lt = none_going r.ended r.actors next q a lt
+behind_none r next (Some x) q a lt = none_drawn r.ended 0 r.actors (none_at (going r) (mix_u64 x).0 q) a (omega arith) (omega (arith, lt))
+
 -- ---- who steps next
 
-either_false : (b c : Bool) → (b || c) ≡ false → (b ≡ false) × (c ≡ false)
+pub either_false : (b c : Bool) → (b || c) ≡ false → (b ≡ false) × (c ≡ false)
 either_false true c e = absurd cc
 either_false false c e = (refl, e)
+
+-- an actor that is not gone
+pub not_gone : (r : Reached) (a : ℕ) → is_gone r a ≡ false → (a < r.actors) × (r.ended a ≡ false)
+not_gone r a e =
+    let both = either_false (nat_le r.actors a) (r.ended a) e in
+    let le = both.0 in
+    (grind (arith, nat_tests), both.1)
+
+-- by an item that has not ended
+by_there : (r : Reached) (s : Standing) (b a : ℕ) (u : Until) → s.next < r.actors → is_over_by r b u ≡ false → who_by r b u s ≡ Some a → (a < r.actors) × (r.ended a ≡ false)
+by_there r s b a (Steps n) low f q = let same : b ≡ a = cc in not_gone r a (ap (is_gone r) (sym same) ∙ (either_false (is_gone r b) (eqb n 0) f).0)
+by_there r s b a (Marks m) low f q = let same : b ≡ a = cc in not_gone r a (ap (is_gone r) (sym same) ∙ (either_false (is_gone r b) (nat_le m (r.marks b)) f).0)
+by_there r s b a (Without n) low f q = let h = behind_there (without b r) s.next a s.drawn low q in (h.0, (either_false (eqb b a) (r.ended a) h.1).1)
+
+by_some : (r : Reached) (s : Standing) (b : ℕ) (u : Until) → is_over_by r b u ≡ false → who_by r b u s ≡ None → ⊥
+by_some r s b (Steps n) f q = absurd cc
+by_some r s b (Marks m) f q = absurd cc
+by_some r s b (Without n) f q =
+    let none : length (going (without b r)) ≡ 0 = none_kept (without b r).ended 0 r.actors (λ a lt. behind_none (without b r) s.next s.drawn q a (omega (arith, lt))) in
+    let some : eqb (length (going (without b r))) 0 ≡ false = (either_false (eqb n 0) (eqb (length (going (without b r))) 0) f).1 in
+    let no : true ≡ false = ap (λ (k : ℕ). eqb k 0) (sym none) ∙ some in
+    absurd cc
 
 -- the first item to come has not ended
 head_going : (r : Reached) (xs : List Turn) (t : Turn) (more : List Turn) → to_come r xs ≡ t ∷ more → is_over r t ≡ false
@@ -104,32 +145,30 @@ head_going r (x ∷ xs) t more e = go (head_going r xs t more) (is_over r x) ref
   go later true f q = later q
   go later false f q = let same : x ≡ t = cc in ap (is_over r) (sym same) ∙ f
 
+pub next_low : (r : Reached) (xs : List Turn) (next : ℕ) → next < r.actors → next_of r xs next < r.actors
+next_low r [] next low = low
+next_low r (t ∷ more) next low = go (is_over r t) where
+  go : (b : Bool) → cond b 0 next < r.actors
+  go true = omega (arith, low)
+  go false = low
+
 -- whoever steps next is there, and has not ended
 pub who_there : (r : Reached) (s : Standing) (a : ℕ) → s.next < r.actors → who r s ≡ Some a → (a < r.actors) × (r.ended a ≡ false)
 who_there r s a low e = go (to_come r s.items) refl e where
-  behind_items : (o : Option ℕ) → who_behind r s.next o ≡ Some a → (a < r.actors) × (r.ended a ≡ false)
-  behind_items None q = (some_there r.ended r.actors s.next a low q, some_going r.ended (in_order_from s.next r.actors) a q)
-  behind_items (Some x) q = let h = drawn_of r.ended 0 r.actors ((mix_u64 x).0 % length (going r)) a q in let lt = h.0 in (omega (arith, lt), h.1)
+  go : (xs : List Turn) → to_come r s.items ≡ xs → who_of r xs (passed r s) ≡ Some a → (a < r.actors) × (r.ended a ≡ false)
+  go [] f q = behind_there r (next_of r s.items s.next) a s.drawn (next_low r s.items s.next low) q
+  go (t ∷ more) f q = by_there r (passed r s) t.actor a t.until (next_low r s.items s.next low) (head_going r s.items t more f) q
 
-  go : (xs : List Turn) → to_come r s.items ≡ xs → who_of r xs s ≡ Some a → (a < r.actors) × (r.ended a ≡ false)
-  go [] f q = behind_items s.drawn q
-  go (t ∷ more) f q =
-      let same : t.actor ≡ a = cc in
-      let over = either_false (nat_le r.actors t.actor) (r.ended t.actor || is_full r (r.marks t.actor) t.until) (head_going r s.items t more f) in
-      let ended = either_false (r.ended t.actor) (is_full r (r.marks t.actor) t.until) over.1 in
-      let there : t.actor < r.actors = let le = over.0 in grind (arith, nat_tests) in
-      (omega (arith, there, same), ap r.ended (sym same) ∙ ended.0)
+pub is_there : (r : Reached) (s : Standing) (o : Option ℕ) → s.next < r.actors → o ≡ who r s → IfSome o (λ a. (a < r.actors) × (r.ended a ≡ false))
+is_there r s None low e = tt
+is_there r s (Some a) low e = who_there r s a low (sym e)
 
 -- where nobody does, all have ended
 pub none_left : (r : Reached) (s : Standing) → who r s ≡ None → (a : ℕ) → a < r.actors → r.ended a ≡ true
-none_left r s e a lt = go (to_come r s.items) e where
-  behind_items : (o : Option ℕ) → who_behind r s.next o ≡ None → r.ended a ≡ true
-  behind_items None q = none_going r.ended r.actors s.next q a lt
-  behind_items (Some x) q = none_drawn r.ended 0 r.actors (none_at (going r) (mix_u64 x).0 q) a (omega arith) (omega (arith, lt))
-
-  go : (xs : List Turn) → who_of r xs s ≡ None → r.ended a ≡ true
-  go [] q = behind_items s.drawn q
-  go (t ∷ more) q = absurd cc
+none_left r s e a lt = go (to_come r s.items) refl e where
+  go : (xs : List Turn) → to_come r s.items ≡ xs → who_of r xs (passed r s) ≡ None → r.ended a ≡ true
+  go [] f q = behind_none r (next_of r s.items s.next) s.drawn q a lt
+  go (t ∷ more) f q = absurd (by_some r (passed r s) t.actor t.until (head_going r s.items t more f) q)
 
 behind_low : (n a : ℕ) → 0 < n → behind n a < n
 behind_low n a some = go (ltb (a + 1) n) refl where
@@ -137,12 +176,17 @@ behind_low n a some = go (ltb (a + 1) n) refl where
   go true e = grind (arith, nat_tests)
   go false e = some
 
--- the turn behind the items stays that of an actor that there is
+-- the next turn stays that of an actor that there is
 pub moved_low : (r : Reached) (a : ℕ) (s : Standing) → s.next < r.actors → (moved r a s).next < r.actors
 moved_low r a s low = go (to_come r s.items) where
-  go : (xs : List Turn) → (stands_behind r a xs s).next < r.actors
+  by_item : (u : Until) (items : List Turn) → (stands_by r a u items (passed r s)).next < r.actors
+  by_item (Steps n) items = next_low r s.items s.next low
+  by_item (Marks m) items = next_low r s.items s.next low
+  by_item (Without n) items = behind_low r.actors a (omega (arith, low))
+
+  go : (xs : List Turn) → (stands_behind r a xs (passed r s)).next < r.actors
   go [] = behind_low r.actors a (omega (arith, low))
-  go (t ∷ more) = low
+  go (t ∷ more) = by_item t.until (one_less t ∷ more)
 
 -- ---- actors that have come to the same
 
@@ -153,20 +197,6 @@ pub record Agree (r q : Reached) : Type 0 where
   pub marks : (a : ℕ) → a < r.actors → r.marks a ≡ q.marks a
 
 module _ (r q : Reached) (h : Agree r q) where
-  same_over : (t : Turn) → is_over r t ≡ is_over q t
-  same_over t = elim (cases_lt t.actor r.actors) [
-    | inl lt ↦ rw (h.actors, h.ended t.actor lt, h.marks t.actor lt) refl
-    | inr le ↦
-        let past : nat_le r.actors t.actor ≡ true = grind (arith, nat_tests) in
-        let same = h.actors in
-        let beyond : nat_le q.actors t.actor ≡ true = grind (arith, nat_tests) in
-        rw (past, beyond) refl
-  ]
-
-  pub same_to_come : (xs : List Turn) → to_come r xs ≡ to_come q xs
-  same_to_come [] = refl
-  same_to_come (t ∷ more) = rw (same_over t, same_to_come more) refl
-
   same_filter : (b m : ℕ) → b + m ≤ r.actors → filter (λ a. not (r.ended a)) (range_with_len b m) ≡ filter (λ a. not (q.ended a)) (range_with_len b m)
   same_filter b zero le = refl
   same_filter b (suc m) le = rw (h.ended b (omega (arith, le)), same_filter (b + 1) m (omega (arith, le))) refl
@@ -183,31 +213,66 @@ module _ (r q : Reached) (h : Agree r q) where
   same_going : going r ≡ going q
   same_going = same_filter 0 r.actors (omega arith) ∙ ap (λ (n : ℕ). filter (λ a. not (q.ended a)) (range_with_len 0 n)) h.actors
 
+  same_behind : (next : ℕ) (o : Option ℕ) → next < r.actors → who_behind r next o ≡ who_behind q next o
+  same_behind next None low = same_turn next low
+  same_behind next (Some x) low = ap (λ (as' : List ℕ). slice_get as' ((mix_u64 x).0 % length as')) same_going
+
+  but_for : (b : ℕ) → Agree (without b r) (without b q)
+  but_for b = record { actors = h.actors; ended = λ a lt. ap (λ (c : Bool). eqb b a || c) (h.ended a lt); marks = h.marks }
+
+module _ (r q : Reached) (h : Agree r q) where
+  same_over_by : (a : ℕ) (u : Until) → is_over_by r a u ≡ is_over_by q a u
+  same_over_by a (Without n) = ap (λ (xs : List ℕ). eqb n 0 || eqb (length xs) 0) (same_going (without a r) (without a q) (but_for r q h a))
+  same_over_by a (Steps n) = ap (λ (b : Bool). b || eqb n 0) (elim (cases_lt a r.actors) [
+    | inl lt ↦ rw (h.actors, h.ended a lt) refl
+    | inr le ↦
+        let past : nat_le r.actors a ≡ true = grind (arith, nat_tests) in
+        let same = h.actors in
+        let beyond : nat_le q.actors a ≡ true = grind (arith, nat_tests) in
+        rw (past, beyond) refl
+  ])
+  same_over_by a (Marks m) = elim (cases_lt a r.actors) [
+    | inl lt ↦ rw (h.actors, h.ended a lt, h.marks a lt) refl
+    | inr le ↦
+        let past : nat_le r.actors a ≡ true = grind (arith, nat_tests) in
+        let same = h.actors in
+        let beyond : nat_le q.actors a ≡ true = grind (arith, nat_tests) in
+        rw (past, beyond) refl
+  ]
+
+  same_to_come : (xs : List Turn) → to_come r xs ≡ to_come q xs
+  same_to_come [] = refl
+  same_to_come (t ∷ more) = rw (same_over_by t.actor t.until, same_to_come more) refl
+
+  same_next : (xs : List Turn) (next : ℕ) → next_of r xs next ≡ next_of q xs next
+  same_next [] next = refl
+  same_next (t ∷ more) next = ap (λ (b : Bool). cond b 0 next) (same_over_by t.actor t.until)
+
+  same_passed : (s : Standing) → passed r s ≡ passed q s
+  same_passed s = rw (same_to_come s.items, same_next s.items s.next) refl
+
+  same_by : (a : ℕ) (u : Until) (s : Standing) → s.next < r.actors → who_by r a u s ≡ who_by q a u s
+  same_by a (Steps n) s low = refl
+  same_by a (Marks m) s low = refl
+  same_by a (Without n) s low = same_behind (without a r) (without a q) (but_for r q h a) s.next s.drawn low
+
+  same_of : (xs : List Turn) (s : Standing) → s.next < r.actors → who_of r xs s ≡ who_of q xs s
+  same_of [] s low = same_behind r q h s.next s.drawn low
+  same_of (t ∷ more) s low = same_by t.actor t.until s low
+
   -- so the same actor steps next,
   pub same_who : (s : Standing) → s.next < r.actors → who r s ≡ who q s
-  same_who s low = ap (λ (xs : List Turn). who_of r xs s) (same_to_come s.items) ∙ go (to_come q s.items) where
-    behind_items : (o : Option ℕ) → who_behind r s.next o ≡ who_behind q s.next o
-    behind_items None = same_turn s.next low
-    behind_items (Some x) = ap (λ (as' : List ℕ). slice_get as' ((mix_u64 x).0 % length as')) same_going
+  same_who s low = same_of (to_come r s.items) (passed r s) (next_low r s.items s.next low) ∙ ap (λ (t : Standing). who_of q t.items t) (same_passed s)
 
-    go : (xs : List Turn) → who_of r xs s ≡ who_of q xs s
-    go [] = behind_items s.drawn
-    go (t ∷ more) = refl
+  same_stands : (a : ℕ) (u : Until) (items : List Turn) (s : Standing) → stands_by r a u items s ≡ stands_by q a u items s
+  same_stands a (Steps n) items s = refl
+  same_stands a (Marks m) items s = refl
+  same_stands a (Without n) items s = rw h.actors refl
+
+  same_behind_items : (a : ℕ) (xs : List Turn) (s : Standing) → stands_behind r a xs s ≡ stands_behind q a xs s
+  same_behind_items a [] s = rw h.actors refl
+  same_behind_items a (t ∷ more) s = same_stands a t.until (one_less t ∷ more) s
 
   -- and the schedule stands alike then
   pub same_moved : (a : ℕ) (s : Standing) → moved r a s ≡ moved q a s
-  same_moved a s = ap (λ (xs : List Turn). stands_behind r a xs s) (same_to_come s.items) ∙ go (to_come q s.items) where
-    go : (xs : List Turn) → stands_behind r a xs s ≡ stands_behind q a xs s
-    go [] = rw h.actors refl
-    go (t ∷ more) = refl
-
--- ---- by the items as a list has them
-
-module _ (r : Reached) (s : Standing) (xs : List Turn) (i : ℕ) (first : drop i xs ≡ to_come r s.items) where
-  -- the first item that has not ended is at this place
-  pub of_first : (t : Turn) → i < length xs → t ≡ get_or xs i t → who r s ≡ Some t.actor
-  of_first t lt is = ap (λ (ys : List Turn). who_of r ys s) (sym first) ∙ at_drop_more (λ (ys : List Turn). who_of r ys s) xs i t lt ∙ ap (λ (x : Turn). Some x.actor) (sym is)
-
-  -- all have
-  pub of_none : length xs ≤ i → who r s ≡ who_behind r s.next s.drawn
-  of_none le = ap (λ (ys : List Turn). who_of r ys s) (sym first ∙ drop_all i xs le)
+  same_moved a s = same_behind_items a (to_come r s.items) (passed r s) ∙ ap (λ (t : Standing). stands_behind q a t.items t) (same_passed s)

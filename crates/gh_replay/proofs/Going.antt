@@ -27,7 +27,7 @@ module _ (r : Reached) (xs : List Turn) where
 abbrev pub going_from : Reached → ℕ → List ℕ
 going_from r a = filter (λ b. not (r.ended b)) (range_with_len a (r.actors - a))
 
-next_range : (n a : ℕ) → a < n → range_with_len a (n - a) ≡ a ∷ range_with_len (a + 1) (n - (a + 1))
+pub next_range : (n a : ℕ) → a < n → range_with_len a (n - a) ≡ a ∷ range_with_len (a + 1) (n - (a + 1))
 next_range n a lt = let e : n - a ≡ suc (n - (a + 1)) = omega (arith, lt) in ap (range_with_len a) e
 
 module _ (r : Reached) (a : ℕ) (lt : a < r.actors) where

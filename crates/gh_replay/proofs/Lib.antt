@@ -2,6 +2,7 @@ pub mod Vocabulary
 pub mod Along
 pub mod Answering
 pub mod Beside
+pub mod ByOthers
 pub mod Checked
 pub mod Choosing
 pub mod EitherOne
@@ -11,6 +12,7 @@ pub mod Kept
 pub mod Numbers
 pub mod OneOutcome
 pub mod OneRun
+pub mod Others
 pub mod Owning
 pub mod Pieces
 pub mod Rows

@@ -5,14 +5,14 @@ use Rattle.gh_script.specs.Words.{number_of}
 use Rattle.gh_replay.specs.declared.list.TheConstants.{MOST_ITEMS}
 use Rattle.gh_replay.specs.declared.schedule.Turn.{Turn}
 use Rattle.gh_replay.specs.declared.schedule.Until.{Until}
-use Rattle.gh_replay.specs.declared.schedule.Until.TheVariants.{Steps, Marks}
+use Rattle.gh_replay.specs.declared.schedule.Until.TheVariants.{Steps, Marks, Without}
 
 abbrev pub is_comma : ℕ → Bool
 is_comma c = c == 44
 
--- a star or an at sign, which stands between the two numbers of an item
+-- a star, an at sign or an exclamation mark, which stands between the two numbers of an item
 abbrev pub is_sign : ℕ → Bool
-is_sign c = c == 42 || c == 64
+is_sign c = c == 42 || (c == 64 || c == 33)
 
 -- the number that a word spells as in scripts, where it is in its range
 abbrev pub within : (least most : ℕ) → ℕ → Option ℕ
@@ -21,10 +21,13 @@ within least most n = if nat_le least n && nat_le n most then Some n else None
 abbrev pub ranged : (least most : ℕ) → List ℕ → Option ℕ
 ranged least most word = option_and_then (within least most) (number_of word)
 
--- how long an item goes on with this sign and this word: behind a star 1 to 1,000,000 steps, behind an at sign up to 2 ^ 32 marks
+-- how long an item goes on with this sign and this word: behind a star 1 to 1,000,000 steps, behind an at sign up to 2 ^ 32 marks, behind an exclamation mark 1 to 1,000,000 turns of others
 abbrev pub until_of : Option ℕ → List ℕ → Option Until
 until_of None word = None
-until_of (Some sign) word = if sign == 42 then option_map Steps (ranged 1 1000000 word) else option_map Marks (ranged 0 (2 ^ 32) word)
+until_of (Some sign) word =
+    if sign == 42 then option_map Steps (ranged 1 1000000 word)
+    else if sign == 64 then option_map Marks (ranged 0 (2 ^ 32) word)
+    else option_map Without (ranged 1 1000000 word)
 
 abbrev pub turn_with : Option ℕ → Option Until → Option Turn
 turn_with None until = None

@@ -1,13 +1,15 @@
 -- The lists of steps that a schedule gives.
-use Rattle.std.specs.Prelude.{◌≡◌, ◌↔◌, List, [], ◌∷◌, Some}
+use Rattle.std.specs.Prelude.{◌≡◌, ◌↔◌, ℕ, List, [], ◌∷◌, Some}
 use Rattle.gh_base.specs.declared.operation.Op.{Op}
 use Rattle.gh_base.specs.declared.layout.Layout.{Layout}
 use Rattle.gh_base.specs.declared.machine.Entry.{Entry}
 use Rattle.gh_script.specs.Program.{Program}
 use Rattle.gh_world.specs.Schedule.{ended_after, IsInTurn}
 use Rattle.gh_world.specs.World.{actor_after, marks_at, marks_by, setting_of}
+use Rattle.gh_replay.specs.declared.schedule.Turn.{Turn}
+use Rattle.gh_replay.specs.declared.schedule.Until.TheVariants.{Without}
 use Rattle.gh_replay.specs.Plan.{no_plan, Plan}
-use Rattle.gh_replay.specs.Standing.{moved, opening, Reached, Standing, who}
+use Rattle.gh_replay.specs.Standing.{moved, opening, Reached, Standing, to_come, who}
 
 module _ (p : Program) (l : Layout) where
   -- what the actors have come to after the list
@@ -27,3 +29,7 @@ module _ (p : Program) (l : Layout) where
 -- Where a schedule says nothing the actors take turns in ascending order.
 abbrev pub NothingSaidIsInTurn : Type 0
 NothingSaidIsInTurn = (p : Program) (l : Layout) (es : List (Entry Op)) → IsScheduled p l no_plan es ↔ IsInTurn (setting_of p l) es
+
+-- By an item without an actor that actor takes no turn.
+abbrev pub OthersTakeTurns : Type 0
+OthersTakeTurns = (p : Program) (l : Layout) (plan : Plan) (e : Entry Op) (es : List (Entry Op)) (a n : ℕ) (more : List Turn) → IsScheduled p l plan (e ∷ es) → to_come (reached_in p l es) (stands_in p l plan es).items ≡ record { actor = a; until = Without n } ∷ more → e.actor ≡ a → ⊥

@@ -1,7 +1,7 @@
 //! What is true of runs under a budget, whatever the code does.
 
 ghost use Rattle.gh_replay.specs.Replayed.{EitherOne, NotBoth, OneOutcome};
-ghost use Rattle.gh_replay.specs.Scheduled.{NothingSaidIsInTurn};
+ghost use Rattle.gh_replay.specs.Scheduled.{NothingSaidIsInTurn, OthersTakeTurns};
 
 use gh_world::{a_script_has_one_run, every_run_is_explained, runs_go_on};
 
@@ -21,4 +21,9 @@ pub fn one_outcome()
 /// and again, passing over those that are done.
 pub fn nothing_said_is_in_turn()
     ensures { NothingSaidIsInTurn }
+{}
+
+/// By an item without an actor, `A!n` in a text, that actor takes no turn, whoever else there is.
+pub fn others_take_turns()
+    ensures { OthersTakeTurns }
 {}

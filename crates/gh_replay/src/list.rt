@@ -13,8 +13,8 @@ pub const MOST_ITEMS: usize = 10_000;
 
 /// The items that a text spells, or `None` where it is no list: 1 to [`MOST_ITEMS`] items, separated by single
 /// commas, each of them `A*n`, so many steps of actor A, or `A@m`, the steps of A until its marks are at least
-/// m. A is at most 255, n from 1 to 1,000,000 and m at most 2 ^ 32, each spelled as numbers in scripts: 1 to 20
-/// decimal digits. The only error is want of memory.
+/// m, or `A!n`, so many turns of others than A. A is at most 255, n from 1 to 1,000,000 and m at most 2 ^ 32, each
+/// spelled as numbers in scripts: 1 to 20 decimal digits. The only error is want of memory.
 #[tactic(auto, unfolding(crate::specs::ListText::list_of))]
 pub fn parse_list(alloc: Global, text: &str) -> Result<Option<Vec<Turn>>, AllocError>
     ensures { IfOk result (λ list. option_map (λ turns. turns.items) list ≡ list_of text.now) }
@@ -49,6 +49,12 @@ fn comma_index(text: &[u8]) -> usize
     text.len()
 }
 
+fn is_sign(b: u8) -> bool
+    ensures { result ≡ is_sign b }
+{
+    b == b'*' || b == b'@' || b == b'!'
+}
+
 /// Where the first sign of an item stands, or its length.
 #[tactic(auto, using(std::proofs::lemmas::List::Sums::position_or_len_is))]
 fn sign_index(piece: &[u8]) -> usize
@@ -56,7 +62,7 @@ fn sign_index(piece: &[u8]) -> usize
     ensures within { result ≤ length piece.now }
 {
     for (i, b) in piece.iter().enumerate() {
-        if *b == b'*' || *b == b'@' {
+        if is_sign(*b) {
             return i;
         }
     }
@@ -96,9 +102,12 @@ fn until(sign: u8, word: &[u8]) -> Option<Until>
     if sign == b'*' {
         let steps = ranged(word, 1, 1_000_000)?;
         Some(Until::Steps(steps as u32))
-    } else {
+    } else if sign == b'@' {
         let marks = ranged(word, 0, 4_294_967_296)?;
         Some(Until::Marks(marks))
+    } else {
+        let turns = ranged(word, 1, 1_000_000)?;
+        Some(Until::Without(turns as u32))
     }
 }
 

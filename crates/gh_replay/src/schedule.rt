@@ -1,11 +1,13 @@
 //! Who steps when, as a caller says it.
 //!
 //! A schedule is a list of items and, for what comes behind the list, a seed or none. The list comes
-//! first. An item is of one actor, which takes so many steps, or steps until it has so many marks. An item
-//! for an actor that does not exist, is done or becomes done ends there. Behind the list the actors that
-//! are not done take turns in ascending order, from actor 0 on; with a seed each turn draws a word of
-//! SplitMix64, and is that of number `w mod c`, counted from 0, among the `c` actors that are not done, in
-//! ascending order.
+//! first. An item names one actor, which takes so many steps, or steps until it has so many marks. An item
+//! for an actor that does not exist, is done or becomes done ends there. Or so many turns are those of others: an
+//! item without an actor goes on whether that actor exists or is done, and ends where all others are done. Behind
+//! the list the actors that are not done take turns in ascending order, from actor 0 on; with a seed each turn
+//! draws a word of SplitMix64, and is that of number `w mod c`, counted from 0, among the `c` actors that are not
+//! done, in ascending order. An item without an actor gives its turns in the same way, among the others: in
+//! ascending order from the lowest on, again and again, or by the words that it draws. Other items draw none.
 
 ghost use Rattle.std.specs.Prelude.{◌≡◌};
 ghost use Rattle.gh_replay.specs.Plan.{no_plan};
@@ -20,6 +22,8 @@ pub enum Until {
     Steps(u32),
     /// The actor steps until its marks are at least so many.
     Marks(u64),
+    /// So many turns are taken, by others than the actor.
+    Without(u32),
 }
 
 /// An item of a list.
@@ -27,7 +31,7 @@ pub enum Until {
 pub struct Turn {
     /// The actor's number: the processors from 0, then the workers, then the coordinator.
     pub actor: u8,
-    /// How long it steps.
+    /// How long it, or others, step.
     pub until: Until,
 }
 

@@ -2,7 +2,7 @@
 use Rattle.std.specs.Prelude.{◌≡◌, ◌≤◌, ℕ, Bool, true, false, List, [], ◌∷◌, Some, None, codes}
 use Rattle.std.specs.List.{AllByRecursion}
 use Rattle.gh_replay.specs.Plan.{Plan, no_plan}
-use Rattle.gh_replay.specs.declared.schedule.Until.TheVariants.{Steps, Marks}
+use Rattle.gh_replay.specs.declared.schedule.Until.TheVariants.{Steps, Marks, Without}
 use Rattle.gh_top.specs.CommandLine.{Text, command_line}
 use Rattle.gh_top.specs.declared.line.Line.TheVariants.{Replay}
 
@@ -42,6 +42,7 @@ scheduled_lines =
     ∷ (replayed (codes "--list" ∷ codes "0*9" ∷ []), nine_steps, 50000000)
     ∷ (replayed (codes "--list=0*9" ∷ codes "--budget" ∷ codes "8" ∷ []), nine_steps, 8)
     ∷ (replayed (codes "--budget=8" ∷ codes "--list" ∷ codes "0*9" ∷ []), nine_steps, 8)
+    ∷ (replayed (codes "--list" ∷ codes "2!1000" ∷ []), record { list = record { actor = 2; until = Without 1000 } ∷ []; seed = None }, 50000000)
     ∷ (
       replayed (codes "--list" ∷ codes "0@4,2*1" ∷ codes "--seed" ∷ codes "1" ∷ codes "--budget" ∷ codes "100000" ∷ []),
       record { list = record { actor = 0; until = Marks 4 } ∷ record { actor = 2; until = Steps 1 } ∷ []; seed = Some 1 },
@@ -82,6 +83,7 @@ refused_lines =
     ∷ replayed (codes "--seed" ∷ codes "1" ∷ codes "--seed" ∷ codes "1" ∷ []) ∷ replayed (codes "--seed=1" ∷ codes "--budget=1" ∷ codes "--seed=1" ∷ [])
     ∷ replayed (codes "--list" ∷ []) ∷ replayed (codes "--list" ∷ codes "0-7" ∷ []) ∷ replayed (codes "--list" ∷ codes "" ∷ []) ∷ replayed (codes "--list=" ∷ [])
     ∷ replayed (codes "--list" ∷ codes "-" ∷ []) ∷ replayed (codes "--list" ∷ codes "--" ∷ codes "0*9" ∷ []) ∷ replayed (codes "--list" ∷ codes "0*9," ∷ [])
+    ∷ replayed (codes "--list" ∷ codes "!5" ∷ []) ∷ replayed (codes "--list" ∷ codes "1!" ∷ []) ∷ replayed (codes "--list" ∷ codes "1!0" ∷ []) ∷ replayed (codes "--list" ∷ codes "1!1000001" ∷ [])
     ∷ replayed (codes "--list" ∷ codes "--seed" ∷ codes "1" ∷ []) ∷ replayed (codes "--list" ∷ codes "0*9" ∷ codes "0*9" ∷ [])
     ∷ replayed (codes "--list" ∷ codes "0*9" ∷ codes "--list" ∷ codes "0*9" ∷ [])
     ∷ replayed (codes "--check=true" ∷ []) ∷ replayed (codes "--check=" ∷ []) ∷ replayed (codes "--check" ∷ codes "true" ∷ [])

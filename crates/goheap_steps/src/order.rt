@@ -11,8 +11,9 @@ use gh_world::World;
 pub struct Order {
     list: Vec<Turn>,
     at: usize,
-    // The steps that the item at `at` has taken.
+    // The turns of the item at `at` that are taken.
     taken: u32,
+    // Whose turn it would be in ascending order, by that item or behind all.
     next: u8,
 }
 
@@ -35,26 +36,63 @@ impl Order {
             if i > self.at {
                 self.at = i;
                 self.taken = 0;
+                self.next = 0;
             }
             let turn = self.list[i];
-            if goes_on(world, turn, self.taken) {
+            if let Some(actor) = by_item(world, turn, self.taken, self.next) {
                 self.taken = self.taken.saturating_add(1);
-                return Some(turn.actor);
+                self.next = actor.saturating_add(1);
+                return Some(actor);
             }
         }
-        self.at = self.list.len();
-        let from = if self.next < world.actors() {
-            self.next
-        } else {
-            0
-        };
-        if from >= world.actors() {
-            return None;
+        if self.at < self.list.len() {
+            self.at = self.list.len();
+            self.next = 0;
         }
-        let actor = world.turn_from(from)?;
+        let actor = world.turn_from(or_lowest(world, self.next)?)?;
         self.next = actor.saturating_add(1);
         Some(actor)
     }
+}
+
+/// This actor, or the lowest where there is none of that number.
+fn or_lowest(world: &World, actor: u8) -> Option<u8>
+    ensures { IfSome result (λ a. a < actors_of world.now) }
+{
+    let from = if actor < world.actors() { actor } else { 0 };
+    if from < world.actors() {
+        Some(from)
+    } else {
+        None
+    }
+}
+
+/// Who steps next by the item, of which so many turns are taken; none where it has ended.
+fn by_item(world: &World, turn: Turn, taken: u32, next: u8) -> Option<u8>
+    ensures { IfSome result (λ a. (a < actors_of world.now) × (is_done world.now a ≡ false)) }
+{
+    if let Until::Without(n) = turn.until {
+        if taken >= n {
+            return None;
+        }
+        return another(world, turn.actor, next);
+    }
+    if goes_on(world, turn, taken) {
+        return Some(turn.actor);
+    }
+    None
+}
+
+/// Whose turn it is among others than this actor, where it would be that of `next`.
+fn another(world: &World, actor: u8, next: u8) -> Option<u8>
+    ensures { IfSome result (λ a. (a < actors_of world.now) × (is_done world.now a ≡ false)) }
+{
+    let first = world.turn_from(or_lowest(world, next)?)?;
+    if first != actor {
+        return Some(first);
+    }
+    let second = world.turn_from(or_lowest(world, first.saturating_add(1))?)?;
+    if second != actor { Some(second) } else { None }
 }
 
 /// The item has not ended, once its actor took so many steps by it.
@@ -67,5 +105,6 @@ fn goes_on(world: &World, turn: Turn, taken: u32) -> bool
     match turn.until {
         Until::Steps(n) => taken < n,
         Until::Marks(m) => world.marks(turn.actor) < m,
+        Until::Without(_) => false,
     }
 }

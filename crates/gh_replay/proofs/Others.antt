@@ -1,0 +1,116 @@
+-- Who goes on but for one actor: in ascending order, and among those that are kept.
+use Rattle.std.proofs.Common.{◌≡◌, ℕ, ◌+◌, ◌-◌, ◌%◌, ◌<◌, ◌≤◌, Bool, true, false, cond, eqb, not, ◌||◌, List, [], ◌∷◌, ◌++◌, length, drop, get_or, Option, Some, None, refl, sym, ap, ◌∙◌, arith}
+use Rattle.std.specs.Prelude.{IfSome, slice_get}
+use Rattle.std.specs.List.{filter, range_with_len}
+use Rattle.std.proofs.lemmas.Bool.Decides.{nat_tests}
+use Rattle.std.proofs.lemmas.List.{at_drop_more}
+use Rattle.rand_xoshiro.specs.SplitMix64.{mix_u64}
+use Rattle.gh_world.specs.Schedule.{first_going, turn_from}
+use Rattle.gh_replay.specs.Standing.{going, Reached, who_behind, without}
+use Rattle.gh_replay.proofs.Going.{next_range}
+
+-- ---- in ascending order
+
+-- those from low to below high
+abbrev pub first_within : (ended : ℕ → Bool) → (low high : ℕ) → Option ℕ
+first_within ended low high = first_going ended (range_with_len low (high - low))
+
+module _ (ended : ℕ → Bool) (a high : ℕ) where
+  pub is_first : a < high → ended a ≡ false → first_within ended a high ≡ Some a
+  is_first lt e = ap (first_going ended) (next_range high a lt) ∙ ap (λ (b : Bool). cond b (first_within ended (a + 1) high) (Some a)) e
+
+  pub is_passed : a < high → ended a ≡ true → first_within ended a high ≡ first_within ended (a + 1) high
+  is_passed lt e = ap (first_going ended) (next_range high a lt) ∙ ap (λ (b : Bool). cond b (first_within ended (a + 1) high) (Some a)) e
+
+  pub none_within : high ≤ a → first_within ended a high ≡ None
+  none_within le = let e : high - a ≡ 0 = omega (arith, le) in ap (λ (m : ℕ). first_going ended (range_with_len a m)) e
+
+-- the first of these, or the first of those
+pub first_of : (ended : ℕ → Bool) (xs ys : List ℕ) (a : ℕ) → first_going ended xs ≡ Some a → first_going ended (xs ++ ys) ≡ Some a
+first_of ended [] ys a e = absurd cc
+first_of ended (x ∷ xs) ys a e = go (ended x) (first_of ended xs ys a) e where
+  go : (b : Bool) → (first_going ended xs ≡ Some a → first_going ended (xs ++ ys) ≡ Some a) → cond b (first_going ended xs) (Some x) ≡ Some a → cond b (first_going ended (xs ++ ys)) (Some x) ≡ Some a
+  go true ih q = ih q
+  go false ih q = q
+
+pub then_of : (ended : ℕ → Bool) (xs ys : List ℕ) → first_going ended xs ≡ None → first_going ended (xs ++ ys) ≡ first_going ended ys
+then_of ended [] ys e = refl
+then_of ended (x ∷ xs) ys e = go (ended x) (then_of ended xs ys) e where
+  go : (b : Bool) → (first_going ended xs ≡ None → first_going ended (xs ++ ys) ≡ first_going ended ys) → cond b (first_going ended xs) (Some x) ≡ None → cond b (first_going ended (xs ++ ys)) (Some x) ≡ first_going ended ys
+  go true ih q = ih q
+  go false ih q = absurd cc
+
+module _ (ended : ℕ → Bool) (n m next : ℕ) (same : m ≡ n) where
+  pub in_first : (a : ℕ) → first_within ended next m ≡ Some a → Some a ≡ turn_from ended n next
+  in_first a e = sym (first_of ended (range_with_len next (n - next)) (range_with_len 0 next) a (ap (first_within ended next) (sym same) ∙ e))
+
+  pub in_second : (o : Option ℕ) → first_within ended next m ≡ None → o ≡ first_within ended 0 next → o ≡ turn_from ended n next
+  in_second o e is =
+      let all : next - 0 ≡ next = omega arith in
+      is ∙ ap (λ (k : ℕ). first_going ended (range_with_len 0 k)) all ∙ sym (then_of ended (range_with_len next (n - next)) (range_with_len 0 next) (ap (first_within ended next) (sym same) ∙ e))
+
+-- nobody is the first exactly where nobody is kept
+pub none_first : (ended : ℕ → Bool) (xs : List ℕ) (a : ℕ) → first_going ended xs ≡ Some a → eqb (length (filter (λ x. not (ended x)) xs)) 0 ≡ false
+none_first ended [] a e = absurd cc
+none_first ended (x ∷ xs) a e = go (ended x) (none_first ended xs a) e where
+  go : (b : Bool) → (first_going ended xs ≡ Some a → eqb (length (filter (λ y. not (ended y)) xs)) 0 ≡ false) → cond b (first_going ended xs) (Some x) ≡ Some a → eqb (length (cond (not b) (x ∷ filter (λ y. not (ended y)) xs) (filter (λ y. not (ended y)) xs))) 0 ≡ false
+  go true ih q = ih q
+  go false ih q = grind (arith, nat_tests)
+
+pub none_kept : (ended : ℕ → Bool) (xs : List ℕ) → first_going ended xs ≡ None → eqb (length (filter (λ x. not (ended x)) xs)) 0 ≡ true
+none_kept ended [] e = refl
+none_kept ended (x ∷ xs) e = go (ended x) (none_kept ended xs) e where
+  go : (b : Bool) → (first_going ended xs ≡ None → eqb (length (filter (λ y. not (ended y)) xs)) 0 ≡ true) → cond b (first_going ended xs) (Some x) ≡ None → eqb (length (cond (not b) (x ∷ filter (λ y. not (ended y)) xs) (filter (λ y. not (ended y)) xs))) 0 ≡ true
+  go true ih q = ih q
+  go false ih q = absurd cc
+
+module _ (r : Reached) (m : ℕ) where
+  pub some_in : (a : ℕ) → m ≡ r.actors → first_within r.ended 0 m ≡ Some a → eqb (length (going r)) 0 ≡ false
+  some_in a same e =
+      let all : m - 0 ≡ r.actors = omega (arith, same) in
+      none_first r.ended (range_with_len 0 r.actors) a (ap (λ (k : ℕ). first_going r.ended (range_with_len 0 k)) (sym all) ∙ e)
+
+  pub all_out : m ≡ r.actors → first_within r.ended 0 m ≡ None → eqb (length (going r)) 0 ≡ true
+  all_out same e =
+      let all : m - 0 ≡ r.actors = omega (arith, same) in
+      none_kept r.ended (range_with_len 0 r.actors) (ap (λ (k : ℕ). first_going r.ended (range_with_len 0 k)) (sym all) ∙ e)
+
+-- ---- those that are kept
+
+-- they are the others of those that go on
+kept_but : (f : ℕ → Bool) (actor : ℕ) (xs : List ℕ) → filter (λ x. not (eqb actor x || f x)) xs ≡ filter (λ x. not (eqb actor x)) (filter (λ x. not (f x)) xs)
+kept_but f actor [] = refl
+kept_but f actor (x ∷ xs) = go (eqb actor x) (f x) refl (kept_but f actor xs) where
+  F : List ℕ
+  F = filter (λ y. not (eqb actor y || f y)) xs
+
+  G : List ℕ
+  G = filter (λ y. not (f y)) xs
+
+  go : (b c : Bool) → eqb actor x ≡ b → F ≡ filter (λ y. not (eqb actor y)) G → cond (not (b || c)) (x ∷ F) F ≡ filter (λ y. not (eqb actor y)) (cond (not c) (x ∷ G) G)
+  go true true is ih = ih
+  go true false is ih = rw is ih
+  go false true is ih = ih
+  go false false is ih = rw is (ap (λ (ys : List ℕ). x ∷ ys) ih)
+
+pub going_but : (r : Reached) (actor : ℕ) → going (without actor r) ≡ filter (λ x. not (eqb actor x)) (going r)
+going_but r actor = kept_but r.ended actor (range_with_len 0 r.actors)
+
+pub chosen_but : (r : Reached) (actor next w x : ℕ) (kept : List ℕ) (drawn o : Option ℕ) → drawn ≡ Some x → w ≡ (mix_u64 x).0 → IfSome drawn (λ y. kept ≡ going r) →
+    o ≡ slice_get (filter (λ b. not (eqb actor b)) kept) (w % length (filter (λ b. not (eqb actor b)) kept)) → o ≡ who_behind (without actor r) next drawn
+chosen_but r actor next w x kept None o is word all says = absurd cc
+chosen_but r actor next w x kept (Some y) o is word all says =
+    let same : filter (λ b. not (eqb actor b)) kept ≡ going (without actor r) = ap (filter (λ b. not (eqb actor b))) all ∙ sym (going_but r actor) in
+    let drew : w ≡ (mix_u64 y).0 = let one : y ≡ x = cc in word ∙ ap (λ (z : ℕ). (mix_u64 z).0) (sym one) in
+    says ∙ ap (λ (xs : List ℕ). slice_get xs (w % length xs)) same ∙ ap (λ (v : ℕ). slice_get (going (without actor r)) (v % length (going (without actor r)))) drew
+
+-- one after the other
+abbrev pub but : ℕ → List ℕ → List ℕ
+but actor xs = filter (λ y. not (eqb actor y)) xs
+
+module _ (actor : ℕ) (xs : List ℕ) (i d : ℕ) (lt : i < length xs) where
+  pub but_this : eqb actor (get_or xs i d) ≡ true → but actor (drop i xs) ≡ but actor (drop (i + 1) xs)
+  but_this e = at_drop_more (but actor) xs i d lt ∙ ap (λ (b : Bool). cond (not b) (get_or xs i d ∷ but actor (drop (i + 1) xs)) (but actor (drop (i + 1) xs))) e
+
+  pub but_other : eqb actor (get_or xs i d) ≡ false → but actor (drop i xs) ≡ get_or xs i d ∷ but actor (drop (i + 1) xs)
+  but_other e = at_drop_more (but actor) xs i d lt ∙ ap (λ (b : Bool). cond (not b) (get_or xs i d ∷ but actor (drop (i + 1) xs)) (but actor (drop (i + 1) xs))) e
