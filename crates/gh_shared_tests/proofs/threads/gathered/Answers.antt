@@ -1,0 +1,11 @@
+use Rattle.std.proofs.lemmas.List.Elements.{All-rest}
+use Rattle.std.specs.Vec.Iter.{into_iter_items}
+use Rattle.gh_shared.specs.Handles.{IsOf}
+use Rattle.gh_shared_tests.proofs.Running.{first_of}
+use Rattle.gh_shared_tests.proofs.threads.gathered.Goals as goal
+
+pub gather-requires-clause-other : goal.gather-requires-clause-other
+gather-requires-clause-other c = first_of (λ j. IsOf c.args.heap.now j.handle) c.in-Some-job.job (into_iter_items c.next.new.self) (into_iter_items c.loop-job.job-iterator) c.in-Some-job.ensures.steps.0 c.loop-job.invariant.0
+
+pub loop-job-preserved : goal.loop-job-preserved
+loop-job-preserved c = (All-rest (λ j. IsOf c.args.heap.now j.handle) c.in-Some-job.job (into_iter_items c.next.new.self) (into_iter_items c.loop-job.job-iterator) c.in-Some-job.ensures.steps.0 c.loop-job.invariant.0, c.gather.ensures.of)
