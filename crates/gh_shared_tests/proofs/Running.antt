@@ -1,12 +1,7 @@
--- What holds of each handle that a heap opens with, and of each job that was run.
-use Rattle.std.proofs.Common.{◌≡◌, ◌<◌, ℕ, zero, suc, List, [], ◌∷◌, All, length, Some, slice_get, subst}
-use Rattle.std.proofs.lemmas.List.Elements.{All-cons, All-from_get_or, All-head, All-nil, All-tail}
-use Rattle.std.proofs.lemmas.Option.{slice_get-get_or}
+-- What holds of each job that was run.
+use Rattle.std.proofs.Common.{◌≡◌, List, [], ◌∷◌, All, subst}
+use Rattle.std.proofs.lemmas.List.Elements.{All-cons, All-head, All-nil, All-tail}
 use Rattle.gh_gate.specs.Jobs.{AllHaveRun}
-
--- what holds of the element at each place holds of all
-pub all_of : {X : Type 0} (P : X → Type 0) (xs : List X) → ((a : ℕ) (x : X) → slice_get xs a ≡ Some x → P x) → All P xs
-all_of P xs each k d lt = each k _ (slice_get-get_or xs k d lt)
 
 -- what holds of each job at its end, where so much holds of each at its begin
 pub at_end : {J W : Type 0} (ended : J → Type 0) (which : J → W) (P Q : J → Type 0) → ((was now : J) → P was → ended now → which now ≡ which was → Q now) → (jobs done : List J) → All P jobs → AllHaveRun ended which jobs done → All Q done
