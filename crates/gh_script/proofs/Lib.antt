@@ -17,3 +17,7 @@ pub mod FormHead
 pub mod FormOpen
 pub mod FormLaw
 pub mod FormBack
+pub mod Spelled
+pub mod GeneratedWords
+pub mod GeneratedForm
+pub mod Writing

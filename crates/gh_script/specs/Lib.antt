@@ -9,3 +9,4 @@ pub mod Draft
 pub mod Grammar
 pub mod Outcome
 pub mod Form
+pub mod Generated

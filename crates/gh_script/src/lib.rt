@@ -15,6 +15,7 @@ mod cause;
 mod draft;
 mod fault;
 mod form;
+mod generated;
 mod given;
 mod goroutine;
 mod key;
@@ -28,6 +29,10 @@ mod word;
 
 pub use fault::{ParseError, ScriptFault, Why};
 pub use form::script_form;
+pub use generated::{
+    generate, generated_goroutines_keep_apart, generated_scripts_have_their_size,
+    generated_scripts_spell,
+};
 pub use reading::{MOST_BYTES, one_reading, parse};
 pub use script::Script;
 pub use statement::{Settings, Stmt};
