@@ -1,7 +1,9 @@
 pub mod Allowed
 pub mod Carrying
 pub mod Ending
+pub mod Faults
 pub mod Fresh
 pub mod Keeping
+pub mod LastWrites
 pub mod Ready
 pub mod Rooms

@@ -1,6 +1,8 @@
 pub mod Calls
 pub mod Counting
+pub mod Faults
 pub mod Handles
+pub mod LastWrites
 pub mod Machines
 pub mod MachinesAct
 pub mod MachinesEnd

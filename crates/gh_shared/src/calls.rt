@@ -9,6 +9,7 @@ ghost use Rattle.gh_base.specs.declared.operation.Op.TheVariants as ops;
 ghost use Rattle.gh_base.specs.declared.value.Answer.{Answer};
 ghost use Rattle.gh_base.specs.Routines.{EndsWithin};
 ghost use Rattle.gh_shared.specs.Calls.{IsGoing, May, Operated, OperatedWithin};
+ghost use Rattle.gh_shared.specs.Faults.{FaultLeavesAll};
 ghost use Rattle.gh_shared.specs.Handles.{left_of, machine_of, plan_of, room_of, runs_in};
 ghost use Rattle.gh_shared.specs.Machines.{begins, listing};
 
@@ -17,29 +18,39 @@ use crate::heap::Heap;
 use crate::plan::AnyActor;
 use gh_base::laws::a_state_is_of_its_own_entries;
 use gh_base::{Answer, Op};
-use gh_mutator::laws::{operations_end, polls_make_room};
+use gh_mutator::laws::{faults_change_nothing, operations_end, polls_make_room};
 use std::sync::Wait;
 
 impl Heap {
     /// Register `d` takes field `k` of the object in `b`. At most 4 steps.
+    ///
+    /// The field is what the last step left that wrote its word before, this actor's or another's ([`crate::reads_see_writes`]).
+    /// A fault changes no word and no register: `NilBase` where `b` holds no reference, `Field` where the slot has no field `k`.
     pub fn load<'s>(&self, h: &mut Handle<'s>, g: u32, d: u32, b: u32, k: u32) -> Answer
         requires going { IsGoing self.now h.old }
         requires runs { runs_in h.old g ≡ true }
         requires registers { (d < REGISTERS) × (b < REGISTERS) }
-        ensures { OperatedWithin self.now (ops.Load g d b k) 4 h.old h.new result }
+        ensures did { OperatedWithin self.now (ops.Load g d b k) 4 h.old h.new result }
+        ensures fault { FaultLeavesAll h.old h.new result }
     {
+        faults_change_nothing();
         operations_end();
         self.operate(h, Op::Load { g, d, b, k }, 4)
     }
 
     /// Field `k` of the object in `b` takes what register `v` holds. At most 10 steps.
+    ///
+    /// A fault changes no word and no register: `NilBase` where `b` holds no reference, `Field` where the slot has no field `k`, and
+    /// `Kind` where a pointer field meets a number, or a number field nil or a reference.
     pub fn store<'s>(&self, h: &mut Handle<'s>, g: u32, b: u32, k: u32, v: u32) -> Answer
         requires going { IsGoing self.now h.old }
         requires runs { runs_in h.old g ≡ true }
         requires registers { (b < REGISTERS) × (v < REGISTERS) }
         requires room { 2 ≤ room_of h.old }
-        ensures { OperatedWithin self.now (ops.Store g b k v) 10 h.old h.new result }
+        ensures did { OperatedWithin self.now (ops.Store g b k v) 10 h.old h.new result }
+        ensures fault { FaultLeavesAll h.old h.new result }
     {
+        faults_change_nothing();
         operations_end();
         self.operate(h, Op::Store { g, b, k, v }, 10)
     }
@@ -57,14 +68,18 @@ impl Heap {
     }
 
     /// Global `k` takes what register `v` holds. At most 8 steps.
+    ///
+    /// A fault changes no word and no register: `Kind` where `v` holds a number.
     pub fn set_global<'s>(&self, h: &mut Handle<'s>, g: u32, k: u32, v: u32) -> Answer
         requires going { IsGoing self.now h.old }
         requires runs { runs_in h.old g ≡ true }
         requires registers { v < REGISTERS }
         requires global { k < (plan_of self.now).layout.globals }
         requires room { 2 ≤ room_of h.old }
-        ensures { OperatedWithin self.now (ops.SetGlobal g k v) 8 h.old h.new result }
+        ensures did { OperatedWithin self.now (ops.SetGlobal g k v) 8 h.old h.new result }
+        ensures fault { FaultLeavesAll h.old h.new result }
     {
+        faults_change_nothing();
         operations_end();
         self.operate(h, Op::SetGlobal { g, k, v }, 8)
     }

@@ -1,9 +1,12 @@
-//! What the answers of a heap mean.
+//! What the answers of a heap mean, and what its steps find.
 
 ghost use Rattle.gh_shared.specs.Calls.{AnswersAreEvers, EveryListStands};
 ghost use Rattle.gh_shared.specs.Handles.{plan_of, IsHeapOf};
+ghost use Rattle.gh_shared.specs.Plans.{Planned};
+ghost use Rattle.gh_shared.specs.LastWrites.{ReadsSeeWrites};
 
 use crate::heap::Heap;
+use gh_base::laws::a_step_changes_one_cell;
 use gh_script::Script;
 use gh_world::every_run_stands;
 
@@ -20,4 +23,13 @@ pub fn answers_are_evers(heap: &Heap, script: &Script)
 {
     script.is_well_formed();
     every_run_stands();
+}
+
+/// Whatever legal list of a heap's steps: a step finds on its word what the last step left there that wrote it, whoever made
+/// that one, or the word of the opening where none did. So an actor finds what it wrote itself, unless a later step wrote
+/// the same word.
+pub fn reads_see_writes()
+    ensures { (p : Planned) → ReadsSeeWrites p }
+{
+    a_step_changes_one_cell();
 }

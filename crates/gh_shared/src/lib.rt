@@ -32,6 +32,6 @@ pub use closing::Closed;
 pub use fault::OpenFault;
 pub use handle::Handle;
 pub use heap::Heap;
-pub use laws::answers_are_evers;
+pub use laws::{answers_are_evers, reads_see_writes};
 pub use machine::ActorMachine;
 pub use plan::{AnyActor, HeapPlan};
