@@ -22,6 +22,7 @@ pub mod Wishing
 pub mod OfScripts
 pub mod Awaited
 pub mod AllActors
+pub mod HavingRoom
 pub mod Within
 pub mod Explained
 pub mod Points

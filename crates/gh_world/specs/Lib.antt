@@ -14,6 +14,7 @@ pub mod Order
 pub mod Phases
 pub mod Points
 pub mod Processors
+pub mod Room
 pub mod RunVocabulary
 pub mod Runs
 pub mod Scans

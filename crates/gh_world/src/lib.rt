@@ -31,6 +31,7 @@ mod handshake;
 mod laws;
 mod numbers;
 mod progress;
+mod room;
 mod runner;
 mod turns;
 mod wishes;
@@ -49,6 +50,7 @@ pub use numbers::{
     processors_begin_few,
 };
 pub use progress::Progress;
+pub use room::every_list_has_room;
 pub use turns::{Next, total_of};
 pub use wishes::{most_cycles, wishes_of};
 pub use world::World;

@@ -1,0 +1,3 @@
+pub mod Counting
+pub mod Enough
+pub mod Rounds

@@ -1,0 +1,3 @@
+-- A grey work buffer with room, after every list.
+pub mod Hands
+pub mod Marked
