@@ -203,13 +203,13 @@ by_goroutine p (x ∷ more) each = (maker_stands p x.1 here, by_goroutine p more
 pub answers_stand : (p : Program) (report : ReportState) → IsReportOf p report → AllByRecursion (λ (x : ℕ × Answer). MakerStands p x.1) report.outcome.answers
 answers_stand p report r = by_goroutine p report.outcome.answers of_each where
   acted : List Answered
-  acted = acted_in p.shapes r.replayed.layout r.replayed.turns
+  acted = acted_in p.shapes r.layout r.steps
 
   all_answers : AllByRecursion (OwnAnswer p.shapes (length p.goroutines)) (map (λ (x : Answered). x.answer) acted)
   all_answers =
-      let e = r.replayed.explained in
+      let e = r.explained in
       subst (AllByRecursion (OwnAnswer p.shapes (length p.goroutines))) (sym e.answered)
       (all_own p.shapes (length p.goroutines) opening_ever (map (λ (x : Answered). x.op) acted) e.all (opening_own p.shapes (length p.goroutines)) (ops_own p.shapes (length p.goroutines) acted e.others) e.ever)
 
   of_each : (g : ℕ) → AllByRecursion (OwnAnswer p.shapes (length p.goroutines)) (answers_by g report.outcome.answers)
-  of_each g = subst (AllByRecursion (OwnAnswer p.shapes (length p.goroutines))) ((r.replayed.explained.each g).answered) (some_own p.shapes (length p.goroutines) (λ (x : Answered). is_statement_of g x.op) acted all_answers)
+  of_each g = subst (AllByRecursion (OwnAnswer p.shapes (length p.goroutines))) ((r.explained.each g).answered ∙ sym (r.answers g)) (some_own p.shapes (length p.goroutines) (λ (x : Answered). is_statement_of g x.op) acted all_answers)

@@ -1,13 +1,15 @@
 -- What a replay reports: what its run comes to, and in which order the lines stand.
 use Rattle.std.specs.Prelude.{◌≡◌, ℕ, ◌+◌, if◌then◌else◌, Bool, List, [], ◌∷◌, ◌++◌, length, Option, is_some}
 use Rattle.std.specs.List.{concat, flat_map, range_with_len}
+use Rattle.gh_base.specs.declared.layout.Layout.{Layout}
+use Rattle.gh_base.specs.declared.machine.Entry.{Entry}
+use Rattle.gh_base.specs.declared.operation.Op.{Op}
 use Rattle.gh_base.specs.declared.value.Answer.{Answer}
 use Rattle.gh_ever.specs.Lists.{Lists}
 use Rattle.gh_lines.specs.Text.{agrees_line, answers_by, has_line, Outcome, outcome_lines}
 use Rattle.gh_script.specs.Program.{Program}
 use Rattle.gh_replay.specs.declared.row.Row.{Row}
-use Rattle.gh_replay.specs.Plan.{Plan}
-use Rattle.gh_replay.specs.Replayed.{IsReplayed}
+use Rattle.gh_world.specs.Runs.{IsExplained}
 
 -- what a whole run comes to, how many goroutines the script has, and the heap that never frees, where that was run beside it
 pub record ReportState : Type 0 where
@@ -15,12 +17,14 @@ pub record ReportState : Type 0 where
   pub outcome : Outcome
   pub ever : Option Lists
 
--- the report is of a replay of this script
+-- The report is of a whole run of this script, whoever stepped when: goroutine by goroutine its answers are those that an explained list of steps comes to.
 pub record IsReportOf (p : Program) (report : ReportState) : Type 0 where
   pub goroutines_are : report.goroutines ≡ length p.goroutines
-  pub plan : Plan
-  pub budget : ℕ
-  pub replayed : IsReplayed p plan budget report.outcome
+  pub layout : Layout
+  pub steps : List (Entry Op)
+  pub outcome : Outcome
+  pub explained : IsExplained p layout steps outcome
+  pub answers : (g : ℕ) → answers_by g report.outcome.answers ≡ answers_by g outcome.answers
 
 -- the lines of a replay: those of what its run comes to, and where it was checked the line `agrees` behind them, which is all that a check has to say
 abbrev pub replay_lines : Program → Outcome → (checked : Bool) → List (List ℕ)

@@ -24,5 +24,6 @@ pub use fault::ReplayFault;
 pub use laws::{nothing_said_is_in_turn, one_outcome, others_take_turns};
 pub use list::{MOST_ITEMS, parse_list};
 pub use report::Report;
+pub use row::Row;
 pub use schedule::{Schedule, Turn, Until};
 pub use turns::replay;

@@ -1,8 +1,8 @@
-//! What a replay reports: the answers of the run, its cycles and what is live, and the lines that they make.
+//! What is reported of a run, of a replay or of one by threads: its answers, its cycles and what is live, and the lines that they make.
 //!
 //! Answers come in the order in which the statements end, one goroutine's among another's, and lines
 //! stand goroutine by goroutine. So the answers that have lines are put into the lines' order once,
-//! when the run is over, and in memory that was taken before its first turn: a line is then found
+//! when the run is over, and in memory that was taken before its first step: a line is then found
 //! without a search, and neither takes memory nor fails. A line is made where it is asked for, since
 //! the lines together are much larger than the answers.
 //!
@@ -52,8 +52,8 @@ impl Model for Report {
 impl Report {
     /// The report of these answers, each with its goroutine, to a script of so many goroutines, of these
     /// cycles and these totals, and of the heap that never frees beside the run, if there is one. `rows` is empty, and
-    /// has room for a row for each answer.
-    pub(crate) fn new(
+    /// has room for a row for each answer. It is one of a whole run of a script (`IsReportOf`) where each goroutine's answers are.
+    pub fn new(
         goroutines: u32,
         answers: Vec<(u32, Answer)>,
         mut rows: Vec<Row>,
@@ -107,8 +107,8 @@ impl Report {
 
     /// Fills the buffer with line `i`, counted from 0, which ends with LF: `name n answer`, goroutine
     /// by goroutine in the order of the script, each by its statements; then `cycle k marked M freed F`
-    /// for each cycle; then `live N bytes B`; and then `agrees`, where the replay was checked. `script` is the one that
-    /// was replayed, and `i` is below [`Report::lines`].
+    /// for each cycle; then `live N bytes B`; and then `agrees`, where a replay was checked. `script` is the one that
+    /// was run, and `i` is below [`Report::lines`].
     pub fn line(&self, script: &Script, i: u32, buf: &mut LineBuf)
         requires script { IsReportOf script.now self.now }
         requires below { i < length (replay_lines script.now self.now.outcome (is_checked self.now)) }

@@ -7,7 +7,7 @@ ghost use Rattle.gh_replay.specs.declared.fault.ReplayFault.TheVariants.{OutOfTu
 ghost use Rattle.gh_replay.specs.Check.{IsEverAfter};
 ghost use Rattle.gh_replay.specs.Places.{Ran};
 ghost use Rattle.gh_replay.specs.Replayed.{IsReplayed, IsUnfinished};
-ghost use Rattle.gh_replay.specs.Report.{is_checked};
+ghost use Rattle.gh_replay.specs.Report.{is_checked, IsReportOf};
 ghost use Rattle.gh_world.specs.Turns.{total_of};
 ghost use Rattle.gh_world.specs.After.{IsAfter};
 ghost use Rattle.gh_world.specs.World.{actors_of, layout_of, script_of};
@@ -42,6 +42,7 @@ pub fn replay(
 ) -> Result<Report, ReplayFault>
     ensures explained { IfOk result (λ report. IsReplayed script.now schedule budget report.outcome) }
     ensures goroutines { IfOk result (λ report. report.goroutines ≡ length script.now.goroutines) }
+    ensures of { IfOk result (IsReportOf script.now) }
     ensures checked { IfOk result (λ report. is_checked report ≡ check) }
     // Where it was checked, what is kept stands for the heap that never frees after the list of all turns.
     ensures ever { IfOk result (λ report. IfSome report.ever (IsEverAfter script.now schedule budget report.outcome)) }

@@ -76,6 +76,18 @@ returns-clause-explained c =
     (finished c.every_run_is_explained.ensures c.run.new.world c.args.script.now c.args.schedule c.args.budget c.run.new.answers.items c.is_well_formed.ensures
     (c.run.ensures.script ∙ c.in_ok-world.ensures.script) lays c.run.ensures.ran (c.in-None.ensures.whole refl))
 
+pub returns-clause-of : goal.returns-clause-of
+returns-clause-of c =
+    let explained = returns-clause-explained c in
+    record {
+      goroutines_are = c.new-in-None.ensures.goroutines ∙ c.goroutines-goroutines.ensures;
+      layout = explained.layout;
+      steps = explained.turns;
+      outcome = c.new-in-None.result.outcome;
+      explained = explained.explained;
+      answers = λ g. refl;
+    }
+
 pub returns-clause-runs_out : goal.returns-clause-runs_out
 returns-clause-runs_out c = λ u.
     let lays : LaysOut c.args.script.now (layout_of c.run.new.world) = subst (λ (l : Layout). LaysOut c.args.script.now l) (sym c.run.ensures.layout) c.in_ok-world.ensures.layout in

@@ -1,0 +1,139 @@
+-- What a processor has begun and was given, once an operation has run to its end.
+use Rattle.std.proofs.Common.{◌≡◌, ℕ, Bool, true, false, not, cond, eq-eqb, List, [], ◌∷◌, ◌++◌, reverse, Option, Some, None, refl, sym, ap, subst, ◌∙◌}
+use Rattle.std.specs.Prelude.{is_some}
+use Rattle.std.specs.List.{filter}
+use Rattle.std.specs.Option.{option_to_list}
+use Rattle.gh_base.specs.declared.machine.Entry.{Entry}
+use Rattle.gh_base.specs.declared.operation.Op.{Op}
+use Rattle.gh_base.specs.declared.shape.Shape.{Shape}
+use Rattle.gh_base.specs.declared.value.Answer.{Answer}
+use Rattle.gh_base.specs.Lists.{Kind, started, state_of}
+use Rattle.gh_base.specs.Orders.{given_by}
+use Rattle.gh_mutator.specs.declared.processor.Processor.{Processor}
+use Rattle.gh_mutator.specs.declared.task.Task.{Task}
+use Rattle.gh_mutator.specs.declared.task.Task.TheVariants as task
+use Rattle.gh_mutator.specs.Deeds.{deeds, given_at, has_point, processor_kind}
+use Rattle.gh_mutator.specs.Listing.{begins as begins_by, begins_at, gives_at, is_busy_at, takes, takes_at}
+use Rattle.gh_mutator.specs.Mutating as mutating
+use Rattle.gh_mutator.specs.Mutating.{Mutating}
+use Rattle.gh_mutator.specs.Serving.{has_left_at}
+use Rattle.gh_shared.specs.declared.machine.ActorMachine.{ActorMachine}
+use Rattle.gh_shared.specs.declared.machine.ActorMachine.TheVariants.{Runs}
+use Rattle.gh_shared.specs.Machines.{answered, asks, gives, goes}
+use Rattle.gh_shared.specs.Plans.{Planned}
+use Rattle.gh_shared.proofs.Keeping.{runs_after}
+use Rattle.gh_table.specs.Runs.{begun_next, entries_made, Gave, machine_after}
+use Rattle.gh_world.specs.Order.{begun_in}
+use Rattle.gh_world.proofs.StepFacts.{step_facts}
+use Rattle.gh_world.proofs.Explained.Steps.{begins_pointed, given_is, is_pointed, stays_pointed}
+
+-- ---- steps of a processor that rests
+
+rests_on : (shapes : List Shape) (m : Processor) (t : Task) (found : ℕ) → is_busy_at t ≡ false → takes_at shapes m t found ≡ m
+rests_on shapes m task.Idle found e = refl
+rests_on shapes m task.Left found e = refl
+rests_on shapes m _ found e = absurd cc
+
+-- one that has a step to make behind a step had one before it
+busy_before : (m : Mutating) (found : ℕ) → mutating.is_busy (mutating.goes m found) ≡ true → mutating.is_busy m ≡ true
+busy_before m found busy = go (mutating.is_busy m) refl where
+  go : (b : Bool) → mutating.is_busy m ≡ b → mutating.is_busy m ≡ true
+  go true e = e
+  go false e = let same = ap (λ (n : Processor). is_busy_at n.task) (rests_on m.shapes m.processor m.processor.task found e) in absurd (let no : true ≡ false = sym busy ∙ same ∙ e in cc)
+
+-- and so had one whose step ends an operation
+gives_busy : (m : Processor) (t : Task) (found : ℕ) (x : Answer) → gives_at m t found ≡ Some x → is_busy_at t ≡ true
+gives_busy m task.Idle found x e = absurd cc
+gives_busy m task.Left found x e = absurd cc
+gives_busy m _ found x e = refl
+
+not_some : (x : Option Answer) → true ≡ not (is_some x) → x ≡ None
+not_some None e = refl
+not_some (Some a) e = absurd cc
+
+-- a step behind which there is a further one ends nothing
+ends_none : (m : Mutating) (found : ℕ) → mutating.is_busy (mutating.goes m found) ≡ true → mutating.gives m found ≡ None
+ends_none m found busy = not_some (mutating.gives m found) (sym busy ∙ (step_facts m.shapes m.processor m.processor.task found (busy_before m found busy)).ends)
+
+answered_so : (x : Option Answer) (a : Answer) → answered x ≡ Some (Some a) → x ≡ Some a
+answered_so None a e = absurd cc
+answered_so (Some b) a e = let same : b ≡ a = cc in ap Some same
+
+-- ---- the entries of an operation
+
+module _ (a : ℕ) (m : Mutating) (o : Op) (own : List (Entry Op)) where
+  abbrev pub Made : List ℕ → List (Entry Op)
+  Made ns = entries_made asks goes a (Some o) (Runs (mutating.begins m o)) ns ++ own
+
+  pub begun_more : (founds : List ℕ) (x : Answer) → Gave goes gives (Runs (mutating.begins m o)) founds (Some x) → begun_in (Made founds) ≡ o ∷ begun_in own
+  begun_more [] x gave = absurd gave
+  begun_more (n ∷ ns) x gave = go n ns where
+    go : (n : ℕ) (ns : List ℕ) → begun_in (Made (n ∷ ns)) ≡ o ∷ begun_in own
+    go n [] = refl
+    go n (k ∷ ks) = go k ks
+
+module _ (p : Planned) (a : ℕ) (m : Mutating) (o : Op) (own : List (Entry Op)) (shapes : m.shapes ≡ p.script.shapes) (state : state_of (processor_kind p.script.shapes p.layout) a own ≡ m.processor) (there : has_left_at m.processor.task ≡ false) where
+  abbrev kind : Kind Processor Op
+  kind = processor_kind p.script.shapes p.layout
+
+  -- the machine after these steps
+  abbrev later : List ℕ → Mutating
+  later ns = machine_after mutating.goes (mutating.begins m o) ns
+
+  abbrev made : List ℕ → List (Entry Op)
+  made ns = Made a m o own ns
+
+  abbrev given : List (Entry Op) → List Answer
+  given es = given_by kind (deeds p.script.shapes) a es
+
+  same_shapes : (ns : List ℕ) → (later ns).shapes ≡ p.script.shapes
+  same_shapes [] = shapes
+  same_shapes (n ∷ ns) = same_shapes ns
+
+  begun_so : (b : Bool) → has_left_at m.processor.task ≡ b → b ≡ false → cond b m.processor (begins_by p.script.shapes m.processor o) ≡ begins_by m.shapes m.processor o
+  begun_so true e f = absurd cc
+  begun_so false e f = ap (λ (xs : List Shape). begins_by xs m.processor o) (sym shapes)
+
+  -- the processor of each entry before its step
+  before : (ns : List ℕ) → started kind (begun_next (Some o) ns) (state_of kind a (made ns)) ≡ (later ns).processor
+  before [] = ap (λ (x : Processor). kind.begins x o) state ∙ begun_so (has_left_at m.processor.task) refl there
+  before (n ∷ ns) =
+      ap (λ (b : Bool). cond b (kind.takes (started kind (begun_next (Some o) ns) (state_of kind a (made ns))) n) (state_of kind a (made ns))) (eq-eqb a a refl)
+      ∙ ap (λ (x : Processor). kind.takes x n) (before ns)
+      ∙ ap (λ (xs : List Shape). takes xs (later ns).processor n) (sym (same_shapes ns))
+
+  -- what one entry more is given
+  one_given : (n : ℕ) (ns : List ℕ) → given (made (n ∷ ns)) ≡ option_to_list (given_at (later ns).processor.task (mutating.gives (later ns) n)) ++ given (made ns)
+  one_given n ns =
+      let e = ap (λ (b : Bool). cond b (option_to_list (given_at (started kind (begun_next (Some o) ns) (state_of kind a (made ns))).task (gives_at (started kind (begun_next (Some o) ns) (state_of kind a (made ns))) (started kind (begun_next (Some o) ns) (state_of kind a (made ns))).task n)) ++ given (made ns)) (given (made ns))) (eq-eqb a a refl) in
+      e ∙ ap (λ (x : Processor). option_to_list (given_at x.task (gives_at x x.task n)) ++ given (made ns)) (before ns)
+
+  -- while the operation has a further step
+  record GoesOn (ns : List ℕ) : Type 0 where
+    pointed : is_pointed (later ns).processor.task ≡ has_point o
+    none : given (made ns) ≡ given own
+
+  goes_on : (ns : List ℕ) → mutating.is_busy (later ns) ≡ true → GoesOn ns
+  goes_on [] busy = record { pointed = begins_pointed m.shapes m.processor o busy; none = refl }
+  goes_on (n ∷ ns) busy =
+      let was = busy_before (later ns) n busy in
+      let r = goes_on ns was in
+      let no = ends_none (later ns) n busy in
+      record {
+        pointed = stays_pointed (later ns).shapes (later ns).processor (later ns).processor.task n was busy ∙ r.pointed;
+        none = one_given n ns ∙ ap (λ (x : Option Answer). option_to_list x ++ given (made ns)) (ap (given_at (later ns).processor.task) no ∙ given_is (later ns).processor.task None ∙ same_none (is_pointed (later ns).processor.task)) ∙ r.none;
+      }
+    where
+      same_none : (b : Bool) → cond {A = Option Answer} b None None ≡ None
+      same_none true = refl
+      same_none false = refl
+
+  -- its entries begin it, and it was given its answer, where it has a point
+  pub given_more : (founds : List ℕ) (x : Answer) → Gave goes gives (Runs (mutating.begins m o)) founds (Some x) → given (made founds) ≡ option_to_list (cond (has_point o) (Some x) None) ++ given own
+  given_more [] x gave = absurd gave
+  given_more (n ∷ ns) x gave =
+      let gives_it : mutating.gives (later ns) n ≡ Some x = answered_so (mutating.gives (later ns) n) x (subst (λ (y : ActorMachine). gives y n ≡ Some (Some x)) (runs_after (mutating.begins m o) ns) gave) in
+      let r = goes_on ns (gives_busy (later ns).processor (later ns).processor.task n x gives_it) in
+      one_given n ns
+      ∙ ap (λ (y : Option Answer). option_to_list y ++ given (made ns)) (ap (given_at (later ns).processor.task) gives_it ∙ given_is (later ns).processor.task (Some x) ∙ ap (λ (b : Bool). cond b (Some x) None) r.pointed)
+      ∙ ap (λ (ys : List Answer). option_to_list (cond (has_point o) (Some x) None) ++ ys) r.none

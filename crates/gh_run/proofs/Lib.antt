@@ -1,0 +1,11 @@
+pub mod Answered
+pub mod Carried
+pub mod Explaining
+pub mod Fitting
+pub mod Given
+pub mod Goroutines
+pub mod Places
+pub mod Seats
+pub mod Starting
+pub mod Turns
+pub mod Whole

@@ -1,0 +1,8 @@
+use Rattle.std.proofs.Common.{◌≡◌}
+use Rattle.std.specs.Vec.{vec_capacity}
+use Rattle.gh_run.specs.Jobs.{IsBetweenTurns}
+use Rattle.gh_shared.specs.Handles.{number_of}
+use Rattle.gh_run.proofs.turning.take_turns.Given as goal
+
+abbrev pub invariant-loop : goal.invariant-loop
+invariant-loop g l = IsBetweenTurns l.script l.heap l.h l.progress l.answers.items (vec_capacity l.answers) × (number_of l.h ≡ number_of l.initial.h)
