@@ -21,6 +21,10 @@ usage() {
 usage: goheap.sh replay [--seed n] [--list text] [--budget n] [--check] < file
          runs the script of goroutines in the file, and writes a line for each answer. A list says who steps first, by items that are
          separated by commas: A*n gives actor A n steps, A@m lets it step until its marks are m, A!n gives n turns to others than A
+       goheap.sh run < file
+         runs the script with a thread for each processor, each worker and the coordinator, and writes the same lines
+       goheap.sh gen --seed n --size n
+         writes a script of four goroutines with size / 4 statements each, drawn from the seed; goheap.sh soak with these words runs it in threads
        goheap.sh example name
          runs examples/name.heap, with the words that its second line has for it
        goheap.sh steps [--list text] < file
@@ -137,6 +141,20 @@ replay() {
   run_and_end replay "$@"
 }
 
+threads() {
+  case $* in '' | --) ;; *) refuse "'$*' is not what run takes, which is nothing but a script" ;; esac
+  keep_text
+  choose_program goheap
+  run_and_end run "$@"
+}
+
+# Of gen and soak the program alone reads the words.
+generated() {
+  text=''
+  choose_program goheap
+  run_and_end "$@" </dev/null
+}
+
 example() {
   local script words=()
   script=$here/examples/$(basename "${1-}" .heap).heap
@@ -186,6 +204,8 @@ draw() {
 
 case "${1-}" in
   replay) replay "${@:2}" ;;
+  run) threads "${@:2}" ;;
+  gen | soak) generated "$@" ;;
   example) example "${@:2}" ;;
   steps) steps "${@:2}" ;;
   draw) draw "${@:2}" ;;

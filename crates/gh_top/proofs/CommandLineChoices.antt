@@ -1,196 +1,217 @@
--- The parser's line of the words behind `replay` is what their choices ask for.
-use Rattle.std.proofs.Common.{◌≡◌, ◌∙◌, ◌&&◌, ◌++◌, ℕ, Bool, true, false, not, refl, sym, ap, ap₂, List, [], ◌∷◌, Option, Some, None, codes}
+-- The parser's line of the words behind a subcommand is what their choices ask for.
+use Rattle.std.proofs.Common.{◌≡◌, ◌∙◌, ◌&&◌, ◌++◌, ℕ, Bool, true, false, not, refl, sym, ap, ap₂, List, [], ◌∷◌, Option, Some, None}
 use Rattle.std.specs.Prelude.{if◌then◌else◌, option_and_then}
+use Rattle.std.specs.Option.{option_map_or}
 use Rattle.std.specs.Str.{bytes_eq}
 use Rattle.clap.specs.Lexer.{long_of}
 use Rattle.clap.specs.Faults.{settle_fault, use_fault}
 use Rattle.clap.specs.Walk.{Held, Row, has_row, idle, option, reacted, settled, used}
 use Rattle.clap.specs.declared.parser.matches.ValueSource.TheVariants.{CommandLine}
-use Rattle.gh_top.specs.CommandLine.{Choice, Text, begun, choices, flag_value, is_chosen, is_flag, is_value, replay_of, takes, with_choice}
+use Rattle.gh_top.specs.CommandLine.{AnyText, Choice, LineOption, NoValue, Number, Reading, Text, Value, asked_for, begun, choices, flag_value, is_chosen, is_flag, is_none, is_taken_by, is_value, option_named, takes, with_choice}
 use Rattle.gh_top.specs.CommandLineParser.{passes}
 use Rattle.gh_top.specs.declared.line.Line.{Line}
-use Rattle.gh_top.proofs.CommandLineEnd.{check_built, end_fails, end_good, line_from, rules}
+use Rattle.gh_top.proofs.CommandLineEnd.{IsRead, Sub, end_fails, end_good, line_from}
 use Rattle.gh_top.proofs.CommandLineRows.{has_made, made_more, row, rows_made}
-use Rattle.gh_top.proofs.CommandLineWalk.{Named, Which, after_end, alone_line, at, at_alone, at_end, at_flag, at_flag_given, at_given, at_letter, at_other, at_plain, at_value, dashes, doomed, flag, flag_line, flag_passes, flag_used, from_start, given_line, held, known, letter_of, long_fails, name_of, parsed_replay, rule_of, settle_is, the_budget, the_list, the_seed, settled_is, trailed, trailed_fails, unknown, use_passes, used_is, wanting, wanting_fails, which, with_value}
+use Rattle.gh_top.proofs.CommandLineRules.{built_option, flag_passes, flag_used, rules, use_passes, used_is}
+use Rattle.gh_top.proofs.CommandLineWalk.{Flag, Valued, Which, after_end, alone_line, at, at_alone, at_end, at_flag, at_flag_given, at_given, at_letter, at_other, at_plain, at_value, dashes, doomed, flag, flag_line, from_start, given_line, held, known, letter_of, long_fails, parsed, settle_is, settled_is, trailed, trailed_fails, unknown, wanting, wanting_fails, which, with_value}
 
 -- the line that the choices of the words ask for, behind those that are made
-abbrev asked : List Choice → Option Text → List Text → Option Line
-asked made waiting words = option_and_then replay_of (choices made waiting words)
+abbrev pub asked : Sub → List Choice → Option Text → List Text → Option Line
+asked s made waiting words = option_and_then s.of (choices s.options made waiting words)
+
+-- that of a word and the rest, where the word leads to these choices
+abbrev pub asked_by : Sub → List Text → Option Reading → Option Line
+asked_by s rest = option_and_then (λ reading. asked s reading.0 reading.1 rest)
 
 abbrev more : List Choice → Text → Text → List Choice
 more made name value = made ++ (name, value) ∷ []
 
--- a use of an option, by whether it is a choice
-choice_is : (o : Named) (made : List Choice) (v : Text) (rows : List Row) → rows ≡ rows_made made
-    → (not (has_row (name_of o) rows) && takes (name_of o) v) ≡ (not (is_chosen (name_of o) made) && takes (name_of o) v)
-choice_is o made v rows is = ap (λ (b : Bool). not b && takes (name_of o) v) (ap (has_row (name_of o)) is ∙ has_made (name_of o) made)
+-- the value is one choice more
+abbrev takes_it : Sub → LineOption → List Choice → Text → Bool
+takes_it s o made v = not (is_chosen o.name made) && takes s.options o.name v
+
+choice_is : (s : Sub) (o : LineOption) → Valued s o → (made : List Choice) (v : Text) (rows : List Row) → rows ≡ rows_made made
+    → passes (use_fault false (built_option o) (v ∷ []) rows) ≡ takes_it s o made v
+choice_is s o is made v rows same =
+    let took : takes s.options o.name v ≡ is_taken_by o.value v = ap (λ (found : Option LineOption). option_map_or (λ (p : LineOption). is_taken_by p.value v) found false) is.named in
+    use_passes o rows v is.valued
+    ∙ ap₂ (λ (a b : Bool). not a && b) (ap (has_row o.name) same ∙ has_made o.name made) (sym took)
 
 not_chosen : (a b : Bool) → (not a && b) ≡ true → a ≡ false
 not_chosen false b e = refl
 not_chosen true b e = absurd cc
 
-used_more : (o : Named) (made : List Choice) (v : Text) (rows : List Row) → rows ≡ rows_made made → (not (is_chosen (name_of o) made) && takes (name_of o) v) ≡ true
-    → used (rule_of o) (v ∷ []) rows ≡ rows_made (more made (name_of o) v)
-used_more o made v rows is e =
-    ap (used (rule_of o) (v ∷ [])) is
-    ∙ used_is o v (rows_made made) (has_made (name_of o) made ∙ not_chosen (is_chosen (name_of o) made) (takes (name_of o) v) e)
-    ∙ sym (made_more made (name_of o, v))
+used_more : (s : Sub) (o : LineOption) → Valued s o → (made : List Choice) (v : Text) (rows : List Row) → rows ≡ rows_made made → takes_it s o made v ≡ true
+    → used (built_option o) (v ∷ []) rows ≡ rows_made (more made o.name v)
+used_more s o is made v rows same e =
+    ap (used (built_option o) (v ∷ [])) same
+    ∙ used_is o v (rows_made made) is.valued (has_made o.name made ∙ not_chosen (is_chosen o.name made) (takes s.options o.name v) e)
+    ∙ sym (made_more made (o.name, v))
 
--- an option that is unknown takes nothing
-unknown_chooses : (made : List Choice) (n v : Text) → bytes_eq (codes "budget") n ≡ false → bytes_eq (codes "seed") n ≡ false → bytes_eq (codes "list") n ≡ false → with_choice made n v ≡ None
-unknown_chooses made n v b s t = rw (b, s, t) (nothing (not (is_chosen n made)))
+-- an option that is unknown takes nothing, and no more does a flag
+unknown_takes : (s : Sub) (n v : Text) → option_named s.options n ≡ None → takes s.options n v ≡ false
+unknown_takes s n v u = rw u refl
+
+flag_takes : (s : Sub) (o : LineOption) → Flag s o → (v : Text) → takes s.options o.name v ≡ false
+flag_takes s o is v = rw is.named (go o.value is.none)
+  where
+    go : (w : Value) → is_none w ≡ true → is_taken_by w v ≡ false
+    go (Number least most) e = absurd cc
+    go AnyText e = absurd cc
+    go NoValue e = refl
+
+chooses_none : (s : Sub) (made : List Choice) (n v : Text) → takes s.options n v ≡ false → with_choice s.options made n v ≡ None
+chooses_none s made n v t = rw t (nothing (not (is_chosen n made)))
   where
     nothing : (c : Bool) → (if c && false then Some (more made n v) else None) ≡ None
     nothing true = refl
     nothing false = refl
 
-unknown_waits : (made : List Choice) (n : Text) (words : List Text) → bytes_eq (codes "budget") n ≡ false → bytes_eq (codes "seed") n ≡ false → bytes_eq (codes "list") n ≡ false → asked made (Some n) words ≡ None
-unknown_waits made n [] b s t = refl
-unknown_waits made n (word ∷ rest) b s t = go (bytes_eq word dashes) refl (is_value word) refl rest
+unknown_waits : (s : Sub) (made : List Choice) (n : Text) (words : List Text) → option_named s.options n ≡ None → asked s made (Some n) words ≡ None
+unknown_waits s made n [] u = refl
+unknown_waits s made n (word ∷ rest) u = go (bytes_eq word dashes) refl (is_value word) refl rest
   where
-    go : (e : Bool) → bytes_eq word dashes ≡ e → (v : Bool) → is_value word ≡ v → (rest : List Text) → asked made (Some n) (word ∷ rest) ≡ None
+    chooses : with_choice s.options made n word ≡ None
+    chooses = chooses_none s made n word (unknown_takes s n word u)
+
+    go : (e : Bool) → bytes_eq word dashes ≡ e → (v : Bool) → is_value word ≡ v → (rest : List Text) → asked s made (Some n) (word ∷ rest) ≡ None
     go true e v is [] = rw e refl
     go true e v is (x ∷ xs) = rw e refl
-    go false e true is rest = rw (e, is, unknown_chooses made n word b s t) refl
+    go false e true is rest = rw (e, is, chooses) refl
     go false e false is rest = rw (e, is) refl
 
--- no other option is the flag
-no_flag : (o : Named) → is_flag (name_of o) ≡ false
-no_flag the_budget = refl
-no_flag the_seed = refl
-no_flag the_list = refl
+is_a_flag : (s : Sub) (o : LineOption) (b : Bool) → option_named s.options o.name ≡ Some o → is_none o.value ≡ b → is_flag s.options o.name ≡ b
+is_a_flag s o b named is = ap (λ (found : Option LineOption). option_map_or (λ (p : LineOption). is_none p.value) found false) named ∙ is
 
 -- what is held stands for the choices
-record Stands (made : List Choice) (h : Held) : Type 0 where
-  good : passes (settle_fault rules false h) ≡ true
-  rows : (settled rules h).rows ≡ rows_made made
+record Stands (s : Sub) (made : List Choice) (h : Held) : Type 0 where
+  good : passes (settle_fault (rules s.options) false h) ≡ true
+  rows : (settled (rules s.options) h).rows ≡ rows_made made
   skip : h.skip ≡ 0
 
-stands_value : (o : Named) (made : List Choice) (v : Text) → (not (is_chosen (name_of o) made) && takes (name_of o) v) ≡ true → Stands (more made (name_of o) v) (with_value o (rows_made made) v)
-stands_value o made v e = record {
-  good = ap passes (settle_is o (rows_made made) (v ∷ [])) ∙ use_passes o (rows_made made) v ∙ choice_is o made v (rows_made made) refl ∙ e;
-  rows = settled_is o (rows_made made) (v ∷ []) ∙ used_more o made v (rows_made made) refl e;
+stands_value : (s : Sub) (o : LineOption) → Valued s o → (made : List Choice) (v : Text) → takes_it s o made v ≡ true → Stands s (more made o.name v) (with_value o (rows_made made) v)
+stands_value s o is made v e = record {
+  good = ap passes (settle_is s o is (rows_made made) (v ∷ [])) ∙ choice_is s o is made v (rows_made made) refl ∙ e;
+  rows = settled_is s o is (rows_made made) (v ∷ []) ∙ used_more s o is made v (rows_made made) refl e;
   skip = refl;
 }
 
-fails_value : (o : Named) (made : List Choice) (v : Text) → (not (is_chosen (name_of o) made) && takes (name_of o) v) ≡ false → passes (settle_fault rules false (with_value o (rows_made made) v)) ≡ false
-fails_value o made v e = ap passes (settle_is o (rows_made made) (v ∷ [])) ∙ use_passes o (rows_made made) v ∙ choice_is o made v (rows_made made) refl ∙ e
+fails_value : (s : Sub) (o : LineOption) → Valued s o → (made : List Choice) (v : Text) → takes_it s o made v ≡ false → passes (settle_fault (rules s.options) false (with_value o (rows_made made) v)) ≡ false
+fails_value s o is made v e = ap passes (settle_is s o is (rows_made made) (v ∷ [])) ∙ choice_is s o is made v (rows_made made) refl ∙ e
 
 -- ---- the two places in the walk
 
-abbrev FromIdle : List Text → Type 0
-FromIdle words = (made : List Choice) (h : Held) → Stands made h → line_from (at idle h) words ≡ asked made None words
+abbrev FromIdle : Sub → List Text → Type 0
+FromIdle s words = (made : List Choice) (h : Held) → Stands s made h → line_from s (at idle h) words ≡ asked s made None words
 
-abbrev FromWanting : List Text → Type 0
-FromWanting words = (made : List Choice) (o : Named) → line_from (wanting o (rows_made made)) words ≡ asked made (Some (name_of o)) words
+abbrev FromWanting : Sub → List Text → Type 0
+FromWanting s words = (made : List Choice) (o : LineOption) → Valued s o → line_from s (wanting o (rows_made made)) words ≡ asked s made (Some o.name) words
 
 -- `--` ends the words
-at_dashes : (made : List Choice) (h : Held) (word : Text) (rest : List Text) → Stands made h → bytes_eq word dashes ≡ true → line_from (at idle h) (word ∷ rest) ≡ asked made None (word ∷ rest)
-at_dashes made h word rest st e = at_end idle h word rest e ∙ go rest
+at_dashes : (s : Sub) → IsRead s → (made : List Choice) (h : Held) (word : Text) (rest : List Text) → Stands s made h → bytes_eq word dashes ≡ true
+    → line_from s (at idle h) (word ∷ rest) ≡ asked s made None (word ∷ rest)
+at_dashes s read made h word rest st e = at_end s idle h word rest e ∙ go rest
   where
-    go : (rest : List Text) → line_from (trailed idle h) rest ≡ asked made None (word ∷ rest)
-    go [] = end_good (trailed idle h) made st.good st.rows ∙ rw e refl
-    go (x ∷ xs) = after_end idle h x xs ∙ rw e refl
+    go : (rest : List Text) → line_from s (trailed idle h) rest ≡ asked s made None (word ∷ rest)
+    go [] = end_good s read (trailed idle h) made st.good st.rows ∙ rw e refl
+    go (x ∷ xs) = after_end s idle h x xs ∙ rw e refl
 
-given_is : (o : Named) (made : List Choice) (h : Held) (v : Text) (rest : List Text) → Stands made h → FromIdle rest
-    → given_line o h v rest ≡ option_and_then (λ (reading : List Choice × Option Text). asked reading.0 reading.1 rest) (begun made (name_of o, Some v))
-given_is o made h v rest st idle_is = go (not (is_chosen (name_of o) made) && takes (name_of o) v) refl
+given_is : (s : Sub) (o : LineOption) → Valued s o → (made : List Choice) (h : Held) (v : Text) (rest : List Text) → Stands s made h → FromIdle s rest
+    → given_line s o h v rest ≡ asked_by s rest (begun s.options made (o.name, Some v))
+given_is s o is made h v rest st idle_is = go (takes_it s o made v) refl
   where
-    uses : passes (use_fault false (rule_of o) (v ∷ []) (settled rules h).rows) ≡ (not (is_chosen (name_of o) made) && takes (name_of o) v)
-    uses = use_passes o (settled rules h).rows v ∙ choice_is o made v (settled rules h).rows st.rows
+    uses : passes (use_fault false (built_option o) (v ∷ []) (settled (rules s.options) h).rows) ≡ takes_it s o made v
+    uses = choice_is s o is made v (settled (rules s.options) h).rows st.rows
 
-    go : (b : Bool) → (not (is_chosen (name_of o) made) && takes (name_of o) v) ≡ b
-        → given_line o h v rest ≡ option_and_then (λ (reading : List Choice × Option Text). asked reading.0 reading.1 rest) (begun made (name_of o, Some v))
+    go : (b : Bool) → takes_it s o made v ≡ b → given_line s o h v rest ≡ asked_by s rest (begun s.options made (o.name, Some v))
     go true e =
-        rw (st.good, uses, e) (idle_is (more made (name_of o) v) (reacted rules (rule_of o) (v ∷ []) h) (record {
+        rw (st.good, uses, e) (idle_is (more made o.name v) (reacted (rules s.options) (built_option o) (v ∷ []) h) (record {
           good = refl;
-          rows = used_more o made v (settled rules h).rows st.rows e;
+          rows = used_more s o is made v (settled (rules s.options) h).rows st.rows e;
           skip = st.skip;
         }))
     go false e = rw (st.good, uses, e) refl
 
-flag_is : (made : List Choice) (h : Held) (rest : List Text) → Stands made h → FromIdle rest
-    → flag_line h rest ≡ option_and_then (λ (reading : List Choice × Option Text). asked reading.0 reading.1 rest) (begun made (codes "check", None))
-flag_is made h rest st idle_is = go (is_chosen (codes "check") made) refl
+flag_is : (s : Sub) (o : LineOption) → Flag s o → (made : List Choice) (h : Held) (rest : List Text) → Stands s made h → FromIdle s rest
+    → flag_line s o h rest ≡ asked_by s rest (begun s.options made (o.name, None))
+flag_is s o is made h rest st idle_is = go (is_chosen o.name made) refl
   where
-    there : has_row (codes "check") (settled rules h).rows ≡ is_chosen (codes "check") made
-    there = ap (has_row (codes "check")) st.rows ∙ has_made (codes "check") made
+    there : has_row o.name (settled (rules s.options) h).rows ≡ is_chosen o.name made
+    there = ap (has_row o.name) st.rows ∙ has_made o.name made
 
-    uses : passes (use_fault false check_built [] (settled rules h).rows) ≡ not (is_chosen (codes "check") made)
-    uses = flag_passes (settled rules h).rows ∙ ap not there
+    uses : passes (use_fault false (built_option o) [] (settled (rules s.options) h).rows) ≡ not (is_chosen o.name made)
+    uses = flag_passes o (settled (rules s.options) h).rows is.none ∙ ap not there
 
-    go : (b : Bool) → is_chosen (codes "check") made ≡ b
-        → flag_line h rest ≡ option_and_then (λ (reading : List Choice × Option Text). asked reading.0 reading.1 rest) (begun made (codes "check", None))
-    go true e = rw (st.good, uses, e) refl
+    go : (b : Bool) → is_chosen o.name made ≡ b → flag_line s o h rest ≡ asked_by s rest (begun s.options made (o.name, None))
+    go true e = rw (st.good, uses, is_a_flag s o true is.named is.none, e) refl
     go false e =
-        rw (st.good, uses, e) (idle_is (more made (codes "check") flag_value) (reacted rules check_built [] h) (record {
+        rw (st.good, uses, is_a_flag s o true is.named is.none, e) (idle_is (more made o.name flag_value) (reacted (rules s.options) (built_option o) [] h) (record {
           good = refl;
-          rows = flag_used (settled rules h).rows (there ∙ e) ∙ ap (λ (rows : List Row). rows ++ row CommandLine (codes "check") flag_value ∷ []) st.rows ∙ sym (made_more made (codes "check", flag_value));
+          rows = flag_used o (settled (rules s.options) h).rows is.none (there ∙ e)
+              ∙ ap (λ (rows : List Row). rows ++ row CommandLine o.name flag_value ∷ []) st.rows ∙ sym (made_more made (o.name, flag_value));
           skip = st.skip;
         }))
 
-alone_is : (o : Named) (made : List Choice) (h : Held) (rest : List Text) → Stands made h → FromWanting rest → alone_line o h rest ≡ asked made (Some (name_of o)) rest
-alone_is o made h rest st wanting_is =
-    ap (λ (b : Bool). if b then line_from (at (option (name_of o)) (record (settled rules h) { pending = Some (name_of o, []) })) rest else None) st.good
-    ∙ ap₂ (λ (rows : List Row) (skip : ℕ). line_from (at (option (name_of o)) (record { rows = rows; pending = Some (name_of o, []); skip = skip })) rest) st.rows st.skip
-    ∙ wanting_is made o
+alone_is : (s : Sub) (o : LineOption) → Valued s o → (made : List Choice) (h : Held) (rest : List Text) → Stands s made h → FromWanting s rest → alone_line s o h rest ≡ asked s made (Some o.name) rest
+alone_is s o is made h rest st wanting_is =
+    ap (λ (b : Bool). if b then line_from s (at (option o.name) (record (settled (rules s.options) h) { pending = Some (o.name, []) })) rest else None) st.good
+    ∙ ap₂ (λ (rows : List Row) (skip : ℕ). line_from s (at (option o.name) (record { rows = rows; pending = Some (o.name, []); skip = skip })) rest) st.rows st.skip
+    ∙ wanting_is made o is
 
-asked_next : (made : List Choice) (word : Text) (rest : List Text) (l : Option (Text × Option Text)) → bytes_eq word dashes ≡ false → long_of word ≡ l
-    → asked made None (word ∷ rest) ≡ option_and_then (λ (reading : List Choice × Option Text). asked reading.0 reading.1 rest) (option_and_then (begun made) l)
-asked_next made word rest l e is = rw (e, is) (go (option_and_then (begun made) l))
+asked_next : (s : Sub) (made : List Choice) (word : Text) (rest : List Text) (l : Option (Text × Option Text)) → bytes_eq word dashes ≡ false → long_of word ≡ l
+    → asked s made None (word ∷ rest) ≡ asked_by s rest (option_and_then (begun s.options made) l)
+asked_next s made word rest l e is = rw (e, is) (go (option_and_then (begun s.options made) l))
   where
-    go : (o : Option (List Choice × Option Text)) → option_and_then replay_of (option_and_then (λ (reading : List Choice × Option Text). choices reading.0 reading.1 rest) o)
-        ≡ option_and_then (λ (reading : List Choice × Option Text). asked reading.0 reading.1 rest) o
+    go : (o : Option Reading) → option_and_then s.of (option_and_then (λ (reading : Reading). choices s.options reading.0 reading.1 rest) o) ≡ asked_by s rest o
     go None = refl
     go (Some reading) = refl
 
-long_is : (made : List Choice) (h : Held) (word : Text) (rest : List Text) (n : Text) (v : Option Text) → Which n → Stands made h → FromIdle rest → FromWanting rest
-    → bytes_eq word dashes ≡ false → long_of word ≡ Some (n, v)
-    → line_from (at idle h) (word ∷ rest) ≡ option_and_then (λ (reading : List Choice × Option Text). asked reading.0 reading.1 rest) (begun made (n, v))
-long_is made h word rest n None (unknown b s t c) st idle_is wanting_is e l = at_other idle h word rest (n, None) e l b s t c ∙ rw c (sym (unknown_waits made n rest b s t))
-long_is made h word rest n (Some v) (unknown b s t c) st idle_is wanting_is e l = at_other idle h word rest (n, Some v) e l b s t c ∙ rw (unknown_chooses made n v b s t) refl
-long_is made h word rest _ None flag st idle_is wanting_is e l = at_flag idle h word rest e l ∙ flag_is made h rest st idle_is
-long_is made h word rest _ (Some v) flag st idle_is wanting_is e l = at_flag_given idle h word rest v e l ∙ rw (unknown_chooses made (codes "check") v refl refl refl) refl
-long_is made h word rest _ None (known o) st idle_is wanting_is e l = at_alone o idle h word rest e l ∙ rw (no_flag o) (alone_is o made h rest st wanting_is)
-long_is made h word rest _ (Some v) (known o) st idle_is wanting_is e l = at_given o idle h word rest v e l ∙ given_is o made h v rest st idle_is
+long_is : (s : Sub) (made : List Choice) (h : Held) (word : Text) (rest : List Text) (n : Text) (v : Option Text) → Which s n → Stands s made h → FromIdle s rest → FromWanting s rest
+    → bytes_eq word dashes ≡ false → long_of word ≡ Some (n, v) → line_from s (at idle h) (word ∷ rest) ≡ asked_by s rest (begun s.options made (n, v))
+long_is s made h word rest n None (unknown u) st idle_is wanting_is e l = at_other s idle h word rest (n, None) e l u ∙ rw u (sym (unknown_waits s made n rest u))
+long_is s made h word rest n (Some v) (unknown u) st idle_is wanting_is e l = at_other s idle h word rest (n, Some v) e l u ∙ rw (chooses_none s made n v (unknown_takes s n v u)) refl
+long_is s made h word rest _ None (flag o is) st idle_is wanting_is e l = at_flag s o is idle h word rest e l ∙ flag_is s o is made h rest st idle_is
+long_is s made h word rest _ (Some v) (flag o is) st idle_is wanting_is e l = at_flag_given s o is idle h word rest v e l ∙ rw (chooses_none s made o.name v (flag_takes s o is v)) refl
+long_is s made h word rest _ None (known o is) st idle_is wanting_is e l = at_alone s o is idle h word rest e l ∙ rw (is_a_flag s o false is.named is.valued) (alone_is s o is made h rest st wanting_is)
+long_is s made h word rest _ (Some v) (known o is) st idle_is wanting_is e l = at_given s o is idle h word rest v e l ∙ given_is s o is made h v rest st idle_is
 
-idle_word : (word : Text) (rest : List Text) → FromIdle rest → FromWanting rest → FromIdle (word ∷ rest)
-idle_word word rest idle_is wanting_is made h st = go (bytes_eq word dashes) refl (long_of word) refl
+idle_word : (s : Sub) → IsRead s → (word : Text) (rest : List Text) → FromIdle s rest → FromWanting s rest → FromIdle s (word ∷ rest)
+idle_word s read word rest idle_is wanting_is made h st = go (bytes_eq word dashes) refl (long_of word) refl
   where
-    go : (e : Bool) → bytes_eq word dashes ≡ e → (l : Option (Text × Option Text)) → long_of word ≡ l → line_from (at idle h) (word ∷ rest) ≡ asked made None (word ∷ rest)
-    go true e p l = at_dashes made h word rest st e
-    go false e None l = at_plain h word rest st.skip e l ∙ sym (asked_next made word rest None e l)
-    go false e (Some (n, v)) l = long_is made h word rest n v (which n) st idle_is wanting_is e l ∙ sym (asked_next made word rest (Some (n, v)) e l)
+    go : (e : Bool) → bytes_eq word dashes ≡ e → (l : Option (Text × Option Text)) → long_of word ≡ l → line_from s (at idle h) (word ∷ rest) ≡ asked s made None (word ∷ rest)
+    go true e p l = at_dashes s read made h word rest st e
+    go false e None l = at_plain s h word rest st.skip e l ∙ sym (asked_next s made word rest None e l)
+    go false e (Some (n, v)) l = long_is s made h word rest n v (which s n) st idle_is wanting_is e l ∙ sym (asked_next s made word rest (Some (n, v)) e l)
 
-wanting_word : (word : Text) (rest : List Text) → FromIdle rest → FromWanting (word ∷ rest)
-wanting_word word rest idle_is made o = go (bytes_eq word dashes) refl (long_of word) refl (letter_of word) refl
+wanting_word : (s : Sub) (word : Text) (rest : List Text) → FromIdle s rest → FromWanting s (word ∷ rest)
+wanting_word s word rest idle_is made o is = go (bytes_eq word dashes) refl (long_of word) refl (letter_of word) refl
   where
     h : Held
-    h = held (rows_made made) (Some (name_of o, []))
+    h = held (rows_made made) (Some (o.name, []))
 
-    value : bytes_eq word dashes ≡ false → long_of word ≡ None → letter_of word ≡ None → (b : Bool) → (not (is_chosen (name_of o) made) && takes (name_of o) word) ≡ b
-        → line_from (wanting o (rows_made made)) (word ∷ rest) ≡ asked made (Some (name_of o)) (word ∷ rest)
-    value e l n true b = at_value o (rows_made made) word rest e l n ∙ idle_is (more made (name_of o) word) (with_value o (rows_made made) word) (stands_value o made word b) ∙ rw (e, l, n, b) refl
-    value e l n false b = at_value o (rows_made made) word rest e l n ∙ doomed (with_value o (rows_made made) word) rest refl (fails_value o made word b) ∙ rw (e, l, n, b) refl
+    value : bytes_eq word dashes ≡ false → long_of word ≡ None → letter_of word ≡ None → (b : Bool) → takes_it s o made word ≡ b
+        → line_from s (wanting o (rows_made made)) (word ∷ rest) ≡ asked s made (Some o.name) (word ∷ rest)
+    value e l n true b = at_value s o is (rows_made made) word rest e l n ∙ idle_is (more made o.name word) (with_value o (rows_made made) word) (stands_value s o is made word b) ∙ rw (e, l, n, b) refl
+    value e l n false b = at_value s o is (rows_made made) word rest e l n ∙ doomed s (with_value o (rows_made made) word) rest refl (fails_value s o is made word b) ∙ rw (e, l, n, b) refl
 
-    ends : bytes_eq word dashes ≡ true → (rest : List Text) → None ≡ asked made (Some (name_of o)) (word ∷ rest)
+    ends : bytes_eq word dashes ≡ true → (rest : List Text) → None ≡ asked s made (Some o.name) (word ∷ rest)
     ends e [] = rw e refl
     ends e (x ∷ xs) = rw e refl
 
     go : (e : Bool) → bytes_eq word dashes ≡ e → (l : Option (Text × Option Text)) → long_of word ≡ l → (n : Option ℕ) → letter_of word ≡ n
-        → line_from (wanting o (rows_made made)) (word ∷ rest) ≡ asked made (Some (name_of o)) (word ∷ rest)
-    go true e p l q n = at_end (option (name_of o)) h word rest e ∙ trailed_fails (option (name_of o)) h rest (wanting_fails o (rows_made made)) ∙ ends e rest
-    go false e (Some (m, v)) l q n = long_fails m v (option (name_of o)) h word rest (which m) e l (wanting_fails o (rows_made made)) ∙ rw (e, l) refl
-    go false e None l (Some y) n = at_letter o (rows_made made) word rest y e l n ∙ rw (e, l, n) refl
-    go false e None l None n = value e l n (not (is_chosen (name_of o) made) && takes (name_of o) word) refl
+        → line_from s (wanting o (rows_made made)) (word ∷ rest) ≡ asked s made (Some o.name) (word ∷ rest)
+    go true e p l q n = at_end s (option o.name) h word rest e ∙ trailed_fails s (option o.name) h rest (wanting_fails s o is (rows_made made)) ∙ ends e rest
+    go false e (Some (m, v)) l q n = long_fails s m v (option o.name) h word rest (which s m) e l (wanting_fails s o is (rows_made made)) ∙ rw (e, l) refl
+    go false e None l (Some y) n = at_letter s o (rows_made made) word rest y e l n ∙ rw (e, l, n) refl
+    go false e None l None n = value e l n (takes_it s o made word) refl
 
-from_both : (words : List Text) → FromIdle words × FromWanting words
-from_both [] = (λ made h st. end_good (at idle h) made st.good st.rows, λ made o. end_fails (wanting o (rows_made made)) (wanting_fails o (rows_made made)))
-from_both (word ∷ rest) = let both = from_both rest in (idle_word word rest both.0 both.1, wanting_word word rest both.0)
+from_both : (s : Sub) → IsRead s → (words : List Text) → FromIdle s words × FromWanting s words
+from_both s read [] = (λ made h st. end_good s read (at idle h) made st.good st.rows, λ made o is. end_fails s (wanting o (rows_made made)) (wanting_fails s o is (rows_made made)))
+from_both s read (word ∷ rest) = let both = from_both s read rest in (idle_word s read word rest both.0 both.1, wanting_word s word rest both.0)
 
-pub parsed_choices : (words : List Text) → parsed_replay words ≡ option_and_then replay_of (choices [] None words)
-parsed_choices words =
-    from_start words ∙ (from_both words).0 [] (held [] None) (record {
+pub parsed_choices : (s : Sub) → IsRead s → (words : List Text) → parsed s words ≡ asked_for s.options s.of words
+parsed_choices s read words =
+    from_start s words ∙ (from_both s read words).0 [] (held [] None) (record {
       good = refl;
       rows = refl;
       skip = refl;

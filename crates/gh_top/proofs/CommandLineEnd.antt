@@ -1,42 +1,25 @@
--- What the parser makes of the choices where the words behind `replay` have ended.
-use Rattle.std.proofs.Common.{◌≡◌, ◌∙◌, ◌&&◌, ◌||◌, Bool, true, false, refl, sym, ap, ap₂, List, [], ◌∷◌, Option, Some, None, codes, is_some}
-use Rattle.std.specs.Prelude.{find, if◌then◌else◌, option_and_then, slice_get, unwrap_or}
-use Rattle.std.specs.List.{fold}
+-- What the parser makes of the choices where the words behind a subcommand have ended.
+use Rattle.std.proofs.Common.{◌≡◌, ◌∙◌, ◌&&◌, ◌||◌, ◌++◌, Bool, true, false, not, refl, sym, ap, ap₂, List, [], ◌∷◌, Option, Some, None, codes, is_some}
+use Rattle.std.specs.Prelude.{if◌then◌else◌, option_and_then, option_map}
+use Rattle.std.specs.List.{fold, list_all, list_any}
+use Rattle.std.specs.Option.{option_map_or, option_or}
 use Rattle.std.specs.Str.{bytes_eq}
+use Rattle.std.proofs.lemmas.List.{append-nil}
+use Rattle.std.proofs.lemmas.List.Folds.{find-append}
+use Rattle.std.proofs.lemmas.Slice.Eq.{bytes_eq-Decides}
+use Rattle.clap.specs.Facts.{explicit_source}
 use Rattle.clap.specs.Faults.{check_fault, default_fault, defaults_fault, settle_fault, walk_fault}
-use Rattle.clap.specs.Kinds.{Kinds, or_else}
-use Rattle.clap.specs.Walk.{Held, Row, Rule, Walk, finished, first_of, has_row, one_of, row_text, settled, walked, with_default}
-use Rattle.clap.specs.Simple.{Shape, filled, filled_from, with_index}
+use Rattle.clap.specs.Kinds.{Kinds, check_kinds, or_else}
+use Rattle.clap.specs.Takes.{is_given}
+use Rattle.clap.specs.Walk.{Held, Row, Walk, finished, has_row, settled, walked, with_default}
+use Rattle.clap.specs.Simple.{Shape}
+use Rattle.clap.proofs.WalkLemmas.{both}
 use Rattle.clap.specs.declared.parser.matches.ValueSource.TheVariants.{DefaultValue}
-use Rattle.gh_top.specs.CommandLine.{Choice, Text, chosen, default_budget, is_given, list_said, replay_by, replay_of, seed, u64_of}
-use Rattle.gh_top.specs.CommandLineParser.{budget_rule, check_rule, found_check, found_list, found_number, found_replay, list_rule, number_rule, passes, replay_shape}
+use Rattle.gh_top.specs.CommandLine.{AnyText, Choice, LineOption, NoValue, Number, Text, Value, ended, has_required, is_chosen}
+use Rattle.gh_top.specs.CommandLineParser.{passes, subcommand_shape}
 use Rattle.gh_top.specs.declared.line.Line.{Line}
-use Rattle.gh_top.proofs.CommandLineRows.{chosen_is, find_behind, find_last, first_made, given_row, has_made, one_made, row, rows_made}
-
--- the rules of the options, and the subcommand, as built
-abbrev pub budget_built : Rule
-budget_built = with_index 1 (filled budget_rule)
-
-abbrev pub seed_built : Rule
-seed_built = with_index 1 (filled (number_rule seed))
-
-abbrev pub list_built : Rule
-list_built = with_index 1 (filled list_rule)
-
-abbrev pub check_built : Rule
-check_built = with_index 1 (filled check_rule)
-
-abbrev pub rules : List Rule
-rules = filled_from 1 (budget_rule ∷ number_rule seed ∷ list_rule ∷ check_rule ∷ [])
-
-abbrev pub leaf : Shape
-leaf = record replay_shape {
-  rules = rules;
-  disable_help_flag = true;
-  disable_help_subcommand = true;
-  disable_version_flag = true;
-  is_built = true;
-}
+use Rattle.gh_top.proofs.CommandLineRows.{found_row, given_made, given_row, row, rows_made}
+use Rattle.gh_top.proofs.CommandLineRules.{built_option, rules}
 
 -- both pass where either fails
 pub passes_both : (a b : Kinds) → passes (or_else a b) ≡ (passes a && passes b)
@@ -52,174 +35,232 @@ both_true a b x y = rw (x, y) refl
 
 -- ---- the defaults
 
-same_rows : (b : Bool) (rows : List Row) → (if b then rows else rows) ≡ rows
-same_rows true rows = refl
-same_rows false rows = refl
+-- the value that counts where an option is not chosen
+abbrev pub default_by : Value → Option Text → Option Text
+default_by v (Some word) = Some word
+default_by NoValue None = Some (codes "false")
+default_by v None = None
 
--- the rows with the defaults of `--budget` and of `--check`
-abbrev both_defaults : List Row → List Row
-both_defaults rows = with_default (with_default rows budget_built) check_built
+abbrev default_rows_of : LineOption → List Row
+default_rows_of o = option_map_or (λ w. row DefaultValue o.name w ∷ []) (default_by o.value o.default) []
 
-with_defaults : (rows : List Row) → fold with_default rows rules ≡ both_defaults rows
-with_defaults rows =
-    ap (λ (rs : List Row). with_default rs check_built)
-    (same_rows (has_row (codes "list") (with_default (with_default rows budget_built) seed_built)) (with_default (with_default rows budget_built) seed_built)
-    ∙ same_rows (has_row (codes "seed") (with_default rows budget_built)) (with_default rows budget_built))
-
-budget_passes : (rows : List Row) → passes (default_fault rows budget_built) ≡ true
-budget_passes rows = go (has_row (codes "budget") rows) refl
+default_added : (o : LineOption) (rows : List Row) → has_row o.name rows ≡ false → with_default rows (built_option o) ≡ rows ++ default_rows_of o
+default_added o rows none = go o.value refl o.default refl
   where
-    go : (b : Bool) → has_row (codes "budget") rows ≡ b → passes (default_fault rows budget_built) ≡ true
-    go true b = rw b refl
-    go false b = rw b refl
+    go : (v : Value) → o.value ≡ v → (d : Option Text) → o.default ≡ d → with_default rows (built_option o) ≡ rows ++ default_rows_of o
+    go (Number least most) v None d = rw (none, v, d) (sym (append-nil rows))
+    go AnyText v None d = rw (none, v, d) (sym (append-nil rows))
+    go NoValue v None d = rw (none, v, d) (given_row o.name (codes "false") DefaultValue rows none)
+    go (Number least most) v (Some w) d = rw (none, v, d) (given_row o.name w DefaultValue rows none)
+    go AnyText v (Some w) d = rw (none, v, d) (given_row o.name w DefaultValue rows none)
+    go NoValue v (Some w) d = rw (none, v, d) (given_row o.name w DefaultValue rows none)
 
-seed_passes : (rows : List Row) → passes (default_fault rows seed_built) ≡ true
-seed_passes rows = go (has_row (codes "seed") rows) refl
+-- the row of this name that an option adds
+abbrev default_row : Text → LineOption → Option Row
+default_row name o = if bytes_eq o.name name then option_map (row DefaultValue o.name) (default_by o.value o.default) else None
+
+abbrev pub default_named : Text → List LineOption → Option Row
+default_named name [] = None
+default_named name (o ∷ options) = option_or (default_row name o) (default_named name options)
+
+default_found : (name : Text) (o : LineOption) → found_row name (default_rows_of o) ≡ default_row name o
+default_found name o = go (default_by o.value o.default) refl (bytes_eq o.name name) refl
   where
-    go : (b : Bool) → has_row (codes "seed") rows ≡ b → passes (default_fault rows seed_built) ≡ true
-    go true b = rw b refl
-    go false b = rw b refl
+    go : (d : Option Text) → default_by o.value o.default ≡ d → (b : Bool) → bytes_eq o.name name ≡ b → found_row name (default_rows_of o) ≡ default_row name o
+    go None d true b = rw (d, b) refl
+    go None d false b = rw (d, b) refl
+    go (Some w) d true b = rw (d, b) refl
+    go (Some w) d false b = rw (d, b) refl
 
-list_passes : (rows : List Row) → passes (default_fault rows list_built) ≡ true
-list_passes rows = go (has_row (codes "list") rows) refl
+or_none : {X : Type 0} (o : Option X) → option_or o None ≡ o
+or_none None = refl
+or_none (Some x) = refl
+
+or_some : {X : Type 0} (o p : Option X) → is_some o ≡ true → option_or o p ≡ o
+or_some None p e = absurd cc
+or_some (Some x) p e = refl
+
+or_assoc : {X : Type 0} (o p q : Option X) → option_or (option_or o p) q ≡ option_or o (option_or p q)
+or_assoc None p q = refl
+or_assoc (Some x) p q = refl
+
+row_there : (name : Text) (rows : List Row) → has_row name rows ≡ true → is_some (found_row name rows) ≡ true
+row_there name [] e = e
+row_there name (r ∷ rows) e = go (bytes_eq r.id name) refl e (row_there name rows)
   where
-    go : (b : Bool) → has_row (codes "list") rows ≡ b → passes (default_fault rows list_built) ≡ true
-    go true b = rw b refl
-    go false b = rw b refl
+    go : (b : Bool) → bytes_eq r.id name ≡ b → (bytes_eq r.id name || has_row name rows) ≡ true → (has_row name rows ≡ true → is_some (found_row name rows) ≡ true) → is_some (found_row name (r ∷ rows)) ≡ true
+    go true b h ih = rw b refl
+    go false b h ih = rw b (ih (sym (ap (λ (c : Bool). c || has_row name rows) b) ∙ h))
 
-check_passes : (rows : List Row) → passes (default_fault rows check_built) ≡ true
-check_passes rows = go (has_row (codes "check") rows) refl
+-- what is found behind an option's default
+found_step : (name : Text) (o : LineOption) (rows : List Row) → found_row name (with_default rows (built_option o)) ≡ option_or (found_row name rows) (default_row name o)
+found_step name o rows = go (has_row o.name rows) refl
   where
-    go : (b : Bool) → has_row (codes "check") rows ≡ b → passes (default_fault rows check_built) ≡ true
-    go true b = rw b refl
-    go false b = rw b refl
+    kept : has_row o.name rows ≡ true → (b : Bool) → bytes_eq o.name name ≡ b → found_row name rows ≡ option_or (found_row name rows) (default_row name o)
+    kept h true b =
+        let is : o.name ≡ name = (bytes_eq-Decides o.name name).0 b in
+        sym (or_some (found_row name rows) (default_row name o) (row_there name rows (sym (ap (λ (n : Text). has_row n rows) is) ∙ h)))
+    kept h false b = rw b (sym (or_none (found_row name rows)))
 
-defaults_pass : (rows : List Row) → passes (defaults_fault rows rules) ≡ true
+    go : (h : Bool) → has_row o.name rows ≡ h → found_row name (with_default rows (built_option o)) ≡ option_or (found_row name rows) (default_row name o)
+    go true h =
+        let same : with_default rows (built_option o) ≡ rows = rw h refl in
+        ap (found_row name) same ∙ kept h (bytes_eq o.name name) refl
+    go false h =
+        ap (found_row name) (default_added o rows h) ∙ find-append (λ r. bytes_eq r.id name) rows (default_rows_of o)
+        ∙ ap (option_or (found_row name rows)) (default_found name o)
+
+-- the rows with all defaults
+abbrev pub defaulted : List LineOption → List Row → List Row
+defaulted options rows = fold with_default rows (rules options)
+
+pub found_defaulted : (name : Text) (options : List LineOption) (rows : List Row) → found_row name (defaulted options rows) ≡ option_or (found_row name rows) (default_named name options)
+found_defaulted name [] rows = sym (or_none (found_row name rows))
+found_defaulted name (o ∷ options) rows =
+    found_defaulted name options (with_default rows (built_option o))
+    ∙ ap (λ (found : Option Row). option_or found (default_named name options)) (found_step name o rows)
+    ∙ or_assoc (found_row name rows) (default_row name o) (default_named name options)
+
+-- the defaults are values that their options take
+abbrev pub fits : LineOption → Bool
+fits o = passes (default_fault [] (built_option o))
+
+default_passes : (o : LineOption) (rows : List Row) → fits o ≡ true → passes (default_fault rows (built_option o)) ≡ true
+default_passes o rows f = go (has_row o.name rows) refl
+  where
+    go : (b : Bool) → has_row o.name rows ≡ b → passes (default_fault rows (built_option o)) ≡ true
+    go true b = rw b refl
+    go false b = rw b f
+
+defaults_pass : (options : List LineOption) (rows : List Row) → list_all fits options ≡ true → passes (defaults_fault rows (rules options)) ≡ true
 unfolding defaults_fault
-defaults_pass rows =
-    passes_both (default_fault rows budget_built) _
-    ∙ both_true _ _ (budget_passes rows) (passes_both (default_fault (with_default rows budget_built) seed_built) _
-    ∙ both_true _ _ (seed_passes (with_default rows budget_built)) (passes_both (default_fault (with_default (with_default rows budget_built) seed_built) list_built) _
-    ∙ both_true _ _ (list_passes (with_default (with_default rows budget_built) seed_built))
-    (passes_alone (default_fault (with_default (with_default (with_default rows budget_built) seed_built) list_built) check_built)
-    ∙ check_passes (with_default (with_default (with_default rows budget_built) seed_built) list_built))))
+defaults_pass [] rows all = refl
+defaults_pass (o ∷ options) rows all =
+    let these = both (fits o) (list_all fits options) all in
+    passes_both (default_fault rows (built_option o)) _
+    ∙ both_true _ _ (default_passes o rows these.0) (defaults_pass options (with_default rows (built_option o)) these.1)
 
--- ---- what is found
+-- ---- what is required
 
--- another option's row is found as before
-abbrev found_row : Text → List Row → Option Row
-found_row name rows = find (λ r. bytes_eq r.id name) rows
-
-budget_aside : (name : Text) → bytes_eq (codes "budget") name ≡ false → (rows : List Row) → found_row name (with_default rows budget_built) ≡ found_row name rows
-budget_aside name apart rows = go (has_row (codes "budget") rows) refl
+default_unused : (name : Text) (options : List LineOption) → option_map_or (λ r. explicit_source r.source) (default_named name options) false ≡ false
+default_unused name [] = refl
+default_unused name (o ∷ options) = go (default_by o.value o.default) refl (bytes_eq o.name name) refl (default_unused name options)
   where
-    go : (b : Bool) → has_row (codes "budget") rows ≡ b → found_row name (with_default rows budget_built) ≡ found_row name rows
-    go true b = rw b refl
-    go false b = rw b (ap (found_row name) (given_row (codes "budget") default_budget DefaultValue rows b) ∙ find_behind (λ r. bytes_eq r.id name) rows (row DefaultValue (codes "budget") default_budget) apart)
+    go : (d : Option Text) → default_by o.value o.default ≡ d → (b : Bool) → bytes_eq o.name name ≡ b
+        → option_map_or (λ (r : Row). explicit_source r.source) (default_named name options) false ≡ false
+        → option_map_or (λ (r : Row). explicit_source r.source) (default_named name (o ∷ options)) false ≡ false
+    go None d true b ih = rw (d, b) ih
+    go None d false b ih = rw (d, b) ih
+    go (Some w) d true b ih = rw (d, b) refl
+    go (Some w) d false b ih = rw (d, b) ih
 
-check_aside : (name : Text) → bytes_eq (codes "check") name ≡ false → (rows : List Row) → found_row name (with_default rows check_built) ≡ found_row name rows
-check_aside name apart rows = go (has_row (codes "check") rows) refl
+chosen_given : (options : List LineOption) (made : List Choice) (name : Text) → is_given name (defaulted options (rows_made made)) ≡ is_chosen name made
+chosen_given options made name =
+    ap (λ (found : Option Row). option_map_or (λ (r : Row). explicit_source r.source) found false) (found_defaulted name options (rows_made made))
+    ∙ given_made name made (default_named name options) (default_unused name options)
+
+missing_is : (options : List LineOption) (made : List Choice) (rows : List Row) → ((name : Text) → is_given name rows ≡ is_chosen name made)
+    → list_any (λ a. a.required && not (is_given a.id rows)) (rules options) ≡ not (has_required options made)
+missing_is [] made rows given = refl
+missing_is (o ∷ options) made rows given = go o.is_required (is_given o.name rows) (is_chosen o.name made) (given o.name) (missing_is options made rows given)
   where
-    go : (b : Bool) → has_row (codes "check") rows ≡ b → found_row name (with_default rows check_built) ≡ found_row name rows
-    go true b = rw b refl
-    go false b = rw b (ap (found_row name) (given_row (codes "check") (codes "false") DefaultValue rows b) ∙ find_behind (λ r. bytes_eq r.id name) rows (row DefaultValue (codes "check") (codes "false")) apart)
+    lacks : Bool
+    lacks = list_any (λ a. a.required && not (is_given a.id rows)) (rules options)
 
-both_aside : (name : Text) → bytes_eq (codes "budget") name ≡ false → bytes_eq (codes "check") name ≡ false → (rows : List Row) → found_row name (both_defaults rows) ≡ found_row name rows
-both_aside name b c rows = check_aside name c (with_default rows budget_built) ∙ budget_aside name b rows
-
-none_found : (name : Text) (rows : List Row) → has_row name rows ≡ false → found_row name rows ≡ None
-none_found name [] none = refl
-none_found name (r ∷ rows) none = go (bytes_eq r.id name) refl none (none_found name rows)
-  where
-    go : (b : Bool) → bytes_eq r.id name ≡ b → (b || has_row name rows) ≡ false → (has_row name rows ≡ false → found_row name rows ≡ None) → found_row name (r ∷ rows) ≡ None
-    go true b q ih = absurd cc
-    go false b q ih = rw b (ih q)
-
--- the flag is found where it was chosen
-check_row : (rows : List Row) (said : Option Text) → first_of (codes "check") rows ≡ said → found_check (with_default rows check_built) ≡ is_given said
-check_row rows said is = go (has_row (codes "check") rows) refl
-  where
-    go : (b : Bool) → has_row (codes "check") rows ≡ b → found_check (with_default rows check_built) ≡ is_given said
-    go true b = rw b (ap is_given is)
-    go false b =
-        let none : said ≡ None = sym is ∙ ap (option_and_then (λ (r : Row). slice_get r.values 0)) (none_found (codes "check") rows b) in
-        rw (b, none) (ap found_check (given_row (codes "check") (codes "false") DefaultValue rows b)
-        ∙ ap (λ (o : Option Row). is_given (option_and_then (λ (r : Row). slice_get r.values 0) o)) (find_last (λ r. bytes_eq r.id (codes "check")) rows (row DefaultValue (codes "check") (codes "false")) refl b))
-
-check_found : (made : List Choice) → found_check (both_defaults (rows_made made)) ≡ is_given (chosen (codes "check") made)
-check_found made =
-    check_row (with_default (rows_made made) budget_built) (chosen (codes "check") made)
-    (ap (option_and_then (λ (r : Row). slice_get r.values 0)) (budget_aside (codes "check") refl (rows_made made)) ∙ first_made (codes "check") made)
-
-budget_found : (made : List Choice) → one_of (codes "budget") (with_default (rows_made made) budget_built) ≡ Some (unwrap_or (chosen (codes "budget") made) default_budget)
-budget_found made = go (chosen (codes "budget") made) refl
-  where
-    has : (o : Option Text) → chosen (codes "budget") made ≡ o → has_row (codes "budget") (rows_made made) ≡ is_some o
-    has o e = has_made (codes "budget") made ∙ sym (chosen_is (codes "budget") made) ∙ ap is_some e
-
-    go : (o : Option Text) → chosen (codes "budget") made ≡ o → one_of (codes "budget") (with_default (rows_made made) budget_built) ≡ Some (unwrap_or (chosen (codes "budget") made) default_budget)
-    go (Some v) e = rw (has (Some v) e, e) (one_made (codes "budget") made ∙ e)
-    go None e =
-        rw (has None e, e) (ap (one_of (codes "budget")) (given_row (codes "budget") default_budget DefaultValue (rows_made made) (has None e))
-        ∙ ap (option_and_then row_text) (find_last (λ r. bytes_eq r.id (codes "budget")) (rows_made made) (row DefaultValue (codes "budget") default_budget) refl (has None e)))
-
-one_kept : (name : Text) → bytes_eq (codes "budget") name ≡ false → bytes_eq (codes "check") name ≡ false → (rows : List Row) → one_of name (both_defaults rows) ≡ one_of name rows
-one_kept name b c rows = ap (option_and_then row_text) (both_aside name b c rows)
-
-first_kept : (name : Text) → bytes_eq (codes "budget") name ≡ false → bytes_eq (codes "check") name ≡ false → (rows : List Row) → first_of name (both_defaults rows) ≡ first_of name rows
-first_kept name b c rows = ap (option_and_then (λ (r : Row). slice_get r.values 0)) (both_aside name b c rows)
-
-found_made : (made : List Choice) → found_replay (both_defaults (rows_made made)) ≡ replay_of made
-found_made made =
-    ap (λ (o : Option Text). replay_by (option_and_then u64_of o) (found_number (codes "seed") (both_defaults (rows_made made))) (found_list (both_defaults (rows_made made))) (found_check (both_defaults (rows_made made))))
-    (ap (option_and_then row_text) (check_aside (codes "budget") refl (with_default (rows_made made) budget_built)) ∙ budget_found made)
-    ∙ ap₂ (λ (drawn list : Option Text). replay_by (u64_of (unwrap_or (chosen (codes "budget") made) default_budget)) (option_and_then u64_of drawn) (list_said list) (found_check (both_defaults (rows_made made))))
-    (one_kept (codes "seed") refl refl (rows_made made) ∙ one_made (codes "seed") made) (first_kept (codes "list") refl refl (rows_made made) ∙ first_made (codes "list") made)
-    ∙ ap (replay_by (u64_of (unwrap_or (chosen (codes "budget") made) default_budget)) (option_and_then u64_of (chosen (codes "seed") made)) (list_said (chosen (codes "list") made))) (check_found made)
+    go : (r g c : Bool) → g ≡ c → lacks ≡ not (has_required options made) → ((r && not g) || lacks) ≡ not ((not r || c) && has_required options made)
+    go false g c e ih = ih
+    go true g true e ih = rw e ih
+    go true g false e ih = rw e refl
 
 -- ---- the end of the words
 
+-- a subcommand with its options, the line that rows of it say, and the one that choices of it ask for
+pub record Sub : Type 0 where
+  pub name : Text
+  pub options : List LineOption
+  pub found : List Row → Option Line
+  pub of : List Choice → Option Line
+
+-- its defaults fit, and what is found of choices is what they ask for
+pub record IsRead (s : Sub) : Type 0 where
+  pub fitting : list_all fits s.options ≡ true
+  pub same : (made : List Choice) → s.found (defaulted s.options (rows_made made)) ≡ s.of made
+
+-- it as built
+abbrev pub leaf : Sub → Shape
+leaf s = record (subcommand_shape s.name s.options) {
+  rules = rules s.options;
+  disable_help_flag = true;
+  disable_help_subcommand = true;
+  disable_version_flag = true;
+  is_built = true;
+}
+
 -- what is left to fail once the words have ended
-abbrev pub end_fault : Held → Kinds
-end_fault h = or_else (settle_fault rules false h) (or_else (defaults_fault (settled rules h).rows rules) (check_fault leaf (finished rules h) false))
+abbrev pub end_fault : Sub → Held → Kinds
+end_fault s h =
+    or_else (settle_fault (rules s.options) false h)
+    (or_else (defaults_fault (settled (rules s.options) h).rows (rules s.options)) (check_fault (leaf s) (finished (rules s.options) h) false))
 
 -- the line that the rest of the words gives, from a place in the walk
-abbrev pub line_from : Walk → List Text → Option Line
-line_from w words =
-    let end = (fold (walked rules []) w words).held in
-    if passes (or_else (walk_fault leaf [] w words) (end_fault end)) then found_replay (finished rules end) else None
+abbrev pub line_from : Sub → Walk → List Text → Option Line
+line_from s w words =
+    let end = (fold (walked (rules s.options) []) w words).held in
+    if passes (or_else (walk_fault (leaf s) [] w words) (end_fault s end)) then s.found (finished (rules s.options) end) else None
 
-abbrev rest_fault : List Row → Kinds
-rest_fault rows = or_else (defaults_fault rows rules) (check_fault leaf (fold with_default rows rules) false)
+abbrev rest_fault : Sub → List Row → Kinds
+rest_fault s rows = or_else (defaults_fault rows (rules s.options)) (check_fault (leaf s) (defaulted s.options rows) false)
 
-abbrev line_at : List Row → Option Line
-line_at rows = if passes (rest_fault rows) then found_replay (fold with_default rows rules) else None
+abbrev line_at : Sub → List Row → Option Line
+line_at s rows = if passes (rest_fault s rows) then s.found (defaulted s.options rows) else None
 
-rest_passes : (rows : List Row) → passes (rest_fault rows) ≡ true
-rest_passes rows = passes_both (defaults_fault rows rules) _ ∙ both_true _ _ (defaults_pass rows) refl
-
-line_made : (made : List Choice) → line_at (rows_made made) ≡ replay_of made
-line_made made =
-    ap (λ (b : Bool). if b then found_replay (fold with_default (rows_made made) rules) else None) (rest_passes (rows_made made))
-    ∙ ap found_replay (with_defaults (rows_made made)) ∙ found_made made
-
-end_is : (w : Walk) → line_from w [] ≡ (if passes (end_fault w.held) then found_replay (finished rules w.held) else None)
-unfolding walk_fault
-end_is w = refl
-
-end_by : (w : Walk) (b : Bool) (rows : List Row) → passes (settle_fault rules false w.held) ≡ b → (settled rules w.held).rows ≡ rows
-    → line_from w [] ≡ (if b then line_at rows else None)
-end_by w b rows settles is =
-    end_is w ∙ go (settle_fault rules false w.held) ∙ ap₂ (λ (c : Bool) (rs : List Row). if c then line_at rs else None) settles is
+check_passes : (s : Sub) (made : List Choice) → passes (check_fault (leaf s) (defaulted s.options (rows_made made)) false) ≡ has_required s.options made
+check_passes s made =
+    by (list_any (λ a. a.required && not (is_given a.id rows)) (rules s.options))
+    ∙ ap not (missing_is s.options made rows (chosen_given s.options made)) ∙ twice (has_required s.options made)
   where
-    go : (k : Kinds) → (if passes (or_else k (rest_fault (settled rules w.held).rows)) then found_replay (finished rules w.held) else None)
-        ≡ (if passes k then line_at (settled rules w.held).rows else None)
+    rows : List Row
+    rows = defaulted s.options (rows_made made)
+
+    by : (b : Bool) → passes (check_kinds false false b) ≡ not b
+    by true = refl
+    by false = refl
+
+    twice : (b : Bool) → not (not b) ≡ b
+    twice true = refl
+    twice false = refl
+
+rest_passes : (s : Sub) → IsRead s → (made : List Choice) → passes (rest_fault s (rows_made made)) ≡ has_required s.options made
+rest_passes s is made =
+    passes_both (defaults_fault (rows_made made) (rules s.options)) _
+    ∙ ap₂ (λ (a b : Bool). a && b) (defaults_pass s.options (rows_made made) is.fitting) (check_passes s made)
+
+line_made : (s : Sub) → IsRead s → (made : List Choice) → line_at s (rows_made made) ≡ option_and_then s.of (ended s.options made None)
+line_made s is made =
+    ap₂ (λ (b : Bool) (l : Option Line). if b then l else None) (rest_passes s is made) (is.same made) ∙ go (has_required s.options made)
+  where
+    go : (b : Bool) → (if b then s.of made else None) ≡ option_and_then s.of (if b then Some made else None)
+    go true = refl
+    go false = refl
+
+end_is : (s : Sub) (w : Walk) → line_from s w [] ≡ (if passes (end_fault s w.held) then s.found (finished (rules s.options) w.held) else None)
+unfolding walk_fault
+end_is s w = refl
+
+end_by : (s : Sub) (w : Walk) (b : Bool) (rows : List Row) → passes (settle_fault (rules s.options) false w.held) ≡ b → (settled (rules s.options) w.held).rows ≡ rows
+    → line_from s w [] ≡ (if b then line_at s rows else None)
+end_by s w b rows settles is =
+    end_is s w ∙ go (settle_fault (rules s.options) false w.held) ∙ ap₂ (λ (c : Bool) (rs : List Row). if c then line_at s rs else None) settles is
+  where
+    go : (k : Kinds) → (if passes (or_else k (rest_fault s (settled (rules s.options) w.held).rows)) then s.found (finished (rules s.options) w.held) else None)
+        ≡ (if passes k then line_at s (settled (rules s.options) w.held).rows else None)
     go [] = refl
     go (x ∷ xs) = refl
 
-pub end_fails : (w : Walk) → passes (settle_fault rules false w.held) ≡ false → line_from w [] ≡ None
-end_fails w bad = end_by w false (settled rules w.held).rows bad refl
+pub end_fails : (s : Sub) (w : Walk) → passes (settle_fault (rules s.options) false w.held) ≡ false → line_from s w [] ≡ None
+end_fails s w bad = end_by s w false (settled (rules s.options) w.held).rows bad refl
 
 -- the words end where these choices were made
-pub end_good : (w : Walk) (made : List Choice) → passes (settle_fault rules false w.held) ≡ true → (settled rules w.held).rows ≡ rows_made made → line_from w [] ≡ replay_of made
-end_good w made good is = end_by w true (rows_made made) good is ∙ line_made made
+pub end_good : (s : Sub) → IsRead s → (w : Walk) (made : List Choice) → passes (settle_fault (rules s.options) false w.held) ≡ true → (settled (rules s.options) w.held).rows ≡ rows_made made
+    → line_from s w [] ≡ option_and_then s.of (ended s.options made None)
+end_good s read w made good is = end_by s w true (rows_made made) good is ∙ line_made s read made

@@ -12,12 +12,15 @@ use Rattle.clap.specs.Simple.{App, Shape, built, entered, is_simple, names_of, s
 use Rattle.clap.specs.Walk.{Names, Row, Rule, Walk, bundle_met, finished, nothing_held, rows_after, settled, walk_from, walked}
 use Rattle.clap.proofs.FaultLemmas.{stopped_fault}
 use Rattle.clap.proofs.OnLiterals.{clap_on_literals}
-use Rattle.gh_top.specs.CommandLine.{Text, command_line}
-use Rattle.gh_top.specs.CommandLineParser.{found_line, found_replay, goheap_app, parsed_line, passes}
+use Rattle.gh_top.specs.CommandLine.{Text, command_line, replay_options, run_options, script_options}
+use Rattle.gh_top.specs.CommandLineParser.{found_line, found_replay, found_run, found_script, goheap_app, parsed_line, passes}
 use Rattle.gh_top.specs.declared.line.Line.{Line}
+use Rattle.gh_top.specs.declared.line.Line.TheVariants.{Gen, Soak}
 use Rattle.gh_top.proofs.CommandLineChoices.{parsed_choices}
-use Rattle.gh_top.proofs.CommandLineEnd.{leaf, rules}
-use Rattle.gh_top.proofs.CommandLineWalk.{dashes, parsed_replay}
+use Rattle.gh_top.proofs.CommandLineEnd.{Sub, leaf}
+use Rattle.gh_top.proofs.CommandLineRules.{rules, same_text}
+use Rattle.gh_top.proofs.CommandLineSubs.{replay_read, replay_sub, run_read, run_sub, script_read, script_sub}
+use Rattle.gh_top.proofs.CommandLineWalk.{dashes, parsed}
 
 -- ---- the words of the command itself
 
@@ -27,8 +30,18 @@ top = (built goheap_app).top
 abbrev names : Names
 names = names_of (built goheap_app)
 
+-- the name of a subcommand
+abbrev run : Text
+run = codes "run"
+
 abbrev replay : Text
 replay = codes "replay"
+
+abbrev gen : Text
+gen = codes "gen"
+
+abbrev soak : Text
+soak = codes "soak"
 
 -- the line where the words come to this fault and the walk ends so
 abbrev line_by : Kinds → Walk → Option Line
@@ -48,30 +61,43 @@ stopped_is c subs w name past [] = ap (λ (ws : List Text). record w { stopped =
 stopped_is c subs w name past (word ∷ rest) =
     stopped_is c subs w name (past ++ word ∷ []) rest ∙ ap (λ (ws : List Text). record w { stopped = Some (name, ws) }) (append_assoc past (word ∷ []) rest)
 
-abbrev stopped_at : List Text → Walk
-stopped_at words = record (walk_from nothing_held) { stopped = Some (replay, words) }
+abbrev stopped_at : Text → List Text → Walk
+stopped_at name words = record (walk_from nothing_held) { stopped = Some (name, words) }
 
-replay_fault : (words : List Text) → walk_fault top names (walk_from nothing_held) (replay ∷ words) ≡ []
+-- a subcommand of the command
+data Entered : Sub → Type 0 where
+  runs : Entered run_sub
+  replays : Entered replay_sub
+  generates : Entered (script_sub gen Gen)
+  soaks : Entered (script_sub soak Soak)
+
+entered_fault_is : (s : Sub) → Entered s → (words : List Text) → walk_fault top names (walk_from nothing_held) (s.name ∷ words) ≡ []
 unfolding walk_fault walked
-replay_fault words = stopped_fault top names (walk_from nothing_held) (replay, []) words
+entered_fault_is _ runs words = stopped_fault top names (walk_from nothing_held) (run, []) words
+entered_fault_is _ replays words = stopped_fault top names (walk_from nothing_held) (replay, []) words
+entered_fault_is _ generates words = stopped_fault top names (walk_from nothing_held) (gen, []) words
+entered_fault_is _ soaks words = stopped_fault top names (walk_from nothing_held) (soak, []) words
 
-replay_walk : (words : List Text) → fold (walked top.rules names) (walk_from nothing_held) (replay ∷ words) ≡ stopped_at words
+entered_walk : (s : Sub) → Entered s → (words : List Text) → fold (walked top.rules names) (walk_from nothing_held) (s.name ∷ words) ≡ stopped_at s.name words
 unfolding walked
-replay_walk words = stopped_is top.rules names (walk_from nothing_held) replay [] words
+entered_walk _ runs words = stopped_is top.rules names (walk_from nothing_held) run [] words
+entered_walk _ replays words = stopped_is top.rules names (walk_from nothing_held) replay [] words
+entered_walk _ generates words = stopped_is top.rules names (walk_from nothing_held) gen [] words
+entered_walk _ soaks words = stopped_is top.rules names (walk_from nothing_held) soak [] words
 
-replay_line : (words : List Text) → line_by [] (stopped_at words) ≡ parsed_replay words
+below : (fault : Kinds) (found : Option Line) → (if passes (or_else fault []) then found else None) ≡ (if passes fault then found else None)
+below [] found = refl
+below (k ∷ ks) found = refl
+
+entered_line : (s : Sub) → Entered s → (words : List Text) → line_by [] (stopped_at s.name words) ≡ parsed s words
 unfolding defaults_fault
-replay_line words = go (level_fault leaf [] nothing_held words false [])
-  where
-    found : Option Line
-    found = found_replay (rows_after rules [] words)
+entered_line _ runs words = below (level_fault (leaf run_sub) [] nothing_held words false []) (found_run (rows_after (rules run_options) [] words))
+entered_line _ replays words = below (level_fault (leaf replay_sub) [] nothing_held words false []) (found_replay (rows_after (rules replay_options) [] words))
+entered_line _ generates words = below (level_fault (leaf (script_sub gen Gen)) [] nothing_held words false []) (found_script Gen (rows_after (rules script_options) [] words))
+entered_line _ soaks words = below (level_fault (leaf (script_sub soak Soak)) [] nothing_held words false []) (found_script Soak (rows_after (rules script_options) [] words))
 
-    go : (fault : Kinds) → (if passes (or_else fault []) then found else None) ≡ (if passes fault then found else None)
-    go [] = refl
-    go (k ∷ ks) = refl
-
-replay_is : (program : Text) (words : List Text) → parsed_line (program ∷ replay ∷ words) ≡ parsed_replay words
-replay_is program words = by_walk program (replay ∷ words) ∙ ap₂ line_by (replay_fault words) (replay_walk words) ∙ replay_line words
+entered_is : (s : Sub) → Entered s → (program : Text) (words : List Text) → parsed_line (program ∷ s.name ∷ words) ≡ parsed s words
+entered_is s is program words = by_walk program (s.name ∷ words) ∙ ap₂ line_by (entered_fault_is s is words) (entered_walk s is words) ∙ entered_line s is words
 
 first_fails : (program name : Text) (rest : List Text) → passes (turn_fault top names (walk_from nothing_held) name) ≡ false → parsed_line (program ∷ name ∷ rest) ≡ None
 unfolding walk_fault
@@ -82,19 +108,26 @@ first_fails program name rest bad = go (turn_fault top names (walk_from nothing_
     go [] f = absurd (true≢false f)
     go (k ∷ ks) f = refl
 
-turn_fails : (name : Text) → bytes_eq replay name ≡ false → bytes_eq name dashes ≡ false → passes (turn_fault top names (walk_from nothing_held) name) ≡ false
+-- the name is no subcommand's
+record IsOther (name : Text) : Type 0 where
+  no_run : bytes_eq run name ≡ false
+  no_replay : bytes_eq replay name ≡ false
+  no_gen : bytes_eq gen name ≡ false
+  no_soak : bytes_eq soak name ≡ false
+
+turn_fails : (name : Text) → IsOther name → bytes_eq name dashes ≡ false → passes (turn_fault top names (walk_from nothing_held) name) ≡ false
 unfolding flags_fault bundle_met
-turn_fails name r d = go (long_of name) refl (short_of name) refl
+turn_fails name o d = go (long_of name) refl (short_of name) refl
   where
     go : (l : Option (Text × Option Text)) → long_of name ≡ l → (s : Option Text) → short_of name ≡ s → passes (turn_fault top names (walk_from nothing_held) name) ≡ false
-    go (Some p) l s e = rw (r, d, l) refl
-    go None l None s = rw (r, d, l, s) refl
-    go None l (Some []) s = rw (r, d, l, s) refl
+    go (Some p) l s e = rw (o.no_run, o.no_replay, o.no_gen, o.no_soak, d, l) refl
+    go None l None s = rw (o.no_run, o.no_replay, o.no_gen, o.no_soak, d, l, s) refl
+    go None l (Some []) s = rw (o.no_run, o.no_replay, o.no_gen, o.no_soak, d, l, s) refl
     go None l (Some (x ∷ xs)) s = by (slice_get (chars (x ∷ xs)) 0) refl
       where
         by : (c : Option ℕ) → slice_get (chars (x ∷ xs)) 0 ≡ c → passes (turn_fault top names (walk_from nothing_held) name) ≡ false
-        by None c = rw (r, d, l, s, c) refl
-        by (Some y) c = rw (r, d, l, s, c) refl
+        by None c = rw (o.no_run, o.no_replay, o.no_gen, o.no_soak, d, l, s, c) refl
+        by (Some y) c = rw (o.no_run, o.no_replay, o.no_gen, o.no_soak, d, l, s, c) refl
 
 dashes_fail : (program : Text) (rest : List Text) → parsed_line (program ∷ dashes ∷ rest) ≡ None
 unfolding clap_on_literals
@@ -110,30 +143,51 @@ unfolding clap_on_literals
 no_subcommand program = refl
 
 -- no other word is a subcommand
-other_fails : (program name : Text) (rest : List Text) → bytes_eq name replay ≡ false → parsed_line (program ∷ name ∷ rest) ≡ None
-other_fails program name rest no_name = go (bytes_eq replay name) refl (bytes_eq name dashes) refl
+other_fails : (program name : Text) (rest : List Text) → IsOther name → parsed_line (program ∷ name ∷ rest) ≡ None
+other_fails program name rest o = go (bytes_eq name dashes) refl
   where
-    go : (r : Bool) → bytes_eq replay name ≡ r → (d : Bool) → bytes_eq name dashes ≡ d → parsed_line (program ∷ name ∷ rest) ≡ None
-    go true r d e =
-        let is : replay ≡ name = (bytes_eq-Decides replay name).0 r in
-        absurd (true≢false (ap (λ (n : Text). bytes_eq n replay) is ∙ no_name))
-    go false r true e = subst (λ (n : Text). parsed_line (program ∷ n ∷ rest) ≡ None) (sym ((bytes_eq-Decides name dashes).0 e)) (dashes_fail program rest)
-    go false r false e = first_fails program name rest (turn_fails name r e)
+    go : (d : Bool) → bytes_eq name dashes ≡ d → parsed_line (program ∷ name ∷ rest) ≡ None
+    go true e = subst (λ (n : Text). parsed_line (program ∷ n ∷ rest) ≡ None) (sym ((bytes_eq-Decides name dashes).0 e)) (dashes_fail program rest)
+    go false e = first_fails program name rest (turn_fails name o e)
+
+-- two texts that differ do so either way round
+apart : (a b : Text) → bytes_eq b a ≡ false → bytes_eq a b ≡ false
+apart a b differ = go (bytes_eq a b) refl
+  where
+    go : (c : Bool) → bytes_eq a b ≡ c → bytes_eq a b ≡ false
+    go true e =
+        let is : a ≡ b = (bytes_eq-Decides a b).0 e in
+        absurd (true≢false (sym (same_text a) ∙ ap (λ (t : Text). bytes_eq t a) is ∙ differ))
+    go false e = e
 
 pub parsed_is : (words : List Text) → parsed_line words ≡ command_line words
 parsed_is [] = no_words
 parsed_is (program ∷ []) = no_subcommand program
-parsed_is (program ∷ name ∷ rest) = go (bytes_eq name replay) refl
+parsed_is (program ∷ name ∷ rest) = go (bytes_eq name run) refl (bytes_eq name replay) refl (bytes_eq name gen) refl (bytes_eq name soak) refl
   where
     is_at : Text → Type 0
     is_at n = parsed_line (program ∷ n ∷ rest) ≡ command_line (program ∷ n ∷ rest)
 
-    replayed : is_at replay
-    replayed = replay_is program rest ∙ parsed_choices rest
+    at_run : is_at run
+    at_run = entered_is run_sub runs program rest ∙ parsed_choices run_sub run_read rest
 
-    go : (b : Bool) → bytes_eq name replay ≡ b → is_at name
-    go true b = subst is_at (sym ((bytes_eq-Decides name replay).0 b)) replayed
-    go false b = other_fails program name rest b ∙ rw b refl
+    at_replay : is_at replay
+    at_replay = entered_is replay_sub replays program rest ∙ parsed_choices replay_sub replay_read rest
+
+    at_gen : is_at gen
+    at_gen = entered_is (script_sub gen Gen) generates program rest ∙ parsed_choices (script_sub gen Gen) (script_read gen Gen) rest
+
+    at_soak : is_at soak
+    at_soak = entered_is (script_sub soak Soak) soaks program rest ∙ parsed_choices (script_sub soak Soak) (script_read soak Soak) rest
+
+    go : (a : Bool) → bytes_eq name run ≡ a → (b : Bool) → bytes_eq name replay ≡ b → (c : Bool) → bytes_eq name gen ≡ c → (d : Bool) → bytes_eq name soak ≡ d → is_at name
+    go true p b q c r d s = subst is_at (sym ((bytes_eq-Decides name run).0 p)) at_run
+    go false p true q c r d s = subst is_at (sym ((bytes_eq-Decides name replay).0 q)) at_replay
+    go false p false q true r d s = subst is_at (sym ((bytes_eq-Decides name gen).0 r)) at_gen
+    go false p false q false r true s = subst is_at (sym ((bytes_eq-Decides name soak).0 s)) at_soak
+    go false p false q false r false s =
+        other_fails program name rest (record { no_run = apart run name p; no_replay = apart replay name q; no_gen = apart gen name r; no_soak = apart soak name s })
+        ∙ rw (p, q, r, s) refl
 
 -- ---- an error of the parser
 

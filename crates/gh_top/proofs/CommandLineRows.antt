@@ -1,10 +1,11 @@
 -- The rows that stand for choices.
-use Rattle.std.proofs.Common.{◌≡◌, ◌∙◌, ◌++◌, ◌||◌, Bool, true, false, true≢false, refl, sym, ap, List, [], ◌∷◌, Option, Some, None, is_some}
-use Rattle.std.specs.Prelude.{find, if◌then◌else◌}
-use Rattle.std.specs.List.{list_any}
+use Rattle.std.proofs.Common.{◌≡◌, ◌∙◌, ◌++◌, ◌||◌, Bool, true, false, true≢false, refl, sym, ap, List, [], ◌∷◌, Option, Some, None}
+use Rattle.std.specs.Prelude.{find, option_and_then}
+use Rattle.std.specs.Option.{option_map_or, option_or}
 use Rattle.std.specs.Str.{bytes_eq}
 use Rattle.std.proofs.lemmas.List.{append-nil}
-use Rattle.clap.specs.Walk.{Row, at_row, first_of, has_row, more_values, one_of, with_values, without}
+use Rattle.clap.specs.Facts.{explicit_source}
+use Rattle.clap.specs.Walk.{Row, at_row, has_row, more_values, with_values, without}
 use Rattle.clap.specs.declared.builder.value_parser.Reading.TheVariants.{AsWritten}
 use Rattle.clap.specs.declared.parser.matches.ValueSource.{ValueSource}
 use Rattle.clap.specs.declared.parser.matches.ValueSource.TheVariants.{CommandLine}
@@ -21,27 +22,31 @@ pub has_made : (name : Text) (made : List Choice) → has_row name (rows_made ma
 has_made name [] = refl
 has_made name (c ∷ made) = ap (λ (b : Bool). bytes_eq c.0 name || b) (has_made name made)
 
-pub one_made : (name : Text) (made : List Choice) → one_of name (rows_made made) ≡ chosen name made
-one_made name [] = refl
-one_made name (c ∷ made) = go (bytes_eq c.0 name) refl (one_made name made)
+-- the row of an option
+abbrev pub found_row : Text → List Row → Option Row
+found_row name rows = find (λ r. bytes_eq r.id name) rows
+
+-- what a getter reads of it: the value that was chosen, and of another row where none was
+pub read_made : (read : Row → Option Text) → ((s : ValueSource) (id v : Text) → read (row s id v) ≡ Some v) → (name : Text) (made : List Choice) (other : Option Row)
+    → option_and_then read (option_or (found_row name (rows_made made)) other) ≡ option_or (chosen name made) (option_and_then read other)
+read_made read reads name [] other = refl
+read_made read reads name (c ∷ made) other = go (bytes_eq c.0 name) refl (read_made read reads name made other)
   where
-    go : (b : Bool) → bytes_eq c.0 name ≡ b → one_of name (rows_made made) ≡ chosen name made → one_of name (rows_made (c ∷ made)) ≡ chosen name (c ∷ made)
-    go true b ih = rw b refl
+    go : (b : Bool) → bytes_eq c.0 name ≡ b
+        → option_and_then read (option_or (found_row name (rows_made made)) other) ≡ option_or (chosen name made) (option_and_then read other)
+        → option_and_then read (option_or (found_row name (rows_made (c ∷ made))) other) ≡ option_or (chosen name (c ∷ made)) (option_and_then read other)
+    go true b ih = rw b (reads CommandLine c.0 c.1)
     go false b ih = rw b ih
 
-pub first_made : (name : Text) (made : List Choice) → first_of name (rows_made made) ≡ chosen name made
-first_made name [] = refl
-first_made name (c ∷ made) = go (bytes_eq c.0 name) refl (first_made name made)
+-- an option was used where it was chosen
+pub given_made : (name : Text) (made : List Choice) (other : Option Row) → option_map_or (λ r. explicit_source r.source) other false ≡ false
+    → option_map_or (λ r. explicit_source r.source) (option_or (found_row name (rows_made made)) other) false ≡ is_chosen name made
+given_made name [] other unused = unused
+given_made name (c ∷ made) other unused = go (bytes_eq c.0 name) refl (given_made name made other unused)
   where
-    go : (b : Bool) → bytes_eq c.0 name ≡ b → first_of name (rows_made made) ≡ chosen name made → first_of name (rows_made (c ∷ made)) ≡ chosen name (c ∷ made)
-    go true b ih = rw b refl
-    go false b ih = rw b ih
-
-pub chosen_is : (name : Text) (made : List Choice) → is_some (chosen name made) ≡ is_chosen name made
-chosen_is name [] = refl
-chosen_is name (c ∷ made) = go (bytes_eq c.0 name) refl (chosen_is name made)
-  where
-    go : (b : Bool) → bytes_eq c.0 name ≡ b → is_some (chosen name made) ≡ is_chosen name made → is_some (chosen name (c ∷ made)) ≡ is_chosen name (c ∷ made)
+    go : (b : Bool) → bytes_eq c.0 name ≡ b
+        → option_map_or (λ (r : Row). explicit_source r.source) (option_or (found_row name (rows_made made)) other) false ≡ is_chosen name made
+        → option_map_or (λ (r : Row). explicit_source r.source) (option_or (found_row name (rows_made (c ∷ made))) other) false ≡ is_chosen name (c ∷ made)
     go true b ih = rw b refl
     go false b ih = rw b ih
 
@@ -50,18 +55,6 @@ made_more [] c = refl
 made_more (d ∷ made) c = ap (λ (rows : List Row). row CommandLine d.0 d.1 ∷ rows) (made_more made c)
 
 -- ---- a row at the end
-
-pub find_behind : (p : Row → Bool) (rows : List Row) (r : Row) → p r ≡ false → find p (rows ++ r ∷ []) ≡ find p rows
-find_behind p [] r none = rw none refl
-find_behind p (x ∷ rows) r none = ap (λ (o : Option Row). if p x then Some x else o) (find_behind p rows r none)
-
-pub find_last : (p : Row → Bool) (rows : List Row) (r : Row) → p r ≡ true → list_any p rows ≡ false → find p (rows ++ r ∷ []) ≡ Some r
-find_last p [] r is none = rw is refl
-find_last p (x ∷ rows) r is none = go (p x) refl (find_last p rows r is)
-  where
-    go : (b : Bool) → p x ≡ b → (list_any p rows ≡ false → find p (rows ++ r ∷ []) ≡ Some r) → find p (x ∷ rows ++ r ∷ []) ≡ Some r
-    go true b ih = absurd (true≢false (sym (ap (λ (c : Bool). c || list_any p rows) b) ∙ none))
-    go false b ih = rw b (ih (sym (ap (λ (c : Bool). c || list_any p rows) b) ∙ none))
 
 pub at_missing : (id : Text) (change : Row → List Row) (missing rows : List Row) → has_row id rows ≡ false → at_row id change missing rows ≡ rows ++ missing
 at_missing id change missing [] none = refl

@@ -1,83 +1,356 @@
 -- How a call ends, by what it found.
-use Rattle.std.proofs.Common.{◌≡◌, ℕ, Bool, ◌⊎◌, inl, inr, List, Some, refl, sym, ap, subst, ◌∙◌}
-use Rattle.gh_lines.specs.Text.{Outcome}
+use Rattle.std.proofs.Common.{◌≡◌, ℕ, Bool, false, ◌⊎◌, inl, inr, ◌++◌, ◌*◌, ◌/◌, List, Some, refl, sym, ap, ap₂, subst, ◌∙◌, arith}
+use Rattle.std.specs.List.{concat}
+use Rattle.std.proofs.lemmas.List.{append-nil}
+use Rattle.gh_lines.specs.Text.{Outcome, live_line, outcome_lines, statements_line}
 use Rattle.gh_replay.specs.Plan.{Plan}
 use Rattle.gh_replay.specs.Replayed.{IsReplayed, IsUnfinished, NotBoth}
 use Rattle.gh_replay.specs.Report.{replay_text}
 use Rattle.gh_script.specs.declared.fault.Why.{Why}
 use Rattle.gh_script.specs.Program.{Program}
 use Rattle.gh_script.specs.Grammar.{Spells, Refused}
-use Rattle.gh_top.specs.declared.line.Line.TheVariants.{Replay}
+use Rattle.gh_top.specs.declared.line.Line.{Line}
+use Rattle.gh_top.specs.declared.line.Line.TheVariants.{Gen, Replay, Run, Soak}
+use Rattle.gh_top.specs.declared.status.Status.{Status}
 use Rattle.gh_top.specs.declared.status.Status.TheVariants as statuses
 use Rattle.gh_top.specs.declared.found.Found.{Found}
-use Rattle.gh_top.specs.declared.found.Found.TheVariants.{BadWords, BadScript, Ran, OutOfTurns, ReadFault, NoMemory}
-use Rattle.gh_top.specs.Outcome.{AreRefused, IsReplay, IsTelling, Says}
-use Rattle.gh_top.specs.Found.{IsSilent, Matches, said_of, status_of}
+use Rattle.gh_top.specs.declared.found.Found.TheVariants.{BadWords, BadScript, Ran, OutOfTurns, Generated, Soaked, ReadFault, NoThread, NoMemory}
+use Rattle.gh_top.specs.CommandLine.{Text, command_line}
+use Rattle.gh_top.specs.Outcome.{AreRefused, ComesTo, Ends, IsForThreads, IsTelling, ReadsScript, Says, Streams}
+use Rattle.gh_top.specs.Found.{IsCutOff, IsFound, IsRan, IsSilent, IsTold, Matches, MatchesLine, said_of, status_of}
 
-taken-not-refused : (words : List (List ℕ)) (plan : Plan) (budget : ℕ) (check : Bool) → IsReplay words plan budget check → AreRefused words → ⊥
-taken-not-refused words plan budget check w r = absurd (let e = sym w ∙ r in cc)
+-- ---- what was found may be said
 
-same-budget : (words : List (List ℕ)) (a b : Plan) (m n : ℕ) (c d : Bool) → IsReplay words a m c → IsReplay words b n d → m ≡ n
-same-budget words a b m n c d v w = let e : Some (Replay a m c) ≡ Some (Replay b n d) = sym v ∙ w in cc
+unchecked : (p : Program) (outcome : Outcome) → replay_text p outcome false ≡ concat (outcome_lines p outcome)
+unchecked p outcome = ap concat (append-nil (outcome_lines p outcome))
 
-same-plan : (words : List (List ℕ)) (a b : Plan) (m n : ℕ) (c d : Bool) → IsReplay words a m c → IsReplay words b n d → a ≡ b
-same-plan words a b m n c d v w = let e : Some (Replay a m c) ≡ Some (Replay b n d) = sym v ∙ w in cc
+comes : (line : Line) (text : List ℕ) (f : Found) → MatchesLine line text f → IsTelling (status_of f) → ComesTo line text (status_of f) (said_of f)
+comes (Replay plan budget check) text (BadScript fault) m tells = (fault.line, fault.why, m, refl)
+comes (Replay plan budget check) text (Ran p report) m tells = (p, m.0, report.outcome, m.1, ap (replay_text p report.outcome) m.2)
+comes (Replay plan budget check) text (OutOfTurns n) m tells = (m.1, m.2, m.3, rw m.0 refl)
+comes (Replay plan budget check) text ReadFault m tells = absurd tells
+comes (Replay plan budget check) text NoMemory m tells = absurd tells
+comes (Replay plan budget check) text _ m tells = absurd m
+comes Run text (BadScript fault) m tells = (fault.line, fault.why, m, refl)
+comes Run text (Ran p report) m tells = (p, m.0, report.outcome, m.1, ap (replay_text p report.outcome) m.2 ∙ unchecked p report.outcome)
+comes Run text ReadFault m tells = absurd tells
+comes Run text NoThread m tells = absurd tells
+comes Run text NoMemory m tells = absurd tells
+comes Run text _ m tells = absurd m
+comes (Gen seed size) text (Generated script) m tells = m
+comes (Gen seed size) text NoMemory m tells = absurd tells
+comes (Gen seed size) text _ m tells = absurd m
+comes (Soak seed size) text (Soaked n objects bytes) m tells =
+    (m.1, m.2, ap (λ (k : ℕ). statements_line k ++ live_line objects bytes) m.0 ∙ ap₂ (λ (o b : ℕ). statements_line (4 * (size / 4)) ++ live_line o b) m.3 m.4)
+comes (Soak seed size) text NoThread m tells = absurd tells
+comes (Soak seed size) text NoMemory m tells = absurd tells
+comes (Soak seed size) text _ m tells = absurd m
+
+pub says : (words : List Text) (text : List ℕ) (f : Found) → Matches words text f → IsTelling (status_of f) → Says words text (status_of f) (said_of f)
+says words text BadWords m tells = (m, refl)
+says words text NoMemory m tells = absurd tells
+says words text (BadScript fault) m tells = (m.0, m.1, comes m.0 text (BadScript fault) m.2 tells)
+says words text (Ran p report) m tells = (m.0, m.1, comes m.0 text (Ran p report) m.2 tells)
+says words text (OutOfTurns n) m tells = (m.0, m.1, comes m.0 text (OutOfTurns n) m.2 tells)
+says words text (Generated script) m tells = (m.0, m.1, comes m.0 text (Generated script) m.2 tells)
+says words text (Soaked n objects bytes) m tells = (m.0, m.1, comes m.0 text (Soaked n objects bytes) m.2 tells)
+says words text ReadFault m tells = absurd tells
+says words text NoThread m tells = absurd tells
+
+-- what is not silent tells
+telling : (f : Found) → (IsSilent f → ⊥) → IsTelling (status_of f)
+telling ReadFault loud = absurd (loud tt)
+telling NoThread loud = absurd (loud tt)
+telling NoMemory loud = absurd (loud tt)
+telling _ loud = tt
+
+-- ---- what was found is of the line
+
+no_memory : (line : Line) (text : List ℕ) → MatchesLine line text NoMemory
+no_memory (Replay plan budget check) text = tt
+no_memory Run text = tt
+no_memory (Gen seed size) text = tt
+no_memory (Soak seed size) text = tt
+
+same_line : (words : List Text) (a b : Line) → command_line words ≡ Some a → command_line words ≡ Some b → a ≡ b
+same_line words a b v w = let e : Some a ≡ Some b = sym v ∙ w in cc
+
+taken-not-refused : (words : List Text) (line : Line) → command_line words ≡ Some line → AreRefused words → ⊥
+taken-not-refused words line w r = absurd (let e = sym w ∙ r in cc)
+
+-- what is found for words that are taken so
+pub for_line : (words : List Text) (text : List ℕ) (line : Line) (f : Found) → command_line words ≡ Some line → Matches words text f → MatchesLine line text f
+for_line words text line BadWords is m = absurd (taken-not-refused words line is m)
+for_line words text line NoMemory is m = no_memory line text
+for_line words text line f is m = subst (λ (l : Line). MatchesLine l text f) (same_line words m.0 line m.1 is) m.2
+
+-- and for a line is found for the words
+pub for_words : (words : List Text) (text : List ℕ) (line : Line) (f : Found) → command_line words ≡ Some line → MatchesLine line text f → Matches words text f
+for_words words text line BadWords is m = absurd (none line m)
+  where
+    none : (l : Line) → MatchesLine l text BadWords → ⊥
+    none (Replay plan budget check) h = h
+    none Run h = h
+    none (Gen seed size) h = h
+    none (Soak seed size) h = h
+for_words words text line NoMemory is m = tt
+for_words words text line f is m = (line, is, m)
+
+-- ---- a text that spells a script, and one that spells none
 
 module _ (not_both : (text : List ℕ) (p : Program) (line : ℕ) (why : Why) → Spells text p → Refused text line why → ⊥) where
-  -- a text that spells a script
-  pub spelled-ends : (words : List (List ℕ)) (text : List ℕ) (plan : Plan) (budget : ℕ) (check : Bool) (p : Program) (f : Found) → Matches words text f → (f ≡ ReadFault → ⊥) → IsReplay words plan budget check → Spells text p
+  replayed-ends : (text : List ℕ) (plan : Plan) (budget : ℕ) (check : Bool) (p : Program) (f : Found) → MatchesLine (Replay plan budget check) text f → (f ≡ ReadFault → ⊥) → Spells text p
       → (status_of f ≡ statuses.Ok) ⊎ (status_of f ≡ statuses.OutOfTurns) ⊎ (status_of f ≡ statuses.NoMemory)
-  spelled-ends words text plan budget check p BadWords m read replay spelled = absurd (taken-not-refused words plan budget check replay m)
-  spelled-ends words text plan budget check p (BadScript fault) m read replay spelled = absurd (not_both text p fault.line fault.why spelled m.4)
-  spelled-ends words text plan budget check p (Ran q report) m read replay spelled = inl refl
-  spelled-ends words text plan budget check p (OutOfTurns n) m read replay spelled = inr (inl refl)
-  spelled-ends words text plan budget check p ReadFault m read replay spelled = absurd (read refl)
-  spelled-ends words text plan budget check p NoMemory m read replay spelled = inr (inr refl)
+  replayed-ends text plan budget check p (BadScript fault) m read spelled = absurd (not_both text p fault.line fault.why spelled m)
+  replayed-ends text plan budget check p (Ran q report) m read spelled = inl refl
+  replayed-ends text plan budget check p (OutOfTurns n) m read spelled = inr (inl refl)
+  replayed-ends text plan budget check p ReadFault m read spelled = absurd (read refl)
+  replayed-ends text plan budget check p NoMemory m read spelled = inr (inr refl)
+  replayed-ends text plan budget check p _ m read spelled = absurd m
 
-  -- a text that spells none
-  pub refused-ends : (words : List (List ℕ)) (text : List ℕ) (plan : Plan) (budget line : ℕ) (check : Bool) (why : Why) (f : Found) → Matches words text f → (f ≡ ReadFault → ⊥) → IsReplay words plan budget check → Refused text line why
-      → (status_of f ≡ statuses.BadScript) ⊎ (status_of f ≡ statuses.NoMemory)
-  refused-ends words text plan budget line check why BadWords m read replay refused = absurd (taken-not-refused words plan budget check replay m)
-  refused-ends words text plan budget line check why (BadScript fault) m read replay refused = inl refl
-  refused-ends words text plan budget line check why (Ran q report) m read replay refused = absurd (not_both text q line why m.4.0 refused)
-  refused-ends words text plan budget line check why (OutOfTurns n) m read replay refused = absurd (not_both text m.4.1 line why m.4.2 refused)
-  refused-ends words text plan budget line check why ReadFault m read replay refused = absurd (read refl)
-  refused-ends words text plan budget line check why NoMemory m read replay refused = inr refl
+  pub run-ends : (text : List ℕ) (p : Program) (f : Found) → MatchesLine Run text f → (f ≡ ReadFault → ⊥) → (f ≡ NoThread → ⊥) → Spells text p → (status_of f ≡ statuses.Ok) ⊎ (status_of f ≡ statuses.NoMemory)
+  run-ends text p (BadScript fault) m read thread spelled = absurd (not_both text p fault.line fault.why spelled m)
+  run-ends text p (Ran q report) m read thread spelled = inl refl
+  run-ends text p ReadFault m read thread spelled = absurd (read refl)
+  run-ends text p NoThread m read thread spelled = absurd (thread refl)
+  run-ends text p NoMemory m read thread spelled = inr refl
+  run-ends text p _ m read thread spelled = absurd m
+
+  abbrev IsRefusedSo : Found → Type 0
+  IsRefusedSo f = (status_of f ≡ statuses.BadScript) ⊎ (status_of f ≡ statuses.NoMemory)
+
+  refused-replay : (text : List ℕ) (plan : Plan) (budget : ℕ) (check : Bool) (line : ℕ) (why : Why) (f : Found) → MatchesLine (Replay plan budget check) text f → (f ≡ ReadFault → ⊥) → Refused text line why → IsRefusedSo f
+  refused-replay text plan budget check line why (BadScript fault) m read refused = inl refl
+  refused-replay text plan budget check line why (Ran q report) m read refused = absurd (not_both text q line why m.0 refused)
+  refused-replay text plan budget check line why (OutOfTurns n) m read refused = absurd (not_both text m.1 line why m.2 refused)
+  refused-replay text plan budget check line why ReadFault m read refused = absurd (read refl)
+  refused-replay text plan budget check line why NoMemory m read refused = inr refl
+  refused-replay text plan budget check line why _ m read refused = absurd m
+
+  refused-run : (text : List ℕ) (line : ℕ) (why : Why) (f : Found) → MatchesLine Run text f → (f ≡ ReadFault → ⊥) → Refused text line why → IsRefusedSo f
+  refused-run text line why (BadScript fault) m read refused = inl refl
+  refused-run text line why (Ran q report) m read refused = absurd (not_both text q line why m.0 refused)
+  refused-run text line why ReadFault m read refused = absurd (read refl)
+  refused-run text line why NoThread m read refused = absurd (not_both text m.0 line why m.1 refused)
+  refused-run text line why NoMemory m read refused = inr refl
+  refused-run text line why _ m read refused = absurd m
+
+  -- a text that is refused, for words that read it
+  refused-ends : (words : List Text) (text : List ℕ) (line : ℕ) (why : Why) (f : Found) → Matches words text f → ReadsScript words → (f ≡ ReadFault → ⊥) → Refused text line why → IsRefusedSo f
+  refused-ends words text line why f m (inl run) read refused = refused-run text line why f (for_line words text Run f run m) read refused
+  refused-ends words text line why f m (inr replay) read refused =
+      refused-replay text replay.0 replay.1 replay.2 line why f (for_line words text (Replay replay.0 replay.1 replay.2) f replay.3 m) read refused
 
 module _ (one_script : (text : List ℕ) (p q : Program) → Spells text p → Spells text q → p ≡ q) (never : NotBoth) where
   -- a run that ends within the budget is not out of turns
-  pub replayed-tells : (words : List (List ℕ)) (text : List ℕ) (plan : Plan) (budget : ℕ) (check : Bool) (p : Program) (outcome : Outcome) (f : Found) → Matches words text f → IsReplay words plan budget check → Spells text p → IsReplayed p plan budget outcome → status_of f ≡ statuses.OutOfTurns → ⊥
-  replayed-tells words text plan budget check p outcome BadWords m replay spelled r e = absurd cc
-  replayed-tells words text plan budget check p outcome (BadScript fault) m replay spelled r e = absurd cc
-  replayed-tells words text plan budget check p outcome (Ran q report) m replay spelled r e = absurd cc
-  replayed-tells words text plan budget check p outcome (OutOfTurns n) m replay spelled r e =
-      let u : IsUnfinished p m.0 m.1 = subst (λ (q : Program). IsUnfinished q m.0 m.1) (one_script text m.4.1 p m.4.2 spelled) m.4.3 in
-      never p plan budget outcome r (subst (λ (n : ℕ). IsUnfinished p plan n) (same-budget words m.0 plan m.1 budget m.2 check m.3 replay) (subst (λ (q : Plan). IsUnfinished p q m.1) (same-plan words m.0 plan m.1 budget m.2 check m.3 replay) u))
-  replayed-tells words text plan budget check p outcome ReadFault m replay spelled r e = absurd cc
-  replayed-tells words text plan budget check p outcome NoMemory m replay spelled r e = absurd cc
+  replayed-tells : (text : List ℕ) (plan : Plan) (budget : ℕ) (check : Bool) (p : Program) (outcome : Outcome) (f : Found) → MatchesLine (Replay plan budget check) text f → Spells text p → IsReplayed p plan budget outcome → status_of f ≡ statuses.OutOfTurns → ⊥
+  replayed-tells text plan budget check p outcome (OutOfTurns n) m spelled r e =
+      never p plan budget outcome r (subst (λ (q : Program). IsUnfinished q plan budget) (one_script text m.1 p m.2 spelled) m.3)
+  replayed-tells text plan budget check p outcome BadWords m spelled r e = absurd m
+  replayed-tells text plan budget check p outcome (BadScript fault) m spelled r e = absurd cc
+  replayed-tells text plan budget check p outcome (Ran q report) m spelled r e = absurd cc
+  replayed-tells text plan budget check p outcome (Generated script) m spelled r e = absurd m
+  replayed-tells text plan budget check p outcome (Soaked n objects bytes) m spelled r e = absurd m
+  replayed-tells text plan budget check p outcome ReadFault m spelled r e = absurd cc
+  replayed-tells text plan budget check p outcome NoThread m spelled r e = absurd m
+  replayed-tells text plan budget check p outcome NoMemory m spelled r e = absurd cc
 
   -- and one that does not is not told
-  pub unfinished-tells : (words : List (List ℕ)) (text : List ℕ) (plan : Plan) (budget : ℕ) (check : Bool) (p : Program) (f : Found) → Matches words text f → IsReplay words plan budget check → Spells text p → IsUnfinished p plan budget → status_of f ≡ statuses.Ok → ⊥
-  unfinished-tells words text plan budget check p BadWords m replay spelled u e = absurd cc
-  unfinished-tells words text plan budget check p (BadScript fault) m replay spelled u e = absurd cc
-  unfinished-tells words text plan budget check p (Ran q report) m replay spelled u e =
-      let r : IsReplayed p m.0 m.1 report.outcome = subst (λ (x : Program). IsReplayed x m.0 m.1 report.outcome) (one_script text q p m.4.0 spelled) m.4.1 in
-      never p plan budget report.outcome (subst (λ (n : ℕ). IsReplayed p plan n report.outcome) (same-budget words m.0 plan m.1 budget m.2 check m.3 replay) (subst (λ (q : Plan). IsReplayed p q m.1 report.outcome) (same-plan words m.0 plan m.1 budget m.2 check m.3 replay) r)) u
-  unfinished-tells words text plan budget check p (OutOfTurns n) m replay spelled u e = absurd cc
-  unfinished-tells words text plan budget check p ReadFault m replay spelled u e = absurd cc
-  unfinished-tells words text plan budget check p NoMemory m replay spelled u e = absurd cc
+  unfinished-tells : (text : List ℕ) (plan : Plan) (budget : ℕ) (check : Bool) (p : Program) (f : Found) → MatchesLine (Replay plan budget check) text f → Spells text p → IsUnfinished p plan budget → status_of f ≡ statuses.Ok → ⊥
+  unfinished-tells text plan budget check p (Ran q report) m spelled u e =
+      never p plan budget report.outcome (subst (λ (x : Program). IsReplayed x plan budget report.outcome) (one_script text q p m.0 spelled) m.1) u
+  unfinished-tells text plan budget check p BadWords m spelled u e = absurd m
+  unfinished-tells text plan budget check p (BadScript fault) m spelled u e = absurd cc
+  unfinished-tells text plan budget check p (OutOfTurns n) m spelled u e = absurd cc
+  unfinished-tells text plan budget check p (Generated script) m spelled u e = absurd m
+  unfinished-tells text plan budget check p (Soaked n objects bytes) m spelled u e = absurd m
+  unfinished-tells text plan budget check p ReadFault m spelled u e = absurd cc
+  unfinished-tells text plan budget check p NoThread m spelled u e = absurd m
+  unfinished-tells text plan budget check p NoMemory m spelled u e = absurd cc
 
--- what was found is what may be said
-pub says : (words : List (List ℕ)) (text : List ℕ) (f : Found) → Matches words text f → IsTelling (status_of f) → Says words text (status_of f) (said_of f)
-says words text BadWords m telling = (m, refl)
-says words text (BadScript fault) m telling = (m.0, m.1, m.2, m.3, fault.line, fault.why, m.4, refl)
-says words text (Ran p report) m telling = (m.0, m.1, m.2, m.3, p, m.4.0, report.outcome, m.4.1, ap (λ (check : Bool). replay_text p report.outcome check) m.4.2)
-says words text (OutOfTurns n) m telling = (m.0, m.1, m.2, m.3, m.4.1, m.4.2, m.4.3, rw m.4.0 refl)
-says words text ReadFault m telling = absurd telling
-says words text NoMemory m telling = absurd telling
+-- ---- words that read no script
 
--- what is not silent tells
-pub telling : (f : Found) → (IsSilent f → ⊥) → IsTelling (status_of f)
-telling ReadFault loud = absurd (loud tt)
-telling NoMemory loud = absurd (loud tt)
-telling _ loud = tt
+generated-ends : (text : List ℕ) (seed size : ℕ) (f : Found) → MatchesLine (Gen seed size) text f → (status_of f ≡ statuses.Ok) ⊎ (status_of f ≡ statuses.NoMemory)
+generated-ends text seed size (Generated script) m = inl refl
+generated-ends text seed size NoMemory m = inr refl
+generated-ends text seed size _ m = absurd m
+
+pub soak-ends : (text : List ℕ) (seed size : ℕ) (f : Found) → MatchesLine (Soak seed size) text f → (f ≡ NoThread → ⊥) → (status_of f ≡ statuses.Ok) ⊎ (status_of f ≡ statuses.NoMemory)
+soak-ends text seed size (Soaked n objects bytes) m thread = inl refl
+soak-ends text seed size NoThread m thread = absurd (thread refl)
+soak-ends text seed size NoMemory m thread = inr refl
+soak-ends text seed size _ m thread = absurd m
+
+refused-words : (words : List Text) (text : List ℕ) (f : Found) → Matches words text f → AreRefused words → (status_of f ≡ statuses.BadWords) ⊎ (status_of f ≡ statuses.NoMemory)
+refused-words words text BadWords m refused = inl refl
+refused-words words text NoMemory m refused = inr refl
+refused-words words text _ m refused = absurd (taken-not-refused words m.0 m.1 refused)
+
+-- a line by which a script is read
+abbrev IsReading : Line → Type 0
+IsReading (Replay plan budget check) = Unit {0}
+IsReading Run = Unit {0}
+IsReading _ = ⊥
+
+reading-line : (words : List Text) (line : Line) → command_line words ≡ Some line → ReadsScript words → IsReading line
+reading-line words line is (inl run) = subst IsReading (same_line words Run line run is) tt
+reading-line words line is (inr replay) = subst IsReading (same_line words (Replay replay.0 replay.1 replay.2) line replay.3 is) tt
+
+-- what is told of words that read a script was run
+run-if : (words : List Text) (text : List ℕ) (f : Found) → Matches words text f → ReadsScript words → status_of f ≡ statuses.Ok → IsRan f
+run-if words text (Ran p report) m reads e = tt
+run-if words text (OutOfTurns n) m reads e = tt
+run-if words text (Generated script) m reads e = none m.0 m.2 (reading-line words m.0 m.1 reads)
+  where
+    none : (line : Line) → MatchesLine line text (Generated script) → IsReading line → ⊥
+    none (Replay plan budget check) h r = h
+    none Run h r = h
+    none (Gen seed size) h r = r
+    none (Soak seed size) h r = r
+run-if words text (Soaked n objects bytes) m reads e = none m.0 m.2 (reading-line words m.0 m.1 reads)
+  where
+    none : (line : Line) → MatchesLine line text (Soaked n objects bytes) → IsReading line → ⊥
+    none (Replay plan budget check) h r = h
+    none Run h r = h
+    none (Gen seed size) h r = r
+    none (Soak seed size) h r = r
+run-if words text BadWords m reads e = absurd cc
+run-if words text (BadScript fault) m reads e = absurd cc
+run-if words text ReadFault m reads e = absurd cc
+run-if words text NoThread m reads e = absurd cc
+run-if words text NoMemory m reads e = absurd cc
+
+-- ---- what a status says of what was found
+
+abbrev IsOf : (Found → Type 0) → Status → Found → Type 0
+IsOf P s f = status_of f ≡ s → P f
+
+refused-if : (words : List Text) (text : List ℕ) (f : Found) → Matches words text f → IsOf (λ g. AreRefused words) statuses.BadWords f
+refused-if words text BadWords m e = m
+refused-if words text (BadScript fault) m e = absurd cc
+refused-if words text (Ran p report) m e = absurd cc
+refused-if words text (OutOfTurns n) m e = absurd cc
+refused-if words text (Generated script) m e = absurd cc
+refused-if words text (Soaked n objects bytes) m e = absurd cc
+refused-if words text ReadFault m e = absurd cc
+refused-if words text NoThread m e = absurd cc
+refused-if words text NoMemory m e = absurd cc
+
+read-if : (f : Found) → IsOf (λ g. g ≡ ReadFault) statuses.ReadFault f
+read-if ReadFault e = refl
+read-if BadWords e = absurd cc
+read-if (BadScript fault) e = absurd cc
+read-if (Ran p report) e = absurd cc
+read-if (OutOfTurns n) e = absurd cc
+read-if (Generated script) e = absurd cc
+read-if (Soaked n objects bytes) e = absurd cc
+read-if NoThread e = absurd cc
+read-if NoMemory e = absurd cc
+
+pub thread-if : (f : Found) → IsOf (λ g. g ≡ NoThread) statuses.NoThread f
+thread-if NoThread e = refl
+thread-if BadWords e = absurd cc
+thread-if (BadScript fault) e = absurd cc
+thread-if (Ran p report) e = absurd cc
+thread-if (OutOfTurns n) e = absurd cc
+thread-if (Generated script) e = absurd cc
+thread-if (Soaked n objects bytes) e = absurd cc
+thread-if ReadFault e = absurd cc
+thread-if NoMemory e = absurd cc
+
+thread-words : (words : List Text) (text : List ℕ) → Matches words text NoThread → IsForThreads words
+thread-words words text m = go m.0 m.1 m.2
+  where
+    go : (line : Line) → command_line words ≡ Some line → MatchesLine line text NoThread → IsForThreads words
+    go (Replay plan budget check) is h = absurd h
+    go Run is h = inl is
+    go (Gen seed size) is h = absurd h
+    go (Soak seed size) is h = inr (seed, size, is)
+
+silent-memory : (f : Found) → IsOf IsSilent statuses.NoMemory f
+silent-memory NoMemory e = tt
+silent-memory BadWords e = absurd cc
+silent-memory (BadScript fault) e = absurd cc
+silent-memory (Ran p report) e = absurd cc
+silent-memory (OutOfTurns n) e = absurd cc
+silent-memory (Generated script) e = absurd cc
+silent-memory (Soaked n objects bytes) e = absurd cc
+silent-memory ReadFault e = tt
+silent-memory NoThread e = tt
+
+abbrev IsWrite : Status → Type 0
+IsWrite statuses.WriteFault = Unit {0}
+IsWrite _ = ⊥
+
+never-write : (f : Found) → status_of f ≡ statuses.WriteFault → ⊥
+never-write f e = none f (subst IsWrite (sym e) tt)
+  where
+    none : (g : Found) → IsWrite (status_of g) → ⊥
+    none BadWords h = h
+    none _ h = h
+
+-- ---- all of it
+
+abbrev pub NeverBoth : Type 0
+NeverBoth = (text : List ℕ) (p : Program) (line : ℕ) (why : Why) → Spells text p → Refused text line why → ⊥
+
+abbrev pub OneScript : Type 0
+OneScript = (text : List ℕ) (p q : Program) → Spells text p → Spells text q → p ≡ q
+
+module _ (not_both : NeverBoth) (one_script : OneScript) (never : NotBoth) (words : List Text) (before after : Streams) (f : Found) (status : Status)
+    (found : IsFound (Matches words) before.left after.left before.read_faults after.read_faults f) where
+  pub told-ends : IsTold f before.taken after.taken before.write_faults after.write_faults status → Ends words before after status
+  told-ends t = subst (Ends words before after) (sym t.so) (record {
+    said = λ text left tells. (said_of f, says words text f (found.told text left) tells, t.whole);
+    explained = λ tells. (found.explained.0, (said_of f, says words found.explained.0 f found.explained.1 tells, t.whole));
+    read_to_end = λ text left reads ok. found.read text left (run-if words text f (found.told text left) reads ok);
+    bad_words = refused-if words found.explained.0 f found.explained.1;
+    bad_words_exactly = λ refused wrote. refused-words words found.explained.0 f found.explained.1 refused;
+    bad_script_exactly = λ text line why left reads refused read wrote. refused-ends not_both words text line why f (found.told text left) reads (λ e. read (found.fault e)) refused;
+    complete = λ text plan budget check p left replay spelled read wrote.
+        replayed-ends not_both text plan budget check p f (for_line words text (Replay plan budget check) f replay (found.told text left)) (λ e. read (found.fault e)) spelled;
+    ok_exactly = λ text plan budget check p outcome left replay spelled replayed.
+        replayed-tells one_script never text plan budget check p outcome f (for_line words text (Replay plan budget check) f replay (found.told text left)) spelled replayed;
+    out_of_turns_exactly = λ text plan budget check p left replay spelled unfinished.
+        unfinished-tells one_script never text plan budget check p f (for_line words text (Replay plan budget check) f replay (found.told text left)) spelled unfinished;
+    generated = λ seed size gen wrote. generated-ends found.explained.0 seed size f (for_line words found.explained.0 (Gen seed size) f gen found.explained.1);
+    read_fault = λ e.
+        let is = read-if f e in
+        let m = subst (Matches words found.explained.0) is found.explained.1 in
+        (taken-not-refused words m.0 m.1, found.fault is, t.silent (subst IsSilent (sym is) tt));
+    write_fault = λ e. absurd (never-write f e);
+    read_fault_exactly = λ rose. ap status_of (found.fault_exactly rose);
+    write_fault_exactly = λ rose. absurd (omega (arith, rose, t.no_fault));
+    write_part = λ text left e. absurd (never-write f e);
+    explained_part = λ e. absurd (never-write f e);
+    no_memory = λ e. t.silent (silent-memory f e);
+    no_thread = λ e.
+        let is = thread-if f e in
+        (thread-words words found.explained.0 (subst (Matches words found.explained.0) is found.explained.1), t.silent (subst IsSilent (sym is) tt));
+    source_never_falls = found.never_falls;
+    sink_never_falls = omega (arith, t.no_fault);
+  })
+
+  pub cut-ends : IsCutOff f before.taken after.taken before.write_faults after.write_faults status → Ends words before after status
+  cut-ends t = subst (Ends words before after) (sym t.so) (record {
+    said = λ text left tells. absurd tells;
+    explained = λ tells. absurd tells;
+    read_to_end = λ text left reads e. absurd cc;
+    bad_words = λ e. absurd cc;
+    bad_words_exactly = λ refused wrote. absurd (wrote t.failed);
+    bad_script_exactly = λ text line why left reads refused read wrote. absurd (wrote t.failed);
+    complete = λ text plan budget check p left replay spelled read wrote. absurd (wrote t.failed);
+    ok_exactly = λ text plan budget check p outcome left replay spelled replayed e. absurd cc;
+    out_of_turns_exactly = λ text plan budget check p left replay spelled unfinished e. absurd cc;
+    generated = λ seed size gen wrote. absurd (wrote t.failed);
+    read_fault = λ e. absurd cc;
+    write_fault = λ e. t.failed;
+    read_fault_exactly = λ rose. absurd (t.loud (subst IsSilent (sym (found.fault_exactly rose)) tt));
+    write_fault_exactly = λ rose. refl;
+    write_part = λ text left e. (status_of f, said_of f, says words text f (found.told text left) (telling f t.loud), t.part);
+    explained_part = λ e. (found.explained.0, (status_of f, said_of f, says words found.explained.0 f found.explained.1 (telling f t.loud), t.part));
+    no_memory = λ e. absurd cc;
+    no_thread = λ e. absurd cc;
+    source_never_falls = found.never_falls;
+    sink_never_falls = t.never_falls;
+  })

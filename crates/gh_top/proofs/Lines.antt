@@ -1,5 +1,5 @@
 -- Lines, one after the other.
-use Rattle.std.proofs.Common.{◌≡◌, ℕ, ◌+◌, List, [], ◌∷◌, ◌++◌, take, drop, Option, Some, Result, Ok, Err, OnErr, slice_get, sym, ap, subst, ◌∙◌, take-append-drop}
+use Rattle.std.proofs.Common.{◌≡◌, ℕ, ◌+◌, List, [], ◌∷◌, ◌++◌, take, drop, Option, Some, Result, Ok, Err, OnOk, OnErr, slice_get, sym, ap, subst, ◌∙◌, take-append-drop}
 use Rattle.std.specs.List.{concat}
 use Rattle.std.specs.Io.KnownBytes.{Appends}
 use Rattle.std.proofs.KnownBytes.{Appends-trans}
@@ -29,3 +29,19 @@ told-part first second ls i line a b c at before part =
 pub on-err : {T E P : Type 0} (r : Result T E) → P → OnErr r P
 on-err (Ok x) h = tt
 on-err (Err e) h = h
+
+pub err-map : {T E P Q : Type 0} (r : Result T E) → (P → Q) → OnErr r P → OnErr r Q
+err-map (Ok x) f h = tt
+err-map (Err e) f h = f h
+
+pub ok-map : {T E P Q : Type 0} (r : Result T E) → (P → Q) → OnOk r P → OnOk r Q
+ok-map (Ok x) f h = f h
+ok-map (Err e) f h = tt
+
+-- two lines, one after the other
+pub both-told : (l m x y : List ℕ) (a b c : Option (List ℕ)) → x ≡ l → y ≡ m → Appends a b x → Appends b c y → Appends a c (l ++ m)
+both-told l m x y a b c first second before next = Appends-trans a b c l m (subst (Appends a b) first before) (subst (Appends b c) second next)
+
+-- the first, and then a part of the second
+pub both-part : PartOfSecondIsOfBoth → (l m x y : List ℕ) (a b c : Option (List ℕ)) → x ≡ l → y ≡ m → Appends a b x → TookPart b c y → TookPart a c (l ++ m)
+both-part second l m x y a b c first next before part = second a b c l m (subst (Appends a b) first before) (subst (TookPart b c) next part)

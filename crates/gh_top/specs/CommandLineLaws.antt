@@ -1,10 +1,11 @@
 -- What follows from the form of the command line.
-use Rattle.std.specs.Prelude.{◌≡◌, ◌≤◌, ℕ, Bool, true, false, List, [], ◌∷◌, Some, None, codes}
+use Rattle.std.specs.Prelude.{◌≡◌, ◌≤◌, ◌⊎◌, ℕ, Bool, true, false, List, [], ◌∷◌, Some, None, codes}
 use Rattle.std.specs.List.{AllByRecursion}
 use Rattle.gh_replay.specs.Plan.{Plan, no_plan}
 use Rattle.gh_replay.specs.declared.schedule.Until.TheVariants.{Steps, Marks, Without}
 use Rattle.gh_top.specs.CommandLine.{Text, command_line}
-use Rattle.gh_top.specs.declared.line.Line.TheVariants.{Replay}
+use Rattle.gh_top.specs.declared.line.Line.{Line}
+use Rattle.gh_top.specs.declared.line.Line.TheVariants.{Gen, Replay, Run, Soak}
 
 -- the program's name, and then these words
 abbrev pub called : List Text → List Text
@@ -57,11 +58,34 @@ checked_lines =
     ∷ (replayed (codes "--check" ∷ codes "--budget" ∷ codes "7" ∷ []), 7)
     ∷ (replayed (codes "--budget=7" ∷ codes "--check" ∷ []), 7) ∷ []
 
+-- lines of the other subcommands that are taken, each with what it asks for
+abbrev pub other_lines : List (List Text × Line)
+other_lines =
+    (called (codes "run" ∷ []), Run)
+    ∷ (called (codes "run" ∷ codes "--" ∷ []), Run)
+    ∷ (called (codes "gen" ∷ codes "--seed" ∷ codes "7" ∷ codes "--size" ∷ codes "12" ∷ []), Gen 7 12)
+    ∷ (called (codes "gen" ∷ codes "--size=4" ∷ codes "--seed=0" ∷ []), Gen 0 4)
+    ∷ (called (codes "gen" ∷ codes "--size" ∷ codes "200000" ∷ codes "--seed=18446744073709551615" ∷ codes "--" ∷ []), Gen 18446744073709551615 200000)
+    ∷ (called (codes "soak" ∷ codes "--seed=7" ∷ codes "--size" ∷ codes "5000" ∷ []), Soak 7 5000)
+    ∷ (called (codes "soak" ∷ codes "--size" ∷ codes "+05" ∷ codes "--seed" ∷ codes "1" ∷ codes "--" ∷ []), Soak 1 5) ∷ []
+
+-- the words after `goheap gen` and after `goheap soak`, of which neither is taken
+abbrev pub refused_scripts : List (List Text)
+refused_scripts =
+    [] ∷ (codes "--" ∷ []) ∷ (codes "--help" ∷ []) ∷ (codes "7" ∷ codes "12" ∷ [])
+    ∷ (codes "--size" ∷ codes "3" ∷ []) ∷ (codes "--size" ∷ codes "12" ∷ []) ∷ (codes "--seed" ∷ codes "7" ∷ [])
+    ∷ (codes "--seed" ∷ codes "7" ∷ codes "--size" ∷ []) ∷ (codes "--seed" ∷ codes "7" ∷ codes "--size" ∷ codes "3" ∷ [])
+    ∷ (codes "--seed" ∷ codes "7" ∷ codes "--size" ∷ codes "200001" ∷ []) ∷ (codes "--seed" ∷ codes "7" ∷ codes "--size=" ∷ [])
+    ∷ (codes "--seed" ∷ codes "-1" ∷ codes "--size" ∷ codes "12" ∷ []) ∷ (codes "--seed=18446744073709551616" ∷ codes "--size=12" ∷ [])
+    ∷ (codes "--seed=7" ∷ codes "--size=12" ∷ codes "--seed=7" ∷ []) ∷ (codes "--size=12" ∷ codes "--seed=7" ∷ codes "--size=12" ∷ [])
+    ∷ (codes "--seed=7" ∷ codes "--size=12" ∷ codes "now" ∷ []) ∷ (codes "--seed=7" ∷ codes "--" ∷ codes "--size=12" ∷ [])
+    ∷ (codes "--seed=7" ∷ codes "--size=12" ∷ codes "--check" ∷ []) ∷ (codes "--seed=7" ∷ codes "--size=12" ∷ codes "--budget=1" ∷ []) ∷ []
+
 -- lines that are refused
 abbrev pub refused_lines : List (List Text)
 refused_lines =
     [] ∷ called []
-    ∷ called (codes "run" ∷ []) ∷ called (codes "Replay" ∷ []) ∷ called (codes "rep" ∷ []) ∷ called (codes "" ∷ [])
+    ∷ called (codes "Run" ∷ []) ∷ called (codes "runs" ∷ []) ∷ called (codes "generate" ∷ []) ∷ called (codes "Replay" ∷ []) ∷ called (codes "rep" ∷ []) ∷ called (codes "" ∷ [])
     ∷ called (codes "--" ∷ codes "replay" ∷ []) ∷ called (codes "--budget" ∷ codes "1" ∷ codes "replay" ∷ [])
     ∷ called (codes "--help" ∷ []) ∷ called (codes "-h" ∷ []) ∷ called (codes "help" ∷ []) ∷ called (codes "--version" ∷ [])
     ∷ replayed (codes "--help" ∷ []) ∷ replayed (codes "-h" ∷ []) ∷ replayed (codes "help" ∷ [])
@@ -88,7 +112,11 @@ refused_lines =
     ∷ replayed (codes "--list" ∷ codes "0*9" ∷ codes "--list" ∷ codes "0*9" ∷ [])
     ∷ replayed (codes "--check=true" ∷ []) ∷ replayed (codes "--check=" ∷ []) ∷ replayed (codes "--check" ∷ codes "true" ∷ [])
     ∷ replayed (codes "--check" ∷ codes "--check" ∷ []) ∷ replayed (codes "--budget" ∷ codes "--check" ∷ codes "5" ∷ [])
-    ∷ replayed (codes "--chec" ∷ []) ∷ replayed (codes "-c" ∷ []) ∷ replayed (codes "check" ∷ []) ∷ []
+    ∷ replayed (codes "--chec" ∷ []) ∷ replayed (codes "-c" ∷ []) ∷ replayed (codes "check" ∷ [])
+    ∷ replayed (codes "--size" ∷ codes "12" ∷ [])
+    ∷ called (codes "run" ∷ codes "--seed" ∷ codes "1" ∷ []) ∷ called (codes "run" ∷ codes "--check" ∷ []) ∷ called (codes "run" ∷ codes "--budget=1" ∷ [])
+    ∷ called (codes "run" ∷ codes "now" ∷ []) ∷ called (codes "run" ∷ codes "--help" ∷ []) ∷ called (codes "run" ∷ codes "--" ∷ codes "--" ∷ [])
+    ∷ called (codes "--" ∷ codes "run" ∷ []) ∷ called (codes "run" ∷ codes "replay" ∷ []) ∷ []
 
 -- each of these lines is read so
 abbrev pub KnownLines : Type 0
@@ -96,8 +124,14 @@ KnownLines =
     AllByRecursion (λ row. command_line row.0 ≡ Some (Replay no_plan row.1 false)) taken_lines
     × AllByRecursion (λ row. command_line row.0 ≡ Some (Replay row.1 row.2 false)) scheduled_lines
     × AllByRecursion (λ row. command_line row.0 ≡ Some (Replay no_plan row.1 true)) checked_lines
+    × AllByRecursion (λ row. command_line row.0 ≡ Some row.1) other_lines
     × AllByRecursion (λ words. command_line words ≡ None) refused_lines
+    × AllByRecursion (λ words. (command_line (called (codes "gen" ∷ words)) ≡ None) × (command_line (called (codes "soak" ∷ words)) ≡ None)) refused_scripts
 
--- the budget of a line that is taken is in its range
+-- the budget of a replay is in its range
 abbrev pub BudgetIsInRange : Type 0
 BudgetIsInRange = (words : List Text) (plan : Plan) (budget : ℕ) (check : Bool) → command_line words ≡ Some (Replay plan budget check) → (1 ≤ budget) × (budget ≤ 1000000000)
+
+-- and so is the size of a script that is generated
+abbrev pub SizeIsInRange : Type 0
+SizeIsInRange = (words : List Text) (seed size : ℕ) → (command_line words ≡ Some (Gen seed size)) ⊎ (command_line words ≡ Some (Soak seed size)) → (4 ≤ size) × (size ≤ 200000)

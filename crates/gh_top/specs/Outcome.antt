@@ -1,26 +1,55 @@
 -- What the program says: what it writes and how it ends, for the words that it is called with and the text that it reads.
-use Rattle.std.specs.Prelude.{◌≡◌, ℕ, Bool, List, Option, Some, None}
+use Rattle.std.specs.Prelude.{◌≡◌, ◌⊎◌, ℕ, ◌*◌, ◌/◌, ◌<◌, ◌≤◌, Bool, List, [], ◌++◌, Option, Some, None}
+use Rattle.std.specs.List.{concat}
 use Rattle.std.specs.Io.KnownBytes.{Appends}
+use Rattle.gh_io.specs.Counts.{Rose}
 use Rattle.gh_io.specs.Streams.{TookPart}
-use Rattle.gh_lines.specs.Text.{Outcome, refusal_line, turns_line, words_refused_line}
+use Rattle.gh_lines.specs.Text.{Outcome, live_line, outcome_lines, refusal_line, statements_line, turns_line, words_refused_line}
 use Rattle.gh_replay.specs.Plan.{Plan}
 use Rattle.gh_replay.specs.Replayed.{IsReplayed, IsUnfinished}
 use Rattle.gh_replay.specs.Report.{replay_text}
+use Rattle.gh_run.specs.Told.{IsRunByThreads}
 use Rattle.gh_script.specs.declared.fault.Why.{Why}
+use Rattle.gh_script.specs.Generated.{generated_program, generated_text}
 use Rattle.gh_script.specs.Program.{Program}
 use Rattle.gh_script.specs.Grammar.{Spells, Refused}
-use Rattle.gh_top.specs.declared.line.Line.TheVariants.{Replay}
+use Rattle.gh_top.specs.declared.line.Line.{Line}
+use Rattle.gh_top.specs.declared.line.Line.TheVariants.{Gen, Replay, Run, Soak}
 use Rattle.gh_top.specs.declared.status.Status.{Status}
-use Rattle.gh_top.specs.declared.status.Status.TheVariants.{Ok, BadWords, BadScript, ReadFault, WriteFault, NoMemory, OutOfTurns}
+use Rattle.gh_top.specs.declared.status.Status.TheVariants.{Ok, BadWords, BadScript, ReadFault, WriteFault, NoMemory, NoThread, OutOfTurns}
 use Rattle.gh_top.specs.CommandLine.{command_line}
+
+-- ---- the words
 
 -- the command takes the words as a replay by this schedule, of at most so many turns, which is checked or not
 abbrev pub IsReplay : List (List ℕ) → Plan → ℕ → Bool → Type 0
 IsReplay words plan budget check = command_line words ≡ Some (Replay plan budget check)
 
+-- as a run by threads
+abbrev pub IsRun : List (List ℕ) → Type 0
+IsRun words = command_line words ≡ Some Run
+
+-- as a wish for the script of this seed and this size
+abbrev pub IsGen : List (List ℕ) → ℕ → ℕ → Type 0
+IsGen words seed size = command_line words ≡ Some (Gen seed size)
+
+-- as a run of that script by threads
+abbrev pub IsSoak : List (List ℕ) → ℕ → ℕ → Type 0
+IsSoak words seed size = command_line words ≡ Some (Soak seed size)
+
 -- the command does not take the words
 abbrev pub AreRefused : List (List ℕ) → Type 0
 AreRefused words = command_line words ≡ None
+
+-- as one of the two that run threads
+abbrev pub IsForThreads : List (List ℕ) → Type 0
+IsForThreads words = IsRun words ⊎ ((seed : ℕ) × (size : ℕ) × IsSoak words seed size)
+
+-- as one of the two that read a script
+abbrev pub ReadsScript : List (List ℕ) → Type 0
+ReadsScript words = IsRun words ⊎ ((plan : Plan) × (budget : ℕ) × (check : Bool) × IsReplay words plan budget check)
+
+-- ---- what is said
 
 -- what a call may end with after it has written all that it has to say
 abbrev pub IsTelling : Status → Type 0
@@ -30,13 +59,25 @@ IsTelling BadScript = Unit {0}
 IsTelling OutOfTurns = Unit {0}
 IsTelling _ = ⊥
 
+-- the text is refused, and this is its line
+abbrev pub IsRefusal : List ℕ → List ℕ → Type 0
+IsRefusal text written = (line : ℕ) × (why : Why) × Refused text line why × (written ≡ refusal_line line why)
+
+-- what a line that is taken may come to of this text, and what there is to say then
+abbrev pub ComesTo : Line → List ℕ → Status → List ℕ → Type 0
+ComesTo (Replay plan budget check) text Ok written = (p : Program) × Spells text p × (outcome : Outcome) × IsReplayed p plan budget outcome × (written ≡ replay_text p outcome check)
+ComesTo (Replay plan budget check) text OutOfTurns written = (p : Program) × Spells text p × IsUnfinished p plan budget × (written ≡ turns_line budget)
+ComesTo (Replay plan budget check) text BadScript written = IsRefusal text written
+ComesTo Run text Ok written = (p : Program) × Spells text p × (outcome : Outcome) × IsRunByThreads p outcome × (written ≡ concat (outcome_lines p outcome))
+ComesTo Run text BadScript written = IsRefusal text written
+ComesTo (Gen seed size) text Ok written = written ≡ generated_text seed size
+ComesTo (Soak seed size) text Ok written = (outcome : Outcome) × IsRunByThreads (generated_program seed size) outcome × (written ≡ statements_line (4 * (size / 4)) ++ live_line outcome.objects outcome.bytes)
+ComesTo line text status written = ⊥
+
 -- a call with these words and this text may end so, having this to say
 abbrev pub Says : List (List ℕ) → List ℕ → Status → List ℕ → Type 0
 Says words text BadWords written = AreRefused words × (written ≡ words_refused_line)
-Says words text BadScript written = (plan : Plan) × (budget : ℕ) × (check : Bool) × IsReplay words plan budget check × (line : ℕ) × (why : Why) × Refused text line why × (written ≡ refusal_line line why)
-Says words text Ok written = (plan : Plan) × (budget : ℕ) × (check : Bool) × IsReplay words plan budget check × (p : Program) × Spells text p × (outcome : Outcome) × IsReplayed p plan budget outcome × (written ≡ replay_text p outcome check)
-Says words text OutOfTurns written = (plan : Plan) × (budget : ℕ) × (check : Bool) × IsReplay words plan budget check × (p : Program) × Spells text p × IsUnfinished p plan budget × (written ≡ turns_line budget)
-Says words text _ written = ⊥
+Says words text status written = (line : Line) × (command_line words ≡ Some line) × ComesTo line text status written
 
 -- the sink took all that there was to say
 abbrev pub Said : List (List ℕ) → List ℕ → Status → Option (List ℕ) → Option (List ℕ) → Type 0
@@ -46,6 +87,60 @@ Said words text status before after = (written : List ℕ) × Says words text st
 abbrev pub SaidPart : List (List ℕ) → List ℕ → Option (List ℕ) → Option (List ℕ) → Type 0
 SaidPart words text before after = (status : Status) × (written : List ℕ) × Says words text status written × TookPart before after written
 
+-- ---- how a call ends
+
+-- what is seen of a source and of a sink: the bytes that the source has left and those that the sink has taken, where they tell them, and how many faults each had so far
+pub record Streams : Type 0 where
+  pub left : Option (List ℕ)
+  pub read_faults : ℕ
+  pub taken : Option (List ℕ)
+  pub write_faults : ℕ
+
+abbrev pub streams : Option (List ℕ) → ℕ → Option (List ℕ) → ℕ → Streams
+streams left read_faults taken write_faults = record { left = left; read_faults = read_faults; taken = taken; write_faults = write_faults }
+
+-- no read failed, and no write did
+abbrev pub ReadsWell : Streams → Streams → Type 0
+ReadsWell before after = ¬ Rose before.read_faults after.read_faults
+
+abbrev pub WritesWell : Streams → Streams → Type 0
+WritesWell before after = ¬ Rose before.write_faults after.write_faults
+
+-- A call with these words that began with such streams, and left them so, ended with this status.
+pub record Ends (words : List (List ℕ)) (before after : Streams) (status : Status) : Type 0 where
+  -- What was written is all of what is to be said of the words and the text: of a replay that is `Ok`, and of a run by threads, the lines of the answers that the heap that never frees gives to the script that the text spells, those of the cycles, each with its numbers, and the one of what the globals reach at the end; and with `--check` the line `agrees`.
+  pub said : (text : List ℕ) → before.left ≡ Some text → IsTelling status → Said words text status before.taken after.taken
+  -- Of a source that does not tell its bytes, the same is known for some text.
+  pub explained : IsTelling status → (text : List ℕ) × Said words text status before.taken after.taken
+  pub read_to_end : (text : List ℕ) → before.left ≡ Some text → ReadsScript words → status ≡ Ok → after.left ≡ Some []
+  -- Each answer and its cause.
+  pub bad_words : status ≡ BadWords → AreRefused words
+  pub bad_words_exactly : AreRefused words → WritesWell before after → (status ≡ BadWords) ⊎ (status ≡ NoMemory)
+  pub bad_script_exactly : (text : List ℕ) (line : ℕ) (why : Why) → before.left ≡ Some text → ReadsScript words → Refused text line why → ReadsWell before after → WritesWell before after
+      → (status ≡ BadScript) ⊎ (status ≡ NoMemory)
+  pub complete : (text : List ℕ) (plan : Plan) (budget : ℕ) (check : Bool) (p : Program) → before.left ≡ Some text → IsReplay words plan budget check → Spells text p → ReadsWell before after → WritesWell before after
+      → (status ≡ Ok) ⊎ (status ≡ OutOfTurns) ⊎ (status ≡ NoMemory)
+  -- A replay that ends within the budget is told, and one that does not is out of turns.
+  pub ok_exactly : (text : List ℕ) (plan : Plan) (budget : ℕ) (check : Bool) (p : Program) (outcome : Outcome) → before.left ≡ Some text → IsReplay words plan budget check → Spells text p → IsReplayed p plan budget outcome
+      → status ≡ OutOfTurns → ⊥
+  pub out_of_turns_exactly : (text : List ℕ) (plan : Plan) (budget : ℕ) (check : Bool) (p : Program) → before.left ≡ Some text → IsReplay words plan budget check → Spells text p → IsUnfinished p plan budget
+      → status ≡ Ok → ⊥
+  -- A script that is wished for is written.
+  pub generated : (seed size : ℕ) → IsGen words seed size → WritesWell before after → (status ≡ Ok) ⊎ (status ≡ NoMemory)
+  pub read_fault : status ≡ ReadFault → ¬ AreRefused words × Rose before.read_faults after.read_faults × (after.taken ≡ before.taken)
+  pub write_fault : status ≡ WriteFault → Rose before.write_faults after.write_faults
+  -- No fault is silent: a call in which a read failed ends with ReadFault, and one in which a write failed with WriteFault.
+  pub read_fault_exactly : before.read_faults < after.read_faults → status ≡ ReadFault
+  pub write_fault_exactly : before.write_faults < after.write_faults → status ≡ WriteFault
+  -- A sink that failed took the beginning of what was to be said.
+  pub write_part : (text : List ℕ) → before.left ≡ Some text → status ≡ WriteFault → SaidPart words text before.taken after.taken
+  pub explained_part : status ≡ WriteFault → (text : List ℕ) × SaidPart words text before.taken after.taken
+  pub no_memory : status ≡ NoMemory → after.taken ≡ before.taken
+  -- No thread is wanted but by the words that ask for threads.
+  pub no_thread : status ≡ NoThread → IsForThreads words × (after.taken ≡ before.taken)
+  pub source_never_falls : before.read_faults ≤ after.read_faults
+  pub sink_never_falls : before.write_faults ≤ after.write_faults
+
 -- the status of the process
 abbrev pub code_of : Status → ℕ
 code_of Ok = 0
@@ -54,4 +149,5 @@ code_of BadScript = 3
 code_of ReadFault = 4
 code_of WriteFault = 5
 code_of NoMemory = 6
+code_of NoThread = 7
 code_of OutOfTurns = 8

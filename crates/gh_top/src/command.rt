@@ -1,91 +1,103 @@
 //! The call that the program makes.
 
-ghost use Rattle.std.specs.Prelude.{◌≡◌, ℕ, Bool, ◌<◌, ◌≤◌, ◌⊎◌, List, [], Some};
+ghost use Rattle.std.specs.Prelude.{◌≡◌, ◌⊎◌, ℕ, IfSome, ◌≤◌, List, None, Some};
 ghost use Rattle.gh_io.specs.Counts.{Rose};
-ghost use Rattle.gh_script.specs.declared.fault.Why.{Why};
 ghost use Rattle.gh_script.specs.Program.{Program};
-ghost use Rattle.gh_script.specs.Grammar.{Spells, Refused};
-ghost use Rattle.gh_lines.specs.Text.{Outcome};
-ghost use Rattle.gh_replay.specs.Plan.{Plan};
-ghost use Rattle.gh_replay.specs.Replayed.{IsReplayed, IsUnfinished};
+ghost use Rattle.gh_script.specs.Grammar.{Spells};
 ghost use Rattle.gh_top.specs.CommandLine.{texts};
-ghost use Rattle.gh_top.specs.Outcome.{AreRefused, IsReplay, IsTelling, Said, SaidPart};
+ghost use Rattle.gh_top.specs.Outcome.{Ends, IsForThreads, IsRun, IsSoak, ReadsScript, streams};
 
 use crate::finding::find;
-use crate::saying::{ending, say};
+use crate::saying::tell;
 use crate::status::Status;
+use crate::threads::find_by_threads;
+use gh_gate::{Gate, Spawner};
 use gh_io::{Sink, Source};
 use gh_replay::one_outcome;
 use gh_script::one_reading;
 use std::alloc::Global;
+use std::sync::Wait;
+use std::thread;
 
-/// Runs the command: `words` begins with the program's name, and the one command is `replay`, with at
-/// most one each of `--seed n` and `--list text`, which say who steps when, `--budget n`, the most atomic steps
+/// Runs the command where it asks for no threads, and so does not wait: `None` exactly where the words ask for `run` or
+/// `soak`, and then nothing was read or written.
+///
+/// `words` begins with the program's name. `replay` has at most
+/// one each of `--seed n` and `--list text`, which say who steps when, `--budget n`, the most atomic steps
 /// that all actors together may make (1 to 1,000,000,000, and 50,000,000 where the words say nothing), and
 /// `--check`, by which the heap that never frees is run beside the script.
 /// It reads a script from `src`, and runs its goroutines in turns on its processors, among workers and a
 /// coordinator, which collect garbage: where the words say nothing of who steps, each of these actors makes a
 /// step in its turn. It writes the lines of the answers to `out`, goroutine by goroutine, then those of the
 /// cycles, and the one of what is live at the end; and with `--check` one line more, `agrees`, whatever the script
-/// and whoever steps when: that is all that a check has to say. A command line that is not taken, one whose list is none
+/// and whoever steps when: that is all that a check has to say.
+///
+/// `gen --seed n --size n` reads nothing, and writes the text of the script of this seed and this size (4 to 200,000), which
+/// has 4 · (size / 4) statements.
+///
+/// A command line that is not taken, one whose list is none
 /// among them, a text that is no script and a run that is not over within its budget are told in one line. It
 /// reads at most 4,194,305 bytes, which is one more than a script may have. Nothing is written before the run
-/// has ended, and each line is written as one piece, the rest of it again until it is taken.
-pub fn top<S: Source, K: Sink>(alloc: Global, words: &[&str], src: &mut S, out: &mut K) -> Status
-    // What was written is all of what is to be said of the words and the text: with `Ok`, the lines of
-    // the answers that the heap that never frees gives to the script that the text spells, those of the
-    // cycles, each with its numbers, and the one of what the globals reach at the end; and with `--check`
-    // the line `agrees`.
-    ensures said { (text : List ℕ) → S.left src.old ≡ Some text → IsTelling result →
-        Said (texts words.now) text result (K.taken out.old) (K.taken out.new) }
-    // Of a source that does not tell its bytes, the same is known for some text.
-    ensures explained { IsTelling result → (text : List ℕ) ×
-        Said (texts words.now) text result (K.taken out.old) (K.taken out.new) }
-    ensures read_to_end { (text : List ℕ) → S.left src.old ≡ Some text → result ≡ Status.Ok →
-        S.left src.new ≡ Some [] }
-
-    // Each answer and its cause.
-    ensures bad_words { result ≡ Status.BadWords → AreRefused (texts words.now) × (src.new ≡ src.old) }
-    ensures bad_words_exactly { AreRefused (texts words.now) →
-        ¬ Rose (K.faults out.old) (K.faults out.new) →
-        (result ≡ Status.BadWords) ⊎ (result ≡ Status.NoMemory) }
-    ensures bad_script_exactly { (text : List ℕ) (plan : Plan) (budget : ℕ) (check : Bool) (line : ℕ) (why : Why) →
-        S.left src.old ≡ Some text → IsReplay (texts words.now) plan budget check → Refused text line why →
-        ¬ Rose (S.faults src.old) (S.faults src.new) → ¬ Rose (K.faults out.old) (K.faults out.new) →
-        (result ≡ Status.BadScript) ⊎ (result ≡ Status.NoMemory) }
-    ensures complete { (text : List ℕ) (plan : Plan) (budget : ℕ) (check : Bool) (p : Program) →
-        S.left src.old ≡ Some text → IsReplay (texts words.now) plan budget check → Spells text p →
-        ¬ Rose (S.faults src.old) (S.faults src.new) → ¬ Rose (K.faults out.old) (K.faults out.new) →
-        (result ≡ Status.Ok) ⊎ (result ≡ Status.OutOfTurns) ⊎ (result ≡ Status.NoMemory) }
-    // A run that ends within the budget is told, and one that does not is out of turns.
-    ensures ok_exactly { (text : List ℕ) (plan : Plan) (budget : ℕ) (check : Bool) (p : Program) (outcome : Outcome) →
-        S.left src.old ≡ Some text → IsReplay (texts words.now) plan budget check → Spells text p →
-        IsReplayed p plan budget outcome → result ≡ Status.OutOfTurns → ⊥ }
-    ensures out_of_turns_exactly { (text : List ℕ) (plan : Plan) (budget : ℕ) (check : Bool) (p : Program) →
-        S.left src.old ≡ Some text → IsReplay (texts words.now) plan budget check → Spells text p →
-        IsUnfinished p plan budget → result ≡ Status.Ok → ⊥ }
-    ensures read_fault { result ≡ Status.ReadFault →
-        ¬ AreRefused (texts words.now) × Rose (S.faults src.old) (S.faults src.new) × (K.taken out.new ≡ K.taken out.old) }
-    ensures write_fault { result ≡ Status.WriteFault → Rose (K.faults out.old) (K.faults out.new) }
-    // No fault is silent: a call in which a read failed ends with ReadFault, and one in which a write
-    // failed with WriteFault.
-    ensures read_fault_exactly { S.faults src.old < S.faults src.new → result ≡ Status.ReadFault }
-    ensures write_fault_exactly { K.faults out.old < K.faults out.new → result ≡ Status.WriteFault }
-    // A sink that failed took the beginning of what was to be said.
-    ensures write_part { (text : List ℕ) → S.left src.old ≡ Some text → result ≡ Status.WriteFault →
-        SaidPart (texts words.now) text (K.taken out.old) (K.taken out.new) }
-    ensures explained_part { result ≡ Status.WriteFault → (text : List ℕ) ×
-        SaidPart (texts words.now) text (K.taken out.old) (K.taken out.new) }
-    ensures no_memory { result ≡ Status.NoMemory → K.taken out.new ≡ K.taken out.old }
-
-    ensures source_never_falls { S.faults src.old ≤ S.faults src.new }
-    ensures sink_never_falls { K.faults out.old ≤ K.faults out.new }
+/// has ended, and each line of a run is written as one piece, the rest of it again until it is taken.
+pub fn quiet<S: Source, K: Sink>(
+    alloc: Global,
+    words: &[&str],
+    src: &mut S,
+    out: &mut K,
+) -> Option<Status>
+    // How it ended, and what it wrote: each with its cause.
+    ensures ends { IfSome result (Ends (texts words.now)
+        (streams (S.left src.old) (S.faults src.old) (K.taken out.old) (K.faults out.old))
+        (streams (S.left src.new) (S.faults src.new) (K.taken out.new) (K.faults out.new))) }
+    // Words that ask for no script to be read, those that are refused among them, have nothing read.
+    ensures unread { ¬ ReadsScript (texts words.now) → src.new ≡ src.old }
+    ensures none { result ≡ None → IsForThreads (texts words.now) × (src.new ≡ src.old) × (out.new ≡ out.old) }
+    ensures none_exactly { IsForThreads (texts words.now) → (result ≡ None) ⊎ (result ≡ Some Status.NoMemory) }
 {
     one_reading();
     one_outcome();
-    let found = find(alloc, words, src);
-    match say(&found, out) {
-        Ok(()) => ending(&found),
-        Err(_) => Status::WriteFault,
+    let found = find(alloc, words, src)?;
+    Some(tell(&found, out))
+}
+
+/// Runs the command. It begins with [`quiet`], which does all that asks for no threads.
+///
+/// `run` reads a script, as `replay` does, runs each of its actors in a thread of its own, which `sp` starts, and writes the
+/// same lines. `soak --seed n --size n` reads nothing, runs the script that `gen` writes by threads, and writes two lines: how
+/// many statements that has, and what is live at the end. The actors are held by the gate between their steps. Nothing is written
+/// before all threads have ended, and where no threads can be had no actor makes a step. A call that runs threads may wait.
+pub fn top<R: thread::Threads + Wait + Sync, S: Source, K: Sink, G: Gate + Sync, P: Spawner>(
+    rt: &R,
+    alloc: Global,
+    words: &[&str],
+    src: &mut S,
+    out: &mut K,
+    gate: &G,
+    sp: &mut P,
+) -> Status
+    // How it ended, and what it wrote: each with its cause.
+    ensures ends { Ends (texts words.now)
+        (streams (S.left src.old) (S.faults src.old) (K.taken out.old) (K.faults out.old))
+        (streams (S.left src.new) (S.faults src.new) (K.taken out.new) (K.faults out.new)) result }
+    ensures unread { ¬ ReadsScript (texts words.now) → src.new ≡ src.old }
+    // A script that is read without a fault, and whose threads can be had, is run and told.
+    ensures run_complete { (text : List ℕ) (p : Program) → S.left src.old ≡ Some text → IsRun (texts words.now) → Spells text p →
+        ¬ Rose (S.faults src.old) (S.faults src.new) → ¬ Rose (K.faults out.old) (K.faults out.new) → ¬ Rose (P.faults sp.old) (P.faults sp.new) →
+        (result ≡ Status.Ok) ⊎ (result ≡ Status.NoMemory) }
+    ensures soak_complete { (seed size : ℕ) → IsSoak (texts words.now) seed size →
+        ¬ Rose (K.faults out.old) (K.faults out.new) → ¬ Rose (P.faults sp.old) (P.faults sp.new) →
+        (result ≡ Status.Ok) ⊎ (result ≡ Status.NoMemory) }
+    // What is told of threads was run by them.
+    ensures ran { IsForThreads (texts words.now) → result ≡ Status.Ok → Rose (P.ran sp.old) (P.ran sp.new) }
+    ensures no_thread { result ≡ Status.NoThread → Rose (P.faults sp.old) (P.faults sp.new) }
+    ensures faults_never_fall { P.faults sp.old ≤ P.faults sp.new }
+    ensures ran_never_falls { P.ran sp.old ≤ P.ran sp.new }
+{
+    if let Some(status) = quiet(alloc, words, src, out) {
+        return status;
     }
+    one_reading();
+    one_outcome();
+    let found = find_by_threads(rt, alloc, words, src, gate, sp);
+    tell(&found, out)
 }

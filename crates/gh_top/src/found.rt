@@ -1,4 +1,4 @@
-//! What a call finds before it writes anything: its words are looked at, its text is read, and its
+//! What a call finds before it writes anything: its words are looked at, its text is read or generated, and its
 //! script run.
 //!
 //! Nothing here writes, and nothing that writes (`saying.rt`) reads or takes memory. So what is written
@@ -14,12 +14,22 @@ pub enum Found {
     BadWords,
     /// The text spells no script.
     BadScript(ScriptFault),
-    /// The script was run, and this is the report of it.
+    /// The script was run, by a schedule or by threads, and this is the report of it.
     Ran(Script, Report),
     /// The script's run took so many turns, which is the budget, and is not over.
     OutOfTurns(u64),
+    /// This script was generated. Nothing was read.
+    Generated(Vec<u8>),
+    /// A generated script of so many statements was run by threads, and so much is live at the end. Nothing was read.
+    Soaked {
+        statements: u32,
+        objects: u64,
+        bytes: u64,
+    },
     /// A read failed.
     ReadFault,
+    /// No threads could be had, and no actor has made a step.
+    NoThread,
     /// Memory ran out.
     NoMemory,
 }

@@ -12,8 +12,9 @@ mod line;
 mod line_laws;
 mod saying;
 mod status;
+mod threads;
 
-pub use command::top;
+pub use command::{quiet, top};
 pub use line::{Line, read_line};
-pub use line_laws::{budget_is_in_range, known_lines};
+pub use line_laws::{known_lines, numbers_are_in_range};
 pub use status::Status;

@@ -3,14 +3,14 @@
 ghost use Rattle.std.specs.Prelude.{◌≡◌};
 
 /// How a call ended, by the first cause in this order: the words are not taken, a read failed, the text
-/// is no script, the turns ran out. Where a write of what is then to be said failed, it is `WriteFault`
+/// is no script, no threads could be had or the turns ran out. Where a write of what is then to be said failed, it is `WriteFault`
 /// in their place, and in that of `Ok`. Memory may run out at any point before the run begins.
 #[derive(Clone, Copy, Debug, PartialEq, Eq)]
 pub enum Status {
-    /// The source was read to its end, its script was run, and all lines of what it came to were taken.
+    /// All that there was to say was taken. For `run` and `replay` the source was read to its end, and its script was
+    /// run; for `soak` a generated script was run. `gen` and `soak` read nothing.
     Ok,
-    /// The command line is not the program's name and `replay`, with at most the budget of turns
-    /// (`--budget n`). Nothing was read, and the line `words refused` was taken.
+    /// The command does not take the words. Nothing was read, and the line `words refused` was taken.
     BadWords,
     /// The text spells no script. Its line `line n: why` was taken.
     BadScript,
@@ -18,8 +18,10 @@ pub enum Status {
     ReadFault,
     /// A write failed. The sink has taken the beginning of what there was to say.
     WriteFault,
-    /// Memory ran out, before the first statement was run. Nothing was written.
+    /// Memory ran out, before an actor made its first step. Nothing was written.
     NoMemory,
+    /// No threads could be had for a run, and no actor has made a step. Nothing was written.
+    NoThread,
     /// So many turns as the budget has were taken, and the script's run is not over. `turns n` was taken.
     OutOfTurns,
 }
@@ -28,7 +30,7 @@ impl Status {
     ghost use Rattle.std.specs.Prelude.{◌≡◌};
     ghost use Rattle.gh_top.specs.Outcome.{code_of};
 
-    /// The status of the process: 0, 2, 3, 4, 5, 6 or 8, in the order above.
+    /// The status of the process: 0 and 2 to 8, in the order above.
     pub fn code(&self) -> u8
         ensures { result ≡ code_of self.now }
     {
@@ -39,6 +41,7 @@ impl Status {
             Status::ReadFault => 4,
             Status::WriteFault => 5,
             Status::NoMemory => 6,
+            Status::NoThread => 7,
             Status::OutOfTurns => 8,
         }
     }

@@ -36,7 +36,10 @@ fn a_line_asks_for_all_that_it_says(rt: HostRuntime) -> Result<(), Fail> {
         schedule,
         budget,
         check,
-    } = line;
+    } = line
+    else {
+        return Err(Fail::new("it is no replay"));
+    };
     let Schedule { list, seed } = schedule;
     assert_eq!(rt; list.as_slice(), ITEMS.as_slice());
     assert_eq!(rt; (seed, budget, check), (Some(1), 100_000, true));

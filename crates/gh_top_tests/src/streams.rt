@@ -1,7 +1,7 @@
 //! The call over streams in memory, some of which fail: how it ends, and what the sink has taken then.
 
 use gh_io::{MemSink, MemSource};
-use gh_top::top;
+use gh_top::{Status, quiet};
 use std::alloc::Global;
 use std::test::Fail;
 
@@ -42,13 +42,17 @@ const ROWS: &[Row] = &[
     (&[], &[1], &[], 5, 5, "words"),
 ];
 
+fn code_of(status: Status) -> u8 {
+    status.code()
+}
+
 #[test]
 fn each_fault_of_the_outside_has_its_status(rt: HostRuntime) -> Result<(), Fail> {
     for (words, reads, writes, room, code, taken) in ROWS {
         let mut src = MemSource::new(rt.alloc(), TEXT.as_bytes(), reads)?;
         let mut out = MemSink::new(rt.alloc(), *room, writes)?;
-        let status = top(rt.alloc(), words, &mut src, &mut out);
-        assert_eq!(rt; status.code(), *code, "{words:?}");
+        let status = quiet(rt.alloc(), words, &mut src, &mut out);
+        assert_eq!(rt; status.map(code_of), Some(*code), "{words:?}");
         assert_eq!(rt; out.bytes(), taken.as_bytes(), "{words:?}");
     }
     Ok(())
@@ -86,11 +90,11 @@ const BY_WRITE: &[(u64, u8, usize)] = &[
 ];
 
 /// The status of a call over these streams, and how many bytes the sink has taken, if they are the first of the lines.
-fn ended(alloc: Global, mut src: MemSource, mut out: MemSink) -> (u8, Option<usize>) {
-    let status = top(alloc, PLAIN, &mut src, &mut out);
+fn ended(alloc: Global, mut src: MemSource, mut out: MemSink) -> (Option<u8>, Option<usize>) {
+    let status = quiet(alloc, PLAIN, &mut src, &mut out);
     let taken = out.bytes();
     let count = LINES.as_bytes().starts_with(taken).then_some(taken.len());
-    (status.code(), count)
+    (status.map(code_of), count)
 }
 
 #[test]
@@ -101,7 +105,7 @@ fn streams_in_pieces_fail_at_each_call(rt: HostRuntime) -> Result<(), Fail> {
         let out = MemSink::new(alloc, 1000, &[])?;
         assert_eq!(rt;
             ended(alloc, src, out),
-            (*code, Some(*taken)),
+            (Some(*code), Some(*taken)),
             "read {read}"
         );
     }
@@ -110,12 +114,12 @@ fn streams_in_pieces_fail_at_each_call(rt: HostRuntime) -> Result<(), Fail> {
         let out = MemSink::new(alloc, 1000, &[*write])?.pieces(7);
         assert_eq!(rt;
             ended(alloc, src, out),
-            (*code, Some(*taken)),
+            (Some(*code), Some(*taken)),
             "write {write}"
         );
     }
     let src = MemSource::new(alloc, TEXT.as_bytes(), &[])?;
     let out = MemSink::new(alloc, 30, &[])?.pieces(1);
-    assert_eq!(rt; ended(alloc, src, out), (5, Some(30)));
+    assert_eq!(rt; ended(alloc, src, out), (Some(5), Some(30)));
     Ok(())
 }

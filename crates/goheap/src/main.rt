@@ -1,16 +1,18 @@
-//! `goheap replay` reads a script from standard input, runs it, and writes the lines of its answers
-//! to standard output.
+//! `goheap replay` and `goheap run` read a script from standard input, run it, the one in turns and the other by threads, and
+//! write the lines of its answers to standard output; `goheap gen` writes a script, and `goheap soak` runs such a one by threads.
 //!
 //! What a call says and how it ends is proved of [`gh_top::top`]. Here it gets the words of the
-//! command line, standard input and standard output. Nothing goes to standard error.
+//! command line, standard input and standard output, a gate that holds nobody, and threads. Nothing goes to standard error.
 #![tactic(auto)]
 
+use gh_gate::{Open, Threads};
 use gh_io::{Sink, Source, StdSink, StdSource};
 use gh_top::{Status, top};
-use std::env;
 use std::io::ErrorKind;
 use std::process::ExitCode;
 use std::rt::Env;
+use std::sync::Wait;
+use std::{env, thread};
 
 fn main(rt: HostRuntime) -> ExitCode {
     let mut src = StdSource::new(rt.stdin());
@@ -20,21 +22,23 @@ fn main(rt: HostRuntime) -> ExitCode {
 
 // The call with the words of the command line. Where they cannot be had, and not for want of memory (a
 // word is not UTF-8), the command line is not taken, as one of no words is not.
-fn called<R: Env + AllocGlobal, S: Source, K: Sink>(rt: &R, src: &mut S, out: &mut K) -> Status {
+fn called<R: Env + AllocGlobal + thread::Threads + Wait + Sync, S: Source, K: Sink>(
+    rt: &R,
+    src: &mut S,
+    out: &mut K,
+) -> Status {
+    let alloc = rt.alloc();
+    let mut threads = Threads::new();
     let args = match env::args(rt) {
         Ok(args) => args,
         Err(e) if e.kind() == ErrorKind::OutOfMemory => return Status::NoMemory,
-        Err(_) => return top(rt.alloc(), &[], src, out),
+        Err(_) => return top(rt, alloc, &[], src, out, &Open, &mut threads),
     };
-    let Ok(args) = args.collect::<Vec<String>>(rt.alloc()) else {
+    let Ok(args) = args.collect::<Vec<String>>(alloc) else {
         return Status::NoMemory;
     };
-    let Ok(words) = args
-        .iter()
-        .map(|w| w.as_str())
-        .collect::<Vec<&str>>(rt.alloc())
-    else {
+    let Ok(words) = args.iter().map(|w| w.as_str()).collect::<Vec<&str>>(alloc) else {
         return Status::NoMemory;
     };
-    top(rt.alloc(), &words, src, out)
+    top(rt, alloc, &words, src, out, &Open, &mut threads)
 }

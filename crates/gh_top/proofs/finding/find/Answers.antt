@@ -1,12 +1,23 @@
-use Rattle.std.proofs.Common.{rules}
-use Rattle.gh_top.specs.CommandLine.{texts}
-use Rattle.gh_top.proofs.Texts.{matches-words}
+use Rattle.std.proofs.Common.{◌≡◌, Some, inl, arith, rules}
+use Rattle.gh_top.specs.declared.line.Line.TheVariants.{Gen}
+use Rattle.gh_top.specs.CommandLine.{command_line, texts}
+use Rattle.gh_top.specs.Found.{MatchesLine}
+use Rattle.gh_top.proofs.Reading.{for_all_words, gen-not-run, unread}
 use Rattle.gh_top.proofs.finding.find.Goals as goal
 
-pub returns-in-Ok-Some-Replay-clause-found : goal.returns-in-Ok-Some-Replay-clause-found
-returns-in-Ok-Some-Replay-clause-found g c = search (rules, matches-words)
+pub overflow_cast-size : goal.overflow_cast-size
+overflow_cast-size g c =
+    let taken : command_line (texts c.args.words.now) ≡ Some (Gen c.in-Ok-Some-Gen.seed c.in-Ok-Some-Gen.size) = search rules in
+    let range = c.numbers_are_in_range.ensures.size (texts c.args.words.now) c.in-Ok-Some-Gen.seed c.in-Ok-Some-Gen.size (inl taken) in
+    omega (arith, range.1)
 
-pub returns-in-Ok-Some-Replay-clause-explained : goal.returns-in-Ok-Some-Replay-clause-explained
-returns-in-Ok-Some-Replay-clause-explained g c =
-    let told = c.replay_text.ensures.explained in
-    (told.0, matches-words (texts c.args.words.now) told.0 _ _ _ c.replay_text.result (search rules) told.1)
+pub generated-requires : goal.generated-requires
+generated-requires g c =
+    let taken : command_line (texts c.args.words.now) ≡ Some (Gen c.in-Ok-Some-Gen.seed c.in-Ok-Some-Gen.size) = search rules in
+    c.numbers_are_in_range.ensures.size (texts c.args.words.now) c.in-Ok-Some-Gen.seed c.in-Ok-Some-Gen.size (inl taken)
+
+pub returns-in-Ok-Some-Gen-clause-found : goal.returns-in-Ok-Some-Gen-clause-found
+returns-in-Ok-Some-Gen-clause-found g c =
+    let taken : command_line (texts c.args.words.now) ≡ Some (Gen c.in-Ok-Some-Gen.seed c.in-Ok-Some-Gen.size) = search rules in
+    for_all_words (texts c.args.words.now) (Gen c.in-Ok-Some-Gen.seed c.in-Ok-Some-Gen.size) _ _ _ _ c.generated.result taken
+    (unread (MatchesLine (Gen c.in-Ok-Some-Gen.seed c.in-Ok-Some-Gen.size)) _ _ c.generated.result c.generated.ensures.found c.generated.ensures.read (gen-not-run c.in-Ok-Some-Gen.seed c.in-Ok-Some-Gen.size c.generated.result c.generated.ensures.found) c.generated.ensures.tellable)
