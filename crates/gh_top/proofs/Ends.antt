@@ -108,14 +108,6 @@ module _ (not_both : (text : List ℕ) (p : Program) (line : ℕ) (why : Why) �
   replayed-ends text plan budget check p NoMemory m read spelled = inr (inr refl)
   replayed-ends text plan budget check p _ m read spelled = absurd m
 
-  pub run-ends : (text : List ℕ) (p : Program) (f : Found) → MatchesLine Run text f → (f ≡ ReadFault → ⊥) → (f ≡ NoThread → ⊥) → Spells text p → (status_of f ≡ statuses.Ok) ⊎ (status_of f ≡ statuses.NoMemory)
-  run-ends text p (BadScript fault) m read thread spelled = absurd (not_both text p fault.line fault.why spelled m)
-  run-ends text p (Ran q report) m read thread spelled = inl refl
-  run-ends text p ReadFault m read thread spelled = absurd (read refl)
-  run-ends text p NoThread m read thread spelled = absurd (thread refl)
-  run-ends text p NoMemory m read thread spelled = inr refl
-  run-ends text p _ m read thread spelled = absurd m
-
   abbrev IsRefusedSo : Found → Type 0
   IsRefusedSo f = (status_of f ≡ statuses.BadScript) ⊎ (status_of f ≡ statuses.NoMemory)
 
@@ -174,12 +166,6 @@ generated-ends : (text : List ℕ) (seed size : ℕ) (f : Found) → MatchesLine
 generated-ends text seed size (Generated script) m = inl refl
 generated-ends text seed size NoMemory m = inr refl
 generated-ends text seed size _ m = absurd m
-
-pub soak-ends : (text : List ℕ) (seed size : ℕ) (f : Found) → MatchesLine (Soak seed size) text f → (f ≡ NoThread → ⊥) → (status_of f ≡ statuses.Ok) ⊎ (status_of f ≡ statuses.NoMemory)
-soak-ends text seed size (Soaked n objects bytes) m thread = inl refl
-soak-ends text seed size NoThread m thread = absurd (thread refl)
-soak-ends text seed size NoMemory m thread = inr refl
-soak-ends text seed size _ m thread = absurd m
 
 refused-words : (words : List Text) (text : List ℕ) (f : Found) → Matches words text f → AreRefused words → (status_of f ≡ statuses.BadWords) ⊎ (status_of f ≡ statuses.NoMemory)
 refused-words words text BadWords m refused = inl refl

@@ -89,6 +89,8 @@ pub fn top<R: thread::Threads + Wait + Sync, S: Source, K: Sink, G: Gate + Sync,
         (result ≡ Status.Ok) ⊎ (result ≡ Status.NoMemory) }
     // What is told of threads was run by them.
     ensures ran { IsForThreads (texts words.now) → result ≡ Status.Ok → Rose (P.ran sp.old) (P.ran sp.new) }
+    // A spawner that refuses runs nothing.
+    ensures refused { P.refuses sp.old → IsForThreads (texts words.now) → result ≡ Status.Ok → ⊥ }
     ensures no_thread { result ≡ Status.NoThread → Rose (P.faults sp.old) (P.faults sp.new) }
     ensures faults_never_fall { P.faults sp.old ≤ P.faults sp.new }
     ensures ran_never_falls { P.ran sp.old ≤ P.ran sp.new }

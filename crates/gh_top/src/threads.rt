@@ -1,6 +1,6 @@
 //! Finding what there is to say of words that ask for threads.
 
-ghost use Rattle.std.specs.Prelude.{◌≡◌, IfOk, OnOk, IfErr, ℕ, ◌≤◌, List, false};
+ghost use Rattle.std.specs.Prelude.{◌≡◌, IfOk, IsErr, OnOk, IfErr, ℕ, ◌≤◌, List, false};
 ghost use Rattle.gh_gate.specs.Counts.{Rose};
 ghost use Rattle.gh_replay.specs.Report.{is_checked, IsReportOf};
 ghost use Rattle.gh_run.specs.Told.{IsRunByThreads};
@@ -39,6 +39,7 @@ pub fn find_by_threads<R: thread::Threads + Wait + Sync, S: Source, G: Gate + Sy
     ensures found { IsFound (Matches (texts words.now)) (S.left src.old) (S.left src.new) (S.faults src.old) (S.faults src.new) result }
     ensures unread { ¬ ReadsScript (texts words.now) → src.new ≡ src.old }
     ensures ran { status_of result ≡ Ok → Rose (P.ran sp.old) (P.ran sp.new) }
+    ensures refused { P.refuses sp.old → status_of result ≡ Ok → ⊥ }
     ensures no_thread { result ≡ Found.NoThread → Rose (P.faults sp.old) (P.faults sp.new) }
     ensures ran_never_falls { P.ran sp.old ≤ P.ran sp.new }
     ensures faults_never_fall { P.faults sp.old ≤ P.faults sp.new }
@@ -68,6 +69,7 @@ fn run_script<R: thread::Threads + Wait + Sync, G: Gate + Sync, P: Spawner>(
     ensures read { result ≡ Found.ReadFault → ⊥ }
     ensures tellable { IsTellable result }
     ensures ran { status_of result ≡ Ok → Rose (P.ran sp.old) (P.ran sp.new) }
+    ensures refused { P.refuses sp.old → status_of result ≡ Ok → ⊥ }
     ensures no_thread { result ≡ Found.NoThread → Rose (P.faults sp.old) (P.faults sp.new) }
     ensures ran_never_falls { P.ran sp.old ≤ P.ran sp.new }
     ensures faults_never_fall { P.faults sp.old ≤ P.faults sp.new }
@@ -91,6 +93,7 @@ fn reported<R: thread::Threads + Wait + Sync, G: Gate + Sync, P: Spawner>(
     ensures unchecked { IfOk result (λ report. is_checked report ≡ false) }
     ensures of { IfOk result (IsReportOf script.now) }
     ensures ran { OnOk result (Rose (P.ran sp.old) (P.ran sp.new)) }
+    ensures refused { P.refuses sp.old → IsErr result }
     ensures no_thread { IfErr result (λ fault. fault ≡ NoThread → Rose (P.faults sp.old) (P.faults sp.new)) }
     ensures ran_never_falls { P.ran sp.old ≤ P.ran sp.new }
     ensures faults_never_fall { P.faults sp.old ≤ P.faults sp.new }
@@ -127,6 +130,7 @@ fn soak<R: thread::Threads + Wait + Sync, G: Gate + Sync, P: Spawner>(
     ensures read { result ≡ Found.ReadFault → ⊥ }
     ensures tellable { IsTellable result }
     ensures ran { status_of result ≡ Ok → Rose (P.ran sp.old) (P.ran sp.new) }
+    ensures refused { P.refuses sp.old → status_of result ≡ Ok → ⊥ }
     ensures no_thread { result ≡ Found.NoThread → Rose (P.faults sp.old) (P.faults sp.new) }
     ensures ran_never_falls { P.ran sp.old ≤ P.ran sp.new }
     ensures faults_never_fall { P.faults sp.old ≤ P.faults sp.new }
