@@ -1,5 +1,5 @@
 -- What a step of a sweep leaves to who runs it.
-use Rattle.std.proofs.Common.{◌≡◌, ℕ, ◌+◌, ◌*◌, refl, sym, ap, subst, ◌∙◌, arith, inl, inr, Option, None}
+use Rattle.std.proofs.Common.{◌≡◌, ◌≢◌, ℕ, ◌+◌, ◌*◌, refl, sym, ap, subst, ◌∙◌, arith, inl, inr, Option, None}
 use Rattle.std.proofs.lemmas.Bool.Decides.{eqb_tells}
 use Rattle.gh_base.specs.declared.cell.Ask.TheVariants as ask
 use Rattle.gh_base.specs.declared.cell.Cell.TheVariants as cell
@@ -39,6 +39,7 @@ module _ (k : Known) (own : laws.EachOwnMoveLeaves) (z : Arena) (a : ℕ) (was :
     place = place;
     ever = ap (λ (v : View). v.ever) is;
     leaves = subst (Leaves (heap_of q)) (sym is) left.stays;
+    owned = λ p h some e. ap (λ (v : View). page_of (v.page p)) is ∙ e;
     stands = λ p h none e. (h.number, ap (λ (v : View). page_of (v.page p)) is ∙ e);
   }
 
@@ -52,8 +53,17 @@ module _ (k : Known) (own : laws.EachOwnMoveLeaves) (z : Arena) (a : ℕ) (was :
     place = place;
     ever = ap (λ (v : View). v.ever) is;
     leaves = subst (Leaves (heap_of q)) (sym is) ((k.besides z q.heap (heap.Renumber p h number) g.heap may).leaves);
+    owned = owned;
     stands = λ x f none e. stays x f none e ((k.besides z q.heap (heap.Renumber p h number) g.heap may).leaves);
   } where
+    owned : (x : ℕ) (f : SpanHead) → f.owner ≢ 0 → page_of ((heap_of q).page x) ≡ Head f → page_of ((heap_of t).page x) ≡ Head f
+    owned x f some e = elim (eqb_tells p x) [
+      | inl y ↦
+          let one : h ≡ f = cc (may.head, e, ap (λ (n : ℕ). page_of ((heap_of q).page n)) y.1) in
+          absurd (some (ap (λ (k : SpanHead). k.owner) (sym one) ∙ may.owner))
+      | inr n ↦ ap (λ (v : View). page_of (v.page x)) is ∙ rw (n.0) e
+    ]
+
     stays : (x : ℕ) (f : SpanHead) → f.owner ≡ 0 → page_of ((heap_of q).page x) ≡ Head f → Leaves (heap_of q) (rights.view (heap.swept q.heap (heap.Renumber p h number))) → (n : ℕ) × (page_of ((heap_of t).page x) ≡ Head (numbered_by n f))
     stays x f none e leaves = elim (eqb_tells p x) [
       | inl y ↦
@@ -82,6 +92,7 @@ module _ (k : Known) (own : laws.EachOwnMoveLeaves) (z : Arena) (a : ℕ) (was :
     place = refl;
     ever = refl;
     leaves = (k.besides z q.heap (heap.Thin (16 * p + i) (q.heap.words (cell.Mark (16 * p + i)))) g.heap (keeps.cuts_may k z a was g p h i may)).leaves;
+    owned = λ x f some e. e;
     stands = λ x f none e. (f.number, e);
   }
   leaves_here (sweep.Clears p h i) of may = same (sweep.Clears p h i) refl refl

@@ -1,5 +1,5 @@
 -- A sweep of a span over the one state.
-use Rattle.std.specs.Prelude.{◌≡◌, ℕ, ◌+◌, ◌<◌, true, false, None}
+use Rattle.std.specs.Prelude.{◌≡◌, ◌≢◌, ℕ, ◌+◌, ◌<◌, true, false, None}
 use Rattle.gh_base.specs.declared.cell.Cell.TheVariants as cell
 use Rattle.gh_base.specs.declared.pack.PageWord.TheVariants.{Head}
 use Rattle.gh_base.specs.declared.pack.SpanHead.{SpanHead}
@@ -18,7 +18,7 @@ use Rattle.gh_state.specs.Good.{Good}
 use Rattle.gh_state.specs.Moves.{May, moved, Others, Sweep}
 use Rattle.gh_state.specs.Shared.{Shared, sweep_over}
 
--- What a step of a sweep leaves to who runs it: its rights over the heap, the objects, what a walk has seen, and the heads of spans that nobody owns, up to their numbers.
+-- What a step of a sweep leaves to who runs it: its rights over the heap, the objects, what a walk has seen, the heads of spans that somebody owns, and those of spans that nobody owns, up to their numbers.
 pub record SweepKeeps (s t : Shared) : Type 0 where
   pub locked : t.heap.locked ≡ s.heap.locked
   pub holds : t.heap.holds ≡ s.heap.holds
@@ -27,6 +27,7 @@ pub record SweepKeeps (s t : Shared) : Type 0 where
   pub place : t.heap.place ≡ s.heap.place
   pub ever : t.heap.ever ≡ s.heap.ever
   pub leaves : Leaves (rights.view s.heap) (rights.view t.heap)
+  pub owned : (p : ℕ) (h : SpanHead) → h.owner ≢ 0 → page_of (s.heap.words (cell.Page p)) ≡ Head h → page_of (t.heap.words (cell.Page p)) ≡ Head h
   pub stands : (p : ℕ) (h : SpanHead) → h.owner ≡ 0 → page_of (s.heap.words (cell.Page p)) ≡ Head h → (number : ℕ) × (page_of (t.heap.words (cell.Page p)) ≡ Head (numbered_by number h))
 
 abbrev pub SweepsLeave : Type 0

@@ -81,7 +81,8 @@ pub fn sweeps_leave()
     rights_follow();
 }
 
-/// What a walk over all pages without the lock has passed stays swept, and where all are passed each span is.
+/// What a walk over all pages without the lock has passed stays swept, whoever swept it and whoever moves, and where all
+/// are passed each span is.
 pub fn walkers_pass()
     ensures { WalkersPass }
 {

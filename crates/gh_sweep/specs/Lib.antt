@@ -7,6 +7,7 @@ pub mod Facts
 pub mod Joined
 pub mod Listing
 pub mod Moves
+pub mod Running
 pub mod Shared
 pub mod Slots
 pub mod Sound

@@ -1,8 +1,8 @@
 //! Sweeping a span: what frees the objects that a cycle has not marked.
 //!
 //! Once a cycle's marking is over, each object that it has not marked is garbage: no goroutine and no
-//! global reaches it. The heap does not search for it: the span that it lies in is swept before anybody
-//! places an object in that span. [`Sweep`] cuts the span's alloc bits to its mark bits, clears the mark
+//! global reaches it. The heap does not search for it: the span that it lies in is swept, while goroutines
+//! run, before anybody places an object in that span. [`Sweep`] cuts the span's alloc bits to its mark bits, clears the mark
 //! bits for the next cycle, and counts what it kept and what it freed.
 //!
 //! Whoever comes first to an unswept span sweeps it: a processor that wants a slot, a worker, or the

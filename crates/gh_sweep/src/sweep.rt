@@ -164,7 +164,7 @@ impl Sweep {
     }
 
     /// The step that it asks for.
-    fn ask(&self) -> Ask
+    pub fn ask(&self) -> Ask
         ensures asks { result ≡ asks self.now }
         ensures within { InRange self.now.layout (cell_of result) }
     {
