@@ -1,5 +1,5 @@
 -- What the search knows lasts, whatever others do. Of the heap and of its routines it is known what their laws say.
-use Rattle.std.proofs.Common.{◌≡◌, ℕ, ◌+◌, ◌*◌, ◌/◌, ◌<◌, ◌≤◌, Bool, true, false, cond, refl, ap, arith, Option, Some, None, sym, subst, ◌∙◌}
+use Rattle.std.proofs.Common.{◌≡◌, ℕ, ◌+◌, ◌*◌, ◌/◌, ◌<◌, ◌≤◌, Bool, true, cond, refl, ap, arith, Option, Some, None, sym, subst, ◌∙◌}
 use Rattle.gh_base.specs.declared.pack.SpanHead.{SpanHead}
 use Rattle.gh_class.specs.declared.class.SizeClass.TheVariants as size
 use Rattle.gh_base.specs.Rows.{row_bit}
@@ -13,19 +13,17 @@ use Rattle.gh_cache.specs.Facts as searching
 use Rattle.gh_cache.specs.Listing as slots
 use Rattle.gh_central.specs.GiveFacts as giving
 use Rattle.gh_central.specs.PassFacts as passing
-use Rattle.gh_central.specs.declared.pass.PassStage.{PassStage}
-use Rattle.gh_central.specs.declared.pass.PassStage.TheVariants.{Look, Bits, Take}
-use Rattle.gh_central.specs.declared.pass.PassStage.TheVariants as pass_stage
-use Rattle.gh_central.specs.SweptPass as pass
+use Rattle.gh_central.specs.UnsweptFacts as sweeping
 use Rattle.gh_pages.specs.Facts as carving
-use Rattle.gh_alloc.specs.Vocabulary.{SpanClass, Sought, Small, Large, CachedSpan, Again, At, NoRoom, End, Ended, FindStage, Give, Lock, Pass, Carve, Slots, Unlock}
+use Rattle.gh_alloc.specs.Vocabulary.{SpanClass, Sought, Small, Large, CachedSpan, At, NoRoom, End, FindStage, Pass, Unswept, Carve, Unlock}
 use Rattle.gh_alloc.specs.Find.{Finding, span_at}
-use Rattle.gh_alloc.specs.FindFacts.{Caches, FactsAt, IsCached, Lasts, NoneLeft, OwnsLarge, Seeks, Weakens, head_for, is_locked}
+use Rattle.gh_alloc.specs.FindFacts.{Caches, FactsAt, IsCached, Lasts, NoneLeft, OwnsLarge, Seeks, head_for, is_locked}
 
 -- the laws that the search's stand on
 pub record Known : Type 0 where
   pub search : searching.SearchesByItsRights
   pub pass : passing.PassesByItsRights
+  pub unswept : sweeping.SweepsByItsRights
   pub give : giving.GivesByItsRights
   pub carve : carving.CarvesByItsRights
   pub follow : EachRightFollows
@@ -93,6 +91,7 @@ large-lasts z a v w f at o x = record {
 
 stage-lasts : Known → (z : Arena) (a : ℕ) (sure : Bool) (v w : View) (f : Finding) (q : FindStage) → Others z a v w → v.locked a ≡ is_locked q → FactsAt z a sure v f q → FactsAt z a sure w f q
 stage-lasts k z a sure v w f (Pass p) o l x = record { c = x.c; wanted = x.wanted; cached = x.cached; is = x.is; facts = k.pass.lasts z a sure v w p o l x.facts }
+stage-lasts k z a sure v w f (Unswept u) o l x = record { c = x.c; wanted = x.wanted; cached = x.cached; first = x.first; is = x.is; facts = k.unswept.lasts z a v w u o l x.facts }
 stage-lasts k z a sure v w f (Carve m) o l x = record { cached = x.cached; none = none-left-lasts k z a sure v w f f.wanted o l x.none; is = x.is; facts = k.carve.lasts z a v w m o l x.facts }
 stage-lasts k z a sure v w f (Unlock (End (At y))) o l x = large-lasts z a v w f y o x
 stage-lasts k z a sure v w f (Unlock (End NoRoom)) o l x = record {
@@ -108,31 +107,6 @@ lasts k z a sure v w rest f g o l x = record {
   caches = caches-last z a v w f.wanted f.cached g o x.caches;
   apart = x.apart;
   own_apart = x.own_apart;
+  round = x.round;
   stage = stage-lasts k z a sure v w f f.stage o l x.stage;
 }
-
--- What is known in the last round is known in any.
-
-none-weakens : (z : Arena) (v : View) (f : Finding) (w : Sought) → NoneLeft z true v f w → NoneLeft z false v f w
-none-weakens z v f (Small c) x = λ is. absurd (cc is)
-none-weakens z v f (Large pages noscan) x = x
-
-pass-weakens : (z : Arena) (m : pass.Pass) (v : View) (q : PassStage) → passing.FactsAt z true m v q → passing.FactsAt z false m v q
-pass-weakens z m v (Look p) x = record { there = x.there; full = λ is. absurd (cc is) }
-pass-weakens z m v (Bits p h i) x = record { unowned = x.unowned; full = λ is. absurd (cc is); within = x.within; taken = x.taken }
-pass-weakens z m v (Take p h) x = x
-pass-weakens z m v (pass_stage.Ended taken) x = x
-
-stage-weakens : (z : Arena) (a : ℕ) (v : View) (f : Finding) (q : FindStage) → FactsAt z a true v f q → FactsAt z a false v f q
-stage-weakens z a v f (Pass p) x = record { c = x.c; wanted = x.wanted; cached = x.cached; is = x.is; facts = record { whose = x.facts.whose; stage = pass-weakens z p v p.stage x.facts.stage } }
-stage-weakens z a v f (Carve m) x = record { cached = x.cached; none = none-weakens z v f f.wanted x.none; is = x.is; facts = x.facts }
-stage-weakens z a v f (Unlock (End NoRoom)) x = record { cached = x.cached; none = none-weakens z v f f.wanted x.none; no_run = x.no_run }
-stage-weakens z a v f (Unlock (End (At y))) x = x
-stage-weakens z a v f (Unlock Again) x = x
-stage-weakens z a v f (Slots m) x = x
-stage-weakens z a v f Lock x = x
-stage-weakens z a v f (Give g) x = x
-stage-weakens z a v f (Ended out) x = x
-
-pub weakens : Weakens
-weakens z a v rest f x = record { seeks = x.seeks; caches = x.caches; apart = x.apart; own_apart = x.own_apart; stage = stage-weakens z a v f f.stage x.stage }

@@ -2,9 +2,9 @@
 use Rattle.std.proofs.Common.{◌≡◌, ℕ, ◌+◌, ◌*◌, ◌^◌, ◌<◌, ◌≤◌, Bool, true, false, cond, ltb, Option, Some, None, refl, sym, ap, subst, arith, le-leb, ltb-true, ltb-false}
 use Rattle.gh_class.specs.declared.class.SizeClass.TheVariants as size
 use Rattle.gh_cache.specs.Listing as slots
-use Rattle.gh_alloc.specs.FindFacts.{Caches, FactsAt, FindsNone, IsUsedUp, NoneIsTrue, Opens, head_of, is_locked, laying, own, with_span}
+use Rattle.gh_alloc.specs.FindFacts.{Caches, FactsAt, FindsNone, IsUsedUp, NoneIsTrue, Opens, Seeks, SweepsHere, head_of, is_locked, laying, own, with_span}
 use Rattle.gh_alloc.specs.FindSound.{IsSought}
-use Rattle.gh_alloc.proofs.Vocabulary.{Arena, begin, CachedSpan, End, Ended, Finding, FindStage, first_page, FitsClass, Good, IsFull, Lands, Large, Lock, May, Move, moved, NoRoom, refuses_at, Right, Row, row_bit, Shared, slot_count, slot_size, slot_words_of, Slots, slots_of, Small, Sought, span_at, span_for, SpanHead, Unlock, View, view, Words}
+use Rattle.gh_alloc.proofs.Vocabulary.{Arena, begin, CachedSpan, End, Ended, Finding, FindStage, first_page, FitsClass, Good, IsFull, Lands, Large, Lock, May, Move, moved, NoRoom, refuses_at, Right, Row, row_bit, Shared, slot_count, slot_size, slot_words_of, Slots, slots_of, Small, Sought, span_at, span_for, SpanHead, sweep_generation_at, sweep_layout_at, Unlock, Unswept, View, view, Words}
 use Rattle.gh_alloc.proofs.FindLasts.{Known}
 
 -- What its own steps keep.
@@ -29,6 +29,15 @@ refuses-at z a sure v f _ e x = absurd (cc)
 
 pub finds-none : NoneIsTrue
 finds-none z a sure v rest f x e = let y = refuses-at z a sure v f f.stage e x.stage in record { none = y.0; stage = y.1 }
+
+-- Whose routine sweeps.
+
+sweeps-at : (z : Arena) (a : ℕ) (sure : Bool) (v : View) (f : Finding) (q : FindStage) → Seeks z a v f → FactsAt z a sure v f q → (sweep_layout_at f q ≡ z.layout) × (sweep_generation_at f q ≡ v.generation)
+sweeps-at z a sure v f (Unswept u) seeks x = (x.facts.whose.layout, x.facts.whose.number)
+sweeps-at z a sure v f _ seeks x = (seeks.layout, seeks.number)
+
+pub sweeps-here : SweepsHere
+sweeps-here z a sure v rest f x = sweeps-at z a sure v f f.stage x.seeks x.stage
 
 -- Numbers.
 
@@ -94,7 +103,7 @@ module _ (z : Arena) (a : ℕ) (sure : Bool) (v : View) (rest : ℕ → Bool) (f
   begins (Large pages noscan) None w y caches right = (right, used-up f.wanted (Large pages noscan) f.cached None w y tt, none-own rest)
 
 pub opens : Opens
-opens z a sure v rest f seeks caches apart right e =
+opens z a v rest f seeks caches apart right e =
     let at : f.stage ≡ begin f.layout f.wanted f.cached = ap (λ (g : Finding). g.stage) e in
-    let x : Stands z a sure v rest f f.stage = subst (λ (q : FindStage). Stands z a sure v rest f q) (sym at) (begins z a sure v rest f f.wanted f.cached refl refl caches right) in
-    (x.0, record { seeks = seeks; caches = caches; apart = apart; own_apart = x.2; stage = x.1 })
+    let x : Stands z a false v rest f f.stage = subst (λ (q : FindStage). Stands z a false v rest f q) (sym at) (begins z a false v rest f f.wanted f.cached refl refl caches right) in
+    (x.0, record { seeks = seeks; caches = caches; apart = apart; own_apart = x.2; round = λ is. absurd (cc is); stage = x.1 })

@@ -5,7 +5,7 @@ use Rattle.gh_base.specs.Steps.{cell_of}
 use Rattle.gh_heap.specs.Rights.{Arena, Good, View}
 use Rattle.gh_cache.specs.Listing as slots
 use Rattle.gh_central.specs.GiveBack as give
-use Rattle.gh_alloc.specs.Vocabulary.{SpanClass, Sought, Small, CachedSpan, FindStage, Slots, Lock, Give, Pass, Carve, Unlock, Ended}
+use Rattle.gh_alloc.specs.Vocabulary.{SpanClass, Sought, Small, CachedSpan, FindStage, Slots, Lock, Give, Pass, Unswept, Carve, Unlock, Ended}
 use Rattle.gh_alloc.specs.Find.{Finding, asks, at_stage, span_at}
 use Rattle.gh_alloc.specs.FindFacts.{Caches, FactsAt, IsCached, IsCachedFor, Seeks, Within}
 use Rattle.gh_alloc.proofs.FindLasts.{Known}
@@ -25,6 +25,7 @@ module _ (k : Known) (z : Arena) (a : ℕ) (sure : Bool) (v : View) (f : Finding
       let span = good.spans x.k.head y.span.h y.span.head in
       subst (λ (m : give.Giving). InRange z.layout (cell_of (give.asks m))) (sym x.is) (omega (arith, span.within, span.fits.some))
   within-at (Pass p) x = k.pass.within z a sure v p good x.facts
+  within-at (Unswept u) x = k.unswept.within z a v u good x.facts
   within-at (Carve m) x = k.carve.within z a v m x.facts
   within-at (Unlock after) x = tt
   within-at (Ended out) x = absurd x

@@ -6,9 +6,13 @@ use Rattle.gh_cache.specs.Listing as slots
 use Rattle.gh_central.specs.declared.give.GiveStage.TheVariants as give_stage
 use Rattle.gh_central.specs.declared.reclaim.ReclaimStage.TheVariants as reclaim_stage
 use Rattle.gh_central.specs.declared.pass.PassStage.TheVariants as pass_stage
+use Rattle.gh_central.specs.declared.unswept.UnsweptStage.TheVariants as unswept_stage
 use Rattle.gh_central.specs.GiveBack as give
 use Rattle.gh_central.specs.Reclaim as reclaim
 use Rattle.gh_central.specs.SweptPass as pass
+use Rattle.gh_central.specs.UnsweptPass as unswept
+use Rattle.gh_sweep.specs.declared.sweep.SweepStage.TheVariants as sweep_stage
+use Rattle.gh_sweep.specs.Listing as sweep
 use Rattle.gh_pages.specs.declared.carve.CarveStage.TheVariants as carve_stage
 use Rattle.gh_pages.specs.Listing as carve
 use Rattle.gh_alloc.specs.declared.find.FindStage.TheVariants as find_stage
@@ -17,7 +21,7 @@ use Rattle.gh_alloc.specs.declared.search.SearchStage.TheVariants as search_stag
 use Rattle.gh_alloc.specs.Find as find
 use Rattle.gh_alloc.specs.Place as place
 use Rattle.gh_alloc.specs.Search as search
-use Rattle.gh_alloc.proofs.Vocabulary.{AllocationIsQuiet, CarveStage, FindStage, GiveStage, IsQuiet, PassStage, PlaceStage, ReclaimStage, SearchStage, SetStage, SlotStage}
+use Rattle.gh_alloc.proofs.Vocabulary.{AllocationIsQuiet, CarveStage, FindStage, GiveStage, IsQuiet, PassStage, PlaceStage, ReclaimStage, SearchStage, SetStage, SlotStage, SweepStage, UnsweptStage}
 
 slots_quiet : (s : slots.Searching) (stage : SlotStage) → IsQuiet (slots.asks_at s stage)
 slots_quiet s slot_stage.Look = tt
@@ -35,8 +39,18 @@ carve_quiet : (c : carve.Carving) (stage : CarveStage) → IsQuiet (carve.asks_a
 carve_quiet c (carve_stage.Look page run) = tt
 carve_quiet c _ = tt
 
+sweep_quiet : (s : sweep.Sweeping) (stage : SweepStage) → IsQuiet (sweep.asks_at s stage)
+sweep_quiet s (sweep_stage.LoadMarks i) = tt
+sweep_quiet s _ = tt
+
+unswept_quiet : (u : unswept.Unswept) (stage : UnsweptStage) → IsQuiet (unswept.asks_at u stage)
+unswept_quiet u (unswept_stage.Look page) = tt
+unswept_quiet u (unswept_stage.Sweep page h sw) = sweep_quiet sw sw.stage
+unswept_quiet u _ = tt
+
 reclaim_quiet : (r : reclaim.Reclaiming) (stage : ReclaimStage) → IsQuiet (reclaim.asks_at r stage)
 reclaim_quiet r (reclaim_stage.Look page) = tt
+reclaim_quiet r (reclaim_stage.Sweep page pages sw) = sweep_quiet sw sw.stage
 reclaim_quiet r _ = tt
 
 bits_quiet : (s : bits.PointerSetting) (stage : SetStage) → IsQuiet (bits.asks_at s stage)
@@ -48,6 +62,7 @@ find_quiet : (f : find.Finding) (stage : FindStage) → IsQuiet (find.asks_at f 
 find_quiet f (find_stage.Slots s) = slots_quiet s s.stage
 find_quiet f (find_stage.Give g) = give_quiet g g.stage
 find_quiet f (find_stage.Pass p) = pass_quiet p p.stage
+find_quiet f (find_stage.Unswept u) = unswept_quiet u u.stage
 find_quiet f (find_stage.Carve c) = carve_quiet c c.stage
 find_quiet f _ = tt
 

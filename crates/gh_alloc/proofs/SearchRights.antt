@@ -3,16 +3,16 @@ use Rattle.std.proofs.Common.{◌≡◌, ℕ, Bool, true, false, cond, ltb, Opti
 use Rattle.gh_cache.specs.Listing as slots
 use Rattle.gh_central.specs.Reclaim as reclaim
 use Rattle.gh_central.specs.ReclaimFacts as reclaiming
-use Rattle.gh_central.specs.SweptPass as pass
-use Rattle.gh_pages.specs.Listing as carve
+use Rattle.gh_central.specs.Sweeping.{SweepLeaves}
+use Rattle.gh_sweep.specs.Listing.{Sweeping}
 use Rattle.gh_alloc.specs.Find as find
 use Rattle.gh_alloc.specs.FindFacts as finding
-use Rattle.gh_alloc.specs.SearchFacts.{Comes, FactsAt, FindsNone, Frees, Has, Lasts, LooksAgain, LooksFirst, NoneIsTrue, Opens, OwnStep, Refuses, SeeksByItsRights, Within, reclaim_at}
-use Rattle.gh_alloc.proofs.Vocabulary.{after_carve, after_first, after_free, after_pass, Again, Arena, asks_at, At, at_stage, begin, CachedSpan, Carve, cell_of, EachFactLasts, EachMoveKeeps, EachMoveKeepsItsOwn, End, Ended, Finding, FindStage, First, Found, Free, frees_at, goes_at, Good, InRange, IsSpan, IsVacant, KeepsObjects, Large, Layout, Lock, moved, NoRoom, Others, Pass, Reclaiming, reclaiming as begin_freeing, refuses, Right, SearchStage, Second, Seeking, Shared, Slots, slots_of, Small, Sought, SpanHead, spans_for, Steps, taken_for, TidyBefore, Unlock, View, view, WalksGoOn}
-use Rattle.gh_alloc.specs.Search.{given, given_at}
+use Rattle.gh_alloc.specs.SearchFacts.{Comes, FactsAt, FindsNone, Frees, Has, Lasts, LooksAgain, LooksFirst, NoneIsTrue, Opens, OwnStep, Refuses, SeeksByItsRights, SweepStep, SweepsHere, Within, reclaim_at}
+use Rattle.gh_alloc.proofs.Vocabulary.{after_first, after_free, Again, Arena, asks_at, At, at_stage, begin, CachedSpan, cell_of, EachFactLasts, effect, EachMoveKeeps, EachMoveKeepsItsOwn, End, Ended, Finding, FindStage, First, Found, Free, frees_at, goes_at, Good, InRange, IsSpan, IsVacant, KeepsObjects, Large, Layout, Lock, moved, NoRoom, Others, Reclaiming, reclaiming as begin_freeing, refuses, Right, SearchStage, Second, Seeking, Shared, Slots, slots_of, Small, Sought, SpanHead, spans_for, Steps, TidyBefore, Unlock, Unswept, View, view, WalksGoOn}
+use Rattle.gh_alloc.specs.Search.{given, given_at, sweep_at, sweep_generation_at, sweep_layout_at}
+use Rattle.gh_alloc.specs.Search as search
 use Rattle.gh_alloc.proofs.FindLasts.{seeks-last}
 use Rattle.gh_alloc.proofs.Seeking.Refusing.{second_gives}
-use Rattle.gh_central.specs.ReclaimFacts.{AllSwept}
 
 pub record Known : Type 0 where
   pub last : EachFactLasts
@@ -40,28 +40,7 @@ unlocked-on f (Unlock Again) found e none = begins-on f.layout f.wanted f.cached
 unlocked-on f (Unlock (End out)) found e none = absurd (cc)
 unlocked-on f _ found e none = absurd (cc)
 
-taken-looks : (f : Finding) (w : Sought) (p : ℕ) → finding.looks (taken_for f w p).stage ≡ true
-taken-looks f (Small c) p = refl
-taken-looks f (Large pages noscan) p = refl
-
-spans-look : (f : Finding) (w : Sought) → finding.looks (spans_for f w) ≡ true
-spans-look f (Small c) = refl
-spans-look f (Large pages noscan) = refl
-
--- one that looks for a span does so until it frees the lock
-looks-on : (f : Finding) (q : FindStage) (found : ℕ) → finding.looks q ≡ true → frees_at q ≡ false → finding.looks (find.goes_at f q found).stage ≡ true
-looks-on f (Pass p) found e u = go (pass.gives p found) where
-  go : (out : Option (Option ℕ)) → finding.looks (after_pass (at_stage f (Pass (pass.goes p found))) out).stage ≡ true
-  go None = refl
-  go (Some None) = refl
-  go (Some (Some n)) = taken-looks (at_stage f (Pass (pass.goes p found))) f.wanted n
-looks-on f (Carve c) found e u = go (carve.gives c found) where
-  go : (out : Option (Option ℕ)) → finding.looks (after_carve (at_stage f (Carve (carve.goes c found))) out).stage ≡ true
-  go None = refl
-  go (Some None) = refl
-  go (Some (Some n)) = taken-looks (at_stage f (Carve (carve.goes c found))) f.wanted n
-looks-on f _ found e u = absurd (cc)
-
+-- one that looks for a span has the lock
 looks-locked : (q : FindStage) → finding.looks q ≡ true → finding.is_locked q ≡ true
 looks-locked (Slots s) e = absurd (cc)
 looks-locked Lock e = absurd (cc)
@@ -70,7 +49,7 @@ looks-locked _ e = refl
 
 opens : Known → Opens
 opens k z a v rest q seeks caches apart right e =
-    let x = k.find.opens z a false v rest q.find seeks caches apart right (ap (λ (p : Seeking). p.find) e) in
+    let x = k.find.opens z a v rest q.find seeks caches apart right (ap (λ (p : Seeking). p.find) e) in
     let on : find.refuses q.find ≡ false = ap (λ (p : Seeking). find.refuses p.find) e ∙ begins-on q.find.layout q.find.wanted q.find.cached in
     subst (λ (p : SearchStage). Has a v rest (record { find = q.find; stage = p }) × FactsAt z a v rest q.find p) (sym (ap (λ (p : Seeking). p.stage) e)) (x.0, record { facts = x.1; on = on })
 
@@ -79,7 +58,7 @@ opens k z a v rest q seeks caches apart right e =
 stage-lasts : Known → (z : Arena) (a : ℕ) (v w : View) (rest : ℕ → Bool) (f : Finding) (p : SearchStage) → Good z v → Others z a v w → Has a v rest (record { find = f; stage = p }) → FactsAt z a v rest f p → FactsAt z a w rest f p
 stage-lasts k z a v w rest f First g o right x = record { facts = k.find.lasts z a false v w rest f g o right.locked x.facts; on = x.on }
 stage-lasts k z a v w rest f (Free r) g o right x = record { seeks = seeks-last z a v w f o x.seeks; cached = x.cached; is = x.is; facts = k.free.lasts z a v w rest r g o right x.facts }
-stage-lasts k z a v w rest f Second g o right x = record { facts = k.find.lasts z a true v w rest f g o right.locked x.facts; looks = x.looks; tidy = (k.last z a v w o).tidy_before z.layout.pages (right.locked ∙ looks-locked f.stage x.looks) x.tidy }
+stage-lasts k z a v w rest f Second g o right x = record { facts = k.find.lasts z a true v w rest f g o right.locked x.facts; tidy = (k.last z a v w o).tidy_before z.layout.pages (right.locked ∙ looks-locked f.stage (x.facts.round refl).0) x.tidy }
 
 lasts : Known → Lasts
 lasts k z a v w rest q g o right x = stage-lasts k z a v w rest q.find q.stage g o right x
@@ -136,11 +115,16 @@ module _ (k : Known) (z : Arena) (a : ℕ) (s : Shared) (rest : ℕ → Bool) wh
         )
     by _ c = (c.0, record { facts = c.1; on = refl })
 
-  first-own : (f : Finding) → Good z now → Has a now rest (record { find = f; stage = First }) → LooksFirst z a now rest f → Step f First
-  first-own f g right x =
+  -- in the first round, by every step
+  still-false : (q : FindStage) → finding.still false q ≡ false
+  still-false (Unlock after) = refl
+  still-false _ = refl
+
+  first-own : (f : Finding) → Good z now → Has a now rest (record { find = f; stage = First }) → LooksFirst z a now rest f → find.sweep_in f ≡ None → Step f First
+  first-own f g right x idle =
       let found : ℕ = s.words (cell_of (find.asks f)) in
-      let l = k.find.own_step z a false s rest f g (λ is. absurd (cc is)) right x.facts x.on in
-      record { move = l.move; may = l.may; words_are = l.words_are; after = (l.after.0, first-then (moved z a s l.move) (find.goes f found) l.after.2) }
+      let l = k.find.own_step z a false s rest f g (λ is. absurd (cc is)) right x.facts x.on idle in
+      record { move = l.move; may = l.may; words_are = l.words_are; after = (l.after.0, first-then (moved z a s l.move) (find.goes f found) (subst (λ (b : Bool). finding.Comes z a b (view (moved z a s l.move)) rest (find.gives f found) (find.goes f found)) (still-false f.stage) l.after.2)) }
 
   -- a second search that goes on has given nothing
   second-on : (w : View) (q : FindStage) (f : Finding) → Has a w rest (record { find = at_stage f q; stage = Second }) × LooksAgain z a w rest (at_stage f q) → Comes z a w rest (find.given_at q) (record { find = at_stage f q; stage = Second })
@@ -152,14 +136,17 @@ module _ (k : Known) (z : Arena) (a : ℕ) (s : Shared) (rest : ℕ → Bool) wh
     seeks-then : finding.Seeks z a (view t) f
     seeks-then = record { layout = seeks.layout; seat = seeks.seat; few = seeks.few; number = seeks.number ∙ sym same; wanted = seeks.wanted }
 
+    seeks-again : finding.Seeks z a (view t) (search.again f)
+    seeks-again = record { layout = seeks.layout; seat = seeks.seat; few = seeks.few; number = seeks.number ∙ sym same; wanted = seeks.wanted }
+
     go : (out : Option (Unit {0})) → reclaiming.Comes z a now (view t) rest out r → Comes z a (view t) rest (given (after_free f r out)) (after_free f r out)
     go None c = (c.1, record { seeks = seeks-then; cached = cached; is = is; facts = c.2 })
-    go (Some u) c = let x = k.find.again z a true t rest f g (λ is. c.2) seeks-then cached c.1 in second-on (view t) (spans_for f f.wanted) f (x.0, record { facts = x.1; looks = spans-look f f.wanted; tidy = c.2 })
+    go (Some u) c = let x = k.find.again z a true t rest (search.again f) g (λ is. c.2) seeks-again cached (λ is. refl) c.1 in second-on (view t) (spans_for f f.wanted) (search.again f) (x.0, record { facts = x.1; tidy = c.2 })
 
-  free-own : (f : Finding) (r : Reclaiming) → Good z now → AllSwept now → Has a now rest (record { find = f; stage = Free r }) → Frees z a now f r → Step f (Free r)
-  free-own f r g all right x =
+  free-own : (f : Finding) (r : Reclaiming) → Good z now → Has a now rest (record { find = f; stage = Free r }) → Frees z a now f r → reclaim.sweep_in r ≡ None → Step f (Free r)
+  free-own f r g right x idle =
       let found : ℕ = s.words (cell_of (reclaim.asks r)) in
-      let l = k.free.own_step z a s rest r g all right x.facts in
+      let l = k.free.own_step z a s rest r g right x.facts idle in
       record {
         move = l.move;
         may = l.may;
@@ -167,17 +154,22 @@ module _ (k : Known) (z : Arena) (a : ℕ) (s : Shared) (rest : ℕ → Bool) wh
         after = (l.after.0, free-then (moved z a s l.move) f (reclaim.goes r found) (reclaim.gives r found) (k.keep z a s l.move g l.may) (k.own z a s l.move g l.may).generation x.seeks x.cached (ap (λ (y : Reclaiming). reclaim.at_stage y (reclaim.goes r found).stage) x.is) l.after.1);
       }
 
-  second-then : (t : Shared) (f : Finding) (found : ℕ) (out : Option Found) → find.gives f found ≡ out → finding.looks f.stage ≡ true → TidyBefore (view t).page (view t).alloc (view t).generation z.layout.pages → finding.Comes z a true (view t) rest out (find.goes f found) →
-      (b : Bool) → frees_at f.stage ≡ b → Comes z a (view t) rest out (record { find = find.goes f found; stage = cond b First Second })
-  second-then t f found None none looks tidy c true e = (c.0, record { facts = k.find.weakens z a (view t) rest (find.goes f found) c.1; on = unlocked-on f f.stage found e none })
-  second-then t f found None none looks tidy c false e = (c.0, record { facts = c.1; looks = looks-on f f.stage found looks e; tidy = tidy })
-  second-then t f found (Some (At x)) is looks tidy c b e = c
-  second-then t f found (Some NoRoom) is looks tidy c b e = absurd c
+  -- the last round ends where the lock is freed
+  still-true : (q : FindStage) → finding.still true q ≡ cond (frees_at q) false true
+  still-true (Unlock after) = refl
+  still-true _ = refl
 
-  second-own : (f : Finding) → Good z now → Has a now rest (record { find = f; stage = Second }) → LooksAgain z a now rest f → find.refuses f ≡ false → Step f Second
-  second-own f g right x on =
+  second-then : (t : Shared) (f : Finding) (found : ℕ) (out : Option Found) → find.gives f found ≡ out → TidyBefore (view t).page (view t).alloc (view t).generation z.layout.pages →
+      (b : Bool) → frees_at f.stage ≡ b → finding.Comes z a (cond b false true) (view t) rest out (find.goes f found) → Comes z a (view t) rest out (record { find = find.goes f found; stage = cond b First Second })
+  second-then t f found None none tidy true e c = (c.0, record { facts = c.1; on = unlocked-on f f.stage found e none })
+  second-then t f found None none tidy false e c = (c.0, record { facts = c.1; tidy = tidy })
+  second-then t f found (Some (At x)) is tidy b e c = c
+  second-then t f found (Some NoRoom) is tidy b e c = absurd c
+
+  second-own : (f : Finding) → Good z now → Has a now rest (record { find = f; stage = Second }) → LooksAgain z a now rest f → find.refuses f ≡ false → find.sweep_in f ≡ None → Step f Second
+  second-own f g right x on idle =
       let found : ℕ = s.words (cell_of (find.asks f)) in
-      let l = k.find.own_step z a true s rest f g (λ is. x.tidy) right x.facts on in
+      let l = k.find.own_step z a true s rest f g (λ is. x.tidy) right x.facts on idle in
       record {
         move = l.move;
         may = l.may;
@@ -185,17 +177,51 @@ module _ (k : Known) (z : Arena) (a : ℕ) (s : Shared) (rest : ℕ → Bool) wh
         after = (
           l.after.0,
           subst (λ (out : Option Found). Comes z a (view (moved z a s l.move)) rest out (goes_at f Second found)) (sym (second_gives (find.goes f found) (frees_at f.stage)))
-              (second-then (moved z a s l.move) f found (find.gives f found) refl x.looks (k.walks.tidy now (view (moved z a s l.move)) z.layout.pages (l.after.1 x.looks) x.tidy) l.after.2 (frees_at f.stage) refl),
+              (second-then (moved z a s l.move) f found (find.gives f found) refl (k.walks.tidy now (view (moved z a s l.move)) z.layout.pages (l.after.1 (x.facts.round refl).0) x.tidy) (frees_at f.stage) refl
+              (subst (λ (b : Bool). finding.Comes z a b (view (moved z a s l.move)) rest (find.gives f found) (find.goes f found)) (still-true f.stage) l.after.2)),
         );
       }
 
-  own-at : (f : Finding) (p : SearchStage) → Good z now → AllSwept now → Has a now rest (record { find = f; stage = p }) → FactsAt z a now rest f p → refuses (record { find = f; stage = p }) ≡ false → Step f p
-  own-at f First g all right x on = first-own f g right x
-  own-at f (Free r) g all right x on = free-own f r g all right x
-  own-at f Second g all right x on = second-own f g right x on
+  own-at : (f : Finding) (p : SearchStage) → Good z now → Has a now rest (record { find = f; stage = p }) → FactsAt z a now rest f p → refuses (record { find = f; stage = p }) ≡ false → sweep_at f p ≡ None → Step f p
+  own-at f First g right x on idle = first-own f g right x idle
+  own-at f (Free r) g right x on idle = free-own f r g right x idle
+  own-at f Second g right x on idle = second-own f g right x on idle
+
+  -- The steps of a sweep that it runs.
+
+  -- the second search runs none
+  idle-at : (v : View) (f : Finding) (q : FindStage) (sw : Sweeping) → f.sweeps ≡ false → finding.FactsAt z a true v f q → find.sweep_at q ≡ Some sw → ⊥
+  idle-at v f (Unswept u) sw none x runs = let first = x.first in cc
+  idle-at v f _ sw none x runs = cc runs
+
+  abbrev Sweeps : Shared → Finding → SearchStage → Type 0
+  Sweeps t f p = KeepsObjects now (view t) × Comes z a (view t) rest (given (goes_at f p (s.words (cell_of (asks_at f p))))) (goes_at f p (s.words (cell_of (asks_at f p))))
+
+  sweep-stage : (t : Shared) (f : Finding) (p : SearchStage) (sw : Sweeping) → Good z now → Good z (view t) → Has a now rest (record { find = f; stage = p }) → FactsAt z a now rest f p → sweep_at f p ≡ Some sw → SweepLeaves now (view t) → t.words ≡ effect s.words (asks_at f p) → Sweeps t f p
+  sweep-stage t f First sw g then right x runs leaves words =
+      let r = k.find.sweep_step z a false s t rest f sw g then right x.facts runs leaves words in
+      (r.0, first-then t (find.goes f (s.words (cell_of (find.asks f)))) r.1)
+  sweep-stage t f (Free r) sw g then right x runs leaves words =
+      let found : ℕ = s.words (cell_of (reclaim.asks r)) in
+      let y = k.free.sweep_step z a s t rest r sw g right x.facts runs leaves words in
+      (y.0, free-then t f (reclaim.goes r found) (reclaim.gives r found) then leaves.leaves.generation x.seeks x.cached (ap (λ (m : Reclaiming). reclaim.at_stage m (reclaim.goes r found).stage) x.is) y.1)
+  sweep-stage t f Second sw g then right x runs leaves words = absurd (idle-at now f f.stage sw (x.facts.round refl).1 x.facts.stage runs)
 
 own : Known → OwnStep
-own k z a s rest q g all right x on = own-at k z a s rest q.find q.stage g all right x on
+own k z a s rest q g right x on idle = own-at k z a s rest q.find q.stage g right x on idle
+
+sweep : Known → SweepStep
+sweep k z a s t rest q sw g then right x runs leaves words = sweep-stage k z a s rest t q.find q.stage sw g then right x runs leaves words
+
+-- Whose routine sweeps.
+
+here-at : Known → (z : Arena) (a : ℕ) (v : View) (rest : ℕ → Bool) (f : Finding) (p : SearchStage) → FactsAt z a v rest f p → (sweep_layout_at f p ≡ z.layout) × (sweep_generation_at f p ≡ v.generation)
+here-at k z a v rest f First x = k.find.here z a false v rest f x.facts
+here-at k z a v rest f (Free r) x = (x.facts.whose.layout, x.facts.whose.number)
+here-at k z a v rest f Second x = k.find.here z a true v rest f x.facts
+
+sweeps-here : Known → SweepsHere
+sweeps-here k z a v rest q x = here-at k z a v rest q.find q.stage x
 
 -- Its words.
 
@@ -208,4 +234,4 @@ within : Known → Within
 within k z a v rest q g x = within-at k z a v rest q.find q.stage g x
 
 pub seeks_by_its_rights : Known → SeeksByItsRights
-seeks_by_its_rights k = record { opens = opens k; own_step = own k; within = within k; none = finds-none k; lasts = lasts k }
+seeks_by_its_rights k = record { opens = opens k; own_step = own k; sweep_step = sweep k; here = sweeps-here k; within = within k; none = finds-none k; lasts = lasts k }

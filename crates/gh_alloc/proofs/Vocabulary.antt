@@ -22,12 +22,14 @@ pub use Rattle.gh_central.specs.Reclaim.{Reclaiming}
 pub use Rattle.gh_central.specs.declared.give.GiveStage.{GiveStage}
 pub use Rattle.gh_central.specs.declared.pass.PassStage.{PassStage}
 pub use Rattle.gh_central.specs.declared.reclaim.ReclaimStage.{ReclaimStage}
-pub use Rattle.gh_alloc.specs.Find.{after_carve, after_give, after_pass, after_slots, asks, at_stage, begin, carving, Finding, finds_none_at, first_page, given, given_at, given_head, gives, goes, locked_for, refuses_at, searched, span_at, span_for, spans_for, taken_for, unlocked}
+pub use Rattle.gh_central.specs.declared.unswept.UnsweptStage.{UnsweptStage}
+pub use Rattle.gh_sweep.specs.declared.sweep.SweepStage.{SweepStage}
+pub use Rattle.gh_alloc.specs.Find.{after_carve, after_give, after_pass, after_slots, after_unswept, asks, at_stage, begin, behind_for, carving, Finding, finds_none_at, first_page, given, given_at, given_head, gives, goes, locked_for, refuses_at, searched, span_at, span_for, spans_for, sweep_at, sweep_generation_at, sweep_layout_at, taken_for, unlocked}
 pub use Rattle.gh_alloc.specs.Locking.{holds}
 pub use Rattle.gh_alloc.specs.Place.{acts_at, filled, is_busy, listing, made, opening, Placing}
 pub use Rattle.gh_alloc.specs.Quiet.{AllocationIsQuiet}
 pub use Rattle.gh_alloc.specs.Search.{after_first, after_free, again, asks_at, frees_at, goes_at, reclaiming, refuses, Seeking}
-pub use Rattle.gh_alloc.specs.Vocabulary.{Again, At, CachedSpan, Carve, End, Ended, FindStage, Found, Give, Large, Layout, Lock, NoRoom, Pass, Slots, Small, Sought, SpanClass, Unlock}
+pub use Rattle.gh_alloc.specs.Vocabulary.{Again, At, CachedSpan, Carve, End, Ended, FindStage, Found, Give, Large, Layout, Lock, NoRoom, Pass, Slots, Small, Sought, SpanClass, Unlock, Unswept}
 pub use Rattle.gh_alloc.specs.declared.place.PlaceStage.{PlaceStage}
 pub use Rattle.gh_alloc.specs.declared.place.PlaceStage.TheVariants.{Alloc, Birth, Bits, Clear, Count, Mark}
 pub use Rattle.gh_alloc.specs.declared.search.SearchStage.{SearchStage}

@@ -4,17 +4,18 @@ use Rattle.std.proofs.Common.{ap}
 use Rattle.gh_base.specs.Blind.{is_store, StoresAreBlind}
 use Rattle.gh_cache.specs.Blind as slots_stores
 use Rattle.gh_cache.specs.Listing as slots
-use Rattle.gh_central.specs.Blind.{pass_blind, reclaim_blind}
+use Rattle.gh_central.specs.Blind.{pass_blind, reclaim_blind, unswept_blind}
 use Rattle.gh_central.specs.Reclaim as reclaim
 use Rattle.gh_central.specs.SweptPass as pass
+use Rattle.gh_central.specs.UnsweptPass as unswept
 use Rattle.gh_pages.specs.Blind as carve_stores
 use Rattle.gh_pages.specs.Listing as carve
 use Rattle.gh_alloc.specs.declared.place.PlaceStage.{PlaceStage}
 use Rattle.gh_alloc.specs.declared.place.PlaceStage.TheVariants.{Clear}
 use Rattle.gh_alloc.specs.declared.search.SearchStage.{SearchStage}
 use Rattle.gh_alloc.specs.declared.search.SearchStage.TheVariants.{First, Free, Second}
-use Rattle.gh_alloc.specs.Vocabulary.{FindStage, Slots, Lock, Pass, Carve}
-use Rattle.gh_alloc.specs.Find.{Finding, after_carve, after_pass, after_slots, at_stage, searched}
+use Rattle.gh_alloc.specs.Vocabulary.{FindStage, Slots, Lock, Pass, Unswept, Carve}
+use Rattle.gh_alloc.specs.Find.{Finding, after_carve, after_pass, after_slots, after_unswept, at_stage, searched}
 use Rattle.gh_alloc.specs.Find as find
 use Rattle.gh_alloc.specs.Place as place
 use Rattle.gh_alloc.specs.Search.{after_first, after_free, frees_at}
@@ -24,6 +25,7 @@ find_blind_at : (f : Finding) (stage : FindStage) (found other : ℕ) → is_sto
 find_blind_at f (Slots s) found other e = ap (λ (x : slots.Searching). after_slots (searched f x) (slots.given x)) (slots_stores.blind s found other e)
 find_blind_at f Lock found other e = absurd (cc)
 find_blind_at f (Pass p) found other e = ap (λ (x : pass.Pass). after_pass (at_stage f (Pass x)) (pass.given x)) (pass_blind p found other e)
+find_blind_at f (Unswept u) found other e = ap (λ (x : unswept.Unswept). after_unswept (at_stage f (Unswept x)) (unswept.given x)) (unswept_blind u found other e)
 find_blind_at f (Carve c) found other e = ap (λ (x : carve.Carving). after_carve (at_stage f (Carve x)) (carve.given x)) (carve_stores.blind c found other e)
 find_blind_at f _ found other e = refl
 

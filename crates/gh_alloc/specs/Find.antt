@@ -12,17 +12,20 @@ use Rattle.gh_cache.specs.declared.next_slot.Cached.{Cached}
 use Rattle.gh_cache.specs.Listing as slots
 use Rattle.gh_central.specs.GiveBack as give
 use Rattle.gh_central.specs.SweptPass as pass
+use Rattle.gh_central.specs.UnsweptPass as unswept
+use Rattle.gh_sweep.specs.Listing.{Sweeping}
 use Rattle.gh_pages.specs.declared.carve.Span.{Span}
 use Rattle.gh_pages.specs.Listing as carve
-use Rattle.gh_alloc.specs.Vocabulary.{Layout, SpanClass, Sought, Small, Large, CachedSpan, Found, At, NoRoom, After, Again, End, FindStage, Slots, Lock, Give, Pass, Carve, Unlock, Ended}
+use Rattle.gh_alloc.specs.Vocabulary.{Layout, SpanClass, Sought, Small, Large, CachedSpan, Found, At, NoRoom, After, Again, End, FindStage, Slots, Lock, Give, Pass, Unswept, Carve, Unlock, Ended}
 
--- a search: whose it is, the sweep generation, what it is for, the span that is cached, and its stage
+-- a search: whose it is, the sweep generation, what it is for, the span that is cached, whether unswept spans are looked for too, and its stage
 pub record Finding : Type 0 where
   pub layout : Layout
   pub seat : ℕ
   pub generation : ℕ
   pub wanted : Sought
   pub cached : Option CachedSpan
+  pub sweeps : Bool
   pub stage : FindStage
 
 abbrev pub at_stage : Finding → FindStage → Finding
@@ -41,7 +44,7 @@ begin l (Small c) (Some s) = search_in l c.class s
 begin l _ _ = Lock
 
 abbrev pub opening : Layout → (seat generation : ℕ) → Sought → Option CachedSpan → Finding
-opening l seat generation wanted cached = record { layout = l; seat = seat; generation = generation; wanted = wanted; cached = cached; stage = begin l wanted cached }
+opening l seat generation wanted cached = record { layout = l; seat = seat; generation = generation; wanted = wanted; cached = cached; sweeps = true; stage = begin l wanted cached }
 
 -- what a fresh span is cut for
 abbrev pub span_for : Sought → Span
@@ -70,6 +73,11 @@ module _ (f : Finding) where
   abbrev pub spans_for : Sought → FindStage
   spans_for (Small c) = Pass (pass.opening f.layout f.seat f.generation c)
   spans_for (Large pages noscan) = carving
+
+  -- behind the swept spans of a size class, as long as that is so, unswept ones, which are swept; and then fresh pages
+  abbrev pub behind_for : Sought → FindStage
+  behind_for (Small c) = if f.sweeps then Unswept (unswept.opening f.layout f.seat f.generation c) else carving
+  behind_for (Large pages noscan) = carving
 
   -- with the lock: a cached span is given back first
   abbrev pub locked_for : Sought → Option CachedSpan → FindStage
@@ -104,8 +112,13 @@ module _ (f : Finding) where
 
   abbrev pub after_pass : Option (Option ℕ) → Finding
   after_pass None = f
-  after_pass (Some None) = at_stage f carving
+  after_pass (Some None) = at_stage f (behind_for f.wanted)
   after_pass (Some (Some page)) = taken page
+
+  abbrev pub after_unswept : Option (Option ℕ) → Finding
+  after_unswept None = f
+  after_unswept (Some None) = at_stage f carving
+  after_unswept (Some (Some page)) = taken page
 
   abbrev pub after_carve : Option (Option ℕ) → Finding
   after_carve None = f
@@ -121,6 +134,7 @@ module _ (f : Finding) where
   asks_at Lock = Swap cell.Lock 0 (f.seat + 1)
   asks_at (Give g) = give.asks g
   asks_at (Pass p) = pass.asks p
+  asks_at (Unswept u) = unswept.asks u
   asks_at (Carve c) = carve.asks c
   asks_at (Unlock after) = Store cell.Lock 0
   asks_at (Ended out) = Load cell.Touch
@@ -134,8 +148,10 @@ goes_at f (Slots s) found = after_slots (searched f (slots.goes s found)) (slots
 goes_at f Lock found = after_lock f found
 goes_at f (Give g) found = after_give (at_stage f (Give (give.goes g found))) (give.gives g found)
 goes_at f (Pass p) found = after_pass (at_stage f (Pass (pass.goes p found))) (pass.gives p found)
+goes_at f (Unswept u) found = after_unswept (at_stage f (Unswept (unswept.goes u found))) (unswept.gives u found)
 goes_at f (Carve c) found = after_carve (at_stage f (Carve (carve.goes c found))) (carve.gives c found)
-goes_at f (Unlock after) found = at_stage f (unlocked f after)
+-- a search that takes the lock anew looks for unswept spans anew
+goes_at f (Unlock after) found = record f { sweeps = true; stage = unlocked f after }
 -- where it has ended it names the stage, so that what it has given computes there too
 goes_at f (Ended out) found = at_stage f (Ended out)
 
@@ -179,3 +195,26 @@ refuses_at _ = false
 
 abbrev pub refuses : Finding → Bool
 refuses f = refuses_at f.stage
+
+-- the sweep that it runs, if it runs one
+abbrev pub sweep_at : FindStage → Option Sweeping
+sweep_at (Unswept u) = unswept.sweep_in u
+sweep_at _ = None
+
+abbrev pub sweep_in : Finding → Option Sweeping
+sweep_in f = sweep_at f.stage
+
+-- the layout and the sweep generation by which the routine sweeps that it runs
+abbrev pub sweep_layout_at : Finding → FindStage → Layout
+sweep_layout_at f (Unswept u) = u.layout
+sweep_layout_at f _ = f.layout
+
+abbrev pub sweep_layout : Finding → Layout
+sweep_layout f = sweep_layout_at f f.stage
+
+abbrev pub sweep_generation_at : Finding → FindStage → ℕ
+sweep_generation_at f (Unswept u) = u.generation
+sweep_generation_at f _ = f.generation
+
+abbrev pub sweep_generation : Finding → ℕ
+sweep_generation f = sweep_generation_at f f.stage

@@ -7,11 +7,17 @@ use Rattle.gh_central.specs.declared.pass.PassStage.{PassStage}
 use Rattle.gh_central.specs.GiveBack as give
 use Rattle.gh_central.specs.PassFacts as passing
 use Rattle.gh_central.specs.SweptPass as pass
+use Rattle.gh_central.specs.Sweeping.{SweepLeaves}
+use Rattle.gh_central.specs.UnsweptFacts as sweeping
+use Rattle.gh_central.specs.UnsweptPass as unswept
+use Rattle.gh_central.specs.declared.unswept.UnsweptStage.{UnsweptStage}
+use Rattle.gh_sweep.specs.Listing.{Sweeping}
+use Rattle.gh_base.specs.Steps.{effect}
 use Rattle.gh_pages.specs.declared.carve.CarveStage.{CarveStage}
 use Rattle.gh_pages.specs.Facts as carving
 use Rattle.gh_pages.specs.Listing as carve
-use Rattle.gh_alloc.specs.Vocabulary.{SpanClass, Sought, Small, Large, CachedSpan, Found, At, NoRoom, Again, End, FindStage, Slots, Lock, Give, Pass, Carve, Unlock, Ended}
-use Rattle.gh_alloc.specs.Find.{Finding, asks, at_stage, given_head, gives, goes, opening, refuses, span_at, span_for, spans_for}
+use Rattle.gh_alloc.specs.Vocabulary.{SpanClass, Sought, Small, Large, CachedSpan, Found, At, NoRoom, Again, End, FindStage, Slots, Lock, Give, Pass, Unswept, Carve, Unlock, Ended}
+use Rattle.gh_alloc.specs.Find.{Finding, asks, at_stage, given_head, gives, goes, opening, refuses, span_at, span_for, spans_for, sweep_generation, sweep_in, sweep_layout}
 use Rattle.gh_alloc.specs.FindSound.{IsSought}
 use Rattle.gh_alloc.specs.Vocabulary.{Arena, cell_of, Claims, Good, InRange, KeepsObjects, Laying, Leaves, Others, Right, Shared, slot_words_of, slots_of, SpanHead, Steps, update, View, view}
 
@@ -46,6 +52,7 @@ pub record IsCachedFor (f : Finding) (c : SpanClass) (k : CachedSpan) : Type 0 w
 abbrev pub is_locked : FindStage → Bool
 is_locked (Give g) = true
 is_locked (Pass p) = true
+is_locked (Unswept u) = true
 is_locked (Carve c) = true
 is_locked (Unlock after) = true
 is_locked _ = false
@@ -53,6 +60,7 @@ is_locked _ = false
 -- it looks for a span under the lock, or is about to free it
 abbrev pub looks : FindStage → Bool
 looks (Pass p) = true
+looks (Unswept u) = true
 looks (Carve c) = true
 looks (Unlock after) = true
 looks _ = false
@@ -138,6 +146,17 @@ pub record InPass (z : Arena) (a : ℕ) (sure : Bool) (v : View) (f : Finding) (
   pub is : p ≡ pass_at f c p.stage
   pub facts : passing.Facts z a sure v p
 
+abbrev pub unswept_at : Finding → SpanClass → UnsweptStage → unswept.Unswept
+unswept_at f c q = record { layout = f.layout; seat = f.seat; generation = f.generation; wanted = c; stage = q }
+
+pub record InUnswept (z : Arena) (a : ℕ) (v : View) (f : Finding) (u : unswept.Unswept) : Type 0 where
+  pub c : SpanClass
+  pub wanted : f.wanted ≡ Small c
+  pub cached : f.cached ≡ None
+  pub first : f.sweeps ≡ true
+  pub is : u ≡ unswept_at f c u.stage
+  pub facts : sweeping.Facts z a v u
+
 abbrev pub carve_at : Finding → CarveStage → carve.Carving
 carve_at f q = record { layout = f.layout; seat = f.seat; generation = f.generation; span = span_for f.wanted; stage = q }
 
@@ -157,18 +176,20 @@ FactsAt z a sure v f (Slots s) = InSlots f s
 FactsAt z a sure v f Lock = IsUsedUp f.wanted f.cached
 FactsAt z a sure v f (Give g) = InGive f g
 FactsAt z a sure v f (Pass p) = InPass z a sure v f p
+FactsAt z a sure v f (Unswept u) = InUnswept z a v f u
 FactsAt z a sure v f (Carve m) = InCarve z a sure v f m
 FactsAt z a sure v f (Unlock Again) = InAgain f
 FactsAt z a sure v f (Unlock (End (At x))) = OwnsLarge z a v f x
 FactsAt z a sure v f (Unlock (End NoRoom)) = FindsNone z sure v f
 FactsAt z a sure v f (Ended out) = ⊥
 
--- with what the seat holds beside the cached span and a large object's, neither of which is among it
+-- with what the seat holds beside the cached span and a large object's, neither of which is among it; in the last round it looks for a span, and for no unswept one
 pub record Facts (z : Arena) (a : ℕ) (sure : Bool) (v : View) (rest : ℕ → Bool) (f : Finding) : Type 0 where
   pub seeks : Seeks z a v f
   pub caches : Caches a v f.wanted f.cached
   pub apart : (k : CachedSpan) → f.cached ≡ Some k → rest k.head ≡ false
   pub own_apart : (p : ℕ) → own f.stage ≡ Some p → rest p ≡ false
+  pub round : sure ≡ true → (looks f.stage ≡ true) × (f.sweeps ≡ false)
   pub stage : FactsAt z a sure v f f.stage
 
 -- The slot that is found: of the cached span, or of a large object's own.
@@ -203,18 +224,32 @@ Comes z a sure w rest (Some NoRoom) f = ⊥
 
 -- begun with what is cached
 abbrev pub Opens : Type 0
-Opens = (z : Arena) (a : ℕ) (sure : Bool) (v : View) (rest : ℕ → Bool) (f : Finding) → Seeks z a v f → Caches a v f.wanted f.cached → ((k : CachedSpan) → f.cached ≡ Some k → rest k.head ≡ false) → Right a v false (with_span (head_of f.cached) rest) None →
-    f ≡ opening f.layout f.seat f.generation f.wanted f.cached → Right a v (is_locked f.stage) (held f rest) (laying f.stage) × Facts z a sure v rest f
+Opens = (z : Arena) (a : ℕ) (v : View) (rest : ℕ → Bool) (f : Finding) → Seeks z a v f → Caches a v f.wanted f.cached → ((k : CachedSpan) → f.cached ≡ Some k → rest k.head ≡ false) → Right a v false (with_span (head_of f.cached) rest) None →
+    f ≡ opening f.layout f.seat f.generation f.wanted f.cached → Right a v (is_locked f.stage) (held f rest) (laying f.stage) × Facts z a false v rest f
 
 -- with the lock and nothing cached, a span is looked for once more
 abbrev pub LooksAgain : Type 0
-LooksAgain = (z : Arena) (a : ℕ) (sure : Bool) (s : Shared) (rest : ℕ → Bool) (f : Finding) → Good z (view s) → passing.IsSure z sure (view s) → Seeks z a (view s) f → f.cached ≡ None → Right a (view s) true rest None →
+LooksAgain = (z : Arena) (a : ℕ) (sure : Bool) (s : Shared) (rest : ℕ → Bool) (f : Finding) → Good z (view s) → passing.IsSure z sure (view s) → Seeks z a (view s) f → f.cached ≡ None → (sure ≡ true → f.sweeps ≡ false) → Right a (view s) true rest None →
     Right a (view s) (is_locked (spans_for f f.wanted)) (held (at_stage f (spans_for f f.wanted)) rest) (laying (spans_for f f.wanted)) × Facts z a sure (view s) rest (at_stage f (spans_for f f.wanted))
 
--- a step of its own, short of the one that finds no room; and while it looks for a span, what that leaves to who runs it
+-- once the lock is freed a further round is the first
+abbrev pub still : (sure : Bool) → FindStage → Bool
+still sure (Unlock after) = false
+still sure _ = sure
+
+-- a step of its own, short of the one that finds no room, where it runs no sweep; and while it looks for a span, what that leaves to who runs it
 abbrev pub OwnStep : Type 0
-OwnStep = (z : Arena) (a : ℕ) (sure : Bool) (s : Shared) (rest : ℕ → Bool) (f : Finding) → Good z (view s) → passing.IsSure z sure (view s) → Right a (view s) (is_locked f.stage) (held f rest) (laying f.stage) → Facts z a sure (view s) rest f → refuses f ≡ false →
-    Steps z a s (asks f) (λ t. KeepsObjects (view s) (view t) × (looks f.stage ≡ true → Leaves (view s) (view t)) × Comes z a sure (view t) rest (gives f (s.words (cell_of (asks f)))) (goes f (s.words (cell_of (asks f)))))
+OwnStep = (z : Arena) (a : ℕ) (sure : Bool) (s : Shared) (rest : ℕ → Bool) (f : Finding) → Good z (view s) → passing.IsSure z sure (view s) → Right a (view s) (is_locked f.stage) (held f rest) (laying f.stage) → Facts z a sure (view s) rest f → refuses f ≡ false → sweep_in f ≡ None →
+    Steps z a s (asks f) (λ t. KeepsObjects (view s) (view t) × (looks f.stage ≡ true → Leaves (view s) (view t)) × Comes z a (still sure f.stage) (view t) rest (gives f (s.words (cell_of (asks f)))) (goes f (s.words (cell_of (asks f)))))
+
+-- a step of the sweep that it runs
+abbrev pub SweepStep : Type 0
+SweepStep = (z : Arena) (a : ℕ) (sure : Bool) (s t : Shared) (rest : ℕ → Bool) (f : Finding) (sw : Sweeping) → Good z (view s) → Good z (view t) → Right a (view s) (is_locked f.stage) (held f rest) (laying f.stage) → Facts z a sure (view s) rest f → sweep_in f ≡ Some sw → SweepLeaves (view s) (view t) → t.words ≡ effect s.words (asks f) →
+    KeepsObjects (view s) (view t) × Comes z a sure (view t) rest (gives f (s.words (cell_of (asks f)))) (goes f (s.words (cell_of (asks f))))
+
+-- the routine that it runs sweeps by the layout of this heap, and for its sweep generation
+abbrev pub SweepsHere : Type 0
+SweepsHere = (z : Arena) (a : ℕ) (sure : Bool) (v : View) (rest : ℕ → Bool) (f : Finding) → Facts z a sure v rest f → (sweep_layout f ≡ z.layout) × (sweep_generation f ≡ v.generation)
 
 -- each is on a word that there is
 abbrev pub Within : Type 0
@@ -232,15 +267,12 @@ NoneIsTrue = (z : Arena) (a : ℕ) (sure : Bool) (v : View) (rest : ℕ → Bool
 abbrev pub Lasts : Type 0
 Lasts = (z : Arena) (a : ℕ) (sure : Bool) (v w : View) (rest : ℕ → Bool) (f : Finding) → Good z v → Others z a v w → v.locked a ≡ is_locked f.stage → Facts z a sure v rest f → Facts z a sure w rest f
 
--- what is known in the last round is known in any
-abbrev pub Weakens : Type 0
-Weakens = (z : Arena) (a : ℕ) (v : View) (rest : ℕ → Bool) (f : Finding) → Facts z a true v rest f → Facts z a false v rest f
-
 pub record FindsByItsRights : Type 0 where
   pub opens : Opens
   pub again : LooksAgain
   pub own_step : OwnStep
+  pub sweep_step : SweepStep
+  pub here : SweepsHere
   pub within : Within
   pub none : NoneIsTrue
   pub lasts : Lasts
-  pub weakens : Weakens

@@ -7,8 +7,9 @@ use Rattle.gh_class.specs.Classes.{pages_of, slots_of}
 use Rattle.gh_cache.specs.Listing as slots
 use Rattle.gh_central.specs.GiveBack as give
 use Rattle.gh_central.specs.SweptPass as pass
+use Rattle.gh_central.specs.UnsweptPass as unswept
 use Rattle.gh_pages.specs.Listing as carve
-use Rattle.gh_alloc.specs.Vocabulary.{Layout, Sought, Small, Large, CachedSpan, After, Again, End, FindStage, Slots, Lock, Give, Pass, Carve, Unlock, Ended}
+use Rattle.gh_alloc.specs.Vocabulary.{Layout, Sought, Small, Large, CachedSpan, After, Again, End, FindStage, Slots, Lock, Give, Pass, Unswept, Carve, Unlock, Ended}
 use Rattle.gh_alloc.specs.Find.{Finding, span_for}
 use Rattle.gh_alloc.specs.Within.{LiesWithin}
 
@@ -41,6 +42,7 @@ abbrev pub IsStage : Layout → Sought → FindStage → Type 0
 IsStage l wanted (Slots s) = (s.layout ≡ l) × (size.Small s.span.class ≡ (span_for wanted).class) × (slots.is_busy s.stage ≡ true)
 IsStage l wanted (Give g) = (g.layout ≡ l) × (give.is_busy g.stage ≡ true)
 IsStage l wanted (Pass p) = (p.layout ≡ l) × (wanted ≡ Small p.wanted) × (pass.is_busy p.stage ≡ true)
+IsStage l wanted (Unswept u) = (u.layout ≡ l) × (wanted ≡ Small u.wanted) × (unswept.is_busy u.stage ≡ true)
 IsStage l wanted (Carve c) = (c.layout ≡ l) × (c.span ≡ span_for wanted) × (carve.is_busy c.stage ≡ true)
 IsStage l wanted (Unlock after) = IsAfter l wanted after
 IsStage l wanted (Ended out) = LiesWithin l wanted out

@@ -7,6 +7,7 @@ use Rattle.gh_base.specs.Packing.{head_word}
 use Rattle.gh_base.specs.Routines.{EndsWith, GoesOn, Listing, told}
 use Rattle.gh_central.specs.Reclaim as reclaim
 use Rattle.gh_central.specs.SweptPass as pass
+use Rattle.gh_central.specs.UnsweptPass as unswept
 use Rattle.gh_pages.specs.Listing as carve
 use Rattle.gh_alloc.specs.Vocabulary.{Layout, SpanClass, Sought, Small, Large, CachedSpan, NoRoom}
 use Rattle.gh_alloc.specs.Find.{given_head, span_for}
@@ -30,10 +31,23 @@ module _ (asks : ℕ → Ask) (found : ℕ → ℕ) where
     Passed (Small c) first from = (last : ℕ) × Runs pass.listing (pass.opening l seat generation c) first last None × (last + 1 ≡ from)
     Passed (Large pages noscan) first from = first ≡ from
 
+    -- and behind it, in the first round, one over the spans that are not swept
+    abbrev pub Swept : Sought → (first from : ℕ) → Type 0
+    Swept (Small c) first from = (last : ℕ) × Runs unswept.listing (unswept.opening l seat generation c) first last None × (last + 1 ≡ from)
+    Swept (Large pages noscan) first from = first ≡ from
+
     -- from the first step to the last: no swept span is found, and then no fresh pages
     pub record FindsNone (wanted : Sought) (first last : ℕ) : Type 0 where
       pub from : ℕ
       pub passed : Passed wanted first from
+      pub none : Runs carve.listing (carve.opening l seat generation (span_for wanted)) from last None
+
+    -- in the first round no unswept one with room either
+    pub record FindsNoneFirst (wanted : Sought) (first last : ℕ) : Type 0 where
+      pub behind : ℕ
+      pub passed : Passed wanted first behind
+      pub from : ℕ
+      pub swept : Swept wanted behind from
       pub none : Runs carve.listing (carve.opening l seat generation (span_for wanted)) from last None
 
     -- by this step a cached span of the class is given back, as a swept one that nobody owns
@@ -65,7 +79,7 @@ module _ (s : Seeking) (found : ℕ → ℕ) (l : Layout) (seat generation : ℕ
     pub first : ℕ
     pub follows : Follows asked found l seat generation wanted lock first
     pub last : ℕ
-    pub none : FindsNone asked found l seat generation wanted first last
+    pub none : FindsNoneFirst asked found l seat generation wanted first last
     -- freed the pages of empty spans,
     pub freed : ℕ
     pub frees : FreesSpans asked found l seat generation (last + 1) freed

@@ -10,6 +10,7 @@ use Rattle.gh_alloc.specs.declared.search.SearchStage.TheVariants.{First, Free, 
 use Rattle.gh_alloc.specs.Vocabulary.{Layout, Sought, CachedSpan, Found, FindStage, Unlock}
 use Rattle.gh_alloc.specs.Find.{Finding, spans_for}
 use Rattle.gh_alloc.specs.Find as find
+use Rattle.gh_sweep.specs.Listing.{Sweeping}
 
 -- the search of the cached span and of the heap, and the stage that says which search it is
 pub record Seeking : Type 0 where
@@ -28,9 +29,9 @@ frees_at _ = false
 abbrev pub reclaiming : Finding → Reclaiming
 reclaiming f = reclaim.opening f.layout f.generation
 
--- a span is looked for once more, under the same lock
+-- a span is looked for once more, under the same lock: each is swept by then
 abbrev pub again : Finding → Finding
-again f = find.at_stage f (spans_for f f.wanted)
+again f = record f { sweeps = false; stage = spans_for f f.wanted }
 
 -- the stage after a step of the first search led there: in place of no room, empty spans are freed
 abbrev pub after_first : Finding → SearchStage
@@ -83,3 +84,26 @@ listing = listing_of (λ s. s.find.layout) asks goes given
 
 abbrev pub refuses : Seeking → Bool
 refuses s = refuses_at s.find s.stage
+
+-- the sweep that it runs, if it runs one
+abbrev pub sweep_at : Finding → SearchStage → Option Sweeping
+sweep_at f (Free r) = reclaim.sweep_in r
+sweep_at f _ = find.sweep_in f
+
+abbrev pub sweep_in : Seeking → Option Sweeping
+sweep_in s = sweep_at s.find s.stage
+
+-- the layout and the sweep generation by which the routine sweeps that it runs
+abbrev pub sweep_layout_at : Finding → SearchStage → Layout
+sweep_layout_at f (Free r) = r.layout
+sweep_layout_at f _ = find.sweep_layout f
+
+abbrev pub sweep_layout : Seeking → Layout
+sweep_layout s = sweep_layout_at s.find s.stage
+
+abbrev pub sweep_generation_at : Finding → SearchStage → ℕ
+sweep_generation_at f (Free r) = r.generation
+sweep_generation_at f _ = find.sweep_generation f
+
+abbrev pub sweep_generation : Seeking → ℕ
+sweep_generation s = sweep_generation_at s.find s.stage

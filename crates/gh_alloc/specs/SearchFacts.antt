@@ -4,12 +4,14 @@ use Rattle.gh_base.specs.declared.pack.PageWord.TheVariants as page
 use Rattle.gh_base.specs.declared.pack.SpanHead.{SpanHead}
 use Rattle.gh_base.specs.Cells.{InRange}
 use Rattle.gh_base.specs.Packing.{page_of}
-use Rattle.gh_base.specs.Steps.{cell_of}
+use Rattle.gh_base.specs.Steps.{cell_of, effect}
 use Rattle.gh_heap.specs.Moves.{KeepsObjects, Others, Steps}
 use Rattle.gh_heap.specs.Rights.{Arena, Good, Right, Rights, Shared, TidyBefore, View, view}
 use Rattle.gh_heap.specs.Spans.{Freeing, IsSpan, IsVacant, Laying}
 use Rattle.gh_central.specs.Reclaim.{Reclaiming}
 use Rattle.gh_central.specs.ReclaimFacts as reclaiming
+use Rattle.gh_central.specs.Sweeping.{SweepLeaves}
+use Rattle.gh_sweep.specs.Listing.{Sweeping}
 use Rattle.gh_central.specs.declared.reclaim.ReclaimStage.{ReclaimStage}
 use Rattle.gh_alloc.specs.declared.search.SearchStage.{SearchStage}
 use Rattle.gh_alloc.specs.declared.search.SearchStage.TheVariants.{First, Free, Second}
@@ -17,7 +19,7 @@ use Rattle.gh_alloc.specs.Vocabulary.{CachedSpan, Found, At, NoRoom, End, Unlock
 use Rattle.gh_alloc.specs.Find.{Finding, span_for}
 use Rattle.gh_alloc.specs.Find as find
 use Rattle.gh_alloc.specs.FindFacts as finding
-use Rattle.gh_alloc.specs.Search.{Seeking, asks, gives, goes, opening, refuses}
+use Rattle.gh_alloc.specs.Search.{Seeking, asks, gives, goes, opening, refuses, sweep_generation, sweep_in, sweep_layout}
 
 -- The rights at a stage.
 
@@ -53,10 +55,9 @@ pub record Frees (z : Arena) (a : ℕ) (v : View) (f : Finding) (r : Reclaiming)
   pub is : r ≡ reclaim_at f r.stage
   pub facts : reclaiming.Facts z v r
 
--- in the second search, in each span that nobody owns an object stands
+-- in the second search each span that nobody owns is swept, and an object stands in it
 pub record LooksAgain (z : Arena) (a : ℕ) (v : View) (rest : ℕ → Bool) (f : Finding) : Type 0 where
   pub facts : finding.Facts z a true v rest f
-  pub looks : finding.looks f.stage ≡ true
   pub tidy : TidyBefore v.page v.alloc v.generation z.layout.pages
 
 -- the first search goes on to the freeing where it would end with none
@@ -98,10 +99,19 @@ abbrev pub Opens : Type 0
 Opens = (z : Arena) (a : ℕ) (v : View) (rest : ℕ → Bool) (q : Seeking) → finding.Seeks z a v q.find → finding.Caches a v q.find.wanted q.find.cached → ((k : CachedSpan) → q.find.cached ≡ Some k → rest k.head ≡ false) → Right a v false (finding.with_span (finding.head_of q.find.cached) rest) None →
     q ≡ opening q.find.layout q.find.seat q.find.generation q.find.wanted q.find.cached → Has a v rest q × Facts z a v rest q
 
--- a step of its own, short of the one that finds no room
+-- a step of its own, short of the one that finds no room, where it runs no sweep
 abbrev pub OwnStep : Type 0
-OwnStep = (z : Arena) (a : ℕ) (s : Shared) (rest : ℕ → Bool) (q : Seeking) → Good z (view s) → reclaiming.AllSwept (view s) → Has a (view s) rest q → Facts z a (view s) rest q → refuses q ≡ false →
+OwnStep = (z : Arena) (a : ℕ) (s : Shared) (rest : ℕ → Bool) (q : Seeking) → Good z (view s) → Has a (view s) rest q → Facts z a (view s) rest q → refuses q ≡ false → sweep_in q ≡ None →
     Steps z a s (asks q) (λ t. KeepsObjects (view s) (view t) × Comes z a (view t) rest (gives q (s.words (cell_of (asks q)))) (goes q (s.words (cell_of (asks q)))))
+
+-- a step of the sweep that it runs
+abbrev pub SweepStep : Type 0
+SweepStep = (z : Arena) (a : ℕ) (s t : Shared) (rest : ℕ → Bool) (q : Seeking) (sw : Sweeping) → Good z (view s) → Good z (view t) → Has a (view s) rest q → Facts z a (view s) rest q → sweep_in q ≡ Some sw → SweepLeaves (view s) (view t) → t.words ≡ effect s.words (asks q) →
+    KeepsObjects (view s) (view t) × Comes z a (view t) rest (gives q (s.words (cell_of (asks q)))) (goes q (s.words (cell_of (asks q))))
+
+-- the routine that it runs sweeps by the layout of this heap, and for its sweep generation
+abbrev pub SweepsHere : Type 0
+SweepsHere = (z : Arena) (a : ℕ) (v : View) (rest : ℕ → Bool) (q : Seeking) → Facts z a v rest q → (sweep_layout q ≡ z.layout) × (sweep_generation q ≡ v.generation)
 
 -- each is on a word that there is
 abbrev pub Within : Type 0
@@ -123,6 +133,8 @@ Lasts = (z : Arena) (a : ℕ) (v w : View) (rest : ℕ → Bool) (q : Seeking) �
 pub record SeeksByItsRights : Type 0 where
   pub opens : Opens
   pub own_step : OwnStep
+  pub sweep_step : SweepStep
+  pub here : SweepsHere
   pub within : Within
   pub none : NoneIsTrue
   pub lasts : Lasts

@@ -7,11 +7,12 @@ use Rattle.gh_central.specs.GiveBack as give
 use Rattle.gh_central.specs.Reclaim.{Reclaiming}
 use Rattle.gh_central.specs.Reclaim as reclaim
 use Rattle.gh_central.specs.SweptPass as pass
+use Rattle.gh_central.specs.UnsweptPass as unswept
 use Rattle.gh_pages.specs.Listing as carve
 use Rattle.gh_alloc.specs.declared.search.SearchStage.{SearchStage}
 use Rattle.gh_alloc.specs.declared.search.SearchStage.TheVariants.{First, Free, Second}
-use Rattle.gh_alloc.specs.Vocabulary.{Layout, Sought, Small, Large, FindStage, Slots, Give, Pass, Carve}
-use Rattle.gh_alloc.specs.Find.{Finding, after_carve, after_give, after_pass, after_slots, at_stage, searched, taken_for}
+use Rattle.gh_alloc.specs.Vocabulary.{Layout, Sought, Small, Large, FindStage, Slots, Give, Pass, Unswept, Carve}
+use Rattle.gh_alloc.specs.Find.{Finding, after_carve, after_give, after_pass, after_slots, after_unswept, at_stage, searched, taken_for}
 use Rattle.gh_alloc.specs.Find as find
 use Rattle.gh_alloc.specs.Search.{Seeking, after_free, gives, goes, goes_at, is_busy}
 
@@ -42,6 +43,11 @@ pass_base g None = refl
 pass_base g (Some None) = refl
 pass_base g (Some (Some page)) = taken_base g g.wanted page
 
+unswept_base : (g : Finding) (out : Option (Option ℕ)) → base (after_unswept g out) ≡ base g
+unswept_base g None = refl
+unswept_base g (Some None) = refl
+unswept_base g (Some (Some page)) = taken_base g g.wanted page
+
 carve_base : (g : Finding) (out : Option (Option ℕ)) → base (after_carve g out) ≡ base g
 carve_base g None = refl
 carve_base g (Some None) = refl
@@ -51,6 +57,7 @@ pub goes_base : (g : Finding) (p : FindStage) (w : ℕ) → base (find.goes_at g
 goes_base g (Slots s) w = slots_base (searched g (slots.goes s w)) (slots.gives s w)
 goes_base g (Give x) w = give_base (at_stage g (Give (give.goes x w))) (give.gives x w)
 goes_base g (Pass m) w = pass_base (at_stage g (Pass (pass.goes m w))) (pass.gives m w)
+goes_base g (Unswept u) w = unswept_base (at_stage g (Unswept (unswept.goes u w))) (unswept.gives u w)
 goes_base g (Carve c) w = carve_base (at_stage g (Carve (carve.goes c w))) (carve.gives c w)
 goes_base g _ w = refl
 

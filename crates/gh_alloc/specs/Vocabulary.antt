@@ -11,7 +11,7 @@ pub use Rattle.gh_heap.specs.Spans.{IsFull, Laying, owned_by}
 pub use Rattle.gh_alloc.specs.declared.find.After.{After}
 pub use Rattle.gh_alloc.specs.declared.find.After.TheVariants.{Again, End}
 pub use Rattle.gh_alloc.specs.declared.find.FindStage.{FindStage}
-pub use Rattle.gh_alloc.specs.declared.find.FindStage.TheVariants.{Carve, Ended, Give, Lock, Pass, Slots, Unlock}
+pub use Rattle.gh_alloc.specs.declared.find.FindStage.TheVariants.{Carve, Ended, Give, Lock, Pass, Slots, Unlock, Unswept}
 pub use Rattle.gh_alloc.specs.declared.sought.CachedSpan.{CachedSpan}
 pub use Rattle.gh_alloc.specs.declared.sought.Found.{Found}
 pub use Rattle.gh_alloc.specs.declared.sought.Found.TheVariants.{At, NoRoom}

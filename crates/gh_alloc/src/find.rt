@@ -5,7 +5,7 @@ ghost use Rattle.gh_base.specs.Cells.{seats_of};
 ghost use Rattle.gh_central.specs.GiveBack as giving;
 ghost use Rattle.gh_alloc.specs.declared.find.FindStage.TheVariants.{Give};
 ghost use Rattle.gh_alloc.specs.declared.sought.Found.TheVariants.{At, NoRoom};
-ghost use Rattle.gh_alloc.specs.Find.{after_carve, after_give, after_lock, after_pass, after_slots, begin, carving, finds_none, first_page, given, given_head, gives, goes, is_busy, locked_for, opening, refuses, search_in, spans_for, taken, unlocked, word_at_cursor};
+ghost use Rattle.gh_alloc.specs.Find.{after_carve, after_give, after_lock, after_pass, after_slots, after_unswept, begin, behind_for, carving, finds_none, first_page, given, given_head, gives, goes, is_busy, locked_for, opening, refuses, search_in, spans_for, taken, unlocked, word_at_cursor};
 ghost use Rattle.gh_alloc.specs.FindSound.{FitsPages, IsCached, IsCachedSpan};
 ghost use Rattle.gh_alloc.specs.Search.{again, frees_at, reclaiming};
 ghost use Rattle.gh_alloc.specs.Within.{FitsFrom, FitsGiven, LiesWithin};
@@ -13,7 +13,7 @@ ghost use Rattle.gh_alloc.specs.Within.{FitsFrom, FitsGiven, LiesWithin};
 use crate::sought::{CachedSpan, Found, Sought, given_head, move_cursor};
 use gh_base::{Ask, Cell, Layout, Machine, Req};
 use gh_cache::NextSlot;
-use gh_central::{GiveBack, Reclaim, SweptPass};
+use gh_central::{GiveBack, Reclaim, SweptPass, UnsweptPass};
 use gh_class::{Class, SpanClass, size_class_laws};
 use gh_pages::Carve;
 use std::marker::Model;
@@ -38,6 +38,8 @@ pub enum FindStage {
     Give(GiveBack),
     /// It looks for a swept span with a clear slot.
     Pass(SweptPass),
+    /// It looks for an unswept span, which it sweeps, with a clear slot then.
+    Unswept(UnsweptPass),
     /// It looks for fresh pages.
     Carve(Carve),
     /// It frees the lock.
@@ -51,8 +53,9 @@ pub enum FindStage {
 ///
 /// For a small object it searches the cached span from its cursor on. Where no slot is left, or no
 /// span is cached, it takes the heap's lock, gives the cached span back, and takes a swept span with
-/// a clear slot, or else fresh pages; then it frees the lock and searches that span. For a large
-/// object it takes fresh pages under the lock. It ends with `NoRoom` where there are none.
+/// a clear slot; or else an unswept one, which it sweeps, with a clear slot then; or else fresh pages.
+/// Then it frees the lock and searches that span. For a large object it takes fresh pages under the
+/// lock. It ends with `NoRoom` where there are none.
 #[derive(Clone, Copy)]
 pub struct Find {
     layout: Layout,
@@ -60,6 +63,8 @@ pub struct Find {
     generation: u64,
     wanted: Sought,
     cached: Option<CachedSpan>,
+    // Unswept spans are looked for too: not in the round behind the freeing of empty spans, where each is swept.
+    sweeps: bool,
     stage: FindStage,
 }
 
@@ -69,11 +74,11 @@ impl Model for Find {
 
     ghost Value = { Finding };
 
-    ghost view = { λ f. record { layout = f.layout; seat = f.seat; generation = f.generation; wanted = f.wanted; cached = f.cached; stage = f.stage } };
+    ghost view = { λ f. record { layout = f.layout; seat = f.seat; generation = f.generation; wanted = f.wanted; cached = f.cached; sweeps = f.sweeps; stage = f.stage } };
 
-    ghost invariant = { λ f. Sound (record { layout = f.layout; seat = f.seat; generation = f.generation; wanted = f.wanted; cached = f.cached; stage = f.stage }) };
+    ghost invariant = { λ f. Sound (record { layout = f.layout; seat = f.seat; generation = f.generation; wanted = f.wanted; cached = f.cached; sweeps = f.sweeps; stage = f.stage }) };
 
-    ghost inverse = { λ f. record { layout = f.layout; seat = f.seat; generation = f.generation; wanted = f.wanted; cached = f.cached; stage = f.stage } };
+    ghost inverse = { λ f. record { layout = f.layout; seat = f.seat; generation = f.generation; wanted = f.wanted; cached = f.cached; sweeps = f.sweeps; stage = f.stage } };
 }
 
 impl Find {
@@ -99,6 +104,7 @@ impl Find {
             generation,
             wanted,
             cached,
+            sweeps: true,
             stage: begin(layout, &wanted, cached),
         }
     }
@@ -205,11 +211,27 @@ impl Find {
         }
     }
 
-    /// It goes over to the search for a span.
-    pub(crate) fn look_for_span(&mut self)
+    /// It goes over to the last search for a span, where each is swept.
+    pub(crate) fn look_for_swept(&mut self)
         ensures { self.new ≡ again self.old }
     {
+        self.sweeps = false;
         self.stage = self.spans();
+    }
+
+    /// What it looks for behind the swept spans.
+    fn behind(&self) -> FindStage
+        ensures { result ≡ behind_for self.now self.now.wanted }
+    {
+        match self.wanted {
+            Sought::Small(class) if self.sweeps => FindStage::Unswept(UnsweptPass::new(
+                &self.layout,
+                self.seat,
+                self.generation,
+                class,
+            )),
+            _ => self.carving(),
+        }
     }
 
     /// What follows once it has the lock.
@@ -281,6 +303,17 @@ impl Find {
         ensures { self.new ≡ after_pass self.old (Some out) }
     {
         match out {
+            None => self.stage = self.behind(),
+            Some(page) => self.take_span(page),
+        }
+    }
+
+    /// Goes on after the pass over unswept spans has given this.
+    fn after_unswept(&mut self, out: Option<u32>)
+        requires { FitsGiven self.old.layout self.old.wanted (Some out) }
+        ensures { self.new ≡ after_unswept self.old (Some out) }
+    {
+        match out {
             None => self.stage = self.carving(),
             Some(page) => self.take_span(page),
         }
@@ -302,7 +335,7 @@ impl Find {
         ensures { self.new ≡ after_give self.old (Some tt) }
     {
         self.cached = None;
-        self.look_for_span();
+        self.stage = self.spans();
     }
 
     /// The first heap word of the slot at the cursor; 0 where no span is cached.
@@ -340,8 +373,8 @@ impl Find {
         }
     }
 
-    /// Takes any step. Where a routine has ended, its stage gives way to another at once. It stands apart, since most steps of a search go on in a span (`take`) and need none of the memory that
-    /// the other stages want.
+    /// Takes any step. Where a routine has ended, its stage gives way to another at once. It stands apart, since
+    /// most steps of a search go on in a span (`take`) and need none of the memory that the other stages want.
     #[inline(never)]
     fn take_step(&mut self, found: u64) -> Option<Found>
         requires { is_busy self.old.stage ≡ true }
@@ -371,6 +404,12 @@ impl Find {
                     self.after_pass(out);
                 }
             }
+            FindStage::Unswept(pass) => {
+                if let Some(out) = pass.take(found) {
+                    self.stage = FindStage::Lock;
+                    self.after_unswept(out);
+                }
+            }
             FindStage::Carve(carve) => {
                 if let Some(out) = carve.take(found) {
                     self.stage = FindStage::Lock;
@@ -380,6 +419,7 @@ impl Find {
             FindStage::Lock => self.after_lock(found),
             FindStage::Unlock(after) => {
                 let then = *after;
+                self.sweeps = true;
                 self.stage = self.unlocked(then);
             }
             FindStage::Ended(_) => {}
@@ -414,6 +454,7 @@ impl Machine for Find {
             }
             FindStage::Give(give) => give.next(),
             FindStage::Pass(pass) => pass.next(),
+            FindStage::Unswept(pass) => pass.next(),
             FindStage::Carve(carve) => carve.next(),
             FindStage::Unlock(_) => self.layout.request(Ask::Store(Cell::Lock, 0)),
             FindStage::Ended(_) => self.layout.request(Ask::Load(Cell::Touch)),

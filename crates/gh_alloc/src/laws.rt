@@ -1,10 +1,12 @@
 //! Laws of the routines. The functions do nothing; what they ensure is proved.
 
+ghost use Rattle.gh_central.specs.Sweeping.{RunsSweeps};
 ghost use Rattle.gh_alloc.specs.FindFacts.{FindsByItsRights};
 ghost use Rattle.gh_alloc.specs.Marking.{AnObjectIsMarkedBeforeItIsMade};
 ghost use Rattle.gh_alloc.specs.PlaceFacts.{PlacesByItsRights};
 ghost use Rattle.gh_alloc.specs.Quiet.{AllocationIsQuiet};
 ghost use Rattle.gh_alloc.specs.Rounds.{NoRoomIsAfterReclaim};
+ghost use Rattle.gh_alloc.specs.Search.{asks, goes, sweep_generation, sweep_in, sweep_layout};
 ghost use Rattle.gh_alloc.specs.SearchFacts.{SeeksByItsRights};
 
 use crate::place::Place;
@@ -13,7 +15,8 @@ use gh_bitmap::SetPointers;
 use gh_bitmap::laws::{pointers_are_set, setting_keeps_its_facts};
 use gh_cache::laws::the_search_keeps_its_facts;
 use gh_central::laws::{
-    giving_back_keeps_its_facts, the_pass_keeps_its_facts, the_reclaiming_keeps_its_facts,
+    giving_back_keeps_its_facts, passes_run_sweeps, the_pass_keeps_its_facts,
+    the_reclaiming_keeps_its_facts, the_unswept_pass_keeps_its_facts,
 };
 use gh_class::size_class_laws;
 use gh_heap::laws::{each_move_keeps, facts_last, rights_follow, the_heap_is_apart};
@@ -26,14 +29,17 @@ pub fn an_object_is_marked_before_it_is_made()
 {}
 
 /// Whatever any number of processors do beside it: each step of the search, short of the one that finds no
-/// room, is a move that its seat may make, and each is on a word that there is; what is known at each stage holds
-/// then and lasts. A slot that it gives lies in a span that the seat holds, and no object stands there. Where it
-/// finds none, no span of the span class is cached, each that nobody owns is full, and no run of free pages fits.
+/// room and those of its sweeps, is a move that its seat may make, and each is on a word that there is; what
+/// is known at each stage holds then and lasts, also behind each step of a sweep. A slot that it gives lies in a
+/// span that the seat holds, and no object stands there. Where it finds none, no span of the span class is
+/// cached, in the last round each that nobody owns is full, and no run of free pages fits. It sweeps by the
+/// heap's layout and for its sweep generation.
 pub fn finding_keeps_its_facts()
     ensures { FindsByItsRights }
 {
     the_search_keeps_its_facts();
     the_pass_keeps_its_facts();
+    the_unswept_pass_keeps_its_facts();
     giving_back_keeps_its_facts();
     the_carve_keeps_its_facts();
     rights_follow();
@@ -41,12 +47,14 @@ pub fn finding_keeps_its_facts()
     size_class_laws();
 }
 
-/// Whatever any number of processors do beside it: each step of `Search`, short of the one that finds no room, is
-/// a move that its seat may make, and each is on a word that there is; what is known at each stage holds then and
-/// lasts. A slot that it gives lies in a span that the seat holds, and no object stands there. Where it finds none,
-/// no span of the span class is cached, each that nobody owns is full, an object stands in each span of any class
-/// that nobody owns, and no run of pages fits, also if those of spans without an owner and an object are counted as
-/// free. Nothing here says that a span is full when it is given back, nor that an object stays.
+/// Whatever any number of processors do beside it: each step of `Search`, short of the one that finds no room and
+/// those of its sweeps, is a move that its seat may make, and each is on a word that there is; what is known at
+/// each stage holds then and lasts, also behind each step of a sweep. A slot that it gives lies in a span that
+/// the seat holds, and no object stands there. Where it finds none, no span of the span class is cached, each that
+/// nobody owns is full, each span of any class that nobody owns is swept and an object stands in it, and no run of
+/// pages fits, also if those of spans without an owner and an object are counted as free. It sweeps by the heap's
+/// layout and for its sweep generation. Nothing here says that a span is full when it is given back, nor that an
+/// object stays.
 pub fn searching_keeps_its_facts()
     ensures { SeeksByItsRights }
 {
@@ -55,6 +63,14 @@ pub fn searching_keeps_its_facts()
     each_move_keeps();
     rights_follow();
     facts_last();
+}
+
+/// While a search runs a sweep its steps are those of the sweep, until that has ended; and it begins one only of a
+/// span whose head it finds with the number before the sweep generation.
+pub fn searches_run_sweeps()
+    ensures { RunsSweeps asks goes sweep_layout sweep_generation sweep_in }
+{
+    passes_run_sweeps();
 }
 
 /// Whatever any number of processors do beside it: while the seat claims the slot, each step of the making of an
@@ -72,10 +88,10 @@ pub fn making_keeps_its_facts()
 }
 
 /// Whatever `Search` is told, it ends with `NoRoom` only where these steps stand one behind the other:
-/// it took the lock; it gave a cached span back, if one was cached; the pass over the spans ended with
-/// none, and then the search for fresh pages; `Reclaim` ran to its end; the pass ended with none once
-/// more, and then the search for fresh pages; it freed the lock. A large object needs no pass. It had
-/// the lock all the while, so that it took it once and freed it once.
+/// it took the lock; it gave a cached span back, if one was cached; the pass over swept spans ended with
+/// none, and then that over unswept ones, and then the search for fresh pages; `Reclaim` ran to its end; the
+/// pass over swept spans ended with none once more, and then the search for fresh pages; it freed the lock.
+/// A large object needs no pass. It had the lock all the while, so that it took it once and freed it once.
 pub fn no_room_is_after_reclaim()
     ensures { NoRoomIsAfterReclaim }
 {}

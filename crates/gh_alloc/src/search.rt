@@ -27,11 +27,11 @@ pub enum SearchStage {
 /// Looks for a slot for an object where a collector runs (Go's `mheap.alloc`, which reclaims pages
 /// before it takes some, in mheap.go).
 ///
-/// It searches as [`Find`] does. Where that finds neither a swept span with a clear slot nor fresh
+/// It searches as [`Find`] does. Where that finds neither a span with a clear slot nor fresh
 /// pages, the heap's lock stays held: a span whose objects were all freed still has its pages, and
-/// serves no object of another class. So the pages of each empty span are freed by [`Reclaim`], and
-/// then spans and fresh pages are looked for once more. It ends with `NoRoom` where there are none
-/// then. A search that takes the lock anew may free empty spans anew.
+/// serves no object of another class. So each span that nobody owns is swept and the pages of each empty
+/// one are freed by [`Reclaim`], and then swept spans and fresh pages are looked for once more. It ends with
+/// `NoRoom` where there are none then. A search that takes the lock anew may sweep and free spans anew.
 #[derive(Clone, Copy)]
 pub struct Search {
     find: Find,
@@ -144,7 +144,7 @@ impl Machine for Search {
             }
             SearchStage::Free(reclaim) => {
                 if reclaim.take(found).is_some() {
-                    self.find.look_for_span();
+                    self.find.look_for_swept();
                     self.stage = SearchStage::Second;
                 }
             }

@@ -27,21 +27,21 @@ fn cuts_fresh_spans(rt: HostRuntime) -> Result<(), Fail> {
     let mut words = vec![in rt.alloc(); 0u64; layout.word(Cell::Mark(0)) as usize]?;
     // 8 slots of 384 words on 3 pages
     let class = Class::from_number(20).ok_or("no class")?;
-    // the lock, a pass over 16 pages, 3 pages looked at and written, the lock freed, a slot
+    // the lock, two passes over 16 pages, 3 pages looked at and written, the lock freed, a slot
     let mut search = Search::new(&layout, 1, 4, without_pointers(&class), None);
     let steps = run_alone(rt.alloc(), &mut search, &layout, &mut words, 999)?;
     let told = ((steps.out, steps.lines.len()), search.cached());
     assert_eq!(rt;
         told,
         (
-            (Some(Found::At(0)), 25),
+            (Some(Found::At(0)), 41),
             Some(CachedSpan { head: 0, cursor: 0 })
         )
     );
-    // the span of the other seat is passed over, and its pages are looked at
+    // the span of the other seat is passed over twice, and its pages are looked at
     let mut search = Search::new(&layout, 0, 4, without_pointers(&class), None);
     let steps = run_alone(rt.alloc(), &mut search, &layout, &mut words, 999)?;
-    assert_eq!(rt; (steps.out, steps.lines.len()), (Some(Found::At(3072)), 26));
+    assert_eq!(rt; (steps.out, steps.lines.len()), (Some(Found::At(3072)), 40));
     let large = Sought::Large {
         pages: 2,
         noscan: false,
@@ -92,36 +92,89 @@ fn frees_empty_spans_for_a_small_object(rt: HostRuntime) -> Result<(), Fail> {
     let class = Class::from_number(20).ok_or("no class")?;
     let mut search = Search::new(&layout, 1, 4, without_pointers(&class), None);
     let steps = run_alone(rt.alloc(), &mut search, &layout, &mut words, 999)?;
-    assert_eq!(rt; (steps.out, steps.lines.len()), (Some(Found::At(0)), 315));
+    assert_eq!(rt; (steps.out, steps.lines.len()), (Some(Found::At(0)), 316));
     for (i, line) in [
         (0, "swap lock 0 2: 0"),
-        // the pass, and the search for fresh pages
+        // the pass over swept spans, that over unswept ones, and the search for fresh pages
         (1, "load page 0: 4294975613"),
         (2, "load page 0: 4294975613"),
-        (3, "load page 1: 638"),
-        (17, "load page 15: 7806"),
+        (3, "load page 0: 4294975613"),
+        (4, "load page 1: 638"),
+        (18, "load page 15: 7806"),
         // the span is empty
-        (18, "load page 0: 4294975613"),
-        (19, "load alloc 0: 0"),
-        (274, "load alloc 255: 0"),
-        (275, "store page 1 0: 638"),
-        (289, "store page 15 0: 7806"),
-        (290, "store page 0 0: 4294975613"),
-        // the pass and the search once more
-        (291, "load page 0: 0"),
-        (306, "load page 15: 0"),
-        (307, "load page 0: 0"),
-        (309, "load page 2: 0"),
-        (310, "store page 1 850: 0"),
-        (311, "store page 2 1362: 0"),
-        (312, "store page 0 4303357777: 0"),
-        (313, "store lock 0: 2"),
-        (314, "load alloc 0: 0"),
+        (19, "load page 0: 4294975613"),
+        (20, "load alloc 0: 0"),
+        (275, "load alloc 255: 0"),
+        (276, "store page 1 0: 638"),
+        (290, "store page 15 0: 7806"),
+        (291, "store page 0 0: 4294975613"),
+        // the pass over swept spans and the search once more
+        (292, "load page 0: 0"),
+        (307, "load page 15: 0"),
+        (308, "load page 0: 0"),
+        (310, "load page 2: 0"),
+        (311, "store page 1 850: 0"),
+        (312, "store page 2 1362: 0"),
+        (313, "store page 0 4303357777: 0"),
+        (314, "store lock 0: 2"),
+        (315, "load alloc 0: 0"),
     ] {
         let there = steps.lines.get(i);
         assert_eq!(rt; there.map(|step| step.as_str()), Some(line));
     }
     assert_eq!(rt; search.cached(), Some(CachedSpan { head: 0, cursor: 0 }));
+    Ok(())
+}
+
+/// The words of that layout that are not 0, by their numbers: 8192 bytes in the heap, and at page 1 an unswept
+/// span of two slots, both taken, the second of them by a marked object.
+const UNSWEPT: [(usize, u64); 5] = [(9, 8192), (16, 2_147_484_501), (47, 1), (55, 1), (311, 1)];
+
+/// The span is swept, which frees the first slot, and taken, and that slot is found.
+#[test]
+fn sweeps_a_span_and_takes_it(rt: HostRuntime) -> Result<(), Fail> {
+    let layout = Layout::new(16, 1, 1, 1, 1)?;
+    let mut words = vec![in rt.alloc(); 0u64; layout.word(Cell::Bitmap(0)) as usize]?;
+    for (word, value) in UNSWEPT {
+        if word < words.len() {
+            words[word] = value;
+        }
+    }
+    // 2 slots of 512 words on a page
+    let class = Class::from_number(21).ok_or("no class")?;
+    let mut search = Search::new(&layout, 1, 4, without_pointers(&class), None);
+    let steps = run_alone(rt.alloc(), &mut search, &layout, &mut words, 999)?;
+    assert_eq!(rt; (steps.out, steps.lines.len()), (Some(Found::At(1024)), 75));
+    for (i, line) in [
+        (0, "swap lock 0 2: 0"),
+        // no swept span
+        (1, "load page 0: 0"),
+        (2, "load page 1: 2147484501"),
+        (16, "load page 15: 0"),
+        // an unswept one
+        (17, "load page 0: 0"),
+        (18, "load page 1: 2147484501"),
+        (19, "swap page 1 2147484501 3221226325: 2147484501"),
+        (20, "load mark 16: 0"),
+        (21, "and alloc 16 0: 1"),
+        (22, "store mark 16 0: 0"),
+        (44, "load mark 24: 1"),
+        (45, "and alloc 24 1: 1"),
+        (46, "store mark 24 0: 1"),
+        (67, "store mark 31 0: 0"),
+        (68, "add tally 4294967297: 0"),
+        (69, "add live 4096: 0"),
+        (70, "add heap 18446744073709547520: 8192"),
+        (71, "store page 1 4294968149: 3221226325"),
+        // which is taken
+        (72, "store page 1 4303356757: 4294968149"),
+        (73, "store lock 0: 2"),
+        (74, "load alloc 16: 0"),
+    ] {
+        let there = steps.lines.get(i);
+        assert_eq!(rt; there.map(|step| step.as_str()), Some(line));
+    }
+    assert_eq!(rt; search.cached(), Some(CachedSpan { head: 1, cursor: 0 }));
     Ok(())
 }
 

@@ -1,10 +1,11 @@
 -- The pass's own steps are moves that its rights allow, and what it knows lasts. Of the heap it is known what the laws of gh_heap say.
-use Rattle.std.proofs.Common.{◌≡◌, ◌≢◌, ℕ, ◌+◌, ◌*◌, ◌/◌, ◌%◌, ◌^◌, ◌<◌, ◌≤◌, ◌&&◌, Bool, true, false, cond, eqb, ltb, inl, inr, Option, Some, None, refl, sym, ap, subst, ◌∙◌, arith, eqb-true, eq-eqb, ltb-true, ltb-false}
-use Rattle.gh_base.specs.declared.cell.Ask.TheVariants as ask
+use Rattle.std.proofs.Common.{◌≡◌, ◌≢◌, ℕ, ◌+◌, ◌*◌, ◌/◌, ◌%◌, ◌<◌, ◌≤◌, Bool, true, false, cond, ltb, inl, inr, Some, None, refl, sym, ap, subst, ◌∙◌, arith, ltb-true, ltb-false}
 use Rattle.gh_base.specs.declared.cell.Cell.TheVariants as cell
 use Rattle.gh_base.specs.declared.pack.PageWord.TheVariants as page
-use Rattle.gh_central.proofs.Vocabulary.{after_page, alloc_word, Arena, asks, at_stage, beq, bit_at, bit_at-lt, Bits, cell_of, EachFactLasts, EachMoveKeeps, EachOwnMoveLeaves, EachRightFollows, effect, Ended, eqb_tells, given_at, gives, goes, goes_at, Good, head_word, InRange, is_small, is_wanted, IsFull, IsSpan, KeepsObjects, lacks_at, Large, Laying, Layout, Leaves, Look, look_from, MayPass, mod-eq_of_lt, mod-lt, moved, Others, Own, owned_by, owner_at, owner_in, PackedWordsAreReadBack, page_of, PageWord, Pass, PassStage, Quiet, Right, row_bit, Shared, SizeClass, slot_count, slot_of, slot_size, slot_words_of, slots_of, Small, SpanHead, Steps, Take, TheHeapIsApart, update, View, view}
+use Rattle.gh_central.proofs.Vocabulary.{after_page, alloc_word, Arena, asks, at_stage, bit_at, bit_at-lt, Bits, cell_of, EachFactLasts, EachMoveKeeps, EachOwnMoveLeaves, EachRightFollows, Ended, eqb_tells, given_at, gives, goes, goes_at, Good, InRange, is_wanted, IsFull, IsSpan, KeepsObjects, lacks_at, Layout, Leaves, Look, look_from, mod-eq_of_lt, mod-lt, Others, PackedWordsAreReadBack, page_of, PageWord, Pass, PassStage, Quiet, Right, row_bit, Shared, SizeClass, slot_count, slot_of, slot_size, slot_words_of, slots_of, Small, SpanHead, Steps, Take, TheHeapIsApart, View, view}
 use Rattle.gh_central.proofs.Heads.{past-page, past-span}
+use Rattle.gh_central.proofs.HeadTests.{wanted-is, wanted-test}
+use Rattle.gh_central.proofs.Taking as taking
 use Rattle.gh_central.specs.PassFacts.{Comes, Facts, FactsAt, HasPassed, IsSure, IsUnowned, Lasts, LooksAt, LooksInto, Opens, OwnStep, Passes, PassesByItsRights, TakenBelow, Within, sought}
 use Rattle.gh_central.specs.Slots.{TheTestSaysIt}
 use Rattle.gh_heap.specs.Spans.{is_own_class, number_of}
@@ -19,15 +20,8 @@ pub record Known : Type 0 where
   pub test : TheTestSaysIt
   pub least_slot : (c : ℕ) → c < 25 → 8 ≤ slot_of c
 
--- what nobody owns the seat does not hold
-not-held : (z : Arena) (a : ℕ) (v : View) (l : Bool) (held : ℕ → Bool) (y : Option Laying) (p : ℕ) → Good z v → Right a v l held y → owner_at v.page p ≡ 0 → held p ≡ false
-not-held z a v l held y p g right none = go (held p) refl where
-  one : (n : ℕ) → n ≡ a + 1 → n ≡ 0 → ⊥
-  one n e f = omega arith
-
-  go : (b : Bool) → held p ≡ b → b ≡ false
-  go false e = refl
-  go true e = absurd (one (owner_at v.page p) ((g.owners a p).1 (right.holds p ∙ e)) none)
+of-heap : Known → taking.Known
+of-heap k = record { packed = k.packed; keep = k.keep; follow = k.follow; leave = k.leave; apart = k.apart }
 
 -- it is the same routine at another stage
 whose-at : (z : Arena) (a : ℕ) (v : View) (m : Pass) (q : PassStage) → Passes z a v m → Passes z a v (at_stage m q)
@@ -44,15 +38,10 @@ opens z a sure v m whose stage = record {
 
 -- What is known lasts.
 
-unowned-lasts : Known → (z : Arena) (a : ℕ) (v w : View) (m : Pass) (p : ℕ) (h : SpanHead) → Others z a v w → v.locked a ≡ true → IsUnowned m.wanted v.page v.generation p h → IsUnowned m.wanted w.page w.generation p h
-unowned-lasts k z a v w m p h o l x = record { head = (k.last z a v w o).head p h l (λ e. small-large m.wanted.class (sym x.class ∙ e)) x.number x.head; class = x.class; noscan = x.noscan; owner = x.owner; number = x.number ∙ sym o.generation } where
-  small-large : (c : ℕ) → Small c ≡ Large → ⊥
-  small-large c e = cc
-
 stage-lasts : Known → (z : Arena) (a : ℕ) (sure : Bool) (v w : View) (m : Pass) (q : PassStage) → Others z a v w → v.locked a ≡ true → FactsAt z sure m v q → FactsAt z sure m w q
 stage-lasts k z a sure v w m (Look p) o l x = record { there = x.there; full = λ is. (k.last z a v w o).full_before (sought m) p l (x.full is) }
 stage-lasts k z a sure v w m (Bits p h i) o l x = record {
-  unowned = unowned-lasts k z a v w m p h o l x.unowned;
+  unowned = taking.unowned-lasts k.last z a v w m.wanted p h o l x.unowned;
   full = λ is. (k.last z a v w o).full_before (sought m) p l (x.full is);
   within = x.within;
   taken = λ j few below. subst (λ (n : ℕ). row_bit w.alloc n ≡ 1) (slot j h.class x.unowned.class) (o.bits p j h x.unowned.head x.unowned.number (count j h.class x.unowned.class few) (subst (λ (n : ℕ). row_bit v.alloc n ≡ 1) (sym (slot j h.class x.unowned.class)) (x.taken j few below)));
@@ -62,7 +51,7 @@ stage-lasts k z a sure v w m (Bits p h i) o l x = record {
 
   count : (j : ℕ) (f : SizeClass) → f ≡ Small m.wanted.class → j < slots_of m.wanted.class → j < cond (is_own_class f) 1 (slots_of (number_of f))
   count j f e lt = rw (e) lt
-stage-lasts k z a sure v w m (Take p h) o l x = unowned-lasts k z a v w m p h o l x
+stage-lasts k z a sure v w m (Take p h) o l x = taking.unowned-lasts k.last z a v w m.wanted p h o l x
 stage-lasts k z a sure v w m (Ended taken) o l x = x
 
 pub lasts : Known → Lasts
@@ -70,37 +59,6 @@ lasts k z a sure v w m o l x = record {
   whose = record { layout = x.whose.layout; seat = x.whose.seat; few = x.whose.few; number = x.whose.number ∙ sym o.generation; class = x.whose.class };
   stage = stage-lasts k z a sure v w m m.stage o l x.stage;
 }
-
--- The test of a head.
-
-both : (b c : Bool) → (b && c) ≡ true → (b ≡ true) × (c ≡ true)
-both true true e = (refl, refl)
-both true false e = absurd (cc)
-both false c e = absurd (cc)
-
-beq-true : (b c : Bool) → beq b c ≡ true → b ≡ c
-beq-true true true e = refl
-beq-true false false e = refl
-beq-true true false e = absurd (cc)
-beq-true false true e = absurd (cc)
-
-beq-same : (b : Bool) → beq b b ≡ true
-beq-same true = refl
-beq-same false = refl
-
-small-is : (c : ℕ) (class : SizeClass) → is_small c class ≡ true → class ≡ Small c
-small-is c (Small d) e = ap Small (eqb-true d c e)
-small-is c Large e = absurd (cc)
-
-wanted-is : (m : Pass) (h : SpanHead) → is_wanted m h ≡ true → (h.class ≡ Small m.wanted.class) × (h.noscan ≡ m.wanted.noscan) × (h.owner ≡ 0) × (h.number ≡ m.generation)
-wanted-is m h e =
-    let x = both ((is_small m.wanted.class h.class && beq h.noscan m.wanted.noscan) && eqb h.owner 0) (eqb h.number m.generation) e in
-    let y = both (is_small m.wanted.class h.class && beq h.noscan m.wanted.noscan) (eqb h.owner 0) x.0 in
-    let w = both (is_small m.wanted.class h.class) (beq h.noscan m.wanted.noscan) y.0 in
-    (small-is m.wanted.class h.class w.0, beq-true h.noscan m.wanted.noscan w.1, eqb-true h.owner 0 y.1, eqb-true h.number m.generation x.1)
-
-wanted-test : (m : Pass) (h : SpanHead) → h.class ≡ Small m.wanted.class → h.noscan ≡ m.wanted.noscan → h.owner ≡ 0 → h.number ≡ m.generation → is_wanted m h ≡ true
-wanted-test m h class noscan owner number = rw (class, noscan, owner, number, eq-eqb m.wanted.class m.wanted.class refl, beq-same m.wanted.noscan, eq-eqb m.generation m.generation refl) refl
 
 -- The own steps.
 
@@ -208,33 +166,7 @@ module _ (k : Known) (z : Arena) (a : ℕ) (sure : Bool) (s : Shared) (held : �
     go false t = more t (ltb (i + 1) (16 * h.pages)) refl
 
   take : (p : ℕ) (h : SpanHead) → Good z now → Right a now true held None → Passes z a now m → IsUnowned m.wanted now.page now.generation p h → Steps z a s (asks (at_stage m (Take p h))) (λ t. KeepsObjects now (view t) × Comes z a sure now (view t) held (Some (Some p)) (at_stage m (Ended (Some p))))
-  take p h g right whose x = record { move = Own p h; may = may; words_are = ap (λ (n : ℕ). effect s.words (ask.Store (cell.Page p) (head_word (owned_by (n + 1) h)))) (sym whose.seat); after = ((refl, refl), (leaves, right-then, record { h = owned_by (a + 1) h; span = span; class = x.class; noscan = x.noscan; owner = refl }, not-held z a now true held None p g right (ap owner_in x.head ∙ x.owner))) } where
-    may : MayPass now a p h × (h.owner ≡ 0) × (a + 1 < 2 ^ 8) × (h.number ≡ now.generation)
-    may = (record { locked = right.locked; laying = right.laying; freeing = right.freeing; head = x.head }, x.owner, whose.few, x.number)
-
-    t : Shared
-    t = moved z a s (Own p h)
-
-    leaves : Leaves now (view t)
-    leaves = (k.leave z a s g).owned p h may
-
-    right-then : Right a (view t) true (update held p true) None
-    right-then = (k.follow z a s true held None right).owned p h
-
-    written : (view t).page p ≡ head_word (owned_by (a + 1) h)
-    written = ap (λ (b : Bool). cond b (head_word (owned_by (a + 1) h)) (now.page p)) (eq-eqb p p refl)
-
-    before : IsSpan z.layout.pages now.page p h
-    before = whole g right p h x.head
-
-    pages-few : h.pages < 2 ^ 13
-    pages-few = omega (arith, before.within, z.layout.limits.pages_fit.1)
-
-    number-few : h.number < 2 ^ 34
-    number-few = omega (arith, (g.numbers p h x.head).few, g.generation)
-
-    span : IsSpan z.layout.pages (view t).page p (owned_by (a + 1) h)
-    span = (k.apart z (view t) (k.keep z a s (Own p h) g may)).held a p (owned_by (a + 1) h) (right-then.holds p ∙ ap (λ (b : Bool). cond b true (held p)) (eq-eqb p p refl)) (ap page_of written ∙ k.packed.page (page.Head (owned_by (a + 1) h)) (record { class = before.fits.class; some = before.fits.some; pages = pages-few; owner = whose.few; number = number-few }))
+  take p h g right whose x = taking.takes (of-heap k) z a s held m.wanted m.seat whose.seat p h g right whose.few x
 
   own-at : (q : PassStage) → Good z now → Right a now true held None → IsSure z sure now → Facts z a sure now (at_stage m q) →
       Steps z a s (asks (at_stage m q)) (λ t. KeepsObjects now (view t) × Comes z a sure now (view t) held (gives (at_stage m q) (s.words (cell_of (asks (at_stage m q))))) (goes (at_stage m q) (s.words (cell_of (asks (at_stage m q))))))

@@ -3,20 +3,23 @@ use Rattle.std.proofs.Common.{◌≡◌, ◌≢◌, ℕ, ◌+◌, ◌-◌, ◌*�
 use Rattle.gh_base.specs.declared.cell.Cell.TheVariants as cell
 use Rattle.gh_base.specs.declared.pack.PageWord.TheVariants as page
 use Rattle.gh_central.specs.declared.reclaim.ReclaimStage.{ReclaimStage}
-use Rattle.gh_central.specs.declared.reclaim.ReclaimStage.TheVariants.{Look, Bits, Body, Head, Ended}
-use Rattle.gh_central.specs.Reclaim.{Reclaiming, after_page, alloc_word, asks, at_stage, body_page, free_from, given_at, gives, goes, goes_at, look_from}
-use Rattle.gh_central.specs.ReclaimFacts.{AllSwept, ClearBelow, Comes, Facts, FactsAt, FreesFrom, IsIdle, IsReady, Lasts, LooksAt, LooksInto, Opens, OwnStep, ReclaimsByItsRights, Reclaims, Within, freed_to, freeing_at}
-use Rattle.gh_central.proofs.Vocabulary.{Arena, BeingFreed, bit_at, bit_at-trailing_zeros, bit_at-zero, cell_of, EachFactLasts, EachFreeingFollows, EachOwnMoveLeaves, eqb-false, eqb_tells, FreeBody, freed_yet, FreeHead, Freeing, Good, InRange, IsEmpty, IsInUse, IsSpan, KeepsObjects, Layout, Leaves, MayFree, mod-eq_of_lt, mod-lt, moved, Others, page_of, PageWord, put, Quiet, Right, Rights, row_bit, Shared, SpanHead, Steps, TheHeapIsApart, TidyBefore, trailing_zeros, View, view, WalksGoOn}
+use Rattle.gh_central.specs.declared.reclaim.ReclaimStage.TheVariants.{Look, Sweep, Wait, Bits, Body, Head, Ended}
+use Rattle.gh_central.specs.Reclaim.{Reclaiming, after_page, after_wait, alloc_word, asks, at_stage, body_page, free_from, given_at, gives, goes, goes_at, look_from, sweep_at, unswept}
+use Rattle.gh_central.specs.ReclaimFacts.{ClearBelow, Comes, Facts, FactsAt, FreesFrom, IsIdle, IsReady, IsUnowned, Lasts, LooksAt, LooksInto, Opens, OwnStep, Reclaims, WaitsFor, Within, freed_to, freeing_at}
+use Rattle.gh_central.proofs.Vocabulary.{Arena, BeingFreed, bit_at, bit_at-trailing_zeros, bit_at-zero, cell_of, EachFactLasts, EachFreeingFollows, EachOwnMoveLeaves, eqb-false, eqb_tells, FreeBody, freed_yet, FreeHead, Freeing, Good, InRange, IsEmpty, IsInUse, IsSpan, KeepsObjects, Layout, Leaves, MayFree, mod-eq_of_lt, mod-lt, moved, Others, PackedWordsAreReadBack, page_of, PageWord, put, Quiet, Right, Rights, row_bit, Shared, SpanHead, Steps, TheHeapIsApart, TidyBefore, trailing_zeros, View, view, WalksGoOn}
 use Rattle.gh_central.proofs.Heads.{past-page, past-span}
+use Rattle.gh_central.proofs.Sweeping.Steps as steps
+use Rattle.gh_sweep.specs.Listing as sweep
 
 pub record Known : Type 0 where
+  pub packed : PackedWordsAreReadBack
   pub last : EachFactLasts
   pub walks : WalksGoOn
   pub freeing : EachFreeingFollows
   pub leave : EachOwnMoveLeaves
   pub apart : TheHeapIsApart
 
-opens : Opens
+pub opens : Opens
 opens z v m whose stage = record {
   whose = whose;
   stage = subst (λ (q : ReclaimStage). FactsAt z v q) (sym stage) (record { there = omega (arith, z.layout.limits.pages_fit.0); tidy = λ q h lt. absurd (omega arith) });
@@ -48,8 +51,13 @@ module _ (k : Known) (z : Arena) (a : ℕ) (v w : View) (g : Good z v) (o : Othe
     vacant = λ e. vacant-lasts p count (right ∙ ap (λ (n : ℕ). freed_yet (freed_to p count n)) e) (x.vacant e);
   }
 
+  waits-last : (p : ℕ) → WaitsFor z v p → WaitsFor z w p
+  waits-last p x = record { there = x.there; tidy = (k.last z a v w o).tidy_before p l x.tidy; unowned = steps.unowned_lasts z a v w (k.last z a v w o) l p x.unowned }
+
   stage-lasts : (q : ReclaimStage) → v.freeing a ≡ freeing_at q → FactsAt z v q → FactsAt z w q
   stage-lasts (Look p) right x = record { there = x.there; tidy = (k.last z a v w o).tidy_before p l x.tidy }
+  stage-lasts (Sweep p count sw) right x = record { waits = waits-last p x.waits; layout = x.layout; page_is = x.page_is; size = x.size; fits = x.fits; number = x.number ∙ sym o.generation; busy = x.busy }
+  stage-lasts (Wait p) right x = waits-last p x
   stage-lasts (Bits p count i) right x = record {
     idle = record { h = x.idle.h; head = (k.last z a v w o).idle p x.idle.h l x.idle.owner x.idle.number x.idle.head; owner = x.idle.owner; size = x.idle.size; number = x.idle.number ∙ sym o.generation };
     tidy = (k.last z a v w o).tidy_before p l x.tidy;
@@ -60,7 +68,7 @@ module _ (k : Known) (z : Arena) (a : ℕ) (v w : View) (g : Good z v) (o : Othe
   stage-lasts (Head p count) right x = frees-last p count count right x
   stage-lasts Ended right x = x
 
-lasts : Known → Lasts
+pub lasts : Known → Lasts
 lasts k z a v w held m g o right x = record { whose = record { layout = x.whose.layout; number = x.whose.number ∙ sym o.generation }; stage = stage-lasts k z a v w g o right.locked m.stage right.freeing x.stage }
 
 -- The own steps.
@@ -91,33 +99,68 @@ module _ (k : Known) (z : Arena) (a : ℕ) (s : Shared) (held : ℕ → Bool) (m
   whole : Good z now → Right a now true held None → (p : ℕ) (h : SpanHead) → page_of (now.page p) ≡ page.Head h → IsSpan z.layout.pages now.page p h
   whole g right p h = (k.apart z now g).locked a p h right.locked right.freeing
 
-  look : (p : ℕ) → Good z now → AllSwept now → Right a now true held None → Reclaims z now m → LooksAt z now p → Goes (goes_at m (Look p) (now.page p))
-  look p g all right whose x = go (page_of (now.page p)) refl where
+  -- it looks into a swept span that nobody owns
+  looks-into : (p : ℕ) (h : SpanHead) → Good z now → Right a now true held None → Reclaims z now m → TidyBefore now.page now.alloc now.generation p → page_of (now.page p) ≡ page.Head h → h.owner ≡ 0 → h.number ≡ m.generation → Goes (Bits p h.pages 0)
+  looks-into p h g right whose tidy head owner number = (
+    stays g,
+    right,
+    record {
+      whose = record { layout = whose.layout; number = whose.number };
+      stage = record {
+        idle = record { h = h; head = head; owner = owner; size = refl; number = number ∙ whose.number };
+        tidy = tidy;
+        within = let some = (g.spans p h head).fits.some in omega arith;
+        clear = λ y low high. absurd (omega arith);
+      };
+    },
+  )
+
+  look : (p : ℕ) → Good z now → Right a now true held None → Reclaims z now m → LooksAt z now p → Goes (goes_at m (Look p) (now.page p))
+  look p g right whose x = go (page_of (now.page p)) refl where
     owned : (h : SpanHead) → eqb h.owner 0 ≡ false → h.owner ≡ 0 → (h.number ≡ now.generation) × IsInUse now.alloc p h
     owned h t none = absurd (eqb-false h.owner 0 t none)
 
-    on-head : (h : SpanHead) → page_of (now.page p) ≡ page.Head h → (b : Bool) → eqb h.owner 0 ≡ b → (c : Bool) → eqb h.number m.generation ≡ c →
-        Goes (cond b (cond c (Bits p h.pages 0) (look_from m (p + h.pages))) (look_from m (p + h.pages)))
-    on-head h head true t true u = (
+    waits : (h : SpanHead) → page_of (now.page p) ≡ page.Head h → h.owner ≡ 0 → WaitsFor z now p
+    waits h head owner = record { there = x.there; tidy = x.tidy; unowned = record { h = h; head = head; owner = owner } }
+
+    on-unswept : (h : SpanHead) → page_of (now.page p) ≡ page.Head h → h.owner ≡ 0 → (b : Bool) → eqb (h.number + 2) m.generation ≡ b → Goes (cond b (Sweep p h.pages (sweep.opening m.layout p h)) (Wait p))
+    on-unswept h head owner true t = (
       stays g,
       right,
       record {
         whose = record { layout = whose.layout; number = whose.number };
-        stage = record {
-          idle = record { h = h; head = head; owner = eqb-true h.owner 0 t; size = refl; number = eqb-true h.number m.generation u ∙ whose.number };
-          tidy = x.tidy;
-          within = let some = (g.spans p h head).fits.some in omega arith;
-          clear = λ y low high. absurd (omega arith);
-        };
+        stage = record { waits = waits h head owner; layout = whose.layout; page_is = refl; size = refl; fits = steps.fits_now z now g p h head owner; number = eqb-true (h.number + 2) m.generation t ∙ whose.number; busy = refl };
       },
     )
-    on-head h head true t false u = absurd (eqb-false h.number m.generation u (all p h head (eqb-true h.owner 0 t) ∙ sym whose.number))
+    on-unswept h head owner false t = (stays g, right, record { whose = record { layout = whose.layout; number = whose.number }; stage = waits h head owner })
+
+    on-head : (h : SpanHead) → page_of (now.page p) ≡ page.Head h → (b : Bool) → eqb h.owner 0 ≡ b → (c : Bool) → eqb h.number m.generation ≡ c →
+        Goes (cond b (cond c (Bits p h.pages 0) (unswept m p h)) (look_from m (p + h.pages)))
+    on-head h head true t true u = looks-into p h g right whose x.tidy head (eqb-true h.owner 0 t) (eqb-true h.number m.generation u)
+    on-head h head true t false u = on-unswept h head (eqb-true h.owner 0 t) (eqb (h.number + 2) m.generation) refl
     on-head h head false t c u = looks now (p + h.pages) (stays g) right whose (past-span now.page IsDone z.layout.pages p h (whole g right p h head) x.tidy (owned h t)) (ltb (p + h.pages) m.layout.pages) refl
 
     go : (w : PageWord) → page_of (now.page p) ≡ w → Goes (after_page m p w)
     go page.Free e = looks now (p + 1) (stays g) right whose (past-page now.page IsDone p x.tidy (λ h f. absurd (cc (e, f)))) (ltb (p + 1) m.layout.pages) refl
     go (page.Body b) e = looks now (p + 1) (stays g) right whose (past-page now.page IsDone p x.tidy (λ h f. absurd (cc (e, f)))) (ltb (p + 1) m.layout.pages) refl
     go (page.Head h) e = on-head h e (eqb h.owner 0) refl (eqb h.number m.generation) refl
+
+  -- a span that is waited for
+  wait : (p : ℕ) → Good z now → Right a now true held None → Reclaims z now m → WaitsFor z now p → Goes (goes_at m (Wait p) (now.page p))
+  wait p g right whose x = go (page_of (now.page p)) refl where
+    u : IsUnowned now.page p
+    u = x.unowned
+
+    on-head : (h : SpanHead) → page_of (now.page p) ≡ page.Head h → h.owner ≡ 0 → (b : Bool) → eqb h.number m.generation ≡ b → Goes (cond b (Bits p h.pages 0) (Wait p))
+    on-head h head owner true t = looks-into p h g right whose x.tidy head owner (eqb-true h.number m.generation t)
+    on-head h head owner false t = (stays g, right, record { whose = record { layout = whose.layout; number = whose.number }; stage = x })
+
+    go : (w : PageWord) → page_of (now.page p) ≡ w → Goes (after_wait m p w)
+    go page.Free e = absurd (cc (e, u.head))
+    go (page.Body b) e = absurd (cc (e, u.head))
+    go (page.Head h) e =
+        let same : u.h ≡ h = cc (e, u.head) in
+        on-head h e (ap (λ (y : SpanHead). y.owner) (sym same) ∙ u.owner) (eqb h.number m.generation) refl
 
   -- An alloc word of a span that is looked into.
 
@@ -292,23 +335,27 @@ module _ (k : Known) (z : Arena) (a : ℕ) (s : Shared) (held : ℕ → Bool) (m
       by true u = k.walks.tidy now (view t) p leaves x.tidy q h (ltb-true q p u) e none
       by false u = absurd (no-head ((view t).page q) h (free q (ltb-false q p u) lt) e)
 
-  own-at : (q : ReclaimStage) → Good z now → AllSwept now → Rights a now true held None (freeing_at q) → Facts z now (at_stage m q) →
+  own-at : (q : ReclaimStage) → Good z now → Rights a now true held None (freeing_at q) → Facts z now (at_stage m q) → sweep_at q ≡ None →
       Steps z a s (asks (at_stage m q)) (λ t. KeepsObjects now (view t) × Comes z a now (view t) held (gives (at_stage m q) (s.words (cell_of (asks (at_stage m q))))) (goes (at_stage m q) (s.words (cell_of (asks (at_stage m q))))))
-  own-at (Look p) g all right x = record { move = Quiet (asks (at_stage m (Look p))); may = tt; words_are = refl; after = ((refl, refl), look p g all right (record { layout = x.whose.layout; number = x.whose.number }) x.stage) }
-  own-at (Bits p count i) g all right x =
+  own-at (Look p) g right x none = record { move = Quiet (asks (at_stage m (Look p))); may = tt; words_are = refl; after = ((refl, refl), look p g right (record { layout = x.whose.layout; number = x.whose.number }) x.stage) }
+  own-at (Sweep p count sw) g right x none = absurd (cc)
+  own-at (Wait p) g right x none = record { move = Quiet (asks (at_stage m (Wait p))); may = tt; words_are = refl; after = ((refl, refl), wait p g right (record { layout = x.whose.layout; number = x.whose.number }) x.stage) }
+  own-at (Bits p count i) g right x none =
       let whose : Reclaims z now m = record { layout = x.whose.layout; number = x.whose.number } in
       record { move = Quiet (asks (at_stage m (Bits p count i))); may = tt; words_are = refl; after = ((refl, refl), bits-step p count i (s.words (cell.Alloc (alloc_word m p i))) (ap (λ (n : ℕ). now.alloc n) (word-is p count i g right whose x.stage)) g right whose x.stage) }
-  own-at (Body p count d) g all right x = body p count d g right (record { layout = x.whose.layout; number = x.whose.number }) x.stage.0 x.stage.1
-  own-at (Head p count) g all right x = head p count g right (record { layout = x.whose.layout; number = x.whose.number }) x.stage
-  own-at Ended g all right x = absurd x.stage
+  own-at (Body p count d) g right x none = body p count d g right (record { layout = x.whose.layout; number = x.whose.number }) x.stage.0 x.stage.1
+  own-at (Head p count) g right x none = head p count g right (record { layout = x.whose.layout; number = x.whose.number }) x.stage
+  own-at Ended g right x none = absurd x.stage
 
-own : Known → OwnStep
-own k z a s held m g all right x = own-at k z a s held m m.stage g all right x
+pub own : Known → OwnStep
+own k z a s held m g right x none = own-at k z a s held m m.stage g right x none
 
 -- Its words.
 
 within-at : (z : Arena) (v : View) (m : Reclaiming) (q : ReclaimStage) → m.layout ≡ z.layout → FactsAt z v q → InRange z.layout (cell_of (asks (at_stage m q)))
 within-at z v m (Look p) layout x = x.there
+within-at z v m (Sweep p count sw) layout x = steps.within z.layout sw x.layout (subst (λ (n : ℕ). n < z.layout.pages) (sym x.page_is) x.waits.there)
+within-at z v m (Wait p) layout x = x.there
 within-at z v m (Bits p count i) layout x =
     let arena : m.layout.pages ≡ z.layout.pages = ap (λ (l : Layout). l.pages) layout in
     let some : 0 < 16 * m.layout.pages = omega (arith, m.layout.limits.pages_fit.0) in
@@ -320,8 +367,5 @@ within-at z v m (Body p count d) layout x =
 within-at z v m (Head p count) layout x = omega (arith, x.there, x.some)
 within-at z v m Ended layout x = absurd x
 
-within : Within
+pub within : Within
 within z v m g x = within-at z v m m.stage x.whose.layout x.stage
-
-pub reclaims_by_its_rights : Known → ReclaimsByItsRights
-reclaims_by_its_rights k = record { opens = opens; own_step = own k; within = within; lasts = lasts k }

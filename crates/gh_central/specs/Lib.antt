@@ -9,4 +9,8 @@ pub mod ReclaimFacts
 pub mod ReclaimSound
 pub mod Slots
 pub mod Sound
+pub mod Sweeping
 pub mod SweptPass
+pub mod UnsweptFacts
+pub mod UnsweptPass
+pub mod UnsweptSound

@@ -11,7 +11,11 @@ use Rattle.gh_base.specs.Given.{listing_of}
 use Rattle.gh_base.specs.Packing.{page_of}
 use Rattle.gh_base.specs.Routines.{Listing}
 use Rattle.gh_central.specs.declared.reclaim.ReclaimStage.{ReclaimStage}
-use Rattle.gh_central.specs.declared.reclaim.ReclaimStage.TheVariants.{Look, Bits, Body, Head, Ended}
+use Rattle.gh_central.specs.declared.reclaim.ReclaimStage.TheVariants.{Look, Sweep, Wait, Bits, Body, Head, Ended}
+use Rattle.gh_sweep.specs.declared.sweep.SweepEnd.{SweepEnd}
+use Rattle.gh_sweep.specs.declared.sweep.SweepEnd.TheVariants.{Lost, Swept}
+use Rattle.gh_sweep.specs.Listing as sweep
+use Rattle.gh_sweep.specs.Listing.{Sweeping}
 
 -- the sweep generation, and the routine's stage
 pub record Reclaiming : Type 0 where
@@ -39,6 +43,12 @@ is_busy p = is_none (given_at p)
 abbrev pub free_from : (page pages distance : ℕ) → ReclaimStage
 free_from page pages distance = if nat_lt distance pages then Body page pages distance else Head page pages
 
+-- after a step of the sweep, by what that has given
+abbrev pub after_sweep : (page pages : ℕ) → Sweeping → Option SweepEnd → ReclaimStage
+after_sweep page pages sw None = Sweep page pages sw
+after_sweep page pages sw (Some Lost) = Wait page
+after_sweep page pages sw (Some (Swept span)) = Bits page pages 0
+
 module _ (m : Reclaiming) where
   -- where alloc word i of the span at this page is loaded
   abbrev pub alloc_word : (page i : ℕ) → ℕ
@@ -50,6 +60,8 @@ module _ (m : Reclaiming) where
 
   abbrev pub asks_at : ReclaimStage → Ask
   asks_at (Look page) = Load (cell.Page page)
+  asks_at (Sweep page pages sw) = sweep.asks sw
+  asks_at (Wait page) = Load (cell.Page page)
   asks_at (Bits page pages i) = Load (cell.Alloc (alloc_word page i))
   asks_at (Body page pages distance) = Store (cell.Page (body_page page distance)) 0
   asks_at (Head page pages) = Store (cell.Page page) 0
@@ -58,18 +70,28 @@ module _ (m : Reclaiming) where
   abbrev pub look_from : ℕ → ReclaimStage
   look_from page = if nat_lt page m.layout.pages then Look page else Ended
 
-  -- a span that nobody owns and that is not swept
+  -- the span is swept
+  abbrev pub is_swept : SpanHead → Bool
+  is_swept h = h.number == m.generation
+
+  -- a span that nobody owns and that is not swept: it is swept now, or another's sweep of it is waited for
   abbrev pub unswept : ℕ → SpanHead → ReclaimStage
-  unswept page h = look_from (page + h.pages)
+  unswept page h = if h.number + 2 == m.generation then Sweep page h.pages (sweep.opening m.layout page h) else Wait page
 
   -- a span that nobody owns
   abbrev pub unowned : ℕ → SpanHead → ReclaimStage
-  unowned page h = if h.number == m.generation then Bits page h.pages 0 else unswept page h
+  unowned page h = if is_swept h then Bits page h.pages 0 else unswept page h
 
   abbrev pub after_page : ℕ → PageWord → ReclaimStage
   after_page page word.Free = look_from (page + 1)
   after_page page (word.Body b) = look_from (page + 1)
   after_page page (word.Head h) = if h.owner == 0 then unowned page h else look_from (page + h.pages)
+
+  -- another's sweep is waited for until the number is that of the sweep generation
+  abbrev pub after_wait : ℕ → PageWord → ReclaimStage
+  after_wait page word.Free = Wait page
+  after_wait page (word.Body b) = Wait page
+  after_wait page (word.Head h) = if is_swept h then Bits page h.pages 0 else Wait page
 
   abbrev pub after_bits : (page pages i found : ℕ) → ReclaimStage
   after_bits page pages i found =
@@ -78,6 +100,8 @@ module _ (m : Reclaiming) where
 
   abbrev pub goes_at : ReclaimStage → ℕ → ReclaimStage
   goes_at (Look page) found = after_page page (page_of found)
+  goes_at (Sweep page pages sw) found = after_sweep page pages (sweep.goes sw found) (sweep.gives sw found)
+  goes_at (Wait page) found = after_wait page (page_of found)
   goes_at (Bits page pages i) found = after_bits page pages i found
   goes_at (Body page pages distance) found = free_from page pages (distance + 1)
   goes_at (Head page pages) found = look_from (page + pages)
@@ -99,3 +123,11 @@ gives m found = given (goes m found)
 
 abbrev pub listing : Listing Reclaiming (Unit {0})
 listing = listing_of (λ m. m.layout) asks goes given
+
+-- the sweep that it runs, if it runs one
+abbrev pub sweep_at : ReclaimStage → Option Sweeping
+sweep_at (Sweep page pages sw) = Some sw
+sweep_at _ = None
+
+abbrev pub sweep_in : Reclaiming → Option Sweeping
+sweep_in m = sweep_at m.stage

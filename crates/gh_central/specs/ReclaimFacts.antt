@@ -1,17 +1,19 @@
--- What is known at each stage of the freeing of empty spans while any number of processors change the heap, under which rights, and the laws: what each step of its own is, that it is on a word that there is, that what is known lasts whatever others do, and that in each span that nobody owns an object stands when it ends.
+-- What is known at each stage of the freeing of empty spans while any number of processors change the heap and sweep spans, under which rights, and the laws: what each step of its own is, that it is on a word that there is, that what is known lasts whatever others do, and that each span that nobody owns is swept and has an object when it ends.
 use Rattle.std.specs.Prelude.{◌≡◌, ℕ, ◌+◌, ◌*◌, ◌<◌, ◌≤◌, Bool, true, Option, Some, None}
 use Rattle.gh_base.specs.declared.pack.PageWord.TheVariants as page
 use Rattle.gh_base.specs.declared.pack.SpanHead.{SpanHead}
 use Rattle.gh_base.specs.Cells.{InRange}
-use Rattle.gh_base.specs.Packing.{page_of}
+use Rattle.gh_base.specs.Packing.{FitsHead, page_of}
 use Rattle.gh_base.specs.Rows.{Row, row_bit}
-use Rattle.gh_base.specs.Steps.{cell_of}
+use Rattle.gh_base.specs.Steps.{cell_of, effect}
 use Rattle.gh_heap.specs.Moves.{KeepsObjects, Leaves, Others, Steps, freed_yet}
 use Rattle.gh_heap.specs.Rights.{Arena, Good, Right, Rights, Shared, TidyBefore, View, view}
 use Rattle.gh_heap.specs.Spans.{BeingFreed, Freeing, IsEmpty}
 use Rattle.gh_central.specs.declared.reclaim.ReclaimStage.{ReclaimStage}
-use Rattle.gh_central.specs.declared.reclaim.ReclaimStage.TheVariants.{Look, Bits, Body, Head, Ended}
-use Rattle.gh_central.specs.Reclaim.{Reclaiming, asks, gives, goes}
+use Rattle.gh_central.specs.declared.reclaim.ReclaimStage.TheVariants.{Look, Sweep, Wait, Bits, Body, Head, Ended}
+use Rattle.gh_central.specs.Reclaim.{Reclaiming, asks, gives, goes, sweep_in}
+use Rattle.gh_central.specs.Sweeping.{SweepLeaves}
+use Rattle.gh_sweep.specs.Listing.{is_busy, Sweeping}
 
 -- The right that a stage stands for, beside the lock.
 
@@ -37,6 +39,27 @@ pub record Reclaims (z : Arena) (v : View) (m : Reclaiming) : Type 0 where
 pub record LooksAt (z : Arena) (v : View) (p : ℕ) : Type 0 where
   pub there : p < z.layout.pages
   pub tidy : TidyBefore v.page v.alloc v.generation p
+
+-- a span that nobody owns begins at page p: so it was found, and only its number may have changed since
+pub record IsUnowned (page_words : Row) (p : ℕ) : Type 0 where
+  pub h : SpanHead
+  pub head : page_of (page_words p) ≡ page.Head h
+  pub owner : h.owner ≡ 0
+
+pub record WaitsFor (z : Arena) (v : View) (p : ℕ) : Type 0 where
+  pub there : p < z.layout.pages
+  pub tidy : TidyBefore v.page v.alloc v.generation p
+  pub unowned : IsUnowned v.page p
+
+-- that span is swept, which had so many pages by its head
+pub record SweepsIt (z : Arena) (v : View) (p count : ℕ) (sw : Sweeping) : Type 0 where
+  pub waits : WaitsFor z v p
+  pub layout : sw.layout ≡ z.layout
+  pub page_is : sw.page ≡ p
+  pub size : sw.head.pages ≡ count
+  pub fits : FitsHead sw.head
+  pub number : sw.head.number + 2 ≡ v.generation
+  pub busy : is_busy sw.stage ≡ true
 
 -- a swept span of so many pages that nobody owns begins at page p
 pub record IsIdle (page_words : Row) (generation p count : ℕ) : Type 0 where
@@ -72,6 +95,8 @@ pub record FreesFrom (z : Arena) (v : View) (p count distance : ℕ) : Type 0 wh
 
 abbrev pub FactsAt : Arena → View → ReclaimStage → Type 0
 FactsAt z v (Look p) = LooksAt z v p
+FactsAt z v (Sweep p count sw) = SweepsIt z v p count sw
+FactsAt z v (Wait p) = WaitsFor z v p
 FactsAt z v (Bits p count i) = LooksInto v p count i
 FactsAt z v (Body p count distance) = FreesFrom z v p count distance × (distance < count)
 FactsAt z v (Head p count) = FreesFrom z v p count count
@@ -89,14 +114,15 @@ Comes z a v w held (Some _) m = Leaves v w × Right a w true held None × TidyBe
 abbrev pub Opens : Type 0
 Opens = (z : Arena) (v : View) (m : Reclaiming) → Reclaims z v m → m.stage ≡ Look 0 → Facts z v m
 
--- each span that nobody owns is swept: the pass does not sweep one itself
-abbrev pub AllSwept : View → Type 0
-AllSwept v = (p : ℕ) (h : SpanHead) → page_of (v.page p) ≡ page.Head h → h.owner ≡ 0 → h.number ≡ v.generation
-
--- a step of its own
+-- a step of its own, where it runs no sweep
 abbrev pub OwnStep : Type 0
-OwnStep = (z : Arena) (a : ℕ) (s : Shared) (held : ℕ → Bool) (m : Reclaiming) → Good z (view s) → AllSwept (view s) → Rights a (view s) true held None (freeing m) → Facts z (view s) m →
+OwnStep = (z : Arena) (a : ℕ) (s : Shared) (held : ℕ → Bool) (m : Reclaiming) → Good z (view s) → Rights a (view s) true held None (freeing m) → Facts z (view s) m → sweep_in m ≡ None →
     Steps z a s (asks m) (λ t. KeepsObjects (view s) (view t) × Comes z a (view s) (view t) held (gives m (s.words (cell_of (asks m)))) (goes m (s.words (cell_of (asks m)))))
+
+-- a step of the sweep that it runs
+abbrev pub SweepStep : Type 0
+SweepStep = (z : Arena) (a : ℕ) (s t : Shared) (held : ℕ → Bool) (m : Reclaiming) (sw : Sweeping) → Good z (view s) → Rights a (view s) true held None (freeing m) → Facts z (view s) m → sweep_in m ≡ Some sw → SweepLeaves (view s) (view t) → t.words ≡ effect s.words (asks m) →
+    KeepsObjects (view s) (view t) × Comes z a (view s) (view t) held (gives m (s.words (cell_of (asks m)))) (goes m (s.words (cell_of (asks m))))
 
 -- it is on a word that there is
 abbrev pub Within : Type 0
@@ -109,5 +135,6 @@ Lasts = (z : Arena) (a : ℕ) (v w : View) (held : ℕ → Bool) (m : Reclaiming
 pub record ReclaimsByItsRights : Type 0 where
   pub opens : Opens
   pub own_step : OwnStep
+  pub sweep_step : SweepStep
   pub within : Within
   pub lasts : Lasts

@@ -1,9 +1,10 @@
 -- What the freeing of empty spans knows of its own numbers, whatever it is told.
-use Rattle.std.specs.Prelude.{ℕ, ◌*◌, ◌^◌, ◌<◌, ◌≤◌}
+use Rattle.std.specs.Prelude.{◌≡◌, ℕ, ◌*◌, ◌^◌, ◌<◌, ◌≤◌, true}
 use Rattle.gh_base.specs.declared.layout.Layout.{Layout}
 use Rattle.gh_central.specs.declared.reclaim.ReclaimStage.{ReclaimStage}
-use Rattle.gh_central.specs.declared.reclaim.ReclaimStage.TheVariants.{Look, Bits, Body, Head, Ended}
+use Rattle.gh_central.specs.declared.reclaim.ReclaimStage.TheVariants.{Look, Sweep, Wait, Bits, Body, Head, Ended}
 use Rattle.gh_central.specs.Reclaim.{Reclaiming}
+use Rattle.gh_sweep.specs.Listing as sweep
 
 -- the page is one of the arena, and a head word has room for the number of pages
 pub record IsSpan (l : Layout) (page pages : ℕ) : Type 0 where
@@ -13,10 +14,13 @@ pub record IsSpan (l : Layout) (page pages : ℕ) : Type 0 where
 
 abbrev pub IsStage : Layout → ReclaimStage → Type 0
 IsStage l (Look page) = page < l.pages
+IsStage l (Sweep page pages sw) = IsSpan l page pages × (sw.layout ≡ l) × (sweep.is_busy sw.stage ≡ true)
+IsStage l (Wait page) = page < l.pages
 IsStage l (Bits page pages i) = IsSpan l page pages × (i < 16 * pages)
 IsStage l (Body page pages distance) = IsSpan l page pages × (distance < pages)
 IsStage l (Head page pages) = IsSpan l page pages
 IsStage l Ended = Unit {0}
 
-abbrev pub Sound : Reclaiming → Type 0
-Sound m = IsStage m.layout m.stage
+pub record Sound (m : Reclaiming) : Type 0 where
+  pub generation : m.generation < 2 ^ 34
+  pub stage : IsStage m.layout m.stage

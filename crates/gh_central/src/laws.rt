@@ -5,7 +5,11 @@ ghost use Rattle.gh_central.specs.PassFacts.{PassesByItsRights};
 ghost use Rattle.gh_central.specs.ReclaimFacts.{ReclaimsByItsRights};
 ghost use Rattle.gh_central.specs.Owning.{GivingChangesTheOwner};
 ghost use Rattle.gh_central.specs.Passing.{PassTakesTheFirst};
+ghost use Rattle.gh_central.specs.Reclaim as reclaim;
 ghost use Rattle.gh_central.specs.Slots.{TheTestSaysIt};
+ghost use Rattle.gh_central.specs.Sweeping.{RunsSweeps};
+ghost use Rattle.gh_central.specs.UnsweptFacts.{SweepsByItsRights};
+ghost use Rattle.gh_central.specs.UnsweptPass as unswept;
 
 use gh_base::laws::{cells_are_told, packed_words_are_read_back};
 use gh_class::size_class_laws;
@@ -35,7 +39,8 @@ pub fn giving_changes_the_owner()
 
 /// Whatever any number of processors do beside it: each step of the pass is a move that its seat may make,
 /// on a word that there is, and what is known at each stage holds then and lasts. Where it gives a page, the seat holds a span of the
-/// span class that begins there; where it gives none, each such span that nobody owns is full.
+/// span class that begins there; where it gives none behind `Reclaim`, each such span that nobody owns is full. In the first round
+/// nothing is said of the spans that it went past: one that was unswept may have clear slots by now.
 pub fn the_pass_keeps_its_facts()
     ensures { PassesByItsRights }
 {
@@ -56,14 +61,35 @@ pub fn giving_back_keeps_its_facts()
     rights_follow();
 }
 
-/// Whatever any number of processors do beside it: each step of `Reclaim` is a move that its seat may make while
-/// it has the lock, on a word that there is, and what is known at each stage holds then and lasts. It frees the
-/// pages of spans that nobody owns and in which no object stands; when it ends, an object stands in each span that
-/// nobody owns.
+/// Whatever any number of processors do beside it: each step of `Reclaim` but those of its sweeps is a move that its
+/// seat may make while it has the lock, on a word that there is, and what is known at each stage holds then and lasts, and so
+/// it does behind each step of a sweep. It frees the pages of spans that nobody owns and in which no object stands; when it
+/// ends, each span that nobody owns is swept, and an object stands in it.
 pub fn the_reclaiming_keeps_its_facts()
     ensures { ReclaimsByItsRights }
 {
+    packed_words_are_read_back();
     facts_last();
     rights_follow();
     the_heap_is_apart();
 }
+
+/// Whatever any number of processors do beside it: each step of the pass for an unswept span but those of its sweeps is a
+/// move that its seat may make, on a word that there is, and what is known at each stage holds then and lasts, and so it does
+/// behind each step of a sweep. Where it gives a page, the seat holds a span of the span class that begins there.
+pub fn the_unswept_pass_keeps_its_facts()
+    ensures { SweepsByItsRights }
+{
+    packed_words_are_read_back();
+    facts_last();
+    rights_follow();
+    the_heap_is_apart();
+    each_move_keeps();
+}
+
+/// While `Reclaim` or `UnsweptPass` runs a sweep its steps are those of the sweep, until that has ended; and it begins one
+/// only of a span whose head it finds with the number before the sweep generation.
+pub fn passes_run_sweeps()
+    ensures reclaims { RunsSweeps reclaim.asks reclaim.goes (λ m. m.layout) (λ m. m.generation) reclaim.sweep_in }
+    ensures passes { RunsSweeps unswept.asks unswept.goes (λ m. m.layout) (λ m. m.generation) unswept.sweep_in }
+{}

@@ -1,14 +1,16 @@
 //! The freeing of empty spans.
 
-ghost use Rattle.std.specs.Prelude.{◌≡◌, ◌+◌, ◌*◌, ◌^◌, ◌<◌, ◌≤◌};
+ghost use Rattle.std.specs.Prelude.{◌≡◌, ◌+◌, ◌*◌, ◌^◌, ◌<◌, ◌≤◌, true};
 ghost use Rattle.gh_base.specs.Cells.{InRange};
 ghost use Rattle.gh_base.specs.Steps.{cell_of};
 ghost use Rattle.gh_base.specs.Packing.{FitsHead, FitsPage};
-ghost use Rattle.gh_central.specs.Reclaim.{after_bits, after_page, alloc_word, asks, body_page, free_from, given, goes_at, look_from, opening, unowned, unswept};
+ghost use Rattle.gh_central.specs.Reclaim.{after_bits, after_page, after_sweep, after_wait, alloc_word, asks, body_page, free_from, given, goes_at, is_swept, look_from, opening, unowned, unswept};
+ghost use Rattle.gh_sweep.specs.Listing as sweeping;
 
 use gh_base::laws::packed_words_are_read_back;
 use gh_base::limits::MOST_PAGES;
 use gh_base::{Ask, Cell, Layout, Machine, PageWord, Req, SpanHead, modulo};
+use gh_sweep::{Sweep, SweepEnd};
 use std::marker::Model;
 
 /// The stages of the freeing of empty spans.
@@ -17,6 +19,20 @@ pub enum ReclaimStage {
     /// It looks at a page.
     Look {
         /// The page.
+        page: u32,
+    },
+    /// It sweeps the span whose head it met.
+    Sweep {
+        /// The first page of the span.
+        page: u32,
+        /// The pages that its head word was found to say, 1 at least.
+        pages: u32,
+        /// The sweep.
+        sweep: Sweep,
+    },
+    /// It waits until the span at this page is swept: another sweeps it.
+    Wait {
+        /// The first page of the span.
         page: u32,
     },
     /// It looks for a set bit in the span whose head it met.
@@ -52,8 +68,11 @@ pub enum ReclaimStage {
 /// span without an object, in mheap.go and mgcsweep.go). Whoever runs it has the heap's lock.
 ///
 /// The page words are walked from page 0 on, from head to head. A span that a seat owns is passed
-/// over. Of a swept span that nobody owns the alloc words are loaded one after the other until one
-/// is not 0. Where all are 0, no slot is taken: 0 is stored in the page words of the span, its bodies
+/// over. One that nobody owns is swept first, if it is not: by this routine, or, where another has begun
+/// to sweep it, it loads the head's word again until that is done. It waits with the lock held, and may,
+/// since a sweep takes no lock. An unswept span may not be passed over: it has the objects that the last
+/// cycle freed, and `full` would be answered where there is room. Then the alloc words are loaded one
+/// after the other until one is not 0. Where all are 0, no slot is taken: 0 is stored in the page words of the span, its bodies
 /// first and its head last, so that no page word ever speaks of a head that is not there. A page
 /// whose word is 0 is free, and `Carve` of `gh_pages` may take it. It ends behind the last page.
 #[derive(Clone, Copy)]
@@ -80,6 +99,7 @@ impl Reclaim {
     /// Looks for empty spans, from page 0 on. A span is swept where its number is this sweep
     /// generation.
     pub fn new(layout: &Layout, generation: u64) -> Reclaim
+        requires { generation < 2 ^ 34 }
         ensures { result ≡ opening layout.now generation }
     {
         Reclaim {
@@ -115,7 +135,10 @@ impl Reclaim {
         ensures within { InRange self.now.layout (cell_of result) }
     {
         match self.stage {
-            ReclaimStage::Look { page } => Ask::Load(Cell::Page(page)),
+            ReclaimStage::Look { page } | ReclaimStage::Wait { page } => {
+                Ask::Load(Cell::Page(page))
+            }
+            ReclaimStage::Sweep { sweep, .. } => sweep.ask(),
             ReclaimStage::Bits { page, word, .. } => {
                 Ask::Load(Cell::Alloc(self.alloc_word(page, word)))
             }
@@ -138,28 +161,39 @@ impl Reclaim {
         }
     }
 
-    /// It passes over a span that nobody owns and that is not swept: none is there while goroutines
-    /// run, since the world is swept while it is stopped.
+    /// The span is swept.
+    fn is_swept(&self, head: &SpanHead) -> bool
+        ensures { result ≡ is_swept self.now head.now }
+    {
+        head.number == self.generation
+    }
+
+    /// It sweeps a span that nobody owns and that is not swept, or waits for another's sweep of it.
     fn unswept(&self, page: u32, head: &SpanHead) -> ReclaimStage
-        requires page { page < MOST_PAGES }
+        requires page { page < self.now.layout.pages }
         requires fits { FitsHead head.now }
         ensures { result ≡ unswept self.now page head.now }
     {
-        self.look_from(page + head.pages)
+        if head.number + 2 == self.generation {
+            ReclaimStage::Sweep {
+                page,
+                pages: head.pages,
+                sweep: Sweep::new(&self.layout, page, *head),
+            }
+        } else {
+            // Another sweeps it. It may be empty then, so it is not passed over.
+            ReclaimStage::Wait { page }
+        }
     }
 
     /// Its stage after it met the head of a span that nobody owns.
     fn unowned(&self, page: u32, head: &SpanHead) -> ReclaimStage
-        requires page { page < MOST_PAGES }
+        requires page { page < self.now.layout.pages }
         requires fits { FitsHead head.now }
         ensures { result ≡ unowned self.now page head.now }
     {
-        if head.number == self.generation {
-            ReclaimStage::Bits {
-                page,
-                pages: head.pages,
-                word: 0,
-            }
+        if self.is_swept(head) {
+            look_into(page, head.pages)
         } else {
             self.unswept(page, head)
         }
@@ -167,7 +201,7 @@ impl Reclaim {
 
     /// Its stage after a page was found to be this.
     fn after_page(&self, page: u32, found: PageWord) -> ReclaimStage
-        requires page { page < MOST_PAGES }
+        requires page { page < self.now.layout.pages }
         requires fits { FitsPage found }
         ensures { result ≡ after_page self.now page found }
     {
@@ -180,6 +214,16 @@ impl Reclaim {
                 }
             }
             PageWord::Free | PageWord::Body(_) => self.look_from(page + 1),
+        }
+    }
+
+    /// Its stage after it waited and the page was found to be this.
+    fn after_wait(&self, page: u32, found: PageWord) -> ReclaimStage
+        ensures { result ≡ after_wait self.now page found }
+    {
+        match found {
+            PageWord::Head(head) if self.is_swept(&head) => look_into(page, head.pages),
+            _ => ReclaimStage::Wait { page },
         }
     }
 
@@ -209,6 +253,8 @@ impl Reclaim {
     {
         match self.stage {
             ReclaimStage::Look { page } => self.after_page(page, PageWord::unpack(found)),
+            ReclaimStage::Sweep { page, pages, sweep } => swept_on(page, pages, sweep, found),
+            ReclaimStage::Wait { page } => self.after_wait(page, PageWord::unpack(found)),
             ReclaimStage::Bits { page, pages, word } => self.after_bits(page, pages, word, found),
             ReclaimStage::Body {
                 page,
@@ -228,6 +274,31 @@ impl Reclaim {
             ReclaimStage::Ended => Some(()),
             _ => None,
         }
+    }
+}
+
+/// It looks into the swept span at this page.
+fn look_into(page: u32, pages: u32) -> ReclaimStage
+    ensures { result ≡ ReclaimStage.Bits page pages 0 }
+{
+    ReclaimStage::Bits {
+        page,
+        pages,
+        word: 0,
+    }
+}
+
+/// Its stage after the next step of the sweep found this: a span that it has swept is looked into, and one that
+/// another has begun to sweep is waited for.
+fn swept_on(page: u32, pages: u32, sweep: Sweep, found: u64) -> ReclaimStage
+    requires { sweeping.is_busy sweep.stage ≡ true }
+    ensures { result ≡ after_sweep page pages (sweeping.goes sweep found) (sweeping.gives sweep found) }
+{
+    let mut sweep = sweep;
+    match sweep.take(found) {
+        None => ReclaimStage::Sweep { page, pages, sweep },
+        Some(SweepEnd::Lost) => ReclaimStage::Wait { page },
+        Some(SweepEnd::Swept(_)) => look_into(page, pages),
     }
 }
 

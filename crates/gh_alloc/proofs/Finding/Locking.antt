@@ -10,11 +10,17 @@ use Rattle.gh_central.specs.declared.give.GiveStage.TheVariants as give_stage
 use Rattle.gh_central.specs.SweptPass as pass
 use Rattle.gh_central.specs.declared.pass.PassStage.{PassStage}
 use Rattle.gh_central.specs.declared.pass.PassStage.TheVariants as pass_stage
+use Rattle.gh_central.specs.UnsweptPass as unswept
+use Rattle.gh_central.specs.declared.unswept.UnsweptStage.{UnsweptStage}
+use Rattle.gh_central.specs.declared.unswept.UnsweptStage.TheVariants as unswept_stage
+use Rattle.gh_sweep.specs.Listing as sweep
+use Rattle.gh_sweep.specs.declared.sweep.SweepStage.{SweepStage}
+use Rattle.gh_sweep.specs.declared.sweep.SweepStage.TheVariants as sweep_stage
 use Rattle.gh_pages.specs.Listing as carve
 use Rattle.gh_pages.specs.declared.carve.CarveStage.{CarveStage}
 use Rattle.gh_pages.specs.declared.carve.CarveStage.TheVariants as carve_stage
-use Rattle.gh_alloc.specs.Vocabulary.{Layout, Sought, Small, Large, CachedSpan, After, Again, End, FindStage, Slots, Lock, Give, Pass, Carve, Unlock, Ended}
-use Rattle.gh_alloc.specs.Find.{Finding, after_carve, after_give, after_pass, after_slots, asks_at, at_stage, begin, given_at, goes_at, locked_for, searched, spans_for, taken_for, unlocked}
+use Rattle.gh_alloc.specs.Vocabulary.{Layout, Sought, Small, Large, CachedSpan, After, Again, End, FindStage, Slots, Lock, Give, Pass, Unswept, Carve, Unlock, Ended}
+use Rattle.gh_alloc.specs.Find.{Finding, after_carve, after_give, after_pass, after_slots, after_unswept, asks_at, at_stage, begin, behind_for, carving, given_at, goes_at, locked_for, searched, spans_for, taken_for, unlocked}
 use Rattle.gh_alloc.specs.Locking.{lock_after}
 
 abbrev pub has_lock : FindStage → Bool
@@ -41,6 +47,17 @@ pass_asks : (m : pass.Pass) (p : PassStage) (held : Bool) (w : ℕ) → lock_aft
 pass_asks m (pass_stage.Look page) held w = refl
 pass_asks m _ held w = refl
 
+pub sweep_asks : (s : sweep.Sweeping) (p : SweepStage) (held : Bool) (w : ℕ) → lock_after held (sweep.asks_at s p) w ≡ held
+sweep_asks s sweep_stage.Begin held w = refl
+sweep_asks s (sweep_stage.LoadMarks i) held w = refl
+sweep_asks s (sweep_stage.ClearBits i marks) held w = refl
+sweep_asks s (sweep_stage.ClearMarks i) held w = refl
+sweep_asks s _ held w = refl
+
+unswept_asks : (m : unswept.Unswept) (p : UnsweptStage) (held : Bool) (w : ℕ) → lock_after held (unswept.asks_at m p) w ≡ held
+unswept_asks m (unswept_stage.Sweep page h sw) held w = sweep_asks sw sw.stage held w
+unswept_asks m _ held w = refl
+
 carve_asks : (c : carve.Carving) (p : CarveStage) (held : Bool) (w : ℕ) → lock_after held (carve.asks_at c p) w ≡ held
 carve_asks c (carve_stage.Look page run) held w = refl
 carve_asks c _ held w = refl
@@ -62,6 +79,13 @@ pub spans_with : (f : Finding) (w : Sought) → has_lock (spans_for f w) ≡ tru
 spans_with f (Small c) = refl
 spans_with f (Large pages noscan) = refl
 
+behind_with : (f : Finding) (w : Sought) → has_lock (behind_for f w) ≡ true
+behind_with f (Small c) = by f.sweeps where
+  by : (b : Bool) → has_lock (cond b (Unswept (unswept.opening f.layout f.seat f.generation c)) (carving f)) ≡ true
+  by true = refl
+  by false = refl
+behind_with f (Large pages noscan) = refl
+
 pub locked_with : (f : Finding) (w : Sought) (s : Option CachedSpan) → has_lock (locked_for f w s) ≡ true
 locked_with f (Small c) (Some s) = refl
 locked_with f (Small c) None = refl
@@ -82,8 +106,13 @@ give_with f (Some x) h = spans_with f f.wanted
 
 pub pass_with : (f : Finding) (out : Option (Option ℕ)) → has_lock f.stage ≡ true → has_lock (after_pass f out).stage ≡ true
 pass_with f None h = h
-pass_with f (Some None) h = refl
+pass_with f (Some None) h = behind_with f f.wanted
 pass_with f (Some (Some page)) h = taken_with f f.wanted page
+
+pub unswept_with : (f : Finding) (out : Option (Option ℕ)) → has_lock f.stage ≡ true → has_lock (after_unswept f out).stage ≡ true
+unswept_with f None h = h
+unswept_with f (Some None) h = refl
+unswept_with f (Some (Some page)) h = taken_with f f.wanted page
 
 pub carve_with : (f : Finding) (out : Option (Option ℕ)) → has_lock f.stage ≡ true → has_lock (after_carve f out).stage ≡ true
 carve_with f None h = h
@@ -99,6 +128,7 @@ step f (Slots s) w = slots_asks s s.stage false w ∙ sym (slots_without (search
 step f Lock w = lock_found f (nat_eq w 0)
 step f (Give g) w = give_asks g g.stage true w ∙ sym (give_with (at_stage f (Give (give.goes g w))) (give.gives g w) refl)
 step f (Pass m) w = pass_asks m m.stage true w ∙ sym (pass_with (at_stage f (Pass (pass.goes m w))) (pass.gives m w) refl)
+step f (Unswept u) w = unswept_asks u u.stage true w ∙ sym (unswept_with (at_stage f (Unswept (unswept.goes u w))) (unswept.gives u w) refl)
 step f (Carve c) w = carve_asks c c.stage true w ∙ sym (carve_with (at_stage f (Carve (carve.goes c w))) (carve.gives c w) refl)
 step f (Unlock after) w = sym (unlocked_without f after)
 step f (Ended out) w = refl

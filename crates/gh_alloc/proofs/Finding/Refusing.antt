@@ -1,13 +1,14 @@
--- The search says that there is no room only where it has found neither a swept span nor fresh pages.
+-- The search says that there is no room only where it has found neither a span nor fresh pages.
 use Rattle.std.proofs.Common.{◌≡◌, ℕ, IsTrue, Bool, true, false, cond, eqb, ltb, Option, Some, None, refl}
 use Rattle.gh_cache.specs.Listing as slots
 use Rattle.gh_central.specs.GiveBack as give
 use Rattle.gh_central.specs.SweptPass as pass
+use Rattle.gh_central.specs.UnsweptPass as unswept
 use Rattle.gh_pages.specs.Listing as carve
 use Rattle.gh_class.specs.Classes.{slots_of}
-use Rattle.gh_alloc.specs.Vocabulary.{Layout, Sought, Small, Large, CachedSpan, Found, At, NoRoom, After, Again, End, FindStage, Slots, Lock, Give, Pass, Carve, Unlock, Ended}
+use Rattle.gh_alloc.specs.Vocabulary.{Layout, Sought, Small, Large, CachedSpan, Found, At, NoRoom, After, Again, End, FindStage, Slots, Lock, Give, Pass, Unswept, Carve, Unlock, Ended}
 use Rattle.gh_alloc.specs.Find.{Finding, after_slots, at_stage, begin, given, given_at, goes_at, locked_for, refuses_at, searched, span_at, unlocked}
-use Rattle.gh_alloc.proofs.Finding.Locking.{carve_with, give_with, has_lock, lock_gives_none, locked_with, pass_with}
+use Rattle.gh_alloc.proofs.Finding.Locking.{carve_with, give_with, has_lock, lock_gives_none, locked_with, pass_with, unswept_with}
 
 -- a search that begins has given nothing
 begin_none : (l : Layout) (w : Sought) (c : Option CachedSpan) → given_at (begin l w c) ≡ None
@@ -48,6 +49,7 @@ giver_refuses f (Slots s) w e = absurd (slots_room f (slots.goes s w) (slots.giv
 giver_refuses f Lock w e = absurd (lock_room f (eqb w 0) e)
 giver_refuses f (Give g) w e = absurd (with_lock _ (give_with (at_stage f (Give (give.goes g w))) (give.gives g w) refl) e)
 giver_refuses f (Pass p) w e = absurd (with_lock _ (pass_with (at_stage f (Pass (pass.goes p w))) (pass.gives p w) refl) e)
+giver_refuses f (Unswept u) w e = absurd (with_lock _ (unswept_with (at_stage f (Unswept (unswept.goes u w))) (unswept.gives u w) refl) e)
 giver_refuses f (Carve c) w e = absurd (with_lock _ (carve_with (at_stage f (Carve (carve.goes c w))) (carve.gives c w) refl) e)
 giver_refuses f (Unlock after) w e = unlock_room f after e
 giver_refuses f (Ended out) w e = ended_room out e

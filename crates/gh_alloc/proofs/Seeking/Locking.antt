@@ -21,6 +21,7 @@ has_lock_at p _ = has_lock p
 
 pub reclaim_asks : (r : Reclaiming) (p : ReclaimStage) (held : Bool) (w : ℕ) → lock_after held (reclaim.asks_at r p) w ≡ held
 reclaim_asks r (reclaim_stage.Look page) held w = refl
+reclaim_asks r (reclaim_stage.Sweep page pages sw) held w = finding.sweep_asks sw sw.stage held w
 reclaim_asks r _ held w = refl
 
 -- where it has found none it has the lock

@@ -9,15 +9,17 @@ use Rattle.gh_central.specs.GiveBack as give
 use Rattle.gh_central.specs.declared.give.GiveStage.TheVariants.{Write}
 use Rattle.gh_central.specs.Reclaim as reclaim
 use Rattle.gh_central.specs.SweptPass as pass
+use Rattle.gh_central.specs.UnsweptPass as unswept
 use Rattle.gh_pages.specs.Listing as carve
 use Rattle.gh_alloc.specs.Find as find
-use Rattle.gh_alloc.specs.Rounds.{FindsNone, Follows as FollowsLock, FreesSpans, GivesBack, HasFoundNoneTwice, Passed}
+use Rattle.gh_alloc.specs.Rounds.{FindsNoneFirst, FindsNone, Follows as FollowsLock, FreesSpans, GivesBack, HasFoundNoneTwice, Passed, Runs, Swept}
 use Rattle.gh_alloc.specs.Search.{asks, listing, opening}
-use Rattle.gh_alloc.proofs.Vocabulary.{after_carve, after_first, after_free, after_pass, Again, again, asks_at, At, at_stage, CachedSpan, Carve, carving, End, Ended, EndsWith, Finding, finds_none_at, FindStage, First, Free, frees_at, Give, given_head, goes_at, GoesOn, head_word, holds, Large, Layout, Lock, locked_for, NoRoom, Pass, Reclaiming, reclaiming, refuses_at, searched, SearchStage, Second, Seeking, Slots, Small, Sought, span_for, SpanClass, spans_for, taken_for, told, Unlock, unlocked}
+use Rattle.gh_alloc.proofs.Vocabulary.{after_carve, after_first, after_free, after_pass, after_unswept, Again, again, asks_at, At, at_stage, behind_for, CachedSpan, Carve, carving, End, Ended, EndsWith, Finding, finds_none_at, FindStage, First, Free, frees_at, Give, given_head, goes_at, GoesOn, head_word, holds, Large, Layout, Lock, locked_for, NoRoom, Pass, Reclaiming, reclaiming, refuses_at, searched, SearchStage, Second, Seeking, Slots, Small, Sought, span_for, SpanClass, spans_for, taken_for, told, Unlock, unlocked, Unswept}
 use Rattle.gh_alloc.proofs.Finding.Locking.{has_lock}
 use Rattle.gh_alloc.proofs.Finding.Locking as finding
 use Rattle.gh_alloc.specs.Search as search
 use Rattle.gh_alloc.specs.Stays.{Base, base, goes_base, search_base}
+use Rattle.gh_alloc.proofs.Seeking.Firsts.{looks_for_unswept, sweeps_at}
 use Rattle.gh_alloc.proofs.Seeking.Locking.{has_lock_at, held_is}
 use Rattle.gh_alloc.proofs.Seeking.Parts.{Running, begins, ends_with, goes_on}
 use Rattle.gh_alloc.proofs.Seeking.Refusing.{search_refuses}
@@ -49,8 +51,31 @@ module _ (s : Seeking) (found : ℕ → ℕ) where
   wanted_is : (g : Finding) → base g ≡ base s.find → g.wanted ≡ s.find.wanted
   wanted_is g e = ap (λ (b : Base). b.wanted) e
 
-  -- One round, before whose first step this is known.
-  module _ (Before : ℕ → Type 0) where
+  -- a pass over the spans comes first, and ends with none
+  abbrev HasPassed : (first from : ℕ) → Type 0
+  HasPassed first from = Passed asked found s.find.layout s.find.seat s.find.generation s.find.wanted first from
+
+  -- in a round that looks for unswept spans one over those comes behind it
+  record HasSwept (first from : ℕ) : Type 0 where
+    behind : ℕ
+    passed : HasPassed first behind
+    swept : Swept asked found s.find.layout s.find.seat s.find.generation s.find.wanted behind from
+
+  abbrev Behind : (sweeps : Bool) → (first from : ℕ) → Type 0
+  Behind true first from = HasSwept first from
+  Behind false first from = HasPassed first from
+
+  -- a large object needs neither
+  at_once : (sweeps : Bool) (n : ℕ) (pages : ℕ) (noscan : Bool) → s.find.wanted ≡ Large pages noscan → Behind sweeps n n
+  at_once true n pages noscan e = record {
+    behind = n;
+    passed = subst (λ (w : Sought). Passed asked found s.find.layout s.find.seat s.find.generation w n n) (sym e) refl;
+    swept = subst (λ (w : Sought). Swept asked found s.find.layout s.find.seat s.find.generation w n n) (sym e) refl;
+  }
+  at_once false n pages noscan e = subst (λ (w : Sought). Passed asked found s.find.layout s.find.seat s.find.generation w n n) (sym e) refl
+
+  -- One round, before whose first step this is known, and which looks for unswept spans or does not.
+  module _ (Before : ℕ → Type 0) (sweeps : Bool) where
     record PassRuns (n : ℕ) (x : pass.Pass) : Type 0 where
       class : SpanClass
       small : s.find.wanted ≡ Small class
@@ -58,22 +83,39 @@ module _ (s : Seeking) (found : ℕ → ℕ) where
       before : Before first
       runs : Running asked found pass.listing (pass.opening s.find.layout s.find.seat s.find.generation class) first n x
 
+    record UnsweptRuns (n : ℕ) (x : unswept.Unswept) : Type 0 where
+      class : SpanClass
+      small : s.find.wanted ≡ Small class
+      on : sweeps ≡ true
+      first : ℕ
+      before : Before first
+      behind : ℕ
+      passed : HasPassed first behind
+      runs : Running asked found unswept.listing (unswept.opening s.find.layout s.find.seat s.find.generation class) behind n x
+
     record CarveRuns (n : ℕ) (x : carve.Carving) : Type 0 where
       first : ℕ
       before : Before first
       from : ℕ
-      passed : Passed asked found s.find.layout s.find.seat s.find.generation s.find.wanted first from
+      passed : Behind sweeps first from
       runs : Running asked found carve.listing (carve.opening s.find.layout s.find.seat s.find.generation (span_for s.find.wanted)) from n x
+
+    -- the search for fresh pages ends with none
+    abbrev RunsOut : (from last : ℕ) → Type 0
+    RunsOut from last = Runs asked found carve.listing (carve.opening s.find.layout s.find.seat s.find.generation (span_for s.find.wanted)) from last None
 
     record RoundEnds (n : ℕ) : Type 0 where
       first : ℕ
       before : Before first
+      from : ℕ
+      passed : Behind sweeps first from
       last : ℕ
-      none : FindsNone asked found s.find.layout s.find.seat s.find.generation s.find.wanted first last
+      none : RunsOut from last
       next : last + 1 ≡ n
 
     abbrev Round : ℕ → FindStage → Type 0
     Round n (Pass x) = PassRuns n x
+    Round n (Unswept x) = UnsweptRuns n x
     Round n (Carve x) = CarveRuns n x
     Round n (Unlock (End NoRoom)) = RoundEnds n
     Round n (Unlock (End (At x))) = Unit {0}
@@ -87,7 +129,7 @@ module _ (s : Seeking) (found : ℕ → ℕ) where
     carve_opens : (g : Finding) → base g ≡ base s.find → carve.opening g.layout g.seat g.generation (span_for g.wanted) ≡ carve.opening s.find.layout s.find.seat s.find.generation (span_for s.find.wanted)
     carve_opens g e = ap (λ (b : Base). carve.opening b.layout b.seat b.generation (span_for b.wanted)) e
 
-    carve_round_begins : (n : ℕ) (g : Finding) → base g ≡ base s.find → (first : ℕ) → Before first → Passed asked found s.find.layout s.find.seat s.find.generation s.find.wanted first n → Round n (carving g)
+    carve_round_begins : (n : ℕ) (g : Finding) → base g ≡ base s.find → (first : ℕ) → Before first → Behind sweeps first n → Round n (carving g)
     carve_round_begins n g e first before passed = record { first = first; before = before; from = n; passed = passed; runs = begins asked found carve.listing _ n (carve.opening g.layout g.seat g.generation (span_for g.wanted)) (carve_opens g e) refl }
 
     round_begins : (n : ℕ) (g : Finding) (w : Sought) → base g ≡ base s.find → g.wanted ≡ w → Before n → Round n (spans_for g w)
@@ -99,7 +141,7 @@ module _ (s : Seeking) (found : ℕ → ℕ) where
       runs = begins asked found pass.listing _ n (pass.opening g.layout g.seat g.generation c) (ap (λ (b : Base). pass.opening b.layout b.seat b.generation c) e) refl;
     }
     round_begins n g (Large pages noscan) e is before =
-        carve_round_begins n g e n before (subst (λ (w : Sought). Passed asked found s.find.layout s.find.seat s.find.generation w n n) (sym is ∙ wanted_is g e) refl)
+        carve_round_begins n g e n before (at_once sweeps n pages noscan (sym (wanted_is g e) ∙ is))
 
     abbrev pass_on : (n : ℕ) (f : Finding) (x : pass.Pass) → Finding
     pass_on n f x = at_stage f (Pass (pass.goes x (found n)))
@@ -107,29 +149,64 @@ module _ (s : Seeking) (found : ℕ → ℕ) where
     abbrev carve_on : (n : ℕ) (f : Finding) (x : carve.Carving) → Finding
     carve_on n f x = at_stage f (Carve (carve.goes x (found n)))
 
-    passes_on : (n : ℕ) (f : Finding) → base f ≡ base s.find → (x : pass.Pass) → PassRuns n x → asked n ≡ pass.asks x → Round (suc n) (find.goes_at f (Pass x) (found n)).stage
-    passes_on n f e x k a = by (pass.gives x (found n)) refl where
+    abbrev unswept_on : (n : ℕ) (f : Finding) (x : unswept.Unswept) → Finding
+    unswept_on n f x = at_stage f (Unswept (unswept.goes x (found n)))
+
+    -- behind the swept spans
+    behind_begins : (n : ℕ) (g : Finding) → base g ≡ base s.find → g.sweeps ≡ sweeps → (c : SpanClass) → s.find.wanted ≡ Small c → (first : ℕ) → Before first → HasPassed first n → Round n (behind_for g g.wanted)
+    behind_begins n g e on c small first before passed = subst (λ (w : Sought). Round n (behind_for g w)) (sym (wanted_is g e ∙ small)) (subst (λ (b : Bool). Round n (To b)) (sym on) (by sweeps refl)) where
+      To : Bool → FindStage
+      To b = cond b (Unswept (unswept.opening g.layout g.seat g.generation c)) (carving g)
+
+      by : (b : Bool) → sweeps ≡ b → Round n (To b)
+      by true is = record {
+        class = c;
+        small = small;
+        on = is;
+        first = first;
+        before = before;
+        behind = n;
+        passed = passed;
+        runs = begins asked found unswept.listing _ n (unswept.opening g.layout g.seat g.generation c) (ap (λ (b : Base). unswept.opening b.layout b.seat b.generation c) e) refl;
+      }
+      by false is = carve_round_begins n g e first before (subst (λ (b : Bool). Behind b first n) (sym is) passed)
+
+    passes_on : (n : ℕ) (f : Finding) → base f ≡ base s.find → f.sweeps ≡ sweeps → (x : pass.Pass) → PassRuns n x → asked n ≡ pass.asks x → Round (suc n) (find.goes_at f (Pass x) (found n)).stage
+    passes_on n f e on x k a = by (pass.gives x (found n)) refl where
       by : (out : Option (Option ℕ)) → pass.gives x (found n) ≡ out → Round (suc n) (after_pass (pass_on n f x) out).stage
       by None g = record { class = k.class; small = k.small; first = k.first; before = k.before; runs = goes_on asked found pass.listing _ k.first n x k.runs a (ap is_none g) }
-      by (Some None) g = carve_round_begins (suc n) (pass_on n f x) e k.first k.before
+      by (Some None) g = behind_begins (suc n) (pass_on n f x) e on k.class k.small k.first k.before
           (subst (λ (w : Sought). Passed asked found s.find.layout s.find.seat s.find.generation w k.first (suc n)) (sym k.small) (n, ends_with asked found pass.listing _ k.first n x k.runs a None g, omega arith))
       by (Some (Some page)) g = taken_round (suc n) (pass_on n f x) f.wanted page
+
+    unswepts_on : (n : ℕ) (f : Finding) → base f ≡ base s.find → (x : unswept.Unswept) → UnsweptRuns n x → asked n ≡ unswept.asks x → Round (suc n) (find.goes_at f (Unswept x) (found n)).stage
+    unswepts_on n f e x k a = by (unswept.gives x (found n)) refl where
+      by : (out : Option (Option ℕ)) → unswept.gives x (found n) ≡ out → Round (suc n) (after_unswept (unswept_on n f x) out).stage
+      by None g = record { class = k.class; small = k.small; on = k.on; first = k.first; before = k.before; behind = k.behind; passed = k.passed; runs = goes_on asked found unswept.listing _ k.behind n x k.runs a (ap is_none g) }
+      by (Some None) g = carve_round_begins (suc n) (unswept_on n f x) e k.first k.before (subst (λ (b : Bool). Behind b k.first (suc n)) (sym k.on) (record {
+        behind = k.behind;
+        passed = k.passed;
+        swept = subst (λ (w : Sought). Swept asked found s.find.layout s.find.seat s.find.generation w k.behind (suc n)) (sym k.small) (n, ends_with asked found unswept.listing _ k.behind n x k.runs a None g, omega arith);
+      }))
+      by (Some (Some page)) g = taken_round (suc n) (unswept_on n f x) f.wanted page
 
     carves_on : (n : ℕ) (f : Finding) (x : carve.Carving) → CarveRuns n x → asked n ≡ carve.asks x → Round (suc n) (find.goes_at f (Carve x) (found n)).stage
     carves_on n f x k a = by (carve.gives x (found n)) refl where
       by : (out : Option (Option ℕ)) → carve.gives x (found n) ≡ out → Round (suc n) (after_carve (carve_on n f x) out).stage
       by None g = record { first = k.first; before = k.before; from = k.from; passed = k.passed; runs = goes_on asked found carve.listing _ k.from n x k.runs a (ap is_none g) }
-      by (Some None) g = record { first = k.first; before = k.before; last = n; none = record { from = k.from; passed = k.passed; none = ends_with asked found carve.listing _ k.from n x k.runs a None g }; next = omega arith }
+      by (Some None) g = record { first = k.first; before = k.before; from = k.from; passed = k.passed; last = n; none = ends_with asked found carve.listing _ k.from n x k.runs a None g; next = omega arith }
       by (Some (Some page)) g = taken_round (suc n) (carve_on n f x) f.wanted page
 
     round_with : (n : ℕ) (p : FindStage) → Round n p → has_lock p ≡ true
     round_with n (Pass x) k = refl
+    round_with n (Unswept x) k = refl
     round_with n (Carve x) k = refl
     round_with n (Unlock after) k = refl
     round_with n _ k = absurd k
 
     refused : (n : ℕ) (p : FindStage) → finds_none_at p ≡ true → Round n p → RoundEnds n
     refused n (Pass x) h k = absurd (cc)
+    refused n (Unswept x) h k = absurd (cc)
     refused n (Carve x) h k = absurd (cc)
     refused n (Unlock Again) h k = absurd (cc)
     refused n (Unlock (End (At x))) h k = absurd (cc)
@@ -154,7 +231,7 @@ module _ (s : Seeking) (found : ℕ → ℕ) where
     first : ℕ
     follows : Follows lock first
     last : ℕ
-    none : FindsNone asked found s.find.layout s.find.seat s.find.generation s.find.wanted first last
+    none : FindsNoneFirst asked found s.find.layout s.find.seat s.find.generation s.find.wanted first last
 
   record FreeRuns (lock n : ℕ) (r : Reclaiming) : Type 0 where
     past : FoundNone lock
@@ -168,8 +245,9 @@ module _ (s : Seeking) (found : ℕ → ℕ) where
 
   abbrev WithFirst : (lock n : ℕ) → FindStage → Type 0
   WithFirst lock n (Give x) = GiveRuns lock n x
-  WithFirst lock n (Pass x) = PassRuns (Follows lock) n x
-  WithFirst lock n (Carve x) = CarveRuns (Follows lock) n x
+  WithFirst lock n (Pass x) = PassRuns (Follows lock) true n x
+  WithFirst lock n (Unswept x) = UnsweptRuns (Follows lock) true n x
+  WithFirst lock n (Carve x) = CarveRuns (Follows lock) true n x
   WithFirst lock n (Unlock (End NoRoom)) = ⊥
   WithFirst lock n (Unlock (End (At x))) = Unit {0}
   WithFirst lock n (Unlock Again) = Unit {0}
@@ -178,7 +256,7 @@ module _ (s : Seeking) (found : ℕ → ℕ) where
   abbrev WithLock : (lock n : ℕ) → FindStage → SearchStage → Type 0
   WithLock lock n p First = WithFirst lock n p
   WithLock lock n p (Free r) = FreeRuns lock n r
-  WithLock lock n p Second = Round (HasFreed lock) n p
+  WithLock lock n p Second = Round (HasFreed lock) false n p
 
   first_with : (lock n : ℕ) (p : FindStage) → WithFirst lock n p → has_lock p ≡ true
   first_with lock n (Slots x) k = absurd k
@@ -189,7 +267,7 @@ module _ (s : Seeking) (found : ℕ → ℕ) where
   has_with : (lock n : ℕ) (p : FindStage) (q : SearchStage) → WithLock lock n p q → has_lock_at p q ≡ true
   has_with lock n p First k = first_with lock n p k
   has_with lock n p (Free r) k = refl
-  has_with lock n p Second k = round_with (HasFreed lock) n p k
+  has_with lock n p Second k = round_with (HasFreed lock) false n p k
 
   record Locked (n : ℕ) : Type 0 where
     lock : ℕ
@@ -205,13 +283,14 @@ module _ (s : Seeking) (found : ℕ → ℕ) where
   Tracks n = Unlocked n ⊎ Locked n
 
   -- a round that was the first leads to the freeing
-  leads_on : (lock n : ℕ) (g : Finding) → base g ≡ base s.find → (p : FindStage) → Round (Follows lock) n p → WithLock lock n p (cond (finds_none_at p) (Free (reclaiming g)) First)
+  leads_on : (lock n : ℕ) (g : Finding) → base g ≡ base s.find → (p : FindStage) → Round (Follows lock) true n p → WithLock lock n p (cond (finds_none_at p) (Free (reclaiming g)) First)
   leads_on lock n g e (Pass x) k = k
+  leads_on lock n g e (Unswept x) k = k
   leads_on lock n g e (Carve x) k = k
   leads_on lock n g e (Unlock Again) k = tt
   leads_on lock n g e (Unlock (End (At x))) k = tt
   leads_on lock n g e (Unlock (End NoRoom)) k = record {
-    past = record { first = k.first; follows = k.before; last = k.last; none = k.none };
+    past = record { first = k.first; follows = k.before; last = k.last; none = record { behind = k.passed.behind; passed = k.passed.passed; from = k.from; swept = k.passed.swept; none = k.none } };
     runs = subst (λ (j : ℕ). Running asked found reclaim.listing (reclaim.opening s.find.layout s.find.generation) j n (reclaiming g)) (sym k.next) (begins asked found reclaim.listing _ n (reclaiming g) (ap (λ (b : Base). reclaim.opening b.layout b.generation) e) refl);
   }
   leads_on lock n g e _ k = absurd k
@@ -235,6 +314,9 @@ module _ (s : Seeking) (found : ℕ → ℕ) where
   second_asks : (n : ℕ) (p : FindStage) → (now n).stage ≡ Second → (now n).find.stage ≡ p → asked n ≡ find.asks_at (now n).find p
   second_asks n p e at = ap (asks_at (now n).find) e ∙ ap (find.asks_at (now n).find) at
 
+  abbrev freed_to : ℕ → FindStage → Finding
+  freed_to n p = record (now n).find { sweeps = true; stage = p }
+
   -- it does not have the lock then
   unlocks : (n : ℕ) (g : Finding) → now (suc n) ≡ record { find = g; stage = First } → has_lock g.stage ≡ false → Tracks (suc n)
   unlocks n g e h = inl (ap (λ (z : Seeking). z.stage) e, ap (λ (z : Seeking). has_lock z.find.stage) e ∙ h)
@@ -242,7 +324,7 @@ module _ (s : Seeking) (found : ℕ → ℕ) where
   unlocks_first : (n : ℕ) (g : Finding) → now (suc n) ≡ record { find = g; stage = after_first g } → has_lock g.stage ≡ false → Tracks (suc n)
   unlocks_first n g e h = unlocks n g (e ∙ ap (λ (b : Bool). record { find = g; stage = cond b (Free (reclaiming g)) First }) (without_none g.stage h)) h
 
-  module _ (start : has_lock_at s.find.stage s.stage ≡ false) where
+  module _ (start : has_lock_at s.find.stage s.stage ≡ false) (anew : s.find.sweeps ≡ looks_for_unswept s.stage) where
     -- it has the lock then, and had it since
     locks : (n lock : ℕ) → asked lock ≡ Swap cell.Lock 0 (s.find.seat + 1) → found lock ≡ 0 → ((k : ℕ) → lock < k → k ≤ n → holds listing s found k ≡ true) → (z : Seeking) → now (suc n) ≡ z → WithLock lock (suc n) z.find.stage z.stage → Tracks (suc n)
     locks n lock takes free held z e k = inr (record { lock = lock; takes = takes; free = free; held = still; known = known }) where
@@ -266,7 +348,7 @@ module _ (s : Seeking) (found : ℕ → ℕ) where
       next b is = first_is n Lock e at ∙ ap (λ (c : Bool). lock_to n (cond c (locked_for (now n).find (now n).find.wanted (now n).find.cached) Lock)) is
 
       begins_round : (w : Sought) → (now n).find.wanted ≡ w → WithLock n (suc n) (spans_for (now n).find w) (after_first (at_stage (now n).find (spans_for (now n).find w)))
-      begins_round w is = leads_on n (suc n) (at_stage (now n).find (spans_for (now n).find w)) (base_is n) (spans_for (now n).find w) (round_begins (Follows n) (suc n) (now n).find w (base_is n) is (inl (omega arith)))
+      begins_round w is = leads_on n (suc n) (at_stage (now n).find (spans_for (now n).find w)) (base_is n) (spans_for (now n).find w) (round_begins (Follows n) true (suc n) (now n).find w (base_is n) is (inl (omega arith)))
 
       locked : (w : Sought) (c : Option CachedSpan) → (now n).find.wanted ≡ w → WithLock n (suc n) (locked_for (now n).find w c) (after_first (at_stage (now n).find (locked_for (now n).find w c)))
       locked (Small c) (Some x) is = record {
@@ -306,16 +388,18 @@ module _ (s : Seeking) (found : ℕ → ℕ) where
         given_back = record { class = k.class; small = k.small; page = k.page; store = ap asked k.follows ∙ first_asks n (Give x) e at ∙ k.store }
 
         begun : WithLock t.lock (suc n) (given_on x).stage (after_first (given_on x))
-        begun = leads_on t.lock (suc n) (given_on x) (base_is n) (spans_for (give_on x) (give_on x).wanted) (round_begins (Follows t.lock) (suc n) (give_on x) (give_on x).wanted (base_is n) refl (inr (given_back, let at = k.follows in omega arith)))
+        begun = leads_on t.lock (suc n) (given_on x) (base_is n) (spans_for (give_on x) (give_on x).wanted) (round_begins (Follows t.lock) true (suc n) (give_on x) (give_on x).wanted (base_is n) refl (inr (given_back, let at = k.follows in omega arith)))
 
       first_step : (p : FindStage) → (now n).stage ≡ First → (now n).find.stage ≡ p → WithFirst t.lock n p → Tracks (suc n)
       first_step (Give x) e at k = give_step x e at k
       first_step (Pass x) e at k = goes_to (first_to n (Pass x)) (first_is n (Pass x) e at)
-          (leads_on t.lock (suc n) (find.goes_at (now n).find (Pass x) (found n)) (goes_base (now n).find (Pass x) (found n) ∙ base_is n) (find.goes_at (now n).find (Pass x) (found n)).stage (passes_on (Follows t.lock) n (now n).find (base_is n) x k (first_asks n (Pass x) e at)))
+          (leads_on t.lock (suc n) (find.goes_at (now n).find (Pass x) (found n)) (goes_base (now n).find (Pass x) (found n) ∙ base_is n) (find.goes_at (now n).find (Pass x) (found n)).stage (passes_on (Follows t.lock) true n (now n).find (base_is n) (sweeps_at s found anew n First e) x k (first_asks n (Pass x) e at)))
+      first_step (Unswept x) e at k = goes_to (first_to n (Unswept x)) (first_is n (Unswept x) e at)
+          (leads_on t.lock (suc n) (find.goes_at (now n).find (Unswept x) (found n)) (goes_base (now n).find (Unswept x) (found n) ∙ base_is n) (find.goes_at (now n).find (Unswept x) (found n)).stage (unswepts_on (Follows t.lock) true n (now n).find (base_is n) x k (first_asks n (Unswept x) e at)))
       first_step (Carve x) e at k = goes_to (first_to n (Carve x)) (first_is n (Carve x) e at)
-          (leads_on t.lock (suc n) (find.goes_at (now n).find (Carve x) (found n)) (goes_base (now n).find (Carve x) (found n) ∙ base_is n) (find.goes_at (now n).find (Carve x) (found n)).stage (carves_on (Follows t.lock) n (now n).find x k (first_asks n (Carve x) e at)))
-      first_step (Unlock Again) e at k = unlocks_first n (at_stage (now n).find (unlocked (now n).find Again)) (first_is n (Unlock Again) e at) (finding.unlocked_without (now n).find Again)
-      first_step (Unlock (End (At x))) e at k = unlocks_first n (at_stage (now n).find (Ended (At x))) (first_is n (Unlock (End (At x))) e at) refl
+          (leads_on t.lock (suc n) (find.goes_at (now n).find (Carve x) (found n)) (goes_base (now n).find (Carve x) (found n) ∙ base_is n) (find.goes_at (now n).find (Carve x) (found n)).stage (carves_on (Follows t.lock) true n (now n).find x k (first_asks n (Carve x) e at)))
+      first_step (Unlock Again) e at k = unlocks_first n (freed_to n (unlocked (now n).find Again)) (first_is n (Unlock Again) e at) (finding.unlocked_without (now n).find Again)
+      first_step (Unlock (End (At x))) e at k = unlocks_first n (freed_to n (Ended (At x))) (first_is n (Unlock (End (At x))) e at) refl
       first_step _ e at k = absurd k
 
       free_step : (r : Reclaiming) → (now n).stage ≡ Free r → FreeRuns t.lock n r → Tracks (suc n)
@@ -333,12 +417,13 @@ module _ (s : Seeking) (found : ℕ → ℕ) where
         by None g = goes_to (record { find = (now n).find; stage = Free (reclaim.goes r (found n)) }) (next ∙ ap (after_free (now n).find (reclaim.goes r (found n))) g)
             (record { past = k.past; runs = goes_on asked found reclaim.listing _ (k.past.last + 1) n r k.runs a (ap is_none g) })
         by (Some x) g = goes_to (record { find = again (now n).find; stage = Second }) (next ∙ ap (after_free (now n).find (reclaim.goes r (found n))) g)
-            (round_begins (HasFreed t.lock) (suc n) (now n).find (now n).find.wanted (base_is n) refl (has_freed g))
+            (round_begins (HasFreed t.lock) false (suc n) (now n).find (now n).find.wanted (base_is n) refl (has_freed g))
 
-      second_step : (p : FindStage) → (now n).stage ≡ Second → (now n).find.stage ≡ p → Round (HasFreed t.lock) n p → Tracks (suc n)
-      second_step (Pass x) e at k = goes_to (second_to n (Pass x)) (second_is n (Pass x) e at) (passes_on (HasFreed t.lock) n (now n).find (base_is n) x k (second_asks n (Pass x) e at))
-      second_step (Carve x) e at k = goes_to (second_to n (Carve x)) (second_is n (Carve x) e at) (carves_on (HasFreed t.lock) n (now n).find x k (second_asks n (Carve x) e at))
-      second_step (Unlock after) e at k = unlocks n (at_stage (now n).find (unlocked (now n).find after)) (second_is n (Unlock after) e at) (finding.unlocked_without (now n).find after)
+      second_step : (p : FindStage) → (now n).stage ≡ Second → (now n).find.stage ≡ p → Round (HasFreed t.lock) false n p → Tracks (suc n)
+      second_step (Pass x) e at k = goes_to (second_to n (Pass x)) (second_is n (Pass x) e at) (passes_on (HasFreed t.lock) false n (now n).find (base_is n) (sweeps_at s found anew n Second e) x k (second_asks n (Pass x) e at))
+      second_step (Unswept x) e at k = absurd (cc (k.on))
+      second_step (Carve x) e at k = goes_to (second_to n (Carve x)) (second_is n (Carve x) e at) (carves_on (HasFreed t.lock) false n (now n).find x k (second_asks n (Carve x) e at))
+      second_step (Unlock after) e at k = unlocks n (freed_to n (unlocked (now n).find after)) (second_is n (Unlock after) e at) (finding.unlocked_without (now n).find after)
       second_step _ e at k = absurd k
 
       with_step : (q : SearchStage) → (now n).stage ≡ q → WithLock t.lock n (now n).find.stage q → Tracks (suc n)
@@ -363,7 +448,7 @@ module _ (s : Seeking) (found : ℕ → ℕ) where
     abbrev Refuses : ℕ → Type 0
     Refuses n = HasFoundNoneTwice s found s.find.layout s.find.seat s.find.generation s.find.wanted n
 
-    ended_twice : (n : ℕ) (t : Locked n) → asked n ≡ Store cell.Lock 0 → RoundEnds (HasFreed t.lock) n → Refuses n
+    ended_twice : (n : ℕ) (t : Locked n) → asked n ≡ Store cell.Lock 0 → RoundEnds (HasFreed t.lock) false n → Refuses n
     ended_twice n t a k = record {
       lock = t.lock;
       takes = t.takes;
@@ -375,7 +460,7 @@ module _ (s : Seeking) (found : ℕ → ℕ) where
       freed = k.before.freed;
       frees = k.before.frees;
       last_again = k.last;
-      none_again = subst (λ (j : ℕ). FindsNone asked found s.find.layout s.find.seat s.find.generation s.find.wanted j k.last) (sym k.before.next) k.none;
+      none_again = subst (λ (j : ℕ). FindsNone asked found s.find.layout s.find.seat s.find.generation s.find.wanted j k.last) (sym k.before.next) (record { from = k.from; passed = k.passed; none = k.none });
       next = k.next;
       frees_lock = a;
       held = t.held;
@@ -386,7 +471,7 @@ module _ (s : Seeking) (found : ℕ → ℕ) where
     with_no_room n t (Free r) e k h busy = absurd (cc)
     with_no_room n t Second e k h busy =
         let none : finds_none_at (now n).find.stage ≡ true = refuses_yet (now n).find.stage h busy in
-        ended_twice n t (second_asks n (now n).find.stage e refl ∙ refusing_asks (now n).find (now n).find.stage none) (refused (HasFreed t.lock) n (now n).find.stage none k)
+        ended_twice n t (second_asks n (now n).find.stage e refl ∙ refusing_asks (now n).find (now n).find.stage none) (refused (HasFreed t.lock) false n (now n).find.stage none k)
 
     no_room : s.stage ≡ First → (n : ℕ) → GoesOn listing s found n → EndsWith listing s found n NoRoom → Refuses n
     no_room opens n busy g =
@@ -402,4 +487,4 @@ module _ (s : Seeking) (found : ℕ → ℕ) where
 
 pub no_room_is_true : (l : Layout) (seat generation : ℕ) (wanted : Sought) (cached : Option CachedSpan) (found : ℕ → ℕ) (n : ℕ) →
     GoesOn listing (opening l seat generation wanted cached) found n → EndsWith listing (opening l seat generation wanted cached) found n NoRoom → HasFoundNoneTwice (opening l seat generation wanted cached) found l seat generation wanted n
-no_room_is_true l seat generation wanted cached found n busy g = no_room (opening l seat generation wanted cached) found (finding.begin_without l wanted cached) refl n busy g
+no_room_is_true l seat generation wanted cached found n busy g = no_room (opening l seat generation wanted cached) found (finding.begin_without l wanted cached) refl refl n busy g

@@ -5,6 +5,7 @@ pub returns : goal.returns
 returns c = finds_by_its_rights (record {
   search = c.the_search_keeps_its_facts.ensures;
   pass = c.the_pass_keeps_its_facts.ensures;
+  unswept = c.the_unswept_pass_keeps_its_facts.ensures;
   give = c.giving_back_keeps_its_facts.ensures;
   carve = c.the_carve_keeps_its_facts.ensures;
   follow = c.rights_follow.ensures.follow;

@@ -10,7 +10,7 @@ use Rattle.gh_alloc.proofs.find.Find.take_step.Goals as goal
 
 pub after_slots-requires : goal.after_slots-requires
 after_slots-requires c =
-    let f : Finding = record { layout = c.self.inside.layout; seat = c.self.inside.seat; generation = c.self.inside.generation; wanted = c.self.inside.wanted; cached = c.self.inside.cached; stage = c.self.inside.stage } in
+    let f : Finding = record { layout = c.self.inside.layout; seat = c.self.inside.seat; generation = c.self.inside.generation; wanted = c.self.inside.wanted; cached = c.self.inside.cached; sweeps = c.self.inside.sweeps; stage = c.self.inside.stage } in
     let sound : Sound f = search rules in
     let search_sound : slots_sound.Sound c.in-Slots.search = search rules in
     let at : f.stage ≡ Slots c.in-Slots.search = search rules in

@@ -1,0 +1,121 @@
+-- A sweep that a routine runs: that it stays at its span, where it gives what, on which words its steps are, and what they leave to who runs it.
+use Rattle.std.proofs.Common.{◌≡◌, ℕ, ◌+◌, ◌*◌, ◌^◌, ◌<◌, Bool, true, false, cond, ltb, Option, Some, None, is_none, refl, sym, ap, subst, ◌∙◌, arith, eq-eqb}
+use Rattle.gh_base.specs.declared.cell.Ask.{Ask}
+use Rattle.gh_base.specs.declared.cell.Ask.TheVariants.{Store}
+use Rattle.gh_base.specs.declared.cell.Cell.TheVariants.{Page}
+use Rattle.gh_base.specs.declared.pack.PageWord.TheVariants.{Head}
+use Rattle.gh_base.specs.Cells.{Words}
+use Rattle.gh_base.specs.Packing.{FitsHead}
+use Rattle.gh_central.proofs.Vocabulary.{Arena, cell_of, effect, Freeing, Good, head_word, InRange, KeepsObjects, Laying, Layout, mod-lt, PackedWordsAreReadBack, page_of, Rights, SpanHead, View}
+use Rattle.gh_heap.specs.Laws.{FactsLast}
+use Rattle.gh_heap.specs.Spans.{numbered_by}
+use Rattle.gh_central.specs.ReclaimFacts.{IsUnowned}
+use Rattle.gh_central.specs.Sweeping.{SweepLeaves}
+use Rattle.gh_sweep.specs.declared.sweep.SweepEnd.TheVariants.{Lost, Swept}
+use Rattle.gh_sweep.specs.declared.sweep.SweepStage.{SweepStage}
+use Rattle.gh_sweep.specs.declared.sweep.SweepStage.TheVariants.{AddHeap, AddLive, AddTally, Begin, ClearBits, ClearMarks, Ended, Finish, LoadMarks}
+use Rattle.gh_sweep.specs.declared.sweep.SweptSpan.{SweptSpan}
+use Rattle.gh_sweep.specs.Listing.{asks, asks_at, bit_words, given, given_at, gives, goes, goes_at, is_busy, once_swept, Sweeping, word_at, wrote}
+
+-- Where it goes.
+
+-- it asks for a further step where it has given nothing
+pub goes_on : (sw : Sweeping) → given sw ≡ None → is_busy sw.stage ≡ true
+goes_on sw e = ap is_none e
+
+-- it stays at its span
+stays_at : (sw : Sweeping) (q : SweepStage) (found : ℕ) → ((goes_at sw q found).page ≡ sw.page) × ((goes_at sw q found).head ≡ sw.head)
+stays_at sw Begin found = (refl, refl)
+stays_at sw _ found = (refl, refl)
+
+pub same_page : (sw : Sweeping) (found : ℕ) → (goes sw found).page ≡ sw.page
+same_page sw found = (stays_at sw sw.stage found).0
+
+pub same_head : (sw : Sweeping) (found : ℕ) → (goes sw found).head ≡ sw.head
+same_head sw found = (stays_at sw sw.stage found).1
+
+-- a span is swept by its last step, which writes the head
+writes_at : (sw : Sweeping) (q : SweepStage) (found : ℕ) (span : SweptSpan) → is_busy q ≡ true → given (goes_at sw q found) ≡ Some (Swept span) → asks_at sw q ≡ Store (Page sw.page) (head_word (once_swept sw.head))
+writes_at sw Begin found span b e = go (wrote sw found) e where
+  go : (c : Bool) → given_at (cond c (LoadMarks 0) (Ended Lost)) ≡ Some (Swept span) → asks_at sw Begin ≡ Store (Page sw.page) (head_word (once_swept sw.head))
+  go true e = absurd (cc)
+  go false e = absurd (cc)
+writes_at sw (LoadMarks i) found span b e = absurd (cc)
+writes_at sw (ClearBits i marks) found span b e = absurd (cc)
+writes_at sw (ClearMarks i) found span b e = go (ltb (i + 1) (bit_words sw.head)) e where
+  go : (c : Bool) → given_at (cond c (LoadMarks (i + 1)) AddTally) ≡ Some (Swept span) → asks_at sw (ClearMarks i) ≡ Store (Page sw.page) (head_word (once_swept sw.head))
+  go true e = absurd (cc)
+  go false e = absurd (cc)
+writes_at sw AddTally found span b e = absurd (cc)
+writes_at sw AddLive found span b e = absurd (cc)
+writes_at sw AddHeap found span b e = absurd (cc)
+writes_at sw Finish found span b e = refl
+writes_at sw (Ended end) found span b e = absurd (cc)
+
+-- so its head says that it is
+head_then : PackedWordsAreReadBack → (sw : Sweeping) (words : Words) (found : ℕ) (span : SweptSpan) → is_busy sw.stage ≡ true → FitsHead (once_swept sw.head) → gives sw found ≡ Some (Swept span) → page_of (effect words (asks sw) (Page sw.page)) ≡ Head (once_swept sw.head)
+head_then packed sw words found span b fits e =
+    let written : effect words (Store (Page sw.page) (head_word (once_swept sw.head))) (Page sw.page) ≡ head_word (once_swept sw.head) = ap (λ (c : Bool). cond c (head_word (once_swept sw.head)) (words (Page sw.page))) (eq-eqb sw.page sw.page refl) in
+    ap (λ (step : Ask). page_of (effect words step (Page sw.page))) (writes_at sw sw.stage found span b e) ∙ ap page_of written ∙ packed.page (Head (once_swept sw.head)) fits
+
+-- the head of a swept span fits its word
+pub fits_then : (h : SpanHead) → FitsHead h → h.number + 2 < 2 ^ 34 → FitsHead (once_swept h)
+fits_then h f few = record { class = f.class; some = f.some; pages = f.pages; owner = omega arith; number = few }
+
+-- so does the head of a span that nobody owns, as it stands
+pub fits_now : (z : Arena) (v : View) → Good z v → (p : ℕ) (h : SpanHead) → page_of (v.page p) ≡ Head h → h.owner ≡ 0 → FitsHead h
+fits_now z v g p h head owner =
+    let span = g.spans p h head in
+    record { class = span.fits.class; some = span.fits.some; pages = omega (arith, span.within, z.layout.limits.pages_fit.1); owner = omega (arith, owner); number = omega (arith, (g.numbers p h head).few, g.generation) }
+
+-- the page of a span that it has swept says so
+pub swept_then : PackedWordsAreReadBack → (words then : Words) (sw : Sweeping) (p : ℕ) (h : SpanHead) (span : SweptSpan) → then ≡ effect words (asks sw) → sw.page ≡ p → sw.head ≡ h → is_busy sw.stage ≡ true → FitsHead h → h.number + 2 < 2 ^ 34 →
+    gives sw (words (cell_of (asks sw))) ≡ Some (Swept span) → page_of (then (Page p)) ≡ Head (once_swept h)
+swept_then packed words then sw p h span are at head b fits few e =
+    let fit : FitsHead (once_swept sw.head) = subst (λ (x : SpanHead). FitsHead (once_swept x)) (sym head) (fits_then h fits few) in
+    ap (λ (w : Words). page_of (w (Page p))) are ∙ ap (λ (q : ℕ). page_of (effect words (asks sw) (Page q))) (sym at) ∙ head_then packed sw words (words (cell_of (asks sw))) span b fit e ∙ ap (λ (x : SpanHead). Head (once_swept x)) head
+
+-- Its words.
+
+within_at : (z : Layout) (sw : Sweeping) (q : SweepStage) → sw.layout ≡ z → sw.page < z.pages → InRange z (cell_of (asks_at sw q))
+within_at z sw q layout there = go q where
+  bits : (i : ℕ) → word_at sw i < 16 * z.pages
+  bits i =
+      let arena : sw.layout.pages ≡ z.pages = ap (λ (l : Layout). l.pages) layout in
+      let some : 0 < 16 * sw.layout.pages = omega (arith, sw.layout.limits.pages_fit.0) in
+      omega (arith, mod-lt (16 * sw.page + i) some, arena)
+
+  go : (q : SweepStage) → InRange z (cell_of (asks_at sw q))
+  go Begin = there
+  go (LoadMarks i) = bits i
+  go (ClearBits i marks) = bits i
+  go (ClearMarks i) = bits i
+  go AddTally = tt
+  go AddLive = tt
+  go AddHeap = tt
+  go Finish = there
+  go (Ended end) = tt
+
+pub within : (z : Layout) (sw : Sweeping) → sw.layout ≡ z → sw.page < z.pages → InRange z (cell_of (asks sw))
+within z sw layout there = within_at z sw sw.stage layout there
+
+-- What its step leaves.
+
+module _ (a : ℕ) (v w : View) (o : SweepLeaves v w) where
+  pub rights_then : (l : Bool) (h : ℕ → Bool) (y : Option Laying) (f : Option Freeing) → Rights a v l h y f → Rights a w l h y f
+  rights_then l h y f r = record {
+    locked = ap (λ x. x a) o.locked ∙ r.locked;
+    holds = λ p. ap (λ x. x a p) o.holds ∙ r.holds p;
+    laying = ap (λ x. x a) o.laying ∙ r.laying;
+    freeing = ap (λ x. x a) o.freeing ∙ r.freeing;
+  }
+
+pub objects_then : (v w : View) → SweepLeaves v w → KeepsObjects v w
+objects_then v w o = (o.ever, o.place)
+
+-- The span that nobody owned stands, up to its number: behind such a step, and behind the steps of others.
+pub unowned_then : (v w : View) → SweepLeaves v w → (p : ℕ) → IsUnowned v.page p → IsUnowned w.page p
+unowned_then v w o p u = let n = o.stands p u.h u.owner u.head in record { h = numbered_by n.0 u.h; head = n.1; owner = u.owner }
+
+pub unowned_lasts : (z : Arena) (a : ℕ) (v w : View) → FactsLast z a v w → v.locked a ≡ true → (p : ℕ) → IsUnowned v.page p → IsUnowned w.page p
+unowned_lasts z a v w last l p u = let n = last.stands p u.h l u.owner u.head in record { h = numbered_by n.0 u.h; head = n.1; owner = u.owner }

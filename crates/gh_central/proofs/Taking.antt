@@ -1,0 +1,68 @@
+-- A swept span that nobody owns is taken, as both passes end.
+use Rattle.std.proofs.Common.{◌≡◌, ℕ, ◌+◌, ◌^◌, ◌<◌, Bool, true, false, cond, None, Option, refl, sym, ap, ◌∙◌, arith, eq-eqb}
+use Rattle.gh_base.specs.declared.cell.Ask.TheVariants as ask
+use Rattle.gh_base.specs.declared.cell.Cell.TheVariants as cell
+use Rattle.gh_base.specs.declared.pack.PageWord.TheVariants as page
+use Rattle.gh_class.specs.declared.class.SpanClass.{SpanClass}
+use Rattle.gh_central.proofs.Vocabulary.{Arena, EachFactLasts, EachMoveKeeps, EachOwnMoveLeaves, EachRightFollows, effect, Good, head_word, IsSpan, KeepsObjects, Large, Laying, Leaves, MayPass, moved, Others, Own, owned_by, owner_at, owner_in, PackedWordsAreReadBack, page_of, Right, Shared, Small, SpanHead, Steps, TheHeapIsApart, update, View, view}
+use Rattle.gh_central.specs.PassFacts.{IsTaken, IsUnowned}
+
+pub record Known : Type 0 where
+  pub packed : PackedWordsAreReadBack
+  pub keep : EachMoveKeeps
+  pub follow : EachRightFollows
+  pub leave : EachOwnMoveLeaves
+  pub apart : TheHeapIsApart
+
+-- whatever others do, it may be taken
+pub unowned-lasts : EachFactLasts → (z : Arena) (a : ℕ) (v w : View) (wanted : SpanClass) (p : ℕ) (h : SpanHead) → Others z a v w → v.locked a ≡ true → IsUnowned wanted v.page v.generation p h → IsUnowned wanted w.page w.generation p h
+unowned-lasts last z a v w wanted p h o l x = record { head = (last z a v w o).head p h l (λ e. small-large wanted.class (sym x.class ∙ e)) x.number x.head; class = x.class; noscan = x.noscan; owner = x.owner; number = x.number ∙ sym o.generation } where
+  small-large : (c : ℕ) → Small c ≡ Large → ⊥
+  small-large c e = cc
+
+-- what nobody owns the seat does not hold
+not-held : (z : Arena) (a : ℕ) (v : View) (l : Bool) (held : ℕ → Bool) (y : Option Laying) (p : ℕ) → Good z v → Right a v l held y → owner_at v.page p ≡ 0 → held p ≡ false
+not-held z a v l held y p g right none = go (held p) refl where
+  one : (n : ℕ) → n ≡ a + 1 → n ≡ 0 → ⊥
+  one n e f = omega arith
+
+  go : (b : Bool) → held p ≡ b → b ≡ false
+  go false e = refl
+  go true e = absurd (one (owner_at v.page p) ((g.owners a p).1 (right.holds p ∙ e)) none)
+
+-- what the store of its head leaves
+abbrev pub Taken : Arena → (a : ℕ) → (v w : View) → (ℕ → Bool) → SpanClass → (p : ℕ) → Type 0
+Taken z a v w held wanted p = KeepsObjects v w × (Leaves v w × Right a w true (update held p true) None × IsTaken z a wanted w.page p × (held p ≡ false))
+
+module _ (k : Known) (z : Arena) (a : ℕ) (s : Shared) (held : ℕ → Bool) (wanted : SpanClass) (seat : ℕ) (whose : seat ≡ a) where
+  abbrev now : View
+  now = view s
+
+  pub takes : (p : ℕ) (h : SpanHead) → Good z now → Right a now true held None → a + 1 < 2 ^ 8 → IsUnowned wanted now.page now.generation p h → Steps z a s (ask.Store (cell.Page p) (head_word (owned_by (seat + 1) h))) (λ t. Taken z a now (view t) held wanted p)
+  takes p h g right seats x = record { move = Own p h; may = may; words_are = ap (λ (n : ℕ). effect s.words (ask.Store (cell.Page p) (head_word (owned_by (n + 1) h)))) (sym whose); after = ((refl, refl), (leaves, right-then, record { h = owned_by (a + 1) h; span = span; class = x.class; noscan = x.noscan; owner = refl }, not-held z a now true held None p g right (ap owner_in x.head ∙ x.owner))) } where
+    may : MayPass now a p h × (h.owner ≡ 0) × (a + 1 < 2 ^ 8) × (h.number ≡ now.generation)
+    may = (record { locked = right.locked; laying = right.laying; freeing = right.freeing; head = x.head }, x.owner, seats, x.number)
+
+    t : Shared
+    t = moved z a s (Own p h)
+
+    leaves : Leaves now (view t)
+    leaves = (k.leave z a s g).owned p h may
+
+    right-then : Right a (view t) true (update held p true) None
+    right-then = (k.follow z a s true held None right).owned p h
+
+    written : (view t).page p ≡ head_word (owned_by (a + 1) h)
+    written = ap (λ (b : Bool). cond b (head_word (owned_by (a + 1) h)) (now.page p)) (eq-eqb p p refl)
+
+    before : IsSpan z.layout.pages now.page p h
+    before = (k.apart z now g).locked a p h right.locked right.freeing x.head
+
+    pages-few : h.pages < 2 ^ 13
+    pages-few = omega (arith, before.within, z.layout.limits.pages_fit.1)
+
+    number-few : h.number < 2 ^ 34
+    number-few = omega (arith, (g.numbers p h x.head).few, g.generation)
+
+    span : IsSpan z.layout.pages (view t).page p (owned_by (a + 1) h)
+    span = (k.apart z (view t) (k.keep z a s (Own p h) g may)).held a p (owned_by (a + 1) h) (right-then.holds p ∙ ap (λ (b : Bool). cond b true (held p)) (eq-eqb p p refl)) (ap page_of written ∙ k.packed.page (page.Head (owned_by (a + 1) h)) (record { class = before.fits.class; some = before.fits.some; pages = pages-few; owner = seats; number = number-few }))

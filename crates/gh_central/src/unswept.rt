@@ -1,0 +1,252 @@
+//! The pass over the spans for one that is not swept, and has room once it is.
+
+ghost use Rattle.std.specs.Prelude.{◌≡◌, ◌+◌, ◌^◌, ◌<◌, true};
+ghost use Rattle.gh_base.specs.Cells.{InRange, seats_of};
+ghost use Rattle.gh_base.specs.Steps.{cell_of};
+ghost use Rattle.gh_base.specs.Packing.{FitsHead, FitsPage, head_word};
+ghost use Rattle.gh_central.specs.SweptPass.{owned_by};
+ghost use Rattle.gh_central.specs.UnsweptPass.{after_page, after_sweep, asks, given, goes_at, is_unswept, look_from, opening};
+ghost use Rattle.gh_sweep.specs.Listing as sweeping;
+ghost use Rattle.gh_sweep.specs.Listing.{once_swept};
+ghost use Rattle.gh_sweep.specs.Sound.{FitsSweep};
+
+use gh_base::laws::packed_words_are_read_back;
+use gh_base::{Ask, Cell, Layout, Machine, PageWord, Req, SpanHead};
+use gh_class::{SizeClass, SpanClass};
+use gh_sweep::{Sweep, SweepEnd};
+use std::marker::Model;
+
+/// The stages of the pass.
+#[derive(Clone, Copy, Debug, PartialEq, Eq)]
+pub enum UnsweptStage {
+    /// It looks at a page.
+    Look {
+        /// The page.
+        page: u32,
+    },
+    /// It sweeps the span whose head it met.
+    Sweep {
+        /// The first page of the span.
+        page: u32,
+        /// What its head word was found to say.
+        head: SpanHead,
+        /// The sweep.
+        sweep: Sweep,
+    },
+    /// It takes the span.
+    Take {
+        /// The first page of the span.
+        page: u32,
+        /// What its head word says, now that it is swept.
+        head: SpanHead,
+    },
+    /// It has ended.
+    Ended {
+        /// The first page of the span that it took, if it took one.
+        taken: Option<u32>,
+    },
+}
+
+/// Looks for an unswept span of a span class, sweeps it, and takes it for a seat where a slot is clear then (Go's
+/// `mcentral.cacheSpan` where it takes from `partialUnswept` and `fullUnswept`, in mcentral.go). Whoever runs it has
+/// the heap's lock.
+///
+/// The page words are walked from page 0 on, from head to head. A span of the class that is not swept it
+/// sweeps, and the sweep's own counts say whether a slot is clear: no word is loaded for it. The span is
+/// taken at once then, with the lock held all the while, so that nobody takes it in between. A span without
+/// a clear slot, and one that another has begun to sweep meanwhile, is gone past: it is swept, or will be,
+/// and the next pass over swept spans meets it. It ends with `None` behind the last page.
+#[derive(Clone, Copy)]
+pub struct UnsweptPass {
+    layout: Layout,
+    seat: u32,
+    generation: u64,
+    wanted: SpanClass,
+    stage: UnsweptStage,
+}
+
+impl Model for UnsweptPass {
+    ghost use Rattle.gh_central.specs.UnsweptPass.{Unswept};
+    ghost use Rattle.gh_central.specs.UnsweptSound.{Sound};
+
+    ghost Value = { Unswept };
+
+    ghost view = { λ m. record { layout = m.layout; seat = m.seat; generation = m.generation; wanted = m.wanted; stage = m.stage } };
+
+    ghost invariant = { λ m. Sound (record { layout = m.layout; seat = m.seat; generation = m.generation; wanted = m.wanted; stage = m.stage }) };
+
+    ghost inverse = { λ m. record { layout = m.layout; seat = m.seat; generation = m.generation; wanted = m.wanted; stage = m.stage } };
+}
+
+impl UnsweptPass {
+    /// Looks for a span of the class, from page 0 on. A span is unswept where its number is 2 below this sweep
+    /// generation. The head word of the one that it takes will say that the seat has it cached.
+    pub fn new(layout: &Layout, seat: u32, generation: u64, wanted: SpanClass) -> UnsweptPass
+        requires seat { seat < seats_of layout.now }
+        requires generation { generation < 2 ^ 34 }
+        ensures { result ≡ opening layout.now seat generation wanted }
+    {
+        UnsweptPass {
+            layout: *layout,
+            seat,
+            generation,
+            wanted,
+            stage: UnsweptStage::Look { page: 0 },
+        }
+    }
+
+    /// The head is that of an unswept span of the wanted class.
+    fn is_unswept(&self, head: &SpanHead) -> bool
+        requires { FitsHead head.now }
+        ensures { result ≡ is_unswept self.now head.now }
+    {
+        head.class == SizeClass::Small(self.wanted.class)
+            && head.noscan == self.wanted.noscan
+            && head.number + 2 == self.generation
+    }
+
+    /// The head word of a span that it takes.
+    fn taken_word(&self, head: SpanHead) -> u64
+        requires { FitsHead head }
+        ensures { result ≡ head_word (owned_by (self.now.seat + 1) head) }
+    {
+        PageWord::Head(SpanHead {
+            owner: self.seat + 1,
+            ..head
+        })
+        .pack()
+    }
+
+    /// The step that it asks for.
+    fn ask(&self) -> Ask
+        ensures asks { result ≡ asks self.now }
+        ensures within { InRange self.now.layout (cell_of result) }
+    {
+        match self.stage {
+            UnsweptStage::Look { page } => Ask::Load(Cell::Page(page)),
+            UnsweptStage::Sweep { sweep, .. } => sweep.ask(),
+            UnsweptStage::Take { page, head } => {
+                Ask::Store(Cell::Page(page), self.taken_word(head))
+            }
+            UnsweptStage::Ended { .. } => Ask::Load(Cell::Touch),
+        }
+    }
+
+    /// It looks at this page next, if there is one.
+    fn look_from(&self, page: u32) -> UnsweptStage
+        ensures { result ≡ look_from self.now page }
+    {
+        if page < self.layout.pages {
+            UnsweptStage::Look { page }
+        } else {
+            UnsweptStage::Ended { taken: None }
+        }
+    }
+
+    /// Its stage after a page was found to be this.
+    fn after_page(&self, page: u32, found: PageWord) -> UnsweptStage
+        requires page { page < self.now.layout.pages }
+        requires fits { FitsPage found }
+        ensures { result ≡ after_page self.now page found }
+    {
+        match found {
+            PageWord::Head(head) => {
+                if self.is_unswept(&head) {
+                    UnsweptStage::Sweep {
+                        page,
+                        head,
+                        sweep: Sweep::new(&self.layout, page, head),
+                    }
+                } else {
+                    self.look_from(page + head.pages)
+                }
+            }
+            PageWord::Free | PageWord::Body(_) => self.look_from(page + 1),
+        }
+    }
+
+    /// Its stage after the next step of the sweep found this.
+    fn swept_on(&self, page: u32, head: SpanHead, sweep: Sweep, found: u64) -> UnsweptStage
+        requires page { page < self.now.layout.pages }
+        requires head { FitsSweep head }
+        requires busy { sweeping.is_busy sweep.stage ≡ true }
+        ensures { result ≡ after_sweep self.now page head (sweeping.goes sweep found) (sweeping.gives sweep found) }
+    {
+        let mut sweep = sweep;
+        match sweep.take(found) {
+            None => UnsweptStage::Sweep { page, head, sweep },
+            Some(SweepEnd::Swept(span)) if span.clear => UnsweptStage::Take {
+                page,
+                head: once_swept(head),
+            },
+            // Full, or another's sweep: it is met once. Where no span will do, `Reclaim` sees each swept.
+            Some(_) => self.look_from(page + head.pages),
+        }
+    }
+
+    /// Its stage after its step found this.
+    fn go(&self, found: u64) -> UnsweptStage
+        ensures { result ≡ goes_at self.now self.now.stage found }
+    {
+        match self.stage {
+            UnsweptStage::Look { page } => self.after_page(page, PageWord::unpack(found)),
+            UnsweptStage::Sweep { page, head, sweep } => self.swept_on(page, head, sweep, found),
+            UnsweptStage::Take { page, .. } => UnsweptStage::Ended { taken: Some(page) },
+            UnsweptStage::Ended { taken } => UnsweptStage::Ended { taken },
+        }
+    }
+
+    /// What it has given.
+    fn given(&self) -> Option<Option<u32>>
+        ensures { result ≡ given self.now }
+    {
+        match self.stage {
+            UnsweptStage::Ended { taken } => Some(taken),
+            _ => None,
+        }
+    }
+}
+
+/// The head of the span once it is swept.
+fn once_swept(head: SpanHead) -> SpanHead
+    requires { FitsSweep head }
+    ensures { result ≡ once_swept head }
+{
+    SpanHead {
+        owner: 0,
+        number: head.number + 2,
+        ..head
+    }
+}
+
+impl Machine for UnsweptPass {
+    ghost use Rattle.std.specs.Prelude.{refl};
+    ghost use Rattle.gh_base.specs.Given.{is_over};
+    ghost use Rattle.gh_central.specs.UnsweptPass.{listing};
+
+    type Out = Option<u32>;
+
+    ghost layout = { listing.layout };
+
+    ghost busy = { listing.busy };
+
+    ghost asks = { listing.asks };
+
+    ghost goes = { listing.goes };
+
+    ghost gives = { listing.gives };
+
+    fn next(&self) -> Req {
+        self.layout.request(self.ask())
+    }
+
+    fn take(&mut self, found: u64) -> Option<Option<u32>> {
+        packed_words_are_read_back();
+        self.stage = self.go(found);
+        self.given()
+    }
+
+    ghost ends = { λ m found busy. is_over (listing.gives m found) };
+
+    ghost stays = { λ _ _. refl };
+}

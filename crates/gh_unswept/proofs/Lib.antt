@@ -1,0 +1,2 @@
+mod EachSwept
+mod FirstUnswept

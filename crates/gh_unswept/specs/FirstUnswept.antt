@@ -1,0 +1,78 @@
+-- What the pass for an unswept span was told, and what its answer says of that.
+use Rattle.std.specs.Prelude.{◌≡◌, ℕ, suc, ◌+◌, ◌<◌, ◌≤◌, ◌⊎◌, true, false, Some, None}
+use Rattle.gh_base.specs.declared.cell.Cell.TheVariants.{Page}
+use Rattle.gh_base.specs.declared.cell.Ask.{Ask}
+use Rattle.gh_base.specs.declared.cell.Ask.TheVariants.{Load, Store}
+use Rattle.gh_base.specs.declared.layout.Layout.{Layout}
+use Rattle.gh_base.specs.declared.pack.PageWord.TheVariants.{Head}
+use Rattle.gh_base.specs.declared.pack.SpanHead.{SpanHead}
+use Rattle.gh_base.specs.Packing.{head_word, page_of}
+use Rattle.gh_base.specs.Routines.{EndsWith, GoesOn, told}
+use Rattle.gh_class.specs.declared.class.SizeClass.TheVariants.{Small}
+use Rattle.gh_class.specs.declared.class.SpanClass.{SpanClass}
+use Rattle.gh_central.specs.SweptPass.{owned_by, pages_gone}
+use Rattle.gh_central.specs.UnsweptPass.{asks, listing, opening, sweep_in, Unswept}
+use Rattle.gh_sweep.specs.declared.sweep.SweepEnd.{SweepEnd}
+use Rattle.gh_sweep.specs.declared.sweep.SweepEnd.TheVariants.{Lost, Swept}
+use Rattle.gh_sweep.specs.declared.sweep.SweptSpan.{SweptSpan}
+use Rattle.gh_sweep.specs.Listing.{gives, once_swept, Sweeping}
+
+-- the head of a span of the wanted span class that is not swept, and that nobody sweeps
+pub record IsWanted (m : Unswept) (h : SpanHead) : Type 0 where
+  pub class : h.class ≡ Small m.wanted.class
+  pub noscan : h.noscan ≡ m.wanted.noscan
+  pub unswept : h.number + 2 ≡ m.generation
+
+-- by its first n steps
+module _ (m : Unswept) (found : ℕ → ℕ) (n : ℕ) where
+  -- one of them is this, and was told this word
+  abbrev pub IsTold : Ask → ℕ → Type 0
+  IsTold ask word = (i : ℕ) × (i < n) × (asks (told listing m found i) ≡ ask) × (found i ≡ word)
+
+  -- the page was told to be this head
+  abbrev pub IsHead : ℕ → SpanHead → Type 0
+  IsHead page h = (word : ℕ) × IsTold (Load (Page page)) word × (page_of word ≡ Head h)
+
+  -- the page was told, or it lies in the span of a head that was told
+  abbrev pub IsMet : ℕ → Type 0
+  IsMet page = (first word : ℕ) × IsTold (Load (Page first)) word × (first ≤ page) × (page < first + pages_gone (page_of word))
+
+  -- with one of them its own sweep of the span of this head has ended so
+  pub record EndsSweep (page : ℕ) (h : SpanHead) (end : SweepEnd) : Type 0 where
+    pub by : ℕ
+    pub before : by < n
+    pub sw : Sweeping
+    pub runs : sweep_in (told listing m found by) ≡ Some sw
+    pub page_is : sw.page ≡ page
+    pub head_is : sw.head ≡ h
+    pub ends : gives sw (found by) ≡ Some end
+
+  -- it has swept the span itself, and by what it counted a slot is clear then, or none is
+  abbrev pub HasClear : ℕ → SpanHead → Type 0
+  HasClear page h = (span : SweptSpan) × EndsSweep page h (Swept span) × (span.clear ≡ true)
+
+  abbrev pub HasNoneClear : ℕ → SpanHead → Type 0
+  HasNoneClear page h = (span : SweptSpan) × EndsSweep page h (Swept span) × (span.clear ≡ false)
+
+  -- The pages before this one were met. Each wanted span that was told of there it has swept, and no slot is clear in it; or another was first to sweep it.
+  pub record Passes (end : ℕ) : Type 0 where
+    pub met : (page : ℕ) → page < end → IsMet page
+    pub none : (page : ℕ) → page < end → (h : SpanHead) → IsHead page h → IsWanted m h → HasNoneClear page h ⊎ EndsSweep page h Lost
+
+  -- at this page stands a wanted span that has a clear slot once it is swept, and it is the first; its head word gets the seat as owner
+  pub record Takes (page : ℕ) : Type 0 where
+    pub head : SpanHead
+    pub stands : IsHead page head
+    pub wanted : IsWanted m head
+    pub clear : HasClear page head
+    pub first : Passes page
+    pub last : (other word : ℕ) → IsTold (Load (Page other)) word → other ≤ page
+    pub store : asks (told listing m found n) ≡ Store (Page page) (head_word (owned_by (m.seat + 1) (once_swept head)))
+
+-- what it gives if step n is its last
+pub record TakesTheFirst (m : Unswept) (found : ℕ → ℕ) (n : ℕ) : Type 0 where
+  pub some : (page : ℕ) → GoesOn listing m found n → EndsWith listing m found n (Some page) → Takes m found n page
+  pub none : GoesOn listing m found n → EndsWith listing m found n None → Passes m found (suc n) m.layout.pages
+
+abbrev pub TheUnsweptPassTakesTheFirst : Type 0
+TheUnsweptPassTakesTheFirst = (l : Layout) (seat generation : ℕ) (wanted : SpanClass) (found : ℕ → ℕ) (n : ℕ) → TakesTheFirst (opening l seat generation wanted) found n

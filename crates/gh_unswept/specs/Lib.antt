@@ -1,0 +1,2 @@
+pub mod FirstUnswept
+pub mod EachSwept
