@@ -182,8 +182,8 @@ fn stop_world(told: &mut Told, phase: u64, ack: u64) -> Result<(), AllocError> {
     add(told, &steps)
 }
 
-/// Adds the steps from the end of marking up to the phase word behind cycle `k`. They find 5 words of credit,
-/// 2 objects marked and 3 freed, and 96 bytes.
+/// Adds the steps from the end of marking, behind which the world runs with this phase word, up to the word of
+/// swept cycles. They find 5 words of credit, 2 objects marked and 3 freed, and 96 bytes.
 fn end_cycle(told: &mut Told, k: u64, phase: u64) -> Result<(), AllocError>
     requires { k < 100 }
 {
@@ -191,6 +191,7 @@ fn end_cycle(told: &mut Told, k: u64, phase: u64) -> Result<(), AllocError>
         (Req::Load(BANK), 5),
         (Req::Store(BANK, 0), 5),
         (Req::Store(GEN, 2 * k + 2), 0),
+        (Req::Store(PHASE, phase), 0),
     ];
     add(told, &marking)?;
     load_zeros(told, PAGE_ROW, 16)?;
@@ -199,7 +200,6 @@ fn end_cycle(told: &mut Told, k: u64, phase: u64) -> Result<(), AllocError>
         (Req::Load(LIVE), 96),
         (Req::Store(TRIGGER, u64::MAX), 0),
         (Req::Store(SWEPT, k), 0),
-        (Req::Store(PHASE, phase), 0),
     ];
     add(told, &counts)
 }
@@ -240,7 +240,7 @@ fn first_cycle(told: &mut Told) -> Result<(), AllocError> {
     end_cycle(told, 1, 12)
 }
 
-/// Adds the last cycle, behind the first: nobody asks for it.
+/// Adds the last cycle, behind the first: nobody asks for it. The last phase word follows it.
 fn last_cycle(told: &mut Told) -> Result<(), AllocError> {
     told.push((Req::Load(ACK_ROW), GONE))?;
     stop_world(told, 18, GONE)?;
@@ -248,7 +248,8 @@ fn last_cycle(told: &mut Told) -> Result<(), AllocError> {
     look_at_all(told, GONE)?;
     stop_world(told, 22, GONE)?;
     look_at_all(told, GONE)?;
-    end_cycle(told, 2, 23)
+    end_cycle(told, 2, 20)?;
+    add(told, &[(Req::Store(PHASE, 23), 20)])
 }
 
 #[test]
@@ -266,6 +267,6 @@ fn cycles_are_run(rt: HostRuntime) -> Result<(), Fail> {
     for cycle in coord.cycles() {
         assert_eq!(rt; (cycle.k, cycle.marked, cycle.freed), (1, 2, 3));
     }
-    assert_eq!(rt; (coord.live(), coord.lapsed(), coord.marks()), (96, 10, 10));
+    assert_eq!(rt; (coord.live(), coord.lapsed(), coord.marks()), (96, 10, 11));
     Ok(())
 }

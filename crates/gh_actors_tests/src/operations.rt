@@ -40,8 +40,24 @@ fn node_type(alloc: Global) -> Result<Shapes, AllocError>
 }
 
 /// The steps of the first `new` of `type node pn` in a new arena, while marking is on.
-const MADE_MARKED: [&str; 29] = [
+const MADE_MARKED: [&str; 45] = [
     "swap lock 0 1: 0",
+    "load page 0: 0",
+    "load page 1: 0",
+    "load page 2: 0",
+    "load page 3: 0",
+    "load page 4: 0",
+    "load page 5: 0",
+    "load page 6: 0",
+    "load page 7: 0",
+    "load page 8: 0",
+    "load page 9: 0",
+    "load page 10: 0",
+    "load page 11: 0",
+    "load page 12: 0",
+    "load page 13: 0",
+    "load page 14: 0",
+    "load page 15: 0",
     "load page 0: 0",
     "load page 1: 0",
     "load page 2: 0",
@@ -72,14 +88,16 @@ const MADE_MARKED: [&str; 29] = [
     "add heap 16: 0",
 ];
 
-/// Words in which one span, of 16 pages that are never swept, fills the arena, cycle 1 is swept, and this is the phase.
+/// Words in which the swept span of one large object fills the arena, cycle 1 is swept, and this is the phase.
 fn full_words(alloc: Global, layout: &Layout, phase: u64) -> Result<Vec<u64>, AllocError>
     requires { layout.now.pages ≡ 16 }
 {
     let mut words = vec![in alloc; 0u64; layout.words() as usize]?;
     for page in 0..16u32 {
-        words[layout.word(Cell::Page(page)) as usize] = 8289;
+        words[layout.word(Cell::Page(page)) as usize] = 126 + 512 * u64::from(page);
     }
+    words[layout.word(Cell::Page(0)) as usize] = 2_147_491_965;
+    words[layout.word(Cell::Alloc(0)) as usize] = 1;
     words[layout.word(Cell::Swept) as usize] = 1;
     words[layout.word(Cell::Phase) as usize] = phase;
     Ok(words)
@@ -93,13 +111,13 @@ fn a_full_heap_is_told_full(rt: HostRuntime) -> Result<(), Fail> {
     let mut mutator = Mutator::new(&layout, 0, &numbers);
     mutator.begin(Op::New { g: 0, d: 1, t: 0 });
     let steps = run_alone(rt.alloc(), &mut mutator, &layout, &mut full, 999)?;
-    // a search: the lock; the pass sees the span; 16 pages are looked at; no empty span is freed; the pass and the
-    // pages once more; the lock is freed. Then the wait: a cycle is asked for, a poll, the last swept cycle. Then
-    // a search again.
+    // a search: the lock; the passes over swept and over unswept spans see the span; 16 pages are looked at; an object
+    // stands in the span; the pass over swept spans and the pages once more; the lock is freed. Then the wait: a cycle is
+    // asked for, a poll, the last swept cycle. Then a search again.
     let told = (steps.out, steps.lines.len(), mutator.marks());
-    assert_eq!(rt; told, (Some(Answer::Full), 77, 1));
-    let wait = steps.lines[37].as_str() == "or want 1: 0"
-        && steps.lines[39].as_str() == "load swept: 1";
+    assert_eq!(rt; told, (Some(Answer::Full), 81, 1));
+    let wait = steps.lines[39].as_str() == "or want 1: 0"
+        && steps.lines[41].as_str() == "load swept: 1";
     assert!(rt; wait);
     Ok(())
 }
@@ -112,8 +130,8 @@ fn an_object_is_made_behind_a_stop(rt: HostRuntime) -> Result<(), Fail> {
     let mut stopped = full_words(rt.alloc(), &layout, 6)?;
     let mut mutator = Mutator::new(&layout, 0, &shapes);
     mutator.begin(Op::New { g: 0, d: 1, t: 0 });
-    let steps = run_alone(rt.alloc(), &mut mutator, &layout, &mut stopped, 40)?;
-    let stops = steps.lines.len() == 40 && steps.lines[39].as_str() == "store ack 0 1: 0";
+    let steps = run_alone(rt.alloc(), &mut mutator, &layout, &mut stopped, 42)?;
+    let stops = steps.lines.len() == 42 && steps.lines[41].as_str() == "store ack 0 1: 0";
     assert!(rt; steps.out.is_none() && stops && mutator.is_busy());
     // behind it the second cycle is marked, and all pages are free
     let mut free = vec![in rt.alloc(); 0u64; layout.words() as usize]?;
@@ -125,7 +143,7 @@ fn an_object_is_made_behind_a_stop(rt: HostRuntime) -> Result<(), Fail> {
     // the phase, the generation, the cycle, the stack's scan and the last swept cycle; then as with marking off, but
     // for the mark
     let told = (steps.out, steps.lines.len());
-    assert_eq!(rt; told, (Some(Answer::Ref(Name { g: 0, k: 0 })), 34));
+    assert_eq!(rt; told, (Some(Answer::Ref(Name { g: 0, k: 0 })), 50));
     for (line, stored) in steps.lines.iter().skip(5).zip(MADE_MARKED) {
         assert_eq!(rt; line.as_str(), stored);
     }

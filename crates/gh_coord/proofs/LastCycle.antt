@@ -3,6 +3,7 @@ use Rattle.std.proofs.Common.{◌≡◌, ◌≢◌, ℕ, ◌+◌, ◌<◌, inl, 
 use Rattle.gh_base.specs.declared.cell.Cell.TheVariants as cell
 use Rattle.gh_phase.specs.declared.view.RunPhase.{RunPhase}
 use Rattle.gh_phase.specs.declared.view.RunPhase.TheVariants as run
+use Rattle.gh_coord.specs.declared.close.CloseStage.TheVariants as close_stage
 use Rattle.gh_coord.specs.declared.open.OpenStage.TheVariants as open_stage
 use Rattle.gh_coord.specs.declared.stop.StopStage.TheVariants as stop_stage
 use Rattle.gh_coord.specs.declared.tell.TellStage.TheVariants as tell_stage
@@ -13,7 +14,7 @@ use Rattle.gh_coord.specs.Stopping as stop
 use Rattle.gh_coord.specs.SweepingAll as all
 use Rattle.gh_coord.specs.Telling as tell
 use Rattle.gh_coord.specs.Watching as watch
-use Rattle.gh_coord.proofs.Vocabulary.{after_ack, after_check, after_close, after_count, after_open, after_stop, after_stop_again, after_sweep, after_tell, after_watch, at_stage, by_last, by_out, by_want, by_watched, Check, Close, Coordinating, CoordStage, Count, counted, Done, FindsGone, goes, goes_at, GONE, gone_to, is_busy, IsFoundGone, last_of, Load, LoadAck, LoadWant, MarkOn, Marks, nat_tests, Open, open_post, OpenStage, Post, post_at, SoundAt, Stop, stop_post, StopAgain, Stopped, stops_world, StopStage, Sweep, Tell, tell_post, TellStage, told_phase, Watch}
+use Rattle.gh_coord.proofs.Vocabulary.{after_ack, after_check, after_close, after_count, after_open, after_stop, after_stop_again, after_sweep, after_tell, after_watch, at_stage, by_last, by_out, by_want, by_watched, Check, Close, close_post, CloseStage, Coordinating, CoordStage, Count, counted, Done, FindsGone, goes, goes_at, GONE, gone_to, is_busy, IsFoundGone, last_of, Load, LoadAck, LoadWant, MarkOn, Marks, nat_tests, Open, open_post, OpenStage, Post, post_at, SoundAt, Stop, stop_post, StopAgain, Stopped, stops_world, StopStage, Sweep, Tell, tell_post, TellStage, told_phase, Watch}
 use Rattle.gh_coord.proofs.Stepping.{same_ask}
 
 -- a step that finds no processor gone, and leaves whether this is the last cycle
@@ -67,6 +68,10 @@ open_goes_on : (stage : OpenStage) → last_of (open_post stage) ≡ run.Finishe
 open_goes_on open_stage.ClearWant e = cc
 open_goes_on _ e = cc
 
+close_goes_on : (stage : CloseStage) → last_of (close_post stage) ≡ run.Finished → ⊥
+close_goes_on close_stage.Ended e = cc
+close_goes_on _ e = cc
+
 told_last : (last : Bool) → told_phase last ≡ run.Finished → last ≡ true
 told_last true e = refl
 told_last false e = absurd cc
@@ -79,7 +84,8 @@ pub finishes_at : (s : Coordinating) (stage : CoordStage) → SoundAt s stage �
 finishes_at s (Stop st) f e = absurd (let no : run.Off ≡ run.Finished = sym (stop_goes_on run.Off st.stage) ∙ e in cc)
 finishes_at s (Open o) f e = absurd (open_goes_on o.stage e)
 finishes_at s (StopAgain st) f e = absurd (let no : run.Mark ≡ run.Finished = sym (stop_goes_on run.Mark st.stage) ∙ e in cc)
-finishes_at s (Tell t) f e = sym (ap (λ (x : tell.Telling). x.is_last) f) ∙ tell_finishes t.is_last t.stage e
+finishes_at s (Close c) f e = absurd (close_goes_on c.stage e)
+finishes_at s (Tell t) f e = sym (ap (λ (x : tell.Telling). x.is_last) f.0) ∙ tell_finishes t.is_last t.stage e
 finishes_at s Done f e = f
 finishes_at s _ f e = absurd cc
 
@@ -98,7 +104,11 @@ open_so _ = λ e. cc
 
 tell_so : (last : Bool) (stage : TellStage) → GoesOn (tell_post last stage)
 tell_so last tell_stage.Ended = tt
-tell_so last _ = λ e. cc
+tell_so last _ = tt
+
+close_so : (stage : CloseStage) → GoesOn (close_post stage)
+close_so close_stage.Ended = tt
+close_so _ = λ e. cc
 
 post_so : (stage : CoordStage) → GoesOn (post_at stage)
 post_so (LoadAck i) = tt
@@ -107,6 +117,9 @@ post_so (Stop st) = (stop_so st.stage).0
 post_so (Open o) = open_so o.stage
 post_so (Watch w) = tt
 post_so (StopAgain st) = (stop_so st.stage).1
+post_so (Close c) = close_so c.stage
+post_so (Sweep w) = tt
+post_so (Count c) = tt
 post_so (Tell t) = tell_so t.is_last t.stage
 post_so Done = tt
 post_so _ = λ e. cc
@@ -133,9 +146,13 @@ told_mark : (last : Bool) → told_phase last ≡ run.Mark → ⊥
 told_mark true e = cc
 told_mark false e = cc
 
-tell_mark : (last : Bool) (stage : TellStage) → Runs (tell_post last stage) → last_of (tell_post last stage) ≡ run.Mark → ⊥
-tell_mark last tell_stage.Ended r e = told_mark last e
-tell_mark last _ r e = r run.Mark refl
+tell_mark : (last : Bool) (stage : TellStage) → last_of (tell_post last stage) ≡ run.Mark → ⊥
+tell_mark last tell_stage.Ended e = told_mark last e
+tell_mark last _ e = cc
+
+close_mark : (c : close.Closing) (stage : CloseStage) → Runs (close_post stage) → last_of (close_post stage) ≡ run.Mark ↔ (close.is_marking stage ≡ true)
+close_mark c close_stage.Ended r = (λ x. absurd (cc), λ y. absurd (cc))
+close_mark c _ r = absurd (r run.Mark refl)
 
 pub marks_at : (s : Coordinating) (stage : CoordStage) → SoundAt s stage → Runs (post_at stage) → last_of (post_at stage) ≡ run.Mark ↔ Marks stage
 marks_at s (LoadAck i) f r = not_mark run.Off (λ e. cc) (LoadAck i) refl (λ y. y)
@@ -144,6 +161,9 @@ marks_at s (Stop st) f r = not_mark run.Off (λ e. cc) (Stop st) (stop_goes_on r
 marks_at s (Open o) f r = absurd (open_mark o.stage f.1 r)
 marks_at s (Watch w) f r = (λ x. tt, λ y. refl)
 marks_at s (StopAgain st) f r = stop_mark st st.stage r
-marks_at s (Tell t) f r = (λ x. absurd (tell_mark t.is_last t.stage r x), λ y. absurd y)
+marks_at s (Close c) f r = close_mark c c.stage r
+marks_at s (Sweep w) f r = not_mark run.Off (λ e. cc) (Sweep w) refl (λ y. y)
+marks_at s (Count c) f r = not_mark run.Off (λ e. cc) (Count c) refl (λ y. y)
+marks_at s (Tell t) f r = (λ x. absurd (tell_mark t.is_last t.stage x), λ y. absurd y)
 marks_at s Done f r = not_mark run.Finished (λ e. cc) Done refl (λ y. y)
 marks_at s _ f r = absurd (r run.Mark refl)

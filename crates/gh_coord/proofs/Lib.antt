@@ -5,3 +5,5 @@ pub mod MarkingEnds
 pub mod QuietParts
 pub mod Shaking
 pub mod Stepping
+pub mod Sweeping
+pub mod SweptPages

@@ -91,6 +91,7 @@ module _ (l : Layout) (seat gogc minheap room : ℕ) (found : ℕ → ℕ) where
     knows : CheckKnows stops begun n x.stage
 
   abbrev CloseKnows : (stops begun n : ℕ) → CloseStage → Type 0
+  CloseKnows stops begun n c.StorePhase = Unit {0}
   CloseKnows stops begun n c.Ended = ⊥
   CloseKnows stops begun n _ = Looked stops begun n (watch.words_of l)
 
@@ -174,6 +175,7 @@ module _ (l : Layout) (seat gogc minheap room : ℕ) (found : ℕ → ℕ) where
     -- the end of marking
     close_step : (cl : close.Closing) (stage : CloseStage) (v : ℕ) → cl.stage ≡ stage → asks (now n) ≡ close.asks_at cl stage → CloseKnows s.stops s.begun n stage → Has (suc n) (after_close (at_stage s (Close (close.goes_at cl stage v))) (close.given (close.goes_at cl stage v)))
     close_step cl c.StoreGen v e asked k = record { layout_is = here; knows = tt }
+    close_step cl c.StorePhase v e asked k = record { layout_is = here; knows = tt }
     close_step cl c.Ended v e asked k = absurd k
     close_step cl _ v e asked k = record { layout_is = here; knows = looks_on s.stops s.begun n (watch.words_of l) k (subst LeavesMarks (sym asked) tt) }
 
@@ -314,10 +316,11 @@ module _ (l : Layout) (seat gogc minheap room : ℕ) (found : ℕ → ℕ) where
 
   -- where it stores the generation
   close_at : (cl : close.Closing) (stage : CloseStage) (stops cycle n g : ℕ) → CloseKnows stops cycle n stage → close.asks_at cl stage ≡ Store cell.Gen g → Looked stops cycle n (watch.words_of l)
+  close_at cl c.StorePhase stops cycle n g k e = absurd (cc)
   close_at cl c.Ended stops cycle n g k e = absurd k
   close_at cl _ stops cycle n g k e = k
 
-never : (ask : Ask) (g : ℕ) → IsQuiet ask → ask ≡ Store cell.Gen g → ⊥
+pub never : (ask : Ask) (g : ℕ) → IsQuiet ask → ask ≡ Store cell.Gen g → ⊥
 never ask g q e = subst IsQuiet e q
 
 open_never : (op : opens.CycleOpening) (stage : OpenStage) (g : ℕ) → opens.asks_at op stage ≡ Store cell.Gen g → ⊥
@@ -328,7 +331,7 @@ stop_never : (st : stop.Stopping) (stage : StopStage) (g : ℕ) → stop.asks_at
 stop_never st p.StorePhase g e = cc
 stop_never st _ g e = cc
 
-tell_never : (te : tell.Telling) (stage : TellStage) (g : ℕ) → tell.asks_at te stage ≡ Store cell.Gen g → ⊥
+pub tell_never : (te : tell.Telling) (stage : TellStage) (g : ℕ) → tell.asks_at te stage ≡ Store cell.Gen g → ⊥
 tell_never te t.StoreTrigger g e = cc
 tell_never te _ g e = cc
 

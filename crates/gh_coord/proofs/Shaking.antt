@@ -1,9 +1,8 @@
 -- Each step of the coordinator is one of the handshake of a stop: by its stages.
-use Rattle.std.proofs.Common.{◌≡◌, ℕ, ◌+◌, ◌^◌, ◌<◌, inl, inr, Bool, true, false, cond, ltb, ◌==◌, ◌||◌, refl, sym, ap, subst, arith, Option, Some, None}
+use Rattle.std.proofs.Common.{◌≡◌, ℕ, ◌+◌, ◌^◌, ◌<◌, inl, inr, Bool, true, false, cond, ltb, ◌==◌, ◌||◌, refl, sym, ap, subst, ◌∙◌, arith, Option, Some, None}
 use Rattle.gh_base.specs.declared.cell.Cell.TheVariants as cell
-use Rattle.gh_base.specs.declared.pack.Phase.TheVariants as kind
 use Rattle.gh_phase.specs.declared.view.RunPhase.TheVariants as run
-use Rattle.gh_phase.specs.Handshake.{goes, next_stop}
+use Rattle.gh_phase.specs.Handshake.{finishes, goes, next_stop}
 use Rattle.gh_coord.specs.declared.close.CloseStage.TheVariants as close_stage
 use Rattle.gh_coord.specs.declared.open.OpenStage.TheVariants as open_stage
 use Rattle.gh_coord.specs.declared.stop.StopStage.TheVariants as stop_stage
@@ -12,10 +11,11 @@ use Rattle.gh_coord.specs.Closing as close
 use Rattle.gh_coord.specs.Counting as count
 use Rattle.gh_coord.specs.Opening as opens_by
 use Rattle.gh_coord.specs.Stopping as stop
+use Rattle.gh_coord.specs.Stays.{sweep_all_number, sweep_all_stays}
 use Rattle.gh_coord.specs.SweepingAll as all
 use Rattle.gh_coord.specs.Telling as tell
 use Rattle.gh_coord.specs.Watching as watch
-use Rattle.gh_coord.proofs.Vocabulary.{acks_of, after_ack, after_check, after_count, after_stop, after_stop_again, after_sweep, after_want, after_watch, All, Ask, asks_at, at_stage, begins, Calm, Check, Close, CloseStage, Coordinating, CoordStage, Count, Counted, counted, cycle_before, Done, ends, FitsNumbers, generation_before, goes_at, GONE, is_acknowledged, is_busy, IsAcked, IsQuiet, Layout, lead_at, lead_of, LeadGoes, LeadsHandshake, Load, LoadAck, LoadWant, Looks, MarkOn, nat_tests, next_cycle, next_generation, Open, OpenStage, phase_word, quiet, sees, Sound, SoundAt, Stop, stop_before, stop_word, StopAgain, Stopped, stops, stops_world, StopStage, Store, Sweep, Tell, TellStage, Watch, Watched}
+use Rattle.gh_coord.proofs.Vocabulary.{acks_of, after_ack, after_check, after_count, after_stop, after_stop_again, after_sweep, after_want, after_watch, All, Ask, asks_at, at_stage, begins, Calm, Check, Close, CloseStage, Coordinating, CoordStage, Count, Counted, counted, cycle_before, Done, ends, FitsNumbers, generation_before, goes_at, GONE, is_acknowledged, is_busy, IsAcked, IsQuiet, Layout, lead_at, lead_of, LeadGoes, LeadsHandshake, Load, LoadAck, LoadWant, Looks, MarkOn, nat_tests, next_cycle, next_generation, Open, OpenStage, quiet, sees, Sound, SoundAt, Stop, stop_before, stop_word, StopAgain, Stopped, stops, stops_world, StopStage, Store, Sweep, Tell, TellStage, Watch, Watched}
 use Rattle.gh_coord.proofs.LastCycle.{finds_gone, finishes_at, marks_at, stops_go_on}
 use Rattle.gh_coord.proofs.QuietParts.{count_quiet, sweep_quiet, watch_quiet}
 use Rattle.gh_coord.proofs.Stepping.{same_ask}
@@ -134,35 +134,37 @@ module _ (found : ℕ) (s : Coordinating) (f : FitsNumbers s.stops s.begun s.gen
 
   -- marking is ended
   abbrev close_at : Layout → (lapsed : ℕ) → CloseStage → close.Closing
-  close_at l lapsed stage = record { layout = l; lapsed = lapsed; generation = s.generation; stage = stage }
+  close_at l lapsed stage = record { layout = l; lapsed = lapsed; generation = s.generation; stops = s.stops; stage = stage }
 
   closing : (l : Layout) (lapsed : ℕ) (stage : CloseStage) → close.is_busy stage ≡ true → Goes found s (Close (close_at l lapsed stage)) (goes_at s (Close (close_at l lapsed stage)) found)
   closing l lapsed close_stage.StoreGen busy =
       let is : next_generation (generation_before s.generation) ≡ s.generation = generation_ahead s.generation f.generation_fits in
-      ((f, tt), ends run.Mark refl (ap (λ (n : ℕ). Store cell.Gen n) (sym is)) (ap (λ (n : ℕ). record { stops = s.stops; begun = s.begun; generation = n; post = Stopped run.Mark }) (sym is)))
+      ((f, refl), ends run.Mark refl (ap (λ (n : ℕ). Store cell.Gen n) (sym is)) (ap (λ (n : ℕ). record { stops = s.stops; begun = s.begun; generation = n; post = Stopped run.Mark }) (sym is)))
+  closing l lapsed close_stage.StorePhase busy = ((f, (refl, refl)), goes run.Mark run.Off (λ e. cc) refl refl refl)
   closing l lapsed close_stage.Ended busy = absurd cc
   closing l lapsed _ busy = ((f, refl), quiet tt refl)
 
   -- the sweep, and what it has counted
-  sweeping : (w v : all.SweepingAll) (out : Option (Unit {0})) → IsQuiet (all.asks w) → Goes found s (Sweep w) (after_sweep (at_stage s (Sweep v)) out)
-  sweeping w v None q = ((f, tt), quiet q refl)
-  sweeping w v (Some u) q = ((f, tt), quiet q refl)
+  sweeping : (w v : all.SweepingAll) (out : Option (Unit {0})) → (v.layout ≡ s.layout) × (v.generation ≡ s.generation) → IsQuiet (all.asks w) → Goes found s (Sweep w) (after_sweep (at_stage s (Sweep v)) out)
+  sweeping w v None e q = ((f, e), quiet q refl)
+  sweeping w v (Some u) e q = ((f, tt), quiet q refl)
 
   counting : (w v : count.Counting) (out : Option Counted) → IsQuiet (count.asks w) → Goes found s (Count w) (after_count (at_stage s (Count v)) out)
   counting w v None q = ((f, tt), quiet q refl)
-  counting w v (Some read) q = ((f, refl), quiet q refl)
+  counting w v (Some read) q = ((f, (refl, λ e. absurd (cc))), quiet q refl)
 
   -- the cycle is told
   abbrev tell_at : Layout → (trigger cycle : ℕ) → TellStage → tell.Telling
   tell_at l trigger cycle stage = record { layout = l; trigger = trigger; cycle = cycle; stops = s.stops; is_last = s.is_last; stage = stage }
 
-  tells : (l : Layout) (trigger cycle : ℕ) (stage : TellStage) → tell.is_busy stage ≡ true → Goes found s (Tell (tell_at l trigger cycle stage)) (goes_at s (Tell (tell_at l trigger cycle stage)) found)
-  tells l trigger cycle tell_stage.StorePhase busy = go s.is_last refl where
-    go : (last : Bool) → s.is_last ≡ last → Sound (at_stage s (cond last Done (LoadAck 0))) × LeadGoes (acks_of s.layout) found (record { stops = s.stops; begun = s.begun; generation = s.generation; post = Stopped run.Mark }) (Store cell.Phase (phase_word (record { stops = s.stops; phase = cond last kind.Finished kind.Off }))) (lead_of (at_stage s (cond last Done (LoadAck 0))))
-    go true e = ((f, e), goes run.Mark run.Finished (λ e. cc) refl refl refl)
-    go false e = ((f, tt), goes run.Mark run.Off (λ e. cc) refl refl refl)
-  tells l trigger cycle tell_stage.Ended busy = absurd cc
-  tells l trigger cycle _ busy = ((f, refl), quiet tt refl)
+  tells : (l : Layout) (trigger cycle : ℕ) (stage : TellStage) → (tell.stores_phase stage ≡ true → s.is_last ≡ true) → tell.is_busy stage ≡ true → Goes found s (Tell (tell_at l trigger cycle stage)) (goes_at s (Tell (tell_at l trigger cycle stage)) found)
+  tells l trigger cycle tell_stage.StoreTrigger last busy = ((f, (refl, λ e. absurd (cc))), quiet tt refl)
+  tells l trigger cycle tell_stage.StoreSwept last busy = go s.is_last refl where
+    go : (last : Bool) → s.is_last ≡ last → Goes found s (Tell (tell_at l trigger cycle tell_stage.StoreSwept)) (goes_at s (Tell (tell_at l trigger cycle tell_stage.StoreSwept)) found)
+    go true e = rw e ((f, (refl, λ x. refl)), quiet tt refl)
+    go false e = rw e ((f, tt), quiet tt refl)
+  tells l trigger cycle tell_stage.StorePhase last busy = rw (last refl) ((f, refl), finishes refl refl refl)
+  tells l trigger cycle tell_stage.Ended last busy = absurd cc
 
 goes_so : (found : ℕ) (s : Coordinating) (stage : CoordStage) → FitsNumbers s.stops s.begun s.generation → SoundAt s stage → is_busy stage ≡ true → Goes found s stage (goes_at s stage found)
 goes_so found s (LoadAck i) f e busy = acks found s f i
@@ -174,9 +176,9 @@ goes_so found s (StopAgain st) f e busy = subst (λ (x : stop.Stopping). Goes fo
 goes_so found s (Check w) f e busy = checking found s f w (watch.goes w found) (watch.gives w found) (watch_quiet w w.stage)
 goes_so found s MarkOn f e busy = ((f, tt), goes run.Mark run.Mark (λ x. cc) refl refl refl)
 goes_so found s (Close c) f e busy = subst (λ (x : close.Closing). Goes found s (Close x) (goes_at s (Close x) found)) (sym e) (closing found s f c.layout c.lapsed c.stage busy)
-goes_so found s (Sweep w) f e busy = sweeping found s f w (all.goes w found) (all.gives w found) (sweep_quiet w w.stage)
+goes_so found s (Sweep w) f e busy = sweeping found s f w (all.goes w found) (all.gives w found) (sweep_all_stays w found ∙ e.0, sweep_all_number w found ∙ e.1) (sweep_quiet w w.stage)
 goes_so found s (Count c) f e busy = counting found s f c (count.goes c found) (count.gives c found) (count_quiet c.stage)
-goes_so found s (Tell t) f e busy = subst (λ (x : tell.Telling). Goes found s (Tell x) (goes_at s (Tell x) found)) (sym e) (tells found s f t.layout t.trigger t.cycle t.stage busy)
+goes_so found s (Tell t) f e busy = subst (λ (x : tell.Telling). Goes found s (Tell x) (goes_at s (Tell x) found)) (sym e.0) (tells found s f t.layout t.trigger t.cycle t.stage e.1 busy)
 goes_so found s Done f e busy = absurd cc
 
 -- counting the steps that store the phase word leaves the place

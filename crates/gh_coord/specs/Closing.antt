@@ -4,34 +4,44 @@ use Rattle.gh_base.specs.declared.cell.Cell.TheVariants as cell
 use Rattle.gh_base.specs.declared.cell.Ask.{Ask}
 use Rattle.gh_base.specs.declared.cell.Ask.TheVariants.{Load, Store}
 use Rattle.gh_base.specs.declared.layout.Layout.{Layout}
+use Rattle.gh_base.specs.declared.pack.Phase.TheVariants.{Off}
+use Rattle.gh_base.specs.declared.pack.PhaseWord.{PhaseWord}
+use Rattle.gh_base.specs.Packing.{phase_word}
 use Rattle.gh_base.specs.Routines.{Listing}
 use Rattle.gh_coord.specs.declared.close.CloseStage.{CloseStage}
-use Rattle.gh_coord.specs.declared.close.CloseStage.TheVariants.{LoadBank, ClearBank, StoreGen, Ended}
+use Rattle.gh_coord.specs.declared.close.CloseStage.TheVariants.{LoadBank, ClearBank, StoreGen, StorePhase, Ended}
 
--- the credit that has lapsed by now, the sweep generation that is to be stored, and the stage
+-- the credit that has lapsed by now, the sweep generation that is to be stored, the number of stops, and the stage
 pub record Closing : Type 0 where
   pub layout : Layout
   pub lapsed : ℕ
   pub generation : ℕ
+  pub stops : ℕ
   pub stage : CloseStage
 
-abbrev pub opening : Layout → (lapsed generation : ℕ) → Closing
-opening l lapsed generation = record { layout = l; lapsed = lapsed; generation = generation; stage = LoadBank }
+abbrev pub opening : Layout → (lapsed generation stops : ℕ) → Closing
+opening l lapsed generation stops = record { layout = l; lapsed = lapsed; generation = generation; stops = stops; stage = LoadBank }
 
 abbrev pub at_stage : Closing → CloseStage → Closing
 at_stage c stage = record c { stage = stage }
 
 module _ (c : Closing) where
+  -- no marking from now on
+  abbrev pub phase_at : PhaseWord
+  phase_at = record { stops = c.stops; phase = Off }
+
   abbrev pub asks_at : CloseStage → Ask
   asks_at LoadBank = Load cell.Bank
   asks_at ClearBank = Store cell.Bank 0
   asks_at StoreGen = Store cell.Gen c.generation
+  asks_at StorePhase = Store cell.Phase (phase_word phase_at)
   asks_at Ended = Load cell.Touch
 
   abbrev pub goes_at : CloseStage → ℕ → Closing
   goes_at LoadBank found = record c { lapsed = (c.lapsed + found) % 2 ^ 64; stage = ClearBank }
   goes_at ClearBank found = at_stage c StoreGen
-  goes_at StoreGen found = at_stage c Ended
+  goes_at StoreGen found = at_stage c StorePhase
+  goes_at StorePhase found = at_stage c Ended
   goes_at Ended found = at_stage c Ended
 
   abbrev pub given_at : CloseStage → Option ℕ
@@ -41,6 +51,17 @@ module _ (c : Closing) where
 abbrev pub is_busy : CloseStage → Bool
 is_busy Ended = false
 is_busy _ = true
+
+-- its next step stores the phase word
+abbrev pub stores_phase : CloseStage → Bool
+stores_phase StorePhase = true
+stores_phase _ = false
+
+-- marking has not ended: the next sweep generation is not stored
+abbrev pub is_marking : CloseStage → Bool
+is_marking StorePhase = false
+is_marking Ended = false
+is_marking _ = true
 
 abbrev pub given : Closing → Option ℕ
 given c = given_at c c.stage

@@ -12,6 +12,7 @@ use Rattle.gh_coord.specs.Closing as close
 use Rattle.gh_coord.specs.Opening as open_
 use Rattle.gh_coord.specs.Listing.{asks, asks_at, Coordinating, goes, is_busy, opening}
 use Rattle.gh_coord.specs.Stopping.{acks_of}
+use Rattle.gh_coord.specs.Telling as tell
 use Rattle.gh_coord.specs.Vocabulary.{Check, Close, CloseStage, CoordStage, Count, Done, GONE, Layout, Load, LoadAck, LoadWant, MarkOn, Open, OpenStage, Stop, StopAgain, StopStage, Sweep, Tell, TellStage, Watch}
 
 -- the numbers before these
@@ -36,9 +37,13 @@ told_phase is_last = if is_last then run.Finished else run.Off
 
 abbrev pub tell_post : (is_last : Bool) → TellStage → Post
 tell_post is_last tell_stage.Ended = Calm (told_phase is_last)
-tell_post is_last _ = Stopped run.Mark
+tell_post is_last _ = Calm run.Off
 
--- The world is stopped while a cycle is opened, and from the check on until the cycle is swept.
+abbrev pub close_post : CloseStage → Post
+close_post close_stage.Ended = Calm run.Off
+close_post _ = Stopped run.Mark
+
+-- The world is stopped while a cycle is opened, and from the check on until its marking is ended. It runs while spans are swept.
 abbrev pub post_at : CoordStage → Post
 post_at (LoadAck i) = Calm run.Off
 post_at LoadWant = Calm run.Off
@@ -48,9 +53,9 @@ post_at (Watch w) = Calm run.Mark
 post_at (StopAgain st) = stop_post run.Mark st.stage
 post_at (Check w) = Stopped run.Mark
 post_at MarkOn = Stopped run.Mark
-post_at (Close c) = Stopped run.Mark
-post_at (Sweep w) = Stopped run.Mark
-post_at (Count c) = Stopped run.Mark
+post_at (Close c) = close_post c.stage
+post_at (Sweep w) = Calm run.Off
+post_at (Count c) = Calm run.Off
 post_at (Tell t) = tell_post t.is_last t.stage
 post_at Done = Calm run.Finished
 
@@ -75,6 +80,7 @@ begun_at begun (Open o) = stored_cycle begun o.stage
 begun_at begun _ = begun
 
 abbrev pub stored_generation : (generation : ℕ) → CloseStage → ℕ
+stored_generation generation close_stage.StorePhase = generation
 stored_generation generation close_stage.Ended = generation
 stored_generation generation _ = generation_before generation
 
@@ -99,8 +105,9 @@ abbrev pub SoundAt : Coordinating → CoordStage → Type 0
 SoundAt s (Stop st) = st ≡ record { layout = s.layout; stops = s.stops; stage = st.stage }
 SoundAt s (StopAgain st) = st ≡ record { layout = s.layout; stops = s.stops; stage = st.stage }
 SoundAt s (Open o) = (o ≡ record { layout = o.layout; stops = s.stops; cycle = s.begun; stage = o.stage }) × (open_.is_busy o.stage ≡ true)
-SoundAt s (Close c) = c ≡ record { layout = c.layout; lapsed = c.lapsed; generation = s.generation; stage = c.stage }
-SoundAt s (Tell t) = t ≡ record { layout = t.layout; trigger = t.trigger; cycle = t.cycle; stops = s.stops; is_last = s.is_last; stage = t.stage }
+SoundAt s (Close c) = c ≡ record { layout = c.layout; lapsed = c.lapsed; generation = s.generation; stops = s.stops; stage = c.stage }
+SoundAt s (Sweep w) = (w.layout ≡ s.layout) × (w.generation ≡ s.generation)
+SoundAt s (Tell t) = (t ≡ record { layout = t.layout; trigger = t.trigger; cycle = t.cycle; stops = s.stops; is_last = s.is_last; stage = t.stage }) × (tell.stores_phase t.stage ≡ true → s.is_last ≡ true)
 SoundAt s Done = s.is_last ≡ true
 SoundAt s _ = Unit {0}
 
@@ -113,7 +120,7 @@ Marks (Watch w) = Unit {0}
 Marks (StopAgain st) = Unit {0}
 Marks (Check w) = Unit {0}
 Marks MarkOn = Unit {0}
-Marks (Close c) = close.is_busy c.stage ≡ true
+Marks (Close c) = close.is_marking c.stage ≡ true
 Marks _ = ⊥
 
 -- The last cycle: it is begun once each processor was found to be gone, one after the other.

@@ -11,7 +11,9 @@ pub mod PartsSound
 pub mod Sound
 pub mod Stays
 pub mod Stopping
+pub mod Sweeping
 pub mod SweepingAll
+pub mod SweptPages
 pub mod Telling
 pub mod Vocabulary
 pub mod Watching

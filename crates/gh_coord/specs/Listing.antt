@@ -11,6 +11,7 @@ use Rattle.gh_coord.specs.Stopping as stop
 use Rattle.gh_coord.specs.SweepingAll as sweep
 use Rattle.gh_coord.specs.Telling as tell
 use Rattle.gh_coord.specs.Watching as watch
+use Rattle.gh_sweep.specs.Listing.{Sweeping}
 use Rattle.gh_coord.specs.Vocabulary.{All, Ask, bit, Check, Close, CoordStage, Count, Counted, Cycle, Done, GONE, Layout, Load, LoadAck, LoadWant, MarkOn, NEVER, NotYet, Open, phase_word, Stop, StopAgain, Store, Sweep, TallyWord, Tell, Watch, Watched}
 
 -- What the coordinator knows: its heap, seat and pacing; the numbers of the stops and of the cycle, and the sweep generation; the bytes marked of the last swept cycle; the credit that had lapsed by the last cycle; that each processor is done; how often it has stored the phase word; the cycles that it keeps; and its stage.
@@ -96,7 +97,7 @@ module _ (s : Coordinating) where
   checks = at_stage s (Check (watch.opening s.layout s.begun))
 
   abbrev pub closes : Coordinating
-  closes = record s { generation = next_generation s.generation; stage = Close (close.opening s.layout s.lapsed (next_generation s.generation)) }
+  closes = record s { generation = next_generation s.generation; stage = Close (close.opening s.layout s.lapsed (next_generation s.generation) s.stops) }
 
   -- where so much credit has lapsed by now
   abbrev pub sweeps : (lapsed : ℕ) → Coordinating
@@ -205,6 +206,7 @@ stores_phase (Stop st) = stop.stores_phase st.stage
 stores_phase (StopAgain st) = stop.stores_phase st.stage
 stores_phase (Open o) = open_.stores_phase o.stage
 stores_phase MarkOn = true
+stores_phase (Close c) = close.stores_phase c.stage
 stores_phase (Tell t) = tell.stores_phase t.stage
 stores_phase _ = false
 
@@ -247,3 +249,11 @@ gives s found = given (goes s found)
 
 abbrev pub listing : Listing Coordinating (Unit {0})
 listing = record { layout = λ s. s.layout; busy = λ s. is_busy s.stage; asks = asks; goes = goes; gives = gives }
+
+-- the sweep of a span that it runs, if it runs one
+abbrev pub sweep_at : CoordStage → Option Sweeping
+sweep_at (Sweep w) = sweep.sweep_at w.stage
+sweep_at _ = None
+
+abbrev pub sweep_in : Coordinating → Option Sweeping
+sweep_in s = sweep_at s.stage

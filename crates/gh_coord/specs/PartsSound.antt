@@ -8,6 +8,7 @@ use Rattle.gh_coord.specs.declared.sweep_all.SweepAllStage.{SweepAllStage}
 use Rattle.gh_coord.specs.declared.sweep_all.SweepAllStage.TheVariants as sweep
 use Rattle.gh_coord.specs.declared.watch.WatchStage.{WatchStage}
 use Rattle.gh_coord.specs.declared.watch.WatchStage.TheVariants as watch
+use Rattle.gh_coord.specs.Closing.{Closing}
 use Rattle.gh_coord.specs.Opening.{CycleOpening}
 use Rattle.gh_coord.specs.Stopping.{acks_of, Stopping}
 use Rattle.gh_coord.specs.SweepingAll.{SweepingAll}
@@ -55,6 +56,9 @@ FitsSweepAllStage l sweep.Ended = Unit {0}
 pub record FitsSweepAll (s : SweepingAll) : Type 0 where
   pub generation : FitsGeneration s.generation
   pub stage : FitsSweepAllStage s.layout s.stage
+
+abbrev pub FitsClose : Closing → Type 0
+FitsClose c = FitsStops c.stops
 
 abbrev pub FitsTell : Telling → Type 0
 FitsTell t = FitsStops t.stops

@@ -58,6 +58,24 @@ all_stays_at s _ found = refl
 pub sweep_all_stays : (s : all.SweepingAll) (found : ℕ) → (all.goes s found).layout ≡ s.layout
 sweep_all_stays s found = all_stays_at s s.stage found
 
+-- and the sweep generation of the sweep of all spans
+all_load_number : (s : all.SweepingAll) (page : ℕ) (word : PageWord) → (all.after_load s page word).generation ≡ s.generation
+all_load_number s page (Head h) = refl
+all_load_number s page _ = refl
+
+all_sweep_number : (s : all.SweepingAll) (page : ℕ) (out : Option SweepEnd) → (all.after_sweep s page out).generation ≡ s.generation
+all_sweep_number s page None = refl
+all_sweep_number s page (Some Lost) = refl
+all_sweep_number s page (Some (Swept span)) = refl
+
+all_number_at : (s : all.SweepingAll) (stage : SweepAllStage) (found : ℕ) → (all.goes_at s stage found).generation ≡ s.generation
+all_number_at s (a.LoadPage page) found = all_load_number s page (page_of found)
+all_number_at s (a.Sweep page sw) found = all_sweep_number _ page _
+all_number_at s _ found = refl
+
+pub sweep_all_number : (s : all.SweepingAll) (found : ℕ) → (all.goes s found).generation ≡ s.generation
+sweep_all_number s found = all_number_at s s.stage found
+
 count_stays_at : (s : count.Counting) (stage : CountStage) (found : ℕ) → (count.goes_at s stage found).layout ≡ s.layout
 count_stays_at s n.LoadTally found = refl
 count_stays_at s _ found = refl

@@ -89,3 +89,8 @@ gives s found = given (goes s found)
 
 abbrev pub listing : Listing SweepingAll (Unit {0})
 listing = listing_of (λ s. s.layout) asks goes given
+
+-- the sweep of a span that it runs, if it runs one
+abbrev pub sweep_at : SweepAllStage → Option sweep.Sweeping
+sweep_at (Sweep page sw) = Some sw
+sweep_at _ = None

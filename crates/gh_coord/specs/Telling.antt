@@ -4,7 +4,7 @@ use Rattle.gh_base.specs.declared.cell.Cell.TheVariants as cell
 use Rattle.gh_base.specs.declared.cell.Ask.{Ask}
 use Rattle.gh_base.specs.declared.cell.Ask.TheVariants.{Load, Store}
 use Rattle.gh_base.specs.declared.layout.Layout.{Layout}
-use Rattle.gh_base.specs.declared.pack.Phase.TheVariants.{Off, Finished}
+use Rattle.gh_base.specs.declared.pack.Phase.TheVariants.{Finished}
 use Rattle.gh_base.specs.declared.pack.PhaseWord.{PhaseWord}
 use Rattle.gh_base.specs.Given.{listing_of}
 use Rattle.gh_base.specs.Packing.{phase_word}
@@ -25,9 +25,9 @@ abbrev pub opening : Layout → (trigger cycle stops : ℕ) → (is_last : Bool)
 opening l trigger cycle stops is_last = record { layout = l; trigger = trigger; cycle = cycle; stops = stops; is_last = is_last; stage = StoreTrigger }
 
 module _ (t : Telling) where
-  -- no marking from now on; behind the last cycle the world is done
+  -- the world is done
   abbrev pub phase_at : PhaseWord
-  phase_at = record { stops = t.stops; phase = (if t.is_last then Finished else Off) }
+  phase_at = record { stops = t.stops; phase = Finished }
 
   abbrev pub asks_at : TellStage → Ask
   asks_at StoreTrigger = Store cell.Trigger t.trigger
@@ -35,11 +35,12 @@ module _ (t : Telling) where
   asks_at StorePhase = Store cell.Phase (phase_word phase_at)
   asks_at Ended = Load cell.Touch
 
-abbrev pub behind : TellStage → TellStage
-behind StoreTrigger = StoreSwept
-behind StoreSwept = StorePhase
-behind StorePhase = Ended
-behind Ended = Ended
+-- the phase word is stored behind the last cycle alone
+abbrev pub behind : (is_last : Bool) → TellStage → TellStage
+behind is_last StoreTrigger = StoreSwept
+behind is_last StoreSwept = if is_last then StorePhase else Ended
+behind is_last StorePhase = Ended
+behind is_last Ended = Ended
 
 -- what it has given, and whether it is busy
 abbrev pub given_at : TellStage → Option (Unit {0})
@@ -66,7 +67,7 @@ abbrev pub asks : Telling → Ask
 asks t = asks_at t t.stage
 
 abbrev pub goes : Telling → ℕ → Telling
-goes t found = record t { stage = behind t.stage }
+goes t found = record t { stage = behind t.is_last t.stage }
 
 abbrev pub gives : Telling → ℕ → Option (Unit {0})
 gives t found = given (goes t found)

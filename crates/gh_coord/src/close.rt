@@ -2,10 +2,11 @@
 
 ghost use Rattle.std.specs.Prelude.{◌≡◌, ◌<◌, ◌^◌, true};
 ghost use Rattle.gh_base.specs.Cells.{InRange};
+ghost use Rattle.gh_base.specs.Packing.{phase_word};
 ghost use Rattle.gh_base.specs.Steps.{cell_of};
-ghost use Rattle.gh_coord.specs.Closing.{asks, given, is_busy, opening};
+ghost use Rattle.gh_coord.specs.Closing.{asks, given, is_busy, opening, phase_at, stores_phase};
 
-use gh_base::{Ask, Cell, Layout, Machine, Req};
+use gh_base::{Ask, Cell, Layout, Machine, Phase, PhaseWord, Req};
 use std::marker::Model;
 
 /// The stages in which marking is ended.
@@ -17,42 +18,53 @@ pub enum CloseStage {
     ClearBank,
     /// It stores the sweep generation.
     StoreGen,
+    /// It stores the phase word: the world runs, and marking is off.
+    StorePhase,
     /// It has ended.
     Ended,
 }
 
-/// Ends marking (Go's `gcMarkTermination`, mgc.go, up to the sweep).
+/// Ends marking and lets the world run (Go's `gcMarkTermination`, mgc.go, up to the sweep).
 ///
 /// Credit for scanning is of no use once nothing is left to scan: what is found of it has lapsed, and the
-/// bank is cleared. Then the next sweep generation is stored, and with that each span is unswept.
+/// bank is cleared. Then the next sweep generation is stored, and with that each span is unswept. The phase word
+/// follows: the spans are swept while goroutines run. It follows the generation, since who goes on loads the phase
+/// and then the generation. With the old one an actor would take unswept spans for swept ones, and place objects
+/// that the sweep frees.
 #[derive(Clone, Copy)]
 pub struct Close {
     layout: Layout,
     lapsed: u64,
     generation: u64,
+    stops: u64,
     stage: CloseStage,
 }
 
 impl Model for Close {
     ghost use Rattle.gh_coord.specs.Closing.{Closing};
+    ghost use Rattle.gh_coord.specs.PartsSound.{FitsClose};
 
     ghost Value = { Closing };
 
-    ghost view = { λ c. record { layout = c.layout; lapsed = c.lapsed; generation = c.generation; stage = c.stage } };
+    ghost view = { λ c. record { layout = c.layout; lapsed = c.lapsed; generation = c.generation; stops = c.stops; stage = c.stage } };
 
-    ghost inverse = { λ c. record { layout = c.layout; lapsed = c.lapsed; generation = c.generation; stage = c.stage } };
+    ghost invariant = { λ c. FitsClose (record { layout = c.layout; lapsed = c.lapsed; generation = c.generation; stops = c.stops; stage = c.stage }) };
+
+    ghost inverse = { λ c. record { layout = c.layout; lapsed = c.lapsed; generation = c.generation; stops = c.stops; stage = c.stage } };
 }
 
 impl Close {
-    /// Ends marking with this sweep generation, where so much credit has lapsed before.
-    pub fn new(layout: &Layout, lapsed: u64, generation: u64) -> Close
-        ensures opening { result ≡ opening layout.now lapsed generation }
+    /// Ends marking with this sweep generation and number of stops, where so much credit has lapsed before.
+    pub fn new(layout: &Layout, lapsed: u64, generation: u64, stops: u64) -> Close
+        requires { stops < 2 ^ 62 }
+        ensures opening { result ≡ opening layout.now lapsed generation stops }
         ensures begun { is_busy result.stage ≡ true }
     {
         Close {
             layout: *layout,
             lapsed,
             generation,
+            stops,
             stage: CloseStage::LoadBank,
         }
     }
@@ -64,6 +76,24 @@ impl Close {
         self.lapsed
     }
 
+    /// Its next step stores the phase word.
+    pub fn stores_phase(&self) -> bool
+        ensures { result ≡ stores_phase self.now.stage }
+    {
+        matches!(self.stage, CloseStage::StorePhase)
+    }
+
+    /// The phase word that it stores.
+    fn phase_word(&self) -> u64
+        ensures { result ≡ phase_word (phase_at self.now) }
+    {
+        PhaseWord {
+            stops: self.stops,
+            phase: Phase::Off,
+        }
+        .pack()
+    }
+
     /// The step that it asks for.
     fn ask(&self) -> Ask
         ensures asks { result ≡ asks self.now }
@@ -73,6 +103,7 @@ impl Close {
             CloseStage::LoadBank => Ask::Load(Cell::Bank),
             CloseStage::ClearBank => Ask::Store(Cell::Bank, 0),
             CloseStage::StoreGen => Ask::Store(Cell::Gen, self.generation),
+            CloseStage::StorePhase => Ask::Store(Cell::Phase, self.phase_word()),
             CloseStage::Ended => Ask::Load(Cell::Touch),
         }
     }
@@ -115,7 +146,8 @@ impl Machine for Close {
                 self.stage = CloseStage::ClearBank;
             }
             CloseStage::ClearBank => self.stage = CloseStage::StoreGen,
-            CloseStage::StoreGen => self.stage = CloseStage::Ended,
+            CloseStage::StoreGen => self.stage = CloseStage::StorePhase,
+            CloseStage::StorePhase => self.stage = CloseStage::Ended,
             CloseStage::Ended => {}
         }
         self.given()

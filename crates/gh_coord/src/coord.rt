@@ -46,13 +46,13 @@ pub enum CoordStage {
     Check(Watch),
     /// It stores the phase word: marking is not over, and the world runs.
     MarkOn,
-    /// It ends marking.
+    /// It ends marking, and lets the world run.
     Close(Close),
-    /// It has each span swept.
+    /// It sees to it that each span is swept, while goroutines run.
     Sweep(SweepAll),
-    /// It reads what the sweep has counted.
+    /// It reads what all sweeps have counted.
     Count(Count),
-    /// It tells that the cycle is swept, and lets the world run.
+    /// It tells that the cycle is swept.
     Tell(Tell),
     /// The last cycle is swept.
     Done,
@@ -325,7 +325,7 @@ impl Coord {
             Some(Watched::NotYet) => self.stage = CoordStage::MarkOn,
             Some(Watched::All) => {
                 self.generation = (self.generation + 2) % GENERATIONS;
-                let close = Close::new(&self.layout, self.lapsed, self.generation);
+                let close = Close::new(&self.layout, self.lapsed, self.generation, self.stops);
                 self.stage = CoordStage::Close(close);
             }
         }
@@ -383,6 +383,7 @@ impl Coord {
             CoordStage::Stop(stop) | CoordStage::StopAgain(stop) => stop.stores_phase(),
             CoordStage::Open(open) => open.stores_phase(),
             CoordStage::MarkOn => true,
+            CoordStage::Close(close) => close.stores_phase(),
             CoordStage::Tell(tell) => tell.stores_phase(),
             _ => false,
         }

@@ -28,7 +28,8 @@ pub enum CountStage {
     Ended(Counted),
 }
 
-/// Reads what the sweep has counted.
+/// Reads what all sweeps of the cycle have counted. Each span is swept by then, so no count is still to come, though
+/// goroutines run: an object that is made meanwhile is in none of them.
 #[derive(Clone, Copy)]
 pub struct Count {
     layout: Layout,

@@ -3,6 +3,7 @@
 ghost use Rattle.gh_coord.specs.GoingOn.{GoesOnUntilDone};
 ghost use Rattle.gh_coord.specs.Handshake.{LeadsHandshake};
 ghost use Rattle.gh_coord.specs.MarkingEnds.{MarkingEndsClean};
+ghost use Rattle.gh_coord.specs.Sweeping.{TheCoordinatorRunsSweeps};
 
 /// The coordinator has a further step exactly where it is not done: so it is at first, and so after each step
 /// that it asked for.
@@ -11,8 +12,8 @@ pub fn it_goes_on_until_done()
 {}
 
 /// Each step of the coordinator is one of the handshake of a stop. It stores a stop behind a phase that is off, or
-/// that of marking; a cycle begins, its marking ends, and a phase that is no stop is stored in a stopped world
-/// alone: once each processor and each worker was found to have acknowledged the stop, or to be gone.
+/// that of marking; a cycle begins, its marking ends, and a phase that is no stop and not the last is stored in a
+/// stopped world alone: once each processor and each worker was found to have acknowledged the stop, or to be gone.
 pub fn the_coordinator_leads_the_handshake()
     ensures { LeadsHandshake }
 {}
@@ -23,4 +24,12 @@ pub fn the_coordinator_leads_the_handshake()
 /// buffer held or with no entry. Since it told the world to stop it has written no word but the bank.
 pub fn nothing_is_left_to_mark()
     ensures { MarkingEndsClean }
+{}
+
+/// While the coordinator sweeps a span it makes the steps of that sweep until it has ended, and no others. It begins one
+/// only where it finds the head of a span with the number before the sweep generation. Where it tells that a cycle is
+/// swept, it has swept the span at each page itself since it stored the sweep generation, or has found by the page's
+/// word that none is unswept there and that nobody sweeps one: a span that another sweeps it waits for.
+pub fn the_coordinator_runs_sweeps()
+    ensures { TheCoordinatorRunsSweeps }
 {}

@@ -19,10 +19,10 @@
 //! world and looks once more; now nothing is held and nothing moves, so that all words are as wanted at one
 //! moment, and no grey object is left. Where one is not, marking goes on.
 //!
-//! The next sweep generation is what ends the marking: with it all spans are unswept. The world stays
-//! stopped until each is swept. Others may sweep too, so the coordinator waits where one has begun to, and
-//! only then are the counts of the cycle whole. It keeps them, tells that the cycle is swept, and lets the
-//! world run.
+//! The next sweep generation is what ends the marking: with it all spans are unswept. Then the world runs on,
+//! and spans are swept while it does: by the coordinator, by workers, and by whoever looks for a slot. Where
+//! another has begun to sweep a span the coordinator waits until that is done; only when each span is swept are
+//! the counts of the cycle whole. It keeps them, and tells that the cycle is swept. No cycle begins before that.
 //!
 //! Once every processor is done it runs one last cycle, which nobody asks for, and behind it all are done.
 //!
@@ -31,8 +31,7 @@
 //! What the parts and the coordinator ask for and where they go are their listings, in specs/; above these
 //! stand the laws of [`laws`]. In Go this is spread over `gcStart`, `gcMarkDone`, `gcMarkTermination` and
 //! `gcSweep` (mgc.go), which whatever goroutine gets there first runs, under locks. Go finds that marking is
-//! over with a barrier that flushes each P's buffers (the ragged barrier of `gcMarkDone`), and sweeps
-//! while the world runs.
+//! over with a barrier that flushes each P's buffers (the ragged barrier of `gcMarkDone`).
 #![tactic(auto)]
 
 mod close;

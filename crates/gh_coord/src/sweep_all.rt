@@ -21,11 +21,13 @@ pub enum SweepAllStage {
     Ended,
 }
 
-/// Has each span swept before the next cycle (Go's `sweepone` in the loops of `gcStart` and `gcSweep`,
-/// mgc.go, which finish the sweep of the cycle before).
+/// Sees to it that each span is swept before the next cycle, while goroutines run (Go's `sweepone` in the loops of
+/// `gcStart` and `gcSweep`, mgc.go, which finish the sweep of the cycle before).
 ///
-/// It goes over the pages in ascending order. A span that is unswept it sweeps. Where another has begun to
-/// sweep it, it waits until that is done.
+/// It goes over the pages in ascending order, without the heap's lock. A span that is unswept it sweeps. Where another
+/// has begun to sweep it, it waits until that is done: the counts are whole only once all are swept, and in a span
+/// that is not swept the marks of this cycle still stand, which the next one would take for its own. A page that it
+/// has passed needs no second look: a span that is laid out later has the sweep generation's number.
 #[derive(Clone, Copy)]
 pub struct SweepAll {
     layout: Layout,

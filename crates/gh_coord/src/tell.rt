@@ -16,16 +16,16 @@ pub enum TellStage {
     StoreTrigger,
     /// It stores the number of the cycle.
     StoreSwept,
-    /// It stores the phase word: the world runs, or is done.
+    /// It stores the phase word, behind the last cycle: the world is done.
     StorePhase,
     /// It has ended.
     Ended,
 }
 
-/// Tells that a cycle is swept, and lets the world run (the end of Go's `gcMarkTermination`, mgc.go).
+/// Tells that a cycle is swept (what Go's `sweepone` does when it finds no span more, mgcsweep.go).
 ///
-/// Who waits for the cycle goes on by the word of swept cycles. So the phase word is stored behind it: while
-/// it is swept the world is stopped.
+/// Who waits for the cycle goes on by the word of swept cycles. Behind the last cycle the phase word follows: the
+/// workers leave then.
 #[derive(Clone, Copy)]
 pub struct Tell {
     layout: Layout,
@@ -50,8 +50,8 @@ impl Model for Tell {
 }
 
 impl Tell {
-    /// Tells that the cycle of this number is swept, with the trigger of the next and the number of stops.
-    /// Behind the last cycle the world is done.
+    /// Tells that the cycle of this number is swept, with the trigger of the next. Behind the last cycle the world is
+    /// done, with this number of stops.
     pub fn new(layout: &Layout, trigger: u64, cycle: u64, stops: u64, is_last: bool) -> Tell
         requires { stops < 2 ^ 62 }
         ensures opening { result ≡ opening layout.now trigger cycle stops is_last }
@@ -85,14 +85,9 @@ impl Tell {
     fn phase_word(&self) -> u64
         ensures { result ≡ phase_word (phase_at self.now) }
     {
-        let phase = if self.is_last {
-            Phase::Finished
-        } else {
-            Phase::Off
-        };
         PhaseWord {
             stops: self.stops,
-            phase,
+            phase: Phase::Finished,
         }
         .pack()
     }
@@ -145,8 +140,8 @@ impl Machine for Tell {
     fn take(&mut self, _found: u64) -> Option<()> {
         self.stage = match self.stage {
             TellStage::StoreTrigger => TellStage::StoreSwept,
-            TellStage::StoreSwept => TellStage::StorePhase,
-            TellStage::StorePhase | TellStage::Ended => TellStage::Ended,
+            TellStage::StoreSwept if self.is_last => TellStage::StorePhase,
+            TellStage::StoreSwept | TellStage::StorePhase | TellStage::Ended => TellStage::Ended,
         };
         self.given()
     }

@@ -21,6 +21,8 @@ pub(crate) const BUFFER_ROW: usize = 33_568;
 pub(crate) const ENTRY_ROW: usize = 33_637;
 
 /// The same by the numbers that steps give.
+pub(crate) const PAGE: u32 = PAGE_ROW as u32;
+
 pub(crate) const BITMAP: u32 = BITMAP_ROW as u32;
 
 pub(crate) const BUFFER: u32 = BUFFER_ROW as u32;

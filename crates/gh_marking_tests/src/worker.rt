@@ -1,7 +1,7 @@
 //! The worker.
 
 use crate::runs::{
-    ACK, BITMAP, BUFFER, BUFFER_ROW, ENTRY, ENTRY_ROW, GLOBAL_ROW, PAGE_ROW, TWO, tell, words,
+    ACK, BITMAP, BUFFER, BUFFER_ROW, ENTRY, ENTRY_ROW, GLOBAL_ROW, PAGE, PAGE_ROW, TWO, tell, words,
 };
 use gh_base::trace::{Steps, run_alone};
 use gh_base::{Held, Layout, Req};
@@ -79,7 +79,7 @@ fn stops_and_leaves(rt: HostRuntime) -> Result<(), Fail> {
         (Req::Load(BUFFER), 1),
         (Req::Swap(BUFFER, 1, 513), 1),
         (Req::Load(ENTRY), 3135),
-        (Req::Load(18), TWO),
+        (Req::Load(PAGE + 3), TWO),
         (Req::Load(BITMAP + 48), 0),
         // stop 2: the buffer is given back, and the stop acknowledged
         (Req::Load(1), 10),
@@ -89,8 +89,13 @@ fn stops_and_leaves(rt: HostRuntime) -> Result<(), Fail> {
         (Req::Load(1), 8),
         (Req::Load(2), 4),
         (Req::Load(3), 1),
-        // no marking, and then the last cycle is swept
+        // no marking: page 0 is free, and another sweeps the span of page 1
         (Req::Load(1), 8),
+        (Req::Load(PAGE), 0),
+        (Req::Load(1), 8),
+        (Req::Load(PAGE + 1), TWO),
+        (Req::Swap(PAGE + 1, TWO, TWO + (1 << 30)), TWO + (1 << 30)),
+        // the last cycle is swept
         (Req::Load(1), 11),
         (Req::Store(ACK + 1, u64::MAX), 2),
     ];

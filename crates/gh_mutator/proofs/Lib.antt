@@ -28,3 +28,4 @@ pub mod StoreSteps
 pub mod Telling
 pub mod Waits
 mod Writing
+mod Sweeping

@@ -16,7 +16,7 @@ use Rattle.gh_mutator.specs.Processor.{cached_for, made_by, set_register}
 use Rattle.gh_mutator.specs.Sound.{most_objects, Sound, SoundSearch, SoundTask, SoundWanted}
 use Rattle.gh_mutator.specs.Stays.{wait_stacks, wait_stays}
 use Rattle.gh_mutator.specs.Wait as wait
-use Rattle.gh_mutator.proofs.Vocabulary.{after_search, after_wait, At, at_poll, at_task, cache_span, CachedSpan, Finding, FindStage, FitsWait, Found, Large, Layout, made_object, makes, NewStage, NoRoom, Place, PlaceStage, Placing, Processor, read_after_set, Reclaiming, Search, SearchStage, Seeking, set, Shape, slots_of, Small, Sought, takes, takes_at as takes_by, Task, Wait, Waiting, Wanted}
+use Rattle.gh_mutator.proofs.Vocabulary.{after_search, after_wait, At, at_poll, at_task, cache_span, CachedSpan, FitsWait, Found, Large, Layout, made_object, makes, NewStage, NoRoom, Place, PlaceStage, Placing, Processor, read_after_set, Search, Seeking, set, Shape, slots_of, Small, Sought, takes, takes_at as takes_by, Task, Wait, Waiting, Wanted}
 use Rattle.gh_mutator.proofs.Changes.{moved, polled, taken}
 use Rattle.gh_mutator.proofs.Waits.{wait_fits}
 

@@ -1,5 +1,5 @@
 -- What the search for a slot asks for, and that it has no span cached where it refuses.
-use Rattle.std.proofs.Common.{◌≡◌, ℕ, Bool, true, false, cond, eqb, ltb, refl, sym, ◌∙◌, subst, Option, Some, None}
+use Rattle.std.proofs.Common.{◌≡◌, ℕ, Bool, true, false, cond, eqb, ltb, refl, sym, subst, Option, Some, None}
 use Rattle.gh_mutator.specs.Vocabulary.{SpanClass}
 use Rattle.gh_cache.specs.declared.next_slot.SlotStage.TheVariants as slot_stage
 use Rattle.gh_cache.specs.Listing as slots
@@ -10,6 +10,13 @@ use Rattle.gh_central.specs.declared.reclaim.ReclaimStage.TheVariants as reclaim
 use Rattle.gh_central.specs.GiveBack as give
 use Rattle.gh_central.specs.Reclaim as reclaim
 use Rattle.gh_central.specs.SweptPass as pass
+use Rattle.gh_central.specs.UnsweptPass as unswept
+use Rattle.gh_central.specs.declared.unswept.UnsweptStage.{UnsweptStage}
+use Rattle.gh_central.specs.declared.unswept.UnsweptStage.TheVariants as unswept_stage
+use Rattle.gh_sweep.specs.declared.sweep.SweepStage.{SweepStage}
+use Rattle.gh_sweep.specs.declared.sweep.SweepStage.TheVariants as sweep_stage
+use Rattle.gh_sweep.specs.Listing as sweep
+use Rattle.gh_sweep.specs.Listing.{Sweeping}
 use Rattle.gh_pages.specs.declared.carve.CarveStage.TheVariants as carve_stage
 use Rattle.gh_pages.specs.Listing as carve
 use Rattle.gh_alloc.specs.declared.find.After.TheVariants.{Again, End}
@@ -37,6 +44,23 @@ pass_look m (pass_stage.Bits page h i) = refl
 pass_look m (pass_stage.Take page h) = refl
 pass_look m (pass_stage.Ended taken) = refl
 
+sweep_look : (sw : Sweeping) (p : SweepStage) → is_looking (sweep.asks_at sw p) ≡ true
+sweep_look sw sweep_stage.Begin = refl
+sweep_look sw (sweep_stage.LoadMarks i) = refl
+sweep_look sw (sweep_stage.ClearBits i marks) = refl
+sweep_look sw (sweep_stage.ClearMarks i) = refl
+sweep_look sw sweep_stage.AddTally = refl
+sweep_look sw sweep_stage.AddLive = refl
+sweep_look sw sweep_stage.AddHeap = refl
+sweep_look sw sweep_stage.Finish = refl
+sweep_look sw (sweep_stage.Ended end) = refl
+
+unswept_look : (u : unswept.Unswept) (p : UnsweptStage) → is_looking (unswept.asks_at u p) ≡ true
+unswept_look u (unswept_stage.Look page) = refl
+unswept_look u (unswept_stage.Sweep page h sw) = sweep_look sw sw.stage
+unswept_look u (unswept_stage.Take page h) = refl
+unswept_look u (unswept_stage.Ended taken) = refl
+
 carve_look : (c : carve.Carving) (p : CarveStage) → is_looking (carve.asks_at c p) ≡ true
 carve_look c (carve_stage.Look page run) = refl
 carve_look c (carve_stage.Body first i) = refl
@@ -48,6 +72,7 @@ find_look f (seek.Slots s) = slots_look s s.stage
 find_look f seek.Lock = refl
 find_look f (seek.Give g) = give_look g g.stage
 find_look f (seek.Pass p) = pass_look p p.stage
+find_look f (seek.Unswept u) = unswept_look u u.stage
 find_look f (seek.Carve c) = carve_look c c.stage
 find_look f (seek.Unlock after) = refl
 find_look f (seek.Ended out) = refl
@@ -55,6 +80,7 @@ find_look f (seek.Ended out) = refl
 -- no span is cached from the pass on, for an object of a size class
 abbrev NoneCached : FindStage → Option CachedSpan → Type 0
 NoneCached (seek.Pass p) cached = cached ≡ None
+NoneCached (seek.Unswept u) cached = cached ≡ None
 NoneCached (seek.Carve c) cached = cached ≡ None
 NoneCached (seek.Unlock (End NoRoom)) cached = cached ≡ None
 NoneCached (seek.Ended NoRoom) cached = cached ≡ None
@@ -84,8 +110,16 @@ module _ (c : SpanClass) where
 
   pass_kept : (f : Finding) (p : pass.Pass) (cached : Option CachedSpan) (out : Option (Option ℕ)) → cached ≡ None → Kept (find.after_pass (of_class f (seek.Pass p) cached) out)
   pass_kept f p cached None none = none
-  pass_kept f p cached (Some None) none = none
+  pass_kept f p cached (Some None) none = by f.sweeps where
+    by : (b : Bool) → NoneCached (cond b (seek.Unswept (unswept.opening f.layout f.seat f.generation c)) (find.carving (of_class f (seek.Pass p) cached))) cached
+    by true = none
+    by false = none
   pass_kept f p cached (Some (Some page)) none = tt
+
+  unswept_kept : (f : Finding) (u : unswept.Unswept) (cached : Option CachedSpan) (out : Option (Option ℕ)) → cached ≡ None → Kept (find.after_unswept (of_class f (seek.Unswept u) cached) out)
+  unswept_kept f u cached None none = none
+  unswept_kept f u cached (Some None) none = none
+  unswept_kept f u cached (Some (Some page)) none = tt
 
   carve_kept : (f : Finding) (x : carve.Carving) (cached : Option CachedSpan) (out : Option (Option ℕ)) → cached ≡ None → Kept (find.after_carve (of_class f (seek.Carve x) cached) out)
   carve_kept f x cached None none = none
@@ -104,6 +138,7 @@ module _ (c : SpanClass) where
   kept_at f cached seek.Lock found none = lock_kept f cached (eqb found 0)
   kept_at f cached (seek.Give g) found none = give_kept f (give.goes g found) cached (give.gives g found)
   kept_at f cached (seek.Pass p) found none = pass_kept f (pass.goes p found) cached (pass.gives p found) none
+  kept_at f cached (seek.Unswept u) found none = unswept_kept f (unswept.goes u found) cached (unswept.gives u found) none
   kept_at f cached (seek.Carve x) found none = carve_kept f (carve.goes x found) cached (carve.gives x found) none
   kept_at f cached (seek.Unlock Again) found none = begin_kept f cached
   kept_at f cached (seek.Unlock (End (At x))) found none = tt
@@ -111,7 +146,7 @@ module _ (c : SpanClass) where
   kept_at f cached (seek.Ended out) found none = none
 
 reclaim_look : (r : Reclaiming) (p : ReclaimStage) → is_looking (reclaim.asks_at r p) ≡ true
-reclaim_look r (reclaim_stage.Look page) = refl
+reclaim_look r (reclaim_stage.Sweep page pages sw) = sweep_look sw sw.stage
 reclaim_look r _ = refl
 
 search_look : (f : Finding) (p : SearchStage) → is_looking (search.asks_at f p) ≡ true

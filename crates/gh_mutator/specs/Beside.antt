@@ -19,6 +19,7 @@ use Rattle.gh_mutator.specs.MarkFacts.{KnowsCycle}
 use Rattle.gh_mutator.specs.ProcessorMarks.{MarkFacts, only_polls}
 use Rattle.gh_mutator.specs.Runs.{DoesPoints}
 use Rattle.gh_mutator.specs.Sound.{has_room}
+use Rattle.gh_mutator.specs.Sweeping.{sweep_in}
 use Rattle.gh_mutator.specs.Vocabulary.{Answer, cell_of, Op, Processor}
 use Rattle.gh_mutator.specs.Writing.{IsSound}
 
@@ -33,6 +34,8 @@ pub record Together (z : Cycle) (a : ℕ) (h : Heap) (s : Marking) (m : Processo
   pub ends : (g : ℕ) → h.ever.ended g ≡ true → h.words (cell.Scanned g) ≡ END
   pub cycle : KnowsCycle z s
   pub sound : IsSound m
+  -- while a cycle is marked each span is swept
+  pub sweeps : sweep_in m ≡ None
   pub fine : Fine z.arena a (view h) m pending
   pub facts : MarkFacts z a s m
 

@@ -19,6 +19,7 @@ use Rattle.gh_mutator.specs.Give as give
 use Rattle.gh_mutator.specs.Listing.{asks, is_busy_at, takes}
 use Rattle.gh_mutator.specs.MarkVocabulary.{Party, Stage, Cell, Cycle, GiveStage, IsParked, LeaveStage, PollStage, Shared, SoundPlace, WaitStage, Words, effect, opening_processor, party_of, processor_kind, stage_of}
 use Rattle.gh_mutator.specs.ProcessorMarks.{MarkFacts}
+use Rattle.gh_mutator.specs.Sweeping.{IsSweeping}
 use Rattle.gh_mutator.specs.Vocabulary.{Ask, GlobalStage, Layout, NewStage, StoreStage, Op, Place, Polling, Processor, Shape, Task, Wait}
 use Rattle.gh_mutator.specs.Writing.{EndsStack, WritesOf}
 
@@ -89,9 +90,9 @@ pub record IsCalm (m : Processor) : Type 0 where
 abbrev pub FindsNoMarking : Ask → (found : ℕ) → Type 0
 FindsNoMarking step found = step ≡ ask.Load cell.Phase → run_phase (phase_of found).phase ≢ Some run.Mark
 
--- Mark bits, buffers and their entries it leaves, and of a stack it tells its end alone.
+-- Mark bits, but those that a sweep clears, buffers and their entries it leaves, and of a stack it tells its end alone.
 abbrev pub IsWrittenCalmly : Processor → Cell → Type 0
-IsWrittenCalmly m (cell.Mark i) = ⊥
+IsWrittenCalmly m (cell.Mark i) = IsSweeping m
 IsWrittenCalmly m (cell.Buffer i) = ⊥
 IsWrittenCalmly m (cell.Entry i j) = ⊥
 IsWrittenCalmly m (cell.Scanned g) = EndsStack m g

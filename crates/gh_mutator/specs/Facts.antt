@@ -231,11 +231,12 @@ pub record Fine (z : Arena) (a : ℕ) (v : View) (m : Processor) (pending : Opti
 
 -- The laws.
 
--- There is no room for the object that the operation is to make, by all that its processor knows: it owns no span of the span class, and each that nobody owns is full; in each span that nobody owns, of any class, an object stands; and no run of pages fits, also if the pages of empty spans were free.
+-- There is no room for the object that the operation is to make, by all that its processor knows: it owns no span of the span class, and each that nobody owns is full; each span of any class is swept, and in each that nobody owns an object stands; and no run of pages fits, also if the pages of empty spans were free.
 pub record FoundNone (z : Arena) (a : ℕ) (v : View) (m : Processor) (sought : Sought) : Type 0 where
   pub cached : cached_for m sought ≡ None
   pub own_none : (c : SpanClass) (p : ℕ) (h : SpanHead) → sought ≡ Small c → page_of (v.page p) ≡ page.Head h → h.class ≡ size.Small c.class → h.noscan ≡ c.noscan → h.owner ≢ a + 1
   pub full : (c : SpanClass) (p : ℕ) (h : SpanHead) → sought ≡ Small c → page_of (v.page p) ≡ page.Head h → h.class ≡ size.Small c.class → h.noscan ≡ c.noscan → h.owner ≡ 0 → IsFull v.alloc p h
+  pub swept : (p : ℕ) (h : SpanHead) → page_of (v.page p) ≡ page.Head h → h.number ≡ v.generation
   pub in_use : (p : ℕ) (h : SpanHead) → page_of (v.page p) ≡ page.Head h → h.owner ≡ 0 → IsInUse v.alloc p h
   pub no_run : (first : ℕ) → first + (span_for sought).pages ≤ z.layout.pages → (d : ℕ) × (d < (span_for sought).pages) × search.IsTaken z v (first + d)
 

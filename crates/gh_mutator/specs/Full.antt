@@ -15,12 +15,18 @@ use Rattle.gh_mutator.specs.New.{wanted_of}
 use Rattle.gh_mutator.specs.Processor.{at_poll}
 use Rattle.gh_mutator.specs.Vocabulary.{NewStage, Task, Wait}
 
--- a load, a step on the heap's lock, or a store to a page word, which says who has a span cached
+-- a load, a step on the heap's lock, a store to a page word, which says who has a span cached, or a step of a sweep: it swaps a head, cuts alloc bits, clears marks, and adds what it counted
 abbrev pub is_looking : Ask → Bool
 is_looking (ask.Load cell) = true
 is_looking (ask.Store cell.Lock value) = true
 is_looking (ask.Store (cell.Page page) value) = true
 is_looking (ask.Swap cell.Lock old new) = true
+is_looking (ask.Swap (cell.Page page) old new) = true
+is_looking (ask.And (cell.Alloc i) bits) = true
+is_looking (ask.Store (cell.Mark i) value) = true
+is_looking (ask.Add cell.Tally more) = true
+is_looking (ask.Add cell.Live more) = true
+is_looking (ask.Add cell.Heap more) = true
 is_looking _ = false
 
 -- a new object waits for a cycle

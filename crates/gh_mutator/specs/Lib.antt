@@ -45,6 +45,7 @@ pub mod Sound
 pub mod Stays
 pub mod Step
 pub mod Store
+pub mod Sweeping
 pub mod Vocabulary
 pub mod Wait
 pub mod WaitSound

@@ -1,11 +1,11 @@
 -- A processor among any number of processors: what it begins begins well, each of its steps is a move that its rights allow, on a word that there is, and what is known of it lasts whatever others do, and whatever is done to the words while it is parked.
-use Rattle.std.specs.Prelude.{◌≡◌, ℕ, ◌<◌, true, false, ◌++◌, Option, None}
+use Rattle.std.specs.Prelude.{◌≡◌, ℕ, ◌<◌, true, false, ◌++◌, Option, Some, None}
 use Rattle.std.specs.Option.{option_to_list}
 use Rattle.gh_base.specs.Cells.{InRange}
 use Rattle.gh_model.specs.Ever.{opening_ever}
 use Rattle.gh_phase.specs.Shakes.{IsParked}
 use Rattle.gh_phase.specs.Views.{first_view}
-use Rattle.gh_mutator.specs.Vocabulary.{AllSwept, Answer, Arena, cell_of, Good, Op, Processor, Shared, Steps, View, view}
+use Rattle.gh_mutator.specs.Vocabulary.{Answer, Arena, cell_of, Good, Op, Processor, Shared, Steps, SweepLeaves, View, view}
 use Rattle.gh_mutator.specs.Deeds.{given_at, point_of, processor_kind}
 use Rattle.gh_mutator.specs.Facts.{Does, Fine, Lasts, MayBegin, ShapesAreGood, answered_at}
 use Rattle.gh_mutator.specs.Listing.{acts, asks, gives, is_busy_at}
@@ -13,6 +13,9 @@ use Rattle.gh_mutator.specs.PollHeap.{Has, KeepsGhosts, no_page, Stands}
 use Rattle.gh_mutator.specs.Processor.{opening_processor}
 use Rattle.gh_mutator.specs.ProcessorPlaces.{stage_of}
 use Rattle.gh_mutator.specs.Serving.{has_left_at}
+use Rattle.gh_mutator.specs.Sweeping.{sweep_in}
+use Rattle.gh_sweep.specs.Listing.{Sweeping}
+use Rattle.gh_base.specs.Steps.{effect}
 
 -- before its first step, at its seat in a heap that opens, where it holds nothing
 abbrev pub Opens : Type 0
@@ -31,10 +34,15 @@ pub record DoesPoints (z : Arena) (a : ℕ) (s t : Shared) (m : Processor) (pend
   pub does : Does z a s t m pending found
   pub answers : option_to_list (answered_at z.shapes s.ever (point_of (acts m found))) ++ option_to_list pending ≡ option_to_list does.after ++ option_to_list (given_at m.task (gives m found))
 
--- a step of its own; the search for a slot sweeps no span itself
+-- a step of its own, where it runs no sweep
 abbrev pub OwnStep : Type 0
-OwnStep = (z : Arena) (a : ℕ) (s : Shared) (m : Processor) (pending : Option Answer) → ShapesAreGood z.shapes → is_busy_at m.task ≡ true → Good z (view s) → AllSwept (view s) → Fine z a (view s) m pending →
+OwnStep = (z : Arena) (a : ℕ) (s : Shared) (m : Processor) (pending : Option Answer) → ShapesAreGood z.shapes → is_busy_at m.task ≡ true → Good z (view s) → sweep_in m ≡ None → Fine z a (view s) m pending →
     Steps z a s (asks m) (λ t. DoesPoints z a s t m pending (s.words (cell_of (asks m))))
+
+-- a step of the sweep that it runs
+abbrev pub SweepStep : Type 0
+SweepStep = (z : Arena) (a : ℕ) (s t : Shared) (m : Processor) (pending : Option Answer) (sw : Sweeping) → ShapesAreGood z.shapes → Good z (view s) → Good z (view t) → Fine z a (view s) m pending → sweep_in m ≡ Some sw → SweepLeaves (view s) (view t) → t.words ≡ effect s.words (asks m) →
+    DoesPoints z a s t m pending (s.words (cell_of (asks m)))
 
 -- it is on a word that there is
 abbrev pub Within : Type 0
@@ -57,6 +65,7 @@ pub record RunsByItsRights : Type 0 where
   pub begins : Begins
   pub rests : Rests
   pub own_step : OwnStep
+  pub sweep_step : SweepStep
   pub within : Within
   pub lasts : Lasts
   pub stopped : Stopped

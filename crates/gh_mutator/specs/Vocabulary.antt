@@ -25,7 +25,7 @@ pub use Rattle.gh_heap.specs.Moves.{IsReached, KeepsObjects, moved, Quiet, Runs,
 pub use Rattle.gh_heap.specs.Objects.{Holds, IsMade, Means, points, size_for}
 pub use Rattle.gh_heap.specs.Rights.{Arena, Good, IsOf, Right, Shared, View, view}
 pub use Rattle.gh_heap.specs.Spans.{slot_size}
-pub use Rattle.gh_central.specs.ReclaimFacts.{AllSwept}
+pub use Rattle.gh_central.specs.Sweeping.{SweepLeaves}
 pub use Rattle.gh_alloc.specs.Find.{Finding}
 pub use Rattle.gh_alloc.specs.FindSound.{IsCached, IsSought}
 pub use Rattle.gh_alloc.specs.Place.{Placing}

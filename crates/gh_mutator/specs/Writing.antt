@@ -13,6 +13,7 @@ use Rattle.gh_mutator.specs.declared.task.Task.TheVariants as task
 use Rattle.gh_mutator.specs.declared.wait.WaitStage.TheVariants as wait_stage
 use Rattle.gh_mutator.specs.Listing.{asks, is_busy_at, takes}
 use Rattle.gh_mutator.specs.MarkVocabulary.{Cell, MarkStackStage, PollStage, SoundPlace, StackMarking, StackStage, Words, effect, opening_processor, processor_kind}
+use Rattle.gh_mutator.specs.Sweeping.{IsSweeping}
 use Rattle.gh_mutator.specs.Vocabulary.{Ask, Layout, MOST_GOROUTINES, NewStage, Op, Place, Polling, Processor, Search, Shape, Task, Wait}
 
 -- What is to be shaded is what the scan wishes for; and where nothing is, the scan's own step is next.
@@ -84,11 +85,13 @@ pub record TellsScan (m : Processor) (g : ℕ) : Type 0 where
   pub unscanned : m.poll.local.view.begun ≢ END → slice_index m.poll.local.scanned g ≢ m.poll.local.view.begun
   pub tells : asks m ≡ ask.Store (cell.Scanned g) m.poll.local.view.begun
 
--- The words that it writes: no control word beside those of the lock, the bytes and the wanted cycle.
+-- The words that it writes: no control word beside those of the lock, the bytes and the wanted cycle, and while it sweeps the counts of the sweep.
 abbrev pub IsWritten : Processor → Cell → Type 0
 IsWritten m cell.Lock = Unit {0}
 IsWritten m cell.Want = IsWanting m.task × (asks m ≡ ask.Or cell.Want 1)
-IsWritten m cell.Heap = CountsObject (asks m) m.task
+IsWritten m cell.Heap = CountsObject (asks m) m.task ⊎ IsSweeping m
+IsWritten m cell.Tally = IsSweeping m
+IsWritten m cell.Live = IsSweeping m
 IsWritten m (cell.Page i) = Unit {0}
 IsWritten m (cell.Alloc i) = Unit {0}
 IsWritten m (cell.Mark i) = Unit {0}

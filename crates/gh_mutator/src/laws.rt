@@ -13,12 +13,13 @@ ghost use Rattle.gh_mutator.specs.ProcessorMarks.{MarksByMoves};
 ghost use Rattle.gh_mutator.specs.ProcessorPlaces.{ProcessorInHandshake};
 ghost use Rattle.gh_mutator.specs.Quiet.{ProcessorIsQuiet};
 ghost use Rattle.gh_mutator.specs.Runs.{RunsByItsRights};
+ghost use Rattle.gh_mutator.specs.Sweeping.{ProcessorsRunSweeps};
 ghost use Rattle.gh_mutator.specs.Writing.{ProcessorWritesItsOwn, StacksAreNoted};
 
 use crate::heap_laws::{leaves_by_rights, polls_by_rights, waits_by_rights};
 use gh_alloc::laws::{
     allocation_is_quiet, an_object_is_marked_before_it_is_made, making_keeps_its_facts,
-    searching_keeps_its_facts,
+    searches_run_sweeps, searching_keeps_its_facts,
 };
 use gh_barrier::laws::{writes_by_moves, writing_ends, writing_is_within};
 use gh_base::laws::{cells_are_told, packed_words_are_read_back, rows_are_written};
@@ -47,9 +48,10 @@ pub fn faults_change_nothing()
 {}
 
 /// A `new` that is answered `full` has waited: a cycle that began after it did was swept. Each step beside those of
-/// the wait loaded a word, took or freed the heap's lock, or wrote a page word. It leaves the numbers of objects and
-/// all registers as they were, save its own, which is nil; no span is cached of its span class. What else the
-/// processor alone knows, the polls of the wait may have changed.
+/// the wait loaded a word, took or freed the heap's lock, wrote a page word, or was one that a sweep makes: it swapped a
+/// page word, cut alloc bits, cleared marks, or added to the counts. It leaves the numbers of objects and all registers
+/// as they were, save its own, which is nil; no span is cached of its span class. What else the processor alone knows,
+/// the polls of the wait may have changed.
 pub fn full_changes_little()
     ensures { FullChangesLittle }
 {}
@@ -193,8 +195,9 @@ pub fn a_processor_marks_by_moves()
 /// Whatever a processor finds, its step is a load, or on a word of the heap's lock, of the pages, slots, pointer bits,
 /// names, fields and globals, of the mark bits, the buffers and their entries; or on its own acknowledgement, or on the
 /// word of a stack that it has scanned or whose goroutine ends. A scan is told only of a stack of which it has not noted
-/// yet the cycle's number, so each is scanned once at the most in a cycle. It asks for a cycle once in a wait, where that begins, and
-/// adds the bytes of a slot where it has made an object. No other word is written by it. Its heap and its seat stay.
+/// yet the cycle's number, so each is scanned once at the most in a cycle. It asks for a cycle once in a wait, where that begins,
+/// adds the bytes of a slot where it has made an object, and while it sweeps a span writes what the sweep counts. No other word
+/// is written by it. Its heap and its seat stay.
 pub fn a_processor_writes_its_own()
     ensures { ProcessorWritesItsOwn }
 {
@@ -208,8 +211,8 @@ pub fn stacks_are_noted()
     ensures { StacksAreNoted }
 {}
 
-/// A processor that holds no buffer, and does not know that marking is on, writes no mark bit, no buffer and no entry,
-/// and of a stack that its goroutine has ended alone; an object that it makes it has not marked. So it goes on as long as the phases that it finds are not that of
+/// A processor that holds no buffer, and does not know that marking is on, writes no buffer, no entry, and no mark bit but
+/// those that its sweep clears, and of a stack that its goroutine has ended alone; an object that it makes it has not marked. So it goes on as long as the phases that it finds are not that of
 /// marking; and it holds no buffer still where it first finds that one.
 pub fn calm_processors_mark_nothing()
     ensures { CalmProcessorsMarkNothing }
@@ -220,12 +223,21 @@ pub fn calm_processors_mark_nothing()
     a_processor_marks_by_moves();
 }
 
-/// Whatever any number of processors do beside it: an operation begins well where it may begin; while each span that
-/// nobody owns is swept, each step of the processor is a move that its rights allow, on a word that there is, after
-/// which its registers hold what they hold in the heap that never frees, and it answers what that heap answers, or
-/// `full` where it found no room; the step that counts an object's bytes changes words alone; and what is known of it
-/// lasts. Where it is parked at a stop, or is gone, it has no right, and what is known of it lasts whatever is done to
-/// the words.
+/// While a processor runs a sweep its steps are those of the sweep, until that has ended. Only its search for a slot runs
+/// one, and begins it where it finds the head of a span with the number before the sweep generation.
+pub fn processors_run_sweeps()
+    ensures { ProcessorsRunSweeps }
+{
+    searches_run_sweeps();
+    searching_keeps_its_facts();
+}
+
+/// Whatever any number of processors do beside it: an operation begins well where it may begin; each step of the
+/// processor but those of a sweep is a move that its rights allow; each is on a word that there is, after which its
+/// registers hold what they hold in the heap that never frees, and it answers what that heap answers, or `full` where
+/// it found no room, with each span swept; the step that counts an object's bytes changes words alone; and what is known
+/// of it lasts, also behind each step of a sweep. Where it is parked at a stop, or is gone, it has no right, and what is
+/// known of it lasts whatever is done to the words.
 pub fn a_processor_runs_by_its_rights()
     ensures { RunsByItsRights }
 {
@@ -234,6 +246,7 @@ pub fn a_processor_runs_by_its_rights()
     size_class_laws();
     the_heap_is_apart();
     rights_follow();
+    gh_heap::laws::facts_last();
     searching_keeps_its_facts();
     making_keeps_its_facts();
     writes_by_moves();

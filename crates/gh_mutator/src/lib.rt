@@ -23,7 +23,8 @@
 //! [`Give`], before it acknowledges a stop. While marking is on it scans the stacks of the processor's
 //! goroutines, one at a time, by [`MarkStack`], and a store of a pointer runs the write barrier of `gh_barrier`, with
 //! the buffer that the processor holds: a poll that is no part of a wait ends with room in it. A `gc`, and a `new` that finds no room, run a [`Wait`], which
-//! polls until a cycle that began later is swept; and [`Leave`] gives all back for good. A processor has one
+//! polls until a cycle that began later is swept; and [`Leave`] gives all back for good. While spans are unswept the
+//! search of a `new` sweeps some of them, as workers and the coordinator do at the same time. A processor has one
 //! `Poll` for its whole life: that keeps its registers, its cached spans and its buffer, and each routine
 //! reads and changes them there.
 //!

@@ -3,18 +3,23 @@ use Rattle.std.proofs.Common.{◌≡◌, ℕ, zero, suc, ◌+◌, ◌-◌, ◌^�
 use Rattle.std.specs.Prelude.{min}
 use Rattle.gh_base.specs.declared.held.Held.{Held}
 use Rattle.gh_base.specs.declared.layout.Layout.{Layout}
+use Rattle.gh_base.specs.declared.pack.PageWord.{PageWord}
+use Rattle.gh_base.specs.declared.pack.PageWord.TheVariants.{Body, Free, Head}
+use Rattle.gh_base.specs.Packing.{page_of}
 use Rattle.gh_phase.specs.declared.resume.Resumed.{Resumed}
 use Rattle.gh_phase.specs.Listing as resume
 use Rattle.gh_scan.specs.Listing as scan
 use Rattle.gh_shade.specs.declared.shade.Shaded.{Shaded}
 use Rattle.gh_shade.specs.declared.shade.Shaded.TheVariants as shaded
 use Rattle.gh_shade.specs.Listing as shade
+use Rattle.gh_sweep.specs.declared.sweep.SweepEnd.{SweepEnd}
+use Rattle.gh_sweep.specs.Listing as sweep
 use Rattle.gh_wbuf.specs.BufferGiving as give
 use Rattle.gh_wbuf.specs.EntryTaking as take
 use Rattle.gh_wbuf.specs.RoomFinding as room
 use Rattle.gh_worker.specs.declared.worker.WorkerStage.{WorkerStage}
-use Rattle.gh_worker.specs.declared.worker.WorkerStage.TheVariants.{GiveBack, Resuming, Taking, Scanning, LoadGlobal, Shading, FindRoom}
-use Rattle.gh_worker.specs.Listing.{Working, after_give, after_resume, after_room, after_scan, after_shade, after_take, at_stage, done_with, goes_at}
+use Rattle.gh_worker.specs.declared.worker.WorkerStage.TheVariants.{LoadPage, Sweeping, GiveBack, Resuming, Taking, Scanning, LoadGlobal, Shading, FindRoom}
+use Rattle.gh_worker.specs.Listing.{Working, after_give, after_page, after_resume, after_room, after_scan, after_shade, after_sweep, after_take, at_stage, done_with, goes_at, page_done}
 use Rattle.gh_worker.specs.Works.{CountsWords, after, scanned, word_of, words_done, words_of}
 
 -- the count of so many words
@@ -30,6 +35,18 @@ more marks s d e = omega arith
 module _ (w : Working) (s : ℕ) (e : w.marks ≡ count s) where
   abbrev Counts : (d : ℕ) → Working → Type 0
   Counts d to = to.marks ≡ count (s + d)
+
+  page_so : (word : PageWord) → Counts 0 (after_page w word)
+  page_so (Head h) = by _ where
+    by : (b : Bool) → Counts 0 (cond b (at_stage w (Sweeping (sweep.opening w.layout w.page h))) (page_done w))
+    by true = none_more w.marks s e
+    by false = none_more w.marks s e
+  page_so Free = none_more w.marks s e
+  page_so (Body b) = none_more w.marks s e
+
+  sweep_so : (sw : sweep.Sweeping) (out : Option SweepEnd) → Counts 0 (after_sweep w sw out)
+  sweep_so sw None = none_more w.marks s e
+  sweep_so sw (Some end) = none_more w.marks s e
 
   give_so : (g : give.BufferGiving) (stops : ℕ) (out : Option (Unit {0})) → Counts 0 (after_give w g stops out)
   give_so g stops None = none_more w.marks s e
@@ -62,6 +79,8 @@ module _ (w : Working) (s : ℕ) (e : w.marks ≡ count s) where
   room_so sh r (Some h) = none_more w.marks s e
 
   step_so : (stage : WorkerStage) (found : ℕ) → Counts (words_done stage found) (goes_at w stage found)
+  step_so LoadPage found = page_so (page_of found)
+  step_so (Sweeping sw) found = sweep_so (sweep.goes sw found) (sweep.gives sw found)
   step_so (GiveBack g stops) found = give_so (give.goes g found) stops (give.gives g found)
   step_so (Resuming r) found = resume_so (resume.goes r found) (resume.gives r found)
   step_so (Taking t) found = take_so (take.goes t found) (take.gives t found)

@@ -1,7 +1,9 @@
 pub mod Vocabulary
 pub mod Counting
+pub mod Looking
 pub mod MarkShades
 pub mod MarkSteps
 pub mod Phases
 pub mod Shaking
+pub mod Sweeping
 pub mod Writing

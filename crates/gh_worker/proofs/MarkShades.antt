@@ -11,8 +11,8 @@ use Rattle.gh_shade.specs.Listing as shade
 use Rattle.gh_wbuf.specs.Facts as buffer_facts
 use Rattle.gh_wbuf.specs.RoomFinding as room
 use Rattle.gh_worker.specs.declared.worker.WorkerStage.TheVariants as worker
-use Rattle.gh_worker.proofs.Vocabulary.{after_room, after_shade, asks_at, at_stage, cell_of, claim_at, ClaimOf, Cycle, effect, Facts, goes_at, Good, Hands, Held, in_hand, InHand, IsClean, IsMarked, Keeps, KnowsObjects, landing, landing_on, Lands, lands_by, lands_still, Layout, NoClaim, nothing, Others, Quiet, ReadOf, ScanGlobal, seats_of, Shaded, ShadeStage, Shared, StageFacts, Steps, WorkerStage, Working, WorksByMoves}
-use Rattle.gh_worker.proofs.MarkSteps.{Known, claims, gives, load-cursor, load-phase, read-global, resumed, resumes, scans, still, takes}
+use Rattle.gh_worker.proofs.Vocabulary.{after_room, after_shade, asks_at, at_stage, cell_of, claim_at, ClaimOf, Cycle, effect, Facts, goes_at, Good, Hands, Held, in_hand, InHand, IsClean, IsMarked, Keeps, KnowsObjects, landing, landing_on, Lands, lands_by, lands_still, Layout, NoClaim, nothing, Others, Quiet, ReadOf, ScanGlobal, seats_of, Shaded, ShadeStage, Shared, StageFacts, Steps, sweep_at, WorkerStage, Working, WorksByMoves}
+use Rattle.gh_worker.proofs.MarkSteps.{Known, claims, gives, load-cursor, load-page, load-phase, read-global, resumed, resumes, scans, still, takes}
 
 -- what shading leaves to be known at its next stage, with the global that the worker has then
 abbrev Shading : Cycle → (a : ℕ) → Shared → Claim → shade.Shading → Type 0
@@ -105,21 +105,23 @@ module _ (k : Known) (z : Cycle) (a : ℕ) (s : Shared) (g : Good z s) (objects 
   leaves x = lands_by z a s (effect s.words (asks_at w worker.Leave)) (λ t. Facts z a t (at_stage w worker.Done)) (Quiet (asks_at w worker.Leave)) tt refl
       (record { layout_is = layout_is; seat_is = seat_is; seat_in = seat_in; stage_is = (k.follow z a s (in_hand w.held NoClaim) g x).quiet (asks_at w worker.Leave) tt })
 
-  own-at : (p : WorkerStage) → StageFacts z a s w.held p → Steps z a s (asks_at w p) (λ t. Facts z a t (goes_at w p (s.words (cell_of (asks_at w p)))))
-  own-at worker.LoadPhase x = load-phase k z a s g objects w layout_is seat_is seat_in x
-  own-at (worker.GiveBack m number) x = gives k z a s g objects w layout_is seat_is seat_in m number x
-  own-at (worker.Resuming r) x =
+  own-at : (p : WorkerStage) → sweep_at p ≡ None → StageFacts z a s w.held p → Steps z a s (asks_at w p) (λ t. Facts z a t (goes_at w p (s.words (cell_of (asks_at w p)))))
+  own-at worker.LoadPhase e x = load-phase k z a s g objects w layout_is seat_is seat_in x
+  own-at worker.LoadPage e x = load-page k z a s g objects w layout_is seat_is seat_in x
+  own-at (worker.Sweeping sw) e x = absurd cc
+  own-at (worker.GiveBack m number) e x = gives k z a s g objects w layout_is seat_is seat_in m number x
+  own-at (worker.Resuming r) e x =
       let n : ℕ = s.words (cell_of (resume.asks r)) in
       resumes k z a s g objects w layout_is seat_is seat_in r r.stage (goes_at w (worker.Resuming r) n) x.0 (λ t h. resumed k z a s g objects w layout_is seat_is seat_in (resume.goes r n) (resume.gives r n) t x.1 h)
-  own-at (worker.Taking m) x = takes k z a s g objects w layout_is seat_is seat_in m x
-  own-at (worker.Scanning m) x = scans k z a s g objects w layout_is seat_is seat_in m x
-  own-at worker.LoadCursor x = load-cursor k z a s g objects w layout_is seat_is seat_in x
-  own-at worker.Claim x = claims k z a s g objects w layout_is seat_is seat_in x.0 x.1
-  own-at (worker.LoadGlobal i) x = read-global k z a s g objects w layout_is seat_is seat_in i x.1
-  own-at (worker.Shading sh) x = shades sh x.0 x.1
-  own-at (worker.FindRoom sh r) x = finds sh r x.0 x.1 x.2
-  own-at worker.Leave x = leaves x
-  own-at worker.Done x = still k z a s g objects w layout_is seat_is seat_in cell.Touch (at_stage w worker.Done) (record { layout_is = layout_is; seat_is = seat_is; seat_in = seat_in; stage_is = x })
+  own-at (worker.Taking m) e x = takes k z a s g objects w layout_is seat_is seat_in m x
+  own-at (worker.Scanning m) e x = scans k z a s g objects w layout_is seat_is seat_in m x
+  own-at worker.LoadCursor e x = load-cursor k z a s g objects w layout_is seat_is seat_in x
+  own-at worker.Claim e x = claims k z a s g objects w layout_is seat_is seat_in x.0 x.1
+  own-at (worker.LoadGlobal i) e x = read-global k z a s g objects w layout_is seat_is seat_in i x.1
+  own-at (worker.Shading sh) e x = shades sh x.0 x.1
+  own-at (worker.FindRoom sh r) e x = finds sh r x.0 x.1 x.2
+  own-at worker.Leave e x = leaves x
+  own-at worker.Done e x = still k z a s g objects w layout_is seat_is seat_in cell.Touch (at_stage w worker.Done) (record { layout_is = layout_is; seat_is = seat_is; seat_in = seat_in; stage_is = x })
 
 stage-lasts : (k : Known) (z : Cycle) (a : ℕ) (s t : Shared) (held : Option Held) (p : WorkerStage) → Others z a s t → StageFacts z a s held p → StageFacts z a t held p
 stage-lasts k z a s t held (worker.GiveBack m number) o x = k.buffers.gives.lasts z a s t nothing m o x
@@ -135,6 +137,6 @@ stage-lasts k z a s t held _ o x = k.last z a s t (in_hand held NoClaim) o x
 pub works-by-moves : Known → WorksByMoves
 works-by-moves k = record {
   begins = λ z a s seat x. record { layout_is = refl; seat_is = refl; seat_in = seat; stage_is = x };
-  own_step = λ z a s w g objects f. own-at k z a s g objects w f.layout_is f.seat_is f.seat_in w.stage f.stage_is;
+  own_step = λ z a s w g objects e f. own-at k z a s g objects w f.layout_is f.seat_is f.seat_in w.stage e f.stage_is;
   lasts = λ z a s t w o f. record { layout_is = f.layout_is; seat_is = f.seat_is; seat_in = f.seat_in; stage_is = stage-lasts k z a s t w.held w.stage o f.stage_is };
 }

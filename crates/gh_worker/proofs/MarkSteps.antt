@@ -13,8 +13,9 @@ use Rattle.gh_shade.specs.Listing as shade
 use Rattle.gh_wbuf.specs.BufferGiving as give
 use Rattle.gh_wbuf.specs.EntryTaking as take
 use Rattle.gh_wbuf.specs.Facts as buffer_facts
+use Rattle.gh_sweep.specs.Listing as sweep
 use Rattle.gh_worker.specs.declared.worker.WorkerStage.TheVariants as worker
-use Rattle.gh_worker.proofs.Vocabulary.{Add, after_give, after_global, after_resume, after_scan, after_take, Ask, at_stage, by_phase, Cell, cell_of, ClaimGlobal, ClaimOf, Cycle, done_with, effect, Facts, Finished, goes_at, Good, Hands, Held, in_hand, InHand, IsQuiet, Keeps, KnowsObject, KnowsObjects, landing, landing_on, Lands, lands_by, lands_still, Layout, Load, Mark, moved, NoClaim, nothing, Off, PassGlobals, Phase, phase_of, put, Quiet, ReadGlobal, ReadOf, reference_in, Resumed, ResumeStage, ScanGlobal, ScanStage, seats_of, Shared, StageFacts, Steps, Stop, stops_at, Store, Taken, Went, WorkerStage, Working}
+use Rattle.gh_worker.proofs.Vocabulary.{Add, after_give, after_global, after_page, after_resume, after_scan, after_take, Ask, at_stage, by_phase, Cell, cell_of, ClaimGlobal, ClaimOf, Cycle, done_with, effect, Facts, Body, Finished, Free, goes_at, Good, Hands, Head, Held, in_hand, InHand, IsQuiet, Keeps, KnowsObject, KnowsObjects, landing, landing_on, Lands, lands_by, lands_still, Layout, Load, Mark, moved, NoClaim, nothing, Off, page_done, page_of, PageWord, PassGlobals, Phase, phase_of, put, Quiet, ReadGlobal, ReadOf, reference_in, Resumed, ResumeStage, ScanGlobal, ScanStage, seats_of, Shared, StageFacts, Steps, Stop, stops_at, Store, Taken, Went, WorkerStage, Working}
 
 pub record Known : Type 0 where
   pub last : EachHandLasts
@@ -54,6 +55,18 @@ module _ (k : Known) (z : Cycle) (a : ℕ) (s : Shared) (g : Good z s) (objects 
 
   pub load-phase : Hands a s (in_hand w.held NoClaim) → Leads (Load cell.Phase) (goes_at w worker.LoadPhase (s.words cell.Phase))
   load-phase x = still cell.Phase (goes_at w worker.LoadPhase (s.words cell.Phase)) (same s w.held w.marks (by_phase w (phase_of (s.words cell.Phase)).stops (phase_of (s.words cell.Phase)).phase) (phases (phase_of (s.words cell.Phase)).stops (phase_of (s.words cell.Phase)).phase x))
+
+  -- a page
+  paged : (word : PageWord) → Hands a s (in_hand w.held NoClaim) → Facts z a s (after_page w word)
+  paged (Head h) x = by _ where
+    by : (b : Bool) → Facts z a s (cond b (at_stage w (worker.Sweeping (sweep.opening w.layout w.page h))) (page_done w))
+    by true = same s w.held w.marks (worker.Sweeping (sweep.opening w.layout w.page h)) x
+    by false = record { layout_is = layout_is; seat_is = seat_is; seat_in = seat_in; stage_is = x }
+  paged Free x = record { layout_is = layout_is; seat_is = seat_is; seat_in = seat_in; stage_is = x }
+  paged (Body b) x = record { layout_is = layout_is; seat_is = seat_is; seat_in = seat_in; stage_is = x }
+
+  pub load-page : Hands a s (in_hand w.held NoClaim) → Leads (Load (cell.Page w.page)) (goes_at w worker.LoadPage (s.words (cell.Page w.page)))
+  load-page x = still (cell.Page w.page) (after_page w (page_of (s.words (cell.Page w.page)))) (paged (page_of (s.words (cell.Page w.page))) x)
 
   -- a buffer is given back
   pub gives : (m : give.BufferGiving) (number : ℕ) → buffer_facts.GiveFacts z a s nothing m → Leads (give.asks m) (goes_at w (worker.GiveBack m number) (s.words (cell_of (give.asks m))))

@@ -6,10 +6,11 @@ use Rattle.gh_phase.specs.Listing as resume
 use Rattle.gh_scan.specs.Listing as scan
 use Rattle.gh_shade.specs.declared.shade.Shaded.TheVariants as shaded
 use Rattle.gh_shade.specs.Listing as shade
+use Rattle.gh_sweep.specs.Listing as sweep
 use Rattle.gh_wbuf.specs.BufferGiving as give
 use Rattle.gh_wbuf.specs.EntryTaking as take
 use Rattle.gh_wbuf.specs.RoomFinding as room
-use Rattle.gh_worker.proofs.Vocabulary.{after_give, after_resume, after_room, after_scan, after_shade, after_take, asks_at, at_stage, by_phase, Claim, Done, done_with, FindRoom, FindsMarking, Finished, GiveBack, goes_at, Held, is_busy, IsLeaving, IsMarking, Leave, Load, LoadCursor, LoadGlobal, LoadPhase, Mark, Off, Phase, phase_of, reference_in, Resumed, Resuming, run_phase, Scanning, Shaded, Shading, Stop, stops_at, Taking, WorkerStage, Working}
+use Rattle.gh_worker.proofs.Vocabulary.{after_give, after_page, after_resume, after_room, after_scan, after_shade, after_sweep, after_take, asks_at, at_stage, Body, by_phase, Claim, Done, done_with, FindRoom, FindsMarking, Finished, Free, GiveBack, goes_at, Head, Held, is_busy, IsLeaving, IsMarking, Leave, Load, LoadCursor, LoadGlobal, LoadPage, LoadPhase, Mark, Off, page_done, page_of, PageWord, Phase, phase_of, reference_in, Resumed, Resuming, run_phase, Scanning, Shaded, Shading, Stop, stops_at, SweepEnd, Sweeping, Taking, WorkerStage, Working}
 
 -- Where a step does not find the last phase, the worker goes on.
 module _ (found : ℕ) (w : Working) where
@@ -57,12 +58,23 @@ module _ (found : ℕ) (w : Working) where
   either_on true one other f g x = f x
   either_on false one other f g x = g x
 
+  page_on : (word : PageWord) → IsLeaving (after_page w word).stage → ⊥
+  page_on (Head h) x = either_on _ (at_stage w (Sweeping (sweep.opening w.layout w.page h))) (page_done w) (λ y. y) (λ y. y) x
+  page_on Free x = x
+  page_on (Body b) x = x
+
+  sweep_on : (sw : sweep.Sweeping) (out : Option SweepEnd) → IsLeaving (after_sweep w sw out).stage → ⊥
+  sweep_on sw None x = x
+  sweep_on sw (Some end) x = x
+
   -- it was about to leave, or found the last phase
   abbrev FindsLast : WorkerStage → Type 0
   FindsLast stage = IsLeaving stage ⊎ ((asks_at w stage ≡ Load cell.Phase) × (run_phase (phase_of found).phase ≡ Some run.Finished))
 
   pub leaves_at : (stage : WorkerStage) → is_busy stage ≡ true → IsLeaving (goes_at w stage found).stage → FindsLast stage
   leaves_at LoadPhase busy x = inr (refl, phases_on (phase_of found).phase refl x)
+  leaves_at LoadPage busy x = absurd (page_on (page_of found) x)
+  leaves_at (Sweeping sw) busy x = absurd (sweep_on (sweep.goes sw found) (sweep.gives sw found) x)
   leaves_at (GiveBack g n) busy x = absurd (gives_on (give.goes g found) n (give.gives g found) x)
   leaves_at (Resuming r) busy x = absurd (resumes_on (resume.goes r found) (resume.gives r found) x)
   leaves_at (Taking t) busy x = absurd (takes_on (take.goes t found) (take.gives t found) x)
@@ -86,6 +98,18 @@ module _ (found : ℕ) (w : Working) where
   phases_mark Mark e x = ap run_phase e
   phases_mark Stop e x = absurd (stops_not (phase_of found).stops w.held x)
   phases_mark Finished e x = absurd x
+
+  page_not : (word : PageWord) → IsMarking (after_page w word).stage → ⊥
+  page_not (Head h) x = by _ x where
+    by : (b : Bool) → IsMarking (cond b (at_stage w (Sweeping (sweep.opening w.layout w.page h))) (page_done w)).stage → ⊥
+    by true y = y
+    by false y = y
+  page_not Free x = x
+  page_not (Body b) x = x
+
+  sweep_not : (sw : sweep.Sweeping) (out : Option SweepEnd) → IsMarking (after_sweep w sw out).stage → ⊥
+  sweep_not sw None x = x
+  sweep_not sw (Some end) x = x
 
   gives_not : (g : give.BufferGiving) (n : ℕ) (out : Option (Unit {0})) → IsMarking (after_give w g n out).stage → ⊥
   gives_not g n None x = x
@@ -119,6 +143,8 @@ module _ (found : ℕ) (w : Working) where
 
   pub marks_at : (stage : WorkerStage) → is_busy stage ≡ true → IsMarking (goes_at w stage found).stage → FindsMarking found w stage (goes_at w stage found)
   marks_at LoadPhase busy x = record { view_stays = refl; finds = inr (refl, phases_mark (phase_of found).phase refl x) }
+  marks_at LoadPage busy x = absurd (page_not (page_of found) x)
+  marks_at (Sweeping sw) busy x = absurd (sweep_not (sweep.goes sw found) (sweep.gives sw found) x)
   marks_at (GiveBack g n) busy x = absurd (gives_not (give.goes g found) n (give.gives g found) x)
   marks_at (Resuming r) busy x = absurd (resumes_not (resume.goes r found) (resume.gives r found) x)
   marks_at (Taking t) busy x = record { view_stays = take_view (take.goes t found) (take.gives t found); finds = inl tt }

@@ -10,10 +10,13 @@ use Rattle.gh_scan.specs.Listing as scan
 use Rattle.gh_scan.specs.Quiet.{MarkingIsQuiet}
 use Rattle.gh_shade.specs.declared.shade.Shaded.TheVariants as shaded
 use Rattle.gh_shade.specs.Listing as shade
+use Rattle.gh_sweep.specs.declared.sweep.SweepStage.{SweepStage}
+use Rattle.gh_sweep.specs.declared.sweep.SweepStage.TheVariants as sweeping
+use Rattle.gh_sweep.specs.Listing as sweep
 use Rattle.gh_wbuf.specs.BufferGiving as give
 use Rattle.gh_wbuf.specs.EntryTaking as take
 use Rattle.gh_wbuf.specs.RoomFinding as room
-use Rattle.gh_worker.proofs.Vocabulary.{Add, after_give, after_resume, after_room, after_scan, after_shade, after_take, Ask, asks_at, at_stage, by_phase, Claim, Done, done_with, FindRoom, GiveBack, goes_at, GoesOnWithNone, Held, is_busy, Leave, Load, LoadCursor, LoadGlobal, LoadPhase, party_at, party_of, Phase, phase_of, reference_in, Resumed, Resuming, run_phase, Scanning, Shaded, Shading, Sound, SoundAt, stage_of, stands_at, Stop, stops_at, Taking, WorkersKeepHandshake, WorkerStage, Working}
+use Rattle.gh_worker.proofs.Vocabulary.{Add, after_give, after_page, after_resume, after_room, after_scan, after_shade, after_sweep, after_take, Ask, asks_at, at_stage, Body, by_phase, Claim, Done, done_with, FindRoom, Free, GiveBack, goes_at, GoesOnWithNone, Head, Held, is_busy, Leave, Load, LoadCursor, LoadGlobal, LoadPage, LoadPhase, page_done, page_of, PageWord, party_at, party_of, Phase, phase_of, reference_in, Resumed, Resuming, run_phase, Scanning, Shaded, Shading, Sound, SoundAt, stage_of, stands_at, Stop, stops_at, SweepEnd, Sweeping, Taking, WorkersKeepHandshake, WorkerStage, Working}
 use Rattle.gh_worker.proofs.Phases.{leaves_at, marks_at}
 
 -- the worker that a step leads to, from one that is awake
@@ -56,6 +59,15 @@ module _ (found : ℕ) (w : Working) where
   either ask true one other f g = f
   either ask false one other f g = g
 
+  pages : (ask : Ask) (word : PageWord) → FromAwakeTo found ask w (after_page w word)
+  pages ask (Head h) = either ask _ (at_stage w (Sweeping (sweep.opening w.layout w.page h))) (page_done w) (tt, refl, tt) (tt, refl, tt)
+  pages ask Free = (tt, refl, tt)
+  pages ask (Body b) = (tt, refl, tt)
+
+  sweeps : (ask : Ask) (sw : sweep.Sweeping) (out : Option SweepEnd) → FromAwakeTo found ask w (after_sweep w sw out)
+  sweeps ask sw None = (tt, refl, tt)
+  sweeps ask sw (Some end) = (tt, refl, tt)
+
   at_either : (ask : Ask) (b : Bool) (one other : WorkerStage) → FromAwakeTo found ask w (at_stage w one) → FromAwakeTo found ask w (at_stage w other) → FromAwakeTo found ask w (at_stage w (cond b one other))
   at_either ask true one other f g = f
   at_either ask false one other f g = g
@@ -80,12 +92,26 @@ module _ (found : ℕ) (w : Working) where
     goes_on None e = (record { seat_is = h.seat_stays r found ∙ s.seat_is; busy = ap is_none e; none = s.none }, goes_so)
     goes_on (Some out) e = ends_so out e
 
+-- a sweep writes no word of the handshake
+sweep_quiet : (sw : sweep.Sweeping) (p : SweepStage) → IsQuiet (sweep.asks_at sw p)
+sweep_quiet sw sweeping.Begin = tt
+sweep_quiet sw (sweeping.LoadMarks i) = tt
+sweep_quiet sw (sweeping.ClearBits i marks) = tt
+sweep_quiet sw (sweeping.ClearMarks i) = tt
+sweep_quiet sw sweeping.AddTally = tt
+sweep_quiet sw sweeping.AddLive = tt
+sweep_quiet sw sweeping.AddHeap = tt
+sweep_quiet sw sweeping.Finish = tt
+sweep_quiet sw (sweeping.Ended end) = tt
+
 awakes : (found : ℕ) (w to : Working) (ask : Ask) → IsQuiet ask → FromAwakeTo found ask w to → Sound to × StageGoes found (record { seat = w.seat; view = w.view }) Awake ask (party_of to) (stage_of to)
 awakes found w to ask q f = (f.0, (f.1, q, f.2))
 
 module _ (q : MarkingIsQuiet) (h : ResumesInHandshake) where
   goes : (found : ℕ) (w : Working) (stage : WorkerStage) → SoundAt w stage → is_busy stage ≡ true → Goes found w stage (goes_at w stage found)
   goes found w LoadPhase s busy = awakes found w (goes_at w LoadPhase found) (Load cell.Phase) tt (phases found w (phase_of found).phase refl)
+  goes found w LoadPage s busy = awakes found w (goes_at w LoadPage found) (Load (cell.Page w.page)) tt (pages found w (Load (cell.Page w.page)) (page_of found))
+  goes found w (Sweeping sw) s busy = awakes found w (goes_at w (Sweeping sw) found) (sweep.asks sw) (sweep_quiet sw sw.stage) (sweeps found w (sweep.asks sw) (sweep.goes sw found) (sweep.gives sw found))
   goes found w (GiveBack g stops) s busy = gives found w q g stops (give.gives g found)
   goes found w (Resuming r) s busy = goes_on found w h r s (resume.gives r found) refl
   goes found w (Taking t) s busy = awakes found w (goes_at w (Taking t) found) (take.asks t) (q.takes t) (takes found w (take.asks t) (take.goes t found) (take.gives t found))

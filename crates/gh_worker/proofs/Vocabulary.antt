@@ -1,12 +1,14 @@
 -- The names that files of proofs with many imports share.
 pub use Rattle.gh_base.specs.Cells.{put, seats_of}
-pub use Rattle.gh_base.specs.Packing.{phase_of}
+pub use Rattle.gh_base.specs.Packing.{page_of, phase_of}
 pub use Rattle.gh_base.specs.Steps.{cell_of, effect}
 pub use Rattle.gh_base.specs.declared.cell.Ask.{Ask}
 pub use Rattle.gh_base.specs.declared.cell.Ask.TheVariants.{Add, Load, Or, Store, Swap}
 pub use Rattle.gh_base.specs.declared.cell.Cell.{Cell}
 pub use Rattle.gh_base.specs.declared.held.Held.{Held}
 pub use Rattle.gh_base.specs.declared.layout.Layout.{Layout}
+pub use Rattle.gh_base.specs.declared.pack.PageWord.{PageWord}
+pub use Rattle.gh_base.specs.declared.pack.PageWord.TheVariants.{Body, Free, Head}
 pub use Rattle.gh_base.specs.declared.pack.Phase.{Phase}
 pub use Rattle.gh_base.specs.declared.pack.Phase.TheVariants.{Finished, Mark, Off, Stop}
 pub use Rattle.gh_marks.specs.Colours.{Cycle, IsClean, IsMarked, Shared, Taken}
@@ -24,9 +26,10 @@ pub use Rattle.gh_wbuf.specs.declared.try_buffer.TryStage.{TryStage}
 pub use Rattle.gh_shade.specs.declared.shade.ShadeStage.{ShadeStage}
 pub use Rattle.gh_shade.specs.declared.shade.Shaded.{Shaded}
 pub use Rattle.gh_scan.specs.Listing.{reference_in}
+pub use Rattle.gh_sweep.specs.declared.sweep.SweepEnd.{SweepEnd}
 pub use Rattle.gh_scan.specs.declared.scan.ScanStage.{ScanStage}
 pub use Rattle.gh_worker.specs.Handshake.{FindsMarking, GoesOnWithNone, IsLeaving, IsMarking, party_at, party_of, Sound, SoundAt, stage_of, stands_at, WorkersKeepHandshake}
-pub use Rattle.gh_worker.specs.Listing.{after_give, after_global, after_resume, after_room, after_scan, after_shade, after_take, asks, asks_at, at_stage, by_phase, done_with, goes, goes_at, held_at, is_busy, stops_at, Working}
+pub use Rattle.gh_worker.specs.Listing.{after_give, after_global, after_page, after_resume, after_room, after_scan, after_shade, after_sweep, after_take, asks, asks_at, at_stage, by_phase, done_with, goes, goes_at, held_at, is_busy, page_done, stops_at, sweep_at, sweep_in, Working}
 pub use Rattle.gh_worker.specs.MarkFacts.{claim_at, Facts, in_hand, StageFacts, WorksByMoves}
 pub use Rattle.gh_worker.specs.declared.worker.WorkerStage.{WorkerStage}
-pub use Rattle.gh_worker.specs.declared.worker.WorkerStage.TheVariants.{Claim, Done, FindRoom, GiveBack, Leave, LoadCursor, LoadGlobal, LoadPhase, Resuming, Scanning, Shading, Taking}
+pub use Rattle.gh_worker.specs.declared.worker.WorkerStage.TheVariants.{Claim, Done, FindRoom, GiveBack, Leave, LoadCursor, LoadGlobal, LoadPage, LoadPhase, Resuming, Scanning, Shading, Sweeping, Taking}

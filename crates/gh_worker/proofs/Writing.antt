@@ -1,5 +1,5 @@
 -- Which words a worker writes, routine by routine; and that it writes none of marking while it is calm.
-use Rattle.std.proofs.Common.{◌≡◌, ℕ, ◌⊎◌, inl, inr, true, refl, subst, sym, Option, Some, None}
+use Rattle.std.proofs.Common.{◌≡◌, ℕ, ◌⊎◌, inl, inr, Bool, true, false, cond, refl, subst, sym, Option, Some, None}
 use Rattle.gh_base.specs.declared.pack.Phase.TheVariants as kind
 use Rattle.gh_phase.specs.declared.resume.ResumeStage.TheVariants as resuming
 use Rattle.gh_phase.specs.Listing as resume
@@ -7,6 +7,7 @@ use Rattle.gh_scan.specs.declared.scan.ScanStage.TheVariants as scanning
 use Rattle.gh_scan.specs.Listing as scan
 use Rattle.gh_shade.specs.declared.shade.ShadeStage.TheVariants as shading
 use Rattle.gh_shade.specs.Listing as shade
+use Rattle.gh_sweep.specs.Listing as sweep
 use Rattle.gh_wbuf.specs.declared.find_room.RoomStage.TheVariants as finding
 use Rattle.gh_wbuf.specs.declared.give_buffer.GiveStage.{GiveStage}
 use Rattle.gh_wbuf.specs.declared.give_buffer.GiveStage.TheVariants as giving
@@ -18,7 +19,7 @@ use Rattle.gh_wbuf.specs.RoomFinding as room
 use Rattle.gh_wbuf.specs.Trying as try
 use Rattle.gh_worker.specs.declared.worker.WorkerStage.TheVariants as work
 use Rattle.gh_worker.specs.Writing.{AcksAlone, CalmWorkersMarkNothing, IsCalm, Rests, WorkersWriteTheirOwn, WritesItsOwn}
-use Rattle.gh_worker.proofs.Vocabulary.{after_resume, asks_at, by_phase, goes_at, GoesOnWithNone, Held, is_busy, IsMarking, Phase, phase_of, Resumed, ResumeStage, RoomStage, ScanStage, ShadeStage, Sound, SoundAt, stops_at, TakeStage, TryStage, WorkerStage, Working}
+use Rattle.gh_worker.proofs.Vocabulary.{after_page, after_resume, after_sweep, asks_at, at_stage, Body, by_phase, Free, goes_at, GoesOnWithNone, Head, Held, is_busy, IsMarking, page_done, page_of, PageWord, Phase, phase_of, Resumed, ResumeStage, RoomStage, ScanStage, ShadeStage, Sound, SoundAt, stops_at, sweep_at, SweepEnd, TakeStage, TryStage, WorkerStage, Working}
 
 module _ (seat : ℕ) where
   backs : (t : try.Trying) (held : Option Held) → WritesItsOwn seat (try.back_at t held)
@@ -59,20 +60,21 @@ module _ (seat : ℕ) where
   resumes r resuming.Acknowledge e = e
   resumes r _ e = tt
 
-writes_at : (w : Working) (p : WorkerStage) → SoundAt w p → is_busy p ≡ true → WritesItsOwn w.seat (asks_at w p)
-writes_at w (work.GiveBack g stops) s b = gives w.seat g.stage
-writes_at w (work.Resuming r) s b = resumes w.seat r r.stage s.seat_is
-writes_at w (work.Taking t) s b = takes w.seat t t.stage
-writes_at w (work.Scanning m) s b = scans w.seat m m.stage
-writes_at w work.Claim s b = (refl, refl)
-writes_at w (work.Shading sh) s b = shades w.seat sh sh.stage
-writes_at w (work.FindRoom sh r) s b = finds_room w.seat r r.stage
-writes_at w work.Leave s b = refl
-writes_at w work.Done s b = absurd cc
-writes_at w _ s b = tt
+writes_at : (w : Working) (p : WorkerStage) → SoundAt w p → sweep_at p ≡ None → is_busy p ≡ true → WritesItsOwn w.seat (asks_at w p)
+writes_at w (work.GiveBack g stops) s e b = gives w.seat g.stage
+writes_at w (work.Resuming r) s e b = resumes w.seat r r.stage s.seat_is
+writes_at w (work.Taking t) s e b = takes w.seat t t.stage
+writes_at w (work.Scanning m) s e b = scans w.seat m m.stage
+writes_at w work.Claim s e b = (refl, refl)
+writes_at w (work.Shading sh) s e b = shades w.seat sh sh.stage
+writes_at w (work.FindRoom sh r) s e b = finds_room w.seat r r.stage
+writes_at w work.Leave s e b = refl
+writes_at w work.Done s e b = absurd cc
+writes_at w (work.Sweeping sw) s e b = absurd cc
+writes_at w _ s e b = tt
 
 pub writes_its_own : WorkersWriteTheirOwn
-writes_its_own w s b = writes_at w w.stage s b
+writes_its_own w s e b = writes_at w w.stage s e b
 
 -- While it is calm.
 
@@ -80,12 +82,14 @@ acks : (seat : ℕ) (r : resume.Resuming) (p : ResumeStage) → r.seat ≡ seat 
 acks seat r resuming.Acknowledge e = e
 acks seat r _ e = tt
 
-acks_at : (w : Working) (p : WorkerStage) → SoundAt w p → Rests p → is_busy p ≡ true → AcksAlone w.seat (asks_at w p)
-acks_at w work.LoadPhase s c b = tt
-acks_at w (work.Resuming r) s c b = acks w.seat r r.stage s.seat_is
-acks_at w work.Leave s c b = refl
-acks_at w work.Done s c b = absurd cc
-acks_at w _ s c b = absurd c
+acks_at : (w : Working) (p : WorkerStage) → SoundAt w p → Rests p → sweep_at p ≡ None → is_busy p ≡ true → AcksAlone w.seat (asks_at w p)
+acks_at w work.LoadPhase s c e b = tt
+acks_at w work.LoadPage s c e b = tt
+acks_at w (work.Sweeping sw) s c e b = absurd cc
+acks_at w (work.Resuming r) s c e b = acks w.seat r r.stage s.seat_is
+acks_at w work.Leave s c e b = refl
+acks_at w work.Done s c e b = absurd cc
+acks_at w _ s c e b = absurd c
 
 stops_calm : (w : Working) (stops : ℕ) (held : Option Held) → w.held ≡ None → held ≡ None → Rests (stops_at w stops held)
 stops_calm w stops None e x = tt
@@ -101,11 +105,25 @@ resumes_calm : (w : Working) (r : resume.Resuming) (out : Option Resumed) → w.
 resumes_calm w r None e = record { none = e; rests = tt }
 resumes_calm w r (Some out) e = record { none = e; rests = tt }
 
+pages_calm : (w : Working) (word : PageWord) → w.held ≡ None → IsCalm (after_page w word)
+pages_calm w (Head h) e = by _ where
+  by : (b : Bool) → IsCalm (cond b (at_stage w (work.Sweeping (sweep.opening w.layout w.page h))) (page_done w))
+  by true = record { none = e; rests = tt }
+  by false = record { none = e; rests = tt }
+pages_calm w Free e = record { none = e; rests = tt }
+pages_calm w (Body b) e = record { none = e; rests = tt }
+
+sweeps_calm : (w : Working) (sw : sweep.Sweeping) (out : Option SweepEnd) → w.held ≡ None → IsCalm (after_sweep w sw out)
+sweeps_calm w sw None e = record { none = e; rests = tt }
+sweeps_calm w sw (Some end) e = record { none = e; rests = tt }
+
 abbrev Stays : Working → Type 0
 Stays to = IsCalm to ⊎ IsMarking to.stage
 
 stays_at : (w : Working) (p : WorkerStage) (found : ℕ) → w.held ≡ None → Rests p → is_busy p ≡ true → Stays (goes_at w p found)
 stays_at w work.LoadPhase found e c b = elim (loads_calm w (phase_of found).stops (phase_of found).phase e) [ inl x ↦ inl (record { none = e; rests = x }) | inr y ↦ inr y ]
+stays_at w work.LoadPage found e c b = inl (pages_calm w (page_of found) e)
+stays_at w (work.Sweeping sw) found e c b = inl (sweeps_calm w (sweep.goes sw found) (sweep.gives sw found) e)
 stays_at w (work.Resuming r) found e c b = inl (resumes_calm w (resume.goes r found) (resume.gives r found) e)
 stays_at w work.Leave found e c b = inl (record { none = e; rests = tt })
 stays_at w work.Done found e c b = absurd cc
@@ -119,5 +137,5 @@ calm_marks_nothing = record {
   at_first = λ l seat. record { none = refl; rests = tt };
   after_stop = stopped;
   stays = λ w found c b. stays_at w w.stage found c.none c.rests b;
-  writes = λ w s c b. acks_at w w.stage s c.rests b;
+  writes = λ w s c e b. acks_at w w.stage s c.rests e b;
 }

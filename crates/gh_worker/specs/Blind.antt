@@ -8,15 +8,19 @@ use Rattle.gh_scan.specs.Blind as scans
 use Rattle.gh_scan.specs.Listing as scan
 use Rattle.gh_shade.specs.Blind as shading
 use Rattle.gh_shade.specs.Listing as shade
+use Rattle.gh_sweep.specs.Blind as sweeps
+use Rattle.gh_sweep.specs.Listing as sweep
 use Rattle.gh_wbuf.specs.Blind.{give_blind, room_blind, take_blind}
 use Rattle.gh_wbuf.specs.BufferGiving as give
 use Rattle.gh_wbuf.specs.EntryTaking as take
 use Rattle.gh_wbuf.specs.RoomFinding as room
-use Rattle.gh_worker.specs.Listing.{after_give, after_resume, after_room, after_scan, after_shade, after_take, asks, asks_at, goes, goes_at, Working}
-use Rattle.gh_worker.specs.Vocabulary.{Claim, FindRoom, GiveBack, LoadCursor, LoadGlobal, LoadPhase, Resuming, Scanning, Shading, Taking, WorkerStage}
+use Rattle.gh_worker.specs.Listing.{after_give, after_resume, after_room, after_scan, after_shade, after_sweep, after_take, asks, asks_at, goes, goes_at, Working}
+use Rattle.gh_worker.specs.Vocabulary.{Claim, FindRoom, GiveBack, LoadCursor, LoadGlobal, LoadPage, LoadPhase, Resuming, Scanning, Shading, Sweeping, Taking, WorkerStage}
 
 blind_at : (w : Working) (stage : WorkerStage) (found other : ℕ) → is_store (asks_at w stage) ≡ true → goes_at w stage found ≡ goes_at w stage other
 blind_at w LoadPhase found other e = absurd (cc)
+blind_at w LoadPage found other e = absurd (cc)
+blind_at w (Sweeping sw) found other e = ap (λ (x : sweep.Sweeping). after_sweep w x (sweep.given x)) (sweeps.blind sw found other e)
 blind_at w (GiveBack g stops) found other e = ap (λ (x : give.BufferGiving). after_give w x stops (give.given x)) (give_blind g found other e)
 blind_at w (Resuming r) found other e = ap (λ (x : resume.Resuming). after_resume w x (resume.given x)) (resumes.blind r found other e)
 blind_at w (Taking t) found other e = ap (λ (x : take.EntryTaking). after_take w x (take.given x)) (take_blind t found other e)

@@ -5,5 +5,6 @@ pub mod Listing
 pub mod MarkFacts
 pub mod Sound
 pub mod Stays
+pub mod Sweeping
 pub mod Works
 pub mod Writing

@@ -8,22 +8,26 @@ use Rattle.gh_phase.specs.Views.{first_view}
 use Rattle.gh_scan.specs.Listing as scan
 use Rattle.gh_shade.specs.declared.shade.Shaded.TheVariants as shaded
 use Rattle.gh_shade.specs.Listing as shade
+use Rattle.gh_sweep.specs.declared.sweep.SweepEnd.{SweepEnd}
+use Rattle.gh_sweep.specs.Listing as sweep
+use Rattle.gh_sweep.specs.Listing.{Sweeping as SpanSweep}
 use Rattle.gh_wbuf.specs.BufferGiving as give
 use Rattle.gh_wbuf.specs.EntryTaking as take
 use Rattle.gh_wbuf.specs.RoomFinding as room
-use Rattle.gh_worker.specs.Vocabulary.{Add, Ask, Claim, Done, FindRoom, Finished, GiveBack, GONE, Held, Layout, Leave, Listing, Load, LoadCursor, LoadGlobal, LoadPhase, Mark, Off, Phase, phase_of, reference_in, Resumed, Resuming, Scanning, Shaded, Shading, Stop, Store, Taking, WorkerStage}
+use Rattle.gh_worker.specs.Vocabulary.{Add, Ask, Claim, Done, FindRoom, Finished, GiveBack, GONE, Free, Body, Head, Held, Layout, Leave, Listing, Load, LoadCursor, LoadGlobal, LoadPage, LoadPhase, Mark, Off, page_of, PageWord, Phase, phase_of, reference_in, Resumed, Resuming, Scanning, Shaded, Shading, Stop, Store, Sweeping, Taking, WorkerStage}
 
--- a worker: the buffer that it holds between its routines, what it knows of the phase, the words that it has scanned, and its stage
+-- a worker: the buffer that it holds between its routines, what it knows of the phase, the words that it has scanned, the page that it looks at next with marking off, and its stage
 pub record Working : Type 0 where
   pub layout : Layout
   pub seat : ℕ
   pub held : Option Held
   pub view : View
   pub marks : ℕ
+  pub page : ℕ
   pub stage : WorkerStage
 
 abbrev pub opening : Layout → (seat : ℕ) → Working
-opening l seat = record { layout = l; seat = seat; held = None; view = first_view; marks = 0; stage = LoadPhase }
+opening l seat = record { layout = l; seat = seat; held = None; view = first_view; marks = 0; page = 0; stage = LoadPhase }
 
 abbrev pub at_stage : Working → WorkerStage → Working
 at_stage w stage = record w { stage = stage }
@@ -43,6 +47,8 @@ counted marks words = min (marks + words) (2 ^ 64 - 1)
 
 abbrev pub asks_at : Working → WorkerStage → Ask
 asks_at w LoadPhase = Load cell.Phase
+asks_at w LoadPage = Load (cell.Page w.page)
+asks_at w (Sweeping sw) = sweep.asks sw
 asks_at w (GiveBack g stops) = give.asks g
 asks_at w (Resuming r) = resume.asks r
 asks_at w (Taking t) = take.asks t
@@ -66,10 +72,29 @@ stops_at w stops (Some h) = GiveBack (give.opening w.layout h) stops
 
 -- by the phase that was found, with the number of stops
 abbrev pub by_phase : Working → (stops : ℕ) → Phase → WorkerStage
-by_phase w stops Off = LoadPhase
+by_phase w stops Off = LoadPage
 by_phase w stops Mark = Taking (take.opening w.layout w.seat w.held)
 by_phase w stops Stop = stops_at w stops w.held
 by_phase w stops Finished = Leave
+
+-- the page behind this one, and behind the last the first
+abbrev pub page_past : Layout → ℕ → ℕ
+page_past l page = if nat_lt (page + 1) l.pages then page + 1 else 0
+
+-- it is done with the page at its cursor
+abbrev pub page_done : Working → Working
+page_done w = record w { page = page_past w.layout w.page; stage = LoadPhase }
+
+-- where the page's word is the head of a span that is not swept, it sweeps the span
+abbrev pub after_page : Working → PageWord → Working
+after_page w (Head h) = if h.number + 2 == w.view.generation then at_stage w (Sweeping (sweep.opening w.layout w.page h)) else page_done w
+after_page w Free = page_done w
+after_page w (Body b) = page_done w
+
+-- a sweep that is lost another has begun
+abbrev pub after_sweep : Working → SpanSweep → Option SweepEnd → Working
+after_sweep w sw None = at_stage w (Sweeping sw)
+after_sweep w sw (Some end) = page_done w
 
 -- after the buffer is given back none is held
 abbrev pub after_give : Working → give.BufferGiving → (stops : ℕ) → Option (Unit {0}) → Working
@@ -109,6 +134,8 @@ after_room w sh r (Some h) = at_stage w (Shading (shade.told_room sh h))
 
 abbrev pub goes_at : Working → WorkerStage → ℕ → Working
 goes_at w LoadPhase found = at_stage w (by_phase w (phase_of found).stops (phase_of found).phase)
+goes_at w LoadPage found = after_page w (page_of found)
+goes_at w (Sweeping sw) found = after_sweep w (sweep.goes sw found) (sweep.gives sw found)
 goes_at w (GiveBack g stops) found = after_give w (give.goes g found) stops (give.gives g found)
 goes_at w (Resuming r) found = after_resume w (resume.goes r found) (resume.gives r found)
 goes_at w (Taking t) found = after_take w (take.goes t found) (take.gives t found)
@@ -148,3 +175,11 @@ gives w found = given (goes w found)
 
 abbrev pub listing : Listing Working (Unit {0})
 listing = listing_of (λ w. w.layout) asks goes given
+
+-- the sweep that it runs, if it runs one
+abbrev pub sweep_at : WorkerStage → Option SpanSweep
+sweep_at (Sweeping sw) = Some sw
+sweep_at _ = None
+
+abbrev pub sweep_in : Working → Option SpanSweep
+sweep_in w = sweep_at w.stage

@@ -17,7 +17,7 @@ use Rattle.gh_shade.specs.Listing as shade
 use Rattle.gh_wbuf.specs.Facts as buffer_facts
 use Rattle.gh_worker.specs.declared.worker.WorkerStage.{WorkerStage}
 use Rattle.gh_worker.specs.declared.worker.WorkerStage.TheVariants as worker
-use Rattle.gh_worker.specs.Listing.{Working, asks, goes, opening}
+use Rattle.gh_worker.specs.Listing.{Working, asks, goes, opening, sweep_in}
 
 -- What it has in hand: a buffer, and a global.
 abbrev pub in_hand : Option Held → Claim → InHand
@@ -33,6 +33,8 @@ claim_at i reference shade_stage.Ended = NoClaim
 
 abbrev pub StageFacts : Cycle → (a : ℕ) → Shared → Option Held → WorkerStage → Type 0
 StageFacts z a s held worker.LoadPhase = Hands a s (in_hand held NoClaim)
+StageFacts z a s held worker.LoadPage = Hands a s (in_hand held NoClaim)
+StageFacts z a s held (worker.Sweeping sw) = Hands a s (in_hand held NoClaim)
 StageFacts z a s held (worker.GiveBack g stops) = buffer_facts.GiveFacts z a s nothing g
 StageFacts z a s held (worker.Resuming r) = Hands a s nothing × (held ≡ None)
 StageFacts z a s held (worker.Taking t) = buffer_facts.TakeFacts z a s nothing t
@@ -53,5 +55,6 @@ pub record Facts (z : Cycle) (a : ℕ) (s : Shared) (w : Working) : Type 0 where
 
 pub record WorksByMoves : Type 0 where
   pub begins : (z : Cycle) (a : ℕ) (s : Shared) → a < seats_of z.arena.layout → Hands a s nothing → Facts z a s (opening z.arena.layout a)
-  pub own_step : (z : Cycle) (a : ℕ) (s : Shared) (w : Working) → Good z s → KnowsObjects z s → Facts z a s w → Steps z a s (asks w) (λ t. Facts z a t (goes w (s.words (cell_of (asks w)))))
+  -- none sweeps while marking is on
+  pub own_step : (z : Cycle) (a : ℕ) (s : Shared) (w : Working) → Good z s → KnowsObjects z s → sweep_in w ≡ None → Facts z a s w → Steps z a s (asks w) (λ t. Facts z a t (goes w (s.words (cell_of (asks w)))))
   pub lasts : (z : Cycle) (a : ℕ) (s t : Shared) (w : Working) → Others z a s t → Facts z a s w → Facts z a t w

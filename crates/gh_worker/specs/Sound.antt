@@ -7,10 +7,11 @@ use Rattle.gh_phase.specs.Views.{FitsView}
 use Rattle.gh_scan.specs.Listing as scan
 use Rattle.gh_scan.specs.Sound.{Runs, Waits}
 use Rattle.gh_shade.specs.Listing as shade
+use Rattle.gh_sweep.specs.Listing as sweep
 use Rattle.gh_wbuf.specs.BufferGiving as give
 use Rattle.gh_wbuf.specs.EntryTaking as take
 use Rattle.gh_worker.specs.declared.worker.WorkerStage.{WorkerStage}
-use Rattle.gh_worker.specs.declared.worker.WorkerStage.TheVariants.{GiveBack, Resuming, Taking, Scanning, LoadGlobal, Shading, FindRoom}
+use Rattle.gh_worker.specs.declared.worker.WorkerStage.TheVariants.{Sweeping, GiveBack, Resuming, Taking, Scanning, LoadGlobal, Shading, FindRoom}
 use Rattle.gh_worker.specs.Listing.{Working}
 
 -- the seat of a worker: the processors have the seats before, and the coordinator the one behind
@@ -23,6 +24,7 @@ pub record GivesAtStop (l : Layout) (g : give.BufferGiving) (number : ℕ) : Typ
   pub stops : number < 2 ^ 62
 
 abbrev pub FitsStage : Layout → WorkerStage → Type 0
+FitsStage l (Sweeping sw) = Runs l sw.layout (sweep.is_busy sw.stage)
 FitsStage l (GiveBack g stops) = GivesAtStop l g stops
 FitsStage l (Resuming r) = Runs l r.layout (resume.is_busy r)
 FitsStage l (Taking t) = Runs l t.layout (take.is_busy t.stage)
@@ -36,4 +38,5 @@ pub record FitsWorker (w : Working) : Type 0 where
   pub seat : IsWorkersSeat w.layout w.seat
   pub held : IsHeld w.layout w.held
   pub view : FitsView w.view
+  pub page : w.page < w.layout.pages
   pub stage : FitsStage w.layout w.stage

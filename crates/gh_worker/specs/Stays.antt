@@ -5,11 +5,13 @@ use Rattle.gh_phase.specs.Listing as resume
 use Rattle.gh_scan.specs.Listing as scan
 use Rattle.gh_shade.specs.declared.shade.Shaded.TheVariants as shaded
 use Rattle.gh_shade.specs.Listing as shade
+use Rattle.gh_sweep.specs.declared.sweep.SweepEnd.{SweepEnd}
+use Rattle.gh_sweep.specs.Listing as sweep
 use Rattle.gh_wbuf.specs.BufferGiving as give
 use Rattle.gh_wbuf.specs.EntryTaking as take
 use Rattle.gh_wbuf.specs.RoomFinding as room
-use Rattle.gh_worker.specs.Listing.{Working, after_give, after_resume, after_room, after_scan, after_shade, after_take, gives, goes, goes_at, is_busy}
-use Rattle.gh_worker.specs.Vocabulary.{FindRoom, GiveBack, Held, LoadGlobal, Resumed, Resuming, Scanning, Shaded, Shading, Taking, WorkerStage}
+use Rattle.gh_worker.specs.Listing.{Working, after_give, after_page, after_resume, after_room, after_scan, after_shade, after_sweep, after_take, gives, goes, goes_at, is_busy}
+use Rattle.gh_worker.specs.Vocabulary.{Body, FindRoom, Free, GiveBack, Head, Held, LoadGlobal, LoadPage, page_of, PageWord, Resumed, Resuming, Scanning, Shaded, Shading, Sweeping, Taking, WorkerStage}
 
 abbrev Stays : (w to : Working) → Type 0
 Stays w to = to.layout ≡ w.layout
@@ -44,7 +46,18 @@ either_stays : (w one other : Working) (b : Bool) → Stays w one → Stays w ot
 either_stays w one other true e f = e
 either_stays w one other false e f = f
 
+page_stays : (w : Working) (word : PageWord) → Stays w (after_page w word)
+page_stays w (Head h) = either_stays w _ _ _ refl refl
+page_stays w Free = refl
+page_stays w (Body b) = refl
+
+sweep_stays : (w : Working) (sw : sweep.Sweeping) (out : Option SweepEnd) → Stays w (after_sweep w sw out)
+sweep_stays w sw None = refl
+sweep_stays w sw (Some end) = refl
+
 stays_at : (w : Working) (stage : WorkerStage) (found : ℕ) → Stays w (goes_at w stage found)
+stays_at w LoadPage found = page_stays w (page_of found)
+stays_at w (Sweeping sw) found = sweep_stays w (sweep.goes sw found) (sweep.gives sw found)
 stays_at w (GiveBack g stops) found = give_stays w (give.goes g found) stops (give.gives g found)
 stays_at w (Resuming r) found = resume_stays w (resume.goes r found) (resume.gives r found)
 stays_at w (Taking t) found = take_stays w (take.goes t found) (take.gives t found)

@@ -7,9 +7,9 @@ use Rattle.gh_base.specs.declared.cell.Cell.TheVariants as cell
 use Rattle.gh_base.specs.declared.layout.Layout.{Layout}
 use Rattle.gh_phase.specs.Listing as resume
 use Rattle.gh_worker.specs.declared.worker.WorkerStage.{WorkerStage}
-use Rattle.gh_worker.specs.declared.worker.WorkerStage.TheVariants.{LoadPhase, Resuming, Leave, Done}
+use Rattle.gh_worker.specs.declared.worker.WorkerStage.TheVariants.{LoadPhase, LoadPage, Sweeping, Resuming, Leave, Done}
 use Rattle.gh_worker.specs.Handshake.{IsMarking, Sound}
-use Rattle.gh_worker.specs.Listing.{asks, goes, is_busy, opening, Working}
+use Rattle.gh_worker.specs.Listing.{asks, goes, is_busy, opening, sweep_in, Working}
 
 -- a word of a buffer, an entry of one, a word of marks, or this seat's acknowledgement
 abbrev pub IsWritten : (seat : ℕ) → Cell → Type 0
@@ -29,11 +29,13 @@ WritesItsOwn seat (Add c more) = (c ≡ cell.Gcur) × (more ≡ 1)
 WritesItsOwn seat (Swap c old new) = IsWritten seat c
 
 abbrev pub WorkersWriteTheirOwn : Type 0
-WorkersWriteTheirOwn = (w : Working) → Sound w → is_busy w.stage ≡ true → WritesItsOwn w.seat (asks w)
+WorkersWriteTheirOwn = (w : Working) → Sound w → sweep_in w ≡ None → is_busy w.stage ≡ true → WritesItsOwn w.seat (asks w)
 
--- it loads the phase, goes on after a stop, or leaves
+-- it loads the phase or a page, sweeps, goes on after a stop, or leaves
 abbrev pub Rests : WorkerStage → Type 0
 Rests LoadPhase = Unit {0}
+Rests LoadPage = Unit {0}
+Rests (Sweeping sw) = Unit {0}
 Rests (Resuming r) = Unit {0}
 Rests Leave = Unit {0}
 Rests Done = Unit {0}
@@ -56,5 +58,5 @@ pub record CalmWorkersMarkNothing : Type 0 where
   pub after_stop : (w : Working) (r : resume.Resuming) → Sound w → w.stage ≡ Resuming r → IsCalm w
   -- and it stays so until it finds that marking is on
   pub stays : (w : Working) (found : ℕ) → IsCalm w → is_busy w.stage ≡ true → IsCalm (goes w found) ⊎ IsMarking (goes w found).stage
-  -- it writes its acknowledgement and nothing else
-  pub writes : (w : Working) → Sound w → IsCalm w → is_busy w.stage ≡ true → AcksAlone w.seat (asks w)
+  -- while it runs no sweep it writes its acknowledgement and nothing else
+  pub writes : (w : Working) → Sound w → IsCalm w → sweep_in w ≡ None → is_busy w.stage ≡ true → AcksAlone w.seat (asks w)

@@ -3,6 +3,7 @@
 
 ghost use Rattle.gh_worker.specs.Handshake.{WorkersKeepHandshake};
 ghost use Rattle.gh_worker.specs.MarkFacts.{WorksByMoves};
+ghost use Rattle.gh_worker.specs.Sweeping.{WorkersRunSweeps};
 ghost use Rattle.gh_worker.specs.Works.{WordsAreCounted};
 ghost use Rattle.gh_worker.specs.Writing.{CalmWorkersMarkNothing, WorkersWriteTheirOwn};
 
@@ -27,8 +28,8 @@ pub fn a_worker_keeps_the_handshake()
     marking_is_quiet();
 }
 
-/// Whatever any number of actors do beside it while marking is on: each step of a worker is made of moves that
-/// its seat may make, and what is known at each stage holds then and lasts. It has in hand what the stage says
+/// Whatever any number of actors do beside it while marking is on: each step of a worker that sweeps no span is made of
+/// moves that its seat may make, and what is known at each stage holds then and lasts. It has in hand what the stage says
 /// and nothing else, so where it acknowledges a stop it has nothing.
 pub fn works_by_moves()
     ensures { WorksByMoves }
@@ -42,14 +43,21 @@ pub fn works_by_moves()
     scans_by_moves();
 }
 
-/// A worker writes no word but those of buffers, entries and marks, the cursor by one global, and its own
-/// acknowledgement.
+/// A worker that sweeps a span makes the steps of that sweep until it has ended, and no others. It begins one only
+/// where it finds the head of a span with the number before the sweep generation, and it looks for such a head only
+/// behind a load of the phase that found marking off.
+pub fn workers_run_sweeps()
+    ensures { WorkersRunSweeps }
+{}
+
+/// While it sweeps no span a worker writes no word but those of buffers, entries and marks, the cursor by one global,
+/// and its own acknowledgement.
 pub fn a_worker_writes_its_own()
     ensures { WorkersWriteTheirOwn }
 {}
 
-/// A worker that holds no buffer and marks nothing stays so until it finds that marking is on, and writes its
-/// acknowledgement alone. It is so before its first step, and while it goes on after a stop.
+/// A worker that holds no buffer and marks nothing stays so until it finds that marking is on. While it sweeps no span
+/// it writes its acknowledgement alone then. It is so before its first step, and while it goes on after a stop.
 pub fn calm_workers_mark_nothing()
     ensures { CalmWorkersMarkNothing }
 {}

@@ -1,4 +1,4 @@
-//! The worker: an actor that marks in the background while goroutines run.
+//! The worker: an actor that marks and sweeps in the background while goroutines run.
 //!
 //! Marking has two sources of grey objects: the roots, and what is grey already. A worker takes grey
 //! objects from the work buffers and scans each, which shades what it refers to; where no buffer has one
@@ -8,8 +8,12 @@
 //!
 //! Between two objects it loads the phase. At a stop it gives its buffer back before it acknowledges: the
 //! collector looks for grey objects in the buffers that nobody holds, and one that a stopped worker kept
-//! would be missed, and its object freed. With marking off it waits. Once the last cycle is swept it says
-//! that it is gone, and is done.
+//! would be missed, and its object freed. Once the last cycle is swept it says that it is gone, and is done.
+//!
+//! With marking off it sweeps: between two loads of the phase it looks at one page, and where that is the
+//! head of an unswept span it sweeps the span. It goes round the arena, page by page, so that it
+//! acknowledges a stop after one sweep at the most. A span that another has begun to sweep it leaves to that
+//! one, and need not wait: the coordinator waits for each.
 //!
 //! This is Go's `gcBgMarkWorker` (mgc.go) with `gcDrain` (mgcmark.go). Go parks its workers between cycles
 //! and starts them by the scheduler; here each loads the phase until marking is on. Go claims roots by

@@ -2,18 +2,21 @@
 
 ghost use Rattle.std.specs.Prelude.{◌≡◌, ◌^◌, ◌<◌, IsTrue, ◌↔◌, Option, false, true};
 ghost use Rattle.gh_base.specs.Holding.{IsHeld};
+ghost use Rattle.gh_base.specs.Packing.{page_of};
 ghost use Rattle.gh_phase.specs.Listing as resumes;
 ghost use Rattle.gh_scan.specs.Listing as scans;
 ghost use Rattle.gh_scan.specs.Sound.{Runs, Waits};
 ghost use Rattle.gh_shade.specs.Listing as shades;
+ghost use Rattle.gh_sweep.specs.Listing as sweeps;
 ghost use Rattle.gh_wbuf.specs.EntryTaking as takes;
-ghost use Rattle.gh_worker.specs.Listing.{after_global, done_with, given, gives, goes, goes_at, held_at, is_busy, loads_phase, opening, resuming, stops_at};
+ghost use Rattle.gh_worker.specs.Listing.{after_global, after_page, done_with, given, gives, goes, goes_at, held_at, is_busy, loads_phase, opening, page_done, page_past, resuming, stops_at};
 ghost use Rattle.gh_worker.specs.Sound.{IsWorkersSeat};
 
-use gh_base::{Ask, Cell, GONE, Held, Layout, Machine, Phase, PhaseWord, Req};
+use gh_base::{Ask, Cell, GONE, Held, Layout, Machine, PageWord, Phase, PhaseWord, Req};
 use gh_phase::{Resume, Resumed, View};
 use gh_scan::Scan;
 use gh_shade::{Shade, Shaded};
+use gh_sweep::Sweep;
 use gh_wbuf::{FindRoom, GiveBuffer, TakeEntry};
 use std::marker::Model;
 
@@ -22,6 +25,10 @@ use std::marker::Model;
 pub enum WorkerStage {
     /// It loads the phase.
     LoadPhase,
+    /// It looks at the page at its cursor.
+    LoadPage,
+    /// It sweeps the span whose head it met there.
+    Sweeping(Sweep),
     /// It gives its buffer back, at the stop of this number.
     GiveBack(GiveBuffer, u64),
     /// It acknowledges a stop and goes on.
@@ -50,8 +57,9 @@ pub enum WorkerStage {
 ///
 /// Again and again it loads the phase. While marking is on it takes a grey object and scans it; where no
 /// buffer has one it claims the next global, if one is left, and shades what that refers to. At a stop it
-/// gives its buffer back, acknowledges, and goes on once the world runs again. With marking off it loads the
-/// phase again. Where the last cycle is swept it says that it is gone, and is done.
+/// gives its buffer back, acknowledges, and goes on once the world runs again. With marking off it looks at the
+/// next page of the arena, and sweeps the span there if it is unswept (Go's `bgsweep`, mgcsweep.go). Where the
+/// last cycle is swept it says that it is gone, and is done.
 #[derive(Clone, Copy, Debug, PartialEq, Eq)]
 pub struct Worker {
     layout: Layout,
@@ -60,6 +68,8 @@ pub struct Worker {
     view: View,
     // The words that it has scanned.
     marks: u64,
+    // The page that it looks at next with marking off.
+    page: u32,
     stage: WorkerStage,
 }
 
@@ -69,11 +79,11 @@ impl Model for Worker {
 
     ghost Value = { Working };
 
-    ghost view = { λ w. record { layout = w.layout; seat = w.seat; held = w.held; view = w.view; marks = w.marks; stage = w.stage } };
+    ghost view = { λ w. record { layout = w.layout; seat = w.seat; held = w.held; view = w.view; marks = w.marks; page = w.page; stage = w.stage } };
 
-    ghost invariant = { λ w. FitsWorker (record { layout = w.layout; seat = w.seat; held = w.held; view = w.view; marks = w.marks; stage = w.stage }) };
+    ghost invariant = { λ w. FitsWorker (record { layout = w.layout; seat = w.seat; held = w.held; view = w.view; marks = w.marks; page = w.page; stage = w.stage }) };
 
-    ghost inverse = { λ w. record { layout = w.layout; seat = w.seat; held = w.held; view = w.view; marks = w.marks; stage = w.stage } };
+    ghost inverse = { λ w. record { layout = w.layout; seat = w.seat; held = w.held; view = w.view; marks = w.marks; page = w.page; stage = w.stage } };
 }
 
 impl Worker {
@@ -89,6 +99,7 @@ impl Worker {
             held: None,
             view: View::first(),
             marks: 0,
+            page: 0,
             stage: WorkerStage::LoadPhase,
         }
     }
@@ -100,7 +111,7 @@ impl Worker {
         matches!(self.stage, WorkerStage::Done)
     }
 
-    /// Its next step loads the phase. While marking is off each step does, and leaves it as it is.
+    /// Its next step loads the phase.
     pub fn loads_phase(&self) -> bool
         ensures { result ≡ loads_phase self.now.stage }
     {
@@ -151,15 +162,13 @@ impl Worker {
     }
 
     /// Goes on by the phase word.
-    // It stands apart, so that a look that finds marking off sets up no memory for it.
-    #[inline(never)]
     fn by_phase(&mut self, found: u64)
         ensures goes { self.new ≡ goes_at self.old WorkerStage.LoadPhase found }
         ensures goes_on { given self.new ≡ Option.None }
     {
         let word = PhaseWord::unpack(found);
         match word.phase {
-            Phase::Off => self.stage = WorkerStage::LoadPhase,
+            Phase::Off => self.stage = WorkerStage::LoadPage,
             Phase::Mark => {
                 let take = TakeEntry::new(&self.layout, self.seat, self.held);
                 self.stage = WorkerStage::Taking(take);
@@ -169,16 +178,53 @@ impl Worker {
         }
     }
 
-    /// Takes the step of a load of the phase. While marking is off the stage is the same again, and is not written.
-    #[inline(always)]
-    pub fn look(&mut self, found: u64)
-        requires { loads_phase self.old.stage ≡ true }
-        ensures goes { self.new ≡ goes self.old found }
-        ensures goes_on { gives self.old found ≡ Option.None }
+    /// The page behind this one, and behind the last the first.
+    fn page_past(&self, page: u32) -> u32
+        requires { page < self.now.layout.pages }
+        ensures is { result ≡ page_past self.now.layout page }
+        ensures below { result < self.now.layout.pages }
     {
-        let word = PhaseWord::unpack(found);
-        if !matches!(word.phase, Phase::Off) {
-            self.by_phase(found);
+        if page + 1 < self.layout.pages {
+            page + 1
+        } else {
+            0
+        }
+    }
+
+    /// It is done with the page at its cursor.
+    fn page_done(&mut self)
+        ensures { self.new ≡ page_done self.old }
+    {
+        self.page = self.page_past(self.page);
+        self.stage = WorkerStage::LoadPhase;
+    }
+
+    /// Goes on by the word of the page: where that is the head of an unswept span, it sweeps it.
+    fn after_page(&mut self, found: u64)
+        ensures { self.new ≡ after_page self.old (page_of found) }
+    {
+        match PageWord::unpack(found) {
+            PageWord::Head(head) => {
+                if head.number + 2 == self.view.generation {
+                    let sweep = Sweep::new(&self.layout, self.page, head);
+                    self.stage = WorkerStage::Sweeping(sweep);
+                } else {
+                    self.page_done();
+                }
+            }
+            PageWord::Free | PageWord::Body(_) => self.page_done(),
+        }
+    }
+
+    /// Takes a step of this sweep. One that is lost another has begun.
+    fn sweep(&mut self, sweep: &Sweep, found: u64)
+        requires { Runs self.old.layout sweep.now.layout (sweeps.is_busy sweep.now.stage) }
+        ensures { self.new ≡ goes_at self.old (WorkerStage.Sweeping sweep.now) found }
+    {
+        let mut sweep = *sweep;
+        match sweep.take(found) {
+            None => self.stage = WorkerStage::Sweeping(sweep),
+            Some(_) => self.page_done(),
         }
     }
 
@@ -353,6 +399,8 @@ impl Machine for Worker {
     fn next(&self) -> Req {
         let ask = match &self.stage {
             WorkerStage::LoadPhase => Ask::Load(Cell::Phase),
+            WorkerStage::LoadPage => Ask::Load(Cell::Page(self.page)),
+            WorkerStage::Sweeping(sweep) => return sweep.next(),
             WorkerStage::GiveBack(give, _) => return give.next(),
             WorkerStage::Resuming(resume) => return resume.next(),
             WorkerStage::Taking(take) => return take.next(),
@@ -371,8 +419,13 @@ impl Machine for Worker {
     fn take(&mut self, found: u64) -> Option<()> {
         match &self.stage {
             WorkerStage::LoadPhase => {
-                self.look(found);
+                self.by_phase(found);
                 return None;
+            }
+            WorkerStage::LoadPage => self.after_page(found),
+            WorkerStage::Sweeping(sweep) => {
+                let sweep = *sweep;
+                self.sweep(&sweep, found);
             }
             WorkerStage::GiveBack(_, stops) => {
                 let stops = *stops;

@@ -1,5 +1,5 @@
 -- A calm processor writes no word of marking: by its tasks.
-use Rattle.std.proofs.Common.{ℕ, List, refl, subst}
+use Rattle.std.proofs.Common.{◌≡◌, ℕ, List, refl, ap, ◌∙◌, subst, is_some}
 use Rattle.gh_phase.specs.declared.resume.ResumeStage.TheVariants as resume_stage
 use Rattle.gh_phase.specs.Listing as resume
 use Rattle.gh_mutator.specs.declared.leave.LeaveStage.TheVariants as leave_stage
@@ -11,6 +11,7 @@ use Rattle.gh_mutator.specs.Give as give
 use Rattle.gh_mutator.specs.Leave as leave
 use Rattle.gh_mutator.specs.New as new
 use Rattle.gh_mutator.specs.Poll as poll
+use Rattle.gh_mutator.specs.Sweeping.{sweep_in, sweep_new}
 use Rattle.gh_mutator.specs.Vocabulary.{Polling}
 use Rattle.gh_mutator.specs.Wait as wait
 use Rattle.gh_mutator.proofs.Vocabulary.{GlobalStage, StoreStage, asks, GivesNoBuffer, GiveStage, IsNoBuffer, LeaveStage, LeavesWithNone, Leaving, MakesWithNone, NewStage, Place, PollStage, PollsWithNone, Processor, register_of, ResumeStage, RunsWithNone, Search, Task, Wait, Waiting, WaitStage, WaitsWithNone, WritesOf}
@@ -48,10 +49,10 @@ module _ (m : Processor) where
   leaves y leave_stage.Leave x = tt
   leaves y leave_stage.Left x = tt
 
-  makes : (q : NewStage) → MakesWithNone m.poll q → WritesOf (IsWrittenCalmly m) (new.asks_at m q)
-  makes (Search waited s) x = search_writes (IsWrittenCalmly m) (heap_written m) s
-  makes (Wait y) x = waits (wait.waiting y m.poll) y.stage x
-  makes (Place y) x = place_writes (IsWrittenCalmly m) (heap_written m) y (λ e. absurd (x.stage e)) (λ e. tt)
+  makes : (q : NewStage) → sweep_in m ≡ sweep_new q → MakesWithNone m.poll q → WritesOf (IsWrittenCalmly m) (new.asks_at m q)
+  makes (Search waited s) is x = search_writes (IsWrittenCalmly m) (heap_written m) s (λ sw e. record { alloc = λ i. tt; mark = λ i. ap is_some (is ∙ e); tally = tt; live = tt; heap = tt })
+  makes (Wait y) is x = waits (wait.waiting y m.poll) y.stage x
+  makes (Place y) is x = place_writes (IsWrittenCalmly m) (heap_written m) y (λ e. absurd (x.stage e)) (λ e. tt)
 
 pub writes_calmly : (p : Polling) (made : List ℕ) (t : Task) → RunsWithNone p t → WritesOf (IsWrittenCalmly (running p made t)) (asks (running p made t))
 writes_calmly p made task.Idle x = tt
@@ -60,7 +61,7 @@ writes_calmly p made (task.Load y) x = let m : Processor = running p made (task.
 writes_calmly p made (task.Store y) x = let m : Processor = running p made (task.Store y) in store_writes (IsWrittenCalmly m) (heap_written m) p.layout (register_of m y.g y.v) y (λ w e. absurd (subst (λ (q : StoreStage). StoresWithNone q) e x))
 writes_calmly p made (task.Global y) x = let m : Processor = running p made (task.Global y) in global_writes (IsWrittenCalmly m) (heap_written m) p.layout (register_of m y.g y.r) y (λ w e. absurd (subst (λ (q : GlobalStage). SetsWithNone q) e x))
 writes_calmly p made (task.Register y) x = tt
-writes_calmly p made (task.New y) x = makes (running p made (task.New y)) y.stage x
+writes_calmly p made (task.New y) x = makes (running p made (task.New y)) y.stage refl x
 writes_calmly p made (task.Gc g y) x = waits (running p made (task.Gc g y)) (wait.waiting y p) y.stage x
 writes_calmly p made task.Poll x = polls (running p made task.Poll) p.stage x
 writes_calmly p made (task.End g) x = record { task_is = refl; tells = refl }

@@ -59,7 +59,7 @@ module _ (k : Known) (v : Wanted) (waited : Bool) (y : Seeking) (z : Cycle) (a :
     Knows o = (u : Marking) → Hands a u (holding m.poll.local.held) → KnowsStacks z a u (then o).poll.local.stacks (then o).poll.local.scanned → TaskFacts z a u (then o).poll (then o).task
 
     quiet : IsQuiet s (search.asks y)
-    quiet = quiet_by s (search.asks y) (seeking_writes (IsAside s) (record { lock = tt; page = λ i. tt }) y)
+    quiet = quiet_by s (search.asks y) (seeking_writes (IsAside s) (record { lock = tt; page = λ i. tt }) y (λ sw e. absurd (let none = t.sweeps in cc)))
 
     fills : FillsNone a s
     fills = fills_none a s (holding m.poll.local.held) refl t.facts.task_is.hands

@@ -20,7 +20,7 @@ use Rattle.gh_mutator.proofs.Holding.Known.{HoldsSwept, Kept, Known, by_move, by
 use Rattle.gh_mutator.proofs.Holding.Lists.{caches_from, listed_once, lists_it, none_listed}
 use Rattle.gh_alloc.specs.FindFacts.{IsCached}
 use Rattle.gh_mutator.specs.declared.give.GiveStage.TheVariants.{Lock, GiveSpan, Unlock, GiveBuffer, Ended}
-use Rattle.gh_mutator.specs.Give.{Giving, after_buffer, asks, asks_at, at_stage, begins, first_of, giving_buffer, goes, goes_at, head_store, is_busy, none_cached, opening, span_class, stage_from}
+use Rattle.gh_mutator.specs.Give.{Giving, asks, asks_at, at_stage, begins, first_of, giving_buffer, goes, goes_at, head_store, is_busy, none_cached, opening, span_class, stage_from}
 use Rattle.gh_mutator.specs.PollHeap.{CachesAll, CachesFrom, GiveFacts, GiveStageFacts, GivesSpan, Has, give_held, give_held_at, give_locked, give_locked_at, lists, no_page}
 use Rattle.gh_mutator.proofs.Holding.Vocabulary.{Arena, CachedSpan, GiveStage, Good, Held, IsHeld, Layout, Shared, SizeClass, SpanClass, SpanHead, SPAN_CLASSES, Steps, View, cell_of, pages_of, view}
 

@@ -1,6 +1,6 @@
 -- What is known of the heap, of packed words, of the size classes and of the routines that the processor runs, by what their laws say.
 use Rattle.gh_base.specs.Rows.{RowsAreWritten}
-use Rattle.gh_heap.specs.Laws.{EachMoveKeepsItsOwn}
+use Rattle.gh_heap.specs.Laws.{AllAreSwept, EachMoveKeepsItsOwn}
 use Rattle.gh_barrier.specs.Facts.{WritesByMoves}
 use Rattle.gh_barrier.specs.Within.{WritingIsWithin}
 use Rattle.gh_alloc.specs.PlaceFacts.{PlacesByItsRights}
@@ -13,6 +13,7 @@ pub record Known : Type 0 where
   pub apart : TheHeapIsApart
   pub follow : EachRightFollows
   pub own : EachMoveKeepsItsOwn
+  pub swept : AllAreSwept
   pub rows : RowsAreWritten
   pub packed : PackedWordsAreReadBack
   pub classes : ClassLaws

@@ -104,6 +104,7 @@ module _ (k : Known) (z : Arena) (a : ℕ) (s : Shared) (m : Processor) (x : Wan
       cached = subst (λ (q : Sought). cached_in m.poll.local.cache q ≡ None) same (sym r.cached ∙ none.none.cached);
       own_none = λ c p h e head class noscan owner. own-none c p h (same ∙ e) head class noscan owner;
       full = λ c p h e head class noscan owner. full c p h (wanted ∙ e) head class noscan owner;
+      swept = k.swept z before g none.tidy;
       in_use = λ p h head owner. (none.tidy p h (below p h head) head owner).1;
       no_run = subst (λ (q : Sought). (first : ℕ) → first + (finder.span_for q).pages ≤ z.layout.pages → (d : ℕ) × (d < (finder.span_for q).pages) × search.IsTaken z before (first + d)) wanted none.run;
     }

@@ -2,7 +2,7 @@
 use Rattle.std.proofs.Common.{◌≡◌, ℕ, Bool, true, false, cond, is_some, [], ◌∷◌, ◌++◌, Option, Some, None, refl, sym, ap, subst, ◌∙◌}
 use Rattle.std.specs.Option.{option_to_list}
 use Rattle.gh_mutator.proofs.Owning.Vocabulary.{Act, acting, answered_at, asks, at_task, Does, FactsAt, Fine, OwnStepAt, register_of, ShapesAreGood}
-use Rattle.gh_mutator.specs.Vocabulary.{AllSwept, Answer, answer_of, Arena, cell_of, Global, GlobalStage, Good, NewStage, Op, Processor, Register, Shared, Source, Task, view, Wanted}
+use Rattle.gh_mutator.specs.Vocabulary.{Answer, answer_of, Arena, cell_of, Global, GlobalStage, Good, NewStage, Op, Processor, Register, Shared, Source, SweepLeaves, Task, view, Wanted}
 use Rattle.gh_base.specs.declared.operation.Op.TheVariants as op
 use Rattle.gh_base.specs.declared.value.Answer.TheVariants as answer
 use Rattle.gh_heap.specs.Moves.{landing}
@@ -20,7 +20,10 @@ use Rattle.gh_mutator.specs.Register as register
 use Rattle.gh_mutator.specs.Store as store
 use Rattle.gh_mutator.specs.Wait as wait
 use Rattle.gh_mutator.specs.Listing.{acts, gives, is_busy_at, once_ended}
-use Rattle.gh_mutator.specs.Runs.{OwnStep, Rests, RunsByItsRights}
+use Rattle.gh_mutator.specs.Runs.{OwnStep, Rests, RunsByItsRights, SweepStep}
+use Rattle.gh_mutator.specs.Sweeping.{sweep_at}
+use Rattle.gh_sweep.specs.Listing.{Sweeping}
+use Rattle.gh_base.specs.Steps.{effect}
 use Rattle.gh_mutator.proofs.Owning.Begins.{begins_well}
 use Rattle.gh_mutator.proofs.Owning.End.{end_steps}
 use Rattle.gh_mutator.proofs.Owning.Global.{global_steps}
@@ -32,7 +35,7 @@ use Rattle.gh_mutator.proofs.Owning.Parked.{parked, stands_always, stopped}
 use Rattle.gh_mutator.proofs.Owning.PlaceSteps.{place-steps}
 use Rattle.gh_mutator.proofs.Owning.PollSteps.{gc_steps, leave_steps, poll_steps, wait_steps}
 use Rattle.gh_mutator.proofs.Owning.Register.{register_steps}
-use Rattle.gh_mutator.proofs.Owning.SearchSteps.{search-steps}
+use Rattle.gh_mutator.proofs.Owning.SearchSteps.{search-steps, sweep-steps}
 use Rattle.gh_mutator.proofs.Owning.Statements.{at_its_task, StepFrom}
 use Rattle.gh_mutator.proofs.Owning.Store.{store_steps}
 use Rattle.gh_mutator.proofs.Owning.Within.{within}
@@ -52,31 +55,31 @@ rests z a v m pending rest fine = by m.task refl fine.task where
   by (task.End g) e h = absurd (cc)
   by (task.Leave x) e h = absurd (cc)
 
--- where each span that nobody owns is swept
-abbrev SweptStepAt : Task → Type 0
-SweptStepAt q = (z : Arena) (a : ℕ) (s : Shared) (m : Processor) (pending : Option Answer) → ShapesAreGood z.shapes → m.task ≡ q → Good z (view s) → AllSwept (view s) → Fine z a (view s) m pending → StepFrom z a s m pending
+-- where it runs no sweep
+abbrev NoSweepStepAt : Task → Type 0
+NoSweepStepAt q = (z : Arena) (a : ℕ) (s : Shared) (m : Processor) (pending : Option Answer) → ShapesAreGood z.shapes → m.task ≡ q → Good z (view s) → sweep_at q ≡ None → Fine z a (view s) m pending → StepFrom z a s m pending
 
-whatever-swept : (q : Task) → OwnStepAt q → SweptStepAt q
-whatever-swept q f z a s m pending sg is good swept fine = f z a s m pending sg is good fine
+without-sweep : (q : Task) → OwnStepAt q → NoSweepStepAt q
+without-sweep q f z a s m pending sg is good none fine = f z a s m pending sg is good fine
 
 -- The steps of a new object.
-new-at : Known → (w : Wanted) (q : NewStage) → SweptStepAt (task.New (record { wanted = w; stage = q }))
-new-at k w (new_stage.Search waited q) z a s m pending sg is good swept fine = subst (λ (p : Task). StepFrom z a s (at_task m p) pending) (sym is) (search-steps k z a s m pending w waited q sg good swept (subst (λ (p : Task). Fine z a (view s) (at_task m p) pending) is fine))
-new-at k w (new_stage.Wait x) z a s m pending sg is good swept fine = at_its_task (task.New (record { wanted = w; stage = new_stage.Wait x })) (wait_steps k w x) z a s m pending sg is good fine
-new-at k w (new_stage.Place p) z a s m pending sg is good swept fine = at_its_task (task.New (record { wanted = w; stage = new_stage.Place p })) (λ z a s m pending sg good fine. place-steps k z a s m w p pending sg good fine) z a s m pending sg is good fine
+new-at : Known → (w : Wanted) (q : NewStage) → NoSweepStepAt (task.New (record { wanted = w; stage = q }))
+new-at k w (new_stage.Search waited q) z a s m pending sg is good none fine = subst (λ (p : Task). StepFrom z a s (at_task m p) pending) (sym is) (search-steps k z a s m pending w waited q sg good none (subst (λ (p : Task). Fine z a (view s) (at_task m p) pending) is fine))
+new-at k w (new_stage.Wait x) z a s m pending sg is good none fine = at_its_task (task.New (record { wanted = w; stage = new_stage.Wait x })) (wait_steps k w x) z a s m pending sg is good fine
+new-at k w (new_stage.Place p) z a s m pending sg is good none fine = at_its_task (task.New (record { wanted = w; stage = new_stage.Place p })) (λ z a s m pending sg good fine. place-steps k z a s m w p pending sg good fine) z a s m pending sg is good fine
 
-steps-at : Known → (q : Task) → is_busy_at q ≡ true → SweptStepAt q
+steps-at : Known → (q : Task) → is_busy_at q ≡ true → NoSweepStepAt q
 steps-at k task.Idle busy = absurd (cc)
 steps-at k task.Left busy = absurd (cc)
-steps-at k (task.Load x) busy = whatever-swept (task.Load x) (load_steps k x)
-steps-at k (task.Store x) busy = whatever-swept (task.Store x) (store_steps k x)
-steps-at k (task.Global x) busy = whatever-swept (task.Global x) (global_steps k x)
-steps-at k (task.Register x) busy = whatever-swept (task.Register x) (register_steps k x)
+steps-at k (task.Load x) busy = without-sweep (task.Load x) (load_steps k x)
+steps-at k (task.Store x) busy = without-sweep (task.Store x) (store_steps k x)
+steps-at k (task.Global x) busy = without-sweep (task.Global x) (global_steps k x)
+steps-at k (task.Register x) busy = without-sweep (task.Register x) (register_steps k x)
 steps-at k (task.New x) busy = new-at k x.wanted x.stage
-steps-at k (task.Gc g x) busy = whatever-swept (task.Gc g x) (gc_steps k g x)
-steps-at k task.Poll busy = whatever-swept task.Poll (poll_steps k)
-steps-at k (task.End g) busy = whatever-swept (task.End g) (end_steps g)
-steps-at k (task.Leave x) busy = whatever-swept (task.Leave x) (leave_steps k x)
+steps-at k (task.Gc g x) busy = without-sweep (task.Gc g x) (gc_steps k g x)
+steps-at k task.Poll busy = without-sweep task.Poll (poll_steps k)
+steps-at k (task.End g) busy = without-sweep (task.End g) (end_steps g)
+steps-at k (task.Leave x) busy = without-sweep (task.Leave x) (leave_steps k x)
 
 -- What is answered of operations with points: a poll and a leave have none, and nothing is pending there.
 
@@ -127,8 +130,28 @@ points-at z a s t m pending found (task.End g) busy h d = d.answers
 points-at z a s t m pending found (task.Leave x) busy h d = unpointed z s op.Leave answer.Done (leave.gives x found) pending d.after refl h d.answers
 
 own : Known → OwnStep
-own k z a s m pending sg busy good swept fine =
-    landing z a s _ _ _ (λ t d. record { does = d; answers = points-at z a s t m pending (s.words (cell_of (asks m))) m.task busy fine.task d }) (steps-at k m.task busy z a s m pending sg refl good swept fine)
+own k z a s m pending sg busy good none fine =
+    landing z a s _ _ _ (λ t d. record { does = d; answers = points-at z a s t m pending (s.words (cell_of (asks m))) m.task busy fine.task d }) (steps-at k m.task busy z a s m pending sg refl good none fine)
+
+-- a step of the sweep that it runs: only a search runs one
+does-sweep : Known → (z : Arena) (a : ℕ) (s t : Shared) (m : Processor) (pending : Option Answer) (sw : Sweeping) (q : Task) → ShapesAreGood z.shapes → Good z (view s) → Good z (view t) → Fine z a (view s) (at_task m q) pending → sweep_at q ≡ Some sw → SweepLeaves (view s) (view t) → t.words ≡ effect s.words (asks (at_task m q)) →
+    Does z a s t (at_task m q) pending (s.words (cell_of (asks (at_task m q))))
+does-sweep k z a s t m pending sw (task.New x) sg g then fine is o words = by x.stage refl fine is words where
+  by : (n : NewStage) → x.stage ≡ n → Fine z a (view s) (at_task m (task.New (record x { stage = n }))) pending → sweep_at (task.New (record x { stage = n })) ≡ Some sw → t.words ≡ effect s.words (asks (at_task m (task.New (record x { stage = n })))) →
+      Does z a s t (at_task m (task.New (record x { stage = n }))) pending (s.words (cell_of (asks (at_task m (task.New (record x { stage = n }))))))
+  by (new_stage.Search waited y) e fine is words = sweep-steps k z a s t m pending x.wanted waited y sw sg g then fine is o words
+  by (new_stage.Wait y) e fine is words = absurd (cc)
+  by (new_stage.Place y) e fine is words = absurd (cc)
+does-sweep k z a s t m pending sw _ sg g then fine is o words = absurd (cc)
+
+sweep-busy : (m : Processor) (sw : Sweeping) (q : Task) → sweep_at q ≡ Some sw → is_busy_at q ≡ true
+sweep-busy m sw (task.New x) e = refl
+sweep-busy m sw _ e = absurd (cc)
+
+sweep : Known → SweepStep
+sweep k z a s t m pending sw sg g then fine is o words =
+    let d = does-sweep k z a s t m pending sw m.task sg g then fine is o words in
+    record { does = d; answers = points-at z a s t m pending (s.words (cell_of (asks m))) m.task (sweep-busy m sw m.task is) fine.task d }
 
 pub runs_by_its_rights : Known → RunsByItsRights
-runs_by_its_rights k = record { opens = opens; begins = begins_well k; rests = rests; own_step = own k; within = within k; lasts = facts_last k; stopped = stopped k; parked = parked k; stands = stands_always }
+runs_by_its_rights k = record { opens = opens; begins = begins_well k; rests = rests; own_step = own k; sweep_step = sweep k; within = within k; lasts = facts_last k; stopped = stopped k; parked = parked k; stands = stands_always }

@@ -1,12 +1,14 @@
 -- A new object's search has found a slot, and each of its steps.
-use Rattle.std.proofs.Common.{◌≡◌, ℕ, ◌+◌, ◌*◌, ◌/◌, ◌<◌, Bool, true, false, List, ◌++◌, length, get_or, Option, Some, None, refl, sym, ap, subst, ◌∙◌, arith}
+use Rattle.std.proofs.Common.{◌≡◌, ◌≢◌, ℕ, ◌+◌, ◌*◌, ◌/◌, ◌<◌, Bool, true, false, List, ◌++◌, length, get_or, Option, Some, None, refl, sym, ap, subst, ◌∙◌, arith}
 use Rattle.std.specs.Option.{option_to_list}
 use Rattle.gh_mutator.proofs.Owning.Vocabulary.{Act, acted, acting, answered_at, at_task, cache_span, cache_with, CachesAll, Does, Fine, for_whom, lists, makes, op_of, own_span, rest, Searches, searches, ShapesAreGood}
-use Rattle.gh_mutator.specs.Vocabulary.{AllSwept, Answer, Arena, At, CachedSpan, cell_of, Finding, FindStage, FitsShape, FitsSlot, Found, Good, IsSought, KeepsItsOwn, KeepsObjects, Large, moved, Name, NoRoom, page_of, Processor, Runs, Seeking, Shape, shape_at, Shared, size_class_of, SizeClass, slot_words, slot_words_of, Sought, SPAN_CLASSES, SpanClass, SpanHead, Steps, View, view, Wanted}
+use Rattle.gh_mutator.specs.Vocabulary.{Answer, Arena, At, CachedSpan, cell_of, Finding, FindStage, FitsShape, FitsSlot, Found, Good, IsSought, KeepsItsOwn, KeepsObjects, Large, moved, Name, NoRoom, page_of, Processor, Runs, Seeking, Shape, shape_at, Shared, size_class_of, SizeClass, slot_words, slot_words_of, Sought, SPAN_CLASSES, SpanClass, SpanHead, Steps, SweepLeaves, View, view, Wanted}
 use Rattle.gh_base.specs.declared.pack.PageWord.TheVariants as page
 use Rattle.gh_class.specs.declared.class.SizeClass.TheVariants as size
 use Rattle.gh_heap.specs.Rights.{Claims}
-use Rattle.gh_heap.specs.Spans.{owned_by}
+use Rattle.gh_base.specs.Steps.{effect}
+use Rattle.gh_heap.specs.Spans.{owned_by, owner_at, owner_in}
+use Rattle.gh_sweep.specs.Listing.{Sweeping}
 use Rattle.gh_alloc.specs.declared.find.After.TheVariants as After
 use Rattle.gh_alloc.specs.declared.find.FindStage.TheVariants as finder_stage
 use Rattle.gh_alloc.specs.declared.search.SearchStage.{SearchStage}
@@ -209,16 +211,31 @@ module _ (k : Known) (z : Arena) (a : ℕ) (s : Shared) (m : Processor) (x : Wan
   short false t (Some (At y)) e sg st r swept own o c = does t false (Some (At y)) e refl refl o (finds t y sg st r o swept own c)
   short waited t (Some NoRoom) e sg st r swept own o c = absurd c
 
-  steps : (waited : Bool) → ShapesAreGood z.shapes → Good z now → AllSwept now → Steady z a now m → search.Has a now (rest m x) q → Searches z a now m x q None → searcher.refuses q ≡ false → Steps z a s (searcher.asks q) (λ t. Does z a s t (searching waited) None found)
-  steps waited sg g all st has r on =
-      let l = k.search.own_step z a s (rest m x) q g all has r.facts on in
+  steps : (waited : Bool) → ShapesAreGood z.shapes → Good z now → searcher.sweep_in q ≡ None → Steady z a now m → search.Has a now (rest m x) q → Searches z a now m x q None → searcher.refuses q ≡ false → Steps z a s (searcher.asks q) (λ t. Does z a s t (searching waited) None found)
+  steps waited sg g none st has r on =
+      let l = k.search.own_step z a s (rest m x) q g has r.facts on none in
       record { move = l.move; may = l.may; words_are = l.words_are; after = short waited (moved z a s l.move) (searcher.gives q found) refl sg st r (holds_swept z a now g) (k.own z a s l.move g l.may) l.after.0 l.after.1 }
+
+  -- what a sweep leaves of the spans that the seat holds
+  keeps_own : (t : Shared) → Good z now → SweepLeaves now (view t) → KeepsItsOwn a now (view t)
+  keeps_own t g o = record { heads = λ p h held still head. o.owned p h (owned p h held head) head; bits = o.leaves.bits; generation = o.leaves.generation } where
+    owned : (p : ℕ) (h : SpanHead) → now.holds a p ≡ true → page_of (now.page p) ≡ page.Head h → h.owner ≢ 0
+    owned p h held head none =
+        let named : owner_at now.page p ≡ a + 1 = (g.owners a p).1 held in
+        let is : owner_at now.page p ≡ h.owner = ap owner_in head in
+        absurd (omega (arith, named, is, none))
+
+  -- a step of the sweep that the search runs
+  pub sweeps : (t : Shared) (waited : Bool) (sw : Sweeping) → ShapesAreGood z.shapes → Good z now → Good z (view t) → Steady z a now m → search.Has a now (rest m x) q → Searches z a now m x q None → searcher.sweep_in q ≡ Some sw → SweepLeaves now (view t) → t.words ≡ effect s.words (searcher.asks q) → Does z a s t (searching waited) None found
+  sweeps t waited sw sg g then st has r is o words =
+      let l = k.search.sweep_step z a s t (rest m x) q sw g then has r.facts is o words in
+      short waited t (searcher.gives q found) refl sg st r (holds_swept z a now g) (keeps_own t g o) l.0 l.1
 
 module _ (k : Known) (z : Arena) (a : ℕ) (s : Shared) (m : Processor) (x : Wanted) (waited : Bool) where
   abbrev Own : Bool → Seeking → Type 0
   Own again y = Steps z a s (searcher.asks y) (λ t. Does z a s t (at_task m (searches x again y)) None (s.words (cell_of (searcher.asks y))))
 
-  module _ (q : Seeking) (sg : ShapesAreGood z.shapes) (g : Good z (view s)) (all : AllSwept (view s)) (st : Steady z a (view s) m) where
+  module _ (q : Seeking) (sg : ShapesAreGood z.shapes) (g : Good z (view s)) (rests : searcher.sweep_in q ≡ None) (st : Steady z a (view s) m) where
     -- the search at its last step
     abbrev last : Seeking
     last = record { find = finder.at_stage q.find (finder_stage.Unlock (After.End NoRoom)); stage = search_stage.Second }
@@ -235,13 +252,18 @@ module _ (k : Known) (z : Arena) (a : ℕ) (s : Shared) (m : Processor) (x : Wan
     search-step : search.Has a (view s) (rest m x) q → Searches z a (view s) m x q None → Own waited q
     search-step has r = go (searcher.refuses q) refl where
       go : (b : Bool) → searcher.refuses q ≡ b → Own waited q
-      go false e = steps k z a s m x q waited sg g all st has r e
+      go false e = steps k z a s m x q waited sg g rests st has r e
       go true e =
           let no = k.search.none z a (view s) (rest m x) q r.facts e in
           let is : q ≡ last = at-last (finder_stage.Unlock (After.End NoRoom)) search_stage.Second no.unlocks no.stage in
           subst (Own waited) (sym is) (ends-at waited (subst (λ (y : Seeking). search.Has a (view s) (rest m x) y) is has) (subst (λ (y : Seeking). Searches z a (view s) m x y None) is r) (subst (λ (y : Seeking). search.FindsNone z (view s) y.find) is no.none))
 
-pub search-steps : Known → (z : Arena) (a : ℕ) (s : Shared) (m : Processor) (pending : Option Answer) (x : Wanted) (waited : Bool) (q : Seeking) → ShapesAreGood z.shapes → Good z (view s) → AllSwept (view s) → Fine z a (view s) (at_task m (searches x waited q)) pending →
+pub search-steps : Known → (z : Arena) (a : ℕ) (s : Shared) (m : Processor) (pending : Option Answer) (x : Wanted) (waited : Bool) (q : Seeking) → ShapesAreGood z.shapes → Good z (view s) → searcher.sweep_in q ≡ None → Fine z a (view s) (at_task m (searches x waited q)) pending →
     Steps z a s (searcher.asks q) (λ t. Does z a s t (at_task m (searches x waited q)) pending (s.words (cell_of (searcher.asks q))))
-search-steps k z a s m pending x waited q sg g all fine = subst (λ (y : Option Answer). Steps z a s (searcher.asks q) (λ t. Does z a s t (at_task m (searches x waited q)) y (s.words (cell_of (searcher.asks q))))) (sym fine.task.unanswered)
-    (search-step k z a s m x waited q sg g all (fine.counts, fine.knows) fine.right (record { wants = fine.task.wants; wanted = fine.task.wanted; cached = fine.task.cached; facts = fine.task.facts; unanswered = refl }))
+search-steps k z a s m pending x waited q sg g rests fine = subst (λ (y : Option Answer). Steps z a s (searcher.asks q) (λ t. Does z a s t (at_task m (searches x waited q)) y (s.words (cell_of (searcher.asks q))))) (sym fine.task.unanswered)
+    (search-step k z a s m x waited q sg g rests (fine.counts, fine.knows) fine.right (record { wants = fine.task.wants; wanted = fine.task.wanted; cached = fine.task.cached; facts = fine.task.facts; unanswered = refl }))
+
+pub sweep-steps : Known → (z : Arena) (a : ℕ) (s t : Shared) (m : Processor) (pending : Option Answer) (x : Wanted) (waited : Bool) (q : Seeking) (sw : Sweeping) → ShapesAreGood z.shapes → Good z (view s) → Good z (view t) → Fine z a (view s) (at_task m (searches x waited q)) pending →
+    searcher.sweep_in q ≡ Some sw → SweepLeaves (view s) (view t) → t.words ≡ effect s.words (searcher.asks q) → Does z a s t (at_task m (searches x waited q)) pending (s.words (cell_of (searcher.asks q)))
+sweep-steps k z a s t m pending x waited q sw sg g then fine is o words = subst (λ (y : Option Answer). Does z a s t (at_task m (searches x waited q)) y (s.words (cell_of (searcher.asks q)))) (sym fine.task.unanswered)
+    (sweeps k z a s m x q t waited sw sg g then (fine.counts, fine.knows) fine.right (record { wants = fine.task.wants; wanted = fine.task.wanted; cached = fine.task.cached; facts = fine.task.facts; unanswered = refl }) is o words)

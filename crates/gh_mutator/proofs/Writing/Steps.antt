@@ -69,7 +69,7 @@ module _ (shapes : List Shape) (m : Processor) (found : ℕ) (s : SoundScanAt m.
     by (Some u) = wait_goes (wait.waiting x m.poll) x.stage found s
 
   new_goes : (n : Wanted) (q : NewStage) → Goes (new.asks_at m q) m.poll (new.takes_at shapes m n q found).poll
-  new_goes n (Search waited y) = goes_by _ m.poll _ (search_writes NotStack heap_not y) (found_stays shapes m n waited (search.goes y found).find.cached (search.goes y found) (search.gives y found) s)
+  new_goes n (Search waited y) = goes_by _ m.poll _ (search_writes NotStack heap_not y (λ sw e. record { alloc = λ i. tt; mark = λ i. tt; tally = tt; live = tt; heap = tt })) (found_stays shapes m n waited (search.goes y found).find.cached (search.goes y found) (search.gives y found) s)
   new_goes n (Wait x) = new_waits n x
   new_goes n (Place y) = goes_by _ m.poll _ (place_writes NotStack heap_not y (λ e. tt) (λ e. tt)) (made_stays m n (place.acts y) y.at (place.goes y found) s)
 

@@ -8,6 +8,7 @@ returns c =
       apart = c.the_heap_is_apart.ensures;
       follow = c.rights_follow.ensures.follow;
       own = c.rights_follow.ensures.own;
+      swept = c.facts_last.ensures.swept;
       rows = c.rows_are_written.ensures;
       packed = c.packed_words_are_read_back.ensures;
       search = c.searching_keeps_its_facts.ensures;

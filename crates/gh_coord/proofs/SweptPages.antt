@@ -1,0 +1,262 @@
+-- The walk over the pages, step by step: of each page behind it nothing is left to sweep.
+use Rattle.std.proofs.Common.{◌≡◌, ℕ, zero, suc, ◌+◌, ◌<◌, ◌≤◌, ◌==◌, Bool, true, false, cond, ltb, Option, Some, None, inl, inr, refl, sym, ap, subst, ◌∙◌, arith, ltb-true, ltb-false}
+use Rattle.gh_base.specs.declared.cell.Cell.TheVariants as cell
+use Rattle.gh_base.specs.declared.pack.PageWord.{PageWord}
+use Rattle.gh_base.specs.declared.pack.PageWord.TheVariants.{Body, Free, Head}
+use Rattle.gh_base.specs.Packing.{page_of}
+use Rattle.gh_sweep.specs.declared.sweep.SweepEnd.{SweepEnd}
+use Rattle.gh_sweep.specs.declared.sweep.SweepEnd.TheVariants.{Lost, Swept}
+use Rattle.gh_sweep.specs.declared.sweep.SweepStage.TheVariants as span
+use Rattle.gh_sweep.specs.Listing as sweep
+use Rattle.gh_coord.specs.declared.close.CloseStage.TheVariants as c
+use Rattle.gh_coord.specs.declared.count.CountStage.TheVariants as r
+use Rattle.gh_coord.specs.declared.open.OpenStage.TheVariants as o
+use Rattle.gh_coord.specs.declared.stop.StopStage.TheVariants as p
+use Rattle.gh_coord.specs.declared.sweep_all.SweepAllStage.TheVariants as a
+use Rattle.gh_coord.specs.declared.watch.WatchStage.TheVariants as w
+use Rattle.gh_coord.specs.Closing as close
+use Rattle.gh_coord.specs.Counting as count
+use Rattle.gh_coord.specs.Opening as opens
+use Rattle.gh_coord.specs.Stopping as stop
+use Rattle.gh_coord.specs.SweepingAll as all
+use Rattle.gh_coord.specs.SweptPages.{FindsBegun, FindsDone, HasPassed, HasSwept, IsNone, state, TellsOnceAllAreSwept}
+use Rattle.gh_coord.specs.Telling as tell
+use Rattle.gh_coord.specs.Watching as watch
+use Rattle.gh_coord.proofs.MarkingEnds.{never, tell_never}
+use Rattle.gh_coord.proofs.QuietParts.{count_quiet, sweep_quiet}
+use Rattle.gh_coord.proofs.Stepping.{same_ask}
+use Rattle.gh_coord.proofs.Vocabulary.{after_check, after_close, after_count, after_open, after_stop, after_stop_again, after_sweep, after_tell, after_watch, Ask, asks, asks_at, at_stage, by_ack, by_last, by_out, by_want, by_watched, Check, Close, CloseStage, Coordinating, CoordStage, Count, counted, CountStage, Done, goes_at, Layout, Load, LoadAck, LoadWant, MarkOn, nat_tests, Open, OpenStage, Stop, StopAgain, StopStage, Store, Sweep, sweep_at, sweep_in, SweepAllStage, SweepStage, Tell, Watch, WatchStage}
+
+-- a sweep stays at its page
+page_stays : (sw : sweep.Sweeping) (stage : SweepStage) (v : ℕ) → (sweep.goes_at sw stage v).page ≡ sw.page
+page_stays sw span.Begin v = refl
+page_stays sw (span.LoadMarks i) v = refl
+page_stays sw (span.ClearBits i marks) v = refl
+page_stays sw (span.ClearMarks i) v = refl
+page_stays sw span.AddTally v = refl
+page_stays sw span.AddLive v = refl
+page_stays sw span.AddHeap v = refl
+page_stays sw span.Finish v = refl
+page_stays sw (span.Ended end) v = refl
+
+module _ (l : Layout) (seat gogc minheap room : ℕ) (found : ℕ → ℕ) where
+  abbrev now : ℕ → Coordinating
+  now n = state l seat gogc minheap room found n
+
+  -- the step stores no sweep generation
+  abbrev StoresNone : Ask → Type 0
+  StoresNone step = (other : ℕ) → step ≡ Store cell.Gen other → ⊥
+
+  abbrev Passed : (generation n page : ℕ) → Type 0
+  Passed generation n page = HasPassed l seat gogc minheap room found n generation page
+
+  abbrev Begins : (generation page by : ℕ) → Type 0
+  Begins generation page by = FindsBegun l seat gogc minheap room found generation page by
+
+  abbrev Ends : (generation page by : ℕ) → Type 0
+  Ends generation page by = FindsDone l seat gogc minheap room found generation page by
+
+  -- the pages below this are passed
+  abbrev Below : (generation n pages : ℕ) → Type 0
+  Below generation n pages = (page : ℕ) → page < pages → Passed generation n page
+
+  -- no unswept span begins at the page
+  record Begun (generation n page : ℕ) : Type 0 where
+    first : ℕ
+    is_before : first < n
+    is_so : Begins generation page first
+    since : (m : ℕ) → first ≤ m → m < n → StoresNone (asks (now m))
+
+  abbrev WalkKnows : (generation n : ℕ) → SweepAllStage → Type 0
+  WalkKnows generation n (a.LoadPage page) = Below generation n page
+  WalkKnows generation n (a.Sweep page sw) = (sw.page ≡ page) × Below generation n page
+  WalkKnows generation n (a.Await page) = Begun generation n page × Below generation n page
+  WalkKnows generation n a.Ended = ⊥
+
+  record WalkIs (generation n : ℕ) (x : all.SweepingAll) : Type 0 where
+    layout_is : x.layout ≡ l
+    generation_is : x.generation ≡ generation
+    knows : WalkKnows generation n x.stage
+
+  abbrev Knows : (generation n : ℕ) → CoordStage → Type 0
+  Knows generation n (Sweep x) = WalkIs generation n x
+  Knows generation n (Count co) = Below generation n l.pages
+  Knows generation n (Tell te) = Below generation n l.pages
+  Knows generation n _ = Unit {0}
+
+  record Has (n : ℕ) (s : Coordinating) : Type 0 where
+    layout_is : s.layout ≡ l
+    knows : Knows s.generation n s.stage
+
+  module _ (generation n : ℕ) (none : StoresNone (asks (now n))) where
+    since_on : (by : ℕ) → ((m : ℕ) → by ≤ m → m < n → StoresNone (asks (now m))) → (m : ℕ) → by ≤ m → m < suc n → StoresNone (asks (now m))
+    since_on by before m from lt = so (ltb m n) refl where
+      so : (b : Bool) → ltb m n ≡ b → StoresNone (asks (now m))
+      so true e = before m from (ltb-true _ _ e)
+      so false e = let ge : n ≤ m = ltb-false _ _ e in let is : n ≡ m = omega arith in subst (λ (x : ℕ). StoresNone (asks (now x))) is none
+
+    -- the pages that are passed stay so
+    stay : (pages : ℕ) → Below generation n pages → Below generation (suc n) pages
+    stay pages k page lt =
+        let h = k page lt in
+        let before : h.by < n = h.is_before in
+        record { first = h.first; by = h.by; is_behind = h.is_behind; is_before = omega arith; is_so = h.is_so; since = since_on h.first h.since }
+
+    begun_on : (page : ℕ) → Begun generation n page → Begun generation (suc n) page
+    begun_on page h =
+        let before : h.first < n = h.is_before in
+        record { first = h.first; is_before = omega arith; is_so = h.is_so; since = since_on h.first h.since }
+
+    begun_here : (page : ℕ) → Begins generation page n → Begun generation (suc n) page
+    begun_here page is = record { first = n; is_before = omega arith; is_so = is; since = since_on n (λ m from lt. absurd (omega arith)) }
+
+    one_more : (pages : ℕ) → Below generation n pages → Passed generation (suc n) pages → Below generation (suc n) (pages + 1)
+    one_more pages k here page lt = by (ltb page pages) refl where
+      by : (b : Bool) → ltb page pages ≡ b → Passed generation (suc n) page
+      by true e = stay pages k page (ltb-true _ _ e)
+      by false e = let ge : pages ≤ page = ltb-false _ _ e in let is : pages ≡ page = omega arith in subst (λ (x : ℕ). Passed generation (suc n) x) is here
+
+    swept_here : (page : ℕ) → HasSwept l seat gogc minheap room found page n → Passed generation (suc n) page
+    swept_here page is = record { first = n; by = n; is_behind = omega arith; is_before = omega arith; is_so = inl is; since = since_on n (λ m from lt. absurd (omega arith)) }
+
+    done_here : (page : ℕ) → Begun generation (suc n) page → Ends generation page n → Passed generation (suc n) page
+    done_here page h is =
+        let before : h.first < suc n = h.is_before in
+        record { first = h.first; by = n; is_behind = omega arith; is_before = omega arith; is_so = inr (h.is_so, is); since = h.since }
+
+  module _ (n : ℕ) (s : Coordinating) (here : s.layout ≡ l) where
+    abbrev walks_to : all.SweepingAll → Coordinating
+    walks_to y = after_sweep (at_stage s (Sweep y)) (all.given y)
+
+    module _ (x : all.SweepingAll) (x_in : x.layout ≡ l) (numbered : x.generation ≡ s.generation) (none : StoresNone (asks (now n))) where
+      abbrev walked : SweepAllStage → Coordinating
+      walked stage = walks_to (all.at_stage x stage)
+
+      -- it goes on behind this page
+      behind : (page : ℕ) → Below s.generation n page → Passed s.generation (suc n) page → Has (suc n) (walked (all.behind_of x.layout.pages page))
+      behind page k one = by (ltb (page + 1) x.layout.pages) refl where
+        most : Below s.generation (suc n) (page + 1)
+        most = one_more s.generation n none page k one
+
+        by : (b : Bool) → ltb (page + 1) x.layout.pages ≡ b → Has (suc n) (walked (cond b (a.LoadPage (page + 1)) a.Ended))
+        by true e = record { layout_is = here; knows = record { layout_is = x_in; generation_is = numbered; knows = most } }
+        by false e =
+            let last : l.pages ≤ page + 1 = subst (λ (y : Layout). y.pages ≤ page + 1) x_in (ltb-false _ _ e) in
+            record { layout_is = here; knows = λ i lt. most i (omega arith) }
+
+      waits : (page : ℕ) → Begun s.generation (suc n) page → Below s.generation n page → Has (suc n) (walked (a.Await page))
+      waits page h k = record { layout_is = here; knows = record { layout_is = x_in; generation_is = numbered; knows = (h, stay s.generation n none page k) } }
+
+      -- by the page's word
+      module _ (page : ℕ) (loads : asks (now n) ≡ Load (cell.Page page)) where
+        begun : (word : PageWord) → page_of (found n) ≡ word → IsNone 2 s.generation word → Begun s.generation (suc n) page
+        begun word is so = begun_here s.generation n none page (inl (record { loads = loads; is_so = subst (IsNone 2 s.generation) (sym is) so }))
+
+        done : (word : PageWord) → page_of (found n) ≡ word → IsNone 1 s.generation word → Begun s.generation (suc n) page → Passed s.generation (suc n) page
+        done word is so h = done_here s.generation n none page h (record { loads = loads; is_so = subst (IsNone 1 s.generation) (sym is) so })
+
+        load_step : (word : PageWord) → page_of (found n) ≡ word → Below s.generation n page → Has (suc n) (walks_to (all.after_load x page word))
+        load_step (Head h) is k = by (h.number + 2 == x.generation) (h.number + 1 == x.generation) refl refl where
+          by : (b d : Bool) → (h.number + 2 == x.generation) ≡ b → (h.number + 1 == x.generation) ≡ d → Has (suc n) (walked (cond b (a.Sweep page (sweep.opening x.layout page h)) (cond d (a.Await page) (all.behind_of x.layout.pages page))))
+          by true d e f = record { layout_is = here; knows = record { layout_is = x_in; generation_is = numbered; knows = (refl, stay s.generation n none page k) } }
+          by false true e f = waits page (begun (Head h) is (λ i. grind (arith, nat_tests))) k
+          by false false e f = behind page k (done (Head h) is (λ i. grind (arith, nat_tests)) (begun (Head h) is (λ i. grind (arith, nat_tests))))
+        load_step Free is k = behind page k (done Free is tt (begun Free is tt))
+        load_step (Body b) is k = behind page k (done (Body b) is tt (begun (Body b) is tt))
+
+        await_step : (word : PageWord) → page_of (found n) ≡ word → Begun s.generation n page → Below s.generation n page → Has (suc n) (walks_to (all.after_await x page word))
+        await_step (Head h) is was k = by (h.number + 1 == x.generation) refl where
+          by : (d : Bool) → (h.number + 1 == x.generation) ≡ d → Has (suc n) (walked (cond d (a.Await page) (all.behind_of x.layout.pages page)))
+          by true f = waits page (begun_on s.generation n none page was) k
+          by false f = behind page k (done (Head h) is (λ i. grind (arith, nat_tests)) (begun_on s.generation n none page was))
+        await_step Free is was k = behind page k (done Free is tt (begun_on s.generation n none page was))
+        await_step (Body b) is was k = behind page k (done (Body b) is tt (begun_on s.generation n none page was))
+
+      -- by what its own sweep gives
+      swept_step : (page : ℕ) (sw : sweep.Sweeping) (out : Option SweepEnd) → sweep_in (now n) ≡ Some sw → sw.page ≡ page → sweep.gives sw (found n) ≡ out → Below s.generation n page →
+          Has (suc n) (walks_to (all.after_sweep (all.at_stage x (a.Sweep page (sweep.goes sw (found n)))) page out))
+      swept_step page sw None runs at is k = record { layout_is = here; knows = record { layout_is = x_in; generation_is = numbered; knows = (page_stays sw sw.stage (found n) ∙ at, stay s.generation n none page k) } }
+      swept_step page sw (Some Lost) runs at is k = waits page (begun_here s.generation n none page (inr (record { sw = sw; runs = runs; page_is = at; ends = is }))) k
+      swept_step page sw (Some (Swept span)) runs at is k = behind page k (swept_here s.generation n none page (span, record { sw = sw; runs = runs; page_is = at; ends = is }))
+
+      walk_step : (stage : SweepAllStage) → sweep_in (now n) ≡ all.sweep_at stage → asks (now n) ≡ all.asks_at x stage → WalkKnows s.generation n stage → Has (suc n) (walks_to (all.goes_at x stage (found n)))
+      walk_step (a.LoadPage page) runs asked k = load_step page asked (page_of (found n)) refl k
+      walk_step (a.Sweep page sw) runs asked k = swept_step page sw _ runs k.0 refl k.1
+      walk_step (a.Await page) runs asked k = await_step page asked (page_of (found n)) refl k.0 k.1
+      walk_step a.Ended runs asked k = absurd k
+
+    step_at : (stage : CoordStage) → (now n).stage ≡ stage → s.stage ≡ stage → asks (now n) ≡ asks_at s stage → Knows s.generation n stage → Has (suc n) (goes_at s stage (found n))
+    step_at (LoadAck i) was is asked k = by_ack (Has (suc n)) s i (record { layout_is = here; knows = tt }) (record { layout_is = here; knows = tt }) (record { layout_is = here; knows = tt }) _ _
+    step_at LoadWant was is asked k = by_want (Has (suc n)) s (record { layout_is = here; knows = tt }) (record { layout_is = here; knows = tt }) _
+    step_at (Stop st) was is asked k = by_out (Has (suc n)) (after_stop (at_stage s (Stop (stop.goes st (found n))))) (record { layout_is = here; knows = tt }) (λ u. record { layout_is = here; knows = tt }) (stop.gives st (found n))
+    step_at (Open op) was is asked k = by_out (Has (suc n)) (after_open (at_stage s (Open (opens.goes op (found n))))) (record { layout_is = here; knows = tt }) (λ u. record { layout_is = here; knows = tt }) (opens.gives op (found n))
+    step_at (Watch y) was is asked k = by_watched (Has (suc n)) (after_watch (at_stage s (Watch (watch.goes y (found n))))) (record { layout_is = here; knows = tt }) (record { layout_is = here; knows = tt }) (record { layout_is = here; knows = tt }) (watch.gives y (found n))
+    step_at (StopAgain st) was is asked k = by_out (Has (suc n)) (after_stop_again (at_stage s (StopAgain (stop.goes st (found n))))) (record { layout_is = here; knows = tt }) (λ u. record { layout_is = here; knows = tt }) (stop.gives st (found n))
+    step_at (Check y) was is asked k = by_watched (Has (suc n)) (after_check (at_stage s (Check (watch.goes y (found n))))) (record { layout_is = here; knows = tt }) (record { layout_is = here; knows = tt }) (record { layout_is = here; knows = tt }) (watch.gives y (found n))
+    step_at MarkOn was is asked k = record { layout_is = here; knows = tt }
+    step_at (Close cl) was is asked k =
+        by_out (Has (suc n)) (after_close (at_stage s (Close (close.goes cl (found n))))) (record { layout_is = here; knows = tt })
+        (λ lapsed. record { layout_is = here; knows = record { layout_is = here; generation_is = refl; knows = λ page lt. absurd (omega arith) } })
+        (close.gives cl (found n))
+    step_at (Sweep x) was is asked k = walk_step x k.layout_is k.generation_is (λ v e. never _ v (sweep_quiet x x.stage) (sym asked ∙ e)) x.stage (ap sweep_at was) asked k.knows
+    step_at (Count co) was is asked k =
+        let on = stay s.generation n (λ v e. never _ v (count_quiet co.stage) (sym asked ∙ e)) l.pages k in
+        by_out (Has (suc n)) (after_count (at_stage s (Count (count.goes co (found n))))) (record { layout_is = here; knows = on }) (λ read. record { layout_is = here; knows = on }) (count.gives co (found n))
+    step_at (Tell te) was is asked k =
+        let on = stay s.generation n (λ v e. tell_never te te.stage v (sym asked ∙ e)) l.pages k in
+        by_out (Has (suc n)) (after_tell (at_stage s (Tell (tell.goes te (found n))))) (record { layout_is = here; knows = on }) (λ u. by_last (Has (suc n)) s (record { layout_is = here; knows = tt }) (record { layout_is = here; knows = tt }) s.is_last) (tell.gives te (found n))
+    step_at Done was is asked k = record { layout_is = here; knows = subst (λ (stage : CoordStage). Knows s.generation (suc n) stage) (sym is) tt }
+
+  has : (n : ℕ) → Has n (now n)
+  has zero = record { layout_is = refl; knows = tt }
+  has (suc n) =
+      let h = has n in
+      let s : Coordinating = now n in
+      step_at n (counted s) h.layout_is s.stage refl refl (sym (same_ask s s.stage)) h.knows
+
+-- Where it tells that a cycle is swept.
+open_tells : (op : opens.CycleOpening) (stage : OpenStage) (v : ℕ) → opens.asks_at op stage ≡ Store cell.Swept v → ⊥
+open_tells op o.ClearWant v e = cc
+open_tells op _ v e = cc
+
+stop_tells : (st : stop.Stopping) (stage : StopStage) (v : ℕ) → stop.asks_at st stage ≡ Store cell.Swept v → ⊥
+stop_tells st p.StorePhase v e = cc
+stop_tells st _ v e = cc
+
+watch_tells : (x : watch.Watching) (stage : WatchStage) (v : ℕ) → watch.asks_at x stage ≡ Store cell.Swept v → ⊥
+watch_tells x (w.Look i) v e = cc
+watch_tells x (w.Ended watched) v e = cc
+
+close_tells : (cl : close.Closing) (stage : CloseStage) (v : ℕ) → close.asks_at cl stage ≡ Store cell.Swept v → ⊥
+close_tells cl c.LoadBank v e = cc
+close_tells cl _ v e = cc
+
+span_tells : (sw : sweep.Sweeping) (stage : SweepStage) (v : ℕ) → sweep.asks_at sw stage ≡ Store cell.Swept v → ⊥
+span_tells sw span.Begin v e = cc
+span_tells sw _ v e = cc
+
+walk_tells : (x : all.SweepingAll) (stage : SweepAllStage) (v : ℕ) → all.asks_at x stage ≡ Store cell.Swept v → ⊥
+walk_tells x (a.Sweep page sw) v e = span_tells sw sw.stage v e
+walk_tells x _ v e = cc
+
+count_tells : (stage : CountStage) (v : ℕ) → count.asks_at stage ≡ Store cell.Swept v → ⊥
+count_tells r.LoadTally v e = cc
+count_tells _ v e = cc
+
+module _ (l : Layout) (seat gogc minheap room : ℕ) (found : ℕ → ℕ) (n v : ℕ) (s : Coordinating) where
+  tells_at : (stage : CoordStage) → Knows l seat gogc minheap room found s.generation n stage → asks_at s stage ≡ Store cell.Swept v → Below l seat gogc minheap room found s.generation n l.pages
+  tells_at (Stop st) k e = absurd (stop_tells st st.stage v e)
+  tells_at (Open op) k e = absurd (open_tells op op.stage v e)
+  tells_at (Watch x) k e = absurd (watch_tells x x.stage v e)
+  tells_at (StopAgain st) k e = absurd (stop_tells st st.stage v e)
+  tells_at (Check x) k e = absurd (watch_tells x x.stage v e)
+  tells_at (Close cl) k e = absurd (close_tells cl cl.stage v e)
+  tells_at (Sweep x) k e = absurd (walk_tells x x.stage v e)
+  tells_at (Count co) k e = absurd (count_tells co.stage v e)
+  tells_at (Tell te) k e = k
+  tells_at _ k e = absurd (cc)
+
+pub tells_once_swept : TellsOnceAllAreSwept
+tells_once_swept l seat gogc minheap room found n cycle page e lt =
+    let s : Coordinating = state l seat gogc minheap room found n in
+    tells_at l seat gogc minheap room found n cycle s s.stage (has l seat gogc minheap room found n).knows e page lt
