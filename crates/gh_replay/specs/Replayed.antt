@@ -11,7 +11,7 @@ use Rattle.gh_world.specs.World.{LaysOut, setting_of}
 use Rattle.gh_replay.specs.Plan.{Plan}
 use Rattle.gh_replay.specs.Scheduled.{IsScheduled}
 
--- The actors step as the schedule says through a whole run of the script, of at most so many turns, and what the run comes to is explained: the heap that never frees answers so, save `full`, which stands only where nothing fitted; each cycle has these numbers; and so much is what the globals hold at the end.
+-- The actors step as the schedule says through a whole run of the script, of at most so many turns, and what the run comes to is explained: the heap that never frees answers so, save `full`, which stands only where nothing fitted; each cycle has these numbers, and frees what no script reached when it began; and so much is what the globals hold at the end.
 pub record IsReplayed (p : Program) (plan : Plan) (budget : ℕ) (outcome : Outcome) : Type 0 where
   pub layout : Layout
   pub lays_out : LaysOut p layout

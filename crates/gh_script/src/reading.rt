@@ -151,12 +151,13 @@ pub fn parse(alloc: Global, text: &[u8]) -> Result<Script, ParseError>
     read(alloc, text)
 }
 
-/// Each text spells one script or is refused once, and never both. Of a text that is too long no byte
-/// counts behind the first that is too many.
+/// Each text spells one script or is refused once, and never both; and what it spells is well-formed. Of
+/// a text that is too long no byte counts behind the first that is too many.
 pub fn one_reading()
     ensures some { (text : List ℕ) → ((program : Program) × Spells text program) ⊎ ((line : ℕ) × (why : Why) × Refused text line why) }
     ensures not_both { (text : List ℕ) (program : Program) (line : ℕ) (why : Why) → Spells text program → Refused text line why → ⊥ }
     ensures one_script { (text : List ℕ) (p q : Program) → Spells text p → Spells text q → p ≡ q }
+    ensures formed { (text : List ℕ) (p : Program) → Spells text p → WellFormed p }
     ensures one_cause { (text : List ℕ) (m n : ℕ) (v w : Why) → Refused text m v → Refused text n w → (m ≡ n) × (v ≡ w) }
     ensures cut { (text : List ℕ) → reading_of (take (most_bytes + 1) text) ≡ reading_of text }
 {}

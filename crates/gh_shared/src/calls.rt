@@ -127,7 +127,7 @@ impl Heap {
         self.operate(h, Op::End(g), 1)
     }
 
-    /// Register `d` names a new object of type `t`. It may wait for a cycle.
+    /// Register `d` names a new object of type `t`. It may sweep spans, and wait for another's sweep or for a cycle.
     pub fn new_object<'s, R: Wait>(
         &self,
         rt: &R,

@@ -5,5 +5,6 @@ pub mod Beside
 pub mod Checking
 pub mod Asked
 pub mod Placing
+pub mod Looking
 pub mod Moving
 pub mod Lists

@@ -1,3 +1,4 @@
 -- A grey work buffer with room, after every list.
 pub mod Hands
 pub mod Marked
+pub mod Always

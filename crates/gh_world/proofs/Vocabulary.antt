@@ -89,7 +89,7 @@ pub use Rattle.gh_coord.specs.declared.watch.WatchStage.{WatchStage}
 pub use Rattle.gh_coord.specs.declared.watch.Watched.{Watched}
 pub use Rattle.gh_coord.specs.declared.watch.Watched.TheVariants.{All, NotYet}
 pub use Rattle.gh_world.specs.Actors.{EndsMarked, IsEnding, IsMarkedObject, IsStepIn}
-pub use Rattle.gh_world.specs.ActorsHold.{EndedSo, HasCursor, Holds, HoldsAt, HasState, is_last_task, IsAsItShould, IsHeapOf, IsInCycle, IsJustSwept, IsKnown, IsQuiet, IsReady, IsSweeping, IsTelling, NobodyMarks, processor_at, SweepsAll, uncounted, WasSo}
+pub use Rattle.gh_world.specs.ActorsHold.{EndedSo, HasCursor, Holds, HoldsAt, HasState, is_last_task, IsAsItShould, IsHeapOf, IsInCycle, HasEnded, IsClosing, IsCounting, IsKnown, IsOff, IsQuiet, IsReady, IsSweeping, IsTelling, IsTold, NobodyMarks, processor_at, uncounted, Walks, WasSo}
 pub use Rattle.gh_world.specs.Handshake.{actors, is_busy, KeepsIt, place_of, StepKeepsIt, those, WaitsWithNone}
 pub use Rattle.gh_world.specs.HoldVocabulary.{acks_of, actors_after, alloc_words, Answer, Arena, arena, AreWords, birth_words, By, Coordinating, CoordStage, Cycle, CycleEnd, deeds, ended_in, EndsAllMarked, EndsCycle, Entry, Ever, ever, Fine, Good, Heap, IsBeginning, IsBounded, IsDrawnSo, IsInLimits, IsLed, IsMade, IsOf, IsSound, IsStartOf, IsToBegin, Layout, LeavesTheReached, Legal, mark_words, MarkFacts, Marking, MarksNothing, may_of, Name, NewStage, only_polls, Op, Pacing, page_of, page_words, Placed, placed, Processor, processor_kind, Reach, Right, Shape, ShapesAreGood, slot_row, stage_of, started, State, state_of, StateGood, Task, view, Words, words}
 pub use Rattle.gh_world.specs.Marking.{EndsClean, IsChecked}

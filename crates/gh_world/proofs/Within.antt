@@ -6,4 +6,5 @@ pub mod Leading
 pub mod Lists
 pub mod Processors
 pub mod Scans
+pub mod Spans
 pub mod Workers

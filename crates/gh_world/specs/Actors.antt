@@ -38,6 +38,7 @@ use Rattle.gh_world.specs.Processors.{arena_of, at_seat, ever_after_list, IsPlac
 use Rattle.gh_world.specs.Tied.{IsTied}
 use Rattle.gh_world.specs.Phases.{PhasesStand}
 use Rattle.gh_world.specs.Scans.{ScansOnce}
+use Rattle.gh_world.specs.Spans.{SpansStand}
 use Rattle.gh_world.specs.SweepMarks.{SweepsStand}
 use Rattle.gh_world.specs.Wants.{AreFew, total}
 
@@ -149,6 +150,11 @@ module _ (shapes : List Shape) (l : Layout) (pacing : Pacing) (may : ℕ → Lis
   FreesTheUnreached es = (k : ℕ) (begun swept : List (Entry Op)) → IsStartOf begun es → IsStartOf swept es → BeginsCycle k begun → SweepsCycle k swept →
       (n : Name) → IsMade (ever begun).made n → (Reach (ever begun) n → ⊥) → (a : ℕ) → IsPlacedAt (words swept) n a → ⊥
 
+  -- So what is lost is freed within two cycles. Where an object was made by a start of the list, and was not reached then, and the marking of cycle j ends behind that start: it is placed nowhere once a cycle after j is swept.
+  abbrev pub FreesWithinTwo : List (Entry Op) → Type 0
+  FreesWithinTwo es = (j k : ℕ) (lost ended swept : List (Entry Op)) → IsStartOf lost ended → IsStartOf ended es → IsStartOf swept es → EndsCycle j ended → SweepsCycle k swept → j < k →
+      (n : Name) → IsMade (ever lost).made n → (Reach (ever lost) n → ⊥) → (a : ℕ) → IsPlacedAt (words swept) n a → ⊥
+
   -- an object of this name is placed somewhere, and marked
   abbrev pub IsMarkedObject : Words → Name → Type 0
   IsMarkedObject words n = (a : ℕ) × IsPlacedAt words n a × (row_bit (mark_words words) a ≡ 1)
@@ -251,12 +257,15 @@ module _ (shapes : List Shape) (l : Layout) (pacing : Pacing) (may : ℕ → Lis
     pub opened : AllWereOpened es
     pub numbers : (c : Coordinating) → IsLed es c → CountsPlainly (those shapes l pacing may) pacing.room es c
     pub frees : FreesTheUnreached es
+    pub frees_within_two : FreesWithinTwo es
     pub ends : EndsAllMarked es
     pub until : StandsUntilItsEnd es
     pub standing : (c : Coordinating) → IsLed es c → leading.Marks c.stage → StandsSoFar es c
     -- a stack is scanned once in a cycle; what the numbers of spans say, and what a sweep has left; who knows of a phase, and who marks
     pub scans : ScansOnce shapes l pacing may es
     pub sweeps : SweepsStand shapes l pacing may es
+    -- which spans there are, and who owns how many
+    pub spans : SpansStand shapes l (words es)
     pub phases : PhasesStand shapes l pacing may es
     pub drawn : (c : Coordinating) → IsLed es c → leading.Marks c.stage → CycleIsDrawn shapes l pacing may es c
     pub counts : (c : Coordinating) → IsLed es c → AllWereCounted es c

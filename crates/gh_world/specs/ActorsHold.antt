@@ -1,5 +1,5 @@
--- What holds after every list of all actors, by the coordinator's stage: between two cycles the heap is calm; while a cycle is marked it is known to marking; and while it is swept the world is stopped.
-use Rattle.std.specs.Prelude.{◌≡◌, ◌↔◌, ℕ, ◌+◌, ◌*◌, ◌<◌, ◌≤◌, ◌⊎◌, Bool, true, false, List, ◌++◌, slice_index, Option, Some, None}
+-- What holds after every list of all actors, by the coordinator's stage: while no cycle is under way, spans being swept or not, nobody marks; while a cycle is opened the world is stopped; and while it is marked it is known to marking.
+use Rattle.std.specs.Prelude.{◌≡◌, ◌↔◌, ℕ, ◌+◌, ◌*◌, ◌^◌, ◌<◌, ◌≤◌, ◌⊎◌, Bool, true, false, List, ◌++◌, slice_index, Option, Some, None}
 use Rattle.std.specs.Option.{option_to_list}
 use Rattle.std.proofs.Common.{inl, inr}
 use Rattle.gh_base.specs.declared.cell.Cell.TheVariants as cell
@@ -8,6 +8,9 @@ use Rattle.gh_base.specs.declared.operation.Op.TheVariants as op
 use Rattle.gh_base.specs.Lists.{by}
 use Rattle.gh_alloc.specs.declared.place.PlaceStage.{PlaceStage}
 use Rattle.gh_alloc.specs.declared.place.PlaceStage.TheVariants as making
+use Rattle.gh_base.specs.Cells.{seats_of}
+use Rattle.gh_coord.specs.declared.close.CloseStage.{CloseStage}
+use Rattle.gh_coord.specs.declared.close.CloseStage.TheVariants as closing
 use Rattle.gh_coord.specs.declared.coord.CoordStage.TheVariants.{Check, Close, Count, Done, LoadAck, LoadWant, MarkOn, Open, Stop, StopAgain, Sweep, Tell, Watch}
 use Rattle.gh_coord.specs.declared.count.CountStage.{CountStage}
 use Rattle.gh_coord.specs.declared.count.CountStage.TheVariants as counting
@@ -17,12 +20,13 @@ use Rattle.gh_coord.specs.declared.sweep_all.SweepAllStage.{SweepAllStage}
 use Rattle.gh_coord.specs.declared.sweep_all.SweepAllStage.TheVariants as all
 use Rattle.gh_coord.specs.declared.tell.TellStage.{TellStage}
 use Rattle.gh_coord.specs.declared.tell.TellStage.TheVariants as telling
+use Rattle.gh_coord.specs.SweepingAll as over
 use Rattle.gh_mutator.specs.declared.new.NewStage.TheVariants as new
 use Rattle.gh_mutator.specs.declared.task.Task.TheVariants as task
-use Rattle.gh_sweep.specs.declared.sweep.SweepStage.{SweepStage}
-use Rattle.gh_sweep.specs.declared.sweep.SweepStage.TheVariants.{Begin}
-use Rattle.gh_sweep.specs.Listing as sweep
-use Rattle.gh_world.specs.HoldVocabulary.{acks_of, alloc_at, alloc_words, AllWereCounted, Answer, answers_of, arena, Arena, AreWords, BeginsCycle, birth_words, By, Coordinating, CoordStage, CountsAreExact, Cycle, CycleEnd, deeds, ended_in, EndsAllMarked, EndsCycle, Entry, Ever, ever, Fine, FreesTheUnreached, FullOnlyThere, generation_of, given_of, HasGoneOn, head_word, Heap, IsAsItEnded, IsBeside, IsBounded, IsDrawnSo, IsLed, IsMade, IsOf, IsPlacedAt, IsSound, IsStartOf, IsToBegin, Layout, LeavesTheReached, mark_words, Marking, marks_at, MarksNothing, Name, NewStage, Op, opening_words, Pacing, PassedBefore, Placed, Processor, processor_kind, Rests, Right, row_bit, Runs, Shape, State, state_of, StateGood, SweepingAll, tally_of, Task, Told, view, Words, words}
+use Rattle.gh_sweep.specs.Facts.{HasNotNumber}
+use Rattle.gh_sweep.specs.Shared.{freed_at, in_all, kept_at, live_at}
+use Rattle.gh_world.specs.Sweepers.{IsInSweep, sweep_of}
+use Rattle.gh_world.specs.HoldVocabulary.{actors_after, alloc_at, alloc_words, AllWereCounted, Answer, answers_of, arena, Arena, AreWords, BeginsCycle, Coordinating, CoordStage, Cycle, CycleEnd, deeds, ended_in, EndsAllMarked, EndsCycle, Entry, Ever, ever, Fine, FreesTheUnreached, FullOnlyThere, generation_of, given_of, HasGoneOn, Heap, IsAsItEnded, IsBeside, IsBounded, IsDrawnSo, IsLed, IsMade, IsOf, IsPlacedAt, IsSound, IsStartOf, IsToBegin, Layout, mark_words, Marking, marks_at, MarksNothing, Name, NewStage, Op, opening_words, Pacing, PassedBefore, Processor, processor_kind, Right, row_bit, Shape, State, state_of, StateGood, SweepingAll, TallyWord, Task, Told, view, Words, words}
 
 -- The bytes that a processor has placed and not counted yet: those of the slot in which it has made an object.
 
@@ -49,27 +53,19 @@ is_last_task _ = false
 abbrev pub IsUnderWay : State → Type 0
 IsUnderWay s = (t : Told) × (s.told ≡ Some t)
 
--- The coordinator sweeps all spans, alone.
+-- The coordinator goes over all pages, and sweeps each span that nobody sweeps yet.
 
-module _ (a : ℕ) (s : State) where
-  -- where it is about to take the span, the page's word is as it has found it
-  abbrev pub IsFoundStill : sweep.Sweeping → SweepStage → Type 0
-  IsFoundStill m Begin = s.heap.words (cell.Page m.page) ≡ head_word m.head
-  IsFoundStill m _ = Unit {0}
+module _ (s : State) where
+  -- the span that begins there is not unswept: its head has another number, or none begins there any more
+  abbrev pub IsBegun : (page : ℕ) → Type 0
+  IsBegun page = (number : ℕ) → number + 2 ≡ generation_of s.end → HasNotNumber number (s.heap.words (cell.Page page))
 
-  pub record SweepsSpan (page : ℕ) (m : sweep.Sweeping) : Type 0 where
-    pub page_is : m.page ≡ page
-    pub within : page < s.end.layout.pages
-    pub busy : sweep.is_busy m.stage ≡ true
-    pub runs : Runs a s m
-    pub found : IsFoundStill m m.stage
-
-  -- it waits for nobody, since nobody else sweeps
-  abbrev pub SweepsAt : SweepAllStage → Type 0
-  SweepsAt (all.LoadPage page) = (page < s.end.layout.pages) × Rests a s
-  SweepsAt (all.Sweep page m) = SweepsSpan page m
-  SweepsAt (all.Await page) = ⊥
-  SweepsAt all.Ended = Rests a s
+  -- of a span whose sweep another has begun it waits for the end
+  abbrev pub WalksAt : SweepAllStage → Type 0
+  WalksAt (all.LoadPage page) = page < s.end.layout.pages
+  WalksAt (all.Sweep page m) = (page < s.end.layout.pages) × (m.page ≡ page)
+  WalksAt (all.Await page) = (page < s.end.layout.pages) × IsBegun page
+  WalksAt all.Ended = Unit {0}
 
   abbrev pub page_at : SweepAllStage → ℕ
   page_at (all.LoadPage page) = page
@@ -77,18 +73,26 @@ module _ (a : ℕ) (s : State) where
   page_at (all.Await page) = page
   page_at all.Ended = s.end.layout.pages
 
-  pub record SweepsAll (w : SweepingAll) : Type 0 where
+  -- the spans that begin before its page are swept, whoever swept them
+  pub record Walks (w : SweepingAll) : Type 0 where
     pub layout_is : w.layout ≡ s.end.layout
     pub generation_is : w.generation ≡ generation_of s.end
-    pub alone : (p b : ℕ) → s.far p ≡ By b → b ≡ a
     pub passed : PassedBefore s (page_at w.stage)
-    pub stage_is : SweepsAt w.stage
+    pub stage_is : WalksAt w.stage
 
 -- how far the words are prepared for marking while a cycle is opened
 abbrev pub HasCursor : (cursor : ℕ) → OpenStage → Type 0
 HasCursor cursor opening.ClearWant = Unit {0}
 HasCursor cursor opening.ClearGcur = Unit {0}
 HasCursor cursor _ = cursor ≡ 0
+
+-- and the counts of the last sweep are cleared
+abbrev pub HasCleared : (tally live : ℕ) → OpenStage → Type 0
+HasCleared tally live opening.ClearWant = Unit {0}
+HasCleared tally live opening.ClearGcur = Unit {0}
+HasCleared tally live opening.ClearTally = Unit {0}
+HasCleared tally live opening.ClearLive = tally ≡ 0
+HasCleared tally live _ = (tally ≡ 0) × (live ≡ 0)
 
 module _ (shapes : List Shape) (l : Layout) (pacing : Pacing) (may : ℕ → List (Entry Op) → Op → Bool) where
   abbrev z : Arena
@@ -149,23 +153,44 @@ module _ (shapes : List Shape) (l : Layout) (pacing : Pacing) (may : ℕ → Lis
   began_words es k (inl b) = words shapes l pacing may es
   began_words es k (inr i) = words shapes l pacing may i.begun
 
-  -- where it ended, the bits were these, and no value and no name has changed since
-  pub record EndedSo (es : List (Entry Op)) (k : ℕ) (e : CycleEnd) : Type 0 where
+  -- an object stands there that was made since the list
+  pub record IsNewThere (ended es : List (Entry Op)) (x : ℕ) : Type 0 where
+    pub name : Name
+    pub not_yet : IsMade (ever shapes l pacing may ended).made name → ⊥
+    -- its birth word tells it apart
+    pub few : name.k < 2 ^ 32
+    pub placed : IsPlacedAt (words shapes l pacing may es) name x
+
+  -- What has changed since it ended, where the bits were these.
+  pub record EndedSo (es : List (Entry Op)) (k : ℕ) (s : State) : Type 0 where
     pub ended : List (Entry Op)
     pub start : IsStartOf ended es
     pub ends : EndsCycle shapes l pacing may k ended
-    pub alloc : alloc_at e ≡ alloc_words (words shapes l pacing may ended)
-    pub marks : marks_at e ≡ mark_words (words shapes l pacing may ended)
-    pub births : (i : ℕ) → words shapes l pacing may es (cell.Birth i) ≡ words shapes l pacing may ended (cell.Birth i)
-    pub ever_is : ever shapes l pacing may es ≡ ever shapes l pacing may ended
+    pub alloc : alloc_at s.end ≡ alloc_words (words shapes l pacing may ended)
+    pub marks : marks_at s.end ≡ mark_words (words shapes l pacing may ended)
+    -- an object that was made by then, and is placed, was placed there
+    pub stood : (n : Name) (x : ℕ) → IsMade (ever shapes l pacing may ended).made n → IsPlacedAt (words shapes l pacing may es) n x → IsPlacedAt (words shapes l pacing may ended) n x
+    -- one of since that stands was marked then, or was made later
+    pub since : (x : ℕ) → s.since x ≡ true → row_bit (alloc_words (words shapes l pacing may es)) x ≡ 1 → (row_bit (marks_at s.end) x ≡ 1) ⊎ IsNewThere ended es x
+    -- what was made by then is made
+    pub made : (n : Name) → IsMade (ever shapes l pacing may ended).made n → IsMade (ever shapes l pacing may es).made n
+    -- behind the last cycle no value changes, and nothing is made
+    pub last : (c : Coordinating) → IsLed shapes l pacing may es c → c.is_last ≡ true → (ever shapes l pacing may es ≡ ever shapes l pacing may ended) × IsAsItEnded s
 
-  -- The heap and its sweep, at whatever stage the coordinator is: what holds at every moment, and what each seat has placed and not counted.
+  -- the cycle that ended last, and has not begun anew
+  pub record HasEnded (es : List (Entry Op)) (k : ℕ) (s : State) : Type 0 where
+    pub cycle : IsInCycle es k
+    pub ended : EndedSo es k s
+
+  -- The heap and its sweep, at whatever stage the coordinator is: what holds at every moment, what each seat has placed and not counted, and what it sweeps.
   pub record HasState (es : List (Entry Op)) : Type 0 where
     pub state : State
     pub of_list : IsHeapOf es state.heap
     pub good : StateGood z state
     pub placing : (a : ℕ) → a < l.procs → state.pend a ≡ uncounted (processor_at es a).task
     pub others_place : (a : ℕ) → l.procs ≤ a → state.pend a ≡ 0
+    -- and the sweep that each runs
+    pub sweeps : (a : ℕ) → a < seats_of l → IsInSweep a state (sweep_of (actors_after z pacing may es a))
 
   -- Nobody marks: no buffer has an entry, each stack was scanned in a cycle before this one, if at all, and each processor knows of no marking.
   pub record NobodyMarks (es : List (Entry Op)) (cycle : ℕ) (words : Words) : Type 0 where
@@ -184,23 +209,27 @@ module _ (shapes : List Shape) (l : Layout) (pacing : Pacing) (may : ℕ → Lis
     pub stood : (n : Name) (x : ℕ) → IsPlacedAt (began_words es c.number cycle) n x → IsPlacedAt (words shapes l pacing may es) n x
     pub drawn : (room : ℕ) → IsDrawnSo shapes l pacing may c s es room
     pub marks_fit : AreWords (mark_words has.state.heap.words)
+    -- nothing of the next sweep is counted
+    pub counts : (has.state.heap.words cell.Tally ≡ 0) × (has.state.heap.words cell.Live ≡ 0)
+
+  -- No cycle is under way. The spans that begin before this page are swept.
+  pub record IsOff (es : List (Entry Op)) (cycle page : ℕ) : Type 0 where
+    pub has : HasState es
+    pub over : has.state.told ≡ None
+    pub passed : PassedBefore has.state page
+    pub nobody : NobodyMarks es cycle has.state.heap.words
 
   -- While it is swept.
   pub record IsSweeping (es : List (Entry Op)) (c : Coordinating) (w : SweepingAll) : Type 0 where
     pub has : HasState es
     pub over : has.state.told ≡ None
-    pub sweeps : SweepsAll (acks_of l) has.state w
-    pub as_it_ended : IsAsItEnded has.state
-    pub cycle : IsInCycle es c.begun
-    pub ended : EndedSo es c.begun has.state.end
+    pub walks : Walks has.state w
+    pub behind : HasEnded es c.begun has.state
     pub nobody : NobodyMarks es (c.begun + 1) has.state.heap.words
 
   -- Between two cycles each span is swept.
-  pub record IsQuiet (es : List (Entry Op)) (c : Coordinating) : Type 0 where
-    pub has : HasState es
-    pub over : has.state.told ≡ None
-    pub swept : PassedBefore has.state l.pages
-    pub nobody : NobodyMarks es (c.begun + 1) has.state.heap.words
+  abbrev pub IsQuiet : (es : List (Entry Op)) (c : Coordinating) → Type 0
+  IsQuiet es c = IsOff es (c.begun + 1) l.pages
 
   -- The world is stopped, and a cycle is opened: no mark is set, no buffer has an entry, and each stack was scanned in a cycle before, if at all.
   pub record IsReady (es : List (Entry Op)) (c : Coordinating) : Type 0 where
@@ -209,30 +238,41 @@ module _ (shapes : List Shape) (l : Layout) (pacing : Pacing) (may : ℕ → Lis
     pub marks : (i : ℕ) → has.state.heap.words (cell.Mark i) ≡ 0
     pub nobody : NobodyMarks es c.begun has.state.heap.words
 
-  -- the cycle is just swept: the objects that stand are those that were marked where it ended, and the counts are exact
-  pub record IsJustSwept (es : List (Entry Op)) (c : Coordinating) (h : Heap) (e : CycleEnd) : Type 0 where
-    pub cycle : IsInCycle es c.begun
-    pub ended : EndedSo es c.begun e
-    pub left : (n : Name) → IsMade h.ever.made n → Placed (alloc_words h.words) (birth_words h.words) h.place n → row_bit (marks_at e) (h.place n) ≡ 1
-    pub told : CountsAreExact e h.words
+  -- what it has read is what was counted: the objects that were marked where the cycle ended, and the others
+  pub record IsRead (e : CycleEnd) (t : TallyWord) : Type 0 where
+    pub marked : t.marked ≡ in_all e (kept_at e)
+    pub freed : t.freed ≡ in_all e (freed_at e)
 
-  -- it has read what is counted
-  abbrev pub HasRead : (tally : ℕ) → CountStage → Type 0
-  HasRead tally counting.LoadTally = Unit {0}
-  HasRead tally (counting.LoadLive t) = t ≡ tally_of tally
-  HasRead tally (counting.Ended t) = Unit {0}
+  abbrev pub HasRead : CycleEnd → CountStage → Type 0
+  HasRead e counting.LoadTally = Unit {0}
+  HasRead e (counting.LoadLive t) = IsRead e t
+  HasRead e (counting.Ended t) = Unit {0}
+
+  -- the cycle is swept, and the bytes that the coordinator keeps are those of the objects marked
+  pub record IsTold (es : List (Entry Op)) (c : Coordinating) : Type 0 where
+    pub quiet : IsQuiet es c
+    pub behind : HasEnded es c.begun quiet.has.state
+    pub live : c.live ≡ in_all quiet.has.state.end (live_at quiet.has.state.end)
 
   -- By the coordinator's stage.
 
   abbrev pub IsOpening : List (Entry Op) → Coordinating → OpenStage → Type 0
-  IsOpening es c stage = IsReady es c × HasCursor (words shapes l pacing may es cell.Gcur) stage
+  IsOpening es c stage = IsReady es c × HasCursor (words shapes l pacing may es cell.Gcur) stage × HasCleared (words shapes l pacing may es cell.Tally) (words shapes l pacing may es cell.Live) stage
 
-  abbrev pub IsCounting : List (Entry Op) → Coordinating → CountStage → Type 0
-  IsCounting es c stage = (q : IsQuiet es c) × IsJustSwept es c q.has.state.heap q.has.state.end × HasRead (words shapes l pacing may es cell.Tally) stage
+  pub record IsCounting (es : List (Entry Op)) (c : Coordinating) (stage : CountStage) : Type 0 where
+    pub quiet : IsQuiet es c
+    pub behind : HasEnded es c.begun quiet.has.state
+    pub read : HasRead quiet.has.state.end stage
+
+  -- It has stored the next sweep generation: each span is unswept, or begun to be swept, until the walk begins.
+  abbrev pub IsClosing : List (Entry Op) → Coordinating → CloseStage → Type 0
+  IsClosing es c closing.StorePhase = IsSweeping es c (over.opening c.layout c.generation)
+  IsClosing es c closing.Ended = ⊥
+  IsClosing es c _ = Unit {0}
 
   abbrev pub IsTelling : List (Entry Op) → Coordinating → TellStage → Type 0
   IsTelling es c telling.Ended = ⊥
-  IsTelling es c _ = (q : IsQuiet es c) × IsJustSwept es c q.has.state.heap q.has.state.end
+  IsTelling es c _ = IsTold es c
 
   module _ (es : List (Entry Op)) (c : Coordinating) where
     abbrev pub HoldsAt : CoordStage → Type 0
@@ -245,14 +285,13 @@ module _ (shapes : List Shape) (l : Layout) (pacing : Pacing) (may : ℕ → Lis
     HoldsAt (StopAgain st) = Unit {0}
     HoldsAt (Check w) = Unit {0}
     HoldsAt MarkOn = Unit {0}
-    HoldsAt (Close x) = Unit {0}
+    HoldsAt (Close x) = IsClosing es c x.stage
     HoldsAt (Sweep w) = IsSweeping es c w
     HoldsAt (Count x) = IsCounting es c x.stage
     HoldsAt (Tell t) = IsTelling es c t.stage
-    HoldsAt Done = IsQuiet es c
+    HoldsAt Done = IsTold es c
 
     pub record Holds : Type 0 where
       pub at : HoldsAt c.stage
       pub was : WasSo es
       pub counted : AllWereCounted shapes l pacing may es c
-      pub last : c.stage ≡ Done → LeavesTheReached shapes l pacing may es c

@@ -19,6 +19,8 @@ pub mod RunVocabulary
 pub mod Runs
 pub mod Scans
 pub mod Schedule
+pub mod Spans
+pub mod Sweepers
 pub mod SweepMarks
 pub mod Tied
 pub mod Turns

@@ -1,9 +1,8 @@
 -- The numbers of cycles over every legal list of all actors: in the words, with the coordinator, and in its list of cycles.
-use Rattle.std.specs.Prelude.{◌≡◌, ℕ, suc, ◌+◌, ◌*◌, ◌^◌, ◌≤◌, ◌<◌, ◌⊎◌, ◌↔◌, Bool, true, false, if◌then◌else◌, min, List, [], ◌∷◌, length, slice_get, Some}
+use Rattle.std.specs.Prelude.{◌≡◌, ℕ, suc, ◌+◌, ◌*◌, ◌^◌, ◌≤◌, ◌⊎◌, ◌↔◌, Bool, true, false, if◌then◌else◌, min, List, [], ◌∷◌, length, slice_get, Some}
 use Rattle.gh_base.specs.declared.cell.Ask.{Ask}
 use Rattle.gh_base.specs.declared.cell.Ask.TheVariants.{Store, Or}
 use Rattle.gh_base.specs.declared.cell.Cell.TheVariants as cell
-use Rattle.gh_base.specs.Packing.{tally_of}
 use Rattle.gh_coord.specs.declared.close.CloseStage.{CloseStage}
 use Rattle.gh_coord.specs.declared.close.CloseStage.TheVariants as close_stage
 use Rattle.gh_coord.specs.declared.coord.CoordStage.TheVariants.{LoadAck, LoadWant, Stop, Open, Watch, StopAgain, Check, MarkOn, Close, Sweep, Count, Tell, Done}
@@ -14,7 +13,7 @@ use Rattle.gh_coord.specs.Handshake as leading
 use Rattle.gh_world.specs.declared.handshake.Actor.TheVariants as actor
 use Rattle.gh_world.specs.Handshake.{Pacing, those}
 use Rattle.gh_world.specs.Marking.{IsBeginning}
-use Rattle.gh_world.specs.Vocabulary.{acks_of, Actor, CoordStage, Coordinating, Cycle, cycle_of, Entry, Kept, Layout, Legal, Op, OpenStage, Setting, Shape, state_of, Words, words_after}
+use Rattle.gh_world.specs.Vocabulary.{acks_of, Actor, CoordStage, Coordinating, Cycle, Entry, Kept, Layout, Legal, Op, OpenStage, Setting, Shape, state_of, Words, words_after}
 
 -- Where the coordinator is in a cycle.
 
@@ -25,10 +24,6 @@ pub data Part : Type 0 where
   Numbered : Part
   -- the request is cleared
   Opened : Part
-  -- and the number of the objects counted
-  TallyCleared : Part
-  -- and that of the bytes counted
-  LiveCleared : Part
   -- its number stands as begun
   Begun : Part
   -- it is checked that nothing is left to be marked, and the next sweep generation has its number
@@ -40,14 +35,12 @@ pub data Part : Type 0 where
 
 abbrev pub open_part : OpenStage → Part
 open_part open_stage.ClearWant = Numbered
-open_part open_stage.ClearGcur = Opened
-open_part open_stage.ClearTally = Opened
-open_part open_stage.ClearLive = TallyCleared
 open_part open_stage.StorePhase = Begun
 open_part open_stage.Ended = Begun
-open_part _ = LiveCleared
+open_part _ = Opened
 
 abbrev pub close_part : CloseStage → Part
+close_part close_stage.StorePhase = Ended
 close_part close_stage.Ended = Ended
 close_part _ = Checked
 
@@ -84,38 +77,10 @@ abbrev pub ahead_at : Part → Ahead
 ahead_at Outside = record { numbered = 0; opened = 0; begun = 0; generation = 0; ended = 0; kept = 0 }
 ahead_at Numbered = record { numbered = 1; opened = 0; begun = 0; generation = 0; ended = 0; kept = 0 }
 ahead_at Opened = record { numbered = 1; opened = 1; begun = 0; generation = 0; ended = 0; kept = 0 }
-ahead_at TallyCleared = record { numbered = 1; opened = 1; begun = 0; generation = 0; ended = 0; kept = 0 }
-ahead_at LiveCleared = record { numbered = 1; opened = 1; begun = 0; generation = 0; ended = 0; kept = 0 }
 ahead_at Begun = record { numbered = 1; opened = 1; begun = 1; generation = 0; ended = 0; kept = 0 }
 ahead_at Checked = record { numbered = 1; opened = 1; begun = 1; generation = 1; ended = 0; kept = 0 }
 ahead_at Ended = record { numbered = 1; opened = 1; begun = 1; generation = 1; ended = 1; kept = 0 }
 ahead_at Counted = record { numbered = 1; opened = 1; begun = 1; generation = 1; ended = 1; kept = 1 }
-
--- the objects counted, and the bytes counted, are cleared, from their stores up to that of the sweep generation
-abbrev pub IsTallyClear : Part → Type 0
-IsTallyClear TallyCleared = Unit {0}
-IsTallyClear LiveCleared = Unit {0}
-IsTallyClear Begun = Unit {0}
-IsTallyClear Checked = Unit {0}
-IsTallyClear _ = ⊥
-
-abbrev pub IsLiveClear : Part → Type 0
-IsLiveClear LiveCleared = Unit {0}
-IsLiveClear Begun = Unit {0}
-IsLiveClear Checked = Unit {0}
-IsLiveClear _ = ⊥
-
--- they stand as counted, from the reading of the counts on until they are cleared
-abbrev pub IsTallyCounted : Part → Type 0
-IsTallyCounted Counted = Unit {0}
-IsTallyCounted Outside = Unit {0}
-IsTallyCounted Numbered = Unit {0}
-IsTallyCounted Opened = Unit {0}
-IsTallyCounted _ = ⊥
-
-abbrev pub IsLiveCounted : Part → Type 0
-IsLiveCounted TallyCleared = Unit {0}
-IsLiveCounted part = IsTallyCounted part
 
 -- the generation of the heap once so many cycles have ended
 abbrev pub generation_of : (ended : ℕ) → ℕ
@@ -172,13 +137,7 @@ module _ (s : Setting Actor Op) (room : ℕ) (es : List (Entry Op)) (c : Coordin
     pub generation : c.generation ≡ generation_of (words cell.Swept + ahead.generation)
     -- one cycle more has begun than has ended exactly while it is marked, and where the store of that phase is next
     pub marks : words cell.Gen ≡ 2 * words cell.Begun ↔ (leading.Marks c.stage ⊎ IsBeginning c.stage)
-    -- what is counted
-    pub no_tally : IsTallyClear (part_of c.stage) → words cell.Tally ≡ 0
-    pub no_live : IsLiveClear (part_of c.stage) → words cell.Live ≡ 0
-    pub live : IsLiveCounted (part_of c.stage) → words cell.Live ≡ c.live
     pub cycles : KeepsCycles room (words cell.Swept + ahead.kept) c.cycles
-    -- the last cycle, where there is room for it, is as the word says
-    pub tally : (n : ℕ) → IsTallyCounted (part_of c.stage) → suc n ≡ words cell.Swept + ahead.kept → n < room → slice_get c.cycles.items n ≡ Some (cycle_of (suc n) (tally_of (words cell.Tally)))
 
 abbrev pub EveryListCountsCycles : Type 0
 EveryListCountsCycles = (shapes : List Shape) (l : Layout) (pacing : Pacing) (may_begin : ℕ → List (Entry Op) → Op → Bool) (es : List (Entry Op)) (c : Coordinating) →

@@ -95,6 +95,8 @@ module _ (shapes : List Shape) (l : Layout) (pacing : Pacing) (may : ℕ → Lis
       pub marking : (c : Coordinating) → IsLed es c → MarksInPhase c
       pub stopped : (c : Coordinating) → IsLed es c → IsStopped c → StandsStill c
       pub last : (c : Coordinating) → IsLed es c → EndsInOrder c
+      -- while no cycle is marked no buffer has an entry, and nobody holds one
+      pub buffers : (c : Coordinating) → IsLed es c → (leading.Marks c.stage → ⊥) → (b : ℕ) → told es (cell.Buffer b) ≡ 0
       -- Of every start of the list: who marks with its newest entry does so while a cycle is marked;
       pub marks : (e : Entry Op) (before : List (Entry Op)) (c : Coordinating) → IsStartOf (e ∷ before) es → IsLed before c → IsMarkingStep e.ask → leading.Marks c.stage
       -- and in a stopped world that entry is the coordinator's, or a load of the phase that finds the stop

@@ -4,12 +4,11 @@ use Rattle.gh_base.specs.declared.cell.Cell.TheVariants as cell
 use Rattle.gh_base.specs.declared.limits.TheConstants.{MOST_STATEMENTS}
 use Rattle.gh_base.specs.Cells.{buffers_of}
 use Rattle.gh_room.specs.Room.{HasRoom}
-use Rattle.gh_coord.specs.Handshake as leading
 use Rattle.gh_mutator.specs.Facts.{ShapesAreGood}
-use Rattle.gh_world.specs.Actors.{IsLed, may_of, words}
+use Rattle.gh_world.specs.Actors.{may_of, words}
 use Rattle.gh_world.specs.Handshake.{Pacing, those}
 use Rattle.gh_world.specs.Marking.{IsInLimits}
-use Rattle.gh_world.specs.Vocabulary.{Coordinating, Entry, Layout, Legal, Op, Shape, Words}
+use Rattle.gh_world.specs.Vocabulary.{Entry, Layout, Legal, Op, Shape, Words}
 use Rattle.gh_world.specs.Wants.{total}
 
 -- Such a buffer, by its word: whoever loads that word finds room there.
@@ -18,7 +17,7 @@ pub record RoomStands (l : Layout) (words : Words) : Type 0 where
   pub there : buffer < buffers_of l
   pub has : HasRoom (words (cell.Buffer buffer))
 
--- While a cycle is marked there is one after every legal list: so where a search for room passes all buffers, and takes none, others have stepped meanwhile.
+-- At every moment there is one, after every legal list: so where a search for room passes all buffers, and takes none, others have stepped meanwhile.
 abbrev pub EveryListHasRoom : Type 0
-EveryListHasRoom = (shapes : List Shape) (l : Layout) (pacing : Pacing) (counts : ℕ → ℕ) (es : List (Entry Op)) (c : Coordinating) → ShapesAreGood shapes → IsInLimits l → total counts l.goroutines ≤ MOST_STATEMENTS →
-    Legal (those shapes l pacing (may_of shapes l counts)) es → IsLed shapes l pacing (may_of shapes l counts) es c → leading.Marks c.stage → RoomStands l (words shapes l pacing (may_of shapes l counts) es)
+EveryListHasRoom = (shapes : List Shape) (l : Layout) (pacing : Pacing) (counts : ℕ → ℕ) (es : List (Entry Op)) → ShapesAreGood shapes → IsInLimits l → total counts l.goroutines ≤ MOST_STATEMENTS →
+    Legal (those shapes l pacing (may_of shapes l counts)) es → RoomStands l (words shapes l pacing (may_of shapes l counts) es)

@@ -38,7 +38,7 @@ pub use Rattle.gh_world.specs.Actors.{AllStands, AllWereCounted, EndsCycle, IsEn
 pub use Rattle.gh_world.specs.Cycles.{AreLive, IsAmong, IsHeld, by_field, by_global, cycles_in, ended_by}
 pub use Rattle.gh_world.specs.Handshake.{EveryListKeepsIt, KeepsIt, Pacing}
 pub use Rattle.gh_world.specs.Marking.{IsStartOf}
-pub use Rattle.gh_world.specs.Numbers.{Checked, IsFew, LiveCleared, Outside, Part, generation_of, opened_in, part_of}
+pub use Rattle.gh_world.specs.Numbers.{Checked, IsFew, Outside, Part, generation_of, opened_in, part_of}
 pub use Rattle.gh_world.specs.Order.{answered, before_step, begun_in, ever_of, order_of}
 pub use Rattle.gh_world.specs.Processors.{FullOnlyThere, IsFullFor, IsPlacedAt, arena_of, ever_after_list}
 pub use Rattle.gh_world.specs.Runs.{ActedBehind, EachGcWaits, EveryRunIsExplained, FoundNoRoom, FoundSwept, FullMeansNoRoom, IsExplained, IsRun, answers_given, marked_by, outcome_by, swept_cycle, words_in}

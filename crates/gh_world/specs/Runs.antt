@@ -13,8 +13,7 @@ use Rattle.gh_mutator.specs.Deeds.{processor_kind}
 use Rattle.gh_mutator.specs.Listing.{gives}
 use Rattle.gh_script.specs.Program.{op_of}
 use Rattle.gh_world.specs.declared.handshake.Actor.TheVariants.{Leads}
-use Rattle.gh_world.specs.Actors.{AwaitedCycle}
-use Rattle.gh_world.specs.Actors.{AllStands}
+use Rattle.gh_world.specs.Actors.{AllStands, AwaitedCycle, FreesTheUnreached, FreesWithinTwo}
 use Rattle.gh_world.specs.Cycles.{AreLive, cycles_in}
 use Rattle.gh_world.specs.Order.{acted_at, acted_in, Answered, before_step, begun_in, ever_of, order_of}
 use Rattle.gh_world.specs.Processors.{arena_of, IsFullFor}
@@ -112,7 +111,7 @@ module _ (p : Program) (l : Layout) where
   abbrev pub EachGcWaits : List (Entry Op) → Type 0
   EachGcWaits es = (i g : ℕ) (a : Answered) → slice_get (acted_in p.shapes l es) i ≡ Some a → a.op ≡ op.Gc g → FoundSwept es i a
 
-  -- The operations of each processor are its turns, in the order of their points, and nobody else acts; so the order of all points is one interleaving of the processors' turns. In it each goroutine's statements stand each once and in their order. Their answers are exactly those of the heap that never frees, save `full`, and whichever is answered `full`, there was no room where it acted, and a cycle that began behind its first entry was swept. Each `gc` is answered `swept`, where such a cycle was swept. The statements' answers are those given, of each processor in the order of its turns. What the coordinator tells is so: each cycle kept what was marked where it ended, and freed what was white there. What is live is what the globals of the heap that never frees hold at the end.
+  -- The operations of each processor are its turns, in the order of their points, and nobody else acts; so the order of all points is one interleaving of the processors' turns. In it each goroutine's statements stand each once and in their order. Their answers are exactly those of the heap that never frees, save `full`, and whichever is answered `full`, there was no room where it acted, and a cycle that began behind its first entry was swept. Each `gc` is answered `swept`, where such a cycle was swept. The statements' answers are those given, of each processor in the order of its turns. What the coordinator tells is so: each cycle kept what was marked where it ended, and freed what was white there. Each cycle frees every object that no script reached when it began, and what is lost meanwhile goes with the second cycle that ends after that. What is live is what the globals of the heap that never frees hold at the end.
   pub record IsExplained (es : List (Entry Op)) (o : Outcome) : Type 0 where
     pub run : IsRun p l es
     -- what was answered, and what the coordinator tells at the end
@@ -130,6 +129,9 @@ module _ (p : Program) (l : Layout) where
     pub full : FullMeansNoRoom es
     pub swept : EachGcWaits es
     pub cycles : o.cycles ≡ cycles_in l (setting_of p l).opening es
+    -- an object that no script reached when a cycle began is placed nowhere once that is swept; one that a script loses, once the second cycle that ends after that is
+    pub frees : FreesTheUnreached p.shapes l (pacing_of p) (may_begin_of p l) es
+    pub frees_within_two : FreesWithinTwo p.shapes l (pacing_of p) (may_begin_of p l) es
     pub live : AreLive p.shapes (ever_of p.shapes l es) o.objects o.bytes
 
 -- ---- laws

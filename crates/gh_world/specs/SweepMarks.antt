@@ -1,5 +1,5 @@
 -- What the numbers of spans say, and which marks and objects a sweep has left, in every legal list of steps of all actors: over the words.
-use Rattle.std.specs.Prelude.{◌≡◌, ◌≢◌, ℕ, ◌+◌, ◌*◌, ◌/◌, ◌<◌, ◌≤◌, ◌⊎◌, Bool, true, false, List, Option, Some, None}
+use Rattle.std.specs.Prelude.{◌≡◌, ◌≢◌, ℕ, ◌+◌, ◌*◌, ◌/◌, ◌<◌, ◌≤◌, ◌⊎◌, Bool, true, false, List, Option, Some}
 use Rattle.gh_base.specs.declared.cell.Cell.TheVariants as cell
 use Rattle.gh_base.specs.declared.pack.PageWord.TheVariants.{Head}
 use Rattle.gh_base.specs.declared.pack.SpanHead.{SpanHead}
@@ -12,18 +12,15 @@ use Rattle.gh_sweep.specs.Listing.{bit_words, Sweeping}
 use Rattle.gh_sweep.specs.Shared.{InSpan}
 use Rattle.gh_sweep.specs.Sound.{reached}
 use Rattle.gh_sweep.specs.Sweepers.{has_span}
-use Rattle.gh_coord.specs.declared.coord.CoordStage.{CoordStage}
-use Rattle.gh_coord.specs.declared.coord.CoordStage.TheVariants.{Sweep}
-use Rattle.gh_coord.specs.declared.sweep_all.SweepAllStage.{SweepAllStage}
-use Rattle.gh_coord.specs.declared.sweep_all.SweepAllStage.TheVariants as all
 use Rattle.gh_coord.specs.Handshake as leading
 use Rattle.gh_mutator.specs.declared.task.Task.{Task}
 use Rattle.gh_mutator.specs.declared.task.Task.TheVariants as task
 use Rattle.gh_mutator.specs.Local.{cached_in}
 use Rattle.gh_mutator.specs.ProcessorMarks.{only_polls}
 use Rattle.gh_world.specs.Handshake.{Pacing}
-use Rattle.gh_world.specs.Marking.{IsBeginning, IsLedBy}
+use Rattle.gh_world.specs.Marking.{actors_after, IsBeginning, IsLedBy}
 use Rattle.gh_world.specs.Processors.{arena_of, at_seat, ever_after_list, IsPlacedAt}
+use Rattle.gh_world.specs.Sweepers.{sweep_of}
 use Rattle.gh_world.specs.Vocabulary.{Coordinating, Entry, Ever, Layout, Name, Op, opening_words, Processor, Reach, Shape, Words, words_after}
 
 -- Spans.
@@ -62,15 +59,6 @@ CachedAreSwept words a m = IsRunning m.task → (c : SpanClass) (k : CachedSpan)
 
 -- Marks.
 
--- the sweep of a span that the coordinator runs
-abbrev pub sweep_in : SweepAllStage → Option Sweeping
-sweep_in (all.Sweep page m) = Some m
-sweep_in _ = None
-
-abbrev pub sweep_at : CoordStage → Option Sweeping
-sweep_at (Sweep w) = sweep_in w.stage
-sweep_at _ = None
-
 -- the word of bits lies in the span that is being swept, and its alloc bits are not cut to the marks yet
 pub record IsUncut (m : Sweeping) (i : ℕ) : Type 0 where
   pub begun : has_span m.stage ≡ true
@@ -78,13 +66,13 @@ pub record IsUncut (m : Sweeping) (i : ℕ) : Type 0 where
   pub below : i < 16 * m.page + bit_words m.head
 
 -- The marks while no cycle is marked: those that a cycle has left, as far as they are not swept.
-pub record MarksAreLeft (words : Words) (ever : Ever) (sweep : Option Sweeping) : Type 0 where
+pub record MarksAreLeft (words : Words) (ever : Ever) (sweeps : ℕ → Option Sweeping) : Type 0 where
   -- a word of marks that lies in no span, or in a swept one, is 0
   pub cleared : (i : ℕ) → ((s : InSpan (page_words words) i) → s.h.number ≡ words cell.Gen) → words (cell.Mark i) ≡ 0
   -- in an unswept span each object that a script reaches is marked
   pub unswept : (n : Name) (a : ℕ) → Reach ever n → IsPlacedAt words n a → (s : InSpan (page_words words) (a / 64)) → s.h.number + 2 ≡ words cell.Gen → row_bit (mark_words words) a ≡ 1
   -- and so it is in a span that is being swept, in the words that the sweep has not reached
-  pub uncut : (n : Name) (a : ℕ) (m : Sweeping) → Reach ever n → IsPlacedAt words n a → sweep ≡ Some m → IsUncut m (a / 64) → row_bit (mark_words words) a ≡ 1
+  pub uncut : (n : Name) (a who : ℕ) (m : Sweeping) → Reach ever n → IsPlacedAt words n a → sweeps who ≡ Some m → IsUncut m (a / 64) → row_bit (mark_words words) a ≡ 1
   -- what is marked is an object that stands
   pub stand : (x : ℕ) → row_bit (mark_words words) x ≡ 1 → row_bit (alloc_words words) x ≡ 1
 
@@ -99,4 +87,4 @@ module _ (shapes : List Shape) (l : Layout) (pacing : Pacing) (may : ℕ → Lis
     pub cached : (a : ℕ) → a < l.procs → CachedAreSwept told a (at_seat (arena_of shapes l) (opening_words pacing.trigger) es a)
     -- a cycle begins and is marked once each span is swept
     pub marked : (c : Coordinating) → IsLedBy (arena_of shapes l) pacing may es c → IsBeginning c.stage ⊎ leading.Marks c.stage → AllAreSwept told
-    pub marks : (c : Coordinating) → IsLedBy (arena_of shapes l) pacing may es c → (leading.Marks c.stage → ⊥) → MarksAreLeft told (ever_after_list (arena_of shapes l) (opening_words pacing.trigger) es) (sweep_at c.stage)
+    pub marks : (c : Coordinating) → IsLedBy (arena_of shapes l) pacing may es c → (leading.Marks c.stage → ⊥) → MarksAreLeft told (ever_after_list (arena_of shapes l) (opening_words pacing.trigger) es) (λ who. sweep_of (actors_after (arena_of shapes l) pacing may es who))

@@ -6,16 +6,23 @@
 //! give spans back, and each of their steps is one of the heap and one of marking at once (`gh_mutator`, `beside`). So a
 //! script may lose what it reached when the cycle began, and make what nobody has seen; but what it had lost by then it
 //! never reaches again (`gh_cycle`, `since`). Where marking ends, all that a script reaches is marked, whoever marked and
-//! stored in which order, and nothing that was lost when the cycle began is. The sweep runs while the world is stopped: no
-//! object that a script reaches is freed, and behind it each head has the sweep generation's number again, as between two
-//! cycles.
+//! stored in which order, and nothing that was lost when the cycle began is.
+//!
+//! Then the world runs, and the spans are swept while it does, by whoever comes first to one: a processor that searches for a
+//! slot, a worker, or the coordinator. A span that is not swept is nobody's, so no object is made in it, and its bits change
+//! by its sweep alone. Each object that a script reaches in it is marked: it stood where marking ended, and was reached
+//! then, since what no script reached then none reaches later. So no sweep frees it. What goroutines make meanwhile lies in
+//! swept spans, where no mark is needed. So which objects a sweep frees was settled where marking ended, whoever sweeps
+//! when. The coordinator goes over all pages, and waits for each span that another sweeps. Behind that each head has the
+//! sweep generation's number again, as between two cycles, and the counts are those of the end of marking. No cycle is
+//! opened before.
 //!
 //! So one invariant goes through every list. The heap and its sweep are one state (`gh_state`), and what holds of it
-//! holds at each stage of the coordinator: each step is a move of it that its actor may make. Where a cycle is opened
-//! the state keeps what the sweep had told, since the next cycle clears the counts and sets marks; where marking ends it
-//! takes the bits and the count of bytes as they stand, and each span is unswept. What a processor has placed and not
-//! counted is told at every moment, so what stands is counted exactly where marking ends. Marking is a state of its
-//! own beside it, as long as a cycle is marked.
+//! holds at each stage of the coordinator: each step is a move of it that its actor may make, one of the heap by its rights,
+//! or one of the sweep that it runs (`specs/Sweepers.antt`). Where a cycle is opened the state keeps what the sweep had
+//! told, since the next cycle clears the counts and sets marks; where marking ends it takes the bits and the count of bytes
+//! as they stand, and each span is unswept. What a processor has placed and not counted is told at every moment, so what
+//! stands is counted exactly where marking ends. Marking is a state of its own beside it, as long as a cycle is marked.
 //!
 //! The coordinator ends a cycle's marking where it has found, in a stopped world, that no buffer has an entry, that the
 //! cursor is past the last global and that each stack is scanned. In a stopped world nobody else moves, so its many loads
@@ -31,8 +38,9 @@
 //! as long as a goroutine goes on, its colours the mark bits; and each actor has in hand what its stage says.
 //!
 //! Beside that every list keeps who scans a stack and how often (`specs/Scans.antt`), what the numbers of spans and the marks
-//! say while no cycle is marked (`specs/SweepMarks.antt`), who knows of a phase and who marks (`specs/Phases.antt`), who asked
-//! for a cycle (`specs/Asked.antt`) and how many there are (`specs/Counts.antt`).
+//! say while no cycle is marked (`specs/SweepMarks.antt`), which spans there are and who owns how many (`specs/Spans.antt`), who
+//! knows of a phase and who marks (`specs/Phases.antt`), who asked for a cycle (`specs/Asked.antt`) and how many there are
+//! (`specs/Counts.antt`).
 
 ghost use Rattle.gh_world.specs.Actors.{EveryListOfActorsStands};
 
@@ -43,13 +51,14 @@ use crate::numbers::{
 };
 use gh_base::laws::{a_step_changes_one_cell, packed_words_are_read_back, rows_are_written};
 use gh_class::size_class_laws;
+use gh_coord::laws::the_coordinator_runs_sweeps;
 use gh_cycle::beside::{
     cycles_begin_beside, marking_alone_goes_beside, objects_are_known_beside, the_marked_stand,
     the_reached_are_marked_beside,
 };
 use gh_cycle::opening::{bounds_last, cycles_open, reach_is_decided};
 use gh_cycle::since::{cycles_begin_so, the_marked_were_reached, what_has_gone_on_lasts};
-use gh_heap::laws::{each_move_leaves, facts_last, the_heap_is_apart};
+use gh_heap::laws::{each_move_leaves, facts_last, no_more_is_reached, the_heap_is_apart};
 use gh_marks::laws::{
     facts_last as hands_last, hands_follow, mark_words_stay_words, marking_begins,
     marking_ends_clean, steps_go_by_moves,
@@ -58,21 +67,26 @@ use gh_marks::picture::{cycles_begin_drawn, marking_is_drawn, the_picture_says};
 use gh_mutator::beside::a_processor_goes_on_beside_marking;
 use gh_mutator::laws::{
     a_processor_marks_by_moves, a_processor_runs_by_its_rights, a_processor_writes_its_own,
-    calm_processors_mark_nothing, only_points_change, stacks_are_noted,
+    calm_processors_mark_nothing, only_points_change, processors_run_sweeps, stacks_are_noted,
     the_processor_keeps_the_handshake, the_processors_deeds_fit,
 };
 use gh_state::laws::{
-    counts_are_told, cycles_open_and_end, each_move_keeps, routines_are_made_of_moves, walkers_pass,
+    counts_are_told, cycles_open_and_end, each_move_keeps,
+    each_move_leaves as each_move_leaves_others, routines_are_made_of_moves, walkers_pass,
 };
 use gh_sweep::laws::bits_are_objects;
 use gh_tri::{an_opening_has_the_invariants, each_step_keeps_the_invariants};
-use gh_worker::laws::{a_worker_writes_its_own, calm_workers_mark_nothing, works_by_moves};
+use gh_worker::laws::{
+    a_worker_writes_its_own, calm_workers_mark_nothing, workers_run_sweeps, works_by_moves,
+};
 
 /// After every legal list of steps of all actors, in every order:
 ///
 /// * **The heap.** The words stand for the heap that never frees, and each processor was answered as that heap answers, save
 ///   `full`, which stands only where there was no room. Each object that stands, reached or not, has one address, and no two
 ///   share a word or an address. Each step that an actor may make next is on a word that there is.
+/// * **Spans.** Each page is free, or one of a span for objects of one of the types. Who owns a span is a processor, and it owns no
+///   two of one span class.
 /// * **Cycles.** Who waits for a cycle goes on once one that began behind its first entry is swept. Each cycle was asked for
 ///   since the one before was opened, but the last; none is left out of the coordinator's list, as long as there is room; and
 ///   its numbers are how often the list stores each.
@@ -85,8 +99,11 @@ use gh_worker::laws::{a_worker_writes_its_own, calm_workers_mark_nothing, works_
 ///   where the cycle began or was made since.
 /// * **Once it is swept** an object that was placed where it began, and that no script reached then, is placed nowhere; the
 ///   numbers that the coordinator keeps for it are those of the objects placed and marked where its marking ended, and of those
-///   placed and not marked. While none is marked, marks are left only where spans are not swept.
-/// * **Phases.** Who marks knows that a cycle is marked, and in a stopped world nobody but the coordinator moves.
+///   placed and not marked. So an object that becomes unreachable is placed nowhere once the second cycle whose marking ends
+///   after that is swept. While a cycle is swept goroutines run, and any actor may sweep: each span is swept, or nobody owns
+///   it, and what a script reaches is marked where its span is not swept. While none is marked, marks are left only there.
+/// * **Phases.** Who marks knows that a cycle is marked, and in a stopped world nobody but the coordinator moves. The world is
+///   stopped only where a cycle is opened, and where it is checked that its marking is over.
 /// * **Once all is over** the objects that stand are those that the globals reach.
 pub fn every_list_of_actors_stands()
     ensures { EveryListOfActorsStands }
@@ -98,6 +115,8 @@ pub fn every_list_of_actors_stands()
     the_heap_is_apart();
     each_move_keeps();
     each_move_leaves();
+    no_more_is_reached();
+    each_move_leaves_others();
     facts_last();
     routines_are_made_of_moves();
     walkers_pass();
@@ -106,6 +125,9 @@ pub fn every_list_of_actors_stands()
     mark_words_stay_words();
     the_marked_stand();
     bits_are_objects();
+    processors_run_sweeps();
+    workers_run_sweeps();
+    the_coordinator_runs_sweeps();
     a_processor_runs_by_its_rights();
     a_processor_marks_by_moves();
     a_processor_goes_on_beside_marking();

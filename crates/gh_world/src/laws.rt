@@ -34,8 +34,8 @@ pub fn every_run_stands()
 /// goroutine's statements stand among them once and in their order. The answers of such a run are those of the
 /// heap that never frees, in the order of all points, save `full`, which stands only where nothing fitted and a
 /// cycle was waited for. Each `gc` is answered `swept`, where a cycle that began after it did was swept. Each
-/// cycle keeps what was marked where it ended, and frees what was white there. What is live at the end is what
-/// the globals then hold.
+/// cycle keeps what was marked where it ended, and frees what was white there; and it frees each object that no script
+/// reached when it began. What is live at the end is what the globals then hold.
 pub fn every_run_is_explained()
     ensures { EveryRunIsExplained }
 {

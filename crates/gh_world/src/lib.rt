@@ -1,7 +1,7 @@
 //! The actors of a heap, the world that runs a script with them, and what every list of their steps keeps.
 //!
 //! A world has the words of a heap, the processors that run the script's goroutines in turns (`turns`), the
-//! workers that mark, and the coordinator that opens cycles, ends them and has the spans swept. One step of it
+//! workers that mark and sweep, and the coordinator that opens cycles, ends them and has the spans swept. One step of it
 //! is one atomic step of one of these actors, and [`World::step`] is one entry more of whatever list the world
 //! is the state of. Who steps when is for others to say; [`World::turn_from`] says whose turn it is where they
 //! take turns in ascending order. What a processor begins stands apart from its steps ([`Progress`]), so that whoever makes

@@ -19,9 +19,9 @@ use crate::handshake::every_list_keeps_the_handshake;
 use gh_mutator::laws::{a_processor_writes_its_own, the_processor_keeps_the_handshake};
 use gh_worker::laws::{a_worker_writes_its_own, calm_workers_mark_nothing};
 
-/// The numbers of the words and of the coordinator, by the part of the cycle that the coordinator is in; what is
-/// counted is cleared from the opening of a cycle to the end of its marking, and stands from its end to the next
-/// opening; and the coordinator keeps the cycles in their order, and leaves none out as long as there is room.
+/// The numbers of the words and of the coordinator, by the part of the cycle that the coordinator is in; and the
+/// coordinator keeps the cycles in their order, and leaves none out as long as there is room. What sweeps count is
+/// none of these numbers: each actor that sweeps adds to it.
 pub fn every_list_counts_cycles()
     ensures { EveryListCountsCycles }
 {

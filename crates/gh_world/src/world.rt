@@ -103,26 +103,7 @@ fn step_on<M: Machine>(words: &mut Plain, machine: &mut M) -> Option<M::Out>
     machine.take(found)
 }
 
-/// One step of a worker, which mostly finds that marking is off. That is made where the caller stands, and any other step by
-/// `step_on`.
-#[inline(always)]
-fn step_of_worker(words: &mut Plain, machine: &mut Worker) -> Option<()>
-    requires busy { worker.is_busy machine.old.stage ≡ true }
-    requires long { length words.old ≡ length_of machine.old.layout }
-    ensures within { InRange machine.old.layout (cell_of (worker.asks machine.old)) }
-    ensures words { words.new ≡ changed (request machine.old.layout (worker.asks machine.old)) words.old }
-    ensures machine { machine.new ≡ worker.goes machine.old (slice_index words.old (target (request machine.old.layout (worker.asks machine.old)))) }
-    ensures out { result ≡ worker.gives machine.old (slice_index words.old (target (request machine.old.layout (worker.asks machine.old)))) }
-{
-    if !machine.loads_phase() {
-        return step_on(words, machine);
-    }
-    let found = words.step(machine.next());
-    machine.look(found);
-    None
-}
-
-/// One step of the coordinator, which mostly is idle, in the same way.
+/// One step of the coordinator, which mostly is idle. That is made where the caller stands, and any other step by `step_on`.
 #[inline(always)]
 fn step_of_coordinator(words: &mut Plain, machine: &mut Coord) -> Option<()>
     requires busy { coord.is_busy machine.old.stage ≡ true }
@@ -372,7 +353,7 @@ impl<'s> World<'s> {
         ensures { IsStepOfWorker self.old self.new i result }
     {
         let worker = &mut self.workers[i];
-        let out = step_of_worker(&mut self.words, worker);
+        let out = step_on(&mut self.words, worker);
         done_or(out, Event::Moved)
     }
 

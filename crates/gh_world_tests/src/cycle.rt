@@ -34,9 +34,9 @@ const ANSWERS: [Option<Answer>; 7] = [
     Some(Answer::Done),
 ];
 
-/// The processor leaves in round 442, the worker in round 757, and the coordinator is done in round 752: of each how many lines there are, how
+/// The processor leaves in round 455, the worker in round 770, and the coordinator is done in round 767: of each how many lines there are, how
 /// many steps it made, and how many of these were its lines.
-const COUNTS: [(usize, usize, usize); 3] = [(442, 442, 442), (757, 757, 757), (752, 752, 752)];
+const COUNTS: [(usize, usize, usize); 3] = [(455, 455, 455), (770, 770, 770), (767, 767, 767)];
 
 /// The lines of each actor.
 #[derive(Drop)]

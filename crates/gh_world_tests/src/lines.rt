@@ -45,14 +45,15 @@ pub(crate) const WORKER: u8 = 1;
 pub(crate) const COORDINATOR: u8 = 2;
 
 /// Steps of an actor that follow one another, each with what it finds; before them, how often they are made, and by how many words
-/// each time is further on.
+/// each time is further on, but for steps on the phase.
 type Lines = (u8, u32, u32, &'static [(Ask, u64)]);
 
 const LINES: &[Lines] = &[
-    // Rounds 1 to 33. The processor polls, makes the object (a search that meets no span and takes a fresh one, and the
-    // making), polls, and begins to wait; the worker finds the phase off. The coordinator looks whether the processor is
-    // gone, and whether a cycle is asked for, in turns: in round 32 one is.
+    // Rounds 1 to 49. The processor polls, makes the object (a search that meets no span in two passes and takes a fresh one, and
+    // the making), polls, and begins to wait; the worker finds the phase off, and looks at one page after the other. The
+    // coordinator looks whether the processor is gone, and whether a cycle is asked for, in turns: in round 48 one is.
     (PROCESSOR, 1, 0, &[(Load(Phase), 0), (Swap(Lock, 0, 1), 0)]),
+    (PROCESSOR, 16, 1, &[(Load(Page(0)), 0)]),
     (PROCESSOR, 16, 1, &[(Load(Page(0)), 0)]),
     (
         PROCESSOR,
@@ -76,15 +77,17 @@ const LINES: &[Lines] = &[
             (Load(Swept), 0),
         ],
     ),
-    (WORKER, 33, 0, &[(Load(Phase), 0)]),
-    (COORDINATOR, 15, 0, &[(Load(Ack(0)), 0), (Load(Want), 0)]),
+    (WORKER, 16, 1, &[(Load(Phase), 0), (Load(Page(0)), 0)]),
+    (WORKER, 8, 1, &[(Load(Phase), 0), (Load(Page(0)), 0)]),
+    (WORKER, 1, 0, &[(Load(Phase), 0)]),
+    (COORDINATOR, 23, 0, &[(Load(Ack(0)), 0), (Load(Want), 0)]),
     (
         COORDINATOR,
         1,
         0,
         &[(Load(Ack(0)), 0), (Load(Want), 1), (Store(Phase, 6), 0)],
     ),
-    // Rounds 34 to 49: stop 1. The processor gives its span back and acknowledges in round 38, the worker in round 35. Cycle
+    // Rounds 50 to 65: stop 1. The processor gives its span back and acknowledges in round 54, the worker in round 52. Cycle
     // 1 is opened while both wait.
     (
         PROCESSOR,
@@ -99,8 +102,13 @@ const LINES: &[Lines] = &[
         ],
     ),
     (PROCESSOR, 11, 0, &[(Load(Phase), 6)]),
-    (WORKER, 1, 0, &[(Load(Phase), 6), (Store(Ack(1), 1), 0)]),
-    (WORKER, 14, 0, &[(Load(Phase), 6)]),
+    (
+        WORKER,
+        1,
+        0,
+        &[(Load(Page(8)), 0), (Load(Phase), 6), (Store(Ack(1), 1), 0)],
+    ),
+    (WORKER, 13, 0, &[(Load(Phase), 6)]),
     (COORDINATOR, 4, 0, &[(Load(Ack(0)), 0)]),
     (
         COORDINATOR,
@@ -121,9 +129,9 @@ const LINES: &[Lines] = &[
             (Store(Phase, 5), 6),
         ],
     ),
-    // Rounds 50 to 195. The processor scans its stack: the object is marked, and becomes the entry of buffer 0, which it
-    // takes in round 56 and keeps. It goes on to poll and to look for the swept cycle. The worker has looked at buffer 0 in
-    // round 54; no buffer has an entry for it, so it claims the global (round 124), which is nil, and looks once more. The
+    // Rounds 66 to 211. The processor scans its stack: the object is marked, and becomes the entry of buffer 0, which it
+    // takes in round 72 and keeps. It goes on to poll and to look for the swept cycle. The worker has looked at buffer 0 in
+    // round 70; no buffer has an entry for it, so it claims the global (round 140), which is nil, and looks once more. The
     // coordinator waits for that, sees the stack scanned and no buffer with entries that nobody holds, and stops the world.
     (
         PROCESSOR,
@@ -181,7 +189,7 @@ const LINES: &[Lines] = &[
     ),
     (COORDINATOR, 68, 1, &[(Load(Buffer(1)), 0)]),
     (COORDINATOR, 1, 0, &[(Store(Phase, 10), 5)]),
-    // Rounds 196 to 203: stop 2. The processor gives buffer 0 back with its entry, so the check fails and marking goes on.
+    // Rounds 212 to 219: stop 2. The processor gives buffer 0 back with its entry, so the check fails and marking goes on.
     (
         PROCESSOR,
         1,
@@ -214,8 +222,8 @@ const LINES: &[Lines] = &[
             (Store(Phase, 9), 10),
         ],
     ),
-    // Rounds 204 to 278. It is the same cycle: the processor scans nothing, and takes no buffer. The worker takes the
-    // object (round 209) and scans it: one bitmap word, and the pointer field, which is nil. The coordinator sees buffer 0
+    // Rounds 220 to 294. It is the same cycle: the processor scans nothing, and takes no buffer. The worker takes the
+    // object (round 225) and scans it: one bitmap word, and the pointer field, which is nil. The coordinator sees buffer 0
     // with its entry once more, and held when it looks again.
     (
         PROCESSOR,
@@ -265,15 +273,15 @@ const LINES: &[Lines] = &[
     ),
     (COORDINATOR, 68, 1, &[(Load(Buffer(1)), 0)]),
     (COORDINATOR, 1, 0, &[(Store(Phase, 14), 9)]),
-    // Rounds 279 to 361: stop 3. The worker finds the stop when it has seen all buffers, and gives its own back. The check
-    // passes.
+    // Rounds 295 to 378: stop 3. The worker finds the stop when it has seen all buffers, and gives its own back. The check
+    // passes, and the world goes on.
     (
         PROCESSOR,
         1,
         0,
         &[(Load(Swept), 0), (Load(Phase), 14), (Store(Ack(0), 3), 2)],
     ),
-    (PROCESSOR, 80, 0, &[(Load(Phase), 14)]),
+    (PROCESSOR, 81, 0, &[(Load(Phase), 14)]),
     (WORKER, 5, 1, &[(Load(Buffer(64)), 0)]),
     (
         WORKER,
@@ -286,7 +294,7 @@ const LINES: &[Lines] = &[
             (Store(Ack(1), 3), 2),
         ],
     ),
-    (WORKER, 74, 0, &[(Load(Phase), 14)]),
+    (WORKER, 75, 0, &[(Load(Phase), 14)]),
     (COORDINATOR, 2, 0, &[(Load(Ack(0)), 2)]),
     (COORDINATOR, 1, 0, &[(Load(Ack(0)), 3)]),
     (COORDINATOR, 5, 0, &[(Load(Ack(1)), 2)]),
@@ -301,11 +309,49 @@ const LINES: &[Lines] = &[
         COORDINATOR,
         1,
         0,
-        &[(Load(Bank), 0), (Store(Bank, 0), 0), (Store(Gen, 4), 2)],
+        &[
+            (Load(Bank), 0),
+            (Store(Bank, 0), 0),
+            (Store(Gen, 4), 2),
+            (Store(Phase, 12), 14),
+        ],
     ),
-    // Rounds 362 to 435. The sweep keeps the object and clears its mark, and cycle 1 is told.
-    (PROCESSOR, 74, 0, &[(Load(Phase), 14)]),
-    (WORKER, 74, 0, &[(Load(Phase), 14)]),
+    // Rounds 379 to 451. The sweep keeps the object and clears its mark, and cycle 1 is told. The processor polls and looks for
+    // the swept cycle, and the worker looks at one page after the other: in rounds 397 and 429 at the one that is in sweep.
+    (
+        PROCESSOR,
+        1,
+        0,
+        &[
+            (Load(Phase), 12),
+            (Load(Gen), 4),
+            (Load(Begun), 1),
+            (Load(Swept), 0),
+        ],
+    ),
+    (PROCESSOR, 34, 0, &[(Load(Phase), 12), (Load(Swept), 0)]),
+    (PROCESSOR, 1, 0, &[(Load(Phase), 12)]),
+    (
+        WORKER,
+        1,
+        0,
+        &[(Load(Phase), 12), (Load(Gen), 4), (Load(Begun), 1)],
+    ),
+    (WORKER, 7, 1, &[(Load(Phase), 12), (Load(Page(9)), 0)]),
+    (
+        WORKER,
+        1,
+        0,
+        &[(Load(Phase), 12), (Load(Page(0)), IN_SWEEP)],
+    ),
+    (WORKER, 15, 1, &[(Load(Phase), 12), (Load(Page(1)), 0)]),
+    (
+        WORKER,
+        1,
+        0,
+        &[(Load(Phase), 12), (Load(Page(0)), IN_SWEEP)],
+    ),
+    (WORKER, 11, 1, &[(Load(Phase), 12), (Load(Page(1)), 0)]),
     (
         COORDINATOR,
         1,
@@ -349,39 +395,34 @@ const LINES: &[Lines] = &[
             (Load(Live), 16),
             (Store(Trigger, NEVER), NEVER),
             (Store(Swept, 1), 0),
-            (Store(Phase, 12), 14),
         ],
     ),
-    // Rounds 436 to 442. `gc` is answered. The processor polls, its goroutine ends, and it leaves, with nothing to give back.
+    // Rounds 452 to 456. `gc` is answered. The processor polls, its goroutine ends, and it leaves, with nothing to give back.
     (
         PROCESSOR,
         1,
         0,
         &[
-            (Load(Phase), 12),
-            (Load(Gen), 4),
-            (Load(Begun), 1),
             (Load(Swept), 1),
             (Load(Phase), 12),
             (Store(Scanned(0), END), 1),
             (Store(Ack(0), GONE), 3),
         ],
     ),
-    (
-        WORKER,
-        1,
-        0,
-        &[(Load(Phase), 12), (Load(Gen), 4), (Load(Begun), 1)],
-    ),
-    (WORKER, 4, 0, &[(Load(Phase), 12)]),
-    (COORDINATOR, 3, 0, &[(Load(Ack(0)), 3), (Load(Want), 0)]),
+    (WORKER, 2, 1, &[(Load(Phase), 12), (Load(Page(12)), 0)]),
+    (WORKER, 1, 0, &[(Load(Phase), 12)]),
+    (COORDINATOR, 2, 0, &[(Load(Ack(0)), 3), (Load(Want), 0)]),
     (COORDINATOR, 1, 0, &[(Load(Ack(0)), GONE)]),
-    // Rounds 443 to 455: stop 4, for the last cycle, 2.
+    // Rounds 457 to 469: stop 4, for the last cycle, 2.
     (
         WORKER,
         1,
         0,
-        &[(Load(Phase), 12), (Load(Phase), 18), (Store(Ack(1), 4), 3)],
+        &[
+            (Load(Page(14)), 0),
+            (Load(Phase), 18),
+            (Store(Ack(1), 4), 3),
+        ],
     ),
     (WORKER, 10, 0, &[(Load(Phase), 18)]),
     (
@@ -404,7 +445,7 @@ const LINES: &[Lines] = &[
             (Store(Phase, 17), 18),
         ],
     ),
-    // Rounds 456 to 601. The goroutine has ended, so nothing is grey: the worker claims the global, and that is all.
+    // Rounds 470 to 615. The goroutine has ended, so nothing is grey: the worker claims the global, and that is all.
     (
         WORKER,
         1,
@@ -438,14 +479,14 @@ const LINES: &[Lines] = &[
     ),
     (COORDINATOR, 69, 1, &[(Load(Buffer(0)), 0)]),
     (COORDINATOR, 1, 0, &[(Store(Phase, 22), 17)]),
-    // Rounds 602 to 678: stop 5.
+    // Rounds 616 to 693: stop 5.
     (
         WORKER,
         1,
         0,
         &[(Load(Gcur), 1), (Load(Phase), 22), (Store(Ack(1), 5), 4)],
     ),
-    (WORKER, 74, 0, &[(Load(Phase), 22)]),
+    (WORKER, 75, 0, &[(Load(Phase), 22)]),
     (
         COORDINATOR,
         1,
@@ -463,10 +504,44 @@ const LINES: &[Lines] = &[
         COORDINATOR,
         1,
         0,
-        &[(Load(Bank), 0), (Store(Bank, 0), 0), (Store(Gen, 6), 4)],
+        &[
+            (Load(Bank), 0),
+            (Store(Bank, 0), 0),
+            (Store(Gen, 6), 4),
+            (Store(Phase, 20), 22),
+        ],
     ),
-    // Rounds 679 to 752. The sweep frees the object, and the last cycle is told: all is finished.
-    (WORKER, 74, 0, &[(Load(Phase), 22)]),
+    // Rounds 694 to 767. The sweep frees the object, and the last cycle is told: all is finished. The worker looks at the page
+    // that is in sweep in rounds 700 and 732, and in round 764, when it is swept.
+    (
+        WORKER,
+        1,
+        0,
+        &[(Load(Phase), 20), (Load(Gen), 6), (Load(Begun), 2)],
+    ),
+    (WORKER, 1, 0, &[(Load(Phase), 20), (Load(Page(15)), 0)]),
+    (
+        WORKER,
+        1,
+        0,
+        &[(Load(Phase), 20), (Load(Page(0)), IN_LAST_SWEEP)],
+    ),
+    (WORKER, 15, 1, &[(Load(Phase), 20), (Load(Page(1)), 0)]),
+    (
+        WORKER,
+        1,
+        0,
+        &[(Load(Phase), 20), (Load(Page(0)), IN_LAST_SWEEP)],
+    ),
+    (WORKER, 15, 1, &[(Load(Phase), 20), (Load(Page(1)), 0)]),
+    (
+        WORKER,
+        1,
+        0,
+        &[(Load(Phase), 20), (Load(Page(0)), LAST_SWEPT)],
+    ),
+    (WORKER, 1, 0, &[(Load(Phase), 20), (Load(Page(1)), 0)]),
+    (WORKER, 1, 0, &[(Load(Phase), 20)]),
     (
         COORDINATOR,
         1,
@@ -510,18 +585,16 @@ const LINES: &[Lines] = &[
             (Load(Live), 0),
             (Store(Trigger, NEVER), NEVER),
             (Store(Swept, 2), 1),
-            (Store(Phase, 23), 22),
+            (Store(Phase, 23), 20),
         ],
     ),
-    // Rounds 753 to 757. The worker goes on after the stop, finds that all is finished, and is gone.
+    // Rounds 768 to 770. The worker looks at one more page, finds that all is finished, and is gone.
     (
         WORKER,
         1,
         0,
         &[
-            (Load(Phase), 23),
-            (Load(Gen), 6),
-            (Load(Begun), 2),
+            (Load(Page(2)), 0),
             (Load(Phase), 23),
             (Store(Ack(1), GONE), 5),
         ],
@@ -568,7 +641,7 @@ impl Column {
     }
 }
 
-/// Appends the steps, so many words further on.
+/// Appends the steps, so many words further on but for those on the phase.
 fn add(
     layout: &Layout,
     lines: &mut Vec<(Req, u64)>,
@@ -577,7 +650,8 @@ fn add(
 ) -> Result<(), AllocError> {
     for (ask, found) in steps {
         if layout.has(cell_of(*ask)) {
-            lines.push((moved(layout.request(*ask), further), *found))?;
+            let by = if cell_of(*ask) == Phase { 0 } else { further };
+            lines.push((moved(layout.request(*ask), by), *found))?;
         }
     }
     Ok(())

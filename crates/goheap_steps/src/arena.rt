@@ -1,8 +1,8 @@
 //! The pages of the arena, told where a cycle's marking has ended, and where the cycle is swept: a line for each span and for
 //! each run of free pages. The line of a span has its slots in their order. In a slot stands no object, or one that is marked, or
-//! one that is not; or, once the marks are cleared by the sweep, one that was kept.
+//! one that is not; or, once the marks are cleared by the sweep, one that was kept or was made since.
 //!
-//! The world is stopped at both turns, so nobody has a span cached.
+//! The world is stopped at the first of these turns, so nobody has a span cached. At the second one it runs.
 
 use crate::shades::{named, word};
 use crate::stop::Stop;

@@ -3,6 +3,7 @@ use Rattle.std.proofs.Common.{◌≡◌, ℕ, zero, suc, ◌≤◌, ◌⊎◌, i
 use Rattle.std.specs.Prelude.{bit_or}
 use Rattle.gh_base.specs.declared.cell.Cell.TheVariants as cell
 use Rattle.gh_coord.specs.Listing as coord
+use Rattle.gh_worker.specs.Listing as worker
 use Rattle.gh_world.specs.declared.handshake.Actor.TheVariants as actor
 use Rattle.gh_world.specs.Actors.{AllWereOpened, BeginsCycle}
 use Rattle.gh_world.specs.Asked.{AllWereAsked, AsksForCycle, IsClearing, NoneOpensSince, OpensCycle, WasAsked, WasOpened}
@@ -11,7 +12,8 @@ use Rattle.gh_world.specs.Wants.{CountsWants, IsToOpen}
 use Rattle.gh_world.proofs.Vocabulary.{Ask, asked_after, asks, Coordinating, CoordStage, effect, Entry, IsBeginning, IsStartOf, IsWanting, IsWritten, KeepsIt, Layout, Legal, Op, Open, Or, Pacing, Processor, processor_kind, ProcessorWritesItsOwn, Shape, started, state_of, Store, those, Words, Working, WorkersWriteTheirOwn, WritesOf}
 use Rattle.gh_world.proofs.AllActors.Resting.{runs_are}
 use Rattle.gh_world.proofs.AllActors.Starts.{legal_start}
-use Rattle.gh_world.proofs.CycleNumbers.Frames.{Leaves, leaves, worker_asks_none, worker_leaves}
+use Rattle.gh_world.proofs.CycleNumbers.Frames.{Leaves, leaves}
+use Rattle.gh_world.proofs.CycleNumbers.Quiet.{worker_quiet}
 use Rattle.gh_world.proofs.CycleNumbers.Opened.{clears, IsOpened, none_opened, opened}
 use Rattle.gh_world.proofs.CycleNumbers.Seats as seats
 use Rattle.gh_world.proofs.CycleNumbers.Writing.{leaves_numbers}
@@ -32,6 +34,11 @@ none_more start e es none since d before of behind = go of where
   go : IsStartOf (d ∷ before) (e ∷ es) → opens_one d.ask ≡ false
   go (inl is) = let same : d ≡ e = cc in ap (λ (x : Entry Op). opens_one x.ask) same ∙ none
   go (inr is) = since d before is behind
+
+-- it opens no cycle, and leaves the word of the request
+record LeavesRequest (w : Words) (ask : Ask) : Type 0 where
+  opens_none : opens_one ask ≡ false
+  same : effect w ask cell.Want ≡ w cell.Want
 
 -- the step that asks for a cycle
 asks_by : (m : Processor) (q : Ask) → asks m ≡ q → WritesOf (IsWritten m) q → asks_for_one q ≡ true → IsWanting m.task × (asks m ≡ Or cell.Want 1)
@@ -96,8 +103,11 @@ module _ (shapes : List Shape) (l : Layout) (pacing : Pacing) (may : ℕ → Lis
       leaves_by : (m : Processor) → seats.RunsIt shapes l pacing may e es m → Leaves (told es) e.ask
       leaves_by m x = subst (λ (q : Ask). Leaves (told es) q) (sym x.asked) (leaves (told es) _ (leaves_numbers writes (started (processor_kind shapes l) e.begun m) x.sound_then))
 
-      leaves_working : (w : _) → seats.WorksIt shapes l pacing may e es w → Leaves (told es) e.ask
-      leaves_working w x = subst (λ (q : Ask). Leaves (told es) q) (sym x.asked) (worker_leaves (told es) w.seat _ (works w x.sound_it x.busy))
+      -- a worker opens no cycle and asks for none, sweeping or not
+      working : (w : Working) → seats.WorksIt shapes l pacing may e es w → LeavesRequest (told es) e.ask
+      working w x =
+          let quiet = worker_quiet (told es) works w x.sound_it x.busy in
+          subst (λ (q : Ask). LeavesRequest (told es) q) (sym x.asked) (record { opens_none = none_opened (worker.asks w) quiet.opens_none; same = quiet.want })
 
       -- a processor that asks
       asker : (m : Processor) → seats.RunsIt shapes l pacing may e es m → asks_for_one e.ask ≡ true → AsksForCycle shapes l pacing may e es
@@ -118,16 +128,7 @@ module _ (shapes : List Shape) (l : Layout) (pacing : Pacing) (may : ℕ → Lis
         go (inr z) = record { entry = e; earlier = es; start = inl refl; asks = asker m x (asks_one e.ask z.0); since = none_behind (e ∷ es) }
 
       asked_working : (w : Working) → seats.WorksIt shapes l pacing may e es w → Asked es → Asked (e ∷ es)
-      asked_working w x before set = go y.want where
-        y : Leaves (told es) e.ask
-        y = leaves_working w x
-
-        none : asked_after e.ask 0 ≡ 0
-        none = ap (λ (q : Ask). asked_after q 0) x.asked ∙ worker_asks_none w.seat _ (works w x.sound_it x.busy) 0
-
-        go : (((before : ℕ) → asked_after e.ask before ≡ before) × (told (e ∷ es) cell.Want ≡ told es cell.Want)) ⊎ (((before : ℕ) → asked_after e.ask before ≡ suc before) × (told (e ∷ es) cell.Want ≡ bit_or (told es cell.Want) 1)) → WasAsked shapes l pacing may (e ∷ es)
-        go (inl z) = asked_more (none_opened e.ask y.opens_none) (before (sym z.1 ∙ set))
-        go (inr z) = absurd (let one : asked_after e.ask 0 ≡ 1 = z.0 0 in omega (arith, none, one))
+      asked_working w x before set = let y = working w x in asked_more y.opens_none (before (sym y.same ∙ set))
 
       -- the coordinator clears the request where it opens a cycle, or leaves it
       leading : (c : Coordinating) → seats.LeadsIt shapes l pacing may e es c → (IsClearing c.stage × (e.ask ≡ Store cell.Want 0)) ⊎ ((opens_one e.ask ≡ false) × (told (e ∷ es) cell.Want ≡ told es cell.Want))
@@ -173,7 +174,7 @@ module _ (shapes : List Shape) (l : Layout) (pacing : Pacing) (may : ℕ → Lis
 
         go : seats.Step shapes l pacing may e es → (k : ℕ) × OpensCycle shapes l pacing may k e es
         go (seats.by_processor m x stays) = absurd (let both : true ≡ false = sym opens ∙ none_opened e.ask (leaves_by m x).opens_none in cc)
-        go (seats.by_worker w x stays) = absurd (let both : true ≡ false = sym opens ∙ none_opened e.ask (leaves_working w x).opens_none in cc)
+        go (seats.by_worker w x stays) = absurd (let both : true ≡ false = sym opens ∙ (working w x).opens_none in cc)
         go (seats.by_lead c x) = lead c x
 
       -- where a cycle is open behind it
@@ -196,7 +197,7 @@ module _ (shapes : List Shape) (l : Layout) (pacing : Pacing) (may : ℕ → Lis
 
         go : seats.Step shapes l pacing may e es → Opened (e ∷ es) to
         go (seats.by_processor m x stays) = beside (none_opened e.ask (leaves_by m x).opens_none) (sym stays ∙ led)
-        go (seats.by_worker w x stays) = beside (none_opened e.ask (leaves_working w x).opens_none) (sym stays ∙ led)
+        go (seats.by_worker w x stays) = beside ((working w x).opens_none) (sym stays ∙ led)
         go (seats.by_lead c x) = lead c x (let both : actor.Leads to ≡ actor.Leads (coord.goes c e.found) = sym led ∙ x.then in cc)
 
   asked : (es : List (Entry Op)) → Lawful es → Asked es
@@ -229,7 +230,7 @@ module _ (shapes : List Shape) (l : Layout) (pacing : Pacing) (may : ℕ → Lis
 
         go : seats.Step shapes l pacing may e es → opens_one e.ask ≡ false
         go (seats.by_processor m x stays) = none_opened e.ask (leaves_by e es legal m x).opens_none
-        go (seats.by_worker w x stays) = none_opened e.ask (leaves_working e es legal w x).opens_none
+        go (seats.by_worker w x stays) = (working e es legal w x).opens_none
         go (seats.by_lead c x) = lead c x
 
   pub all_opened : (es : List (Entry Op)) → Lawful es → AllWereOpened shapes l pacing may es

@@ -17,6 +17,7 @@ use Rattle.gh_phase.specs.declared.view.RunPhase.TheVariants as run
 use Rattle.gh_stack.specs.Facts.{named}
 use Rattle.gh_world.specs.declared.handshake.Actor.TheVariants as actor
 use Rattle.gh_world.specs.Numbers.{open_part}
+use Rattle.gh_world.specs.ActorsHold.{HasCleared}
 use Rattle.gh_world.proofs.Vocabulary.{actors_after, ahead_at, Arena, arena, AreRegisters, Begun, bit_at, Coordinating, CoordStage, Cycle, END, Entry, Ever, EverValue, Hands, HasCursor, HoldsAt, IsAsItShould, IsBeginning, IsInLimits, IsLed, IsOf, IsReady, IsToBegin, Layout, Legal, mark_words, MarkFacts, Marking, MayBegin, Means, nothing, Op, Open, Pacing, part_of, Processor, processor_at, reference_of, register_at, REGISTERS, row_bit, Shape, Stands, those, Value, view, Words, words, ◌%◌}
 use Rattle.gh_world.proofs.AllActors.Drawing.{drawn_first}
 use Rattle.gh_world.proofs.AllActors.Known.{Known, ListsKnown}
@@ -54,8 +55,8 @@ module _ (shapes : List Shape) (l : Layout) (pacing : Pacing) (may : ℕ → Lis
   abbrev z : Arena
   z = arena shapes l pacing may
 
-  pub is_ready : (p : CoordStage) → IsBeginning p → HoldsAt shapes l pacing may es c p → IsReady shapes l pacing may es c × (words shapes l pacing may es cell.Gcur ≡ 0)
-  is_ready (Open o) x h = (h.0, subst (HasCursor (words shapes l pacing may es cell.Gcur)) x h.1)
+  pub is_ready : (p : CoordStage) → IsBeginning p → HoldsAt shapes l pacing may es c p → IsReady shapes l pacing may es c × (words shapes l pacing may es cell.Gcur ≡ 0) × ((words shapes l pacing may es cell.Tally ≡ 0) × (words shapes l pacing may es cell.Live ≡ 0))
+  is_ready (Open o) x h = (h.0, subst (HasCursor (words shapes l pacing may es cell.Gcur)) x h.1, subst (HasCleared (words shapes l pacing may es cell.Tally) (words shapes l pacing may es cell.Live)) x h.2)
   is_ready _ x h = absurd x
 
   few : c.begun < 2 ^ 48
@@ -70,7 +71,7 @@ module _ (shapes : List Shape) (l : Layout) (pacing : Pacing) (may : ℕ → Lis
   abbrev cycle : Cycle
   cycle = record { arena = z; number = c.begun; few = few }
 
-  module _ (r : IsReady shapes l pacing may es c) (cursor : words shapes l pacing may es cell.Gcur ≡ 0) where
+  module _ (r : IsReady shapes l pacing may es c) (cursor : words shapes l pacing may es cell.Gcur ≡ 0) (cleared : (words shapes l pacing may es cell.Tally ≡ 0) × (words shapes l pacing may es cell.Live ≡ 0)) where
     rest : IsAtRest z c.begun r.has.state.heap
     rest = record {
       marks = λ o. clear_bit r.has.state.heap.words o (r.marks (o / 64));
@@ -168,6 +169,7 @@ module _ (shapes : List Shape) (l : Layout) (pacing : Pacing) (may : ℕ → Lis
         stood = λ n x p. p;
         drawn = drawn_first shapes l pacing may known.drawn cycle es s to_begin (opened.of_heap.words ∙ r.has.of_list.words_are) (is_of_heap shapes l pacing may known es r.has cycle s refl (known.marking cycle s opened.opens).good beside) opened.opens;
         marks_fit = λ i. let none = r.marks i in omega (arith, none);
+        counts = (ap (λ (w : Words). w cell.Tally) r.has.of_list.words_are ∙ cleared.0, ap (λ (w : Words). w cell.Live) r.has.of_list.words_are ∙ cleared.1);
       };
       processors = knows;
     }

@@ -10,16 +10,19 @@ use Rattle.gh_mutator.specs.declared.task.Task.TheVariants as task
 use Rattle.gh_mutator.specs.Beside.{KnowsMarking, StepsOn, Together}
 use Rattle.gh_mutator.specs.Sound.{has_room}
 use Rattle.gh_phase.specs.declared.view.RunPhase.TheVariants.{Mark}
-use Rattle.gh_world.specs.HoldVocabulary.{PassedBefore}
+use Rattle.gh_mutator.specs.Sweeping.{sweep_in}
 use Rattle.gh_world.proofs.Vocabulary.{ahead_at, Answer, Arena, arena, Ask, asks, begins, by, Cell, cell_of, Check, Close, close_part, CloseStage, Coordinating, CoordStage, Cycle, DoesPoints, effect, END, Entry, Fine, has_left_at, Heap, is_busy_at, IsAwake, IsBeginning, IsInLimits, IsKnown, IsLed, IsSound, IsWritten, Kind, Layout, left, Legal, Load, MarkFacts, Marking, MarkingGood, MarkOn, may_of, moved, nat_tests, NewStage, only_polls, Op, Open, Pacing, part_of, party_at, party_of, Polling, Processor, processor_at, processor_kind, same_cell, Shape, ShapesAreGood, stage_at, stage_of, started, state_of, Steps as HeapSteps, StopAgain, Store, takes, Task, TellsScan, those, view, View, Wanted, Watch, Words, words, WritesOf}
 use Rattle.gh_world.proofs.AllActors.EndedStays.{ended_stays}
 use Rattle.gh_world.proofs.AllActors.Known.{Known, ListsKnown}
+use Rattle.gh_world.proofs.AllActors.Landing as landing
 use Rattle.gh_world.proofs.AllActors.OwnEntries.{state_by}
 use Rattle.gh_world.proofs.AllActors.OwnStep as step
 use Rattle.gh_world.proofs.CycleNumbers.Writing.{awake_at, knows_at}
+use Rattle.gh_world.proofs.AllActors.Placing.{idle_sweeps_none}
 use Rattle.gh_world.proofs.AllActors.Ranging.{may_parts}
 use Rattle.gh_world.proofs.AllActors.Resting.{runs_are}
 use Rattle.gh_world.proofs.AllActors.StackWords.{LeavesStack, ScansStack, TellsStacks}
+use Rattle.gh_world.proofs.AllActors.Wanted.{Wanted as Laws}
 
 -- the cell of a stack
 is_stack : (c : Cell) (g : ℕ) → same_cell c (cell.Scanned g) ≡ true → c ≡ cell.Scanned g
@@ -32,8 +35,9 @@ idle_is task.Idle idle going = refl
 idle_is _ idle going = absurd (cc)
 
 -- while it marks a cycle the coordinator's number is that of the last that has begun
-close_begun : (p : CloseStage) → close.is_busy p ≡ true → ((ahead_at (close_part p)).begun ≡ 1) × ((ahead_at (close_part p)).numbered ≡ 1)
+close_begun : (p : CloseStage) → close.is_marking p ≡ true → ((ahead_at (close_part p)).begun ≡ 1) × ((ahead_at (close_part p)).numbered ≡ 1)
 close_begun close_stage.LoadBank busy = (refl, refl)
+close_begun close_stage.StorePhase busy = absurd (cc)
 close_begun close_stage.Ended busy = absurd (cc)
 close_begun _ busy = (refl, refl)
 
@@ -73,7 +77,7 @@ runs_awake p (task.Leave x) busy polls = absurd (cc)
 runs_awake p (task.New x) busy polls = new_awake p x.wanted x.stage polls
 runs_awake p _ busy polls = record { awake = tt; view_is = refl }
 
-module _ (shapes : List Shape) (l : Layout) (pacing : Pacing) (counts : ℕ → ℕ) (good : ShapesAreGood shapes) (limits : IsInLimits l) (known : Known) (lists : ListsKnown shapes l pacing (may_of shapes l counts)) where
+module _ (shapes : List Shape) (l : Layout) (pacing : Pacing) (counts : ℕ → ℕ) (good : ShapesAreGood shapes) (limits : IsInLimits l) (known : Known) (wanted : Laws) (lists : ListsKnown shapes l pacing (may_of shapes l counts)) where
   abbrev may : ℕ → List (Entry Op) → Op → Bool
   may = may_of shapes l counts
 
@@ -104,20 +108,24 @@ module _ (shapes : List Shape) (l : Layout) (pacing : Pacing) (counts : ℕ → 
     abbrev h : Heap
     h = kn.has.state.heap
 
-    abbrev swept : PassedBefore kn.has.state l.pages
-    swept p below = kn.has.good.told kn.under_way.0 kn.under_way.1 p
+    -- nobody sweeps
+    pub under : kn.has.state.told ≡ None → ⊥
+    under over = absurd (let no : None ≡ Some kn.under_way.0 = sym over ∙ kn.under_way.1 in cc)
+
+    pub none : sweep_in (started k e.begun (processor_at shapes l pacing may es e.actor)) ≡ None
+    none = landing.sweeps_none shapes l pacing counts good limits known wanted e es legal lt kn.has under
 
     abbrev pending : Option Answer
-    pending = (step.is shapes l pacing counts good limits known e es legal lt kn.has swept).pending
+    pending = (step.is shapes l pacing counts good limits known e es legal lt kn.has).pending
 
     busy : is_busy_at now.task ≡ true
-    busy = step.busy shapes l pacing counts good limits known e es legal lt kn.has swept
+    busy = step.busy shapes l pacing counts good limits known e es legal lt kn.has
 
     idle : (o : Op) → e.begun ≡ Some o → is_busy_at m.task ≡ false
-    idle = step.idle shapes l pacing counts good limits known e es legal lt kn.has swept
+    idle = step.idle shapes l pacing counts good limits known e es legal lt kn.has
 
     pub sound_now : IsSound now
-    sound_now = step.sound_now shapes l pacing counts good limits known e es legal lt kn.has swept
+    sound_now = step.sound_now shapes l pacing counts good limits known e es legal lt kn.has
 
     -- Where an operation begins, the processor rests.
 
@@ -139,7 +147,7 @@ module _ (shapes : List Shape) (l : Layout) (pacing : Pacing) (counts : ℕ → 
     rests o is = idle_is m.task (idle o is) (going o is)
 
     has_room_now : (o : Op) → e.begun ≡ Some o → has_room m o ≡ true
-    has_room_now o is = ap (λ (p : Processor). has_room p o) (sym (state_by k a es)) ∙ (may_parts z counts a (state_of k a (by a es)) (by a es) o (step.may_now shapes l pacing counts good limits known e es legal lt kn.has swept o is)).room
+    has_room_now o is = ap (λ (p : Processor). has_room p o) (sym (state_by k a es)) ∙ (may_parts z counts a (state_of k a (by a es)) (by a es) o (step.may_now shapes l pacing counts good limits known e es legal lt kn.has o is)).room
 
     -- What is known where it steps.
 
@@ -156,8 +164,8 @@ module _ (shapes : List Shape) (l : Layout) (pacing : Pacing) (counts : ℕ → 
     words_are : s.words ≡ told es
     words_are = kn.beside.words ∙ kn.has.of_list.words_are
 
-    together : (p : Processor) (x : Option Answer) → IsSound p → Fine z a (view h) p x → MarkFacts (cycle number few) a s p → Together (cycle number few) a h s p x
-    together p x sound fine_p f = record {
+    together : (p : Processor) (x : Option Answer) → IsSound p → Fine z a (view h) p x → MarkFacts (cycle number few) a s p → sweep_in p ≡ None → Together (cycle number few) a h s p x
+    together p x sound fine_p f still = record {
       shapes = good;
       heap = kn.has.good.heap;
       marking = fine;
@@ -168,14 +176,15 @@ module _ (shapes : List Shape) (l : Layout) (pacing : Pacing) (counts : ℕ → 
       sound = sound;
       fine = fine_p;
       facts = f;
+      sweeps = still;
     }
 
     facts_now : MarkFacts (cycle number few) a s now
-    facts_now = step.begins_with shapes l pacing counts good limits known e es legal lt kn.has swept (MarkFacts (cycle number few) a s) facts (λ o is.
-        let none = step.rests shapes l pacing counts good limits known e es legal lt kn.has swept o is in
-        let it = step.is shapes l pacing counts good limits known e es legal lt kn.has swept in
+    facts_now = step.begins_with shapes l pacing counts good limits known e es legal lt kn.has (MarkFacts (cycle number few) a s) facts (λ o is.
+        let rests_now = step.rests shapes l pacing counts good limits known e es legal lt kn.has o is in
+        let it = step.is shapes l pacing counts good limits known e es legal lt kn.has in
         subst (λ (b : Bool). MarkFacts (cycle number few) a s (cond b m (begins shapes m o))) (sym (going o is))
-        (known.beside.begins (cycle number few) a h s m o (together m None it.sound (subst (Fine z a (view h) m) none it.fine) facts) (rests o is) (step.may_begin shapes l pacing counts good limits known e es legal lt kn.has swept o is) (has_room_now o is)))
+        (known.beside.begins (cycle number few) a h s m o (together m None it.sound (subst (Fine z a (view h) m) rests_now it.fine) facts (idle_sweeps_none m.task (idle o is))) (rests o is) (step.may_begin shapes l pacing counts good limits known e es legal lt kn.has o is) (has_room_now o is)))
 
     -- It is awake where it begins an operation, or runs one that is no poll; and then it knows that marking is on.
 
@@ -198,10 +207,10 @@ module _ (shapes : List Shape) (l : Layout) (pacing : Pacing) (counts : ℕ → 
     -- Its step.
 
     abbrev pub land : HeapSteps z a h (asks now) (λ t. DoesPoints z a h t now pending (h.words (cell_of (asks now))))
-    land = step.land shapes l pacing counts good limits known e es legal lt kn.has swept
+    land = step.land shapes l pacing counts good limits known e es legal lt kn.has none
 
-    pub goes : StepsOn (cycle number few) a (moved z a h (step.land shapes l pacing counts good limits known e es legal lt kn.has swept).move) s (takes shapes now (h.words (cell_of (asks now))))
-    goes = known.beside.own_step (cycle number few) a h s now pending (together now pending sound_now (step.fine_now shapes l pacing counts good limits known e es legal lt kn.has swept) facts_now) busy knows land
+    pub goes : StepsOn (cycle number few) a (moved z a h (step.land shapes l pacing counts good limits known e es legal lt kn.has none).move) s (takes shapes now (h.words (cell_of (asks now))))
+    goes = known.beside.own_step (cycle number few) a h s now pending (together now pending sound_now (step.fine_now shapes l pacing counts good limits known e es legal lt kn.has) facts_now none) busy knows land
 
     -- What it tells of stacks.
 

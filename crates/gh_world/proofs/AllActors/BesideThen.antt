@@ -1,24 +1,30 @@
 -- What holds behind a step of a processor while a cycle is marked: what is known of the heap and of the cycle, with the processor as it is then.
-use Rattle.std.proofs.Common.{◌≡◌, ◌⊎◌, inl, inr, ℕ, ◌^◌, ◌<◌, ◌==◌, Bool, true, false, refl, sym, ap, subst, ◌∙◌, arith, List, ◌∷◌, Option, Some, None}
+use Rattle.std.proofs.Common.{◌≡◌, ◌⊎◌, inl, inr, ℕ, ◌^◌, ◌<◌, ◌==◌, Bool, true, false, refl, sym, ap, subst, ◌∙◌, arith, List, ◌∷◌, Option, None}
 use Rattle.gh_coord.specs.Handshake as leading
 use Rattle.gh_cycle.specs.Since.{HasGoneOn}
 use Rattle.gh_marks.specs.Moves.{Steps}
 use Rattle.gh_mutator.specs.Beside.{StepsOn}
 use Rattle.gh_world.specs.ActorsHold.{began, began_words, HasState}
-use Rattle.gh_world.specs.HoldVocabulary.{PassedBefore}
-use Rattle.gh_world.proofs.Vocabulary.{acks_of, Answer, Arena, arena, AreWords, asks, cell_of, Coordinating, Cycle, DoesPoints, effect, Entry, eqb-true, Ever, ever, Heap, IsBeginning, IsInCycle, IsInLimits, IsKnown, IsLed, IsToBegin, Kind, Knows, Layout, Legal, mark_words, MarkFacts, Marking, MarkingGood, may_of, moved, Op, Pacing, StepsByMoves, Processor, processor_at, processor_kind, Shape, ShapesAreGood, started, Steps as HeapSteps, takes, those, Words, words}
+use Rattle.std.specs.Prelude.{is_some}
+use Rattle.gh_base.specs.declared.cell.Cell.TheVariants as cell
+use Rattle.gh_mutator.specs.Sweeping.{IsSweeping, sweep_in}
+use Rattle.gh_state.specs.Moves as state
+use Rattle.gh_sweep.specs.Listing.{Sweeping}
+use Rattle.gh_world.specs.HoldVocabulary.{IsBeside}
+use Rattle.gh_world.proofs.Vocabulary.{acks_of, Answer, Arena, arena, AreWords, asks, Cell, cell_of, Coordinating, Cycle, DoesPoints, effect, Entry, eqb-true, Ever, ever, Heap, IsBeginning, IsInCycle, IsInLimits, IsKnown, IsLed, IsToBegin, IsWritten, Kind, Knows, Layout, Legal, mark_words, MarkFacts, Marking, MarkingGood, MarksNothing, may_of, moved, Op, Pacing, StepsByMoves, Processor, processor_at, processor_kind, Shape, ShapesAreGood, started, Steps as HeapSteps, takes, those, Words, words}
 use Rattle.gh_world.proofs.AllActors.Beside as beside
 use Rattle.gh_world.proofs.AllActors.Beside.{not_beginning}
 use Rattle.gh_world.proofs.AllActors.Drawing.{drawn_then}
 use Rattle.gh_world.proofs.AllActors.Gone.{gone_rests}
 use Rattle.gh_world.proofs.AllActors.Known.{Known, ListsKnown}
 use Rattle.gh_world.proofs.AllActors.Marks.{words_stay}
-use Rattle.gh_world.proofs.AllActors.OwnSide as own
+use Rattle.gh_world.proofs.AllActors.Landing as landing
 use Rattle.gh_world.proofs.AllActors.OwnStep as step
 use Rattle.gh_world.proofs.AllActors.Resting.{run_is}
 use Rattle.gh_world.proofs.AllActors.StackWords.{TellsStacks}
 use Rattle.gh_world.proofs.AllActors.Stepping as stepping
 use Rattle.gh_world.proofs.AllActors.Stood.{move_stays, Stays}
+use Rattle.gh_world.proofs.AllActors.Sweepers as sweepers
 use Rattle.gh_world.proofs.AllActors.Tied.{is_of_heap}
 use Rattle.gh_world.proofs.AllActors.Wanted.{Wanted}
 use Rattle.gh_world.proofs.CycleMarking.Seats.{other}
@@ -50,23 +56,39 @@ module _ (shapes : List Shape) (l : Layout) (pacing : Pacing) (counts : ℕ → 
     abbrev h : Heap
     h = kn.has.state.heap
 
-    abbrev swept : PassedBefore kn.has.state l.pages
-    swept p below = kn.has.good.told kn.under_way.0 kn.under_way.1 p
+    abbrev none : sweep_in now ≡ None
+    none = beside.none shapes l pacing counts good limits known wanted lists e es legal c led on lt number few s number_is fine kn facts
 
     tells : TellsStacks h.words now
-    tells = beside.tells shapes l pacing counts good limits known lists e es legal c led on lt number few s number_is fine kn facts
+    tells = beside.tells shapes l pacing counts good limits known wanted lists e es legal c led on lt number few s number_is fine kn facts
 
     abbrev pending : Option Answer
-    pending = (step.is shapes l pacing counts good limits known e es legal lt kn.has swept).pending
+    pending = (step.is shapes l pacing counts good limits known e es legal lt kn.has).pending
 
+    calm : kn.has.state.told ≡ None → MarksNothing now
+    calm over = absurd (beside.under shapes l pacing counts good limits known wanted lists e es legal c led on lt number few s number_is fine kn facts over)
+
+    -- a move over the heap, and the same move of the one state
     abbrev land : HeapSteps z a h (asks now) (λ t. DoesPoints z a h t now pending (h.words (cell_of (asks now))))
-    land = step.land shapes l pacing counts good limits known e es legal lt kn.has swept
+    land = step.land shapes l pacing counts good limits known e es legal lt kn.has none
 
-    goes : StepsOn (cycle number few) a (moved z a h land.move) s (takes shapes now (h.words (cell_of (asks now))))
-    goes = beside.goes shapes l pacing counts good limits known lists e es legal c led on lt number few s number_is fine kn facts
+    abbrev lands : landing.Lands shapes l pacing counts good limits known wanted e es legal lt kn.has
+    lands = landing.by_deed shapes l pacing counts good limits known wanted e es legal lt kn.has calm none
+
+    abbrev there : Heap
+    there = moved z a h land.move
 
     abbrev t : Heap
-    t = own.t shapes l pacing counts good limits known e es legal lt kn.has swept tells
+    t = (state.moved z a kn.has.state lands.move).heap
+
+    t_is : t ≡ there
+    t_is = landing.deed_heap shapes l pacing counts good limits known wanted e es legal lt kn.has calm none
+
+    goes : StepsOn (cycle number few) a there s (takes shapes now (h.words (cell_of (asks now))))
+    goes = beside.goes shapes l pacing counts good limits known wanted lists e es legal c led on lt number few s number_is fine kn facts
+
+    beside_then : IsBeside z t goes.then
+    beside_then = subst (λ (x : Heap). IsBeside z x goes.then) (sym t_is) goes.beside
 
     abbrev found : ℕ
     found = h.words (cell_of (asks now))
@@ -89,7 +111,7 @@ module _ (shapes : List Shape) (l : Layout) (pacing : Pacing) (counts : ℕ → 
         gone_rests shapes l pacing may known lists e es legal lt ((lists.keeps es legal.0).processors_gone d led_was is a lt)
 
     gone_on : (v : Ever) → HasGoneOn v h s → HasGoneOn v t goes.then
-    gone_on v x = known.gone_on (cycle number few) a h s goes.then land.move v kn.has.good.heap fine land.may goes.went goes.beside.words kn.beside.words x
+    gone_on v x = subst (λ (y : Heap). HasGoneOn v y goes.then) (sym t_is) (known.gone_on (cycle number few) a h s goes.then land.move v kn.has.good.heap fine land.may goes.went goes.beside.words kn.beside.words x)
 
     abbrev Cycles : List (Entry Op) → Type 0
     Cycles xs = IsToBegin shapes l pacing may xs number ⊎ IsInCycle shapes l pacing may xs number
@@ -103,11 +125,18 @@ module _ (shapes : List Shape) (l : Layout) (pacing : Pacing) (counts : ℕ → 
 
     -- the one state
     abbrev has_then : HasState shapes l pacing may (e ∷ es)
-    has_then = stepping.has_then shapes l pacing counts good limits known wanted e es legal lt kn.has swept tells (λ over. absurd (let no : None ≡ Some kn.under_way.0 = sym over ∙ kn.under_way.1 in cc))
+    has_then = stepping.has_then shapes l pacing counts good limits known wanted e es legal lt kn.has lands tells
 
     -- what was placed where the cycle began stays placed
     stays : Stays (words shapes l pacing may es) (words shapes l pacing may (e ∷ es))
-    stays = subst (Stays (words shapes l pacing may es)) has_then.of_list.words_are (subst (λ (w : Words). Stays w t.words) kn.has.of_list.words_are (move_stays known.one known.rows z a h land.move land.may))
+    stays = subst (Stays (words shapes l pacing may es)) has_then.of_list.words_are (subst (λ (w : Words). Stays w t.words) kn.has.of_list.words_are (subst (λ (x : Heap). Stays h.words x.words) (sym t_is) (move_stays known.one known.rows z a h land.move land.may)))
+
+    -- nothing of the next sweep is counted
+    uncounted_then : (d : Cell) → (IsWritten now d → ⊥) → h.words d ≡ 0 → t.words d ≡ 0
+    uncounted_then d never is = ap (λ (w : Words). w d) lands.words_are ∙ (known.writes.leaves now h.words d (step.sound_now shapes l pacing counts good limits known e es legal lt kn.has) never ∙ is)
+
+    no_sweep : IsSweeping now → ⊥
+    no_sweep is = absurd (let no : false ≡ true = sym (ap (λ (x : Option Sweeping). is_some x) none) ∙ is in cc)
 
     cycle_then : (x : Cycles es) → HasGoneOn (began shapes l pacing may es number x) h s → Stays (began_words shapes l pacing may es number x) (words shapes l pacing may es) → Since
     cycle_then (inr i) g so = (inr (record { begun = i.begun; start = inr i.start; begins = i.begins; last = λ d led_d is. absurd (not_last d led_d is) }), gone_on (ever shapes l pacing may i.begun) g, λ n x p. stays n x (so n x p))
@@ -120,24 +149,25 @@ module _ (shapes : List Shape) (l : Layout) (pacing : Pacing) (counts : ℕ → 
     known_then = record {
       arena_is = refl;
       has = has_then;
-      under_way = kn.under_way;
-      beside = goes.beside;
+      under_way = (kn.under_way.0, (sweepers.end_stays known z a kn.has.state lands.move).1 ∙ kn.under_way.1);
+      beside = beside_then;
       cycle = since.0;
       gone_on = since.1;
       stood = since.2;
-      drawn = drawn_then shapes l pacing may known.drawn (cycle number few) e es s goes.then fine goes.went (goes.beside.words ∙ has_then.of_list.words_are) (is_of_heap shapes l pacing may known (e ∷ es) has_then (cycle number few) goes.then refl (wanted.steps (cycle number few) a s goes.then fine goes.went).good goes.beside) kn.drawn;
-      marks_fit = subst (λ (w : Words). AreWords (mark_words w)) goes.beside.words (words_stay known.mark_words (cycle number few) a s goes.then goes.went (subst (λ (w : Words). AreWords (mark_words w)) (sym kn.beside.words) kn.marks_fit));
+      drawn = drawn_then shapes l pacing may known.drawn (cycle number few) e es s goes.then fine goes.went (beside_then.words ∙ has_then.of_list.words_are) (is_of_heap shapes l pacing may known (e ∷ es) has_then (cycle number few) goes.then refl (wanted.steps (cycle number few) a s goes.then fine goes.went).good beside_then) kn.drawn;
+      marks_fit = subst (λ (w : Words). AreWords (mark_words w)) beside_then.words (words_stay known.mark_words (cycle number few) a s goes.then goes.went (subst (λ (w : Words). AreWords (mark_words w)) (sym kn.beside.words) kn.marks_fit));
+      counts = (uncounted_then cell.Tally no_sweep kn.counts.0, uncounted_then cell.Live no_sweep kn.counts.1);
     }
 
     asked : e.ask ≡ asks now
-    asked = step.asked shapes l pacing counts good limits known e es legal lt kn.has swept
+    asked = step.asked shapes l pacing counts good limits known e es legal lt kn.has
 
     pub steps : Steps (cycle number few) a s e.ask (λ t. MarkFacts (cycle number few) a t (takes shapes now e.found) × Knows z pacing may (cycle number few) t (e ∷ es))
     steps = record {
       then = goes.then;
       went = goes.went;
       words_are = goes.beside.words ∙ (land.words_are ∙ (ap (λ (w : Words). effect w (asks now)) (sym kn.beside.words) ∙ ap (effect s.words) (sym asked)));
-      after = (subst (λ (n : ℕ). MarkFacts (cycle number few) a goes.then (takes shapes now n)) (sym (step.found_is shapes l pacing counts good limits known e es legal lt kn.has swept)) goes.facts, known_then);
+      after = (subst (λ (n : ℕ). MarkFacts (cycle number few) a goes.then (takes shapes now n)) (sym (step.found_is shapes l pacing counts good limits known e es legal lt kn.has)) goes.facts, known_then);
     }
 
   -- The cycle is one of this arena.

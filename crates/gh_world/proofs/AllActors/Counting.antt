@@ -1,4 +1,4 @@
--- A step of a processor is a move of the one state, whatever the coordinator's stage: the step that makes an object leaves the bytes of its slot uncounted, and the one that counts them leaves none.
+-- A step of a processor that is none of a sweep is a move of the one state, whatever the coordinator's stage: the step that makes an object leaves the bytes of its slot uncounted, and the one that counts them leaves none.
 use Rattle.std.proofs.Common.{◌≡◌, ◌≢◌, ℕ, ◌+◌, ◌*◌, ◌/◌, ◌%◌, ◌^◌, ◌<◌, ◌==◌, Bool, true, false, cond, refl, sym, ap, subst, ◌∙◌, arith, ◌⊎◌, inl, inr, Option, Some, None, eq-eqb}
 use Rattle.gh_base.specs.declared.cell.Cell.TheVariants as cell
 use Rattle.gh_base.specs.Rows.{with_word}
@@ -8,7 +8,12 @@ use Rattle.gh_class.specs.Classes.{IsSizeClass, slot_of}
 use Rattle.gh_heap.specs.Moves.{Make, May, Move, placed_at}
 use Rattle.gh_heap.specs.Rights.{Claims}
 use Rattle.gh_heap.specs.Spans.{is_own_class, number_of}
-use Rattle.gh_state.specs.Moves.{Count, CountsStay, Deed, pend_then, since_then, slot_then}
+use Rattle.std.specs.Prelude.{is_some}
+use Rattle.gh_state.specs.Moves as state
+use Rattle.gh_state.specs.Moves.{Count, CountsStay, Deed, pend_then}
+use Rattle.gh_state.specs.Routines.{Rests}
+use Rattle.gh_sweep.specs.Listing.{Sweeping}
+use Rattle.gh_mutator.specs.Sweeping.{IsSweeping, sweep_in}
 use Rattle.gh_sweep.specs.Listing.{slot_bytes_of}
 use Rattle.gh_sweep.specs.Shared.{InSpan}
 use Rattle.gh_model.specs.Ever.{next_name}
@@ -21,6 +26,7 @@ use Rattle.gh_world.specs.HoldVocabulary.{State, StateGood, View}
 use Rattle.gh_world.proofs.Vocabulary.{acted, acts, acts_at, Answer, Arena, asks, Cell, effect, Ever, Fine, Heap, is_busy_at, IsSound, MarksNothing, moved, Name, nat_tests, page_words, Place, PlaceStage, Placing, Processor, put, Row, seats_of, SpanHead, takes, takes_at, Task, uncounted, view, Wanted, Words, CountsObject}
 use Rattle.gh_world.proofs.AllActors.Known.{Known}
 use Rattle.gh_world.proofs.AllActors.Placing.{Counts, Keeps, kind, Makes}
+use Rattle.gh_world.proofs.AllActors.Sweepers.{rests_counted, rests_on}
 
 -- The moves.
 
@@ -59,7 +65,7 @@ slot_bytes_are known whole z s good a at size some c =
 
 -- A step of a processor; between two cycles it marks nothing.
 module _ (known : Known) (whole : WholeWords) (z : Arena) (a : ℕ) (s : State) (good : StateGood z s) (seat : a < seats_of z.layout)
-    (m : Processor) (found : ℕ) (pending : Option Answer) (busy : is_busy_at m.task ≡ true) (sound : IsSound m) (fine : Fine z a (view s.heap) m pending) (pends : s.pend a ≡ uncounted m.task) (calm : s.told ≡ None → MarksNothing m)
+    (m : Processor) (found : ℕ) (pending : Option Answer) (busy : is_busy_at m.task ≡ true) (sound : IsSound m) (fine : Fine z a (view s.heap) m pending) (pends : s.pend a ≡ uncounted m.task) (calm : s.told ≡ None → MarksNothing m) (none : sweep_in m ≡ None)
     (move : Move) (may : May z a (view s.heap) move) (words : (moved z a s.heap move).words ≡ effect s.heap.words (asks m)) (does : Does z a s.heap (moved z a s.heap move) m pending found) where
   abbrev h : Heap
   h = s.heap
@@ -70,17 +76,18 @@ module _ (known : Known) (whole : WholeWords) (z : Arena) (a : ℕ) (s : State) 
   abbrev to : Processor
   to = takes z.shapes m found
 
-  -- the state then: of the sweep only what is laid out, made and counted changed
-  abbrev pub behind : (slot : Row) → (since : ℕ → Bool) → (pend : Row) → State
-  behind slot since pend = record s { heap = moved z a s.heap move; slot = slot; since = since; pend = pend }
-
+  -- It is a move of the one state, which moves the heap as this does.
   pub record Counted : Type 0 where
-    pub slot : Row
-    pub since : ℕ → Bool
-    pub pend : Row
-    pub then_good : StateGood z (behind slot since pend)
-    pub own : pend a ≡ uncounted to.task
-    pub others : (b : ℕ) → b ≢ a → pend b ≡ s.pend b
+    pub to_move : state.Move
+    pub may_move : state.May z a s to_move
+    pub heap_is : (state.moved z a s to_move).heap ≡ moved z a s.heap move
+    -- what is not counted then, and how far spans are
+    pub own : (state.moved z a s to_move).pend a ≡ uncounted to.task
+    pub others : (b : ℕ) → b ≢ a → (state.moved z a s to_move).pend b ≡ s.pend b
+    pub rests : Rests a s → Rests a (state.moved z a s to_move)
+
+  no_sweep : IsSweeping m → ⊥
+  no_sweep is = absurd (let no : false ≡ true = sym (ap (λ (x : Option Sweeping). is_some x) none) ∙ is in cc)
 
   -- what the step leaves
   left_by : (c : Cell) → effect h.words (asks m) c ≡ h.words c → t.words c ≡ h.words c
@@ -88,23 +95,26 @@ module _ (known : Known) (whole : WholeWords) (z : Arena) (a : ℕ) (s : State) 
 
   counts_stay : (CountsObject (asks m) m.task → ⊥) → CountsStay s.told s.heap.words t.words
   counts_stay silent = record {
-    heap = left_by cell.Heap (known.writes.leaves m h.words cell.Heap sound silent);
-    tally = λ none. left_by cell.Tally (known.writes.leaves m h.words cell.Tally sound (λ w. w));
-    live = λ none. left_by cell.Live (known.writes.leaves m h.words cell.Live sound (λ w. w));
-    marks = λ none i. left_by (cell.Mark i) (known.calm.leaves m h.words (cell.Mark i) (calm none) (λ w. w));
-  }
+    heap = left_by cell.Heap (known.writes.leaves m h.words cell.Heap sound unheaped);
+    tally = λ over. left_by cell.Tally (known.writes.leaves m h.words cell.Tally sound no_sweep);
+    live = λ over. left_by cell.Live (known.writes.leaves m h.words cell.Live sound no_sweep);
+    marks = λ over i. left_by (cell.Mark i) (known.calm.leaves m h.words (cell.Mark i) (calm over) no_sweep);
+  } where
+    unheaped : CountsObject (asks m) m.task ⊎ IsSweeping m → ⊥
+    unheaped (inl x) = silent x
+    unheaped (inr x) = no_sweep x
 
-  deed : (CountsObject (asks m) m.task → ⊥) → StateGood z (behind (slot_then move s.slot) (since_then move s.since) (pend_then a move s.slot s.pend))
-  deed silent = known.keeps z a s (Deed move) good (record { seat = seat; may = may; counts = counts_stay silent })
+  may_deed : (CountsObject (asks m) m.task → ⊥) → state.May z a s (Deed move)
+  may_deed silent = record { seat = seat; may = may; counts = counts_stay silent }
 
   keeps : MakesNothing z a s.heap move → Keeps z.shapes m found m.task → Counted
   keeps x k = record {
-    slot = slot_then move s.slot;
-    since = since_then move s.since;
-    pend = pend_then a move s.slot s.pend;
-    then_good = deed k.silent;
+    to_move = Deed move;
+    may_move = may_deed k.silent;
+    heap_is = refl;
     own = ap (λ (r : Row). r a) (x.pends s.slot s.pend) ∙ (pends ∙ sym k.same);
     others = λ b differs. ap (λ (r : Row). r b) (x.pends s.slot s.pend);
+    rests = rests_on known z a s move;
   }
 
   -- The bytes are counted.
@@ -120,12 +130,12 @@ module _ (known : Known) (whole : WholeWords) (z : Arena) (a : ℕ) (s : State) 
 
   counts : Counts z.shapes m found m.task → Counted
   counts c = record {
-    slot = s.slot;
-    since = s.since;
-    pend = with_word s.pend a 0;
-    then_good = subst (λ (x : Heap). StateGood z (record s { heap = x; pend = with_word s.pend a 0 })) (sym t_is) (known.keeps z a s Count good seat);
+    to_move = Count;
+    may_move = seat;
+    heap_is = sym t_is;
     own = word_there s.pend 0 ∙ sym c.then;
     others = others_left s.pend 0;
+    rests = rests_counted known z a s;
   } where
     t_is : t ≡ record (s.heap) { words = put s.heap.words cell.Heap ((s.heap.words cell.Heap + s.pend a) % 2 ^ 64) }
     t_is =
@@ -218,12 +228,12 @@ module _ (known : Known) (whole : WholeWords) (z : Arena) (a : ℕ) (s : State) 
 
     by_making : ByMaking move → Counted
     by_making y = record {
-      slot = slot_then move s.slot;
-      since = since_then move s.since;
-      pend = pend_then a move s.slot s.pend;
-      then_good = deed x.silent;
+      to_move = Deed move;
+      may_move = may_deed x.silent;
+      heap_is = refl;
       own = owed ∙ (word_there s.pend (s.pend a + s.slot (y.at / 64)) ∙ omega (arith, bytes, before, after));
       others = λ b differs. ap (λ (k : Move). pend_then a k s.slot s.pend b) y.is ∙ others_left s.pend (s.pend a + s.slot (y.at / 64)) b differs;
+      rests = rests_on known z a s move;
     } where
       owed : pend_then a move s.slot s.pend a ≡ with_word s.pend a (s.pend a + s.slot (y.at / 64)) a
       owed = ap (λ (k : Move). pend_then a k s.slot s.pend a) y.is

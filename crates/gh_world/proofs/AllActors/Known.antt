@@ -1,7 +1,7 @@
 -- What lower crates say, as the lemmas of lists of all actors use it.
 use Rattle.std.proofs.Common.{ℕ, Bool, List, ◌∷◌}
 use Rattle.gh_base.specs.Rows.{RowsAreWritten}
-use Rattle.gh_heap.specs.Laws.{EachFactLasts, EachMoveLeaves, TheHeapIsApart}
+use Rattle.gh_heap.specs.Laws.{EachFactLasts, EachMoveLeaves, EachMoveReachesNoMore, TheHeapIsApart}
 use Rattle.gh_sweep.specs.AtEnd.{TheBitsAreObjects}
 use Rattle.gh_marks.specs.Laws.{MarksStayWords}
 use Rattle.gh_state.specs.Cycles.{CountsAreTold, CyclesEnd, HeapsOpen, TheSweepIsTold}
@@ -18,8 +18,11 @@ use Rattle.gh_mutator.specs.Calm.{CalmProcessorsMarkNothing}
 use Rattle.gh_mutator.specs.Deeds.{OnlyPointsChange, ProcessorsDeedsFit}
 use Rattle.gh_mutator.specs.ProcessorMarks.{MarksByMoves}
 use Rattle.gh_mutator.specs.Runs.{RunsByItsRights}
+use Rattle.gh_mutator.specs.Sweeping.{ProcessorsRunSweeps}
 use Rattle.gh_mutator.specs.Writing.{StacksAreNoted}
+use Rattle.gh_worker.specs.Sweeping.{WorkersRunSweeps}
 use Rattle.gh_worker.specs.Writing.{CalmWorkersMarkNothing}
+use Rattle.gh_coord.specs.Sweeping.{TheCoordinatorRunsSweeps}
 use Rattle.gh_world.specs.Counts.{CountsPlainly}
 use Rattle.gh_world.specs.Waits.{StacksAreNumbered, WorkersRest}
 use Rattle.gh_world.specs.Wants.{CountsWants}
@@ -33,8 +36,13 @@ pub record Known : Type 0 where
   pub apart : TheHeapIsApart
   pub keeps : state_laws.EachMoveKeeps
   pub leaves : EachMoveLeaves
+  pub reaches : EachMoveReachesNoMore
+  pub state_leaves : state_laws.EachMoveLeaves
   pub last : EachFactLasts
   pub sweeps : SweepsByTheState
+  pub processors_sweep : ProcessorsRunSweeps
+  pub workers_sweep : WorkersRunSweeps
+  pub coordinator_sweeps : TheCoordinatorRunsSweeps
   pub walkers : WalkersPass
   pub bits : TheBitsAreObjects
   pub runs : RunsByItsRights

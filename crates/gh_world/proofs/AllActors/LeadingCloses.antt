@@ -1,25 +1,28 @@
 -- The store of the next sweep generation ends a cycle: what holds then is what the sweep begins with.
-use Rattle.std.proofs.Common.{◌≡◌, ◌≢◌, ◌⊎◌, inl, inr, ℕ, ◌+◌, ◌*◌, ◌^◌, ◌<◌, ◌≤◌, Bool, true, false, ltb, refl, sym, ap, subst, ◌∙◌, arith, List, ◌∷◌}
+use Rattle.std.proofs.Common.{◌≡◌, ◌≢◌, ◌⊎◌, inl, inr, ℕ, ◌+◌, ◌*◌, ◌^◌, ◌<◌, ◌≤◌, Bool, true, false, ltb, refl, sym, ap, subst, ◌∙◌, arith, List, ◌∷◌, None}
 use Rattle.gh_base.specs.declared.cell.Cell.TheVariants as cell
 use Rattle.gh_coord.specs.declared.close.CloseStage.TheVariants as closing
 use Rattle.gh_coord.specs.Closing as close
 use Rattle.gh_coord.specs.Handshake as leading
+use Rattle.gh_coord.specs.Listing as coord
 use Rattle.gh_coord.specs.SweepingAll as over_all
 use Rattle.gh_model.specs.Ever.{Reach}
 use Rattle.gh_phase.specs.declared.view.RunPhase.TheVariants as run
-use Rattle.gh_state.specs.Cycles.{end_of, ended as ended_state, IsOver, next_words}
+use Rattle.gh_state.specs.Cycles.{ended as ended_state, IsOver, next_words}
 use Rattle.gh_world.specs.Handshake.{Sound as ActorSound}
-use Rattle.gh_world.specs.ActorsHold.{HasState, NobodyMarks}
-use Rattle.gh_world.specs.HoldVocabulary.{IsAsItEnded, Name, row_bit, State, StateGood}
-use Rattle.gh_world.specs.Numbers.{IsLiveClear, IsTallyClear}
-use Rattle.gh_world.proofs.Vocabulary.{acks_of, ahead_at, alloc_words, Arena, arena, By, Checked, Close, close_part, Coordinating, CoordStage, effect, END, EndedSo, Entry, eqb-true, far_in, Free, Heap, IsBeginning, IsEnding, IsInCycle, IsInLimits, IsLed, IsSweeping, IsToBegin, Layout, Legal, mark_words, MarksNothing, MarksToTheEnd, nat_tests, Op, Pacing, page_of, PageWord, Part, part_of, Processor, processor_at, put, Shape, ShapesAreGood, Stopped, Store, SweepsAll, those, uncounted, Words, words}
+use Rattle.gh_world.specs.ActorsHold.{HasEnded, HasState, NobodyMarks, Walks}
+use Rattle.gh_world.specs.Sweepers.{IsInSweep, sweep_of}
+use Rattle.gh_world.specs.HoldVocabulary.{IsAsItEnded, Name, Rests, row_bit, State, StateGood}
+use Rattle.gh_world.proofs.Vocabulary.{acks_of, actors_after, ahead_at, alloc_words, Arena, arena, By, Checked, Close, close_part, CloseStage, Coordinating, CoordStage, effect, END, EndedSo, Entry, eqb-true, far_in, Free, Heap, IsBeginning, IsEnding, IsInCycle, IsInLimits, IsLed, IsSweeping, IsToBegin, Layout, Legal, mark_words, MarksNothing, MarksToTheEnd, nat_tests, Op, Pacing, page_of, PageWord, Part, part_of, Processor, processor_at, put, seats_of, Shape, ShapesAreGood, Stopped, Store, those, uncounted, Words, words}
+use Rattle.gh_world.proofs.AllActors.Aside.{IsOfSpans, phase_only, TellsNothing}
 use Rattle.gh_world.proofs.AllActors.Going.{NotAcks}
 use Rattle.gh_world.proofs.AllActors.Known.{Known, ListsKnown}
 use Rattle.gh_world.proofs.AllActors.LeadingEnds.{buffers, facts, none_placing, post, reached_are_marked, still_at}
-use Rattle.gh_world.proofs.AllActors.LeadingSeat.{asked_at, from, is_still, IsStill, owes_nothing}
-use Rattle.gh_world.proofs.AllActors.LeadingSweep.{IsOfSpans}
-use Rattle.gh_world.proofs.AllActors.LeadingSwept.{apart, heap_on, in_cycle_on, nobody_on}
+use Rattle.gh_world.proofs.AllActors.LeadingAside.{last_stays, told_on}
+use Rattle.gh_world.proofs.AllActors.LeadingSeat.{asked_at, from, goes_at as goes_by, is_still, IsStill, led_then, owes_nothing, stopped_sweeps_none}
+use Rattle.gh_world.proofs.AllActors.LeadingSwept.{apart, behind_of, heap_on, nobody_on, sweeping_of}
 use Rattle.gh_world.proofs.AllActors.Resting.{state_stays}
+use Rattle.gh_world.proofs.AllActors.SinceEnd.{in_cycle_on, LastStays}
 use Rattle.gh_world.proofs.AllActors.Starts.{whole}
 
 -- where a cycle has ended nobody sweeps
@@ -123,8 +126,8 @@ module _ (shapes : List Shape) (l : Layout) (pacing : Pacing) (may : ℕ → Lis
       stand = known.stand mark.marking.cycle h mark.marking.shared mark.marking.good mark.marking.known.beside.words (none_placing shapes l pacing may good limits known lists es legal.0 c led x is on mark);
       marks_fit = mark.marking.known.marks_fit;
       reached = reached;
-      tally = ap (λ (w : Words). w cell.Tally) words_here ∙ (lists.counts es c legal.0 led).no_tally (subst IsTallyClear (sym checked) tt);
-      live = ap (λ (w : Words). w cell.Live) words_here ∙ (lists.counts es c legal.0 led).no_live (subst IsLiveClear (sym checked) tt);
+      tally = mark.marking.known.counts.0;
+      live = mark.marking.known.counts.1;
       room = room;
     }
 
@@ -139,14 +142,32 @@ module _ (shapes : List Shape) (l : Layout) (pacing : Pacing) (may : ℕ → Lis
     pages : s.end.layout.pages ≡ l.pages
     pages = ap (λ (y : Layout). y.pages) mark.marking.known.has.good.layout
 
-    sweeps_all : SweepsAll (acks_of l) then (over_all.opening c.layout c.generation)
-    sweeps_all = record {
+    walks : Walks then (over_all.opening c.layout c.generation)
+    walks = record {
       layout_is = sound.0 ∙ sym mark.marking.known.has.good.layout;
       generation_is = sym stored ∙ sym next;
-      alone = λ p b i. absurd (nobody_sweeps (page_of (h.words (cell.Page p))) b i);
       passed = λ p lt. absurd (omega (arith, lt));
-      stage_is = (let some = limits.pages_fit.0 in omega (arith, some, pages), record { none = λ p i. absurd (nobody_sweeps (page_of (h.words (cell.Page p))) (acks_of l) i); told = refl });
+      stage_is = let some = limits.pages_fit.0 in omega (arith, some, pages);
     }
+
+    rests : (b : ℕ) → Rests b then
+    rests b = record { none = λ p i. absurd (nobody_sweeps (page_of (h.words (cell.Page p))) b i); told = refl }
+
+    -- where its step leads the world is stopped still
+    closes_to : (p : CloseStage) → x.stage ≡ p → close.goes_at x p e.found ≡ close.goes x e.found
+    closes_to p y = ap (λ (q : CloseStage). close.goes_at x q e.found) (sym y)
+
+    abbrev behind_it : Coordinating
+    behind_it = coord.at_stage (coord.counted c) (Close (close.at_stage x closing.StorePhase))
+
+    leads_to : coord.goes c e.found ≡ behind_it
+    leads_to = goes_by shapes l pacing may known lists e es legal c led by (Close x) is ∙ ap (λ (y : close.Closing). coord.after_close (coord.at_stage (coord.counted c) (Close y)) (close.given y)) (sym (closes_to closing.StoreGen at))
+
+    led_behind : IsLed shapes l pacing may (e ∷ es) behind_it
+    led_behind = subst (IsLed shapes l pacing may (e ∷ es)) leads_to (led_then shapes l pacing may known lists e es legal c led by)
+
+    sweeps_none : (b : ℕ) → b < seats_of l → IsInSweep b then (sweep_of (actors_after z pacing may (e ∷ es) b))
+    sweeps_none b lt = subst (IsInSweep b then) (sym (stopped_sweeps_none shapes l pacing may known lists (e ∷ es) legal behind_it led_behind run.Mark refl b lt)) (rests b)
 
     -- and the objects of since are those that are marked
     as_it_ended : IsAsItEnded then
@@ -161,19 +182,27 @@ module _ (shapes : List Shape) (l : Layout) (pacing : Pacing) (may : ℕ → Lis
       go (inr k) = subst (IsInCycle shapes l pacing may es) same k
       go (inl b) = absurd (no_beginning c.stage x is (let one : b.lead ≡ c = (let both = sym b.led ∙ led in cc) in subst (λ (d : Coordinating). IsBeginning d.stage) one b.stage))
 
-    ended : EndedSo shapes l pacing may (e ∷ es) c.begun (end_of s)
+    seat_from : l.procs ≤ e.actor
+    seat_from = from shapes l pacing may known lists e es legal c led by
+
+    last : LastStays shapes l pacing may e es s then
+    last d led_d is_last = let x = last_stays shapes l pacing may known lists e es legal c led by (subst NotAcks (sym is) tt) s s (record { end = refl; since = refl; slot = refl; ever = refl; freeing = refl }) d led_d is_last in (x.0, x.1, λ y. as_it_ended)
+
+    ended : EndedSo shapes l pacing may (e ∷ es) c.begun then
     ended = record {
       ended = e ∷ es;
       start = whole (e ∷ es);
       ends = record { lead = c; led = led; by = by; stage = subst IsEnding (sym is) at; cycle = refl };
       alloc = ap alloc_words (words_so ∙ ap (λ (w : Words). effect w e.ask) words_here);
       marks = ap mark_words (words_so ∙ ap (λ (w : Words). effect w e.ask) words_here);
-      births = λ i. refl;
-      ever_is = refl;
+      stood = λ n i made p. p;
+      since = λ i set y. inl (eqb-true (row_bit (mark_words h.words) i) 1 set);
+      made = λ n y. y;
+      last = λ d led_d y. (refl, as_it_ended);
     }
 
-    seat_from : l.procs ≤ e.actor
-    seat_from = from shapes l pacing may known lists e es legal c led by
+    behind : HasEnded shapes l pacing may (e ∷ es) c.begun then
+    behind = record { cycle = in_cycle_on shapes l pacing may e es c.begun s then last in_cycle; ended = ended }
 
     -- each stack was scanned in this cycle or before, if at all
     scanned : (g : ℕ) → (h.words (cell.Scanned g) < c.begun + 1) ⊎ (h.words (cell.Scanned g) ≡ END)
@@ -198,15 +227,33 @@ module _ (shapes : List Shape) (l : Layout) (pacing : Pacing) (may : ℕ → Lis
       good = good_then;
       placing = λ a lt. sym (owes_nothing shapes l pacing may known lists es legal.0 c led run.Mark stopped a lt) ∙ ap (λ (m : Processor). uncounted m.task) (sym (state_stays shapes l pacing may e es a (apart shapes l pacing may known lists e es legal seat_from a lt)));
       others_place = λ a le. refl;
+      sweeps = sweeps_none;
     }
 
     pub sweeping : (d : Coordinating) → d.begun ≡ c.begun → IsSweeping shapes l pacing may (e ∷ es) d (over_all.opening c.layout c.generation)
     sweeping d same = record {
       has = has_then;
       over = refl;
-      sweeps = sweeps_all;
-      as_it_ended = as_it_ended;
-      cycle = subst (IsInCycle shapes l pacing may (e ∷ es)) (sym same) (in_cycle_on shapes l pacing may known lists e es legal seat_from c led by (subst NotAcks (sym is) tt) c.begun in_cycle);
-      ended = subst (λ (k : ℕ). EndedSo shapes l pacing may (e ∷ es) k (end_of s)) (sym same) ended;
+      walks = walks;
+      behind = subst (λ (k : ℕ). HasEnded shapes l pacing may (e ∷ es) k then) (sym same) behind;
       nobody = nobody_on shapes l pacing may known lists e es legal c led by stopped h mark.marking.known.has.of_list (next_words h.words) words_so only (c.begun + 1) (d.begun + 1) (ap (λ (k : ℕ). k + 1) same) nobody;
     }
+
+  -- With the store of the phase the world runs, and the walk begins.
+  module _ (e : Entry Op) (es : List (Entry Op)) (legal : Legal (those shapes l pacing may) (e ∷ es)) (c : Coordinating) (led : IsLed shapes l pacing may es c) (by : e.actor ≡ acks_of l) (x : close.Closing) (is : c.stage ≡ Close x) (at : x.stage ≡ closing.StorePhase) (k : IsSweeping shapes l pacing may es c (over_all.opening c.layout c.generation)) where
+    at_close : c.stage ≡ Close (close.at_stage x closing.StorePhase)
+    at_close = is ∙ ap (λ (p : CloseStage). Close (close.at_stage x p)) at
+
+    tells : TellsNothing e.ask
+    tells = subst TellsNothing (sym (asked_at shapes l pacing may known lists e es legal c led by (Close (close.at_stage x closing.StorePhase)) at_close)) (phase_only _)
+
+    none : coord.sweep_at c.stage ≡ None
+    none = ap coord.sweep_at at_close
+
+    still_none : coord.sweep_in (coord.goes_at (coord.counted c) c.stage e.found) ≡ None
+    still_none = ap (λ (p : CoordStage). coord.sweep_in (coord.goes_at (coord.counted c) p e.found)) at_close
+
+    pub runs_on : (d : Coordinating) → d.begun ≡ c.begun → IsSweeping shapes l pacing may (e ∷ es) d (over_all.opening c.layout c.generation)
+    runs_on d same = sweeping_of shapes l pacing may known lists (e ∷ es) d (over_all.opening c.layout c.generation) 0
+        (told_on shapes l pacing may known lists e es legal c led by none still_none tells (subst NotAcks (sym is) tt) 0 (behind_of shapes l pacing may known lists es c (over_all.opening c.layout c.generation) k) d same)
+        (record { layout_is = k.walks.layout_is; generation_is = k.walks.generation_is; passed = k.walks.passed; stage_is = k.walks.stage_is })

@@ -1,9 +1,10 @@
 -- Where a cycle's marking ends: nobody has anything in hand, the marked objects are those that a script reaches, and with the store of the next sweep generation they are swept.
-use Rattle.std.proofs.Common.{◌≡◌, ◌≢◌, ◌⊎◌, inl, inr, ℕ, zero, suc, ◌-◌, ◌<◌, ◌≤◌, refl, sym, ap, subst, ◌∙◌, arith, List, Some, None, Bool}
+use Rattle.std.proofs.Common.{◌≡◌, ◌≢◌, ◌⊎◌, inl, inr, ℕ, zero, suc, ◌-◌, ◌<◌, ◌≤◌, refl, sym, ap, subst, ◌∙◌, arith, List, Some, None, Bool, true}
 use Rattle.std.proofs.lemmas.Bool.{cases_lt}
 use Rattle.gh_base.specs.declared.cell.Cell.TheVariants as cell
 use Rattle.gh_base.specs.declared.pack.TheConstants.{END}
 use Rattle.gh_base.specs.Shapes.{ShapesFit}
+use Rattle.gh_coord.specs.declared.close.CloseStage.TheVariants as closing
 use Rattle.gh_coord.specs.Closing as close
 use Rattle.gh_coord.specs.Handshake as leading
 use Rattle.gh_cycle.specs.Beside.{IsBeside}
@@ -13,7 +14,7 @@ use Rattle.gh_phase.specs.declared.view.RunPhase.TheVariants as run
 use Rattle.gh_worker.specs.Listing as worker
 use Rattle.gh_worker.specs.MarkFacts as worker_marks
 use Rattle.gh_world.specs.declared.handshake.Actor.TheVariants as actor
-use Rattle.gh_world.proofs.Vocabulary.{acks_of, Actor, actors_after, alloc_words, Arena, arena, birth_words, Close, Coordinating, Cycle, EndsClean, EndsMarked, Entry, Ever, ever, Good, Hands, Heap, holder_in, IsBeginning, IsBounded, IsChecked, IsHeapOf, IsInCycle, IsInLimits, IsKnown, IsLed, IsMade, IsMarkedObject, IsParked, IsPlacedAt, IsToBegin, Layout, Legal, mark_words, MarkFacts, MarksToTheEnd, Name, nothing, Op, Pacing, Placed, processor_at, Reach, Row, row_bit, Shape, ShapesAreGood, stage_of, Stopped, those, view, WaitsWithNone, Words, words}
+use Rattle.gh_world.proofs.Vocabulary.{acks_of, Actor, actors_after, alloc_words, Arena, arena, birth_words, Close, CloseStage, Coordinating, Cycle, EndsClean, EndsMarked, Entry, Ever, ever, Good, Hands, Heap, holder_in, IsBeginning, IsBounded, IsChecked, IsHeapOf, IsInCycle, IsInLimits, IsKnown, IsLed, IsMade, IsMarkedObject, IsParked, IsPlacedAt, IsToBegin, Layout, Legal, mark_words, MarkFacts, MarksToTheEnd, Name, nothing, Op, Pacing, Placed, processor_at, Reach, Row, row_bit, Shape, ShapesAreGood, stage_of, Stopped, those, view, WaitsWithNone, Words, words}
 use Rattle.gh_world.specs.Actors.{BeginsCycle}
 use Rattle.gh_world.specs.ActorsHold.{began, began_words}
 use Rattle.gh_world.proofs.AllActors.Beside.{not_beginning}
@@ -24,6 +25,11 @@ use Rattle.gh_world.proofs.AllActors.Resting.{runs_are}
 use Rattle.gh_world.proofs.AllActors.Stood.{Stays}
 use Rattle.gh_world.proofs.AllActors.Tied.{is_tied}
 use Rattle.gh_world.proofs.CycleMarking.Seats.{IsSeated, seated}
+
+-- the world is stopped until the phase behind the next sweep generation is stored
+closing_post : (p : CloseStage) → close.is_marking p ≡ true → leading.close_post p ≡ Stopped run.Mark
+closing_post closing.Ended on = absurd cc
+closing_post _ on = refl
 
 module _ (shapes : List Shape) (l : Layout) (pacing : Pacing) (may : ℕ → List (Entry Op) → Op → Bool) (good : ShapesAreGood shapes) (limits : IsInLimits l) (known : Known) (lists : ListsKnown shapes l pacing may) where
   abbrev z : Arena
@@ -53,7 +59,7 @@ module _ (shapes : List Shape) (l : Layout) (pacing : Pacing) (may : ℕ → Lis
     clean = mark.ends (subst IsChecked (sym is) tt)
 
     pub post : leading.post_at c.stage ≡ Stopped run.Mark
-    post = ap leading.post_at is
+    post = ap leading.post_at is ∙ closing_post x.stage (subst leading.Marks is on)
 
     pub facts : (a : ℕ) → a < l.procs → MarkFacts mark.marking.cycle a mark.marking.shared (processor_at shapes l pacing may es a)
     facts a lt = mark.marking.processors a (processor_at shapes l pacing may es a) lt (runs_are shapes l pacing may es a lt)

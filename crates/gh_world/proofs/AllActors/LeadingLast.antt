@@ -1,5 +1,5 @@
 -- Once all is over: every processor is gone, so each goroutine has ended, and the objects that stand are those that a script reaches.
-use Rattle.std.proofs.Common.{◌≡◌, ◌≢◌, ◌↔◌, inl, inr, ℕ, ◌*◌, ◌%◌, ◌<◌, ◌≤◌, Bool, true, refl, sym, ap, subst, ◌∙◌, arith, List, [], ◌∷◌}
+use Rattle.std.proofs.Common.{◌≡◌, ◌≢◌, ◌↔◌, inl, inr, ◌⊎◌, ℕ, ◌*◌, ◌%◌, ◌^◌, ◌<◌, ◌≤◌, Bool, true, refl, sym, ap, subst, ◌∙◌, arith, List, [], ◌∷◌}
 use Rattle.gh_base.specs.declared.cell.Cell.TheVariants as cell
 use Rattle.gh_coord.specs.Closing as close
 use Rattle.gh_coord.specs.Handshake as leading
@@ -13,12 +13,12 @@ use Rattle.gh_phase.specs.declared.view.RunPhase.TheVariants as run
 use Rattle.gh_phase.specs.ResumePlaces.{stands_at}
 use Rattle.gh_world.specs.Actors.{BeginsCycle}
 use Rattle.gh_world.specs.Handshake.{Sound as ActorSound}
-use Rattle.gh_world.specs.ActorsHold.{HasState}
-use Rattle.gh_world.specs.HoldVocabulary.{marks_at}
-use Rattle.gh_world.specs.Numbers.{IsLiveCounted}
-use Rattle.gh_world.proofs.Vocabulary.{acks_of, acts, alloc_words, Arena, arena, Ask, birth_words, Close, Coordinating, CoordStage, CycleEnd, Done, effect, EndedSo, EndsAllMarked, EndsCycle, Entry, Ever, ever, Gone, Heap, is_last_task, IsEnding, IsInLimits, IsJustSwept, IsLed, IsMade, IsMarkedObject, IsOf, IsPlacedAt, IsQuiet, IsStartOf, IsStepIn, last_of, last_phase, Layout, Lead, Leads, LeavesTheReached, Legal, mod_below, Name, new_stage_at, NewStage, Op, Pacing, page_words, part_of, party_of, place_of, Placed, placed, Polling, polls_at, PollStage, processor_at, processor_kind, Reach, ResumeStage, Row, row_bit, Shape, slot_row, stage_at, stage_of, started, Store, Task, those, view, Waiting, waiting, waits_at, WaitStage, Words, words}
+use Rattle.gh_state.specs.Cycles.{AllIsTold, AreSwept}
+use Rattle.gh_world.specs.ActorsHold.{HasState, IsNewThere, IsTold}
+use Rattle.gh_world.specs.HoldVocabulary.{CountsAreExact, marks_at, State}
+use Rattle.gh_world.proofs.Vocabulary.{acks_of, acts, alloc_words, Arena, arena, Ask, birth_words, Close, Coordinating, CoordStage, Done, effect, EndedSo, EndsAllMarked, EndsCycle, Entry, Ever, ever, Gone, Heap, is_last_task, IsEnding, IsInLimits, IsLed, IsMade, IsMarkedObject, IsOf, IsPlacedAt, IsStartOf, IsStepIn, last_of, last_phase, Layout, Lead, Leads, LeavesTheReached, Legal, mod_below, Name, new_stage_at, NewStage, Op, Pacing, page_words, party_of, place_of, Placed, placed, Polling, polls_at, PollStage, processor_at, processor_kind, Reach, ResumeStage, Row, row_bit, Shape, slot_row, stage_at, stage_of, started, Store, Task, those, view, Waiting, waiting, waits_at, WaitStage, Words, words}
 use Rattle.gh_world.proofs.AllActors.Known.{Known, ListsKnown}
-use Rattle.gh_world.proofs.AllActors.LeadingNames.{placed_there}
+use Rattle.gh_world.proofs.AllActors.LeadingNames.{few_there, same_name}
 use Rattle.gh_world.proofs.AllActors.LeadingNumbers.{ends_once}
 use Rattle.gh_world.proofs.AllActors.LeadingOnce.{begins_once}
 use Rattle.gh_world.proofs.AllActors.LeadingSeat.{asked_at, from}
@@ -93,51 +93,63 @@ module _ (shapes : List Shape) (l : Layout) (pacing : Pacing) (may : ℕ → Lis
     ever_then : ever shapes l pacing may (d ∷ ds) ≡ ever shapes l pacing may ds
     ever_then = ever_stays shapes l pacing may known.points d ds legal (from shapes l pacing may known lists d ds legal x.lead x.led x.by)
 
-  -- What stands once a cycle is swept was marked where it ended; so, if it had been made by then, a script reached it where the cycle began.
-  module _ (es : List (Entry Op)) (legal : Legal (those shapes l pacing may) es) (k : ℕ) (has : HasState shapes l pacing may es) (so : EndedSo shapes l pacing may es k has.state.end)
-      (left : (n : Name) → IsMade has.state.heap.ever.made n → Placed (alloc_words has.state.heap.words) (birth_words has.state.heap.words) has.state.heap.place n → row_bit (marks_at has.state.end) (has.state.heap.place n) ≡ 1) (ends : EndsAllMarked shapes l pacing may es) where
-    abbrev stood : Heap
-    stood = has.state.heap
+  -- What stands once a cycle is swept was marked where it ended, if it had been made by then; so, if it had been made where the cycle began, a script reached it there.
+  module _ (es : List (Entry Op)) (legal : Legal (those shapes l pacing may) es) (c : Coordinating) (j : IsTold shapes l pacing may es c) (ends : EndsAllMarked shapes l pacing may es) where
+    abbrev here : State
+    here = j.quiet.has.state
 
-    abbrev x : CycleEnd
-    x = has.state.end
+    abbrev so : EndedSo shapes l pacing may es c.begun here
+    so = j.behind.ended
 
-    module _ (n : Name) (made : IsMade (ever shapes l pacing may es).made n) (a : ℕ) (at : IsPlacedAt (words shapes l pacing may es) n a) where
-      made_there : IsMade stood.ever.made n
-      made_there = subst (λ (u : Ever). IsMade u.made n) (sym has.of_list.ever_is) made
+    pub swept : AreSwept here
+    swept = known.walkers.all z here j.quiet.has.good j.quiet.passed
 
-      there : Placed (alloc_words stood.words) (birth_words stood.words) (λ m. a) n
-      there = subst (λ (w : Words). Placed (alloc_words w) (birth_words w) (λ m. a) n) (sym has.of_list.words_are) at
+    pub all_told : AllIsTold here
+    all_told = known.swept z here j.quiet.has.good j.quiet.over swept
 
-      here : (stood.place n ≡ a) × Placed (alloc_words stood.words) (birth_words stood.words) stood.place n
-      here = placed_there z (view stood) has.good.heap n a made_there there.set there.says
+    module _ (n : Name) (made : IsMade (ever shapes l pacing may so.ended).made n) (a : ℕ) (at : IsPlacedAt (words shapes l pacing may es) n a) where
+      -- no other name stands there
+      one_name : (m : Name) → m.k < 2 ^ 32 → IsPlacedAt (words shapes l pacing may es) m a → m ≡ n
+      one_name m few there =
+          let made_here : IsMade here.heap.ever.made n = subst (λ (v : Ever). IsMade v.made n) (sym j.quiet.has.of_list.ever_is) (so.made n made) in
+          same_name m n few (few_there z (view here.heap) j.quiet.has.good.heap n made_here) (sym there.says ∙ at.says)
 
-      set_at : row_bit (marks_at x) a ≡ 1
-      set_at = ap (λ (i : ℕ). row_bit (marks_at x) i) (sym here.0) ∙ left n made_there here.1
+      set_at : row_bit (marks_at here.end) a ≡ 1
+      set_at = go (so.since a (all_told.objects a (subst (λ (w : Words). row_bit (alloc_words w) a ≡ 1) (sym j.quiet.has.of_list.words_are) at.set)) at.set) where
+        go : (row_bit (marks_at here.end) a ≡ 1) ⊎ IsNewThere shapes l pacing may so.ended es a → row_bit (marks_at here.end) a ≡ 1
+        go (inl x) = x
+        go (inr x) = absurd (x.not_yet (subst (λ (m : Name). IsMade (ever shapes l pacing may so.ended).made m) (sym (one_name x.name x.few x.placed)) made))
 
       marked_there : IsMarkedObject shapes l pacing may (words shapes l pacing may so.ended) n
-      marked_there = (
-        a,
-        record { set = ap (λ (r : Row). row_bit r a) (sym so.alloc) ∙ has.good.ended.stand a set_at; says = sym (so.births a) ∙ at.says },
-        ap (λ (r : Row). row_bit r a) (sym so.marks) ∙ set_at,
-      )
+      marked_there = (a, so.stood n a made at, ap (λ (r : Row). row_bit r a) (sym so.marks) ∙ set_at)
 
-    -- by the list where it ended
-    by_end : (ended : List (Entry Op)) → IsStartOf ended es → EndsCycle shapes l pacing may k ended → (begun : List (Entry Op)) → IsStartOf begun es → BeginsCycle shapes l pacing may k begun → (n : Name) → IsMade (ever shapes l pacing may begun).made n → IsMarkedObject shapes l pacing may (words shapes l pacing may ended) n → Reach (ever shapes l pacing may begun) n
+    -- the list where it began, by that where it ended
+    began_in : (ended : List (Entry Op)) → IsStartOf ended es → EndsCycle shapes l pacing may c.begun ended → (begun : List (Entry Op)) → IsStartOf begun es → BeginsCycle shapes l pacing may c.begun begun → IsStartOf begun ended
+    began_in [] start step begun of_begun begins = absurd step
+    began_in (d ∷ ds) start step begun of_begun begins =
+        let m = ends d ds c.begun start step in
+        let one : m.begun ≡ begun = begins_once shapes l pacing may known lists c.begun m.begun begun es legal (start_of_start m.begun (d ∷ ds) es (inr m.start) start) of_begun (subst (λ (i : ℕ). BeginsCycle shapes l pacing may i m.begun) step.cycle m.begins) begins in
+        subst (λ (ys : List (Entry Op)). IsStartOf ys (d ∷ ds)) one (inr m.start)
+
+    by_end : (ended : List (Entry Op)) → IsStartOf ended es → EndsCycle shapes l pacing may c.begun ended → (begun : List (Entry Op)) → IsStartOf begun es → BeginsCycle shapes l pacing may c.begun begun → (n : Name) → IsMade (ever shapes l pacing may begun).made n → IsMarkedObject shapes l pacing may (words shapes l pacing may ended) n → Reach (ever shapes l pacing may begun) n
     by_end [] start step begun of_begun begins n made set = absurd step
     by_end (d ∷ ds) start step begun of_begun begins n made set =
         let legal_d = legal_start (those shapes l pacing may) (d ∷ ds) es start legal in
-        let m = ends d ds k start step in
-        let one : m.begun ≡ begun = begins_once shapes l pacing may known lists k m.begun begun es legal (start_of_start m.begun (d ∷ ds) es (inr m.start) start) of_begun (subst (λ (i : ℕ). BeginsCycle shapes l pacing may i m.begun) step.cycle m.begins) begins in
-        let here : IsMade (ever shapes l pacing may m.begun).made n = subst (λ (ys : List (Entry Op)). IsMade (ever shapes l pacing may ys).made n) (sym one) made in
-        subst (λ (ys : List (Entry Op)). Reach (ever shapes l pacing may ys) n) one (m.marked n here (marked_then d ds legal_d k step n set))
+        let m = ends d ds c.begun start step in
+        let one : m.begun ≡ begun = begins_once shapes l pacing may known lists c.begun m.begun begun es legal (start_of_start m.begun (d ∷ ds) es (inr m.start) start) of_begun (subst (λ (i : ℕ). BeginsCycle shapes l pacing may i m.begun) step.cycle m.begins) begins in
+        let there : IsMade (ever shapes l pacing may m.begun).made n = subst (λ (ys : List (Entry Op)). IsMade (ever shapes l pacing may ys).made n) (sym one) made in
+        subst (λ (ys : List (Entry Op)). Reach (ever shapes l pacing may ys) n) one (m.marked n there (marked_then d ds legal_d c.begun step n set))
 
-    pub marked_were : (begun : List (Entry Op)) → IsStartOf begun es → BeginsCycle shapes l pacing may k begun → (n : Name) → IsMade (ever shapes l pacing may begun).made n → (a : ℕ) → IsPlacedAt (words shapes l pacing may es) n a → Reach (ever shapes l pacing may begun) n
-    marked_were begun of_begun begins n made a at = by_end so.ended so.start so.ends begun of_begun begins n made (marked_there n (still_made begun es of_begun n made) a at)
+    pub marked_were : (begun : List (Entry Op)) → IsStartOf begun es → BeginsCycle shapes l pacing may c.begun begun → (n : Name) → IsMade (ever shapes l pacing may begun).made n → (a : ℕ) → IsPlacedAt (words shapes l pacing may es) n a → Reach (ever shapes l pacing may begun) n
+    marked_were begun of_begun begins n made a at = by_end so.ended so.start so.ends begun of_begun begins n made (marked_there n (still_made begun so.ended (began_in so.ended so.start so.ends begun of_begun begins) n made) a at)
 
-  module _ (es : List (Entry Op)) (legal : Legal (those shapes l pacing may) es) (c : Coordinating) (led : IsLed shapes l pacing may es c) (done : c.stage ≡ Done) (q : IsQuiet shapes l pacing may es c) (j : IsJustSwept shapes l pacing may es c q.has.state.heap q.has.state.end) (ends : EndsAllMarked shapes l pacing may es) where
+  -- Where the coordinator is done.
+  module _ (es : List (Entry Op)) (legal : Legal (those shapes l pacing may) es) (c : Coordinating) (led : IsLed shapes l pacing may es c) (done : c.stage ≡ Done) (j : IsTold shapes l pacing may es c) (ends : EndsAllMarked shapes l pacing may es) where
+    abbrev has : HasState shapes l pacing may es
+    has = j.quiet.has
+
     abbrev h : Heap
-    h = q.has.state.heap
+    h = j.quiet.has.state.heap
 
     finished : last_phase es ≡ run.Finished
     finished =
@@ -157,7 +169,7 @@ module _ (shapes : List Shape) (l : Layout) (pacing : Pacing) (may : ℕ → Lis
       left_there = has_left (processor_at shapes l pacing may es a).poll (processor_at shapes l pacing may es a).task gone
 
       pub all_ended : (g : ℕ) → IsOf z a g → (ever shapes l pacing may es).ended g ≡ true
-      all_ended g its = subst (λ (v : Ever). v.ended g ≡ true) q.has.of_list.ever_is ((q.has.of_list.processors a lt).left left_there g its)
+      all_ended g its = subst (λ (v : Ever). v.ended g ≡ true) has.of_list.ever_is ((has.of_list.processors a lt).left left_there g its)
 
     over : (g : ℕ) → g < l.goroutines → (ever shapes l pacing may es).ended g ≡ true
     over g lt = all_ended (g % l.procs) (mod_below g l.procs (let some = limits.procs_fit.0 in omega (arith, some))) g (lt, refl)
@@ -169,26 +181,26 @@ module _ (shapes : List Shape) (l : Layout) (pacing : Pacing) (may : ℕ → Lis
         subst (leading.SoundAt c) done sound.1.1
 
     -- the last cycle has changed no value
-    same_ever : ever shapes l pacing may es ≡ ever shapes l pacing may j.cycle.begun
-    same_ever = j.cycle.last c led was_last
+    same_ever : ever shapes l pacing may es ≡ ever shapes l pacing may j.behind.cycle.begun
+    same_ever = j.behind.cycle.last c led was_last
 
-    -- nothing has since its marking ended
+    -- nothing has changed since its marking ended
     unchanged : (ended : List (Entry Op)) → IsStartOf ended es → EndsCycle shapes l pacing may c.begun ended → ever shapes l pacing may es ≡ ever shapes l pacing may ended
     unchanged ended start x =
-        let one : ended ≡ j.ended.ended = ends_once shapes l pacing may known lists c.begun ended j.ended.ended es legal start j.ended.start x j.ended.ends in
-        j.ended.ever_is ∙ sym (ap (ever shapes l pacing may) one)
+        let one : ended ≡ j.behind.ended.ended = ends_once shapes l pacing may known lists c.begun ended j.behind.ended.ended es legal start j.behind.ended.start x j.behind.ended.ends in
+        (j.behind.ended.last c led was_last).0 ∙ sym (ap (ever shapes l pacing may) one)
 
     module _ (n : Name) (made : IsMade (ever shapes l pacing may es).made n) where
-      made_then : IsMade (ever shapes l pacing may j.cycle.begun).made n
+      made_then : IsMade (ever shapes l pacing may j.behind.cycle.begun).made n
       made_then = subst (λ (v : Ever). IsMade v.made n) same_ever made
 
       stands : ((a : ℕ) × IsPlacedAt (words shapes l pacing may es) n a) → Reach (ever shapes l pacing may es) n
-      stands (a, at) = subst (λ (v : Ever). Reach v n) (sym same_ever) (marked_were es legal c.begun q.has j.ended j.left ends j.cycle.begun j.cycle.start j.cycle.begins n made_then a at)
+      stands (a, at) = subst (λ (v : Ever). Reach v n) (sym same_ever) (marked_were es legal c j ends j.behind.cycle.begun j.behind.cycle.start j.behind.cycle.begins n made_then a at)
 
       is_left : Reach (ever shapes l pacing may es) n → ((a : ℕ) × IsPlacedAt (words shapes l pacing may es) n a)
       is_left r =
-          let p = q.has.good.heap.reached n (subst (λ (v : Ever). Reach v n) (sym q.has.of_list.ever_is) r) in
-          (h.place n, subst (λ (w : Words). Placed (alloc_words w) (birth_words w) (λ m. h.place n) n) q.has.of_list.words_are (record { set = p.set; says = p.says }))
+          let p = has.good.heap.reached n (subst (λ (v : Ever). Reach v n) (sym has.of_list.ever_is) r) in
+          (h.place n, subst (λ (w : Words). Placed (alloc_words w) (birth_words w) (λ m. h.place n) n) has.of_list.words_are (record { set = p.set; says = p.says }))
 
       -- the last cycle's
       marked_at : (ended : List (Entry Op)) → IsStartOf ended es → EndsCycle shapes l pacing may c.begun ended → ever shapes l pacing may es ≡ ever shapes l pacing may ended → IsMarkedObject shapes l pacing may (words shapes l pacing may ended) n ↔ Reach (ever shapes l pacing may es) n
@@ -196,22 +208,23 @@ module _ (shapes : List Shape) (l : Layout) (pacing : Pacing) (may : ℕ → Lis
       marked_at (d ∷ ds) start x same =
           let legal_d = legal_start (those shapes l pacing may) (d ∷ ds) es start legal in
           let same_d = same ∙ ever_then d ds legal_d c.begun x n in (
-            (λ i. subst (λ (v : Ever). Reach v n) (sym same_ever) (by_end es legal c.begun q.has j.ended j.left ends (d ∷ ds) start x j.cycle.begun j.cycle.start j.cycle.begins n made_then i)),
+            (λ i. subst (λ (v : Ever). Reach v n) (sym same_ever) (by_end es legal c j ends (d ∷ ds) start x j.behind.cycle.begun j.behind.cycle.start j.behind.cycle.begins n made_then i)),
             (λ r. marked_now d ds legal_d c.begun x n ((ends d ds c.begun start x).reached n (subst (λ (v : Ever). Reach v n) same_d r))),
           )
 
       marked : (ended : List (Entry Op)) → IsStartOf ended es → EndsCycle shapes l pacing may c.begun ended → IsMarkedObject shapes l pacing may (words shapes l pacing may ended) n ↔ Reach (ever shapes l pacing may es) n
       marked ended start x = marked_at ended start x (unchanged ended start x)
 
+    -- the bytes that were counted are those of the slots that are taken
     live_is : c.live ≡ placed (alloc_words (words shapes l pacing may es)) (slot_row (page_words (words shapes l pacing may es))) (16 * l.pages)
     live_is =
-        let counted : IsLiveCounted (part_of c.stage) = subst (λ (p : CoordStage). IsLiveCounted (part_of p)) (sym done) tt in
-        let pages : q.has.state.end.layout.pages ≡ l.pages = ap (λ (y : Layout). y.pages) q.has.good.layout in
-        let told : h.words cell.Live ≡ placed (alloc_words h.words) (slot_row (page_words h.words)) (16 * l.pages) = subst (λ (i : ℕ). h.words cell.Live ≡ placed (alloc_words h.words) (slot_row (page_words h.words)) (16 * i)) pages j.told.live in
-        sym ((lists.counts es c legal led).live counted) ∙ subst (λ (w : Words). w cell.Live ≡ placed (alloc_words w) (slot_row (page_words w)) (16 * l.pages)) q.has.of_list.words_are told
+        let exact : CountsAreExact has.state.end h.words = known.told z has.state has.good j.quiet.over (swept es legal c j ends) (j.behind.ended.last c led was_last).1 in
+        let pages : has.state.end.layout.pages ≡ l.pages = ap (λ (y : Layout). y.pages) has.good.layout in
+        let told : h.words cell.Live ≡ placed (alloc_words h.words) (slot_row (page_words h.words)) (16 * l.pages) = subst (λ (i : ℕ). h.words cell.Live ≡ placed (alloc_words h.words) (slot_row (page_words h.words)) (16 * i)) pages exact.live in
+        j.live ∙ (sym (all_told es legal c j ends).live ∙ (told ∙ ap (λ (w : Words). placed (alloc_words w) (slot_row (page_words w)) (16 * l.pages)) has.of_list.words_are))
 
-    pub leaves : LeavesTheReached shapes l pacing may es c
-    leaves = record {
+    pub left_now : LeavesTheReached shapes l pacing may es c
+    left_now = record {
       over = over;
       left = λ n made. (stands n made, is_left n made);
       unchanged = λ ended start x. unchanged ended start x;

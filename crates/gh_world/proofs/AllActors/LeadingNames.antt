@@ -11,7 +11,7 @@ same_name n m few fewer same =
     ap (λ (i : ℕ). record { g = i; k = n.k }) g_is ∙ ap (λ (i : ℕ). record { g = m.g; k = i }) k_is
 
 module _ (z : Arena) (v : View) (good : Good z v) where
-  few_there : (n : Name) → IsMade v.ever.made n → n.k < 2 ^ 32
+  pub few_there : (n : Name) → IsMade v.ever.made n → n.k < 2 ^ 32
   few_there n made = let most = good.names.few n.g in omega (arith, made, most)
 
   pub placed_there : (n : Name) (a : ℕ) → IsMade v.ever.made n → row_bit v.alloc a ≡ 1 → v.birth a ≡ birth_word n → (v.place n ≡ a) × Placed v.alloc v.birth v.place n

@@ -1,5 +1,5 @@
 -- A cycle begins once, ends once and is swept once: by the numbers of cycles, which only rise.
-use Rattle.std.proofs.Common.{◌≡◌, ◌⊎◌, inl, inr, ℕ, ◌+◌, ◌≤◌, ◌==◌, Bool, true, false, refl, sym, ap, subst, ◌∙◌, arith, List, [], ◌∷◌}
+use Rattle.std.proofs.Common.{◌≡◌, ◌⊎◌, inl, inr, ℕ, ◌+◌, ◌≤◌, ◌==◌, Bool, true, false, cond, refl, sym, ap, subst, ◌∙◌, arith, List, [], ◌∷◌}
 use Rattle.gh_base.specs.declared.cell.Cell.TheVariants as cell
 use Rattle.gh_coord.specs.declared.close.CloseStage.TheVariants as close_stage
 use Rattle.gh_coord.specs.declared.count.CountStage.TheVariants as count_stage
@@ -18,7 +18,7 @@ use Rattle.gh_coord.specs.Telling as tell
 use Rattle.gh_coord.specs.Watching as watch
 use Rattle.gh_world.specs.Actors.{IsTelling, SweepsCycle}
 use Rattle.gh_world.proofs.AllActors.Starts.{legal_start}
-use Rattle.gh_world.proofs.Vocabulary.{acks_of, ahead_at, Ask, Check, Close, CloseStage, Coordinating, CoordStage, Count, CountStage, effect, EndsCycle, Entry, generation_of, IsBeginning, IsEnding, IsLed, IsStartOf, Layout, Legal, nat_tests, Op, Open, opened_in, OpenStage, Pacing, part_of, Shape, Stop, StopAgain, StopStage, Sweep, SweepAllStage, Tell, TellStage, those, Watch, WatchStage, Words, words}
+use Rattle.gh_world.proofs.Vocabulary.{acks_of, ahead_at, Ask, Check, Close, CloseStage, Coordinating, CoordStage, Count, CountStage, Done, effect, EndsCycle, Entry, generation_of, IsBeginning, IsEnding, IsLed, IsStartOf, Layout, Legal, LoadAck, nat_tests, Op, Open, opened_in, OpenStage, Pacing, part_of, Shape, Stop, StopAgain, StopStage, Sweep, SweepAllStage, Tell, TellStage, those, Watch, WatchStage, Words, words}
 use Rattle.gh_world.proofs.AllActors.Known.{Known, ListsKnown}
 use Rattle.gh_world.proofs.AllActors.LeadingSeat.{asked_at, goes_at as goes_by, led_then}
 use Rattle.gh_world.proofs.AllActors.LeadingSweep.{numbers_stay}
@@ -118,8 +118,24 @@ ending : (u : Coordinating) (p : CoordStage) (found : ℕ) → IsEnding p → Le
 ending u (Close c) found is = rw is (record { now = record { opened_is = refl; numbered_is = refl; ended_is = refl }; after = record { opened_is = refl; numbered_is = refl; ended_is = refl }; begun = refl })
 ending u _ found is = absurd is
 
+done_numbered : (last : Bool) → Numbered (cond last Done (LoadAck 0)) 0 0 0
+done_numbered true = record { opened_is = refl; numbered_is = refl; ended_is = refl }
+done_numbered false = record { opened_is = refl; numbered_is = refl; ended_is = refl }
+
+-- the phase is stored behind the last cycle alone
+abbrev TellsOn : (u : Coordinating) (t : tell.Telling) (last : Bool) → Coordinating
+TellsOn u t last = coord.after_tell (coord.at_stage u (Tell (record t { stage = cond last tell_stage.StorePhase tell_stage.Ended }))) (tell.given_at (cond last tell_stage.StorePhase tell_stage.Ended))
+
+tells_numbered : (u : Coordinating) (t : tell.Telling) (last : Bool) → Numbered (TellsOn u t last).stage 0 0 0
+tells_numbered u t true = record { opened_is = refl; numbered_is = refl; ended_is = refl }
+tells_numbered u t false = done_numbered u.is_last
+
+tells_begun : (u : Coordinating) (t : tell.Telling) (last : Bool) → (TellsOn u t last).begun ≡ u.begun
+tells_begun u t true = refl
+tells_begun u t false = refl
+
 telling : (u : Coordinating) (p : CoordStage) (found : ℕ) → IsTelling p → Leads u p found 1 1 1 0 0 0
-telling u (Tell t) found is = rw is (record { now = record { opened_is = refl; numbered_is = refl; ended_is = refl }; after = record { opened_is = refl; numbered_is = refl; ended_is = refl }; begun = refl })
+telling u (Tell t) found is = rw is (record { now = record { opened_is = refl; numbered_is = refl; ended_is = refl }; after = tells_numbered u t t.is_last; begun = tells_begun u t t.is_last })
 telling u _ found is = absurd is
 
 module _ (shapes : List Shape) (l : Layout) (pacing : Pacing) (may : ℕ → List (Entry Op) → Op → Bool) (known : Known) (lists : ListsKnown shapes l pacing may) where

@@ -6,10 +6,10 @@ use Rattle.gh_coord.specs.Handshake as leading
 use Rattle.gh_coord.specs.Listing as coord
 use Rattle.gh_coord.specs.Stopping as stop
 use Rattle.gh_coord.specs.Watching as watch
-use Rattle.gh_world.proofs.Vocabulary.{acks_of, All, Check, Close, CloseStage, Coordinating, CoordStage, Count, Done, Entry, Holds, HoldsAt, IsInLimits, IsLed, Layout, Legal, LoadAck, LoadWant, MarkOn, NotYet, Op, Open, Pacing, Shape, ShapesAreGood, Stop, StopAgain, Sweep, Tell, those, WasSo, Watch, Watched}
+use Rattle.gh_world.proofs.Vocabulary.{acks_of, All, Check, Close, CloseStage, Coordinating, CoordStage, Count, Done, Entry, Holds, HoldsAt, IsClosing, IsInLimits, IsLed, Layout, Legal, LoadAck, LoadWant, MarkOn, NotYet, Op, Open, Pacing, Shape, ShapesAreGood, Stop, StopAgain, Sweep, Tell, those, WasSo, Watch, Watched}
 use Rattle.gh_world.proofs.AllActors.Known.{Known, ListsKnown}
 use Rattle.gh_world.proofs.AllActors.LeadingCalm as calm
-use Rattle.gh_world.proofs.AllActors.LeadingCloses.{sweeping}
+use Rattle.gh_world.proofs.AllActors.LeadingCloses.{runs_on, sweeping}
 use Rattle.gh_world.proofs.AllActors.LeadingKept as kept
 use Rattle.gh_world.proofs.AllActors.LeadingSeat.{busy}
 use Rattle.gh_world.proofs.AllActors.LeadingSwept.{sweeps}
@@ -41,11 +41,12 @@ module _ (shapes : List Shape) (l : Layout) (pacing : Pacing) (may : ℕ → Lis
     checks w (Some All) = tt
     checks w (Some NotYet) = tt
 
-    closes : (x : close.Closing) → c.stage ≡ Close x → (p : CloseStage) → x.stage ≡ p → close.is_busy p ≡ true → To (coord.after_close (coord.at_stage u (Close (close.goes_at x p e.found))) (close.given (close.goes_at x p e.found)))
-    closes x is closing.LoadBank at b = tt
-    closes x is closing.ClearBank at b = tt
-    closes x is closing.StoreGen at b = sweeping shapes l pacing may good limits known lists e es legal c led by x is at (subst leading.Marks (sym is) (ap close.is_busy at)) (was es c (whole es) led (subst leading.Marks (sym is) (ap close.is_busy at))) _ refl
-    closes x is closing.Ended at b = absurd cc
+    closes : (x : close.Closing) → c.stage ≡ Close x → (p : CloseStage) → x.stage ≡ p → close.is_busy p ≡ true → IsClosing shapes l pacing may es c p → To (coord.after_close (coord.at_stage u (Close (close.goes_at x p e.found))) (close.given (close.goes_at x p e.found)))
+    closes x is closing.LoadBank at b h = tt
+    closes x is closing.ClearBank at b h = tt
+    closes x is closing.StoreGen at b h = sweeping shapes l pacing may good limits known lists e es legal c led by x is at (subst leading.Marks (sym is) (ap close.is_marking at)) (was es c (whole es) led (subst leading.Marks (sym is) (ap close.is_marking at))) _ refl
+    closes x is closing.StorePhase at b h = runs_on shapes l pacing may good limits known lists e es legal c led by x is at h _ refl
+    closes x is closing.Ended at b h = absurd cc
 
     busy_at : (p : CoordStage) → c.stage ≡ p → coord.is_busy p ≡ true
     busy_at p is = subst (λ (q : CoordStage). coord.is_busy q ≡ true) is (busy shapes l pacing may known lists e es legal c led by)
@@ -59,18 +60,17 @@ module _ (shapes : List Shape) (l : Layout) (pacing : Pacing) (may : ℕ → Lis
     at_stage (StopAgain st) is h = stops_again (stop.goes st e.found) (stop.gives st e.found)
     at_stage (Check w) is h = checks (watch.goes w e.found) (watch.gives w e.found)
     at_stage MarkOn is h = tt
-    at_stage (Close x) is h = closes x is x.stage refl (busy_at (Close x) is)
+    at_stage (Close x) is h = closes x is x.stage refl (busy_at (Close x) is) h
     at_stage (Sweep w) is h = sweeps shapes l pacing may known lists e es legal c led by w is h
     at_stage (Count x) is h = told.counts shapes l pacing may known lists e es legal c led by x is h
-    at_stage (Tell t) is h = told.tells shapes l pacing may known lists e es legal c led by t is (told.just_at shapes l pacing may known lists es c t.stage h)
+    at_stage (Tell t) is h = told.tells shapes l pacing may known lists e es legal c led by t is (told.told_at shapes l pacing may known lists es c t.stage h)
     at_stage Done is h = absurd (let b = busy_at Done is in cc)
 
     pub leads : Holds shapes l pacing may es c → Holds shapes l pacing may (e ∷ es) (coord.goes c e.found)
     leads h = record {
       at = at_stage c.stage refl h.at;
       was = was_then;
-      counted = kept.counted shapes l pacing may limits known lists e es legal c led by h.counted c.stage refl h.at;
-      last = kept.last shapes l pacing may limits known lists e es legal c led by was_then.ends c.stage refl h.at;
+      counted = kept.counted shapes l pacing may known lists e es legal c led by h.counted c.stage refl h.at;
     } where
       was_then : WasSo shapes l pacing may (e ∷ es)
       was_then = was_on shapes l pacing may good limits known lists e es legal was c led by h.at h.was

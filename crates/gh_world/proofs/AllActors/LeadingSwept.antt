@@ -1,24 +1,30 @@
--- The coordinator sweeps all spans: over lists, what holds behind each of its steps; and once all are swept only objects stand that were marked where the cycle ended, and the counts are the cycle's.
-use Rattle.std.proofs.Common.{◌≡◌, ◌⊎◌, inr, ℕ, ◌+◌, ◌<◌, ◌≤◌, ◌==◌, Bool, true, false, refl, sym, ap, subst, ◌∙◌, arith, List, ◌∷◌, ◌++◌, None}
+-- The coordinator sweeps all spans: over lists, what holds behind each of its steps. And a step of it in a stopped world, which leaves what is known of the heap.
+use Rattle.std.proofs.Common.{◌≡◌, ◌⊎◌, ℕ, ◌+◌, ◌<◌, ◌≤◌, ◌==◌, Bool, true, false, refl, sym, ap, subst, ◌∙◌, arith, List, ◌∷◌, ◌++◌, Some, None}
 use Rattle.gh_base.specs.declared.cell.Cell.TheVariants as cell
-use Rattle.gh_coord.specs.declared.count.CountStage.TheVariants as counting
 use Rattle.gh_coord.specs.declared.sweep_all.SweepAllStage.TheVariants as all
 use Rattle.gh_coord.specs.Handshake as leading
 use Rattle.gh_coord.specs.Listing as coord
 use Rattle.gh_coord.specs.SweepingAll as over
+use Rattle.gh_heap.specs.Moves.{Quiet}
 use Rattle.gh_phase.specs.declared.view.RunPhase.TheVariants as run
-use Rattle.gh_state.specs.Cycles.{AllIsTold, AreSwept}
-use Rattle.gh_state.specs.Shared.{sweep_over}
+use Rattle.gh_state.specs.Moves as state
 use Rattle.gh_sweep.specs.Listing as sweep
-use Rattle.gh_sweep.specs.Shared.{Shared as Spans}
-use Rattle.gh_world.specs.ActorsHold.{HasState, IsCounting, NobodyMarks, page_at, SweepsAt}
-use Rattle.gh_world.specs.HoldVocabulary.{PassedBefore, State, StateGood, SweepingAll}
-use Rattle.gh_world.proofs.Vocabulary.{acks_of, Answer, Arena, arena, Ask, by, cell_of, Coordinating, CoordStage, CycleEnd, effect, END, ended_in, EndedSo, Entry, Heap, HoldsAt, IsAsItShould, IsHeapOf, IsInCycle, IsLed, IsSweeping, Layout, Legal, MarksNothing, nat_tests, Op, option_to_list, Pacing, Processor, processor_at, Right, Row, seats_of, Shape, Stopped, Sweep, SweepAllStage, SweepsAll, those, uncounted, view, Words, words}
-use Rattle.gh_world.proofs.AllActors.Going.{keeps_last, NotAcks}
+use Rattle.gh_sweep.specs.Running.{on_from}
+use Rattle.gh_world.specs.Handshake.{Sound as ActorSound}
+use Rattle.gh_world.specs.ActorsHold.{NobodyMarks, page_at, Walks}
+use Rattle.gh_world.specs.HoldVocabulary.{PassedBefore, State, SweepingAll}
+use Rattle.gh_world.specs.Sweepers.{IsInSweep, sweep_of}
+use Rattle.gh_world.proofs.Vocabulary.{acks_of, actors_after, Answer, Arena, arena, Ask, by, cell_of, Coordinating, CoordStage, effect, END, ended_in, Entry, Heap, HoldsAt, IsAsItShould, IsHeapOf, IsLed, IsSweeping, Layout, Legal, Load, MarksNothing, nat_tests, Op, option_to_list, Pacing, Processor, processor_at, Right, Shape, Stopped, Sweep, SweepAllStage, those, view, Words, words}
+use Rattle.gh_world.proofs.AllActors.Aside as aside_of
+use Rattle.gh_world.proofs.AllActors.Aside.{beside_of, IsOfSpans, Lands, loads_only, TellsNothing}
+use Rattle.gh_world.proofs.AllActors.Going.{NotAcks}
 use Rattle.gh_world.proofs.AllActors.Known.{Known, ListsKnown}
-use Rattle.gh_world.proofs.AllActors.LeadingSeat.{asked_at, busy, from, goes_at as goes_by, led_then, parked}
-use Rattle.gh_world.proofs.AllActors.LeadingSweep.{good_then, IsOfSpans, lands, loaded, rows, RowsStay, spans_only, stay, stepped, with_spans}
+use Rattle.gh_world.proofs.AllActors.LeadingAside.{goes_on, IsBehind}
+use Rattle.gh_world.proofs.AllActors.LeadingSeat.{asked_at, busy, from, parked, sweeps_before, sweeps_then}
+use Rattle.gh_world.proofs.AllActors.LeadingSweep.{awaited, loaded, stepped}
 use Rattle.gh_world.proofs.AllActors.Resting.{answers_stay, ever_stays, given_stay, own_stay, state_stays}
+use Rattle.gh_world.proofs.AllActors.SinceEnd.{quiet_keeps_end, sweep_keeps_end}
+use Rattle.gh_world.proofs.AllActors.Sweepers as sweepers
 
 -- the heap with other words
 abbrev pub with_words : Heap → Words → Heap
@@ -28,45 +34,7 @@ module _ (shapes : List Shape) (l : Layout) (pacing : Pacing) (may : ℕ → Lis
   abbrev z : Arena
   z = arena shapes l pacing may
 
-  -- Once all are swept.
-  module _ (es : List (Entry Op)) (d : Coordinating) (x : SweepingAll) (is : x.stage ≡ all.Ended) (s : IsSweeping shapes l pacing may es d x) where
-    abbrev here : State
-    here = s.has.state
-
-    passed : PassedBefore here l.pages
-    passed = subst (PassedBefore here) (ap (λ (y : Layout). y.pages) s.has.good.layout) (subst (λ (q : SweepAllStage). PassedBefore here (page_at (acks_of l) here q)) is s.sweeps.passed)
-
-    swept : AreSwept here
-    swept = known.walkers.all z here s.has.good passed
-
-    told : AllIsTold here
-    told = known.swept z here s.has.good s.over swept
-
-    pub counts : IsCounting shapes l pacing may es d counting.LoadTally
-    counts = (
-      record { has = s.has; over = s.over; swept = passed; nobody = s.nobody },
-      record {
-        cycle = s.cycle;
-        ended = s.ended;
-        left = λ n made placed. s.as_it_ended.since (here.heap.place n) (told.objects (here.heap.place n) placed.set);
-        told = known.told z here s.has.good s.over swept s.as_it_ended;
-      },
-      tt,
-    )
-
-  -- The entry of the coordinator leaves the cycle as it is.
   module _ (e : Entry Op) (es : List (Entry Op)) (legal : Legal (those shapes l pacing may) (e ∷ es)) (ge : l.procs ≤ e.actor) where
-    pub in_cycle_on : (c : Coordinating) → IsLed shapes l pacing may es c → e.actor ≡ acks_of l → NotAcks c.stage → (k : ℕ) → IsInCycle shapes l pacing may es k → IsInCycle shapes l pacing may (e ∷ es) k
-    in_cycle_on c led by_it other k i = record { begun = i.begun; start = inr i.start; begins = i.begins; last = λ d led_d is. ever_stays shapes l pacing may known.points e es legal ge ∙ i.last c led (last_so d led_d is) } where
-      last_so : (d : Coordinating) → IsLed shapes l pacing may (e ∷ es) d → d.is_last ≡ true → c.is_last ≡ true
-      last_so d led_d is =
-          let then : IsLed shapes l pacing may (e ∷ es) (coord.goes_at (coord.counted c) c.stage e.found) = subst (IsLed shapes l pacing may (e ∷ es)) (goes_by shapes l pacing may known lists e es legal c led by_it c.stage refl) (led_then shapes l pacing may known lists e es legal c led by_it) in
-          let one : coord.goes_at (coord.counted c) c.stage e.found ≡ d = (let both = sym then ∙ led_d in cc) in
-          sym (keeps_last (coord.counted c) c.stage e.found other) ∙ (ap (λ (x : Coordinating). x.is_last) one ∙ is)
-
-    pub ended_on : ((i : ℕ) → words shapes l pacing may (e ∷ es) (cell.Birth i) ≡ words shapes l pacing may es (cell.Birth i)) → (k : ℕ) (end : CycleEnd) → EndedSo shapes l pacing may es k end → EndedSo shapes l pacing may (e ∷ es) k end
-    ended_on births k end x = record { ended = x.ended; start = inr x.start; ends = x.ends; alloc = x.alloc; marks = x.marks; births = λ i. births i ∙ x.births i; ever_is = ever_stays shapes l pacing may known.points e es legal ge ∙ x.ever_is }
-
     pub apart : (a : ℕ) → a < l.procs → (e.actor == a) ≡ false
     apart a lt = go (e.actor == a) refl where
       go : (b : Bool) → (e.actor == a) ≡ b → (e.actor == a) ≡ false
@@ -137,6 +105,17 @@ module _ (shapes : List Shape) (l : Layout) (pacing : Pacing) (may : ℕ → Lis
       globals = λ i le. (ap (λ (x : Words). x (cell.Global i)) words_are ∙ only.global h.words i) ∙ of.globals i le;
     }
 
+  -- What holds while it is swept, as what is behind its page and the walk.
+
+  abbrev pub Behind : List (Entry Op) → Coordinating → ℕ → Type 0
+  Behind es c page = IsBehind shapes l pacing may known lists es c page
+
+  abbrev pub behind_of : (es : List (Entry Op)) (c : Coordinating) (w : SweepingAll) (s : IsSweeping shapes l pacing may es c w) → Behind es c (page_at s.has.state w.stage)
+  behind_of es c w s = record { off = record { has = s.has; over = s.over; passed = s.walks.passed; nobody = s.nobody }; behind = s.behind }
+
+  abbrev pub sweeping_of : (es : List (Entry Op)) (c : Coordinating) (w : SweepingAll) (page : ℕ) (b : Behind es c page) → Walks b.off.has.state w → IsSweeping shapes l pacing may es c w
+  sweeping_of es c w page b walks = record { has = b.off.has; over = b.off.over; walks = walks; behind = b.behind; nobody = b.off.nobody }
+
   -- The entry.
   module _ (e : Entry Op) (es : List (Entry Op)) (legal : Legal (those shapes l pacing may) (e ∷ es)) (c : Coordinating) (led : IsLed shapes l pacing may es c) (by_it : e.actor ≡ acks_of l) (w : SweepingAll) (is : c.stage ≡ Sweep w) (s : IsSweeping shapes l pacing may es c w) where
     abbrev u : Coordinating
@@ -148,50 +127,23 @@ module _ (shapes : List Shape) (l : Layout) (pacing : Pacing) (may : ℕ → Lis
     abbrev now : State
     now = s.has.state
 
-    -- as the sweep reads it: no cycle is under way
-    abbrev spans : Spans
-    spans = sweep_over now now.heap.words
+    abbrev page : ℕ
+    page = page_at now w.stage
 
-    seat_from : l.procs ≤ e.actor
+    abbrev before : Behind es c page
+    before = behind_of es c w s
+
+    abbrev seat_from : l.procs ≤ e.actor
     seat_from = from shapes l pacing may known lists e es legal c led by_it
 
-    stopped : leading.post_at c.stage ≡ Stopped run.Mark
-    stopped = ap leading.post_at is
+    other : NotAcks c.stage
+    other = subst NotAcks (sym is) tt
 
-    seat : acks_of l < seats_of z.layout
-    seat = omega arith
+    abbrev Step : Type 0
+    Step = Lands shapes l pacing may known e es legal seat_from s.has
 
     abbrev Still : SweepingAll → Type 0
     Still x = (d : Coordinating) → d.begun ≡ c.begun → IsSweeping shapes l pacing may (e ∷ es) d x
-
-    -- behind a step that leaves these rows of the sweep
-    module _ (t : Spans) (words_are : t.words ≡ effect now.heap.words e.ask) (only : IsOfSpans e.ask) (good : StateGood z (with_spans now t)) (rows_stay : RowsStay spans t) where
-      same_processor : (a : ℕ) → a < l.procs → uncounted (processor_at shapes l pacing may es a).task ≡ uncounted (processor_at shapes l pacing may (e ∷ es) a).task
-      same_processor a lt = ap (λ (m : Processor). uncounted m.task) (sym (state_stays shapes l pacing may e es a (apart e es legal seat_from a lt)))
-
-      abbrev has : HasState shapes l pacing may (e ∷ es)
-      has = record {
-        state = with_spans now t;
-        of_list = heap_on e es legal c led by_it stopped now.heap s.has.of_list t.words words_are only;
-        good = good;
-        placing = λ a lt. ap (λ (r : Row). r a) rows_stay.pend ∙ (s.has.placing a lt ∙ same_processor a lt);
-        others_place = λ a le. ap (λ (r : Row). r a) rows_stay.pend ∙ s.has.others_place a le;
-      }
-
-      goes_on : (x : SweepingAll) → SweepsAll (acks_of l) (with_spans now t) x → Still x
-      goes_on x sweeps d same = record {
-        has = has;
-        over = s.over;
-        sweeps = sweeps;
-        as_it_ended = record {
-          none_freed = s.as_it_ended.none_freed;
-          slots = λ i. ap (λ (r : Row). r i) rows_stay.slot ∙ s.as_it_ended.slots i;
-          since = λ i y. s.as_it_ended.since i (sym (ap (λ (r : ℕ → Bool). r i) rows_stay.since) ∙ y);
-        };
-        cycle = subst (IsInCycle shapes l pacing may (e ∷ es)) (sym same) (in_cycle_on e es legal seat_from c led by_it (subst NotAcks (sym is) tt) c.begun s.cycle);
-        ended = subst (λ (k : ℕ). EndedSo shapes l pacing may (e ∷ es) k now.end) (sym same) (ended_on e es legal seat_from (λ i. only.birth (words shapes l pacing may es) i) c.begun now.end s.ended);
-        nobody = nobody_on e es legal c led by_it stopped now.heap s.has.of_list t.words words_are only (c.begun + 1) (d.begun + 1) (ap (λ (k : ℕ). k + 1) same) s.nobody;
-      }
 
     asks_so : (p : SweepAllStage) → w.stage ≡ p → e.ask ≡ over.asks_at w p
     asks_so p x = asked_at shapes l pacing may known lists e es legal c led by_it (Sweep w) is ∙ ap (over.asks_at w) x
@@ -201,43 +153,111 @@ module _ (shapes : List Shape) (l : Layout) (pacing : Pacing) (may : ℕ → Lis
         let here : e.found ≡ words shapes l pacing may es (cell_of e.ask) = legal.1.found in
         (here ∙ ap (λ (y : Words). y (cell_of e.ask)) (sym s.has.of_list.words_are)) ∙ ap (λ (q : Ask). now.heap.words (cell_of q)) (asks_so p x)
 
-    loads_page : (page : ℕ) → w.stage ≡ all.LoadPage page → Still (over.goes_at w (all.LoadPage page) e.found)
-    loads_page page x = goes_on spans (sym (ap (effect now.heap.words) (asks_so (all.LoadPage page) x))) (subst IsOfSpans (sym (asks_so (all.LoadPage page) x)) (record { scanned = λ y i. refl; birth = λ y i. refl; global = λ y i. refl; buffer = λ y i. refl })) s.has.good (record { slot = refl; since = refl; pend = refl }) _
-        (loaded z (acks_of l) known w now s.has.good s.over s.sweeps page x e.found (found_so (all.LoadPage page) x))
+    -- the sweep that it runs
+    swept_before : (p : SweepAllStage) → w.stage ≡ p → sweep_of (actors_after z pacing may es e.actor) ≡ over.sweep_at p
+    swept_before p x = sweeps_before shapes l pacing may known lists e es legal c led by_it (Sweep w) is ∙ ap over.sweep_at x
 
-    module _ (page : ℕ) (m : sweep.Sweeping) (x : w.stage ≡ all.Sweep page m) where
+    swept_in : (p : SweepAllStage) → w.stage ≡ p → coord.sweep_in c ≡ over.sweep_at p
+    swept_in p x = ap coord.sweep_at is ∙ ap over.sweep_at x
+
+    swept_then : sweep_of (actors_after z pacing may (e ∷ es) e.actor) ≡ coord.sweep_in (coord.goes c e.found)
+    swept_then = sweeps_then shapes l pacing may known lists e es legal c led by_it c.stage refl
+
+    sound : (c.layout ≡ l) × leading.Sound c
+    sound = subst (ActorSound l) led ((lists.keeps es legal.0).shakes.all_sound (acks_of l) (omega arith))
+
+    generation : c.generation ≡ now.heap.words cell.Gen
+    generation =
+        let own : w.generation ≡ c.generation = (subst (leading.SoundAt c) is sound.1.1).1 in
+        sym own ∙ (s.walks.generation_is ∙ sym s.has.good.sweep.generation)
+
+    -- A load: the sweep of a span may begin with it.
+    module _ (at : ℕ) (asks : e.ask ≡ Load (cell.Page at)) (none : sweep_of (actors_after z pacing may es e.actor) ≡ None) (runs_none : coord.sweep_in c ≡ None) where
+      tells : TellsNothing e.ask
+      tells = subst TellsNothing (sym asks) (loads_only _)
+
+      abbrev loaded_state : State
+      loaded_state = aside_of.quiet_state shapes l pacing may known e es legal seat_from s.has none (beside_of e.ask tells.aside) (λ over. tells)
+
+      same_words : (x : _) → loaded_state.heap.words x ≡ now.heap.words x
+      same_words x = ap (λ (q : Ask). effect now.heap.words q x) asks
+
+      begins_then : IsInSweep e.actor loaded_state (sweep_of (actors_after z pacing may (e ∷ es) e.actor))
+      begins_then = sweepers.begins_or_rests known z e.actor loaded_state
+          (aside_of.quiet_good shapes l pacing may known e es legal seat_from s.has none (beside_of e.ask tells.aside) (λ over. tells))
+          (aside_of.quiet_rests shapes l pacing may known e es legal seat_from s.has none (beside_of e.ask tells.aside) (λ over. tells))
+          c.layout c.generation (coord.asks c) e.found (sweep_of (actors_after z pacing may (e ∷ es) e.actor))
+          (sound.0 ∙ sym s.has.good.layout)
+          (generation ∙ sym (same_words cell.Gen))
+          (legal.1.found ∙ (ap (λ (y : Words). y (cell_of e.ask)) (sym s.has.of_list.words_are) ∙ (sym (same_words (cell_of e.ask)) ∙ ap (λ (q : Ask). loaded_state.heap.words (cell_of q)) (asked_at shapes l pacing may known lists e es legal c led by_it c.stage refl))))
+          (λ m same. known.coordinator_sweeps.begins c e.found m sound.1 runs_none (sym swept_then ∙ same))
+
+      abbrev load : Step
+      load = aside_of.by_quiet shapes l pacing may known e es legal seat_from s.has none (beside_of e.ask tells.aside) (λ over. tells) begins_then
+
+      abbrev loads_on : (d : Coordinating) → d.begun ≡ c.begun → Behind (e ∷ es) d page
+      loads_on d same = goes_on shapes l pacing may known lists e es legal c led by_it other page before load (tells.aside.buffer now.heap.words) (quiet_keeps_end z e.actor now e.ask) d same
+
+      -- the walk behind it
+      walks_then : (x : SweepingAll) → Walks now x → Walks loaded_state x
+      walks_then x y = subst (λ (q : Ask). Walks (state.moved z e.actor now (state.Deed (Quiet q))) x) (sym asks) (record { layout_is = y.layout_is; generation_is = y.generation_is; passed = y.passed; stage_is = y.stage_is })
+
+      loads_still : (x : SweepingAll) → Walks now x → Still x
+      loads_still x y d same = record { has = aside_of.has_then shapes l pacing may known e es legal seat_from s.has load; over = (loads_on d same).off.over; walks = walks_then x y; behind = (loads_on d same).behind; nobody = (loads_on d same).off.nobody }
+
+    -- A step of the sweep that it runs.
+    module _ (at : ℕ) (m : sweep.Sweeping) (x : w.stage ≡ all.Sweep at m) where
       asks_m : e.ask ≡ sweep.asks m
-      asks_m = asks_so (all.Sweep page m) x
+      asks_m = asks_so (all.Sweep at m) x
 
-      found_m : e.found ≡ now.heap.words (cell_of (sweep.asks m))
-      found_m = found_so (all.Sweep page m) x
+      runs_m : IsInSweep e.actor now (Some m)
+      runs_m = subst (IsInSweep e.actor now) (swept_before (all.Sweep at m) x) (s.has.sweeps e.actor legal.1.actor)
 
-      abbrev after : Spans
-      after = rows z (acks_of l) known w now s.has.good s.over s.sweeps page m x seat e.found found_m
+      then_m : sweep_of (actors_after z pacing may (e ∷ es) e.actor) ≡ on_from m e.found
+      then_m = swept_then ∙ (known.coordinator_sweeps.on c m (swept_in (all.Sweep at m) x) runs_m.1).goes_so e.found
 
-      words_so : after.words ≡ effect now.heap.words e.ask
-      words_so = (lands z (acks_of l) known w now s.has.good s.over s.sweeps page m x seat e.found found_m).words_are ∙ ap (effect now.heap.words) (sym asks_m)
+      abbrev step : Step
+      step = aside_of.by_sweep shapes l pacing may known e es legal seat_from s.has m (swept_before (all.Sweep at m) x) asks_m then_m
 
-      sweeps_span : Still (over.goes_at w (all.Sweep page m) e.found)
-      sweeps_span = goes_on after words_so (subst IsOfSpans (sym asks_m) (spans_only m m.stage)) (good_then z (acks_of l) known w now s.has.good s.over s.sweeps page m x seat e.found found_m) (stay z (acks_of l) known w now s.has.good s.over s.sweeps page m x seat e.found found_m) _
-          (stepped z (acks_of l) known w now s.has.good s.over s.sweeps page m x seat e.found found_m)
+      abbrev sweeps_on : (d : Coordinating) → d.begun ≡ c.begun → Behind (e ∷ es) d page
+      sweeps_on d same = goes_on shapes l pacing may known lists e es legal c led by_it other page before step
+          (aside_of.sweep_buffers shapes l pacing may known e es legal seat_from s.has m (swept_before (all.Sweep at m) x) asks_m then_m)
+          (sweep_keeps_end z e.actor now _ step.allowed.of_sweep) d same
 
-    goes_so : (p : SweepAllStage) → w.stage ≡ p → over.is_busy p ≡ true → SweepsAt (acks_of l) now p → Still (over.goes_at w p e.found)
-    goes_so (all.LoadPage page) x b at = loads_page page x
-    goes_so (all.Sweep page m) x b at = sweeps_span page m x
-    goes_so (all.Await page) x b at = absurd at
-    goes_so all.Ended x b at = absurd cc
+      walks_m : Walks (state.moved z e.actor now step.move) (over.goes_at w (all.Sweep at m) e.found)
+      walks_m = stepped z known w now s.has.good s.walks e.actor at m x runs_m.0 runs_m.1 e.found (found_so (all.Sweep at m) x) step.allowed
+
+      sweeps_still : Still (over.goes_at w (all.Sweep at m) e.found)
+      sweeps_still d same = record { has = aside_of.has_then shapes l pacing may known e es legal seat_from s.has step; over = (sweeps_on d same).off.over; walks = walks_m; behind = (sweeps_on d same).behind; nobody = (sweeps_on d same).off.nobody }
+
+    goes_so : (p : SweepAllStage) → w.stage ≡ p → over.is_busy p ≡ true → Still (over.goes_at w p e.found)
+    goes_so (all.LoadPage at) x b = loads_still at (asks_so (all.LoadPage at) x) (swept_before (all.LoadPage at) x) (swept_in (all.LoadPage at) x) _ (loaded z known w now s.has.good s.walks at e.found (found_so (all.LoadPage at) x) x)
+    goes_so (all.Sweep at m) x b = sweeps_still at m x
+    goes_so (all.Await at) x b = loads_still at (asks_so (all.Await at) x) (swept_before (all.Await at) x) (swept_in (all.Await at) x) _ (awaited z known w now s.has.good s.walks at e.found (found_so (all.Await at) x) x)
+    goes_so all.Ended x b = absurd cc
 
     abbrev After : SweepingAll → SweepAllStage → Coordinating
     After x p = coord.after_sweep (coord.at_stage u (Sweep x)) (over.given_at p)
 
+    -- all pages are passed: it goes on to count
+    counts : (x : SweepingAll) → x.stage ≡ all.Ended → Still x → To (After x all.Ended)
+    counts x at still =
+        let k : IsSweeping shapes l pacing may (e ∷ es) c x = still c refl in
+        let passed : PassedBefore k.has.state k.has.state.end.layout.pages = subst (λ (q : SweepAllStage). PassedBefore k.has.state (page_at k.has.state q)) at k.walks.passed in
+        record {
+          quiet = record { has = k.has; over = k.over; passed = subst (PassedBefore k.has.state) (ap (λ (y : Layout). y.pages) k.has.good.layout) passed; nobody = k.nobody };
+          behind = k.behind;
+          read = tt;
+        }
+
     finish : (x : SweepingAll) (p : SweepAllStage) → x.stage ≡ p → Still x → To (After x p)
-    finish x (all.LoadPage page) at still = still _ refl
-    finish x all.Ended at still = counts (e ∷ es) (After x all.Ended) x at (still _ refl)
-    finish x _ at still = still _ refl
+    finish x all.Ended at still = counts x at still
+    finish x (all.LoadPage i) at still = still _ refl
+    finish x (all.Sweep i m) at still = still _ refl
+    finish x (all.Await i) at still = still _ refl
 
     busy_so : over.is_busy w.stage ≡ true
     busy_so = subst (λ (p : CoordStage). coord.is_busy p ≡ true) is (busy shapes l pacing may known lists e es legal c led by_it)
 
     pub sweeps : To (coord.goes_at u (Sweep w) e.found)
-    sweeps = finish (over.goes w e.found) (over.goes w e.found).stage refl (goes_so w.stage refl busy_so s.sweeps.stage_is)
+    sweeps = finish (over.goes w e.found) (over.goes w e.found).stage refl (goes_so w.stage refl busy_so)

@@ -9,7 +9,7 @@ use Rattle.gh_world.proofs.AllActors.LeadingEnds.{ends_marked}
 use Rattle.gh_world.proofs.AllActors.LeadingLast.{marked_were}
 use Rattle.gh_world.proofs.AllActors.LeadingNumbers.{fresh}
 use Rattle.gh_world.proofs.AllActors.LeadingSeat.{from}
-use Rattle.gh_world.proofs.AllActors.LeadingTold.{Just, just_at, told_then}
+use Rattle.gh_world.proofs.AllActors.LeadingTold.{Told, told_at, told_then}
 use Rattle.gh_world.proofs.AllActors.Others.{no_full}
 use Rattle.gh_world.proofs.AllActors.Starts.{ends_on, Frees, frees_on, whole}
 
@@ -30,7 +30,7 @@ module _ (shapes : List Shape) (l : Layout) (pacing : Pacing) (may : ℕ → Lis
     one_led d x = let both = sym x ∙ led in cc
 
     -- where the cycle is told, what stands then was marked where it ended, so it was reached where it began, or made since
-    module _ (before : EndsAllMarked shapes l pacing may es) (j : Just shapes l pacing may known lists (e ∷ es) c) (begun : List (Entry Op)) (start : IsStartOf begun es) (begins : BeginsCycle shapes l pacing may c.begun begun) (step : IsStepIn shapes l pacing may IsTelling c.begun e es) where
+    module _ (before : EndsAllMarked shapes l pacing may es) (j : Told shapes l pacing may known lists (e ∷ es) c) (begun : List (Entry Op)) (start : IsStartOf begun es) (begins : BeginsCycle shapes l pacing may c.begun begun) (step : IsStepIn shapes l pacing may IsTelling c.begun e es) where
       both_led : (d f : Coordinating) → IsLed shapes l pacing may es d → IsLed shapes l pacing may es f → d ≡ f
       both_led d f x y = let both = sym x ∙ y in cc
 
@@ -38,21 +38,21 @@ module _ (shapes : List Shape) (l : Layout) (pacing : Pacing) (may : ℕ → Lis
       no_ending = ends_on shapes l pacing may e es (λ k x. absurd (not_ending step.lead.stage (subst (λ (d : Coordinating). IsEnding d.stage) (both_led x.lead step.lead x.led step.led) x.stage) step.stage)) before
 
       frees_them : Frees shapes l pacing may begun (e ∷ es)
-      frees_them n made unreached b placed_then = unreached (marked_were shapes l pacing may limits known lists (e ∷ es) legal c.begun j.0.has j.1.ended j.1.left no_ending begun (inr start) begins n made b placed_then)
+      frees_them n made unreached b placed_then = unreached (marked_were shapes l pacing may limits known lists (e ∷ es) legal c j no_ending begun (inr start) begins n made b placed_then)
 
-    just_then : (p : CoordStage) → c.stage ≡ p → IsTelling p → Just shapes l pacing may known lists (e ∷ es) c
-    just_then (Tell t) is x = told_then shapes l pacing may known lists e es legal c led by t is (just_at shapes l pacing may known lists es c t.stage (subst (HoldsAt shapes l pacing may es c) is at))
-    just_then _ is x = absurd x
+    told_now : (p : CoordStage) → c.stage ≡ p → IsTelling p → Told shapes l pacing may known lists (e ∷ es) c
+    told_now (Tell t) is x = told_then shapes l pacing may known lists e es legal c led by t is (told_at shapes l pacing may known lists es c t.stage (subst (HoldsAt shapes l pacing may es c) is at))
+    told_now _ is x = absurd x
 
     frees_now : EndsAllMarked shapes l pacing may es → (k : ℕ) (begun : List (Entry Op)) → IsStartOf begun es → BeginsCycle shapes l pacing may k begun → IsStepIn shapes l pacing may IsTelling k e es → Frees shapes l pacing may begun (e ∷ es)
     frees_now before k begun start begins step =
         let same : step.lead ≡ c = one_led step.lead step.led in
         let number : c.begun ≡ k = sym (ap (λ (d : Coordinating). d.begun) same) ∙ step.cycle in
         let telling_it : IsTelling c.stage = subst (λ (d : Coordinating). IsTelling d.stage) same step.stage in
-        frees_them before (just_then c.stage refl telling_it) begun start (subst (λ (i : ℕ). BeginsCycle shapes l pacing may i begun) (sym number) begins) (record { lead = step.lead; led = step.led; by = step.by; stage = step.stage; cycle = step.cycle ∙ sym number })
+        frees_them before (told_now c.stage refl telling_it) begun start (subst (λ (i : ℕ). BeginsCycle shapes l pacing may i begun) (sym number) begins) (record { lead = step.lead; led = step.led; by = step.by; stage = step.stage; cycle = step.cycle ∙ sym number })
 
     ends_at : (p : CoordStage) → c.stage ≡ p → IsEnding p → EndsMarked shapes l pacing may es c
-    ends_at (Close y) is x = ends_marked shapes l pacing may good limits known lists es legal.0 c led y is (subst leading.Marks (sym is) (ap close.is_busy x)) (was es c (whole es) led (subst leading.Marks (sym is) (ap close.is_busy x)))
+    ends_at (Close y) is x = ends_marked shapes l pacing may good limits known lists es legal.0 c led y is (subst leading.Marks (sym is) (ap close.is_marking x)) (was es c (whole es) led (subst leading.Marks (sym is) (ap close.is_marking x)))
     ends_at _ is x = absurd x
 
     ends_now : (k : ℕ) (step : IsStepIn shapes l pacing may IsEnding k e es) → EndsMarked shapes l pacing may es step.lead

@@ -1,18 +1,22 @@
 -- After every legal list of all actors all stands: while a cycle is marked there is a state of marking, and what is said of the heap goes with it.
-use Rattle.std.proofs.Common.{ℕ, List, subst}
+use Rattle.std.proofs.Common.{◌≡◌, ℕ, List, subst}
 use Rattle.gh_coord.specs.declared.coord.CoordStage.{CoordStage}
-use Rattle.gh_coord.specs.declared.coord.CoordStage.TheVariants.{Tell}
+use Rattle.gh_coord.specs.declared.coord.CoordStage.TheVariants.{Done, Tell}
 use Rattle.gh_coord.specs.declared.tell.TellStage.{TellStage}
 use Rattle.gh_coord.specs.Handshake as leading
 use Rattle.gh_marks.specs.Laws.{MarkingEndsClean, WhatIsFoundIsDone}
-use Rattle.gh_world.specs.Actors.{AllStands, IsTelling, may_of}
+use Rattle.gh_world.specs.Actors.{AllStands, IsTelling, LeavesTheReached, may_of}
 use Rattle.gh_world.specs.ActorsHold.{HasState, Holds, HoldsAt, IsInCycle, IsTelling as IsTold}
-use Rattle.gh_world.specs.HoldVocabulary.{Coordinating, Entry, IsInLimits, IsStartOf, Layout, Op, Pacing, Shape, ShapesAreGood}
+use Rattle.gh_world.specs.HoldVocabulary.{Coordinating, Entry, IsInLimits, IsStartOf, Layout, Op, Pacing, Shape, ShapesAreGood, words}
 use Rattle.gh_world.specs.Handshake.{those}
+use Rattle.gh_world.specs.Spans.{SpansStand}
 use Rattle.gh_world.proofs.AllActors.Starts.{legal_start}
 use Rattle.gh_world.proofs.AllActors.Asked.{all_asked, all_opened}
+use Rattle.gh_world.proofs.AllActors.ForTypes.{for_types}
 use Rattle.gh_world.proofs.AllActors.Going.{goes_then, led_then}
 use Rattle.gh_world.proofs.AllActors.Known.{Known, ListsKnown}
+use Rattle.gh_world.proofs.AllActors.LeadingLast.{left_now}
+use Rattle.gh_world.proofs.AllActors.OwnedSpans.{one_of_each, owners_stand}
 use Rattle.gh_world.proofs.AllActors.Phases.{phases_stand}
 use Rattle.gh_world.proofs.AllActors.Saying.{all_stands, has_at, Marked}
 use Rattle.gh_world.proofs.AllActors.Scans.{scans_once}
@@ -21,6 +25,7 @@ use Rattle.gh_world.proofs.AllActors.SweepMarks.{sweeps_stand}
 use Rattle.gh_world.proofs.AllActors.Top as top
 use Rattle.gh_world.proofs.AllActors.Until.{so_far, until}
 use Rattle.gh_world.proofs.AllActors.Wanted.{Wanted}
+use Rattle.gh_world.proofs.AllActors.WithinTwo.{within_two}
 use Rattle.gh_world.proofs.Awaited.Swept.{InCycles}
 use Rattle.gh_world.proofs.Awaited.Waited.{awaits}
 use Rattle.gh_world.proofs.CycleMarking.Lists.{marks_to_the_end}
@@ -54,11 +59,22 @@ module _ (shapes : List Shape) (l : Layout) (pacing : Pacing) (counts : ℕ → 
 
   -- where the coordinator tells that a cycle is swept, it has begun
   cycle_at : (es : List (Entry Op)) (c : Coordinating) (p : CoordStage) → IsTelling p → HoldsAt shapes l pacing (may_of shapes l counts) es c p → IsInCycle shapes l pacing (may_of shapes l counts) es c.begun
-  cycle_at es c (Tell t) is h = (subst (λ (s : TellStage). IsTold shapes l pacing (may_of shapes l counts) es c s) is h).1.cycle
+  cycle_at es c (Tell t) is h = (subst (λ (s : TellStage). IsTold shapes l pacing (may_of shapes l counts) es c s) is h).behind.cycle
   cycle_at es c _ is h = absurd is
 
   in_cycles : InCycles shapes l pacing (may_of shapes l counts) known lists
   in_cycles es c legal led telling = cycle_at es c c.stage telling (holds es legal c led).at
+
+  -- and what is left once all is over
+  left : (es : List (Entry Op)) → Lawful es → (c : Coordinating) → Led es c → Holds shapes l pacing (may_of shapes l counts) es c → c.stage ≡ Done → LeavesTheReached shapes l pacing (may_of shapes l counts) es c
+  left es legal c led h is = left_now shapes l pacing (may_of shapes l counts) limits known lists es legal c led is (subst (HoldsAt shapes l pacing (may_of shapes l counts) es c) is h.at) h.was.ends
+
+  spans_stand : (es : List (Entry Op)) → Lawful es → SpansStand shapes l (words shapes l pacing (may_of shapes l counts) es)
+  spans_stand es legal = record {
+    types = for_types shapes l pacing counts good limits known wanted lists has es legal;
+    owners = owners_stand shapes l pacing (may_of shapes l counts) es (has es legal);
+    owned = one_of_each shapes l pacing (may_of shapes l counts) es (has es legal);
+  }
 
   pub list_stands : (es : List (Entry Op)) → Lawful es → AllStands shapes l pacing (may_of shapes l counts) es
   list_stands es legal =
@@ -67,6 +83,8 @@ module _ (shapes : List Shape) (l : Layout) (pacing : Pacing) (counts : ℕ → 
       let marking : leading.Marks x.lead.stage → Marked shapes l pacing (may_of shapes l counts) es x.lead = λ on. marked es x.lead legal x.led_by on in
       let states : (start : List (Entry Op)) → IsStartOf start es → HasState shapes l pacing (may_of shapes l counts) start = λ start of. has start (legal_start (those shapes l pacing (may_of shapes l counts)) start es of legal) in
       all_stands shapes l pacing (may_of shapes l counts) es x.lead limits known x.led_by held marking (awaits shapes l pacing (may_of shapes l counts) known lists in_cycles es legal) (all_asked shapes l pacing (may_of shapes l counts) known.writes known.workers_write lists.keeps lists.wants es legal) (all_opened shapes l pacing (may_of shapes l counts) known.writes known.workers_write lists.keeps lists.wants es legal) (λ d led. lists.plainly es d legal led) (steps_within shapes l pacing counts good limits known es (has es legal))
+      (within_two shapes l pacing counts good limits known wanted lists has in_cycles es legal held.was.frees)
       (until shapes l pacing (may_of shapes l counts) limits known lists es legal states held.was.ends) (λ c led on. so_far shapes l pacing (may_of shapes l counts) limits known lists es legal states c led on (marked es c legal led on))
-      (scans_once shapes l pacing (may_of shapes l counts) known lists has es legal) (sweeps_stand shapes l pacing (may_of shapes l counts) limits known es x.lead x.led_by marking held.at)
+      (scans_once shapes l pacing (may_of shapes l counts) known lists has es legal) (sweeps_stand shapes l pacing (may_of shapes l counts) limits known es x.lead legal x.led_by marking held.at) (spans_stand es legal)
       (phases_stand shapes l pacing (may_of shapes l counts) known lists has holds es legal)
+      (left es legal x.lead x.led_by held)

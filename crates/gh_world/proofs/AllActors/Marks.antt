@@ -1,5 +1,5 @@
 -- While a cycle is marked: what is known of the heap says what is known of its objects, and lasts while workers and the coordinator step.
-use Rattle.std.proofs.Common.{◌≡◌, ◌≢◌, ℕ, Bool, false, cond, refl, sym, ap, subst, ◌∙◌, List}
+use Rattle.std.proofs.Common.{◌≡◌, ◌≢◌, ℕ, Bool, true, false, cond, refl, sym, ap, subst, ◌∙◌, List}
 use Rattle.gh_base.specs.declared.cell.Cell.TheVariants as cell
 use Rattle.gh_heap.specs.Moves.{IsAside as IsAsideCell}
 use Rattle.gh_marks.specs.Knows.{KnowsObjects}
@@ -32,13 +32,20 @@ record IsApart (c : Cell) : Type 0 where
   birth : (i : ℕ) → same_cell c (cell.Birth i) ≡ false
   global : (i : ℕ) → same_cell c (cell.Global i) ≡ false
   scanned : (i : ℕ) → same_cell c (cell.Scanned i) ≡ false
+  tally : same_cell c cell.Tally ≡ false
+  live : same_cell c cell.Live ≡ false
 
 apart_cell : (seat : ℕ) (c : Cell) → IsWritten seat c → IsApart c
-apart_cell seat (cell.Buffer b) is = record { aside = tt; heap = refl; page = λ i. refl; alloc = λ i. refl; birth = λ i. refl; global = λ i. refl; scanned = λ i. refl }
-apart_cell seat (cell.Entry b j) is = record { aside = tt; heap = refl; page = λ i. refl; alloc = λ i. refl; birth = λ i. refl; global = λ i. refl; scanned = λ i. refl }
-apart_cell seat (cell.Mark m) is = record { aside = tt; heap = refl; page = λ i. refl; alloc = λ i. refl; birth = λ i. refl; global = λ i. refl; scanned = λ i. refl }
-apart_cell seat (cell.Ack a) is = record { aside = tt; heap = refl; page = λ i. refl; alloc = λ i. refl; birth = λ i. refl; global = λ i. refl; scanned = λ i. refl }
+apart_cell seat (cell.Buffer b) is = record { aside = tt; heap = refl; page = λ i. refl; alloc = λ i. refl; birth = λ i. refl; global = λ i. refl; scanned = λ i. refl; tally = refl; live = refl }
+apart_cell seat (cell.Entry b j) is = record { aside = tt; heap = refl; page = λ i. refl; alloc = λ i. refl; birth = λ i. refl; global = λ i. refl; scanned = λ i. refl; tally = refl; live = refl }
+apart_cell seat (cell.Mark m) is = record { aside = tt; heap = refl; page = λ i. refl; alloc = λ i. refl; birth = λ i. refl; global = λ i. refl; scanned = λ i. refl; tally = refl; live = refl }
+apart_cell seat (cell.Ack a) is = record { aside = tt; heap = refl; page = λ i. refl; alloc = λ i. refl; birth = λ i. refl; global = λ i. refl; scanned = λ i. refl; tally = refl; live = refl }
 apart_cell seat _ is = absurd is
+
+-- what a sweep counts it leaves
+pub record LeavesCounts (ask : Ask) : Type 0 where
+  pub tally : (w : Words) → effect w ask cell.Tally ≡ w cell.Tally
+  pub live : (w : Words) → effect w ask cell.Live ≡ w cell.Live
 
 -- a load leaves all
 of_marking : (c : Cell) → IsBeside (Load c)
@@ -60,7 +67,7 @@ module _ (one : ChangesOneCell) where
   }
 
   cursor_apart : IsApart cell.Gcur
-  cursor_apart = record { aside = tt; heap = refl; page = λ i. refl; alloc = λ i. refl; birth = λ i. refl; global = λ i. refl; scanned = λ i. refl }
+  cursor_apart = record { aside = tt; heap = refl; page = λ i. refl; alloc = λ i. refl; birth = λ i. refl; global = λ i. refl; scanned = λ i. refl; tally = refl; live = refl }
 
   pub works_beside : (seat : ℕ) (ask : Ask) → WritesItsOwn seat ask → IsBeside ask
   works_beside seat (Load c) is = of_marking c
@@ -69,6 +76,17 @@ module _ (one : ChangesOneCell) where
   works_beside seat (And c x) is = let d = apart_cell seat c is in beside_by (And c x) d.aside d
   works_beside seat (Swap c x y) is = let d = apart_cell seat c is in beside_by (Swap c x y) d.aside d
   works_beside seat (Add c x) is = let d = subst IsApart (sym is.0) cursor_apart in beside_by (Add c x) d.aside d
+
+  counts_by : (ask : Ask) → IsApart (cell_of ask) → LeavesCounts ask
+  counts_by ask is = record { tally = λ w. leaves ask w cell.Tally is.tally; live = λ w. leaves ask w cell.Live is.live }
+
+  pub works_counts : (seat : ℕ) (ask : Ask) → WritesItsOwn seat ask → LeavesCounts ask
+  works_counts seat (Load c) is = record { tally = λ w. refl; live = λ w. refl }
+  works_counts seat (Store c x) is = counts_by (Store c x) (apart_cell seat c is)
+  works_counts seat (Or c x) is = counts_by (Or c x) (apart_cell seat c is)
+  works_counts seat (And c x) is = counts_by (And c x) (apart_cell seat c is)
+  works_counts seat (Swap c x y) is = counts_by (Swap c x y) (apart_cell seat c is)
+  works_counts seat (Add c x) is = counts_by (Add c x) (subst IsApart (sym is.0) cursor_apart)
 
 -- mark words are words behind moves
 pub words_stay : MarksStayWords → (z : Cycle) (a : ℕ) (s t : Marking) → Went z a s t → AreWords (mark_words s.words) → AreWords (mark_words t.words)
@@ -115,6 +133,7 @@ module _ (shapes : List Shape) (l : Layout) (pacing : Pacing) (may : ℕ → Lis
     close_beside c close_stage.LoadBank other = asks_load _
     close_beside c close_stage.ClearBank other = asks_bank
     close_beside c close_stage.StoreGen other = absurd (other refl)
+    close_beside c close_stage.StorePhase other = asks_phase _
     close_beside c close_stage.Ended other = asks_load _
 
     pub marks_beside : (p : CoordStage) → leading.Marks p → StaysMarked p → IsBeside (coord.asks_at s p)
@@ -129,11 +148,44 @@ module _ (shapes : List Shape) (l : Layout) (pacing : Pacing) (may : ℕ → Lis
     begins_beside (Open o) b = opens_beside o o.stage b
     begins_beside _ b = absurd b
 
+    -- and what a sweep counts is left
+
+    opens_counts : (o : opens_by.CycleOpening) (p : OpenStage) → p ≡ open_stage.StorePhase → LeavesCounts (opens_by.asks_at o p)
+    opens_counts o p is = subst (λ (x : OpenStage). LeavesCounts (opens_by.asks_at o x)) (sym is) (record { tally = λ w. refl; live = λ w. refl })
+
+    watch_counts : (w : watch.Watching) (p : WatchStage) → LeavesCounts (watch.asks_at w p)
+    watch_counts w (watch_stage.Look i) = record { tally = λ v. refl; live = λ v. refl }
+    watch_counts w (watch_stage.Ended x) = record { tally = λ v. refl; live = λ v. refl }
+
+    stop_counts : (st : stop.Stopping) (p : StopStage) → LeavesCounts (stop.asks_at st p)
+    stop_counts st stop_stage.StorePhase = record { tally = λ w. refl; live = λ w. refl }
+    stop_counts st (stop_stage.Await i) = record { tally = λ w. refl; live = λ w. refl }
+    stop_counts st stop_stage.Ended = record { tally = λ w. refl; live = λ w. refl }
+
+    close_counts : (c : close.Closing) (p : CloseStage) → LeavesCounts (close.asks_at c p)
+    close_counts c close_stage.LoadBank = record { tally = λ w. refl; live = λ w. refl }
+    close_counts c close_stage.ClearBank = record { tally = λ w. refl; live = λ w. refl }
+    close_counts c close_stage.StoreGen = record { tally = λ w. refl; live = λ w. refl }
+    close_counts c close_stage.StorePhase = record { tally = λ w. refl; live = λ w. refl }
+    close_counts c close_stage.Ended = record { tally = λ w. refl; live = λ w. refl }
+
+    pub marks_counts : (p : CoordStage) → leading.Marks p → LeavesCounts (coord.asks_at s p)
+    marks_counts (Watch w) on = watch_counts w w.stage
+    marks_counts (StopAgain st) on = stop_counts st st.stage
+    marks_counts (Check w) on = watch_counts w w.stage
+    marks_counts MarkOn on = record { tally = λ w. refl; live = λ w. refl }
+    marks_counts (Close c) on = close_counts c c.stage
+    marks_counts _ on = absurd on
+
+    pub begins_counts : (p : CoordStage) → IsBeginning p → LeavesCounts (coord.asks_at s p)
+    begins_counts (Open o) b = opens_counts o o.stage b
+    begins_counts _ b = absurd b
+
     -- where the store of the next sweep generation leads, no cycle is marked
     closes_off : (c : close.Closing) (found : ℕ) (p : CloseStage) → p ≡ close_stage.StoreGen → leading.Marks (coord.after_close (coord.at_stage s (Close (close.goes_at c p found))) (close.given (close.goes_at c p found))).stage → ⊥
     closes_off c found p is on = go (subst (λ (x : CloseStage). leading.Marks (coord.after_close (coord.at_stage s (Close (close.goes_at c x found))) (close.given (close.goes_at c x found))).stage) is on) where
-      go : ⊥ → ⊥
-      go x = x
+      go : false ≡ true → ⊥
+      go x = cc
 
     pub stays_marked : (p : CoordStage) (found : ℕ) → leading.Marks (coord.goes_at s p found).stage → StaysMarked p
     stays_marked (Close c) found on = λ is. closes_off c found c.stage is on

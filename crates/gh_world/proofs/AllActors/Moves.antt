@@ -1,4 +1,4 @@
--- One entry more, where its step is a move over the heap: what is known of all others lasts.
+-- One entry more, whose step leaves to each other seat what the moves of others do: what is known of all others lasts.
 use Rattle.std.proofs.Common.{◌≡◌, ◌≢◌, ◌↔◌, ℕ, ◌<◌, ◌≤◌, ◌==◌, ◌⊎◌, inl, inr, Bool, true, false, refl, sym, ap, subst, ◌∙◌, arith, List, ◌∷◌, ◌++◌, Some, None}
 use Rattle.std.proofs.lemmas.Bool.Decides.{nat_tests}
 use Rattle.std.specs.Option.{option_to_list}
@@ -6,7 +6,7 @@ use Rattle.gh_base.specs.declared.cell.Cell.TheVariants as cell
 use Rattle.gh_base.specs.declared.operation.Op.TheVariants as op
 use Rattle.gh_base.specs.declared.pack.TheConstants.{END}
 use Rattle.gh_base.specs.Lists.{by}
-use Rattle.gh_heap.specs.Moves.{May, Move, moved, Others}
+use Rattle.gh_heap.specs.Moves.{Others}
 use Rattle.gh_world.specs.ActorsHold.{IsAsItShould, IsHeapOf, processor_at}
 use Rattle.gh_world.specs.HoldVocabulary.{Answer, Arena, arena, deeds, ended_in, Entry, ever, Good, Heap, IsBounded, IsOf, Layout, Op, Pacing, Processor, Right, Shape, view, words}
 use Rattle.gh_world.proofs.AllActors.Known.{Known}
@@ -19,12 +19,9 @@ module _ (shapes : List Shape) (l : Layout) (pacing : Pacing) (may : ℕ → Lis
   abbrev z : Arena
   z = arena shapes l pacing may
 
-  module _ (e : Entry Op) (es : List (Entry Op)) (h : Heap) (of : IsHeapOf shapes l pacing may es h) (good : Good z (view h)) (m : Move) (allowed : May z e.actor (view h) m) where
+  module _ (e : Entry Op) (es : List (Entry Op)) (h : Heap) (of : IsHeapOf shapes l pacing may es h) (good : Good z (view h)) (t : Heap) where
     abbrev a : ℕ
     a = e.actor
-
-    abbrev t : Heap
-    t = moved z a h m
 
     -- what has to be said of the entry's own actor, and of the words
     pub record OwnSide : Type 0 where
@@ -37,10 +34,7 @@ module _ (shapes : List Shape) (l : Layout) (pacing : Pacing) (may : ℕ → Lis
       pub own : a < l.procs → IsAsItShould shapes l pacing may (e ∷ es) t a (processor_at shapes l pacing may (e ∷ es) a)
       pub right : l.procs ≤ a → Right a (view t) false (λ p. false) None
 
-    module _ (side : OwnSide) where
-      others_leave : (b : ℕ) → b ≢ a → Others z b (view h) (view t)
-      others_leave b differs = known.leaves z b a h m differs good allowed
-
+    module _ (others_leave : (b : ℕ) → b ≢ a → Others z b (view h) (view t)) (side : OwnSide) where
       apart : (b : ℕ) → (a == b) ≡ false → b ≢ a
       apart b x y = grind (arith, nat_tests)
 

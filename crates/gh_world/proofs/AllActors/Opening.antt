@@ -1,16 +1,19 @@
 -- Before the first step the heap is empty and calm, every processor is at rest, and no cycle was begun.
-use Rattle.std.proofs.Common.{◌≡◌, ℕ, ◌%◌, ◌<◌, Bool, false, List, [], None, refl, sym, subst, ◌∙◌, arith, inl, inr, lit<}
+use Rattle.std.proofs.Common.{◌≡◌, ℕ, ◌%◌, ◌<◌, Bool, true, false, cond, ltb, List, [], None, refl, sym, subst, ◌∙◌, arith, inl, inr, lit<}
 use Rattle.std.proofs.lemmas.Nat.Bits.{bit_at-zero}
 use Rattle.gh_base.specs.declared.value.Name.{Name}
+use Rattle.gh_base.specs.Cells.{seats_of}
 use Rattle.gh_base.specs.Rows.{alloc_words, row_bit}
 use Rattle.gh_coord.specs.Listing as coord
 use Rattle.gh_state.specs.Cycles.{opening}
 use Rattle.gh_model.specs.Ever.{from_field, from_global, from_register, opening_ever}
 use Rattle.gh_mutator.specs.Processor.{opening_processor}
+use Rattle.gh_worker.specs.Listing as worker
 use Rattle.gh_world.specs.declared.handshake.Actor.TheVariants as actor
+use Rattle.gh_world.specs.Sweepers.{IsInSweep, sweep_of}
 use Rattle.gh_world.specs.Actors.{BeginsCycle}
 use Rattle.gh_world.specs.ActorsHold.{Holds, IsAsItShould, IsHeapOf, IsQuiet}
-use Rattle.gh_world.specs.HoldVocabulary.{acks_of, arena, Arena, Coordinating, Entry, Good, Heap, IsLed, Layout, Op, opening_words, Pacing, Reach, Shape, State, view}
+use Rattle.gh_world.specs.HoldVocabulary.{acks_of, actors_after, arena, Arena, Coordinating, Entry, Good, Heap, IsLed, Layout, Op, opening_words, Pacing, Reach, Shape, State, view}
 use Rattle.gh_world.proofs.AllActors.Going.{at_seat}
 use Rattle.gh_world.proofs.AllActors.Known.{Known}
 
@@ -79,6 +82,14 @@ module _ (shapes : List Shape) (l : Layout) (pacing : Pacing) (may : ℕ → Lis
   abbrev s : State
   s = opening z h pacing.trigger
 
+  -- nobody sweeps
+  sweeps : (a : ℕ) → a < seats_of l → IsInSweep a s (sweep_of (actors_after z pacing may [] a))
+  sweeps a below = subst (IsInSweep a s) (sym (none (ltb a l.procs) (ltb a (acks_of l)))) (record { none = λ p is. absurd (cc); told = refl }) where
+    none : (b d : Bool) → sweep_of (cond b (actor.Runs (opening_processor l a)) (cond d (actor.Marks (worker.opening l a)) (actor.Leads (coord.opening l a pacing.gogc pacing.minheap pacing.room)))) ≡ None
+    none true d = known.processors_sweep.at_first l a
+    none false true = known.workers_sweep.at_first l a
+    none false false = known.coordinator_sweeps.at_first l a pacing.gogc pacing.minheap pacing.room
+
   quiet : IsQuiet shapes l pacing may [] first
   quiet = record {
     has = record {
@@ -87,9 +98,10 @@ module _ (shapes : List Shape) (l : Layout) (pacing : Pacing) (may : ℕ → Lis
       good = known.heaps_open z h pacing.trigger good nothing_reached;
       placing = λ a lt. refl;
       others_place = λ a le. refl;
+      sweeps = sweeps;
     };
     over = refl;
-    swept = λ p below. refl;
+    passed = λ p below. refl;
     nobody = record { buffers = λ b. refl; stacks = λ g. inl (omega arith); processors = λ a lt. known.calm.first l a };
   }
 
@@ -102,7 +114,6 @@ module _ (shapes : List Shape) (l : Layout) (pacing : Pacing) (may : ℕ → Lis
       ends = λ e before k of step. absurd (cc);
     };
     counted = λ i y is. absurd (cc);
-    last = λ done. absurd (cc);
   }
 
   is_first : (c : Coordinating) → IsLed shapes l pacing may [] c → first ≡ c

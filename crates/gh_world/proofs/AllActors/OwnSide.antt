@@ -1,4 +1,4 @@
--- A processor's step by its rights: it is a move over the heap, and what is said of the processor, of its stacks and of the globals holds behind it. So it is between two cycles, and while one is marked.
+-- A processor's step, by its rights or of the sweep that it runs: what is said of the processor, of its stacks and of the globals holds behind it. So it is while spans are swept, between two cycles, and while one is marked.
 use Rattle.std.proofs.Common.{◌≡◌, ◌≢◌, ◌↔◌, ℕ, ◌<◌, ◌≤◌, ◌⊎◌, inl, inr, Bool, true, false, cond, refl, sym, ap, subst, ◌∙◌, arith, List, ◌∷◌, ◌++◌, append_assoc, map, slice_index, length, Option, Some, None, eq-eqb}
 use Rattle.std.specs.Prelude.{◌||◌}
 use Rattle.gh_base.specs.declared.cell.Cell.TheVariants as cell
@@ -6,20 +6,23 @@ use Rattle.gh_base.specs.declared.operation.Op.TheVariants as op
 use Rattle.gh_mutator.specs.declared.task.Task.TheVariants as task
 use Rattle.gh_mutator.specs.Deeds.{meaning, pointed}
 use Rattle.gh_mutator.specs.Facts.{answered_at, Does, FactsAt}
-use Rattle.gh_world.specs.HoldVocabulary.{answers_of, given_of, opening_words, PassedBefore}
-use Rattle.gh_world.proofs.Vocabulary.{Act, acted, Actor, actors, acts, Answer, Answered, answered, answered_by, Arena, arena, Ask, asks, begins, by, cell_of, deeds, DeedsFit, DoesPoints, effect, END, ended_in, ends, Entry, Ever, ever, Fine, given_at, gives, Good, has_left_at, has_point, HasState, Heap, InRange, is_busy_at, is_last_task, IsAsItShould, IsBounded, IsHeapOf, IsInLimits, IsOf, IsSound, Kind, Layout, left as left_by, Legal, may_leave, may_of, moved, Op, op_at, option_to_list, Pacing, point_of, Processor, processor_at, processor_kind, Shape, ShapesAreGood, Stands, started, state_of, Steps, takes, Task, TellsScan, those, view, Words, words, ◌%◌}
+use Rattle.gh_state.specs.Moves as state
+use Rattle.gh_world.specs.HoldVocabulary.{answers_of, given_of, opening_words, State}
+use Rattle.gh_world.proofs.Vocabulary.{Act, acted, Actor, actors, acts, Answer, Answered, answered, answered_by, Arena, arena, Ask, asks, begins, by, cell_of, deeds, DeedsFit, effect, END, ended_in, ends, Entry, Ever, ever, Fine, given_at, gives, Good, has_left_at, has_point, HasState, Heap, InRange, is_busy_at, is_last_task, IsAsItShould, IsBounded, IsHeapOf, IsInLimits, IsOf, IsSound, Kind, Layout, left as left_by, Legal, may_leave, may_of, Op, op_at, option_to_list, Pacing, point_of, Processor, processor_at, processor_kind, Shape, ShapesAreGood, Stands, started, state_of, takes, Task, TellsScan, those, view, Words, words, ◌%◌}
 use Rattle.gh_world.proofs.AllActors.Beginning.{or-true}
 use Rattle.gh_world.proofs.AllActors.Endings.{acted_stays, acts_end, end_ends, ended_by, is_end, last_before, last_begun}
 use Rattle.gh_world.proofs.AllActors.Globals.{no_global}
 use Rattle.gh_world.proofs.AllActors.Known.{Known}
+use Rattle.gh_world.proofs.AllActors.Landing as landing
 use Rattle.gh_world.proofs.AllActors.OwnStep as step
 use Rattle.gh_world.proofs.AllActors.Moves.{moves_on, OwnSide}
 use Rattle.gh_world.proofs.AllActors.OwnEntries.{all_ended_at, began_end, or_cases, or_left}
 use Rattle.gh_world.proofs.AllActors.Ranging.{bounded_then, may_parts, unacted_begun}
 use Rattle.gh_world.proofs.AllActors.Refusals.{point_is}
 use Rattle.gh_world.proofs.AllActors.StackWords.{TellsStacks}
+use Rattle.gh_world.proofs.AllActors.Wanted.{Wanted}
 
-module _ (shapes : List Shape) (l : Layout) (pacing : Pacing) (counts : ℕ → ℕ) (good : ShapesAreGood shapes) (limits : IsInLimits l) (known : Known) where
+module _ (shapes : List Shape) (l : Layout) (pacing : Pacing) (counts : ℕ → ℕ) (good : ShapesAreGood shapes) (limits : IsInLimits l) (known : Known) (wanted : Wanted) where
   abbrev may : ℕ → List (Entry Op) → Op → Bool
   may = may_of shapes l counts
 
@@ -32,8 +35,8 @@ module _ (shapes : List Shape) (l : Layout) (pacing : Pacing) (counts : ℕ → 
   abbrev all : Kind Actor Op
   all = actors shapes l pacing
 
-  module _ (e : Entry Op) (es : List (Entry Op)) (legal : Legal (those shapes l pacing may) (e ∷ es)) (lt : e.actor < l.procs) (has : HasState shapes l pacing may es) (swept : PassedBefore has.state l.pages) (tells : TellsStacks has.state.heap.words (started k e.begun (processor_at shapes l pacing may es e.actor))) where
-    -- The heap behind the list, each of whose spans is swept.
+  module _ (e : Entry Op) (es : List (Entry Op)) (legal : Legal (those shapes l pacing may) (e ∷ es)) (lt : e.actor < l.procs) (has : HasState shapes l pacing may es) (land : landing.Lands shapes l pacing counts good limits known wanted e es legal lt has) (tells : TellsStacks has.state.heap.words (started k e.begun (processor_at shapes l pacing may es e.actor))) where
+    -- The heap behind the list.
 
     abbrev h : Heap
     h = has.state.heap
@@ -54,40 +57,40 @@ module _ (shapes : List Shape) (l : Layout) (pacing : Pacing) (counts : ℕ → 
     now = started k e.begun m
 
     abbrev pub is : IsAsItShould shapes l pacing may es h a m
-    is = step.is shapes l pacing counts good limits known e es legal lt has swept
+    is = step.is shapes l pacing counts good limits known e es legal lt has
 
     abbrev pub begins_with : (P : Processor → Type 0) → P m → ((o : Op) → e.begun ≡ Some o → P (k.begins m o)) → P now
-    begins_with = step.begins_with shapes l pacing counts good limits known e es legal lt has swept
+    begins_with = step.begins_with shapes l pacing counts good limits known e es legal lt has
 
     abbrev pub idle : (o : Op) → e.begun ≡ Some o → is_busy_at m.task ≡ false
-    idle = step.idle shapes l pacing counts good limits known e es legal lt has swept
+    idle = step.idle shapes l pacing counts good limits known e es legal lt has
 
     abbrev may_now : (o : Op) → e.begun ≡ Some o → may a (by a es) o ≡ true
-    may_now = step.may_now shapes l pacing counts good limits known e es legal lt has swept
+    may_now = step.may_now shapes l pacing counts good limits known e es legal lt has
 
     abbrev pub sound_now : IsSound now
-    sound_now = step.sound_now shapes l pacing counts good limits known e es legal lt has swept
+    sound_now = step.sound_now shapes l pacing counts good limits known e es legal lt has
 
     abbrev pub fine_now : Fine z a (view h) now is.pending
-    fine_now = step.fine_now shapes l pacing counts good limits known e es legal lt has swept
+    fine_now = step.fine_now shapes l pacing counts good limits known e es legal lt has
 
     abbrev pub busy : is_busy_at now.task ≡ true
-    busy = step.busy shapes l pacing counts good limits known e es legal lt has swept
+    busy = step.busy shapes l pacing counts good limits known e es legal lt has
 
     abbrev pub asked : e.ask ≡ asks now
-    asked = step.asked shapes l pacing counts good limits known e es legal lt has swept
+    asked = step.asked shapes l pacing counts good limits known e es legal lt has
 
     abbrev found : ℕ
     found = h.words (cell_of (asks now))
 
     abbrev pub found_is : e.found ≡ found
-    found_is = step.found_is shapes l pacing counts good limits known e es legal lt has swept
+    found_is = step.found_is shapes l pacing counts good limits known e es legal lt has
 
-    abbrev pub land : Steps z a h (asks now) (λ t. DoesPoints z a h t now is.pending found)
-    land = step.land shapes l pacing counts good limits known e es legal lt has swept
+    abbrev pub state_then : State
+    state_then = state.moved z a has.state land.move
 
     abbrev pub t : Heap
-    t = moved z a h land.move
+    t = state_then.heap
 
     abbrev does : Does z a h t now is.pending found
     does = land.after.does
@@ -323,7 +326,7 @@ module _ (shapes : List Shape) (l : Layout) (pacing : Pacing) (counts : ℕ → 
       left = left;
     }
 
-    pub side : OwnSide shapes l pacing may known e es h of gh land.move land.may
+    pub side : OwnSide shapes l pacing may known e es h of gh t
     side = record {
       words_are = words_are;
       ever_is = ever_is;
@@ -337,4 +340,4 @@ module _ (shapes : List Shape) (l : Layout) (pacing : Pacing) (counts : ℕ → 
 
     -- the heap of the list with the entry
     pub heap_then : IsHeapOf shapes l pacing may (e ∷ es) t
-    heap_then = moves_on shapes l pacing may known e es h of gh land.move land.may side
+    heap_then = moves_on shapes l pacing may known e es h of gh t (landing.others_leave shapes l pacing counts good limits known wanted e es legal lt has land) side

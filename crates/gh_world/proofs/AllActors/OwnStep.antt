@@ -1,9 +1,9 @@
--- One entry more of a processor: what it is with its operation begun, and that its step is a move over the heap that its rights allow.
+-- One entry more of a processor: what it is with its operation begun, and that its step is a move over the heap that its rights allow, or one of the sweep that it runs.
 use Rattle.std.proofs.Common.{◌≡◌, ℕ, ◌<◌, inr, Bool, true, false, refl, sym, ap, subst, ◌∙◌, List, ◌∷◌, Option, Some, None}
 use Rattle.gh_mutator.specs.Facts.{MayBegin}
 use Rattle.gh_world.specs.Handshake.{asks as asks_by}
-use Rattle.gh_world.specs.HoldVocabulary.{PassedBefore}
-use Rattle.gh_world.proofs.Vocabulary.{Actor, actors, Arena, arena, Ask, asks, by, cell_of, DoesPoints, Entry, Fine, Good, HasState, Heap, is_busy_at, IsAsItShould, IsHeapOf, IsInLimits, IsSound, Kind, Layout, Legal, made_by, may_of, moved, Op, Pacing, Processor, processor_at, processor_kind, Shape, ShapesAreGood, started, state_of, Steps, those, view, Words, words}
+use Rattle.gh_mutator.specs.Sweeping.{sweep_in}
+use Rattle.gh_world.proofs.Vocabulary.{Actor, actors, Arena, arena, Ask, asks, by, cell_of, DoesPoints, Entry, Fine, Good, HasState, Heap, is_busy_at, IsAsItShould, IsHeapOf, IsInLimits, IsSound, Kind, Layout, Legal, made_by, may_of, Op, Pacing, Processor, processor_at, processor_kind, Shape, ShapesAreGood, started, state_of, Steps, those, view, Words, words}
 use Rattle.gh_world.proofs.AllActors.Beginning.{may-begin}
 use Rattle.gh_world.proofs.AllActors.Known.{Known}
 use Rattle.gh_world.proofs.AllActors.OwnEntries.{state_by}
@@ -24,8 +24,8 @@ module _ (shapes : List Shape) (l : Layout) (pacing : Pacing) (counts : ℕ → 
   abbrev all : Kind Actor Op
   all = actors shapes l pacing
 
-  module _ (e : Entry Op) (es : List (Entry Op)) (legal : Legal (those shapes l pacing may) (e ∷ es)) (lt : e.actor < l.procs) (has : HasState shapes l pacing may es) (swept : PassedBefore has.state l.pages) where
-    -- The heap behind the list, each of whose spans is swept.
+  module _ (e : Entry Op) (es : List (Entry Op)) (legal : Legal (those shapes l pacing may) (e ∷ es)) (lt : e.actor < l.procs) (has : HasState shapes l pacing may es) where
+    -- The heap behind the list.
 
     abbrev h : Heap
     h = has.state.heap
@@ -90,8 +90,6 @@ module _ (shapes : List Shape) (l : Layout) (pacing : Pacing) (counts : ℕ → 
     pub found_is : e.found ≡ found
     found_is = legal.1.found ∙ (ap (λ (q : Ask). words shapes l pacing may es (cell_of q)) asked ∙ ap (λ (w : Words). w (cell_of (asks now))) (sym of.words_are))
 
-    pub land : Steps z a h (asks now) (λ t. DoesPoints z a h t now is.pending found)
-    land = known.runs.own_step z a h now is.pending good busy gh (λ p g found none. known.walkers.all z has.state has.good swept p g found) fine_now
-
-    abbrev pub t : Heap
-    t = moved z a h land.move
+    -- where it runs no sweep
+    pub land : sweep_in now ≡ None → Steps z a h (asks now) (λ t. DoesPoints z a h t now is.pending found)
+    land none = known.runs.own_step z a h now is.pending good busy gh none fine_now

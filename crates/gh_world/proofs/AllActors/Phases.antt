@@ -6,6 +6,7 @@ use Rattle.gh_base.specs.declared.cell.Cell.TheVariants as cell
 use Rattle.gh_phase.specs.declared.view.RunPhase.TheVariants.{Finished}
 use Rattle.gh_sweep.specs.declared.sweep.SweepStage.TheVariants as sweep_stage
 use Rattle.gh_sweep.specs.Listing as sweep
+use Rattle.gh_sweep.specs.Listing.{Sweeping}
 use Rattle.gh_coord.specs.declared.close.CloseStage.TheVariants as close_stage
 use Rattle.gh_coord.specs.declared.count.CountStage.TheVariants as count_stage
 use Rattle.gh_coord.specs.declared.open.OpenStage.TheVariants as open_stage
@@ -31,6 +32,7 @@ use Rattle.gh_mutator.specs.Calm.{IsWrittenCalmly}
 use Rattle.gh_mutator.specs.Facts.{FactsAt, NewFacts}
 use Rattle.gh_mutator.specs.Give.{none_cached}
 use Rattle.gh_mutator.specs.ProcessorPlaces.{SoundNewAt}
+use Rattle.gh_mutator.specs.Sweeping.{sweep_in}
 use Rattle.gh_mutator.specs.Handshake.{polls_at, PollsOn, PollsSoundAt, waits_at, WaitsSoundAt}
 use Rattle.gh_worker.specs.declared.worker.WorkerStage.TheVariants as worker_stage
 use Rattle.gh_worker.specs.Handshake as working
@@ -38,13 +40,16 @@ use Rattle.gh_worker.specs.Writing.{AcksAlone}
 use Rattle.gh_world.specs.declared.handshake.Actor.TheVariants as actor
 use Rattle.gh_world.specs.Handshake as handshake
 use Rattle.gh_world.specs.Phases.{EndsInOrder, FindsTheStop, IsMarkingStep, IsStopped, MarksInPhase, PhasesAreKnown, PhasesStand, StandsEmpty, StandsStill}
+use Rattle.gh_world.specs.Sweepers.{IsInSweep, sweep_of}
 use Rattle.gh_world.specs.HoldVocabulary.{answers_of, given_of, opening_words, View}
-use Rattle.gh_world.proofs.Vocabulary.{acks_of, Actor, actors_after, Answer, Arena, arena, Ask, asks_at, Begins, Check, Close, CloseStage, Coordinating, CoordStage, Count, CountStage, Done, Entry, HasState, Holds, HoldsAt, is_busy, is_busy_at, IsLed, IsStartOf, IsTelling, KeepsIt, Kind, last_phase, Layout, leaves_at, LeaveStage, Legal, LoadAck, LoadWant, MarkOn, MarksNothing, new_polls, new_stage_at, NewStage, only_polls, Op, Open, OpenStage, option_to_list, Pacing, place_of, Polling, PollStage, Processor, processor_at, processor_kind, Resumes, ResumeStage, Shape, SoundAt, SoundPlace, stage_at, stage_of, started, Stop, StopAgain, StopStage, Sweep, SweepAllStage, SweepStage, Task, Tell, TellStage, those, view, waiting, WaitStage, Watch, WatchStage, Working, WorkerStage, WritesOf}
+use Rattle.gh_world.proofs.Vocabulary.{acks_of, Actor, actors_after, Answer, Arena, arena, Ask, asks_at, Begins, Check, Close, CloseStage, Coordinating, CoordStage, Count, CountStage, Done, Entry, HasState, Holds, HoldsAt, is_busy, is_busy_at, is_some, IsClosing, IsLed, IsQuiet, IsStartOf, IsTelling, KeepsIt, Kind, last_phase, Layout, leaves_at, LeaveStage, Legal, LoadAck, LoadWant, MarkOn, MarksNothing, new_polls, new_stage_at, NewStage, NobodyMarks, only_polls, Op, Open, OpenStage, option_to_list, Pacing, place_of, Polling, PollStage, Processor, processor_at, processor_kind, Resumes, ResumeStage, Shape, SoundAt, SoundPlace, stage_at, stage_of, started, Stop, StopAgain, StopStage, Sweep, SweepAllStage, SweepStage, Task, Tell, TellStage, those, view, waiting, WaitStage, Watch, WatchStage, words, Words, Working, WorkerStage, WritesOf}
 use Rattle.gh_world.proofs.AllActors.Going.{goes_then, IsGoing}
 use Rattle.gh_world.proofs.AllActors.Known.{Known, ListsKnown}
+use Rattle.gh_world.proofs.AllActors.Placing.{idle_sweeps_none}
 use Rattle.gh_world.proofs.AllActors.Resting.{run_is}
 use Rattle.gh_world.proofs.AllActors.StackWords.{calm_now}
 use Rattle.gh_world.proofs.AllActors.Starts.{legal_start}
+use Rattle.gh_world.proofs.AllActors.WorkersSweep.{asks_by_sweep}
 use Rattle.gh_world.proofs.CycleMarking.Seats.{IsSeated, seated}
 use Rattle.gh_world.proofs.CycleNumbers.Seats as seats
 
@@ -96,12 +101,12 @@ worker_empty w _ stops stage is sound = absurd (cc)
 
 -- Who is calm makes no step that marks.
 
-calm_none : (m : Processor) (q : Ask) → WritesOf (IsWrittenCalmly m) q → IsMarkingStep q → ⊥
-calm_none m (ask.Or (cell.Mark i) bits) w x = w
-calm_none m (ask.Store (cell.Buffer b) value) w x = w
-calm_none m (ask.Swap (cell.Buffer b) old new) w x = w
-calm_none m (ask.Store (cell.Entry b j) value) w x = w
-calm_none m _ w x = x
+calm_none : (m : Processor) → sweep_in m ≡ None → (q : Ask) → WritesOf (IsWrittenCalmly m) q → IsMarkingStep q → ⊥
+calm_none m none (ask.Or (cell.Mark i) bits) w x = let no : false ≡ true = sym (ap (λ (y : Option Sweeping). is_some y) none) ∙ w in absurd (cc)
+calm_none m none (ask.Store (cell.Buffer b) value) w x = w
+calm_none m none (ask.Swap (cell.Buffer b) old new) w x = w
+calm_none m none (ask.Store (cell.Entry b j) value) w x = w
+calm_none m none _ w x = x
 
 rest_none : (seat : ℕ) (q : Ask) → AcksAlone seat q → IsMarkingStep q → ⊥
 rest_none seat (ask.Or (cell.Mark i) bits) w x = w
@@ -138,6 +143,7 @@ close_none : (c : close.Closing) (p : CloseStage) → IsMarkingStep (close.asks_
 close_none c close_stage.LoadBank x = x
 close_none c close_stage.ClearBank x = x
 close_none c close_stage.StoreGen x = x
+close_none c close_stage.StorePhase x = x
 close_none c close_stage.Ended x = x
 
 span_none : (m : sweep.Sweeping) (p : SweepStage) → IsMarkingStep (sweep.asks_at m p) → ⊥
@@ -199,53 +205,94 @@ module _ (shapes : List Shape) (l : Layout) (pacing : Pacing) (may : ℕ → Lis
   abbrev at : List (Entry Op) → ℕ → Actor
   at es a = actors_after z pacing may es a
 
-  -- While no cycle is marked.
+  -- A cycle is marked, or nobody marks, at whatever stage the coordinator is.
   module _ (es : List (Entry Op)) (c : Coordinating) where
-    abbrev AllCalm : Type 0
-    AllCalm = (a : ℕ) → a < l.procs → MarksNothing (processor_at shapes l pacing may es a)
+    record NobodyThen (p : CoordStage) : Type 0 where
+      off : leading.Marks p → ⊥
+      has : HasState shapes l pacing may es
+      cycle : ℕ
+      nobody : NobodyMarks shapes l pacing may es cycle has.state.heap.words
 
-    told_calm : (p : TellStage) → IsTelling shapes l pacing may es c p → AllCalm
-    told_calm tell_stage.Ended h = absurd h
-    told_calm tell_stage.StoreTrigger h = h.0.nobody.processors
-    told_calm tell_stage.StoreSwept h = h.0.nobody.processors
-    told_calm tell_stage.StorePhase h = h.0.nobody.processors
+    told_quiet : (p : TellStage) → IsTelling shapes l pacing may es c p → IsQuiet shapes l pacing may es c
+    told_quiet tell_stage.Ended h = absurd h
+    told_quiet tell_stage.StoreTrigger h = h.quiet
+    told_quiet tell_stage.StoreSwept h = h.quiet
+    told_quiet tell_stage.StorePhase h = h.quiet
 
-    marks_or_calm : (p : CoordStage) → IsGoing p → HoldsAt shapes l pacing may es c p → leading.Marks p ⊎ ((leading.Marks p → ⊥) × AllCalm)
-    marks_or_calm (Open o) going h = inr (λ x. x, h.0.nobody.processors)
-    marks_or_calm (Watch w) going h = inl tt
-    marks_or_calm (StopAgain st) going h = inl tt
-    marks_or_calm (Check w) going h = inl tt
-    marks_or_calm MarkOn going h = inl tt
-    marks_or_calm (Close y) going h = inl going
-    marks_or_calm (Sweep w) going s = inr (λ x. x, s.nobody.processors)
-    marks_or_calm (Count y) going h = inr (λ x. x, h.0.nobody.processors)
-    marks_or_calm (Tell t) going h = inr (λ x. x, told_calm t.stage h)
-    marks_or_calm (LoadAck i) going q = inr (λ x. x, q.nobody.processors)
-    marks_or_calm LoadWant going q = inr (λ x. x, q.nobody.processors)
-    marks_or_calm (Stop st) going q = inr (λ x. x, q.nobody.processors)
-    marks_or_calm Done going q = inr (λ x. x, q.nobody.processors)
+    quiet_then : (p : CoordStage) → (leading.Marks p → ⊥) → IsQuiet shapes l pacing may es c → NobodyThen p
+    quiet_then p off q = record { off = off; has = q.has; cycle = c.begun + 1; nobody = q.nobody }
+
+    closing_nobody : (y : close.Closing) (p : CloseStage) → y.stage ≡ p → close.is_busy p ≡ true → IsClosing shapes l pacing may es c p → leading.Marks (Close y) ⊎ NobodyThen (Close y)
+    closing_nobody y close_stage.StorePhase at going h = inr (record { off = λ on. absurd (let no : false ≡ true = sym (ap close.is_marking at) ∙ on in cc); has = h.has; cycle = c.begun + 1; nobody = h.nobody })
+    closing_nobody y close_stage.Ended at going h = absurd h
+    closing_nobody y _ at going h = inl (ap close.is_marking at)
+
+    marks_or_nobody : (p : CoordStage) → IsGoing p → HoldsAt shapes l pacing may es c p → leading.Marks p ⊎ NobodyThen p
+    marks_or_nobody (Open o) going h = inr (record { off = λ x. x; has = h.0.has; cycle = c.begun; nobody = h.0.nobody })
+    marks_or_nobody (Watch w) going h = inl tt
+    marks_or_nobody (StopAgain st) going h = inl tt
+    marks_or_nobody (Check w) going h = inl tt
+    marks_or_nobody MarkOn going h = inl tt
+    marks_or_nobody (Close y) going h = closing_nobody y y.stage refl going h
+    marks_or_nobody (Sweep w) going s = inr (record { off = λ x. x; has = s.has; cycle = c.begun + 1; nobody = s.nobody })
+    marks_or_nobody (Count y) going h = inr (quiet_then (Count y) (λ x. x) h.quiet)
+    marks_or_nobody (Tell t) going h = inr (quiet_then (Tell t) (λ x. x) (told_quiet t.stage h))
+    marks_or_nobody (LoadAck i) going q = inr (quiet_then (LoadAck i) (λ x. x) q)
+    marks_or_nobody LoadWant going q = inr (quiet_then LoadWant (λ x. x) q)
+    marks_or_nobody (Stop st) going q = inr (quiet_then (Stop st) (λ x. x) q)
+    marks_or_nobody Done going h = inr (quiet_then Done (λ x. x) h.quiet)
+
+    -- where none is marked no buffer has an entry, and nobody holds one
+    all_empty : Led es c → HoldsAt shapes l pacing may es c c.stage → (leading.Marks c.stage → ⊥) → (b : ℕ) → words shapes l pacing may es (cell.Buffer b) ≡ 0
+    all_empty led h off b = elim (marks_or_nobody c.stage (goes_then shapes l pacing may es c led) h) [
+      | inl on ↦ absurd (off on)
+      | inr x ↦ sym (ap (λ (w : Words). w (cell.Buffer b)) x.has.of_list.words_are) ∙ x.nobody.buffers b
+    ]
 
   -- An entry behind a list.
   module _ (e : Entry Op) (es : List (Entry Op)) (legal : Lawful (e ∷ es)) (c : Coordinating) (led : Led es c) where
-    -- nobody marks with it where no cycle is marked
-    nobody_marks : (leading.Marks c.stage → ⊥) → AllCalm es c → IsMarkingStep e.ask → ⊥
-    nobody_marks off calm = by (seats.step shapes l pacing may e es known.writes legal (lists.keeps es legal.0)) where
+    module _ (has : HasState shapes l pacing may es) where
       idle : (m : Processor) → at es e.actor ≡ actor.Runs m → (o : Option Op) → Begins (those shapes l pacing may) e.actor es o → (p : Op) → o ≡ Some p → is_busy_at m.task ≡ false
       idle m is None b p same = absurd (cc)
       idle m is (Some o) b p same = sym (ap is_busy is) ∙ b.0
 
-      by : seats.Step shapes l pacing may e es → IsMarkingStep e.ask → ⊥
-      by (seats.by_processor m x s) y =
-          let calm_there : MarksNothing m = subst MarksNothing (run_is shapes l pacing may es e.actor m x.seat x.is) (calm e.actor x.seat) in
-          let quiet = calm_now shapes l known e.begun m x.sound_it (idle m x.is e.begun legal.1.begins) calm_there in
-          calm_none (started kind e.begun m) e.ask (subst (WritesOf (IsWrittenCalmly (started kind e.begun m))) (sym x.asked) (known.calm.writes (started kind e.begun m) quiet)) y
-      by (seats.by_worker w x s) y = rest_none w.seat e.ask (subst (AcksAlone w.seat) (sym x.asked) (known.workers_calm.writes w x.sound_it (lists.rests es legal.0 c e.actor w led off x.is) x.busy)) y
-      by (seats.by_lead d x) y = lead_none d d.stage (subst IsMarkingStep x.asked y)
+      -- what a processor sweeps, before it begins an operation and then
+      sweeps_before : (m : Processor) → seats.RunsIt shapes l pacing may e es m → IsInSweep e.actor has.state (sweep_in m)
+      sweeps_before m x = subst (λ (y : Actor). IsInSweep e.actor has.state (sweep_of y)) x.is (has.sweeps e.actor legal.1.actor)
+
+      in_sweep : (m : Processor) → seats.RunsIt shapes l pacing may e es m → (o : Option Op) → ((p : Op) → o ≡ Some p → is_busy_at m.task ≡ false) → IsInSweep e.actor has.state (sweep_in (started kind o m))
+      in_sweep m x None rests = sweeps_before m x
+      in_sweep m x (Some o) rests =
+          let none = idle_sweeps_none m.task (rests o refl) in
+          subst (IsInSweep e.actor has.state) (sym (known.processors_sweep.begun shapes l m o none)) (subst (IsInSweep e.actor has.state) none (sweeps_before m x))
+
+      -- nobody marks with it where no cycle is marked
+      nobody_marks : (leading.Marks c.stage → ⊥) → ((a : ℕ) → a < l.procs → MarksNothing (processor_at shapes l pacing may es a)) → IsMarkingStep e.ask → ⊥
+      nobody_marks off calm = by (seats.step shapes l pacing may e es known.writes legal (lists.keeps es legal.0)) where
+        runs : (m : Processor) → seats.RunsIt shapes l pacing may e es m → (z : Option Sweeping) → sweep_in (started kind e.begun m) ≡ z → IsMarkingStep e.ask → ⊥
+        runs m x None none y =
+            let calm_there : MarksNothing m = subst MarksNothing (run_is shapes l pacing may es e.actor m x.seat x.is) (calm e.actor x.seat) in
+            let quiet = calm_now shapes l known e.begun m x.sound_it (idle m x.is e.begun legal.1.begins) calm_there in
+            calm_none (started kind e.begun m) none e.ask (subst (WritesOf (IsWrittenCalmly (started kind e.begun m))) (sym x.asked) (known.calm.writes (started kind e.begun m) quiet)) y
+        runs m x (Some sw) is y =
+            let busy = (subst (IsInSweep e.actor has.state) is (in_sweep m x e.begun (idle m x.is e.begun legal.1.begins))).1 in
+            span_none sw sw.stage (subst IsMarkingStep (x.asked ∙ (known.processors_sweep.on shapes (started kind e.begun m) sw is busy).asks_so) y)
+
+        works : (w : Working) → seats.WorksIt shapes l pacing may e es w → IsMarkingStep e.ask → ⊥
+        works w x y = elim (asks_by_sweep w w.stage) [
+          | inl none ↦ rest_none w.seat e.ask (subst (AcksAlone w.seat) (sym x.asked) (known.workers_calm.writes w x.sound_it (lists.rests es legal.0 c e.actor w led off x.is) none x.busy)) y
+          | inr s ↦ span_none s.0 s.0.stage (subst IsMarkingStep (x.asked ∙ s.1) y)
+        ]
+
+        by : seats.Step shapes l pacing may e es → IsMarkingStep e.ask → ⊥
+        by (seats.by_processor m x s) y = runs m x (sweep_in (started kind e.begun m)) refl y
+        by (seats.by_worker w x s) y = works w x y
+        by (seats.by_lead d x) y = lead_none d d.stage (subst IsMarkingStep x.asked y)
 
     pub marks_in_cycle : HoldsAt shapes l pacing may es c c.stage → IsMarkingStep e.ask → leading.Marks c.stage
-    marks_in_cycle h y = elim (marks_or_calm es c c.stage (goes_then shapes l pacing may es c led) h) [
+    marks_in_cycle h y = elim (marks_or_nobody es c c.stage (goes_then shapes l pacing may es c led) h) [
       | inl on ↦ on
-      | inr off ↦ absurd (nobody_marks off.0 off.1 y)
+      | inr x ↦ absurd (nobody_marks x.has x.off x.nobody.processors y)
     ]
 
     -- in a stopped world
@@ -320,6 +367,7 @@ module _ (shapes : List Shape) (l : Layout) (pacing : Pacing) (may : ℕ → Lis
     marking = marks_in_phase es legal;
     stopped = stands_still es legal;
     last = ends_in_order es legal;
+    buffers = λ c led off. all_empty es c led (holds es legal c led).at off;
     marks = λ e before c of led. marks_in_cycle e before (start e before of) c led (holds before (start e before of).0 c led).at;
     still = λ e before c of led. stands_there e before (start e before of) c led;
     finished = λ earlier of. finished_on earlier es legal of;

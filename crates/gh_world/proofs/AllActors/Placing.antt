@@ -21,7 +21,9 @@ use Rattle.gh_mutator.specs.New as new
 use Rattle.gh_mutator.specs.Poll as poll
 use Rattle.gh_mutator.specs.Register as register
 use Rattle.gh_mutator.specs.Store as store
+use Rattle.gh_mutator.specs.Sweeping.{sweep_at, sweep_new}
 use Rattle.gh_mutator.specs.Wait as wait
+use Rattle.gh_sweep.specs.Listing.{Sweeping}
 use Rattle.gh_world.proofs.Vocabulary.{acted, acting, acts_at, Add, after_gc, after_leave, after_poll, Answer, At, begins_at, cache_span, CountsObject, Ends, Ever, ever_after, EverValue, follows, Found, Global, GlobalStage, GoesOn, Heap, is_busy_at, is_some, nat_lt, NewStage, NoRoom, Op, Place, PlaceStage, Placing, Processor, Register, register_of, Search, Shape, Source, takes_at, Task, Then, uncounted, Wait, Wanted}
 
 -- No object is made but by a `new`.
@@ -164,6 +166,20 @@ module _ (shapes : List Shape) (m : Processor) (found : ℕ) where
   kind task.Poll busy = inr (inr (record { same = ended_poll (poll.goes m.poll found) (poll.gives m.poll found); silent = λ y. y; nothing = acting_made shapes (is_some (poll.gives m.poll found)) op.Poll tt }))
   kind (task.End g) busy = inr (inr (record { same = refl; silent = λ y. y; nothing = λ e h. refl }))
   kind (task.Leave x) busy = inr (inr (record { same = ended_leave (leave.goes x found) (leave.gives x found); silent = λ y. y; nothing = acting_made shapes (is_some (leave.gives x found)) op.Leave tt }))
+
+  -- a step of a sweep is one of a search
+  pub sweeps_plain : (t : Task) (sw : Sweeping) → sweep_at t ≡ Some sw → (uncounted t ≡ 0) × (uncounted (takes_at shapes m t found).task ≡ 0)
+  sweeps_plain (task.New x) sw is = by_stage x.wanted x.stage is where
+    by_stage : (w : Wanted) (s : NewStage) → sweep_new s ≡ Some sw → (uncounted (task.New (record { wanted = w; stage = s })) ≡ 0) × (uncounted (takes_at shapes m (task.New (record { wanted = w; stage = s })) found).task ≡ 0)
+    by_stage w (Search waited q) is = (refl, searched w waited (search.goes q found) (cache_span m w.sought (search.goes q found).find.cached) (search.gives q found))
+    by_stage w (Wait y) is = absurd cc
+    by_stage w (Place p) is = absurd cc
+  sweeps_plain _ sw is = absurd cc
+
+-- who rests sweeps nothing
+pub idle_sweeps_none : (t : Task) → is_busy_at t ≡ false → sweep_at t ≡ None
+idle_sweeps_none (task.New x) idle = absurd (cc)
+idle_sweeps_none _ idle = refl
 
 -- An operation that begins leaves it so.
 pub begins_plain : (shapes : List Shape) (m : Processor) (o : Op) → uncounted (begins_at shapes m o) ≡ 0

@@ -84,7 +84,7 @@ goes_on shapes l (Some o) m again = absurd (go (has_left_at m.task) refl again) 
 
 -- There was no room.
 
-module _ (z : Arena) (h : Heap) (good : Good z (view h)) (swept : (p : ℕ) (x : SpanHead) → page_of ((view h).page p) ≡ Head x → x.number ≡ (view h).generation) (others : (a : ℕ) → z.layout.procs ≤ a → Right a (view h) false (λ p. false) None) where
+module _ (z : Arena) (h : Heap) (good : Good z (view h)) (others : (a : ℕ) → z.layout.procs ≤ a → Right a (view h) false (λ p. false) None) where
   abbrev v : View
   v = view h
 
@@ -111,7 +111,7 @@ module _ (z : Arena) (h : Heap) (good : Good z (view h)) (swept : (p : ℕ) (x :
   no_room a y sought f = record {
     own = f.cached;
     slots = λ p x ne head class noscan. by sought refl p x ne head class noscan;
-    swept = swept;
+    swept = f.swept;
     run = λ first le. let d = f.no_run first le in let lt = d.1 in
         record { page = first + d.0; lies = (omega arith, omega (arith, lt)); taken = record { not_free = d.2.taken; in_none = λ p x unused. d.2.used p x unused.span unused.lies.0 unused.lies.1 unused.unowned unused.empty } };
   } where

@@ -1,21 +1,25 @@
 -- What every list says, by what holds after it: outside of marking by the coordinator's stage, and while a cycle is marked by what is known of the heap.
-use Rattle.std.proofs.Common.{◌≡◌, ℕ, Bool, sym, ap, subst, ◌∙◌, List}
+use Rattle.std.proofs.Common.{◌≡◌, ℕ, Bool, true, refl, sym, ap, subst, ◌∙◌, List}
 use Rattle.gh_coord.specs.declared.coord.CoordStage.{CoordStage}
-use Rattle.gh_coord.specs.declared.coord.CoordStage.TheVariants.{Check, Close, Count, MarkOn, Open, StopAgain, Sweep, Tell, Watch}
+use Rattle.gh_coord.specs.declared.close.CloseStage.{CloseStage}
+use Rattle.gh_coord.specs.declared.close.CloseStage.TheVariants as closing
+use Rattle.gh_coord.specs.declared.coord.CoordStage.TheVariants.{Check, Close, Count, Done, MarkOn, Open, StopAgain, Sweep, Tell, Watch}
 use Rattle.gh_coord.specs.declared.tell.TellStage.{TellStage}
 use Rattle.gh_coord.specs.declared.tell.TellStage.TheVariants as telling
+use Rattle.gh_coord.specs.Closing as close
 use Rattle.gh_coord.specs.Handshake as leading
 use Rattle.gh_world.specs.declared.handshake.Actor.TheVariants as actor
-use Rattle.gh_world.specs.Actors.{AllStands, AllWereCounted, AllWereOpened, Awaits, LeavesTheReached, StandsSoFar, StandsUntilItsEnd, StepsWithin}
-use Rattle.gh_world.specs.ActorsHold.{HasState, Holds, HoldsAt, IsAsItShould, IsTelling, processor_at}
+use Rattle.gh_world.specs.Actors.{AllStands, AllWereCounted, AllWereOpened, Awaits, FreesWithinTwo, LeavesTheReached, StandsSoFar, StandsUntilItsEnd, StepsWithin}
+use Rattle.gh_world.specs.ActorsHold.{HasState, Holds, HoldsAt, IsAsItShould, IsClosing, IsTelling, processor_at}
 use Rattle.gh_world.specs.Asked.{AllWereAsked}
 use Rattle.gh_world.specs.Counts.{CountsPlainly}
 use Rattle.gh_world.specs.Drawn.{CycleIsDrawn}
 use Rattle.gh_world.specs.Handshake.{those}
-use Rattle.gh_world.specs.HoldVocabulary.{arena, Arena, Coordinating, Entry, IsInLimits, IsLed, Layout, Op, opening_words, Pacing, Shape, view}
+use Rattle.gh_world.specs.HoldVocabulary.{arena, Arena, Coordinating, Entry, IsInLimits, IsLed, Layout, Op, opening_words, Pacing, Shape, view, words}
 use Rattle.gh_world.specs.Phases.{PhasesStand}
 use Rattle.gh_world.specs.Processors.{AnswersAsEver, ListStands}
 use Rattle.gh_world.specs.Scans.{ScansOnce}
+use Rattle.gh_world.specs.Spans.{SpansStand}
 use Rattle.gh_world.specs.SweepMarks.{SweepsStand}
 use Rattle.gh_world.proofs.CycleMarking.Asked.{MarksToTheEnd}
 use Rattle.gh_world.proofs.AllActors.Drawing.{is_drawn}
@@ -36,9 +40,15 @@ module _ (shapes : List Shape) (l : Layout) (pacing : Pacing) (may : ℕ → Lis
   -- There is the one state, at each stage of the coordinator.
 
   told_has : (p : TellStage) → IsTelling shapes l pacing may es c p → HasState shapes l pacing may es
-  told_has telling.StoreTrigger h = h.0.has
+  told_has telling.StoreTrigger h = h.quiet.has
   told_has telling.Ended h = absurd h
-  told_has _ h = h.0.has
+  told_has _ h = h.quiet.has
+
+  closing_has : (p : CloseStage) → close.is_busy p ≡ true → (close.is_marking p ≡ true → Marked) → IsClosing shapes l pacing may es c p → HasState shapes l pacing may es
+  closing_has closing.StorePhase going marked h = h.has
+  closing_has closing.Ended going marked h = absurd h
+  closing_has closing.LoadBank going marked h = (marked refl).marking.known.has
+  closing_has _ going marked h = (marked refl).marking.known.has
 
   pub has_at : (p : CoordStage) → IsGoing p → (leading.Marks p → Marked) → HoldsAt shapes l pacing may es c p → HasState shapes l pacing may es
   has_at (Open o) going marked h = h.0.has
@@ -46,15 +56,16 @@ module _ (shapes : List Shape) (l : Layout) (pacing : Pacing) (may : ℕ → Lis
   has_at (StopAgain st) going marked h = (marked tt).marking.known.has
   has_at (Check w) going marked h = (marked tt).marking.known.has
   has_at MarkOn going marked h = (marked tt).marking.known.has
-  has_at (Close y) going marked h = (marked going).marking.known.has
+  has_at (Close y) going marked h = closing_has y.stage going marked h
   has_at (Sweep w) going marked s = s.has
-  has_at (Count y) going marked h = h.0.has
+  has_at (Count y) going marked h = h.quiet.has
   has_at (Tell t) going marked h = told_has t.stage h
+  has_at Done going marked h = h.quiet.has
   has_at _ going marked q = q.has
 
   module _ (limits : IsInLimits l) (known : Known) (led : IsLed shapes l pacing may es c) where
-    module _ (h : Holds shapes l pacing may es c) (marked : leading.Marks c.stage → Marked) (awaits : Awaits shapes l pacing may es) (asked : AllWereAsked shapes l pacing may es) (opened : AllWereOpened shapes l pacing may es) (numbers : (d : Coordinating) → IsLed shapes l pacing may es d → CountsPlainly (those shapes l pacing may) pacing.room es d) (within : StepsWithin shapes l pacing may es) (until : StandsUntilItsEnd shapes l pacing may es) (standing : (d : Coordinating) → IsLed shapes l pacing may es d → leading.Marks d.stage → StandsSoFar shapes l pacing may es d)
-        (scans : ScansOnce shapes l pacing may es) (sweeps : SweepsStand shapes l pacing may es) (phases : PhasesStand shapes l pacing may es) where
+    module _ (h : Holds shapes l pacing may es c) (marked : leading.Marks c.stage → Marked) (awaits : Awaits shapes l pacing may es) (asked : AllWereAsked shapes l pacing may es) (opened : AllWereOpened shapes l pacing may es) (numbers : (d : Coordinating) → IsLed shapes l pacing may es d → CountsPlainly (those shapes l pacing may) pacing.room es d) (within : StepsWithin shapes l pacing may es) (within_two : FreesWithinTwo shapes l pacing may es) (until : StandsUntilItsEnd shapes l pacing may es) (standing : (d : Coordinating) → IsLed shapes l pacing may es d → leading.Marks d.stage → StandsSoFar shapes l pacing may es d)
+        (scans : ScansOnce shapes l pacing may es) (sweeps : SweepsStand shapes l pacing may es) (spans : SpansStand shapes l (words shapes l pacing may es)) (phases : PhasesStand shapes l pacing may es) (left : c.stage ≡ Done → LeavesTheReached shapes l pacing may es c) where
       now : HasState shapes l pacing may es
       now = has_at c.stage (goes_then shapes l pacing may es c led) marked h.at
 
@@ -94,13 +105,15 @@ module _ (shapes : List Shape) (l : Layout) (pacing : Pacing) (may : ℕ → Lis
         objects = named shapes l pacing may limits known es now;
         apart = stand_apart shapes l pacing may limits known es now;
         frees = h.was.frees;
+        frees_within_two = within_two;
         ends = h.was.ends;
         until = until;
         standing = standing;
         scans = scans;
         sweeps = sweeps;
+        spans = spans;
         phases = phases;
         drawn = λ d too on. drawn d (one_lead d too) on;
         counts = λ d too. subst (AllWereCounted shapes l pacing may es) (one_lead d too) h.counted;
-        last = λ d too done. subst (LeavesTheReached shapes l pacing may es) (one_lead d too) (h.last (ap (λ (x : Coordinating). x.stage) (one_lead d too) ∙ done));
+        last = λ d too done. subst (LeavesTheReached shapes l pacing may es) (one_lead d too) (left (ap (λ (x : Coordinating). x.stage) (one_lead d too) ∙ done));
       }

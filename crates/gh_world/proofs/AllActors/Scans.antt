@@ -6,14 +6,18 @@ use Rattle.gh_coord.specs.Handshake as leading
 use Rattle.gh_coord.specs.Listing as coord
 use Rattle.gh_mutator.specs.PollHeap.{Sits}
 use Rattle.gh_mutator.specs.Writing.{EndsStack, StaysThere}
+use Rattle.gh_sweep.specs.declared.sweep.SweepStage.TheVariants as sweep_stage
+use Rattle.gh_sweep.specs.Listing as sweep
+use Rattle.gh_sweep.specs.Listing.{Sweeping}
 use Rattle.gh_worker.specs.Listing as worker
 use Rattle.gh_world.specs.Marking.{IsStartOf}
 use Rattle.gh_world.specs.Scans.{ScansIn, ScansOnce}
-use Rattle.gh_world.proofs.Vocabulary.{acts, Arena, arena, Ask, asks, CountsCycles, Coordinating, deeds, effect, END, Entry, Ever, ever, HasState, Heap, IsAsItShould, IsAwake, IsFew, IsLed, IsWritten, Kind, Layout, Legal, nat_tests, Op, Pacing, Party, party_of, Processor, processor_at, processor_kind, Shape, stage_of, started, Store, takes, TellsScan, those, View, view, Words, words, WritesItsOwn, WritesOf}
+use Rattle.gh_world.proofs.Vocabulary.{acts, Arena, arena, Ask, asks, CountsCycles, Coordinating, deeds, effect, END, Entry, Ever, ever, HasState, Heap, IsAsItShould, IsAwake, IsFew, IsLed, IsWritten, Kind, Layout, Legal, nat_tests, Op, Pacing, Party, party_of, Processor, processor_at, processor_kind, Shape, stage_of, started, Store, SweepStage, takes, TellsScan, those, View, view, Words, words, WritesItsOwn, WritesOf}
 use Rattle.gh_world.proofs.AllActors.Endings.{acted_stays}
 use Rattle.gh_world.proofs.AllActors.Known.{Known, ListsKnown}
 use Rattle.gh_world.proofs.AllActors.Resting.{run_is}
 use Rattle.gh_world.proofs.AllActors.Starts.{legal_start}
+use Rattle.gh_world.proofs.AllActors.WorkersSweep.{asks_by_sweep}
 use Rattle.gh_world.proofs.CycleNumbers.Seats as seats
 use Rattle.gh_world.proofs.CycleNumbers.Stacks as stacks
 use Rattle.gh_world.proofs.CycleNumbers.Wanting.{aside as lead_aside}
@@ -58,9 +62,17 @@ module _ (shapes : List Shape) (l : Layout) (pacing : Pacing) (may : ℕ → Lis
       runs : seats.RunsIt shapes l pacing may e es m
       tells : TellsScan (started kind e.begun m) g
 
-    -- no worker writes the word, and the coordinator leaves it, whatever the words are
+    -- no worker writes the word, nor does a sweep, and the coordinator leaves it, whatever the words are
+    sweeps_no_stack : (sw : Sweeping) (p : SweepStage) → sweep.asks_at sw p ≡ Store (cell.Scanned g) k → ⊥
+    sweeps_no_stack sw (sweep_stage.ClearMarks i) is = cc
+    sweeps_no_stack sw sweep_stage.Finish is = cc
+    sweeps_no_stack sw _ is = cc
+
     no_worker : (w : worker.Working) → seats.WorksIt shapes l pacing may e es w → ⊥
-    no_worker w x = subst (λ (q : Ask). WritesItsOwn w.seat q) (sym x.asked ∙ scans.0) (known.workers_write w x.sound_it x.busy)
+    no_worker w x = elim (asks_by_sweep w w.stage) [
+      | inl none ↦ subst (λ (q : Ask). WritesItsOwn w.seat q) (sym x.asked ∙ scans.0) (known.workers_write w x.sound_it none x.busy)
+      | inr y ↦ sweeps_no_stack y.0 y.0.stage (sym y.1 ∙ (sym x.asked ∙ scans.0))
+    ]
 
     abbrev others : Words
     others c = suc k

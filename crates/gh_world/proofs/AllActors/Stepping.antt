@@ -1,19 +1,19 @@
--- One entry more of a processor, whatever the coordinator's stage: the one state goes on, and of the sweep only what is laid out, made and counted changes.
-use Rattle.std.proofs.Common.{◌≡◌, ◌≢◌, ℕ, ◌<◌, ◌==◌, Bool, true, false, cond, refl, sym, ap, subst, ◌∙◌, arith, Option, None, List, ◌∷◌}
-use Rattle.gh_world.specs.HoldVocabulary.{PassedBefore, State}
-use Rattle.gh_world.proofs.Vocabulary.{Answer, Arena, arena, asks, begins, cell_of, DoesPoints, Entry, eqb-true, Fine, has_left_at, HasState, Heap, is_busy_at, IsInLimits, IsSound, Layout, Legal, MarksNothing, may_of, nat_tests, Op, Pacing, Processor, processor_at, processor_kind, Shape, ShapesAreGood, started, Steps, those, uncounted, view}
-use Rattle.gh_world.proofs.AllActors.Counting as counting
+-- One entry more of a processor, whatever the coordinator's stage: the one state goes on.
+use Rattle.std.proofs.Common.{◌≡◌, ◌≢◌, ℕ, ◌<◌, ◌==◌, Bool, true, false, refl, sym, ap, subst, ◌∙◌, arith, List, ◌∷◌}
+use Rattle.gh_base.specs.Cells.{seats_of}
+use Rattle.gh_mutator.specs.Sweeping.{sweep_in}
+use Rattle.gh_state.specs.Moves as state
+use Rattle.gh_world.specs.HoldVocabulary.{State}
+use Rattle.gh_world.specs.Sweepers.{IsInSweep, sweep_of}
+use Rattle.gh_world.proofs.Vocabulary.{Actor, actors_after, Arena, arena, Entry, eqb-true, HasState, IsInLimits, Layout, Legal, may_of, nat_tests, Op, Pacing, Processor, processor_at, processor_kind, Shape, ShapesAreGood, started, those, uncounted}
 use Rattle.gh_world.proofs.AllActors.Known.{Known}
+use Rattle.gh_world.proofs.AllActors.Landing as landing
 use Rattle.gh_world.proofs.AllActors.OwnSide as own
-use Rattle.gh_world.proofs.AllActors.Placing.{begins_plain, idle_plain}
-use Rattle.gh_world.proofs.AllActors.Resting.{state_stays}
+use Rattle.gh_world.proofs.AllActors.Resting.{runs_are, state_stays}
 use Rattle.gh_world.proofs.AllActors.StackWords.{TellsStacks}
+use Rattle.gh_world.proofs.AllActors.Sweepers as sweepers
 use Rattle.gh_world.proofs.AllActors.Wanted.{Wanted}
-
--- what begins has placed nothing
-begun_places : (shapes : List Shape) (m : Processor) (o : Op) (b : Bool) → is_busy_at m.task ≡ false → uncounted (cond b m (begins shapes m o)).task ≡ 0
-begun_places shapes m o true idle = idle_plain m.task idle
-begun_places shapes m o false idle = begins_plain shapes m o
+use Rattle.gh_world.proofs.CycleMarking.Seats.{other}
 
 apart : (a b : ℕ) → (a == b) ≡ false → b ≢ a
 apart a b x y = grind (arith, nat_tests)
@@ -25,66 +25,35 @@ module _ (shapes : List Shape) (l : Layout) (pacing : Pacing) (counts : ℕ → 
   abbrev z : Arena
   z = arena shapes l pacing may
 
-  -- between two cycles it marks nothing
-  module _ (e : Entry Op) (es : List (Entry Op)) (legal : Legal (those shapes l pacing may) (e ∷ es)) (lt : e.actor < l.procs) (has : HasState shapes l pacing may es) (swept : PassedBefore has.state l.pages) (tells : TellsStacks has.state.heap.words (started (processor_kind shapes l) e.begun (processor_at shapes l pacing may es e.actor)))
-      (calm : has.state.told ≡ None → MarksNothing (started (processor_kind shapes l) e.begun (processor_at shapes l pacing may es e.actor))) where
+  module _ (e : Entry Op) (es : List (Entry Op)) (legal : Legal (those shapes l pacing may) (e ∷ es)) (lt : e.actor < l.procs) (has : HasState shapes l pacing may es) (land : landing.Lands shapes l pacing counts good limits known wanted e es legal lt has)
+      (tells : TellsStacks has.state.heap.words (started (processor_kind shapes l) e.begun (processor_at shapes l pacing may es e.actor))) where
     abbrev a : ℕ
     a = e.actor
 
-    abbrev m : Processor
-    m = processor_at shapes l pacing may es a
+    abbrev pub then : State
+    then = state.moved z a has.state land.move
 
-    abbrev now : Processor
-    now = started (processor_kind shapes l) e.begun m
-
-    abbrev h : Heap
-    h = has.state.heap
-
-    abbrev found : ℕ
-    found = h.words (cell_of (asks now))
-
-    abbrev pending : Option Answer
-    pending = (own.is shapes l pacing counts good limits known e es legal lt has swept tells).pending
-
-    abbrev land : Steps z a h (asks now) (λ t. DoesPoints z a h t now pending found)
-    land = own.land shapes l pacing counts good limits known e es legal lt has swept tells
-
-    -- What it has placed and not counted.
-
-    pub begun_counts : uncounted now.task ≡ uncounted m.task
-    begun_counts = own.begins_with shapes l pacing counts good limits known e es legal lt has swept tells (λ p. uncounted p.task ≡ uncounted m.task) refl (λ o x.
-        let idle = own.idle shapes l pacing counts good limits known e es legal lt has swept tells o x in
-        begun_places shapes m o (has_left_at m.task) idle ∙ sym (idle_plain m.task idle))
-
-    pub pend_is : has.state.pend a ≡ uncounted now.task
-    pend_is = has.placing a lt ∙ sym begun_counts
-
-    pub busy_now : is_busy_at now.task ≡ true
-    busy_now = own.busy shapes l pacing counts good limits known e es legal lt has swept tells
-
-    pub sound_now : IsSound now
-    sound_now = own.sound_now shapes l pacing counts good limits known e es legal lt has swept tells
-
-    pub fine_now : Fine z a (view h) now pending
-    fine_now = own.fine_now shapes l pacing counts good limits known e es legal lt has swept tells
-
-    abbrev pub goes : counting.Counted known wanted.whole z a has.state has.good legal.1.actor now found pending busy_now sound_now fine_now pend_is calm land.move land.may land.words_are land.after.does
-    goes = counting.counted known wanted.whole z a has.state has.good legal.1.actor now found pending busy_now sound_now fine_now pend_is calm land.move land.may land.words_are land.after.does
-
-    abbrev pub state : State
-    state = counting.behind known wanted.whole z a has.state has.good legal.1.actor now found pending busy_now sound_now fine_now pend_is calm land.move land.may land.words_are land.after.does goes.slot goes.since goes.pend
-
-    pub placing : (b : ℕ) → b < l.procs → goes.pend b ≡ uncounted (processor_at shapes l pacing may (e ∷ es) b).task
+    pub placing : (b : ℕ) → b < l.procs → then.pend b ≡ uncounted (processor_at shapes l pacing may (e ∷ es) b).task
     placing b less = go (a == b) refl where
-      go : (x : Bool) → (a == b) ≡ x → goes.pend b ≡ uncounted (processor_at shapes l pacing may (e ∷ es) b).task
-      go true x = subst (λ (n : ℕ). goes.pend n ≡ uncounted (processor_at shapes l pacing may (e ∷ es) n).task) (eqb-true a b x) (goes.own ∙ ap (λ (p : Processor). uncounted p.task) (sym (own.then_is shapes l pacing counts good limits known e es legal lt has swept tells)))
-      go false x = goes.others b (apart a b x) ∙ (has.placing b less ∙ ap (λ (p : Processor). uncounted p.task) (sym (state_stays shapes l pacing may e es b x)))
+      go : (x : Bool) → (a == b) ≡ x → then.pend b ≡ uncounted (processor_at shapes l pacing may (e ∷ es) b).task
+      go true x = subst (λ (n : ℕ). then.pend n ≡ uncounted (processor_at shapes l pacing may (e ∷ es) n).task) (eqb-true a b x) (land.own ∙ ap (λ (p : Processor). uncounted p.task) (sym (own.then_is shapes l pacing counts good limits known wanted e es legal lt has land tells)))
+      go false x = land.others b (apart a b x) ∙ (has.placing b less ∙ ap (λ (p : Processor). uncounted p.task) (sym (state_stays shapes l pacing may e es b x)))
+
+    pub sweeps : (b : ℕ) → b < seats_of l → IsInSweep b then (sweep_of (actors_after z pacing may (e ∷ es) b))
+    sweeps b less = go (a == b) refl where
+      own_is : IsInSweep a then (sweep_of (actors_after z pacing may (e ∷ es) a))
+      own_is = subst (λ (x : Actor). IsInSweep a then (sweep_of x)) (sym (runs_are shapes l pacing may (e ∷ es) a lt)) (subst (λ (p : Processor). IsInSweep a then (sweep_in p)) (sym (own.then_is shapes l pacing counts good limits known wanted e es legal lt has land tells)) land.sweeps)
+
+      go : (x : Bool) → (a == b) ≡ x → IsInSweep b then (sweep_of (actors_after z pacing may (e ∷ es) b))
+      go true x = subst (λ (n : ℕ). IsInSweep n then (sweep_of (actors_after z pacing may (e ∷ es) n))) (eqb-true a b x) own_is
+      go false x = subst (λ (y : Actor). IsInSweep b then (sweep_of y)) (sym (other shapes l pacing e es b x)) (sweepers.lasts known z b has.state then (sweep_of (actors_after z pacing may es b)) (known.state_leaves z b a has.state land.move (apart a b x) has.good land.allowed) (has.sweeps b less))
 
     abbrev pub has_then : HasState shapes l pacing may (e ∷ es)
     has_then = record {
-      state = state;
-      of_list = own.heap_then shapes l pacing counts good limits known e es legal lt has swept tells;
-      good = goes.then_good;
+      state = then;
+      of_list = own.heap_then shapes l pacing counts good limits known wanted e es legal lt has land tells;
+      good = known.keeps z a has.state land.move has.good land.allowed;
       placing = placing;
-      others_place = λ b le. goes.others b (λ x. omega (arith, x, le, lt)) ∙ has.others_place b le;
+      others_place = λ b le. land.others b (λ x. omega (arith, x, le, lt)) ∙ has.others_place b le;
+      sweeps = sweeps;
     }

@@ -1,5 +1,5 @@
 -- One entry more, outside of the marking of a cycle: by a processor, by a worker and by the coordinator, what holds then. And where a cycle begins.
-use Rattle.std.proofs.Common.{◌≡◌, ℕ, ◌<◌, ◌≤◌, Bool, arith, List, [], ◌∷◌}
+use Rattle.std.proofs.Common.{◌≡◌, ℕ, ◌<◌, ◌≤◌, Bool, List, [], ◌∷◌}
 use Rattle.gh_coord.specs.Listing as coord
 use Rattle.gh_worker.specs.Listing as worker
 use Rattle.gh_world.specs.declared.handshake.Actor.TheVariants as actor
@@ -10,7 +10,6 @@ use Rattle.gh_world.proofs.AllActors.Known.{Known, ListsKnown}
 use Rattle.gh_world.proofs.AllActors.LeadingSteps as leads_by
 use Rattle.gh_world.proofs.AllActors.Opening as opening
 use Rattle.gh_world.proofs.AllActors.Processing as processing
-use Rattle.gh_world.proofs.AllActors.Quieting as quieting
 use Rattle.gh_world.proofs.AllActors.Wanted.{Wanted}
 use Rattle.gh_world.proofs.AllActors.Workers as workers
 
@@ -43,7 +42,7 @@ module _ (shapes : List Shape) (l : Layout) (pacing : Pacing) (counts : ℕ → 
 
   module _ (e : Entry Op) (es : List (Entry Op)) (legal : Lawful (e ∷ es)) (was : Was es) where
     pub by_processor : (c : Coordinating) (m : Processor) → Led es c → e.actor < l.procs → at es e.actor ≡ actor.Runs m → H es c → H (e ∷ es) c
-    by_processor c m led lt is h = processing.by_processor shapes l pacing may good wanted.read known lists e es legal was c led (omega (arith, lt)) lt (λ calm q. quieting.quiet_then shapes l pacing counts good limits known wanted lists e es legal lt c led calm q) h
+    by_processor c m led lt is h = processing.by_processor shapes l pacing counts good limits known wanted lists e es legal was c led lt h
 
     pub by_worker : (c : Coordinating) (w : worker.Working) → Led es c → l.procs ≤ e.actor → e.actor < acks_of l → at es e.actor ≡ actor.Marks w → H es c → H (e ∷ es) c
     by_worker c w led ge lt is h = workers.holds_on shapes l pacing may limits known lists e es legal c led lt w ge is h
@@ -53,7 +52,7 @@ module _ (shapes : List Shape) (l : Layout) (pacing : Pacing) (counts : ℕ → 
 
   -- where a cycle is about to begin
   pub begins : (es : List (Entry Op)) (c : Coordinating) → Lawful es → Led es c → IsBeginning c.stage → H es c → MayBegin z pacing may es c
-  begins es c legal led b h = let r = begins_by.is_ready shapes l pacing may limits known lists es c legal led b c.stage b h.at in begins_by.may_begin shapes l pacing may limits known lists es c legal led b r.0 r.1
+  begins es c legal led b h = let r = begins_by.is_ready shapes l pacing may limits known lists es c legal led b c.stage b h.at in begins_by.may_begin shapes l pacing may limits known lists es c legal led b r.0 r.1 r.2
 
   -- while a cycle is marked
   pub polls : StepsByMoves z pacing may

@@ -8,12 +8,13 @@ use Rattle.gh_mutator.specs.Deeds.{meaning}
 use Rattle.gh_world.specs.declared.handshake.Actor.TheVariants as actor
 use Rattle.gh_world.specs.Handshake as handshake
 use Rattle.gh_world.specs.HoldVocabulary.{given_of, opening_words}
-use Rattle.gh_world.proofs.Vocabulary.{acks_of, Act, Actor, actors, actors_after, acts, Answer, Answered, answered, answered_by, arena, Begins, begins as begun_at, by, Coordinating, deeds, done_at, effect, ended_in, Entry, ever, given_at, gives, has_left_at, is_busy, is_busy_at, IsLed, IsParked, IsSound, Kind, Layout, Legal, Load, nat_tests, Op, opening_processor, option_to_list, Pacing, PackedWordsAreReadBack, place_of, point_of, Processor, processor_at, processor_kind, RunPhase, Shape, stage_of, started, stop_word, Stopped, takes, Task, those, Words, words}
+use Rattle.gh_world.specs.Sweepers.{sweep_of}
+use Rattle.gh_world.proofs.Vocabulary.{acks_of, Act, Actor, actors, actors_after, acts, Answer, Answered, answered, answered_by, arena, Begins, begins as begun_at, by, Coordinating, deeds, done_at, effect, ended_in, Entry, ever, given_at, gives, has_left_at, is_busy, is_busy_at, IsLed, IsParked, IsSound, Kind, Layout, Legal, Load, nat_tests, Op, opening_processor, option_to_list, Pacing, PackedWordsAreReadBack, place_of, point_of, Processor, processor_at, processor_kind, RunPhase, Shape, stage_of, started, stop_word, Stopped, takes, Task, those, Words, words, Working}
 use Rattle.gh_world.proofs.AllActors.Known.{ListsKnown}
 use Rattle.gh_world.proofs.AllActors.Resting.{begins_nothing, rests, rests_on, runs_are, state_stays}
-use Rattle.gh_world.proofs.AllActors.Stay.{ChangesNothing, led_by_it}
+use Rattle.gh_world.proofs.AllActors.Stay.{ChangesNothing, led_by_it, sweeps_same, worker_sweeps_none}
 use Rattle.gh_world.proofs.AllActors.Waiting.{StandsStill, stands_still}
-use Rattle.gh_world.proofs.CycleMarking.Seats.{run_started}
+use Rattle.gh_world.proofs.CycleMarking.Seats.{IsSeated, run_started, seated}
 
 -- one that has left begins nothing
 pub left_stays : (shapes : List Shape) (l : Layout) (o : Option Op) (m : Processor) → m.task ≡ task.Left → started (processor_kind shapes l) o m ≡ m
@@ -46,6 +47,7 @@ module _ (shapes : List Shape) (l : Layout) (pacing : Pacing) (may : ℕ → Lis
       pub no_point : done_at k (deeds shapes) es e ≡ None
       pub no_answer : (deeds shapes).gives (before_step k (deeds shapes) es e) e.found ≡ None
       pub own : e.actor < l.procs → processor_at shapes l pacing may (e ∷ es) e.actor ≡ processor_at shapes l pacing may es e.actor
+      pub sweeps : sweep_of (at (e ∷ es) e.actor) ≡ sweep_of (at es e.actor)
 
     module _ (among : e.actor < acks_of l) (x : LeavesAll) where
       pub leaves_all : IsStill e es
@@ -74,6 +76,7 @@ module _ (shapes : List Shape) (l : Layout) (pacing : Pacing) (may : ℕ → Lis
           given = λ a lt. ap (λ (o : Option Answer). cond (e.actor == a) (option_to_list o ++ given_of (arena shapes l pacing may) first a es) (given_of (arena shapes l pacing may) first a es)) x.no_answer ∙ either (e.actor == a) (given_of (arena shapes l pacing may) first a es);
           ended = λ a lt g. ends a g (e.actor == a);
           led = led_by_it shapes l pacing may e es among;
+          sweeps = sweeps_same shapes l pacing may e es x.sweeps;
         }
 
   module _ (back : PackedWordsAreReadBack) (lists : ListsKnown shapes l pacing may) (e : Entry Op) (es : List (Entry Op)) (legal : Legal (those shapes l pacing may) (e ∷ es))
@@ -117,18 +120,33 @@ module _ (shapes : List Shape) (l : Layout) (pacing : Pacing) (may : ℕ → Lis
       before : before_step k (deeds shapes) es e ≡ m
       before = ap (λ (o : Option Op). started k o m) none_begun
 
+      own_is : processor_at shapes l pacing may (e ∷ es) e.actor ≡ m
+      own_is = rw (eq-eqb e.actor e.actor refl) (ap (λ (x : Processor). takes shapes x e.found) before ∙ (ap (takes shapes m) moves_nobody.1 ∙ waits.stays))
+
       by_processor : LeavesAll e es
       by_processor = record {
         loads = moves_nobody.0;
         none_begun = none_begun;
         no_point = ap (λ (x : Processor). (deeds shapes).acts x e.found) before ∙ (ap (λ (n : ℕ). point_of (acts m n)) moves_nobody.1 ∙ ap point_of waits.no_act);
         no_answer = ap (λ (x : Processor). (deeds shapes).gives x e.found) before ∙ (ap (λ (n : ℕ). given_at m.task (gives m n)) moves_nobody.1 ∙ waits.no_answer);
-        own = λ less. rw (eq-eqb e.actor e.actor refl) (ap (λ (x : Processor). takes shapes x e.found) before ∙ (ap (takes shapes m) moves_nobody.1 ∙ waits.stays));
+        own = λ less. own_is;
+        sweeps = ap sweep_of (runs_are shapes l pacing may (e ∷ es) e.actor lt ∙ (ap actor.Runs own_is ∙ sym here));
       }
 
     module _ (ge : l.procs ≤ e.actor) where
       before_rests : before_step k (deeds shapes) es e ≡ opening_processor l e.actor
       before_rests = rests_on shapes l pacing may e es legal ge (rests shapes l pacing may es legal.0 e.actor ge)
+
+      -- who is neither a processor nor the coordinator is a worker
+      works : (w : Working) × (at es e.actor ≡ actor.Marks w)
+      works = go (at es e.actor) refl where
+        seat : (y : Actor) → at es e.actor ≡ y → IsSeated l e.actor y
+        seat y is = subst (IsSeated l e.actor) is (seated shapes l pacing es e.actor)
+
+        go : (y : Actor) → at es e.actor ≡ y → (w : Working) × (at es e.actor ≡ actor.Marks w)
+        go (actor.Marks w) is = (w, is)
+        go (actor.Runs y) is = absurd (let less : e.actor < l.procs = seat (actor.Runs y) is in omega (arith, less, ge))
+        go (actor.Leads y) is = absurd (let last = (seat (actor.Leads y) is).0 in omega (arith, last, among))
 
       by_worker : LeavesAll e es
       by_worker = record {
@@ -137,6 +155,7 @@ module _ (shapes : List Shape) (l : Layout) (pacing : Pacing) (may : ℕ → Lis
         no_point = ap (λ (x : Processor). (deeds shapes).acts x e.found) before_rests;
         no_answer = ap (λ (x : Processor). (deeds shapes).gives x e.found) before_rests;
         own = λ less. absurd (omega (arith, less, ge));
+        sweeps = worker_sweeps_none shapes l pacing may e es lists legal c phase led post among works.0 works.1;
       }
 
     pub is_still : IsStill e es

@@ -1,5 +1,5 @@
 -- What the one state says of the numbers of spans, and of marks while no cycle is marked: of each word of bits it says whether a sweep has cut it and cleared its marks.
-use Rattle.std.proofs.Common.{◌≡◌, ◌⊎◌, inl, inr, ℕ, ◌+◌, ◌-◌, ◌*◌, ◌/◌, ◌<◌, ◌≤◌, Bool, true, false, cond, refl, sym, ap, subst, ◌∙◌, arith, List, Option, Some, None}
+use Rattle.std.proofs.Common.{◌≡◌, ◌⊎◌, inl, inr, ℕ, ◌+◌, ◌-◌, ◌*◌, ◌/◌, ◌<◌, ◌≤◌, ◌==◌, Bool, true, false, cond, ltb, refl, sym, ap, subst, ◌∙◌, arith, List, [], ◌∷◌, Option, Some, None}
 use Rattle.std.proofs.lemmas.Bool.Decides.{nat_tests}
 use Rattle.std.proofs.lemmas.Nat.Bits.{bit_at-zero}
 use Rattle.std.specs.Int.{bit_at}
@@ -13,22 +13,29 @@ use Rattle.gh_sweep.specs.Shared.{By, Done, Far, InSpan, IsNumbered, SaysFar, Un
 use Rattle.gh_sweep.specs.Shared as sweep
 use Rattle.gh_sweep.specs.Sound.{reached}
 use Rattle.gh_sweep.specs.Sweepers.{has_span, HasReached, marks_cleared}
-use Rattle.gh_state.specs.Shared.{marks_in, sweep_of, sweep_over, Told}
-use Rattle.gh_coord.specs.declared.sweep_all.SweepAllStage.TheVariants as all
+use Rattle.gh_state.specs.Shared.{marks_in, sweep_over, Told}
+use Rattle.gh_state.specs.Shared.{sweep_of as spans_of}
+use Rattle.gh_coord.specs.declared.close.CloseStage.TheVariants as closing
+use Rattle.gh_coord.specs.Closing as closes_by
 use Rattle.gh_coord.specs.declared.tell.TellStage.TheVariants as telling
+use Rattle.gh_coord.specs.declared.coord.CoordStage.TheVariants as coord_at
 use Rattle.gh_coord.specs.Handshake as leading
+use Rattle.gh_coord.specs.Listing as coord
+use Rattle.gh_worker.specs.Listing as worker
 use Rattle.gh_mutator.specs.declared.new.NewStage.TheVariants as new_stage
 use Rattle.gh_mutator.specs.declared.task.Task.TheVariants as task
 use Rattle.gh_mutator.specs.Facts.{KnowsAt, KnowsNew}
 use Rattle.gh_mutator.specs.PollHeap.{Rests}
 use Rattle.gh_world.specs.declared.handshake.Actor.TheVariants as actor
-use Rattle.gh_world.specs.SweepMarks.{AllAreSwept, CachedAreSwept, IsRunning, IsUncut, MarksAreLeft, OwnedAreSwept, SaysHowFar, SpansAreNumbered, sweep_at, sweep_in, SweepsStand}
-use Rattle.gh_world.specs.ActorsHold.{IsUnderWay, SweepsAt}
-use Rattle.gh_world.specs.HoldVocabulary.{generation_of as generation_at, marks_at, View}
-use Rattle.gh_world.proofs.Vocabulary.{◌%◌, acks_of, alloc_words, Arena, arena, Check, Close, Coordinating, CoordStage, Count, CycleEnd, Entry, Ever, ever, HasState, Head, HoldsAt, IsBeginning, IsInLimits, IsLed, IsQuiet, IsTelling, Layout, mark_words, MarkOn, Name, new_polls, NewStage, Op, Open, Pacing, page_of, PageWord, page_words, Polling, processor_at, Reach, Row, row_bit, Shape, State, StopAgain, Sweep, SweepAllStage, SweepStage, Task, Tell, TellStage, view, Watch, Words, words}
+use Rattle.gh_world.specs.SweepMarks.{AllAreSwept, CachedAreSwept, IsRunning, IsUncut, MarksAreLeft, OwnedAreSwept, SaysHowFar, SpansAreNumbered, SweepsStand}
+use Rattle.gh_world.specs.ActorsHold.{IsUnderWay}
+use Rattle.gh_world.specs.Sweepers.{IsInSweep, sweep_of}
+use Rattle.gh_world.specs.HoldVocabulary.{generation_of as generation_at, marks_at, Runs, View}
+use Rattle.gh_world.proofs.Vocabulary.{◌%◌, acks_of, Actor, actors_after, alloc_words, Arena, arena, Check, Close, CloseStage, Coordinating, CoordStage, Count, CycleEnd, Entry, Ever, ever, HasState, Head, HoldsAt, IsBeginning, IsClosing, IsInLimits, IsLed, IsTelling, Layout, Legal, mark_words, MarkOn, Name, new_polls, NewStage, Op, Open, opening_processor, Pacing, page_of, PageWord, page_words, Polling, processor_at, Reach, Row, row_bit, seats_of, Shape, State, StopAgain, Sweep, SweepStage, Task, Tell, TellStage, those, view, Watch, Words, words}
 use Rattle.gh_world.proofs.AllActors.Going.{goes_then, IsGoing}
 use Rattle.gh_world.proofs.AllActors.Known.{Known}
 use Rattle.gh_world.proofs.AllActors.Saying.{has_at, Marked}
+use Rattle.gh_world.proofs.CycleMarking.Seats.{other}
 use Rattle.gh_world.proofs.AllActors.Standing.{once}
 
 -- bits of two rows are the same where their words are
@@ -84,13 +91,17 @@ module _ (shapes : List Shape) (l : Layout) (pacing : Pacing) (may : ℕ → Lis
   abbrev s : State
   s = has.state
 
+  -- who sweeps, at each seat
+  abbrev pub sweeps : ℕ → Option Sweeping
+  sweeps who = sweep_of (actors_after (arena shapes l pacing may) pacing may es who)
+
   abbrev e : CycleEnd
   e = has.state.end
 
   abbrev now : Words
   now = has.state.heap.words
 
-  abbrev good : sweep.Good has.state.end (sweep.view (sweep_of has.state))
+  abbrev good : sweep.Good has.state.end (sweep.view (spans_of has.state))
   good = has.good.sweep
 
   told_are : now ≡ words shapes l pacing may es
@@ -163,33 +174,62 @@ module _ (shapes : List Shape) (l : Layout) (pacing : Pacing) (may : ℕ → Lis
       go true is = absurd (no_bit (mark_words now) x (clear_mark (x / 64) is) set)
       go false is = good.stand x (sym (same_bit (mark_words now) (marks_at e) x (kept_mark (x / 64) is)) ∙ set)
 
-    module _ (limits : IsInLimits l) (known : Known) (m : Option Sweeping) (uncut : (y : Sweeping) (i : ℕ) → m ≡ Some y → IsUncut y i → s.cut i ≡ false) where
-      left_now : MarksAreLeft now s.heap.ever m
+    module _ (limits : IsInLimits l) (known : Known) (runs : (who : ℕ) (m : Sweeping) → sweeps who ≡ Some m → Runs who s m) where
+      -- a sweep has not cut the words that it has not reached
+      uncut : (who i : ℕ) (m : Sweeping) → sweeps who ≡ Some m → IsUncut m i → s.cut i ≡ false
+      uncut who i m is u =
+          let x = sweeps_so who (sweep_over s s.heap.words) m m.stage u.begun (runs who m is).fine.is_at in
+          let from = u.from in let below = u.below in
+          let there : i ≡ 16 * m.page + (i - 16 * m.page) = omega (arith, from) in
+          let within : i - 16 * m.page < bit_words m.head = omega (arith, from, below) in
+          let behind : reached m.head m.stage ≤ i - 16 * m.page = omega (arith, from) in
+          ap s.cut there ∙ (x.are_cut (i - 16 * m.page) within ∙ grind (arith, nat_tests, behind))
+
+      left_now : MarksAreLeft now s.heap.ever sweeps
       left_now = record {
         cleared = cleared;
         unswept = λ n a reach at x number. in_unswept n a (once shapes l pacing may limits known es has n a reach at) reach x number;
-        uncut = λ n a y reach at is in_it. in_uncut n a (once shapes l pacing may limits known es has n a reach at) reach (uncut y (a / 64) is in_it);
+        uncut = λ n a who m reach at is in_it. in_uncut n a (once shapes l pacing may limits known es has n a reach at) reach (uncut who (a / 64) m is in_it);
         stand = stand;
       }
 
-      pub marks_left : MarksAreLeft (words shapes l pacing may es) (ever shapes l pacing may es) m
-      marks_left = subst (λ (x : Ever). MarksAreLeft (words shapes l pacing may es) x m) has.of_list.ever_is (subst (λ (w : Words). MarksAreLeft w s.heap.ever m) told_are left_now)
+      pub marks_left : MarksAreLeft (words shapes l pacing may es) (ever shapes l pacing may es) sweeps
+      marks_left = subst (λ (x : Ever). MarksAreLeft (words shapes l pacing may es) x sweeps) has.of_list.ever_is (subst (λ (w : Words). MarksAreLeft w s.heap.ever sweeps) told_are left_now)
 
-  -- While a cycle is opened no mark is set, and each span is swept.
-  module _ (far : (p : ℕ) → s.far p ≡ Done) (none : (i : ℕ) → now (cell.Mark i) ≡ 0) where
-    none_left : MarksAreLeft now s.heap.ever None
+  -- While a cycle is opened no mark is set, each span is swept, and nobody sweeps.
+  module _ (far : (p : ℕ) → s.far p ≡ Done) (none : (i : ℕ) → now (cell.Mark i) ≡ 0) (nobody : (who : ℕ) → sweeps who ≡ None) where
+    none_left : MarksAreLeft now s.heap.ever sweeps
     none_left = record {
       cleared = λ i swept. none i;
       unswept = λ n a reach at x number. let swept = number_is (now cell.Gen) x.h (s.far x.p) (number_at x.p x.h x.head) (far x.p) in absurd (omega (arith, swept, number));
-      uncut = λ n a y reach at is in_it. absurd (cc);
+      uncut = λ n a who m reach at is in_it. absurd (let no : None ≡ Some m = sym (nobody who) ∙ is in cc);
       stand = λ x set. absurd (no_bit (mark_words now) x (none (x / 64)) set);
     }
 
-    pub no_marks_left : MarksAreLeft (words shapes l pacing may es) (ever shapes l pacing may es) None
-    no_marks_left = subst (λ (x : Ever). MarksAreLeft (words shapes l pacing may es) x None) has.of_list.ever_is (subst (λ (w : Words). MarksAreLeft w s.heap.ever None) told_are none_left)
+    pub no_marks_left : MarksAreLeft (words shapes l pacing may es) (ever shapes l pacing may es) sweeps
+    no_marks_left = subst (λ (x : Ever). MarksAreLeft (words shapes l pacing may es) x sweeps) has.of_list.ever_is (subst (λ (w : Words). MarksAreLeft w s.heap.ever sweeps) told_are none_left)
+
+-- At a seat that is none nobody steps, so nobody sweeps.
+module _ (shapes : List Shape) (l : Layout) (pacing : Pacing) (may : ℕ → List (Entry Op) → Op → Bool) (known : Known) where
+  none_first : (who : ℕ) → sweep_of (actors_after (arena shapes l pacing may) pacing may [] who) ≡ None
+  none_first who = go (ltb who l.procs) (ltb who (acks_of l)) where
+    go : (b d : Bool) → sweep_of (cond b (actor.Runs (opening_processor l who)) (cond d (actor.Marks (worker.opening l who)) (actor.Leads (coord.opening l who pacing.gogc pacing.minheap pacing.room)))) ≡ None
+    go true d = known.processors_sweep.at_first l who
+    go false true = known.workers_sweep.at_first l who
+    go false false = known.coordinator_sweeps.at_first l who pacing.gogc pacing.minheap pacing.room
+
+  none_beyond : (es : List (Entry Op)) → Legal (those shapes l pacing may) es → (who : ℕ) → seats_of l ≤ who → sweep_of (actors_after (arena shapes l pacing may) pacing may es who) ≡ None
+  none_beyond [] legal who from = none_first who
+  none_beyond (e ∷ es) legal who from = ap sweep_of (other shapes l pacing e es who (apart (e.actor == who) refl)) ∙ none_beyond es legal.0 who from where
+    apart : (b : Bool) → (e.actor == who) ≡ b → (e.actor == who) ≡ false
+    apart false x = x
+    apart true x = absurd (let same : e.actor ≡ who = grind (arith, nat_tests) in let lt : e.actor < seats_of l = legal.1.actor in omega (arith, same, lt, from))
 
 -- By the coordinator's stage.
 module _ (shapes : List Shape) (l : Layout) (pacing : Pacing) (may : ℕ → List (Entry Op) → Op → Bool) (limits : IsInLimits l) (known : Known) (es : List (Entry Op)) (c : Coordinating) where
+  abbrev at : List (Entry Op) → ℕ → Actor
+  at xs who = actors_after (arena shapes l pacing may) pacing may xs who
+
   -- each span is swept while a cycle is opened and marked
   far_done : (has : HasState shapes l pacing may es) → IsUnderWay has.state → (p : ℕ) → has.state.far p ≡ Done
   far_done has under p = has.good.told under.0 under.1 p
@@ -199,45 +239,50 @@ module _ (shapes : List Shape) (l : Layout) (pacing : Pacing) (may : ℕ → Lis
   swept_at _ marking h (inl b) = absurd b
   swept_at _ marking h (inr on) = let k = (marking on).marking.known in all_swept shapes l pacing may es k.has (far_done k.has k.under_way)
 
-  abbrev Left : Option Sweeping → Type 0
-  Left m = MarksAreLeft (words shapes l pacing may es) (ever shapes l pacing may es) m
+  abbrev Left : Type 0
+  Left = MarksAreLeft (words shapes l pacing may es) (ever shapes l pacing may es) (λ who. sweep_of (at es who))
 
-  quiet_left : (q : IsQuiet shapes l pacing may es c) → Left None
-  quiet_left q = marks_left shapes l pacing may es q.has q.over limits known None (λ y i is in_it. absurd (cc))
+  module _ (legal : Legal (those shapes l pacing may) es) where
+    runs_there : (has : HasState shapes l pacing may es) (who : ℕ) (m : Sweeping) → sweep_of (at es who) ≡ Some m → Runs who has.state m
+    runs_there has who m is = go (ltb who (seats_of l)) refl where
+      go : (b : Bool) → ltb who (seats_of l) ≡ b → Runs who has.state m
+      go true x = (subst (IsInSweep who has.state) is (has.sweeps who (grind (arith, nat_tests)))).0
+      go false x = absurd (let no : None ≡ Some m = sym (none_beyond shapes l pacing may known es legal who (grind (arith, nat_tests))) ∙ is in cc)
 
-  -- the coordinator's sweep has not cut the words that it has not reached
-  uncut_at : (s : State) (p : SweepAllStage) → SweepsAt (acks_of l) s p → (y : Sweeping) (i : ℕ) → sweep_in p ≡ Some y → IsUncut y i → s.cut i ≡ false
-  uncut_at s (all.LoadPage page) h y i is u = absurd (cc)
-  uncut_at s (all.Await page) h y i is u = absurd h
-  uncut_at s all.Ended h y i is u = absurd (cc)
-  uncut_at s (all.Sweep page m) h y i is u =
-      let same : m ≡ y = cc in
-      let v = subst (λ (x : Sweeping). IsUncut x i) (sym same) u in
-      let x = sweeps_so (acks_of l) (sweep_over s s.heap.words) m m.stage v.begun h.runs.fine.is_at in
-      let from = v.from in let below = v.below in
-      let there : i ≡ 16 * m.page + (i - 16 * m.page) = omega (arith, from) in
-      let within : i - 16 * m.page < bit_words m.head = omega (arith, from, below) in
-      let behind : reached m.head m.stage ≤ i - 16 * m.page = omega (arith, from) in
-      ap s.cut there ∙ (x.are_cut (i - 16 * m.page) within ∙ grind (arith, nat_tests, behind))
+    none_runs : (has : HasState shapes l pacing may es) → IsUnderWay has.state → (who : ℕ) (x : Option Sweeping) → sweep_of (at es who) ≡ x → x ≡ None
+    none_runs has under who None is = refl
+    none_runs has under who (Some m) is = absurd (let no : None ≡ Some under.0 = sym (runs_there has who m is).quiet ∙ under.1 in cc)
 
-  told_left : (p : TellStage) → IsTelling shapes l pacing may es c p → Left None
-  told_left telling.Ended h = absurd h
-  told_left telling.StoreTrigger h = quiet_left h.0
-  told_left _ h = quiet_left h.0
+    off_left : (has : HasState shapes l pacing may es) → has.state.told ≡ None → Left
+    off_left has over = marks_left shapes l pacing may es has over limits known (runs_there has)
 
-  left_at : (p : CoordStage) → IsGoing p → (leading.Marks p → ⊥) → HoldsAt shapes l pacing may es c p → Left (sweep_at p)
-  left_at (Open o) going off h = no_marks_left shapes l pacing may es h.0.has (far_done h.0.has h.0.under_way) h.0.marks
-  left_at (Watch w) going off h = absurd (off tt)
-  left_at (StopAgain st) going off h = absurd (off tt)
-  left_at (Check w) going off h = absurd (off tt)
-  left_at MarkOn going off h = absurd (off tt)
-  left_at (Close y) going off h = absurd (off going)
-  left_at (Sweep w) going off s = marks_left shapes l pacing may es s.has s.over limits known (sweep_in w.stage) (uncut_at s.has.state w.stage s.sweeps.stage_is)
-  left_at (Count x) going off h = quiet_left h.0
-  left_at (Tell t) going off h = told_left t.stage h
-  left_at _ going off q = quiet_left q
+    told_left : (p : TellStage) → IsTelling shapes l pacing may es c p → Left
+    told_left telling.Ended h = absurd h
+    told_left telling.StoreTrigger h = off_left h.quiet.has h.quiet.over
+    told_left _ h = off_left h.quiet.has h.quiet.over
 
-  module _ (led : IsLed shapes l pacing may es c) (marking : leading.Marks c.stage → Marked shapes l pacing may es c) (h : HoldsAt shapes l pacing may es c c.stage) where
+    closing_left : (y : closes_by.Closing) (p : CloseStage) → y.stage ≡ p → (leading.Marks (Close y) → ⊥) → IsClosing shapes l pacing may es c p → Left
+    closing_left y closing.StorePhase at off h = off_left h.has h.over
+    closing_left y closing.Ended at off h = absurd h
+    closing_left y _ at off h = absurd (off (ap closes_by.is_marking at))
+
+    opening_left : (has : HasState shapes l pacing may es) → IsUnderWay has.state → ((i : ℕ) → has.state.heap.words (cell.Mark i) ≡ 0) → Left
+    opening_left has under none = no_marks_left shapes l pacing may es has (far_done has under) none (λ who. none_runs has under who (sweep_of (at es who)) refl)
+
+    left_at : (p : CoordStage) → IsGoing p → (leading.Marks p → ⊥) → HoldsAt shapes l pacing may es c p → Left
+    left_at (Open o) going off h = opening_left h.0.has h.0.under_way h.0.marks
+    left_at (Watch w) going off h = absurd (off tt)
+    left_at (StopAgain st) going off h = absurd (off tt)
+    left_at (Check w) going off h = absurd (off tt)
+    left_at MarkOn going off h = absurd (off tt)
+    left_at (Close y) going off h = closing_left y y.stage refl off h
+    left_at (Sweep w) going off s = off_left s.has s.over
+    left_at (Count x) going off h = off_left h.quiet.has h.quiet.over
+    left_at (Tell t) going off h = told_left t.stage h
+    left_at coord_at.Done going off h = off_left h.quiet.has h.quiet.over
+    left_at _ going off q = off_left q.has q.over
+
+  module _ (legal : Legal (those shapes l pacing may) es) (led : IsLed shapes l pacing may es c) (marking : leading.Marks c.stage → Marked shapes l pacing may es c) (h : HoldsAt shapes l pacing may es c c.stage) where
     going : IsGoing c.stage
     going = goes_then shapes l pacing may es c led
 
@@ -253,5 +298,5 @@ module _ (shapes : List Shape) (l : Layout) (pacing : Pacing) (may : ℕ → Lis
       owned = owned_swept shapes l pacing may es has;
       cached = cached_swept shapes l pacing may es has;
       marked = λ d too. subst (λ (x : Coordinating). IsBeginning x.stage ⊎ leading.Marks x.stage → AllAreSwept (words shapes l pacing may es)) (one_lead d too) (swept_at c.stage marking h);
-      marks = λ d too. subst (λ (x : Coordinating). (leading.Marks x.stage → ⊥) → Left (sweep_at x.stage)) (one_lead d too) (λ off. left_at c.stage going off h);
+      marks = λ d too. subst (λ (x : Coordinating). (leading.Marks x.stage → ⊥) → Left) (one_lead d too) (λ off. left_at legal c.stage going off h);
     }

@@ -70,6 +70,5 @@ module _ (shapes : List Shape) (l : Layout) (pacing : Pacing) (counts : ℕ → 
   knows_heap = record {
     begins = λ es c legal led b was. steps.begins shapes l pacing counts good limits known wanted lists es c legal led b (holds es legal was c led);
     objects = marks.objects shapes l pacing (may_of shapes l counts) known;
-    lasts = λ e es c then legal led led_then on x s t is was_good good_then k ge went left none words_are.
-        last.lasts shapes l pacing (may_of shapes l counts) limits known lists e es legal ge (last.is_beside shapes l pacing (may_of shapes l counts) limits known lists e es legal ge then led_then on) x s t k was_good good_then went none words_are then led_then on;
+    lasts = λ e es c then legal led led_then on x s t is was_good good_then k ge went left none words_are. last.lasts shapes l pacing (may_of shapes l counts) limits known lists e es legal ge then led_then on x s t k was_good good_then went none words_are;
   }

@@ -13,14 +13,14 @@ use Rattle.gh_coord.specs.Telling as tell
 use Rattle.gh_worker.specs.Listing as worker
 use Rattle.gh_world.specs.declared.handshake.Actor.TheVariants as actor
 use Rattle.gh_world.specs.Actors.{IsTelling}
-use Rattle.gh_world.specs.Numbers.{Counted}
+use Rattle.gh_world.specs.Numbers.{Counted, Opened}
 use Rattle.gh_world.specs.Vocabulary.{CoordStage, Entry, Kind, Layout, Legal, Op, OpenStage, Processor, processor_kind, Shape, started, Words}
-use Rattle.gh_world.specs.RunVocabulary.{Ask, Check, Checked, Close, CloseStage, Count, Done, effect, generation_of, IsFew, KeepsIt, LiveCleared, LoadAck, LoadWant, MarkOn, Open, opened_in, Pacing, Part, part_of, ProcessorWritesItsOwn, Stop, StopAgain, Sweep, Tell, TellStage, Watch, WorkersWriteTheirOwn}
-use Rattle.gh_world.proofs.CycleNumbers.Frames.{leaves, Numbers, numbers_of, worker_leaves}
+use Rattle.gh_world.specs.RunVocabulary.{Ask, Check, Checked, Close, CloseStage, Count, Done, effect, generation_of, IsFew, KeepsIt, LoadAck, LoadWant, MarkOn, Open, opened_in, Pacing, Part, part_of, ProcessorWritesItsOwn, Stop, StopAgain, Sweep, Tell, TellStage, Watch, WorkersWriteTheirOwn}
+use Rattle.gh_world.proofs.CycleNumbers.Frames.{leaves, Numbers, numbers_of}
 use Rattle.gh_world.proofs.CycleNumbers.Leading.{Is, Reads}
 use Rattle.gh_world.proofs.CycleNumbers.Lists.{holds}
 use Rattle.gh_world.proofs.CycleNumbers.Parts.{At, own_of}
-use Rattle.gh_world.proofs.CycleNumbers.Quiet.{all_quiet, count_still, stop_still, watch_still}
+use Rattle.gh_world.proofs.CycleNumbers.Quiet.{all_quiet, count_quiet, stop_quiet, watch_quiet, worker_quiet}
 use Rattle.gh_world.proofs.CycleNumbers.Seats as seats
 use Rattle.gh_world.proofs.CycleNumbers.Writing.{leaves_numbers}
 
@@ -36,7 +36,7 @@ spares ask h = record { gen = λ w. ap (λ (n : Numbers). n.gen) (h w); begun = 
 -- what the coordinator's step is to the numbers
 pub data Does (c : coord.Coordinating) (p : CoordStage) (ask : Ask) : Type 0 where
   spares_them : Spares ask → Does c p ask
-  begins_it : part_of p ≡ LiveCleared → ask ≡ Store cell.Begun c.begun → Does c p ask
+  begins_it : part_of p ≡ Opened → ask ≡ Store cell.Begun c.begun → Does c p ask
   ends_it : part_of p ≡ Checked → (x : close.Closing) → p ≡ Close x → x.stage ≡ close_stage.StoreGen → ask ≡ Store cell.Gen c.generation → Does c p ask
   tells_it : part_of p ≡ Counted → IsTelling p → ask ≡ Store cell.Swept c.begun → Does c p ask
 
@@ -58,6 +58,7 @@ module _ (c : coord.Coordinating) where
   closing x close_stage.LoadBank e = spares_them (record { gen = λ w. refl; begun = λ w. refl; swept = λ w. refl })
   closing x close_stage.ClearBank e = spares_them (record { gen = λ w. refl; begun = λ w. refl; swept = λ w. refl })
   closing x close_stage.StoreGen e = ends_it refl (record x { stage = close_stage.StoreGen }) refl refl (ap (Store cell.Gen) e)
+  closing x close_stage.StorePhase e = spares_them (record { gen = λ w. refl; begun = λ w. refl; swept = λ w. refl })
   closing x close_stage.Ended e = spares_them (record { gen = λ w. refl; begun = λ w. refl; swept = λ w. refl })
 
   telling : (t : tell.Telling) (p : TellStage) → t.cycle ≡ c.begun → Does c (Tell (record t { stage = p })) (tell.asks_at t p)
@@ -66,24 +67,20 @@ module _ (c : coord.Coordinating) where
   telling t tell_stage.StorePhase e = spares_them (record { gen = λ w. refl; begun = λ w. refl; swept = λ w. refl })
   telling t tell_stage.Ended e = spares_them (record { gen = λ w. refl; begun = λ w. refl; swept = λ w. refl })
 
-  does : (n : Numbers) (p : CoordStage) → leading.SoundAt c p → Reads n c p → Does c p (coord.asks_at c p)
-  does n (LoadAck i) s r = spares_them (record { gen = λ w. refl; begun = λ w. refl; swept = λ w. refl })
-  does n LoadWant s r = spares_them (record { gen = λ w. refl; begun = λ w. refl; swept = λ w. refl })
-  does n (Stop st) s r = spares_them (spares (coord.asks_at c (Stop st)) (λ w. (stop_still w st st.stage).numbers))
-  does n (Open o) s r = opening o o.stage (ap (λ (x : opens_by.CycleOpening). x.cycle) s.0)
-  does n (Watch v) s r = spares_them (spares (coord.asks_at c (Watch v)) (λ w. (watch_still w v v.stage).numbers))
-  does n (StopAgain st) s r = spares_them (spares (coord.asks_at c (StopAgain st)) (λ w. (stop_still w st st.stage).numbers))
-  does n (Check v) s r = spares_them (spares (coord.asks_at c (Check v)) (λ w. (watch_still w v v.stage).numbers))
-  does n MarkOn s r = spares_them (record { gen = λ w. refl; begun = λ w. refl; swept = λ w. refl })
-  does n (Close x) s r = closing x x.stage (ap (λ (y : close.Closing). y.generation) s)
-  does n (Sweep v) s r = spares_them (record {
-    gen = λ w. ap (λ (n : Numbers). n.gen) (all_quiet w v v.stage).counts;
-    begun = λ w. ap (λ (n : Numbers). n.begun) (all_quiet w v v.stage).counts;
-    swept = λ w. ap (λ (n : Numbers). n.swept) (all_quiet w v v.stage).counts;
-  })
-  does n (Count x) s r = spares_them (spares (coord.asks_at c (Count x)) (λ w. (count_still w x.stage).numbers))
-  does n (Tell t) s r = telling t t.stage r
-  does n Done s r = spares_them (record { gen = λ w. refl; begun = λ w. refl; swept = λ w. refl })
+  does : (p : CoordStage) → leading.SoundAt c p → Reads c p → Does c p (coord.asks_at c p)
+  does (LoadAck i) s r = spares_them (record { gen = λ w. refl; begun = λ w. refl; swept = λ w. refl })
+  does LoadWant s r = spares_them (record { gen = λ w. refl; begun = λ w. refl; swept = λ w. refl })
+  does (Stop st) s r = spares_them (spares (coord.asks_at c (Stop st)) (λ w. (stop_quiet w st st.stage).numbers))
+  does (Open o) s r = opening o o.stage (ap (λ (x : opens_by.CycleOpening). x.cycle) s.0)
+  does (Watch v) s r = spares_them (spares (coord.asks_at c (Watch v)) (λ w. (watch_quiet w v v.stage).numbers))
+  does (StopAgain st) s r = spares_them (spares (coord.asks_at c (StopAgain st)) (λ w. (stop_quiet w st st.stage).numbers))
+  does (Check v) s r = spares_them (spares (coord.asks_at c (Check v)) (λ w. (watch_quiet w v v.stage).numbers))
+  does MarkOn s r = spares_them (record { gen = λ w. refl; begun = λ w. refl; swept = λ w. refl })
+  does (Close x) s r = closing x x.stage (ap (λ (y : close.Closing). y.generation) s)
+  does (Sweep v) s r = spares_them (spares (coord.asks_at c (Sweep v)) (λ w. (all_quiet w v v.stage).numbers))
+  does (Count x) s r = spares_them (spares (coord.asks_at c (Count x)) (λ w. (count_quiet w x.stage).numbers))
+  does (Tell t) s r = telling t t.stage r
+  does Done s r = spares_them (record { gen = λ w. refl; begun = λ w. refl; swept = λ w. refl })
 
 module _ (shapes : List Shape) (l : Layout) (pacing : Pacing) (may : ℕ → List (Entry Op) → Op → Bool)
     (writes : ProcessorWritesItsOwn) (works : WorkersWriteTheirOwn)
@@ -151,10 +148,10 @@ module _ (shapes : List Shape) (l : Layout) (pacing : Pacing) (may : ℕ → Lis
 
     by : seats.Step shapes l pacing may e es → Change e es
     by (seats.by_processor m x s) = same (subst Spares (sym x.asked) (spares (k.asks (started k e.begun m)) (λ w. (leaves w (k.asks (started k e.begun m)) (leaves_numbers writes (started k e.begun m) x.sound_then)).numbers)))
-    by (seats.by_worker v x s) = same (subst Spares (sym x.asked) (spares (worker.asks v) (λ w. (worker_leaves w v.seat (worker.asks v) (works v x.sound_it x.busy)).numbers)))
+    by (seats.by_worker v x s) = same (subst Spares (sym x.asked) (spares (worker.asks v) (λ w. (worker_quiet w works v x.sound_it x.busy).numbers)))
     by (seats.by_lead c x) =
         let h = holds shapes l pacing may writes works keeps es legal.0 few c x.is in
-        by_lead c x h (does c (numbers_of (words es)) c.stage x.sound_it.1 h.reads)
+        by_lead c x h (does c c.stage x.sound_it.1 h.reads)
 
   -- no number is ever less
   pub record Rises (e : Entry Op) (es : List (Entry Op)) : Type 0 where

@@ -1,7 +1,6 @@
 -- A `new` that finds no room has waited, and so has a `gc` that ends: behind its begin a later cycle was swept before.
-use Rattle.std.proofs.Common.{◌≡◌, ℕ, ◌<◌, ◌≤◌, Bool, true, false, cond, ltb, List, Option, Some, None, refl, sym, ap, ◌∙◌, arith}
+use Rattle.std.proofs.Common.{◌≡◌, ℕ, ◌<◌, ◌≤◌, Bool, true, false, cond, List, Option, Some, None, refl, sym, ap, ◌∙◌, arith}
 use Rattle.std.specs.Prelude.{is_some}
-use Rattle.std.proofs.lemmas.Bool.{ltb-true}
 use Rattle.gh_world.specs.Vocabulary.{Act, acting, acts_at, after_place, after_search, after_wait, asks, At, begins_at, cache_span, Ends, follows, Found, gives_at, Global, GlobalStage, GoesOn, is_busy_at, makes, NewStage, Op, Place, Placing, Processor, Register, register_of, Search, Shape, Source, takes_at, Task, Then, Wait, Wanted}
 use Rattle.gh_base.specs.declared.cell.Ask.TheVariants as ask
 use Rattle.gh_base.specs.declared.cell.Cell.TheVariants as cell

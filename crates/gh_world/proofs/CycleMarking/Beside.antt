@@ -1,4 +1,4 @@
--- The steps of a worker: they write no word of pages, slots and pointer bits.
+-- The steps of a worker that does not sweep: they write no word of pages, slots and pointer bits.
 use Rattle.std.proofs.Common.{◌≡◌, ℕ, Bool, true, false, cond, eqb, refl, Option, Some, None}
 use Rattle.gh_base.specs.declared.cell.Cell.TheVariants as cell
 use Rattle.gh_phase.specs.declared.resume.ResumeStage.TheVariants as resuming
@@ -16,7 +16,7 @@ use Rattle.gh_wbuf.specs.EntryTaking as take
 use Rattle.gh_wbuf.specs.RoomFinding as room
 use Rattle.gh_wbuf.specs.Trying as try
 use Rattle.gh_worker.specs.declared.worker.WorkerStage.TheVariants as work
-use Rattle.gh_worker.specs.Listing.{asks, asks_at, is_busy}
+use Rattle.gh_worker.specs.Listing.{asks, asks_at, is_busy, sweep_at, sweep_in}
 use Rattle.gh_world.proofs.Vocabulary.{Add, Ask, Cell, effect, GiveStage, Held, Load, Or, put, ResumeStage, RoomStage, ScanStage, ShadeStage, Store, Swap, TakeStage, TryStage, Words, WorkerStage, Working}
 
 -- no word of pages, slots and pointer bits is written
@@ -106,18 +106,20 @@ resumes r resuming.Acknowledge = stores_ack r.seat _
 resumes r _ = loads _
 
 module _ (w : Working) where
-  works_at : (p : WorkerStage) → is_busy p ≡ true → LeavesHeap (asks_at w p)
-  works_at work.LoadPhase b = loads _
-  works_at (work.GiveBack g stops) b = gives g.stage
-  works_at (work.Resuming r) b = resumes r r.stage
-  works_at (work.Taking t) b = takes t t.stage
-  works_at (work.Scanning s) b = scans s s.stage
-  works_at work.Claim b = claims_global
-  works_at (work.Shading sh) b = shades sh sh.stage
-  works_at (work.FindRoom sh r) b = finds_room r r.stage
-  works_at work.Leave b = stores_ack w.seat _
-  works_at work.Done b = absurd cc
-  works_at _ b = loads _
+  works_at : (p : WorkerStage) → sweep_at p ≡ None → is_busy p ≡ true → LeavesHeap (asks_at w p)
+  works_at work.LoadPhase n b = loads _
+  works_at work.LoadPage n b = loads _
+  works_at (work.Sweeping sw) n b = absurd cc
+  works_at (work.GiveBack g stops) n b = gives g.stage
+  works_at (work.Resuming r) n b = resumes r r.stage
+  works_at (work.Taking t) n b = takes t t.stage
+  works_at (work.Scanning s) n b = scans s s.stage
+  works_at work.Claim n b = claims_global
+  works_at (work.Shading sh) n b = shades sh sh.stage
+  works_at (work.FindRoom sh r) n b = finds_room r r.stage
+  works_at work.Leave n b = stores_ack w.seat _
+  works_at work.Done n b = absurd cc
+  works_at _ n b = loads _
 
-  pub works_so : is_busy w.stage ≡ true → LeavesHeap (asks w)
-  works_so b = works_at w.stage b
+  pub works_so : sweep_in w ≡ None → is_busy w.stage ≡ true → LeavesHeap (asks w)
+  works_so n b = works_at w.stage n b

@@ -7,7 +7,7 @@ use Rattle.gh_coord.specs.declared.close.CloseStage.TheVariants as close_stage
 use Rattle.gh_coord.specs.declared.open.OpenStage.TheVariants as open_stage
 use Rattle.gh_coord.specs.declared.stop.StopStage.TheVariants as stop_stage
 use Rattle.gh_coord.specs.declared.watch.WatchStage.TheVariants as watch_stage
-use Rattle.gh_coord.specs.Handshake.{Marks, post_at}
+use Rattle.gh_coord.specs.Handshake.{close_post, Marks, post_at}
 use Rattle.gh_coord.specs.Closing as close
 use Rattle.gh_coord.specs.Counting as count
 use Rattle.gh_coord.specs.Listing.{is_busy}
@@ -168,7 +168,8 @@ module _ (l : Layout) (number : ℕ) (words : Words) (s : Coordinating) (marks :
   closing : (c : close.Closing) (p : CloseStage) (found : ℕ) → c.stage ≡ p → close.is_busy p ≡ true → To (Close c) (after_close (at_stage u (Close (close.goes_at c p found))) (close.given (close.goes_at c p found)))
   closing c close_stage.LoadBank found e b = goes_on (rw e refl) (rw e (record { quiet = λ sh. tt; aside = loads _ })) refl (λ x. rw e x)
   closing c close_stage.ClearBank found e b = goes_on (rw e refl) (rw e (record { quiet = λ sh. tt; aside = stores_bank _ })) refl (λ x. rw e (record { cursor = x.cursor; stacks = x.stacks; empty = x.empty }))
-  closing c close_stage.StoreGen found e b = leaves (λ m. m)
+  closing c close_stage.StoreGen found e b = leaves (λ m. cc)
+  closing c close_stage.StorePhase found e b = leaves (λ m. m)
   closing c close_stage.Ended found e b = absurd cc
 
   sweeping : (w : all.SweepingAll) (out : Option (Unit {0})) → Marks (after_sweep (at_stage u (Sweep w)) out).stage → ⊥
@@ -201,8 +202,13 @@ module _ (l : Layout) (number : ℕ) (words : Words) (s : Coordinating) (marks :
   goes_so (Tell w) found b f = leaves (telling (tell.goes w found) (tell.gives w found))
   goes_so Done found b f = absurd cc
 
--- What a stage says lasts where the world is stopped, since no word changes then; at other stages it says nothing of words.
-pub checked_lasts : (l : Layout) (number : ℕ) (words then : Words) (p : CoordStage) → ((phase : RunPhase) → post_at p ≡ Stopped phase → then ≡ words) → CheckedAt l number words p → CheckedAt l number then p
-checked_lasts l number words then (Check w) still h = subst (λ (x : Words). CheckedAt l number x (Check w)) (sym (still run.Mark refl)) h
-checked_lasts l number words then (Close c) still h = subst (λ (x : Words). CheckedAt l number x (Close c)) (sym (still run.Mark refl)) h
-checked_lasts l number words then _ still h = tt
+-- the world is stopped while marking is being ended
+pub still_stopped : (p : CloseStage) → close.is_marking p ≡ true → close_post p ≡ Stopped run.Mark
+still_stopped close_stage.Ended on = absurd cc
+still_stopped _ on = refl
+
+-- What a stage says while a cycle is marked lasts where the world is stopped, since no word changes then; at other stages it says nothing of words.
+pub checked_lasts : (l : Layout) (number : ℕ) (words then : Words) (p : CoordStage) → Marks p → ((phase : RunPhase) → post_at p ≡ Stopped phase → then ≡ words) → CheckedAt l number words p → CheckedAt l number then p
+checked_lasts l number words then (Check w) on still h = subst (λ (x : Words). CheckedAt l number x (Check w)) (sym (still run.Mark refl)) h
+checked_lasts l number words then (Close c) on still h = subst (λ (x : Words). CheckedAt l number x (Close c)) (sym (still run.Mark (still_stopped c.stage on))) h
+checked_lasts l number words then _ on still h = tt

@@ -16,7 +16,8 @@ use Rattle.gh_world.proofs.AllActors.Starts.{legal_start, whole}
 use Rattle.gh_world.proofs.Vocabulary.{acks_of, Actor, actors, actors_after, Arena, Ask, buffer_of, buffers_of, cell_of, ChangesOneCell, Close, CoordStage, Cycle, effect, EndsClean, Entry, Hands, holder_in, is_busy, IsChecked, IsInLimits, IsStartOf, KeepsIt, Layout, Legal, ltb-false, ltb-true, mark_words, Marking as Shared, nat_tests, nothing, Op, opening_processor, Pacing, place_of, row_bit, RunPhase, started, StepKeepsIt, Stopped, WaitsWithNone, Words}
 use Rattle.gh_world.proofs.CycleMarking.Apart.{stays_clear}
 use Rattle.gh_world.proofs.CycleMarking.Asked.{IsInMarking, KnowsHeap, MarksToTheEnd, StepsByMoves, WasMarked}
-use Rattle.gh_world.proofs.CycleMarking.Checking.{begins as begins_cycle, checked_lasts, CheckedAt, Found, Goes, goes_on, goes_so, leaves}
+use Rattle.gh_world.proofs.CycleMarking.Checking.{begins as begins_cycle, checked_lasts, CheckedAt, Found, Goes, goes_on, goes_so, leaves, still_stopped}
+use Rattle.gh_world.proofs.CycleMarking.Looking.{none_sweeps}
 use Rattle.gh_world.proofs.CycleMarking.Moving as moving
 use Rattle.gh_world.proofs.CycleMarking.Moving.{Known}
 use Rattle.gh_world.proofs.CycleNumbers.Seats as seats
@@ -127,14 +128,14 @@ module _ (arena : Arena) (pacing : Pacing) (may : ℕ → List (Entry Op) → Op
     ends = record { done = is_done; reached = clean z s i.good is_done; dead = dead }
 
   -- behind the check all is found, in a stopped world
-  behind : (l : Layout) (number : ℕ) (w : Words) (p : CoordStage) → IsChecked p → CheckedAt l number w p → Found l number w × (leading.post_at p ≡ Stopped run.Mark)
-  behind l number w (Close x) y h = (h, refl)
-  behind l number w _ y h = absurd y
+  behind : (l : Layout) (number : ℕ) (w : Words) (p : CoordStage) → leading.Marks p → IsChecked p → CheckedAt l number w p → Found l number w × (leading.post_at p ≡ Stopped run.Mark)
+  behind l number w (Close x) on y h = (h, still_stopped x.stage on)
+  behind l number w _ on y h = absurd y
 
-  to_the_end : (es : List (Entry Op)) (c : coord.Coordinating) → Lawful es → Led es c → Holds es c → MarksToTheEnd arena pacing may es c
-  to_the_end es c legal led h = record {
+  to_the_end : (es : List (Entry Op)) (c : coord.Coordinating) → Lawful es → Led es c → leading.Marks c.stage → Holds es c → MarksToTheEnd arena pacing may es c
+  to_the_end es c legal led on h = record {
     marking = h.marking;
-    ends = λ x. let y = behind arena.layout c.begun (told es) c.stage x h.checked in ends es legal c led h.marking y.0 y.1;
+    ends = λ x. let y = behind arena.layout c.begun (told es) c.stage on x h.checked in ends es legal c led h.marking y.0 y.1;
   }
 
   -- The list as it was.
@@ -142,7 +143,7 @@ module _ (arena : Arena) (pacing : Pacing) (may : ℕ → List (Entry Op) → Op
   HeldBefore es = (start : List (Entry Op)) (c : coord.Coordinating) → IsStartOf start es → Led start c → leading.Marks c.stage → Holds start c
 
   was_marked : (es : List (Entry Op)) → Lawful es → HeldBefore es → WasMarked arena pacing may es
-  was_marked es legal before start c of led on = to_the_end start c (legal_start (setting arena pacing may) start es of legal) led (before start c of led on)
+  was_marked es legal before start c of led on = to_the_end start c (legal_start (setting arena pacing may) start es of legal) led on (before start c of led on)
 
   module _ (e : Entry Op) (es : List (Entry Op)) (legal : Lawful (e ∷ es)) where
     abbrev a : ℕ
@@ -163,11 +164,11 @@ module _ (arena : Arena) (pacing : Pacing) (may : ℕ → List (Entry Op) → Op
 
       by : (m : Actor) → at es a ≡ m → In (e ∷ es) c
       by (actor.Runs m) is = moving.by_processor arena pacing may known polls heap e es c c legal led led_still on refl h.marking m on (seat_of es a (actor.Runs m) is) is
-      by (actor.Marks w) is = moving.by_worker arena pacing may known polls heap e es c c legal led led_still on refl h.marking w (seat_of es a (actor.Marks w) is).0 among is
+      by (actor.Marks w) is = moving.by_worker arena pacing may known polls heap e es c c legal led led_still on refl h.marking w (none_sweeps arena.shapes arena.layout pacing may known.read keeps es c legal.0 led on a w among is) (seat_of es a (actor.Marks w) is).0 among is
       by (actor.Leads x) is = absurd (let ge : n ≤ a = (seat_of es a (actor.Leads x) is).0 in omega (arith, ge, among))
 
       by_others : Holds (e ∷ es) c
-      by_others = record { marking = by (at es a) refl; checked = checked_lasts arena.layout c.begun (told es) (told (e ∷ es)) c.stage still h.checked }
+      by_others = record { marking = by (at es a) refl; checked = checked_lasts arena.layout c.begun (told es) (told (e ∷ es)) c.stage on still h.checked }
 
     -- a step of the coordinator
     module _ (c to : coord.Coordinating) (end : a ≡ n) (led : Led es c) (then : to ≡ coord.goes c e.found) (led_then : Led (e ∷ es) to) (on : leading.Marks to.stage) (before : HeldBefore es) where

@@ -15,7 +15,7 @@ use Rattle.gh_worker.specs.MarkFacts as marks
 use Rattle.gh_world.specs.declared.handshake.Actor.TheVariants as actor
 use Rattle.gh_world.specs.Handshake.{asks, Sound}
 use Rattle.gh_world.specs.Marking.{IsLedBy, setting, words}
-use Rattle.gh_world.proofs.Vocabulary.{acks_of, Actor, actors, actors_after, Acts, alloc_words, Arena, Ask, bit_at, cell_of, CoordStage, Cycle, effect, Entry, Hands, is_busy, IsBeginning, KeepsIt, Kind, Legal, MarkFacts, Marking as Shared, MarkingBegins, MarkingGood as Good, nat_tests, nothing, Op, Open, Pacing, Party, place_of, Processor, processor_kind, Row, row_bit, seats_of, started, Stopped, WaitsWithNone, Went, Words, WorkerStage}
+use Rattle.gh_world.proofs.Vocabulary.{acks_of, Actor, actors, actors_after, Acts, alloc_words, Arena, Ask, bit_at, cell_of, CoordStage, Cycle, effect, Entry, Hands, is_busy, IsBeginning, KeepsIt, Kind, Legal, MarkFacts, Marking as Shared, MarkingBegins, MarkingGood as Good, nat_tests, nothing, Op, Open, PackedWordsAreReadBack, Pacing, Party, place_of, Processor, processor_kind, Row, row_bit, seats_of, started, Stopped, WaitsWithNone, Went, Words, WorkerStage}
 use Rattle.gh_world.proofs.CycleMarking.Asked.{IsInMarking, Knows, KnowsHeap, LeavesObjects, MayBegin, StepsByMoves, WasMarked}
 use Rattle.gh_world.proofs.CycleMarking.Beside.{LeavesHeap, works_so}
 use Rattle.gh_world.proofs.CycleMarking.Checking.{IsLight}
@@ -49,8 +49,15 @@ objects_stay steps z a s t good went slots = record { since = λ o. by o (t.sinc
   by o true false e f = absurd (let d = step.dead o (record { placed = placed o e; dead = f }) in let no : true ≡ false = sym e ∙ d.dead in cc)
   by o false true e f = absurd (let no : true ≡ false = sym (others.keeps.since o f) ∙ e in cc)
 
--- what gh_marks, gh_mutator and gh_worker say
+is_one : (a b : ℕ) → (a == b) ≡ true → a ≡ b
+is_one a b x = grind (arith, nat_tests, x)
+
+is_other : (a b : ℕ) → (a == b) ≡ false → b ≢ a
+is_other a b x y = grind (arith, nat_tests, x, y)
+
+-- what gh_base, gh_marks, gh_mutator and gh_worker say
 pub record Known : Type 0 where
+  pub read : PackedWordsAreReadBack
   pub processors : MarksByMoves
   pub workers : marks.WorksByMoves
   pub begin : MarkingBegins
@@ -95,10 +102,10 @@ module _ (arena : Arena) (pacing : Pacing) (may : ℕ → List (Entry Op) → Op
       step = known.steps z a s t i.good went
 
       same : (b : ℕ) → (a == b) ≡ true → a ≡ b
-      same b x = grind (arith, nat_tests)
+      same b x = is_one a b x
 
       differs : (b : ℕ) → (a == b) ≡ false → b ≢ a
-      differs b x y = grind (arith, nat_tests)
+      differs b x = is_other a b x
 
       processors : (b : ℕ) (m : Processor) → b < arena.layout.procs → at (e ∷ es) b ≡ actor.Runs m → MarkFacts z b t m
       processors b m lt is = go (a == b) refl where
@@ -161,14 +168,14 @@ module _ (arena : Arena) (pacing : Pacing) (may : ℕ → List (Entry Op) → Op
           then : at (e ∷ es) a ≡ actor.Runs (k.takes (started k e.begun m) e.found)
           then = runs arena.shapes arena.layout pacing e es m is
 
-    -- by a worker
-    pub by_worker : (w : worker.Working) → arena.layout.procs ≤ a → a < n → at es a ≡ actor.Marks w → In (e ∷ es) to
-    by_worker w ge lt is = next land.then land.went then_words (heap.lasts e es c to legal led led_then on_then z s land.then i.is i.good (known.steps z a s land.then i.good land.went).good i.known ge land.went (leaves_objects land.then (worker.asks w) land.went land.words_are (works_so w busy)) (places_none z a land.then (worker.goes w (s.words (cell_of (worker.asks w)))) land.after) then_words)
+    -- by a worker, which sweeps no span
+    pub by_worker : (w : worker.Working) → worker.sweep_in w ≡ None → arena.layout.procs ≤ a → a < n → at es a ≡ actor.Marks w → In (e ∷ es) to
+    by_worker w none ge lt is = next land.then land.went then_words (heap.lasts e es c to legal led led_then on_then z s land.then i.is i.good (known.steps z a s land.then i.good land.went).good i.known ge land.went (leaves_objects land.then (worker.asks w) land.went land.words_are (works_so w none busy)) (places_none z a land.then (worker.goes w (s.words (cell_of (worker.asks w)))) land.after) then_words)
         (λ p now. absurd (let both : actor.Marks (worker.goes w e.found) ≡ actor.Runs p = sym then ∙ now in cc))
         (λ v now. subst (marks.Facts z a land.then) (let both : actor.Marks (worker.goes w e.found) ≡ actor.Marks v = sym then ∙ now in cc) (subst (λ (x : ℕ). marks.Facts z a land.then (worker.goes w x)) (sym found) land.after))
         (λ le. absurd (omega arith)) where
           land : Steps z a s (worker.asks w) (λ t. marks.Facts z a t (worker.goes w (s.words (cell_of (worker.asks w)))))
-          land = known.workers.own_step z a s w i.good (heap.objects z s es i.good i.known) (i.workers a w lt is)
+          land = known.workers.own_step z a s w i.good (heap.objects z s es i.good i.known) none (i.workers a w lt is)
 
           asked : e.ask ≡ worker.asks w
           asked = legal.1.asks ∙ ap asks (ap (started (actors arena.shapes arena.layout pacing) e.begun) is ∙ worker_started arena.shapes arena.layout pacing e.begun w)

@@ -10,7 +10,7 @@ use Rattle.gh_world.specs.Wants.{AreFew, BeginsFew, CountsWants, last_at, MayAsk
 use Rattle.gh_world.proofs.Vocabulary.{Actor, Ask, asked_after, Begins, bit, by, CoordStage, Entry, has_left_at, KeepsIt, Kind, Layout, Legal, LoadAck, LoadWant, nat_tests, Op, Open, opened_in, OpenStage, Pacing, Processor, processor_kind, ProcessorWritesItsOwn, Shape, started, Stop, WorkersWriteTheirOwn}
 use Rattle.gh_world.proofs.CycleMarking.Seats.{other}
 use Rattle.gh_world.proofs.CycleNumbers.Asking.{asked_once, begun_asks, left, most_asks}
-use Rattle.gh_world.proofs.CycleNumbers.Frames.{worker_asks_none}
+use Rattle.gh_world.proofs.CycleNumbers.Quiet.{worker_quiet}
 use Rattle.gh_world.proofs.CycleNumbers.Sums.{total_at, total_below, total_same}
 use Rattle.gh_world.proofs.CycleNumbers.Wanting.{aside as lead_aside}
 use Rattle.gh_world.proofs.CycleNumbers.Seats as seats
@@ -110,7 +110,7 @@ module _ (shapes : List Shape) (l : Layout) (pacing : Pacing) (may : ℕ → Lis
 
     by_step : seats.Step shapes l pacing may e es → asked_in es + left_in es ≤ may_ask_in es → asked_in (e ∷ es) + left_in (e ∷ es) ≤ may_ask_in (e ∷ es)
     by_step (seats.by_processor m x s) h = by_processor m x h
-    by_step (seats.by_worker w x s) h = aside x.from (λ n. ap (λ (q : Ask). asked_after q n) x.asked ∙ worker_asks_none w.seat _ (works w x.sound_it x.busy) n) h
+    by_step (seats.by_worker w x s) h = aside x.from (λ n. ap (λ (q : Ask). asked_after q n) x.asked ∙ (worker_quiet (seats.words shapes l pacing may es) works w x.sound_it x.busy).asks_none n) h
     by_step (seats.by_lead c x) h = aside (let seat = x.seat in omega (arith, seat)) (λ n. ap (λ (q : Ask). asked_after q n) x.asked ∙ (lead_aside 0 0 (seats.words shapes l pacing may es) c 0 c.stage x.sound_it.1).asks_none n) h
 
   asked_few : (es : List (Entry Op)) → Lawful es → asked_in es + left_in es ≤ may_ask_in es

@@ -1,4 +1,4 @@
--- The steps of processors and workers, and what they leave of the words of cycles.
+-- The steps of processors, and what they leave of the words of cycles.
 use Rattle.std.proofs.Common.{◌≡◌, ℕ, suc, ◌⊎◌, inl, inr, Bool, true, false, eqb, refl}
 use Rattle.std.specs.Prelude.{bit_or}
 use Rattle.gh_base.specs.declared.cell.Ask.{Ask}
@@ -7,10 +7,9 @@ use Rattle.gh_base.specs.declared.cell.Cell.{Cell}
 use Rattle.gh_base.specs.declared.cell.Cell.TheVariants as cell
 use Rattle.gh_base.specs.Cells.{put, Words}
 use Rattle.gh_base.specs.Steps.{effect}
-use Rattle.gh_worker.specs.Writing.{IsWritten, WritesItsOwn}
 use Rattle.gh_world.specs.Numbers.{asked_after, opened_after}
 
--- none of the words of a cycle: its phase, its numbers and the request for one, the cursor, what the sweep counts, and the pacing
+-- none of the words of a cycle: its phase, its numbers and the request for one, the cursor, and the pacing
 abbrev pub IsNoNumber : Cell → Type 0
 IsNoNumber cell.Phase = ⊥
 IsNoNumber cell.Gen = ⊥
@@ -22,8 +21,6 @@ IsNoNumber cell.Gcur = ⊥
 IsNoNumber cell.Trigger = ⊥
 IsNoNumber cell.Work = ⊥
 IsNoNumber cell.Slack = ⊥
-IsNoNumber cell.Tally = ⊥
-IsNoNumber cell.Live = ⊥
 IsNoNumber _ = Unit {0}
 
 -- a step that writes none of them, but that it may ask for a cycle
@@ -40,11 +37,9 @@ pub record Numbers : Type 0 where
   pub gen : ℕ
   pub begun : ℕ
   pub swept : ℕ
-  pub tally : ℕ
-  pub live : ℕ
 
 abbrev pub numbers_of : Words → Numbers
-numbers_of w = record { gen = w cell.Gen; begun = w cell.Begun; swept = w cell.Swept; tally = w cell.Tally; live = w cell.Live }
+numbers_of w = record { gen = w cell.Gen; begun = w cell.Begun; swept = w cell.Swept }
 
 -- these stay, and the request stays or is made
 pub record Leaves (words : Words) (ask : Ask) : Type 0 where
@@ -71,16 +66,7 @@ apart cell.Gcur h = absurd h
 apart cell.Trigger h = absurd h
 apart cell.Work h = absurd h
 apart cell.Slack h = absurd h
-apart cell.Tally h = absurd h
-apart cell.Live h = absurd h
 apart _ h = (λ w v. record { numbers = refl; want = refl }, λ v b. refl, λ v b. refl)
-
-written : (seat : ℕ) (c : Cell) → IsWritten seat c → IsNoNumber c
-written seat (cell.Buffer i) h = tt
-written seat (cell.Entry i j) h = tt
-written seat (cell.Mark i) h = tt
-written seat (cell.Ack i) h = tt
-written seat _ h = absurd h
 
 module _ (words : Words) where
   swapped : (c : Cell) (old new : ℕ) → IsApart c → (yes : Bool) → eqb (words c) old ≡ yes → Leaves words (Swap c old new)
@@ -98,17 +84,3 @@ module _ (words : Words) where
 
   pub leaves : (ask : Ask) → LeavesNumbers ask → Leaves words ask
   leaves ask h = by_cell ask h
-
-  -- a worker moves the cursor besides
-  pub worker_leaves : (seat : ℕ) (ask : Ask) → WritesItsOwn seat ask → Leaves words ask
-  worker_leaves seat (Load c) h = leaves (Load c) tt
-  worker_leaves seat (Store c value) h = leaves (Store c value) (written seat c h)
-  worker_leaves seat (Or c bits) h = leaves (Or c bits) (inl (written seat c h))
-  worker_leaves seat (And c bits) h = leaves (And c bits) (written seat c h)
-  worker_leaves seat (Swap c old new) h = leaves (Swap c old new) (written seat c h)
-  worker_leaves seat (Add c more) h = rw h.0 (record { numbers = refl; opens_none = λ b. refl; want = inl (λ b. refl, refl) })
-
--- a worker asks for no cycle
-pub worker_asks_none : (seat : ℕ) (ask : Ask) → WritesItsOwn seat ask → (before : ℕ) → asked_after ask before ≡ before
-worker_asks_none seat (Or c bits) h before = (apart c (written seat c h)).2 bits before
-worker_asks_none seat _ h before = refl

@@ -11,8 +11,9 @@ use Rattle.gh_world.specs.declared.handshake.Actor.TheVariants as actor
 use Rattle.gh_world.specs.Handshake.{Sound}
 use Rattle.gh_world.specs.Numbers.{open_part, opens_one, tell_part}
 use Rattle.gh_world.proofs.Vocabulary.{ahead_at, Ask, Check, Close, close_part, CloseStage, CoordStage, Count, CountsCycles, effect, Entry, generation_of, IsBeginning, IsFew, KeepsIt, Kind, Layout, Legal, MarkOn, Op, Open, opened_after, opened_in, OpenStage, Pacing, Part, part_of, Processor, processor_kind, ProcessorWritesItsOwn, Shape, started, StopAgain, Sweep, Tell, TellStage, Watch, WorkersWriteTheirOwn, ◌↔◌}
-use Rattle.gh_world.proofs.CycleNumbers.Frames.{Leaves, leaves, Numbers, numbers_of, worker_leaves}
+use Rattle.gh_world.proofs.CycleNumbers.Frames.{Leaves, leaves, Numbers, numbers_of}
 use Rattle.gh_world.proofs.CycleNumbers.Leading.{goes_so, Is}
+use Rattle.gh_world.proofs.CycleNumbers.Quiet.{leaves_all, worker_quiet}
 use Rattle.gh_world.proofs.CycleNumbers.Seats as seats
 use Rattle.gh_world.proofs.CycleNumbers.Writing.{leaves_numbers}
 
@@ -45,8 +46,9 @@ module _ (swept begun gen : ℕ) where
   open_marked open_stage.Ended s h = absurd cc
   open_marked _ s h = alike 0 h.0 h.1 (λ x. elim x [ inl y ↦ y | inr y ↦ cc ])
 
-  close_marked : (p : CloseStage) → IsAt (close_part p) → MarkedWhere ((close.is_busy p ≡ true) ⊎ ⊥)
+  close_marked : (p : CloseStage) → IsAt (close_part p) → MarkedWhere ((close.is_marking p ≡ true) ⊎ ⊥)
   close_marked close_stage.LoadBank h = one_more h.0 h.1 (inl refl)
+  close_marked close_stage.StorePhase h = alike 1 h.0 h.1 (λ x. elim x [ inl y ↦ cc | inr y ↦ y ])
   close_marked close_stage.Ended h = alike 1 h.0 h.1 (λ x. elim x [ inl y ↦ cc | inr y ↦ y ])
   close_marked _ h = one_more h.0 h.1 (inl refl)
 
@@ -91,11 +93,7 @@ module _ (shapes : List Shape) (l : Layout) (pacing : Pacing) (may : ℕ → Lis
       gen_is = omega arith;
       number_is = omega arith;
       generation_is = omega arith;
-      no_tally = λ x. refl;
-      no_live = λ x. refl;
-      live_is = λ x. refl;
       keeps = record { room_is = refl; many_are = omega arith; numbered = λ i x is. absurd cc };
-      tally_is = λ m x is. absurd (omega (arith, is));
     };
     reads = tt;
   })
@@ -118,7 +116,7 @@ module _ (shapes : List Shape) (l : Layout) (pacing : Pacing) (may : ℕ → Lis
         let free = subst (λ (q : Ask). Leaves (seats.words shapes l pacing may es) q) (sym x.asked) (leaves (seats.words shapes l pacing may es) _ (leaves_numbers writes (started k e.begun m) x.sound_then)) in
         beside free c (before c (sym stays ∙ led))
     by_step (seats.by_worker w x stays) few before c led =
-        let free = subst (λ (q : Ask). Leaves (seats.words shapes l pacing may es) q) (sym x.asked) (worker_leaves (seats.words shapes l pacing may es) w.seat _ (works w x.sound_it x.busy)) in
+        let free = subst (λ (q : Ask). Leaves (seats.words shapes l pacing may es) q) (sym x.asked) (leaves_all (seats.words shapes l pacing may es) _ (worker_quiet (seats.words shapes l pacing may es) works w x.sound_it x.busy)) in
         beside free c (before c (sym stays ∙ led))
     by_step (seats.by_lead b x) few before c led =
         by_lead b c x (let both : actor.Leads c ≡ actor.Leads (coord.goes b e.found) = sym led ∙ x.then in cc) (few_before few) (before b x.is)
@@ -138,9 +136,5 @@ module _ (shapes : List Shape) (l : Layout) (pacing : Pacing) (may : ℕ → Lis
     number = h.number_is;
     generation = h.generation_is;
     marks = marked (told es).swept (told es).begun (told es).gen c c.stage s.1 (h.begun_is, h.gen_is);
-    no_tally = h.no_tally;
-    no_live = h.no_live;
-    live = h.live_is;
     cycles = h.keeps;
-    tally = h.tally_is;
   }

@@ -15,7 +15,7 @@ use Rattle.gh_coord.specs.Watching as watch
 use Rattle.gh_world.specs.Asked.{IsClearing}
 use Rattle.gh_world.specs.Numbers.{opens_one}
 use Rattle.gh_world.proofs.Vocabulary.{after_check, after_close, after_count, after_open, after_stop, after_stop_again, after_sweep, after_tell, after_watch, All, Ask, asks_at, at_stage, Check, Close, CloseStage, Coordinating, CoordStage, Count, Counted, Done, effect, goes_at, LoadAck, LoadWant, MarkOn, NotYet, Open, opened_after, OpenStage, Stop, StopAgain, stops_world, Store, Sweep, Tell, TellStage, Watch, Watched, Words}
-use Rattle.gh_world.proofs.CycleNumbers.Quiet.{all_quiet, count_still, Quiet, stop_still, watch_still}
+use Rattle.gh_world.proofs.CycleNumbers.Quiet.{all_quiet, count_quiet, Quiet, stop_quiet, watch_quiet}
 
 -- what opens no cycle in any count opens none
 pub none_opened : (ask : Ask) → ((before : ℕ) → opened_after ask before ≡ before) → opens_one ask ≡ false
@@ -55,14 +55,14 @@ module _ (w : Words) (s : Coordinating) where
 
   pub clears : (p : CoordStage) → (IsClearing p × (asks_at s p ≡ Store cell.Want 0)) ⊎ Leaves (asks_at s p)
   clears (LoadAck i) = inr (refl, refl)
-  clears (Stop st) = inr (quiet _ (stop_still w st st.stage).quiet)
+  clears (Stop st) = inr (quiet _ (stop_quiet w st st.stage))
   clears (Open o) = open_leaves o o.stage
-  clears (Watch v) = inr (quiet _ (watch_still w v v.stage).quiet)
-  clears (StopAgain st) = inr (quiet _ (stop_still w st st.stage).quiet)
-  clears (Check v) = inr (quiet _ (watch_still w v v.stage).quiet)
+  clears (Watch v) = inr (quiet _ (watch_quiet w v v.stage))
+  clears (StopAgain st) = inr (quiet _ (stop_quiet w st st.stage))
+  clears (Check v) = inr (quiet _ (watch_quiet w v v.stage))
   clears (Close c) = inr (close_leaves c c.stage)
   clears (Sweep v) = inr (quiet _ (all_quiet w v v.stage))
-  clears (Count c) = inr (quiet _ (count_still w c.stage).quiet)
+  clears (Count c) = inr (quiet _ (count_quiet w c.stage))
   clears (Tell t) = inr (tell_leaves t t.stage)
   clears _ = inr (refl, refl)
 

@@ -54,13 +54,12 @@ in_turn _ = record { opened_first = omega arith; begun_then = omega arith; one =
 open_kept : (p : OpenStage) → (ahead_at (open_part p)).kept ≡ 0
 open_kept open_stage.ClearWant = refl
 open_kept open_stage.ClearGcur = refl
-open_kept open_stage.ClearTally = refl
-open_kept open_stage.ClearLive = refl
 open_kept open_stage.StorePhase = refl
 open_kept open_stage.Ended = refl
 open_kept _ = refl
 
 close_kept : (p : CloseStage) → (ahead_at (close_part p)).kept ≡ 0
+close_kept close_stage.StorePhase = refl
 close_kept close_stage.Ended = refl
 close_kept _ = refl
 

@@ -7,8 +7,9 @@ use Rattle.gh_world.specs.declared.handshake.Actor.TheVariants as actor
 use Rattle.gh_world.specs.Numbers.{asked_in}
 use Rattle.gh_world.specs.Wants.{CountsWants}
 use Rattle.gh_world.proofs.Vocabulary.{Ask, asked_after, CoordStage, effect, Entry, KeepsIt, Kind, Layout, Legal, Op, opened_after, opened_in, Pacing, Processor, processor_kind, ProcessorWritesItsOwn, Shape, started, WorkersWriteTheirOwn}
-use Rattle.gh_world.proofs.CycleNumbers.Frames.{Leaves, leaves, worker_leaves}
+use Rattle.gh_world.proofs.CycleNumbers.Frames.{Leaves, leaves}
 use Rattle.gh_world.proofs.CycleNumbers.Wanting.{goes_so, WantsAt}
+use Rattle.gh_world.proofs.CycleNumbers.Quiet.{leaves_all, worker_quiet}
 use Rattle.gh_world.proofs.CycleNumbers.Seats as seats
 use Rattle.gh_world.proofs.CycleNumbers.Writing.{leaves_numbers}
 
@@ -67,7 +68,7 @@ module _ (shapes : List Shape) (l : Layout) (pacing : Pacing) (may : ℕ → Lis
         let free = subst (λ (q : Ask). Leaves (seats.words shapes l pacing may es) q) (sym x.asked) (leaves (seats.words shapes l pacing may es) _ (leaves_numbers writes (started k e.begun m) x.sound_then)) in
         beside free c (before c (sym stays ∙ led))
     by_step (seats.by_worker w x stays) before c led =
-        let free = subst (λ (q : Ask). Leaves (seats.words shapes l pacing may es) q) (sym x.asked) (worker_leaves (seats.words shapes l pacing may es) w.seat _ (works w x.sound_it x.busy)) in
+        let free = subst (λ (q : Ask). Leaves (seats.words shapes l pacing may es) q) (sym x.asked) (leaves_all (seats.words shapes l pacing may es) _ (worker_quiet (seats.words shapes l pacing may es) works w x.sound_it x.busy)) in
         beside free c (before c (sym stays ∙ led))
     by_step (seats.by_lead b x) before c led =
         by_lead b c x (let both : actor.Leads c ≡ actor.Leads (coord.goes b e.found) = sym led ∙ x.then in cc) (before b x.is)

@@ -4,12 +4,12 @@ use Rattle.gh_base.specs.declared.cell.Cell.TheVariants as cell
 use Rattle.gh_phase.specs.Handshake.{PlaceBegins}
 use Rattle.gh_coord.specs.Listing as coord
 use Rattle.gh_worker.specs.Listing as worker
-use Rattle.gh_worker.specs.Writing.{IsWritten}
 use Rattle.gh_world.specs.declared.handshake.Actor.TheVariants as actor
 use Rattle.gh_world.specs.Waits.{StacksAreNumbered}
-use Rattle.gh_world.proofs.Vocabulary.{Acts, Add, ahead_at, And, Ask, Awake, Begins, Cell, CountsCycles, effect, END, Entry, is_busy, IsAwake, IsFew, IsSound, KeepsIt, Kind, Layout, Legal, Load, Op, opened_in, Or, Outside, Pacing, Part, part_of, Party, party_of, Processor, processor_kind, ProcessorInHandshake, ProcessorWritesItsOwn, put, same_cell, Shape, Stage, stage_of, started, Store, Swap, Words, WorkersWriteTheirOwn, WritesItsOwn}
-use Rattle.gh_world.proofs.CycleNumbers.Frames.{Leaves as Leaves_, leaves, Numbers, worker_leaves}
+use Rattle.gh_world.proofs.Vocabulary.{Acts, Add, ahead_at, And, Ask, Awake, Begins, Cell, CountsCycles, effect, END, Entry, is_busy, IsAwake, IsFew, IsSound, KeepsIt, Kind, Layout, Legal, Load, Op, opened_in, Or, Outside, Pacing, Part, part_of, Party, party_of, Processor, processor_kind, ProcessorInHandshake, ProcessorWritesItsOwn, put, same_cell, Shape, Stage, stage_of, started, Store, Swap, Words, WorkersWriteTheirOwn}
+use Rattle.gh_world.proofs.CycleNumbers.Frames.{Leaves as Leaves_, leaves, Numbers}
 use Rattle.gh_world.proofs.CycleNumbers.Lists.{rises}
+use Rattle.gh_world.proofs.CycleNumbers.Quiet.{leaves_all, Quiet, worker_quiet}
 use Rattle.gh_world.proofs.CycleNumbers.Wanting.{Aside, aside as lead_aside}
 use Rattle.gh_world.proofs.CycleNumbers.Seats as seats
 use Rattle.gh_world.proofs.CycleNumbers.Writing.{IsNumberOf, leaves_numbers, NumbersStack, numbers_stack}
@@ -57,18 +57,6 @@ module _ (words : Words) (g : ℕ) where
     numbered (Add c more) n = elim (which c g) [ inl e ↦ inl (put_same c _ e) | inr h ↦ absurd (subst (λ (d : Cell). NumbersStack party stage (Add d more)) h.1 n) ]
     numbered (Swap c old new) n = elim (which c g) [ inl e ↦ inl (swap_same c old new e (eqb (words c) old)) | inr h ↦ absurd (subst (λ (d : Cell). NumbersStack party stage (Swap d old new)) h.1 n) ]
 
-  -- a worker's
-  not_written : (seat : ℕ) (c : Cell) → IsWritten seat c → same_cell c (cell.Scanned g) ≡ false
-  not_written seat c h = elim (which c g) [ inl e ↦ e | inr x ↦ absurd (subst (IsWritten seat) x.1 h) ]
-
-  pub worker_same : (seat : ℕ) (ask : Ask) → WritesItsOwn seat ask → Same ask
-  worker_same seat (Load c) h = refl
-  worker_same seat (Store c value) h = put_same c value (not_written seat c h)
-  worker_same seat (Or c bits) h = put_same c _ (not_written seat c h)
-  worker_same seat (And c bits) h = put_same c _ (not_written seat c h)
-  worker_same seat (Add c more) h = rw h.0 refl
-  worker_same seat (Swap c old new) h = swap_same c old new (not_written seat c h) (eqb (words c) old)
-
 module _ (shapes : List Shape) (l : Layout) (pacing : Pacing) (may : ℕ → List (Entry Op) → Op → Bool) (places : ProcessorInHandshake) (writes : ProcessorWritesItsOwn)
     (keeps : (es : List (Entry Op)) → Legal (seats.it shapes l pacing may) es → KeepsIt (seats.it shapes l pacing may) es) where
   abbrev k : Kind Processor Op
@@ -106,8 +94,8 @@ module _ (shapes : List Shape) (l : Layout) (pacing : Pacing) (may : ℕ → Lis
       free : (m : Processor) → seats.RunsIt shapes l pacing may e es m → Leaves_ (words es) e.ask
       free m x = subst (λ (q : Ask). Leaves_ (words es) q) (sym x.asked) (leaves (words es) _ (leaves_numbers writes (started k e.begun m) x.sound_then))
 
-      worker_free : (w : worker.Working) → seats.WorksIt shapes l pacing may e es w → Leaves_ (words es) e.ask
-      worker_free w x = subst (λ (q : Ask). Leaves_ (words es) q) (sym x.asked) (worker_leaves (words es) w.seat _ (works w x.sound_it x.busy))
+      worker_free : (w : worker.Working) → seats.WorksIt shapes l pacing may e es w → Quiet (words es) e.ask
+      worker_free w x = subst (λ (q : Ask). Quiet (words es) q) (sym x.asked) (worker_quiet (words es) works w x.sound_it x.busy)
 
       lead_free : (c : coord.Coordinating) → seats.LeadsIt shapes l pacing may e es c → Aside (words es) c.begun e.ask
       lead_free c x = subst (λ (q : Ask). Aside (words es) c.begun q) (sym x.asked) (lead_aside 0 0 (words es) c 0 c.stage x.sound_it.1)
@@ -127,7 +115,7 @@ module _ (shapes : List Shape) (l : Layout) (pacing : Pacing) (may : ℕ → Lis
       begun_rises = by (seats.step shapes l pacing may e es writes legal (keeps es legal.0)) where
         by : seats.Step shapes l pacing may e es → words es cell.Begun ≤ words (e ∷ es) cell.Begun
         by (seats.by_processor m x s) = as_many (free m x)
-        by (seats.by_worker w x s) = as_many (worker_free w x)
+        by (seats.by_worker w x s) = as_many (leaves_all (words es) e.ask (worker_free w x))
         by (seats.by_lead c x) = lead_rises c (counts es c legal.0 (few_before e es few) x.is) (lead_free c x).begun
 
       -- A step leaves a stack's word, or writes the number of an end, or that of the cycle that has begun last.
@@ -144,7 +132,7 @@ module _ (shapes : List Shape) (l : Layout) (pacing : Pacing) (may : ℕ → Lis
               | inl y ↦ inl y
               | inr y ↦ inr (written m x y)
             ]
-        by (seats.by_worker w x s) = inl (worker_same (words es) g w.seat e.ask (subst (λ (q : Ask). WritesItsOwn w.seat q) (sym x.asked) (works w x.sound_it x.busy)))
+        by (seats.by_worker w x s) = inl ((worker_free w x).scanned g)
         by (seats.by_lead c x) = inl ((lead_free c x).scanned g)
 
       next : AllNumbered es → AllNumbered (e ∷ es)

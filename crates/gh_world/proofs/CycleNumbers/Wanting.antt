@@ -15,7 +15,7 @@ use Rattle.gh_coord.specs.Telling as tell
 use Rattle.gh_coord.specs.Watching as watch
 use Rattle.gh_world.proofs.Vocabulary.{after_check, after_close, after_count, after_open, after_stop, after_stop_again, after_sweep, after_tell, after_watch, All, Ask, asked_after, asks_at, at_stage, bit, cell_of, Check, Close, CloseStage, Coordinating, CoordStage, Count, Counted, Done, effect, goes_at, LoadAck, LoadWant, MarkOn, nat_tests, NotYet, Open, opened_after, OpenStage, Stop, StopAgain, stops_world, Store, Sweep, Tell, TellStage, Watch, Watched, Words}
 use Rattle.gh_world.proofs.CycleNumbers.Frames.{Numbers}
-use Rattle.gh_world.proofs.CycleNumbers.Quiet.{all_quiet, count_still, Quiet, stop_still, watch_still}
+use Rattle.gh_world.proofs.CycleNumbers.Quiet.{all_quiet, count_quiet, Quiet, stop_quiet, watch_quiet}
 use Rattle.gh_world.specs.Wants.{IsIdle, IsToOpen, last_at}
 
 pub record WantsAt (opened asked want : ℕ) (is_last : Bool) (p : CoordStage) : Type 0 where
@@ -60,8 +60,8 @@ module _ (opened asked : ℕ) (w : Words) (s : Coordinating) (marks : ℕ) where
   wants false found f e h = record { word = h.word; enough = h.enough; idle = λ x. absurd x; wanted = λ x. inr (let few = h.word in grind (arith, nat_tests, few, f, e)) }
 
   stopping : (st next : stop.Stopping) (out : Option (Unit {0})) → In (Stop st) → Next (stop.asks st) (after_stop (at_stage u (Stop next)) out)
-  stopping st next None h = keeps (stop.asks st) s.is_last (Stop next) (stop_still w st st.stage).quiet (record { word = h.word; enough = h.enough; idle = λ x. absurd x; wanted = λ x. h.wanted tt })
-  stopping st next (Some x) h = keeps (stop.asks st) s.is_last _ (stop_still w st st.stage).quiet (record { word = h.word; enough = h.enough; idle = λ y. absurd y; wanted = λ y. h.wanted tt })
+  stopping st next None h = keeps (stop.asks st) s.is_last (Stop next) (stop_quiet w st st.stage) (record { word = h.word; enough = h.enough; idle = λ x. absurd x; wanted = λ x. h.wanted tt })
+  stopping st next (Some x) h = keeps (stop.asks st) s.is_last _ (stop_quiet w st st.stage) (record { word = h.word; enough = h.enough; idle = λ y. absurd y; wanted = λ y. h.wanted tt })
 
   -- a cycle is opened
   clearing : (o : opens_by.CycleOpening) → In (Open (record o { stage = open_stage.ClearWant })) → WantsAt (suc opened) asked 0 s.is_last (Open (record o { stage = open_stage.ClearGcur }))
@@ -80,18 +80,18 @@ module _ (opened asked : ℕ) (w : Words) (s : Coordinating) (marks : ℕ) where
 
   -- it is marked
   watching : (v next : watch.Watching) (out : Option Watched) → In (Watch v) → Next (watch.asks v) (after_watch (at_stage u (Watch next)) out)
-  watching v next None h = keeps (watch.asks v) s.is_last (Watch next) (watch_still w v v.stage).quiet (within (Watch v) _ refl refl (λ x. x) (λ x. x) h)
-  watching v next (Some All) h = keeps (watch.asks v) s.is_last _ (watch_still w v v.stage).quiet (within (Watch v) _ refl refl (λ x. x) (λ x. x) h)
-  watching v next (Some NotYet) h = keeps (watch.asks v) s.is_last _ (watch_still w v v.stage).quiet (within (Watch v) _ refl refl (λ x. x) (λ x. x) h)
+  watching v next None h = keeps (watch.asks v) s.is_last (Watch next) (watch_quiet w v v.stage) (within (Watch v) _ refl refl (λ x. x) (λ x. x) h)
+  watching v next (Some All) h = keeps (watch.asks v) s.is_last _ (watch_quiet w v v.stage) (within (Watch v) _ refl refl (λ x. x) (λ x. x) h)
+  watching v next (Some NotYet) h = keeps (watch.asks v) s.is_last _ (watch_quiet w v v.stage) (within (Watch v) _ refl refl (λ x. x) (λ x. x) h)
 
   stopping_again : (st next : stop.Stopping) (out : Option (Unit {0})) → In (StopAgain st) → Next (stop.asks st) (after_stop_again (at_stage u (StopAgain next)) out)
-  stopping_again st next None h = keeps (stop.asks st) s.is_last (StopAgain next) (stop_still w st st.stage).quiet (within (StopAgain st) _ refl refl (λ x. x) (λ x. x) h)
-  stopping_again st next (Some x) h = keeps (stop.asks st) s.is_last _ (stop_still w st st.stage).quiet (within (StopAgain st) _ refl refl (λ x. x) (λ x. x) h)
+  stopping_again st next None h = keeps (stop.asks st) s.is_last (StopAgain next) (stop_quiet w st st.stage) (within (StopAgain st) _ refl refl (λ x. x) (λ x. x) h)
+  stopping_again st next (Some x) h = keeps (stop.asks st) s.is_last _ (stop_quiet w st st.stage) (within (StopAgain st) _ refl refl (λ x. x) (λ x. x) h)
 
   checking : (v next : watch.Watching) (out : Option Watched) → In (Check v) → Next (watch.asks v) (after_check (at_stage u (Check next)) out)
-  checking v next None h = keeps (watch.asks v) s.is_last (Check next) (watch_still w v v.stage).quiet (within (Check v) _ refl refl (λ x. x) (λ x. x) h)
-  checking v next (Some All) h = keeps (watch.asks v) s.is_last _ (watch_still w v v.stage).quiet (within (Check v) _ refl refl (λ x. x) (λ x. x) h)
-  checking v next (Some NotYet) h = keeps (watch.asks v) s.is_last _ (watch_still w v v.stage).quiet (within (Check v) _ refl refl (λ x. x) (λ x. x) h)
+  checking v next None h = keeps (watch.asks v) s.is_last (Check next) (watch_quiet w v v.stage) (within (Check v) _ refl refl (λ x. x) (λ x. x) h)
+  checking v next (Some All) h = keeps (watch.asks v) s.is_last _ (watch_quiet w v v.stage) (within (Check v) _ refl refl (λ x. x) (λ x. x) h)
+  checking v next (Some NotYet) h = keeps (watch.asks v) s.is_last _ (watch_quiet w v v.stage) (within (Check v) _ refl refl (λ x. x) (λ x. x) h)
 
   -- its marking is ended
   closing : (c : close.Closing) (p : CloseStage) (found : ℕ) → close.is_busy p ≡ true → In (Close c) → Next (close.asks_at c p) (after_close (at_stage u (Close (close.goes_at c p found))) (close.given (close.goes_at c p found)))
@@ -105,19 +105,30 @@ module _ (opened asked : ℕ) (w : Words) (s : Coordinating) (marks : ℕ) where
   sweeping v next (Some x) h = keeps (all.asks v) s.is_last _ (all_quiet w v v.stage) (within (Sweep v) _ refl refl (λ x. x) (λ x. x) h)
 
   counting : (c next : count.Counting) (out : Option Counted) → In (Count c) → Next (count.asks c) (after_count (at_stage u (Count next)) out)
-  counting c next None h = keeps (count.asks c) s.is_last (Count next) (count_still w c.stage).quiet (within (Count c) _ refl refl (λ x. x) (λ x. x) h)
-  counting c next (Some read) h = keeps (count.asks c) s.is_last _ (count_still w c.stage).quiet (within (Count c) _ refl refl (λ x. x) (λ x. x) h)
+  counting c next None h = keeps (count.asks c) s.is_last (Count next) (count_quiet w c.stage) (within (Count c) _ refl refl (λ x. x) (λ x. x) h)
+  counting c next (Some read) h = keeps (count.asks c) s.is_last _ (count_quiet w c.stage) (within (Count c) _ refl refl (λ x. x) (λ x. x) h)
 
   -- and told
   told_so : (last : Bool) → s.is_last ≡ last → WantsAt opened asked (w cell.Want) last (Sweep (all.opening s.layout 0)) → WantsAt opened asked (w cell.Want) last (cond last Done (LoadAck 0))
   told_so true e h = record { word = h.word; enough = h.enough; idle = λ x. absurd x; wanted = λ x. absurd x }
   told_so false e h = record { word = h.word; enough = h.enough; idle = λ x. refl; wanted = λ x. absurd x }
 
+  told : (t : tell.Telling) → In (Tell t) → WantsAt opened asked (w cell.Want) s.is_last (cond s.is_last Done (LoadAck 0))
+  told t h = told_so s.is_last refl (within (Tell t) (Sweep (all.opening s.layout 0)) refl refl (λ x. x) (λ x. x) h)
+
+  -- behind the last cycle it stores the phase besides
+  abbrev behind_swept : tell.Telling → Bool → Coordinating
+  behind_swept t last = after_tell (at_stage u (Tell (record t { stage = cond last tell_stage.StorePhase tell_stage.Ended }))) (tell.given_at (cond last tell_stage.StorePhase tell_stage.Ended))
+
+  told_swept : (t : tell.Telling) (last : Bool) → In (Tell t) → WantsAt opened asked (w cell.Want) (behind_swept t last).is_last (behind_swept t last).stage
+  told_swept t true h = within (Tell t) _ refl refl (λ x. x) (λ x. x) h
+  told_swept t false h = told t h
+
   telling : (t : tell.Telling) (p : TellStage) → tell.is_busy p ≡ true → In (Tell t) →
-      Next (tell.asks_at t p) (after_tell (at_stage u (Tell (record t { stage = tell.behind p }))) (tell.given_at (tell.behind p)))
+      Next (tell.asks_at t p) (after_tell (at_stage u (Tell (record t { stage = tell.behind t.is_last p }))) (tell.given_at (tell.behind t.is_last p)))
   telling t tell_stage.StoreTrigger b h = within (Tell t) _ refl refl (λ x. x) (λ x. x) h
-  telling t tell_stage.StoreSwept b h = within (Tell t) _ refl refl (λ x. x) (λ x. x) h
-  telling t tell_stage.StorePhase b h = told_so s.is_last refl (within (Tell t) (Sweep (all.opening s.layout 0)) refl refl (λ x. x) (λ x. x) h)
+  telling t tell_stage.StoreSwept b h = told_swept t t.is_last h
+  telling t tell_stage.StorePhase b h = told t h
   telling t tell_stage.Ended b h = absurd cc
 
   pub goes_so : (p : CoordStage) (found : ℕ) → is_busy p ≡ true → found ≡ w (cell_of (asks_at s p)) → In p → Next (asks_at s p) (goes_at u p found)
@@ -136,7 +147,7 @@ module _ (opened asked : ℕ) (w : Words) (s : Coordinating) (marks : ℕ) where
   goes_so Done found b f h = absurd cc
 
   alike : (ask : Ask) → Quiet w ask → Aside w s.begun ask
-  alike ask q = record { asks_none = q.asks_none; scanned = q.scanned; begun = inl (ap (λ (n : Numbers). n.begun) q.counts); swept = inl (ap (λ (n : Numbers). n.swept) q.counts) }
+  alike ask q = record { asks_none = q.asks_none; scanned = q.scanned; begun = inl (ap (λ (n : Numbers). n.begun) q.numbers); swept = inl (ap (λ (n : Numbers). n.swept) q.numbers) }
 
   open_aside : (o : opens_by.CycleOpening) (p : OpenStage) → o.cycle ≡ s.begun → Aside w s.begun (opens_by.asks_at o p)
   open_aside o open_stage.StoreBegun e = record { asks_none = λ b. refl; scanned = λ g. refl; begun = inr (ap (λ (v : ℕ). Store cell.Begun v) e); swept = inl refl }
@@ -152,13 +163,13 @@ module _ (opened asked : ℕ) (w : Words) (s : Coordinating) (marks : ℕ) where
   tell_aside t _ = record { asks_none = λ b. refl; scanned = λ g. refl; begun = inl refl; swept = inl refl }
 
   pub aside : (p : CoordStage) → SoundAt s p → Aside w s.begun (asks_at s p)
-  aside (Stop st) e = alike (stop.asks st) (stop_still w st st.stage).quiet
+  aside (Stop st) e = alike (stop.asks st) (stop_quiet w st st.stage)
   aside (Open o) e = open_aside o o.stage (ap (λ (x : opens_by.CycleOpening). x.cycle) e.0)
-  aside (Watch v) e = alike (watch.asks v) (watch_still w v v.stage).quiet
-  aside (StopAgain st) e = alike (stop.asks st) (stop_still w st st.stage).quiet
-  aside (Check v) e = alike (watch.asks v) (watch_still w v v.stage).quiet
+  aside (Watch v) e = alike (watch.asks v) (watch_quiet w v v.stage)
+  aside (StopAgain st) e = alike (stop.asks st) (stop_quiet w st st.stage)
+  aside (Check v) e = alike (watch.asks v) (watch_quiet w v v.stage)
   aside (Close c) e = close_aside c c.stage
   aside (Sweep v) e = alike (all.asks v) (all_quiet w v v.stage)
-  aside (Count c) e = alike (count.asks c) (count_still w c.stage).quiet
+  aside (Count c) e = alike (count.asks c) (count_quiet w c.stage)
   aside (Tell t) e = tell_aside t t.stage
   aside _ e = record { asks_none = λ b. refl; scanned = λ g. refl; begun = inl refl; swept = inl refl }

@@ -31,8 +31,6 @@ no_number m cell.Gcur is = absurd is
 no_number m cell.Trigger is = absurd is
 no_number m cell.Work is = absurd is
 no_number m cell.Slack is = absurd is
-no_number m cell.Tally is = absurd is
-no_number m cell.Live is = absurd is
 no_number m _ is = inl tt
 
 -- where it does not ask for one, it is none of them

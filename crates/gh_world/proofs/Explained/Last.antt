@@ -86,13 +86,19 @@ module _ (u : Coordinating) (n m found : ℕ) (le : n ≤ m) where
   counting x None = tt
   counting x (Some read) = tt
 
-  telling : (t : tell.Telling) (st : TellStage) → tell.is_busy st ≡ true → HasToldAt st n → (st ≡ tell_stage.StoreSwept → 1 ≤ m) → HasTold (after_tell (at_stage u (Tell (record t { stage = tell.behind st }))) (tell.given_at (tell.behind st))).stage m
+  told : (last : Bool) → 1 ≤ m → HasTold (cond last Done (LoadAck 0)) m
+  told true h = h
+  told false h = tt
+
+  -- behind the last cycle the last phase is stored yet
+  told_swept : (t : tell.Telling) (last : Bool) → 1 ≤ m → HasTold (after_tell (at_stage u (Tell (record t { stage = cond last tell_stage.StorePhase tell_stage.Ended }))) (tell.given_at (cond last tell_stage.StorePhase tell_stage.Ended))).stage m
+  told_swept t true h = h
+  told_swept t false h = told u.is_last h
+
+  telling : (t : tell.Telling) (st : TellStage) → tell.is_busy st ≡ true → HasToldAt st n → (st ≡ tell_stage.StoreSwept → 1 ≤ m) → HasTold (after_tell (at_stage u (Tell (record t { stage = tell.behind t.is_last st }))) (tell.given_at (tell.behind t.is_last st))).stage m
   telling t tell_stage.StoreTrigger b h so = tt
-  telling t tell_stage.StoreSwept b h so = so refl
-  telling t tell_stage.StorePhase b h so = go u.is_last where
-    go : (last : Bool) → HasTold (cond last Done (LoadAck 0)) m
-    go true = omega (arith, le, h)
-    go false = tt
+  telling t tell_stage.StoreSwept b h so = told_swept t t.is_last (so refl)
+  telling t tell_stage.StorePhase b h so = told u.is_last (omega (arith, le, h))
   telling t tell_stage.Ended b h so = absurd cc
 
   goes : (p : CoordStage) → coord.is_busy p ≡ true → HasTold p n → ((t : tell.Telling) → p ≡ Tell t → t.stage ≡ tell_stage.StoreSwept → 1 ≤ m) → HasTold (goes_at u p found).stage m

@@ -153,6 +153,8 @@ module _ (laws : Laws) (p : Program) (l : Layout) (formed : WellFormed p) (out :
       full = full_means p l awaits es run.legal stands.stands.full;
       swept = gcs_wait p l awaits es run.legal stands.stands.full;
       cycles = cycles_are p l known es c run.legal led done (stands.counts c led);
+      frees = stands.frees;
+      frees_within_two = stands.frees_within_two;
       live = lives;
     }
 

@@ -10,7 +10,7 @@ use Rattle.gh_world.specs.declared.handshake.Actor.TheVariants as actor
 use Rattle.gh_world.specs.Actors.{AllStands}
 use Rattle.gh_world.specs.Drawn.{CycleIsDrawn}
 use Rattle.gh_world.specs.Room.{RoomStands}
-use Rattle.gh_world.proofs.Vocabulary.{acks_of, Actor, actors, Arena, Coordinating, Cycle, Entry, Held, IsLed, Layout, Marking, nat_tests, Op, Pacing, processor_kind, Shape, state_of, words, Words}
+use Rattle.gh_world.proofs.Vocabulary.{acks_of, Actor, actors, Arena, Coordinating, Entry, Held, IsLed, Layout, Marking, nat_tests, Op, Pacing, processor_kind, Shape, state_of, words, Words}
 use Rattle.gh_world.proofs.CycleMarking.Seats.{IsSeated, seated}
 use Rattle.gh_world.proofs.HavingRoom.Hands.{processor_has, worker_has}
 

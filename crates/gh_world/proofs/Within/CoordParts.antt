@@ -1,5 +1,5 @@
 -- The parts of the coordinator ask for words that there are, whatever they were told.
-use Rattle.std.proofs.Common.{◌≡◌, ℕ, ◌+◌, ◌*◌, ◌<◌, Bool, true, false, cond, ◌==◌, refl, sym, subst, ◌∙◌, arith, Option, Some, None}
+use Rattle.std.proofs.Common.{◌≡◌, ℕ, ◌+◌, ◌<◌, Bool, true, false, cond, ◌==◌, refl, sym, subst, arith, Option, Some, None}
 use Rattle.std.specs.Prelude.{◌-◌}
 use Rattle.gh_base.specs.declared.cell.Cell.TheVariants as cell
 use Rattle.gh_base.specs.declared.pack.PageWord.TheVariants as page
@@ -18,10 +18,9 @@ use Rattle.gh_coord.specs.Stopping as stop
 use Rattle.gh_coord.specs.SweepingAll as all
 use Rattle.gh_coord.specs.Telling as tell
 use Rattle.gh_coord.specs.Watching as watch
-use Rattle.gh_sweep.specs.declared.sweep.SweepStage.TheVariants as span
-use Rattle.gh_sweep.specs.Stays as sweep_ends
 use Rattle.gh_sweep.specs.Listing as sweep
-use Rattle.gh_world.proofs.Vocabulary.{All, buffers_of, cell_of, CloseStage, CountStage, InRange, Layout, Lost, mod_below, nat_lt, nat_tests, NotYet, OpenStage, page_of, PageWord, StopStage, SweepAllStage, SweepEnd, SweepStage, Swept, TellStage, WatchStage}
+use Rattle.gh_world.proofs.Vocabulary.{All, buffers_of, cell_of, CloseStage, CountStage, InRange, Layout, Lost, nat_lt, nat_tests, NotYet, OpenStage, page_of, PageWord, StopStage, SweepAllStage, SweepEnd, Swept, TellStage, WatchStage}
+use Rattle.gh_world.proofs.Within.Spans.{FitsSpan, span_goes, span_within}
 
 -- Of each part, that it is of this heap, and that the word that is next lies in its row.
 
@@ -30,10 +29,6 @@ FitsStopping l s = (s.layout ≡ l) × FitsStopStage s.layout s.stage
 
 abbrev pub FitsWatching : Layout → watch.Watching → Type 0
 FitsWatching l w = (w.layout ≡ l) × FitsWatchStage w.layout w.stage
-
--- whatever the head of the span says, its bits are sought within their row
-abbrev pub FitsSpan : Layout → sweep.Sweeping → Type 0
-FitsSpan l m = (m.layout ≡ l) × (m.page < l.pages)
 
 abbrev pub FitsSpans : Layout → SweepAllStage → Type 0
 FitsSpans l (all_stage.LoadPage p) = p < l.pages
@@ -77,13 +72,6 @@ module _ (w : watch.Watching) where
 
 pub watch_goes : (l : Layout) (w : watch.Watching) (found : ℕ) → FitsWatching l w → FitsWatching l (watch.goes w found)
 watch_goes l w found f = subst (λ (k : Layout). FitsWatching k (watch.goes w found)) f.0 (watch_on w w.stage found)
-
-page_stays : (m : sweep.Sweeping) (p : SweepStage) (found : ℕ) → (sweep.goes_at m p found).page ≡ m.page
-page_stays m span.Begin found = refl
-page_stays m _ found = refl
-
-span_goes : (l : Layout) (m : sweep.Sweeping) (found : ℕ) → FitsSpan l m → FitsSpan l (sweep.goes m found)
-span_goes l m found f = (sweep_ends.stays m found ∙ f.0, subst (λ (p : ℕ). p < l.pages) (sym (page_stays m m.stage found)) f.1)
 
 module _ (s : all.SweepingAll) (p : ℕ) (f : p < s.layout.pages) where
   behind_on : (more : Bool) → nat_lt (p + 1) s.layout.pages ≡ more → FitsSpans s.layout (cond more (all_stage.LoadPage (p + 1)) all_stage.Ended)
@@ -140,24 +128,9 @@ pub watch_within : (w : watch.Watching) (p : WatchStage) → FitsWatchStage w.la
 watch_within w (watch_stage.Look i) f = word_within w.layout i (i == 0) (nat_lt (i - 1) w.layout.goroutines) refl refl f
 watch_within w (watch_stage.Ended watched) f = tt
 
-span_within : (m : sweep.Sweeping) (p : SweepStage) → m.page < m.layout.pages → InRange m.layout (cell_of (sweep.asks_at m p))
-span_within m p f = go p where
-  word : (i : ℕ) → sweep.word_at m i < 16 * m.layout.pages
-  word i = mod_below (16 * m.page + i) (16 * m.layout.pages) (omega (arith, f))
-
-  go : (p : SweepStage) → InRange m.layout (cell_of (sweep.asks_at m p))
-  go span.Begin = f
-  go (span.LoadMarks i) = word i
-  go (span.ClearBits i marks) = word i
-  go (span.ClearMarks i) = word i
-  go span.Finish = f
-  go _ = tt
-
 pub all_within : (s : all.SweepingAll) (p : SweepAllStage) → FitsSpans s.layout p → InRange s.layout (cell_of (all.asks_at s p))
 all_within s (all_stage.LoadPage p) f = f
-all_within s (all_stage.Sweep p m) f =
-    let own : m.page < m.layout.pages = subst (λ (k : Layout). m.page < k.pages) (sym f.1.0) f.1.1 in
-    subst (λ (k : Layout). InRange k (cell_of (sweep.asks m))) f.1.0 (span_within m m.stage own)
+all_within s (all_stage.Sweep p m) f = span_within s.layout m f.1
 all_within s (all_stage.Await p) f = f
 all_within s all_stage.Ended f = tt
 

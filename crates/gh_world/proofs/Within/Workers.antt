@@ -1,25 +1,27 @@
 -- Each step of a worker is on a word that there is, whatever is found.
-use Rattle.std.proofs.Common.{◌≡◌, ℕ, ◌+◌, ◌-◌, ◌<◌, ◌≤◌, ◌==◌, Bool, true, false, cond, ltb, Option, Some, None, refl, sym, subst, arith}
+use Rattle.std.proofs.Common.{◌≡◌, ℕ, ◌+◌, ◌-◌, ◌<◌, ◌≤◌, ◌==◌, Bool, true, false, cond, ltb, Option, Some, None, refl, arith}
 use Rattle.gh_base.specs.declared.pack.Phase.{Phase}
+use Rattle.gh_base.specs.declared.pack.PageWord.TheVariants as page_word
 use Rattle.gh_base.specs.declared.pack.Phase.TheVariants as phase
 use Rattle.gh_phase.specs.declared.resume.ResumeStage.TheVariants as resume_at
 use Rattle.gh_phase.specs.Listing as resume
 use Rattle.gh_scan.specs.Listing as scan
 use Rattle.gh_shade.specs.declared.shade.Shaded.TheVariants as shaded
 use Rattle.gh_shade.specs.Listing as shade
-use Rattle.gh_wbuf.specs.declared.take_entry.TakeStage.TheVariants as take_at
+use Rattle.gh_sweep.specs.Listing as sweep
 use Rattle.gh_wbuf.specs.BufferGiving as give
 use Rattle.gh_wbuf.specs.EntryTaking as take
 use Rattle.gh_wbuf.specs.RoomFinding as room
-use Rattle.gh_wbuf.specs.Trying as try
 use Rattle.gh_worker.specs.declared.worker.WorkerStage.TheVariants as at
 use Rattle.gh_worker.specs.Listing as worker
 use Rattle.gh_worker.specs.Sound.{IsWorkersSeat}
-use Rattle.gh_world.proofs.Vocabulary.{cell_of, FitsGiveStage, Held, InRange, IsHeld, IsReference, Layout, nat_tests, phase_of, Resumed, ResumeStage, run_phase, RunPhase, Shaded, TakeStage, WorkerStage, Working}
+use Rattle.gh_world.proofs.Vocabulary.{cell_of, FitsGiveStage, Held, InRange, IsHeld, Layout, nat_tests, page_of, PageWord, phase_of, Resumed, ResumeStage, run_phase, RunPhase, Shaded, SweepEnd, WorkerStage, Working}
 use Rattle.gh_world.proofs.Within.Buffers.{give_within, HasRoom, room_first, room_gives, room_goes, IsTaken, room_within, RoomWithin, take_first, take_goes, take_holds, take_within, taken, TakeWithin}
 use Rattle.gh_world.proofs.Within.Scans.{referred, scan_first, scan_goes, scan_holds, scan_within, ScanWithin, shade_first, shade_goes, shade_told, shade_within, ShadeWithin}
+use Rattle.gh_world.proofs.Within.Spans.{FitsSpan, span_goes, span_within}
 
 abbrev pub StageWithin : Layout → WorkerStage → Type 0
+StageWithin l (at.Sweeping sw) = FitsSpan l sw
 StageWithin l (at.GiveBack g stops) = FitsGiveStage l g.stage
 StageWithin l (at.Resuming r) = r.seat < l.procs + l.workers
 StageWithin l (at.Taking t) = TakeWithin l t
@@ -34,10 +36,11 @@ pub record FitsWhole (w : Working) : Type 0 where
   pub pages : 1 ≤ w.layout.pages
   pub seat : IsWorkersSeat w.layout w.seat
   pub held : IsHeld w.layout w.held
+  pub page : w.page < w.layout.pages
   pub stage : StageWithin w.layout w.stage
 
 pub first : (l : Layout) (seat : ℕ) → 1 ≤ l.pages → l.procs ≤ seat → seat < l.procs + l.workers → FitsWhole (worker.opening l seat)
-first l seat some from below = record { pages = some; seat = record { from = from; below = below }; held = tt; stage = tt }
+first l seat some from below = record { pages = some; seat = record { from = from; below = below }; held = tt; page = omega (arith, some); stage = tt }
 
 -- going on after a stop
 stopped_stays : (r : resume.Resuming) (number : ℕ) (b : Bool) → (cond b (resume.at_stage r resume_at.LoadPhase) (record r { stops = number; stage = resume_at.Acknowledge })).seat ≡ r.seat
@@ -64,13 +67,13 @@ module _ (w : Working) (f : FitsWhole w) where
 
   -- at another stage, with this held
   on : (held : Option Held) (stage : WorkerStage) → IsHeld l held → StageWithin l stage → FitsWhole (record w { held = held; stage = stage })
-  on held stage h s = record { pages = f.pages; seat = f.seat; held = h; stage = s }
+  on held stage h s = record { pages = f.pages; seat = f.seat; held = h; page = f.page; stage = s }
 
   at_stage : (stage : WorkerStage) → StageWithin l stage → FitsWhole (worker.at_stage w stage)
   at_stage stage s = on w.held stage f.held s
 
   done_with : (held : Option Held) (words : ℕ) → IsHeld l held → FitsWhole (worker.done_with w held words)
-  done_with held words h = record { pages = f.pages; seat = f.seat; held = h; stage = tt }
+  done_with held words h = record { pages = f.pages; seat = f.seat; held = h; page = f.page; stage = tt }
 
   stops_at : (stops : ℕ) (held : Option Held) → IsHeld l held → StageWithin l (worker.stops_at w stops held)
   stops_at stops None h = f.seat.below
@@ -82,13 +85,33 @@ module _ (w : Working) (f : FitsWhole w) where
   by_phase stops phase.Stop = stops_at stops w.held f.held
   by_phase stops phase.Finished = tt
 
+  -- the next page, which there is
+  past : (b : Bool) → ltb (w.page + 1) l.pages ≡ b → cond b (w.page + 1) 0 < l.pages
+  past true e = grind (arith, nat_tests, e)
+  past false e = let some = f.pages in omega (arith, some)
+
+  page_done : FitsWhole (worker.page_done w)
+  page_done = record { pages = f.pages; seat = f.seat; held = f.held; page = past (ltb (w.page + 1) l.pages) refl; stage = tt }
+
+  after_page : (word : PageWord) → FitsWhole (worker.after_page w word)
+  after_page page_word.Free = page_done
+  after_page (page_word.Head h) = by (h.number + 2 == w.view.generation) where
+    by : (b : Bool) → FitsWhole (cond b (worker.at_stage w (at.Sweeping (sweep.opening l w.page h))) (worker.page_done w))
+    by true = at_stage (at.Sweeping (sweep.opening l w.page h)) (refl, f.page)
+    by false = page_done
+  after_page (page_word.Body b) = page_done
+
+  after_sweep : (sw : sweep.Sweeping) (out : Option SweepEnd) → FitsSpan l sw → FitsWhole (worker.after_sweep w sw out)
+  after_sweep sw None s = at_stage (at.Sweeping sw) s
+  after_sweep sw (Some end) s = page_done
+
   after_give : (g : give.BufferGiving) (stops : ℕ) (out : Option (Unit {0})) → FitsGiveStage l g.stage → FitsWhole (worker.after_give w g stops out)
   after_give g stops None s = at_stage (at.GiveBack g stops) s
   after_give g stops (Some x) s = on None _ tt f.seat.below
 
   after_resume : (r : resume.Resuming) (out : Option Resumed) → r.seat < l.procs + l.workers → FitsWhole (worker.after_resume w r out)
   after_resume r None s = at_stage (at.Resuming r) s
-  after_resume r (Some out) s = record { pages = f.pages; seat = f.seat; held = f.held; stage = tt }
+  after_resume r (Some out) s = record { pages = f.pages; seat = f.seat; held = f.held; page = f.page; stage = tt }
 
   after_take : (t : take.EntryTaking) (out : Option (Option ℕ)) → TakeWithin l t → IsTaken l out → FitsWhole (worker.after_take w t out)
   after_take t None s r = at_stage (at.Taking t) s
@@ -122,6 +145,8 @@ module _ (w : Working) (f : FitsWhole w) where
 
   goes_at : (p : WorkerStage) (found : ℕ) → StageWithin l p → FitsWhole (worker.goes_at w p found)
   goes_at at.LoadPhase found s = at_stage _ (by_phase (phase_of found).stops (phase_of found).phase)
+  goes_at at.LoadPage found s = after_page (page_of found)
+  goes_at (at.Sweeping sw) found s = after_sweep (sweep.goes sw found) (sweep.gives sw found) (span_goes l sw found s)
   goes_at (at.GiveBack g stops) found s = after_give (give.goes g found) stops (give.gives g found) tt
   goes_at (at.Resuming r) found s = after_resume (resume.goes r found) (resume.gives r found) (rw (seat_stays r r.stage found) s)
   goes_at (at.Taking t) found s = after_take (take.goes t found) (take.gives t found) (take_goes l t found s) (taken l t found s)
@@ -135,6 +160,8 @@ module _ (w : Working) (f : FitsWhole w) where
   goes_at at.Done found s = at_stage at.Done tt
 
   within_at : (p : WorkerStage) → StageWithin l p → InRange l (cell_of (worker.asks_at w p))
+  within_at at.LoadPage s = f.page
+  within_at (at.Sweeping sw) s = span_within l sw s
   within_at (at.GiveBack g stops) s = give_within l g s
   within_at (at.Resuming r) s = resume_within l r s
   within_at (at.Taking t) s = take_within l t s
