@@ -41,7 +41,7 @@ comes (Gen seed size) text (Generated script) m tells = m
 comes (Gen seed size) text NoMemory m tells = absurd tells
 comes (Gen seed size) text _ m tells = absurd m
 comes (Soak seed size) text (Soaked n objects bytes) m tells =
-    (m.1, m.2, ap (λ (k : ℕ). statements_line k ++ live_line objects bytes) m.0 ∙ ap₂ (λ (o b : ℕ). statements_line (4 * (size / 4)) ++ live_line o b) m.3 m.4)
+    (m.1, m.2, m.3, ap (λ (k : ℕ). statements_line k ++ live_line objects bytes) m.0 ∙ ap₂ (λ (o b : ℕ). statements_line (4 * (size / 4)) ++ live_line o b) m.4 m.5)
 comes (Soak seed size) text NoThread m tells = absurd tells
 comes (Soak seed size) text NoMemory m tells = absurd tells
 comes (Soak seed size) text _ m tells = absurd m
@@ -72,7 +72,7 @@ no_memory Run text = tt
 no_memory (Gen seed size) text = tt
 no_memory (Soak seed size) text = tt
 
-same_line : (words : List Text) (a b : Line) → command_line words ≡ Some a → command_line words ≡ Some b → a ≡ b
+pub same_line : (words : List Text) (a b : Line) → command_line words ≡ Some a → command_line words ≡ Some b → a ≡ b
 same_line words a b v w = let e : Some a ≡ Some b = sym v ∙ w in cc
 
 taken-not-refused : (words : List Text) (line : Line) → command_line words ≡ Some line → AreRefused words → ⊥

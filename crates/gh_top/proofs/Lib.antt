@@ -10,4 +10,5 @@ pub mod CommandLineParsed
 pub mod Texts
 pub mod Lines
 pub mod Ends
+pub mod Soaking
 pub mod Reading

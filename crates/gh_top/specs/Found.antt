@@ -10,6 +10,7 @@ use Rattle.gh_run.specs.Told.{IsRunByThreads}
 use Rattle.gh_script.specs.Generated.{generated_program, generated_text}
 use Rattle.gh_script.specs.Program.{Program}
 use Rattle.gh_script.specs.Grammar.{Spells, Refused}
+use Rattle.gh_soak.specs.Soak.{AreLiveThen}
 use Rattle.gh_top.specs.declared.line.Line.{Line}
 use Rattle.gh_top.specs.declared.line.Line.TheVariants.{Gen, Replay, Run, Soak}
 use Rattle.gh_top.specs.declared.status.Status.{Status}
@@ -30,7 +31,8 @@ MatchesLine Run text (Ran p report) = Spells text p × IsRunByThreads p report.o
 MatchesLine Run text ReadFault = Unit {0}
 MatchesLine Run text NoThread = (p : Program) × Spells text p
 MatchesLine (Gen seed size) text (Generated script) = script.items ≡ generated_text seed size
-MatchesLine (Soak seed size) text (Soaked n objects bytes) = (n ≡ 4 * (size / 4)) × (outcome : Outcome) × IsRunByThreads (generated_program seed size) outcome × (objects ≡ outcome.objects) × (bytes ≡ outcome.bytes)
+MatchesLine (Soak seed size) text (Soaked n objects bytes) = (n ≡ 4 * (size / 4)) × (outcome : Outcome) × IsRunByThreads (generated_program seed size) outcome × AreLiveThen (generated_program seed size) outcome.objects outcome.bytes
+    × (objects ≡ outcome.objects) × (bytes ≡ outcome.bytes)
 MatchesLine (Soak seed size) text NoThread = Unit {0}
 MatchesLine line text NoMemory = Unit {0}
 MatchesLine line text found = ⊥

@@ -13,6 +13,7 @@ use Rattle.gh_script.specs.declared.fault.Why.{Why}
 use Rattle.gh_script.specs.Generated.{generated_program, generated_text}
 use Rattle.gh_script.specs.Program.{Program}
 use Rattle.gh_script.specs.Grammar.{Spells, Refused}
+use Rattle.gh_soak.specs.Soak.{AreLiveThen}
 use Rattle.gh_top.specs.declared.line.Line.{Line}
 use Rattle.gh_top.specs.declared.line.Line.TheVariants.{Gen, Replay, Run, Soak}
 use Rattle.gh_top.specs.declared.status.Status.{Status}
@@ -71,7 +72,8 @@ ComesTo (Replay plan budget check) text BadScript written = IsRefusal text writt
 ComesTo Run text Ok written = (p : Program) × Spells text p × (outcome : Outcome) × IsRunByThreads p outcome × (written ≡ concat (outcome_lines p outcome))
 ComesTo Run text BadScript written = IsRefusal text written
 ComesTo (Gen seed size) text Ok written = written ≡ generated_text seed size
-ComesTo (Soak seed size) text Ok written = (outcome : Outcome) × IsRunByThreads (generated_program seed size) outcome × (written ≡ statements_line (4 * (size / 4)) ++ live_line outcome.objects outcome.bytes)
+ComesTo (Soak seed size) text Ok written = (outcome : Outcome) × IsRunByThreads (generated_program seed size) outcome × AreLiveThen (generated_program seed size) outcome.objects outcome.bytes
+    × (written ≡ statements_line (4 * (size / 4)) ++ live_line outcome.objects outcome.bytes)
 ComesTo line text status written = ⊥
 
 -- a call with these words and this text may end so, having this to say

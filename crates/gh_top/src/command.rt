@@ -1,11 +1,13 @@
 //! The call that the program makes.
 
 ghost use Rattle.std.specs.Prelude.{◌≡◌, ◌⊎◌, ℕ, IfSome, ◌≤◌, List, None, Some};
+ghost use Rattle.std.specs.Io.KnownBytes.{Appends};
 ghost use Rattle.gh_io.specs.Counts.{Rose};
 ghost use Rattle.gh_script.specs.Program.{Program};
 ghost use Rattle.gh_script.specs.Grammar.{Spells};
 ghost use Rattle.gh_top.specs.CommandLine.{texts};
-ghost use Rattle.gh_top.specs.Outcome.{Ends, IsForThreads, IsRun, IsSoak, ReadsScript, streams};
+ghost use Rattle.gh_top.specs.Outcome.{ComesTo, Ends, IsForThreads, IsRun, IsSoak, ReadsScript, streams};
+ghost use Rattle.gh_top.specs.declared.line.Line.TheVariants.{Soak};
 
 use crate::finding::find;
 use crate::saying::tell;
@@ -15,6 +17,7 @@ use gh_gate::{Gate, Spawner};
 use gh_io::{Sink, Source};
 use gh_replay::one_outcome;
 use gh_script::one_reading;
+use gh_soak::what_is_live_is_one;
 use std::alloc::Global;
 use std::sync::Wait;
 use std::thread;
@@ -64,8 +67,9 @@ pub fn quiet<S: Source, K: Sink>(
 ///
 /// `run` reads a script, as `replay` does, runs each of its actors in a thread of its own, which `sp` starts, and writes the
 /// same lines. `soak --seed n --size n` reads nothing, runs the script that `gen` writes by threads, and writes two lines: how
-/// many statements that has, and what is live at the end. The actors are held by the gate between their steps. Nothing is written
-/// before all threads have ended, and where no threads can be had no actor makes a step. A call that runs threads may wait.
+/// many statements that has, and what is live at the end. Whoever stepped when, these are the same two. The actors are held
+/// by the gate between their steps. Nothing is written before all threads have ended, and where no threads can be had no
+/// actor makes a step. A call that runs threads may wait.
 pub fn top<R: thread::Threads + Wait + Sync, S: Source, K: Sink, G: Gate + Sync, P: Spawner>(
     rt: &R,
     alloc: Global,
@@ -87,6 +91,9 @@ pub fn top<R: thread::Threads + Wait + Sync, S: Source, K: Sink, G: Gate + Sync,
     ensures soak_complete { (seed size : ℕ) → IsSoak (texts words.now) seed size →
         ¬ Rose (K.faults out.old) (K.faults out.new) → ¬ Rose (P.faults sp.old) (P.faults sp.new) →
         (result ≡ Status.Ok) ⊎ (result ≡ Status.NoMemory) }
+    // There is one text that a run of this seed and this size can come to, and the sink took it.
+    ensures soak_is_one { (seed size : ℕ) (text written : List ℕ) → IsSoak (texts words.now) seed size → result ≡ Status.Ok →
+        ComesTo (Soak seed size) text Status.Ok written → Appends (K.taken out.old) (K.taken out.new) written }
     // What is told of threads was run by them.
     ensures ran { IsForThreads (texts words.now) → result ≡ Status.Ok → Rose (P.ran sp.old) (P.ran sp.new) }
     // A spawner that refuses runs nothing.
@@ -100,6 +107,7 @@ pub fn top<R: thread::Threads + Wait + Sync, S: Source, K: Sink, G: Gate + Sync,
     }
     one_reading();
     one_outcome();
+    what_is_live_is_one();
     let found = find_by_threads(rt, alloc, words, src, gate, sp);
     tell(&found, out)
 }

@@ -21,6 +21,7 @@ use gh_io::Source;
 use gh_replay::Report;
 use gh_run::{RunFault, ThreadRun, run};
 use gh_script::{ParseError, Script, generate, generated_scripts_spell, one_reading, parse};
+use gh_soak::soaks_tell_one_heap;
 use gh_world::{Totals, total_of};
 use std::alloc::Global;
 use std::sync::Wait;
@@ -137,6 +138,7 @@ fn soak<R: thread::Threads + Wait + Sync, G: Gate + Sync, P: Spawner>(
 {
     one_reading();
     generated_scripts_spell();
+    soaks_tell_one_heap();
     let Ok(text) = generate(alloc, seed, size) else {
         return Found::NoMemory;
     };

@@ -2,6 +2,7 @@ use Rattle.std.proofs.Common.{◌≡◌, inl, inr, rules, subst}
 use Rattle.gh_top.specs.CommandLine.{texts}
 use Rattle.gh_top.specs.Outcome.{Ends, IsForThreads, streams}
 use Rattle.gh_top.proofs.Ends.{cut-ends, told-ends}
+use Rattle.gh_top.proofs.Soaking.{soak_told}
 use Rattle.gh_top.proofs.command.top.Goals as goal
 
 -- where the words ask for threads the streams are as they were when the run begins
@@ -18,3 +19,11 @@ returns-clause-ends g c =
     ] in
     subst (λ out. Ends words (streams (g.S.Source.left c.args.src.now) (g.S.Source.faults c.args.src.now) (g.K.Sink.taken out) (g.K.Sink.faults out)) after c.tell.result) none.2
     (subst (λ src. Ends words (streams (g.S.Source.left src) (g.S.Source.faults src) (g.K.Sink.taken c.quiet.new.out) (g.K.Sink.faults c.quiet.new.out)) after c.tell.result) none.1 ends)
+
+-- what was written is what any run of this seed and this size comes to
+pub returns-clause-soak_is_one : goal.returns-clause-soak_is_one
+returns-clause-soak_is_one g c = λ seed size text written soak ok comes.
+    soak_told c.what_is_live_is_one.ensures (texts c.args.words.now) seed size soak
+    (streams (g.S.Source.left c.args.src.now) (g.S.Source.faults c.args.src.now) (g.K.Sink.taken c.args.out.now) (g.K.Sink.faults c.args.out.now))
+    (streams (g.S.Source.left c.find_by_threads-found.new.src) (g.S.Source.faults c.find_by_threads-found.new.src) (g.K.Sink.taken c.tell.new.out) (g.K.Sink.faults c.tell.new.out))
+    c.tell.result (returns-clause-ends g c) ok text written comes

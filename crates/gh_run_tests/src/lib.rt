@@ -1,0 +1,5 @@
+//! Tests of a script's run by threads.
+#![tactic(auto)]
+
+#[cfg(test)]
+mod threads;
