@@ -12,12 +12,21 @@ programs=("$program" "${@:2}")
 
 # The scripts: what each turns on most, and its text. The last two have the same goroutines, on the fewest actors that there are, which
 # are a processor, a worker and the coordinator, and on 13: 8 processors, 4 workers and the coordinator.
-names=(statements globals fields small large passes full collected processors actors3 actors13)
+names=(statements globals fields small large passes full collected cycles1 cycles4 processors actors3 actors13)
 
 # Goroutines that run statements on registers: how many, and how often each.
 registers() {
   local g
   for g in $(seq "$1"); do printf 'go g%d\nrepeat %d\nint r0 1\nmove r1 r0\nnil r2\nend\nend\n' "$g" "$2"; done
+}
+# A span of each of 36 span classes in an arena of 1,024 pages, with an object each, and cycles of one worker or of four.
+cycles() {
+  local size
+  printf 'procs 2\nworkers %d\narena 1024\n' "$1"
+  for size in 1 2 3 4 6 8 10 12 14 16 20 24 32 40 48 64 96 128; do printf 'type n%d n*%d\ntype p%d p*%d\n' $size $size $size $size; done
+  printf 'go a\n'
+  for size in 1 2 3 4 6 8 10 12 14 16 20 24 32 40 48 64 96 128; do printf 'new r0 n%d\nnew r0 p%d\n' $size $size; done
+  printf 'repeat 40\ngc\nend\nend\ngo b\nrepeat 190000\nnil r0\nend\nend\n'
 }
 says() {
   case $1 in
@@ -35,6 +44,10 @@ says() {
     full) printf 'arena 16\ntype node pn\ngo a\nrepeat 12000\nnew r0 node\nend\nend\n' ;;
     # a heap that is collected again and again
     collected) printf 'arena 16\ntype node pn\ngo a\nrepeat 2000\nnew r0 node\ngc\nend\nend\n' ;;
+    # a heap of few objects in a large arena that is collected again and again, while another goroutine runs statements: what a cycle costs is
+    # the walks over its pages and buffers, and the sweeps of spans with an object each
+    cycles1) cycles 1 ;;
+    cycles4) cycles 4 ;;
     processors) printf 'arena 16\nprocs 4\ntype t n\n' && registers 4 16666 ;;
     actors3) printf 'arena 16\nprocs 1\nworkers 1\ntype t n\n' && registers 8 8333 ;;
     actors13) printf 'arena 16\nprocs 8\nworkers 4\ntype t n\n' && registers 8 8333 ;;

@@ -1,6 +1,7 @@
 # A part of goheap.sh: draws a run, as an SVG, from its script (the first file) and the lines of goheap_steps (the second). Each actor has a
 # lane, and turns go down: a row for each turn at which something happens. Bands show the phases of the collector. These are told by the order in which the coordinator stores the phase,
-# which is a stop, marking, and a stop again; then off, where the cycle was swept meanwhile, and else marking again.
+# which is a stop, marking, and a stop again; then off, where the marking of the cycle has ended meanwhile, and else marking again. The last one
+# says that all is over, and is no band.
 # Beneath the lanes stands the arena, where the marking of each cycle has ended and where the cycle is swept: a strip of all pages, and the slots of each span.
 # It is tested (tools/check_steps.sh), and nothing is proved of it.
 function escaped(text) { gsub(/&/, "\\&amp;", text); gsub(/</, "\\&lt;", text); return text }
@@ -65,15 +66,15 @@ function draw(row,   text, a, words, told, answer) {
   a = actor[row]
   text = line[row]
   body = body sprintf("<text class=\"turn\" x=\"%d\" y=\"%d\">%d</text>\n", left - 74, y(row) + 12, turn[row])
-  if (text ~ /is swept/) { told = text; sub(/ is swept,/, " swept:", told); dot("swept", a, row); put("swept", a, row, told); is_swept = 1; return }
+  if (text ~ /is swept/) { told = text; sub(/ is swept,/, " swept:", told); dot("swept", a, row); put("swept", a, row, told); return }
   if (kind[a] == "coordinator" && text ~ /marks [0-9]+$/) {
-    change(row, phase == "off" || phase == "mark" ? "stop" : is_swept ? "off" : "mark")
-    if (phase == "off") is_swept = 0
+    change(row, text ~ /is done/ ? "off" : phase == "off" || phase == "mark" ? "stop" : is_marked ? "off" : "mark")
+    if (phase == "off") is_marked = 0
     dot("plain", a, row)
     put("plain", a, row, text ~ /is done/ ? "is done" : phase == "stop" ? "stops the world" : phase == "mark" ? "marking begins" : "the world goes on")
     return
   }
-  if (text ~ /^cycle [0-9]+ is marked/) { dot("plain", a, row); put("plain", a, row, text); return }
+  if (text ~ /^cycle [0-9]+ is marked/) { dot("plain", a, row); put("plain", a, row, text); is_marked = 1; return }
   if (kind[a] == "worker") { dot("plain", a, row); put("plain", a, row, text ~ /is done/ ? "is done" : "scanned " substr(text, index(text, "marks ") + 6) " words"); return }
   split(text, words, " ")
   if (words[1] == "shades") { shades = 1; dot("shade", a, row); put("shade", a, row, text); return }
@@ -172,7 +173,7 @@ function room(at, width, left_side, right_side) {
 function number_in(name) { return substr(name, index(name, ".") + 1) + 0 }
 function legend(   i, word, told, at) {
   split("marked unmarked kept free", word, " ")
-  told["marked"] = "marked: the cycle keeps it"; told["unmarked"] = "not marked: its sweep frees it"; told["kept"] = "kept, its mark cleared"; told["free"] = "free"
+  told["marked"] = "marked: the cycle keeps it"; told["unmarked"] = "not marked: its sweep frees it"; told["kept"] = "kept, its mark cleared, or made since"; told["free"] = "free"
   at = edge
   for (i = 1; i <= 4; i++) { box(word[i], at, bottom, 12, 12, "", word[i]); write_at("plain", at + 18, bottom + 10, told[word[i]]); at += 6.5 * length(told[word[i]]) + 40 }
   write_at("plain", edge, bottom + 30, "A marked object that no script reaches any more is floating garbage: a later cycle does not mark it, and frees it.")
