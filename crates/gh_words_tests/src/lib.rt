@@ -1,11 +1,13 @@
-//! Tests of the libraries that speak of words: the table of size classes, the words of the heap, the picture and the
-//! streams. The crate has nothing else.
+//! Tests of the libraries that speak of words: the table of size classes, the words of the heap, the numbers that pace
+//! cycles, the picture and the streams. The crate has nothing else.
 #![tactic(auto)]
 
 #[cfg(test)]
 mod class_table;
 #[cfg(test)]
 mod heap_words;
+#[cfg(test)]
+mod pacing;
 #[cfg(test)]
 mod pictures;
 #[cfg(test)]

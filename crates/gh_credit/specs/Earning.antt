@@ -1,0 +1,57 @@
+-- Handing scanned words over to the bank: what is asked for at each stage, where that leads, and when it has ended.
+use Rattle.std.specs.Prelude.{◌≢◌, ℕ, Bool, Option, Some, None, is_none}
+use Rattle.gh_base.specs.declared.cell.Ask.{Ask}
+use Rattle.gh_base.specs.declared.cell.Ask.TheVariants as ask
+use Rattle.gh_base.specs.declared.cell.Cell.TheVariants.{Bank, Touch}
+use Rattle.gh_base.specs.declared.layout.Layout.{Layout}
+use Rattle.gh_base.specs.Given.{listing_of}
+use Rattle.gh_base.specs.Routines.{Listing}
+use Rattle.gh_base.specs.Steps.{cell_of}
+use Rattle.gh_credit.specs.declared.earn.EarnStage.{EarnStage}
+use Rattle.gh_credit.specs.declared.earn.EarnStage.TheVariants.{Add, Ended}
+
+pub record Earning : Type 0 where
+  pub layout : Layout
+  pub words : ℕ
+  pub stage : EarnStage
+
+abbrev pub opening : Layout → (words : ℕ) → Earning
+opening l words = record { layout = l; words = words; stage = Add }
+
+abbrev pub asks_at : Earning → EarnStage → Ask
+asks_at e Add = ask.Add Bank e.words
+asks_at e Ended = ask.Load Touch
+
+-- it has ended once the words are added
+abbrev pub given_at : EarnStage → Option (Unit {0})
+given_at Ended = Some tt
+given_at _ = None
+
+abbrev pub is_busy : EarnStage → Bool
+is_busy stage = is_none (given_at stage)
+
+abbrev pub asks : Earning → Ask
+asks e = asks_at e e.stage
+
+abbrev pub goes : Earning → ℕ → Earning
+goes e found = record e { stage = Ended }
+
+abbrev pub given : Earning → Option (Unit {0})
+given e = given_at e.stage
+
+abbrev pub gives : Earning → ℕ → Option (Unit {0})
+gives e found = given (goes e found)
+
+abbrev pub listing : Listing Earning (Unit {0})
+listing = listing_of (λ e. e.layout) asks goes given
+
+-- the words that a step hands over
+abbrev pub handed_by : Ask → ℕ
+handed_by (ask.Add Bank more) = more
+handed_by _ = 0
+
+-- a step that writes no bank, or writes it by adding to it
+abbrev pub LeavesOrAdds : Ask → Type 0
+LeavesOrAdds (ask.Load c) = Unit {0}
+LeavesOrAdds (ask.Add c more) = Unit {0}
+LeavesOrAdds step = cell_of step ≢ Bank
