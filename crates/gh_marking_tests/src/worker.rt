@@ -67,6 +67,7 @@ fn objects_and_globals_are_marked(rt: HostRuntime) -> Result<(), Fail> {
     );
     assert_eq!(rt; told, (None, 86, true, 5));
     assert_eq!(rt; worker.held(), Some(Held { index: 0, count: 0 }));
+    assert_eq!(rt; (worker.scan_work(), worker.earned()), (5, 0));
     Ok(())
 }
 
@@ -81,8 +82,9 @@ fn stops_and_leaves(rt: HostRuntime) -> Result<(), Fail> {
         (Req::Load(ENTRY), 3135),
         (Req::Load(PAGE + 3), TWO),
         (Req::Load(BITMAP + 48), 0),
-        // stop 2: the buffer is given back, and the stop acknowledged
+        // stop 2: the object's two words are handed over, the buffer is given back, and the stop acknowledged
         (Req::Load(1), 10),
+        (Req::Add(7, 2), 40),
         (Req::Store(BUFFER, 0), 513),
         (Req::Store(ACK + 1, 2), 0),
         (Req::Load(1), 10),
@@ -102,5 +104,6 @@ fn stops_and_leaves(rt: HostRuntime) -> Result<(), Fail> {
     assert_eq!(rt; tell(&mut worker, &steps), Some(()));
     let told = (worker.is_done(), (worker.marks(), worker.held()));
     assert_eq!(rt; told, (true, (2, None)));
+    assert_eq!(rt; (worker.scan_work(), worker.earned()), (0, 2));
     Ok(())
 }

@@ -1,4 +1,4 @@
--- A worker's count, step by step.
+-- A worker's counts, step by step.
 use Rattle.std.proofs.Common.{◌≡◌, ℕ, zero, suc, ◌+◌, ◌-◌, ◌^◌, Bool, true, false, cond, eqb, Option, Some, None, arith}
 use Rattle.std.specs.Prelude.{min}
 use Rattle.gh_base.specs.declared.held.Held.{Held}
@@ -18,9 +18,76 @@ use Rattle.gh_wbuf.specs.BufferGiving as give
 use Rattle.gh_wbuf.specs.EntryTaking as take
 use Rattle.gh_wbuf.specs.RoomFinding as room
 use Rattle.gh_worker.specs.declared.worker.WorkerStage.{WorkerStage}
-use Rattle.gh_worker.specs.declared.worker.WorkerStage.TheVariants.{LoadPage, Sweeping, GiveBack, Resuming, Taking, Scanning, LoadGlobal, Shading, FindRoom}
-use Rattle.gh_worker.specs.Listing.{Working, after_give, after_page, after_resume, after_room, after_scan, after_shade, after_sweep, after_take, at_stage, done_with, goes_at, page_done}
+use Rattle.gh_worker.specs.declared.worker.WorkerStage.TheVariants.{LoadPage, Sweeping, EarningAtStop, GiveBack, Resuming, Taking, Scanning, Earning, LoadGlobal, Shading, FindRoom}
+use Rattle.gh_worker.specs.Listing.{Working, after_give, after_page, after_resume, after_room, after_scan, after_shade, after_sweep, after_take, at_stage, counted, done_with, goes_at, page_done}
 use Rattle.gh_worker.specs.Works.{CountsWords, after, scanned, word_of, words_done, words_of}
+
+-- it hands over what it has scanned
+abbrev pub IsEarning : WorkerStage → Type 0
+IsEarning (Earning e) = Unit {0}
+IsEarning (EarningAtStop e stops) = Unit {0}
+IsEarning _ = ⊥
+
+-- What holds of the counts as they are, of those with so many words more, and where it hands over also of those behind that, holds of them behind each step.
+module _ (w : Working) (P : (d marks scan_work earned : ℕ) → Type 0) (same : P 0 w.marks w.scan_work w.earned) (more : (d : ℕ) → P d (counted w.marks d) (counted w.scan_work d) w.earned) where
+  abbrev Counts : (d : ℕ) → Working → Type 0
+  Counts d to = P d to.marks to.scan_work to.earned
+
+  page_so : (word : PageWord) → Counts 0 (after_page w word)
+  page_so (Head h) = by _ where
+    by : (b : Bool) → Counts 0 (cond b (at_stage w (Sweeping (sweep.opening w.layout w.page h))) (page_done w))
+    by true = same
+    by false = same
+  page_so Free = same
+  page_so (Body b) = same
+
+  sweep_so : (sw : sweep.Sweeping) (out : Option SweepEnd) → Counts 0 (after_sweep w sw out)
+  sweep_so sw None = same
+  sweep_so sw (Some end) = same
+
+  give_so : (g : give.BufferGiving) (stops : ℕ) (out : Option (Unit {0})) → Counts 0 (after_give w g stops out)
+  give_so g stops None = same
+  give_so g stops (Some x) = same
+
+  resume_so : (r : resume.Resuming) (out : Option Resumed) → Counts 0 (after_resume w r out)
+  resume_so r None = same
+  resume_so r (Some out) = same
+
+  take_so : (t : take.EntryTaking) (out : Option (Option ℕ)) → Counts 0 (after_take w t out)
+  take_so t None = same
+  take_so t (Some None) = same
+  take_so t (Some (Some reference)) = same
+
+  scan_so : (sc : scan.Scanning) (out : Option ℕ) → Counts (words_of out) (after_scan w sc out)
+  scan_so sc None = same
+  scan_so sc (Some words) = more words
+
+  global_so : (sh : shade.Shading) (b : Bool) → Counts (cond b 1 0) (cond b (done_with w w.held 1) (at_stage w (Shading sh)))
+  global_so sh true = more 1
+  global_so sh false = same
+
+  shade_so : (sh : shade.Shading) (out : Option Shaded) → Counts (word_of out) (after_shade w sh out)
+  shade_so sh None = same
+  shade_so sh (Some shaded.Done) = more 1
+  shade_so sh (Some shaded.WantsRoom) = same
+
+  room_so : (sh : shade.Shading) (r : room.RoomFinding) (out : Option Held) → Counts 0 (after_room w sh r out)
+  room_so sh r None = same
+  room_so sh r (Some h) = same
+
+  pub step_so : (stage : WorkerStage) (found : ℕ) → (IsEarning stage → P 0 w.marks 0 (counted w.earned w.scan_work)) → Counts (words_done stage found) (goes_at w stage found)
+  step_so LoadPage found handed = page_so (page_of found)
+  step_so (Sweeping sw) found handed = sweep_so (sweep.goes sw found) (sweep.gives sw found)
+  step_so (EarningAtStop e stops) found handed = handed tt
+  step_so (GiveBack g stops) found handed = give_so (give.goes g found) stops (give.gives g found)
+  step_so (Resuming r) found handed = resume_so (resume.goes r found) (resume.gives r found)
+  step_so (Taking t) found handed = take_so (take.goes t found) (take.gives t found)
+  step_so (Scanning sc) found handed = scan_so (scan.goes sc found) (scan.gives sc found)
+  step_so (Earning e) found handed = handed tt
+  step_so (LoadGlobal i) found handed = global_so _ (eqb found 0)
+  step_so (Shading sh) found handed = shade_so (shade.goes sh found) (shade.gives sh found)
+  step_so (FindRoom sh r) found handed = room_so sh (room.goes r found) (room.gives r found)
+  step_so _ found handed = same
 
 -- the count of so many words
 abbrev count : ℕ → ℕ
@@ -29,71 +96,17 @@ count words = min words (2 ^ 64 - 1)
 none_more : (marks s : ℕ) → marks ≡ count s → marks ≡ count (s + 0)
 none_more marks s e = omega arith
 
-more : (marks s d : ℕ) → marks ≡ count s → count (marks + d) ≡ count (s + d)
-more marks s d e = omega arith
-
-module _ (w : Working) (s : ℕ) (e : w.marks ≡ count s) where
-  abbrev Counts : (d : ℕ) → Working → Type 0
-  Counts d to = to.marks ≡ count (s + d)
-
-  page_so : (word : PageWord) → Counts 0 (after_page w word)
-  page_so (Head h) = by _ where
-    by : (b : Bool) → Counts 0 (cond b (at_stage w (Sweeping (sweep.opening w.layout w.page h))) (page_done w))
-    by true = none_more w.marks s e
-    by false = none_more w.marks s e
-  page_so Free = none_more w.marks s e
-  page_so (Body b) = none_more w.marks s e
-
-  sweep_so : (sw : sweep.Sweeping) (out : Option SweepEnd) → Counts 0 (after_sweep w sw out)
-  sweep_so sw None = none_more w.marks s e
-  sweep_so sw (Some end) = none_more w.marks s e
-
-  give_so : (g : give.BufferGiving) (stops : ℕ) (out : Option (Unit {0})) → Counts 0 (after_give w g stops out)
-  give_so g stops None = none_more w.marks s e
-  give_so g stops (Some x) = none_more w.marks s e
-
-  resume_so : (r : resume.Resuming) (out : Option Resumed) → Counts 0 (after_resume w r out)
-  resume_so r None = none_more w.marks s e
-  resume_so r (Some out) = none_more w.marks s e
-
-  take_so : (t : take.EntryTaking) (out : Option (Option ℕ)) → Counts 0 (after_take w t out)
-  take_so t None = none_more w.marks s e
-  take_so t (Some None) = none_more w.marks s e
-  take_so t (Some (Some reference)) = none_more w.marks s e
-
-  scan_so : (sc : scan.Scanning) (out : Option ℕ) → Counts (words_of out) (after_scan w sc out)
-  scan_so sc None = none_more w.marks s e
-  scan_so sc (Some words) = more w.marks s words e
-
-  global_so : (sh : shade.Shading) (b : Bool) → Counts (cond b 1 0) (cond b (done_with w w.held 1) (at_stage w (Shading sh)))
-  global_so sh true = more w.marks s 1 e
-  global_so sh false = none_more w.marks s e
-
-  shade_so : (sh : shade.Shading) (out : Option Shaded) → Counts (word_of out) (after_shade w sh out)
-  shade_so sh None = none_more w.marks s e
-  shade_so sh (Some shaded.Done) = more w.marks s 1 e
-  shade_so sh (Some shaded.WantsRoom) = none_more w.marks s e
-
-  room_so : (sh : shade.Shading) (r : room.RoomFinding) (out : Option Held) → Counts 0 (after_room w sh r out)
-  room_so sh r None = none_more w.marks s e
-  room_so sh r (Some h) = none_more w.marks s e
-
-  step_so : (stage : WorkerStage) (found : ℕ) → Counts (words_done stage found) (goes_at w stage found)
-  step_so LoadPage found = page_so (page_of found)
-  step_so (Sweeping sw) found = sweep_so (sweep.goes sw found) (sweep.gives sw found)
-  step_so (GiveBack g stops) found = give_so (give.goes g found) stops (give.gives g found)
-  step_so (Resuming r) found = resume_so (resume.goes r found) (resume.gives r found)
-  step_so (Taking t) found = take_so (take.goes t found) (take.gives t found)
-  step_so (Scanning sc) found = scan_so (scan.goes sc found) (scan.gives sc found)
-  step_so (LoadGlobal i) found = global_so _ (eqb found 0)
-  step_so (Shading sh) found = shade_so (shade.goes sh found) (shade.gives sh found)
-  step_so (FindRoom sh r) found = room_so sh (room.goes r found) (room.gives r found)
-  step_so _ found = none_more w.marks s e
+more_so : (marks s d : ℕ) → marks ≡ count s → counted marks d ≡ count (s + d)
+more_so marks s d e = omega arith
 
 module _ (l : Layout) (seat : ℕ) (found : ℕ → ℕ) where
   counts_so : (n : ℕ) → (after l seat found n).marks ≡ count (scanned l seat found n)
   counts_so zero = omega arith
-  counts_so (suc n) = step_so (after l seat found n) (scanned l seat found n) (counts_so n) (after l seat found n).stage (found n)
+  counts_so (suc n) =
+      let w : Working = after l seat found n in
+      let s : ℕ = scanned l seat found n in
+      let same : w.marks ≡ count (s + 0) = none_more w.marks s (counts_so n) in
+      step_so w (λ d marks scan_work earned. marks ≡ count (s + d)) same (λ d. more_so w.marks s d (counts_so n)) w.stage (found n) (λ e. same)
 
   pub counts : CountsWords l seat found
   counts = record { counts = counts_so }

@@ -1,5 +1,6 @@
 pub mod Vocabulary
 pub mod Counting
+pub mod Earning
 pub mod Looking
 pub mod MarkShades
 pub mod MarkSteps

@@ -9,12 +9,18 @@ use Rattle.gh_sweep.specs.Listing as sweep
 use Rattle.gh_wbuf.specs.BufferGiving as give
 use Rattle.gh_wbuf.specs.EntryTaking as take
 use Rattle.gh_wbuf.specs.RoomFinding as room
-use Rattle.gh_worker.proofs.Vocabulary.{after_give, after_page, after_resume, after_room, after_scan, after_shade, after_sweep, after_take, asks_at, at_stage, Body, by_phase, Claim, Done, done_with, FindRoom, Finished, Free, GiveBack, goes_at, Head, Held, Leave, Load, LoadCursor, LoadGlobal, LoadPage, LoadPhase, Mark, Off, page_done, page_of, PageWord, Phase, phase_of, reference_in, Resumed, Resuming, Scanning, Shaded, Shading, Stop, stops_at, SweepEnd, Sweeping, Taking, WorkerStage, Working}
+use Rattle.gh_worker.proofs.Vocabulary.{after_give, after_page, after_resume, after_room, after_scan, after_shade, after_sweep, after_take, asks_at, at_stage, Body, by_phase, by_stop, by_work, Claim, counted, Done, done_with, Earning, EarningAtStop, FindRoom, Finished, Free, GiveBack, gives_back, goes_at, Head, Held, Leave, Load, LoadCursor, LoadGlobal, LoadPage, LoadPhase, Mark, Off, page_done, page_of, PageWord, Phase, phase_of, reference_in, Resumed, Resuming, Scanning, Shaded, Shading, Stop, stops_at, SweepEnd, Sweeping, Taking, with_work, WorkerStage, Working}
 
 module _ (found : ℕ) (w : Working) where
+  back_not : (n : ℕ) (held : Option Held) → gives_back w n held ≡ LoadPage → ⊥
+  back_not n None e = cc
+  back_not n (Some h) e = cc
+
   stops_not : (n : ℕ) (held : Option Held) → stops_at w n held ≡ LoadPage → ⊥
-  stops_not n None e = cc
-  stops_not n (Some h) e = cc
+  stops_not n held = by_stop (λ p. p ≡ LoadPage → ⊥) w n held (λ z. back_not n held) (λ e. cc)
+
+  work_not : (scan_work : ℕ) → with_work w.layout scan_work ≡ LoadPage → ⊥
+  work_not scan_work = by_work (λ p. p ≡ LoadPage → ⊥) w.layout scan_work (λ e. cc) (λ e. cc)
 
   phases_look : (phase : Phase) → (phase_of found).phase ≡ phase → by_phase w (phase_of found).stops phase ≡ LoadPage → (phase_of found).phase ≡ Off
   phases_look Off is e = is
@@ -49,11 +55,11 @@ module _ (found : ℕ) (w : Working) where
 
   scan_not : (s : scan.Scanning) (out : Option ℕ) → (after_scan w s out).stage ≡ LoadPage → ⊥
   scan_not s None e = cc
-  scan_not s (Some words) e = cc
+  scan_not s (Some words) e = work_not (counted w.scan_work words) e
 
   shade_not : (sh : shade.Shading) (out : Option Shaded) → (after_shade w sh out).stage ≡ LoadPage → ⊥
   shade_not sh None e = cc
-  shade_not sh (Some shaded.Done) e = cc
+  shade_not sh (Some shaded.Done) e = work_not (counted w.scan_work 1) e
   shade_not sh (Some shaded.WantsRoom) e = cc
 
   room_not : (sh : shade.Shading) (r : room.RoomFinding) (out : Option Held) → (after_room w sh r out).stage ≡ LoadPage → ⊥
@@ -69,17 +75,19 @@ module _ (found : ℕ) (w : Working) where
   claim_not false e = cc
 
   global_not : (b : Bool) → (cond b (done_with w w.held 1) (at_stage w (Shading (shade.opening w.layout (reference_in w.layout found) w.held)))).stage ≡ LoadPage → ⊥
-  global_not true e = cc
+  global_not true e = work_not (counted w.scan_work 1) e
   global_not false e = cc
 
   pub looks_at : (stage : WorkerStage) → (goes_at w stage found).stage ≡ LoadPage → (asks_at w stage ≡ Load cell.Phase) × ((phase_of found).phase ≡ Off)
   looks_at LoadPhase e = (refl, phases_look (phase_of found).phase refl e)
   looks_at LoadPage e = absurd (page_not (page_of found) e)
   looks_at (Sweeping sw) e = absurd (sweep_not (sweep.goes sw found) (sweep.gives sw found) e)
+  looks_at (EarningAtStop x n) e = absurd (back_not n w.held e)
   looks_at (GiveBack g n) e = absurd (give_not (give.goes g found) n (give.gives g found) e)
   looks_at (Resuming r) e = absurd (resume_not (resume.goes r found) (resume.gives r found) e)
   looks_at (Taking t) e = absurd (take_not (take.goes t found) (take.gives t found) e)
   looks_at (Scanning s) e = absurd (scan_not (scan.goes s found) (scan.gives s found) e)
+  looks_at (Earning x) e = absurd (cc)
   looks_at LoadCursor e = absurd (cursor_not (ltb found w.layout.globals) e)
   looks_at Claim e = absurd (claim_not (ltb found w.layout.globals) e)
   looks_at (LoadGlobal i) e = absurd (global_not (found == 0) e)

@@ -12,7 +12,7 @@ use Rattle.gh_wbuf.specs.Facts as buffer_facts
 use Rattle.gh_wbuf.specs.RoomFinding as room
 use Rattle.gh_worker.specs.declared.worker.WorkerStage.TheVariants as worker
 use Rattle.gh_worker.proofs.Vocabulary.{after_room, after_shade, asks_at, at_stage, cell_of, claim_at, ClaimOf, Cycle, effect, Facts, goes_at, Good, Hands, Held, in_hand, InHand, IsClean, IsMarked, Keeps, KnowsObjects, landing, landing_on, Lands, lands_by, lands_still, Layout, NoClaim, nothing, Others, Quiet, ReadOf, ScanGlobal, seats_of, Shaded, ShadeStage, Shared, StageFacts, Steps, sweep_at, WorkerStage, Working, WorksByMoves}
-use Rattle.gh_worker.proofs.MarkSteps.{Known, claims, gives, load-cursor, load-page, load-phase, read-global, resumed, resumes, scans, still, takes}
+use Rattle.gh_worker.proofs.MarkSteps.{Known, claims, done, earns, earns-at-stop, gives, load-cursor, load-page, load-phase, read-global, resumed, resumes, scans, still, takes}
 
 -- what shading leaves to be known at its next stage, with the global that the worker has then
 abbrev Shading : Cycle → (a : ℕ) → Shared → Claim → shade.Shading → Type 0
@@ -57,7 +57,7 @@ module _ (k : Known) (z : Cycle) (a : ℕ) (s : Shared) (g : Good z s) (objects 
     shaded-then i None e f = record { layout_is = layout_is; seat_is = seat_is; seat_in = seat_in; stage_is = (i, f) }
     shaded-then i (Some shaded.Done) e f =
         let ended : Shading z a t NoClaim (shade.goes sh n) = subst (λ (q : ShadeStage). Shading z a t (claim_at i (shade.goes sh n).reference q) (shade.goes sh n)) (k.shade.ended sh n e) f in
-        record { layout_is = layout_is; seat_is = seat_is; seat_in = seat_in; stage_is = (k.shade.ends z a t (in_hand None NoClaim) sh n e ended).hands }
+        done k z a s g objects w layout_is seat_is seat_in t (shade.goes sh n).held 1 (k.shade.ends z a t (in_hand None NoClaim) sh n e ended).hands
     shaded-then i (Some shaded.WantsRoom) e f =
         let waiting : Shading z a t NoClaim (shade.goes sh n) = subst (λ (q : ShadeStage). Shading z a t (claim_at i (shade.goes sh n).reference q) (shade.goes sh n)) (k.shade.waiting sh n e) f in
         let waits : shade_facts.WaitsForRoom a t (in_hand None NoClaim) (shade.goes sh n) = k.shade.wants z a t (in_hand None NoClaim) sh n e waiting in
@@ -109,12 +109,14 @@ module _ (k : Known) (z : Cycle) (a : ℕ) (s : Shared) (g : Good z s) (objects 
   own-at worker.LoadPhase e x = load-phase k z a s g objects w layout_is seat_is seat_in x
   own-at worker.LoadPage e x = load-page k z a s g objects w layout_is seat_is seat_in x
   own-at (worker.Sweeping sw) e x = absurd cc
+  own-at (worker.EarningAtStop m number) e x = earns-at-stop k z a s g objects w layout_is seat_is seat_in m number x
   own-at (worker.GiveBack m number) e x = gives k z a s g objects w layout_is seat_is seat_in m number x
   own-at (worker.Resuming r) e x =
       let n : ℕ = s.words (cell_of (resume.asks r)) in
       resumes k z a s g objects w layout_is seat_is seat_in r r.stage (goes_at w (worker.Resuming r) n) x.0 (λ t h. resumed k z a s g objects w layout_is seat_is seat_in (resume.goes r n) (resume.gives r n) t x.1 h)
   own-at (worker.Taking m) e x = takes k z a s g objects w layout_is seat_is seat_in m x
   own-at (worker.Scanning m) e x = scans k z a s g objects w layout_is seat_is seat_in m x
+  own-at (worker.Earning m) e x = earns k z a s g objects w layout_is seat_is seat_in m x
   own-at worker.LoadCursor e x = load-cursor k z a s g objects w layout_is seat_is seat_in x
   own-at worker.Claim e x = claims k z a s g objects w layout_is seat_is seat_in x.0 x.1
   own-at (worker.LoadGlobal i) e x = read-global k z a s g objects w layout_is seat_is seat_in i x.1

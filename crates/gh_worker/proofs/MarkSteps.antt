@@ -2,6 +2,8 @@
 use Rattle.std.proofs.Common.{◌≡◌, ◌≢◌, ℕ, ◌+◌, ◌-◌, ◌*◌, ◌<◌, ◌≤◌, Bool, true, false, cond, eqb, ltb, Option, Some, None, refl, sym, ap, subst, ◌∙◌, arith, eqb-true, eq-eqb, ltb-true, ltb-false}
 use Rattle.std.proofs.Math.Nat.{mod-eq_of_lt}
 use Rattle.gh_base.specs.declared.cell.Cell.TheVariants as cell
+use Rattle.gh_credit.specs.declared.earn.EarnStage.TheVariants as earning
+use Rattle.gh_credit.specs.Earning as earn
 use Rattle.gh_marks.specs.Laws.{EachHandFollows, EachHandLasts, EachStepGoesByMoves, TheCursorIsSmall}
 use Rattle.gh_phase.specs.declared.resume.ResumeStage.TheVariants as resume_stage
 use Rattle.gh_phase.specs.Listing as resume
@@ -15,7 +17,7 @@ use Rattle.gh_wbuf.specs.EntryTaking as take
 use Rattle.gh_wbuf.specs.Facts as buffer_facts
 use Rattle.gh_sweep.specs.Listing as sweep
 use Rattle.gh_worker.specs.declared.worker.WorkerStage.TheVariants as worker
-use Rattle.gh_worker.proofs.Vocabulary.{Add, after_give, after_global, after_page, after_resume, after_scan, after_take, Ask, at_stage, by_phase, Cell, cell_of, ClaimGlobal, ClaimOf, Cycle, done_with, effect, Facts, Body, Finished, Free, goes_at, Good, Hands, Head, Held, in_hand, InHand, IsQuiet, Keeps, KnowsObject, KnowsObjects, landing, landing_on, Lands, lands_by, lands_still, Layout, Load, Mark, moved, NoClaim, nothing, Off, page_done, page_of, PageWord, PassGlobals, Phase, phase_of, put, Quiet, ReadGlobal, ReadOf, reference_in, Resumed, ResumeStage, ScanGlobal, ScanStage, seats_of, Shared, StageFacts, Steps, Stop, stops_at, Store, Taken, Went, WorkerStage, Working}
+use Rattle.gh_worker.proofs.Vocabulary.{Add, after_give, after_global, after_page, after_resume, after_scan, after_take, Ask, at_stage, by_phase, by_stop, by_work, Cell, cell_of, ClaimGlobal, ClaimOf, counted, Cycle, done_with, EarnStage, effect, Facts, Body, Finished, Free, gives_back, goes_at, Good, handed_over, Hands, Head, Held, in_hand, InHand, IsQuiet, Keeps, KnowsObject, KnowsObjects, landing, landing_on, Lands, lands_by, lands_still, Layout, Load, Mark, moved, NoClaim, nothing, Off, page_done, page_of, PageWord, PassGlobals, Phase, phase_of, put, Quiet, ReadGlobal, ReadOf, reference_in, Resumed, ResumeStage, ScanGlobal, ScanStage, seats_of, Shared, StageFacts, Steps, Stop, stops_at, Store, Taken, Went, WorkerStage, Working}
 
 pub record Known : Type 0 where
   pub last : EachHandLasts
@@ -42,15 +44,18 @@ module _ (k : Known) (z : Cycle) (a : ℕ) (s : Shared) (g : Good z s) (objects 
   begin t rest held x = k.buffers.begin z a t rest held x
 
   -- the phase
-  stops : (number : ℕ) (held : Option Held) → w.held ≡ held → Hands a s (in_hand held NoClaim) → StageFacts z a s w.held (stops_at w number held)
-  stops number None e x = (x, e)
-  stops number (Some h) e x = subst (λ (l : Layout). buffer_facts.GiveFacts z a s nothing (give.opening l h)) (sym layout_is) ((begin s nothing (Some h) x).gives h refl)
+  backs : (t : Shared) (number : ℕ) (held : Option Held) → w.held ≡ held → Hands a t (in_hand held NoClaim) → StageFacts z a t w.held (gives_back w number held)
+  backs t number None e x = (x, e)
+  backs t number (Some h) e x = subst (λ (l : Layout). buffer_facts.GiveFacts z a t nothing (give.opening l h)) (sym layout_is) ((begin t nothing (Some h) x).gives h refl)
+
+  stops : (number : ℕ) → Hands a s (in_hand w.held NoClaim) → StageFacts z a s w.held (stops_at w number w.held)
+  stops number x = by_stop (StageFacts z a s w.held) w number w.held (λ e. backs s number w.held refl x) x
 
   phases : (number : ℕ) (phase : Phase) → Hands a s (in_hand w.held NoClaim) → StageFacts z a s w.held (by_phase w number phase)
   phases number Off x = x
   phases number Mark x = subst (λ (l : Layout). buffer_facts.TakeFacts z a s nothing (take.opening l w.seat w.held)) (sym layout_is)
       (subst (λ (b : ℕ). buffer_facts.TakeFacts z a s nothing (take.opening z.arena.layout b w.held)) (sym seat_is) ((begin s nothing w.held x).takes refl))
-  phases number Stop x = stops number w.held refl x
+  phases number Stop x = stops number x
   phases number Finished x = x
 
   pub load-phase : Hands a s (in_hand w.held NoClaim) → Leads (Load cell.Phase) (goes_at w worker.LoadPhase (s.words cell.Phase))
@@ -80,12 +85,27 @@ module _ (k : Known) (z : Cycle) (a : ℕ) (s : Shared) (g : Good z s) (objects 
         then t f None = same t w.held w.marks (worker.GiveBack (give.goes m n) number) f
         then t f (Some x) = record { layout_is = layout_is; seat_is = seat_is; seat_in = seat_in; stage_is = (f.hands, refl) }
 
+  -- a step that marking does not read
+  quiet-step : (hand : InHand) (step : Ask) (n : Working) → IsQuiet s step → Hands a s hand → ((t : Shared) → Hands a t hand → Facts z a t n) → Leads step n
+  quiet-step hand step n may x f = lands_by z a s (effect s.words step) (λ t. Facts z a t n) (Quiet step) may refl (f (moved z a s (Quiet step)) ((k.follow z a s hand g x).quiet step may))
+
+  -- what is scanned is handed over
+  earns-to : (m : earn.Earning) (p : EarnStage) (stage : WorkerStage) → Hands a s (in_hand w.held NoClaim) → ((t : Shared) → Hands a t (in_hand w.held NoClaim) → StageFacts z a t w.held stage) → Leads (earn.asks_at m p) (handed_over w stage)
+  earns-to m p stage x f = quiet-step (in_hand w.held NoClaim) (earn.asks_at m p) (handed_over w stage) (quiet p) x (λ t h. record { layout_is = layout_is; seat_is = seat_is; seat_in = seat_in; stage_is = f t h }) where
+    quiet : (q : EarnStage) → IsQuiet s (earn.asks_at m q)
+    quiet earning.Add = tt
+    quiet earning.Ended = tt
+
+  pub earns : (m : earn.Earning) → Hands a s (in_hand w.held NoClaim) → Leads (earn.asks m) (goes_at w (worker.Earning m) (s.words (cell_of (earn.asks m))))
+  earns m x = earns-to m m.stage worker.LoadPhase x (λ t h. h)
+
+  pub earns-at-stop : (m : earn.Earning) (number : ℕ) → Hands a s (in_hand w.held NoClaim) → Leads (earn.asks m) (goes_at w (worker.EarningAtStop m number) (s.words (cell_of (earn.asks m))))
+  earns-at-stop m number x = earns-to m m.stage (gives_back w number w.held) x (λ t h. backs t number w.held refl h)
+
   -- a stop is acknowledged
-  quiet-step : (step : Ask) (n : Working) → IsQuiet s step → Hands a s nothing → ((t : Shared) → Hands a t nothing → Facts z a t n) → Leads step n
-  quiet-step step n may x f = lands_by z a s (effect s.words step) (λ t. Facts z a t n) (Quiet step) may refl (f (moved z a s (Quiet step)) ((k.follow z a s nothing g x).quiet step may))
 
   pub resumes : (r : resume.Resuming) (p : ResumeStage) → (n : Working) → Hands a s nothing → ((t : Shared) → Hands a t nothing → Facts z a t n) → Leads (resume.asks_at r p) n
-  resumes r resume_stage.Acknowledge n x f = quiet-step (Store (cell.Ack r.seat) r.stops) n tt x f
+  resumes r resume_stage.Acknowledge n x f = quiet-step nothing (Store (cell.Ack r.seat) r.stops) n tt x f
   resumes r resume_stage.LoadPhase n x f = still cell.Phase n (f s x)
   resumes r resume_stage.LoadGeneration n x f = still cell.Gen n (f s x)
   resumes r resume_stage.LoadBegun n x f = still cell.Begun n (f s x)
@@ -123,14 +143,18 @@ module _ (k : Known) (z : Cycle) (a : ℕ) (s : Shared) (g : Good z s) (objects 
   held-given words held (scan_stage.FindRoom sh r) e = absurd (cc)
   held-given words held _ e = refl
 
-  scanned-then : (t : Shared) (m : scan.Scanning) (n : ℕ) (out : Option ℕ) → scan.gives m n ≡ out → scan_facts.Facts z a t nothing (scan.goes m n) → Facts z a t (after_scan w (scan.goes m n) out)
-  scanned-then t m n None e f = same t w.held w.marks (worker.Scanning (scan.goes m n)) f
-  scanned-then t m n (Some words) e f = record {
+  -- so many words are scanned, and nothing but this buffer is in hand
+  pub done : (t : Shared) (held : Option Held) (words : ℕ) → Hands a t (in_hand held NoClaim) → Facts z a t (done_with w held words)
+  done t held words x = record {
     layout_is = layout_is;
     seat_is = seat_is;
     seat_in = seat_in;
-    stage_is = subst (λ (held : Option Held). Hands a t (in_hand held NoClaim)) (sym (held-given words (scan.goes m n).held (scan.goes m n).stage e)) (k.scan.ends z a t nothing m n words e f);
+    stage_is = by_work (StageFacts z a t held) w.layout (counted w.scan_work words) x x;
   }
+
+  scanned-then : (t : Shared) (m : scan.Scanning) (n : ℕ) (out : Option ℕ) → scan.gives m n ≡ out → scan_facts.Facts z a t nothing (scan.goes m n) → Facts z a t (after_scan w (scan.goes m n) out)
+  scanned-then t m n None e f = same t w.held w.marks (worker.Scanning (scan.goes m n)) f
+  scanned-then t m n (Some words) e f = done t (scan.held_at (scan.goes m n).held (scan.goes m n).stage) words (subst (λ (held : Option Held). Hands a t (in_hand held NoClaim)) (sym (held-given words (scan.goes m n).held (scan.goes m n).stage e)) (k.scan.ends z a t nothing m n words e f))
 
   pub scans : (m : scan.Scanning) → scan_facts.Facts z a s nothing m → Leads (scan.asks m) (goes_at w (worker.Scanning m) (s.words (cell_of (scan.asks m))))
   scans m f =
@@ -190,7 +214,7 @@ module _ (k : Known) (z : Cycle) (a : ℕ) (s : Shared) (g : Good z s) (objects 
         then good = by (eqb v 0) refl where
           by : (b : Bool) → eqb v 0 ≡ b → Lands z a (read i) (read i).words (λ u. Facts z a u (cond b (done_with w w.held 1) (at_stage w (worker.Shading (shade.opening w.layout (reference_in w.layout v) w.held)))))
           by true e = lands_by z a (read i) (read i).words (λ u. Facts z a u (done_with w w.held 1)) (ScanGlobal i v) ((reads.has.is_read i v).0 refl, λ o p. absurd (nil o (eqb-true _ _ e) p)) refl
-              (record { layout_is = layout_is; seat_is = seat_is; seat_in = seat_in; stage_is = (k.follow z a (read i) (in_hand w.held (ReadOf i v)) good reads).scanned i v refl }) where
+              (done (moved z a (read i) (ScanGlobal i v)) w.held 1 ((k.follow z a (read i) (in_hand w.held (ReadOf i v)) good reads).scanned i v refl)) where
                 nil : (o : ℕ) → v ≡ 0 → v ≡ o + 1 → ⊥
                 nil o e p = omega arith
           by false e =

@@ -10,13 +10,19 @@ use Rattle.gh_sweep.specs.Listing as sweep
 use Rattle.gh_wbuf.specs.BufferGiving as give
 use Rattle.gh_wbuf.specs.EntryTaking as take
 use Rattle.gh_wbuf.specs.RoomFinding as room
-use Rattle.gh_worker.proofs.Vocabulary.{after_give, after_page, after_resume, after_room, after_scan, after_shade, after_sweep, after_take, asks_at, at_stage, Body, by_phase, Claim, Done, done_with, FindRoom, FindsMarking, Finished, Free, GiveBack, goes_at, Head, Held, is_busy, IsLeaving, IsMarking, Leave, Load, LoadCursor, LoadGlobal, LoadPage, LoadPhase, Mark, Off, page_done, page_of, PageWord, Phase, phase_of, reference_in, Resumed, Resuming, run_phase, Scanning, Shaded, Shading, Stop, stops_at, SweepEnd, Sweeping, Taking, WorkerStage, Working}
+use Rattle.gh_worker.proofs.Vocabulary.{after_give, after_page, after_resume, after_room, after_scan, after_shade, after_sweep, after_take, asks_at, at_stage, Body, by_phase, by_stop, by_work, Claim, counted, Done, done_with, Earning, EarningAtStop, FindRoom, FindsMarking, Finished, Free, GiveBack, gives_back, goes_at, Head, Held, is_busy, IsLeaving, IsMarking, Leave, Load, LoadCursor, LoadGlobal, LoadPage, LoadPhase, Mark, Off, page_done, page_of, PageWord, Phase, phase_of, reference_in, Resumed, Resuming, run_phase, Scanning, Shaded, Shading, Stop, stops_at, SweepEnd, Sweeping, Taking, with_work, WorkerStage, Working}
 
 -- Where a step does not find the last phase, the worker goes on.
 module _ (found : ℕ) (w : Working) where
+  backs_on : (n : ℕ) (held : Option Held) → IsLeaving (gives_back w n held) → ⊥
+  backs_on n None x = x
+  backs_on n (Some h) x = x
+
   stops_on : (n : ℕ) (held : Option Held) → IsLeaving (stops_at w n held) → ⊥
-  stops_on n None x = x
-  stops_on n (Some h) x = x
+  stops_on n held = by_stop (λ p. IsLeaving p → ⊥) w n held (λ z. backs_on n held) (λ x. x)
+
+  works_on : (scan_work : ℕ) → IsLeaving (with_work w.layout scan_work) → ⊥
+  works_on scan_work = by_work (λ p. IsLeaving p → ⊥) w.layout scan_work (λ x. x) (λ x. x)
 
   phases_on : (phase : Phase) → (phase_of found).phase ≡ phase → IsLeaving (by_phase w (phase_of found).stops phase) → run_phase (phase_of found).phase ≡ Some run.Finished
   phases_on Off e x = absurd x
@@ -39,11 +45,11 @@ module _ (found : ℕ) (w : Working) where
 
   scans_on : (s : scan.Scanning) (out : Option ℕ) → IsLeaving (after_scan w s out).stage → ⊥
   scans_on s None x = x
-  scans_on s (Some words) x = x
+  scans_on s (Some words) x = works_on (counted w.scan_work words) x
 
   shades_on : (sh : shade.Shading) (out : Option Shaded) → IsLeaving (after_shade w sh out).stage → ⊥
   shades_on sh None x = x
-  shades_on sh (Some shaded.Done) x = x
+  shades_on sh (Some shaded.Done) x = works_on (counted w.scan_work 1) x
   shades_on sh (Some shaded.WantsRoom) x = x
 
   room_on : (sh : shade.Shading) (r : room.RoomFinding) (out : Option Held) → IsLeaving (after_room w sh r out).stage → ⊥
@@ -75,13 +81,15 @@ module _ (found : ℕ) (w : Working) where
   leaves_at LoadPhase busy x = inr (refl, phases_on (phase_of found).phase refl x)
   leaves_at LoadPage busy x = absurd (page_on (page_of found) x)
   leaves_at (Sweeping sw) busy x = absurd (sweep_on (sweep.goes sw found) (sweep.gives sw found) x)
+  leaves_at (EarningAtStop e n) busy x = absurd (backs_on n w.held x)
   leaves_at (GiveBack g n) busy x = absurd (gives_on (give.goes g found) n (give.gives g found) x)
   leaves_at (Resuming r) busy x = absurd (resumes_on (resume.goes r found) (resume.gives r found) x)
   leaves_at (Taking t) busy x = absurd (takes_on (take.goes t found) (take.gives t found) x)
   leaves_at (Scanning s) busy x = absurd (scans_on (scan.goes s found) (scan.gives s found) x)
+  leaves_at (Earning e) busy x = absurd x
   leaves_at LoadCursor busy x = absurd (stage_on (ltb found w.layout.globals) Claim LoadPhase (λ y. y) (λ y. y) x)
   leaves_at Claim busy x = absurd (stage_on (ltb found w.layout.globals) (LoadGlobal found) LoadPhase (λ y. y) (λ y. y) x)
-  leaves_at (LoadGlobal i) busy x = absurd (either_on (found == 0) (done_with w w.held 1) (at_stage w (Shading (shade.opening w.layout (reference_in w.layout found) w.held))) (λ y. y) (λ y. y) x)
+  leaves_at (LoadGlobal i) busy x = absurd (either_on (found == 0) (done_with w w.held 1) (at_stage w (Shading (shade.opening w.layout (reference_in w.layout found) w.held))) (works_on (counted w.scan_work 1)) (λ y. y) x)
   leaves_at (Shading sh) busy x = absurd (shades_on (shade.goes sh found) (shade.gives sh found) x)
   leaves_at (FindRoom sh r) busy x = absurd (room_on sh (room.goes r found) (room.gives r found) x)
   leaves_at Leave busy x = inl tt
@@ -89,9 +97,12 @@ module _ (found : ℕ) (w : Working) where
 
 -- Where it marks, it did so before, or has found that marking is on.
 module _ (found : ℕ) (w : Working) where
+  backs_not : (n : ℕ) (held : Option Held) → IsMarking (gives_back w n held) → ⊥
+  backs_not n None x = x
+  backs_not n (Some h) x = x
+
   stops_not : (n : ℕ) (held : Option Held) → IsMarking (stops_at w n held) → ⊥
-  stops_not n None x = x
-  stops_not n (Some h) x = x
+  stops_not n held = by_stop (λ p. IsMarking p → ⊥) w n held (λ z. backs_not n held) (λ x. x)
 
   phases_mark : (phase : Phase) → (phase_of found).phase ≡ phase → IsMarking (by_phase w (phase_of found).stops phase) → run_phase (phase_of found).phase ≡ Some run.Mark
   phases_mark Off e x = absurd x
@@ -145,10 +156,12 @@ module _ (found : ℕ) (w : Working) where
   marks_at LoadPhase busy x = record { view_stays = refl; finds = inr (refl, phases_mark (phase_of found).phase refl x) }
   marks_at LoadPage busy x = absurd (page_not (page_of found) x)
   marks_at (Sweeping sw) busy x = absurd (sweep_not (sweep.goes sw found) (sweep.gives sw found) x)
+  marks_at (EarningAtStop e n) busy x = absurd (backs_not n w.held x)
   marks_at (GiveBack g n) busy x = absurd (gives_not (give.goes g found) n (give.gives g found) x)
   marks_at (Resuming r) busy x = absurd (resumes_not (resume.goes r found) (resume.gives r found) x)
   marks_at (Taking t) busy x = record { view_stays = take_view (take.goes t found) (take.gives t found); finds = inl tt }
   marks_at (Scanning s) busy x = record { view_stays = scan_view (scan.goes s found) (scan.gives s found); finds = inl tt }
+  marks_at (Earning e) busy x = absurd x
   marks_at LoadCursor busy x = record { view_stays = refl; finds = inl tt }
   marks_at Claim busy x = record { view_stays = refl; finds = inl tt }
   marks_at (LoadGlobal i) busy x = record { view_stays = either_view (found == 0) (done_with w w.held 1) (at_stage w (Shading (shade.opening w.layout (reference_in w.layout found) w.held))) refl refl; finds = inl tt }

@@ -2,6 +2,8 @@
 use Rattle.std.proofs.Common.{◌≡◌, ℕ, Bool, true, false, cond, ltb, ◌==◌, refl, ap, ◌∙◌, inl, inr, Option, Some, None}
 use Rattle.std.specs.Prelude.{is_none}
 use Rattle.gh_base.specs.declared.cell.Cell.TheVariants as cell
+use Rattle.gh_credit.specs.declared.earn.EarnStage.TheVariants as earning
+use Rattle.gh_credit.specs.Earning as earn
 use Rattle.gh_phase.specs.Handshake.{Awake, FromAwake, IsQuiet, StageGoes}
 use Rattle.gh_phase.specs.Listing as resume
 use Rattle.gh_phase.specs.ResumePlaces.{ResumesInHandshake}
@@ -16,8 +18,13 @@ use Rattle.gh_sweep.specs.Listing as sweep
 use Rattle.gh_wbuf.specs.BufferGiving as give
 use Rattle.gh_wbuf.specs.EntryTaking as take
 use Rattle.gh_wbuf.specs.RoomFinding as room
-use Rattle.gh_worker.proofs.Vocabulary.{Add, after_give, after_page, after_resume, after_room, after_scan, after_shade, after_sweep, after_take, Ask, asks_at, at_stage, Body, by_phase, Claim, Done, done_with, FindRoom, Free, GiveBack, goes_at, GoesOnWithNone, Head, Held, is_busy, Leave, Load, LoadCursor, LoadGlobal, LoadPage, LoadPhase, page_done, page_of, PageWord, party_at, party_of, Phase, phase_of, reference_in, Resumed, Resuming, run_phase, Scanning, Shaded, Shading, Sound, SoundAt, stage_of, stands_at, Stop, stops_at, SweepEnd, Sweeping, Taking, WorkersKeepHandshake, WorkerStage, Working}
+use Rattle.gh_worker.proofs.Vocabulary.{Add, after_give, after_page, after_resume, after_room, after_scan, after_shade, after_sweep, after_take, Ask, asks_at, at_stage, Body, by_phase, by_stop, by_work, Claim, counted, Done, done_with, Earning, EarningAtStop, EarnStage, FindRoom, Free, GiveBack, gives_back, goes_at, GoesOnWithNone, handed_over, Head, Held, is_busy, Leave, Load, LoadCursor, LoadGlobal, LoadPage, LoadPhase, page_done, page_of, PageWord, party_at, party_of, Phase, phase_of, reference_in, Resumed, Resuming, run_phase, Scanning, Shaded, Shading, Sound, SoundAt, stage_of, stands_at, Stop, stops_at, SweepEnd, Sweeping, Taking, WorkersKeepHandshake, WorkerStage, Working}
 use Rattle.gh_worker.proofs.Phases.{leaves_at, marks_at}
+
+-- what is scanned is handed over by no word of the handshake
+earn_quiet : (x : earn.Earning) (p : EarnStage) → IsQuiet (earn.asks_at x p)
+earn_quiet x earning.Add = tt
+earn_quiet x earning.Ended = tt
 
 -- the worker that a step leads to, from one that is awake
 abbrev FromAwakeTo : (found : ℕ) → Ask → (w to : Working) → Type 0
@@ -29,12 +36,15 @@ Goes found w stage to = Sound to × StageGoes found (party_at w stage) (stands_a
 
 module _ (found : ℕ) (w : Working) where
   -- by the phase that it found
-  stops : (held : Option Held) → w.held ≡ held → (phase_of found).phase ≡ Stop → FromAwakeTo found (Load cell.Phase) w (at_stage w (stops_at w (phase_of found).stops held))
-  stops None none e = (record { seat_is = refl; busy = refl; none = none }, refl, (refl, record { stops = ap run_phase e; number_is = refl }))
-  stops (Some h) some e = (tt, refl, (refl, record { stops = ap run_phase e; number_is = refl }))
+  backs : (held : Option Held) → w.held ≡ held → w.scan_work ≡ 0 → (phase_of found).phase ≡ Stop → FromAwakeTo found (Load cell.Phase) w (at_stage w (gives_back w (phase_of found).stops held))
+  backs None none z e = (record { seat_is = refl; busy = refl; none = none; handed = z }, refl, (refl, record { stops = ap run_phase e; number_is = refl }))
+  backs (Some h) some z e = (z, refl, (refl, record { stops = ap run_phase e; number_is = refl }))
+
+  stops : (phase_of found).phase ≡ Stop → FromAwakeTo found (Load cell.Phase) w (at_stage w (stops_at w (phase_of found).stops w.held))
+  stops e = by_stop (λ p. FromAwakeTo found (Load cell.Phase) w (at_stage w p)) w (phase_of found).stops w.held (λ z. backs w.held refl z e) (record { words_are = refl; busy = refl }, refl, (refl, record { stops = ap run_phase e; number_is = refl }))
 
   phases : (phase : Phase) → (phase_of found).phase ≡ phase → FromAwakeTo found (Load cell.Phase) w (at_stage w (by_phase w (phase_of found).stops phase))
-  phases Stop e = stops w.held refl e
+  phases Stop e = stops e
   phases _ e = (tt, refl, tt)
 
   takes : (ask : Ask) (t : take.EntryTaking) (out : Option (Option ℕ)) → FromAwakeTo found ask w (after_take w t out)
@@ -42,13 +52,16 @@ module _ (found : ℕ) (w : Working) where
   takes ask t (Some None) = (tt, refl, tt)
   takes ask t (Some (Some reference)) = (tt, refl, tt)
 
+  works : (ask : Ask) (held : Option Held) (words : ℕ) → FromAwakeTo found ask w (done_with w held words)
+  works ask held words = by_work (λ p. FromAwakeTo found ask w (record (done_with w held words) { stage = p })) w.layout (counted w.scan_work words) (tt, refl, tt) (record { words_are = refl; busy = refl }, refl, tt)
+
   scans : (ask : Ask) (s : scan.Scanning) (out : Option ℕ) → FromAwakeTo found ask w (after_scan w s out)
   scans ask s None = (tt, refl, tt)
-  scans ask s (Some words) = (tt, refl, tt)
+  scans ask s (Some words) = works ask (scan.held_at s.held s.stage) words
 
   shades : (ask : Ask) (sh : shade.Shading) (out : Option Shaded) → FromAwakeTo found ask w (after_shade w sh out)
   shades ask sh None = (tt, refl, tt)
-  shades ask sh (Some shaded.Done) = (tt, refl, tt)
+  shades ask sh (Some shaded.Done) = works ask sh.held 1
   shades ask sh (Some shaded.WantsRoom) = (tt, refl, tt)
 
   finds_room : (ask : Ask) (sh : shade.Shading) (r : room.RoomFinding) (out : Option Held) → FromAwakeTo found ask w (after_room w sh r out)
@@ -72,13 +85,18 @@ module _ (found : ℕ) (w : Working) where
   at_either ask true one other f g = f
   at_either ask false one other f g = g
 
+  -- what it has scanned is handed over at a stop
+  earns : (x : earn.Earning) (stops : ℕ) (held : Option Held) → w.held ≡ held → Goes found w (EarningAtStop x stops) (handed_over w (gives_back w stops held))
+  earns x stops None none = (record { seat_is = refl; busy = refl; none = none; handed = refl }, (refl, earn_quiet x x.stage, inr refl))
+  earns x stops (Some h) some = (refl, (refl, earn_quiet x x.stage, inl refl))
+
   -- the buffer is given back
-  gives : (q : MarkingIsQuiet) (g : give.BufferGiving) (stops : ℕ) (out : Option (Unit {0})) → Goes found w (GiveBack g stops) (after_give w (give.goes g found) stops out)
-  gives q g stops None = (tt, (refl, q.gives g, inl refl))
-  gives q g stops (Some u) = (record { seat_is = refl; busy = refl; none = refl }, (refl, q.gives g, inr refl))
+  gives : (q : MarkingIsQuiet) (g : give.BufferGiving) (stops : ℕ) (out : Option (Unit {0})) → w.scan_work ≡ 0 → Goes found w (GiveBack g stops) (after_give w (give.goes g found) stops out)
+  gives q g stops None z = (z, (refl, q.gives g, inl refl))
+  gives q g stops (Some u) z = (record { seat_is = refl; busy = refl; none = refl; handed = z }, (refl, q.gives g, inr refl))
 
   -- it goes on after the stop
-  module _ (h : ResumesInHandshake) (r : resume.Resuming) (s : GoesOnWithNone w.seat w.held r) where
+  module _ (h : ResumesInHandshake) (r : resume.Resuming) (s : GoesOnWithNone w.seat w.held w.scan_work r) where
     goes_so : StageGoes found (resumes.party_of r) (resumes.stage_of r) (resume.asks r) (resumes.party_of (resume.goes r found)) (resumes.stage_of (resume.goes r found))
     goes_so = h.keeps.goes r found tt s.busy
 
@@ -89,7 +107,7 @@ module _ (found : ℕ) (w : Working) where
         (tt, rw (← seat, ← last.0, ← last.1) goes_so)
 
     goes_on : (out : Option Resumed) → resume.gives r found ≡ out → Goes found w (Resuming r) (after_resume w (resume.goes r found) out)
-    goes_on None e = (record { seat_is = h.seat_stays r found ∙ s.seat_is; busy = ap is_none e; none = s.none }, goes_so)
+    goes_on None e = (record { seat_is = h.seat_stays r found ∙ s.seat_is; busy = ap is_none e; none = s.none; handed = s.handed }, goes_so)
     goes_on (Some out) e = ends_so out e
 
 -- a sweep writes no word of the handshake
@@ -112,13 +130,15 @@ module _ (q : MarkingIsQuiet) (h : ResumesInHandshake) where
   goes found w LoadPhase s busy = awakes found w (goes_at w LoadPhase found) (Load cell.Phase) tt (phases found w (phase_of found).phase refl)
   goes found w LoadPage s busy = awakes found w (goes_at w LoadPage found) (Load (cell.Page w.page)) tt (pages found w (Load (cell.Page w.page)) (page_of found))
   goes found w (Sweeping sw) s busy = awakes found w (goes_at w (Sweeping sw) found) (sweep.asks sw) (sweep_quiet sw sw.stage) (sweeps found w (sweep.asks sw) (sweep.goes sw found) (sweep.gives sw found))
-  goes found w (GiveBack g stops) s busy = gives found w q g stops (give.gives g found)
+  goes found w (EarningAtStop x stops) s busy = earns found w x stops w.held refl
+  goes found w (GiveBack g stops) s busy = gives found w q g stops (give.gives g found) s
   goes found w (Resuming r) s busy = goes_on found w h r s (resume.gives r found) refl
   goes found w (Taking t) s busy = awakes found w (goes_at w (Taking t) found) (take.asks t) (q.takes t) (takes found w (take.asks t) (take.goes t found) (take.gives t found))
   goes found w (Scanning sc) s busy = awakes found w (goes_at w (Scanning sc) found) (scan.asks sc) (q.scans sc) (scans found w (scan.asks sc) (scan.goes sc found) (scan.gives sc found))
+  goes found w (Earning x) s busy = awakes found w (goes_at w (Earning x) found) (earn.asks x) (earn_quiet x x.stage) (tt, refl, tt)
   goes found w LoadCursor s busy = awakes found w (goes_at w LoadCursor found) (Load cell.Gcur) tt (at_either found w (Load cell.Gcur) (ltb found w.layout.globals) Claim LoadPhase (tt, refl, tt) (tt, refl, tt))
   goes found w Claim s busy = awakes found w (goes_at w Claim found) (Add cell.Gcur 1) tt (at_either found w (Add cell.Gcur 1) (ltb found w.layout.globals) (LoadGlobal found) LoadPhase (tt, refl, tt) (tt, refl, tt))
-  goes found w (LoadGlobal i) s busy = awakes found w (goes_at w (LoadGlobal i) found) (Load (cell.Global i)) tt (either found w (Load (cell.Global i)) (found == 0) (done_with w w.held 1) (at_stage w (Shading (shade.opening w.layout (reference_in w.layout found) w.held))) (tt, refl, tt) (tt, refl, tt))
+  goes found w (LoadGlobal i) s busy = awakes found w (goes_at w (LoadGlobal i) found) (Load (cell.Global i)) tt (either found w (Load (cell.Global i)) (found == 0) (done_with w w.held 1) (at_stage w (Shading (shade.opening w.layout (reference_in w.layout found) w.held))) (works found w (Load (cell.Global i)) w.held 1) (tt, refl, tt))
   goes found w (Shading sh) s busy = awakes found w (goes_at w (Shading sh) found) (shade.asks sh) (q.shades sh) (shades found w (shade.asks sh) (shade.goes sh found) (shade.gives sh found))
   goes found w (FindRoom sh r) s busy = awakes found w (goes_at w (FindRoom sh r) found) (room.asks r) (q.finds_room r) (finds_room found w (room.asks r) sh (room.goes r found) (room.gives r found))
   goes found w Leave s busy = (tt, (refl, refl, refl))

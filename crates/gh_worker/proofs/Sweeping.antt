@@ -11,7 +11,7 @@ use Rattle.gh_wbuf.specs.EntryTaking as take
 use Rattle.gh_wbuf.specs.RoomFinding as room
 use Rattle.gh_worker.specs.Sweeping.{WorkersRunSweeps}
 use Rattle.gh_worker.proofs.Looking.{looks_at}
-use Rattle.gh_worker.proofs.Vocabulary.{after_give, after_page, after_resume, after_room, after_scan, after_shade, after_sweep, after_take, asks_at, at_stage, Body, by_phase, Claim, Done, done_with, FindRoom, Finished, Free, GiveBack, goes_at, Head, Held, Leave, LoadCursor, LoadGlobal, LoadPage, LoadPhase, Mark, Off, page_done, page_of, PageWord, Phase, phase_of, reference_in, Resumed, Resuming, Scanning, Shaded, Shading, Stop, stops_at, sweep_at, sweep_in, SweepEnd, Sweeping, Taking, WorkerStage, Working}
+use Rattle.gh_worker.proofs.Vocabulary.{after_give, after_page, after_resume, after_room, after_scan, after_shade, after_sweep, after_take, asks_at, at_stage, Body, by_phase, by_stop, by_work, Claim, counted, Done, done_with, Earning, EarningAtStop, FindRoom, Finished, Free, GiveBack, gives_back, goes_at, Head, Held, Leave, LoadCursor, LoadGlobal, LoadPage, LoadPhase, Mark, Off, page_done, page_of, PageWord, Phase, phase_of, reference_in, Resumed, Resuming, Scanning, Shaded, Shading, Stop, stops_at, sweep_at, sweep_in, SweepEnd, Sweeping, Taking, WorkerStage, Working}
 
 -- While it sweeps.
 swept_on : (w : Working) (sw : sweep.Sweeping) (out : Option SweepEnd) → sweep.given sw ≡ out → sweep_in (after_sweep w sw out) ≡ cond (sweep.is_busy sw.stage) (Some sw) None
@@ -25,9 +25,15 @@ on_at w sw (Sweeping x) is =
 on_at w sw _ is = absurd (cc)
 
 -- Where it begins one: behind a load of a page alone.
+back_none : (w : Working) (stops : ℕ) (held : Option Held) → sweep_at (gives_back w stops held) ≡ None
+back_none w stops None = refl
+back_none w stops (Some h) = refl
+
 stops_none : (w : Working) (stops : ℕ) (held : Option Held) → sweep_at (stops_at w stops held) ≡ None
-stops_none w stops None = refl
-stops_none w stops (Some h) = refl
+stops_none w stops held = by_stop (λ p. sweep_at p ≡ None) w stops held (λ z. back_none w stops held) refl
+
+work_none : (w : Working) (held : Option Held) (words : ℕ) → sweep_in (done_with w held words) ≡ None
+work_none w held words = by_work (λ p. sweep_at p ≡ None) w.layout (counted w.scan_work words) refl refl
 
 phase_none : (w : Working) (stops : ℕ) (phase : Phase) → sweep_at (by_phase w stops phase) ≡ None
 phase_none w stops Off = refl
@@ -50,11 +56,11 @@ take_none w t (Some (Some reference)) = refl
 
 scan_none : (w : Working) (s : scan.Scanning) (out : Option ℕ) → sweep_in (after_scan w s out) ≡ None
 scan_none w s None = refl
-scan_none w s (Some words) = refl
+scan_none w s (Some words) = work_none w (scan.held_at s.held s.stage) words
 
 shade_none : (w : Working) (sh : shade.Shading) (out : Option Shaded) → sweep_in (after_shade w sh out) ≡ None
 shade_none w sh None = refl
-shade_none w sh (Some shaded.Done) = refl
+shade_none w sh (Some shaded.Done) = work_none w sh.held 1
 shade_none w sh (Some shaded.WantsRoom) = refl
 
 room_none : (w : Working) (sh : shade.Shading) (r : room.RoomFinding) (out : Option Held) → sweep_in (after_room w sh r out) ≡ None
@@ -89,13 +95,15 @@ module _ (w : Working) (found : ℕ) (sw : sweep.Sweeping) where
   by_look P look LoadPhase none some = absurd (none_so _ (phase_none w (phase_of found).stops (phase_of found).phase) some)
   by_look P look LoadPage none some = look some
   by_look P look (Sweeping x) none some = absurd (cc)
+  by_look P look (EarningAtStop x stops) none some = absurd (none_so _ (back_none w stops w.held) some)
   by_look P look (GiveBack g stops) none some = absurd (none_so _ (give_none w (give.goes g found) stops (give.gives g found)) some)
   by_look P look (Resuming r) none some = absurd (none_so _ (resume_none w (resume.goes r found) (resume.gives r found)) some)
   by_look P look (Taking t) none some = absurd (none_so _ (take_none w (take.goes t found) (take.gives t found)) some)
   by_look P look (Scanning s) none some = absurd (none_so _ (scan_none w (scan.goes s found) (scan.gives s found)) some)
+  by_look P look (Earning x) none some = absurd (cc)
   by_look P look LoadCursor none some = absurd (none_so _ (stage_none (ltb found w.layout.globals) Claim LoadPhase refl refl) some)
   by_look P look Claim none some = absurd (none_so _ (stage_none (ltb found w.layout.globals) (LoadGlobal found) LoadPhase refl refl) some)
-  by_look P look (LoadGlobal i) none some = absurd (none_so _ (either_none (found == 0) (done_with w w.held 1) (at_stage w (Shading (shade.opening w.layout (reference_in w.layout found) w.held))) refl refl) some)
+  by_look P look (LoadGlobal i) none some = absurd (none_so _ (either_none (found == 0) (done_with w w.held 1) (at_stage w (Shading (shade.opening w.layout (reference_in w.layout found) w.held))) (work_none w w.held 1) refl) some)
   by_look P look (Shading sh) none some = absurd (none_so _ (shade_none w (shade.goes sh found) (shade.gives sh found)) some)
   by_look P look (FindRoom sh r) none some = absurd (none_so _ (room_none w sh (room.goes r found) (room.gives r found)) some)
   by_look P look Leave none some = absurd (cc)

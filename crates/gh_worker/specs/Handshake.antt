@@ -5,17 +5,19 @@ use Rattle.gh_base.specs.declared.cell.Cell.TheVariants as cell
 use Rattle.gh_base.specs.declared.held.Held.{Held}
 use Rattle.gh_base.specs.declared.layout.Layout.{Layout}
 use Rattle.gh_base.specs.Packing.{phase_of}
+use Rattle.gh_credit.specs.Earning as earn
 use Rattle.gh_phase.specs.declared.view.RunPhase.TheVariants.{Mark, Finished}
 use Rattle.gh_phase.specs.Handshake.{Awake, first_party, Gives, Gone, KeepsHandshake, Leaves, Party, Stage}
 use Rattle.gh_phase.specs.Listing as resume
 use Rattle.gh_phase.specs.ResumePlaces as resumes
 use Rattle.gh_phase.specs.Views.{run_phase}
 use Rattle.gh_worker.specs.declared.worker.WorkerStage.{WorkerStage}
-use Rattle.gh_worker.specs.declared.worker.WorkerStage.TheVariants.{LoadPhase, GiveBack, Resuming, Taking, Scanning, LoadCursor, Claim, LoadGlobal, Shading, FindRoom, Leave, Done}
+use Rattle.gh_worker.specs.declared.worker.WorkerStage.TheVariants.{LoadPhase, EarningAtStop, GiveBack, Resuming, Taking, Scanning, Earning, LoadCursor, Claim, LoadGlobal, Shading, FindRoom, Leave, Done}
 use Rattle.gh_worker.specs.Listing.{asks, goes, is_busy, listing, opening, Working}
 
--- while it takes, scans and shades it is awake
+-- while it takes, scans and shades it is awake; at a stop it hands over what it has scanned, and gives its buffer back
 abbrev pub stands_at : WorkerStage → Stage
+stands_at (EarningAtStop e stops) = Gives stops
 stands_at (GiveBack g stops) = Gives stops
 stands_at (Resuming r) = resumes.stage_of r
 stands_at Leave = Leaves
@@ -33,14 +35,24 @@ stage_of w = stands_at w.stage
 abbrev pub party_of : Working → Party
 party_of w = party_at w w.stage
 
--- it goes on after a stop for its own seat, with no buffer held
-pub record GoesOnWithNone (seat : ℕ) (held : Option Held) (r : resume.Resuming) : Type 0 where
+-- it hands over all that it has scanned and not handed over yet
+pub record HandsOver (scan_work : ℕ) (e : earn.Earning) : Type 0 where
+  pub words_are : e.words ≡ scan_work
+  pub busy : earn.is_busy e.stage ≡ true
+
+-- it goes on after a stop for its own seat, with no buffer held and nothing left to hand over
+pub record GoesOnWithNone (seat : ℕ) (held : Option Held) (scan_work : ℕ) (r : resume.Resuming) : Type 0 where
   pub seat_is : r.seat ≡ seat
   pub busy : resume.is_busy r ≡ true
   pub none : held ≡ None
+  pub handed : scan_work ≡ 0
 
+-- at a stop it gives its buffer back once nothing is left to hand over
 abbrev pub SoundAt : Working → WorkerStage → Type 0
-SoundAt w (Resuming r) = GoesOnWithNone w.seat w.held r
+SoundAt w (Earning e) = HandsOver w.scan_work e
+SoundAt w (EarningAtStop e stops) = HandsOver w.scan_work e
+SoundAt w (GiveBack g stops) = w.scan_work ≡ 0
+SoundAt w (Resuming r) = GoesOnWithNone w.seat w.held w.scan_work r
 SoundAt w _ = Unit {0}
 
 abbrev pub Sound : Working → Type 0
@@ -52,10 +64,11 @@ IsLeaving Leave = Unit {0}
 IsLeaving Done = Unit {0}
 IsLeaving _ = ⊥
 
--- it takes, scans or shades, or claims a global
+-- it takes, scans or shades, claims a global, or hands over what it has scanned before it goes on
 abbrev pub IsMarking : WorkerStage → Type 0
 IsMarking (Taking t) = Unit {0}
 IsMarking (Scanning s) = Unit {0}
+IsMarking (Earning e) = Unit {0}
 IsMarking LoadCursor = Unit {0}
 IsMarking Claim = Unit {0}
 IsMarking (LoadGlobal i) = Unit {0}

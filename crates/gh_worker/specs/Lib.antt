@@ -1,5 +1,7 @@
 pub mod Vocabulary
 pub mod Blind
+pub mod Choices
+pub mod Earning
 pub mod Handshake
 pub mod Listing
 pub mod MarkFacts

@@ -2,6 +2,7 @@
 use Rattle.std.specs.Prelude.{ℕ, ◌+◌, ◌-◌, ◌^◌, Bool, true, false, min, nat_lt, ◌==◌, if◌then◌else◌, Option, Some, None, is_none}
 use Rattle.gh_base.specs.declared.cell.Cell.TheVariants as cell
 use Rattle.gh_base.specs.Given.{listing_of}
+use Rattle.gh_credit.specs.Earning as earn
 use Rattle.gh_phase.specs.declared.view.View.{View}
 use Rattle.gh_phase.specs.Listing as resume
 use Rattle.gh_phase.specs.Views.{first_view}
@@ -14,20 +15,22 @@ use Rattle.gh_sweep.specs.Listing.{Sweeping as SpanSweep}
 use Rattle.gh_wbuf.specs.BufferGiving as give
 use Rattle.gh_wbuf.specs.EntryTaking as take
 use Rattle.gh_wbuf.specs.RoomFinding as room
-use Rattle.gh_worker.specs.Vocabulary.{Add, Ask, Claim, Done, FindRoom, Finished, GiveBack, GONE, Free, Body, Head, Held, Layout, Leave, Listing, Load, LoadCursor, LoadGlobal, LoadPage, LoadPhase, Mark, Off, page_of, PageWord, Phase, phase_of, reference_in, Resumed, Resuming, Scanning, Shaded, Shading, Stop, Store, Sweeping, Taking, WorkerStage}
+use Rattle.gh_worker.specs.Vocabulary.{Add, Ask, Claim, CREDIT_SLACK, Done, Earning, EarningAtStop, FindRoom, Finished, GiveBack, GONE, Free, Body, Head, Held, Layout, Leave, Listing, Load, LoadCursor, LoadGlobal, LoadPage, LoadPhase, Mark, Off, page_of, PageWord, Phase, phase_of, reference_in, Resumed, Resuming, Scanning, Shaded, Shading, Stop, Store, Sweeping, Taking, WorkerStage}
 
--- a worker: the buffer that it holds between its routines, what it knows of the phase, the words that it has scanned, the page that it looks at next with marking off, and its stage
+-- a worker: the buffer that it holds between its routines, what it knows of the phase, the words that it has scanned, those of them that it has not handed over to the bank of credit yet and those that it has, the page that it looks at next with marking off, and its stage
 pub record Working : Type 0 where
   pub layout : Layout
   pub seat : ℕ
   pub held : Option Held
   pub view : View
   pub marks : ℕ
+  pub scan_work : ℕ
+  pub earned : ℕ
   pub page : ℕ
   pub stage : WorkerStage
 
 abbrev pub opening : Layout → (seat : ℕ) → Working
-opening l seat = record { layout = l; seat = seat; held = None; view = first_view; marks = 0; page = 0; stage = LoadPhase }
+opening l seat = record { layout = l; seat = seat; held = None; view = first_view; marks = 0; scan_work = 0; earned = 0; page = 0; stage = LoadPhase }
 
 abbrev pub at_stage : Working → WorkerStage → Working
 at_stage w stage = record w { stage = stage }
@@ -41,18 +44,20 @@ held_at held (Shading sh) = sh.held
 held_at held (FindRoom sh r) = room.held_at r.stage
 held_at held _ = held
 
--- so many words more are scanned; the count stands still at its type's end
-abbrev pub counted : (marks words : ℕ) → ℕ
-counted marks words = min (marks + words) (2 ^ 64 - 1)
+-- a count of words with so many more; it stands still at its type's end
+abbrev pub counted : (count words : ℕ) → ℕ
+counted count words = min (count + words) (2 ^ 64 - 1)
 
 abbrev pub asks_at : Working → WorkerStage → Ask
 asks_at w LoadPhase = Load cell.Phase
 asks_at w LoadPage = Load (cell.Page w.page)
 asks_at w (Sweeping sw) = sweep.asks sw
+asks_at w (EarningAtStop e stops) = earn.asks e
 asks_at w (GiveBack g stops) = give.asks g
 asks_at w (Resuming r) = resume.asks r
 asks_at w (Taking t) = take.asks t
 asks_at w (Scanning s) = scan.asks s
+asks_at w (Earning e) = earn.asks e
 asks_at w LoadCursor = Load cell.Gcur
 asks_at w Claim = Add cell.Gcur 1
 asks_at w (LoadGlobal i) = Load (cell.Global i)
@@ -65,10 +70,14 @@ asks_at w Done = Load cell.Touch
 abbrev pub resuming : Working → (stops : ℕ) → WorkerStage
 resuming w stops = Resuming (resume.opening w.layout w.seat stops w.view)
 
--- at a stop it gives the buffer that it holds back first
+-- before that it gives the buffer that it holds back
+abbrev pub gives_back : Working → (stops : ℕ) → Option Held → WorkerStage
+gives_back w stops None = resuming w stops
+gives_back w stops (Some h) = GiveBack (give.opening w.layout h) stops
+
+-- and first, at a stop, it hands over what it has scanned
 abbrev pub stops_at : Working → (stops : ℕ) → Option Held → WorkerStage
-stops_at w stops None = resuming w stops
-stops_at w stops (Some h) = GiveBack (give.opening w.layout h) stops
+stops_at w stops held = if w.scan_work == 0 then gives_back w stops held else EarningAtStop (earn.opening w.layout w.scan_work) stops
 
 -- by the phase that was found, with the number of stops
 abbrev pub by_phase : Working → (stops : ℕ) → Phase → WorkerStage
@@ -96,6 +105,18 @@ abbrev pub after_sweep : Working → SpanSweep → Option SweepEnd → Working
 after_sweep w sw None = at_stage w (Sweeping sw)
 after_sweep w sw (Some end) = page_done w
 
+-- what it has scanned is handed over, and nothing is left of that
+abbrev pub handed_over : Working → WorkerStage → Working
+handed_over w stage = record w { scan_work = 0; earned = counted w.earned w.scan_work; stage = stage }
+
+abbrev pub after_earn : Working → earn.Earning → Option (Unit {0}) → Working
+after_earn w e None = at_stage w (Earning e)
+after_earn w e (Some x) = handed_over w LoadPhase
+
+abbrev pub after_earn_at_stop : Working → earn.Earning → (stops : ℕ) → Option (Unit {0}) → Working
+after_earn_at_stop w e stops None = at_stage w (EarningAtStop e stops)
+after_earn_at_stop w e stops (Some x) = handed_over w (gives_back w stops w.held)
+
 -- after the buffer is given back none is held
 abbrev pub after_give : Working → give.BufferGiving → (stops : ℕ) → Option (Unit {0}) → Working
 after_give w g stops None = at_stage w (GiveBack g stops)
@@ -111,9 +132,13 @@ after_take w t None = at_stage w (Taking t)
 after_take w t (Some None) = record w { held = take.held_at t.stage; stage = LoadCursor }
 after_take w t (Some (Some reference)) = record w { held = take.held_at t.stage; stage = Scanning (scan.opening w.layout w.seat reference (take.held_at t.stage)) }
 
+-- where the words that are not handed over are enough, it hands them over
+abbrev pub with_work : Layout → (scan_work : ℕ) → WorkerStage
+with_work l scan_work = if nat_lt scan_work CREDIT_SLACK then LoadPhase else Earning (earn.opening l scan_work)
+
 -- so many words are scanned, and this is held then
 abbrev pub done_with : Working → Option Held → (words : ℕ) → Working
-done_with w held words = record w { held = held; marks = counted w.marks words; stage = LoadPhase }
+done_with w held words = record w { held = held; marks = counted w.marks words; scan_work = counted w.scan_work words; stage = with_work w.layout (counted w.scan_work words) }
 
 abbrev pub after_scan : Working → scan.Scanning → Option ℕ → Working
 after_scan w s None = at_stage w (Scanning s)
@@ -136,10 +161,12 @@ abbrev pub goes_at : Working → WorkerStage → ℕ → Working
 goes_at w LoadPhase found = at_stage w (by_phase w (phase_of found).stops (phase_of found).phase)
 goes_at w LoadPage found = after_page w (page_of found)
 goes_at w (Sweeping sw) found = after_sweep w (sweep.goes sw found) (sweep.gives sw found)
+goes_at w (EarningAtStop e stops) found = after_earn_at_stop w (earn.goes e found) stops (earn.gives e found)
 goes_at w (GiveBack g stops) found = after_give w (give.goes g found) stops (give.gives g found)
 goes_at w (Resuming r) found = after_resume w (resume.goes r found) (resume.gives r found)
 goes_at w (Taking t) found = after_take w (take.goes t found) (take.gives t found)
 goes_at w (Scanning s) found = after_scan w (scan.goes s found) (scan.gives s found)
+goes_at w (Earning e) found = after_earn w (earn.goes e found) (earn.gives e found)
 goes_at w LoadCursor found = at_stage w (if nat_lt found w.layout.globals then Claim else LoadPhase)
 goes_at w Claim found = at_stage w (if nat_lt found w.layout.globals then LoadGlobal found else LoadPhase)
 goes_at w (LoadGlobal i) found = after_global w found
@@ -148,10 +175,11 @@ goes_at w (FindRoom sh r) found = after_room w sh (room.goes r found) (room.give
 goes_at w Leave found = at_stage w Done
 goes_at w Done found = at_stage w Done
 
--- its next step loads the phase
-abbrev pub loads_phase : WorkerStage → Bool
-loads_phase LoadPhase = true
-loads_phase _ = false
+-- its next step loads the phase or a page's word
+abbrev pub is_idle : WorkerStage → Bool
+is_idle LoadPhase = true
+is_idle LoadPage = true
+is_idle _ = false
 
 -- it ends where it is done
 abbrev pub given_at : WorkerStage → Option (Unit {0})

@@ -35,10 +35,12 @@ abbrev pub StageFacts : Cycle → (a : ℕ) → Shared → Option Held → Worke
 StageFacts z a s held worker.LoadPhase = Hands a s (in_hand held NoClaim)
 StageFacts z a s held worker.LoadPage = Hands a s (in_hand held NoClaim)
 StageFacts z a s held (worker.Sweeping sw) = Hands a s (in_hand held NoClaim)
+StageFacts z a s held (worker.EarningAtStop e stops) = Hands a s (in_hand held NoClaim)
 StageFacts z a s held (worker.GiveBack g stops) = buffer_facts.GiveFacts z a s nothing g
 StageFacts z a s held (worker.Resuming r) = Hands a s nothing × (held ≡ None)
 StageFacts z a s held (worker.Taking t) = buffer_facts.TakeFacts z a s nothing t
 StageFacts z a s held (worker.Scanning m) = scan_facts.Facts z a s nothing m
+StageFacts z a s held (worker.Earning e) = Hands a s (in_hand held NoClaim)
 StageFacts z a s held worker.LoadCursor = Hands a s (in_hand held NoClaim)
 StageFacts z a s held worker.Claim = (s.passed a ≡ false) × Hands a s (in_hand held NoClaim)
 StageFacts z a s held (worker.LoadGlobal i) = (i < z.arena.layout.globals) × Hands a s (in_hand held (ClaimOf i))

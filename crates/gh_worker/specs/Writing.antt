@@ -19,13 +19,13 @@ IsWritten seat (cell.Mark i) = Unit {0}
 IsWritten seat (cell.Ack a) = a ≡ seat
 IsWritten seat _ = ⊥
 
--- a load; or a write of one of these; or the cursor is moved by one global
+-- a load; or a write of one of these; or the cursor is moved by one global, or words are added to the bank of credit
 abbrev pub WritesItsOwn : (seat : ℕ) → Ask → Type 0
 WritesItsOwn seat (Load c) = Unit {0}
 WritesItsOwn seat (Store c value) = IsWritten seat c
 WritesItsOwn seat (Or c bits) = IsWritten seat c
 WritesItsOwn seat (And c bits) = IsWritten seat c
-WritesItsOwn seat (Add c more) = (c ≡ cell.Gcur) × (more ≡ 1)
+WritesItsOwn seat (Add c more) = ((c ≡ cell.Gcur) × (more ≡ 1)) ⊎ (c ≡ cell.Bank)
 WritesItsOwn seat (Swap c old new) = IsWritten seat c
 
 abbrev pub WorkersWriteTheirOwn : Type 0
@@ -41,9 +41,10 @@ Rests Leave = Unit {0}
 Rests Done = Unit {0}
 Rests _ = ⊥
 
--- it marks nothing, and holds no buffer
+-- it marks nothing, holds no buffer, and has nothing to hand over
 pub record IsCalm (w : Working) : Type 0 where
   pub none : w.held ≡ None
+  pub handed : w.scan_work ≡ 0
   pub rests : Rests w.stage
 
 -- a load, or a store of this seat's acknowledgement

@@ -1,6 +1,7 @@
 //! The laws of a worker. The functions do nothing; what they ensure is proved of every worker, whatever
 //! words it is told.
 
+ghost use Rattle.gh_worker.specs.Earning.{WorkersEarn};
 ghost use Rattle.gh_worker.specs.Handshake.{WorkersKeepHandshake};
 ghost use Rattle.gh_worker.specs.MarkFacts.{WorksByMoves};
 ghost use Rattle.gh_worker.specs.Sweeping.{WorkersRunSweeps};
@@ -19,8 +20,15 @@ pub fn words_are_counted()
     ensures { WordsAreCounted }
 {}
 
+/// Each word that a worker has scanned it hands over to the bank of credit once, or has still to hand over: what its
+/// steps add to the bank is what it counts as handed over. It writes the bank by such additions alone.
+pub fn credit_is_handed_over()
+    ensures { WorkersEarn }
+{}
+
 /// Each step of a worker is one of the handshake of a stop: while it takes, scans and shades it is awake and
-/// writes no word of that; from a stop it gives its buffer back, acknowledges, and goes on with no buffer held.
+/// writes no word of that; from a stop it hands over what it has scanned, gives its buffer back, acknowledges, and goes
+/// on with no buffer held and nothing left to hand over.
 pub fn a_worker_keeps_the_handshake()
     ensures { WorkersKeepHandshake }
 {
@@ -51,12 +59,12 @@ pub fn workers_run_sweeps()
 {}
 
 /// While it sweeps no span a worker writes no word but those of buffers, entries and marks, the cursor by one global,
-/// and its own acknowledgement.
+/// the bank of credit by an addition, and its own acknowledgement.
 pub fn a_worker_writes_its_own()
     ensures { WorkersWriteTheirOwn }
 {}
 
-/// A worker that holds no buffer and marks nothing stays so until it finds that marking is on. While it sweeps no span
+/// A worker that holds no buffer, has nothing to hand over and marks nothing stays so until it finds that marking is on. While it sweeps no span
 /// it writes its acknowledgement alone then. It is so before its first step, and while it goes on after a stop.
 pub fn calm_workers_mark_nothing()
     ensures { CalmWorkersMarkNothing }

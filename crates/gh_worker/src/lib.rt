@@ -6,6 +6,10 @@
 //! until all globals are claimed and all buffers are empty, and no two take the same object or global: an
 //! entry is taken from a buffer that one alone holds, and a global is claimed by an atomic add.
 //!
+//! What it has scanned pays for marking that goroutines would do otherwise. So it counts the words, and hands them
+//! over to a bank of credit (`gh_credit`), 2,000 or more at a time, between two objects. At a stop it hands over
+//! the rest before it acknowledges, so that while the world is stopped the bank has all that workers have scanned.
+//!
 //! Between two objects it loads the phase. At a stop it gives its buffer back before it acknowledges: the
 //! collector looks for grey objects in the buffers that nobody holds, and one that a stopped worker kept
 //! would be missed, and its object freed. Once the last cycle is swept it says that it is gone, and is done.

@@ -3,16 +3,19 @@
 ghost use Rattle.std.specs.Prelude.{◌≡◌, ◌^◌, ◌<◌, IsTrue, ◌↔◌, Option, false, true};
 ghost use Rattle.gh_base.specs.Holding.{IsHeld};
 ghost use Rattle.gh_base.specs.Packing.{page_of};
+ghost use Rattle.gh_credit.specs.Earning as earns;
 ghost use Rattle.gh_phase.specs.Listing as resumes;
 ghost use Rattle.gh_scan.specs.Listing as scans;
 ghost use Rattle.gh_scan.specs.Sound.{Runs, Waits};
 ghost use Rattle.gh_shade.specs.Listing as shades;
 ghost use Rattle.gh_sweep.specs.Listing as sweeps;
 ghost use Rattle.gh_wbuf.specs.EntryTaking as takes;
-ghost use Rattle.gh_worker.specs.Listing.{after_global, after_page, done_with, given, gives, goes, goes_at, held_at, is_busy, loads_phase, opening, page_done, page_past, resuming, stops_at};
+ghost use Rattle.gh_worker.specs.Handshake.{IsMarking};
+ghost use Rattle.gh_worker.specs.Listing.{after_global, after_page, done_with, given, gives, gives_back, goes, goes_at, handed_over, held_at, is_busy, is_idle, opening, page_done, page_past, resuming, stops_at, with_work};
 ghost use Rattle.gh_worker.specs.Sound.{IsWorkersSeat};
 
 use gh_base::{Ask, Cell, GONE, Held, Layout, Machine, PageWord, Phase, PhaseWord, Req};
+use gh_credit::{CREDIT_SLACK, Earn};
 use gh_phase::{Resume, Resumed, View};
 use gh_scan::Scan;
 use gh_shade::{Shade, Shaded};
@@ -29,7 +32,9 @@ pub enum WorkerStage {
     LoadPage,
     /// It sweeps the span whose head it met there.
     Sweeping(Sweep),
-    /// It gives its buffer back, at the stop of this number.
+    /// It hands over the words that it has scanned, at the stop of this number.
+    EarningAtStop(Earn, u64),
+    /// It gives its buffer back, at that stop.
     GiveBack(GiveBuffer, u64),
     /// It acknowledges a stop and goes on.
     Resuming(Resume),
@@ -37,6 +42,8 @@ pub enum WorkerStage {
     Taking(TakeEntry),
     /// It scans that object.
     Scanning(Scan),
+    /// It hands over the words that it has scanned.
+    Earning(Earn),
     /// It loads the number of the next global.
     LoadCursor,
     /// It claims the next global.
@@ -56,10 +63,11 @@ pub enum WorkerStage {
 /// Marks in the background (Go's `gcBgMarkWorker`, mgc.go, and `gcDrain`, mgcmark.go).
 ///
 /// Again and again it loads the phase. While marking is on it takes a grey object and scans it; where no
-/// buffer has one it claims the next global, if one is left, and shades what that refers to. At a stop it
-/// gives its buffer back, acknowledges, and goes on once the world runs again. With marking off it looks at the
-/// next page of the arena, and sweeps the span there if it is unswept (Go's `bgsweep`, mgcsweep.go). Where the
-/// last cycle is swept it says that it is gone, and is done.
+/// buffer has one it claims the next global, if one is left, and shades what that refers to. What it has scanned
+/// it hands over to the bank of credit, [`CREDIT_SLACK`] words or more at a time. At a stop it hands over the
+/// rest, gives its buffer back, acknowledges, and goes on once the world runs again. With marking off it looks at
+/// the next page of the arena, and sweeps the span there if it is unswept (Go's `bgsweep`, mgcsweep.go). Where
+/// the last cycle is swept it says that it is gone, and is done.
 #[derive(Clone, Copy, Debug, PartialEq, Eq)]
 pub struct Worker {
     layout: Layout,
@@ -68,6 +76,9 @@ pub struct Worker {
     view: View,
     // The words that it has scanned.
     marks: u64,
+    // Those of them that it has not handed over yet (Go's `gcw.heapScanWork`, mgcwork.go), and those that it has.
+    scan_work: u64,
+    earned: u64,
     // The page that it looks at next with marking off.
     page: u32,
     stage: WorkerStage,
@@ -79,11 +90,11 @@ impl Model for Worker {
 
     ghost Value = { Working };
 
-    ghost view = { λ w. record { layout = w.layout; seat = w.seat; held = w.held; view = w.view; marks = w.marks; page = w.page; stage = w.stage } };
+    ghost view = { λ w. record { layout = w.layout; seat = w.seat; held = w.held; view = w.view; marks = w.marks; scan_work = w.scan_work; earned = w.earned; page = w.page; stage = w.stage } };
 
-    ghost invariant = { λ w. FitsWorker (record { layout = w.layout; seat = w.seat; held = w.held; view = w.view; marks = w.marks; page = w.page; stage = w.stage }) };
+    ghost invariant = { λ w. FitsWorker (record { layout = w.layout; seat = w.seat; held = w.held; view = w.view; marks = w.marks; scan_work = w.scan_work; earned = w.earned; page = w.page; stage = w.stage }) };
 
-    ghost inverse = { λ w. record { layout = w.layout; seat = w.seat; held = w.held; view = w.view; marks = w.marks; page = w.page; stage = w.stage } };
+    ghost inverse = { λ w. record { layout = w.layout; seat = w.seat; held = w.held; view = w.view; marks = w.marks; scan_work = w.scan_work; earned = w.earned; page = w.page; stage = w.stage } };
 }
 
 impl Worker {
@@ -99,6 +110,8 @@ impl Worker {
             held: None,
             view: View::first(),
             marks: 0,
+            scan_work: 0,
+            earned: 0,
             page: 0,
             stage: WorkerStage::LoadPhase,
         }
@@ -111,11 +124,11 @@ impl Worker {
         matches!(self.stage, WorkerStage::Done)
     }
 
-    /// Its next step loads the phase.
-    pub fn loads_phase(&self) -> bool
-        ensures { result ≡ loads_phase self.now.stage }
+    /// It loads the phase, or the word of a page: while marking is off, and no span is unswept, each step is one of these in turn.
+    pub fn is_idle(&self) -> bool
+        ensures { result ≡ is_idle self.now.stage }
     {
-        matches!(self.stage, WorkerStage::LoadPhase)
+        matches!(self.stage, WorkerStage::LoadPhase | WorkerStage::LoadPage)
     }
 
     /// The words that it has scanned: those of each object and one for each global, counted when that is
@@ -124,6 +137,20 @@ impl Worker {
         ensures { result ≡ self.now.marks }
     {
         self.marks
+    }
+
+    /// The words that it has scanned and not handed over to the bank yet.
+    pub fn scan_work(&self) -> u64
+        ensures { result ≡ self.now.scan_work }
+    {
+        self.scan_work
+    }
+
+    /// The words that it has handed over to the bank. The number stands at `u64::MAX`, which no run reaches.
+    pub fn earned(&self) -> u64
+        ensures { result ≡ self.now.earned }
+    {
+        self.earned
     }
 
     /// The buffer that is held now, if any.
@@ -149,15 +176,27 @@ impl Worker {
         WorkerStage::Resuming(Resume::new(&self.layout, self.seat, stops, self.view))
     }
 
-    /// Stops, and gives the buffer that it holds back first.
+    /// Acknowledges the stop of this number, and gives the buffer that it holds back first.
+    fn gives_back(&self, stops: u64) -> WorkerStage
+        requires { stops < 2 ^ 62 }
+        ensures { result ≡ gives_back self.now stops self.now.held }
+    {
+        match self.held {
+            None => self.resuming(stops),
+            Some(held) => WorkerStage::GiveBack(GiveBuffer::new(&self.layout, held), stops),
+        }
+    }
+
+    /// Stops, and hands over what it has scanned first.
     fn stop(&mut self, stops: u64)
         requires { stops < 2 ^ 62 }
         ensures goes { self.new ≡ record self.old { stage = stops_at self.old stops self.old.held } }
         ensures goes_on { given self.new ≡ Option.None }
     {
-        self.stage = match self.held {
-            None => self.resuming(stops),
-            Some(held) => WorkerStage::GiveBack(GiveBuffer::new(&self.layout, held), stops),
+        self.stage = if self.scan_work == 0 {
+            self.gives_back(stops)
+        } else {
+            WorkerStage::EarningAtStop(Earn::new(&self.layout, self.scan_work), stops)
         };
     }
 
@@ -216,6 +255,19 @@ impl Worker {
         }
     }
 
+    /// Takes the step of such a load.
+    #[inline(always)]
+    pub fn idle(&mut self, found: u64)
+        requires { is_idle self.old.stage ≡ true }
+        ensures goes { self.new ≡ goes self.old found }
+        ensures goes_on { gives self.old found ≡ Option.None }
+    {
+        match &self.stage {
+            WorkerStage::LoadPhase => self.by_phase(found),
+            _ => self.after_page(found),
+        }
+    }
+
     /// Takes a step of this sweep. One that is lost another has begun.
     fn sweep(&mut self, sweep: &Sweep, found: u64)
         requires { Runs self.old.layout sweep.now.layout (sweeps.is_busy sweep.now.stage) }
@@ -226,6 +278,14 @@ impl Worker {
             None => self.stage = WorkerStage::Sweeping(sweep),
             Some(_) => self.page_done(),
         }
+    }
+
+    /// What it has scanned is handed over.
+    fn handed_over(&mut self)
+        ensures { self.new ≡ handed_over self.old self.old.stage }
+    {
+        self.earned = self.earned.saturating_add(self.scan_work);
+        self.scan_work = 0;
     }
 
     /// Goes on after its buffer is given back.
@@ -272,6 +332,17 @@ impl Worker {
         }
     }
 
+    /// Goes on where so many words are scanned and not handed over: enough of them it hands over.
+    fn with_work(&self, scan_work: u64) -> WorkerStage
+        ensures { result ≡ with_work self.now.layout scan_work }
+    {
+        if scan_work < CREDIT_SLACK {
+            WorkerStage::LoadPhase
+        } else {
+            WorkerStage::Earning(Earn::new(&self.layout, scan_work))
+        }
+    }
+
     /// So many words are scanned, and this buffer is held, if any.
     fn done_with(&mut self, held: Option<Held>, words: u32)
         requires { IsHeld self.old.layout held }
@@ -279,7 +350,8 @@ impl Worker {
     {
         self.held = held;
         self.marks = self.marks.saturating_add(u64::from(words));
-        self.stage = WorkerStage::LoadPhase;
+        self.scan_work = self.scan_work.saturating_add(u64::from(words));
+        self.stage = self.with_work(self.scan_work);
     }
 
     /// Takes a step of the scan of an object.
@@ -367,6 +439,39 @@ impl Worker {
         }
     }
 
+    /// Takes a step of marking.
+    fn mark(&mut self, found: u64)
+        requires { IsMarking self.old.stage }
+        ensures { self.new ≡ goes self.old found }
+    {
+        match &self.stage {
+            WorkerStage::Taking(take) => {
+                let take = *take;
+                self.take_entry(&take, found);
+            }
+            WorkerStage::Scanning(scan) => {
+                let scan = *scan;
+                self.scan(&scan, found);
+            }
+            WorkerStage::Earning(_) => {
+                self.handed_over();
+                self.stage = WorkerStage::LoadPhase;
+            }
+            WorkerStage::LoadCursor => self.after_cursor(found),
+            WorkerStage::Claim => self.after_claim(found),
+            WorkerStage::LoadGlobal(_) => self.after_global(found),
+            WorkerStage::Shading(shade) => {
+                let shade = *shade;
+                self.shade(&shade, found);
+            }
+            WorkerStage::FindRoom(shade, room) => {
+                let (shade, room) = (*shade, *room);
+                self.find_room(&shade, &room, found);
+            }
+            _ => {}
+        }
+    }
+
     /// What it has given: it ends where it is done.
     fn given(&self) -> Option<()>
         ensures { result ≡ given self.now }
@@ -401,10 +506,12 @@ impl Machine for Worker {
             WorkerStage::LoadPhase => Ask::Load(Cell::Phase),
             WorkerStage::LoadPage => Ask::Load(Cell::Page(self.page)),
             WorkerStage::Sweeping(sweep) => return sweep.next(),
+            WorkerStage::EarningAtStop(earn, _) => return earn.next(),
             WorkerStage::GiveBack(give, _) => return give.next(),
             WorkerStage::Resuming(resume) => return resume.next(),
             WorkerStage::Taking(take) => return take.next(),
             WorkerStage::Scanning(scan) => return scan.next(),
+            WorkerStage::Earning(earn) => return earn.next(),
             WorkerStage::LoadCursor => Ask::Load(Cell::Gcur),
             WorkerStage::Claim => Ask::Add(Cell::Gcur, 1),
             WorkerStage::LoadGlobal(i) => Ask::Load(Cell::Global(*i)),
@@ -427,6 +534,11 @@ impl Machine for Worker {
                 let sweep = *sweep;
                 self.sweep(&sweep, found);
             }
+            WorkerStage::EarningAtStop(_, stops) => {
+                let stops = *stops;
+                self.handed_over();
+                self.stage = self.gives_back(stops);
+            }
             WorkerStage::GiveBack(_, stops) => {
                 let stops = *stops;
                 self.given_back(stops);
@@ -435,27 +547,9 @@ impl Machine for Worker {
                 let resume = *resume;
                 self.resume(&resume, found);
             }
-            WorkerStage::Taking(take) => {
-                let take = *take;
-                self.take_entry(&take, found);
-            }
-            WorkerStage::Scanning(scan) => {
-                let scan = *scan;
-                self.scan(&scan, found);
-            }
-            WorkerStage::LoadCursor => self.after_cursor(found),
-            WorkerStage::Claim => self.after_claim(found),
-            WorkerStage::LoadGlobal(_) => self.after_global(found),
-            WorkerStage::Shading(shade) => {
-                let shade = *shade;
-                self.shade(&shade, found);
-            }
-            WorkerStage::FindRoom(shade, room) => {
-                let (shade, room) = (*shade, *room);
-                self.find_room(&shade, &room, found);
-            }
             WorkerStage::Leave => self.stage = WorkerStage::Done,
             WorkerStage::Done => {}
+            _ => self.mark(found),
         }
         self.given()
     }
